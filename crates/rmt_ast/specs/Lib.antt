@@ -1,0 +1,6 @@
+pub mod State
+pub mod Walk
+pub mod Actions
+pub mod Lookup
+pub mod Control
+pub mod Answers

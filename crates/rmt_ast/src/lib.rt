@@ -1,0 +1,6 @@
+//! A packet program as a tree, its entries, and what they mean when run one packet after another.
+#![tactic(auto)]
+
+pub mod entry;
+pub mod name;
+pub mod program;

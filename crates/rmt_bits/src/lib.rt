@@ -1,0 +1,6 @@
+//! Bits of numbers, lanes of words, the hash of exact look-ups, and the types that every layer shares.
+#![tactic(auto)]
+
+pub mod answer;
+pub mod lane;
+pub mod sequence;

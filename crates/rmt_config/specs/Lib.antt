@@ -1,0 +1,4 @@
+pub mod Parser
+pub mod Cells
+pub mod Life
+pub mod ChipRun

@@ -1,0 +1,4 @@
+//! What the chip is configured with, and what a configuration means.
+#![tactic(auto)]
+
+pub mod config;
