@@ -1,2 +1,4 @@
 pub mod Tokens
 pub mod SmallForm
+pub mod SmallConfig
+pub mod SameRuns
