@@ -1,1 +1,4 @@
 pub mod Examples
+pub mod PlainSide
+pub mod ChipSide
+pub mod Law

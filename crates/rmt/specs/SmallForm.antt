@@ -1,5 +1,5 @@
 -- The small form of a program text: its grammar over tokens, and the program that a text means.
-use Rattle.std.specs.Prelude.{◌≡◌, ℕ, ◌<◌, ◌≤◌, List, [], ◌∷◌, ◌++◌, Bool, true, false, not, ◌&&◌, None, Option, Some, option_and_then, option_map, unwrap_or, IsTrue, IsSome, All, IsPermutation, length, map, find, position, slice_get, codes, if◌then◌else◌}
+use Rattle.std.specs.Prelude.{◌≡◌, ℕ, suc, ◌<◌, ◌≤◌, List, [], ◌∷◌, ◌++◌, Bool, true, false, not, ◌&&◌, None, Option, Some, option_and_then, option_map, unwrap_or, IsTrue, IsSome, All, IsPermutation, length, map, find, codes, if◌then◌else◌}
 use Rattle.std.specs.List.{flat_map, list_all, list_any, starts_with}
 use Rattle.std.specs.Prelude.{nat_eq}
 use Rattle.rmt_ast.specs.declared.program.Program.{Program}
@@ -132,9 +132,10 @@ pub record Means (text : List ℕ) (s : SmallProgram) : Type 0 where
   pub tokens : tokens_of text ≡ program_tokens s
   pub form : IsSmall s
 
--- the place of a name in a list
+-- the first place of a name in a list
 abbrev pub place_of : List (List ℕ) → List ℕ → ℕ
-place_of names name = unwrap_or (position (same_name name) names) 0
+place_of [] name = 0
+place_of (n ∷ ns) name = if same_name name n then 0 else suc (place_of ns name)
 
 -- The program. Fields: 0 in_port, 1 out_port, 2 drop, 3 the header's valid, 4 its one field.
 abbrev pub assigns_of : Effect → List Assign
