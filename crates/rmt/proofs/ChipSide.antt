@@ -26,7 +26,7 @@ pub record Before (n : ℕ) (life : Life) (words : Words) : Type 0 where
   pub uncounted : life.counted ≡ []
 
 stage_acts : (look : Look) (n : ℕ) (e : Effect) (words : Words) (outcomes : List ℕ) → slice_index outcomes n ≡ 0 →
-  acts_of look n (stage_of n e) words outcomes ≡ record { outcomes = slice_set outcomes n 1; running = running e ∷ []; counted = []; base = 1; place = 1 }
+    acts_of look n (stage_of n e) words outcomes ≡ record { outcomes = slice_set outcomes n 1; running = running e ∷ []; counted = []; base = 1; place = 1 }
 stage_acts look n e words outcomes h = rw h refl
 
 -- the words behind the stage where it has written, else those of before
@@ -41,9 +41,9 @@ word_behind n age e old now words h was is =
 abbrev with_acts : Stage → Life → Acts → Life
 with_acts stage life acts = record {
   word = λ age w.
-    if nat_le (stage.start + 12) age
-    then unwrap_or (word_after acts.running (life.word (stage.start + 9)) w) (life.word age w)
-    else life.word age w;
+      if nat_le (stage.start + 12) age
+      then unwrap_or (word_after acts.running (life.word (stage.start + 9)) w) (life.word age w)
+      else life.word age w;
   outcomes = acts.outcomes;
   counted = life.counted ++ reverse acts.counted;
 }
@@ -62,7 +62,7 @@ done_before n e life words b = record {
 through_stage : (look : Look) (n : ℕ) (e : Effect) (life : Life) (words : Words) → Before n life words → Before (n + 1) (through look n (stage_of n e) life) (words_after words e)
 through_stage look n e life words b =
     let same : through look n (stage_of n e) life ≡ with_acts (stage_of n e) life (done n e life.outcomes) =
-      ap (with_acts (stage_of n e) life) (stage_acts look n e (life.word (12 * n)) life.outcomes (b.waiting n (omega arith))) in
+    ap (with_acts (stage_of n e) life) (stage_acts look n e (life.word (12 * n)) life.outcomes (b.waiting n (omega arith))) in
     subst (λ l. Before (n + 1) l (words_after words e)) (sym same) (done_before n e life words b)
 
 -- all stages from number n on
@@ -71,4 +71,4 @@ through_stages look n [] life words b = let same : n ≡ n + 0 = omega arith in 
 through_stages look n (e ∷ es) life words b =
     let same : n + 1 + length es ≡ n + length (e ∷ es) = omega arith in
     subst (λ m. Before m (through_from look (n + 1) (stages_from (n + 1) es) (through look n (stage_of n e) life)) (fold words_after (words_after words e) es)) same
-      (through_stages look (n + 1) es (through look n (stage_of n e) life) (words_after words e) (through_stage look n e life words b))
+    (through_stages look (n + 1) es (through look n (stage_of n e) life) (words_after words e) (through_stage look n e life words b))

@@ -79,7 +79,7 @@ fits_of s small name = of (find (λ (t : SmallTable). same_name name t.name) s.t
 
 -- the words behind the stages hold the state behind the nodes
 states_behind : (effect : List ℕ → Effect) → ((name : List ℕ) → EffectFits (effect name)) → (names : List (List ℕ)) (words : Words) →
-  fold state_after (state_in places words) (map effect names) ≡ state_in places (fold words_after words (map effect names))
+    fold state_after (state_in places words) (map effect names) ≡ state_in places (fold words_after words (map effect names))
 states_behind effect fits [] words = refl
 states_behind effect fits (name ∷ names) words =
     ap (λ st. fold state_after st (map effect names)) (state_behind words (effect name) (fits name))
@@ -103,11 +103,11 @@ told_choice told true x y = refl
 told_choice told false x y = refl
 
 told_chip : (effects : List Effect) (payload : List ℕ) (life : Life) (words : Words) → life.word (latency_of (stages_from 0 effects)) ≡ words →
-  told_by_outcome (chip_finished (small_config effects) payload life) ≡ ending (lane_of words drop_lane) (lane_of words out_port) (lane_of words valid) (0 + lane_of words field) payload
+    told_by_outcome (chip_finished (small_config effects) payload life) ≡ ending (lane_of words drop_lane) (lane_of words out_port) (lane_of words valid) (0 + lane_of words field) payload
 told_chip effects payload life words h = rw h (told_choice told_by_outcome (lane_of words drop_lane == 1) _ _)
 
 told_plain : (s : SmallProgram) (payload : List ℕ) (r : Run) (words : Words) → r.state ≡ state_in places words →
-  told_by_answer (plain_finished (program_of s) payload r) ≡ ending (0 + lane_of words drop_lane) (0 + lane_of words out_port) (0 + lane_of words valid) ((0 + lane_of words field) * 1 + 0) payload
+    told_by_answer (plain_finished (program_of s) payload r) ≡ ending (0 + lane_of words drop_lane) (0 + lane_of words out_port) (0 + lane_of words valid) ((0 + lane_of words field) * 1 + 0) payload
 told_plain s payload r words h = rw h (told_choice told_by_answer ((0 + lane_of words drop_lane) == 1) _ _)
 
 eight_bits : (v x : ℕ) → x < 256 → 0 + slice (deposit v 0 8 x) 0 8 ≡ x
@@ -151,13 +151,13 @@ before_all words = record { steady = λ age h. refl; waiting = λ node h. zeros 
 
 -- a packet's words at its end
 words_end : (look : Look) (effects : List Effect) (words : Words) →
-  (through_from look 0 (stages_from 0 effects) (first_life words)).word (latency_of (stages_from 0 effects)) ≡ fold words_after words effects
+    (through_from look 0 (stages_from 0 effects) (first_life words)).word (latency_of (stages_from 0 effects)) ≡ fold words_after words effects
 words_end look effects words =
     (through_stages look 0 effects (first_life words) words (before_all words)).steady (latency_of (stages_from 0 effects)) (omega (arith, latency-stages effects))
 
 -- one packet
 told_same : (s : SmallProgram) → IsSmall s → (lists : List (List Entry)) (packet : Packet) → IsPacket packet →
-  told_by_outcome (outcome_of (own_look (small_config (steps_of s))) (small_config (steps_of s)) packet) ≡ told_by_answer (answer_of (program_of s) lists packet)
+    told_by_outcome (outcome_of (own_look (small_config (steps_of s))) (small_config (steps_of s)) packet) ≡ told_by_answer (answer_of (program_of s) lists packet)
 told_same s small lists packet is = of packet.frame refl
   where
     effects : List Effect
@@ -169,24 +169,24 @@ told_same s small lists packet is = of packet.frame refl
     of : (frame : List ℕ) → packet.frame ≡ frame → told_by_outcome (outcome_of (own_look c) c packet) ≡ told_by_answer (answer_of (program_of s) lists packet)
     of [] e = let none : length packet.frame ≡ 0 = ap length e in absurd (omega (arith, is.is_not_empty))
     of (byte ∷ rest) e =
-      let words = first_words packet.port byte in
-      let end = fold words_after words (steps_of s) in
-      let state = walked_state packet.port byte in
-      let r = run (program_of s) lists state in
-      let runs = run_from-small s small lists 0 s.applied (record { state = state; outcomes = replicate (length (program_of s).nodes) 0; hits = [] }) small.applied_tables in
-      let held : r.state ≡ state_in places end =
+        let words = first_words packet.port byte in
+        let end = fold words_after words (steps_of s) in
+        let state = walked_state packet.port byte in
+        let r = run (program_of s) lists state in
+        let runs = run_from-small s small lists 0 s.applied (record { state = state; outcomes = replicate (length (program_of s).nodes) 0; hits = [] }) small.applied_tables in
+        let held : r.state ≡ state_in places end =
         runs.0 ∙ ap (λ st. fold state_after st (steps_of s)) (sym (state_first packet.port byte is.port_exists))
         ∙ states_behind (effect_of s) (fits_of s small) s.applied words in
-      let life = life_of (own_look c) c.stages (put (parsed_vector byte) in_port packet.port) in
-      let chip = told_chip (steps_of s) (drop 1 packet.frame) life end (words_end (own_look c) (steps_of s) words) in
-      let plain = told_plain s (drop 1 packet.frame) r end held in
-      let parses : parse parser packet.frame ≡ parsed.Accept (parsed_vector byte) 1 = ap (parse parser) e ∙ parse_small byte rest in
-      let walks : walk (program_of s) packet.port packet.frame ≡ walked.Accept state 1 = ap (walk (program_of s) packet.port) e ∙ walk_small s packet.port byte rest in
-      ap (λ q. told_by_outcome (outcome_from (own_look c) c packet q)) parses
-      ∙ chip
-      ∙ sym (ending_same (lane_of end drop_lane) (lane_of end out_port) (lane_of end valid) (lane_of end field) (drop 1 packet.frame))
-      ∙ sym plain
-      ∙ sym (ap (λ q. told_by_answer (answered (program_of s) lists packet.frame q)) walks)
+        let life = life_of (own_look c) c.stages (put (parsed_vector byte) in_port packet.port) in
+        let chip = told_chip (steps_of s) (drop 1 packet.frame) life end (words_end (own_look c) (steps_of s) words) in
+        let plain = told_plain s (drop 1 packet.frame) r end held in
+        let parses : parse parser packet.frame ≡ parsed.Accept (parsed_vector byte) 1 = ap (parse parser) e ∙ parse_small byte rest in
+        let walks : walk (program_of s) packet.port packet.frame ≡ walked.Accept state 1 = ap (walk (program_of s) packet.port) e ∙ walk_small s packet.port byte rest in
+        ap (λ q. told_by_outcome (outcome_from (own_look c) c packet q)) parses
+        ∙ chip
+        ∙ sym (ending_same (lane_of end drop_lane) (lane_of end out_port) (lane_of end valid) (lane_of end field) (drop 1 packet.frame))
+        ∙ sym plain
+        ∙ sym (ap (λ q. told_by_answer (answered (program_of s) lists packet.frame q)) walks)
 
 -- lists of packets
 told_all : {X Y Z : Type 0} (f : X → Y) (g : X → Z) {T : Type 0} (u : Y → T) (v : Z → T) (P : X → Type 0) → ((x : X) → P x → u (f x) ≡ v (g x)) → (xs : List X) → All P xs → map u (map f xs) ≡ map v (map g xs)
@@ -195,7 +195,7 @@ told_all f g u v P same (x ∷ xs) h =
     ap (λ y. y ∷ map u (map f xs)) (same x (All-head P x xs h)) ∙ ap (λ ys. v (g x) ∷ ys) (told_all f g u v P same xs (All-tail P x xs h))
 
 answers_same : (s : SmallProgram) → IsSmall s → (lists : List (List Entry)) (packets : List Packet) → All IsPacket packets →
-  map told_by_outcome (outcomes_of (small_config (steps_of s)) packets) ≡ map told_by_answer (answers_of (program_of s) lists packets)
+    map told_by_outcome (outcomes_of (small_config (steps_of s)) packets) ≡ map told_by_answer (answers_of (program_of s) lists packets)
 answers_same s small lists packets is =
     let c = small_config (steps_of s) in
     ap (map told_by_outcome) (outcomes_of-map c packets)
@@ -223,7 +223,7 @@ pub small_config-same : (s : SmallProgram) → IsSmall s → SameRuns (small_con
 small_config-same s small = record {
   answers = λ packets is. answers_same s small (no_entries (program_of s)) packets is;
   counters = λ packets is.
-    let c = small_config (steps_of s) in
-    chip_counts_of-none c (inputs_of c packets) (uncounted_stages 0 (steps_of s))
-    ∙ sym (rw (no_numbers s s.applied (no_entries (program_of s))) refl);
+      let c = small_config (steps_of s) in
+      chip_counts_of-none c (inputs_of c packets) (uncounted_stages 0 (steps_of s))
+      ∙ sym (rw (no_numbers s s.applied (no_entries (program_of s))) refl);
 }

@@ -84,7 +84,7 @@ node_leaves s small entries n name r h =
 
 -- the nodes from number n on
 pub run_from-small : (s : SmallProgram) → IsSmall s → (lists : List (List Entry)) (n : ℕ) (names : List (List ℕ)) (r : Run) → list_all (is_among (table_names s.tables)) names ≡ true →
-  ((run_from (program_of s) lists n (map (node_of s.tables) names) r).state ≡ fold state_after r.state (map (effect_of s) names)) × ((run_from (program_of s) lists n (map (node_of s.tables) names) r).hits ≡ r.hits)
+    ((run_from (program_of s) lists n (map (node_of s.tables) names) r).state ≡ fold state_after r.state (map (effect_of s) names)) × ((run_from (program_of s) lists n (map (node_of s.tables) names) r).hits ≡ r.hits)
 run_from-small s small lists n [] r h = (refl, refl)
 run_from-small s small lists n (name ∷ names) r h =
     let parts = both (is_among (table_names s.tables) name) (list_all (is_among (table_names s.tables)) names) h in

@@ -2,3 +2,5 @@ pub mod Tokens
 pub mod SmallForm
 pub mod SmallConfig
 pub mod SameRuns
+pub mod Commands
+pub mod Promises

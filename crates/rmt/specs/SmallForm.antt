@@ -1,7 +1,7 @@
 -- The small form of a program text: its grammar over tokens, and the program that a text means.
 use Rattle.std.specs.Prelude.{◌≡◌, ℕ, suc, ◌<◌, ◌≤◌, List, [], ◌∷◌, ◌++◌, Bool, true, false, not, ◌&&◌, None, Option, Some, option_and_then, option_map, unwrap_or, IsTrue, IsSome, All, IsPermutation, length, map, find, codes, if◌then◌else◌}
 use Rattle.std.specs.List.{flat_map, list_all, list_any, starts_with}
-use Rattle.std.specs.Prelude.{nat_eq}
+use Rattle.std.specs.Str.{bytes_eq}
 use Rattle.rmt_ast.specs.declared.program.Program.{Program}
 use Rattle.rmt_ast.specs.declared.program.Field.{Field}
 use Rattle.rmt_ast.specs.declared.program.Header.{Header}
@@ -78,10 +78,7 @@ reserved_words =
 
 -- two names are the same bytes
 abbrev pub same_name : List ℕ → List ℕ → Bool
-same_name [] [] = true
-same_name [] (d ∷ ds) = false
-same_name (c ∷ cs) [] = false
-same_name (c ∷ cs) (d ∷ ds) = nat_eq c d && same_name cs ds
+same_name a b = bytes_eq a b
 
 -- a letter or `_`, and then letters, digits and `_`; no reserved word
 abbrev pub begins_with_letter : List ℕ → Bool
