@@ -2,5 +2,6 @@
 #![tactic(auto)]
 
 pub mod answer;
+pub mod bits;
 pub mod lane;
 pub mod sequence;
