@@ -3,5 +3,6 @@
 
 pub mod answer;
 pub mod bits;
+pub mod hash;
 pub mod lane;
 pub mod sequence;
