@@ -1,5 +1,5 @@
 -- The spelling of an image: the bytes of a configuration. Numbers stand highest byte first, and a list behind its count.
-use Rattle.std.specs.Prelude.{ℕ, List, [], ◌∷◌, ◌++◌, length, Bool, true, false, Option, Some, None, codes}
+use Rattle.std.specs.Prelude.{ℕ, ◌+◌, ◌<◌, ◌^◌, List, [], ◌∷◌, ◌++◌, length, All, Bool, true, false, Option, Some, None, codes}
 use Rattle.std.specs.Int.{w16, w32, to_be_bytes, bytes_high_first}
 use Rattle.std.specs.List.{flat_map}
 use Rattle.rmt_bits.specs.declared.lane.Lane.{Lane}
@@ -156,3 +156,44 @@ spelled_config c =
 -- the whole image: the four letters, the version 1, and the configuration
 abbrev pub spelled : Config → List ℕ
 spelled c = codes "RMTI" ++ two_bytes 1 ++ spelled_config c
+
+-- the counts that stand before lists fit their places; nothing else can keep a configuration from being written
+pub record CountsFitSlot (s : SlotUnit) : Type 0 where
+  pub keys : length s.keys < 2 ^ 16
+  pub numbers : length s.numbers < 2 ^ 32
+
+abbrev pub CountsFitUnit : Unit → Type 0
+CountsFitUnit (Gate g) = length g.tests < 2 ^ 8
+CountsFitUnit (Slot s) = CountsFitSlot s
+
+abbrev pub CountsFitHeader : OutHeader → Type 0
+CountsFitHeader h = length h.pieces < 2 ^ 8
+
+abbrev pub CountsFitState : ParserState → Type 0
+CountsFitState s = length s.lookups < 2 ^ 8
+
+abbrev pub CountsFitEntry : ParserEntry → Type 0
+CountsFitEntry e = length e.extracts < 2 ^ 8
+
+abbrev pub CountsFitVliw : Vliw → Type 0
+CountsFitVliw v = length v.ops < 2 ^ 8
+
+pub record CountsFitStage (s : Stage) : Type 0 where
+  pub units : length s.units < 2 ^ 8
+  pub each_unit : All CountsFitUnit s.units
+  pub each_vliw : All CountsFitVliw s.code
+  pub srows : length s.srows < 2 ^ 32
+  pub trows : length s.trows < 2 ^ 32
+
+pub record CountsFitParser (p : ParserConfig) : Type 0 where
+  pub states : length p.states < 2 ^ 16
+  pub each_state : All CountsFitState p.states
+  pub entries : length p.entries < 2 ^ 16
+  pub each_entry : All CountsFitEntry p.entries
+
+pub record CountsFit (c : Config) : Type 0 where
+  pub headers : length c.headers < 2 ^ 8
+  pub each_header : All CountsFitHeader c.headers
+  pub parser : CountsFitParser c.parser
+  pub stages : length c.stages < 2 ^ 8
+  pub each_stage : All CountsFitStage c.stages
