@@ -1,0 +1,8 @@
+//! Images: the bytes of a configuration, written and read.
+#![tactic(auto)]
+
+mod fault;
+mod writing;
+
+pub use fault::ImageFault;
+pub use writing::write_image;
