@@ -4,3 +4,4 @@ pub mod SmallConfig
 pub mod SameRuns
 pub mod Commands
 pub mod Promises
+pub mod SmallReading

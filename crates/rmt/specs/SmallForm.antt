@@ -1,10 +1,9 @@
 -- The small form of a program text: its grammar over tokens, and the program that a text means.
-use Rattle.std.specs.Prelude.{◌≡◌, ℕ, suc, ◌<◌, ◌≤◌, List, [], ◌∷◌, ◌++◌, Bool, true, false, not, ◌&&◌, None, Option, Some, option_and_then, option_map, unwrap_or, IsTrue, IsSome, All, IsPermutation, length, map, find, codes, if◌then◌else◌}
-use Rattle.std.specs.List.{flat_map, list_all, list_any, starts_with}
+use Rattle.std.specs.Prelude.{◌≡◌, ℕ, suc, ◌<◌, ◌≤◌, List, [], ◌∷◌, ◌++◌, Bool, true, false, not, ◌&&◌, None, option_map, unwrap_or, All, length, map, find, codes, if◌then◌else◌}
+use Rattle.std.specs.List.{flat_map, list_all, list_any}
 use Rattle.std.specs.Str.{bytes_eq}
 use Rattle.rmt_ast.specs.declared.program.Program.{Program}
 use Rattle.rmt_ast.specs.declared.program.Field.{Field}
-use Rattle.rmt_ast.specs.declared.program.Header.{Header}
 use Rattle.rmt_ast.specs.declared.program.Action.{Action}
 use Rattle.rmt_ast.specs.declared.program.Assign.{Assign}
 use Rattle.rmt_ast.specs.declared.program.Table.{Table}

@@ -1,5 +1,8 @@
 //! The small form of a program text: one header of one byte, and tables without keys.
 
+pub mod fault;
+pub mod tokens;
+
 /// What the one assignment of an action sets, if it has one.
 #[derive(Clone, Copy, Debug, PartialEq, Eq)]
 pub enum Effect {
