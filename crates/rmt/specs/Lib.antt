@@ -5,3 +5,5 @@ pub mod SameRuns
 pub mod Commands
 pub mod Promises
 pub mod SmallReading
+pub mod CommandReading
+pub mod Printing
