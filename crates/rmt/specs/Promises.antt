@@ -3,6 +3,8 @@ use Rattle.std.specs.Prelude.{◌≡◌, ℕ, ◌*◌, ◌<◌, ◌≤◌, ◌�
 use Rattle.std.specs.Fmt.{decimal}
 use Rattle.rmt_config.specs.declared.config.Config.{Config}
 use Rattle.rmt_config.specs.Spelling.{spelled}
+use Rattle.rmt.specs.declared.status.Status.{Status}
+use Rattle.rmt.specs.declared.status.Status.TheVariants.{Done, Usage, ReadFault, WriteFault, BadProgram, BadEntries, NoFit, BadImage, BadPackets, TooLong, NoMemory}
 use Rattle.rmt.specs.SmallForm.{SmallProgram, Means, program_of, steps_of}
 use Rattle.rmt.specs.SmallConfig.{small_config}
 use Rattle.rmt.specs.SameRuns.{SameRuns, no_entries}
@@ -17,6 +19,10 @@ program_limit = 1048576
 
 abbrev pub entries_limit : ℕ
 entries_limit = 67108864
+
+-- how long an image may be
+abbrev pub image_limit : ℕ
+image_limit = 268435456
 
 -- a file that is there, within a limit
 pub record IsWithin (files : Files) (name : List ℕ) (limit : ℕ) : Type 0 where
@@ -53,24 +59,23 @@ pub record Makes (text entries image lines : List ℕ) : Type 0 where
   pub image_is : image ≡ spelled config
   pub same_runs : SameRuns config (program_of parts) (no_entries (program_of parts))
   pub stands : config ≡ small_config (steps_of parts)
+  pub image_is_short : length image ≤ image_limit
   pub lines_are : lines ≡ compile_lines (length parts.applied)
 
--- the image that stands is made of the texts that were read, and so are the lines
-pub record Compiled (before after : Files) (program entries image lines : List ℕ) : Type 0 where
-  pub text : List ℕ
-  pub entry_text : List ℕ
-  pub bytes : List ℕ
-  pub program_was : before program ≡ Some text
-  pub entries_were : before entries ≡ Some entry_text
-  pub image_is : after image ≡ Some bytes
-  pub made : Makes text entry_text bytes lines
+-- both texts are there and within their limits, the program is of the small form, and there are no entries
+pub record IsGood (files : Files) (program entries : List ℕ) : Type 0 where
+  pub text : IsWithin files program program_limit
+  pub parts : SmallProgram
+  pub means : Means text.bytes parts
+  pub without_entries : files entries ≡ Some []
 
--- the causes of the refusals of the texts; both files are there and within their limits
+-- both texts are there and within their limits, and the program is of no program of the small form
 pub record HasBadProgram (files : Files) (program entries : List ℕ) : Type 0 where
   pub text : IsWithin files program program_limit
   pub entry_text : IsWithin files entries entries_limit
   pub is_bad : IsNotSmall text.bytes
 
+-- the same with a program of the small form, and entries
 pub record HasBadEntries (files : Files) (program entries : List ℕ) : Type 0 where
   pub text : IsWithin files program program_limit
   pub entry_text : IsWithin files entries entries_limit
@@ -88,9 +93,37 @@ abbrev pub HasAbsent : Files → List ℕ → List ℕ → Type 0
 HasAbsent files program entries =
     (files program ≡ None) ⊎ (IsWithin files program program_limit × (files entries ≡ None))
 
+-- The cause of each answer to `compile` in the files, where a fault of the outside or want of memory has none there.
+abbrev pub Causes : Files → List ℕ → List ℕ → Status → Type 0
+Causes files program entries Done = IsGood files program entries
+Causes files program entries Usage = ⊥
+Causes files program entries ReadFault = Unit {0}
+Causes files program entries WriteFault = IsGood files program entries ⊎ HasBadProgram files program entries ⊎ HasBadEntries files program entries
+Causes files program entries BadProgram = HasBadProgram files program entries
+Causes files program entries BadEntries = HasBadEntries files program entries
+Causes files program entries NoFit = ⊥
+Causes files program entries BadImage = ⊥
+Causes files program entries BadPackets = ⊥
+Causes files program entries TooLong = HasTooLong files program entries
+Causes files program entries NoMemory = Unit {0}
+
+-- nothing is printed with these answers
+abbrev pub IsQuiet : Status → Type 0
+IsQuiet status = (status ≡ Usage) ⊎ (status ≡ ReadFault) ⊎ (status ≡ TooLong) ⊎ (status ≡ NoMemory)
+
+-- the image that stands afterwards is made of the texts that were read, and so are the lines
+pub record Compiled (before after : Files) (program entries image lines : List ℕ) : Type 0 where
+  pub text : List ℕ
+  pub entry_text : List ℕ
+  pub bytes : List ℕ
+  pub program_was : before program ≡ Some text
+  pub entries_were : before entries ≡ Some entry_text
+  pub image_is : after image ≡ Some bytes
+  pub made : Makes text entry_text bytes lines
+
 -- the whole text that `compile` prints for its files, where no fault of the outside comes
-pub data Prints (files : Files) (program entries : List ℕ) : List ℕ → Type 0 where
-  lines : (text image lines : List ℕ) → files program ≡ Some text → files entries ≡ Some [] → Makes text [] image lines → Prints files program entries lines
-  bad_program : HasBadProgram files program entries → Prints files program entries bad_program_line
-  bad_entries : HasBadEntries files program entries → Prints files program entries bad_entries_line
-  nothing : Prints files program entries []
+abbrev pub Prints : Files → List ℕ → List ℕ → List ℕ → Type 0
+Prints files program entries printed =
+    ((text image : List ℕ) × (files program ≡ Some text) × (files entries ≡ Some []) × Makes text [] image printed)
+    ⊎ (HasBadProgram files program entries × (printed ≡ bad_program_line))
+    ⊎ (HasBadEntries files program entries × (printed ≡ bad_entries_line))

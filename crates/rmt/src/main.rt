@@ -3,7 +3,9 @@
 
 mod commands;
 mod configure;
+mod loading;
 mod printing;
 pub mod small;
+pub mod status;
 
 fn main() {}
