@@ -1,4 +1,4 @@
-ghost use Rattle.std.specs.Prelude.{◌≡◌, ◌≢◌, ℕ, Bool, true, false, List, Option, Some, None, ◌+◌, ◌-◌, ◌^◌, ◌<◌, ◌≤◌, [], length, option_map, IsTrue, OnOk, OnErr, IsErrOf, string_bytes};
+ghost use Rattle.std.specs.Prelude.{◌≡◌, ◌≢◌, ◌↔◌, ℕ, Bool, true, false, List, Option, Some, None, ◌+◌, ◌-◌, ◌^◌, ◌<◌, ◌≤◌, [], length, option_map, IsTrue, OnOk, OnErr, IsErrOf, string_bytes};
 ghost use Rattle.std.specs.FinMap as map;
 ghost use Rattle.rmt_io.specs.Calls.{fails_next, fails_no_more, raised};
 ghost use Rattle.rmt_io.specs.Faults.{Rose};
@@ -151,7 +151,24 @@ impl Shelf for MemShelf {
         name: &String,
         limit: u64,
         into: &mut Vec<u8>,
-    ) -> Result<(), ShelfFault> {
+    ) -> Result<(), ShelfFault>
+        ensures content { OnOk result (map.get self.old.files (string_bytes name.now) ≡ Some into.new.items) }
+        ensures within { OnOk result (length into.new.items ≤ limit) }
+        ensures emptied { OnErr result (into.new.items ≡ []) }
+        ensures too_long { IsErrOf result ShelfFault.TooLong →
+            (bytes : List ℕ) × (map.get self.old.files (string_bytes name.now) ≡ Some bytes) × (limit < length bytes) }
+
+        // A call whose number is listed fails, and another one only where the file is absent.
+        ensures listed { IsTrue (fails_next self.old.fails self.old.calls) → IsErrOf result ShelfFault.Failed }
+        ensures unlisted { IsErrOf result ShelfFault.Failed → fails_next self.old.fails self.old.calls ≡ false → map.get self.old.files (string_bytes name.now) ≡ None }
+        ensures absent { IsErrOf result ShelfFault.Failed → IsTrue (fails_no_more self.old.fails self.old.calls) → map.get self.old.files (string_bytes name.now) ≡ None }
+
+        // What is counted, and nothing else changes.
+        ensures counted { self.new ≡ record (shelf_called self.old) { reading = self.new.reading } }
+        ensures failed { IsErrOf result ShelfFault.Failed → Rose self.old.reading self.new.reading }
+        ensures reading { self.old.reading ≤ self.new.reading }
+        ensures stays_steady { IsTrue (fails_no_more self.old.fails self.old.calls) → IsTrue (fails_no_more self.new.fails self.new.calls) }
+    {
         if self.call() {
             into.clear();
             return Err(self.reading_fault());
@@ -163,7 +180,22 @@ impl Shelf for MemShelf {
         }
     }
 
-    fn write(&mut self, _alloc: Global, name: &String, bytes: &Vec<u8>) -> Result<(), ShelfFault> {
+    fn write(&mut self, _alloc: Global, name: &String, bytes: &Vec<u8>) -> Result<(), ShelfFault>
+        ensures written { OnOk result (map.get self.new.files (string_bytes name.now) ≡ Some bytes.now.items) }
+        ensures others { (other : List ℕ) → other ≢ string_bytes name.now → map.get self.new.files other ≡ map.get self.old.files other }
+        ensures unchanged { OnErr result (self.new.files ≡ self.old.files) }
+        ensures never_too_long { IsErrOf result ShelfFault.TooLong → ⊥ }
+
+        // A call fails exactly where its number is listed.
+        ensures listed { IsErrOf result ShelfFault.Failed ↔ IsTrue (fails_next self.old.fails self.old.calls) }
+        ensures never_fails { IsErrOf result ShelfFault.Failed → IsTrue (fails_no_more self.old.fails self.old.calls) → ⊥ }
+
+        // What is counted, and nothing else changes.
+        ensures counted { self.new ≡ record (shelf_called self.old) { files = self.new.files; writing = self.new.writing } }
+        ensures failed { IsErrOf result ShelfFault.Failed → Rose self.old.writing self.new.writing }
+        ensures writing { self.old.writing ≤ self.new.writing }
+        ensures stays_steady { IsTrue (fails_no_more self.old.fails self.old.calls) → IsTrue (fails_no_more self.new.fails self.new.calls) }
+    {
         if self.call() {
             return Err(self.writing_fault());
         }

@@ -1,4 +1,4 @@
-ghost use Rattle.std.specs.Prelude.{◌≡◌, ℕ, Bool, true, List, [], ◌+◌, ◌-◌, ◌^◌, ◌<◌, ◌≤◌, ◌++◌, length, min, take, IsTrue, IfOk, OnOk, OnErr};
+ghost use Rattle.std.specs.Prelude.{◌≡◌, ℕ, Bool, true, List, [], ◌+◌, ◌-◌, ◌^◌, ◌<◌, ◌≤◌, ◌++◌, length, min, take, IsTrue, IfOk, IsErr, OnOk, OnErr};
 ghost use Rattle.rmt_io.specs.Calls.{fails_next, raised};
 ghost use Rattle.rmt_io.specs.Faults.{Rose};
 ghost use Rattle.rmt_io.specs.Taken.{MemoryBytes, sink_called};
@@ -99,7 +99,19 @@ impl Sink for MemSink {
 
     ghost faults = { λ s. s.faults };
 
-    fn write(&mut self, piece: &[u8]) -> Result<usize, SinkFault> {
+    fn write(&mut self, piece: &[u8]) -> Result<usize, SinkFault>
+        requires { 0 < length piece.now }
+        ensures some { IfOk result (λ n. (0 < n) × (n ≤ length piece.now)) }
+        ensures most { IfOk result (λ n. n ≡ min (length piece.now) self.old.most) }
+        ensures appended { IfOk result (λ n. self.new.bytes ≡ self.old.bytes ++ take n piece.now) }
+        ensures unchanged { OnErr result (self.new.bytes ≡ self.old.bytes) }
+        ensures listed { IsTrue (fails_next self.old.fails self.old.calls) → IsErr result }
+
+        // What is counted, and nothing else changes.
+        ensures counted { self.new ≡ record (sink_called self.old) { bytes = self.new.bytes; faults = self.new.faults } }
+        ensures failed { OnErr result (Rose self.old.faults self.new.faults) }
+        ensures counts { self.old.faults ≤ self.new.faults }
+    {
         if self.call() {
             return Err(self.fault());
         }
