@@ -8,3 +8,6 @@ pub mod shelf;
 pub mod sink;
 pub mod true_shelf;
 pub mod true_sink;
+
+#[cfg(test)]
+mod tests;

@@ -111,8 +111,9 @@ impl MemShelf {
         failing
     }
 
-    /// Replaces what `into` held by the bytes of the named file, of which there may be `limit`.
+    /// Puts the bytes of the named file, of which there may be `limit`, into an empty `into`.
     fn copy(&self, name: &String, limit: u64, into: &mut Vec<u8>) -> Result<(), ShelfFault>
+        requires { into.old.items ≡ [] }
         ensures content { OnOk result (map.get self.now.files (string_bytes name.now) ≡ Some into.new.items) }
         ensures within { OnOk result (length into.new.items ≤ limit) }
         ensures emptied { OnErr result (into.new.items ≡ []) }
@@ -120,7 +121,6 @@ impl MemShelf {
             (bytes : List ℕ) × (map.get self.now.files (string_bytes name.now) ≡ Some bytes) × (limit < length bytes) }
         ensures absent { IsErrOf result ShelfFault.Failed → map.get self.now.files (string_bytes name.now) ≡ None }
     {
-        into.clear();
         let Some(bytes) = self.file(name) else {
             return Err(ShelfFault::Failed);
         };
@@ -169,8 +169,8 @@ impl Shelf for MemShelf {
         ensures reading { self.old.reading ≤ self.new.reading }
         ensures stays_steady { IsTrue (fails_no_more self.old.fails self.old.calls) → IsTrue (fails_no_more self.new.fails self.new.calls) }
     {
+        into.clear();
         if self.call() {
-            into.clear();
             return Err(self.reading_fault());
         }
         match self.copy(name, limit, into) {
