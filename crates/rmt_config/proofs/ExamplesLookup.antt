@@ -1,6 +1,7 @@
 -- Configurations with memory whose runs are known.
-use Rattle.std.specs.Prelude.{◌≡◌, ℕ, Bool, List, [], ◌∷◌, ◌++◌, Some, None, true, false, replicate, refl}
+use Rattle.std.specs.Prelude.{◌≡◌, ℕ, ◌+◌, ◌*◌, ◌^◌, Bool, List, [], ◌∷◌, ◌++◌, Some, None, true, false, replicate, refl}
 use Rattle.std.specs.List.{range_with_len}
+use Rattle.rmt_bits.specs.declared.answer.Verdict.TheVariants as verdict
 use Rattle.rmt_config.specs.declared.config.Config.{Config}
 use Rattle.rmt_config.specs.declared.config.Unit.{Unit}
 use Rattle.rmt_config.specs.declared.config.Unit.TheVariants.{Slot}
@@ -121,3 +122,41 @@ exact_counts_before = refl
 pub exact_counts_after : chip_counts_of exact (Some (packet 0 second_key) ∷ replicate 8 None)
     ≡ record { entry = 5; packets = 1; bytes = 7 } ∷ record { entry = 7; packets = 0; bytes = 0 } ∷ record { entry = 8; packets = 0; bytes = 0 } ∷ record { entry = 9; packets = 0; bytes = 0 } ∷ []
 exact_counts_after = refl
+
+-- a counted table whose ternary key is 48 bits in words 1 to 6, two TCAM blocks wide, with records of 9 bits and a head:
+-- row 1 is 0a0b0c0d0e0f, row 2 is 0a in the first byte, row 7 is a last bit of 1; row 0 is not in use
+abbrev pub ternary : Config
+ternary =
+    one_header 6
+    (Bits 0 (lane 1 0 8) ∷ Bits 8 (lane 2 0 8) ∷ Bits 16 (lane 3 0 8) ∷ Bits 24 (lane 4 0 8) ∷ Bits 32 (lane 5 0 8) ∷ Bits 40 (lane 6 0 8) ∷ [])
+    (lane 1 0 8 ∷ lane 2 0 8 ∷ lane 3 0 8 ∷ lane 4 0 8 ∷ lane 5 0 8 ∷ lane 6 0 8 ∷ [])
+    (record {
+      start = 0;
+      units =
+          Slot (record {
+            node = 0;
+            guard = None;
+            counted = true;
+            actions = 2;
+            last = true;
+            held = 9;
+            keys = lane 1 0 8 ∷ lane 2 0 8 ∷ lane 3 0 8 ∷ lane 4 0 8 ∷ lane 5 0 8 ∷ lane 6 0 8 ∷ [];
+            memory = Ternary 1 (0 ∷ 1 ∷ []) (0 ∷ []) (1 ∷ 2 ∷ []);
+            numbers = record { cell = 1; number = 10 } ∷ record { cell = 2; number = 11 } ∷ record { cell = 7; number = 12 } ∷ [];
+          })
+          ∷ [];
+      code = instruction (copy 65 0 9 (Held 0) ∷ []) ∷ instruction (copy 0 0 1 (Constant 1) ∷ []) ∷ instruction (copy 65 0 9 (Constant 4) ∷ []) ∷ [];
+      srows = record { block = 0; row = 0; bits = 0x101 * 2 ^ 17 + 0x201 * 2 ^ 34 } ∷ record { block = 0; row = 1; bits = 0x09 * 2 ^ 17 } ∷ [];
+      trows =
+          record { block = 0; row = 1; value = 0x0b0c0d0e0f; mask = 0xffffffffff }
+          ∷ record { block = 0; row = 7; value = 1; mask = 1 }
+          ∷ record { block = 1; row = 1; value = 0x0a; mask = 0xff }
+          ∷ record { block = 1; row = 2; value = 0x0a; mask = 0xff } ∷ [];
+    } ∷ [])
+
+pub ternary_run : outcomes_of ternary (packet 0 (10 ∷ 11 ∷ 12 ∷ 13 ∷ 14 ∷ 15 ∷ []) ∷ packet 0 (10 ∷ 11 ∷ 12 ∷ 13 ∷ 14 ∷ 17 ∷ []) ∷ packet 0 (9 ∷ 0 ∷ 0 ∷ 0 ∷ 0 ∷ 1 ∷ []) ∷ packet 0 (9 ∷ 0 ∷ 0 ∷ 0 ∷ 0 ∷ 2 ∷ []) ∷ [])
+    ≡ sent 1 (10 ∷ 11 ∷ 12 ∷ 13 ∷ 14 ∷ 15 ∷ []) (record { number = 10; age = 8 } ∷ [])
+    ∷ sent 2 (10 ∷ 11 ∷ 12 ∷ 13 ∷ 14 ∷ 17 ∷ []) (record { number = 11; age = 8 } ∷ [])
+    ∷ record { verdict = verdict.Dropped; bytes = []; counted = record { number = 12; age = 8 } ∷ [] }
+    ∷ sent 4 (9 ∷ 0 ∷ 0 ∷ 0 ∷ 0 ∷ 2 ∷ []) [] ∷ []
+ternary_run = refl
