@@ -1,1 +1,4 @@
+pub mod ExamplesParts
 pub mod Examples
+pub mod ExamplesLookup
+pub mod RunLaws
