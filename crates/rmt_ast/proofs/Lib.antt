@@ -1,2 +1,4 @@
 pub mod Programs
 pub mod Examples
+pub mod WellFormedLemmas
+mod ExampleForm

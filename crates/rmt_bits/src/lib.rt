@@ -6,3 +6,5 @@ pub mod bits;
 pub mod hash;
 pub mod lane;
 pub mod sequence;
+#[cfg(test)]
+mod tests;

@@ -1,3 +1,5 @@
+pub mod ExamplesParts
 pub mod Examples
 pub mod ExamplesSpelling
+pub mod ExamplesLookup
 pub mod RunLaws

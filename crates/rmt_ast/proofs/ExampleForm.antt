@@ -1,0 +1,173 @@
+-- A program and its entries that are well formed.
+use Rattle.std.proofs.Common.{◌≢◌, ◌≤◌, ℕ, zero, suc, ◌<◌, List, [], ◌∷◌, length, refl, arith}
+use Rattle.std.specs.Prelude.{map, false, codes, All}
+use Rattle.std.proofs.lemmas.List.Elements.{All-from_recursion, All-nil}
+use Rattle.std.proofs.lemmas.List.Kept.{AllPairs-cons}
+use Rattle.rmt_bits.specs.Bits.{number_of}
+use Rattle.rmt_ast.specs.declared.program.Field.{Field}
+use Rattle.rmt_ast.specs.declared.program.Assign.{Assign}
+use Rattle.rmt_ast.specs.declared.program.Header.{Header}
+use Rattle.rmt_ast.specs.declared.program.Action.{Action}
+use Rattle.rmt_ast.specs.declared.program.Table.{Table}
+use Rattle.rmt_ast.specs.declared.program.Kind.TheVariants.{Exact}
+use Rattle.rmt_ast.specs.declared.entry.Entry.{Entry}
+use Rattle.rmt_ast.specs.WellFormed.{IsProgram, HasFields, IsWidth, IsHeader, IsAction, IsAssign, IsTable, IsNode, HasNames, HasHeaderNames, AreAppliedOnce, AllNumbered, BeginsWith, Takes, name_of}
+use Rattle.rmt_ast.specs.EntryLists.{AreEntries, AreTableEntries, IsEntry}
+use Rattle.rmt_ast.proofs.Programs.{strict_and_weak, one_entry, action, keyless, field}
+use Rattle.rmt_ast.proofs.WellFormedLemmas.{AllNumbered-from_items, AreDistinct-from_apart, AllPairs-none}
+
+one_width : All IsWidth (9 ∷ [])
+one_width = All-from_recursion IsWidth (9 ∷ []) ((omega arith, omega arith), tt)
+
+fields : HasFields strict_and_weak
+fields = record {
+  in_port = refl;
+  out_port = refl;
+  drop = refl;
+  in_order = refl;
+  all_there = omega arith;
+  few_metadata = omega arith;
+  widths =
+      All-from_recursion (λ (f : Field). IsWidth f.width) strict_and_weak.fields
+      ((omega arith, omega arith), ((omega arith, omega arith), ((omega arith, omega arith), ((omega arith, omega arith), ((omega arith, omega arith), ((omega arith, omega arith), tt))))));
+}
+
+headers : AllNumbered (IsHeader strict_and_weak) strict_and_weak.headers
+headers = AllNumbered-from_items (IsHeader strict_and_weak) strict_and_weak.headers (
+  record {
+    valid = refl;
+    whole_bytes = refl;
+    is_not_empty = omega arith;
+    is_not_long = omega arith;
+    selects_own = All-nil _;
+    selects_once = AreDistinct-from_apart (λ f. f) [] refl;
+    plain = λ e. refl;
+    cases = All-nil _;
+    other = tt;
+  },
+  tt,
+)
+
+-- an action that makes one assignment
+one_assign : (name params : List ℕ) (a : Assign) → All IsWidth params → length params ≤ 16 → IsAssign strict_and_weak params a → IsAction strict_and_weak (action name params (a ∷ []))
+one_assign name params a widths few h = record {
+  params = widths;
+  few_params = few;
+  assigns = All-from_recursion (IsAssign strict_and_weak params) (a ∷ []) (h, tt);
+  few_assigns = omega arith;
+}
+
+actions : All (IsAction strict_and_weak) strict_and_weak.actions
+actions = All-from_recursion (IsAction strict_and_weak) strict_and_weak.actions (
+  one_assign _ [] _ (All-nil _) (omega arith) (record { is_field = omega arith; is_not_in_port = λ e. omega (arith, e); expr = (omega arith, refl) }),
+  (
+    one_assign _ [] _ (All-nil _) (omega arith) (record { is_field = omega arith; is_not_in_port = λ e. omega (arith, e); expr = omega arith }),
+    (
+      one_assign _ (9 ∷ []) _ one_width (omega arith) (record { is_field = omega arith; is_not_in_port = λ e. omega (arith, e); expr = refl }),
+      (record { params = All-nil _; few_params = omega arith; assigns = All-nil _; few_assigns = omega arith }, tt),
+    ),
+  ),
+)
+
+-- a table without a key, whose default has no argument
+keyless_table : (name : List ℕ) (default : ℕ) → Takes strict_and_weak default [] → IsTable strict_and_weak (keyless name default)
+keyless_table name default h = record {
+  key = record { key = refl; actions = refl; size = refl; counted = refl };
+  actions = All-nil _;
+  actions_once = AreDistinct-from_apart (λ a. a) [] refl;
+  few_actions = omega arith;
+  default = h;
+}
+
+tables : All (IsTable strict_and_weak) strict_and_weak.tables
+tables = All-from_recursion (IsTable strict_and_weak) strict_and_weak.tables (
+  keyless_table _ 0 tt,
+  (
+    record {
+      key = record {
+        has_key = omega arith;
+        key_fields = All-from_recursion (λ f. f < 6) (5 ∷ []) (omega arith, tt);
+        key_once = AreDistinct-from_apart (λ f. f) (5 ∷ []) refl;
+        key_bits = omega arith;
+        has_actions = omega arith;
+        has_size = omega arith;
+        size = omega arith;
+      };
+      actions = All-from_recursion (λ a. a < 4) (2 ∷ []) (omega arith, tt);
+      actions_once = AreDistinct-from_apart (λ a. a) (2 ∷ []) refl;
+      few_actions = omega arith;
+      default = tt;
+    },
+    (keyless_table _ 1 tt, tt),
+  ),
+)
+
+nodes : AllNumbered (IsNode strict_and_weak) strict_and_weak.nodes
+nodes = AllNumbered-from_items (IsNode strict_and_weak) strict_and_weak.nodes
+    (record { guard = tt; what = omega arith }, (record { guard = tt; what = omega arith }, (record { guard = tt; what = omega arith }, tt)))
+
+applied : AreAppliedOnce strict_and_weak
+applied zero h = refl
+applied (suc zero) h = refl
+applied (suc (suc zero)) h = refl
+applied (suc (suc (suc t))) h = absurd (omega (arith, h))
+
+names : HasNames strict_and_weak
+names = record {
+  of_in_port = refl;
+  of_out_port = refl;
+  of_drop = refl;
+  of_headers = All-from_recursion (HasHeaderNames strict_and_weak) strict_and_weak.headers
+      (record { valid = refl; fields = All-from_recursion (λ f. BeginsWith (codes "h.") (name_of strict_and_weak f)) (4 ∷ []) (refl, tt) }, tt);
+  of_metadata = All-from_recursion (λ (f : Field). BeginsWith (codes "meta.") f.name) (field (codes "meta.x") 8 ∷ []) (refl, tt);
+  fields_once = AreDistinct-from_apart number_of (map (λ (x : Field). x.name) strict_and_weak.fields) refl;
+  headers_once = AreDistinct-from_apart number_of (map (λ (x : Header). x.name) strict_and_weak.headers) refl;
+  actions_once = AreDistinct-from_apart number_of (map (λ (x : Action). x.name) strict_and_weak.actions) refl;
+  tables_once = AreDistinct-from_apart number_of (map (λ (x : Table). x.name) strict_and_weak.tables) refl;
+}
+
+pub strict_and_weak-is_program : IsProgram strict_and_weak
+strict_and_weak-is_program = record {
+  fields = fields;
+  headers = headers;
+  actions = actions;
+  tables = tables;
+  nodes = nodes;
+  applied = applied;
+  counts = record { a_header = omega arith; headers = omega arith; actions = omega arith; nodes = omega arith };
+  names = names;
+}
+
+-- a table without a key has no entry
+no_entries : (n : ℕ) (name : List ℕ) (default : ℕ) → AreTableEntries strict_and_weak n [] (keyless name default)
+no_entries n name default = record { each = All-nil _; rising = AllPairs-none (λ (a b : Entry). a.number < b.number); keys_once = tt; within_size = omega arith }
+
+abbrev exact_entry : Entry
+exact_entry = record { table = 1; number = 0; tests = record { value = 7; mask = 255 } ∷ []; rank = 0; action = 0; args = 5 ∷ [] }
+
+abbrev exact_table : Table
+exact_table = record { name = codes "b"; kind = Exact; key = 5 ∷ []; actions = 2 ∷ []; default = 3; args = []; size = 16; counted = false }
+
+exact_entries : AreTableEntries strict_and_weak 1 (exact_entry ∷ []) exact_table
+exact_entries = record {
+  each =
+      All-from_recursion (IsEntry strict_and_weak 1 exact_table) (exact_entry ∷ []) (
+        record {
+          table = refl;
+          tests = (record { value_fits = omega arith; mask_fits = omega arith; value_is_masked = refl }, tt);
+          rank = ((refl, tt), refl);
+          action = (omega arith, tt);
+        },
+        tt,
+      );
+  rising = AllPairs-cons (λ (a b : Entry). a.number < b.number) exact_entry [] (All-nil _) (AllPairs-none (λ (a b : Entry). a.number < b.number));
+  keys_once = AllPairs-cons (λ (a b : Entry). a.tests ≢ b.tests) exact_entry [] (All-nil _) (AllPairs-none (λ (a b : Entry). a.tests ≢ b.tests));
+  within_size = omega arith;
+}
+
+pub one_entry-are_entries : AreEntries strict_and_weak one_entry
+one_entry-are_entries = record {
+  for_each_node = refl;
+  each = AllNumbered-from_items _ one_entry (no_entries 0 _ 0, (exact_entries, (no_entries 2 _ 1, tt)));
+  numbers_once = AreDistinct-from_apart (λ n. n) (0 ∷ []) refl;
+}
