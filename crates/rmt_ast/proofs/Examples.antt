@@ -1,47 +1,62 @@
 -- Programs whose answers are known.
-use Rattle.std.specs.Prelude.{◌≡◌, ℕ, List, [], ◌∷◌, None, false, refl}
-use Rattle.rmt_bits.specs.declared.answer.Verdict.TheVariants.{Sent}
-use Rattle.rmt_ast.specs.declared.program.Program.{Program}
-use Rattle.rmt_ast.specs.declared.program.Field.{Field}
-use Rattle.rmt_ast.specs.declared.program.Action.{Action}
-use Rattle.rmt_ast.specs.declared.program.Node.{Node}
-use Rattle.rmt_ast.specs.declared.program.Target.TheVariants as target
-use Rattle.rmt_ast.specs.declared.program.Kind.TheVariants.{Keyless, Exact}
-use Rattle.rmt_ast.specs.declared.program.Expr.TheVariants.{One}
-use Rattle.rmt_ast.specs.declared.program.Leaf.TheVariants as leaf
-use Rattle.rmt_ast.specs.declared.program.What.TheVariants.{Apply}
-use Rattle.rmt_ast.specs.declared.entry.Entry.{Entry}
-use Rattle.rmt_ast.specs.Answers.{answers_of}
+use Rattle.std.specs.Prelude.{◌≡◌, ℕ, List, [], ◌∷◌, refl}
+use Rattle.rmt_bits.specs.declared.answer.Verdict.TheVariants.{Short, Reject, Dropped, Sent}
+use Rattle.rmt_bits.specs.declared.answer.Answer.{Answer}
+use Rattle.rmt_ast.specs.Answers.{answers_of, counts_of}
+use Rattle.rmt_ast.proofs.Programs.{packet, assignments_in_order, too_deep, operators, strict_and_weak, one_entry, prefix, prefixes, ternary, priorities, two_headers, other_headers, gate, arms, stop_and_on}
 
-abbrev pub field : ℕ → Field
-field w = record { name = []; width = w }
+abbrev sent : ℕ → List ℕ → List ℕ → Answer
+sent port bytes hits = record { verdict = Sent port; bytes = bytes; hits = hits }
 
-abbrev pub apply_table : ℕ → Node
-apply_table t = record { guard = None; what = Apply t }
+-- the second assignment reads what the first one left
+pub assignments_in_order_answers : answers_of assignments_in_order ([] ∷ []) (packet 0 (1 ∷ 2 ∷ []) ∷ []) ≡ sent 0 (2 ∷ 2 ∷ []) [] ∷ []
+assignments_in_order_answers = refl
 
-abbrev pub action : List ℕ → List (Rattle.rmt_ast.specs.declared.program.Assign.Assign) → Action
-action params assigns = record { name = []; params = params; assigns = assigns }
+pub too_deep_answers : answers_of too_deep ([] ∷ []) (packet 0 (1 ∷ 2 ∷ 3 ∷ []) ∷ []) ≡ sent 0 (3 ∷ 6 ∷ 3 ∷ []) [] ∷ []
+too_deep_answers = refl
 
--- fields: 0 in_port, 1 out_port, 2 drop, 3 h.valid, 4 h.f, 5 meta.x
-abbrev pub strict_and_weak : Program
-strict_and_weak = record {
-  fields = field 9 ∷ field 9 ∷ field 1 ∷ field 1 ∷ field 8 ∷ field 8 ∷ [];
-  headers = record { name = []; valid = 3; fields = 4 ∷ []; bytes = 1; select = []; cases = []; other = target.Accept } ∷ [];
-  actions =
-      action [] (record { dest = 5; expr = One (leaf.Field 4) } ∷ [])
-      ∷ action [] (record { dest = 5; expr = One (leaf.Number 0) } ∷ [])
-      ∷ action (9 ∷ []) (record { dest = 1; expr = One (leaf.Param 0) } ∷ [])
-      ∷ action [] [] ∷ [];
-  tables =
-      record { name = []; kind = Keyless; key = []; actions = []; default = 0; args = []; size = 0; counted = false }
-      ∷ record { name = []; kind = Exact; key = 5 ∷ []; actions = 2 ∷ []; default = 3; args = []; size = 16; counted = false }
-      ∷ record { name = []; kind = Keyless; key = []; actions = []; default = 1; args = []; size = 0; counted = false } ∷ [];
-  nodes = apply_table 0 ∷ apply_table 1 ∷ apply_table 2 ∷ [];
-}
+-- sums and differences wrap round at the width of the field
+pub operators_answers : answers_of operators ([] ∷ []) (packet 5 (0xc5 ∷ 0xf6 ∷ 0 ∷ 0 ∷ 0 ∷ 0 ∷ 0 ∷ []) ∷ [])
+    ≡ sent 0 (0xc5 ∷ 0xf6 ∷ 0xbb ∷ 0xcf ∷ 0x05 ∷ 0xf7 ∷ 0x33 ∷ []) [] ∷ []
+operators_answers = refl
 
-abbrev pub one_entry : List (List Entry)
-one_entry = [] ∷ (record { table = 1; number = 0; tests = record { value = 7; mask = 255 } ∷ []; rank = 0; action = 0; args = 5 ∷ [] } ∷ []) ∷ [] ∷ []
-
-pub strict_and_weak_answers : answers_of strict_and_weak one_entry (record { port = 0; frame = 7 ∷ [] } ∷ record { port = 0; frame = 8 ∷ [] } ∷ [])
-    ≡ record { verdict = Sent 5; bytes = 7 ∷ []; hits = 0 ∷ [] } ∷ record { verdict = Sent 0; bytes = 8 ∷ []; hits = [] } ∷ []
+pub strict_and_weak_answers : answers_of strict_and_weak one_entry (packet 0 (7 ∷ []) ∷ packet 0 (8 ∷ []) ∷ []) ≡ sent 5 (7 ∷ []) (0 ∷ []) ∷ sent 0 (8 ∷ []) [] ∷ []
 strict_and_weak_answers = refl
+
+-- the longest prefix is hit, and each entry counts one packet of 4 bytes
+pub prefix_answers : answers_of prefix prefixes (packet 0 (10 ∷ 0 ∷ 1 ∷ 5 ∷ []) ∷ packet 0 (10 ∷ 0 ∷ 1 ∷ 6 ∷ []) ∷ packet 0 (10 ∷ 1 ∷ 0 ∷ 0 ∷ []) ∷ packet 0 (11 ∷ 0 ∷ 0 ∷ 0 ∷ []) ∷ [])
+    ≡ sent 4 (10 ∷ 0 ∷ 1 ∷ 5 ∷ []) (3 ∷ []) ∷ sent 3 (10 ∷ 0 ∷ 1 ∷ 6 ∷ []) (2 ∷ []) ∷ sent 2 (10 ∷ 1 ∷ 0 ∷ 0 ∷ []) (1 ∷ []) ∷ sent 1 (11 ∷ 0 ∷ 0 ∷ 0 ∷ []) (0 ∷ []) ∷ []
+prefix_answers = refl
+
+pub prefix_counts : counts_of prefix prefixes (packet 0 (10 ∷ 0 ∷ 1 ∷ 5 ∷ []) ∷ packet 0 (10 ∷ 0 ∷ 1 ∷ 6 ∷ []) ∷ packet 0 (10 ∷ 1 ∷ 0 ∷ 0 ∷ []) ∷ packet 0 (11 ∷ 0 ∷ 0 ∷ 0 ∷ []) ∷ [])
+    ≡ record { entry = 0; packets = 1; bytes = 4 } ∷ record { entry = 1; packets = 1; bytes = 4 } ∷ record { entry = 2; packets = 1; bytes = 4 } ∷ record { entry = 3; packets = 1; bytes = 4 } ∷ []
+prefix_counts = refl
+
+-- the least priority is hit, then the earlier entry; what no entry matches takes the default
+pub ternary_answers : answers_of ternary priorities (packet 9 (0x15 ∷ []) ∷ packet 9 (0x12 ∷ []) ∷ packet 9 (0x32 ∷ []) ∷ packet 9 (0x33 ∷ []) ∷ [])
+    ≡ sent 1 (0x15 ∷ []) (0 ∷ []) ∷ sent 2 (0x12 ∷ []) (1 ∷ []) ∷ sent 2 (0x32 ∷ []) (1 ∷ []) ∷ sent 0 (0x33 ∷ []) [] ∷ []
+ternary_answers = refl
+
+-- a whole header g and a byte of payload; a cut g; a case with a mask, where all behind h is payload; a reject; an else; no byte for h
+pub two_headers_answers : answers_of two_headers [] (packet 0 (1 ∷ 2 ∷ 3 ∷ 4 ∷ []) ∷ packet 0 (1 ∷ 2 ∷ []) ∷ packet 0 (6 ∷ 2 ∷ []) ∷ packet 0 (255 ∷ 2 ∷ []) ∷ packet 0 (0 ∷ []) ∷ packet 0 [] ∷ [])
+    ≡ sent 0 (1 ∷ 2 ∷ 3 ∷ 4 ∷ []) [] ∷ record { verdict = Short; bytes = []; hits = [] } ∷ sent 0 (6 ∷ 2 ∷ []) []
+    ∷ record { verdict = Reject; bytes = []; hits = [] } ∷ sent 0 (0 ∷ []) [] ∷ record { verdict = Short; bytes = []; hits = [] } ∷ []
+two_headers_answers = refl
+
+-- a header that an action makes valid is sent, and one that it makes invalid is not
+pub other_headers_answers : answers_of other_headers ([] ∷ []) (packet 0 (1 ∷ 2 ∷ 3 ∷ 4 ∷ []) ∷ packet 0 (6 ∷ 2 ∷ []) ∷ [])
+    ≡ sent 0 (2 ∷ 3 ∷ 4 ∷ []) [] ∷ sent 0 (0 ∷ 0 ∷ 2 ∷ []) [] ∷ []
+other_headers_answers = refl
+
+pub gate_answers : answers_of gate ([] ∷ [] ∷ [] ∷ []) (packet 0 (0x17 ∷ []) ∷ packet 0 (0x27 ∷ []) ∷ []) ≡ sent 1 (0x17 ∷ []) [] ∷ sent 2 (0x27 ∷ []) [] ∷ []
+gate_answers = refl
+
+-- a hit with the action that has an arm of its own, a hit with another one, and a miss
+pub arms_answers : answers_of arms stop_and_on (packet 0 (7 ∷ 1 ∷ []) ∷ packet 0 (8 ∷ []) ∷ packet 0 (9 ∷ []) ∷ [])
+    ≡ record { verdict = Dropped; bytes = []; hits = 0 ∷ [] } ∷ sent 2 (8 ∷ []) (1 ∷ []) ∷ sent 3 (9 ∷ []) [] ∷ []
+arms_answers = refl
+
+-- dropped packets that hit count too, and an entry that no packet hit counts 0
+pub arms_counts : counts_of arms stop_and_on (packet 0 (7 ∷ 1 ∷ []) ∷ packet 0 (9 ∷ []) ∷ packet 0 (7 ∷ []) ∷ [])
+    ≡ record { entry = 0; packets = 2; bytes = 3 } ∷ record { entry = 1; packets = 0; bytes = 0 } ∷ []
+arms_counts = refl

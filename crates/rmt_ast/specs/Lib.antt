@@ -4,3 +4,5 @@ pub mod Actions
 pub mod Lookup
 pub mod Control
 pub mod Answers
+pub mod WellFormed
+pub mod EntryLists

@@ -2,5 +2,7 @@
 #![tactic(auto)]
 
 pub mod answer;
+pub mod bits;
+pub mod hash;
 pub mod lane;
 pub mod sequence;

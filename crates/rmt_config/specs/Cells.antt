@@ -1,6 +1,6 @@
 -- The cells of a part in its memory blocks, and which of them a key hits.
-use Rattle.std.specs.Prelude.{ℕ, zero, suc, ◌+◌, ◌*◌, ◌-◌, ◌/◌, ◌%◌, ◌^◌, List, [], ◌∷◌, Bool, ◌&&◌, ◌==◌, bit_and, Option, None, find, map, take, drop, option_map, unwrap_or, if◌then◌else◌}
-use Rattle.std.specs.List.{flat_map}
+use Rattle.std.specs.Prelude.{ℕ, ◌+◌, ◌*◌, ◌-◌, ◌/◌, ◌%◌, ◌^◌, List, [], ◌∷◌, Bool, ◌&&◌, ◌==◌, bit_and, Option, None, find, map, take, drop, option_map, unwrap_or, if◌then◌else◌}
+use Rattle.std.specs.List.{flat_map, range_with_len}
 use Rattle.rmt_bits.specs.Bits.{slice, bytes_of}
 use Rattle.rmt_bits.specs.Hash.{hash_row}
 use Rattle.rmt_config.specs.declared.config.Stage.{Stage}
@@ -10,11 +10,6 @@ use Rattle.rmt_config.specs.declared.config.SlotUnit.{SlotUnit}
 use Rattle.rmt_config.specs.declared.config.CellNumber.{CellNumber}
 use Rattle.rmt_config.specs.declared.config.Memory.{Memory}
 use Rattle.rmt_config.specs.declared.config.Memory.TheVariants.{Without, Exact, Ternary}
-
--- n numbers, from one on
-abbrev pub numbers_from : ℕ → ℕ → List ℕ
-numbers_from start zero = []
-numbers_from start (suc n) = start ∷ numbers_from (start + 1) n
 
 abbrev pub divided_up : ℕ → ℕ → ℕ
 divided_up a b = (a + b - 1) / b
@@ -72,7 +67,7 @@ look_up seed stage slot bits key = found slot.memory
     holds_key entry = (entry % 2 == 1) && (entry / 256 == key)
 
     cells_of : ℕ → ℕ → List (ℕ × ℕ)
-    cells_of p way = map (λ s. (way, s)) (numbers_from 0 p)
+    cells_of p way = map (λ s. (way, s)) (range_with_len 0 p)
 
     candidates : ℕ → List (ℕ × ℕ)
     candidates p = flat_map (cells_of p) (0 ∷ 1 ∷ 2 ∷ 3 ∷ [])
@@ -104,4 +99,4 @@ look_up seed stage slot bits key = found slot.memory
         (find (λ c. holds_key (entry_at keys k c.0 (row_of first_way d c.0) c.1)) (candidates p))
     found (Ternary d keys records counters) =
         option_map (ternary_found records)
-        (find (row_found (divided_up bits 40) keys records) (numbers_from 0 (2048 * d)))
+        (find (row_found (divided_up bits 40) keys records) (range_with_len 0 (2048 * d)))

@@ -1,6 +1,6 @@
 -- What the clocked chip answers, cycle by cycle.
-use Rattle.std.specs.Prelude.{ℕ, ◌+◌, ◌-◌, List, [], ◌∷◌, ◌++◌, ◌==◌, nat_lt, if◌then◌else◌, Option, Some, None, map, drop, length, replicate, slice_get, option_map, option_and_then}
-use Rattle.std.specs.List.{flat_map}
+use Rattle.std.specs.Prelude.{ℕ, ◌+◌, ◌-◌, List, [], ◌∷◌, ◌++◌, ◌==◌, nat_lt, if◌then◌else◌, Option, Some, None, map, drop, length, replicate, slice_get, option_map, option_and_then, min, filter_map}
+use Rattle.std.specs.List.{flat_map, range_with_len}
 use Rattle.rmt_bits.specs.Bits.{bytes_of}
 use Rattle.rmt_bits.specs.Packet.{Packet}
 use Rattle.rmt_bits.specs.Counts.{Hit, counts}
@@ -67,9 +67,17 @@ abbrev pub inputs_of : Config → List Packet → List (Option Packet)
 inputs_of c [] = []
 inputs_of c (packet ∷ packets) = map Some (packet ∷ packets) ++ replicate (latency_of c.stages) None
 
--- the answers to a list of packets, in order
+-- how many cycles the chip is clocked for a list of packets
+abbrev pub cycles_of : Config → List Packet → ℕ
+cycles_of c packets = length (inputs_of c packets)
+
+-- the greatest number of packets that are in the chip at once; each is there from age 0 to the age at which it leaves
+abbrev pub flight_of : Config → List Packet → ℕ
+flight_of c packets = min (length packets) (latency_of c.stages + 1)
+
+-- the answers that leave in these cycles, in order
 abbrev pub outcomes_of : Config → List Packet → List Outcome
-outcomes_of c packets = map (outcome_of (own_look c) c) packets
+outcomes_of c packets = filter_map (answer_at c (inputs_of c packets)) (range_with_len 0 (cycles_of c packets))
 
 -- the numbers of the entries in counted slots
 abbrev pub unit_numbers : Unit → List ℕ

@@ -1,0 +1,214 @@
+-- Programs and entries that the examples run, written out.
+use Rattle.std.specs.Prelude.{ℕ, List, [], ◌∷◌, codes, None, Some, true, false}
+use Rattle.rmt_bits.specs.Packet.{Packet}
+use Rattle.rmt_ast.specs.declared.program.Program.{Program}
+use Rattle.rmt_ast.specs.declared.program.Field.{Field}
+use Rattle.rmt_ast.specs.declared.program.Header.{Header}
+use Rattle.rmt_ast.specs.declared.program.Target.TheVariants as target
+use Rattle.rmt_ast.specs.declared.program.Action.{Action}
+use Rattle.rmt_ast.specs.declared.program.Assign.{Assign}
+use Rattle.rmt_ast.specs.declared.program.Expr.TheVariants.{One, Two}
+use Rattle.rmt_ast.specs.declared.program.Leaf.TheVariants as leaf
+use Rattle.rmt_ast.specs.declared.program.Op.TheVariants.{Add, Sub, And, Or, Xor}
+use Rattle.rmt_ast.specs.declared.program.Table.{Table}
+use Rattle.rmt_ast.specs.declared.program.Kind.TheVariants.{Keyless, Exact, Prefix, Ternary}
+use Rattle.rmt_ast.specs.declared.program.Node.{Node}
+use Rattle.rmt_ast.specs.declared.program.What.TheVariants.{Apply, Gate}
+use Rattle.rmt_ast.specs.declared.entry.Entry.{Entry}
+
+abbrev pub field : List ℕ → ℕ → Field
+field name width = record { name = name; width = width }
+
+-- the fields that every program has, numbers 0 to 2, and those of one header h, from number 3 on
+abbrev pub with_fields : List Field → List Field
+with_fields fields = field (codes "in_port") 9 ∷ field (codes "out_port") 9 ∷ field (codes "drop") 1 ∷ field (codes "h.valid") 1 ∷ fields
+
+-- the header h, which has no case
+abbrev pub header : List ℕ → ℕ → Header
+header fields bytes = record { name = codes "h"; valid = 3; fields = fields; bytes = bytes; select = []; cases = []; other = target.Accept }
+
+abbrev pub action : List ℕ → List ℕ → List Assign → Action
+action name params assigns = record { name = name; params = params; assigns = assigns }
+
+abbrev pub keyless : List ℕ → ℕ → Table
+keyless name default = record { name = name; kind = Keyless; key = []; actions = []; default = default; args = []; size = 0; counted = false }
+
+abbrev pub apply_table : ℕ → Node
+apply_table t = record { guard = None; what = Apply t }
+
+-- a table that is applied only where the parent's outcome is in the mask
+abbrev pub apply_in_arm : ℕ → ℕ → ℕ → Node
+apply_in_arm parent mask t = record { guard = Some (record { parent = parent; mask = mask }); what = Apply t }
+
+abbrev pub packet : ℕ → List ℕ → Packet
+packet port frame = record { port = port; frame = frame }
+
+-- header h { a : 8; b : 8; } and one table whose default does h.a = h.b; h.b = h.a;
+abbrev pub assignments_in_order : Program
+assignments_in_order = record {
+  fields = with_fields (field (codes "h.a") 8 ∷ field (codes "h.b") 8 ∷ []);
+  headers = header (4 ∷ 5 ∷ []) 2 ∷ [];
+  actions = action (codes "copy") [] (record { dest = 4; expr = One (leaf.Field 5) } ∷ record { dest = 5; expr = One (leaf.Field 4) } ∷ []) ∷ [];
+  tables = keyless (codes "t") 0 ∷ [];
+  nodes = apply_table 0 ∷ [];
+}
+
+-- header h { a : 8; b : 8; c : 8; } and one table whose default does h.a = h.a + h.b; h.b = h.a + h.c;
+abbrev pub too_deep : Program
+too_deep = record {
+  fields = with_fields (field (codes "h.a") 8 ∷ field (codes "h.b") 8 ∷ field (codes "h.c") 8 ∷ []);
+  headers = header (4 ∷ 5 ∷ 6 ∷ []) 3 ∷ [];
+  actions =
+      action (codes "deep") []
+      (record { dest = 4; expr = Two Add (leaf.Field 4) (leaf.Field 5) }
+      ∷ record { dest = 5; expr = Two Add (leaf.Field 4) (leaf.Field 6) } ∷ [])
+      ∷ [];
+  tables = keyless (codes "t") 0 ∷ [];
+  nodes = apply_table 0 ∷ [];
+}
+
+-- header h { a : 8; b : 8; add : 8; sub : 8; and : 8; or : 8; xor : 8; } and one table whose default sets each further
+-- field by the operator of its name from h.a and h.b, and and from h.a and 15
+abbrev pub operators : Program
+operators = record {
+  fields =
+      with_fields
+      (field (codes "h.a") 8 ∷ field (codes "h.b") 8 ∷ field (codes "h.add") 8 ∷ field (codes "h.sub") 8
+      ∷ field (codes "h.and") 8 ∷ field (codes "h.or") 8 ∷ field (codes "h.xor") 8 ∷ []);
+  headers = header (4 ∷ 5 ∷ 6 ∷ 7 ∷ 8 ∷ 9 ∷ 10 ∷ []) 7 ∷ [];
+  actions =
+      action (codes "all") []
+      (record { dest = 6; expr = Two Add (leaf.Field 4) (leaf.Field 5) }
+      ∷ record { dest = 7; expr = Two Sub (leaf.Field 4) (leaf.Field 5) }
+      ∷ record { dest = 8; expr = Two And (leaf.Field 4) (leaf.Number 15) }
+      ∷ record { dest = 9; expr = Two Or (leaf.Field 4) (leaf.Field 5) }
+      ∷ record { dest = 10; expr = Two Xor (leaf.Field 4) (leaf.Field 5) } ∷ [])
+      ∷ [];
+  tables = keyless (codes "t") 0 ∷ [];
+  nodes = apply_table 0 ∷ [];
+}
+
+-- header h { f : 8; } and metadata x : 8; table a does meta.x = h.f, b is exact on meta.x, and c does meta.x = 0
+abbrev pub strict_and_weak : Program
+strict_and_weak = record {
+  fields = with_fields (field (codes "h.f") 8 ∷ field (codes "meta.x") 8 ∷ []);
+  headers = header (4 ∷ []) 1 ∷ [];
+  actions =
+      action (codes "sx") [] (record { dest = 5; expr = One (leaf.Field 4) } ∷ [])
+      ∷ action (codes "cx") [] (record { dest = 5; expr = One (leaf.Number 0) } ∷ [])
+      ∷ action (codes "go") (9 ∷ []) (record { dest = 1; expr = One (leaf.Param 0) } ∷ [])
+      ∷ action (codes "no") [] [] ∷ [];
+  tables =
+      keyless (codes "a") 0
+      ∷ record { name = codes "b"; kind = Exact; key = 5 ∷ []; actions = 2 ∷ []; default = 3; args = []; size = 16; counted = false }
+      ∷ keyless (codes "c") 1 ∷ [];
+  nodes = apply_table 0 ∷ apply_table 1 ∷ apply_table 2 ∷ [];
+}
+
+-- its entry `b 7 go 5`
+abbrev pub one_entry : List (List Entry)
+one_entry = [] ∷ (record { table = 1; number = 0; tests = record { value = 7; mask = 255 } ∷ []; rank = 0; action = 0; args = 5 ∷ [] } ∷ []) ∷ [] ∷ []
+
+-- header h { d : 32; } and a counted table of prefixes of it, which gives the port, by default 0
+abbrev pub prefix : Program
+prefix = record {
+  fields = with_fields (field (codes "h.d") 32 ∷ []);
+  headers = header (4 ∷ []) 4 ∷ [];
+  actions = action (codes "go") (9 ∷ []) (record { dest = 1; expr = One (leaf.Param 0) } ∷ []) ∷ [];
+  tables = record { name = codes "r"; kind = Prefix; key = 4 ∷ []; actions = 0 ∷ []; default = 0; args = 0 ∷ []; size = 1024; counted = true } ∷ [];
+  nodes = apply_table 0 ∷ [];
+}
+
+-- an entry of the table that node 0 applies, with one test and the first action
+abbrev pub entry : ℕ → ℕ → ℕ → ℕ → List ℕ → Entry
+entry number rank value mask args = record { table = 0; number = number; tests = record { value = value; mask = mask } ∷ []; rank = rank; action = 0; args = args }
+
+-- the prefixes of length 0, 8, 24 and 32 of 10.0.1.5
+abbrev pub prefixes : List (List Entry)
+prefixes =
+    (entry 0 0 0 0 (1 ∷ [])
+    ∷ entry 1 8 0x0a000000 0xff000000 (2 ∷ [])
+    ∷ entry 2 24 0x0a000100 0xffffff00 (3 ∷ [])
+    ∷ entry 3 32 0x0a000105 0xffffffff (4 ∷ []) ∷ [])
+    ∷ []
+
+-- header h { d : 8; } and a ternary table on it, which gives the port, by default 0
+abbrev pub ternary : Program
+ternary = record {
+  fields = with_fields (field (codes "h.d") 8 ∷ []);
+  headers = header (4 ∷ []) 1 ∷ [];
+  actions = action (codes "go") (9 ∷ []) (record { dest = 1; expr = One (leaf.Param 0) } ∷ []) ∷ [];
+  tables = record { name = codes "t"; kind = Ternary; key = 4 ∷ []; actions = 0 ∷ []; default = 0; args = 0 ∷ []; size = 8; counted = false } ∷ [];
+  nodes = apply_table 0 ∷ [];
+}
+
+-- priority 30 on 0x1_ gives 1, priority 20 on 0x_2 gives 2, and priority 20 on 0x32 gives 3
+abbrev pub priorities : List (List Entry)
+priorities = (entry 0 30 0x10 0xf0 (1 ∷ []) ∷ entry 1 20 0x02 0x0f (2 ∷ []) ∷ entry 2 20 0x32 0xff (3 ∷ []) ∷ []) ∷ []
+
+-- header h { k : 8; } next (k) { 1 : g; 2 & 3 : accept; 255 : reject; else : accept; } and header g { x : 16; }; no table
+abbrev pub two_headers : Program
+two_headers = record {
+  fields = with_fields (field (codes "h.k") 8 ∷ field (codes "g.valid") 1 ∷ field (codes "g.x") 16 ∷ []);
+  headers =
+      record {
+        name = codes "h";
+        valid = 3;
+        fields = 4 ∷ [];
+        bytes = 1;
+        select = 4 ∷ [];
+        cases =
+            record { tests = record { value = 1; mask = 255 } ∷ []; target = target.Node 1 }
+            ∷ record { tests = record { value = 2; mask = 3 } ∷ []; target = target.Accept }
+            ∷ record { tests = record { value = 255; mask = 255 } ∷ []; target = target.Reject } ∷ [];
+        other = target.Accept;
+      }
+      ∷ record { name = codes "g"; valid = 5; fields = 6 ∷ []; bytes = 2; select = []; cases = []; other = target.Accept } ∷ [];
+  actions = [];
+  tables = [];
+  nodes = [];
+}
+
+-- the same headers, and one table whose default does h.valid = 0; g.valid = 1;
+abbrev pub other_headers : Program
+other_headers = record two_headers {
+  actions = action (codes "swap") [] (record { dest = 3; expr = One (leaf.Number 0) } ∷ record { dest = 5; expr = One (leaf.Number 1) } ∷ []) ∷ [];
+  tables = keyless (codes "t") 0 ∷ [];
+  nodes = apply_table 0 ∷ [];
+}
+
+-- header h { f : 8; }, if (h.f & 0xf0 == 0x10) { apply a; } else { apply b; }, where a sends to 1 and b to 2
+abbrev pub gate : Program
+gate = record {
+  fields = with_fields (field (codes "h.f") 8 ∷ []);
+  headers = header (4 ∷ []) 1 ∷ [];
+  actions =
+      action (codes "one") [] (record { dest = 1; expr = One (leaf.Number 1) } ∷ [])
+      ∷ action (codes "two") [] (record { dest = 1; expr = One (leaf.Number 2) } ∷ []) ∷ [];
+  tables = keyless (codes "a") 0 ∷ keyless (codes "b") 1 ∷ [];
+  nodes = record { guard = None; what = Gate 4 (record { value = 0x10; mask = 0xf0 }) } ∷ apply_in_arm 0 4 0 ∷ apply_in_arm 0 2 1 ∷ [];
+}
+
+-- header h { f : 8; }, table t is exact on it, counted, with the actions stop, which drops, and on; its default is on;
+-- apply t { stop { apply a; } hit { apply b; } miss { apply c; } }, where a, b and c send to 1, 2 and 3
+abbrev pub arms : Program
+arms = record {
+  fields = with_fields (field (codes "h.f") 8 ∷ []);
+  headers = header (4 ∷ []) 1 ∷ [];
+  actions =
+      action (codes "stop") [] (record { dest = 2; expr = One (leaf.Number 1) } ∷ [])
+      ∷ action (codes "on") [] []
+      ∷ action (codes "one") [] (record { dest = 1; expr = One (leaf.Number 1) } ∷ [])
+      ∷ action (codes "two") [] (record { dest = 1; expr = One (leaf.Number 2) } ∷ [])
+      ∷ action (codes "three") [] (record { dest = 1; expr = One (leaf.Number 3) } ∷ []) ∷ [];
+  tables =
+      record { name = codes "t"; kind = Exact; key = 4 ∷ []; actions = 0 ∷ 1 ∷ []; default = 1; args = []; size = 4; counted = true }
+      ∷ keyless (codes "a") 2 ∷ keyless (codes "b") 3 ∷ keyless (codes "c") 4 ∷ [];
+  nodes = apply_table 0 ∷ apply_in_arm 0 4 1 ∷ apply_in_arm 0 65528 2 ∷ apply_in_arm 0 2 3 ∷ [];
+}
+
+-- its entries `t 7 stop` and `t 8 on`
+abbrev pub stop_and_on : List (List Entry)
+stop_and_on =
+    (entry 0 0 7 255 [] ∷ record { table = 0; number = 1; tests = record { value = 8; mask = 255 } ∷ []; rank = 0; action = 1; args = [] } ∷ [])
+    ∷ [] ∷ [] ∷ [] ∷ []

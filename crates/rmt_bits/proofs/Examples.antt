@@ -1,0 +1,24 @@
+-- Known values.
+use Rattle.std.specs.Prelude.{◌≡◌, [], ◌∷◌, refl}
+use Rattle.rmt_bits.specs.Bits.{slice, deposit, bits_of_bytes, bytes_of}
+use Rattle.rmt_bits.specs.Hash.{fnv}
+use Rattle.rmt_bits.specs.Words.{word_size}
+
+-- of the byte 61
+pub fnv_known : fnv (0x61 ∷ []) ≡ 0xaf63dc4c8601ec8c
+fnv_known = refl
+
+pub slice_known : slice 0xabcd 4 8 ≡ 0xbc
+slice_known = refl
+
+pub deposit_known : deposit 0xabcd 4 8 0x12 ≡ 0xa12d
+deposit_known = refl
+
+pub bits_of_bytes_known : bits_of_bytes (0xab ∷ 0xcd ∷ 0xef ∷ []) 4 12 ≡ 0xbcd
+bits_of_bytes_known = refl
+
+pub bytes_of_known : bytes_of 3 0x0102 ≡ 0 ∷ 1 ∷ 2 ∷ []
+bytes_of_known = refl
+
+pub last_words : word_size 63 ∷ word_size 64 ∷ word_size 159 ∷ word_size 160 ∷ [] ≡ 8 ∷ 16 ∷ 16 ∷ 32 ∷ []
+last_words = refl

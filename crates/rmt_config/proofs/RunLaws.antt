@@ -1,0 +1,102 @@
+-- What the runs of the chip come to: the answers leave in the order of the packets, and without counted slots nothing is counted.
+use Rattle.std.proofs.Common.{◌≡◌, ℕ, zero, suc, ◌+◌, ◌-◌, ◌<◌, Bool, true, false, cond, not, ◌&&◌, List, [], ◌∷◌, ◌++◌, length, Option, Some, None, refl, ap, ◌∙◌, subst, arith}
+use Rattle.std.specs.Prelude.{nat_lt, if◌then◌else◌, map, replicate, slice_get, option_map, option_and_then, filter_map}
+use Rattle.std.specs.List.{range_with_len, flat_map, list_all}
+use Rattle.std.proofs.lemmas.List.{length-append, length-map, length-replicate}
+use Rattle.std.proofs.lemmas.Bool.{lt-ltb, le-ltb, false≢true}
+use Rattle.rmt_bits.specs.Packet.{Packet}
+use Rattle.rmt_config.specs.declared.config.Config.{Config}
+use Rattle.rmt_config.specs.declared.config.Stage.{Stage}
+use Rattle.rmt_config.specs.declared.config.Unit.{Unit}
+use Rattle.rmt_config.specs.declared.config.Unit.TheVariants.{Gate, Slot}
+use Rattle.rmt_config.specs.ChipRun.{outcomes_of, outcome_of, own_look, latency_of, counted_numbers, unit_numbers, chip_counts_of}
+
+-- places that give nothing are passed over
+none_before : {Y : Type 0} (h : ℕ → Option Y) (a m n : ℕ) → ((k : ℕ) → k < m → h (a + k) ≡ None) → filter_map h (range_with_len a (m + n)) ≡ filter_map h (range_with_len (a + m) n)
+none_before h a zero n e =
+    let same : a + 0 ≡ a = omega arith in
+    let whole : 0 + n ≡ n = omega arith in
+    rw (same, whole) refl
+none_before h a (suc m) n e =
+    let split : suc m + n ≡ suc (m + n) = omega arith in
+    let moved : a + suc m ≡ a + 1 + m = omega arith in
+    let here : h a ≡ None = subst (λ p. h p ≡ None) (omega arith) (e 0 (omega arith)) in
+    let later : (k : ℕ) → k < m → h (a + 1 + k) ≡ None = λ k b. subst (λ p. h p ≡ None) (omega arith) (e (suc k) (omega arith)) in
+    rw (split, moved, here) (none_before h (a + 1) m n later)
+
+-- places that give what the items give are mapped
+each_given : {X Y : Type 0} (h : ℕ → Option Y) (f : X → Y) (a : ℕ) (xs : List X) → ((k : ℕ) → k < length xs → h (a + k) ≡ option_map f (slice_get xs k)) → filter_map h (range_with_len a (length xs)) ≡ map f xs
+each_given h f a [] e = refl
+each_given h f a (x ∷ xs) e =
+    let here : h a ≡ Some (f x) = subst (λ p. h p ≡ Some (f x)) (omega arith) (e 0 (omega arith)) in
+    let later : (k : ℕ) → k < length xs → h (a + 1 + k) ≡ option_map f (slice_get xs k) =
+    λ k b. subst (λ p. h p ≡ option_map f (slice_get xs k)) (omega arith) (e (suc k) (omega arith)) in
+    rw here (ap (λ ys. f x ∷ ys) (each_given h f (a + 1) xs later))
+
+-- an item of a list of inputs, by its place
+given_at : {X Y : Type 0} (f : X → Y) (xs : List X) (rest : List (Option X)) (k : ℕ) → k < length xs → option_and_then (option_map f) (slice_get (map Some xs ++ rest) k) ≡ option_map f (slice_get xs k)
+given_at f [] rest k h = absurd (omega (arith, h))
+given_at f (x ∷ xs) rest zero h = refl
+given_at f (x ∷ xs) rest (suc k) h = given_at f xs rest k (omega (arith, h))
+
+-- what leaves at a cycle, where it entered l cycles before
+abbrev leaves_at : {X Y : Type 0} → (X → Y) → ℕ → List (Option X) → ℕ → Option Y
+leaves_at f l inputs cycle = if nat_lt cycle l then None else option_and_then (option_map f) (slice_get inputs (cycle - l))
+
+not_yet : {X Y : Type 0} (f : X → Y) (l : ℕ) (inputs : List (Option X)) (cycle : ℕ) → cycle < l → leaves_at f l inputs cycle ≡ None
+not_yet f l inputs cycle h = rw (lt-ltb cycle l h) refl
+
+leaves_after : {X Y : Type 0} (f : X → Y) (l : ℕ) (inputs : List (Option X)) (k : ℕ) → leaves_at f l inputs (l + k) ≡ option_and_then (option_map f) (slice_get inputs k)
+leaves_after f l inputs k =
+    let back : l + k - l ≡ k = omega arith in
+    rw (le-ltb (l + k) l (omega arith), back) refl
+
+-- items that enter one a cycle leave one a cycle, each of them once
+all_leave : {X Y : Type 0} (f : X → Y) (l : ℕ) (xs : List X) → filter_map (leaves_at f l (map Some xs ++ replicate l None)) (range_with_len 0 (length (map Some xs ++ replicate l None))) ≡ map f xs
+all_leave {X} f l xs =
+    let inputs : List (Option X) = map Some xs ++ replicate l None in
+    let cycles : length inputs ≡ l + length xs = simp (length-append, length-map, length-replicate) (omega arith) in
+    let first : 0 + l ≡ l = omega arith in
+    rw cycles
+    (none_before (leaves_at f l inputs) 0 l (length xs) (λ k h. not_yet f l inputs (0 + k) (omega (arith, h)))
+    ∙ ap (λ a. filter_map (leaves_at f l inputs) (range_with_len a (length xs))) first
+    ∙ each_given (leaves_at f l inputs) f l xs (λ k h. leaves_after f l inputs k ∙ given_at f xs (replicate l None) k h))
+
+-- every packet is answered by itself, and the answers leave in the order of the packets
+pub outcomes_of-map : (c : Config) (packets : List Packet) → outcomes_of c packets ≡ map (outcome_of (own_look c) c) packets
+outcomes_of-map c [] = refl
+outcomes_of-map c (packet ∷ packets) = all_leave (outcome_of (own_look c) c) (latency_of c.stages) (packet ∷ packets)
+
+-- a run of a configuration without counted entries counts nothing
+pub chip_counts_of-none : (c : Config) (inputs : List (Option Packet)) → counted_numbers c ≡ [] → chip_counts_of c inputs ≡ []
+chip_counts_of-none c inputs h = rw h refl
+
+-- a unit that counts no hit
+pub is_uncounted : Unit → Bool
+is_uncounted (Gate g) = true
+is_uncounted (Slot slot) = not slot.counted
+
+none_if_not : {A : Type 0} (b : Bool) (xs : List A) → not b ≡ true → cond b xs [] ≡ []
+none_if_not true xs h = absurd (false≢true h)
+none_if_not false xs h = refl
+
+unit_numbers-none : (u : Unit) → is_uncounted u ≡ true → unit_numbers u ≡ []
+unfolding is_uncounted
+unit_numbers-none (Gate g) h = refl
+unit_numbers-none (Slot slot) h = none_if_not slot.counted _ h
+
+both_true : (a b : Bool) → (a && b) ≡ true → (a ≡ true) × (b ≡ true)
+both_true true b h = (refl, h)
+both_true false b h = absurd (false≢true h)
+
+-- lists that are all empty, one behind the other
+all_empty : {X A : Type 0} (f : X → List A) (p : X → Bool) → ((x : X) → p x ≡ true → f x ≡ []) → (xs : List X) → list_all p xs ≡ true → flat_map f xs ≡ []
+all_empty f p e [] h = refl
+all_empty f p e (x ∷ xs) h =
+    let parts : (p x ≡ true) × (list_all p xs ≡ true) = both_true (p x) (list_all p xs) h in
+    rw (e x parts.0, all_empty f p e xs parts.1) refl
+
+-- a configuration without a counted slot counts nothing
+pub chip_counts_of-uncounted : (c : Config) (inputs : List (Option Packet)) → list_all (λ (stage : Stage). list_all is_uncounted stage.units) c.stages ≡ true → chip_counts_of c inputs ≡ []
+chip_counts_of-uncounted c inputs h =
+    chip_counts_of-none c inputs (all_empty (λ (stage : Stage). flat_map unit_numbers stage.units) (λ (stage : Stage). list_all is_uncounted stage.units) (λ stage e. all_empty unit_numbers is_uncounted unit_numbers-none stage.units e) c.stages h)
