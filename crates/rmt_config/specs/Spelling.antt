@@ -1,5 +1,5 @@
 -- The spelling of an image: the bytes of a configuration. Numbers stand highest byte first, and a list behind its count.
-use Rattle.std.specs.Prelude.{ℕ, ◌+◌, ◌<◌, ◌^◌, List, [], ◌∷◌, ◌++◌, length, All, Bool, true, false, Option, Some, None, codes}
+use Rattle.std.specs.Prelude.{ℕ, ◌<◌, ◌^◌, List, [], ◌∷◌, ◌++◌, length, All, Bool, true, false, Option, Some, None, codes}
 use Rattle.std.specs.Int.{w16, w32, to_be_bytes, bytes_high_first}
 use Rattle.std.specs.List.{flat_map}
 use Rattle.rmt_bits.specs.declared.lane.Lane.{Lane}
@@ -70,10 +70,12 @@ abbrev pub spelled_extract : Extract → List ℕ
 spelled_extract (Bits from lane) = 0 ∷ two_bytes from ++ spelled_lane lane
 spelled_extract (One lane) = 1 ∷ spelled_lane lane
 
+-- when an entry is taken, and how far it goes
+abbrev pub spelled_entry_head : ParserEntry → List ℕ
+spelled_entry_head e = e.state ∷ four_bytes e.value ++ four_bytes e.mask ++ e.need ∷ e.advance ∷ []
+
 abbrev pub spelled_entry : ParserEntry → List ℕ
-spelled_entry e =
-    e.state ∷ four_bytes e.value ++ four_bytes e.mask ++ e.need ∷ e.advance ∷ spelled_next e.next
-    ++ spelled_list8 spelled_extract e.extracts
+spelled_entry e = spelled_entry_head e ++ spelled_next e.next ++ spelled_list8 spelled_extract e.extracts
 
 abbrev pub spelled_guard : Option UnitGuard → List ℕ
 spelled_guard None = 0 ∷ []
@@ -95,10 +97,14 @@ spelled_memory (Ternary quanta keys records counters) = 2 ∷ quanta ∷ keys ++
 abbrev pub spelled_number : CellNumber → List ℕ
 spelled_number n = four_bytes n.cell ++ four_bytes n.number
 
+-- the numbers of a slot before its lists
+abbrev pub spelled_slot_head : SlotUnit → List ℕ
+spelled_slot_head s =
+    s.node ∷ spelled_guard s.guard ++ spelled_flag s.counted ∷ s.actions ∷ spelled_flag s.last ∷ two_bytes s.held
+
 abbrev pub spelled_slot : SlotUnit → List ℕ
 spelled_slot s =
-    s.node ∷ spelled_guard s.guard
-    ++ spelled_flag s.counted ∷ s.actions ∷ spelled_flag s.last ∷ two_bytes s.held
+    spelled_slot_head s
     ++ spelled_list16 spelled_lane s.keys
     ++ spelled_memory s.memory
     ++ spelled_list32 spelled_number s.numbers
@@ -146,9 +152,13 @@ spelled_stage s =
 abbrev pub spelled_parser : ParserConfig → List ℕ
 spelled_parser p = spelled_list16 spelled_state p.states ++ spelled_list16 spelled_entry p.entries
 
+-- the seed, and the lanes of the port of entry, the port of exit and the drop bit
+abbrev pub spelled_ports : Config → List ℕ
+spelled_ports c = c.seed ∷ spelled_lane c.in_port ++ spelled_lane c.out_port ++ spelled_lane c.drop
+
 abbrev pub spelled_config : Config → List ℕ
 spelled_config c =
-    c.seed ∷ spelled_lane c.in_port ++ spelled_lane c.out_port ++ spelled_lane c.drop
+    spelled_ports c
     ++ spelled_list8 spelled_header c.headers
     ++ spelled_parser c.parser
     ++ spelled_list8 spelled_stage c.stages

@@ -1,6 +1,6 @@
-ghost use Rattle.std.specs.Prelude.{◌≡◌, ◌++◌, All, OnOk, IfOk, IsOkUnless};
+ghost use Rattle.std.specs.Prelude.{◌≡◌, ◌++◌, ◌<◌, ◌^◌, length, All, OnOk, IfOk, IsOkUnless};
 ghost use Rattle.std.specs.List.{flat_map};
-ghost use Rattle.rmt_config.specs.Spelling.{spelled, spelled_config, spelled_header, spelled_stage, CountsFit, CountsFitHeader, CountsFitStage};
+ghost use Rattle.rmt_config.specs.Spelling.{spelled, spelled_config, spelled_list8, spelled_ports, spelled_header, spelled_stage, CountsFit, CountsFitHeader, CountsFitStage};
 
 mod lane;
 mod parser;
@@ -45,19 +45,41 @@ fn put_stages(out: &mut Vec<u8>, stages: &[Stage]) -> Result<(), AllocError>
     Ok(())
 }
 
-fn put_config(out: &mut Vec<u8>, config: &Config) -> Result<(), AllocError>
-    requires { CountsFit config.now }
-    ensures { OnOk result (out.new.items ≡ out.old.items ++ spelled_config config.now) }
+fn put_header_list(out: &mut Vec<u8>, headers: &[OutHeader]) -> Result<(), AllocError>
+    requires count { length headers.now < 2 ^ 8 }
+    requires each { All CountsFitHeader headers.now }
+    ensures { OnOk result (out.new.items ≡ out.old.items ++ spelled_list8 spelled_header headers.now) }
+{
+    out.push(headers.len() as u8)?;
+    put_headers(out, headers)
+}
+
+fn put_stage_list(out: &mut Vec<u8>, stages: &[Stage]) -> Result<(), AllocError>
+    requires count { length stages.now < 2 ^ 8 }
+    requires each { All CountsFitStage stages.now }
+    ensures { OnOk result (out.new.items ≡ out.old.items ++ spelled_list8 spelled_stage stages.now) }
+{
+    out.push(stages.len() as u8)?;
+    put_stages(out, stages)
+}
+
+fn put_ports(out: &mut Vec<u8>, config: &Config) -> Result<(), AllocError>
+    ensures { OnOk result (out.new.items ≡ out.old.items ++ spelled_ports config.now) }
 {
     out.push(config.seed)?;
     put_lane(out, &config.in_port)?;
     put_lane(out, &config.out_port)?;
-    put_lane(out, &config.drop)?;
-    out.push(config.headers.len() as u8)?;
-    put_headers(out, config.headers.as_slice())?;
+    put_lane(out, &config.drop)
+}
+
+fn put_config(out: &mut Vec<u8>, config: &Config) -> Result<(), AllocError>
+    requires { CountsFit config.now }
+    ensures { OnOk result (out.new.items ≡ out.old.items ++ spelled_config config.now) }
+{
+    put_ports(out, config)?;
+    put_header_list(out, config.headers.as_slice())?;
     put_parser(out, &config.parser)?;
-    out.push(config.stages.len() as u8)?;
-    put_stages(out, config.stages.as_slice())
+    put_stage_list(out, config.stages.as_slice())
 }
 
 fn put_image(out: &mut Vec<u8>, config: &Config) -> Result<(), AllocError>

@@ -1,6 +1,6 @@
 ghost use Rattle.std.specs.Prelude.{◌≡◌, ◌++◌, All, OnOk};
 ghost use Rattle.std.specs.List.{flat_map};
-ghost use Rattle.rmt_config.specs.Spelling.{spelled_state, spelled_next, spelled_extract, spelled_entry, spelled_parser, CountsFitState, CountsFitEntry, CountsFitParser};
+ghost use Rattle.rmt_config.specs.Spelling.{spelled_state, spelled_next, spelled_extract, spelled_entry_head, spelled_entry, spelled_parser, CountsFitState, CountsFitEntry, CountsFitParser};
 
 use crate::writing::lane::{put_four, put_lane, put_two};
 use rmt_config::config::{Extract, Next, ParserConfig, ParserEntry, ParserState};
@@ -59,15 +59,20 @@ fn put_extracts(out: &mut Vec<u8>, extracts: &[Extract]) -> Result<(), AllocErro
     Ok(())
 }
 
-fn put_entry(out: &mut Vec<u8>, entry: &ParserEntry) -> Result<(), AllocError>
-    requires { CountsFitEntry entry.now }
-    ensures { OnOk result (out.new.items ≡ out.old.items ++ spelled_entry entry.now) }
+fn put_entry_head(out: &mut Vec<u8>, entry: &ParserEntry) -> Result<(), AllocError>
+    ensures { OnOk result (out.new.items ≡ out.old.items ++ spelled_entry_head entry.now) }
 {
     out.push(entry.state)?;
     put_four(out, entry.value)?;
     put_four(out, entry.mask)?;
-    out.push(entry.need)?;
-    out.push(entry.advance)?;
+    out.extend_from_slice(&[entry.need, entry.advance])
+}
+
+fn put_entry(out: &mut Vec<u8>, entry: &ParserEntry) -> Result<(), AllocError>
+    requires { CountsFitEntry entry.now }
+    ensures { OnOk result (out.new.items ≡ out.old.items ++ spelled_entry entry.now) }
+{
+    put_entry_head(out, entry)?;
     put_next(out, entry.next)?;
     out.push(entry.extracts.len() as u8)?;
     put_extracts(out, entry.extracts.as_slice())

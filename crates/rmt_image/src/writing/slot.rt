@@ -1,6 +1,6 @@
 ghost use Rattle.std.specs.Prelude.{◌≡◌, ◌++◌, ◌∷◌, [], ◌<◌, ◌^◌, length, All, OnOk};
 ghost use Rattle.std.specs.List.{flat_map};
-ghost use Rattle.rmt_config.specs.Spelling.{spelled_flag, spelled_guard, spelled_test, spelled_gate, spelled_memory, spelled_number, spelled_slot, spelled_unit, CountsFitSlot, CountsFitUnit};
+ghost use Rattle.rmt_config.specs.Spelling.{spelled_flag, spelled_guard, spelled_test, spelled_gate, spelled_memory, spelled_number, spelled_slot_head, spelled_slot, spelled_unit, CountsFitSlot, CountsFitUnit};
 
 use crate::writing::lane::{put_four, put_lane, put_lanes, put_two};
 use rmt_config::config::{CellNumber, GateTest, GateUnit, Memory, SlotUnit, Unit, UnitGuard};
@@ -56,7 +56,15 @@ fn put_memory(out: &mut Vec<u8>, memory: &Memory) -> Result<(), AllocError>
 {
     match memory {
         Memory::Without => out.extend_from_slice(&[0]),
-        Memory::Exact { width, per, quanta, first_way, keys, records, counters } => {
+        Memory::Exact {
+            width,
+            per,
+            quanta,
+            first_way,
+            keys,
+            records,
+            counters,
+        } => {
             out.extend_from_slice(&[1, *width])?;
             put_two(out, *per)?;
             out.extend_from_slice(&[*quanta, *first_way])?;
@@ -64,7 +72,12 @@ fn put_memory(out: &mut Vec<u8>, memory: &Memory) -> Result<(), AllocError>
             out.extend_from_slice(records.as_slice())?;
             out.extend_from_slice(counters.as_slice())
         }
-        Memory::Ternary { quanta, keys, records, counters } => {
+        Memory::Ternary {
+            quanta,
+            keys,
+            records,
+            counters,
+        } => {
             out.extend_from_slice(&[2, *quanta])?;
             out.extend_from_slice(keys.as_slice())?;
             out.extend_from_slice(records.as_slice())?;
@@ -89,16 +102,22 @@ fn put_numbers(out: &mut Vec<u8>, numbers: &[CellNumber]) -> Result<(), AllocErr
     Ok(())
 }
 
-fn put_slot(out: &mut Vec<u8>, slot: &SlotUnit) -> Result<(), AllocError>
-    requires { CountsFitSlot slot.now }
-    ensures { OnOk result (out.new.items ≡ out.old.items ++ spelled_slot slot.now) }
+fn put_slot_head(out: &mut Vec<u8>, slot: &SlotUnit) -> Result<(), AllocError>
+    ensures { OnOk result (out.new.items ≡ out.old.items ++ spelled_slot_head slot.now) }
 {
     out.push(slot.node)?;
     put_guard(out, &slot.guard)?;
     put_flag(out, slot.counted)?;
     out.push(slot.actions)?;
     put_flag(out, slot.last)?;
-    put_two(out, slot.held)?;
+    put_two(out, slot.held)
+}
+
+fn put_slot(out: &mut Vec<u8>, slot: &SlotUnit) -> Result<(), AllocError>
+    requires { CountsFitSlot slot.now }
+    ensures { OnOk result (out.new.items ≡ out.old.items ++ spelled_slot slot.now) }
+{
+    put_slot_head(out, slot)?;
     put_two(out, slot.keys.len() as u16)?;
     put_lanes(out, slot.keys.as_slice())?;
     put_memory(out, &slot.memory)?;
