@@ -1,0 +1,10 @@
+//! Reads the text of a packet program as tokens, each with its line and column.
+#![tactic(auto)]
+
+pub mod fault;
+mod item;
+mod place;
+mod reader;
+pub mod token;
+
+pub use reader::tokens;

@@ -1,0 +1,59 @@
+ghost use Rattle.std.specs.Prelude.{◌≡◌, ◌<◌, length};
+ghost use Rattle.rmt_lexer.specs.Text.{Gives, token_at, tokens_of};
+ghost use Rattle.rmt_lexer.specs.declared.fault.ProgramFault.TheVariants.{At};
+
+use crate::fault::ProgramFault;
+use crate::item::{Item, item_of};
+use crate::place::{Place, moved};
+use crate::token::{Token, TokenKind};
+use std::alloc::Global;
+
+/// The tokens of a program's text, the last of them the end of the text. It takes time and memory in proportion to
+/// the text. Refused for want of memory, and at the earliest of: a byte outside comments that begins no token (code 1),
+/// a number of 2^128 or more, or `0x` without a digit (code 2).
+pub fn tokens(alloc: Global, text: &[u8]) -> Result<Vec<Token>, ProgramFault>
+    requires { length text.now < 4294967295 }
+    ensures { Gives (λ tokens. tokens.items) result (tokens_of text.now) }
+{
+    let mut tokens = Vec::new(alloc);
+    let mut place = Place { line: 1, column: 1 };
+    let mut rest = text;
+    while !rest.is_empty() {
+        match item_of(alloc, rest)? {
+            Item::Gap(len) => {
+                let (taken, behind) = rest.split_at(len);
+                place = moved(place, taken);
+                rest = behind;
+            }
+            Item::Token(what, len) => {
+                tokens.push(token_at(place, what))?;
+                let (taken, behind) = rest.split_at(len);
+                place = moved(place, taken);
+                rest = behind;
+            }
+            Item::Fault(code) => return Err(fault_at(place, code)),
+        }
+    }
+    tokens.push(token_at(place, TokenKind::End))?;
+    Ok(tokens)
+}
+
+fn token_at(place: Place, what: TokenKind) -> Token
+    ensures { result ≡ token_at place what }
+{
+    Token {
+        line: place.line,
+        column: place.column,
+        what,
+    }
+}
+
+fn fault_at(place: Place, code: u8) -> ProgramFault
+    ensures { result ≡ At code place.line place.column }
+{
+    ProgramFault::At {
+        code,
+        line: place.line,
+        column: place.column,
+    }
+}
