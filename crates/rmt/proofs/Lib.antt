@@ -3,3 +3,4 @@ pub mod PlainSide
 pub mod ChipSide
 pub mod Law
 pub mod SmallTokens
+pub mod SmallImage

@@ -41,7 +41,7 @@ IsNotSmall text = (s : SmallProgram) → Means text s → ⊥
 
 -- `stages S latency L`
 abbrev pub compile_lines : ℕ → List ℕ
-compile_lines stages = codes "stages " ++ decimal stages ++ codes " latency " ++ decimal (12 * stages) ++ codes "\n"
+compile_lines stages = codes "stages " ++ (decimal stages ++ (codes " latency " ++ (decimal (12 * stages) ++ codes "\n")))
 
 abbrev pub bad_program_line : List ℕ
 bad_program_line = codes "bad program 0 line 1 column 1\n"

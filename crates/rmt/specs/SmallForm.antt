@@ -173,3 +173,9 @@ effect_of s name =
 -- what the applied tables do, one after another
 abbrev pub steps_of : SmallProgram → List Effect
 steps_of s = map (effect_of s) s.applied
+
+-- the text is of the small form, and its applied tables do these steps
+pub record Steps (text : List ℕ) (steps : List Effect) : Type 0 where
+  pub parts : SmallProgram
+  pub means : Means text parts
+  pub steps_are : steps ≡ steps_of parts

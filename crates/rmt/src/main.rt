@@ -2,6 +2,7 @@
 #![tactic(auto)]
 
 mod commands;
+mod compiling;
 mod configure;
 mod loading;
 mod printing;
