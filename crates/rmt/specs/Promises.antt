@@ -107,6 +107,14 @@ Causes files program entries BadPackets = ⊥
 Causes files program entries TooLong = HasTooLong files program entries
 Causes files program entries NoMemory = Unit {0}
 
+-- With files that are there and within their limits, and without a fault of the outside: done, out of memory, or a refusal of the texts.
+abbrev pub IsOfTexts : Files → List ℕ → List ℕ → Status → Type 0
+IsOfTexts files program entries status =
+    ((status ≡ Done) × IsGood files program entries)
+    ⊎ ((status ≡ BadProgram) × HasBadProgram files program entries)
+    ⊎ ((status ≡ BadEntries) × HasBadEntries files program entries)
+    ⊎ (status ≡ NoMemory)
+
 -- nothing is printed with these answers
 abbrev pub IsQuiet : Status → Type 0
 IsQuiet status = (status ≡ Usage) ⊎ (status ≡ ReadFault) ⊎ (status ≡ TooLong) ⊎ (status ≡ NoMemory)

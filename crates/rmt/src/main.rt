@@ -8,5 +8,6 @@ mod loading;
 mod printing;
 pub mod small;
 pub mod status;
+pub mod top;
 
 fn main() {}

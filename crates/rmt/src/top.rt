@@ -1,0 +1,71 @@
+//! The top call.
+
+ghost use Rattle.std.specs.Prelude.{◌≡◌, ◌≢◌, ◌<◌, ◌⊎◌, ◌++◌, ℕ, List, Some, None, length, codes, IsTrue, string_bytes};
+ghost use Rattle.rmt_io.specs.Faults.{Rose};
+ghost use Rattle.rmt.specs.Printing.{GainsFront};
+ghost use Rattle.rmt.specs.Promises.{Compiled, Causes, HasAbsent, IsQuiet, Makes, Prints, bad_program_line, bad_entries_line};
+
+use crate::compiling::{Made, Refusal, make};
+use crate::loading::read_texts;
+use crate::printing::print;
+use crate::status::Status;
+use rmt_io::shelf::{Shelf, ShelfFault};
+use rmt_io::sink::Sink;
+use std::alloc::Global;
+
+/// The last line of a text that is not of the small form.
+const BAD_PROGRAM: &[u8; 30] = b"bad program 0 line 1 column 1\n";
+/// The last line of an entry text that is not empty.
+const BAD_ENTRIES: &[u8; 21] = b"bad entries 0 line 1\n";
+
+/// The status where reading files was refused.
+fn status_of(fault: ShelfFault) -> Status
+    ensures failed { fault ≡ ShelfFault.Failed → result ≡ Status.ReadFault }
+    ensures too_long { fault ≡ ShelfFault.TooLong → result ≡ Status.TooLong }
+    ensures no_memory { fault ≡ ShelfFault.NoMemory → result ≡ Status.NoMemory }
+{
+    match fault {
+        ShelfFault::Failed => Status::ReadFault,
+        ShelfFault::TooLong => Status::TooLong,
+        ShelfFault::NoMemory => Status::NoMemory,
+    }
+}
+
+/// Prints the whole rest of a command's text, and answers the status; where the sink fails, it is `WriteFault`.
+fn end_with<O: Sink>(out: &mut O, text: &[u8], status: Status) -> Status
+    ensures status { (result ≡ status) ⊎ (result ≡ Status.WriteFault) }
+    ensures printed { result ≡ status → status ≢ Status.WriteFault → IsTrue (O.told out.old) → O.bytes out.new ≡ O.bytes out.old ++ text.now }
+    ensures front { IsTrue (O.told out.old) → GainsFront (O.bytes out.old) (O.bytes out.new) text.now }
+    ensures failed { result ≡ Status.WriteFault → status ≢ Status.WriteFault → Rose (O.faults out.old) (O.faults out.new) }
+{
+    match print(out, text) {
+        Ok(()) => status,
+        Err(_) => Status::WriteFault,
+    }
+}
+
+/// Writes the image and prints the lines.
+fn deliver<F: Shelf, O: Sink>(
+    alloc: Global,
+    made: &Made,
+    image: &String,
+    shelf: &mut F,
+    out: &mut O,
+) -> Status
+    ensures status { (result ≡ Status.Done) ⊎ (result ≡ Status.WriteFault) ⊎ (result ≡ Status.NoMemory) }
+    ensures written { result ≡ Status.Done → IsTrue (F.told shelf.old) → F.file shelf.new (string_bytes image.now) ≡ Some made.now.image.items }
+    ensures printed { result ≡ Status.Done → IsTrue (O.told out.old) → O.bytes out.new ≡ O.bytes out.old ++ string_bytes made.now.lines }
+    ensures others { IsTrue (F.told shelf.old) → (name : List ℕ) → name ≢ string_bytes image.now → F.file shelf.new name ≡ F.file shelf.old name }
+    ensures no_memory { result ≡ Status.NoMemory → IsTrue (F.told shelf.old) → (name : List ℕ) → F.file shelf.new name ≡ F.file shelf.old name }
+    ensures quiet { result ≡ Status.NoMemory → IsTrue (O.told out.old) → O.bytes out.new ≡ O.bytes out.old }
+    ensures failed { result ≡ Status.WriteFault → Rose (F.writing_faults shelf.old) (F.writing_faults shelf.new) ⊎ (Rose (O.faults out.old) (O.faults out.new) × (IsTrue (F.told shelf.old) → F.file shelf.new (string_bytes image.now) ≡ Some made.now.image.items)) }
+    ensures steady { result ≡ Status.WriteFault → IsTrue (F.steady shelf.old) → Rose (O.faults out.old) (O.faults out.new) }
+    ensures front { IsTrue (O.told out.old) → GainsFront (O.bytes out.old) (O.bytes out.new) (string_bytes made.now.lines) }
+    ensures reading { F.reading_faults shelf.new ≡ F.reading_faults shelf.old }
+{
+    match shelf.write(alloc, image, &made.image) {
+        Ok(()) => end_with(out, made.lines.as_bytes(), Status::Done),
+        Err(ShelfFault::NoMemory) => Status::NoMemory,
+        Err(_) => Status::WriteFault,
+    }
+}
