@@ -4,3 +4,4 @@ pub mod ChipSide
 pub mod Law
 pub mod SmallTokens
 pub mod SmallImage
+pub mod TopLemmas

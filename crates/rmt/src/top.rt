@@ -69,3 +69,43 @@ fn deliver<F: Shelf, O: Sink>(
         Err(_) => Status::WriteFault,
     }
 }
+
+/// Compiles a program and its entries to an image.
+fn compile<F: Shelf, O: Sink>(
+    alloc: Global,
+    program: &String,
+    entries: &String,
+    image: &String,
+    shelf: &mut F,
+    out: &mut O,
+) -> Status
+    ensures causes { IsTrue (F.told shelf.old) → Causes (F.file shelf.old) (string_bytes program.now) (string_bytes entries.now) result }
+    ensures compiled { result ≡ Status.Done → IsTrue (F.told shelf.old) → (lines : List ℕ)
+        × Compiled (F.file shelf.old) (F.file shelf.new) (string_bytes program.now) (string_bytes entries.now) (string_bytes image.now) lines
+        × (IsTrue (O.told out.old) → O.bytes out.new ≡ O.bytes out.old ++ lines) }
+    ensures read_fault { result ≡ Status.ReadFault → Rose (F.reading_faults shelf.old) (F.reading_faults shelf.new) }
+    ensures absent { result ≡ Status.ReadFault → IsTrue (F.steady shelf.old) → HasAbsent (F.file shelf.old) (string_bytes program.now) (string_bytes entries.now) }
+    ensures write_fault { result ≡ Status.WriteFault → Rose (F.writing_faults shelf.old) (F.writing_faults shelf.new) ⊎ Rose (O.faults out.old) (O.faults out.new) }
+    ensures steady_write { result ≡ Status.WriteFault → IsTrue (F.steady shelf.old) → Rose (O.faults out.old) (O.faults out.new) }
+    ensures others { IsTrue (F.told shelf.old) → (name : List ℕ) → name ≢ string_bytes image.now → F.file shelf.new name ≡ F.file shelf.old name }
+    ensures untouched { IsTrue (F.told shelf.old) → result ≢ Status.Done → result ≢ Status.WriteFault → (name : List ℕ) → F.file shelf.new name ≡ F.file shelf.old name }
+    ensures quiet { IsQuiet result → IsTrue (O.told out.old) → O.bytes out.new ≡ O.bytes out.old }
+    ensures whole { result ≡ Status.WriteFault → IsTrue (F.told shelf.old) → (Rose (F.writing_faults shelf.old) (F.writing_faults shelf.new) → ⊥) →
+        ((name : List ℕ) → F.file shelf.new name ≡ F.file shelf.old name)
+        ⊎ ((lines : List ℕ) × Compiled (F.file shelf.old) (F.file shelf.new) (string_bytes program.now) (string_bytes entries.now) (string_bytes image.now) lines) }
+    ensures front { result ≡ Status.WriteFault → IsTrue (F.told shelf.old) → IsTrue (O.told out.old) →
+        (text : List ℕ) × Prints (F.file shelf.old) (string_bytes program.now) (string_bytes entries.now) text × GainsFront (O.bytes out.old) (O.bytes out.new) text }
+    ensures bad_program_line { result ≡ Status.BadProgram → IsTrue (O.told out.old) → O.bytes out.new ≡ O.bytes out.old ++ bad_program_line }
+    ensures bad_entries_line { result ≡ Status.BadEntries → IsTrue (O.told out.old) → O.bytes out.new ≡ O.bytes out.old ++ bad_entries_line }
+{
+    let texts = match read_texts(alloc, program, entries, shelf) {
+        Ok(texts) => texts,
+        Err(fault) => return status_of(fault),
+    };
+    match make(alloc, &texts.program, &texts.entries) {
+        Ok(made) => deliver(alloc, &made, image, shelf, out),
+        Err(Refusal::NoMemory) => Status::NoMemory,
+        Err(Refusal::BadProgram) => end_with(out, BAD_PROGRAM, Status::BadProgram),
+        Err(Refusal::BadEntries) => end_with(out, BAD_ENTRIES, Status::BadEntries),
+    }
+}
