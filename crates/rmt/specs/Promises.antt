@@ -107,13 +107,13 @@ Causes files program entries BadPackets = ⊥
 Causes files program entries TooLong = HasTooLong files program entries
 Causes files program entries NoMemory = Unit {0}
 
--- With files that are there and within their limits, and without a fault of the outside: done, out of memory, or a refusal of the texts.
-abbrev pub IsOfTexts : Files → List ℕ → List ℕ → Status → Type 0
-IsOfTexts files program entries status =
-    ((status ≡ Done) × IsGood files program entries)
-    ⊎ ((status ≡ BadProgram) × HasBadProgram files program entries)
-    ⊎ ((status ≡ BadEntries) × HasBadEntries files program entries)
-    ⊎ (status ≡ NoMemory)
+-- the answers that the files alone decide
+abbrev pub IsOfFiles : Status → Type 0
+IsOfFiles status = (status ≡ Done) ⊎ (status ≡ BadProgram) ⊎ (status ≡ BadEntries) ⊎ (status ≡ TooLong)
+
+-- the answers that come of the outside or of want of memory
+abbrev pub IsOfOutside : Status → Type 0
+IsOfOutside status = (status ≡ NoMemory) ⊎ (status ≡ ReadFault) ⊎ (status ≡ WriteFault)
 
 -- nothing is printed with these answers
 abbrev pub IsQuiet : Status → Type 0

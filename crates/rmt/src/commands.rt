@@ -1,6 +1,6 @@
 //! The words of a command line.
 
-ghost use Rattle.std.specs.Prelude.{◌≡◌, map, option_map, string_bytes};
+ghost use Rattle.std.specs.Prelude.{◌≡◌};
 ghost use Rattle.rmt.specs.Commands.{command_of, words_of};
 ghost use Rattle.rmt.specs.CommandReading.{seen};
 
@@ -13,18 +13,20 @@ pub enum Command<'a> {
         entries: &'a String,
         image: &'a String,
     },
+    /// The words are of no command.
+    Unknown,
 }
 
-/// The command that the words are, if they are one.
-pub fn command_from(words: &Vec<String>) -> Option<Command<'_>>
-    ensures { option_map seen result ≡ command_of (words_of words.now.items) }
+/// The command that the words are.
+pub fn command_from(words: &Vec<String>) -> Command<'_>
+    ensures { seen result ≡ command_of (words_of words.now.items) }
 {
     match words.as_slice() {
-        [word, program, entries, image] if word.as_str() == "compile" => Some(Command::Compile {
+        [word, program, entries, image] if word.as_str() == "compile" => Command::Compile {
             program,
             entries,
             image,
-        }),
-        _ => None,
+        },
+        _ => Command::Unknown,
     }
 }

@@ -1,10 +1,13 @@
 //! The top call.
 
-ghost use Rattle.std.specs.Prelude.{◌≡◌, ◌≢◌, ◌<◌, ◌⊎◌, ◌++◌, ℕ, List, Some, None, length, codes, IsTrue, string_bytes};
+ghost use Rattle.std.specs.Prelude.{◌≡◌, ◌≢◌, ◌<◌, ◌⊎◌, ◌↔◌, ◌++◌, ℕ, List, Some, None, length, codes, IsTrue, string_bytes};
 ghost use Rattle.rmt_io.specs.Faults.{Rose};
 ghost use Rattle.rmt.specs.Printing.{GainsFront};
-ghost use Rattle.rmt.specs.Promises.{Compiled, Causes, HasAbsent, IsQuiet, Makes, Prints, bad_program_line, bad_entries_line};
+ghost use Rattle.rmt.specs.Commands.{command_of, words_of, IfCompile};
+ghost use Rattle.rmt.specs.declared.status.Status as status;
+ghost use Rattle.rmt.specs.Promises.{Compiled, Causes, IsOfFiles, IsOfOutside, HasAbsent, IsQuiet, Makes, Prints, bad_program_line, bad_entries_line};
 
+use crate::commands::{Command, command_from};
 use crate::compiling::{Made, Refusal, make};
 use crate::loading::read_texts;
 use crate::printing::print;
@@ -79,6 +82,7 @@ fn compile<F: Shelf, O: Sink>(
     shelf: &mut F,
     out: &mut O,
 ) -> Status
+    ensures possible { IsOfFiles result ⊎ IsOfOutside result }
     ensures causes { IsTrue (F.told shelf.old) → Causes (F.file shelf.old) (string_bytes program.now) (string_bytes entries.now) result }
     ensures compiled { result ≡ Status.Done → IsTrue (F.told shelf.old) → (lines : List ℕ)
         × Compiled (F.file shelf.old) (F.file shelf.new) (string_bytes program.now) (string_bytes entries.now) (string_bytes image.now) lines
@@ -107,5 +111,64 @@ fn compile<F: Shelf, O: Sink>(
         Err(Refusal::NoMemory) => Status::NoMemory,
         Err(Refusal::BadProgram) => end_with(out, BAD_PROGRAM, Status::BadProgram),
         Err(Refusal::BadEntries) => end_with(out, BAD_ENTRIES, Status::BadEntries),
+    }
+}
+
+/// Runs a command. `words` are those behind the program's name.
+pub fn rmt<F: Shelf, O: Sink>(
+    alloc: Global,
+    words: &Vec<String>,
+    shelf: &mut F,
+    out: &mut O,
+) -> Status
+    // Usage comes exactly where the words are no command, and then nothing happens.
+    ensures usage { (result ≡ Status.Usage) ↔ (command_of (words_of words.now.items) ≡ None) }
+    ensures usage_reads_nothing { result ≡ Status.Usage → IsTrue (F.told shelf.old) → (name : List ℕ) → F.file shelf.new name ≡ F.file shelf.old name }
+
+    ensures possible { result ≢ Status.Usage → IsOfFiles result ⊎ IsOfOutside result }
+
+    // With Done the image is that of a configuration whose chip run gives what the program gives, and the lines tell of it.
+    ensures compiled { result ≡ Status.Done → IsTrue (F.told shelf.old) → IfCompile (command_of (words_of words.now.items)) (λ program entries image. (lines : List ℕ)
+        × Compiled (F.file shelf.old) (F.file shelf.new) program entries image lines
+        × (IsTrue (O.told out.old) → O.bytes out.new ≡ O.bytes out.old ++ lines)) }
+
+    // Each answer has its cause in the files, and where the files have a cause, no other answer of the files comes.
+    ensures causes { IsTrue (F.told shelf.old) → IfCompile (command_of (words_of words.now.items)) (λ program entries image.
+        Causes (F.file shelf.old) program entries result) }
+    ensures exact { IsTrue (F.told shelf.old) → IfCompile (command_of (words_of words.now.items)) (λ program entries image.
+        (answer : status.Status) → IsOfFiles answer → Causes (F.file shelf.old) program entries answer → (result ≡ answer) ⊎ IsOfOutside result) }
+    ensures absent_comes { IsTrue (F.told shelf.old) → IfCompile (command_of (words_of words.now.items)) (λ program entries image.
+        HasAbsent (F.file shelf.old) program entries → (result ≡ Status.ReadFault) ⊎ (result ≡ Status.NoMemory)) }
+
+    // Faults of the outside come only where a count rose in this call; a steady shelf has none but an absent file.
+    ensures read_fault { result ≡ Status.ReadFault → Rose (F.reading_faults shelf.old) (F.reading_faults shelf.new) }
+    ensures absent { result ≡ Status.ReadFault → IsTrue (F.steady shelf.old) → IfCompile (command_of (words_of words.now.items)) (λ program entries image.
+        HasAbsent (F.file shelf.old) program entries) }
+    ensures write_fault { result ≡ Status.WriteFault → Rose (F.writing_faults shelf.old) (F.writing_faults shelf.new) ⊎ Rose (O.faults out.old) (O.faults out.new) }
+    ensures steady_write { result ≡ Status.WriteFault → IsTrue (F.steady shelf.old) → Rose (O.faults out.old) (O.faults out.new) }
+
+    // What stands afterwards.
+    ensures others { IsTrue (F.told shelf.old) → IfCompile (command_of (words_of words.now.items)) (λ program entries image.
+        (name : List ℕ) → name ≢ image → F.file shelf.new name ≡ F.file shelf.old name) }
+    ensures untouched { IsTrue (F.told shelf.old) → result ≢ Status.Done → result ≢ Status.WriteFault → (name : List ℕ) → F.file shelf.new name ≡ F.file shelf.old name }
+    ensures whole { result ≡ Status.WriteFault → IsTrue (F.told shelf.old) → (Rose (F.writing_faults shelf.old) (F.writing_faults shelf.new) → ⊥) →
+        IfCompile (command_of (words_of words.now.items)) (λ program entries image.
+        ((name : List ℕ) → F.file shelf.new name ≡ F.file shelf.old name)
+        ⊎ ((lines : List ℕ) × Compiled (F.file shelf.old) (F.file shelf.new) program entries image lines)) }
+
+    // What a sink gained: all of the text with Done and with a refusal of the texts, a front of it where the sink failed, else nothing.
+    ensures quiet { IsQuiet result → IsTrue (O.told out.old) → O.bytes out.new ≡ O.bytes out.old }
+    ensures bad_program_line { result ≡ Status.BadProgram → IsTrue (O.told out.old) → O.bytes out.new ≡ O.bytes out.old ++ bad_program_line }
+    ensures bad_entries_line { result ≡ Status.BadEntries → IsTrue (O.told out.old) → O.bytes out.new ≡ O.bytes out.old ++ bad_entries_line }
+    ensures front { result ≡ Status.WriteFault → IsTrue (F.told shelf.old) → IsTrue (O.told out.old) → IfCompile (command_of (words_of words.now.items)) (λ program entries image.
+        (text : List ℕ) × Prints (F.file shelf.old) program entries text × GainsFront (O.bytes out.old) (O.bytes out.new) text) }
+{
+    match command_from(words) {
+        Command::Compile {
+            program,
+            entries,
+            image,
+        } => compile(alloc, program, entries, image, shelf, out),
+        Command::Unknown => Status::Usage,
     }
 }

@@ -46,35 +46,44 @@ returns-clause-bad_entries_line g c = λ e told. c.end_with-in-Err-BadEntries.en
 pub returns-in-Ok-make-clause-whole : goal.returns-in-Ok-make-clause-whole
 returns-in-Ok-make-clause-whole g c = λ e told safe.
     ⊎_elim
-      (λ rose. absurd (safe (subst (λ n. Rose n (g.F.Shelf.writing_faults c.deliver.new.shelf)) c.read_texts.ensures.writing rose)))
-      (λ stands. inr (string_bytes c.in-Ok-make.made.lines, stands_whole _ _ _ _ _ c.deref.result.now c.deref-2.result.now _ _
-      (record {
-        program_was = rw c.deref.ensures.value (c.in-Ok.ensures.program told);
-        program_fits = rw c.deref.ensures.value c.in-Ok.ensures.program_fits;
-        entries_were = rw c.deref-2.ensures.value (c.in-Ok.ensures.entries told);
-        entries_fit = rw c.deref-2.ensures.value c.in-Ok.ensures.entries_fit;
-      })
-      c.in-Ok-make.ensures.made (stands.1 (subst IsTrue (sym c.read_texts.ensures.tells) told))))
-      (c.deliver.ensures.failed e)
+    (λ rose. absurd (safe (subst (λ n. Rose n (g.F.Shelf.writing_faults c.deliver.new.shelf)) c.read_texts.ensures.writing rose)))
+    (λ stands. inr (
+      string_bytes c.in-Ok-make.made.lines,
+      stands_whole _ _ _ _ _ c.deref.result.now c.deref-2.result.now _ _
+          (record {
+            program_was = rw c.deref.ensures.value (c.in-Ok.ensures.program told);
+            program_fits = rw c.deref.ensures.value c.in-Ok.ensures.program_fits;
+            entries_were = rw c.deref-2.ensures.value (c.in-Ok.ensures.entries told);
+            entries_fit = rw c.deref-2.ensures.value c.in-Ok.ensures.entries_fit;
+          })
+          c.in-Ok-make.ensures.made (stands.1 (subst IsTrue (sym c.read_texts.ensures.tells) told)),
+    ))
+    (c.deliver.ensures.failed e)
 
 pub returns-in-Err-BadProgram-clause-front : goal.returns-in-Err-BadProgram-clause-front
-returns-in-Err-BadProgram-clause-front g c = λ e told tells.
-    (_, prints_bad_program _ _ _ c.deref.result.now c.deref-2.result.now
+returns-in-Err-BadProgram-clause-front g c = λ e told tells. (
+  _,
+  prints_bad_program _ _ _ c.deref.result.now c.deref-2.result.now
       (record {
         program_was = rw c.deref.ensures.value (c.in-Ok.ensures.program told);
         program_fits = rw c.deref.ensures.value c.in-Ok.ensures.program_fits;
         entries_were = rw c.deref-2.ensures.value (c.in-Ok.ensures.entries told);
         entries_fit = rw c.deref-2.ensures.value c.in-Ok.ensures.entries_fit;
       })
-      (c.in-Err-BadProgram.ensures.bad_program (ap Err c.in-Err-BadProgram.field-0-is)), c.end_with.ensures.front tells)
+      (c.in-Err-BadProgram.ensures.bad_program (ap Err c.in-Err-BadProgram.field-0-is)),
+  c.end_with.ensures.front tells,
+)
 
 pub returns-clause-front : goal.returns-clause-front
-returns-clause-front g c = λ e told tells.
-    (_, prints_bad_entries _ _ _ c.deref.result.now c.deref-2.result.now
+returns-clause-front g c = λ e told tells. (
+  _,
+  prints_bad_entries _ _ _ c.deref.result.now c.deref-2.result.now
       (record {
         program_was = rw c.deref.ensures.value (c.in-Ok.ensures.program told);
         program_fits = rw c.deref.ensures.value c.in-Ok.ensures.program_fits;
         entries_were = rw c.deref-2.ensures.value (c.in-Ok.ensures.entries told);
         entries_fit = rw c.deref-2.ensures.value c.in-Ok.ensures.entries_fit;
       })
-      (c.in-Err-BadEntries.ensures.bad_entries (ap Err c.in-Err-BadEntries.field-0-is)), c.end_with-in-Err-BadEntries.ensures.front tells)
+      (c.in-Err-BadEntries.ensures.bad_entries (ap Err c.in-Err-BadEntries.field-0-is)),
+  c.end_with-in-Err-BadEntries.ensures.front tells,
+)

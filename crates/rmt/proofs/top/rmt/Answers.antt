@@ -1,0 +1,24 @@
+-- The clauses of `compile`, at the command that the words are.
+use Rattle.std.proofs.Common.{Some, None, sym, ◌∙◌}
+use Rattle.rmt.proofs.TopLemmas.{exact_answers, absent_answers, never_usage}
+use Rattle.rmt.proofs.top.rmt.Goals as goal
+
+pub returns-in-Compile-clause-usage : goal.returns-in-Compile-clause-usage
+returns-in-Compile-clause-usage g c = rw (sym c.in-Compile.ensures) (λ e. absurd (never_usage c.compile.result c.compile.ensures.possible e), λ e. cc)
+
+pub returns-in-Compile-clause-compiled : goal.returns-in-Compile-clause-compiled
+returns-in-Compile-clause-compiled g c = rw (sym c.in-Compile.ensures) c.compile.ensures.compiled
+
+pub returns-in-Compile-clause-exact : goal.returns-in-Compile-clause-exact
+returns-in-Compile-clause-exact g c =
+    rw (sym c.in-Compile.ensures) (λ told. exact_answers _ _ _ _ (c.compile.ensures.causes told))
+
+pub returns-in-Compile-clause-absent_comes : goal.returns-in-Compile-clause-absent_comes
+returns-in-Compile-clause-absent_comes g c =
+    rw (sym c.in-Compile.ensures) (λ told. absent_answers _ _ _ _ (c.compile.ensures.causes told))
+
+pub returns-in-Compile-clause-whole : goal.returns-in-Compile-clause-whole
+returns-in-Compile-clause-whole g c = rw (sym c.in-Compile.ensures) c.compile.ensures.whole
+
+pub returns-in-Compile-clause-front : goal.returns-in-Compile-clause-front
+returns-in-Compile-clause-front g c = rw (sym c.in-Compile.ensures) c.compile.ensures.front
