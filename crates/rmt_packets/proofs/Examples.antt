@@ -1,9 +1,8 @@
 -- Packet texts and answer lines written out.
-use Rattle.std.specs.Prelude.{◌≡◌, ℕ, List, [], ◌∷◌, Option, Some, None, Result, Ok, Err, codes, refl}
+use Rattle.std.specs.Prelude.{◌≡◌, [], ◌∷◌, Some, None, Ok, Err, codes, refl}
 use Rattle.std.specs.Fmt.{digits}
 use Rattle.hex.specs.Hex.{decode_pairs, encode_with}
-use Rattle.rmt_bits.specs.Packet.{Packet}
-use Rattle.rmt_bits.specs.declared.answer.Verdict.TheVariants.{Dropped, Reject, Sent, Short}
+use Rattle.rmt_bits.specs.declared.answer.Verdict.TheVariants.{Sent, Short}
 use Rattle.rmt_packets.specs.AnswerLine.{answer_line}
 use Rattle.rmt_packets.specs.PacketText.{packet_of, packets_of}
 

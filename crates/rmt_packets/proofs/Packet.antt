@@ -1,9 +1,8 @@
 -- What each step of reading a packet line says of its packet.
-use Rattle.std.proofs.Common.{◌≡◌, ℕ, ◌+◌, ◌/◌, ◌%◌, ◌<◌, ◌≤◌, Bool, true, false, eqb, ltb, List, length, Result, Ok, Err, refl, arith}
+use Rattle.std.proofs.Common.{◌≡◌, ℕ, ◌/◌, ◌%◌, ◌<◌, ◌≤◌, true, false, eqb, ltb, List, length, Result, Err, arith}
 use Rattle.std.proofs.lemmas.Bool.{eq-eqb, lt-ltb, le-ltb, ne_eqb}
 use Rattle.hex.specs.Hex.{decode_of, decode_sized}
 use Rattle.hex.specs.declared.error.FromHexError.{FromHexError}
-use Rattle.rmt_bits.specs.Packet.{Packet}
 use Rattle.rmt_packets.specs.PacketText.{begins_with_port, frame_digits, number_of_digits, packet_of, packet_or_code, port_digits}
 
 abbrev port : List ℕ → ℕ

@@ -2,7 +2,7 @@
 -- `packets_of text` is `behind` of the packets so far and of the numbered lines from here on.
 use Rattle.std.proofs.Common.{◌≡◌, ℕ, List, [], ◌∷◌, ◌++◌, Some, None, Ok, Err, append_assoc, append-nil, refl, sym, ap}
 use Rattle.rmt_bits.specs.Packet.{Packet}
-use Rattle.rmt_packets.specs.PacketText.{BadLine, Reading, before, behind, packet_of, reading_of}
+use Rattle.rmt_packets.specs.PacketText.{Reading, behind, packet_of, reading_of}
 
 -- before the first line
 pub behind_none : (rest : Reading) → behind [] rest ≡ rest

@@ -34,9 +34,9 @@ packet_or_code port (Err e) = Err 1
 abbrev pub packet_of : List ℕ → Result Packet ℕ
 packet_of line =
     if begins_with_port line then
-      (if nat_lt 511 (number_of_digits (port_digits line)) then Err 2
-      else (if length (frame_digits line) == 0 || nat_lt 18432 (length (frame_digits line)) then Err 3
-      else packet_or_code (number_of_digits (port_digits line)) (decode_of (frame_digits line))))
+    (if nat_lt 511 (number_of_digits (port_digits line)) then Err 2
+    else (if length (frame_digits line) == 0 || nat_lt 18432 (length (frame_digits line)) then Err 3
+    else packet_or_code (number_of_digits (port_digits line)) (decode_of (frame_digits line))))
     else Err 1
 
 -- a line with a fault

@@ -7,7 +7,12 @@ use std::alloc::{AllocError, Global};
 
 /// Appends the line of the answer to the packet of a number. `NoMemory` is its only refusal, and `into` is then as
 /// before.
-pub fn write_answer(alloc: Global, number: u64, answer: &Answer, into: &mut Vec<u8>) -> Result<(), PacketFault>
+pub fn write_answer(
+    alloc: Global,
+    number: u64,
+    answer: &Answer,
+    into: &mut Vec<u8>,
+) -> Result<(), PacketFault>
     ensures line { OnOk result (into.new.items ≡ into.old.items ++ answer_line number answer.now) }
     ensures no_memory { OnErr result (IsErrOf result PacketFault.NoMemory) }
     ensures unchanged { OnErr result (into.new.items ≡ into.old.items) }

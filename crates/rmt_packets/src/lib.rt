@@ -4,6 +4,5 @@
 pub mod answer_line;
 pub mod lines;
 pub mod packet_line;
-
 #[cfg(test)]
 mod tests;

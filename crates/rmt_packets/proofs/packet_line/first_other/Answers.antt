@@ -1,4 +1,4 @@
-use Rattle.std.proofs.Common.{◌≡◌, ◌<◌, length, sym, ◌∙◌, arith}
+use Rattle.std.proofs.Common.{length, sym, ◌∙◌, arith}
 use Rattle.std.proofs.lemmas.List.Sums.{prefix_len_is}
 use Rattle.rmt_packets.specs.PacketText.{is_digit}
 use Rattle.rmt_packets.proofs.packet_line.first_other.Goals as goal
