@@ -5,7 +5,7 @@ use Rattle.std.specs.Str.{bytes_eq}
 use Rattle.std.proofs.lemmas.Slice.Eq.{bytes_eq-Decides}
 use Rattle.std.proofs.lemmas.Bool.{false_from_ne_true}
 use Rattle.std.specs.Global.{Global}
-use Rattle.std.specs.Ordering.{nat_cmp, is_eq, eq_by_cmp}
+use Rattle.std.specs.Ordering.{nat_cmp, is_eq}
 use Rattle.std.specs.Cmp.Lexicographic.{slice_cmp, nat_list_cmp_total}
 use Rattle.std.specs.Cmp.{eq_by_cmp_equiv}
 use Rattle.std.specs.Map.{lookup}
@@ -36,11 +36,11 @@ pub put-text : (m n : TextMap) (key : String Global) (v : Vec ℕ Global) → tr
 put-text m n key v u =
     map.same_map nat_list_cmp_total (map.slice_cmp-IsAntisymmetric map.nat_cmp-IsAntisymmetric) _ _
     (λ q.
-      get-text n q ∙ ap (option_map (λ w. w.items)) (btree_map_updates_text (string_bytes key) m n (Some v) u q)
-      ∙ ap (λ b. option_map (λ w. w.items) (cond b (Some v) (tree.get_by_text m q))) (sym (is_eq-slice_cmp (string_bytes key) q) ∙ (eq_by_cmp_equiv nat_list_cmp_total).symm (string_bytes key) q)
-      ∙ sym (kept (is_eq (slice_cmp nat_cmp q (string_bytes key))) v (tree.get_by_text m q))
-      ∙ ap (cond (is_eq (slice_cmp nat_cmp q (string_bytes key))) (Some v.items)) (sym (get-text m q))
-      ∙ sym (map.get-insert nat_list_cmp_total (map.from_entries (text_entries m.entries)) (string_bytes key) v.items q))
+    get-text n q ∙ ap (option_map (λ w. w.items)) (btree_map_updates_text (string_bytes key) m n (Some v) u q)
+    ∙ ap (λ b. option_map (λ w. w.items) (cond b (Some v) (tree.get_by_text m q))) (sym (is_eq-slice_cmp (string_bytes key) q) ∙ (eq_by_cmp_equiv nat_list_cmp_total).symm (string_bytes key) q)
+    ∙ sym (kept (is_eq (slice_cmp nat_cmp q (string_bytes key))) v (tree.get_by_text m q))
+    ∙ ap (cond (is_eq (slice_cmp nat_cmp q (string_bytes key))) (Some v.items)) (sym (get-text m q))
+    ∙ sym (map.get-insert nat_list_cmp_total (map.from_entries (text_entries m.entries)) (string_bytes key) v.items q))
 
 -- a borrowed text, read as its items
 pub borrowed_items : (o : Option (Bor (Vec ℕ Global))) → option_map (λ f. f.now.items) o ≡ option_map (λ v. v.items) (option_copied o)

@@ -6,8 +6,7 @@ pub mod mem_shelf;
 pub mod mem_sink;
 pub mod shelf;
 pub mod sink;
-pub mod true_shelf;
-pub mod true_sink;
-
 #[cfg(test)]
 mod tests;
+pub mod true_shelf;
+pub mod true_sink;

@@ -23,7 +23,10 @@ fn shelf_in_memory(rt: HostRuntime) -> Result<(), Fail> {
     assert_eq!(rt; into.as_slice(), [1, 2].as_slice());
     shelf.read(rt.alloc(), &other, 2, &mut into)?;
     assert_eq!(rt; into.as_slice(), [3].as_slice());
-    assert_eq!(rt; shelf.read(rt.alloc(), &name, 1, &mut into), Err(ShelfFault::TooLong));
+    assert_eq!(rt;
+        shelf.read(rt.alloc(), &name, 1, &mut into),
+        Err(ShelfFault::TooLong)
+    );
     assert_eq!(rt; into.len(), 0);
     shelf.write(rt.alloc(), &name, &vec![in rt.alloc()]?)?;
     shelf.read(rt.alloc(), &name, 0, &mut into)?;
@@ -44,7 +47,11 @@ fn shelf_calls_fail_by_number(rt: HostRuntime) -> Result<(), Fail> {
             } else {
                 shelf.write(rt.alloc(), &name, &vec![in rt.alloc(); 8u8]?)
             };
-            let wanted = if call == number { Err(ShelfFault::Failed) } else { Ok(()) };
+            let wanted = if call == number {
+                Err(ShelfFault::Failed)
+            } else {
+                Ok(())
+            };
             assert_eq!(rt; answer, wanted);
         }
         let bytes = shelf.file(&name).ok_or("absent")?;
@@ -81,13 +88,25 @@ fn shelf_of_the_machine(rt: HostRuntime) -> Result<(), Fail> {
     shelf.write(rt.alloc(), &name, &bytes)?;
     shelf.read(rt.alloc(), &name, 10000, &mut into)?;
     assert_eq!(rt; into.as_slice(), bytes.as_slice());
-    assert_eq!(rt; shelf.read(rt.alloc(), &name, 9999, &mut into), Err(ShelfFault::TooLong));
+    assert_eq!(rt;
+        shelf.read(rt.alloc(), &name, 9999, &mut into),
+        Err(ShelfFault::TooLong)
+    );
     assert_eq!(rt; into.len(), 0);
-    assert_eq!(rt; shelf.read(rt.alloc(), &name, 0, &mut into), Err(ShelfFault::TooLong));
+    assert_eq!(rt;
+        shelf.read(rt.alloc(), &name, 0, &mut into),
+        Err(ShelfFault::TooLong)
+    );
     fs::remove_file(&rt, NAME)?;
-    assert_eq!(rt; shelf.read(rt.alloc(), &name, 10000, &mut into), Err(ShelfFault::Failed));
+    assert_eq!(rt;
+        shelf.read(rt.alloc(), &name, 10000, &mut into),
+        Err(ShelfFault::Failed)
+    );
     let nowhere = String::from_str(rt.alloc(), "rmt_io_no_folder/file")?;
-    assert_eq!(rt; shelf.write(rt.alloc(), &nowhere, &bytes), Err(ShelfFault::Failed));
+    assert_eq!(rt;
+        shelf.write(rt.alloc(), &nowhere, &bytes),
+        Err(ShelfFault::Failed)
+    );
     Ok(())
 }
 

@@ -93,8 +93,12 @@ fn write_through<F: Write + OpenFile>(file: &mut F, bytes: &[u8]) -> io::Result<
     file.write_all(bytes)?;
     file.flush()?;
     match file.sync_all() {
-        // a place that keeps nothing, as a pipe, has nothing to be kept
-        Err(error) if error.kind() == ErrorKind::InvalidInput => Ok(()),
+        // a place that cannot keep bytes, as a pipe, has nothing to be kept
+        Err(error)
+            if matches!(
+                error.kind(),
+                ErrorKind::InvalidInput | ErrorKind::Unsupported
+            ) => { Ok(()) }
         other => other,
     }
 }

@@ -1,4 +1,4 @@
-use Rattle.std.proofs.Common.{ℕ, sym, arith}
+use Rattle.std.proofs.Common.{sym, arith}
 use Rattle.rmt_io.proofs.Numbered.{fails_next_none}
 use Rattle.rmt_io.proofs.calls.is_failing.Goals as goal
 

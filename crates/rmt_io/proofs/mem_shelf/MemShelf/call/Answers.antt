@@ -1,4 +1,4 @@
-use Rattle.std.proofs.Common.{sym, ap, ◌∙◌}
+use Rattle.std.proofs.Common.{ap, ◌∙◌}
 use Rattle.rmt_io.specs.Calls.{fails_no_more}
 use Rattle.rmt_io.proofs.Numbered.{fails_next-no_more, no_more-later}
 use Rattle.rmt_io.proofs.mem_shelf.MemShelf.call.Goals as goal

@@ -1,4 +1,4 @@
-use Rattle.std.proofs.Common.{option_map, string_bytes, sym, ap, ◌∙◌}
+use Rattle.std.proofs.Common.{option_map, sym, ap, ◌∙◌}
 use Rattle.std.specs.FinMap as map
 use Rattle.rmt_io.proofs.ByName.{get-text, borrowed_items}
 use Rattle.rmt_io.proofs.mem_shelf.MemShelf.file.Goals as goal

@@ -1,6 +1,6 @@
-use Rattle.std.proofs.Common.{◌≡◌, List, string_bytes, sym, ap, ◌∙◌}
+use Rattle.std.proofs.Common.{◌≡◌, string_bytes, ◌∙◌}
 use Rattle.std.specs.FinMap as map
-use Rattle.rmt_io.specs.Files.{Files, text_entries}
+use Rattle.rmt_io.specs.Files.{text_entries}
 use Rattle.rmt_io.proofs.ByName.{put-text, get-put, get-put-other}
 use Rattle.rmt_io.proofs.mem_shelf.MemShelf.put_file.Goals as goal
 use Rattle.rmt_io.proofs.mem_shelf.MemShelf.put_file.Goals.{Joined-insert-2}

@@ -1,0 +1,68 @@
+-- Packet texts and answer lines written out.
+use Rattle.std.specs.Prelude.{◌≡◌, [], ◌∷◌, Some, None, Ok, Err, codes, refl}
+use Rattle.std.specs.Fmt.{digits}
+use Rattle.hex.specs.Hex.{decode_pairs, encode_with}
+use Rattle.rmt_bits.specs.declared.answer.Verdict.TheVariants.{Sent, Short}
+use Rattle.rmt_packets.specs.AnswerLine.{answer_line}
+use Rattle.rmt_packets.specs.PacketText.{packet_of, packets_of}
+
+-- digits of either case
+packet : packet_of (codes "511 fFa0") ≡ Ok (record { port = 511; frame = 255 ∷ 160 ∷ [] })
+unfolding decode_pairs
+packet = refl
+
+leading_zeros : packet_of (codes "0000000007 00") ≡ Ok (record { port = 7; frame = 0 ∷ [] })
+unfolding decode_pairs
+leading_zeros = refl
+
+eleven_digits : packet_of (codes "00000000007 00") ≡ Err 1
+unfolding decode_pairs
+eleven_digits = refl
+
+space_before : packet_of (codes " 7 00") ≡ Err 1
+unfolding decode_pairs
+space_before = refl
+
+no_space : packet_of (codes "7") ≡ Err 1
+unfolding decode_pairs
+no_space = refl
+
+-- the port is looked at before the frame
+port_too_great : packet_of (codes "512 ") ≡ Err 2
+unfolding decode_pairs
+port_too_great = refl
+
+no_digit : packet_of (codes "0 ") ≡ Err 3
+unfolding decode_pairs
+no_digit = refl
+
+odd : packet_of (codes "2 abc") ≡ Err 1
+unfolding decode_pairs
+odd = refl
+
+no_hex : packet_of (codes "2 0g") ≡ Err 1
+unfolding decode_pairs
+no_hex = refl
+
+-- blank lines and comments are counted and passed over
+bad_packets : packets_of (codes "# none\n0 ff\n  \n1 00\n\n2 abc\n3 00") ≡ record {
+  packets = record { port = 0; frame = 255 ∷ [] } ∷ record { port = 1; frame = 0 ∷ [] } ∷ [];
+  bad = Some (record { code = 1; line = 6 });
+}
+unfolding decode_pairs
+bad_packets = refl
+
+no_packets : packets_of (codes "# none") ≡ record { packets = []; bad = None }
+no_packets = refl
+
+sent : answer_line 0 (record { verdict = Sent 1; bytes = 255 ∷ 10 ∷ []; hits = [] }) ≡ codes "0 1 ff0a\n"
+unfolding digits encode_with
+sent = refl
+
+nothing_sent : answer_line 12 (record { verdict = Sent 3; bytes = []; hits = [] }) ≡ codes "12 3 -\n"
+unfolding digits encode_with
+nothing_sent = refl
+
+dropped : answer_line 2 (record { verdict = Short; bytes = []; hits = [] }) ≡ codes "2 drop short\n"
+unfolding digits encode_with
+dropped = refl

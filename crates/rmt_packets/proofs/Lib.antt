@@ -1,0 +1,5 @@
+pub mod Digits
+pub mod Examples
+pub mod Packet
+pub mod Readings
+pub mod Steps

@@ -1,0 +1,4 @@
+pub mod AnswerLine
+pub mod Fault
+pub mod Lines
+pub mod PacketText

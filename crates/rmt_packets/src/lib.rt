@@ -1,0 +1,8 @@
+//! Packet lines, as they are read, and answer lines, as they are printed.
+#![tactic(auto)]
+
+pub mod answer_line;
+pub mod lines;
+pub mod packet_line;
+#[cfg(test)]
+mod tests;
