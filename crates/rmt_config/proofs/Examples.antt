@@ -1,15 +1,16 @@
 -- Configurations without memory whose runs are known.
-use Rattle.std.specs.Prelude.{◌≡◌, ℕ, List, [], ◌∷◌, Some, None, true, false, replicate, refl}
+use Rattle.std.specs.Prelude.{◌≡◌, ℕ, ◌/◌, List, [], ◌∷◌, Some, None, replicate, refl}
 use Rattle.rmt_bits.specs.declared.answer.Verdict.TheVariants as verdict
 use Rattle.rmt_config.specs.declared.config.Config.{Config}
 use Rattle.rmt_config.specs.declared.config.ParserConfig.{ParserConfig}
 use Rattle.rmt_config.specs.declared.config.Next.TheVariants as next
 use Rattle.rmt_config.specs.declared.config.Extract.TheVariants.{Bits, One}
-use Rattle.rmt_config.specs.declared.config.Unit.TheVariants.{Gate, Slot}
+use Rattle.rmt_config.specs.declared.config.Stage.{Stage}
+use Rattle.rmt_config.specs.declared.config.Unit.TheVariants.{Gate}
 use Rattle.rmt_config.specs.declared.config.OpKind.TheVariants as kind
 use Rattle.rmt_config.specs.declared.config.Source.TheVariants.{Word, Constant}
 use Rattle.rmt_config.specs.Parser.{parse, Accept, Reject}
-use Rattle.rmt_config.specs.ChipRun.{answer_at, inputs_of, outcomes_of, outcome_of, own_look, cycles_of, flight_of, words_at, chip_counts_of}
+use Rattle.rmt_config.specs.ChipRun.{answer_at, inputs_of, outcomes_of, own_look, cycles_of, flight_of, words_at, packet_at, number_at}
 use Rattle.rmt_config.proofs.ExamplesParts.{packet, lane, sent, copy, instruction, plain_slot, plain_stage, one_header, one_byte}
 
 -- header h { f : 8; }, and one table whose default does out_port = 1
@@ -35,6 +36,16 @@ smallest_flight = refl
 -- with more packets than the chip has ages, one of each age is in flight
 pub smallest_full : flight_of smallest (replicate 20 (packet 0 (255 ∷ []))) ≡ 13
 smallest_full = refl
+
+-- the packet that entered in cycle 1 has age 11 in cycle 12, and is the first of its run
+pub smallest_in_flight : packet_at smallest (None ∷ Some (packet 7 (3 ∷ [])) ∷ replicate 20 None) 12 11 ≡ Some (packet 7 (3 ∷ []))
+smallest_in_flight = refl
+
+pub smallest_left : packet_at smallest (None ∷ Some (packet 7 (3 ∷ [])) ∷ replicate 20 None) 14 13 ≡ None
+smallest_left = refl
+
+pub smallest_number : number_at (Some (packet 7 (3 ∷ [])) ∷ None ∷ Some (packet 7 (4 ∷ [])) ∷ []) 2 ≡ 1
+smallest_number = refl
 
 -- words are written 12 cycles after the start, and are seen from then on
 pub smallest_words_before : words_at (own_look smallest) smallest (packet 0 (255 ∷ [])) 11 65 ≡ 0
@@ -175,3 +186,11 @@ past_the_end_zero = refl
 -- no entry matches
 pub past_the_end_none : parse past_the_end (1 ∷ 2 ∷ 3 ∷ []) ≡ Reject
 past_the_end_none = refl
+
+-- a chain of stages, 12 cycles apart, that each add 1 to f
+abbrev pub chain : List ℕ → List Stage
+chain [] = []
+chain (start ∷ starts) = plain_stage start (plain_slot (start / 12) None ∷ []) (instruction (record { word = 1; low = 0; len = 8; kind = kind.Add; left = Word 1 0; right = Constant 1 } ∷ []) ∷ []) ∷ chain starts
+
+pub chain_run : outcomes_of (one_byte (chain (0 ∷ 12 ∷ 24 ∷ 36 ∷ 48 ∷ 60 ∷ 72 ∷ 84 ∷ 96 ∷ 108 ∷ 120 ∷ 132 ∷ []))) (packet 0 (255 ∷ []) ∷ []) ≡ sent 0 (11 ∷ []) [] ∷ []
+chain_run = refl
