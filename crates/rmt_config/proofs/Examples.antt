@@ -194,3 +194,18 @@ chain (start ∷ starts) = plain_stage start (plain_slot (start / 12) None ∷ [
 
 pub chain_run : outcomes_of (one_byte (chain (0 ∷ 12 ∷ 24 ∷ 36 ∷ 48 ∷ 60 ∷ 72 ∷ 84 ∷ 96 ∷ 108 ∷ 120 ∷ 132 ∷ []))) (packet 0 (255 ∷ []) ∷ []) ≡ sent 0 (11 ∷ []) [] ∷ []
 chain_run = refl
+
+-- a state behind one byte looks from there on
+abbrev pub behind_one_byte : ParserConfig
+behind_one_byte = record {
+  states = record { lookups = [] } ∷ record { lookups = 0 ∷ [] } ∷ [];
+  entries =
+      record { state = 0; value = 0; mask = 0; need = 1; advance = 1; next = next.State 1; extracts = [] }
+      ∷ record { state = 1; value = 0x07000000; mask = 0xff000000; need = 0; advance = 0; next = next.Accept; extracts = [] } ∷ [];
+}
+
+pub behind_one_byte_accepts : parse behind_one_byte (9 ∷ 7 ∷ []) ≡ Accept (replicate 224 0) 1
+behind_one_byte_accepts = refl
+
+pub behind_one_byte_rejects : parse behind_one_byte (7 ∷ 9 ∷ []) ≡ Reject
+behind_one_byte_rejects = refl

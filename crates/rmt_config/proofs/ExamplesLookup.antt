@@ -9,6 +9,7 @@ use Rattle.rmt_config.specs.declared.config.CellNumber.{CellNumber}
 use Rattle.rmt_config.specs.declared.config.Memory.TheVariants.{Exact, Ternary}
 use Rattle.rmt_config.specs.declared.config.Extract.TheVariants.{Bits}
 use Rattle.rmt_config.specs.declared.config.Source.TheVariants.{Word, Held, Constant}
+use Rattle.rmt_config.specs.Cells.{sram_row, data_at}
 use Rattle.rmt_config.specs.ChipRun.{outcomes_of, inputs_of, cycles_of, flight_of, chip_counts_of}
 use Rattle.rmt_config.proofs.ExamplesParts.{packet, lane, sent, copy, instruction, plain_slot, plain_stage, one_header, one_byte}
 
@@ -160,3 +161,7 @@ pub ternary_run : outcomes_of ternary (packet 0 (10 ∷ 11 ∷ 12 ∷ 13 ∷ 14 
     ∷ record { verdict = verdict.Dropped; bytes = []; counted = record { number = 12; age = 8 } ∷ [] }
     ∷ sent 4 (9 ∷ 0 ∷ 0 ∷ 0 ∷ 0 ∷ 2 ∷ []) [] ∷ []
 ternary_run = refl
+
+-- a cell without data
+pub no_data : data_at (sram_row []) [] 3 0 (record { way = 2; row = 671; position = 1 }) ≡ 0
+no_data = refl
