@@ -2,3 +2,4 @@ pub mod ExamplesParts
 pub mod Examples
 pub mod ExamplesLookup
 pub mod RunLaws
+pub mod CountLaws
