@@ -1,4 +1,5 @@
 pub mod Programs
 pub mod Examples
 pub mod WellFormedLemmas
+pub mod StateLaws
 mod ExampleForm
