@@ -2,4 +2,5 @@ pub mod Programs
 pub mod Examples
 pub mod WellFormedLemmas
 pub mod StateLaws
+pub mod RunStateLaws
 mod ExampleForm

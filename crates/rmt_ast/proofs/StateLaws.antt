@@ -1,15 +1,13 @@
 -- Each step of a run leaves a state: numbers that fit their fields.
-use Rattle.std.proofs.Common.{◌≡◌, ◌≢◌, ℕ, zero, suc, ◌+◌, ◌-◌, ◌*◌, ◌%◌, ◌^◌, ◌<◌, ◌≤◌, Bool, true, false, cond, List, [], ◌∷◌, ◌++◌, length, take, drop, get_or, set, Option, Some, None, refl, sym, ap, ◌∙◌, subst, inl, inr, ⊎_elim, arith, rules}
-use Rattle.std.specs.Prelude.{⊤, All, bit_and, bit_or, bit_xor, slice_get, slice_index, slice_set, replicate, sum, map, fold, option_map, unwrap_or, nat_lt}
-use Rattle.std.specs.List.{AllZip, flat_map, range_with_len}
+use Rattle.std.proofs.Common.{◌≡◌, ◌≢◌, ℕ, zero, suc, ◌+◌, ◌-◌, ◌^◌, ◌<◌, ◌≤◌, List, [], ◌∷◌, length, Some, sym, ap, ◌∙◌, subst, ⊎_elim, arith}
+use Rattle.std.specs.Prelude.{All, bit_and, slice_get, slice_index, slice_set, replicate, unwrap_or}
+use Rattle.std.specs.List.{AllZip}
 use Rattle.std.proofs.lemmas.List.{length-set, length-replicate, get_or-set_same, get_or-set_other, get_or-replicate}
-use Rattle.std.proofs.lemmas.List.Elements.{All-nil, All-cons, All-head, All-tail}
+use Rattle.std.proofs.lemmas.List.Elements.{All-head, All-tail}
 use Rattle.std.proofs.lemmas.Bool.{cases_eq}
 use Rattle.std.proofs.lemmas.Nat.{and_le_l, or_lt, xor_lt, mod_below, pow_pos}
 use Rattle.std.proofs.lemmas.Option.{none-some}
-use Rattle.rmt_bits.specs.Bits.{slice, number_of}
 use Rattle.rmt_ast.specs.declared.program.Program.{Program}
-use Rattle.rmt_ast.specs.declared.program.Header.{Header}
 use Rattle.rmt_ast.specs.declared.program.Assign.{Assign}
 use Rattle.rmt_ast.specs.declared.program.Expr.{Expr}
 use Rattle.rmt_ast.specs.declared.program.Expr.TheVariants.{One, Two}
@@ -19,7 +17,7 @@ use Rattle.rmt_ast.specs.declared.program.Op.{Op}
 use Rattle.rmt_ast.specs.declared.program.Op.TheVariants.{Add, Sub, And, Or, Xor}
 use Rattle.rmt_ast.specs.State.{IsState, width_of, start, set_fields}
 use Rattle.rmt_ast.specs.Actions.{operand, applied, value_of, assigned, acted}
-use Rattle.rmt_ast.specs.WellFormed.{Fits, IsLeaf, IsOp, IsExpr, IsAssign, HasFields, header_fields}
+use Rattle.rmt_ast.specs.WellFormed.{Fits, IsLeaf, IsExpr, IsAssign, HasFields}
 
 -- a state with one field set to a number that fits it
 pub set_keeps : (p : Program) (s : List ℕ) (f x : ℕ) → IsState p s → x < 2 ^ width_of p f → IsState p (slice_set s f x)
@@ -27,7 +25,7 @@ set_keeps p s f x h below = record {
   one_each = length-set s f x ∙ h.one_each;
   fits = λ g within. ⊎_elim
       (λ (same : g ≡ f). subst (λ i. slice_index (slice_set s f x) i < 2 ^ width_of p i) (sym same)
-          (subst (λ y. y < 2 ^ width_of p f) (sym (get_or-set_same s f x 0 (subst (λ i. i < length s) same (subst (λ n. g < n) (sym h.one_each) within)))) below))
+      (subst (λ y. y < 2 ^ width_of p f) (sym (get_or-set_same s f x 0 (subst (λ i. i < length s) same (subst (λ n. g < n) (sym h.one_each) within)))) below))
       (λ (other : g ≢ f). subst (λ y. y < 2 ^ width_of p g) (sym (get_or-set_other s f g x 0 other)) (h.fits g within))
       (cases_eq g f);
 }
