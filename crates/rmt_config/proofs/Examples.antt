@@ -110,7 +110,7 @@ operations =
     (plain_stage 0 (plain_slot 0 None ∷ [])
     (instruction
     (copy 3 0 8 (Word 1 0)
-    ∷ record { word = 4; low = 0; len = 8; kind = kind.Add; left = Word 1 0; right = Word 2 0 }
+    ∷ record { word = 4; low = 2; len = 4; kind = kind.Add; left = Word 1 0; right = Word 2 4 }
     ∷ record { word = 5; low = 0; len = 8; kind = kind.Sub; left = Word 1 0; right = Word 2 0 }
     ∷ record { word = 6; low = 0; len = 8; kind = kind.And; left = Word 1 0; right = Constant 15 }
     ∷ record { word = 7; low = 0; len = 8; kind = kind.Or; left = Word 1 0; right = Word 2 0 }
@@ -118,7 +118,7 @@ operations =
     ∷ []) ∷ [])
 
 pub operations_run : outcomes_of operations (packet 0 (0xc5 ∷ 0xf6 ∷ 0 ∷ 0 ∷ 0 ∷ 0 ∷ 0 ∷ 0 ∷ 9 ∷ []) ∷ [])
-    ≡ sent 0 (0xc5 ∷ 0xf6 ∷ 0xc5 ∷ 0xbb ∷ 0xcf ∷ 0x05 ∷ 0xf7 ∷ 0x28 ∷ 9 ∷ []) [] ∷ []
+    ≡ sent 0 (0xc5 ∷ 0xf6 ∷ 0xc5 ∷ 0x10 ∷ 0xcf ∷ 0x05 ∷ 0xf7 ∷ 0x28 ∷ 9 ∷ []) [] ∷ []
 operations_run = refl
 
 -- a gate on the high half of f, and two guarded slots behind it, in one stage

@@ -4,7 +4,7 @@ use Rattle.std.specs.List.{range_with_len}
 use Rattle.rmt_bits.specs.declared.answer.Verdict.TheVariants as verdict
 use Rattle.rmt_config.specs.declared.config.Config.{Config}
 use Rattle.rmt_config.specs.declared.config.Unit.{Unit}
-use Rattle.rmt_config.specs.declared.config.Unit.TheVariants.{Slot}
+use Rattle.rmt_config.specs.declared.config.Unit.TheVariants.{Gate, Slot}
 use Rattle.rmt_config.specs.declared.config.CellNumber.{CellNumber}
 use Rattle.rmt_config.specs.declared.config.Memory.TheVariants.{Exact, Ternary}
 use Rattle.rmt_config.specs.declared.config.Extract.TheVariants.{Bits}
@@ -176,14 +176,15 @@ ternary_run = refl
 pub no_data : data_at (sram_row []) [] 3 0 (record { way = 2; row = 671; position = 1 }) ≡ 0
 no_data = refl
 
--- a ternary table on f of two quanta, behind a slot without memory, with two actions and no data: 7 takes the first action,
+-- a ternary table on f of two quanta, behind a gate and a slot without memory, with two actions and no data: 7 takes the first action,
 -- and 8 the second; 9 takes the first one, in the second quantum; slots behind it for either action and for a miss
 abbrev pub outcomes : Config
 outcomes = one_byte
     (record {
       start = 0;
       units =
-          plain_slot 0 None
+          Gate (record { node = 5; guard = None; tests = record { lane = lane 1 0 8; value = 0; mask = 128 } ∷ [] })
+          ∷ plain_slot 0 None
           ∷ Slot (record {
             node = 1;
             guard = None;
