@@ -1,4 +1,6 @@
 pub mod Programs
 pub mod Examples
 pub mod WellFormedLemmas
+pub mod StateLaws
+pub mod RunStateLaws
 mod ExampleForm

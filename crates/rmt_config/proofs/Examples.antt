@@ -1,15 +1,16 @@
 -- Configurations without memory whose runs are known.
-use Rattle.std.specs.Prelude.{◌≡◌, ℕ, List, [], ◌∷◌, Some, None, true, false, replicate, refl}
+use Rattle.std.specs.Prelude.{◌≡◌, ℕ, ◌/◌, List, [], ◌∷◌, Some, None, replicate, refl}
 use Rattle.rmt_bits.specs.declared.answer.Verdict.TheVariants as verdict
 use Rattle.rmt_config.specs.declared.config.Config.{Config}
 use Rattle.rmt_config.specs.declared.config.ParserConfig.{ParserConfig}
 use Rattle.rmt_config.specs.declared.config.Next.TheVariants as next
 use Rattle.rmt_config.specs.declared.config.Extract.TheVariants.{Bits, One}
-use Rattle.rmt_config.specs.declared.config.Unit.TheVariants.{Gate, Slot}
+use Rattle.rmt_config.specs.declared.config.Stage.{Stage}
+use Rattle.rmt_config.specs.declared.config.Unit.TheVariants.{Gate}
 use Rattle.rmt_config.specs.declared.config.OpKind.TheVariants as kind
 use Rattle.rmt_config.specs.declared.config.Source.TheVariants.{Word, Constant}
 use Rattle.rmt_config.specs.Parser.{parse, Accept, Reject}
-use Rattle.rmt_config.specs.ChipRun.{answer_at, inputs_of, outcomes_of, outcome_of, own_look, cycles_of, flight_of, words_at, chip_counts_of}
+use Rattle.rmt_config.specs.ChipRun.{answer_at, inputs_of, outcomes_of, own_look, cycles_of, flight_of, words_at, packet_at, number_at}
 use Rattle.rmt_config.proofs.ExamplesParts.{packet, lane, sent, copy, instruction, plain_slot, plain_stage, one_header, one_byte}
 
 -- header h { f : 8; }, and one table whose default does out_port = 1
@@ -35,6 +36,16 @@ smallest_flight = refl
 -- with more packets than the chip has ages, one of each age is in flight
 pub smallest_full : flight_of smallest (replicate 20 (packet 0 (255 ∷ []))) ≡ 13
 smallest_full = refl
+
+-- the packet that entered in cycle 1 has age 11 in cycle 12, and is the first of its run
+pub smallest_in_flight : packet_at smallest (None ∷ Some (packet 7 (3 ∷ [])) ∷ replicate 20 None) 12 11 ≡ Some (packet 7 (3 ∷ []))
+smallest_in_flight = refl
+
+pub smallest_left : packet_at smallest (None ∷ Some (packet 7 (3 ∷ [])) ∷ replicate 20 None) 14 13 ≡ None
+smallest_left = refl
+
+pub smallest_number : number_at (Some (packet 7 (3 ∷ [])) ∷ None ∷ Some (packet 7 (4 ∷ [])) ∷ []) 2 ≡ 1
+smallest_number = refl
 
 -- words are written 12 cycles after the start, and are seen from then on
 pub smallest_words_before : words_at (own_look smallest) smallest (packet 0 (255 ∷ [])) 11 65 ≡ 0
@@ -99,7 +110,7 @@ operations =
     (plain_stage 0 (plain_slot 0 None ∷ [])
     (instruction
     (copy 3 0 8 (Word 1 0)
-    ∷ record { word = 4; low = 0; len = 8; kind = kind.Add; left = Word 1 0; right = Word 2 0 }
+    ∷ record { word = 4; low = 2; len = 4; kind = kind.Add; left = Word 1 0; right = Word 2 4 }
     ∷ record { word = 5; low = 0; len = 8; kind = kind.Sub; left = Word 1 0; right = Word 2 0 }
     ∷ record { word = 6; low = 0; len = 8; kind = kind.And; left = Word 1 0; right = Constant 15 }
     ∷ record { word = 7; low = 0; len = 8; kind = kind.Or; left = Word 1 0; right = Word 2 0 }
@@ -107,7 +118,7 @@ operations =
     ∷ []) ∷ [])
 
 pub operations_run : outcomes_of operations (packet 0 (0xc5 ∷ 0xf6 ∷ 0 ∷ 0 ∷ 0 ∷ 0 ∷ 0 ∷ 0 ∷ 9 ∷ []) ∷ [])
-    ≡ sent 0 (0xc5 ∷ 0xf6 ∷ 0xc5 ∷ 0xbb ∷ 0xcf ∷ 0x05 ∷ 0xf7 ∷ 0x28 ∷ 9 ∷ []) [] ∷ []
+    ≡ sent 0 (0xc5 ∷ 0xf6 ∷ 0xc5 ∷ 0x10 ∷ 0xcf ∷ 0x05 ∷ 0xf7 ∷ 0x28 ∷ 9 ∷ []) [] ∷ []
 operations_run = refl
 
 -- a gate on the high half of f, and two guarded slots behind it, in one stage
@@ -175,3 +186,26 @@ past_the_end_zero = refl
 -- no entry matches
 pub past_the_end_none : parse past_the_end (1 ∷ 2 ∷ 3 ∷ []) ≡ Reject
 past_the_end_none = refl
+
+-- a chain of stages, 12 cycles apart, that each add 1 to f
+abbrev pub chain : List ℕ → List Stage
+chain [] = []
+chain (start ∷ starts) = plain_stage start (plain_slot (start / 12) None ∷ []) (instruction (record { word = 1; low = 0; len = 8; kind = kind.Add; left = Word 1 0; right = Constant 1 } ∷ []) ∷ []) ∷ chain starts
+
+pub chain_run : outcomes_of (one_byte (chain (0 ∷ 12 ∷ 24 ∷ 36 ∷ 48 ∷ 60 ∷ 72 ∷ 84 ∷ 96 ∷ 108 ∷ 120 ∷ 132 ∷ []))) (packet 0 (255 ∷ []) ∷ []) ≡ sent 0 (11 ∷ []) [] ∷ []
+chain_run = refl
+
+-- a state behind one byte looks from there on
+abbrev pub behind_one_byte : ParserConfig
+behind_one_byte = record {
+  states = record { lookups = [] } ∷ record { lookups = 0 ∷ [] } ∷ [];
+  entries =
+      record { state = 0; value = 0; mask = 0; need = 1; advance = 1; next = next.State 1; extracts = [] }
+      ∷ record { state = 1; value = 0x07000000; mask = 0xff000000; need = 0; advance = 0; next = next.Accept; extracts = [] } ∷ [];
+}
+
+pub behind_one_byte_accepts : parse behind_one_byte (9 ∷ 7 ∷ []) ≡ Accept (replicate 224 0) 1
+behind_one_byte_accepts = refl
+
+pub behind_one_byte_rejects : parse behind_one_byte (7 ∷ 9 ∷ []) ≡ Reject
+behind_one_byte_rejects = refl

@@ -4,12 +4,13 @@ use Rattle.std.specs.List.{range_with_len}
 use Rattle.rmt_bits.specs.declared.answer.Verdict.TheVariants as verdict
 use Rattle.rmt_config.specs.declared.config.Config.{Config}
 use Rattle.rmt_config.specs.declared.config.Unit.{Unit}
-use Rattle.rmt_config.specs.declared.config.Unit.TheVariants.{Slot}
+use Rattle.rmt_config.specs.declared.config.Unit.TheVariants.{Gate, Slot}
 use Rattle.rmt_config.specs.declared.config.CellNumber.{CellNumber}
 use Rattle.rmt_config.specs.declared.config.Memory.TheVariants.{Exact, Ternary}
 use Rattle.rmt_config.specs.declared.config.Extract.TheVariants.{Bits}
 use Rattle.rmt_config.specs.declared.config.Source.TheVariants.{Word, Held, Constant}
-use Rattle.rmt_config.specs.ChipRun.{outcomes_of, inputs_of, cycles_of, flight_of, chip_counts_of}
+use Rattle.rmt_config.specs.Cells.{sram_row, data_at}
+use Rattle.rmt_config.specs.ChipRun.{outcomes_of, inputs_of, cycles_of, flight_of, chip_counts_of, own_look}
 use Rattle.rmt_config.proofs.ExamplesParts.{packet, lane, sent, copy, instruction, plain_slot, plain_stage, one_header, one_byte}
 
 -- table a does meta.x = h.f in the first stage; in the second one b is exact on meta.x with the entry `7 go 5`, and c does meta.x = 0
@@ -110,6 +111,16 @@ pub exact_run : outcomes_of exact (packet 0 second_key ∷ packet 0 (first_key +
     ≡ sent 6 second_key (record { number = 5; age = 8 } ∷ []) ∷ sent 324 (first_key ++ 1 ∷ []) (record { number = 7; age = 9 } ∷ []) ∷ sent 3 (replicate 7 0) [] ∷ []
 exact_run = refl
 
+-- the second part alone: a cell of its second quantum, and its record there
+pub exact_second_quantum : own_look exact 1 0 0xfedcba98765432 ≡ Some (record { code = 0; held = 0x0102030405; number = 9 })
+exact_second_quantum = refl
+
+pub exact_first_quantum : own_look exact 1 0 0x0123456789abcd ≡ Some (record { code = 1; held = 0x1122334455; number = 7 })
+exact_first_quantum = refl
+
+pub exact_other_key : own_look exact 1 0 0x0123456789abce ≡ None
+exact_other_key = refl
+
 pub exact_counts : chip_counts_of exact (inputs_of exact (packet 0 second_key ∷ packet 0 (first_key ++ 1 ∷ []) ∷ packet 0 (replicate 7 0) ∷ packet 1 first_key ∷ []))
     ≡ record { entry = 5; packets = 1; bytes = 7 } ∷ record { entry = 7; packets = 2; bytes = 15 } ∷ record { entry = 8; packets = 0; bytes = 0 } ∷ record { entry = 9; packets = 0; bytes = 0 } ∷ []
 exact_counts = refl
@@ -160,3 +171,48 @@ pub ternary_run : outcomes_of ternary (packet 0 (10 ∷ 11 ∷ 12 ∷ 13 ∷ 14 
     ∷ record { verdict = verdict.Dropped; bytes = []; counted = record { number = 12; age = 8 } ∷ [] }
     ∷ sent 4 (9 ∷ 0 ∷ 0 ∷ 0 ∷ 0 ∷ 2 ∷ []) [] ∷ []
 ternary_run = refl
+
+-- a cell without data
+pub no_data : data_at (sram_row []) [] 3 0 (record { way = 2; row = 671; position = 1 }) ≡ 0
+no_data = refl
+
+-- a ternary table on f of two quanta, behind a gate and a slot without memory, with two actions and no data: 7 takes the first action,
+-- and 8 the second; 9 takes the first one, in the second quantum; slots behind it for either action and for a miss
+abbrev pub outcomes : Config
+outcomes = one_byte
+    (record {
+      start = 0;
+      units =
+          Gate (record { node = 5; guard = None; tests = record { lane = lane 1 0 8; value = 0; mask = 128 } ∷ [] })
+          ∷ plain_slot 0 None
+          ∷ Slot (record {
+            node = 1;
+            guard = None;
+            counted = true;
+            actions = 2;
+            last = true;
+            held = 0;
+            keys = lane 1 0 8 ∷ [];
+            memory = Ternary 2 (0 ∷ 1 ∷ []) (0 ∷ 1 ∷ []) (2 ∷ 3 ∷ 4 ∷ 5 ∷ []);
+            numbers = record { cell = 0; number = 0 } ∷ record { cell = 1; number = 1 } ∷ record { cell = 2053; number = 2 } ∷ [];
+          })
+          ∷ plain_slot 2 (Some (record { parent = 1; mask = 4 }))
+          ∷ plain_slot 3 (Some (record { parent = 1; mask = 8 }))
+          ∷ plain_slot 4 (Some (record { parent = 1; mask = 2 })) ∷ [];
+      code =
+          instruction []
+          ∷ instruction [] ∷ instruction [] ∷ instruction []
+          ∷ instruction (copy 65 0 9 (Constant 1) ∷ [])
+          ∷ instruction (copy 65 0 9 (Constant 2) ∷ [])
+          ∷ instruction (copy 65 0 9 (Constant 3) ∷ []) ∷ [];
+      srows = record { block = 0; row = 0; bits = 0x1109 } ∷ record { block = 1; row = 0; bits = 0x09 * 2 ^ 40 } ∷ [];
+      trows =
+          record { block = 0; row = 0; value = 7; mask = 255 }
+          ∷ record { block = 0; row = 1; value = 8; mask = 255 }
+          ∷ record { block = 1; row = 5; value = 9; mask = 255 } ∷ [];
+    } ∷ [])
+
+pub outcomes_run : outcomes_of outcomes (packet 0 (7 ∷ []) ∷ packet 0 (8 ∷ []) ∷ packet 0 (9 ∷ []) ∷ packet 0 (6 ∷ []) ∷ [])
+    ≡ sent 1 (7 ∷ []) (record { number = 0; age = 8 } ∷ []) ∷ sent 2 (8 ∷ []) (record { number = 1; age = 8 } ∷ [])
+    ∷ sent 1 (9 ∷ []) (record { number = 2; age = 8 } ∷ []) ∷ sent 3 (6 ∷ []) [] ∷ []
+outcomes_run = refl

@@ -3,3 +3,4 @@ pub mod Examples
 pub mod ExamplesSpelling
 pub mod ExamplesLookup
 pub mod RunLaws
+pub mod CountLaws

@@ -1,5 +1,5 @@
 -- What the clocked chip answers, cycle by cycle.
-use Rattle.std.specs.Prelude.{ℕ, ◌+◌, ◌-◌, List, [], ◌∷◌, ◌++◌, ◌==◌, nat_lt, if◌then◌else◌, Option, Some, None, map, drop, length, replicate, slice_get, option_map, option_and_then, min, filter_map}
+use Rattle.std.specs.Prelude.{ℕ, ◌+◌, ◌-◌, List, [], ◌∷◌, ◌++◌, ◌==◌, nat_lt, if◌then◌else◌, Option, Some, None, map, drop, length, replicate, slice_get, option_map, option_and_then, min, filter_map, ◌||◌, take, count_by, is_some}
 use Rattle.std.specs.List.{flat_map, range_with_len}
 use Rattle.rmt_bits.specs.Bits.{bytes_of}
 use Rattle.rmt_bits.specs.Packet.{Packet}
@@ -61,6 +61,16 @@ abbrev pub answer_at : Config → List (Option Packet) → ℕ → Option Outcom
 answer_at c inputs cycle =
     if nat_lt cycle (latency_of c.stages) then None
     else option_and_then (λ (input : Option Packet). option_map (outcome_of (own_look c) c) input) (slice_get inputs (cycle - latency_of c.stages))
+
+-- the packet that has an age in a cycle, while it is in the chip: from age 0 to the age at which it leaves
+abbrev pub packet_at : Config → List (Option Packet) → ℕ → ℕ → Option Packet
+packet_at c inputs cycle age =
+    if nat_lt cycle age || nat_lt (latency_of c.stages) age then None
+    else option_and_then (λ (input : Option Packet). input) (slice_get inputs (cycle - age))
+
+-- the number of the packet that enters in a cycle: how many entered before
+abbrev pub number_at : List (Option Packet) → ℕ → ℕ
+number_at inputs cycle = count_by is_some (take cycle inputs)
 
 -- the packets of a list, one a cycle, and then nothing until the last one has left
 abbrev pub inputs_of : Config → List Packet → List (Option Packet)

@@ -88,7 +88,8 @@ guarded (Some g) outcomes = g.mask / 2 ^ slice_index outcomes g.parent % 2 == 1
 abbrev pub runs : ℕ → Option UnitGuard → List ℕ → Bool
 runs node guard outcomes = guarded guard outcomes && (slice_index outcomes node == 0)
 
--- the outcomes and the instructions so far of one stage, and the first instruction of the next slot
+-- what the units so far of one stage have done: outcomes, then instructions and counts, the last one first;
+-- and where the next unit stands: the number of its first instruction, and its place
 pub record Acts : Type 0 where
   pub outcomes : List ℕ
   pub running : List Running
