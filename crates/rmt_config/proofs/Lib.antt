@@ -1,3 +1,4 @@
 pub mod Examples
 pub mod ExamplesSpelling
 pub mod RunLaws
+pub mod FormLemmas
