@@ -1,12 +1,13 @@
 -- The limits of the chip, by number, and the first that a configuration passes. Those of memories, keys, lookups and gates come with these parts.
-use Rattle.std.specs.Prelude.{◌≡◌, ℕ, ◌+◌, ◌-◌, List, [], ◌∷◌, length, Bool, true, false, nat_lt, min, if◌then◌else◌, count_by, Option, Some, None}
+use Rattle.std.specs.Prelude.{◌≡◌, ℕ, ◌+◌, ◌-◌, List, [], ◌∷◌, length, map, Bool, true, false, nat_lt, min, if◌then◌else◌, count_by, slice_get, Option, Some, None}
+use Rattle.std.specs.List.{flat_map}
 use Rattle.rmt_config.specs.declared.limits.LimitHit.{LimitHit}
 use Rattle.rmt_config.specs.declared.config.Config.{Config}
 use Rattle.rmt_config.specs.declared.config.ParserEntry.{ParserEntry}
 use Rattle.rmt_config.specs.declared.config.Stage.{Stage}
 use Rattle.rmt_config.specs.declared.config.Unit.{Unit}
 use Rattle.rmt_config.specs.declared.config.Unit.TheVariants.{Gate, Slot}
-use Rattle.rmt_config.specs.Form.{nodes_of}
+use Rattle.rmt_config.specs.Form.{node_of}
 
 -- a sum that is above its limit; it is told as 4,294,967,295 where it is greater
 abbrev pub over : ℕ → ℕ → ℕ → ℕ → Option LimitHit
@@ -52,21 +53,25 @@ abbrev pub code_hit : ℕ → Stage → Option LimitHit
 code_hit k stage = over 32 11 k (length stage.code)
 
 -- 14: 128 nodes; each node has one unit
-abbrev pub nodes_hit : Config → Option LimitHit
-nodes_hit c = over 128 14 0 (length (nodes_of c))
+abbrev pub nodes_hit : List Stage → Option LimitHit
+nodes_hit stages = over 128 14 0 (length (flat_map (λ (stage : Stage). map node_of stage.units) stages))
 
 -- 16: the last start is at most 372
-abbrev pub last_start_hit : ℕ → List Stage → Option LimitHit
-last_start_hit k [] = None
-last_start_hit k (stage ∷ []) = over 372 16 k stage.start
-last_start_hit k (stage ∷ next ∷ stages) = last_start_hit (k + 1) (next ∷ stages)
+abbrev pub last_start_hit : List Stage → Option LimitHit
+last_start_hit stages = start_hit (slice_get stages (length stages - 1))
+  where
+    start_hit : Option Stage → Option LimitHit
+    start_hit None = None
+    start_hit (Some stage) = over 372 16 (length stages - 1) stage.start
 
 -- the first limit that is passed, by number and then by stage
+abbrev pub stage_limit_hit : List Stage → Option LimitHit
+stage_limit_hit stages =
+    or_hit (stage_hit slots_hit 0 stages) (or_hit (stage_hit code_hit 0 stages) (or_hit (nodes_hit stages) (last_start_hit stages)))
+
 abbrev pub limit_hit : Config → Option LimitHit
 limit_hit c =
-    or_hit (stages_hit c) (or_hit (entries_hit c) (or_hit (first_hit entry_hit c.parser.entries)
-    (or_hit (stage_hit slots_hit 0 c.stages) (or_hit (stage_hit code_hit 0 c.stages)
-    (or_hit (nodes_hit c) (last_start_hit 0 c.stages))))))
+    or_hit (stages_hit c) (or_hit (entries_hit c) (or_hit (first_hit entry_hit c.parser.entries) (stage_limit_hit c.stages)))
 
 abbrev pub IsWithinLimits : Config → Type 0
 IsWithinLimits c = limit_hit c ≡ None

@@ -1,8 +1,9 @@
 //! The limits of the chip, and the first that a configuration passes.
 
-ghost use Rattle.std.specs.Prelude.{◌≡◌, ◌<◌, ◌+◌, ◌≤◌, ◌^◌, length, min, count_by, MatchResult, Some, None};
-ghost use Rattle.rmt_config.specs.Form.{Formed, nodes_of, stages_are_formed};
-ghost use Rattle.rmt_config.specs.Limits.{over as over_limit, or_hit, first_hit, stage_hit, entries_hit, entry_hit, stages_hit, is_slot, slots_hit, code_hit, nodes_hit, last_start_hit, limit_hit};
+ghost use Rattle.std.specs.Prelude.{◌≡◌, ◌<◌, ◌+◌, ◌≤◌, ◌^◌, length, map, min, count_by, MatchResult, Some, None};
+ghost use Rattle.std.specs.List.{flat_map};
+ghost use Rattle.rmt_config.specs.Form.{node_of};
+ghost use Rattle.rmt_config.specs.Limits.{over as over_limit, or_hit, first_hit, stage_hit, entry_hit, is_slot, slots_hit, code_hit, last_start_hit, stage_limit_hit, limit_hit, IsWithinLimits};
 ghost use Rattle.rmt_config.specs.declared.config.Stage.{Stage};
 ghost use Rattle.rmt_config.specs.declared.config.Config.{Config};
 
@@ -21,10 +22,10 @@ pub struct LimitHit {
     pub need: u32,
 }
 
-fn over(most: u32, limit: u8, stage: u8, sum: usize) -> Option<LimitHit>
+fn over(most: u32, limit: u8, stage: u8, sum: u128) -> Option<LimitHit>
     ensures { result ≡ over_limit most limit stage sum }
 {
-    if sum <= most as usize {
+    if sum <= most as u128 {
         return None;
     }
     let sum = if sum < 4294967295 { sum as u32 } else { 4294967295 };
@@ -39,9 +40,9 @@ fn over(most: u32, limit: u8, stage: u8, sum: usize) -> Option<LimitHit>
 fn over_in_entry(entry: &ParserEntry) -> Option<LimitHit>
     ensures { result ≡ entry_hit entry.now }
 {
-    match over(128, 5, 0, entry.need as usize) {
+    match over(128, 5, 0, entry.need as u128) {
         Some(hit) => Some(hit),
-        None => over(64, 5, 0, entry.extracts.len()),
+        None => over(64, 5, 0, entry.extracts.len() as u128),
     }
 }
 
@@ -68,7 +69,7 @@ fn over_in_slots(stages: &[Stage]) -> Option<LimitHit>
 {
     let mut at: u16 = 0;
     for stage in stages {
-        if let Some(hit) = over(16, 10, at as u8, count_slots(stage.units.as_slice())) {
+        if let Some(hit) = over(16, 10, at as u8, count_slots(stage.units.as_slice()) as u128) {
             return Some(hit);
         }
         at += 1;
@@ -82,10 +83,75 @@ fn over_in_code(stages: &[Stage]) -> Option<LimitHit>
 {
     let mut at: u16 = 0;
     for stage in stages {
-        if let Some(hit) = over(32, 11, at as u8, stage.code.len()) {
+        if let Some(hit) = over(32, 11, at as u8, stage.code.len() as u128) {
             return Some(hit);
         }
         at += 1;
     }
     None
+}
+
+fn count_nodes(stages: &[Stage]) -> u128
+    ensures { result ≡ length (flat_map (λ (stage : Stage). map node_of stage.units) stages.now) }
+{
+    let mut nodes: u128 = 0;
+    for stage in stages {
+        nodes += stage.units.len() as u128;
+    }
+    nodes
+}
+
+fn over_in_last_start(stages: &[Stage]) -> Option<LimitHit>
+    requires { length stages.now < 256 }
+    ensures { result ≡ last_start_hit stages.now }
+{
+    match stages.last() {
+        None => None,
+        Some(stage) => over(372, 16, (stages.len() - 1) as u8, stage.start as u128),
+    }
+}
+
+/// The first limit on stages that is passed, by number and then by stage.
+fn over_in_stages(stages: &[Stage]) -> Option<LimitHit>
+    requires { length stages.now < 256 }
+    ensures { result ≡ stage_limit_hit stages.now }
+{
+    if let Some(hit) = over_in_slots(stages) {
+        return Some(hit);
+    }
+    if let Some(hit) = over_in_code(stages) {
+        return Some(hit);
+    }
+    if let Some(hit) = over(128, 14, 0, count_nodes(stages)) {
+        return Some(hit);
+    }
+    over_in_last_start(stages)
+}
+
+fn first_over(config: &Config) -> Option<LimitHit>
+    ensures { result ≡ limit_hit config.now }
+{
+    if let Some(hit) = over(32, 1, 0, config.stages.len() as u128) {
+        return Some(hit);
+    }
+    if let Some(hit) = over(256, 3, 0, config.parser.entries.len() as u128) {
+        return Some(hit);
+    }
+    if let Some(hit) = over_in_entries(config.parser.entries.as_slice()) {
+        return Some(hit);
+    }
+    over_in_stages(config.stages.as_slice())
+}
+
+impl Config {
+    /// Whether the configuration keeps the limits of the chip: else the first limit that it passes, by number and
+    /// then by stage, with its sum there.
+    pub fn fits(&self) -> Result<(), LimitHit>
+        ensures exact { MatchResult result (λ _. IsWithinLimits self.now) (λ hit. limit_hit self.now ≡ Some hit) }
+    {
+        match first_over(self) {
+            None => Ok(()),
+            Some(hit) => Err(hit),
+        }
+    }
 }
