@@ -4,3 +4,4 @@ pub mod ExamplesSpelling
 pub mod ExamplesLookup
 pub mod RunLaws
 pub mod CountLaws
+pub mod FormLemmas

@@ -3,3 +3,5 @@ pub mod Cells
 pub mod Life
 pub mod ChipRun
 pub mod Spelling
+pub mod Form
+pub mod Limits
