@@ -211,4 +211,4 @@ absent_answers files p e status.BadPackets ca h = absurd ca
 pub never_usage : (answer : Status) → IsOfFiles answer ⊎ IsOfOutside answer → answer ≡ status.Usage → ⊥
 never_usage answer h e =
     ⊎_elim (λ f. ⊎_elim (λ a. cc) (λ f. ⊎_elim (λ a. cc) (λ f. ⊎_elim (λ a. cc) (λ a. cc) f) f) f)
-      (λ f. ⊎_elim (λ a. cc) (λ f. ⊎_elim (λ a. cc) (λ a. cc) f) f) h
+    (λ f. ⊎_elim (λ a. cc) (λ f. ⊎_elim (λ a. cc) (λ a. cc) f) f) h

@@ -1,0 +1,223 @@
+//! What no clause says: worked texts with their printed lines, the smallest image, and faults of the outside in turn.
+
+use crate::status::Status;
+use crate::top::rmt;
+use rmt_io::mem_shelf::MemShelf;
+use rmt_io::mem_sink::MemSink;
+use std::alloc::{AllocError, Global};
+use std::process::Abort;
+use std::test::Fail;
+
+const SMALLEST: &str =
+    "header h { f : 8; } next accept;\naction send() { out_port = 1; }\ntable t { default send(); }\ncontrol { apply t; }\n";
+
+/// The image of the smallest program; each field has a word of its own.
+const SMALLEST_IMAGE: [u8; 95] = [
+    0x52, 0x4d, 0x54, 0x49, 0x00, 0x01, 0x00, 0x40, 0x00, 0x09, 0x41, 0x00, 0x09, 0x00, 0x00, 0x01,
+    0x01, 0x01, 0x00, 0x01, 0x01, 0x01, 0x02, 0x00, 0x08, 0x00, 0x01, 0x00, 0x00, 0x01, 0x00, 0x00,
+    0x00, 0x00, 0x00, 0x00, 0x00, 0x00, 0x00, 0x01, 0x01, 0x00, 0x02, 0x01, 0x01, 0x00, 0x01, 0x00,
+    0x00, 0x00, 0x02, 0x00, 0x08, 0x01, 0x00, 0x00, 0x01, 0x01, 0x00, 0x00, 0x00, 0x00, 0x01, 0x00,
+    0x00, 0x00, 0x00, 0x00, 0x00, 0x00, 0x00, 0x00, 0x01, 0x41, 0x00, 0x09, 0x00, 0x02, 0x00, 0x00,
+    0x00, 0x01, 0x02, 0x00, 0x00, 0x00, 0x00, 0x00, 0x00, 0x00, 0x00, 0x00, 0x00, 0x00, 0x00,
+];
+
+fn text(alloc: Global, text: &str) -> Result<String, AllocError> {
+    String::from_str(alloc, text)
+}
+
+fn words(alloc: Global, words: &[&str]) -> Result<Vec<String>, AllocError> {
+    let mut all = Vec::new(alloc);
+    for word in words {
+        all.push(text(alloc, *word)?)?;
+    }
+    Ok(all)
+}
+
+/// A shelf with a program and its entries as `p` and `e`.
+fn shelf_of(alloc: Global, fails: &[u64], program: &str, entries: &str) -> Result<MemShelf, Fail> {
+    let mut shelf = MemShelf::new(fails.to_vec(alloc)?);
+    shelf.put_file(
+        &text(alloc, "p")?,
+        &Vec::from_slice(alloc, program.as_bytes())?,
+    )?;
+    shelf.put_file(
+        &text(alloc, "e")?,
+        &Vec::from_slice(alloc, entries.as_bytes())?,
+    )?;
+    Ok(shelf)
+}
+
+/// Compiles a program without entries, and looks at the status and the printed lines.
+fn expect_compiled(
+    rt: &(impl Abort + AllocGlobal),
+    program: &str,
+    status: Status,
+    printed: &str,
+) -> Result<(), Fail> {
+    let alloc = rt.alloc();
+    let mut shelf = shelf_of(alloc, &[], program, "")?;
+    let mut out = MemSink::new(Vec::new(alloc), 7);
+    let answer = rmt(
+        alloc,
+        &words(alloc, &["compile", "p", "e", "i"])?,
+        &mut shelf,
+        &mut out,
+    );
+    assert_eq!(rt; answer, status, "{program}");
+    assert_eq!(rt; out.bytes().as_slice(), printed.as_bytes(), "{program}");
+    Ok(())
+}
+
+const NOT_SMALL: &str = "bad program 0 line 1 column 1\n";
+
+#[test]
+fn texts_of_the_small_form(rt: HostRuntime) -> Result<(), Fail> {
+    for (program, printed) in [
+        (SMALLEST, "stages 1 latency 12\n"),
+        (
+            "header h { f : 8; } next accept; control { }",
+            "stages 0 latency 0\n",
+        ),
+        (
+            "header h{f:008;}next accept;action a(){drop=1;}action b(){}table t{default b();}table u{default a();}control{apply u;apply t;}",
+            "stages 2 latency 24\n",
+        ),
+        (
+            "header _ { _ : 8 ; } next accept ;\r\n\taction _ ( ) { out_port = 511 ; } control { }\n",
+            "stages 0 latency 0\n",
+        ),
+    ] {
+        expect_compiled(&rt, program, Status::Done, printed)?;
+    }
+    Ok(())
+}
+
+#[test]
+fn texts_of_another_form(rt: HostRuntime) -> Result<(), Fail> {
+    for program in [
+        "",
+        "@",
+        "header h { f : 7; } next accept; control { }",
+        "header h { f : 8; } next accept; control { } control { }",
+        "header h { f : 8; } next accept; // none\ncontrol { }",
+        "header h { f : 0x8; } next accept; control { }",
+        "header apply { f : 8; } next accept; control { }",
+        "header h { f : 8; } next accept; action a() { out_port = 512; } control { }",
+        "header h { f : 8; } next accept; action a() { drop = 2; } control { }",
+        "header h { f : 8; } next accept; action a() { drop = 1; drop = 0; } control { }",
+        "header h { f : 8; } next accept; action a() { } action a() { } control { }",
+        "header h { f : 8; } next accept; action a() { } table t { default b(); } control { apply t; }",
+        "header h { f : 8; } next accept; action a() { } table t { default a(); } control { }",
+        "header h { f : 8; } next accept; action a() { } table t { default a(); } control { apply t; apply t; }",
+        "header h { f : 8; } next accept; action a() { } table t { default a(); } control { apply u; }",
+    ] {
+        expect_compiled(&rt, program, Status::BadProgram, NOT_SMALL)?;
+    }
+    Ok(())
+}
+
+#[test]
+fn smallest_image(rt: HostRuntime) -> Result<(), Fail> {
+    let alloc = rt.alloc();
+    let mut shelf = shelf_of(alloc, &[], SMALLEST, "")?;
+    let mut out = MemSink::new(Vec::new(alloc), 1);
+    let answer = rmt(
+        alloc,
+        &words(alloc, &["compile", "p", "e", "i"])?,
+        &mut shelf,
+        &mut out,
+    );
+    assert_eq!(rt; answer, Status::Done);
+    assert_eq!(rt; out.bytes().as_slice(), b"stages 1 latency 12\n".as_slice());
+    let image = shelf.file(&text(alloc, "i")?).expect(&rt, "the image");
+    assert_eq!(rt; image.as_slice(), SMALLEST_IMAGE.as_slice());
+    Ok(())
+}
+
+#[test]
+fn words_and_files(rt: HostRuntime) -> Result<(), Fail> {
+    let alloc = rt.alloc();
+    for (line, status, printed) in [
+        (
+            ["compile", "p", "e", ""].as_slice(),
+            Status::Done,
+            "stages 1 latency 12\n",
+        ),
+        (["compile", "a", "b"].as_slice(), Status::Usage, ""),
+        (["--help"].as_slice(), Status::Usage, ""),
+        ([].as_slice(), Status::Usage, ""),
+        (["compile", "a", "e", "i"].as_slice(), Status::ReadFault, ""),
+        (["compile", "p", "a", "i"].as_slice(), Status::ReadFault, ""),
+        (
+            ["compile", "p", "p", "i"].as_slice(),
+            Status::BadEntries,
+            "bad entries 0 line 1\n",
+        ),
+        (
+            ["compile", "e", "p", "i"].as_slice(),
+            Status::BadProgram,
+            NOT_SMALL,
+        ),
+    ] {
+        let mut shelf = shelf_of(alloc, &[], SMALLEST, "")?;
+        let mut out = MemSink::new(Vec::new(alloc), 3);
+        let answer = rmt(alloc, &words(alloc, line)?, &mut shelf, &mut out);
+        assert_eq!(rt; answer, status, "{line:?}");
+        assert_eq!(rt; out.bytes().as_slice(), printed.as_bytes(), "{line:?}");
+    }
+    Ok(())
+}
+
+#[test]
+fn each_call_of_the_outside_fails(rt: HostRuntime) -> Result<(), Fail> {
+    let alloc = rt.alloc();
+    for (shelf_call, sink_call, status, printed, stands) in [
+        (1u64, 9u64, Status::ReadFault, "", false),
+        (2, 9, Status::ReadFault, "", false),
+        (3, 9, Status::WriteFault, "", false),
+        (9, 1, Status::WriteFault, "", true),
+        (9, 2, Status::WriteFault, "stages 1", true),
+        (9, 3, Status::WriteFault, "stages 1 latency", true),
+        (9, 9, Status::Done, "stages 1 latency 12\n", true),
+    ] {
+        let mut shelf = shelf_of(alloc, &[shelf_call], SMALLEST, "")?;
+        let mut out = MemSink::new([sink_call].to_vec(alloc)?, 8);
+        let answer = rmt(
+            alloc,
+            &words(alloc, &["compile", "p", "e", "i"])?,
+            &mut shelf,
+            &mut out,
+        );
+        assert_eq!(rt; answer, status, "{shelf_call} {sink_call}");
+        assert_eq!(rt;
+            out.bytes().as_slice(),
+            printed.as_bytes(),
+            "{shelf_call} {sink_call}"
+        );
+        let image = shelf.file(&text(alloc, "i")?);
+        assert_eq!(rt; image.is_some(), stands, "{shelf_call} {sink_call}");
+    }
+    Ok(())
+}
+
+#[test]
+fn a_text_of_one_byte_too_many(rt: HostRuntime) -> Result<(), Fail> {
+    let alloc = rt.alloc();
+    for (length, status) in [
+        (1_048_576usize, Status::BadProgram),
+        (1_048_577, Status::TooLong),
+    ] {
+        let mut shelf = MemShelf::new(Vec::new(alloc));
+        shelf.put_file(&text(alloc, "p")?, &vec![in alloc; b'{'; length]?)?;
+        shelf.put_file(&text(alloc, "e")?, &Vec::new(alloc))?;
+        let mut out = MemSink::new(Vec::new(alloc), 100);
+        let answer = rmt(
+            alloc,
+            &words(alloc, &["compile", "p", "e", "i"])?,
+            &mut shelf,
+            &mut out,
+        );
+        assert_eq!(rt; answer, status, "{length}");
+    }
+    Ok(())
+}
