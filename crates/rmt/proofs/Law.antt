@@ -70,7 +70,7 @@ fits_named actions name h = of (find (λ (a : SmallAction). same_name name a.nam
     of (Some a) e = found_holds (λ (a : SmallAction). EffectFits a.effect) (λ (a : SmallAction). same_name name a.name) actions a h e
 
 -- the numbers that a table sets fit
-fits_of : (s : SmallProgram) → IsSmall s → (name : List ℕ) → EffectFits (effect_of s name)
+pub fits_of : (s : SmallProgram) → IsSmall s → (name : List ℕ) → EffectFits (effect_of s name)
 fits_of s small name = of (find (λ (t : SmallTable). same_name name t.name) s.tables)
   where
     of : (o : Option SmallTable) → EffectFits (unwrap_or (option_map (λ (t : SmallTable). effect_named s.actions t.default_action) o) Nothing)
@@ -78,7 +78,7 @@ fits_of s small name = of (find (λ (t : SmallTable). same_name name t.name) s.t
     of (Some t) = fits_named s.actions t.default_action small.effects
 
 -- the words behind the stages hold the state behind the nodes
-states_behind : (effect : List ℕ → Effect) → ((name : List ℕ) → EffectFits (effect name)) → (names : List (List ℕ)) (words : Words) →
+pub states_behind : (effect : List ℕ → Effect) → ((name : List ℕ) → EffectFits (effect name)) → (names : List (List ℕ)) (words : Words) →
     fold state_after (state_in places words) (map effect names) ≡ state_in places (fold words_after words (map effect names))
 states_behind effect fits [] words = refl
 states_behind effect fits (name ∷ names) words =
@@ -143,10 +143,10 @@ zeros zero node = refl
 zeros (suc n) zero = refl
 zeros (suc n) (suc node) = zeros n node
 
-abbrev first_life : Words → Life
+abbrev pub first_life : Words → Life
 first_life words = record { word = λ age. words; outcomes = replicate 256 0; counted = [] }
 
-before_all : (words : Words) → Before 0 (first_life words) words
+pub before_all : (words : Words) → Before 0 (first_life words) words
 before_all words = record { steady = λ age h. refl; waiting = λ node h. zeros 256 node; uncounted = refl }
 
 -- a packet's words at its end

@@ -11,6 +11,7 @@ use Rattle.std.proofs.lemmas.List.{length-map}
 use Rattle.rmt.specs.SmallForm.{Steps, effect_of, steps_of}
 use Rattle.rmt.specs.Promises.{Makes, compile_lines}
 use Rattle.rmt.proofs.Law.{small_config-same}
+use Rattle.rmt.proofs.StateLaw.{small_config-keeps}
 use Rattle.rmt.specs.SmallConfig.{small_config, stage_of, stages_from, operations_of}
 
 operations_fit : (e : Effect) → length (operations_of e) < 2 ^ 8
@@ -82,6 +83,7 @@ makes text entries image lines steps h none is told = record {
   image_is = is ∙ ap (λ l. spelled (small_config l)) h.steps_are;
   same_runs = small_config-same h.parts h.means.form;
   stands = refl;
+  keeps_state = small_config-keeps h.parts h.means.form;
   image_is_short = let P : List ℕ → Type 0 = λ bytes. length bytes ≤ 268435456 in subst P (sym is) (image_is_short steps (steps_are_few text steps h));
   lines_are = told ∙ ap compile_lines (length-steps text steps h);
 }

@@ -6,8 +6,8 @@ use Rattle.rmt_config.specs.Spelling.{spelled}
 use Rattle.rmt.specs.declared.status.Status.{Status}
 use Rattle.rmt.specs.declared.status.Status.TheVariants.{Done, Usage, ReadFault, WriteFault, BadProgram, BadEntries, NoFit, BadImage, BadPackets, TooLong, NoMemory}
 use Rattle.rmt.specs.SmallForm.{SmallProgram, Means, program_of, steps_of}
-use Rattle.rmt.specs.SmallConfig.{small_config}
-use Rattle.rmt.specs.SameRuns.{SameRuns, no_entries}
+use Rattle.rmt.specs.SmallConfig.{small_config, places}
+use Rattle.rmt.specs.SameRuns.{SameRuns, KeepsState, no_entries}
 
 -- the bytes of files by name
 abbrev pub Files : Type 0
@@ -59,6 +59,7 @@ pub record Makes (text entries image lines : List ℕ) : Type 0 where
   pub image_is : image ≡ spelled config
   pub same_runs : SameRuns config (program_of parts) (no_entries (program_of parts))
   pub stands : config ≡ small_config (steps_of parts)
+  pub keeps_state : KeepsState config (program_of parts) (no_entries (program_of parts)) places
   pub image_is_short : length image ≤ image_limit
   pub lines_are : lines ≡ compile_lines (length parts.applied)
 

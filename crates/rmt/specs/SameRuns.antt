@@ -1,5 +1,5 @@
 -- A configuration's chip run answers what a program gives when it is run table by table, one packet after another.
-use Rattle.std.specs.Prelude.{◌≡◌, ℕ, List, [], All, map}
+use Rattle.std.specs.Prelude.{◌≡◌, ℕ, ◌*◌, ◌≤◌, List, [], All, map, take, length, replicate, slice_index}
 use Rattle.rmt_bits.specs.Packet.{Packet, IsPacket}
 use Rattle.rmt_bits.specs.declared.lane.Lane.{Lane}
 use Rattle.rmt_bits.specs.declared.answer.Answer.{Answer}
@@ -7,10 +7,11 @@ use Rattle.rmt_bits.specs.declared.answer.Verdict.{Verdict}
 use Rattle.rmt_ast.specs.declared.program.Program.{Program}
 use Rattle.rmt_ast.specs.declared.program.Node.{Node}
 use Rattle.rmt_ast.specs.declared.entry.Entry.{Entry}
+use Rattle.rmt_ast.specs.Control.{run_from}
 use Rattle.rmt_ast.specs.Answers.{answers_of, counts_of}
 use Rattle.rmt_config.specs.declared.config.Config.{Config}
-use Rattle.rmt_config.specs.Life.{Words, key_of}
-use Rattle.rmt_config.specs.ChipRun.{Outcome, outcomes_of, chip_counts_of, inputs_of}
+use Rattle.rmt_config.specs.Life.{Words, Ages, key_of, life_of}
+use Rattle.rmt_config.specs.ChipRun.{Outcome, own_look, outcomes_of, chip_counts_of, inputs_of}
 
 -- the verdict and the bytes of an answer
 abbrev pub told_by_answer : Answer → Verdict × List ℕ
@@ -31,3 +32,16 @@ pub record SameRuns (c : Config) (p : Program) (entries : List (List Entry)) : T
 -- the state that words hold: each field's number stands in its places
 abbrev pub state_in : List (List Lane) → Words → List ℕ
 state_in places words = map (λ lanes. key_of words lanes) places
+
+-- the words of a packet behind the first k stages, at an age, from the vector that entered them
+abbrev pub words_behind : Config → ℕ → List ℕ → Ages
+words_behind c k vector = (life_of (own_look c) (take k c.stages) vector).word
+
+-- the state behind the first k nodes, from the state in front of them
+abbrev pub state_behind : Program → List (List Entry) → ℕ → List ℕ → List ℕ
+state_behind p entries k state =
+    (run_from p entries 0 (take k p.nodes) (record { state = state; outcomes = replicate (length p.nodes) 0; hits = [] })).state
+
+-- behind stage k a packet's words hold the state that the program has behind node k, from the age on at which all writes of these stages are seen
+pub record KeepsState (c : Config) (p : Program) (entries : List (List Entry)) (places : List (List Lane)) : Type 0 where
+  pub behind : (vector : List ℕ) (k age : ℕ) → 12 * k ≤ age → state_in places (words_behind c k vector age) ≡ state_behind p entries k (state_in places (λ w. slice_index vector w))
