@@ -212,3 +212,17 @@ abbrev pub stop_and_on : List (List Entry)
 stop_and_on =
     (entry 0 0 7 255 [] ∷ record { table = 0; number = 1; tests = record { value = 8; mask = 255 } ∷ []; rank = 0; action = 1; args = [] } ∷ [])
     ∷ [] ∷ [] ∷ [] ∷ []
+
+-- header h { a : 8; b : 8; } and a table exact on both, whose action sends a packet back where it came from; the default does nothing
+abbrev pub two_keys : Program
+two_keys = record {
+  fields = with_fields (field (codes "h.a") 8 ∷ field (codes "h.b") 8 ∷ []);
+  headers = header (4 ∷ 5 ∷ []) 2 ∷ [];
+  actions = action (codes "back") [] (record { dest = 1; expr = One (leaf.Field 0) } ∷ []) ∷ action (codes "no") [] [] ∷ [];
+  tables = record { name = codes "t"; kind = Exact; key = 4 ∷ 5 ∷ []; actions = 0 ∷ []; default = 1; args = []; size = 4; counted = false } ∷ [];
+  nodes = apply_table 0 ∷ [];
+}
+
+-- its entry `t 1 2 back`
+abbrev pub both_keys : List (List Entry)
+both_keys = (record { table = 0; number = 0; tests = record { value = 1; mask = 255 } ∷ record { value = 2; mask = 255 } ∷ []; rank = 0; action = 0; args = [] } ∷ []) ∷ []
