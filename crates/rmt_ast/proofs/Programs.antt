@@ -1,5 +1,5 @@
 -- Programs and entries that the examples run, written out.
-use Rattle.std.specs.Prelude.{ℕ, List, [], ◌∷◌, codes, None, Some, true, false}
+use Rattle.std.specs.Prelude.{ℕ, List, [], ◌∷◌, ◌++◌, codes, None, Some, true, false}
 use Rattle.rmt_bits.specs.Packet.{Packet}
 use Rattle.rmt_ast.specs.declared.program.Program.{Program}
 use Rattle.rmt_ast.specs.declared.program.Field.{Field}
@@ -226,3 +226,12 @@ two_keys = record {
 -- its entry `t 1 2 back`
 abbrev pub both_keys : List (List Entry)
 both_keys = (record { table = 0; number = 0; tests = record { value = 1; mask = 255 } ∷ record { value = 2; mask = 255 } ∷ []; rank = 0; action = 0; args = [] } ∷ []) ∷ []
+
+-- the same with a second table, which is exact on h.a
+abbrev pub two_hits : Program
+two_hits = record two_keys {
+  tables =
+      two_keys.tables
+      ++ record { name = codes "u"; kind = Exact; key = 4 ∷ []; actions = 1 ∷ []; default = 1; args = []; size = 4; counted = false } ∷ [];
+  nodes = apply_table 0 ∷ apply_table 1 ∷ [];
+}
