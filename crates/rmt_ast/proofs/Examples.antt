@@ -1,9 +1,9 @@
 -- Programs whose answers are known.
-use Rattle.std.specs.Prelude.{◌≡◌, ℕ, List, [], ◌∷◌, refl}
+use Rattle.std.specs.Prelude.{◌≡◌, ℕ, List, [], ◌∷◌, ◌++◌, refl}
 use Rattle.rmt_bits.specs.declared.answer.Verdict.TheVariants.{Short, Reject, Dropped, Sent}
 use Rattle.rmt_bits.specs.declared.answer.Answer.{Answer}
 use Rattle.rmt_ast.specs.Answers.{answers_of, counts_of}
-use Rattle.rmt_ast.proofs.Programs.{packet, assignments_in_order, too_deep, operators, strict_and_weak, one_entry, prefix, prefixes, ternary, priorities, two_headers, other_headers, gate, arms, stop_and_on}
+use Rattle.rmt_ast.proofs.Programs.{packet, assignments_in_order, too_deep, operators, strict_and_weak, one_entry, prefix, prefixes, ternary, priorities, two_headers, other_headers, gate, arms, stop_and_on, two_keys, two_hits, both_keys}
 
 abbrev sent : ℕ → List ℕ → List ℕ → Answer
 sent port bytes hits = record { verdict = Sent port; bytes = bytes; hits = hits }
@@ -60,3 +60,12 @@ arms_answers = refl
 pub arms_counts : counts_of arms stop_and_on (packet 0 (7 ∷ 1 ∷ []) ∷ packet 0 (9 ∷ []) ∷ packet 0 (7 ∷ []) ∷ [])
     ≡ record { entry = 0; packets = 2; bytes = 3 } ∷ record { entry = 1; packets = 0; bytes = 0 } ∷ []
 arms_counts = refl
+
+-- every field of the key must match; in_port is the port that the packet came in on
+pub two_keys_answers : answers_of two_keys both_keys (packet 300 (1 ∷ 2 ∷ []) ∷ packet 300 (1 ∷ 3 ∷ []) ∷ []) ≡ sent 300 (1 ∷ 2 ∷ []) (0 ∷ []) ∷ sent 0 (1 ∷ 3 ∷ []) [] ∷ []
+two_keys_answers = refl
+
+-- the entries that a packet hits stand in the order of the nodes
+pub two_hits_answers : answers_of two_hits (both_keys ++ (record { table = 1; number = 4; tests = record { value = 1; mask = 255 } ∷ []; rank = 0; action = 0; args = [] } ∷ []) ∷ []) (packet 300 (1 ∷ 2 ∷ []) ∷ [])
+    ≡ sent 300 (1 ∷ 2 ∷ []) (0 ∷ 4 ∷ []) ∷ []
+two_hits_answers = refl

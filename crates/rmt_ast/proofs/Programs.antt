@@ -1,5 +1,5 @@
 -- Programs and entries that the examples run, written out.
-use Rattle.std.specs.Prelude.{ℕ, List, [], ◌∷◌, codes, None, Some, true, false}
+use Rattle.std.specs.Prelude.{ℕ, List, [], ◌∷◌, ◌++◌, codes, None, Some, true, false}
 use Rattle.rmt_bits.specs.Packet.{Packet}
 use Rattle.rmt_ast.specs.declared.program.Program.{Program}
 use Rattle.rmt_ast.specs.declared.program.Field.{Field}
@@ -212,3 +212,26 @@ abbrev pub stop_and_on : List (List Entry)
 stop_and_on =
     (entry 0 0 7 255 [] ∷ record { table = 0; number = 1; tests = record { value = 8; mask = 255 } ∷ []; rank = 0; action = 1; args = [] } ∷ [])
     ∷ [] ∷ [] ∷ [] ∷ []
+
+-- header h { a : 8; b : 8; } and a table exact on both, whose action sends a packet back where it came from; the default does nothing
+abbrev pub two_keys : Program
+two_keys = record {
+  fields = with_fields (field (codes "h.a") 8 ∷ field (codes "h.b") 8 ∷ []);
+  headers = header (4 ∷ 5 ∷ []) 2 ∷ [];
+  actions = action (codes "back") [] (record { dest = 1; expr = One (leaf.Field 0) } ∷ []) ∷ action (codes "no") [] [] ∷ [];
+  tables = record { name = codes "t"; kind = Exact; key = 4 ∷ 5 ∷ []; actions = 0 ∷ []; default = 1; args = []; size = 4; counted = false } ∷ [];
+  nodes = apply_table 0 ∷ [];
+}
+
+-- its entry `t 1 2 back`
+abbrev pub both_keys : List (List Entry)
+both_keys = (record { table = 0; number = 0; tests = record { value = 1; mask = 255 } ∷ record { value = 2; mask = 255 } ∷ []; rank = 0; action = 0; args = [] } ∷ []) ∷ []
+
+-- the same with a second table, which is exact on h.a
+abbrev pub two_hits : Program
+two_hits = record two_keys {
+  tables =
+      two_keys.tables
+      ++ record { name = codes "u"; kind = Exact; key = 4 ∷ []; actions = 1 ∷ []; default = 1; args = []; size = 4; counted = false } ∷ [];
+  nodes = apply_table 0 ∷ apply_table 1 ∷ [];
+}

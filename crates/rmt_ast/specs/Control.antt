@@ -23,6 +23,7 @@ abbrev pub runs : Option Guard → List ℕ → Bool
 runs None outcomes = true
 runs (Some g) outcomes = g.mask / 2 ^ slice_index outcomes g.parent % 2 == 1
 
+-- what an action of the program leaves of a state
 abbrev pub act_of : Program → ℕ → List ℕ → List ℕ → List ℕ
 act_of p action args s = unwrap_or (option_map (λ (a : Action). acted p a.assigns args s) (slice_get p.actions action)) s
 
@@ -37,6 +38,7 @@ applied_table p n t (Some e) r =
       hits = r.hits ++ e.number ∷ [];
     }
 
+-- what a node that runs does: a table acts by what it hits, and an `if` gives 2 or 1
 abbrev pub done_by : Program → List Entry → ℕ → What → Run → Run
 done_by p es n (Apply table) r =
     unwrap_or (option_map (λ (t : Table). applied_table p n t (hit_of t.kind t.key es r.state) r) (slice_get p.tables table)) r
@@ -50,5 +52,6 @@ run_from p lists n (node ∷ nodes) r =
     run_from p lists (n + 1) nodes
     (if runs node.guard r.outcomes then done_by p (unwrap_or (slice_get lists n) []) n node.what r else r)
 
+-- all nodes over a state; no node has an outcome at first
 abbrev pub run : Program → List (List Entry) → List ℕ → Run
 run p lists s = run_from p lists 0 p.nodes (record { state = s; outcomes = replicate (length p.nodes) 0; hits = [] })

@@ -29,6 +29,7 @@ use Rattle.rmt_ast.specs.State.{width_of}
 abbrev pub AllNumbered : {X : Type 0} → (ℕ → X → Type 0) → List X → Type 0
 AllNumbered {X} P xs = (n : ℕ) (x : X) → slice_get xs n ≡ Some x → P n x
 
+-- no item stands twice
 abbrev pub AreDistinct : {X : Type 0} → List X → Type 0
 AreDistinct xs = AllPairs (λ x y. x ≢ y) xs
 
@@ -105,6 +106,7 @@ IsOp width And = ⊤
 IsOp width Or = ⊤
 IsOp width Xor = ⊤
 
+-- an expression of that width
 abbrev pub IsExpr : Program → List ℕ → ℕ → Expr → Type 0
 IsExpr p params width (One x) = IsLeaf p params width x
 IsExpr p params width (Two op x y) = IsOp width op × IsLeaf p params width x × IsLeaf p params width y
@@ -115,6 +117,7 @@ pub record IsAssign (p : Program) (params : List ℕ) (a : Assign) : Type 0 wher
   pub is_not_in_port : a.dest ≢ 0
   pub expr : IsExpr p params (width_of p a.dest) a.expr
 
+-- an action of at most 16 parameters and 64 assignments
 pub record IsAction (p : Program) (a : Action) : Type 0 where
   pub params : All IsWidth a.params
   pub few_params : length a.params ≤ 16
@@ -125,12 +128,14 @@ pub record IsAction (p : Program) (a : Action) : Type 0 where
 abbrev pub Takes : Program → ℕ → List ℕ → Type 0
 Takes p action args = IsSomeAnd (slice_get p.actions action) (λ (a : Action). AllZip Fits a.params args)
 
+-- a table without a key has no list of actions, no size, and is not counted
 pub record IsKeyless (t : Table) : Type 0 where
   pub key : t.key ≡ []
   pub actions : t.actions ≡ []
   pub size : t.size ≡ 0
   pub counted : t.counted ≡ false
 
+-- a table with a key of at most 640 bits, and a size of at most 1,048,576
 pub record IsKeyed (p : Program) (t : Table) : Type 0 where
   pub has_key : 1 ≤ length t.key
   pub key_fields : All (λ f. f < length p.fields) t.key
@@ -147,6 +152,7 @@ HasKey p Exact t = IsKeyed p t
 HasKey p Prefix t = IsKeyed p t × (length t.key ≡ 1)
 HasKey p Ternary t = IsKeyed p t
 
+-- a table with at most 14 actions, none of them twice, and a default with its arguments
 pub record IsTable (p : Program) (t : Table) : Type 0 where
   pub key : HasKey p t.kind t
   pub actions : All (λ a. a < length p.actions) t.actions
@@ -159,10 +165,12 @@ abbrev pub IsGuard : ℕ → Option Guard → Type 0
 IsGuard n None = ⊤
 IsGuard n (Some g) = (g.parent < n) × (g.mask % 2 ≡ 0)
 
+-- a node applies a table of the program, or tests a field
 abbrev pub IsWhat : Program → What → Type 0
 IsWhat p (Apply t) = t < length p.tables
 IsWhat p (Gate f test) = (f < length p.fields) × IsTest (width_of p f) test
 
+-- node n
 pub record IsNode (p : Program) (n : ℕ) (node : Node) : Type 0 where
   pub guard : IsGuard n node.guard
   pub what : IsWhat p node.what

@@ -11,6 +11,7 @@ use Rattle.rmt_config.specs.declared.config.CellNumber.{CellNumber}
 use Rattle.rmt_config.specs.declared.config.Memory.{Memory}
 use Rattle.rmt_config.specs.declared.config.Memory.TheVariants.{Without, Exact, Ternary}
 
+-- the quotient, rounded up
 abbrev pub divided_up : ℕ → ℕ → ℕ
 divided_up a b = (a + b - 1) / b
 
@@ -76,6 +77,7 @@ row_record sram records held r = record_at sram records 2048 (held + 8) (r / 204
 abbrev pub is_in_use : ℕ → Bool
 is_in_use head = head % 2 == 1
 
+-- the number of an instruction in a head
 abbrev pub code_of : ℕ → ℕ
 code_of head = slice head 3 5
 

@@ -29,6 +29,7 @@ slot_look seed stage None key = None
 slot_look seed stage (Some (Gate g)) key = None
 slot_look seed stage (Some (Slot slot)) key = look_up seed stage slot (key_bits slot.keys) key
 
+-- the look-up function that a configuration has by itself
 abbrev pub own_look : Config → Look
 own_look c k place key = option_and_then (λ (stage : Stage). slot_look c.seed stage (slice_get stage.units place) key) (slice_get c.stages k)
 
@@ -38,9 +39,11 @@ pub record Outcome : Type 0 where
   pub bytes : List ℕ
   pub counted : List Counted
 
+-- the bytes of a header whose valid lane is 1, by its lanes, and none of another
 abbrev pub header_bytes : Words → OutHeader → List ℕ
 header_bytes words h = if lane_of words h.valid == 1 then bytes_of h.bytes (key_of words h.pieces) else []
 
+-- what becomes of a packet that the parser accepted, by its words at the age at which it leaves
 abbrev pub finished : Config → List ℕ → Life → Outcome
 finished c payload life =
     let words = life.word (latency_of c.stages) in
@@ -48,11 +51,13 @@ finished c payload life =
     then record { verdict = verdict.Dropped; bytes = []; counted = life.counted }
     else record { verdict = verdict.Sent (lane_of words c.out_port); bytes = flat_map (header_bytes words) c.headers ++ payload; counted = life.counted }
 
+-- what becomes of a packet by its parse; on one that is short or rejected no unit runs
 abbrev pub outcome_from : Look → Config → Packet → Parse → Outcome
 outcome_from look c packet Short = record { verdict = verdict.Short; bytes = []; counted = [] }
 outcome_from look c packet Reject = record { verdict = verdict.Reject; bytes = []; counted = [] }
 outcome_from look c packet (Accept vector used) = finished c (drop used packet.frame) (life_of look c.stages (put vector c.in_port packet.port))
 
+-- what becomes of a packet under a look-up function
 abbrev pub outcome_of : Look → Config → Packet → Outcome
 outcome_of look c packet = outcome_from look c packet (parse c.parser packet.frame)
 
@@ -94,6 +99,7 @@ abbrev pub unit_numbers : Unit → List ℕ
 unit_numbers (Gate g) = []
 unit_numbers (Slot slot) = if slot.counted then map (λ (n : CellNumber). n.number) slot.numbers else []
 
+-- the numbers that a configuration counts
 abbrev pub counted_numbers : Config → List ℕ
 counted_numbers c = flat_map (λ (stage : Stage). flat_map unit_numbers stage.units) c.stages
 
@@ -121,5 +127,6 @@ words_from look c packet Short age w = 0
 words_from look c packet Reject age w = 0
 words_from look c packet (Accept vector used) age w = (life_of look c.stages (put vector c.in_port packet.port)).word age w
 
+-- the words of a packet at an age
 abbrev pub words_at : Look → Config → Packet → ℕ → Words
 words_at look c packet = words_from look c packet (parse c.parser packet.frame)

@@ -23,6 +23,7 @@ use Rattle.rmt_config.specs.Cells.{Found}
 abbrev pub Words : Type 0
 Words = ℕ → ℕ
 
+-- the words of a packet at each age
 abbrev pub Ages : Type 0
 Ages = ℕ → Words
 
@@ -46,6 +47,7 @@ pub record Life : Type 0 where
   pub outcomes : List ℕ
   pub counted : List Counted
 
+-- the bits of a lane
 abbrev pub lane_of : Words → Lane → ℕ
 lane_of words lane = slice (words lane.word) lane.low lane.len
 
@@ -53,6 +55,7 @@ lane_of words lane = slice (words lane.word) lane.low lane.len
 abbrev pub key_of : Words → List Lane → ℕ
 key_of words lanes = fold (λ n lane. 2 ^ lane.len * n + lane_of words lane) 0 lanes
 
+-- how many bits lanes have together
 abbrev pub key_bits : List Lane → ℕ
 key_bits lanes = sum (map (λ (lane : Lane). lane.len) lanes)
 
@@ -62,6 +65,7 @@ source_of words held len (Word w low) = slice (words w) low len
 source_of words held len (Held low) = slice held low len
 source_of words held len (Constant value) = value
 
+-- an operation on two numbers of that many bits
 abbrev pub computed : OpKind → ℕ → ℕ → ℕ → ℕ
 computed kind.Copy len a b = a
 computed kind.Add len a b = (a + b) % 2 ^ len
@@ -85,6 +89,7 @@ abbrev pub guarded : Option UnitGuard → List ℕ → Bool
 guarded None outcomes = true
 guarded (Some g) outcomes = g.mask / 2 ^ slice_index outcomes g.parent % 2 == 1
 
+-- whether a unit runs, by the outcomes so far
 abbrev pub runs : ℕ → Option UnitGuard → List ℕ → Bool
 runs node guard outcomes = guarded guard outcomes && (slice_index outcomes node == 0)
 
@@ -97,9 +102,11 @@ pub record Acts : Type 0 where
   pub base : ℕ
   pub place : ℕ
 
+-- every test of a gate passes
 abbrev pub gate_passes : Words → List GateTest → Bool
 gate_passes words tests = list_all (λ (t : GateTest). bit_and (lane_of words t.lane) t.mask == t.value) tests
 
+-- an instruction of a stage, by its number
 abbrev pub code_at : Stage → ℕ → List Operation
 code_at stage i = unwrap_or (option_map (λ (v : Vliw). v.ops) (slice_get stage.code i)) []
 
@@ -118,11 +125,13 @@ slot_acts stage slot None a =
     }
     else a
 
+-- only a slot with memory looks its key up
 abbrev pub has_memory : Memory → Bool
 has_memory Without = false
 has_memory (Exact k p d w ks rs cs) = true
 has_memory (Ternary d ks rs cs) = true
 
+-- what a slot finds for the key that it reads from these words
 abbrev pub looked_up : Look → ℕ → ℕ → Words → SlotUnit → Option Found
 looked_up look k place words slot = if has_memory slot.memory then look k place (key_of words slot.keys) else None
 
@@ -137,20 +146,23 @@ unit_acts look k stage words a (Slot slot) =
     then slot_acts stage slot (looked_up look k a.place words slot) a
     else a) { place = a.place + 1; base = a.base + slot.actions + 1 }
 
+-- all units of a stage in order, from the outcomes that earlier stages left
 abbrev pub acts_of : Look → ℕ → Stage → Words → List ℕ → Acts
 acts_of look k stage words outcomes =
     fold (unit_acts look k stage words) (record { outcomes = outcomes; running = []; counted = []; base = 0; place = 0 }) stage.units
 
+-- the first of two that is there
 abbrev pub or_else : {A : Type 0} → Option A → Option A → Option A
 or_else (Some x) o = Some x
 or_else None o = o
 
--- the word that the last running unit with an operation on it writes, from the words at that age
+-- the word that the last running unit with an operation on it writes, from the words that it reads; the last unit stands first
 abbrev pub word_after : List Running → Words → ℕ → Option ℕ
 word_after [] words w = None
 word_after (r ∷ rs) words w = or_else (option_map (written words r.held) (op_on w r.ops)) (word_after rs words w)
 
--- the life through one more stage; it has number k
+-- the life through one more stage, which has number k: keys and tests are read at its start, operands and old words
+-- 9 cycles later, and whole words are written 12 cycles after the start and seen from then on
 abbrev pub through : Look → ℕ → Stage → Life → Life
 through look k stage life =
     let acts = acts_of look k stage (life.word stage.start) life.outcomes in
@@ -163,6 +175,7 @@ through look k stage life =
       counted = life.counted ++ reverse acts.counted;
     }
 
+-- the life through the stages from number k on
 abbrev pub through_from : Look → ℕ → List Stage → Life → Life
 through_from look k [] life = life
 through_from look k (stage ∷ stages) life = through_from look (k + 1) stages (through look k stage life)

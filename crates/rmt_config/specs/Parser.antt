@@ -28,6 +28,7 @@ high_bytes bytes = fold (λ n b. 256 * n + b) 0 (take 4 (bytes ++ 0 ∷ 0 ∷ 0 
 abbrev pub lookup_value : List ℕ → ℕ → ParserState → ℕ
 lookup_value frame cursor s = high_bytes (map (λ offset. slice_index frame (cursor + offset)) s.lookups)
 
+-- a vector after an extract: bits of the window, which begins at the cursor, or the bit 1
 abbrev pub extracted : List ℕ → List ℕ → Extract → List ℕ
 extracted window vector (Bits from lane) = put vector lane (bits_of_bytes window from lane.len)
 extracted window vector (One lane) = put vector lane 1
@@ -36,11 +37,13 @@ extracted window vector (One lane) = put vector lane 1
 abbrev pub entry_of : ParserConfig → ℕ → ℕ → Option ParserEntry
 entry_of parser state value = find (λ (e : ParserEntry). (e.state == state) && (bit_and value e.mask == e.value)) parser.entries
 
+-- where the parser goes; goes parses on from a state
 abbrev pub follow : (ℕ → ℕ → List ℕ → Parse) → Next → ℕ → List ℕ → Parse
 follow goes next.Accept cursor vector = Accept vector cursor
 follow goes next.Reject cursor vector = Reject
 follow goes (next.State s) cursor vector = goes s cursor vector
 
+-- one entry from a cursor on; without one the packet is rejected
 abbrev pub step : (ℕ → ℕ → List ℕ → Parse) → List ℕ → Option ParserEntry → ℕ → List ℕ → Parse
 step goes frame None cursor vector = Reject
 step goes frame (Some e) cursor vector =
