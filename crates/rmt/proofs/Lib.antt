@@ -1,2 +1,4 @@
 pub mod Examples
 pub mod SmallTokens
+pub mod SmallParts
+pub mod SmallNames

@@ -1,6 +1,8 @@
 //! The small form of a program text: one header of one byte, and tables without keys.
 
 pub mod fault;
+pub mod names;
+pub mod parser;
 pub mod tokens;
 
 /// What the one assignment of an action sets, if it has one.
