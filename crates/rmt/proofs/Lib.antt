@@ -2,3 +2,4 @@ pub mod Examples
 pub mod SmallTokens
 pub mod SmallParts
 pub mod SmallNames
+pub mod SmallLookups

@@ -6,7 +6,7 @@ use Rattle.rmt.specs.declared.small.tokens.Token.TheVariants as read
 use Rattle.rmt.specs.declared.small.parser.Named.{Named}
 use Rattle.rmt.specs.declared.small.parser.Table.{Table}
 use Rattle.rmt.specs.declared.small.parser.Parts.{Parts}
-use Rattle.rmt.specs.SmallForm.{SmallAction, SmallTable, SmallProgram, same_name, effect_named}
+use Rattle.rmt.specs.SmallForm.{SmallAction, SmallTable, SmallProgram, same_name, effect_named, is_among, action_names}
 use Rattle.rmt.specs.declared.small.Effect.{Effect}
 use Rattle.rmt.specs.Tokens.{Token, Word, Number, Sign, is_name_byte}
 
@@ -38,8 +38,11 @@ actions_seen actions = map action_seen actions
 abbrev pub tables_seen : List Table → List SmallTable
 tables_seen tables = map table_seen tables
 
+abbrev pub name_seen : Bor (List ℕ) → List ℕ
+name_seen name = name.now
+
 abbrev pub names_seen : List (Bor (List ℕ)) → List (List ℕ)
-names_seen names = map (λ (name : Bor (List ℕ)). name.now) names
+names_seen names = map name_seen names
 
 abbrev pub parts_seen : Parts → SmallProgram
 parts_seen p = record {
@@ -72,3 +75,7 @@ with_effect actions t = record { name = t.name; effect = effect_named actions t.
 -- an applied table with its effect
 abbrev pub applied_with_effect : List SmallAction → List ℕ → SmallAction
 applied_with_effect tables name = record { name = name; effect = effect_named tables name }
+
+-- the default action of a table is one of these
+abbrev pub has_default : List SmallAction → SmallTable → Bool
+has_default actions t = is_among (action_names actions) t.default_action

@@ -3,6 +3,7 @@
 pub mod fault;
 pub mod names;
 pub mod parser;
+pub mod resolve;
 pub mod tokens;
 
 /// What the one assignment of an action sets, if it has one.
