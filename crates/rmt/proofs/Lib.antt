@@ -3,3 +3,4 @@ pub mod SmallTokens
 pub mod SmallParts
 pub mod SmallNames
 pub mod SmallLookups
+pub mod SmallSteps

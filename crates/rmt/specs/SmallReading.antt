@@ -1,12 +1,13 @@
 -- What a reader has of a text, without where it lies in memory.
-use Rattle.std.specs.Prelude.{ℕ, List, [], ◌∷◌, Bool, false, map, Option, option_map, find}
+use Rattle.std.specs.Prelude.{◌≡◌, ℕ, ◌≤◌, List, [], ◌∷◌, Bool, true, false, map, length, All, Option, option_map, find}
+use Rattle.std.specs.List.{list_all}
 use Rattle.std.specs.Borrow.{Bor}
 use Rattle.rmt.specs.declared.small.tokens.Token.{Token as Read}
 use Rattle.rmt.specs.declared.small.tokens.Token.TheVariants as read
 use Rattle.rmt.specs.declared.small.parser.Named.{Named}
 use Rattle.rmt.specs.declared.small.parser.Table.{Table}
 use Rattle.rmt.specs.declared.small.parser.Parts.{Parts}
-use Rattle.rmt.specs.SmallForm.{SmallAction, SmallTable, SmallProgram, same_name, effect_named, is_among, action_names}
+use Rattle.rmt.specs.SmallForm.{SmallAction, SmallTable, SmallProgram, same_name, effect_named, is_among, is_name, action_names, table_names, are_distinct, EffectFits}
 use Rattle.rmt.specs.declared.small.Effect.{Effect}
 use Rattle.rmt.specs.Tokens.{Token, Word, Number, Sign, is_name_byte}
 
@@ -79,3 +80,26 @@ applied_with_effect tables name = record { name = name; effect = effect_named ta
 -- the default action of a table is one of these
 abbrev pub has_default : List SmallAction → SmallTable → Bool
 has_default actions t = is_among (action_names actions) t.default_action
+
+-- what parts keep that is seen without a look-up
+pub record KeepsRules (s : SmallProgram) : Type 0 where
+  pub header : is_name s.header ≡ true
+  pub field : is_name s.field ≡ true
+  pub named_actions : list_all (λ (a : SmallAction). is_name a.name) s.actions ≡ true
+  pub action_count : length s.actions ≤ 256
+  pub effects : All (λ (a : SmallAction). EffectFits a.effect) s.actions
+  pub named_tables : list_all (λ (t : SmallTable). is_name t.name) s.tables ≡ true
+  pub applied_count : length s.applied ≤ 32
+
+-- a program's parts without its header
+abbrev pub body_seen : List SmallAction → List SmallTable → List (List ℕ) → SmallProgram
+body_seen actions tables applied = record { header = []; field = []; actions = actions; tables = tables; applied = applied }
+
+-- what parts keep that look-ups show
+pub record Resolves (s : SmallProgram) : Type 0 where
+  pub actions_once : are_distinct (action_names s.actions) ≡ true
+  pub tables_once : are_distinct (table_names s.tables) ≡ true
+  pub defaults : list_all (has_default s.actions) s.tables ≡ true
+  pub applied_tables : list_all (is_among (table_names s.tables)) s.applied ≡ true
+  pub applied_once : are_distinct s.applied ≡ true
+  pub all_applied : list_all (is_among s.applied) (table_names s.tables) ≡ true

@@ -1,14 +1,14 @@
 //! What names stand for, and the rules that the grammar leaves.
 
-ghost use Rattle.std.specs.Prelude.{◌≡◌, Option, true, false, IfOk, IsErrOf, IsTrue, ◌↔◌, All, map};
+ghost use Rattle.std.specs.Prelude.{◌≡◌, Option, true, false, IfOk, IsErrOf, OnOk, OnErr, ◌<◌, ◌≤◌, length, IsTrue, ◌↔◌, All, map};
 ghost use Rattle.std.specs.List.{list_all};
-ghost use Rattle.rmt.specs.SmallForm.{EffectFits, SmallAction, SmallTable, action_names, table_names, are_distinct, is_among, is_name, effect_named};
-ghost use Rattle.rmt.specs.SmallReading.{actions_seen, tables_seen, names_seen, parts_seen, entries_seen, effect_at, with_effect, applied_with_effect, has_default};
+ghost use Rattle.rmt.specs.SmallForm.{EffectFits, SmallAction, SmallTable, action_names, table_names, are_distinct, is_among, is_name, effect_named, steps_of, IsSmall};
+ghost use Rattle.rmt.specs.SmallReading.{actions_seen, tables_seen, names_seen, parts_seen, entries_seen, effect_at, with_effect, applied_with_effect, has_default, body_seen, KeepsRules, Resolves};
 
 use crate::small::Effect;
 use crate::small::fault::SmallFault;
 use crate::small::names::is_name;
-use crate::small::parser::{Named, Table};
+use crate::small::parser::{Named, Parts, Table};
 use indexmap::IndexMap;
 use std::alloc::{AllocError, Global};
 
@@ -97,4 +97,65 @@ fn effects(alloc: Global, entries: &[Named<'_>]) -> Result<Vec<Effect>, AllocErr
         effects.push(entry.effect)?;
     }
     Ok(effects)
+}
+
+/// What the applied tables do, one after another.
+fn resolve(
+    alloc: Global,
+    actions: &[Named<'_>],
+    tables: &[Table<'_>],
+    applied: &[&[u8]],
+) -> Result<Vec<Effect>, SmallFault>
+    ensures resolves { IfOk result (λ _. Resolves (body_seen (actions_seen actions.now) (tables_seen tables.now) (names_seen applied.now))) }
+    ensures steps { IfOk result (λ v. v.items ≡ steps_of (body_seen (actions_seen actions.now) (tables_seen tables.now) (names_seen applied.now))) }
+    ensures none { IsErrOf result SmallFault.NotSmall → Resolves (body_seen (actions_seen actions.now) (tables_seen tables.now) (names_seen applied.now)) → ⊥ }
+{
+    let by_action = index(alloc, actions)?;
+    let tables = tables_with_effects(alloc, &by_action, tables)?;
+    let by_table = index(alloc, tables.as_slice())?;
+    let applied = applied_with_effects(alloc, &by_table, applied)?;
+    let by_applied = index(alloc, applied.as_slice())?;
+    if !all_within(&by_applied, tables.as_slice()) {
+        return Err(SmallFault::NotSmall);
+    }
+    let steps = effects(alloc, applied.as_slice())?;
+    Ok(steps)
+}
+
+fn effect_fits(effect: Effect) -> bool
+    ensures { IsTrue result ↔ EffectFits effect }
+{
+    match effect {
+        Effect::Nothing => true,
+        Effect::OutPort(port) => port < 512,
+        Effect::Drop(value) => value < 2,
+    }
+}
+
+fn effects_fit(actions: &[Named<'_>]) -> bool
+    ensures { IsTrue result ↔ All (λ a. EffectFits a.effect) actions.now }
+{
+    actions.iter().all(|action| effect_fits(action.effect))
+}
+
+fn actions_are_named(actions: &[Named<'_>]) -> bool
+    ensures { result ≡ list_all (λ a. is_name a.name) (actions_seen actions.now) }
+{
+    for action in actions {
+        if !is_name(action.name) {
+            return false;
+        }
+    }
+    true
+}
+
+fn tables_are_named(tables: &[Table<'_>]) -> bool
+    ensures { result ≡ list_all (λ t. is_name t.name) (tables_seen tables.now) }
+{
+    for table in tables {
+        if !is_name(table.name) {
+            return false;
+        }
+    }
+    true
 }
