@@ -1,11 +1,15 @@
 -- What look-ups of names show of the parts of a text.
-use Rattle.std.proofs.Common.{◌≡◌, ℕ, List, [], ◌∷◌, Bool, true, false, cond, None, Some, Option, option_map, map, find, unwrap_or, refl, sym, ap, ◌∙◌}
+use Rattle.std.proofs.Common.{◌≡◌, ℕ, zero, suc, get_or, length, List, [], ◌∷◌, Bool, true, false, cond, None, Some, Option, option_map, map, find, unwrap_or, refl, sym, ap, ◌∙◌}
 use Rattle.std.specs.List.{list_all}
+use Rattle.std.specs.List.{All}
+use Rattle.std.proofs.lemmas.List.{length-map}
+use Rattle.std.proofs.lemmas.List.Elements.{All-map}
 use Rattle.std.proofs.lemmas.List.Folds.{list_all-map}
 use Rattle.rmt.specs.declared.small.Effect.{Effect}
 use Rattle.rmt.specs.declared.small.Effect.TheVariants.{Nothing}
-use Rattle.rmt.specs.SmallForm.{SmallAction, SmallTable, same_name, is_among, action_names, table_names, effect_named, effect_of, steps_of}
-use Rattle.rmt.specs.SmallReading.{with_effect, applied_with_effect, body_seen}
+use Rattle.rmt.specs.declared.small.parser.Named.{Named}
+use Rattle.rmt.specs.SmallForm.{SmallAction, SmallTable, same_name, is_among, action_names, table_names, effect_named, effect_of, steps_of, EffectFits}
+use Rattle.rmt.specs.SmallReading.{actions_seen, action_seen, with_effect, applied_with_effect, body_seen}
 
 names_with_effects : (e : List SmallAction) (ts : List SmallTable) → action_names (map (with_effect e) ts) ≡ table_names ts
 names_with_effects e [] = refl
@@ -52,3 +56,15 @@ steps_found e₁ a ts f e₂ ns g h₁ h₂ h₃ h₄ =
     let all : e₂ ≡ map (with_effect a) ts = h₃ ∙ h₂ ∙ ap (λ (e : List SmallAction). map (with_effect e) ts) h₁ in
     ap (λ (xs : List SmallAction). map (λ (x : SmallAction). x.effect) xs) (h₄ ∙ ap (λ (e : List SmallAction). map (applied_with_effect e) ns) all)
     ∙ effects_applied a ts ns ns
+
+-- the effects of a reader's actions fit where those of its text do
+pub fits_seen : (xs : List Named) → All (λ (a : Named). EffectFits a.effect) xs → All (λ (a : SmallAction). EffectFits a.effect) (actions_seen xs)
+fits_seen xs h = All-map (λ (a : SmallAction). EffectFits a.effect) action_seen xs h
+
+fits_at : (xs : List Named) (k : ℕ) (d : Named) → EffectFits (get_or (actions_seen xs) k (action_seen d)).effect → EffectFits (get_or xs k d).effect
+fits_at [] k d h = h
+fits_at (x ∷ xs) zero d h = h
+fits_at (x ∷ xs) (suc k) d h = fits_at xs k d h
+
+pub fits_read : (xs : List Named) → All (λ (a : SmallAction). EffectFits a.effect) (actions_seen xs) → All (λ (a : Named). EffectFits a.effect) xs
+fits_read xs h = λ k d lt. fits_at xs k d (h k (action_seen d) (rw (length-map xs action_seen) lt))

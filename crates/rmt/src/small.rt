@@ -3,8 +3,12 @@
 pub mod fault;
 pub mod names;
 pub mod parser;
+pub mod reader;
 pub mod resolve;
 pub mod tokens;
+
+pub use fault::SmallFault;
+pub use reader::read;
 
 /// What the one assignment of an action sets, if it has one.
 #[derive(Clone, Copy, Debug, PartialEq, Eq)]

@@ -159,3 +159,48 @@ fn tables_are_named(tables: &[Table<'_>]) -> bool
     }
     true
 }
+
+/// Whether the parts keep the rules that are seen without a look-up.
+fn keeps_rules(parts: &Parts<'_>) -> bool
+    ensures { IsTrue result ↔ KeepsRules (parts_seen parts.now) }
+{
+    if !is_name(parts.header.name) {
+        return false;
+    }
+    if !is_name(parts.header.field) {
+        return false;
+    }
+    if parts.actions.len() > 256 {
+        return false;
+    }
+    if parts.applied.len() > 32 {
+        return false;
+    }
+    if !actions_are_named(parts.actions.as_slice()) {
+        return false;
+    }
+    if !effects_fit(parts.actions.as_slice()) {
+        return false;
+    }
+    if !tables_are_named(parts.tables.as_slice()) {
+        return false;
+    }
+    true
+}
+
+/// What the tables that the parts apply do, where the parts keep all rules.
+pub fn steps(alloc: Global, parts: &Parts<'_>) -> Result<Vec<Effect>, SmallFault>
+    ensures form { IfOk result (λ _. IsSmall (parts_seen parts.now)) }
+    ensures steps { IfOk result (λ v. v.items ≡ steps_of (parts_seen parts.now)) }
+    ensures none { IsErrOf result SmallFault.NotSmall → IsSmall (parts_seen parts.now) → ⊥ }
+{
+    if !keeps_rules(parts) {
+        return Err(SmallFault::NotSmall);
+    }
+    resolve(
+        alloc,
+        parts.actions.as_slice(),
+        parts.tables.as_slice(),
+        parts.applied.as_slice(),
+    )
+}
