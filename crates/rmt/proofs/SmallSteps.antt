@@ -8,8 +8,8 @@ use Rattle.std.proofs.lemmas.List.Folds.{list_all-map}
 use Rattle.rmt.specs.declared.small.Effect.{Effect}
 use Rattle.rmt.specs.declared.small.Effect.TheVariants.{Nothing}
 use Rattle.rmt.specs.declared.small.parser.Named.{Named}
-use Rattle.rmt.specs.SmallForm.{SmallAction, SmallTable, same_name, is_among, action_names, table_names, effect_named, effect_of, steps_of, EffectFits}
-use Rattle.rmt.specs.SmallReading.{actions_seen, action_seen, with_effect, applied_with_effect, body_seen}
+use Rattle.rmt.specs.SmallForm.{SmallAction, SmallTable, same_name, is_among, action_names, table_names, effect_named, effect_of, steps_of, is_name, SmallProgram, IsSmall, EffectFits}
+use Rattle.rmt.specs.SmallReading.{actions_seen, action_seen, with_effect, applied_with_effect, body_seen, KeepsRules, Resolves}
 
 names_with_effects : (e : List SmallAction) (ts : List SmallTable) → action_names (map (with_effect e) ts) ≡ table_names ts
 names_with_effects e [] = refl
@@ -68,3 +68,29 @@ fits_at (x ∷ xs) (suc k) d h = fits_at xs k d h
 
 pub fits_read : (xs : List Named) → All (λ (a : SmallAction). EffectFits a.effect) (actions_seen xs) → All (λ (a : Named). EffectFits a.effect) xs
 fits_read xs h = λ k d lt. fits_at xs k d (h k (action_seen d) (rw (length-map xs action_seen) lt))
+
+-- the rules of the form, those with look-ups and those without
+pub rules_of : (s : SmallProgram) → IsSmall s → KeepsRules s
+rules_of s i = record {
+  header = i.header; field = i.field;
+  named_actions = sym (list_all-map is_name (λ (a : SmallAction). a.name) s.actions) ∙ i.named_actions;
+  action_count = i.action_count; effects = i.effects;
+  named_tables = sym (list_all-map is_name (λ (t : SmallTable). t.name) s.tables) ∙ i.named_tables;
+  applied_count = i.applied_count;
+}
+
+pub resolves_of : (s : SmallProgram) → IsSmall s → Resolves (body_seen s.actions s.tables s.applied)
+resolves_of s i = record {
+  actions_once = i.actions_once; tables_once = i.tables_once; defaults = i.defaults;
+  applied_tables = i.applied_tables; applied_once = i.applied_once; all_applied = i.all_applied;
+}
+
+pub small_of : (s : SmallProgram) → KeepsRules s → Resolves (body_seen s.actions s.tables s.applied) → IsSmall s
+small_of s k r = record {
+  header = k.header; field = k.field;
+  named_actions = list_all-map is_name (λ (a : SmallAction). a.name) s.actions ∙ k.named_actions;
+  action_count = k.action_count; actions_once = r.actions_once; effects = k.effects;
+  named_tables = list_all-map is_name (λ (t : SmallTable). t.name) s.tables ∙ k.named_tables;
+  tables_once = r.tables_once; defaults = r.defaults;
+  applied_count = k.applied_count; applied_tables = r.applied_tables; applied_once = r.applied_once; all_applied = r.all_applied;
+}

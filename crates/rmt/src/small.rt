@@ -10,6 +10,9 @@ pub mod tokens;
 pub use fault::SmallFault;
 pub use reader::read;
 
+#[cfg(test)]
+mod tests;
+
 /// What the one assignment of an action sets, if it has one.
 #[derive(Clone, Copy, Debug, PartialEq, Eq)]
 pub enum Effect {
