@@ -6,3 +6,7 @@ pub mod StateLaw
 pub mod SmallTokens
 pub mod SmallImage
 pub mod TopLemmas
+pub mod SmallParts
+pub mod SmallNames
+pub mod SmallLookups
+pub mod SmallSteps

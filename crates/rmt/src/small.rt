@@ -1,7 +1,17 @@
 //! The small form of a program text: one header of one byte, and tables without keys.
 
 pub mod fault;
+pub mod names;
+pub mod parser;
+pub mod reader;
+pub mod resolve;
 pub mod tokens;
+
+pub use fault::SmallFault;
+pub use reader::read;
+
+#[cfg(test)]
+mod tests;
 
 /// What the one assignment of an action sets, if it has one.
 #[derive(Clone, Copy, Debug, PartialEq, Eq)]

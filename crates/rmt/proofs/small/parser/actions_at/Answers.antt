@@ -1,0 +1,29 @@
+use Rattle.std.proofs.Common.{◌≡◌, ◌++◌, ◌∷◌, [], None, Some, true, codes, drop, sym, ap, ◌∙◌, arith}
+use Rattle.std.proofs.lemmas.List.{map_push}
+use Rattle.rmt.specs.SmallForm.{action_tokens}
+use Rattle.rmt.specs.SmallReading.{token_of, tokens_seen, actions_seen, action_seen, begins_with_word}
+use Rattle.rmt.proofs.SmallParts.{action_unique, action_starts, many_fail, many_more, next_place}
+use Rattle.rmt.proofs.small.parser.actions_at.Goals as goal
+
+pub returns-in_err-part-clause-none : goal.returns-in_err-part-clause-none
+returns-in_err-part-clause-none c =
+    let missing : c.action_at.result ≡ None = grind arith in
+    let fails = rw missing at c.action_at.ensures.none in
+    let begins : begins_with_word (codes "action") (tokens_seen c.from-rest.result.now) ≡ true =
+        rw c.from-rest.ensures (rw (← c.from.ensures) (sym c.begins_with.ensures ∙ c.parts-test.true)) in
+    λ _ parts behind e h. many_fail action_tokens (begins_with_word (codes "action")) action_unique action_starts (actions_seen c.parts.actions.items) parts (tokens_seen c.from-rest.result.now) behind fails begins e
+        (rw c.from-rest.ensures (sym c.parts.invariant.read ∙ h))
+
+pub parts-preserved : goal.parts-preserved
+parts-preserved c =
+    let part = c.in_ok-part.part in
+    let behind = c.in_ok-part.behind in
+    let found : c.action_at.result ≡ Some (part, behind) = grind arith in
+    let one = rw found at c.action_at.ensures.some in
+    let one_at : tokens_seen (drop c.parts.place c.args.tokens.now) ≡ action_tokens (action_seen part) ++ tokens_seen behind.now = rw (← c.from-rest.ensures) one in
+    let pushed : actions_seen c.push.new.self.items ≡ actions_seen c.parts.actions.items ++ (action_seen part) ∷ [] = rw c.in_ok-push.ensures.items (map_push _ c.parts.actions.items part) in
+    let place = next_place token_of c.args.tokens.now behind.now c.parts.place (action_tokens (action_seen part)) one_at in
+    record {
+      within = omega arith;
+      read = rw (pushed, place) (many_more action_tokens (actions_seen c.parts.actions.items) (action_seen part) (tokens_seen (drop c.parts.place c.args.tokens.now)) (tokens_seen behind.now) (tokens_seen c.args.tokens.now) c.parts.invariant.read one_at);
+    }
