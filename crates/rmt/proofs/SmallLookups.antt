@@ -121,9 +121,9 @@ module _ {S : Type 0} (m : IndexMap (Bor (List ℕ)) Effect S) (xs : List Named)
   indexed_twice v found h =
       let x = get_or xs i d in
       let whole : names_of xs ≡ (names_of (take i xs) ++ x.name.now ∷ []) ++ names_of (drop (i + 1) xs) =
-          ap names_of (sym (take-append-drop (i + 1) xs)) ∙ names_of-append (take (i + 1) xs) (drop (i + 1) xs)
-          ∙ ap (λ (ys : List Named). names_of ys ++ names_of (drop (i + 1) xs)) (take_more xs i d lt)
-          ∙ ap (λ (ns : List (List ℕ)). ns ++ names_of (drop (i + 1) xs)) (names_of-push (take i xs) x) in
+      ap names_of (sym (take-append-drop (i + 1) xs)) ∙ names_of-append (take (i + 1) xs) (drop (i + 1) xs)
+      ∙ ap (λ (ys : List Named). names_of ys ++ names_of (drop (i + 1) xs)) (take_more xs i d lt)
+      ∙ ap (λ (ns : List (List ℕ)). ns ++ names_of (drop (i + 1) xs)) (names_of-push (take i xs) x) in
       let front : are_distinct (names_of (take i xs) ++ x.name.now ∷ []) ≡ true = distinct_front (names_of (take i xs) ++ x.name.now ∷ []) (names_of (drop (i + 1) xs)) (rw (← whole) h) in
       let there : is_among (names_of (take i xs)) x.name.now ≡ true = sym (has_name x.name.now m.entries (take i xs) old.entries) ∙ ap is_some found in
       let split = both (are_distinct (names_of (take i xs))) (not (is_among (names_of (take i xs)) x.name.now)) (rw (← distinct_push (names_of (take i xs)) x.name.now) front) in
@@ -153,7 +153,7 @@ module _ {A B : Type 0} (view : A → B) (resolve : B → SmallAction) (test : B
       → n.name.now ≡ (resolve (view (get_or xs i d))).name → n.effect ≡ (resolve (view (get_or xs i d))).effect → test (view (get_or xs i d)) ≡ true → IsResolved (found ++ n ∷ []) (take (i + 1) xs)
   resolved_more found n xs i d lt old name effect t =
       let e : action_seen n ≡ resolve (view (get_or xs i d)) =
-          ap (λ (m : List ℕ). let a : SmallAction = record { name = m; effect = n.effect } in a) name ∙ ap (λ (f : Effect). let a : SmallAction = record { name = (resolve (view (get_or xs i d))).name; effect = f } in a) effect in
+      ap (λ (m : List ℕ). let a : SmallAction = record { name = m; effect = n.effect } in a) name ∙ ap (λ (f : Effect). let a : SmallAction = record { name = (resolve (view (get_or xs i d))).name; effect = f } in a) effect in
       let x = get_or xs i d in
       let more : take (i + 1) xs ≡ take i xs ++ x ∷ [] = take_more xs i d lt in
       record {

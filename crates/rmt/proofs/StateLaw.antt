@@ -33,20 +33,20 @@ all_taken p (suc k) (x ∷ xs) h = let parts = both (p x) (list_all p xs) h in r
 pub small_config-keeps : (s : SmallProgram) → IsSmall s → KeepsState (small_config (steps_of s)) (program_of s) (no_entries (program_of s)) places
 small_config-keeps s small = record {
   behind = λ vector k age h.
-    let words : Words = λ w. slice_index vector w in
-    let names = take k s.applied in
-    let effects = map (effect_of s) names in
-    let taken : take k (steps_of s) ≡ effects = take-map (effect_of s) k s.applied in
-    let stages : take k (stages_from 0 (steps_of s)) ≡ stages_from 0 effects = take-stages_from k 0 (steps_of s) ∙ ap (stages_from 0) taken in
-    let few : length effects ≤ k = let short = length-take k (steps_of s) in let same : length (take k (steps_of s)) ≡ length effects = ap length taken in omega arith in
-    let chip : (life_of (own_look (small_config (steps_of s))) (stages_from 0 effects) vector).word age ≡ fold words_after words effects =
+      let words : Words = λ w. slice_index vector w in
+      let names = take k s.applied in
+      let effects = map (effect_of s) names in
+      let taken : take k (steps_of s) ≡ effects = take-map (effect_of s) k s.applied in
+      let stages : take k (stages_from 0 (steps_of s)) ≡ stages_from 0 effects = take-stages_from k 0 (steps_of s) ∙ ap (stages_from 0) taken in
+      let few : length effects ≤ k = let short = length-take k (steps_of s) in let same : length (take k (steps_of s)) ≡ length effects = ap length taken in omega arith in
+      let chip : (life_of (own_look (small_config (steps_of s))) (stages_from 0 effects) vector).word age ≡ fold words_after words effects =
       (through_stages (own_look (small_config (steps_of s))) 0 effects (first_life words) words (before_all words)).steady age (omega arith) in
-    let nodes : take k (map (node_of s.tables) s.applied) ≡ map (node_of s.tables) names = take-map (node_of s.tables) k s.applied in
-    let plain = (run_from-small s small (no_entries (program_of s)) 0 names (record { state = state_in places words; outcomes = replicate (length (program_of s).nodes) 0; hits = [] })
+      let nodes : take k (map (node_of s.tables) s.applied) ≡ map (node_of s.tables) names = take-map (node_of s.tables) k s.applied in
+      let plain = (run_from-small s small (no_entries (program_of s)) 0 names (record { state = state_in places words; outcomes = replicate (length (program_of s).nodes) 0; hits = [] })
       (all_taken (is_among (table_names s.tables)) k s.applied small.applied_tables)).0 in
-    ap (λ l. state_in places ((life_of (own_look (small_config (steps_of s))) l vector).word age)) stages
-    ∙ ap (state_in places) chip
-    ∙ sym (states_behind (effect_of s) (fits_of s small) names words)
-    ∙ sym plain
-    ∙ sym (ap (λ l. (run_from (program_of s) (no_entries (program_of s)) 0 l (record { state = state_in places words; outcomes = replicate (length (program_of s).nodes) 0; hits = [] })).state) nodes);
+      ap (λ l. state_in places ((life_of (own_look (small_config (steps_of s))) l vector).word age)) stages
+      ∙ ap (state_in places) chip
+      ∙ sym (states_behind (effect_of s) (fits_of s small) names words)
+      ∙ sym plain
+      ∙ sym (ap (λ l. (run_from (program_of s) (no_entries (program_of s)) 0 l (record { state = state_in places words; outcomes = replicate (length (program_of s).nodes) 0; hits = [] })).state) nodes);
 }

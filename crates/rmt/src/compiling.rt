@@ -8,8 +8,7 @@ ghost use Rattle.rmt_config.specs.Spelling.{spelled};
 ghost use Rattle.rmt.specs.declared.compiling.Refusal.TheVariants.{NoMemory};
 
 use crate::configure::configure;
-use crate::small::Effect;
-use crate::small::fault::SmallFault;
+use crate::small::{Effect, SmallFault, read};
 use rmt_image::write_image;
 use std::alloc::{AllocError, Global};
 
@@ -56,13 +55,6 @@ fn lines_of(alloc: Global, stages: u32) -> Result<String, AllocError>
 {
     let latency = 12 * stages;
     format!(in alloc; "stages {stages} latency {latency}\n")
-}
-
-fn read(alloc: Global, text: &[u8]) -> Result<Vec<Effect>, SmallFault>
-    ensures meaning { IfOk result (λ steps. Steps text.now steps.items) }
-    ensures refused { IsErrOf result SmallFault.NotSmall → (s : SmallProgram) → Means text.now s → ⊥ }
-{
-    Err(SmallFault::NoMemory)
 }
 
 /// What is made of a program text and an entry text. A bad program counts before bad entries.

@@ -1,7 +1,7 @@
 //! The reader of a text of the small form.
 
-ghost use Rattle.std.specs.Prelude.{◌≡◌, IfOk, IsErrOf};
-ghost use Rattle.rmt.specs.SmallForm.{SmallProgram, Means, steps_of};
+ghost use Rattle.std.specs.Prelude.{IfOk, IsErrOf};
+ghost use Rattle.rmt.specs.SmallForm.{SmallProgram, Means, Steps};
 
 use crate::small::Effect;
 use crate::small::fault::SmallFault;
@@ -12,7 +12,7 @@ use std::alloc::Global;
 
 /// What the tables that a text applies do, in the order of its control.
 pub fn read(alloc: Global, text: &[u8]) -> Result<Vec<Effect>, SmallFault>
-    ensures meaning { IfOk result (λ steps. (s : SmallProgram) × (Means text.now s × (steps.items ≡ steps_of s))) }
+    ensures meaning { IfOk result (λ steps. Steps text.now steps.items) }
     ensures refused { IsErrOf result SmallFault.NotSmall → (s : SmallProgram) → Means text.now s → ⊥ }
 {
     let tokens = tokens(alloc, text)?;
