@@ -1,20 +1,20 @@
 -- Names in lists of actions and tables, and the maps that keep them.
-use Rattle.std.proofs.Common.{◌≡◌, ℕ, ◌<◌, ◌+◌, List, [], ◌∷◌, ◌++◌, Bool, true, false, ◌&&◌, ◌||◌, cond, not, nat_eq, None, Some, Option, option_map, map, find, is_some, is_none, unwrap_or, take, drop, length, get_or, refl, sym, ap, ◌∙◌, arith}
+use Rattle.std.proofs.Common.{◌≡◌, ℕ, ◌<◌, ◌+◌, List, [], ◌∷◌, ◌++◌, Bool, true, false, ◌&&◌, ◌||◌, cond, not, nat_eq, None, Some, Option, option_map, map, find, is_some, unwrap_or, take, drop, length, get_or, refl, sym, ap, ◌∙◌, arith}
 use Rattle.std.specs.Borrow.{Bor}
 use Rattle.std.specs.Cmp.Lexicographic.{pointwise}
 use Rattle.std.specs.Map.{lookup}
 use Rattle.std.specs.List.{list_any, list_all}
 use Rattle.std.proofs.lemmas.Bool.{false≢true}
 use Rattle.std.proofs.lemmas.Bool.Decides.{nat_tests}
-use Rattle.std.proofs.lemmas.List.{take_more, take-append-drop, map_push, map-append}
+use Rattle.std.proofs.lemmas.List.{take_more, take-append-drop, map_push}
 use Rattle.std.proofs.lemmas.List.Folds.{list_any-append, list_all-append, list_all-map, list_all_at}
 use Rattle.indexmap.specs.IndexMap.{IndexMap, get, insert_entry}
 use Rattle.indexmap.proofs.CallerLemmas.{insert_entry-new}
 use Rattle.rmt.specs.declared.small.Effect.{Effect}
 use Rattle.rmt.specs.declared.small.Effect.TheVariants.{Nothing}
 use Rattle.rmt.specs.declared.small.parser.Named.{Named}
-use Rattle.rmt.specs.SmallForm.{SmallAction, SmallTable, same_name, are_distinct, is_among, action_names, table_names, effect_named}
-use Rattle.rmt.specs.SmallReading.{entries_seen, actions_seen, action_seen, effect_at, with_effect}
+use Rattle.rmt.specs.SmallForm.{SmallAction, same_name, are_distinct, is_among, action_names, effect_named}
+use Rattle.rmt.specs.SmallReading.{entries_seen, actions_seen, action_seen, effect_at}
 use Rattle.rmt.proofs.SmallNames.{same_name-pointwise}
 
 abbrev same_key : Bor (List ℕ) → Bor (List ℕ) → Bool
@@ -121,9 +121,9 @@ module _ {S : Type 0} (m : IndexMap (Bor (List ℕ)) Effect S) (xs : List Named)
   indexed_twice v found h =
       let x = get_or xs i d in
       let whole : names_of xs ≡ (names_of (take i xs) ++ x.name.now ∷ []) ++ names_of (drop (i + 1) xs) =
-          ap names_of (sym (take-append-drop (i + 1) xs)) ∙ names_of-append (take (i + 1) xs) (drop (i + 1) xs)
-          ∙ ap (λ (ys : List Named). names_of ys ++ names_of (drop (i + 1) xs)) (take_more xs i d lt)
-          ∙ ap (λ (ns : List (List ℕ)). ns ++ names_of (drop (i + 1) xs)) (names_of-push (take i xs) x) in
+      ap names_of (sym (take-append-drop (i + 1) xs)) ∙ names_of-append (take (i + 1) xs) (drop (i + 1) xs)
+      ∙ ap (λ (ys : List Named). names_of ys ++ names_of (drop (i + 1) xs)) (take_more xs i d lt)
+      ∙ ap (λ (ns : List (List ℕ)). ns ++ names_of (drop (i + 1) xs)) (names_of-push (take i xs) x) in
       let front : are_distinct (names_of (take i xs) ++ x.name.now ∷ []) ≡ true = distinct_front (names_of (take i xs) ++ x.name.now ∷ []) (names_of (drop (i + 1) xs)) (rw (← whole) h) in
       let there : is_among (names_of (take i xs)) x.name.now ≡ true = sym (has_name x.name.now m.entries (take i xs) old.entries) ∙ ap is_some found in
       let split = both (are_distinct (names_of (take i xs))) (not (is_among (names_of (take i xs)) x.name.now)) (rw (← distinct_push (names_of (take i xs)) x.name.now) front) in
@@ -153,7 +153,7 @@ module _ {A B : Type 0} (view : A → B) (resolve : B → SmallAction) (test : B
       → n.name.now ≡ (resolve (view (get_or xs i d))).name → n.effect ≡ (resolve (view (get_or xs i d))).effect → test (view (get_or xs i d)) ≡ true → IsResolved (found ++ n ∷ []) (take (i + 1) xs)
   resolved_more found n xs i d lt old name effect t =
       let e : action_seen n ≡ resolve (view (get_or xs i d)) =
-          ap (λ (m : List ℕ). let a : SmallAction = record { name = m; effect = n.effect } in a) name ∙ ap (λ (f : Effect). let a : SmallAction = record { name = (resolve (view (get_or xs i d))).name; effect = f } in a) effect in
+      ap (λ (m : List ℕ). let a : SmallAction = record { name = m; effect = n.effect } in a) name ∙ ap (λ (f : Effect). let a : SmallAction = record { name = (resolve (view (get_or xs i d))).name; effect = f } in a) effect in
       let x = get_or xs i d in
       let more : take (i + 1) xs ≡ take i xs ++ x ∷ [] = take_more xs i d lt in
       record {

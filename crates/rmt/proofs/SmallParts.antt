@@ -1,11 +1,11 @@
 -- The parts of a text of the small form: what stands at the front of tokens is one part at most.
-use Rattle.std.proofs.Common.{◌≡◌, ℕ, ◌<◌, ◌≤◌, ◌+◌, List, [], ◌∷◌, ◌++◌, Bool, true, false, codes, Result, Err, ◌-◌, length, map, take, drop, refl, sym, ap, ◌∙◌, arith}
+use Rattle.std.proofs.Common.{◌≡◌, ℕ, List, [], ◌∷◌, ◌++◌, Bool, true, false, codes, Result, Err, ◌-◌, length, map, take, drop, refl, sym, ap, ◌∙◌, arith}
 use Rattle.std.specs.List.{flat_map}
 use Rattle.std.proofs.lemmas.Bool.{false≢true}
-use Rattle.std.proofs.lemmas.List.{append_assoc, flat_map_more, length-map, length-append, length-drop, drop-map, take-append-drop, drop_at}
+use Rattle.std.proofs.lemmas.List.{append_assoc, flat_map_more, length-map, length-append, drop-map, take-append-drop, drop_at}
 use Rattle.rmt.specs.declared.small.Effect.{Effect}
 use Rattle.rmt.specs.declared.small.Effect.TheVariants.{Nothing, OutPort, Drop}
-use Rattle.rmt.specs.Tokens.{Token, Word, Number, Sign}
+use Rattle.rmt.specs.Tokens.{Token, Word, Sign}
 use Rattle.rmt.specs.SmallForm.{SmallAction, SmallTable, SmallProgram, effect_tokens, action_tokens, table_tokens, apply_tokens, header_tokens, program_tokens}
 use Rattle.rmt.specs.SmallReading.{begins_with_word}
 
@@ -47,9 +47,11 @@ action_unique a b r q h =
 pub table_unique : (a b : SmallTable) (r q : List Token) → table_tokens a ++ r ≡ table_tokens b ++ q → (a ≡ b) × (r ≡ q)
 table_unique a b r q h =
     let names : a.name ≡ b.name = cc in
-    let defaults : a.default_action ≡ b.default_action = cc in
-    (ap (λ (n : List ℕ). let x : SmallTable = record { name = n; default_action = a.default_action } in x) names
-     ∙ ap (λ (n : List ℕ). let x : SmallTable = record { name = b.name; default_action = n } in x) defaults, cc)
+    let defaults : a.default_action ≡ b.default_action = cc in (
+      ap (λ (n : List ℕ). let x : SmallTable = record { name = n; default_action = a.default_action } in x) names
+          ∙ ap (λ (n : List ℕ). let x : SmallTable = record { name = b.name; default_action = n } in x) defaults,
+      cc,
+    )
 
 pub apply_unique : (a b : List ℕ) (r q : List Token) → apply_tokens a ++ r ≡ apply_tokens b ++ q → (a ≡ b) × (r ≡ q)
 apply_unique a b r q h = (cc, cc)
@@ -58,7 +60,6 @@ apply_unique a b r q h = (cc, cc)
 module _ {A : Type 0} (written : A → List Token) (begins : List Token → Bool)
     (unique : (a b : A) (r q : List Token) → written a ++ r ≡ written b ++ q → (a ≡ b) × (r ≡ q))
     (starts : (a : A) (r : List Token) → begins (written a ++ r) ≡ true) where
-
   -- such parts and a rest that begins none are one
   pub many_unique : (xs ys : List A) (r q : List Token) → begins r ≡ false → begins q ≡ false → flat_map written xs ++ r ≡ flat_map written ys ++ q → (xs ≡ ys) × (r ≡ q)
   many_unique [] [] r q hr hq e = (refl, e)
@@ -164,7 +165,7 @@ pub next_place : {A : Type 0} (f : A → Token) (tokens behind : List A) (place 
 next_place f tokens behind place part h =
     let before = take place (map f tokens) in
     let whole : map f tokens ≡ (before ++ part) ++ map f behind =
-        sym (take-append-drop place (map f tokens)) ∙ ap (λ (xs : List Token). before ++ xs) (drop-map f place tokens ∙ h) ∙ sym (append_assoc before part (map f behind)) in
+    sym (take-append-drop place (map f tokens)) ∙ ap (λ (xs : List Token). before ++ xs) (drop-map f place tokens ∙ h) ∙ sym (append_assoc before part (map f behind)) in
     let n : length (before ++ part) ≡ length tokens - length behind = omega (arith, ap length whole, length-map tokens f, length-map behind f, length-append (before ++ part) (map f behind)) in
     sym (drop-map f (length tokens - length behind) tokens) ∙ ap (λ (xs : List Token). drop (length tokens - length behind) xs) whole ∙ drop_at (before ++ part) (map f behind) (length tokens - length behind) n
 

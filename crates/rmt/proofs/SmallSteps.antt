@@ -1,5 +1,5 @@
 -- What look-ups of names show of the parts of a text.
-use Rattle.std.proofs.Common.{◌≡◌, ℕ, zero, suc, get_or, length, List, [], ◌∷◌, Bool, true, false, cond, None, Some, Option, option_map, map, find, unwrap_or, refl, sym, ap, ◌∙◌}
+use Rattle.std.proofs.Common.{◌≡◌, ℕ, zero, suc, get_or, List, [], ◌∷◌, Bool, true, false, cond, Some, Option, option_map, map, find, unwrap_or, refl, sym, ap, ◌∙◌}
 use Rattle.std.specs.List.{list_all}
 use Rattle.std.specs.List.{All}
 use Rattle.std.proofs.lemmas.List.{length-map}
@@ -72,25 +72,38 @@ fits_read xs h = λ k d lt. fits_at xs k d (h k (action_seen d) (rw (length-map 
 -- the rules of the form, those with look-ups and those without
 pub rules_of : (s : SmallProgram) → IsSmall s → KeepsRules s
 rules_of s i = record {
-  header = i.header; field = i.field;
+  header = i.header;
+  field = i.field;
   named_actions = sym (list_all-map is_name (λ (a : SmallAction). a.name) s.actions) ∙ i.named_actions;
-  action_count = i.action_count; effects = i.effects;
+  action_count = i.action_count;
+  effects = i.effects;
   named_tables = sym (list_all-map is_name (λ (t : SmallTable). t.name) s.tables) ∙ i.named_tables;
   applied_count = i.applied_count;
 }
 
 pub resolves_of : (s : SmallProgram) → IsSmall s → Resolves (body_seen s.actions s.tables s.applied)
 resolves_of s i = record {
-  actions_once = i.actions_once; tables_once = i.tables_once; defaults = i.defaults;
-  applied_tables = i.applied_tables; applied_once = i.applied_once; all_applied = i.all_applied;
+  actions_once = i.actions_once;
+  tables_once = i.tables_once;
+  defaults = i.defaults;
+  applied_tables = i.applied_tables;
+  applied_once = i.applied_once;
+  all_applied = i.all_applied;
 }
 
 pub small_of : (s : SmallProgram) → KeepsRules s → Resolves (body_seen s.actions s.tables s.applied) → IsSmall s
 small_of s k r = record {
-  header = k.header; field = k.field;
+  header = k.header;
+  field = k.field;
   named_actions = list_all-map is_name (λ (a : SmallAction). a.name) s.actions ∙ k.named_actions;
-  action_count = k.action_count; actions_once = r.actions_once; effects = k.effects;
+  action_count = k.action_count;
+  actions_once = r.actions_once;
+  effects = k.effects;
   named_tables = list_all-map is_name (λ (t : SmallTable). t.name) s.tables ∙ k.named_tables;
-  tables_once = r.tables_once; defaults = r.defaults;
-  applied_count = k.applied_count; applied_tables = r.applied_tables; applied_once = r.applied_once; all_applied = r.all_applied;
+  tables_once = r.tables_once;
+  defaults = r.defaults;
+  applied_count = k.applied_count;
+  applied_tables = r.applied_tables;
+  applied_once = r.applied_once;
+  all_applied = r.all_applied;
 }

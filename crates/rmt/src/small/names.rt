@@ -19,9 +19,30 @@ fn is_reserved(word: &[u8]) -> bool
     ensures { result ≡ list_any (same_name word.now) reserved_words }
 {
     let words: [&[u8]; 24] = [
-        b"header", b"next", b"accept", b"reject", b"meta", b"action", b"table", b"exact",
-        b"prefix", b"ternary", b"actions", b"default", b"size", b"counted", b"control", b"apply",
-        b"if", b"else", b"hit", b"miss", b"in_port", b"out_port", b"drop", b"valid",
+        b"header",
+        b"next",
+        b"accept",
+        b"reject",
+        b"meta",
+        b"action",
+        b"table",
+        b"exact",
+        b"prefix",
+        b"ternary",
+        b"actions",
+        b"default",
+        b"size",
+        b"counted",
+        b"control",
+        b"apply",
+        b"if",
+        b"else",
+        b"hit",
+        b"miss",
+        b"in_port",
+        b"out_port",
+        b"drop",
+        b"valid",
     ];
     is_among(word, &words)
 }

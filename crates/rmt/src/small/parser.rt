@@ -124,7 +124,10 @@ fn action_at<'t, 'a>(tokens: &'t [Token<'a>]) -> Option<(Named<'a>, &'t [Token<'
 {
     let rest = fixed(tokens, &[Token::Word(b"action")])?;
     let (name, rest) = word_at(rest)?;
-    let rest = fixed(rest, &[Token::Sign(b'('), Token::Sign(b')'), Token::Sign(b'{')])?;
+    let rest = fixed(
+        rest,
+        &[Token::Sign(b'('), Token::Sign(b')'), Token::Sign(b'{')],
+    )?;
     let (effect, rest) = effect_at(rest)?;
     Some((Named { name, effect }, rest))
 }
@@ -138,7 +141,15 @@ fn table_at<'t, 'a>(tokens: &'t [Token<'a>]) -> Option<(Table<'a>, &'t [Token<'a
     let (name, rest) = word_at(rest)?;
     let rest = fixed(rest, &[Token::Sign(b'{'), Token::Word(b"default")])?;
     let (default_action, rest) = word_at(rest)?;
-    let rest = fixed(rest, &[Token::Sign(b'('), Token::Sign(b')'), Token::Sign(b';'), Token::Sign(b'}')])?;
+    let rest = fixed(
+        rest,
+        &[
+            Token::Sign(b'('),
+            Token::Sign(b')'),
+            Token::Sign(b';'),
+            Token::Sign(b'}'),
+        ],
+    )?;
     Some((
         Table {
             name,
@@ -168,8 +179,23 @@ fn header_at<'t, 'a>(tokens: &'t [Token<'a>]) -> Option<(Header<'a>, &'t [Token<
     let (name, rest) = word_at(rest)?;
     let rest = fixed(rest, &[Token::Sign(b'{')])?;
     let (field, rest) = word_at(rest)?;
-    let rest = fixed(rest, &[Token::Sign(b':'), Token::Number(8), Token::Sign(b';'), Token::Sign(b'}')])?;
-    let rest = fixed(rest, &[Token::Word(b"next"), Token::Word(b"accept"), Token::Sign(b';')])?;
+    let rest = fixed(
+        rest,
+        &[
+            Token::Sign(b':'),
+            Token::Number(8),
+            Token::Sign(b';'),
+            Token::Sign(b'}'),
+        ],
+    )?;
+    let rest = fixed(
+        rest,
+        &[
+            Token::Word(b"next"),
+            Token::Word(b"accept"),
+            Token::Sign(b';'),
+        ],
+    )?;
     Some((Header { name, field }, rest))
 }
 
@@ -255,15 +281,14 @@ fn all_applied_at<'t, 'a>(
 }
 
 /// The names that the control applies, where it is all of the tokens.
-fn control_of<'t, 'a>(
-    alloc: Global,
-    tokens: &'t [Token<'a>],
-) -> Result<Vec<&'a [u8]>, SmallFault>
+fn control_of<'t, 'a>(alloc: Global, tokens: &'t [Token<'a>]) -> Result<Vec<&'a [u8]>, SmallFault>
     ensures some { IfOk result (λ names. tokens_seen tokens.now ≡ Word (codes "control") ∷ Sign 123 ∷ (flat_map apply_tokens (names_seen names.items) ++ Sign 125 ∷ [])) }
     ensures none { IsErrOf result SmallFault.NotSmall → (names : List (List ℕ)) →
         tokens_seen tokens.now ≡ Word (codes "control") ∷ Sign 123 ∷ (flat_map apply_tokens names ++ Sign 125 ∷ []) → ⊥ }
 {
-    let rest = fixed(tokens, &[Token::Word(b"control"), Token::Sign(b'{')]).ok_or(SmallFault::NotSmall)?;
+    let rest = fixed(tokens, &[Token::Word(b"control"), Token::Sign(b'{')]).ok_or(
+        SmallFault::NotSmall,
+    )?;
     let (applied, end) = all_applied_at(alloc, rest)?;
     let behind = fixed(end, &[Token::Sign(b'}')]).ok_or(SmallFault::NotSmall)?;
     if !behind.is_empty() {

@@ -36,7 +36,10 @@ fn accepted(rt: HostRuntime) -> Result<(), Fail> {
     );
     assert!(rt;
         matches!(
-            read(rt.alloc(), b"header _h1 { f : 008 ; } next accept ; control { }"),
+            read(
+                rt.alloc(),
+                b"header _h1 { f : 008 ; } next accept ; control { }"
+            ),
             Ok(_)
         )
     );
@@ -51,7 +54,12 @@ fn refused_texts(rt: HostRuntime) {
     assert!(rt; refuses(&rt, "header h { size : 8; } next accept; control { }"));
     assert!(rt; refuses(&rt, "header 1h { f : 8; } next accept; control { }"));
     assert!(rt; refuses(&rt, "header h { f : 8; } next accept; # word\ncontrol { }"));
-    assert!(rt; refuses(&rt, "header h { f : 8; } next accept; control { } control { }"));
+    assert!(rt;
+        refuses(
+            &rt,
+            "header h { f : 8; } next accept; control { } control { }"
+        )
+    );
 }
 
 #[test]
@@ -62,10 +70,25 @@ fn refused_bodies(rt: HostRuntime) -> Result<(), Fail> {
     assert!(rt; refuses_body(&rt, "action a() { out_port = 1; drop = 0; } control { }")?);
     assert!(rt; refuses_body(&rt, "action a() { } action a() { } control { }")?);
     assert!(rt; refuses_body(&rt, "action apply() { } control { }")?);
-    assert!(rt; refuses_body(&rt, "action a() { } table t { default b(); } control { apply t; }")?);
+    assert!(rt;
+        refuses_body(
+            &rt,
+            "action a() { } table t { default b(); } control { apply t; }"
+        )?
+    );
     assert!(rt; refuses_body(&rt, "action a() { } table t { default a(); } control { }")?);
-    assert!(rt; refuses_body(&rt, "action a() { } table t { default a(); } control { apply t; apply t; }")?);
-    assert!(rt; refuses_body(&rt, "action a() { } table t { default a(); } control { apply u; }")?);
+    assert!(rt;
+        refuses_body(
+            &rt,
+            "action a() { } table t { default a(); } control { apply t; apply t; }"
+        )?
+    );
+    assert!(rt;
+        refuses_body(
+            &rt,
+            "action a() { } table t { default a(); } control { apply u; }"
+        )?
+    );
     Ok(())
 }
 

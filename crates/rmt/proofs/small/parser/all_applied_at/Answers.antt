@@ -1,4 +1,4 @@
-use Rattle.std.proofs.Common.{◌≡◌, ◌++◌, ◌∷◌, [], None, Some, true, codes, drop, sym, ap, ◌∙◌, arith}
+use Rattle.std.proofs.Common.{◌≡◌, ◌++◌, ◌∷◌, [], None, Some, true, codes, drop, sym, ◌∙◌, arith}
 use Rattle.std.proofs.lemmas.List.{map_push}
 use Rattle.rmt.specs.SmallForm.{apply_tokens}
 use Rattle.rmt.specs.SmallReading.{token_of, tokens_seen, names_seen, begins_with_word}
@@ -10,9 +10,9 @@ returns-in_err-part-clause-none c =
     let missing : c.applied_at.result ≡ None = grind arith in
     let fails = rw missing at c.applied_at.ensures.none in
     let begins : begins_with_word (codes "apply") (tokens_seen c.from-rest.result.now) ≡ true =
-        rw c.from-rest.ensures (rw (← c.from.ensures) (sym c.begins_with.ensures ∙ c.parts-test.true)) in
+    rw c.from-rest.ensures (rw (← c.from.ensures) (sym c.begins_with.ensures ∙ c.parts-test.true)) in
     λ _ parts behind e h. many_fail apply_tokens (begins_with_word (codes "apply")) apply_unique apply_starts (names_seen c.parts.applied.items) parts (tokens_seen c.from-rest.result.now) behind fails begins e
-        (rw c.from-rest.ensures (sym c.parts.invariant.read ∙ h))
+    (rw c.from-rest.ensures (sym c.parts.invariant.read ∙ h))
 
 pub parts-preserved : goal.parts-preserved
 parts-preserved c =

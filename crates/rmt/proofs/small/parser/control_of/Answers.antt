@@ -19,9 +19,9 @@ returns-in_err-behind-clause-none c =
     let missing : c.fixed-2.result ≡ None = grind arith in
     let fails = rw missing at c.fixed-2.ensures.none in
     λ _ names h.
-        let r : tokens_seen c.in_ok-rest.rest.now ≡ flat_map apply_tokens names ++ Sign 125 ∷ [] = drop_two _ _ _ _ _ _ (sym one ∙ h) in
-        let b = behind_applied (names_seen c.in_ok-applied.applied.items) names (tokens_seen c.in_ok-rest.rest.now) (tokens_seen c.in_ok-applied.end.now) c.in_ok-applied.ensures.some c.in_ok-applied.ensures.all r in
-        fails [] b.1
+    let r : tokens_seen c.in_ok-rest.rest.now ≡ flat_map apply_tokens names ++ Sign 125 ∷ [] = drop_two _ _ _ _ _ _ (sym one ∙ h) in
+    let b = behind_applied (names_seen c.in_ok-applied.applied.items) names (tokens_seen c.in_ok-rest.rest.now) (tokens_seen c.in_ok-applied.end.now) c.in_ok-applied.ensures.some c.in_ok-applied.ensures.all r in
+    fails [] b.1
 
 pub returns-then-not-is_empty-clause-none : goal.returns-then-not-is_empty-clause-none
 returns-then-not-is_empty-clause-none c =
@@ -30,7 +30,7 @@ returns-then-not-is_empty-clause-none c =
     let closed : c.fixed-2.result ≡ Some c.in_ok-behind.behind = grind arith in
     let two = rw closed at c.fixed-2.ensures.some in
     λ _ names h.
-        let r : tokens_seen c.in_ok-rest.rest.now ≡ flat_map apply_tokens names ++ Sign 125 ∷ [] = drop_two _ _ _ _ _ _ (sym one ∙ h) in
-        let b = behind_applied (names_seen c.in_ok-applied.applied.items) names (tokens_seen c.in_ok-rest.rest.now) (tokens_seen c.in_ok-applied.end.now) c.in_ok-applied.ensures.some c.in_ok-applied.ensures.all r in
-        let n = no_tokens token_of c.in_ok-behind.behind.now (Sign 125) (Sign 125) (sym two ∙ b.1) in
-        grind (arith, n)
+    let r : tokens_seen c.in_ok-rest.rest.now ≡ flat_map apply_tokens names ++ Sign 125 ∷ [] = drop_two _ _ _ _ _ _ (sym one ∙ h) in
+    let b = behind_applied (names_seen c.in_ok-applied.applied.items) names (tokens_seen c.in_ok-rest.rest.now) (tokens_seen c.in_ok-applied.end.now) c.in_ok-applied.ensures.some c.in_ok-applied.ensures.all r in
+    let n = no_tokens token_of c.in_ok-behind.behind.now (Sign 125) (Sign 125) (sym two ∙ b.1) in
+    grind (arith, n)
