@@ -1,20 +1,20 @@
 -- Names in lists of actions and tables, and the maps that keep them.
-use Rattle.std.proofs.Common.{◌≡◌, ℕ, ◌<◌, ◌+◌, List, [], ◌∷◌, ◌++◌, Bool, true, false, ◌&&◌, ◌||◌, cond, not, nat_eq, None, Some, Option, option_map, map, find, is_some, is_none, unwrap_or, take, drop, length, get_or, refl, sym, ap, ◌∙◌, arith}
+use Rattle.std.proofs.Common.{◌≡◌, ℕ, ◌<◌, ◌+◌, List, [], ◌∷◌, ◌++◌, Bool, true, false, ◌&&◌, ◌||◌, cond, not, nat_eq, None, Some, Option, option_map, map, find, is_some, unwrap_or, take, drop, length, get_or, refl, sym, ap, ◌∙◌, arith}
 use Rattle.std.specs.Borrow.{Bor}
 use Rattle.std.specs.Cmp.Lexicographic.{pointwise}
 use Rattle.std.specs.Map.{lookup}
 use Rattle.std.specs.List.{list_any, list_all}
 use Rattle.std.proofs.lemmas.Bool.{false≢true}
 use Rattle.std.proofs.lemmas.Bool.Decides.{nat_tests}
-use Rattle.std.proofs.lemmas.List.{take_more, take-append-drop, map_push, map-append}
+use Rattle.std.proofs.lemmas.List.{take_more, take-append-drop, map_push}
 use Rattle.std.proofs.lemmas.List.Folds.{list_any-append, list_all-append, list_all-map, list_all_at}
 use Rattle.indexmap.specs.IndexMap.{IndexMap, get, insert_entry}
 use Rattle.indexmap.proofs.CallerLemmas.{insert_entry-new}
 use Rattle.rmt.specs.declared.small.Effect.{Effect}
 use Rattle.rmt.specs.declared.small.Effect.TheVariants.{Nothing}
 use Rattle.rmt.specs.declared.small.parser.Named.{Named}
-use Rattle.rmt.specs.SmallForm.{SmallAction, SmallTable, same_name, are_distinct, is_among, action_names, table_names, effect_named}
-use Rattle.rmt.specs.SmallReading.{entries_seen, actions_seen, action_seen, effect_at, with_effect}
+use Rattle.rmt.specs.SmallForm.{SmallAction, same_name, are_distinct, is_among, action_names, effect_named}
+use Rattle.rmt.specs.SmallReading.{entries_seen, actions_seen, action_seen, effect_at}
 use Rattle.rmt.proofs.SmallNames.{same_name-pointwise}
 
 abbrev same_key : Bor (List ℕ) → Bor (List ℕ) → Bool

@@ -1,5 +1,5 @@
 -- Names as lists of bytes.
-use Rattle.std.proofs.Common.{◌≡◌, ℕ, List, [], ◌∷◌, Bool, true, false, ◌&&◌, nat_eq, refl, sym, ap, ◌∙◌}
+use Rattle.std.proofs.Common.{◌≡◌, ℕ, List, [], ◌∷◌, Bool, ◌&&◌, nat_eq, refl, ap}
 use Rattle.std.specs.Cmp.Lexicographic.{pointwise}
 use Rattle.rmt.specs.SmallForm.{same_name}
 

@@ -1,11 +1,11 @@
 -- The parts of a text of the small form: what stands at the front of tokens is one part at most.
-use Rattle.std.proofs.Common.{◌≡◌, ℕ, ◌<◌, ◌≤◌, ◌+◌, List, [], ◌∷◌, ◌++◌, Bool, true, false, codes, Result, Err, ◌-◌, length, map, take, drop, refl, sym, ap, ◌∙◌, arith}
+use Rattle.std.proofs.Common.{◌≡◌, ℕ, List, [], ◌∷◌, ◌++◌, Bool, true, false, codes, Result, Err, ◌-◌, length, map, take, drop, refl, sym, ap, ◌∙◌, arith}
 use Rattle.std.specs.List.{flat_map}
 use Rattle.std.proofs.lemmas.Bool.{false≢true}
-use Rattle.std.proofs.lemmas.List.{append_assoc, flat_map_more, length-map, length-append, length-drop, drop-map, take-append-drop, drop_at}
+use Rattle.std.proofs.lemmas.List.{append_assoc, flat_map_more, length-map, length-append, drop-map, take-append-drop, drop_at}
 use Rattle.rmt.specs.declared.small.Effect.{Effect}
 use Rattle.rmt.specs.declared.small.Effect.TheVariants.{Nothing, OutPort, Drop}
-use Rattle.rmt.specs.Tokens.{Token, Word, Number, Sign}
+use Rattle.rmt.specs.Tokens.{Token, Word, Sign}
 use Rattle.rmt.specs.SmallForm.{SmallAction, SmallTable, SmallProgram, effect_tokens, action_tokens, table_tokens, apply_tokens, header_tokens, program_tokens}
 use Rattle.rmt.specs.SmallReading.{begins_with_word}
 

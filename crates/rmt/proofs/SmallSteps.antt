@@ -1,5 +1,5 @@
 -- What look-ups of names show of the parts of a text.
-use Rattle.std.proofs.Common.{◌≡◌, ℕ, zero, suc, get_or, length, List, [], ◌∷◌, Bool, true, false, cond, None, Some, Option, option_map, map, find, unwrap_or, refl, sym, ap, ◌∙◌}
+use Rattle.std.proofs.Common.{◌≡◌, ℕ, zero, suc, get_or, List, [], ◌∷◌, Bool, true, false, cond, Some, Option, option_map, map, find, unwrap_or, refl, sym, ap, ◌∙◌}
 use Rattle.std.specs.List.{list_all}
 use Rattle.std.specs.List.{All}
 use Rattle.std.proofs.lemmas.List.{length-map}

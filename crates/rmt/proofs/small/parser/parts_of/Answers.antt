@@ -1,4 +1,4 @@
-use Rattle.std.proofs.Common.{◌≡◌, None, Some, refl, arith}
+use Rattle.std.proofs.Common.{◌≡◌, Some, refl, arith}
 use Rattle.std.proofs.lemmas.Result.{err_from_is_err_and}
 use Rattle.rmt.specs.SmallReading.{tokens_seen, actions_seen, tables_seen}
 use Rattle.rmt.proofs.SmallParts.{same_error, behind_header, behind_actions, behind_tables, no_action_more, from_control, from_tables}

@@ -1,4 +1,4 @@
-use Rattle.std.proofs.Common.{◌≡◌, true, false, sym, ◌∙◌}
+use Rattle.std.proofs.Common.{sym, ◌∙◌}
 use Rattle.rmt.specs.SmallForm.{SmallAction, is_name}
 use Rattle.rmt.specs.SmallReading.{action_seen}
 use Rattle.rmt.proofs.SmallLookups.{one_fails, one_passes}

@@ -1,9 +1,9 @@
-use Rattle.std.proofs.Common.{◌≡◌, None, Some, true, refl, sym, ap, ◌∙◌, get_or, arith}
+use Rattle.std.proofs.Common.{◌≡◌, None, Some, refl, sym, ◌∙◌, arith}
 use Rattle.std.proofs.lemmas.Bool.{false≢true}
 use Rattle.std.proofs.lemmas.List.{take_all}
-use Rattle.rmt.specs.SmallForm.{SmallAction, is_among, action_names}
+use Rattle.rmt.specs.SmallForm.{is_among, action_names}
 use Rattle.rmt.specs.SmallReading.{entries_seen, name_seen, applied_with_effect}
-use Rattle.rmt.proofs.SmallLookups.{IsResolved, resolved_more, found_effect, no_effect_found, one_fails}
+use Rattle.rmt.proofs.SmallLookups.{resolved_more, found_effect, no_effect_found, one_fails}
 use Rattle.rmt.proofs.small.resolve.applied_with_effects.Goals as goal
 
 pub loop-name-preserved : goal.loop-name-preserved

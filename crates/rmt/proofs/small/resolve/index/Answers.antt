@@ -1,7 +1,6 @@
-use Rattle.std.proofs.Common.{◌≡◌, None, Some, true, is_some, refl, sym, subst, ap, ◌∙◌, List, arith}
+use Rattle.std.proofs.Common.{◌≡◌, None, true, is_some, sym, ◌∙◌, arith}
 use Rattle.std.proofs.lemmas.List.{take_all}
-use Rattle.rmt.specs.declared.small.parser.Named.{Named}
-use Rattle.rmt.proofs.SmallLookups.{IsIndexed, indexed_more, indexed_twice, indexed_none, some_value}
+use Rattle.rmt.proofs.SmallLookups.{indexed_more, indexed_twice, indexed_none, some_value}
 use Rattle.rmt.proofs.small.resolve.index.Goals as goal
 
 pub loop-entry-init : goal.loop-entry-init

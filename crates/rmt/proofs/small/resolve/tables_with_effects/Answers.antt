@@ -1,9 +1,8 @@
-use Rattle.std.proofs.Common.{◌≡◌, None, Some, true, refl, sym, ap, ◌∙◌, get_or, arith}
+use Rattle.std.proofs.Common.{◌≡◌, None, Some, refl, sym, ◌∙◌, arith}
 use Rattle.std.proofs.lemmas.Bool.{false≢true}
 use Rattle.std.proofs.lemmas.List.{take_all}
-use Rattle.rmt.specs.SmallForm.{SmallAction}
 use Rattle.rmt.specs.SmallReading.{entries_seen, table_seen, with_effect, has_default}
-use Rattle.rmt.proofs.SmallLookups.{IsResolved, resolved_more, found_effect, no_effect_found, one_fails}
+use Rattle.rmt.proofs.SmallLookups.{resolved_more, found_effect, no_effect_found, one_fails}
 use Rattle.rmt.proofs.small.resolve.tables_with_effects.Goals as goal
 
 pub loop-table-preserved : goal.loop-table-preserved
