@@ -1,5 +1,5 @@
 -- A packet that was written as a line is read back.
-use Rattle.std.proofs.Common.{◌≡◌, ℕ, ◌+◌, ◌-◌, ◌*◌, ◌/◌, ◌%◌, ◌^◌, ◌<◌, ◌≤◌, Bool, true, ◌&&◌, cond, eqb, leb, List, [], ◌∷◌, ◌++◌, length, take, drop, get_or, fold, codes, Ok, length-append, refl, sym, ap, ◌∙◌, arith}
+use Rattle.std.proofs.Common.{◌≡◌, ℕ, ◌+◌, ◌-◌, ◌*◌, ◌/◌, ◌%◌, ◌^◌, ◌<◌, ◌≤◌, true, ◌&&◌, cond, eqb, leb, List, [], ◌∷◌, ◌++◌, length, take, drop, get_or, Ok, length-append, sym, ap, ◌∙◌, arith}
 use Rattle.std.specs.Fmt.{decimal}
 use Rattle.std.specs.List.{prefix_len}
 use Rattle.std.proofs.Math.Seq.{take-append_seam, drop-append-add, get_or-append_seam}
@@ -59,8 +59,8 @@ packet_of-packet_text p low some few bytes =
     let space = get_or-append_seam ds 32 hex 0 in
     let b : begins_with_port (packet_text p) ≡ true =
     rw pd (and_from (leb 1 (length ds) && leb (length ds) 10) (eqb (get_or (packet_text p) (length ds) 0) 32)
-      (and_from (leb 1 (length ds)) (leb (length ds) 10) (le-leb 1 (length ds) one) (le-leb (length ds) 10 (omega arith)))
-      (eq-eqb (get_or (packet_text p) (length ds) 0) 32 space)) in
+    (and_from (leb 1 (length ds)) (leb (length ds) 10) (le-leb 1 (length ds) one) (le-leb (length ds) 10 (omega arith)))
+    (eq-eqb (get_or (packet_text p) (length ds) 0) 32 space)) in
     let f : frame_digits (packet_text p) ≡ encode_lower p.frame = ap (λ k. drop (k + 1) (packet_text p)) (ap length pd) ∙ drop-append-add ds (32 ∷ hex) 1 in
     let v : number_of_digits (port_digits (packet_text p)) ≡ p.port = ap number_of_digits pd ∙ (decimal-says n small).number in
     let l : length (frame_digits (packet_text p)) ≡ 2 * length p.frame = ap length f ∙ length-encode_with lower_digits p.frame in
