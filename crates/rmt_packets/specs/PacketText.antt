@@ -1,7 +1,8 @@
 -- What a packet text says: a port, one space and a frame in hexadecimal digits on each line.
-use Rattle.std.specs.Prelude.{ℕ, Bool, List, [], ◌∷◌, ◌++◌, ◌+◌, ◌-◌, ◌*◌, ◌==◌, ◌&&◌, ◌||◌, nat_lt, nat_le, if◌then◌else◌, length, drop, slice_index, fold, Option, Some, None, Result, Ok, Err}
+use Rattle.std.specs.Prelude.{ℕ, Bool, List, [], ◌∷◌, ◌++◌, ◌+◌, ◌-◌, ◌*◌, ◌==◌, ◌&&◌, ◌||◌, nat_lt, nat_le, if◌then◌else◌, length, drop, slice_index, fold, codes, Option, Some, None, Result, Ok, Err}
 use Rattle.std.specs.List.{take_while}
-use Rattle.hex.specs.Hex.{decode_of}
+use Rattle.std.specs.Fmt.{decimal}
+use Rattle.hex.specs.Hex.{decode_of, encode_lower}
 use Rattle.hex.specs.declared.error.FromHexError.{FromHexError}
 use Rattle.rmt_bits.specs.Packet.{Packet}
 use Rattle.rmt_packets.specs.Lines.{numbered_lines}
@@ -66,3 +67,7 @@ packets_of text = reading_of (numbered_lines 1 text)
 -- packets that were read, and then what the rest of the text says
 abbrev pub behind : List Packet → Reading → Reading
 behind done rest = record { packets = done ++ rest.packets; bad = rest.bad }
+
+-- the line that says a packet, with digits of lower case
+abbrev pub packet_text : Packet → List ℕ
+packet_text packet = decimal packet.port ++ (codes " " ++ encode_lower packet.frame)
