@@ -4,3 +4,4 @@
 pub mod config;
 pub mod form;
 pub mod limits;
+pub mod vector;
