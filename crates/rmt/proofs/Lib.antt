@@ -3,6 +3,8 @@ pub mod PlainSide
 pub mod ChipSide
 pub mod Law
 pub mod StateLaw
+pub mod SmallFormed
+pub mod SmallMade
 pub mod SmallTokens
 pub mod SmallImage
 pub mod TopLemmas

@@ -2,6 +2,8 @@
 use Rattle.std.specs.Prelude.{◌≡◌, ℕ, ◌*◌, ◌<◌, ◌≤◌, ◌⊎◌, List, [], ◌∷◌, ◌++◌, Option, Some, None, length, take, codes}
 use Rattle.std.specs.Fmt.{decimal}
 use Rattle.rmt_config.specs.declared.config.Config.{Config}
+use Rattle.rmt_config.specs.Form.{Formed}
+use Rattle.rmt_config.specs.Limits.{IsWithinLimits}
 use Rattle.rmt_config.specs.Spelling.{spelled}
 use Rattle.rmt.specs.declared.status.Status.{Status}
 use Rattle.rmt.specs.declared.status.Status.TheVariants.{Done, Usage, ReadFault, WriteFault, BadProgram, BadEntries, NoFit, BadImage, BadPackets, TooLong, NoMemory}
@@ -49,6 +51,10 @@ bad_program_line = codes "bad program 0 line 1 column 1\n"
 abbrev pub bad_entries_line : List ℕ
 bad_entries_line = codes "bad entries 0 line 1\n"
 
+-- the configuration keeps the rules of form and every limit of the chip
+unfoldable pub IsSound : Config → Type 0
+IsSound c = Formed c × IsWithinLimits c
+
 -- What is made of two texts: the program that the text means, and the image and the lines of a configuration
 -- whose chip run answers, for every list of packets, what the program gives.
 pub record Makes (text entries image lines : List ℕ) : Type 0 where
@@ -59,6 +65,7 @@ pub record Makes (text entries image lines : List ℕ) : Type 0 where
   pub image_is : image ≡ spelled config
   pub same_runs : SameRuns config (program_of parts) (no_entries (program_of parts))
   pub stands : config ≡ small_config (steps_of parts)
+  pub is_sound : IsSound config
   pub keeps_state : KeepsState config (program_of parts) (no_entries (program_of parts)) places
   pub image_is_short : length image ≤ image_limit
   pub lines_are : lines ≡ compile_lines (length parts.applied)

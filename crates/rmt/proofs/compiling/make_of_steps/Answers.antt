@@ -1,5 +1,5 @@
 -- What is made is what the steps' program means.
-use Rattle.rmt.proofs.SmallImage.{makes}
+use Rattle.rmt.proofs.SmallMade.{makes}
 use Rattle.rmt.proofs.compiling.make_of_steps.Goals as goal
 
 pub returns-clause-made : goal.returns-clause-made
