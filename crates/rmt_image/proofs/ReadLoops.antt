@@ -1,6 +1,8 @@
 -- Reading items one after the other, as a loop does.
-use Rattle.std.proofs.Common.{◌≡◌, ℕ, suc, zero, ◌-◌, ◌+◌, ◌≤◌, ◌<◌, List, [], ◌∷◌, ◌++◌, Result, Ok, Err, refl, sym, ap, ◌∙◌, append_assoc, arith}
+use Rattle.std.proofs.Common.{◌≡◌, ℕ, suc, zero, ◌-◌, ◌+◌, ◌≤◌, ◌<◌, List, [], ◌∷◌, ◌++◌, Result, Ok, Err, refl, sym, ap, ◌∙◌, append_assoc, arith, length, get_or, drop, add-one}
 use Rattle.std.proofs.lemmas.List.{append-nil}
+use Rattle.std.proofs.Math.ListN.{drop_of_length-le}
+use Rattle.std.proofs.Math.Seq.{drop-cons}
 use Rattle.rmt_image.specs.declared.fault.ReadFault.{ReadFault}
 use Rattle.rmt_image.specs.declared.fault.ReadError.{ReadError}
 use Rattle.rmt_image.specs.declared.fault.ReadError.TheVariants as errors
@@ -36,4 +38,26 @@ unfolding times_from
 is_done {S} {A} read after front count i s bytes total le so_far =
     let k : count - i ≡ 0 = omega arith in
     let one : with_front front (times_from read after s (count - i) bytes) ≡ Ok (front, bytes) = rw k (ap (λ (ns : List A). Ok (ns, bytes)) (append-nil front)) in
+    sym so_far ∙ one
+
+pub each_goes_on : {P A : Type 0} (read : P → Reader A) (front : List A) (places : List P) (i : ℕ) (d : P) (bytes : List ℕ) (n : A) (rest : List ℕ) (total : Result (List A × List ℕ) ReadFault) → i < length places → read (get_or places i d) bytes ≡ Ok (n, rest)
+    → with_front front (each read (drop i places) bytes) ≡ total → with_front (front ++ n ∷ []) (each read (drop (i + 1) places) rest) ≡ total
+unfolding each
+each_goes_on {P} read front places i d bytes n rest total lt h so_far =
+    let k : drop i places ≡ get_or places i d ∷ drop (i + 1) places = drop-cons places i d lt ∙ ap (λ (j : ℕ). get_or places i d ∷ drop j places) (sym (add-one i)) in
+    let one : with_front front (each read (drop i places) bytes) ≡ with_front (front ++ n ∷ []) (each read (drop (i + 1) places) rest) = rw (k, h) (regroup front n (each read (drop (i + 1) places) rest)) in
+    sym one ∙ so_far
+
+pub each_ends : {P A : Type 0} (read : P → Reader A) (e : ReadError) (front : List A) (places : List P) (i : ℕ) (d : P) (bytes : List ℕ) (total : Result (List A × List ℕ) ReadFault) → i < length places → Fails e (read (get_or places i d) bytes)
+    → with_front front (each read (drop i places) bytes) ≡ total → Fails e total
+unfolding each
+each_ends read errors.Memory front places i d bytes total lt h so_far = tt
+each_ends {P} read (errors.Fault f) front places i d bytes total lt h so_far =
+    let one : with_front front (each read (drop i places) bytes) ≡ Err f = rw (drop-cons places i d lt, h) refl in
+    sym so_far ∙ one
+
+pub each_is_done : {P A : Type 0} (read : P → Reader A) (front : List A) (places : List P) (i : ℕ) (bytes : List ℕ) (total : Result (List A × List ℕ) ReadFault) → length places ≤ i → with_front front (each read (drop i places) bytes) ≡ total → total ≡ Ok (front, bytes)
+unfolding each
+each_is_done {P} {A} read front places i bytes total le so_far =
+    let one : with_front front (each read (drop i places) bytes) ≡ Ok (front, bytes) = rw (drop_of_length-le places le) (ap (λ (ns : List A). Ok (ns, bytes)) (append-nil front)) in
     sym so_far ∙ one
