@@ -1,7 +1,7 @@
 -- The spelling of an image: the bytes of a configuration. Numbers stand highest byte first, and a list behind its count.
 use Rattle.std.specs.Prelude.{ℕ, ◌<◌, ◌^◌, List, [], ◌∷◌, ◌++◌, length, All, Bool, true, false, Option, Some, None, codes}
 use Rattle.std.specs.Int.{w16, w32, to_be_bytes, bytes_high_first}
-use Rattle.std.specs.List.{flat_map}
+use Rattle.std.specs.List.{flat_map, AllByRecursion}
 use Rattle.rmt_bits.specs.declared.lane.Lane.{Lane}
 use Rattle.rmt_config.specs.declared.config.Config.{Config}
 use Rattle.rmt_config.specs.declared.config.OutHeader.{OutHeader}
@@ -15,7 +15,7 @@ use Rattle.rmt_config.specs.declared.config.Extract.TheVariants.{Bits, One}
 use Rattle.rmt_config.specs.declared.config.Stage.{Stage}
 use Rattle.rmt_config.specs.declared.config.SramRow.{SramRow}
 use Rattle.rmt_config.specs.declared.config.TcamRow.{TcamRow}
-use Rattle.rmt_config.specs.declared.config.Unit.{Unit}
+use Rattle.rmt_config.specs.declared.config.Unit.{Unit as ChipUnit}
 use Rattle.rmt_config.specs.declared.config.Unit.TheVariants.{Gate, Slot}
 use Rattle.rmt_config.specs.declared.config.GateUnit.{GateUnit}
 use Rattle.rmt_config.specs.declared.config.GateTest.{GateTest}
@@ -109,7 +109,7 @@ spelled_slot s =
     ++ spelled_memory s.memory
     ++ spelled_list32 spelled_number s.numbers
 
-abbrev pub spelled_unit : Unit → List ℕ
+abbrev pub spelled_unit : ChipUnit → List ℕ
 spelled_unit (Gate g) = 0 ∷ spelled_gate g
 spelled_unit (Slot s) = 1 ∷ spelled_slot s
 
@@ -172,7 +172,7 @@ pub record CountsFitSlot (s : SlotUnit) : Type 0 where
   pub keys : length s.keys < 2 ^ 16
   pub numbers : length s.numbers < 2 ^ 32
 
-abbrev pub CountsFitUnit : Unit → Type 0
+abbrev pub CountsFitUnit : ChipUnit → Type 0
 CountsFitUnit (Gate g) = length g.tests < 2 ^ 8
 CountsFitUnit (Slot s) = CountsFitSlot s
 
@@ -207,3 +207,32 @@ pub record CountsFit (c : Config) : Type 0 where
   pub parser : CountsFitParser c.parser
   pub stages : length c.stages < 2 ^ 8
   pub each_stage : All CountsFitStage c.stages
+
+-- the numbers of two and of four bytes fit them, as the types of a configuration say
+abbrev pub NumberFitsExtract : Extract → Type 0
+NumberFitsExtract (Bits from lane) = from < 2 ^ 16
+NumberFitsExtract (One lane) = Unit {0}
+
+pub record NumbersFitEntry (e : ParserEntry) : Type 0 where
+  pub value : e.value < 2 ^ 32
+  pub mask : e.mask < 2 ^ 32
+  pub extracts : AllByRecursion NumberFitsExtract e.extracts
+
+abbrev pub NumberFitsSource : Source → Type 0
+NumberFitsSource (Word word low) = Unit {0}
+NumberFitsSource (Held low) = low < 2 ^ 16
+NumberFitsSource (Constant value) = value < 2 ^ 32
+
+abbrev pub NumbersFitOperation : Operation → Type 0
+NumbersFitOperation op = NumberFitsSource op.left × NumberFitsSource op.right
+
+abbrev pub NumbersFitVliw : Vliw → Type 0
+NumbersFitVliw v = AllByRecursion NumbersFitOperation v.ops
+
+pub record NumbersFitStage (s : Stage) : Type 0 where
+  pub start : s.start < 2 ^ 16
+  pub code : AllByRecursion NumbersFitVliw s.code
+
+pub record NumbersFit (c : Config) : Type 0 where
+  pub entries : AllByRecursion NumbersFitEntry c.parser.entries
+  pub stages : AllByRecursion NumbersFitStage c.stages

@@ -1,3 +1,4 @@
 pub mod Loops
 pub mod ReadLoops
 pub mod Codec
+pub mod Items
