@@ -2,3 +2,4 @@ pub mod Loops
 pub mod ReadLoops
 pub mod Codec
 pub mod Items
+pub mod Units
