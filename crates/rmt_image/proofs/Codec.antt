@@ -96,19 +96,24 @@ codec_behind {A} {B} {first} {second} {s1} {s2} {P1} {R1} {P2} {R2} c d = record
 }
 
 -- what is made of an item
-pub codec_made : {A B : Type 0} (f : A → B) {read : Reader A} {s : A → List ℕ} {P R : A → Type 0} → Codec read s P R → (spell : B → List ℕ) (Q : B → Type 0)
-    → ((a : A) → R a → s a ≡ spell (f a)) → ((b : B) → Q b → (a : A) × (f a ≡ b) × (s a ≡ spell b) × P a) → Codec (made f read) spell Q (λ _. Unit {0})
-codec_made {A} {B} f {read} {s} {P} {R} c spell Q same back = record {
+pub codec_made_known : {A B : Type 0} (f : A → B) {read : Reader A} {s : A → List ℕ} {P R : A → Type 0} → Codec read s P R → (spell : B → List ℕ) (Q K : B → Type 0)
+    → ((a : A) → R a → (s a ≡ spell (f a)) × K (f a)) → ((b : B) → Q b → (a : A) × (f a ≡ b) × (s a ≡ spell b) × P a) → Codec (made f read) spell Q K
+codec_made_known {A} {B} f {read} {s} {P} {R} c spell Q K same back = record {
   takes = λ bytes x rest fits e.
       let a = bind_ok (read bytes) (λ (y : A × List ℕ). Ok (f y.0, y.1)) (x, rest) e in
       let t = c.takes bytes a.0.0 a.0.1 fits a.1 in
+      let known = same a.0.0 t.fact in
       let made_pair : B × List ℕ = (f a.0.0, a.0.1) in
-      subst (λ (y : B × List ℕ). Took bytes (spell y.0) y.1 (Unit {0})) (ok_is made_pair (x, rest) a.2)
-          (record { parts = t.parts ∙ ap (λ (text : List ℕ). text ++ a.0.1) (same a.0.0 t.fact); rest_fits = t.rest_fits; fact = tt });
+      subst (λ (y : B × List ℕ). Took bytes (spell y.0) y.1 (K y.0)) (ok_is made_pair (x, rest) a.2)
+          (record { parts = t.parts ∙ ap (λ (text : List ℕ). text ++ a.0.1) known.0; rest_fits = t.rest_fits; fact = known.1 });
   again = λ x rest q.
       let a = back x q in
       ap (λ (text : List ℕ). made f read (text ++ rest)) (sym a.2) ∙ rw (c.again a.0 rest a.3) (ap (λ (y : B). Ok (y, rest)) a.1);
 }
+
+pub codec_made : {A B : Type 0} (f : A → B) {read : Reader A} {s : A → List ℕ} {P R : A → Type 0} → Codec read s P R → (spell : B → List ℕ) (Q : B → Type 0)
+    → ((a : A) → R a → s a ≡ spell (f a)) → ((b : B) → Q b → (a : A) × (f a ≡ b) × (s a ≡ spell b) × P a) → Codec (made f read) spell Q (λ _. Unit {0})
+codec_made f c spell Q same back = codec_made_known f c spell Q (λ _. Unit {0}) (λ a r. (same a r, tt)) back
 
 -- ---- lists
 

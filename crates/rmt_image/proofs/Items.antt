@@ -186,7 +186,7 @@ no_item = Err Form
 no_value : {A : Type 0} (x : A) → no_item ≡ Ok x → ⊥
 no_value x e = cc
 
-behind_choice : {A B : Type 0} {read : List ℕ → Result (A × List ℕ) ReadFault} {s : A → List ℕ} {P R : A → Type 0} (choice k : ℕ) (f : A → B) (spell : B → List ℕ) → Codec read s P R → ((a : A) → choice ∷ s a ≡ spell (f a))
+pub behind_choice : {A B : Type 0} {read : List ℕ → Result (A × List ℕ) ReadFault} {s : A → List ℕ} {P R : A → Type 0} (choice k : ℕ) (f : A → B) (spell : B → List ℕ) → Codec read s P R → ((a : A) → choice ∷ s a ≡ spell (f a))
     → k ≡ choice → (bytes : List ℕ) (x : B) (rest : List ℕ) → IsBytes bytes → made f read bytes ≡ Ok (x, rest) → Took (k ∷ bytes) (spell x) rest (Unit {0})
 behind_choice {A} {B} {read} {s} choice k f spell c same is bytes x rest fits e =
     let a = bind_ok (read bytes) (λ (y : A × List ℕ). Ok (f y.0, y.1)) (x, rest) e in

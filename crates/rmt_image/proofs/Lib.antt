@@ -3,3 +3,4 @@ pub mod ReadLoops
 pub mod Codec
 pub mod Items
 pub mod Units
+pub mod Whole
