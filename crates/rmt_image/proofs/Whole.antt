@@ -1,6 +1,6 @@
 -- Stages, the whole image, and its two laws: what is read is spelled so, and what is spelled so is read.
 use Rattle.std.proofs.Common.{◌≡◌, ℕ, zero, suc, ◌+◌, ◌^◌, ◌<◌, ◌≤◌, Bool, true, false, cond, ◌&&◌, ltb, leb, eqb, List, [], ◌∷◌, ◌++◌, length, map, take, drop, Option, Some, None, Result, Ok, Err, refl, sym, ap, subst, ◌∙◌, append_assoc, arith, inl, inr}
-use Rattle.std.specs.Prelude.{codes, nat_eq}
+use Rattle.std.specs.Prelude.{codes, nat_eq, ◌≢◌, IfOk}
 use Rattle.std.specs.List.{flat_map, list_all, AllByRecursion, starts_with}
 use Rattle.std.specs.Cmp.Lexicographic.{same_text}
 use Rattle.std.proofs.lemmas.Bool.{eqb-true, ltb-false, ne_eqb, and_parts, and_from, cond-false}
@@ -196,3 +196,12 @@ unfolding image_of
 image_again c fit formed limits =
     let read : config_at (spelled_config c) ≡ Ok (c, []) = ap config_at (sym (append-nil (spelled_config c))) ∙ config_codec.again c [] (formed, fit) in
     rw (read, formed, limits) refl
+
+pub is_found : (bytes : List ℕ) (r : Result Config ImageFault) → IsBytes bytes → (r ≢ Err image.NoMemory → r ≡ image_of bytes) → IfOk r (λ c. (bytes ≡ spelled c) × Formed c × IsWithinLimits c)
+is_found bytes (Ok c) fits given = image_takes bytes c fits (sym (given (λ e. cc)))
+is_found bytes (Err f) fits given = tt
+
+pub spelled_once : (c d : Config) → NumbersFit c → Formed c → IsWithinLimits c → NumbersFit d → Formed d → IsWithinLimits d → spelled c ≡ spelled d → c ≡ d
+spelled_once c d fit_c formed_c limits_c fit_d formed_d limits_d e =
+    let read : one_config c ≡ one_config d = sym (image_again c fit_c formed_c limits_c) ∙ ap image_of e ∙ image_again d fit_d formed_d limits_d in
+    cc

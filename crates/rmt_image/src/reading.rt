@@ -1,7 +1,8 @@
-ghost use Rattle.std.specs.Prelude.{◌≡◌, ◌≢◌, List, ℕ, IfOk, Ok, Err};
-ghost use Rattle.rmt_config.specs.Form.{Formed, is_formed};
+ghost use Rattle.std.specs.Prelude.{◌≡◌, ◌≢◌, IfOk, Ok, Err};
+ghost use Rattle.rmt_config.specs.Form.{Formed};
 ghost use Rattle.rmt_config.specs.Limits.{IsWithinLimits};
-ghost use Rattle.rmt_config.specs.Spelling.{spelled};
+ghost use Rattle.rmt_config.specs.Spelling.{spelled, NumbersFit};
+ghost use Rattle.rmt_config.specs.declared.config.Config.{Config};
 ghost use Rattle.rmt_image.specs.Reading.{whole, ended, image_of, config_at};
 
 mod config;
@@ -70,8 +71,26 @@ fn image(alloc: Global, bytes: &[u8]) -> Result<Config, ImageFault>
 /// `Form` where an item breaks a rule of form. `Trailing` says that bytes are left behind it. Then come the rules on
 /// the whole configuration, again `Form`, and at last the limits of the chip. The first of these is told.
 pub fn read_image(alloc: Global, bytes: &[u8]) -> Result<Config, ImageFault>
-    // Which configuration or fault it is.
+    // What is read is spelled so, keeps the rules of form and is within the limits.
+    ensures found { IfOk result (λ c. (bytes.now ≡ spelled c) × Formed c × IsWithinLimits c) }
+
+    // What is spelled so is read, unless memory runs out.
+    ensures only {
+        (c : Config) → NumbersFit c → Formed c → IsWithinLimits c → bytes.now ≡ spelled c →
+        result ≢ Err ImageFault.NoMemory → result ≡ Ok c
+    }
+
+    // Which fault it is: the first that is met from the front.
     ensures exact { result ≢ Err ImageFault.NoMemory → result ≡ image_of bytes.now }
 {
     image(alloc, bytes)
+}
+
+/// No image spells two configurations.
+pub fn spells_one()
+    ensures {
+        (c d : Config) → NumbersFit c → Formed c → IsWithinLimits c → NumbersFit d → Formed d → IsWithinLimits d →
+        spelled c ≡ spelled d → c ≡ d
+    }
+{
 }
