@@ -1,5 +1,6 @@
 ghost use Rattle.std.specs.Prelude.{◌≡◌};
 ghost use Rattle.rmt_image.specs.declared.fault.ImageFault.TheVariants.{NoMemory};
+ghost use Rattle.rmt_image.specs.declared.fault.ReadError.TheVariants.{Memory};
 
 use rmt_config::limits::LimitHit;
 use std::alloc::{AllocError, AllocFailed};
@@ -37,5 +38,36 @@ impl<T: Drop> From<AllocFailed<T>> for ImageFault {
 
     fn from(_e: AllocFailed<T>) -> ImageFault {
         ImageFault::NoMemory
+    }
+}
+
+/// What is wrong with the bytes of a configuration: the first fault from the front.
+#[derive(Clone, Copy, Debug, PartialEq, Eq)]
+pub enum ReadFault {
+    /// The bytes end inside an item.
+    Short,
+    /// An item breaks a rule of form.
+    Form,
+}
+
+#[derive(Clone, Copy, Debug, PartialEq, Eq)]
+pub enum ReadError {
+    Memory,
+    Fault(ReadFault),
+}
+
+impl From<AllocError> for ReadError {
+    ghost from_gives = { λ _ e. e ≡ Memory };
+
+    fn from(_e: AllocError) -> ReadError {
+        ReadError::Memory
+    }
+}
+
+impl<T: Drop> From<AllocFailed<T>> for ReadError {
+    ghost from_gives = { λ _ e. e ≡ Memory };
+
+    fn from(_e: AllocFailed<T>) -> ReadError {
+        ReadError::Memory
     }
 }

@@ -2,7 +2,9 @@
 #![tactic(auto)]
 
 mod fault;
+mod reading;
 mod writing;
 
 pub use fault::ImageFault;
+pub use reading::{read_image, spells_one};
 pub use writing::write_image;
