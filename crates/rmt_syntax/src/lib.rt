@@ -1,0 +1,6 @@
+//! Reads the tokens of a packet program as the parse tree of the language's grammar.
+#![tactic(auto)]
+
+mod grammar;
+mod terminal;
+pub mod tree;
