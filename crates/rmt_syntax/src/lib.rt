@@ -2,5 +2,7 @@
 #![tactic(auto)]
 
 mod grammar;
+mod lookahead;
+mod reader;
 mod terminal;
 pub mod tree;
