@@ -1,2 +1,6 @@
+mod Checks
 mod Frames
+mod Fronts
+mod Machine
 mod Marks
+mod Sets

@@ -1,6 +1,6 @@
 -- Which form of a phrase stands at a token.
-use Rattle.std.specs.Prelude.{◌≡◌, ℕ, List, [], ◌∷◌, Bool, true, false, ◌==◌, ◌&&◌, not, if◌then◌else◌, Option, Some, None}
-use Rattle.std.specs.List.{list_any, find}
+use Rattle.std.specs.Prelude.{◌≡◌, ℕ, List, [], ◌∷◌, Bool, true, false, ◌==◌, ◌++◌, ◌||◌, if◌then◌else◌, Option}
+use Rattle.std.specs.List.{list_any, find, flat_map}
 use Rattle.rmt_syntax.specs.declared.terminal.Terminal.{Terminal}
 use Rattle.rmt_syntax.specs.declared.terminal.Terminal.TheVariants as terminal
 use Rattle.rmt_syntax.specs.declared.tree.Rule.{Rule}
@@ -9,7 +9,9 @@ use Rattle.rmt_syntax.specs.declared.grammar.Part.{Part}
 use Rattle.rmt_syntax.specs.declared.grammar.Part.TheVariants.{One, Node}
 use Rattle.rmt_syntax.specs.declared.grammar.Phrase.{Phrase}
 use Rattle.rmt_syntax.specs.declared.grammar.Phrase.TheVariants.{Whole, Done}
+use Rattle.rmt_syntax.specs.declared.grammar.Phrase.TheVariants as phrases
 use Rattle.rmt_syntax.specs.Grammar.{Form, choices}
+use Rattle.rmt_syntax.specs.Trees.{Goal, part, phrase, shut}
 
 -- the place of a terminal in their list
 abbrev pub terminal_number : Terminal → ℕ
@@ -84,17 +86,102 @@ first_of rule.Block = terminal.OpenBrace ∷ []
 first_of rule.Stmt = terminal.Apply ∷ terminal.If ∷ []
 first_of rule.Arm = terminal.Hit ∷ terminal.Miss ∷ terminal.Name ∷ []
 
--- parts may begin with a terminal; where there are none the phrase is at its end
+-- a form may begin with a terminal; one without parts may always stand
 abbrev pub may_begin : Form → Terminal → Bool
 may_begin ([], next) t = true
 may_begin (One c ∷ ps, next) t = same c t
 may_begin (Node r ∷ ps, next) t = member t (first_of r)
 
--- a name as an operand, with no dot behind it, is no field
-abbrev pub is_lone_name : Phrase → Terminal → Bool → Bool
-is_lone_name (Whole rule.Leaf) terminal.Name dotted = not dotted
-is_lone_name _ _ dotted = false
+-- a name as an operand, which a dot makes the beginning of a field
+abbrev pub is_operand_name : Phrase → Terminal → Bool
+is_operand_name (Whole rule.Leaf) t = same terminal.Name t
+is_operand_name _ t = false
 
--- the form of a phrase at a terminal, where the token behind it is a dot or not
-abbrev pub choice_of : Phrase → Terminal → Bool → Option Form
-choice_of x t dotted = if is_lone_name x t dotted then Some (One terminal.Name ∷ [], Done) else find (λ form. may_begin form t) (choices x)
+-- the form of a phrase at a terminal
+abbrev pub choice_of : Phrase → Terminal → Option Form
+choice_of x t = find (λ form. may_begin form t) (choices x)
+
+-- the terminals that a form may begin with
+abbrev pub first_form : Form → List Terminal
+first_form ([], next) = []
+first_form (One c ∷ ps, next) = c ∷ []
+first_form (Node r ∷ ps, next) = first_of r
+
+abbrev pub first_phrase : Phrase → List Terminal
+first_phrase x = flat_map first_form (choices x)
+
+abbrev pub is_empty : Form → Bool
+is_empty ([], next) = true
+is_empty (p ∷ ps, next) = false
+
+abbrev pub is_done : Phrase → Bool
+is_done Done = true
+is_done _ = false
+
+-- nothing more has to come of a phrase
+abbrev pub may_end : Phrase → Bool
+may_end x = is_done x || list_any is_empty (choices x)
+
+-- the terminals that may come next
+abbrev pub front : List Goal → List Terminal
+front [] = []
+front (part (One c) ∷ gs) = c ∷ []
+front (part (Node r) ∷ gs) = first_of r
+front (phrase x ∷ gs) = first_phrase x ++ (if may_end x then front gs else [])
+front (shut r ∷ gs) = front gs
+
+-- what would go on with a phrase, and so must not come behind it
+abbrev pub tails : Phrase → List Terminal
+tails (Whole rule.Program) = []
+tails (Whole rule.Header) = []
+tails phrases.HeaderFields = []
+tails (Whole rule.Next) = []
+tails phrases.SelectNames = []
+tails phrases.Cases = []
+tails (Whole rule.Case) = []
+tails phrases.MoreValues = []
+tails (Whole rule.Value) = terminal.Ampersand ∷ []
+tails phrases.Mask = terminal.Ampersand ∷ []
+tails (Whole rule.Target) = []
+tails (Whole rule.Meta) = []
+tails phrases.MetaFields = []
+tails (Whole rule.Action) = []
+tails phrases.Params = []
+tails phrases.MoreParams = []
+tails phrases.Assignments = []
+tails (Whole rule.Param) = []
+tails (Whole rule.Field) = []
+tails phrases.FieldEnd = []
+tails (Whole rule.Expr) = terminal.Plus ∷ terminal.Minus ∷ terminal.Ampersand ∷ terminal.Bar ∷ terminal.Caret ∷ terminal.Dot ∷ []
+tails phrases.Operation = terminal.Plus ∷ terminal.Minus ∷ terminal.Ampersand ∷ terminal.Bar ∷ terminal.Caret ∷ terminal.Dot ∷ []
+tails (Whole rule.Leaf) = terminal.Dot ∷ []
+tails (Whole rule.Table) = []
+tails phrases.TableKey = []
+tails phrases.Arguments = []
+tails phrases.MoreArguments = []
+tails (Whole rule.Key) = terminal.Counted ∷ []
+tails phrases.KeyFields = terminal.Counted ∷ []
+tails phrases.KeyActions = terminal.Counted ∷ []
+tails phrases.Counted = terminal.Counted ∷ []
+tails (Whole rule.Control) = []
+tails (Whole rule.Block) = []
+tails phrases.Statements = []
+tails (Whole rule.Stmt) = terminal.Else ∷ []
+tails phrases.Applied = []
+tails phrases.Arms = []
+tails phrases.Condition = terminal.Else ∷ []
+tails phrases.Otherwise = terminal.Else ∷ []
+tails (Whole rule.Arm) = []
+tails Done = []
+
+-- no terminal is in both
+abbrev pub Apart : List Terminal → List Terminal → Type 0
+Apart a b = (t : Terminal) → member t a ≡ true → member t b ≡ false
+
+-- The end comes last, no text is within another, and nothing goes on with a phrase that comes behind it.
+abbrev pub Orderly : List Goal → Type 0
+Orderly [] = Unit {0}
+Orderly (part (One c) ∷ gs) = (c ≡ terminal.End → gs ≡ phrase Done ∷ shut rule.Program ∷ []) × Orderly gs
+Orderly (part (Node r) ∷ gs) = (r ≡ rule.Program → ⊥) × Apart (tails (Whole r)) (front gs) × Orderly gs
+Orderly (phrase x ∷ gs) = (x ≡ Whole rule.Program → gs ≡ shut rule.Program ∷ []) × Apart (tails x) (front gs) × Orderly gs
+Orderly (shut r ∷ gs) = Orderly gs

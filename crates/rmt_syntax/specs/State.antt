@@ -1,9 +1,12 @@
 -- What a reader that stands in the middle of a text has read, and what it still has to read.
-use Rattle.std.specs.Prelude.{◌≡◌, ℕ, suc, ◌+◌, List, [], ◌∷◌, ◌++◌, map, fold, take}
+use Rattle.std.specs.Prelude.{◌≡◌, ℕ, suc, ◌+◌, List, [], ◌∷◌, ◌++◌, map, fold, take, length, ◌≤◌}
 use Rattle.std.specs.List.{flat_map}
 use Rattle.rmt_lexer.specs.declared.token.Token.{Token}
 use Rattle.rmt_syntax.specs.declared.reader.Frame.{Frame}
 use Rattle.rmt_syntax.specs.declared.reader.Reader.{Reader}
+use Rattle.rmt_syntax.specs.declared.tree.Rule.TheVariants as rule
+use Rattle.rmt_syntax.specs.declared.grammar.Phrase.TheVariants.{Done}
+use Rattle.rmt_syntax.specs.Lookahead.{Orderly}
 use Rattle.rmt_syntax.specs.Trees.{Mark, opens, marks, tokens_in, Goal, part, phrase, shut, Reads, IsText, IsNested, depth_of}
 
 -- the marks of the parts that a node has so far
@@ -24,3 +27,15 @@ marks_of r = flat_map frame_marks r.outer.items ++ frame_marks r.inner
 -- what is still to come
 abbrev pub goals_of : Reader → List Goal
 goals_of r = frame_goals r.inner ++ outer_goals r.outer.items
+
+-- A reader that stands before a token: what it read, what is to come, and how many blocks are open.
+pub record Stands (tokens : List Token) (at : ℕ) (goals : List Goal) (seen : List Mark) (depth : ℕ) : Type 0 where
+  pub read : tokens_in seen ≡ take at tokens
+  -- what comes by the goals makes a text
+  pub sound : (ms : List Mark) → Reads goals ms → IsText (seen ++ ms)
+  -- each text that begins with the tokens up to that one goes on by the goals
+  pub whole : (all : List Mark) (more : List Token) → IsText all → tokens_in all ≡ take (suc at) tokens ++ more → (ms : List Mark) × (all ≡ seen ++ ms) × Reads goals ms
+  pub nested : IsNested seen
+  pub open_blocks : depth ≡ depth_of seen
+  pub orderly : Orderly goals
+  pub ended : length tokens ≤ at → goals ≡ phrase Done ∷ shut rule.Program ∷ []

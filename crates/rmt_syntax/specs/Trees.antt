@@ -1,5 +1,5 @@
 -- Parse trees, read from left to right, and which of them the grammar has.
-use Rattle.std.specs.Prelude.{◌≡◌, ℕ, suc, ◌+◌, ◌-◌, ◌≤◌, List, [], ◌∷◌, ◌++◌, map, fold, take, Some, None, slice_get, Result, Ok, Err}
+use Rattle.std.specs.Prelude.{◌≡◌, ℕ, suc, ◌+◌, ◌-◌, ◌≤◌, List, [], ◌∷◌, ◌++◌, map, fold, take, Some, None, slice_get, Result, Ok, Err, ◌⊎◌}
 use Rattle.std.specs.List.{flat_map}
 use Rattle.rmt_lexer.specs.declared.token.Token.{Token}
 use Rattle.rmt_lexer.specs.declared.token.TokenKind.TheVariants.{End}
@@ -68,9 +68,14 @@ depth_after n _ = n
 abbrev pub depth_of : List Mark → ℕ
 depth_of ms = fold depth_after 0 ms
 
+-- nowhere are more than 32 blocks open, where so many were before
+abbrev pub IsNestedFrom : ℕ → List Mark → Type 0
+IsNestedFrom n [] = n ≤ 32
+IsNestedFrom n (m ∷ ms) = (n ≤ 32) × IsNestedFrom (depth_after n m) ms
+
 -- nowhere are more than 32 blocks open
 abbrev pub IsNested : List Mark → Type 0
-IsNested ms = (front rest : List Mark) → ms ≡ front ++ rest → depth_of front ≤ 32
+IsNested ms = IsNestedFrom 0 ms
 
 -- the tree is one of the grammar, its tokens are these, and its blocks are nested in one another at most 32 deep
 pub record IsTreeOf (tokens : List Token) (t : Tree) : Type 0 where
@@ -83,3 +88,42 @@ abbrev pub EndsOnce : List Token → Type 0
 EndsOnce [] = ⊥
 EndsOnce (t ∷ []) = t.what ≡ End
 EndsOnce (t ∷ u ∷ ts) = (t.what ≡ End → ⊥) × EndsOnce (u ∷ ts)
+
+-- a text of the grammar begins with the marks
+abbrev pub IsFront : List Mark → Type 0
+IsFront front = (rest : List Mark) × IsText (front ++ rest)
+
+-- The tokens before the k-th begin a text of the grammar in which no 33rd block is open yet; with the k-th token they begin none.
+pub record Unexpected (tokens : List Token) (k : ℕ) : Type 0 where
+  pub before : (front : List Mark) × IsFront front × (tokens_in front ≡ take k tokens) × IsNested front
+  pub none : (front : List Mark) → IsFront front → tokens_in front ≡ take (suc k) tokens → ⊥
+
+-- The k-th token is the first of a block inside 32 others, in a text of the grammar that begins with the tokens up to it.
+pub record TooDeep (tokens : List Token) (k : ℕ) : Type 0 where
+  pub outside : List Mark
+  pub brace : Token
+  pub front : IsFront (outside ++ opens rule.Block ∷ leaf brace ∷ [])
+  pub before : tokens_in outside ≡ take k tokens
+  pub here : slice_get tokens k ≡ Some brace
+  pub nested : IsNested outside
+  pub depth : depth_of outside ≡ 32
+
+-- the fault is at the k-th token: 3 where it can't stand there, 4 where it begins a 33rd block
+abbrev pub IsFaultAt : List Token → ℕ → ℕ → Type 0
+IsFaultAt tokens code k = ((code ≡ 3) × Unexpected tokens k) ⊎ ((code ≡ 4) × TooDeep tokens k)
+
+-- the token at a place in the text has that fault
+abbrev pub IsFault : List Token → ℕ → ℕ → ℕ → Type 0
+IsFault tokens code line column = (k : ℕ) × (t : Token) × (slice_get tokens k ≡ Some t) × (t.line ≡ line) × (t.column ≡ column) × IsFaultAt tokens code k
+
+-- the answer: the tree, or the fault, or want of memory
+abbrev pub Answers : List Token → Result Tree ProgramFault → Type 0
+Answers tokens (Ok t) = IsTreeOf tokens t
+Answers tokens (Err NoMemory) = Unit {0}
+Answers tokens (Err (At code line column)) = IsFault tokens code line column
+
+-- the answer is that tree, or want of memory
+abbrev pub Gives : Result Tree ProgramFault → Tree → Type 0
+Gives (Ok t) wanted = marks t ≡ marks wanted
+Gives (Err NoMemory) wanted = Unit {0}
+Gives (Err (At code line column)) wanted = ⊥

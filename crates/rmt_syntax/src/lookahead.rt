@@ -1,6 +1,6 @@
 ghost use Rattle.std.specs.Prelude.{◌≡◌, map, option_map};
 ghost use Rattle.std.specs.List.{find};
-ghost use Rattle.rmt_syntax.specs.Lookahead.{same, member, first_of, may_begin, is_lone_name, choice_of};
+ghost use Rattle.rmt_syntax.specs.Lookahead.{same, member, first_of, may_begin, is_operand_name, choice_of};
 
 use crate::grammar::{Choice, Part, Phrase, choices};
 use crate::terminal::Terminal;
@@ -33,7 +33,7 @@ fn first_of(rule: Rule) -> &'static [Terminal]
 }
 
 /// Whether two terminals are the same.
-fn is_same(a: Terminal, b: Terminal) -> bool
+pub fn is_same(a: Terminal, b: Terminal) -> bool
     ensures { result ≡ same a b }
 {
     a == b
@@ -74,26 +74,19 @@ fn found(forms: &'static [Choice], terminal: Terminal) -> Option<Choice>
     None
 }
 
-/// Whether a name as an operand, with no dot behind it, comes next.
-fn is_lone_name(phrase: Phrase, terminal: Terminal, dotted: bool) -> bool
-    ensures { result ≡ is_lone_name phrase terminal dotted }
+/// Whether a name as an operand comes next.
+pub fn is_operand_name(phrase: Phrase, terminal: Terminal) -> bool
+    ensures { result ≡ is_operand_name phrase terminal }
 {
-    match (phrase, terminal) {
-        (Phrase::Whole(Rule::Leaf), Terminal::Name) => !dotted,
+    match phrase {
+        Phrase::Whole(Rule::Leaf) => is_same(Terminal::Name, terminal),
         _ => false,
     }
 }
 
-/// The form of a phrase at a terminal; `dotted` says whether the token behind it is a dot.
-pub fn choice_of(phrase: Phrase, terminal: Terminal, dotted: bool) -> Option<Choice>
-    ensures { option_map (λ c. (c.parts.now, c.then)) result ≡ choice_of phrase terminal dotted }
+/// The form of a phrase at a terminal. A name as an operand has two.
+pub fn choice_of(phrase: Phrase, terminal: Terminal) -> Option<Choice>
+    ensures { option_map (λ c. (c.parts.now, c.then)) result ≡ choice_of phrase terminal }
 {
-    if is_lone_name(phrase, terminal, dotted) {
-        Some(Choice {
-            parts: &[Part::One(Terminal::Name)],
-            then: Phrase::Done,
-        })
-    } else {
-        found(choices(phrase), terminal)
-    }
+    found(choices(phrase), terminal)
 }
