@@ -12,7 +12,7 @@ use Rattle.rmt_syntax.specs.declared.grammar.Phrase.{Phrase}
 use Rattle.rmt_syntax.specs.declared.grammar.Phrase.TheVariants.{Whole, Done}
 use Rattle.rmt_syntax.specs.declared.grammar.Phrase.TheVariants as phrase
 use Rattle.rmt_syntax.specs.Grammar.{Form, choices}
-use Rattle.rmt_syntax.specs.Lookahead.{same, member, first_of, first_form, first_phrase, may_begin, is_empty, is_done, may_end, tails, is_operand_name}
+use Rattle.rmt_syntax.specs.Lookahead.{same, member, first_of, first_form, first_phrase, may_begin, is_empty, is_done, may_end, height, tails, is_operand_name}
 use Rattle.rmt_syntax.proofs.Sets.{subset, disjoint}
 
 abbrev pub is_program : Rule → Bool
@@ -259,56 +259,13 @@ cheaper phrase.Otherwise h = refl
 cheaper (Whole rule.Arm) h = refl
 cheaper Done h = cc
 
--- a bound on how many nodes begin at one token in a phrase
-abbrev pub height : Phrase → ℕ
-height (Whole rule.Program) = 2
-height (Whole rule.Header) = 0
-height phrase.HeaderFields = 0
-height (Whole rule.Next) = 2
-height phrase.SelectNames = 0
-height phrase.Cases = 4
-height (Whole rule.Case) = 2
-height phrase.MoreValues = 0
-height (Whole rule.Value) = 0
-height phrase.Mask = 0
-height (Whole rule.Target) = 0
-height (Whole rule.Meta) = 0
-height phrase.MetaFields = 0
-height (Whole rule.Action) = 0
-height phrase.Params = 2
-height phrase.MoreParams = 0
-height phrase.Assignments = 2
-height (Whole rule.Param) = 0
-height (Whole rule.Field) = 0
-height phrase.FieldEnd = 0
-height (Whole rule.Expr) = 4
-height phrase.Operation = 0
-height (Whole rule.Leaf) = 2
-height (Whole rule.Table) = 0
-height phrase.TableKey = 2
-height phrase.Arguments = 0
-height phrase.MoreArguments = 0
-height (Whole rule.Key) = 0
-height phrase.KeyFields = 0
-height phrase.KeyActions = 0
-height phrase.Counted = 0
-height (Whole rule.Control) = 0
-height (Whole rule.Block) = 0
-height phrase.Statements = 2
-height (Whole rule.Stmt) = 0
-height phrase.Applied = 0
-height phrase.Arms = 2
-height phrase.Condition = 0
-height phrase.Otherwise = 0
-height (Whole rule.Arm) = 0
-height Done = 0
+-- a form begins with a lower node, where its phrase may not end
+abbrev pub is_lower : Phrase → Form → Bool
+is_lower x ([], next) = true
+is_lower x (One c ∷ ps, next) = true
+is_lower x (Node r ∷ ps, next) = nat_lt (1 + height (Whole r)) (height x) && not (may_end x)
 
-abbrev pub is_lower : ℕ → Form → Bool
-is_lower n ([], next) = true
-is_lower n (One c ∷ ps, next) = true
-is_lower n (Node r ∷ ps, next) = nat_lt (1 + height (Whole r)) n
-
-pub lower : (x : Phrase) → list_all (is_lower (height x)) (choices x) ≡ true
+pub lower : (x : Phrase) → list_all (is_lower x) (choices x) ≡ true
 lower (Whole rule.Program) = refl
 lower (Whole rule.Header) = refl
 lower phrase.HeaderFields = refl

@@ -1,6 +1,10 @@
 mod Checks
+mod Choosing
+mod Faults
 mod Frames
 mod Fronts
 mod Machine
 mod Marks
+mod Operands
+mod Produce
 mod Sets

@@ -46,7 +46,7 @@ next_token tokens more at t all seen ms here read is e =
         (ap (λ v. v ++ tokens_in ms) (sym read) ∙ sym (tokens_append seen ms) ∙ ap tokens_in (sym is) ∙ e
          ∙ ap (λ v. v ++ more) (take_next tokens at t here) ∙ append_assoc (take at tokens) (t ∷ []) more)
 
-nested_more : (n : ℕ) (ms : List Mark) (m : Mark) → IsNestedFrom n ms → fold depth_after n (ms ++ m ∷ []) ≤ 32 → IsNestedFrom n (ms ++ m ∷ [])
+pub nested_more : (n : ℕ) (ms : List Mark) (m : Mark) → IsNestedFrom n ms → fold depth_after n (ms ++ m ∷ []) ≤ 32 → IsNestedFrom n (ms ++ m ∷ [])
 nested_more n [] m h k = (h, k)
 nested_more n (x ∷ ms) m h k = (h.0, nested_more (depth_after n x) ms m h.1 k)
 
@@ -55,7 +55,7 @@ nested_front n [] [] h = h
 nested_front n [] (m ∷ b) h = h.0
 nested_front n (x ∷ a) b h = nested_front (depth_after n x) a b h.1
 
-nested_now : (ms : List Mark) → IsNested ms → depth_of ms ≤ 32
+pub nested_now : (ms : List Mark) → IsNested ms → depth_of ms ≤ 32
 nested_now ms h = nested_front 0 ms [] (subst IsNested (sym (append-nil ms)) h)
 
 pub depth_append : (n : ℕ) (ms : List Mark) (m : Mark) → fold depth_after n (ms ++ m ∷ []) ≡ depth_after (fold depth_after n ms) m
@@ -74,17 +74,23 @@ leaf_same : (n : ℕ) (t : Token) → depth_after n (leaf t) ≡ n
 leaf_same n t = refl
 
 -- behind the end of a rule
-after_end : {r : Rule} {gs : List Goal} {ms : List Mark} → Reads (shut r ∷ gs) ms → (rest : List Mark) × (ms ≡ shuts r ∷ rest) × Reads gs rest
+pub after_end : {r : Rule} {gs : List Goal} {ms : List Mark} → Reads (shut r ∷ gs) ms → (rest : List Mark) × (ms ≡ shuts r ∷ rest) × Reads gs rest
 after_end (end {ms = ms} d) = (ms, refl, d)
 
-after_done : {gs : List Goal} {ms : List Mark} → Reads (phrase Done ∷ gs) ms → Reads gs ms
+pub after_done : {gs : List Goal} {ms : List Mark} → Reads (phrase Done ∷ gs) ms → Reads gs ms
 after_done (done d) = d
 after_done (choose i parts next e d) = cc
 
-after_node : {r : Rule} {gs : List Goal} {ms : List Mark} → Reads (part (Node r) ∷ gs) ms → (rest : List Mark) × (ms ≡ opens r ∷ rest) × Reads (phrase (Whole r) ∷ shut r ∷ gs) rest
+-- a phrase that is not at its end goes on with one of its forms
+pub choose_now : {x : Phrase} {gs : List Goal} {ms : List Mark} → is_done x ≡ false → Reads (phrase x ∷ gs) ms
+    → (i : ℕ) × (ps : List Part) × (next : Phrase) × (slice_get (choices x) i ≡ Some (ps, next)) × Reads (map part ps ++ phrase next ∷ gs) ms
+choose_now h (done d) = cc
+choose_now h (choose i ps next e d) = (i, ps, next, e, d)
+
+pub after_node : {r : Rule} {gs : List Goal} {ms : List Mark} → Reads (part (Node r) ∷ gs) ms → (rest : List Mark) × (ms ≡ opens r ∷ rest) × Reads (phrase (Whole r) ∷ shut r ∷ gs) rest
 after_node (node {ms = ms} d) = (ms, refl, d)
 
-after_one : {c : Terminal} {gs : List Goal} {ms : List Mark} → Reads (part (One c) ∷ gs) ms → (t : Token) × (rest : List Mark) × (ms ≡ leaf t ∷ rest) × (terminal_of t.what ≡ c) × Reads gs rest
+pub after_one : {c : Terminal} {gs : List Goal} {ms : List Mark} → Reads (part (One c) ∷ gs) ms → (t : Token) × (rest : List Mark) × (ms ≡ leaf t ∷ rest) × (terminal_of t.what ≡ c) × Reads gs rest
 after_one (token {t = t} {ms = ms} is d) = (t, ms, refl, is, d)
 
 pub close_stands : (tokens : List Token) (at : ℕ) (t : Token) (r : Rule) (gs : List Goal) (seen : List Mark) (depth : ℕ) → slice_get tokens at ≡ Some t

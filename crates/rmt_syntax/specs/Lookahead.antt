@@ -1,5 +1,5 @@
 -- Which form of a phrase stands at a token.
-use Rattle.std.specs.Prelude.{◌≡◌, ℕ, List, [], ◌∷◌, Bool, true, false, ◌==◌, ◌++◌, ◌||◌, if◌then◌else◌, Option}
+use Rattle.std.specs.Prelude.{◌≡◌, ℕ, ◌+◌, List, [], ◌∷◌, Bool, true, false, ◌==◌, ◌++◌, ◌||◌, if◌then◌else◌, Option}
 use Rattle.std.specs.List.{list_any, find, flat_map}
 use Rattle.rmt_syntax.specs.declared.terminal.Terminal.{Terminal}
 use Rattle.rmt_syntax.specs.declared.terminal.Terminal.TheVariants as terminal
@@ -185,3 +185,55 @@ Orderly (part (One c) ∷ gs) = (c ≡ terminal.End → gs ≡ phrase Done ∷ s
 Orderly (part (Node r) ∷ gs) = (r ≡ rule.Program → ⊥) × Apart (tails (Whole r)) (front gs) × Orderly gs
 Orderly (phrase x ∷ gs) = (x ≡ Whole rule.Program → gs ≡ shut rule.Program ∷ []) × Apart (tails x) (front gs) × Orderly gs
 Orderly (shut r ∷ gs) = Orderly gs
+
+-- a bound on how many nodes begin in a phrase before its first token
+abbrev pub height : Phrase → ℕ
+height (Whole rule.Program) = 2
+height (Whole rule.Header) = 0
+height phrases.HeaderFields = 0
+height (Whole rule.Next) = 2
+height phrases.SelectNames = 0
+height phrases.Cases = 4
+height (Whole rule.Case) = 2
+height phrases.MoreValues = 0
+height (Whole rule.Value) = 0
+height phrases.Mask = 0
+height (Whole rule.Target) = 0
+height (Whole rule.Meta) = 0
+height phrases.MetaFields = 0
+height (Whole rule.Action) = 0
+height phrases.Params = 2
+height phrases.MoreParams = 0
+height phrases.Assignments = 2
+height (Whole rule.Param) = 0
+height (Whole rule.Field) = 0
+height phrases.FieldEnd = 0
+height (Whole rule.Expr) = 4
+height phrases.Operation = 0
+height (Whole rule.Leaf) = 2
+height (Whole rule.Table) = 0
+height phrases.TableKey = 2
+height phrases.Arguments = 0
+height phrases.MoreArguments = 0
+height (Whole rule.Key) = 0
+height phrases.KeyFields = 0
+height phrases.KeyActions = 0
+height phrases.Counted = 0
+height (Whole rule.Control) = 0
+height (Whole rule.Block) = 0
+height phrases.Statements = 2
+height (Whole rule.Stmt) = 0
+height phrases.Applied = 0
+height phrases.Arms = 2
+height phrases.Condition = 0
+height phrases.Otherwise = 0
+height (Whole rule.Arm) = 0
+height Done = 0
+
+-- a bound on the steps before the next token
+abbrev pub weight : List Goal → ℕ
+weight [] = 0
+weight (part (One c) ∷ gs) = 0
+weight (part (Node r) ∷ gs) = 2 + height (Whole r)
+weight (phrase x ∷ gs) = if may_end x then (if is_done x then 1 else 2) + weight gs else 1 + height x
+weight (shut r ∷ gs) = 1 + weight gs

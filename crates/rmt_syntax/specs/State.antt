@@ -6,8 +6,10 @@ use Rattle.rmt_syntax.specs.declared.reader.Frame.{Frame}
 use Rattle.rmt_syntax.specs.declared.reader.Reader.{Reader}
 use Rattle.rmt_syntax.specs.declared.tree.Rule.TheVariants as rule
 use Rattle.rmt_syntax.specs.declared.grammar.Phrase.TheVariants.{Done}
+use Rattle.rmt_lexer.specs.declared.fault.ProgramFault.{ProgramFault}
+use Rattle.rmt_lexer.specs.declared.fault.ProgramFault.TheVariants.{NoMemory, At}
 use Rattle.rmt_syntax.specs.Lookahead.{Orderly}
-use Rattle.rmt_syntax.specs.Trees.{Mark, opens, marks, tokens_in, Goal, part, phrase, shut, Reads, IsText, IsNested, depth_of}
+use Rattle.rmt_syntax.specs.Trees.{Mark, opens, marks, tokens_in, Goal, part, phrase, shut, Reads, IsText, IsNested, depth_of, IsFault}
 
 -- the marks of the parts that a node has so far
 abbrev pub frame_marks : Frame → List Mark
@@ -39,3 +41,12 @@ pub record Stands (tokens : List Token) (at : ℕ) (goals : List Goal) (seen : L
   pub open_blocks : depth ≡ depth_of seen
   pub orderly : Orderly goals
   pub ended : length tokens ≤ at → goals ≡ phrase Done ∷ shut rule.Program ∷ []
+
+-- no tree has these tokens and blocks nested in one another at most 32 deep
+abbrev pub HasNoTree : List Token → Type 0
+HasNoTree tokens = (all : List Mark) → IsText all → tokens_in all ≡ tokens → IsNested all → ⊥
+
+-- the tokens are refused: the fault is where it says, and they have no tree
+abbrev pub Refuses : List Token → ProgramFault → Type 0
+Refuses tokens NoMemory = Unit {0}
+Refuses tokens (At code line column) = IsFault tokens code line column × HasNoTree tokens
