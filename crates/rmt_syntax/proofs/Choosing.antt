@@ -94,7 +94,7 @@ place p g gs f false e h later = let k = later (sym (ap (λ v. cond v (Some g) (
 pub same_form : (ps qs : List Part) (x y : Phrase) → ◌≡◌ {A = Option Form} (Some (ps, x)) (Some (qs, y)) → (ps ≡ qs) × (x ≡ y)
 same_form ps qs x y h = let e : ◌≡◌ {A = Form} (ps, x) (qs, y) = cc in (ap (λ (f : Form). f.0) e, ap (λ (f : Form). f.1) e)
 
-found_at : (p : Form → Bool) (fs : List Form) (f : Form) → find p fs ≡ Some f → (i : ℕ) × (slice_get fs i ≡ Some f)
+pub found_at : (p : Form → Bool) (fs : List Form) (f : Form) → find p fs ≡ Some f → (i : ℕ) × (slice_get fs i ≡ Some f)
 found_at p [] f h = cc
 found_at p (g ∷ gs) f h = place p g gs f (p g) refl h (found_at p gs f)
 

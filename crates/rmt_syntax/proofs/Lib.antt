@@ -8,3 +8,5 @@ mod Marks
 mod Operands
 mod Produce
 mod Sets
+mod Standing
+mod Weights

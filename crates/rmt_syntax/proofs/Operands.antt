@@ -26,7 +26,7 @@ use Rattle.rmt_syntax.specs.Lookahead.{first_form, is_empty}
 use Rattle.std.proofs.lemmas.Bool.Decides.{leb_tells}
 
 -- the place after one that is not the last has a token
-there_is : {A : Type 0} (xs : List A) (n : ℕ) → n < length xs → (x : A) × (slice_get xs n ≡ Some x)
+pub there_is : {A : Type 0} (xs : List A) (n : ℕ) → n < length xs → (x : A) × (slice_get xs n ≡ Some x)
 there_is [] n h = absurd (omega arith)
 there_is (x ∷ xs) zero h = (x, refl)
 there_is (x ∷ xs) (suc n) h = there_is xs n (omega arith)

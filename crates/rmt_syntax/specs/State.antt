@@ -1,5 +1,5 @@
 -- What a reader that stands in the middle of a text has read, and what it still has to read.
-use Rattle.std.specs.Prelude.{◌≡◌, ℕ, suc, ◌+◌, List, [], ◌∷◌, ◌++◌, map, fold, take, length, ◌≤◌}
+use Rattle.std.specs.Prelude.{◌≡◌, ℕ, suc, ◌+◌, List, [], ◌∷◌, ◌++◌, map, fold, take, length, ◌≤◌, Bool, false, Some, slice_get}
 use Rattle.std.specs.List.{flat_map}
 use Rattle.rmt_lexer.specs.declared.token.Token.{Token}
 use Rattle.rmt_syntax.specs.declared.reader.Frame.{Frame}
@@ -8,7 +8,9 @@ use Rattle.rmt_syntax.specs.declared.tree.Rule.TheVariants as rule
 use Rattle.rmt_syntax.specs.declared.grammar.Phrase.TheVariants.{Done}
 use Rattle.rmt_lexer.specs.declared.fault.ProgramFault.{ProgramFault}
 use Rattle.rmt_lexer.specs.declared.fault.ProgramFault.TheVariants.{NoMemory, At}
-use Rattle.rmt_syntax.specs.Lookahead.{Orderly}
+use Rattle.rmt_syntax.specs.Lookahead.{Orderly, is_operand_name}
+use Rattle.rmt_syntax.specs.Grammar.{terminal_of}
+use Rattle.rmt_syntax.specs.declared.grammar.Phrase.{Phrase}
 use Rattle.rmt_syntax.specs.Trees.{Mark, opens, marks, tokens_in, Goal, part, phrase, shut, Reads, IsText, IsNested, depth_of, IsFault}
 
 -- the marks of the parts that a node has so far
@@ -50,3 +52,7 @@ HasNoTree tokens = (all : List Mark) → IsText all → tokens_in all ≡ tokens
 abbrev pub Refuses : List Token → ProgramFault → Type 0
 Refuses tokens NoMemory = Unit {0}
 Refuses tokens (At code line column) = IsFault tokens code line column × HasNoTree tokens
+
+-- the token is no name that begins an operand
+abbrev pub IsNoOperandName : Phrase → List Token → ℕ → Type 0
+IsNoOperandName x tokens at = (t : Token) → slice_get tokens at ≡ Some t → is_operand_name x (terminal_of t.what) ≡ false

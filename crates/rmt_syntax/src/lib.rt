@@ -3,6 +3,9 @@
 
 mod grammar;
 mod lookahead;
+mod parser;
 mod reader;
 mod terminal;
 pub mod tree;
+
+pub use parser::syntax;

@@ -1,6 +1,6 @@
 ghost use Rattle.std.specs.Prelude.{◌≡◌, map, option_map};
 ghost use Rattle.std.specs.List.{find};
-ghost use Rattle.rmt_syntax.specs.Lookahead.{same, member, first_of, may_begin, is_operand_name, choice_of};
+ghost use Rattle.rmt_syntax.specs.Lookahead.{same, member, first_of, may_begin, is_done, is_operand_name, choice_of};
 
 use crate::grammar::{Choice, Part, Phrase, choices};
 use crate::terminal::Terminal;
@@ -72,6 +72,16 @@ fn found(forms: &'static [Choice], terminal: Terminal) -> Option<Choice>
         }
     }
     None
+}
+
+/// Whether nothing more is to come of a phrase.
+pub fn is_done(phrase: Phrase) -> bool
+    ensures { result ≡ is_done phrase }
+{
+    match phrase {
+        Phrase::Done => true,
+        _ => false,
+    }
 }
 
 /// Whether a name as an operand comes next.
