@@ -1,7 +1,7 @@
 -- What holds of each form of each phrase, found by computing.
-use Rattle.std.proofs.Common.{◌≡◌, ℕ, suc, ◌+◌, ◌<◌, Bool, true, false, refl, List, [], ◌∷◌}
-use Rattle.std.specs.Prelude.{◌==◌, ◌&&◌, ◌||◌, not, nat_lt, if◌then◌else◌, slice_get, Option, Some, None}
-use Rattle.std.specs.List.{list_any, list_all}
+use Rattle.std.proofs.Common.{◌≡◌, ℕ, ◌+◌, Bool, true, false, refl, List, [], ◌∷◌}
+use Rattle.std.specs.Prelude.{◌&&◌, ◌||◌, not, nat_lt, slice_get, Option, Some, None}
+use Rattle.std.specs.List.{list_all}
 use Rattle.rmt_syntax.specs.declared.terminal.Terminal.{Terminal}
 use Rattle.rmt_syntax.specs.declared.terminal.Terminal.TheVariants as terminal
 use Rattle.rmt_syntax.specs.declared.tree.Rule.{Rule}
@@ -12,7 +12,7 @@ use Rattle.rmt_syntax.specs.declared.grammar.Phrase.{Phrase}
 use Rattle.rmt_syntax.specs.declared.grammar.Phrase.TheVariants.{Whole, Done}
 use Rattle.rmt_syntax.specs.declared.grammar.Phrase.TheVariants as phrase
 use Rattle.rmt_syntax.specs.Grammar.{Form, choices}
-use Rattle.rmt_syntax.specs.Lookahead.{same, member, first_of, first_form, first_phrase, may_begin, is_empty, is_done, may_end, height, tails, is_operand_name}
+use Rattle.rmt_syntax.specs.Lookahead.{same, member, first_of, first_form, first_phrase, is_empty, is_done, may_end, height, tails, is_operand_name}
 use Rattle.rmt_syntax.proofs.Sets.{subset, disjoint}
 
 abbrev pub is_program : Rule → Bool

@@ -1,9 +1,8 @@
 -- The steps of a reader at a phrase.
-use Rattle.std.proofs.Common.{◌≡◌, ◌∙◌, ◌⊎◌, inl, inr, ℕ, zero, suc, ◌+◌, ◌-◌, ◌<◌, ◌≤◌, Bool, true, false, cond, sym, ap, refl, subst, List, [], ◌∷◌, ◌++◌, Option, Some, None, map, take, drop, length, fold, arith, append_assoc, append-nil}
+use Rattle.std.proofs.Common.{◌≡◌, ◌∙◌, inl, inr, ℕ, suc, Bool, true, false, cond, sym, ap, refl, subst, List, [], ◌∷◌, ◌++◌, Option, Some, map, arith}
 use Rattle.std.specs.Prelude.{◌&&◌, ◌||◌, not, slice_get}
-use Rattle.std.specs.List.{list_all, find}
+use Rattle.std.specs.List.{find}
 use Rattle.rmt_lexer.specs.declared.token.Token.{Token}
-use Rattle.rmt_lexer.specs.declared.token.TokenKind.TheVariants as kind
 use Rattle.rmt_syntax.specs.declared.terminal.Terminal.{Terminal}
 use Rattle.rmt_syntax.specs.declared.terminal.Terminal.TheVariants as terminal
 use Rattle.rmt_syntax.specs.declared.tree.Rule.{Rule}
@@ -11,16 +10,15 @@ use Rattle.rmt_syntax.specs.declared.tree.Rule.TheVariants as rule
 use Rattle.rmt_syntax.specs.declared.grammar.Part.{Part}
 use Rattle.rmt_syntax.specs.declared.grammar.Part.TheVariants.{One, Node}
 use Rattle.rmt_syntax.specs.declared.grammar.Phrase.{Phrase}
-use Rattle.rmt_syntax.specs.declared.grammar.Phrase.TheVariants.{Whole, Done, FieldEnd}
+use Rattle.rmt_syntax.specs.declared.grammar.Phrase.TheVariants.{Whole, Done}
 use Rattle.rmt_syntax.specs.Grammar.{Form, choices, terminal_of}
-use Rattle.rmt_syntax.specs.Trees.{Mark, leaf, opens, shuts, tokens_in, Goal, part, phrase, shut, Reads, nothing, token, node, end, done, choose, IsText, IsNested, IsNestedFrom, depth_of, depth_after}
-use Rattle.rmt_syntax.specs.Lookahead.{same, member, first_of, may_begin, is_done, front, tails, Apart, Orderly, choice_of, is_operand_name}
+use Rattle.rmt_syntax.specs.Trees.{Mark, tokens_in, Goal, part, phrase, shut, Reads, done, choose}
+use Rattle.rmt_syntax.specs.Lookahead.{same, may_begin, is_done, front, tails, Apart, Orderly, choice_of, is_operand_name}
 use Rattle.rmt_syntax.specs.State.{Stands}
-use Rattle.rmt_syntax.proofs.Fronts.{first_token, chosen, all_at, order_of}
-
-use Rattle.rmt_syntax.proofs.Machine.{next_token, take_next, within, after_end, after_done, after_node, after_one, close_stands, enter_stands, take_stands}
+use Rattle.rmt_syntax.proofs.Fronts.{chosen, all_at, order_of}
+use Rattle.rmt_syntax.proofs.Machine.{next_token, within}
 use Rattle.rmt_syntax.proofs.Checks.{in_order, is_program, is_whole_program}
-use Rattle.rmt_syntax.proofs.Sets.{and_true, or_true, not_true, not_both, same_refl, subset, disjoint, disjoint_is, apart_both, apart_part}
+use Rattle.rmt_syntax.proofs.Sets.{and_true, or_true, not_true, not_both, subset, disjoint, disjoint_is, apart_both, apart_part}
 use Rattle.rmt_syntax.specs.Lookahead.{first_form, first_phrase, is_empty, may_end}
 use Rattle.std.specs.Prelude.{if◌then◌else◌}
 
@@ -54,37 +52,41 @@ order : (x : Phrase) (ps : List Part) (next : Phrase) (gs : List Goal) → in_or
 order x [] next gs h p apart o =
     let both = and_true (subset (tails next) (tails x)) (not (is_whole_program next) || is_whole_program x) h in
     let is_last : next ≡ Whole rule.Program → gs ≡ shut rule.Program ∷ [] = λ e.
-        let program : is_whole_program next ≡ true = ap is_whole_program e in
-        elim (or_true (not (is_whole_program next)) (is_whole_program x) both.1) [
-          inl a ↦ absurd (not_both _ program (not_true _ a))
-        | inr a ↦ p (whole_is x a) ] in
+    let program : is_whole_program next ≡ true = ap is_whole_program e in
+    elim (or_true (not (is_whole_program next)) (is_whole_program x) both.1) [
+      | inl a ↦ absurd (not_both _ program (not_true _ a))
+      | inr a ↦ p (whole_is x a)
+    ] in
     (is_last, apart_part (tails next) (tails x) (front gs) both.0 apart, o)
 order x (One c ∷ ps) next gs h p apart o =
     let both = and_true (not (same c terminal.End) || (is_whole_program x && is_empty (ps, next) && is_done next)) (in_order x ps next) h in
     let is_last : c ≡ terminal.End → (map part ps ++ phrase next ∷ gs) ≡ phrase Done ∷ shut rule.Program ∷ [] = λ e.
-        elim (or_true (not (same c terminal.End)) (is_whole_program x && is_empty (ps, next) && is_done next) both.0) [
-          inl a ↦ absurd (not_both _ (ap (λ v. same v terminal.End) e) (not_true _ a))
-        | inr a ↦
-            let first = and_true (is_whole_program x && is_empty (ps, next)) (is_done next) a in
-            let second = and_true (is_whole_program x) (is_empty (ps, next)) first.0 in
-            let e1 : ps ≡ [] = empty_is ps next second.1 in
-            let e2 : next ≡ Done = done_is next first.1 in
-            let e3 : gs ≡ shut rule.Program ∷ [] = p (whole_is x second.0) in
-            ap (λ v. map part v ++ phrase next ∷ gs) e1 ∙ ap (λ v. phrase v ∷ gs) e2 ∙ ap (λ v. phrase Done ∷ v) e3 ] in
+    elim (or_true (not (same c terminal.End)) (is_whole_program x && is_empty (ps, next) && is_done next) both.0) [
+      | inl a ↦ absurd (not_both _ (ap (λ v. same v terminal.End) e) (not_true _ a))
+      | inr a ↦
+          let first = and_true (is_whole_program x && is_empty (ps, next)) (is_done next) a in
+          let second = and_true (is_whole_program x) (is_empty (ps, next)) first.0 in
+          let e1 : ps ≡ [] = empty_is ps next second.1 in
+          let e2 : next ≡ Done = done_is next first.1 in
+          let e3 : gs ≡ shut rule.Program ∷ [] = p (whole_is x second.0) in
+          ap (λ v. map part v ++ phrase next ∷ gs) e1 ∙ ap (λ v. phrase v ∷ gs) e2 ∙ ap (λ v. phrase Done ∷ v) e3
+    ] in
     (is_last, order x ps next gs both.1 p apart o)
 order x (Node r ∷ []) next gs h p apart o =
     let first = and_true (not (is_program r) && disjoint (tails (Whole r)) (first_phrase next) && (not (may_end next) || subset (tails (Whole r)) (tails x))) (in_order x [] next) h in
     let second = and_true (not (is_program r) && disjoint (tails (Whole r)) (first_phrase next)) (not (may_end next) || subset (tails (Whole r)) (tails x)) first.0 in
-    let third = and_true (not (is_program r)) (disjoint (tails (Whole r)) (first_phrase next)) second.0 in
-    ((λ e. not_both _ (ap is_program e) (not_true _ third.0)),
-     apart_both (tails (Whole r)) (first_phrase next) _ (disjoint_is _ _ third.1) (apart_rest (may_end next) (tails (Whole r)) (tails x) (front gs) second.1 apart),
-     order x [] next gs first.1 p apart o)
+    let third = and_true (not (is_program r)) (disjoint (tails (Whole r)) (first_phrase next)) second.0 in (
+      (λ e. not_both _ (ap is_program e) (not_true _ third.0)),
+      apart_both (tails (Whole r)) (first_phrase next) _ (disjoint_is _ _ third.1) (apart_rest (may_end next) (tails (Whole r)) (tails x) (front gs) second.1 apart),
+      order x [] next gs first.1 p apart o,
+    )
 order x (Node r ∷ q ∷ ps) next gs h p apart o =
     let first = and_true (not (is_program r) && disjoint (tails (Whole r)) (first_form (q ∷ ps, next))) (in_order x (q ∷ ps) next) h in
-    let second = and_true (not (is_program r)) (disjoint (tails (Whole r)) (first_form (q ∷ ps, next))) first.0 in
-    ((λ e. not_both _ (ap is_program e) (not_true _ second.0)),
-     subst (λ v. Apart (tails (Whole r)) v) (sym (front_part q ps next (map part ps ++ phrase next ∷ gs))) (disjoint_is _ _ second.1),
-     order x (q ∷ ps) next gs first.1 p apart o)
+    let second = and_true (not (is_program r)) (disjoint (tails (Whole r)) (first_form (q ∷ ps, next))) first.0 in (
+      (λ e. not_both _ (ap is_program e) (not_true _ second.0)),
+      subst (λ v. Apart (tails (Whole r)) v) (sym (front_part q ps next (map part ps ++ phrase next ∷ gs))) (disjoint_is _ _ second.1),
+      order x (q ∷ ps) next gs first.1 p apart o,
+    )
 
 place : (p : Form → Bool) (g : Form) (gs : List Form) (f : Form) (b : Bool) → p g ≡ b → find p (g ∷ gs) ≡ Some f → (find p gs ≡ Some f → (i : ℕ) × (slice_get gs i ≡ Some f)) → (i : ℕ) × (slice_get (g ∷ gs) i ≡ Some f)
 place p g gs f true e h later = (0, sym (ap (λ v. cond v (Some g) (find p gs)) e) ∙ h)
@@ -115,10 +117,10 @@ choose_stands tokens at t x ps next gs seen depth here name found s =
       ended = λ h. absurd (omega (arith, within tokens at t here));
     }
   where
-  goes : {more : List Token} (x : Phrase) (ms : List Mark) → Reads (phrase x ∷ gs) ms → is_operand_name x (terminal_of t.what) ≡ false → choice_of x (terminal_of t.what) ≡ Some (ps, next)
-      → Apart (tails x) (front gs) → tokens_in ms ≡ t ∷ more → Reads (map part ps ++ phrase next ∷ gs) ms
-  goes x ms (done d) n f a e = cc
-  goes {more} x ms (choose i ps' next' is d) n f a e =
-      let same : ◌≡◌ {A = Option Form} (Some (ps', next')) (Some (ps, next)) = sym (chosen x t more i ps' next' gs ms is d e a n) ∙ f in
-      let e = same_form ps' ps next' next same in
-      subst (λ (v : Phrase). Reads (map part ps ++ phrase v ∷ gs) ms) e.1 (subst (λ (v : List Part). Reads (map part v ++ phrase next' ∷ gs) ms) e.0 d)
+    goes : {more : List Token} (x : Phrase) (ms : List Mark) → Reads (phrase x ∷ gs) ms → is_operand_name x (terminal_of t.what) ≡ false → choice_of x (terminal_of t.what) ≡ Some (ps, next)
+        → Apart (tails x) (front gs) → tokens_in ms ≡ t ∷ more → Reads (map part ps ++ phrase next ∷ gs) ms
+    goes x ms (done d) n f a e = cc
+    goes {more} x ms (choose i ps' next' is d) n f a e =
+        let same : ◌≡◌ {A = Option Form} (Some (ps', next')) (Some (ps, next)) = sym (chosen x t more i ps' next' gs ms is d e a n) ∙ f in
+        let e = same_form ps' ps next' next same in
+        subst (λ (v : Phrase). Reads (map part ps ++ phrase v ∷ gs) ms) e.1 (subst (λ (v : List Part). Reads (map part v ++ phrase next' ∷ gs) ms) e.0 d)

@@ -1,29 +1,24 @@
 -- Where a reader that stands before a token finds a fault.
-use Rattle.std.proofs.Common.{◌≡◌, ◌∙◌, ◌⊎◌, inl, inr, ℕ, zero, suc, ◌+◌, ◌-◌, ◌<◌, ◌≤◌, Bool, true, false, cond, sym, ap, refl, subst, List, [], ◌∷◌, ◌++◌, Option, Some, None, map, take, drop, length, fold, arith, append_assoc, append-nil}
-use Rattle.std.specs.Prelude.{◌&&◌, ◌||◌, not, slice_get}
-use Rattle.std.specs.List.{list_all, find}
+use Rattle.std.proofs.Common.{◌≡◌, ◌∙◌, ℕ, suc, ◌+◌, ◌≤◌, true, false, sym, ap, refl, subst, List, [], ◌∷◌, ◌++◌, Option, Some, None, take, drop, arith, append_assoc}
+use Rattle.std.specs.Prelude.{slice_get}
 use Rattle.rmt_lexer.specs.declared.token.Token.{Token}
-use Rattle.rmt_lexer.specs.declared.token.TokenKind.TheVariants as kind
 use Rattle.rmt_syntax.specs.declared.terminal.Terminal.{Terminal}
 use Rattle.rmt_syntax.specs.declared.terminal.Terminal.TheVariants as terminal
 use Rattle.rmt_syntax.specs.declared.tree.Rule.{Rule}
 use Rattle.rmt_syntax.specs.declared.tree.Rule.TheVariants as rule
-use Rattle.rmt_syntax.specs.declared.grammar.Part.{Part}
 use Rattle.rmt_syntax.specs.declared.grammar.Part.TheVariants.{One, Node}
 use Rattle.rmt_syntax.specs.declared.grammar.Phrase.{Phrase}
-use Rattle.rmt_syntax.specs.declared.grammar.Phrase.TheVariants.{Whole, Done, FieldEnd}
-use Rattle.rmt_syntax.specs.Grammar.{Form, choices, terminal_of}
-use Rattle.rmt_syntax.specs.Trees.{Mark, leaf, opens, shuts, tokens_in, Goal, part, phrase, shut, Reads, nothing, token, node, end, done, choose, IsText, IsNested, IsNestedFrom, depth_of, depth_after}
-use Rattle.rmt_syntax.specs.Lookahead.{same, member, first_of, may_begin, is_done, front, tails, Apart, Orderly, choice_of, is_operand_name}
+use Rattle.rmt_syntax.specs.declared.grammar.Phrase.TheVariants.{Done}
+use Rattle.rmt_syntax.specs.Grammar.{Form, terminal_of}
+use Rattle.rmt_syntax.specs.Trees.{Mark, leaf, opens, tokens_in, Goal, part, phrase, shut, Reads, nothing, token, node, done, choose, IsText, IsNested, depth_of}
+use Rattle.rmt_syntax.specs.Lookahead.{is_done, front, tails, Apart, choice_of, is_operand_name}
 use Rattle.rmt_syntax.specs.State.{Stands}
-use Rattle.rmt_syntax.proofs.Fronts.{first_token, chosen, all_at, order_of}
-
+use Rattle.rmt_syntax.proofs.Fronts.{first_token, chosen}
 use Rattle.std.proofs.lemmas.List.{take-append-drop}
-use Rattle.rmt_syntax.specs.Trees.{IsFront, Unexpected, TooDeep, IsFaultAt}
+use Rattle.rmt_syntax.specs.Trees.{Unexpected, TooDeep}
 use Rattle.rmt_syntax.specs.State.{HasNoTree}
-use Rattle.rmt_syntax.proofs.Machine.{tokens_append, next_token, within, nested_front, depth_append, after_end, after_done, after_node, after_one}
+use Rattle.rmt_syntax.proofs.Machine.{tokens_append, next_token, nested_front, depth_append, after_end, after_done, after_node, after_one}
 use Rattle.rmt_syntax.proofs.Sets.{member_one, not_both, same_is}
-use Rattle.rmt_syntax.proofs.Choosing.{done_is}
 use Rattle.rmt_syntax.proofs.Produce.{has_text}
 use Rattle.rmt_syntax.specs.declared.grammar.Phrase.TheVariants.{Statements}
 
@@ -67,11 +62,11 @@ fails_phrase tokens at t x gs seen depth here name undone none s all more text e
     let w = s.whole all more text e in
     goes x w.0 w.2 (next_token tokens more at t all seen w.0 here s.read w.1 e) name undone none s.orderly.1
   where
-  goes : {more : List Token} (x : Phrase) (ms : List Mark) → Reads (phrase x ∷ gs) ms → tokens_in ms ≡ t ∷ more → is_operand_name x (terminal_of t.what) ≡ false
-      → is_done x ≡ false → choice_of x (terminal_of t.what) ≡ None → Apart (tails x) (front gs) → ⊥
-  goes x ms (done d) is name undone none a = not_both true refl undone
-  goes {more} x ms (choose i ps next k d) is name undone none a =
-      let same : ◌≡◌ {A = Option Form} (Some (ps, next)) None = sym (chosen x t more i ps next gs ms k d is a name) ∙ none in cc
+    goes : {more : List Token} (x : Phrase) (ms : List Mark) → Reads (phrase x ∷ gs) ms → tokens_in ms ≡ t ∷ more → is_operand_name x (terminal_of t.what) ≡ false
+        → is_done x ≡ false → choice_of x (terminal_of t.what) ≡ None → Apart (tails x) (front gs) → ⊥
+    goes x ms (done d) is name undone none a = not_both true refl undone
+    goes {more} x ms (choose i ps next k d) is name undone none a =
+        let same : ◌≡◌ {A = Option Form} (Some (ps, next)) None = sym (chosen x t more i ps next gs ms k d is a name) ∙ none in cc
 
 -- the text is at its end
 pub fails_end : (tokens : List Token) (at : ℕ) (t : Token) (r : Rule) (seen : List Mark) (depth : ℕ) → slice_get tokens at ≡ Some t
@@ -83,8 +78,8 @@ fails_end tokens at t r seen depth here s all more text e =
     let none : tokens_in w.0 ≡ tokens_in v.0 = ap tokens_in v.1 in
     nothing_left v.2 (sym none ∙ is)
   where
-  nothing_left : {ms : List Mark} {ts : List Token} {t : Token} → Reads [] ms → tokens_in ms ≡ t ∷ ts → ⊥
-  nothing_left nothing e = cc
+    nothing_left : {ms : List Mark} {ts : List Token} {t : Token} → Reads [] ms → tokens_in ms ≡ t ∷ ts → ⊥
+    nothing_left nothing e = cc
 
 pub is_too_deep : (tokens : List Token) (at : ℕ) (t : Token) (gs : List Goal) (seen : List Mark) (depth : ℕ) → slice_get tokens at ≡ Some t
     → terminal_of t.what ≡ terminal.OpenBrace → depth ≡ 32 → Stands tokens at (part (Node rule.Block) ∷ gs) seen depth → TooDeep tokens at

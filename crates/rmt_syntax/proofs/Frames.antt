@@ -1,5 +1,5 @@
 -- What nodes that are not read to their end have read, and have to read.
-use Rattle.std.proofs.Common.{◌≡◌, ◌<◌, ◌∙◌, ℕ, sym, ap, refl, List, [], ◌∷◌, ◌++◌, append_assoc, append-nil, map, length, length-append, arith}
+use Rattle.std.proofs.Common.{◌≡◌, ◌<◌, ◌∙◌, sym, ap, refl, List, [], ◌∷◌, ◌++◌, append_assoc, append-nil, map, length, length-append, arith}
 use Rattle.std.specs.List.{flat_map, fold}
 use Rattle.std.proofs.lemmas.Grind.{flat_map-append}
 use Rattle.std.specs.Prelude.{Vec}
@@ -10,9 +10,8 @@ use Rattle.rmt_syntax.specs.declared.grammar.Part.{Part}
 use Rattle.rmt_syntax.specs.declared.grammar.Phrase.{Phrase}
 use Rattle.rmt_syntax.specs.declared.grammar.Phrase.TheVariants.{Done}
 use Rattle.rmt_syntax.specs.declared.reader.Frame.{Frame}
-use Rattle.rmt_syntax.specs.declared.reader.Reader.{Reader}
-use Rattle.rmt_syntax.specs.Trees.{Mark, opens, shuts, marks, Goal, part, phrase, shut}
-use Rattle.rmt_syntax.specs.State.{frame_marks, frame_goals, outer_goals, marks_of, goals_of}
+use Rattle.rmt_syntax.specs.Trees.{opens, shuts, marks, Goal, part, phrase, shut}
+use Rattle.rmt_syntax.specs.State.{frame_marks, frame_goals, outer_goals}
 use Rattle.rmt_syntax.proofs.Marks.{marks_many}
 
 -- a node that is read to its end stands in the one around it
@@ -20,9 +19,9 @@ pub closed : (fs gs : List Frame) (o : Frame) (r : Rule) (v : Vec Tree Global) (
     → flat_map frame_marks fs ++ (opens o.rule ∷ flat_map marks ps) ≡ (flat_map frame_marks gs ++ (opens r ∷ flat_map marks v.items)) ++ shuts r ∷ []
 closed fs gs o r v ps e1 e2 =
     let inside : flat_map marks ps ≡ flat_map marks o.parts.items ++ (opens r ∷ (flat_map marks v.items ++ shuts r ∷ [])) =
-        ap (flat_map marks) e2 ∙ flat_map-append marks o.parts.items (Many r v ∷ []) ∙ ap (λ ms. flat_map marks o.parts.items ++ ms) (append-nil (marks (Many r v)) ∙ marks_many r v) in
+    ap (flat_map marks) e2 ∙ flat_map-append marks o.parts.items (Many r v ∷ []) ∙ ap (λ ms. flat_map marks o.parts.items ++ ms) (append-nil (marks (Many r v)) ∙ marks_many r v) in
     let around : flat_map frame_marks gs ≡ flat_map frame_marks fs ++ (opens o.rule ∷ flat_map marks o.parts.items) =
-        ap (flat_map frame_marks) e1 ∙ flat_map-append frame_marks fs (o ∷ []) ∙ ap (λ ms. flat_map frame_marks fs ++ ms) (append-nil (frame_marks o)) in
+    ap (flat_map frame_marks) e1 ∙ flat_map-append frame_marks fs (o ∷ []) ∙ ap (λ ms. flat_map frame_marks fs ++ ms) (append-nil (frame_marks o)) in
     ap (λ ms. flat_map frame_marks fs ++ (opens o.rule ∷ ms)) inside
     ∙ sym (append_assoc (flat_map frame_marks fs) (opens o.rule ∷ flat_map marks o.parts.items) (opens r ∷ (flat_map marks v.items ++ shuts r ∷ [])))
     ∙ ap (λ ms. ms ++ (opens r ∷ (flat_map marks v.items ++ shuts r ∷ []))) (sym around)

@@ -1,5 +1,5 @@
 -- What comes next is among the terminals that may.
-use Rattle.std.proofs.Common.{◌≡◌, ◌∙◌, ◌⊎◌, inl, inr, ℕ, zero, suc, ◌+◌, Bool, true, false, cond, sym, ap, refl, subst, List, [], ◌∷◌, ◌++◌, Option, Some, None, map}
+use Rattle.std.proofs.Common.{◌≡◌, ◌∙◌, inl, inr, ℕ, zero, suc, Bool, true, false, cond, sym, ap, refl, subst, List, [], ◌∷◌, ◌++◌, Some, map}
 use Rattle.std.specs.Prelude.{◌&&◌, ◌||◌, not, slice_get, if◌then◌else◌}
 use Rattle.std.specs.List.{list_any, list_all, flat_map, find}
 use Rattle.rmt_lexer.specs.declared.token.Token.{Token}
@@ -10,10 +10,10 @@ use Rattle.rmt_syntax.specs.declared.grammar.Part.TheVariants.{One, Node}
 use Rattle.rmt_syntax.specs.declared.grammar.Phrase.{Phrase}
 use Rattle.rmt_syntax.specs.declared.grammar.Phrase.TheVariants.{Whole, Done}
 use Rattle.rmt_syntax.specs.Grammar.{Form, choices, terminal_of}
-use Rattle.rmt_syntax.specs.Trees.{Mark, leaf, opens, shuts, tokens_in, Goal, part, phrase, shut, Reads, nothing, token, node, end, done, choose}
+use Rattle.rmt_syntax.specs.Trees.{Mark, tokens_in, Goal, part, phrase, shut, Reads, nothing, token, node, end, done, choose}
 use Rattle.rmt_syntax.specs.Lookahead.{same, member, first_of, first_form, first_phrase, may_begin, is_empty, is_done, may_end, front, tails, Apart, choice_of, is_operand_name}
-use Rattle.rmt_syntax.proofs.Sets.{same_refl, same_is, and_true, or_true, or_left, or_right, not_true, not_both, member_here, member_one, member_left, member_right, member_either, subset_is, disjoint_is, subset, disjoint}
-use Rattle.rmt_syntax.proofs.Checks.{distinct, ends_well, in_order, goes_on, is_fine, fine, begins_well, beginning, differ}
+use Rattle.rmt_syntax.proofs.Sets.{same_is, and_true, or_true, or_left, or_right, not_true, not_both, member_here, member_left, member_right, member_either, subset_is, subset}
+use Rattle.rmt_syntax.proofs.Checks.{distinct, ends_well, in_order, goes_on, fine, beginning, differ}
 
 pub all_at : {A : Type 0} (p : A → Bool) (xs : List A) (i : ℕ) (x : A) → list_all p xs ≡ true → slice_get xs i ≡ Some x → p x ≡ true
 all_at p [] i x h e = cc
@@ -65,8 +65,9 @@ rule_begins : (t : Terminal) (r : Rule) (gs : List Goal) → member t (front (ph
 rule_begins t r gs m =
     let both = and_true (not (may_end (Whole r))) (subset (first_phrase (Whole r)) (first_of r)) (beginning r) in
     elim (member_either t (first_phrase (Whole r)) _ m) [
-      inl k ↦ subset_is (first_phrase (Whole r)) (first_of r) both.1 t k
-    | inr k ↦ absurd (no_rest t (may_end (Whole r)) (front gs) (not_true _ both.0) k) ]
+      | inl k ↦ subset_is (first_phrase (Whole r)) (first_of r) both.1 t k
+      | inr k ↦ absurd (no_rest t (may_end (Whole r)) (front gs) (not_true _ both.0) k)
+    ]
 
 -- a form's phrase begins as the form does
 form_begins : (t : Terminal) (x : Phrase) (i : ℕ) (parts : List Part) (next : Phrase) (gs : List Goal) → slice_get (choices x) i ≡ Some (parts, next)
@@ -96,8 +97,9 @@ all_member p [] t h m = cc
 all_member p (x ∷ xs) t h m =
     let both = and_true (p x) (list_all p xs) h in
     elim (or_true (same x t) (member t xs) m) [
-      inl e ↦ subst (λ v. p v ≡ true) (same_is x t e) both.0
-    | inr k ↦ all_member p xs t both.1 k ]
+      | inl e ↦ subst (λ v. p v ≡ true) (same_is x t e) both.0
+      | inr k ↦ all_member p xs t both.1 k
+    ]
 
 or_nothing : (b : Bool) → (b || false) ≡ b
 or_nothing true = refl
@@ -127,10 +129,11 @@ find_full x t (g ∷ h ∷ fs) (suc i) f d o e n m =
     let both = and_true (not (is_empty g)) _ first.0 in
     let other : differ x (first_form g) (first_form f) ≡ true = all_at (λ (other : Form). differ x (first_form g) (first_form other)) (h ∷ fs) i f both.1 e in
     let passes : may_begin g t ≡ false = is_false (may_begin g t) (λ k.
-        let here : member t (first_form g) ≡ true = sym (begins_as g t (not_true _ both.0)) ∙ k in
-        elim (or_true (not (member t (first_form f))) (is_operand_name x t) (all_member (λ v. not (member v (first_form f)) || is_operand_name x v) (first_form g) t other here)) [
-          inl a ↦ not_both _ m (not_true _ a)
-        | inr a ↦ not_both _ a o ]) in
+    let here : member t (first_form g) ≡ true = sym (begins_as g t (not_true _ both.0)) ∙ k in
+    elim (or_true (not (member t (first_form f))) (is_operand_name x t) (all_member (λ v. not (member v (first_form f)) || is_operand_name x v) (first_form g) t other here)) [
+      | inl a ↦ not_both _ m (not_true _ a)
+      | inr a ↦ not_both _ a o
+    ]) in
     pass_first t g (h ∷ fs) passes ∙ find_full x t (h ∷ fs) i f first.1 o e n m
 
 -- where none of the others begins with the terminal, the form without parts is found
@@ -156,9 +159,10 @@ chosen x t more i [] next gs ms e d is apart o =
     let ends = empty_ends x i next e in
     let behind : member c (front gs) ≡ true = subst (λ (n : Phrase). member c (front (phrase n ∷ gs)) ≡ true) (done_is next ends.1) (first_token t more d is) in
     find_empty x c (choices x) i next (distinct_of x) e (λ m.
-        elim (or_true (not (may_end x)) (subset (first_phrase x) (tails x)) (goes_of x)) [
-          inl a ↦ not_both _ ends.0 (not_true _ a)
-        | inr a ↦ not_both _ behind (apart c (subset_is (first_phrase x) (tails x) a c m)) ])
+    elim (or_true (not (may_end x)) (subset (first_phrase x) (tails x)) (goes_of x)) [
+      | inl a ↦ not_both _ ends.0 (not_true _ a)
+      | inr a ↦ not_both _ behind (apart c (subset_is (first_phrase x) (tails x) a c m))
+    ])
 chosen x t more i (One c ∷ ps) next gs ms e d is apart o =
     find_full x (terminal_of t.what) (choices x) i (One c ∷ ps, next) (distinct_of x) o e refl (first_token t more d is)
 chosen x t more i (Node r ∷ ps) next gs ms e d is apart o =

@@ -1,5 +1,6 @@
 mod Checks
 mod Choosing
+mod Ends
 mod Faults
 mod Frames
 mod Fronts

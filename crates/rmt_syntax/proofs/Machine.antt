@@ -1,7 +1,6 @@
 -- The steps of a reader keep what it stands for.
-use Rattle.std.proofs.Common.{◌≡◌, ◌∙◌, ◌⊎◌, inl, inr, ℕ, zero, suc, ◌+◌, ◌-◌, ◌<◌, ◌≤◌, Bool, true, false, cond, sym, ap, refl, subst, List, [], ◌∷◌, ◌++◌, Option, Some, None, map, take, drop, length, fold, arith, append_assoc, append-nil}
-use Rattle.std.specs.Prelude.{◌&&◌, ◌||◌, not, slice_get}
-use Rattle.std.specs.List.{list_all, find}
+use Rattle.std.proofs.Common.{◌≡◌, ◌∙◌, ℕ, zero, suc, ◌<◌, ◌≤◌, false, sym, ap, refl, subst, List, [], ◌∷◌, ◌++◌, Some, map, take, drop, length, fold, arith, append_assoc, append-nil}
+use Rattle.std.specs.Prelude.{slice_get}
 use Rattle.rmt_lexer.specs.declared.token.Token.{Token}
 use Rattle.rmt_lexer.specs.declared.token.TokenKind.TheVariants as kind
 use Rattle.rmt_syntax.specs.declared.terminal.Terminal.{Terminal}
@@ -11,12 +10,11 @@ use Rattle.rmt_syntax.specs.declared.tree.Rule.TheVariants as rule
 use Rattle.rmt_syntax.specs.declared.grammar.Part.{Part}
 use Rattle.rmt_syntax.specs.declared.grammar.Part.TheVariants.{One, Node}
 use Rattle.rmt_syntax.specs.declared.grammar.Phrase.{Phrase}
-use Rattle.rmt_syntax.specs.declared.grammar.Phrase.TheVariants.{Whole, Done, FieldEnd}
-use Rattle.rmt_syntax.specs.Grammar.{Form, choices, terminal_of}
-use Rattle.rmt_syntax.specs.Trees.{Mark, leaf, opens, shuts, tokens_in, Goal, part, phrase, shut, Reads, nothing, token, node, end, done, choose, IsText, IsNested, IsNestedFrom, depth_of, depth_after}
-use Rattle.rmt_syntax.specs.Lookahead.{same, member, first_of, may_begin, is_done, front, tails, Apart, Orderly, choice_of, is_operand_name}
+use Rattle.rmt_syntax.specs.declared.grammar.Phrase.TheVariants.{Whole, Done}
+use Rattle.rmt_syntax.specs.Grammar.{choices, terminal_of}
+use Rattle.rmt_syntax.specs.Trees.{Mark, leaf, opens, shuts, tokens_in, Goal, part, phrase, shut, Reads, token, node, end, done, choose, IsText, IsNested, IsNestedFrom, depth_of, depth_after}
+use Rattle.rmt_syntax.specs.Lookahead.{is_done}
 use Rattle.rmt_syntax.specs.State.{Stands}
-use Rattle.rmt_syntax.proofs.Fronts.{first_token, chosen, all_at, order_of}
 
 pub tokens_append : (a b : List Mark) → tokens_in (a ++ b) ≡ tokens_in a ++ tokens_in b
 tokens_append [] b = refl
@@ -43,8 +41,8 @@ pub next_token : (tokens more : List Token) (at : ℕ) (t : Token) (all seen ms 
     → all ≡ seen ++ ms → tokens_in all ≡ take (suc at) tokens ++ more → tokens_in ms ≡ t ∷ more
 next_token tokens more at t all seen ms here read is e =
     cancel (take at tokens) (tokens_in ms) (t ∷ more)
-        (ap (λ v. v ++ tokens_in ms) (sym read) ∙ sym (tokens_append seen ms) ∙ ap tokens_in (sym is) ∙ e
-         ∙ ap (λ v. v ++ more) (take_next tokens at t here) ∙ append_assoc (take at tokens) (t ∷ []) more)
+    (ap (λ v. v ++ tokens_in ms) (sym read) ∙ sym (tokens_append seen ms) ∙ ap tokens_in (sym is) ∙ e
+    ∙ ap (λ v. v ++ more) (take_next tokens at t here) ∙ append_assoc (take at tokens) (t ∷ []) more)
 
 pub nested_more : (n : ℕ) (ms : List Mark) (m : Mark) → IsNestedFrom n ms → fold depth_after n (ms ++ m ∷ []) ≤ 32 → IsNestedFrom n (ms ++ m ∷ [])
 nested_more n [] m h k = (h, k)

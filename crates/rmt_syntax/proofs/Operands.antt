@@ -1,25 +1,21 @@
 -- The steps of a reader at an operand that begins with a name.
-use Rattle.std.proofs.Common.{◌≡◌, ◌∙◌, ◌⊎◌, inl, inr, ℕ, zero, suc, ◌+◌, ◌-◌, ◌<◌, ◌≤◌, Bool, true, false, cond, sym, ap, refl, subst, List, [], ◌∷◌, ◌++◌, Option, Some, None, map, take, drop, length, fold, arith, append_assoc, append-nil}
-use Rattle.std.specs.Prelude.{◌&&◌, ◌||◌, not, slice_get}
-use Rattle.std.specs.List.{list_all, find}
+use Rattle.std.proofs.Common.{◌≡◌, ◌∙◌, inl, inr, ℕ, zero, suc, ◌<◌, ◌≤◌, true, false, sym, ap, refl, subst, List, [], ◌∷◌, ◌++◌, Some, map, take, drop, length, arith, append_assoc, append-nil}
+use Rattle.std.specs.Prelude.{◌&&◌, not, slice_get}
+use Rattle.std.specs.List.{list_all}
 use Rattle.rmt_lexer.specs.declared.token.Token.{Token}
 use Rattle.rmt_lexer.specs.declared.token.TokenKind.TheVariants as kind
-use Rattle.rmt_syntax.specs.declared.terminal.Terminal.{Terminal}
 use Rattle.rmt_syntax.specs.declared.terminal.Terminal.TheVariants as terminal
-use Rattle.rmt_syntax.specs.declared.tree.Rule.{Rule}
 use Rattle.rmt_syntax.specs.declared.tree.Rule.TheVariants as rule
 use Rattle.rmt_syntax.specs.declared.grammar.Part.{Part}
 use Rattle.rmt_syntax.specs.declared.grammar.Part.TheVariants.{One, Node}
 use Rattle.rmt_syntax.specs.declared.grammar.Phrase.{Phrase}
 use Rattle.rmt_syntax.specs.declared.grammar.Phrase.TheVariants.{Whole, Done, FieldEnd}
 use Rattle.rmt_syntax.specs.Grammar.{Form, choices, terminal_of}
-use Rattle.rmt_syntax.specs.Trees.{Mark, leaf, opens, shuts, tokens_in, Goal, part, phrase, shut, Reads, nothing, token, node, end, done, choose, IsText, IsNested, IsNestedFrom, depth_of, depth_after}
-use Rattle.rmt_syntax.specs.Lookahead.{same, member, first_of, may_begin, is_done, front, tails, Apart, Orderly, choice_of, is_operand_name}
+use Rattle.rmt_syntax.specs.Trees.{Mark, leaf, opens, tokens_in, Goal, part, phrase, shut, Reads, token, node, choose, IsText, IsNested}
+use Rattle.rmt_syntax.specs.Lookahead.{member, front, tails, Apart}
 use Rattle.rmt_syntax.specs.State.{Stands}
-use Rattle.rmt_syntax.proofs.Fronts.{first_token, chosen, all_at, order_of}
-
-use Rattle.std.proofs.lemmas.List.{take-append-drop}
-use Rattle.rmt_syntax.proofs.Machine.{tokens_append, next_token, take_next, within, nested_front, nested_more, nested_now, depth_append, after_end, after_done, after_node, after_one, choose_now}
+use Rattle.rmt_syntax.proofs.Fronts.{first_token, all_at}
+use Rattle.rmt_syntax.proofs.Machine.{tokens_append, next_token, take_next, nested_more, nested_now, depth_append, after_node, after_one, choose_now}
 use Rattle.rmt_syntax.proofs.Choosing.{same_form}
 use Rattle.rmt_syntax.proofs.Sets.{and_true, not_true, not_both}
 use Rattle.rmt_syntax.specs.Lookahead.{first_form, is_empty}
@@ -58,8 +54,8 @@ field_by : (gs : List Goal) (t : Token) (more : List Token) (ms : List Mark) (i 
 field_by gs t more ms zero ps next e d is name =
     let f = same_form (One terminal.Name ∷ One terminal.Dot ∷ []) ps FieldEnd next e in
     let d' : Reads (part (One terminal.Name) ∷ part (One terminal.Dot) ∷ phrase FieldEnd ∷ shut rule.Field ∷ phrase Done ∷ gs) ms =
-        subst (λ (v : Phrase). Reads (part (One terminal.Name) ∷ part (One terminal.Dot) ∷ phrase v ∷ shut rule.Field ∷ phrase Done ∷ gs) ms) (sym f.1)
-            (subst (λ (v : List Part). Reads (map part v ++ phrase next ∷ shut rule.Field ∷ phrase Done ∷ gs) ms) (sym f.0) d) in
+    subst (λ (v : Phrase). Reads (part (One terminal.Name) ∷ part (One terminal.Dot) ∷ phrase v ∷ shut rule.Field ∷ phrase Done ∷ gs) ms) (sym f.1)
+    (subst (λ (v : List Part). Reads (map part v ++ phrase next ∷ shut rule.Field ∷ phrase Done ∷ gs) ms) (sym f.0) d) in
     let a = after_one d' in
     let b = after_one a.4 in
     subst (λ (v : List Mark). Operand gs (opens rule.Field ∷ v)) (sym (a.2 ∙ ap (λ (v : List Mark). leaf a.0 ∷ v) b.2)) (field b.3 b.4)
@@ -71,14 +67,14 @@ leaf_by : (gs : List Goal) (t : Token) (more : List Token) (ms : List Mark) (i :
 leaf_by gs t more ms zero ps next e d is name =
     let f = same_form (Node rule.Field ∷ []) ps Done next e in
     let d' : Reads (part (Node rule.Field) ∷ phrase Done ∷ gs) ms =
-        subst (λ (v : Phrase). Reads (part (Node rule.Field) ∷ phrase v ∷ gs) ms) (sym f.1) (subst (λ (v : List Part). Reads (map part v ++ phrase next ∷ gs) ms) (sym f.0) d) in
+    subst (λ (v : Phrase). Reads (part (Node rule.Field) ∷ phrase v ∷ gs) ms) (sym f.1) (subst (λ (v : List Part). Reads (map part v ++ phrase next ∷ gs) ms) (sym f.0) d) in
     let a = after_node d' in
     let n = choose_now refl a.2 in
     subst (Operand gs) (sym a.1) (field_by gs t more a.0 n.0 n.1 n.2 n.3 n.4 (sym (ap tokens_in a.1) ∙ is) name)
 leaf_by gs t more ms (suc zero) ps next e d is name =
     let f = same_form (One terminal.Name ∷ []) ps Done next e in
     let d' : Reads (part (One terminal.Name) ∷ phrase Done ∷ gs) ms =
-        subst (λ (v : Phrase). Reads (part (One terminal.Name) ∷ phrase v ∷ gs) ms) (sym f.1) (subst (λ (v : List Part). Reads (map part v ++ phrase next ∷ gs) ms) (sym f.0) d) in
+    subst (λ (v : Phrase). Reads (part (One terminal.Name) ∷ phrase v ∷ gs) ms) (sym f.1) (subst (λ (v : List Part). Reads (map part v ++ phrase next ∷ gs) ms) (sym f.0) d) in
     let a = after_one d' in
     subst (Operand gs) (sym a.2) (lone a.4)
 leaf_by gs t more ms (suc (suc i)) ps next e d is name = absurd (other_form t more (drop 2 (choices (Whole rule.Leaf))) i ps next gs ms refl e d is name)
@@ -106,8 +102,9 @@ field_whole {gs} {u = u} {more = more} (lone {ms = ms} d) e is apart =
 
 not_last : (tokens : List Token) (at : ℕ) (t : Token) → (length tokens ≤ suc at → t.what ≡ kind.End) → terminal_of t.what ≡ terminal.Name → suc at < length tokens
 not_last tokens at t last name = elim (leb_tells (length tokens) (suc at)) [
-    inl e ↦ (let end : terminal.End ≡ terminal.Name = sym (ap terminal_of (last e.1)) ∙ name in cc)
-  | inr e ↦ omega (arith, e.1) ]
+  | inl e ↦ (let end : terminal.End ≡ terminal.Name = sym (ap terminal_of (last e.1)) ∙ name in cc)
+  | inr e ↦ omega (arith, e.1)
+]
 
 -- an operand that is a name
 pub lone_stands : (tokens : List Token) (at : ℕ) (t : Token) (gs : List Goal) (seen : List Mark) (depth : ℕ) → slice_get tokens at ≡ Some t
@@ -139,7 +136,7 @@ pub field_stands : (tokens : List Token) (at : ℕ) (t u : Token) (gs : List Goa
 field_stands tokens at t u gs seen depth here last name there dot s =
     let inside : suc at < length tokens = not_last tokens at t last name in
     let regroup : (ms : List Mark) → ((seen ++ opens rule.Field ∷ []) ++ leaf t ∷ []) ++ ms ≡ seen ++ (opens rule.Field ∷ leaf t ∷ ms) =
-        λ ms. append_assoc (seen ++ opens rule.Field ∷ []) (leaf t ∷ []) ms ∙ append_assoc seen (opens rule.Field ∷ []) (leaf t ∷ ms) in
+    λ ms. append_assoc (seen ++ opens rule.Field ∷ []) (leaf t ∷ []) ms ∙ append_assoc seen (opens rule.Field ∷ []) (leaf t ∷ ms) in
     let once : IsNested (seen ++ opens rule.Field ∷ []) = nested_more 0 seen (opens rule.Field) s.nested (rw depth_append (nested_now seen s.nested)) in
     record {
       read = tokens_append (seen ++ opens rule.Field ∷ []) (leaf t ∷ []) ∙ ap (λ v. v ++ t ∷ []) (tokens_append seen (opens rule.Field ∷ []) ∙ append-nil (tokens_in seen) ∙ s.read) ∙ sym (take_next tokens at t here);

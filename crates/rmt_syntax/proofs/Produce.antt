@@ -1,23 +1,18 @@
 -- Each list of what is to come has a text.
-use Rattle.std.proofs.Common.{◌≡◌, ◌∙◌, ◌⊎◌, inl, inr, ℕ, zero, suc, ◌+◌, ◌-◌, ◌<◌, ◌≤◌, Bool, true, false, cond, sym, ap, refl, subst, List, [], ◌∷◌, ◌++◌, Option, Some, None, map, take, drop, length, fold, arith, append_assoc, append-nil}
-use Rattle.std.specs.Prelude.{◌&&◌, ◌||◌, not, slice_get}
-use Rattle.std.specs.List.{list_all, find}
+use Rattle.std.proofs.Common.{◌≡◌, ◌⊎◌, inl, inr, ℕ, zero, suc, ◌<◌, Bool, true, false, sym, refl, subst, List, [], ◌∷◌, ◌++◌, Option, Some, None, map, arith}
+use Rattle.std.specs.Prelude.{slice_get}
+use Rattle.std.specs.List.{list_all}
 use Rattle.rmt_lexer.specs.declared.token.Token.{Token}
 use Rattle.rmt_lexer.specs.declared.token.TokenKind.TheVariants as kind
 use Rattle.rmt_syntax.specs.declared.terminal.Terminal.{Terminal}
 use Rattle.rmt_syntax.specs.declared.terminal.Terminal.TheVariants as terminal
-use Rattle.rmt_syntax.specs.declared.tree.Rule.{Rule}
-use Rattle.rmt_syntax.specs.declared.tree.Rule.TheVariants as rule
 use Rattle.rmt_syntax.specs.declared.grammar.Part.{Part}
 use Rattle.rmt_syntax.specs.declared.grammar.Part.TheVariants.{One, Node}
 use Rattle.rmt_syntax.specs.declared.grammar.Phrase.{Phrase}
-use Rattle.rmt_syntax.specs.declared.grammar.Phrase.TheVariants.{Whole, Done, FieldEnd}
+use Rattle.rmt_syntax.specs.declared.grammar.Phrase.TheVariants.{Whole}
 use Rattle.rmt_syntax.specs.Grammar.{Form, choices, terminal_of}
-use Rattle.rmt_syntax.specs.Trees.{Mark, leaf, opens, shuts, tokens_in, Goal, part, phrase, shut, Reads, nothing, token, node, end, done, choose, IsText, IsNested, IsNestedFrom, depth_of, depth_after}
-use Rattle.rmt_syntax.specs.Lookahead.{same, member, first_of, may_begin, is_done, front, tails, Apart, Orderly, choice_of, is_operand_name}
-use Rattle.rmt_syntax.specs.State.{Stands}
-use Rattle.rmt_syntax.proofs.Fronts.{first_token, chosen, all_at, order_of}
-
+use Rattle.rmt_syntax.specs.Trees.{Mark, leaf, opens, shuts, Goal, part, phrase, shut, Reads, nothing, token, node, end, done, choose}
+use Rattle.rmt_syntax.specs.Lookahead.{is_done}
 use Rattle.rmt_syntax.proofs.Checks.{cost, shortest, part_cost, is_cheaper, cheaper}
 use Rattle.rmt_syntax.proofs.Sets.{and_true}
 use Rattle.rmt_syntax.proofs.Choosing.{done_is}

@@ -1,7 +1,7 @@
 -- Lists of terminals as sets.
-use Rattle.std.proofs.Common.{◌≡◌, ◌∙◌, ◌⊎◌, inl, inr, ℕ, zero, suc, ◌+◌, ◌<◌, ◌≤◌, Bool, true, false, cond, sym, ap, refl, subst, List, [], ◌∷◌, ◌++◌, Option, Some, None, arith}
-use Rattle.std.specs.Prelude.{◌==◌, ◌&&◌, ◌||◌, not, slice_get}
-use Rattle.std.specs.List.{list_any, list_all}
+use Rattle.std.proofs.Common.{◌≡◌, ◌∙◌, ◌⊎◌, inl, inr, Bool, true, false, sym, ap, refl, subst, List, [], ◌∷◌, ◌++◌, Some}
+use Rattle.std.specs.Prelude.{◌&&◌, ◌||◌, not, slice_get}
+use Rattle.std.specs.List.{list_all}
 use Rattle.std.proofs.lemmas.Bool.{eqb-true, eq-eqb}
 use Rattle.rmt_syntax.specs.declared.terminal.Terminal.{Terminal}
 use Rattle.rmt_syntax.specs.declared.terminal.Terminal.TheVariants as terminal
@@ -104,8 +104,9 @@ member_right t (x ∷ xs) ys h = or_right (same x t) _ (member_right t xs ys h)
 pub member_either : (t : Terminal) (xs ys : List Terminal) → member t (xs ++ ys) ≡ true → (member t xs ≡ true) ⊎ (member t ys ≡ true)
 member_either t [] ys h = inr h
 member_either t (x ∷ xs) ys h = elim (or_true (same x t) (member t (xs ++ ys)) h) [
-    inl e ↦ inl (or_left (same x t) _ e)
-  | inr e ↦ elim (member_either t xs ys e) [ inl k ↦ inl (or_right (same x t) _ k) | inr k ↦ inr k ] ]
+  | inl e ↦ inl (or_left (same x t) _ e)
+  | inr e ↦ elim (member_either t xs ys e) [ inl k ↦ inl (or_right (same x t) _ k) | inr k ↦ inr k ]
+]
 
 abbrev pub subset : List Terminal → List Terminal → Bool
 subset xs ys = list_all (λ t. member t ys) xs
@@ -118,23 +119,25 @@ subset_is [] ys h t m = cc
 subset_is (x ∷ xs) ys h t m =
     let both = and_true (member x ys) (subset xs ys) h in
     elim (or_true (same x t) (member t xs) m) [
-      inl e ↦ subst (λ v. member v ys ≡ true) (same_is x t e) both.0
-    | inr k ↦ subset_is xs ys both.1 t k ]
+      | inl e ↦ subst (λ v. member v ys ≡ true) (same_is x t e) both.0
+      | inr k ↦ subset_is xs ys both.1 t k
+    ]
 
 pub disjoint_is : (xs ys : List Terminal) → disjoint xs ys ≡ true → Apart xs ys
 disjoint_is [] ys h t m = cc
 disjoint_is (x ∷ xs) ys h t m =
     let both = and_true (not (member x ys)) (disjoint xs ys) h in
     elim (or_true (same x t) (member t xs) m) [
-      inl e ↦ subst (λ v. member v ys ≡ false) (same_is x t e) (not_true _ both.0)
-    | inr k ↦ disjoint_is xs ys both.1 t k ]
+      | inl e ↦ subst (λ v. member v ys ≡ false) (same_is x t e) (not_true _ both.0)
+      | inr k ↦ disjoint_is xs ys both.1 t k
+    ]
 
 pub apart_both : (xs ys zs : List Terminal) → Apart xs ys → Apart xs zs → Apart xs (ys ++ zs)
 apart_both xs ys zs f g t m = false_of (member t (ys ++ zs)) (λ h. elim (member_either t ys zs h) [ inl k ↦ not_both _ k (f t m) | inr k ↦ not_both _ k (g t m) ])
   where
-  false_of : (b : Bool) → (b ≡ true → ⊥) → b ≡ false
-  false_of true h = absurd (h refl)
-  false_of false h = refl
+    false_of : (b : Bool) → (b ≡ true → ⊥) → b ≡ false
+    false_of true h = absurd (h refl)
+    false_of false h = refl
 
 pub apart_part : (xs ys zs : List Terminal) → subset xs ys ≡ true → Apart ys zs → Apart xs zs
 apart_part xs ys zs h f t m = f t (subset_is xs ys h t m)

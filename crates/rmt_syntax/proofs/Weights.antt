@@ -1,26 +1,19 @@
 -- Each step before a token is taken lowers the weight of what is to come.
-use Rattle.std.proofs.Common.{◌≡◌, ◌∙◌, ◌⊎◌, inl, inr, ℕ, zero, suc, ◌+◌, ◌-◌, ◌<◌, ◌≤◌, Bool, true, false, cond, sym, ap, refl, subst, List, [], ◌∷◌, ◌++◌, Option, Some, None, map, take, drop, length, fold, arith, append_assoc, append-nil}
-use Rattle.std.specs.Prelude.{◌&&◌, ◌||◌, not, slice_get}
-use Rattle.std.specs.List.{list_all, find}
-use Rattle.rmt_lexer.specs.declared.token.Token.{Token}
-use Rattle.rmt_lexer.specs.declared.token.TokenKind.TheVariants as kind
+use Rattle.std.proofs.Common.{◌≡◌, ℕ, ◌+◌, ◌<◌, Bool, true, false, ap, refl, List, [], ◌∷◌, ◌++◌, Some, map, arith}
+use Rattle.std.specs.Prelude.{not, slice_get}
 use Rattle.rmt_syntax.specs.declared.terminal.Terminal.{Terminal}
-use Rattle.rmt_syntax.specs.declared.terminal.Terminal.TheVariants as terminal
 use Rattle.rmt_syntax.specs.declared.tree.Rule.{Rule}
-use Rattle.rmt_syntax.specs.declared.tree.Rule.TheVariants as rule
 use Rattle.rmt_syntax.specs.declared.grammar.Part.{Part}
 use Rattle.rmt_syntax.specs.declared.grammar.Part.TheVariants.{One, Node}
 use Rattle.rmt_syntax.specs.declared.grammar.Phrase.{Phrase}
-use Rattle.rmt_syntax.specs.declared.grammar.Phrase.TheVariants.{Whole, Done, FieldEnd}
-use Rattle.rmt_syntax.specs.Grammar.{Form, choices, terminal_of}
-use Rattle.rmt_syntax.specs.Trees.{Mark, leaf, opens, shuts, tokens_in, Goal, part, phrase, shut, Reads, nothing, token, node, end, done, choose, IsText, IsNested, IsNestedFrom, depth_of, depth_after}
-use Rattle.rmt_syntax.specs.Lookahead.{same, member, first_of, may_begin, is_done, front, tails, Apart, Orderly, choice_of, is_operand_name}
-use Rattle.rmt_syntax.specs.State.{Stands}
-use Rattle.rmt_syntax.proofs.Fronts.{first_token, chosen, all_at, order_of}
-
+use Rattle.rmt_syntax.specs.declared.grammar.Phrase.TheVariants.{Whole, Done}
+use Rattle.rmt_syntax.specs.Grammar.{Form, choices}
+use Rattle.rmt_syntax.specs.Trees.{Goal, part, phrase, shut}
+use Rattle.rmt_syntax.specs.Lookahead.{first_of, may_begin, is_done, choice_of}
+use Rattle.rmt_syntax.proofs.Fronts.{all_at}
 use Rattle.std.specs.Prelude.{nat_lt, if◌then◌else◌}
 use Rattle.std.proofs.lemmas.Bool.{ltb-true}
-use Rattle.rmt_syntax.specs.Lookahead.{weight, height, may_end, is_empty, first_phrase}
+use Rattle.rmt_syntax.specs.Lookahead.{weight, height, may_end, first_phrase}
 use Rattle.rmt_syntax.proofs.Checks.{is_lower, lower, beginning}
 use Rattle.rmt_syntax.proofs.Fronts.{empty_ends}
 use Rattle.rmt_syntax.proofs.Choosing.{found_at, done_is}

@@ -1,11 +1,10 @@
 -- The grammar of program text.
-use Rattle.std.specs.Prelude.{◌≡◌, ℕ, List, [], ◌∷◌, Bool, ◌==◌, option_map, unwrap_or, Option, Some, None, codes, if◌then◌else◌}
+use Rattle.std.specs.Prelude.{ℕ, List, [], ◌∷◌, Bool, ◌==◌, codes, if◌then◌else◌}
 use Rattle.std.specs.Str.{bytes_eq}
 use Rattle.rmt_lexer.specs.declared.token.TokenKind.{TokenKind}
 use Rattle.rmt_lexer.specs.declared.token.TokenKind.TheVariants as token
 use Rattle.rmt_syntax.specs.declared.terminal.Terminal.{Terminal}
 use Rattle.rmt_syntax.specs.declared.terminal.Terminal.TheVariants as terminal
-use Rattle.rmt_syntax.specs.declared.tree.Rule.{Rule}
 use Rattle.rmt_syntax.specs.declared.tree.Rule.TheVariants as rule
 use Rattle.rmt_syntax.specs.declared.grammar.Part.{Part}
 use Rattle.rmt_syntax.specs.declared.grammar.Part.TheVariants.{One, Node}
@@ -87,7 +86,6 @@ Form = List Part × Phrase
 
 -- The grammar. The text of a rule is one of the forms of its phrase `Whole`; a phrase that goes on is one of its forms again.
 abbrev pub choices : Phrase → List Form
-
 -- program = { header | meta | action | table } [ control ] END
 choices (Whole rule.Program) =
     (Node rule.Header ∷ [], Whole rule.Program) ∷
@@ -97,7 +95,6 @@ choices (Whole rule.Program) =
     (Node rule.Control ∷ One terminal.End ∷ [], phrase.Done) ∷
     (One terminal.End ∷ [], phrase.Done) ∷
     []
-
 -- header = "header" NAME "{" { NAME ":" NUMBER ";" } "}" "next" next
 choices (Whole rule.Header) =
     (One terminal.Header ∷ One terminal.Name ∷ One terminal.OpenBrace ∷ [], phrase.HeaderFields) ∷
@@ -107,7 +104,6 @@ choices phrase.HeaderFields =
     (One terminal.Name ∷ One terminal.Colon ∷ One terminal.Number ∷ One terminal.Semicolon ∷ [], phrase.HeaderFields) ∷
     (One terminal.CloseBrace ∷ One terminal.Next ∷ Node rule.Next ∷ [], phrase.Done) ∷
     []
-
 -- next = target ";" | "(" NAME { "," NAME } ")" "{" { case } "else" ":" target ";" "}"
 choices (Whole rule.Next) =
     (Node rule.Target ∷ One terminal.Semicolon ∷ [], phrase.Done) ∷
@@ -123,7 +119,6 @@ choices phrase.Cases =
     (Node rule.Case ∷ [], phrase.Cases) ∷
     (One terminal.Else ∷ One terminal.Colon ∷ Node rule.Target ∷ One terminal.Semicolon ∷ One terminal.CloseBrace ∷ [], phrase.Done) ∷
     []
-
 -- case = value { "," value } ":" target ";"
 choices (Whole rule.Case) =
     (Node rule.Value ∷ [], phrase.MoreValues) ∷
@@ -133,7 +128,6 @@ choices phrase.MoreValues =
     (One terminal.Comma ∷ Node rule.Value ∷ [], phrase.MoreValues) ∷
     (One terminal.Colon ∷ Node rule.Target ∷ One terminal.Semicolon ∷ [], phrase.Done) ∷
     []
-
 -- value = NUMBER [ "&" NUMBER ]
 choices (Whole rule.Value) =
     (One terminal.Number ∷ [], phrase.Mask) ∷
@@ -143,14 +137,12 @@ choices phrase.Mask =
     (One terminal.Ampersand ∷ One terminal.Number ∷ [], phrase.Done) ∷
     ([], phrase.Done) ∷
     []
-
 -- target = NAME | "accept" | "reject"
 choices (Whole rule.Target) =
     (One terminal.Name ∷ [], phrase.Done) ∷
     (One terminal.Accept ∷ [], phrase.Done) ∷
     (One terminal.Reject ∷ [], phrase.Done) ∷
     []
-
 -- meta = "meta" "{" { NAME ":" NUMBER ";" } "}"
 choices (Whole rule.Meta) =
     (One terminal.Meta ∷ One terminal.OpenBrace ∷ [], phrase.MetaFields) ∷
@@ -160,7 +152,6 @@ choices phrase.MetaFields =
     (One terminal.Name ∷ One terminal.Colon ∷ One terminal.Number ∷ One terminal.Semicolon ∷ [], phrase.MetaFields) ∷
     (One terminal.CloseBrace ∷ [], phrase.Done) ∷
     []
-
 -- action = "action" NAME "(" [ param { "," param } ] ")" "{" { field "=" expr ";" } "}"
 choices (Whole rule.Action) =
     (One terminal.Action ∷ One terminal.Name ∷ One terminal.OpenParen ∷ [], phrase.Params) ∷
@@ -180,12 +171,10 @@ choices phrase.Assignments =
     (Node rule.Field ∷ One terminal.Assign ∷ Node rule.Expr ∷ One terminal.Semicolon ∷ [], phrase.Assignments) ∷
     (One terminal.CloseBrace ∷ [], phrase.Done) ∷
     []
-
 -- param = NAME ":" NUMBER
 choices (Whole rule.Param) =
     (One terminal.Name ∷ One terminal.Colon ∷ One terminal.Number ∷ [], phrase.Done) ∷
     []
-
 -- field = NAME "." NAME | NAME "." "valid" | "meta" "." NAME | "in_port" | "out_port" | "drop"
 choices (Whole rule.Field) =
     (One terminal.Name ∷ One terminal.Dot ∷ [], phrase.FieldEnd) ∷
@@ -199,7 +188,6 @@ choices phrase.FieldEnd =
     (One terminal.Name ∷ [], phrase.Done) ∷
     (One terminal.Valid ∷ [], phrase.Done) ∷
     []
-
 -- expr = leaf [ ( "+" | "-" | "&" | "|" | "^" ) leaf ]
 choices (Whole rule.Expr) =
     (Node rule.Leaf ∷ [], phrase.Operation) ∷
@@ -213,14 +201,12 @@ choices phrase.Operation =
     (One terminal.Caret ∷ Node rule.Leaf ∷ [], phrase.Done) ∷
     ([], phrase.Done) ∷
     []
-
 -- leaf = field | NAME | NUMBER
 choices (Whole rule.Leaf) =
     (Node rule.Field ∷ [], phrase.Done) ∷
     (One terminal.Name ∷ [], phrase.Done) ∷
     (One terminal.Number ∷ [], phrase.Done) ∷
     []
-
 -- table = "table" NAME "{" [ key ] "default" NAME "(" [ NUMBER { "," NUMBER } ] ")" ";" "}"
 choices (Whole rule.Table) =
     (One terminal.Table ∷ One terminal.Name ∷ One terminal.OpenBrace ∷ [], phrase.TableKey) ∷
@@ -240,7 +226,6 @@ choices phrase.MoreArguments =
     (One terminal.Comma ∷ One terminal.Number ∷ [], phrase.MoreArguments) ∷
     (One terminal.CloseParen ∷ One terminal.Semicolon ∷ One terminal.CloseBrace ∷ [], phrase.Done) ∷
     []
-
 -- key = ( "exact" | "prefix" | "ternary" ) field { "," field } ";" "actions" NAME { "," NAME } ";" "size" NUMBER ";" [ "counted" ";" ]
 choices (Whole rule.Key) =
     (One terminal.Exact ∷ Node rule.Field ∷ [], phrase.KeyFields) ∷
@@ -262,12 +247,10 @@ choices phrase.Counted =
     (One terminal.Counted ∷ One terminal.Semicolon ∷ [], phrase.Done) ∷
     ([], phrase.Done) ∷
     []
-
 -- control = "control" block
 choices (Whole rule.Control) =
     (One terminal.Control ∷ Node rule.Block ∷ [], phrase.Done) ∷
     []
-
 -- block = "{" { stmt } "}"
 choices (Whole rule.Block) =
     (One terminal.OpenBrace ∷ [], phrase.Statements) ∷
@@ -277,7 +260,6 @@ choices phrase.Statements =
     (Node rule.Stmt ∷ [], phrase.Statements) ∷
     (One terminal.CloseBrace ∷ [], phrase.Done) ∷
     []
-
 -- stmt = "apply" NAME ( ";" | "{" { arm } "}" ) | "if" "(" field [ "&" NUMBER ] "==" NUMBER ")" block [ "else" block ]
 choices (Whole rule.Stmt) =
     (One terminal.Apply ∷ One terminal.Name ∷ [], phrase.Applied) ∷
@@ -303,13 +285,11 @@ choices phrase.Otherwise =
     (One terminal.Else ∷ Node rule.Block ∷ [], phrase.Done) ∷
     ([], phrase.Done) ∷
     []
-
 -- arm = ( "hit" | "miss" | NAME ) block
 choices (Whole rule.Arm) =
     (One terminal.Hit ∷ Node rule.Block ∷ [], phrase.Done) ∷
     (One terminal.Miss ∷ Node rule.Block ∷ [], phrase.Done) ∷
     (One terminal.Name ∷ Node rule.Block ∷ [], phrase.Done) ∷
     []
-
 -- nothing
 choices phrase.Done = []

@@ -5,7 +5,6 @@ use Rattle.rmt_syntax.specs.declared.terminal.Terminal.{Terminal}
 use Rattle.rmt_syntax.specs.declared.terminal.Terminal.TheVariants as terminal
 use Rattle.rmt_syntax.specs.declared.tree.Rule.{Rule}
 use Rattle.rmt_syntax.specs.declared.tree.Rule.TheVariants as rule
-use Rattle.rmt_syntax.specs.declared.grammar.Part.{Part}
 use Rattle.rmt_syntax.specs.declared.grammar.Part.TheVariants.{One, Node}
 use Rattle.rmt_syntax.specs.declared.grammar.Phrase.{Phrase}
 use Rattle.rmt_syntax.specs.declared.grammar.Phrase.TheVariants.{Whole, Done}

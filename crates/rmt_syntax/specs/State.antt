@@ -1,5 +1,5 @@
 -- What a reader that stands in the middle of a text has read, and what it still has to read.
-use Rattle.std.specs.Prelude.{◌≡◌, ℕ, suc, ◌+◌, List, [], ◌∷◌, ◌++◌, map, fold, take, length, ◌≤◌, Bool, false, Some, slice_get}
+use Rattle.std.specs.Prelude.{◌≡◌, ℕ, suc, List, [], ◌∷◌, ◌++◌, map, fold, take, length, ◌≤◌, false, Some, slice_get}
 use Rattle.std.specs.List.{flat_map}
 use Rattle.rmt_lexer.specs.declared.token.Token.{Token}
 use Rattle.rmt_syntax.specs.declared.reader.Frame.{Frame}

@@ -105,19 +105,30 @@ pub fn choices(phrase: Phrase) -> &'static [Choice]
             },
         ],
         // header = "header" NAME "{" { NAME ":" NUMBER ";" } "}" "next" next
-        Phrase::Whole(Rule::Header) => &[
-            Choice {
-                parts: &[Part::One(Terminal::Header), Part::One(Terminal::Name), Part::One(Terminal::OpenBrace)],
-                then: Phrase::HeaderFields,
-            },
-        ],
+        Phrase::Whole(Rule::Header) => &[Choice {
+            parts: &[
+                Part::One(Terminal::Header),
+                Part::One(Terminal::Name),
+                Part::One(Terminal::OpenBrace),
+            ],
+            then: Phrase::HeaderFields,
+        }],
         Phrase::HeaderFields => &[
             Choice {
-                parts: &[Part::One(Terminal::Name), Part::One(Terminal::Colon), Part::One(Terminal::Number), Part::One(Terminal::Semicolon)],
+                parts: &[
+                    Part::One(Terminal::Name),
+                    Part::One(Terminal::Colon),
+                    Part::One(Terminal::Number),
+                    Part::One(Terminal::Semicolon),
+                ],
                 then: Phrase::HeaderFields,
             },
             Choice {
-                parts: &[Part::One(Terminal::CloseBrace), Part::One(Terminal::Next), Part::Node(Rule::Next)],
+                parts: &[
+                    Part::One(Terminal::CloseBrace),
+                    Part::One(Terminal::Next),
+                    Part::Node(Rule::Next),
+                ],
                 then: Phrase::Done,
             },
         ],
@@ -138,7 +149,10 @@ pub fn choices(phrase: Phrase) -> &'static [Choice]
                 then: Phrase::SelectNames,
             },
             Choice {
-                parts: &[Part::One(Terminal::CloseParen), Part::One(Terminal::OpenBrace)],
+                parts: &[
+                    Part::One(Terminal::CloseParen),
+                    Part::One(Terminal::OpenBrace),
+                ],
                 then: Phrase::Cases,
             },
         ],
@@ -148,34 +162,40 @@ pub fn choices(phrase: Phrase) -> &'static [Choice]
                 then: Phrase::Cases,
             },
             Choice {
-                parts: &[Part::One(Terminal::Else), Part::One(Terminal::Colon), Part::Node(Rule::Target), Part::One(Terminal::Semicolon), Part::One(Terminal::CloseBrace)],
+                parts: &[
+                    Part::One(Terminal::Else),
+                    Part::One(Terminal::Colon),
+                    Part::Node(Rule::Target),
+                    Part::One(Terminal::Semicolon),
+                    Part::One(Terminal::CloseBrace),
+                ],
                 then: Phrase::Done,
             },
         ],
         // case = value { "," value } ":" target ";"
-        Phrase::Whole(Rule::Case) => &[
-            Choice {
-                parts: &[Part::Node(Rule::Value)],
-                then: Phrase::MoreValues,
-            },
-        ],
+        Phrase::Whole(Rule::Case) => &[Choice {
+            parts: &[Part::Node(Rule::Value)],
+            then: Phrase::MoreValues,
+        }],
         Phrase::MoreValues => &[
             Choice {
                 parts: &[Part::One(Terminal::Comma), Part::Node(Rule::Value)],
                 then: Phrase::MoreValues,
             },
             Choice {
-                parts: &[Part::One(Terminal::Colon), Part::Node(Rule::Target), Part::One(Terminal::Semicolon)],
+                parts: &[
+                    Part::One(Terminal::Colon),
+                    Part::Node(Rule::Target),
+                    Part::One(Terminal::Semicolon),
+                ],
                 then: Phrase::Done,
             },
         ],
         // value = NUMBER [ "&" NUMBER ]
-        Phrase::Whole(Rule::Value) => &[
-            Choice {
-                parts: &[Part::One(Terminal::Number)],
-                then: Phrase::Mask,
-            },
-        ],
+        Phrase::Whole(Rule::Value) => &[Choice {
+            parts: &[Part::One(Terminal::Number)],
+            then: Phrase::Mask,
+        }],
         Phrase::Mask => &[
             Choice {
                 parts: &[Part::One(Terminal::Ampersand), Part::One(Terminal::Number)],
@@ -202,15 +222,18 @@ pub fn choices(phrase: Phrase) -> &'static [Choice]
             },
         ],
         // meta = "meta" "{" { NAME ":" NUMBER ";" } "}"
-        Phrase::Whole(Rule::Meta) => &[
-            Choice {
-                parts: &[Part::One(Terminal::Meta), Part::One(Terminal::OpenBrace)],
-                then: Phrase::MetaFields,
-            },
-        ],
+        Phrase::Whole(Rule::Meta) => &[Choice {
+            parts: &[Part::One(Terminal::Meta), Part::One(Terminal::OpenBrace)],
+            then: Phrase::MetaFields,
+        }],
         Phrase::MetaFields => &[
             Choice {
-                parts: &[Part::One(Terminal::Name), Part::One(Terminal::Colon), Part::One(Terminal::Number), Part::One(Terminal::Semicolon)],
+                parts: &[
+                    Part::One(Terminal::Name),
+                    Part::One(Terminal::Colon),
+                    Part::One(Terminal::Number),
+                    Part::One(Terminal::Semicolon),
+                ],
                 then: Phrase::MetaFields,
             },
             Choice {
@@ -219,19 +242,24 @@ pub fn choices(phrase: Phrase) -> &'static [Choice]
             },
         ],
         // action = "action" NAME "(" [ param { "," param } ] ")" "{" { field "=" expr ";" } "}"
-        Phrase::Whole(Rule::Action) => &[
-            Choice {
-                parts: &[Part::One(Terminal::Action), Part::One(Terminal::Name), Part::One(Terminal::OpenParen)],
-                then: Phrase::Params,
-            },
-        ],
+        Phrase::Whole(Rule::Action) => &[Choice {
+            parts: &[
+                Part::One(Terminal::Action),
+                Part::One(Terminal::Name),
+                Part::One(Terminal::OpenParen),
+            ],
+            then: Phrase::Params,
+        }],
         Phrase::Params => &[
             Choice {
                 parts: &[Part::Node(Rule::Param)],
                 then: Phrase::MoreParams,
             },
             Choice {
-                parts: &[Part::One(Terminal::CloseParen), Part::One(Terminal::OpenBrace)],
+                parts: &[
+                    Part::One(Terminal::CloseParen),
+                    Part::One(Terminal::OpenBrace),
+                ],
                 then: Phrase::Assignments,
             },
         ],
@@ -241,13 +269,21 @@ pub fn choices(phrase: Phrase) -> &'static [Choice]
                 then: Phrase::MoreParams,
             },
             Choice {
-                parts: &[Part::One(Terminal::CloseParen), Part::One(Terminal::OpenBrace)],
+                parts: &[
+                    Part::One(Terminal::CloseParen),
+                    Part::One(Terminal::OpenBrace),
+                ],
                 then: Phrase::Assignments,
             },
         ],
         Phrase::Assignments => &[
             Choice {
-                parts: &[Part::Node(Rule::Field), Part::One(Terminal::Assign), Part::Node(Rule::Expr), Part::One(Terminal::Semicolon)],
+                parts: &[
+                    Part::Node(Rule::Field),
+                    Part::One(Terminal::Assign),
+                    Part::Node(Rule::Expr),
+                    Part::One(Terminal::Semicolon),
+                ],
                 then: Phrase::Assignments,
             },
             Choice {
@@ -256,12 +292,14 @@ pub fn choices(phrase: Phrase) -> &'static [Choice]
             },
         ],
         // param = NAME ":" NUMBER
-        Phrase::Whole(Rule::Param) => &[
-            Choice {
-                parts: &[Part::One(Terminal::Name), Part::One(Terminal::Colon), Part::One(Terminal::Number)],
-                then: Phrase::Done,
-            },
-        ],
+        Phrase::Whole(Rule::Param) => &[Choice {
+            parts: &[
+                Part::One(Terminal::Name),
+                Part::One(Terminal::Colon),
+                Part::One(Terminal::Number),
+            ],
+            then: Phrase::Done,
+        }],
         // field = NAME "." NAME | NAME "." "valid" | "meta" "." NAME | "in_port" | "out_port" | "drop"
         Phrase::Whole(Rule::Field) => &[
             Choice {
@@ -269,7 +307,11 @@ pub fn choices(phrase: Phrase) -> &'static [Choice]
                 then: Phrase::FieldEnd,
             },
             Choice {
-                parts: &[Part::One(Terminal::Meta), Part::One(Terminal::Dot), Part::One(Terminal::Name)],
+                parts: &[
+                    Part::One(Terminal::Meta),
+                    Part::One(Terminal::Dot),
+                    Part::One(Terminal::Name),
+                ],
                 then: Phrase::Done,
             },
             Choice {
@@ -296,12 +338,10 @@ pub fn choices(phrase: Phrase) -> &'static [Choice]
             },
         ],
         // expr = leaf [ ( "+" | "-" | "&" | "|" | "^" ) leaf ]
-        Phrase::Whole(Rule::Expr) => &[
-            Choice {
-                parts: &[Part::Node(Rule::Leaf)],
-                then: Phrase::Operation,
-            },
-        ],
+        Phrase::Whole(Rule::Expr) => &[Choice {
+            parts: &[Part::Node(Rule::Leaf)],
+            then: Phrase::Operation,
+        }],
         Phrase::Operation => &[
             Choice {
                 parts: &[Part::One(Terminal::Plus), Part::Node(Rule::Leaf)],
@@ -344,19 +384,30 @@ pub fn choices(phrase: Phrase) -> &'static [Choice]
             },
         ],
         // table = "table" NAME "{" [ key ] "default" NAME "(" [ NUMBER { "," NUMBER } ] ")" ";" "}"
-        Phrase::Whole(Rule::Table) => &[
-            Choice {
-                parts: &[Part::One(Terminal::Table), Part::One(Terminal::Name), Part::One(Terminal::OpenBrace)],
-                then: Phrase::TableKey,
-            },
-        ],
+        Phrase::Whole(Rule::Table) => &[Choice {
+            parts: &[
+                Part::One(Terminal::Table),
+                Part::One(Terminal::Name),
+                Part::One(Terminal::OpenBrace),
+            ],
+            then: Phrase::TableKey,
+        }],
         Phrase::TableKey => &[
             Choice {
-                parts: &[Part::Node(Rule::Key), Part::One(Terminal::Default), Part::One(Terminal::Name), Part::One(Terminal::OpenParen)],
+                parts: &[
+                    Part::Node(Rule::Key),
+                    Part::One(Terminal::Default),
+                    Part::One(Terminal::Name),
+                    Part::One(Terminal::OpenParen),
+                ],
                 then: Phrase::Arguments,
             },
             Choice {
-                parts: &[Part::One(Terminal::Default), Part::One(Terminal::Name), Part::One(Terminal::OpenParen)],
+                parts: &[
+                    Part::One(Terminal::Default),
+                    Part::One(Terminal::Name),
+                    Part::One(Terminal::OpenParen),
+                ],
                 then: Phrase::Arguments,
             },
         ],
@@ -366,7 +417,11 @@ pub fn choices(phrase: Phrase) -> &'static [Choice]
                 then: Phrase::MoreArguments,
             },
             Choice {
-                parts: &[Part::One(Terminal::CloseParen), Part::One(Terminal::Semicolon), Part::One(Terminal::CloseBrace)],
+                parts: &[
+                    Part::One(Terminal::CloseParen),
+                    Part::One(Terminal::Semicolon),
+                    Part::One(Terminal::CloseBrace),
+                ],
                 then: Phrase::Done,
             },
         ],
@@ -376,7 +431,11 @@ pub fn choices(phrase: Phrase) -> &'static [Choice]
                 then: Phrase::MoreArguments,
             },
             Choice {
-                parts: &[Part::One(Terminal::CloseParen), Part::One(Terminal::Semicolon), Part::One(Terminal::CloseBrace)],
+                parts: &[
+                    Part::One(Terminal::CloseParen),
+                    Part::One(Terminal::Semicolon),
+                    Part::One(Terminal::CloseBrace),
+                ],
                 then: Phrase::Done,
             },
         ],
@@ -401,7 +460,11 @@ pub fn choices(phrase: Phrase) -> &'static [Choice]
                 then: Phrase::KeyFields,
             },
             Choice {
-                parts: &[Part::One(Terminal::Semicolon), Part::One(Terminal::Actions), Part::One(Terminal::Name)],
+                parts: &[
+                    Part::One(Terminal::Semicolon),
+                    Part::One(Terminal::Actions),
+                    Part::One(Terminal::Name),
+                ],
                 then: Phrase::KeyActions,
             },
         ],
@@ -411,7 +474,12 @@ pub fn choices(phrase: Phrase) -> &'static [Choice]
                 then: Phrase::KeyActions,
             },
             Choice {
-                parts: &[Part::One(Terminal::Semicolon), Part::One(Terminal::Size), Part::One(Terminal::Number), Part::One(Terminal::Semicolon)],
+                parts: &[
+                    Part::One(Terminal::Semicolon),
+                    Part::One(Terminal::Size),
+                    Part::One(Terminal::Number),
+                    Part::One(Terminal::Semicolon),
+                ],
                 then: Phrase::Counted,
             },
         ],
@@ -426,19 +494,15 @@ pub fn choices(phrase: Phrase) -> &'static [Choice]
             },
         ],
         // control = "control" block
-        Phrase::Whole(Rule::Control) => &[
-            Choice {
-                parts: &[Part::One(Terminal::Control), Part::Node(Rule::Block)],
-                then: Phrase::Done,
-            },
-        ],
+        Phrase::Whole(Rule::Control) => &[Choice {
+            parts: &[Part::One(Terminal::Control), Part::Node(Rule::Block)],
+            then: Phrase::Done,
+        }],
         // block = "{" { stmt } "}"
-        Phrase::Whole(Rule::Block) => &[
-            Choice {
-                parts: &[Part::One(Terminal::OpenBrace)],
-                then: Phrase::Statements,
-            },
-        ],
+        Phrase::Whole(Rule::Block) => &[Choice {
+            parts: &[Part::One(Terminal::OpenBrace)],
+            then: Phrase::Statements,
+        }],
         Phrase::Statements => &[
             Choice {
                 parts: &[Part::Node(Rule::Stmt)],
@@ -456,7 +520,11 @@ pub fn choices(phrase: Phrase) -> &'static [Choice]
                 then: Phrase::Applied,
             },
             Choice {
-                parts: &[Part::One(Terminal::If), Part::One(Terminal::OpenParen), Part::Node(Rule::Field)],
+                parts: &[
+                    Part::One(Terminal::If),
+                    Part::One(Terminal::OpenParen),
+                    Part::Node(Rule::Field),
+                ],
                 then: Phrase::Condition,
             },
         ],
@@ -482,11 +550,23 @@ pub fn choices(phrase: Phrase) -> &'static [Choice]
         ],
         Phrase::Condition => &[
             Choice {
-                parts: &[Part::One(Terminal::Ampersand), Part::One(Terminal::Number), Part::One(Terminal::Equal), Part::One(Terminal::Number), Part::One(Terminal::CloseParen), Part::Node(Rule::Block)],
+                parts: &[
+                    Part::One(Terminal::Ampersand),
+                    Part::One(Terminal::Number),
+                    Part::One(Terminal::Equal),
+                    Part::One(Terminal::Number),
+                    Part::One(Terminal::CloseParen),
+                    Part::Node(Rule::Block),
+                ],
                 then: Phrase::Otherwise,
             },
             Choice {
-                parts: &[Part::One(Terminal::Equal), Part::One(Terminal::Number), Part::One(Terminal::CloseParen), Part::Node(Rule::Block)],
+                parts: &[
+                    Part::One(Terminal::Equal),
+                    Part::One(Terminal::Number),
+                    Part::One(Terminal::CloseParen),
+                    Part::Node(Rule::Block),
+                ],
                 then: Phrase::Otherwise,
             },
         ],

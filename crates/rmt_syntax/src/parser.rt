@@ -64,6 +64,17 @@ fn take_part(
     Ok(())
 }
 
+/// Whether a rule is that of blocks.
+fn is_block(rule: Rule) -> bool
+    ensures block { result ≡ true → rule ≡ Block }
+    ensures other { result ≡ false → rule ≡ Block → ⊥ }
+{
+    match rule {
+        Rule::Block => true,
+        _ => false,
+    }
+}
+
 /// Refuses a token where a block is to come and none begins, or a 33rd one does.
 fn check_block(reader: &Reader, tokens: &[Token], at: usize, rule: Rule) -> Result<(), ProgramFault>
     requires inside { at < length tokens.now }
@@ -72,7 +83,7 @@ fn check_block(reader: &Reader, tokens: &[Token], at: usize, rule: Rule) -> Resu
     ensures ok { OnOk result (rule ≡ Block → reader.now.depth < 32) }
     ensures err { IfErr result (λ fault. Refuses tokens.now fault) }
 {
-    if rule != Rule::Block {
+    if !is_block(rule) {
         return Ok(());
     }
     let token = token_at(tokens, at);

@@ -28,7 +28,7 @@ loop-rest-preserved-in-Gap c =
     let w = (goal.at.loop-rest-preserved-in-Gap c).In-Gap in
     let within = gap_within w in
     let same : reading 0 (fold behind c.loop-rest.place (take c.in-Gap.len c.loop-rest.rest.now)) (drop c.in-Gap.len c.loop-rest.rest.now) ≡ reading 0 c.moved-place.result c.split_at.result.1.now =
-        cc (c.moved-place.ensures.place, c.split_at.ensures.front, c.split_at.ensures.back) in
+    cc (c.moved-place.ensures.place, c.split_at.ensures.front, c.split_at.ensures.back) in
     record {
       told = c.loop-rest.invariant.told ∙ ap (with_all c.loop-rest.tokens.items) (after_gap c.loop-rest.place c.loop-rest.rest.now c.in-Gap.len (gap_some w) within.some (gap_is w) ∙ same);
       line = omega (arith, c.moved-place.ensures.line, c.split_at.ensures.front_len, c.split_at.ensures.back_len, c.loop-rest.invariant.line);
@@ -57,7 +57,7 @@ loop-rest-preserved c =
     let w = (goal.at.loop-rest-preserved c).In-Token in
     let within = token_within w in
     let same : reading 0 (fold behind c.loop-rest.place (take c.in-Token.len c.loop-rest.rest.now)) (drop c.in-Token.len c.loop-rest.rest.now) ≡ reading 0 c.moved-place-in-Token.result c.split_at-in-Token.result.1.now =
-        cc (c.moved-place-in-Token.ensures.place, c.split_at-in-Token.ensures.front, c.split_at-in-Token.ensures.back) in
+    cc (c.moved-place-in-Token.ensures.place, c.split_at-in-Token.ensures.front, c.split_at-in-Token.ensures.back) in
     record {
       told = c.loop-rest.invariant.told
           ∙ ap (with_all c.loop-rest.tokens.items) (after_token c.loop-rest.place c.loop-rest.rest.now c.in-Token.what c.in-Token.len (token_some w) within.some (token_is w))

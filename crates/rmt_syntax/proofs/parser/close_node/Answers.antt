@@ -1,22 +1,11 @@
-use Rattle.std.proofs.Common.{◌≡◌, ◌∙◌, sym, ap, refl, suc, ◌∷◌, [], ◌++◌, List, false, true, Some, None, ◌<◌, ◌≤◌, arith}
-use Rattle.std.specs.Prelude.{slice_get}
-use Rattle.rmt_lexer.specs.declared.token.Token.{Token}
-use Rattle.rmt_syntax.specs.Grammar.{terminal_of}
-use Rattle.rmt_syntax.specs.Trees.{Goal, part, phrase, shut, leaf, opens, shuts, Mark, depth_after}
-use Rattle.rmt_syntax.specs.Lookahead.{same, choice_of, weight, is_operand_name}
+use Rattle.std.proofs.Common.{sym, refl, ◌∷◌, [], ◌++◌}
+use Rattle.rmt_syntax.specs.Trees.{phrase, shut, shuts, depth_after}
 use Rattle.rmt_syntax.specs.State.{goals_of, marks_of, Stands}
-use Rattle.rmt_syntax.specs.declared.grammar.Part.{Part}
-use Rattle.rmt_syntax.specs.declared.grammar.Part.TheVariants.{One, Node}
-use Rattle.rmt_syntax.specs.declared.grammar.Phrase.TheVariants.{Whole, Done, FieldEnd}
-use Rattle.rmt_syntax.specs.declared.terminal.Terminal.TheVariants as terminal
-use Rattle.rmt_syntax.specs.declared.tree.Rule.TheVariants as rule
-use Rattle.rmt_syntax.proofs.Choosing.{choose_stands}
-use Rattle.rmt_syntax.proofs.Faults.{fails_one, fails_block, fails_phrase, fails_end, is_too_deep, refutes_deep}
-use Rattle.rmt_syntax.proofs.Machine.{take_stands, enter_stands, close_stands}
-use Rattle.rmt_syntax.proofs.Operands.{there_is, lone_stands, field_stands}
-use Rattle.rmt_syntax.proofs.Sets.{same_is, same_refl, not_both}
-use Rattle.rmt_syntax.proofs.Standing.{ends_at, moved, next_at, no_memory, refused, refused_deep, with_goals, room, same_token, operand_is, next_goal, next_phrase, lowers}
-use Rattle.rmt_syntax.proofs.Weights.{close_lowers, enter_lowers, choose_lowers}
+use Rattle.rmt_syntax.specs.declared.grammar.Phrase.TheVariants.{Done}
+use Rattle.rmt_syntax.proofs.Faults.{fails_end}
+use Rattle.rmt_syntax.proofs.Machine.{close_stands}
+use Rattle.rmt_syntax.proofs.Operands.{there_is}
+use Rattle.rmt_syntax.proofs.Standing.{moved, refused, with_goals}
 use Rattle.rmt_syntax.proofs.parser.close_node.Goals as goal
 
 pub returns-then-branch-clause-ok : goal.returns-then-branch-clause-ok
@@ -26,8 +15,8 @@ returns-then-branch-clause-ok c =
     let t = there_is c.args.tokens.now c.args.at c.requires.inside in
     let s : Stands c.args.tokens.now c.args.at (phrase Done ∷ shut r.inner.rule ∷ goals_of new) (marks_of r) r.depth = with_goals _ _ (goals_of r) _ _ _ (c.in_ok-close.ensures.goals c.if-branch.true) c.requires.stands in
     moved c.args.tokens.now c.args.at (goals_of new) (goals_of new) (marks_of r ++ shuts r.inner.rule ∷ []) (marks_of new) (depth_after r.depth (shuts r.inner.rule)) new.depth
-        refl (sym (c.in_ok-close.ensures.marks c.if-branch.true)) (sym (c.in_ok-close.ensures.depth c.if-branch.true))
-        (close_stands c.args.tokens.now c.args.at t.0 r.inner.rule (goals_of new) (marks_of r) r.depth t.1 s)
+    refl (sym (c.in_ok-close.ensures.marks c.if-branch.true)) (sym (c.in_ok-close.ensures.depth c.if-branch.true))
+    (close_stands c.args.tokens.now c.args.at t.0 r.inner.rule (goals_of new) (marks_of r) r.depth t.1 s)
 
 pub returns-else-branch-clause-err : goal.returns-else-branch-clause-err
 returns-else-branch-clause-err c =
@@ -35,4 +24,4 @@ returns-else-branch-clause-err c =
     let t = c.token_at.result.now in
     let s : Stands c.args.tokens.now c.args.at (phrase Done ∷ shut r.inner.rule ∷ []) (marks_of r) r.depth = with_goals _ _ (goals_of r) _ _ _ (c.in_ok-close.ensures.last c.if-branch.false) c.requires.stands in
     refused c.args.tokens.now c.args.at t (phrase Done ∷ shut r.inner.rule ∷ []) (marks_of r) r.depth c.fault_at.result c.token_at.ensures c.fault_at.ensures s
-        (fails_end c.args.tokens.now c.args.at t r.inner.rule (marks_of r) r.depth c.token_at.ensures s)
+    (fails_end c.args.tokens.now c.args.at t r.inner.rule (marks_of r) r.depth c.token_at.ensures s)

@@ -1,22 +1,12 @@
-use Rattle.std.proofs.Common.{◌≡◌, ◌∙◌, sym, ap, refl, suc, ◌∷◌, [], ◌++◌, List, false, true, Some, None, ◌<◌, ◌≤◌, arith}
-use Rattle.std.specs.Prelude.{slice_get}
-use Rattle.rmt_lexer.specs.declared.token.Token.{Token}
-use Rattle.rmt_syntax.specs.Grammar.{terminal_of}
-use Rattle.rmt_syntax.specs.Trees.{Goal, part, phrase, shut, leaf, opens, shuts, Mark, depth_after}
-use Rattle.rmt_syntax.specs.Lookahead.{same, choice_of, weight, is_operand_name}
+use Rattle.std.proofs.Common.{sym, ◌∷◌, [], ◌++◌, ◌≤◌, arith}
+use Rattle.rmt_syntax.specs.Trees.{part, phrase, shut, opens, depth_after}
 use Rattle.rmt_syntax.specs.State.{goals_of, marks_of, Stands}
-use Rattle.rmt_syntax.specs.declared.grammar.Part.{Part}
-use Rattle.rmt_syntax.specs.declared.grammar.Part.TheVariants.{One, Node}
-use Rattle.rmt_syntax.specs.declared.grammar.Phrase.TheVariants.{Whole, Done, FieldEnd}
-use Rattle.rmt_syntax.specs.declared.terminal.Terminal.TheVariants as terminal
-use Rattle.rmt_syntax.specs.declared.tree.Rule.TheVariants as rule
-use Rattle.rmt_syntax.proofs.Choosing.{choose_stands}
-use Rattle.rmt_syntax.proofs.Faults.{fails_one, fails_block, fails_phrase, fails_end, is_too_deep, refutes_deep}
-use Rattle.rmt_syntax.proofs.Machine.{take_stands, enter_stands, close_stands}
-use Rattle.rmt_syntax.proofs.Operands.{there_is, lone_stands, field_stands}
-use Rattle.rmt_syntax.proofs.Sets.{same_is, same_refl, not_both}
-use Rattle.rmt_syntax.proofs.Standing.{ends_at, moved, next_at, no_memory, refused, refused_deep, with_goals, room, same_token, operand_is, next_goal, next_phrase, lowers}
-use Rattle.rmt_syntax.proofs.Weights.{close_lowers, enter_lowers, choose_lowers}
+use Rattle.rmt_syntax.specs.declared.grammar.Part.TheVariants.{Node}
+use Rattle.rmt_syntax.specs.declared.grammar.Phrase.TheVariants.{Whole}
+use Rattle.rmt_syntax.proofs.Machine.{enter_stands}
+use Rattle.rmt_syntax.proofs.Operands.{there_is}
+use Rattle.rmt_syntax.proofs.Standing.{moved, with_goals, room, next_goal, lowers}
+use Rattle.rmt_syntax.proofs.Weights.{enter_lowers}
 use Rattle.rmt_syntax.proofs.parser.enter_node.Goals as goal
 
 pub enter-requires-clause-room : goal.enter-requires-clause-room
@@ -32,8 +22,8 @@ returns-clause-ok c =
     let t = there_is c.args.tokens.now c.args.at c.requires.inside in
     let s : Stands c.args.tokens.now c.args.at (part (Node c.args.rule) ∷ n.0) (marks_of r) r.depth = with_goals _ _ (goals_of r) _ _ _ n.1 c.requires.stands in
     moved c.args.tokens.now c.args.at (phrase (Whole c.args.rule) ∷ shut c.args.rule ∷ n.0) (goals_of new) (marks_of r ++ opens c.args.rule ∷ []) (marks_of new) (depth_after r.depth (opens c.args.rule)) new.depth
-        (sym (c.in_ok-enter.ensures.goals n.0 n.1)) (sym c.in_ok-enter.ensures.marks) (sym c.in_ok-enter.ensures.depth)
-        (enter_stands c.args.tokens.now c.args.at t.0 c.args.rule n.0 (marks_of r) r.depth t.1 c.in_ok-check_block.ensures.ok s)
+    (sym (c.in_ok-enter.ensures.goals n.0 n.1)) (sym c.in_ok-enter.ensures.marks) (sym c.in_ok-enter.ensures.depth)
+    (enter_stands c.args.tokens.now c.args.at t.0 c.args.rule n.0 (marks_of r) r.depth t.1 c.in_ok-check_block.ensures.ok s)
 
 pub returns-clause-lower : goal.returns-clause-lower
 returns-clause-lower c =

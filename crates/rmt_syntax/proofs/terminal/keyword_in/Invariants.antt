@@ -1,7 +1,6 @@
 use Rattle.std.proofs.Common.{◌≡◌, map, drop, List, ℕ}
 use Rattle.std.specs.Str.{bytes_eq}
 use Rattle.rmt_syntax.specs.Grammar.{entry}
-use Rattle.rmt_syntax.specs.declared.terminal.Terminal.{Terminal}
 use Rattle.rmt_syntax.specs.declared.terminal.Terminal.TheVariants.{Name}
 use Rattle.rmt_syntax.proofs.terminal.keyword_in.Given as goal
 

@@ -1,7 +1,6 @@
-use Rattle.std.proofs.Common.{◌≡◌, map, drop, List, ℕ}
+use Rattle.std.proofs.Common.{◌≡◌, map, drop, ℕ}
 use Rattle.std.specs.Prelude.{◌==◌}
 use Rattle.rmt_syntax.specs.Grammar.{entry}
-use Rattle.rmt_syntax.specs.declared.terminal.Terminal.{Terminal}
 use Rattle.rmt_syntax.specs.declared.terminal.Terminal.TheVariants.{Other}
 use Rattle.rmt_syntax.proofs.terminal.sign_in.Given as goal
 

@@ -1,31 +1,20 @@
-use Rattle.std.proofs.Common.{◌≡◌, ◌∙◌, sym, ap, refl, suc, ◌∷◌, [], ◌++◌, List, false, true, Some, None, ◌<◌, ◌≤◌, arith}
+use Rattle.std.proofs.Common.{◌≡◌, ◌∙◌, sym, ap, ◌∷◌, List}
 use Rattle.std.specs.Prelude.{slice_get}
-use Rattle.rmt_lexer.specs.declared.token.Token.{Token}
-use Rattle.rmt_syntax.specs.Grammar.{terminal_of}
-use Rattle.rmt_syntax.specs.Trees.{Goal, part, phrase, shut, leaf, opens, shuts, Mark, depth_after}
-use Rattle.rmt_syntax.specs.Lookahead.{same, choice_of, weight, is_operand_name}
-use Rattle.rmt_syntax.specs.State.{goals_of, marks_of, Stands}
+use Rattle.rmt_syntax.specs.Trees.{Goal, part, phrase}
+use Rattle.rmt_syntax.specs.State.{goals_of}
 use Rattle.rmt_syntax.specs.declared.grammar.Part.{Part}
-use Rattle.rmt_syntax.specs.declared.grammar.Part.TheVariants.{One, Node}
-use Rattle.rmt_syntax.specs.declared.grammar.Phrase.TheVariants.{Whole, Done, FieldEnd}
+use Rattle.rmt_syntax.specs.declared.grammar.Part.TheVariants.{One}
+use Rattle.rmt_syntax.specs.declared.grammar.Phrase.TheVariants.{Done}
 use Rattle.rmt_syntax.specs.declared.terminal.Terminal.TheVariants as terminal
-use Rattle.rmt_syntax.specs.declared.tree.Rule.TheVariants as rule
-use Rattle.rmt_syntax.proofs.Choosing.{choose_stands}
-use Rattle.rmt_syntax.proofs.Faults.{fails_one, fails_block, fails_phrase, fails_end, is_too_deep, refutes_deep}
-use Rattle.rmt_syntax.proofs.Machine.{take_stands, enter_stands, close_stands}
-use Rattle.rmt_syntax.proofs.Operands.{there_is, lone_stands, field_stands}
-use Rattle.rmt_syntax.proofs.Sets.{same_is, same_refl, not_both}
-use Rattle.rmt_syntax.proofs.Standing.{ends_at, moved, next_at, no_memory, refused, refused_deep, with_goals, room, same_token, operand_is, next_goal, next_phrase, lowers}
-use Rattle.rmt_syntax.proofs.Weights.{close_lowers, enter_lowers, choose_lowers}
 use Rattle.rmt_syntax.proofs.reader.Reader.take_name.Goals as goal
 
 pub returns-clause-goals : goal.returns-clause-goals
 returns-clause-goals c gs h =
     let first : goals_of c.choose.new.self ≡ part (One terminal.Name) ∷ phrase Done ∷ gs = c.choose.ensures.goals gs h in
     let next : goals_of c.choose.new.self ≡ part (One terminal.Name) ∷ goals_of c.take.new.self =
-        c.in_ok-take.ensures.goals (One terminal.Name) (ap (λ (ps : List Part). slice_get ps 0) c.choose.ensures.todo) in
+    c.in_ok-take.ensures.goals (One terminal.Name) (ap (λ (ps : List Part). slice_get ps 0) c.choose.ensures.todo) in
     let e : part (One terminal.Name) ∷ goals_of c.take.new.self ≡ part (One terminal.Name) ∷ phrase Done ∷ gs = sym next ∙ first in
     behind e
   where
-  behind : {g : Goal} {xs ys : List Goal} → g ∷ xs ≡ g ∷ ys → xs ≡ ys
-  behind e = cc
+    behind : {g : Goal} {xs ys : List Goal} → g ∷ xs ≡ g ∷ ys → xs ≡ ys
+    behind e = cc
