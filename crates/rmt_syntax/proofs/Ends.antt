@@ -10,7 +10,8 @@ use Rattle.std.proofs.lemmas.List.{take_all}
 use Rattle.rmt_lexer.specs.declared.fault.ProgramFault.{ProgramFault}
 use Rattle.rmt_lexer.specs.declared.fault.ProgramFault.TheVariants.{NoMemory, At}
 use Rattle.rmt_syntax.specs.declared.tree.Tree.{Tree}
-use Rattle.rmt_syntax.specs.Trees.{EndsOnce, IsTreeOf, Answers, Gives, marks}
+use Rattle.rmt_lexer.specs.Text.{EndsOnce}
+use Rattle.rmt_syntax.specs.Trees.{IsTreeOf, Answers, Gives, marks}
 use Rattle.rmt_syntax.specs.State.{Refuses}
 use Rattle.rmt_syntax.proofs.Machine.{tokens_append, after_end, after_done, after_node, nested_more, nested_now, depth_append}
 

@@ -21,7 +21,8 @@ use Rattle.rmt_syntax.specs.State.{goals_of, outer_goals}
 use Rattle.rmt_syntax.specs.Lookahead.{weight}
 use Rattle.rmt_syntax.proofs.Machine.{nested_now}
 use Rattle.rmt_syntax.proofs.Sets.{same_is}
-use Rattle.rmt_syntax.specs.Trees.{EndsOnce, TooDeep}
+use Rattle.rmt_lexer.specs.Text.{EndsOnce}
+use Rattle.rmt_syntax.specs.Trees.{TooDeep}
 use Rattle.rmt_syntax.specs.State.{Refuses, HasNoTree}
 use Rattle.rmt_syntax.proofs.Faults.{Fails, refutes, is_unexpected}
 

@@ -2,7 +2,6 @@
 use Rattle.std.specs.Prelude.{◌≡◌, ℕ, suc, ◌+◌, ◌-◌, ◌≤◌, List, [], ◌∷◌, ◌++◌, map, fold, take, Some, slice_get, Result, Ok, Err, ◌⊎◌}
 use Rattle.std.specs.List.{flat_map}
 use Rattle.rmt_lexer.specs.declared.token.Token.{Token}
-use Rattle.rmt_lexer.specs.declared.token.TokenKind.TheVariants.{End}
 use Rattle.rmt_lexer.specs.declared.fault.ProgramFault.{ProgramFault}
 use Rattle.rmt_lexer.specs.declared.fault.ProgramFault.TheVariants.{NoMemory, At}
 use Rattle.rmt_syntax.specs.declared.tree.Tree.{Tree}
@@ -82,12 +81,6 @@ pub record IsTreeOf (tokens : List Token) (t : Tree) : Type 0 where
   pub grammar : IsText (marks t)
   pub yield : tokens_in (marks t) ≡ tokens
   pub nested : IsNested (marks t)
-
--- the last token is the end, and no other is
-abbrev pub EndsOnce : List Token → Type 0
-EndsOnce [] = ⊥
-EndsOnce (t ∷ []) = t.what ≡ End
-EndsOnce (t ∷ u ∷ ts) = (t.what ≡ End → ⊥) × EndsOnce (u ∷ ts)
 
 -- a text of the grammar begins with the marks
 abbrev pub IsFront : List Mark → Type 0

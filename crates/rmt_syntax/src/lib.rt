@@ -6,6 +6,8 @@ mod lookahead;
 mod parser;
 mod reader;
 mod terminal;
+#[cfg(test)]
+mod tests;
 pub mod tree;
 
 pub use parser::syntax;

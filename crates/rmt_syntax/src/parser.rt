@@ -6,7 +6,8 @@ ghost use Rattle.rmt_syntax.specs.declared.terminal.Terminal.TheVariants.{Dot, N
 ghost use Rattle.rmt_syntax.specs.declared.tree.Rule.TheVariants as rule;
 ghost use Rattle.rmt_syntax.specs.declared.tree.Rule.TheVariants.{Block};
 ghost use Rattle.rmt_syntax.specs.Grammar.{terminal_of};
-ghost use Rattle.rmt_syntax.specs.Trees.{Answers, EndsOnce, Gives, IsTreeOf};
+ghost use Rattle.rmt_syntax.specs.Trees.{Answers, Gives, IsTreeOf};
+ghost use Rattle.rmt_lexer.specs.Text.{EndsOnce};
 ghost use Rattle.rmt_syntax.specs.Lookahead.{is_done, weight};
 ghost use Rattle.rmt_syntax.specs.State.{Stands, Refuses, IsNoOperandName, goals_of, marks_of};
 

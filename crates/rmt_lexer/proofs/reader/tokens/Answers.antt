@@ -1,3 +1,7 @@
+use Rattle.std.specs.Prelude.{Ok}
+use Rattle.rmt_lexer.specs.Text.{first_place, tokens_of}
+use Rattle.rmt_lexer.proofs.Ends.{ends}
+use Rattle.std.proofs.lemmas.Grind.{common_steps}
 use Rattle.std.proofs.Common.{rules, ◌≡◌, ◌<◌, length, arith, sym, ◌∙◌, ap, fold, take, drop}
 use Rattle.rmt_lexer.specs.Text.{item_of, reading, behind, token_at}
 use Rattle.rmt_lexer.specs.declared.item.Item.TheVariants as item
@@ -66,3 +70,9 @@ loop-rest-preserved c =
       line = omega (arith, c.moved-place-in-Token.ensures.line, c.split_at-in-Token.ensures.front_len, c.split_at-in-Token.ensures.back_len, c.loop-rest.invariant.line);
       column = omega (arith, c.moved-place-in-Token.ensures.column, c.split_at-in-Token.ensures.front_len, c.split_at-in-Token.ensures.back_len, c.loop-rest.invariant.column);
     }
+
+-- the last token is pushed behind the loop
+pub returns-clause-ends : goal.returns-clause-ends
+returns-clause-ends c =
+    let told : tokens_of c.args.text.now ≡ Ok c.push-2.new.self.items = first_of (search rules, grind (arith, common_steps)) in
+    ends 0 first_place c.args.text.now c.push-2.new.self.items told
