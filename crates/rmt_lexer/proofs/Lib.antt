@@ -1,3 +1,4 @@
+mod Ends
 mod Items
 mod Numbers
 mod Reading

@@ -109,3 +109,9 @@ abbrev pub Gives : {X Y : Type 0} → (X → Y) → Result X ProgramFault → Re
 Gives view (Ok x) wanted = wanted ≡ Ok (view x)
 Gives view (Err NoMemory) wanted = Unit {0}
 Gives view (Err (At code line column)) wanted = wanted ≡ Err (At code line column)
+
+-- the last token is the end, and no other is
+abbrev pub EndsOnce : List Token → Type 0
+EndsOnce [] = ⊥
+EndsOnce (t ∷ []) = t.what ≡ End
+EndsOnce (t ∷ u ∷ ts) = (t.what ≡ End → ⊥) × EndsOnce (u ∷ ts)

@@ -5,6 +5,8 @@ pub mod fault;
 mod item;
 mod place;
 mod reader;
+#[cfg(test)]
+mod tests;
 pub mod token;
 
 pub use reader::tokens;

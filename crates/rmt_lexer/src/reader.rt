@@ -1,5 +1,5 @@
-ghost use Rattle.std.specs.Prelude.{◌≡◌, ◌<◌, length};
-ghost use Rattle.rmt_lexer.specs.Text.{Gives, token_at, tokens_of};
+ghost use Rattle.std.specs.Prelude.{◌≡◌, ◌<◌, length, IfOk};
+ghost use Rattle.rmt_lexer.specs.Text.{EndsOnce, Gives, token_at, tokens_of};
 ghost use Rattle.rmt_lexer.specs.declared.fault.ProgramFault.TheVariants.{At};
 
 use crate::fault::ProgramFault;
@@ -13,7 +13,8 @@ use std::alloc::Global;
 /// a number of 2^128 or more, or `0x` without a digit (code 2).
 pub fn tokens(alloc: Global, text: &[u8]) -> Result<Vec<Token>, ProgramFault>
     requires { length text.now < 4294967295 }
-    ensures { Gives (λ tokens. tokens.items) result (tokens_of text.now) }
+    ensures exact { Gives (λ tokens. tokens.items) result (tokens_of text.now) }
+    ensures ends { IfOk result (λ tokens. EndsOnce tokens.items) }
 {
     let mut tokens = Vec::new(alloc);
     let mut place = Place { line: 1, column: 1 };

@@ -1,4 +1,9 @@
+ghost use Rattle.std.specs.Prelude.{◌≡◌, IfOk, IfErr};
+ghost use Rattle.rmt_lexer.specs.declared.fault.ProgramFault.TheVariants.{NoMemory};
+
+use crate::fault::ProgramFault;
 use rmt_ast::name::Name;
+use std::alloc::Global;
 
 /// A token of a program's text and where it begins: lines and columns from 1, columns in bytes.
 #[derive(Debug, Drop)]
@@ -21,4 +26,28 @@ pub enum TokenKind {
     Equal,
     /// The end of the text, the last token of each text.
     End,
+}
+
+impl Token {
+    /// An equal token. It is refused for want of memory alone.
+    pub fn copy(&self, alloc: Global) -> Result<Token, ProgramFault>
+        ensures token { IfOk result (λ token. token ≡ self.now) }
+        ensures err { IfErr result (λ fault. fault ≡ NoMemory) }
+    {
+        let what = match &self.what {
+            TokenKind::Word(name) => match name.copy(alloc) {
+                Ok(name) => TokenKind::Word(name),
+                Err(_) => return Err(ProgramFault::NoMemory),
+            },
+            TokenKind::Number(number) => TokenKind::Number(*number),
+            TokenKind::Sign(sign) => TokenKind::Sign(*sign),
+            TokenKind::Equal => TokenKind::Equal,
+            TokenKind::End => TokenKind::End,
+        };
+        Ok(Token {
+            line: self.line,
+            column: self.column,
+            what,
+        })
+    }
 }

@@ -1,3 +1,7 @@
+use Rattle.std.specs.Prelude.{Ok}
+use Rattle.rmt_lexer.specs.Text.{first_place, tokens_of}
+use Rattle.rmt_lexer.proofs.Ends.{ends}
+use Rattle.std.proofs.lemmas.Grind.{common_steps}
 use Rattle.std.proofs.Common.{rules, ◌≡◌, ◌<◌, length, arith, sym, ◌∙◌, ap, fold, take, drop}
 use Rattle.rmt_lexer.specs.Text.{item_of, reading, behind, token_at}
 use Rattle.rmt_lexer.specs.declared.item.Item.TheVariants as item
@@ -28,7 +32,7 @@ loop-rest-preserved-in-Gap c =
     let w = (goal.at.loop-rest-preserved-in-Gap c).In-Gap in
     let within = gap_within w in
     let same : reading 0 (fold behind c.loop-rest.place (take c.in-Gap.len c.loop-rest.rest.now)) (drop c.in-Gap.len c.loop-rest.rest.now) ≡ reading 0 c.moved-place.result c.split_at.result.1.now =
-        cc (c.moved-place.ensures.place, c.split_at.ensures.front, c.split_at.ensures.back) in
+    cc (c.moved-place.ensures.place, c.split_at.ensures.front, c.split_at.ensures.back) in
     record {
       told = c.loop-rest.invariant.told ∙ ap (with_all c.loop-rest.tokens.items) (after_gap c.loop-rest.place c.loop-rest.rest.now c.in-Gap.len (gap_some w) within.some (gap_is w) ∙ same);
       line = omega (arith, c.moved-place.ensures.line, c.split_at.ensures.front_len, c.split_at.ensures.back_len, c.loop-rest.invariant.line);
@@ -57,7 +61,7 @@ loop-rest-preserved c =
     let w = (goal.at.loop-rest-preserved c).In-Token in
     let within = token_within w in
     let same : reading 0 (fold behind c.loop-rest.place (take c.in-Token.len c.loop-rest.rest.now)) (drop c.in-Token.len c.loop-rest.rest.now) ≡ reading 0 c.moved-place-in-Token.result c.split_at-in-Token.result.1.now =
-        cc (c.moved-place-in-Token.ensures.place, c.split_at-in-Token.ensures.front, c.split_at-in-Token.ensures.back) in
+    cc (c.moved-place-in-Token.ensures.place, c.split_at-in-Token.ensures.front, c.split_at-in-Token.ensures.back) in
     record {
       told = c.loop-rest.invariant.told
           ∙ ap (with_all c.loop-rest.tokens.items) (after_token c.loop-rest.place c.loop-rest.rest.now c.in-Token.what c.in-Token.len (token_some w) within.some (token_is w))
@@ -66,3 +70,9 @@ loop-rest-preserved c =
       line = omega (arith, c.moved-place-in-Token.ensures.line, c.split_at-in-Token.ensures.front_len, c.split_at-in-Token.ensures.back_len, c.loop-rest.invariant.line);
       column = omega (arith, c.moved-place-in-Token.ensures.column, c.split_at-in-Token.ensures.front_len, c.split_at-in-Token.ensures.back_len, c.loop-rest.invariant.column);
     }
+
+-- the last token is pushed behind the loop
+pub returns-clause-ends : goal.returns-clause-ends
+returns-clause-ends c =
+    let told : tokens_of c.args.text.now ≡ Ok c.push-2.new.self.items = first_of (search rules, grind (arith, common_steps)) in
+    ends 0 first_place c.args.text.now c.push-2.new.self.items told

@@ -1,0 +1,13 @@
+mod Checks
+mod Choosing
+mod Ends
+mod Faults
+mod Frames
+mod Fronts
+mod Machine
+mod Marks
+mod Operands
+mod Produce
+mod Sets
+mod Standing
+mod Weights

@@ -1,0 +1,13 @@
+use Rattle.std.proofs.Common.{◌∙◌, sym, ap}
+use Rattle.rmt_lexer.specs.declared.token.Token.{Token}
+use Rattle.rmt_syntax.specs.Grammar.{terminal_of}
+use Rattle.rmt_syntax.proofs.Standing.{same_token, operand_is}
+use Rattle.rmt_syntax.proofs.parser.pass_phrase.Goals as goal
+
+pub take_operand-requires-clause-then : goal.take_operand-requires-clause-then
+take_operand-requires-clause-then c = (operand_is c.args.reader.now.inner.then c.terminal_of.result (sym c.is_operand_name.ensures ∙ c.if-is_operand_name.true)).0
+
+pub take_operand-requires-clause-name : goal.take_operand-requires-clause-name
+take_operand-requires-clause-name c t here =
+    ap (λ (v : Token). terminal_of v.what) (same_token c.args.tokens.now c.args.at t c.token_at.result.now here c.token_at.ensures) ∙ sym c.terminal_of.ensures
+    ∙ (operand_is c.args.reader.now.inner.then c.terminal_of.result (sym c.is_operand_name.ensures ∙ c.if-is_operand_name.true)).1

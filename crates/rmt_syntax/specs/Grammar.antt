@@ -1,0 +1,295 @@
+-- The grammar of program text.
+use Rattle.std.specs.Prelude.{ℕ, List, [], ◌∷◌, Bool, ◌==◌, codes, if◌then◌else◌}
+use Rattle.std.specs.Str.{bytes_eq}
+use Rattle.rmt_lexer.specs.declared.token.TokenKind.{TokenKind}
+use Rattle.rmt_lexer.specs.declared.token.TokenKind.TheVariants as token
+use Rattle.rmt_syntax.specs.declared.terminal.Terminal.{Terminal}
+use Rattle.rmt_syntax.specs.declared.terminal.Terminal.TheVariants as terminal
+use Rattle.rmt_syntax.specs.declared.tree.Rule.TheVariants as rule
+use Rattle.rmt_syntax.specs.declared.grammar.Part.{Part}
+use Rattle.rmt_syntax.specs.declared.grammar.Part.TheVariants.{One, Node}
+use Rattle.rmt_syntax.specs.declared.grammar.Phrase.{Phrase}
+use Rattle.rmt_syntax.specs.declared.grammar.Phrase.TheVariants.{Whole}
+use Rattle.rmt_syntax.specs.declared.grammar.Phrase.TheVariants as phrase
+
+-- the reserved words
+abbrev pub keywords : List (List ℕ × Terminal)
+keywords =
+    (codes "header", terminal.Header) ∷
+    (codes "next", terminal.Next) ∷
+    (codes "accept", terminal.Accept) ∷
+    (codes "reject", terminal.Reject) ∷
+    (codes "meta", terminal.Meta) ∷
+    (codes "action", terminal.Action) ∷
+    (codes "table", terminal.Table) ∷
+    (codes "exact", terminal.Exact) ∷
+    (codes "prefix", terminal.Prefix) ∷
+    (codes "ternary", terminal.Ternary) ∷
+    (codes "actions", terminal.Actions) ∷
+    (codes "default", terminal.Default) ∷
+    (codes "size", terminal.Size) ∷
+    (codes "counted", terminal.Counted) ∷
+    (codes "control", terminal.Control) ∷
+    (codes "apply", terminal.Apply) ∷
+    (codes "if", terminal.If) ∷
+    (codes "else", terminal.Else) ∷
+    (codes "hit", terminal.Hit) ∷
+    (codes "miss", terminal.Miss) ∷
+    (codes "in_port", terminal.InPort) ∷
+    (codes "out_port", terminal.OutPort) ∷
+    (codes "drop", terminal.Drop) ∷
+    (codes "valid", terminal.Valid) ∷
+    []
+
+-- the signs of one byte
+abbrev pub signs : List (ℕ × Terminal)
+signs =
+    (123, terminal.OpenBrace) ∷  -- {
+    (125, terminal.CloseBrace) ∷  -- }
+    (40, terminal.OpenParen) ∷  -- (
+    (41, terminal.CloseParen) ∷  -- )
+    (58, terminal.Colon) ∷  -- :
+    (59, terminal.Semicolon) ∷  -- ;
+    (44, terminal.Comma) ∷  -- ,
+    (46, terminal.Dot) ∷  -- .
+    (61, terminal.Assign) ∷  -- =
+    (43, terminal.Plus) ∷  -- +
+    (45, terminal.Minus) ∷  -- -
+    (38, terminal.Ampersand) ∷  -- &
+    (124, terminal.Bar) ∷  -- |
+    (94, terminal.Caret) ∷  -- ^
+    []
+
+-- the entry of a table
+abbrev pub entry : {K : Type 0} → (K → Bool) → List (K × Terminal) → Terminal → Terminal
+entry is [] default = default
+entry is (e ∷ es) default = if is e.0 then e.1 else entry is es default
+
+-- a word that is not reserved is a name
+abbrev pub word_terminal : List ℕ → Terminal
+word_terminal word = entry (λ k. bytes_eq k word) keywords terminal.Name
+
+abbrev pub sign_terminal : ℕ → Terminal
+sign_terminal byte = entry (λ k. k == byte) signs terminal.Other
+
+-- what a token is to the grammar
+abbrev pub terminal_of : TokenKind → Terminal
+terminal_of (token.Word word) = word_terminal word
+terminal_of (token.Number n) = terminal.Number
+terminal_of (token.Sign byte) = sign_terminal byte
+terminal_of token.Equal = terminal.Equal
+terminal_of token.End = terminal.End
+
+-- one of the forms of a phrase: its parts up to where there is a choice again, and the phrase that goes on from there
+abbrev pub Form : Type 0
+Form = List Part × Phrase
+
+-- The grammar. The text of a rule is one of the forms of its phrase `Whole`; a phrase that goes on is one of its forms again.
+abbrev pub choices : Phrase → List Form
+-- program = { header | meta | action | table } [ control ] END
+choices (Whole rule.Program) =
+    (Node rule.Header ∷ [], Whole rule.Program) ∷
+    (Node rule.Meta ∷ [], Whole rule.Program) ∷
+    (Node rule.Action ∷ [], Whole rule.Program) ∷
+    (Node rule.Table ∷ [], Whole rule.Program) ∷
+    (Node rule.Control ∷ One terminal.End ∷ [], phrase.Done) ∷
+    (One terminal.End ∷ [], phrase.Done) ∷
+    []
+-- header = "header" NAME "{" { NAME ":" NUMBER ";" } "}" "next" next
+choices (Whole rule.Header) =
+    (One terminal.Header ∷ One terminal.Name ∷ One terminal.OpenBrace ∷ [], phrase.HeaderFields) ∷
+    []
+-- the fields of a header, and what follows them
+choices phrase.HeaderFields =
+    (One terminal.Name ∷ One terminal.Colon ∷ One terminal.Number ∷ One terminal.Semicolon ∷ [], phrase.HeaderFields) ∷
+    (One terminal.CloseBrace ∷ One terminal.Next ∷ Node rule.Next ∷ [], phrase.Done) ∷
+    []
+-- next = target ";" | "(" NAME { "," NAME } ")" "{" { case } "else" ":" target ";" "}"
+choices (Whole rule.Next) =
+    (Node rule.Target ∷ One terminal.Semicolon ∷ [], phrase.Done) ∷
+    (One terminal.OpenParen ∷ One terminal.Name ∷ [], phrase.SelectNames) ∷
+    []
+-- the further names of a select
+choices phrase.SelectNames =
+    (One terminal.Comma ∷ One terminal.Name ∷ [], phrase.SelectNames) ∷
+    (One terminal.CloseParen ∷ One terminal.OpenBrace ∷ [], phrase.Cases) ∷
+    []
+-- the cases of a select
+choices phrase.Cases =
+    (Node rule.Case ∷ [], phrase.Cases) ∷
+    (One terminal.Else ∷ One terminal.Colon ∷ Node rule.Target ∷ One terminal.Semicolon ∷ One terminal.CloseBrace ∷ [], phrase.Done) ∷
+    []
+-- case = value { "," value } ":" target ";"
+choices (Whole rule.Case) =
+    (Node rule.Value ∷ [], phrase.MoreValues) ∷
+    []
+-- the further values of a case
+choices phrase.MoreValues =
+    (One terminal.Comma ∷ Node rule.Value ∷ [], phrase.MoreValues) ∷
+    (One terminal.Colon ∷ Node rule.Target ∷ One terminal.Semicolon ∷ [], phrase.Done) ∷
+    []
+-- value = NUMBER [ "&" NUMBER ]
+choices (Whole rule.Value) =
+    (One terminal.Number ∷ [], phrase.Mask) ∷
+    []
+-- the mask of a value, if any
+choices phrase.Mask =
+    (One terminal.Ampersand ∷ One terminal.Number ∷ [], phrase.Done) ∷
+    ([], phrase.Done) ∷
+    []
+-- target = NAME | "accept" | "reject"
+choices (Whole rule.Target) =
+    (One terminal.Name ∷ [], phrase.Done) ∷
+    (One terminal.Accept ∷ [], phrase.Done) ∷
+    (One terminal.Reject ∷ [], phrase.Done) ∷
+    []
+-- meta = "meta" "{" { NAME ":" NUMBER ";" } "}"
+choices (Whole rule.Meta) =
+    (One terminal.Meta ∷ One terminal.OpenBrace ∷ [], phrase.MetaFields) ∷
+    []
+-- the metadata fields
+choices phrase.MetaFields =
+    (One terminal.Name ∷ One terminal.Colon ∷ One terminal.Number ∷ One terminal.Semicolon ∷ [], phrase.MetaFields) ∷
+    (One terminal.CloseBrace ∷ [], phrase.Done) ∷
+    []
+-- action = "action" NAME "(" [ param { "," param } ] ")" "{" { field "=" expr ";" } "}"
+choices (Whole rule.Action) =
+    (One terminal.Action ∷ One terminal.Name ∷ One terminal.OpenParen ∷ [], phrase.Params) ∷
+    []
+-- the parameters of an action
+choices phrase.Params =
+    (Node rule.Param ∷ [], phrase.MoreParams) ∷
+    (One terminal.CloseParen ∷ One terminal.OpenBrace ∷ [], phrase.Assignments) ∷
+    []
+-- its further parameters
+choices phrase.MoreParams =
+    (One terminal.Comma ∷ Node rule.Param ∷ [], phrase.MoreParams) ∷
+    (One terminal.CloseParen ∷ One terminal.OpenBrace ∷ [], phrase.Assignments) ∷
+    []
+-- its assignments
+choices phrase.Assignments =
+    (Node rule.Field ∷ One terminal.Assign ∷ Node rule.Expr ∷ One terminal.Semicolon ∷ [], phrase.Assignments) ∷
+    (One terminal.CloseBrace ∷ [], phrase.Done) ∷
+    []
+-- param = NAME ":" NUMBER
+choices (Whole rule.Param) =
+    (One terminal.Name ∷ One terminal.Colon ∷ One terminal.Number ∷ [], phrase.Done) ∷
+    []
+-- field = NAME "." NAME | NAME "." "valid" | "meta" "." NAME | "in_port" | "out_port" | "drop"
+choices (Whole rule.Field) =
+    (One terminal.Name ∷ One terminal.Dot ∷ [], phrase.FieldEnd) ∷
+    (One terminal.Meta ∷ One terminal.Dot ∷ One terminal.Name ∷ [], phrase.Done) ∷
+    (One terminal.InPort ∷ [], phrase.Done) ∷
+    (One terminal.OutPort ∷ [], phrase.Done) ∷
+    (One terminal.Drop ∷ [], phrase.Done) ∷
+    []
+-- what follows the dot of a header's field
+choices phrase.FieldEnd =
+    (One terminal.Name ∷ [], phrase.Done) ∷
+    (One terminal.Valid ∷ [], phrase.Done) ∷
+    []
+-- expr = leaf [ ( "+" | "-" | "&" | "|" | "^" ) leaf ]
+choices (Whole rule.Expr) =
+    (Node rule.Leaf ∷ [], phrase.Operation) ∷
+    []
+-- the operator and its second operand, if any
+choices phrase.Operation =
+    (One terminal.Plus ∷ Node rule.Leaf ∷ [], phrase.Done) ∷
+    (One terminal.Minus ∷ Node rule.Leaf ∷ [], phrase.Done) ∷
+    (One terminal.Ampersand ∷ Node rule.Leaf ∷ [], phrase.Done) ∷
+    (One terminal.Bar ∷ Node rule.Leaf ∷ [], phrase.Done) ∷
+    (One terminal.Caret ∷ Node rule.Leaf ∷ [], phrase.Done) ∷
+    ([], phrase.Done) ∷
+    []
+-- leaf = field | NAME | NUMBER
+choices (Whole rule.Leaf) =
+    (Node rule.Field ∷ [], phrase.Done) ∷
+    (One terminal.Name ∷ [], phrase.Done) ∷
+    (One terminal.Number ∷ [], phrase.Done) ∷
+    []
+-- table = "table" NAME "{" [ key ] "default" NAME "(" [ NUMBER { "," NUMBER } ] ")" ";" "}"
+choices (Whole rule.Table) =
+    (One terminal.Table ∷ One terminal.Name ∷ One terminal.OpenBrace ∷ [], phrase.TableKey) ∷
+    []
+-- the key of a table, if any, and its default
+choices phrase.TableKey =
+    (Node rule.Key ∷ One terminal.Default ∷ One terminal.Name ∷ One terminal.OpenParen ∷ [], phrase.Arguments) ∷
+    (One terminal.Default ∷ One terminal.Name ∷ One terminal.OpenParen ∷ [], phrase.Arguments) ∷
+    []
+-- the arguments of the default
+choices phrase.Arguments =
+    (One terminal.Number ∷ [], phrase.MoreArguments) ∷
+    (One terminal.CloseParen ∷ One terminal.Semicolon ∷ One terminal.CloseBrace ∷ [], phrase.Done) ∷
+    []
+-- its further arguments
+choices phrase.MoreArguments =
+    (One terminal.Comma ∷ One terminal.Number ∷ [], phrase.MoreArguments) ∷
+    (One terminal.CloseParen ∷ One terminal.Semicolon ∷ One terminal.CloseBrace ∷ [], phrase.Done) ∷
+    []
+-- key = ( "exact" | "prefix" | "ternary" ) field { "," field } ";" "actions" NAME { "," NAME } ";" "size" NUMBER ";" [ "counted" ";" ]
+choices (Whole rule.Key) =
+    (One terminal.Exact ∷ Node rule.Field ∷ [], phrase.KeyFields) ∷
+    (One terminal.Prefix ∷ Node rule.Field ∷ [], phrase.KeyFields) ∷
+    (One terminal.Ternary ∷ Node rule.Field ∷ [], phrase.KeyFields) ∷
+    []
+-- the further fields of a key
+choices phrase.KeyFields =
+    (One terminal.Comma ∷ Node rule.Field ∷ [], phrase.KeyFields) ∷
+    (One terminal.Semicolon ∷ One terminal.Actions ∷ One terminal.Name ∷ [], phrase.KeyActions) ∷
+    []
+-- the further actions of a table
+choices phrase.KeyActions =
+    (One terminal.Comma ∷ One terminal.Name ∷ [], phrase.KeyActions) ∷
+    (One terminal.Semicolon ∷ One terminal.Size ∷ One terminal.Number ∷ One terminal.Semicolon ∷ [], phrase.Counted) ∷
+    []
+-- the word `counted`, if it stands there
+choices phrase.Counted =
+    (One terminal.Counted ∷ One terminal.Semicolon ∷ [], phrase.Done) ∷
+    ([], phrase.Done) ∷
+    []
+-- control = "control" block
+choices (Whole rule.Control) =
+    (One terminal.Control ∷ Node rule.Block ∷ [], phrase.Done) ∷
+    []
+-- block = "{" { stmt } "}"
+choices (Whole rule.Block) =
+    (One terminal.OpenBrace ∷ [], phrase.Statements) ∷
+    []
+-- the statements of a block
+choices phrase.Statements =
+    (Node rule.Stmt ∷ [], phrase.Statements) ∷
+    (One terminal.CloseBrace ∷ [], phrase.Done) ∷
+    []
+-- stmt = "apply" NAME ( ";" | "{" { arm } "}" ) | "if" "(" field [ "&" NUMBER ] "==" NUMBER ")" block [ "else" block ]
+choices (Whole rule.Stmt) =
+    (One terminal.Apply ∷ One terminal.Name ∷ [], phrase.Applied) ∷
+    (One terminal.If ∷ One terminal.OpenParen ∷ Node rule.Field ∷ [], phrase.Condition) ∷
+    []
+-- what follows the table of an `apply`
+choices phrase.Applied =
+    (One terminal.Semicolon ∷ [], phrase.Done) ∷
+    (One terminal.OpenBrace ∷ [], phrase.Arms) ∷
+    []
+-- its arms
+choices phrase.Arms =
+    (Node rule.Arm ∷ [], phrase.Arms) ∷
+    (One terminal.CloseBrace ∷ [], phrase.Done) ∷
+    []
+-- what follows the field of an `if`
+choices phrase.Condition =
+    (One terminal.Ampersand ∷ One terminal.Number ∷ One terminal.Equal ∷ One terminal.Number ∷ One terminal.CloseParen ∷ Node rule.Block ∷ [], phrase.Otherwise) ∷
+    (One terminal.Equal ∷ One terminal.Number ∷ One terminal.CloseParen ∷ Node rule.Block ∷ [], phrase.Otherwise) ∷
+    []
+-- the `else` of an `if`, if any
+choices phrase.Otherwise =
+    (One terminal.Else ∷ Node rule.Block ∷ [], phrase.Done) ∷
+    ([], phrase.Done) ∷
+    []
+-- arm = ( "hit" | "miss" | NAME ) block
+choices (Whole rule.Arm) =
+    (One terminal.Hit ∷ Node rule.Block ∷ [], phrase.Done) ∷
+    (One terminal.Miss ∷ Node rule.Block ∷ [], phrase.Done) ∷
+    (One terminal.Name ∷ Node rule.Block ∷ [], phrase.Done) ∷
+    []
+-- nothing
+choices phrase.Done = []

@@ -1,0 +1,4 @@
+pub mod Grammar
+pub mod Lookahead
+pub mod State
+pub mod Trees

@@ -1,0 +1,58 @@
+-- What a reader that stands in the middle of a text has read, and what it still has to read.
+use Rattle.std.specs.Prelude.{◌≡◌, ℕ, suc, List, [], ◌∷◌, ◌++◌, map, fold, take, length, ◌≤◌, false, Some, slice_get}
+use Rattle.std.specs.List.{flat_map}
+use Rattle.rmt_lexer.specs.declared.token.Token.{Token}
+use Rattle.rmt_syntax.specs.declared.reader.Frame.{Frame}
+use Rattle.rmt_syntax.specs.declared.reader.Reader.{Reader}
+use Rattle.rmt_syntax.specs.declared.tree.Rule.TheVariants as rule
+use Rattle.rmt_syntax.specs.declared.grammar.Phrase.TheVariants.{Done}
+use Rattle.rmt_lexer.specs.declared.fault.ProgramFault.{ProgramFault}
+use Rattle.rmt_lexer.specs.declared.fault.ProgramFault.TheVariants.{NoMemory, At}
+use Rattle.rmt_syntax.specs.Lookahead.{Orderly, is_operand_name}
+use Rattle.rmt_syntax.specs.Grammar.{terminal_of}
+use Rattle.rmt_syntax.specs.declared.grammar.Phrase.{Phrase}
+use Rattle.rmt_syntax.specs.Trees.{Mark, opens, marks, tokens_in, Goal, part, phrase, shut, Reads, IsText, IsNested, depth_of, IsFault}
+
+-- the marks of the parts that a node has so far
+abbrev pub frame_marks : Frame → List Mark
+frame_marks f = opens f.rule ∷ flat_map marks f.parts.items
+
+-- what is to come of it
+abbrev pub frame_goals : Frame → List Goal
+frame_goals f = map part f.todo.now ++ phrase f.then ∷ shut f.rule ∷ []
+
+abbrev pub outer_goals : List Frame → List Goal
+outer_goals fs = fold (λ gs f. frame_goals f ++ gs) [] fs
+
+-- the marks read so far
+abbrev pub marks_of : Reader → List Mark
+marks_of r = flat_map frame_marks r.outer.items ++ frame_marks r.inner
+
+-- what is still to come
+abbrev pub goals_of : Reader → List Goal
+goals_of r = frame_goals r.inner ++ outer_goals r.outer.items
+
+-- A reader that stands before a token: what it read, what is to come, and how many blocks are open.
+pub record Stands (tokens : List Token) (at : ℕ) (goals : List Goal) (seen : List Mark) (depth : ℕ) : Type 0 where
+  pub read : tokens_in seen ≡ take at tokens
+  -- what comes by the goals makes a text
+  pub sound : (ms : List Mark) → Reads goals ms → IsText (seen ++ ms)
+  -- each text that begins with the tokens up to that one goes on by the goals
+  pub whole : (all : List Mark) (more : List Token) → IsText all → tokens_in all ≡ take (suc at) tokens ++ more → (ms : List Mark) × (all ≡ seen ++ ms) × Reads goals ms
+  pub nested : IsNested seen
+  pub open_blocks : depth ≡ depth_of seen
+  pub orderly : Orderly goals
+  pub ended : length tokens ≤ at → goals ≡ phrase Done ∷ shut rule.Program ∷ []
+
+-- no tree has these tokens and blocks nested in one another at most 32 deep
+abbrev pub HasNoTree : List Token → Type 0
+HasNoTree tokens = (all : List Mark) → IsText all → tokens_in all ≡ tokens → IsNested all → ⊥
+
+-- the tokens are refused: the fault is where it says, and they have no tree
+abbrev pub Refuses : List Token → ProgramFault → Type 0
+Refuses tokens NoMemory = Unit {0}
+Refuses tokens (At code line column) = IsFault tokens code line column × HasNoTree tokens
+
+-- the token is no name that begins an operand
+abbrev pub IsNoOperandName : Phrase → List Token → ℕ → Type 0
+IsNoOperandName x tokens at = (t : Token) → slice_get tokens at ≡ Some t → is_operand_name x (terminal_of t.what) ≡ false

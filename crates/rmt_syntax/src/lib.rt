@@ -1,0 +1,13 @@
+//! Reads the tokens of a packet program as the parse tree of the language's grammar.
+#![tactic(auto)]
+
+mod grammar;
+mod lookahead;
+mod parser;
+mod reader;
+mod terminal;
+#[cfg(test)]
+mod tests;
+pub mod tree;
+
+pub use parser::syntax;

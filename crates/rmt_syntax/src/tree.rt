@@ -1,0 +1,32 @@
+use rmt_lexer::token::Token;
+
+/// A rule of the grammar.
+#[derive(Clone, Copy, Debug, PartialEq, Eq)]
+pub enum Rule {
+    Program,
+    Header,
+    Next,
+    Case,
+    Value,
+    Target,
+    Meta,
+    Action,
+    Param,
+    Field,
+    Expr,
+    Leaf,
+    Table,
+    Key,
+    Control,
+    Block,
+    Stmt,
+    Arm,
+}
+
+/// The parse tree of a program's text.
+#[derive(Debug, Drop)]
+pub enum Tree {
+    One(Token),
+    /// The text of a rule: its tokens and the texts of the rules in it, in their order.
+    Many { rule: Rule, parts: Vec<Tree> },
+}
