@@ -75,6 +75,10 @@ fn texts_of_the_small_form(rt: HostRuntime) -> Result<(), Fail> {
     for (program, printed) in [
         (SMALLEST, "stages 1 latency 12\n"),
         (
+            "header h { f : 8; } next accept;\naction send() { out_port = 1; }\ncontrol { }\n",
+            "stages 0 latency 0\n",
+        ),
+        (
             "header h { f : 8; } next accept; control { }",
             "stages 0 latency 0\n",
         ),
@@ -83,8 +87,8 @@ fn texts_of_the_small_form(rt: HostRuntime) -> Result<(), Fail> {
             "stages 2 latency 24\n",
         ),
         (
-            "header _ { _ : 8 ; } next accept ;\r\n\taction _ ( ) { out_port = 511 ; } control { }\n",
-            "stages 0 latency 0\n",
+            "header _ { _ : 8 ; } next accept ;\r\n\taction _ ( ) { out_port = 511 ; } table _ { default _ ( ) ; } control { apply _ ; }\n",
+            "stages 1 latency 12\n",
         ),
     ] {
         expect_compiled(&rt, program, Status::Done, printed)?;
@@ -95,23 +99,82 @@ fn texts_of_the_small_form(rt: HostRuntime) -> Result<(), Fail> {
 #[test]
 fn texts_of_another_form(rt: HostRuntime) -> Result<(), Fail> {
     for program in [
+        // The header, and what stands around the parts.
         "",
         "@",
         "header h { f : 7; } next accept; control { }",
-        "header h { f : 8; } next accept; control { } control { }",
-        "header h { f : 8; } next accept; // none\ncontrol { }",
+        "header h { f : 65544; } next accept; control { }",
         "header h { f : 0x8; } next accept; control { }",
         "header apply { f : 8; } next accept; control { }",
+        "header h { size : 8; } next accept; control { }",
+        "header 1h { f : 8; } next accept; control { }",
+        "header h { f : 8; } next accept; // none\ncontrol { }",
+        "header h { f : 8; } next accept; # none\ncontrol { }",
+        "header h { f : 8; } next accept;",
+        "header h { f : 8; } next accept; control { } control { }",
+        "header h { f : 8; } next accept; control { } h",
+        // Actions.
         "header h { f : 8; } next accept; action a() { out_port = 512; } control { }",
+        "header h { f : 8; } next accept; action a() { out_port = 65536; } control { }",
+        "header h { f : 8; } next accept; action a() { out_port = 0x1; } control { }",
         "header h { f : 8; } next accept; action a() { drop = 2; } control { }",
-        "header h { f : 8; } next accept; action a() { drop = 1; drop = 0; } control { }",
+        "header h { f : 8; } next accept; action a() { out_port = 1; drop = 0; } control { }",
+        "header h { f : 8; } next accept; action a(p : 9) { } control { }",
+        "header h { f : 8; } next accept; action apply() { } control { }",
         "header h { f : 8; } next accept; action a() { } action a() { } control { }",
+        // Tables, and their control.
+        "header h { f : 8; } next accept; table t { default a(); } action a() { } control { apply t; }",
         "header h { f : 8; } next accept; action a() { } table t { default b(); } control { apply t; }",
+        "header h { f : 8; } next accept; action a() { } table t { default a(); } table t { default a(); } control { apply t; }",
         "header h { f : 8; } next accept; action a() { } table t { default a(); } control { }",
         "header h { f : 8; } next accept; action a() { } table t { default a(); } control { apply t; apply t; }",
         "header h { f : 8; } next accept; action a() { } table t { default a(); } control { apply u; }",
+        "header h { f : 8; } next accept; action a() { } table t { default a(); } control { apply t; apply u; }",
     ] {
         expect_compiled(&rt, program, Status::BadProgram, NOT_SMALL)?;
+    }
+    Ok(())
+}
+
+/// A program that applies so many tables.
+fn with_tables(alloc: Global, count: u32) -> Result<String, AllocError> {
+    let mut tables = text(alloc, "header h { f : 8; } next accept; action a() { } ")?;
+    let mut applied = text(alloc, "control { ")?;
+    for i in 0..count {
+        tables.push_str(format!(in alloc; "table t{i} {{ default a(); }} ")?.as_str())?;
+        applied.push_str(format!(in alloc; "apply t{i}; ")?.as_str())?;
+    }
+    format!(in alloc; "{tables}{applied}}}")
+}
+
+/// A program of so many actions.
+fn with_actions(alloc: Global, count: u32) -> Result<String, AllocError> {
+    let mut program = text(alloc, "header h { f : 8; } next accept; ")?;
+    for i in 0..count {
+        program.push_str(format!(in alloc; "action a{i}() {{ }} ")?.as_str())?;
+    }
+    program.push_str("control { }")?;
+    Ok(program)
+}
+
+#[test]
+fn counts_at_their_limits(rt: HostRuntime) -> Result<(), Fail> {
+    let alloc = rt.alloc();
+    for (program, status, printed) in [
+        (
+            &with_tables(alloc, 32)?,
+            Status::Done,
+            "stages 32 latency 384\n",
+        ),
+        (&with_tables(alloc, 33)?, Status::BadProgram, NOT_SMALL),
+        (
+            &with_actions(alloc, 256)?,
+            Status::Done,
+            "stages 0 latency 0\n",
+        ),
+        (&with_actions(alloc, 257)?, Status::BadProgram, NOT_SMALL),
+    ] {
+        expect_compiled(&rt, program.as_str(), status, printed)?;
     }
     Ok(())
 }
