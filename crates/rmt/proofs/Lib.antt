@@ -12,3 +12,4 @@ pub mod SmallParts
 pub mod SmallNames
 pub mod SmallLookups
 pub mod SmallSteps
+pub mod EmitLaws

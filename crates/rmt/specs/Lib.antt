@@ -7,3 +7,4 @@ pub mod Promises
 pub mod SmallReading
 pub mod CommandReading
 pub mod Printing
+pub mod SimText
