@@ -28,7 +28,11 @@ fn over(most: u32, limit: u8, stage: u8, sum: u128) -> Option<LimitHit>
     if sum <= most as u128 {
         return None;
     }
-    let sum = if sum < 4294967295 { sum as u32 } else { 4294967295 };
+    let sum = if sum < 4294967295 {
+        sum as u32
+    } else {
+        4294967295
+    };
     Some(LimitHit {
         limit,
         stage,
@@ -60,7 +64,10 @@ fn over_in_entries(entries: &[ParserEntry]) -> Option<LimitHit>
 fn count_slots(units: &[Unit]) -> usize
     ensures { result ≡ count_by is_slot units.now }
 {
-    units.iter().filter(|unit| matches!(unit, Unit::Slot(_))).count()
+    units
+        .iter()
+        .filter(|unit| matches!(unit, Unit::Slot(_)))
+        .count()
 }
 
 fn over_in_slots(stages: &[Stage]) -> Option<LimitHit>
@@ -69,7 +76,12 @@ fn over_in_slots(stages: &[Stage]) -> Option<LimitHit>
 {
     let mut at: u16 = 0;
     for stage in stages {
-        if let Some(hit) = over(16, 10, at as u8, count_slots(stage.units.as_slice()) as u128) {
+        if let Some(hit) = over(
+            16,
+            10,
+            at as u8,
+            count_slots(stage.units.as_slice()) as u128,
+        ) {
             return Some(hit);
         }
         at += 1;

@@ -10,7 +10,8 @@ pub fn extract_fits(need: u8, extract: Extract) -> bool
     ensures { result ≡ extract_is_formed need extract }
 {
     match extract {
-        Extract::Bits { from, lane } => lane_fits(lane) && from as u32 + lane.len as u32 <= 8 * need as u32,
+        Extract::Bits { from, lane } => lane_fits(lane)
+            && from as u32 + lane.len as u32 <= 8 * need as u32,
         Extract::One { lane } => lane_fits_of(1, lane),
     }
 }
@@ -71,5 +72,7 @@ pub fn entries_fit(parser: &ParserConfig) -> bool
     ensures { result ≡ entries_are_formed parser.now }
 {
     let entries = parser.entries.as_slice();
-    entries.len() < 65536 && each_entry_fits(parser.states.len(), entries) && stand_by_state(entries)
+    entries.len() < 65536
+        && each_entry_fits(parser.states.len(), entries)
+        && stand_by_state(entries)
 }

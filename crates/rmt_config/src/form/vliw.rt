@@ -14,7 +14,8 @@ pub fn source_fits(place: (u16, bool), len: u8, source: Source) -> bool
     ensures { result ≡ source_is_formed place len source }
 {
     match source {
-        Source::Word { word, low } => word < 224 && low as u16 + len as u16 <= word_size(word) as u16,
+        Source::Word { word, low } => word < 224
+            && low as u16 + len as u16 <= word_size(word) as u16,
         Source::Held { low } => !place.1 && low as u32 + len as u32 <= place.0 as u32,
         Source::Constant { value } => (value as u64) < (1u64 << len),
     }
