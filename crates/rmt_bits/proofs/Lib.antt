@@ -1,3 +1,4 @@
 pub mod BitLaws
 pub mod ByteLaws
+pub mod WordLaws
 pub mod Examples
