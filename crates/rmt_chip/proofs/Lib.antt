@@ -1,0 +1,2 @@
+pub mod ComputeLaws
+pub mod LifeLaws

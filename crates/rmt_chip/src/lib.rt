@@ -1,0 +1,5 @@
+//! The clocked chip: one call is one cycle, with many packets in flight.
+#![tactic(auto)]
+
+mod compute;
+mod write;
