@@ -1,2 +1,3 @@
 pub mod ComputeLaws
 pub mod LifeLaws
+pub mod WriteLaws

@@ -1,6 +1,7 @@
 -- Whole words that are still to be written.
-use Rattle.std.specs.Prelude.{ℕ, List, [], ◌∷◌, Option, Some, None, ◌==◌, if◌then◌else◌, fold, slice_set}
-use Rattle.rmt_config.specs.Life.{or_else}
+use Rattle.std.specs.Prelude.{ℕ, List, [], ◌∷◌, Option, Some, None, ◌==◌, if◌then◌else◌, fold, slice_set, slice_get, option_map, unwrap_or, map, reverse}
+use Rattle.rmt_config.specs.declared.config.Vliw.{Vliw}
+use Rattle.rmt_config.specs.Life.{or_else, Running}
 use Rattle.rmt_chip.specs.declared.write.Write.{Write}
 
 -- what the writes, one after another, make of a word, if one of them is on it
@@ -11,3 +12,11 @@ last_on (x ∷ xs) w = or_else (last_on xs w) (if x.word == w then Some x.value 
 -- a vector after the writes
 abbrev pub applied : List Write → List ℕ → List ℕ
 applied writes vector = fold (λ v (x : Write). slice_set v x.word x.value) vector writes
+
+-- instructions by number, run without a record
+abbrev pub run_of : List Vliw → ℕ → Running
+run_of code i = record { ops = unwrap_or (option_map (λ (v : Vliw). v.ops) (slice_get code i)) []; held = 0 }
+
+-- the same for a list of numbers, the last one first
+abbrev pub runs_of : List Vliw → List ℕ → List Running
+runs_of code numbers = reverse (map (run_of code) numbers)
