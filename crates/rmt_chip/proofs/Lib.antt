@@ -1,3 +1,4 @@
 pub mod ComputeLaws
 pub mod LifeLaws
 pub mod WriteLaws
+pub mod DecideLaws

@@ -2,5 +2,6 @@
 #![tactic(auto)]
 
 mod compute;
+mod decide;
 mod write;
 mod writes;
