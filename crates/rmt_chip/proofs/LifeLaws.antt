@@ -8,16 +8,13 @@ use Rattle.std.proofs.lemmas.Bool.{cases_lt}
 use Rattle.rmt_config.specs.declared.config.Stage.{Stage}
 use Rattle.rmt_config.specs.Life.{Words, Ages, Look, Life, Acts, Running, through, through_from, life_of, acts_of, word_after}
 use Rattle.rmt_chip.specs.Runnable.{start_of}
+use Rattle.rmt_chip.specs.Lives.{upto, acts_at}
 
 through_from-push : (look : Look) (k : ℕ) (xs : List Stage) (y : Stage) (life : Life) → through_from look k (xs ++ y ∷ []) life ≡ through look (k + length xs) y (through_from look k xs life)
 through_from-push look k [] y life = let e : k ≡ k + 0 = omega arith in ap (λ n. through look n y life) e
 through_from-push look k (x ∷ xs) y life =
     let e : k + 1 + length xs ≡ k + suc (length xs) = omega arith in
     through_from-push look (k + 1) xs y (through look k x life) ∙ ap (λ n. through look n y (through_from look (k + 1) xs (through look k x life))) e
-
--- the life through the first n stages
-abbrev pub upto : Look → List Stage → List ℕ → ℕ → Life
-upto look stages vector n = life_of look (take n stages) vector
 
 pub upto_more : (look : Look) (stages : List Stage) (vector : List ℕ) (k : ℕ) (d : Stage) → k < length stages
   → upto look stages vector (k + 1) ≡ through look k (get_or stages k d) (upto look stages vector k)
@@ -98,10 +95,6 @@ word_stays look (s ∷ rest) vector (suc n) t w h apart =
             ∙ ap (λ v. unwrap_or (word_after (acts_of look k stage (life.word stage.start) life.outcomes).running (life.word (stage.start + 9)) w) v) e
             ∙ sym (word_from look k stage life t w (omega arith)))
         (cases_lt (t + 1) (stage.start + 12))
-
--- what a stage does with a packet
-unfoldable pub acts_at : Look → List Stage → List ℕ → ℕ → Stage → Acts
-acts_at look stages vector k stage = acts_of look k stage ((upto look stages vector k).word stage.start) (upto look stages vector k).outcomes
 
 -- the words at an age at which the stage has not written yet
 pub words_upto : (look : Look) (stages : List Stage) (vector : List ℕ) → Rise stages → (k t : ℕ) → k < length stages → t < start_of stages k + 12

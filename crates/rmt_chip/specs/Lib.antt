@@ -1,2 +1,4 @@
 pub mod Runnable
 pub mod Writes
+pub mod Lives
+pub mod Held

@@ -3,5 +3,7 @@
 
 mod compute;
 mod decide;
+mod place;
+mod steps;
 mod write;
 mod writes;
