@@ -2,3 +2,4 @@ pub mod ComputeLaws
 pub mod LifeLaws
 pub mod WriteLaws
 pub mod DecideLaws
+pub mod HeldLaws

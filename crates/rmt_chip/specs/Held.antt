@@ -26,7 +26,7 @@ due_at place k = unwrap_or (option_map (λ v. v.items) (slice_get place.due.item
 -- another, and the outcomes and instructions up to a third
 pub record Carried (look : Look) (stages : List Stage) (vector : List ℕ) (words_age read_age acts_age : ℕ) (place : Place) : Type 0 where
   pub all_words : length place.vector ≡ 224
-  pub words : (w : ℕ) → w < 224 → slice_index place.vector w ≡ (life_of look stages vector).word words_age w
+  pub words : (w : ℕ) → slice_index place.vector w ≡ (life_of look stages vector).word words_age w
   pub due : (k : ℕ) (d : Stage) → k < length stages → start_of stages k + 9 ≤ read_age → words_age < start_of stages k + 12
     → (w : ℕ) → last_on (due_at place k) w ≡ word_after (acts_at look stages vector k (slice_index_or stages k d)).running ((life_of look stages vector).word (start_of stages k + 9)) w
   pub running : (k : ℕ) (d : Stage) → k < length stages → start_of stages k + 8 ≡ acts_age
