@@ -3,3 +3,4 @@ pub mod LifeLaws
 pub mod WriteLaws
 pub mod DecideLaws
 pub mod HeldLaws
+pub mod RingLaws

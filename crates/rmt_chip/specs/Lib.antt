@@ -2,3 +2,4 @@ pub mod Runnable
 pub mod Writes
 pub mod Lives
 pub mod Held
+pub mod Ring
