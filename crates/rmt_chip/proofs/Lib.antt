@@ -4,3 +4,4 @@ pub mod WriteLaws
 pub mod DecideLaws
 pub mod HeldLaws
 pub mod RingLaws
+pub mod HoldsLaws

@@ -4,6 +4,7 @@
 mod compute;
 mod decide;
 mod place;
+mod ring;
 mod steps;
 mod write;
 mod writes;
