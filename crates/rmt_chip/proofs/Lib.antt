@@ -5,3 +5,4 @@ pub mod DecideLaws
 pub mod HeldLaws
 pub mod RingLaws
 pub mod HoldsLaws
+pub mod PassLaws

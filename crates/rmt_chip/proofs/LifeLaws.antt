@@ -26,7 +26,7 @@ upto_more look stages vector k d h =
 pub upto_all : (look : Look) (stages : List Stage) (vector : List ℕ) → upto look stages vector (length stages) ≡ life_of look stages vector
 upto_all look stages vector = ap (λ (s : List Stage). life_of look s vector) (take_all (length stages) stages (omega arith))
 
-start_of-get : (stages : List Stage) (k : ℕ) (d : Stage) → k < length stages → (get_or stages k d).start ≡ start_of stages k
+pub start_of-get : (stages : List Stage) (k : ℕ) (d : Stage) → k < length stages → (get_or stages k d).start ≡ start_of stages k
 start_of-get stages k d h = sym (get_or-map (λ (s : Stage). s.start) stages k d 0 h)
 
 -- the starts rise

@@ -32,7 +32,7 @@ done_more stages after k =
     let test : eqb (k + 1) 0 ≡ false = grind (arith, nat_tests) in
     ap (λ (b : Bool). cond b 0 (start_of stages (k + 1 - 1) + after + 1)) test ∙ ap (λ n. start_of stages n + after + 1) back
 
-done_le : (stages : List Stage) (after k : ℕ) → Rise stages → k < length stages → done_before stages after k ≤ start_of stages k + after
+pub done_le : (stages : List Stage) (after k : ℕ) → Rise stages → k < length stages → done_before stages after k ≤ start_of stages k + after
 done_le stages after zero rise h = omega (arith, done_none stages after)
 done_le stages after (suc k) rise h =
     let next : suc k ≡ k + 1 = omega arith in

@@ -36,7 +36,52 @@ pub fn write_all(places: &mut [Place], newest: usize, config: &Config)
 {
     for k in 0..config.stages.len() {
         let stages = config.stages.as_slice();
-        let at = place_of(newest, usize::from(stages[k].start) + 12);
+        let stage = &stages[k];
+        let at = place_of(newest, usize::from(stage.start) + 12);
         steps::write(&mut places[at], k);
     }
+}
+
+/// Each stage reads the operands and old words of the packet that is 9 cycles behind its start.
+pub fn read_all(
+    places: &mut [Place],
+    newest: usize,
+    config: &Config,
+) -> Result<(), AllocError>
+    requires full { length places.old ≡ 385 }
+    requires newest { newest < 385 }
+    requires fits { StagesFit config.now.stages }
+    ensures { OnOk result ((look : Look) (item : ℕ → Option Entered) →
+        AllHold look config.now item now past past newest places.old →
+        AllHold look config.now item now now past newest places.new) }
+{
+    for k in 0..config.stages.len() {
+        let stages = config.stages.as_slice();
+        let stage = &stages[k];
+        let at = place_of(newest, usize::from(stage.start) + 9);
+        steps::read(&mut places[at], k, stage)?;
+    }
+    Ok(())
+}
+
+/// Each stage sets the outcomes of the packet that is 8 cycles behind its start.
+pub fn act_all(
+    places: &mut [Place],
+    newest: usize,
+    config: &Config,
+) -> Result<(), AllocError>
+    requires full { length places.old ≡ 385 }
+    requires newest { newest < 385 }
+    requires fits { StagesFit config.now.stages }
+    ensures { OnOk result ((look : Look) (item : ℕ → Option Entered) →
+        AllHold look config.now item now now past newest places.old →
+        AllHold look config.now item now now now newest places.new) }
+{
+    for k in 0..config.stages.len() {
+        let stages = config.stages.as_slice();
+        let stage = &stages[k];
+        let at = place_of(newest, usize::from(stage.start) + 8);
+        steps::act(&mut places[at], stage)?;
+    }
+    Ok(())
 }
