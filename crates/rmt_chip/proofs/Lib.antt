@@ -6,3 +6,4 @@ pub mod HeldLaws
 pub mod RingLaws
 pub mod HoldsLaws
 pub mod PassLaws
+pub mod ParseLaws

@@ -3,3 +3,4 @@ pub mod Writes
 pub mod Lives
 pub mod Held
 pub mod Ring
+pub mod Parsing

@@ -1,5 +1,5 @@
 -- What a configuration must be for the chip to run it.
-use Rattle.std.specs.Prelude.{◌≡◌, ℕ, ◌+◌, ◌*◌, ◌^◌, ◌<◌, ◌≤◌, Bool, true, false, ◌&&◌, not, nat_lt, nat_le, IsTrue, is_none, List, length, map, slice_index, All}
+use Rattle.std.specs.Prelude.{◌≡◌, ℕ, ◌+◌, ◌*◌, ◌^◌, ◌<◌, ◌≤◌, Bool, true, false, ◌&&◌, not, nat_lt, nat_le, ◌==◌, IsTrue, is_none, List, length, map, slice_index, All}
 use Rattle.rmt_bits.specs.Words.{word_size}
 use Rattle.rmt_bits.specs.declared.lane.Lane.{Lane}
 use Rattle.rmt_config.specs.declared.config.Operation.{Operation}
@@ -9,7 +9,13 @@ use Rattle.rmt_config.specs.declared.config.Unit.{Unit}
 use Rattle.rmt_config.specs.declared.config.Unit.TheVariants.{Gate, Slot}
 use Rattle.rmt_config.specs.declared.config.Vliw.{Vliw}
 use Rattle.rmt_config.specs.declared.config.Stage.{Stage}
-use Rattle.rmt_config.specs.Life.{has_memory}
+use Rattle.rmt_config.specs.declared.config.Config.{Config}
+use Rattle.rmt_config.specs.declared.config.OutHeader.{OutHeader}
+use Rattle.rmt_config.specs.declared.config.ParserConfig.{ParserConfig}
+use Rattle.rmt_config.specs.declared.config.ParserEntry.{ParserEntry}
+use Rattle.rmt_config.specs.declared.config.Extract.{Extract}
+use Rattle.rmt_config.specs.declared.config.Extract.TheVariants.{Bits, One}
+use Rattle.rmt_config.specs.Life.{has_memory, key_bits}
 
 -- a lane lies in its word
 pub record LaneFits (lane : Lane) : Type 0 where
@@ -53,3 +59,30 @@ pub record StagesFit (stages : List Stage) : Type 0 where
   pub rise : (j k : ℕ) → j < k → k < length stages → start_of stages j < start_of stages k
   pub last : (k : ℕ) → k < length stages → start_of stages k ≤ 372
   pub each : All StageFits stages
+
+-- an extract finds its bits in the bytes that its entry needs
+abbrev pub extract_fits : ℕ → Extract → Bool
+extract_fits need (Bits from lane) = nat_lt lane.word 224 && (nat_le (lane.low + lane.len) (word_size lane.word) && nat_le (from + lane.len) (8 * need))
+extract_fits need (One lane) = nat_lt lane.word 224 && (nat_le (lane.low + lane.len) (word_size lane.word) && (lane.len == 1))
+
+pub record ParserFits (parser : ParserConfig) : Type 0 where
+  pub few_states : length parser.states ≤ 256
+  pub short_steps : All (λ (e : ParserEntry). e.advance ≤ e.need) parser.entries
+  pub extracts : All (λ (e : ParserEntry). All (λ x. IsTrue (extract_fits e.need x)) e.extracts) parser.entries
+
+-- a header that is sent: its lanes have as many bits as its bytes, at most 64
+pub record HeaderFits (header : OutHeader) : Type 0 where
+  pub valid : LaneFits header.valid
+  pub few_bytes : header.bytes ≤ 64
+  pub pieces : All LaneFits header.pieces
+  pub whole : key_bits header.pieces ≡ 8 * header.bytes
+
+pub record IsRunnable (c : Config) : Type 0 where
+  pub in_port : LaneFits c.in_port
+  pub port_bits : c.in_port.len ≡ 9
+  pub out_port : LaneFits c.out_port
+  pub out_bits : c.out_port.len ≡ 9
+  pub drop : LaneFits c.drop
+  pub headers : All HeaderFits c.headers
+  pub parser : ParserFits c.parser
+  pub stages : StagesFit c.stages

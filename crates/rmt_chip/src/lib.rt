@@ -3,6 +3,8 @@
 
 mod compute;
 mod decide;
+mod lanes;
+mod parse;
 mod place;
 mod ring;
 mod steps;
