@@ -5,7 +5,8 @@ use Rattle.std.proofs.lemmas.List.{get_or-replicate, get_or_past, length-replica
 use Rattle.std.proofs.lemmas.Bool.{cases_lt}
 use Rattle.rmt_bits.specs.Words.{word_size, AreWords}
 
-get_or-zeros : (n w d : ℕ) → get_or (replicate n d) w d ≡ d
+-- each word is 0
+pub get_or-zeros : (n w d : ℕ) → get_or (replicate n d) w d ≡ d
 get_or-zeros n w d =
     ⊎_elim (λ h. get_or-replicate n w d d h) (λ h. get_or_past (replicate n d) w d (omega (arith, length-replicate {A = ℕ} n d))) (cases_lt w n)
 

@@ -1,5 +1,5 @@
 -- What a packet place holds.
-use Rattle.std.specs.Prelude.{◌≡◌, ◌≢◌, ℕ, ◌+◌, ◌<◌, ◌≤◌, Bool, true, false, if◌then◌else◌, List, [], length, take, Option, Some, None, option_map, unwrap_or, slice_get, slice_index, slice_index_or}
+use Rattle.std.specs.Prelude.{◌≡◌, ◌≢◌, ℕ, ◌+◌, ◌<◌, ◌≤◌, Bool, true, false, if◌then◌else◌, List, [], length, take, Option, Some, None, option_map, unwrap_or, slice_get, slice_index, slice_index_or, replicate}
 use Rattle.rmt_bits.specs.Packet.{Packet}
 use Rattle.rmt_config.specs.declared.config.Config.{Config}
 use Rattle.rmt_config.specs.declared.config.Stage.{Stage}
@@ -85,3 +85,24 @@ pub record DecidedBy (stage : Stage) (old new : Place) : Type 0 where
   pub vector : new.vector ≡ old.vector
   pub due : new.due ≡ old.due
   pub decided : is_accepted old.parsed ≡ true → (look : Look) (k : ℕ) (words : Words) → Decides stage (acts_of look k stage words old.outcomes) new.outcomes new.running.items
+
+-- the vector of a packet as it enters
+abbrev pub Begins : Config → Packet → Place → Parse → Type 0
+Begins c packet place Short = (place.parsed ≡ parsed.Short) × (place.vector ≡ replicate 224 0)
+Begins c packet place Reject = (place.parsed ≡ parsed.Reject) × (place.vector ≡ replicate 224 0)
+Begins c packet place (Accept vector used) = (place.parsed ≡ parsed.Accept used) × (place.vector ≡ put vector c.in_port packet.port) × (length place.vector ≡ 224)
+
+-- a place with a packet that enters
+pub record EnteredBy (c : Config) (entered : Entered) (place : Place) : Type 0 where
+  pub taken : place.taken ≡ true
+  pub number : place.number ≡ entered.number
+  pub frame : place.frame.items ≡ entered.packet.frame
+  pub outcomes : place.outcomes ≡ replicate 256 0
+  pub begins : Begins c entered.packet place (parse c.parser entered.packet.frame)
+
+-- all but the vector and how the parser ended
+pub record Keeps (old new : Place) : Type 0 where
+  pub taken : new.taken ≡ old.taken
+  pub number : new.number ≡ old.number
+  pub frame : new.frame ≡ old.frame
+  pub outcomes : new.outcomes ≡ old.outcomes

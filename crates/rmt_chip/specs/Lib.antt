@@ -4,3 +4,4 @@ pub mod Lives
 pub mod Held
 pub mod Ring
 pub mod Parsing
+pub mod Inputs

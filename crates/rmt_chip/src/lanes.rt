@@ -1,6 +1,6 @@
 //! Lanes of a vector.
 
-ghost use Rattle.std.specs.Prelude.{◌≡◌, ◌<◌, ◌≤◌, ◌^◌, slice_index};
+ghost use Rattle.std.specs.Prelude.{◌≡◌, ◌<◌, ◌≤◌, ◌^◌, length, slice_index};
 ghost use Rattle.rmt_config.specs.Life.{lane_of};
 ghost use Rattle.rmt_config.specs.Parser.{put as put_of};
 ghost use Rattle.rmt_chip.specs.Runnable.{LaneFits};
@@ -22,7 +22,8 @@ pub fn lane(vector: &Vector, lane: Lane) -> u32
 pub fn put(vector: &mut Vector, lane: Lane, bits: u128)
     requires exists { LaneFits lane }
     requires within { bits < 2 ^ lane.len }
-    ensures { vector.new ≡ put_of vector.old lane bits }
+    ensures value { vector.new ≡ put_of vector.old lane bits }
+    ensures whole { length vector.new ≡ 224 }
 {
     let old = vector.get(lane.word);
     let new = deposit(u128::from(old), lane.low, lane.len, bits);

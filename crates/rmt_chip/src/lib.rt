@@ -3,6 +3,8 @@
 
 mod compute;
 mod decide;
+mod enter;
+pub mod frame;
 mod lanes;
 mod parse;
 mod place;

@@ -35,6 +35,7 @@ impl Vector {
         requires { word < 224 }
         ensures value { result ≡ slice_index self.now word }
         ensures within { result < 2 ^ word_size_of word }
+        ensures whole { length self.now ≡ 224 }
     {
         self.words[usize::from(word)]
     }
