@@ -7,3 +7,4 @@ pub mod RingLaws
 pub mod HoldsLaws
 pub mod PassLaws
 pub mod ParseLaws
+pub mod EnterLaws

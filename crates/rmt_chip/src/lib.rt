@@ -3,6 +3,7 @@
 
 mod compute;
 mod decide;
+mod emit;
 mod enter;
 pub mod frame;
 mod lanes;
