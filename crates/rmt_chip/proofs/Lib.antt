@@ -8,3 +8,4 @@ pub mod HoldsLaws
 pub mod PassLaws
 pub mod ParseLaws
 pub mod EnterLaws
+pub mod EmitLaws
