@@ -5,3 +5,4 @@ pub mod Held
 pub mod Ring
 pub mod Parsing
 pub mod Inputs
+pub mod Leaving
