@@ -106,3 +106,8 @@ pub record Keeps (old new : Place) : Type 0 where
   pub number : new.number ≡ old.number
   pub frame : new.frame ≡ old.frame
   pub outcomes : new.outcomes ≡ old.outcomes
+
+-- a place after a cycle's input
+abbrev pub EntersIf : Config → Option Entered → Place → Type 0
+EntersIf c None place = place.taken ≡ false
+EntersIf c (Some entered) place = EnteredBy c entered place

@@ -1,6 +1,8 @@
 -- What has entered the chip, by age.
-use Rattle.std.specs.Prelude.{ℕ, zero, suc, ◌+◌, List, [], ◌∷◌, Option, Some, None, option_map, reverse}
+use Rattle.std.specs.Prelude.{ℕ, zero, suc, ◌+◌, ◌<◌, ◌≤◌, length, List, [], ◌∷◌, Option, Some, None, option_map, reverse}
+use Rattle.std.specs.Option.{ForSome}
 use Rattle.rmt_bits.specs.Packet.{Packet}
+use Rattle.rmt_chip.specs.declared.frame.Frame.{Frame}
 use Rattle.rmt_chip.specs.Held.{Entered}
 
 -- how many packets are among the inputs
@@ -22,3 +24,15 @@ entered_in (input ∷ inputs) (suc age) = entered_in inputs age
 -- the same of inputs in their order
 abbrev pub entered_at : List (Option Packet) → ℕ → Option Entered
 entered_at inputs age = entered_in (reverse inputs) age
+
+-- what a frame is as an input
+abbrev pub input_of : Option Frame → Option Packet
+input_of frame = option_map (λ (f : Frame). record { port = f.port; frame = f.bytes.now }) frame
+
+-- a frame that may enter: on a port below 512, and of at most 9,216 bytes
+abbrev pub MayEnter : Option Frame → Type 0
+MayEnter frame = ForSome frame (λ (f : Frame). (f.port < 512) × (1 ≤ length f.bytes.now) × (length f.bytes.now ≤ 9216))
+
+-- a packet behind so many others
+abbrev pub numbered_as : Option Packet → ℕ → Option Entered
+numbered_as input number = option_map (λ p. record { packet = p; number = number }) input

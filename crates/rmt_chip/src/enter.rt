@@ -2,9 +2,11 @@
 
 ghost use Rattle.std.specs.Prelude.{◌≡◌, ◌<◌, ◌≤◌, ◌^◌, length, OnOk};
 ghost use Rattle.rmt_config.specs.Parser.{parse as parse_of};
-ghost use Rattle.rmt_chip.specs.Held.{EnteredBy, Begins, Keeps};
+ghost use Rattle.rmt_chip.specs.Held.{EnteredBy, Begins, Keeps, EntersIf};
+ghost use Rattle.rmt_chip.specs.Inputs.{input_of, MayEnter, numbered_as};
 ghost use Rattle.rmt_chip.specs.Runnable.{IsRunnable};
 
+use crate::frame::Frame;
 use crate::lanes::put;
 use crate::parse::parse;
 use crate::place::Place;
@@ -49,4 +51,24 @@ pub fn enter(
     place.outcomes = [0; 256];
     begin(place, config, port, bytes);
     Ok(())
+}
+
+/// A cycle's input enters a place: a frame as packet number `number`, or nothing.
+pub fn enter_if(
+    place: &mut Place,
+    config: &Config,
+    frame: Option<Frame<'_>>,
+    number: u64,
+) -> Result<(), AllocError>
+    requires fits { IsRunnable config.now }
+    requires frame { MayEnter frame }
+    ensures { OnOk result (EntersIf config.now (numbered_as (input_of frame.entry) number) place.new) }
+{
+    match frame {
+        None => {
+            place.taken = false;
+            Ok(())
+        }
+        Some(frame) => enter(place, config, frame.port, frame.bytes, number),
+    }
 }
