@@ -67,7 +67,7 @@ ring_turns look c item item' newest newest' places new ring full turned older fi
         (subst (λ (o : Option Entered). HoldsIf look c o (t - 1) (t - 1) (t - 1) (get_or places (ring_at newest (t - 1)) d)) (sym same) (was (t - 1) d (omega arith))))
     (cases_eq t 0)
 
-reverse_push : {A : Type 0} (xs : List A) (x : A) → reverse (xs ++ x ∷ []) ≡ x ∷ reverse xs
+pub reverse_push : {A : Type 0} (xs : List A) (x : A) → reverse (xs ++ x ∷ []) ≡ x ∷ reverse xs
 reverse_push xs x = reverse-append xs (x ∷ [])
 
 pub entered_older : (inputs : List (Option Packet)) (input : Option Packet) (t : ℕ) → entered_at (inputs ++ input ∷ []) (t + 1) ≡ entered_at inputs t

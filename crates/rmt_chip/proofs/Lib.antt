@@ -9,3 +9,4 @@ pub mod PassLaws
 pub mod ParseLaws
 pub mod EnterLaws
 pub mod EmitLaws
+pub mod CycleLaws
