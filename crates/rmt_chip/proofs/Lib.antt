@@ -10,3 +10,5 @@ pub mod ParseLaws
 pub mod EnterLaws
 pub mod EmitLaws
 pub mod CycleLaws
+pub mod LatencyLaws
+pub mod WholeCycle

@@ -6,3 +6,4 @@ pub mod Ring
 pub mod Parsing
 pub mod Inputs
 pub mod Leaving
+pub mod Stands

@@ -1,7 +1,9 @@
 //! The clocked chip: one call is one cycle, with many packets in flight.
 #![tactic(auto)]
 
+pub mod chip;
 mod compute;
+mod cycle;
 mod decide;
 mod emit;
 mod enter;
