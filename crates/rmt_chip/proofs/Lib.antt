@@ -12,3 +12,4 @@ pub mod EmitLaws
 pub mod CycleLaws
 pub mod LatencyLaws
 pub mod WholeCycle
+pub mod CountLaws
