@@ -13,3 +13,4 @@ pub mod CycleLaws
 pub mod LatencyLaws
 pub mod WholeCycle
 pub mod CountLaws
+pub mod StandsLaws
