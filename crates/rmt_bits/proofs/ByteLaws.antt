@@ -1,10 +1,10 @@
 -- Laws of runs of bytes as numbers.
-use Rattle.std.proofs.Common.{◌≡◌, ℕ, suc, ◌+◌, ◌-◌, ◌*◌, ◌/◌, ◌%◌, ◌^◌, ◌<◌, ◌≤◌, List, [], ◌∷◌, ◌++◌, length, get_or, set, take, drop, fold, sym, ap, ◌∙◌, subst, arith, ◌⊎◌, inl, inr}
+use Rattle.std.proofs.Common.{◌≡◌, ℕ, zero, suc, refl, ◌+◌, ◌-◌, ◌*◌, ◌/◌, ◌%◌, ◌^◌, ◌<◌, ◌≤◌, List, [], ◌∷◌, ◌++◌, length, get_or, set, take, drop, fold, sym, ap, ◌∙◌, subst, arith, ◌⊎◌, inl, inr}
 use Rattle.std.proofs.lemmas.Nat.{pow-add, mul-add-lt, shr_split, shr-shr, shr_high, mod_low, mod-pow-add}
 use Rattle.std.proofs.lemmas.List.Sums.{fold-append, fold_push}
-use Rattle.std.proofs.lemmas.List.{take_more, take-append-drop, length-drop, get_or-drop, length-set, take-set, get_or-set_same, drop-set-lt}
+use Rattle.std.proofs.lemmas.List.{take_all, take_more, take-append-drop, length-drop, get_or-drop, length-set, take-set, get_or-set_same, drop-set-lt}
 use Rattle.std.proofs.Math.Pow.{pow_mono}
-use Rattle.rmt_bits.specs.Bits.{slice, deposit, number_of, bits_of_bytes}
+use Rattle.rmt_bits.specs.Bits.{slice, deposit, number_of, bytes_of, bits_of_bytes}
 use Rattle.rmt_bits.proofs.BitLaws.{slice-lt, slice-add, slice-from_low, mod-from_low, high_part-lt, deposit-add, deposit-lt, slice-deposit_same, slice-deposit_above, slice-deposit_below}
 
 -- the number that a run of bytes continues
@@ -256,3 +256,26 @@ bits_of_bytes_apart new old from len value at size same small within inside put 
     ap (λ n. slice (number_of new) (8 * n - (at + size)) size) same
     ∙ ap (λ n. slice n (8 * length old - (at + size)) size) put
     ∙ slice-deposit_below (number_of old) (8 * length old - (from + len)) len value (8 * length old - (at + size)) size small (omega arith)
+
+bytes_of_front : (bytes : List ℕ) → AreBytes bytes → (n : ℕ) → n ≤ length bytes → bytes_of n (number_of (take n bytes)) ≡ take n bytes
+bytes_of_front bytes h zero within = refl
+bytes_of_front bytes h (suc n) within =
+    let b = get_or bytes n 0 in
+    let f = number_of (take n bytes) in
+    let inside : n < length bytes = omega arith in
+    let next : suc n ≡ n + 1 = omega arith in
+    let grown : take (suc n) bytes ≡ take n bytes ++ b ∷ [] = ap (λ k. take k bytes) next ∙ take_more bytes n 0 inside in
+    let whole : number_of (take (suc n) bytes) ≡ f * 2 ^ 8 + b = ap number_of grown ∙ number_of_push (take n bytes) b ∙ (let e : 256 * f + b ≡ f * 2 ^ 8 + b = omega arith in e) in
+    let small : b < 2 ^ 8 = h n in
+    let high : number_of (take (suc n) bytes) / 256 ≡ f = ap (λ k. k / 256) whole ∙ shr_high f 8 b small in
+    let low : number_of (take (suc n) bytes) % 256 ≡ b = ap (λ k. k % 256) whole ∙ mod_low f 8 b small in
+    ap (λ k. bytes_of n k ++ number_of (take (suc n) bytes) % 256 ∷ []) high
+    ∙ ap (λ k. bytes_of n f ++ k ∷ []) low
+    ∙ ap (λ (xs : List ℕ). xs ++ b ∷ []) (bytes_of_front bytes h n (omega arith))
+    ∙ sym grown
+
+-- bytes are spelled again from their number
+pub bytes_of-number_of : (bytes : List ℕ) → AreBytes bytes → bytes_of (length bytes) (number_of bytes) ≡ bytes
+bytes_of-number_of bytes h =
+    let all : take (length bytes) bytes ≡ bytes = take_all (length bytes) bytes (omega arith) in
+    ap (λ (xs : List ℕ). bytes_of (length bytes) (number_of xs)) (sym all) ∙ bytes_of_front bytes h (length bytes) (omega arith) ∙ all

@@ -1,7 +1,7 @@
 -- Steps of the loops that look at the rules of form.
-use Rattle.std.proofs.Common.{◌≡◌, ◌≢◌, ℕ, zero, suc, ◌+◌, ◌<◌, List, [], ◌∷◌, ◌++◌, length, get_or, take, drop, set, reverse, Bool, true, false, not, ◌&&◌, ◌||◌, eqb, sym, refl, ap, ◌∙◌, arith, inl, inr, add-one}
+use Rattle.std.proofs.Common.{◌≡◌, ◌≢◌, ℕ, suc, ◌+◌, ◌<◌, List, [], ◌∷◌, length, get_or, take, drop, set, reverse, Bool, true, false, ◌&&◌, eqb, sym, refl, ap, ◌∙◌, arith, inl, inr, add-one}
 use Rattle.std.specs.List.{list_any, list_all, flat_map}
-use Rattle.std.proofs.lemmas.Bool.{cases_eq, ne_eqb, eq-eqb, eqb-true}
+use Rattle.std.proofs.lemmas.Bool.{cases_eq, ne_eqb, eq-eqb}
 use Rattle.std.proofs.lemmas.List.{reverse-append, take_more, get_or-set_other, get_or-set_same}
 use Rattle.std.proofs.Math.Seq.{drop-cons}
 use Rattle.rmt_config.specs.declared.config.Vliw.{Vliw}

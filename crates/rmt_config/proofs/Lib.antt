@@ -5,3 +5,4 @@ pub mod ExamplesLookup
 pub mod RunLaws
 pub mod CountLaws
 pub mod FormLemmas
+pub mod CountsLemmas

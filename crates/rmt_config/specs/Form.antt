@@ -1,5 +1,5 @@
 -- The rules of form of a configuration, each a test of its own. Rules on gates, guards, lookups and memories come with these parts.
-use Rattle.std.specs.Prelude.{ℕ, ◌+◌, ◌*◌, ◌^◌, List, [], ◌∷◌, length, map, replicate, sum, ◌++◌, Bool, true, false, not, ◌&&◌, ◌==◌, nat_lt, nat_le, bit_and, if◌then◌else◌, Option, Some, None, IsTrue}
+use Rattle.std.specs.Prelude.{ℕ, ◌+◌, ◌*◌, ◌^◌, List, [], ◌∷◌, length, map, replicate, sum, ◌++◌, Bool, true, false, not, ◌&&◌, ◌==◌, nat_lt, nat_le, bit_and, Option, Some, None, IsTrue}
 use Rattle.std.specs.List.{flat_map, list_all, list_any}
 use Rattle.rmt_bits.specs.Words.{word_size}
 use Rattle.rmt_bits.specs.declared.lane.Lane.{Lane}

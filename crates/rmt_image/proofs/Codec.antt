@@ -1,9 +1,9 @@
 -- A reader and a spelling that belong together: what is read was spelled so, and what is spelled so is read again.
-use Rattle.std.proofs.Common.{◌≡◌, ℕ, zero, suc, ◌+◌, ◌^◌, ◌<◌, ◌≤◌, Bool, true, false, cond, ltb, eqb, List, [], ◌∷◌, ◌++◌, length, get_or, take, drop, Result, Ok, Err, refl, sym, ap, subst, ◌∙◌, append_assoc, arith, inl, inr}
-use Rattle.std.specs.List.{flat_map, AllByRecursion, AllZip}
-use Rattle.std.specs.Int.{Width, w16, w32, w64, byte_len, from_be_bytes, to_be_bytes}
+use Rattle.std.proofs.Common.{◌≡◌, ℕ, zero, suc, ◌+◌, ◌^◌, ◌<◌, ◌≤◌, Bool, true, false, cond, ltb, List, [], ◌∷◌, ◌++◌, length, get_or, take, drop, Result, Ok, Err, refl, sym, ap, subst, ◌∙◌, append_assoc, arith, inl, inr}
+use Rattle.std.specs.List.{flat_map, AllZip}
+use Rattle.std.specs.Int.{Width, w16, w32, byte_len, from_be_bytes, to_be_bytes}
 use Rattle.std.proofs.lemmas.Bool.{cases_lt, ltb-false, le-ltb}
-use Rattle.std.proofs.lemmas.List.{take_at, drop_at, take-append-drop, length-append, length-take, get_or-drop, get_or-take, get_or_past, append-nil}
+use Rattle.std.proofs.lemmas.List.{take_at, drop_at, take-append-drop, length-append, length-take, get_or-drop, get_or-take, get_or_past}
 use Rattle.std.proofs.lemmas.Nat.{be_bytes_2, be_bytes_4, from_be_bytes-to_be_bytes_2, from_be_bytes-to_be_bytes_4}
 use Rattle.rmt_image.specs.declared.fault.ReadFault.{ReadFault}
 use Rattle.rmt_image.specs.declared.fault.ReadFault.TheVariants.{Short, Form}
@@ -85,11 +85,11 @@ codec_behind {A} {B} {first} {second} {s1} {s2} {P1} {R1} {P2} {R2} c d = record
       let t2 = (d a.0.0).takes a.0.1 b.0.0 b.0.1 t1.rest_fits b.1 in
       let made_pair : (A × B) × List ℕ = ((a.0.0, b.0.0), b.0.1) in
       subst (λ (y : (A × B) × List ℕ). Took bytes (s1 y.0.0 ++ s2 y.0.0 y.0.1) y.1 (R1 y.0.0 × R2 y.0.0 y.0.1)) (ok_is made_pair (x, rest) b.2)
-          (record {
-            parts = t1.parts ∙ ap (λ (t : List ℕ). s1 a.0.0 ++ t) t2.parts ∙ sym (append_assoc (s1 a.0.0) (s2 a.0.0 b.0.0) b.0.1);
-            rest_fits = t2.rest_fits;
-            fact = (t1.fact, t2.fact);
-          });
+      (record {
+        parts = t1.parts ∙ ap (λ (t : List ℕ). s1 a.0.0 ++ t) t2.parts ∙ sym (append_assoc (s1 a.0.0) (s2 a.0.0 b.0.0) b.0.1);
+        rest_fits = t2.rest_fits;
+        fact = (t1.fact, t2.fact);
+      });
   again = λ x rest p.
       ap (behind first second) (append_assoc (s1 x.0) (s2 x.0 x.1) rest)
       ∙ rw (c.again x.0 (s2 x.0 x.1 ++ rest) p.0, (d x.0).again x.1 rest p.1) refl;
@@ -105,7 +105,7 @@ codec_made_known {A} {B} f {read} {s} {P} {R} c spell Q K same back = record {
       let known = same a.0.0 t.fact in
       let made_pair : B × List ℕ = (f a.0.0, a.0.1) in
       subst (λ (y : B × List ℕ). Took bytes (spell y.0) y.1 (K y.0)) (ok_is made_pair (x, rest) a.2)
-          (record { parts = t.parts ∙ ap (λ (text : List ℕ). text ++ a.0.1) known.0; rest_fits = t.rest_fits; fact = known.1 });
+      (record { parts = t.parts ∙ ap (λ (text : List ℕ). text ++ a.0.1) known.0; rest_fits = t.rest_fits; fact = known.1 });
   again = λ x rest q.
       let a = back x q in
       ap (λ (text : List ℕ). made f read (text ++ rest)) (sym a.2) ∙ rw (c.again a.0 rest a.3) (ap (λ (y : B). Ok (y, rest)) a.1);
@@ -135,11 +135,11 @@ times_take {S} {A} {read} {spell} after c (suc n) s bytes xs rest fits e =
     let t2 = times_take after c n (after a.0.0) a.0.1 b.0.0 b.0.1 t1.rest_fits b.1 in
     let all : List A × List ℕ = (a.0.0 ∷ b.0.0, b.0.1) in
     subst (λ (y : List A × List ℕ). Took bytes (flat_map spell y.0) y.1 (length y.0 ≡ suc n)) (ok_is all (xs, rest) b.2)
-        (record {
-          parts = t1.parts ∙ ap (λ (t : List ℕ). spell a.0.0 ++ t) t2.parts ∙ sym (append_assoc (spell a.0.0) (flat_map spell b.0.0) b.0.1);
-          rest_fits = t2.rest_fits;
-          fact = ap suc t2.fact;
-        })
+    (record {
+      parts = t1.parts ∙ ap (λ (t : List ℕ). spell a.0.0 ++ t) t2.parts ∙ sym (append_assoc (spell a.0.0) (flat_map spell b.0.0) b.0.1);
+      rest_fits = t2.rest_fits;
+      fact = ap suc t2.fact;
+    })
 
 times_again : {S A : Type 0} {read : S → Reader A} {spell : A → List ℕ} {P R : S → A → Type 0} (after : A → S) → ((s : S) → Codec (read s) spell (P s) (R s))
     → (xs : List A) (s : S) (rest : List ℕ) → AllAlong P after s xs → times_from read after s (length xs) (flat_map spell xs ++ rest) ≡ Ok (xs, rest)
@@ -182,11 +182,11 @@ each_takes {B} {A} {read} {spell} c (place ∷ places) bytes xs rest fits e =
     let t2 = each_takes c places a.0.1 b.0.0 b.0.1 t1.rest_fits b.1 in
     let all : List A × List ℕ = (a.0.0 ∷ b.0.0, b.0.1) in
     subst (λ (y : List A × List ℕ). Took bytes (flat_map spell y.0) y.1 (Unit {0})) (ok_is all (xs, rest) b.2)
-        (record {
-          parts = t1.parts ∙ ap (λ (t : List ℕ). spell a.0.0 ++ t) t2.parts ∙ sym (append_assoc (spell a.0.0) (flat_map spell b.0.0) b.0.1);
-          rest_fits = t2.rest_fits;
-          fact = tt;
-        })
+    (record {
+      parts = t1.parts ∙ ap (λ (t : List ℕ). spell a.0.0 ++ t) t2.parts ∙ sym (append_assoc (spell a.0.0) (flat_map spell b.0.0) b.0.1);
+      rest_fits = t2.rest_fits;
+      fact = tt;
+    })
 
 each_again : {B A : Type 0} {read : B → Reader A} {spell : A → List ℕ} {P R : B → A → Type 0} → ((b : B) → Codec (read b) spell (P b) (R b))
     → (places : List B) (xs : List A) (rest : List ℕ) → AllZip P places xs → each read places (flat_map spell xs ++ rest) ≡ Ok (xs, rest)
@@ -223,7 +223,7 @@ codec_number w limit wide = record {
       let long : byte_len w ≤ length bytes = ltb-false _ _ g.0 in
       let front : to_be_bytes w (from_be_bytes w (take (byte_len w) bytes)) ≡ take (byte_len w) bytes = wide.back (take (byte_len w) bytes) (omega (arith, length-take (byte_len w) bytes)) (IsBytes-take (byte_len w) bytes fits) in
       subst (λ (y : ℕ × List ℕ). Took bytes (to_be_bytes w y.0) y.1 (Unit {0})) g.1
-          (record { parts = sym (take-append-drop (byte_len w) bytes) ∙ ap (λ (t : List ℕ). t ++ drop (byte_len w) bytes) (sym front); rest_fits = IsBytes-drop (byte_len w) bytes fits; fact = tt });
+      (record { parts = sym (take-append-drop (byte_len w) bytes) ∙ ap (λ (t : List ℕ). t ++ drop (byte_len w) bytes) (sym front); rest_fits = IsBytes-drop (byte_len w) bytes fits; fact = tt });
   again = λ n rest lt.
       let len = wide.len n in
       let long : ltb (length (to_be_bytes w n ++ rest)) (byte_len w) ≡ false = le-ltb _ _ (omega (arith, length-append (to_be_bytes w n) rest)) in

@@ -1,9 +1,9 @@
 -- The numbers, lanes, headers and parser entries of an image: each is read as it is spelled.
-use Rattle.std.proofs.Common.{◌≡◌, ℕ, zero, suc, ◌+◌, ◌*◌, ◌^◌, ◌<◌, ◌≤◌, Bool, true, false, cond, not, ◌&&◌, ltb, leb, eqb, List, [], ◌∷◌, ◌++◌, length, map, take, drop, Result, Ok, Err, refl, sym, ap, subst, ◌∙◌, append_assoc, arith, inl, inr, ◌⊎◌, lit<}
+use Rattle.std.proofs.Common.{◌≡◌, ℕ, zero, suc, ◌+◌, ◌*◌, ◌^◌, ◌<◌, Bool, true, false, cond, ◌&&◌, ltb, leb, eqb, List, [], ◌∷◌, ◌++◌, length, map, Result, Ok, Err, refl, sym, ap, subst, ◌∙◌, arith, inl, inr, ◌⊎◌, lit<}
 use Rattle.std.specs.List.{flat_map, list_all, AllByRecursion}
 use Rattle.std.specs.Prelude.{bit_and}
 use Rattle.std.specs.Int.{w16, w32}
-use Rattle.std.proofs.lemmas.Bool.{cases_eq, ltb-true, eqb-true, leb-true, le-leb, and_parts, and_from}
+use Rattle.std.proofs.lemmas.Bool.{ltb-true, eqb-true, leb-true, le-leb, and_parts, and_from}
 use Rattle.std.proofs.lemmas.List.{append-nil, nil_from_length}
 use Rattle.rmt_bits.specs.declared.lane.Lane.{Lane}
 use Rattle.rmt_config.specs.declared.config.OutHeader.{OutHeader}
@@ -15,10 +15,10 @@ use Rattle.rmt_config.specs.declared.config.Next.TheVariants as next
 use Rattle.rmt_config.specs.declared.config.Extract.{Extract}
 use Rattle.rmt_config.specs.declared.config.Extract.TheVariants.{Bits, One}
 use Rattle.rmt_config.specs.Form.{lane_is_formed, is_lane_of, bits_of_lanes, header_is_formed, headers_are_formed, next_is_formed, extract_is_formed, match_is_formed, entry_is_formed, never_falls_from, entries_are_formed, states_are_of_this_step}
-use Rattle.rmt_config.specs.Spelling.{two_bytes, four_bytes, spelled_list8, spelled_list16, spelled_flag, spelled_lane, spelled_header, spelled_state, spelled_next, spelled_extract, spelled_entry_head, spelled_entry, spelled_parser, NumberFitsExtract, NumbersFitEntry}
+use Rattle.rmt_config.specs.Spelling.{two_bytes, four_bytes, spelled_list8, spelled_list16, spelled_flag, spelled_lane, spelled_header, spelled_state, spelled_next, spelled_extract, spelled_entry, spelled_parser, NumberFitsExtract, NumbersFitEntry}
 use Rattle.rmt_image.specs.declared.fault.ReadFault.{ReadFault}
-use Rattle.rmt_image.specs.declared.fault.ReadFault.TheVariants.{Short, Form}
-use Rattle.rmt_image.specs.Reading.{◌>>=◌, ◌⊗◌, made, kept, only, byte_at, two_at, four_at, zero_at, flag_at, lane_of_parts, word_from_at, lane_from_at, lane_at, lane_of_at, lanes_at, header_of_parts, bytes_at, pieces_at, header_at, headers_at, state_at, one_at, states_at, entry_state_at, match_at, need_at, later_state_at, next_of, next_at, bits_extract_at, extract_of, extract_at, extracts_at, EntryHead, entry_head_at, entry_of_parts, entry_at, state_of, entries_at, parser_of_parts, parser_at}
+use Rattle.rmt_image.specs.declared.fault.ReadFault.TheVariants.{Form}
+use Rattle.rmt_image.specs.Reading.{◌⊗◌, made, kept, only, byte_at, two_at, four_at, zero_at, flag_at, lane_of_parts, word_from_at, lane_from_at, lane_at, lane_of_at, lanes_at, header_of_parts, bytes_at, pieces_at, header_at, headers_at, state_at, one_at, states_at, entry_state_at, match_at, need_at, later_state_at, next_of, next_at, bits_extract_at, extract_of, extract_at, extracts_at, EntryHead, entry_head_at, entry_of_parts, entry_at, state_of, entries_at, parser_of_parts, parser_at}
 use Rattle.rmt_image.proofs.Codec.{IsBytes, IsBytes-rest, bind_ok, ok_is, Took, Codec, codec_for, codec_kept, codec_behind, codec_made, AllAlong, codec_listed, codec_number, wide16, wide32}
 
 -- ---- tests joined by &&
@@ -93,8 +93,8 @@ pub lane_from_codec : (least : ℕ) → Codec (lane_from_at least) spelled_lane 
 unfolding lane_from_at
 lane_from_codec least =
     codec_for (codec_kept lane_is_formed
-        (codec_made lane_of_parts (codec_behind (word_codec least) (λ _. codec_behind byte_codec (λ _. byte_codec))) spelled_lane
-            (λ l. (ltb l.word 224 && leb least l.word) ≡ true) (λ a r. refl) (λ l q. ((l.word, (l.low, l.len)), refl, refl, ((tt, q), (tt, tt))))))
+    (codec_made lane_of_parts (codec_behind (word_codec least) (λ _. codec_behind byte_codec (λ _. byte_codec))) spelled_lane
+    (λ l. (ltb l.word 224 && leb least l.word) ≡ true) (λ a r. refl) (λ l q. ((l.word, (l.low, l.len)), refl, refl, ((tt, q), (tt, tt))))))
     (λ l. (lane_is_formed l ≡ true) × (leb least l.word ≡ true))
     (λ l q. (and_from (ltb l.word 224) (leb least l.word) (lane_word l q.0) q.1, q.0))
 
@@ -126,8 +126,8 @@ pub header_codec : Codec header_at spelled_header (λ h. header_is_formed h ≡ 
 unfolding header_at
 header_codec =
     codec_for (codec_kept (λ (h : OutHeader). eqb (bits_of_lanes h.pieces) (8 * h.bytes))
-        (codec_made header_of_parts (codec_behind (lane_of_codec 1) (λ _. codec_behind bytes_codec (λ _. pieces_codec))) spelled_header
-            HeaderParts (λ a r. refl) (λ h q. ((h.valid, (h.bytes, h.pieces)), refl, refl, (q.0, ((tt, q.1), q.2))))))
+    (codec_made header_of_parts (codec_behind (lane_of_codec 1) (λ _. codec_behind bytes_codec (λ _. pieces_codec))) spelled_header
+    HeaderParts (λ a r. refl) (λ h q. ((h.valid, (h.bytes, h.pieces)), refl, refl, (q.0, ((tt, q.1), q.2))))))
     (λ h. header_is_formed h ≡ true) header_parts
 
 pub headers_codec : Codec headers_at (spelled_list8 spelled_header) (λ hs. headers_are_formed hs ≡ true) (λ _. Unit {0})
@@ -142,11 +142,11 @@ state_codec : Codec state_at spelled_state (λ s. eqb (length s.lookups) 0 ≡ t
 unfolding state_at
 state_codec =
     codec_made (λ (_ : ℕ). let s : ParserState = record { lookups = [] } in s) zero_codec spelled_state (λ s. eqb (length s.lookups) 0 ≡ true)
-        (λ a r. ap (λ (n : ℕ). n ∷ []) (eqb-true a 0 r.1))
-        (λ s q.
-            let nothing : s.lookups ≡ [] = nil_from_length s.lookups (eqb-true _ _ q) in
-            let made_again : List ℕ → ParserState = λ l. record { lookups = l } in
-            (0, sym (ap made_again nothing), sym (ap (λ (l : List ℕ). length l ∷ l) nothing), (tt, refl)))
+    (λ a r. ap (λ (n : ℕ). n ∷ []) (eqb-true a 0 r.1))
+    (λ s q.
+    let nothing : s.lookups ≡ [] = nil_from_length s.lookups (eqb-true _ _ q) in
+    let made_again : List ℕ → ParserState = λ l. record { lookups = l } in
+    (0, sym (ap made_again nothing), sym (ap (λ (l : List ℕ). length l ∷ l) nothing), (tt, refl)))
 
 states_back : (ss : List ParserState) → states_are_of_this_step ss ≡ true
     → (a : ℕ × ParserState) × (a.1 ∷ [] ≡ ss) × (two_bytes a.0 ++ spelled_state a.1 ≡ spelled_list16 spelled_state ss) × (((a.0 < 2 ^ 16) × (only 1 a.0 ≡ true)) × (eqb (length a.1.lookups) 0 ≡ true))
@@ -166,8 +166,8 @@ pub states_codec : Codec states_at (spelled_list16 spelled_state) (λ ss. states
 unfolding states_at
 states_codec =
     codec_made (λ (x : ℕ × ParserState). x.1 ∷ []) (codec_behind one_codec (λ _. state_codec)) (spelled_list16 spelled_state) (λ ss. states_are_of_this_step ss ≡ true)
-        (λ a r. ap (λ (n : ℕ). two_bytes n ++ spelled_state a.1) (eqb-true a.0 1 r.0.1) ∙ ap (λ (t : List ℕ). two_bytes 1 ++ t) (sym (append-nil (spelled_state a.1))))
-        states_back
+    (λ a r. ap (λ (n : ℕ). two_bytes n ++ spelled_state a.1) (eqb-true a.0 1 r.0.1) ∙ ap (λ (t : List ℕ). two_bytes 1 ++ t) (sym (append-nil (spelled_state a.1))))
+    states_back
 
 -- ---- entries
 
@@ -193,11 +193,11 @@ behind_choice {A} {B} {read} {s} choice k f spell c same is bytes x rest fits e 
     let t = c.takes bytes a.0.0 a.0.1 fits a.1 in
     let made_pair : B × List ℕ = (f a.0.0, a.0.1) in
     subst (λ (y : B × List ℕ). Took (k ∷ bytes) (spell y.0) y.1 (Unit {0})) (ok_is made_pair (x, rest) a.2)
-        (record {
-          parts = ap (λ (n : ℕ). n ∷ bytes) is ∙ ap (λ (text : List ℕ). choice ∷ text) t.parts ∙ ap (λ (text : List ℕ). text ++ a.0.1) (same a.0.0);
-          rest_fits = t.rest_fits;
-          fact = tt;
-        })
+    (record {
+      parts = ap (λ (n : ℕ). n ∷ bytes) is ∙ ap (λ (text : List ℕ). choice ∷ text) t.parts ∙ ap (λ (text : List ℕ). text ++ a.0.1) (same a.0.0);
+      rest_fits = t.rest_fits;
+      fact = tt;
+    })
 
 abbrev one_item : {A : Type 0} → A → Result A ReadFault
 one_item x = Ok x
@@ -208,7 +208,7 @@ choice_alone : {B : Type 0} (choice k : ℕ) (y : B) (spell : B → List ℕ) �
 choice_alone {B} choice k y spell same is bytes x rest fits e =
     let front : B × List ℕ = (y, bytes) in
     subst (λ (z : B × List ℕ). Took (k ∷ bytes) (spell z.0) z.1 (Unit {0})) (ok_is front (x, rest) e)
-        (record { parts = ap (λ (n : ℕ). n ∷ bytes) is ∙ ap (λ (text : List ℕ). text ++ bytes) same; rest_fits = fits; fact = tt })
+    (record { parts = ap (λ (n : ℕ). n ∷ bytes) is ∙ ap (λ (text : List ℕ). text ++ bytes) same; rest_fits = fits; fact = tt })
 
 next_takes : (states state k : ℕ) (bytes : List ℕ) (x : Next) (rest : List ℕ) → IsBytes bytes → next_of states state k bytes ≡ Ok (x, rest) → Took (k ∷ bytes) (spelled_next x) rest (Unit {0})
 next_takes states state k bytes x rest fits e =
@@ -294,7 +294,7 @@ head_codec : (states least : ℕ) → Codec (entry_head_at states least) (λ h. 
 unfolding entry_head_at match_at need_at
 head_codec states least =
     codec_for (codec_behind (entry_state_codec states least) (λ _. codec_behind (codec_kept match_test (codec_behind four_codec (λ _. four_codec))) (λ _. codec_kept (λ (x : ℕ × ℕ). leb x.1 x.0) (codec_behind byte_codec (λ _. byte_codec)))))
-        _ (λ h q. q)
+    _ (λ h q. q)
 
 -- what an entry keeps that stands behind one of that state
 abbrev pub EntryKeeps : ℕ → ℕ → ParserEntry → Type 0
@@ -311,10 +311,10 @@ pub entry_codec : (states least : ℕ) → Codec (entry_at states least) spelled
 unfolding entry_at extracts_at
 entry_codec states least =
     codec_made entry_of_parts
-        (codec_behind (head_codec states least) (λ (h : EntryHead). codec_behind (next_codec states h.0) (λ _. codec_listed byte_codec (λ _. tt) tt (λ _. extract_codec h.1.1.0))))
-        spelled_entry (EntryKeeps states least)
-        (λ a r. entry_text a)
-        (λ e keeps. let a = (entry_parts e) in (a, refl, entry_text a, entry_back states least e keeps))
+    (codec_behind (head_codec states least) (λ (h : EntryHead). codec_behind (next_codec states h.0) (λ _. codec_listed byte_codec (λ _. tt) tt (λ _. extract_codec h.1.1.0))))
+    spelled_entry (EntryKeeps states least)
+    (λ a r. entry_text a)
+    (λ e keeps. let a = (entry_parts e) in (a, refl, entry_text a, entry_back states least e keeps))
   where
     entry_parts : ParserEntry → EntryHead × (Next × List Extract)
     entry_parts e = ((e.state, ((e.value, e.mask), (e.need, e.advance))), (e.next, e.extracts))
@@ -338,9 +338,9 @@ pub parser_codec : Codec parser_at spelled_parser ParserKeeps (λ _. Unit {0})
 unfolding parser_at entries_at
 parser_codec =
     codec_made parser_of_parts
-        (codec_behind states_codec (λ (states : List ParserState). codec_listed two_codec state_of 0 (entry_codec (length states))))
-        spelled_parser ParserKeeps
-        (λ a r. refl)
-        (λ p keeps.
-            let q = split3 (ltb (length p.entries) 65536) (list_all (entry_is_formed (length p.states)) p.entries) (never_falls_from 0 (map state_of p.entries)) keeps.1 in
-            ((p.states, p.entries), refl, refl, (keeps.0, (ltb-true (length p.entries) 65536 q.0, entries_along (length p.states) 0 p.entries q.1 q.2 keeps.2))))
+    (codec_behind states_codec (λ (states : List ParserState). codec_listed two_codec state_of 0 (entry_codec (length states))))
+    spelled_parser ParserKeeps
+    (λ a r. refl)
+    (λ p keeps.
+    let q = split3 (ltb (length p.entries) 65536) (list_all (entry_is_formed (length p.states)) p.entries) (never_falls_from 0 (map state_of p.entries)) keeps.1 in
+    ((p.states, p.entries), refl, refl, (keeps.0, (ltb-true (length p.entries) 65536 q.0, entries_along (length p.states) 0 p.entries q.1 q.2 keeps.2))))

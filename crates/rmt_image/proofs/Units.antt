@@ -1,12 +1,11 @@
 -- The units, instructions, rows and stages of an image: each is read as it is spelled.
-use Rattle.std.proofs.Common.{◌≡◌, ℕ, zero, suc, ◌+◌, ◌*◌, ◌/◌, ◌%◌, ◌^◌, ◌<◌, ◌≤◌, Bool, true, false, cond, not, ◌&&◌, ltb, leb, eqb, List, [], ◌∷◌, ◌++◌, length, map, take, drop, replicate, Option, Some, None, Result, Ok, Err, refl, sym, ap, subst, ◌∙◌, append_assoc, arith, inl, inr, lit<}
+use Rattle.std.proofs.Common.{◌≡◌, ℕ, zero, suc, ◌+◌, ◌*◌, ◌/◌, ◌%◌, ◌^◌, ◌<◌, ◌≤◌, Bool, true, false, cond, not, ◌&&◌, ltb, leb, eqb, List, [], ◌∷◌, ◌++◌, length, map, take, drop, Option, Some, None, Result, Ok, Err, refl, sym, ap, subst, ◌∙◌, append_assoc, arith, inl, inr, lit<}
 use Rattle.std.specs.List.{flat_map, list_all, AllByRecursion, AllZip}
 use Rattle.std.specs.Int.{w64, from_be_bytes, to_be_bytes, bytes_high_first}
-use Rattle.std.proofs.lemmas.Bool.{eqb-true, ltb-true, ltb-false, leb-true, le-leb, ne_eqb, and_parts, and_from, not-true, true≢false}
-use Rattle.std.proofs.lemmas.List.{append-nil, nil_from_length, take-append-drop, length-take, length-drop, drop-drop}
+use Rattle.std.proofs.lemmas.Bool.{eqb-true, ltb-false, leb-true, le-leb, and_parts, and_from, true≢false}
+use Rattle.std.proofs.lemmas.List.{nil_from_length, take-append-drop, length-take, length-drop, drop-drop}
 use Rattle.std.proofs.lemmas.Nat.{be_bytes_8}
 use Rattle.rmt_bits.specs.declared.lane.Lane.{Lane}
-use Rattle.rmt_config.specs.declared.config.Stage.{Stage}
 use Rattle.rmt_config.specs.declared.config.SramRow.{SramRow}
 use Rattle.rmt_config.specs.declared.config.TcamRow.{TcamRow}
 use Rattle.rmt_config.specs.declared.config.Unit.{Unit as ChipUnit}
@@ -27,9 +26,9 @@ use Rattle.rmt_config.specs.Form.{lane_is_formed, Place, source_is_formed, kind_
 use Rattle.rmt_config.specs.Spelling.{two_bytes, four_bytes, spelled_list8, spelled_list16, spelled_flag, spelled_lane, spelled_kind, spelled_source, spelled_operation, spelled_vliw, spelled_slot_head, spelled_memory, spelled_number, spelled_list32, spelled_slot, spelled_unit, spelled_srow, spelled_trow, NumberFitsSource, NumbersFitOperation, NumbersFitVliw}
 use Rattle.rmt_image.specs.declared.fault.ReadFault.{ReadFault}
 use Rattle.rmt_image.specs.declared.fault.ReadFault.TheVariants.{Short, Form}
-use Rattle.rmt_image.specs.Reading.{◌>>=◌, ◌⊗◌, made, kept, only, byte_at, two_at, four_at, five_at, bits_at, word_from_at, lane_from_at, lanes_at, source_choice_at, source_of, source_at, kind_of, kind_at, operation_of_parts, operation_at, next_word, operations_at, vliw_at, code_at, node_at, actions_at, marks_at, keys_at, data_at, slot_of_parts, slot_head_at, no_numbers_at, slot_at, slot_choice_at, unit_at, units_at, listed, sram_block_at, tcam_block_at, srow_at, trow_at, srows_at, trows_at}
-use Rattle.rmt_image.proofs.Codec.{IsBytes, IsBytes-take, IsBytes-drop, bind_ok, guard_ok, kept_ok, ok_is, Took, Codec, codec_for, codec_kept, codec_behind, codec_made, codec_made_known, AllAlong, codec_listed, codec_each}
-use Rattle.rmt_image.proofs.Items.{split3, split4, split6, chosen, all_along, byte_codec, two_codec, four_codec, zero_codec, flag_codec, word_codec, lane_codec, lane_from_codec, behind_choice}
+use Rattle.rmt_image.specs.Reading.{◌⊗◌, made, kept, only, byte_at, two_at, four_at, five_at, bits_at, word_from_at, lanes_at, source_choice_at, source_of, source_at, kind_of, kind_at, operation_of_parts, operation_at, next_word, operations_at, vliw_at, code_at, node_at, actions_at, marks_at, keys_at, data_at, slot_of_parts, slot_head_at, no_numbers_at, slot_at, slot_choice_at, unit_at, units_at, listed, sram_block_at, tcam_block_at, srow_at, trow_at, srows_at, trows_at}
+use Rattle.rmt_image.proofs.Codec.{IsBytes, IsBytes-take, IsBytes-drop, bind_ok, guard_ok, kept_ok, Took, Codec, codec_for, codec_kept, codec_behind, codec_made, codec_made_known, AllAlong, codec_listed, codec_each}
+use Rattle.rmt_image.proofs.Items.{split3, split4, split6, chosen, byte_codec, two_codec, four_codec, zero_codec, flag_codec, word_codec, lane_codec, lane_from_codec, behind_choice}
 
 -- ---- sources
 
@@ -138,10 +137,10 @@ operation_codec : (place : Place) (least : ℕ) → Codec (operation_at place le
 unfolding operation_at
 operation_codec place least =
     codec_for (codec_kept (λ (op : Operation). kind_is_formed op.kind op.right)
-        (codec_made operation_of_parts
-            (codec_behind (lane_from_codec least) (λ (lane : Lane). codec_behind kind_codec (λ _. codec_behind (source_codec place lane.len) (λ _. source_codec place lane.len))))
-            spelled_operation (OperationParts place least) (λ a r. refl)
-            (λ op q. ((lane_of_operation op, (op.kind, (op.left, op.right))), refl, refl, q))))
+    (codec_made operation_of_parts
+    (codec_behind (lane_from_codec least) (λ (lane : Lane). codec_behind kind_codec (λ _. codec_behind (source_codec place lane.len) (λ _. source_codec place lane.len))))
+    spelled_operation (OperationParts place least) (λ a r. refl)
+    (λ op q. ((lane_of_operation op, (op.kind, (op.left, op.right))), refl, refl, q))))
     (OperationKeeps place least) (operation_parts place least)
 
 operations_along : (place : Place) (least : ℕ) (ops : List Operation) → list_all (operation_is_formed place) ops ≡ true → rises_from least (map (λ (op : Operation). op.word) ops) ≡ true → AllByRecursion NumbersFitOperation ops
@@ -159,10 +158,10 @@ vliw_codec : (place : Place) → Codec (vliw_at place) spelled_vliw (VliwKeeps p
 unfolding vliw_at operations_at
 vliw_codec place =
     codec_made (λ (ops : List Operation). let v : Vliw = record { ops = ops } in v)
-        (codec_listed byte_codec next_word 0 (operation_codec place)) spelled_vliw (VliwKeeps place) (λ a r. refl)
-        (λ v keeps.
-            let p = split3 (ltb (length v.ops) 256) (list_all (operation_is_formed place) v.ops) (rises_from 0 (map (λ (op : Operation). op.word) v.ops)) keeps.0 in
-            (v.ops, refl, refl, (tt, operations_along place 0 v.ops p.1 p.2 keeps.1)))
+    (codec_listed byte_codec next_word 0 (operation_codec place)) spelled_vliw (VliwKeeps place) (λ a r. refl)
+    (λ v keeps.
+    let p = split3 (ltb (length v.ops) 256) (list_all (operation_is_formed place) v.ops) (rises_from 0 (map (λ (op : Operation). op.word) v.ops)) keeps.0 in
+    (v.ops, refl, refl, (tt, operations_along place 0 v.ops p.1 p.2 keeps.1)))
 
 pub code_codec : (places : List Place) → Codec (code_at places) (flat_map spelled_vliw) (AllZip VliwKeeps places) (λ _. Unit {0})
 unfolding code_at
@@ -182,7 +181,7 @@ node_codec : Codec node_at (λ n. n ∷ 0 ∷ []) (λ _. Unit {0}) (λ _. Unit {
 unfolding node_at
 node_codec =
     codec_made (λ (x : ℕ × ℕ). x.0) (codec_behind byte_codec (λ _. zero_codec)) (λ n. n ∷ 0 ∷ []) (λ _. Unit {0})
-        (λ a r. ap (λ (n : ℕ). a.0 ∷ n ∷ []) (eqb-true a.1 0 r.1.1)) (λ n q. ((n, 0), refl, refl, (tt, (tt, refl))))
+    (λ a r. ap (λ (n : ℕ). a.0 ∷ n ∷ []) (eqb-true a.1 0 r.1.1)) (λ n q. ((n, 0), refl, refl, (tt, (tt, refl))))
 
 marks_codec : Codec marks_at (λ x. spelled_flag x.0 ∷ x.1.0 ∷ spelled_flag x.1.1 ∷ []) (λ x. leb x.1.0 14 ≡ true) (λ _. Unit {0})
 unfolding marks_at actions_at
@@ -193,7 +192,7 @@ data_codec : Codec data_at (λ x. two_bytes x.0 ++ spelled_list16 spelled_lane x
 unfolding data_at keys_at lanes_at
 data_codec =
     codec_for (codec_behind two_codec (λ _. codec_listed two_codec (λ _. tt) tt (λ _. lane_codec))) (λ x. (x.0 < 2 ^ 16) × (x.1 ≡ []))
-        (λ x q. (q.0, subst (λ (keys : List Lane). (length keys < 2 ^ 16) × AllAlong (λ (_ : Unit {0}) l. lane_is_formed l ≡ true) (λ _. tt) tt keys) (sym q.1) (lit< tt, tt)))
+    (λ x q. (q.0, subst (λ (keys : List Lane). (length keys < 2 ^ 16) × AllAlong (λ (_ : Unit {0}) l. lane_is_formed l ≡ true) (λ _. tt) tt keys) (sym q.1) (lit< tt, tt)))
 
 -- a slot with no guard and no memory
 abbrev pub SlotKeeps : SlotUnit → Type 0
@@ -227,10 +226,10 @@ unfolding slot_head_at
 slot_head_codec =
     let parts_codec = codec_behind node_codec (λ _. codec_behind marks_codec (λ _. codec_behind data_codec (λ _. zero_codec))) in
     let inner = codec_made_known slot_of_parts parts_codec head_text (λ s. SlotKeeps s) (λ s. s.numbers ≡ [])
-        (λ a r. (parts_text a a.1.1.1 (eqb-true a.1.1.1 0 r.1.1.1.1), refl))
-        (λ s q.
-            let m = formed_without s q.3 in
-            (slot_parts s, slot_is s q.0 q.1 q.2, parts_text (slot_parts s) 0 refl ∙ ap head_text (slot_is s q.0 q.1 q.2), (tt, (q.4, (m, (tt, refl)))))) in
+    (λ a r. (parts_text a a.1.1.1 (eqb-true a.1.1.1 0 r.1.1.1.1), refl))
+    (λ s q.
+    let m = formed_without s q.3 in
+    (slot_parts s, slot_is s q.0 q.1 q.2, parts_text (slot_parts s) 0 refl ∙ ap head_text (slot_is s q.0 q.1 q.2), (tt, (q.4, (m, (tt, refl)))))) in
     let whole = codec_kept (λ (s : SlotUnit). memory_is_formed s s.memory) inner in
     record { takes = whole.takes; again = λ s rest q. whole.again s rest (q, ap (memory_is_formed s) q.1 ∙ q.3) }
 
@@ -246,8 +245,8 @@ slot_codec : Codec slot_at spelled_slot SlotKeeps (λ _. Unit {0})
 unfolding slot_at
 slot_codec =
     codec_made (λ (x : SlotUnit × ℕ). x.0) (codec_behind slot_head_codec (λ _. no_numbers_codec)) spelled_slot SlotKeeps
-        (λ a r. slot_text a.0 a.1 r.0.0 (eqb-true a.1 0 r.1.1))
-        (λ s q. ((s, 0), refl, slot_text s 0 q.2 refl, (q, (lit< tt, refl))))
+    (λ a r. slot_text a.0 a.1 r.0.0 (eqb-true a.1 0 r.1.1))
+    (λ s q. ((s, 0), refl, slot_text s 0 q.2 refl, (q, (lit< tt, refl))))
 
 no_guard_is : (g : Option UnitGuard) → has_no_guard g ≡ true → g ≡ None
 no_guard_is None e = refl
@@ -278,7 +277,7 @@ unit_codec : Codec unit_at spelled_unit UnitKeeps (λ _. Unit {0})
 unfolding unit_at slot_choice_at
 unit_codec =
     codec_made (λ (x : ℕ × SlotUnit). Slot x.1) (codec_behind (codec_kept (only 1) byte_codec) (λ _. slot_codec)) spelled_unit UnitKeeps
-        (λ a r. ap (λ (n : ℕ). n ∷ spelled_slot a.1) (eqb-true a.0 1 r.0.1)) unit_back
+    (λ a r. ap (λ (n : ℕ). n ∷ spelled_slot a.1) (eqb-true a.0 1 r.0.1)) unit_back
 
 units_along : (us : List ChipUnit) → list_all unit_is_of_this_step us ≡ true → list_all unit_is_formed us ≡ true → AllAlong (λ (_ : Unit {0}) u. UnitKeeps u) (λ _. tt) tt us
 units_along [] a b = tt
@@ -307,9 +306,9 @@ five_takes bytes n rest fits e =
     let g = guard_ok (ltb (length bytes) 5) Short whole (n, rest) e in
     let long : 5 ≤ length bytes = ltb-false _ _ g.0 in
     let same : to_be_bytes w64 (from_be_bytes w64 front) ≡ front =
-        be_bytes_8 front (from_be_bytes w64 front) (omega (arith, length-take 5 bytes)) (IsBytes-zero (0 ∷ 0 ∷ take 5 bytes) (IsBytes-zero (0 ∷ take 5 bytes) (IsBytes-zero (take 5 bytes) (IsBytes-take 5 bytes fits)))) refl in
+    be_bytes_8 front (from_be_bytes w64 front) (omega (arith, length-take 5 bytes)) (IsBytes-zero (0 ∷ 0 ∷ take 5 bytes) (IsBytes-zero (0 ∷ take 5 bytes) (IsBytes-zero (take 5 bytes) (IsBytes-take 5 bytes fits)))) refl in
     subst (λ (y : ℕ × List ℕ). Took bytes (bytes_high_first 5 y.0) y.1 (Unit {0})) g.1
-        (record { parts = sym (take-append-drop 5 bytes) ∙ ap (λ (t : List ℕ). t ++ drop 5 bytes) (sym (ap (drop 3) same)); rest_fits = IsBytes-drop 5 bytes fits; fact = tt })
+    (record { parts = sym (take-append-drop 5 bytes) ∙ ap (λ (t : List ℕ). t ++ drop 5 bytes) (sym (ap (drop 3) same)); rest_fits = IsBytes-drop 5 bytes fits; fact = tt })
 
 -- fourteen bytes as six and eight
 bits_split : (high low : ℕ) → low < 2 ^ 64 → bytes_high_first 14 (high * 18446744073709551616 + low) ≡ bytes_high_first 6 high ++ bytes_high_first 8 low
@@ -344,17 +343,17 @@ bits_take bytes n rest fits e =
     let behind_six : IsBytes (drop 6 bytes) = IsBytes-drop 6 bytes fits in
     let eight_fits : IsBytes eight = IsBytes-take 8 (drop 6 bytes) behind_six in
     let high_is : to_be_bytes w64 high ≡ six =
-        be_bytes_8 six high (omega (arith, length-take 6 bytes)) (IsBytes-zero (0 ∷ take 6 bytes) (IsBytes-zero (take 6 bytes) (IsBytes-take 6 bytes fits))) refl in
+    be_bytes_8 six high (omega (arith, length-take 6 bytes)) (IsBytes-zero (0 ∷ take 6 bytes) (IsBytes-zero (take 6 bytes) (IsBytes-take 6 bytes fits))) refl in
     let low_is : to_be_bytes w64 low ≡ eight = be_bytes_8 eight low (omega (arith, length-take 8 (drop 6 bytes), length-drop 6 bytes)) eight_fits refl in
     let small : low < 2 ^ 64 = omega (arith, eight_fits 0, eight_fits 1, eight_fits 2, eight_fits 3, eight_fits 4, eight_fits 5, eight_fits 6, eight_fits 7) in
     let text : bytes_high_first 14 (high * 18446744073709551616 + low) ≡ take 6 bytes ++ eight =
-        bits_split high low small ∙ ap (λ (t : List ℕ). t ++ bytes_high_first 8 low) (ap (drop 2) high_is) ∙ ap (λ (t : List ℕ). take 6 bytes ++ t) low_is in
+    bits_split high low small ∙ ap (λ (t : List ℕ). t ++ bytes_high_first 8 low) (ap (drop 2) high_is) ∙ ap (λ (t : List ℕ). take 6 bytes ++ t) low_is in
     let regrouped : bytes ≡ (take 6 bytes ++ eight) ++ drop 14 bytes =
-        sym (take-append-drop 6 bytes)
-        ∙ ap (λ (t : List ℕ). take 6 bytes ++ t) (sym (take-append-drop 8 (drop 6 bytes)) ∙ ap (λ (t : List ℕ). eight ++ t) (drop-drop 8 6 bytes))
-        ∙ sym (append_assoc (take 6 bytes) eight (drop 14 bytes)) in
+    sym (take-append-drop 6 bytes)
+    ∙ ap (λ (t : List ℕ). take 6 bytes ++ t) (sym (take-append-drop 8 (drop 6 bytes)) ∙ ap (λ (t : List ℕ). eight ++ t) (drop-drop 8 6 bytes))
+    ∙ sym (append_assoc (take 6 bytes) eight (drop 14 bytes)) in
     subst (λ (y : ℕ × List ℕ). Took bytes (bytes_high_first 14 y.0) y.1 (Unit {0})) g.1
-        (record { parts = regrouped ∙ ap (λ (t : List ℕ). t ++ drop 14 bytes) (sym text); rest_fits = IsBytes-drop 14 bytes fits; fact = tt })
+    (record { parts = regrouped ∙ ap (λ (t : List ℕ). t ++ drop 14 bytes) (sym text); rest_fits = IsBytes-drop 14 bytes fits; fact = tt })
 
 five_codec : Codec five_at (bytes_high_first 5) (λ _. ⊥) (λ _. Unit {0})
 five_codec = record { takes = five_takes; again = λ x rest p. absurd p }
@@ -366,14 +365,14 @@ srow_codec : Codec srow_at spelled_srow (λ _. ⊥) (λ _. Unit {0})
 unfolding srow_at sram_block_at
 srow_codec =
     codec_made (λ (x : ℕ × (ℕ × ℕ)). let row : SramRow = record { block = x.0; row = x.1.0; bits = x.1.1 } in row)
-        (codec_behind (codec_kept (λ n. ltb n 106) byte_codec) (λ _. codec_behind two_codec (λ _. bits_codec))) spelled_srow (λ _. ⊥) (λ a r. refl) (λ b q. absurd q)
+    (codec_behind (codec_kept (λ n. ltb n 106) byte_codec) (λ _. codec_behind two_codec (λ _. bits_codec))) spelled_srow (λ _. ⊥) (λ a r. refl) (λ b q. absurd q)
 
 trow_codec : Codec trow_at spelled_trow (λ _. ⊥) (λ _. Unit {0})
 unfolding trow_at tcam_block_at
 trow_codec =
     codec_made (λ (x : ℕ × (ℕ × (ℕ × ℕ))). let row : TcamRow = record { block = x.0; row = x.1.0; value = x.1.1.0; mask = x.1.1.1 } in row)
-        (codec_behind (codec_kept (λ n. ltb n 16) byte_codec) (λ _. codec_behind two_codec (λ _. codec_behind five_codec (λ _. five_codec)))) spelled_trow (λ _. ⊥)
-        (λ a r. trow_text a.0 a.1.0 a.1.1.0 a.1.1.1) (λ b q. absurd q)
+    (codec_behind (codec_kept (λ n. ltb n 16) byte_codec) (λ _. codec_behind two_codec (λ _. codec_behind five_codec (λ _. five_codec)))) spelled_trow (λ _. ⊥)
+    (λ a r. trow_text a.0 a.1.0 a.1.1.0 a.1.1.1) (λ b q. absurd q)
   where
     trow_text : (block row value mask : ℕ) → (block ∷ []) ++ (two_bytes row ++ (bytes_high_first 5 value ++ bytes_high_first 5 mask)) ≡ spelled_trow (record { block = block; row = row; value = value; mask = mask })
     trow_text block row value mask = refl

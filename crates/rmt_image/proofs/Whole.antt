@@ -1,20 +1,18 @@
 -- Stages, the whole image, and its two laws: what is read is spelled so, and what is spelled so is read.
-use Rattle.std.proofs.Common.{◌≡◌, ℕ, zero, suc, ◌+◌, ◌^◌, ◌<◌, ◌≤◌, Bool, true, false, cond, ◌&&◌, ltb, leb, eqb, List, [], ◌∷◌, ◌++◌, length, map, take, drop, Option, Some, None, Result, Ok, Err, refl, sym, ap, subst, ◌∙◌, append_assoc, arith, inl, inr}
+use Rattle.std.proofs.Common.{◌≡◌, ℕ, ◌+◌, ◌^◌, ◌<◌, ◌≤◌, Bool, true, false, cond, ◌&&◌, ltb, leb, eqb, List, [], ◌∷◌, ◌++◌, length, map, take, drop, Option, Some, None, Result, Ok, Err, refl, sym, ap, subst, ◌∙◌, append_assoc, arith}
 use Rattle.std.specs.Prelude.{codes, nat_eq, ◌≢◌, IfOk}
 use Rattle.std.specs.List.{flat_map, list_all, AllByRecursion, starts_with}
 use Rattle.std.specs.Cmp.Lexicographic.{same_text}
-use Rattle.std.proofs.lemmas.Bool.{eqb-true, ltb-false, ne_eqb, and_parts, and_from, cond-false}
+use Rattle.std.proofs.lemmas.Bool.{eqb-true, ltb-false, ne_eqb, and_parts, cond-false}
 use Rattle.std.proofs.lemmas.List.{append-nil, nil_from_length, take-append-drop, drop-drop}
-use Rattle.rmt_bits.specs.declared.lane.Lane.{Lane}
 use Rattle.rmt_config.specs.declared.config.Config.{Config}
 use Rattle.rmt_config.specs.declared.config.OutHeader.{OutHeader}
 use Rattle.rmt_config.specs.declared.config.ParserConfig.{ParserConfig}
 use Rattle.rmt_config.specs.declared.config.Stage.{Stage}
-use Rattle.rmt_config.specs.declared.config.Unit.{Unit as ChipUnit}
 use Rattle.rmt_config.specs.declared.limits.LimitHit.{LimitHit}
 use Rattle.rmt_config.specs.Form.{is_lane_of, ports_are_formed, headers_are_formed, entries_are_formed, states_are_of_this_step, stage_is_of_this_step, unit_is_of_this_step, unit_is_formed, places_of, code_is_formed, srows_are_formed, trows_are_formed, stage_is_formed, starts_are_formed, stages_are_formed, rises_from, nodes_are_formed, is_of_this_step, is_formed, Formed}
 use Rattle.rmt_config.specs.Limits.{limit_hit, IsWithinLimits}
-use Rattle.rmt_config.specs.Spelling.{two_bytes, spelled_list8, spelled_list32, spelled_lane, spelled_header, spelled_parser, spelled_unit, spelled_vliw, spelled_srow, spelled_trow, spelled_stage, spelled_ports, spelled_config, spelled, NumbersFitStage, NumbersFitVliw, NumbersFit}
+use Rattle.rmt_config.specs.Spelling.{two_bytes, spelled_list8, spelled_list32, spelled_lane, spelled_header, spelled_parser, spelled_unit, spelled_vliw, spelled_srow, spelled_trow, spelled_stage, spelled_ports, spelled_config, spelled, NumbersFitStage, NumbersFit}
 use Rattle.rmt_config.proofs.FormLemmas.{no_srows, no_trows}
 use Rattle.rmt_image.specs.declared.fault.ImageFault.{ImageFault}
 use Rattle.rmt_image.specs.declared.fault.ImageFault.TheVariants as image
@@ -61,14 +59,14 @@ stage_codec : (least : ℕ) → Codec (stage_at least) spelled_stage (StageKeeps
 unfolding stage_at stage_tail_at
 stage_codec least =
     codec_made stage_of_parts
-        (codec_behind (head_codec least) (λ (h : StageHead). codec_behind (code_codec (places_of h.1)) (λ _. codec_behind srows_codec (λ _. trows_codec))))
-        spelled_stage (StageKeeps least) (λ a r. stage_text a)
-        (λ s keeps.
-            let p = and_parts (ltb (length s.units) 256 && list_all unit_is_formed s.units && code_is_formed (places_of s.units) s.code && srows_are_formed s.units s.srows) (trows_are_formed s.units s.trows) keeps.1 in
-            let q = split4 (ltb (length s.units) 256) (list_all unit_is_formed s.units) (code_is_formed (places_of s.units) s.code) (srows_are_formed s.units s.srows) p.0 in
-            let rows = rows_empty s keeps.0 q.3 p.1 in
-            let a : StageHead × StageTail = ((s.start, s.units), (s.code, (s.srows, s.trows))) in
-            (a, refl, stage_text a, (((keeps.3.start, keeps.2), (keeps.0, q.1)), (code_zip (places_of s.units) s.code q.2 keeps.3.code, rows))))
+    (codec_behind (head_codec least) (λ (h : StageHead). codec_behind (code_codec (places_of h.1)) (λ _. codec_behind srows_codec (λ _. trows_codec))))
+    spelled_stage (StageKeeps least) (λ a r. stage_text a)
+    (λ s keeps.
+    let p = and_parts (ltb (length s.units) 256 && list_all unit_is_formed s.units && code_is_formed (places_of s.units) s.code && srows_are_formed s.units s.srows) (trows_are_formed s.units s.trows) keeps.1 in
+    let q = split4 (ltb (length s.units) 256) (list_all unit_is_formed s.units) (code_is_formed (places_of s.units) s.code) (srows_are_formed s.units s.srows) p.0 in
+    let rows = rows_empty s keeps.0 q.3 p.1 in
+    let a : StageHead × StageTail = ((s.start, s.units), (s.code, (s.srows, s.trows))) in
+    (a, refl, stage_text a, (((keeps.3.start, keeps.2), (keeps.0, q.1)), (code_zip (places_of s.units) s.code q.2 keeps.3.code, rows))))
 
 abbrev start_of : Stage → ℕ
 start_of s = s.start
@@ -113,7 +111,7 @@ ports_codec : Codec ports_at (λ p. (p.0 ∷ []) ++ (spelled_lane p.1.0 ++ (spel
 unfolding ports_at
 ports_codec =
     codec_for (codec_behind byte_codec (λ _. codec_behind (lane_of_codec 9) (λ _. codec_behind (lane_of_codec 9) (λ _. lane_of_codec 1))))
-        (λ p. (is_lane_of 9 p.1.0 ≡ true) × (is_lane_of 9 p.1.1.0 ≡ true) × (is_lane_of 1 p.1.1.1 ≡ true)) (λ p q. (tt, (q.0, (q.1, q.2))))
+    (λ p. (is_lane_of 9 p.1.0 ≡ true) × (is_lane_of 9 p.1.1.0 ≡ true) × (is_lane_of 1 p.1.1.1 ≡ true)) (λ p q. (tt, (q.0, (q.1, q.2))))
 
 abbrev ConfigKeeps : Config → Type 0
 ConfigKeeps c = (is_formed c ≡ true) × NumbersFit c
@@ -133,14 +131,14 @@ config_codec : Codec config_at spelled_config ConfigKeeps (λ _. Unit {0})
 unfolding config_at
 config_codec =
     codec_made config_of_parts
-        (codec_behind ports_codec (λ _. codec_behind headers_codec (λ _. codec_behind parser_codec (λ _. stages_codec))))
-        spelled_config ConfigKeeps (λ a r. config_text a)
-        (λ c keeps.
-            let p = split6 (is_of_this_step c) (ports_are_formed c) (headers_are_formed c.headers) (entries_are_formed c.parser) (stages_are_formed c.stages) (nodes_are_formed c) keeps.0 in
-            let come = and_parts (states_are_of_this_step c.parser.states) (list_all stage_is_of_this_step c.stages) p.0 in
-            let ports = split3 (is_lane_of 9 c.in_port) (is_lane_of 9 c.out_port) (is_lane_of 1 c.drop) p.1 in
-            let a : Parts = ((c.seed, (c.in_port, (c.out_port, c.drop))), (c.headers, (c.parser, c.stages))) in
-            (a, refl, config_text a, (ports, (p.2, ((come.0, p.3, keeps.1.entries), (come.1, p.4, keeps.1.stages))))))
+    (codec_behind ports_codec (λ _. codec_behind headers_codec (λ _. codec_behind parser_codec (λ _. stages_codec))))
+    spelled_config ConfigKeeps (λ a r. config_text a)
+    (λ c keeps.
+    let p = split6 (is_of_this_step c) (ports_are_formed c) (headers_are_formed c.headers) (entries_are_formed c.parser) (stages_are_formed c.stages) (nodes_are_formed c) keeps.0 in
+    let come = and_parts (states_are_of_this_step c.parser.states) (list_all stage_is_of_this_step c.stages) p.0 in
+    let ports = split3 (is_lane_of 9 c.in_port) (is_lane_of 9 c.out_port) (is_lane_of 1 c.drop) p.1 in
+    let a : Parts = ((c.seed, (c.in_port, (c.out_port, c.drop))), (c.headers, (c.parser, c.stages))) in
+    (a, refl, config_text a, (ports, (p.2, ((come.0, p.3, keeps.1.entries), (come.1, p.4, keeps.1.stages))))))
 
 -- ---- the laws
 

@@ -1,5 +1,5 @@
 -- Reading an image from its front: what is read and the bytes behind it, or the first fault that is met.
-use Rattle.std.specs.Prelude.{◌≡◌, ℕ, zero, suc, ◌+◌, ◌*◌, ◌^◌, List, [], ◌∷◌, length, take, drop, Bool, true, false, not, ◌&&◌, ◌==◌, nat_lt, nat_le, bit_and, if◌then◌else◌, Option, Some, None, Result, Ok, Err, codes, nat_eq}
+use Rattle.std.specs.Prelude.{◌≡◌, ℕ, zero, suc, ◌+◌, ◌*◌, List, [], ◌∷◌, length, take, drop, Bool, not, ◌&&◌, ◌==◌, nat_lt, nat_le, bit_and, if◌then◌else◌, Option, Some, None, Result, Ok, Err, codes, nat_eq}
 use Rattle.std.specs.Int.{Width, w16, w32, w64, byte_len, from_be_bytes}
 use Rattle.std.specs.List.{starts_with}
 use Rattle.rmt_bits.specs.declared.lane.Lane.{Lane}
@@ -26,7 +26,7 @@ use Rattle.rmt_config.specs.declared.config.OpKind.TheVariants as kind
 use Rattle.rmt_config.specs.declared.config.Source.{Source}
 use Rattle.rmt_config.specs.declared.config.Source.TheVariants.{Word, Held, Constant}
 use Rattle.rmt_config.specs.declared.limits.LimitHit.{LimitHit}
-use Rattle.rmt_config.specs.Form.{lane_is_formed, bits_of_lanes, next_is_formed, extract_is_formed, memory_is_formed, Place, places_of, source_is_formed, kind_is_formed, is_formed}
+use Rattle.rmt_config.specs.Form.{lane_is_formed, bits_of_lanes, memory_is_formed, Place, places_of, source_is_formed, kind_is_formed, is_formed}
 use Rattle.rmt_config.specs.Limits.{limit_hit}
 use Rattle.rmt_image.specs.declared.fault.ImageFault.{ImageFault}
 use Rattle.rmt_image.specs.declared.fault.ImageFault.TheVariants as image

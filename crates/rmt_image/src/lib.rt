@@ -8,3 +8,6 @@ mod writing;
 pub use fault::ImageFault;
 pub use reading::{read_image, spells_one};
 pub use writing::write_image;
+
+#[cfg(test)]
+mod tests;

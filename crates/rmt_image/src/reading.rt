@@ -75,10 +75,8 @@ pub fn read_image(alloc: Global, bytes: &[u8]) -> Result<Config, ImageFault>
     ensures found { IfOk result (λ c. (bytes.now ≡ spelled c) × Formed c × IsWithinLimits c) }
 
     // What is spelled so is read, unless memory runs out.
-    ensures only {
-        (c : Config) → NumbersFit c → Formed c → IsWithinLimits c → bytes.now ≡ spelled c →
-        result ≢ Err ImageFault.NoMemory → result ≡ Ok c
-    }
+    ensures only { (c : Config) → NumbersFit c → Formed c → IsWithinLimits c → bytes.now ≡ spelled c →
+        result ≢ Err ImageFault.NoMemory → result ≡ Ok c }
 
     // Which fault it is: the first that is met from the front.
     ensures exact { result ≢ Err ImageFault.NoMemory → result ≡ image_of bytes.now }
@@ -88,9 +86,6 @@ pub fn read_image(alloc: Global, bytes: &[u8]) -> Result<Config, ImageFault>
 
 /// No image spells two configurations.
 pub fn spells_one()
-    ensures {
-        (c d : Config) → NumbersFit c → Formed c → IsWithinLimits c → NumbersFit d → Formed d → IsWithinLimits d →
-        spelled c ≡ spelled d → c ≡ d
-    }
-{
-}
+    ensures { (c d : Config) → NumbersFit c → Formed c → IsWithinLimits c → NumbersFit d → Formed d → IsWithinLimits d →
+        spelled c ≡ spelled d → c ≡ d }
+{}

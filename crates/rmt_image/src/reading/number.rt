@@ -3,7 +3,6 @@ ghost use Rattle.rmt_image.specs.Reading.{Gives, byte_at, two_at, four_at, five_
 
 use crate::fault::{ReadError, ReadFault};
 
-
 #[tactic(auto, unfolding(crate::specs::Reading::byte_at))]
 pub fn byte_of(bytes: &[u8]) -> Result<(u8, &[u8]), ReadError>
     ensures { Gives (λ x. (x.0, x.1.now)) result (byte_at bytes.now) }

@@ -130,7 +130,12 @@ fn extract_of(need: u8, bytes: &[u8]) -> Result<(Extract, &[u8]), ReadError>
     Ok((Extract::One { lane }, rest))
 }
 
-fn extracts_of(alloc: Global, need: u8, count: u8, bytes: &[u8]) -> Result<(Vec<Extract>, &[u8]), ReadError>
+fn extracts_of(
+    alloc: Global,
+    need: u8,
+    count: u8,
+    bytes: &[u8],
+) -> Result<(Vec<Extract>, &[u8]), ReadError>
     ensures { Gives (λ x. (x.0.items, x.1.now)) result (extracts_at need count bytes.now) }
 {
     let mut extracts = Vec::new(alloc);
@@ -144,7 +149,11 @@ fn extracts_of(alloc: Global, need: u8, count: u8, bytes: &[u8]) -> Result<(Vec<
 }
 
 #[tactic(auto, unfolding(crate::specs::Reading::entry_head_at))]
-fn entry_head_of(states: usize, least: u8, bytes: &[u8]) -> Result<((u8, ((u32, u32), (u8, u8))), &[u8]), ReadError>
+fn entry_head_of(
+    states: usize,
+    least: u8,
+    bytes: &[u8],
+) -> Result<((u8, ((u32, u32), (u8, u8))), &[u8]), ReadError>
     ensures { Gives (λ x. (x.0, x.1.now)) result (entry_head_at states least bytes.now) }
 {
     let (state, rest) = entry_state_of(states, least, bytes)?;
@@ -154,7 +163,12 @@ fn entry_head_of(states: usize, least: u8, bytes: &[u8]) -> Result<((u8, ((u32, 
 }
 
 #[tactic(auto, unfolding(crate::specs::Reading::entry_at))]
-fn entry_of(alloc: Global, states: usize, least: u8, bytes: &[u8]) -> Result<(ParserEntry, &[u8]), ReadError>
+fn entry_of(
+    alloc: Global,
+    states: usize,
+    least: u8,
+    bytes: &[u8],
+) -> Result<(ParserEntry, &[u8]), ReadError>
     ensures { Gives (λ x. (x.0, x.1.now)) result (entry_at states least bytes.now) }
 {
     let ((state, ((value, mask), (need, advance))), rest) = entry_head_of(states, least, bytes)?;
@@ -176,7 +190,12 @@ fn entry_of(alloc: Global, states: usize, least: u8, bytes: &[u8]) -> Result<(Pa
     ))
 }
 
-fn entries_of(alloc: Global, states: usize, count: u16, bytes: &[u8]) -> Result<(Vec<ParserEntry>, &[u8]), ReadError>
+fn entries_of(
+    alloc: Global,
+    states: usize,
+    count: u16,
+    bytes: &[u8],
+) -> Result<(Vec<ParserEntry>, &[u8]), ReadError>
     ensures { Gives (λ x. (x.0.items, x.1.now)) result (entries_at states count bytes.now) }
 {
     let mut entries = Vec::new(alloc);

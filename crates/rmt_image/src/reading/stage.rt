@@ -28,7 +28,11 @@ fn start_of(least: u32, bytes: &[u8]) -> Result<(u16, &[u8]), ReadError>
 }
 
 #[tactic(auto, unfolding(crate::specs::Reading::stage_head_at))]
-fn stage_head_of(alloc: Global, least: u32, bytes: &[u8]) -> Result<((u16, Vec<Unit>), &[u8]), ReadError>
+fn stage_head_of(
+    alloc: Global,
+    least: u32,
+    bytes: &[u8],
+) -> Result<((u16, Vec<Unit>), &[u8]), ReadError>
     ensures { Gives (λ x. ((x.0.0, x.0.1.items), x.1.now)) result (stage_head_at least bytes.now) }
 {
     let (start, rest) = start_of(least, bytes)?;
@@ -38,7 +42,11 @@ fn stage_head_of(alloc: Global, least: u32, bytes: &[u8]) -> Result<((u16, Vec<U
 }
 
 #[tactic(auto, unfolding(crate::specs::Reading::stage_tail_at))]
-fn stage_tail_of<'a>(alloc: Global, places: &[(u16, bool)], bytes: &'a [u8]) -> Result<((Vec<Vliw>, (Vec<SramRow>, Vec<TcamRow>)), &'a [u8]), ReadError>
+fn stage_tail_of<'a>(
+    alloc: Global,
+    places: &[(u16, bool)],
+    bytes: &'a [u8],
+) -> Result<((Vec<Vliw>, (Vec<SramRow>, Vec<TcamRow>)), &'a [u8]), ReadError>
     ensures { Gives (λ x. ((x.0.0.items, (x.0.1.0.items, x.0.1.1.items)), x.1.now)) result (stage_tail_at places.now bytes.now) }
 {
     let (code, rest) = code_of(alloc, places, bytes)?;

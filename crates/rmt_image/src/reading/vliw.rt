@@ -67,7 +67,11 @@ fn kind_of(bytes: &[u8]) -> Result<(OpKind, &[u8]), ReadError>
 }
 
 #[tactic(auto, unfolding(crate::specs::Reading::operation_at))]
-fn operation_of(place: (u16, bool), least: u16, bytes: &[u8]) -> Result<(Operation, &[u8]), ReadError>
+fn operation_of(
+    place: (u16, bool),
+    least: u16,
+    bytes: &[u8],
+) -> Result<(Operation, &[u8]), ReadError>
     ensures { Gives (λ x. (x.0, x.1.now)) result (operation_at place least bytes.now) }
 {
     let (lane, rest) = lane_from(least, bytes)?;
@@ -90,7 +94,12 @@ fn operation_of(place: (u16, bool), least: u16, bytes: &[u8]) -> Result<(Operati
     ))
 }
 
-fn operations_of(alloc: Global, place: (u16, bool), count: u8, bytes: &[u8]) -> Result<(Vec<Operation>, &[u8]), ReadError>
+fn operations_of(
+    alloc: Global,
+    place: (u16, bool),
+    count: u8,
+    bytes: &[u8],
+) -> Result<(Vec<Operation>, &[u8]), ReadError>
     ensures { Gives (λ x. (x.0.items, x.1.now)) result (operations_at place count bytes.now) }
 {
     let mut ops = Vec::new(alloc);
@@ -116,7 +125,11 @@ fn vliw_of(alloc: Global, place: (u16, bool), bytes: &[u8]) -> Result<(Vliw, &[u
 }
 
 /// An instruction for each place: the data bits of its slot, and whether it is the slot's default.
-pub fn code_of<'a>(alloc: Global, places: &[(u16, bool)], bytes: &'a [u8]) -> Result<(Vec<Vliw>, &'a [u8]), ReadError>
+pub fn code_of<'a>(
+    alloc: Global,
+    places: &[(u16, bool)],
+    bytes: &'a [u8],
+) -> Result<(Vec<Vliw>, &'a [u8]), ReadError>
     ensures { Gives (λ x. (x.0.items, x.1.now)) result (code_at places.now bytes.now) }
 {
     let mut code = Vec::new(alloc);

@@ -1,5 +1,4 @@
-use Rattle.std.proofs.Common.{◌≡◌, ◌<◌, ℕ, List, [], length, get_or, take, drop, set, reverse, true, false, refl, sym, ◌∙◌, arith, eqb}
-use Rattle.std.specs.List.{list_any}
+use Rattle.std.proofs.Common.{◌<◌, [], length, get_or, take, reverse, true, false, refl, sym, ◌∙◌, arith}
 use Rattle.std.proofs.lemmas.List.{get_or-replicate, length-set}
 use Rattle.rmt_config.specs.Form.{are_new}
 use Rattle.rmt_config.proofs.FormLemmas.{reverse_more, table_more, new_more}

@@ -1,4 +1,4 @@
-use Rattle.std.proofs.Common.{◌≡◌, ℕ, ◌<◌, [], true, false, length, get_or, take, drop, reverse, eqb}
+use Rattle.std.proofs.Common.{◌≡◌, ℕ, ◌<◌, [], false, length, get_or, take, drop, reverse, eqb}
 use Rattle.std.specs.List.{list_any}
 use Rattle.rmt_config.specs.Form.{are_new}
 use Rattle.rmt_config.proofs.form.node.are_distinct.Given as goal

@@ -1,4 +1,4 @@
-use Rattle.std.proofs.Common.{◌≡◌, drop, length}
+use Rattle.std.proofs.Common.{◌≡◌, drop}
 use Rattle.rmt_config.specs.Form.{code_is_formed}
 use Rattle.rmt_config.proofs.form.stage.code_fits.Given as goal
 

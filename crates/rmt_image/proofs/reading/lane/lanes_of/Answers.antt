@@ -1,4 +1,4 @@
-use Rattle.std.proofs.Common.{◌≡◌, ◌++◌, ◌∷◌, [], length, arith, length-append}
+use Rattle.std.proofs.Common.{◌∷◌, [], arith, length-append}
 use Rattle.std.proofs.lemmas.Result.{err_from_is_err_and}
 use Rattle.rmt_image.specs.Reading.{times, lane_at, lanes_at}
 use Rattle.rmt_image.proofs.ReadLoops.{goes_on, ends, is_done}

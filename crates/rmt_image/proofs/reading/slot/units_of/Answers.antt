@@ -1,4 +1,3 @@
-use Rattle.std.proofs.Common.{◌≡◌, ◌++◌, ◌∷◌, []}
 use Rattle.std.proofs.lemmas.Result.{err_from_is_err_and}
 use Rattle.rmt_image.specs.Reading.{times_from, unit_at, units_at}
 use Rattle.rmt_image.proofs.ReadLoops.{goes_on, ends, is_done}

@@ -1,0 +1,79 @@
+-- A packet that has just entered, and the ring one cycle later.
+use Rattle.std.proofs.Common.{◌≡◌, ◌≢◌, ℕ, zero, suc, ◌+◌, ◌-◌, ◌%◌, ◌<◌, ◌≤◌, Bool, true, false, List, [], ◌∷◌, ◌++◌, length, get_or, set, take, reverse, Option, Some, None, refl, sym, ap, ◌∙◌, subst, inl, inr, ◌⊎◌, ⊎_elim, arith}
+use Rattle.std.specs.Prelude.{slice_index, replicate}
+use Rattle.std.proofs.lemmas.List.{get_or-set_same, get_or-set_other, reverse-append}
+use Rattle.std.proofs.lemmas.Bool.{cases_eq}
+use Rattle.rmt_bits.proofs.WordLaws.{get_or-zeros}
+use Rattle.rmt_bits.specs.Packet.{Packet}
+use Rattle.rmt_config.specs.declared.config.Config.{Config}
+use Rattle.rmt_config.specs.declared.config.Stage.{Stage}
+use Rattle.rmt_config.specs.Life.{Look, life_of}
+use Rattle.rmt_config.specs.Parser.{Parse, Short, Reject, Accept, parse, put}
+use Rattle.rmt_chip.specs.declared.place.Place.{Place}
+use Rattle.rmt_chip.specs.Runnable.{start_of}
+use Rattle.rmt_chip.specs.Held.{Carried, CarriedFor, Entered, Holds, HoldsIf, EnteredBy, Begins}
+use Rattle.rmt_chip.specs.Ring.{ring_at, now, past, AllHold}
+use Rattle.rmt_chip.specs.Inputs.{entered_in, entered_at, numbered}
+use Rattle.rmt_chip.proofs.LifeLaws.{Rise, word_first}
+
+carried_first : (look : Look) (stages : List Stage) (vector : List ℕ) → Rise stages → (place : Place) → length place.vector ≡ 224 → place.vector ≡ vector → place.outcomes ≡ replicate 256 0
+  → Carried look stages vector 0 0 0 place
+carried_first look stages vector rise place whole v o = record {
+  all_words = whole;
+  words = λ w. ap (λ (ws : List ℕ). slice_index ws w) v ∙ sym (word_first look stages vector w rise);
+  due = λ k d b early late w. absurd (omega (arith, early));
+  running = λ k d b e. absurd (omega (arith, e));
+  outcomes = λ k b before after. by_stage k before;
+}
+  where
+    by_stage : (k : ℕ) → ((j : ℕ) → j < k → start_of stages j + 8 ≤ 0) → place.outcomes ≡ (life_of look (take k stages) vector).outcomes
+    by_stage zero before = o
+    by_stage (suc k) before = absurd (let e : start_of stages 0 + 8 ≤ 0 = before 0 (omega arith) in omega arith)
+
+begins_carried : (look : Look) (c : Config) (packet : Packet) → Rise c.stages → (place : Place) → place.outcomes ≡ replicate 256 0 → (p : Parse) → Begins c packet place p → CarriedFor look c packet 0 0 0 place p
+begins_carried look c packet rise place o Short b = (b.0, λ w. ap (λ (ws : List ℕ). slice_index ws w) b.1 ∙ get_or-zeros 224 w 0)
+begins_carried look c packet rise place o Reject b = (b.0, λ w. ap (λ (ws : List ℕ). slice_index ws w) b.1 ∙ get_or-zeros 224 w 0)
+begins_carried look c packet rise place o (Accept vector used) b = (b.0, carried_first look c.stages (put vector c.in_port packet.port) rise place b.2 b.1 o)
+
+pub holds_entered : (look : Look) (c : Config) → Rise c.stages → (e : Entered) (place : Place) → EnteredBy c e place → Holds look c e 0 0 0 place
+holds_entered look c rise e place h = record {
+  taken = h.taken;
+  number = h.number;
+  frame = h.frame;
+  carried = begins_carried look c e.packet rise place h.outcomes (parse c.parser e.packet.frame) h.begins;
+}
+
+-- one cycle later each packet is one cycle older
+pub ring_turns : (look : Look) (c : Config) (item item' : ℕ → Option Entered) (newest newest' : ℕ) (places : List Place) (new : Place) → newest < 385 → length places ≡ 385 → newest' ≡ (newest + 1) % 385
+  → ((t : ℕ) → item' (t + 1) ≡ item t) → HoldsIf look c (item' 0) 0 0 0 new
+  → AllHold look c item now now now newest places → AllHold look c item' past past past newest' (set places newest' new)
+ring_turns look c item item' newest newest' places new ring full turned older first was t d h =
+    ⊎_elim
+    (λ (e : t ≡ 0).
+        let at : ring_at newest' t ≡ newest' = omega arith in
+        let inside : newest' < length places = omega arith in
+        let place : get_or (set places newest' new) (ring_at newest' t) d ≡ new = ap (λ n. get_or (set places newest' new) n d) at ∙ get_or-set_same places newest' new d inside in
+        let age : past t ≡ 0 = omega arith in
+        subst (λ (p : Place). HoldsIf look c (item' t) (past t) (past t) (past t) p) (sym place)
+        (subst (λ n. HoldsIf look c (item' t) n n n new) (sym age) (subst (λ n. HoldsIf look c (item' n) 0 0 0 new) (sym e) first)))
+    (λ (apart : t ≢ 0).
+        let back : t ≡ t - 1 + 1 = omega arith in
+        let at : ring_at newest' t ≡ ring_at newest (t - 1) = omega arith in
+        let other : ring_at newest' t ≢ newest' = omega arith in
+        let place : get_or (set places newest' new) (ring_at newest' t) d ≡ get_or places (ring_at newest (t - 1)) d =
+            get_or-set_other places newest' (ring_at newest' t) new d other ∙ ap (λ n. get_or places n d) at in
+        let same : item' t ≡ item (t - 1) = ap item' back ∙ older (t - 1) in
+        subst (λ (p : Place). HoldsIf look c (item' t) (past t) (past t) (past t) p) (sym place)
+        (subst (λ (o : Option Entered). HoldsIf look c o (t - 1) (t - 1) (t - 1) (get_or places (ring_at newest (t - 1)) d)) (sym same) (was (t - 1) d (omega arith))))
+    (cases_eq t 0)
+
+pub reverse_push : {A : Type 0} (xs : List A) (x : A) → reverse (xs ++ x ∷ []) ≡ x ∷ reverse xs
+reverse_push xs x = reverse-append xs (x ∷ [])
+
+pub entered_older : (inputs : List (Option Packet)) (input : Option Packet) (t : ℕ) → entered_at (inputs ++ input ∷ []) (t + 1) ≡ entered_at inputs t
+entered_older inputs input t =
+    let next : t + 1 ≡ suc t = omega arith in
+    ap (λ (r : List (Option Packet)). entered_in r (t + 1)) (reverse_push inputs input) ∙ ap (λ n. entered_in (input ∷ reverse inputs) n) next
+
+pub entered_first : (inputs : List (Option Packet)) (input : Option Packet) → entered_at (inputs ++ input ∷ []) 0 ≡ numbered input (reverse inputs)
+entered_first inputs input = ap (λ (r : List (Option Packet)). entered_in r 0) (reverse_push inputs input)

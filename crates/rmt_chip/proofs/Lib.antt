@@ -1,0 +1,16 @@
+pub mod ComputeLaws
+pub mod LifeLaws
+pub mod WriteLaws
+pub mod DecideLaws
+pub mod HeldLaws
+pub mod RingLaws
+pub mod HoldsLaws
+pub mod PassLaws
+pub mod ParseLaws
+pub mod EnterLaws
+pub mod EmitLaws
+pub mod CycleLaws
+pub mod LatencyLaws
+pub mod WholeCycle
+pub mod CountLaws
+pub mod StandsLaws

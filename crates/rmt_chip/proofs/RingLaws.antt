@@ -1,0 +1,136 @@
+-- A pass over the stages in the ring of places.
+use Rattle.std.proofs.Common.{◌≡◌, ◌≢◌, ℕ, zero, suc, ◌+◌, ◌-◌, ◌%◌, ◌<◌, ◌≤◌, Bool, true, false, cond, eqb, ltb, List, length, get_or, set, Option, Some, None, refl, sym, ap, ◌∙◌, subst, inl, inr, ◌⊎◌, ⊎_elim, arith}
+use Rattle.std.proofs.lemmas.List.{get_or-set_same, get_or-set_other}
+use Rattle.std.proofs.lemmas.Bool.{cases_lt, cases_eq}
+use Rattle.std.proofs.lemmas.Bool.Decides.{nat_tests}
+use Rattle.rmt_config.specs.declared.config.Stage.{Stage}
+use Rattle.rmt_chip.specs.declared.place.Place.{Place}
+use Rattle.rmt_chip.specs.Runnable.{start_of}
+use Rattle.rmt_chip.specs.Ring.{ring_at, partly, done_before}
+use Rattle.rmt_chip.proofs.LifeLaws.{Rise}
+use Rattle.rmt_chip.proofs.HeldLaws.{NoneAt}
+
+pub ring_at-lt : (newest age : ℕ) → ring_at newest age < 385
+ring_at-lt newest age = omega arith
+
+-- two ages are not in one place
+pub ring_at-apart : (newest a b : ℕ) → newest < 385 → a < 385 → b < 385 → a ≢ b → ring_at newest a ≢ ring_at newest b
+ring_at-apart newest a b hn ha hb apart e = absurd (omega arith)
+
+pub partly-below : (bound t : ℕ) → t < bound → partly bound t ≡ t
+partly-below bound t h = grind (arith, nat_tests)
+
+pub partly-from : (bound t : ℕ) → bound ≤ t → partly bound t ≡ t - 1
+partly-from bound t h = grind (arith, nat_tests)
+
+pub done_none : (stages : List Stage) (after : ℕ) → done_before stages after 0 ≡ 0
+done_none stages after = refl
+
+pub done_more : (stages : List Stage) (after k : ℕ) → done_before stages after (k + 1) ≡ start_of stages k + after + 1
+done_more stages after k =
+    let back : k + 1 - 1 ≡ k = omega arith in
+    let test : eqb (k + 1) 0 ≡ false = grind (arith, nat_tests) in
+    ap (λ (b : Bool). cond b 0 (start_of stages (k + 1 - 1) + after + 1)) test ∙ ap (λ n. start_of stages n + after + 1) back
+
+pub done_le : (stages : List Stage) (after k : ℕ) → Rise stages → k < length stages → done_before stages after k ≤ start_of stages k + after
+done_le stages after zero rise h = omega (arith, done_none stages after)
+done_le stages after (suc k) rise h =
+    let next : suc k ≡ k + 1 = omega arith in
+    let less : start_of stages k < start_of stages (suc k) = rise k (suc k) (omega arith) h in
+    let d = ap (done_before stages after) next ∙ done_more stages after k in
+    omega (arith, d)
+
+-- no stage acts at the ages between the last one that acted and the next
+quiet : (stages : List Stage) (after k t : ℕ) → Rise stages → k ≤ length stages → done_before stages after k ≤ t → (k < length stages → t < start_of stages k + after) → NoneAt stages after t
+quiet stages after k t rise within from until j hj e =
+    ⊎_elim
+    (λ (h : j < k). absurd (early k j h within hj from e))
+    (λ (h : k ≤ j).
+        let bound : t < start_of stages k + after = until (omega arith) in
+        let grown : start_of stages k ≤ start_of stages j = grow k j h hj in
+        absurd (omega arith))
+    (cases_lt j k)
+  where
+    grow : (a b : ℕ) → a ≤ b → b < length stages → start_of stages a ≤ start_of stages b
+    grow a b h hb =
+        ⊎_elim
+        (λ (l : a < b). let less : start_of stages a < start_of stages b = rise a b l hb in omega arith)
+        (λ (l : b ≤ a). let same : a ≡ b = omega arith in subst (λ n. start_of stages a ≤ start_of stages n) same (omega arith))
+        (cases_lt a b)
+
+    early : (k j : ℕ) → j < k → k ≤ length stages → j < length stages → done_before stages after k ≤ t → start_of stages j + after ≡ t → ⊥
+    early zero j h w hj' f e = omega (arith, h)
+    early (suc k) j h w hj' f e =
+        let next : suc k ≡ k + 1 = omega arith in
+        let d : done_before stages after (suc k) ≡ start_of stages k + after + 1 = ap (done_before stages after) next ∙ done_more stages after k in
+        let grown : start_of stages j ≤ start_of stages k = grow j k (omega arith) (omega arith) in
+        omega arith
+
+-- each place keeps a fact of its age
+abbrev pub AllPlaces : (ℕ → ℕ → Place → Type 0) → ℕ → ℕ → List Place → Type 0
+AllPlaces Q bound newest places = (t : ℕ) (d : Place) → t < 385 → Q t (partly bound t) (get_or places (ring_at newest t) d)
+
+pub pass_step : (Q : ℕ → ℕ → Place → Type 0) (stages : List Stage) (after k newest : ℕ) (places : List Place) (new : Place) → Rise stages → k < length stages
+  → start_of stages k + after < 385 → newest < 385 → length places ≡ 385
+  → ((t : ℕ) (place : Place) → NoneAt stages after (t + 1) → Q (t + 1) t place → Q (t + 1) (t + 1) place)
+  → AllPlaces Q (done_before stages after k) newest places
+  → Q (start_of stages k + after) (start_of stages k + after) new
+  → AllPlaces Q (start_of stages k + after + 1) newest (set places (ring_at newest (start_of stages k + after)) new)
+pass_step Q stages after k newest places new rise inside small ring full none was now t d h =
+    let a = start_of stages k + after in
+    let b = done_before stages after k in
+    let le : b ≤ a = done_le stages after k rise inside in
+    ⊎_elim
+    (λ (e : t ≡ a).
+        let place : get_or (set places (ring_at newest a) new) (ring_at newest t) d ≡ new =
+            ap (λ n. get_or (set places (ring_at newest a) new) (ring_at newest n) d) e ∙ get_or-set_same places (ring_at newest a) new d (omega (arith, ring_at-lt newest a)) in
+        let age : partly (a + 1) t ≡ t = partly-below (a + 1) t (omega arith) in
+        subst (Q t (partly (a + 1) t)) (sym place) (subst (λ u. Q t u new) (sym age) (subst (λ u. Q u u new) (sym e) now)))
+    (λ (apart : t ≢ a).
+        let other : ring_at newest t ≢ ring_at newest a = ring_at-apart newest t a ring h small apart in
+        let place : get_or (set places (ring_at newest a) new) (ring_at newest t) d ≡ get_or places (ring_at newest t) d = get_or-set_other places (ring_at newest a) (ring_at newest t) new d other in
+        let old = get_or places (ring_at newest t) d in
+        subst (Q t (partly (a + 1) t)) (sym place)
+        (⊎_elim
+        (λ (l : t < a).
+            let age : partly (a + 1) t ≡ t = partly-below (a + 1) t (omega arith) in
+            subst (λ u. Q t u old) (sym age)
+            (⊎_elim
+            (λ (f : t < b). subst (λ u. Q t u old) (partly-below b t f) (was t d h))
+            (λ (f : b ≤ t). at_rest t old (quiet stages after k t rise (omega arith) f (λ _. l)) (subst (λ u. Q t u old) (partly-from b t f) (was t d h)))
+            (cases_lt t b)))
+        (λ (l : a ≤ t).
+            let beyond : a + 1 ≤ t = omega arith in
+            let age : partly (a + 1) t ≡ t - 1 = partly-from (a + 1) t beyond in
+            subst (λ u. Q t u old) (sym age) (subst (λ u. Q t u old) (partly-from b t (omega arith)) (was t d h)))
+        (cases_lt t a)))
+    (cases_eq t a)
+  where
+    at_rest : (u : ℕ) (place : Place) → NoneAt stages after u → Q u (u - 1) place → Q u u place
+    at_rest zero place n q = subst (λ v. Q 0 v place) (let e : 0 - 1 ≡ 0 = omega arith in e) q
+    at_rest (suc u) place n q =
+        let next : suc u ≡ u + 1 = omega arith in
+        let back : suc u - 1 ≡ u = omega arith in
+        subst (λ v. Q v v place) (sym next) (none u place (subst (NoneAt stages after) next n) (subst (λ v. Q v u place) next (subst (λ v. Q (suc u) v place) back q)))
+
+pub pass_end : (Q : ℕ → ℕ → Place → Type 0) (stages : List Stage) (after newest : ℕ) (places : List Place) → Rise stages
+  → ((t : ℕ) (place : Place) → NoneAt stages after (t + 1) → Q (t + 1) t place → Q (t + 1) (t + 1) place)
+  → AllPlaces Q (done_before stages after (length stages)) newest places
+  → (t : ℕ) (d : Place) → t < 385 → Q t t (get_or places (ring_at newest t) d)
+pass_end Q stages after newest places rise none was t d h =
+    let b = done_before stages after (length stages) in
+    let old = get_or places (ring_at newest t) d in
+    ⊎_elim
+    (λ (f : t < b). subst (λ u. Q t u old) (partly-below b t f) (was t d h))
+    (λ (f : b ≤ t). at_rest t old (quiet stages after (length stages) t rise (omega arith) f (λ l. absurd (omega arith))) (subst (λ u. Q t u old) (partly-from b t f) (was t d h)))
+    (cases_lt t b)
+  where
+    at_rest : (u : ℕ) (place : Place) → NoneAt stages after u → Q u (u - 1) place → Q u u place
+    at_rest zero place n q = subst (λ v. Q 0 v place) (let e : 0 - 1 ≡ 0 = omega arith in e) q
+    at_rest (suc u) place n q =
+        let next : suc u ≡ u + 1 = omega arith in
+        let back : suc u - 1 ≡ u = omega arith in
+        subst (λ v. Q v v place) (sym next) (none u place (subst (NoneAt stages after) next n) (subst (λ v. Q v u place) next (subst (λ v. Q (suc u) v place) back q)))
+
+pub pass_start : (Q : ℕ → ℕ → Place → Type 0) (newest : ℕ) (places : List Place) → ((t : ℕ) (d : Place) → t < 385 → Q t (t - 1) (get_or places (ring_at newest t) d)) → AllPlaces Q 0 newest places
+pass_start Q newest places was t d h = subst (λ u. Q t u (get_or places (ring_at newest t) d)) (sym (partly-from 0 t (omega arith))) (was t d h)

@@ -1,0 +1,24 @@
+use Rattle.std.proofs.Common.{◌≡◌, ℕ, List, get_or, length, take, ap, sym, ◌∙◌, subst, arith, rules}
+use Rattle.std.specs.Prelude.{slice_index, option_map}
+use Rattle.std.proofs.lemmas.List.{take_all}
+use Rattle.rmt_config.specs.declared.config.Operation.{Operation}
+use Rattle.rmt_config.specs.Life.{written, op_on, or_else}
+use Rattle.rmt_chip.specs.Writes.{last_on}
+use Rattle.rmt_chip.proofs.WriteLaws.{push_step, no_op}
+use Rattle.rmt_chip.proofs.writes.push_instruction.Goals as goal
+
+pub loop-op-preserved : goal.loop-op-preserved
+loop-op-preserved c =
+    let i = c.loop-op.op-index in
+    let ops = c.args.code.now.ops in
+    let same = c.as_slice-op-items.ensures in
+    push_step c.loop-op.due.items c.push.new.self.items c.args.due.now.items c.written.result ops i (λ v. slice_index c.args.vector.now v)
+    (rw same at c.loop-op-test.true) c.requires.rises
+    (c.written.ensures.word ∙ ap (λ (os : List Operation). (get_or os i no_op).word) same)
+    (c.written.ensures.value ∙ ap (λ (os : List Operation). written (λ v. slice_index c.args.vector.now v) 0 (get_or os i no_op)) same)
+    c.in_ok-push.ensures.items c.loop-op.invariant
+
+pub returns : goal.returns
+returns c = λ w.
+    let all = take_all c.loop-op.op-index c.args.code.now.ops (rw (← c.as_slice-op-items.ensures) c.loop-op-test.false) in
+    c.loop-op.invariant w ∙ ap (λ (os : List Operation). or_else (option_map (written (λ v. slice_index c.args.vector.now v) 0) (op_on w os)) (last_on c.args.due.now.items w)) all
