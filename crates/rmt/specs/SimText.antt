@@ -1,11 +1,12 @@
 -- What `sim` prints of a run of the chip.
-use Rattle.std.specs.Prelude.{◌≡◌, ℕ, ◌+◌, List, [], ◌∷◌, ◌++◌, codes}
+use Rattle.std.specs.Prelude.{◌≡◌, ℕ, ◌+◌, List, [], ◌∷◌, ◌++◌, codes, Option, Some, None}
 use Rattle.std.specs.Fmt.{decimal}
 use Rattle.std.specs.List.{flat_map}
 use Rattle.rmt_bits.specs.Packet.{Packet}
 use Rattle.rmt_bits.specs.declared.answer.Answer.{Answer}
 use Rattle.rmt_bits.specs.declared.answer.Count.{Count}
 use Rattle.rmt_packets.specs.AnswerLine.{answer_line}
+use Rattle.rmt_packets.specs.PacketText.{Reading, BadLine}
 use Rattle.rmt_config.specs.declared.config.Config.{Config}
 use Rattle.rmt_config.specs.ChipRun.{Outcome, outcomes_of, inputs_of, chip_counts_of, cycles_of, flight_of}
 
@@ -38,3 +39,12 @@ sim_text c packets =
 -- `bad packets CODE line L`
 abbrev pub bad_packets_line : ℕ → ℕ → List ℕ
 bad_packets_line code line = codes "bad packets " ++ (decimal code ++ (codes " line " ++ (decimal line ++ codes "\n")))
+
+-- what `sim` prints for what a packet text says: the text of the run, or, where a line is bad, the answers to the packets before it and
+-- the last line, and no counters
+abbrev pub printed_of : Config → Reading → List ℕ
+printed_of c reading = ended (reading.bad)
+  where
+    ended : Option BadLine → List ℕ
+    ended None = sim_text c reading.packets
+    ended (Some bad) = answer_lines 0 (outcomes_of c reading.packets) ++ bad_packets_line bad.code bad.line
