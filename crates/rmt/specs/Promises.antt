@@ -91,15 +91,19 @@ pub record HasBadEntries (files : Files) (program entries : List ℕ) : Type 0 w
   pub means : Means text.bytes parts
   pub is_bad : 0 < length entry_text.bytes
 
--- a file to be read is too long, and none before it is absent or too long
-abbrev pub HasTooLong : Files → List ℕ → List ℕ → Type 0
-HasTooLong files program entries =
-    IsLonger files program program_limit ⊎ (IsWithin files program program_limit × IsLonger files entries entries_limit)
+-- of two files to be read one is too long, and none before it is absent or too long
+abbrev pub TooLongIn : Files → List ℕ → ℕ → List ℕ → ℕ → Type 0
+TooLongIn files first most second limit = IsLonger files first most ⊎ (IsWithin files first most × IsLonger files second limit)
 
--- a file to be read is absent, and none before it is absent or too long
+abbrev pub HasTooLong : Files → List ℕ → List ℕ → Type 0
+HasTooLong files program entries = TooLongIn files program program_limit entries entries_limit
+
+-- of two files to be read one is absent, and none before it is absent or too long
+abbrev pub AbsentIn : Files → List ℕ → ℕ → List ℕ → Type 0
+AbsentIn files first most second = (files first ≡ None) ⊎ (IsWithin files first most × (files second ≡ None))
+
 abbrev pub HasAbsent : Files → List ℕ → List ℕ → Type 0
-HasAbsent files program entries =
-    (files program ≡ None) ⊎ (IsWithin files program program_limit × (files entries ≡ None))
+HasAbsent files program entries = AbsentIn files program program_limit entries
 
 -- The cause of each answer to `compile` in the files, where a fault of the outside or want of memory has none there.
 abbrev pub Causes : Files → List ℕ → List ℕ → Status → Type 0

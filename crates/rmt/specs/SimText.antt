@@ -5,6 +5,8 @@ use Rattle.std.specs.List.{flat_map}
 use Rattle.rmt_bits.specs.Packet.{Packet}
 use Rattle.rmt_bits.specs.declared.answer.Answer.{Answer}
 use Rattle.rmt_bits.specs.declared.answer.Count.{Count}
+use Rattle.rmt_image.specs.declared.fault.ImageFault.{ImageFault}
+use Rattle.rmt_image.specs.declared.fault.ImageFault.TheVariants as fault
 use Rattle.rmt_packets.specs.AnswerLine.{answer_line}
 use Rattle.rmt_packets.specs.PacketText.{Reading, BadLine}
 use Rattle.rmt_config.specs.declared.config.Config.{Config}
@@ -48,3 +50,14 @@ printed_of c reading = ended (reading.bad)
     ended : Option BadLine → List ℕ
     ended None = sim_text c reading.packets
     ended (Some bad) = answer_lines 0 (outcomes_of c reading.packets) ++ bad_packets_line bad.code bad.line
+
+-- `bad image CODE`, and for a limit `bad image 6 limit L stage K sum S need N`
+abbrev pub bad_image_line : ImageFault → List ℕ
+bad_image_line fault.NoMemory = []
+bad_image_line fault.Magic = codes "bad image 1\n"
+bad_image_line fault.Version = codes "bad image 2\n"
+bad_image_line fault.Short = codes "bad image 3\n"
+bad_image_line fault.Form = codes "bad image 4\n"
+bad_image_line fault.Trailing = codes "bad image 5\n"
+bad_image_line (fault.Limit hit) =
+    codes "bad image 6 limit " ++ (decimal hit.limit ++ (codes " stage " ++ (decimal hit.stage ++ (codes " sum " ++ (decimal hit.sum ++ (codes " need " ++ (decimal hit.need ++ codes "\n")))))))

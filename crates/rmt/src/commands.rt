@@ -13,6 +13,11 @@ pub enum Command<'a> {
         entries: &'a String,
         image: &'a String,
     },
+    /// `sim IMAGE PACKETS`
+    Sim {
+        image: &'a String,
+        packets: &'a String,
+    },
     /// The words are of no command.
     Unknown,
 }
@@ -27,6 +32,7 @@ pub fn command_from(words: &Vec<String>) -> Command<'_>
             entries,
             image,
         },
+        [word, image, packets] if word.as_str() == "sim" => Command::Sim { image, packets },
         _ => Command::Unknown,
     }
 }

@@ -2,8 +2,9 @@
 
 ghost use Rattle.std.specs.Prelude.{◌≡◌, ℕ, List, ◌≤◌, ◌⊎◌, Some, None, length, IsTrue, IfOk, IsErrOf, string_bytes};
 ghost use Rattle.rmt_io.specs.Faults.{Rose};
-ghost use Rattle.rmt.specs.Promises.{HasTooLong, HasAbsent, IsLonger, program_limit, entries_limit};
+ghost use Rattle.rmt.specs.Promises.{TooLongIn, AbsentIn, IsLonger};
 
+use crate::status::Status;
 use rmt_io::shelf::{Shelf, ShelfFault};
 use std::alloc::Global;
 
@@ -12,38 +13,45 @@ pub const PROGRAM_LIMIT: u64 = 1_048_576;
 /// How many bytes an entry text may have.
 pub const ENTRIES_LIMIT: u64 = 67_108_864;
 
-/// The bytes of a program's two texts.
+/// How many bytes an image may have.
+pub const IMAGE_LIMIT: u64 = 268_435_456;
+/// How many bytes a packet text may have.
+pub const PACKETS_LIMIT: u64 = 67_108_864;
+
+/// The bytes of the two files that a command reads.
 #[derive(Drop)]
 pub struct Texts {
-    pub program: Vec<u8>,
-    pub entries: Vec<u8>,
+    pub first: Vec<u8>,
+    pub second: Vec<u8>,
 }
 
-/// Reads a program and its entries, in this order.
+/// Reads two files in order, each of at most so many bytes.
 pub fn read_texts<F: Shelf>(
     alloc: Global,
-    program: &String,
-    entries: &String,
+    first: &String,
+    most: u64,
+    second: &String,
+    limit: u64,
     shelf: &mut F,
 ) -> Result<Texts, ShelfFault>
-    ensures program { IfOk result (λ t. IsTrue (F.told shelf.old) → F.file shelf.old (string_bytes program.now) ≡ Some t.program.items) }
-    ensures program_fits { IfOk result (λ t. length t.program.items ≤ program_limit) }
-    ensures entries { IfOk result (λ t. IsTrue (F.told shelf.old) → F.file shelf.old (string_bytes entries.now) ≡ Some t.entries.items) }
-    ensures entries_fit { IfOk result (λ t. length t.entries.items ≤ entries_limit) }
+    ensures first { IfOk result (λ t. IsTrue (F.told shelf.old) → F.file shelf.old (string_bytes first.now) ≡ Some t.first.items) }
+    ensures first_fits { IfOk result (λ t. length t.first.items ≤ most) }
+    ensures second { IfOk result (λ t. IsTrue (F.told shelf.old) → F.file shelf.old (string_bytes second.now) ≡ Some t.second.items) }
+    ensures second_fits { IfOk result (λ t. length t.second.items ≤ limit) }
     ensures too_long { IsErrOf result ShelfFault.TooLong → IsTrue (F.told shelf.old) →
-        HasTooLong (F.file shelf.old) (string_bytes program.now) (string_bytes entries.now) }
+        TooLongIn (F.file shelf.old) (string_bytes first.now) most (string_bytes second.now) limit }
     ensures failed { IsErrOf result ShelfFault.Failed → Rose (F.reading_faults shelf.old) (F.reading_faults shelf.new) }
     ensures absent { IsErrOf result ShelfFault.Failed → IsTrue (F.steady shelf.old) →
-        HasAbsent (F.file shelf.old) (string_bytes program.now) (string_bytes entries.now) }
+        AbsentIn (F.file shelf.old) (string_bytes first.now) most (string_bytes second.now) }
     ensures files { (name : List ℕ) → F.file shelf.new name ≡ F.file shelf.old name }
     ensures tells { F.told shelf.new ≡ F.told shelf.old }
     ensures stays_steady { IsTrue (F.steady shelf.old) → IsTrue (F.steady shelf.new) }
     ensures steady_tells { IsTrue (F.steady shelf.old) → IsTrue (F.told shelf.old) }
     ensures writing { F.writing_faults shelf.new ≡ F.writing_faults shelf.old }
 {
-    let program = read_text(alloc, program, PROGRAM_LIMIT, shelf)?;
-    let entries = read_text(alloc, entries, ENTRIES_LIMIT, shelf)?;
-    Ok(Texts { program, entries })
+    let first = read_text(alloc, first, most, shelf)?;
+    let second = read_text(alloc, second, limit, shelf)?;
+    Ok(Texts { first, second })
 }
 
 /// Reads a file of at most so many bytes.
@@ -69,5 +77,18 @@ fn read_text<F: Shelf>(
     match shelf.read(alloc, name, limit, &mut text) {
         Ok(()) => Ok(text),
         Err(fault) => Err(fault),
+    }
+}
+
+/// The status where reading files was refused.
+pub fn status_of(fault: ShelfFault) -> Status
+    ensures failed { fault ≡ ShelfFault.Failed → result ≡ Status.ReadFault }
+    ensures too_long { fault ≡ ShelfFault.TooLong → result ≡ Status.TooLong }
+    ensures no_memory { fault ≡ ShelfFault.NoMemory → result ≡ Status.NoMemory }
+{
+    match fault {
+        ShelfFault::Failed => Status::ReadFault,
+        ShelfFault::TooLong => Status::TooLong,
+        ShelfFault::NoMemory => Status::NoMemory,
     }
 }

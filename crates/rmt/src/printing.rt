@@ -1,9 +1,10 @@
 //! Printing to a sink.
 
-ghost use Rattle.std.specs.Prelude.{◌≡◌, ◌≤◌, ◌++◌, length, IsTrue, OnOk, OnErr};
+ghost use Rattle.std.specs.Prelude.{◌≡◌, ◌≢◌, ◌≤◌, ◌⊎◌, ◌++◌, length, IsTrue, OnOk, OnErr};
 ghost use Rattle.rmt.specs.Printing.{GainsFront};
 ghost use Rattle.rmt_io.specs.Faults.{Rose};
 
+use crate::status::Status;
 use rmt_io::sink::{Sink, SinkFault};
 
 /// Writes a whole text, piece by piece, as the sink takes it. After a fault a front of the text was written.
@@ -22,4 +23,17 @@ pub fn print<O: Sink>(out: &mut O, text: &[u8]) -> Result<(), SinkFault>
         }
     }
     Ok(())
+}
+
+/// Prints the whole rest of a command's text, and answers the status; where the sink fails, it is `WriteFault`.
+pub fn end_with<O: Sink>(out: &mut O, text: &[u8], status: Status) -> Status
+    ensures status { (result ≡ status) ⊎ (result ≡ Status.WriteFault) }
+    ensures printed { result ≡ status → status ≢ Status.WriteFault → IsTrue (O.told out.old) → O.bytes out.new ≡ O.bytes out.old ++ text.now }
+    ensures front { IsTrue (O.told out.old) → GainsFront (O.bytes out.old) (O.bytes out.new) text.now }
+    ensures failed { result ≡ Status.WriteFault → status ≢ Status.WriteFault → Rose (O.faults out.old) (O.faults out.new) }
+{
+    match print(out, text) {
+        Ok(()) => status,
+        Err(_) => Status::WriteFault,
+    }
 }

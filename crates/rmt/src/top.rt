@@ -3,14 +3,16 @@
 ghost use Rattle.std.specs.Prelude.{◌≡◌, ◌≢◌, ◌<◌, ◌⊎◌, ◌↔◌, ◌++◌, ℕ, List, Some, None, length, codes, IsTrue, string_bytes};
 ghost use Rattle.rmt_io.specs.Faults.{Rose};
 ghost use Rattle.rmt.specs.Printing.{GainsFront};
-ghost use Rattle.rmt.specs.Commands.{command_of, words_of, IfCompile};
+ghost use Rattle.rmt.specs.Commands.{command_of, words_of, IfCompile, IfSim};
+ghost use Rattle.rmt.specs.SimPromises.{SimCauses, SimAbsent, SimPrints, IsOfSim};
 ghost use Rattle.rmt.specs.declared.status.Status as status;
 ghost use Rattle.rmt.specs.Promises.{Compiled, Causes, IsOfFiles, IsOfOutside, HasAbsent, IsQuiet, Makes, Prints, bad_program_line, bad_entries_line};
 
 use crate::commands::{Command, command_from};
 use crate::compiling::{Made, Refusal, make};
-use crate::loading::read_texts;
-use crate::printing::print;
+use crate::loading::{ENTRIES_LIMIT, PROGRAM_LIMIT, read_texts, status_of};
+use crate::printing::end_with;
+use crate::simulating::simulate;
 use crate::status::Status;
 use rmt_io::shelf::{Shelf, ShelfFault};
 use rmt_io::sink::Sink;
@@ -20,32 +22,6 @@ use std::alloc::Global;
 const BAD_PROGRAM: &[u8; 30] = b"bad program 0 line 1 column 1\n";
 /// The last line of an entry text that is not empty.
 const BAD_ENTRIES: &[u8; 21] = b"bad entries 0 line 1\n";
-
-/// The status where reading files was refused.
-fn status_of(fault: ShelfFault) -> Status
-    ensures failed { fault ≡ ShelfFault.Failed → result ≡ Status.ReadFault }
-    ensures too_long { fault ≡ ShelfFault.TooLong → result ≡ Status.TooLong }
-    ensures no_memory { fault ≡ ShelfFault.NoMemory → result ≡ Status.NoMemory }
-{
-    match fault {
-        ShelfFault::Failed => Status::ReadFault,
-        ShelfFault::TooLong => Status::TooLong,
-        ShelfFault::NoMemory => Status::NoMemory,
-    }
-}
-
-/// Prints the whole rest of a command's text, and answers the status; where the sink fails, it is `WriteFault`.
-fn end_with<O: Sink>(out: &mut O, text: &[u8], status: Status) -> Status
-    ensures status { (result ≡ status) ⊎ (result ≡ Status.WriteFault) }
-    ensures printed { result ≡ status → status ≢ Status.WriteFault → IsTrue (O.told out.old) → O.bytes out.new ≡ O.bytes out.old ++ text.now }
-    ensures front { IsTrue (O.told out.old) → GainsFront (O.bytes out.old) (O.bytes out.new) text.now }
-    ensures failed { result ≡ Status.WriteFault → status ≢ Status.WriteFault → Rose (O.faults out.old) (O.faults out.new) }
-{
-    match print(out, text) {
-        Ok(()) => status,
-        Err(_) => Status::WriteFault,
-    }
-}
 
 /// Writes the image and prints the lines.
 fn deliver<F: Shelf, O: Sink>(
@@ -102,11 +78,11 @@ fn compile<F: Shelf, O: Sink>(
     ensures bad_program_line { result ≡ Status.BadProgram → IsTrue (O.told out.old) → O.bytes out.new ≡ O.bytes out.old ++ bad_program_line }
     ensures bad_entries_line { result ≡ Status.BadEntries → IsTrue (O.told out.old) → O.bytes out.new ≡ O.bytes out.old ++ bad_entries_line }
 {
-    let texts = match read_texts(alloc, program, entries, shelf) {
+    let texts = match read_texts(alloc, program, PROGRAM_LIMIT, entries, ENTRIES_LIMIT, shelf) {
         Ok(texts) => texts,
         Err(fault) => return status_of(fault),
     };
-    match make(alloc, &texts.program, &texts.entries) {
+    match make(alloc, &texts.first, &texts.second) {
         Ok(made) => deliver(alloc, &made, image, shelf, out),
         Err(Refusal::NoMemory) => Status::NoMemory,
         Err(Refusal::BadProgram) => end_with(out, BAD_PROGRAM, Status::BadProgram),
@@ -125,7 +101,8 @@ pub fn rmt<F: Shelf, O: Sink>(
     ensures usage { (result ≡ Status.Usage) ↔ (command_of (words_of words.now.items) ≡ None) }
     ensures usage_reads_nothing { result ≡ Status.Usage → IsTrue (F.told shelf.old) → (name : List ℕ) → F.file shelf.new name ≡ F.file shelf.old name }
 
-    ensures possible { result ≢ Status.Usage → IsOfFiles result ⊎ IsOfOutside result }
+    ensures compile_possible { IfCompile (command_of (words_of words.now.items)) (λ program entries image. IsOfFiles result ⊎ IsOfOutside result) }
+    ensures sim_possible { IfSim (command_of (words_of words.now.items)) (λ image packets. IsOfSim result) }
 
     // With Done the image is that of a configuration whose chip run gives what the program gives, and the lines tell of it.
     ensures compiled { result ≡ Status.Done → IsTrue (F.told shelf.old) → IfCompile (command_of (words_of words.now.items)) (λ program entries image. (lines : List ℕ)
@@ -157,11 +134,23 @@ pub fn rmt<F: Shelf, O: Sink>(
         ⊎ ((lines : List ℕ) × Compiled (F.file shelf.old) (F.file shelf.new) program entries image lines)) }
 
     // What a sink gained: all of the text with Done and with a refusal of the texts, a front of it where the sink failed, else nothing.
-    ensures quiet { IsQuiet result → IsTrue (O.told out.old) → O.bytes out.new ≡ O.bytes out.old }
+    ensures quiet { (result ≡ Status.Usage) ⊎ (result ≡ Status.ReadFault) ⊎ (result ≡ Status.TooLong) → IsTrue (O.told out.old) → O.bytes out.new ≡ O.bytes out.old }
+    ensures compile_quiet { result ≡ Status.NoMemory → IsTrue (O.told out.old) → IfCompile (command_of (words_of words.now.items)) (λ program entries image. O.bytes out.new ≡ O.bytes out.old) }
     ensures bad_program_line { result ≡ Status.BadProgram → IsTrue (O.told out.old) → O.bytes out.new ≡ O.bytes out.old ++ bad_program_line }
     ensures bad_entries_line { result ≡ Status.BadEntries → IsTrue (O.told out.old) → O.bytes out.new ≡ O.bytes out.old ++ bad_entries_line }
     ensures front { result ≡ Status.WriteFault → IsTrue (F.told shelf.old) → IsTrue (O.told out.old) → IfCompile (command_of (words_of words.now.items)) (λ program entries image.
         (text : List ℕ) × Prints (F.file shelf.old) program entries text × GainsFront (O.bytes out.old) (O.bytes out.new) text) }
+
+    // With Done of sim the image is a spelling, the packet text has its form, and what is printed is the text of the chip run; a bad line
+    // has the answers before it and a last line, and a bad image its last line. Each answer has its cause in the files, and no file changes.
+    ensures sim_causes { IsTrue (F.told shelf.old) → IfSim (command_of (words_of words.now.items)) (λ image packets. SimCauses (F.file shelf.old) image packets result) }
+    ensures simulated { (result ≡ Status.Done) ⊎ (result ≡ Status.BadPackets) ⊎ (result ≡ Status.BadImage) → IsTrue (F.told shelf.old) → IsTrue (O.told out.old) →
+        IfSim (command_of (words_of words.now.items)) (λ image packets.
+        (text : List ℕ) × SimPrints (F.file shelf.old) image packets text × (O.bytes out.new ≡ O.bytes out.old ++ text)) }
+    ensures sim_absent { result ≡ Status.ReadFault → IsTrue (F.steady shelf.old) → IfSim (command_of (words_of words.now.items)) (λ image packets.
+        SimAbsent (F.file shelf.old) image packets) }
+    ensures sim_write_fault { result ≡ Status.WriteFault → IfSim (command_of (words_of words.now.items)) (λ image packets. Rose (O.faults out.old) (O.faults out.new)) }
+    ensures sim_files { IfSim (command_of (words_of words.now.items)) (λ image packets. (name : List ℕ) → F.file shelf.new name ≡ F.file shelf.old name) }
 {
     match command_from(words) {
         Command::Compile {
@@ -169,6 +158,7 @@ pub fn rmt<F: Shelf, O: Sink>(
             entries,
             image,
         } => compile(alloc, program, entries, image, shelf, out),
+        Command::Sim { image, packets } => simulate(alloc, image, packets, shelf, out),
         Command::Unknown => Status::Usage,
     }
 }

@@ -8,10 +8,10 @@ pub returns-in-Ok-make-clause-causes : goal.returns-in-Ok-make-clause-causes
 returns-in-Ok-make-clause-causes g c = λ told.
     causes_made _ _ _ c.deref.result.now c.deref-2.result.now _ _ _
     (record {
-      program_was = rw c.deref.ensures.value (c.in-Ok.ensures.program told);
-      program_fits = rw c.deref.ensures.value c.in-Ok.ensures.program_fits;
-      entries_were = rw c.deref-2.ensures.value (c.in-Ok.ensures.entries told);
-      entries_fit = rw c.deref-2.ensures.value c.in-Ok.ensures.entries_fit;
+      program_was = rw c.deref.ensures.value (c.in-Ok.ensures.first told);
+      program_fits = rw c.deref.ensures.value c.in-Ok.ensures.first_fits;
+      entries_were = rw c.deref-2.ensures.value (c.in-Ok.ensures.second told);
+      entries_fit = rw c.deref-2.ensures.value c.in-Ok.ensures.second_fits;
     })
     c.in-Ok-make.ensures.made c.deliver.ensures.status
 
@@ -19,10 +19,10 @@ pub returns-in-Err-BadProgram-clause-causes : goal.returns-in-Err-BadProgram-cla
 returns-in-Err-BadProgram-clause-causes g c = λ told.
     causes_bad_program _ _ _ c.deref.result.now c.deref-2.result.now _
     (record {
-      program_was = rw c.deref.ensures.value (c.in-Ok.ensures.program told);
-      program_fits = rw c.deref.ensures.value c.in-Ok.ensures.program_fits;
-      entries_were = rw c.deref-2.ensures.value (c.in-Ok.ensures.entries told);
-      entries_fit = rw c.deref-2.ensures.value c.in-Ok.ensures.entries_fit;
+      program_was = rw c.deref.ensures.value (c.in-Ok.ensures.first told);
+      program_fits = rw c.deref.ensures.value c.in-Ok.ensures.first_fits;
+      entries_were = rw c.deref-2.ensures.value (c.in-Ok.ensures.second told);
+      entries_fit = rw c.deref-2.ensures.value c.in-Ok.ensures.second_fits;
     })
     (c.in-Err-BadProgram.ensures.bad_program (ap Err c.in-Err-BadProgram.field-0-is)) c.end_with.ensures.status
 
@@ -30,10 +30,10 @@ pub returns-clause-causes : goal.returns-clause-causes
 returns-clause-causes g c = λ told.
     causes_bad_entries _ _ _ c.deref.result.now c.deref-2.result.now _
     (record {
-      program_was = rw c.deref.ensures.value (c.in-Ok.ensures.program told);
-      program_fits = rw c.deref.ensures.value c.in-Ok.ensures.program_fits;
-      entries_were = rw c.deref-2.ensures.value (c.in-Ok.ensures.entries told);
-      entries_fit = rw c.deref-2.ensures.value c.in-Ok.ensures.entries_fit;
+      program_was = rw c.deref.ensures.value (c.in-Ok.ensures.first told);
+      program_fits = rw c.deref.ensures.value c.in-Ok.ensures.first_fits;
+      entries_were = rw c.deref-2.ensures.value (c.in-Ok.ensures.second told);
+      entries_fit = rw c.deref-2.ensures.value c.in-Ok.ensures.second_fits;
     })
     (c.in-Err-BadEntries.ensures.bad_entries (ap Err c.in-Err-BadEntries.field-0-is)) c.end_with-in-Err-BadEntries.ensures.status
 
@@ -51,10 +51,10 @@ returns-in-Ok-make-clause-whole g c = λ e told safe.
       string_bytes c.in-Ok-make.made.lines,
       stands_whole _ _ _ _ _ c.deref.result.now c.deref-2.result.now _ _
           (record {
-            program_was = rw c.deref.ensures.value (c.in-Ok.ensures.program told);
-            program_fits = rw c.deref.ensures.value c.in-Ok.ensures.program_fits;
-            entries_were = rw c.deref-2.ensures.value (c.in-Ok.ensures.entries told);
-            entries_fit = rw c.deref-2.ensures.value c.in-Ok.ensures.entries_fit;
+            program_was = rw c.deref.ensures.value (c.in-Ok.ensures.first told);
+            program_fits = rw c.deref.ensures.value c.in-Ok.ensures.first_fits;
+            entries_were = rw c.deref-2.ensures.value (c.in-Ok.ensures.second told);
+            entries_fit = rw c.deref-2.ensures.value c.in-Ok.ensures.second_fits;
           })
           c.in-Ok-make.ensures.made (stands.1 (subst IsTrue (sym c.read_texts.ensures.tells) told)),
     ))
@@ -65,10 +65,10 @@ returns-in-Err-BadProgram-clause-front g c = λ e told tells. (
   _,
   prints_bad_program _ _ _ c.deref.result.now c.deref-2.result.now
       (record {
-        program_was = rw c.deref.ensures.value (c.in-Ok.ensures.program told);
-        program_fits = rw c.deref.ensures.value c.in-Ok.ensures.program_fits;
-        entries_were = rw c.deref-2.ensures.value (c.in-Ok.ensures.entries told);
-        entries_fit = rw c.deref-2.ensures.value c.in-Ok.ensures.entries_fit;
+        program_was = rw c.deref.ensures.value (c.in-Ok.ensures.first told);
+        program_fits = rw c.deref.ensures.value c.in-Ok.ensures.first_fits;
+        entries_were = rw c.deref-2.ensures.value (c.in-Ok.ensures.second told);
+        entries_fit = rw c.deref-2.ensures.value c.in-Ok.ensures.second_fits;
       })
       (c.in-Err-BadProgram.ensures.bad_program (ap Err c.in-Err-BadProgram.field-0-is)),
   c.end_with.ensures.front tells,
@@ -79,10 +79,10 @@ returns-clause-front g c = λ e told tells. (
   _,
   prints_bad_entries _ _ _ c.deref.result.now c.deref-2.result.now
       (record {
-        program_was = rw c.deref.ensures.value (c.in-Ok.ensures.program told);
-        program_fits = rw c.deref.ensures.value c.in-Ok.ensures.program_fits;
-        entries_were = rw c.deref-2.ensures.value (c.in-Ok.ensures.entries told);
-        entries_fit = rw c.deref-2.ensures.value c.in-Ok.ensures.entries_fit;
+        program_was = rw c.deref.ensures.value (c.in-Ok.ensures.first told);
+        program_fits = rw c.deref.ensures.value c.in-Ok.ensures.first_fits;
+        entries_were = rw c.deref-2.ensures.value (c.in-Ok.ensures.second told);
+        entries_fit = rw c.deref-2.ensures.value c.in-Ok.ensures.second_fits;
       })
       (c.in-Err-BadEntries.ensures.bad_entries (ap Err c.in-Err-BadEntries.field-0-is)),
   c.end_with-in-Err-BadEntries.ensures.front tells,
