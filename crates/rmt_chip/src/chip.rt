@@ -11,7 +11,7 @@ use crate::frame::Frame;
 use crate::open::all_places;
 use crate::out::Out;
 use crate::place::Place;
-use crate::ring::{place_of, PLACES};
+use crate::ring::{PLACES, place_of};
 use crate::seen::Seen;
 use rmt_bits::answer::{Counts, Verdict};
 use rmt_bits::sequence::Sequence;

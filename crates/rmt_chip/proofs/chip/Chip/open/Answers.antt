@@ -1,4 +1,4 @@
-use Rattle.std.proofs.Common.{◌≡◌, ℕ, [], refl, sym, ◌∙◌, arith}
+use Rattle.std.proofs.Common.{[], refl, sym, ◌∙◌, arith}
 use Rattle.rmt_chip.specs.Ring.{ring_at}
 use Rattle.rmt_chip.proofs.CountLaws.{counts_nothing}
 use Rattle.rmt_chip.proofs.FormedRuns.{runnable}
