@@ -99,5 +99,10 @@ pub within_limits : (es : List Effect) → length es ≤ 32 → IsWithinLimits (
 within_limits es few =
     let stages = length-stages_from 0 es in
     let nodes = length-nodes 0 es in
-    rw (le-ltb 32 (length (stages_from 0 es)) (omega arith), no_slots_hit 0 0 es, no_code_hit 0 0 es,
-      le-ltb 128 (length (flat_map (λ (stage : Stage). map node_of stage.units) (stages_from 0 es))) (omega arith), no_start_hit es few) refl
+    rw (
+      le-ltb 32 (length (stages_from 0 es)) (omega arith),
+      no_slots_hit 0 0 es,
+      no_code_hit 0 0 es,
+      le-ltb 128 (length (flat_map (λ (stage : Stage). map node_of stage.units) (stages_from 0 es))) (omega arith),
+      no_start_hit es few,
+    ) refl

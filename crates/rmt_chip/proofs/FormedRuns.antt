@@ -292,7 +292,7 @@ last_start ss d some e =
     rw (get_or-map (λ (s : Stage). s.start) ss (length ss - 1) d 0 below) fits
 
 upto_last : (ss : List Stage) → ((j k : ℕ) → j < k → k < length ss → start_of ss j < start_of ss k) → start_of ss (length ss - 1) ≤ 372
-  → (k : ℕ) → k < length ss → start_of ss k ≤ 372
+    → (k : ℕ) → k < length ss → start_of ss k ≤ 372
 upto_last ss rise last k lt =
     elim (cases_lt k (length ss - 1)) [
       | inl less ↦ let before : start_of ss k < start_of ss (length ss - 1) = rise k (length ss - 1) less (omega arith) in omega arith
@@ -300,7 +300,7 @@ upto_last ss rise last k lt =
     ]
 
 starts_end : (ss : List Stage) → ((j k : ℕ) → j < k → k < length ss → start_of ss j < start_of ss k) → last_start_hit ss ≡ None
-  → (k : ℕ) → k < length ss → start_of ss k ≤ 372
+    → (k : ℕ) → k < length ss → start_of ss k ≤ 372
 starts_end [] rise e k lt = absurd (omega (arith, lt))
 starts_end (s ∷ ss) rise e k lt = upto_last (s ∷ ss) rise (last_start (s ∷ ss) s (omega arith) e) k lt
 
