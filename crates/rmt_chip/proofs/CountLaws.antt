@@ -1,6 +1,6 @@
 -- A configuration that the chip runs counts nothing.
-use Rattle.std.proofs.Common.{◌≡◌, ℕ, suc, ◌+◌, ◌<◌, Bool, true, false, not, cond, ◌∷◌, arith, ◌&&◌, List, [], length, get_or, All, Option, refl, sym, ap, ◌∙◌, subst}
-use Rattle.std.specs.Prelude.{is_none, IsTrue}
+use Rattle.std.proofs.Common.{◌≡◌, ℕ, suc, Bool, true, false, not, cond, ◌∷◌, arith, ◌&&◌, List, [], get_or, All, Option, refl}
+use Rattle.std.specs.Prelude.{is_none}
 use Rattle.std.specs.List.{flat_map}
 use Rattle.std.proofs.lemmas.Bool.{false≢true}
 use Rattle.rmt_bits.specs.Packet.{Packet}

@@ -1,24 +1,23 @@
 -- A cycle of the chip against the chip run.
-use Rattle.std.proofs.Common.{◌≡◌, ◌≢◌, ℕ, zero, suc, ◌+◌, ◌-◌, ◌%◌, ◌<◌, ◌≤◌, Bool, true, false, cond, eqb, ltb, List, [], ◌∷◌, ◌++◌, length, get_or, set, drop, reverse, Option, Some, None, Vec, Global, refl, sym, ap, ◌∙◌, subst, inl, inr, ◌⊎◌, ⊎_elim, arith}
-use Rattle.std.specs.Prelude.{slice_index, slice_get, option_map, option_and_then, nat_lt, if◌then◌else◌}
+use Rattle.std.proofs.Common.{◌≡◌, ℕ, zero, suc, ◌+◌, ◌-◌, ◌<◌, ◌≤◌, Bool, true, false, cond, eqb, List, [], ◌∷◌, ◌++◌, length, get_or, drop, reverse, Option, Some, None, refl, sym, ap, ◌∙◌, subst, ⊎_elim, arith}
+use Rattle.std.specs.Prelude.{slice_index, slice_get, option_map, option_and_then}
 use Rattle.std.proofs.Math.Path.{fun_ext}
 use Rattle.std.proofs.lemmas.Bool.{cases_lt, lt-ltb, le-ltb}
-use Rattle.std.proofs.lemmas.List.{get_or-reverse, length-reverse, length_push, reverse-append}
+use Rattle.std.proofs.lemmas.List.{get_or-reverse, length-reverse, length_push}
 use Rattle.std.proofs.lemmas.Option.{slice_get-get_or, slice_get_past}
 use Rattle.rmt_bits.specs.Packet.{Packet}
 use Rattle.rmt_bits.specs.declared.answer.Verdict.{Verdict}
 use Rattle.rmt_config.specs.declared.config.Config.{Config}
-use Rattle.rmt_config.specs.declared.config.Stage.{Stage}
 use Rattle.rmt_config.specs.Life.{Look, Life, Words, Counted, lane_of, life_of}
 use Rattle.rmt_config.specs.Parser.{Parse, Short, Reject, Accept, parse, put}
 use Rattle.rmt_config.specs.ChipRun.{Outcome, finished, outcome_from, outcome_of, own_look, answer_at, latency_of}
 use Rattle.rmt_chip.specs.declared.place.Place.{Place}
 use Rattle.rmt_chip.specs.declared.place.Parsed.{Parsed}
-use Rattle.rmt_chip.specs.Held.{Carried, CarriedFor, Entered, Holds, HoldsIf, EnteredBy, EntersIf}
-use Rattle.rmt_chip.specs.Inputs.{entered_in, entered_at, numbered_as, packets_of}
+use Rattle.rmt_chip.specs.Held.{CarriedFor, Entered, HoldsIf, EntersIf}
+use Rattle.rmt_chip.specs.Inputs.{entered_in, entered_at, packets_of}
 use Rattle.rmt_chip.specs.Leaving.{Answers, AnswersIf, leaving, leaving_if, still}
 use Rattle.rmt_chip.proofs.LifeLaws.{Rise}
-use Rattle.rmt_chip.proofs.EnterLaws.{holds_entered, reverse_push}
+use Rattle.rmt_chip.proofs.EnterLaws.{holds_entered}
 
 pub holds_enters : (look : Look) (c : Config) → Rise c.stages → (e : Option Entered) (place : Place) → EntersIf c e place → HoldsIf look c e 0 0 0 place
 holds_enters look c rise None place h = h
@@ -37,7 +36,7 @@ finished_same : (c : Config) (payload : List ℕ) (words : Words) (life life' : 
 finished_same c payload words life life' e e' = rw (e, e') (one_of (eqb (lane_of words c.drop) 1) _ _ _ _ life.counted life'.counted)
 
 leaving_for : (look : Look) (c : Config) (packet : Packet) (place : Place) → place.frame.items ≡ packet.frame → (p : Parse)
-  → CarriedFor look c packet (latency_of c.stages) (latency_of c.stages) (latency_of c.stages) place p → SameAnswer (leaving c place place.parsed) (outcome_from look c packet p)
+    → CarriedFor look c packet (latency_of c.stages) (latency_of c.stages) (latency_of c.stages) place p → SameAnswer (leaving c place place.parsed) (outcome_from look c packet p)
 leaving_for look c packet place f Short held = subst (λ (x : Parsed). SameAnswer (leaving c place x) (outcome_from look c packet Short)) (sym held.0) (record { verdicts = refl; bytes = refl })
 leaving_for look c packet place f Reject held = subst (λ (x : Parsed). SameAnswer (leaving c place x) (outcome_from look c packet Reject)) (sym held.0) (record { verdicts = refl; bytes = refl })
 leaving_for look c packet place f (Accept vector used) held =
@@ -52,8 +51,8 @@ same_answers a b answer bytes s h = record { verdict_is = h.verdict_is ∙ s.ver
 
 -- what leaves a place is the outcome of the packet that it holds
 pub leaves_right : (c : Config) (look : Look) (item : Option Entered) (place : Place) (answer : Option Verdict) (bytes : List ℕ)
-  → HoldsIf look c item (latency_of c.stages) (latency_of c.stages) (latency_of c.stages) place → AnswersIf (leaving_if c place place.taken) answer bytes
-  → AnswersIf (option_map (λ (e : Entered). outcome_of look c e.packet) item) answer bytes
+    → HoldsIf look c item (latency_of c.stages) (latency_of c.stages) (latency_of c.stages) place → AnswersIf (leaving_if c place place.taken) answer bytes
+    → AnswersIf (option_map (λ (e : Entered). outcome_of look c e.packet) item) answer bytes
 leaves_right c look None place answer bytes held left = subst (λ (b : Bool). AnswersIf (leaving_if c place b) answer bytes) held left
 leaves_right c look (Some e) place None bytes held left = absurd (let h : AnswersIf (leaving_if c place true) None bytes = subst (λ (b : Bool). AnswersIf (leaving_if c place b) None bytes) held.taken left in h)
 leaves_right c look (Some e) place (Some answer) bytes held left =
@@ -82,7 +81,7 @@ from_back {A} xs n k full h = at xs full
         ∙ sym (slice_get-get_or all (n - k) y there)
 
 pub answer_entered : (c : Config) (inputs : List (Option Packet)) (input : Option Packet)
-  → answer_at c (inputs ++ input ∷ []) (length inputs) ≡ option_map (λ (e : Entered). outcome_of (own_look c) c e.packet) (entered_at (inputs ++ input ∷ []) (latency_of c.stages))
+    → answer_at c (inputs ++ input ∷ []) (length inputs) ≡ option_map (λ (e : Entered). outcome_of (own_look c) c e.packet) (entered_at (inputs ++ input ∷ []) (latency_of c.stages))
 answer_entered c inputs input =
     let l = latency_of c.stages in
     let n = length inputs in
@@ -91,12 +90,12 @@ answer_entered c inputs input =
     let full : length xs ≡ n + 1 = length_push inputs input in
     ⊎_elim
     (λ (h : n < l).
-        let past : slice_get (reverse xs) l ≡ None = slice_get_past (reverse xs) l (omega (arith, length-reverse xs)) in
-        ap (λ (b : Bool). cond b None (option_and_then (λ (i : Option Packet). option_map f i) (slice_get xs (n - l)))) (lt-ltb n l h)
-        ∙ sym (entered_packet f (reverse xs) l ∙ ap (option_and_then (λ (i : Option Packet). option_map f i)) past))
+    let past : slice_get (reverse xs) l ≡ None = slice_get_past (reverse xs) l (omega (arith, length-reverse xs)) in
+    ap (λ (b : Bool). cond b None (option_and_then (λ (i : Option Packet). option_map f i) (slice_get xs (n - l)))) (lt-ltb n l h)
+    ∙ sym (entered_packet f (reverse xs) l ∙ ap (option_and_then (λ (i : Option Packet). option_map f i)) past))
     (λ (h : l ≤ n).
-        ap (λ (b : Bool). cond b None (option_and_then (λ (i : Option Packet). option_map f i) (slice_get xs (n - l)))) (le-ltb n l h)
-        ∙ sym (entered_packet f (reverse xs) l ∙ ap (option_and_then (λ (i : Option Packet). option_map f i)) (from_back xs n l full h)))
+    ap (λ (b : Bool). cond b None (option_and_then (λ (i : Option Packet). option_map f i) (slice_get xs (n - l)))) (le-ltb n l h)
+    ∙ sym (entered_packet f (reverse xs) l ∙ ap (option_and_then (λ (i : Option Packet). option_map f i)) (from_back xs n l full h)))
     (cases_lt n l)
 
 pub packets_more : (inputs : List (Option Packet)) → packets_of (None ∷ inputs) ≡ packets_of inputs

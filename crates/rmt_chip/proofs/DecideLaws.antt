@@ -1,17 +1,15 @@
 -- One more unit of a stage.
-use Rattle.std.proofs.Common.{◌≡◌, ◌≢◌, ℕ, zero, suc, ◌+◌, ◌<◌, ◌≤◌, Bool, true, false, cond, not, eqb, ◌&&◌, List, [], ◌∷◌, ◌++◌, length, get_or, set, take, map, reverse, Option, Some, None, All, refl, sym, ap, ◌∙◌, subst, arith}
-use Rattle.std.specs.Prelude.{fold, is_none, IsTrue, slice_index, slice_set}
-use Rattle.std.proofs.lemmas.List.{take_more, map_push, reverse-append}
+use Rattle.std.proofs.Common.{◌≡◌, ℕ, ◌+◌, ◌<◌, Bool, true, false, cond, not, eqb, ◌&&◌, List, [], ◌∷◌, ◌++◌, length, get_or, set, take, map, reverse, Option, Some, None, refl, sym, ap, ◌∙◌}
+use Rattle.std.specs.Prelude.{fold, is_none}
+use Rattle.std.proofs.lemmas.List.{map_push, reverse-append}
 use Rattle.std.proofs.lemmas.List.Sums.{fold_more}
 use Rattle.std.proofs.lemmas.Bool.{false≢true}
 use Rattle.rmt_config.specs.declared.config.Stage.{Stage}
 use Rattle.rmt_config.specs.declared.config.Unit.{Unit}
-use Rattle.rmt_config.specs.declared.config.Unit.TheVariants.{Gate, Slot}
+use Rattle.rmt_config.specs.declared.config.Unit.TheVariants.{Slot}
 use Rattle.rmt_config.specs.declared.config.SlotUnit.{SlotUnit}
 use Rattle.rmt_config.specs.declared.config.UnitGuard.{UnitGuard}
-use Rattle.rmt_config.specs.declared.config.Memory.{Memory}
-use Rattle.rmt_config.specs.declared.config.Memory.TheVariants.{Without, Exact, Ternary}
-use Rattle.rmt_config.specs.Life.{Words, Look, Acts, Running, unit_acts, acts_of, has_memory, guarded, looked_up, slot_acts, code_at, key_of}
+use Rattle.rmt_config.specs.Life.{Words, Look, Acts, Running, unit_acts, has_memory, guarded, looked_up, slot_acts, code_at, key_of}
 use Rattle.rmt_config.specs.Cells.{Found}
 use Rattle.rmt_chip.specs.Runnable.{is_plain}
 use Rattle.rmt_chip.specs.Writes.{run_of, runs_of, Decides}
@@ -42,11 +40,11 @@ not_true true h = absurd (false≢true h)
 not_true false h = refl
 
 settle : (stage : Stage) (slot : SlotUnit) (a : Acts) (open' free last : Bool) (found : Option Found) → open' ≡ true → found ≡ None → slot.last ≡ last
-  → cond (open' && free) (slot_acts stage slot found a) a
+    → cond (open' && free) (slot_acts stage slot found a) a
     ≡ record a {
-        outcomes = cond (last && free) (set a.outcomes slot.node 1) a.outcomes;
-        running = cond (last && free) (record { ops = code_at stage (a.base + slot.actions); held = 0 } ∷ a.running) a.running;
-      }
+      outcomes = cond (last && free) (set a.outcomes slot.node 1) a.outcomes;
+      running = cond (last && free) (record { ops = code_at stage (a.base + slot.actions); held = 0 } ∷ a.running) a.running;
+    }
 settle stage slot a open' true true found o f e = rw (o, f, e) refl
 settle stage slot a open' true false found o f e = rw (o, f, e) refl
 settle stage slot a open' false true found o f e = rw o refl
@@ -54,14 +52,14 @@ settle stage slot a open' false false found o f e = rw o refl
 
 -- a plain slot, done
 pub after_slot : (look : Look) (k : ℕ) (stage : Stage) (words : Words) (a : Acts) (slot : SlotUnit) → is_plain (Slot slot) ≡ true
-  → unit_acts look k stage words a (Slot slot)
+    → unit_acts look k stage words a (Slot slot)
     ≡ record {
-        outcomes = cond (defaults slot a.outcomes) (set a.outcomes slot.node 1) a.outcomes;
-        running = cond (defaults slot a.outcomes) (record { ops = code_at stage (a.base + slot.actions); held = 0 } ∷ a.running) a.running;
-        counted = a.counted;
-        base = a.base + slot.actions + 1;
-        place = a.place + 1;
-      }
+      outcomes = cond (defaults slot a.outcomes) (set a.outcomes slot.node 1) a.outcomes;
+      running = cond (defaults slot a.outcomes) (record { ops = code_at stage (a.base + slot.actions); held = 0 } ∷ a.running) a.running;
+      counted = a.counted;
+      base = a.base + slot.actions + 1;
+      place = a.place + 1;
+    }
 after_slot look k stage words a slot h =
     let one = both_true (is_none slot.guard) (not slot.counted && not (has_memory slot.memory)) h in
     let two = both_true (not slot.counted) (not (has_memory slot.memory)) one.1 in
@@ -77,9 +75,9 @@ runs_of_push stage running n =
 
 -- a slot that runs its default
 pub deciding_runs : (look : Look) (k : ℕ) (stage : Stage) (words : Words) (units : List Unit) (i : ℕ) (slot : SlotUnit) (d : Unit) (before outcomes running : List ℕ) (base : ℕ)
-  → i < length units → get_or units i d ≡ Slot slot → is_plain (Slot slot) ≡ true → defaults slot outcomes ≡ true
-  → Deciding look k stage words (take i units) before outcomes running base
-  → Deciding look k stage words (take (i + 1) units) before (set outcomes slot.node 1) (running ++ (base + slot.actions) ∷ []) (base + slot.actions + 1)
+    → i < length units → get_or units i d ≡ Slot slot → is_plain (Slot slot) ≡ true → defaults slot outcomes ≡ true
+    → Deciding look k stage words (take i units) before outcomes running base
+    → Deciding look k stage words (take (i + 1) units) before (set outcomes slot.node 1) (running ++ (base + slot.actions) ∷ []) (base + slot.actions + 1)
 deciding_runs look k stage words units i slot d before outcomes running base h is plain runs_it was =
     let a = fold (unit_acts look k stage words) (no_acts before) (take i units) in
     let o = was.decides.outcomes_are in
@@ -89,10 +87,10 @@ deciding_runs look k stage words units i slot d before outcomes running base h i
       decides = record {
         outcomes_are = sym (ap (λ (x : Acts). x.outcomes) more ∙ ap (λ (b : Bool). cond b (set a.outcomes slot.node 1) a.outcomes) test ∙ ap (λ (os : List ℕ). set os slot.node 1) (sym o));
         running_are =
-          runs_of_push stage running (base + slot.actions)
-          ∙ ap (λ (n : ℕ). record { ops = code_at stage (n + slot.actions); held = 0 } ∷ runs_of stage.code running) was.base_is
-          ∙ ap (λ (rs : List Running). record { ops = code_at stage (a.base + slot.actions); held = 0 } ∷ rs) was.decides.running_are
-          ∙ sym (ap (λ (x : Acts). x.running) more ∙ ap (λ (b : Bool). cond b (record { ops = code_at stage (a.base + slot.actions); held = 0 } ∷ a.running) a.running) test);
+            runs_of_push stage running (base + slot.actions)
+            ∙ ap (λ (n : ℕ). record { ops = code_at stage (n + slot.actions); held = 0 } ∷ runs_of stage.code running) was.base_is
+            ∙ ap (λ (rs : List Running). record { ops = code_at stage (a.base + slot.actions); held = 0 } ∷ rs) was.decides.running_are
+            ∙ sym (ap (λ (x : Acts). x.running) more ∙ ap (λ (b : Bool). cond b (record { ops = code_at stage (a.base + slot.actions); held = 0 } ∷ a.running) a.running) test);
         uncounted = ap (λ (x : Acts). x.counted) more ∙ was.decides.uncounted;
       };
       base_is = ap (λ (n : ℕ). n + slot.actions + 1) was.base_is ∙ sym (ap (λ (x : Acts). x.base) more);
@@ -100,9 +98,9 @@ deciding_runs look k stage words units i slot d before outcomes running base h i
 
 -- a slot that runs nothing
 pub deciding_rests : (look : Look) (k : ℕ) (stage : Stage) (words : Words) (units : List Unit) (i : ℕ) (slot : SlotUnit) (d : Unit) (before outcomes running : List ℕ) (base : ℕ)
-  → i < length units → get_or units i d ≡ Slot slot → is_plain (Slot slot) ≡ true → defaults slot outcomes ≡ false
-  → Deciding look k stage words (take i units) before outcomes running base
-  → Deciding look k stage words (take (i + 1) units) before outcomes running (base + slot.actions + 1)
+    → i < length units → get_or units i d ≡ Slot slot → is_plain (Slot slot) ≡ true → defaults slot outcomes ≡ false
+    → Deciding look k stage words (take i units) before outcomes running base
+    → Deciding look k stage words (take (i + 1) units) before outcomes running (base + slot.actions + 1)
 deciding_rests look k stage words units i slot d before outcomes running base h is plain runs_it was =
     let a = fold (unit_acts look k stage words) (no_acts before) (take i units) in
     let o = was.decides.outcomes_are in
@@ -126,10 +124,10 @@ deciding_none look k stage words units outcomes running h = record {
 
 -- one more unit, whether or not it runs its default
 pub deciding_more : (look : Look) (k : ℕ) (stage : Stage) (words : Words) (units : List Unit) (i : ℕ) (slot : SlotUnit) (d : Unit) (before outcomes running : List ℕ) (base : ℕ) (ran : Bool) (outcomes' running' : List ℕ) (base' : ℕ)
-  → i < length units → get_or units i d ≡ Slot slot → is_plain (Slot slot) ≡ true → defaults slot outcomes ≡ ran
-  → outcomes' ≡ cond ran (set outcomes slot.node 1) outcomes → running' ≡ cond ran (running ++ (base + slot.actions) ∷ []) running → base' ≡ base + slot.actions + 1
-  → Deciding look k stage words (take i units) before outcomes running base
-  → Deciding look k stage words (take (i + 1) units) before outcomes' running' base'
+    → i < length units → get_or units i d ≡ Slot slot → is_plain (Slot slot) ≡ true → defaults slot outcomes ≡ ran
+    → outcomes' ≡ cond ran (set outcomes slot.node 1) outcomes → running' ≡ cond ran (running ++ (base + slot.actions) ∷ []) running → base' ≡ base + slot.actions + 1
+    → Deciding look k stage words (take i units) before outcomes running base
+    → Deciding look k stage words (take (i + 1) units) before outcomes' running' base'
 deciding_more look k stage words units i slot d before outcomes running base true outcomes' running' base' h is plain test o r b was =
     rw (o, r, b) (deciding_runs look k stage words units i slot d before outcomes running base h is plain test was)
 deciding_more look k stage words units i slot d before outcomes running base false outcomes' running' base' h is plain test o r b was =

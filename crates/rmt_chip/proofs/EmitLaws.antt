@@ -1,5 +1,5 @@
 -- The lanes of a header, one after another.
-use Rattle.std.proofs.Common.{◌≡◌, ℕ, zero, suc, replicate, ◌+◌, ◌-◌, ◌*◌, ◌/◌, ◌%◌, ◌^◌, ◌<◌, ◌≤◌, List, length, get_or, take, map, sum, refl, sym, ap, ◌∙◌, arith}
+use Rattle.std.proofs.Common.{◌≡◌, ℕ, zero, suc, replicate, ◌+◌, ◌-◌, ◌*◌, ◌/◌, ◌%◌, ◌^◌, ◌<◌, ◌≤◌, List, length, get_or, take, refl, sym, ap, ◌∙◌, arith}
 use Rattle.std.specs.List.{sum_by}
 use Rattle.std.proofs.lemmas.List.Sums.{sum_by_more, sum_by-take-le, sum-map, fold_more}
 use Rattle.std.proofs.lemmas.Nat.{pow_pos, pow-add, shr_high, mod_low}
@@ -21,7 +21,7 @@ pub key_bits-le : (lanes : List Lane) (i : ℕ) → key_bits (take i lanes) ≤ 
 key_bits-le lanes i = let a = bits_sum (take i lanes) in let b = bits_sum lanes in let c = sum_by-take-le (λ (l : Lane). l.len) lanes i in omega arith
 
 pub key_of_more : (words : Words) (lanes : List Lane) (i : ℕ) (d : Lane) → i < length lanes
-  → key_of words (take (i + 1) lanes) ≡ 2 ^ (get_or lanes i d).len * key_of words (take i lanes) + lane_of words (get_or lanes i d)
+    → key_of words (take (i + 1) lanes) ≡ 2 ^ (get_or lanes i d).len * key_of words (take i lanes) + lane_of words (get_or lanes i d)
 key_of_more words lanes i d h = fold_more (λ n (lane : Lane). 2 ^ lane.len * n + lane_of words lane) 0 lanes i d h
 
 -- a deposit below the bits so far
@@ -36,7 +36,7 @@ deposit_below n k low len x e h =
 
 -- one more piece in a header's bytes
 pub filled_more : (n n' k at len x size : ℕ) → n ≡ k * 2 ^ (size - at) → at + len ≤ size → x < 2 ^ len → n' ≡ deposit n (size - (at + len)) len x
-  → n' ≡ (2 ^ len * k + x) * 2 ^ (size - (at + len))
+    → n' ≡ (2 ^ len * k + x) * 2 ^ (size - (at + len))
 filled_more n n' k at len x size was within small put =
     let low = size - (at + len) in
     let split : size - at ≡ low + len = omega arith in

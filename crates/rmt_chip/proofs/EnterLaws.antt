@@ -1,5 +1,5 @@
 -- A packet that has just entered, and the ring one cycle later.
-use Rattle.std.proofs.Common.{◌≡◌, ◌≢◌, ℕ, zero, suc, ◌+◌, ◌-◌, ◌%◌, ◌<◌, ◌≤◌, Bool, true, false, List, [], ◌∷◌, ◌++◌, length, get_or, set, take, reverse, Option, Some, None, refl, sym, ap, ◌∙◌, subst, inl, inr, ◌⊎◌, ⊎_elim, arith}
+use Rattle.std.proofs.Common.{◌≡◌, ◌≢◌, ℕ, zero, suc, ◌+◌, ◌-◌, ◌%◌, ◌<◌, ◌≤◌, List, [], ◌∷◌, ◌++◌, length, get_or, set, take, reverse, Option, sym, ap, ◌∙◌, subst, ⊎_elim, arith}
 use Rattle.std.specs.Prelude.{slice_index, replicate}
 use Rattle.std.proofs.lemmas.List.{get_or-set_same, get_or-set_other, reverse-append}
 use Rattle.std.proofs.lemmas.Bool.{cases_eq}
@@ -17,7 +17,7 @@ use Rattle.rmt_chip.specs.Inputs.{entered_in, entered_at, numbered}
 use Rattle.rmt_chip.proofs.LifeLaws.{Rise, word_first}
 
 carried_first : (look : Look) (stages : List Stage) (vector : List ℕ) → Rise stages → (place : Place) → length place.vector ≡ 224 → place.vector ≡ vector → place.outcomes ≡ replicate 256 0
-  → Carried look stages vector 0 0 0 place
+    → Carried look stages vector 0 0 0 place
 carried_first look stages vector rise place whole v o = record {
   all_words = whole;
   words = λ w. ap (λ (ws : List ℕ). slice_index ws w) v ∙ sym (word_first look stages vector w rise);
@@ -45,26 +45,26 @@ holds_entered look c rise e place h = record {
 
 -- one cycle later each packet is one cycle older
 pub ring_turns : (look : Look) (c : Config) (item item' : ℕ → Option Entered) (newest newest' : ℕ) (places : List Place) (new : Place) → newest < 385 → length places ≡ 385 → newest' ≡ (newest + 1) % 385
-  → ((t : ℕ) → item' (t + 1) ≡ item t) → HoldsIf look c (item' 0) 0 0 0 new
-  → AllHold look c item now now now newest places → AllHold look c item' past past past newest' (set places newest' new)
+    → ((t : ℕ) → item' (t + 1) ≡ item t) → HoldsIf look c (item' 0) 0 0 0 new
+    → AllHold look c item now now now newest places → AllHold look c item' past past past newest' (set places newest' new)
 ring_turns look c item item' newest newest' places new ring full turned older first was t d h =
     ⊎_elim
     (λ (e : t ≡ 0).
-        let at : ring_at newest' t ≡ newest' = omega arith in
-        let inside : newest' < length places = omega arith in
-        let place : get_or (set places newest' new) (ring_at newest' t) d ≡ new = ap (λ n. get_or (set places newest' new) n d) at ∙ get_or-set_same places newest' new d inside in
-        let age : past t ≡ 0 = omega arith in
-        subst (λ (p : Place). HoldsIf look c (item' t) (past t) (past t) (past t) p) (sym place)
-        (subst (λ n. HoldsIf look c (item' t) n n n new) (sym age) (subst (λ n. HoldsIf look c (item' n) 0 0 0 new) (sym e) first)))
+    let at : ring_at newest' t ≡ newest' = omega arith in
+    let inside : newest' < length places = omega arith in
+    let place : get_or (set places newest' new) (ring_at newest' t) d ≡ new = ap (λ n. get_or (set places newest' new) n d) at ∙ get_or-set_same places newest' new d inside in
+    let age : past t ≡ 0 = omega arith in
+    subst (λ (p : Place). HoldsIf look c (item' t) (past t) (past t) (past t) p) (sym place)
+    (subst (λ n. HoldsIf look c (item' t) n n n new) (sym age) (subst (λ n. HoldsIf look c (item' n) 0 0 0 new) (sym e) first)))
     (λ (apart : t ≢ 0).
-        let back : t ≡ t - 1 + 1 = omega arith in
-        let at : ring_at newest' t ≡ ring_at newest (t - 1) = omega arith in
-        let other : ring_at newest' t ≢ newest' = omega arith in
-        let place : get_or (set places newest' new) (ring_at newest' t) d ≡ get_or places (ring_at newest (t - 1)) d =
-            get_or-set_other places newest' (ring_at newest' t) new d other ∙ ap (λ n. get_or places n d) at in
-        let same : item' t ≡ item (t - 1) = ap item' back ∙ older (t - 1) in
-        subst (λ (p : Place). HoldsIf look c (item' t) (past t) (past t) (past t) p) (sym place)
-        (subst (λ (o : Option Entered). HoldsIf look c o (t - 1) (t - 1) (t - 1) (get_or places (ring_at newest (t - 1)) d)) (sym same) (was (t - 1) d (omega arith))))
+    let back : t ≡ t - 1 + 1 = omega arith in
+    let at : ring_at newest' t ≡ ring_at newest (t - 1) = omega arith in
+    let other : ring_at newest' t ≢ newest' = omega arith in
+    let place : get_or (set places newest' new) (ring_at newest' t) d ≡ get_or places (ring_at newest (t - 1)) d =
+    get_or-set_other places newest' (ring_at newest' t) new d other ∙ ap (λ n. get_or places n d) at in
+    let same : item' t ≡ item (t - 1) = ap item' back ∙ older (t - 1) in
+    subst (λ (p : Place). HoldsIf look c (item' t) (past t) (past t) (past t) p) (sym place)
+    (subst (λ (o : Option Entered). HoldsIf look c o (t - 1) (t - 1) (t - 1) (get_or places (ring_at newest (t - 1)) d)) (sym same) (was (t - 1) d (omega arith))))
     (cases_eq t 0)
 
 pub reverse_push : {A : Type 0} (xs : List A) (x : A) → reverse (xs ++ x ∷ []) ≡ x ∷ reverse xs

@@ -1,18 +1,18 @@
 -- What a place holds, from one age to the next.
-use Rattle.std.proofs.Common.{◌≡◌, ◌≢◌, ℕ, zero, suc, ◌+◌, ◌-◌, ◌<◌, ◌≤◌, Bool, true, false, cond, List, [], ◌∷◌, length, get_or, Option, Some, None, refl, sym, ap, ◌∙◌, subst, inl, inr, ◌⊎◌, ⊎_elim, arith}
+use Rattle.std.proofs.Common.{◌≡◌, ◌≢◌, ℕ, ◌+◌, ◌<◌, ◌≤◌, true, List, [], ◌∷◌, length, get_or, Option, sym, ap, ◌∙◌, subst, ⊎_elim, arith}
 use Rattle.std.specs.Prelude.{unwrap_or, slice_index, slice_get, option_map}
 use Rattle.std.proofs.Common.{Vec, Global}
 use Rattle.std.proofs.Math.Path.{fun_ext}
 use Rattle.std.proofs.lemmas.List.{get_or_default}
 use Rattle.std.proofs.lemmas.Bool.{cases_lt, cases_eq}
 use Rattle.rmt_config.specs.declared.config.Stage.{Stage}
-use Rattle.rmt_config.specs.Life.{Words, Look, Life, Acts, Running, life_of, acts_of, word_after}
+use Rattle.rmt_config.specs.Life.{Look, Acts, Running, life_of, acts_of, word_after}
 use Rattle.rmt_chip.specs.declared.place.Place.{Place}
 use Rattle.rmt_chip.specs.declared.write.Write.{Write}
 use Rattle.rmt_chip.specs.Runnable.{start_of}
 use Rattle.rmt_chip.specs.Lives.{upto, acts_at}
-use Rattle.rmt_chip.specs.Writes.{last_on, applied, runs_of, Decides}
-use Rattle.rmt_chip.specs.Held.{is_accepted, due_at, Carried, ReadBy, WrittenBy, DecidedBy, SamePacket}
+use Rattle.rmt_chip.specs.Writes.{last_on, applied, runs_of}
+use Rattle.rmt_chip.specs.Held.{is_accepted, due_at, Carried, ReadBy, DecidedBy}
 use Rattle.rmt_chip.proofs.LifeLaws.{Rise, word_written, word_unwritten, outcomes_more}
 use Rattle.rmt_chip.proofs.WriteLaws.{applied-word, length-applied}
 
@@ -24,8 +24,8 @@ due_same : (old new : Place) → new.due ≡ old.due → (k : ℕ) → due_at ne
 due_same old new e k = ap (λ (d : (Vec (Vec Write Global) Global)). unwrap_or (option_map (λ (v : Vec Write Global). v.items) (slice_get d.items k)) []) e
 
 pub carried_write : (look : Look) (stages : List Stage) (vector : List ℕ) → Rise stages → (k t : ℕ) (old new : Place) → k < length stages → start_of stages k + 12 ≡ t + 1
-  → new.vector ≡ applied (due_at old k) old.vector → new.outcomes ≡ old.outcomes → new.running ≡ old.running → new.due ≡ old.due
-  → Carried look stages vector t t t old → Carried look stages vector (t + 1) t t new
+    → new.vector ≡ applied (due_at old k) old.vector → new.outcomes ≡ old.outcomes → new.running ≡ old.running → new.due ≡ old.due
+    → Carried look stages vector t t t old → Carried look stages vector (t + 1) t t new
 carried_write look stages vector rise k t old new inside at v o r du held =
     let whole = life_of look stages vector in
     let s = start_of stages k in
@@ -51,7 +51,7 @@ carried_write look stages vector rise k t old new inside at v o r du held =
     first (x ∷ xs) h = x
 
 pub carried_write_none : (look : Look) (stages : List Stage) (vector : List ℕ) (t : ℕ) (place : Place) → NoneAt stages 12 (t + 1)
-  → Carried look stages vector t t t place → Carried look stages vector (t + 1) t t place
+    → Carried look stages vector t t t place → Carried look stages vector (t + 1) t t place
 carried_write_none look stages vector t place none held = record {
   all_words = held.all_words;
   words = λ w. held.words w ∙ sym (word_unwritten look stages vector t w none);
@@ -68,8 +68,8 @@ starts_differ stages rise j k hj hk apart e =
     (cases_lt j k)
 
 pub carried_read : (look : Look) (stages : List Stage) (vector : List ℕ) → Rise stages → (k t : ℕ) (stage : Stage) (old new : Place) → k < length stages → get_or stages k stage ≡ stage → start_of stages k + 9 ≡ t + 1
-  → ReadBy k stage old new → is_accepted old.parsed ≡ true
-  → Carried look stages vector (t + 1) t t old → Carried look stages vector (t + 1) (t + 1) t new
+    → ReadBy k stage old new → is_accepted old.parsed ≡ true
+    → Carried look stages vector (t + 1) t t old → Carried look stages vector (t + 1) (t + 1) t new
 carried_read look stages vector rise k t stage old new inside is at reads accepted held =
     let whole = life_of look stages vector in
     let s = start_of stages k in
@@ -79,24 +79,24 @@ carried_read look stages vector rise k t stage old new inside is at reads accept
       due = λ j d b early late w.
           ⊎_elim
           (λ (e : j ≡ k).
-              let same : get_or stages j d ≡ stage = ap (λ n. get_or stages n d) e ∙ get_or_default stages k d stage inside ∙ is in
-              let words : (λ v. slice_index old.vector v) ≡ whole.word (start_of stages j + 9) =
-                  fun_ext held.words ∙ ap whole.word (sym at ∙ ap (λ n. start_of stages n + 9) (sym e)) in
-              let run : runs_of stage.code old.running.items ≡ (acts_at look stages vector j (get_or stages j d)).running =
-                  ap (λ (x : Stage). runs_of x.code old.running.items) (sym same) ∙ held.running j d b (let m : start_of stages j + 8 ≡ t = omega (arith, ap (start_of stages) e) in m) in
-              ap (λ n. last_on (due_at new n) w) e ∙ reads.read accepted w
-              ∙ ap (λ (rs : List Running). word_after rs (λ v. slice_index old.vector v) w) run
-              ∙ ap (λ (ws : ℕ → ℕ). word_after (acts_at look stages vector j (get_or stages j d)).running ws w) words)
+          let same : get_or stages j d ≡ stage = ap (λ n. get_or stages n d) e ∙ get_or_default stages k d stage inside ∙ is in
+          let words : (λ v. slice_index old.vector v) ≡ whole.word (start_of stages j + 9) =
+          fun_ext held.words ∙ ap whole.word (sym at ∙ ap (λ n. start_of stages n + 9) (sym e)) in
+          let run : runs_of stage.code old.running.items ≡ (acts_at look stages vector j (get_or stages j d)).running =
+          ap (λ (x : Stage). runs_of x.code old.running.items) (sym same) ∙ held.running j d b (let m : start_of stages j + 8 ≡ t = omega (arith, ap (start_of stages) e) in m) in
+          ap (λ n. last_on (due_at new n) w) e ∙ reads.read accepted w
+          ∙ ap (λ (rs : List Running). word_after rs (λ v. slice_index old.vector v) w) run
+          ∙ ap (λ (ws : ℕ → ℕ). word_after (acts_at look stages vector j (get_or stages j d)).running ws w) words)
           (λ (apart : j ≢ k).
-              let differ : start_of stages j ≢ s = starts_differ stages rise j k b inside apart in
-              ap (λ (x : List Write). last_on x w) (reads.others j apart) ∙ held.due j d b (omega arith) late w)
+          let differ : start_of stages j ≢ s = starts_differ stages rise j k b inside apart in
+          ap (λ (x : List Write). last_on x w) (reads.others j apart) ∙ held.due j d b (omega arith) late w)
           (cases_eq j k);
       running = λ j d b e. ap (λ (x : Vec ℕ Global). runs_of (get_or stages j d).code x.items) reads.running ∙ held.running j d b e;
       outcomes = λ j b before after. reads.outcomes ∙ held.outcomes j b before after;
     }
 
 pub carried_read_none : (look : Look) (stages : List Stage) (vector : List ℕ) (t : ℕ) (place : Place) → NoneAt stages 9 (t + 1)
-  → Carried look stages vector (t + 1) t t place → Carried look stages vector (t + 1) (t + 1) t place
+    → Carried look stages vector (t + 1) t t place → Carried look stages vector (t + 1) (t + 1) t place
 carried_read_none look stages vector t place none held = record {
   all_words = held.all_words;
   words = held.words;
@@ -106,17 +106,17 @@ carried_read_none look stages vector t place none held = record {
 }
 
 pub carried_act : (look : Look) (stages : List Stage) (vector : List ℕ) → Rise stages → (k t : ℕ) (stage : Stage) (old new : Place) → k < length stages → get_or stages k stage ≡ stage → start_of stages k + 8 ≡ t + 1
-  → DecidedBy stage old new → is_accepted old.parsed ≡ true
-  → Carried look stages vector (t + 1) (t + 1) t old → Carried look stages vector (t + 1) (t + 1) (t + 1) new
+    → DecidedBy stage old new → is_accepted old.parsed ≡ true
+    → Carried look stages vector (t + 1) (t + 1) t old → Carried look stages vector (t + 1) (t + 1) (t + 1) new
 unfolding acts_at
 carried_act look stages vector rise k t stage old new inside is at acts accepted held =
     let lives = upto look stages vector in
     let s = start_of stages k in
     let before : old.outcomes ≡ (lives k).outcomes =
-        held.outcomes k (omega arith) (λ j h. let less : start_of stages j < s = rise j k h inside in omega arith) (λ _. omega arith) in
+    held.outcomes k (omega arith) (λ j h. let less : start_of stages j < s = rise j k h inside in omega arith) (λ _. omega arith) in
     let decides = acts.decided accepted look k ((lives k).word stage.start) in
     let whole : acts_of look k stage ((lives k).word stage.start) old.outcomes ≡ acts_at look stages vector k stage =
-        ap (λ (os : List ℕ). acts_of look k stage ((lives k).word stage.start) os) before in
+    ap (λ (os : List ℕ). acts_of look k stage ((lives k).word stage.start) os) before in
     record {
       all_words = ap length acts.vector ∙ held.all_words;
       words = λ w. ap (λ (ws : List ℕ). slice_index ws w) acts.vector ∙ held.words w;
@@ -145,7 +145,7 @@ carried_act look stages vector rise k t stage old new inside is at acts accepted
         (cases_lt a b)
 
 pub carried_act_none : (look : Look) (stages : List Stage) (vector : List ℕ) (t : ℕ) (place : Place) → NoneAt stages 8 (t + 1)
-  → Carried look stages vector (t + 1) (t + 1) t place → Carried look stages vector (t + 1) (t + 1) (t + 1) place
+    → Carried look stages vector (t + 1) (t + 1) t place → Carried look stages vector (t + 1) (t + 1) (t + 1) place
 carried_act_none look stages vector t place none held = record {
   all_words = held.all_words;
   words = held.words;

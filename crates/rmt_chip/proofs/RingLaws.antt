@@ -1,5 +1,5 @@
 -- A pass over the stages in the ring of places.
-use Rattle.std.proofs.Common.{◌≡◌, ◌≢◌, ℕ, zero, suc, ◌+◌, ◌-◌, ◌%◌, ◌<◌, ◌≤◌, Bool, true, false, cond, eqb, ltb, List, length, get_or, set, Option, Some, None, refl, sym, ap, ◌∙◌, subst, inl, inr, ◌⊎◌, ⊎_elim, arith}
+use Rattle.std.proofs.Common.{◌≡◌, ◌≢◌, ℕ, zero, suc, ◌+◌, ◌-◌, ◌<◌, ◌≤◌, Bool, false, cond, eqb, List, length, get_or, set, refl, sym, ap, ◌∙◌, subst, ⊎_elim, arith}
 use Rattle.std.proofs.lemmas.List.{get_or-set_same, get_or-set_other}
 use Rattle.std.proofs.lemmas.Bool.{cases_lt, cases_eq}
 use Rattle.std.proofs.lemmas.Bool.Decides.{nat_tests}
@@ -46,9 +46,9 @@ quiet stages after k t rise within from until j hj e =
     ⊎_elim
     (λ (h : j < k). absurd (early k j h within hj from e))
     (λ (h : k ≤ j).
-        let bound : t < start_of stages k + after = until (omega arith) in
-        let grown : start_of stages k ≤ start_of stages j = grow k j h hj in
-        absurd (omega arith))
+    let bound : t < start_of stages k + after = until (omega arith) in
+    let grown : start_of stages k ≤ start_of stages j = grow k j h hj in
+    absurd (omega arith))
     (cases_lt j k)
   where
     grow : (a b : ℕ) → a ≤ b → b < length stages → start_of stages a ≤ start_of stages b
@@ -71,39 +71,39 @@ abbrev pub AllPlaces : (ℕ → ℕ → Place → Type 0) → ℕ → ℕ → Li
 AllPlaces Q bound newest places = (t : ℕ) (d : Place) → t < 385 → Q t (partly bound t) (get_or places (ring_at newest t) d)
 
 pub pass_step : (Q : ℕ → ℕ → Place → Type 0) (stages : List Stage) (after k newest : ℕ) (places : List Place) (new : Place) → Rise stages → k < length stages
-  → start_of stages k + after < 385 → newest < 385 → length places ≡ 385
-  → ((t : ℕ) (place : Place) → NoneAt stages after (t + 1) → Q (t + 1) t place → Q (t + 1) (t + 1) place)
-  → AllPlaces Q (done_before stages after k) newest places
-  → Q (start_of stages k + after) (start_of stages k + after) new
-  → AllPlaces Q (start_of stages k + after + 1) newest (set places (ring_at newest (start_of stages k + after)) new)
+    → start_of stages k + after < 385 → newest < 385 → length places ≡ 385
+    → ((t : ℕ) (place : Place) → NoneAt stages after (t + 1) → Q (t + 1) t place → Q (t + 1) (t + 1) place)
+    → AllPlaces Q (done_before stages after k) newest places
+    → Q (start_of stages k + after) (start_of stages k + after) new
+    → AllPlaces Q (start_of stages k + after + 1) newest (set places (ring_at newest (start_of stages k + after)) new)
 pass_step Q stages after k newest places new rise inside small ring full none was now t d h =
     let a = start_of stages k + after in
     let b = done_before stages after k in
     let le : b ≤ a = done_le stages after k rise inside in
     ⊎_elim
     (λ (e : t ≡ a).
-        let place : get_or (set places (ring_at newest a) new) (ring_at newest t) d ≡ new =
-            ap (λ n. get_or (set places (ring_at newest a) new) (ring_at newest n) d) e ∙ get_or-set_same places (ring_at newest a) new d (omega (arith, ring_at-lt newest a)) in
-        let age : partly (a + 1) t ≡ t = partly-below (a + 1) t (omega arith) in
-        subst (Q t (partly (a + 1) t)) (sym place) (subst (λ u. Q t u new) (sym age) (subst (λ u. Q u u new) (sym e) now)))
+    let place : get_or (set places (ring_at newest a) new) (ring_at newest t) d ≡ new =
+    ap (λ n. get_or (set places (ring_at newest a) new) (ring_at newest n) d) e ∙ get_or-set_same places (ring_at newest a) new d (omega (arith, ring_at-lt newest a)) in
+    let age : partly (a + 1) t ≡ t = partly-below (a + 1) t (omega arith) in
+    subst (Q t (partly (a + 1) t)) (sym place) (subst (λ u. Q t u new) (sym age) (subst (λ u. Q u u new) (sym e) now)))
     (λ (apart : t ≢ a).
-        let other : ring_at newest t ≢ ring_at newest a = ring_at-apart newest t a ring h small apart in
-        let place : get_or (set places (ring_at newest a) new) (ring_at newest t) d ≡ get_or places (ring_at newest t) d = get_or-set_other places (ring_at newest a) (ring_at newest t) new d other in
-        let old = get_or places (ring_at newest t) d in
-        subst (Q t (partly (a + 1) t)) (sym place)
-        (⊎_elim
-        (λ (l : t < a).
-            let age : partly (a + 1) t ≡ t = partly-below (a + 1) t (omega arith) in
-            subst (λ u. Q t u old) (sym age)
-            (⊎_elim
-            (λ (f : t < b). subst (λ u. Q t u old) (partly-below b t f) (was t d h))
-            (λ (f : b ≤ t). at_rest t old (quiet stages after k t rise (omega arith) f (λ _. l)) (subst (λ u. Q t u old) (partly-from b t f) (was t d h)))
-            (cases_lt t b)))
-        (λ (l : a ≤ t).
-            let beyond : a + 1 ≤ t = omega arith in
-            let age : partly (a + 1) t ≡ t - 1 = partly-from (a + 1) t beyond in
-            subst (λ u. Q t u old) (sym age) (subst (λ u. Q t u old) (partly-from b t (omega arith)) (was t d h)))
-        (cases_lt t a)))
+    let other : ring_at newest t ≢ ring_at newest a = ring_at-apart newest t a ring h small apart in
+    let place : get_or (set places (ring_at newest a) new) (ring_at newest t) d ≡ get_or places (ring_at newest t) d = get_or-set_other places (ring_at newest a) (ring_at newest t) new d other in
+    let old = get_or places (ring_at newest t) d in
+    subst (Q t (partly (a + 1) t)) (sym place)
+    (⊎_elim
+    (λ (l : t < a).
+    let age : partly (a + 1) t ≡ t = partly-below (a + 1) t (omega arith) in
+    subst (λ u. Q t u old) (sym age)
+    (⊎_elim
+    (λ (f : t < b). subst (λ u. Q t u old) (partly-below b t f) (was t d h))
+    (λ (f : b ≤ t). at_rest t old (quiet stages after k t rise (omega arith) f (λ _. l)) (subst (λ u. Q t u old) (partly-from b t f) (was t d h)))
+    (cases_lt t b)))
+    (λ (l : a ≤ t).
+    let beyond : a + 1 ≤ t = omega arith in
+    let age : partly (a + 1) t ≡ t - 1 = partly-from (a + 1) t beyond in
+    subst (λ u. Q t u old) (sym age) (subst (λ u. Q t u old) (partly-from b t (omega arith)) (was t d h)))
+    (cases_lt t a)))
     (cases_eq t a)
   where
     at_rest : (u : ℕ) (place : Place) → NoneAt stages after u → Q u (u - 1) place → Q u u place
@@ -114,9 +114,9 @@ pass_step Q stages after k newest places new rise inside small ring full none wa
         subst (λ v. Q v v place) (sym next) (none u place (subst (NoneAt stages after) next n) (subst (λ v. Q v u place) next (subst (λ v. Q (suc u) v place) back q)))
 
 pub pass_end : (Q : ℕ → ℕ → Place → Type 0) (stages : List Stage) (after newest : ℕ) (places : List Place) → Rise stages
-  → ((t : ℕ) (place : Place) → NoneAt stages after (t + 1) → Q (t + 1) t place → Q (t + 1) (t + 1) place)
-  → AllPlaces Q (done_before stages after (length stages)) newest places
-  → (t : ℕ) (d : Place) → t < 385 → Q t t (get_or places (ring_at newest t) d)
+    → ((t : ℕ) (place : Place) → NoneAt stages after (t + 1) → Q (t + 1) t place → Q (t + 1) (t + 1) place)
+    → AllPlaces Q (done_before stages after (length stages)) newest places
+    → (t : ℕ) (d : Place) → t < 385 → Q t t (get_or places (ring_at newest t) d)
 pass_end Q stages after newest places rise none was t d h =
     let b = done_before stages after (length stages) in
     let old = get_or places (ring_at newest t) d in

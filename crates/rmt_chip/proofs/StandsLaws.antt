@@ -1,23 +1,21 @@
 -- What a chip stands for, one cycle later.
-use Rattle.std.proofs.Common.{◌≡◌, ℕ, zero, suc, ◌+◌, ◌%◌, ◌<◌, ◌≤◌, Bool, true, false, cond, List, [], ◌∷◌, ◌++◌, length, get_or, reverse, Option, Some, None, Vec, Global, refl, sym, ap, ◌∙◌, subst, inl, inr, ◌⊎◌, ⊎_elim, le-leb, arith}
-use Rattle.std.specs.Prelude.{is_some, slice_index, nat_le, if◌then◌else◌}
-use Rattle.std.proofs.Math.Path.{fun_ext}
+use Rattle.std.proofs.Common.{◌≡◌, ℕ, ◌+◌, ◌%◌, ◌<◌, ◌≤◌, Bool, true, false, cond, List, [], ◌∷◌, ◌++◌, length, reverse, Option, Some, None, sym, ap, ◌∙◌, subst, le-leb, arith}
+use Rattle.std.specs.Prelude.{is_some, slice_index}
 use Rattle.rmt_bits.specs.Packet.{Packet}
 use Rattle.rmt_bits.specs.declared.answer.Verdict.{Verdict}
-use Rattle.rmt_bits.specs.declared.answer.Count.{Count}
 use Rattle.rmt_config.specs.declared.config.Config.{Config}
 use Rattle.rmt_config.specs.Life.{Look}
-use Rattle.rmt_config.specs.Parser.{Parse, Short, Reject, Accept, parse, put}
-use Rattle.rmt_config.specs.ChipRun.{own_look, answer_at, latency_of, chip_counts_of, words_at, words_from}
+use Rattle.rmt_config.specs.Parser.{Parse, Short, Reject, Accept, parse}
+use Rattle.rmt_config.specs.ChipRun.{own_look, answer_at, latency_of, chip_counts_of, words_from}
 use Rattle.rmt_chip.specs.declared.place.Place.{Place}
 use Rattle.rmt_chip.specs.declared.chip.Chip.{Chip}
 use Rattle.rmt_chip.specs.declared.frame.Frame.{Frame}
 use Rattle.rmt_chip.specs.declared.seen.Seen.{Seen}
 use Rattle.rmt_chip.specs.Runnable.{IsRunnable}
-use Rattle.rmt_chip.specs.Held.{Entered, Holds, HoldsIf, CarriedFor}
+use Rattle.rmt_chip.specs.Held.{Entered, HoldsIf, CarriedFor}
 use Rattle.rmt_chip.specs.Inputs.{entered_at, packets_of, input_of}
 use Rattle.rmt_chip.specs.Leaving.{AnswersIf}
-use Rattle.rmt_chip.specs.Ring.{ring_at, now, AllHold}
+use Rattle.rmt_chip.specs.Ring.{now, AllHold}
 use Rattle.rmt_chip.specs.Stands.{Stands, Shows, in_flight}
 use Rattle.rmt_chip.proofs.CountLaws.{counts_nothing}
 use Rattle.rmt_chip.proofs.EnterLaws.{reverse_push}
@@ -34,23 +32,23 @@ CycleGives c newest frame number old new answer bytes = (inputs : List (Option P
     AllHold (own_look c) c (entered_at (inputs ++ input_of frame ∷ [])) now now now newest new × AnswersIf (answer_at c (inputs ++ input_of frame ∷ []) (length inputs)) answer bytes
 
 pub clock_right : (c : Config) (inputs : List (Option Packet)) (frame : Option Frame) (old new : Chip) (answer : Option Verdict) (bytes : List ℕ)
-  → IsRunnable old.config → old.newest < 385 → new.config ≡ old.config → new.stopped ≡ old.stopped → new.entered ≡ old.entered + cond (is_some frame) 1 0 → new.newest ≡ (old.newest + 1) % 385 → new.counters ≡ old.counters
-  → CycleGives old.config new.newest frame old.entered old.places.items new.places.items answer bytes
-  → Stands c inputs old → Stands c (inputs ++ input_of frame ∷ []) new × AnswersIf (answer_at c (inputs ++ input_of frame ∷ []) (length inputs)) answer bytes
+    → IsRunnable old.config → old.newest < 385 → new.config ≡ old.config → new.stopped ≡ old.stopped → new.entered ≡ old.entered + cond (is_some frame) 1 0 → new.newest ≡ (old.newest + 1) % 385 → new.counters ≡ old.counters
+    → CycleGives old.config new.newest frame old.entered old.places.items new.places.items answer bytes
+    → Stands c inputs old → Stands c (inputs ++ input_of frame ∷ []) new × AnswersIf (answer_at c (inputs ++ input_of frame ∷ []) (length inputs)) answer bytes
 clock_right c inputs frame old new answer bytes runs ring same_config same_stopped grown turned same_counters cycle s =
     let cfg = old.config in
     let next = inputs ++ input_of frame ∷ [] in
     let held : AllHold (own_look cfg) cfg (entered_at inputs) now now now old.newest old.places.items =
-        subst (λ (k : Config). AllHold (own_look k) k (entered_at inputs) now now now old.newest old.places.items) (sym s.config_is) s.places_hold in
+    subst (λ (k : Config). AllHold (own_look k) k (entered_at inputs) now now now old.newest old.places.items) (sym s.config_is) s.places_hold in
     let r = cycle inputs old.newest ring turned s.entered_is held in
     let count : old.counters ≡ [] = s.counters_are ∙ subst (λ (k : Config). chip_counts_of k inputs ≡ []) s.config_is (counts_nothing cfg runs inputs) in
     let stands : Stands cfg next new = record {
-        config_is = same_config;
-        goes_on = same_stopped ∙ s.goes_on;
-        entered_is = grown ∙ ap (λ n. n + cond (is_some frame) 1 0) s.entered_is ∙ sym (packets_push inputs frame);
-        places_hold = r.0;
-        counters_are = same_counters ∙ count ∙ sym (counts_nothing cfg runs next);
-      } in
+      config_is = same_config;
+      goes_on = same_stopped ∙ s.goes_on;
+      entered_is = grown ∙ ap (λ n. n + cond (is_some frame) 1 0) s.entered_is ∙ sym (packets_push inputs frame);
+      places_hold = r.0;
+      counters_are = same_counters ∙ count ∙ sym (counts_nothing cfg runs next);
+    } in
     subst (λ (k : Config). Stands k next new × AnswersIf (answer_at k next (length inputs)) answer bytes) s.config_is (stands, r.1)
 
 -- the words of a packet in its place are those of its life

@@ -1,11 +1,10 @@
 -- The parts of a cycle together.
-use Rattle.std.proofs.Common.{◌≡◌, ℕ, ◌+◌, ◌%◌, ◌<◌, ◌≤◌, Bool, List, [], ◌∷◌, ◌++◌, length, get_or, set, reverse, Option, Some, None, refl, sym, ap, ◌∙◌, subst, arith}
-use Rattle.std.specs.Prelude.{option_map}
+use Rattle.std.proofs.Common.{◌≡◌, ℕ, ◌+◌, ◌%◌, ◌<◌, ◌≤◌, List, [], ◌∷◌, ◌++◌, length, get_or, set, reverse, Option, sym, ap, ◌∙◌, subst, arith}
 use Rattle.rmt_bits.specs.Packet.{Packet}
 use Rattle.rmt_bits.specs.declared.answer.Verdict.{Verdict}
 use Rattle.rmt_config.specs.declared.config.Config.{Config}
 use Rattle.rmt_config.specs.Life.{Look}
-use Rattle.rmt_config.specs.ChipRun.{Outcome, outcome_of, own_look, answer_at, latency_of}
+use Rattle.rmt_config.specs.ChipRun.{Outcome, own_look, answer_at, latency_of}
 use Rattle.rmt_chip.specs.declared.place.Place.{Place}
 use Rattle.rmt_chip.specs.Held.{Entered, HoldsIf, EntersIf}
 use Rattle.rmt_chip.specs.Inputs.{entered_at, numbered_as, packets_of}
@@ -17,18 +16,18 @@ use Rattle.rmt_chip.proofs.CycleLaws.{holds_enters, leaves_right, answer_entered
 
 -- what the place of an age holds, by its place in the list
 held_at : (look : Look) (c : Config) (item : ℕ → Option Entered) (newest age at : ℕ) (places : List Place) (place : Place) → age < 385 → at ≡ ring_at newest age → place ≡ get_or places at place
-  → AllHold look c item now now now newest places → HoldsIf look c (item age) age age age place
+    → AllHold look c item now now now newest places → HoldsIf look c (item age) age age age place
 held_at look c item newest age at places place h e is all =
     subst (HoldsIf look c (item age) age age age) (ap (λ n. get_or places n place) (sym e) ∙ sym is) (all age place h)
 
 pub cycle_right : (c : Config) → Rise c.stages → (inputs : List (Option Packet)) (input : Option Packet) (before newest number latency last : ℕ) (places one two three : List Place) (new place : Place) (answer : Option Verdict) (bytes : List ℕ)
-  → before < 385 → length places ≡ 385 → newest ≡ (before + 1) % 385 → number ≡ packets_of (reverse inputs) → EntersIf c (numbered_as input number) new
-  → ((look : Look) (item : ℕ → Option Entered) → AllHold look c item past past past newest (set places newest new) → AllHold look c item now past past newest one)
-  → ((look : Look) (item : ℕ → Option Entered) → AllHold look c item now past past newest one → AllHold look c item now now past newest two)
-  → ((look : Look) (item : ℕ → Option Entered) → AllHold look c item now now past newest two → AllHold look c item now now now newest three)
-  → latency ≡ latency_of c.stages → latency ≤ 384 → last ≡ ring_at newest latency → place ≡ get_or three last place → AnswersIf (leaving_if c place place.taken) answer bytes
-  → AllHold (own_look c) c (entered_at inputs) now now now before places
-  → AllHold (own_look c) c (entered_at (inputs ++ input ∷ [])) now now now newest three × AnswersIf (answer_at c (inputs ++ input ∷ []) (length inputs)) answer bytes
+    → before < 385 → length places ≡ 385 → newest ≡ (before + 1) % 385 → number ≡ packets_of (reverse inputs) → EntersIf c (numbered_as input number) new
+    → ((look : Look) (item : ℕ → Option Entered) → AllHold look c item past past past newest (set places newest new) → AllHold look c item now past past newest one)
+    → ((look : Look) (item : ℕ → Option Entered) → AllHold look c item now past past newest one → AllHold look c item now now past newest two)
+    → ((look : Look) (item : ℕ → Option Entered) → AllHold look c item now now past newest two → AllHold look c item now now now newest three)
+    → latency ≡ latency_of c.stages → latency ≤ 384 → last ≡ ring_at newest latency → place ≡ get_or three last place → AnswersIf (leaving_if c place place.taken) answer bytes
+    → AllHold (own_look c) c (entered_at inputs) now now now before places
+    → AllHold (own_look c) c (entered_at (inputs ++ input ∷ [])) now now now newest three × AnswersIf (answer_at c (inputs ++ input ∷ []) (length inputs)) answer bytes
 cycle_right c rise inputs input before newest number latency last places one two three new place answer bytes ring full turn count enters write read act leaves small last_is place_is left held =
     let look = own_look c in
     let item = entered_at (inputs ++ input ∷ []) in

@@ -1,7 +1,7 @@
 -- What lists of writes make of a word.
-use Rattle.std.proofs.Common.{◌≡◌, ◌≢◌, ℕ, zero, suc, ◌+◌, ◌<◌, ◌≤◌, Bool, true, false, cond, eqb, List, [], ◌∷◌, ◌++◌, length, get_or, set, take, map, reverse, Option, Some, None, All, refl, sym, ap, ◌∙◌, inl, inr, ◌⊎◌, ⊎_elim, arith}
-use Rattle.std.specs.Prelude.{find, option_map, unwrap_or, slice_get, slice_index}
-use Rattle.std.proofs.lemmas.List.{take_more, map_push, map_more, reverse-append, get_or-set_same, get_or-set_other, length-set, length-take-le, get_or-take, get_or-map}
+use Rattle.std.proofs.Common.{◌≡◌, ◌≢◌, ℕ, zero, suc, ◌+◌, ◌<◌, ◌≤◌, Bool, true, false, cond, eqb, List, [], ◌∷◌, ◌++◌, length, get_or, set, take, map, reverse, Option, Some, None, refl, sym, ap, ◌∙◌, arith}
+use Rattle.std.specs.Prelude.{find, option_map, unwrap_or, slice_index}
+use Rattle.std.proofs.lemmas.List.{take_more, map_more, reverse-append, get_or-set_same, get_or-set_other, length-set, get_or-map}
 use Rattle.std.proofs.lemmas.Bool.Decides.{nat_tests}
 use Rattle.rmt_config.specs.declared.config.Operation.{Operation}
 use Rattle.rmt_config.specs.declared.config.Vliw.{Vliw}
@@ -43,13 +43,13 @@ find_none p (x ∷ xs) (suc i) h fails =
 
 -- the operation on a word, among one more operation of an instruction
 pub op_on_more : (f : Operation → ℕ) (ops : List Operation) (i : ℕ) (d : Operation) (w : ℕ) → i < length ops
-  → ((j k : ℕ) → j < k → k < length ops → slice_index (map (λ (op : Operation). op.word) ops) j < slice_index (map (λ (op : Operation). op.word) ops) k)
-  → option_map f (op_on w (take (i + 1) ops)) ≡ or_else (cond (eqb (get_or ops i d).word w) (Some (f (get_or ops i d))) None) (option_map f (op_on w (take i ops)))
+    → ((j k : ℕ) → j < k → k < length ops → slice_index (map (λ (op : Operation). op.word) ops) j < slice_index (map (λ (op : Operation). op.word) ops) k)
+    → option_map f (op_on w (take (i + 1) ops)) ≡ or_else (cond (eqb (get_or ops i d).word w) (Some (f (get_or ops i d))) None) (option_map f (op_on w (take i ops)))
 op_on_more f ops i d w h rises =
     let op = get_or ops i d in
     let p : Operation → Bool = λ o. eqb o.word w in
     let more : op_on w (take (i + 1) ops) ≡ or_else (op_on w (take i ops)) (cond (eqb op.word w) (Some op) None) =
-        ap (find p) (take_more ops i d h) ∙ find_push p (take i ops) op in
+    ap (find p) (take_more ops i d h) ∙ find_push p (take i ops) op in
     ap (option_map f) more ∙ by_test (eqb op.word w) op (op_on w (take i ops)) (λ e. find_none p ops i (omega arith) (λ j c b. apart j c b e))
   where
     by_test : (b : Bool) (op : Operation) (old : Option Operation) → (b ≡ true → old ≡ None) → option_map f (or_else old (cond b (Some op) None)) ≡ or_else (cond b (Some (f op)) None) (option_map f old)
@@ -71,15 +71,15 @@ no_op = record { word = 0; low = 0; len = 0; kind = kind.Copy; left = Word 0 0; 
 
 -- a step that adds an operation's write
 pub push_step : (due due' init : List Write) (x : Write) (ops : List Operation) (i : ℕ) (words : Words) → i < length ops
-  → ((j k : ℕ) → j < k → k < length ops → slice_index (map (λ (op : Operation). op.word) ops) j < slice_index (map (λ (op : Operation). op.word) ops) k)
-  → x.word ≡ (get_or ops i no_op).word → x.value ≡ written words 0 (get_or ops i no_op) → due' ≡ due ++ x ∷ []
-  → ((w : ℕ) → last_on due w ≡ or_else (option_map (written words 0) (op_on w (take i ops))) (last_on init w))
-  → (w : ℕ) → last_on due' w ≡ or_else (option_map (written words 0) (op_on w (take (i + 1) ops))) (last_on init w)
+    → ((j k : ℕ) → j < k → k < length ops → slice_index (map (λ (op : Operation). op.word) ops) j < slice_index (map (λ (op : Operation). op.word) ops) k)
+    → x.word ≡ (get_or ops i no_op).word → x.value ≡ written words 0 (get_or ops i no_op) → due' ≡ due ++ x ∷ []
+    → ((w : ℕ) → last_on due w ≡ or_else (option_map (written words 0) (op_on w (take i ops))) (last_on init w))
+    → (w : ℕ) → last_on due' w ≡ or_else (option_map (written words 0) (op_on w (take (i + 1) ops))) (last_on init w)
 push_step due due' init x ops i words h rises word value grown before w =
     let f = written words 0 in
     let op = get_or ops i no_op in
     let more : option_map f (op_on w (take (i + 1) ops)) ≡ or_else (cond (eqb op.word w) (Some (f op)) None) (option_map f (op_on w (take i ops))) =
-        op_on_more f ops i no_op w h rises in
+    op_on_more f ops i no_op w h rises in
     ap (λ (xs : List Write). last_on xs w) grown ∙ last_on_push due x w
     ∙ ap (λ n. or_else (cond (eqb n w) (Some x.value) None) (last_on due w)) word
     ∙ ap (λ n. or_else (cond (eqb op.word w) (Some n) None) (last_on due w)) value
@@ -89,7 +89,7 @@ push_step due due' init x ops i words h rises word value grown before w =
 
 -- one more instruction that runs
 pub runs_of_more : (code : List Vliw) (numbers : List ℕ) (i d : ℕ) (words : Words) (w : ℕ) → i < length numbers
-  → word_after (runs_of code (take (i + 1) numbers)) words w
+    → word_after (runs_of code (take (i + 1) numbers)) words w
     ≡ or_else (option_map (written words 0) (op_on w (run_of code (get_or numbers i d)).ops)) (word_after (runs_of code (take i numbers)) words w)
 runs_of_more code numbers i d words w h =
     ap (λ (xs : List Running). word_after (reverse xs) words w) (map_more (run_of code) numbers i d h)
@@ -102,8 +102,8 @@ applied-word (x ∷ xs) vector w h =
     let exists : x.word < length vector = omega (arith, x.exists) in
     applied-word xs (set vector x.word x.value) w (length-set vector x.word x.value ∙ h)
     ∙ by_last (last_on xs w) (eqb x.word w) x.value (get_or (set vector x.word x.value) w 0) (get_or vector w 0)
-      (λ e. let same : x.word ≡ w = grind (arith, nat_tests) in ap (λ n. get_or (set vector x.word x.value) n 0) (sym same) ∙ get_or-set_same vector x.word x.value 0 exists)
-      (λ e. let other : w ≢ x.word = grind (arith, nat_tests) in get_or-set_other vector x.word w x.value 0 other)
+    (λ e. let same : x.word ≡ w = grind (arith, nat_tests) in ap (λ n. get_or (set vector x.word x.value) n 0) (sym same) ∙ get_or-set_same vector x.word x.value 0 exists)
+    (λ e. let other : w ≢ x.word = grind (arith, nat_tests) in get_or-set_other vector x.word w x.value 0 other)
   where
     by_last : (last : Option ℕ) (b : Bool) (value new old : ℕ) → (b ≡ true → new ≡ value) → (b ≡ false → new ≡ old) → unwrap_or last new ≡ unwrap_or (or_else last (cond b (Some value) None)) old
     by_last (Some y) b value new old here there = refl

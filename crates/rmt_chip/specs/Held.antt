@@ -1,10 +1,10 @@
 -- What a packet place holds.
-use Rattle.std.specs.Prelude.{◌≡◌, ◌≢◌, ℕ, ◌+◌, ◌<◌, ◌≤◌, Bool, true, false, if◌then◌else◌, List, [], length, take, Option, Some, None, option_map, unwrap_or, slice_get, slice_index, slice_index_or, replicate}
+use Rattle.std.specs.Prelude.{◌≡◌, ◌≢◌, ℕ, ◌+◌, ◌<◌, ◌≤◌, Bool, true, false, if◌then◌else◌, List, [], length, Option, Some, None, option_map, unwrap_or, slice_get, slice_index, slice_index_or, replicate}
 use Rattle.rmt_bits.specs.Packet.{Packet}
 use Rattle.rmt_config.specs.declared.config.Config.{Config}
 use Rattle.rmt_config.specs.declared.config.Stage.{Stage}
 use Rattle.rmt_config.specs.Parser.{Parse, Short, Reject, Accept, parse, put}
-use Rattle.rmt_config.specs.Life.{Look, Words, Acts, life_of, word_after, acts_of}
+use Rattle.rmt_config.specs.Life.{Look, Words, life_of, word_after, acts_of}
 use Rattle.rmt_chip.specs.declared.place.Place.{Place}
 use Rattle.rmt_chip.specs.declared.place.Parsed.{Parsed}
 use Rattle.rmt_chip.specs.declared.place.Parsed.TheVariants as parsed
@@ -28,11 +28,11 @@ pub record Carried (look : Look) (stages : List Stage) (vector : List ℕ) (word
   pub all_words : length place.vector ≡ 224
   pub words : (w : ℕ) → slice_index place.vector w ≡ (life_of look stages vector).word words_age w
   pub due : (k : ℕ) (d : Stage) → k < length stages → start_of stages k + 9 ≤ read_age → words_age < start_of stages k + 12
-    → (w : ℕ) → last_on (due_at place k) w ≡ word_after (acts_at look stages vector k (slice_index_or stages k d)).running ((life_of look stages vector).word (start_of stages k + 9)) w
+      → (w : ℕ) → last_on (due_at place k) w ≡ word_after (acts_at look stages vector k (slice_index_or stages k d)).running ((life_of look stages vector).word (start_of stages k + 9)) w
   pub running : (k : ℕ) (d : Stage) → k < length stages → start_of stages k + 8 ≡ acts_age
-    → runs_of (slice_index_or stages k d).code place.running.items ≡ (acts_at look stages vector k (slice_index_or stages k d)).running
+      → runs_of (slice_index_or stages k d).code place.running.items ≡ (acts_at look stages vector k (slice_index_or stages k d)).running
   pub outcomes : (k : ℕ) → k ≤ length stages → ((j : ℕ) → j < k → start_of stages j + 8 ≤ acts_age) → (k < length stages → acts_age < start_of stages k + 8)
-    → place.outcomes ≡ (upto look stages vector k).outcomes
+      → place.outcomes ≡ (upto look stages vector k).outcomes
 
 -- the same for any packet: one that was not accepted has all words 0
 abbrev pub CarriedFor : Look → Config → Packet → ℕ → ℕ → ℕ → Place → Parse → Type 0

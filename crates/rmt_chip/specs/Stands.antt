@@ -1,5 +1,5 @@
 -- What a chip stands for.
-use Rattle.std.specs.Prelude.{◌≡◌, ℕ, Bool, true, false, nat_le, if◌then◌else◌, List, Option, Some, None, reverse, slice_index}
+use Rattle.std.specs.Prelude.{◌≡◌, ℕ, true, false, nat_le, if◌then◌else◌, List, Option, Some, None, reverse, slice_index}
 use Rattle.rmt_bits.specs.Packet.{Packet}
 use Rattle.rmt_config.specs.declared.config.Config.{Config}
 use Rattle.rmt_config.specs.ChipRun.{own_look, chip_counts_of, latency_of, words_at}

@@ -11,7 +11,7 @@ use crate::frame::Frame;
 use crate::open::all_places;
 use crate::out::Out;
 use crate::place::Place;
-use crate::ring::{place_of, PLACES};
+use crate::ring::{PLACES, place_of};
 use crate::seen::Seen;
 use rmt_bits::answer::{Counts, Verdict};
 use rmt_bits::sequence::Sequence;
@@ -39,6 +39,8 @@ impl Chip {
     ghost use Rattle.rmt_bits.specs.Packet.{Packet};
     ghost use Rattle.rmt_config.specs.declared.config.Config.{Config};
     ghost use Rattle.rmt_config.specs.ChipRun.{answer_at, chip_counts_of};
+    ghost use Rattle.rmt_config.specs.Form.{Formed};
+    ghost use Rattle.rmt_config.specs.Limits.{IsWithinLimits};
     ghost use Rattle.rmt_chip.specs.Inputs.{input_of, MayEnter};
     ghost use Rattle.rmt_chip.specs.Leaving.{AnswersIf};
     ghost use Rattle.rmt_chip.specs.Stands.{Stands, Shows, HasStopped, entered_of, in_flight};
@@ -46,7 +48,8 @@ impl Chip {
     /// A chip in which no packet is. It takes all memory of the chip but that of the frames, and can
     /// only be refused for memory.
     pub fn open(alloc: Global, config: Config) -> Result<Chip, ChipFault>
-        requires { IsRunnable config }
+        requires form { Formed config }
+        requires limits { IsWithinLimits config }
         ensures { IfOk result (λ chip. Stands config [] chip) }
     {
         let places = all_places(alloc, config.stages.as_slice())?;

@@ -24,11 +24,7 @@ fn misses(outcomes: &mut [u8], slot: &SlotUnit) -> bool
 }
 
 /// Sets the outcomes of the stage's units, in their order, and lists the instructions that run.
-pub fn decide(
-    outcomes: &mut [u8],
-    running: &mut Vec<u16>,
-    stage: &Stage,
-) -> Result<(), AllocError>
+pub fn decide(outcomes: &mut [u8], running: &mut Vec<u16>, stage: &Stage) -> Result<(), AllocError>
     requires fits { StageFits stage.now }
     requires all_nodes { length outcomes.old ≡ 256 }
     ensures { OnOk result ((look : Look) (k : ℕ) (words : Words) →

@@ -65,11 +65,7 @@ fn push_header(out: &mut Vec<u8>, vector: &Vector, header: &OutHeader) -> Result
 }
 
 /// Adds the bytes of all valid headers, in their order.
-fn push_headers(
-    out: &mut Vec<u8>,
-    vector: &Vector,
-    headers: &[OutHeader],
-) -> Result<(), AllocError>
+fn push_headers(out: &mut Vec<u8>, vector: &Vector, headers: &[OutHeader]) -> Result<(), AllocError>
     requires { All HeaderFits headers.now }
     ensures { OnOk result (out.new.items ≡ out.old.items ++ flat_map (header_bytes (λ w. slice_index vector.now w)) headers.now) }
 {

@@ -64,7 +64,11 @@ fn extract(vector: &mut Vector, window: &[u8], one: Extract)
 {
     match one {
         Extract::Bits { from, lane } => {
-            put(vector, lane, bits_of_bytes(window, u32::from(from), lane.len));
+            put(
+                vector,
+                lane,
+                bits_of_bytes(window, u32::from(from), lane.len),
+            );
         }
         Extract::One { lane } => put(vector, lane, 1),
     }
@@ -94,12 +98,19 @@ fn follow(entry: &ParserEntry, frame: &[u8], cursor: u32, vector: &mut Vector) -
     if frame.len() < end {
         return Step::Short;
     }
-    extract_all(vector, &frame[cursor as usize..end], entry.extracts.as_slice());
+    extract_all(
+        vector,
+        &frame[cursor as usize..end],
+        entry.extracts.as_slice(),
+    );
     let next = cursor + u32::from(entry.advance);
     match entry.next {
         Next::Accept => Step::Accept { used: next },
         Next::Reject => Step::Reject,
-        Next::State(state) => Step::Go { state, cursor: next },
+        Next::State(state) => Step::Go {
+            state,
+            cursor: next,
+        },
     }
 }
 
@@ -127,7 +138,7 @@ fn one_state(
     requires fits { ParserFits parser.now }
     ensures step { (goes : ℕ → ℕ → List ℕ → Parse) →
         StepGives goes (step_of goes frame.now
-            (entry_of parser.now state (value_at frame.now cursor (slice_get parser.now.states state))) cursor vector.old) result vector.new }
+        (entry_of parser.now state (value_at frame.now cursor (slice_get parser.now.states state))) cursor vector.old) result vector.new }
     ensures within { StaysWithin (length frame.now) result }
 {
     let value = value_of(parser, frame, state, cursor);

@@ -1,9 +1,9 @@
 //! The place of one packet in the chip.
 
+ghost use Rattle.std.specs.Prelude.{◌≡◌, vec_len};
+
 use crate::write::Write;
 use rmt_config::vector::Vector;
-
-ghost use Rattle.std.specs.Prelude.{◌≡◌, vec_len};
 
 /// How the parser ended: short of bytes, rejected, or accepted with a payload from a byte on.
 #[derive(Clone, Copy, Debug, PartialEq, Eq)]

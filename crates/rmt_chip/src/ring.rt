@@ -43,11 +43,7 @@ pub fn write_all(places: &mut [Place], newest: usize, config: &Config)
 }
 
 /// Each stage reads the operands and old words of the packet that is 9 cycles behind its start.
-pub fn read_all(
-    places: &mut [Place],
-    newest: usize,
-    config: &Config,
-) -> Result<(), AllocError>
+pub fn read_all(places: &mut [Place], newest: usize, config: &Config) -> Result<(), AllocError>
     requires full { length places.old ≡ 385 }
     requires newest { newest < 385 }
     requires fits { StagesFit config.now.stages }
@@ -65,11 +61,7 @@ pub fn read_all(
 }
 
 /// Each stage sets the outcomes of the packet that is 8 cycles behind its start.
-pub fn act_all(
-    places: &mut [Place],
-    newest: usize,
-    config: &Config,
-) -> Result<(), AllocError>
+pub fn act_all(places: &mut [Place], newest: usize, config: &Config) -> Result<(), AllocError>
     requires full { length places.old ≡ 385 }
     requires newest { newest < 385 }
     requires fits { StagesFit config.now.stages }

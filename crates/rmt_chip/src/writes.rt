@@ -21,11 +21,7 @@ pub fn apply(vector: &mut Vector, writes: &[Write])
 }
 
 /// Adds what an instruction writes, from the words at hand.
-fn push_instruction(
-    due: &mut Vec<Write>,
-    vector: &Vector,
-    code: &Vliw,
-) -> Result<(), AllocError>
+fn push_instruction(due: &mut Vec<Write>, vector: &Vector, code: &Vliw) -> Result<(), AllocError>
     requires { InstructionFits code.now }
     ensures { OnOk result ((w : ℕ) → last_on due.new.items w
         ≡ or_else (option_map (written_of (λ v. slice_index vector.now v) 0) (op_on w code.now.ops)) (last_on due.old.items w)) }

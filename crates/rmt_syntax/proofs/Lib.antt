@@ -9,5 +9,6 @@ mod Marks
 mod Operands
 mod Produce
 mod Sets
+mod Shapes
 mod Standing
 mod Weights

@@ -4,7 +4,9 @@ use Rattle.std.specs.List.{flat_map}
 use Rattle.rmt_lexer.specs.declared.token.Token.{Token}
 use Rattle.rmt_lexer.specs.declared.fault.ProgramFault.{ProgramFault}
 use Rattle.rmt_lexer.specs.declared.fault.ProgramFault.TheVariants.{NoMemory, At}
-use Rattle.rmt_syntax.specs.declared.tree.Tree.{Tree}
+use Rattle.std.specs.Prelude.{Vec}
+use Rattle.std.specs.declared.alloc.Global.{Global}
+use Rattle.rmt_syntax.specs.declared.tree.Tree.{Tree, Many}
 use Rattle.rmt_syntax.specs.declared.tree.Tree.TheOpen.{Tree-F}
 use Rattle.rmt_syntax.specs.declared.tree.Tree.TheOpen as tree
 use Rattle.rmt_syntax.specs.declared.tree.Tree.TheFolds.{fold-Tree}
@@ -120,3 +122,27 @@ abbrev pub Gives : Result Tree ProgramFault → Tree → Type 0
 Gives (Ok t) wanted = marks t ≡ marks wanted
 Gives (Err NoMemory) wanted = Unit {0}
 Gives (Err (At code line column)) wanted = ⊥
+
+-- the tree is of a rule
+abbrev pub IsOf : Rule → Tree → Type 0
+IsOf r t = Reads (part (Node r) ∷ []) (marks t)
+
+-- the trees are these parts, one after another
+abbrev pub AreParts : List Part → List Tree → Type 0
+AreParts [] [] = Unit {0}
+AreParts [] (t ∷ ts) = ⊥
+AreParts (p ∷ ps) [] = ⊥
+AreParts (p ∷ ps) (t ∷ ts) = Reads (part p ∷ []) (marks t) × AreParts ps ts
+
+-- the parts of a phrase: those of one of its forms, and then those of the phrase that goes on
+pub data Follows : Phrase → List Part → Type 0 where
+  stop : Follows Done []
+  onward : {x : Phrase} {qs : List Part} (i : ℕ) (parts : List Part) (next : Phrase) → slice_get (choices x) i ≡ Some (parts, next) → Follows next qs → Follows x (parts ++ qs)
+
+-- the trees are the parts of a phrase, one after another
+abbrev pub ArePartsOf : Phrase → List Tree → Type 0
+ArePartsOf x ts = (ps : List Part) × Follows x ps × AreParts ps ts
+
+-- the tree is a node of the rule, and its parts are those of the rule's text, each a token or a tree of its rule
+abbrev pub IsNodeOf : Rule → Tree → Type 0
+IsNodeOf r t = (v : Vec Tree Global) × (t ≡ Many r v) × ArePartsOf (Whole r) v.items

@@ -2,6 +2,7 @@
 #![tactic(auto)]
 
 mod grammar;
+pub mod laws;
 mod lookahead;
 mod parser;
 mod reader;

@@ -1,5 +1,4 @@
-use Rattle.std.proofs.Common.{◌≡◌, ◌^◌, ◌<◌, ℕ, sym, subst, rules}
-use Rattle.rmt_config.specs.Life.{computed as computed_of}
+use Rattle.std.proofs.Common.{◌^◌, ◌<◌, ℕ, sym, subst, rules}
 use Rattle.rmt_chip.proofs.ComputeLaws.{computed-lt}
 use Rattle.rmt_chip.proofs.compute.computed.Goals as goal
 

@@ -1,4 +1,4 @@
-use Rattle.std.proofs.Common.{◌≡◌, ◌^◌, ◌<◌, ℕ, arith}
+use Rattle.std.proofs.Common.{◌^◌, ◌<◌, arith}
 use Rattle.rmt_bits.specs.Words.{word_size as word_size_of}
 use Rattle.rmt_chip.proofs.ComputeLaws.{deposited, below_word}
 use Rattle.rmt_chip.proofs.compute.written.Goals as goal

@@ -1,4 +1,4 @@
-use Rattle.std.proofs.Common.{◌≡◌, ◌+◌, ◌*◌, ◌-◌, ◌^◌, ◌≤◌, ◌<◌, ℕ, List, length, get_or, take, ap, sym, ◌∙◌, refl, rules, arith}
+use Rattle.std.proofs.Common.{◌≡◌, ◌+◌, ◌*◌, ◌-◌, ◌^◌, ◌≤◌, ◌<◌, ℕ, length, get_or, take, ap, sym, ◌∙◌, refl, rules, arith}
 use Rattle.std.specs.Prelude.{slice_index}
 use Rattle.std.proofs.lemmas.List.{take_all}
 use Rattle.rmt_bits.specs.declared.lane.Lane.{Lane}
@@ -49,9 +49,9 @@ loop-piece-preserved c =
     record {
       at_is = omega arith;
       so_far = filled
-        ∙ ap (λ (x : ℕ). (2 ^ lane.len * key_of words (take i lanes) + x) * 2 ^ (8 * length c.args.buffer.now - (c.loop-piece.at + lane.len))) bits
-        ∙ ap (λ (k : ℕ). k * 2 ^ (8 * length c.args.buffer.now - (c.loop-piece.at + lane.len))) (sym (key_of_more words lanes i no_lane (omega arith)))
-        ∙ ap (λ (n : ℕ). key_of words (take (i + 1) lanes) * 2 ^ (8 * length c.args.buffer.now - (c.loop-piece.at + n))) (sym len);
+          ∙ ap (λ (x : ℕ). (2 ^ lane.len * key_of words (take i lanes) + x) * 2 ^ (8 * length c.args.buffer.now - (c.loop-piece.at + lane.len))) bits
+          ∙ ap (λ (k : ℕ). k * 2 ^ (8 * length c.args.buffer.now - (c.loop-piece.at + lane.len))) (sym (key_of_more words lanes i no_lane (omega arith)))
+          ∙ ap (λ (n : ℕ). key_of words (take (i + 1) lanes) * 2 ^ (8 * length c.args.buffer.now - (c.loop-piece.at + n))) (sym len);
     }
 
 pub returns : goal.returns

@@ -1,4 +1,4 @@
-use Rattle.std.proofs.Common.{◌≡◌, ◌++◌, ℕ, List, ap, sym, ◌∙◌, arith}
+use Rattle.std.proofs.Common.{◌++◌, ℕ, List, ap, sym, ◌∙◌}
 use Rattle.rmt_bits.proofs.ByteLaws.{bytes_of-number_of}
 use Rattle.rmt_chip.proofs.emit.push_bytes.Goals as goal
 

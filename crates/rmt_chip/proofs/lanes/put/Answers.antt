@@ -1,4 +1,4 @@
-use Rattle.std.proofs.Common.{◌≡◌, ◌^◌, ◌<◌, ℕ, arith}
+use Rattle.std.proofs.Common.{◌^◌, ◌<◌, arith}
 use Rattle.rmt_bits.specs.Words.{word_size}
 use Rattle.rmt_chip.proofs.ComputeLaws.{deposited, below_word}
 use Rattle.rmt_chip.proofs.lanes.put.Goals as goal

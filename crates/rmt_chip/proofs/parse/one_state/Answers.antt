@@ -1,4 +1,4 @@
-use Rattle.std.proofs.Common.{◌≡◌, ◌≤◌, ◌==◌, ◌&&◌, bit_and, ℕ, List, Option, Some, All, IsTrue, length, sym, ap, subst, ◌∙◌, arith}
+use Rattle.std.proofs.Common.{◌≤◌, ◌==◌, ◌&&◌, bit_and, ℕ, Option, All, IsTrue, sym, ap, subst, ◌∙◌}
 use Rattle.rmt_config.specs.declared.config.ParserEntry.{ParserEntry}
 use Rattle.rmt_config.specs.Parser.{entry_of, step}
 use Rattle.rmt_chip.specs.Parsing.{StepGives}

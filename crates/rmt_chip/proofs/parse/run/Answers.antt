@@ -1,4 +1,4 @@
-use Rattle.std.proofs.Common.{◌≡◌, ◌+◌, ◌-◌, ◌<◌, ℕ, length, ap, sym, ◌∙◌, arith}
+use Rattle.std.proofs.Common.{◌+◌, ◌-◌, length, ◌∙◌, arith}
 use Rattle.rmt_config.specs.Parser.{parse_from}
 use Rattle.rmt_chip.proofs.ParseLaws.{run_more, run_end}
 use Rattle.rmt_chip.proofs.parse.run.Goals as goal
@@ -27,8 +27,8 @@ loop-k-preserved c =
     record {
       within = c.in-Go.ensures.within;
       rest =
-        run_more p c.args.frame.now c.loop-k.state c.loop-k.cursor c.loop-k._k c.loop-k.vector (omega arith) c.loop-k.invariant.rest
-        ∙ c.in-Go.ensures.step (parse_from (length p.states - (c.loop-k._k + 1)) p c.args.frame.now);
+          run_more p c.args.frame.now c.loop-k.state c.loop-k.cursor c.loop-k._k c.loop-k.vector (omega arith) c.loop-k.invariant.rest
+          ∙ c.in-Go.ensures.step (parse_from (length p.states - (c.loop-k._k + 1)) p c.args.frame.now);
     }
 
 pub returns : goal.returns

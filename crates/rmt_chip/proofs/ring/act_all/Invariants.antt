@@ -1,4 +1,4 @@
-use Rattle.std.proofs.Common.{◌≡◌, ℕ, Option, length}
+use Rattle.std.proofs.Common.{ℕ, Option}
 use Rattle.rmt_config.specs.Life.{Look}
 use Rattle.rmt_chip.specs.Held.{Entered}
 use Rattle.rmt_chip.specs.Ring.{now, past, partly, done_before, AllHold}

@@ -1,5 +1,4 @@
-use Rattle.std.proofs.Common.{◌≡◌, ◌+◌, ◌<◌, ◌≤◌, ℕ, List, length, sym, ap, ◌∙◌, arith}
-use Rattle.rmt_config.specs.declared.config.Stage.{Stage}
+use Rattle.std.proofs.Common.{◌≡◌, ◌+◌, ◌<◌, ◌≤◌, ℕ, length, sym, ap, ◌∙◌, arith}
 use Rattle.rmt_chip.specs.Runnable.{start_of}
 use Rattle.rmt_chip.specs.Ring.{ring_at}
 use Rattle.rmt_chip.proofs.PassLaws.{write_turn, write_begin, write_done, start_read}

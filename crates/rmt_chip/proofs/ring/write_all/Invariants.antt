@@ -1,7 +1,7 @@
-use Rattle.std.proofs.Common.{◌≡◌, ℕ, Option, length}
+use Rattle.std.proofs.Common.{ℕ, Option}
 use Rattle.rmt_config.specs.Life.{Look}
 use Rattle.rmt_chip.specs.Held.{Entered}
-use Rattle.rmt_chip.specs.Ring.{now, past, partly, done_before, AllHold}
+use Rattle.rmt_chip.specs.Ring.{past, partly, done_before, AllHold}
 use Rattle.rmt_chip.proofs.ring.write_all.Given as goal
 
 abbrev pub invariant-loop-k : goal.invariant-loop-k

@@ -1,7 +1,7 @@
-use Rattle.std.proofs.Common.{◌≡◌, ℕ, List, get_or, length, take, ap, sym, ◌∙◌, subst, arith, rules}
+use Rattle.std.proofs.Common.{ℕ, get_or, ap, sym, ◌∙◌, arith}
 use Rattle.std.specs.Prelude.{slice_index, option_map}
-use Rattle.rmt_config.specs.Life.{written, op_on, or_else, word_after}
-use Rattle.rmt_chip.specs.Writes.{last_on, run_of, runs_of}
+use Rattle.rmt_config.specs.Life.{written, op_on, or_else}
+use Rattle.rmt_chip.specs.Writes.{run_of}
 use Rattle.rmt_chip.proofs.WriteLaws.{runs_of_more}
 use Rattle.rmt_chip.proofs.writes.compute.Goals as goal
 

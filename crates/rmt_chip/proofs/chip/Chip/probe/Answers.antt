@@ -1,7 +1,6 @@
-use Rattle.std.proofs.Common.{◌≡◌, ℕ, ◌<◌, ◌≤◌, Bool, true, false, List, get_or, refl, sym, ap, ◌∙◌, subst, arith}
+use Rattle.std.proofs.Common.{ℕ, ◌<◌, ◌≤◌, get_or, refl, sym, ap, ◌∙◌, subst, arith}
 use Rattle.rmt_config.specs.declared.config.Config.{Config}
 use Rattle.rmt_config.specs.ChipRun.{own_look, latency_of}
-use Rattle.rmt_chip.specs.declared.place.Place.{Place}
 use Rattle.rmt_chip.specs.Held.{HoldsIf}
 use Rattle.rmt_chip.specs.Inputs.{entered_at}
 use Rattle.rmt_chip.specs.Ring.{ring_at}
@@ -25,7 +24,7 @@ returns-then-not-place c = λ config inputs stands.
     let within : c.args.age ≤ latency_of config.stages = subst (λ (k : Config). c.args.age ≤ latency_of k.stages) stands.config_is (omega arith) in
     let at = c.place_of.ensures.place ∙ ap (ring_at self.newest) c.from.ensures in
     let held : HoldsIf (own_look config) config (entered_at inputs c.args.age) c.args.age c.args.age c.args.age place =
-        subst (HoldsIf (own_look config) config (entered_at inputs c.args.age) c.args.age c.args.age c.args.age) (ap (λ (n : ℕ). get_or self.places.items n place) (sym at) ∙ sym c.index-place.ensures) (stands.places_hold c.args.age place age) in
+    subst (HoldsIf (own_look config) config (entered_at inputs c.args.age) c.args.age c.args.age c.args.age) (ap (λ (n : ℕ). get_or self.places.items n place) (sym at) ∙ sym c.index-place.ensures) (stands.places_hold c.args.age place age) in
     shows_within config inputs c.args.age _ within (shows_none config c.args.age (entered_at inputs c.args.age) place held c.if-not-place.true)
 
 pub returns : goal.returns
@@ -38,5 +37,5 @@ returns c = λ config inputs stands.
     let within : c.args.age ≤ latency_of config.stages = subst (λ (k : Config). c.args.age ≤ latency_of k.stages) stands.config_is (omega arith) in
     let at = c.place_of.ensures.place ∙ ap (ring_at self.newest) c.from.ensures in
     let held : HoldsIf (own_look config) config (entered_at inputs c.args.age) c.args.age c.args.age c.args.age place =
-        subst (HoldsIf (own_look config) config (entered_at inputs c.args.age) c.args.age c.args.age c.args.age) (ap (λ (n : ℕ). get_or self.places.items n place) (sym at) ∙ sym c.index-place.ensures) (stands.places_hold c.args.age place age) in
+    subst (HoldsIf (own_look config) config (entered_at inputs c.args.age) c.args.age c.args.age c.args.age) (ap (λ (n : ℕ). get_or self.places.items n place) (sym at) ∙ sym c.index-place.ensures) (stands.places_hold c.args.age place age) in
     shows_within config inputs c.args.age _ within (shows_entered config c.args.age (entered_at inputs c.args.age) place _ held c.if-not-place.false refl refl)

@@ -1,0 +1,358 @@
+-- The chip can run each configuration that keeps the rules of form and the limits.
+use Rattle.std.proofs.Common.{◌≡◌, ℕ, zero, suc, ◌+◌, ◌-◌, ◌*◌, ◌<◌, ◌≤◌, Bool, true, cond, not, ◌&&◌, ltb, leb, eqb, List, [], ◌∷◌, length, get_or, map, All, Option, Some, None, refl, inl, inr, arith}
+use Rattle.std.specs.Prelude.{IsTrue, is_none, count_by, slice_get, slice_index}
+use Rattle.std.specs.List.{list_all, AllByRecursion}
+use Rattle.std.proofs.lemmas.Bool.{ltb-true, leb-true, eqb-true, lt-ltb, le-leb, cases_lt, and_parts, and_from}
+use Rattle.std.proofs.lemmas.List.{length-map, get_or-map}
+use Rattle.std.proofs.lemmas.List.Elements.{All-from_recursion}
+use Rattle.std.proofs.lemmas.List.Sums.{sum_by-cons}
+use Rattle.std.proofs.lemmas.Option.{slice_get-get_or}
+use Rattle.rmt_bits.specs.Words.{word_size}
+use Rattle.rmt_bits.specs.declared.lane.Lane.{Lane}
+use Rattle.rmt_config.specs.declared.limits.LimitHit.{LimitHit}
+use Rattle.rmt_config.specs.declared.config.Config.{Config}
+use Rattle.rmt_config.specs.declared.config.OutHeader.{OutHeader}
+use Rattle.rmt_config.specs.declared.config.ParserConfig.{ParserConfig}
+use Rattle.rmt_config.specs.declared.config.ParserState.{ParserState}
+use Rattle.rmt_config.specs.declared.config.ParserEntry.{ParserEntry}
+use Rattle.rmt_config.specs.declared.config.Extract.{Extract}
+use Rattle.rmt_config.specs.declared.config.Extract.TheVariants.{Bits, One}
+use Rattle.rmt_config.specs.declared.config.Stage.{Stage}
+use Rattle.rmt_config.specs.declared.config.SlotUnit.{SlotUnit}
+use Rattle.rmt_config.specs.declared.config.Unit.{Unit as ChipUnit}
+use Rattle.rmt_config.specs.declared.config.Unit.TheVariants.{Gate, Slot}
+use Rattle.rmt_config.specs.declared.config.UnitGuard.{UnitGuard}
+use Rattle.rmt_config.specs.declared.config.Memory.{Memory}
+use Rattle.rmt_config.specs.declared.config.Memory.TheVariants.{Without, Exact, Ternary}
+use Rattle.rmt_config.specs.declared.config.Vliw.{Vliw}
+use Rattle.rmt_config.specs.declared.config.Operation.{Operation}
+use Rattle.rmt_config.specs.declared.config.Source.{Source}
+use Rattle.rmt_config.specs.declared.config.Source.TheVariants.{Word, Held, Constant}
+use Rattle.rmt_config.specs.Life.{has_memory}
+use Rattle.rmt_config.specs.Form.{is_lane_of, lane_is_formed, bits_of_lanes, header_is_formed, headers_are_formed, next_is_formed, extract_is_formed, match_is_formed, entry_is_formed, entries_are_formed, never_falls_from, memory_is_formed, unit_is_formed, Place, places_of, source_is_formed, kind_is_formed, lane_of_operation, operation_is_formed, rises_from, vliw_is_formed, code_is_formed, srows_are_formed, trows_are_formed, stage_is_formed, starts_are_formed, stages_are_formed, ports_are_formed, nodes_are_formed, has_no_guard, is_without, unit_is_of_this_step, stage_is_of_this_step, states_are_of_this_step, is_of_this_step, Formed}
+use Rattle.rmt_config.specs.Limits.{over, or_hit, first_hit, stage_hit, stages_hit, entries_hit, entry_hit, is_slot, slots_hit, code_hit, nodes_hit, last_start_hit, stage_limit_hit, IsWithinLimits}
+use Rattle.rmt_chip.specs.Runnable.{LaneFits, source_fits, OperationFits, InstructionFits, is_plain, StageFits, start_of, StagesFit, extract_fits, ParserFits, HeaderFits, IsRunnable}
+
+by_test : {A : Type 0} (test : A → Bool) (P : A → Type 0) → ((x : A) → test x ≡ true → P x) → (xs : List A) → list_all test xs ≡ true → AllByRecursion P xs
+by_test test P gives [] e = tt
+by_test test P gives (x ∷ xs) e = let p = and_parts (test x) (list_all test xs) e in (gives x p.0, by_test test P gives xs p.1)
+
+all_by_test : {A : Type 0} (test : A → Bool) (P : A → Type 0) → ((x : A) → test x ≡ true → P x) → (xs : List A) → list_all test xs ≡ true → All P xs
+all_by_test test P gives xs e = All-from_recursion P xs (by_test test P gives xs e)
+
+-- ---- limits
+
+-- a limit that is not passed
+within : (most limit stage sum : ℕ) → over most limit stage sum ≡ None → sum ≤ most
+within most limit stage sum e =
+    elim (cases_lt most sum) [
+      | inl more ↦ absurd (let h = rw (lt-ltb most sum more) at e in cc)
+      | inr fits ↦ fits
+    ]
+
+neither : (a b : Option LimitHit) → or_hit a b ≡ None → (a ≡ None) × (b ≡ None)
+neither (Some hit) b e = absurd cc
+neither None b e = (refl, e)
+
+-- ---- lanes
+
+lane_fits : (lane : Lane) → lane_is_formed lane ≡ true → LaneFits lane
+lane_fits lane e =
+    let word = ltb lane.word 224 in
+    let least = leb 1 lane.len in
+    let most = leb lane.len 32 in
+    let p = and_parts (word && least && most) (leb (lane.low + lane.len) (word_size lane.word)) e in
+    let q = and_parts (word && least) most p.0 in
+    record {
+      exists = ltb-true lane.word 224 (and_parts word least q.0).0;
+      within = leb-true (lane.low + lane.len) (word_size lane.word) p.1;
+    }
+
+lane_of_fits : (len : ℕ) (lane : Lane) → is_lane_of len lane ≡ true → LaneFits lane
+lane_of_fits len lane e = lane_fits lane (and_parts (lane_is_formed lane) (eqb lane.len len) e).0
+
+lane_of_len : (len : ℕ) (lane : Lane) → is_lane_of len lane ≡ true → lane.len ≡ len
+lane_of_len len lane e = eqb-true lane.len len (and_parts (lane_is_formed lane) (eqb lane.len len) e).1
+
+-- ---- headers
+
+header_fits : (h : OutHeader) → header_is_formed h ≡ true → HeaderFits h
+header_fits h e =
+    let valid = is_lane_of 1 h.valid in
+    let least = leb 1 h.bytes in
+    let most = leb h.bytes 64 in
+    let few = ltb (length h.pieces) 256 in
+    let lanes = list_all lane_is_formed h.pieces in
+    let p = and_parts (valid && least && most && few && lanes) (eqb (bits_of_lanes h.pieces) (8 * h.bytes)) e in
+    let q = and_parts (valid && least && most && few) lanes p.0 in
+    let r = and_parts (valid && least && most) few q.0 in
+    let t = and_parts (valid && least) most r.0 in
+    record {
+      valid = lane_of_fits 1 h.valid (and_parts valid least t.0).0;
+      few_bytes = leb-true h.bytes 64 t.1;
+      pieces = all_by_test lane_is_formed LaneFits lane_fits h.pieces q.1;
+      whole = eqb-true (bits_of_lanes h.pieces) (8 * h.bytes) p.1;
+    }
+
+-- ---- the parser
+
+extract_is_fit : (need : ℕ) (x : Extract) → extract_is_formed need x ≡ true → extract_fits need x ≡ true
+extract_is_fit need (Bits from lane) e =
+    let p = and_parts (lane_is_formed lane) (leb (from + lane.len) (8 * need)) e in
+    let f = lane_fits lane p.0 in
+    rw (lt-ltb lane.word 224 f.exists, le-leb (lane.low + lane.len) (word_size lane.word) f.within) p.1
+extract_is_fit need (One lane) e =
+    let p = and_parts (lane_is_formed lane) (eqb lane.len 1) e in
+    let f = lane_fits lane p.0 in
+    rw (lt-ltb lane.word 224 f.exists, le-leb (lane.low + lane.len) (word_size lane.word) f.within) p.1
+
+short_step : (states : ℕ) (e : ParserEntry) → entry_is_formed states e ≡ true → e.advance ≤ e.need
+short_step states e formed =
+    let state = ltb e.state states in
+    let matches = match_is_formed e in
+    let step = leb e.advance e.need in
+    let next = next_is_formed states e.state e.next in
+    let few = ltb (length e.extracts) 256 in
+    let p = and_parts (state && matches && step && next && few) (list_all (extract_is_formed e.need) e.extracts) formed in
+    let q = and_parts (state && matches && step && next) few p.0 in
+    let r = and_parts (state && matches && step) next q.0 in
+    leb-true e.advance e.need (and_parts (state && matches) step r.0).1
+
+extracts_fit : (states : ℕ) (e : ParserEntry) → entry_is_formed states e ≡ true → All (λ x. IsTrue (extract_fits e.need x)) e.extracts
+extracts_fit states e formed =
+    let front = ltb e.state states && match_is_formed e && leb e.advance e.need && next_is_formed states e.state e.next && ltb (length e.extracts) 256 in
+    let p = and_parts front (list_all (extract_is_formed e.need) e.extracts) formed in
+    all_by_test (extract_is_formed e.need) (λ x. IsTrue (extract_fits e.need x)) (extract_is_fit e.need) e.extracts p.1
+
+parser_fits : (p : ParserConfig) → states_are_of_this_step p.states ≡ true → entries_are_formed p ≡ true → ParserFits p
+parser_fits p come e =
+    let states = and_parts (eqb (length p.states) 1) (list_all (λ (s : ParserState). eqb (length s.lookups) 0) p.states) come in
+    let few = ltb (length p.entries) 65536 in
+    let each = list_all (entry_is_formed (length p.states)) p.entries in
+    let q = and_parts (few && each) (never_falls_from 0 (map (λ (e : ParserEntry). e.state) p.entries)) e in
+    let r = and_parts few each q.0 in
+    record {
+      few_states = omega (arith, eqb-true (length p.states) 1 states.0);
+      short_steps = all_by_test (entry_is_formed (length p.states)) (λ (e : ParserEntry). e.advance ≤ e.need) (short_step (length p.states)) p.entries r.1;
+      extracts = all_by_test (entry_is_formed (length p.states)) (λ (e : ParserEntry). All (λ x. IsTrue (extract_fits e.need x)) e.extracts) (extracts_fit (length p.states)) p.entries r.1;
+    }
+
+-- ---- units
+
+no_guard : (g : Option UnitGuard) → has_no_guard g ≡ true → is_none g ≡ true
+no_guard None e = refl
+no_guard (Some g) e = absurd cc
+
+-- a slot without memory does not count
+no_count : (s : SlotUnit) (m : Memory) → is_without m ≡ true → memory_is_formed s m ≡ true → (not s.counted && not (has_memory m)) ≡ true
+no_count s Without come e =
+    let counts = not s.counted in
+    let actions = eqb s.actions 0 in
+    let held = eqb s.held 0 in
+    let keys = eqb (length s.keys) 0 in
+    let p = and_parts (counts && actions && s.last && held && keys) (eqb (length s.numbers) 0) e in
+    let q = and_parts (counts && actions && s.last && held) keys p.0 in
+    let r = and_parts (counts && actions && s.last) held q.0 in
+    let t = and_parts (counts && actions) s.last r.0 in
+    and_from counts true (and_parts counts actions t.0).0 refl
+no_count s (Exact width per quanta first_way keys records counters) come e = absurd cc
+no_count s (Ternary quanta keys records counters) come e = absurd cc
+
+unit_plain : (u : ChipUnit) → unit_is_of_this_step u ≡ true → unit_is_formed u ≡ true → is_plain u ≡ true
+unit_plain (Gate g) come e = absurd cc
+unit_plain (Slot s) come e =
+    let p = and_parts (has_no_guard s.guard) (is_without s.memory) come in
+    let q = and_parts (leb s.actions 14) (memory_is_formed s s.memory) e in
+    and_from (is_none s.guard) (not s.counted && not (has_memory s.memory)) (no_guard s.guard p.0) (no_count s s.memory p.1 q.1)
+
+units_plain : (us : List ChipUnit) → list_all unit_is_of_this_step us ≡ true → list_all unit_is_formed us ≡ true → AllByRecursion (λ u. IsTrue (is_plain u)) us
+units_plain [] come each = tt
+units_plain (u ∷ us) come each =
+    let p = and_parts (unit_is_of_this_step u) (list_all unit_is_of_this_step us) come in
+    let q = and_parts (unit_is_formed u) (list_all unit_is_formed us) each in
+    (unit_plain u p.0 q.0, units_plain us p.1 q.1)
+
+-- each unit is a slot
+slots_only : (us : List ChipUnit) → list_all unit_is_of_this_step us ≡ true → count_by is_slot us ≡ length us
+slots_only [] come = refl
+slots_only (Gate g ∷ us) come = absurd cc
+slots_only (Slot s ∷ us) come =
+    let p = and_parts (has_no_guard s.guard && is_without s.memory) (list_all unit_is_of_this_step us) come in
+    let rest : count_by is_slot us ≡ length us = slots_only us p.1 in
+    let one_more : count_by is_slot (Slot s ∷ us) ≡ 1 + count_by is_slot us = sum_by-cons (λ (u : ChipUnit). cond (is_slot u) 1 0) (Slot s) us in
+    omega arith
+
+-- ---- instructions
+
+rises_least : (least : ℕ) (ns : List ℕ) → rises_from least ns ≡ true → (i : ℕ) → i < length ns → least ≤ slice_index ns i
+rises_least least [] e i lt = absurd (omega (arith, lt))
+rises_least least (n ∷ ns) e zero lt = leb-true least n (and_parts (leb least n) (rises_from (n + 1) ns) e).0
+rises_least least (n ∷ ns) e (suc i) lt =
+    let p = and_parts (leb least n) (rises_from (n + 1) ns) e in
+    let first : least ≤ n = leb-true least n p.0 in
+    let rest : n + 1 ≤ slice_index ns i = rises_least (n + 1) ns p.1 i (omega (arith, lt)) in
+    omega arith
+
+rises_at : (least : ℕ) (ns : List ℕ) → rises_from least ns ≡ true → (i j : ℕ) → i < j → j < length ns → slice_index ns i < slice_index ns j
+rises_at least [] e i j less lt = absurd (omega (arith, lt))
+rises_at least (n ∷ ns) e i zero less lt = absurd (omega (arith, less))
+rises_at least (n ∷ ns) e zero (suc j) less lt =
+    let p = and_parts (leb least n) (rises_from (n + 1) ns) e in
+    let rest : n + 1 ≤ slice_index ns j = rises_least (n + 1) ns p.1 j (omega (arith, lt)) in
+    omega arith
+rises_at least (n ∷ ns) e (suc i) (suc j) less lt =
+    let p = and_parts (leb least n) (rises_from (n + 1) ns) e in
+    rises_at (n + 1) ns p.1 i j (omega (arith, less)) (omega (arith, lt))
+
+source_is_fit : (place : Place) (len : ℕ) (s : Source) → source_is_formed place len s ≡ true → source_fits len s ≡ true
+source_is_fit place len (Word word low) e = e
+source_is_fit place len (Held low) e = refl
+source_is_fit place len (Constant value) e = e
+
+operation_fits : (place : Place) (op : Operation) → operation_is_formed place op ≡ true → OperationFits op
+operation_fits place op e =
+    let lane = lane_is_formed (lane_of_operation op) in
+    let left = source_is_formed place op.len op.left in
+    let right = source_is_formed place op.len op.right in
+    let p = and_parts (lane && left && right) (kind_is_formed op.kind op.right) e in
+    let q = and_parts (lane && left) right p.0 in
+    let r = and_parts lane left q.0 in
+    let f = lane_fits (lane_of_operation op) r.0 in
+    record {
+      exists = f.exists;
+      within = f.within;
+      left_fits = source_is_fit place op.len op.left r.1;
+      right_fits = source_is_fit place op.len op.right q.1;
+    }
+
+vliw_fits : (place : Place) (v : Vliw) → vliw_is_formed place v ≡ true → InstructionFits v
+vliw_fits place v e =
+    let few = ltb (length v.ops) 256 in
+    let each = list_all (operation_is_formed place) v.ops in
+    let words : List ℕ = map (λ (op : Operation). op.word) v.ops in
+    let p = and_parts (few && each) (rises_from 0 words) e in
+    record {
+      each = all_by_test (operation_is_formed place) OperationFits (operation_fits place) v.ops (and_parts few each p.0).1;
+      rises = λ i j less lt. rises_at 0 words p.1 i j less (rw (length-map v.ops (λ (op : Operation). op.word)) lt);
+    }
+
+code_fits : (places : List Place) (code : List Vliw) → code_is_formed places code ≡ true → AllByRecursion InstructionFits code
+code_fits [] [] e = tt
+code_fits [] (v ∷ code) e = absurd cc
+code_fits (place ∷ places) [] e = absurd cc
+code_fits (place ∷ places) (v ∷ code) e =
+    let p = and_parts (vliw_is_formed place v) (code_is_formed places code) e in
+    (vliw_fits place v p.0, code_fits places code p.1)
+
+-- ---- stages
+
+stage_fits : (s : Stage) → stage_is_of_this_step s ≡ true → stage_is_formed s ≡ true → count_by is_slot s.units ≤ 16 → StageFits s
+stage_fits s come e slots =
+    let few = ltb (length s.units) 256 in
+    let each = list_all unit_is_formed s.units in
+    let code = code_is_formed (places_of s.units) s.code in
+    let srows = srows_are_formed s.units s.srows in
+    let p = and_parts (few && each && code && srows) (trows_are_formed s.units s.trows) e in
+    let q = and_parts (few && each && code) srows p.0 in
+    let r = and_parts (few && each) code q.0 in
+    let t = and_parts few each r.0 in
+    let all : count_by is_slot s.units ≡ length s.units = slots_only s.units come in
+    record {
+      few_units = omega arith;
+      plain = All-from_recursion (λ u. IsTrue (is_plain u)) s.units (units_plain s.units come t.1);
+      code = All-from_recursion InstructionFits s.code (code_fits (places_of s.units) s.code r.1);
+    }
+
+each_stage_fits : (k : ℕ) (ss : List Stage) → list_all stage_is_of_this_step ss ≡ true → list_all stage_is_formed ss ≡ true → stage_hit slots_hit k ss ≡ None → AllByRecursion StageFits ss
+each_stage_fits k [] come each no_hit = tt
+each_stage_fits k (s ∷ ss) come each no_hit =
+    let p = and_parts (stage_is_of_this_step s) (list_all stage_is_of_this_step ss) come in
+    let q = and_parts (stage_is_formed s) (list_all stage_is_formed ss) each in
+    let n = neither (slots_hit k s) (stage_hit slots_hit (k + 1) ss) no_hit in
+    (stage_fits s p.0 q.0 (within 16 10 k (count_by is_slot s.units) n.0), each_stage_fits (k + 1) ss p.1 q.1 n.1)
+
+starts_rise : (ns : List ℕ) → starts_are_formed ns ≡ true → rises_from 0 ns ≡ true
+starts_rise [] e = refl
+starts_rise (n ∷ ns) e =
+    let p = and_parts (eqb n 0) (rises_from 1 ns) e in
+    let first : n ≡ 0 = eqb-true n 0 p.0 in
+    rw first p.1
+
+stages_rise : (ss : List Stage) → starts_are_formed (map (λ (s : Stage). s.start) ss) ≡ true → (j k : ℕ) → j < k → k < length ss → start_of ss j < start_of ss k
+stages_rise ss e j k less lt =
+    let starts : List ℕ = map (λ (s : Stage). s.start) ss in
+    rises_at 0 starts (starts_rise starts e) j k less (rw (length-map ss (λ (s : Stage). s.start)) lt)
+
+last_start : (ss : List Stage) (d : Stage) → 0 < length ss → last_start_hit ss ≡ None → start_of ss (length ss - 1) ≤ 372
+last_start ss d some e =
+    let below : length ss - 1 < length ss = omega arith in
+    let found : slice_get ss (length ss - 1) ≡ Some (get_or ss (length ss - 1) d) = slice_get-get_or ss (length ss - 1) d below in
+    let h = rw found at e in
+    let fits : (get_or ss (length ss - 1) d).start ≤ 372 = within 372 16 (length ss - 1) (get_or ss (length ss - 1) d).start h in
+    rw (get_or-map (λ (s : Stage). s.start) ss (length ss - 1) d 0 below) fits
+
+upto_last : (ss : List Stage) → ((j k : ℕ) → j < k → k < length ss → start_of ss j < start_of ss k) → start_of ss (length ss - 1) ≤ 372
+    → (k : ℕ) → k < length ss → start_of ss k ≤ 372
+upto_last ss rise last k lt =
+    elim (cases_lt k (length ss - 1)) [
+      | inl less ↦ let before : start_of ss k < start_of ss (length ss - 1) = rise k (length ss - 1) less (omega arith) in omega arith
+      | inr more ↦ let same : k ≡ length ss - 1 = omega arith in rw same last
+    ]
+
+starts_end : (ss : List Stage) → ((j k : ℕ) → j < k → k < length ss → start_of ss j < start_of ss k) → last_start_hit ss ≡ None
+    → (k : ℕ) → k < length ss → start_of ss k ≤ 372
+starts_end [] rise e k lt = absurd (omega (arith, lt))
+starts_end (s ∷ ss) rise e k lt = upto_last (s ∷ ss) rise (last_start (s ∷ ss) s (omega arith) e) k lt
+
+stages_fit : (ss : List Stage) → list_all stage_is_of_this_step ss ≡ true → stages_are_formed ss ≡ true → length ss ≤ 32 → stage_limit_hit ss ≡ None → StagesFit ss
+stages_fit ss come e few_stages no_hit =
+    let few = ltb (length ss) 256 in
+    let each = list_all stage_is_formed ss in
+    let p = and_parts (few && each) (starts_are_formed (map (λ (s : Stage). s.start) ss)) e in
+    let q = and_parts few each p.0 in
+    let n = neither (stage_hit slots_hit 0 ss) (or_hit (stage_hit code_hit 0 ss) (or_hit (nodes_hit ss) (last_start_hit ss))) no_hit in
+    let m = neither (stage_hit code_hit 0 ss) (or_hit (nodes_hit ss) (last_start_hit ss)) n.1 in
+    let l = neither (nodes_hit ss) (last_start_hit ss) m.1 in
+    record {
+      few = few_stages;
+      rise = stages_rise ss p.1;
+      last = starts_end ss (stages_rise ss p.1) l.1;
+      each = All-from_recursion StageFits ss (each_stage_fits 0 ss come q.1 n.0);
+    }
+
+-- ---- all of it
+
+pub runnable : (c : Config) → Formed c → IsWithinLimits c → IsRunnable c
+runnable c formed limits =
+    let step = is_of_this_step c in
+    let in_port = is_lane_of 9 c.in_port in
+    let out_port = is_lane_of 9 c.out_port in
+    let drop = is_lane_of 1 c.drop in
+    let ports = ports_are_formed c in
+    let headers = headers_are_formed c.headers in
+    let entries = entries_are_formed c.parser in
+    let stages = stages_are_formed c.stages in
+    let a = and_parts (step && ports && headers && entries && stages) (nodes_are_formed c) formed in
+    let b = and_parts (step && ports && headers && entries) stages a.0 in
+    let d = and_parts (step && ports && headers) entries b.0 in
+    let e = and_parts (step && ports) headers d.0 in
+    let f = and_parts step ports e.0 in
+    let come = and_parts (states_are_of_this_step c.parser.states) (list_all stage_is_of_this_step c.stages) f.0 in
+    let drops = and_parts (in_port && out_port) drop f.1 in
+    let two = and_parts in_port out_port drops.0 in
+    let few_headers = and_parts (leb (length c.headers) 64) (list_all header_is_formed c.headers) e.1 in
+    let of_entries = first_hit entry_hit c.parser.entries in
+    let of_stages = stage_limit_hit c.stages in
+    let n = neither (stages_hit c) (or_hit (entries_hit c) (or_hit of_entries of_stages)) limits in
+    let m = neither (entries_hit c) (or_hit of_entries of_stages) n.1 in
+    let l = neither of_entries of_stages m.1 in
+    record {
+      in_port = lane_of_fits 9 c.in_port two.0;
+      port_bits = lane_of_len 9 c.in_port two.0;
+      out_port = lane_of_fits 9 c.out_port two.1;
+      out_bits = lane_of_len 9 c.out_port two.1;
+      drop = lane_of_fits 1 c.drop drops.1;
+      headers = all_by_test header_is_formed HeaderFits header_fits c.headers few_headers.1;
+      parser = parser_fits c.parser come.0 d.1;
+      stages = stages_fit c.stages come.1 b.1 (within 32 1 0 (length c.stages) n.0) l.1;
+    }
