@@ -29,9 +29,9 @@ pub record HasImage (files : Files) (image packets : List ℕ) : Type 0 where
 pub record HasBadImage (files : Files) (image packets : List ℕ) : Type 0 where
   pub text : IsWithin files packets packets_limit
   pub bytes : IsWithin files image image_limit
-  pub fault : ImageFault
-  pub is_bad : image_of bytes.bytes ≡ Err fault
-  pub is_no_memory : fault ≢ fault.NoMemory
+  pub told : ImageFault
+  pub is_bad : image_of bytes.bytes ≡ Err told
+  pub is_of_bytes : told ≢ fault.NoMemory
 
 abbrev pub SimTooLong : Files → List ℕ → List ℕ → Type 0
 SimTooLong files image packets = TooLongIn files image image_limit packets packets_limit
@@ -57,7 +57,7 @@ SimCauses files image packets NoMemory = Unit {0}
 abbrev pub SimPrints : Files → List ℕ → List ℕ → List ℕ → Type 0
 SimPrints files image packets printed =
     ((h : HasImage files image packets) × (printed ≡ printed_of h.config (packets_of h.text.bytes)))
-    ⊎ ((h : HasBadImage files image packets) × (printed ≡ bad_image_line h.fault))
+    ⊎ ((h : HasBadImage files image packets) × (printed ≡ bad_image_line h.told))
 
 -- the answers to `sim`
 abbrev pub IsOfSim : Status → Type 0

@@ -3,7 +3,8 @@
 ghost use Rattle.std.specs.Prelude.{◌≡◌, ◌≢◌, ◌≤◌, ◌⊎◌, ◌++◌, ℕ, List, Some, None, length, IsTrue, IsSome, IfOk, string_bytes};
 ghost use Rattle.rmt_io.specs.Faults.{Rose};
 ghost use Rattle.rmt_packets.specs.PacketText.{packets_of};
-ghost use Rattle.rmt_chip.specs.Runnable.{IsRunnable};
+ghost use Rattle.rmt_config.specs.Form.{Formed};
+ghost use Rattle.rmt_config.specs.Limits.{IsWithinLimits};
 ghost use Rattle.rmt.specs.SimText.{printed_of, bad_image_line};
 ghost use Rattle.rmt.specs.SimPromises.{SimCauses, SimAbsent, SimPrints, IsOfSim};
 
@@ -17,7 +18,8 @@ use rmt_io::sink::Sink;
 use std::alloc::{AllocError, Global};
 
 fn run_text<O: Sink>(alloc: Global, config: Config, text: &[u8], out: &mut O) -> Status
-    requires runs { IsRunnable config }
+    requires form { Formed config }
+    requires limits { IsWithinLimits config }
     requires short { length text.now ≤ 67108864 }
     ensures possible { (result ≡ Status.Done) ⊎ (result ≡ Status.BadPackets) ⊎ (result ≡ Status.WriteFault) ⊎ (result ≡ Status.NoMemory) }
     ensures done { result ≡ Status.Done → (packets_of text.now).bad ≡ None }
@@ -73,17 +75,20 @@ pub fn simulate<F: Shelf, O: Sink>(
     };
     match read_image(alloc, &texts.first) {
         Ok(config) => run_text(alloc, config, &texts.second, out),
-        Err(ImageFault::NoMemory) => Status::NoMemory,
         Err(fault) => tell_bad_image(alloc, fault, out),
     }
 }
 
-/// Prints the last line of a bad image.
+/// Prints the last line of a bad image; where memory was wanted there is none.
 fn tell_bad_image<O: Sink>(alloc: Global, fault: ImageFault, out: &mut O) -> Status
     ensures status { (result ≡ Status.BadImage) ⊎ (result ≡ Status.WriteFault) ⊎ (result ≡ Status.NoMemory) }
+    ensures of_bytes { result ≡ Status.BadImage → fault ≢ ImageFault.NoMemory }
     ensures printed { result ≡ Status.BadImage → IsTrue (O.told out.old) → O.bytes out.new ≡ O.bytes out.old ++ bad_image_line fault }
     ensures failed { result ≡ Status.WriteFault → Rose (O.faults out.old) (O.faults out.new) }
 {
+    if let ImageFault::NoMemory = fault {
+        return Status::NoMemory;
+    }
     match line_of(alloc, fault) {
         Ok(line) => end_with(out, line.as_bytes(), Status::BadImage),
         Err(_) => Status::NoMemory,
