@@ -1,5 +1,5 @@
 -- A tree that the grammar reads as a rule is a node of that rule, and its parts, one after another, are those of the rule.
-use Rattle.std.proofs.Common.{◌≡◌, ◌∙◌, ◌⊎◌, inl, inr, sym, ap, refl, subst, ℕ, zero, suc, ◌+◌, ◌<◌, ◌≤◌, List, [], ◌∷◌, ◌++◌, map, length, arith, append_assoc, append-nil, Some, true, false}
+use Rattle.std.proofs.Common.{◌≡◌, ◌∙◌, ◌⊎◌, inl, inr, sym, ap, refl, subst, ℕ, zero, suc, ◌+◌, ◌<◌, List, [], ◌∷◌, ◌++◌, map, length, arith, append_assoc, Some}
 use Rattle.std.specs.Prelude.{slice_get, Vec}
 use Rattle.std.specs.List.{flat_map}
 use Rattle.std.proofs.lemmas.List.{append_cancel_left, append_cancel_right}
@@ -17,8 +17,9 @@ use Rattle.rmt_syntax.specs.declared.grammar.Part.{Part}
 use Rattle.rmt_syntax.specs.declared.grammar.Part.TheVariants as parts
 use Rattle.rmt_syntax.specs.declared.grammar.Phrase.{Phrase}
 use Rattle.rmt_syntax.specs.declared.grammar.Phrase.TheVariants.{Whole, Done}
-use Rattle.rmt_syntax.specs.Grammar.{choices}
-use Rattle.rmt_syntax.specs.Trees.{Mark, leaf, opens, shuts, marks, marks_step, Goal, part, phrase, shut, Reads, nothing, token, node, end, done, choose, IsOf, AreParts, ArePartsOf, Follows, stop, onward}
+use Rattle.rmt_syntax.specs.declared.terminal.Terminal.{Terminal}
+use Rattle.rmt_syntax.specs.Grammar.{choices, terminal_of}
+use Rattle.rmt_syntax.specs.Trees.{Mark, leaf, opens, shuts, marks, marks_step, Goal, part, phrase, shut, Reads, nothing, token, node, end, done, choose, IsOf, AreParts, ArePartsOf, IsTokenOf, stop, onward}
 use Rattle.rmt_syntax.proofs.Marks.{marks_one, marks_many}
 use Rattle.rmt_syntax.proofs.Machine.{after_end, after_done, after_node, after_one}
 
@@ -118,9 +119,9 @@ closes (choose {gs = gs} {ms = ms} i ps next is d) n b = ap (λ k. rest_of k (ms
 view : (u : Tree) → ((t : Token) × (u ≡ One t)) ⊎ ((r : Rule) × (v : Vec Tree Global) × (u ≡ Many r v))
 view u = layer (out-Tree u) (roll-out-Tree u)
   where
-  layer : (x : Tree-F Tree) → roll-Tree x ≡ u → ((t : Token) × (u ≡ One t)) ⊎ ((r : Rule) × (v : Vec Tree Global) × (u ≡ Many r v))
-  layer (tree.One t) e = inl (t, sym e ∙ rolls-One t)
-  layer (tree.Many r v) e = inr (r, v, sym e ∙ rolls-Many r v)
+    layer : (x : Tree-F Tree) → roll-Tree x ≡ u → ((t : Token) × (u ≡ One t)) ⊎ ((r : Rule) × (v : Vec Tree Global) × (u ≡ Many r v))
+    layer (tree.One t) e = inl (t, sym e ∙ rolls-One t)
+    layer (tree.Many r v) e = inr (r, v, sym e ∙ rolls-Many r v)
 
 trees_close : (us : List Tree) (n : ℕ) (b : List Mark) → rest_of (suc n) (flat_map marks us ++ b) ≡ rest_of (suc n) b
 trees_close [] n b = refl
@@ -141,32 +142,34 @@ one_part (parts.One c) a u rest b d e =
     let o = after_one d in
     let a_is : a ≡ leaf o.0 ∷ [] = o.2 ∙ ap (λ v. leaf o.0 ∷ v) (nothing_more o.4) in
     elim (view u) [
-      inl w ↦
-        let m : marks u ≡ leaf w.0 ∷ [] = ap marks w.1 ∙ marks_one w.0 in
-        let k : leaf w.0 ∷ rest ≡ leaf o.0 ∷ b = ap (λ v. v ++ rest) (sym m) ∙ e ∙ ap (λ v. v ++ b) a_is in
-        m ∙ ap (λ v. leaf v ∷ []) (leaf_is w.0 o.0 rest b k) ∙ sym a_is
-    | inr w ↦
-        let m : marks u ≡ opens w.0 ∷ (flat_map marks w.1.items ++ shuts w.0 ∷ []) = ap marks w.2 ∙ marks_many w.0 w.1 in
-        let k : opens w.0 ∷ ((flat_map marks w.1.items ++ shuts w.0 ∷ []) ++ rest) ≡ leaf o.0 ∷ b = ap (λ v. v ++ rest) (sym m) ∙ e ∙ ap (λ v. v ++ b) a_is in
-        cc (k) ]
+      | inl w ↦
+          let m : marks u ≡ leaf w.0 ∷ [] = ap marks w.1 ∙ marks_one w.0 in
+          let k : leaf w.0 ∷ rest ≡ leaf o.0 ∷ b = ap (λ v. v ++ rest) (sym m) ∙ e ∙ ap (λ v. v ++ b) a_is in
+          m ∙ ap (λ v. leaf v ∷ []) (leaf_is w.0 o.0 rest b k) ∙ sym a_is
+      | inr w ↦
+          let m : marks u ≡ opens w.0 ∷ (flat_map marks w.1.items ++ shuts w.0 ∷ []) = ap marks w.2 ∙ marks_many w.0 w.1 in
+          let k : opens w.0 ∷ ((flat_map marks w.1.items ++ shuts w.0 ∷ []) ++ rest) ≡ leaf o.0 ∷ b = ap (λ v. v ++ rest) (sym m) ∙ e ∙ ap (λ v. v ++ b) a_is in
+          cc (k)
+    ]
 one_part (parts.Node r) a u rest b d e =
     let o = after_node d in
     let s = split o.2 (phrase (Whole r) ∷ []) (shut r ∷ []) refl in
     let f = after_end s.4 in
     let a_is : a ≡ opens r ∷ (s.0 ++ shuts r ∷ []) = o.1 ∙ ap (λ v. opens r ∷ v) (s.2 ∙ ap (λ v. s.0 ++ v) (f.1 ∙ ap (λ v. shuts r ∷ v) (nothing_more f.2))) in
     elim (view u) [
-      inl w ↦
-        let m : marks u ≡ leaf w.0 ∷ [] = ap marks w.1 ∙ marks_one w.0 in
-        let k : leaf w.0 ∷ rest ≡ opens r ∷ ((s.0 ++ shuts r ∷ []) ++ b) = ap (λ v. v ++ rest) (sym m) ∙ e ∙ ap (λ v. v ++ b) a_is in
-        cc (k)
-    | inr w ↦
-        let inner : List Mark = flat_map marks w.1.items in
-        let m : marks u ≡ opens w.0 ∷ (inner ++ shuts w.0 ∷ []) = ap marks w.2 ∙ marks_many w.0 w.1 in
-        let k : opens w.0 ∷ ((inner ++ shuts w.0 ∷ []) ++ rest) ≡ opens r ∷ ((s.0 ++ shuts r ∷ []) ++ b) = ap (λ v. v ++ rest) (sym m) ∙ e ∙ ap (λ v. v ++ b) a_is in
-        let tails : inner ++ (shuts w.0 ∷ rest) ≡ s.0 ++ (shuts r ∷ b) =
-            sym (append_assoc inner (shuts w.0 ∷ []) rest) ∙ (opens_is _ _ _ _ k).1 ∙ append_assoc s.0 (shuts r ∷ []) b in
-        let behind : rest ≡ b = sym (trees_close w.1.items 0 (shuts w.0 ∷ rest)) ∙ ap (rest_of 1) tails ∙ closes s.3 0 (shuts r ∷ b) in
-        append_cancel_right (marks u) a b (ap (λ v. marks u ++ v) (sym behind) ∙ e) ]
+      | inl w ↦
+          let m : marks u ≡ leaf w.0 ∷ [] = ap marks w.1 ∙ marks_one w.0 in
+          let k : leaf w.0 ∷ rest ≡ opens r ∷ ((s.0 ++ shuts r ∷ []) ++ b) = ap (λ v. v ++ rest) (sym m) ∙ e ∙ ap (λ v. v ++ b) a_is in
+          cc (k)
+      | inr w ↦
+          let inner : List Mark = flat_map marks w.1.items in
+          let m : marks u ≡ opens w.0 ∷ (inner ++ shuts w.0 ∷ []) = ap marks w.2 ∙ marks_many w.0 w.1 in
+          let k : opens w.0 ∷ ((inner ++ shuts w.0 ∷ []) ++ rest) ≡ opens r ∷ ((s.0 ++ shuts r ∷ []) ++ b) = ap (λ v. v ++ rest) (sym m) ∙ e ∙ ap (λ v. v ++ b) a_is in
+          let tails : inner ++ (shuts w.0 ∷ rest) ≡ s.0 ++ (shuts r ∷ b) =
+          sym (append_assoc inner (shuts w.0 ∷ []) rest) ∙ (opens_is _ _ _ _ k).1 ∙ append_assoc s.0 (shuts r ∷ []) b in
+          let behind : rest ≡ b = sym (trees_close w.1.items 0 (shuts w.0 ∷ rest)) ∙ ap (rest_of 1) tails ∙ closes s.3 0 (shuts r ∷ b) in
+          append_cancel_right (marks u) a b (ap (λ v. marks u ++ v) (sym behind) ∙ e)
+    ]
 
 parts_append : (ps qs : List Part) (us vs : List Tree) → AreParts ps us → AreParts qs vs → AreParts (ps ++ qs) (us ++ vs)
 parts_append [] qs [] vs h k = k
@@ -181,8 +184,9 @@ part_first (parts.Node s) a b tail r d e = let o = after_node d in let k : opens
 
 tree_first : (u : Tree) (b tail : List Mark) (r : Rule) → marks u ++ b ≡ shuts r ∷ tail → ⊥
 tree_first u b tail r e = elim (view u) [
-      inl w ↦ (let k : leaf w.0 ∷ b ≡ shuts r ∷ tail = ap (λ v. v ++ b) (sym (ap marks w.1 ∙ marks_one w.0)) ∙ e in cc (k))
-    | inr w ↦ (let k : opens w.0 ∷ ((flat_map marks w.1.items ++ shuts w.0 ∷ []) ++ b) ≡ shuts r ∷ tail = ap (λ v. v ++ b) (sym (ap marks w.2 ∙ marks_many w.0 w.1)) ∙ e in cc (k)) ]
+  | inl w ↦ (let k : leaf w.0 ∷ b ≡ shuts r ∷ tail = ap (λ v. v ++ b) (sym (ap marks w.1 ∙ marks_one w.0)) ∙ e in cc (k))
+  | inr w ↦ (let k : opens w.0 ∷ ((flat_map marks w.1.items ++ shuts w.0 ∷ []) ++ b) ≡ shuts r ∷ tail = ap (λ v. v ++ b) (sym (ap marks w.2 ∙ marks_many w.0 w.1)) ∙ e in cc (k))
+]
 
 -- the trees that stand at the parts, and the others
 record Cut (ps : List Part) (us : List Tree) (gs : List Goal) (last : List Mark) : Type 0 where
@@ -232,19 +236,32 @@ phrase_parts (suc n) x us r ms h (choose i [] next is d) e =
     let c = cut [] us (phrase next ∷ shut r ∷ []) r [] ms d e in
     let last : next ≡ Done = done_is next (empty_ends x i next is).1 in
     form_parts x i [] next us (phrase next ∷ shut r ∷ []) (shuts r ∷ []) c is
-        (subst (λ v. ArePartsOf v c.behind) (sym last) (done_parts c.behind r (subst (λ v. Reads (phrase v ∷ shut r ∷ []) (flat_map marks c.behind ++ shuts r ∷ [])) last c.reads)))
+    (subst (λ v. ArePartsOf v c.behind) (sym last) (done_parts c.behind r (subst (λ v. Reads (phrase v ∷ shut r ∷ []) (flat_map marks c.behind ++ shuts r ∷ [])) last c.reads)))
 phrase_parts (suc n) x us r ms h (choose i (q ∷ qs) next is d) e =
     let c = cut (q ∷ qs) us (phrase next ∷ shut r ∷ []) r [] ms d e in
     form_parts x i (q ∷ qs) next us (phrase next ∷ shut r ∷ []) (shuts r ∷ []) c is
-        (phrase_parts n next c.behind r (flat_map marks c.behind ++ shuts r ∷ []) (omega (arith, h, c.fewer)) c.reads refl)
+    (phrase_parts n next c.behind r (flat_map marks c.behind ++ shuts r ∷ []) (omega (arith, h, c.fewer)) c.reads refl)
 
 -- a tree that reads as a rule is a node of it
 pub node_shape : (r : Rule) (t : Tree) → IsOf r t → (v : Vec Tree Global) × (t ≡ Many r v) × ArePartsOf (Whole r) v.items
 node_shape r t d = elim (view t) [
-      inl w ↦ (let o = after_node d in let k : leaf w.0 ∷ [] ≡ opens r ∷ o.0 = sym (ap marks w.1 ∙ marks_one w.0) ∙ o.1 in cc (k))
-    | inr w ↦
-        let o = after_node d in
-        let m : marks t ≡ opens w.0 ∷ (flat_map marks w.1.items ++ shuts w.0 ∷ []) = ap marks w.2 ∙ marks_many w.0 w.1 in
-        let k = opens_is w.0 r _ _ (sym m ∙ o.1) in
-        let body : o.0 ≡ flat_map marks w.1.items ++ shuts r ∷ [] = sym k.1 ∙ ap (λ v. flat_map marks w.1.items ++ shuts v ∷ []) k.0 in
-        (w.1, w.2 ∙ ap (λ v. Many v w.1) k.0, phrase_parts (suc (length w.1.items)) (Whole r) w.1.items r o.0 (omega arith) o.2 body) ]
+  | inl w ↦ (let o = after_node d in let k : leaf w.0 ∷ [] ≡ opens r ∷ o.0 = sym (ap marks w.1 ∙ marks_one w.0) ∙ o.1 in cc (k))
+  | inr w ↦
+      let o = after_node d in
+      let m : marks t ≡ opens w.0 ∷ (flat_map marks w.1.items ++ shuts w.0 ∷ []) = ap marks w.2 ∙ marks_many w.0 w.1 in
+      let k = opens_is w.0 r _ _ (sym m ∙ o.1) in
+      let body : o.0 ≡ flat_map marks w.1.items ++ shuts r ∷ [] = sym k.1 ∙ ap (λ v. flat_map marks w.1.items ++ shuts v ∷ []) k.0 in
+      (w.1, w.2 ∙ ap (λ v. Many v w.1) k.0, phrase_parts (suc (length w.1.items)) (Whole r) w.1.items r o.0 (omega arith) o.2 body)
+]
+
+-- a tree that reads as a token is one
+pub token_shape : (c : Terminal) (t : Tree) → Reads (part (parts.One c) ∷ []) (marks t) → IsTokenOf c t
+token_shape c t d =
+    let o = after_one d in
+    elim (view t) [
+      | inl w ↦
+          let m : leaf w.0 ∷ [] ≡ leaf o.0 ∷ o.1 = sym (ap marks w.1 ∙ marks_one w.0) ∙ o.2 in
+          let it : w.0 ≡ o.0 = leaf_is w.0 o.0 [] o.1 m in
+          (w.0, w.1, ap (λ (v : Token). terminal_of v.what) it ∙ o.3)
+      | inr w ↦ (let k : opens w.0 ∷ (flat_map marks w.1.items ++ shuts w.0 ∷ []) ≡ leaf o.0 ∷ o.1 = sym (ap marks w.2 ∙ marks_many w.0 w.1) ∙ o.2 in cc (k))
+    ]

@@ -67,7 +67,9 @@ fn read(alloc: Global, text: &[u8]) -> Result<String, AllocError>
 
 fn fault_text(alloc: Global, fault: &ProgramFault) -> Result<String, AllocError> {
     match fault {
-        ProgramFault::At { code, line, column } => format!(in alloc; "fault {code} {line}:{column}"),
+        ProgramFault::At { code, line, column } => format!(in alloc;
+            "fault {code} {line}:{column}"
+        ),
         ProgramFault::NoMemory => Err(AllocError),
     }
 }
