@@ -253,8 +253,6 @@ node_shape r t d = elim (view t) [
       let body : o.0 ≡ flat_map marks w.1.items ++ shuts r ∷ [] = sym k.1 ∙ ap (λ v. flat_map marks w.1.items ++ shuts v ∷ []) k.0 in
       (w.1, w.2 ∙ ap (λ v. Many v w.1) k.0, phrase_parts (suc (length w.1.items)) (Whole r) w.1.items r o.0 (omega arith) o.2 body)
 ]
-<<<<<<< HEAD
-=======
 
 -- a tree that reads as a token is one
 pub token_shape : (c : Terminal) (t : Tree) → Reads (part (parts.One c) ∷ []) (marks t) → IsTokenOf c t
@@ -267,4 +265,3 @@ token_shape c t d =
           (w.0, w.1, ap (λ (v : Token). terminal_of v.what) it ∙ o.3)
       | inr w ↦ (let k : opens w.0 ∷ (flat_map marks w.1.items ++ shuts w.0 ∷ []) ≡ leaf o.0 ∷ o.1 = sym (ap marks w.2 ∙ marks_many w.0 w.1) ∙ o.2 in cc (k))
     ]
->>>>>>> af46d93cb75e979cf3c014ae3a9cb3f31f31db34

@@ -9,11 +9,8 @@ ghost use Rattle.std.specs.Prelude.{[], ◌∷◌};
 pub fn node_parts()
     ensures { (r : Rule) (t : Tree) → IsOf r t → IsNodeOf r t }
 {}
-<<<<<<< HEAD
-=======
 
 /// A tree that stands where a token is to stand is that token.
 pub fn token_part()
     ensures { (c : Terminal) (t : Tree) → Reads (part (One c) ∷ []) (marks t) → IsTokenOf c t }
 {}
->>>>>>> af46d93cb75e979cf3c014ae3a9cb3f31f31db34
