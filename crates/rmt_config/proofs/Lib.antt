@@ -1,4 +1,7 @@
 pub mod ExamplesParts
 pub mod Examples
 pub mod ExamplesLookup
+pub mod ExamplesSpelling
 pub mod RunLaws
+pub mod FormLemmas
+pub mod CountsLemmas

@@ -2,4 +2,6 @@
 #![tactic(auto)]
 
 pub mod config;
+pub mod form;
+pub mod limits;
 pub mod vector;

@@ -1,0 +1,13 @@
+-- What the sink took and what is left are the text.
+use Rattle.std.proofs.Common.{◌≡◌, ◌≤◌, ◌++◌, IsTrue, length}
+use Rattle.rmt.proofs.printing.print.Given as goal
+
+abbrev pub invariant-loop-rest : goal.invariant-loop-rest
+invariant-loop-rest g l = record {
+  text : IsTrue (g.O.Sink.told l.fn.out) → g.O.Sink.bytes l.out ++ l.rest ≡ g.O.Sink.bytes l.fn.out ++ l.fn.text;
+  tells : g.O.Sink.told l.out ≡ g.O.Sink.told l.fn.out;
+  counts : g.O.Sink.faults l.fn.out ≤ g.O.Sink.faults l.out;
+}
+
+abbrev pub decreases-loop-rest : goal.decreases-loop-rest
+decreases-loop-rest g l = length l.rest

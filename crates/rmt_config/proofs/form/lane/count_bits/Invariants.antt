@@ -1,0 +1,6 @@
+use Rattle.std.proofs.Common.{◌≡◌, ◌≤◌, ◌*◌, take}
+use Rattle.rmt_config.specs.Form.{bits_of_lanes}
+use Rattle.rmt_config.proofs.form.lane.count_bits.Given as goal
+
+abbrev pub invariant-loop-lane : goal.invariant-loop-lane
+invariant-loop-lane l = record { counted : l.bits ≡ bits_of_lanes (take l.lane-index l.lanes); small : l.bits ≤ 255 * l.lane-index }

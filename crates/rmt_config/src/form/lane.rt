@@ -1,0 +1,49 @@
+ghost use Rattle.std.specs.Prelude.{◌≡◌, ◌<◌, length};
+ghost use Rattle.std.specs.List.{list_all};
+ghost use Rattle.rmt_config.specs.Form.{lane_is_formed, is_lane_of, bits_of_lanes, ports_are_formed};
+
+use crate::config::Config;
+use rmt_bits::lane::{Lane, word_size};
+
+/// Whether a lane has 1 to 32 bits that lie in a word of the vector.
+pub fn lane_fits(lane: Lane) -> bool
+    ensures { result ≡ lane_is_formed lane }
+{
+    lane.word < 224
+        && 1 <= lane.len
+        && lane.len <= 32
+        && lane.low as u16 + lane.len as u16 <= word_size(lane.word) as u16
+}
+
+/// Whether it is such a lane of that many bits.
+pub fn lane_fits_of(len: u8, lane: Lane) -> bool
+    ensures { result ≡ is_lane_of len lane }
+{
+    lane_fits(lane) && lane.len == len
+}
+
+pub fn lanes_fit(lanes: &[Lane]) -> bool
+    ensures { result ≡ list_all lane_is_formed lanes.now }
+{
+    lanes.iter().all(|lane| lane_fits(*lane))
+}
+
+/// How many bits lanes have together.
+pub fn count_bits(lanes: &[Lane]) -> u32
+    requires { length lanes.now < 65536 }
+    ensures { result ≡ bits_of_lanes lanes.now }
+{
+    let mut bits = 0;
+    for lane in lanes {
+        bits += lane.len as u32;
+    }
+    bits
+}
+
+pub fn ports_fit(config: &Config) -> bool
+    ensures { result ≡ ports_are_formed config.now }
+{
+    lane_fits_of(9, config.in_port)
+        && lane_fits_of(9, config.out_port)
+        && lane_fits_of(1, config.drop)
+}

@@ -1,0 +1,10 @@
+use Rattle.std.proofs.Common.{ap, ◌∙◌, arith}
+use Rattle.rmt_image.specs.Reading.{image_of}
+use Rattle.rmt_image.proofs.Whole.{is_found, image_again}
+use Rattle.rmt_image.proofs.reading.read_image.Goals as goal
+
+pub returns-clause-found : goal.returns-clause-found
+returns-clause-found c = is_found c.args.bytes.now c.image.result (λ i. omega (arith, c.type_inv.bytes i)) c.image.ensures
+
+pub returns-clause-only : goal.returns-clause-only
+returns-clause-only c = λ config fit formed limits same other. c.image.ensures other ∙ ap image_of same ∙ image_again config fit formed limits

@@ -1,0 +1,73 @@
+ghost use Rattle.std.specs.Prelude.{◌≡◌};
+ghost use Rattle.rmt_image.specs.declared.fault.ImageFault.TheVariants.{NoMemory};
+ghost use Rattle.rmt_image.specs.declared.fault.ReadError.TheVariants.{Memory};
+
+use rmt_config::limits::LimitHit;
+use std::alloc::{AllocError, AllocFailed};
+use thiserror::Error;
+
+/// Why an image was not read or written.
+#[derive(Clone, Copy, Debug, Drop, PartialEq, Eq, Error)]
+pub enum ImageFault {
+    #[error("out of memory")]
+    NoMemory,
+    #[error("the file is no image: it does not begin with RMTI")]
+    Magic,
+    #[error("the image is of another version than 1")]
+    Version,
+    #[error("the image ends inside an item")]
+    Short,
+    #[error("the image breaks a rule of its form")]
+    Form,
+    #[error("bytes are left after the configuration")]
+    Trailing,
+    #[error("the configuration passes limit {} of the chip in stage {}", .0.limit, .0.stage)]
+    Limit(LimitHit),
+}
+
+impl From<AllocError> for ImageFault {
+    ghost from_gives = { λ _ e. e ≡ NoMemory };
+
+    fn from(_e: AllocError) -> ImageFault {
+        ImageFault::NoMemory
+    }
+}
+
+impl<T: Drop> From<AllocFailed<T>> for ImageFault {
+    ghost from_gives = { λ _ e. e ≡ NoMemory };
+
+    fn from(_e: AllocFailed<T>) -> ImageFault {
+        ImageFault::NoMemory
+    }
+}
+
+/// What is wrong with the bytes of a configuration: the first fault from the front.
+#[derive(Clone, Copy, Debug, PartialEq, Eq)]
+pub enum ReadFault {
+    /// The bytes end inside an item.
+    Short,
+    /// An item breaks a rule of form.
+    Form,
+}
+
+#[derive(Clone, Copy, Debug, PartialEq, Eq)]
+pub enum ReadError {
+    Memory,
+    Fault(ReadFault),
+}
+
+impl From<AllocError> for ReadError {
+    ghost from_gives = { λ _ e. e ≡ Memory };
+
+    fn from(_e: AllocError) -> ReadError {
+        ReadError::Memory
+    }
+}
+
+impl<T: Drop> From<AllocFailed<T>> for ReadError {
+    ghost from_gives = { λ _ e. e ≡ Memory };
+
+    fn from(_e: AllocFailed<T>) -> ReadError {
+        ReadError::Memory
+    }
+}

@@ -1,0 +1,13 @@
+//! Images: the bytes of a configuration, written and read.
+#![tactic(auto)]
+
+mod fault;
+mod reading;
+mod writing;
+
+pub use fault::ImageFault;
+pub use reading::{read_image, spells_one};
+pub use writing::write_image;
+
+#[cfg(test)]
+mod tests;

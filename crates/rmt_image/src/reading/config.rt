@@ -1,0 +1,46 @@
+ghost use Rattle.std.specs.Prelude.{◌≡◌};
+ghost use Rattle.rmt_image.specs.Reading.{Gives, ports_at, config_at};
+
+use crate::fault::ReadError;
+use crate::reading::header::headers_of;
+use crate::reading::lane::lane_of_bits;
+use crate::reading::number::byte_of;
+use crate::reading::parser::parser_of;
+use crate::reading::stage::stages_of;
+use rmt_bits::lane::Lane;
+use rmt_bits::sequence::Sequence;
+use rmt_config::config::Config;
+use std::alloc::Global;
+
+#[tactic(auto, unfolding(crate::specs::Reading::ports_at))]
+fn ports_of(bytes: &[u8]) -> Result<((u8, (Lane, (Lane, Lane))), &[u8]), ReadError>
+    ensures { Gives (λ x. (x.0, x.1.now)) result (ports_at bytes.now) }
+{
+    let (seed, rest) = byte_of(bytes)?;
+    let (in_port, rest) = lane_of_bits(9, rest)?;
+    let (out_port, rest) = lane_of_bits(9, rest)?;
+    let (drop, rest) = lane_of_bits(1, rest)?;
+    Ok(((seed, (in_port, (out_port, drop))), rest))
+}
+
+/// The configuration at the front of the bytes behind the version.
+#[tactic(auto, unfolding(crate::specs::Reading::config_at))]
+pub fn config_of(alloc: Global, bytes: &[u8]) -> Result<(Config, &[u8]), ReadError>
+    ensures { Gives (λ x. (x.0, x.1.now)) result (config_at bytes.now) }
+{
+    let ((seed, (in_port, (out_port, drop))), rest) = ports_of(bytes)?;
+    let (headers, rest) = headers_of(alloc, rest)?;
+    let (parser, rest) = parser_of(alloc, rest)?;
+    let (count, rest) = byte_of(rest)?;
+    let (stages, rest) = stages_of(alloc, count, rest)?;
+    let config = Config {
+        seed,
+        in_port,
+        out_port,
+        drop,
+        headers: Sequence::from_vec(headers),
+        parser,
+        stages: Sequence::from_vec(stages),
+    };
+    Ok((config, rest))
+}
