@@ -14,3 +14,4 @@ pub mod LatencyLaws
 pub mod WholeCycle
 pub mod CountLaws
 pub mod StandsLaws
+pub mod FormedLaws
