@@ -15,3 +15,4 @@ pub mod WholeCycle
 pub mod CountLaws
 pub mod StandsLaws
 pub mod FormedRuns
+pub mod FormedLaws
