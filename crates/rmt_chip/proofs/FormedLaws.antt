@@ -249,7 +249,7 @@ starts_rise (s ∷ rest) h j k l b =
     let parts = both (eqb s.start 0) (form.rises_from 1 tail) h in
     let first = same_number s.start 0 parts.0 in
     let whole : form.rises_from 0 (s.start ∷ tail) ≡ true =
-        join (leb 0 s.start) (form.rises_from (s.start + 1) tail) (le-leb 0 s.start (omega arith)) (subst (λ n. form.rises_from n tail ≡ true) (let e : 1 ≡ s.start + 1 = omega arith in e) parts.1) in
+    join (leb 0 s.start) (form.rises_from (s.start + 1) tail) (le-leb 0 s.start (omega arith)) (subst (λ n. form.rises_from n tail ≡ true) (let e : 1 ≡ s.start + 1 = omega arith in e) parts.1) in
     rises 0 (s.start ∷ tail) whole j k l (omega (arith, b, length-map rest (λ (x : Stage). x.start)))
 
 last_start : (stages : List Stage) → limits.last_start_hit stages ≡ None → (d : Stage) → 0 < length stages → (get_or stages (length stages - 1) d).start ≤ 372
