@@ -15,4 +15,3 @@ pub mod WholeCycle
 pub mod CountLaws
 pub mod StandsLaws
 pub mod FormedRuns
-pub mod FormedLaws
