@@ -66,7 +66,6 @@ extract_fits need (Bits from lane) = nat_lt lane.word 224 && (nat_le (lane.low +
 extract_fits need (One lane) = nat_lt lane.word 224 && (nat_le (lane.low + lane.len) (word_size lane.word) && (lane.len == 1))
 
 pub record ParserFits (parser : ParserConfig) : Type 0 where
-  pub few_states : length parser.states ≤ 256
   pub short_steps : All (λ (e : ParserEntry). e.advance ≤ e.need) parser.entries
   pub extracts : All (λ (e : ParserEntry). All (λ x. IsTrue (extract_fits e.need x)) e.extracts) parser.entries
 

@@ -1,7 +1,7 @@
 pub mod ExamplesParts
 pub mod Examples
-pub mod ExamplesSpelling
 pub mod ExamplesLookup
+pub mod ExamplesSpelling
 pub mod RunLaws
 pub mod CountLaws
 pub mod FormLemmas

@@ -1,5 +1,5 @@
 -- A tree that the grammar reads as a rule is a node of that rule, and its parts, one after another, are those of the rule.
-use Rattle.std.proofs.Common.{◌≡◌, ◌∙◌, ◌⊎◌, inl, inr, sym, ap, refl, subst, ℕ, zero, suc, ◌+◌, ◌<◌, ◌≤◌, List, [], ◌∷◌, ◌++◌, map, length, arith, append_assoc, append-nil, Some, true, false}
+use Rattle.std.proofs.Common.{◌≡◌, ◌∙◌, ◌⊎◌, inl, inr, sym, ap, refl, subst, ℕ, zero, suc, ◌+◌, ◌<◌, List, [], ◌∷◌, ◌++◌, map, length, arith, append_assoc, Some}
 use Rattle.std.specs.Prelude.{slice_get, Vec}
 use Rattle.std.specs.List.{flat_map}
 use Rattle.std.proofs.lemmas.List.{append_cancel_left, append_cancel_right}
@@ -17,8 +17,9 @@ use Rattle.rmt_syntax.specs.declared.grammar.Part.{Part}
 use Rattle.rmt_syntax.specs.declared.grammar.Part.TheVariants as parts
 use Rattle.rmt_syntax.specs.declared.grammar.Phrase.{Phrase}
 use Rattle.rmt_syntax.specs.declared.grammar.Phrase.TheVariants.{Whole, Done}
-use Rattle.rmt_syntax.specs.Grammar.{choices}
-use Rattle.rmt_syntax.specs.Trees.{Mark, leaf, opens, shuts, marks, marks_step, Goal, part, phrase, shut, Reads, nothing, token, node, end, done, choose, IsOf, AreParts, ArePartsOf, Follows, stop, onward}
+use Rattle.rmt_syntax.specs.declared.terminal.Terminal.{Terminal}
+use Rattle.rmt_syntax.specs.Grammar.{choices, terminal_of}
+use Rattle.rmt_syntax.specs.Trees.{Mark, leaf, opens, shuts, marks, marks_step, Goal, part, phrase, shut, Reads, nothing, token, node, end, done, choose, IsOf, AreParts, ArePartsOf, IsTokenOf, stop, onward}
 use Rattle.rmt_syntax.proofs.Marks.{marks_one, marks_many}
 use Rattle.rmt_syntax.proofs.Machine.{after_end, after_done, after_node, after_one}
 
@@ -252,3 +253,15 @@ node_shape r t d = elim (view t) [
       let body : o.0 ≡ flat_map marks w.1.items ++ shuts r ∷ [] = sym k.1 ∙ ap (λ v. flat_map marks w.1.items ++ shuts v ∷ []) k.0 in
       (w.1, w.2 ∙ ap (λ v. Many v w.1) k.0, phrase_parts (suc (length w.1.items)) (Whole r) w.1.items r o.0 (omega arith) o.2 body)
 ]
+
+-- a tree that reads as a token is one
+pub token_shape : (c : Terminal) (t : Tree) → Reads (part (parts.One c) ∷ []) (marks t) → IsTokenOf c t
+token_shape c t d =
+    let o = after_one d in
+    elim (view t) [
+      | inl w ↦
+          let m : leaf w.0 ∷ [] ≡ leaf o.0 ∷ o.1 = sym (ap marks w.1 ∙ marks_one w.0) ∙ o.2 in
+          let it : w.0 ≡ o.0 = leaf_is w.0 o.0 [] o.1 m in
+          (w.0, w.1, ap (λ (v : Token). terminal_of v.what) it ∙ o.3)
+      | inr w ↦ (let k : opens w.0 ∷ (flat_map marks w.1.items ++ shuts w.0 ∷ []) ≡ leaf o.0 ∷ o.1 = sym (ap marks w.2 ∙ marks_many w.0 w.1) ∙ o.2 in cc (k))
+    ]

@@ -6,7 +6,9 @@ use Rattle.rmt_lexer.specs.declared.fault.ProgramFault.{ProgramFault}
 use Rattle.rmt_lexer.specs.declared.fault.ProgramFault.TheVariants.{NoMemory, At}
 use Rattle.std.specs.Prelude.{Vec}
 use Rattle.std.specs.declared.alloc.Global.{Global}
+use Rattle.rmt_syntax.specs.declared.terminal.Terminal.{Terminal}
 use Rattle.rmt_syntax.specs.declared.tree.Tree.{Tree, Many}
+use Rattle.rmt_syntax.specs.declared.tree.Tree.TheViews.{made-One}
 use Rattle.rmt_syntax.specs.declared.tree.Tree.TheOpen.{Tree-F}
 use Rattle.rmt_syntax.specs.declared.tree.Tree.TheOpen as tree
 use Rattle.rmt_syntax.specs.declared.tree.Tree.TheFolds.{fold-Tree}
@@ -146,3 +148,7 @@ ArePartsOf x ts = (ps : List Part) × Follows x ps × AreParts ps ts
 -- the tree is a node of the rule, and its parts are those of the rule's text, each a token or a tree of its rule
 abbrev pub IsNodeOf : Rule → Tree → Type 0
 IsNodeOf r t = (v : Vec Tree Global) × (t ≡ Many r v) × ArePartsOf (Whole r) v.items
+
+-- the tree is a token of that kind
+abbrev pub IsTokenOf : Terminal → Tree → Type 0
+IsTokenOf c t = (u : Token) × (t ≡ made-One u) × (terminal_of u.what ≡ c)
