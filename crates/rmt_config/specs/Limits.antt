@@ -52,9 +52,15 @@ slots_hit k stage = over 16 10 k (count_by is_slot stage.units)
 abbrev pub code_hit : ℕ → Stage → Option LimitHit
 code_hit k stage = over 32 11 k (length stage.code)
 
--- 14: 128 nodes; each node has one unit
+-- the stage in which the node of a place stands: nodes are counted from 0 through the stages, and the first stage of the list has this number
+abbrev pub stage_of_node : ℕ → ℕ → List Stage → ℕ
+stage_of_node place k [] = k
+stage_of_node place k (stage ∷ stages) =
+    if nat_lt place (length stage.units) then k else stage_of_node (place - length stage.units) (k + 1) stages
+
+-- 14: 128 nodes; each node has one unit. It is told with the stage of the 129th.
 abbrev pub nodes_hit : List Stage → Option LimitHit
-nodes_hit stages = over 128 14 0 (length (flat_map (λ (stage : Stage). map node_of stage.units) stages))
+nodes_hit stages = over 128 14 (stage_of_node 128 0 stages) (length (flat_map (λ (stage : Stage). map node_of stage.units) stages))
 
 -- 16: the last start is at most 372
 abbrev pub last_start_hit : List Stage → Option LimitHit

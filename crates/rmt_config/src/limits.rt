@@ -3,7 +3,7 @@
 ghost use Rattle.std.specs.Prelude.{◌≡◌, ◌<◌, ◌+◌, ◌≤◌, ◌^◌, length, map, min, count_by, MatchResult, Some, None};
 ghost use Rattle.std.specs.List.{flat_map};
 ghost use Rattle.rmt_config.specs.Form.{node_of};
-ghost use Rattle.rmt_config.specs.Limits.{over as over_limit, or_hit, first_hit, stage_hit, entry_hit, is_slot, slots_hit, code_hit, last_start_hit, stage_limit_hit, limit_hit, IsWithinLimits};
+ghost use Rattle.rmt_config.specs.Limits.{stage_of_node, over as over_limit, or_hit, first_hit, stage_hit, entry_hit, is_slot, slots_hit, code_hit, last_start_hit, stage_limit_hit, limit_hit, IsWithinLimits};
 ghost use Rattle.rmt_config.specs.declared.config.Stage.{Stage};
 ghost use Rattle.rmt_config.specs.declared.config.Config.{Config};
 
@@ -113,6 +113,24 @@ fn count_nodes(stages: &[Stage]) -> u128
     nodes
 }
 
+/// The stage in which the 129th node stands.
+fn stage_of_129th(stages: &[Stage]) -> u8
+    requires { length stages.now < 256 }
+    ensures { result ≡ stage_of_node 128 0 stages.now }
+{
+    let mut place: usize = 128;
+    let mut number: u8 = 0;
+    for stage in stages {
+        let units = stage.units.len();
+        if place < units {
+            return number;
+        }
+        place -= units;
+        number += 1;
+    }
+    number
+}
+
 fn over_in_last_start(stages: &[Stage]) -> Option<LimitHit>
     requires { length stages.now < 256 }
     ensures { result ≡ last_start_hit stages.now }
@@ -134,7 +152,7 @@ fn over_in_stages(stages: &[Stage]) -> Option<LimitHit>
     if let Some(hit) = over_in_code(stages) {
         return Some(hit);
     }
-    if let Some(hit) = over(128, 14, 0, count_nodes(stages)) {
+    if let Some(hit) = over(128, 14, stage_of_129th(stages), count_nodes(stages)) {
         return Some(hit);
     }
     over_in_last_start(stages)

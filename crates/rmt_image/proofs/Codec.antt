@@ -74,17 +74,17 @@ codec_kept {A} test {read} {spell} {P} {R} c = record {
 }
 
 -- one behind the other
-pub codec_behind : {A B : Type 0} {first : Reader A} {second : A → Reader B} {s1 : A → List ℕ} {s2 : A → B → List ℕ} {P1 R1 : A → Type 0} {P2 R2 : A → B → Type 0}
-    → Codec first s1 P1 R1 → ((a : A) → Codec (second a) (s2 a) (P2 a) (R2 a))
-    → Codec (behind first second) (λ x. s1 x.0 ++ s2 x.0 x.1) (λ x. P1 x.0 × P2 x.0 x.1) (λ x. R1 x.0 × R2 x.0 x.1)
-codec_behind {A} {B} {first} {second} {s1} {s2} {P1} {R1} {P2} {R2} c d = record {
+pub codec_behind : {A B : Type 0} {first : Reader A} {second : A → Reader B} {s1 : A → List ℕ} {s2 : A → B → List ℕ} {Pa Ra : A → Type 0} {Pb Rb : A → B → Type 0}
+    → Codec first s1 Pa Ra → ((a : A) → Codec (second a) (s2 a) (Pb a) (Rb a))
+    → Codec (behind first second) (λ x. s1 x.0 ++ s2 x.0 x.1) (λ x. Pa x.0 × Pb x.0 x.1) (λ x. Ra x.0 × Rb x.0 x.1)
+codec_behind {A} {B} {first} {second} {s1} {s2} {Pa} {Ra} {Pb} {Rb} c d = record {
   takes = λ bytes x rest fits e.
       let a = bind_ok (first bytes) (λ (y : A × List ℕ). second y.0 y.1 >>= λ z. Ok ((y.0, z.0), z.1)) (x, rest) e in
       let b = bind_ok (second a.0.0 a.0.1) (λ (z : B × List ℕ). Ok ((a.0.0, z.0), z.1)) (x, rest) a.2 in
       let t1 = c.takes bytes a.0.0 a.0.1 fits a.1 in
       let t2 = (d a.0.0).takes a.0.1 b.0.0 b.0.1 t1.rest_fits b.1 in
       let made_pair : (A × B) × List ℕ = ((a.0.0, b.0.0), b.0.1) in
-      subst (λ (y : (A × B) × List ℕ). Took bytes (s1 y.0.0 ++ s2 y.0.0 y.0.1) y.1 (R1 y.0.0 × R2 y.0.0 y.0.1)) (ok_is made_pair (x, rest) b.2)
+      subst (λ (y : (A × B) × List ℕ). Took bytes (s1 y.0.0 ++ s2 y.0.0 y.0.1) y.1 (Ra y.0.0 × Rb y.0.0 y.0.1)) (ok_is made_pair (x, rest) b.2)
       (record {
         parts = t1.parts ∙ ap (λ (t : List ℕ). s1 a.0.0 ++ t) t2.parts ∙ sym (append_assoc (s1 a.0.0) (s2 a.0.0 b.0.0) b.0.1);
         rest_fits = t2.rest_fits;

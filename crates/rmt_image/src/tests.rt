@@ -171,7 +171,7 @@ fn limits(rt: HostRuntime) -> Result<(), Fail> {
     assert_eq!(rt; read(alloc, &image_of(alloc, 1, 3, 43, 1)?), (6, 10, 0, 43));
     assert_eq!(rt;
         read(alloc, &image_of(alloc, 1, 13, 10, 1)?),
-        (6, 14, 0, 130)
+        (6, 14, 12, 130)
     );
     assert_eq!(rt;
         read(alloc, &image_of(alloc, 1, 2, 1, 373)?),
