@@ -132,7 +132,6 @@ parser_fits p come e =
     let q = and_parts (few && each) (never_falls_from 0 (map (λ (e : ParserEntry). e.state) p.entries)) e in
     let r = and_parts few each q.0 in
     record {
-      few_states = omega (arith, eqb-true (length p.states) 1 states.0);
       short_steps = all_by_test (entry_is_formed (length p.states)) (λ (e : ParserEntry). e.advance ≤ e.need) (short_step (length p.states)) p.entries r.1;
       extracts = all_by_test (entry_is_formed (length p.states)) (λ (e : ParserEntry). All (λ x. IsTrue (extract_fits e.need x)) e.extracts) (extracts_fit (length p.states)) p.entries r.1;
     }
