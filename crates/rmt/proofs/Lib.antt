@@ -13,3 +13,4 @@ pub mod SmallNames
 pub mod SmallLookups
 pub mod SmallSteps
 pub mod EmitLaws
+pub mod RunLaws

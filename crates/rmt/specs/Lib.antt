@@ -8,3 +8,4 @@ pub mod SmallReading
 pub mod CommandReading
 pub mod Printing
 pub mod SimText
+pub mod Running
