@@ -14,3 +14,5 @@ pub mod SmallLookups
 pub mod SmallSteps
 pub mod EmitLaws
 pub mod RunLaws
+pub mod DrainLaws
+pub mod ReachLaws

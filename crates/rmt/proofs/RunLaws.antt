@@ -84,3 +84,53 @@ few_numbered {c} {inputs} g = omega (arith, g.numbered, few_left (answer_at c in
 
 pub few_entered : {c : Config} {inputs : List (Option Packet)} {run : Run} {told : Bool} {before now : List ℕ} → Goes c inputs run told before now → entered_of run.chip ≤ length inputs
 few_entered {c} {inputs} g = omega (arith, g.stands.entered_is, few_packets (reverse inputs), length-reverse inputs)
+
+-- the same, by what left
+pub goes_none : (c : Config) (inputs : List (Option Packet)) (x : Option Packet) (old new : Run) (told : Bool) (before now : List ℕ) (left : Option Verdict) (bytes : List ℕ)
+  → left ≡ None
+  → Stands c (inputs ++ x ∷ []) new.chip × AnswersIf (answer_at c (inputs ++ x ∷ []) (length inputs)) left bytes
+  → new.cycles ≡ old.cycles + 1 → new.answered ≡ old.answered → new.waiting.items ≡ old.waiting.items
+  → Goes c inputs old told before now → Goes c (inputs ++ x ∷ []) new told before now
+goes_none c inputs x old new told before now left bytes e stands cycles answered waits g =
+    let there = subst (λ (l : Option Verdict). Stands c (inputs ++ x ∷ []) new.chip × AnswersIf (answer_at c (inputs ++ x ∷ []) (length inputs)) l bytes) e stands in
+    goes_on c inputs x old new told before now None bytes there cycles (let n : new.answered ≡ old.answered + 0 = omega arith in n) (waits ∙ sym (append-nil old.waiting.items)) g
+
+pub goes_some : (c : Config) (inputs : List (Option Packet)) (x : Option Packet) (old new : Run) (told : Bool) (before now : List ℕ) (left : Option Verdict) (verdict : Verdict) (bytes seen : List ℕ)
+  → left ≡ Some verdict → seen ≡ bytes
+  → Stands c (inputs ++ x ∷ []) new.chip × AnswersIf (answer_at c (inputs ++ x ∷ []) (length inputs)) left bytes
+  → new.cycles ≡ old.cycles + 1 → new.answered ≡ old.answered + 1 → new.waiting.items ≡ old.waiting.items ++ line_if old.answered (Some verdict) seen
+  → Goes c inputs old told before now → Goes c (inputs ++ x ∷ []) new told before now
+goes_some c inputs x old new told before now left verdict bytes seen e same stands cycles answered waits g =
+    let there = subst (λ (l : Option Verdict). Stands c (inputs ++ x ∷ []) new.chip × AnswersIf (answer_at c (inputs ++ x ∷ []) (length inputs)) l bytes) e stands in
+    goes_on c inputs x old new told before now (Some verdict) bytes there cycles answered (waits ∙ ap (λ b. old.waiting.items ++ line_if old.answered (Some verdict) b) same) g
+
+-- before the first cycle
+pub goes_first : (c : Config) (run : Run) → Stands c [] run.chip → run.cycles ≡ 0 → run.answered ≡ 0 → run.waiting.items ≡ [] → (told : Bool) (before : List ℕ) → Goes c [] run told before before
+goes_first c run stands cycles answered waits told before = record {
+  stands = stands;
+  clocked = cycles;
+  numbered = answered;
+  text = λ t. ap (λ w. before ++ w) waits;
+}
+
+front_one : (before now : List ℕ) (xs ys : List Outcome) → GainsFront before now (answer_lines 0 xs) → GainsFront before now (answer_lines 0 (xs ++ ys))
+front_one before now xs ys gains =
+    let more = answer_lines (0 + length xs) ys in
+    (gains.0 ++ more,
+      sym (append_assoc now gains.0 more) ∙ ap (λ w. w ++ more) gains.1 ∙ append_assoc before (answer_lines 0 xs) more ∙ ap (λ w. before ++ w) (sym (answer_lines-append 0 xs ys)))
+
+-- a front of the answers stays a front in later cycles
+pub front_grows : (c : Config) (inputs later : List (Option Packet)) (before now : List ℕ) → GainsFront before now (answer_lines 0 (emitted c inputs)) → GainsFront before now (answer_lines 0 (emitted c (inputs ++ later)))
+front_grows c inputs [] before now gains = subst (λ l. GainsFront before now (answer_lines 0 (emitted c l))) (sym (append-nil inputs)) gains
+front_grows c inputs (x ∷ later) before now gains =
+    let one : GainsFront before now (answer_lines 0 (emitted c (inputs ++ x ∷ []))) =
+        subst (λ l. GainsFront before now (answer_lines 0 l)) (sym (emitted-more c inputs x)) (front_one before now (emitted c inputs) (option_to_list (answer_at c (inputs ++ x ∷ []) (length inputs))) gains) in
+    subst (λ l. GainsFront before now (answer_lines 0 (emitted c l))) (append_assoc inputs (x ∷ []) later) (front_grows c (inputs ++ x ∷ []) later before now one)
+
+-- what was written is a front of the answers
+pub front_waits : (c : Config) (inputs : List (Option Packet)) (run : Run) (told : Bool) (before now : List ℕ) → Goes c inputs run told before now → IsTrue told → GainsFront before now (answer_lines 0 (emitted c inputs))
+front_waits c inputs run told before now g t = (run.waiting.items, g.text t)
+
+-- and so it is where only a front of what waits was written
+pub front_part : (c : Config) (inputs : List (Option Packet)) (run : Run) (told : Bool) (before now later : List ℕ) → Goes c inputs run told before now → (IsTrue told → GainsFront now later run.waiting.items) → IsTrue told → GainsFront before later (answer_lines 0 (emitted c inputs))
+front_part c inputs run told before now later g part t = let p = part t in (p.0, p.1 ∙ g.text t)

@@ -1,26 +1,34 @@
 //! Running the chip over the packets of a text.
 
-ghost use Rattle.std.specs.Prelude.{◌≡◌, ℕ, Bool, List, [], ◌∷◌, ◌++◌, ◌+◌, ◌<◌, ◌≤◌, ◌^◌, IsTrue, Option, Some, OnOk, OnErr, length};
+ghost use Rattle.std.specs.Prelude.{◌≡◌, ℕ, Bool, List, [], ◌∷◌, ◌++◌, ◌+◌, ◌<◌, ◌≤◌, ◌^◌, ◌⊎◌, IsTrue, Option, Some, None, Ok, Err, OnOk, OnErr, IfOk, IsErrOf, IsSome, MatchOption, length, map, min, replicate, string_bytes};
+ghost use Rattle.std.specs.List.{flat_map};
 ghost use Rattle.rmt_bits.specs.Packet.{Packet};
 ghost use Rattle.rmt_config.specs.declared.config.Config.{Config};
 ghost use Rattle.rmt_chip.specs.Inputs.{input_of, MayEnter};
-ghost use Rattle.rmt_chip.specs.Stands.{entered_of};
+ghost use Rattle.rmt_chip.specs.Stands.{entered_of, Stands};
+ghost use Rattle.rmt_config.specs.ChipRun.{latency_of, inputs_of, outcomes_of, chip_counts_of};
+ghost use Rattle.rmt_chip.specs.Runnable.{IsRunnable};
 ghost use Rattle.rmt_packets.specs.AnswerLine.{answer_line};
+ghost use Rattle.rmt_packets.specs.PacketText.{packet_of, packets_of};
 ghost use Rattle.rmt_io.specs.Faults.{Rose};
 ghost use Rattle.rmt.specs.Printing.{GainsFront};
-ghost use Rattle.rmt.specs.SimText.{answer_lines};
-ghost use Rattle.rmt.specs.Running.{emitted, Goes};
+ghost use Rattle.rmt.specs.SimText.{answer_lines, bad_packets_line, count_line, cycles_line, flight_line, printed_of, sim_text};
+ghost use Rattle.rmt.specs.Running.{emitted, Goes, said, bad_line};
 
 use crate::printing::print;
-use rmt_bits::answer::{Answer, Verdict};
+use crate::status::Status;
+use rmt_bits::answer::{Answer, Count, Verdict};
 use rmt_bits::sequence::Sequence;
 use rmt_chip::chip::Chip;
 use rmt_chip::fault::ChipFault;
 use rmt_chip::frame::Frame;
 use rmt_chip::out::Out;
+use rmt_config::config::Config;
 use rmt_io::sink::Sink;
 use rmt_packets::answer_line::write_answer;
-use std::alloc::Global;
+use rmt_packets::lines::next_line;
+use rmt_packets::packet_line::{PacketFault, read_packet};
+use std::alloc::{AllocError, Global};
 
 /// How many bytes of lines wait at most before they are written.
 const WAITING: usize = 65_536;
@@ -124,5 +132,247 @@ fn write_many<O: Sink>(waiting: &mut Vec<u8>, out: &mut O) -> Result<(), RunFaul
             Ok(())
         }
         Err(_) => Err(RunFault::Write),
+    }
+}
+
+/// One cycle, and what it prints.
+fn turn<O: Sink>(
+    alloc: Global,
+    run: &mut Run,
+    frame: Option<Frame<'_>>,
+    out: &mut O,
+) -> Result<(), RunFault>
+    requires frame { MayEnter frame }
+    requires entered { entered_of run.old.chip < 2 ^ 63 }
+    requires cycles { run.old.cycles < 2 ^ 63 }
+    requires answered { run.old.answered < 2 ^ 63 }
+    ensures ok { OnOk result ((c : Config) (inputs : List (Option Packet)) (before : List ℕ) → Goes c inputs run.old (O.told out.old) before (O.bytes out.old) →
+        Goes c (inputs ++ input_of frame.entry ∷ []) run.new (O.told out.old) before (O.bytes out.new)) }
+    ensures front { OnErr result ((c : Config) (inputs : List (Option Packet)) (before : List ℕ) → Goes c inputs run.old (O.told out.old) before (O.bytes out.old) → IsTrue (O.told out.old) →
+        GainsFront before (O.bytes out.new) (answer_lines 0 (emitted c (inputs ++ input_of frame.entry ∷ [])))) }
+    ensures failed { IsErrOf result RunFault.Write → Rose (O.faults out.old) (O.faults out.new) }
+    ensures tells { O.told out.new ≡ O.told out.old }
+    ensures counts { O.faults out.old ≤ O.faults out.new }
+{
+    let Ok(()) = cycle(alloc, run, frame) else {
+        return Err(RunFault::NoMemory);
+    };
+    match write_many(&mut run.waiting, out) {
+        Ok(()) => Ok(()),
+        Err(fault) => Err(fault),
+    }
+}
+
+/// Enters the packet of a line, or answers the code of the line's fault.
+fn enter<O: Sink>(
+    alloc: Global,
+    line: &[u8],
+    frame: &mut Vec<u8>,
+    run: &mut Run,
+    out: &mut O,
+) -> Result<Option<u8>, RunFault>
+    requires entered { entered_of run.old.chip < 2 ^ 63 }
+    requires cycles { run.old.cycles < 2 ^ 63 }
+    requires answered { run.old.answered < 2 ^ 63 }
+    ensures ok { OnOk result ((c : Config) (inputs : List (Option Packet)) (before : List ℕ) → Goes c inputs run.old (O.told out.old) before (O.bytes out.old) →
+        Goes c (inputs ++ said (packet_of line.now)) run.new (O.told out.old) before (O.bytes out.new)) }
+    ensures says { IfOk result (λ bad. MatchOption bad ((p : Packet) × (packet_of line.now ≡ Ok p)) (λ code. packet_of line.now ≡ Err code)) }
+    ensures front { OnErr result ((c : Config) (inputs : List (Option Packet)) (before : List ℕ) → Goes c inputs run.old (O.told out.old) before (O.bytes out.old) → IsTrue (O.told out.old) →
+        GainsFront before (O.bytes out.new) (answer_lines 0 (emitted c (inputs ++ said (packet_of line.now))))) }
+    ensures failed { IsErrOf result RunFault.Write → Rose (O.faults out.old) (O.faults out.new) }
+    ensures tells { O.told out.new ≡ O.told out.old }
+    ensures counts { O.faults out.old ≤ O.faults out.new }
+{
+    let port = match read_packet(alloc, line, frame) {
+        Ok(port) => port,
+        Err(PacketFault::Code(code)) => return Ok(Some(code)),
+        Err(PacketFault::NoMemory) => return Err(RunFault::NoMemory),
+    };
+    let entering = Frame {
+        port,
+        bytes: frame.as_slice(),
+    };
+    match turn(alloc, run, Some(entering), out) {
+        Ok(()) => Ok(None),
+        Err(fault) => Err(fault),
+    }
+}
+
+/// A run in which nothing entered.
+fn start(alloc: Global, config: Config) -> Result<Run, ChipFault>
+    requires { IsRunnable config }
+    ensures { IfOk result (λ run. (told : Bool) (before : List ℕ) → Goes config [] run told before before) }
+{
+    let Ok(chip) = Chip::open(alloc, config) else {
+        return Err(ChipFault::NoMemory);
+    };
+    let Ok(leaving) = Out::new(alloc) else {
+        return Err(ChipFault::NoMemory);
+    };
+    Ok(Run {
+        chip,
+        leaving,
+        waiting: Vec::new(alloc),
+        answered: 0,
+        cycles: 0,
+    })
+}
+
+/// What a text's packets left: the run, and the first bad line.
+#[derive(Drop)]
+struct Entered {
+    run: Run,
+    bad: Option<Bad>,
+}
+
+/// Enters the packets of a text, up to the first bad line.
+fn enter_all<O: Sink>(
+    alloc: Global,
+    config: Config,
+    text: &[u8],
+    out: &mut O,
+) -> Result<Entered, RunFault>
+    requires runs { IsRunnable config }
+    requires short { length text.now ≤ 67108864 }
+    ensures ok { IfOk result (λ e. (done : List Packet) × Goes config (map Some done) e.run (O.told out.old) (O.bytes out.old) (O.bytes out.new)
+        × (packets_of text.now ≡ record { packets = done; bad = bad_line e.bad }) × (length done ≤ 67108864)) }
+    ensures front { OnErr result (IsTrue (O.told out.old) → GainsFront (O.bytes out.old) (O.bytes out.new) (answer_lines 0 (outcomes_of config (packets_of text.now).packets))) }
+    ensures failed { IsErrOf result RunFault.Write → Rose (O.faults out.old) (O.faults out.new) }
+    ensures tells { O.told out.new ≡ O.told out.old }
+    ensures counts { O.faults out.old ≤ O.faults out.new }
+{
+    let Ok(mut run) = start(alloc, config) else {
+        return Err(RunFault::NoMemory);
+    };
+    let mut frame = Vec::new(alloc);
+    let mut at: usize = 0;
+    let mut number: u64 = 1;
+    while let Some(line) = next_line(text, at, number) {
+        match enter(alloc, &text[line.from..line.to], &mut frame, &mut run, out) {
+            Ok(None) => {
+                at = line.next;
+                number = line.number + 1;
+            }
+            Ok(Some(code)) => {
+                let bad = Bad {
+                    code,
+                    line: line.number,
+                };
+                return Ok(Entered {
+                    run,
+                    bad: Some(bad),
+                });
+            }
+            Err(fault) => return Err(fault),
+        }
+    }
+    Ok(Entered { run, bad: None })
+}
+
+/// Clocks the chip until the last packet has left.
+fn drain<O: Sink>(alloc: Global, run: &mut Run, out: &mut O) -> Result<(), RunFault>
+    requires { (c : Config) × (inputs : List (Option Packet)) × (before : List ℕ) × Goes c inputs run.old (O.told out.old) before (O.bytes out.old) × (length inputs ≤ 67108864) }
+    ensures ok { OnOk result ((c : Config) (inputs : List (Option Packet)) (before : List ℕ) → Goes c inputs run.old (O.told out.old) before (O.bytes out.old) →
+        Goes c (inputs ++ replicate (latency_of c.stages) None) run.new (O.told out.old) before (O.bytes out.new)) }
+    ensures front { OnErr result ((c : Config) (inputs : List (Option Packet)) (before : List ℕ) → Goes c inputs run.old (O.told out.old) before (O.bytes out.old) → IsTrue (O.told out.old) →
+        GainsFront before (O.bytes out.new) (answer_lines 0 (emitted c (inputs ++ replicate (latency_of c.stages) None)))) }
+    ensures failed { IsErrOf result RunFault.Write → Rose (O.faults out.old) (O.faults out.new) }
+    ensures tells { O.told out.new ≡ O.told out.old }
+    ensures counts { O.faults out.old ≤ O.faults out.new }
+{
+    let latency = run.chip.latency();
+    for _age in 0..latency {
+        match turn(alloc, run, None, out) {
+            Ok(()) => {}
+            Err(fault) => return Err(fault),
+        }
+    }
+    Ok(())
+}
+
+/// The line of a counter.
+fn count_text(alloc: Global, count: &Count) -> Result<String, AllocError>
+    ensures { IfOk result (λ text. string_bytes text ≡ count_line count.now) }
+{
+    let entry = count.entry;
+    let packets = count.packets;
+    let bytes = count.bytes;
+    format!(in alloc; "count {entry} {packets} {bytes}\n")
+}
+
+/// The lines of the counters.
+fn count_lines(alloc: Global, counters: &[Count]) -> Result<Vec<u8>, AllocError>
+    ensures { IfOk result (λ text. text.items ≡ flat_map count_line counters.now) }
+{
+    let mut text = Vec::new(alloc);
+    for count in counters {
+        let line = count_text(alloc, count)?;
+        text.extend_from_slice(line.as_bytes())?;
+    }
+    Ok(text)
+}
+
+/// The last two lines of a run.
+fn cycle_lines(alloc: Global, cycles: u64, flight: u64) -> Result<String, AllocError>
+    ensures { IfOk result (λ text. string_bytes text ≡ cycles_line cycles ++ flight_line flight) }
+{
+    format!(in alloc; "cycles {cycles}\nflight {flight}\n")
+}
+
+/// What stands behind the answers of a run of so many packets.
+fn last_lines(alloc: Global, run: &Run, packets: u64) -> Result<Vec<u8>, AllocError>
+    ensures { IfOk result (λ text. (c : Config) (inputs : List (Option Packet)) → Stands c inputs run.now.chip →
+        text.items ≡ flat_map count_line (chip_counts_of c inputs) ++ (cycles_line run.now.cycles ++ flight_line (min packets (latency_of c.stages + 1)))) }
+{
+    let mut text = count_lines(alloc, run.chip.counters().as_slice())?;
+    let flight = packets.min(u64::from(run.chip.latency()) + 1);
+    let last = cycle_lines(alloc, run.cycles, flight)?;
+    text.extend_from_slice(last.as_bytes())?;
+    Ok(text)
+}
+
+/// `bad packets CODE line L`
+fn bad_text(alloc: Global, bad: Bad) -> Result<String, AllocError>
+    ensures { IfOk result (λ text. string_bytes text ≡ bad_packets_line bad.code bad.line) }
+{
+    let code = bad.code;
+    let line = bad.line;
+    format!(in alloc; "bad packets {code} line {line}\n")
+}
+
+/// Writes two texts, and answers the status.
+fn end_with<O: Sink>(waiting: &[u8], last: &[u8], status: Status, out: &mut O) -> Status
+    requires { (status ≡ Status.Done) ⊎ (status ≡ Status.BadPackets) }
+    ensures status { (result ≡ status) ⊎ (result ≡ Status.WriteFault) }
+    ensures printed { result ≡ status → IsTrue (O.told out.old) → O.bytes out.new ≡ O.bytes out.old ++ (waiting.now ++ last.now) }
+    ensures failed { result ≡ Status.WriteFault → Rose (O.faults out.old) (O.faults out.new) }
+    ensures front { IsTrue (O.told out.old) → GainsFront (O.bytes out.old) (O.bytes out.new) (waiting.now ++ last.now) }
+{
+    let Ok(()) = print(out, waiting) else {
+        return Status::WriteFault;
+    };
+    match print(out, last) {
+        Ok(()) => status,
+        Err(_) => Status::WriteFault,
+    }
+}
+
+/// Clocks the chip until the last packet has left, if one entered.
+fn run_out<O: Sink>(alloc: Global, run: &mut Run, out: &mut O) -> Result<(), RunFault>
+    requires { (c : Config) × (done : List Packet) × (before : List ℕ) × Goes c (map Some done) run.old (O.told out.old) before (O.bytes out.old) × (length done ≤ 67108864) }
+    ensures ok { OnOk result ((c : Config) (done : List Packet) (before : List ℕ) → Goes c (map Some done) run.old (O.told out.old) before (O.bytes out.old) →
+        Goes c (inputs_of c done) run.new (O.told out.old) before (O.bytes out.new)) }
+    ensures front { OnErr result ((c : Config) (done : List Packet) (before : List ℕ) → Goes c (map Some done) run.old (O.told out.old) before (O.bytes out.old) → IsTrue (O.told out.old) →
+        GainsFront before (O.bytes out.new) (answer_lines 0 (outcomes_of c done))) }
+    ensures failed { IsErrOf result RunFault.Write → Rose (O.faults out.old) (O.faults out.new) }
+    ensures tells { O.told out.new ≡ O.told out.old }
+    ensures counts { O.faults out.old ≤ O.faults out.new }
+{
+    if run.cycles == 0 {
+        return Ok(());
+    }
+    match drain(alloc, run, out) {
+        Ok(()) => Ok(()),
+        Err(fault) => Err(fault),
     }
 }
