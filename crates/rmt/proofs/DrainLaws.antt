@@ -1,5 +1,5 @@
 -- A chip that runs empty.
-use Rattle.std.proofs.Common.{◌≡◌, ◌≢◌, ℕ, zero, suc, ◌+◌, ◌-◌, ◌<◌, ◌≤◌, Bool, IsTrue, List, [], ◌∷◌, ◌++◌, length, Option, Some, None, sym, refl, ap, ◌∙◌, subst, arith, append_assoc, append-nil, codes}
+use Rattle.std.proofs.Common.{◌≡◌, ◌≢◌, ℕ, zero, suc, ◌+◌, ◌-◌, ◌<◌, ◌≤◌, Bool, IsTrue, List, [], ◌∷◌, ◌++◌, length, Option, Some, None, sym, refl, ap, ◌∙◌, subst, arith, append_assoc, append-nil, length-append, codes}
 use Rattle.std.specs.Prelude.{map, replicate, min}
 use Rattle.std.specs.Fmt.{decimal}
 use Rattle.std.specs.List.{flat_map}
@@ -7,15 +7,19 @@ use Rattle.rmt_bits.specs.Packet.{Packet}
 use Rattle.rmt_config.specs.declared.config.Config.{Config}
 use Rattle.rmt_config.specs.ChipRun.{inputs_of, outcomes_of, latency_of, chip_counts_of, cycles_of, flight_of}
 use Rattle.rmt.specs.declared.running.Run.{Run}
-use Rattle.rmt.specs.SimText.{answer_lines, count_line, cycles_line, flight_line, sim_text}
-use Rattle.rmt.specs.Running.{Goes, emitted}
+use Rattle.rmt.specs.SimText.{answer_lines, count_line, cycles_line, flight_line, sim_text, printed_of}
+use Rattle.rmt_packets.specs.PacketText.{BadLine}
+use Rattle.rmt.specs.Running.{Goes, emitted, last_of}
 use Rattle.rmt.specs.Printing.{GainsFront}
 use Rattle.rmt.proofs.RunLaws.{front_grows}
 use Rattle.rmt.proofs.ReachLaws.{length_map_some}
 
-rep_more : (a b : ℕ) → replicate a (None {A = Packet}) ++ replicate b None ≡ replicate (a + b) None
-rep_more zero b = let e : b ≡ 0 + b = omega arith in ap (λ n. replicate n None) e
-rep_more (suc a) b = let e : suc (a + b) ≡ suc a + b = omega arith in ap (λ l. None ∷ l) (rep_more a b) ∙ ap (λ n. replicate n None) e
+abbrev pad : ℕ → List (Option Packet)
+pad n = replicate n None
+
+rep_more : (a b : ℕ) → pad a ++ pad b ≡ pad (a + b)
+rep_more zero b = let e : b ≡ 0 + b = omega arith in ap pad e
+rep_more (suc a) b = let e : suc (a + b) ≡ suc a + b = omega arith in ap (λ l. None ∷ l) (rep_more a b) ∙ ap pad e
 
 -- one more cycle without a packet
 pub padded : (inputs : List (Option Packet)) (a : ℕ) → (inputs ++ replicate a None) ++ None ∷ [] ≡ inputs ++ replicate (a + 1) None
@@ -83,7 +87,19 @@ all_lines c done first run told before mid now start last g h l written t =
         ∙ sym (append_assoc a (counts ++ cycles_line (cycles_of c done)) (flight_line (flight_of c done)))
         ∙ ap (λ w. w ++ flight_line (flight_of c done)) (sym (append_assoc a counts (cycles_line (cycles_of c done)))))
 
+pad_length : (a : ℕ) → length (pad a) ≡ a
+pad_length zero = refl
+pad_length (suc a) = ap (λ n. suc n) (pad_length a)
+
 pub padded_length : (inputs : List (Option Packet)) (a : ℕ) → length (inputs ++ replicate a None) ≡ length inputs + a
-padded_length inputs zero = let e : length inputs ≡ length inputs + 0 = omega arith in ap length (append-nil inputs) ∙ e
-padded_length [] (suc a) = let r : length ([] ++ replicate a (None {A = Packet})) ≡ length {A = Option Packet} [] + a = padded_length [] a in omega (arith, r)
-padded_length (x ∷ inputs) (suc a) = let r = padded_length inputs (suc a) in omega (arith, r)
+padded_length inputs a = length-append inputs (pad a) ∙ ap (λ n. length inputs + n) (pad_length a)
+
+-- what stands behind the answers
+pub last_printed : (c : Config) (done : List Packet) (first run : Run) (told : Bool) (before mid now start last : List ℕ) (bad : Option BadLine)
+  → Goes c (map Some done) first told before start → Goes c (inputs_of c done) run told before mid
+  → last ≡ last_of c (inputs_of c done) run.cycles first.cycles bad
+  → (IsTrue told → now ≡ mid ++ (run.waiting.items ++ last)) → IsTrue told → now ≡ before ++ printed_of c (record { packets = done; bad = bad })
+last_printed c done first run told before mid now start last None g h l written t = all_lines c done first run told before mid now start last g h l written t
+last_printed c done first run told before mid now start last (Some b) g h l written t =
+    let a = answer_lines 0 (outcomes_of c done) in
+    written t ∙ sym (append_assoc mid run.waiting.items last) ∙ ap (λ w. w ++ last) (h.text t) ∙ append_assoc before a last ∙ ap (λ w. before ++ (a ++ w)) l

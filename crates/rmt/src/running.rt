@@ -13,7 +13,7 @@ ghost use Rattle.rmt_packets.specs.PacketText.{packet_of, packets_of};
 ghost use Rattle.rmt_io.specs.Faults.{Rose};
 ghost use Rattle.rmt.specs.Printing.{GainsFront};
 ghost use Rattle.rmt.specs.SimText.{answer_lines, bad_packets_line, count_line, cycles_line, flight_line, printed_of, sim_text};
-ghost use Rattle.rmt.specs.Running.{emitted, Goes, said, bad_line};
+ghost use Rattle.rmt.specs.Running.{emitted, Goes, said, bad_line, last_of};
 
 use crate::printing::print;
 use crate::status::Status;
@@ -374,5 +374,86 @@ fn run_out<O: Sink>(alloc: Global, run: &mut Run, out: &mut O) -> Result<(), Run
     match drain(alloc, run, out) {
         Ok(()) => Ok(()),
         Err(fault) => Err(fault),
+    }
+}
+
+/// What stands behind the answers of a run of so many packets.
+fn last_text(
+    alloc: Global,
+    run: &Run,
+    packets: u64,
+    bad: Option<Bad>,
+) -> Result<Vec<u8>, AllocError>
+    ensures { IfOk result (λ text. (c : Config) (inputs : List (Option Packet)) → Stands c inputs run.now.chip →
+        text.items ≡ last_of c inputs run.now.cycles packets (bad_line bad)) }
+{
+    match bad {
+        None => last_lines(alloc, run, packets),
+        Some(bad) => {
+            let line = bad_text(alloc, bad)?;
+            Vec::from_slice(alloc, line.as_bytes())
+        }
+    }
+}
+
+/// The status where the whole text was printed.
+fn end_status(bad: Option<Bad>) -> Status
+    ensures either { (result ≡ Status.Done) ⊎ (result ≡ Status.BadPackets) }
+    ensures done { result ≡ Status.Done → bad ≡ None }
+    ensures bad { result ≡ Status.BadPackets → IsSome bad }
+{
+    match bad {
+        None => Status::Done,
+        Some(_) => Status::BadPackets,
+    }
+}
+
+/// The status where a run ended early.
+fn fault_status(fault: RunFault) -> Status
+    ensures { ((result ≡ Status.WriteFault) × (fault ≡ RunFault.Write)) ⊎ (result ≡ Status.NoMemory) }
+{
+    match fault {
+        RunFault::Write => Status::WriteFault,
+        RunFault::NoMemory => Status::NoMemory,
+    }
+}
+
+/// Runs a chip empty, and prints what is left.
+fn finish<O: Sink>(alloc: Global, mut run: Run, bad: Option<Bad>, out: &mut O) -> Status
+    requires { (c : Config) × (done : List Packet) × (before : List ℕ) × Goes c (map Some done) run (O.told out.old) before (O.bytes out.old) × (length done ≤ 67108864) }
+    ensures possible { (result ≡ Status.Done) ⊎ (result ≡ Status.BadPackets) ⊎ (result ≡ Status.WriteFault) ⊎ (result ≡ Status.NoMemory) }
+    ensures done { result ≡ Status.Done → bad ≡ None }
+    ensures bad { result ≡ Status.BadPackets → IsSome bad }
+    ensures printed { (result ≡ Status.Done) ⊎ (result ≡ Status.BadPackets) → (c : Config) (done : List Packet) (before : List ℕ) → Goes c (map Some done) run (O.told out.old) before (O.bytes out.old) → IsTrue (O.told out.old) →
+        O.bytes out.new ≡ before ++ printed_of c (record { packets = done; bad = bad_line bad }) }
+    ensures failed { result ≡ Status.WriteFault → Rose (O.faults out.old) (O.faults out.new) }
+{
+    let packets = run.cycles;
+    match run_out(alloc, &mut run, out) {
+        Ok(()) => {}
+        Err(fault) => return fault_status(fault),
+    }
+    let Ok(last) = last_text(alloc, &run, packets, bad) else {
+        return Status::NoMemory;
+    };
+    end_with(run.waiting.as_slice(), last.as_slice(), end_status(bad), out)
+}
+
+/// Runs the packets of a text through a chip, and prints what `sim` prints.
+pub fn run_text<O: Sink>(alloc: Global, config: Config, text: &[u8], out: &mut O) -> Status
+    requires runs { IsRunnable config }
+    requires short { length text.now ≤ 67108864 }
+    ensures possible { (result ≡ Status.Done) ⊎ (result ≡ Status.BadPackets) ⊎ (result ≡ Status.WriteFault) ⊎ (result ≡ Status.NoMemory) }
+    ensures done { result ≡ Status.Done → (packets_of text.now).bad ≡ None }
+    ensures bad { result ≡ Status.BadPackets → IsSome (packets_of text.now).bad }
+    ensures printed { (result ≡ Status.Done) ⊎ (result ≡ Status.BadPackets) → IsTrue (O.told out.old) → O.bytes out.new ≡ O.bytes out.old ++ printed_of config (packets_of text.now) }
+    ensures write_fault { result ≡ Status.WriteFault → Rose (O.faults out.old) (O.faults out.new) }
+{
+    match enter_all(alloc, config, text, out) {
+        Ok(entered) => {
+            let Entered { run, bad } = entered;
+            finish(alloc, run, bad, out)
+        }
+        Err(fault) => fault_status(fault),
     }
 }

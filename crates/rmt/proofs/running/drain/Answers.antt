@@ -25,12 +25,12 @@ turn-requires-clause-answered g c =
 
 pub returns-clause-ok : goal.returns-clause-ok
 returns-clause-ok g c = λ k inputs before h.
-    let e : c.loop-age._age ≡ latency_of k.stages = omega (arith, c.latency.ensures k inputs h.stands) in
+    let e : c.loop-age._age ≡ latency_of k.stages = omega (arith, c.latency-latency.ensures k inputs h.stands) in
     subst (λ n. Goes k (inputs ++ replicate n None) c.loop-age.run (g.O.Sink.told c.args.out.now) before (g.O.Sink.bytes c.loop-age.out)) e (c.loop-age.invariant.goes k inputs before h)
 
 pub returns-in-Err-clause-front : goal.returns-in-Err-clause-front
 returns-in-Err-clause-front g c = λ k inputs before h t.
-    front_padded k inputs c.loop-age._age (latency_of k.stages) before (g.O.Sink.bytes c.turn.new.out) (omega (arith, c.latency.ensures k inputs h.stands))
+    front_padded k inputs c.loop-age._age (latency_of k.stages) before (g.O.Sink.bytes c.turn.new.out) (omega (arith, c.latency-latency.ensures k inputs h.stands))
       (turned_front k (inputs ++ replicate c.loop-age._age None) c.loop-age.run (g.O.Sink.told c.args.out.now) (g.O.Sink.told c.loop-age.out) before (g.O.Sink.bytes c.loop-age.out) _ c.loop-age.invariant.tells
           (c.in-Err.ensures.front k (inputs ++ replicate c.loop-age._age None) before) (c.loop-age.invariant.goes k inputs before h) t)
 
