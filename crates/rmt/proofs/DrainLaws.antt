@@ -1,5 +1,5 @@
 -- A chip that runs empty.
-use Rattle.std.proofs.Common.{◌≡◌, ◌≢◌, ℕ, zero, suc, ◌+◌, ◌-◌, ◌<◌, ◌≤◌, Bool, IsTrue, List, [], ◌∷◌, ◌++◌, length, Option, Some, None, sym, refl, ap, ◌∙◌, subst, arith, append_assoc, append-nil, length-append, codes}
+use Rattle.std.proofs.Common.{◌≡◌, ◌≢◌, ◌⊎◌, inl, inr, ℕ, zero, suc, ◌+◌, ◌-◌, ◌<◌, ◌≤◌, Bool, IsTrue, List, [], ◌∷◌, ◌++◌, length, Option, Some, None, sym, refl, ap, ◌∙◌, subst, arith, append_assoc, append-nil, length-append, codes}
 use Rattle.std.specs.Prelude.{map, replicate, min}
 use Rattle.std.specs.Fmt.{decimal}
 use Rattle.std.specs.List.{flat_map}
@@ -7,7 +7,9 @@ use Rattle.rmt_bits.specs.Packet.{Packet}
 use Rattle.rmt_config.specs.declared.config.Config.{Config}
 use Rattle.rmt_config.specs.ChipRun.{inputs_of, outcomes_of, latency_of, chip_counts_of, cycles_of, flight_of}
 use Rattle.rmt.specs.declared.running.Run.{Run}
-use Rattle.rmt.specs.SimText.{answer_lines, count_line, cycles_line, flight_line, sim_text, printed_of}
+use Rattle.rmt.specs.declared.status.Status.{Status}
+use Rattle.rmt.specs.declared.status.Status.TheVariants as status
+use Rattle.rmt.specs.SimText.{answer_lines, bad_packets_line, count_line, cycles_line, flight_line, sim_text, printed_of}
 use Rattle.rmt_packets.specs.PacketText.{BadLine}
 use Rattle.rmt.specs.Running.{Goes, emitted, last_of}
 use Rattle.rmt.specs.Printing.{GainsFront}
@@ -103,3 +105,18 @@ last_printed c done first run told before mid now start last None g h l written 
 last_printed c done first run told before mid now start last (Some b) g h l written t =
     let a = answer_lines 0 (outcomes_of c done) in
     written t ∙ sym (append_assoc mid run.waiting.items last) ∙ ap (λ w. w ++ last) (h.text t) ∙ append_assoc before a last ∙ ap (λ w. before ++ (a ++ w)) l
+
+-- a front of the answers is one of what is printed
+pub front_printed : (c : Config) (done : List Packet) (bad : Option BadLine) (before now : List ℕ) → GainsFront before now (answer_lines 0 (outcomes_of c done)) → GainsFront before now (printed_of c (record { packets = done; bad = bad }))
+front_printed c done None before now p =
+    let a = answer_lines 0 (outcomes_of c done) in
+    let counts = flat_map count_line (chip_counts_of c (inputs_of c done)) in
+    gains_more before now (a ++ counts ++ cycles_line (cycles_of c done)) (flight_line (flight_of c done))
+      (gains_more before now (a ++ counts) (cycles_line (cycles_of c done)) (gains_more before now a counts p))
+front_printed c done (Some b) before now p = gains_more before now (answer_lines 0 (outcomes_of c done)) (bad_packets_line b.code b.line) p
+
+-- a whole text was printed
+pub ended_as : (r s : Status) → (r ≡ s) ⊎ (r ≡ status.WriteFault) → (r ≡ status.Done) ⊎ (r ≡ status.BadPackets) → r ≡ s
+ended_as r s (inl e) d = e
+ended_as r s (inr w) (inl d) = cc
+ended_as r s (inr w) (inr d) = cc

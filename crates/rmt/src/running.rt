@@ -427,6 +427,8 @@ fn finish<O: Sink>(alloc: Global, mut run: Run, bad: Option<Bad>, out: &mut O) -
     ensures printed { (result ≡ Status.Done) ⊎ (result ≡ Status.BadPackets) → (c : Config) (done : List Packet) (before : List ℕ) → Goes c (map Some done) run (O.told out.old) before (O.bytes out.old) → IsTrue (O.told out.old) →
         O.bytes out.new ≡ before ++ printed_of c (record { packets = done; bad = bad_line bad }) }
     ensures failed { result ≡ Status.WriteFault → Rose (O.faults out.old) (O.faults out.new) }
+    ensures front { (c : Config) (done : List Packet) (before : List ℕ) → Goes c (map Some done) run (O.told out.old) before (O.bytes out.old) → IsTrue (O.told out.old) →
+        GainsFront before (O.bytes out.new) (printed_of c (record { packets = done; bad = bad_line bad })) }
 {
     let packets = run.cycles;
     match run_out(alloc, &mut run, out) {
@@ -448,6 +450,7 @@ pub fn run_text<O: Sink>(alloc: Global, config: Config, text: &[u8], out: &mut O
     ensures bad { result ≡ Status.BadPackets → IsSome (packets_of text.now).bad }
     ensures printed { (result ≡ Status.Done) ⊎ (result ≡ Status.BadPackets) → IsTrue (O.told out.old) → O.bytes out.new ≡ O.bytes out.old ++ printed_of config (packets_of text.now) }
     ensures write_fault { result ≡ Status.WriteFault → Rose (O.faults out.old) (O.faults out.new) }
+    ensures front { IsTrue (O.told out.old) → GainsFront (O.bytes out.old) (O.bytes out.new) (printed_of config (packets_of text.now)) }
 {
     match enter_all(alloc, config, text, out) {
         Ok(entered) => {
