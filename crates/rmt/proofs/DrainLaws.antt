@@ -1,5 +1,5 @@
 -- A chip that runs empty.
-use Rattle.std.proofs.Common.{◌≡◌, ◌≢◌, ◌⊎◌, inl, inr, ℕ, zero, suc, ◌+◌, ◌-◌, ◌<◌, ◌≤◌, Bool, IsTrue, List, [], ◌∷◌, ◌++◌, length, Option, Some, None, sym, refl, ap, ◌∙◌, subst, arith, append_assoc, append-nil, length-append, codes}
+use Rattle.std.proofs.Common.{◌≡◌, ◌≢◌, ◌⊎◌, inl, inr, ℕ, zero, suc, ◌+◌, ◌-◌, ◌<◌, Bool, IsTrue, List, [], ◌∷◌, ◌++◌, length, Option, Some, None, sym, refl, ap, ◌∙◌, subst, arith, append_assoc, length-append, codes}
 use Rattle.std.specs.Prelude.{map, replicate, min}
 use Rattle.std.specs.Fmt.{decimal}
 use Rattle.std.specs.List.{flat_map}
@@ -28,23 +28,23 @@ pub padded : (inputs : List (Option Packet)) (a : ℕ) → (inputs ++ replicate 
 padded inputs a = append_assoc inputs (replicate a None) (None ∷ []) ∙ ap (λ l. inputs ++ l) (rep_more a 1)
 
 pub front_padded : (c : Config) (inputs : List (Option Packet)) (a n : ℕ) (before new : List ℕ) → a < n
-  → GainsFront before new (answer_lines 0 (emitted c ((inputs ++ replicate a None) ++ None ∷ []))) → GainsFront before new (answer_lines 0 (emitted c (inputs ++ replicate n None)))
+    → GainsFront before new (answer_lines 0 (emitted c ((inputs ++ replicate a None) ++ None ∷ []))) → GainsFront before new (answer_lines 0 (emitted c (inputs ++ replicate n None)))
 front_padded c inputs a n before new lt gains =
     let m = n - a - 1 in
     let long : a + suc m ≡ n = omega arith in
     let same : ((inputs ++ replicate a None) ++ None ∷ []) ++ replicate m None ≡ inputs ++ replicate n None =
-        append_assoc (inputs ++ replicate a None) (None ∷ []) (replicate m None) ∙ append_assoc inputs (replicate a None) (replicate (suc m) None)
-        ∙ ap (λ l. inputs ++ l) (rep_more a (suc m) ∙ ap (λ i. replicate i None) long) in
+    append_assoc (inputs ++ replicate a None) (None ∷ []) (replicate m None) ∙ append_assoc inputs (replicate a None) (replicate (suc m) None)
+    ∙ ap (λ l. inputs ++ l) (rep_more a (suc m) ∙ ap (λ i. replicate i None) long) in
     subst (λ l. GainsFront before new (answer_lines 0 (emitted c l))) same (front_grows c ((inputs ++ replicate a None) ++ None ∷ []) (replicate m None) before new gains)
 
 -- what one cycle gives, where a sink tells as much as before
 pub turned : (c : Config) (inputs later : List (Option Packet)) (old new : Run) (told still : Bool) (before mid now : List ℕ) → still ≡ told
-  → (Goes c inputs old still before mid → Goes c later new still before now) → Goes c inputs old told before mid → Goes c later new told before now
+    → (Goes c inputs old still before mid → Goes c later new still before now) → Goes c inputs old told before mid → Goes c later new told before now
 turned c inputs later old new told still before mid now e f g =
     subst (λ t. Goes c later new t before now) e (f (subst (λ t. Goes c inputs old t before mid) (sym e) g))
 
 pub turned_front : (c : Config) (inputs : List (Option Packet)) (old : Run) (told still : Bool) (before mid : List ℕ) (P : Type 0) → still ≡ told
-  → (Goes c inputs old still before mid → IsTrue still → P) → Goes c inputs old told before mid → IsTrue told → P
+    → (Goes c inputs old still before mid → IsTrue still → P) → Goes c inputs old told before mid → IsTrue told → P
 turned_front c inputs old told still before mid P e f g t =
     f (subst (λ t. Goes c inputs old t before mid) (sym e) g) (subst (λ b. IsTrue b) (sym e) t)
 
@@ -54,12 +54,12 @@ none_entered c [] run told before now e g = g
 none_entered c (p ∷ ps) run told before now e g = let n = g.clocked in absurd (omega (arith, n, e))
 
 pub some_entered : (c : Config) (done : List Packet) (old new : Run) (told : Bool) (before mid now : List ℕ) → old.cycles ≢ 0 → Goes c (map Some done) old told before mid
-  → Goes c (map Some done ++ replicate (latency_of c.stages) None) new told before now → Goes c (inputs_of c done) new told before now
+    → Goes c (map Some done ++ replicate (latency_of c.stages) None) new told before now → Goes c (inputs_of c done) new told before now
 some_entered c [] old new told before mid now e g h = absurd (e g.clocked)
 some_entered c (p ∷ ps) old new told before mid now e g h = h
 
 pub some_front : (c : Config) (done : List Packet) (old : Run) (told : Bool) (before mid now : List ℕ) → old.cycles ≢ 0 → Goes c (map Some done) old told before mid
-  → GainsFront before now (answer_lines 0 (emitted c (map Some done ++ replicate (latency_of c.stages) None))) → GainsFront before now (answer_lines 0 (outcomes_of c done))
+    → GainsFront before now (answer_lines 0 (emitted c (map Some done ++ replicate (latency_of c.stages) None))) → GainsFront before now (answer_lines 0 (outcomes_of c done))
 some_front c [] old told before mid now e g h = absurd (e g.clocked)
 some_front c (p ∷ ps) old told before mid now e g h = h
 
@@ -73,21 +73,21 @@ gains_more old new text last p = (p.0 ++ last, sym (append_assoc new p.0 last) �
 
 -- all lines of a run
 pub all_lines : (c : Config) (done : List Packet) (first run : Run) (told : Bool) (before mid now start : List ℕ) (last : List ℕ)
-  → Goes c (map Some done) first told before start → Goes c (inputs_of c done) run told before mid
-  → last ≡ flat_map count_line (chip_counts_of c (inputs_of c done)) ++ (cycles_line run.cycles ++ flight_line (min first.cycles (latency_of c.stages + 1)))
-  → (IsTrue told → now ≡ mid ++ (run.waiting.items ++ last)) → IsTrue told → now ≡ before ++ sim_text c done
+    → Goes c (map Some done) first told before start → Goes c (inputs_of c done) run told before mid
+    → last ≡ flat_map count_line (chip_counts_of c (inputs_of c done)) ++ (cycles_line run.cycles ++ flight_line (min first.cycles (latency_of c.stages + 1)))
+    → (IsTrue told → now ≡ mid ++ (run.waiting.items ++ last)) → IsTrue told → now ≡ before ++ sim_text c done
 all_lines c done first run told before mid now start last g h l written t =
     let a = answer_lines 0 (outcomes_of c done) in
     let counts = flat_map count_line (chip_counts_of c (inputs_of c done)) in
     let flight : first.cycles ≡ length done = g.clocked ∙ length_map_some done in
     let ends : last ≡ counts ++ (cycles_line (cycles_of c done) ++ flight_line (flight_of c done)) =
-        l ∙ ap (λ n. counts ++ (cycles_line n ++ flight_line (min first.cycles (latency_of c.stages + 1)))) h.clocked
-        ∙ ap (λ n. counts ++ (cycles_line (cycles_of c done) ++ flight_line (min n (latency_of c.stages + 1)))) flight in
+    l ∙ ap (λ n. counts ++ (cycles_line n ++ flight_line (min first.cycles (latency_of c.stages + 1)))) h.clocked
+    ∙ ap (λ n. counts ++ (cycles_line (cycles_of c done) ++ flight_line (min n (latency_of c.stages + 1)))) flight in
     written t ∙ sym (append_assoc mid run.waiting.items last) ∙ ap (λ w. w ++ last) (h.text t) ∙ append_assoc before a last
     ∙ ap (λ w. before ++ w)
-        (ap (λ w. a ++ w) (ends ∙ sym (append_assoc counts (cycles_line (cycles_of c done)) (flight_line (flight_of c done))))
-        ∙ sym (append_assoc a (counts ++ cycles_line (cycles_of c done)) (flight_line (flight_of c done)))
-        ∙ ap (λ w. w ++ flight_line (flight_of c done)) (sym (append_assoc a counts (cycles_line (cycles_of c done)))))
+    (ap (λ w. a ++ w) (ends ∙ sym (append_assoc counts (cycles_line (cycles_of c done)) (flight_line (flight_of c done))))
+    ∙ sym (append_assoc a (counts ++ cycles_line (cycles_of c done)) (flight_line (flight_of c done)))
+    ∙ ap (λ w. w ++ flight_line (flight_of c done)) (sym (append_assoc a counts (cycles_line (cycles_of c done)))))
 
 pad_length : (a : ℕ) → length (pad a) ≡ a
 pad_length zero = refl
@@ -98,9 +98,9 @@ padded_length inputs a = length-append inputs (pad a) ∙ ap (λ n. length input
 
 -- what stands behind the answers
 pub last_printed : (c : Config) (done : List Packet) (first run : Run) (told : Bool) (before mid now start last : List ℕ) (bad : Option BadLine)
-  → Goes c (map Some done) first told before start → Goes c (inputs_of c done) run told before mid
-  → last ≡ last_of c (inputs_of c done) run.cycles first.cycles bad
-  → (IsTrue told → now ≡ mid ++ (run.waiting.items ++ last)) → IsTrue told → now ≡ before ++ printed_of c (record { packets = done; bad = bad })
+    → Goes c (map Some done) first told before start → Goes c (inputs_of c done) run told before mid
+    → last ≡ last_of c (inputs_of c done) run.cycles first.cycles bad
+    → (IsTrue told → now ≡ mid ++ (run.waiting.items ++ last)) → IsTrue told → now ≡ before ++ printed_of c (record { packets = done; bad = bad })
 last_printed c done first run told before mid now start last None g h l written t = all_lines c done first run told before mid now start last g h l written t
 last_printed c done first run told before mid now start last (Some b) g h l written t =
     let a = answer_lines 0 (outcomes_of c done) in
@@ -112,7 +112,7 @@ front_printed c done None before now p =
     let a = answer_lines 0 (outcomes_of c done) in
     let counts = flat_map count_line (chip_counts_of c (inputs_of c done)) in
     gains_more before now (a ++ counts ++ cycles_line (cycles_of c done)) (flight_line (flight_of c done))
-      (gains_more before now (a ++ counts) (cycles_line (cycles_of c done)) (gains_more before now a counts p))
+    (gains_more before now (a ++ counts) (cycles_line (cycles_of c done)) (gains_more before now a counts p))
 front_printed c done (Some b) before now p = gains_more before now (answer_lines 0 (outcomes_of c done)) (bad_packets_line b.code b.line) p
 
 -- a whole text was printed

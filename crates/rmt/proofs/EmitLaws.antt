@@ -1,5 +1,5 @@
 -- The answers of a run, cycle by cycle.
-use Rattle.std.proofs.Common.{◌≡◌, ℕ, zero, suc, ◌+◌, ◌-◌, ◌<◌, ◌≤◌, List, [], ◌∷◌, ◌++◌, length, Option, Some, None, sym, refl, ap, ◌∙◌, subst, arith, append_assoc, append-nil, length-append}
+use Rattle.std.proofs.Common.{◌≡◌, ℕ, zero, suc, ◌+◌, ◌-◌, ◌<◌, List, [], ◌∷◌, ◌++◌, length, Option, Some, None, sym, refl, ap, ◌∙◌, subst, arith, append_assoc, length-append}
 use Rattle.std.specs.Prelude.{filter_map, slice_get, option_and_then, option_map, nat_lt, if◌then◌else◌}
 use Rattle.std.specs.Option.{option_to_list}
 use Rattle.std.specs.List.{range_with_len, cons_option}
@@ -34,7 +34,7 @@ front_get (x ∷ xs) ys (suc k) h = front_get xs ys k (omega (arith, h))
 answer_before : (c : Config) (inputs : List (Option Packet)) (x : Option Packet) (k : ℕ) → k < length inputs → answer_at c (inputs ++ x ∷ []) k ≡ answer_at c inputs k
 answer_before c inputs x k h =
     ap (λ o. if nat_lt k (latency_of c.stages) then None else option_and_then (λ (input : Option Packet). option_map (outcome_of (own_look c) c) input) o)
-      (front_get inputs (x ∷ []) (k - latency_of c.stages) (omega arith))
+    (front_get inputs (x ∷ []) (k - latency_of c.stages) (omega arith))
 
 -- one more cycle
 pub emitted-more : (c : Config) (inputs : List (Option Packet)) (x : Option Packet) → emitted c (inputs ++ x ∷ []) ≡ emitted c inputs ++ option_to_list (answer_at c (inputs ++ x ∷ []) (length inputs))

@@ -1,18 +1,18 @@
 -- The loop over the lines of a packet text.
-use Rattle.std.proofs.Common.{◌≡◌, ℕ, suc, ◌+◌, ◌<◌, ◌≤◌, Bool, IsTrue, List, [], ◌∷◌, ◌++◌, length, drop, Option, Some, None, Ok, Err, Result, sym, refl, ap, ◌∙◌, subst, arith, append_assoc, append-nil, length-append, slice_range}
+use Rattle.std.proofs.Common.{◌≡◌, ℕ, suc, ◌+◌, ◌<◌, ◌≤◌, Bool, List, [], ◌∷◌, ◌++◌, length, drop, Some, None, Ok, Err, Result, sym, refl, ap, ◌∙◌, subst, arith, append-nil, length-append}
 use Rattle.std.specs.Prelude.{map, replicate}
 use Rattle.rmt_bits.specs.Packet.{Packet}
 use Rattle.rmt_config.specs.declared.config.Config.{Config}
-use Rattle.rmt_config.specs.ChipRun.{inputs_of, outcomes_of, latency_of}
+use Rattle.rmt_config.specs.ChipRun.{outcomes_of, latency_of}
 use Rattle.rmt_chip.specs.Stands.{entered_of}
-use Rattle.rmt_packets.specs.PacketText.{BadLine, Reading, behind, packet_of, packets_of, reading_of}
+use Rattle.rmt_packets.specs.PacketText.{Reading, behind, packet_of, packets_of, reading_of}
 use Rattle.rmt_packets.specs.Lines.{numbered_lines}
-use Rattle.rmt_packets.proofs.Readings.{behind_none, behind_packet, behind_fault, behind_end}
+use Rattle.rmt_packets.proofs.Readings.{behind_packet, behind_fault, behind_end}
 use Rattle.rmt.specs.declared.running.Run.{Run}
 use Rattle.rmt.specs.SimText.{answer_lines}
 use Rattle.rmt.specs.Running.{Goes, emitted, said}
 use Rattle.rmt.specs.Printing.{GainsFront}
-use Rattle.rmt.proofs.RunLaws.{few_numbered, few_entered, front_grows, front_waits}
+use Rattle.rmt.proofs.RunLaws.{few_numbered, few_entered, front_grows}
 
 -- the packets of the lines before a place have entered
 pub record Reached (c : Config) (text : List ℕ) (at number : ℕ) (run : Run) (told : Bool) (before now : List ℕ) : Type 0 where
@@ -48,10 +48,10 @@ reached_entered r = omega (arith, r.few, few_entered r.goes, length_map_some r.d
 
 -- behind a line whose packet entered
 pub reached_more : (c : Config) (text : List ℕ) (at number next later : ℕ) (line : List ℕ) (old new : Run) (told : Bool) (before now then : List ℕ) (p : Packet)
-  → (r : Reached c text at number old told before now)
-  → numbered_lines number (drop at text) ≡ (later, line) ∷ numbered_lines (later + 1) (drop next text) → packet_of line ≡ Ok p → at < next
-  → Goes c (map Some r.done ++ said (packet_of line)) new told before then
-  → Reached c text next (later + 1) new told before then
+    → (r : Reached c text at number old told before now)
+    → numbered_lines number (drop at text) ≡ (later, line) ∷ numbered_lines (later + 1) (drop next text) → packet_of line ≡ Ok p → at < next
+    → Goes c (map Some r.done ++ said (packet_of line)) new told before then
+    → Reached c text next (later + 1) new told before then
 reached_more c text at number next later line old new told before now then p r lines packet moves goes = record {
   done = r.done ++ p ∷ [];
   goes = subst (λ l. Goes c l new told before then) (ap (λ s. map Some r.done ++ said s) packet ∙ sym (map_some_push r.done p)) goes;
@@ -61,15 +61,15 @@ reached_more c text at number next later line old new told before now then p r l
 
 -- the packets before a bad line
 pub reached_bad : (c : Config) (text : List ℕ) (at number next later code : ℕ) (line : List ℕ) (old : Run) (told : Bool) (before now : List ℕ)
-  → (r : Reached c text at number old told before now)
-  → numbered_lines number (drop at text) ≡ (later, line) ∷ numbered_lines (later + 1) (drop next text) → packet_of line ≡ Err code
-  → packets_of text ≡ record { packets = r.done; bad = Some (record { code = code; line = later }) }
+    → (r : Reached c text at number old told before now)
+    → numbered_lines number (drop at text) ≡ (later, line) ∷ numbered_lines (later + 1) (drop next text) → packet_of line ≡ Err code
+    → packets_of text ≡ record { packets = r.done; bad = Some (record { code = code; line = later }) }
 reached_bad c text at number next later code line old told before now r lines fault =
     r.reads ∙ ap (λ l. behind r.done (reading_of l)) lines ∙ behind_fault r.done later line code (numbered_lines (later + 1) (drop next text)) fault
 
 -- all packets
 pub reached_end : (c : Config) (text : List ℕ) (at number : ℕ) (run : Run) (told : Bool) (before now : List ℕ)
-  → (r : Reached c text at number run told before now) → numbered_lines number (drop at text) ≡ [] → packets_of text ≡ record { packets = r.done; bad = None }
+    → (r : Reached c text at number run told before now) → numbered_lines number (drop at text) ≡ [] → packets_of text ≡ record { packets = r.done; bad = None }
 reached_end c text at number run told before now r lines = r.reads ∙ ap (λ l. behind r.done (reading_of l)) lines ∙ behind_end r.done
 
 -- a front of the answers so far is one of all answers
@@ -86,23 +86,23 @@ front_of_all c done rest before now gains = ended (done ++ rest) refl
 
 -- where a line's cycle fails
 pub reached_front : (c : Config) (text : List ℕ) (at number next later : ℕ) (line : List ℕ) (old : Run) (told : Bool) (before now then : List ℕ)
-  → (r : Reached c text at number old told before now)
-  → numbered_lines number (drop at text) ≡ (later, line) ∷ numbered_lines (later + 1) (drop next text)
-  → GainsFront before then (answer_lines 0 (emitted c (map Some r.done ++ said (packet_of line))))
-  → GainsFront before then (answer_lines 0 (outcomes_of c (packets_of text).packets))
+    → (r : Reached c text at number old told before now)
+    → numbered_lines number (drop at text) ≡ (later, line) ∷ numbered_lines (later + 1) (drop next text)
+    → GainsFront before then (answer_lines 0 (emitted c (map Some r.done ++ said (packet_of line))))
+    → GainsFront before then (answer_lines 0 (outcomes_of c (packets_of text).packets))
 reached_front c text at number next later line old told before now then r lines gains =
     cases (packet_of line) refl
   where
     cases : (s : Result Packet ℕ) → packet_of line ≡ s → GainsFront before then (answer_lines 0 (outcomes_of c (packets_of text).packets))
     cases (Ok p) e =
         let same : packets_of text ≡ behind (r.done ++ p ∷ []) (reading_of (numbered_lines (later + 1) (drop next text))) =
-            r.reads ∙ ap (λ l. behind r.done (reading_of l)) lines ∙ behind_packet r.done later line p (numbered_lines (later + 1) (drop next text)) e in
+        r.reads ∙ ap (λ l. behind r.done (reading_of l)) lines ∙ behind_packet r.done later line p (numbered_lines (later + 1) (drop next text)) e in
         let front = subst (λ l. GainsFront before then (answer_lines 0 (emitted c l))) (ap (λ s. map Some r.done ++ said s) e ∙ sym (map_some_push r.done p)) gains in
         subst (λ (x : Reading). GainsFront before then (answer_lines 0 (outcomes_of c x.packets))) (sym same)
-          (front_of_all c (r.done ++ p ∷ []) (reading_of (numbered_lines (later + 1) (drop next text))).packets before then front)
+        (front_of_all c (r.done ++ p ∷ []) (reading_of (numbered_lines (later + 1) (drop next text))).packets before then front)
     cases (Err code) e =
         let same : packets_of text ≡ record { packets = r.done; bad = Some (record { code = code; line = later }) } =
-            r.reads ∙ ap (λ l. behind r.done (reading_of l)) lines ∙ behind_fault r.done later line code (numbered_lines (later + 1) (drop next text)) e in
+        r.reads ∙ ap (λ l. behind r.done (reading_of l)) lines ∙ behind_fault r.done later line code (numbered_lines (later + 1) (drop next text)) e in
         let front = subst (λ l. GainsFront before then (answer_lines 0 (emitted c l))) (ap (λ s. map Some r.done ++ said s) e ∙ append-nil (map Some r.done)) gains in
         subst (λ (x : Reading). GainsFront before then (answer_lines 0 (outcomes_of c x.packets))) (sym same)
-          (subst (λ ps. GainsFront before then (answer_lines 0 (outcomes_of c ps))) (append-nil r.done) (front_of_all c r.done [] before then front))
+        (subst (λ ps. GainsFront before then (answer_lines 0 (outcomes_of c ps))) (append-nil r.done) (front_of_all c r.done [] before then front))

@@ -438,7 +438,12 @@ fn finish<O: Sink>(alloc: Global, mut run: Run, bad: Option<Bad>, out: &mut O) -
     let Ok(last) = last_text(alloc, &run, packets, bad) else {
         return Status::NoMemory;
     };
-    end_with(run.waiting.as_slice(), last.as_slice(), end_status(bad), out)
+    end_with(
+        run.waiting.as_slice(),
+        last.as_slice(),
+        end_status(bad),
+        out,
+    )
 }
 
 /// Runs the packets of a text through a chip, and prints what `sim` prints.

@@ -44,7 +44,7 @@ loop-line-preserved g c =
       reached = reached_more c.args.config c.args.text.now c.loop-line.at c.loop-line.number l.next l.number line c.loop-line.run c.enter.new.run told before mid now says.0 r c.in-Some.ensures.some says.1
           (omega (arith, c.in-Some.ensures.places.0, c.in-Some.ensures.places.1, c.in-Some.ensures.places.2))
           (turned c.args.config (map Some r.done) (map Some r.done ++ said (packet_of line)) c.loop-line.run c.enter.new.run told (g.O.Sink.told c.loop-line.out) before mid now c.loop-line.invariant.tells
-              (c.in-Ok-None.ensures.ok c.args.config (map Some r.done) before) r.goes);
+          (c.in-Ok-None.ensures.ok c.args.config (map Some r.done) before) r.goes);
       tells = c.enter.ensures.tells ∙ c.loop-line.invariant.tells;
       counts = omega (arith, c.enter.ensures.counts, c.loop-line.invariant.counts);
     }
@@ -58,5 +58,5 @@ returns-in-Err-clause-front g c = λ t.
     let before = g.O.Sink.bytes c.args.out.now in
     let mid = g.O.Sink.bytes c.loop-line.out in
     reached_front c.args.config c.args.text.now c.loop-line.at c.loop-line.number l.next l.number line c.loop-line.run told before mid (g.O.Sink.bytes c.enter.new.out) r c.in-Some.ensures.some
-        (turned_front c.args.config (map Some r.done) c.loop-line.run told (g.O.Sink.told c.loop-line.out) before mid _ c.loop-line.invariant.tells
-            (c.in-Err.ensures.front c.args.config (map Some r.done) before) r.goes t)
+    (turned_front c.args.config (map Some r.done) c.loop-line.run told (g.O.Sink.told c.loop-line.out) before mid _ c.loop-line.invariant.tells
+    (c.in-Err.ensures.front c.args.config (map Some r.done) before) r.goes t)

@@ -1,10 +1,5 @@
 -- What was written is a front of what is printed.
-use Rattle.std.proofs.Common.{Some, IsTrue, sym, subst}
-use Rattle.std.specs.Prelude.{map}
-use Rattle.rmt_packets.specs.PacketText.{Reading, packets_of}
-use Rattle.rmt.specs.Printing.{GainsFront}
-use Rattle.rmt.specs.SimText.{printed_of}
-use Rattle.rmt.specs.Running.{Goes}
+use Rattle.rmt_packets.specs.PacketText.{packets_of}
 use Rattle.rmt.proofs.DrainLaws.{front_printed}
 use Rattle.rmt.proofs.running.run_text.Goals as goal
 
