@@ -1,5 +1,5 @@
 -- The answers of a run, cycle by cycle.
-use Rattle.std.proofs.Common.{◌≡◌, ℕ, zero, suc, ◌+◌, ◌-◌, ◌<◌, ◌≤◌, List, [], ◌∷◌, ◌++◌, length, Option, Some, None, sym, refl, ap, ◌∙◌, subst, arith, append_assoc, append-nil, length-append}
+use Rattle.std.proofs.Common.{◌≡◌, ℕ, zero, suc, ◌+◌, ◌-◌, ◌<◌, List, [], ◌∷◌, ◌++◌, length, Option, Some, None, sym, refl, ap, ◌∙◌, subst, arith, append_assoc, length-append}
 use Rattle.std.specs.Prelude.{filter_map, slice_get, option_and_then, option_map, nat_lt, if◌then◌else◌}
 use Rattle.std.specs.Option.{option_to_list}
 use Rattle.std.specs.List.{range_with_len, cons_option}
@@ -9,10 +9,7 @@ use Rattle.rmt_config.specs.declared.config.Config.{Config}
 use Rattle.rmt_config.specs.ChipRun.{Outcome, answer_at, latency_of, outcome_of, own_look}
 use Rattle.rmt_packets.specs.AnswerLine.{answer_line}
 use Rattle.rmt.specs.SimText.{answer_lines, answer_of_outcome}
-
--- the answers that left in the cycles of these inputs
-abbrev pub emitted : Config → List (Option Packet) → List Outcome
-emitted c inputs = filter_map (answer_at c inputs) (range_with_len 0 (length inputs))
+use Rattle.rmt.specs.Running.{emitted}
 
 range-more : (a n : ℕ) → range_with_len a (n + 1) ≡ range_with_len a n ++ (a + n) ∷ []
 range-more a zero = let same : a + 0 ≡ a = omega arith in rw same refl

@@ -14,3 +14,6 @@ pub mod SmallLookups
 pub mod SmallSteps
 pub mod EmitLaws
 pub mod SimLemmas
+pub mod RunLaws
+pub mod DrainLaws
+pub mod ReachLaws

@@ -9,3 +9,4 @@ pub mod CommandReading
 pub mod Printing
 pub mod SimText
 pub mod SimPromises
+pub mod Running

@@ -6,6 +6,7 @@ mod compiling;
 mod configure;
 mod loading;
 mod printing;
+mod running;
 mod simulating;
 pub mod small;
 pub mod status;

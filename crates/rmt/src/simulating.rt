@@ -5,30 +5,18 @@ ghost use Rattle.rmt_io.specs.Faults.{Rose};
 ghost use Rattle.rmt_packets.specs.PacketText.{packets_of};
 ghost use Rattle.rmt_config.specs.Form.{Formed};
 ghost use Rattle.rmt_config.specs.Limits.{IsWithinLimits};
+ghost use Rattle.rmt.specs.Printing.{GainsFront};
 ghost use Rattle.rmt.specs.SimText.{printed_of, bad_image_line};
 ghost use Rattle.rmt.specs.SimPromises.{SimCauses, SimAbsent, SimPrints, IsOfSim};
 
 use crate::loading::{IMAGE_LIMIT, PACKETS_LIMIT, read_texts, status_of};
 use crate::printing::end_with;
+use crate::running::run_text;
 use crate::status::Status;
-use rmt_config::config::Config;
 use rmt_image::{ImageFault, read_image};
 use rmt_io::shelf::Shelf;
 use rmt_io::sink::Sink;
 use std::alloc::{AllocError, Global};
-
-fn run_text<O: Sink>(alloc: Global, config: Config, text: &[u8], out: &mut O) -> Status
-    requires form { Formed config }
-    requires limits { IsWithinLimits config }
-    requires short { length text.now ≤ 67108864 }
-    ensures possible { (result ≡ Status.Done) ⊎ (result ≡ Status.BadPackets) ⊎ (result ≡ Status.WriteFault) ⊎ (result ≡ Status.NoMemory) }
-    ensures done { result ≡ Status.Done → (packets_of text.now).bad ≡ None }
-    ensures bad { result ≡ Status.BadPackets → IsSome (packets_of text.now).bad }
-    ensures printed { (result ≡ Status.Done) ⊎ (result ≡ Status.BadPackets) → IsTrue (O.told out.old) → O.bytes out.new ≡ O.bytes out.old ++ printed_of config (packets_of text.now) }
-    ensures write_fault { result ≡ Status.WriteFault → Rose (O.faults out.old) (O.faults out.new) }
-{
-    Status::NoMemory
-}
 
 /// `bad image CODE`, and for a limit also its number, the stage, the sum and the need.
 fn line_of(alloc: Global, fault: ImageFault) -> Result<String, AllocError>
@@ -63,6 +51,8 @@ pub fn simulate<F: Shelf, O: Sink>(
     ensures causes { IsTrue (F.told shelf.old) → SimCauses (F.file shelf.old) (string_bytes image.now) (string_bytes packets.now) result }
     ensures printed { (result ≡ Status.Done) ⊎ (result ≡ Status.BadPackets) ⊎ (result ≡ Status.BadImage) → IsTrue (F.told shelf.old) → IsTrue (O.told out.old) →
         (text : List ℕ) × SimPrints (F.file shelf.old) (string_bytes image.now) (string_bytes packets.now) text × (O.bytes out.new ≡ O.bytes out.old ++ text) }
+    ensures front { result ≡ Status.WriteFault → IsTrue (F.told shelf.old) → IsTrue (O.told out.old) →
+        (text : List ℕ) × SimPrints (F.file shelf.old) (string_bytes image.now) (string_bytes packets.now) text × GainsFront (O.bytes out.old) (O.bytes out.new) text }
     ensures quiet { (result ≡ Status.ReadFault) ⊎ (result ≡ Status.TooLong) → IsTrue (O.told out.old) → O.bytes out.new ≡ O.bytes out.old }
     ensures read_fault { result ≡ Status.ReadFault → Rose (F.reading_faults shelf.old) (F.reading_faults shelf.new) }
     ensures absent { result ≡ Status.ReadFault → IsTrue (F.steady shelf.old) → SimAbsent (F.file shelf.old) (string_bytes image.now) (string_bytes packets.now) }
@@ -82,7 +72,8 @@ pub fn simulate<F: Shelf, O: Sink>(
 /// Prints the last line of a bad image; where memory was wanted there is none.
 fn tell_bad_image<O: Sink>(alloc: Global, fault: ImageFault, out: &mut O) -> Status
     ensures status { (result ≡ Status.BadImage) ⊎ (result ≡ Status.WriteFault) ⊎ (result ≡ Status.NoMemory) }
-    ensures of_bytes { result ≡ Status.BadImage → fault ≢ ImageFault.NoMemory }
+    ensures of_bytes { (result ≡ Status.BadImage) ⊎ (result ≡ Status.WriteFault) → fault ≢ ImageFault.NoMemory }
+    ensures front { result ≡ Status.WriteFault → IsTrue (O.told out.old) → GainsFront (O.bytes out.old) (O.bytes out.new) (bad_image_line fault) }
     ensures printed { result ≡ Status.BadImage → IsTrue (O.told out.old) → O.bytes out.new ≡ O.bytes out.old ++ bad_image_line fault }
     ensures failed { result ≡ Status.WriteFault → Rose (O.faults out.old) (O.faults out.new) }
 {

@@ -147,6 +147,8 @@ pub fn rmt<F: Shelf, O: Sink>(
     ensures simulated { (result ≡ Status.Done) ⊎ (result ≡ Status.BadPackets) ⊎ (result ≡ Status.BadImage) → IsTrue (F.told shelf.old) → IsTrue (O.told out.old) →
         IfSim (command_of (words_of words.now.items)) (λ image packets.
         (text : List ℕ) × SimPrints (F.file shelf.old) image packets text × (O.bytes out.new ≡ O.bytes out.old ++ text)) }
+    ensures sim_front { result ≡ Status.WriteFault → IsTrue (F.told shelf.old) → IsTrue (O.told out.old) → IfSim (command_of (words_of words.now.items)) (λ image packets.
+        (text : List ℕ) × SimPrints (F.file shelf.old) image packets text × GainsFront (O.bytes out.old) (O.bytes out.new) text) }
     ensures sim_absent { result ≡ Status.ReadFault → IsTrue (F.steady shelf.old) → IfSim (command_of (words_of words.now.items)) (λ image packets.
         SimAbsent (F.file shelf.old) image packets) }
     ensures sim_write_fault { result ≡ Status.WriteFault → IfSim (command_of (words_of words.now.items)) (λ image packets. Rose (O.faults out.old) (O.faults out.new)) }

@@ -34,6 +34,23 @@ returns-in-Ok-read_image-clause-printed g c = λ s told tells. (
   c.run_text.ensures.printed (ran_to_end _ s c.run_text.ensures.possible) tells,
 )
 
+pub returns-in-Ok-read_image-clause-front : goal.returns-in-Ok-read_image-clause-front
+returns-in-Ok-read_image-clause-front g c = λ s told tells. (
+  _,
+  inl (
+    has_image _ _ _ c.deref.result.now c.deref-in-Ok-read_image.result.now c.in-Ok-read_image.config
+        (record {
+          image_was = rw c.deref.ensures.value (c.in-Ok.ensures.first told);
+          image_fits = rw c.deref.ensures.value c.in-Ok.ensures.first_fits;
+          packets_were = rw c.deref-in-Ok-read_image.ensures.value (c.in-Ok.ensures.second told);
+          packets_fit = rw c.deref-in-Ok-read_image.ensures.value c.in-Ok.ensures.second_fits;
+        })
+        c.in-Ok-read_image.ensures.found.0 c.in-Ok-read_image.ensures.found.1 c.in-Ok-read_image.ensures.found.2,
+    refl,
+  ),
+  c.run_text.ensures.front tells,
+)
+
 pub returns-clause-causes : goal.returns-clause-causes
 returns-clause-causes g c = λ told.
     causes_bad_image _ _ _ _ c.tell_bad_image.ensures.status (λ e.
@@ -44,7 +61,7 @@ returns-clause-causes g c = λ told.
       packets_were = c.in-Ok.ensures.second told;
       packets_fit = c.in-Ok.ensures.second_fits;
     })
-    (read_as c.deref.result.now c.in-Err-read_image.fault c.in-Err-read_image.ensures.exact (c.tell_bad_image.ensures.of_bytes e)) (c.tell_bad_image.ensures.of_bytes e))
+    (read_as c.deref.result.now c.in-Err-read_image.fault c.in-Err-read_image.ensures.exact (c.tell_bad_image.ensures.of_bytes (inl e))) (c.tell_bad_image.ensures.of_bytes (inl e)))
 
 pub returns-clause-printed : goal.returns-clause-printed
 returns-clause-printed g c = λ s told tells.
@@ -58,8 +75,26 @@ returns-clause-printed g c = λ s told tells.
               packets_were = c.in-Ok.ensures.second told;
               packets_fit = c.in-Ok.ensures.second_fits;
             })
-            (read_as c.deref.result.now c.in-Err-read_image.fault c.in-Err-read_image.ensures.exact (c.tell_bad_image.ensures.of_bytes e)) (c.tell_bad_image.ensures.of_bytes e),
+            (read_as c.deref.result.now c.in-Err-read_image.fault c.in-Err-read_image.ensures.exact (c.tell_bad_image.ensures.of_bytes (inl e))) (c.tell_bad_image.ensures.of_bytes (inl e)),
         refl,
       ),
       c.tell_bad_image.ensures.printed e tells,
+    )
+
+pub returns-clause-front : goal.returns-clause-front
+returns-clause-front g c = λ s told tells.
+    let e = bad_image_told _ s c.tell_bad_image.ensures.status in (
+      _,
+      inr (
+        has_bad_image _ _ _ c.deref.result.now c.in-Ok.texts.second.items c.in-Err-read_image.fault
+            (record {
+              image_was = rw c.deref.ensures.value (c.in-Ok.ensures.first told);
+              image_fits = rw c.deref.ensures.value c.in-Ok.ensures.first_fits;
+              packets_were = c.in-Ok.ensures.second told;
+              packets_fit = c.in-Ok.ensures.second_fits;
+            })
+            (read_as c.deref.result.now c.in-Err-read_image.fault c.in-Err-read_image.ensures.exact (c.tell_bad_image.ensures.of_bytes (inr s))) (c.tell_bad_image.ensures.of_bytes (inr s)),
+        refl,
+      ),
+      c.tell_bad_image.ensures.front s tells,
     )
