@@ -3,8 +3,6 @@
 ghost use Rattle.std.specs.Prelude.{◌≡◌, ◌≢◌, ◌≤◌, ◌⊎◌, ◌++◌, ℕ, List, Some, None, length, IsTrue, IsSome, IfOk, string_bytes};
 ghost use Rattle.rmt_io.specs.Faults.{Rose};
 ghost use Rattle.rmt_packets.specs.PacketText.{packets_of};
-ghost use Rattle.rmt_config.specs.Form.{Formed};
-ghost use Rattle.rmt_config.specs.Limits.{IsWithinLimits};
 ghost use Rattle.rmt.specs.Printing.{GainsFront};
 ghost use Rattle.rmt.specs.SimText.{printed_of, bad_image_line};
 ghost use Rattle.rmt.specs.SimPromises.{SimCauses, SimAbsent, SimPrints, IsOfSim};

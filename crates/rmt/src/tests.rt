@@ -286,7 +286,9 @@ fn a_text_of_one_byte_too_many(rt: HostRuntime) -> Result<(), Fail> {
 }
 
 const NO_STAGE: &str = "header h { f : 8; } next accept; control { }";
-const DROPS: &str = "header h { f : 8; } next accept; action lose() { drop = 1; } action out() { out_port = 3; } table t { default lose(); } table u { default out(); } control { apply u; apply t; }";
+
+const DROPS: &str =
+    "header h { f : 8; } next accept; action lose() { drop = 1; } action out() { out_port = 3; } table t { default lose(); } table u { default out(); } control { apply u; apply t; }";
 
 /// Compiles a program, and then simulates its image on packets.
 fn expect_simulated(
@@ -325,15 +327,50 @@ fn expect_simulated(
 #[test]
 fn runs_of_the_chip(rt: HostRuntime) -> Result<(), Fail> {
     for (program, packets, status, printed) in [
-        (SMALLEST, "0 ff\n", Status::Done, "0 1 ff\ncycles 13\nflight 1\n"),
+        (
+            SMALLEST,
+            "0 ff\n",
+            Status::Done,
+            "0 1 ff\ncycles 13\nflight 1\n",
+        ),
         (SMALLEST, "", Status::Done, "cycles 0\nflight 0\n"),
         (SMALLEST, "# none\n", Status::Done, "cycles 0\nflight 0\n"),
-        (NO_STAGE, "5 ff", Status::Done, "0 0 ff\ncycles 1\nflight 1\n"),
-        (SMALLEST, "0 ff\n1 00\n2 abc\n", Status::BadPackets, "0 1 ff\n1 1 00\nbad packets 1 line 3\n"),
-        (SMALLEST, "512 ff\n", Status::BadPackets, "bad packets 2 line 1\n"),
-        (SMALLEST, "\n0 \n", Status::BadPackets, "bad packets 3 line 2\n"),
-        (SMALLEST, "7 0A0b\n  \n511 FF", Status::Done, "0 1 0a0b\n1 1 ff\ncycles 14\nflight 2\n"),
-        (DROPS, "0 01\n0 02\n0 03\n", Status::Done, "0 drop action\n1 drop action\n2 drop action\ncycles 27\nflight 3\n"),
+        (
+            NO_STAGE,
+            "5 ff",
+            Status::Done,
+            "0 0 ff\ncycles 1\nflight 1\n",
+        ),
+        (
+            SMALLEST,
+            "0 ff\n1 00\n2 abc\n",
+            Status::BadPackets,
+            "0 1 ff\n1 1 00\nbad packets 1 line 3\n",
+        ),
+        (
+            SMALLEST,
+            "512 ff\n",
+            Status::BadPackets,
+            "bad packets 2 line 1\n",
+        ),
+        (
+            SMALLEST,
+            "\n0 \n",
+            Status::BadPackets,
+            "bad packets 3 line 2\n",
+        ),
+        (
+            SMALLEST,
+            "7 0A0b\n  \n511 FF",
+            Status::Done,
+            "0 1 0a0b\n1 1 ff\ncycles 14\nflight 2\n",
+        ),
+        (
+            DROPS,
+            "0 01\n0 02\n0 03\n",
+            Status::Done,
+            "0 drop action\n1 drop action\n2 drop action\ncycles 27\nflight 3\n",
+        ),
     ] {
         expect_simulated(&rt, program, packets, status, printed)?;
     }
@@ -372,14 +409,26 @@ fn hostile_images_and_faults(rt: HostRuntime) -> Result<(), Fail> {
     let run = "0 1 ff\ncycles 13\nflight 1\n";
     for (image, shelf_call, sink_call, status, printed) in [
         (SMALLEST_IMAGE.as_slice(), 9u64, 9u64, Status::Done, run),
-        (&SMALLEST_IMAGE[..94], 9, 9, Status::BadImage, "bad image 3\n"),
+        (
+            &SMALLEST_IMAGE[..94],
+            9,
+            9,
+            Status::BadImage,
+            "bad image 3\n",
+        ),
         (longer.as_slice(), 9, 9, Status::BadImage, "bad image 5\n"),
         (changed.as_slice(), 9, 9, Status::BadImage, "bad image 1\n"),
         (version.as_slice(), 9, 9, Status::BadImage, "bad image 2\n"),
         (SMALLEST_IMAGE.as_slice(), 1, 9, Status::ReadFault, ""),
         (SMALLEST_IMAGE.as_slice(), 2, 9, Status::ReadFault, ""),
         (SMALLEST_IMAGE.as_slice(), 9, 1, Status::WriteFault, ""),
-        (SMALLEST_IMAGE.as_slice(), 9, 2, Status::WriteFault, "0 1 ff\ncyc"),
+        (
+            SMALLEST_IMAGE.as_slice(),
+            9,
+            2,
+            Status::WriteFault,
+            "0 1 ff\ncyc",
+        ),
         (changed.as_slice(), 9, 1, Status::WriteFault, ""),
     ] {
         let (answer, text) = simulated(&rt, image, &[shelf_call], &[sink_call])?;

@@ -2,7 +2,7 @@
 use Rattle.std.proofs.Common.{Err, sym, refl, inl, inr}
 use Rattle.rmt_packets.specs.PacketText.{packets_of}
 use Rattle.rmt.specs.SimText.{printed_of, bad_image_line}
-use Rattle.rmt.proofs.SimLemmas.{BothRead, has_image, has_bad_image, causes_ran, causes_bad_image, ran_to_end, bad_image_told, read_as}
+use Rattle.rmt.proofs.SimLemmas.{sound, has_image, has_bad_image, causes_ran, causes_bad_image, ran_to_end, bad_image_told, read_as}
 use Rattle.rmt.proofs.simulating.simulate.Goals as goal
 
 pub returns-in-Ok-read_image-clause-causes : goal.returns-in-Ok-read_image-clause-causes
@@ -82,19 +82,21 @@ returns-clause-printed g c = λ s told tells.
     )
 
 pub returns-clause-front : goal.returns-clause-front
-returns-clause-front g c = λ s told tells.
-    let e = bad_image_told _ s c.tell_bad_image.ensures.status in (
-      _,
-      inr (
-        has_bad_image _ _ _ c.deref.result.now c.in-Ok.texts.second.items c.in-Err-read_image.fault
-            (record {
-              image_was = rw c.deref.ensures.value (c.in-Ok.ensures.first told);
-              image_fits = rw c.deref.ensures.value c.in-Ok.ensures.first_fits;
-              packets_were = c.in-Ok.ensures.second told;
-              packets_fit = c.in-Ok.ensures.second_fits;
-            })
-            (read_as c.deref.result.now c.in-Err-read_image.fault c.in-Err-read_image.ensures.exact (c.tell_bad_image.ensures.of_bytes (inr s))) (c.tell_bad_image.ensures.of_bytes (inr s)),
-        refl,
-      ),
-      c.tell_bad_image.ensures.front s tells,
-    )
+returns-clause-front g c = λ s told tells. (
+  _,
+  inr (
+    has_bad_image _ _ _ c.deref.result.now c.in-Ok.texts.second.items c.in-Err-read_image.fault
+        (record {
+          image_was = rw c.deref.ensures.value (c.in-Ok.ensures.first told);
+          image_fits = rw c.deref.ensures.value c.in-Ok.ensures.first_fits;
+          packets_were = c.in-Ok.ensures.second told;
+          packets_fit = c.in-Ok.ensures.second_fits;
+        })
+        (read_as c.deref.result.now c.in-Err-read_image.fault c.in-Err-read_image.ensures.exact (c.tell_bad_image.ensures.of_bytes (inr s))) (c.tell_bad_image.ensures.of_bytes (inr s)),
+    refl,
+  ),
+  c.tell_bad_image.ensures.front s tells,
+)
+
+pub run_text-requires-clause-sound : goal.run_text-requires-clause-sound
+run_text-requires-clause-sound g c = sound _ c.in-Ok-read_image.ensures.found.1 c.in-Ok-read_image.ensures.found.2
