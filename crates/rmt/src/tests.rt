@@ -388,7 +388,7 @@ fn simulated(
     let mut shelf = MemShelf::new(fails.to_vec(alloc)?);
     shelf.put_file(&text(alloc, "i")?, &Vec::from_slice(alloc, image)?)?;
     shelf.put_file(&text(alloc, "k")?, &Vec::from_slice(alloc, b"0 ff\n")?)?;
-    let mut out = MemSink::new(sink_fails.to_vec(alloc)?, 10);
+    let mut out = MemSink::new(sink_fails.to_vec(alloc)?, 3);
     let answer = rmt(
         alloc,
         &words(alloc, &["sim", "i", "k"])?,
@@ -422,13 +422,7 @@ fn hostile_images_and_faults(rt: HostRuntime) -> Result<(), Fail> {
         (SMALLEST_IMAGE.as_slice(), 1, 9, Status::ReadFault, ""),
         (SMALLEST_IMAGE.as_slice(), 2, 9, Status::ReadFault, ""),
         (SMALLEST_IMAGE.as_slice(), 9, 1, Status::WriteFault, ""),
-        (
-            SMALLEST_IMAGE.as_slice(),
-            9,
-            2,
-            Status::WriteFault,
-            "0 1 ff\ncyc",
-        ),
+        (SMALLEST_IMAGE.as_slice(), 9, 2, Status::WriteFault, "0 1"),
         (changed.as_slice(), 9, 1, Status::WriteFault, ""),
     ] {
         let (answer, text) = simulated(&rt, image, &[shelf_call], &[sink_call])?;
