@@ -408,7 +408,7 @@ fn hostile_images_and_faults(rt: HostRuntime) -> Result<(), Fail> {
     version[5] = 2;
     let run = "0 1 ff\ncycles 13\nflight 1\n";
     for (image, shelf_call, sink_call, status, printed) in [
-        (SMALLEST_IMAGE.as_slice(), 9u64, 9u64, Status::Done, run),
+        (SMALLEST_IMAGE.as_slice(), 9u64, 99u64, Status::Done, run),
         (
             &SMALLEST_IMAGE[..94],
             9,
@@ -416,11 +416,11 @@ fn hostile_images_and_faults(rt: HostRuntime) -> Result<(), Fail> {
             Status::BadImage,
             "bad image 3\n",
         ),
-        (longer.as_slice(), 9, 9, Status::BadImage, "bad image 5\n"),
-        (changed.as_slice(), 9, 9, Status::BadImage, "bad image 1\n"),
-        (version.as_slice(), 9, 9, Status::BadImage, "bad image 2\n"),
-        (SMALLEST_IMAGE.as_slice(), 1, 9, Status::ReadFault, ""),
-        (SMALLEST_IMAGE.as_slice(), 2, 9, Status::ReadFault, ""),
+        (longer.as_slice(), 9, 99, Status::BadImage, "bad image 5\n"),
+        (changed.as_slice(), 9, 99, Status::BadImage, "bad image 1\n"),
+        (version.as_slice(), 9, 99, Status::BadImage, "bad image 2\n"),
+        (SMALLEST_IMAGE.as_slice(), 1, 99, Status::ReadFault, ""),
+        (SMALLEST_IMAGE.as_slice(), 2, 99, Status::ReadFault, ""),
         (SMALLEST_IMAGE.as_slice(), 9, 1, Status::WriteFault, ""),
         (SMALLEST_IMAGE.as_slice(), 9, 2, Status::WriteFault, "0 1"),
         (changed.as_slice(), 9, 1, Status::WriteFault, ""),
