@@ -3,7 +3,7 @@
 
 pub mod fault;
 mod item;
-mod place;
+pub mod place;
 mod reader;
 #[cfg(test)]
 mod tests;

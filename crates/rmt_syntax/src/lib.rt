@@ -6,7 +6,7 @@ pub mod laws;
 mod lookahead;
 mod parser;
 mod reader;
-mod terminal;
+pub mod terminal;
 #[cfg(test)]
 mod tests;
 pub mod tree;
