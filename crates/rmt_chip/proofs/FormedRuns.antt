@@ -1,11 +1,11 @@
 -- The chip can run each configuration that keeps the rules of form and the limits.
-use Rattle.std.proofs.Common.{◌≡◌, ℕ, zero, suc, ◌+◌, ◌-◌, ◌*◌, ◌<◌, ◌≤◌, Bool, true, cond, not, ◌&&◌, ltb, leb, eqb, List, [], ◌∷◌, length, get_or, map, All, Option, Some, None, refl, inl, inr, arith}
+use Rattle.std.proofs.Common.{◌≡◌, ℕ, zero, suc, ◌+◌, ◌-◌, ◌*◌, ◌<◌, ◌≤◌, true, cond, not, ◌&&◌, ltb, leb, eqb, List, [], ◌∷◌, length, get_or, map, All, Option, Some, None, refl, inl, inr, arith}
 use Rattle.std.specs.Prelude.{IsTrue, is_none, count_by, slice_get, slice_index}
 use Rattle.std.specs.List.{list_all, AllByRecursion}
 use Rattle.std.proofs.lemmas.Bool.{ltb-true, leb-true, eqb-true, lt-ltb, le-leb, cases_lt, and_parts, and_from}
 use Rattle.std.proofs.lemmas.List.{length-map, get_or-map}
-use Rattle.std.proofs.lemmas.List.Elements.{All-from_recursion}
-use Rattle.std.proofs.lemmas.List.Sums.{sum_by-cons}
+use Rattle.std.proofs.lemmas.List.Elements.{All-from_recursion, All-weaker}
+use Rattle.std.proofs.lemmas.List.Sums.{sum_by-cons, AllPass-from_list_all}
 use Rattle.std.proofs.lemmas.Option.{slice_get-get_or}
 use Rattle.rmt_bits.specs.Words.{word_size}
 use Rattle.rmt_bits.specs.declared.lane.Lane.{Lane}
@@ -32,13 +32,6 @@ use Rattle.rmt_config.specs.Life.{has_memory}
 use Rattle.rmt_config.specs.Form.{is_lane_of, lane_is_formed, bits_of_lanes, header_is_formed, headers_are_formed, next_is_formed, extract_is_formed, match_is_formed, entry_is_formed, entries_are_formed, never_falls_from, memory_is_formed, unit_is_formed, Place, places_of, source_is_formed, kind_is_formed, lane_of_operation, operation_is_formed, rises_from, vliw_is_formed, code_is_formed, srows_are_formed, trows_are_formed, stage_is_formed, starts_are_formed, stages_are_formed, ports_are_formed, nodes_are_formed, has_no_guard, is_without, unit_is_of_this_step, stage_is_of_this_step, states_are_of_this_step, is_of_this_step, Formed}
 use Rattle.rmt_config.specs.Limits.{over, or_hit, first_hit, stage_hit, stages_hit, entries_hit, entry_hit, is_slot, slots_hit, code_hit, nodes_hit, last_start_hit, stage_limit_hit, IsWithinLimits}
 use Rattle.rmt_chip.specs.Runnable.{LaneFits, source_fits, OperationFits, InstructionFits, is_plain, StageFits, start_of, StagesFit, extract_fits, ParserFits, HeaderFits, IsRunnable}
-
-by_test : {A : Type 0} (test : A → Bool) (P : A → Type 0) → ((x : A) → test x ≡ true → P x) → (xs : List A) → list_all test xs ≡ true → AllByRecursion P xs
-by_test test P gives [] e = tt
-by_test test P gives (x ∷ xs) e = let p = and_parts (test x) (list_all test xs) e in (gives x p.0, by_test test P gives xs p.1)
-
-all_by_test : {A : Type 0} (test : A → Bool) (P : A → Type 0) → ((x : A) → test x ≡ true → P x) → (xs : List A) → list_all test xs ≡ true → All P xs
-all_by_test test P gives xs e = All-from_recursion P xs (by_test test P gives xs e)
 
 -- ---- limits
 
@@ -90,7 +83,7 @@ header_fits h e =
     record {
       valid = lane_of_fits 1 h.valid (and_parts valid least t.0).0;
       few_bytes = leb-true h.bytes 64 t.1;
-      pieces = all_by_test lane_is_formed LaneFits lane_fits h.pieces q.1;
+      pieces = All-weaker _ LaneFits lane_fits h.pieces (AllPass-from_list_all lane_is_formed h.pieces q.1);
       whole = eqb-true (bits_of_lanes h.pieces) (8 * h.bytes) p.1;
     }
 
@@ -122,7 +115,7 @@ extracts_fit : (states : ℕ) (e : ParserEntry) → entry_is_formed states e ≡
 extracts_fit states e formed =
     let front = ltb e.state states && match_is_formed e && leb e.advance e.need && next_is_formed states e.state e.next && ltb (length e.extracts) 256 in
     let p = and_parts front (list_all (extract_is_formed e.need) e.extracts) formed in
-    all_by_test (extract_is_formed e.need) (λ x. IsTrue (extract_fits e.need x)) (extract_is_fit e.need) e.extracts p.1
+    All-weaker _ (λ x. IsTrue (extract_fits e.need x)) (extract_is_fit e.need) e.extracts (AllPass-from_list_all (extract_is_formed e.need) e.extracts p.1)
 
 parser_fits : (p : ParserConfig) → states_are_of_this_step p.states ≡ true → entries_are_formed p ≡ true → ParserFits p
 parser_fits p come e =
@@ -132,8 +125,8 @@ parser_fits p come e =
     let q = and_parts (few && each) (never_falls_from 0 (map (λ (e : ParserEntry). e.state) p.entries)) e in
     let r = and_parts few each q.0 in
     record {
-      short_steps = all_by_test (entry_is_formed (length p.states)) (λ (e : ParserEntry). e.advance ≤ e.need) (short_step (length p.states)) p.entries r.1;
-      extracts = all_by_test (entry_is_formed (length p.states)) (λ (e : ParserEntry). All (λ x. IsTrue (extract_fits e.need x)) e.extracts) (extracts_fit (length p.states)) p.entries r.1;
+      short_steps = All-weaker _ (λ (e : ParserEntry). e.advance ≤ e.need) (short_step (length p.states)) p.entries (AllPass-from_list_all (entry_is_formed (length p.states)) p.entries r.1);
+      extracts = All-weaker _ (λ (e : ParserEntry). All (λ x. IsTrue (extract_fits e.need x)) e.extracts) (extracts_fit (length p.states)) p.entries (AllPass-from_list_all (entry_is_formed (length p.states)) p.entries r.1);
     }
 
 -- ---- units
@@ -231,7 +224,7 @@ vliw_fits place v e =
     let words : List ℕ = map (λ (op : Operation). op.word) v.ops in
     let p = and_parts (few && each) (rises_from 0 words) e in
     record {
-      each = all_by_test (operation_is_formed place) OperationFits (operation_fits place) v.ops (and_parts few each p.0).1;
+      each = All-weaker _ OperationFits (operation_fits place) v.ops (AllPass-from_list_all (operation_is_formed place) v.ops (and_parts few each p.0).1);
       rises = λ i j less lt. rises_at 0 words p.1 i j less (rw (length-map v.ops (λ (op : Operation). op.word)) lt);
     }
 
@@ -351,7 +344,7 @@ runnable c formed limits =
       out_port = lane_of_fits 9 c.out_port two.1;
       out_bits = lane_of_len 9 c.out_port two.1;
       drop = lane_of_fits 1 c.drop drops.1;
-      headers = all_by_test header_is_formed HeaderFits header_fits c.headers few_headers.1;
+      headers = All-weaker _ HeaderFits header_fits c.headers (AllPass-from_list_all header_is_formed c.headers few_headers.1);
       parser = parser_fits c.parser come.0 d.1;
       stages = stages_fit c.stages come.1 b.1 (within 32 1 0 (length c.stages) n.0) l.1;
     }

@@ -18,6 +18,9 @@ use rmt_bits::sequence::Sequence;
 use rmt_config::config::Config;
 use std::alloc::Global;
 
+#[cfg(test)]
+mod tests;
+
 /// The chip: its configuration, and a ring of places for the packets in flight.
 #[derive(Drop)]
 pub struct Chip {
