@@ -9,9 +9,9 @@ use Rattle.rmt_config.specs.declared.config.Config.{Config}
 use Rattle.rmt_config.specs.ChipRun.{Outcome, answer_at, latency_of, outcome_of, own_look}
 use Rattle.rmt_packets.specs.AnswerLine.{answer_line}
 use Rattle.rmt.specs.SimText.{answer_lines, answer_of_outcome}
-use Rattle.rmt.specs.Running.{emitted}
+use Rattle.rmt.specs.Watching.{emitted}
 
-range-more : (a n : ℕ) → range_with_len a (n + 1) ≡ range_with_len a n ++ (a + n) ∷ []
+pub range-more : (a n : ℕ) → range_with_len a (n + 1) ≡ range_with_len a n ++ (a + n) ∷ []
 range-more a zero = let same : a + 0 ≡ a = omega arith in rw same refl
 range-more a (suc n) =
     let more : suc n + 1 ≡ suc (n + 1) = omega arith in
@@ -25,7 +25,7 @@ same_answers f g a (suc n) e =
     let later : (k : ℕ) → k < n → f (a + 1 + k) ≡ g (a + 1 + k) = λ k h. subst (λ m. f m ≡ g m) (omega arith) (e (suc k) (omega arith)) in
     ap (λ o. cons_option o (filter_map f (range_with_len (a + 1) n))) first ∙ ap (λ l. cons_option (g a) l) (same_answers f g (a + 1) n later)
 
-front_get : {X : Type 0} (xs ys : List X) (k : ℕ) → k < length xs → slice_get (xs ++ ys) k ≡ slice_get xs k
+pub front_get : {X : Type 0} (xs ys : List X) (k : ℕ) → k < length xs → slice_get (xs ++ ys) k ≡ slice_get xs k
 front_get [] ys k h = absurd (omega (arith, h))
 front_get (x ∷ xs) ys zero h = refl
 front_get (x ∷ xs) ys (suc k) h = front_get xs ys k (omega (arith, h))

@@ -1,5 +1,6 @@
 -- The configuration of a program of the small form answers what the program gives.
-use Rattle.std.proofs.Common.{◌≡◌, ℕ, zero, suc, ◌+◌, ◌*◌, ◌^◌, ◌%◌, ◌/◌, ◌<◌, ◌≤◌, Bool, true, false, cond, List, [], ◌∷◌, ◌++◌, length, Option, Some, None, sym, refl, ap, ◌∙◌, subst, arith}
+use Rattle.std.specs.Str.{bytes_eq}
+use Rattle.std.proofs.Common.{◌≡◌, ℕ, zero, suc, ◌+◌, ◌*◌, ◌<◌, Bool, true, false, cond, List, [], ◌∷◌, ◌++◌, length, Option, Some, None, sym, refl, ap, ◌∙◌, subst, arith}
 use Rattle.std.specs.Prelude.{fold, map, find, option_map, unwrap_or, slice_index, slice_get, replicate, All, ◌==◌, nat_lt, drop}
 use Rattle.std.specs.List.{flat_map}
 use Rattle.std.proofs.lemmas.Option.{slice_get-map}
@@ -8,7 +9,7 @@ use Rattle.std.proofs.lemmas.List.Elements.{All-head, All-tail}
 use Rattle.rmt_bits.specs.Bits.{slice, deposit, bytes_of, bits_of_bytes}
 use Rattle.rmt_bits.specs.declared.answer.Verdict.{Verdict}
 use Rattle.rmt_bits.specs.declared.answer.Verdict.TheVariants as verdict
-use Rattle.rmt_config.specs.Life.{Words, Look, Life, key_of, lane_of, life_of, through_from}
+use Rattle.rmt_config.specs.Life.{Words, Look, Life, lane_of, life_of, through_from}
 use Rattle.rmt_config.specs.ChipRun.{latency_of, own_look, unit_numbers, outcomes_of, inputs_of, outcome_of, outcome_from, finished as chip_finished}
 use Rattle.rmt_bits.specs.Packet.{Packet, IsPacket}
 use Rattle.rmt_ast.specs.declared.entry.Entry.{Entry}
@@ -25,7 +26,7 @@ use Rattle.rmt_ast.specs.Control.{Run, run}
 use Rattle.rmt_ast.specs.Answers.{answers_of, is_counted, counted_numbers, answer_of, answered, finished as plain_finished}
 use Rattle.rmt.specs.declared.small.Effect.{Effect}
 use Rattle.rmt.specs.declared.small.Effect.TheVariants.{Nothing, OutPort, Drop}
-use Rattle.rmt.specs.SmallForm.{SmallProgram, SmallAction, SmallTable, IsSmall, EffectFits, program_of, table_of, node_of, place_of, table_names, effect_of, effect_named, same_name, steps_of}
+use Rattle.rmt.specs.SmallForm.{SmallProgram, SmallAction, SmallTable, IsSmall, EffectFits, program_of, table_of, node_of, place_of, table_names, effect_of, effect_named, steps_of}
 use Rattle.rmt.specs.SmallConfig.{small_config, parser, stages_from, places, in_port, out_port, drop_lane, valid, field}
 use Rattle.rmt.specs.SameRuns.{SameRuns, no_entries, state_in, told_by_outcome, told_by_answer}
 use Rattle.rmt.proofs.PlainSide.{state_after, run_from-small}
@@ -63,15 +64,15 @@ found_holds P q (y ∷ ys) x h e = here (q y) e (All-head P y ys h) (λ later. f
     here false e first later = later e
 
 fits_named : (actions : List SmallAction) (name : List ℕ) → All (λ (a : SmallAction). EffectFits a.effect) actions → EffectFits (effect_named actions name)
-fits_named actions name h = of (find (λ (a : SmallAction). same_name name a.name) actions) refl
+fits_named actions name h = of (find (λ (a : SmallAction). bytes_eq name a.name) actions) refl
   where
-    of : (o : Option SmallAction) → find (λ (a : SmallAction). same_name name a.name) actions ≡ o → EffectFits (unwrap_or (option_map (λ (a : SmallAction). a.effect) o) Nothing)
+    of : (o : Option SmallAction) → find (λ (a : SmallAction). bytes_eq name a.name) actions ≡ o → EffectFits (unwrap_or (option_map (λ (a : SmallAction). a.effect) o) Nothing)
     of None e = tt
-    of (Some a) e = found_holds (λ (a : SmallAction). EffectFits a.effect) (λ (a : SmallAction). same_name name a.name) actions a h e
+    of (Some a) e = found_holds (λ (a : SmallAction). EffectFits a.effect) (λ (a : SmallAction). bytes_eq name a.name) actions a h e
 
 -- the numbers that a table sets fit
 pub fits_of : (s : SmallProgram) → IsSmall s → (name : List ℕ) → EffectFits (effect_of s name)
-fits_of s small name = of (find (λ (t : SmallTable). same_name name t.name) s.tables)
+fits_of s small name = of (find (λ (t : SmallTable). bytes_eq name t.name) s.tables)
   where
     of : (o : Option SmallTable) → EffectFits (unwrap_or (option_map (λ (t : SmallTable). effect_named s.actions t.default_action) o) Nothing)
     of None = tt

@@ -1,4 +1,5 @@
 pub mod Examples
+pub mod ProbeExamples
 pub mod PlainSide
 pub mod ChipSide
 pub mod Law
@@ -13,6 +14,10 @@ pub mod SmallNames
 pub mod SmallLookups
 pub mod SmallSteps
 pub mod EmitLaws
+pub mod VectorLaws
+pub mod VectorTexts
+pub mod CycleWords
+pub mod ShownLaws
 pub mod SimLemmas
 pub mod RunLaws
 pub mod DrainLaws

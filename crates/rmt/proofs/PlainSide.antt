@@ -1,19 +1,18 @@
 -- The plain run of a program of the small form is a fold of what its tables do.
-use Rattle.std.proofs.Common.{◌≡◌, ℕ, zero, suc, ◌+◌, ◌<◌, Bool, true, false, cond, ◌&&◌, List, [], ◌∷◌, length, Option, Some, None, sym, refl, ap, ◌∙◌, subst, arith}
+use Rattle.std.specs.Str.{bytes_eq}
+use Rattle.std.proofs.Common.{◌≡◌, ℕ, ◌+◌, Bool, true, false, cond, ◌&&◌, List, [], ◌∷◌, Some, refl, ap, ◌∙◌, subst}
 use Rattle.std.specs.Prelude.{map, find, fold, slice_get, slice_set, option_map, unwrap_or}
-use Rattle.std.specs.List.{list_all, list_any}
+use Rattle.std.specs.List.{list_all}
 use Rattle.std.proofs.lemmas.Option.{slice_get-map}
 use Rattle.std.proofs.lemmas.Bool.{false≢true}
 use Rattle.rmt_ast.specs.declared.program.Program.{Program}
-use Rattle.rmt_ast.specs.declared.program.Action.{Action}
-use Rattle.rmt_ast.specs.declared.program.Table.{Table}
 use Rattle.rmt_ast.specs.declared.program.What.TheVariants.{Apply}
 use Rattle.rmt_ast.specs.declared.entry.Entry.{Entry}
 use Rattle.rmt_ast.specs.Actions.{acted}
-use Rattle.rmt_ast.specs.Control.{Run, run_from, done_by, act_of, applied_table}
+use Rattle.rmt_ast.specs.Control.{Run, run_from, done_by, act_of}
 use Rattle.rmt.specs.declared.small.Effect.{Effect}
 use Rattle.rmt.specs.declared.small.Effect.TheVariants.{Nothing, OutPort, Drop}
-use Rattle.rmt.specs.SmallForm.{SmallAction, SmallTable, SmallProgram, IsSmall, program_of, action_of, table_of, node_of, place_of, is_among, same_name, action_names, table_names, effect_of, effect_named}
+use Rattle.rmt.specs.SmallForm.{SmallAction, SmallTable, SmallProgram, IsSmall, program_of, action_of, table_of, node_of, place_of, is_among, action_names, table_names, effect_of, effect_named}
 
 -- what an effect leaves of a state
 abbrev pub state_after : List ℕ → Effect → List ℕ
@@ -25,9 +24,9 @@ state_after s (Drop n) = slice_set s 2 n
 pub record Found {X : Type 0} (name_of : X → List ℕ) (xs : List X) (name : List ℕ) : Type 0 where
   pub item : X
   pub placed : slice_get xs (place_of (map name_of xs) name) ≡ Some item
-  pub found : find (λ x. same_name name (name_of x)) xs ≡ Some item
+  pub found : find (λ x. bytes_eq name (name_of x)) xs ≡ Some item
 
-found_here : {X : Type 0} (name_of : X → List ℕ) (x : X) (xs : List X) (name : List ℕ) (b : Bool) → same_name name (name_of x) ≡ b → (b ≡ false → Found name_of xs name) → Found name_of (x ∷ xs) name
+found_here : {X : Type 0} (name_of : X → List ℕ) (x : X) (xs : List X) (name : List ℕ) (b : Bool) → bytes_eq name (name_of x) ≡ b → (b ≡ false → Found name_of xs name) → Found name_of (x ∷ xs) name
 found_here name_of x xs name true e later = record { item = x; placed = rw e refl; found = rw e refl }
 found_here name_of x xs name false e later =
     let f = later refl in
@@ -36,7 +35,7 @@ found_here name_of x xs name false e later =
 pub found_among : {X : Type 0} (name_of : X → List ℕ) (xs : List X) (name : List ℕ) → is_among (map name_of xs) name ≡ true → Found name_of xs name
 found_among name_of [] name h = absurd (false≢true h)
 found_among name_of (x ∷ xs) name h =
-    found_here name_of x xs name (same_name name (name_of x)) refl (λ e. found_among name_of xs name (rw e at h))
+    found_here name_of x xs name (bytes_eq name (name_of x)) refl (λ e. found_among name_of xs name (rw e at h))
 
 acts : (p : Program) (a : SmallAction) (s : List ℕ) → acted p (action_of a).assigns [] s ≡ state_after s a.effect
 acts p a s = acts_of a.effect
@@ -75,7 +74,7 @@ pub record Leaves (s : SmallProgram) (before after : Run) (effect : Effect) : Ty
 node_leaves : (s : SmallProgram) → IsSmall s → (entries : List Entry) (n : ℕ) (name : List ℕ) (r : Run) → is_among (table_names s.tables) name ≡ true → Leaves s r (done_by (program_of s) entries n (Apply (place_of (table_names s.tables) name)) r) (effect_of s name)
 node_leaves s small entries n name r h =
     let f = found_among (λ (t : SmallTable). t.name) s.tables name h in
-    let known = found_passes (λ (t : SmallTable). is_among (action_names s.actions) t.default_action) (λ (t : SmallTable). same_name name t.name) s.tables f.item small.defaults f.found in
+    let known = found_passes (λ (t : SmallTable). is_among (action_names s.actions) t.default_action) (λ (t : SmallTable). bytes_eq name t.name) s.tables f.item small.defaults f.found in
     let table = slice_get-map (table_of s.actions) s.tables (place_of (table_names s.tables) name) ∙ ap (option_map (table_of s.actions)) f.placed in
     record {
       state = rw (table, f.found) (default_acts s f.item.default_action r.state known);

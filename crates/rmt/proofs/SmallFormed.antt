@@ -1,6 +1,6 @@
 -- The configuration of a text of the small form keeps the rules of form and the limits.
-use Rattle.std.proofs.Common.{◌≡◌, ℕ, zero, suc, ◌+◌, ◌-◌, ◌*◌, ◌^◌, ◌<◌, ◌≤◌, ◌≢◌, Bool, true, false, not, ◌&&◌, List, [], ◌∷◌, ◌++◌, length, Option, Some, None, refl, ap, ◌∙◌, subst, arith, lit<, lit≤, ltb, leb}
-use Rattle.std.specs.Prelude.{map, slice_get, nat_lt, nat_le, ◌==◌}
+use Rattle.std.proofs.Common.{◌≡◌, ℕ, zero, suc, ◌+◌, ◌-◌, ◌*◌, ◌<◌, ◌≤◌, ◌≢◌, Bool, true, false, ◌&&◌, List, [], ◌∷◌, length, Some, None, refl, ◌∙◌, subst, arith}
+use Rattle.std.specs.Prelude.{map, slice_get, nat_lt, ◌==◌}
 use Rattle.std.specs.List.{list_all, list_any, flat_map}
 use Rattle.std.proofs.lemmas.Bool.{false≢true, ne_eqb, lt-ltb, ltb-true, le-ltb, le-leb}
 use Rattle.rmt_config.specs.Form.{Formed, stage_is_of_this_step, stage_is_formed, rises_from, starts_are_formed, are_new, node_of}

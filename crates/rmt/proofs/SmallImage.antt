@@ -1,5 +1,5 @@
 -- The image of a program of the small form: its counts fit, and it is short.
-use Rattle.std.proofs.Common.{◌≡◌, ℕ, ◌+◌, ◌*◌, ◌^◌, ◌<◌, ◌≤◌, List, [], ◌∷◌, ◌++◌, length, sym, refl, ap, ◌∙◌, subst, arith, lit<, lit≤}
+use Rattle.std.proofs.Common.{◌≡◌, ℕ, ◌+◌, ◌*◌, ◌^◌, ◌<◌, ◌≤◌, List, [], ◌∷◌, length, refl, arith, lit<, lit≤}
 use Rattle.std.specs.Prelude.{All}
 use Rattle.std.specs.List.{flat_map}
 use Rattle.std.proofs.lemmas.List.{length-append}
@@ -7,7 +7,6 @@ use Rattle.std.proofs.lemmas.List.Elements.{All-cons, All-nil}
 use Rattle.rmt_config.specs.Spelling.{spelled, spelled_stage, CountsFit, CountsFitHeader, CountsFitState, CountsFitEntry, CountsFitUnit, CountsFitVliw, CountsFitStage}
 use Rattle.rmt.specs.declared.small.Effect.{Effect}
 use Rattle.rmt.specs.declared.small.Effect.TheVariants.{Nothing, OutPort, Drop}
-use Rattle.std.proofs.lemmas.List.{length-map}
 use Rattle.rmt.specs.SmallConfig.{small_config, stage_of, stages_from, operations_of}
 
 operations_fit : (e : Effect) → length (operations_of e) < 2 ^ 8

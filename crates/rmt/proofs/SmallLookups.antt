@@ -1,4 +1,5 @@
 -- Names in lists of actions and tables, and the maps that keep them.
+use Rattle.std.specs.Str.{bytes_eq}
 use Rattle.std.proofs.Common.{◌≡◌, ℕ, ◌<◌, ◌+◌, List, [], ◌∷◌, ◌++◌, Bool, true, false, ◌&&◌, ◌||◌, cond, not, nat_eq, None, Some, Option, option_map, map, find, is_some, unwrap_or, take, drop, length, get_or, refl, sym, ap, ◌∙◌, arith}
 use Rattle.std.specs.Borrow.{Bor}
 use Rattle.std.specs.Cmp.Lexicographic.{pointwise}
@@ -13,9 +14,9 @@ use Rattle.indexmap.proofs.CallerLemmas.{insert_entry-new}
 use Rattle.rmt.specs.declared.small.Effect.{Effect}
 use Rattle.rmt.specs.declared.small.Effect.TheVariants.{Nothing}
 use Rattle.rmt.specs.declared.small.parser.Named.{Named}
-use Rattle.rmt.specs.SmallForm.{SmallAction, same_name, are_distinct, is_among, action_names, effect_named}
+use Rattle.rmt.specs.SmallForm.{SmallAction, are_distinct, is_among, action_names, effect_named}
 use Rattle.rmt.specs.SmallReading.{entries_seen, actions_seen, action_seen, effect_at}
-use Rattle.rmt.proofs.SmallNames.{same_name-pointwise}
+use Rattle.rmt.proofs.SmallNames.{bytes_eq-pointwise}
 
 abbrev same_key : Bor (List ℕ) → Bor (List ℕ) → Bool
 same_key x y = pointwise nat_eq x.now y.now
@@ -23,29 +24,29 @@ same_key x y = pointwise nat_eq x.now y.now
 -- what a map has at a name
 pub lookup-seen : (q : List ℕ) (es : List (Bor (List ℕ) × Effect)) → lookup (λ (k : Bor (List ℕ)). pointwise nat_eq q k.now) es ≡ effect_at (entries_seen es) q
 lookup-seen q [] = refl
-lookup-seen q (e ∷ es) = rw (← same_name-pointwise q e.0.now) (by (lookup-seen q es) (same_name q e.0.now))
+lookup-seen q (e ∷ es) = rw (← bytes_eq-pointwise q e.0.now) (by (lookup-seen q es) (bytes_eq q e.0.now))
   where
     by : lookup (λ (k : Bor (List ℕ)). pointwise nat_eq q k.now) es ≡ effect_at (entries_seen es) q → (b : Bool) → cond b (Some e.1) (lookup (λ (k : Bor (List ℕ)). pointwise nat_eq q k.now) es)
-        ≡ option_map (λ (a : SmallAction). a.effect) (cond b (Some (record { name = e.0.now; effect = e.1 })) (find (λ (a : SmallAction). same_name q a.name) (entries_seen es)))
+        ≡ option_map (λ (a : SmallAction). a.effect) (cond b (Some (record { name = e.0.now; effect = e.1 })) (find (λ (a : SmallAction). bytes_eq q a.name) (entries_seen es)))
     by rest true = refl
     by rest false = rest
 
 -- an effect stands at the names of a list, and at no others
 pub effect_at-among : (q : List ℕ) (xs : List SmallAction) → is_some (effect_at xs q) ≡ is_among (action_names xs) q
 effect_at-among q [] = refl
-effect_at-among q (a ∷ xs) = by (effect_at-among q xs) (same_name q a.name)
+effect_at-among q (a ∷ xs) = by (effect_at-among q xs) (bytes_eq q a.name)
   where
-    by : is_some (effect_at xs q) ≡ is_among (action_names xs) q → (b : Bool) → is_some (option_map (λ (x : SmallAction). x.effect) (cond b (Some a) (find (λ (x : SmallAction). same_name q x.name) xs))) ≡ (b || is_among (action_names xs) q)
+    by : is_some (effect_at xs q) ≡ is_among (action_names xs) q → (b : Bool) → is_some (option_map (λ (x : SmallAction). x.effect) (cond b (Some a) (find (λ (x : SmallAction). bytes_eq q x.name) xs))) ≡ (b || is_among (action_names xs) q)
     by rest true = refl
     by rest false = rest
 
-pub same_name-sym : (a b : List ℕ) → same_name a b ≡ same_name b a
-same_name-sym [] [] = refl
-same_name-sym [] (d ∷ ds) = refl
-same_name-sym (c ∷ cs) [] = refl
-same_name-sym (c ∷ cs) (d ∷ ds) =
+pub bytes_eq-sym : (a b : List ℕ) → bytes_eq a b ≡ bytes_eq b a
+bytes_eq-sym [] [] = refl
+bytes_eq-sym [] (d ∷ ds) = refl
+bytes_eq-sym (c ∷ cs) [] = refl
+bytes_eq-sym (c ∷ cs) (d ∷ ds) =
     let e : nat_eq c d ≡ nat_eq d c = nat_eq-sym c d in
-    ap (λ (r : Bool). r && same_name cs ds) e ∙ ap (λ (r : Bool). nat_eq d c && r) (same_name-sym cs ds)
+    ap (λ (r : Bool). r && bytes_eq cs ds) e ∙ ap (λ (r : Bool). nat_eq d c && r) (bytes_eq-sym cs ds)
   where
     nat_eq-sym : (m n : ℕ) → nat_eq m n ≡ nat_eq n m
     nat_eq-sym m n = grind (arith, nat_tests)
@@ -62,8 +63,8 @@ regroup false false false d = refl
 distinct_push : (ns : List (List ℕ)) (n : List ℕ) → are_distinct (ns ++ n ∷ []) ≡ (are_distinct ns && not (is_among ns n))
 distinct_push [] n = refl
 distinct_push (m ∷ ns) n =
-    rw (list_any-append (same_name m) ns (n ∷ []), distinct_push ns n, same_name-sym n m)
-    (regroup (list_any (same_name m) ns) (are_distinct ns) (same_name m n) (is_among ns n))
+    rw (list_any-append (bytes_eq m) ns (n ∷ []), distinct_push ns n, bytes_eq-sym n m)
+    (regroup (list_any (bytes_eq m) ns) (are_distinct ns) (bytes_eq m n) (is_among ns n))
 
 both : (a b : Bool) → (a && b) ≡ true → (a ≡ true) × (b ≡ true)
 both true b h = (refl, h)
@@ -77,9 +78,9 @@ neither false b h = refl
 distinct_front : (ns ms : List (List ℕ)) → are_distinct (ns ++ ms) ≡ true → are_distinct ns ≡ true
 distinct_front [] ms h = refl
 distinct_front (n ∷ ns) ms h =
-    let p = both (not (list_any (same_name n) (ns ++ ms))) (are_distinct (ns ++ ms)) h in
-    let q : not (list_any (same_name n) ns || list_any (same_name n) ms) ≡ true = rw (← list_any-append (same_name n) ns ms) (p.0) in
-    rw (neither (list_any (same_name n) ns) (list_any (same_name n) ms) q) (distinct_front ns ms (p.1))
+    let p = both (not (list_any (bytes_eq n) (ns ++ ms))) (are_distinct (ns ++ ms)) h in
+    let q : not (list_any (bytes_eq n) ns || list_any (bytes_eq n) ms) ≡ true = rw (← list_any-append (bytes_eq n) ns ms) (p.0) in
+    rw (neither (list_any (bytes_eq n) ns) (list_any (bytes_eq n) ms) q) (distinct_front ns ms (p.1))
 
 abbrev pub names_of : List Named → List (List ℕ)
 names_of xs = action_names (actions_seen xs)

@@ -1,5 +1,5 @@
 -- What is made of a text of the small form keeps all promises.
-use Rattle.std.proofs.Common.{◌≡◌, ℕ, ◌*◌, ◌≤◌, List, [], length, sym, refl, ap, ◌∙◌, subst, arith}
+use Rattle.std.proofs.Common.{◌≡◌, ℕ, ◌≤◌, List, [], length, sym, refl, ap, ◌∙◌, subst, arith}
 use Rattle.std.proofs.lemmas.List.{length-map}
 use Rattle.rmt_config.specs.Spelling.{spelled}
 use Rattle.rmt.specs.declared.small.Effect.{Effect}

@@ -1,4 +1,5 @@
 -- What look-ups of names show of the parts of a text.
+use Rattle.std.specs.Str.{bytes_eq}
 use Rattle.std.proofs.Common.{◌≡◌, ℕ, zero, suc, get_or, List, [], ◌∷◌, Bool, true, false, cond, Some, Option, option_map, map, find, unwrap_or, refl, sym, ap, ◌∙◌}
 use Rattle.std.specs.List.{list_all}
 use Rattle.std.specs.List.{All}
@@ -8,7 +9,7 @@ use Rattle.std.proofs.lemmas.List.Folds.{list_all-map}
 use Rattle.rmt.specs.declared.small.Effect.{Effect}
 use Rattle.rmt.specs.declared.small.Effect.TheVariants.{Nothing}
 use Rattle.rmt.specs.declared.small.parser.Named.{Named}
-use Rattle.rmt.specs.SmallForm.{SmallAction, SmallTable, same_name, is_among, action_names, table_names, effect_named, effect_of, steps_of, is_name, SmallProgram, IsSmall, EffectFits}
+use Rattle.rmt.specs.SmallForm.{SmallAction, SmallTable, is_among, action_names, table_names, effect_named, effect_of, steps_of, is_name, SmallProgram, IsSmall, EffectFits}
 use Rattle.rmt.specs.SmallReading.{actions_seen, action_seen, with_effect, applied_with_effect, body_seen, KeepsRules, Resolves}
 
 names_with_effects : (e : List SmallAction) (ts : List SmallTable) → action_names (map (with_effect e) ts) ≡ table_names ts
@@ -33,14 +34,14 @@ each_within f e names ns a b =
     ∙ ap (λ (ms : List (List ℕ)). list_all (is_among ms) names) b
 
 -- a table's effect is its default action's
-find_table : (e : List SmallAction) (n : List ℕ) (ts : List SmallTable) → option_map (λ (a : SmallAction). a.effect) (find (λ (a : SmallAction). same_name n a.name) (map (with_effect e) ts))
-    ≡ option_map (λ (t : SmallTable). effect_named e t.default_action) (find (λ (t : SmallTable). same_name n t.name) ts)
+find_table : (e : List SmallAction) (n : List ℕ) (ts : List SmallTable) → option_map (λ (a : SmallAction). a.effect) (find (λ (a : SmallAction). bytes_eq n a.name) (map (with_effect e) ts))
+    ≡ option_map (λ (t : SmallTable). effect_named e t.default_action) (find (λ (t : SmallTable). bytes_eq n t.name) ts)
 find_table e n [] = refl
-find_table e n (t ∷ ts) = by (find_table e n ts) (same_name n t.name)
+find_table e n (t ∷ ts) = by (find_table e n ts) (bytes_eq n t.name)
   where
-    by : option_map (λ (a : SmallAction). a.effect) (find (λ (a : SmallAction). same_name n a.name) (map (with_effect e) ts)) ≡ option_map (λ (t : SmallTable). effect_named e t.default_action) (find (λ (t : SmallTable). same_name n t.name) ts)
-        → (b : Bool) → option_map (λ (a : SmallAction). a.effect) (cond b (Some (with_effect e t)) (find (λ (a : SmallAction). same_name n a.name) (map (with_effect e) ts)))
-        ≡ option_map (λ (t : SmallTable). effect_named e t.default_action) (cond b (Some t) (find (λ (t : SmallTable). same_name n t.name) ts))
+    by : option_map (λ (a : SmallAction). a.effect) (find (λ (a : SmallAction). bytes_eq n a.name) (map (with_effect e) ts)) ≡ option_map (λ (t : SmallTable). effect_named e t.default_action) (find (λ (t : SmallTable). bytes_eq n t.name) ts)
+        → (b : Bool) → option_map (λ (a : SmallAction). a.effect) (cond b (Some (with_effect e t)) (find (λ (a : SmallAction). bytes_eq n a.name) (map (with_effect e) ts)))
+        ≡ option_map (λ (t : SmallTable). effect_named e t.default_action) (cond b (Some t) (find (λ (t : SmallTable). bytes_eq n t.name) ts))
     by rest true = refl
     by rest false = rest
 

@@ -1,5 +1,5 @@
 -- Behind stage k a packet's words hold the state behind node k.
-use Rattle.std.proofs.Common.{◌≡◌, ℕ, zero, suc, ◌+◌, ◌*◌, ◌≤◌, Bool, true, false, ◌&&◌, List, [], ◌∷◌, length, take, sym, refl, ap, ◌∙◌, subst, arith}
+use Rattle.std.proofs.Common.{◌≡◌, ℕ, zero, suc, ◌+◌, ◌≤◌, Bool, true, false, ◌&&◌, List, [], ◌∷◌, length, take, sym, refl, ap, ◌∙◌, arith}
 use Rattle.std.specs.Prelude.{map, fold, replicate, slice_index}
 use Rattle.std.specs.List.{list_all, take-map}
 use Rattle.std.proofs.lemmas.List.{length-take}
@@ -11,7 +11,7 @@ use Rattle.rmt.specs.declared.small.Effect.{Effect}
 use Rattle.rmt.specs.SmallForm.{SmallProgram, IsSmall, program_of, node_of, effect_of, steps_of, is_among, table_names}
 use Rattle.rmt.specs.SmallConfig.{small_config, stage_of, stages_from, places}
 use Rattle.rmt.specs.SameRuns.{KeepsState, no_entries, state_in}
-use Rattle.rmt.proofs.PlainSide.{state_after, run_from-small}
+use Rattle.rmt.proofs.PlainSide.{run_from-small}
 use Rattle.rmt.proofs.ChipSide.{words_after, through_stages}
 use Rattle.rmt.proofs.Law.{states_behind, fits_of, first_life, before_all}
 

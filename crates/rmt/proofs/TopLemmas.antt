@@ -74,7 +74,7 @@ stands_whole before after program entries image text entry_text bytes lines r ma
 }
 
 -- a file has one length
-not_both : (files : Files) (name : List ℕ) (limit : ℕ) → IsWithin files name limit → IsLonger files name limit → ⊥
+pub not_both : (files : Files) (name : List ℕ) (limit : ℕ) → IsWithin files name limit → IsLonger files name limit → ⊥
 not_both files name limit a b =
     let same : a.bytes ≡ b.bytes = let both : Some a.bytes ≡ Some b.bytes = sym a.is_there ∙ b.is_there in cc in
     let lengths : length a.bytes ≡ length b.bytes = ap length same in

@@ -8,5 +8,7 @@ pub mod SmallReading
 pub mod CommandReading
 pub mod Printing
 pub mod SimText
-pub mod SimPromises
+pub mod ProbeText
+pub mod Watching
+pub mod RunPromises
 pub mod Running

@@ -75,17 +75,13 @@ reserved_words =
     ∷ codes "prefix" ∷ codes "ternary" ∷ codes "actions" ∷ codes "default" ∷ codes "size" ∷ codes "counted" ∷ codes "control" ∷ codes "apply"
     ∷ codes "if" ∷ codes "else" ∷ codes "hit" ∷ codes "miss" ∷ codes "in_port" ∷ codes "out_port" ∷ codes "drop" ∷ codes "valid" ∷ []
 
--- two names are the same bytes
-abbrev pub same_name : List ℕ → List ℕ → Bool
-same_name a b = bytes_eq a b
-
 -- a letter or `_`, and then letters, digits and `_`; no reserved word
 abbrev pub begins_with_letter : List ℕ → Bool
 begins_with_letter [] = false
 begins_with_letter (c ∷ cs) = is_letter c
 
 abbrev pub is_name : List ℕ → Bool
-is_name name = begins_with_letter name && list_all is_name_byte name && not (list_any (same_name name) reserved_words)
+is_name name = begins_with_letter name && list_all is_name_byte name && not (list_any (bytes_eq name) reserved_words)
 
 -- the number fits the field that it is assigned to
 abbrev pub EffectFits : Effect → Type 0
@@ -96,7 +92,7 @@ EffectFits (Drop n) = n < 2
 -- no name stands twice
 abbrev pub are_distinct : List (List ℕ) → Bool
 are_distinct [] = true
-are_distinct (n ∷ ns) = not (list_any (same_name n) ns) && are_distinct ns
+are_distinct (n ∷ ns) = not (list_any (bytes_eq n) ns) && are_distinct ns
 
 abbrev pub action_names : List SmallAction → List (List ℕ)
 action_names actions = map (λ (a : SmallAction). a.name) actions
@@ -105,7 +101,7 @@ abbrev pub table_names : List SmallTable → List (List ℕ)
 table_names tables = map (λ (t : SmallTable). t.name) tables
 
 abbrev pub is_among : List (List ℕ) → List ℕ → Bool
-is_among names name = list_any (same_name name) names
+is_among names name = list_any (bytes_eq name) names
 
 -- what the parts keep beside the grammar
 pub record IsSmall (s : SmallProgram) : Type 0 where
@@ -131,7 +127,7 @@ pub record Means (text : List ℕ) (s : SmallProgram) : Type 0 where
 -- the first place of a name in a list
 abbrev pub place_of : List (List ℕ) → List ℕ → ℕ
 place_of [] name = 0
-place_of (n ∷ ns) name = if same_name name n then 0 else suc (place_of ns name)
+place_of (n ∷ ns) name = if bytes_eq name n then 0 else suc (place_of ns name)
 
 -- The program. Fields: 0 in_port, 1 out_port, 2 drop, 3 the header's valid, 4 its one field.
 abbrev pub assigns_of : Effect → List Assign
@@ -164,11 +160,11 @@ program_of s = record {
 
 -- what the table of a name does: the effect of its default action
 abbrev pub effect_named : List SmallAction → List ℕ → Effect
-effect_named actions name = unwrap_or (option_map (λ (a : SmallAction). a.effect) (find (λ (a : SmallAction). same_name name a.name) actions)) Nothing
+effect_named actions name = unwrap_or (option_map (λ (a : SmallAction). a.effect) (find (λ (a : SmallAction). bytes_eq name a.name) actions)) Nothing
 
 abbrev pub effect_of : SmallProgram → List ℕ → Effect
 effect_of s name =
-    unwrap_or (option_map (λ (t : SmallTable). effect_named s.actions t.default_action) (find (λ (t : SmallTable). same_name name t.name) s.tables)) Nothing
+    unwrap_or (option_map (λ (t : SmallTable). effect_named s.actions t.default_action) (find (λ (t : SmallTable). bytes_eq name t.name) s.tables)) Nothing
 
 -- what the applied tables do, one after another
 abbrev pub steps_of : SmallProgram → List Effect

@@ -1,4 +1,5 @@
 -- What a reader has of a text, without where it lies in memory.
+use Rattle.std.specs.Str.{bytes_eq}
 use Rattle.std.specs.Prelude.{◌≡◌, ℕ, ◌≤◌, List, [], ◌∷◌, Bool, true, false, map, length, All, Option, option_map, find}
 use Rattle.std.specs.List.{list_all}
 use Rattle.std.specs.Borrow.{Bor}
@@ -7,7 +8,7 @@ use Rattle.rmt.specs.declared.small.tokens.Token.TheVariants as read
 use Rattle.rmt.specs.declared.small.parser.Named.{Named}
 use Rattle.rmt.specs.declared.small.parser.Table.{Table}
 use Rattle.rmt.specs.declared.small.parser.Parts.{Parts}
-use Rattle.rmt.specs.SmallForm.{SmallAction, SmallTable, SmallProgram, same_name, effect_named, is_among, is_name, action_names, table_names, are_distinct, EffectFits}
+use Rattle.rmt.specs.SmallForm.{SmallAction, SmallTable, SmallProgram, effect_named, is_among, is_name, action_names, table_names, are_distinct, EffectFits}
 use Rattle.rmt.specs.declared.small.Effect.{Effect}
 use Rattle.rmt.specs.Tokens.{Token, Word, Number, Sign, is_name_byte}
 
@@ -57,7 +58,7 @@ parts_seen p = record {
 -- the first token is this word
 abbrev pub begins_with_word : List ℕ → TokenList → Bool
 begins_with_word word [] = false
-begins_with_word word (Word found ∷ rest) = same_name word found
+begins_with_word word (Word found ∷ rest) = bytes_eq word found
 begins_with_word word (Number value ∷ rest) = false
 begins_with_word word (Sign byte ∷ rest) = false
 
@@ -67,7 +68,7 @@ entries_seen entries = map (λ (e : Bor (List ℕ) × Effect). let a : SmallActi
 
 -- the effect that stands at a name
 abbrev pub effect_at : List SmallAction → List ℕ → Option Effect
-effect_at actions name = option_map (λ (a : SmallAction). a.effect) (find (λ (a : SmallAction). same_name name a.name) actions)
+effect_at actions name = option_map (λ (a : SmallAction). a.effect) (find (λ (a : SmallAction). bytes_eq name a.name) actions)
 
 -- a table with the effect of its default action
 abbrev pub with_effect : List SmallAction → SmallTable → SmallAction

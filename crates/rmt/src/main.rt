@@ -1,6 +1,9 @@
 //! The program `rmt`: its top call, and `main`.
 #![tactic(auto)]
 
+ghost use Rattle.std.specs.Prelude.{◌≡◌, ◌≢◌, IfOk, drop};
+ghost use Rattle.std.specs.Vec.Iter.{into_iter_items};
+
 mod commands;
 mod compiling;
 mod configure;
@@ -13,10 +16,14 @@ pub mod status;
 #[cfg(test)]
 mod tests;
 pub mod top;
+mod vectors;
+mod watch;
 
 use rmt_io::true_shelf::TrueShelf;
 use rmt_io::true_sink::TrueSink;
 use status::Status;
+use std::alloc::Global;
+use std::env::Args;
 use std::io::ErrorKind;
 use std::process::ExitCode;
 use std::rt::Env;
@@ -37,18 +44,29 @@ fn main(rt: HostRuntime) -> ExitCode {
 
 /// The words of the command line behind the program's name.
 fn words_behind_name(rt: &(impl Env + AllocGlobal)) -> io::Result<Vec<String>> {
-    let mut words = Vec::new(rt.alloc());
-    for word in env::args(rt)?.skip(1) {
-        words.push(word)?;
+    let words = env::args(rt)?;
+    behind_first(rt.alloc(), words)
+}
+
+/// All words but the first.
+fn behind_first(alloc: Global, mut words: Args) -> io::Result<Vec<String>>
+    ensures { IfOk result (λ rest. rest.items ≡ drop 1 (into_iter_items words)) }
+{
+    let _name = words.next();
+    let mut rest = Vec::new(alloc);
+    for word in words {
+        rest.push(word)?;
     }
-    Ok(words)
+    Ok(rest)
 }
 
 /// The exit status where the words were refused for this.
-fn code_without_words(kind: ErrorKind) -> u8 {
-    if kind == ErrorKind::OutOfMemory {
-        Status::NoMemory as u8
-    } else {
-        NO_WORDS
+fn code_without_words(kind: ErrorKind) -> u8
+    ensures memory { kind ≡ ErrorKind.OutOfMemory → result ≡ 10 }
+    ensures other { kind ≢ ErrorKind.OutOfMemory → result ≡ 11 }
+{
+    match kind {
+        ErrorKind::OutOfMemory => Status::NoMemory as u8,
+        _ => NO_WORDS,
     }
 }

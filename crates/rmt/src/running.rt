@@ -1,22 +1,27 @@
 //! Running the chip over the packets of a text.
 
-ghost use Rattle.std.specs.Prelude.{◌≡◌, ℕ, Bool, List, [], ◌∷◌, ◌++◌, ◌+◌, ◌<◌, ◌≤◌, ◌^◌, ◌⊎◌, IsTrue, Option, Some, None, Ok, Err, OnOk, OnErr, IfOk, IsErrOf, IsSome, MatchOption, length, map, min, replicate, string_bytes};
+ghost use Rattle.std.specs.Prelude.{◌≡◌, ℕ, Bool, List, [], ◌∷◌, ◌++◌, ◌+◌, ◌<◌, ◌≤◌, ◌^◌, ◌⊎◌, IsTrue, Option, Some, None, Ok, Err, OnOk, OnErr, IfOk, IsErrOf, IsSome, MatchOption, length, map, min, replicate, string_bytes, if◌then◌else◌};
 ghost use Rattle.std.specs.List.{flat_map};
 ghost use Rattle.rmt_bits.specs.Packet.{Packet};
 ghost use Rattle.rmt_config.specs.declared.config.Config.{Config};
 ghost use Rattle.rmt_chip.specs.Inputs.{input_of, MayEnter};
 ghost use Rattle.rmt_chip.specs.Stands.{entered_of, Stands};
-ghost use Rattle.rmt_config.specs.ChipRun.{latency_of, inputs_of, outcomes_of, chip_counts_of};
+ghost use Rattle.rmt_config.specs.ChipRun.{latency_of, chip_counts_of};
 ghost use Rattle.rmt.specs.Promises.{IsSound};
 ghost use Rattle.rmt_packets.specs.AnswerLine.{answer_line};
 ghost use Rattle.rmt_packets.specs.PacketText.{packet_of, packets_of};
 ghost use Rattle.rmt_io.specs.Faults.{Rose};
 ghost use Rattle.rmt.specs.Printing.{GainsFront};
-ghost use Rattle.rmt.specs.SimText.{answer_lines, bad_packets_line, count_line, cycles_line, flight_line, printed_of, sim_text};
-ghost use Rattle.rmt.specs.Running.{emitted, Goes, said, bad_line, last_of};
+ghost use Rattle.rmt.specs.SimText.{bad_packets_line, count_line, cycles_line, flight_line};
+ghost use Rattle.rmt.specs.declared.watch.Watch.{Watch};
+ghost use Rattle.rmt.specs.ProbeText.{lines_below};
+ghost use Rattle.rmt.specs.Watching.{shown, ran, last_of, text_of};
+ghost use Rattle.rmt.specs.Running.{Goes, said, bad_line, line_if};
 
 use crate::printing::print;
 use crate::status::Status;
+use crate::vectors::vectors_text;
+use crate::watch::Watch;
 use rmt_bits::answer::{Answer, Count, Verdict};
 use rmt_bits::sequence::Sequence;
 use rmt_chip::chip::Chip;
@@ -49,10 +54,11 @@ pub struct Bad {
     pub line: u64,
 }
 
-/// A run: the chip, the bytes of what leaves, the lines that are not written yet, and how many answers and cycles
-/// there were.
+/// A run: what is printed of it, the chip, the bytes of what leaves, the lines that are not written yet, and how many
+/// answers and cycles there were.
 #[derive(Drop)]
 pub struct Run {
+    watch: Watch,
     chip: Chip,
     leaving: Out,
     waiting: Vec<u8>,
@@ -85,33 +91,63 @@ fn add_line(
     }
 }
 
-/// One cycle of the chip, and the line of what left in it.
+/// Appends the line of what left, if anything did.
+fn add_answer(
+    alloc: Global,
+    number: u64,
+    left: Option<Verdict>,
+    bytes: &[u8],
+    waiting: &mut Vec<u8>,
+) -> Result<(), ChipFault>
+    ensures line { OnOk result (waiting.new.items ≡ waiting.old.items ++ line_if number left bytes.now) }
+    ensures unchanged { OnErr result (waiting.new.items ≡ waiting.old.items) }
+{
+    match left {
+        Some(verdict) => add_line(alloc, number, verdict, bytes, waiting),
+        None => Ok(()),
+    }
+}
+
+/// Appends the lines of the vectors in flight.
+fn add_vectors(alloc: Global, chip: &Chip, waiting: &mut Vec<u8>) -> Result<(), ChipFault>
+    ensures lines { OnOk result ((c : Config) (inputs : List (Option Packet)) (cycle : ℕ) → Stands c inputs chip.now → length inputs ≡ cycle + 1 →
+        waiting.new.items ≡ waiting.old.items ++ lines_below c inputs cycle (latency_of c.stages + 1)) }
+    ensures unchanged { OnErr result (waiting.new.items ≡ waiting.old.items) }
+{
+    let Ok(lines) = vectors_text(alloc, chip) else {
+        return Err(ChipFault::NoMemory);
+    };
+    match waiting.extend_from_slice(lines.as_slice()) {
+        Ok(()) => Ok(()),
+        Err(_) => Err(ChipFault::NoMemory),
+    }
+}
+
+/// One cycle of the chip, and what it prints.
 fn cycle(alloc: Global, run: &mut Run, frame: Option<Frame<'_>>) -> Result<(), ChipFault>
     requires frame { MayEnter frame }
     requires entered { entered_of run.old.chip < 2 ^ 63 }
     requires cycles { run.old.cycles < 2 ^ 63 }
     requires answered { run.old.answered < 2 ^ 63 }
-    ensures ok { OnOk result ((c : Config) (inputs : List (Option Packet)) (told : Bool) (before now : List ℕ) → Goes c inputs run.old told before now →
-        Goes c (inputs ++ input_of frame.entry ∷ []) run.new told before now) }
+    ensures ok { OnOk result ((w : Watch) (c : Config) (inputs : List (Option Packet)) (told : Bool) (before now : List ℕ) → Goes w c inputs run.old told before now →
+        Goes w c (inputs ++ input_of frame.entry ∷ []) run.new told before now) }
     ensures err { OnErr result (run.new.waiting.items ≡ run.old.waiting.items) }
 {
     let Ok(left) = run.chip.clock(alloc, frame, &mut run.leaving) else {
         return Err(ChipFault::NoMemory);
     };
+    let number = run.answered;
     run.cycles += 1;
-    match left {
-        Some(verdict) => {
-            add_line(
-                alloc,
-                run.answered,
-                verdict,
-                run.leaving.bytes(),
-                &mut run.waiting,
-            )?;
-            run.answered += 1;
-            Ok(())
+    run.answered += u64::from(left.is_some());
+    match run.watch {
+        Watch::Answers => add_answer(alloc, number, left, run.leaving.bytes(), &mut run.waiting),
+        Watch::Vectors { cycle } => {
+            if run.cycles == u64::from(cycle) + 1 {
+                add_vectors(alloc, &run.chip, &mut run.waiting)
+            } else {
+                Ok(())
+            }
         }
-        None => Ok(()),
     }
 }
 
@@ -135,7 +171,7 @@ fn write_many<O: Sink>(waiting: &mut Vec<u8>, out: &mut O) -> Result<(), RunFaul
     }
 }
 
-/// One cycle, and what it prints.
+/// One cycle, and the lines that are to be written.
 fn turn<O: Sink>(
     alloc: Global,
     run: &mut Run,
@@ -146,10 +182,10 @@ fn turn<O: Sink>(
     requires entered { entered_of run.old.chip < 2 ^ 63 }
     requires cycles { run.old.cycles < 2 ^ 63 }
     requires answered { run.old.answered < 2 ^ 63 }
-    ensures ok { OnOk result ((c : Config) (inputs : List (Option Packet)) (before : List ℕ) → Goes c inputs run.old (O.told out.old) before (O.bytes out.old) →
-        Goes c (inputs ++ input_of frame.entry ∷ []) run.new (O.told out.old) before (O.bytes out.new)) }
-    ensures front { OnErr result ((c : Config) (inputs : List (Option Packet)) (before : List ℕ) → Goes c inputs run.old (O.told out.old) before (O.bytes out.old) → IsTrue (O.told out.old) →
-        GainsFront before (O.bytes out.new) (answer_lines 0 (emitted c (inputs ++ input_of frame.entry ∷ [])))) }
+    ensures ok { OnOk result ((w : Watch) (c : Config) (inputs : List (Option Packet)) (before : List ℕ) → Goes w c inputs run.old (O.told out.old) before (O.bytes out.old) →
+        Goes w c (inputs ++ input_of frame.entry ∷ []) run.new (O.told out.old) before (O.bytes out.new)) }
+    ensures front { OnErr result ((w : Watch) (c : Config) (inputs : List (Option Packet)) (before : List ℕ) → Goes w c inputs run.old (O.told out.old) before (O.bytes out.old) → IsTrue (O.told out.old) →
+        GainsFront before (O.bytes out.new) (shown w c (inputs ++ input_of frame.entry ∷ []))) }
     ensures failed { IsErrOf result RunFault.Write → Rose (O.faults out.old) (O.faults out.new) }
     ensures tells { O.told out.new ≡ O.told out.old }
     ensures counts { O.faults out.old ≤ O.faults out.new }
@@ -174,11 +210,11 @@ fn enter<O: Sink>(
     requires entered { entered_of run.old.chip < 2 ^ 63 }
     requires cycles { run.old.cycles < 2 ^ 63 }
     requires answered { run.old.answered < 2 ^ 63 }
-    ensures ok { OnOk result ((c : Config) (inputs : List (Option Packet)) (before : List ℕ) → Goes c inputs run.old (O.told out.old) before (O.bytes out.old) →
-        Goes c (inputs ++ said (packet_of line.now)) run.new (O.told out.old) before (O.bytes out.new)) }
+    ensures ok { OnOk result ((w : Watch) (c : Config) (inputs : List (Option Packet)) (before : List ℕ) → Goes w c inputs run.old (O.told out.old) before (O.bytes out.old) →
+        Goes w c (inputs ++ said (packet_of line.now)) run.new (O.told out.old) before (O.bytes out.new)) }
     ensures says { IfOk result (λ bad. MatchOption bad ((p : Packet) × (packet_of line.now ≡ Ok p)) (λ code. packet_of line.now ≡ Err code)) }
-    ensures front { OnErr result ((c : Config) (inputs : List (Option Packet)) (before : List ℕ) → Goes c inputs run.old (O.told out.old) before (O.bytes out.old) → IsTrue (O.told out.old) →
-        GainsFront before (O.bytes out.new) (answer_lines 0 (emitted c (inputs ++ said (packet_of line.now))))) }
+    ensures front { OnErr result ((w : Watch) (c : Config) (inputs : List (Option Packet)) (before : List ℕ) → Goes w c inputs run.old (O.told out.old) before (O.bytes out.old) → IsTrue (O.told out.old) →
+        GainsFront before (O.bytes out.new) (shown w c (inputs ++ said (packet_of line.now)))) }
     ensures failed { IsErrOf result RunFault.Write → Rose (O.faults out.old) (O.faults out.new) }
     ensures tells { O.told out.new ≡ O.told out.old }
     ensures counts { O.faults out.old ≤ O.faults out.new }
@@ -199,9 +235,9 @@ fn enter<O: Sink>(
 }
 
 /// A run in which nothing entered.
-fn start(alloc: Global, config: Config) -> Result<Run, ChipFault>
+fn start(alloc: Global, config: Config, watch: Watch) -> Result<Run, ChipFault>
     requires { IsSound config }
-    ensures { IfOk result (λ run. (told : Bool) (before : List ℕ) → Goes config [] run told before before) }
+    ensures { IfOk result (λ run. (told : Bool) (before : List ℕ) → Goes watch config [] run told before before) }
 {
     let Ok(chip) = Chip::open(alloc, config) else {
         return Err(ChipFault::NoMemory);
@@ -210,6 +246,7 @@ fn start(alloc: Global, config: Config) -> Result<Run, ChipFault>
         return Err(ChipFault::NoMemory);
     };
     Ok(Run {
+        watch,
         chip,
         leaving,
         waiting: Vec::new(alloc),
@@ -229,19 +266,20 @@ struct Entered {
 fn enter_all<O: Sink>(
     alloc: Global,
     config: Config,
+    watch: Watch,
     text: &[u8],
     out: &mut O,
 ) -> Result<Entered, RunFault>
     requires sound { IsSound config }
     requires short { length text.now ≤ 67108864 }
-    ensures ok { IfOk result (λ e. (done : List Packet) × Goes config (map Some done) e.run (O.told out.old) (O.bytes out.old) (O.bytes out.new)
+    ensures ok { IfOk result (λ e. (done : List Packet) × Goes watch config (map Some done) e.run (O.told out.old) (O.bytes out.old) (O.bytes out.new)
         × (packets_of text.now ≡ record { packets = done; bad = bad_line e.bad }) × (length done ≤ 67108864)) }
-    ensures front { OnErr result (IsTrue (O.told out.old) → GainsFront (O.bytes out.old) (O.bytes out.new) (answer_lines 0 (outcomes_of config (packets_of text.now).packets))) }
+    ensures front { OnErr result (IsTrue (O.told out.old) → GainsFront (O.bytes out.old) (O.bytes out.new) (shown watch config (ran watch config (packets_of text.now).packets (packets_of text.now).bad))) }
     ensures failed { IsErrOf result RunFault.Write → Rose (O.faults out.old) (O.faults out.new) }
     ensures tells { O.told out.new ≡ O.told out.old }
     ensures counts { O.faults out.old ≤ O.faults out.new }
 {
-    let Ok(mut run) = start(alloc, config) else {
+    let Ok(mut run) = start(alloc, config, watch) else {
         return Err(RunFault::NoMemory);
     };
     let mut frame = Vec::new(alloc);
@@ -271,11 +309,11 @@ fn enter_all<O: Sink>(
 
 /// Clocks the chip until the last packet has left.
 fn drain<O: Sink>(alloc: Global, run: &mut Run, out: &mut O) -> Result<(), RunFault>
-    requires { (c : Config) × (inputs : List (Option Packet)) × (before : List ℕ) × Goes c inputs run.old (O.told out.old) before (O.bytes out.old) × (length inputs ≤ 67108864) }
-    ensures ok { OnOk result ((c : Config) (inputs : List (Option Packet)) (before : List ℕ) → Goes c inputs run.old (O.told out.old) before (O.bytes out.old) →
-        Goes c (inputs ++ replicate (latency_of c.stages) None) run.new (O.told out.old) before (O.bytes out.new)) }
-    ensures front { OnErr result ((c : Config) (inputs : List (Option Packet)) (before : List ℕ) → Goes c inputs run.old (O.told out.old) before (O.bytes out.old) → IsTrue (O.told out.old) →
-        GainsFront before (O.bytes out.new) (answer_lines 0 (emitted c (inputs ++ replicate (latency_of c.stages) None)))) }
+    requires { (w : Watch) × (c : Config) × (inputs : List (Option Packet)) × (before : List ℕ) × Goes w c inputs run.old (O.told out.old) before (O.bytes out.old) × (length inputs ≤ 67108864) }
+    ensures ok { OnOk result ((w : Watch) (c : Config) (inputs : List (Option Packet)) (before : List ℕ) → Goes w c inputs run.old (O.told out.old) before (O.bytes out.old) →
+        Goes w c (inputs ++ replicate (latency_of c.stages) None) run.new (O.told out.old) before (O.bytes out.new)) }
+    ensures front { OnErr result ((w : Watch) (c : Config) (inputs : List (Option Packet)) (before : List ℕ) → Goes w c inputs run.old (O.told out.old) before (O.bytes out.old) → IsTrue (O.told out.old) →
+        GainsFront before (O.bytes out.new) (shown w c (inputs ++ replicate (latency_of c.stages) None))) }
     ensures failed { IsErrOf result RunFault.Write → Rose (O.faults out.old) (O.faults out.new) }
     ensures tells { O.told out.new ≡ O.told out.old }
     ensures counts { O.faults out.old ≤ O.faults out.new }
@@ -357,18 +395,37 @@ fn end_with<O: Sink>(waiting: &[u8], last: &[u8], status: Status, out: &mut O) -
     }
 }
 
-/// Clocks the chip until the last packet has left, if one entered.
-fn run_out<O: Sink>(alloc: Global, run: &mut Run, out: &mut O) -> Result<(), RunFault>
-    requires { (c : Config) × (done : List Packet) × (before : List ℕ) × Goes c (map Some done) run.old (O.told out.old) before (O.bytes out.old) × (length done ≤ 67108864) }
-    ensures ok { OnOk result ((c : Config) (done : List Packet) (before : List ℕ) → Goes c (map Some done) run.old (O.told out.old) before (O.bytes out.old) →
-        Goes c (inputs_of c done) run.new (O.told out.old) before (O.bytes out.new)) }
-    ensures front { OnErr result ((c : Config) (done : List Packet) (before : List ℕ) → Goes c (map Some done) run.old (O.told out.old) before (O.bytes out.old) → IsTrue (O.told out.old) →
-        GainsFront before (O.bytes out.new) (answer_lines 0 (outcomes_of c done))) }
+/// Whether a chip runs on behind its last packet. Where only vectors are printed a bad line ends the run.
+fn runs_on(run: &Run, bad: Option<Bad>) -> bool
+    ensures { (c : Config) (done : List Packet) → run.now.cycles ≡ length done →
+        ran run.now.watch c done (bad_line bad) ≡ (if result then map Some done ++ replicate (latency_of c.stages) None else map Some done) }
+{
+    if run.cycles == 0 {
+        return false;
+    }
+    match run.watch {
+        Watch::Answers => true,
+        Watch::Vectors { .. } => bad.is_none(),
+    }
+}
+
+/// Clocks the chip to the end of the run.
+fn run_out<O: Sink>(
+    alloc: Global,
+    run: &mut Run,
+    bad: Option<Bad>,
+    out: &mut O,
+) -> Result<(), RunFault>
+    requires { (w : Watch) × (c : Config) × (done : List Packet) × (before : List ℕ) × Goes w c (map Some done) run.old (O.told out.old) before (O.bytes out.old) × (length done ≤ 67108864) }
+    ensures ok { OnOk result ((w : Watch) (c : Config) (done : List Packet) (before : List ℕ) → Goes w c (map Some done) run.old (O.told out.old) before (O.bytes out.old) →
+        Goes w c (ran w c done (bad_line bad)) run.new (O.told out.old) before (O.bytes out.new)) }
+    ensures front { OnErr result ((w : Watch) (c : Config) (done : List Packet) (before : List ℕ) → Goes w c (map Some done) run.old (O.told out.old) before (O.bytes out.old) → IsTrue (O.told out.old) →
+        GainsFront before (O.bytes out.new) (shown w c (ran w c done (bad_line bad)))) }
     ensures failed { IsErrOf result RunFault.Write → Rose (O.faults out.old) (O.faults out.new) }
     ensures tells { O.told out.new ≡ O.told out.old }
     ensures counts { O.faults out.old ≤ O.faults out.new }
 {
-    if run.cycles == 0 {
+    if !runs_on(run, bad) {
         return Ok(());
     }
     match drain(alloc, run, out) {
@@ -385,10 +442,13 @@ fn last_text(
     bad: Option<Bad>,
 ) -> Result<Vec<u8>, AllocError>
     ensures { IfOk result (λ text. (c : Config) (inputs : List (Option Packet)) → Stands c inputs run.now.chip →
-        text.items ≡ last_of c inputs run.now.cycles packets (bad_line bad)) }
+        text.items ≡ last_of run.now.watch c inputs run.now.cycles packets (bad_line bad)) }
 {
     match bad {
-        None => last_lines(alloc, run, packets),
+        None => match run.watch {
+            Watch::Answers => last_lines(alloc, run, packets),
+            Watch::Vectors { .. } => Ok(Vec::new(alloc)),
+        },
         Some(bad) => {
             let line = bad_text(alloc, bad)?;
             Vec::from_slice(alloc, line.as_bytes())
@@ -420,18 +480,18 @@ fn fault_status(fault: RunFault) -> Status
 
 /// Runs a chip empty, and prints what is left.
 fn finish<O: Sink>(alloc: Global, mut run: Run, bad: Option<Bad>, out: &mut O) -> Status
-    requires { (c : Config) × (done : List Packet) × (before : List ℕ) × Goes c (map Some done) run (O.told out.old) before (O.bytes out.old) × (length done ≤ 67108864) }
+    requires { (w : Watch) × (c : Config) × (done : List Packet) × (before : List ℕ) × Goes w c (map Some done) run (O.told out.old) before (O.bytes out.old) × (length done ≤ 67108864) }
     ensures possible { (result ≡ Status.Done) ⊎ (result ≡ Status.BadPackets) ⊎ (result ≡ Status.WriteFault) ⊎ (result ≡ Status.NoMemory) }
     ensures done { result ≡ Status.Done → bad ≡ None }
     ensures bad { result ≡ Status.BadPackets → IsSome bad }
-    ensures printed { (result ≡ Status.Done) ⊎ (result ≡ Status.BadPackets) → (c : Config) (done : List Packet) (before : List ℕ) → Goes c (map Some done) run (O.told out.old) before (O.bytes out.old) → IsTrue (O.told out.old) →
-        O.bytes out.new ≡ before ++ printed_of c (record { packets = done; bad = bad_line bad }) }
+    ensures printed { (result ≡ Status.Done) ⊎ (result ≡ Status.BadPackets) → (w : Watch) (c : Config) (done : List Packet) (before : List ℕ) → Goes w c (map Some done) run (O.told out.old) before (O.bytes out.old) → IsTrue (O.told out.old) →
+        O.bytes out.new ≡ before ++ text_of w c (record { packets = done; bad = bad_line bad }) }
     ensures failed { result ≡ Status.WriteFault → Rose (O.faults out.old) (O.faults out.new) }
-    ensures front { (c : Config) (done : List Packet) (before : List ℕ) → Goes c (map Some done) run (O.told out.old) before (O.bytes out.old) → IsTrue (O.told out.old) →
-        GainsFront before (O.bytes out.new) (printed_of c (record { packets = done; bad = bad_line bad })) }
+    ensures front { (w : Watch) (c : Config) (done : List Packet) (before : List ℕ) → Goes w c (map Some done) run (O.told out.old) before (O.bytes out.old) → IsTrue (O.told out.old) →
+        GainsFront before (O.bytes out.new) (text_of w c (record { packets = done; bad = bad_line bad })) }
 {
     let packets = run.cycles;
-    match run_out(alloc, &mut run, out) {
+    match run_out(alloc, &mut run, bad, out) {
         Ok(()) => {}
         Err(fault) => return fault_status(fault),
     }
@@ -446,18 +506,24 @@ fn finish<O: Sink>(alloc: Global, mut run: Run, bad: Option<Bad>, out: &mut O) -
     )
 }
 
-/// Runs the packets of a text through a chip, and prints what `sim` prints.
-pub fn run_text<O: Sink>(alloc: Global, config: Config, text: &[u8], out: &mut O) -> Status
+/// Runs the packets of a text through a chip, and prints what is watched.
+pub fn run_text<O: Sink>(
+    alloc: Global,
+    config: Config,
+    watch: Watch,
+    text: &[u8],
+    out: &mut O,
+) -> Status
     requires sound { IsSound config }
     requires short { length text.now ≤ 67108864 }
     ensures possible { (result ≡ Status.Done) ⊎ (result ≡ Status.BadPackets) ⊎ (result ≡ Status.WriteFault) ⊎ (result ≡ Status.NoMemory) }
     ensures done { result ≡ Status.Done → (packets_of text.now).bad ≡ None }
     ensures bad { result ≡ Status.BadPackets → IsSome (packets_of text.now).bad }
-    ensures printed { (result ≡ Status.Done) ⊎ (result ≡ Status.BadPackets) → IsTrue (O.told out.old) → O.bytes out.new ≡ O.bytes out.old ++ printed_of config (packets_of text.now) }
+    ensures printed { (result ≡ Status.Done) ⊎ (result ≡ Status.BadPackets) → IsTrue (O.told out.old) → O.bytes out.new ≡ O.bytes out.old ++ text_of watch config (packets_of text.now) }
     ensures write_fault { result ≡ Status.WriteFault → Rose (O.faults out.old) (O.faults out.new) }
-    ensures front { IsTrue (O.told out.old) → GainsFront (O.bytes out.old) (O.bytes out.new) (printed_of config (packets_of text.now)) }
+    ensures front { IsTrue (O.told out.old) → GainsFront (O.bytes out.old) (O.bytes out.new) (text_of watch config (packets_of text.now)) }
 {
-    match enter_all(alloc, config, text, out) {
+    match enter_all(alloc, config, watch, text, out) {
         Ok(entered) => {
             let Entered { run, bad } = entered;
             finish(alloc, run, bad, out)

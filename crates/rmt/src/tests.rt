@@ -1,4 +1,4 @@
-//! What no clause says: worked texts with their printed lines, the smallest image, and faults of the outside in turn.
+//! What no clause says: worked texts with their printed lines and vectors, the smallest image, and faults of the outside in turn.
 
 use crate::status::Status;
 use crate::top::rmt;
@@ -207,6 +207,9 @@ fn words_and_files(rt: HostRuntime) -> Result<(), Fail> {
             "stages 1 latency 12\n",
         ),
         (["compile", "a", "b"].as_slice(), Status::Usage, ""),
+        (["probe", "i", "k"].as_slice(), Status::Usage, ""),
+        (["probe", "i", "k", "1", "1"].as_slice(), Status::Usage, ""),
+        (["probe", "a", "k", "1"].as_slice(), Status::ReadFault, ""),
         (["--help"].as_slice(), Status::Usage, ""),
         ([].as_slice(), Status::Usage, ""),
         (["compile", "a", "e", "i"].as_slice(), Status::ReadFault, ""),
@@ -428,6 +431,88 @@ fn hostile_images_and_faults(rt: HostRuntime) -> Result<(), Fail> {
         let (answer, text) = simulated(&rt, image, &[shelf_call], &[sink_call])?;
         assert_eq!(rt; answer, status, "{printed}");
         assert_eq!(rt; text.as_slice(), printed.as_bytes(), "{printed}");
+    }
+    Ok(())
+}
+
+/// Probes the smallest image, with a sink that takes up to 8 bytes a call and fails in one.
+fn probed(
+    rt: &(impl Abort + AllocGlobal),
+    packets: &str,
+    cycle: &str,
+    sink_call: u64,
+) -> Result<(Status, Vec<u8>), Fail> {
+    let alloc = rt.alloc();
+    let mut shelf = MemShelf::new(Vec::new(alloc));
+    shelf.put_file(
+        &text(alloc, "i")?,
+        &Vec::from_slice(alloc, &SMALLEST_IMAGE)?,
+    )?;
+    shelf.put_file(
+        &text(alloc, "k")?,
+        &Vec::from_slice(alloc, packets.as_bytes())?,
+    )?;
+    let mut out = MemSink::new([sink_call].to_vec(alloc)?, 8);
+    let answer = rmt(
+        alloc,
+        &words(alloc, &["probe", "i", "k", cycle])?,
+        &mut shelf,
+        &mut out,
+    );
+    Ok((answer, Vec::from_slice(alloc, out.bytes().as_slice())?))
+}
+
+#[test]
+fn vectors_in_flight(rt: HostRuntime) -> Result<(), Fail> {
+    let one = "0 ff\n";
+    let two = "7 0A\n511 ff\n";
+    let bad = "0 ff\n1 00\n2 abc\n";
+    for (packets, cycle, sink_call, status, printed) in [
+        (one, "11", 99u64, Status::Done, "0 11 1:01 2:ff\n"),
+        (one, "12", 99, Status::Done, "0 12 1:01 2:ff 65:0001\n"),
+        (one, "13", 99, Status::Done, ""),
+        (one, "0", 99, Status::Done, "0 0 1:01 2:ff\n"),
+        (one, "000000011", 99, Status::Done, "0 11 1:01 2:ff\n"),
+        (one, "999999999", 99, Status::Done, ""),
+        ("", "0", 99, Status::Done, ""),
+        (
+            two,
+            "12",
+            99,
+            Status::Done,
+            "0 12 1:01 2:0a 64:0007 65:0001\n1 11 1:01 2:ff 64:01ff\n",
+        ),
+        (
+            two,
+            "13",
+            99,
+            Status::Done,
+            "1 12 1:01 2:ff 64:01ff 65:0001\n",
+        ),
+        // A bad line in the place of packet 2.
+        (
+            bad,
+            "1",
+            99,
+            Status::BadPackets,
+            "0 1 1:01 2:ff\n1 0 1:01 64:0001\nbad packets 1 line 3\n",
+        ),
+        (bad, "2", 99, Status::BadPackets, "bad packets 1 line 3\n"),
+        (bad, "3", 99, Status::BadPackets, "bad packets 1 line 3\n"),
+        // Words that are no cycle.
+        (one, "", 99, Status::Usage, ""),
+        (one, "0000000011", 99, Status::Usage, ""),
+        (one, "+1", 99, Status::Usage, ""),
+        (one, "1a", 99, Status::Usage, ""),
+        (one, "x", 99, Status::Usage, ""),
+        // A sink that fails.
+        (one, "11", 1, Status::WriteFault, ""),
+        (one, "11", 2, Status::WriteFault, "0 11 1:0"),
+        (bad, "2", 2, Status::WriteFault, "bad pack"),
+    ] {
+        let (answer, text) = probed(&rt, packets, cycle, sink_call)?;
+        assert_eq!(rt; answer, status, "{cycle}");
+        assert_eq!(rt; text.as_slice(), printed.as_bytes(), "{cycle}");
     }
     Ok(())
 }

@@ -3,8 +3,9 @@
 ghost use Rattle.std.specs.Prelude.{◌≡◌, ◌≢◌, ◌<◌, ◌⊎◌, ◌↔◌, ◌++◌, ℕ, List, Some, None, length, codes, IsTrue, string_bytes};
 ghost use Rattle.rmt_io.specs.Faults.{Rose};
 ghost use Rattle.rmt.specs.Printing.{GainsFront};
-ghost use Rattle.rmt.specs.Commands.{command_of, words_of, IfCompile, IfSim};
-ghost use Rattle.rmt.specs.SimPromises.{SimCauses, SimAbsent, SimPrints, IsOfSim};
+ghost use Rattle.rmt.specs.Commands.{command_of, words_of, IfCompile, IfSim, IfProbe};
+ghost use Rattle.rmt.specs.RunPromises.{RunCauses, RunAbsent, IsGoodRun, SimPrints, ProbePrints, IsOfRun};
+ghost use Rattle.rmt_config.specs.Spelling.{NumbersFit};
 ghost use Rattle.rmt.specs.declared.status.Status as status;
 ghost use Rattle.rmt.specs.Promises.{Compiled, Causes, IsOfFiles, IsOfOutside, HasAbsent, IsQuiet, Makes, Prints, bad_program_line, bad_entries_line};
 
@@ -14,6 +15,7 @@ use crate::loading::{ENTRIES_LIMIT, PROGRAM_LIMIT, read_texts, status_of};
 use crate::printing::end_with;
 use crate::simulating::simulate;
 use crate::status::Status;
+use crate::watch::Watch;
 use rmt_io::shelf::{Shelf, ShelfFault};
 use rmt_io::sink::Sink;
 use std::alloc::Global;
@@ -102,7 +104,8 @@ pub fn rmt<F: Shelf, O: Sink>(
     ensures usage_reads_nothing { result ≡ Status.Usage → IsTrue (F.told shelf.old) → (name : List ℕ) → F.file shelf.new name ≡ F.file shelf.old name }
 
     ensures compile_possible { IfCompile (command_of (words_of words.now.items)) (λ program entries image. IsOfFiles result ⊎ IsOfOutside result) }
-    ensures sim_possible { IfSim (command_of (words_of words.now.items)) (λ image packets. IsOfSim result) }
+    ensures sim_possible { IfSim (command_of (words_of words.now.items)) (λ image packets. IsOfRun result) }
+    ensures probe_possible { IfProbe (command_of (words_of words.now.items)) (λ image packets cycle. IsOfRun result) }
 
     // With Done the image is that of a configuration whose chip run gives what the program gives, and the lines tell of it.
     ensures compiled { result ≡ Status.Done → IsTrue (F.told shelf.old) → IfCompile (command_of (words_of words.now.items)) (λ program entries image. (lines : List ℕ)
@@ -143,16 +146,37 @@ pub fn rmt<F: Shelf, O: Sink>(
 
     // With Done of sim the image is a spelling, the packet text has its form, and what is printed is the text of the chip run; a bad line
     // has the answers before it and a last line, and a bad image its last line. Each answer has its cause in the files, and no file changes.
-    ensures sim_causes { IsTrue (F.told shelf.old) → IfSim (command_of (words_of words.now.items)) (λ image packets. SimCauses (F.file shelf.old) image packets result) }
+    ensures sim_causes { IsTrue (F.told shelf.old) → IfSim (command_of (words_of words.now.items)) (λ image packets. RunCauses (F.file shelf.old) image packets result) }
     ensures simulated { (result ≡ Status.Done) ⊎ (result ≡ Status.BadPackets) ⊎ (result ≡ Status.BadImage) → IsTrue (F.told shelf.old) → IsTrue (O.told out.old) →
         IfSim (command_of (words_of words.now.items)) (λ image packets.
         (text : List ℕ) × SimPrints (F.file shelf.old) image packets text × (O.bytes out.new ≡ O.bytes out.old ++ text)) }
     ensures sim_front { result ≡ Status.WriteFault → IsTrue (F.told shelf.old) → IsTrue (O.told out.old) → IfSim (command_of (words_of words.now.items)) (λ image packets.
         (text : List ℕ) × SimPrints (F.file shelf.old) image packets text × GainsFront (O.bytes out.old) (O.bytes out.new) text) }
+    ensures sim_no_memory { result ≡ Status.NoMemory → IsTrue (F.told shelf.old) → IsTrue (O.told out.old) → IfSim (command_of (words_of words.now.items)) (λ image packets.
+        (O.bytes out.new ≡ O.bytes out.old) ⊎ ((text : List ℕ) × SimPrints (F.file shelf.old) image packets text × GainsFront (O.bytes out.old) (O.bytes out.new) text)) }
     ensures sim_absent { result ≡ Status.ReadFault → IsTrue (F.steady shelf.old) → IfSim (command_of (words_of words.now.items)) (λ image packets.
-        SimAbsent (F.file shelf.old) image packets) }
+        RunAbsent (F.file shelf.old) image packets) }
     ensures sim_write_fault { result ≡ Status.WriteFault → IfSim (command_of (words_of words.now.items)) (λ image packets. Rose (O.faults out.old) (O.faults out.new)) }
+    ensures sim_complete { IsTrue (F.told shelf.old) → IfSim (command_of (words_of words.now.items)) (λ image packets.
+        (good : IsGoodRun (F.file shelf.old) image packets) → NumbersFit good.0.config → (result ≡ Status.Done) ⊎ IsOfOutside result) }
     ensures sim_files { IfSim (command_of (words_of words.now.items)) (λ image packets. (name : List ℕ) → F.file shelf.new name ≡ F.file shelf.old name) }
+
+    // The same of probe, with the text of the vectors in flight at the cycle in the place of the text of the run. A bad line has its last
+    // line, and before it the vectors where its packet would have entered after the cycle.
+    ensures probe_causes { IsTrue (F.told shelf.old) → IfProbe (command_of (words_of words.now.items)) (λ image packets cycle. RunCauses (F.file shelf.old) image packets result) }
+    ensures probed { (result ≡ Status.Done) ⊎ (result ≡ Status.BadPackets) ⊎ (result ≡ Status.BadImage) → IsTrue (F.told shelf.old) → IsTrue (O.told out.old) →
+        IfProbe (command_of (words_of words.now.items)) (λ image packets cycle.
+        (text : List ℕ) × ProbePrints cycle (F.file shelf.old) image packets text × (O.bytes out.new ≡ O.bytes out.old ++ text)) }
+    ensures probe_front { result ≡ Status.WriteFault → IsTrue (F.told shelf.old) → IsTrue (O.told out.old) → IfProbe (command_of (words_of words.now.items)) (λ image packets cycle.
+        (text : List ℕ) × ProbePrints cycle (F.file shelf.old) image packets text × GainsFront (O.bytes out.old) (O.bytes out.new) text) }
+    ensures probe_no_memory { result ≡ Status.NoMemory → IsTrue (F.told shelf.old) → IsTrue (O.told out.old) → IfProbe (command_of (words_of words.now.items)) (λ image packets cycle.
+        (O.bytes out.new ≡ O.bytes out.old) ⊎ ((text : List ℕ) × ProbePrints cycle (F.file shelf.old) image packets text × GainsFront (O.bytes out.old) (O.bytes out.new) text)) }
+    ensures probe_absent { result ≡ Status.ReadFault → IsTrue (F.steady shelf.old) → IfProbe (command_of (words_of words.now.items)) (λ image packets cycle.
+        RunAbsent (F.file shelf.old) image packets) }
+    ensures probe_write_fault { result ≡ Status.WriteFault → IfProbe (command_of (words_of words.now.items)) (λ image packets cycle. Rose (O.faults out.old) (O.faults out.new)) }
+    ensures probe_complete { IsTrue (F.told shelf.old) → IfProbe (command_of (words_of words.now.items)) (λ image packets cycle.
+        (good : IsGoodRun (F.file shelf.old) image packets) → NumbersFit good.0.config → (result ≡ Status.Done) ⊎ IsOfOutside result) }
+    ensures probe_files { IfProbe (command_of (words_of words.now.items)) (λ image packets cycle. (name : List ℕ) → F.file shelf.new name ≡ F.file shelf.old name) }
 {
     match command_from(words) {
         Command::Compile {
@@ -160,7 +184,14 @@ pub fn rmt<F: Shelf, O: Sink>(
             entries,
             image,
         } => compile(alloc, program, entries, image, shelf, out),
-        Command::Sim { image, packets } => simulate(alloc, image, packets, shelf, out),
+        Command::Sim { image, packets } => {
+            simulate(alloc, image, packets, Watch::Answers, shelf, out)
+        }
+        Command::Probe {
+            image,
+            packets,
+            cycle,
+        } => simulate(alloc, image, packets, Watch::Vectors { cycle }, shelf, out),
         Command::Unknown => Status::Usage,
     }
 }

@@ -2,21 +2,22 @@
 
 ghost use Rattle.std.specs.Prelude.{◌≡◌};
 ghost use Rattle.std.specs.List.{list_any, list_all};
-ghost use Rattle.rmt.specs.SmallForm.{same_name, is_name, begins_with_letter, reserved_words};
+ghost use Rattle.std.specs.Str.{bytes_eq};
+ghost use Rattle.rmt.specs.SmallForm.{is_name, begins_with_letter, reserved_words};
 ghost use Rattle.rmt.specs.Tokens.{is_name_byte};
 
 use crate::small::tokens::{is_letter, is_name_byte};
 
 /// Whether two names are the same bytes.
 pub fn same_name(a: &[u8], b: &[u8]) -> bool
-    ensures { result ≡ same_name a.now b.now }
+    ensures { result ≡ bytes_eq a.now b.now }
 {
     a == b
 }
 
 /// Whether a word is no name.
 fn is_reserved(word: &[u8]) -> bool
-    ensures { result ≡ list_any (same_name word.now) reserved_words }
+    ensures { result ≡ list_any (bytes_eq word.now) reserved_words }
 {
     let words: [&[u8]; 24] = [
         b"header",
@@ -48,7 +49,7 @@ fn is_reserved(word: &[u8]) -> bool
 }
 
 fn is_among(word: &[u8], words: &[&[u8]]) -> bool
-    ensures { result ≡ list_any (λ other. same_name word.now other.now) words.now }
+    ensures { result ≡ list_any (λ other. bytes_eq word.now other.now) words.now }
 {
     words.iter().any(|other| same_name(word, *other))
 }

@@ -1,12 +1,45 @@
--- One cycle, with an answer and without one.
-use Rattle.std.proofs.Common.{refl}
-use Rattle.rmt.proofs.RunLaws.{goes_some, goes_none}
+-- One cycle, with what is watched of it.
+use Rattle.std.proofs.Common.{◌≡◌, ◌+◌, Bool, true, false, cond, refl, ap, ◌∙◌, arith}
+use Rattle.std.specs.Prelude.{is_some}
+use Rattle.rmt_chip.specs.Inputs.{input_of}
+use Rattle.rmt.proofs.RunLaws.{clocked_so, goes_answer, goes_vectors, goes_past}
+use Rattle.rmt.proofs.VectorTexts.{ok_then}
 use Rattle.rmt.proofs.running.cycle.Goals as goal
+use mir.Val.{bool_byte}
 
-pub returns-in_ok-add_line-in-Some-clause-ok : goal.returns-in_ok-add_line-in-Some-clause-ok
-returns-in_ok-add_line-in-Some-clause-ok c = λ k inputs told before now g.
-    goes_some k inputs _ c.args.run.now _ told before now c.in-Ok.left c.in-Some.verdict c.clock.new.out c.bytes.result.now c.in-Some.is c.bytes.ensures (c.in-Ok.ensures.ok k inputs g.stands) refl refl c.in_ok-add_line-in-Some.ensures.line g
+byte_of : (b : Bool) → bool_byte b ≡ cond b 1 0
+byte_of true = refl
+byte_of false = refl
 
-pub returns-in-None-clause-ok : goal.returns-in-None-clause-ok
-returns-in-None-clause-ok c = λ k inputs told before now g.
-    goes_none k inputs _ c.args.run.now _ told before now c.in-Ok.left c.clock.new.out c.in-None.is (c.in-Ok.ensures.ok k inputs g.stands) refl refl refl g
+pub returns-in-Answers-clause-ok : goal.returns-in-Answers-clause-ok
+returns-in-Answers-clause-ok c =
+    let old = c.args.run.now in
+    let left = c.in-Ok.left in
+    let one : c.from.result ≡ cond (is_some left) 1 0 = c.from.ensures ∙ ap bool_byte c.is_some.ensures ∙ byte_of (is_some left) in
+    ok_then c.add_answer.result
+    (λ line w k inputs told before now g.
+    goes_answer w k inputs (input_of c.args.frame) old _ told before now left c.clock.new.out c.bytes.result.now c.in-Answers.is c.bytes.ensures
+    (clocked_so k inputs (input_of c.args.frame) old _ left c.clock.new.out c.from.result (c.in-Ok.ensures.ok k inputs g.stands) refl refl refl one) line g)
+    c.add_answer.ensures.line
+
+pub returns-then-run-from-clause-ok : goal.returns-then-run-from-clause-ok
+returns-then-run-from-clause-ok c =
+    let old = c.args.run.now in
+    let left = c.in-Ok.left in
+    let one : c.from.result ≡ cond (is_some left) 1 0 = c.from.ensures ∙ ap bool_byte c.is_some.ensures ∙ byte_of (is_some left) in
+    let reached : old.cycles + 1 ≡ c.in-Vectors.cycle + 1 = omega (arith, c.if-run-from.true, c.from-in-Vectors.ensures) in
+    ok_then c.add_vectors.result
+    (λ lines w k inputs told before now g.
+    goes_vectors w k inputs (input_of c.args.frame) old _ told before now left c.clock.new.out c.in-Vectors.cycle c.in-Vectors.is reached
+    (clocked_so k inputs (input_of c.args.frame) old _ left c.clock.new.out c.from.result (c.in-Ok.ensures.ok k inputs g.stands) refl refl refl one)
+    (λ all stands long. lines k all c.in-Vectors.cycle stands long) g)
+    c.add_vectors.ensures.lines
+
+pub returns-else-run-from-clause-ok : goal.returns-else-run-from-clause-ok
+returns-else-run-from-clause-ok c = λ w k inputs told before now g.
+    let old = c.args.run.now in
+    let left = c.in-Ok.left in
+    let one : c.from.result ≡ cond (is_some left) 1 0 = c.from.ensures ∙ ap bool_byte c.is_some.ensures ∙ byte_of (is_some left) in
+    let other : old.cycles + 1 ≡ c.in-Vectors.cycle + 1 → ⊥ = λ e. absurd (omega (arith, c.if-run-from.false, c.from-in-Vectors.ensures, e)) in
+    goes_past w k inputs (input_of c.args.frame) old _ told before now left c.clock.new.out c.in-Vectors.cycle c.in-Vectors.is other
+    (clocked_so k inputs (input_of c.args.frame) old _ left c.clock.new.out c.from.result (c.in-Ok.ensures.ok k inputs g.stands) refl refl refl one) refl g

@@ -3,13 +3,14 @@ use Rattle.std.proofs.Common.{◌≡◌, ◌≤◌, ℕ, List, ◌++◌, Option,
 use Rattle.std.specs.Prelude.{replicate}
 use Rattle.rmt_bits.specs.Packet.{Packet}
 use Rattle.rmt_config.specs.declared.config.Config.{Config}
+use Rattle.rmt.specs.declared.watch.Watch.{Watch}
 use Rattle.rmt.specs.Running.{Goes}
 use Rattle.rmt.proofs.running.drain.Given as goal
 
 abbrev pub invariant-loop-age : goal.invariant-loop-age
 invariant-loop-age g l = record {
-  goes : (c : Config) (inputs : List (Option Packet)) (before : List ℕ) → Goes c inputs l.fn.run (g.O.Sink.told l.fn.out) before (g.O.Sink.bytes l.fn.out) →
-      Goes c (inputs ++ replicate l._age None) l.run (g.O.Sink.told l.fn.out) before (g.O.Sink.bytes l.out);
+  goes : (w : Watch) (c : Config) (inputs : List (Option Packet)) (before : List ℕ) → Goes w c inputs l.fn.run (g.O.Sink.told l.fn.out) before (g.O.Sink.bytes l.fn.out) →
+      Goes w c (inputs ++ replicate l._age None) l.run (g.O.Sink.told l.fn.out) before (g.O.Sink.bytes l.out);
   tells : g.O.Sink.told l.out ≡ g.O.Sink.told l.fn.out;
   counts : g.O.Sink.faults l.fn.out ≤ g.O.Sink.faults l.out;
 }

@@ -5,5 +5,5 @@ use Rattle.rmt.proofs.RunLaws.{front_grows}
 use Rattle.rmt.proofs.running.enter.Goals as goal
 
 pub returns-in-Err-NoMemory-clause-front : goal.returns-in-Err-NoMemory-clause-front
-returns-in-Err-NoMemory-clause-front g c = λ k inputs before h t.
-    front_grows k inputs (said (packet_of c.args.line.now)) before (g.O.Sink.bytes c.args.out.now) (c.args.run.now.waiting.items, h.text t)
+returns-in-Err-NoMemory-clause-front g c = λ w k inputs before h t.
+    front_grows w k inputs (said (packet_of c.args.line.now)) before (g.O.Sink.bytes c.args.out.now) (c.args.run.now.waiting.items, h.text t)

@@ -2,22 +2,21 @@
 use Rattle.std.proofs.Common.{◌≡◌, ◌++◌, Ok, Some, refl, arith, ◌∙◌, slice_range}
 use Rattle.std.specs.Prelude.{map}
 use Rattle.rmt_bits.specs.Packet.{Packet}
-use Rattle.rmt_config.specs.ChipRun.{outcomes_of}
 use Rattle.rmt_packets.specs.PacketText.{packet_of, packets_of}
-use Rattle.rmt.specs.SimText.{answer_lines}
+use Rattle.rmt.specs.Watching.{ran, shown}
 use Rattle.rmt.specs.Running.{said}
 use Rattle.rmt.proofs.DrainLaws.{turned, turned_front}
 use Rattle.rmt.proofs.ReachLaws.{reached_first, reached_entered, reached_numbered, reached_more, reached_front}
 use Rattle.rmt.proofs.running.enter_all.Goals as goal
 
 pub returns-in_default-clause-front : goal.returns-in_default-clause-front
-returns-in_default-clause-front g c = λ t. (answer_lines 0 (outcomes_of c.args.config (packets_of c.args.text.now).packets), refl)
+returns-in_default-clause-front g c = λ t. (shown c.args.watch c.args.config (ran c.args.watch c.args.config (packets_of c.args.text.now).packets (packets_of c.args.text.now).bad), refl)
 
 pub loop-line-init : goal.loop-line-init
 loop-line-init g c = record {
   within = omega arith;
   numbered = omega arith;
-  reached = reached_first c.args.config c.args.text.now c.in-Ok.run' (g.O.Sink.told c.args.out.now) (g.O.Sink.bytes c.args.out.now) (c.in-Ok.ensures (g.O.Sink.told c.args.out.now) (g.O.Sink.bytes c.args.out.now));
+  reached = reached_first c.args.watch c.args.config c.args.text.now c.in-Ok.run' (g.O.Sink.told c.args.out.now) (g.O.Sink.bytes c.args.out.now) (c.in-Ok.ensures (g.O.Sink.told c.args.out.now) (g.O.Sink.bytes c.args.out.now));
   tells = refl;
   counts = omega arith;
 }
@@ -41,10 +40,10 @@ loop-line-preserved g c =
     record {
       within = c.in-Some.ensures.places.3;
       numbered = omega (arith, c.in-Some.ensures.counted.1);
-      reached = reached_more c.args.config c.args.text.now c.loop-line.at c.loop-line.number l.next l.number line c.loop-line.run c.enter.new.run told before mid now says.0 r c.in-Some.ensures.some says.1
+      reached = reached_more c.args.watch c.args.config c.args.text.now c.loop-line.at c.loop-line.number l.next l.number line c.loop-line.run c.enter.new.run told before mid now says.0 r c.in-Some.ensures.some says.1
           (omega (arith, c.in-Some.ensures.places.0, c.in-Some.ensures.places.1, c.in-Some.ensures.places.2))
-          (turned c.args.config (map Some r.done) (map Some r.done ++ said (packet_of line)) c.loop-line.run c.enter.new.run told (g.O.Sink.told c.loop-line.out) before mid now c.loop-line.invariant.tells
-          (c.in-Ok-None.ensures.ok c.args.config (map Some r.done) before) r.goes);
+          (turned c.args.watch c.args.config (map Some r.done) (map Some r.done ++ said (packet_of line)) c.loop-line.run c.enter.new.run told (g.O.Sink.told c.loop-line.out) before mid now c.loop-line.invariant.tells
+          (c.in-Ok-None.ensures.ok c.args.watch c.args.config (map Some r.done) before) r.goes);
       tells = c.enter.ensures.tells ∙ c.loop-line.invariant.tells;
       counts = omega (arith, c.enter.ensures.counts, c.loop-line.invariant.counts);
     }
@@ -57,6 +56,6 @@ returns-in-Err-clause-front g c = λ t.
     let told = g.O.Sink.told c.args.out.now in
     let before = g.O.Sink.bytes c.args.out.now in
     let mid = g.O.Sink.bytes c.loop-line.out in
-    reached_front c.args.config c.args.text.now c.loop-line.at c.loop-line.number l.next l.number line c.loop-line.run told before mid (g.O.Sink.bytes c.enter.new.out) r c.in-Some.ensures.some
-    (turned_front c.args.config (map Some r.done) c.loop-line.run told (g.O.Sink.told c.loop-line.out) before mid _ c.loop-line.invariant.tells
-    (c.in-Err.ensures.front c.args.config (map Some r.done) before) r.goes t)
+    reached_front c.args.watch c.args.config c.args.text.now c.loop-line.at c.loop-line.number l.next l.number line c.loop-line.run told before mid (g.O.Sink.bytes c.enter.new.out) r c.in-Some.ensures.some
+    (turned_front c.args.watch c.args.config (map Some r.done) c.loop-line.run told (g.O.Sink.told c.loop-line.out) before mid _ c.loop-line.invariant.tells
+    (c.in-Err.ensures.front c.args.watch c.args.config (map Some r.done) before) r.goes t)

@@ -1,19 +1,35 @@
--- A chip is clocked on exactly where a packet entered.
-use Rattle.std.proofs.Common.{Some, arith}
-use Rattle.std.specs.Prelude.{map}
-use Rattle.rmt.proofs.DrainLaws.{some_entered, some_front}
+-- The chip is clocked for what entered, on to the last packet or no further than the bad line.
+use Rattle.std.proofs.Common.{◌≡◌, ◌++◌, cond, Some, None, arith, sym, ap, subst, ◌∙◌}
+use Rattle.std.specs.Prelude.{map, replicate}
+use Rattle.rmt_config.specs.ChipRun.{latency_of}
+use Rattle.rmt.specs.Watching.{shown}
+use Rattle.rmt.specs.Running.{Goes, bad_line}
+use Rattle.rmt.specs.Printing.{GainsFront}
+use Rattle.rmt.proofs.DrainLaws.{ran_as}
 use Rattle.rmt.proofs.ReachLaws.{length_map_some}
 use Rattle.rmt.proofs.running.run_out.Goals as goal
 
 pub drain-requires : goal.drain-requires
-drain-requires g c = (c.requires.0, map Some c.requires.1, c.requires.2, c.requires.3, omega (arith, length_map_some c.requires.1, c.requires.4))
+drain-requires g c = (c.requires.0, c.requires.1, map Some c.requires.2, c.requires.3, c.requires.4, omega (arith, length_map_some c.requires.2, c.requires.5))
+
+pub returns-then-not-runs_on-clause-ok : goal.returns-then-not-runs_on-clause-ok
+returns-then-not-runs_on-clause-ok g c = λ w k done before h.
+    let told = g.O.Sink.told c.args.out.now in
+    let now = g.O.Sink.bytes c.args.out.now in
+    let all = map Some done ++ replicate (latency_of k.stages) None in
+    let same = ran_as w k done (bad_line c.args.bad) c.args.run.now told before now c.runs_on.result all (c.runs_on.ensures k done) h in
+    subst (λ l. Goes w k l c.args.run.now told before now) (sym (same ∙ ap (λ b. cond b all (map Some done)) c.if-not-runs_on.true)) h
 
 pub returns-in-Ok-clause-ok : goal.returns-in-Ok-clause-ok
-returns-in-Ok-clause-ok g c = λ k done before h.
-    some_entered k done c.args.run.now c.drain.new.run (g.O.Sink.told c.args.out.now) before (g.O.Sink.bytes c.args.out.now) (g.O.Sink.bytes c.drain.new.out) (λ e. absurd (omega (arith, e))) h
-    (c.in-Ok.ensures.ok k (map Some done) before h)
+returns-in-Ok-clause-ok g c = λ w k done before h.
+    let told = g.O.Sink.told c.args.out.now in
+    let all = map Some done ++ replicate (latency_of k.stages) None in
+    let same = ran_as w k done (bad_line c.args.bad) c.args.run.now told before (g.O.Sink.bytes c.args.out.now) c.runs_on.result all (c.runs_on.ensures k done) h in
+    subst (λ l. Goes w k l c.drain.new.run told before (g.O.Sink.bytes c.drain.new.out)) (sym (same ∙ ap (λ b. cond b all (map Some done)) c.if-not-runs_on.false)) (c.in-Ok.ensures.ok w k (map Some done) before h)
 
 pub returns-in-Err-clause-front : goal.returns-in-Err-clause-front
-returns-in-Err-clause-front g c = λ k done before h t.
-    some_front k done c.args.run.now (g.O.Sink.told c.args.out.now) before (g.O.Sink.bytes c.args.out.now) (g.O.Sink.bytes c.drain.new.out) (λ e. absurd (omega (arith, e))) h
-    (c.in-Err.ensures.front k (map Some done) before h t)
+returns-in-Err-clause-front g c = λ w k done before h t.
+    let told = g.O.Sink.told c.args.out.now in
+    let all = map Some done ++ replicate (latency_of k.stages) None in
+    let same = ran_as w k done (bad_line c.args.bad) c.args.run.now told before (g.O.Sink.bytes c.args.out.now) c.runs_on.result all (c.runs_on.ensures k done) h in
+    subst (λ l. GainsFront before (g.O.Sink.bytes c.drain.new.out) (shown w k l)) (sym (same ∙ ap (λ b. cond b all (map Some done)) c.if-not-runs_on.false)) (c.in-Err.ensures.front w k (map Some done) before h t)

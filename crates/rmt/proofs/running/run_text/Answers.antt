@@ -5,4 +5,4 @@ use Rattle.rmt.proofs.running.run_text.Goals as goal
 
 pub returns-in-Err-clause-front : goal.returns-in-Err-clause-front
 returns-in-Err-clause-front g c = λ t.
-    front_printed c.args.config (packets_of c.args.text.now).packets (packets_of c.args.text.now).bad (g.O.Sink.bytes c.args.out.now) (g.O.Sink.bytes c.enter_all.new.out) (c.in-Err.ensures.front t)
+    front_printed c.args.watch c.args.config (packets_of c.args.text.now).packets (packets_of c.args.text.now).bad (g.O.Sink.bytes c.args.out.now) (g.O.Sink.bytes c.enter_all.new.out) (c.in-Err.ensures.front t)

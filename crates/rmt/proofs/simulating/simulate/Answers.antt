@@ -1,7 +1,5 @@
 -- The causes in the files, and what was printed.
-use Rattle.std.proofs.Common.{Err, sym, refl, inl, inr}
-use Rattle.rmt_packets.specs.PacketText.{packets_of}
-use Rattle.rmt.specs.SimText.{printed_of, bad_image_line}
+use Rattle.std.proofs.Common.{refl, inl, inr}
 use Rattle.rmt.proofs.SimLemmas.{sound, has_image, has_bad_image, causes_ran, causes_bad_image, ran_to_end, bad_image_told, read_as}
 use Rattle.rmt.proofs.simulating.simulate.Goals as goal
 
@@ -36,6 +34,23 @@ returns-in-Ok-read_image-clause-printed g c = λ s told tells. (
 
 pub returns-in-Ok-read_image-clause-front : goal.returns-in-Ok-read_image-clause-front
 returns-in-Ok-read_image-clause-front g c = λ s told tells. (
+  _,
+  inl (
+    has_image _ _ _ c.deref.result.now c.deref-in-Ok-read_image.result.now c.in-Ok-read_image.config
+        (record {
+          image_was = rw c.deref.ensures.value (c.in-Ok.ensures.first told);
+          image_fits = rw c.deref.ensures.value c.in-Ok.ensures.first_fits;
+          packets_were = rw c.deref-in-Ok-read_image.ensures.value (c.in-Ok.ensures.second told);
+          packets_fit = rw c.deref-in-Ok-read_image.ensures.value c.in-Ok.ensures.second_fits;
+        })
+        c.in-Ok-read_image.ensures.found.0 c.in-Ok-read_image.ensures.found.1 c.in-Ok-read_image.ensures.found.2,
+    refl,
+  ),
+  c.run_text.ensures.front tells,
+)
+
+pub returns-in-Ok-read_image-clause-no_memory : goal.returns-in-Ok-read_image-clause-no_memory
+returns-in-Ok-read_image-clause-no_memory g c = λ s told tells. inr (
   _,
   inl (
     has_image _ _ _ c.deref.result.now c.deref-in-Ok-read_image.result.now c.in-Ok-read_image.config
@@ -100,3 +115,6 @@ returns-clause-front g c = λ s told tells. (
 
 pub run_text-requires-clause-sound : goal.run_text-requires-clause-sound
 run_text-requires-clause-sound g c = sound _ c.in-Ok-read_image.ensures.found.1 c.in-Ok-read_image.ensures.found.2
+
+pub returns-clause-no_memory : goal.returns-clause-no_memory
+returns-clause-no_memory g c = λ s told tells. inl (c.tell_bad_image.ensures.no_memory s tells)

@@ -1,7 +1,7 @@
 -- The causes in the files, and what stands where the sink fails.
-use Rattle.std.proofs.Common.{Err, ap, subst, sym, inl, inr, ⊎_elim, IsTrue, string_bytes, refl, ◌∙◌}
+use Rattle.std.proofs.Common.{Err, ap, subst, sym, inr, ⊎_elim, IsTrue, string_bytes}
 use Rattle.rmt_io.specs.Faults.{Rose}
-use Rattle.rmt.proofs.TopLemmas.{WereRead, prints_bad_program, prints_bad_entries, stands_whole, causes_made, causes_bad_program, causes_bad_entries}
+use Rattle.rmt.proofs.TopLemmas.{prints_bad_program, prints_bad_entries, stands_whole, causes_made, causes_bad_program, causes_bad_entries}
 use Rattle.rmt.proofs.top.compile.Goals as goal
 
 pub returns-in-Ok-make-clause-causes : goal.returns-in-Ok-make-clause-causes

@@ -1,6 +1,7 @@
--- The clauses of `compile`, at the command that the words are.
-use Rattle.std.proofs.Common.{Some, None, sym, ◌∙◌}
+-- The clauses of the commands, at the command that the words are.
+use Rattle.std.proofs.Common.{sym}
 use Rattle.rmt.proofs.TopLemmas.{exact_answers, absent_answers, never_usage}
+use Rattle.rmt.proofs.SimLemmas.{good_answers}
 use Rattle.rmt.proofs.top.rmt.Goals as goal
 
 pub returns-in-Compile-clause-usage : goal.returns-in-Compile-clause-usage
@@ -22,3 +23,11 @@ returns-in-Compile-clause-whole g c = rw (sym c.in-Compile.ensures) c.compile.en
 
 pub returns-in-Compile-clause-front : goal.returns-in-Compile-clause-front
 returns-in-Compile-clause-front g c = rw (sym c.in-Compile.ensures) c.compile.ensures.front
+
+pub returns-in-Sim-clause-sim_complete : goal.returns-in-Sim-clause-sim_complete
+returns-in-Sim-clause-sim_complete g c =
+    rw (sym c.in-Sim.ensures) (λ told. good_answers _ _ _ _ (c.simulate.ensures.causes told))
+
+pub returns-in-Probe-clause-probe_complete : goal.returns-in-Probe-clause-probe_complete
+returns-in-Probe-clause-probe_complete g c =
+    rw (sym c.in-Probe.ensures) (λ told. good_answers _ _ _ _ (c.simulate-in-Probe.ensures.causes told))
