@@ -1,0 +1,51 @@
+-- A name that is known stands for the first that is equal.
+use Rattle.std.proofs.Common.{◌≡◌, ℕ, ◌+◌, ◌<◌, List, [], ◌∷◌, Bool, true, false, not, cond, ◌||◌, Some, map, find, slice_get, length, refl, sym, subst, one-add, arith}
+use Rattle.std.specs.List.{position_or_len}
+use Rattle.std.specs.Str.{bytes_eq}
+use Rattle.std.proofs.lemmas.Bool.{false≢true, lt-ltb}
+use Rattle.std.proofs.lemmas.List.{length-map}
+use Rattle.std.proofs.lemmas.Option.{slice_get_within}
+use Rattle.std.proofs.lemmas.Slice.Eq.{bytes_eq-Decides}
+use Rattle.rmt_check.specs.Names.{number_of, is_known}
+use Rattle.rmt_check.specs.Meaning.{index_of}
+
+-- the item that a name stands for, where it is known
+pub record StandsFor {A : Type 0} (name : A → List ℕ) (xs : List A) (q : List ℕ) : Type 0 where
+  pub item : A
+  pub at : slice_get xs (index_of (map name xs) q) ≡ Some item
+  pub found : find (λ (x : A). bytes_eq q (name x)) xs ≡ Some item
+  pub named : q ≡ name item
+
+module _ {A : Type 0} (name : A → List ℕ) (q : List ℕ) where
+  item_at : (xs : List A) → is_known (map name xs) q ≡ true
+      → (x : A) × (slice_get xs (position_or_len (bytes_eq q) (map name xs)) ≡ Some x) × (find (λ (y : A). bytes_eq q (name y)) xs ≡ Some x) × (q ≡ name x)
+  item_at [] e = absurd (false≢true e)
+  item_at (x ∷ xs) e = by (bytes_eq q (name x)) refl e (item_at xs)
+    where
+      by : (b : Bool) → bytes_eq q (name x) ≡ b → (b || is_known (map name xs) q) ≡ true
+          → (is_known (map name xs) q ≡ true → (y : A) × (slice_get xs (position_or_len (bytes_eq q) (map name xs)) ≡ Some y) × (find (λ (y : A). bytes_eq q (name y)) xs ≡ Some y) × (q ≡ name y))
+          → (y : A) × (slice_get (x ∷ xs) (cond (not b) (1 + position_or_len (bytes_eq q) (map name xs)) 0) ≡ Some y) × (cond b (Some x) (find (λ (y : A). bytes_eq q (name y)) xs) ≡ Some y) × (q ≡ name y)
+      by true same h rest = (x, refl, refl, (bytes_eq-Decides q (name x)).0 same)
+      by false same h rest = let r = rest h in (r.0, subst (λ n. slice_get (x ∷ xs) n ≡ Some r.0) (sym (one-add (position_or_len (bytes_eq q) (map name xs)))) r.1, r.2, r.3)
+
+  index_at : (xs : List A) → is_known (map name xs) q ≡ true → index_of (map name xs) q ≡ position_or_len (bytes_eq q) (map name xs)
+  index_at xs e =
+      let r = item_at xs e in
+      let within : position_or_len (bytes_eq q) (map name xs) < length xs = slice_get_within xs (position_or_len (bytes_eq q) (map name xs)) r.0 r.1 in
+      let long : length (map name xs) ≡ length xs = length-map xs name in
+      rw (lt-ltb (position_or_len (bytes_eq q) (map name xs)) (length (map name xs)) (omega arith)) refl
+
+  pub number_at : (xs : List A) → is_known (map name xs) q ≡ true → number_of (map name xs) q ≡ Some (index_of (map name xs) q)
+  number_at xs e =
+      let r = item_at xs e in
+      let within : position_or_len (bytes_eq q) (map name xs) < length xs = slice_get_within xs (position_or_len (bytes_eq q) (map name xs)) r.0 r.1 in
+      let long : length (map name xs) ≡ length xs = length-map xs name in
+      rw (lt-ltb (position_or_len (bytes_eq q) (map name xs)) (length (map name xs)) (omega arith)) refl
+
+  pub stands_for : (xs : List A) → is_known (map name xs) q ≡ true → StandsFor name xs q
+  stands_for xs e =
+      let r = item_at xs e in
+      record { item = r.0; at = subst (λ n. slice_get xs n ≡ Some r.0) (sym (index_at xs e)) r.1; found = r.2; named = r.3 }
+
+  pub stands_within : (xs : List A) → is_known (map name xs) q ≡ true → index_of (map name xs) q < length xs
+  stands_within xs e = let r = stands_for xs e in slice_get_within xs (index_of (map name xs) q) r.item r.at

@@ -1,0 +1,197 @@
+-- What a text that breaks no rule keeps, part by part.
+use Rattle.std.proofs.Common.{◌≡◌, ℕ, List, [], not, ◌==◌, nat_lt, map, codes, length, drop, None, All}
+use Rattle.std.specs.List.{flat_map, enumerate_from}
+use Rattle.std.specs.Str.{bytes_eq}
+use Rattle.rmt_lexer.specs.declared.place.Place.{Place}
+use Rattle.rmt_check.specs.declared.source.Ident.{Ident}
+use Rattle.rmt_check.specs.declared.source.HeaderText.{HeaderText}
+use Rattle.rmt_check.specs.declared.source.MetaText.{MetaText}
+use Rattle.rmt_check.specs.declared.source.AssignText.{AssignText}
+use Rattle.rmt_check.specs.declared.source.ActionText.{ActionText}
+use Rattle.rmt_check.specs.declared.source.TableText.{TableText}
+use Rattle.rmt_check.specs.declared.source.NodeText.{NodeText}
+use Rattle.rmt_check.specs.declared.source.Source.{Source}
+use Rattle.rmt_check.specs.Names.{number_of, is_known, header_names, metadata, width_of, nodes_of, applied_tables, listed, operands}
+use Rattle.rmt_check.specs.Rules.{when, repeated, places, declared_names, unknown, targets, unknown_select, unknown_assign, unknown_in_table, unknown_in_node, no_widths, is_size, bits_of, is_at_most, differs, too_wide_case, too_wide_node, wide_sign, bad_key, key_bits, bad_case, bad_default, bad_table_size, text_start, fault_of}
+use Rattle.rmt_check.proofs.LawLists.{none_in, none_in_2, none_in_3, none_in_5, none_in_8}
+use Rattle.rmt_check.proofs.LawFaults.{BreaksNone, breaks_none}
+
+abbrev pub headers_of : Source → List Ident
+headers_of s = map (λ (h : HeaderText). h.ident) s.headers
+
+abbrev pub actions_of : Source → List Ident
+actions_of s = map (λ (a : ActionText). a.ident) s.actions
+
+abbrev pub tables_of : Source → List Ident
+tables_of s = map (λ (t : TableText). t.ident) s.tables
+
+abbrev pub repeated_fields : HeaderText → List Place
+repeated_fields h = repeated (declared_names h.fields)
+
+abbrev pub repeated_params : ActionText → List Place
+repeated_params a = repeated (declared_names a.params)
+
+abbrev pub repeated_actions : TableText → List Place
+repeated_actions t = repeated (listed t)
+
+abbrev pub unknown_targets : Source → HeaderText → List Place
+unknown_targets s h = unknown (header_names s) (targets h)
+
+abbrev pub unknown_in_action : Source → ActionText → List Place
+unknown_in_action s a = flat_map (unknown_assign s a) a.assigns
+
+abbrev pub unknown_at_node : Source → NodeText → List Place
+unknown_at_node s n = unknown_in_node s n.what
+
+abbrev pub field_widths : HeaderText → List Place
+field_widths h = no_widths h.fields
+
+abbrev pub param_widths : ActionText → List Place
+param_widths a = no_widths a.params
+
+abbrev pub bad_size : HeaderText → List Place
+bad_size h = when (not (is_size (bits_of h))) h.ident.place
+
+abbrev pub early_targets : Source → ℕ × HeaderText → List Place
+early_targets s h = flat_map (λ (i : Ident). when (is_at_most (number_of (header_names s) i.name) h.0) i.place) (targets h.1)
+
+abbrev pub operand_widths : Source → ActionText → List Place
+operand_widths s a = flat_map (λ (x : AssignText). flat_map (differs s a (width_of s x.dest.ident.name)) (operands x.expr)) a.assigns
+
+abbrev pub case_widths : Source → HeaderText → List Place
+case_widths s h = flat_map (too_wide_case s h) h.cases
+
+abbrev pub gate_widths : Source → NodeText → List Place
+gate_widths s n = too_wide_node s n.what
+
+abbrev pub wide_signs : Source → ActionText → List Place
+wide_signs s a = flat_map (λ (x : AssignText). wide_sign (width_of s x.dest.ident.name) x.expr.right) a.assigns
+
+abbrev pub written_ports : ActionText → List Place
+written_ports a = flat_map (λ (x : AssignText). when (bytes_eq x.dest.ident.name (codes "in_port")) x.dest.place) a.assigns
+
+abbrev pub repeated_select : HeaderText → List Place
+repeated_select h = repeated h.select
+
+abbrev pub bad_key_of : TableText → List Place
+bad_key_of t = bad_key t.key
+
+abbrev pub long_key : Source → TableText → List Place
+long_key s t = when (nat_lt 640 (key_bits s t)) t.ident.place
+
+abbrev pub many_listed : TableText → List Place
+many_listed t = places (drop 14 (listed t))
+
+abbrev pub bad_cases : HeaderText → List Place
+bad_cases h = flat_map (bad_case h) h.cases
+
+abbrev pub many_params : ActionText → List Place
+many_params a = places (drop 16 (declared_names a.params))
+
+abbrev pub many_assigns : ActionText → List Place
+many_assigns a = map (λ (x : AssignText). x.dest.place) (drop 64 a.assigns)
+
+abbrev pub bad_size_of : TableText → List Place
+bad_size_of t = bad_table_size t.key
+
+abbrev pub not_applied : Source → TableText → List Place
+not_applied s t = when (not (is_known (map (λ (i : Ident). i.name) (applied_tables s)) t.ident.name)) t.ident.place
+
+-- f finds nothing at each item
+abbrev pub FindsNone : {X : Type 0} → (X → List Place) → List X → Type 0
+FindsNone f xs = All (λ x. f x ≡ []) xs
+
+pub record KeepsRules (s : Source) : Type 0 where
+  pub headers_once : repeated (headers_of s) ≡ []
+  pub fields_once : FindsNone repeated_fields s.headers
+  pub metadata_once : repeated (declared_names (metadata s)) ≡ []
+  pub actions_once : repeated (actions_of s) ≡ []
+  pub tables_once : repeated (tables_of s) ≡ []
+  pub listed_once : FindsNone repeated_actions s.tables
+  pub select_known : FindsNone (unknown_select s) s.headers
+  pub targets_known : FindsNone (unknown_targets s) s.headers
+  pub assigns_known : FindsNone (unknown_in_action s) s.actions
+  pub tables_known : FindsNone (unknown_in_table s) s.tables
+  pub nodes_known : FindsNone (unknown_at_node s) (nodes_of s)
+  pub fields_wide : FindsNone field_widths s.headers
+  pub metadata_wide : no_widths (metadata s) ≡ []
+  pub params_wide : FindsNone param_widths s.actions
+  pub header_size : FindsNone bad_size s.headers
+  pub targets_later : flat_map (early_targets s) (enumerate_from 0 s.headers) ≡ []
+  pub operands_fit : FindsNone (operand_widths s) s.actions
+  pub cases_fit : FindsNone (case_widths s) s.headers
+  pub gates_fit : FindsNone (gate_widths s) (nodes_of s)
+  pub signs_fit : FindsNone (wide_signs s) s.actions
+  pub port_kept : FindsNone written_ports s.actions
+  pub applied_once : repeated (applied_tables s) ≡ []
+  pub select_once : FindsNone repeated_select s.headers
+  pub key_form : FindsNone bad_key_of s.tables
+  pub key_short : FindsNone (long_key s) s.tables
+  pub listed_few : FindsNone many_listed s.tables
+  pub case_length : FindsNone bad_cases s.headers
+  pub default_fits : FindsNone (bad_default s) s.tables
+  pub a_header : when (length s.headers == 0) text_start ≡ []
+  pub headers_few : map (λ (h : HeaderText). h.ident.place) (drop 64 s.headers) ≡ []
+  pub actions_few : map (λ (a : ActionText). a.ident.place) (drop 256 s.actions) ≡ []
+  pub params_few : FindsNone many_params s.actions
+  pub assigns_few : FindsNone many_assigns s.actions
+  pub metadata_few : places (drop 256 (declared_names (metadata s))) ≡ []
+  pub nodes_few : map (λ (n : NodeText). n.place) (drop 128 (nodes_of s)) ≡ []
+  pub table_size : FindsNone bad_size_of s.tables
+  pub all_applied : FindsNone (not_applied s) s.tables
+
+keeps : (s : Source) → BreaksNone s → KeepsRules s
+keeps s h =
+    let five = none_in_8 (repeated (headers_of s)) (flat_map repeated_fields s.headers) (map (λ (m : MetaText). m.place) (drop 1 s.metas)) (repeated (declared_names (metadata s)))
+    (repeated (actions_of s)) (flat_map repeated_params s.actions) (repeated (tables_of s)) (flat_map repeated_actions s.tables) h.rule_5 in
+    let six = none_in_5 (flat_map (unknown_select s) s.headers) (flat_map (unknown_targets s) s.headers) (flat_map (unknown_in_action s) s.actions) (flat_map (unknown_in_table s) s.tables)
+    (flat_map (unknown_at_node s) (nodes_of s)) h.rule_6 in
+    let seven = none_in_3 (flat_map field_widths s.headers) (no_widths (metadata s)) (flat_map param_widths s.actions) h.rule_7 in
+    let ten = none_in_3 (flat_map (operand_widths s) s.actions) (flat_map (case_widths s) s.headers) (flat_map (gate_widths s) (nodes_of s)) h.rule_10 in
+    let fourteen = none_in_2 (flat_map repeated_select s.headers) (flat_map bad_key_of s.tables) h.rule_14 in
+    let seventeen = none_in_2 (flat_map bad_cases s.headers) (flat_map (bad_default s) s.tables) h.rule_17 in
+    let eighteen = none_in_8 (when (length s.headers == 0) text_start) (map (λ (h : HeaderText). h.ident.place) (drop 64 s.headers)) (map (λ (a : ActionText). a.ident.place) (drop 256 s.actions))
+    (flat_map many_params s.actions) (flat_map many_assigns s.actions) (places (drop 256 (declared_names (metadata s)))) (map (λ (n : NodeText). n.place) (drop 128 (nodes_of s)))
+    (flat_map bad_size_of s.tables) h.rule_18 in
+    record {
+      headers_once = five.0;
+      fields_once = none_in repeated_fields s.headers five.1;
+      metadata_once = five.3;
+      actions_once = five.4;
+      tables_once = five.6;
+      listed_once = none_in repeated_actions s.tables five.7;
+      select_known = none_in (unknown_select s) s.headers six.0;
+      targets_known = none_in (unknown_targets s) s.headers six.1;
+      assigns_known = none_in (unknown_in_action s) s.actions six.2;
+      tables_known = none_in (unknown_in_table s) s.tables six.3;
+      nodes_known = none_in (unknown_at_node s) (nodes_of s) six.4;
+      fields_wide = none_in field_widths s.headers seven.0;
+      metadata_wide = seven.1;
+      params_wide = none_in param_widths s.actions seven.2;
+      header_size = none_in bad_size s.headers h.rule_8;
+      targets_later = h.rule_9;
+      operands_fit = none_in (operand_widths s) s.actions ten.0;
+      cases_fit = none_in (case_widths s) s.headers ten.1;
+      gates_fit = none_in (gate_widths s) (nodes_of s) ten.2;
+      signs_fit = none_in (wide_signs s) s.actions h.rule_11;
+      port_kept = none_in written_ports s.actions h.rule_12;
+      applied_once = h.rule_13;
+      select_once = none_in repeated_select s.headers fourteen.0;
+      key_form = none_in bad_key_of s.tables fourteen.1;
+      key_short = none_in (long_key s) s.tables h.rule_15;
+      listed_few = none_in many_listed s.tables h.rule_16;
+      case_length = none_in bad_cases s.headers seventeen.0;
+      default_fits = none_in (bad_default s) s.tables seventeen.1;
+      a_header = eighteen.0;
+      headers_few = eighteen.1;
+      actions_few = eighteen.2;
+      params_few = none_in many_params s.actions eighteen.3;
+      assigns_few = none_in many_assigns s.actions eighteen.4;
+      metadata_few = eighteen.5;
+      nodes_few = eighteen.6;
+      table_size = none_in bad_size_of s.tables eighteen.7;
+      all_applied = none_in (not_applied s) s.tables h.rule_20;
+    }
+
+pub keeps_rules : (s : Source) → fault_of s ≡ None → KeepsRules s
+keeps_rules s e = keeps s (breaks_none s e)

@@ -1,0 +1,166 @@
+-- Names that are seen one after another, and those that repeat an earlier one.
+use Rattle.std.proofs.Common.{◌≡◌, ℕ, ◌<◌, ◌+◌, List, [], ◌∷◌, ◌++◌, Bool, true, false, ◌&&◌, ◌||◌, if◌then◌else◌, nat_eq, not, None, Some, Option, map, take, length, get_or, refl, sym, ap, ◌∙◌, append_assoc}
+use Rattle.std.specs.Borrow.{Bor}
+use Rattle.std.specs.Cmp.Lexicographic.{pointwise}
+use Rattle.std.specs.List.{list_any, flat_map, filter_map, cons_option}
+use Rattle.std.specs.Option.{option_to_list}
+use Rattle.std.specs.Str.{bytes_eq}
+use Rattle.std.proofs.lemmas.List.{take_more, map_push, map-append, append-nil}
+use Rattle.std.proofs.lemmas.List.Concat.{flat_map-append}
+use Rattle.std.proofs.lemmas.List.Folds.{list_any-append}
+use Rattle.std.proofs.lemmas.Slice.Eq.{bytes_eq-Decides}
+use Rattle.indexmap.specs.IndexSet.{insert_key}
+use Rattle.rmt_lexer.specs.declared.place.Place.{Place}
+use Rattle.rmt_check.specs.declared.source.Declared.{Declared}
+use Rattle.rmt_check.specs.declared.source.Ident.{Ident}
+use Rattle.rmt_check.specs.declared.source.TableText.{TableText}
+use Rattle.rmt_check.specs.Names.{is_known}
+use Rattle.rmt_check.specs.Rules.{when, earlier, earliest, repeated_after, declared_names}
+use Rattle.rmt_check.specs.Seen.{with_name, seen_after}
+use Rattle.rmt_check.proofs.Earliest.{joined}
+
+pub bytes_eq-pointwise : (a b : List ℕ) → bytes_eq a b ≡ pointwise nat_eq a b
+bytes_eq-pointwise [] [] = refl
+bytes_eq-pointwise [] (d ∷ ds) = refl
+bytes_eq-pointwise (c ∷ cs) [] = refl
+bytes_eq-pointwise (c ∷ cs) (d ∷ ds) = ap (λ (r : Bool). nat_eq c d && r) (bytes_eq-pointwise cs ds)
+
+abbrev pub names_in : List (Bor (List ℕ)) → List (List ℕ)
+names_in ks = map (λ (k : Bor (List ℕ)). k.now) ks
+
+-- whether a set of borrowed names has a name
+pub is_known-keys : (q : List ℕ) (ks : List (Bor (List ℕ))) → list_any (λ (k : Bor (List ℕ)). pointwise nat_eq q k.now) ks ≡ is_known (names_in ks) q
+is_known-keys q [] = refl
+is_known-keys q (k ∷ ks) = rw (← bytes_eq-pointwise q k.now) (ap (λ (r : Bool). bytes_eq q k.now || r) (is_known-keys q ks))
+
+abbrev same_key : Bor (List ℕ) → Bor (List ℕ) → Bool
+same_key x y = pointwise nat_eq x.now y.now
+
+-- a set with one more name
+pub names_in-insert : (ks : List (Bor (List ℕ))) (k : Bor (List ℕ)) → names_in (insert_key same_key ks k) ≡ with_name (names_in ks) k.now
+names_in-insert ks k = rw (← is_known-keys k.now ks) (by (list_any (same_key k) ks))
+  where
+    by : (b : Bool) → names_in (if b then ks else ks ++ k ∷ []) ≡ (if b then names_in ks else names_in ks ++ k.now ∷ [])
+    by true = refl
+    by false = map_push _ ks k
+
+not-not : (b : Bool) → not (not b) ≡ b
+not-not true = refl
+not-not false = refl
+
+-- the place of a name that a set did not take
+pub place-insert : (fresh : Bool) (ks : List (Bor (List ℕ))) (k : Bor (List ℕ)) (seen : List (List ℕ)) (p : Place) (r : Option Place) → fresh ≡ not (list_any (λ (x : Bor (List ℕ)). pointwise nat_eq k.now x.now) ks) → names_in ks ≡ seen
+    → r ≡ earliest (when (not fresh) p) → r ≡ earliest (when (is_known seen k.now) p)
+place-insert fresh ks k seen p r e names h =
+    let known : not fresh ≡ is_known seen k.now = ap not e ∙ not-not _ ∙ is_known-keys k.now ks ∙ ap (λ (ns : List (List ℕ)). is_known ns k.now) names in
+    rw (← known) h
+
+-- the places of repeated names, one name on
+pub repeated_after-cons : (seen : List (List ℕ)) (x : Ident) (xs : List Ident) → repeated_after seen (x ∷ xs) ≡ when (is_known seen x.name) x.place ++ repeated_after (with_name seen x.name) xs
+repeated_after-cons seen x xs = by (is_known seen x.name)
+  where
+    by : (b : Bool) → (if b then x.place ∷ repeated_after seen xs else repeated_after (seen ++ x.name ∷ []) xs) ≡ when b x.place ++ repeated_after (if b then seen else seen ++ x.name ∷ []) xs
+    by true = refl
+    by false = refl
+
+pub repeated_after-append : (seen : List (List ℕ)) (xs ys : List Ident) → repeated_after seen (xs ++ ys) ≡ repeated_after seen xs ++ repeated_after (seen_after seen xs) ys
+repeated_after-append seen [] ys = refl
+repeated_after-append seen (x ∷ xs) ys =
+    repeated_after-cons seen x (xs ++ ys)
+    ∙ ap (λ (ps : List Place). when (is_known seen x.name) x.place ++ ps) (repeated_after-append (with_name seen x.name) xs ys)
+    ∙ sym (append_assoc (when (is_known seen x.name) x.place) (repeated_after (with_name seen x.name) xs) (repeated_after (seen_after (with_name seen x.name) xs) ys))
+    ∙ ap (λ (ps : List Place). ps ++ repeated_after (seen_after (with_name seen x.name) xs) ys) (sym (repeated_after-cons seen x xs))
+
+pub seen_after-append : (seen : List (List ℕ)) (xs ys : List Ident) → seen_after seen (xs ++ ys) ≡ seen_after (seen_after seen xs) ys
+seen_after-append seen [] ys = refl
+seen_after-append seen (x ∷ xs) ys = seen_after-append (with_name seen x.name) xs ys
+
+repeated_after-push : (seen : List (List ℕ)) (xs : List Ident) (x : Ident) → repeated_after seen (xs ++ x ∷ []) ≡ repeated_after seen xs ++ when (is_known (seen_after seen xs) x.name) x.place
+repeated_after-push seen xs x =
+    repeated_after-append seen xs (x ∷ [])
+    ∙ ap (λ (ps : List Place). repeated_after seen xs ++ ps) (repeated_after-cons (seen_after seen xs) x [] ∙ append-nil (when (is_known (seen_after seen xs) x.name) x.place))
+
+-- The step of a loop that sees the names of some items.
+module _ {X : Type 0} (f : X → Ident) (start seen : List (List ℕ)) (xs : List X) (i : ℕ) (x : X) (lt : i < length xs) (at : x ≡ get_or xs i x) where
+  idents_more : map f (take (i + 1) xs) ≡ map f (take i xs) ++ f x ∷ []
+  idents_more = ap (map f) (take_more xs i x lt) ∙ map_push f (take i xs) (get_or xs i x) ∙ ap (λ (y : X). map f (take i xs) ++ f y ∷ []) (sym at)
+
+  pub see_more : (best one next : Option Place) (p : Place) (name : List ℕ) → best ≡ earliest (repeated_after start (map f (take i xs))) → seen ≡ seen_after start (map f (take i xs))
+      → p ≡ (f x).place → name ≡ (f x).name → one ≡ earliest (when (is_known seen name) p) → next ≡ earlier best one → next ≡ earliest (repeated_after start (map f (take (i + 1) xs)))
+  see_more best one next p name h s at_place at_name e step =
+      let before = map f (take i xs) in
+      let one_is : one ≡ earliest (when (is_known (seen_after start before) (f x).name) (f x).place) =
+      e ∙ ap (λ (ns : List (List ℕ)). earliest (when (is_known ns name) p)) s ∙ ap (λ (n : List ℕ). earliest (when (is_known (seen_after start before) n) p)) at_name ∙ ap (λ (q : Place). earliest (when (is_known (seen_after start before) (f x).name) q)) at_place in
+      rw (idents_more, repeated_after-push start before (f x))
+      (joined (repeated_after start before) (when (is_known (seen_after start before) (f x).name) (f x).place) best one next step h one_is)
+
+  pub seen_more : (next : List (List ℕ)) (name : List ℕ) → seen ≡ seen_after start (map f (take i xs)) → name ≡ (f x).name → next ≡ with_name seen name → next ≡ seen_after start (map f (take (i + 1) xs))
+  seen_more next name s at_name e =
+      let before = map f (take i xs) in
+      rw (idents_more, seen_after-append start before (f x ∷ []))
+      (e ∙ ap (λ (ns : List (List ℕ)). with_name ns name) s ∙ ap (with_name (seen_after start before)) at_name)
+
+-- The step of a loop that sees the names of some lists.
+module _ {X : Type 0} (g : X → List Ident) (start seen : List (List ℕ)) (xs : List X) (i : ℕ) (x : X) (lt : i < length xs) (at : x ≡ get_or xs i x) where
+  lists_more : flat_map g (take (i + 1) xs) ≡ flat_map g (take i xs) ++ g x
+  lists_more =
+      ap (flat_map g) (take_more xs i x lt) ∙ flat_map-append g (take i xs) (get_or xs i x ∷ [])
+      ∙ ap (λ (ys : List Ident). flat_map g (take i xs) ++ ys) (append-nil (g (get_or xs i x)) ∙ ap g (sym at))
+
+  pub see_list_more : (best one next : Option Place) → best ≡ earliest (repeated_after start (flat_map g (take i xs))) → seen ≡ seen_after start (flat_map g (take i xs))
+      → one ≡ earliest (repeated_after seen (g x)) → next ≡ earlier best one → next ≡ earliest (repeated_after start (flat_map g (take (i + 1) xs)))
+  see_list_more best one next h s e step =
+      let before = flat_map g (take i xs) in
+      let one_is : one ≡ earliest (repeated_after (seen_after start before) (g x)) = e ∙ ap (λ (ns : List (List ℕ)). earliest (repeated_after ns (g x))) s in
+      rw (lists_more, repeated_after-append start before (g x))
+      (joined (repeated_after start before) (repeated_after (seen_after start before) (g x)) best one next step h one_is)
+
+  pub seen_list_more : (next : List (List ℕ)) → seen ≡ seen_after start (flat_map g (take i xs)) → next ≡ seen_after seen (g x) → next ≡ seen_after start (flat_map g (take (i + 1) xs))
+  seen_list_more next s e =
+      rw (lists_more, seen_after-append start (flat_map g (take i xs)) (g x)) (e ∙ ap (λ (ns : List (List ℕ)). seen_after ns (g x)) s)
+
+pub declared_names-flat_map : {X : Type 0} (f : X → List Declared) (xs : List X) → declared_names (flat_map f xs) ≡ flat_map (λ x. declared_names (f x)) xs
+declared_names-flat_map f [] = refl
+declared_names-flat_map f (x ∷ xs) = map-append _ (f x) (flat_map f xs) ∙ ap (λ (is : List Ident). declared_names (f x) ++ is) (declared_names-flat_map f xs)
+
+pub filter_map-flat_map : {X Y : Type 0} (h : X → Option Y) (xs : List X) → filter_map h xs ≡ flat_map (λ x. option_to_list (h x)) xs
+filter_map-flat_map h [] = refl
+filter_map-flat_map h (x ∷ xs) = by (h x) (filter_map-flat_map h xs)
+  where
+    by : (o : Option _) → filter_map h xs ≡ flat_map (λ x. option_to_list (h x)) xs → cons_option o (filter_map h xs) ≡ option_to_list o ++ flat_map (λ x. option_to_list (h x)) xs
+    by None e = e
+    by (Some y) e = ap (λ ys. y ∷ ys) e
+
+either : (a b c : Bool) → (c ≡ true → a ≡ true) → (a || (c || b)) ≡ (a || b)
+either true b c h = refl
+either false b true h = ap (λ (r : Bool). r || b) (sym (h refl))
+either false b false h = refl
+
+-- a name is known after others are seen where it was known or is one of them
+is_known-seen : (seen : List (List ℕ)) (q : List ℕ) (xs : List Ident) → is_known (seen_after seen xs) q ≡ (is_known seen q || is_known (map (λ (x : Ident). x.name) xs) q)
+is_known-seen seen q [] = sym (or_false (is_known seen q))
+  where
+    or_false : (b : Bool) → (b || false) ≡ b
+    or_false true = refl
+    or_false false = refl
+is_known-seen seen q (x ∷ xs) = is_known-seen (with_name seen x.name) q xs ∙ by (is_known seen x.name) refl
+  where
+    by : (b : Bool) → is_known seen x.name ≡ b → (is_known (if b then seen else seen ++ x.name ∷ []) q || is_known (map (λ (y : Ident). y.name) xs) q) ≡ (is_known seen q || (bytes_eq q x.name || is_known (map (λ (y : Ident). y.name) xs) q))
+    by true e = sym (either (is_known seen q) (is_known (map (λ (y : Ident). y.name) xs) q) (bytes_eq q x.name) (λ h. ap (is_known seen) ((bytes_eq-Decides q x.name).0 h) ∙ e))
+    by false e = rw (list_any-append (bytes_eq q) seen (x.name ∷ [])) (regroup (is_known seen q) (bytes_eq q x.name) (is_known (map (λ (y : Ident). y.name) xs) q))
+      where
+        regroup : (a b c : Bool) → ((a || (b || false)) || c) ≡ (a || (b || c))
+        regroup true b c = refl
+        regroup false true c = refl
+        regroup false false c = refl
+
+pub is_known-seen_after : (xs : List Ident) (q : List ℕ) → is_known (seen_after [] xs) q ≡ is_known (map (λ (x : Ident). x.name) xs) q
+is_known-seen_after xs q = is_known-seen [] q xs
+
+-- the tables whose names were not seen are those that are not named
+pub not_seen-tables : (seen : List (List ℕ)) (xs : List Ident) (ts : List TableText) → seen ≡ seen_after [] xs
+    → flat_map (λ (t : TableText). when (not (is_known seen t.ident.name)) t.ident.place) ts ≡ flat_map (λ (t : TableText). when (not (is_known (map (λ (x : Ident). x.name) xs) t.ident.name)) t.ident.place) ts
+not_seen-tables seen xs [] e = refl
+not_seen-tables seen xs (t ∷ ts) e =
+    let known : is_known seen t.ident.name ≡ is_known (map (λ (x : Ident). x.name) xs) t.ident.name = ap (λ (ns : List (List ℕ)). is_known ns t.ident.name) e ∙ is_known-seen_after xs t.ident.name in
+    rw known (ap (λ (ps : List Place). when (not (is_known (map (λ (x : Ident). x.name) xs) t.ident.name)) t.ident.place ++ ps) (not_seen-tables seen xs ts e))

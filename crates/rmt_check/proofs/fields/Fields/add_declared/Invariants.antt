@@ -1,0 +1,7 @@
+use Rattle.std.proofs.Common.{take}
+use Rattle.rmt_check.specs.Names.{known_fields}
+use Rattle.rmt_check.specs.Standing.{Grows}
+use Rattle.rmt_check.proofs.fields.Fields.add_declared.Given as goal
+
+abbrev pub invariant-loop-field : goal.invariant-loop-field
+invariant-loop-field l = Grows l.initial.self l.self (known_fields l.owner (take l.field-index l.fields))

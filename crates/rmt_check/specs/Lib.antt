@@ -1,0 +1,12 @@
+pub mod Reading
+pub mod Names
+pub mod Rules
+pub mod Meaning
+pub mod Sizes
+pub mod Numbering
+pub mod Standing
+pub mod Seen
+pub mod Building
+pub mod Looked
+pub mod Naming
+pub mod Checking

@@ -1,0 +1,118 @@
+-- What the names of a text stand for.
+use Rattle.std.specs.Prelude.{ℕ, List, [], ◌∷◌, ◌++◌, Bool, Option, Some, None, codes, map, find, position, filter_map, option_map, unwrap_or}
+use Rattle.std.specs.List.{list_any, flat_map}
+use Rattle.std.specs.Option.{option_to_list}
+use Rattle.std.specs.Str.{bytes_eq}
+use Rattle.rmt_check.specs.declared.source.Ident.{Ident}
+use Rattle.rmt_check.specs.declared.source.Declared.{Declared}
+use Rattle.rmt_check.specs.declared.source.FieldText.{FieldText}
+use Rattle.rmt_check.specs.declared.source.HeaderText.{HeaderText}
+use Rattle.rmt_check.specs.declared.source.MetaText.{MetaText}
+use Rattle.rmt_check.specs.declared.source.LeafText.{LeafText}
+use Rattle.rmt_check.specs.declared.source.Sign.{Sign}
+use Rattle.rmt_check.specs.declared.source.ExprText.{ExprText}
+use Rattle.rmt_check.specs.declared.source.ActionText.{ActionText}
+use Rattle.rmt_check.specs.declared.source.KeyText.{KeyText}
+use Rattle.rmt_check.specs.declared.source.TableText.{TableText}
+use Rattle.rmt_check.specs.declared.source.WhatText.{WhatText}
+use Rattle.rmt_check.specs.declared.source.WhatText.TheVariants.{Apply, If}
+use Rattle.rmt_check.specs.declared.source.NodeText.{NodeText}
+use Rattle.rmt_check.specs.declared.source.Source.{Source}
+
+-- a field of the program: the name by which it is printed, and its width
+abbrev pub Known : Type 0
+Known = List ℕ × ℕ
+
+-- the number of a name: the place of the first that is equal
+abbrev pub number_of : List (List ℕ) → List ℕ → Option ℕ
+number_of names name = position (bytes_eq name) names
+
+abbrev pub is_known : List (List ℕ) → List ℕ → Bool
+is_known names name = list_any (bytes_eq name) names
+
+abbrev pub header_names : Source → List (List ℕ)
+header_names s = map (λ (h : HeaderText). h.ident.name) s.headers
+
+abbrev pub action_names : Source → List (List ℕ)
+action_names s = map (λ (a : ActionText). a.ident.name) s.actions
+
+abbrev pub table_names : Source → List (List ℕ)
+table_names s = map (λ (t : TableText). t.ident.name) s.tables
+
+abbrev pub param_names : ActionText → List (List ℕ)
+param_names a = map (λ (d : Declared). d.ident.name) a.params
+
+-- a field of a header, or of the metadata, as it is printed
+abbrev pub printed : List ℕ → List ℕ → List ℕ
+printed owner name = owner ++ codes "." ++ name
+
+abbrev pub known_fields : List ℕ → List Declared → List Known
+known_fields owner ds = map (λ (d : Declared). (printed owner d.ident.name, d.width.value)) ds
+
+-- the fields of a header, its valid first
+abbrev pub header_fields : HeaderText → List Known
+header_fields h = (printed h.ident.name (codes "valid"), 1) ∷ known_fields h.ident.name h.fields
+
+-- the metadata fields
+abbrev pub metadata : Source → List Declared
+metadata s = flat_map (λ (m : MetaText). m.fields) s.metas
+
+-- the fields by number: in_port, out_port, drop, those of each header, those of the metadata
+abbrev pub fields_of : Source → List Known
+fields_of s =
+    (codes "in_port", 9) ∷ (codes "out_port", 9) ∷ (codes "drop", 1) ∷ flat_map header_fields s.headers
+    ++ known_fields (codes "meta") (metadata s)
+
+abbrev pub field_names : Source → List (List ℕ)
+field_names s = map (λ (f : Known). f.0) (fields_of s)
+
+-- the width of a field by its printed name
+abbrev pub width_of : Source → List ℕ → ℕ
+width_of s name = unwrap_or (option_map (λ (f : Known). f.1) (find (λ (f : Known). bytes_eq name f.0) (fields_of s))) 0
+
+-- the nodes of the control
+abbrev pub nodes_of : Source → List NodeText
+nodes_of s = unwrap_or s.control []
+
+-- the table that a node applies
+abbrev pub applied : WhatText → Option Ident
+applied (Apply table arms) = Some table
+applied (If field mask value) = None
+
+abbrev pub applied_tables : Source → List Ident
+applied_tables s = filter_map (λ (n : NodeText). applied n.what) (nodes_of s)
+
+-- the actions of a table's list
+abbrev pub listed : TableText → List Ident
+listed t = unwrap_or (option_map (λ (k : KeyText). k.actions) t.key) []
+
+abbrev pub ident_names : List Ident → List (List ℕ)
+ident_names is = map (λ (i : Ident). i.name) is
+
+-- of each table, the names of the actions of its list
+abbrev pub list_names : List TableText → List (List (List ℕ))
+list_names ts = map (λ (t : TableText). ident_names (listed t)) ts
+
+-- the actions of the list of the first table with a name
+abbrev pub listed_by : Source → List ℕ → List Ident
+listed_by s name = unwrap_or (option_map listed (find (λ (t : TableText). bytes_eq name t.ident.name) s.tables)) []
+
+-- the fields of a table's key
+abbrev pub key_fields : TableText → List FieldText
+key_fields t = unwrap_or (option_map (λ (k : KeyText). k.fields) t.key) []
+
+-- a field of a select, as it is printed
+abbrev pub selected : HeaderText → Ident → List ℕ
+selected h i = printed h.ident.name i.name
+
+-- the width of a parameter
+abbrev pub param_width : ActionText → List ℕ → ℕ
+param_width a name = unwrap_or (option_map (λ (d : Declared). d.width.value) (find (λ (d : Declared). bytes_eq name d.ident.name) a.params)) 0
+
+-- the action with a name
+abbrev pub params_of : Source → List ℕ → List Declared
+params_of s name = unwrap_or (option_map (λ (a : ActionText). a.params) (find (λ (a : ActionText). bytes_eq name a.ident.name) s.actions)) []
+
+-- the operands of an assignment
+abbrev pub operands : ExprText → List LeafText
+operands e = e.left ∷ option_to_list (option_map (λ (r : Sign × LeafText). r.1) e.right)

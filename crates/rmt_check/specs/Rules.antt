@@ -1,0 +1,323 @@
+-- The rules of form, each as the places where it is broken, and the fault of a text.
+use Rattle.std.specs.Prelude.{ℕ, ◌%◌, ◌^◌, List, [], ◌∷◌, ◌++◌, Bool, true, false, not, ◌==◌, ◌&&◌, ◌||◌, nat_le, nat_lt, if◌then◌else◌, Option, Some, None, codes, length, drop, take, map, zip, sum, option_map}
+use Rattle.std.specs.List.{flat_map, enumerate_from}
+use Rattle.std.specs.Option.{option_to_list, option_or, is_none}
+use Rattle.std.specs.Str.{bytes_eq}
+use Rattle.rmt_ast.specs.declared.program.Kind.{Kind}
+use Rattle.rmt_ast.specs.declared.program.Kind.TheVariants.{Prefix}
+use Rattle.rmt_ast.specs.declared.program.Op.{Op}
+use Rattle.rmt_ast.specs.declared.program.Op.TheVariants.{Add, Sub, And, Or, Xor}
+use Rattle.rmt_lexer.specs.declared.place.Place.{Place}
+use Rattle.rmt_check.specs.declared.source.Ident.{Ident}
+use Rattle.rmt_check.specs.declared.source.Number.{Number}
+use Rattle.rmt_check.specs.declared.source.Declared.{Declared}
+use Rattle.rmt_check.specs.declared.source.FieldText.{FieldText}
+use Rattle.rmt_check.specs.declared.source.ValueText.{ValueText}
+use Rattle.rmt_check.specs.declared.source.TargetText.{TargetText}
+use Rattle.rmt_check.specs.declared.source.TargetText.TheVariants as target
+use Rattle.rmt_check.specs.declared.source.CaseText.{CaseText}
+use Rattle.rmt_check.specs.declared.source.HeaderText.{HeaderText}
+use Rattle.rmt_check.specs.declared.source.MetaText.{MetaText}
+use Rattle.rmt_check.specs.declared.source.LeafText.{LeafText}
+use Rattle.rmt_check.specs.declared.source.LeafText.TheVariants as leaf
+use Rattle.rmt_check.specs.declared.source.Sign.{Sign}
+use Rattle.rmt_check.specs.declared.source.AssignText.{AssignText}
+use Rattle.rmt_check.specs.declared.source.ActionText.{ActionText}
+use Rattle.rmt_check.specs.declared.source.KeyText.{KeyText}
+use Rattle.rmt_check.specs.declared.source.TableText.{TableText}
+use Rattle.rmt_check.specs.declared.source.ArmText.{ArmText}
+use Rattle.rmt_check.specs.declared.source.ArmText.TheVariants as arm
+use Rattle.rmt_check.specs.declared.source.WhatText.{WhatText}
+use Rattle.rmt_check.specs.declared.source.WhatText.TheVariants.{Apply, If}
+use Rattle.rmt_check.specs.declared.source.NodeText.{NodeText}
+use Rattle.rmt_check.specs.declared.source.Source.{Source}
+use Rattle.rmt_check.specs.Names.{number_of, is_known, header_names, action_names, table_names, param_names, metadata, field_names, width_of, nodes_of, applied_tables, listed, listed_by, key_fields, selected, param_width, params_of, operands}
+
+-- a place, where something is broken there
+abbrev pub when : Bool → Place → List Place
+when true p = p ∷ []
+when false p = []
+
+-- the places of the names that an earlier one repeats
+abbrev pub repeated_after : List (List ℕ) → List Ident → List Place
+repeated_after seen [] = []
+repeated_after seen (x ∷ xs) =
+    if is_known seen x.name then x.place ∷ repeated_after seen xs else repeated_after (seen ++ x.name ∷ []) xs
+
+abbrev pub repeated : List Ident → List Place
+repeated xs = repeated_after [] xs
+
+-- the places of the names that are not among these
+abbrev pub unknown : List (List ℕ) → List Ident → List Place
+unknown names xs = flat_map (λ (x : Ident). when (not (is_known names x.name)) x.place) xs
+
+abbrev pub places : List Ident → List Place
+places xs = map (λ (x : Ident). x.place) xs
+
+abbrev pub declared_names : List Declared → List Ident
+declared_names ds = map (λ (d : Declared). d.ident) ds
+
+-- Code 5: a name is declared again in its space, `meta` stands again, or an action is listed twice in a table.
+abbrev pub broken_5 : Source → List Place
+broken_5 s =
+    repeated (map (λ (h : HeaderText). h.ident) s.headers)
+    ++ flat_map (λ (h : HeaderText). repeated (declared_names h.fields)) s.headers
+    ++ map (λ (m : MetaText). m.place) (drop 1 s.metas)
+    ++ repeated (declared_names (metadata s))
+    ++ repeated (map (λ (a : ActionText). a.ident) s.actions)
+    ++ flat_map (λ (a : ActionText). repeated (declared_names a.params)) s.actions
+    ++ repeated (map (λ (t : TableText). t.ident) s.tables)
+    ++ flat_map (λ (t : TableText). repeated (listed t)) s.tables
+
+-- a header that is not declared
+abbrev pub unknown_header : Source → Option Ident → List Place
+unknown_header s None = []
+unknown_header s (Some h) = unknown (header_names s) (h ∷ [])
+
+-- the header of a field where it is not declared, and the field where it is not
+abbrev pub unknown_field : Source → FieldText → List Place
+unknown_field s f = unknown_header s f.header ++ unknown (field_names s) (f.ident ∷ [])
+
+abbrev pub target_names : TargetText → List Ident
+target_names (target.Header h) = h ∷ []
+target_names target.Accept = []
+target_names target.Reject = []
+
+-- the headers that a header goes on to
+abbrev pub targets : HeaderText → List Ident
+targets h = flat_map (λ (c : CaseText). target_names c.target) h.cases ++ target_names h.other
+
+-- the names of a select that are no fields of the header
+abbrev pub unknown_select : Source → HeaderText → List Place
+unknown_select s h = flat_map (λ (i : Ident). when (not (is_known (field_names s) (selected h i))) i.place) h.select
+
+abbrev pub unknown_leaf : Source → ActionText → LeafText → List Place
+unknown_leaf s a (leaf.Field f) = unknown_field s f
+unknown_leaf s a (leaf.Param p) = unknown (param_names a) (p ∷ [])
+unknown_leaf s a (leaf.Number n) = []
+
+abbrev pub unknown_assign : Source → ActionText → AssignText → List Place
+unknown_assign s a x = unknown_field s x.dest ++ flat_map (unknown_leaf s a) (operands x.expr)
+
+abbrev pub unknown_in_table : Source → TableText → List Place
+unknown_in_table s t =
+    flat_map (unknown_field s) (key_fields t) ++ unknown (action_names s) (listed t) ++ unknown (action_names s) (t.default ∷ [])
+
+abbrev pub arm_names : ArmText → List Ident
+arm_names arm.Hit = []
+arm_names arm.Miss = []
+arm_names (arm.Action a) = a ∷ []
+
+-- a table that is not declared, an arm's action that is not in the table's list, an unknown field
+abbrev pub unknown_in_node : Source → WhatText → List Place
+unknown_in_node s (Apply table arms) =
+    unknown (table_names s) (table ∷ []) ++ unknown (map (λ (i : Ident). i.name) (listed_by s table.name)) (flat_map arm_names arms)
+unknown_in_node s (If field mask value) = unknown_field s field
+
+-- Code 6: a name is not declared where it is used.
+abbrev pub broken_6 : Source → List Place
+broken_6 s =
+    flat_map (unknown_select s) s.headers
+    ++ flat_map (λ (h : HeaderText). unknown (header_names s) (targets h)) s.headers
+    ++ flat_map (λ (a : ActionText). flat_map (unknown_assign s a) a.assigns) s.actions
+    ++ flat_map (unknown_in_table s) s.tables
+    ++ flat_map (λ (n : NodeText). unknown_in_node s n.what) (nodes_of s)
+
+abbrev pub is_width : ℕ → Bool
+is_width n = nat_le 1 n && nat_le n 128
+
+abbrev pub no_widths : List Declared → List Place
+no_widths ds = flat_map (λ (d : Declared). when (not (is_width d.width.value)) d.width.place) ds
+
+-- Code 7: a width is 0 or above 128.
+abbrev pub broken_7 : Source → List Place
+broken_7 s =
+    flat_map (λ (h : HeaderText). no_widths h.fields) s.headers
+    ++ no_widths (metadata s)
+    ++ flat_map (λ (a : ActionText). no_widths a.params) s.actions
+
+-- the bits of a header
+abbrev pub bits_of : HeaderText → ℕ
+bits_of h = sum (map (λ (d : Declared). d.width.value) h.fields)
+
+-- 1 to 64 whole bytes
+abbrev pub is_size : ℕ → Bool
+is_size bits = nat_le 1 bits && nat_le bits 512 && (bits % 8 == 0)
+
+-- Code 8: a header is of 0 bits, of more than 512, or not of whole bytes.
+abbrev pub broken_8 : Source → List Place
+broken_8 s = flat_map (λ (h : HeaderText). when (not (is_size (bits_of h))) h.ident.place) s.headers
+
+abbrev pub is_at_most : Option ℕ → ℕ → Bool
+is_at_most None n = false
+is_at_most (Some m) n = nat_le m n
+
+-- Code 9: header n names a header that is declared at or before itself.
+abbrev pub broken_9 : Source → List Place
+broken_9 s =
+    flat_map
+    (λ (h : ℕ × HeaderText). flat_map (λ (i : Ident). when (is_at_most (number_of (header_names s) i.name) h.0) i.place) (targets h.1))
+    (enumerate_from 0 s.headers)
+
+abbrev pub fits : ℕ → ℕ → Bool
+fits width n = nat_lt n (2 ^ width)
+
+abbrev pub too_wide : ℕ → Number → List Place
+too_wide width n = when (not (fits width n.value)) n.place
+
+-- an operand of another width than the assigned field
+abbrev pub differs : Source → ActionText → ℕ → LeafText → List Place
+differs s a width (leaf.Field f) = when (not (width_of s f.ident.name == width)) f.place
+differs s a width (leaf.Param p) = when (not (param_width a p.name == width)) p.place
+differs s a width (leaf.Number n) = too_wide width n
+
+-- the numbers of a value that do not fit
+abbrev pub too_wide_value : ℕ → ValueText → List Place
+too_wide_value width v = too_wide width v.value ++ flat_map (too_wide width) (option_to_list v.mask)
+
+-- the values of a case that have a name in the select
+abbrev pub too_wide_case : Source → HeaderText → CaseText → List Place
+too_wide_case s h c = flat_map (λ (x : Ident × ValueText). too_wide_value (width_of s (selected h x.0)) x.1) (zip h.select c.values)
+
+abbrev pub too_wide_node : Source → WhatText → List Place
+too_wide_node s (Apply table arms) = []
+too_wide_node s (If field mask value) =
+    let v : ValueText = record { value = value; mask = mask } in too_wide_value (width_of s field.ident.name) v
+
+-- Code 10: an operand is not of the width of the assigned field, or a number does not fit the field.
+abbrev pub broken_10 : Source → List Place
+broken_10 s =
+    flat_map
+    (λ (a : ActionText). flat_map (λ (x : AssignText). flat_map (differs s a (width_of s x.dest.ident.name)) (operands x.expr)) a.assigns)
+    s.actions
+    ++ flat_map (λ (h : HeaderText). flat_map (too_wide_case s h) h.cases) s.headers
+    ++ flat_map (λ (n : NodeText). too_wide_node s n.what) (nodes_of s)
+
+abbrev pub is_sum : Op → Bool
+is_sum Add = true
+is_sum Sub = true
+is_sum And = false
+is_sum Or = false
+is_sum Xor = false
+
+abbrev pub wide_sign : ℕ → Option (Sign × LeafText) → List Place
+wide_sign width None = []
+wide_sign width (Some r) = when (is_sum r.0.op && nat_lt 32 width) r.0.place
+
+-- Code 11: `+` or `-` into a field wider than 32 bits.
+abbrev pub broken_11 : Source → List Place
+broken_11 s =
+    flat_map (λ (a : ActionText). flat_map (λ (x : AssignText). wide_sign (width_of s x.dest.ident.name) x.expr.right) a.assigns) s.actions
+
+-- Code 12: `in_port` is assigned.
+abbrev pub broken_12 : Source → List Place
+broken_12 s =
+    flat_map (λ (a : ActionText). flat_map (λ (x : AssignText). when (bytes_eq x.dest.ident.name (codes "in_port")) x.dest.place) a.assigns) s.actions
+
+-- Code 13: a table is applied again.
+abbrev pub broken_13 : Source → List Place
+broken_13 s = repeated (applied_tables s)
+
+-- the fields of a key, each at its first token
+abbrev pub first_tokens : List FieldText → List Ident
+first_tokens fs = map (λ (f : FieldText). let i : Ident = record { place = f.place; name = f.ident.name } in i) fs
+
+abbrev pub further_prefix : Kind → List FieldText → List Place
+further_prefix Prefix fs = places (first_tokens (drop 1 fs))
+further_prefix _ fs = []
+
+abbrev pub bad_key : Option KeyText → List Place
+bad_key None = []
+bad_key (Some k) = further_prefix k.kind k.fields ++ repeated (first_tokens k.fields)
+
+-- Code 14: a prefix key has a second field, or a key or a select has a field twice.
+abbrev pub broken_14 : Source → List Place
+broken_14 s = flat_map (λ (h : HeaderText). repeated h.select) s.headers ++ flat_map (λ (t : TableText). bad_key t.key) s.tables
+
+abbrev pub key_bits : Source → TableText → ℕ
+key_bits s t = sum (map (λ (f : FieldText). width_of s f.ident.name) (key_fields t))
+
+-- Code 15: a key is of more than 640 bits.
+abbrev pub broken_15 : Source → List Place
+broken_15 s = flat_map (λ (t : TableText). when (nat_lt 640 (key_bits s t)) t.ident.place) s.tables
+
+-- Code 16: a table lists more than 14 actions.
+abbrev pub broken_16 : Source → List Place
+broken_16 s = flat_map (λ (t : TableText). places (drop 14 (listed t))) s.tables
+
+abbrev pub value_place : ValueText → Place
+value_place v = v.value.place
+
+-- a case with another number of values than the select has names
+abbrev pub bad_case : HeaderText → CaseText → List Place
+bad_case h c = if length h.select == length c.values then [] else map value_place (take 1 c.values)
+
+-- a default with another number of arguments than its action has parameters, or with one that does not fit
+abbrev pub bad_default : Source → TableText → List Place
+bad_default s t =
+    when (not (length (params_of s t.default.name) == length t.args)) t.default.place
+    ++ flat_map (λ (x : Declared × Number). too_wide x.0.width.value x.1) (zip (params_of s t.default.name) t.args)
+
+-- Code 17: the values of a case or the arguments of a default are not as they have to be.
+abbrev pub broken_17 : Source → List Place
+broken_17 s = flat_map (λ (h : HeaderText). flat_map (bad_case h) h.cases) s.headers ++ flat_map (bad_default s) s.tables
+
+-- the first place of a text
+abbrev pub text_start : Place
+text_start = record { line = 1; column = 1 }
+
+abbrev pub bad_table_size : Option KeyText → List Place
+bad_table_size None = []
+bad_table_size (Some k) = when (not (nat_le 1 k.size.value && nat_le k.size.value 1048576)) k.size.place
+
+-- Code 18: no header, more than 64, more than 256 actions, 16 parameters, 64 assignments, 256 metadata fields or 128 nodes, or a size of 0 or above 1,048,576.
+abbrev pub broken_18 : Source → List Place
+broken_18 s =
+    when (length s.headers == 0) text_start
+    ++ map (λ (h : HeaderText). h.ident.place) (drop 64 s.headers)
+    ++ map (λ (a : ActionText). a.ident.place) (drop 256 s.actions)
+    ++ flat_map (λ (a : ActionText). places (drop 16 (declared_names a.params))) s.actions
+    ++ flat_map (λ (a : ActionText). map (λ (x : AssignText). x.dest.place) (drop 64 a.assigns)) s.actions
+    ++ places (drop 256 (declared_names (metadata s)))
+    ++ map (λ (n : NodeText). n.place) (drop 128 (nodes_of s))
+    ++ flat_map (λ (t : TableText). bad_table_size t.key) s.tables
+
+-- Code 19: there is no control.
+abbrev pub broken_19 : Source → List Place
+broken_19 s = when (is_none s.control) s.end
+
+-- Code 20: no node applies a table.
+abbrev pub broken_20 : Source → List Place
+broken_20 s =
+    flat_map (λ (t : TableText). when (not (is_known (map (λ (i : Ident). i.name) (applied_tables s)) t.ident.name)) t.ident.place) s.tables
+
+-- a place before another
+abbrev pub is_before : Place → Place → Bool
+is_before a b = nat_lt a.line b.line || ((a.line == b.line) && nat_lt a.column b.column)
+
+-- the earlier of two places
+abbrev pub earlier : Option Place → Option Place → Option Place
+earlier None b = b
+earlier (Some a) None = Some a
+earlier (Some a) (Some b) = Some (if is_before b a then b else a)
+
+-- the earliest place
+abbrev pub earliest : List Place → Option Place
+earliest [] = None
+earliest (p ∷ ps) = earlier (Some p) (earliest ps)
+
+-- the places where each rule is broken, by code
+abbrev pub broken : Source → List (ℕ × List Place)
+broken s =
+    (5, broken_5 s) ∷ (6, broken_6 s) ∷ (7, broken_7 s) ∷ (8, broken_8 s) ∷ (9, broken_9 s) ∷ (10, broken_10 s) ∷ (11, broken_11 s) ∷ (12, broken_12 s)
+    ∷ (13, broken_13 s) ∷ (14, broken_14 s) ∷ (15, broken_15 s) ∷ (16, broken_16 s) ∷ (17, broken_17 s) ∷ (18, broken_18 s) ∷ (19, broken_19 s)
+    ∷ (20, broken_20 s) ∷ []
+
+-- the least code that is broken, at its earliest place
+abbrev pub least_of : List (ℕ × List Place) → Option (ℕ × Place)
+least_of [] = None
+least_of ((code, ps) ∷ rest) = option_or (option_map (λ (p : Place). (code, p)) (earliest ps)) (least_of rest)
+
+-- the fault of a text, if it has one
+abbrev pub fault_of : Source → Option (ℕ × Place)
+fault_of s = least_of (broken s)

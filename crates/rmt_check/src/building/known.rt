@@ -1,0 +1,84 @@
+//! Numbers of names that are known, as they stand in a program.
+
+ghost use Rattle.std.specs.Prelude.{◌≡◌, ◌<◌, ◌≤◌, ◌^◌, length, position, unwrap_or};
+ghost use Rattle.std.specs.Str.{bytes_eq};
+ghost use Rattle.rmt_check.specs.Names.{param_names, header_names, table_names};
+ghost use Rattle.rmt_check.specs.Meaning.{index_of, field_number, action_number, target_of};
+ghost use Rattle.rmt_check.specs.Sizes.{IsSized};
+
+use crate::names::Names;
+use crate::source::{ActionText, Declared, Ident, TargetText};
+use rmt_ast::program::Target;
+
+/// A number that was found, and 0 for none.
+fn number_or_0(found: Option<usize>) -> u32
+    requires { unwrap_or found 0 < 2 ^ 32 }
+    ensures { result ≡ unwrap_or found 0 }
+{
+    found.unwrap_or(0) as u32
+}
+
+/// The number of a field, by the name by which it is printed.
+#[tactic(auto, using(crate::proofs::Bounds::field_small))]
+pub fn field_number(names: &Names<'_>, name: &[u8]) -> u32
+    requires { IsSized names.now }
+    ensures { result ≡ field_number names.now name.now }
+{
+    number_or_0(names.field(name))
+}
+
+/// The number of a header.
+#[tactic(auto, using(crate::proofs::Bounds::header_small))]
+fn header_number(names: &Names<'_>, name: &[u8]) -> u32
+    requires { IsSized names.now }
+    ensures { result ≡ index_of (header_names names.now) name.now }
+{
+    number_or_0(names.header(name))
+}
+
+/// The number of a table.
+#[tactic(auto, using(crate::proofs::Bounds::table_small))]
+pub fn table_number(names: &Names<'_>, name: &[u8]) -> u32
+    requires { IsSized names.now }
+    ensures { result ≡ index_of (table_names names.now) name.now }
+{
+    number_or_0(names.table(name))
+}
+
+/// The number of an action.
+#[tactic(auto, using(crate::proofs::Bounds::action_small))]
+pub fn action_number(names: &Names<'_>, action: &Ident) -> u32
+    requires { IsSized names.now }
+    ensures { result ≡ action_number names.now action.now }
+{
+    number_or_0(names.action(action.name.as_slice()))
+}
+
+/// Where a header goes on.
+pub fn target_of(names: &Names<'_>, target: &TargetText) -> Target
+    requires { IsSized names.now }
+    ensures { result ≡ target_of names.now target.now }
+{
+    match target {
+        TargetText::Header(header) => Target::Node(header_number(names, header.name.as_slice())),
+        TargetText::Accept => Target::Accept,
+        TargetText::Reject => Target::Reject,
+    }
+}
+
+fn place_of_param(params: &[Declared], name: &[u8]) -> Option<usize>
+    ensures { result ≡ position (λ d. bytes_eq name.now d.ident.name) params.now }
+{
+    params
+        .iter()
+        .position(|param| name == param.ident.name.as_slice())
+}
+
+/// The number of a parameter of an action, of which there are at most 16.
+pub fn param_number(action: &ActionText, name: &[u8]) -> u32
+    requires { length action.now.params ≤ 16 }
+    ensures { result ≡ index_of (param_names action.now) name.now }
+{
+    let place = place_of_param(action.params.as_slice(), name);
+    number_or_0(place)
+}

@@ -1,0 +1,34 @@
+//! Tests of fields: values with the bits that count.
+
+ghost use Rattle.std.specs.Prelude.{◌≡◌, ◌≤◌};
+ghost use Rattle.rmt_check.specs.Meaning.{ones, test_of};
+
+use crate::source::ValueText;
+use rmt_ast::program::Test;
+
+/// The number whose lowest bits, `width` of them, are all ones; at most 128.
+fn ones(width: u128) -> u128
+    requires { width ≤ 128 }
+    ensures { result ≡ ones width }
+{
+    if width == 128 {
+        u128::MAX
+    } else {
+        (1 << (width as u32)) - 1
+    }
+}
+
+/// A test of a field of `width` bits, at most 128: without a mask all of them count.
+pub fn test_of(width: u128, value: &ValueText) -> Test
+    requires { width ≤ 128 }
+    ensures { result ≡ test_of width value.now }
+{
+    let mask = match value.mask {
+        Some(mask) => mask.value,
+        None => ones(width),
+    };
+    Test {
+        value: value.value.value & mask,
+        mask,
+    }
+}

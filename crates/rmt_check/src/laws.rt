@@ -1,0 +1,36 @@
+ghost use Rattle.std.specs.Prelude.{◌≡◌, ℕ, List, None, Ok};
+ghost use Rattle.rmt_ast.specs.declared.program.Program.{Program};
+ghost use Rattle.rmt_ast.specs.WellFormed.{IsProgram};
+ghost use Rattle.rmt_lexer.specs.declared.token.Token.{Token};
+ghost use Rattle.rmt_lexer.specs.Text.{tokens_of};
+ghost use Rattle.rmt_syntax.specs.declared.tree.Tree.{Tree};
+ghost use Rattle.rmt_syntax.specs.Trees.{IsText, IsTreeOf, marks};
+ghost use Rattle.rmt_check.specs.declared.source.Source.{Source};
+ghost use Rattle.rmt_check.specs.Meaning.{program_of, Answers};
+ghost use Rattle.rmt_check.specs.Naming.{IsOfText, WordsArePlain};
+ghost use Rattle.rmt_check.specs.Reading.{source_of};
+ghost use Rattle.rmt_check.specs.Rules.{fault_of};
+
+use rmt_syntax::laws::{node_parts, token_part};
+
+/// The program of a source with the parts of a text is well formed, where the source breaks no rule.
+pub fn program_is_well_formed()
+    ensures { (s : Source) → IsOfText s → fault_of s ≡ None → IsProgram (program_of s) }
+{}
+
+/// A source that is read from a tree of the grammar has the parts of a text, where no word of the tree has a dot.
+pub fn source_is_of_text()
+    ensures { (t : Tree) → IsText (marks t) → WordsArePlain t → IsOfText (source_of t) }
+{
+    node_parts();
+    token_part();
+}
+
+/// A program that is the answer to a text of bytes is well formed.
+pub fn answer_is_well_formed()
+    ensures { (text : List ℕ) (tokens : List Token) (t : Tree) (p : Program) → tokens_of text ≡ Ok tokens → IsTreeOf tokens t → Answers (source_of t) (Ok p)
+        → IsProgram p }
+{
+    program_is_well_formed();
+    source_is_of_text();
+}

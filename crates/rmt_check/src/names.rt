@@ -1,0 +1,184 @@
+//! What the names of a program's text stand for.
+
+ghost use Rattle.std.specs.Prelude.{◌≡◌, find, IfOk, IfErr, option_copied, option_map};
+ghost use Rattle.std.specs.Str.{bytes_eq};
+ghost use Rattle.rmt_check.specs.declared.source.ActionText.{ActionText};
+ghost use Rattle.rmt_check.specs.declared.source.TableText.{TableText};
+ghost use Rattle.rmt_check.specs.Names.{number_of, field_names, width_of, header_names, action_names, table_names, ident_names, is_known, listed, listed_by, params_of};
+ghost use Rattle.rmt_lexer.specs.declared.fault.ProgramFault.TheVariants.{NoMemory};
+
+use crate::fields::Fields;
+use crate::name_lists;
+use crate::numbers::Numbers;
+use crate::source::{ActionText, Declared, Source};
+use rmt_bits::sequence::Sequence;
+use rmt_lexer::fault::ProgramFault;
+use std::alloc::Global;
+use std::marker::Model;
+
+/// The names that a program's text declares, for look-ups. Contracts see it as the text.
+#[derive(Drop)]
+pub struct Names<'a> {
+    source: &'a Source,
+    fields: Fields,
+    headers: Numbers<'a>,
+    actions: Numbers<'a>,
+    tables: Numbers<'a>,
+    /// Of each table, the actions of its list.
+    lists: Sequence<Numbers<'a>>,
+    /// The list of a table that is none.
+    nothing: Numbers<'a>,
+}
+
+impl<'a> Model for Names<'a> {
+    ghost use Rattle.rmt_check.specs.declared.source.Source.{Source};
+    ghost use Rattle.rmt_check.specs.Standing.{IsNames};
+
+    ghost Value = { Source };
+
+    ghost view = { λ n. n.source.now };
+
+    ghost invariant = { IsNames };
+}
+
+impl<'a> Names<'a> {
+    /// The names of a text.
+    ///
+    /// # Errors
+    ///
+    /// For want of memory alone.
+    pub fn of(alloc: Global, source: &'a Source) -> Result<Names<'a>, ProgramFault>
+        ensures names { IfOk result (λ n. n ≡ source.now) }
+        ensures fault { IfErr result (λ e. e ≡ NoMemory) }
+    {
+        let fields = Fields::of(alloc, source)?;
+        let headers = name_lists::headers(alloc, source.headers.as_slice())?;
+        let actions = name_lists::actions(alloc, source.actions.as_slice())?;
+        let tables = name_lists::tables(alloc, source.tables.as_slice())?;
+        let lists = name_lists::lists(alloc, source.tables.as_slice())?;
+        let nothing = Numbers::of(alloc, Vec::new(alloc))?;
+        Ok(Names {
+            source,
+            fields,
+            headers,
+            actions,
+            tables,
+            lists,
+            nothing,
+        })
+    }
+
+    /// The text.
+    pub fn source(&self) -> &'a Source
+        ensures { result.now ≡ self.now }
+    {
+        self.source
+    }
+
+    /// The number of a field, by the name by which it is printed.
+    pub fn field(&self, name: &[u8]) -> Option<usize>
+        ensures { result ≡ number_of (field_names self.now) name.now }
+    {
+        self.fields.number(name)
+    }
+
+    /// The width of a field, by the name by which it is printed, and 0 for a name that is none.
+    pub fn width(&self, name: &[u8]) -> u128
+        ensures { result ≡ width_of self.now name.now }
+    {
+        self.fields.width(name)
+    }
+
+    /// The number of a header.
+    pub fn header(&self, name: &[u8]) -> Option<usize>
+        ensures { result ≡ number_of (header_names self.now) name.now }
+    {
+        self.headers.number(name)
+    }
+
+    /// The number of an action.
+    pub fn action(&self, name: &[u8]) -> Option<usize>
+        ensures { result ≡ number_of (action_names self.now) name.now }
+    {
+        self.actions.number(name)
+    }
+
+    /// The number of a table.
+    pub fn table(&self, name: &[u8]) -> Option<usize>
+        ensures { result ≡ number_of (table_names self.now) name.now }
+    {
+        self.tables.number(name)
+    }
+
+    /// The headers by name.
+    pub fn headers(&self) -> &Numbers<'a>
+        ensures { result.now ≡ header_names self.now }
+    {
+        &self.headers
+    }
+
+    /// The actions by name.
+    pub fn actions(&self) -> &Numbers<'a>
+        ensures { result.now ≡ action_names self.now }
+    {
+        &self.actions
+    }
+
+    /// The tables by name.
+    pub fn tables(&self) -> &Numbers<'a>
+        ensures { result.now ≡ table_names self.now }
+    {
+        &self.tables
+    }
+
+    /// Whether there is a field that is printed so.
+    pub fn knows_field(&self, name: &[u8]) -> bool
+        ensures { result ≡ is_known (field_names self.now) name.now }
+    {
+        self.field(name).is_some()
+    }
+
+    /// The actions of the list of the first table of a name.
+    fn found_list(&self, table: &[u8]) -> Option<&Numbers<'a>>
+        ensures { option_copied result ≡ option_map (λ (t : TableText). ident_names (listed t)) (find (λ (t : TableText). bytes_eq table.now t.ident.name) self.now.tables) }
+    {
+        match self.tables.number(table) {
+            Some(number) => self.lists.get(number),
+            None => None,
+        }
+    }
+
+    /// The actions of a table's list by name, none for a name that is no table.
+    pub fn list(&self, table: &[u8]) -> &Numbers<'a>
+        ensures { result.now ≡ ident_names (listed_by self.now table.now) }
+    {
+        self.found_list(table).unwrap_or(&self.nothing)
+    }
+
+    /// The number of an action in a table's list.
+    pub fn listed(&self, table: &[u8], action: &[u8]) -> Option<usize>
+        ensures { result ≡ number_of (ident_names (listed_by self.now table.now)) action.now }
+    {
+        self.list(table).number(action)
+    }
+
+    /// The first action of a name.
+    pub fn action_text(&self, name: &[u8]) -> Option<&'a ActionText>
+        ensures { option_copied result ≡ find (λ (a : ActionText). bytes_eq name.now a.ident.name) self.now.actions }
+    {
+        match self.actions.number(name) {
+            Some(number) => self.source.actions.get(number),
+            None => None,
+        }
+    }
+
+    /// The parameters of an action, none for a name that is none.
+    pub fn params(&self, name: &[u8]) -> &'a [Declared]
+        ensures { result.now ≡ params_of self.now name.now }
+    {
+        match self.action_text(name) {
+            Some(action) => action.params.as_slice(),
+            None => &[],
+        }
+    }
+}
