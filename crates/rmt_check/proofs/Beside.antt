@@ -8,8 +8,8 @@ use Rattle.rmt_check.specs.declared.source.Ident.{Ident}
 use Rattle.rmt_check.specs.declared.source.HeaderText.{HeaderText}
 use Rattle.rmt_check.specs.declared.source.CaseText.{CaseText}
 use Rattle.rmt_check.specs.declared.source.Source.{Source}
-use Rattle.rmt_check.specs.Names.{width_of, selected}
-use Rattle.rmt_check.specs.Looked.{select_widths, too_wide_beside}
+use Rattle.rmt_check.specs.Names.{width_of, select_widths, selected}
+use Rattle.rmt_check.specs.Looked.{too_wide_beside}
 use Rattle.rmt_check.specs.Rules.{earlier, earliest, too_wide_case}
 use Rattle.rmt_check.proofs.Earliest.{joined}
 
@@ -55,5 +55,5 @@ beside_map f g (x ∷ xs) (y ∷ ys) = ap (λ (ps : List Place). f (g x, y) ++ p
 pub cases_beside : (s : Source) (h : HeaderText) (cs : List CaseText) → flat_map (λ (c : CaseText). flat_map too_wide_beside (zip (select_widths s h) c.values)) cs ≡ flat_map (too_wide_case s h) cs
 cases_beside s h [] = refl
 cases_beside s h (c ∷ cs) =
-    ap (λ (ps : List Place). ps ++ flat_map (λ (c : CaseText). flat_map too_wide_beside (zip (select_widths s h) c.values)) cs) (beside_map too_wide_beside (λ (i : Ident). width_of s (selected h i)) h.select c.values)
+    ap (λ (ps : List Place). ps ++ flat_map (λ (c : CaseText). flat_map too_wide_beside (zip (select_widths s h) c.values)) cs) (beside_map too_wide_beside (λ (i : Ident). width_of s (selected s h i)) h.select c.values)
     ∙ ap (λ (ps : List Place). too_wide_case s h c ++ ps) (cases_beside s h cs)

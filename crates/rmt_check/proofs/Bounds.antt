@@ -1,8 +1,8 @@
 -- The sizes of a text's parts, from the rules that it keeps.
 use Rattle.std.proofs.Common.{◌≡◌, ℕ, ◌+◌, ◌*◌, ◌<◌, ◌≤◌, ◌%◌, ◌==◌, List, [], ◌∷◌, ◌++◌, Bool, true, false, not, ◌&&◌, cond, nat_le, None, Some, Option, unwrap_or, option_map, map, find, length, drop, sum, sum_by, codes, filter_map, refl, inl, inr, sym, ap, subst, ◌∙◌, append_assoc, lit≤, lit<, ◌^◌, arith}
 use Rattle.std.specs.Prelude.{All}
-use Rattle.std.specs.Option.{IfSome}
-use Rattle.std.proofs.lemmas.Option.{IfSome_then}
+use Rattle.std.specs.Option.{IfSome, option_map_or}
+use Rattle.std.proofs.lemmas.Option.{IfSome_then, slice_get_cases}
 use Rattle.std.proofs.lemmas.List.Quantifiers.{position-Some}
 use Rattle.std.specs.List.{flat_map, IsDistinct, cons_option}
 use Rattle.std.specs.Str.{bytes_eq}
@@ -10,7 +10,7 @@ use Rattle.std.proofs.lemmas.Bool.{not-false, and_parts, leb-true, or_cases, fal
 use Rattle.std.proofs.lemmas.Cmp.{nat_list_eq_equiv}
 use Rattle.std.proofs.lemmas.List.{length-drop, length-append, length-map, append-nil}
 use Rattle.std.proofs.lemmas.List.Concat.{length-flat_map}
-use Rattle.std.proofs.lemmas.List.Elements.{All-nil, All-cons, All-head, All-tail, All-append, All-map, All-weaker}
+use Rattle.std.proofs.lemmas.List.Elements.{All-nil, All-cons, All-head, All-tail, All-append, All-map, All-weaker, All-get_or}
 use Rattle.std.proofs.lemmas.List.Sums.{sum_by-le, sum-map, sum_by-cons}
 use Rattle.std.proofs.lemmas.Map.Keys.{IsDistinct-push}
 use Rattle.std.proofs.lemmas.Map.Made.{length-le_from_is_member}
@@ -25,10 +25,11 @@ use Rattle.rmt_check.specs.declared.source.KeyText.{KeyText}
 use Rattle.rmt_check.specs.declared.source.TableText.{TableText}
 use Rattle.rmt_check.specs.declared.source.NodeText.{NodeText}
 use Rattle.rmt_check.specs.declared.source.Source.{Source}
-use Rattle.rmt_check.specs.Names.{Known, field_names, header_names, action_names, table_names, number_of, width_of, is_known, printed, known_fields, header_fields, metadata, fields_of, nodes_of, applied, applied_tables, listed, listed_by}
+use Rattle.rmt_check.specs.Names.{Known, key, declared_keys, header_keys, keys_from, field_keys, header_names, action_names, table_names, number_of, width_at, width_of, is_known, printed, known_fields, header_fields, metadata, fields_of, nodes_of, applied, applied_tables, listed, listed_by}
 use Rattle.rmt_check.specs.Rules.{when, repeated, repeated_after, places, declared_names, is_width, no_widths, bits_of, is_size, bad_table_size, broken_5, broken_7, broken_8, broken_16, broken_18, broken_20}
 use Rattle.rmt_check.specs.Building.{count_of}
-use Rattle.rmt_check.specs.Sizes.{AreNarrow, IsSized, IsSizedAction, IsSizedTable, IsSizedHeader, IsSizedKey, IsWithin}
+use Rattle.rmt_check.specs.Naming.{IsUnder}
+use Rattle.rmt_check.specs.Sizes.{AreNarrow, IsSized, IsSizedAction, IsSizedTable, IsSizedHeader, IsSizedKey}
 
 -- Lists in which nothing is broken.
 nil_left : {A : Type 0} (xs ys : List A) → xs ++ ys ≡ [] → xs ≡ []
@@ -241,7 +242,7 @@ module _ (s : Source) where
   table_sized t size many = record { size = key_sized t.key size; few = idents_few 14 (listed t) many }
 
   pub sized : broken_5 s ≡ [] → broken_7 s ≡ [] → broken_8 s ≡ [] → broken_16 s ≡ [] → broken_18 s ≡ [] → broken_20 s ≡ []
-      → All (λ (n : NodeText). IsWithin (length (nodes_of s)) n.under) (nodes_of s) → IsSized s
+      → All (λ (n : NodeText). IsUnder (length (nodes_of s)) n.under) (nodes_of s) → IsSized s
   sized once wide size lists counts used parents =
       let nodes : length (nodes_of s) ≤ 128 = drop_nil 128 (nodes_of s) (map_nil (λ (n : NodeText). n.place) (drop 128 (nodes_of s)) (nil_right _ _ (nil_left _ _ counts))) in
       let metas : length (metadata s) ≤ 256 =
@@ -287,23 +288,52 @@ found_below names name = by (number_of names name) refl
     by None e = tt
     by (Some n) e = (position-Some (bytes_eq name) names n [] e).0
 
-find_narrow : (name : List ℕ) (fs : List Known) → All IsNarrow fs → unwrap_or (option_map (λ (f : Known). f.1) (find (λ (f : Known). bytes_eq name f.0) fs)) 0 ≤ 128
-find_narrow name [] h = lit≤ tt
-find_narrow name (f ∷ fs) h = by (bytes_eq name f.0) (All-head IsNarrow f fs h) (find_narrow name fs (All-tail IsNarrow f fs h))
+pub width_narrow : (s : Source) (k : List ℕ) → IsSized s → width_of s k ≤ 128
+width_narrow s k h = by (number_of (field_keys s) k)
   where
-    by : (b : Bool) → f.1 ≤ 128 → unwrap_or (option_map (λ (g : Known). g.1) (find (λ (g : Known). bytes_eq name g.0) fs)) 0 ≤ 128
-        → unwrap_or (option_map (λ (g : Known). g.1) (cond b (Some f) (find (λ (g : Known). bytes_eq name g.0) fs))) 0 ≤ 128
-    by true here rest = here
-    by false here rest = rest
+    at : (n : ℕ) → width_at s n ≤ 128
+    at n =
+        elim ((slice_get_cases (fields_of s) n).1) [
+          | inl (f, lt, found, is) ↦ rw found (subst IsNarrow is (All-get_or IsNarrow (fields_of s) n f lt h.widths))
+          | inr (past, none) ↦ rw none (lit≤ tt)
+        ]
 
-pub width_narrow : (s : Source) (name : List ℕ) → IsSized s → width_of s name ≤ 128
-width_narrow s name h = find_narrow name (fields_of s) h.widths
+    by : (o : Option ℕ) → option_map_or (width_at s) o 0 ≤ 128
+    by None = lit≤ tt
+    by (Some n) = at n
+
+-- as many keys as fields
+count_keys : (owner : ℕ) (ds : List Declared) → length (declared_keys owner ds) ≡ length ds
+count_keys owner ds = length-map {B = List ℕ} ds (λ (d : Declared). key owner d.ident.name)
+
+count_keys_from : (owner : ℕ) (hs : List HeaderText) → length (keys_from owner hs) ≡ length (flat_map header_fields hs)
+count_keys_from owner [] = refl
+count_keys_from owner (h ∷ hs) =
+    omega (
+      arith,
+      length-append (header_keys owner h) (keys_from (owner + 1) hs),
+      length-append (header_fields h) (flat_map header_fields hs),
+      count_keys owner h.fields,
+      count_known h.ident.name h.fields,
+      count_keys_from (owner + 1) hs,
+    )
+
+count_field_keys : (s : Source) → length (field_keys s) ≡ length (fields_of s)
+count_field_keys s =
+    omega (
+      arith,
+      length-append (keys_from 2 s.headers) (declared_keys 1 (metadata s)),
+      length-append (flat_map header_fields s.headers) (known_fields (codes "meta") (metadata s)),
+      count_keys_from 2 s.headers,
+      count_keys 1 (metadata s),
+      count_known (codes "meta") (metadata s),
+    )
 
 module _ (s : Source) (h : IsSized s) where
-  pub field_small : (name : List ℕ) → unwrap_or (number_of (field_names s) name) 0 < 2 ^ 32
-  field_small name =
-      number_below (number_of (field_names s) name) (2 ^ 32)
-      (IfSome_then (number_of (field_names s) name) (found_below (field_names s) name) (λ n lt. omega (arith, h.few_fields, length-map (fields_of s) (λ (f : Known). f.0))))
+  pub field_small : (k : List ℕ) → unwrap_or (number_of (field_keys s) k) 0 < 2 ^ 32
+  field_small k =
+      number_below (number_of (field_keys s) k) (2 ^ 32)
+      (IfSome_then (number_of (field_keys s) k) (found_below (field_keys s) k) (λ n lt. omega (arith, h.few_fields, count_field_keys s)))
       (lit< tt)
 
   pub header_small : (name : List ℕ) → unwrap_or (number_of (header_names s) name) 0 < 2 ^ 32

@@ -19,7 +19,7 @@ use Rattle.rmt_check.specs.declared.source.ValueText.{ValueText}
 use Rattle.rmt_check.specs.declared.source.CaseText.{CaseText}
 use Rattle.rmt_check.specs.declared.source.HeaderText.{HeaderText}
 use Rattle.rmt_check.specs.declared.source.Source.{Source}
-use Rattle.rmt_check.specs.Building.{tests_for, count_of, case_with, select_widths}
+use Rattle.rmt_check.specs.Building.{tests_for, count_of, case_with}
 use Rattle.rmt_check.specs.Meaning.{arm_mask, all_outcomes, outcomes_of, test_of, target_of, case_of}
 use Rattle.rmt_check.specs.Sizes.{IsSized}
 use Rattle.rmt_check.proofs.Bounds.{width_narrow}
@@ -27,7 +27,7 @@ use Rattle.std.proofs.lemmas.List.Quantifiers.{position-Some}
 use Rattle.rmt_check.specs.declared.source.Ident.{Ident}
 use Rattle.rmt_check.specs.declared.source.Declared.{Declared}
 use Rattle.rmt_check.specs.declared.source.ActionText.{ActionText}
-use Rattle.rmt_check.specs.Names.{number_of, width_of, selected, param_names}
+use Rattle.rmt_check.specs.Names.{number_of, width_of, selected, select_widths, param_names}
 
 module _ {A : Type 0} (name : A → List ℕ) (q : List ℕ) where
   same_place : (xs : List A) → position_or_len (bytes_eq q) (map name xs) ≡ position_or_len (λ (x : A). bytes_eq q (name x)) xs
@@ -90,14 +90,14 @@ zip_mapped w (x ∷ xs) (v ∷ vs) = ap (λ (ts : List Test). test_of (w x) v �
 
 case_same : (s : Source) (h : HeaderText) (c : CaseText) → case_with s (select_widths s h) c ≡ case_of s h c
 case_same s h c =
-    ap (λ (ts : List Test). let built : Case = record { tests = ts; target = target_of s c.target } in built) (zip_mapped (λ (i : Ident). width_of s (selected h i)) h.select c.values)
+    ap (λ (ts : List Test). let built : Case = record { tests = ts; target = target_of s c.target } in built) (zip_mapped (λ (i : Ident). width_of s (selected s h i)) h.select c.values)
 
 pub cases_same : (s : Source) (h : HeaderText) (cs : List CaseText) → map (case_with s (select_widths s h)) cs ≡ map (case_of s h) cs
 cases_same s h [] = refl
 cases_same s h (c ∷ cs) = ap (λ (x : Case). x ∷ map (case_with s (select_widths s h)) cs) (case_same s h c) ∙ ap (λ (xs : List Case). case_of s h c ∷ xs) (cases_same s h cs)
 
 pub widths_narrow : (s : Source) (h : HeaderText) → IsSized s → All (λ w. w ≤ 128) (select_widths s h)
-widths_narrow s h z = All-map (λ w. w ≤ 128) (λ (i : Ident). width_of s (selected h i)) h.select (λ k d lt. width_narrow s (selected h (get_or h.select k d)) z)
+widths_narrow s h z = All-map (λ w. w ≤ 128) (λ (i : Ident). width_of s (selected s h i)) h.select (λ k d lt. width_narrow s (selected s h (get_or h.select k d)) z)
 
 -- The numbers of headers.
 pub count_more : (hs : List HeaderText) (i : ℕ) (h : HeaderText) → i < length hs → h ≡ get_or hs i h

@@ -67,6 +67,10 @@ module _ {X : Type 0} (f : X → List Place) where
   pub earliest-flat_map-cons : (x : X) (xs : List X) → earliest (flat_map f (x ∷ xs)) ≡ earlier (earliest (f x)) (earliest (flat_map f xs))
   earliest-flat_map-cons x xs = earliest-append (f x) (flat_map f xs)
 
+  -- the same items as a call gives them
+  pub earliest_over : (best : Option Place) (xs ys : List X) → best ≡ earliest (flat_map f xs) → xs ≡ ys → best ≡ earliest (flat_map f ys)
+  earliest_over best xs ys h e = h ∙ ap (λ (zs : List X). earliest (flat_map f zs)) e
+
   -- one more item
   pub earliest-flat_map-push : (xs : List X) (x : X) → earliest (flat_map f (xs ++ x ∷ [])) ≡ earlier (earliest (flat_map f xs)) (earliest (f x))
   earliest-flat_map-push xs x =

@@ -11,6 +11,7 @@ use Rattle.rmt_syntax.specs.declared.tree.Rule.{Rule}
 use Rattle.rmt_syntax.specs.declared.tree.Rule.TheVariants as rule
 use Rattle.rmt_check.specs.declared.source.Ident.{Ident}
 use Rattle.rmt_check.specs.declared.source.Declared.{Declared}
+use Rattle.rmt_check.specs.declared.source.OwnerText.TheVariants.{Header, Metadata}
 use Rattle.rmt_check.specs.declared.source.FieldText.{FieldText}
 use Rattle.rmt_check.specs.declared.source.HeaderText.{HeaderText}
 use Rattle.rmt_check.specs.declared.source.TargetText.TheVariants.{Accept}
@@ -53,13 +54,13 @@ a_param v h = simp (many, h, one)
 -- `eth.dst`
 a_field : (v : Vec Tree Global) → v.items ≡ word 1 (codes "eth") ∷ sign 4 (codes ".") ∷ word 5 (codes "dst") ∷ []
     → field_at (Many rule.Field v)
-    ≡ (let f : FieldText = record { place = record { line = 1; column = 1 }; header = Some (ident 1 (codes "eth")); ident = ident 5 (codes "eth.dst") } in Some f)
+    ≡ (let f : FieldText = record { place = record { line = 1; column = 1 }; owner = Header (ident 1 (codes "eth")); ident = ident 5 (codes "dst") } in Some f)
 a_field v h = simp (many, h, one)
 
 -- `meta.hop`
 a_meta_field : (v : Vec Tree Global) → v.items ≡ word 1 (codes "meta") ∷ sign 5 (codes ".") ∷ word 6 (codes "hop") ∷ []
     → field_at (Many rule.Field v)
-    ≡ (let f : FieldText = record { place = record { line = 1; column = 1 }; header = None; ident = ident 6 (codes "meta.hop") } in Some f)
+    ≡ (let f : FieldText = record { place = record { line = 1; column = 1 }; owner = Metadata; ident = ident 6 (codes "hop") } in Some f)
 a_meta_field v h = simp (many, h, one)
 
 -- `header h { a: 8; b: 16; } next accept;`

@@ -1,16 +1,14 @@
 -- What stands at the number of a name.
-use Rattle.std.proofs.Common.{◌≡◌, ℕ, zero, suc, get_or, ◌+◌, ◌<◌, ◌≤◌, List, [], ◌∷◌, Bool, true, false, not, cond, ◌||◌, None, Some, Option, option_map, unwrap_or, map, find, is_some, slice_get, length, nat_lt, refl, sym, ap, subst, ◌∙◌, arith}
+use Rattle.std.proofs.Common.{◌≡◌, ℕ, zero, suc, get_or, ◌+◌, ◌<◌, ◌≤◌, List, [], ◌∷◌, Bool, true, false, not, cond, ◌||◌, None, Some, option_map, unwrap_or, map, find, is_some, slice_get, length, nat_lt, refl, sym, ap, subst, ◌∙◌, arith}
 use Rattle.std.specs.List.{list_any, position_or_len, position_from}
 use Rattle.std.specs.Str.{bytes_eq}
 use Rattle.std.proofs.lemmas.List.{length-map}
 use Rattle.std.proofs.lemmas.List.Folds.{find_at}
-use Rattle.std.proofs.lemmas.Option.{slice_get_past, slice_get-map}
+use Rattle.std.proofs.lemmas.Option.{slice_get_past}
 use Rattle.std.proofs.lemmas.Bool.Decides.{nat_tests}
 use Rattle.std.proofs.lemmas.Iterator.Adapters.{position_from-zero}
 use Rattle.rmt_check.specs.declared.source.TableText.{TableText}
-use Rattle.rmt_check.specs.declared.fields.Fields.{Fields}
-use Rattle.rmt_check.specs.Names.{Known, number_of, is_known, ident_names, list_names, listed}
-use Rattle.rmt_check.specs.Standing.{HasFields, width_in}
+use Rattle.rmt_check.specs.Names.{number_of, is_known, ident_names, list_names, listed}
 
 module _ {A : Type 0} (name : A → List ℕ) (q : List ℕ) where
   same_place : (xs : List A) → position_or_len (bytes_eq q) (map name xs) ≡ position_or_len (λ (x : A). bytes_eq q (name x)) xs
@@ -49,15 +47,6 @@ known_number names q = by 0 names ∙ ap is_some (sym (position_from-zero (bytes
         one : (b : Bool) → list_any (bytes_eq q) ns ≡ is_some (position_from (bytes_eq q) (i + 1) ns) → (b || list_any (bytes_eq q) ns) ≡ is_some (cond b (Some i) (position_from (bytes_eq q) (i + 1) ns))
         one true e = refl
         one false e = e
-
--- the width of the first field of a name
-pub width_found : (f : Fields) (known : List Known) (q : List ℕ) → HasFields f known
-    → width_in f q ≡ unwrap_or (option_map (λ (k : Known). k.1) (find (λ (k : Known). bytes_eq q k.0) known)) 0
-width_found f known q h = by (number_of (map (λ (k : Known). k.0) known) q) refl
-  where
-    by : (o : Option ℕ) → number_of (map (λ (k : Known). k.0) known) q ≡ o → width_in f q ≡ unwrap_or (option_map (λ (k : Known). k.1) (find (λ (k : Known). bytes_eq q k.0) known)) 0
-    by None e = rw (find_missing (λ (k : Known). k.0) q known e, h.numbers.at q, e) refl
-    by (Some n) e = rw (find_found (λ (k : Known). k.0) q known n e, h.numbers.at q, e, h.widths, slice_get-map (λ (k : Known). k.1) known n) refl
 
 -- the list that stands at a table's number is that of the table
 pub list_at : (ts : List TableText) (n : ℕ) (l : List (List ℕ)) → n < length (list_names ts) → l ≡ get_or (list_names ts) n l

@@ -1,14 +1,13 @@
 -- Each table of a text that breaks no rule is applied by exactly one node.
-use Rattle.std.proofs.Common.{◌≡◌, ℕ, zero, suc, ◌+◌, ◌<◌, List, [], ◌∷◌, Bool, true, false, cond, ◌||◌, ◌==◌, None, Some, Option, option_map, map, filter_map, count_by, length, slice_get, All, refl, sym, ap, ap₂, subst, ◌∙◌, ⊎_elim, zero-add, arith}
+use Rattle.std.proofs.Common.{◌≡◌, ℕ, zero, suc, ◌+◌, ◌<◌, List, [], ◌∷◌, Bool, true, false, cond, ◌||◌, ◌==◌, None, Some, Option, option_map, map, filter_map, count_by, length, slice_get, All, refl, sym, ap, ap₂, subst, ◌∙◌, zero-add, arith}
 use Rattle.std.specs.List.{cons_option, flat_map}
 use Rattle.std.specs.Str.{bytes_eq}
-use Rattle.std.proofs.lemmas.Bool.{false≢true, cases_order, or_parts}
+use Rattle.std.proofs.lemmas.Bool.{false≢true, or_parts}
 use Rattle.std.proofs.lemmas.Bool.Decides.{same_from_decides, Decides-eqb, Decides-like}
 use Rattle.std.proofs.lemmas.List.{length-map}
 use Rattle.std.proofs.lemmas.List.Elements.{All-head, All-tail}
-use Rattle.std.proofs.lemmas.List.Folds.{list_any_at}
 use Rattle.std.proofs.lemmas.List.Sums.{sum_by-cons}
-use Rattle.std.proofs.lemmas.Option.{slice_get-map, slice_get_within, get_or_from_slice_get, none-some}
+use Rattle.std.proofs.lemmas.Option.{slice_get-map, none-some}
 use Rattle.std.proofs.lemmas.Simd.{map-map}
 use Rattle.std.proofs.lemmas.Slice.Eq.{bytes_eq-Decides}
 use Rattle.rmt_ast.specs.declared.program.Node.{Node}
@@ -23,9 +22,8 @@ use Rattle.rmt_check.specs.Names.{is_known, nodes_of, table_names, applied, appl
 use Rattle.rmt_check.specs.Rules.{unknown, unknown_in_node, arm_names}
 use Rattle.rmt_check.specs.Meaning.{index_of, what_of, node_of, table_of, program_of}
 use Rattle.rmt_check.proofs.LawLists.{none_left}
-use Rattle.rmt_check.proofs.LawNames.{stands_for}
 use Rattle.rmt_check.proofs.LawFaults.{no_when_not, one_known}
-use Rattle.rmt_check.proofs.LawDistinct.{AreApart, names_of, are_apart, distinct, same_index, bytes_eq-same}
+use Rattle.rmt_check.proofs.LawDistinct.{AreApart, names_of, are_apart, distinct, same_index, known_here, number_here}
 use Rattle.rmt_check.proofs.LawNodes.{all_at}
 use Rattle.rmt_check.proofs.LawRules.{KeepsRules, tables_of, unknown_at_node, not_applied}
 
@@ -44,14 +42,6 @@ there_once (n ∷ ns) q h known = sum_by-cons (λ x. cond (bytes_eq q x) 1 0) n 
     by true same k rest = ap (λ (m : ℕ). 1 + m) (not_there ns q (subst (λ x. is_known ns x ≡ false) (sym ((bytes_eq-Decides q n).0 same)) h.0))
     by false same k rest = ap (λ (m : ℕ). 0 + m) (rest k)
 
--- an item of a list without repeats stands at its first place
-one_place : (ns : List (List ℕ)) → AreDistinct ns → (i j : ℕ) (a b : List ℕ) → slice_get ns i ≡ Some a → slice_get ns j ≡ Some b → a ≡ b → i ≡ j
-one_place ns h i j a b ei ej same = ⊎_elim (λ e. e) (⊎_elim (λ lt. absurd (apart i j a b ei ej same lt)) (λ lt. absurd (apart j i b a ej ei (sym same) lt))) (cases_order i j)
-  where
-    apart : (i j : ℕ) (a b : List ℕ) → slice_get ns i ≡ Some a → slice_get ns j ≡ Some b → a ≡ b → i < j → ⊥
-    apart i j a b ei ej same lt =
-        h i j [] lt (slice_get_within ns j b ej) (get_or_from_slice_get ns i a [] ei ∙ same ∙ sym (get_or_from_slice_get ns j b [] ej))
-
 module _ (s : Source) (h : KeepsRules s) (t : ℕ) (table : TableText) (at : slice_get s.tables t ≡ Some table) where
   distinct_tables : AreDistinct (table_names s)
   distinct_tables = subst AreDistinct (map-map (λ (i : Ident). i.name) (λ (x : TableText). x.ident) s.tables) (distinct (tables_of s) h.tables_once)
@@ -59,23 +49,17 @@ module _ (s : Source) (h : KeepsRules s) (t : ℕ) (table : TableText) (at : sli
   name_at : slice_get (table_names s) t ≡ Some table.ident.name
   name_at = slice_get-map (λ (x : TableText). x.ident.name) s.tables t ∙ ap (option_map (λ (x : TableText). x.ident.name)) at
 
-  known_here : is_known (table_names s) table.ident.name ≡ true
-  known_here =
-      list_any_at (bytes_eq table.ident.name) (table_names s) t [] (slice_get_within (table_names s) t table.ident.name name_at)
-      (subst (λ n. bytes_eq table.ident.name n ≡ true) (sym (get_or_from_slice_get (table_names s) t table.ident.name [] name_at)) (bytes_eq-same table.ident.name))
+  is_there : is_known (table_names s) table.ident.name ≡ true
+  is_there = known_here (table_names s) t table.ident.name name_at
 
-  number_here : index_of (table_names s) table.ident.name ≡ t
-  number_here =
-      let r = stands_for (λ (x : TableText). x.ident.name) table.ident.name s.tables known_here in
-      let first : slice_get (table_names s) (index_of (table_names s) table.ident.name) ≡ Some r.item.ident.name =
-      slice_get-map (λ (x : TableText). x.ident.name) s.tables (index_of (table_names s) table.ident.name) ∙ ap (option_map (λ (x : TableText). x.ident.name)) r.at in
-      one_place (table_names s) distinct_tables (index_of (table_names s) table.ident.name) t r.item.ident.name table.ident.name first name_at (sym r.named)
+  number : index_of (table_names s) table.ident.name ≡ t
+  number = number_here (table_names s) t table.ident.name name_at distinct_tables
 
   -- a node applies the table where it names it
   agrees : (i : Ident) → is_known (table_names s) i.name ≡ true → (t == index_of (table_names s) i.name) ≡ bytes_eq table.ident.name i.name
-  agrees i known =
+  agrees i there =
       same_from_decides (t == index_of (table_names s) i.name) (bytes_eq table.ident.name i.name)
-      (Decides-like (t == index_of (table_names s) i.name) (λ e. same_index (table_names s) table.ident.name i.name known_here known (number_here ∙ e)) (λ same. sym number_here ∙ ap (index_of (table_names s)) same)
+      (Decides-like (t == index_of (table_names s) i.name) (λ e. same_index (table_names s) table.ident.name i.name is_there there (number ∙ e)) (λ same. sym number ∙ ap (index_of (table_names s)) same)
       (Decides-eqb t (index_of (table_names s) i.name)))
       (bytes_eq-Decides table.ident.name i.name)
 

@@ -15,7 +15,7 @@ use Rattle.rmt_check.specs.declared.source.Source.{Source}
 use Rattle.rmt_check.specs.Names.{Known, printed, known_fields, header_fields, metadata, fields_of}
 use Rattle.rmt_check.specs.Meaning.{field_of, header_from, headers_from, program_of}
 
-pub length-header_fields : (h : HeaderText) → length (header_fields h) ≡ suc (length h.fields)
+length-header_fields : (h : HeaderText) → length (header_fields h) ≡ suc (length h.fields)
 length-header_fields h = ap suc (length-map h.fields (λ (d : Declared). (printed h.ident.name d.ident.name, d.width.value)))
 
 -- the fields before those of a header, and its number: that of its valid
@@ -55,7 +55,7 @@ numbers_in_order s n (h ∷ hs) =
 pub header_numbers : (s : Source) → length (formed.header_fields (program_of s)) ≡ length (flat_map header_fields s.headers)
 header_numbers s = ap length (numbers_in_order s 3 s.headers) ∙ length-range_with_len 3 (length (flat_map header_fields s.headers))
 
-slice_get_behind : {X : Type 0} (xs ys : List X) (i m : ℕ) → m ≡ length xs + i → slice_get (xs ++ ys) m ≡ slice_get ys i
+pub slice_get_behind : {X : Type 0} (xs ys : List X) (i m : ℕ) → m ≡ length xs + i → slice_get (xs ++ ys) m ≡ slice_get ys i
 slice_get_behind [] ys i m e = let f : m ≡ i = omega arith in ap (slice_get ys) f
 slice_get_behind (x ∷ xs) ys i zero e = absurd (omega arith)
 slice_get_behind (x ∷ xs) ys i (suc m) e = slice_get_behind xs ys i m (omega arith)
@@ -66,7 +66,7 @@ slice_get_before (y ∷ xs) ys zero x e = e
 slice_get_before (y ∷ xs) ys (suc i) x e = slice_get_before xs ys i x e
 
 module _ (s : Source) (before : List HeaderText) (h : HeaderText) (after : List HeaderText) (here : s.headers ≡ before ++ h ∷ after) where
-  pub fields_split : fields_of s ≡ front before ++ (header_fields h ++ back s after)
+  fields_split : fields_of s ≡ front before ++ (header_fields h ++ back s after)
   fields_split =
       let inside : flat_map header_fields s.headers ≡ flat_map header_fields before ++ (header_fields h ++ flat_map header_fields after) =
       ap (flat_map header_fields) here ∙ flat_map-append header_fields before (h ∷ after) in

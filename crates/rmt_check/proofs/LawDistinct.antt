@@ -1,11 +1,12 @@
 -- Names that do not repeat, and the numbers that they stand for.
-use Rattle.std.proofs.Common.{◌≡◌, ◌≢◌, ℕ, List, [], ◌∷◌, ◌++◌, Bool, true, false, if◌then◌else◌, Some, map, slice_get, All, refl, sym, ap, subst, ◌∙◌}
+use Rattle.std.proofs.Common.{◌≡◌, ◌≢◌, ℕ, ◌<◌, List, [], ◌∷◌, ◌++◌, Bool, true, false, ◌||◌, if◌then◌else◌, Some, map, slice_get, All, refl, sym, ap, ap₂, subst, ◌∙◌, ⊎_elim}
 use Rattle.std.specs.Str.{bytes_eq}
-use Rattle.std.proofs.lemmas.Bool.{or_parts, or_from, or_right, both_ways}
+use Rattle.std.proofs.lemmas.Bool.{or_parts, or_from, or_right, both_ways, cases_order}
+use Rattle.std.proofs.lemmas.Bool.Decides.{same_from_decides, Decides-like}
 use Rattle.std.proofs.lemmas.List.Elements.{All-nil, All-cons, All-head, All-tail}
-use Rattle.std.proofs.lemmas.List.Folds.{list_any-append}
+use Rattle.std.proofs.lemmas.List.Folds.{list_any-append, list_any_at}
 use Rattle.std.proofs.lemmas.List.Kept.{AllPairs-cons}
-use Rattle.std.proofs.lemmas.Option.{same_Some}
+use Rattle.std.proofs.lemmas.Option.{same_Some, slice_get_within, get_or_from_slice_get}
 use Rattle.std.proofs.lemmas.Slice.Eq.{bytes_eq-Decides}
 use Rattle.rmt_ast.specs.WellFormed.{AreDistinct}
 use Rattle.rmt_ast.proofs.WellFormedLemmas.{AllPairs-none}
@@ -14,7 +15,7 @@ use Rattle.rmt_check.specs.Names.{is_known}
 use Rattle.rmt_check.specs.Rules.{repeated_after, repeated}
 use Rattle.rmt_check.specs.Meaning.{index_of}
 use Rattle.rmt_check.proofs.LawLists.{cons_not_nil}
-use Rattle.rmt_check.proofs.LawNames.{stands_for}
+use Rattle.rmt_check.proofs.LawNames.{known_at}
 
 abbrev pub names_of : List Ident → List (List ℕ)
 names_of xs = map (λ (x : Ident). x.name) xs
@@ -69,19 +70,38 @@ distinct xs e = distinct_names (names_of xs) (are_apart xs e)
 
 -- two names of one number are equal
 pub same_index : (names : List (List ℕ)) (p q : List ℕ) → is_known names p ≡ true → is_known names q ≡ true → index_of names p ≡ index_of names q → p ≡ q
-same_index names p q hp hq e = by names (map-same names) hp hq e
-  where
-    map-same : (xs : List (List ℕ)) → map (λ x. x) xs ≡ xs
-    map-same [] = refl
-    map-same (x ∷ xs) = ap (λ ys. x ∷ ys) (map-same xs)
+same_index names p q hp hq e = same_Some p q (sym (known_at names p hp) ∙ ap (slice_get names) e ∙ known_at names q hq)
 
-    by : (ns : List (List ℕ)) → map (λ x. x) ns ≡ ns → is_known ns p ≡ true → is_known ns q ≡ true → index_of ns p ≡ index_of ns q → p ≡ q
-    by ns m kp kq same =
-        let a = stands_for (λ (x : List ℕ). x) p ns (subst (λ l. is_known l p ≡ true) (sym m) kp) in
-        let b = stands_for (λ (x : List ℕ). x) q ns (subst (λ l. is_known l q ≡ true) (sym m) kq) in
-        let one : slice_get ns (index_of ns p) ≡ Some a.item = subst (λ l. slice_get ns (index_of l p) ≡ Some a.item) m a.at in
-        let two : slice_get ns (index_of ns p) ≡ Some b.item = subst (λ n. slice_get ns n ≡ Some b.item) (sym same) (subst (λ l. slice_get ns (index_of l q) ≡ Some b.item) m b.at) in
-        a.named ∙ same_Some a.item b.item (sym one ∙ two) ∙ sym b.named
+-- a name of a list without repeats has the number at which it stands
+module _ (names : List (List ℕ)) (i : ℕ) (q : List ℕ) (at : slice_get names i ≡ Some q) where
+  pub known_here : is_known names q ≡ true
+  known_here =
+      list_any_at (bytes_eq q) names i [] (slice_get_within names i q at)
+      (subst (λ n. bytes_eq q n ≡ true) (sym (get_or_from_slice_get names i q [] at)) (bytes_eq-same q))
+
+  pub number_here : AreDistinct names → index_of names q ≡ i
+  number_here distinct =
+      let here = known_at names q known_here in
+      ⊎_elim (λ same. same) (⊎_elim (λ lt. absurd (apart (index_of names q) i here at lt)) (λ lt. absurd (apart i (index_of names q) at here lt))) (cases_order (index_of names q) i)
+    where
+      apart : (j k : ℕ) → slice_get names j ≡ Some q → slice_get names k ≡ Some q → j < k → ⊥
+      apart j k ej ek lt = distinct j k [] lt (slice_get_within names k q ek) (get_or_from_slice_get names j q [] ej ∙ sym (get_or_from_slice_get names k q [] ek))
+
+-- names that are made of names
+module _ (f : List ℕ → List ℕ) (one : (a b : List ℕ) → f a ≡ f b → a ≡ b) where
+  made_eq : (a b : List ℕ) → bytes_eq (f a) (f b) ≡ bytes_eq a b
+  made_eq a b =
+      same_from_decides (bytes_eq (f a) (f b)) (bytes_eq a b)
+      (Decides-like (bytes_eq (f a) (f b)) (one a b) (ap f) (bytes_eq-Decides (f a) (f b)))
+      (bytes_eq-Decides a b)
+
+  pub known_made : (ns : List (List ℕ)) (n : List ℕ) → is_known (map f ns) (f n) ≡ is_known ns n
+  known_made [] n = refl
+  known_made (m ∷ ns) n = ap₂ (λ (a b : Bool). a || b) (made_eq n m) (known_made ns n)
+
+  pub apart_made : (ns : List (List ℕ)) → AreApart ns → AreApart (map f ns)
+  apart_made [] h = tt
+  apart_made (n ∷ ns) h = (known_made ns n ∙ h.0, apart_made ns h.1)
 
 -- the numbers of known names that do not repeat
 pub distinct_numbers : (names : List (List ℕ)) (xs : List Ident) → All (λ (x : Ident). is_known names x.name ≡ true) xs → AreApart (names_of xs)

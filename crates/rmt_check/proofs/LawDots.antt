@@ -1,17 +1,13 @@
 -- Printed names: what is before the dot, and what is behind it.
-use Rattle.std.proofs.Common.{◌≡◌, ◌≢◌, ℕ, List, [], ◌∷◌, ◌++◌, Bool, true, not, ◌==◌, ◌||◌, unwrap_or, map, codes, drop, slice_get, refl, sym, ap, ap₂, subst, ◌∙◌, append_assoc}
+use Rattle.std.proofs.Common.{◌≡◌, ◌≢◌, ℕ, List, [], ◌∷◌, ◌++◌, true, not, ◌==◌, codes, refl, sym, ap₂, subst, ◌∙◌, append_assoc}
 use Rattle.std.specs.List.{list_all}
-use Rattle.std.specs.Str.{bytes_eq}
 use Rattle.std.proofs.lemmas.Bool.{not-true, eqb-false}
-use Rattle.std.proofs.lemmas.Bool.Decides.{same_from_decides, Decides-like}
 use Rattle.std.proofs.lemmas.List.{append_cancel_left}
 use Rattle.std.proofs.lemmas.List.Elements.{All-head, All-tail}
-use Rattle.std.proofs.lemmas.Slice.Eq.{bytes_eq-Decides}
 use Rattle.rmt_ast.proofs.WellFormedLemmas.{All-from_test}
-use Rattle.rmt_check.specs.Names.{is_known, printed}
+use Rattle.rmt_check.specs.Names.{printed}
 use Rattle.rmt_check.specs.Naming.{HasNoDot}
-use Rattle.rmt_check.proofs.LawLists.{All-mid}
-use Rattle.rmt_check.proofs.LawDistinct.{AreApart}
+use Rattle.rmt_check.proofs.LawLists.{All-mid, same_head, same_tail}
 
 -- a name whose bytes are tested
 pub no_dot : (name : List ℕ) → list_all (λ (b : ℕ). not (b == 46)) name ≡ true → HasNoDot name
@@ -20,12 +16,6 @@ no_dot name e = All-from_test (λ b. b ≢ 46) (λ (b : ℕ). not (b == 46)) (λ
 -- a printed name has a dot
 pub not_printed : (name owner field : List ℕ) → HasNoDot name → name ≡ printed owner field → ⊥
 not_printed name owner field plain e = All-mid (λ b. b ≢ 46) owner 46 field (subst HasNoDot (e ∙ append_assoc owner (46 ∷ []) field) plain) refl
-
-same_head : (a b : ℕ) (xs ys : List ℕ) → a ∷ xs ≡ b ∷ ys → a ≡ b
-same_head a b xs ys e = ap (λ (l : List ℕ). unwrap_or (slice_get l 0) 0) e
-
-same_tail : (a b : ℕ) (xs ys : List ℕ) → a ∷ xs ≡ b ∷ ys → xs ≡ ys
-same_tail a b xs ys e = ap (λ (l : List ℕ). drop 1 l) e
 
 -- printed names are equal only of equal owners and fields
 pub same_printed : (o p f g : List ℕ) → HasNoDot o → HasNoDot p → printed o f ≡ printed p g → (o ≡ p) × (f ≡ g)
@@ -39,18 +29,3 @@ same_printed (b ∷ o) (c ∷ p) f g ho hp e =
 -- of one owner
 pub same_field : (o f g : List ℕ) → printed o f ≡ printed o g → f ≡ g
 same_field o f g e = append_cancel_left (o ++ codes ".") f g e
-
-printed_eq : (o f g : List ℕ) → bytes_eq (printed o f) (printed o g) ≡ bytes_eq f g
-printed_eq o f g =
-    same_from_decides (bytes_eq (printed o f) (printed o g)) (bytes_eq f g)
-    (Decides-like (bytes_eq (printed o f) (printed o g)) (same_field o f g) (ap (printed o)) (bytes_eq-Decides (printed o f) (printed o g)))
-    (bytes_eq-Decides f g)
-
-pub known_printed : (o : List ℕ) (ns : List (List ℕ)) (n : List ℕ) → is_known (map (printed o) ns) (printed o n) ≡ is_known ns n
-known_printed o [] n = refl
-known_printed o (m ∷ ns) n = ap₂ (λ (a b : Bool). a || b) (printed_eq o n m) (known_printed o ns n)
-
--- printed names of one owner do not repeat where those of the fields do not
-pub apart_printed : (o : List ℕ) (ns : List (List ℕ)) → AreApart ns → AreApart (map (printed o) ns)
-apart_printed o [] h = tt
-apart_printed o (n ∷ ns) h = (known_printed o ns n ∙ h.0, apart_printed o ns h.1)

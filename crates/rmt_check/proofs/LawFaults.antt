@@ -8,8 +8,8 @@ use Rattle.rmt_lexer.specs.declared.place.Place.{Place}
 use Rattle.rmt_check.specs.declared.source.Ident.{Ident}
 use Rattle.rmt_check.specs.declared.source.FieldText.{FieldText}
 use Rattle.rmt_check.specs.declared.source.Source.{Source}
-use Rattle.rmt_check.specs.Names.{is_known, field_names}
-use Rattle.rmt_check.specs.Rules.{when, earlier, earliest, least_of, broken, broken_5, broken_6, broken_7, broken_8, broken_9, broken_10, broken_11, broken_12, broken_13, broken_14, broken_15, broken_16, broken_17, broken_18, broken_20, fault_of, unknown, unknown_header, unknown_field}
+use Rattle.rmt_check.specs.Names.{is_known, key_of}
+use Rattle.rmt_check.specs.Rules.{when, earlier, earliest, least_of, broken, broken_5, broken_6, broken_7, broken_8, broken_9, broken_10, broken_11, broken_12, broken_13, broken_14, broken_15, broken_16, broken_17, broken_18, broken_20, fault_of, unknown, unknown_owner, is_field, unknown_field}
 use Rattle.rmt_check.proofs.LawLists.{cons_not_nil, none_left, none_right, none_in}
 
 -- no rule is broken
@@ -87,5 +87,5 @@ all_known names xs e k d lt = no_when_not _ _ (none_in (λ (x : Ident). when (no
 pub one_known : (names : List (List ℕ)) (x : Ident) → unknown names (x ∷ []) ≡ [] → is_known names x.name ≡ true
 one_known names x e = no_when_not (is_known names x.name) x.place (none_left (when (not (is_known names x.name)) x.place) [] e)
 
-pub field_known : (s : Source) (f : FieldText) → unknown_field s f ≡ [] → is_known (field_names s) f.ident.name ≡ true
-field_known s f e = one_known (field_names s) f.ident (none_right (unknown_header s f.header) (unknown (field_names s) (f.ident ∷ [])) e)
+pub field_known : (s : Source) (f : FieldText) → unknown_field s f ≡ [] → is_field s (key_of s f) ≡ true
+field_known s f e = no_when_not (is_field s (key_of s f)) f.ident.place (none_right (unknown_owner s f.owner) (when (not (is_field s (key_of s f))) f.ident.place) e)

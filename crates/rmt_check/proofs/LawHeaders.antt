@@ -1,11 +1,10 @@
 -- The headers of a text that breaks no rule.
-use Rattle.std.proofs.Common.{◌≡◌, ◌≢◌, ℕ, zero, suc, ◌+◌, ◌*◌, ◌/◌, ◌%◌, ◌<◌, ◌≤◌, List, [], ◌∷◌, ◌++◌, Bool, true, false, not, ◌&&◌, ◌==◌, if◌then◌else◌, nat_le, Some, Option, option_map, map, zip, sum, codes, length, take, slice_get, get_or, All, Contains, refl, sym, ap, ap₂, subst, ◌∙◌, zero-add, arith}
+use Rattle.std.proofs.Common.{◌≡◌, ℕ, suc, ◌+◌, ◌*◌, ◌/◌, ◌%◌, ◌≤◌, List, [], ◌∷◌, ◌++◌, Bool, true, false, not, ◌&&◌, ◌==◌, if◌then◌else◌, nat_le, Some, Option, option_map, map, zip, sum, codes, length, take, slice_get, get_or, All, Contains, refl, sym, ap, ap₂, subst, ◌∙◌, zero-add, arith}
 use Rattle.std.specs.List.{flat_map, enumerate_from, range_with_len}
 use Rattle.std.proofs.lemmas.Bool.{leb-true, leb-false, eqb-true, and_parts}
 use Rattle.std.proofs.lemmas.List.Concat.{flat_map-append}
 use Rattle.std.proofs.lemmas.List.Elements.{All-nil, All-cons, All-head, All-tail, All-map}
-use Rattle.std.proofs.lemmas.List.FromFn.{length-range_with_len, get_or-range_with_len}
-use Rattle.std.proofs.lemmas.Option.{slice_get-map, slice_get_within, same_Some}
+use Rattle.std.proofs.lemmas.Option.{slice_get-map}
 use Rattle.std.proofs.lemmas.Simd.{map-map}
 use Rattle.rmt_ast.specs.State as state
 use Rattle.rmt_ast.specs.WellFormed.{AllNumbered, AreDistinct, IsTest, AreTests, IsTarget, IsCase, IsHeader}
@@ -18,21 +17,19 @@ use Rattle.rmt_check.specs.declared.source.TargetText.TheVariants as target
 use Rattle.rmt_check.specs.declared.source.CaseText.{CaseText}
 use Rattle.rmt_check.specs.declared.source.HeaderText.{HeaderText}
 use Rattle.rmt_check.specs.declared.source.Source.{Source}
-use Rattle.rmt_check.specs.Names.{Known, number_of, is_known, header_names, printed, header_fields, fields_of, field_names, width_of, selected}
-use Rattle.rmt_check.specs.Rules.{when, repeated, unknown, target_names, targets, unknown_select, is_size, bits_of, is_at_most, too_wide_value, too_wide_case, bad_case, value_place}
+use Rattle.rmt_check.specs.Names.{number_of, is_known, header_names, printed, key, field_keys, header_owner, width_of, selected}
+use Rattle.rmt_check.specs.Rules.{when, repeated, unknown, target_names, targets, is_field, unknown_select, is_size, bits_of, is_at_most, too_wide_value, too_wide_case, bad_case, value_place}
 use Rattle.rmt_check.specs.Meaning.{index_of, field_number, test_of, target_of, case_of, header_from, headers_from, program_of}
 use Rattle.rmt_check.specs.Naming.{IsHeaderText}
-use Rattle.rmt_check.proofs.LawLists.{none_left, none_in, none_in_2, none_mapped, cons_not_nil, All-mid, All-front, All-behind, none_numbered}
-use Rattle.rmt_check.proofs.LawNames.{stands_for, stands_within, number_at}
+use Rattle.rmt_check.proofs.LawLists.{same_tail, none_left, none_in, none_in_2, none_mapped, cons_not_nil, All-mid, none_numbered}
+use Rattle.rmt_check.proofs.LawNames.{stands_within, number_at}
 use Rattle.rmt_check.proofs.LawFaults.{no_when, no_when_not, one_known}
-use Rattle.rmt_check.proofs.LawDistinct.{AreApart, names_of, are_apart, distinct_numbers}
+use Rattle.rmt_check.proofs.LawDistinct.{AreApart, names_of, are_apart, apart_made, distinct_numbers}
 use Rattle.rmt_check.proofs.LawTests.{test_law}
 use Rattle.rmt_check.proofs.LawFields.{field_width}
 use Rattle.rmt_check.proofs.LawCounts.{length-headers_from}
-use Rattle.rmt_check.proofs.LawDots.{apart_printed, same_field}
-use Rattle.rmt_check.proofs.LawNodes.{all_at}
-use Rattle.rmt_check.proofs.LawBlocks.{length-header_fields, front, back, start_of, fields_split, width_at, each_header}
-use Rattle.rmt_check.proofs.LawOwners.{NoneIs, not_in_front, not_in_back, others_of}
+use Rattle.rmt_check.proofs.LawKeys.{own}
+use Rattle.rmt_check.proofs.LawBlocks.{start_of, width_at, each_header}
 use Rattle.rmt_check.proofs.LawRules.{KeepsRules, unknown_targets, bad_size, early_targets, case_widths, repeated_select, bad_cases}
 
 -- numbers in a row, and what stands at them
@@ -65,28 +62,29 @@ same_count h c some e = by (length h.select == length c.values) refl e
         one [] l e = absurd (omega arith)
         one (v ∷ vs) l e = cons_not_nil v [] e
 
-module _ (s : Source) (h : HeaderText) (known : All (λ (i : Ident). is_known (field_names s) (selected h i) ≡ true) h.select) where
-  tests_of : (is : List Ident) (vs : List ValueText) → All (λ (i : Ident). is_known (field_names s) (selected h i) ≡ true) is → length is ≡ length vs
-      → flat_map (λ (x : Ident × ValueText). too_wide_value (width_of s (selected h x.0)) x.1) (zip is vs) ≡ []
-      → AreTests (program_of s) (map (λ (i : Ident). field_number s (selected h i)) is) (map (λ (x : Ident × ValueText). test_of (width_of s (selected h x.0)) x.1) (zip is vs))
+module _ (s : Source) (h : HeaderText) (known : All (λ (i : Ident). is_field s (selected s h i) ≡ true) h.select) where
+  tests_of : (is : List Ident) (vs : List ValueText) → All (λ (i : Ident). is_field s (selected s h i) ≡ true) is → length is ≡ length vs
+      → flat_map (λ (x : Ident × ValueText). too_wide_value (width_of s (selected s h x.0)) x.1) (zip is vs) ≡ []
+      → AreTests (program_of s) (map (λ (i : Ident). field_number s (selected s h i)) is) (map (λ (x : Ident × ValueText). test_of (width_of s (selected s h x.0)) x.1) (zip is vs))
   tests_of [] [] k same e = tt
   tests_of [] (v ∷ vs) k same e = absurd (omega arith)
   tests_of (i ∷ is) [] k same e = absurd (omega arith)
   tests_of (i ∷ is) (v ∷ vs) k same e =
-      let parts = none_in_2 (too_wide_value (width_of s (selected h i)) v) (flat_map (λ (x : Ident × ValueText). too_wide_value (width_of s (selected h x.0)) x.1) (zip is vs)) e in (
-        subst (λ w. IsTest w (test_of (width_of s (selected h i)) v)) (sym (field_width s (selected h i) (All-head (λ (j : Ident). is_known (field_names s) (selected h j) ≡ true) i is k)))
-            (test_law (width_of s (selected h i)) v parts.0),
-        tests_of is vs (All-tail (λ (j : Ident). is_known (field_names s) (selected h j) ≡ true) i is k) (omega arith) parts.1,
+      let parts = none_in_2 (too_wide_value (width_of s (selected s h i)) v) (flat_map (λ (x : Ident × ValueText). too_wide_value (width_of s (selected s h x.0)) x.1) (zip is vs)) e in (
+        subst (λ w. IsTest w (test_of (width_of s (selected s h i)) v)) (sym (field_width s (selected s h i) (All-head (λ (j : Ident). is_field s (selected s h j) ≡ true) i is k)))
+            (test_law (width_of s (selected s h i)) v parts.0),
+        tests_of is vs (All-tail (λ (j : Ident). is_field s (selected s h j) ≡ true) i is k) (omega arith) parts.1,
       )
 
-  once : repeated h.select ≡ [] → AreDistinct (map (λ (i : Ident). field_number s (selected h i)) h.select)
+  once : repeated h.select ≡ [] → AreDistinct (map (λ (i : Ident). field_number s (selected s h i)) h.select)
   once e =
-      let as_printed = λ (i : Ident). let j : Ident = record { place = i.place; name = selected h i } in j in
-      let apart : AreApart (map (λ (i : Ident). selected h i) h.select) =
-      subst AreApart (map-map (printed h.ident.name) (λ (i : Ident). i.name) h.select) (apart_printed h.ident.name (names_of h.select) (are_apart h.select e)) in
-      subst AreDistinct (map-map (λ (x : Ident). index_of (field_names s) x.name) as_printed h.select)
-      (distinct_numbers (field_names s) (map as_printed h.select) (All-map (λ (x : Ident). is_known (field_names s) x.name ≡ true) as_printed h.select known)
-      (subst AreApart (sym (map-map (λ (x : Ident). x.name) as_printed h.select)) apart))
+      let owner = header_owner s h.ident.name in
+      let as_keyed = λ (i : Ident). let j : Ident = record { place = i.place; name = selected s h i } in j in
+      let apart : AreApart (map (selected s h) h.select) =
+      subst AreApart (map-map (key owner) (λ (i : Ident). i.name) h.select) (apart_made (key owner) (same_tail owner owner) (names_of h.select) (are_apart h.select e)) in
+      subst AreDistinct (map-map (λ (x : Ident). field_number s x.name) as_keyed h.select)
+      (distinct_numbers (field_keys s) (map as_keyed h.select) (All-map (λ (x : Ident). is_field s x.name ≡ true) as_keyed h.select known)
+      (subst AreApart (sym (map-map (λ (x : Ident). x.name) as_keyed h.select)) apart))
 
 -- a target that is known and later
 target_law : (s : Source) (n : ℕ) (t : TargetText) → unknown (header_names s) (target_names t) ≡ []
@@ -95,7 +93,7 @@ target_law s n target.Accept known later = tt
 target_law s n target.Reject known later = tt
 target_law s n (target.Header i) known later =
     let k = one_known (header_names s) i known in
-    let at = number_at (λ (x : HeaderText). x.ident.name) i.name s.headers k in
+    let at = number_at (header_names s) i.name k in
     let not_early : is_at_most (number_of (header_names s) i.name) n ≡ false = no_when (is_at_most (number_of (header_names s) i.name) n) i.place (none_left (when (is_at_most (number_of (header_names s) i.name) n) i.place) [] later) in
     let l = stands_within (λ (x : HeaderText). x.ident.name) i.name s.headers k in
     let m = length-headers_from s 3 s.headers in
@@ -113,54 +111,14 @@ none_in_targets f h e =
     let parts = none_in_2 (flat_map f (flat_map (λ (c : CaseText). target_names c.target) h.cases)) (flat_map f (target_names h.other)) (sym (flat_map-append f (flat_map (λ (c : CaseText). target_names c.target) h.cases) (target_names h.other)) ∙ e) in
     (none_in_cases f h.cases parts.0, parts.1)
 
--- what is named so and stands neither in front nor behind stands between
-module _ (q : List ℕ) where
-  not_behind : (mid post : List Known) (f : ℕ) (x : Known) → slice_get (mid ++ post) f ≡ Some x → x.0 ≡ q → NoneIs q post → slice_get mid f ≡ Some x
-  not_behind [] post f x e same none = absurd (all_at (λ (y : Known). y.0 ≢ q) post f x none e same)
-  not_behind (m ∷ mid) post zero x e same none = e
-  not_behind (m ∷ mid) post (suc f) x e same none = not_behind mid post f x e same none
-
-  between : (pre mid post : List Known) (f : ℕ) (x : Known) → slice_get (pre ++ (mid ++ post)) f ≡ Some x → x.0 ≡ q → NoneIs q pre → NoneIs q post
-      → (k : ℕ) × (f ≡ length pre + k) × (slice_get mid k ≡ Some x)
-  between [] mid post f x e same none behind = (f, omega arith, not_behind mid post f x e same behind)
-  between (p ∷ pre) mid post zero x e same none behind = absurd (All-head (λ (y : Known). y.0 ≢ q) p pre none (ap (λ (y : Known). y.0) (same_Some p x e) ∙ same))
-  between (p ∷ pre) mid post (suc f) x e same none behind =
-      let r = between pre mid post f x e same (All-tail (λ (y : Known). y.0 ≢ q) p pre none) behind in let l = r.1 in (r.0, omega arith, r.2)
-
 module _ (s : Source) (keeps : KeepsRules s) (text : All IsHeaderText s.headers) (before : List HeaderText) (h : HeaderText) (after : List HeaderText) (e : s.headers ≡ before ++ h ∷ after) where
   here : (P : HeaderText → Type 0) → All P s.headers → P h
   here P all = All-mid P before h after (subst (All P) e all)
 
-  texts : All IsHeaderText (before ++ h ∷ after)
-  texts = subst (All IsHeaderText) e text
-
-  -- a field of the select is one of the header's own
-  own : (i : Ident) → is_known (field_names s) (selected h i) ≡ true → i.name ≢ codes "valid" → Contains (range_with_len (start_of before + 1) (length h.fields)) (field_number s (selected h i))
-  own i known not_valid =
-      let r = stands_for (λ (f : Known). f.0) (selected h i) (fields_of s) known in
-      let plain = here IsHeaderText text in
-      let other = others_of s before h after e keeps in
-      let at = ap (λ (l : List Known). slice_get l (field_number s (selected h i))) (sym (fields_split s before h after e)) ∙ r.at in
-      let place = between (selected h i) (front before) (header_fields h) (back s after) (field_number s (selected h i)) r.item at (sym r.named)
-      (not_in_front (selected h i) h.ident.name i.name refl plain.no_dot before (All-front IsHeaderText before (h ∷ after) texts) other.0)
-      (not_in_back (selected h i) h.ident.name i.name refl plain.no_dot s after (All-behind IsHeaderText before h after texts) other.1 plain.not_meta) in
-      by place.0 place.1 place.2 r.named
-    where
-      by : (k : ℕ) → field_number s (selected h i) ≡ length (front before) + k → {x : Known} → slice_get (header_fields h) k ≡ Some x → selected h i ≡ x.0
-          → Contains (range_with_len (start_of before + 1) (length h.fields)) (field_number s (selected h i))
-      by zero is {x} at named = absurd (not_valid (same_field h.ident.name i.name (codes "valid") (named ∙ ap (λ (y : Known). y.0) (same_Some x (printed h.ident.name (codes "valid"), 1) (sym at)))))
-      by (suc k) is {x} at named =
-          let l = slice_get_within (header_fields h) (suc k) x at in
-          let m = length-header_fields h in
-          let within : k < length h.fields = omega arith in
-          let long = length-range_with_len (start_of before + 1) (length h.fields) in
-          let number : start_of before + 1 + k ≡ field_number s (selected h i) = omega arith in
-          (k, omega arith, get_or-range_with_len (start_of before + 1) (length h.fields) k (field_number s (selected h i)) within ∙ number)
-
-  selects_known : All (λ (i : Ident). is_known (field_names s) (selected h i) ≡ true) h.select
+  selects_known : All (λ (i : Ident). is_field s (selected s h i) ≡ true) h.select
   selects_known k d lt =
-      no_when_not (is_known (field_names s) (selected h (get_or h.select k d))) (get_or h.select k d).place
-      (none_in (λ (i : Ident). when (not (is_known (field_names s) (selected h i))) i.place) h.select (here (λ (x : HeaderText). unknown_select s x ≡ []) keeps.select_known) k d lt)
+      no_when_not (is_field s (selected s h (get_or h.select k d))) (get_or h.select k d).place
+      (none_in (λ (i : Ident). when (not (is_field s (selected s h i))) i.place) h.select (here (λ (x : HeaderText). unknown_select s x ≡ []) keeps.select_known) k d lt)
 
   -- the widths of the header's fields by their numbers
   widths : map (state.width_of (program_of s)) (range_with_len (start_of before + 1) (length h.fields)) ≡ map (λ (d : Declared). d.width.value) h.fields
@@ -168,7 +126,7 @@ module _ (s : Source) (keeps : KeepsRules s) (text : All IsHeaderText s.headers)
       (λ i d at. width_at s before h after e (suc i) (start_of before + 1 + i) (printed h.ident.name d.ident.name, d.width.value) (omega arith)
       (slice_get-map (λ (x : Declared). (printed h.ident.name x.ident.name, x.width.value)) h.fields i ∙ ap (option_map (λ (x : Declared). (printed h.ident.name x.ident.name, x.width.value))) at))
 
-  plain_law : map (λ (i : Ident). field_number s (selected h i)) h.select ≡ [] → map (case_of s h) h.cases ≡ []
+  plain_law : map (λ (i : Ident). field_number s (selected s h i)) h.select ≡ [] → map (case_of s h) h.cases ≡ []
   plain_law none = by h.cases (here IsHeaderText text).cases (none_in (bad_case h) h.cases (here (λ (x : HeaderText). bad_cases x ≡ []) keeps.case_length))
     where
       by : (cs : List CaseText) → All (λ (c : CaseText). 1 ≤ length c.values) cs → All (λ (c : CaseText). bad_case h c ≡ []) cs → map (case_of s h) cs ≡ []
@@ -176,7 +134,7 @@ module _ (s : Source) (keeps : KeepsRules s) (text : All IsHeaderText s.headers)
       by (c ∷ cs) some good =
           let l = All-head (λ (c : CaseText). 1 ≤ length c.values) c cs some in
           let m = same_count h c l (All-head (λ (c : CaseText). bad_case h c ≡ []) c cs good) in
-          let n : length h.select ≡ 0 = ap length (none_mapped (λ (i : Ident). field_number s (selected h i)) h.select none) in
+          let n : length h.select ≡ 0 = ap length (none_mapped (λ (i : Ident). field_number s (selected s h i)) h.select none) in
           absurd (omega arith)
 
   pub header_law : IsHeader (program_of s) (length before) (header_from s (start_of before) h)
@@ -193,11 +151,11 @@ module _ (s : Source) (keeps : KeepsRules s) (text : All IsHeaderText s.headers)
         whole_bytes = ap sum widths ∙ size.0;
         is_not_empty = size.1;
         is_not_long = size.2;
-        selects_own = All-map (Contains (range_with_len (start_of before + 1) (length h.fields))) (λ (i : Ident). field_number s (selected h i)) h.select
-            (λ k d lt. own (get_or h.select k d) (selects_known k d lt) (plain.select k d lt));
+        selects_own = All-map (Contains (range_with_len (start_of before + 1) (length h.fields))) (λ (i : Ident). field_number s (selected s h i)) h.select
+            (λ k d lt. own s keeps before h after e (get_or h.select k d) (selects_known k d lt) (plain.select k d lt));
         selects_once = once s h selects_known (here (λ (x : HeaderText). repeated_select x ≡ []) keeps.select_once);
         plain = plain_law;
-        cases = All-map (IsCase (program_of s) (length before) (map (λ (i : Ident). field_number s (selected h i)) h.select)) (case_of s h) h.cases
+        cases = All-map (IsCase (program_of s) (length before) (map (λ (i : Ident). field_number s (selected s h i)) h.select)) (case_of s h) h.cases
             (λ k d lt. record {
               tests = tests_of s h selects_known h.select (get_or h.cases k d).values selects_known (same_count h (get_or h.cases k d) (plain.cases k d lt) (good k d lt)) (fit k d lt);
               target = target_law s (length before) (get_or h.cases k d).target (known.0 k d lt) (later.0 k d lt);

@@ -1,10 +1,16 @@
 -- What an empty list says of the lists that it was made of.
-use Rattle.std.proofs.Common.{◌≡◌, ℕ, zero, suc, ◌+◌, ◌≤◌, List, [], ◌∷◌, ◌++◌, map, length, drop, All, refl, ap, subst, arith}
+use Rattle.std.proofs.Common.{◌≡◌, ℕ, zero, suc, ◌+◌, ◌≤◌, List, [], ◌∷◌, ◌++◌, unwrap_or, map, length, drop, slice_get, All, refl, ap, subst, arith}
 use Rattle.std.specs.List.{flat_map, enumerate_from}
 use Rattle.std.proofs.lemmas.List.Elements.{All-nil, All-cons, All-head, All-tail}
 
 pub cons_not_nil : {X : Type 0} (x : X) (xs : List X) → x ∷ xs ≡ [] → ⊥
 cons_not_nil x xs e = let l : suc (length xs) ≡ 0 = ap length e in absurd (omega (arith, l))
+
+pub same_head : {X : Type 0} (a b : X) (xs ys : List X) → a ∷ xs ≡ b ∷ ys → a ≡ b
+same_head a b xs ys e = ap (λ l. unwrap_or (slice_get l 0) a) e
+
+pub same_tail : {X : Type 0} (a b : X) (xs ys : List X) → a ∷ xs ≡ b ∷ ys → xs ≡ ys
+same_tail a b xs ys e = ap (drop 1) e
 
 pub none_left : {X : Type 0} (xs ys : List X) → xs ++ ys ≡ [] → xs ≡ []
 none_left [] ys e = refl
@@ -41,10 +47,6 @@ All-front P (b ∷ before) after h = All-cons P b before (All-head P b (before +
 pub All-back : {X : Type 0} (P : X → Type 0) (before after : List X) → All P (before ++ after) → All P after
 All-back P [] after h = h
 All-back P (b ∷ before) after h = All-back P before after (All-tail P b (before ++ after) h)
-
-pub All-behind : {X : Type 0} (P : X → Type 0) (before : List X) (x : X) (after : List X) → All P (before ++ x ∷ after) → All P after
-All-behind P [] x after h = All-tail P x after h
-All-behind P (b ∷ before) x after h = All-behind P before x after (All-tail P b (before ++ x ∷ after) h)
 
 -- a list that is joined of lists, one for each item and its number
 pub none_numbered : {X A : Type 0} (f : ℕ × X → List A) (n : ℕ) (before : List X) (x : X) (after : List X) → flat_map f (enumerate_from n (before ++ x ∷ after)) ≡ [] → f (n + length before, x) ≡ []

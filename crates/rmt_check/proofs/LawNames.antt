@@ -1,9 +1,9 @@
 -- A name that is known stands for the first that is equal.
-use Rattle.std.proofs.Common.{◌≡◌, ℕ, ◌+◌, ◌<◌, List, [], ◌∷◌, Bool, true, false, not, cond, ◌||◌, Some, map, find, slice_get, length, refl, sym, subst, one-add, arith}
+use Rattle.std.proofs.Common.{◌≡◌, ℕ, ◌+◌, ◌<◌, List, [], ◌∷◌, Bool, true, false, not, cond, ◌||◌, Some, Option, unwrap_or, map, find, slice_get, length, refl, sym, ap, subst, ◌∙◌, one-add, arith}
 use Rattle.std.specs.List.{position_or_len}
 use Rattle.std.specs.Str.{bytes_eq}
 use Rattle.std.proofs.lemmas.Bool.{false≢true, lt-ltb}
-use Rattle.std.proofs.lemmas.List.{length-map}
+use Rattle.std.proofs.lemmas.List.{length-map, map-id}
 use Rattle.std.proofs.lemmas.Option.{slice_get_within}
 use Rattle.std.proofs.lemmas.Slice.Eq.{bytes_eq-Decides}
 use Rattle.rmt_check.specs.Names.{number_of, is_known}
@@ -28,19 +28,15 @@ module _ {A : Type 0} (name : A → List ℕ) (q : List ℕ) where
       by true same h rest = (x, refl, refl, (bytes_eq-Decides q (name x)).0 same)
       by false same h rest = let r = rest h in (r.0, subst (λ n. slice_get (x ∷ xs) n ≡ Some r.0) (sym (one-add (position_or_len (bytes_eq q) (map name xs)))) r.1, r.2, r.3)
 
-  index_at : (xs : List A) → is_known (map name xs) q ≡ true → index_of (map name xs) q ≡ position_or_len (bytes_eq q) (map name xs)
-  index_at xs e =
+  number_found : (xs : List A) → is_known (map name xs) q ≡ true → number_of (map name xs) q ≡ Some (position_or_len (bytes_eq q) (map name xs))
+  number_found xs e =
       let r = item_at xs e in
       let within : position_or_len (bytes_eq q) (map name xs) < length xs = slice_get_within xs (position_or_len (bytes_eq q) (map name xs)) r.0 r.1 in
       let long : length (map name xs) ≡ length xs = length-map xs name in
       rw (lt-ltb (position_or_len (bytes_eq q) (map name xs)) (length (map name xs)) (omega arith)) refl
 
-  pub number_at : (xs : List A) → is_known (map name xs) q ≡ true → number_of (map name xs) q ≡ Some (index_of (map name xs) q)
-  number_at xs e =
-      let r = item_at xs e in
-      let within : position_or_len (bytes_eq q) (map name xs) < length xs = slice_get_within xs (position_or_len (bytes_eq q) (map name xs)) r.0 r.1 in
-      let long : length (map name xs) ≡ length xs = length-map xs name in
-      rw (lt-ltb (position_or_len (bytes_eq q) (map name xs)) (length (map name xs)) (omega arith)) refl
+  index_at : (xs : List A) → is_known (map name xs) q ≡ true → index_of (map name xs) q ≡ position_or_len (bytes_eq q) (map name xs)
+  index_at xs e = ap (λ (o : Option ℕ). unwrap_or o 0) (number_found xs e)
 
   pub stands_for : (xs : List A) → is_known (map name xs) q ≡ true → StandsFor name xs q
   stands_for xs e =
@@ -49,3 +45,14 @@ module _ {A : Type 0} (name : A → List ℕ) (q : List ℕ) where
 
   pub stands_within : (xs : List A) → is_known (map name xs) q ≡ true → index_of (map name xs) q < length xs
   stands_within xs e = let r = stands_for xs e in slice_get_within xs (index_of (map name xs) q) r.item r.at
+
+-- among names alone: the number, and the name that stands there
+pub number_at : (names : List (List ℕ)) (q : List ℕ) → is_known names q ≡ true → number_of names q ≡ Some (index_of names q)
+number_at names q =
+    subst (λ (ns : List (List ℕ)). is_known ns q ≡ true → number_of ns q ≡ Some (index_of ns q)) (map-id names)
+    (λ known. number_found (λ n. n) q names known ∙ ap Some (sym (index_at (λ n. n) q names known)))
+
+pub known_at : (names : List (List ℕ)) (q : List ℕ) → is_known names q ≡ true → slice_get names (index_of names q) ≡ Some q
+known_at names q =
+    subst (λ (ns : List (List ℕ)). is_known ns q ≡ true → slice_get names (index_of ns q) ≡ Some q) (map-id names)
+    (λ known. let r = stands_for (λ n. n) q names known in r.at ∙ ap Some (sym r.named))

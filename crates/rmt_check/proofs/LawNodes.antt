@@ -16,7 +16,7 @@ use Rattle.rmt_check.specs.declared.source.WhatText.{WhatText}
 use Rattle.rmt_check.specs.declared.source.WhatText.TheVariants.{Apply, If}
 use Rattle.rmt_check.specs.declared.source.NodeText.{NodeText}
 use Rattle.rmt_check.specs.declared.source.Source.{Source}
-use Rattle.rmt_check.specs.Names.{nodes_of, table_names, listed_by, width_of}
+use Rattle.rmt_check.specs.Names.{nodes_of, table_names, listed_by, key_of, width_of}
 use Rattle.rmt_check.specs.Rules.{unknown, unknown_in_node, too_wide_node, arm_names}
 use Rattle.rmt_check.specs.Meaning.{index_of, outcomes_of, all_outcomes, mask_in, guard_of, what_of, node_of, table_of, test_of, program_of}
 use Rattle.rmt_check.specs.Naming.{IsUnder}
@@ -75,7 +75,7 @@ module _ (s : Source) where
   what_law (If field mask value) known fits =
       let k = field_known s field known in
       let v : ValueText = record { value = value; mask = mask } in
-      (field_within s field.ident.name k, subst (λ w. IsTest w (test_of (width_of s field.ident.name) v)) (sym (field_width s field.ident.name k)) (test_law (width_of s field.ident.name) v fits))
+      (field_within s (key_of s field) k, subst (λ w. IsTest w (test_of (width_of s (key_of s field)) v)) (sym (field_width s (key_of s field) k)) (test_law (width_of s (key_of s field)) v fits))
 
   pub nodes_law : KeepsRules s → AllNumbered (λ n (x : NodeText). IsUnder n x.under) (nodes_of s) → AllNumbered (IsNode (program_of s)) (map (node_of s) (nodes_of s))
   nodes_law h under = numbered_map (IsNode (program_of s)) (node_of s) (nodes_of s) (λ n x e. record {

@@ -1,5 +1,5 @@
 -- Headers have names of their own, so that a printed name tells its header.
-use Rattle.std.proofs.Common.{◌≡◌, ◌≢◌, ℕ, List, [], ◌∷◌, ◌++◌, false, map, codes, get_or, All, refl, sym, subst, ◌∙◌}
+use Rattle.std.proofs.Common.{◌≡◌, ◌≢◌, ℕ, List, [], ◌∷◌, false, map, codes, get_or, All, refl, sym, subst, ◌∙◌}
 use Rattle.std.specs.List.{flat_map}
 use Rattle.std.proofs.lemmas.Bool.{both_ways, or_parts}
 use Rattle.std.proofs.lemmas.List.Elements.{All-nil, All-cons, All-head, All-tail, All-append, All-map}
@@ -12,11 +12,10 @@ use Rattle.rmt_check.specs.declared.source.HeaderText.{HeaderText}
 use Rattle.rmt_check.specs.declared.source.Source.{Source}
 use Rattle.rmt_check.specs.Names.{Known, is_known, header_names, printed, known_fields, header_fields, metadata}
 use Rattle.rmt_check.specs.Naming.{HasNoDot, IsHeaderText}
-use Rattle.rmt_check.proofs.LawLists.{All-mid}
 use Rattle.rmt_check.proofs.LawDistinct.{AreApart, are_apart}
-use Rattle.rmt_check.proofs.LawDots.{no_dot, not_printed, same_printed}
+use Rattle.rmt_check.proofs.LawDots.{no_dot, same_printed}
 use Rattle.rmt_check.proofs.LawRules.{KeepsRules, headers_of}
-use Rattle.rmt_check.proofs.LawBlocks.{front, back}
+use Rattle.rmt_check.proofs.LawBlocks.{back}
 
 -- headers of another name
 abbrev pub AreOthers : HeaderText → List HeaderText → Type 0
@@ -30,13 +29,6 @@ others_behind h (x ∷ hs) e =
     (λ same. both_ways (bytes_eq h.ident.name x.ident.name) parts.0 ((bytes_eq-Decides h.ident.name x.ident.name).1 (sym same)))
     (others_behind h hs parts.1)
 
-others : (before : List HeaderText) (h : HeaderText) (after : List HeaderText) → AreApart (map (λ (x : HeaderText). x.ident.name) (before ++ h ∷ after)) → AreOthers h before × AreOthers h after
-others [] h after apart = (All-nil (λ (x : HeaderText). x.ident.name ≢ h.ident.name), others_behind h after apart.0)
-others (b ∷ before) h after apart =
-    let rest = others before h after apart.1 in
-    let one : h.ident.name ≢ b.ident.name = All-mid (λ (x : HeaderText). x.ident.name ≢ b.ident.name) before h after (others_behind b (before ++ h ∷ after) apart.0) in
-    (All-cons (λ (x : HeaderText). x.ident.name ≢ h.ident.name) b before (λ same. one (sym same)) rest.0, rest.1)
-
 pub apart_headers : (s : Source) → KeepsRules s → AreApart (header_names s)
 apart_headers s h = subst AreApart (map-map (λ (i : Ident). i.name) (λ (x : HeaderText). x.ident) s.headers) (are_apart (headers_of s) h.headers_once)
 
@@ -49,7 +41,7 @@ module _ (q owner field : List ℕ) (is : q ≡ printed owner field) (plain : Ha
   not_known o ds dot differs =
       All-map (λ (f : Known). f.0 ≢ q) (λ (d : Declared). (printed o d.ident.name, d.width.value)) ds (λ k d lt same. differs (same_printed o owner (get_or ds k d).ident.name field dot plain (same ∙ is)).0)
 
-  pub not_in_headers : (hs : List HeaderText) → All IsHeaderText hs → All (λ (x : HeaderText). x.ident.name ≢ owner) hs → NoneIs q (flat_map header_fields hs)
+  not_in_headers : (hs : List HeaderText) → All IsHeaderText hs → All (λ (x : HeaderText). x.ident.name ≢ owner) hs → NoneIs q (flat_map header_fields hs)
   not_in_headers [] text differs = All-nil (λ (f : Known). f.0 ≢ q)
   not_in_headers (h ∷ hs) text differs =
       let here = All-head IsHeaderText h hs text in
@@ -60,18 +52,7 @@ module _ (q owner field : List ℕ) (is : q ≡ printed owner field) (plain : Ha
       (not_known h.ident.name h.fields here.no_dot other))
       (not_in_headers hs (All-tail IsHeaderText h hs text) (All-tail (λ (x : HeaderText). x.ident.name ≢ owner) h hs differs))
 
-  pub not_in_front : (before : List HeaderText) → All IsHeaderText before → All (λ (x : HeaderText). x.ident.name ≢ owner) before → NoneIs q (front before)
-  not_in_front before text differs =
-      let not : (name : List ℕ) → HasNoDot name → name ≡ q → ⊥ = λ name dot same. not_printed name owner field dot (same ∙ is) in
-      let rest = flat_map header_fields before in
-      All-cons (λ (f : Known). f.0 ≢ q) (codes "in_port", 9) ((codes "out_port", 9) ∷ (codes "drop", 1) ∷ rest) (not (codes "in_port") (no_dot (codes "in_port") refl))
-      (All-cons (λ (f : Known). f.0 ≢ q) (codes "out_port", 9) ((codes "drop", 1) ∷ rest) (not (codes "out_port") (no_dot (codes "out_port") refl))
-      (All-cons (λ (f : Known). f.0 ≢ q) (codes "drop", 1) rest (not (codes "drop") (no_dot (codes "drop") refl)) (not_in_headers before text differs)))
-
   pub not_in_back : (s : Source) (after : List HeaderText) → All IsHeaderText after → All (λ (x : HeaderText). x.ident.name ≢ owner) after → owner ≢ codes "meta" → NoneIs q (back s after)
   not_in_back s after text differs not_meta =
       All-append (λ (f : Known). f.0 ≢ q) (flat_map header_fields after) (known_fields (codes "meta") (metadata s)) (not_in_headers after text differs)
       (not_known (codes "meta") (metadata s) (no_dot (codes "meta") refl) (λ same. not_meta (sym same)))
-
-pub others_of : (s : Source) (before : List HeaderText) (h : HeaderText) (after : List HeaderText) → s.headers ≡ before ++ h ∷ after → KeepsRules s → AreOthers h before × AreOthers h after
-others_of s before h after e keeps = others before h after (subst (λ (hs : List HeaderText). AreApart (map (λ (x : HeaderText). x.ident.name) hs)) e (apart_headers s keeps))

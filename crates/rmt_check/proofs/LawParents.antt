@@ -24,7 +24,7 @@ record Grows (least : ℕ) (ns : List NodeText) : Type 0 where
   order : InOrder ns
   long : least ≤ length ns
 
-later : (m n : ℕ) (under : Option Under) → m ≤ n → IsUnder m under → IsUnder n under
+pub later : (m n : ℕ) (under : Option Under) → m ≤ n → IsUnder m under → IsUnder n under
 later m n None le h = tt
 later m n (Some u) le h = let l = h in omega arith
 

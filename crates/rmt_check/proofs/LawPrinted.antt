@@ -15,8 +15,8 @@ use Rattle.rmt_check.specs.declared.source.Source.{Source}
 use Rattle.rmt_check.specs.Names.{Known, is_known, printed, known_fields, header_fields, metadata, field_names}
 use Rattle.rmt_check.specs.Rules.{repeated, declared_names}
 use Rattle.rmt_check.specs.Naming.{HasNoDot, IsHeaderText}
-use Rattle.rmt_check.proofs.LawDistinct.{AreApart, names_of, are_apart}
-use Rattle.rmt_check.proofs.LawDots.{no_dot, not_printed, known_printed, apart_printed}
+use Rattle.rmt_check.proofs.LawDistinct.{AreApart, names_of, are_apart, known_made, apart_made}
+use Rattle.rmt_check.proofs.LawDots.{no_dot, not_printed, same_field}
 use Rattle.rmt_check.proofs.LawRules.{KeepsRules, FindsNone, repeated_fields}
 use Rattle.rmt_check.proofs.LawBlocks.{back}
 use Rattle.rmt_check.proofs.LawOwners.{NoneIs, AreOthers, others_behind, apart_headers, not_in_back}
@@ -62,12 +62,12 @@ printed_names owner ds =
     ∙ sym (ap (map (printed owner)) (map-map (λ (i : Ident). i.name) (λ (d : Declared). d.ident) ds) ∙ map-map (printed owner) (λ (d : Declared). d.ident.name) ds)
 
 fields_apart : (owner : List ℕ) (ds : List Declared) → repeated (declared_names ds) ≡ [] → AreApart (map (λ (f : Known). f.0) (known_fields owner ds))
-fields_apart owner ds e = subst AreApart (sym (printed_names owner ds)) (apart_printed owner (names_of (declared_names ds)) (are_apart (declared_names ds) e))
+fields_apart owner ds e = subst AreApart (sym (printed_names owner ds)) (apart_made (printed owner) (same_field owner) (names_of (declared_names ds)) (are_apart (declared_names ds) e))
 
 block_apart : (h : HeaderText) → IsHeaderText h → repeated_fields h ≡ [] → AreApart (map (λ (f : Known). f.0) (header_fields h))
 block_apart h text e = (
   ap (λ (ns : List (List ℕ)). is_known ns (printed h.ident.name (codes "valid"))) (printed_names h.ident.name h.fields)
-      ∙ known_printed h.ident.name (names_of (declared_names h.fields)) (codes "valid")
+      ∙ known_made (printed h.ident.name) (same_field h.ident.name) (names_of (declared_names h.fields)) (codes "valid")
       ∙ ap (λ (ns : List (List ℕ)). is_known ns (codes "valid")) (map-map (λ (i : Ident). i.name) (λ (d : Declared). d.ident) h.fields)
       ∙ unknown_name (codes "valid") (map (λ (d : Declared). d.ident.name) h.fields) (All-map (λ n. n ≢ codes "valid") (λ (d : Declared). d.ident.name) h.fields text.fields),
   fields_apart h.ident.name h.fields e,

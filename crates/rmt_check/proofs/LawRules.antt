@@ -1,5 +1,5 @@
 -- What a text that breaks no rule keeps, part by part.
-use Rattle.std.proofs.Common.{◌≡◌, ℕ, List, [], not, ◌==◌, nat_lt, map, codes, length, drop, None, All}
+use Rattle.std.proofs.Common.{◌≡◌, ℕ, List, [], not, ◌==◌, nat_lt, map, length, drop, None, All}
 use Rattle.std.specs.List.{flat_map, enumerate_from}
 use Rattle.std.specs.Str.{bytes_eq}
 use Rattle.rmt_lexer.specs.declared.place.Place.{Place}
@@ -11,7 +11,7 @@ use Rattle.rmt_check.specs.declared.source.ActionText.{ActionText}
 use Rattle.rmt_check.specs.declared.source.TableText.{TableText}
 use Rattle.rmt_check.specs.declared.source.NodeText.{NodeText}
 use Rattle.rmt_check.specs.declared.source.Source.{Source}
-use Rattle.rmt_check.specs.Names.{number_of, is_known, header_names, metadata, width_of, nodes_of, applied_tables, listed, operands}
+use Rattle.rmt_check.specs.Names.{number_of, is_known, header_names, metadata, in_port, key_of, width_of, nodes_of, applied_tables, listed, operands}
 use Rattle.rmt_check.specs.Rules.{when, repeated, places, declared_names, unknown, targets, unknown_select, unknown_assign, unknown_in_table, unknown_in_node, no_widths, is_size, bits_of, is_at_most, differs, too_wide_case, too_wide_node, wide_sign, bad_key, key_bits, bad_case, bad_default, bad_table_size, text_start, fault_of}
 use Rattle.rmt_check.proofs.LawLists.{none_in, none_in_2, none_in_3, none_in_5, none_in_8}
 use Rattle.rmt_check.proofs.LawFaults.{BreaksNone, breaks_none}
@@ -56,7 +56,7 @@ abbrev pub early_targets : Source → ℕ × HeaderText → List Place
 early_targets s h = flat_map (λ (i : Ident). when (is_at_most (number_of (header_names s) i.name) h.0) i.place) (targets h.1)
 
 abbrev pub operand_widths : Source → ActionText → List Place
-operand_widths s a = flat_map (λ (x : AssignText). flat_map (differs s a (width_of s x.dest.ident.name)) (operands x.expr)) a.assigns
+operand_widths s a = flat_map (λ (x : AssignText). flat_map (differs s a (width_of s (key_of s x.dest))) (operands x.expr)) a.assigns
 
 abbrev pub case_widths : Source → HeaderText → List Place
 case_widths s h = flat_map (too_wide_case s h) h.cases
@@ -65,16 +65,16 @@ abbrev pub gate_widths : Source → NodeText → List Place
 gate_widths s n = too_wide_node s n.what
 
 abbrev pub wide_signs : Source → ActionText → List Place
-wide_signs s a = flat_map (λ (x : AssignText). wide_sign (width_of s x.dest.ident.name) x.expr.right) a.assigns
+wide_signs s a = flat_map (λ (x : AssignText). wide_sign (width_of s (key_of s x.dest)) x.expr.right) a.assigns
 
-abbrev pub written_ports : ActionText → List Place
-written_ports a = flat_map (λ (x : AssignText). when (bytes_eq x.dest.ident.name (codes "in_port")) x.dest.place) a.assigns
+abbrev pub written_ports : Source → ActionText → List Place
+written_ports s a = flat_map (λ (x : AssignText). when (bytes_eq (key_of s x.dest) in_port) x.dest.place) a.assigns
 
 abbrev pub repeated_select : HeaderText → List Place
 repeated_select h = repeated h.select
 
-abbrev pub bad_key_of : TableText → List Place
-bad_key_of t = bad_key t.key
+abbrev pub bad_key_of : Source → TableText → List Place
+bad_key_of s t = bad_key s t.key
 
 abbrev pub long_key : Source → TableText → List Place
 long_key s t = when (nat_lt 640 (key_bits s t)) t.ident.place
@@ -122,10 +122,10 @@ pub record KeepsRules (s : Source) : Type 0 where
   pub cases_fit : FindsNone (case_widths s) s.headers
   pub gates_fit : FindsNone (gate_widths s) (nodes_of s)
   pub signs_fit : FindsNone (wide_signs s) s.actions
-  pub port_kept : FindsNone written_ports s.actions
+  pub port_kept : FindsNone (written_ports s) s.actions
   pub applied_once : repeated (applied_tables s) ≡ []
   pub select_once : FindsNone repeated_select s.headers
-  pub key_form : FindsNone bad_key_of s.tables
+  pub key_form : FindsNone (bad_key_of s) s.tables
   pub key_short : FindsNone (long_key s) s.tables
   pub listed_few : FindsNone many_listed s.tables
   pub case_length : FindsNone bad_cases s.headers
@@ -148,7 +148,7 @@ keeps s h =
     (flat_map (unknown_at_node s) (nodes_of s)) h.rule_6 in
     let seven = none_in_3 (flat_map field_widths s.headers) (no_widths (metadata s)) (flat_map param_widths s.actions) h.rule_7 in
     let ten = none_in_3 (flat_map (operand_widths s) s.actions) (flat_map (case_widths s) s.headers) (flat_map (gate_widths s) (nodes_of s)) h.rule_10 in
-    let fourteen = none_in_2 (flat_map repeated_select s.headers) (flat_map bad_key_of s.tables) h.rule_14 in
+    let fourteen = none_in_2 (flat_map repeated_select s.headers) (flat_map (bad_key_of s) s.tables) h.rule_14 in
     let seventeen = none_in_2 (flat_map bad_cases s.headers) (flat_map (bad_default s) s.tables) h.rule_17 in
     let eighteen = none_in_8 (when (length s.headers == 0) text_start) (map (λ (h : HeaderText). h.ident.place) (drop 64 s.headers)) (map (λ (a : ActionText). a.ident.place) (drop 256 s.actions))
     (flat_map many_params s.actions) (flat_map many_assigns s.actions) (places (drop 256 (declared_names (metadata s)))) (map (λ (n : NodeText). n.place) (drop 128 (nodes_of s)))
@@ -174,10 +174,10 @@ keeps s h =
       cases_fit = none_in (case_widths s) s.headers ten.1;
       gates_fit = none_in (gate_widths s) (nodes_of s) ten.2;
       signs_fit = none_in (wide_signs s) s.actions h.rule_11;
-      port_kept = none_in written_ports s.actions h.rule_12;
+      port_kept = none_in (written_ports s) s.actions h.rule_12;
       applied_once = h.rule_13;
       select_once = none_in repeated_select s.headers fourteen.0;
-      key_form = none_in bad_key_of s.tables fourteen.1;
+      key_form = none_in (bad_key_of s) s.tables fourteen.1;
       key_short = none_in (long_key s) s.tables h.rule_15;
       listed_few = none_in many_listed s.tables h.rule_16;
       case_length = none_in bad_cases s.headers seventeen.0;

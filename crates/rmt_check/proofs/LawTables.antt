@@ -19,9 +19,9 @@ use Rattle.rmt_check.specs.declared.source.ActionText.{ActionText}
 use Rattle.rmt_check.specs.declared.source.KeyText.{KeyText}
 use Rattle.rmt_check.specs.declared.source.TableText.{TableText}
 use Rattle.rmt_check.specs.declared.source.Source.{Source}
-use Rattle.rmt_check.specs.Names.{is_known, field_names, action_names, width_of, params_of, listed, key_fields}
-use Rattle.rmt_check.specs.Rules.{when, too_wide, unknown, unknown_field, unknown_in_table, first_tokens, further_prefix, bad_key, key_bits, bad_default, bad_table_size, repeated}
-use Rattle.rmt_check.specs.Meaning.{field_number, action_number, action_of, index_of, table_with, table_of, program_of}
+use Rattle.rmt_check.specs.Names.{is_known, field_keys, key_of, action_names, width_of, params_of, listed, key_fields}
+use Rattle.rmt_check.specs.Rules.{when, too_wide, unknown, unknown_field, unknown_in_table, is_field, keyed, further_prefix, bad_key, key_bits, bad_default, bad_table_size, repeated}
+use Rattle.rmt_check.specs.Meaning.{field_number, action_number, action_of, table_with, table_of, program_of}
 use Rattle.rmt_check.specs.Naming.{IsKeyText, HasKeyText}
 use Rattle.rmt_check.proofs.LawLists.{none_in, none_in_2, none_in_3, none_mapped, none_dropped}
 use Rattle.rmt_check.proofs.LawNames.{stands_for, stands_within}
@@ -54,29 +54,29 @@ module _ (s : Source) where
       subst (λ (o : Option Action). IsSomeAnd o (λ (a : Action). AllZip Fits a.params (map (λ (n : Number). n.value) t.args))) (sym at)
       (args_fit r.item.params t.args (ap length (sym params) ∙ same) (subst (λ (ds : List Declared). flat_map (λ (x : Declared × Number). too_wide x.0.width.value x.1) (zip ds t.args) ≡ []) params parts.1))
 
-  fields_known : (fs : List FieldText) → flat_map (unknown_field s) fs ≡ [] → All (λ (f : FieldText). is_known (field_names s) f.ident.name ≡ true) fs
+  fields_known : (fs : List FieldText) → flat_map (unknown_field s) fs ≡ [] → All (λ (f : FieldText). is_field s (key_of s f) ≡ true) fs
   fields_known fs e k d lt = field_known s (get_or fs k d) (none_in (unknown_field s) fs e k d lt)
 
-  key_widths : (fs : List FieldText) → All (λ (f : FieldText). is_known (field_names s) f.ident.name ≡ true) fs
-      → map (state.width_of (program_of s)) (map (λ (f : FieldText). field_number s f.ident.name) fs) ≡ map (λ (f : FieldText). width_of s f.ident.name) fs
+  key_widths : (fs : List FieldText) → All (λ (f : FieldText). is_field s (key_of s f) ≡ true) fs
+      → map (state.width_of (program_of s)) (map (λ (f : FieldText). field_number s (key_of s f)) fs) ≡ map (λ (f : FieldText). width_of s (key_of s f)) fs
   key_widths [] known = refl
   key_widths (f ∷ fs) known =
-      let rest = key_widths fs (All-tail (λ (f : FieldText). is_known (field_names s) f.ident.name ≡ true) f fs known) in
-      let one = field_width s f.ident.name (All-head (λ (f : FieldText). is_known (field_names s) f.ident.name ≡ true) f fs known) in
+      let rest = key_widths fs (All-tail (λ (f : FieldText). is_field s (key_of s f) ≡ true) f fs known) in
+      let one = field_width s (key_of s f) (All-head (λ (f : FieldText). is_field s (key_of s f) ≡ true) f fs known) in
       ap₂ (λ (x : ℕ) xs. x ∷ xs) one rest
 
-  keyed : (t : TableText) (k : KeyText) → IsKeyText k → All (λ (f : FieldText). is_known (field_names s) f.ident.name ≡ true) k.fields → repeated (first_tokens k.fields) ≡ []
-      → sum (map (λ (f : FieldText). width_of s f.ident.name) k.fields) ≤ 640 → bad_table_size (Some k) ≡ [] → IsKeyed (program_of s) (table_with s t (Some k))
-  keyed t k text known once short size =
-      let numbers = length-map k.fields (λ (f : FieldText). field_number s f.ident.name) in
+  is_keyed : (t : TableText) (k : KeyText) → IsKeyText k → All (λ (f : FieldText). is_field s (key_of s f) ≡ true) k.fields → repeated (map (keyed s) k.fields) ≡ []
+      → sum (map (λ (f : FieldText). width_of s (key_of s f)) k.fields) ≤ 640 → bad_table_size (Some k) ≡ [] → IsKeyed (program_of s) (table_with s t (Some k))
+  is_keyed t k text known once short size =
+      let numbers = length-map k.fields (λ (f : FieldText). field_number s (key_of s f)) in
       let actions = length-map k.actions (action_number s) in
       let sizes = and_parts (nat_le 1 k.size.value) (nat_le k.size.value 1048576) (no_when_not (nat_le 1 k.size.value && nat_le k.size.value 1048576) k.size.place size) in
       record {
         has_key = let some = text.fields in omega arith;
-        key_fields = All-map (λ f. f < length (program_of s).fields) (λ (f : FieldText). field_number s f.ident.name) k.fields (λ i d lt. field_within s (get_or k.fields i d).ident.name (known i d lt));
-        key_once = subst (λ (l : List ℕ). AreDistinct l) (map-map (λ (x : Ident). index_of (field_names s) x.name) (λ (f : FieldText). let i : Ident = record { place = f.place; name = f.ident.name } in i) k.fields)
-            (distinct_numbers (field_names s) (first_tokens k.fields) (All-map (λ (x : Ident). is_known (field_names s) x.name ≡ true) (λ (f : FieldText). let i : Ident = record { place = f.place; name = f.ident.name } in i) k.fields known)
-            (are_apart (first_tokens k.fields) once));
+        key_fields = All-map (λ f. f < length (program_of s).fields) (λ (f : FieldText). field_number s (key_of s f)) k.fields (λ i d lt. field_within s (key_of s (get_or k.fields i d)) (known i d lt));
+        key_once = subst (λ (l : List ℕ). AreDistinct l) (map-map (λ (x : Ident). field_number s x.name) (keyed s) k.fields)
+            (distinct_numbers (field_keys s) (map (keyed s) k.fields) (All-map (λ (x : Ident). is_field s x.name ≡ true) (keyed s) k.fields known)
+            (are_apart (map (keyed s) k.fields) once));
         key_bits = subst (λ (l : List ℕ). sum l ≤ 640) (sym (key_widths k.fields known)) short;
         has_actions = let some = text.actions in omega arith;
         has_size = leb-true 1 k.size.value sizes.0;
@@ -84,17 +84,15 @@ module _ (s : Source) where
       }
 
   one_prefix : (fs : List FieldText) → further_prefix Prefix fs ≡ [] → length fs ≤ 1
-  one_prefix fs e =
-      let l = none_dropped 1 fs (none_mapped (λ (f : FieldText). let i : Ident = record { place = f.place; name = f.ident.name } in i) (drop 1 fs) (none_mapped (λ (i : Ident). i.place) (first_tokens (drop 1 fs)) e)) in
-      omega arith
+  one_prefix fs e = none_dropped 1 fs (none_mapped (λ (f : FieldText). f.place) (drop 1 fs) e)
 
-  has_key : (t : TableText) (key : Option KeyText) → HasKeyText key → flat_map (unknown_field s) (unwrap_or (option_map (λ (k : KeyText). k.fields) key) []) ≡ [] → bad_key key ≡ []
-      → sum (map (λ (f : FieldText). width_of s f.ident.name) (unwrap_or (option_map (λ (k : KeyText). k.fields) key) [])) ≤ 640 → bad_table_size key ≡ []
+  has_key : (t : TableText) (key : Option KeyText) → HasKeyText key → flat_map (unknown_field s) (unwrap_or (option_map (λ (k : KeyText). k.fields) key) []) ≡ [] → bad_key s key ≡ []
+      → sum (map (λ (f : FieldText). width_of s (key_of s f)) (unwrap_or (option_map (λ (k : KeyText). k.fields) key) [])) ≤ 640 → bad_table_size key ≡ []
       → HasKey (program_of s) (table_with s t key).kind (table_with s t key)
   has_key t None text known form short size = record { key = refl; actions = refl; size = refl; counted = refl }
   has_key t (Some k) text known form short size =
-      let parts = none_in_2 (further_prefix k.kind k.fields) (repeated (first_tokens k.fields)) form in
-      by k.kind parts.0 (λ e. text.kind e) (keyed t k text (fields_known k.fields known) parts.1 short size)
+      let parts = none_in_2 (further_prefix k.kind k.fields) (repeated (map (keyed s) k.fields)) form in
+      by k.kind parts.0 (λ e. text.kind e) (is_keyed t k text (fields_known k.fields known) parts.1 short size)
     where
       by : (kind : Kind) → further_prefix kind k.fields ≡ [] → (kind ≡ Keyless → ⊥) → IsKeyed (program_of s) (table_with s t (Some k)) → HasKey (program_of s) kind (table_with s t (Some k))
       by Keyless one other is = absurd (other refl)
@@ -102,7 +100,7 @@ module _ (s : Source) where
       by Prefix one other is =
           let l = one_prefix k.fields one in
           let m = text.fields in
-          let n = length-map k.fields (λ (f : FieldText). field_number s f.ident.name) in (is, omega arith)
+          let n = length-map k.fields (λ (f : FieldText). field_number s (key_of s f)) in (is, omega arith)
       by Ternary one other is = is
 
   -- the actions that a table lists, and its default
@@ -115,7 +113,7 @@ module _ (s : Source) where
   falls_to t (Some k) takes = takes
 
 module _ (s : Source) (h : KeepsRules s) where
-  one : (t : TableText) → HasKeyText t.key → unknown_in_table s t ≡ [] → repeated_actions t ≡ [] → bad_key_of t ≡ [] → long_key s t ≡ [] → many_listed t ≡ [] → bad_default s t ≡ [] → bad_size_of t ≡ []
+  one : (t : TableText) → HasKeyText t.key → unknown_in_table s t ≡ [] → repeated_actions t ≡ [] → bad_key_of s t ≡ [] → long_key s t ≡ [] → many_listed t ≡ [] → bad_default s t ≡ [] → bad_size_of t ≡ []
       → IsTable (program_of s) (table_of s t)
   one t text unknowns once form long many default size =
       let known = none_in_3 (flat_map (unknown_field s) (key_fields t)) (unknown (action_names s) (listed t)) (unknown (action_names s) (t.default ∷ [])) unknowns in

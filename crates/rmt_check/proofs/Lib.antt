@@ -1,7 +1,10 @@
 pub mod Bounds
 pub mod Parents
 pub mod ReadingLaws
+mod ExampleText
+mod ExamplesMeaning
 mod ExamplesReading
+mod ExamplesRules
 pub mod Numbering
 pub mod FieldNumbers
 pub mod Finding
@@ -20,6 +23,7 @@ pub mod LawFaults
 pub mod LawFieldList
 pub mod LawFields
 pub mod LawHeaders
+pub mod LawKeys
 pub mod LawLists
 pub mod LawNames
 pub mod LawNaming

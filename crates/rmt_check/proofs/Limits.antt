@@ -5,9 +5,8 @@ use Rattle.std.proofs.lemmas.List.{take_more, append-nil, map-append, length-map
 use Rattle.std.proofs.lemmas.List.Concat.{flat_map-append}
 use Rattle.rmt_lexer.specs.declared.place.Place.{Place}
 use Rattle.rmt_check.specs.declared.source.Declared.{Declared}
-use Rattle.rmt_check.specs.declared.source.FieldText.{FieldText}
 use Rattle.rmt_check.specs.declared.source.MetaText.{MetaText}
-use Rattle.rmt_check.specs.Rules.{earlier, earliest, places, declared_names, first_tokens}
+use Rattle.rmt_check.specs.Rules.{earlier, earliest, places, declared_names}
 use Rattle.rmt_check.proofs.Earliest.{joined}
 
 -- the items beyond a limit of two lists that are joined
@@ -23,11 +22,6 @@ places-declared zero [] = refl
 places-declared zero (d ∷ ds) = ap (λ (ps : List Place). d.ident.place ∷ ps) (places-declared zero ds)
 places-declared (suc n) [] = refl
 places-declared (suc n) (d ∷ ds) = places-declared n ds
-
--- the places of the first tokens of fields
-pub places-first_tokens : (fs : List FieldText) → places (first_tokens fs) ≡ map (λ (f : FieldText). f.place) fs
-places-first_tokens [] = refl
-places-first_tokens (f ∷ fs) = ap (λ (ps : List Place). f.place ∷ ps) (places-first_tokens fs)
 
 abbrev all_fields : List MetaText → List Declared
 all_fields ms = flat_map (λ (m : MetaText). m.fields) ms

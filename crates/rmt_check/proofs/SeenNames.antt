@@ -15,9 +15,12 @@ use Rattle.rmt_check.specs.declared.source.Declared.{Declared}
 use Rattle.rmt_check.specs.declared.source.Ident.{Ident}
 use Rattle.rmt_check.specs.declared.source.TableText.{TableText}
 use Rattle.rmt_check.specs.Names.{is_known}
+use Rattle.rmt_check.specs.Numbering.{bytes_of}
+use Rattle.rmt_check.specs.Standing.{key_in}
 use Rattle.rmt_check.specs.Rules.{when, earlier, earliest, repeated_after, declared_names}
 use Rattle.rmt_check.specs.Seen.{with_name, seen_after}
 use Rattle.rmt_check.proofs.Earliest.{joined}
+use Rattle.rmt_check.proofs.Numbering.{same}
 
 pub bytes_eq-pointwise : (a b : List ℕ) → bytes_eq a b ≡ pointwise nat_eq a b
 bytes_eq-pointwise [] [] = refl
@@ -25,35 +28,44 @@ bytes_eq-pointwise [] (d ∷ ds) = refl
 bytes_eq-pointwise (c ∷ cs) [] = refl
 bytes_eq-pointwise (c ∷ cs) (d ∷ ds) = ap (λ (r : Bool). nat_eq c d && r) (bytes_eq-pointwise cs ds)
 
-abbrev pub names_in : List (Bor (List ℕ)) → List (List ℕ)
-names_in ks = map (λ (k : Bor (List ℕ)). k.now) ks
+-- tests of keys, borrowed names and fields, for the same bytes
+abbrev pub same_name : Bor (List ℕ) → Bor (List ℕ) → Bool
+same_name x y = pointwise nat_eq x.now y.now
 
--- whether a set of borrowed names has a name
-pub is_known-keys : (q : List ℕ) (ks : List (Bor (List ℕ))) → list_any (λ (k : Bor (List ℕ)). pointwise nat_eq q k.now) ks ≡ is_known (names_in ks) q
-is_known-keys q [] = refl
-is_known-keys q (k ∷ ks) = rw (← bytes_eq-pointwise q k.now) (ap (λ (r : Bool). bytes_eq q k.now || r) (is_known-keys q ks))
+pub same_name-agrees : (x y : Bor (List ℕ)) → same_name x y ≡ same bytes_of x y
+same_name-agrees x y = sym (bytes_eq-pointwise x.now y.now)
 
-abbrev same_key : Bor (List ℕ) → Bor (List ℕ) → Bool
-same_key x y = pointwise nat_eq x.now y.now
+abbrev pub same_field : ℕ × Bor (List ℕ) → ℕ × Bor (List ℕ) → Bool
+same_field x y = nat_eq x.0 y.0 && pointwise nat_eq x.1.now y.1.now
 
--- a set with one more name
-pub names_in-insert : (ks : List (Bor (List ℕ))) (k : Bor (List ℕ)) → names_in (insert_key same_key ks k) ≡ with_name (names_in ks) k.now
-names_in-insert ks k = rw (← is_known-keys k.now ks) (by (list_any (same_key k) ks))
-  where
-    by : (b : Bool) → names_in (if b then ks else ks ++ k ∷ []) ≡ (if b then names_in ks else names_in ks ++ k.now ∷ [])
-    by true = refl
-    by false = map_push _ ks k
+pub same_field-agrees : (x y : ℕ × Bor (List ℕ)) → same_field x y ≡ same key_in x y
+same_field-agrees x y = ap (λ (r : Bool). nat_eq x.0 y.0 && r) (sym (bytes_eq-pointwise x.1.now y.1.now))
 
 not-not : (b : Bool) → not (not b) ≡ b
 not-not true = refl
 not-not false = refl
 
--- the place of a name that a set did not take
-pub place-insert : (fresh : Bool) (ks : List (Bor (List ℕ))) (k : Bor (List ℕ)) (seen : List (List ℕ)) (p : Place) (r : Option Place) → fresh ≡ not (list_any (λ (x : Bor (List ℕ)). pointwise nat_eq k.now x.now) ks) → names_in ks ≡ seen
-    → r ≡ earliest (when (not fresh) p) → r ≡ earliest (when (is_known seen k.now) p)
-place-insert fresh ks k seen p r e names h =
-    let known : not fresh ≡ is_known seen k.now = ap not e ∙ not-not _ ∙ is_known-keys k.now ks ∙ ap (λ (ns : List (List ℕ)). is_known ns k.now) names in
-    rw (← known) h
+-- A set of keys, each of which stands for its bytes, by a test that finds those of the same bytes.
+module _ {K : Type 0} (bytes : K → List ℕ) (test : K → K → Bool) (agrees : (x y : K) → test x y ≡ same bytes x y) where
+  -- whether the set has a key
+  pub is_known-keys : (k : K) (ks : List K) → list_any (test k) ks ≡ is_known (map bytes ks) (bytes k)
+  is_known-keys k [] = refl
+  is_known-keys k (x ∷ xs) = rw (agrees k x) (ap (λ (r : Bool). bytes_eq (bytes k) (bytes x) || r) (is_known-keys k xs))
+
+  -- the set with one more key
+  pub names-insert : (ks : List K) (k : K) → map bytes (insert_key test ks k) ≡ with_name (map bytes ks) (bytes k)
+  names-insert ks k = rw (← is_known-keys k ks) (by (list_any (test k) ks))
+    where
+      by : (b : Bool) → map bytes (if b then ks else ks ++ k ∷ []) ≡ (if b then map bytes ks else map bytes ks ++ bytes k ∷ [])
+      by true = refl
+      by false = map_push bytes ks k
+
+  -- the place of a key that the set did not take
+  pub place-insert : (fresh : Bool) (ks : List K) (k : K) (seen : List (List ℕ)) (p : Place) (r : Option Place) → fresh ≡ not (list_any (test k) ks) → map bytes ks ≡ seen
+      → r ≡ earliest (when (not fresh) p) → r ≡ earliest (when (is_known seen (bytes k)) p)
+  place-insert fresh ks k seen p r e names h =
+      let known : not fresh ≡ is_known seen (bytes k) = ap not e ∙ not-not _ ∙ is_known-keys k ks ∙ ap (λ (ns : List (List ℕ)). is_known ns (bytes k)) names in
+      rw (← known) h
 
 -- the places of repeated names, one name on
 pub repeated_after-cons : (seen : List (List ℕ)) (x : Ident) (xs : List Ident) → repeated_after seen (x ∷ xs) ≡ when (is_known seen x.name) x.place ++ repeated_after (with_name seen x.name) xs

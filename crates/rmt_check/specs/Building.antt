@@ -13,12 +13,8 @@ use Rattle.rmt_check.specs.declared.source.HeaderText.{HeaderText}
 use Rattle.rmt_check.specs.declared.source.WhatText.{WhatText}
 use Rattle.rmt_check.specs.declared.source.WhatText.TheVariants.{Apply, If}
 use Rattle.rmt_check.specs.declared.source.Source.{Source}
-use Rattle.rmt_check.specs.Names.{width_of, listed_by, selected}
+use Rattle.rmt_check.specs.Names.{key_of, width_of, listed_by}
 use Rattle.rmt_check.specs.Meaning.{field_number, test_of, target_of, arm_mask}
-
--- the widths of the fields of a select
-abbrev pub select_widths : Source → HeaderText → List ℕ
-select_widths s h = map (λ (i : Ident). width_of s (selected h i)) h.select
 
 -- tests of values, each of a field with the width beside it
 abbrev pub tests_for : List ℕ → List ValueText → List Test
@@ -42,4 +38,4 @@ arm_masks s (If field mask value) = []
 
 -- the test of an `if`
 abbrev pub gate_of : Source → FieldText → ValueText → What
-gate_of s field value = Gate (field_number s field.ident.name) (test_of (width_of s field.ident.name) value)
+gate_of s field value = Gate (field_number s (key_of s field)) (test_of (width_of s (key_of s field)) value)

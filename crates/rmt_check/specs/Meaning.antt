@@ -47,15 +47,16 @@ use Rattle.rmt_check.specs.declared.source.WhatText.{WhatText}
 use Rattle.rmt_check.specs.declared.source.WhatText.TheVariants.{Apply as ApplyText, If}
 use Rattle.rmt_check.specs.declared.source.NodeText.{NodeText}
 use Rattle.rmt_check.specs.declared.source.Source.{Source}
-use Rattle.rmt_check.specs.Names.{Known, number_of, header_names, action_names, table_names, param_names, fields_of, field_names, width_of, nodes_of, listed_by, selected}
+use Rattle.rmt_check.specs.Names.{Known, number_of, header_names, action_names, table_names, param_names, fields_of, field_keys, key_of, width_of, nodes_of, listed_by, selected}
 use Rattle.rmt_check.specs.Rules.{bits_of, fault_of}
 
 -- the number of a name, which is known
 abbrev pub index_of : List (List ℕ) → List ℕ → ℕ
 index_of names name = unwrap_or (number_of names name) 0
 
+-- the number of the field with a key
 abbrev pub field_number : Source → List ℕ → ℕ
-field_number s name = index_of (field_names s) name
+field_number s k = index_of (field_keys s) k
 
 abbrev pub field_of : Known → Field
 field_of f = record { name = f.0; width = f.1 }
@@ -77,7 +78,7 @@ target_of s target.Reject = to.Reject
 
 abbrev pub case_of : Source → HeaderText → CaseText → Case
 case_of s h c = record {
-  tests = map (λ (x : Ident × ValueText). test_of (width_of s (selected h x.0)) x.1) (zip h.select c.values);
+  tests = map (λ (x : Ident × ValueText). test_of (width_of s (selected s h x.0)) x.1) (zip h.select c.values);
   target = target_of s c.target;
 }
 
@@ -88,7 +89,7 @@ header_from s n h = record {
   valid = n;
   fields = range_with_len (n + 1) (length h.fields);
   bytes = bits_of h / 8;
-  select = map (λ (i : Ident). field_number s (selected h i)) h.select;
+  select = map (λ (i : Ident). field_number s (selected s h i)) h.select;
   cases = map (case_of s h) h.cases;
   other = target_of s h.other;
 }
@@ -98,7 +99,7 @@ headers_from s n [] = []
 headers_from s n (h ∷ hs) = header_from s n h ∷ headers_from s (n + 1 + length h.fields) hs
 
 abbrev pub leaf_of : Source → ActionText → LeafText → Leaf
-leaf_of s a (text.Field f) = leaf.Field (field_number s f.ident.name)
+leaf_of s a (text.Field f) = leaf.Field (field_number s (key_of s f))
 leaf_of s a (text.Param p) = leaf.Param (index_of (param_names a) p.name)
 leaf_of s a (text.Number n) = leaf.Number n.value
 
@@ -107,7 +108,7 @@ expr_of s a left None = One (leaf_of s a left)
 expr_of s a left (Some r) = Two r.0.op (leaf_of s a left) (leaf_of s a r.1)
 
 abbrev pub assign_of : Source → ActionText → AssignText → Assign
-assign_of s a x = record { dest = field_number s x.dest.ident.name; expr = expr_of s a x.expr.left x.expr.right }
+assign_of s a x = record { dest = field_number s (key_of s x.dest); expr = expr_of s a x.expr.left x.expr.right }
 
 abbrev pub action_of : Source → ActionText → Action
 action_of s a = record {
@@ -134,7 +135,7 @@ table_with s t None = record {
 table_with s t (Some k) = record {
   name = t.ident.name;
   kind = k.kind;
-  key = map (λ (f : FieldText). field_number s f.ident.name) k.fields;
+  key = map (λ (f : FieldText). field_number s (key_of s f)) k.fields;
   actions = map (action_number s) k.actions;
   default = action_number s t.default;
   args = map (λ (n : Number). n.value) t.args;
@@ -172,7 +173,7 @@ guard_of s u = record { parent = u.parent; mask = option_map_or (λ (n : NodeTex
 abbrev pub what_of : Source → WhatText → What
 what_of s (ApplyText table arms) = Apply (index_of (table_names s) table.name)
 what_of s (If field mask value) =
-    let v : ValueText = record { value = value; mask = mask } in Gate (field_number s field.ident.name) (test_of (width_of s field.ident.name) v)
+    let v : ValueText = record { value = value; mask = mask } in Gate (field_number s (key_of s field)) (test_of (width_of s (key_of s field)) v)
 
 abbrev pub node_of : Source → NodeText → Node
 node_of s n = record { guard = option_map (guard_of s) n.under; what = what_of s n.what }

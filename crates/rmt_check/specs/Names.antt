@@ -1,10 +1,12 @@
 -- What the names of a text stand for.
-use Rattle.std.specs.Prelude.{ℕ, List, [], ◌∷◌, ◌++◌, Bool, Option, Some, None, codes, map, find, position, filter_map, option_map, unwrap_or}
+use Rattle.std.specs.Prelude.{ℕ, ◌+◌, List, [], ◌∷◌, ◌++◌, Bool, Option, Some, None, codes, length, map, find, position, filter_map, option_map, unwrap_or, slice_get}
 use Rattle.std.specs.List.{list_any, flat_map}
-use Rattle.std.specs.Option.{option_to_list}
+use Rattle.std.specs.Option.{option_to_list, option_map_or}
 use Rattle.std.specs.Str.{bytes_eq}
 use Rattle.rmt_check.specs.declared.source.Ident.{Ident}
 use Rattle.rmt_check.specs.declared.source.Declared.{Declared}
+use Rattle.rmt_check.specs.declared.source.OwnerText.{OwnerText}
+use Rattle.rmt_check.specs.declared.source.OwnerText.TheVariants as owner
 use Rattle.rmt_check.specs.declared.source.FieldText.{FieldText}
 use Rattle.rmt_check.specs.declared.source.HeaderText.{HeaderText}
 use Rattle.rmt_check.specs.declared.source.MetaText.{MetaText}
@@ -63,12 +65,62 @@ fields_of s =
     (codes "in_port", 9) ∷ (codes "out_port", 9) ∷ (codes "drop", 1) ∷ flat_map header_fields s.headers
     ++ known_fields (codes "meta") (metadata s)
 
+-- the names of the fields by number, as they are printed
 abbrev pub field_names : Source → List (List ℕ)
 field_names s = map (λ (f : Known). f.0) (fields_of s)
 
--- the width of a field by its printed name
+-- A field is found by its key: the number of its owner in front of its own name. The fields that every program has are of
+-- owner 0, the metadata fields of owner 1, and those of the n-th header, from 0 on, of owner 2 + n.
+abbrev pub key : ℕ → List ℕ → List ℕ
+key owner name = owner ∷ name
+
+abbrev pub in_port : List ℕ
+in_port = key 0 (codes "in_port")
+
+abbrev pub declared_keys : ℕ → List Declared → List (List ℕ)
+declared_keys owner ds = map (λ (d : Declared). key owner d.ident.name) ds
+
+-- the keys of a header's fields, its valid first
+abbrev pub header_keys : ℕ → HeaderText → List (List ℕ)
+header_keys owner h = key owner (codes "valid") ∷ declared_keys owner h.fields
+
+-- the keys of the fields of some headers, the first of which is the owner of that number
+abbrev pub keys_from : ℕ → List HeaderText → List (List ℕ)
+keys_from owner [] = []
+keys_from owner (h ∷ hs) = header_keys owner h ++ keys_from (owner + 1) hs
+
+-- the keys of the fields by number
+abbrev pub field_keys : Source → List (List ℕ)
+field_keys s =
+    in_port ∷ key 0 (codes "out_port") ∷ key 0 (codes "drop") ∷ keys_from 2 s.headers ++ declared_keys 1 (metadata s)
+
+-- the owner that a header is, by its name; for a name that is none, one that has no field
+abbrev pub header_owner : Source → List ℕ → ℕ
+header_owner s name = 2 + unwrap_or (number_of (header_names s) name) (length s.headers)
+
+abbrev pub owner_number : Source → OwnerText → ℕ
+owner_number s owner.Intrinsic = 0
+owner_number s owner.Metadata = 1
+owner_number s (owner.Header h) = header_owner s h.name
+
+-- the key of a field that is named
+abbrev pub key_of : Source → FieldText → List ℕ
+key_of s f = key (owner_number s f.owner) f.ident.name
+
+-- the key of a name in a header's select
+abbrev pub selected : Source → HeaderText → Ident → List ℕ
+selected s h i = key (header_owner s h.ident.name) i.name
+
+-- the width of a field by its number, and by its key; 0 where there is none
+abbrev pub width_at : Source → ℕ → ℕ
+width_at s n = unwrap_or (option_map (λ (f : Known). f.1) (slice_get (fields_of s) n)) 0
+
 abbrev pub width_of : Source → List ℕ → ℕ
-width_of s name = unwrap_or (option_map (λ (f : Known). f.1) (find (λ (f : Known). bytes_eq name f.0) (fields_of s))) 0
+width_of s k = option_map_or (width_at s) (number_of (field_keys s) k) 0
+
+-- the widths of the fields of a header's select
+abbrev pub select_widths : Source → HeaderText → List ℕ
+select_widths s h = map (λ (i : Ident). width_of s (selected s h i)) h.select
 
 -- the nodes of the control
 abbrev pub nodes_of : Source → List NodeText
@@ -100,10 +152,6 @@ listed_by s name = unwrap_or (option_map listed (find (λ (t : TableText). bytes
 -- the fields of a table's key
 abbrev pub key_fields : TableText → List FieldText
 key_fields t = unwrap_or (option_map (λ (k : KeyText). k.fields) t.key) []
-
--- a field of a select, as it is printed
-abbrev pub selected : HeaderText → Ident → List ℕ
-selected h i = printed h.ident.name i.name
 
 -- the width of a parameter
 abbrev pub param_width : ActionText → List ℕ → ℕ

@@ -43,7 +43,7 @@ abbrev pub HasKeyText : Option KeyText → Type 0
 HasKeyText None = ⊤
 HasKeyText (Some k) = IsKeyText k
 
--- the arm that the n-th node stands in, if any, is one of an earlier node
+-- the arm that a node stands in, if any, is one of the first n nodes
 abbrev pub IsUnder : ℕ → Option Under → Type 0
 IsUnder n None = ⊤
 IsUnder n (Some u) = u.parent < n

@@ -1,5 +1,5 @@
 -- The parts of a program's text, read from its tree.
-use Rattle.std.specs.Prelude.{ℕ, zero, suc, List, [], ◌∷◌, ◌++◌, Bool, true, false, Option, Some, None, codes, length, drop, fold, map, zip, filter_map, option_map, unwrap_or}
+use Rattle.std.specs.Prelude.{ℕ, zero, suc, List, [], ◌∷◌, ◌++◌, Bool, true, false, Option, Some, None, length, drop, fold, map, zip, filter_map, option_map, unwrap_or}
 use Rattle.std.specs.List.{enumerate_from}
 use Rattle.std.specs.Option.{option_or}
 use Rattle.rmt_lexer.specs.declared.token.Token.{Token}
@@ -21,6 +21,8 @@ use Rattle.rmt_ast.specs.declared.program.Op.TheVariants.{Add, Sub, And, Or, Xor
 use Rattle.rmt_check.specs.declared.source.Ident.{Ident}
 use Rattle.rmt_check.specs.declared.source.Number.{Number}
 use Rattle.rmt_check.specs.declared.source.Declared.{Declared}
+use Rattle.rmt_check.specs.declared.source.OwnerText.{OwnerText}
+use Rattle.rmt_check.specs.declared.source.OwnerText.TheVariants as owner
 use Rattle.rmt_check.specs.declared.source.FieldText.{FieldText}
 use Rattle.rmt_check.specs.declared.source.ValueText.{ValueText}
 use Rattle.rmt_check.specs.declared.source.TargetText.{TargetText}
@@ -146,11 +148,16 @@ word_in _ t = None
 abbrev pub words : List Tree → List Ident
 words ts = filter_map (at_token (λ t. word_in t.what t)) ts
 
--- a field of one word, or of two with a dot between them; a name before the dot is that of a header
+-- whose a field of two words is: of the header that the first names, else of the metadata
+abbrev pub owner_of : Option Ident → OwnerText
+owner_of None = owner.Metadata
+owner_of (Some header) = owner.Header header
+
+-- a field of one word, or of two with a dot between them
 abbrev pub field_of : Option Ident → List Ident → FieldText
-field_of header [] = record { place = nowhere; header = header; ident = no_name }
-field_of header (a ∷ []) = record { place = a.place; header = header; ident = a }
-field_of header (a ∷ b ∷ rest) = record { place = a.place; header = header; ident = record { place = b.place; name = a.name ++ codes "." ++ b.name } }
+field_of header [] = record { place = nowhere; owner = owner.Intrinsic; ident = no_name }
+field_of header (a ∷ []) = record { place = a.place; owner = owner.Intrinsic; ident = a }
+field_of header (a ∷ b ∷ rest) = record { place = a.place; owner = owner_of header; ident = b }
 
 -- the header that the first part of a field names
 abbrev pub header_in : List Tree → Option Ident

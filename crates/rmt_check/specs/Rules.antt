@@ -1,5 +1,5 @@
 -- The rules of form, each as the places where it is broken, and the fault of a text.
-use Rattle.std.specs.Prelude.{ℕ, ◌%◌, ◌^◌, List, [], ◌∷◌, ◌++◌, Bool, true, false, not, ◌==◌, ◌&&◌, ◌||◌, nat_le, nat_lt, if◌then◌else◌, Option, Some, None, codes, length, drop, take, map, zip, sum, option_map}
+use Rattle.std.specs.Prelude.{ℕ, ◌%◌, ◌^◌, List, [], ◌∷◌, ◌++◌, Bool, true, false, not, ◌==◌, ◌&&◌, ◌||◌, nat_le, nat_lt, if◌then◌else◌, Option, Some, None, length, drop, take, map, zip, sum, option_map}
 use Rattle.std.specs.List.{flat_map, enumerate_from}
 use Rattle.std.specs.Option.{option_to_list, option_or, is_none}
 use Rattle.std.specs.Str.{bytes_eq}
@@ -11,6 +11,8 @@ use Rattle.rmt_lexer.specs.declared.place.Place.{Place}
 use Rattle.rmt_check.specs.declared.source.Ident.{Ident}
 use Rattle.rmt_check.specs.declared.source.Number.{Number}
 use Rattle.rmt_check.specs.declared.source.Declared.{Declared}
+use Rattle.rmt_check.specs.declared.source.OwnerText.{OwnerText}
+use Rattle.rmt_check.specs.declared.source.OwnerText.TheVariants as owner
 use Rattle.rmt_check.specs.declared.source.FieldText.{FieldText}
 use Rattle.rmt_check.specs.declared.source.ValueText.{ValueText}
 use Rattle.rmt_check.specs.declared.source.TargetText.{TargetText}
@@ -31,7 +33,7 @@ use Rattle.rmt_check.specs.declared.source.WhatText.{WhatText}
 use Rattle.rmt_check.specs.declared.source.WhatText.TheVariants.{Apply, If}
 use Rattle.rmt_check.specs.declared.source.NodeText.{NodeText}
 use Rattle.rmt_check.specs.declared.source.Source.{Source}
-use Rattle.rmt_check.specs.Names.{number_of, is_known, header_names, action_names, table_names, param_names, metadata, field_names, width_of, nodes_of, applied_tables, listed, listed_by, key_fields, selected, param_width, params_of, operands}
+use Rattle.rmt_check.specs.Names.{number_of, is_known, header_names, action_names, table_names, param_names, metadata, in_port, field_keys, key_of, width_of, nodes_of, applied_tables, listed, listed_by, key_fields, selected, param_width, params_of, operands}
 
 -- a place, where something is broken there
 abbrev pub when : Bool → Place → List Place
@@ -69,14 +71,18 @@ broken_5 s =
     ++ repeated (map (λ (t : TableText). t.ident) s.tables)
     ++ flat_map (λ (t : TableText). repeated (listed t)) s.tables
 
--- a header that is not declared
-abbrev pub unknown_header : Source → Option Ident → List Place
-unknown_header s None = []
-unknown_header s (Some h) = unknown (header_names s) (h ∷ [])
+-- a field's header that is not declared
+abbrev pub unknown_owner : Source → OwnerText → List Place
+unknown_owner s owner.Intrinsic = []
+unknown_owner s owner.Metadata = []
+unknown_owner s (owner.Header h) = unknown (header_names s) (h ∷ [])
+
+abbrev pub is_field : Source → List ℕ → Bool
+is_field s k = is_known (field_keys s) k
 
 -- the header of a field where it is not declared, and the field where it is not
 abbrev pub unknown_field : Source → FieldText → List Place
-unknown_field s f = unknown_header s f.header ++ unknown (field_names s) (f.ident ∷ [])
+unknown_field s f = unknown_owner s f.owner ++ when (not (is_field s (key_of s f))) f.ident.place
 
 abbrev pub target_names : TargetText → List Ident
 target_names (target.Header h) = h ∷ []
@@ -89,7 +95,7 @@ targets h = flat_map (λ (c : CaseText). target_names c.target) h.cases ++ targe
 
 -- the names of a select that are no fields of the header
 abbrev pub unknown_select : Source → HeaderText → List Place
-unknown_select s h = flat_map (λ (i : Ident). when (not (is_known (field_names s) (selected h i))) i.place) h.select
+unknown_select s h = flat_map (λ (i : Ident). when (not (is_field s (selected s h i))) i.place) h.select
 
 abbrev pub unknown_leaf : Source → ActionText → LeafText → List Place
 unknown_leaf s a (leaf.Field f) = unknown_field s f
@@ -167,7 +173,7 @@ too_wide width n = when (not (fits width n.value)) n.place
 
 -- an operand of another width than the assigned field
 abbrev pub differs : Source → ActionText → ℕ → LeafText → List Place
-differs s a width (leaf.Field f) = when (not (width_of s f.ident.name == width)) f.place
+differs s a width (leaf.Field f) = when (not (width_of s (key_of s f) == width)) f.place
 differs s a width (leaf.Param p) = when (not (param_width a p.name == width)) p.place
 differs s a width (leaf.Number n) = too_wide width n
 
@@ -177,18 +183,18 @@ too_wide_value width v = too_wide width v.value ++ flat_map (too_wide width) (op
 
 -- the values of a case that have a name in the select
 abbrev pub too_wide_case : Source → HeaderText → CaseText → List Place
-too_wide_case s h c = flat_map (λ (x : Ident × ValueText). too_wide_value (width_of s (selected h x.0)) x.1) (zip h.select c.values)
+too_wide_case s h c = flat_map (λ (x : Ident × ValueText). too_wide_value (width_of s (selected s h x.0)) x.1) (zip h.select c.values)
 
 abbrev pub too_wide_node : Source → WhatText → List Place
 too_wide_node s (Apply table arms) = []
 too_wide_node s (If field mask value) =
-    let v : ValueText = record { value = value; mask = mask } in too_wide_value (width_of s field.ident.name) v
+    let v : ValueText = record { value = value; mask = mask } in too_wide_value (width_of s (key_of s field)) v
 
 -- Code 10: an operand is not of the width of the assigned field, or a number does not fit the field.
 abbrev pub broken_10 : Source → List Place
 broken_10 s =
     flat_map
-    (λ (a : ActionText). flat_map (λ (x : AssignText). flat_map (differs s a (width_of s x.dest.ident.name)) (operands x.expr)) a.assigns)
+    (λ (a : ActionText). flat_map (λ (x : AssignText). flat_map (differs s a (width_of s (key_of s x.dest))) (operands x.expr)) a.assigns)
     s.actions
     ++ flat_map (λ (h : HeaderText). flat_map (too_wide_case s h) h.cases) s.headers
     ++ flat_map (λ (n : NodeText). too_wide_node s n.what) (nodes_of s)
@@ -207,35 +213,35 @@ wide_sign width (Some r) = when (is_sum r.0.op && nat_lt 32 width) r.0.place
 -- Code 11: `+` or `-` into a field wider than 32 bits.
 abbrev pub broken_11 : Source → List Place
 broken_11 s =
-    flat_map (λ (a : ActionText). flat_map (λ (x : AssignText). wide_sign (width_of s x.dest.ident.name) x.expr.right) a.assigns) s.actions
+    flat_map (λ (a : ActionText). flat_map (λ (x : AssignText). wide_sign (width_of s (key_of s x.dest)) x.expr.right) a.assigns) s.actions
 
 -- Code 12: `in_port` is assigned.
 abbrev pub broken_12 : Source → List Place
 broken_12 s =
-    flat_map (λ (a : ActionText). flat_map (λ (x : AssignText). when (bytes_eq x.dest.ident.name (codes "in_port")) x.dest.place) a.assigns) s.actions
+    flat_map (λ (a : ActionText). flat_map (λ (x : AssignText). when (bytes_eq (key_of s x.dest) in_port) x.dest.place) a.assigns) s.actions
 
 -- Code 13: a table is applied again.
 abbrev pub broken_13 : Source → List Place
 broken_13 s = repeated (applied_tables s)
 
--- the fields of a key, each at its first token
-abbrev pub first_tokens : List FieldText → List Ident
-first_tokens fs = map (λ (f : FieldText). let i : Ident = record { place = f.place; name = f.ident.name } in i) fs
+-- a field by its key, at its first token
+abbrev pub keyed : Source → FieldText → Ident
+keyed s f = record { place = f.place; name = key_of s f }
 
 abbrev pub further_prefix : Kind → List FieldText → List Place
-further_prefix Prefix fs = places (first_tokens (drop 1 fs))
+further_prefix Prefix fs = map (λ (f : FieldText). f.place) (drop 1 fs)
 further_prefix _ fs = []
 
-abbrev pub bad_key : Option KeyText → List Place
-bad_key None = []
-bad_key (Some k) = further_prefix k.kind k.fields ++ repeated (first_tokens k.fields)
+abbrev pub bad_key : Source → Option KeyText → List Place
+bad_key s None = []
+bad_key s (Some k) = further_prefix k.kind k.fields ++ repeated (map (keyed s) k.fields)
 
 -- Code 14: a prefix key has a second field, or a key or a select has a field twice.
 abbrev pub broken_14 : Source → List Place
-broken_14 s = flat_map (λ (h : HeaderText). repeated h.select) s.headers ++ flat_map (λ (t : TableText). bad_key t.key) s.tables
+broken_14 s = flat_map (λ (h : HeaderText). repeated h.select) s.headers ++ flat_map (λ (t : TableText). bad_key s t.key) s.tables
 
 abbrev pub key_bits : Source → TableText → ℕ
-key_bits s t = sum (map (λ (f : FieldText). width_of s f.ident.name) (key_fields t))
+key_bits s t = sum (map (λ (f : FieldText). width_of s (key_of s f)) (key_fields t))
 
 -- Code 15: a key is of more than 640 bits.
 abbrev pub broken_15 : Source → List Place

@@ -6,11 +6,11 @@ use Rattle.rmt_check.specs.declared.source.MetaText.{MetaText}
 use Rattle.rmt_check.specs.declared.source.ActionText.{ActionText}
 use Rattle.rmt_check.specs.declared.source.KeyText.{KeyText}
 use Rattle.rmt_check.specs.declared.source.TableText.{TableText}
-use Rattle.rmt_check.specs.declared.source.Under.{Under}
 use Rattle.rmt_check.specs.declared.source.NodeText.{NodeText}
 use Rattle.rmt_check.specs.declared.source.Source.{Source}
 use Rattle.rmt_check.specs.Names.{Known, fields_of, nodes_of, listed}
 use Rattle.rmt_check.specs.Rules.{bits_of}
+use Rattle.rmt_check.specs.Naming.{IsUnder}
 
 -- widths of at most 128 bits
 abbrev pub AreNarrow : List Declared → Type 0
@@ -37,14 +37,9 @@ pub record IsSizedHeader (h : HeaderText) : Type 0 where
   pub bits : bits_of h ≤ 512
   pub few : length h.fields ≤ 512
 
--- a node stands in an arm of one of the first so many
-abbrev pub IsWithin : ℕ → Option Under → Type 0
-IsWithin count None = ⊤
-IsWithin count (Some u) = u.parent < count
-
 -- each node of the control stands in an arm of one of its nodes
 abbrev pub AreNested : Source → Type 0
-AreNested s = All (λ (n : NodeText). IsWithin (length (nodes_of s)) n.under) (nodes_of s)
+AreNested s = All (λ (n : NodeText). IsUnder (length (nodes_of s)) n.under) (nodes_of s)
 
 -- the sizes of the parts of a text
 pub record IsSized (s : Source) : Type 0 where

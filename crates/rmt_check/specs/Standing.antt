@@ -1,32 +1,61 @@
 -- What the look-ups of names keep.
-use Rattle.std.specs.Prelude.{◌≡◌, ℕ, List, [], ◌++◌, map, Option, slice_get, unwrap_or}
+use Rattle.std.specs.Prelude.{◌≡◌, ℕ, ◌+◌, List, [], ◌∷◌, ◌++◌, codes, map, Option, slice_get, unwrap_or}
+use Rattle.std.specs.Borrow.{Bor}
 use Rattle.std.specs.Map.{lookup}
 use Rattle.std.specs.Str.{bytes_eq}
 use Rattle.std.specs.Option.{option_map_or}
-use Rattle.std.specs.Vec.{vec_items}
 use Rattle.rmt_check.specs.declared.fields.Fields.{Fields}
 use Rattle.rmt_check.specs.declared.names.Names.TheInside.{Inside}
-use Rattle.rmt_check.specs.Names.{Known, fields_of, header_names, action_names, table_names, list_names}
+use Rattle.rmt_check.specs.declared.source.Declared.{Declared}
+use Rattle.rmt_check.specs.declared.source.HeaderText.{HeaderText}
+use Rattle.rmt_check.specs.declared.source.Source.{Source}
+use Rattle.rmt_check.specs.Names.{key, in_port, metadata, header_names, action_names, table_names, list_names}
 use Rattle.rmt_check.specs.Numbering.{HasNumbers}
+
+-- a key as it is kept, and as it is defined
+abbrev pub key_in : ℕ × Bor (List ℕ) → List ℕ
+key_in k = key k.0 k.1.now
+
+-- a field by its key, with its width
+abbrev pub Keyed : Type 0
+Keyed = List ℕ × ℕ
+
+abbrev pub keyed_declared : ℕ → List Declared → List Keyed
+keyed_declared owner ds = map (λ (d : Declared). (key owner d.ident.name, d.width.value)) ds
+
+abbrev pub keyed_header : ℕ → HeaderText → List Keyed
+keyed_header owner h = (key owner (codes "valid"), 1) ∷ keyed_declared owner h.fields
+
+abbrev pub keyed_from : ℕ → List HeaderText → List Keyed
+keyed_from owner [] = []
+keyed_from owner (h ∷ hs) = keyed_header owner h ++ keyed_from (owner + 1) hs
+
+-- the fields that every program has
+abbrev pub keyed_intrinsic : List Keyed
+keyed_intrinsic = (in_port, 9) ∷ (key 0 (codes "out_port"), 9) ∷ (key 0 (codes "drop"), 1) ∷ []
+
+-- the fields by number
+abbrev pub keyed_fields : Source → List Keyed
+keyed_fields s = keyed_intrinsic ++ keyed_from 2 s.headers ++ keyed_declared 1 (metadata s)
 
 -- the number of a field, and its width
 abbrev pub number_in : Fields → List ℕ → Option ℕ
-number_in f name = lookup (λ k. bytes_eq name (vec_items k)) f.numbers.entries
+number_in f k = lookup (λ x. bytes_eq k (key_in x)) f.numbers.entries
 
 abbrev pub width_in : Fields → List ℕ → ℕ
-width_in f name = option_map_or (λ (n : ℕ). unwrap_or (slice_get f.widths.items n) 0) (number_in f name) 0
+width_in f k = option_map_or (λ (n : ℕ). unwrap_or (slice_get f.widths.items n) 0) (number_in f k) 0
 
 -- these are the fields, in their order
-pub record HasFields (f : Fields) (known : List Known) : Type 0 where
-  pub numbers : HasNumbers vec_items f.numbers.entries (map (λ (k : Known). k.0) known)
-  pub widths : f.widths.items ≡ map (λ (k : Known). k.1) known
+pub record HasFields (f : Fields) (fields : List Keyed) : Type 0 where
+  pub numbers : HasNumbers key_in f.numbers.entries (map (λ (x : Keyed). x.0) fields)
+  pub widths : f.widths.items ≡ map (λ (x : Keyed). x.1) fields
 
 -- these fields were added
-pub record Grows (old new : Fields) (more : List Known) : Type 0 where
-  pub after : (known : List Known) → HasFields old known → HasFields new (known ++ more)
+pub record Grows (old new : Fields) (more : List Keyed) : Type 0 where
+  pub after : (fields : List Keyed) → HasFields old fields → HasFields new (fields ++ more)
 
 pub record IsNames (n : Inside) : Type 0 where
-  pub fields : HasFields n.fields (fields_of n.source.now)
+  pub fields : HasFields n.fields (keyed_fields n.source.now)
   pub headers : n.headers ≡ header_names n.source.now
   pub actions : n.actions ≡ action_names n.source.now
   pub tables : n.tables ≡ table_names n.source.now

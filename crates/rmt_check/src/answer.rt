@@ -63,7 +63,7 @@ fn check_values(alloc: Global, names: &Names<'_>) -> Result<(), ProgramFault>
     refuse(9, Ok(target_not_later(names)))?;
     refuse(10, widths_differ(alloc, names))?;
     refuse(11, Ok(wide_arithmetic(names)))?;
-    refuse(12, Ok(read_only(names.source())))
+    refuse(12, Ok(read_only(names)))
 }
 
 /// Checks how tables are applied, their keys and their lists of actions.
@@ -72,7 +72,7 @@ fn check_tables(alloc: Global, names: &Names<'_>) -> Result<(), ProgramFault>
 {
     let source = names.source();
     refuse(13, applied_twice(alloc, source))?;
-    refuse(14, key_kinds(alloc, source))?;
+    refuse(14, key_kinds(alloc, names))?;
     refuse(15, Ok(key_too_wide(names)))?;
     refuse(16, Ok(too_many_actions(source)))
 }

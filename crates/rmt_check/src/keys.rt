@@ -6,10 +6,12 @@ ghost use Rattle.rmt_check.specs.Rules as rules;
 ghost use Rattle.rmt_check.specs.Rules.{bad_key, broken_14, earliest};
 ghost use Rattle.rmt_lexer.specs.declared.fault.ProgramFault.TheVariants.{NoMemory};
 
+use crate::names::Names;
 use crate::placed::{beyond, earliest_place};
 use crate::places::earlier;
-use crate::repeats::{repeated, repeated_idents};
-use crate::source::{FieldText, HeaderText, KeyText, Source, TableText};
+use crate::repeated_fields::repeated_fields;
+use crate::repeats::repeated_idents;
+use crate::source::{FieldText, HeaderText, KeyText, TableText};
 use rmt_ast::program::Kind;
 use rmt_lexer::fault::ProgramFault;
 use rmt_lexer::place::Place;
@@ -27,32 +29,44 @@ fn further_prefix(kind: Kind, fields: &[FieldText]) -> Option<Place>
     }
 }
 
-fn key_faults(alloc: Global, key: &KeyText) -> Result<Option<Place>, ProgramFault>
-    ensures again { IfOk result (λ p. p ≡ earliest (bad_key (Some key.now))) }
+fn key_faults(
+    alloc: Global,
+    names: &Names<'_>,
+    key: &KeyText,
+) -> Result<Option<Place>, ProgramFault>
+    ensures again { IfOk result (λ p. p ≡ earliest (bad_key names.now (Some key.now))) }
     ensures fault { IfErr result (λ e. e ≡ NoMemory) }
 {
     let further = further_prefix(key.kind, key.fields.as_slice());
-    let again = repeated(alloc, key.fields.as_slice())?;
+    let again = repeated_fields(alloc, names, key.fields.as_slice())?;
     Ok(earlier(further, again))
 }
 
-fn in_table(alloc: Global, table: &TableText) -> Result<Option<Place>, ProgramFault>
-    ensures again { IfOk result (λ p. p ≡ earliest (bad_key table.now.key)) }
+fn in_table(
+    alloc: Global,
+    names: &Names<'_>,
+    table: &TableText,
+) -> Result<Option<Place>, ProgramFault>
+    ensures again { IfOk result (λ p. p ≡ earliest (bad_key names.now table.now.key)) }
     ensures fault { IfErr result (λ e. e ≡ NoMemory) }
 {
     match &table.key {
-        Some(key) => key_faults(alloc, key),
+        Some(key) => key_faults(alloc, names, key),
         None => Ok(None),
     }
 }
 
-fn in_tables(alloc: Global, tables: &[TableText]) -> Result<Option<Place>, ProgramFault>
-    ensures again { IfOk result (λ p. p ≡ earliest (flat_map (λ t. bad_key t.key) tables.now)) }
+fn in_tables(
+    alloc: Global,
+    names: &Names<'_>,
+    tables: &[TableText],
+) -> Result<Option<Place>, ProgramFault>
+    ensures again { IfOk result (λ p. p ≡ earliest (flat_map (λ t. bad_key names.now t.key) tables.now)) }
     ensures fault { IfErr result (λ e. e ≡ NoMemory) }
 {
     let mut first = None;
     for table in tables {
-        let again = in_table(alloc, table)?;
+        let again = in_table(alloc, names, table)?;
         first = earlier(first, again);
     }
     Ok(first)
@@ -72,11 +86,12 @@ fn in_selects(alloc: Global, headers: &[HeaderText]) -> Result<Option<Place>, Pr
 
 /// Where a prefix key has a second field, or a key or a select has a field twice: code 14.
 /// The only fault is want of memory.
-pub fn key_kinds(alloc: Global, source: &Source) -> Result<Option<Place>, ProgramFault>
-    ensures again { IfOk result (λ p. p ≡ earliest (broken_14 source.now)) }
+pub fn key_kinds(alloc: Global, names: &Names<'_>) -> Result<Option<Place>, ProgramFault>
+    ensures again { IfOk result (λ p. p ≡ earliest (broken_14 names.now)) }
     ensures fault { IfErr result (λ e. e ≡ NoMemory) }
 {
+    let source = names.source();
     let selects = in_selects(alloc, source.headers.as_slice())?;
-    let keys = in_tables(alloc, source.tables.as_slice())?;
+    let keys = in_tables(alloc, names, source.tables.as_slice())?;
     Ok(earlier(selects, keys))
 }

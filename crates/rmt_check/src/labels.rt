@@ -3,7 +3,7 @@
 ghost use Rattle.std.specs.Prelude.{◌≡◌};
 ghost use Rattle.rmt_check.specs.declared.source.Ident.{Ident as IdentValue};
 
-use crate::source::{ActionText, Declared, FieldText, HeaderText, Ident, TableText};
+use crate::source::{ActionText, Declared, HeaderText, Ident, TableText};
 use rmt_lexer::place::Place;
 
 /// A name, and the place that is told where it is wrong.
@@ -62,17 +62,5 @@ impl Labelled for TableText {
 
     fn label(&self) -> Label<'_> {
         self.ident.label()
-    }
-}
-
-/// A field that is named, at its first token.
-impl Labelled for FieldText {
-    ghost ident_of = { λ f. record { place = f.place; name = f.ident.name } };
-
-    fn label(&self) -> Label<'_> {
-        Label {
-            place: self.place,
-            name: self.ident.name.as_slice(),
-        }
     }
 }

@@ -29,8 +29,10 @@ mod reading_headers;
 mod reading_parts;
 mod reading_tables;
 mod reading_words;
+mod repeated_fields;
 mod repeats;
 mod same_width;
+mod selects;
 mod source;
 #[cfg(test)]
 mod tests;

@@ -4,13 +4,15 @@ ghost use Rattle.std.specs.Prelude.{◌≡◌, find, IfOk, IfErr, option_copied,
 ghost use Rattle.std.specs.Str.{bytes_eq};
 ghost use Rattle.rmt_check.specs.declared.source.ActionText.{ActionText};
 ghost use Rattle.rmt_check.specs.declared.source.TableText.{TableText};
-ghost use Rattle.rmt_check.specs.Names.{number_of, field_names, width_of, header_names, action_names, table_names, ident_names, is_known, listed, listed_by, params_of};
+ghost use Rattle.rmt_check.specs.Names as words;
+ghost use Rattle.rmt_check.specs.Names.{number_of, field_keys, key_of, width_of, header_names, action_names, table_names, ident_names, is_known, listed, listed_by, owner_number, params_of};
+ghost use Rattle.rmt_check.specs.Standing.{key_in};
 ghost use Rattle.rmt_lexer.specs.declared.fault.ProgramFault.TheVariants.{NoMemory};
 
-use crate::fields::Fields;
+use crate::fields::{FIRST_HEADER, FieldKey, Fields, INTRINSIC, METADATA};
 use crate::name_lists;
 use crate::numbers::Numbers;
-use crate::source::{ActionText, Declared, Source};
+use crate::source::{ActionText, Declared, FieldText, OwnerText, Source};
 use rmt_bits::sequence::Sequence;
 use rmt_lexer::fault::ProgramFault;
 use std::alloc::Global;
@@ -20,7 +22,7 @@ use std::marker::Model;
 #[derive(Drop)]
 pub struct Names<'a> {
     source: &'a Source,
-    fields: Fields,
+    fields: Fields<'a>,
     headers: Numbers<'a>,
     actions: Numbers<'a>,
     tables: Numbers<'a>,
@@ -75,18 +77,51 @@ impl<'a> Names<'a> {
         self.source
     }
 
-    /// The number of a field, by the name by which it is printed.
-    pub fn field(&self, name: &[u8]) -> Option<usize>
-        ensures { result ≡ number_of (field_names self.now) name.now }
+    /// The owner that a header is, by its name; for a name that is none, one that has no field.
+    pub fn header_owner(&self, name: &[u8]) -> usize
+        ensures { result ≡ words.header_owner self.now name.now }
     {
-        self.fields.number(name)
+        let headers = self.source.headers.as_slice();
+        FIRST_HEADER + self.header(name).unwrap_or(headers.len())
     }
 
-    /// The width of a field, by the name by which it is printed, and 0 for a name that is none.
-    pub fn width(&self, name: &[u8]) -> u128
-        ensures { result ≡ width_of self.now name.now }
+    /// The number of a field's owner.
+    fn owner(&self, owner: &OwnerText) -> usize
+        ensures { result ≡ owner_number self.now owner.now }
     {
-        self.fields.width(name)
+        match owner {
+            OwnerText::Intrinsic => INTRINSIC,
+            OwnerText::Metadata => METADATA,
+            OwnerText::Header(header) => self.header_owner(header.name.as_slice()),
+        }
+    }
+
+    /// The key of a field that is named.
+    pub fn key<'b>(&self, field: &'b FieldText) -> FieldKey<'b>
+        ensures { key_in result ≡ key_of self.now field.now }
+    {
+        (self.owner(&field.owner), field.ident.name.as_slice())
+    }
+
+    /// The number of the field with a key.
+    pub fn field(&self, key: FieldKey<'_>) -> Option<usize>
+        ensures { result ≡ number_of (field_keys self.now) (key_in key.entry) }
+    {
+        self.fields.number(key)
+    }
+
+    /// The width of the field with a key, and 0 for a key that is none.
+    pub fn width(&self, key: FieldKey<'_>) -> u128
+        ensures { result ≡ width_of self.now (key_in key.entry) }
+    {
+        self.fields.width(key)
+    }
+
+    /// The width of a field that is named, and 0 where there is none.
+    pub fn width_of(&self, field: &FieldText) -> u128
+        ensures { result ≡ width_of self.now (key_of self.now field.now) }
+    {
+        self.width(self.key(field))
     }
 
     /// The number of a header.
@@ -131,11 +166,11 @@ impl<'a> Names<'a> {
         &self.tables
     }
 
-    /// Whether there is a field that is printed so.
-    pub fn knows_field(&self, name: &[u8]) -> bool
-        ensures { result ≡ is_known (field_names self.now) name.now }
+    /// Whether there is a field with a key.
+    pub fn knows_field(&self, key: FieldKey<'_>) -> bool
+        ensures { result ≡ is_known (field_keys self.now) (key_in key.entry) }
     {
-        self.field(name).is_some()
+        self.field(key).is_some()
     }
 
     /// The actions of the list of the first table of a name.

@@ -1,13 +1,12 @@
 //! Reads fields.
 
-ghost use Rattle.std.specs.Prelude.{◌≡◌, IfOk, IfErr, ◌++◌, codes};
+ghost use Rattle.std.specs.Prelude.{◌≡◌, IfOk, IfErr};
 ghost use Rattle.rmt_lexer.specs.declared.fault.ProgramFault.TheVariants.{NoMemory};
-ghost use Rattle.rmt_check.specs.Reading.{at_token, word_in, words, header_in, field_of, field_at};
+ghost use Rattle.rmt_check.specs.Reading.{at_token, word_in, words, header_in, owner_of, field_of, field_at};
 
 use crate::reading_parts::Part;
-use crate::reading_words::{copy_name, ident_of, no_name, nowhere};
-use crate::source::{FieldText, Ident};
-use rmt_ast::name::Name;
+use crate::reading_words::{copy_ident, ident_of, no_name, nowhere};
+use crate::source::{FieldText, Ident, OwnerText};
 use rmt_lexer::fault::ProgramFault;
 use rmt_lexer::token::TokenKind;
 use rmt_syntax::tree::{Rule, Tree};
@@ -52,15 +51,14 @@ fn header_in(alloc: Global, trees: &[Tree]) -> Result<Option<Ident>, ProgramFaul
     }
 }
 
-/// Two names with a dot between them.
-fn dotted(alloc: Global, owner: &Name, name: &Name) -> Result<Name, ProgramFault>
-    ensures name { IfOk result (λ both. both ≡ owner.now ++ codes "." ++ name.now) }
-    ensures err { IfErr result (λ fault. fault ≡ NoMemory) }
+/// Whose a field of two words is.
+fn owner_of(header: Option<Ident>) -> OwnerText
+    ensures { result ≡ owner_of header }
 {
-    let mut both = Vec::from_slice(alloc, owner.as_slice())?;
-    both.extend_from_slice(b".")?;
-    both.extend_from_slice(name.as_slice())?;
-    Ok(Name::from_vec(both))
+    match header {
+        Some(header) => OwnerText::Header(header),
+        None => OwnerText::Metadata,
+    }
 }
 
 /// A field of these words.
@@ -75,24 +73,18 @@ fn field_of(
     match words {
         [] => Ok(FieldText {
             place: nowhere(),
-            header,
+            owner: OwnerText::Intrinsic,
             ident: no_name(alloc),
         }),
         [word] => Ok(FieldText {
             place: word.place,
-            header,
-            ident: Ident {
-                place: word.place,
-                name: copy_name(alloc, &word.name)?,
-            },
+            owner: OwnerText::Intrinsic,
+            ident: copy_ident(alloc, word)?,
         }),
-        [owner, word, ..] => Ok(FieldText {
-            place: owner.place,
-            header,
-            ident: Ident {
-                place: word.place,
-                name: dotted(alloc, &owner.name, &word.name)?,
-            },
+        [first, word, ..] => Ok(FieldText {
+            place: first.place,
+            owner: owner_of(header),
+            ident: copy_ident(alloc, word)?,
         }),
     }
 }

@@ -55,6 +55,17 @@ pub fn copy_name(alloc: Global, name: &Name) -> Result<Name, ProgramFault>
     }
 }
 
+/// An equal name at the same place.
+pub fn copy_ident(alloc: Global, ident: &Ident) -> Result<Ident, ProgramFault>
+    ensures ident { IfOk result (λ copy. copy ≡ ident.now) }
+    ensures err { IfErr result (λ fault. fault ≡ NoMemory) }
+{
+    Ok(Ident {
+        place: ident.place,
+        name: copy_name(alloc, &ident.name)?,
+    })
+}
+
 /// A token as it is written: a word with its bytes, another one with none.
 pub fn ident_of(alloc: Global, token: &Token) -> Result<Ident, ProgramFault>
     ensures ident { IfOk result (λ ident. ident ≡ ident_of token.now) }

@@ -4,16 +4,16 @@ ghost use Rattle.std.specs.Prelude.{◌≡◌, option_map, slice_get, zip, IfOk,
 ghost use Rattle.std.specs.List.{flat_map};
 ghost use Rattle.std.specs.Option.{option_to_list};
 ghost use Rattle.rmt_check.specs.Names.{operands};
-ghost use Rattle.rmt_check.specs.Looked.{select_widths, too_wide_beside, wrong_operands};
+ghost use Rattle.rmt_check.specs.Looked.{too_wide_beside, wrong_operands};
 ghost use Rattle.rmt_check.specs.Rules as rules;
 ghost use Rattle.rmt_check.specs.Rules.{broken_10, earliest, too_wide_case, too_wide_node};
 ghost use Rattle.rmt_lexer.specs.declared.fault.ProgramFault.TheVariants.{NoMemory};
 
 use crate::action_names::ActionNames;
 use crate::control::nodes_of;
-use crate::fields::printed;
 use crate::names::Names;
 use crate::places::{earlier, place_when};
+use crate::selects::select_widths;
 use crate::source::{
     ActionText, AssignText, CaseText, ExprText, HeaderText, LeafText, NodeText, Number, Sign,
     ValueText, WhatText,
@@ -47,7 +47,7 @@ fn differs(
 {
     match leaf {
         LeafText::Field(field) => {
-            let own = names.width(field.ident.name.as_slice());
+            let own = names.width_of(field);
             place_when(own != width, field.place)
         }
         LeafText::Param(param) => {
@@ -95,7 +95,7 @@ fn wrong_in_assign(
 ) -> Option<Place>
     ensures { result ≡ earliest (wrong_operands names.now action.now assign.now) }
 {
-    let width = names.width(assign.dest.ident.name.as_slice());
+    let width = names.width_of(&assign.dest);
     differs_operand(names, action, width, &assign.expr)
 }
 
@@ -178,23 +178,6 @@ fn too_wide_values(widths: &[u128], values: &[ValueText]) -> Option<Place>
     first
 }
 
-/// The widths of a select's fields.
-fn widths_of_select(
-    alloc: Global,
-    names: &Names<'_>,
-    header: &HeaderText,
-) -> Result<Vec<u128>, ProgramFault>
-    ensures widths { IfOk result (λ v. v.items ≡ select_widths names.now header.now) }
-    ensures fault { IfErr result (λ e. e ≡ NoMemory) }
-{
-    let mut widths = Vec::new(alloc);
-    for ident in header.select.as_slice() {
-        let name = printed(alloc, header.ident.name.as_slice(), ident.name.as_slice())?;
-        widths.push(names.width(name.as_slice()))?;
-    }
-    Ok(widths)
-}
-
 fn too_wide_in_cases(widths: &[u128], cases: &[CaseText]) -> Option<Place>
     ensures { result ≡ earliest (flat_map (λ c. flat_map too_wide_beside (zip widths.now c.values)) cases.now) }
 {
@@ -213,7 +196,7 @@ fn too_wide_in_header(
     ensures first { IfOk result (λ p. p ≡ earliest (flat_map (too_wide_case names.now header.now) header.now.cases)) }
     ensures fault { IfErr result (λ e. e ≡ NoMemory) }
 {
-    let widths = widths_of_select(alloc, names, header)?;
+    let widths = select_widths(alloc, names, header)?;
     Ok(too_wide_in_cases(widths.as_slice(), header.cases.as_slice()))
 }
 
@@ -240,7 +223,7 @@ fn too_wide_in_node(names: &Names<'_>, what: &WhatText) -> Option<Place>
     match what {
         WhatText::Apply { .. } => None,
         WhatText::If { field, mask, value } => {
-            let width = names.width(field.ident.name.as_slice());
+            let width = names.width_of(field);
             too_wide_value(
                 width,
                 ValueText {

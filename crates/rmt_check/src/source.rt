@@ -26,14 +26,22 @@ pub struct Declared {
     pub width: Number,
 }
 
+/// Whose a field is.
+#[derive(Debug, Drop)]
+pub enum OwnerText {
+    /// Every program has it.
+    Intrinsic,
+    Metadata,
+    Header(Ident),
+}
+
 /// A field that is named.
 #[derive(Debug, Drop)]
 pub struct FieldText {
     /// Of its first token.
     pub place: Place,
-    /// The header that it names, if any.
-    pub header: Option<Ident>,
-    /// The field as it is printed, as in `eth.dst`, with the place of its last token.
+    pub owner: OwnerText,
+    /// Its own name, as `dst` of `eth.dst`, with the place of its last token.
     pub ident: Ident,
 }
 

@@ -6,7 +6,7 @@ mod programs;
 mod shown;
 
 use crate::check;
-use crate::tests::programs::{ARMS, ARMS_SHOWN, REALISTIC, REALISTIC_SHOWN};
+use crate::tests::programs::{ARMS, ARMS_SHOWN, REALISTIC, REALISTIC_SHOWN, TWINS, TWINS_SHOWN};
 use crate::tests::shown::shown;
 use rmt_ast::program::Program;
 use rmt_lexer::fault::ProgramFault;
@@ -29,7 +29,7 @@ fn answer(alloc: Global, text: &[u8]) -> Result<Program, ProgramFault>
 type Row = (&'static [u8], u8, u32, u32);
 
 /// Each code, for each of its causes.
-const FAULTS: [Row; 71] = [
+const FAULTS: [Row; 74] = [
     (
         b"header h { f : 8; } next accept; header h { f : 8; } next accept; control { }",
         5,
@@ -94,6 +94,12 @@ const FAULTS: [Row; 71] = [
         6,
         1,
         56,
+    ),
+    (
+        b"header h { f : 8; } next accept; header i { g : 8; } next accept; action b() { h.f = 1; i.f = 1; } control { }",
+        6,
+        1,
+        91,
     ),
     (
         b"header h { f : 8; g : 8; } next accept; action b() { meta.x = 1; } control { }",
@@ -237,6 +243,12 @@ const FAULTS: [Row; 71] = [
         46,
     ),
     (
+        b"header h { f : 8; } next (f) { 256 : i; else : accept; } header i { f : 16; } next (f) { 256 : reject; else : accept; } control { }",
+        10,
+        1,
+        32,
+    ),
+    (
         b"header h { f : 8; } next (f) { 1 & 256 : reject; else : accept; } control { }",
         10,
         1,
@@ -295,6 +307,12 @@ const FAULTS: [Row; 71] = [
         14,
         1,
         82,
+    ),
+    (
+        b"header h { f : 8; } next accept; header i { f : 8; } next accept; action a() { } table t { exact h.f, i.f, h.f; actions a; size 1; default a(); } control { apply t; }",
+        14,
+        1,
+        108,
     ),
     (
         b"header h { f : 8; g : 8; } next accept; action a() { } table t { ternary h.f, h.f; actions a; size 1; default a(); } control { apply t; }",
@@ -483,7 +501,7 @@ const LONG_FAULTS: [LongRow; 7] = [
 
 /// Compares the fault of a text.
 fn tells(rt: &(impl Abort + AllocGlobal), text: &[u8], code: u8, line: u32, column: u32) {
-    assert!(rt; text.len() < 10000);
+    assert!(rt; text.len() < 10000000);
     match answer(rt.alloc(), text) {
         Ok(_) => assert!(rt; false, "a program, and not code {code}"),
         Err(
@@ -535,15 +553,27 @@ fn tells_faults_of_long_texts(rt: HostRuntime) {
     }
 }
 
+/// A header of a very long name, with so many fields that its bits are too many.
+#[test]
+fn tells_of_a_long_name_with_many_fields(rt: HostRuntime) {
+    let front = repeated(rt.alloc(), b"header ", b"h", 50000, b" { ").expect(&rt, "memory");
+    let back = b"} next accept; control { }";
+    let text = repeated(rt.alloc(), front.as_slice(), b"f# : 1; ", 50000, back).expect(
+        &rt, "memory",
+    );
+    tells(&rt, text.as_slice(), 8, 1, 8);
+}
+
 /// Names that are the same in different spaces are no fault.
 const SPACES: &[u8] =
     b"header x { x : 8; } next accept; meta { x : 8; } action x(x : 8) { x.x = x; } table x { exact meta.x; actions x; size 1; default x(1); } control { apply x; }";
 
 #[test]
 fn reads_programs(rt: HostRuntime) {
-    let table: [(&'static [u8], &'static str); 3] = [
+    let table: [(&'static [u8], &'static str); 4] = [
         (REALISTIC, REALISTIC_SHOWN),
         (ARMS, ARMS_SHOWN),
+        (TWINS, TWINS_SHOWN),
         (
             SPACES,
             "field in_port 9\nfield out_port 9\nfield drop 1\nfield x.valid 1\nfield x.x 8\nfield meta.x 8\nheader x valid 3 fields 4 bytes 1 select else accept\naction x params 8 f4=p0\ntable x exact key 5 actions 0 default 0 args 1 size 1 uncounted\nnode apply 0\n",

@@ -2,22 +2,23 @@
 
 ghost use Rattle.std.specs.Prelude.{◌≡◌, ◌∷◌, [], not, IfOk, IfErr, option_map, option_to_list};
 ghost use Rattle.std.specs.List.{flat_map};
-ghost use Rattle.rmt_check.specs.Names.{field_names, header_names, is_known, operands, selected};
+ghost use Rattle.rmt_check.specs.Names.{header_names, operands};
 ghost use Rattle.rmt_check.specs.Rules as rules;
-ghost use Rattle.rmt_check.specs.Rules.{arm_names, broken_6, earliest, target_names, targets, unknown, when};
+ghost use Rattle.rmt_check.specs.Rules.{arm_names, broken_6, earliest, is_field, target_names, targets, unknown, when};
+ghost use Rattle.rmt_check.specs.Standing.{key_in};
 ghost use Rattle.rmt_lexer.specs.declared.fault.ProgramFault.TheVariants.{NoMemory};
 
 use crate::action_names::ActionNames;
 use crate::control::nodes_of;
 use crate::counts::listed;
-use crate::fields::printed;
+use crate::fields::FieldKey;
 use crate::key_width::key_fields;
 use crate::names::Names;
 use crate::numbers::Numbers;
 use crate::places::{earlier, place_when};
 use crate::source::{
     ActionText, ArmText, AssignText, CaseText, ExprText, FieldText, HeaderText, Ident, LeafText,
-    NodeText, Sign, TableText, TargetText, WhatText,
+    NodeText, OwnerText, Sign, TableText, TargetText, WhatText,
 };
 use rmt_lexer::fault::ProgramFault;
 use rmt_lexer::place::Place;
@@ -41,24 +42,31 @@ fn unknown_among(names: &Numbers<'_>, idents: &[Ident]) -> Option<Place>
     first
 }
 
-/// Where a header that a field names is not declared.
-fn unknown_header(names: &Names<'_>, header: &Option<Ident>) -> Option<Place>
-    ensures { result ≡ earliest (rules.unknown_header names.now header.now) }
+/// Where a field's header is not declared.
+fn unknown_owner(names: &Names<'_>, owner: &OwnerText) -> Option<Place>
+    ensures { result ≡ earliest (rules.unknown_owner names.now owner.now) }
 {
-    match header {
-        Some(header) => unknown_one(names.headers(), header),
-        None => None,
+    match owner {
+        OwnerText::Header(header) => unknown_one(names.headers(), header),
+        OwnerText::Intrinsic => None,
+        OwnerText::Metadata => None,
     }
+}
+
+/// The place, where no field has the key.
+fn unknown_key(names: &Names<'_>, key: FieldKey<'_>, place: Place) -> Option<Place>
+    ensures { result ≡ earliest (when (not (is_field names.now (key_in key.entry))) place) }
+{
+    place_when(!names.knows_field(key), place)
 }
 
 /// Where a field, or its header, is not declared.
 fn unknown_field(names: &Names<'_>, field: &FieldText) -> Option<Place>
     ensures { result ≡ earliest (rules.unknown_field names.now field.now) }
 {
-    let known = names.knows_field(field.ident.name.as_slice());
     earlier(
-        unknown_header(names, &field.header),
-        place_when(!known, field.ident.place),
+        unknown_owner(names, &field.owner),
+        unknown_key(names, names.key(field), field.ident.place),
     )
 }
 
@@ -104,52 +112,27 @@ fn unknown_in_all_targets(names: &Names<'_>, headers: &[HeaderText]) -> Option<P
     first
 }
 
-/// Where a name of a select is no field of its header.
-fn unknown_selected(
-    alloc: Global,
-    names: &Names<'_>,
-    header: &HeaderText,
-    ident: &Ident,
-) -> Result<Option<Place>, ProgramFault>
-    ensures first { IfOk result (λ p. p ≡ earliest (when (not (is_known (field_names names.now) (selected header.now ident.now))) ident.now.place)) }
-    ensures fault { IfErr result (λ e. e ≡ NoMemory) }
-{
-    let name = printed(alloc, header.ident.name.as_slice(), ident.name.as_slice())?;
-    let known = names.knows_field(name.as_slice());
-    Ok(place_when(!known, ident.place))
-}
-
 /// Where a select names no field of its header.
-fn unknown_select(
-    alloc: Global,
-    names: &Names<'_>,
-    header: &HeaderText,
-) -> Result<Option<Place>, ProgramFault>
-    ensures first { IfOk result (λ p. p ≡ earliest (rules.unknown_select names.now header.now)) }
-    ensures fault { IfErr result (λ e. e ≡ NoMemory) }
+fn unknown_select(names: &Names<'_>, header: &HeaderText) -> Option<Place>
+    ensures { result ≡ earliest (rules.unknown_select names.now header.now) }
 {
+    let owner = names.header_owner(header.ident.name.as_slice());
     let mut first = None;
     for ident in header.select.as_slice() {
-        let here = unknown_selected(alloc, names, header, ident)?;
-        first = earlier(first, here);
+        let key = (owner, ident.name.as_slice());
+        first = earlier(first, unknown_key(names, key, ident.place));
     }
-    Ok(first)
+    first
 }
 
-fn unknown_in_selects(
-    alloc: Global,
-    names: &Names<'_>,
-    headers: &[HeaderText],
-) -> Result<Option<Place>, ProgramFault>
-    ensures first { IfOk result (λ p. p ≡ earliest (flat_map (rules.unknown_select names.now) headers.now)) }
-    ensures fault { IfErr result (λ e. e ≡ NoMemory) }
+fn unknown_in_selects(names: &Names<'_>, headers: &[HeaderText]) -> Option<Place>
+    ensures { result ≡ earliest (flat_map (rules.unknown_select names.now) headers.now) }
 {
     let mut first = None;
     for header in headers {
-        let here = unknown_select(alloc, names, header)?;
-        first = earlier(first, here);
+        first = earlier(first, unknown_select(names, header));
     }
-    Ok(first)
+    first
 }
 
 /// Where an operand is not declared.
@@ -325,8 +308,8 @@ pub fn unknown_name(alloc: Global, names: &Names<'_>) -> Result<Option<Place>, P
     ensures fault { IfErr result (λ e. e ≡ NoMemory) }
 {
     let source = names.source();
-    let selects = unknown_in_selects(alloc, names, source.headers.as_slice())?;
     let actions = unknown_in_actions(alloc, names, source.actions.as_slice())?;
+    let selects = unknown_in_selects(names, source.headers.as_slice());
     let targets = unknown_in_all_targets(names, source.headers.as_slice());
     let tables = unknown_in_tables(names, source.tables.as_slice());
     let nodes = unknown_in_nodes(names, nodes_of(source));

@@ -37,10 +37,7 @@ fn wide_sign(width: u128, right: &Option<(Sign, LeafText)>) -> Option<Place>
 fn wide_in_assign(names: &Names<'_>, assign: &AssignText) -> Option<Place>
     ensures { result ≡ earliest (wide_sum names.now assign.now) }
 {
-    wide_sign(
-        names.width(assign.dest.ident.name.as_slice()),
-        &assign.expr.right,
-    )
+    wide_sign(names.width_of(&assign.dest), &assign.expr.right)
 }
 
 fn wide_in_assigns(names: &Names<'_>, assigns: &[AssignText]) -> Option<Place>

@@ -23,7 +23,7 @@ fn leaf_of(names: &Names<'_>, action: &ActionText, leaf: &LeafText) -> Leaf
     ensures { result ≡ leaf_of names.now action.now leaf.now }
 {
     match leaf {
-        LeafText::Field(field) => Leaf::Field(field_number(names, field.ident.name.as_slice())),
+        LeafText::Field(field) => Leaf::Field(field_number(names, field)),
         LeafText::Param(param) => Leaf::Param(param_number(action, param.name.as_slice())),
         LeafText::Number(number) => Leaf::Number(number.value),
     }
@@ -47,7 +47,7 @@ fn assign_of(names: &Names<'_>, action: &ActionText, assign: &AssignText) -> Ass
     ensures { result ≡ assign_of names.now action.now assign.now }
 {
     Assign {
-        dest: field_number(names, assign.dest.ident.name.as_slice()),
+        dest: field_number(names, &assign.dest),
         expr: expr_of(names, action, &assign.expr),
     }
 }

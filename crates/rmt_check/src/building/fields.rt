@@ -4,17 +4,28 @@ ghost use Rattle.std.specs.Prelude.{◌≡◌, ◌≤◌, ◌++◌, ◌∷◌, [
 ghost use Rattle.std.specs.List.{flat_map};
 ghost use Rattle.rmt_lexer.specs.declared.fault.ProgramFault.TheVariants.{NoMemory};
 ghost use Rattle.rmt_check.specs.declared.source.MetaText.{MetaText};
-ghost use Rattle.rmt_check.specs.Names.{known_fields, header_fields, fields_of};
+ghost use Rattle.rmt_check.specs.Names.{printed, known_fields, header_fields, fields_of};
 ghost use Rattle.rmt_check.specs.Meaning.{field_of};
 ghost use Rattle.rmt_check.specs.Sizes.{AreNarrow, IsSized, IsSizedHeader};
 
-use crate::fields::printed;
 use crate::source::{Declared, HeaderText, MetaText, Source};
 use rmt_ast::name::Name;
 use rmt_ast::program::Field;
 use rmt_bits::sequence::Sequence;
 use rmt_lexer::fault::ProgramFault;
 use std::alloc::Global;
+
+/// The name by which a field of a header, or of the metadata, is printed.
+fn printed(alloc: Global, owner: &[u8], name: &[u8]) -> Result<Vec<u8>, ProgramFault>
+    ensures printed { IfOk result (λ whole. whole.items ≡ printed owner.now name.now) }
+    ensures err { IfErr result (λ fault. fault ≡ NoMemory) }
+{
+    let mut whole = Vec::new(alloc);
+    whole.extend_from_slice(owner)?;
+    whole.push(b'.')?;
+    whole.extend_from_slice(name)?;
+    Ok(whole)
+}
 
 /// Adds a field of that name and width.
 fn add(fields: &mut Vec<Field>, name: Vec<u8>, width: u8) -> Result<(), ProgramFault>

@@ -7,14 +7,14 @@ ghost use Rattle.rmt_check.specs.declared.source.Ident.{Ident};
 ghost use Rattle.rmt_check.specs.Names.{selected};
 ghost use Rattle.rmt_check.specs.Rules as rules;
 ghost use Rattle.rmt_check.specs.Meaning.{case_of, field_number, header_from, headers_from};
-ghost use Rattle.rmt_check.specs.Building.{case_with, select_widths, tests_for};
+ghost use Rattle.rmt_check.specs.Building.{case_with, tests_for};
 ghost use Rattle.rmt_check.specs.Sizes.{IsSized, IsSizedHeader};
 
-use crate::building::known::{field_number, target_of};
+use crate::building::known::{number_at, target_of};
 use crate::building::values::test_of;
-use crate::fields::printed;
 use crate::names::Names;
 use crate::reading_words::copy_name;
+use crate::selects::select_widths;
 use crate::source::{CaseText, Declared, HeaderText, ValueText};
 use rmt_ast::program::{Case, Header, Test};
 use rmt_bits::answer::Numbers;
@@ -56,32 +56,15 @@ fn select_numbers(
 ) -> Result<Numbers, ProgramFault>
     requires { IsSized names.now }
     ensures numbers { IfOk result (λ numbers. numbers
-        ≡ map (λ (i : Ident). field_number names.now (selected header.now i)) header.now.select) }
+        ≡ map (λ (i : Ident). field_number names.now (selected names.now header.now i)) header.now.select) }
     ensures err { IfErr result (λ fault. fault ≡ NoMemory) }
 {
+    let owner = names.header_owner(header.ident.name.as_slice());
     let mut numbers = Sequence::new(alloc);
     for one in header.select.as_slice() {
-        let name = printed(alloc, header.ident.name.as_slice(), one.name.as_slice())?;
-        numbers.push(field_number(names, name.as_slice()))?;
+        numbers.push(number_at(names, (owner, one.name.as_slice())))?;
     }
     Ok(numbers)
-}
-
-/// The widths of the fields of a header's select.
-fn select_widths(
-    alloc: Global,
-    names: &Names<'_>,
-    header: &HeaderText,
-) -> Result<Vec<u128>, ProgramFault>
-    ensures widths { IfOk result (λ widths. widths.items ≡ select_widths names.now header.now) }
-    ensures err { IfErr result (λ fault. fault ≡ NoMemory) }
-{
-    let mut widths = Vec::new(alloc);
-    for one in header.select.as_slice() {
-        let name = printed(alloc, header.ident.name.as_slice(), one.name.as_slice())?;
-        widths.push(names.width(name.as_slice()))?;
-    }
-    Ok(widths)
 }
 
 /// Tests of values, each of a field with the width beside it, at most 128; as far as both go.

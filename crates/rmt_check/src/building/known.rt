@@ -2,12 +2,14 @@
 
 ghost use Rattle.std.specs.Prelude.{◌≡◌, ◌<◌, ◌≤◌, ◌^◌, length, position, unwrap_or};
 ghost use Rattle.std.specs.Str.{bytes_eq};
-ghost use Rattle.rmt_check.specs.Names.{param_names, header_names, table_names};
+ghost use Rattle.rmt_check.specs.Names.{param_names, header_names, key_of, table_names};
 ghost use Rattle.rmt_check.specs.Meaning.{index_of, field_number, action_number, target_of};
 ghost use Rattle.rmt_check.specs.Sizes.{IsSized};
+ghost use Rattle.rmt_check.specs.Standing.{key_in};
 
+use crate::fields::FieldKey;
 use crate::names::Names;
-use crate::source::{ActionText, Declared, Ident, TargetText};
+use crate::source::{ActionText, Declared, FieldText, Ident, TargetText};
 use rmt_ast::program::Target;
 
 /// A number that was found, and 0 for none.
@@ -18,13 +20,20 @@ fn number_or_0(found: Option<usize>) -> u32
     found.unwrap_or(0) as u32
 }
 
-/// The number of a field, by the name by which it is printed.
-#[tactic(auto, using(crate::proofs::Bounds::field_small))]
-pub fn field_number(names: &Names<'_>, name: &[u8]) -> u32
+/// The number of the field with a key.
+pub fn number_at(names: &Names<'_>, key: FieldKey<'_>) -> u32
     requires { IsSized names.now }
-    ensures { result ≡ field_number names.now name.now }
+    ensures { result ≡ field_number names.now (key_in key.entry) }
 {
-    number_or_0(names.field(name))
+    number_or_0(names.field(key))
+}
+
+/// The number of a field that is named.
+pub fn field_number(names: &Names<'_>, field: &FieldText) -> u32
+    requires { IsSized names.now }
+    ensures { result ≡ field_number names.now (key_of names.now field.now) }
+{
+    number_at(names, names.key(field))
 }
 
 /// The number of a header.

@@ -6,7 +6,8 @@ ghost use Rattle.rmt_check.specs.declared.source.NodeText.{NodeText};
 ghost use Rattle.rmt_check.specs.Names.{nodes_of};
 ghost use Rattle.rmt_check.specs.Meaning.{guard_of, node_of, what_of};
 ghost use Rattle.rmt_check.specs.Building.{arm_masks, gate_of};
-ghost use Rattle.rmt_check.specs.Sizes.{IsSized, IsWithin};
+ghost use Rattle.rmt_check.specs.Naming.{IsUnder};
+ghost use Rattle.rmt_check.specs.Sizes.{IsSized};
 
 use crate::building::known::{field_number, table_number};
 use crate::building::outcomes::{all_arm_masks, mask_in};
@@ -40,7 +41,7 @@ fn guard_of(
     requires nodes { nodes.now ≡ nodes_of names.now }
     requires masks { masks.now ≡ map (λ (n : NodeText). arm_masks names.now n.what) nodes.now }
     requires few { length nodes.now ≤ 128 }
-    requires within { IsWithin (length nodes.now) under.now }
+    requires within { IsUnder (length nodes.now) under.now }
     ensures { result ≡ option_map (guard_of names.now) under.now }
 {
     match under {
@@ -53,15 +54,13 @@ fn guard_of(
 }
 
 /// The test of an `if`.
-#[tactic(auto, using(crate::proofs::Bounds::width_narrow))]
 fn gate_of(names: &Names<'_>, field: &FieldText, value: &ValueText) -> What
     requires { IsSized names.now }
     ensures { result ≡ gate_of names.now field.now value.now }
 {
-    let name = field.ident.name.as_slice();
     What::Gate {
-        field: field_number(names, name),
-        test: test_of(names.width(name), value),
+        field: field_number(names, field),
+        test: test_of(names.width_of(field), value),
     }
 }
 
@@ -85,7 +84,7 @@ fn node_of(names: &Names<'_>, nodes: &[NodeText], masks: &[Sequence<u16>], node:
     requires sized { IsSized names.now }
     requires nodes { nodes.now ≡ nodes_of names.now }
     requires masks { masks.now ≡ map (λ (n : NodeText). arm_masks names.now n.what) nodes.now }
-    requires within { IsWithin (length nodes.now) node.now.under }
+    requires within { IsUnder (length nodes.now) node.now.under }
     ensures { result ≡ node_of names.now node.now }
 {
     Node {

@@ -1,7 +1,8 @@
 use Rattle.std.proofs.Common.{ℕ, List, zip, ap, ◌∙◌}
 use Rattle.std.specs.List.{flat_map}
 use Rattle.rmt_check.specs.declared.source.CaseText.{CaseText}
-use Rattle.rmt_check.specs.Looked.{select_widths, too_wide_beside}
+use Rattle.rmt_check.specs.Names.{select_widths}
+use Rattle.rmt_check.specs.Looked.{too_wide_beside}
 use Rattle.rmt_check.specs.Rules.{earliest}
 use Rattle.rmt_check.proofs.Beside.{cases_beside}
 use Rattle.rmt_check.proofs.same_width.too_wide_in_header.Goals as goal

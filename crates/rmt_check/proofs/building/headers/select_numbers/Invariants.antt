@@ -6,5 +6,5 @@ use Rattle.rmt_check.proofs.building.headers.select_numbers.Given as goal
 
 abbrev pub invariant-loop-one : goal.invariant-loop-one
 invariant-loop-one l =
-    l.numbers ++ map (λ (i : Ident). field_number l.names (selected l.header i)) (drop l.one-index l.one-items)
-    ≡ map (λ (i : Ident). field_number l.names (selected l.header i)) l.one-items
+    l.numbers ++ map (λ (i : Ident). field_number l.names (selected l.names l.header i)) (drop l.one-index l.one-items)
+    ≡ map (λ (i : Ident). field_number l.names (selected l.names l.header i)) l.one-items

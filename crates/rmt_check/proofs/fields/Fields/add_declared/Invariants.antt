@@ -1,7 +1,6 @@
 use Rattle.std.proofs.Common.{take}
-use Rattle.rmt_check.specs.Names.{known_fields}
-use Rattle.rmt_check.specs.Standing.{Grows}
+use Rattle.rmt_check.specs.Standing.{Grows, keyed_declared}
 use Rattle.rmt_check.proofs.fields.Fields.add_declared.Given as goal
 
 abbrev pub invariant-loop-field : goal.invariant-loop-field
-invariant-loop-field l = Grows l.initial.self l.self (known_fields l.owner (take l.field-index l.fields))
+invariant-loop-field l = Grows l.initial.self l.self (keyed_declared l.owner (take l.field-index l.fields))

@@ -1,14 +1,13 @@
-use Rattle.std.proofs.Common.{List, [], codes, ap}
+use Rattle.std.proofs.Common.{List, [], ap}
 use Rattle.std.specs.List.{flat_map}
-use Rattle.rmt_check.specs.declared.source.HeaderText.{HeaderText}
 use Rattle.rmt_check.specs.declared.source.MetaText.{MetaText}
-use Rattle.rmt_check.specs.Names.{header_fields, known_fields}
+use Rattle.rmt_check.specs.Standing.{keyed_declared, keyed_from}
 use Rattle.rmt_check.proofs.FieldNumbers.{grows_then, grows_as}
 use Rattle.rmt_check.proofs.fields.Fields.of.Goals as goal
 
 pub returns-clause-fields : goal.returns-clause-fields
 returns-clause-fields c =
-    let headers = grows_as c.in_ok-add_headers.ensures.added (ap (λ (hs : List HeaderText). flat_map header_fields hs) c.as_slice.ensures) in
-    let metas = grows_as c.in_ok-add_metas.ensures.added (ap (λ (ms : List MetaText). known_fields (codes "meta") (flat_map (λ (m : MetaText). m.fields) ms)) c.as_slice-2.ensures) in
-    let all = grows_then (grows_then c.in_ok-add_intrinsic.ensures.added headers) metas in
+    let headers = grows_as c.in_ok-add_headers.ensures.added (ap (keyed_from 2) c.as_slice.ensures) in
+    let metas = grows_as c.in_ok-add_metas.ensures.added (ap (λ (ms : List MetaText). keyed_declared 1 (flat_map (λ (m : MetaText). m.fields) ms)) c.as_slice-2.ensures) in
+    let all = grows_then c.in_ok-add_intrinsic.ensures.added (grows_then headers metas) in
     all.after [] c.new-fields.ensures

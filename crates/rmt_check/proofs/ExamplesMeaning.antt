@@ -1,0 +1,85 @@
+-- The program that the small text means.
+use Rattle.std.proofs.Common.{◌≡◌, [], ◌∷◌, ℕ, List, codes, false, None, Some, refl}
+use Rattle.rmt_ast.specs.declared.program.Field.{Field}
+use Rattle.rmt_ast.specs.declared.program.Header.{Header}
+use Rattle.rmt_ast.specs.declared.program.Case.{Case}
+use Rattle.rmt_ast.specs.declared.program.Test.{Test}
+use Rattle.rmt_ast.specs.declared.program.Action.{Action}
+use Rattle.rmt_ast.specs.declared.program.Assign.{Assign}
+use Rattle.rmt_ast.specs.declared.program.Table.{Table}
+use Rattle.rmt_ast.specs.declared.program.Node.{Node}
+use Rattle.rmt_ast.specs.declared.program.Guard.{Guard}
+use Rattle.rmt_ast.specs.declared.program.Target.TheVariants as to
+use Rattle.rmt_ast.specs.declared.program.Expr.TheVariants.{One, Two}
+use Rattle.rmt_ast.specs.declared.program.Leaf.TheVariants as leaf
+use Rattle.rmt_ast.specs.declared.program.Op.TheVariants.{Add}
+use Rattle.rmt_ast.specs.declared.program.Kind.TheVariants.{Exact}
+use Rattle.rmt_ast.specs.declared.program.What.TheVariants.{Apply, Gate}
+use Rattle.rmt_check.specs.Rules.{fault_of}
+use Rattle.rmt_check.specs.Meaning.{program_of}
+use Rattle.rmt_check.proofs.ExampleText.{text}
+
+abbrev field : List ℕ → ℕ → Field
+field name width = record { name = name; width = width }
+
+abbrev test : ℕ → ℕ → Test
+test value mask = record { value = value; mask = mask }
+
+-- the fields 0 to 8, in the order of the text
+abbrev fields : List Field
+fields =
+    field (codes "in_port") 9 ∷ field (codes "out_port") 9 ∷ field (codes "drop") 1 ∷ field (codes "h.valid") 1 ∷ field (codes "h.a") 8 ∷ field (codes "h.b") 8
+    ∷ field (codes "g.valid") 1 ∷ field (codes "g.a") 16 ∷ field (codes "meta.m") 16 ∷ []
+
+abbrev headers : List Header
+headers =
+    let to_g : Case = record { tests = test 7 255 ∷ []; target = to.Node 1 } in
+    let h : Header = record { name = codes "h"; valid = 3; fields = 4 ∷ 5 ∷ []; bytes = 2; select = 4 ∷ []; cases = to_g ∷ []; other = to.Accept } in
+    let g : Header = record { name = codes "g"; valid = 6; fields = 7 ∷ []; bytes = 2; select = []; cases = []; other = to.Accept } in
+    h ∷ g ∷ []
+
+abbrev actions : List Action
+actions =
+    let b : Assign = record { dest = 5; expr = One (leaf.Param 0) } in
+    let m : Assign = record { dest = 8; expr = Two Add (leaf.Field 7) (leaf.Number 1) } in
+    let set : Action = record { name = codes "set"; params = 8 ∷ []; assigns = b ∷ [] } in
+    let hop : Action = record { name = codes "hop"; params = []; assigns = m ∷ [] } in
+    set ∷ hop ∷ []
+
+abbrev table : Table
+table = record {
+  name = codes "t";
+  kind = Exact;
+  key = 4 ∷ [];
+  actions = 0 ∷ 1 ∷ [];
+  default = 0;
+  args = 9 ∷ [];
+  size = 4;
+  counted = false;
+}
+
+-- the first action of the list is outcome 2
+abbrev nodes : List Node
+nodes =
+    let first : Node = record { guard = None; what = Apply 0 } in
+    let in_arm : Guard = record { parent = 0; mask = 4 } in
+    let second : Node = record { guard = Some in_arm; what = Gate 4 (test 5 15) } in
+    first ∷ second ∷ []
+
+breaks_no_rule : fault_of text ≡ None
+breaks_no_rule = refl
+
+fields_of_text : (program_of text).fields ≡ fields
+fields_of_text = refl
+
+headers_of_text : (program_of text).headers ≡ headers
+headers_of_text = refl
+
+actions_of_text : (program_of text).actions ≡ actions
+actions_of_text = refl
+
+tables_of_text : (program_of text).tables ≡ table ∷ []
+tables_of_text = refl
+
+nodes_of_text : (program_of text).nodes ≡ nodes
+nodes_of_text = refl
