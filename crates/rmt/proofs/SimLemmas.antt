@@ -13,8 +13,8 @@ use Rattle.rmt_packets.specs.PacketText.{packets_of, BadLine}
 use Rattle.rmt.specs.declared.status.Status.{Status}
 use Rattle.rmt.specs.declared.status.Status.TheVariants as status
 use Rattle.rmt.specs.Promises.{Files, IsOfOutside, IsWithin, IsSound, image_limit}
-use Rattle.rmt.specs.RunPromises.{HasImage, HasBadImage, IsGoodRun, RunCauses, RunTooLong, packets_limit}
-use Rattle.rmt.proofs.TopLemmas.{not_both}
+use Rattle.rmt.specs.RunPromises.{HasSpelling, HasImage, HasBadImage, HasBadPackets, IsGoodRun, RunCauses, RunTooLong, RunAbsent, IsOfRunFiles, packets_limit}
+use Rattle.rmt.proofs.TopLemmas.{not_long, not_absent, long_not_absent}
 
 -- both files were read
 pub record BothRead (files : Files) (image packets bytes text : List ℕ) : Type 0 where
@@ -33,27 +33,29 @@ pub sound : (c : Config) → Formed c → IsWithinLimits c → IsSound c
 unfolding IsSound
 sound c form limits = (form, limits)
 
-abbrev pub has_image : (files : Files) (image packets bytes text : List ℕ) (c : Config) → BothRead files image packets bytes text → bytes ≡ spelled c → Formed c → IsWithinLimits c → HasImage files image packets
-has_image files image packets bytes text c r is form limits = record {
-  text = text_within files image packets bytes text r;
-  bytes = bytes_within files image packets bytes text r;
-  config = c;
-  spelled_so = is;
-  is_sound = sound c form limits;
+abbrev pub has_image : (files : Files) (image packets bytes text : List ℕ) (c : Config) → BothRead files image packets bytes text → bytes ≡ spelled c → Formed c → IsWithinLimits c → image_of bytes ≡ Ok c → HasImage files image packets
+has_image files image packets bytes text c r is form limits read = record {
+  spelling = record {
+    text = text_within files image packets bytes text r;
+    bytes = bytes_within files image packets bytes text r;
+    config = c;
+    spelled_so = is;
+    is_sound = sound c form limits;
+  };
+  is_read = read;
 }
 
 some_of : {X : Type 0} (o : Option X) → IsSome o → (x : X) × (o ≡ Some x)
 some_of None h = cc
 some_of (Some x) h = (x, refl)
 
-pub causes_ran : (files : Files) (image packets bytes text : List ℕ) (c : Config) (answer : Status) → BothRead files image packets bytes text → bytes ≡ spelled c → Formed c → IsWithinLimits c →
+pub causes_ran : (files : Files) (image packets : List ℕ) (answer : Status) (h : HasImage files image packets) →
     (answer ≡ status.Done) ⊎ (answer ≡ status.BadPackets) ⊎ (answer ≡ status.WriteFault) ⊎ (answer ≡ status.NoMemory) →
-    (answer ≡ status.Done → (packets_of text).bad ≡ None) → (answer ≡ status.BadPackets → IsSome (packets_of text).bad) → RunCauses files image packets answer
-causes_ran files image packets bytes text c answer r is form limits possible done bad =
-    let h = has_image files image packets bytes text c r is form limits in
+    (answer ≡ status.Done → (packets_of h.spelling.text.bytes).bad ≡ None) → (answer ≡ status.BadPackets → IsSome (packets_of h.spelling.text.bytes).bad) → RunCauses files image packets answer
+causes_ran files image packets answer h possible done bad =
     ⊎_elim (λ e. subst (RunCauses files image packets) (sym e) (h, done e))
-    (λ l. ⊎_elim (λ e. let b = some_of (packets_of text).bad (bad e) in subst (RunCauses files image packets) (sym e) (h, b.0, b.1))
-    (λ l. ⊎_elim (λ e. subst (RunCauses files image packets) (sym e) tt) (λ e. subst (RunCauses files image packets) (sym e) tt) l) l) possible
+    (λ l. ⊎_elim (λ e. let b = some_of (packets_of h.spelling.text.bytes).bad (bad e) in subst (RunCauses files image packets) (sym e) (h, b.0, b.1))
+    (λ l. ⊎_elim (λ e. subst (RunCauses files image packets) (sym e) (inl h)) (λ e. subst (RunCauses files image packets) (sym e) tt) l) l) possible
 
 pub ran_to_end : (answer : Status) → (answer ≡ status.Done) ⊎ (answer ≡ status.BadPackets) ⊎ (answer ≡ status.BadImage) →
     (answer ≡ status.Done) ⊎ (answer ≡ status.BadPackets) ⊎ (answer ≡ status.WriteFault) ⊎ (answer ≡ status.NoMemory) → (answer ≡ status.Done) ⊎ (answer ≡ status.BadPackets)
@@ -72,10 +74,11 @@ has_bad_image files image packets bytes text told r is of_bytes = record {
   is_of_bytes = of_bytes;
 }
 
-pub causes_bad_image : (files : Files) (image packets : List ℕ) (answer : Status) → (answer ≡ status.BadImage) ⊎ (answer ≡ status.WriteFault) ⊎ (answer ≡ status.NoMemory) → (answer ≡ status.BadImage → HasBadImage files image packets) → RunCauses files image packets answer
+pub causes_bad_image : (files : Files) (image packets : List ℕ) (answer : Status) → (answer ≡ status.BadImage) ⊎ (answer ≡ status.WriteFault) ⊎ (answer ≡ status.NoMemory) →
+    ((answer ≡ status.BadImage) ⊎ (answer ≡ status.WriteFault) → HasBadImage files image packets) → RunCauses files image packets answer
 causes_bad_image files image packets answer possible bad =
-    ⊎_elim (λ e. subst (RunCauses files image packets) (sym e) (bad e))
-    (λ l. ⊎_elim (λ e. subst (RunCauses files image packets) (sym e) tt) (λ e. subst (RunCauses files image packets) (sym e) tt) l) possible
+    ⊎_elim (λ e. subst (RunCauses files image packets) (sym e) (bad (inl e)))
+    (λ l. ⊎_elim (λ e. subst (RunCauses files image packets) (sym e) (inr (bad (inr e)))) (λ e. subst (RunCauses files image packets) (sym e) tt) l) possible
 
 pub bad_image_told : (answer : Status) → (answer ≡ status.Done) ⊎ (answer ≡ status.BadPackets) ⊎ (answer ≡ status.BadImage) → (answer ≡ status.BadImage) ⊎ (answer ≡ status.WriteFault) ⊎ (answer ≡ status.NoMemory) → answer ≡ status.BadImage
 bad_image_told answer told possible =
@@ -100,6 +103,10 @@ read_as bytes told exact of_bytes = sym (exact (λ e. of_bytes (same_fault told 
 abbrev is_ok : Config → Result Config ImageFault
 is_ok c = Ok c
 
+-- the configuration that an image is read as
+pub read_ok : (bytes : List ℕ) (c : Config) → (is_ok c ≢ is_err fault.NoMemory → is_ok c ≡ image_of bytes) → image_of bytes ≡ Ok c
+read_ok bytes c exact = sym (exact (λ e. cc))
+
 abbrev no_line : Option BadLine
 no_line = None
 
@@ -111,31 +118,83 @@ good_image : (c : Config) → NumbersFit c → IsSound c → image_of (spelled c
 unfolding IsSound
 good_image c fit is = image_again c fit is.0 is.1
 
-not_bad_image : (files : Files) (image packets : List ℕ) (good : HasImage files image packets) → NumbersFit good.config → HasBadImage files image packets → ⊥
-not_bad_image files image packets good fit bad =
-    let read : is_ok good.config ≡ is_err bad.told =
-    sym (good_image good.config fit good.is_sound) ∙ ap image_of (sym good.spelled_so ∙ same_bytes files image image_limit good.bytes bad.bytes) ∙ bad.is_bad in
-    cc
+module _ (files : Files) (image packets : List ℕ) where
+  -- an image that is read as a configuration is no bad one
+  not_bad_image : (h : HasSpelling files image packets) → image_of h.bytes.bytes ≡ Ok h.config → HasBadImage files image packets → ⊥
+  not_bad_image h read bad =
+      let both : is_ok h.config ≡ is_err bad.told = sym read ∙ ap image_of (same_bytes files image image_limit h.bytes bad.bytes) ∙ bad.is_bad in cc
 
-not_bad_packets : (files : Files) (image packets : List ℕ) (good : IsGoodRun files image packets) (bad : BadLine) (h : HasImage files image packets) → (packets_of h.text.bytes).bad ≡ Some bad → ⊥
-not_bad_packets files image packets good bad h is =
-    let none : no_line ≡ Some bad =
-    sym good.1 ∙ ap (λ text. (packets_of text).bad) (same_bytes files packets packets_limit good.0.text h.text) ∙ is in
-    cc
+  -- nor has a packet text without a bad line one
+  not_bad_packets : (h : HasSpelling files image packets) → (packets_of h.text.bytes).bad ≡ None → HasBadPackets files image packets → ⊥
+  not_bad_packets h good bad =
+      let both : no_line ≡ Some bad.1 = sym good ∙ ap (λ text. (packets_of text).bad) (same_bytes files packets packets_limit h.text bad.0.spelling.text) ∙ bad.2 in cc
 
-not_too_long : (files : Files) (image packets : List ℕ) → HasImage files image packets → RunTooLong files image packets → ⊥
-not_too_long files image packets good long = ⊎_elim (λ first. not_both files image image_limit good.bytes first) (λ rest. not_both files packets packets_limit good.text rest.1) long
+  fits : IsWithin files image image_limit → IsWithin files packets packets_limit → RunTooLong files image packets → ⊥
+  fits bytes text = not_long files image packets image_limit packets_limit bytes text
 
--- where the files are good no other answer of the files comes than Done
-pub good_answers : (files : Files) (image packets : List ℕ) (answer : Status) → RunCauses files image packets answer → (good : IsGoodRun files image packets) → NumbersFit good.0.config → (answer ≡ status.Done) ⊎ IsOfOutside answer
-good_answers files image packets status.Done cause good fit = inl refl
-good_answers files image packets status.BadPackets cause good fit = absurd (not_bad_packets files image packets good cause.1 cause.0 cause.2)
-good_answers files image packets status.BadImage cause good fit = absurd (not_bad_image files image packets good.0 fit cause)
-good_answers files image packets status.TooLong cause good fit = absurd (not_too_long files image packets good.0 cause)
-good_answers files image packets status.NoMemory cause good fit = inr (inl refl)
-good_answers files image packets status.ReadFault cause good fit = inr (inr (inl refl))
-good_answers files image packets status.WriteFault cause good fit = inr (inr (inr refl))
-good_answers files image packets status.Usage cause good fit = absurd cause
-good_answers files image packets status.BadProgram cause good fit = absurd cause
-good_answers files image packets status.BadEntries cause good fit = absurd cause
-good_answers files image packets status.NoFit cause good fit = absurd cause
+  -- an answer of the files by its cause, or one of the outside
+  answers : (P : Status → Type 0) (answer : Status) → RunCauses files image packets answer
+      → (RunCauses files image packets status.Done → P status.Done) → (HasBadPackets files image packets → P status.BadPackets)
+      → (HasBadImage files image packets → P status.BadImage) → (RunTooLong files image packets → P status.TooLong) → P answer ⊎ IsOfOutside answer
+  answers P status.Done cause done line bad long = inl (done cause)
+  answers P status.BadPackets cause done line bad long = inl (line cause)
+  answers P status.BadImage cause done line bad long = inl (bad cause)
+  answers P status.TooLong cause done line bad long = inl (long cause)
+  answers P status.NoMemory cause done line bad long = inr (inl refl)
+  answers P status.ReadFault cause done line bad long = inr (inr (inl refl))
+  answers P status.WriteFault cause done line bad long = inr (inr (inr refl))
+  answers P status.Usage cause done line bad long = absurd cause
+  answers P status.BadProgram cause done line bad long = absurd cause
+  answers P status.BadEntries cause done line bad long = absurd cause
+  answers P status.NoFit cause done line bad long = absurd cause
+
+  -- where the files are good no other answer of the files comes than Done
+  done_alone : (h : HasSpelling files image packets) → image_of h.bytes.bytes ≡ Ok h.config → (packets_of h.text.bytes).bad ≡ None → (answer : Status) → RunCauses files image packets answer
+      → (answer ≡ status.Done) ⊎ IsOfOutside answer
+  done_alone h read good answer cause =
+      answers (λ s. s ≡ status.Done) answer cause (λ d. refl) (λ line. absurd (not_bad_packets h good line)) (λ bad. absurd (not_bad_image h read bad)) (λ long. absurd (fits h.bytes h.text long))
+
+  bad_packets_alone : HasBadPackets files image packets → (answer : Status) → RunCauses files image packets answer → (answer ≡ status.BadPackets) ⊎ IsOfOutside answer
+  bad_packets_alone b answer cause =
+      answers (λ s. s ≡ status.BadPackets) answer cause (λ d. absurd (not_bad_packets d.0.spelling d.1 b)) (λ line. refl)
+      (λ bad. absurd (not_bad_image b.0.spelling b.0.is_read bad)) (λ long. absurd (fits b.0.spelling.bytes b.0.spelling.text long))
+
+  bad_image_alone : HasBadImage files image packets → (answer : Status) → RunCauses files image packets answer → (answer ≡ status.BadImage) ⊎ IsOfOutside answer
+  bad_image_alone b answer cause =
+      answers (λ s. s ≡ status.BadImage) answer cause (λ d. absurd (not_bad_image d.0.spelling d.0.is_read b)) (λ line. absurd (not_bad_image line.0.spelling line.0.is_read b))
+      (λ bad. refl) (λ long. absurd (fits b.bytes b.text long))
+
+  too_long_alone : RunTooLong files image packets → (answer : Status) → RunCauses files image packets answer → (answer ≡ status.TooLong) ⊎ IsOfOutside answer
+  too_long_alone b answer cause =
+      answers (λ s. s ≡ status.TooLong) answer cause (λ d. absurd (fits d.0.spelling.bytes d.0.spelling.text b)) (λ line. absurd (fits line.0.spelling.bytes line.0.spelling.text b))
+      (λ bad. absurd (fits bad.bytes bad.text b)) (λ long. refl)
+
+  -- where the files have a cause no other answer of the files comes
+  pub exact_run : (answer : Status) → RunCauses files image packets answer → (wanted : Status) → IsOfRunFiles wanted → RunCauses files image packets wanted → (answer ≡ wanted) ⊎ IsOfOutside answer
+  exact_run answer cause wanted is w =
+      ⊎_elim (λ e. by e (λ c. done_alone c.0.spelling c.0.is_read c.1 answer cause))
+      (λ is. ⊎_elim (λ e. by e (λ c. bad_packets_alone c answer cause))
+      (λ is. ⊎_elim (λ e. by e (λ c. bad_image_alone c answer cause)) (λ e. by e (λ c. too_long_alone c answer cause)) is) is) is
+    where
+      by : {s : Status} → wanted ≡ s → (RunCauses files image packets s → (answer ≡ s) ⊎ IsOfOutside answer) → (answer ≡ wanted) ⊎ IsOfOutside answer
+      by {s} e f = subst (λ x. (answer ≡ x) ⊎ IsOfOutside answer) (sym e) (f (subst (RunCauses files image packets) e w))
+
+  pub good_answers : (answer : Status) → RunCauses files image packets answer → (good : IsGoodRun files image packets) → NumbersFit good.0.config → (answer ≡ status.Done) ⊎ IsOfOutside answer
+  good_answers answer cause good fit = done_alone good.0 (ap image_of good.0.spelled_so ∙ good_image good.0.config fit good.0.is_sound) good.1 answer cause
+
+  there : IsWithin files image image_limit → IsWithin files packets packets_limit → RunAbsent files image packets → ⊥
+  there bytes text = not_absent files image packets bytes.bytes text.bytes image_limit bytes.is_there text.is_there
+
+  -- where a file is absent the answer is a reading fault
+  pub absent_run : (answer : Status) → RunCauses files image packets answer → RunAbsent files image packets → (answer ≡ status.ReadFault) ⊎ (answer ≡ status.NoMemory)
+  absent_run status.Done cause absent = absurd (there cause.0.spelling.bytes cause.0.spelling.text absent)
+  absent_run status.BadPackets cause absent = absurd (there cause.0.spelling.bytes cause.0.spelling.text absent)
+  absent_run status.BadImage cause absent = absurd (there cause.bytes cause.text absent)
+  absent_run status.TooLong cause absent = absurd (long_not_absent files image packets image_limit packets_limit cause absent)
+  absent_run status.NoMemory cause absent = inr refl
+  absent_run status.ReadFault cause absent = inl refl
+  absent_run status.WriteFault cause absent = absurd (⊎_elim (λ h. there h.spelling.bytes h.spelling.text absent) (λ b. there b.bytes b.text absent) cause)
+  absent_run status.Usage cause absent = absurd cause
+  absent_run status.BadProgram cause absent = absurd cause
+  absent_run status.BadEntries cause absent = absurd cause
+  absent_run status.NoFit cause absent = absurd cause

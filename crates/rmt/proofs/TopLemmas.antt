@@ -3,7 +3,7 @@ use Rattle.std.proofs.Common.{◌≡◌, ℕ, ◌<◌, ◌≤◌, ◌⊎◌, Lis
 use Rattle.rmt.specs.declared.status.Status.{Status}
 use Rattle.rmt.specs.declared.status.Status.TheVariants as status
 use Rattle.rmt.specs.SmallForm.{SmallProgram, Means}
-use Rattle.rmt.specs.Promises.{Files, IsLonger, HasTooLong, HasAbsent, IsOfFiles, IsOfOutside, Makes, Compiled, Prints, bad_program_line, bad_entries_line, Causes, IsGood, HasBadProgram, HasBadEntries, IsWithin, IsNotSmall, program_limit, entries_limit}
+use Rattle.rmt.specs.Promises.{Files, IsLonger, TooLongIn, AbsentIn, HasTooLong, HasAbsent, IsOfFiles, IsOfOutside, Makes, Compiled, Prints, bad_program_line, bad_entries_line, Causes, IsGood, HasBadProgram, HasBadEntries, IsWithin, IsNotSmall, program_limit, entries_limit}
 
 -- both texts were read
 pub record WereRead (files : Files) (program entries text entry_text : List ℕ) : Type 0 where
@@ -74,14 +74,15 @@ stands_whole before after program entries image text entry_text bytes lines r ma
 }
 
 -- a file has one length
-pub not_both : (files : Files) (name : List ℕ) (limit : ℕ) → IsWithin files name limit → IsLonger files name limit → ⊥
+not_both : (files : Files) (name : List ℕ) (limit : ℕ) → IsWithin files name limit → IsLonger files name limit → ⊥
 not_both files name limit a b =
     let same : a.bytes ≡ b.bytes = let both : Some a.bytes ≡ Some b.bytes = sym a.is_there ∙ b.is_there in cc in
     let lengths : length a.bytes ≡ length b.bytes = ap length same in
     omega (arith, a.is_short, b.is_long)
 
-good_long : (files : Files) (p e : List ℕ) → IsWithin files p program_limit → IsWithin files e entries_limit → HasTooLong files p e → ⊥
-good_long files p e a b h = ⊎_elim (λ long. not_both files p program_limit a long) (λ rest. not_both files e entries_limit b rest.1) h
+-- files within their limits are not too long
+pub not_long : (files : Files) (p e : List ℕ) (most limit : ℕ) → IsWithin files p most → IsWithin files e limit → TooLongIn files p most e limit → ⊥
+not_long files p e most limit a b h = ⊎_elim (λ long. not_both files p most a long) (λ rest. not_both files e limit b rest.1) h
 
 -- a text means a program or none
 means_or_not : (files : Files) (p : List ℕ) (a b : IsWithin files p program_limit) (s : SmallProgram) → Means a.bytes s → IsNotSmall b.bytes → ⊥
@@ -106,16 +107,16 @@ done_entries : (files : Files) (p e : List ℕ) → IsGood files p e → HasBadE
 done_entries files p e a b = empty_or_not files e a.without_entries b.entry_text b.is_bad
 
 done_long : (files : Files) (p e : List ℕ) → IsGood files p e → HasTooLong files p e → ⊥
-done_long files p e a b = good_long files p e a.text (none_within files e a.without_entries) b
+done_long files p e a b = not_long files p e program_limit entries_limit a.text (none_within files e a.without_entries) b
 
 program_entries : (files : Files) (p e : List ℕ) → HasBadProgram files p e → HasBadEntries files p e → ⊥
 program_entries files p e a b = means_or_not files p b.text a.text b.parts b.means a.is_bad
 
 program_long : (files : Files) (p e : List ℕ) → HasBadProgram files p e → HasTooLong files p e → ⊥
-program_long files p e a b = good_long files p e a.text a.entry_text b
+program_long files p e a b = not_long files p e program_limit entries_limit a.text a.entry_text b
 
 entries_long : (files : Files) (p e : List ℕ) → HasBadEntries files p e → HasTooLong files p e → ⊥
-entries_long files p e a b = good_long files p e a.text a.entry_text b
+entries_long files p e a b = not_long files p e program_limit entries_limit a.text a.entry_text b
 
 same_cause : (files : Files) (p e : List ℕ) (a b : Status) → Causes files p e a → Causes files p e b → IsOfFiles b → (a ≡ b) ⊎ IsOfOutside a
 same_cause files p e a b ca cb hb =
@@ -183,25 +184,25 @@ exact_answers files p e answer ca other ho co = same_cause files p e answer othe
 there_or_absent : (files : Files) (name : List ℕ) (bytes : List ℕ) → files name ≡ Some bytes → files name ≡ None → ⊥
 there_or_absent files name bytes a b = let both : Some bytes ≡ None = sym a ∙ b in cc
 
-not_absent : (files : Files) (p e t u : List ℕ) → files p ≡ Some t → files e ≡ Some u → HasAbsent files p e → ⊥
-not_absent files p e t u a b h = ⊎_elim (λ none. there_or_absent files p t a none) (λ rest. there_or_absent files e u b rest.1) h
+pub not_absent : (files : Files) (p e t u : List ℕ) (most : ℕ) → files p ≡ Some t → files e ≡ Some u → AbsentIn files p most e → ⊥
+not_absent files p e t u most a b h = ⊎_elim (λ none. there_or_absent files p t a none) (λ rest. there_or_absent files e u b rest.1) h
 
-long_not_absent : (files : Files) (p e : List ℕ) → HasTooLong files p e → HasAbsent files p e → ⊥
-long_not_absent files p e long absent =
-    ⊎_elim (λ a. ⊎_elim (λ none. there_or_absent files p a.bytes a.is_there none) (λ rest. not_both files p program_limit rest.0 a) absent)
+pub long_not_absent : (files : Files) (p e : List ℕ) (most limit : ℕ) → TooLongIn files p most e limit → AbsentIn files p most e → ⊥
+long_not_absent files p e most limit long absent =
+    ⊎_elim (λ a. ⊎_elim (λ none. there_or_absent files p a.bytes a.is_there none) (λ rest. not_both files p most rest.0 a) absent)
     (λ b. ⊎_elim (λ none. there_or_absent files p b.0.bytes b.0.is_there none) (λ rest. there_or_absent files e b.1.bytes b.1.is_there rest.1) absent) long
 
 pub absent_answers : (files : Files) (p e : List ℕ) (answer : Status) → Causes files p e answer → HasAbsent files p e → (answer ≡ status.ReadFault) ⊎ (answer ≡ status.NoMemory)
-absent_answers files p e status.Done ca h = absurd (not_absent files p e ca.text.bytes [] ca.text.is_there ca.without_entries h)
-absent_answers files p e status.BadProgram ca h = absurd (not_absent files p e ca.text.bytes ca.entry_text.bytes ca.text.is_there ca.entry_text.is_there h)
-absent_answers files p e status.BadEntries ca h = absurd (not_absent files p e ca.text.bytes ca.entry_text.bytes ca.text.is_there ca.entry_text.is_there h)
-absent_answers files p e status.TooLong ca h = absurd (long_not_absent files p e ca h)
+absent_answers files p e status.Done ca h = absurd (not_absent files p e ca.text.bytes [] program_limit ca.text.is_there ca.without_entries h)
+absent_answers files p e status.BadProgram ca h = absurd (not_absent files p e ca.text.bytes ca.entry_text.bytes program_limit ca.text.is_there ca.entry_text.is_there h)
+absent_answers files p e status.BadEntries ca h = absurd (not_absent files p e ca.text.bytes ca.entry_text.bytes program_limit ca.text.is_there ca.entry_text.is_there h)
+absent_answers files p e status.TooLong ca h = absurd (long_not_absent files p e program_limit entries_limit ca h)
 absent_answers files p e status.NoMemory ca h = inr refl
 absent_answers files p e status.ReadFault ca h = inl refl
 absent_answers files p e status.WriteFault ca h =
-    ⊎_elim (λ a. absurd (not_absent files p e a.text.bytes [] a.text.is_there a.without_entries h))
-    (λ r. ⊎_elim (λ b. absurd (not_absent files p e b.text.bytes b.entry_text.bytes b.text.is_there b.entry_text.is_there h))
-    (λ b. absurd (not_absent files p e b.text.bytes b.entry_text.bytes b.text.is_there b.entry_text.is_there h)) r) ca
+    ⊎_elim (λ a. absurd (not_absent files p e a.text.bytes [] program_limit a.text.is_there a.without_entries h))
+    (λ r. ⊎_elim (λ b. absurd (not_absent files p e b.text.bytes b.entry_text.bytes program_limit b.text.is_there b.entry_text.is_there h))
+    (λ b. absurd (not_absent files p e b.text.bytes b.entry_text.bytes program_limit b.text.is_there b.entry_text.is_there h)) r) ca
 absent_answers files p e status.Usage ca h = absurd ca
 absent_answers files p e status.NoFit ca h = absurd ca
 absent_answers files p e status.BadImage ca h = absurd ca

@@ -1,5 +1,5 @@
 -- What the top call promises of `sim` and `probe`, over the files as they stood before.
-use Rattle.std.specs.Prelude.{◌≡◌, ◌≢◌, ℕ, ◌⊎◌, List, Some, None, Err}
+use Rattle.std.specs.Prelude.{◌≡◌, ◌≢◌, ℕ, ◌⊎◌, List, Some, None, Ok, Err}
 use Rattle.rmt_config.specs.declared.config.Config.{Config}
 use Rattle.rmt_config.specs.Spelling.{spelled}
 use Rattle.rmt_image.specs.declared.fault.ImageFault.{ImageFault}
@@ -16,13 +16,18 @@ use Rattle.rmt.specs.ProbeText.{probed_of}
 abbrev pub packets_limit : ℕ
 packets_limit = 67108864
 
--- the image is the spelling of a configuration that keeps the rules of form and the limits, and the packet text is there
-pub record HasImage (files : Files) (image packets : List ℕ) : Type 0 where
+-- both files are there and within their limits, and the image is the spelling of a configuration that keeps the rules of form and the limits
+pub record HasSpelling (files : Files) (image packets : List ℕ) : Type 0 where
   pub text : IsWithin files packets packets_limit
   pub bytes : IsWithin files image image_limit
   pub config : Config
   pub spelled_so : bytes.bytes ≡ spelled config
   pub is_sound : IsSound config
+
+-- this is the configuration that the image is read as
+pub record HasImage (files : Files) (image packets : List ℕ) : Type 0 where
+  pub spelling : HasSpelling files image packets
+  pub is_read : image_of spelling.bytes.bytes ≡ Ok spelling.config
 
 -- the image is of no form; both files are there and within their limits
 pub record HasBadImage (files : Files) (image packets : List ℕ) : Type 0 where
@@ -40,12 +45,16 @@ RunAbsent files image packets = AbsentIn files image image_limit packets
 
 -- both files are there and within their limits, the image is a spelling, and no line of the packet text is bad
 abbrev pub IsGoodRun : Files → List ℕ → List ℕ → Type 0
-IsGoodRun files image packets = (h : HasImage files image packets) × ((packets_of h.text.bytes).bad ≡ None)
+IsGoodRun files image packets = (h : HasSpelling files image packets) × ((packets_of h.text.bytes).bad ≡ None)
+
+-- the image was read, and a line of the packet text is bad
+abbrev pub HasBadPackets : Files → List ℕ → List ℕ → Type 0
+HasBadPackets files image packets = (h : HasImage files image packets) × (bad : BadLine) × ((packets_of h.spelling.text.bytes).bad ≡ Some bad)
 
 -- The cause of each answer to `sim` and `probe` in the files, where a fault of the outside or want of memory has none there.
 abbrev pub RunCauses : Files → List ℕ → List ℕ → Status → Type 0
-RunCauses files image packets Done = IsGoodRun files image packets
-RunCauses files image packets BadPackets = (h : HasImage files image packets) × (bad : BadLine) × ((packets_of h.text.bytes).bad ≡ Some bad)
+RunCauses files image packets Done = (h : HasImage files image packets) × ((packets_of h.spelling.text.bytes).bad ≡ None)
+RunCauses files image packets BadPackets = HasBadPackets files image packets
 RunCauses files image packets BadImage = HasBadImage files image packets
 RunCauses files image packets TooLong = RunTooLong files image packets
 RunCauses files image packets Usage = ⊥
@@ -53,13 +62,13 @@ RunCauses files image packets BadProgram = ⊥
 RunCauses files image packets BadEntries = ⊥
 RunCauses files image packets NoFit = ⊥
 RunCauses files image packets ReadFault = Unit {0}
-RunCauses files image packets WriteFault = Unit {0}
+RunCauses files image packets WriteFault = HasImage files image packets ⊎ HasBadImage files image packets
 RunCauses files image packets NoMemory = Unit {0}
 
 -- what is printed with Done, BadPackets and BadImage, by the text for a configuration and what a packet text says
 abbrev pub RunPrints : (Config → Reading → List ℕ) → Files → List ℕ → List ℕ → List ℕ → Type 0
 RunPrints text files image packets printed =
-    ((h : HasImage files image packets) × (printed ≡ text h.config (packets_of h.text.bytes)))
+    ((h : HasImage files image packets) × (printed ≡ text h.spelling.config (packets_of h.spelling.text.bytes)))
     ⊎ ((h : HasBadImage files image packets) × (printed ≡ bad_image_line h.told))
 
 abbrev pub SimPrints : Files → List ℕ → List ℕ → List ℕ → Type 0
@@ -67,6 +76,10 @@ SimPrints = RunPrints printed_of
 
 abbrev pub ProbePrints : ℕ → Files → List ℕ → List ℕ → List ℕ → Type 0
 ProbePrints cycle = RunPrints (probed_of cycle)
+
+-- the answers that the files alone decide
+abbrev pub IsOfRunFiles : Status → Type 0
+IsOfRunFiles status = (status ≡ Done) ⊎ (status ≡ BadPackets) ⊎ (status ≡ BadImage) ⊎ (status ≡ TooLong)
 
 -- the answers to `sim` and `probe`
 abbrev pub IsOfRun : Status → Type 0

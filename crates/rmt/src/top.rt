@@ -4,7 +4,7 @@ ghost use Rattle.std.specs.Prelude.{◌≡◌, ◌≢◌, ◌<◌, ◌⊎◌, �
 ghost use Rattle.rmt_io.specs.Faults.{Rose};
 ghost use Rattle.rmt.specs.Printing.{GainsFront};
 ghost use Rattle.rmt.specs.Commands.{command_of, words_of, IfCompile, IfSim, IfProbe};
-ghost use Rattle.rmt.specs.RunPromises.{RunCauses, RunAbsent, IsGoodRun, SimPrints, ProbePrints, IsOfRun};
+ghost use Rattle.rmt.specs.RunPromises.{RunCauses, RunAbsent, IsGoodRun, SimPrints, ProbePrints, IsOfRun, IsOfRunFiles};
 ghost use Rattle.rmt_config.specs.Spelling.{NumbersFit};
 ghost use Rattle.rmt.specs.declared.status.Status as status;
 ghost use Rattle.rmt.specs.Promises.{Compiled, Causes, IsOfFiles, IsOfOutside, HasAbsent, IsQuiet, Makes, Prints, bad_program_line, bad_entries_line};
@@ -145,8 +145,13 @@ pub fn rmt<F: Shelf, O: Sink>(
         (text : List ℕ) × Prints (F.file shelf.old) program entries text × GainsFront (O.bytes out.old) (O.bytes out.new) text) }
 
     // With Done of sim the image is a spelling, the packet text has its form, and what is printed is the text of the chip run; a bad line
-    // has the answers before it and a last line, and a bad image its last line. Each answer has its cause in the files, and no file changes.
+    // has the answers before it and a last line, and a bad image its last line. Each answer has its cause in the files, where the files have a
+    // cause no other answer of the files comes, and no file changes.
     ensures sim_causes { IsTrue (F.told shelf.old) → IfSim (command_of (words_of words.now.items)) (λ image packets. RunCauses (F.file shelf.old) image packets result) }
+    ensures sim_exact { IsTrue (F.told shelf.old) → IfSim (command_of (words_of words.now.items)) (λ image packets.
+        (answer : status.Status) → IsOfRunFiles answer → RunCauses (F.file shelf.old) image packets answer → (result ≡ answer) ⊎ IsOfOutside result) }
+    ensures sim_absent_comes { IsTrue (F.told shelf.old) → IfSim (command_of (words_of words.now.items)) (λ image packets.
+        RunAbsent (F.file shelf.old) image packets → (result ≡ Status.ReadFault) ⊎ (result ≡ Status.NoMemory)) }
     ensures simulated { (result ≡ Status.Done) ⊎ (result ≡ Status.BadPackets) ⊎ (result ≡ Status.BadImage) → IsTrue (F.told shelf.old) → IsTrue (O.told out.old) →
         IfSim (command_of (words_of words.now.items)) (λ image packets.
         (text : List ℕ) × SimPrints (F.file shelf.old) image packets text × (O.bytes out.new ≡ O.bytes out.old ++ text)) }
@@ -164,6 +169,10 @@ pub fn rmt<F: Shelf, O: Sink>(
     // The same of probe, with the text of the vectors in flight at the cycle in the place of the text of the run. A bad line has its last
     // line, and before it the vectors where its packet would have entered after the cycle.
     ensures probe_causes { IsTrue (F.told shelf.old) → IfProbe (command_of (words_of words.now.items)) (λ image packets cycle. RunCauses (F.file shelf.old) image packets result) }
+    ensures probe_exact { IsTrue (F.told shelf.old) → IfProbe (command_of (words_of words.now.items)) (λ image packets cycle.
+        (answer : status.Status) → IsOfRunFiles answer → RunCauses (F.file shelf.old) image packets answer → (result ≡ answer) ⊎ IsOfOutside result) }
+    ensures probe_absent_comes { IsTrue (F.told shelf.old) → IfProbe (command_of (words_of words.now.items)) (λ image packets cycle.
+        RunAbsent (F.file shelf.old) image packets → (result ≡ Status.ReadFault) ⊎ (result ≡ Status.NoMemory)) }
     ensures probed { (result ≡ Status.Done) ⊎ (result ≡ Status.BadPackets) ⊎ (result ≡ Status.BadImage) → IsTrue (F.told shelf.old) → IsTrue (O.told out.old) →
         IfProbe (command_of (words_of words.now.items)) (λ image packets cycle.
         (text : List ℕ) × ProbePrints cycle (F.file shelf.old) image packets text × (O.bytes out.new ≡ O.bytes out.old ++ text)) }

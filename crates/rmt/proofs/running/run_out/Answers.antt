@@ -1,5 +1,5 @@
 -- The chip is clocked for what entered, on to the last packet or no further than the bad line.
-use Rattle.std.proofs.Common.{◌≡◌, ◌++◌, cond, Some, None, arith, sym, ap, subst, ◌∙◌}
+use Rattle.std.proofs.Common.{◌++◌, cond, Some, None, arith, sym, ap, subst, ◌∙◌}
 use Rattle.std.specs.Prelude.{map, replicate}
 use Rattle.rmt_config.specs.ChipRun.{latency_of}
 use Rattle.rmt.specs.Watching.{shown}

@@ -1,18 +1,19 @@
 -- The causes in the files, and what was printed.
 use Rattle.std.proofs.Common.{refl, inl, inr}
-use Rattle.rmt.proofs.SimLemmas.{sound, has_image, has_bad_image, causes_ran, causes_bad_image, ran_to_end, bad_image_told, read_as}
+use Rattle.rmt.proofs.SimLemmas.{sound, has_image, has_bad_image, causes_ran, causes_bad_image, ran_to_end, bad_image_told, read_as, read_ok}
 use Rattle.rmt.proofs.simulating.simulate.Goals as goal
 
 pub returns-in-Ok-read_image-clause-causes : goal.returns-in-Ok-read_image-clause-causes
 returns-in-Ok-read_image-clause-causes g c = λ told.
-    causes_ran _ _ _ c.deref.result.now c.deref-in-Ok-read_image.result.now c.in-Ok-read_image.config _
+    causes_ran _ _ _ _
+    (has_image _ _ _ c.deref.result.now c.deref-in-Ok-read_image.result.now c.in-Ok-read_image.config
     (record {
       image_was = rw c.deref.ensures.value (c.in-Ok.ensures.first told);
       image_fits = rw c.deref.ensures.value c.in-Ok.ensures.first_fits;
       packets_were = rw c.deref-in-Ok-read_image.ensures.value (c.in-Ok.ensures.second told);
       packets_fit = rw c.deref-in-Ok-read_image.ensures.value c.in-Ok.ensures.second_fits;
     })
-    c.in-Ok-read_image.ensures.found.0 c.in-Ok-read_image.ensures.found.1 c.in-Ok-read_image.ensures.found.2
+    c.in-Ok-read_image.ensures.found.0 c.in-Ok-read_image.ensures.found.1 c.in-Ok-read_image.ensures.found.2 (read_ok _ _ c.in-Ok-read_image.ensures.exact))
     c.run_text.ensures.possible c.run_text.ensures.done c.run_text.ensures.bad
 
 pub returns-in-Ok-read_image-clause-printed : goal.returns-in-Ok-read_image-clause-printed
@@ -26,7 +27,7 @@ returns-in-Ok-read_image-clause-printed g c = λ s told tells. (
           packets_were = rw c.deref-in-Ok-read_image.ensures.value (c.in-Ok.ensures.second told);
           packets_fit = rw c.deref-in-Ok-read_image.ensures.value c.in-Ok.ensures.second_fits;
         })
-        c.in-Ok-read_image.ensures.found.0 c.in-Ok-read_image.ensures.found.1 c.in-Ok-read_image.ensures.found.2,
+        c.in-Ok-read_image.ensures.found.0 c.in-Ok-read_image.ensures.found.1 c.in-Ok-read_image.ensures.found.2 (read_ok _ _ c.in-Ok-read_image.ensures.exact),
     refl,
   ),
   c.run_text.ensures.printed (ran_to_end _ s c.run_text.ensures.possible) tells,
@@ -43,7 +44,7 @@ returns-in-Ok-read_image-clause-front g c = λ s told tells. (
           packets_were = rw c.deref-in-Ok-read_image.ensures.value (c.in-Ok.ensures.second told);
           packets_fit = rw c.deref-in-Ok-read_image.ensures.value c.in-Ok.ensures.second_fits;
         })
-        c.in-Ok-read_image.ensures.found.0 c.in-Ok-read_image.ensures.found.1 c.in-Ok-read_image.ensures.found.2,
+        c.in-Ok-read_image.ensures.found.0 c.in-Ok-read_image.ensures.found.1 c.in-Ok-read_image.ensures.found.2 (read_ok _ _ c.in-Ok-read_image.ensures.exact),
     refl,
   ),
   c.run_text.ensures.front tells,
@@ -60,7 +61,7 @@ returns-in-Ok-read_image-clause-no_memory g c = λ s told tells. inr (
           packets_were = rw c.deref-in-Ok-read_image.ensures.value (c.in-Ok.ensures.second told);
           packets_fit = rw c.deref-in-Ok-read_image.ensures.value c.in-Ok.ensures.second_fits;
         })
-        c.in-Ok-read_image.ensures.found.0 c.in-Ok-read_image.ensures.found.1 c.in-Ok-read_image.ensures.found.2,
+        c.in-Ok-read_image.ensures.found.0 c.in-Ok-read_image.ensures.found.1 c.in-Ok-read_image.ensures.found.2 (read_ok _ _ c.in-Ok-read_image.ensures.exact),
     refl,
   ),
   c.run_text.ensures.front tells,
@@ -76,7 +77,7 @@ returns-clause-causes g c = λ told.
       packets_were = c.in-Ok.ensures.second told;
       packets_fit = c.in-Ok.ensures.second_fits;
     })
-    (read_as c.deref.result.now c.in-Err-read_image.fault c.in-Err-read_image.ensures.exact (c.tell_bad_image.ensures.of_bytes (inl e))) (c.tell_bad_image.ensures.of_bytes (inl e)))
+    (read_as c.deref.result.now c.in-Err-read_image.fault c.in-Err-read_image.ensures.exact (c.tell_bad_image.ensures.of_bytes e)) (c.tell_bad_image.ensures.of_bytes e))
 
 pub returns-clause-printed : goal.returns-clause-printed
 returns-clause-printed g c = λ s told tells.
