@@ -29,7 +29,7 @@ pub record HasImage (files : Files) (image packets : List ℕ) : Type 0 where
   pub spelling : HasSpelling files image packets
   pub is_read : image_of spelling.bytes.bytes ≡ Ok spelling.config
 
--- the image is of no form; both files are there and within their limits
+-- the image is refused for its bytes; both files are there and within their limits
 pub record HasBadImage (files : Files) (image packets : List ℕ) : Type 0 where
   pub text : IsWithin files packets packets_limit
   pub bytes : IsWithin files image image_limit

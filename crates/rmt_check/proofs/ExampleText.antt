@@ -58,7 +58,7 @@ of_all column name = record { place = at column; owner = owner.Intrinsic; ident 
 abbrev pub value : ℕ → ℕ → ValueText
 value column n = record { value = number column n; mask = None }
 
--- header h { a: 8; b: 8; select (a) { 7: g; default: accept; } }
+-- header h { a : 8; b : 8; } next (a) { 7 : g; else : accept; }
 abbrev pub header_h : HeaderText
 header_h =
     let to_g : CaseText = record { values = value 7 7 ∷ []; target = target.Header (ident 8 (codes "g")) } in
@@ -70,7 +70,7 @@ header_h =
       other = target.Accept;
     }
 
--- header g { a: 16; next accept; }
+-- header g { a : 16; } next accept;
 abbrev pub header_g : HeaderText
 header_g = record {
   ident = ident 10 (codes "g");
@@ -80,7 +80,7 @@ header_g = record {
   other = target.Accept;
 }
 
--- meta { m: 16; }
+-- meta { m : 16; }
 abbrev pub meta : MetaText
 meta = record { place = at 20; fields = declared 21 (codes "m") 16 ∷ [] }
 
@@ -93,7 +93,7 @@ plus l column r = let s : Sign = record { place = at column; op = Add } in recor
 abbrev pub assign : FieldText → ExprText → AssignText
 assign f e = record { dest = f; expr = e }
 
--- action set(x: 8) { .. }
+-- action set(x : 8) { .. }
 abbrev pub action_set : AssignText → ActionText
 action_set a = record { ident = ident 30 (codes "set"); params = declared 31 (codes "x") 8 ∷ []; assigns = a ∷ [] }
 
@@ -123,7 +123,7 @@ key = record {
 abbrev pub table_t : KeyText → TableText
 table_t k = record { ident = ident 50 (codes "t"); key = Some k; default = ident 55 (codes "set"); args = number 56 9 ∷ [] }
 
--- apply t { set: .. }
+-- apply t { set { .. } }
 abbrev pub apply_t : ℕ → NodeText
 apply_t column = record { place = at column; under = None; what = Apply (ident (column + 1) (codes "t")) (arm.Action (ident 62 (codes "set")) ∷ []) }
 

@@ -42,14 +42,14 @@ module _ (f g : Fields) (k : ℕ × Bor (List ℕ)) (w : ℕ) (widths : g.widths
     widths = widths_more f g known (key_in k) w h widths;
   }
 
-  -- a field of a new name
+  -- a field of a new key
   pub field_new : (i : ℕ) → i ≡ length f.widths.items → get (same key_in) f.numbers k ≡ None → g.numbers.entries ≡ insert_entry (same key_in) f.numbers.entries k i
       → Grows f g ((key_in k, w) ∷ [])
   field_new i last none e = record {
     after = λ known h. grown known h (rw e (number_new key_in f.numbers (map (λ (x : Keyed). x.0) known) k i h.numbers (last ∙ count f known h) none));
   }
 
-  -- a field of a name that is there
+  -- a field of a key that is there
   pub field_again : (v : ℕ) → get (same key_in) f.numbers k ≡ Some v → g.numbers.entries ≡ f.numbers.entries → Grows f g ((key_in k, w) ∷ [])
   field_again v some e = record {
     after = λ known h. grown known h (rw e (numbers_again key_in f.numbers.entries (map (λ (x : Keyed). x.0) known) (key_in k) v h.numbers some));

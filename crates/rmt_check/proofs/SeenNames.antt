@@ -28,7 +28,7 @@ bytes_eq-pointwise [] (d ∷ ds) = refl
 bytes_eq-pointwise (c ∷ cs) [] = refl
 bytes_eq-pointwise (c ∷ cs) (d ∷ ds) = ap (λ (r : Bool). nat_eq c d && r) (bytes_eq-pointwise cs ds)
 
--- tests of keys, borrowed names and fields, for the same bytes
+-- tests of what a set holds, borrowed names or keys of fields, for the same bytes
 abbrev pub same_name : Bor (List ℕ) → Bor (List ℕ) → Bool
 same_name x y = pointwise nat_eq x.now y.now
 

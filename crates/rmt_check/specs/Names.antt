@@ -25,7 +25,7 @@ use Rattle.rmt_check.specs.declared.source.Source.{Source}
 abbrev pub Known : Type 0
 Known = List ℕ × ℕ
 
--- the number of a name: the place of the first that is equal
+-- the number of a name, or of a key: the place of the first that is equal
 abbrev pub number_of : List (List ℕ) → List ℕ → Option ℕ
 number_of names name = position (bytes_eq name) names
 
@@ -157,7 +157,7 @@ key_fields t = unwrap_or (option_map (λ (k : KeyText). k.fields) t.key) []
 abbrev pub param_width : ActionText → List ℕ → ℕ
 param_width a name = unwrap_or (option_map (λ (d : Declared). d.width.value) (find (λ (d : Declared). bytes_eq name d.ident.name) a.params)) 0
 
--- the action with a name
+-- the parameters of the action with a name
 abbrev pub params_of : Source → List ℕ → List Declared
 params_of s name = unwrap_or (option_map (λ (a : ActionText). a.params) (find (λ (a : ActionText). bytes_eq name a.ident.name) s.actions)) []
 

@@ -3,7 +3,7 @@ use Rattle.std.specs.Prelude.{ℕ, List, [], ◌∷◌, ◌++◌, if◌then◌el
 use Rattle.rmt_check.specs.declared.source.Ident.{Ident}
 use Rattle.rmt_check.specs.Names.{is_known}
 
--- the names seen with one more: each stands once
+-- the names, or keys, that are seen, with one more: each stands once
 abbrev pub with_name : List (List ℕ) → List ℕ → List (List ℕ)
 with_name seen name = if is_known seen name then seen else seen ++ name ∷ []
 

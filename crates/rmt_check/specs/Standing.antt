@@ -38,7 +38,7 @@ keyed_intrinsic = (in_port, 9) ∷ (key 0 (codes "out_port"), 9) ∷ (key 0 (cod
 abbrev pub keyed_fields : Source → List Keyed
 keyed_fields s = keyed_intrinsic ++ keyed_from 2 s.headers ++ keyed_declared 1 (metadata s)
 
--- the number of a field, and its width
+-- the number of the field with a key, and its width
 abbrev pub number_in : Fields → List ℕ → Option ℕ
 number_in f k = lookup (λ x. bytes_eq k (key_in x)) f.numbers.entries
 

@@ -157,7 +157,7 @@ fn too_wide_value(width: u128, value: ValueText) -> Option<Place>
     )
 }
 
-/// Where a value does not fit the width of its number.
+/// Where a value does not fit the width at its place in the list.
 fn too_wide_at(widths: &[u128], number: usize, value: ValueText) -> Option<Place>
     ensures { result ≡ earliest (flat_map (λ w. rules.too_wide_value w value) (option_to_list (slice_get widths.now number))) }
 {

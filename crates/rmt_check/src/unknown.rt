@@ -31,7 +31,7 @@ fn unknown_one(names: &Numbers<'_>, ident: &Ident) -> Option<Place>
     place_when(!names.knows(ident.name.as_slice()), ident.place)
 }
 
-/// Where the first of some names is not among these.
+/// The earliest place of a name that is not among these.
 fn unknown_among(names: &Numbers<'_>, idents: &[Ident]) -> Option<Place>
     ensures { result ≡ earliest (unknown names.now idents.now) }
 {
