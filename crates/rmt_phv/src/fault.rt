@@ -1,0 +1,33 @@
+//! Why a program's fields are not packed.
+
+ghost use Rattle.std.specs.Prelude.{◌≡◌};
+ghost use Rattle.rmt_phv.specs.declared.fault.PhvFull.TheVariants.{NoMemory};
+
+use std::alloc::{AllocError, AllocFailed};
+use thiserror::Error;
+
+/// Why the fields of a program are not packed.
+#[derive(Debug, Drop, Error)]
+pub enum PhvFull {
+    #[error("out of memory")]
+    NoMemory,
+    /// No word is left for a piece of this field; `class` is the size in bits of the least words that hold the piece.
+    #[error("no word of {class} bits or more is left for field {field}")]
+    Full { field: u32, class: u8 },
+}
+
+impl From<AllocError> for PhvFull {
+    ghost from_gives = { λ _ e. e ≡ NoMemory };
+
+    fn from(_error: AllocError) -> PhvFull {
+        PhvFull::NoMemory
+    }
+}
+
+impl<T: Drop> From<AllocFailed<T>> for PhvFull {
+    ghost from_gives = { λ _ e. e ≡ NoMemory };
+
+    fn from(_error: AllocFailed<T>) -> PhvFull {
+        PhvFull::NoMemory
+    }
+}
