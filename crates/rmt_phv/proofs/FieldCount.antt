@@ -1,4 +1,4 @@
--- How many fields a well-formed program may have: fewer than `pack_fields` asks.
+-- A well-formed program has fewer fields than `pack_fields` asks for at most.
 use Rattle.std.proofs.Common.{ℕ, zero, suc, ◌+◌, ◌*◌, ◌^◌, ◌<◌, ◌≤◌, List, [], ◌∷◌, ◌++◌, length, get_or, inl, inr, sym, subst, arith}
 use Rattle.std.specs.Prelude.{All}
 use Rattle.std.specs.List.{flat_map, range_with_len}

@@ -7,6 +7,7 @@ use Rattle.rmt_ast.specs.declared.program.Program.{Program}
 use Rattle.rmt_phv.specs.declared.fault.PhvFull.{PhvFull}
 use Rattle.rmt_phv.specs.declared.fault.PhvFull.TheVariants.{Full}
 
+-- a result with a function of what Ok holds
 abbrev pub map_ok : {A B E : Type 0} → (A → B) → Result A E → Result B E
 map_ok f (Ok x) = Ok (f x)
 map_ok f (Err e) = Err e
@@ -19,7 +20,7 @@ pieces width = replicate (width / 32) 32 ++ (if width % 32 == 0 then [] else (wi
 abbrev pub class_of : ℕ → ℕ
 class_of len = if nat_le len 8 then 8 else if nat_le len 16 then 16 else 32
 
--- the first word of a class; words stand by rising size
+-- the first word of the least class that holds a piece; words stand by rising size
 abbrev pub first_word : ℕ → ℕ
 first_word len = if nat_le len 8 then 0 else if nat_le len 16 then 64 else 160
 
