@@ -153,6 +153,7 @@ fn cycle(alloc: Global, run: &mut Run, frame: Option<Frame<'_>>) -> Result<(), C
 
 /// Writes the lines that wait where they are many.
 fn write_many<O: Sink>(waiting: &mut Vec<u8>, out: &mut O) -> Result<(), RunFault>
+    ensures few { OnOk result (length waiting.new.items ≤ 65536) }
     ensures ok { OnOk result (IsTrue (O.told out.old) → O.bytes out.new ++ waiting.new.items ≡ O.bytes out.old ++ waiting.old.items) }
     ensures front { OnErr result (IsTrue (O.told out.old) → GainsFront (O.bytes out.old) (O.bytes out.new) waiting.old.items) }
     ensures failed { OnErr result (Rose (O.faults out.old) (O.faults out.new)) }
