@@ -3,13 +3,11 @@ use Rattle.std.proofs.Common.{◌≡◌, ℕ, ◌+◌, ◌*◌, ◌≤◌, ◌�
 use Rattle.std.specs.Prelude.{fold, if◌then◌else◌, nat_le, reverse, slice_index, slice_set, unwrap_or}
 use Rattle.std.proofs.lemmas.List.{get_or-set_other}
 use Rattle.std.proofs.lemmas.Bool.{le-leb}
+use Rattle.rmt_bits.proofs.FunctionLaws.{funext}
 use Rattle.rmt_config.specs.declared.config.Stage.{Stage}
 use Rattle.rmt_config.specs.Life.{Words, Look, Life, Acts, Running, acts_of, through, through_from, word_after}
 use Rattle.rmt.specs.declared.small.Effect.{Effect}
 use Rattle.rmt.specs.SmallConfig.{operations_of, stage_of, stages_from}
-
-funext : {A B : Type 0} (f g : A → B) → ((x : A) → f x ≡ g x) → f ≡ g
-funext f g h = λ i x. h x i
 
 -- the instruction of an effect, as it runs
 abbrev pub running : Effect → Running

@@ -8,15 +8,9 @@ use Rattle.rmt_bits.specs.Packet.{Packet}
 use Rattle.rmt_config.specs.declared.config.Config.{Config}
 use Rattle.rmt_config.specs.ChipRun.{Outcome, answer_at, latency_of, outcome_of, own_look}
 use Rattle.rmt_packets.specs.AnswerLine.{answer_line}
+use Rattle.rmt_bits.proofs.ListLaws.{range_more}
 use Rattle.rmt.specs.SimText.{answer_lines, answer_of_outcome}
 use Rattle.rmt.specs.Watching.{emitted}
-
-pub range-more : (a n : ℕ) → range_with_len a (n + 1) ≡ range_with_len a n ++ (a + n) ∷ []
-range-more a zero = let same : a + 0 ≡ a = omega arith in rw same refl
-range-more a (suc n) =
-    let more : suc n + 1 ≡ suc (n + 1) = omega arith in
-    let moved : a + 1 + n ≡ a + suc n = omega arith in
-    rw more (ap (λ l. a ∷ l) (range-more (a + 1) n ∙ ap (λ m. range_with_len (a + 1) n ++ m ∷ []) moved))
 
 same_answers : {Y : Type 0} (f g : ℕ → Option Y) (a n : ℕ) → ((k : ℕ) → k < n → f (a + k) ≡ g (a + k)) → filter_map f (range_with_len a n) ≡ filter_map g (range_with_len a n)
 same_answers f g a zero e = refl
@@ -44,7 +38,7 @@ emitted-more c inputs x =
     let long : length whole ≡ n + 1 = length-append inputs (x ∷ []) in
     let last : 0 + n ≡ n = omega arith in
     ap (λ m. filter_map (answer_at c whole) (range_with_len 0 m)) long
-    ∙ ap (filter_map (answer_at c whole)) (range-more 0 n)
+    ∙ ap (filter_map (answer_at c whole)) (range_more 0 n)
     ∙ filter_map-append (answer_at c whole) (range_with_len 0 n) ((0 + n) ∷ [])
     ∙ ap (λ l. l ++ filter_map (answer_at c whole) ((0 + n) ∷ [])) (same_answers (answer_at c whole) (answer_at c inputs) 0 n (λ k h. answer_before c inputs x (0 + k) (omega (arith, h))))
     ∙ ap (λ m. emitted c inputs ++ filter_map (answer_at c whole) (m ∷ [])) last

@@ -6,6 +6,7 @@ use Rattle.std.specs.List.{flat_map}
 use Rattle.std.proofs.lemmas.Option.{slice_get-map}
 use Rattle.std.proofs.lemmas.Bool.{le-ltb}
 use Rattle.std.proofs.lemmas.List.Elements.{All-head, All-tail}
+use Rattle.rmt_bits.proofs.AllLaws.{All-find}
 use Rattle.rmt_bits.specs.Bits.{slice, deposit, bytes_of, bits_of_bytes}
 use Rattle.rmt_bits.specs.declared.answer.Verdict.{Verdict}
 use Rattle.rmt_bits.specs.declared.answer.Verdict.TheVariants as verdict
@@ -20,7 +21,7 @@ use Rattle.rmt_config.specs.declared.config.Stage.{Stage}
 use Rattle.rmt_config.proofs.RunLaws.{outcomes_of-map, chip_counts_of-none}
 use Rattle.rmt_config.specs.Parser.{parse, put}
 use Rattle.rmt_config.specs.Parser as parsed
-use Rattle.rmt_ast.specs.Walk.{walk}
+use Rattle.rmt_ast.specs.Walk.{walk, Reached}
 use Rattle.rmt_ast.specs.Walk as walked
 use Rattle.rmt_ast.specs.Control.{Run, run}
 use Rattle.rmt_ast.specs.Answers.{answers_of, is_counted, counted_numbers, answer_of, answered, finished as plain_finished}
@@ -54,21 +55,12 @@ pub latency-stages : (es : List Effect) → latency_of (stages_from 0 es) ≡ 12
 latency-stages [] = refl
 latency-stages (e ∷ es) = latency-more 0 e es
 
--- a found item has what all have
-found_holds : {X : Type 0} (P : X → Type 0) (q : X → Bool) (xs : List X) (x : X) → All P xs → find q xs ≡ Some x → P x
-found_holds P q [] x h e = cc
-found_holds P q (y ∷ ys) x h e = here (q y) e (All-head P y ys h) (λ later. found_holds P q ys x (All-tail P y ys h) later)
-  where
-    here : (b : Bool) → cond b (Some y) (find q ys) ≡ Some x → P y → (find q ys ≡ Some x → P x) → P x
-    here true e first later = let same : y ≡ x = cc in subst P same first
-    here false e first later = later e
-
 fits_named : (actions : List SmallAction) (name : List ℕ) → All (λ (a : SmallAction). EffectFits a.effect) actions → EffectFits (effect_named actions name)
 fits_named actions name h = of (find (λ (a : SmallAction). bytes_eq name a.name) actions) refl
   where
     of : (o : Option SmallAction) → find (λ (a : SmallAction). bytes_eq name a.name) actions ≡ o → EffectFits (unwrap_or (option_map (λ (a : SmallAction). a.effect) o) Nothing)
     of None e = tt
-    of (Some a) e = found_holds (λ (a : SmallAction). EffectFits a.effect) (λ (a : SmallAction). bytes_eq name a.name) actions a h e
+    of (Some a) e = All-find (λ (a : SmallAction). EffectFits a.effect) (λ (a : SmallAction). bytes_eq name a.name) actions a h e
 
 -- the numbers that a table sets fit
 pub fits_of : (s : SmallProgram) → IsSmall s → (name : List ℕ) → EffectFits (effect_of s name)
@@ -108,7 +100,7 @@ told_chip : (effects : List Effect) (payload : List ℕ) (life : Life) (words : 
 told_chip effects payload life words h = rw h (told_choice told_by_outcome (lane_of words drop_lane == 1) _ _)
 
 told_plain : (s : SmallProgram) (payload : List ℕ) (r : Run) (words : Words) → r.state ≡ state_in places words →
-    told_by_answer (plain_finished (program_of s) payload r) ≡ ending (0 + lane_of words drop_lane) (0 + lane_of words out_port) (0 + lane_of words valid) ((0 + lane_of words field) * 1 + 0) payload
+    told_by_answer (plain_finished (program_of s) ([] ∷ []) payload r) ≡ ending (0 + lane_of words drop_lane) (0 + lane_of words out_port) (0 + lane_of words valid) ((0 + lane_of words field) * 1 + 0) payload
 told_plain s payload r words h = rw h (told_choice told_by_answer ((0 + lane_of words drop_lane) == 1) _ _)
 
 eight_bits : (v x : ℕ) → x < 256 → 0 + slice (deposit v 0 8 x) 0 8 ≡ x
@@ -128,7 +120,11 @@ parse_small byte rest = rw (long_enough byte rest) refl
 abbrev walked_state : ℕ → ℕ → List ℕ
 walked_state port byte = port ∷ 0 ∷ 0 ∷ 1 ∷ slice (0 + byte) 0 8 ∷ []
 
-walk_small : (s : SmallProgram) (port byte : ℕ) (rest : List ℕ) → walk (program_of s) port (byte ∷ rest) ≡ walked.Accept (walked_state port byte) 1
+-- no header has a tail, and the payload begins behind the one byte
+abbrev walked_to : ℕ → ℕ → Reached
+walked_to port byte = record { state = walked_state port byte; tails = [] ∷ []; at = 1 }
+
+walk_small : (s : SmallProgram) (port byte : ℕ) (rest : List ℕ) → walk (program_of s) port (byte ∷ rest) ≡ walked.Accept (walked_to port byte)
 walk_small s port byte rest = rw (long_enough byte rest) refl
 
 abbrev first_words : ℕ → ℕ → Words
@@ -182,7 +178,7 @@ told_same s small lists packet is = of packet.frame refl
         let chip = told_chip (steps_of s) (drop 1 packet.frame) life end (words_end (own_look c) (steps_of s) words) in
         let plain = told_plain s (drop 1 packet.frame) r end held in
         let parses : parse parser packet.frame ≡ parsed.Accept (parsed_vector byte) 1 = ap (parse parser) e ∙ parse_small byte rest in
-        let walks : walk (program_of s) packet.port packet.frame ≡ walked.Accept state 1 = ap (walk (program_of s) packet.port) e ∙ walk_small s packet.port byte rest in
+        let walks : walk (program_of s) packet.port packet.frame ≡ walked.Accept (walked_to packet.port byte) = ap (walk (program_of s) packet.port) e ∙ walk_small s packet.port byte rest in
         ap (λ q. told_by_outcome (outcome_from (own_look c) c packet q)) parses
         ∙ chip
         ∙ sym (ending_same (lane_of end drop_lane) (lane_of end out_port) (lane_of end valid) (lane_of end field) (drop 1 packet.frame))

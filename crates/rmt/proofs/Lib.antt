@@ -10,7 +10,6 @@ pub mod SmallTokens
 pub mod SmallImage
 pub mod TopLemmas
 pub mod SmallParts
-pub mod SmallNames
 pub mod SmallLookups
 pub mod SmallSteps
 pub mod EmitLaws

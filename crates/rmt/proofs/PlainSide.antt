@@ -4,7 +4,7 @@ use Rattle.std.proofs.Common.{◌≡◌, ℕ, ◌+◌, Bool, true, false, cond, 
 use Rattle.std.specs.Prelude.{map, find, fold, slice_get, slice_set, option_map, unwrap_or}
 use Rattle.std.specs.List.{list_all}
 use Rattle.std.proofs.lemmas.Option.{slice_get-map}
-use Rattle.std.proofs.lemmas.Bool.{false≢true}
+use Rattle.std.proofs.lemmas.Bool.{and_parts, false≢true}
 use Rattle.rmt_ast.specs.declared.program.Program.{Program}
 use Rattle.rmt_ast.specs.declared.program.What.TheVariants.{Apply}
 use Rattle.rmt_ast.specs.declared.entry.Entry.{Entry}
@@ -51,15 +51,11 @@ default_acts s name state h =
     let f = found_among (λ (a : SmallAction). a.name) s.actions name h in
     rw (slice_get-map action_of s.actions (place_of (action_names s.actions) name), f.placed, f.found) (acts (program_of s) f.item state)
 
-both : (a b : Bool) → (a && b) ≡ true → (a ≡ true) × (b ≡ true)
-both true b h = (refl, h)
-both false b h = absurd (false≢true h)
-
 -- what each item passes, a found one passes too
 found_passes : {X : Type 0} (p q : X → Bool) (xs : List X) (x : X) → list_all p xs ≡ true → find q xs ≡ Some x → p x ≡ true
 found_passes p q [] x h e = cc
 found_passes p q (y ∷ ys) x h e =
-    let parts = both (p y) (list_all p ys) h in
+    let parts = and_parts (p y) (list_all p ys) h in
     here (q y) e parts.0 (λ later. found_passes p q ys x parts.1 later)
   where
     here : (b : Bool) → cond b (Some y) (find q ys) ≡ Some x → p y ≡ true → (find q ys ≡ Some x → p x ≡ true) → p x ≡ true
@@ -86,7 +82,7 @@ pub run_from-small : (s : SmallProgram) → IsSmall s → (lists : List (List En
     ((run_from (program_of s) lists n (map (node_of s.tables) names) r).state ≡ fold state_after r.state (map (effect_of s) names)) × ((run_from (program_of s) lists n (map (node_of s.tables) names) r).hits ≡ r.hits)
 run_from-small s small lists n [] r h = (refl, refl)
 run_from-small s small lists n (name ∷ names) r h =
-    let parts = both (is_among (table_names s.tables) name) (list_all (is_among (table_names s.tables)) names) h in
+    let parts = and_parts (is_among (table_names s.tables) name) (list_all (is_among (table_names s.tables)) names) h in
     let entries = unwrap_or (slice_get lists n) [] in
     let after = done_by (program_of s) entries n (Apply (place_of (table_names s.tables) name)) r in
     let leaves = node_leaves s small entries n name r parts.0 in

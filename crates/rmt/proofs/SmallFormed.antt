@@ -2,7 +2,7 @@
 use Rattle.std.proofs.Common.{◌≡◌, ℕ, zero, suc, ◌+◌, ◌-◌, ◌*◌, ◌<◌, ◌≤◌, ◌≢◌, Bool, true, false, ◌&&◌, List, [], ◌∷◌, length, Some, None, refl, ◌∙◌, subst, arith}
 use Rattle.std.specs.Prelude.{map, slice_get, nat_lt, ◌==◌}
 use Rattle.std.specs.List.{list_all, list_any, flat_map}
-use Rattle.std.proofs.lemmas.Bool.{false≢true, ne_eqb, lt-ltb, ltb-true, le-ltb, le-leb}
+use Rattle.std.proofs.lemmas.Bool.{and_parts, false≢true, ne_eqb, lt-ltb, ltb-true, le-ltb, le-leb}
 use Rattle.rmt_config.specs.Form.{Formed, stage_is_of_this_step, stage_is_formed, rises_from, starts_are_formed, are_new, node_of}
 use Rattle.rmt_config.specs.Limits.{IsWithinLimits, stage_hit, slots_hit, code_hit, last_start_hit}
 use Rattle.rmt_config.specs.declared.config.Stage.{Stage}
@@ -34,15 +34,11 @@ starts_formed : (es : List Effect) → starts_are_formed (map (λ (s : Stage). s
 starts_formed [] = refl
 starts_formed (e ∷ es) = starts_rise 1 1 es (omega arith)
 
-both : (a b : Bool) → (a && b) ≡ true → (a ≡ true) × (b ≡ true)
-both true b h = (refl, h)
-both false b h = absurd (false≢true h)
-
 -- a node is not among smaller ones
 not_seen : (n : ℕ) (seen : List ℕ) → list_all (λ m. nat_lt m n) seen ≡ true → list_any (λ m. m == n) seen ≡ false
 not_seen n [] h = refl
 not_seen n (m ∷ ms) h =
-    let parts = both (nat_lt m n) (list_all (λ m. nat_lt m n) ms) h in
+    let parts = and_parts (nat_lt m n) (list_all (λ m. nat_lt m n) ms) h in
     let small : m < n = ltb-true m n parts.0 in
     let other : m ≢ n = omega arith in
     rw (ne_eqb m n other) (not_seen n ms parts.1)
@@ -50,7 +46,7 @@ not_seen n (m ∷ ms) h =
 all_below_next : (n : ℕ) (seen : List ℕ) → list_all (λ m. nat_lt m n) seen ≡ true → list_all (λ m. nat_lt m (n + 1)) seen ≡ true
 all_below_next n [] h = refl
 all_below_next n (m ∷ ms) h =
-    let parts = both (nat_lt m n) (list_all (λ m. nat_lt m n) ms) h in
+    let parts = and_parts (nat_lt m n) (list_all (λ m. nat_lt m n) ms) h in
     let small : m < n = ltb-true m n parts.0 in
     rw (lt-ltb m (n + 1) (omega arith)) (all_below_next n ms parts.1)
 

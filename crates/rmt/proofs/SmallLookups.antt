@@ -5,7 +5,7 @@ use Rattle.std.specs.Borrow.{Bor}
 use Rattle.std.specs.Cmp.Lexicographic.{pointwise}
 use Rattle.std.specs.Map.{lookup}
 use Rattle.std.specs.List.{list_any, list_all}
-use Rattle.std.proofs.lemmas.Bool.{false≢true}
+use Rattle.std.proofs.lemmas.Bool.{and_parts, false≢true}
 use Rattle.std.proofs.lemmas.Bool.Decides.{nat_tests}
 use Rattle.std.proofs.lemmas.List.{take_more, take-append-drop, map_push}
 use Rattle.std.proofs.lemmas.List.Folds.{list_any-append, list_all-append, list_all-map, list_all_at}
@@ -16,7 +16,7 @@ use Rattle.rmt.specs.declared.small.Effect.TheVariants.{Nothing}
 use Rattle.rmt.specs.declared.small.parser.Named.{Named}
 use Rattle.rmt.specs.SmallForm.{SmallAction, are_distinct, is_among, action_names, effect_named}
 use Rattle.rmt.specs.SmallReading.{entries_seen, actions_seen, action_seen, effect_at}
-use Rattle.rmt.proofs.SmallNames.{bytes_eq-pointwise}
+use Rattle.rmt_bits.proofs.FunctionLaws.{bytes_eq-pointwise}
 
 abbrev same_key : Bor (List ℕ) → Bor (List ℕ) → Bool
 same_key x y = pointwise nat_eq x.now y.now
@@ -66,10 +66,6 @@ distinct_push (m ∷ ns) n =
     rw (list_any-append (bytes_eq m) ns (n ∷ []), distinct_push ns n, bytes_eq-sym n m)
     (regroup (list_any (bytes_eq m) ns) (are_distinct ns) (bytes_eq m n) (is_among ns n))
 
-both : (a b : Bool) → (a && b) ≡ true → (a ≡ true) × (b ≡ true)
-both true b h = (refl, h)
-both false b h = absurd (false≢true h)
-
 neither : (a b : Bool) → not (a || b) ≡ true → not a ≡ true
 neither true b h = absurd (false≢true h)
 neither false b h = refl
@@ -78,7 +74,7 @@ neither false b h = refl
 distinct_front : (ns ms : List (List ℕ)) → are_distinct (ns ++ ms) ≡ true → are_distinct ns ≡ true
 distinct_front [] ms h = refl
 distinct_front (n ∷ ns) ms h =
-    let p = both (not (list_any (bytes_eq n) (ns ++ ms))) (are_distinct (ns ++ ms)) h in
+    let p = and_parts (not (list_any (bytes_eq n) (ns ++ ms))) (are_distinct (ns ++ ms)) h in
     let q : not (list_any (bytes_eq n) ns || list_any (bytes_eq n) ms) ≡ true = rw (← list_any-append (bytes_eq n) ns ms) (p.0) in
     rw (neither (list_any (bytes_eq n) ns) (list_any (bytes_eq n) ms) q) (distinct_front ns ms (p.1))
 
@@ -127,7 +123,7 @@ module _ {S : Type 0} (m : IndexMap (Bor (List ℕ)) Effect S) (xs : List Named)
       ∙ ap (λ (ns : List (List ℕ)). ns ++ names_of (drop (i + 1) xs)) (names_of-push (take i xs) x) in
       let front : are_distinct (names_of (take i xs) ++ x.name.now ∷ []) ≡ true = distinct_front (names_of (take i xs) ++ x.name.now ∷ []) (names_of (drop (i + 1) xs)) (rw (← whole) h) in
       let there : is_among (names_of (take i xs)) x.name.now ≡ true = sym (has_name x.name.now m.entries (take i xs) old.entries) ∙ ap is_some found in
-      let split = both (are_distinct (names_of (take i xs))) (not (is_among (names_of (take i xs)) x.name.now)) (rw (← distinct_push (names_of (take i xs)) x.name.now) front) in
+      let split = and_parts (are_distinct (names_of (take i xs))) (not (is_among (names_of (take i xs)) x.name.now)) (rw (← distinct_push (names_of (take i xs)) x.name.now) front) in
       false≢true (sym (ap not there) ∙ split.1)
 
 pub indexed_none : (es : List (Bor (List ℕ) × Effect)) → es ≡ [] → IsIndexed es []

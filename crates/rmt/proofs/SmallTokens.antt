@@ -1,14 +1,10 @@
 -- The tokens of a text, from its front on.
 use Rattle.std.proofs.Common.{◌≡◌, ℕ, zero, suc, ◌<◌, List, [], ◌∷◌, ◌++◌, Bool, true, false, ◌&&◌, length, take, drop, get_or, refl, sym, ap, ◌∙◌, subst, arith}
 use Rattle.std.specs.List.{list_all}
-use Rattle.std.proofs.lemmas.Bool.{false≢true}
+use Rattle.std.proofs.lemmas.Bool.{and_parts, false≢true}
 use Rattle.std.proofs.lemmas.List.{take-append-drop, append_assoc}
 use Rattle.rmt.specs.Tokens.{Token, Sign, Front, is_name_byte, is_blank, tokens_of, tokens_from, front_of, token_of_run}
 use Rattle.rmt.specs.SmallReading.{begins_with_name_byte}
-
-pub and_true : (a b : Bool) → (a && b) ≡ true → (a ≡ true) × (b ≡ true)
-and_true true b h = (refl, h)
-and_true false b h = absurd (false≢true h)
 
 -- the token of a byte that is in no run
 pub tokens-blank : (c : ℕ) (cs : List ℕ) → is_name_byte c ≡ false → is_blank c ≡ true → tokens_of (c ∷ cs) ≡ tokens_of cs
@@ -23,7 +19,7 @@ front_of_run : (run after : List ℕ) → list_all is_name_byte run ≡ true →
 front_of_run [] [] h e = refl
 front_of_run [] (c ∷ cs) h e = rw e refl
 front_of_run (c ∷ cs) after h e =
-    let p = and_true (is_name_byte c) (list_all is_name_byte cs) h in
+    let p = and_parts (is_name_byte c) (list_all is_name_byte cs) h in
     rw (p.0) (ap (λ (f : Front). record { run = c ∷ f.run; behind = f.behind }) (front_of_run cs after (p.1) e))
 
 pub run_is_some : (text : List ℕ) (n : ℕ) → begins_with_name_byte text ≡ true → begins_with_name_byte (drop n text) ≡ false → 0 < n

@@ -8,6 +8,7 @@ use Rattle.std.proofs.lemmas.Option.{slice_get-get_or}
 use Rattle.std.proofs.lemmas.List.Recursion.{is_count_by}
 use Rattle.std.proofs.lemmas.List.{reverse-append, length-reverse, take-append-le, take-append-drop}
 use Rattle.rmt_bits.specs.Packet.{Packet}
+use Rattle.rmt_bits.proofs.FunctionLaws.{funext}
 use Rattle.rmt_config.specs.declared.config.Config.{Config}
 use Rattle.rmt_config.specs.Life.{Words}
 use Rattle.rmt_config.specs.ChipRun.{inputs_of, latency_of, number_at, own_look, packet_at, words_at}
@@ -155,9 +156,6 @@ flight_now c inputs cycle age long =
     gone_away : (b : Bool) (n : ℕ) (o : Option Packet) → None ≡ as_entered n (cond (b || true) None o)
     gone_away true n o = refl
     gone_away false n o = refl
-
-funext : {A B : Type 0} (f g : A → B) → ((x : A) → f x ≡ g x) → f ≡ g
-funext f g h = λ i x. h x i
 
 -- the line of what is seen
 line_seen : (c : Config) (n age : ℕ) (o : Option Packet) (seen : Seen) → Shows c age (as_entered n o) (Some seen) → vector_line seen.number age (λ w. slice_index seen.words.now w) ≡ packet_line c n age o

@@ -8,7 +8,7 @@ use Rattle.rmt_config.specs.declared.config.Config.{Config}
 use Rattle.rmt_config.specs.Life.{Words}
 use Rattle.rmt_config.specs.ChipRun.{number_at, packet_at}
 use Rattle.rmt.specs.ProbeText.{hex_text, lines_below, packet_line, word_text, words_below}
-use Rattle.rmt.proofs.EmitLaws.{range-more}
+use Rattle.rmt_bits.proofs.ListLaws.{range_more}
 
 -- what an answer gives, and what follows from it
 pub ok_then : {A E : Type 0} {P Q : Type 0} (r : Result A E) → (P → Q) → OnOk r P → OnOk r Q
@@ -35,7 +35,7 @@ words_more words front old new n value was is same =
     let f = λ (w : ℕ). word_text w (words w) in
     let at : 0 + n ≡ n = omega arith in
     let last : flat_map f (range_with_len 0 (n + 1)) ≡ flat_map f (range_with_len 0 n) ++ word_text n (words n) =
-    ap (λ l. flat_map f l) (range-more 0 n) ∙ flat_map-append f (range_with_len 0 n) ((0 + n) ∷ []) ∙ ap (λ l. flat_map f (range_with_len 0 n) ++ l) (append-nil (f (0 + n)) ∙ ap f at) in
+    ap (λ l. flat_map f l) (range_more 0 n) ∙ flat_map-append f (range_with_len 0 n) ((0 + n) ∷ []) ∙ ap (λ l. flat_map f (range_with_len 0 n) ++ l) (append-nil (f (0 + n)) ∙ ap f at) in
     is ∙ ap (λ l. l ++ word_text n value) was ∙ append_assoc front (flat_map f (range_with_len 0 n)) (word_text n value)
     ∙ ap (λ v. front ++ (flat_map f (range_with_len 0 n) ++ word_text n v)) same ∙ ap (λ l. front ++ l) (sym last)
 

@@ -152,7 +152,7 @@ abbrev pub program_of : SmallProgram → Program
 program_of s = record {
   fields = field_of (codes "in_port") 9 ∷ field_of (codes "out_port") 9 ∷ field_of (codes "drop") 1
       ∷ field_of (s.header ++ codes ".valid") 1 ∷ field_of (s.header ++ codes "." ++ s.field) 8 ∷ [];
-  headers = record { name = s.header; valid = 3; fields = 4 ∷ []; bytes = 1; select = []; cases = []; other = target.Accept } ∷ [];
+  headers = record { name = s.header; valid = 3; fields = 4 ∷ []; bytes = 1; tail = None; select = []; cases = []; other = target.Accept } ∷ [];
   actions = map action_of s.actions;
   tables = map (table_of s.actions) s.tables;
   nodes = map (node_of s.tables) s.applied;

@@ -35,7 +35,7 @@ fn words(alloc: Global, words: &[&str]) -> Result<Vec<String>, AllocError> {
 
 /// A shelf with a program and its entries as `p` and `e`.
 fn shelf_of(alloc: Global, fails: &[u64], program: &str, entries: &str) -> Result<MemShelf, Fail> {
-    let mut shelf = MemShelf::new(fails.to_vec(alloc)?);
+    let mut shelf = MemShelf::new(fails.to_vec(alloc)?, 65536);
     shelf.put_file(
         &text(alloc, "p")?,
         &Vec::from_slice(alloc, program.as_bytes())?,
@@ -273,7 +273,7 @@ fn a_text_of_one_byte_too_many(rt: HostRuntime) -> Result<(), Fail> {
         (1_048_576usize, Status::BadProgram),
         (1_048_577, Status::TooLong),
     ] {
-        let mut shelf = MemShelf::new(Vec::new(alloc));
+        let mut shelf = MemShelf::new(Vec::new(alloc), 65536);
         shelf.put_file(&text(alloc, "p")?, &vec![in alloc; b'{'; length]?)?;
         shelf.put_file(&text(alloc, "e")?, &Vec::new(alloc))?;
         let mut out = MemSink::new(Vec::new(alloc), 100);
@@ -388,7 +388,7 @@ fn simulated(
     sink_fails: &[u64],
 ) -> Result<(Status, Vec<u8>), Fail> {
     let alloc = rt.alloc();
-    let mut shelf = MemShelf::new(fails.to_vec(alloc)?);
+    let mut shelf = MemShelf::new(fails.to_vec(alloc)?, 65536);
     shelf.put_file(&text(alloc, "i")?, &Vec::from_slice(alloc, image)?)?;
     shelf.put_file(&text(alloc, "k")?, &Vec::from_slice(alloc, b"0 ff\n")?)?;
     let mut out = MemSink::new(sink_fails.to_vec(alloc)?, 3);
@@ -443,7 +443,7 @@ fn probed(
     sink_call: u64,
 ) -> Result<(Status, Vec<u8>), Fail> {
     let alloc = rt.alloc();
-    let mut shelf = MemShelf::new(Vec::new(alloc));
+    let mut shelf = MemShelf::new(Vec::new(alloc), 65536);
     shelf.put_file(
         &text(alloc, "i")?,
         &Vec::from_slice(alloc, &SMALLEST_IMAGE)?,

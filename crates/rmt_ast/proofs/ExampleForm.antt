@@ -7,13 +7,14 @@ use Rattle.rmt_bits.specs.Bits.{number_of}
 use Rattle.rmt_ast.specs.declared.program.Field.{Field}
 use Rattle.rmt_ast.specs.declared.program.Assign.{Assign}
 use Rattle.rmt_ast.specs.declared.program.Header.{Header}
+use Rattle.rmt_ast.specs.declared.program.Tail.{Tail}
 use Rattle.rmt_ast.specs.declared.program.Action.{Action}
 use Rattle.rmt_ast.specs.declared.program.Table.{Table}
 use Rattle.rmt_ast.specs.declared.program.Kind.TheVariants.{Exact}
 use Rattle.rmt_ast.specs.declared.entry.Entry.{Entry}
-use Rattle.rmt_ast.specs.WellFormed.{IsProgram, HasFields, IsWidth, IsHeader, IsAction, IsAssign, IsTable, IsNode, HasNames, HasHeaderNames, AreAppliedOnce, AllNumbered, BeginsWith, Takes, name_of}
-use Rattle.rmt_ast.specs.EntryLists.{AreEntries, AreTableEntries, IsEntry}
-use Rattle.rmt_ast.proofs.Programs.{strict_and_weak, one_entry, action, keyless, field}
+use Rattle.rmt_ast.specs.WellFormed.{IsProgram, IsTail, HasFields, IsWidth, IsHeader, IsAction, IsAssign, IsTable, IsNode, HasNames, HasHeaderNames, AreAppliedOnce, AllNumbered, BeginsWith, Takes, name_of}
+use Rattle.rmt_ast.specs.EntryLists.{AreEntries, AreTableEntries, IsEntry, terms_of}
+use Rattle.rmt_ast.proofs.Programs.{with_tail, strict_and_weak, one_entry, action, keyless, field}
 use Rattle.rmt_ast.proofs.WellFormedLemmas.{AllNumbered-from_items, AreDistinct-from_apart, AllPairs-none}
 
 one_width : All IsWidth (9 ∷ [])
@@ -39,6 +40,7 @@ headers = AllNumbered-from_items (IsHeader strict_and_weak) strict_and_weak.head
     whole_bytes = refl;
     is_not_empty = omega arith;
     is_not_long = omega arith;
+    tail = tt;
     selects_own = All-nil _;
     selects_once = AreDistinct-from_apart (λ f. f) [] refl;
     plain = λ e. refl;
@@ -139,7 +141,7 @@ strict_and_weak-is_program = record {
 }
 
 -- a table without a key has no entry
-no_entries : (n : ℕ) (name : List ℕ) (default : ℕ) → AreTableEntries strict_and_weak n [] (keyless name default)
+no_entries : (n : ℕ) (name : List ℕ) (default : ℕ) → AreTableEntries n [] (terms_of strict_and_weak (keyless name default))
 no_entries n name default = record { each = All-nil _; rising = AllPairs-none (λ (a b : Entry). a.number < b.number); keys_once = tt; within_size = omega arith }
 
 abbrev exact_entry : Entry
@@ -148,10 +150,10 @@ exact_entry = record { table = 1; number = 0; tests = record { value = 7; mask =
 abbrev exact_table : Table
 exact_table = record { name = codes "b"; kind = Exact; key = 5 ∷ []; actions = 2 ∷ []; default = 3; args = []; size = 16; counted = false }
 
-exact_entries : AreTableEntries strict_and_weak 1 (exact_entry ∷ []) exact_table
+exact_entries : AreTableEntries 1 (exact_entry ∷ []) (terms_of strict_and_weak exact_table)
 exact_entries = record {
   each =
-      All-from_recursion (IsEntry strict_and_weak 1 exact_table) (exact_entry ∷ []) (
+      All-from_recursion (IsEntry 1 (terms_of strict_and_weak exact_table)) (exact_entry ∷ []) (
         record {
           table = refl;
           tests = (record { value_fits = omega arith; mask_fits = omega arith; value_is_masked = refl }, tt);
@@ -168,6 +170,29 @@ exact_entries = record {
 pub one_entry-are_entries : AreEntries strict_and_weak one_entry
 one_entry-are_entries = record {
   for_each_node = refl;
-  each = AllNumbered-from_items _ one_entry (no_entries 0 _ 0, (exact_entries, (no_entries 2 _ 1, tt)));
+  each = AllNumbered-from_items _ one_entry (no_entries 0 (codes "a") 0, (exact_entries, (no_entries 2 (codes "c") 1, tt)));
   numbers_once = AreDistinct-from_apart (λ n. n) (0 ∷ []) refl;
 }
+
+-- a tail of n * unit - base bytes, where n is field 4
+abbrev told : ℕ → ℕ → Tail
+told unit base = record { field = 4; unit = unit; base = base }
+
+-- n * 4 - 4 with an n of 4 bits is at most 56 bytes
+tail_is_formed : IsTail with_tail (4 ∷ 5 ∷ []) (told 4 4)
+tail_is_formed = record {
+  own = (0, omega arith, refl);
+  narrow = omega arith;
+  has_unit = omega arith;
+  unit = omega arith;
+  base = omega arith;
+  reaches = omega arith;
+  is_not_long = omega arith;
+}
+
+-- n * 5 - 4 may have 71 bytes, and n * 1 - 16 never has one
+tail_is_long : IsTail with_tail (4 ∷ 5 ∷ []) (told 5 4) → ⊥
+tail_is_long h = let most = h.is_not_long in omega (arith, most)
+
+tail_is_never : IsTail with_tail (4 ∷ 5 ∷ []) (told 1 16) → ⊥
+tail_is_never h = let least = h.reaches in omega (arith, least)

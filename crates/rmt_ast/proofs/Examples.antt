@@ -2,8 +2,9 @@
 use Rattle.std.specs.Prelude.{◌≡◌, ℕ, List, [], ◌∷◌, ◌++◌, refl}
 use Rattle.rmt_bits.specs.declared.answer.Verdict.TheVariants.{Short, Reject, Dropped, Sent}
 use Rattle.rmt_bits.specs.declared.answer.Answer.{Answer}
+use Rattle.rmt_ast.specs.Walk.{walk, Accept}
 use Rattle.rmt_ast.specs.Answers.{answers_of, counts_of}
-use Rattle.rmt_ast.proofs.Programs.{packet, assignments_in_order, too_deep, operators, strict_and_weak, one_entry, prefix, prefixes, ternary, priorities, two_headers, other_headers, gate, arms, stop_and_on, two_keys, two_hits, both_keys}
+use Rattle.rmt_ast.proofs.Programs.{packet, assignments_in_order, too_deep, operators, strict_and_weak, one_entry, prefix, prefixes, ternary, priorities, two_headers, other_headers, gate, arms, stop_and_on, two_keys, two_hits, both_keys, with_tail, tail_between, tail_stays, tail_goes}
 
 abbrev sent : ℕ → List ℕ → List ℕ → Answer
 sent port bytes hits = record { verdict = Sent port; bytes = bytes; hits = hits }
@@ -69,3 +70,30 @@ two_keys_answers = refl
 pub two_hits_answers : answers_of two_hits (both_keys ++ (record { table = 1; number = 4; tests = record { value = 1; mask = 255 } ∷ []; rank = 0; action = 0; args = [] } ∷ []) ∷ []) (packet 300 (1 ∷ 2 ∷ []) ∷ [])
     ≡ sent 300 (1 ∷ 2 ∷ []) (0 ∷ 4 ∷ []) ∷ []
 two_hits_answers = refl
+
+-- a tail of 4 bytes, one that is cut, one of fewer than 0 bytes, and an empty one
+pub with_tail_answers : answers_of with_tail ([] ∷ []) (packet 0 (0x2f ∷ 0xaa ∷ 0xbb ∷ 0xcc ∷ 0xdd ∷ 0xee ∷ []) ∷ packet 0 (0x2f ∷ 0xaa ∷ 0xbb ∷ []) ∷ packet 0 (0x0f ∷ []) ∷ packet 0 (0x1f ∷ []) ∷ [])
+    ≡ sent 1 (0x2f ∷ 0xaa ∷ 0xbb ∷ 0xcc ∷ 0xdd ∷ 0xee ∷ []) [] ∷ record { verdict = Short; bytes = []; hits = [] }
+    ∷ record { verdict = Reject; bytes = []; hits = [] } ∷ sent 1 (0x1f ∷ []) [] ∷ []
+with_tail_answers = refl
+
+-- the tail stands beside the state, and the payload begins behind it
+pub with_tail_reaches : walk with_tail 7 (0x2f ∷ 1 ∷ 2 ∷ 3 ∷ 4 ∷ 5 ∷ []) ≡ Accept (record { state = 7 ∷ 0 ∷ 0 ∷ 1 ∷ 2 ∷ 15 ∷ []; tails = (1 ∷ 2 ∷ 3 ∷ 4 ∷ []) ∷ []; at = 5 })
+with_tail_reaches = refl
+
+-- the bytes 7, 8 are the tail of h, then come g and the payload; a tail is sent behind its own header
+pub tail_between_reaches : walk tail_between 0 (2 ∷ 7 ∷ 8 ∷ 5 ∷ 6 ∷ [])
+    ≡ Accept (record { state = 0 ∷ 0 ∷ 0 ∷ 1 ∷ 2 ∷ 1 ∷ 5 ∷ []; tails = (7 ∷ 8 ∷ []) ∷ [] ∷ []; at = 4 })
+tail_between_reaches = refl
+
+pub tail_between_answers : answers_of tail_between [] (packet 0 (2 ∷ 7 ∷ 8 ∷ 5 ∷ 6 ∷ []) ∷ packet 0 (2 ∷ 7 ∷ 8 ∷ []) ∷ [])
+    ≡ sent 0 (2 ∷ 7 ∷ 8 ∷ 5 ∷ 6 ∷ []) [] ∷ record { verdict = Short; bytes = []; hits = [] } ∷ []
+tail_between_answers = refl
+
+-- another number in the field leaves the tail as it was read
+pub tail_stays_answers : answers_of tail_stays ([] ∷ []) (packet 0 (2 ∷ 7 ∷ 8 ∷ 5 ∷ 6 ∷ []) ∷ []) ≡ sent 0 (9 ∷ 7 ∷ 8 ∷ 5 ∷ 6 ∷ []) [] ∷ []
+tail_stays_answers = refl
+
+-- a header that is no longer valid takes its tail with it
+pub tail_goes_answers : answers_of tail_goes ([] ∷ []) (packet 0 (2 ∷ 7 ∷ 8 ∷ 5 ∷ 6 ∷ []) ∷ []) ≡ sent 0 (5 ∷ 6 ∷ []) [] ∷ []
+tail_goes_answers = refl

@@ -25,7 +25,7 @@ with_fields fields = field (codes "in_port") 9 ∷ field (codes "out_port") 9 �
 
 -- the header h, which has no case
 abbrev pub header : List ℕ → ℕ → Header
-header fields bytes = record { name = codes "h"; valid = 3; fields = fields; bytes = bytes; select = []; cases = []; other = target.Accept }
+header fields bytes = record { name = codes "h"; valid = 3; fields = fields; bytes = bytes; tail = None; select = []; cases = []; other = target.Accept }
 
 abbrev pub action : List ℕ → List ℕ → List Assign → Action
 action name params assigns = record { name = name; params = params; assigns = assigns }
@@ -156,6 +156,7 @@ two_headers = record {
         valid = 3;
         fields = 4 ∷ [];
         bytes = 1;
+        tail = None;
         select = 4 ∷ [];
         cases =
             record { tests = record { value = 1; mask = 255 } ∷ []; target = target.Node 1 }
@@ -163,7 +164,7 @@ two_headers = record {
             ∷ record { tests = record { value = 255; mask = 255 } ∷ []; target = target.Reject } ∷ [];
         other = target.Accept;
       }
-      ∷ record { name = codes "g"; valid = 5; fields = 6 ∷ []; bytes = 2; select = []; cases = []; other = target.Accept } ∷ [];
+      ∷ record { name = codes "g"; valid = 5; fields = 6 ∷ []; bytes = 2; tail = None; select = []; cases = []; other = target.Accept } ∷ [];
   actions = [];
   tables = [];
   nodes = [];
@@ -234,4 +235,42 @@ two_hits = record two_keys {
       two_keys.tables
       ++ record { name = codes "u"; kind = Exact; key = 4 ∷ []; actions = 1 ∷ []; default = 1; args = []; size = 4; counted = false } ∷ [];
   nodes = apply_table 0 ∷ apply_table 1 ∷ [];
+}
+
+-- header h { n : 4; z : 4; tail n * 4 - 4; } next accept and one table whose default sends to port 1
+abbrev pub with_tail : Program
+with_tail = record {
+  fields = with_fields (field (codes "h.n") 4 ∷ field (codes "h.z") 4 ∷ []);
+  headers = record (header (4 ∷ 5 ∷ []) 1) { tail = Some (record { field = 4; unit = 4; base = 4 }) } ∷ [];
+  actions = action (codes "send") [] (record { dest = 1; expr = One (leaf.Number 1) } ∷ []) ∷ [];
+  tables = keyless (codes "t") 0 ∷ [];
+  nodes = apply_table 0 ∷ [];
+}
+
+-- header h { n : 8; tail n * 1 - 0; } next g, header g { x : 8; } next accept, and no table
+abbrev pub tail_between : Program
+tail_between = record {
+  fields = with_fields (field (codes "h.n") 8 ∷ field (codes "g.valid") 1 ∷ field (codes "g.x") 8 ∷ []);
+  headers =
+      record (header (4 ∷ []) 1) { tail = Some (record { field = 4; unit = 1; base = 0 }); other = target.Node 1 }
+      ∷ record { name = codes "g"; valid = 5; fields = 6 ∷ []; bytes = 1; tail = None; select = []; cases = []; other = target.Accept } ∷ [];
+  actions = [];
+  tables = [];
+  nodes = [];
+}
+
+-- the same headers, and one table whose default does h.n = 9;
+abbrev pub tail_stays : Program
+tail_stays = record tail_between {
+  actions = action (codes "grow") [] (record { dest = 4; expr = One (leaf.Number 9) } ∷ []) ∷ [];
+  tables = keyless (codes "t") 0 ∷ [];
+  nodes = apply_table 0 ∷ [];
+}
+
+-- the same headers, and one table whose default does h.valid = 0;
+abbrev pub tail_goes : Program
+tail_goes = record tail_between {
+  actions = action (codes "strip") [] (record { dest = 3; expr = One (leaf.Number 0) } ∷ []) ∷ [];
+  tables = keyless (codes "t") 0 ∷ [];
+  nodes = apply_table 0 ∷ [];
 }

@@ -1,12 +1,11 @@
 -- What holds of each item and its number, and what holds of each item and each later one, shown item by item.
-use Rattle.std.proofs.Common.{◌≡◌, ◌≢◌, ℕ, zero, suc, ◌+◌, Bool, true, false, not, ◌&&◌, List, [], ◌∷◌, Some, refl, ap, subst, arith}
-use Rattle.std.specs.Prelude.{⊤, slice_get, All, AllPairs, ◌==◌, unwrap_or}
+use Rattle.std.proofs.Common.{◌≡◌, ◌≢◌, ℕ, zero, suc, ◌+◌, Bool, true, not, ◌&&◌, List, [], ◌∷◌, Some, ap, subst, arith}
+use Rattle.std.specs.Prelude.{⊤, slice_get, AllPairs, ◌==◌, unwrap_or}
 use Rattle.std.specs.List.{list_all}
-use Rattle.std.proofs.lemmas.Bool.{false≢true, not-true, eqb-false}
+use Rattle.std.proofs.lemmas.Bool.{and_parts, not-true, eqb-false}
 use Rattle.std.proofs.lemmas.Option.{none-some}
-use Rattle.std.proofs.lemmas.List.Sums.{AllPass-from_list_all}
-use Rattle.std.proofs.lemmas.List.Elements.{All-weaker}
 use Rattle.std.proofs.lemmas.List.Kept.{AllPairs-cons}
+use Rattle.rmt_bits.proofs.AllLaws.{All-from_test}
 use Rattle.rmt_ast.specs.WellFormed.{AllNumbered, AreDistinct}
 
 -- P of each item of a list whose first item has number k
@@ -25,10 +24,6 @@ AllNumbered-from_items P xs h n x e = subst (λ m. P m x) (omega arith) (at_numb
 pub AllNumbered-none : {X : Type 0} (P : ℕ → X → Type 0) → AllNumbered P []
 AllNumbered-none P n x e = absurd (none-some x e)
 
--- what a test shows of each item
-pub All-from_test : {X : Type 0} (P : X → Type 0) (test : X → Bool) → ((x : X) → test x ≡ true → P x) → (xs : List X) → list_all test xs ≡ true → All P xs
-All-from_test P test shows xs h = All-weaker (λ x. test x ≡ true) P shows xs (AllPass-from_list_all test xs h)
-
 pub AllPairs-none : {X : Type 0} (R : X → X → Type 0) → AllPairs R []
 AllPairs-none R i j d below within = absurd (omega (arith, within))
 
@@ -37,14 +32,10 @@ abbrev pub are_apart : {X : Type 0} → (X → ℕ) → List X → Bool
 are_apart number [] = true
 are_apart number (x ∷ xs) = list_all (λ y. not (number x == number y)) xs && are_apart number xs
 
-both_true : (a b : Bool) → (a && b) ≡ true → (a ≡ true) × (b ≡ true)
-both_true true b h = (refl, h)
-both_true false b h = absurd (false≢true h)
-
 pub AreDistinct-from_apart : {X : Type 0} (number : X → ℕ) (xs : List X) → are_apart number xs ≡ true → AreDistinct xs
 AreDistinct-from_apart number [] h = AllPairs-none (λ x y. x ≢ y)
 AreDistinct-from_apart number (x ∷ xs) h =
-    let parts : (list_all (λ y. not (number x == number y)) xs ≡ true) × (are_apart number xs ≡ true) = both_true _ _ h in
+    let parts : (list_all (λ y. not (number x == number y)) xs ≡ true) × (are_apart number xs ≡ true) = and_parts _ _ h in
     AllPairs-cons (λ x y. x ≢ y) x xs
     (All-from_test (λ y. x ≢ y) (λ y. not (number x == number y)) (λ y t e. eqb-false (number x) (number y) (not-true _ t) (ap number e)) xs parts.0)
     (AreDistinct-from_apart number xs parts.1)

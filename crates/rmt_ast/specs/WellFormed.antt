@@ -1,9 +1,10 @@
 -- Which programs are well formed: those that break no rule of the language.
-use Rattle.std.specs.Prelude.{◌≡◌, ◌≢◌, ◌<◌, ◌≤◌, ℕ, ◌+◌, ◌*◌, ◌%◌, ◌^◌, List, [], ◌∷◌, Bool, false, ◌==◌, bit_and, Option, Some, None, ⊤, IsSomeAnd, All, AllPairs, Contains, slice_get, length, map, sum, count_by, drop, ◌++◌, IsTrue, nat_eq, option_map, unwrap_or, codes}
+use Rattle.std.specs.Prelude.{◌≡◌, ◌≢◌, ◌<◌, ◌≤◌, ℕ, ◌+◌, ◌-◌, ◌*◌, ◌%◌, ◌^◌, List, [], ◌∷◌, Bool, false, ◌==◌, bit_and, Option, Some, None, ⊤, IfSome, IsSomeAnd, All, AllPairs, Contains, slice_get, length, map, sum, count_by, drop, ◌++◌, IsTrue, nat_eq, option_map, unwrap_or, codes}
 use Rattle.std.specs.List.{AllZip, flat_map, range_with_len, starts_with}
 use Rattle.rmt_ast.specs.declared.program.Program.{Program}
 use Rattle.rmt_ast.specs.declared.program.Field.{Field}
 use Rattle.rmt_ast.specs.declared.program.Header.{Header}
+use Rattle.rmt_ast.specs.declared.program.Tail.{Tail}
 use Rattle.rmt_ast.specs.declared.program.Case.{Case}
 use Rattle.rmt_ast.specs.declared.program.Test.{Test}
 use Rattle.rmt_ast.specs.declared.program.Target.{Target}
@@ -80,12 +81,23 @@ pub record IsCase (p : Program) (n : ℕ) (select : List ℕ) (c : Case) : Type 
   pub tests : AreTests p select c.tests
   pub target : IsTarget p n c.target
 
+-- the tail of a header with these fields: a field tells its length, which is at least 0 and at most 64 at its greatest value
+pub record IsTail (p : Program) (fields : List ℕ) (t : Tail) : Type 0 where
+  pub own : Contains fields t.field
+  pub narrow : width_of p t.field ≤ 8
+  pub has_unit : 1 ≤ t.unit
+  pub unit : t.unit ≤ 255
+  pub base : t.base ≤ 255
+  pub reaches : t.base ≤ (2 ^ width_of p t.field - 1) * t.unit
+  pub is_not_long : (2 ^ width_of p t.field - 1) * t.unit ≤ t.base + 64
+
 -- header n: of 1 to 64 whole bytes, with cases only where it selects by some of its own fields
 pub record IsHeader (p : Program) (n : ℕ) (h : Header) : Type 0 where
   pub valid : width_of p h.valid ≡ 1
   pub whole_bytes : bits_of p h.fields ≡ 8 * h.bytes
   pub is_not_empty : 1 ≤ h.bytes
   pub is_not_long : h.bytes ≤ 64
+  pub tail : IfSome h.tail (IsTail p h.fields)
   pub selects_own : All (Contains h.fields) h.select
   pub selects_once : AreDistinct h.select
   pub plain : h.select ≡ [] → h.cases ≡ []

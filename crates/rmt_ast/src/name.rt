@@ -1,3 +1,5 @@
+//! Names, of any bytes.
+
 ghost use Rattle.std.specs.Prelude.{◌≡◌, ◌<◌, ◌++◌, ◌∷◌, [], length, slice_get, OnOk, OnErr, IfOk, option_copied, IsSome};
 
 use rmt_bits::answer::Bytes;
@@ -14,6 +16,7 @@ pub struct Name {
 /// Why a name could not be copied.
 #[derive(Debug, Drop, Error)]
 pub enum NamesFault {
+    /// There is not enough memory.
     #[error("out of memory")]
     NoMemory,
 }
@@ -27,7 +30,7 @@ impl Model for Name {
 }
 
 impl Name {
-    /// A name of no bytes.
+    /// A name of no bytes. It takes no memory.
     pub fn new(alloc: Global) -> Name
         ensures { result ≡ [] }
     {
@@ -60,7 +63,7 @@ impl Name {
         self.bytes.len()
     }
 
-    /// The byte at a place, from 0 on.
+    /// The byte at a place, from 0 on; None behind the last.
     pub fn get(&self, at: usize) -> Option<&u8>
         ensures found { IsSome result → at < length self.now }
         ensures item { slice_get self.now at ≡ option_copied result }

@@ -1,4 +1,8 @@
+pub mod AllLaws
 pub mod BitLaws
 pub mod ByteLaws
-pub mod WordLaws
 pub mod Examples
+pub mod FunctionLaws
+pub mod ListLaws
+pub mod OptionLaws
+pub mod WordLaws

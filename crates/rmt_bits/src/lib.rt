@@ -6,5 +6,3 @@ pub mod bits;
 pub mod hash;
 pub mod lane;
 pub mod sequence;
-#[cfg(test)]
-mod tests;

@@ -1,5 +1,5 @@
 -- The sizes of a text's parts, from the rules that it keeps.
-use Rattle.std.proofs.Common.{◌≡◌, ℕ, ◌+◌, ◌*◌, ◌<◌, ◌≤◌, ◌%◌, ◌==◌, List, [], ◌∷◌, ◌++◌, Bool, true, false, not, ◌&&◌, cond, nat_le, None, Some, Option, unwrap_or, option_map, map, find, length, drop, sum, sum_by, codes, filter_map, refl, inl, inr, sym, ap, subst, ◌∙◌, append_assoc, lit≤, lit<, ◌^◌, arith}
+use Rattle.std.proofs.Common.{◌≡◌, ℕ, ◌+◌, ◌-◌, ◌*◌, ◌<◌, ◌≤◌, ◌%◌, ◌==◌, List, [], ◌∷◌, ◌++◌, Bool, true, false, not, ◌&&◌, cond, nat_le, None, Some, Option, unwrap_or, option_map, option_to_list, map, find, length, drop, sum, sum_by, codes, filter_map, refl, inl, inr, sym, ap, subst, ◌∙◌, append_assoc, lit≤, lit<, ◌^◌, arith}
 use Rattle.std.specs.Prelude.{All}
 use Rattle.std.specs.Option.{IfSome, option_map_or}
 use Rattle.std.proofs.lemmas.Option.{IfSome_then, slice_get_cases}
@@ -8,9 +8,9 @@ use Rattle.std.specs.List.{flat_map, IsDistinct, cons_option}
 use Rattle.std.specs.Str.{bytes_eq}
 use Rattle.std.proofs.lemmas.Bool.{not-false, and_parts, leb-true, or_cases, false≢true}
 use Rattle.std.proofs.lemmas.Cmp.{nat_list_eq_equiv}
-use Rattle.std.proofs.lemmas.List.{length-drop, length-append, length-map, append-nil}
+use Rattle.std.proofs.lemmas.List.{length-append, length-map, append-nil}
 use Rattle.std.proofs.lemmas.List.Concat.{length-flat_map}
-use Rattle.std.proofs.lemmas.List.Elements.{All-nil, All-cons, All-head, All-tail, All-append, All-map, All-weaker, All-get_or}
+use Rattle.std.proofs.lemmas.List.Elements.{All-cons, All-head, All-tail, All-append, All-map, All-weaker, All-get_or}
 use Rattle.std.proofs.lemmas.List.Sums.{sum_by-le, sum-map, sum_by-cons}
 use Rattle.std.proofs.lemmas.Map.Keys.{IsDistinct-push}
 use Rattle.std.proofs.lemmas.Map.Made.{length-le_from_is_member}
@@ -18,6 +18,7 @@ use Rattle.std.proofs.lemmas.Slice.Eq.{bytes_eq-Decides}
 use Rattle.rmt_lexer.specs.declared.place.Place.{Place}
 use Rattle.rmt_check.specs.declared.source.Ident.{Ident}
 use Rattle.rmt_check.specs.declared.source.Declared.{Declared}
+use Rattle.rmt_check.specs.declared.source.TailText.{TailText}
 use Rattle.rmt_check.specs.declared.source.HeaderText.{HeaderText}
 use Rattle.rmt_check.specs.declared.source.MetaText.{MetaText}
 use Rattle.rmt_check.specs.declared.source.ActionText.{ActionText}
@@ -25,49 +26,20 @@ use Rattle.rmt_check.specs.declared.source.KeyText.{KeyText}
 use Rattle.rmt_check.specs.declared.source.TableText.{TableText}
 use Rattle.rmt_check.specs.declared.source.NodeText.{NodeText}
 use Rattle.rmt_check.specs.declared.source.Source.{Source}
-use Rattle.rmt_check.specs.Names.{Known, key, declared_keys, header_keys, keys_from, field_keys, header_names, action_names, table_names, number_of, width_at, width_of, is_known, printed, known_fields, header_fields, metadata, fields_of, nodes_of, applied, applied_tables, listed, listed_by}
-use Rattle.rmt_check.specs.Rules.{when, repeated, repeated_after, places, declared_names, is_width, no_widths, bits_of, is_size, bad_table_size, broken_5, broken_7, broken_8, broken_16, broken_18, broken_20}
+use Rattle.rmt_check.specs.Names.{Known, Named, in_port, same_field, named_fields, field_place, header_names, action_names, table_names, selected, number_of, width_at, width_of, is_known, printed, known_fields, header_fields, metadata, fields_of, nodes_of, applied, applied_tables, listed, listed_by}
+use Rattle.rmt_check.specs.Seen.{repeated_after}
+use Rattle.rmt_check.specs.Rules.{when, repeated, places, declared_names, is_width, no_widths, bits_of, is_size, bad_table_size, broken_5, broken_7, broken_8, broken_16, broken_18, broken_20, broken_21, bad_tail, is_tail_range}
 use Rattle.rmt_check.specs.Building.{count_of}
 use Rattle.rmt_check.specs.Naming.{IsUnder}
-use Rattle.rmt_check.specs.Sizes.{AreNarrow, IsSized, IsSizedAction, IsSizedTable, IsSizedHeader, IsSizedKey}
-
--- Lists in which nothing is broken.
-nil_left : {A : Type 0} (xs ys : List A) → xs ++ ys ≡ [] → xs ≡ []
-nil_left [] ys e = refl
-nil_left (x ∷ xs) ys e = cc
-
-nil_right : {A : Type 0} (xs ys : List A) → xs ++ ys ≡ [] → ys ≡ []
-nil_right [] ys e = e
-nil_right (x ∷ xs) ys e = cc
-
-flat_map_nil : {X A : Type 0} (f : X → List A) (xs : List X) → flat_map f xs ≡ [] → All (λ x. f x ≡ []) xs
-flat_map_nil f [] e = All-nil (λ x. f x ≡ [])
-flat_map_nil f (x ∷ xs) e =
-    All-cons (λ x. f x ≡ []) x xs (nil_left (f x) (flat_map f xs) e) (flat_map_nil f xs (nil_right (f x) (flat_map f xs) e))
-
-map_nil : {X A : Type 0} (f : X → A) (xs : List X) → map f xs ≡ [] → xs ≡ []
-map_nil f [] e = refl
-map_nil f (x ∷ xs) e = cc
-
-drop_nil : {X : Type 0} (n : ℕ) (xs : List X) → drop n xs ≡ [] → length xs ≤ n
-drop_nil n xs e = let gone : length (drop n xs) ≡ 0 = ap length e in omega (arith, length-drop n xs)
+use Rattle.rmt_check.specs.Sizes.{AreNarrow, IsSized, IsSizedAction, IsSizedTable, IsSizedTail, IsSizedHeader, IsSizedKey}
+use Rattle.rmt_check.proofs.FieldCodes.{fields_long}
+use Rattle.rmt_check.proofs.SeenNames.{repeated-after}
+use Rattle.rmt_bits.proofs.AllLaws.{All-flat_map, All-parts}
+use Rattle.rmt_bits.proofs.ListLaws.{append-nil_left, append-nil_right, flat_map-nil, map-nil, drop-nil}
 
 when_nil : (broken : Bool) (p : Place) → when broken p ≡ [] → broken ≡ false
 when_nil true p e = cc
 when_nil false p e = refl
-
-All-flat_map : {X Y : Type 0} (P : Y → Type 0) (f : X → List Y) (xs : List X) → All (λ x. All P (f x)) xs → All P (flat_map f xs)
-All-flat_map P f [] h = All-nil P
-All-flat_map P f (x ∷ xs) h =
-    All-append P (f x) (flat_map f xs) (All-head (λ x. All P (f x)) x xs h) (All-flat_map P f xs (All-tail (λ x. All P (f x)) x xs h))
-
-All-left : {X : Type 0} (P : X → Type 0) (xs ys : List X) → All P (xs ++ ys) → All P xs
-All-left P [] ys h = All-nil P
-All-left P (x ∷ xs) ys h = All-cons P x xs (All-head P x (xs ++ ys) h) (All-left P xs ys (All-tail P x (xs ++ ys) h))
-
-All-right : {X : Type 0} (P : X → Type 0) (xs ys : List X) → All P (xs ++ ys) → All P ys
-All-right P [] ys h = h
-All-right P (x ∷ xs) ys h = All-right P xs ys (All-tail P x (xs ++ ys) h)
 
 -- Widths.
 abbrev IsWide : Declared → Type 0
@@ -81,15 +53,10 @@ widths_are ds e =
     All-weaker (λ (d : Declared). when (not (is_width d.width.value)) d.width.place ≡ []) IsWide
     (λ d h. width_is d.width.value (not-false (is_width d.width.value) (when_nil (not (is_width d.width.value)) d.width.place h)))
     ds
-    (flat_map_nil (λ (d : Declared). when (not (is_width d.width.value)) d.width.place) ds e)
+    (flat_map-nil (λ (d : Declared). when (not (is_width d.width.value)) d.width.place) ds e)
 
 narrow_are : (ds : List Declared) → All IsWide ds → AreNarrow ds
 narrow_are ds h = All-weaker IsWide (λ (d : Declared). d.width.value ≤ 128) (λ d w. w.1) ds h
-
-All-parts : {X Y : Type 0} (P : Y → Type 0) (f : X → List Y) (xs : List X) → All P (flat_map f xs) → All (λ x. All P (f x)) xs
-All-parts P f [] h = All-nil (λ x. All P (f x))
-All-parts P f (x ∷ xs) h =
-    All-cons (λ x. All P (f x)) x xs (All-left P (f x) (flat_map f xs) h) (All-parts P f xs (All-right P (f x) (flat_map f xs) h))
 
 -- each field has a bit
 count_bits : (ds : List Declared) → All IsWide ds → length ds ≤ sum (map (λ (d : Declared). d.width.value) ds)
@@ -155,19 +122,19 @@ length-filter_map {Y = Y} f (x ∷ xs) = by (f x) (length-filter_map f xs)
 -- the bounds of a text that breaks no rule of widths and counts
 module _ (s : Source) where
   tables_once : broken_5 s ≡ [] → repeated (map (λ (t : TableText). t.ident) s.tables) ≡ []
-  tables_once once = nil_right _ _ (nil_left _ _ once)
+  tables_once once = append-nil_right _ _ (append-nil_left _ _ once)
 
   few_tables : broken_5 s ≡ [] → broken_20 s ≡ [] → length (nodes_of s) ≤ 128 → length s.tables ≤ 128
   few_tables once used nodes =
       let names : List (List ℕ) = map (λ (i : Ident). i.name) (applied_tables s) in
       let idents : List Ident = map (λ (t : TableText). t.ident) s.tables in
       let tables : List (List ℕ) = map (λ (i : Ident). i.name) idents in
-      let distinct : IsDistinct bytes_eq tables = repeated_distinct [] idents no_names (tables_once once) in
+      let distinct : IsDistinct bytes_eq tables = repeated_distinct [] idents no_names (sym (repeated-after idents) ∙ tables_once once) in
       let each : All (λ (t : TableText). is_known names t.ident.name ≡ true) s.tables =
       All-weaker (λ (t : TableText). when (not (is_known names t.ident.name)) t.ident.place ≡ []) (λ (t : TableText). is_known names t.ident.name ≡ true)
       (λ t h. not-false (is_known names t.ident.name) (when_nil (not (is_known names t.ident.name)) t.ident.place h))
       s.tables
-      (flat_map_nil (λ (t : TableText). when (not (is_known names t.ident.name)) t.ident.place) s.tables used) in
+      (flat_map-nil (λ (t : TableText). when (not (is_known names t.ident.name)) t.ident.place) s.tables used) in
       let known : All (λ x. is_known names x ≡ true) tables =
       All-map (λ x. is_known names x ≡ true) (λ (i : Ident). i.name) idents (All-map (λ (i : Ident). is_known names i.name ≡ true) (λ (t : TableText). t.ident) s.tables each) in
       let le : length tables ≤ length names = length-le_from_is_member nat_list_eq_equiv tables names distinct (names_known names tables known) in
@@ -179,27 +146,38 @@ module _ (s : Source) where
         length-filter_map (λ (n : NodeText). applied n.what) (nodes_of s),
       )
 
-  header_sized : (h : HeaderText) → no_widths h.fields ≡ [] → when (not (is_size (bits_of h))) h.ident.place ≡ [] → IsSizedHeader h
-  header_sized h wide size =
+  tail_sized : (h : HeaderText) (o : Option TailText) → flat_map (bad_tail s h) (option_to_list o) ≡ [] → IfSome o IsSizedTail
+  tail_sized h None e = tt
+  tail_sized h (Some t) e =
+      let width = width_of s (selected s h t.field) in
+      let n = (2 ^ width - 1) * t.unit.value in
+      let fits = append-nil_left (bad_tail s h t) [] e in
+      let range = not-false (is_tail_range width t.unit.value t.base.value) (when_nil (not (is_tail_range width t.unit.value t.base.value)) t.place fits) in
+      let three = and_parts _ (nat_le t.base.value 255) (and_parts _ (nat_le t.base.value n) (and_parts _ (nat_le n (t.base.value + 64)) range).0).0 in
+      record { unit = leb-true t.unit.value 255 (and_parts _ (nat_le t.unit.value 255) three.0).1; base = leb-true t.base.value 255 three.1 }
+
+  header_sized : (h : HeaderText) → no_widths h.fields ≡ [] → when (not (is_size (bits_of h))) h.ident.place ≡ [] → flat_map (bad_tail s h) (option_to_list h.tail) ≡ [] → IsSizedHeader h
+  header_sized h wide size tail =
       let sized = not-false (is_size (bits_of h)) (when_nil (not (is_size (bits_of h))) h.ident.place size) in
       let upper = and_parts (nat_le 1 (bits_of h)) (nat_le (bits_of h) 512) (and_parts (nat_le 1 (bits_of h) && nat_le (bits_of h) 512) (bits_of h % 8 == 0) sized).0 in
       let bits : bits_of h ≤ 512 = leb-true (bits_of h) 512 upper.1 in
       let count : length h.fields ≤ bits_of h = count_bits h.fields (widths_are h.fields wide) in
-      record { widths = narrow_are h.fields (widths_are h.fields wide); bits = bits; few = omega arith }
+      record { widths = narrow_are h.fields (widths_are h.fields wide); bits = bits; few = omega arith; tail = tail_sized h h.tail tail }
 
   header_widths : broken_7 s ≡ [] → All (λ (h : HeaderText). no_widths h.fields ≡ []) s.headers
-  header_widths wide = flat_map_nil (λ (h : HeaderText). no_widths h.fields) s.headers (nil_left _ _ (nil_left _ _ wide))
+  header_widths wide = flat_map-nil (λ (h : HeaderText). no_widths h.fields) s.headers (append-nil_left _ _ (append-nil_left _ _ wide))
 
-  headers_sized : broken_7 s ≡ [] → broken_8 s ≡ [] → All IsSizedHeader s.headers
-  headers_sized wide size = λ k d lt.
-      header_sized _ (header_widths wide k d lt) (flat_map_nil (λ (h : HeaderText). when (not (is_size (bits_of h))) h.ident.place) s.headers size k d lt)
+  headers_sized : broken_7 s ≡ [] → broken_8 s ≡ [] → broken_21 s ≡ [] → All IsSizedHeader s.headers
+  headers_sized wide size tails = λ k d lt.
+      header_sized _ (header_widths wide k d lt) (flat_map-nil (λ (h : HeaderText). when (not (is_size (bits_of h))) h.ident.place) s.headers size k d lt)
+      (flat_map-nil (λ (h : HeaderText). flat_map (bad_tail s h) (option_to_list h.tail)) s.headers tails k d lt)
 
   fields_narrow : broken_7 s ≡ [] → All IsNarrow (fields_of s)
   fields_narrow wide =
       let headers : All IsNarrow (flat_map header_fields s.headers) =
       All-flat_map IsNarrow header_fields s.headers (All-weaker (λ (h : HeaderText). no_widths h.fields ≡ []) (λ h. All IsNarrow (header_fields h)) header_narrow s.headers (header_widths wide)) in
       let metas : All IsNarrow (known_fields (codes "meta") (metadata s)) =
-      known_narrow (codes "meta") (metadata s) (widths_are (metadata s) (nil_right _ _ (nil_left _ _ wide))) in
+      known_narrow (codes "meta") (metadata s) (widths_are (metadata s) (append-nil_right _ _ (append-nil_left _ _ wide))) in
       let named : List Known = flat_map header_fields s.headers ++ known_fields (codes "meta") (metadata s) in
       let rest : All IsNarrow named = All-append IsNarrow (flat_map header_fields s.headers) (known_fields (codes "meta") (metadata s)) headers metas in
       let drops : All IsNarrow ((codes "drop", 1) ∷ named) = narrow_more (codes "drop") 1 named (lit≤ tt) rest in
@@ -229,7 +207,7 @@ module _ (s : Source) where
       leb-true k.size.value 1048576 (and_parts (nat_le 1 k.size.value) (nat_le k.size.value 1048576) sized).1
 
   idents_few : (n : ℕ) (xs : List Ident) → places (drop n xs) ≡ [] → length xs ≤ n
-  idents_few n xs e = drop_nil n xs (map_nil (λ (x : Ident). x.place) (drop n xs) e)
+  idents_few n xs e = drop-nil n xs (map-nil (λ (x : Ident). x.place) (drop n xs) e)
 
   names_few : (n : ℕ) (ds : List Declared) → places (drop n (declared_names ds)) ≡ [] → length ds ≤ n
   names_few n ds e = omega (arith, idents_few n (declared_names ds) e, length-map ds (λ (d : Declared). d.ident))
@@ -241,31 +219,31 @@ module _ (s : Source) where
   table_sized : (t : TableText) → bad_table_size t.key ≡ [] → places (drop 14 (listed t)) ≡ [] → IsSizedTable t
   table_sized t size many = record { size = key_sized t.key size; few = idents_few 14 (listed t) many }
 
-  pub sized : broken_5 s ≡ [] → broken_7 s ≡ [] → broken_8 s ≡ [] → broken_16 s ≡ [] → broken_18 s ≡ [] → broken_20 s ≡ []
+  pub sized : broken_5 s ≡ [] → broken_7 s ≡ [] → broken_8 s ≡ [] → broken_16 s ≡ [] → broken_18 s ≡ [] → broken_20 s ≡ [] → broken_21 s ≡ []
       → All (λ (n : NodeText). IsUnder (length (nodes_of s)) n.under) (nodes_of s) → IsSized s
-  sized once wide size lists counts used parents =
-      let nodes : length (nodes_of s) ≤ 128 = drop_nil 128 (nodes_of s) (map_nil (λ (n : NodeText). n.place) (drop 128 (nodes_of s)) (nil_right _ _ (nil_left _ _ counts))) in
+  sized once wide size lists counts used tails parents =
+      let nodes : length (nodes_of s) ≤ 128 = drop-nil 128 (nodes_of s) (map-nil (λ (n : NodeText). n.place) (drop 128 (nodes_of s)) (append-nil_right _ _ (append-nil_left _ _ counts))) in
       let metas : length (metadata s) ≤ 256 =
-      names_few 256 (metadata s) (nil_right _ _ (nil_left _ _ (nil_left _ _ counts))) in
+      names_few 256 (metadata s) (append-nil_right _ _ (append-nil_left _ _ (append-nil_left _ _ counts))) in
       let actions : length s.actions ≤ 256 =
-      drop_nil 256 s.actions
-      (map_nil (λ (a : ActionText). a.ident.place) (drop 256 s.actions) (nil_right _ _ (nil_left _ _ (nil_left _ _ (nil_left _ _ (nil_left _ _ (nil_left _ _ counts))))))) in
+      drop-nil 256 s.actions
+      (map-nil (λ (a : ActionText). a.ident.place) (drop 256 s.actions) (append-nil_right _ _ (append-nil_left _ _ (append-nil_left _ _ (append-nil_left _ _ (append-nil_left _ _ (append-nil_left _ _ counts))))))) in
       let headers : length s.headers ≤ 64 =
-      drop_nil 64 s.headers
-      (map_nil (λ (h : HeaderText). h.ident.place) (drop 64 s.headers)
-      (nil_right _ _ (nil_left _ _ (nil_left _ _ (nil_left _ _ (nil_left _ _ (nil_left _ _ (nil_left _ _ counts)))))))) in
+      drop-nil 64 s.headers
+      (map-nil (λ (h : HeaderText). h.ident.place) (drop 64 s.headers)
+      (append-nil_right _ _ (append-nil_left _ _ (append-nil_left _ _ (append-nil_left _ _ (append-nil_left _ _ (append-nil_left _ _ (append-nil_left _ _ counts)))))))) in
       let params : All (λ (a : ActionText). places (drop 16 (declared_names a.params)) ≡ []) s.actions =
-      flat_map_nil (λ (a : ActionText). places (drop 16 (declared_names a.params))) s.actions
-      (nil_right _ _ (nil_left _ _ (nil_left _ _ (nil_left _ _ (nil_left _ _ counts))))) in
-      let sizes : All (λ (t : TableText). bad_table_size t.key ≡ []) s.tables = flat_map_nil (λ (t : TableText). bad_table_size t.key) s.tables (nil_right _ _ counts) in
-      let short : All (λ (t : TableText). places (drop 14 (listed t)) ≡ []) s.tables = flat_map_nil (λ (t : TableText). places (drop 14 (listed t))) s.tables lists in
-      let widths : All (λ (a : ActionText). no_widths a.params ≡ []) s.actions = flat_map_nil (λ (a : ActionText). no_widths a.params) s.actions (nil_right _ _ wide) in
+      flat_map-nil (λ (a : ActionText). places (drop 16 (declared_names a.params))) s.actions
+      (append-nil_right _ _ (append-nil_left _ _ (append-nil_left _ _ (append-nil_left _ _ (append-nil_left _ _ counts))))) in
+      let sizes : All (λ (t : TableText). bad_table_size t.key ≡ []) s.tables = flat_map-nil (λ (t : TableText). bad_table_size t.key) s.tables (append-nil_right _ _ counts) in
+      let short : All (λ (t : TableText). places (drop 14 (listed t)) ≡ []) s.tables = flat_map-nil (λ (t : TableText). places (drop 14 (listed t))) s.tables lists in
+      let widths : All (λ (a : ActionText). no_widths a.params ≡ []) s.actions = flat_map-nil (λ (a : ActionText). no_widths a.params) s.actions (append-nil_right _ _ wide) in
       record {
         widths = fields_narrow wide;
-        few_fields = few_fields (headers_sized wide size) headers metas;
+        few_fields = few_fields (headers_sized wide size tails) headers metas;
         metas = All-parts (λ (d : Declared). d.width.value ≤ 128) (λ (m : MetaText). m.fields) s.metas
-            (narrow_are (metadata s) (widths_are (metadata s) (nil_right _ _ (nil_left _ _ wide))));
-        headers = headers_sized wide size;
+            (narrow_are (metadata s) (widths_are (metadata s) (append-nil_right _ _ (append-nil_left _ _ wide))));
+        headers = headers_sized wide size tails;
         few_headers = headers;
         actions = λ k d lt. action_sized _ (widths k d lt) (params k d lt);
         few_actions = actions;
@@ -288,8 +266,8 @@ found_below names name = by (number_of names name) refl
     by None e = tt
     by (Some n) e = (position-Some (bytes_eq name) names n [] e).0
 
-pub width_narrow : (s : Source) (k : List ℕ) → IsSized s → width_of s k ≤ 128
-width_narrow s k h = by (number_of (field_keys s) k)
+pub width_narrow : (s : Source) (x : Named) → IsSized s → width_of s x ≤ 128
+width_narrow s x h = by (field_place s x)
   where
     at : (n : ℕ) → width_at s n ≤ 128
     at n =
@@ -302,39 +280,14 @@ width_narrow s k h = by (number_of (field_keys s) k)
     by None = lit≤ tt
     by (Some n) = at n
 
--- as many keys as fields
-count_keys : (owner : ℕ) (ds : List Declared) → length (declared_keys owner ds) ≡ length ds
-count_keys owner ds = length-map {B = List ℕ} ds (λ (d : Declared). key owner d.ident.name)
-
-count_keys_from : (owner : ℕ) (hs : List HeaderText) → length (keys_from owner hs) ≡ length (flat_map header_fields hs)
-count_keys_from owner [] = refl
-count_keys_from owner (h ∷ hs) =
-    omega (
-      arith,
-      length-append (header_keys owner h) (keys_from (owner + 1) hs),
-      length-append (header_fields h) (flat_map header_fields hs),
-      count_keys owner h.fields,
-      count_known h.ident.name h.fields,
-      count_keys_from (owner + 1) hs,
-    )
-
-count_field_keys : (s : Source) → length (field_keys s) ≡ length (fields_of s)
-count_field_keys s =
-    omega (
-      arith,
-      length-append (keys_from 2 s.headers) (declared_keys 1 (metadata s)),
-      length-append (flat_map header_fields s.headers) (known_fields (codes "meta") (metadata s)),
-      count_keys_from 2 s.headers,
-      count_keys 1 (metadata s),
-      count_known (codes "meta") (metadata s),
-    )
-
 module _ (s : Source) (h : IsSized s) where
-  pub field_small : (k : List ℕ) → unwrap_or (number_of (field_keys s) k) 0 < 2 ^ 32
-  field_small k =
-      number_below (number_of (field_keys s) k) (2 ^ 32)
-      (IfSome_then (number_of (field_keys s) k) (found_below (field_keys s) k) (λ n lt. omega (arith, h.few_fields, count_field_keys s)))
-      (lit< tt)
+  pub field_small : (x : Named) → unwrap_or (field_place s x) 0 < 2 ^ 32
+  field_small x =
+      number_below (field_place s x) (2 ^ 32) (IfSome_then (field_place s x) (by (field_place s x) refl) (λ n lt. omega (arith, h.few_fields, fields_long s))) (lit< tt)
+    where
+      by : (o : Option ℕ) → field_place s x ≡ o → IfSome o (λ n. n < length (named_fields s))
+      by None e = tt
+      by (Some n) e = (position-Some (same_field x) (named_fields s) n in_port e).0
 
   pub header_small : (name : List ℕ) → unwrap_or (number_of (header_names s) name) 0 < 2 ^ 32
   header_small name =

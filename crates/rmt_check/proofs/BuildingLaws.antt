@@ -1,5 +1,5 @@
 -- Numbers of names, and lists that grow item by item.
-use Rattle.std.proofs.Common.{◌≡◌, ℕ, zero, suc, ◌+◌, ◌⊎◌, inl, inr, min, get_or, drop, add-zero, add-one, ◌<◌, ◌≤◌, ◌-◌, take, zero-add, slice_get, bit_and, bit_or, List, [], ◌∷◌, ◌++◌, Bool, not, cond, nat_lt, None, Some, Option, unwrap_or, map, length, position, refl, sym, ap, ◌∙◌, arith}
+use Rattle.std.proofs.Common.{◌≡◌, ℕ, ◌+◌, ◌⊎◌, inl, inr, min, get_or, drop, ◌<◌, ◌≤◌, ◌-◌, take, zero-add, slice_get, bit_and, bit_or, List, [], ◌∷◌, ◌++◌, Bool, not, cond, nat_lt, None, Some, Option, unwrap_or, map, length, position, refl, sym, ap, ◌∙◌, arith}
 use Rattle.std.specs.Prelude.{All}
 use Rattle.std.specs.List.{position_or_len, range_with_len, zip}
 use Rattle.std.specs.Str.{bytes_eq}
@@ -54,16 +54,6 @@ place_small {A = A} test xs bound le z = by (position test xs) refl
         first : (ys : List A) (k : ℕ) → position test ys ≡ Some k → length ys ≤ bound → k < bound
         first [] k e h = cc
         first (y ∷ ys) k e h = omega (arith, (position-Some test (y ∷ ys) k y e).0)
-
-range_suc : (a n : ℕ) → range_with_len a (suc n) ≡ range_with_len a n ++ (a + n) ∷ []
-range_suc a zero = ap (λ (k : ℕ). k ∷ []) (sym (add-zero a))
-range_suc a (suc n) =
-    let moved : a + 1 + n ≡ a + suc n = omega arith in
-    ap (λ (l : List ℕ). a ∷ l) (range_suc (a + 1) n ∙ ap (λ (k : ℕ). range_with_len (a + 1) n ++ k ∷ []) moved)
-
--- one number more
-pub range_more : (a n : ℕ) → range_with_len a (n + 1) ≡ range_with_len a n ++ (a + n) ∷ []
-range_more a n = ap (range_with_len a) (add-one n) ∙ range_suc a n
 
 -- The tests of a case.
 pub tests_step : (ws : List ℕ) (vs : List ValueText) (i : ℕ) (d : ℕ) (e : ValueText) → i < length ws → i < length vs

@@ -10,6 +10,7 @@ use Rattle.rmt_check.specs.declared.source.OwnerText.{OwnerText}
 use Rattle.rmt_check.specs.declared.source.FieldText.{FieldText}
 use Rattle.rmt_check.specs.declared.source.ValueText.{ValueText}
 use Rattle.rmt_check.specs.declared.source.CaseText.{CaseText}
+use Rattle.rmt_check.specs.declared.source.TailText.{TailText}
 use Rattle.rmt_check.specs.declared.source.HeaderText.{HeaderText}
 use Rattle.rmt_check.specs.declared.source.MetaText.{MetaText}
 use Rattle.rmt_check.specs.declared.source.LeafText.{LeafText}
@@ -65,6 +66,7 @@ header_h =
     record {
       ident = ident 1 (codes "h");
       fields = declared 2 (codes "a") 8 ∷ declared 4 (codes "b") 8 ∷ [];
+      tail = None;
       select = ident 6 (codes "a") ∷ [];
       cases = to_g ∷ [];
       other = target.Accept;
@@ -75,10 +77,24 @@ abbrev pub header_g : HeaderText
 header_g = record {
   ident = ident 10 (codes "g");
   fields = declared 11 (codes "a") 16 ∷ [];
+  tail = None;
   select = [];
   cases = [];
   other = target.Accept;
 }
+
+-- header o { n : WIDTH; z : 4; tail NAME * UNIT - BASE; } next accept;
+abbrev pub header_o : (width : ℕ) (name : List ℕ) (unit base : ℕ) → HeaderText
+header_o width name unit base =
+    let t : TailText = record { place = at 84; field = ident 85 name; unit = number 86 unit; base = number 87 base } in
+    record {
+      ident = ident 80 (codes "o");
+      fields = declared 81 (codes "n") width ∷ declared 83 (codes "z") 4 ∷ [];
+      tail = Some t;
+      select = [];
+      cases = [];
+      other = target.Accept;
+    }
 
 -- meta { m : 16; }
 abbrev pub meta : MetaText

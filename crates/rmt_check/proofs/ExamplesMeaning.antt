@@ -1,7 +1,8 @@
 -- The program that the small text means.
-use Rattle.std.proofs.Common.{◌≡◌, [], ◌∷◌, ℕ, List, codes, false, None, Some, refl}
+use Rattle.std.proofs.Common.{◌≡◌, [], ◌∷◌, ℕ, List, codes, false, None, Some, map, refl}
 use Rattle.rmt_ast.specs.declared.program.Field.{Field}
 use Rattle.rmt_ast.specs.declared.program.Header.{Header}
+use Rattle.rmt_ast.specs.declared.program.Tail.{Tail}
 use Rattle.rmt_ast.specs.declared.program.Case.{Case}
 use Rattle.rmt_ast.specs.declared.program.Test.{Test}
 use Rattle.rmt_ast.specs.declared.program.Action.{Action}
@@ -17,7 +18,7 @@ use Rattle.rmt_ast.specs.declared.program.Kind.TheVariants.{Exact}
 use Rattle.rmt_ast.specs.declared.program.What.TheVariants.{Apply, Gate}
 use Rattle.rmt_check.specs.Rules.{fault_of}
 use Rattle.rmt_check.specs.Meaning.{program_of}
-use Rattle.rmt_check.proofs.ExampleText.{text}
+use Rattle.rmt_check.proofs.ExampleText.{header_g, header_o, text}
 
 abbrev field : List ℕ → ℕ → Field
 field name width = record { name = name; width = width }
@@ -34,8 +35,8 @@ fields =
 abbrev headers : List Header
 headers =
     let to_g : Case = record { tests = test 7 255 ∷ []; target = to.Node 1 } in
-    let h : Header = record { name = codes "h"; valid = 3; fields = 4 ∷ 5 ∷ []; bytes = 2; select = 4 ∷ []; cases = to_g ∷ []; other = to.Accept } in
-    let g : Header = record { name = codes "g"; valid = 6; fields = 7 ∷ []; bytes = 2; select = []; cases = []; other = to.Accept } in
+    let h : Header = record { name = codes "h"; valid = 3; fields = 4 ∷ 5 ∷ []; bytes = 2; tail = None; select = 4 ∷ []; cases = to_g ∷ []; other = to.Accept } in
+    let g : Header = record { name = codes "g"; valid = 6; fields = 7 ∷ []; bytes = 2; tail = None; select = []; cases = []; other = to.Accept } in
     h ∷ g ∷ []
 
 abbrev actions : List Action
@@ -74,6 +75,11 @@ fields_of_text = refl
 
 headers_of_text : (program_of text).headers ≡ headers
 headers_of_text = refl
+
+-- a tail of the header's own field
+tail_of_text : map (λ (h : Header). h.tail) (program_of (record text { headers = header_g ∷ header_o 4 (codes "n") 4 4 ∷ [] })).headers
+    ≡ None ∷ (let t : Tail = record { field = 6; unit = 4; base = 4 } in Some t) ∷ []
+tail_of_text = refl
 
 actions_of_text : (program_of text).actions ≡ actions
 actions_of_text = refl

@@ -1,18 +1,15 @@
 -- Texts of one line, read by hand.
-use Rattle.std.proofs.Common.{◌≡◌, ◌∙◌, ℕ, List, [], ◌∷◌, sym, ap, Some, None, Option}
-use Rattle.std.specs.Prelude.{Vec, codes}
-use Rattle.std.specs.declared.alloc.Global.{Global}
-use Rattle.rmt_lexer.specs.declared.token.Token.{Token}
+use Rattle.std.proofs.Common.{◌≡◌, ℕ, List, [], ◌∷◌, Some, None, Option}
+use Rattle.std.specs.Prelude.{codes}
 use Rattle.rmt_lexer.specs.declared.token.TokenKind.TheVariants as token
-use Rattle.rmt_syntax.specs.declared.tree.Tree.{Tree, One, Many, out-Tree, out-roll-Tree}
-use Rattle.rmt_syntax.specs.declared.tree.Tree.TheOpen as tree
-use Rattle.rmt_syntax.specs.declared.tree.Tree.TheVariants.{rolls-One, rolls-Many}
-use Rattle.rmt_syntax.specs.declared.tree.Rule.{Rule}
+use Rattle.rmt_syntax.specs.declared.tree.Tree.{Tree, One, Many}
 use Rattle.rmt_syntax.specs.declared.tree.Rule.TheVariants as rule
 use Rattle.rmt_check.specs.declared.source.Ident.{Ident}
 use Rattle.rmt_check.specs.declared.source.Declared.{Declared}
 use Rattle.rmt_check.specs.declared.source.OwnerText.TheVariants.{Header, Metadata}
 use Rattle.rmt_check.specs.declared.source.FieldText.{FieldText}
+use Rattle.rmt_check.specs.declared.source.Number.{Number}
+use Rattle.rmt_check.specs.declared.source.TailText.{TailText}
 use Rattle.rmt_check.specs.declared.source.HeaderText.{HeaderText}
 use Rattle.rmt_check.specs.declared.source.TargetText.TheVariants.{Accept}
 use Rattle.rmt_check.specs.declared.source.ArmText.{ArmText}
@@ -20,13 +17,8 @@ use Rattle.rmt_check.specs.declared.source.ArmText.TheVariants.{Hit, Miss}
 use Rattle.rmt_check.specs.declared.source.Under.{Under}
 use Rattle.rmt_check.specs.declared.source.WhatText.TheVariants.{Apply}
 use Rattle.rmt_check.specs.declared.source.NodeText.{NodeText}
-use Rattle.rmt_check.specs.Reading.{param_at, field_at, header_at, control_among, with_block}
-
-one : (t : Token) → out-Tree (One t) ≡ tree.One t
-one t = ap out-Tree (sym (rolls-One t)) ∙ out-roll-Tree (tree.One t)
-
-many : (r : Rule) (v : Vec Tree Global) → out-Tree (Many r v) ≡ tree.Many r v
-many r v = ap out-Tree (sym (rolls-Many r v)) ∙ out-roll-Tree (tree.Many r v)
+use Rattle.rmt_check.specs.Reading.{param_at, field_at, header_at, control_among}
+use Rattle.rmt_check.proofs.ReadingLaws.{one, many, added_one, added_is}
 
 -- the tokens at a column of the line
 abbrev word : ℕ → List ℕ → Tree
@@ -43,30 +35,33 @@ number column n = One (record { line = 1; column = column; what = token.Number n
 abbrev ident : ℕ → List ℕ → Ident
 ident column w = record { place = record { line = 1; column = column }; name = w }
 
+abbrev value : ℕ → ℕ → Number
+value column n = record { place = record { line = 1; column = column }; value = n }
+
 abbrev field : ℕ → List ℕ → ℕ → ℕ → Declared
-field column w at n = record { ident = ident column w; width = record { place = record { line = 1; column = at }; value = n } }
+field column w at n = record { ident = ident column w; width = value at n }
 
 -- `port: 9`
-a_param : (v : Vec Tree Global) → v.items ≡ word 1 (codes "port") ∷ sign 5 (codes ":") ∷ number 7 9 ∷ []
+a_param : (v : List Tree) → v ≡ word 1 (codes "port") ∷ sign 5 (codes ":") ∷ number 7 9 ∷ []
     → param_at (Many rule.Param v) ≡ Some (field 1 (codes "port") 7 9)
 a_param v h = simp (many, h, one)
 
 -- `eth.dst`
-a_field : (v : Vec Tree Global) → v.items ≡ word 1 (codes "eth") ∷ sign 4 (codes ".") ∷ word 5 (codes "dst") ∷ []
+a_field : (v : List Tree) → v ≡ word 1 (codes "eth") ∷ sign 4 (codes ".") ∷ word 5 (codes "dst") ∷ []
     → field_at (Many rule.Field v)
     ≡ (let f : FieldText = record { place = record { line = 1; column = 1 }; owner = Header (ident 1 (codes "eth")); ident = ident 5 (codes "dst") } in Some f)
 a_field v h = simp (many, h, one)
 
 -- `meta.hop`
-a_meta_field : (v : Vec Tree Global) → v.items ≡ word 1 (codes "meta") ∷ sign 5 (codes ".") ∷ word 6 (codes "hop") ∷ []
+a_meta_field : (v : List Tree) → v ≡ word 1 (codes "meta") ∷ sign 5 (codes ".") ∷ word 6 (codes "hop") ∷ []
     → field_at (Many rule.Field v)
     ≡ (let f : FieldText = record { place = record { line = 1; column = 1 }; owner = Metadata; ident = ident 6 (codes "hop") } in Some f)
 a_meta_field v h = simp (many, h, one)
 
 -- `header h { a: 8; b: 16; } next accept;`
-a_header : (target next header : Vec Tree Global) → target.items ≡ word 32 (codes "accept") ∷ []
-    → next.items ≡ Many rule.Target target ∷ sign 38 (codes ";") ∷ []
-    → header.items
+a_header : (target next header : List Tree) → target ≡ word 32 (codes "accept") ∷ []
+    → next ≡ Many rule.Target target ∷ sign 38 (codes ";") ∷ []
+    → header
     ≡ word 1 (codes "header") ∷ word 8 (codes "h") ∷ sign 10 (codes "{") ∷ word 12 (codes "a") ∷ sign 13 (codes ":") ∷ number 15 8 ∷ sign 16 (codes ";")
     ∷ word 18 (codes "b") ∷ sign 19 (codes ":") ∷ number 21 16 ∷ sign 23 (codes ";") ∷ sign 25 (codes "}") ∷ word 27 (codes "next")
     ∷ Many rule.Next next ∷ []
@@ -74,11 +69,25 @@ a_header : (target next header : Vec Tree Global) → target.items ≡ word 32 (
     ≡ (let h : HeaderText = record {
       ident = ident 8 (codes "h");
       fields = field 12 (codes "a") 15 8 ∷ field 18 (codes "b") 21 16 ∷ [];
+      tail = None;
       select = [];
       cases = [];
       other = Accept;
     } in Some h)
 a_header target next header t n h = simp (many, one, t, n, h)
+
+-- `header o { n: 8; tail n*4-20; } next accept;`
+a_tail : (target next header : List Tree) → target ≡ word 38 (codes "accept") ∷ []
+    → next ≡ Many rule.Target target ∷ sign 44 (codes ";") ∷ []
+    → header
+    ≡ word 1 (codes "header") ∷ word 8 (codes "o") ∷ sign 10 (codes "{") ∷ word 12 (codes "n") ∷ sign 13 (codes ":") ∷ number 15 8 ∷ sign 16 (codes ";")
+    ∷ word 18 (codes "tail") ∷ word 23 (codes "n") ∷ sign 24 (codes "*") ∷ number 25 4 ∷ sign 26 (codes "-") ∷ number 27 20 ∷ sign 29 (codes ";")
+    ∷ sign 31 (codes "}") ∷ word 33 (codes "next") ∷ Many rule.Next next ∷ []
+    → header_at (Many rule.Header header)
+    ≡ (let t : TailText = record { place = record { line = 1; column = 18 }; field = ident 23 (codes "n"); unit = value 25 4; base = value 27 20 } in
+    let h : HeaderText = record { ident = ident 8 (codes "o"); fields = field 12 (codes "n") 15 8 ∷ []; tail = Some t; select = []; cases = []; other = Accept } in
+    Some h)
+a_tail target next header t n h = simp (many, one, t, n, h)
 
 abbrev node : ℕ → Option Under → Ident → List ArmText → NodeText
 node column under table arms = record { place = record { line = 1; column = column }; under = under; what = Apply table arms }
@@ -87,20 +96,19 @@ abbrev under : ℕ → ℕ → Option Under
 under parent arm = let u : Under = record { parent = parent; arm = arm } in Some u
 
 -- `control { apply t { hit { apply u; } miss { apply v; } } apply w; }`
-a_control : (u v w hit_block miss_block hit miss t block control : Vec Tree Global)
-    → u.items ≡ word 27 (codes "apply") ∷ word 33 (codes "u") ∷ sign 34 (codes ";") ∷ []
-    → v.items ≡ word 45 (codes "apply") ∷ word 51 (codes "v") ∷ sign 52 (codes ";") ∷ []
-    → w.items ≡ word 58 (codes "apply") ∷ word 64 (codes "w") ∷ sign 65 (codes ";") ∷ []
-    → hit_block.items ≡ sign 25 (codes "{") ∷ Many rule.Stmt u ∷ sign 36 (codes "}") ∷ []
-    → miss_block.items ≡ sign 43 (codes "{") ∷ Many rule.Stmt v ∷ sign 54 (codes "}") ∷ []
-    → hit.items ≡ word 21 (codes "hit") ∷ Many rule.Block hit_block ∷ []
-    → miss.items ≡ word 38 (codes "miss") ∷ Many rule.Block miss_block ∷ []
-    → t.items ≡ word 11 (codes "apply") ∷ word 17 (codes "t") ∷ sign 19 (codes "{") ∷ Many rule.Arm hit ∷ Many rule.Arm miss ∷ sign 56 (codes "}") ∷ []
-    → block.items ≡ sign 9 (codes "{") ∷ Many rule.Stmt t ∷ Many rule.Stmt w ∷ sign 67 (codes "}") ∷ []
-    → control.items ≡ word 1 (codes "control") ∷ Many rule.Block block ∷ []
+a_control : (u v w hit_block miss_block hit miss t block control : List Tree)
+    → u ≡ word 27 (codes "apply") ∷ word 33 (codes "u") ∷ sign 34 (codes ";") ∷ []
+    → v ≡ word 45 (codes "apply") ∷ word 51 (codes "v") ∷ sign 52 (codes ";") ∷ []
+    → w ≡ word 58 (codes "apply") ∷ word 64 (codes "w") ∷ sign 65 (codes ";") ∷ []
+    → hit_block ≡ sign 25 (codes "{") ∷ Many rule.Stmt u ∷ sign 36 (codes "}") ∷ []
+    → miss_block ≡ sign 43 (codes "{") ∷ Many rule.Stmt v ∷ sign 54 (codes "}") ∷ []
+    → hit ≡ word 21 (codes "hit") ∷ Many rule.Block hit_block ∷ []
+    → miss ≡ word 38 (codes "miss") ∷ Many rule.Block miss_block ∷ []
+    → t ≡ word 11 (codes "apply") ∷ word 17 (codes "t") ∷ sign 19 (codes "{") ∷ Many rule.Arm hit ∷ Many rule.Arm miss ∷ sign 56 (codes "}") ∷ []
+    → block ≡ sign 9 (codes "{") ∷ Many rule.Stmt t ∷ Many rule.Stmt w ∷ sign 67 (codes "}") ∷ []
+    → control ≡ word 1 (codes "control") ∷ Many rule.Block block ∷ []
     → control_among (Many rule.Control control ∷ [])
     ≡ Some (node 11 None (ident 17 (codes "t")) (Hit ∷ Miss ∷ []) ∷ node 27 (under 0 0) (ident 33 (codes "u")) []
     ∷ node 45 (under 0 1) (ident 51 (codes "v")) [] ∷ node 58 None (ident 64 (codes "w")) [] ∷ [])
-unfolding with_block
 a_control u v w hit_block miss_block hit miss t block control hu hv hw hhb hmb hh hm ht hb hc =
-    simp (many, one, hu, hv, hw, hhb, hmb, hh, hm, ht, hb, hc)
+    simp (many, one, added_is, added_one, hu, hv, hw, hhb, hmb, hh, hm, ht, hb, hc)

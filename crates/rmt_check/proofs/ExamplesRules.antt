@@ -1,6 +1,6 @@
 -- The small text, changed so that it breaks a rule, and the places where it does.
-use Rattle.std.proofs.Common.{◌≡◌, [], ◌∷◌, List, codes, None, Some, map, refl}
-use Rattle.std.specs.List.{range_with_len}
+use Rattle.std.proofs.Common.{◌≡◌, ℕ, [], ◌∷◌, List, codes, None, Some, map, refl}
+use Rattle.std.specs.List.{flat_map, range_with_len}
 use Rattle.rmt_ast.specs.declared.program.Kind.TheVariants.{Prefix}
 use Rattle.rmt_check.specs.declared.source.FieldText.{FieldText}
 use Rattle.rmt_check.specs.declared.source.TargetText.TheVariants as target
@@ -11,8 +11,8 @@ use Rattle.rmt_check.specs.declared.source.AssignText.{AssignText}
 use Rattle.rmt_check.specs.declared.source.KeyText.{KeyText}
 use Rattle.rmt_check.specs.declared.source.NodeText.{NodeText}
 use Rattle.rmt_check.specs.declared.source.Source.{Source}
-use Rattle.rmt_check.specs.Rules.{broken_5, broken_6, broken_7, broken_8, broken_9, broken_10, broken_11, broken_12, broken_13, broken_14, broken_15, broken_16, broken_17, broken_18, broken_19, broken_20, fault_of, text_start}
-use Rattle.rmt_check.proofs.ExampleText.{at, ident, number, declared, of_header, of_meta, of_all, value, header_h, header_g, meta, one, assign, action_set, action_hop, add_one, key, table_t, apply_t, text}
+use Rattle.rmt_check.specs.Rules.{broken_5, broken_6, broken_7, broken_8, broken_9, broken_10, broken_11, broken_12, broken_13, broken_14, broken_15, broken_16, broken_17, broken_18, broken_19, broken_20, broken_21, fault_of, text_start}
+use Rattle.rmt_check.proofs.ExampleText.{at, ident, number, declared, of_header, of_meta, of_all, value, header_h, header_g, header_o, meta, one, assign, action_set, action_hop, add_one, key, table_t, apply_t, text}
 
 abbrev with_headers : List HeaderText → Source
 with_headers hs = record text { headers = hs }
@@ -54,6 +54,10 @@ no_header_f = refl
 
 no_select_c : broken_6 (with_headers (record header_h { select = ident 6 (codes "c") ∷ [] } ∷ header_g ∷ [])) ≡ at 6 ∷ []
 no_select_c = refl
+
+-- of the header alone is the field of a tail
+no_tail_a : broken_6 (with_headers (header_h ∷ header_g ∷ header_o 4 (codes "a") 4 4 ∷ [])) ≡ at 85 ∷ []
+no_tail_a = refl
 
 -- code 7: a width of 129, and of 0
 too_wide_field : broken_7 (with_headers (header_h ∷ record header_g { fields = declared 11 (codes "a") 129 ∷ [] } ∷ [])) ≡ at 12 ∷ []
@@ -135,6 +139,33 @@ no_control = refl
 -- code 20
 not_applied : broken_20 (with_nodes []) ≡ at 50 ∷ []
 not_applied = refl
+
+-- the text with a third header, whose tail is that of its first field
+abbrev with_tail : ℕ → ℕ → ℕ → Source
+with_tail width unit base = with_headers (header_h ∷ header_g ∷ header_o width (codes "n") unit base ∷ [])
+
+-- code 21: 15 * 5 - 4 bytes, a field of 9 bits, no unit, a unit and a base of 9 bits, and 15 * 4 - 61 bytes
+long_tail : broken_21 (with_tail 4 5 4) ≡ at 84 ∷ []
+long_tail = refl
+
+wide_tail_field : broken_21 (with_tail 9 1 255) ≡ at 84 ∷ []
+wide_tail_field = refl
+
+no_unit : broken_21 (with_tail 4 0 0) ≡ at 84 ∷ []
+no_unit = refl
+
+great_unit : broken_21 (with_tail 1 256 200) ≡ at 84 ∷ []
+great_unit = refl
+
+great_base : broken_21 (with_tail 8 1 256) ≡ at 84 ∷ []
+great_base = refl
+
+negative_tail : broken_21 (with_tail 4 4 61) ≡ at 84 ∷ []
+negative_tail = refl
+
+-- 56, 0 and 64 bytes
+tails_in_range : flat_map broken_21 (with_tail 4 4 4 ∷ with_tail 4 4 60 ∷ with_tail 4 5 11 ∷ []) ≡ []
+tails_in_range = refl
 
 -- of two broken rules the least code counts, at the earliest of its places
 least_code : fault_of (record (with_headers (header_h ∷ record header_g { fields = declared 11 (codes "a") 15 ∷ declared 13 (codes "b") 130 ∷ [] } ∷ [])) { control = None }) ≡ Some (7, at 14)

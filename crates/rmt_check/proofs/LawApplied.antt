@@ -21,10 +21,10 @@ use Rattle.rmt_check.specs.declared.source.Source.{Source}
 use Rattle.rmt_check.specs.Names.{is_known, nodes_of, table_names, applied, applied_tables, listed_by}
 use Rattle.rmt_check.specs.Rules.{unknown, unknown_in_node, arm_names}
 use Rattle.rmt_check.specs.Meaning.{index_of, what_of, node_of, table_of, program_of}
-use Rattle.rmt_check.proofs.LawLists.{none_left}
+use Rattle.rmt_bits.proofs.ListLaws.{append-nil_left}
 use Rattle.rmt_check.proofs.LawFaults.{no_when_not, one_known}
 use Rattle.rmt_check.proofs.LawDistinct.{AreApart, names_of, are_apart, distinct, same_index, known_here, number_here}
-use Rattle.rmt_check.proofs.LawNodes.{all_at}
+use Rattle.rmt_bits.proofs.AllLaws.{All-slice_get}
 use Rattle.rmt_check.proofs.LawRules.{KeepsRules, tables_of, unknown_at_node, not_applied}
 
 -- a name of a list whose names do not repeat is there once
@@ -75,7 +75,7 @@ module _ (s : Source) (h : KeepsRules s) (t : ℕ) (table : TableText) (at : sli
           → cond (applies t (what_of s w)) 1 0 + count_by (λ (node : Node). applies t node.what) (map (node_of s) ns)
           ≡ count_by (bytes_eq table.ident.name) (names_of (cons_option (applied w) (filter_map (λ (n : NodeText). applied n.what) ns)))
       by (Apply i arms) k rest =
-          let known_name = one_known (table_names s) i (none_left (unknown (table_names s) (i ∷ [])) (unknown (map (λ (x : Ident). x.name) (listed_by s i.name)) (flat_map arm_names arms)) k) in
+          let known_name = one_known (table_names s) i (append-nil_left (unknown (table_names s) (i ∷ [])) (unknown (map (λ (x : Ident). x.name) (listed_by s i.name)) (flat_map arm_names arms)) k) in
           ap₂ (λ (b : Bool) m. cond b 1 0 + m) (agrees i known_name) rest
           ∙ sym (sum_by-cons (λ x. cond (bytes_eq table.ident.name x) 1 0) i.name (names_of (filter_map (λ (n : NodeText). applied n.what) ns)))
       by (If field mask value) k rest = zero-add _ ∙ rest
@@ -84,7 +84,7 @@ module _ (s : Source) (h : KeepsRules s) (t : ℕ) (table : TableText) (at : sli
   applied_here =
       counts (nodes_of s) h.nodes_known
       ∙ there_once (names_of (applied_tables s)) table.ident.name (are_apart (applied_tables s) h.applied_once)
-      (no_when_not (is_known (names_of (applied_tables s)) table.ident.name) table.ident.place (all_at (λ (x : TableText). not_applied s x ≡ []) s.tables t table h.all_applied at))
+      (no_when_not (is_known (names_of (applied_tables s)) table.ident.name) table.ident.place (All-slice_get (λ (x : TableText). not_applied s x ≡ []) s.tables t table h.all_applied at))
 
 pub applied_law : (s : Source) → KeepsRules s → AreAppliedOnce (program_of s)
 applied_law s h t lt = by (slice_get s.tables t) refl

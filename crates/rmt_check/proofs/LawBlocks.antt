@@ -1,14 +1,15 @@
 -- The fields of each header stand one after another, in the order of the text.
-use Rattle.std.proofs.Common.{◌≡◌, ℕ, zero, suc, ◌+◌, List, [], ◌∷◌, ◌++◌, Some, Option, option_map, unwrap_or, codes, length, slice_get, refl, sym, ap, subst, ◌∙◌, append_assoc, length-append, arith}
+use Rattle.std.proofs.Common.{◌≡◌, ℕ, zero, suc, ◌+◌, List, [], ◌∷◌, ◌++◌, Some, Option, option_map, unwrap_or, codes, length, slice_get, refl, sym, ap, ap₂, subst, ◌∙◌, append_assoc, length-append, arith}
 use Rattle.std.specs.List.{flat_map, range_with_len}
 use Rattle.std.proofs.lemmas.List.{length-map}
 use Rattle.std.proofs.lemmas.List.Concat.{flat_map-append}
 use Rattle.std.proofs.lemmas.List.FromFn.{length-range_with_len}
-use Rattle.std.proofs.lemmas.Option.{slice_get-map, none-some}
+use Rattle.std.proofs.lemmas.Option.{slice_get-map, slice_get_within}
 use Rattle.rmt_ast.specs.declared.program.Header.{Header}
 use Rattle.rmt_ast.specs.State as state
 use Rattle.rmt_ast.specs.WellFormed as formed
 use Rattle.rmt_ast.proofs.WellFormedLemmas.{NumberedFrom}
+use Rattle.rmt_bits.proofs.ListLaws.{slice_get-front, slice_get-end}
 use Rattle.rmt_check.specs.declared.source.Declared.{Declared}
 use Rattle.rmt_check.specs.declared.source.HeaderText.{HeaderText}
 use Rattle.rmt_check.specs.declared.source.Source.{Source}
@@ -55,16 +56,6 @@ numbers_in_order s n (h ∷ hs) =
 pub header_numbers : (s : Source) → length (formed.header_fields (program_of s)) ≡ length (flat_map header_fields s.headers)
 header_numbers s = ap length (numbers_in_order s 3 s.headers) ∙ length-range_with_len 3 (length (flat_map header_fields s.headers))
 
-pub slice_get_behind : {X : Type 0} (xs ys : List X) (i m : ℕ) → m ≡ length xs + i → slice_get (xs ++ ys) m ≡ slice_get ys i
-slice_get_behind [] ys i m e = let f : m ≡ i = omega arith in ap (slice_get ys) f
-slice_get_behind (x ∷ xs) ys i zero e = absurd (omega arith)
-slice_get_behind (x ∷ xs) ys i (suc m) e = slice_get_behind xs ys i m (omega arith)
-
-slice_get_before : {X : Type 0} (xs ys : List X) (i : ℕ) (x : X) → slice_get xs i ≡ Some x → slice_get (xs ++ ys) i ≡ Some x
-slice_get_before [] ys i x e = absurd (none-some x e)
-slice_get_before (y ∷ xs) ys zero x e = e
-slice_get_before (y ∷ xs) ys (suc i) x e = slice_get_before xs ys i x e
-
 module _ (s : Source) (before : List HeaderText) (h : HeaderText) (after : List HeaderText) (here : s.headers ≡ before ++ h ∷ after) where
   fields_split : fields_of s ≡ front before ++ (header_fields h ++ back s after)
   fields_split =
@@ -78,9 +69,11 @@ module _ (s : Source) (before : List HeaderText) (h : HeaderText) (after : List 
   -- what stands at a number of the header's
   pub at_number : (i m : ℕ) (x : Known) → m ≡ start_of before + i → slice_get (header_fields h) i ≡ Some x → slice_get (fields_of s) m ≡ Some x
   at_number i m x e there =
-      ap (λ (l : List Known). slice_get l m) fields_split
-      ∙ slice_get_behind (front before) (header_fields h ++ back s after) i m (omega arith)
-      ∙ slice_get_before (header_fields h) (back s after) i x there
+      let here : m ≡ length (front before) + i = omega arith in
+      ap₂ (λ (l : List Known) (n : ℕ). slice_get l n) fields_split here
+      ∙ slice_get-end (front before) (header_fields h ++ back s after) i
+      ∙ slice_get-front (header_fields h) (back s after) i (slice_get_within (header_fields h) i x there)
+      ∙ there
 
   pub width_at : (i m : ℕ) (x : Known) → m ≡ start_of before + i → slice_get (header_fields h) i ≡ Some x → state.width_of (program_of s) m ≡ x.1
   width_at i m x e there =

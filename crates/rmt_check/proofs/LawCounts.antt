@@ -10,7 +10,7 @@ use Rattle.rmt_check.specs.declared.source.Source.{Source}
 use Rattle.rmt_check.specs.Names.{nodes_of}
 use Rattle.rmt_check.specs.Rules.{text_start}
 use Rattle.rmt_check.specs.Meaning.{headers_from, action_of, node_of, program_of}
-use Rattle.rmt_check.proofs.LawLists.{none_dropped, none_mapped}
+use Rattle.rmt_bits.proofs.ListLaws.{drop-nil, map-nil}
 use Rattle.rmt_check.proofs.LawFaults.{no_when}
 use Rattle.rmt_check.proofs.LawRules.{KeepsRules}
 
@@ -25,7 +25,7 @@ counts_law s h =
     let nodes = length-map (nodes_of s) (node_of s) in
     record {
       a_header = let some = eqb-false (length s.headers) 0 (no_when (length s.headers == 0) text_start h.a_header) in omega arith;
-      headers = let few = none_dropped 64 s.headers (none_mapped (λ (x : HeaderText). x.ident.place) (drop 64 s.headers) h.headers_few) in omega arith;
-      actions = let few = none_dropped 256 s.actions (none_mapped (λ (x : ActionText). x.ident.place) (drop 256 s.actions) h.actions_few) in omega arith;
-      nodes = let few = none_dropped 128 (nodes_of s) (none_mapped (λ (x : NodeText). x.place) (drop 128 (nodes_of s)) h.nodes_few) in omega arith;
+      headers = let few = drop-nil 64 s.headers (map-nil (λ (x : HeaderText). x.ident.place) (drop 64 s.headers) h.headers_few) in omega arith;
+      actions = let few = drop-nil 256 s.actions (map-nil (λ (x : ActionText). x.ident.place) (drop 256 s.actions) h.actions_few) in omega arith;
+      nodes = let few = drop-nil 128 (nodes_of s) (map-nil (λ (x : NodeText). x.place) (drop 128 (nodes_of s)) h.nodes_few) in omega arith;
     }

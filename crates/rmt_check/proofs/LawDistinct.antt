@@ -12,10 +12,12 @@ use Rattle.rmt_ast.specs.WellFormed.{AreDistinct}
 use Rattle.rmt_ast.proofs.WellFormedLemmas.{AllPairs-none}
 use Rattle.rmt_check.specs.declared.source.Ident.{Ident}
 use Rattle.rmt_check.specs.Names.{is_known}
-use Rattle.rmt_check.specs.Rules.{repeated_after, repeated}
+use Rattle.rmt_check.specs.Seen.{repeated_after}
+use Rattle.rmt_check.specs.Rules.{repeated}
 use Rattle.rmt_check.specs.Meaning.{index_of}
 use Rattle.rmt_check.proofs.LawLists.{cons_not_nil}
 use Rattle.rmt_check.proofs.LawNames.{known_at}
+use Rattle.rmt_check.proofs.SeenNames.{repeated-after}
 
 abbrev pub names_of : List Ident → List (List ℕ)
 names_of xs = map (λ (x : Ident). x.name) xs
@@ -51,8 +53,11 @@ not_repeated seen (x ∷ xs) e = by (is_known seen x.name) refl e (not_repeated 
         other q known true same = absurd (both_ways (is_known seen x.name) was (subst (λ n. is_known seen n ≡ true) ((bytes_eq-Decides q x.name).0 same) known))
         other q known false same = refl
 
+pub apart_after : (xs : List Ident) → repeated_after [] xs ≡ [] → AreApart (names_of xs)
+apart_after xs e = (not_repeated [] xs e).0
+
 pub are_apart : (xs : List Ident) → repeated xs ≡ [] → AreApart (names_of xs)
-are_apart xs e = (not_repeated [] xs e).0
+are_apart xs e = apart_after xs (sym (repeated-after xs) ∙ e)
 
 -- what is no name of a list differs from each of them
 pub differs_from : (names : List (List ℕ)) (q : List ℕ) → is_known names q ≡ false → All (λ n. q ≢ n) names

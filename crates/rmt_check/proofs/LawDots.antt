@@ -4,7 +4,7 @@ use Rattle.std.specs.List.{list_all}
 use Rattle.std.proofs.lemmas.Bool.{not-true, eqb-false}
 use Rattle.std.proofs.lemmas.List.{append_cancel_left}
 use Rattle.std.proofs.lemmas.List.Elements.{All-head, All-tail}
-use Rattle.rmt_ast.proofs.WellFormedLemmas.{All-from_test}
+use Rattle.rmt_bits.proofs.AllLaws.{All-from_test}
 use Rattle.rmt_check.specs.Names.{printed}
 use Rattle.rmt_check.specs.Naming.{HasNoDot}
 use Rattle.rmt_check.proofs.LawLists.{All-mid, same_head, same_tail}

@@ -8,9 +8,10 @@ use Rattle.rmt_lexer.specs.declared.place.Place.{Place}
 use Rattle.rmt_check.specs.declared.source.Ident.{Ident}
 use Rattle.rmt_check.specs.declared.source.FieldText.{FieldText}
 use Rattle.rmt_check.specs.declared.source.Source.{Source}
-use Rattle.rmt_check.specs.Names.{is_known, key_of}
-use Rattle.rmt_check.specs.Rules.{when, earlier, earliest, least_of, broken, broken_5, broken_6, broken_7, broken_8, broken_9, broken_10, broken_11, broken_12, broken_13, broken_14, broken_15, broken_16, broken_17, broken_18, broken_20, fault_of, unknown, unknown_owner, is_field, unknown_field}
-use Rattle.rmt_check.proofs.LawLists.{cons_not_nil, none_left, none_right, none_in}
+use Rattle.rmt_check.specs.Names.{is_known, is_field, named}
+use Rattle.rmt_check.specs.Rules.{when, earlier, earliest, least_of, broken, broken_5, broken_6, broken_7, broken_8, broken_9, broken_10, broken_11, broken_12, broken_13, broken_14, broken_15, broken_16, broken_17, broken_18, broken_20, broken_21, fault_of, unknown, unknown_owner, unknown_field}
+use Rattle.rmt_bits.proofs.ListLaws.{append-nil_left, append-nil_right, flat_map-nil}
+use Rattle.rmt_check.proofs.LawLists.{cons_not_nil}
 
 -- no rule is broken
 pub record BreaksNone (s : Source) : Type 0 where
@@ -29,12 +30,13 @@ pub record BreaksNone (s : Source) : Type 0 where
   pub rule_17 : broken_17 s ≡ []
   pub rule_18 : broken_18 s ≡ []
   pub rule_20 : broken_20 s ≡ []
+  pub rule_21 : broken_21 s ≡ []
 
 some_earlier : (p : Place) (o : Option Place) → earlier (Some p) o ≡ None → ⊥
 some_earlier p None e = none-some p (sym e)
 some_earlier p (Some q) e = none-some _ (sym e)
 
-no_places : (ps : List Place) → earliest ps ≡ None → ps ≡ []
+pub no_places : (ps : List Place) → earliest ps ≡ None → ps ≡ []
 no_places [] e = refl
 no_places (p ∷ ps) e = absurd (some_earlier p (earliest ps) e)
 
@@ -70,6 +72,7 @@ breaks_none s e =
       rule_17 = h.1.1.1.1.1.1.1.1.1.1.1.1.0;
       rule_18 = h.1.1.1.1.1.1.1.1.1.1.1.1.1.0;
       rule_20 = h.1.1.1.1.1.1.1.1.1.1.1.1.1.1.1.0;
+      rule_21 = h.1.1.1.1.1.1.1.1.1.1.1.1.1.1.1.1.0;
     }
 
 -- where nothing is broken the test has failed
@@ -82,10 +85,10 @@ no_when_not b p e = not-false b (no_when (not b) p e)
 
 -- names that are known
 pub all_known : (names : List (List ℕ)) (xs : List Ident) → unknown names xs ≡ [] → All (λ (x : Ident). is_known names x.name ≡ true) xs
-all_known names xs e k d lt = no_when_not _ _ (none_in (λ (x : Ident). when (not (is_known names x.name)) x.place) xs e k d lt)
+all_known names xs e k d lt = no_when_not _ _ (flat_map-nil (λ (x : Ident). when (not (is_known names x.name)) x.place) xs e k d lt)
 
 pub one_known : (names : List (List ℕ)) (x : Ident) → unknown names (x ∷ []) ≡ [] → is_known names x.name ≡ true
-one_known names x e = no_when_not (is_known names x.name) x.place (none_left (when (not (is_known names x.name)) x.place) [] e)
+one_known names x e = no_when_not (is_known names x.name) x.place (append-nil_left (when (not (is_known names x.name)) x.place) [] e)
 
-pub field_known : (s : Source) (f : FieldText) → unknown_field s f ≡ [] → is_field s (key_of s f) ≡ true
-field_known s f e = no_when_not (is_field s (key_of s f)) f.ident.place (none_right (unknown_owner s f.owner) (when (not (is_field s (key_of s f))) f.ident.place) e)
+pub field_known : (s : Source) (f : FieldText) → unknown_field s f ≡ [] → is_field s (named s f) ≡ true
+field_known s f e = no_when_not (is_field s (named s f)) f.ident.place (append-nil_right (unknown_owner s f.owner) (when (not (is_field s (named s f))) f.ident.place) e)

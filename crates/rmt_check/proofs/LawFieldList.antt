@@ -12,7 +12,7 @@ use Rattle.rmt_check.specs.declared.source.Source.{Source}
 use Rattle.rmt_check.specs.Names.{Known, printed, known_fields, header_fields, metadata, fields_of}
 use Rattle.rmt_check.specs.Rules.{declared_names, no_widths}
 use Rattle.rmt_check.specs.Meaning.{field_of, program_of}
-use Rattle.rmt_check.proofs.LawLists.{none_mapped, none_dropped}
+use Rattle.rmt_bits.proofs.ListLaws.{drop-nil, map-nil}
 use Rattle.rmt_check.proofs.LawActions.{widths_in_range}
 use Rattle.rmt_check.proofs.LawBlocks.{numbers_in_order, header_numbers}
 use Rattle.rmt_check.proofs.LawRules.{KeepsRules, FindsNone, field_widths}
@@ -41,7 +41,7 @@ fields_law s h =
     let parts = length-append (flat_map header_fields s.headers) (known_fields (codes "meta") (metadata s)) in
     let meta : length (known_fields (codes "meta") (metadata s)) ≡ length (metadata s) = length-map (metadata s) (λ (d : Declared). (printed (codes "meta") d.ident.name, d.width.value)) in
     let names = length-map (metadata s) (λ (d : Declared). d.ident) in
-    let few = none_dropped 256 (declared_names (metadata s)) (none_mapped (λ (x : Ident). x.place) (drop 256 (declared_names (metadata s))) h.metadata_few) in
+    let few = drop-nil 256 (declared_names (metadata s)) (map-nil (λ (x : Ident). x.place) (drop 256 (declared_names (metadata s))) h.metadata_few) in
     record {
       in_port = refl;
       out_port = refl;

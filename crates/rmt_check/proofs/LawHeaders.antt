@@ -1,13 +1,14 @@
 -- The headers of a text that breaks no rule.
-use Rattle.std.proofs.Common.{◌≡◌, ℕ, suc, ◌+◌, ◌*◌, ◌/◌, ◌%◌, ◌≤◌, List, [], ◌∷◌, ◌++◌, Bool, true, false, not, ◌&&◌, ◌==◌, if◌then◌else◌, nat_le, Some, Option, option_map, map, zip, sum, codes, length, take, slice_get, get_or, All, Contains, refl, sym, ap, ap₂, subst, ◌∙◌, zero-add, arith}
+use Rattle.std.proofs.Common.{◌≡◌, ◌≢◌, ℕ, suc, ◌+◌, ◌-◌, ◌*◌, ◌/◌, ◌%◌, ◌^◌, ◌≤◌, List, [], ◌∷◌, ◌++◌, Bool, true, false, not, ◌&&◌, ◌==◌, if◌then◌else◌, nat_le, Some, None, Option, option_map, option_to_list, map, zip, sum, codes, length, take, slice_get, get_or, All, Contains, refl, sym, ap, ap₂, subst, ◌∙◌, zero-add, arith}
 use Rattle.std.specs.List.{flat_map, enumerate_from, range_with_len}
+use Rattle.std.specs.Option.{IfSome}
 use Rattle.std.proofs.lemmas.Bool.{leb-true, leb-false, eqb-true, and_parts}
 use Rattle.std.proofs.lemmas.List.Concat.{flat_map-append}
 use Rattle.std.proofs.lemmas.List.Elements.{All-nil, All-cons, All-head, All-tail, All-map}
 use Rattle.std.proofs.lemmas.Option.{slice_get-map}
 use Rattle.std.proofs.lemmas.Simd.{map-map}
 use Rattle.rmt_ast.specs.State as state
-use Rattle.rmt_ast.specs.WellFormed.{AllNumbered, AreDistinct, IsTest, AreTests, IsTarget, IsCase, IsHeader}
+use Rattle.rmt_ast.specs.WellFormed.{AllNumbered, AreDistinct, IsTest, AreTests, IsTarget, IsTail, IsCase, IsHeader}
 use Rattle.rmt_ast.proofs.WellFormedLemmas.{AllNumbered-from_items}
 use Rattle.rmt_check.specs.declared.source.Ident.{Ident}
 use Rattle.rmt_check.specs.declared.source.Declared.{Declared}
@@ -15,22 +16,25 @@ use Rattle.rmt_check.specs.declared.source.ValueText.{ValueText}
 use Rattle.rmt_check.specs.declared.source.TargetText.{TargetText}
 use Rattle.rmt_check.specs.declared.source.TargetText.TheVariants as target
 use Rattle.rmt_check.specs.declared.source.CaseText.{CaseText}
+use Rattle.rmt_check.specs.declared.source.TailText.{TailText}
 use Rattle.rmt_check.specs.declared.source.HeaderText.{HeaderText}
 use Rattle.rmt_check.specs.declared.source.Source.{Source}
-use Rattle.rmt_check.specs.Names.{number_of, is_known, header_names, printed, key, field_keys, header_owner, width_of, selected}
-use Rattle.rmt_check.specs.Rules.{when, repeated, unknown, target_names, targets, is_field, unknown_select, is_size, bits_of, is_at_most, too_wide_value, too_wide_case, bad_case, value_place}
-use Rattle.rmt_check.specs.Meaning.{index_of, field_number, test_of, target_of, case_of, header_from, headers_from, program_of}
+use Rattle.rmt_check.specs.Names.{number_of, is_known, is_field, header_names, printed, header_owner, width_of, selected}
+use Rattle.rmt_check.specs.Rules.{when, repeated, unknown, target_names, targets, unknown_own, unknown_select, unknown_tail, is_size, is_tail_range, bad_tail, bits_of, is_at_most, too_wide_value, too_wide_case, bad_case, value_place}
+use Rattle.rmt_check.specs.Meaning.{index_of, field_number, test_of, target_of, tail_of, case_of, header_from, headers_from, program_of}
 use Rattle.rmt_check.specs.Naming.{IsHeaderText}
-use Rattle.rmt_check.proofs.LawLists.{same_tail, none_left, none_in, none_in_2, none_mapped, cons_not_nil, All-mid, none_numbered}
+use Rattle.rmt_check.specs.Standing.{code_of, code}
+use Rattle.rmt_bits.proofs.ListLaws.{append-nil_left, append-nil_right, flat_map-nil, map-nil}
+use Rattle.rmt_check.proofs.LawLists.{same_tail, none_in_2, cons_not_nil, All-mid, none_numbered}
 use Rattle.rmt_check.proofs.LawNames.{stands_within, number_at}
 use Rattle.rmt_check.proofs.LawFaults.{no_when, no_when_not, one_known}
-use Rattle.rmt_check.proofs.LawDistinct.{AreApart, names_of, are_apart, apart_made, distinct_numbers}
+use Rattle.rmt_check.proofs.LawDistinct.{AreApart, names_of, are_apart, apart_made}
 use Rattle.rmt_check.proofs.LawTests.{test_law}
-use Rattle.rmt_check.proofs.LawFields.{field_width}
+use Rattle.rmt_check.proofs.LawFields.{field_width, distinct_fields}
 use Rattle.rmt_check.proofs.LawCounts.{length-headers_from}
-use Rattle.rmt_check.proofs.LawKeys.{own}
+use Rattle.rmt_check.proofs.LawKeys.{own_field}
 use Rattle.rmt_check.proofs.LawBlocks.{start_of, width_at, each_header}
-use Rattle.rmt_check.proofs.LawRules.{KeepsRules, unknown_targets, bad_size, early_targets, case_widths, repeated_select, bad_cases}
+use Rattle.rmt_check.proofs.LawRules.{KeepsRules, unknown_targets, bad_size, bad_tails, early_targets, case_widths, repeated_select, bad_cases}
 
 -- numbers in a row, and what stands at them
 row : {X Y : Type 0} (g : ℕ → Y) (f : X → Y) (xs : List X) (n : ℕ) → ((i : ℕ) (x : X) → slice_get xs i ≡ Some x → g (n + i) ≡ f x) → map g (range_with_len n (length xs)) ≡ map f xs
@@ -56,7 +60,7 @@ same_count h c some e = by (length h.select == length c.values) refl e
   where
     by : (b : Bool) → (length h.select == length c.values) ≡ b → (if b then [] else map value_place (take 1 c.values)) ≡ [] → length h.select ≡ length c.values
     by true same none = eqb-true (length h.select) (length c.values) same
-    by false same none = absurd (one c.values some (none_mapped value_place (take 1 c.values) none))
+    by false same none = absurd (one c.values some (map-nil value_place (take 1 c.values) none))
       where
         one : (vs : List ValueText) → 1 ≤ length vs → take 1 vs ≡ [] → ⊥
         one [] l e = absurd (omega arith)
@@ -78,13 +82,10 @@ module _ (s : Source) (h : HeaderText) (known : All (λ (i : Ident). is_field s 
 
   once : repeated h.select ≡ [] → AreDistinct (map (λ (i : Ident). field_number s (selected s h i)) h.select)
   once e =
-      let owner = header_owner s h.ident.name in
-      let as_keyed = λ (i : Ident). let j : Ident = record { place = i.place; name = selected s h i } in j in
-      let apart : AreApart (map (selected s h) h.select) =
-      subst AreApart (map-map (key owner) (λ (i : Ident). i.name) h.select) (apart_made (key owner) (same_tail owner owner) (names_of h.select) (are_apart h.select e)) in
-      subst AreDistinct (map-map (λ (x : Ident). field_number s x.name) as_keyed h.select)
-      (distinct_numbers (field_keys s) (map as_keyed h.select) (All-map (λ (x : Ident). is_field s x.name ≡ true) as_keyed h.select known)
-      (subst AreApart (sym (map-map (λ (x : Ident). x.name) as_keyed h.select)) apart))
+      let owner = code_of (header_owner s h.ident.name) in
+      let apart : AreApart (map (λ (i : Ident). code (selected s h i)) h.select) =
+      subst AreApart (map-map (λ (n : List ℕ). owner ∷ n) (λ (i : Ident). i.name) h.select) (apart_made (λ (n : List ℕ). owner ∷ n) (same_tail owner owner) (names_of h.select) (are_apart h.select e)) in
+      distinct_fields s (selected s h) h.select known apart
 
 -- a target that is known and later
 target_law : (s : Source) (n : ℕ) (t : TargetText) → unknown (header_names s) (target_names t) ≡ []
@@ -94,7 +95,7 @@ target_law s n target.Reject known later = tt
 target_law s n (target.Header i) known later =
     let k = one_known (header_names s) i known in
     let at = number_at (header_names s) i.name k in
-    let not_early : is_at_most (number_of (header_names s) i.name) n ≡ false = no_when (is_at_most (number_of (header_names s) i.name) n) i.place (none_left (when (is_at_most (number_of (header_names s) i.name) n) i.place) [] later) in
+    let not_early : is_at_most (number_of (header_names s) i.name) n ≡ false = no_when (is_at_most (number_of (header_names s) i.name) n) i.place (append-nil_left (when (is_at_most (number_of (header_names s) i.name) n) i.place) [] later) in
     let l = stands_within (λ (x : HeaderText). x.ident.name) i.name s.headers k in
     let m = length-headers_from s 3 s.headers in
     (leb-false (index_of (header_names s) i.name) n (sym (ap (λ (o : Option ℕ). is_at_most o n) at) ∙ not_early), omega arith)
@@ -118,7 +119,7 @@ module _ (s : Source) (keeps : KeepsRules s) (text : All IsHeaderText s.headers)
   selects_known : All (λ (i : Ident). is_field s (selected s h i) ≡ true) h.select
   selects_known k d lt =
       no_when_not (is_field s (selected s h (get_or h.select k d))) (get_or h.select k d).place
-      (none_in (λ (i : Ident). when (not (is_field s (selected s h i))) i.place) h.select (here (λ (x : HeaderText). unknown_select s x ≡ []) keeps.select_known) k d lt)
+      (flat_map-nil (λ (i : Ident). when (not (is_field s (selected s h i))) i.place) h.select (append-nil_left (unknown_select s h) (unknown_tail s h) (here (λ (x : HeaderText). unknown_own s x ≡ []) keeps.own_known)) k d lt)
 
   -- the widths of the header's fields by their numbers
   widths : map (state.width_of (program_of s)) (range_with_len (start_of before + 1) (length h.fields)) ≡ map (λ (d : Declared). d.width.value) h.fields
@@ -126,15 +127,46 @@ module _ (s : Source) (keeps : KeepsRules s) (text : All IsHeaderText s.headers)
       (λ i d at. width_at s before h after e (suc i) (start_of before + 1 + i) (printed h.ident.name d.ident.name, d.width.value) (omega arith)
       (slice_get-map (λ (x : Declared). (printed h.ident.name x.ident.name, x.width.value)) h.fields i ∙ ap (option_map (λ (x : Declared). (printed h.ident.name x.ident.name, x.width.value))) at))
 
+  -- the tail, if there is one
+  tail_law : IfSome (option_map (tail_of s h) h.tail) (IsTail (program_of s) (range_with_len (start_of before + 1) (length h.fields)))
+  tail_law =
+      by h.tail (append-nil_right (unknown_select s h) (unknown_tail s h) (here (λ (x : HeaderText). unknown_own s x ≡ []) keeps.own_known)) (here (λ (x : HeaderText). bad_tails s x ≡ []) keeps.tails_fit)
+      (here IsHeaderText text).tail
+    where
+      by : (o : Option TailText) → flat_map (λ (t : TailText). when (not (is_field s (selected s h t.field))) t.field.place) (option_to_list o) ≡ [] → flat_map (bad_tail s h) (option_to_list o) ≡ []
+          → IfSome o (λ (t : TailText). t.field.name ≢ codes "valid") → IfSome (option_map (tail_of s h) o) (IsTail (program_of s) (range_with_len (start_of before + 1) (length h.fields)))
+      by None known fits plain = tt
+      by (Some t) known fits plain =
+          let field = selected s h t.field in
+          let there = no_when_not (is_field s field) t.field.place (append-nil_left (when (not (is_field s field)) t.field.place) [] known) in
+          let wide = field_width s field there in
+          let n = (2 ^ width_of s field - 1) * t.unit.value in
+          let range = no_when_not (is_tail_range (width_of s field) t.unit.value t.base.value) t.place (append-nil_left (bad_tail s h t) [] fits) in
+          let five = and_parts _ (nat_le n (t.base.value + 64)) range in
+          let four = and_parts _ (nat_le t.base.value n) five.0 in
+          let three = and_parts _ (nat_le t.base.value 255) four.0 in
+          let two = and_parts _ (nat_le t.unit.value 255) three.0 in
+          let one = and_parts (nat_le (width_of s field) 8) (nat_le 1 t.unit.value) two.0 in
+          let greatest : (2 ^ state.width_of (program_of s) (field_number s field) - 1) * t.unit.value ≡ n = ap (λ w. (2 ^ w - 1) * t.unit.value) wide in
+          record {
+            own = own_field s keeps before h after e t.field there plain;
+            narrow = subst (λ w. w ≤ 8) (sym wide) (leb-true (width_of s field) 8 one.0);
+            has_unit = leb-true 1 t.unit.value one.1;
+            unit = leb-true t.unit.value 255 two.1;
+            base = leb-true t.base.value 255 three.1;
+            reaches = subst (λ m. t.base.value ≤ m) (sym greatest) (leb-true t.base.value n four.1);
+            is_not_long = subst (λ m. m ≤ t.base.value + 64) (sym greatest) (leb-true n (t.base.value + 64) five.1);
+          }
+
   plain_law : map (λ (i : Ident). field_number s (selected s h i)) h.select ≡ [] → map (case_of s h) h.cases ≡ []
-  plain_law none = by h.cases (here IsHeaderText text).cases (none_in (bad_case h) h.cases (here (λ (x : HeaderText). bad_cases x ≡ []) keeps.case_length))
+  plain_law none = by h.cases (here IsHeaderText text).cases (flat_map-nil (bad_case h) h.cases (here (λ (x : HeaderText). bad_cases x ≡ []) keeps.case_length))
     where
       by : (cs : List CaseText) → All (λ (c : CaseText). 1 ≤ length c.values) cs → All (λ (c : CaseText). bad_case h c ≡ []) cs → map (case_of s h) cs ≡ []
       by [] some good = refl
       by (c ∷ cs) some good =
           let l = All-head (λ (c : CaseText). 1 ≤ length c.values) c cs some in
           let m = same_count h c l (All-head (λ (c : CaseText). bad_case h c ≡ []) c cs good) in
-          let n : length h.select ≡ 0 = ap length (none_mapped (λ (i : Ident). field_number s (selected s h i)) h.select none) in
+          let n : length h.select ≡ 0 = ap length (map-nil (λ (i : Ident). field_number s (selected s h i)) h.select none) in
           absurd (omega arith)
 
   pub header_law : IsHeader (program_of s) (length before) (header_from s (start_of before) h)
@@ -144,15 +176,16 @@ module _ (s : Source) (keeps : KeepsRules s) (text : All IsHeaderText s.headers)
       let later = none_in_targets (λ (i : Ident). when (is_at_most (number_of (header_names s) i.name) (length before)) i.place) h
       (subst (λ (n : ℕ). early_targets s (n, h) ≡ []) (zero-add (length before)) (none_numbered (early_targets s) 0 before h after (subst (λ (hs : List HeaderText). flat_map (early_targets s) (enumerate_from 0 hs) ≡ []) e keeps.targets_later))) in
       let plain = here IsHeaderText text in
-      let good = none_in (bad_case h) h.cases (here (λ (x : HeaderText). bad_cases x ≡ []) keeps.case_length) in
-      let fit = none_in (too_wide_case s h) h.cases (here (λ (x : HeaderText). case_widths s x ≡ []) keeps.cases_fit) in
+      let good = flat_map-nil (bad_case h) h.cases (here (λ (x : HeaderText). bad_cases x ≡ []) keeps.case_length) in
+      let fit = flat_map-nil (too_wide_case s h) h.cases (here (λ (x : HeaderText). case_widths s x ≡ []) keeps.cases_fit) in
       record {
         valid = width_at s before h after e 0 (start_of before) (printed h.ident.name (codes "valid"), 1) (omega arith) refl;
         whole_bytes = ap sum widths ∙ size.0;
         is_not_empty = size.1;
         is_not_long = size.2;
+        tail = tail_law;
         selects_own = All-map (Contains (range_with_len (start_of before + 1) (length h.fields))) (λ (i : Ident). field_number s (selected s h i)) h.select
-            (λ k d lt. own s keeps before h after e (get_or h.select k d) (selects_known k d lt) (plain.select k d lt));
+            (λ k d lt. own_field s keeps before h after e (get_or h.select k d) (selects_known k d lt) (plain.select k d lt));
         selects_once = once s h selects_known (here (λ (x : HeaderText). repeated_select x ≡ []) keeps.select_once);
         plain = plain_law;
         cases = All-map (IsCase (program_of s) (length before) (map (λ (i : Ident). field_number s (selected s h i)) h.select)) (case_of s h) h.cases

@@ -1,9 +1,9 @@
 -- The nodes of a text that breaks no rule.
-use Rattle.std.proofs.Common.{◌≡◌, ℕ, zero, suc, ◌+◌, ◌-◌, ◌/◌, ◌^◌, ◌%◌, min, List, [], ◌∷◌, None, Some, Option, option_map, map, take, bit_and, slice_get, All, refl, sym, ap, subst, ◌∙◌, arith}
+use Rattle.std.proofs.Common.{◌≡◌, ℕ, zero, suc, ◌+◌, ◌-◌, ◌/◌, ◌^◌, ◌%◌, min, List, [], ◌∷◌, None, Some, Option, option_map, map, take, bit_and, slice_get, refl, sym, ap, subst, ◌∙◌, arith}
 use Rattle.std.specs.List.{flat_map}
 use Rattle.std.specs.Option.{option_map_or}
 use Rattle.std.proofs.lemmas.List.{length-map}
-use Rattle.std.proofs.lemmas.Option.{slice_get-map, slice_get_within, get_or_from_slice_get, none-some, same_Some}
+use Rattle.std.proofs.lemmas.Option.{slice_get-map, none-some, same_Some}
 use Rattle.std.proofs.lemmas.Nat.Bits.{bit_at_lowest, bit_at_and, bit_at-pow_other}
 use Rattle.rmt_ast.specs.WellFormed.{AllNumbered, IsGuard, IsTest, IsWhat, IsNode}
 use Rattle.rmt_check.specs.declared.source.Ident.{Ident}
@@ -16,20 +16,17 @@ use Rattle.rmt_check.specs.declared.source.WhatText.{WhatText}
 use Rattle.rmt_check.specs.declared.source.WhatText.TheVariants.{Apply, If}
 use Rattle.rmt_check.specs.declared.source.NodeText.{NodeText}
 use Rattle.rmt_check.specs.declared.source.Source.{Source}
-use Rattle.rmt_check.specs.Names.{nodes_of, table_names, listed_by, key_of, width_of}
+use Rattle.rmt_check.specs.Names.{nodes_of, table_names, listed_by, named, width_of}
 use Rattle.rmt_check.specs.Rules.{unknown, unknown_in_node, too_wide_node, arm_names}
 use Rattle.rmt_check.specs.Meaning.{index_of, outcomes_of, all_outcomes, mask_in, guard_of, what_of, node_of, table_of, test_of, program_of}
 use Rattle.rmt_check.specs.Naming.{IsUnder}
-use Rattle.rmt_check.proofs.LawLists.{none_left}
+use Rattle.rmt_bits.proofs.AllLaws.{All-slice_get}
+use Rattle.rmt_bits.proofs.ListLaws.{append-nil_left}
 use Rattle.rmt_check.proofs.LawNames.{stands_within}
 use Rattle.rmt_check.proofs.LawFaults.{one_known, field_known}
 use Rattle.rmt_check.proofs.LawFields.{field_within, field_width}
 use Rattle.rmt_check.proofs.LawTests.{test_law}
 use Rattle.rmt_check.proofs.LawRules.{KeepsRules, unknown_at_node, gate_widths}
-
--- what holds of each item, at a number
-pub all_at : {X : Type 0} (P : X → Type 0) (xs : List X) (n : ℕ) (x : X) → All P xs → slice_get xs n ≡ Some x → P x
-all_at P xs n x h e = subst P (get_or_from_slice_get xs n x x e) (h n x (slice_get_within xs n x e))
 
 pub numbered_map : {X Y : Type 0} (P : ℕ → Y → Type 0) (f : X → Y) (xs : List X) → AllNumbered (λ n x. P n (f x)) xs → AllNumbered P (map f xs)
 numbered_map P f xs h n y e = by (slice_get xs n) refl (sym (slice_get-map f xs n) ∙ e)
@@ -69,16 +66,16 @@ module _ (s : Source) where
 
   what_law : (w : WhatText) → unknown_in_node s w ≡ [] → too_wide_node s w ≡ [] → IsWhat (program_of s) (what_of s w)
   what_law (Apply table arms) known fits =
-      let k = one_known (table_names s) table (none_left (unknown (table_names s) (table ∷ [])) (unknown (map (λ (i : Ident). i.name) (listed_by s table.name)) (flat_map arm_names arms)) known) in
+      let k = one_known (table_names s) table (append-nil_left (unknown (table_names s) (table ∷ [])) (unknown (map (λ (i : Ident). i.name) (listed_by s table.name)) (flat_map arm_names arms)) known) in
       let l = stands_within (λ (t : TableText). t.ident.name) table.name s.tables k in
       let m = length-map s.tables (table_of s) in omega arith
   what_law (If field mask value) known fits =
       let k = field_known s field known in
       let v : ValueText = record { value = value; mask = mask } in
-      (field_within s (key_of s field) k, subst (λ w. IsTest w (test_of (width_of s (key_of s field)) v)) (sym (field_width s (key_of s field) k)) (test_law (width_of s (key_of s field)) v fits))
+      (field_within s (named s field) k, subst (λ w. IsTest w (test_of (width_of s (named s field)) v)) (sym (field_width s (named s field) k)) (test_law (width_of s (named s field)) v fits))
 
   pub nodes_law : KeepsRules s → AllNumbered (λ n (x : NodeText). IsUnder n x.under) (nodes_of s) → AllNumbered (IsNode (program_of s)) (map (node_of s) (nodes_of s))
   nodes_law h under = numbered_map (IsNode (program_of s)) (node_of s) (nodes_of s) (λ n x e. record {
     guard = guard_law n x.under (under n x e);
-    what = what_law x.what (all_at (λ (y : NodeText). unknown_at_node s y ≡ []) (nodes_of s) n x h.nodes_known e) (all_at (λ (y : NodeText). gate_widths s y ≡ []) (nodes_of s) n x h.gates_fit e);
+    what = what_law x.what (All-slice_get (λ (y : NodeText). unknown_at_node s y ≡ []) (nodes_of s) n x h.nodes_known e) (All-slice_get (λ (y : NodeText). gate_widths s y ≡ []) (nodes_of s) n x h.gates_fit e);
   })

@@ -1,19 +1,23 @@
 -- A node of the control stands in an arm of an earlier node.
-use Rattle.std.proofs.Common.{◌≡◌, ℕ, zero, suc, ◌+◌, ◌<◌, ◌≤◌, List, [], ◌∷◌, ◌++◌, None, Some, Option, option_map, unwrap_or, fold, length, refl, ap, subst, length-append, arith}
-use Rattle.std.specs.List.{enumerate_from}
+use Rattle.std.proofs.Common.{◌≡◌, ℕ, zero, suc, ◌+◌, ◌<◌, ◌≤◌, List, [], ◌∷◌, ◌++◌, Bool, true, false, if◌then◌else◌, None, Some, Option, unwrap_or, map, filter_map, fold, length, get_or, All, refl, sym, ap, subst, ◌∙◌, length-append, arith}
+use Rattle.std.specs.List.{cons_option, enumerate_from}
 use Rattle.std.specs.Option.{option_or}
+use Rattle.std.proofs.lemmas.List.Elements.{All-nil, All-cons, All-head, All-tail, All-map}
 use Rattle.std.proofs.lemmas.Option.{none-some, same_Some}
-use Rattle.rmt_syntax.specs.declared.tree.Tree.{Tree}
-use Rattle.rmt_syntax.specs.declared.tree.Tree.TheViews.{out-Tree}
+use Rattle.rmt_syntax.specs.declared.tree.Tree.{Tree, roll-Tree, out-Tree, out-roll-Tree}
+use Rattle.rmt_syntax.specs.declared.tree.Tree.TheVariants.{rolls-One}
 use Rattle.rmt_syntax.specs.declared.tree.Tree.TheOpen.{Tree-F}
 use Rattle.rmt_syntax.specs.declared.tree.Tree.TheOpen as tree
+use Rattle.rmt_syntax.specs.declared.tree.Tree.TheFolds.{fold-Tree, map-Tree, ind-Tree, fold-roll-Tree}
+use Rattle.rmt_syntax.specs.declared.tree.Rule.{Rule}
 use Rattle.rmt_syntax.specs.declared.tree.Rule.TheVariants as rule
 use Rattle.rmt_ast.specs.WellFormed.{AllNumbered}
 use Rattle.rmt_ast.proofs.WellFormedLemmas.{AllNumbered-none}
 use Rattle.rmt_check.specs.declared.source.Under.{Under}
 use Rattle.rmt_check.specs.declared.source.NodeText.{NodeText}
-use Rattle.rmt_check.specs.Reading.{BlockReader, first, node_of, blocks, statements, with_arm, with_statement, with_block, block_in, control_in, control_among}
+use Rattle.rmt_check.specs.Reading.{parts_of, node_of, Adds, Read, all_added, is_arm, arm_adds, with_arm, statement_added, is_statement, text_added, reads, layer_added, added, control_in, control_among}
 use Rattle.rmt_check.specs.Naming.{IsUnder}
+use Rattle.rmt_check.proofs.ReadingLaws.{owns, reads_own, added_one}
 
 -- each node stands in an arm of an earlier one
 abbrev pub InOrder : List NodeText → Type 0
@@ -34,46 +38,80 @@ numbered_push P [] y h p (suc n) x e = absurd (none-some x e)
 numbered_push P (z ∷ xs) y h p zero x e = h zero x e
 numbered_push P (z ∷ xs) y h p (suc n) x e = numbered_push (λ k. P (suc k)) xs y (λ k v at. h (suc k) v at) p n x e
 
--- a reader of blocks that keeps the order
-abbrev Keeps : BlockReader → Type 0
-Keeps read = (before : List NodeText) (under : Option Under) (ts : List Tree) → InOrder before → IsUnder (length before) under → Grows (length before) (read before under ts)
+-- what is added keeps the order
+abbrev Keeps : Adds → Type 0
+Keeps add = (before : List NodeText) (under : Option Under) → InOrder before → IsUnder (length before) under → Grows (length before) (add under before)
 
-module _ (read : BlockReader) (keeps : Keeps read) where
-  arms_keep : (parent : ℕ) (bs : List (ℕ × List Tree)) (ns : List NodeText) → InOrder ns → parent < length ns → Grows (length ns) (fold (with_arm read parent) ns bs)
-  arms_keep parent [] ns order less = record { order = order; long = omega arith }
-  arms_keep parent (b ∷ bs) ns order less =
-      let u : Under = record { parent = parent; arm = b.0 } in
-      let one = keeps ns (Some u) b.1 order less in
-      let rest = arms_keep parent bs (read ns (Some u) b.1) one.order (let l = one.long in omega arith) in
-      record { order = rest.order; long = let l = one.long in let m = rest.long in omega arith }
+all_keep : (adds : List Adds) → All Keeps adds → Keeps (all_added adds)
+all_keep [] keeps ns under order stands = record { order = order; long = omega arith }
+all_keep (a ∷ adds) keeps ns under order stands =
+    let one = All-head Keeps a adds keeps ns under order stands in
+    let rest = all_keep adds (All-tail Keeps a adds keeps) (a under ns) under one.order (later (length ns) (length (a under ns)) under one.long stands) in
+    record { order = rest.order; long = let l = one.long in let m = rest.long in omega arith }
 
-  statement_keeps : (under : Option Under) (ns : List NodeText) (statement : List Tree) → InOrder ns → IsUnder (length ns) under → Grows (length ns) (with_statement read under ns statement)
-  statement_keeps under ns statement order stands =
-      let pushed : length (ns ++ node_of under statement ∷ []) ≡ length ns + 1 = length-append ns (node_of under statement ∷ []) in
-      let arms = arms_keep (length ns) (enumerate_from 0 (blocks statement)) (ns ++ node_of under statement ∷ []) (numbered_push (λ n (x : NodeText). IsUnder n x.under) ns (node_of under statement) order stands) (omega arith) in
-      record { order = arms.order; long = let l = arms.long in omega arith }
+arms_keep : (parent n : ℕ) (adds : List Adds) → All Keeps adds → (ns : List NodeText) → InOrder ns → parent < length ns → Grows (length ns) (fold (with_arm parent) ns (enumerate_from n adds))
+arms_keep parent n [] keeps ns order less = record { order = order; long = omega arith }
+arms_keep parent n (a ∷ adds) keeps ns order less =
+    let u : Under = record { parent = parent; arm = n } in
+    let one = All-head Keeps a adds keeps ns (Some u) order less in
+    let rest = arms_keep parent (n + 1) adds (All-tail Keeps a adds keeps) (a (Some u) ns) one.order (let l = one.long in omega arith) in
+    record { order = rest.order; long = let l = one.long in let m = rest.long in omega arith }
 
-  statements_keep : (under : Option Under) (sts : List (List Tree)) (ns : List NodeText) → InOrder ns → IsUnder (length ns) under → Grows (length ns) (fold (with_statement read under) ns sts)
-  statements_keep under [] ns order stands = record { order = order; long = omega arith }
-  statements_keep under (st ∷ sts) ns order stands =
-      let one = statement_keeps under ns st order stands in
-      let rest = statements_keep under sts (with_statement read under ns st) one.order (later (length ns) (length (with_statement read under ns st)) under one.long stands) in
-      record { order = rest.order; long = let l = one.long in let m = rest.long in omega arith }
+-- trees whose nodes keep the order
+abbrev ReadsKeep : List Read → Type 0
+ReadsKeep rs = All (λ (r : Read). Keeps r.1) rs
 
-block_keeps : (depth : ℕ) → Keeps (with_block depth)
-unfolding with_block
-block_keeps zero before under ts order stands = record { order = order; long = omega arith }
-block_keeps (suc depth) before under ts order stands = statements_keep (with_block depth) (block_keeps depth) under (statements ts) before order stands
+arms_of : (rs : List Read) → ReadsKeep rs → All Keeps (filter_map arm_adds rs)
+arms_of [] h = All-nil Keeps
+arms_of (r ∷ rs) h = by (is_arm (out-Tree r.0)) (arms_of rs (All-tail (λ (x : Read). Keeps x.1) r rs h))
+  where
+    by : (b : Bool) → All Keeps (filter_map arm_adds rs) → All Keeps (cons_option (if b then Some r.1 else None) (filter_map arm_adds rs))
+    by true rest = All-cons Keeps r.1 (filter_map arm_adds rs) (All-head (λ (x : Read). Keeps x.1) r rs h) rest
+    by false rest = rest
+
+statement_keeps : (rs : List Read) → ReadsKeep rs → Keeps (statement_added rs)
+statement_keeps rs keeps ns under order stands =
+    let node = node_of under (map (λ (r : Read). r.0) rs) in
+    let pushed : length (ns ++ node ∷ []) ≡ length ns + 1 = length-append ns (node ∷ []) in
+    let arms = arms_keep (length ns) 0 (filter_map arm_adds rs) (arms_of rs keeps) (ns ++ node ∷ []) (numbered_push (λ n (x : NodeText). IsUnder n x.under) ns node order stands) (omega arith) in
+    record { order = arms.order; long = let l = arms.long in omega arith }
+
+text_keeps : (r : Rule) (rs : List Read) → ReadsKeep rs → Keeps (text_added r rs)
+text_keeps r rs keeps = by (is_statement r)
+  where
+    by : (b : Bool) → Keeps (if b then statement_added rs else all_added (map (λ (x : Read). x.1) rs))
+    by true = statement_keeps rs keeps
+    by false = all_keep (map (λ (x : Read). x.1) rs) (All-map Keeps (λ (x : Read). x.1) rs keeps)
+
+-- a tree whose nodes keep the order
+abbrev TreeKeeps : Tree → Type 0
+TreeKeeps t = Keeps (added t)
+
+own_keep : (es : List ((t : Tree) × TreeKeeps t)) → ReadsKeep (owns (map (λ e. e.0) es))
+own_keep [] = All-nil (λ (x : Read). Keeps x.1)
+own_keep (e ∷ es) = All-cons (λ (x : Read). Keeps x.1) (e.0, added e.0) (owns (map (λ (d : (t : Tree) × TreeKeeps t). d.0) es)) e.1 (own_keep es)
+
+layer_keeps : (y : Tree-F ((t : Tree) × TreeKeeps t)) → TreeKeeps (roll-Tree (map-Tree ((t : Tree) × TreeKeeps t) Tree (λ e. e.0) y))
+layer_keeps (tree.One t) = subst TreeKeeps (sym (rolls-One t)) (λ ns under order stands. subst (Grows (length ns)) (sym (added_one t under ns)) (record { order = order; long = omega arith }))
+layer_keeps (tree.Many r v) =
+    let x : Tree-F Tree = map-Tree ((t : Tree) × TreeKeeps t) Tree (λ e. e.0) (tree.Many r v) in
+    let inner : List Tree = map (λ (e : (t : Tree) × TreeKeeps t). e.0) v in
+    let same : added (roll-Tree x) ≡ text_added r (owns inner) =
+    ap (λ (f : Tree → Adds). f (roll-Tree x)) (fold-roll-Tree (Tree → Adds) layer_added x)
+    ∙ ap (λ (y : Tree-F Tree). text_added r (reads (map (fold-Tree (Tree → Adds) layer_added) inner) (parts_of y))) (out-roll-Tree x) ∙ ap (text_added r) (reads_own inner) in
+    subst Keeps (sym same) (text_keeps r (owns inner) (own_keep v))
+
+tree_keeps : (t : Tree) → TreeKeeps t
+tree_keeps = ind-Tree TreeKeeps (λ x y is. subst (λ z. TreeKeeps (roll-Tree z)) is (layer_keeps y))
 
 -- the nodes of a control
-block_order : (o : Option (List Tree)) → InOrder (unwrap_or (option_map (with_block 32 [] None) o) [])
-block_order None = AllNumbered-none (λ n (x : NodeText). IsUnder n x.under)
-block_order (Some b) = (block_keeps 32 [] None b (AllNumbered-none (λ n (x : NodeText). IsUnder n x.under)) tt).order
+trees_keep : (ts : List Tree) → All Keeps (map added ts)
+trees_keep ts = All-map Keeps added ts (λ k d lt. tree_keeps (get_or ts k d))
 
 control_order : (x : Tree-F Tree) (ns : List NodeText) → control_in x ≡ Some ns → InOrder ns
 control_order (tree.One t) ns e = absurd (none-some ns e)
 control_order (tree.Many rule.Control parts) ns e =
-    subst InOrder (ap (λ (o : Option (List NodeText)). unwrap_or o []) e) (block_order (first (λ t. block_in (out-Tree t)) parts.items))
+    subst InOrder (same_Some (all_added (map added parts) None []) ns e) (all_keep (map added parts) (trees_keep parts) [] None (AllNumbered-none (λ n (x : NodeText). IsUnder n x.under)) tt).order
 control_order (tree.Many _ parts) ns e = absurd (none-some ns e)
 
 pub nodes_in_order : (ts : List Tree) → InOrder (unwrap_or (control_among ts) [])

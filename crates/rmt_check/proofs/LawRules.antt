@@ -1,7 +1,6 @@
 -- What a text that breaks no rule keeps, part by part.
-use Rattle.std.proofs.Common.{◌≡◌, ℕ, List, [], not, ◌==◌, nat_lt, map, length, drop, None, All}
+use Rattle.std.proofs.Common.{◌≡◌, ℕ, List, [], option_to_list, not, ◌==◌, nat_lt, map, length, drop, None, All}
 use Rattle.std.specs.List.{flat_map, enumerate_from}
-use Rattle.std.specs.Str.{bytes_eq}
 use Rattle.rmt_lexer.specs.declared.place.Place.{Place}
 use Rattle.rmt_check.specs.declared.source.Ident.{Ident}
 use Rattle.rmt_check.specs.declared.source.HeaderText.{HeaderText}
@@ -11,9 +10,10 @@ use Rattle.rmt_check.specs.declared.source.ActionText.{ActionText}
 use Rattle.rmt_check.specs.declared.source.TableText.{TableText}
 use Rattle.rmt_check.specs.declared.source.NodeText.{NodeText}
 use Rattle.rmt_check.specs.declared.source.Source.{Source}
-use Rattle.rmt_check.specs.Names.{number_of, is_known, header_names, metadata, in_port, key_of, width_of, nodes_of, applied_tables, listed, operands}
-use Rattle.rmt_check.specs.Rules.{when, repeated, places, declared_names, unknown, targets, unknown_select, unknown_assign, unknown_in_table, unknown_in_node, no_widths, is_size, bits_of, is_at_most, differs, too_wide_case, too_wide_node, wide_sign, bad_key, key_bits, bad_case, bad_default, bad_table_size, text_start, fault_of}
-use Rattle.rmt_check.proofs.LawLists.{none_in, none_in_2, none_in_3, none_in_5, none_in_8}
+use Rattle.rmt_check.specs.Names.{number_of, is_known, header_names, metadata, in_port, same_field, named, width_of, nodes_of, applied_tables, listed, operands}
+use Rattle.rmt_check.specs.Rules.{when, repeated, places, declared_names, unknown, targets, unknown_own, unknown_assign, unknown_in_table, unknown_in_node, no_widths, is_size, bits_of, is_at_most, differs, too_wide_case, too_wide_node, wide_sign, bad_key, key_bits, bad_case, bad_default, bad_table_size, bad_tail, text_start, fault_of}
+use Rattle.rmt_bits.proofs.ListLaws.{flat_map-nil}
+use Rattle.rmt_check.proofs.LawLists.{none_in_2, none_in_3, none_in_5, none_in_8}
 use Rattle.rmt_check.proofs.LawFaults.{BreaksNone, breaks_none}
 
 abbrev pub headers_of : Source → List Ident
@@ -56,7 +56,7 @@ abbrev pub early_targets : Source → ℕ × HeaderText → List Place
 early_targets s h = flat_map (λ (i : Ident). when (is_at_most (number_of (header_names s) i.name) h.0) i.place) (targets h.1)
 
 abbrev pub operand_widths : Source → ActionText → List Place
-operand_widths s a = flat_map (λ (x : AssignText). flat_map (differs s a (width_of s (key_of s x.dest))) (operands x.expr)) a.assigns
+operand_widths s a = flat_map (λ (x : AssignText). flat_map (differs s a (width_of s (named s x.dest))) (operands x.expr)) a.assigns
 
 abbrev pub case_widths : Source → HeaderText → List Place
 case_widths s h = flat_map (too_wide_case s h) h.cases
@@ -65,10 +65,10 @@ abbrev pub gate_widths : Source → NodeText → List Place
 gate_widths s n = too_wide_node s n.what
 
 abbrev pub wide_signs : Source → ActionText → List Place
-wide_signs s a = flat_map (λ (x : AssignText). wide_sign (width_of s (key_of s x.dest)) x.expr.right) a.assigns
+wide_signs s a = flat_map (λ (x : AssignText). wide_sign (width_of s (named s x.dest)) x.expr.right) a.assigns
 
 abbrev pub written_ports : Source → ActionText → List Place
-written_ports s a = flat_map (λ (x : AssignText). when (bytes_eq (key_of s x.dest) in_port) x.dest.place) a.assigns
+written_ports s a = flat_map (λ (x : AssignText). when (same_field (named s x.dest) in_port) x.dest.place) a.assigns
 
 abbrev pub repeated_select : HeaderText → List Place
 repeated_select h = repeated h.select
@@ -97,6 +97,9 @@ bad_size_of t = bad_table_size t.key
 abbrev pub not_applied : Source → TableText → List Place
 not_applied s t = when (not (is_known (map (λ (i : Ident). i.name) (applied_tables s)) t.ident.name)) t.ident.place
 
+abbrev pub bad_tails : Source → HeaderText → List Place
+bad_tails s h = flat_map (bad_tail s h) (option_to_list h.tail)
+
 -- f finds nothing at each item
 abbrev pub FindsNone : {X : Type 0} → (X → List Place) → List X → Type 0
 FindsNone f xs = All (λ x. f x ≡ []) xs
@@ -108,7 +111,7 @@ pub record KeepsRules (s : Source) : Type 0 where
   pub actions_once : repeated (actions_of s) ≡ []
   pub tables_once : repeated (tables_of s) ≡ []
   pub listed_once : FindsNone repeated_actions s.tables
-  pub select_known : FindsNone (unknown_select s) s.headers
+  pub own_known : FindsNone (unknown_own s) s.headers
   pub targets_known : FindsNone (unknown_targets s) s.headers
   pub assigns_known : FindsNone (unknown_in_action s) s.actions
   pub tables_known : FindsNone (unknown_in_table s) s.tables
@@ -139,12 +142,13 @@ pub record KeepsRules (s : Source) : Type 0 where
   pub nodes_few : map (λ (n : NodeText). n.place) (drop 128 (nodes_of s)) ≡ []
   pub table_size : FindsNone bad_size_of s.tables
   pub all_applied : FindsNone (not_applied s) s.tables
+  pub tails_fit : FindsNone (bad_tails s) s.headers
 
 keeps : (s : Source) → BreaksNone s → KeepsRules s
 keeps s h =
     let five = none_in_8 (repeated (headers_of s)) (flat_map repeated_fields s.headers) (map (λ (m : MetaText). m.place) (drop 1 s.metas)) (repeated (declared_names (metadata s)))
     (repeated (actions_of s)) (flat_map repeated_params s.actions) (repeated (tables_of s)) (flat_map repeated_actions s.tables) h.rule_5 in
-    let six = none_in_5 (flat_map (unknown_select s) s.headers) (flat_map (unknown_targets s) s.headers) (flat_map (unknown_in_action s) s.actions) (flat_map (unknown_in_table s) s.tables)
+    let six = none_in_5 (flat_map (unknown_own s) s.headers) (flat_map (unknown_targets s) s.headers) (flat_map (unknown_in_action s) s.actions) (flat_map (unknown_in_table s) s.tables)
     (flat_map (unknown_at_node s) (nodes_of s)) h.rule_6 in
     let seven = none_in_3 (flat_map field_widths s.headers) (no_widths (metadata s)) (flat_map param_widths s.actions) h.rule_7 in
     let ten = none_in_3 (flat_map (operand_widths s) s.actions) (flat_map (case_widths s) s.headers) (flat_map (gate_widths s) (nodes_of s)) h.rule_10 in
@@ -155,42 +159,43 @@ keeps s h =
     (flat_map bad_size_of s.tables) h.rule_18 in
     record {
       headers_once = five.0;
-      fields_once = none_in repeated_fields s.headers five.1;
+      fields_once = flat_map-nil repeated_fields s.headers five.1;
       metadata_once = five.3;
       actions_once = five.4;
       tables_once = five.6;
-      listed_once = none_in repeated_actions s.tables five.7;
-      select_known = none_in (unknown_select s) s.headers six.0;
-      targets_known = none_in (unknown_targets s) s.headers six.1;
-      assigns_known = none_in (unknown_in_action s) s.actions six.2;
-      tables_known = none_in (unknown_in_table s) s.tables six.3;
-      nodes_known = none_in (unknown_at_node s) (nodes_of s) six.4;
-      fields_wide = none_in field_widths s.headers seven.0;
+      listed_once = flat_map-nil repeated_actions s.tables five.7;
+      own_known = flat_map-nil (unknown_own s) s.headers six.0;
+      targets_known = flat_map-nil (unknown_targets s) s.headers six.1;
+      assigns_known = flat_map-nil (unknown_in_action s) s.actions six.2;
+      tables_known = flat_map-nil (unknown_in_table s) s.tables six.3;
+      nodes_known = flat_map-nil (unknown_at_node s) (nodes_of s) six.4;
+      fields_wide = flat_map-nil field_widths s.headers seven.0;
       metadata_wide = seven.1;
-      params_wide = none_in param_widths s.actions seven.2;
-      header_size = none_in bad_size s.headers h.rule_8;
+      params_wide = flat_map-nil param_widths s.actions seven.2;
+      header_size = flat_map-nil bad_size s.headers h.rule_8;
       targets_later = h.rule_9;
-      operands_fit = none_in (operand_widths s) s.actions ten.0;
-      cases_fit = none_in (case_widths s) s.headers ten.1;
-      gates_fit = none_in (gate_widths s) (nodes_of s) ten.2;
-      signs_fit = none_in (wide_signs s) s.actions h.rule_11;
-      port_kept = none_in (written_ports s) s.actions h.rule_12;
+      operands_fit = flat_map-nil (operand_widths s) s.actions ten.0;
+      cases_fit = flat_map-nil (case_widths s) s.headers ten.1;
+      gates_fit = flat_map-nil (gate_widths s) (nodes_of s) ten.2;
+      signs_fit = flat_map-nil (wide_signs s) s.actions h.rule_11;
+      port_kept = flat_map-nil (written_ports s) s.actions h.rule_12;
       applied_once = h.rule_13;
-      select_once = none_in repeated_select s.headers fourteen.0;
-      key_form = none_in (bad_key_of s) s.tables fourteen.1;
-      key_short = none_in (long_key s) s.tables h.rule_15;
-      listed_few = none_in many_listed s.tables h.rule_16;
-      case_length = none_in bad_cases s.headers seventeen.0;
-      default_fits = none_in (bad_default s) s.tables seventeen.1;
+      select_once = flat_map-nil repeated_select s.headers fourteen.0;
+      key_form = flat_map-nil (bad_key_of s) s.tables fourteen.1;
+      key_short = flat_map-nil (long_key s) s.tables h.rule_15;
+      listed_few = flat_map-nil many_listed s.tables h.rule_16;
+      case_length = flat_map-nil bad_cases s.headers seventeen.0;
+      default_fits = flat_map-nil (bad_default s) s.tables seventeen.1;
       a_header = eighteen.0;
       headers_few = eighteen.1;
       actions_few = eighteen.2;
-      params_few = none_in many_params s.actions eighteen.3;
-      assigns_few = none_in many_assigns s.actions eighteen.4;
+      params_few = flat_map-nil many_params s.actions eighteen.3;
+      assigns_few = flat_map-nil many_assigns s.actions eighteen.4;
       metadata_few = eighteen.5;
       nodes_few = eighteen.6;
-      table_size = none_in bad_size_of s.tables eighteen.7;
-      all_applied = none_in (not_applied s) s.tables h.rule_20;
+      table_size = flat_map-nil bad_size_of s.tables eighteen.7;
+      all_applied = flat_map-nil (not_applied s) s.tables h.rule_20;
+      tails_fit = flat_map-nil (bad_tails s) s.headers h.rule_21;
     }
 
 pub keeps_rules : (s : Source) → fault_of s ≡ None → KeepsRules s

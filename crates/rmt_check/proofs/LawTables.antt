@@ -19,17 +19,20 @@ use Rattle.rmt_check.specs.declared.source.ActionText.{ActionText}
 use Rattle.rmt_check.specs.declared.source.KeyText.{KeyText}
 use Rattle.rmt_check.specs.declared.source.TableText.{TableText}
 use Rattle.rmt_check.specs.declared.source.Source.{Source}
-use Rattle.rmt_check.specs.Names.{is_known, field_keys, key_of, action_names, width_of, params_of, listed, key_fields}
-use Rattle.rmt_check.specs.Rules.{when, too_wide, unknown, unknown_field, unknown_in_table, is_field, keyed, further_prefix, bad_key, key_bits, bad_default, bad_table_size, repeated}
+use Rattle.rmt_check.specs.Names.{is_known, is_field, named, action_names, width_of, params_of, listed, key_fields}
+use Rattle.rmt_check.specs.Rules.{when, too_wide, unknown, unknown_field, unknown_in_table, further_prefix, bad_key, key_bits, bad_default, bad_table_size, repeated_fields}
 use Rattle.rmt_check.specs.Meaning.{field_number, action_number, action_of, table_with, table_of, program_of}
 use Rattle.rmt_check.specs.Naming.{IsKeyText, HasKeyText}
-use Rattle.rmt_check.proofs.LawLists.{none_in, none_in_2, none_in_3, none_mapped, none_dropped}
+use Rattle.rmt_bits.proofs.ListLaws.{drop-nil, flat_map-nil, map-nil}
+use Rattle.rmt_check.proofs.LawLists.{none_in_2, none_in_3}
 use Rattle.rmt_check.proofs.LawNames.{stands_for, stands_within}
 use Rattle.rmt_check.proofs.LawFaults.{no_when, no_when_not, one_known, all_known, field_known}
-use Rattle.rmt_check.proofs.LawDistinct.{are_apart, distinct_numbers}
+use Rattle.rmt_check.proofs.LawDistinct.{AreApart, are_apart, apart_after, distinct_numbers}
 use Rattle.rmt_check.proofs.LawTests.{number_fits}
 use Rattle.rmt_check.proofs.LawRules.{KeepsRules, repeated_actions, bad_key_of, long_key, many_listed, bad_size_of}
-use Rattle.rmt_check.proofs.LawFields.{field_within, field_width}
+use Rattle.rmt_check.proofs.LawFields.{field_within, field_width, distinct_fields}
+use Rattle.rmt_check.specs.Seen.{stored_ident}
+use Rattle.rmt_check.proofs.SeenNames.{repeated_fields-after}
 
 -- arguments that are as many as the parameters and fit them
 args_fit : (ds : List Declared) (ns : List Number) → length ds ≡ length ns → flat_map (λ (x : Declared × Number). too_wide x.0.width.value x.1) (zip ds ns) ≡ []
@@ -54,29 +57,28 @@ module _ (s : Source) where
       subst (λ (o : Option Action). IsSomeAnd o (λ (a : Action). AllZip Fits a.params (map (λ (n : Number). n.value) t.args))) (sym at)
       (args_fit r.item.params t.args (ap length (sym params) ∙ same) (subst (λ (ds : List Declared). flat_map (λ (x : Declared × Number). too_wide x.0.width.value x.1) (zip ds t.args) ≡ []) params parts.1))
 
-  fields_known : (fs : List FieldText) → flat_map (unknown_field s) fs ≡ [] → All (λ (f : FieldText). is_field s (key_of s f) ≡ true) fs
-  fields_known fs e k d lt = field_known s (get_or fs k d) (none_in (unknown_field s) fs e k d lt)
+  fields_known : (fs : List FieldText) → flat_map (unknown_field s) fs ≡ [] → All (λ (f : FieldText). is_field s (named s f) ≡ true) fs
+  fields_known fs e k d lt = field_known s (get_or fs k d) (flat_map-nil (unknown_field s) fs e k d lt)
 
-  key_widths : (fs : List FieldText) → All (λ (f : FieldText). is_field s (key_of s f) ≡ true) fs
-      → map (state.width_of (program_of s)) (map (λ (f : FieldText). field_number s (key_of s f)) fs) ≡ map (λ (f : FieldText). width_of s (key_of s f)) fs
+  key_widths : (fs : List FieldText) → All (λ (f : FieldText). is_field s (named s f) ≡ true) fs
+      → map (state.width_of (program_of s)) (map (λ (f : FieldText). field_number s (named s f)) fs) ≡ map (λ (f : FieldText). width_of s (named s f)) fs
   key_widths [] known = refl
   key_widths (f ∷ fs) known =
-      let rest = key_widths fs (All-tail (λ (f : FieldText). is_field s (key_of s f) ≡ true) f fs known) in
-      let one = field_width s (key_of s f) (All-head (λ (f : FieldText). is_field s (key_of s f) ≡ true) f fs known) in
+      let rest = key_widths fs (All-tail (λ (f : FieldText). is_field s (named s f) ≡ true) f fs known) in
+      let one = field_width s (named s f) (All-head (λ (f : FieldText). is_field s (named s f) ≡ true) f fs known) in
       ap₂ (λ (x : ℕ) xs. x ∷ xs) one rest
 
-  is_keyed : (t : TableText) (k : KeyText) → IsKeyText k → All (λ (f : FieldText). is_field s (key_of s f) ≡ true) k.fields → repeated (map (keyed s) k.fields) ≡ []
-      → sum (map (λ (f : FieldText). width_of s (key_of s f)) k.fields) ≤ 640 → bad_table_size (Some k) ≡ [] → IsKeyed (program_of s) (table_with s t (Some k))
+  is_keyed : (t : TableText) (k : KeyText) → IsKeyText k → All (λ (f : FieldText). is_field s (named s f) ≡ true) k.fields → repeated_fields s k.fields ≡ []
+      → sum (map (λ (f : FieldText). width_of s (named s f)) k.fields) ≤ 640 → bad_table_size (Some k) ≡ [] → IsKeyed (program_of s) (table_with s t (Some k))
   is_keyed t k text known once short size =
-      let numbers = length-map k.fields (λ (f : FieldText). field_number s (key_of s f)) in
+      let numbers = length-map k.fields (λ (f : FieldText). field_number s (named s f)) in
       let actions = length-map k.actions (action_number s) in
       let sizes = and_parts (nat_le 1 k.size.value) (nat_le k.size.value 1048576) (no_when_not (nat_le 1 k.size.value && nat_le k.size.value 1048576) k.size.place size) in
       record {
         has_key = let some = text.fields in omega arith;
-        key_fields = All-map (λ f. f < length (program_of s).fields) (λ (f : FieldText). field_number s (key_of s f)) k.fields (λ i d lt. field_within s (key_of s (get_or k.fields i d)) (known i d lt));
-        key_once = subst (λ (l : List ℕ). AreDistinct l) (map-map (λ (x : Ident). field_number s x.name) (keyed s) k.fields)
-            (distinct_numbers (field_keys s) (map (keyed s) k.fields) (All-map (λ (x : Ident). is_field s x.name ≡ true) (keyed s) k.fields known)
-            (are_apart (map (keyed s) k.fields) once));
+        key_fields = All-map (λ f. f < length (program_of s).fields) (λ (f : FieldText). field_number s (named s f)) k.fields (λ i d lt. field_within s (named s (get_or k.fields i d)) (known i d lt));
+        key_once = distinct_fields s (named s) k.fields known
+            (subst AreApart (map-map (λ (i : Ident). i.name) (stored_ident s) k.fields) (apart_after (map (stored_ident s) k.fields) (sym (repeated_fields-after s k.fields) ∙ once)));
         key_bits = subst (λ (l : List ℕ). sum l ≤ 640) (sym (key_widths k.fields known)) short;
         has_actions = let some = text.actions in omega arith;
         has_size = leb-true 1 k.size.value sizes.0;
@@ -84,14 +86,14 @@ module _ (s : Source) where
       }
 
   one_prefix : (fs : List FieldText) → further_prefix Prefix fs ≡ [] → length fs ≤ 1
-  one_prefix fs e = none_dropped 1 fs (none_mapped (λ (f : FieldText). f.place) (drop 1 fs) e)
+  one_prefix fs e = drop-nil 1 fs (map-nil (λ (f : FieldText). f.place) (drop 1 fs) e)
 
   has_key : (t : TableText) (key : Option KeyText) → HasKeyText key → flat_map (unknown_field s) (unwrap_or (option_map (λ (k : KeyText). k.fields) key) []) ≡ [] → bad_key s key ≡ []
-      → sum (map (λ (f : FieldText). width_of s (key_of s f)) (unwrap_or (option_map (λ (k : KeyText). k.fields) key) [])) ≤ 640 → bad_table_size key ≡ []
+      → sum (map (λ (f : FieldText). width_of s (named s f)) (unwrap_or (option_map (λ (k : KeyText). k.fields) key) [])) ≤ 640 → bad_table_size key ≡ []
       → HasKey (program_of s) (table_with s t key).kind (table_with s t key)
   has_key t None text known form short size = record { key = refl; actions = refl; size = refl; counted = refl }
   has_key t (Some k) text known form short size =
-      let parts = none_in_2 (further_prefix k.kind k.fields) (repeated (map (keyed s) k.fields)) form in
+      let parts = none_in_2 (further_prefix k.kind k.fields) (repeated_fields s k.fields) form in
       by k.kind parts.0 (λ e. text.kind e) (is_keyed t k text (fields_known k.fields known) parts.1 short size)
     where
       by : (kind : Kind) → further_prefix kind k.fields ≡ [] → (kind ≡ Keyless → ⊥) → IsKeyed (program_of s) (table_with s t (Some k)) → HasKey (program_of s) kind (table_with s t (Some k))
@@ -100,7 +102,7 @@ module _ (s : Source) where
       by Prefix one other is =
           let l = one_prefix k.fields one in
           let m = text.fields in
-          let n = length-map k.fields (λ (f : FieldText). field_number s (key_of s f)) in (is, omega arith)
+          let n = length-map k.fields (λ (f : FieldText). field_number s (named s f)) in (is, omega arith)
       by Ternary one other is = is
 
   -- the actions that a table lists, and its default
@@ -118,7 +120,7 @@ module _ (s : Source) (h : KeepsRules s) where
   one t text unknowns once form long many default size =
       let known = none_in_3 (flat_map (unknown_field s) (key_fields t)) (unknown (action_names s) (listed t)) (unknown (action_names s) (t.default ∷ [])) unknowns in
       let acts = all_known (action_names s) (listed t) known.1 in
-      let few = none_dropped 14 (listed t) (none_mapped (λ (x : Ident). x.place) (drop 14 (listed t)) many) in
+      let few = drop-nil 14 (listed t) (map-nil (λ (x : Ident). x.place) (drop 14 (listed t)) many) in
       let same = lists s t t.key in
       record {
         key = has_key s t t.key text known.0 form (ltb-false 640 (key_bits s t) (no_when (nat_lt 640 (key_bits s t)) t.ident.place long)) size;

@@ -9,7 +9,7 @@ use Rattle.rmt_check.specs.declared.source.Number.{Number}
 use Rattle.rmt_check.specs.declared.source.ValueText.{ValueText}
 use Rattle.rmt_check.specs.Rules.{fits, too_wide, too_wide_value}
 use Rattle.rmt_check.specs.Meaning.{ones, test_of}
-use Rattle.rmt_check.proofs.LawLists.{none_left, none_right}
+use Rattle.rmt_bits.proofs.ListLaws.{append-nil_left, append-nil_right}
 use Rattle.rmt_check.proofs.LawFaults.{no_when_not}
 
 pub number_fits : (width : ℕ) (n : Number) → too_wide width n ≡ [] → Fits width n.value
@@ -27,11 +27,11 @@ masked width value mask v m = record {
 
 -- the test of a value whose numbers fit
 pub test_law : (width : ℕ) (v : ValueText) → too_wide_value width v ≡ [] → IsTest width (test_of width v)
-test_law width v e = by v.mask (none_right (too_wide width v.value) (flat_map (too_wide width) (option_to_list v.mask)) e)
+test_law width v e = by v.mask (append-nil_right (too_wide width v.value) (flat_map (too_wide width) (option_to_list v.mask)) e)
   where
     fit : Fits width v.value.value
-    fit = number_fits width v.value (none_left (too_wide width v.value) (flat_map (too_wide width) (option_to_list v.mask)) e)
+    fit = number_fits width v.value (append-nil_left (too_wide width v.value) (flat_map (too_wide width) (option_to_list v.mask)) e)
 
     by : (mask : Option Number) → flat_map (too_wide width) (option_to_list mask) ≡ [] → IsTest width (test_of width (record v { mask = mask }))
     by None h = masked width v.value.value (ones width) fit (ones_fit width)
-    by (Some m) h = masked width v.value.value m.value fit (number_fits width m (none_left (too_wide width m) [] h))
+    by (Some m) h = masked width v.value.value m.value fit (number_fits width m (append-nil_left (too_wide width m) [] h))

@@ -19,7 +19,7 @@ use Rattle.rmt_syntax.specs.Trees.{Mark, leaf, opens, shuts, marks, marks_step, 
 use Rattle.rmt_check.specs.declared.source.Ident.{Ident}
 use Rattle.rmt_check.specs.Reading.{parts, parts_of, first, word_of, ident_of, in_token, name_if, name_at, names, name_among, no_name}
 use Rattle.rmt_check.specs.Naming.{HasNoDot, IsPlainWord, WordsArePlain}
-use Rattle.rmt_check.proofs.LawLists.{All-front, All-back}
+use Rattle.rmt_bits.proofs.AllLaws.{All-left, All-right}
 
 tokens-append : (xs ys : List Mark) → tokens_in (xs ++ ys) ≡ tokens_in xs ++ tokens_in ys
 tokens-append [] ys = refl
@@ -34,16 +34,16 @@ each_plain (u ∷ us) last h =
     let split : tokens_in ((marks u ++ flat_map (λ m. m) (map marks us)) ++ last) ≡ tokens_in (marks u) ++ tokens_in (flat_map (λ m. m) (map marks us) ++ last) =
     ap tokens_in (append_assoc (marks u) (flat_map (λ m. m) (map marks us)) last) ∙ tokens-append (marks u) (flat_map (λ m. m) (map marks us) ++ last) in
     let both = subst (All IsPlainWord) split h in
-    All-cons WordsArePlain u us (All-front IsPlainWord (tokens_in (marks u)) (tokens_in (flat_map (λ m. m) (map marks us) ++ last)) both)
-    (each_plain us last (All-back IsPlainWord (tokens_in (marks u)) (tokens_in (flat_map (λ m. m) (map marks us) ++ last)) both))
+    All-cons WordsArePlain u us (All-left IsPlainWord (tokens_in (marks u)) (tokens_in (flat_map (λ m. m) (map marks us) ++ last)) both)
+    (each_plain us last (All-right IsPlainWord (tokens_in (marks u)) (tokens_in (flat_map (λ m. m) (map marks us) ++ last)) both))
 
 -- the words of the parts are words of the tree
 pub parts_plain : (u : Tree) (x : Tree-F Tree) → out-Tree u ≡ x → WordsArePlain u → All WordsArePlain (parts_of x)
 parts_plain u (tree.One t) e h = All-nil WordsArePlain
 parts_plain u (tree.Many r parts) e h =
-    let is : marks u ≡ opens r ∷ (flat_map (λ m. m) (map marks parts.items) ++ shuts r ∷ []) =
+    let is : marks u ≡ opens r ∷ (flat_map (λ m. m) (map marks parts) ++ shuts r ∷ []) =
     ap marks (sym (roll-out-Tree u) ∙ ap roll-Tree e) ∙ fold-roll-Tree (List Mark) marks_step (tree.Many r parts) in
-    each_plain parts.items (shuts r ∷ []) (subst (λ ms. All IsPlainWord (tokens_in ms)) is h)
+    each_plain parts (shuts r ∷ []) (subst (λ ms. All IsPlainWord (tokens_in ms)) is h)
 
 pub token_plain : (u : Tree) (t : Token) → out-Tree u ≡ tree.One t → WordsArePlain u → IsPlainWord t
 token_plain u t e h =

@@ -7,7 +7,9 @@ mod ExamplesReading
 mod ExamplesRules
 pub mod Numbering
 pub mod FieldNumbers
-pub mod Finding
+pub mod FieldCodes
+mod Finding
+pub mod MeansLaws
 pub mod UnknownNames
 pub mod Earliest
 pub mod Limits
@@ -34,7 +36,9 @@ pub mod LawProgram
 pub mod LawRules
 pub mod LawTables
 pub mod LawTests
+pub mod LawParts
 pub mod LawGrammar
+pub mod FoundLaws
 pub mod LawParents
 pub mod LawText
 pub mod LawTokens

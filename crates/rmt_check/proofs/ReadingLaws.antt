@@ -1,21 +1,99 @@
--- The nodes of a block, by its depth.
-use Rattle.std.proofs.Common.{◌≡◌, ℕ, zero, suc, ◌-◌, ◌<◌, refl, sym, ap, arith, List, Option, fold}
-use Rattle.rmt_syntax.specs.declared.tree.Tree.{Tree}
+-- What is read at a place among some parts, and what a tree of the control adds.
+use Rattle.std.proofs.Common.{◌≡◌, ◌∙◌, ℕ, zero, suc, ◌+◌, ◌<◌, List, [], ◌∷◌, ◌++◌, Bool, true, false, if◌then◌else◌, Option, Some, None, fold, map, filter_map, length, drop, refl, sym, ap, arith, add-one, append_assoc}
+use Rattle.std.specs.List.{cons_option, enumerate_from}
+use Rattle.std.specs.Option.{option_or}
+use Rattle.rmt_lexer.specs.declared.token.Token.{Token}
+use Rattle.rmt_syntax.specs.declared.tree.Rule.{Rule}
+use Rattle.rmt_syntax.specs.declared.tree.Tree.{Tree, One, Many, out-Tree, out-roll-Tree}
+use Rattle.rmt_syntax.specs.declared.tree.Tree.TheOpen as tree
+use Rattle.rmt_syntax.specs.declared.tree.Tree.TheVariants.{rolls-One, rolls-Many}
+use Rattle.rmt_syntax.specs.declared.tree.Tree.TheFolds.{fold-Tree, fold-roll-Tree}
 use Rattle.rmt_check.specs.declared.source.Under.{Under}
 use Rattle.rmt_check.specs.declared.source.NodeText.{NodeText}
-use Rattle.rmt_check.specs.Reading.{statements, with_statement, with_block}
+use Rattle.rmt_check.specs.Reading.{parts_of, each, first_at, node_of, Adds, Read, all_added, arm_adds, with_arm, statement_added, is_statement, text_added, reads, layer_added, added}
 
-pub with_block-none : (depth : ℕ) (before : List NodeText) (under : Option Under) (ts : List Tree) → depth ≡ 0 → with_block depth before under ts ≡ before
-unfolding with_block
-with_block-none zero before under ts h = refl
-with_block-none (suc d) before under ts h = absurd (omega arith)
+pub one : (t : Token) → out-Tree (One t) ≡ tree.One t
+one t = ap out-Tree (sym (rolls-One t)) ∙ out-roll-Tree (tree.One t)
 
-pub with_block-some : (depth : ℕ) (before : List NodeText) (under : Option Under) (ts : List Tree) → 0 < depth
-    → with_block depth before under ts ≡ fold (with_statement (with_block (depth - 1)) under) before (statements ts)
-unfolding with_block
-with_block-some zero before under ts h = absurd (omega arith)
-with_block-some (suc d) before under ts h =
-    let e : suc d - 1 ≡ d = omega arith in
-    ap (λ (n : ℕ). fold (with_statement (with_block n) under) before (statements ts)) (sym e)
+pub many : (r : Rule) (v : List Tree) → out-Tree (Many r v) ≡ tree.Many r v
+many r v = ap out-Tree (sym (rolls-Many r v)) ∙ out-roll-Tree (tree.Many r v)
 
-pub ruleset with_block_laws = (with_block-none, with_block-some)
+each_next : {A : Type 0} (see : List Tree → Option A) (ts : List Tree) (n : ℕ) → n < length ts → each see (drop n ts) ≡ cons_option (see (drop n ts)) (each see (drop (suc n) ts))
+each_next see [] n lt = absurd (omega arith)
+each_next see (t ∷ ts) zero lt = refl
+each_next see (t ∷ ts) (suc n) lt = each_next see ts n (omega arith)
+
+first_next : {A : Type 0} (see : List Tree → Option A) (ts : List Tree) (n : ℕ) → n < length ts → first_at see (drop n ts) ≡ option_or (see (drop n ts)) (first_at see (drop (suc n) ts))
+first_next see [] n lt = absurd (omega arith)
+first_next see (t ∷ ts) zero lt = refl
+first_next see (t ∷ ts) (suc n) lt = first_next see ts n (omega arith)
+
+pub each_here : {A : Type 0} (see : List Tree → Option A) (ts : List Tree) (n : ℕ) → n < length ts → each see (drop n ts) ≡ cons_option (see (drop n ts)) (each see (drop (n + 1) ts))
+each_here see ts n lt = rw add-one (each_next see ts n lt)
+
+pub first_here : {A : Type 0} (see : List Tree → Option A) (ts : List Tree) (n : ℕ) → n < length ts → first_at see (drop n ts) ≡ option_or (see (drop n ts)) (first_at see (drop (n + 1) ts))
+first_here see ts n lt = rw add-one (first_next see ts n lt)
+
+-- what is found at a place joins what was found before it
+pub each_some : {A : Type 0} (see : List Tree → Option A) (ts : List Tree) (n : ℕ) (found next all : List A) (x : A) → n < length ts → found ++ each see (drop n ts) ≡ all → see (drop n ts) ≡ Some x
+    → next ≡ found ++ x ∷ [] → next ++ each see (drop (n + 1) ts) ≡ all
+each_some see ts n found next all x lt so_far is e =
+    ap (λ ys. ys ++ each see (drop (n + 1) ts)) e ∙ append_assoc found (x ∷ []) (each see (drop (n + 1) ts))
+    ∙ ap (λ ys. found ++ ys) (sym (each_here see ts n lt ∙ ap (λ o. cons_option o (each see (drop (n + 1) ts))) is)) ∙ so_far
+
+pub each_none : {A : Type 0} (see : List Tree → Option A) (ts : List Tree) (n : ℕ) (found next all : List A) → n < length ts → found ++ each see (drop n ts) ≡ all → see (drop n ts) ≡ None
+    → next ≡ found → next ++ each see (drop (n + 1) ts) ≡ all
+each_none see ts n found next all lt so_far is e =
+    ap (λ ys. ys ++ each see (drop (n + 1) ts)) e ∙ ap (λ ys. found ++ ys) (sym (each_here see ts n lt ∙ ap (λ o. cons_option o (each see (drop (n + 1) ts))) is)) ∙ so_far
+
+-- trees beside what they add
+abbrev pub owns : List Tree → List Read
+owns ts = map (λ t. (t, added t)) ts
+
+pub reads_own : (ts : List Tree) → reads (map (fold-Tree (Tree → Adds) layer_added) ts) ts ≡ owns ts
+reads_own [] = refl
+reads_own (t ∷ ts) = ap (λ (rs : List Read). (t, added t) ∷ rs) (reads_own ts)
+
+pub added_one : (t : Token) (under : Option Under) (before : List NodeText) → added (One t) under before ≡ before
+added_one t under before =
+    ap (λ (f : Tree → Adds). f (One t) under before) (ap (fold-Tree (Tree → Adds) layer_added) (sym (rolls-One t)) ∙ fold-roll-Tree (Tree → Adds) layer_added (tree.One t))
+
+pub added_many : (r : Rule) (v : List Tree) → added (Many r v) ≡ text_added r (owns v)
+added_many r v =
+    ap (λ (f : Tree → Adds). f (Many r v)) (ap (fold-Tree (Tree → Adds) layer_added) (sym (rolls-Many r v)) ∙ fold-roll-Tree (Tree → Adds) layer_added (tree.Many r v))
+    ∙ ap (λ x. text_added r (reads (map (fold-Tree (Tree → Adds) layer_added) v) (parts_of x))) (many r v) ∙ ap (text_added r) (reads_own v)
+
+pub added_is : (r : Rule) (v : List Tree) (under : Option Under) (before : List NodeText) → added (Many r v) under before ≡ text_added r (owns v) under before
+added_is r v under before = ap (λ (f : Adds). f under before) (added_many r v)
+
+-- the arms among some trees
+abbrev pub arms : List Tree → List Adds
+arms ts = filter_map arm_adds (owns ts)
+
+trees_of : (ts : List Tree) → map (λ (r : Read). r.0) (owns ts) ≡ ts
+trees_of [] = refl
+trees_of (t ∷ ts) = ap (λ us. t ∷ us) (trees_of ts)
+
+abbrev pub adds_of : List Tree → List Adds
+adds_of ts = map added ts
+
+adds_are : (ts : List Tree) → map (λ (r : Read). r.1) (owns ts) ≡ adds_of ts
+adds_are [] = refl
+adds_are (t ∷ ts) = ap (λ fs. added t ∷ fs) (adds_are ts)
+
+abbrev chosen : List Read → Bool → Adds
+chosen rs b = if b then statement_added rs else all_added (map (λ (r : Read). r.1) rs)
+
+pub added_statement : (r : Rule) (v : List Tree) (under : Option Under) (before : List NodeText) → is_statement r ≡ true
+    → added (Many r v) under before ≡ fold (with_arm (length before)) (before ++ node_of under v ∷ []) (enumerate_from 0 (arms v))
+added_statement r v under before h =
+    ap (λ (f : Adds). f under before) (added_many r v ∙ ap (chosen (owns v)) h)
+    ∙ ap (λ (ts : List Tree). fold (with_arm (length before)) (before ++ node_of under ts ∷ []) (enumerate_from 0 (arms v))) (trees_of v)
+
+pub added_other : (r : Rule) (v : List Tree) (under : Option Under) (before : List NodeText) → is_statement r ≡ false → added (Many r v) under before ≡ all_added (adds_of v) under before
+added_other r v under before h =
+    ap (λ (f : Adds). f under before) (added_many r v ∙ ap (chosen (owns v)) h) ∙ ap (λ (fs : List Adds). all_added fs under before) (adds_are v)
+
+pub ruleset added_laws = (added_one, added_statement, added_other)
+
+pub ruleset places = (each_here, first_here)

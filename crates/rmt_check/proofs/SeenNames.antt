@@ -1,32 +1,31 @@
 -- Names that are seen one after another, and those that repeat an earlier one.
-use Rattle.std.proofs.Common.{◌≡◌, ℕ, ◌<◌, ◌+◌, List, [], ◌∷◌, ◌++◌, Bool, true, false, ◌&&◌, ◌||◌, if◌then◌else◌, nat_eq, not, None, Some, Option, map, take, length, get_or, refl, sym, ap, ◌∙◌, append_assoc}
+use Rattle.std.proofs.Common.{◌≡◌, ℕ, ◌<◌, ◌+◌, List, [], ◌∷◌, ◌++◌, Bool, true, false, ◌&&◌, ◌||◌, if◌then◌else◌, nat_eq, not, None, Some, Option, map, take, length, get_or, refl, sym, ap, ap₂, ◌∙◌, append_assoc, length-append}
 use Rattle.std.specs.Borrow.{Bor}
 use Rattle.std.specs.Cmp.Lexicographic.{pointwise}
-use Rattle.std.specs.List.{list_any, flat_map, filter_map, cons_option}
+use Rattle.std.specs.List.{list_any, enumerate_from, flat_map, filter_map, cons_option}
 use Rattle.std.specs.Option.{option_to_list}
 use Rattle.std.specs.Str.{bytes_eq}
-use Rattle.std.proofs.lemmas.List.{take_more, map_push, map-append, append-nil}
+use Rattle.std.proofs.lemmas.List.{take_more, map_push, map-append, map-id, append-nil}
+use Rattle.std.proofs.Math.Seq.{take-append_seam}
 use Rattle.std.proofs.lemmas.List.Concat.{flat_map-append}
 use Rattle.std.proofs.lemmas.List.Folds.{list_any-append}
 use Rattle.std.proofs.lemmas.Slice.Eq.{bytes_eq-Decides}
 use Rattle.indexmap.specs.IndexSet.{insert_key}
+use Rattle.rmt_bits.proofs.FunctionLaws.{bytes_eq-pointwise}
 use Rattle.rmt_lexer.specs.declared.place.Place.{Place}
 use Rattle.rmt_check.specs.declared.source.Declared.{Declared}
 use Rattle.rmt_check.specs.declared.source.Ident.{Ident}
 use Rattle.rmt_check.specs.declared.source.TableText.{TableText}
-use Rattle.rmt_check.specs.Names.{is_known}
+use Rattle.rmt_check.specs.declared.source.FieldText.{FieldText}
+use Rattle.rmt_check.specs.declared.source.Source.{Source}
+use Rattle.rmt_check.specs.Names.{is_known, same_field, named}
 use Rattle.rmt_check.specs.Numbering.{bytes_of}
-use Rattle.rmt_check.specs.Standing.{key_in}
-use Rattle.rmt_check.specs.Rules.{when, earlier, earliest, repeated_after, declared_names}
-use Rattle.rmt_check.specs.Seen.{with_name, seen_after}
+use Rattle.rmt_check.specs.Standing.{stored}
+use Rattle.rmt_check.specs.Rules.{when, earlier, earliest, repeated_by, repeated, repeated_fields, declared_names}
+use Rattle.rmt_check.specs.Seen.{with_name, seen_after, repeated_after, stored_ident}
 use Rattle.rmt_check.proofs.Earliest.{joined}
 use Rattle.rmt_check.proofs.Numbering.{same}
-
-pub bytes_eq-pointwise : (a b : List ℕ) → bytes_eq a b ≡ pointwise nat_eq a b
-bytes_eq-pointwise [] [] = refl
-bytes_eq-pointwise [] (d ∷ ds) = refl
-bytes_eq-pointwise (c ∷ cs) [] = refl
-bytes_eq-pointwise (c ∷ cs) (d ∷ ds) = ap (λ (r : Bool). nat_eq c d && r) (bytes_eq-pointwise cs ds)
+use Rattle.rmt_check.proofs.FieldCodes.{same_field-code}
 
 -- tests of what a set holds, borrowed names or keys of fields, for the same bytes
 abbrev pub same_name : Bor (List ℕ) → Bor (List ℕ) → Bool
@@ -35,11 +34,11 @@ same_name x y = pointwise nat_eq x.now y.now
 pub same_name-agrees : (x y : Bor (List ℕ)) → same_name x y ≡ same bytes_of x y
 same_name-agrees x y = sym (bytes_eq-pointwise x.now y.now)
 
-abbrev pub same_field : ℕ × Bor (List ℕ) → ℕ × Bor (List ℕ) → Bool
-same_field x y = nat_eq x.0 y.0 && pointwise nat_eq x.1.now y.1.now
+abbrev pub same_key : ℕ × Bor (List ℕ) → ℕ × Bor (List ℕ) → Bool
+same_key x y = nat_eq x.0 y.0 && pointwise nat_eq x.1.now y.1.now
 
-pub same_field-agrees : (x y : ℕ × Bor (List ℕ)) → same_field x y ≡ same key_in x y
-same_field-agrees x y = ap (λ (r : Bool). nat_eq x.0 y.0 && r) (sym (bytes_eq-pointwise x.1.now y.1.now))
+pub same_key-agrees : (x y : ℕ × Bor (List ℕ)) → same_key x y ≡ same stored x y
+same_key-agrees x y = ap (λ (r : Bool). nat_eq x.0 y.0 && r) (sym (bytes_eq-pointwise x.1.now y.1.now))
 
 not-not : (b : Bool) → not (not b) ≡ b
 not-not true = refl
@@ -176,3 +175,43 @@ not_seen-tables seen xs [] e = refl
 not_seen-tables seen xs (t ∷ ts) e =
     let known : is_known seen t.ident.name ≡ is_known (map (λ (x : Ident). x.name) xs) t.ident.name = ap (λ (ns : List (List ℕ)). is_known ns t.ident.name) e ∙ is_known-seen_after xs t.ident.name in
     rw known (ap (λ (ps : List Place). when (not (is_known (map (λ (x : Ident). x.name) xs) t.ident.name)) t.ident.place ++ ps) (not_seen-tables seen xs ts e))
+
+-- The items behind one that is the same, found among the names before them.
+module _ {X : Type 0} (same : X → X → Bool) (place : X → Place) (ident : X → Ident) (alike : (x y : X) → same x y ≡ bytes_eq (ident x).name (ident y).name) (placed : (x : X) → place x ≡ (ident x).place) where
+  abbrev behind : List X → List X → List Place
+  behind before [] = []
+  behind before (x ∷ xs) = when (list_any (same x) before) (place x) ++ behind (before ++ x ∷ []) xs
+
+  -- an item before which there are these
+  numbered : (before xs : List X) → flat_map (λ (e : ℕ × X). when (list_any (same e.1) (take e.0 (before ++ xs))) (place e.1)) (enumerate_from (length before) xs) ≡ behind before xs
+  numbered before [] = refl
+  numbered before (x ∷ xs) =
+      let whole : before ++ x ∷ xs ≡ (before ++ x ∷ []) ++ xs = sym (append_assoc before (x ∷ []) xs) in
+      let long : length before + 1 ≡ length (before ++ x ∷ []) = sym (length-append before (x ∷ [])) in
+      let rest = numbered (before ++ x ∷ []) xs in
+      ap₂ (λ (ps qs : List Place). ps ++ qs) (ap (λ ys. when (list_any (same x) ys) (place x)) (take-append_seam before (x ∷ xs)))
+      (ap₂ (λ (ys : List X) (n : ℕ). flat_map (λ (e : ℕ × X). when (list_any (same e.1) (take e.0 ys)) (place e.1)) (enumerate_from n xs)) whole long ∙ rest)
+
+  any_known : (x : X) (ys : List X) → list_any (same x) ys ≡ is_known (map (λ y. (ident y).name) ys) (ident x).name
+  any_known x [] = refl
+  any_known x (y ∷ ys) = ap₂ (λ (a b : Bool). a || b) (alike x y) (any_known x ys)
+
+  seen_behind : (before xs : List X) (seen : List (List ℕ)) → ((q : List ℕ) → is_known (map (λ y. (ident y).name) before) q ≡ is_known seen q) → behind before xs ≡ repeated_after seen (map ident xs)
+  seen_behind before [] seen h = refl
+  seen_behind before (x ∷ xs) seen h =
+      let first : list_any (same x) before ≡ is_known seen (ident x).name = any_known x before ∙ h (ident x).name in
+      let more = seen_behind (before ++ x ∷ []) xs (seen_after seen (ident x ∷ [])) (λ q.
+      ap (λ ns. is_known ns q) (map-append (λ y. (ident y).name) before (x ∷ [])) ∙ list_any-append (bytes_eq q) (map (λ y. (ident y).name) before) ((ident x).name ∷ [])
+      ∙ ap (λ (b : Bool). b || is_known ((ident x).name ∷ []) q) (h q) ∙ sym (is_known-seen seen q (ident x ∷ []))) in
+      ap₂ (λ (ps qs : List Place). ps ++ qs) (ap₂ (λ (b : Bool) (p : Place). when b p) first (placed x)) more ∙ sym (repeated_after-cons seen (ident x) (map ident xs))
+
+  pub repeated_by-after : (xs : List X) → repeated_by same place xs ≡ repeated_after [] (map ident xs)
+  repeated_by-after xs = numbered [] xs ∙ seen_behind [] xs [] (λ q. refl)
+
+pub repeated-after : (xs : List Ident) → repeated xs ≡ repeated_after [] xs
+repeated-after xs =
+    repeated_by-after (λ (x y : Ident). bytes_eq x.name y.name) (λ x. x.place) (λ x. x) (λ x y. refl) (λ x. refl) xs ∙ ap (repeated_after []) (map-id xs)
+
+pub repeated_fields-after : (s : Source) (fs : List FieldText) → repeated_fields s fs ≡ repeated_after [] (map (stored_ident s) fs)
+repeated_fields-after s fs =
+    repeated_by-after (λ (f g : FieldText). same_field (named s f) (named s g)) (λ f. f.place) (stored_ident s) (λ f g. same_field-code (named s f) (named s g)) (λ f. refl) fs

@@ -13,7 +13,7 @@ use Rattle.rmt_check.specs.declared.source.HeaderText.{HeaderText}
 use Rattle.rmt_check.specs.declared.source.WhatText.{WhatText}
 use Rattle.rmt_check.specs.declared.source.WhatText.TheVariants.{Apply, If}
 use Rattle.rmt_check.specs.declared.source.Source.{Source}
-use Rattle.rmt_check.specs.Names.{key_of, width_of, listed_by}
+use Rattle.rmt_check.specs.Names.{named, width_of, listed_by}
 use Rattle.rmt_check.specs.Meaning.{field_number, test_of, target_of, arm_mask}
 
 -- tests of values, each of a field with the width beside it
@@ -38,4 +38,4 @@ arm_masks s (If field mask value) = []
 
 -- the test of an `if`
 abbrev pub gate_of : Source → FieldText → ValueText → What
-gate_of s field value = Gate (field_number s (key_of s field)) (test_of (width_of s (key_of s field)) value)
+gate_of s field value = Gate (field_number s (named s field)) (test_of (width_of s (named s field)) value)

@@ -4,7 +4,7 @@ use Rattle.rmt_lexer.specs.declared.fault.ProgramFault.{ProgramFault}
 use Rattle.rmt_lexer.specs.declared.fault.ProgramFault.TheVariants.{NoMemory, At}
 use Rattle.rmt_lexer.specs.declared.place.Place.{Place}
 use Rattle.rmt_check.specs.declared.source.Source.{Source}
-use Rattle.rmt_check.specs.Rules.{least_of, broken_5, broken_6, broken_7, broken_8, broken_9, broken_10, broken_11, broken_12, broken_13, broken_14, broken_15, broken_16, broken_17, broken_18, broken_19, broken_20}
+use Rattle.rmt_check.specs.Rules.{least_of, broken_5, broken_6, broken_7, broken_8, broken_9, broken_10, broken_11, broken_12, broken_13, broken_14, broken_15, broken_16, broken_17, broken_18, broken_19, broken_20, broken_21}
 use Rattle.rmt_check.specs.Meaning.{told}
 
 -- some rules, by code, with the places where they are broken
@@ -38,4 +38,4 @@ abbrev pub table_rules : Source → Rules
 table_rules s = (13, broken_13 s) ∷ (14, broken_14 s) ∷ (15, broken_15 s) ∷ (16, broken_16 s) ∷ []
 
 abbrev pub count_rules : Source → Rules
-count_rules s = (17, broken_17 s) ∷ (18, broken_18 s) ∷ (19, broken_19 s) ∷ (20, broken_20 s) ∷ []
+count_rules s = (17, broken_17 s) ∷ (18, broken_18 s) ∷ (19, broken_19 s) ∷ (20, broken_20 s) ∷ (21, broken_21 s) ∷ []

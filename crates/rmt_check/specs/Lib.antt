@@ -2,11 +2,13 @@ pub mod Reading
 pub mod Names
 pub mod Rules
 pub mod Meaning
+pub mod Means
 pub mod Sizes
 pub mod Numbering
 pub mod Standing
 pub mod Seen
 pub mod Building
 pub mod Looked
+pub mod Found
 pub mod Naming
 pub mod Checking

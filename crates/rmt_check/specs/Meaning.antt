@@ -4,6 +4,7 @@ use Rattle.std.specs.List.{range_with_len}
 use Rattle.std.specs.Option.{option_map_or}
 use Rattle.rmt_ast.specs.declared.program.Program.{Program}
 use Rattle.rmt_ast.specs.declared.program.Field.{Field}
+use Rattle.rmt_ast.specs.declared.program.Tail.{Tail}
 use Rattle.rmt_ast.specs.declared.program.Header.{Header}
 use Rattle.rmt_ast.specs.declared.program.Case.{Case}
 use Rattle.rmt_ast.specs.declared.program.Test.{Test}
@@ -32,6 +33,7 @@ use Rattle.rmt_check.specs.declared.source.ValueText.{ValueText}
 use Rattle.rmt_check.specs.declared.source.TargetText.{TargetText}
 use Rattle.rmt_check.specs.declared.source.TargetText.TheVariants as target
 use Rattle.rmt_check.specs.declared.source.CaseText.{CaseText}
+use Rattle.rmt_check.specs.declared.source.TailText.{TailText}
 use Rattle.rmt_check.specs.declared.source.HeaderText.{HeaderText}
 use Rattle.rmt_check.specs.declared.source.LeafText.{LeafText}
 use Rattle.rmt_check.specs.declared.source.LeafText.TheVariants as text
@@ -47,16 +49,16 @@ use Rattle.rmt_check.specs.declared.source.WhatText.{WhatText}
 use Rattle.rmt_check.specs.declared.source.WhatText.TheVariants.{Apply as ApplyText, If}
 use Rattle.rmt_check.specs.declared.source.NodeText.{NodeText}
 use Rattle.rmt_check.specs.declared.source.Source.{Source}
-use Rattle.rmt_check.specs.Names.{Known, number_of, header_names, action_names, table_names, param_names, fields_of, field_keys, key_of, width_of, nodes_of, listed_by, selected}
+use Rattle.rmt_check.specs.Names.{Known, number_of, header_names, action_names, table_names, param_names, fields_of, Named, field_place, named, width_of, nodes_of, listed_by, selected}
 use Rattle.rmt_check.specs.Rules.{bits_of, fault_of}
 
 -- the number of a name, which is known
 abbrev pub index_of : List (List ℕ) → List ℕ → ℕ
 index_of names name = unwrap_or (number_of names name) 0
 
--- the number of the field with a key
-abbrev pub field_number : Source → List ℕ → ℕ
-field_number s k = index_of (field_keys s) k
+-- the number of a field, which is known
+abbrev pub field_number : Source → Named → ℕ
+field_number s x = unwrap_or (field_place s x) 0
 
 abbrev pub field_of : Known → Field
 field_of f = record { name = f.0; width = f.1 }
@@ -82,6 +84,9 @@ case_of s h c = record {
   target = target_of s c.target;
 }
 
+abbrev pub tail_of : Source → HeaderText → TailText → Tail
+tail_of s h t = record { field = field_number s (selected s h t.field); unit = t.unit.value; base = t.base.value }
+
 -- a header whose valid has the number n, and its fields the numbers after it
 abbrev pub header_from : Source → ℕ → HeaderText → Header
 header_from s n h = record {
@@ -89,6 +94,7 @@ header_from s n h = record {
   valid = n;
   fields = range_with_len (n + 1) (length h.fields);
   bytes = bits_of h / 8;
+  tail = option_map (tail_of s h) h.tail;
   select = map (λ (i : Ident). field_number s (selected s h i)) h.select;
   cases = map (case_of s h) h.cases;
   other = target_of s h.other;
@@ -99,7 +105,7 @@ headers_from s n [] = []
 headers_from s n (h ∷ hs) = header_from s n h ∷ headers_from s (n + 1 + length h.fields) hs
 
 abbrev pub leaf_of : Source → ActionText → LeafText → Leaf
-leaf_of s a (text.Field f) = leaf.Field (field_number s (key_of s f))
+leaf_of s a (text.Field f) = leaf.Field (field_number s (named s f))
 leaf_of s a (text.Param p) = leaf.Param (index_of (param_names a) p.name)
 leaf_of s a (text.Number n) = leaf.Number n.value
 
@@ -108,7 +114,7 @@ expr_of s a left None = One (leaf_of s a left)
 expr_of s a left (Some r) = Two r.0.op (leaf_of s a left) (leaf_of s a r.1)
 
 abbrev pub assign_of : Source → ActionText → AssignText → Assign
-assign_of s a x = record { dest = field_number s (key_of s x.dest); expr = expr_of s a x.expr.left x.expr.right }
+assign_of s a x = record { dest = field_number s (named s x.dest); expr = expr_of s a x.expr.left x.expr.right }
 
 abbrev pub action_of : Source → ActionText → Action
 action_of s a = record {
@@ -135,7 +141,7 @@ table_with s t None = record {
 table_with s t (Some k) = record {
   name = t.ident.name;
   kind = k.kind;
-  key = map (λ (f : FieldText). field_number s (key_of s f)) k.fields;
+  key = map (λ (f : FieldText). field_number s (named s f)) k.fields;
   actions = map (action_number s) k.actions;
   default = action_number s t.default;
   args = map (λ (n : Number). n.value) t.args;
@@ -173,7 +179,7 @@ guard_of s u = record { parent = u.parent; mask = option_map_or (λ (n : NodeTex
 abbrev pub what_of : Source → WhatText → What
 what_of s (ApplyText table arms) = Apply (index_of (table_names s) table.name)
 what_of s (If field mask value) =
-    let v : ValueText = record { value = value; mask = mask } in Gate (field_number s (key_of s field)) (test_of (width_of s (key_of s field)) v)
+    let v : ValueText = record { value = value; mask = mask } in Gate (field_number s (named s field)) (test_of (width_of s (named s field)) v)
 
 abbrev pub node_of : Source → NodeText → Node
 node_of s n = record { guard = option_map (guard_of s) n.under; what = what_of s n.what }

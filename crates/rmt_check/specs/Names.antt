@@ -1,5 +1,5 @@
 -- What the names of a text stand for.
-use Rattle.std.specs.Prelude.{ℕ, ◌+◌, List, [], ◌∷◌, ◌++◌, Bool, Option, Some, None, codes, length, map, find, position, filter_map, option_map, unwrap_or, slice_get}
+use Rattle.std.specs.Prelude.{ℕ, ◌+◌, List, [], ◌∷◌, ◌++◌, Bool, true, false, ◌==◌, ◌&&◌, Option, Some, None, codes, length, map, find, position, filter_map, option_map, unwrap_or, slice_get}
 use Rattle.std.specs.List.{list_any, flat_map}
 use Rattle.std.specs.Option.{option_to_list, option_map_or}
 use Rattle.std.specs.Str.{bytes_eq}
@@ -25,7 +25,7 @@ use Rattle.rmt_check.specs.declared.source.Source.{Source}
 abbrev pub Known : Type 0
 Known = List ℕ × ℕ
 
--- the number of a name, or of a key: the place of the first that is equal
+-- the number of a name: the place of the first that is equal
 abbrev pub number_of : List (List ℕ) → List ℕ → Option ℕ
 number_of names name = position (bytes_eq name) names
 
@@ -69,54 +69,79 @@ fields_of s =
 abbrev pub field_names : Source → List (List ℕ)
 field_names s = map (λ (f : Known). f.0) (fields_of s)
 
--- A field is found by its key: the number of its owner in front of its own name. The fields that every program has are of
--- owner 0, the metadata fields of owner 1, and those of the n-th header, from 0 on, of owner 2 + n.
-abbrev pub key : ℕ → List ℕ → List ℕ
-key owner name = owner ∷ name
+-- Whose a field is: every program's, the metadata's, or that of the header with a number.
+pub data Owner : Type 0 where
+  of_all : Owner
+  of_metadata : Owner
+  of_header : ℕ → Owner
 
-abbrev pub in_port : List ℕ
-in_port = key 0 (codes "in_port")
+abbrev pub same_owner : Owner → Owner → Bool
+same_owner of_all of_all = true
+same_owner of_metadata of_metadata = true
+same_owner (of_header m) (of_header n) = m == n
+same_owner _ _ = false
 
-abbrev pub declared_keys : ℕ → List Declared → List (List ℕ)
-declared_keys owner ds = map (λ (d : Declared). key owner d.ident.name) ds
+-- a field as a text names it: whose it is, and its own name
+pub record Named : Type 0 where
+  pub owner : Owner
+  pub name : List ℕ
 
--- the keys of a header's fields, its valid first
-abbrev pub header_keys : ℕ → HeaderText → List (List ℕ)
-header_keys owner h = key owner (codes "valid") ∷ declared_keys owner h.fields
+abbrev pub own : Owner → List ℕ → Named
+own owner name = record { owner = owner; name = name }
 
--- the keys of the fields of some headers, the first of which is the owner of that number
-abbrev pub keys_from : ℕ → List HeaderText → List (List ℕ)
-keys_from owner [] = []
-keys_from owner (h ∷ hs) = header_keys owner h ++ keys_from (owner + 1) hs
+abbrev pub same_field : Named → Named → Bool
+same_field x y = same_owner x.owner y.owner && bytes_eq x.name y.name
 
--- the keys of the fields by number
-abbrev pub field_keys : Source → List (List ℕ)
-field_keys s =
-    in_port ∷ key 0 (codes "out_port") ∷ key 0 (codes "drop") ∷ keys_from 2 s.headers ++ declared_keys 1 (metadata s)
+abbrev pub in_port : Named
+in_port = own of_all (codes "in_port")
 
--- the owner that a header is, by its name; for a name that is none, one that has no field
-abbrev pub header_owner : Source → List ℕ → ℕ
-header_owner s name = 2 + unwrap_or (number_of (header_names s) name) (length s.headers)
+abbrev pub named_declared : Owner → List Declared → List Named
+named_declared owner ds = map (λ (d : Declared). own owner d.ident.name) ds
 
-abbrev pub owner_number : Source → OwnerText → ℕ
-owner_number s owner.Intrinsic = 0
-owner_number s owner.Metadata = 1
-owner_number s (owner.Header h) = header_owner s h.name
+-- the fields of the header with a number, its valid first
+abbrev pub named_header : ℕ → HeaderText → List Named
+named_header n h = own (of_header n) (codes "valid") ∷ named_declared (of_header n) h.fields
 
--- the key of a field that is named
-abbrev pub key_of : Source → FieldText → List ℕ
-key_of s f = key (owner_number s f.owner) f.ident.name
+-- the fields of some headers, the first of which has that number
+abbrev pub named_from : ℕ → List HeaderText → List Named
+named_from n [] = []
+named_from n (h ∷ hs) = named_header n h ++ named_from (n + 1) hs
 
--- the key of a name in a header's select
-abbrev pub selected : Source → HeaderText → Ident → List ℕ
-selected s h i = key (header_owner s h.ident.name) i.name
+-- the fields by number, as they are named
+abbrev pub named_fields : Source → List Named
+named_fields s =
+    in_port ∷ own of_all (codes "out_port") ∷ own of_all (codes "drop") ∷ named_from 0 s.headers ++ named_declared of_metadata (metadata s)
 
--- the width of a field by its number, and by its key; 0 where there is none
+-- the header of a name; for a name that is none, one that has no field
+abbrev pub header_owner : Source → List ℕ → Owner
+header_owner s name = of_header (unwrap_or (number_of (header_names s) name) (length s.headers))
+
+abbrev pub owner_of : Source → OwnerText → Owner
+owner_of s owner.Intrinsic = of_all
+owner_of s owner.Metadata = of_metadata
+owner_of s (owner.Header h) = header_owner s h.name
+
+-- a field that a text names
+abbrev pub named : Source → FieldText → Named
+named s f = own (owner_of s f.owner) f.ident.name
+
+-- a field that a header names as its own
+abbrev pub selected : Source → HeaderText → Ident → Named
+selected s h i = own (header_owner s h.ident.name) i.name
+
+-- the number of a field: the place of the first that is the same
+abbrev pub field_place : Source → Named → Option ℕ
+field_place s x = position (same_field x) (named_fields s)
+
+abbrev pub is_field : Source → Named → Bool
+is_field s x = list_any (same_field x) (named_fields s)
+
+-- the width of a field by its number, and by its name; 0 where there is none
 abbrev pub width_at : Source → ℕ → ℕ
 width_at s n = unwrap_or (option_map (λ (f : Known). f.1) (slice_get (fields_of s) n)) 0
 
-abbrev pub width_of : Source → List ℕ → ℕ
-width_of s k = option_map_or (width_at s) (number_of (field_keys s) k) 0
+abbrev pub width_of : Source → Named → ℕ
+width_of s x = option_map_or (width_at s) (field_place s x) 0
 
 -- the widths of the fields of a header's select
 abbrev pub select_widths : Source → HeaderText → List ℕ

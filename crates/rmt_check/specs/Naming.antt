@@ -1,5 +1,6 @@
 -- What the parts of every text of the grammar have.
 use Rattle.std.specs.Prelude.{◌≢◌, ◌<◌, ◌≤◌, ℕ, List, Option, Some, None, ⊤, All, codes, length}
+use Rattle.std.specs.Option.{IfSome}
 use Rattle.rmt_lexer.specs.declared.token.Token.{Token}
 use Rattle.rmt_syntax.specs.declared.tree.Tree.{Tree}
 use Rattle.rmt_syntax.specs.Trees.{marks, tokens_in}
@@ -8,6 +9,7 @@ use Rattle.rmt_ast.specs.WellFormed.{AllNumbered}
 use Rattle.rmt_check.specs.declared.source.Ident.{Ident}
 use Rattle.rmt_check.specs.declared.source.Declared.{Declared}
 use Rattle.rmt_check.specs.declared.source.CaseText.{CaseText}
+use Rattle.rmt_check.specs.declared.source.TailText.{TailText}
 use Rattle.rmt_check.specs.declared.source.HeaderText.{HeaderText}
 use Rattle.rmt_check.specs.declared.source.KeyText.{KeyText}
 use Rattle.rmt_check.specs.declared.source.TableText.{TableText}
@@ -26,9 +28,10 @@ pub record IsHeaderText (h : HeaderText) : Type 0 where
   -- its name is a word, and not the reserved `meta`
   pub no_dot : HasNoDot h.ident.name
   pub not_meta : h.ident.name ≢ codes "meta"
-  -- no field and no name of its select is the reserved `valid`
+  -- no field, no name of its select and none of its tail is the reserved `valid`
   pub fields : All (λ (d : Declared). d.ident.name ≢ codes "valid") h.fields
   pub select : All (λ (i : Ident). i.name ≢ codes "valid") h.select
+  pub tail : IfSome h.tail (λ (t : TailText). t.field.name ≢ codes "valid")
   -- each case has a value
   pub cases : All (λ (c : CaseText). 1 ≤ length c.values) h.cases
 

@@ -1,6 +1,6 @@
 -- The rules of form, each as the places where it is broken, and the fault of a text.
-use Rattle.std.specs.Prelude.{ℕ, ◌%◌, ◌^◌, List, [], ◌∷◌, ◌++◌, Bool, true, false, not, ◌==◌, ◌&&◌, ◌||◌, nat_le, nat_lt, if◌then◌else◌, Option, Some, None, length, drop, take, map, zip, sum, option_map}
-use Rattle.std.specs.List.{flat_map, enumerate_from}
+use Rattle.std.specs.Prelude.{ℕ, ◌+◌, ◌-◌, ◌*◌, ◌%◌, ◌^◌, List, [], ◌∷◌, ◌++◌, Bool, true, false, not, ◌==◌, ◌&&◌, ◌||◌, nat_le, nat_lt, if◌then◌else◌, Option, Some, None, length, drop, take, map, zip, sum, option_map}
+use Rattle.std.specs.List.{flat_map, list_any, enumerate_from}
 use Rattle.std.specs.Option.{option_to_list, option_or, is_none}
 use Rattle.std.specs.Str.{bytes_eq}
 use Rattle.rmt_ast.specs.declared.program.Kind.{Kind}
@@ -18,6 +18,7 @@ use Rattle.rmt_check.specs.declared.source.ValueText.{ValueText}
 use Rattle.rmt_check.specs.declared.source.TargetText.{TargetText}
 use Rattle.rmt_check.specs.declared.source.TargetText.TheVariants as target
 use Rattle.rmt_check.specs.declared.source.CaseText.{CaseText}
+use Rattle.rmt_check.specs.declared.source.TailText.{TailText}
 use Rattle.rmt_check.specs.declared.source.HeaderText.{HeaderText}
 use Rattle.rmt_check.specs.declared.source.MetaText.{MetaText}
 use Rattle.rmt_check.specs.declared.source.LeafText.{LeafText}
@@ -33,21 +34,20 @@ use Rattle.rmt_check.specs.declared.source.WhatText.{WhatText}
 use Rattle.rmt_check.specs.declared.source.WhatText.TheVariants.{Apply, If}
 use Rattle.rmt_check.specs.declared.source.NodeText.{NodeText}
 use Rattle.rmt_check.specs.declared.source.Source.{Source}
-use Rattle.rmt_check.specs.Names.{number_of, is_known, header_names, action_names, table_names, param_names, metadata, in_port, field_keys, key_of, width_of, nodes_of, applied_tables, listed, listed_by, key_fields, selected, param_width, params_of, operands}
+use Rattle.rmt_check.specs.Names.{number_of, is_known, header_names, action_names, table_names, param_names, metadata, in_port, same_field, is_field, named, width_of, nodes_of, applied_tables, listed, listed_by, key_fields, selected, param_width, params_of, operands}
 
 -- a place, where something is broken there
 abbrev pub when : Bool → Place → List Place
 when true p = p ∷ []
 when false p = []
 
--- the places of the names that an earlier one repeats
-abbrev pub repeated_after : List (List ℕ) → List Ident → List Place
-repeated_after seen [] = []
-repeated_after seen (x ∷ xs) =
-    if is_known seen x.name then x.place ∷ repeated_after seen xs else repeated_after (seen ++ x.name ∷ []) xs
+-- the places of the items that come behind one that is the same
+abbrev pub repeated_by : {X : Type 0} → (X → X → Bool) → (X → Place) → List X → List Place
+repeated_by same place xs = flat_map (λ (x : ℕ × _). when (list_any (same x.1) (take x.0 xs)) (place x.1)) (enumerate_from 0 xs)
 
+-- the places of the names that an earlier one repeats
 abbrev pub repeated : List Ident → List Place
-repeated xs = repeated_after [] xs
+repeated xs = repeated_by (λ (x y : Ident). bytes_eq x.name y.name) (λ x. x.place) xs
 
 -- the places of the names that are not among these
 abbrev pub unknown : List (List ℕ) → List Ident → List Place
@@ -77,12 +77,9 @@ unknown_owner s owner.Intrinsic = []
 unknown_owner s owner.Metadata = []
 unknown_owner s (owner.Header h) = unknown (header_names s) (h ∷ [])
 
-abbrev pub is_field : Source → List ℕ → Bool
-is_field s k = is_known (field_keys s) k
-
 -- the header of a field where it is not declared, and the field where it is not
 abbrev pub unknown_field : Source → FieldText → List Place
-unknown_field s f = unknown_owner s f.owner ++ when (not (is_field s (key_of s f))) f.ident.place
+unknown_field s f = unknown_owner s f.owner ++ when (not (is_field s (named s f))) f.ident.place
 
 abbrev pub target_names : TargetText → List Ident
 target_names (target.Header h) = h ∷ []
@@ -96,6 +93,14 @@ targets h = flat_map (λ (c : CaseText). target_names c.target) h.cases ++ targe
 -- the names of a select that are no fields of the header
 abbrev pub unknown_select : Source → HeaderText → List Place
 unknown_select s h = flat_map (λ (i : Ident). when (not (is_field s (selected s h i))) i.place) h.select
+
+-- the name of a tail that is no field of the header
+abbrev pub unknown_tail : Source → HeaderText → List Place
+unknown_tail s h = flat_map (λ (t : TailText). when (not (is_field s (selected s h t.field))) t.field.place) (option_to_list h.tail)
+
+-- the names of a header's own fields that are none
+abbrev pub unknown_own : Source → HeaderText → List Place
+unknown_own s h = unknown_select s h ++ unknown_tail s h
 
 abbrev pub unknown_leaf : Source → ActionText → LeafText → List Place
 unknown_leaf s a (leaf.Field f) = unknown_field s f
@@ -123,7 +128,7 @@ unknown_in_node s (If field mask value) = unknown_field s field
 -- Code 6: a name is not declared where it is used.
 abbrev pub broken_6 : Source → List Place
 broken_6 s =
-    flat_map (unknown_select s) s.headers
+    flat_map (unknown_own s) s.headers
     ++ flat_map (λ (h : HeaderText). unknown (header_names s) (targets h)) s.headers
     ++ flat_map (λ (a : ActionText). flat_map (unknown_assign s a) a.assigns) s.actions
     ++ flat_map (unknown_in_table s) s.tables
@@ -173,7 +178,7 @@ too_wide width n = when (not (fits width n.value)) n.place
 
 -- an operand of another width than the assigned field
 abbrev pub differs : Source → ActionText → ℕ → LeafText → List Place
-differs s a width (leaf.Field f) = when (not (width_of s (key_of s f) == width)) f.place
+differs s a width (leaf.Field f) = when (not (width_of s (named s f) == width)) f.place
 differs s a width (leaf.Param p) = when (not (param_width a p.name == width)) p.place
 differs s a width (leaf.Number n) = too_wide width n
 
@@ -188,13 +193,13 @@ too_wide_case s h c = flat_map (λ (x : Ident × ValueText). too_wide_value (wid
 abbrev pub too_wide_node : Source → WhatText → List Place
 too_wide_node s (Apply table arms) = []
 too_wide_node s (If field mask value) =
-    let v : ValueText = record { value = value; mask = mask } in too_wide_value (width_of s (key_of s field)) v
+    let v : ValueText = record { value = value; mask = mask } in too_wide_value (width_of s (named s field)) v
 
 -- Code 10: an operand is not of the width of the assigned field, or a number does not fit the field.
 abbrev pub broken_10 : Source → List Place
 broken_10 s =
     flat_map
-    (λ (a : ActionText). flat_map (λ (x : AssignText). flat_map (differs s a (width_of s (key_of s x.dest))) (operands x.expr)) a.assigns)
+    (λ (a : ActionText). flat_map (λ (x : AssignText). flat_map (differs s a (width_of s (named s x.dest))) (operands x.expr)) a.assigns)
     s.actions
     ++ flat_map (λ (h : HeaderText). flat_map (too_wide_case s h) h.cases) s.headers
     ++ flat_map (λ (n : NodeText). too_wide_node s n.what) (nodes_of s)
@@ -213,20 +218,20 @@ wide_sign width (Some r) = when (is_sum r.0.op && nat_lt 32 width) r.0.place
 -- Code 11: `+` or `-` into a field wider than 32 bits.
 abbrev pub broken_11 : Source → List Place
 broken_11 s =
-    flat_map (λ (a : ActionText). flat_map (λ (x : AssignText). wide_sign (width_of s (key_of s x.dest)) x.expr.right) a.assigns) s.actions
+    flat_map (λ (a : ActionText). flat_map (λ (x : AssignText). wide_sign (width_of s (named s x.dest)) x.expr.right) a.assigns) s.actions
 
 -- Code 12: `in_port` is assigned.
 abbrev pub broken_12 : Source → List Place
 broken_12 s =
-    flat_map (λ (a : ActionText). flat_map (λ (x : AssignText). when (bytes_eq (key_of s x.dest) in_port) x.dest.place) a.assigns) s.actions
+    flat_map (λ (a : ActionText). flat_map (λ (x : AssignText). when (same_field (named s x.dest) in_port) x.dest.place) a.assigns) s.actions
 
 -- Code 13: a table is applied again.
 abbrev pub broken_13 : Source → List Place
 broken_13 s = repeated (applied_tables s)
 
--- a field by its key, at its first token
-abbrev pub keyed : Source → FieldText → Ident
-keyed s f = record { place = f.place; name = key_of s f }
+-- the places of the fields that an earlier one repeats
+abbrev pub repeated_fields : Source → List FieldText → List Place
+repeated_fields s fs = repeated_by (λ (f g : FieldText). same_field (named s f) (named s g)) (λ f. f.place) fs
 
 abbrev pub further_prefix : Kind → List FieldText → List Place
 further_prefix Prefix fs = map (λ (f : FieldText). f.place) (drop 1 fs)
@@ -234,14 +239,14 @@ further_prefix _ fs = []
 
 abbrev pub bad_key : Source → Option KeyText → List Place
 bad_key s None = []
-bad_key s (Some k) = further_prefix k.kind k.fields ++ repeated (map (keyed s) k.fields)
+bad_key s (Some k) = further_prefix k.kind k.fields ++ repeated_fields s k.fields
 
 -- Code 14: a prefix key has a second field, or a key or a select has a field twice.
 abbrev pub broken_14 : Source → List Place
 broken_14 s = flat_map (λ (h : HeaderText). repeated h.select) s.headers ++ flat_map (λ (t : TableText). bad_key s t.key) s.tables
 
 abbrev pub key_bits : Source → TableText → ℕ
-key_bits s t = sum (map (λ (f : FieldText). width_of s (key_of s f)) (key_fields t))
+key_bits s t = sum (map (λ (f : FieldText). width_of s (named s f)) (key_fields t))
 
 -- Code 15: a key is of more than 640 bits.
 abbrev pub broken_15 : Source → List Place
@@ -297,6 +302,19 @@ abbrev pub broken_20 : Source → List Place
 broken_20 s =
     flat_map (λ (t : TableText). when (not (is_known (map (λ (i : Ident). i.name) (applied_tables s)) t.ident.name)) t.ident.place) s.tables
 
+-- The lengths of a tail: its field has at most 8 bits, its unit is 1 to 255, its base at most 255, and the greatest value of
+-- the field makes 0 to 64 bytes.
+abbrev pub is_tail_range : ℕ → ℕ → ℕ → Bool
+is_tail_range width unit base =
+    nat_le width 8 && nat_le 1 unit && nat_le unit 255 && nat_le base 255 && nat_le base ((2 ^ width - 1) * unit) && nat_le ((2 ^ width - 1) * unit) (base + 64)
+
+abbrev pub bad_tail : Source → HeaderText → TailText → List Place
+bad_tail s h t = when (not (is_tail_range (width_of s (selected s h t.field)) t.unit.value t.base.value)) t.place
+
+-- Code 21: the lengths of a tail are not as they have to be.
+abbrev pub broken_21 : Source → List Place
+broken_21 s = flat_map (λ (h : HeaderText). flat_map (bad_tail s h) (option_to_list h.tail)) s.headers
+
 -- a place before another
 abbrev pub is_before : Place → Place → Bool
 is_before a b = nat_lt a.line b.line || ((a.line == b.line) && nat_lt a.column b.column)
@@ -317,7 +335,7 @@ abbrev pub broken : Source → List (ℕ × List Place)
 broken s =
     (5, broken_5 s) ∷ (6, broken_6 s) ∷ (7, broken_7 s) ∷ (8, broken_8 s) ∷ (9, broken_9 s) ∷ (10, broken_10 s) ∷ (11, broken_11 s) ∷ (12, broken_12 s)
     ∷ (13, broken_13 s) ∷ (14, broken_14 s) ∷ (15, broken_15 s) ∷ (16, broken_16 s) ∷ (17, broken_17 s) ∷ (18, broken_18 s) ∷ (19, broken_19 s)
-    ∷ (20, broken_20 s) ∷ []
+    ∷ (20, broken_20 s) ∷ (21, broken_21 s) ∷ []
 
 -- the least code that is broken, at its earliest place
 abbrev pub least_of : List (ℕ × List Place) → Option (ℕ × Place)

@@ -1,6 +1,8 @@
 -- How large the parts of a text are where the rules of widths and counts are kept.
-use Rattle.std.specs.Prelude.{ℕ, ◌<◌, ◌≤◌, ⊤, List, Option, Some, None, All, length}
+use Rattle.std.specs.Prelude.{◌≤◌, ⊤, List, Option, Some, None, All, length}
+use Rattle.std.specs.Option.{IfSome}
 use Rattle.rmt_check.specs.declared.source.Declared.{Declared}
+use Rattle.rmt_check.specs.declared.source.TailText.{TailText}
 use Rattle.rmt_check.specs.declared.source.HeaderText.{HeaderText}
 use Rattle.rmt_check.specs.declared.source.MetaText.{MetaText}
 use Rattle.rmt_check.specs.declared.source.ActionText.{ActionText}
@@ -31,11 +33,17 @@ pub record IsSizedTable (t : TableText) : Type 0 where
   pub size : IsSizedKey t.key
   pub few : length (listed t) ≤ 14
 
+-- a unit and a base of at most 255
+pub record IsSizedTail (t : TailText) : Type 0 where
+  pub unit : t.unit.value ≤ 255
+  pub base : t.base.value ≤ 255
+
 -- a header of at most 512 bits
 pub record IsSizedHeader (h : HeaderText) : Type 0 where
   pub widths : AreNarrow h.fields
   pub bits : bits_of h ≤ 512
   pub few : length h.fields ≤ 512
+  pub tail : IfSome h.tail IsSizedTail
 
 -- each node of the control stands in an arm of one of its nodes
 abbrev pub AreNested : Source → Type 0

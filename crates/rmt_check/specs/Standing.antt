@@ -1,5 +1,5 @@
 -- What the look-ups of names keep.
-use Rattle.std.specs.Prelude.{◌≡◌, ℕ, ◌+◌, List, [], ◌∷◌, ◌++◌, codes, map, Option, slice_get, unwrap_or}
+use Rattle.std.specs.Prelude.{◌≡◌, ℕ, zero, suc, ◌+◌, List, [], ◌∷◌, ◌++◌, codes, map, Option, slice_get, unwrap_or}
 use Rattle.std.specs.Borrow.{Bor}
 use Rattle.std.specs.Map.{lookup}
 use Rattle.std.specs.Str.{bytes_eq}
@@ -9,22 +9,41 @@ use Rattle.rmt_check.specs.declared.names.Names.TheInside.{Inside}
 use Rattle.rmt_check.specs.declared.source.Declared.{Declared}
 use Rattle.rmt_check.specs.declared.source.HeaderText.{HeaderText}
 use Rattle.rmt_check.specs.declared.source.Source.{Source}
-use Rattle.rmt_check.specs.Names.{key, in_port, metadata, header_names, action_names, table_names, list_names}
+use Rattle.rmt_check.specs.Names.{Owner, of_all, of_metadata, of_header, Named, own, metadata, header_names, action_names, table_names, list_names}
 use Rattle.rmt_check.specs.Numbering.{HasNumbers}
 
--- a key as it is kept, and as it is defined
-abbrev pub key_in : ℕ × Bor (List ℕ) → List ℕ
-key_in k = key k.0 k.1.now
+-- A field is stored by a number for its owner in front of its own name: 0 for what every program has, 1 for the metadata,
+-- 2 and more for the headers.
+abbrev pub code_of : Owner → ℕ
+code_of of_all = 0
+code_of of_metadata = 1
+code_of (of_header n) = suc (suc n)
 
--- a field by its key, with its width
+abbrev pub code : Named → List ℕ
+code x = code_of x.owner ∷ x.name
+
+-- the owner of a number, and the field that a key is
+abbrev pub owner_at : ℕ → Owner
+owner_at zero = of_all
+owner_at (suc zero) = of_metadata
+owner_at (suc (suc n)) = of_header n
+
+abbrev pub key_in : ℕ × Bor (List ℕ) → Named
+key_in k = own (owner_at k.0) k.1.now
+
+-- a key as it is stored
+abbrev pub stored : ℕ × Bor (List ℕ) → List ℕ
+stored k = k.0 ∷ k.1.now
+
+-- a stored field with its width
 abbrev pub Keyed : Type 0
 Keyed = List ℕ × ℕ
 
 abbrev pub keyed_declared : ℕ → List Declared → List Keyed
-keyed_declared owner ds = map (λ (d : Declared). (key owner d.ident.name, d.width.value)) ds
+keyed_declared owner ds = map (λ (d : Declared). (owner ∷ d.ident.name, d.width.value)) ds
 
 abbrev pub keyed_header : ℕ → HeaderText → List Keyed
-keyed_header owner h = (key owner (codes "valid"), 1) ∷ keyed_declared owner h.fields
+keyed_header owner h = (owner ∷ codes "valid", 1) ∷ keyed_declared owner h.fields
 
 abbrev pub keyed_from : ℕ → List HeaderText → List Keyed
 keyed_from owner [] = []
@@ -32,22 +51,22 @@ keyed_from owner (h ∷ hs) = keyed_header owner h ++ keyed_from (owner + 1) hs
 
 -- the fields that every program has
 abbrev pub keyed_intrinsic : List Keyed
-keyed_intrinsic = (in_port, 9) ∷ (key 0 (codes "out_port"), 9) ∷ (key 0 (codes "drop"), 1) ∷ []
+keyed_intrinsic = (0 ∷ codes "in_port", 9) ∷ (0 ∷ codes "out_port", 9) ∷ (0 ∷ codes "drop", 1) ∷ []
 
 -- the fields by number
 abbrev pub keyed_fields : Source → List Keyed
 keyed_fields s = keyed_intrinsic ++ keyed_from 2 s.headers ++ keyed_declared 1 (metadata s)
 
--- the number of the field with a key, and its width
+-- the number of the field that is stored so, and its width
 abbrev pub number_in : Fields → List ℕ → Option ℕ
-number_in f k = lookup (λ x. bytes_eq k (key_in x)) f.numbers.entries
+number_in f k = lookup (λ x. bytes_eq k (stored x)) f.numbers.entries
 
 abbrev pub width_in : Fields → List ℕ → ℕ
 width_in f k = option_map_or (λ (n : ℕ). unwrap_or (slice_get f.widths.items n) 0) (number_in f k) 0
 
 -- these are the fields, in their order
 pub record HasFields (f : Fields) (fields : List Keyed) : Type 0 where
-  pub numbers : HasNumbers key_in f.numbers.entries (map (λ (x : Keyed). x.0) fields)
+  pub numbers : HasNumbers stored f.numbers.entries (map (λ (x : Keyed). x.0) fields)
   pub widths : f.widths.items ≡ map (λ (x : Keyed). x.1) fields
 
 -- these fields were added

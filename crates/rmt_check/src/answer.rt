@@ -21,6 +21,7 @@ use crate::read_only::read_only;
 use crate::reading::read;
 use crate::same_width::widths_differ;
 use crate::source::Source;
+use crate::tails::tail_range;
 use crate::unknown::unknown_name;
 use crate::wide_sums::wide_arithmetic;
 use crate::widths::{header_size, width_range};
@@ -77,7 +78,7 @@ fn check_tables(alloc: Global, names: &Names<'_>) -> Result<(), ProgramFault>
     refuse(16, Ok(too_many_actions(source)))
 }
 
-/// Checks arguments, the limits on counts, and what has to stand in a text.
+/// Checks arguments, the limits on counts, what has to stand in a text, and tails.
 fn check_counts(alloc: Global, names: &Names<'_>) -> Result<(), ProgramFault>
     ensures { Checks (count_rules names.now) result }
 {
@@ -85,7 +86,8 @@ fn check_counts(alloc: Global, names: &Names<'_>) -> Result<(), ProgramFault>
     refuse(17, Ok(bad_arguments(names)))?;
     refuse(18, Ok(count_limit(source)))?;
     refuse(19, Ok(no_control(source)))?;
-    refuse(20, not_applied(alloc, source))
+    refuse(20, not_applied(alloc, source))?;
+    refuse(21, Ok(tail_range(names)))
 }
 
 /// Checks every rule, in the order of their codes.
@@ -120,7 +122,7 @@ fn check_source(alloc: Global, source: &Source) -> Result<Program, ProgramFault>
 ///
 /// # Errors
 ///
-/// The broken rule of the least code, from 5 to 20, at its earliest place; or want of memory.
+/// The broken rule of the least code, from 5 to 21, at its earliest place; or want of memory.
 pub fn check(alloc: Global, tree: &Tree) -> Result<Program, ProgramFault>
     ensures answers { Answers (source_of tree.now) result }
 {

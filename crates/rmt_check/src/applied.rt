@@ -5,8 +5,8 @@ ghost use Rattle.std.specs.List.{flat_map};
 ghost use Rattle.std.specs.Option.{option_to_list};
 ghost use Rattle.rmt_check.specs.Names as names;
 ghost use Rattle.rmt_check.specs.Names.{is_known};
-ghost use Rattle.rmt_check.specs.Rules.{broken_13, broken_20, earliest, repeated_after, when};
-ghost use Rattle.rmt_check.specs.Seen.{seen_after};
+ghost use Rattle.rmt_check.specs.Rules.{broken_13, broken_20, earliest, when};
+ghost use Rattle.rmt_check.specs.Seen.{seen_after, repeated_after};
 ghost use Rattle.rmt_lexer.specs.declared.fault.ProgramFault.TheVariants.{NoMemory};
 
 use crate::control::nodes_of;

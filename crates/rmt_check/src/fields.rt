@@ -2,7 +2,7 @@
 
 ghost use Rattle.std.specs.Prelude.{◌≡◌, [], ◌∷◌, OnOk, OnErr, IfOk, IfErr};
 ghost use Rattle.std.specs.List.{flat_map};
-ghost use Rattle.rmt_check.specs.Standing.{HasFields, Grows, key_in, keyed_declared, keyed_header, keyed_from, keyed_intrinsic, keyed_fields, number_in, width_in};
+ghost use Rattle.rmt_check.specs.Standing.{HasFields, Grows, stored, keyed_declared, keyed_header, keyed_from, keyed_intrinsic, keyed_fields, number_in, width_in};
 ghost use Rattle.rmt_check.specs.declared.source.MetaText.{MetaText};
 ghost use Rattle.rmt_lexer.specs.declared.fault.ProgramFault.TheVariants.{NoMemory};
 
@@ -41,7 +41,7 @@ impl<'a> Fields<'a> {
 
     /// Adds a field.
     fn add(&mut self, key: FieldKey<'a>, width: u128) -> Result<(), ProgramFault>
-        ensures added { OnOk result (Grows self.old self.new ((key_in key.entry, width) ∷ [])) }
+        ensures added { OnOk result (Grows self.old self.new ((stored key.entry, width) ∷ [])) }
         ensures fault { IfErr result (λ e. e ≡ NoMemory) }
     {
         let number = self.widths.len();
@@ -121,14 +121,14 @@ impl<'a> Fields<'a> {
 
     /// The number of a field.
     pub fn number(&self, key: FieldKey<'_>) -> Option<usize>
-        ensures { result ≡ number_in self.now (key_in key.entry) }
+        ensures { result ≡ number_in self.now (stored key.entry) }
     {
         self.numbers.get(&key).copied()
     }
 
     /// The width of a field, and 0 for a key that is none.
     pub fn width(&self, key: FieldKey<'_>) -> u128
-        ensures { result ≡ width_in self.now (key_in key.entry) }
+        ensures { result ≡ width_in self.now (stored key.entry) }
     {
         match self.number(key) {
             Some(number) => self.widths.get(number).copied().unwrap_or(0),

@@ -2,7 +2,7 @@
 
 ghost use Rattle.std.specs.Prelude.{◌≡◌, map, min, nat_lt, sum};
 ghost use Rattle.rmt_check.specs.Names as words;
-ghost use Rattle.rmt_check.specs.Names.{key_of, width_of};
+ghost use Rattle.rmt_check.specs.Names.{named, width_of};
 ghost use Rattle.rmt_check.specs.Rules.{broken_15, earliest, key_bits, when};
 
 use crate::names::Names;
@@ -22,7 +22,7 @@ pub fn key_fields(table: &TableText) -> &[FieldText]
 
 /// The bits of some fields, and 641 where there are more than 640.
 fn bits_up_to_641(names: &Names<'_>, fields: &[FieldText]) -> u128
-    ensures { result ≡ min (sum (map (λ f. width_of names.now (key_of names.now f)) fields.now)) 641 }
+    ensures { result ≡ min (sum (map (λ f. width_of names.now (named names.now f)) fields.now)) 641 }
 {
     let mut bits: u128 = 0;
     for field in fields {

@@ -3,20 +3,32 @@ ghost use Rattle.rmt_ast.specs.declared.program.Program.{Program};
 ghost use Rattle.rmt_ast.specs.WellFormed.{IsProgram};
 ghost use Rattle.rmt_lexer.specs.declared.token.Token.{Token};
 ghost use Rattle.rmt_lexer.specs.Text.{tokens_of};
+ghost use Rattle.rmt_syntax.specs.declared.tree.Rule.{Rule};
 ghost use Rattle.rmt_syntax.specs.declared.tree.Tree.{Tree};
-ghost use Rattle.rmt_syntax.specs.Trees.{IsText, IsTreeOf, marks};
+ghost use Rattle.rmt_syntax.specs.Trees.{IsOf, IsText, IsTreeOf, marks};
 ghost use Rattle.rmt_check.specs.declared.source.Source.{Source};
+ghost use Rattle.rmt_check.specs.Found.{IsFound};
 ghost use Rattle.rmt_check.specs.Meaning.{program_of, Answers};
+ghost use Rattle.rmt_check.specs.Means.{Means, Outcome};
 ghost use Rattle.rmt_check.specs.Naming.{IsOfText, WordsArePlain};
-ghost use Rattle.rmt_check.specs.Reading.{source_of};
+ghost use Rattle.rmt_check.specs.Reading.{parts, source_of};
 ghost use Rattle.rmt_check.specs.Rules.{fault_of};
 
-use rmt_syntax::laws::{node_parts, token_part};
+use rmt_lexer::laws::tokens_or_fault;
+use rmt_syntax::laws::{node_parts, token_part, tree_or_fault};
 
 /// The program of a source with the parts of a text is well formed, where the source breaks no rule.
 pub fn program_is_well_formed()
     ensures { (s : Source) → IsOfText s → fault_of s ≡ None → IsProgram (program_of s) }
 {}
+
+/// What the reader looks for in the text of a rule is there, in each tree of that rule.
+pub fn parts_are_found()
+    ensures { (r : Rule) (t : Tree) → IsOf r t → IsFound r (parts t) }
+{
+    node_parts();
+    token_part();
+}
 
 /// A source that is read from a tree of the grammar has the parts of a text, where no word of the tree has a dot.
 pub fn source_is_of_text()
@@ -33,4 +45,15 @@ pub fn answer_is_well_formed()
 {
     program_is_well_formed();
     source_is_of_text();
+}
+
+/// Each text has exactly one meaning, however long it is, and a program that it means is well formed.
+pub fn one_meaning()
+    ensures some { (text : List ℕ) → (m : Outcome) × Means text m }
+    ensures alone { (text : List ℕ) (m n : Outcome) → Means text m → Means text n → m ≡ n }
+    ensures formed { (text : List ℕ) (p : Program) → Means text (Ok p) → IsProgram p }
+{
+    tokens_or_fault();
+    tree_or_fault();
+    answer_is_well_formed();
 }

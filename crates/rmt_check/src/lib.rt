@@ -34,10 +34,11 @@ mod repeats;
 mod same_width;
 mod selects;
 mod source;
-#[cfg(test)]
-mod tests;
+mod tails;
+mod text;
 mod unknown;
 mod wide_sums;
 mod widths;
 
 pub use answer::check;
+pub use text::read_program;

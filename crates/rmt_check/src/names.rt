@@ -5,14 +5,14 @@ ghost use Rattle.std.specs.Str.{bytes_eq};
 ghost use Rattle.rmt_check.specs.declared.source.ActionText.{ActionText};
 ghost use Rattle.rmt_check.specs.declared.source.TableText.{TableText};
 ghost use Rattle.rmt_check.specs.Names as words;
-ghost use Rattle.rmt_check.specs.Names.{number_of, field_keys, key_of, width_of, header_names, action_names, table_names, ident_names, is_known, listed, listed_by, owner_number, params_of};
-ghost use Rattle.rmt_check.specs.Standing.{key_in};
+ghost use Rattle.rmt_check.specs.Names.{number_of, field_place, is_field, named, width_of, header_names, action_names, table_names, ident_names, listed, listed_by, owner_of, params_of, selected};
+ghost use Rattle.rmt_check.specs.Standing.{key_in, owner_at};
 ghost use Rattle.rmt_lexer.specs.declared.fault.ProgramFault.TheVariants.{NoMemory};
 
 use crate::fields::{FIRST_HEADER, FieldKey, Fields, INTRINSIC, METADATA};
 use crate::name_lists;
 use crate::numbers::Numbers;
-use crate::source::{ActionText, Declared, FieldText, OwnerText, Source};
+use crate::source::{ActionText, Declared, FieldText, HeaderText, Ident, OwnerText, Source};
 use rmt_bits::sequence::Sequence;
 use rmt_lexer::fault::ProgramFault;
 use std::alloc::Global;
@@ -78,8 +78,9 @@ impl<'a> Names<'a> {
     }
 
     /// The owner that a header is, by its name; for a name that is none, one that has no field.
-    pub fn header_owner(&self, name: &[u8]) -> usize
-        ensures { result ≡ words.header_owner self.now name.now }
+    #[tactic(auto, using(crate::proofs::FieldCodes::owner_header))]
+    fn header_owner(&self, name: &[u8]) -> usize
+        ensures { owner_at result ≡ words.header_owner self.now name.now }
     {
         let headers = self.source.headers.as_slice();
         FIRST_HEADER + self.header(name).unwrap_or(headers.len())
@@ -87,7 +88,7 @@ impl<'a> Names<'a> {
 
     /// The number of a field's owner.
     fn owner(&self, owner: &OwnerText) -> usize
-        ensures { result ≡ owner_number self.now owner.now }
+        ensures { owner_at result ≡ owner_of self.now owner.now }
     {
         match owner {
             OwnerText::Intrinsic => INTRINSIC,
@@ -98,14 +99,22 @@ impl<'a> Names<'a> {
 
     /// The key of a field that is named.
     pub fn key<'b>(&self, field: &'b FieldText) -> FieldKey<'b>
-        ensures { key_in result ≡ key_of self.now field.now }
+        ensures { key_in result ≡ named self.now field.now }
     {
         (self.owner(&field.owner), field.ident.name.as_slice())
     }
 
+    /// The key of a field that a header names as its own.
+    pub fn own_key<'b>(&self, header: &HeaderText, ident: &'b Ident) -> FieldKey<'b>
+        ensures { key_in result ≡ selected self.now header.now ident.now }
+    {
+        let owner = self.header_owner(header.ident.name.as_slice());
+        (owner, ident.name.as_slice())
+    }
+
     /// The number of the field with a key.
     pub fn field(&self, key: FieldKey<'_>) -> Option<usize>
-        ensures { result ≡ number_of (field_keys self.now) (key_in key.entry) }
+        ensures { result ≡ field_place self.now (key_in key.entry) }
     {
         self.fields.number(key)
     }
@@ -119,7 +128,7 @@ impl<'a> Names<'a> {
 
     /// The width of a field that is named, and 0 where there is none.
     pub fn width_of(&self, field: &FieldText) -> u128
-        ensures { result ≡ width_of self.now (key_of self.now field.now) }
+        ensures { result ≡ width_of self.now (named self.now field.now) }
     {
         self.width(self.key(field))
     }
@@ -168,7 +177,7 @@ impl<'a> Names<'a> {
 
     /// Whether there is a field with a key.
     pub fn knows_field(&self, key: FieldKey<'_>) -> bool
-        ensures { result ≡ is_known (field_keys self.now) (key_in key.entry) }
+        ensures { result ≡ is_field self.now (key_in key.entry) }
     {
         self.field(key).is_some()
     }

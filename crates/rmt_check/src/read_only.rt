@@ -2,8 +2,7 @@
 
 ghost use Rattle.std.specs.Prelude.{◌≡◌};
 ghost use Rattle.std.specs.List.{flat_map};
-ghost use Rattle.std.specs.Str.{bytes_eq};
-ghost use Rattle.rmt_check.specs.Names.{in_port, key_of};
+ghost use Rattle.rmt_check.specs.Names.{in_port, named, same_field};
 ghost use Rattle.rmt_check.specs.Rules.{broken_12, earliest, when};
 
 use crate::fields::INTRINSIC;
@@ -12,21 +11,22 @@ use crate::places::{earlier, place_when};
 use crate::source::{AssignText, FieldText};
 use rmt_lexer::place::Place;
 
+#[tactic(auto, using(crate::proofs::FieldCodes::owner_same))]
 fn is_in_port(names: &Names<'_>, field: &FieldText) -> bool
-    ensures { result ≡ bytes_eq (key_of names.now field.now) in_port }
+    ensures { result ≡ same_field (named names.now field.now) in_port }
 {
     let (owner, name) = names.key(field);
     owner == INTRINSIC && name == b"in_port".as_slice()
 }
 
 fn assigns_in_port(names: &Names<'_>, assign: &AssignText) -> Option<Place>
-    ensures { result ≡ earliest (when (bytes_eq (key_of names.now assign.now.dest) in_port) assign.now.dest.place) }
+    ensures { result ≡ earliest (when (same_field (named names.now assign.now.dest) in_port) assign.now.dest.place) }
 {
     place_when(is_in_port(names, &assign.dest), assign.dest.place)
 }
 
 fn among_assigns(names: &Names<'_>, assigns: &[AssignText]) -> Option<Place>
-    ensures { result ≡ earliest (flat_map (λ x. when (bytes_eq (key_of names.now x.dest) in_port) x.dest.place) assigns.now) }
+    ensures { result ≡ earliest (flat_map (λ x. when (same_field (named names.now x.dest) in_port) x.dest.place) assigns.now) }
 {
     let mut first = None;
     for assign in assigns {

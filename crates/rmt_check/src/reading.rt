@@ -1,11 +1,11 @@
 //! Reads the parts of a program's text from its tree.
 
-ghost use Rattle.std.specs.Prelude.{◌≡◌, IfOk, IfErr, None, []};
+ghost use Rattle.std.specs.Prelude.{◌≡◌, IfOk, IfErr, None, [], map};
 ghost use Rattle.rmt_lexer.specs.declared.fault.ProgramFault.TheVariants.{NoMemory};
 ghost use Rattle.rmt_syntax.specs.declared.tree.Tree.TheViews.{out-Tree};
-ghost use Rattle.rmt_check.specs.Reading.{parts, at_token, with_block, control_in, control_among, end_in, end_among, source_of};
+ghost use Rattle.rmt_check.specs.Reading.{parts, at_token, added, all_added, control_in, control_among, end_in, end_among, source_of};
 
-use crate::reading_control::{first_block, push_block};
+use crate::reading_control::push_nodes;
 use crate::reading_parts::all;
 use crate::reading_words::{nowhere, place_of};
 use crate::source::{NodeText, Source};
@@ -16,26 +16,25 @@ use rmt_lexer::token::TokenKind;
 use rmt_syntax::tree::{Rule, Tree};
 use std::alloc::Global;
 
-/// How deep blocks are nested at most.
-const DEPTH: u8 = 32;
-
 /// The parts of a tree; a token has none.
 fn parts(tree: &Tree) -> &[Tree]
     ensures { result.now ≡ parts tree.now }
 {
     match tree {
         Tree::One(_) => &[],
-        Tree::Many { parts, .. } => parts,
+        Tree::Many { parts, .. } => parts.as_slice(),
     }
 }
 
-/// The nodes of a control that has this block.
-fn nodes_of(alloc: Global, block: &[Tree]) -> Result<Sequence<NodeText>, ProgramFault>
-    ensures nodes { IfOk result (λ nodes. nodes ≡ with_block 32 [] None block.now) }
+/// The nodes of a control of these parts.
+fn nodes_of(alloc: Global, parts: &[Tree]) -> Result<Sequence<NodeText>, ProgramFault>
+    ensures nodes { IfOk result (λ nodes. nodes ≡ all_added (map added parts.now) None []) }
     ensures err { IfErr result (λ fault. fault ≡ NoMemory) }
 {
     let mut nodes = Sequence::new(alloc);
-    push_block(alloc, DEPTH, None, &mut nodes, block)?;
+    for part in parts {
+        push_nodes(alloc, None, &mut nodes, part)?;
+    }
     Ok(nodes)
 }
 
@@ -44,16 +43,12 @@ fn control_at(alloc: Global, tree: &Tree) -> Result<Option<Sequence<NodeText>>, 
     ensures control { IfOk result (λ control. control ≡ control_in (out-Tree tree.now)) }
     ensures err { IfErr result (λ fault. fault ≡ NoMemory) }
 {
-    let Tree::Many {
-        rule: Rule::Control,
-        parts,
-    } = tree
-    else {
-        return Ok(None);
-    };
-    match first_block(parts) {
-        Some(block) => Ok(Some(nodes_of(alloc, block)?)),
-        None => Ok(None),
+    match tree {
+        Tree::Many {
+            rule: Rule::Control,
+            parts,
+        } => Ok(Some(nodes_of(alloc, parts.as_slice())?)),
+        _ => Ok(None),
     }
 }
 

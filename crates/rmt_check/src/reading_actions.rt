@@ -1,19 +1,19 @@
 //! Reads actions.
 
-ghost use Rattle.std.specs.Prelude.{◌≡◌, IfOk, IfErr, map, zip};
+ghost use Rattle.std.specs.Prelude.{◌≡◌, IfOk, IfErr};
 ghost use Rattle.rmt_lexer.specs.declared.fault.ProgramFault.TheVariants.{NoMemory};
 ghost use Rattle.rmt_syntax.specs.declared.tree.Tree.TheViews.{out-Tree};
-ghost use Rattle.rmt_check.specs.Reading.{first, at_token, leaf_part, leaf_in, op_of, sign_of, expr_of, expr_in, assign_of, action_of, action_at};
+ghost use Rattle.rmt_check.specs.Reading.{first, at_token, first_at, leaf_part, leaf_at, op_of, sign_of, operation_at, expr_of, expr_in, assign_at, action_of, action_at};
 
-use crate::reading_parts::{Part, all, first};
-use crate::reading_words::{name_among, no_number, place_of};
+use crate::placed::beyond;
+use crate::reading_parts::{Part, Run, all, each, first};
+use crate::reading_words::{name_among, no_number, place_at, place_of};
 use crate::source::{ActionText, AssignText, ExprText, FieldText, Ident, LeafText, Number, Sign};
 use rmt_ast::program::Op;
-use rmt_bits::sequence::Sequence;
 use rmt_lexer::fault::ProgramFault;
 use rmt_syntax::terminal::{Terminal, terminal_of};
 use rmt_syntax::tree::{Rule, Tree};
-use std::alloc::{AllocError, Global};
+use std::alloc::Global;
 
 /// The operand that a part of a leaf is, if any.
 fn leaf_part(alloc: Global, tree: &Tree) -> Result<Option<LeafText>, ProgramFault>
@@ -46,14 +46,14 @@ fn first_leaf(alloc: Global, trees: &[Tree]) -> Result<Option<LeafText>, Program
 }
 
 impl Part for LeafText {
-    ghost seen = { λ t. leaf_in (out-Tree t) };
+    ghost seen = { leaf_at };
 
     fn read(alloc: Global, tree: &Tree) -> Result<Option<LeafText>, ProgramFault> {
         match tree {
             Tree::Many {
                 rule: Rule::Leaf,
                 parts,
-            } => first_leaf(alloc, parts),
+            } => first_leaf(alloc, parts.as_slice()),
             _ => Ok(None),
         }
     }
@@ -90,24 +90,50 @@ impl Part for Sign {
     }
 }
 
-/// What these operands are together: the first, and the second where there is an operator.
-fn expr_of(sign: Option<Sign>, leaves: Vec<LeafText>) -> ExprText
-    ensures { result ≡ expr_of sign leaves.items }
+/// The operator and the operand that the first two trees are.
+fn operation(alloc: Global, trees: &[Tree]) -> Result<Option<(Sign, LeafText)>, ProgramFault>
+    ensures operation { IfOk result (λ operation. operation ≡ operation_at trees.now) }
+    ensures err { IfErr result (λ fault. fault ≡ NoMemory) }
 {
-    let mut leaves = leaves.into_iter();
-    let Some(left) = leaves.next() else {
-        return ExprText {
-            left: LeafText::Number(no_number()),
-            right: None,
-        };
+    let [first, second, ..] = trees else {
+        return Ok(None);
     };
-    match (sign, leaves.next()) {
-        (Some(sign), Some(leaf)) => ExprText {
-            left,
-            right: Some((sign, leaf)),
-        },
-        _ => ExprText { left, right: None },
+    let Some(sign) = Sign::read(alloc, first)? else {
+        return Ok(None);
+    };
+    match LeafText::read(alloc, second)? {
+        Some(leaf) => Ok(Some((sign, leaf))),
+        None => Ok(None),
     }
+}
+
+/// The first operator with the operand behind it.
+#[tactic(auto, using(crate::proofs::ReadingLaws::places))]
+fn first_operation(alloc: Global, trees: &[Tree]) -> Result<Option<(Sign, LeafText)>, ProgramFault>
+    ensures operation { IfOk result (λ operation. operation ≡ first_at operation_at trees.now) }
+    ensures err { IfErr result (λ fault. fault ≡ NoMemory) }
+{
+    for at in 0..trees.len() {
+        if let Some(operation) = operation(alloc, beyond(at, trees))? {
+            return Ok(Some(operation));
+        }
+    }
+    Ok(None)
+}
+
+/// What is assigned, of these parts.
+fn expr_of(alloc: Global, trees: &[Tree]) -> Result<ExprText, ProgramFault>
+    ensures expr { IfOk result (λ expr. expr ≡ expr_of trees.now) }
+    ensures err { IfErr result (λ fault. fault ≡ NoMemory) }
+{
+    let left = match first::<LeafText>(alloc, trees)? {
+        Some(left) => left,
+        None => LeafText::Number(no_number()),
+    };
+    Ok(ExprText {
+        left,
+        right: first_operation(alloc, trees)?,
+    })
 }
 
 impl Part for ExprText {
@@ -118,29 +144,30 @@ impl Part for ExprText {
             Tree::Many {
                 rule: Rule::Expr,
                 parts,
-            } => {
-                let sign = first::<Sign>(alloc, parts)?;
-                let leaves = all::<LeafText>(alloc, parts)?;
-                Ok(Some(expr_of(sign, leaves.into_vec())))
-            }
+            } => Ok(Some(expr_of(alloc, parts.as_slice())?)),
             _ => Ok(None),
         }
     }
 }
 
-/// Fields beside what is assigned to them, as far as both go.
-fn beside(
-    alloc: Global,
-    fields: Vec<FieldText>,
-    exprs: Vec<ExprText>,
-) -> Result<Vec<AssignText>, AllocError>
-    ensures { IfOk result (λ all. all.items ≡ map assign_of (zip fields.items exprs.items)) }
-{
-    fields
-        .into_iter()
-        .zip(exprs)
-        .map(|(dest, expr)| AssignText { dest, expr })
-        .collect(alloc)
+impl Run for AssignText {
+    ghost seen_at = { assign_at };
+
+    fn read_at(alloc: Global, trees: &[Tree]) -> Result<Option<AssignText>, ProgramFault> {
+        let [field, sign, expr, ..] = trees else {
+            return Ok(None);
+        };
+        let Some(dest) = FieldText::read(alloc, field)? else {
+            return Ok(None);
+        };
+        if place_at(Terminal::Assign, sign).is_none() {
+            return Ok(None);
+        }
+        match ExprText::read(alloc, expr)? {
+            Some(expr) => Ok(Some(AssignText { dest, expr })),
+            None => Ok(None),
+        }
+    }
 }
 
 /// An action of these parts.
@@ -148,13 +175,10 @@ fn action_of(alloc: Global, trees: &[Tree]) -> Result<ActionText, ProgramFault>
     ensures action { IfOk result (λ action. action ≡ action_of trees.now) }
     ensures err { IfErr result (λ fault. fault ≡ NoMemory) }
 {
-    let fields = all::<FieldText>(alloc, trees)?;
-    let exprs = all::<ExprText>(alloc, trees)?;
-    let assigns = beside(alloc, fields.into_vec(), exprs.into_vec())?;
     Ok(ActionText {
         ident: name_among(alloc, trees)?,
         params: all(alloc, trees)?,
-        assigns: Sequence::from_vec(assigns),
+        assigns: each(alloc, trees)?,
     })
 }
 
@@ -166,7 +190,7 @@ impl Part for ActionText {
             Tree::Many {
                 rule: Rule::Action,
                 parts,
-            } => Ok(Some(action_of(alloc, parts)?)),
+            } => Ok(Some(action_of(alloc, parts.as_slice())?)),
             _ => Ok(None),
         }
     }

@@ -1,14 +1,14 @@
 //! Reads the control.
 
-ghost use Rattle.std.specs.Prelude.{◌≡◌, IfOk, IfErr, OnOk, option_map};
+ghost use Rattle.std.specs.Prelude.{◌≡◌, IfOk, IfErr, OnOk, Some};
 ghost use Rattle.rmt_lexer.specs.declared.fault.ProgramFault.TheVariants.{NoMemory};
 ghost use Rattle.rmt_syntax.specs.declared.tree.Tree.TheViews.{out-Tree};
 ghost use Rattle.rmt_syntax.specs.Grammar.{terminal_of};
-ghost use Rattle.rmt_check.specs.Reading.{first, at_token, arm_if, arm_in, if_of, what_of, node_of, block_in, arm_block_in, statement_in, with_statement, with_block};
+ghost use Rattle.rmt_check.specs.Reading.{first, at_token, arm_if, arm_in, what_of, node_of, is_arm, is_statement, added};
 
 use crate::reading_parts::{Part, all, first};
-use crate::reading_words::{ident_of, name_among, no_number, place_among};
-use crate::source::{ArmText, FieldText, NodeText, Number, Under, WhatText};
+use crate::reading_words::{first_number_behind, ident_of, name_among, no_number, place_among};
+use crate::source::{ArmText, FieldText, NodeText, Under, WhatText};
 use rmt_bits::sequence::Sequence;
 use rmt_lexer::fault::ProgramFault;
 use rmt_syntax::terminal::{Terminal, terminal_of};
@@ -52,32 +52,20 @@ impl Part for ArmText {
             Tree::Many {
                 rule: Rule::Arm,
                 parts,
-            } => first_arm(alloc, parts),
+            } => first_arm(alloc, parts.as_slice()),
             _ => Ok(None),
         }
     }
 }
 
-/// An `if` of these numbers.
-fn if_of(field: FieldText, numbers: &[Number]) -> WhatText
-    ensures { result ≡ if_of field numbers.now }
+/// An `if` of these parts, on a field.
+fn if_of(field: FieldText, trees: &[Tree]) -> WhatText
+    ensures { result ≡ what_of (Some field) trees.now }
 {
-    match numbers {
-        [] => WhatText::If {
-            field,
-            mask: None,
-            value: no_number(),
-        },
-        [value] => WhatText::If {
-            field,
-            mask: None,
-            value: *value,
-        },
-        [mask, value, ..] => WhatText::If {
-            field,
-            mask: Some(*mask),
-            value: *value,
-        },
+    WhatText::If {
+        field,
+        mask: first_number_behind(Terminal::Ampersand, trees),
+        value: first_number_behind(Terminal::Equal, trees).unwrap_or(no_number()),
     }
 }
 
@@ -91,7 +79,7 @@ fn what_of(
     ensures err { IfErr result (λ fault. fault ≡ NoMemory) }
 {
     match field {
-        Some(field) => Ok(if_of(field, all::<Number>(alloc, trees)?.as_slice())),
+        Some(field) => Ok(if_of(field, trees)),
         None => Ok(WhatText::Apply {
             table: name_among(alloc, trees)?,
             arms: all(alloc, trees)?,
@@ -112,102 +100,60 @@ fn node_of(alloc: Global, under: Option<Under>, trees: &[Tree]) -> Result<NodeTe
     })
 }
 
-/// The parts of a block.
-fn block_at(tree: &Tree) -> Option<&[Tree]>
-    ensures { option_map (λ b. b.now) result ≡ block_in (out-Tree tree.now) }
-{
-    match tree {
-        Tree::Many {
-            rule: Rule::Block,
-            parts,
-        } => Some(parts),
-        _ => None,
-    }
-}
-
-/// The parts of the first block among some trees.
-pub fn first_block(trees: &[Tree]) -> Option<&[Tree]>
-    ensures { option_map (λ b. b.now) result ≡ first (λ t. block_in (out-Tree t)) trees.now }
-{
-    for tree in trees {
-        if let Some(block) = block_at(tree) {
-            return Some(block);
-        }
-    }
-    None
-}
-
-/// The parts of the block of an arm, or of a block that is an arm of an `if` itself.
-fn arm_block_at(tree: &Tree) -> Option<&[Tree]>
-    ensures { option_map (λ b. b.now) result ≡ arm_block_in (out-Tree tree.now) }
+/// Whether a part of a statement is an arm, or the block of an `if`.
+fn is_arm(tree: &Tree) -> bool
+    ensures { result ≡ is_arm (out-Tree tree.now) }
 {
     match tree {
         Tree::Many {
             rule: Rule::Arm,
-            parts,
-        } => first_block(parts),
-        _ => block_at(tree),
-    }
-}
-
-/// The parts of a statement.
-fn statement_at(tree: &Tree) -> Option<&[Tree]>
-    ensures { option_map (λ b. b.now) result ≡ statement_in (out-Tree tree.now) }
-{
-    match tree {
+            ..
+        } => true,
         Tree::Many {
-            rule: Rule::Stmt,
-            parts,
-        } => Some(parts),
-        _ => None,
+            rule: Rule::Block,
+            ..
+        } => true,
+        _ => false,
     }
 }
 
-/// Adds the nodes of a statement: itself, and behind it those of its arms, in which blocks are nested at most `depth`
-/// deep.
-#[cycle(nodes)]
-#[tactic(auto, using(crate::proofs::ReadingLaws::with_block_laws))]
-fn push_statement(
+/// Whether a rule is that of statements.
+fn is_statement(rule: Rule) -> bool
+    ensures { result ≡ is_statement rule }
+{
+    match rule {
+        Rule::Stmt => true,
+        _ => false,
+    }
+}
+
+/// Adds the nodes of a part of the control: of a statement itself, and behind it those of its arms.
+#[tactic(auto, using(crate::proofs::ReadingLaws::added_laws))]
+pub fn push_nodes(
     alloc: Global,
-    depth: u8,
     under: Option<Under>,
     nodes: &mut Sequence<NodeText>,
-    trees: &[Tree],
+    tree: &Tree,
 ) -> Result<(), ProgramFault>
-    ensures nodes { OnOk result (nodes.new ≡ with_statement (with_block depth) under nodes.old trees.now) }
+    ensures nodes { OnOk result (nodes.new ≡ added tree.now under nodes.old) }
     ensures err { IfErr result (λ fault. fault ≡ NoMemory) }
 {
-    let parent = nodes.len();
-    nodes.push(node_of(alloc, under, trees)?)?;
-    let mut arm = 0;
-    for tree in trees {
-        if let Some(block) = arm_block_at(tree) {
-            push_block(alloc, depth, Some(Under { parent, arm }), nodes, block)?;
-            arm += 1;
+    let Tree::Many { rule, parts } = tree else {
+        return Ok(());
+    };
+    if !is_statement(*rule) {
+        for part in parts.as_slice() {
+            push_nodes(alloc, under, nodes, part)?;
         }
-    }
-    Ok(())
-}
-
-/// Adds the nodes of a block, where blocks are nested at most `depth` deep.
-#[cycle(nodes)]
-#[tactic(auto, using(crate::proofs::ReadingLaws::with_block_laws))]
-pub fn push_block(
-    alloc: Global,
-    depth: u8,
-    under: Option<Under>,
-    nodes: &mut Sequence<NodeText>,
-    trees: &[Tree],
-) -> Result<(), ProgramFault>
-    ensures nodes { OnOk result (nodes.new ≡ with_block depth nodes.old under trees.now) }
-    ensures err { IfErr result (λ fault. fault ≡ NoMemory) }
-{
-    if depth == 0 {
         return Ok(());
     }
-    for tree in trees {
-        if let Some(statement) = statement_at(tree) {
-            push_statement(alloc, depth - 1, under, nodes, statement)?;
+    let parent = nodes.len();
+    nodes.push(node_of(alloc, under, parts.as_slice())?)?;
+    let mut arm = 0;
+    for part in parts.as_slice() {
+        if is_arm(part) {
+            push_nodes(alloc, Some(Under { parent, arm }), nodes, part)?;
+            arm += 1;
         }
     }
     Ok(())

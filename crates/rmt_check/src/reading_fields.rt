@@ -98,8 +98,8 @@ impl Part for FieldText {
                 rule: Rule::Field,
                 parts,
             } => {
-                let header = header_in(alloc, parts)?;
-                let words = words(alloc, parts)?;
+                let header = header_in(alloc, parts.as_slice())?;
+                let words = words(alloc, parts.as_slice())?;
                 Ok(Some(field_of(alloc, header, &words)?))
             }
             _ => Ok(None),

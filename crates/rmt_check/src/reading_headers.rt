@@ -1,15 +1,18 @@
 //! Reads headers and metadata.
 
-ghost use Rattle.std.specs.Prelude.{◌≡◌, IfOk, IfErr, drop};
+ghost use Rattle.std.specs.Prelude.{◌≡◌, IfOk, IfErr};
 ghost use Rattle.rmt_lexer.specs.declared.fault.ProgramFault.TheVariants.{NoMemory};
 ghost use Rattle.rmt_syntax.specs.declared.tree.Tree.TheViews.{out-Tree};
-ghost use Rattle.rmt_check.specs.Reading.{first, at_token, target_if, target_in, target_among, value_of, value_in, case_at, next_among, header_of, header_at, meta_at};
+ghost use Rattle.rmt_check.specs.Reading.{first, at_token, target_if, target_in, target_among, value_of, value_in, case_at, next_among, name_at, number_at, place_at, tail_at, tail_of, header_of, header_at, meta_at};
 ghost use Rattle.rmt_syntax.specs.Grammar.{terminal_of};
+ghost use Rattle.rmt_syntax.specs.declared.terminal.Terminal.TheVariants.{Tail};
 
-use crate::reading_parts::{Part, all, first};
-use crate::reading_words::{declared_among, ident_of, name_among, no_number, place_among};
-use crate::source::{CaseText, HeaderText, Ident, MetaText, Number, TargetText, ValueText};
-use rmt_bits::sequence::Sequence;
+use crate::reading_parts::{Part, Run, all, each, first, first_at};
+use crate::reading_words::{
+    first_number_behind, ident_of, name_among, no_name, number_among, number_of, place_among,
+    place_at,
+};
+use crate::source::{CaseText, HeaderText, Ident, MetaText, TailText, TargetText, ValueText};
 use rmt_lexer::fault::ProgramFault;
 use rmt_syntax::terminal::{Terminal, terminal_of};
 use rmt_syntax::tree::{Rule, Tree};
@@ -52,7 +55,7 @@ impl Part for TargetText {
             Tree::Many {
                 rule: Rule::Target,
                 parts,
-            } => first_target(alloc, parts),
+            } => first_target(alloc, parts.as_slice()),
             _ => Ok(None),
         }
     }
@@ -65,28 +68,19 @@ fn target_among(alloc: Global, trees: &[Tree]) -> Result<TargetText, ProgramFaul
 {
     match first::<TargetText>(alloc, trees)? {
         Some(target) => Ok(target),
-        None => Ok(TargetText::Reject),
+        None => Ok(TargetText::Header(no_name(alloc))),
     }
 }
 
-/// A value of these numbers.
-fn value_of(numbers: &[Number]) -> ValueText
-    ensures { result ≡ value_of numbers.now }
+/// A value of these parts.
+fn value_of(alloc: Global, trees: &[Tree]) -> Result<ValueText, ProgramFault>
+    ensures value { IfOk result (λ value. value ≡ value_of trees.now) }
+    ensures err { IfErr result (λ fault. fault ≡ NoMemory) }
 {
-    match numbers {
-        [] => ValueText {
-            value: no_number(),
-            mask: None,
-        },
-        [value] => ValueText {
-            value: *value,
-            mask: None,
-        },
-        [value, mask, ..] => ValueText {
-            value: *value,
-            mask: Some(*mask),
-        },
-    }
+    Ok(ValueText {
+        value: number_among(alloc, trees)?,
+        mask: first_number_behind(Terminal::Ampersand, trees),
+    })
 }
 
 impl Part for ValueText {
@@ -97,7 +91,7 @@ impl Part for ValueText {
             Tree::Many {
                 rule: Rule::Value,
                 parts,
-            } => Ok(Some(value_of(all::<Number>(alloc, parts)?.as_slice()))),
+            } => Ok(Some(value_of(alloc, parts.as_slice())?)),
             _ => Ok(None),
         }
     }
@@ -112,8 +106,8 @@ impl Part for CaseText {
                 rule: Rule::Case,
                 parts,
             } => Ok(Some(CaseText {
-                values: all(alloc, parts)?,
-                target: target_among(alloc, parts)?,
+                values: all(alloc, parts.as_slice())?,
+                target: target_among(alloc, parts.as_slice())?,
             })),
             _ => Ok(None),
         }
@@ -130,21 +124,52 @@ fn next_among(trees: &[Tree]) -> &[Tree]
             parts,
         } = tree
         {
-            return parts;
+            return parts.as_slice();
         }
     }
     &[]
 }
 
-/// The names behind the first one.
-fn behind_first(names: Sequence<Ident>) -> Sequence<Ident>
-    ensures { result ≡ drop 1 names }
+/// A tail of the word, the name and the numbers that these trees are.
+fn tail_of(
+    alloc: Global,
+    word: &Tree,
+    name: &Tree,
+    unit: &Tree,
+    base: &Tree,
+) -> Result<Option<TailText>, ProgramFault>
+    ensures tail { IfOk result (λ tail. tail ≡ tail_of (place_at Tail word.now) (name_at name.now) (number_at unit.now) (number_at base.now)) }
+    ensures err { IfErr result (λ fault. fault ≡ NoMemory) }
 {
-    let mut names = names.into_vec();
-    if !names.is_empty() {
-        names.remove(0);
+    let Some(place) = place_at(Terminal::Tail, word) else {
+        return Ok(None);
+    };
+    let Some(field) = Ident::read(alloc, name)? else {
+        return Ok(None);
+    };
+    let Some(unit) = number_of(unit) else {
+        return Ok(None);
+    };
+    match number_of(base) {
+        Some(base) => Ok(Some(TailText {
+            place,
+            field,
+            unit,
+            base,
+        })),
+        None => Ok(None),
     }
-    Sequence::from_vec(names)
+}
+
+impl Run for TailText {
+    ghost seen_at = { tail_at };
+
+    fn read_at(alloc: Global, trees: &[Tree]) -> Result<Option<TailText>, ProgramFault> {
+        match trees {
+            [word, name, _, unit, _, base, ..] => tail_of(alloc, word, name, unit, base),
+            _ => Ok(None),
+        }
+    }
 }
 
 /// A header of these parts.
@@ -152,11 +177,11 @@ fn header_of(alloc: Global, trees: &[Tree]) -> Result<HeaderText, ProgramFault>
     ensures header { IfOk result (λ header. header ≡ header_of trees.now) }
     ensures err { IfErr result (λ fault. fault ≡ NoMemory) }
 {
-    let fields = behind_first(all(alloc, trees)?);
     let next = next_among(trees);
     Ok(HeaderText {
         ident: name_among(alloc, trees)?,
-        fields: declared_among(alloc, fields, trees)?,
+        fields: each(alloc, trees)?,
+        tail: first_at(alloc, trees)?,
         select: all(alloc, next)?,
         cases: all(alloc, next)?,
         other: target_among(alloc, next)?,
@@ -171,7 +196,7 @@ impl Part for HeaderText {
             Tree::Many {
                 rule: Rule::Header,
                 parts,
-            } => Ok(Some(header_of(alloc, parts)?)),
+            } => Ok(Some(header_of(alloc, parts.as_slice())?)),
             _ => Ok(None),
         }
     }
@@ -186,8 +211,8 @@ impl Part for MetaText {
                 rule: Rule::Meta,
                 parts,
             } => Ok(Some(MetaText {
-                place: place_among(parts),
-                fields: declared_among(alloc, all(alloc, parts)?, parts)?,
+                place: place_among(parts.as_slice()),
+                fields: each(alloc, parts.as_slice())?,
             })),
             _ => Ok(None),
         }

@@ -4,13 +4,12 @@ ghost use Rattle.std.specs.Prelude.{◌≡◌, IfOk, IfErr, unwrap_or, false};
 ghost use Rattle.rmt_lexer.specs.declared.fault.ProgramFault.TheVariants.{NoMemory};
 ghost use Rattle.rmt_syntax.specs.declared.tree.Tree.TheViews.{out-Tree};
 ghost use Rattle.rmt_syntax.specs.Grammar.{terminal_of};
-ghost use Rattle.rmt_check.specs.Reading.{at_token, kind_of, kind_among, counted_if, counted_among, key_of, key_in, second_name, table_of, table_at};
+ghost use Rattle.rmt_check.specs.Reading.{at_token, kind_of, kind_among, counted_if, counted_among, key_of, key_in, table_of, table_at};
 
 use crate::reading_parts::{Part, all, first};
-use crate::reading_words::{name_among, no_name, number_among};
-use crate::source::{Ident, KeyText, TableText};
+use crate::reading_words::{first_name_behind, name_among, number_among};
+use crate::source::{KeyText, TableText};
 use rmt_ast::program::Kind;
-use rmt_bits::sequence::Sequence;
 use rmt_lexer::fault::ProgramFault;
 use rmt_syntax::terminal::{Terminal, terminal_of};
 use rmt_syntax::tree::{Rule, Tree};
@@ -87,19 +86,9 @@ impl Part for KeyText {
             Tree::Many {
                 rule: Rule::Key,
                 parts,
-            } => Ok(Some(key_of(alloc, parts)?)),
+            } => Ok(Some(key_of(alloc, parts.as_slice())?)),
             _ => Ok(None),
         }
-    }
-}
-
-/// The second of some names.
-fn second_name(alloc: Global, names: Sequence<Ident>) -> Ident
-    ensures { result ≡ second_name names }
-{
-    match names.into_vec().into_iter().nth(1) {
-        Some(ident) => ident,
-        None => no_name(alloc),
     }
 }
 
@@ -111,7 +100,7 @@ fn table_of(alloc: Global, trees: &[Tree]) -> Result<TableText, ProgramFault>
     Ok(TableText {
         ident: name_among(alloc, trees)?,
         key: first(alloc, trees)?,
-        default: second_name(alloc, all(alloc, trees)?),
+        default: first_name_behind(alloc, Terminal::Default, trees)?,
         args: all(alloc, trees)?,
     })
 }
@@ -124,7 +113,7 @@ impl Part for TableText {
             Tree::Many {
                 rule: Rule::Table,
                 parts,
-            } => Ok(Some(table_of(alloc, parts)?)),
+            } => Ok(Some(table_of(alloc, parts.as_slice())?)),
             _ => Ok(None),
         }
     }

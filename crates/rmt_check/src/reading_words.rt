@@ -1,19 +1,19 @@
 //! Reads names, numbers and places.
 
-ghost use Rattle.std.specs.Prelude.{◌≡◌, IfOk, IfErr, map, zip};
+ghost use Rattle.std.specs.Prelude.{◌≡◌, IfOk, IfErr, unwrap_or};
 ghost use Rattle.rmt_lexer.specs.declared.fault.ProgramFault.TheVariants.{NoMemory};
-ghost use Rattle.rmt_check.specs.Reading.{name_at, number_at, place_of, ident_of, nowhere, no_name, no_number, name_among, number_among, place_among, param_at, declared, declared_among};
+ghost use Rattle.rmt_check.specs.Reading.{name_at, number_at, place_at, place_of, ident_of, nowhere, no_name, no_number, name_among, number_among, place_among, param_at, declared_at, first_at, name_behind, number_behind};
 
-use crate::reading_parts::{Part, all, first};
+use crate::placed::beyond;
+use crate::reading_parts::{Part, Run, first};
 use crate::source::{Declared, Ident, Number};
 use rmt_ast::name::Name;
-use rmt_bits::sequence::Sequence;
 use rmt_lexer::fault::ProgramFault;
 use rmt_lexer::place::Place;
 use rmt_lexer::token::{Token, TokenKind};
-use rmt_syntax::terminal::{Terminal, terminal_of};
+use rmt_syntax::terminal::{Terminal, is_same, terminal_of};
 use rmt_syntax::tree::{Rule, Tree};
-use std::alloc::{AllocError, Global};
+use std::alloc::Global;
 
 /// The place of a token.
 pub fn place_of(token: &Token) -> Place
@@ -99,16 +99,7 @@ impl Part for Number {
     ghost seen = { number_at };
 
     fn read(_alloc: Global, tree: &Tree) -> Result<Option<Number>, ProgramFault> {
-        let Tree::One(token) = tree else {
-            return Ok(None);
-        };
-        match token.what {
-            TokenKind::Number(value) => Ok(Some(Number {
-                place: place_of(token),
-                value,
-            })),
-            _ => Ok(None),
-        }
+        Ok(number_of(tree))
     }
 }
 
@@ -154,33 +145,116 @@ pub fn number_among(alloc: Global, trees: &[Tree]) -> Result<Number, ProgramFaul
     }
 }
 
-/// Names beside widths, as far as both go.
-fn beside(
-    alloc: Global,
-    idents: Vec<Ident>,
-    widths: Vec<Number>,
-) -> Result<Vec<Declared>, AllocError>
-    ensures { IfOk result (λ all. all.items ≡ map declared (zip idents.items widths.items)) }
+/// The place of a tree that is a token of a kind.
+pub fn place_at(wanted: Terminal, tree: &Tree) -> Option<Place>
+    ensures { result ≡ place_at wanted tree.now }
 {
-    idents
-        .into_iter()
-        .zip(widths)
-        .map(|(ident, width)| Declared { ident, width })
-        .collect(alloc)
+    let Tree::One(token) = tree else {
+        return None;
+    };
+    if is_same(wanted, terminal_of(token)) {
+        Some(place_of(token))
+    } else {
+        None
+    }
 }
 
-/// Names with widths: the n-th name with the n-th number among some trees.
-pub fn declared_among(
+/// The name that the second tree is, where the first is a token of a kind.
+fn name_behind(
     alloc: Global,
-    idents: Sequence<Ident>,
+    wanted: Terminal,
     trees: &[Tree],
-) -> Result<Sequence<Declared>, ProgramFault>
-    ensures declared { IfOk result (λ declared. declared ≡ declared_among idents trees.now) }
+) -> Result<Option<Ident>, ProgramFault>
+    ensures name { IfOk result (λ name. name ≡ name_behind wanted trees.now) }
     ensures err { IfErr result (λ fault. fault ≡ NoMemory) }
 {
-    let widths = all::<Number>(alloc, trees)?;
-    let declared = beside(alloc, idents.into_vec(), widths.into_vec())?;
-    Ok(Sequence::from_vec(declared))
+    let [first, second, ..] = trees else {
+        return Ok(None);
+    };
+    match place_at(wanted, first) {
+        Some(_) => Ident::read(alloc, second),
+        None => Ok(None),
+    }
+}
+
+/// The first name behind a token of a kind.
+#[tactic(auto, using(crate::proofs::ReadingLaws::places))]
+pub fn first_name_behind(
+    alloc: Global,
+    wanted: Terminal,
+    trees: &[Tree],
+) -> Result<Ident, ProgramFault>
+    ensures name { IfOk result (λ name. name ≡ unwrap_or (first_at (name_behind wanted) trees.now) no_name) }
+    ensures err { IfErr result (λ fault. fault ≡ NoMemory) }
+{
+    for at in 0..trees.len() {
+        if let Some(name) = name_behind(alloc, wanted, beyond(at, trees))? {
+            return Ok(name);
+        }
+    }
+    Ok(no_name(alloc))
+}
+
+/// The number that a tree is, if it is one.
+pub fn number_of(tree: &Tree) -> Option<Number>
+    ensures { result ≡ number_at tree.now }
+{
+    let Tree::One(token) = tree else {
+        return None;
+    };
+    match token.what {
+        TokenKind::Number(value) => Some(Number {
+            place: place_of(token),
+            value,
+        }),
+        _ => None,
+    }
+}
+
+/// The number that the second tree is, where the first is a token of a kind.
+fn number_behind(wanted: Terminal, trees: &[Tree]) -> Option<Number>
+    ensures { result ≡ number_behind wanted trees.now }
+{
+    let [first, second, ..] = trees else {
+        return None;
+    };
+    match place_at(wanted, first) {
+        Some(_) => number_of(second),
+        None => None,
+    }
+}
+
+/// The first number behind a token of a kind.
+#[tactic(auto, using(crate::proofs::ReadingLaws::places))]
+pub fn first_number_behind(wanted: Terminal, trees: &[Tree]) -> Option<Number>
+    ensures { result ≡ first_at (number_behind wanted) trees.now }
+{
+    for at in 0..trees.len() {
+        if let Some(number) = number_behind(wanted, beyond(at, trees)) {
+            return Some(number);
+        }
+    }
+    None
+}
+
+impl Run for Declared {
+    ghost seen_at = { declared_at };
+
+    fn read_at(alloc: Global, trees: &[Tree]) -> Result<Option<Declared>, ProgramFault> {
+        let [name, colon, width, ..] = trees else {
+            return Ok(None);
+        };
+        let Some(ident) = Ident::read(alloc, name)? else {
+            return Ok(None);
+        };
+        if place_at(Terminal::Colon, colon).is_none() {
+            return Ok(None);
+        }
+        match number_of(width) {
+            Some(width) => Ok(Some(Declared { ident, width })),
+            None => Ok(None),
+        }
+    }
 }
 
 impl Part for Declared {
@@ -192,8 +266,8 @@ impl Part for Declared {
                 rule: Rule::Param,
                 parts,
             } => Ok(Some(Declared {
-                ident: name_among(alloc, parts)?,
-                width: number_among(alloc, parts)?,
+                ident: name_among(alloc, parts.as_slice())?,
+                width: number_among(alloc, parts.as_slice())?,
             })),
             _ => Ok(None),
         }

@@ -1,10 +1,11 @@
 //! Fields that are named again.
 
-ghost use Rattle.std.specs.Prelude.{◌≡◌, [], map, IfOk, IfErr, OnOk};
+ghost use Rattle.std.specs.Prelude.{◌≡◌, [], IfOk, IfErr, OnOk};
 ghost use Rattle.rmt_check.specs.Names.{is_known};
-ghost use Rattle.rmt_check.specs.Rules.{earliest, keyed, repeated, when};
+ghost use Rattle.rmt_check.specs.Rules as rules;
+ghost use Rattle.rmt_check.specs.Rules.{earliest, when};
 ghost use Rattle.rmt_check.specs.Seen.{with_name};
-ghost use Rattle.rmt_check.specs.Standing.{key_in};
+ghost use Rattle.rmt_check.specs.Standing.{stored};
 ghost use Rattle.rmt_lexer.specs.declared.fault.ProgramFault.TheVariants.{NoMemory};
 
 use crate::fields::FieldKey;
@@ -25,11 +26,11 @@ struct SeenKeys<'a> {
 
 impl<'a> Model for SeenKeys<'a> {
     ghost use Rattle.std.specs.Prelude.{List, ℕ, map};
-    ghost use Rattle.rmt_check.specs.Standing.{key_in};
+    ghost use Rattle.rmt_check.specs.Standing.{stored};
 
     ghost Value = { List (List ℕ) };
 
-    ghost view = { λ s. map key_in s.keys.keys };
+    ghost view = { λ s. map stored s.keys.keys };
 }
 
 impl<'a> SeenKeys<'a> {
@@ -44,8 +45,8 @@ impl<'a> SeenKeys<'a> {
 
     /// Sees a key, and answers the place where it was seen before. The only fault is want of memory.
     fn see(&mut self, key: FieldKey<'a>, place: Place) -> Result<Option<Place>, ProgramFault>
-        ensures again { IfOk result (λ p. p ≡ earliest (when (is_known self.old (key_in key.entry)) place)) }
-        ensures keys { OnOk result (self.new ≡ with_name self.old (key_in key.entry)) }
+        ensures again { IfOk result (λ p. p ≡ earliest (when (is_known self.old (stored key.entry)) place)) }
+        ensures keys { OnOk result (self.new ≡ with_name self.old (stored key.entry)) }
         ensures fault { IfErr result (λ e. e ≡ NoMemory) }
     {
         let is_new = self.keys.insert(key)?;
@@ -59,7 +60,7 @@ pub fn repeated_fields(
     names: &Names<'_>,
     fields: &[FieldText],
 ) -> Result<Option<Place>, ProgramFault>
-    ensures again { IfOk result (λ p. p ≡ earliest (repeated (map (keyed names.now) fields.now))) }
+    ensures again { IfOk result (λ p. p ≡ earliest (rules.repeated_fields names.now fields.now)) }
     ensures fault { IfErr result (λ e. e ≡ NoMemory) }
 {
     let mut seen = SeenKeys::new(alloc);

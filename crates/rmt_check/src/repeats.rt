@@ -3,8 +3,8 @@
 ghost use Rattle.std.specs.Prelude.{◌≡◌, [], map, IfOk, IfErr, OnOk};
 ghost use Rattle.rmt_check.specs.Names.{is_known};
 ghost use Rattle.rmt_check.specs.Rules as rules;
-ghost use Rattle.rmt_check.specs.Rules.{earliest, repeated_after, when};
-ghost use Rattle.rmt_check.specs.Seen.{with_name, seen_after};
+ghost use Rattle.rmt_check.specs.Rules.{earliest, when};
+ghost use Rattle.rmt_check.specs.Seen.{with_name, seen_after, repeated_after};
 ghost use Rattle.rmt_lexer.specs.declared.fault.ProgramFault.TheVariants.{NoMemory};
 
 use crate::labels::{Label, Labelled};

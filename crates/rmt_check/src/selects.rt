@@ -22,10 +22,9 @@ pub fn select_widths(
     ensures widths { IfOk result (λ widths. widths.items ≡ select_widths names.now header.now) }
     ensures fault { IfErr result (λ fault. fault ≡ NoMemory) }
 {
-    let owner = names.header_owner(header.ident.name.as_slice());
     let mut widths = Vec::new(alloc);
     for one in header.select.as_slice() {
-        widths.push(names.width((owner, one.name.as_slice())))?;
+        widths.push(names.width(names.own_key(header, one)))?;
     }
     Ok(widths)
 }

@@ -66,11 +66,25 @@ pub struct CaseText {
     pub target: TargetText,
 }
 
+/// A part of a header behind its fields: as many bytes as a field's value times a unit, less a base.
+#[derive(Debug, Drop)]
+pub struct TailText {
+    /// Of the word `tail`.
+    pub place: Place,
+    /// The field of the header that tells the length.
+    pub field: Ident,
+    /// How many bytes the value counts.
+    pub unit: Number,
+    /// How many of them are no bytes of the tail.
+    pub base: Number,
+}
+
 /// A header. One with a plain target selects by nothing and has no case.
 #[derive(Debug, Drop)]
 pub struct HeaderText {
     pub ident: Ident,
     pub fields: Sequence<Declared>,
+    pub tail: Option<TailText>,
     pub select: Sequence<Ident>,
     pub cases: Sequence<CaseText>,
     pub other: TargetText,

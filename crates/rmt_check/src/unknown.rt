@@ -2,9 +2,9 @@
 
 ghost use Rattle.std.specs.Prelude.{◌≡◌, ◌∷◌, [], not, IfOk, IfErr, option_map, option_to_list};
 ghost use Rattle.std.specs.List.{flat_map};
-ghost use Rattle.rmt_check.specs.Names.{header_names, operands};
+ghost use Rattle.rmt_check.specs.Names.{header_names, is_field, operands};
 ghost use Rattle.rmt_check.specs.Rules as rules;
-ghost use Rattle.rmt_check.specs.Rules.{arm_names, broken_6, earliest, is_field, target_names, targets, unknown, when};
+ghost use Rattle.rmt_check.specs.Rules.{arm_names, broken_6, earliest, target_names, targets, unknown, when};
 ghost use Rattle.rmt_check.specs.Standing.{key_in};
 ghost use Rattle.rmt_lexer.specs.declared.fault.ProgramFault.TheVariants.{NoMemory};
 
@@ -116,21 +116,37 @@ fn unknown_in_all_targets(names: &Names<'_>, headers: &[HeaderText]) -> Option<P
 fn unknown_select(names: &Names<'_>, header: &HeaderText) -> Option<Place>
     ensures { result ≡ earliest (rules.unknown_select names.now header.now) }
 {
-    let owner = names.header_owner(header.ident.name.as_slice());
     let mut first = None;
     for ident in header.select.as_slice() {
-        let key = (owner, ident.name.as_slice());
-        first = earlier(first, unknown_key(names, key, ident.place));
+        let here = unknown_key(names, names.own_key(header, ident), ident.place);
+        first = earlier(first, here);
     }
     first
 }
 
-fn unknown_in_selects(names: &Names<'_>, headers: &[HeaderText]) -> Option<Place>
-    ensures { result ≡ earliest (flat_map (rules.unknown_select names.now) headers.now) }
+/// Where a tail names no field of its header.
+fn unknown_tail(names: &Names<'_>, header: &HeaderText) -> Option<Place>
+    ensures { result ≡ earliest (rules.unknown_tail names.now header.now) }
+{
+    let Some(tail) = &header.tail else {
+        return None;
+    };
+    unknown_key(names, names.own_key(header, &tail.field), tail.field.place)
+}
+
+/// Where a select or a tail names no field of its header.
+fn unknown_own(names: &Names<'_>, header: &HeaderText) -> Option<Place>
+    ensures { result ≡ earliest (rules.unknown_own names.now header.now) }
+{
+    earlier(unknown_select(names, header), unknown_tail(names, header))
+}
+
+fn unknown_in_headers(names: &Names<'_>, headers: &[HeaderText]) -> Option<Place>
+    ensures { result ≡ earliest (flat_map (rules.unknown_own names.now) headers.now) }
 {
     let mut first = None;
     for header in headers {
-        first = earlier(first, unknown_select(names, header));
+        first = earlier(first, unknown_own(names, header));
     }
     first
 }
@@ -309,12 +325,12 @@ pub fn unknown_name(alloc: Global, names: &Names<'_>) -> Result<Option<Place>, P
 {
     let source = names.source();
     let actions = unknown_in_actions(alloc, names, source.actions.as_slice())?;
-    let selects = unknown_in_selects(names, source.headers.as_slice());
+    let headers = unknown_in_headers(names, source.headers.as_slice());
     let targets = unknown_in_all_targets(names, source.headers.as_slice());
     let tables = unknown_in_tables(names, source.tables.as_slice());
     let nodes = unknown_in_nodes(names, nodes_of(source));
     Ok(earlier(
-        earlier(earlier(earlier(selects, targets), actions), tables),
+        earlier(earlier(earlier(headers, targets), actions), tables),
         nodes,
     ))
 }

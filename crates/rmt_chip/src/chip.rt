@@ -18,9 +18,6 @@ use rmt_bits::sequence::Sequence;
 use rmt_config::config::Config;
 use std::alloc::Global;
 
-#[cfg(test)]
-mod tests;
-
 /// The chip: its configuration, and a ring of places for the packets in flight.
 #[derive(Drop)]
 pub struct Chip {
@@ -67,6 +64,14 @@ impl Chip {
             stopped: false,
         })
     }
+
+    /// How many packets have entered.
+    pub fn entered(&self) -> u64
+        ensures { result ≡ entered_of self.now }
+    {
+        self.entered
+    }
+
     /// One cycle, with a frame or nothing. The frame must be one that may enter, and fewer than
     /// 2^63 packets may have entered before. The answer is that to the packet that leaves, or None
     /// where none leaves; after a packet was sent its bytes are in `out`, and after every other

@@ -8,6 +8,3 @@ mod writing;
 pub use fault::ImageFault;
 pub use reading::{read_image, spells_one};
 pub use writing::write_image;
-
-#[cfg(test)]
-mod tests;

@@ -6,7 +6,5 @@ pub mod mem_shelf;
 pub mod mem_sink;
 pub mod shelf;
 pub mod sink;
-#[cfg(test)]
-mod tests;
 pub mod true_shelf;
 pub mod true_sink;

@@ -1,8 +1,8 @@
-ghost use Rattle.std.specs.Prelude.{◌≡◌, ◌≢◌, ◌↔◌, ℕ, Bool, true, false, List, Option, Some, None, ◌+◌, ◌-◌, ◌^◌, ◌<◌, ◌≤◌, [], length, option_map, IsTrue, OnOk, OnErr, IsErrOf, string_bytes};
+ghost use Rattle.std.specs.Prelude.{◌≡◌, ◌≢◌, ◌↔◌, ℕ, Bool, true, false, List, Option, Some, None, ◌+◌, ◌-◌, ◌^◌, ◌<◌, ◌≤◌, ◌++◌, [], length, take, drop, min, option_map, IsTrue, IfOk, IfSome, OnOk, OnErr, IsOk, IsErrOf, string_bytes};
 ghost use Rattle.std.specs.FinMap as map;
 ghost use Rattle.rmt_io.specs.Calls.{fails_next, fails_no_more, raised};
 ghost use Rattle.rmt_io.specs.Faults.{Rose};
-ghost use Rattle.rmt_io.specs.Files.{MemoryFiles, shelf_called};
+ghost use Rattle.rmt_io.specs.Files.{MemoryFiles, Opened as OpenFile, moved, rest_of, shelf_called};
 
 use crate::calls::{is_failing, raise};
 use crate::shelf::{Shelf, ShelfFault};
@@ -10,20 +10,32 @@ use std::alloc::Global;
 use std::collections::BTreeMap;
 use std::marker::Model;
 
+/// An open file of a shelf in memory.
+#[derive(Drop)]
+struct Opened {
+    /// The file's name.
+    name: String,
+    /// How many of its bytes were given.
+    position: usize,
+}
+
 /// A shelf in memory, which tells its files: for tests.
 ///
-/// Its calls of `read` and `write` are counted together from 1, and those whose numbers it was given fail. A failing
-/// `write` leaves the named file as it was.
+/// Its calls of `read`, `write`, `open` and `next` are counted together from 1, and those whose numbers it was given
+/// fail. A failing `write` leaves the named file as it was. No call of `next` gives more than `most` bytes.
 #[derive(Drop)]
 pub struct MemShelf {
     files: BTreeMap<String, Vec<u8>>,
+    opened: Option<Opened>,
     fails: Vec<u64>,
+    most: u32,
     calls: u64,
     reading: u64,
     writing: u64,
 }
 
 impl Model for MemShelf {
+    ghost use Rattle.std.specs.Prelude.{◌<◌, option_map, string_bytes};
     ghost use Rattle.std.specs.FinMap as map;
     ghost use Rattle.rmt_io.specs.Files.{MemoryFiles, memory_files_code, text_entries};
 
@@ -31,18 +43,31 @@ impl Model for MemShelf {
 
     ghost coded = { memory_files_code };
 
-    ghost view = { λ s. record { files = map.from_entries (text_entries s.files.entries); fails = s.fails.items; calls = s.calls; reading = s.reading; writing = s.writing } };
+    ghost view = { λ s. record {
+      files = map.from_entries (text_entries s.files.entries);
+      opened = option_map (λ o. record { name = string_bytes o.name; position = o.position }) s.opened;
+      fails = s.fails.items;
+      most = s.most;
+      calls = s.calls;
+      reading = s.reading;
+      writing = s.writing;
+    } };
+
+    ghost invariant = { λ s. 0 < s.most };
 }
 
 impl MemShelf {
-    /// A shelf with no file, whose calls of the numbers in `fails` fail.
-    pub fn new(fails: Vec<u64>) -> MemShelf
-        ensures { result ≡ record { files = map.empty; fails = fails.items; calls = 0; reading = 0; writing = 0 } }
+    /// A shelf with no file, whose calls of the numbers in `fails` fail, and whose `next` gives at most `most` bytes.
+    pub fn new(fails: Vec<u64>, most: u32) -> MemShelf
+        requires { 0 < most }
+        ensures { result ≡ record { files = map.empty; opened = None; fails = fails.items; most = most; calls = 0; reading = 0; writing = 0 } }
     {
         let alloc = *fails.allocator();
         MemShelf {
             files: BTreeMap::new(alloc),
+            opened: None,
             fails,
+            most,
             calls: 0,
             reading: 0,
             writing: 0,
@@ -111,6 +136,65 @@ impl MemShelf {
         failing
     }
 
+    /// Closes the open file.
+    fn close(&mut self)
+        ensures { self.new ≡ record self.old { opened = None } }
+    {
+        self.opened = None;
+    }
+
+    /// Opens a file that is there at its first byte.
+    fn begin(&mut self, alloc: Global, name: &String) -> Result<(), ShelfFault>
+        ensures begun { OnOk result (self.new ≡ record self.old { opened = Some (record { name = string_bytes name.now; position = 0 }) }) }
+        ensures unchanged { OnErr result (self.new ≡ self.old) }
+        ensures no_memory { OnErr result (IsErrOf result ShelfFault.NoMemory) }
+    {
+        match String::from_str(alloc, name.as_str()) {
+            Ok(name) => {
+                self.opened = Some(Opened { name, position: 0 });
+                Ok(())
+            }
+            Err(_) => Err(ShelfFault::NoMemory),
+        }
+    }
+
+    /// What the open file has yet to give.
+    fn rest(&self) -> &[u8]
+        ensures bytes { result.now ≡ rest_of self.now }
+        ensures fits { IfSome self.now.opened (λ o. o.position + length result.now < 2 ^ 64) }
+    {
+        match &self.opened {
+            Some(opened) => match self.file(&opened.name) {
+                Some(bytes) => bytes_from(bytes.as_slice(), opened.position),
+                None => bytes_from(&[], opened.position),
+            },
+            None => &[],
+        }
+    }
+
+    /// Copies the next bytes of the open file to the front of `into`, and answers how many.
+    fn give(&self, into: &mut [u8]) -> usize
+        ensures count { result ≡ min (length (rest_of self.now)) (min (length into.old) self.now.most) }
+        ensures bytes { take result into.new ≡ take result (rest_of self.now) }
+        ensures most { 0 < self.now.most }
+        ensures fits { IfSome self.now.opened (λ o. o.position + result < 2 ^ 64) }
+    {
+        let rest = self.rest();
+        let count = rest.len().min(into.len().min(self.most as usize));
+        into[..count].copy_from_slice(&rest[..count]);
+        count
+    }
+
+    /// Moves the position in the open file.
+    fn advance(&mut self, count: usize)
+        requires { IfSome self.old.opened (λ o. o.position + count < 2 ^ 64) }
+        ensures { self.new ≡ record self.old { opened = moved count self.old.opened } }
+    {
+        if let Some(opened) = &mut self.opened {
+            opened.position += count;
+        }
+    }
+
     /// Puts the bytes of the named file, of which there may be `limit`, into an empty `into`.
     fn copy(&self, name: &String, limit: u64, into: &mut Vec<u8>) -> Result<(), ShelfFault>
         requires { into.old.items ≡ [] }
@@ -134,10 +218,24 @@ impl MemShelf {
     }
 }
 
+/// The bytes from a position on, and none where there are fewer.
+fn bytes_from(bytes: &[u8], position: usize) -> &[u8]
+    ensures bytes { result.now ≡ drop position bytes.now }
+    ensures fits { position + length result.now < 2 ^ 64 }
+{
+    if position <= bytes.len() {
+        &bytes[position..]
+    } else {
+        &[]
+    }
+}
+
 impl Shelf for MemShelf {
     ghost told = { λ _. true };
 
     ghost file = { λ s name. map.get s.files name };
+
+    ghost rest = { rest_of };
 
     ghost reading_faults = { λ s. s.reading };
 
@@ -164,12 +262,13 @@ impl Shelf for MemShelf {
         ensures absent { IsErrOf result ShelfFault.Failed → IsTrue (fails_no_more self.old.fails self.old.calls) → map.get self.old.files (string_bytes name.now) ≡ None }
 
         // What is counted, and nothing else changes.
-        ensures counted { self.new ≡ record (shelf_called self.old) { reading = self.new.reading } }
+        ensures counted { self.new ≡ record (shelf_called self.old) { opened = None; reading = self.new.reading } }
         ensures failed { IsErrOf result ShelfFault.Failed → Rose self.old.reading self.new.reading }
         ensures reading { self.old.reading ≤ self.new.reading }
         ensures stays_steady { IsTrue (fails_no_more self.old.fails self.old.calls) → IsTrue (fails_no_more self.new.fails self.new.calls) }
     {
         into.clear();
+        self.close();
         if self.call() {
             return Err(self.reading_fault());
         }
@@ -191,14 +290,68 @@ impl Shelf for MemShelf {
         ensures never_fails { IsErrOf result ShelfFault.Failed → IsTrue (fails_no_more self.old.fails self.old.calls) → ⊥ }
 
         // What is counted, and nothing else changes.
-        ensures counted { self.new ≡ record (shelf_called self.old) { files = self.new.files; writing = self.new.writing } }
+        ensures counted { self.new ≡ record (shelf_called self.old) { files = self.new.files; opened = None; writing = self.new.writing } }
         ensures failed { IsErrOf result ShelfFault.Failed → Rose self.old.writing self.new.writing }
         ensures writing { self.old.writing ≤ self.new.writing }
         ensures stays_steady { IsTrue (fails_no_more self.old.fails self.old.calls) → IsTrue (fails_no_more self.new.fails self.new.calls) }
     {
+        self.close();
         if self.call() {
             return Err(self.writing_fault());
         }
         self.put_file(name, bytes)
+    }
+
+    fn open(&mut self, alloc: Global, name: &String) -> Result<(), ShelfFault>
+        ensures opened { OnOk result (map.get self.old.files (string_bytes name.now) ≡ Some (rest_of self.new)) }
+        ensures closed { OnErr result (self.new.opened ≡ None) }
+        ensures never_too_long { IsErrOf result ShelfFault.TooLong → ⊥ }
+
+        // A call whose number is listed fails, and another one only where the file is absent.
+        ensures listed { IsTrue (fails_next self.old.fails self.old.calls) → IsErrOf result ShelfFault.Failed }
+        ensures unlisted { IsErrOf result ShelfFault.Failed → fails_next self.old.fails self.old.calls ≡ false → map.get self.old.files (string_bytes name.now) ≡ None }
+        ensures absent { IsErrOf result ShelfFault.Failed → IsTrue (fails_no_more self.old.fails self.old.calls) → map.get self.old.files (string_bytes name.now) ≡ None }
+
+        // What is counted, and nothing else changes.
+        ensures counted { self.new ≡ record (shelf_called self.old) { opened = self.new.opened; reading = self.new.reading } }
+        ensures failed { IsErrOf result ShelfFault.Failed → Rose self.old.reading self.new.reading }
+        ensures reading { self.old.reading ≤ self.new.reading }
+        ensures stays_steady { IsTrue (fails_no_more self.old.fails self.old.calls) → IsTrue (fails_no_more self.new.fails self.new.calls) }
+    {
+        self.close();
+        if self.call() {
+            return Err(self.reading_fault());
+        }
+        if self.file(name).is_none() {
+            return Err(self.reading_fault());
+        }
+        self.begin(alloc, name)
+    }
+
+    fn next(&mut self, into: &mut [u8]) -> Result<usize, ShelfFault>
+        requires { 0 < length into.old }
+        ensures count { IfOk result (λ n. n ≡ min (length (rest_of self.old)) (min (length into.old) self.old.most)) }
+        ensures most { IfOk result (λ _. 0 < self.old.most) }
+        ensures given { IfOk result (λ n. take n into.new ≡ take n (rest_of self.old)) }
+        ensures moves { IfOk result (λ n. self.new.opened ≡ moved n self.old.opened) }
+        ensures fault { OnErr result (IsErrOf result ShelfFault.Failed) }
+        ensures stays { OnErr result (self.new.opened ≡ self.old.opened) }
+
+        // A call fails exactly where its number is listed.
+        ensures listed { IsErrOf result ShelfFault.Failed ↔ IsTrue (fails_next self.old.fails self.old.calls) }
+        ensures never_fails { IsTrue (fails_no_more self.old.fails self.old.calls) → IsOk result }
+
+        // What is counted, and nothing else changes.
+        ensures counted { self.new ≡ record (shelf_called self.old) { opened = self.new.opened; reading = self.new.reading } }
+        ensures failed { OnErr result (Rose self.old.reading self.new.reading) }
+        ensures reading { self.old.reading ≤ self.new.reading }
+        ensures stays_steady { IsTrue (fails_no_more self.old.fails self.old.calls) → IsTrue (fails_no_more self.new.fails self.new.calls) }
+    {
+        if self.call() {
+            return Err(self.reading_fault());
+        }
+        let count = self.give(into);
+        self.advance(count);
+        Ok(count)
     }
 }

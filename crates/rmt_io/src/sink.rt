@@ -12,7 +12,7 @@ pub enum SinkFault {
 
 /// What takes bytes, one piece after another.
 pub trait Sink {
-    /// Whether it tells its bytes.
+    /// Whether it tells its bytes, which no call changes.
     ghost told: { Self → Bool };
 
     /// The bytes taken so far; they are of use where they are told.

@@ -1,4 +1,4 @@
-ghost use Rattle.std.specs.Prelude.{◌≡◌, ◌≢◌, ◌↔◌, ℕ, Bool, false, List, Option, None, [], ◌+◌, ◌-◌, ◌^◌, ◌<◌, ◌≤◌, length, OnOk, OnErr, IsErrOf};
+ghost use Rattle.std.specs.Prelude.{◌≡◌, ◌≢◌, ◌↔◌, ℕ, Bool, false, List, Option, None, [], ◌+◌, ◌-◌, ◌^◌, ◌<◌, ◌≤◌, length, IfOk, OnOk, OnErr, IsErrOf};
 ghost use Rattle.std.specs.IoError.{error_kind};
 ghost use Rattle.rmt_io.specs.Calls.{raised};
 ghost use Rattle.rmt_io.specs.Faults.{Rose};
@@ -18,6 +18,7 @@ const PIECE: usize = 8192;
 #[derive(Drop)]
 pub struct TrueShelf<'a, R: Files> {
     rt: &'a R,
+    opened: Option<R::File>,
     reading: u64,
     writing: u64,
 }
@@ -30,6 +31,7 @@ impl<'a, R: Files> TrueShelf<'a, R> {
     {
         TrueShelf {
             rt,
+            opened: None,
             reading: 0,
             writing: 0,
         }
@@ -56,16 +58,28 @@ fn read_within<F: Read>(file: &mut F, limit: u64, into: &mut Vec<u8>) -> Result<
     for _ in 0..u64::MAX {
         let room = limit - into.len() as u64;
         let asked = room.saturating_add(1).min(PIECE as u64) as usize;
-        match file.read(&mut piece[..asked]) {
-            Ok(0) => return Ok(()),
-            Ok(count) => {
-                if count as u64 > room {
-                    return Err(ShelfFault::TooLong);
-                }
-                if into.extend_from_slice(&piece[..count]).is_err() {
-                    return Err(ShelfFault::NoMemory);
-                }
-            }
+        let count = read_some(file, &mut piece[..asked])?;
+        if count == 0 {
+            return Ok(());
+        }
+        if count as u64 > room {
+            return Err(ShelfFault::TooLong);
+        }
+        if into.extend_from_slice(&piece[..count]).is_err() {
+            return Err(ShelfFault::NoMemory);
+        }
+    }
+    Err(ShelfFault::Failed)
+}
+
+/// Reads what one call of the system gives, where it is not interrupted.
+fn read_some<F: Read>(file: &mut F, into: &mut [u8]) -> Result<usize, ShelfFault>
+    ensures within { IfOk result (λ n. n ≤ length into.new) }
+    ensures never_too_long { IsErrOf result ShelfFault.TooLong → ⊥ }
+{
+    for _ in 0..u64::MAX {
+        match file.read(into) {
+            Ok(count) => return Ok(count),
             Err(error) => {
                 if error.kind() != ErrorKind::Interrupted {
                     return Err(fault_of(&error));
@@ -108,6 +122,8 @@ impl<R: Files> Shelf for TrueShelf<'_, R> {
 
     ghost file = { λ _ _. None };
 
+    ghost rest = { λ _. [] };
+
     ghost reading_faults = { λ s. s.reading };
 
     ghost writing_faults = { λ s. s.writing };
@@ -122,6 +138,7 @@ impl<R: Files> Shelf for TrueShelf<'_, R> {
         into: &mut Vec<u8>,
     ) -> Result<(), ShelfFault> {
         into.clear();
+        self.opened = None;
         match self.fetch(name, limit, into) {
             Ok(()) => Ok(()),
             Err(fault) => {
@@ -135,6 +152,7 @@ impl<R: Files> Shelf for TrueShelf<'_, R> {
     }
 
     fn write(&mut self, _alloc: Global, name: &String, bytes: &Vec<u8>) -> Result<(), ShelfFault> {
+        self.opened = None;
         let fault = match File::create(self.rt, name.as_str()) {
             Ok(mut file) => match write_through(&mut file, bytes.as_slice()) {
                 Ok(()) => return Ok(()),
@@ -147,5 +165,35 @@ impl<R: Files> Shelf for TrueShelf<'_, R> {
             self.writing = raise(self.writing);
         }
         Err(fault)
+    }
+
+    fn open(&mut self, _alloc: Global, name: &String) -> Result<(), ShelfFault> {
+        self.opened = None;
+        match File::open(self.rt, name.as_str()) {
+            Ok(file) => {
+                self.opened = Some(file);
+                Ok(())
+            }
+            Err(error) => {
+                let fault = fault_of(&error);
+                if fault == ShelfFault::Failed {
+                    self.reading = raise(self.reading);
+                }
+                Err(fault)
+            }
+        }
+    }
+
+    fn next(&mut self, into: &mut [u8]) -> Result<usize, ShelfFault> {
+        let Some(file) = &mut self.opened else {
+            return Ok(0);
+        };
+        match read_some(file, into) {
+            Ok(count) => Ok(count),
+            Err(_) => {
+                self.reading = raise(self.reading);
+                Err(ShelfFault::Failed)
+            }
+        }
     }
 }

@@ -1,5 +1,5 @@
 -- The end is the last token, and no other is.
-use Rattle.std.proofs.Common.{◌≡◌, refl, subst, ℕ, zero, suc, ◌-◌, ◌^◌, List, [], ◌∷◌, Bool, true, false, Result, Ok, Err}
+use Rattle.std.proofs.Common.{◌≡◌, ◌≤◌, refl, arith, ℕ, zero, suc, ◌-◌, ◌^◌, List, [], ◌∷◌, Bool, true, false, Result, Ok, Err}
 use Rattle.std.specs.Prelude.{◌==◌, nat_lt, slice_index, length, drop, if◌then◌else◌}
 use Rattle.std.specs.List.{take_while}
 use Rattle.rmt_lexer.specs.Text.{EndsOnce, item_of, hex_item, number_item, is_space, is_comment, is_letter, is_hex_number, is_digit, is_hex, is_equal, is_sign, read_item, reading, behind, token_at, with_front}
@@ -9,6 +9,7 @@ use Rattle.rmt_lexer.specs.declared.item.Item.{Item}
 use Rattle.rmt_lexer.specs.declared.item.Item.TheVariants as item
 use Rattle.rmt_lexer.specs.declared.place.Place.{Place}
 use Rattle.rmt_lexer.specs.declared.fault.ProgramFault.{ProgramFault}
+use Rattle.rmt_lexer.specs.declared.fault.ProgramFault.TheVariants.{NoMemory, At}
 
 -- no token of the end
 abbrev NotEnd : Item → Type 0
@@ -40,19 +41,29 @@ in_front : (t : Token) (us : List Token) → (t.what ≡ End → ⊥) → EndsOn
 in_front t [] h e = absurd e
 in_front t (u ∷ us) h e = (h, e)
 
-with_token : (t : Token) (r : Result (List Token) ProgramFault) (ts : List Token) → (t.what ≡ End → ⊥) → ((us : List Token) → r ≡ Ok us → EndsOnce us) → with_front t r ≡ Ok ts → EndsOnce ts
-with_token t (Ok us) ts h ih e = let same : t ∷ us ≡ ts = cc in subst EndsOnce same (in_front t us h (ih us refl))
-with_token t (Err f) ts h ih e = cc
+-- Of a text of n bytes: at most n + 1 tokens, of which the last is the end and no other; or a fault with its place.
+abbrev pub Fine : ℕ → Result (List Token) ProgramFault → Type 0
+Fine n (Ok ts) = EndsOnce ts × (length ts ≤ suc n)
+Fine n (Err NoMemory) = ⊥
+Fine n (Err (At code line column)) = Unit {0}
 
-with_item : (at : Place) (i : Item) (rest : ℕ → Result (List Token) ProgramFault) (ts : List Token) → NotEnd i → ((len : ℕ) (us : List Token) → rest len ≡ Ok us → EndsOnce us)
-    → read_item at i rest ≡ Ok ts → EndsOnce ts
-with_item at (item.Gap len) rest ts n ih e = ih len ts e
-with_item at (item.Token what len) rest ts n ih e = with_token (token_at at what) (rest len) ts n (ih len) e
-with_item at (item.Fault code) rest ts n ih e = cc
+one_more : (n : ℕ) (r : Result (List Token) ProgramFault) → Fine n r → Fine (suc n) r
+one_more n (Ok ts) f = (f.0, omega (arith, f.1))
+one_more n (Err NoMemory) f = f
+one_more n (Err (At code line column)) f = tt
 
-pub ends : (more : ℕ) (at : Place) (text : List ℕ) (ts : List Token) → reading more at text ≡ Ok ts → EndsOnce ts
-ends zero at [] ts e = let same : token_at at End ∷ [] ≡ ts = cc in subst EndsOnce same refl
-ends (suc more) at [] ts e = let same : token_at at End ∷ [] ≡ ts = cc in subst EndsOnce same refl
-ends (suc more) at (b ∷ bs) ts e = ends more (behind at b) bs ts e
-ends zero at (b ∷ bs) ts e =
-    with_item at (item_of (b ∷ bs)) (λ len. reading (len - 1) (behind at b) bs) ts (item_not (b ∷ bs)) (λ len us k. ends (len - 1) (behind at b) bs us k) e
+with_token : (t : Token) (n : ℕ) (r : Result (List Token) ProgramFault) → (t.what ≡ End → ⊥) → Fine n r → Fine (suc n) (with_front t r)
+with_token t n (Ok us) h f = (in_front t us h f.0, omega (arith, f.1))
+with_token t n (Err NoMemory) h f = f
+with_token t n (Err (At code line column)) h f = tt
+
+with_item : (at : Place) (i : Item) (n : ℕ) (rest : ℕ → Result (List Token) ProgramFault) → NotEnd i → ((len : ℕ) → Fine n (rest len)) → Fine (suc n) (read_item at i rest)
+with_item at (item.Gap len) n rest h f = one_more n (rest len) (f len)
+with_item at (item.Token what len) n rest h f = with_token (token_at at what) n (rest len) h (f len)
+with_item at (item.Fault code) n rest h f = tt
+
+pub fine : (more : ℕ) (at : Place) (text : List ℕ) → Fine (length text) (reading more at text)
+fine zero at [] = (refl, omega arith)
+fine (suc more) at [] = (refl, omega arith)
+fine (suc more) at (b ∷ bs) = one_more (length bs) _ (fine more (behind at b) bs)
+fine zero at (b ∷ bs) = with_item at (item_of (b ∷ bs)) (length bs) (λ len. reading (len - 1) (behind at b) bs) (item_not (b ∷ bs)) (λ len. fine (len - 1) (behind at b) bs)

@@ -29,9 +29,9 @@ is_hex b = is_digit b || (nat_le 97 b && nat_le b 102) || (nat_le 65 b && nat_le
 abbrev pub is_name_byte : ℕ → Bool
 is_name_byte b = is_letter b || is_digit b
 
--- { } ( ) : ; , . = + - & | ^
+-- { } ( ) : ; , . = + - * & | ^
 abbrev pub is_sign : ℕ → Bool
-is_sign b = list_any (λ sign. b == sign) (123 ∷ 125 ∷ 40 ∷ 41 ∷ 58 ∷ 59 ∷ 44 ∷ 46 ∷ 61 ∷ 43 ∷ 45 ∷ 38 ∷ 124 ∷ 94 ∷ [])
+is_sign b = list_any (λ sign. b == sign) (123 ∷ 125 ∷ 40 ∷ 41 ∷ 58 ∷ 59 ∷ 44 ∷ 46 ∷ 61 ∷ 43 ∷ 45 ∷ 42 ∷ 38 ∷ 124 ∷ 94 ∷ [])
 
 -- the value of a digit of either case
 abbrev pub digit_value : ℕ → ℕ

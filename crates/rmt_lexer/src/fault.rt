@@ -7,11 +7,19 @@ use thiserror::Error;
 /// Why a program's text is refused.
 #[derive(Debug, Drop, Error)]
 pub enum ProgramFault {
+    /// There is no memory for an answer.
     #[error("out of memory")]
     NoMemory,
-    /// The number of the broken rule, and where: lines and columns from 1, columns in bytes.
+    /// A rule is broken.
     #[error("rule {code} is broken at line {line}, column {column}")]
-    At { code: u8, line: u32, column: u32 },
+    At {
+        /// The number of the rule, from 1 to 21.
+        code: u8,
+        /// The line where it is broken, from 1.
+        line: u32,
+        /// The column there, in bytes from 1.
+        column: u32,
+    },
 }
 
 impl From<AllocError> for ProgramFault {

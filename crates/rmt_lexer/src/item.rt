@@ -50,7 +50,7 @@ fn is_name_byte(byte: u8) -> bool
 fn is_sign(byte: u8) -> bool
     ensures { result ≡ is_sign byte }
 {
-    b"{}():;,.=+-&|^".contains(&byte)
+    b"{}():;,.=+-*&|^".contains(&byte)
 }
 
 /// The value of a hexadecimal digit of either case.

@@ -3,10 +3,9 @@
 
 pub mod fault;
 mod item;
+pub mod laws;
 pub mod place;
 mod reader;
-#[cfg(test)]
-mod tests;
 pub mod token;
 
 pub use reader::tokens;

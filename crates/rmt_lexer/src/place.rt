@@ -4,7 +4,9 @@ ghost use Rattle.rmt_lexer.specs.Text.{behind};
 /// A place in a text: the line and the column, both from 1.
 #[derive(Clone, Copy, Debug)]
 pub struct Place {
+    /// How many line feeds stand before it, and one.
     pub line: u32,
+    /// How many bytes of its line stand before it, and one.
     pub column: u32,
 }
 

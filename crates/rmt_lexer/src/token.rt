@@ -5,11 +5,14 @@ use crate::fault::ProgramFault;
 use rmt_ast::name::Name;
 use std::alloc::Global;
 
-/// A token of a program's text and where it begins: lines and columns from 1, columns in bytes.
+/// A token of a program's text and where it begins.
 #[derive(Debug, Drop)]
 pub struct Token {
+    /// The line of its first byte, from 1.
     pub line: u32,
+    /// The column of its first byte, in bytes from 1.
     pub column: u32,
+    /// What it is.
     pub what: TokenKind,
 }
 

@@ -5,6 +5,7 @@ use Rattle.hex.specs.Hex.{decode_pairs, encode_with}
 use Rattle.rmt_bits.specs.declared.answer.Verdict.TheVariants.{Sent, Short}
 use Rattle.rmt_packets.specs.AnswerLine.{answer_line}
 use Rattle.rmt_packets.specs.PacketText.{packet_of, packets_of}
+use Rattle.rmt_packets.specs.Pieces.{ended_lines, open_line}
 
 -- digits of either case
 packet : packet_of (codes "511 fFa0") ≡ Ok (record { port = 511; frame = 255 ∷ 160 ∷ [] })
@@ -54,6 +55,19 @@ bad_packets = refl
 
 no_packets : packets_of (codes "# none") ≡ record { packets = []; bad = None }
 no_packets = refl
+
+-- what is ended in a text that may go on
+ended : ended_lines (codes "# none\n0 ff\n\n1 0") ≡ (2, codes "0 ff") ∷ []
+ended = refl
+
+none_ended : ended_lines (codes "0 ff") ≡ []
+none_ended = refl
+
+not_ended : open_line (codes "0 ff\n1 0") ≡ codes "1 0"
+not_ended = refl
+
+all_ended : open_line (codes "0 ff\n") ≡ []
+all_ended = refl
 
 sent : answer_line 0 (record { verdict = Sent 1; bytes = 255 ∷ 10 ∷ []; hits = [] }) ≡ codes "0 1 ff0a\n"
 unfolding digits encode_with

@@ -1,6 +1,9 @@
+pub mod Cuts
 pub mod Digits
 pub mod Examples
+pub mod Fronts
 pub mod Packet
 pub mod Readings
 pub mod RoundTrip
+pub mod Standing
 pub mod Steps

@@ -1,10 +1,10 @@
 -- The lines of a text, one after another.
-use Rattle.std.proofs.Common.{◌≡◌, ℕ, ◌+◌, ◌-◌, ◌<◌, ◌≤◌, ◌==◌, Bool, true, false, not, cond, ltb, None, List, [], ◌∷◌, length, take, drop, slice_range, refl, sym, ap, ◌∙◌, inl, inr, arith}
+use Rattle.std.proofs.Common.{◌≡◌, ℕ, ◌+◌, ◌-◌, ◌<◌, ◌≤◌, ◌==◌, Bool, true, false, not, cond, ltb, None, List, [], ◌∷◌, length, length-drop, take, drop, get_or, slice_range, refl, sym, ap, ◌∙◌, inl, inr, arith}
 use Rattle.std.specs.List.{before_first, after_first, enumerate_from, filter, onto_first, position, position_or_len}
-use Rattle.std.proofs.lemmas.Bool.{cases_lt, cases_Bool, ltb-false, true≢false}
+use Rattle.std.proofs.lemmas.Bool.{cases_lt, cases_Bool, eqb-true, ltb-false, true≢false}
 use Rattle.std.proofs.Math.ListN.{drop_of_length-le}
-use Rattle.std.proofs.lemmas.List.{drop-drop, take_all}
-use Rattle.std.proofs.lemmas.List.Sums.{prefix_len-le-length}
+use Rattle.std.proofs.lemmas.List.{drop-drop, get_or-drop, take_all}
+use Rattle.std.proofs.lemmas.List.Sums.{prefix_len-le-length, prefix_len_stops}
 use Rattle.std.proofs.lemmas.List.Splits.{slice_split_first, slice_split-cons_no}
 use Rattle.rmt_packets.specs.Lines.{is_passed_over, lines, numbered_lines}
 
@@ -23,7 +23,7 @@ one_line (x ∷ xs) h =
           slice_split-cons_no is_feed x xs e ∙ ap (onto_first x) rest
     ]
 
-turned : {A : Type 0} (b : Bool) (x y : A) → cond (not b) x y ≡ cond b y x
+pub turned : {A : Type 0} (b : Bool) (x y : A) → cond (not b) x y ≡ cond b y x
 turned true x y = refl
 turned false x y = refl
 
@@ -60,6 +60,9 @@ line_has_byte text from to h =
           absurd (true≢false (rw z at h))
     ]
 
+fed : (b : ℕ) → not (is_feed b) ≡ false → is_feed b ≡ true
+fed b h = elim (cases_Bool (is_feed b)) [ inl e ↦ e | inr e ↦ let g = rw e at h in absurd (true≢false g) ]
+
 -- where no line feed was found the whole text stands before it
 pub no_feed : (xs : List ℕ) → None ≡ position is_feed xs → position_or_len is_feed xs ≡ length xs
 no_feed xs h =
@@ -67,3 +70,12 @@ no_feed xs h =
       | inl e ↦ let g = rw e at h in cc
       | inr e ↦ omega (arith, ltb-false (position_or_len is_feed xs) (length xs) e, prefix_len-le-length (λ b. not (is_feed b)) xs)
     ]
+
+-- the byte at which a line ends
+pub feed_at : (text : List ℕ) (from to : ℕ) → to ≡ from + position_or_len is_feed (drop from text) → to < length text → get_or text to 0 ≡ 10
+feed_at text from to e lt =
+    let rest = drop from text in
+    let inside : position_or_len is_feed rest < length rest = omega (arith, length-drop from text) in
+    let stops = prefix_len_stops (λ b. not (is_feed b)) rest 0 inside in
+    let here : get_or rest (position_or_len is_feed rest) 0 ≡ get_or text to 0 = get_or-drop from text (position_or_len is_feed rest) 0 ∙ ap (λ i. get_or text i 0) (sym e) in
+    sym here ∙ eqb-true (get_or rest (position_or_len is_feed rest) 0) 10 (fed (get_or rest (position_or_len is_feed rest) 0) stops)

@@ -1,4 +1,6 @@
 pub mod AnswerLine
 pub mod Fault
+pub mod LineSteps
 pub mod Lines
 pub mod PacketText
+pub mod Pieces

@@ -4,5 +4,4 @@
 pub mod answer_line;
 pub mod lines;
 pub mod packet_line;
-#[cfg(test)]
-mod tests;
+pub mod pieces;

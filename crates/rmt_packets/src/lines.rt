@@ -1,4 +1,4 @@
-ghost use Rattle.std.specs.Prelude.{◌≡◌, ℕ, ◌+◌, ◌<◌, ◌≤◌, ◌==◌, [], ◌∷◌, length, drop, slice_range, IfSome, IfNone};
+ghost use Rattle.std.specs.Prelude.{◌≡◌, ℕ, ◌+◌, ◌-◌, ◌<◌, ◌≤◌, ◌==◌, ◌⊎◌, [], ◌∷◌, length, drop, min, slice_index, slice_range, IfSome, IfNone};
 ghost use Rattle.std.specs.List.{list_all, position, position_or_len};
 ghost use Rattle.rmt_packets.specs.Lines.{is_passed_over, numbered_lines};
 
@@ -28,6 +28,11 @@ pub fn next_line(text: &[u8], at: usize, number: u64) -> Option<Line>
 
     // Where it stands.
     ensures places { IfSome result (λ l. (at ≤ l.from) × (l.from < l.to) × (l.to ≤ l.next) × (l.next ≤ length text.now)) }
+
+    // It begins at `at` or behind a line feed, and ends at a line feed or with the text, as the line behind it begins.
+    ensures starts { IfSome result (λ l. (l.from ≡ at) ⊎ ((at < l.from) × (slice_index text.now (l.from - 1) ≡ 10))) }
+    ensures ends { IfSome result (λ l. (l.to ≡ length text.now) ⊎ (slice_index text.now l.to ≡ 10)) }
+    ensures next { IfSome result (λ l. l.next ≡ min (l.to + 1) (length text.now)) }
     ensures counted { IfSome result (λ l. (number ≤ l.number) × (l.number ≤ l.next)) }
 {
     let mut from = at;
@@ -50,7 +55,7 @@ pub fn next_line(text: &[u8], at: usize, number: u64) -> Option<Line>
 }
 
 /// The place of the first line feed from `from` on, or the text's length.
-fn line_end(text: &[u8], from: usize) -> usize
+pub(crate) fn line_end(text: &[u8], from: usize) -> usize
     requires { from ≤ length text.now }
     ensures place { result ≡ from + position_or_len (λ b. b == 10) (drop from text.now) }
     ensures within { result ≤ length text.now }
@@ -87,7 +92,7 @@ fn is_blank_or_comment(line: &[u8]) -> bool
 }
 
 /// Whether a line has only spaces.
-fn is_blank(line: &[u8]) -> bool
+pub(crate) fn is_blank(line: &[u8]) -> bool
     ensures { result ≡ list_all (λ b. b == 32) line.now }
 {
     line.iter().all(|b| *b == b' ')

@@ -2,6 +2,7 @@ ghost use Rattle.std.specs.Prelude.{◌≡◌, ℕ, ⊤, ◌+◌, ◌*◌, ◌<�
 ghost use Rattle.std.specs.List.{AllPass, prefix_len};
 ghost use Rattle.hex.specs.Hex.{decode_of};
 ghost use Rattle.rmt_packets.specs.Fault.{MatchFault};
+ghost use Rattle.rmt_packets.specs.Pieces.{front_of};
 ghost use Rattle.rmt_packets.specs.PacketText.{begins_with_port, is_digit, number_of_digits, packet_of, port_digits};
 
 use std::alloc::Global;
@@ -28,10 +29,14 @@ const FRAME_DIGITS: usize = 18432;
 
 /// Reads a packet line: it answers the port, and replaces what `into` held by the frame. After a refusal `into` is
 /// empty.
+#[tactic(auto, using(crate::proofs::Fronts::packet_of_front))]
 pub fn read_packet(_alloc: Global, line: &[u8], into: &mut Vec<u8>) -> Result<u16, PacketFault>
     ensures packet { IfOk result (λ port. packet_of line.now ≡ Ok (record { port = port; frame = into.new.items })) }
     ensures code { IfErr result (λ fault. MatchFault fault ⊤ (λ code. packet_of line.now ≡ Err code)) }
     ensures emptied { OnErr result (into.new.items ≡ []) }
+
+    // A line is read as its first 18,444 bytes are.
+    ensures front { packet_of (front_of line.now) ≡ packet_of line.now }
 
     // What a packet that was read keeps.
     ensures port { IfOk result (λ port. port < 512) }

@@ -3,7 +3,7 @@ use Rattle.std.proofs.Common.{◌≡◌, ℕ, [], ◌∷◌, Ok, Err, map, refl}
 use Rattle.std.specs.List.{range_with_len}
 use Rattle.rmt_bits.specs.declared.lane.Lane.{Lane}
 use Rattle.rmt_ast.specs.declared.program.Field.{Field}
-use Rattle.rmt_phv.specs.declared.fault.PhvFull.TheVariants.{Full}
+use Rattle.rmt_phv.specs.declared.fault.PhvFull.TheVariants.{At}
 use Rattle.rmt_phv.specs.Packing.{pieces, places_from}
 
 abbrev field : ℕ → Field
@@ -32,9 +32,9 @@ next_class : places_from 0 (map (λ word. lane word 1) (range_with_len 0 64)) (f
 next_class = refl
 
 -- 64 pieces of 32 bits fill the words of 32, and the next finds none
-full : places_from 7 (map (λ word. lane word 32) (range_with_len 160 64)) (field 8 ∷ field 32 ∷ []) ≡ Err (Full 8 32)
+full : places_from 7 (map (λ word. lane word 32) (range_with_len 160 64)) (field 8 ∷ field 32 ∷ []) ≡ Err (At 8 32)
 full = refl
 
 -- a piece of 9 bits that finds no word tells the class of 16
-full_16 : places_from 0 (map (λ word. lane word 9) (range_with_len 64 160)) (field 9 ∷ []) ≡ Err (Full 0 16)
+full_16 : places_from 0 (map (λ word. lane word 9) (range_with_len 64 160)) (field 9 ∷ []) ≡ Err (At 0 16)
 full_16 = refl

@@ -1,33 +1,16 @@
 -- A well-formed program has fewer fields than `pack_fields` asks for at most.
-use Rattle.std.proofs.Common.{ℕ, zero, suc, ◌+◌, ◌*◌, ◌^◌, ◌<◌, ◌≤◌, List, [], ◌∷◌, ◌++◌, length, get_or, inl, inr, sym, subst, arith}
+use Rattle.std.proofs.Common.{ℕ, ◌*◌, ◌^◌, ◌<◌, ◌≤◌, List, [], ◌∷◌, length, get_or, inl, inr, sym, subst, arith}
 use Rattle.std.specs.Prelude.{All}
-use Rattle.std.specs.List.{flat_map, range_with_len}
 use Rattle.std.proofs.lemmas.List.Concat.{length-flat_map}
-use Rattle.std.proofs.lemmas.List.Elements.{All-nil, All-cons, All-head, All-tail, All-weaker, All-get_or}
+use Rattle.std.proofs.lemmas.List.Elements.{All-head, All-tail, All-weaker, All-get_or}
 use Rattle.std.proofs.lemmas.List.Sums.{sum_by-le, sum-map, sum_by-cons}
 use Rattle.std.proofs.lemmas.Option.{slice_get_cases, slice_get-get_or}
+use Rattle.rmt_bits.proofs.AllLaws.{All-range, All-parts}
 use Rattle.rmt_ast.specs.declared.program.Field.{Field}
 use Rattle.rmt_ast.specs.declared.program.Header.{Header}
 use Rattle.rmt_ast.specs.declared.program.Program.{Program}
 use Rattle.rmt_ast.specs.State.{width_of}
 use Rattle.rmt_ast.specs.WellFormed.{IsProgram, HasFields, IsWidth, bits_of, header_fields}
-
-All-range : (P : ℕ → Type 0) (a n : ℕ) → ((w : ℕ) → w < a + n → P w) → All P (range_with_len a n)
-All-range P a zero h = All-nil P
-All-range P a (suc n) h = All-cons P a (range_with_len (a + 1) n) (h a (omega arith)) (All-range P (a + 1) n (λ w lt. h w (omega arith)))
-
-All-left : {X : Type 0} (P : X → Type 0) (xs ys : List X) → All P (xs ++ ys) → All P xs
-All-left P [] ys h = All-nil P
-All-left P (x ∷ xs) ys h = All-cons P x xs (All-head P x (xs ++ ys) h) (All-left P xs ys (All-tail P x (xs ++ ys) h))
-
-All-right : {X : Type 0} (P : X → Type 0) (xs ys : List X) → All P (xs ++ ys) → All P ys
-All-right P [] ys h = h
-All-right P (x ∷ xs) ys h = All-right P xs ys (All-tail P x (xs ++ ys) h)
-
-All-parts : {X Y : Type 0} (P : Y → Type 0) (f : X → List Y) (xs : List X) → All P (flat_map f xs) → All (λ x. All P (f x)) xs
-All-parts P f [] h = All-nil (λ x. All P (f x))
-All-parts P f (x ∷ xs) h =
-    All-cons (λ x. All P (f x)) x xs (All-left P (f x) (flat_map f xs) h) (All-parts P f xs (All-right P (f x) (flat_map f xs) h))
 
 -- each field has a bit
 has_bits : (p : Program) → HasFields p → (f : ℕ) → f < length p.fields → 1 ≤ width_of p f

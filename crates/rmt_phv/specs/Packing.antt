@@ -5,7 +5,7 @@ use Rattle.rmt_bits.specs.declared.lane.Lane.{Lane}
 use Rattle.rmt_ast.specs.declared.program.Field.{Field}
 use Rattle.rmt_ast.specs.declared.program.Program.{Program}
 use Rattle.rmt_phv.specs.declared.fault.PhvFull.{PhvFull}
-use Rattle.rmt_phv.specs.declared.fault.PhvFull.TheVariants.{Full}
+use Rattle.rmt_phv.specs.declared.fault.PhvFull.TheVariants.{At}
 
 -- a result with a function of what Ok holds
 abbrev pub map_ok : {A B E : Type 0} → (A → B) → Result A E → Result B E
@@ -47,7 +47,7 @@ lanes_for lanes (len ∷ lens) = lane_then len (lane_for lanes len) (λ lane. la
 
 -- The lanes of some fields, the first of which has the number n, beside the lanes that stand.
 abbrev pub field_then : ℕ → Result (List Lane) ℕ → (List Lane → Result (List (List Lane)) PhvFull) → Result (List (List Lane)) PhvFull
-field_then n (Err piece) rest = Err (Full n (class_of piece))
+field_then n (Err piece) rest = Err (At n (class_of piece))
 field_then n (Ok own) rest = map_ok (λ places. own ∷ places) (rest own)
 
 abbrev pub places_from : ℕ → List Lane → List Field → Result (List (List Lane)) PhvFull

@@ -4,7 +4,7 @@ use Rattle.std.specs.List.{list_any}
 use Rattle.rmt_bits.specs.declared.lane.Lane.{Lane}
 use Rattle.rmt_phv.specs.declared.words.Words.{Words}
 use Rattle.rmt_phv.specs.declared.fault.PhvFull.{PhvFull}
-use Rattle.rmt_phv.specs.declared.fault.PhvFull.TheVariants.{Full}
+use Rattle.rmt_phv.specs.declared.fault.PhvFull.TheVariants.{At}
 use Rattle.rmt_phv.specs.Packing.{class_of}
 
 -- the words that are taken are those of the lanes
@@ -15,4 +15,4 @@ pub record Stands (lanes : List Lane) (words : Words) : Type 0 where
 -- the lanes of field n, or the fault of its first piece that finds no word
 abbrev pub told : ℕ → Result (List Lane) ℕ → Result (List Lane) PhvFull
 told n (Ok own) = Ok own
-told n (Err piece) = Err (Full n (class_of piece))
+told n (Err piece) = Err (At n (class_of piece))

@@ -9,11 +9,17 @@ use thiserror::Error;
 /// Why the fields of a program are not packed.
 #[derive(Debug, Drop, Error)]
 pub enum PhvFull {
+    /// There is not enough memory.
     #[error("out of memory")]
     NoMemory,
-    /// No word is left for a piece of this field; `class` is the size in bits of the least words that hold the piece.
+    /// No word is left for a piece of a field.
     #[error("no word of {class} bits or more is left for field {field}")]
-    Full { field: u32, class: u8 },
+    At {
+        /// The field's number, from 0 on.
+        field: u32,
+        /// The size of the least words that hold the piece: 8, 16 or 32 bits.
+        class: u8,
+    },
 }
 
 impl From<AllocError> for PhvFull {

@@ -8,6 +8,3 @@ pub mod places;
 mod words;
 
 pub use pack::pack_fields;
-
-#[cfg(test)]
-mod tests;

@@ -22,7 +22,7 @@ use std::alloc::Global;
 ///
 /// # Errors
 ///
-/// `Full` where no word is left for a piece, with the field's number and the least size that holds the piece; else for
+/// `At` where no word is left for a piece, with the field's number and the least size that holds the piece; else for
 /// want of memory.
 pub fn pack_fields(alloc: Global, program: &Program) -> Result<Places, PhvFull>
     // As every well-formed program has.
@@ -61,7 +61,7 @@ fn place_field(alloc: Global, words: &mut Words, field: u32, width: u8) -> Resul
         let len = left.min(32);
         let Some(lane) = words.take(len) else {
             let class = class_of(len);
-            return Err(PhvFull::Full { field, class });
+            return Err(PhvFull::At { field, class });
         };
         own.push(lane)?;
         left -= len;

@@ -168,7 +168,7 @@ cost Done = 0
 abbrev pub shortest : Phrase → ℕ
 shortest (Whole rule.Program) = 5
 shortest (Whole rule.Header) = 0
-shortest phrase.HeaderFields = 1
+shortest phrase.HeaderFields = 2
 shortest (Whole rule.Next) = 0
 shortest phrase.SelectNames = 1
 shortest phrase.Cases = 1

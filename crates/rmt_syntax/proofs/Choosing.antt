@@ -15,7 +15,7 @@ use Rattle.rmt_syntax.specs.Grammar.{Form, choices, terminal_of}
 use Rattle.rmt_syntax.specs.Trees.{Mark, tokens_in, Goal, part, phrase, shut, Reads, done, choose}
 use Rattle.rmt_syntax.specs.Lookahead.{same, may_begin, is_done, front, tails, Apart, Orderly, choice_of, is_operand_name}
 use Rattle.rmt_syntax.specs.State.{Stands}
-use Rattle.rmt_syntax.proofs.Fronts.{chosen, all_at, order_of}
+use Rattle.rmt_syntax.proofs.Fronts.{chosen, all_at, done_is, order_of}
 use Rattle.rmt_syntax.proofs.Machine.{next_token, within}
 use Rattle.rmt_syntax.proofs.Checks.{in_order, is_program, is_whole_program}
 use Rattle.rmt_syntax.proofs.Sets.{and_true, or_true, not_true, not_both, subset, disjoint, disjoint_is, apart_both, apart_part}
@@ -33,10 +33,6 @@ whole_is _ h = cc
 empty_is : (ps : List Part) (next : Phrase) → is_empty (ps, next) ≡ true → ps ≡ []
 empty_is [] next h = refl
 empty_is (p ∷ ps) next h = cc
-
-pub done_is : (x : Phrase) → is_done x ≡ true → x ≡ Done
-done_is Done h = refl
-done_is _ h = cc
 
 apart_rest : (b : Bool) (xs ys zs : List Terminal) → (not b || subset xs ys) ≡ true → Apart ys zs → Apart xs (if b then zs else [])
 apart_rest true xs ys zs h f = apart_part xs ys zs h f

@@ -37,6 +37,15 @@ is_unexpected tokens at goals seen depth s f =
       none = λ front is e. f (front ++ is.0) (tokens_in is.0) is.1 (tokens_append front is.0 ∙ ap (λ v. v ++ tokens_in is.0) e);
     }
 
+-- nothing comes
+pub fails_none : (tokens : List Token) (at : ℕ) (t : Token) (seen : List Mark) (depth : ℕ) → slice_get tokens at ≡ Some t → Stands tokens at [] seen depth → Fails tokens at
+fails_none tokens at t seen depth here s all more text e =
+    let w = s.whole all more text e in
+    no_token w.2 (next_token tokens more at t all seen w.0 here s.read w.1 e)
+  where
+    no_token : {ms : List Mark} {ts : List Token} {t : Token} → Reads [] ms → tokens_in ms ≡ t ∷ ts → ⊥
+    no_token nothing e = cc
+
 -- another token comes
 pub fails_one : (tokens : List Token) (at : ℕ) (t : Token) (c : Terminal) (gs : List Goal) (seen : List Mark) (depth : ℕ) → slice_get tokens at ≡ Some t
     → (terminal_of t.what ≡ c → ⊥) → Stands tokens at (part (One c) ∷ gs) seen depth → Fails tokens at

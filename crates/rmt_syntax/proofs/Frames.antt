@@ -2,8 +2,6 @@
 use Rattle.std.proofs.Common.{◌≡◌, ◌<◌, ◌∙◌, sym, ap, refl, List, [], ◌∷◌, ◌++◌, append_assoc, append-nil, map, length, length-append, arith}
 use Rattle.std.specs.List.{flat_map, fold}
 use Rattle.std.proofs.lemmas.Grind.{flat_map-append}
-use Rattle.std.specs.Prelude.{Vec}
-use Rattle.std.specs.declared.alloc.Global.{Global}
 use Rattle.rmt_syntax.specs.declared.tree.Rule.{Rule}
 use Rattle.rmt_syntax.specs.declared.tree.Tree.{Tree, Many}
 use Rattle.rmt_syntax.specs.declared.grammar.Part.{Part}
@@ -15,17 +13,17 @@ use Rattle.rmt_syntax.specs.State.{frame_marks, frame_goals, outer_goals}
 use Rattle.rmt_syntax.proofs.Marks.{marks_many}
 
 -- a node that is read to its end stands in the one around it
-pub closed : (fs gs : List Frame) (o : Frame) (r : Rule) (v : Vec Tree Global) (ps : List Tree) → gs ≡ fs ++ o ∷ [] → ps ≡ o.parts.items ++ Many r v ∷ []
-    → flat_map frame_marks fs ++ (opens o.rule ∷ flat_map marks ps) ≡ (flat_map frame_marks gs ++ (opens r ∷ flat_map marks v.items)) ++ shuts r ∷ []
+pub closed : (fs gs : List Frame) (o : Frame) (r : Rule) (v : List Tree) (ps : List Tree) → gs ≡ fs ++ o ∷ [] → ps ≡ o.parts ++ Many r v ∷ []
+    → flat_map frame_marks fs ++ (opens o.rule ∷ flat_map marks ps) ≡ (flat_map frame_marks gs ++ (opens r ∷ flat_map marks v)) ++ shuts r ∷ []
 closed fs gs o r v ps e1 e2 =
-    let inside : flat_map marks ps ≡ flat_map marks o.parts.items ++ (opens r ∷ (flat_map marks v.items ++ shuts r ∷ [])) =
-    ap (flat_map marks) e2 ∙ flat_map-append marks o.parts.items (Many r v ∷ []) ∙ ap (λ ms. flat_map marks o.parts.items ++ ms) (append-nil (marks (Many r v)) ∙ marks_many r v) in
-    let around : flat_map frame_marks gs ≡ flat_map frame_marks fs ++ (opens o.rule ∷ flat_map marks o.parts.items) =
+    let inside : flat_map marks ps ≡ flat_map marks o.parts ++ (opens r ∷ (flat_map marks v ++ shuts r ∷ [])) =
+    ap (flat_map marks) e2 ∙ flat_map-append marks o.parts (Many r v ∷ []) ∙ ap (λ ms. flat_map marks o.parts ++ ms) (append-nil (marks (Many r v)) ∙ marks_many r v) in
+    let around : flat_map frame_marks gs ≡ flat_map frame_marks fs ++ (opens o.rule ∷ flat_map marks o.parts) =
     ap (flat_map frame_marks) e1 ∙ flat_map-append frame_marks fs (o ∷ []) ∙ ap (λ ms. flat_map frame_marks fs ++ ms) (append-nil (frame_marks o)) in
     ap (λ ms. flat_map frame_marks fs ++ (opens o.rule ∷ ms)) inside
-    ∙ sym (append_assoc (flat_map frame_marks fs) (opens o.rule ∷ flat_map marks o.parts.items) (opens r ∷ (flat_map marks v.items ++ shuts r ∷ [])))
-    ∙ ap (λ ms. ms ++ (opens r ∷ (flat_map marks v.items ++ shuts r ∷ []))) (sym around)
-    ∙ sym (append_assoc (flat_map frame_marks gs) (opens r ∷ flat_map marks v.items) (shuts r ∷ []))
+    ∙ sym (append_assoc (flat_map frame_marks fs) (opens o.rule ∷ flat_map marks o.parts) (opens r ∷ (flat_map marks v ++ shuts r ∷ [])))
+    ∙ ap (λ ms. ms ++ (opens r ∷ (flat_map marks v ++ shuts r ∷ []))) (sym around)
+    ∙ sym (append_assoc (flat_map frame_marks gs) (opens r ∷ flat_map marks v) (shuts r ∷ []))
 
 grows : (gs : List Goal) (fs : List Frame) → 0 < length gs → 0 < length (fold (λ (gs : List Goal) (f : Frame). frame_goals f ++ gs) gs fs)
 grows gs [] h = h
@@ -52,6 +50,6 @@ finished f fs r h =
     let e = alone f fs r h in
     rw (e.0, e.1, marks_many) refl
 
-pub closing : (fs gs : List Frame) (o b inner : Frame) (ps : List Tree) → gs ≡ fs ++ o ∷ [] → ps ≡ o.parts.items ++ Many b.rule b.parts ∷ [] → b ≡ inner
+pub closing : (fs gs : List Frame) (o b inner : Frame) (ps : List Tree) → gs ≡ fs ++ o ∷ [] → ps ≡ o.parts ++ Many b.rule b.parts ∷ [] → b ≡ inner
     → flat_map frame_marks fs ++ (opens o.rule ∷ flat_map marks ps) ≡ (flat_map frame_marks gs ++ frame_marks inner) ++ shuts inner.rule ∷ []
 closing fs gs o b inner ps e1 e2 eb = closed fs gs o b.rule b.parts ps e1 e2 ∙ ap (λ (f : Frame). (flat_map frame_marks gs ++ frame_marks f) ++ shuts f.rule ∷ []) eb

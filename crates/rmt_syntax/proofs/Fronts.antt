@@ -2,6 +2,7 @@
 use Rattle.std.proofs.Common.{◌≡◌, ◌∙◌, inl, inr, ℕ, zero, suc, Bool, true, false, cond, sym, ap, refl, subst, List, [], ◌∷◌, ◌++◌, Some, map}
 use Rattle.std.specs.Prelude.{◌&&◌, ◌||◌, not, slice_get, if◌then◌else◌}
 use Rattle.std.specs.List.{list_any, list_all, flat_map, find}
+use Rattle.std.proofs.lemmas.Bool.{false_from_ne_true}
 use Rattle.rmt_lexer.specs.declared.token.Token.{Token}
 use Rattle.rmt_syntax.specs.declared.terminal.Terminal.{Terminal}
 use Rattle.rmt_syntax.specs.declared.tree.Rule.{Rule}
@@ -48,7 +49,7 @@ goes_of x = (and_true _ _ (fine x)).1
 pub empty_ends : (x : Phrase) (i : ℕ) (next : Phrase) → slice_get (choices x) i ≡ Some ([], next) → (may_end x ≡ true) × (is_done next ≡ true)
 empty_ends x i next e = (or_right (is_done x) _ (any_at is_empty (choices x) i ([], next) refl e), all_at ends_well (choices x) i ([], next) (ends_of x) e)
 
-done_is : (x : Phrase) → is_done x ≡ true → x ≡ Done
+pub done_is : (x : Phrase) → is_done x ≡ true → x ≡ Done
 done_is Done h = refl
 done_is _ h = cc
 
@@ -88,10 +89,6 @@ first_token t more (end d) e = first_token t more d e
 first_token t more (done d) e = first_token t more d e
 first_token t more (choose {x = x} {gs = gs} i parts next is d) e = form_begins (terminal_of t.what) x i parts next gs is (first_token t more d e)
 
-is_false : (b : Bool) → (b ≡ true → ⊥) → b ≡ false
-is_false true h = absurd (h refl)
-is_false false h = refl
-
 all_member : (p : Terminal → Bool) (xs : List Terminal) (t : Terminal) → list_all p xs ≡ true → member t xs ≡ true → p t ≡ true
 all_member p [] t h m = cc
 all_member p (x ∷ xs) t h m =
@@ -128,7 +125,7 @@ find_full x t (g ∷ h ∷ fs) (suc i) f d o e n m =
     let first = and_true (not (is_empty g) && list_all (λ (other : Form). differ x (first_form g) (first_form other)) (h ∷ fs)) (distinct x (h ∷ fs)) d in
     let both = and_true (not (is_empty g)) _ first.0 in
     let other : differ x (first_form g) (first_form f) ≡ true = all_at (λ (other : Form). differ x (first_form g) (first_form other)) (h ∷ fs) i f both.1 e in
-    let passes : may_begin g t ≡ false = is_false (may_begin g t) (λ k.
+    let passes : may_begin g t ≡ false = false_from_ne_true (may_begin g t) (λ k.
     let here : member t (first_form g) ≡ true = sym (begins_as g t (not_true _ both.0)) ∙ k in
     elim (or_true (not (member t (first_form f))) (is_operand_name x t) (all_member (λ v. not (member v (first_form f)) || is_operand_name x v) (first_form g) t other here)) [
       | inl a ↦ not_both _ m (not_true _ a)
@@ -147,7 +144,7 @@ find_empty x t (g ∷ []) (suc i) next d e n = cc
 find_empty x t (g ∷ h ∷ fs) (suc i) next d e n =
     let first = and_true (not (is_empty g) && list_all (λ (other : Form). differ x (first_form g) (first_form other)) (h ∷ fs)) (distinct x (h ∷ fs)) d in
     let both = and_true (not (is_empty g)) _ first.0 in
-    let passes : may_begin g t ≡ false = is_false (may_begin g t) (λ k. n (member_left t (first_form g) _ (sym (begins_as g t (not_true _ both.0)) ∙ k))) in
+    let passes : may_begin g t ≡ false = false_from_ne_true (may_begin g t) (λ k. n (member_left t (first_form g) _ (sym (begins_as g t (not_true _ both.0)) ∙ k))) in
     pass_first t g (h ∷ fs) passes ∙ find_empty x t (h ∷ fs) i next first.1 e (λ k. n (member_right t (first_form g) _ k))
 
 -- the form that the text goes on with is the one that is found

@@ -1,7 +1,10 @@
 mod Checks
 mod Choosing
+mod Cuts
+mod Deciding
 mod Ends
 mod Faults
+mod Forests
 mod Frames
 mod Fronts
 mod Machine

@@ -91,20 +91,36 @@ after_node (node {ms = ms} d) = (ms, refl, d)
 pub after_one : {c : Terminal} {gs : List Goal} {ms : List Mark} → Reads (part (One c) ∷ gs) ms → (t : Token) × (rest : List Mark) × (ms ≡ leaf t ∷ rest) × (terminal_of t.what ≡ c) × Reads gs rest
 after_one (token {t = t} {ms = ms} is d) = (t, ms, refl, is, d)
 
-pub close_stands : (tokens : List Token) (at : ℕ) (t : Token) (r : Rule) (gs : List Goal) (seen : List Mark) (depth : ℕ) → slice_get tokens at ≡ Some t
-    → Stands tokens at (phrase Done ∷ shut r ∷ gs) seen depth → Stands tokens at gs (seen ++ shuts r ∷ []) (depth_after depth (shuts r))
-close_stands tokens at t r gs seen depth here s = record {
+pub done_stands : (tokens : List Token) (at : ℕ) (t : Token) (gs : List Goal) (seen : List Mark) (depth : ℕ) → slice_get tokens at ≡ Some t
+    → Stands tokens at (phrase Done ∷ gs) seen depth → Stands tokens at gs seen depth
+done_stands tokens at t gs seen depth here s = record {
+  read = s.read;
+  sound = λ ms d. s.sound ms (done d);
+  whole = λ all more text e. let w = s.whole all more text e in (w.0, w.1, after_done w.2);
+  nested = s.nested;
+  open_blocks = s.open_blocks;
+  orderly = s.orderly.2;
+  ended = λ h. absurd (omega (arith, h, within tokens at t here));
+}
+
+pub shut_stands : (tokens : List Token) (at : ℕ) (t : Token) (r : Rule) (gs : List Goal) (seen : List Mark) (depth : ℕ) → slice_get tokens at ≡ Some t
+    → Stands tokens at (shut r ∷ gs) seen depth → Stands tokens at gs (seen ++ shuts r ∷ []) (depth_after depth (shuts r))
+shut_stands tokens at t r gs seen depth here s = record {
   read = tokens_append seen (shuts r ∷ []) ∙ append-nil (tokens_in seen) ∙ s.read;
-  sound = λ ms d. subst IsText (sym (append_assoc seen (shuts r ∷ []) ms)) (s.sound (shuts r ∷ ms) (done (end d)));
+  sound = λ ms d. subst IsText (sym (append_assoc seen (shuts r ∷ []) ms)) (s.sound (shuts r ∷ ms) (end d));
   whole = λ all more text e.
       let w = s.whole all more text e in
-      let v = after_end (after_done w.2) in
+      let v = after_end w.2 in
       (v.0, w.1 ∙ ap (λ ms. seen ++ ms) v.1 ∙ sym (append_assoc seen (shuts r ∷ []) v.0), v.2);
   nested = nested_more 0 seen (shuts r) s.nested (rw depth_append (omega (arith, shuts_less (depth_of seen) r, nested_now seen s.nested)));
   open_blocks = ap (λ n. depth_after n (shuts r)) s.open_blocks ∙ sym (depth_append 0 seen (shuts r));
-  orderly = s.orderly.2;
-  ended = λ h. absurd (omega (arith, within tokens at t here));
+  orderly = s.orderly;
+  ended = λ h. absurd (omega (arith, h, within tokens at t here));
 }
+
+pub close_stands : (tokens : List Token) (at : ℕ) (t : Token) (r : Rule) (gs : List Goal) (seen : List Mark) (depth : ℕ) → slice_get tokens at ≡ Some t
+    → Stands tokens at (phrase Done ∷ shut r ∷ gs) seen depth → Stands tokens at gs (seen ++ shuts r ∷ []) (depth_after depth (shuts r))
+close_stands tokens at t r gs seen depth here s = shut_stands tokens at t r gs seen depth here (done_stands tokens at t (shut r ∷ gs) seen depth here s)
 
 pub enter_stands : (tokens : List Token) (at : ℕ) (t : Token) (r : Rule) (gs : List Goal) (seen : List Mark) (depth : ℕ) → slice_get tokens at ≡ Some t
     → (r ≡ rule.Block → depth < 32) → Stands tokens at (part (Node r) ∷ gs) seen depth → Stands tokens at (phrase (Whole r) ∷ shut r ∷ gs) (seen ++ opens r ∷ []) (depth_after depth (opens r))

@@ -8,8 +8,6 @@ use Rattle.rmt_syntax.specs.declared.tree.Tree.TheVariants.{rolls-One, rolls-Man
 use Rattle.rmt_syntax.specs.declared.tree.Tree.TheOpen as tree
 use Rattle.rmt_syntax.specs.declared.tree.Tree.TheFolds.{fold-roll-Tree}
 use Rattle.rmt_syntax.specs.Trees.{Mark, leaf, opens, shuts, marks, marks_step}
-use Rattle.std.specs.Prelude.{Vec}
-use Rattle.std.specs.declared.alloc.Global.{Global}
 
 pub marks_one : (t : Token) → marks (One t) ≡ leaf t ∷ []
 marks_one t = ap marks (sym (rolls-One t)) ∙ fold-roll-Tree (List Mark) marks_step (tree.One t)
@@ -18,5 +16,5 @@ joined : {A : Type 0} (f : A → List Mark) (xs : List A) → flat_map (λ m. m)
 joined f [] = refl
 joined f (x ∷ xs) = ap (λ ms. f x ++ ms) (joined f xs)
 
-pub marks_many : (r : Rule) (v : Vec Tree Global) → marks (Many r v) ≡ opens r ∷ (flat_map marks v.items ++ shuts r ∷ [])
-marks_many r v = ap marks (sym (rolls-Many r v)) ∙ fold-roll-Tree (List Mark) marks_step (tree.Many r v) ∙ ap (λ ms. opens r ∷ (ms ++ shuts r ∷ [])) (joined marks v.items)
+pub marks_many : (r : Rule) (v : List Tree) → marks (Many r v) ≡ opens r ∷ (flat_map marks v ++ shuts r ∷ [])
+marks_many r v = ap marks (sym (rolls-Many r v)) ∙ fold-roll-Tree (List Mark) marks_step (tree.Many r v) ∙ ap (λ ms. opens r ∷ (ms ++ shuts r ∷ [])) (joined marks v)

@@ -14,18 +14,14 @@ use Rattle.rmt_syntax.specs.Grammar.{Form, choices, terminal_of}
 use Rattle.rmt_syntax.specs.Trees.{Mark, leaf, opens, tokens_in, Goal, part, phrase, shut, Reads, token, node, choose, IsText, IsNested}
 use Rattle.rmt_syntax.specs.Lookahead.{member, front, tails, Apart}
 use Rattle.rmt_syntax.specs.State.{Stands}
+use Rattle.rmt_bits.proofs.ListLaws.{slice_get-item}
 use Rattle.rmt_syntax.proofs.Fronts.{first_token, all_at}
 use Rattle.rmt_syntax.proofs.Machine.{tokens_append, next_token, take_next, nested_more, nested_now, depth_append, after_node, after_one, choose_now}
 use Rattle.rmt_syntax.proofs.Choosing.{same_form}
+use Rattle.rmt_syntax.proofs.Cuts.{Leads, at_once, within}
 use Rattle.rmt_syntax.proofs.Sets.{and_true, not_true, not_both}
 use Rattle.rmt_syntax.specs.Lookahead.{first_form, is_empty}
 use Rattle.std.proofs.lemmas.Bool.Decides.{leb_tells}
-
--- the place after one that is not the last has a token
-pub there_is : {A : Type 0} (xs : List A) (n : ℕ) → n < length xs → (x : A) × (slice_get xs n ≡ Some x)
-there_is [] n h = absurd (omega arith)
-there_is (x ∷ xs) zero h = (x, refl)
-there_is (x ∷ xs) (suc n) h = there_is xs n (omega arith)
 
 -- the marks of an operand: of a field of a header, or of a name with no dot behind it
 data Operand (gs : List Goal) : List Mark → Type 0 where
@@ -84,6 +80,15 @@ operand_by : (gs : List Goal) (t : Token) (more : List Token) (ms : List Mark) �
     → tokens_in ms ≡ t ∷ more → terminal_of t.what ≡ terminal.Name → Operand gs ms
 operand_by gs t more ms d is name = let n = choose_now refl d in leaf_by gs t more ms n.0 n.1 n.2 n.3 n.4 is name
 
+-- it begins with its name, but for the beginning of a field
+pub operand_first : (gs : List Goal) (t : Token) (more : List Token) (ms : List Mark) → Reads (phrase (Whole rule.Leaf) ∷ gs) ms
+    → tokens_in ms ≡ t ∷ more → terminal_of t.what ≡ terminal.Name → Leads ms
+operand_first gs t more ms d is name = first (operand_by gs t more ms d is name)
+  where
+    first : {ms : List Mark} → Operand gs ms → Leads ms
+    first (field {t = t} {u = u} {ms = ms} dot d) = within t (leaf u ∷ ms)
+    first (lone {t = t} {ms = ms} d) = at_once t ms
+
 -- a name with no dot behind it
 lone_whole : {gs : List Goal} {t u : Token} {more : List Token} {ms : List Mark} → Operand gs ms → tokens_in ms ≡ t ∷ u ∷ more → (terminal_of u.what ≡ terminal.Dot → ⊥)
     → (rest : List Mark) × (ms ≡ leaf t ∷ rest) × Reads (phrase Done ∷ gs) rest
@@ -100,7 +105,7 @@ field_whole {gs} {u = u} {more = more} (lone {ms = ms} d) e is apart =
     let n : member terminal.Dot (front gs) ≡ true = subst (λ c. member c (front gs) ≡ true) is m in
     absurd (not_both _ n (apart terminal.Dot refl))
 
-not_last : (tokens : List Token) (at : ℕ) (t : Token) → (length tokens ≤ suc at → t.what ≡ kind.End) → terminal_of t.what ≡ terminal.Name → suc at < length tokens
+pub not_last : (tokens : List Token) (at : ℕ) (t : Token) → (length tokens ≤ suc at → t.what ≡ kind.End) → terminal_of t.what ≡ terminal.Name → suc at < length tokens
 not_last tokens at t last name = elim (leb_tells (length tokens) (suc at)) [
   | inl e ↦ (let end : terminal.End ≡ terminal.Name = sym (ap terminal_of (last e.1)) ∙ name in cc)
   | inr e ↦ omega (arith, e.1)
@@ -112,7 +117,7 @@ pub lone_stands : (tokens : List Token) (at : ℕ) (t : Token) (gs : List Goal) 
     → Stands tokens at (phrase (Whole rule.Leaf) ∷ gs) seen depth → Stands tokens (suc at) (phrase Done ∷ gs) (seen ++ leaf t ∷ []) depth
 lone_stands tokens at t gs seen depth here last name undotted s =
     let inside : suc at < length tokens = not_last tokens at t last name in
-    let next = there_is tokens (suc at) inside in
+    let next = slice_get-item tokens (suc at) inside in
     record {
       read = tokens_append seen (leaf t ∷ []) ∙ ap (λ v. v ++ t ∷ []) s.read ∙ sym (take_next tokens at t here);
       sound = λ ms d. subst IsText (sym (append_assoc seen (leaf t ∷ []) ms)) (s.sound (leaf t ∷ ms) (choose 1 (One terminal.Name ∷ []) Done refl (token name d)));

@@ -15,7 +15,7 @@ use Rattle.rmt_syntax.specs.Trees.{Mark, leaf, opens, shuts, Goal, part, phrase,
 use Rattle.rmt_syntax.specs.Lookahead.{is_done}
 use Rattle.rmt_syntax.proofs.Checks.{cost, shortest, part_cost, is_cheaper, cheaper}
 use Rattle.rmt_syntax.proofs.Sets.{and_true}
-use Rattle.rmt_syntax.proofs.Choosing.{done_is}
+use Rattle.rmt_syntax.proofs.Fronts.{done_is}
 use Rattle.std.specs.Prelude.{nat_lt, codes}
 use Rattle.std.proofs.lemmas.Bool.{ltb-true}
 use Rattle.std.proofs.lemmas.Bool.Decides.{eqb_tells}
@@ -45,6 +45,7 @@ sample terminal.InPort = record { line = 0; column = 0; what = kind.Word (codes 
 sample terminal.OutPort = record { line = 0; column = 0; what = kind.Word (codes "out_port") }
 sample terminal.Drop = record { line = 0; column = 0; what = kind.Word (codes "drop") }
 sample terminal.Valid = record { line = 0; column = 0; what = kind.Word (codes "valid") }
+sample terminal.Tail = record { line = 0; column = 0; what = kind.Word (codes "tail") }
 sample terminal.Name = record { line = 0; column = 0; what = kind.Word (codes "a") }
 sample terminal.Number = record { line = 0; column = 0; what = kind.Number 0 }
 sample terminal.OpenBrace = record { line = 0; column = 0; what = kind.Sign 123 }
@@ -58,6 +59,7 @@ sample terminal.Dot = record { line = 0; column = 0; what = kind.Sign 46 }
 sample terminal.Assign = record { line = 0; column = 0; what = kind.Sign 61 }
 sample terminal.Plus = record { line = 0; column = 0; what = kind.Sign 43 }
 sample terminal.Minus = record { line = 0; column = 0; what = kind.Sign 45 }
+sample terminal.Star = record { line = 0; column = 0; what = kind.Sign 42 }
 sample terminal.Ampersand = record { line = 0; column = 0; what = kind.Sign 38 }
 sample terminal.Bar = record { line = 0; column = 0; what = kind.Sign 124 }
 sample terminal.Caret = record { line = 0; column = 0; what = kind.Sign 94 }
@@ -91,6 +93,7 @@ sample_is terminal.InPort = refl
 sample_is terminal.OutPort = refl
 sample_is terminal.Drop = refl
 sample_is terminal.Valid = refl
+sample_is terminal.Tail = refl
 sample_is terminal.Name = refl
 sample_is terminal.Number = refl
 sample_is terminal.OpenBrace = refl
@@ -104,6 +107,7 @@ sample_is terminal.Dot = refl
 sample_is terminal.Assign = refl
 sample_is terminal.Plus = refl
 sample_is terminal.Minus = refl
+sample_is terminal.Star = refl
 sample_is terminal.Ampersand = refl
 sample_is terminal.Bar = refl
 sample_is terminal.Caret = refl

@@ -8,7 +8,7 @@ use Rattle.rmt_syntax.specs.declared.terminal.Terminal.TheVariants as terminal
 use Rattle.rmt_syntax.specs.Lookahead.{terminal_number, same, member, Apart}
 
 abbrev pub all_terminals : List Terminal
-all_terminals = terminal.Header ∷ terminal.Next ∷ terminal.Accept ∷ terminal.Reject ∷ terminal.Meta ∷ terminal.Action ∷ terminal.Table ∷ terminal.Exact ∷ terminal.Prefix ∷ terminal.Ternary ∷ terminal.Actions ∷ terminal.Default ∷ terminal.Size ∷ terminal.Counted ∷ terminal.Control ∷ terminal.Apply ∷ terminal.If ∷ terminal.Else ∷ terminal.Hit ∷ terminal.Miss ∷ terminal.InPort ∷ terminal.OutPort ∷ terminal.Drop ∷ terminal.Valid ∷ terminal.Name ∷ terminal.Number ∷ terminal.OpenBrace ∷ terminal.CloseBrace ∷ terminal.OpenParen ∷ terminal.CloseParen ∷ terminal.Colon ∷ terminal.Semicolon ∷ terminal.Comma ∷ terminal.Dot ∷ terminal.Assign ∷ terminal.Plus ∷ terminal.Minus ∷ terminal.Ampersand ∷ terminal.Bar ∷ terminal.Caret ∷ terminal.Equal ∷ terminal.End ∷ terminal.Other ∷ []
+all_terminals = terminal.Header ∷ terminal.Next ∷ terminal.Accept ∷ terminal.Reject ∷ terminal.Meta ∷ terminal.Action ∷ terminal.Table ∷ terminal.Exact ∷ terminal.Prefix ∷ terminal.Ternary ∷ terminal.Actions ∷ terminal.Default ∷ terminal.Size ∷ terminal.Counted ∷ terminal.Control ∷ terminal.Apply ∷ terminal.If ∷ terminal.Else ∷ terminal.Hit ∷ terminal.Miss ∷ terminal.InPort ∷ terminal.OutPort ∷ terminal.Drop ∷ terminal.Valid ∷ terminal.Tail ∷ terminal.Name ∷ terminal.Number ∷ terminal.OpenBrace ∷ terminal.CloseBrace ∷ terminal.OpenParen ∷ terminal.CloseParen ∷ terminal.Colon ∷ terminal.Semicolon ∷ terminal.Comma ∷ terminal.Dot ∷ terminal.Assign ∷ terminal.Plus ∷ terminal.Minus ∷ terminal.Star ∷ terminal.Ampersand ∷ terminal.Bar ∷ terminal.Caret ∷ terminal.Equal ∷ terminal.End ∷ terminal.Other ∷ []
 
 listed : (t : Terminal) → slice_get all_terminals (terminal_number t) ≡ Some t
 listed terminal.Header = refl
@@ -35,6 +35,7 @@ listed terminal.InPort = refl
 listed terminal.OutPort = refl
 listed terminal.Drop = refl
 listed terminal.Valid = refl
+listed terminal.Tail = refl
 listed terminal.Name = refl
 listed terminal.Number = refl
 listed terminal.OpenBrace = refl
@@ -48,6 +49,7 @@ listed terminal.Dot = refl
 listed terminal.Assign = refl
 listed terminal.Plus = refl
 listed terminal.Minus = refl
+listed terminal.Star = refl
 listed terminal.Ampersand = refl
 listed terminal.Bar = refl
 listed terminal.Caret = refl

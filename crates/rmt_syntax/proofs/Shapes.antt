@@ -1,11 +1,10 @@
 -- A tree that the grammar reads as a rule is a node of that rule, and its parts, one after another, are those of the rule.
 use Rattle.std.proofs.Common.{◌≡◌, ◌∙◌, ◌⊎◌, inl, inr, sym, ap, refl, subst, ℕ, zero, suc, ◌+◌, ◌<◌, List, [], ◌∷◌, ◌++◌, map, length, arith, append_assoc, Some}
-use Rattle.std.specs.Prelude.{slice_get, Vec}
+use Rattle.std.specs.Prelude.{slice_get}
 use Rattle.std.specs.List.{flat_map}
 use Rattle.std.proofs.lemmas.List.{append_cancel_left, append_cancel_right}
-use Rattle.rmt_syntax.proofs.Choosing.{done_is}
+use Rattle.rmt_syntax.proofs.Fronts.{done_is}
 use Rattle.rmt_syntax.proofs.Fronts.{empty_ends}
-use Rattle.std.specs.declared.alloc.Global.{Global}
 use Rattle.rmt_lexer.specs.declared.token.Token.{Token}
 use Rattle.rmt_syntax.specs.declared.tree.Rule.{Rule}
 use Rattle.rmt_syntax.specs.declared.tree.Tree.{Tree, One, Many, out-Tree, roll-Tree, roll-out-Tree}
@@ -44,9 +43,9 @@ each_closes (e ∷ es) n b =
 layer_closes : (y : Tree-F ((t : Tree) × Closes t)) → Closes (roll-Tree (map-Tree ((t : Tree) × Closes t) Tree (λ e. e.0) y))
 layer_closes (tree.One t) n b = ap (λ ms. rest_of (suc n) (ms ++ b)) (fold-roll-Tree (List Mark) marks_step (tree.One t))
 layer_closes (tree.Many r v) n b =
-    let inner : List Mark = flat_map (λ m. m) (map marks (map (λ (e : (t : Tree) × Closes t). e.0) v.items)) in
+    let inner : List Mark = flat_map (λ m. m) (map marks (map (λ (e : (t : Tree) × Closes t). e.0) v)) in
     ap (λ ms. rest_of (suc n) (ms ++ b)) (fold-roll-Tree (List Mark) marks_step (map-Tree ((t : Tree) × Closes t) Tree (λ e. e.0) (tree.Many r v)))
-    ∙ ap (rest_of (suc (suc n))) (append_assoc inner (shuts r ∷ []) b) ∙ each_closes v.items (suc n) (shuts r ∷ b)
+    ∙ ap (rest_of (suc (suc n))) (append_assoc inner (shuts r ∷ []) b) ∙ each_closes v (suc n) (shuts r ∷ b)
 
 tree_closes : (t : Tree) → Closes t
 tree_closes = ind-Tree Closes (λ x y is. subst (λ z. Closes (roll-Tree z)) is (layer_closes y))
@@ -116,10 +115,10 @@ closes (done d) n b = closes d n b
 closes (choose {gs = gs} {ms = ms} i ps next is d) n b = ap (λ k. rest_of k (ms ++ b)) (sym (deeper_parts ps next gs (suc n))) ∙ closes d n b
 
 -- a tree is a token or a node
-view : (u : Tree) → ((t : Token) × (u ≡ One t)) ⊎ ((r : Rule) × (v : Vec Tree Global) × (u ≡ Many r v))
+pub view : (u : Tree) → ((t : Token) × (u ≡ One t)) ⊎ ((r : Rule) × (v : List Tree) × (u ≡ Many r v))
 view u = layer (out-Tree u) (roll-out-Tree u)
   where
-    layer : (x : Tree-F Tree) → roll-Tree x ≡ u → ((t : Token) × (u ≡ One t)) ⊎ ((r : Rule) × (v : Vec Tree Global) × (u ≡ Many r v))
+    layer : (x : Tree-F Tree) → roll-Tree x ≡ u → ((t : Token) × (u ≡ One t)) ⊎ ((r : Rule) × (v : List Tree) × (u ≡ Many r v))
     layer (tree.One t) e = inl (t, sym e ∙ rolls-One t)
     layer (tree.Many r v) e = inr (r, v, sym e ∙ rolls-Many r v)
 
@@ -127,7 +126,7 @@ trees_close : (us : List Tree) (n : ℕ) (b : List Mark) → rest_of (suc n) (fl
 trees_close [] n b = refl
 trees_close (u ∷ us) n b = ap (rest_of (suc n)) (append_assoc (marks u) (flat_map marks us) b) ∙ tree_closes u n (flat_map marks us ++ b) ∙ trees_close us n b
 
-nothing_more : {ms : List Mark} → Reads [] ms → ms ≡ []
+pub nothing_more : {ms : List Mark} → Reads [] ms → ms ≡ []
 nothing_more nothing = refl
 
 leaf_is : (t u : Token) (a b : List Mark) → leaf t ∷ a ≡ leaf u ∷ b → t ≡ u
@@ -147,8 +146,8 @@ one_part (parts.One c) a u rest b d e =
           let k : leaf w.0 ∷ rest ≡ leaf o.0 ∷ b = ap (λ v. v ++ rest) (sym m) ∙ e ∙ ap (λ v. v ++ b) a_is in
           m ∙ ap (λ v. leaf v ∷ []) (leaf_is w.0 o.0 rest b k) ∙ sym a_is
       | inr w ↦
-          let m : marks u ≡ opens w.0 ∷ (flat_map marks w.1.items ++ shuts w.0 ∷ []) = ap marks w.2 ∙ marks_many w.0 w.1 in
-          let k : opens w.0 ∷ ((flat_map marks w.1.items ++ shuts w.0 ∷ []) ++ rest) ≡ leaf o.0 ∷ b = ap (λ v. v ++ rest) (sym m) ∙ e ∙ ap (λ v. v ++ b) a_is in
+          let m : marks u ≡ opens w.0 ∷ (flat_map marks w.1 ++ shuts w.0 ∷ []) = ap marks w.2 ∙ marks_many w.0 w.1 in
+          let k : opens w.0 ∷ ((flat_map marks w.1 ++ shuts w.0 ∷ []) ++ rest) ≡ leaf o.0 ∷ b = ap (λ v. v ++ rest) (sym m) ∙ e ∙ ap (λ v. v ++ b) a_is in
           cc (k)
     ]
 one_part (parts.Node r) a u rest b d e =
@@ -162,12 +161,12 @@ one_part (parts.Node r) a u rest b d e =
           let k : leaf w.0 ∷ rest ≡ opens r ∷ ((s.0 ++ shuts r ∷ []) ++ b) = ap (λ v. v ++ rest) (sym m) ∙ e ∙ ap (λ v. v ++ b) a_is in
           cc (k)
       | inr w ↦
-          let inner : List Mark = flat_map marks w.1.items in
+          let inner : List Mark = flat_map marks w.1 in
           let m : marks u ≡ opens w.0 ∷ (inner ++ shuts w.0 ∷ []) = ap marks w.2 ∙ marks_many w.0 w.1 in
           let k : opens w.0 ∷ ((inner ++ shuts w.0 ∷ []) ++ rest) ≡ opens r ∷ ((s.0 ++ shuts r ∷ []) ++ b) = ap (λ v. v ++ rest) (sym m) ∙ e ∙ ap (λ v. v ++ b) a_is in
           let tails : inner ++ (shuts w.0 ∷ rest) ≡ s.0 ++ (shuts r ∷ b) =
           sym (append_assoc inner (shuts w.0 ∷ []) rest) ∙ (opens_is _ _ _ _ k).1 ∙ append_assoc s.0 (shuts r ∷ []) b in
-          let behind : rest ≡ b = sym (trees_close w.1.items 0 (shuts w.0 ∷ rest)) ∙ ap (rest_of 1) tails ∙ closes s.3 0 (shuts r ∷ b) in
+          let behind : rest ≡ b = sym (trees_close w.1 0 (shuts w.0 ∷ rest)) ∙ ap (rest_of 1) tails ∙ closes s.3 0 (shuts r ∷ b) in
           append_cancel_right (marks u) a b (ap (λ v. marks u ++ v) (sym behind) ∙ e)
     ]
 
@@ -182,10 +181,10 @@ part_first : (p : Part) (a b tail : List Mark) (r : Rule) → Reads (part p ∷ 
 part_first (parts.One c) a b tail r d e = let o = after_one d in let k : leaf o.0 ∷ (o.1 ++ b) ≡ shuts r ∷ tail = ap (λ v. v ++ b) (sym o.2) ∙ e in cc (k)
 part_first (parts.Node s) a b tail r d e = let o = after_node d in let k : opens s ∷ (o.0 ++ b) ≡ shuts r ∷ tail = ap (λ v. v ++ b) (sym o.1) ∙ e in cc (k)
 
-tree_first : (u : Tree) (b tail : List Mark) (r : Rule) → marks u ++ b ≡ shuts r ∷ tail → ⊥
+pub tree_first : (u : Tree) (b tail : List Mark) (r : Rule) → marks u ++ b ≡ shuts r ∷ tail → ⊥
 tree_first u b tail r e = elim (view u) [
   | inl w ↦ (let k : leaf w.0 ∷ b ≡ shuts r ∷ tail = ap (λ v. v ++ b) (sym (ap marks w.1 ∙ marks_one w.0)) ∙ e in cc (k))
-  | inr w ↦ (let k : opens w.0 ∷ ((flat_map marks w.1.items ++ shuts w.0 ∷ []) ++ b) ≡ shuts r ∷ tail = ap (λ v. v ++ b) (sym (ap marks w.2 ∙ marks_many w.0 w.1)) ∙ e in cc (k))
+  | inr w ↦ (let k : opens w.0 ∷ ((flat_map marks w.1 ++ shuts w.0 ∷ []) ++ b) ≡ shuts r ∷ tail = ap (λ v. v ++ b) (sym (ap marks w.2 ∙ marks_many w.0 w.1)) ∙ e in cc (k))
 ]
 
 -- the trees that stand at the parts, and the others
@@ -243,15 +242,15 @@ phrase_parts (suc n) x us r ms h (choose i (q ∷ qs) next is d) e =
     (phrase_parts n next c.behind r (flat_map marks c.behind ++ shuts r ∷ []) (omega (arith, h, c.fewer)) c.reads refl)
 
 -- a tree that reads as a rule is a node of it
-pub node_shape : (r : Rule) (t : Tree) → IsOf r t → (v : Vec Tree Global) × (t ≡ Many r v) × ArePartsOf (Whole r) v.items
+pub node_shape : (r : Rule) (t : Tree) → IsOf r t → (v : List Tree) × (t ≡ Many r v) × ArePartsOf (Whole r) v
 node_shape r t d = elim (view t) [
   | inl w ↦ (let o = after_node d in let k : leaf w.0 ∷ [] ≡ opens r ∷ o.0 = sym (ap marks w.1 ∙ marks_one w.0) ∙ o.1 in cc (k))
   | inr w ↦
       let o = after_node d in
-      let m : marks t ≡ opens w.0 ∷ (flat_map marks w.1.items ++ shuts w.0 ∷ []) = ap marks w.2 ∙ marks_many w.0 w.1 in
+      let m : marks t ≡ opens w.0 ∷ (flat_map marks w.1 ++ shuts w.0 ∷ []) = ap marks w.2 ∙ marks_many w.0 w.1 in
       let k = opens_is w.0 r _ _ (sym m ∙ o.1) in
-      let body : o.0 ≡ flat_map marks w.1.items ++ shuts r ∷ [] = sym k.1 ∙ ap (λ v. flat_map marks w.1.items ++ shuts v ∷ []) k.0 in
-      (w.1, w.2 ∙ ap (λ v. Many v w.1) k.0, phrase_parts (suc (length w.1.items)) (Whole r) w.1.items r o.0 (omega arith) o.2 body)
+      let body : o.0 ≡ flat_map marks w.1 ++ shuts r ∷ [] = sym k.1 ∙ ap (λ v. flat_map marks w.1 ++ shuts v ∷ []) k.0 in
+      (w.1, w.2 ∙ ap (λ v. Many v w.1) k.0, phrase_parts (suc (length w.1)) (Whole r) w.1 r o.0 (omega arith) o.2 body)
 ]
 
 -- a tree that reads as a token is one
@@ -263,5 +262,5 @@ token_shape c t d =
           let m : leaf w.0 ∷ [] ≡ leaf o.0 ∷ o.1 = sym (ap marks w.1 ∙ marks_one w.0) ∙ o.2 in
           let it : w.0 ≡ o.0 = leaf_is w.0 o.0 [] o.1 m in
           (w.0, w.1, ap (λ (v : Token). terminal_of v.what) it ∙ o.3)
-      | inr w ↦ (let k : opens w.0 ∷ (flat_map marks w.1.items ++ shuts w.0 ∷ []) ≡ leaf o.0 ∷ o.1 = sym (ap marks w.2 ∙ marks_many w.0 w.1) ∙ o.2 in cc (k))
+      | inr w ↦ (let k : opens w.0 ∷ (flat_map marks w.1 ++ shuts w.0 ∷ []) ≡ leaf o.0 ∷ o.1 = sym (ap marks w.2 ∙ marks_many w.0 w.1) ∙ o.2 in cc (k))
     ]

@@ -10,17 +10,19 @@ use Rattle.rmt_syntax.specs.declared.grammar.Phrase.TheVariants.{Whole, Done}
 use Rattle.rmt_syntax.specs.Grammar.{Form, choices}
 use Rattle.rmt_syntax.specs.Trees.{Goal, part, phrase, shut}
 use Rattle.rmt_syntax.specs.Lookahead.{first_of, may_begin, is_done, choice_of}
-use Rattle.rmt_syntax.proofs.Fronts.{all_at}
+use Rattle.rmt_syntax.proofs.Fronts.{all_at, empty_ends, done_is}
 use Rattle.std.specs.Prelude.{nat_lt, if◌then◌else◌}
 use Rattle.std.proofs.lemmas.Bool.{ltb-true}
 use Rattle.rmt_syntax.specs.Lookahead.{weight, height, may_end, first_phrase}
 use Rattle.rmt_syntax.proofs.Checks.{is_lower, lower, beginning}
-use Rattle.rmt_syntax.proofs.Fronts.{empty_ends}
-use Rattle.rmt_syntax.proofs.Choosing.{found_at, done_is}
+use Rattle.rmt_syntax.proofs.Choosing.{found_at}
 use Rattle.rmt_syntax.proofs.Sets.{and_true, not_true, subset}
 
 pub close_lowers : (r : Rule) (gs : List Goal) → weight gs < weight (phrase Done ∷ shut r ∷ gs)
 close_lowers r gs = omega arith
+
+pub done_lowers : (gs : List Goal) → weight gs < weight (phrase Done ∷ gs)
+done_lowers gs = omega arith
 
 pub enter_lowers : (r : Rule) (gs : List Goal) → weight (phrase (Whole r) ∷ shut r ∷ gs) < weight (part (Node r) ∷ gs)
 enter_lowers r gs =

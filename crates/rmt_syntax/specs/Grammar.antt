@@ -39,6 +39,7 @@ keywords =
     (codes "out_port", terminal.OutPort) ∷
     (codes "drop", terminal.Drop) ∷
     (codes "valid", terminal.Valid) ∷
+    (codes "tail", terminal.Tail) ∷
     []
 
 -- the signs of one byte
@@ -55,6 +56,7 @@ signs =
     (61, terminal.Assign) ∷  -- =
     (43, terminal.Plus) ∷  -- +
     (45, terminal.Minus) ∷  -- -
+    (42, terminal.Star) ∷  -- *
     (38, terminal.Ampersand) ∷  -- &
     (124, terminal.Bar) ∷  -- |
     (94, terminal.Caret) ∷  -- ^
@@ -95,13 +97,14 @@ choices (Whole rule.Program) =
     (Node rule.Control ∷ One terminal.End ∷ [], phrase.Done) ∷
     (One terminal.End ∷ [], phrase.Done) ∷
     []
--- header = "header" NAME "{" { NAME ":" NUMBER ";" } "}" "next" next
+-- header = "header" NAME "{" { NAME ":" NUMBER ";" } [ "tail" NAME "*" NUMBER "-" NUMBER ";" ] "}" "next" next
 choices (Whole rule.Header) =
     (One terminal.Header ∷ One terminal.Name ∷ One terminal.OpenBrace ∷ [], phrase.HeaderFields) ∷
     []
--- the fields of a header, and what follows them
+-- the fields of a header, its tail, if any, and what follows them
 choices phrase.HeaderFields =
     (One terminal.Name ∷ One terminal.Colon ∷ One terminal.Number ∷ One terminal.Semicolon ∷ [], phrase.HeaderFields) ∷
+    (One terminal.Tail ∷ One terminal.Name ∷ One terminal.Star ∷ One terminal.Number ∷ One terminal.Minus ∷ One terminal.Number ∷ One terminal.Semicolon ∷ One terminal.CloseBrace ∷ One terminal.Next ∷ Node rule.Next ∷ [], phrase.Done) ∷
     (One terminal.CloseBrace ∷ One terminal.Next ∷ Node rule.Next ∷ [], phrase.Done) ∷
     []
 -- next = target ";" | "(" NAME { "," NAME } ")" "{" { case } "else" ":" target ";" "}"

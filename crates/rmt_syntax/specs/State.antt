@@ -15,7 +15,7 @@ use Rattle.rmt_syntax.specs.Trees.{Mark, opens, marks, tokens_in, Goal, part, ph
 
 -- the marks of the parts that a node has so far
 abbrev pub frame_marks : Frame → List Mark
-frame_marks f = opens f.rule ∷ flat_map marks f.parts.items
+frame_marks f = opens f.rule ∷ flat_map marks f.parts
 
 -- what is to come of it
 abbrev pub frame_goals : Frame → List Goal

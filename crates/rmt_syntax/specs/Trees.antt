@@ -4,8 +4,6 @@ use Rattle.std.specs.List.{flat_map}
 use Rattle.rmt_lexer.specs.declared.token.Token.{Token}
 use Rattle.rmt_lexer.specs.declared.fault.ProgramFault.{ProgramFault}
 use Rattle.rmt_lexer.specs.declared.fault.ProgramFault.TheVariants.{NoMemory, At}
-use Rattle.std.specs.Prelude.{Vec}
-use Rattle.std.specs.declared.alloc.Global.{Global}
 use Rattle.rmt_syntax.specs.declared.terminal.Terminal.{Terminal}
 use Rattle.rmt_syntax.specs.declared.tree.Tree.{Tree, Many}
 use Rattle.rmt_syntax.specs.declared.tree.Tree.TheViews.{made-One}
@@ -28,7 +26,7 @@ pub data Mark : Type 0 where
 
 abbrev pub marks_step : Tree-F (List Mark) → List Mark
 marks_step (tree.One t) = leaf t ∷ []
-marks_step (tree.Many r parts) = opens r ∷ (flat_map (λ m. m) parts.items ++ shuts r ∷ [])
+marks_step (tree.Many r parts) = opens r ∷ (flat_map (λ m. m) parts ++ shuts r ∷ [])
 
 -- a tree from left to right: its tokens, and around the parts of each rule where its text begins and ends
 abbrev pub marks : Tree → List Mark
@@ -113,6 +111,13 @@ IsFaultAt tokens code k = ((code ≡ 3) × Unexpected tokens k) ⊎ ((code ≡ 4
 abbrev pub IsFault : List Token → ℕ → ℕ → ℕ → Type 0
 IsFault tokens code line column = (k : ℕ) × (t : Token) × (slice_get tokens k ≡ Some t) × (t.line ≡ line) × (t.column ≡ column) × IsFaultAt tokens code k
 
+-- the tokens have a tree, or a fault
+abbrev pub HasTree : List Token → Type 0
+HasTree tokens = (t : Tree) × IsTreeOf tokens t
+
+abbrev pub HasFault : List Token → Type 0
+HasFault tokens = (code : ℕ) × (line : ℕ) × (column : ℕ) × IsFault tokens code line column
+
 -- the answer: the tree, or the fault, or want of memory
 abbrev pub Answers : List Token → Result Tree ProgramFault → Type 0
 Answers tokens (Ok t) = IsTreeOf tokens t
@@ -121,7 +126,7 @@ Answers tokens (Err (At code line column)) = IsFault tokens code line column
 
 -- the answer is that tree, or want of memory
 abbrev pub Gives : Result Tree ProgramFault → Tree → Type 0
-Gives (Ok t) wanted = marks t ≡ marks wanted
+Gives (Ok t) wanted = t ≡ wanted
 Gives (Err NoMemory) wanted = Unit {0}
 Gives (Err (At code line column)) wanted = ⊥
 
@@ -147,7 +152,7 @@ ArePartsOf x ts = (ps : List Part) × Follows x ps × AreParts ps ts
 
 -- the tree is a node of the rule, and its parts are those of the rule's text, each a token or a tree of its rule
 abbrev pub IsNodeOf : Rule → Tree → Type 0
-IsNodeOf r t = (v : Vec Tree Global) × (t ≡ Many r v) × ArePartsOf (Whole r) v.items
+IsNodeOf r t = (parts : List Tree) × (t ≡ Many r parts) × ArePartsOf (Whole r) parts
 
 -- the tree is a token of that kind
 abbrev pub IsTokenOf : Terminal → Tree → Type 0

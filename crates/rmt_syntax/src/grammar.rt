@@ -7,6 +7,7 @@ use crate::tree::Rule;
 /// A part of the text of a rule.
 #[derive(Clone, Copy, Debug, PartialEq, Eq)]
 pub enum Part {
+    /// A token.
     One(Terminal),
     /// The text of a rule.
     Node(Rule),
@@ -17,7 +18,7 @@ pub enum Part {
 pub enum Phrase {
     /// All of it.
     Whole(Rule),
-    /// The fields of a header, and what follows them.
+    /// The fields of a header, its tail, if any, and what follows them.
     HeaderFields,
     /// The further names of a select.
     SelectNames,
@@ -68,7 +69,9 @@ pub enum Phrase {
 /// One of the forms of a phrase: its parts up to where there is a choice again, and the phrase that goes on from there.
 #[derive(Clone, Copy, Debug)]
 pub struct Choice {
+    /// The parts up to the next choice.
     pub parts: &'static [Part],
+    /// The phrase that goes on behind them.
     pub then: Phrase,
 }
 
@@ -104,7 +107,7 @@ pub fn choices(phrase: Phrase) -> &'static [Choice]
                 then: Phrase::Done,
             },
         ],
-        // header = "header" NAME "{" { NAME ":" NUMBER ";" } "}" "next" next
+        // header = "header" NAME "{" { NAME ":" NUMBER ";" } [ "tail" NAME "*" NUMBER "-" NUMBER ";" ] "}" "next" next
         Phrase::Whole(Rule::Header) => &[Choice {
             parts: &[
                 Part::One(Terminal::Header),
@@ -122,6 +125,21 @@ pub fn choices(phrase: Phrase) -> &'static [Choice]
                     Part::One(Terminal::Semicolon),
                 ],
                 then: Phrase::HeaderFields,
+            },
+            Choice {
+                parts: &[
+                    Part::One(Terminal::Tail),
+                    Part::One(Terminal::Name),
+                    Part::One(Terminal::Star),
+                    Part::One(Terminal::Number),
+                    Part::One(Terminal::Minus),
+                    Part::One(Terminal::Number),
+                    Part::One(Terminal::Semicolon),
+                    Part::One(Terminal::CloseBrace),
+                    Part::One(Terminal::Next),
+                    Part::Node(Rule::Next),
+                ],
+                then: Phrase::Done,
             },
             Choice {
                 parts: &[

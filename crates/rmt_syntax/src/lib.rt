@@ -7,8 +7,6 @@ mod lookahead;
 mod parser;
 mod reader;
 pub mod terminal;
-#[cfg(test)]
-mod tests;
 pub mod tree;
 
 pub use parser::syntax;

@@ -1,9 +1,9 @@
 ghost use Rattle.std.specs.Prelude.{◌≡◌, map, option_map};
 ghost use Rattle.std.specs.List.{find};
-ghost use Rattle.rmt_syntax.specs.Lookahead.{same, member, first_of, may_begin, is_done, is_operand_name, choice_of};
+ghost use Rattle.rmt_syntax.specs.Lookahead.{member, first_of, may_begin, is_done, is_operand_name, choice_of};
 
 use crate::grammar::{Choice, Part, Phrase, choices};
-use crate::terminal::Terminal;
+use crate::terminal::{Terminal, is_same};
 use crate::tree::Rule;
 
 /// The terminals that the text of a rule may begin with.
@@ -62,13 +62,6 @@ fn first_of(rule: Rule) -> &'static [Terminal]
         Rule::Stmt => &[Terminal::Apply, Terminal::If],
         Rule::Arm => &[Terminal::Hit, Terminal::Miss, Terminal::Name],
     }
-}
-
-/// Whether two terminals are the same.
-pub fn is_same(a: Terminal, b: Terminal) -> bool
-    ensures { result ≡ same a b }
-{
-    a == b
 }
 
 /// Whether a terminal is in the list.

@@ -12,9 +12,9 @@ ghost use Rattle.rmt_syntax.specs.Lookahead.{is_done, weight};
 ghost use Rattle.rmt_syntax.specs.State.{Stands, Refuses, IsNoOperandName, goals_of, marks_of};
 
 use crate::grammar::{Part, Phrase};
-use crate::lookahead::{choice_of, is_done, is_operand_name, is_same};
+use crate::lookahead::{choice_of, is_done, is_operand_name};
 use crate::reader::Reader;
-use crate::terminal::{Terminal, terminal_of};
+use crate::terminal::{Terminal, is_same, terminal_of};
 use crate::tree::{Rule, Tree};
 use rmt_lexer::fault::ProgramFault;
 use rmt_lexer::token::Token;

@@ -11,39 +11,46 @@ ghost use Rattle.rmt_syntax.specs.declared.grammar.Phrase.TheVariants.{Whole, Do
 use crate::grammar::{Choice, Part, Phrase};
 use crate::terminal::Terminal;
 use crate::tree::{Rule, Tree};
+use rmt_bits::sequence::Sequence;
 use rmt_lexer::fault::ProgramFault;
 use rmt_lexer::token::Token;
 use std::alloc::Global;
 use std::mem;
 
-/// A node that is not read to its end: its parts so far, the parts that come next, and the phrase behind them.
+/// A node that is not read to its end.
 #[derive(Drop)]
 pub struct Frame {
+    /// The rule of the node.
     pub rule: Rule,
-    pub parts: Vec<Tree>,
+    /// The parts that are read.
+    pub parts: Sequence<Tree>,
+    /// The parts that come next.
     pub todo: &'static [Part],
+    /// The phrase behind them.
     pub then: Phrase,
 }
 
-/// A reader in the middle of a text: the node that is read, those around it from the outermost on, and how many of them
-/// are blocks.
+/// A reader in the middle of a text.
 #[derive(Drop)]
 pub struct Reader {
+    /// The nodes around the one that is read, from the outermost on.
     pub outer: Vec<Frame>,
+    /// The node that is read.
     pub inner: Frame,
+    /// How many of them are blocks.
     pub depth: u8,
 }
 
 /// A node of which nothing is read.
 fn fresh(alloc: Global, rule: Rule) -> Frame
-    ensures parts { result.parts.items ≡ [] }
+    ensures parts { result.parts ≡ [] }
     ensures todo { result.todo.now ≡ [] }
     ensures rule { result.rule ≡ rule }
     ensures then { result.then ≡ Whole rule }
 {
     Frame {
         rule,
-        parts: Vec::new(alloc),
+        parts: Sequence::new(alloc),
         todo: &[],
         then: Phrase::Whole(rule),
     }

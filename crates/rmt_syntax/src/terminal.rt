@@ -1,6 +1,7 @@
 ghost use Rattle.std.specs.Prelude.{◌≡◌, ◌==◌, map};
 ghost use Rattle.std.specs.Str.{bytes_eq};
 ghost use Rattle.rmt_syntax.specs.declared.terminal.Terminal.TheVariants.{Name, Other};
+ghost use Rattle.rmt_syntax.specs.Lookahead.{same};
 ghost use Rattle.rmt_syntax.specs.Grammar.{entry, keywords, signs, word_terminal, sign_terminal, terminal_of};
 
 use rmt_lexer::token::{Token, TokenKind};
@@ -32,6 +33,7 @@ pub enum Terminal {
     OutPort,
     Drop,
     Valid,
+    Tail,
     Name,
     Number,
     OpenBrace,
@@ -45,6 +47,7 @@ pub enum Terminal {
     Assign,
     Plus,
     Minus,
+    Star,
     Ampersand,
     Bar,
     Caret,
@@ -161,6 +164,10 @@ fn keywords() -> &'static [Keyword]
             word: b"valid",
             terminal: Terminal::Valid,
         },
+        Keyword {
+            word: b"tail",
+            terminal: Terminal::Tail,
+        },
     ]
 }
 
@@ -221,6 +228,10 @@ fn signs() -> &'static [Sign]
             terminal: Terminal::Minus,
         },
         Sign {
+            byte: b'*',
+            terminal: Terminal::Star,
+        },
+        Sign {
             byte: b'&',
             terminal: Terminal::Ampersand,
         },
@@ -271,6 +282,13 @@ fn sign_terminal(byte: u8) -> Terminal
     ensures { result ≡ sign_terminal byte }
 {
     sign_in(signs(), byte)
+}
+
+/// Whether two terminals are the same.
+pub fn is_same(a: Terminal, b: Terminal) -> bool
+    ensures { result ≡ same a b }
+{
+    a == b
 }
 
 /// What a token is to the grammar.

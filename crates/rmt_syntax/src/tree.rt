@@ -1,3 +1,4 @@
+use rmt_bits::sequence::Sequence;
 use rmt_lexer::token::Token;
 
 /// A rule of the grammar.
@@ -26,7 +27,13 @@ pub enum Rule {
 /// The parse tree of a program's text.
 #[derive(Debug, Drop)]
 pub enum Tree {
+    /// A token.
     One(Token),
-    /// The text of a rule: its tokens and the texts of the rules in it, in their order.
-    Many { rule: Rule, parts: Vec<Tree> },
+    /// The text of a rule.
+    Many {
+        /// The rule.
+        rule: Rule,
+        /// Its tokens and the texts of the rules in it, in their order.
+        parts: Sequence<Tree>,
+    },
 }

@@ -1,22 +1,22 @@
 //! Headers.
 
-ghost use Rattle.std.specs.Prelude.{◌≡◌, ◌≤◌, ◌<◌, ◌+◌, ◌^◌, All, IfOk, IfErr, length, map};
+ghost use Rattle.std.specs.Prelude.{◌≡◌, ◌≤◌, ◌<◌, ◌+◌, ◌^◌, All, IfOk, IfErr, length, map, option_map};
 ghost use Rattle.std.specs.List.{range_with_len};
 ghost use Rattle.rmt_lexer.specs.declared.fault.ProgramFault.TheVariants.{NoMemory};
 ghost use Rattle.rmt_check.specs.declared.source.Ident.{Ident};
 ghost use Rattle.rmt_check.specs.Names.{selected};
 ghost use Rattle.rmt_check.specs.Rules as rules;
-ghost use Rattle.rmt_check.specs.Meaning.{case_of, field_number, header_from, headers_from};
+ghost use Rattle.rmt_check.specs.Meaning.{case_of, field_number, header_from, headers_from, tail_of};
 ghost use Rattle.rmt_check.specs.Building.{case_with, tests_for};
-ghost use Rattle.rmt_check.specs.Sizes.{IsSized, IsSizedHeader};
+ghost use Rattle.rmt_check.specs.Sizes.{IsSized, IsSizedHeader, IsSizedTail};
 
 use crate::building::known::{number_at, target_of};
 use crate::building::values::test_of;
 use crate::names::Names;
 use crate::reading_words::copy_name;
 use crate::selects::select_widths;
-use crate::source::{CaseText, Declared, HeaderText, ValueText};
-use rmt_ast::program::{Case, Header, Test};
+use crate::source::{CaseText, Declared, HeaderText, TailText, ValueText};
+use rmt_ast::program::{Case, Header, Tail, Test};
 use rmt_bits::answer::Numbers;
 use rmt_bits::sequence::Sequence;
 use rmt_lexer::fault::ProgramFault;
@@ -59,10 +59,9 @@ fn select_numbers(
         ≡ map (λ (i : Ident). field_number names.now (selected names.now header.now i)) header.now.select) }
     ensures err { IfErr result (λ fault. fault ≡ NoMemory) }
 {
-    let owner = names.header_owner(header.ident.name.as_slice());
     let mut numbers = Sequence::new(alloc);
     for one in header.select.as_slice() {
-        numbers.push(number_at(names, (owner, one.name.as_slice())))?;
+        numbers.push(number_at(names, names.own_key(header, one)))?;
     }
     Ok(numbers)
 }
@@ -133,6 +132,31 @@ fn cases_of(
     cases_with(alloc, names, widths.as_slice(), header.cases.as_slice())
 }
 
+/// The tail of a header whose text is within the bounds of the rules.
+fn tail_of(names: &Names<'_>, header: &HeaderText, tail: &TailText) -> Tail
+    requires sized { IsSized names.now }
+    requires tail { IsSizedTail tail.now }
+    ensures { result ≡ tail_of names.now header.now tail.now }
+{
+    Tail {
+        field: number_at(names, names.own_key(header, &tail.field)),
+        unit: tail.unit.value as u8,
+        base: tail.base.value as u8,
+    }
+}
+
+/// The tail of a header, if it has one.
+fn tail_in(names: &Names<'_>, header: &HeaderText) -> Option<Tail>
+    requires sized { IsSized names.now }
+    requires header { IsSizedHeader header.now }
+    ensures { result ≡ option_map (tail_of names.now header.now) header.now.tail }
+{
+    match &header.tail {
+        Some(tail) => Some(tail_of(names, header, tail)),
+        None => None,
+    }
+}
+
 /// A header whose valid has the number `valid`.
 fn header_from(
     alloc: Global,
@@ -151,6 +175,7 @@ fn header_from(
         valid,
         fields: numbers_from(alloc, valid + 1, header.fields.len())?,
         bytes: (bits_of(header) / 8) as u8,
+        tail: tail_in(names, header),
         select: select_numbers(alloc, names, header)?,
         cases: cases_of(alloc, names, header)?,
         other: target_of(names, &header.other),

@@ -2,7 +2,7 @@
 
 ghost use Rattle.std.specs.Prelude.{◌≡◌, ◌<◌, ◌≤◌, ◌^◌, length, position, unwrap_or};
 ghost use Rattle.std.specs.Str.{bytes_eq};
-ghost use Rattle.rmt_check.specs.Names.{param_names, header_names, key_of, table_names};
+ghost use Rattle.rmt_check.specs.Names.{param_names, header_names, named, table_names};
 ghost use Rattle.rmt_check.specs.Meaning.{index_of, field_number, action_number, target_of};
 ghost use Rattle.rmt_check.specs.Sizes.{IsSized};
 ghost use Rattle.rmt_check.specs.Standing.{key_in};
@@ -31,7 +31,7 @@ pub fn number_at(names: &Names<'_>, key: FieldKey<'_>) -> u32
 /// The number of a field that is named.
 pub fn field_number(names: &Names<'_>, field: &FieldText) -> u32
     requires { IsSized names.now }
-    ensures { result ≡ field_number names.now (key_of names.now field.now) }
+    ensures { result ≡ field_number names.now (named names.now field.now) }
 {
     number_at(names, names.key(field))
 }

@@ -4,7 +4,7 @@ ghost use Rattle.std.specs.Prelude.{◌≡◌, IfOk, IfErr, map};
 ghost use Rattle.rmt_lexer.specs.declared.fault.ProgramFault.TheVariants.{NoMemory};
 ghost use Rattle.rmt_check.specs.declared.source.Number.{Number};
 ghost use Rattle.rmt_check.specs.declared.source.FieldText.{FieldText};
-ghost use Rattle.rmt_check.specs.Names.{key_of};
+ghost use Rattle.rmt_check.specs.Names.{named};
 ghost use Rattle.rmt_check.specs.Meaning.{action_number, field_number, table_of, table_with};
 ghost use Rattle.rmt_check.specs.Sizes.{IsSized, IsSizedKey, IsSizedTable};
 
@@ -25,7 +25,7 @@ fn key_numbers(
     fields: &[FieldText],
 ) -> Result<Numbers, ProgramFault>
     requires { IsSized names.now }
-    ensures numbers { IfOk result (λ numbers. numbers ≡ map (λ (f : FieldText). field_number names.now (key_of names.now f)) fields.now) }
+    ensures numbers { IfOk result (λ numbers. numbers ≡ map (λ (f : FieldText). field_number names.now (named names.now f)) fields.now) }
     ensures err { IfErr result (λ fault. fault ≡ NoMemory) }
 {
     let mut numbers = Sequence::new(alloc);

@@ -3,8 +3,8 @@ use Rattle.std.specs.List.{flat_map}
 use Rattle.std.specs.Option.{option_to_list}
 use Rattle.rmt_check.specs.declared.source.NodeText.{NodeText}
 use Rattle.rmt_check.specs.Names.{applied}
-use Rattle.rmt_check.specs.Rules.{earliest, repeated_after}
-use Rattle.rmt_check.specs.Seen.{seen_after}
+use Rattle.rmt_check.specs.Rules.{earliest}
+use Rattle.rmt_check.specs.Seen.{seen_after, repeated_after}
 use Rattle.rmt_check.proofs.applied.see_nodes.Given as goal
 
 abbrev pub invariant-loop-node : goal.invariant-loop-node

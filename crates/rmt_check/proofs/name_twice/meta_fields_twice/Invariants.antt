@@ -1,8 +1,8 @@
 use Rattle.std.proofs.Common.{◌≡◌, [], take}
 use Rattle.std.specs.List.{flat_map}
 use Rattle.rmt_check.specs.declared.source.MetaText.{MetaText}
-use Rattle.rmt_check.specs.Rules.{declared_names, earliest, repeated_after}
-use Rattle.rmt_check.specs.Seen.{seen_after}
+use Rattle.rmt_check.specs.Rules.{declared_names, earliest}
+use Rattle.rmt_check.specs.Seen.{seen_after, repeated_after}
 use Rattle.rmt_check.proofs.name_twice.meta_fields_twice.Given as goal
 
 abbrev pub invariant-loop-meta : goal.invariant-loop-meta

@@ -1,6 +1,6 @@
 use Rattle.std.proofs.Common.{◌≡◌, map, take}
-use Rattle.rmt_check.specs.Rules.{earliest, repeated_after}
-use Rattle.rmt_check.specs.Seen.{seen_after}
+use Rattle.rmt_check.specs.Rules.{earliest}
+use Rattle.rmt_check.specs.Seen.{seen_after, repeated_after}
 use Rattle.rmt_check.proofs.repeats.see_all.Given as goal
 
 abbrev pub invariant-loop-item : goal.invariant-loop-item

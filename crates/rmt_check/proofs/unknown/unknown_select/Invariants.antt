@@ -1,7 +1,7 @@
 use Rattle.std.proofs.Common.{◌≡◌, not, take}
 use Rattle.std.specs.List.{flat_map}
-use Rattle.rmt_check.specs.Rules.{earliest, is_field, when}
-use Rattle.rmt_check.specs.Names.{selected}
+use Rattle.rmt_check.specs.Rules.{earliest, when}
+use Rattle.rmt_check.specs.Names.{is_field, selected}
 use Rattle.rmt_check.specs.declared.source.Ident.{Ident}
 use Rattle.rmt_check.proofs.unknown.unknown_select.Given as goal
 

@@ -1,8 +1,8 @@
 use Rattle.std.specs.Prelude.{Ok}
 use Rattle.rmt_lexer.specs.Text.{first_place, tokens_of}
-use Rattle.rmt_lexer.proofs.Ends.{ends}
+use Rattle.rmt_lexer.proofs.Ends.{Fine, fine}
 use Rattle.std.proofs.lemmas.Grind.{common_steps}
-use Rattle.std.proofs.Common.{rules, ◌≡◌, ◌<◌, length, arith, sym, ◌∙◌, ap, fold, take, drop}
+use Rattle.std.proofs.Common.{rules, ◌≡◌, ◌<◌, length, arith, sym, subst, ◌∙◌, ap, fold, take, drop}
 use Rattle.rmt_lexer.specs.Text.{item_of, reading, behind, token_at}
 use Rattle.rmt_lexer.specs.declared.item.Item.TheVariants as item
 use Rattle.rmt_lexer.proofs.Items.{Within, gap_fits, token_fits}
@@ -75,4 +75,4 @@ loop-rest-preserved c =
 pub returns-clause-ends : goal.returns-clause-ends
 returns-clause-ends c =
     let told : tokens_of c.args.text.now ≡ Ok c.push-2.new.self.items = first_of (search rules, grind (arith, common_steps)) in
-    ends 0 first_place c.args.text.now c.push-2.new.self.items told
+    (subst (Fine (length c.args.text.now)) told (fine 0 first_place c.args.text.now)).0

@@ -1,4 +1,4 @@
-use Rattle.std.proofs.Common.{◌≡◌, ◌+◌, ◌-◌, ◌≤◌, length, drop}
+use Rattle.std.proofs.Common.{◌≡◌, ◌+◌, ◌-◌, ◌<◌, ◌≤◌, ◌⊎◌, length, drop, get_or}
 use Rattle.rmt_packets.specs.Lines.{numbered_lines}
 use Rattle.rmt_packets.proofs.lines.next_line.Given as goal
 
@@ -9,6 +9,7 @@ invariant-loop-from l = record {
   behind : l.at ≤ l.from;
   counted : l.number ≤ l.line;
   few : l.line ≤ l.from + 1;
+  starts : (l.from ≡ l.at) ⊎ (((l.at < l.from) × (get_or l.text (l.from - 1) 0 ≡ 10)) ⊎ (length l.text ≤ l.from));
   same : numbered_lines l.number (drop l.at l.text) ≡ numbered_lines l.line (drop l.from l.text);
 }
 

@@ -4,7 +4,7 @@ use Rattle.rmt_syntax.specs.State.{goals_of, marks_of, Stands}
 use Rattle.rmt_syntax.specs.declared.grammar.Phrase.TheVariants.{Done}
 use Rattle.rmt_syntax.proofs.Faults.{fails_end}
 use Rattle.rmt_syntax.proofs.Machine.{close_stands}
-use Rattle.rmt_syntax.proofs.Operands.{there_is}
+use Rattle.rmt_bits.proofs.ListLaws.{slice_get-item}
 use Rattle.rmt_syntax.proofs.Standing.{moved, refused, with_goals}
 use Rattle.rmt_syntax.proofs.parser.close_node.Goals as goal
 
@@ -12,7 +12,7 @@ pub returns-then-branch-clause-ok : goal.returns-then-branch-clause-ok
 returns-then-branch-clause-ok c =
     let r = c.args.reader.now in
     let new = c.close.new.self in
-    let t = there_is c.args.tokens.now c.args.at c.requires.inside in
+    let t = slice_get-item c.args.tokens.now c.args.at c.requires.inside in
     let s : Stands c.args.tokens.now c.args.at (phrase Done ∷ shut r.inner.rule ∷ goals_of new) (marks_of r) r.depth = with_goals _ _ (goals_of r) _ _ _ (c.in_ok-close.ensures.goals c.if-branch.true) c.requires.stands in
     moved c.args.tokens.now c.args.at (goals_of new) (goals_of new) (marks_of r ++ shuts r.inner.rule ∷ []) (marks_of new) (depth_after r.depth (shuts r.inner.rule)) new.depth
     refl (sym (c.in_ok-close.ensures.marks c.if-branch.true)) (sym (c.in_ok-close.ensures.depth c.if-branch.true))

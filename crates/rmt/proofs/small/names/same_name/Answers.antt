@@ -1,5 +1,5 @@
 use Rattle.std.proofs.Common.{sym, ◌∙◌}
-use Rattle.rmt.proofs.SmallNames.{bytes_eq-pointwise}
+use Rattle.rmt_bits.proofs.FunctionLaws.{bytes_eq-pointwise}
 use Rattle.rmt.proofs.small.names.same_name.Goals as goal
 
 pub returns : goal.returns

@@ -1,5 +1,5 @@
 use Rattle.std.proofs.Common.{ℕ, List, ◌+◌, ◌++◌, ◌∷◌, [], sym, ap, ◌∙◌}
-use Rattle.rmt_check.proofs.BuildingLaws.{range_more}
+use Rattle.rmt_bits.proofs.ListLaws.{range_more}
 use Rattle.rmt_check.proofs.building.headers.numbers_from.Goals as goal
 
 pub loop-at-preserved : goal.loop-at-preserved

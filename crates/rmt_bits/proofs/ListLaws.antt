@@ -1,0 +1,71 @@
+-- Lists: where there is an item, lists without items, and one item more.
+use Rattle.std.proofs.Common.{◌≡◌, ℕ, zero, suc, ◌+◌, ◌<◌, ◌≤◌, List, [], ◌∷◌, ◌++◌, length, drop, Some, refl, ap, ◌∙◌, arith}
+use Rattle.std.specs.Prelude.{All, IsSome, slice_get, map}
+use Rattle.std.specs.List.{flat_map, range_with_len}
+use Rattle.std.proofs.lemmas.List.{map-id, length-drop}
+use Rattle.std.proofs.lemmas.List.FromFn.{map-range_with_len_more}
+use Rattle.std.proofs.lemmas.List.Elements.{All-nil, All-cons, All-head, All-tail}
+use Rattle.std.proofs.lemmas.Option.{none-some}
+
+-- a list has an item at each place below its length
+pub slice_get-below : {X : Type 0} (xs : List X) (i : ℕ) → i < length xs → IsSome (slice_get xs i)
+slice_get-below [] i lt = absurd (omega arith)
+slice_get-below (x ∷ xs) zero lt = refl
+slice_get-below (x ∷ xs) (suc i) lt = slice_get-below xs i (omega arith)
+
+pub slice_get-item : {X : Type 0} (xs : List X) (i : ℕ) → i < length xs → (x : X) × (slice_get xs i ≡ Some x)
+slice_get-item [] i lt = absurd (omega (arith, lt))
+slice_get-item (x ∷ xs) zero lt = (x, refl)
+slice_get-item (x ∷ xs) (suc i) lt = slice_get-item xs i (omega (arith, lt))
+
+-- an appended list has the items of its front, and behind them those of its end
+pub slice_get-front : {X : Type 0} (xs ys : List X) (i : ℕ) → i < length xs → slice_get (xs ++ ys) i ≡ slice_get xs i
+slice_get-front [] ys i lt = absurd (omega (arith, lt))
+slice_get-front (x ∷ xs) ys zero lt = refl
+slice_get-front (x ∷ xs) ys (suc i) lt = slice_get-front xs ys i (omega (arith, lt))
+
+pub slice_get-end : {X : Type 0} (xs ys : List X) (i : ℕ) → slice_get (xs ++ ys) (length xs + i) ≡ slice_get ys i
+slice_get-end [] ys i = let none : 0 + i ≡ i = omega arith in ap (slice_get ys) none
+slice_get-end (x ∷ xs) ys i =
+    let one_less : length (x ∷ xs) + i ≡ suc (length xs + i) = omega arith in
+    ap (slice_get (x ∷ xs ++ ys)) one_less ∙ slice_get-end xs ys i
+
+-- lists of one length have items at the same places
+pub slice_get-alike : {X Y : Type 0} (xs : List X) (ys : List Y) (i : ℕ) (x : X) → length ys ≡ length xs → slice_get xs i ≡ Some x
+    → (y : Y) × (slice_get ys i ≡ Some y)
+slice_get-alike [] ys i x same e = absurd (none-some x e)
+slice_get-alike (z ∷ xs) [] i x same e = absurd (omega (arith, same))
+slice_get-alike (z ∷ xs) (y ∷ ys) zero x same e = (y, refl)
+slice_get-alike (z ∷ xs) (y ∷ ys) (suc i) x same e = slice_get-alike xs ys i x (omega (arith, same)) e
+
+-- both parts of a list without items have none
+pub append-nil_left : {X : Type 0} (xs ys : List X) → xs ++ ys ≡ [] → xs ≡ []
+append-nil_left [] ys e = refl
+append-nil_left (x ∷ xs) ys e = cc
+
+pub append-nil_right : {X : Type 0} (xs ys : List X) → xs ++ ys ≡ [] → ys ≡ []
+append-nil_right [] ys e = e
+append-nil_right (x ∷ xs) ys e = cc
+
+pub flat_map-nil : {X A : Type 0} (f : X → List A) (xs : List X) → flat_map f xs ≡ [] → All (λ x. f x ≡ []) xs
+flat_map-nil f [] e = All-nil (λ x. f x ≡ [])
+flat_map-nil f (x ∷ xs) e =
+    All-cons (λ x. f x ≡ []) x xs (append-nil_left (f x) (flat_map f xs) e) (flat_map-nil f xs (append-nil_right (f x) (flat_map f xs) e))
+
+-- and parts without items make a list without items
+pub flat_map-none : {X A : Type 0} (f : X → List A) (xs : List X) → All (λ x. f x ≡ []) xs → flat_map f xs ≡ []
+flat_map-none f [] h = refl
+flat_map-none f (x ∷ xs) h =
+    ap (λ ys. ys ++ flat_map f xs) (All-head (λ x. f x ≡ []) x xs h) ∙ flat_map-none f xs (All-tail (λ x. f x ≡ []) x xs h)
+
+-- a list whose image has no item has none, and one of which nothing is left is short
+pub map-nil : {X A : Type 0} (f : X → A) (xs : List X) → map f xs ≡ [] → xs ≡ []
+map-nil f [] e = refl
+map-nil f (x ∷ xs) e = cc
+
+pub drop-nil : {X : Type 0} (n : ℕ) (xs : List X) → drop n xs ≡ [] → length xs ≤ n
+drop-nil n xs e = let gone : length (drop n xs) ≡ 0 = ap length e in omega (arith, length-drop n xs)
+
+-- a longer range
+pub range_more : (a n : ℕ) → range_with_len a (n + 1) ≡ range_with_len a n ++ (a + n) ∷ []
+range_more a n = simp map-id at (map-range_with_len_more (λ (x : ℕ). x) a n (a + n) refl)

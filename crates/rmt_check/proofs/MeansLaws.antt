@@ -1,0 +1,41 @@
+-- What the answers of the three readers say of a text.
+use Rattle.std.proofs.Common.{◌≡◌, ℕ, List, None, Some, Option, option_map, Result, Ok, Err, sym, ap, subst, ◌∙◌}
+use Rattle.std.specs.Prelude.{Vec}
+use Rattle.std.specs.declared.alloc.Global.{Global}
+use Rattle.rmt_ast.specs.declared.program.Program.{Program}
+use Rattle.rmt_lexer.specs.declared.fault.ProgramFault.{ProgramFault}
+use Rattle.rmt_lexer.specs.declared.fault.ProgramFault.TheVariants.{NoMemory, At}
+use Rattle.rmt_lexer.specs.declared.place.Place.{Place}
+use Rattle.rmt_lexer.specs.declared.token.Token.{Token}
+use Rattle.rmt_lexer.specs.Text.{Gives, tokens_of}
+use Rattle.rmt_syntax.specs.declared.tree.Tree.{Tree}
+use Rattle.rmt_syntax.specs.Trees as trees
+use Rattle.rmt_syntax.specs.Trees.{IsTreeOf}
+use Rattle.rmt_check.specs.Reading.{source_of}
+use Rattle.rmt_check.specs.Rules.{fault_of}
+use Rattle.rmt_check.specs.Meaning.{Answers, told}
+use Rattle.rmt_check.specs.Means.{Means, SaysMeaning, of_tokens, of_grammar, of_rules, of_program}
+
+pub tokens_fault : (text : List ℕ) (e : ProgramFault) → Gives (λ (v : Vec Token Global). v.items) (Err e) (tokens_of text) → SaysMeaning text (Err e)
+tokens_fault text NoMemory h = tt
+tokens_fault text (At code line column) h = of_tokens code line column h
+
+pub syntax_fault : (text : List ℕ) (tokens : List Token) (e : ProgramFault) → tokens_of text ≡ Ok tokens → trees.Answers tokens (Err e) → SaysMeaning text (Err e)
+syntax_fault text tokens NoMemory is h = tt
+syntax_fault text tokens (At code line column) is h = of_grammar tokens code line column is h
+
+fault_is : (o : Option (ℕ × Place)) (code line column : ℕ) → option_map told o ≡ Some (At code line column) → o ≡ (let p : Place = record { line = line; column = column } in Some (code, p))
+fault_is None code line column e = cc
+fault_is (Some f) code line column e =
+    let same : At f.0 f.1.line f.1.column ≡ At code line column = cc in
+    let a : f.0 ≡ code = cc in
+    let b : f.1.line ≡ line = cc in
+    let d : f.1.column ≡ column = cc in
+    ap (λ n. let p : Place = record { line = f.1.line; column = f.1.column } in Some (n, p)) a
+    ∙ ap (λ n. let p : Place = record { line = n; column = f.1.column } in Some (code, p)) b ∙ ap (λ n. let p : Place = record { line = line; column = n } in Some (code, p)) d
+
+pub checked : (text : List ℕ) (tokens : List Token) (t : Tree) (r : Result Program ProgramFault) → tokens_of text ≡ Ok tokens → IsTreeOf tokens t → Answers (source_of t) r → SaysMeaning text r
+checked text tokens t (Ok p) is tree h = subst (λ q. Means text (Ok q)) (sym h.1) (of_program tokens t is tree h.0)
+checked text tokens t (Err NoMemory) is tree h = tt
+checked text tokens t (Err (At code line column)) is tree h =
+    let p : Place = record { line = line; column = column } in of_rules tokens t (code, p) is tree (fault_is (fault_of (source_of t)) code line column h)

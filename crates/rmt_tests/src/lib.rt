@@ -1,0 +1,25 @@
+//! The tests of the library crates: worked rows and calls with ample memory, on public calls alone.
+#![tactic(auto)]
+
+#[cfg(test)]
+mod bits;
+#[cfg(test)]
+mod check;
+#[cfg(test)]
+mod chip;
+#[cfg(test)]
+mod images;
+#[cfg(test)]
+mod outside;
+#[cfg(test)]
+mod packets;
+#[cfg(test)]
+mod packing;
+#[cfg(test)]
+mod pieces;
+#[cfg(test)]
+mod tails;
+#[cfg(test)]
+mod tokens;
+#[cfg(test)]
+mod trees;
