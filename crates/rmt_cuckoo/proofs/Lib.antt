@@ -1,0 +1,4 @@
+mod RowLaws
+mod SearchLaws
+mod MoveLaws
+mod LoadLaws

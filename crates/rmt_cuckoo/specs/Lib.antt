@@ -1,0 +1,4 @@
+pub mod Loading
+pub mod Told
+pub mod Choices
+pub mod Search
