@@ -96,7 +96,7 @@ told_choice told true x y = refl
 told_choice told false x y = refl
 
 told_chip : (effects : List Effect) (payload : List ℕ) (life : Life) (words : Words) → life.word (latency_of (stages_from 0 effects)) ≡ words →
-    told_by_outcome (chip_finished (small_config effects) payload life) ≡ ending (lane_of words drop_lane) (lane_of words out_port) (lane_of words valid) (0 + lane_of words field) payload
+    told_by_outcome (chip_finished (small_config effects) (replicate 64 []) payload life) ≡ ending (lane_of words drop_lane) (lane_of words out_port) (lane_of words valid) (0 + lane_of words field) payload
 told_chip effects payload life words h = rw h (told_choice told_by_outcome (lane_of words drop_lane == 1) _ _)
 
 told_plain : (s : SmallProgram) (payload : List ℕ) (r : Run) (words : Words) → r.state ≡ state_in places words →
@@ -110,10 +110,14 @@ eight_bits v x h = omega arith
 abbrev parsed_vector : ℕ → List ℕ
 parsed_vector byte = put (put (replicate 224 0) valid 1) field (bits_of_bytes (byte ∷ []) 0 8)
 
+-- no entry has a tail
+abbrev parsed_to : ℕ → parsed.Reached
+parsed_to byte = record parsed.begin { vector = parsed_vector byte; at = 1 }
+
 long_enough : (byte : ℕ) (rest : List ℕ) → nat_lt (length (byte ∷ rest)) 1 ≡ false
 long_enough byte rest = le-ltb (length (byte ∷ rest)) 1 (omega arith)
 
-parse_small : (byte : ℕ) (rest : List ℕ) → parse parser (byte ∷ rest) ≡ parsed.Accept (parsed_vector byte) 1
+parse_small : (byte : ℕ) (rest : List ℕ) → parse parser (byte ∷ rest) ≡ parsed.Accept (parsed_to byte)
 parse_small byte rest = rw (long_enough byte rest) refl
 
 -- the state behind the header
@@ -177,7 +181,7 @@ told_same s small lists packet is = of packet.frame refl
         let life = life_of (own_look c) c.stages (put (parsed_vector byte) in_port packet.port) in
         let chip = told_chip (steps_of s) (drop 1 packet.frame) life end (words_end (own_look c) (steps_of s) words) in
         let plain = told_plain s (drop 1 packet.frame) r end held in
-        let parses : parse parser packet.frame ≡ parsed.Accept (parsed_vector byte) 1 = ap (parse parser) e ∙ parse_small byte rest in
+        let parses : parse parser packet.frame ≡ parsed.Accept (parsed_to byte) = ap (parse parser) e ∙ parse_small byte rest in
         let walks : walk (program_of s) packet.port packet.frame ≡ walked.Accept (walked_to packet.port byte) = ap (walk (program_of s) packet.port) e ∙ walk_small s packet.port byte rest in
         ap (λ q. told_by_outcome (outcome_from (own_look c) c packet q)) parses
         ∙ chip

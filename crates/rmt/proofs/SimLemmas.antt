@@ -1,19 +1,19 @@
 -- The causes of the answers of `sim` and `probe`.
 use Rattle.std.proofs.Common.{◌≡◌, ◌≢◌, ℕ, ◌≤◌, ◌⊎◌, List, Option, Some, None, Ok, Err, Result, length, sym, refl, ap, ◌∙◌, inl, inr, ⊎_elim, subst}
-use Rattle.std.specs.Prelude.{IsSome}
+use Rattle.std.specs.Prelude.{IsSome, IsTrue}
+use Rattle.std.proofs.lemmas.Bool.{both_ways}
 use Rattle.rmt_config.specs.declared.config.Config.{Config}
-use Rattle.rmt_config.specs.Spelling.{spelled, NumbersFit}
-use Rattle.rmt_config.specs.Form.{Formed}
-use Rattle.rmt_config.specs.Limits.{IsWithinLimits}
+use Rattle.rmt_config.specs.Spells.{Spells}
+use Rattle.rmt_chip.specs.Supported.{is_supported}
 use Rattle.rmt_image.specs.declared.fault.ImageFault.{ImageFault}
 use Rattle.rmt_image.specs.declared.fault.ImageFault.TheVariants as fault
-use Rattle.rmt_image.specs.Reading.{image_of}
-use Rattle.rmt_image.proofs.Whole.{image_again}
+use Rattle.rmt_image.specs.Reading.{Answers}
+use Rattle.rmt_image.proofs.Whole.{image_again, spelled_once}
 use Rattle.rmt_packets.specs.PacketText.{packets_of, BadLine}
 use Rattle.rmt.specs.declared.status.Status.{Status}
 use Rattle.rmt.specs.declared.status.Status.TheVariants as status
-use Rattle.rmt.specs.Promises.{Files, IsOfOutside, IsWithin, IsSound, image_limit}
-use Rattle.rmt.specs.RunPromises.{HasSpelling, HasImage, HasBadImage, HasBadPackets, IsGoodRun, RunCauses, RunTooLong, RunAbsent, IsOfRunFiles, packets_limit}
+use Rattle.rmt.specs.Promises.{Files, IsOfOutside, IsWithin, IsImageOf, MayRun, image_limit}
+use Rattle.rmt.specs.RunPromises.{HasImage, Refused, HasBadImage, HasBadPackets, IsGoodRun, RunCauses, RunTooLong, RunAbsent, IsOfRunFiles, packets_limit}
 use Rattle.rmt.proofs.TopLemmas.{not_long, not_absent, long_not_absent}
 
 -- both files were read
@@ -29,20 +29,20 @@ bytes_within files image packets bytes text r = record { bytes = bytes; is_there
 abbrev text_within : (files : Files) (image packets bytes text : List ℕ) → BothRead files image packets bytes text → IsWithin files packets packets_limit
 text_within files image packets bytes text r = record { bytes = text; is_there = r.packets_were; is_short = r.packets_fit }
 
-pub sound : (c : Config) → Formed c → IsWithinLimits c → IsSound c
-unfolding IsSound
-sound c form limits = (form, limits)
+pub is_image : (bytes : List ℕ) (c : Config) → Spells bytes c → IsTrue (is_supported c) → IsImageOf bytes c
+unfolding IsImageOf
+is_image bytes c spells runs = (spells, runs)
 
-abbrev pub has_image : (files : Files) (image packets bytes text : List ℕ) (c : Config) → BothRead files image packets bytes text → bytes ≡ spelled c → Formed c → IsWithinLimits c → image_of bytes ≡ Ok c → HasImage files image packets
-has_image files image packets bytes text c r is form limits read = record {
-  spelling = record {
-    text = text_within files image packets bytes text r;
-    bytes = bytes_within files image packets bytes text r;
-    config = c;
-    spelled_so = is;
-    is_sound = sound c form limits;
-  };
-  is_read = read;
+pub may_run : (bytes : List ℕ) (c : Config) → IsImageOf bytes c → MayRun c
+unfolding IsImageOf MayRun
+may_run bytes c is = (is.0.formed, is.0.limits, is.1)
+
+abbrev pub has_image : (files : Files) (image packets bytes text : List ℕ) (c : Config) → BothRead files image packets bytes text → IsImageOf bytes c → HasImage files image packets
+has_image files image packets bytes text c r is = record {
+  text = text_within files image packets bytes text r;
+  bytes = bytes_within files image packets bytes text r;
+  config = c;
+  is_image = is;
 }
 
 some_of : {X : Type 0} (o : Option X) → IsSome o → (x : X) × (o ≡ Some x)
@@ -51,10 +51,10 @@ some_of (Some x) h = (x, refl)
 
 pub causes_ran : (files : Files) (image packets : List ℕ) (answer : Status) (h : HasImage files image packets) →
     (answer ≡ status.Done) ⊎ (answer ≡ status.BadPackets) ⊎ (answer ≡ status.WriteFault) ⊎ (answer ≡ status.NoMemory) →
-    (answer ≡ status.Done → (packets_of h.spelling.text.bytes).bad ≡ None) → (answer ≡ status.BadPackets → IsSome (packets_of h.spelling.text.bytes).bad) → RunCauses files image packets answer
+    (answer ≡ status.Done → (packets_of h.text.bytes).bad ≡ None) → (answer ≡ status.BadPackets → IsSome (packets_of h.text.bytes).bad) → RunCauses files image packets answer
 causes_ran files image packets answer h possible done bad =
     ⊎_elim (λ e. subst (RunCauses files image packets) (sym e) (h, done e))
-    (λ l. ⊎_elim (λ e. let b = some_of (packets_of h.spelling.text.bytes).bad (bad e) in subst (RunCauses files image packets) (sym e) (h, b.0, b.1))
+    (λ l. ⊎_elim (λ e. let b = some_of (packets_of h.text.bytes).bad (bad e) in subst (RunCauses files image packets) (sym e) (h, b.0, b.1))
     (λ l. ⊎_elim (λ e. subst (RunCauses files image packets) (sym e) (inl h)) (λ e. subst (RunCauses files image packets) (sym e) tt) l) l) possible
 
 pub ran_to_end : (answer : Status) → (answer ≡ status.Done) ⊎ (answer ≡ status.BadPackets) ⊎ (answer ≡ status.BadImage) →
@@ -65,13 +65,12 @@ ran_to_end answer told possible =
     not_bad_image : (a : Status) → a ≡ status.BadImage → (a ≡ status.Done) ⊎ (a ≡ status.BadPackets) ⊎ (a ≡ status.WriteFault) ⊎ (a ≡ status.NoMemory) → ⊥
     not_bad_image a e p = ⊎_elim (λ x. cc) (λ l. ⊎_elim (λ x. cc) (λ l. ⊎_elim (λ x. cc) (λ x. cc) l) l) p
 
-abbrev pub has_bad_image : (files : Files) (image packets bytes text : List ℕ) (told : ImageFault) → BothRead files image packets bytes text → image_of bytes ≡ Err told → told ≢ fault.NoMemory → HasBadImage files image packets
-has_bad_image files image packets bytes text told r is of_bytes = record {
+abbrev pub has_bad_image : (files : Files) (image packets bytes text : List ℕ) (told : ImageFault) → BothRead files image packets bytes text → Refused bytes told → HasBadImage files image packets
+has_bad_image files image packets bytes text told r is = record {
   text = text_within files image packets bytes text r;
   bytes = bytes_within files image packets bytes text r;
   told = told;
   is_bad = is;
-  is_of_bytes = of_bytes;
 }
 
 pub causes_bad_image : (files : Files) (image packets : List ℕ) (answer : Status) → (answer ≡ status.BadImage) ⊎ (answer ≡ status.WriteFault) ⊎ (answer ≡ status.NoMemory) →
@@ -93,19 +92,15 @@ bad_image_told answer told possible =
 abbrev is_err : ImageFault → Result Config ImageFault
 is_err told = Err told
 
--- what an image is read as, where the fault is not want of memory
-pub read_as : (bytes : List ℕ) (told : ImageFault) → (is_err told ≢ is_err fault.NoMemory → is_err told ≡ image_of bytes) → told ≢ fault.NoMemory → image_of bytes ≡ Err told
-read_as bytes told exact of_bytes = sym (exact (λ e. of_bytes (same_fault told fault.NoMemory e)))
+-- an image that is refused for a fault of its bytes
+pub refused_for_bytes : (bytes : List ℕ) (told : ImageFault) → (is_err told ≢ is_err fault.NoMemory → Answers bytes (is_err told)) → told ≢ fault.NoMemory → Refused bytes told
+refused_for_bytes bytes told exact of_bytes = inl (exact (λ e. of_bytes (same_fault told fault.NoMemory e)), of_bytes)
   where
     same_fault : (a b : ImageFault) → is_err a ≡ is_err b → a ≡ b
     same_fault a b e = cc
 
 abbrev is_ok : Config → Result Config ImageFault
 is_ok c = Ok c
-
--- the configuration that an image is read as
-pub read_ok : (bytes : List ℕ) (c : Config) → (is_ok c ≢ is_err fault.NoMemory → is_ok c ≡ image_of bytes) → image_of bytes ≡ Ok c
-read_ok bytes c exact = sym (exact (λ e. cc))
 
 abbrev no_line : Option BadLine
 no_line = None
@@ -114,20 +109,23 @@ no_line = None
 same_bytes : (files : Files) (name : List ℕ) (limit : ℕ) (a b : IsWithin files name limit) → a.bytes ≡ b.bytes
 same_bytes files name limit a b = let both : Some a.bytes ≡ Some b.bytes = sym a.is_there ∙ b.is_there in cc
 
-good_image : (c : Config) → NumbersFit c → IsSound c → image_of (spelled c) ≡ Ok c
-unfolding IsSound
-good_image c fit is = image_again c fit is.0 is.1
+-- what is run is not refused
+not_refused : (bytes : List ℕ) (c : Config) → IsImageOf bytes c → (told : ImageFault) → Refused bytes told → ⊥
+unfolding IsImageOf
+not_refused bytes c is told refused =
+    ⊎_elim (λ bad. let both : is_err told ≡ is_ok c = image_again bytes c is.0 (is_err told) bad.0 in cc)
+    (λ other. both_ways (is_supported c) (ap is_supported (spelled_once bytes c other.0 is.0 other.1) ∙ other.2) is.1) refused
 
 module _ (files : Files) (image packets : List ℕ) where
-  -- an image that is read as a configuration is no bad one
-  not_bad_image : (h : HasSpelling files image packets) → image_of h.bytes.bytes ≡ Ok h.config → HasBadImage files image packets → ⊥
-  not_bad_image h read bad =
-      let both : is_ok h.config ≡ is_err bad.told = sym read ∙ ap image_of (same_bytes files image image_limit h.bytes bad.bytes) ∙ bad.is_bad in cc
+  -- an image that is run is no bad one
+  not_bad_image : (h : HasImage files image packets) → HasBadImage files image packets → ⊥
+  not_bad_image h bad =
+      not_refused bad.bytes.bytes h.config (subst (λ b. IsImageOf b h.config) (same_bytes files image image_limit h.bytes bad.bytes) h.is_image) bad.told bad.is_bad
 
   -- nor has a packet text without a bad line one
-  not_bad_packets : (h : HasSpelling files image packets) → (packets_of h.text.bytes).bad ≡ None → HasBadPackets files image packets → ⊥
+  not_bad_packets : (h : HasImage files image packets) → (packets_of h.text.bytes).bad ≡ None → HasBadPackets files image packets → ⊥
   not_bad_packets h good bad =
-      let both : no_line ≡ Some bad.1 = sym good ∙ ap (λ text. (packets_of text).bad) (same_bytes files packets packets_limit h.text bad.0.spelling.text) ∙ bad.2 in cc
+      let both : no_line ≡ Some bad.1 = sym good ∙ ap (λ text. (packets_of text).bad) (same_bytes files packets packets_limit h.text bad.0.text) ∙ bad.2 in cc
 
   fits : IsWithin files image image_limit → IsWithin files packets packets_limit → RunTooLong files image packets → ⊥
   fits bytes text = not_long files image packets image_limit packets_limit bytes text
@@ -149,51 +147,51 @@ module _ (files : Files) (image packets : List ℕ) where
   answers P status.NoFit cause done line bad long = absurd cause
 
   -- where the files are good no other answer of the files comes than Done
-  done_alone : (h : HasSpelling files image packets) → image_of h.bytes.bytes ≡ Ok h.config → (packets_of h.text.bytes).bad ≡ None → (answer : Status) → RunCauses files image packets answer
+  done_alone : (h : HasImage files image packets) → (packets_of h.text.bytes).bad ≡ None → (answer : Status) → RunCauses files image packets answer
       → (answer ≡ status.Done) ⊎ IsOfOutside answer
-  done_alone h read good answer cause =
-      answers (λ s. s ≡ status.Done) answer cause (λ d. refl) (λ line. absurd (not_bad_packets h good line)) (λ bad. absurd (not_bad_image h read bad)) (λ long. absurd (fits h.bytes h.text long))
+  done_alone h good answer cause =
+      answers (λ s. s ≡ status.Done) answer cause (λ d. refl) (λ line. absurd (not_bad_packets h good line)) (λ bad. absurd (not_bad_image h bad)) (λ long. absurd (fits h.bytes h.text long))
 
   bad_packets_alone : HasBadPackets files image packets → (answer : Status) → RunCauses files image packets answer → (answer ≡ status.BadPackets) ⊎ IsOfOutside answer
   bad_packets_alone b answer cause =
-      answers (λ s. s ≡ status.BadPackets) answer cause (λ d. absurd (not_bad_packets d.0.spelling d.1 b)) (λ line. refl)
-      (λ bad. absurd (not_bad_image b.0.spelling b.0.is_read bad)) (λ long. absurd (fits b.0.spelling.bytes b.0.spelling.text long))
+      answers (λ s. s ≡ status.BadPackets) answer cause (λ d. absurd (not_bad_packets d.0 d.1 b)) (λ line. refl)
+      (λ bad. absurd (not_bad_image b.0 bad)) (λ long. absurd (fits b.0.bytes b.0.text long))
 
   bad_image_alone : HasBadImage files image packets → (answer : Status) → RunCauses files image packets answer → (answer ≡ status.BadImage) ⊎ IsOfOutside answer
   bad_image_alone b answer cause =
-      answers (λ s. s ≡ status.BadImage) answer cause (λ d. absurd (not_bad_image d.0.spelling d.0.is_read b)) (λ line. absurd (not_bad_image line.0.spelling line.0.is_read b))
+      answers (λ s. s ≡ status.BadImage) answer cause (λ d. absurd (not_bad_image d.0 b)) (λ line. absurd (not_bad_image line.0 b))
       (λ bad. refl) (λ long. absurd (fits b.bytes b.text long))
 
   too_long_alone : RunTooLong files image packets → (answer : Status) → RunCauses files image packets answer → (answer ≡ status.TooLong) ⊎ IsOfOutside answer
   too_long_alone b answer cause =
-      answers (λ s. s ≡ status.TooLong) answer cause (λ d. absurd (fits d.0.spelling.bytes d.0.spelling.text b)) (λ line. absurd (fits line.0.spelling.bytes line.0.spelling.text b))
+      answers (λ s. s ≡ status.TooLong) answer cause (λ d. absurd (fits d.0.bytes d.0.text b)) (λ line. absurd (fits line.0.bytes line.0.text b))
       (λ bad. absurd (fits bad.bytes bad.text b)) (λ long. refl)
 
   -- where the files have a cause no other answer of the files comes
   pub exact_run : (answer : Status) → RunCauses files image packets answer → (wanted : Status) → IsOfRunFiles wanted → RunCauses files image packets wanted → (answer ≡ wanted) ⊎ IsOfOutside answer
   exact_run answer cause wanted is w =
-      ⊎_elim (λ e. by e (λ c. done_alone c.0.spelling c.0.is_read c.1 answer cause))
+      ⊎_elim (λ e. by e (λ c. done_alone c.0 c.1 answer cause))
       (λ is. ⊎_elim (λ e. by e (λ c. bad_packets_alone c answer cause))
       (λ is. ⊎_elim (λ e. by e (λ c. bad_image_alone c answer cause)) (λ e. by e (λ c. too_long_alone c answer cause)) is) is) is
     where
       by : {s : Status} → wanted ≡ s → (RunCauses files image packets s → (answer ≡ s) ⊎ IsOfOutside answer) → (answer ≡ wanted) ⊎ IsOfOutside answer
       by {s} e f = subst (λ x. (answer ≡ x) ⊎ IsOfOutside answer) (sym e) (f (subst (RunCauses files image packets) e w))
 
-  pub good_answers : (answer : Status) → RunCauses files image packets answer → (good : IsGoodRun files image packets) → NumbersFit good.0.config → (answer ≡ status.Done) ⊎ IsOfOutside answer
-  good_answers answer cause good fit = done_alone good.0 (ap image_of good.0.spelled_so ∙ good_image good.0.config fit good.0.is_sound) good.1 answer cause
+  pub good_answers : (answer : Status) → RunCauses files image packets answer → IsGoodRun files image packets → (answer ≡ status.Done) ⊎ IsOfOutside answer
+  good_answers answer cause good = done_alone good.0 good.1 answer cause
 
   there : IsWithin files image image_limit → IsWithin files packets packets_limit → RunAbsent files image packets → ⊥
   there bytes text = not_absent files image packets bytes.bytes text.bytes image_limit bytes.is_there text.is_there
 
   -- where a file is absent the answer is a reading fault
   pub absent_run : (answer : Status) → RunCauses files image packets answer → RunAbsent files image packets → (answer ≡ status.ReadFault) ⊎ (answer ≡ status.NoMemory)
-  absent_run status.Done cause absent = absurd (there cause.0.spelling.bytes cause.0.spelling.text absent)
-  absent_run status.BadPackets cause absent = absurd (there cause.0.spelling.bytes cause.0.spelling.text absent)
+  absent_run status.Done cause absent = absurd (there cause.0.bytes cause.0.text absent)
+  absent_run status.BadPackets cause absent = absurd (there cause.0.bytes cause.0.text absent)
   absent_run status.BadImage cause absent = absurd (there cause.bytes cause.text absent)
   absent_run status.TooLong cause absent = absurd (long_not_absent files image packets image_limit packets_limit cause absent)
   absent_run status.NoMemory cause absent = inr refl
   absent_run status.ReadFault cause absent = inl refl
-  absent_run status.WriteFault cause absent = absurd (⊎_elim (λ h. there h.spelling.bytes h.spelling.text absent) (λ b. there b.bytes b.text absent) cause)
+  absent_run status.WriteFault cause absent = absurd (⊎_elim (λ h. there h.bytes h.text absent) (λ b. there b.bytes b.text absent) cause)
   absent_run status.Usage cause absent = absurd cause
   absent_run status.BadProgram cause absent = absurd cause
   absent_run status.BadEntries cause absent = absurd cause

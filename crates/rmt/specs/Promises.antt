@@ -1,10 +1,11 @@
 -- What the top call promises of `compile`, over the files as they stood before and after.
-use Rattle.std.specs.Prelude.{◌≡◌, ℕ, ◌*◌, ◌<◌, ◌≤◌, ◌⊎◌, List, [], ◌++◌, Option, Some, None, length, codes}
+use Rattle.std.specs.Prelude.{◌≡◌, ℕ, ◌*◌, ◌<◌, ◌≤◌, ◌⊎◌, List, [], ◌++◌, Option, Some, None, length, codes, IsTrue}
 use Rattle.std.specs.Fmt.{decimal}
 use Rattle.rmt_config.specs.declared.config.Config.{Config}
 use Rattle.rmt_config.specs.Form.{Formed}
 use Rattle.rmt_config.specs.Limits.{IsWithinLimits}
-use Rattle.rmt_config.specs.Spelling.{spelled}
+use Rattle.rmt_config.specs.Spells.{Spells}
+use Rattle.rmt_chip.specs.Supported.{is_supported}
 use Rattle.rmt.specs.declared.status.Status.{Status}
 use Rattle.rmt.specs.declared.status.Status.TheVariants.{Done, Usage, ReadFault, WriteFault, BadProgram, BadEntries, NoFit, BadImage, BadPackets, TooLong, NoMemory}
 use Rattle.rmt.specs.SmallForm.{SmallProgram, Means, program_of, steps_of}
@@ -51,9 +52,13 @@ bad_program_line = codes "bad program 0 line 1 column 1\n"
 abbrev pub bad_entries_line : List ℕ
 bad_entries_line = codes "bad entries 0 line 1\n"
 
--- the configuration keeps the rules of form and every limit of the chip
-unfoldable pub IsSound : Config → Type 0
-IsSound c = Formed c × IsWithinLimits c
+-- the bytes are the image of a configuration that the chip runs
+unfoldable pub IsImageOf : List ℕ → Config → Type 0
+IsImageOf bytes c = Spells bytes c × IsTrue (is_supported c)
+
+-- the configuration keeps the rules of form and every limit of the chip, and the chip runs it
+unfoldable pub MayRun : Config → Type 0
+MayRun c = Formed c × IsWithinLimits c × IsTrue (is_supported c)
 
 -- What is made of two texts: the program that the text means, and the image and the lines of a configuration
 -- whose chip run answers, for every list of packets, what the program gives.
@@ -62,10 +67,9 @@ pub record Makes (text entries image lines : List ℕ) : Type 0 where
   pub means : Means text parts
   pub without_entries : entries ≡ []
   pub config : Config
-  pub image_is : image ≡ spelled config
+  pub is_image : IsImageOf image config
   pub same_runs : SameRuns config (program_of parts) (no_entries (program_of parts))
   pub stands : config ≡ small_config (steps_of parts)
-  pub is_sound : IsSound config
   pub keeps_state : KeepsState config (program_of parts) (no_entries (program_of parts)) places
   pub image_is_short : length image ≤ image_limit
   pub lines_are : lines ≡ compile_lines (length parts.applied)

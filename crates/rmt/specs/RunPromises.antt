@@ -1,14 +1,15 @@
 -- What the top call promises of `sim` and `probe`, over the files as they stood before.
-use Rattle.std.specs.Prelude.{◌≡◌, ◌≢◌, ℕ, ◌⊎◌, List, Some, None, Ok, Err}
+use Rattle.std.specs.Prelude.{◌≡◌, ◌≢◌, ℕ, ◌⊎◌, List, Some, None, Err, false}
 use Rattle.rmt_config.specs.declared.config.Config.{Config}
-use Rattle.rmt_config.specs.Spelling.{spelled}
+use Rattle.rmt_config.specs.Spells.{Spells}
+use Rattle.rmt_chip.specs.Supported.{is_supported}
 use Rattle.rmt_image.specs.declared.fault.ImageFault.{ImageFault}
 use Rattle.rmt_image.specs.declared.fault.ImageFault.TheVariants as fault
-use Rattle.rmt_image.specs.Reading.{image_of}
+use Rattle.rmt_image.specs.Reading.{Answers}
 use Rattle.rmt_packets.specs.PacketText.{packets_of, BadLine, Reading}
 use Rattle.rmt.specs.declared.status.Status.{Status}
 use Rattle.rmt.specs.declared.status.Status.TheVariants.{Done, Usage, ReadFault, WriteFault, BadProgram, BadEntries, NoFit, BadImage, BadPackets, TooLong, NoMemory}
-use Rattle.rmt.specs.Promises.{Files, IsWithin, IsSound, TooLongIn, AbsentIn, image_limit}
+use Rattle.rmt.specs.Promises.{Files, IsWithin, IsImageOf, TooLongIn, AbsentIn, image_limit}
 use Rattle.rmt.specs.SimText.{printed_of, bad_image_line}
 use Rattle.rmt.specs.ProbeText.{probed_of}
 
@@ -16,26 +17,25 @@ use Rattle.rmt.specs.ProbeText.{probed_of}
 abbrev pub packets_limit : ℕ
 packets_limit = 67108864
 
--- both files are there and within their limits, and the image is the spelling of a configuration that keeps the rules of form and the limits
-pub record HasSpelling (files : Files) (image packets : List ℕ) : Type 0 where
+-- both files are there and within their limits, and the image is that of a configuration that the chip runs
+pub record HasImage (files : Files) (image packets : List ℕ) : Type 0 where
   pub text : IsWithin files packets packets_limit
   pub bytes : IsWithin files image image_limit
   pub config : Config
-  pub spelled_so : bytes.bytes ≡ spelled config
-  pub is_sound : IsSound config
+  pub is_image : IsImageOf bytes.bytes config
 
--- this is the configuration that the image is read as
-pub record HasImage (files : Files) (image packets : List ℕ) : Type 0 where
-  pub spelling : HasSpelling files image packets
-  pub is_read : image_of spelling.bytes.bytes ≡ Ok spelling.config
+-- why an image is refused: for a fault of its bytes; one whose configuration the chip doesn't run yet counts as out of form
+abbrev pub Refused : List ℕ → ImageFault → Type 0
+Refused bytes told =
+    (Answers bytes (Err told) × (told ≢ fault.NoMemory))
+    ⊎ ((c : Config) × Spells bytes c × (is_supported c ≡ false) × (told ≡ fault.Form))
 
 -- the image is refused for its bytes; both files are there and within their limits
 pub record HasBadImage (files : Files) (image packets : List ℕ) : Type 0 where
   pub text : IsWithin files packets packets_limit
   pub bytes : IsWithin files image image_limit
   pub told : ImageFault
-  pub is_bad : image_of bytes.bytes ≡ Err told
-  pub is_of_bytes : told ≢ fault.NoMemory
+  pub is_bad : Refused bytes.bytes told
 
 abbrev pub RunTooLong : Files → List ℕ → List ℕ → Type 0
 RunTooLong files image packets = TooLongIn files image image_limit packets packets_limit
@@ -43,17 +43,17 @@ RunTooLong files image packets = TooLongIn files image image_limit packets packe
 abbrev pub RunAbsent : Files → List ℕ → List ℕ → Type 0
 RunAbsent files image packets = AbsentIn files image image_limit packets
 
--- both files are there and within their limits, the image is a spelling, and no line of the packet text is bad
+-- the image is run, and no line of the packet text is bad
 abbrev pub IsGoodRun : Files → List ℕ → List ℕ → Type 0
-IsGoodRun files image packets = (h : HasSpelling files image packets) × ((packets_of h.text.bytes).bad ≡ None)
+IsGoodRun files image packets = (h : HasImage files image packets) × ((packets_of h.text.bytes).bad ≡ None)
 
--- the image was read, and a line of the packet text is bad
+-- the image is run, and a line of the packet text is bad
 abbrev pub HasBadPackets : Files → List ℕ → List ℕ → Type 0
-HasBadPackets files image packets = (h : HasImage files image packets) × (bad : BadLine) × ((packets_of h.spelling.text.bytes).bad ≡ Some bad)
+HasBadPackets files image packets = (h : HasImage files image packets) × (bad : BadLine) × ((packets_of h.text.bytes).bad ≡ Some bad)
 
 -- The cause of each answer to `sim` and `probe` in the files, where a fault of the outside or want of memory has none there.
 abbrev pub RunCauses : Files → List ℕ → List ℕ → Status → Type 0
-RunCauses files image packets Done = (h : HasImage files image packets) × ((packets_of h.spelling.text.bytes).bad ≡ None)
+RunCauses files image packets Done = IsGoodRun files image packets
 RunCauses files image packets BadPackets = HasBadPackets files image packets
 RunCauses files image packets BadImage = HasBadImage files image packets
 RunCauses files image packets TooLong = RunTooLong files image packets
@@ -68,7 +68,7 @@ RunCauses files image packets NoMemory = Unit {0}
 -- what is printed with Done, BadPackets and BadImage, by the text for a configuration and what a packet text says
 abbrev pub RunPrints : (Config → Reading → List ℕ) → Files → List ℕ → List ℕ → List ℕ → Type 0
 RunPrints text files image packets printed =
-    ((h : HasImage files image packets) × (printed ≡ text h.spelling.config (packets_of h.spelling.text.bytes)))
+    ((h : HasImage files image packets) × (printed ≡ text h.config (packets_of h.text.bytes)))
     ⊎ ((h : HasBadImage files image packets) × (printed ≡ bad_image_line h.told))
 
 abbrev pub SimPrints : Files → List ℕ → List ℕ → List ℕ → Type 0

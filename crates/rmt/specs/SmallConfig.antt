@@ -66,6 +66,7 @@ abbrev pub parser : ParserConfig
 parser = record {
   states = record { lookups = [] } ∷ [];
   entries = record { state = 0; value = 0; mask = 0; need = 1; advance = 1; next = next.Accept; extracts = One valid ∷ Bits 0 field ∷ [] } ∷ [];
+  tails = [];
 }
 
 abbrev pub small_config : List Effect → Config

@@ -102,7 +102,12 @@ fn parser(alloc: Global) -> Result<ParserConfig, AllocError>
         extracts,
     };
     let entries = one(alloc, entry)?;
-    Ok(ParserConfig { states, entries })
+    let tails = Sequence::new(alloc);
+    Ok(ParserConfig {
+        states,
+        entries,
+        tails,
+    })
 }
 
 /// A stage for each step.

@@ -7,7 +7,7 @@ ghost use Rattle.rmt_config.specs.declared.config.Config.{Config};
 ghost use Rattle.rmt_chip.specs.Inputs.{input_of, MayEnter};
 ghost use Rattle.rmt_chip.specs.Stands.{entered_of, Stands};
 ghost use Rattle.rmt_config.specs.ChipRun.{latency_of, chip_counts_of};
-ghost use Rattle.rmt.specs.Promises.{IsSound};
+ghost use Rattle.rmt.specs.Promises.{MayRun};
 ghost use Rattle.rmt_packets.specs.AnswerLine.{answer_line};
 ghost use Rattle.rmt_packets.specs.PacketText.{packet_of, packets_of};
 ghost use Rattle.rmt_io.specs.Faults.{Rose};
@@ -237,7 +237,7 @@ fn enter<O: Sink>(
 
 /// A run in which nothing entered.
 fn start(alloc: Global, config: Config, watch: Watch) -> Result<Run, ChipFault>
-    requires { IsSound config }
+    requires { MayRun config }
     ensures { IfOk result (λ run. (told : Bool) (before : List ℕ) → Goes watch config [] run told before before) }
 {
     let Ok(chip) = Chip::open(alloc, config) else {
@@ -271,7 +271,7 @@ fn enter_all<O: Sink>(
     text: &[u8],
     out: &mut O,
 ) -> Result<Entered, RunFault>
-    requires sound { IsSound config }
+    requires runs { MayRun config }
     requires short { length text.now ≤ 67108864 }
     ensures ok { IfOk result (λ e. (done : List Packet) × Goes watch config (map Some done) e.run (O.told out.old) (O.bytes out.old) (O.bytes out.new)
         × (packets_of text.now ≡ record { packets = done; bad = bad_line e.bad }) × (length done ≤ 67108864)) }
@@ -515,7 +515,7 @@ pub fn run_text<O: Sink>(
     text: &[u8],
     out: &mut O,
 ) -> Status
-    requires sound { IsSound config }
+    requires runs { MayRun config }
     requires short { length text.now ≤ 67108864 }
     ensures possible { (result ≡ Status.Done) ⊎ (result ≡ Status.BadPackets) ⊎ (result ≡ Status.WriteFault) ⊎ (result ≡ Status.NoMemory) }
     ensures done { result ≡ Status.Done → (packets_of text.now).bad ≡ None }

@@ -5,7 +5,6 @@ ghost use Rattle.rmt_io.specs.Faults.{Rose};
 ghost use Rattle.rmt.specs.Printing.{GainsFront};
 ghost use Rattle.rmt.specs.Commands.{command_of, words_of, IfCompile, IfSim, IfProbe};
 ghost use Rattle.rmt.specs.RunPromises.{RunCauses, RunAbsent, IsGoodRun, SimPrints, ProbePrints, IsOfRun, IsOfRunFiles};
-ghost use Rattle.rmt_config.specs.Spelling.{NumbersFit};
 ghost use Rattle.rmt.specs.declared.status.Status as status;
 ghost use Rattle.rmt.specs.Promises.{Compiled, Causes, IsOfFiles, IsOfOutside, HasAbsent, IsQuiet, Makes, Prints, bad_program_line, bad_entries_line};
 
@@ -163,7 +162,7 @@ pub fn rmt<F: Shelf, O: Sink>(
         RunAbsent (F.file shelf.old) image packets) }
     ensures sim_write_fault { result ≡ Status.WriteFault → IfSim (command_of (words_of words.now.items)) (λ image packets. Rose (O.faults out.old) (O.faults out.new)) }
     ensures sim_complete { IsTrue (F.told shelf.old) → IfSim (command_of (words_of words.now.items)) (λ image packets.
-        (good : IsGoodRun (F.file shelf.old) image packets) → NumbersFit good.0.config → (result ≡ Status.Done) ⊎ IsOfOutside result) }
+        IsGoodRun (F.file shelf.old) image packets → (result ≡ Status.Done) ⊎ IsOfOutside result) }
     ensures sim_files { IfSim (command_of (words_of words.now.items)) (λ image packets. (name : List ℕ) → F.file shelf.new name ≡ F.file shelf.old name) }
 
     // The same of probe, with the text of the vectors in flight at the cycle in the place of the text of the run. A bad line has its last
@@ -184,7 +183,7 @@ pub fn rmt<F: Shelf, O: Sink>(
         RunAbsent (F.file shelf.old) image packets) }
     ensures probe_write_fault { result ≡ Status.WriteFault → IfProbe (command_of (words_of words.now.items)) (λ image packets cycle. Rose (O.faults out.old) (O.faults out.new)) }
     ensures probe_complete { IsTrue (F.told shelf.old) → IfProbe (command_of (words_of words.now.items)) (λ image packets cycle.
-        (good : IsGoodRun (F.file shelf.old) image packets) → NumbersFit good.0.config → (result ≡ Status.Done) ⊎ IsOfOutside result) }
+        IsGoodRun (F.file shelf.old) image packets → (result ≡ Status.Done) ⊎ IsOfOutside result) }
     ensures probe_files { IfProbe (command_of (words_of words.now.items)) (λ image packets cycle. (name : List ℕ) → F.file shelf.new name ≡ F.file shelf.old name) }
 {
     match command_from(words) {

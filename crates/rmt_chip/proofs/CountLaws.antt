@@ -1,8 +1,9 @@
 -- A configuration that the chip runs counts nothing.
-use Rattle.std.proofs.Common.{◌≡◌, ℕ, suc, Bool, true, false, not, cond, ◌∷◌, arith, ◌&&◌, List, [], get_or, All, Option, refl}
+use Rattle.std.proofs.Common.{◌≡◌, ℕ, Bool, true, false, not, cond, ◌&&◌, List, [], get_or, Option, refl}
 use Rattle.std.specs.Prelude.{is_none}
 use Rattle.std.specs.List.{flat_map}
 use Rattle.std.proofs.lemmas.Bool.{false≢true}
+use Rattle.rmt_bits.proofs.ListLaws.{flat_map-none}
 use Rattle.rmt_bits.specs.Packet.{Packet}
 use Rattle.rmt_config.specs.declared.config.Config.{Config}
 use Rattle.rmt_config.specs.declared.config.Stage.{Stage}
@@ -29,15 +30,8 @@ plain_numbers : (u : Unit) → is_plain u ≡ true → unit_numbers u ≡ []
 plain_numbers (Gate g) h = refl
 plain_numbers (Slot slot) h = none_if_not slot.counted _ (first (not slot.counted) (not (has_memory slot.memory)) (second (is_none slot.guard) (not slot.counted && not (has_memory slot.memory)) h))
 
-all_empty : {X A : Type 0} (f : X → List A) (xs : List X) → All (λ x. f x ≡ []) xs → flat_map f xs ≡ []
-all_empty f [] h = refl
-all_empty f (x ∷ xs) h =
-    let here : f x ≡ [] = h 0 x (omega arith) in
-    let rest = all_empty f xs (λ k d b. h (suc k) d (omega arith)) in
-    rw (here, rest) refl
-
 pub counts_nothing : (c : Config) → IsRunnable c → (inputs : List (Option Packet)) → chip_counts_of c inputs ≡ []
 counts_nothing c runs inputs =
     chip_counts_of-none c inputs
-    (all_empty (λ (stage : Stage). flat_map unit_numbers stage.units) c.stages
-    (λ k d h. all_empty unit_numbers (get_or c.stages k d).units (λ j e b. plain_numbers (get_or (get_or c.stages k d).units j e) ((runs.stages.each k d h).plain j e b))))
+    (flat_map-none (λ (stage : Stage). flat_map unit_numbers stage.units) c.stages
+    (λ k d h. flat_map-none unit_numbers (get_or c.stages k d).units (λ j e b. plain_numbers (get_or (get_or c.stages k d).units j e) ((runs.stages.each k d h).plain j e b))))

@@ -1,24 +1,28 @@
 -- The lanes of a header, one after another.
-use Rattle.std.proofs.Common.{◌≡◌, ℕ, zero, suc, replicate, ◌+◌, ◌-◌, ◌*◌, ◌/◌, ◌%◌, ◌^◌, ◌<◌, ◌≤◌, List, length, get_or, take, refl, sym, ap, ◌∙◌, arith}
-use Rattle.std.specs.List.{sum_by}
+use Rattle.std.proofs.Common.{◌≡◌, ℕ, zero, suc, replicate, ◌+◌, ◌-◌, ◌*◌, ◌/◌, ◌%◌, ◌^◌, ◌<◌, ◌≤◌, List, [], ◌∷◌, ◌++◌, length, get_or, take, refl, sym, ap, ◌∙◌, arith}
+use Rattle.std.specs.List.{sum_by, flat_map, zip}
 use Rattle.std.proofs.lemmas.List.Sums.{sum_by_more, sum_by-take-le, sum-map, fold_more}
 use Rattle.std.proofs.lemmas.Nat.{pow_pos, pow-add, shr_high, mod_low}
 use Rattle.rmt_bits.specs.Bits.{deposit, number_of}
 use Rattle.rmt_bits.specs.declared.lane.Lane.{Lane}
-use Rattle.rmt_config.specs.Life.{Words, lane_of, key_of, key_bits}
+use Rattle.rmt_config.specs.declared.config.OutHeader.{OutHeader}
+use Rattle.rmt_config.specs.LaneForm.{bits_of_lanes}
+use Rattle.rmt_config.specs.Life.{Words, lane_of, key_of}
+use Rattle.rmt_config.specs.ChipRun.{header_bytes, sent_bytes}
+use Rattle.rmt_chip.specs.Leaving.{no_tails}
 
 lane_len : Lane → ℕ
 lane_len lane = lane.len
 
-bits_sum : (lanes : List Lane) → key_bits lanes ≡ sum_by (λ (l : Lane). l.len) lanes
+bits_sum : (lanes : List Lane) → bits_of_lanes lanes ≡ sum_by (λ (l : Lane). l.len) lanes
 bits_sum lanes = sum-map (λ (l : Lane). l.len) lanes
 
-pub key_bits_more : (lanes : List Lane) (i : ℕ) (d : Lane) → i < length lanes → key_bits (take (i + 1) lanes) ≡ key_bits (take i lanes) + (get_or lanes i d).len
-key_bits_more lanes i d h =
+pub bits_of_lanes_more : (lanes : List Lane) (i : ℕ) (d : Lane) → i < length lanes → bits_of_lanes (take (i + 1) lanes) ≡ bits_of_lanes (take i lanes) + (get_or lanes i d).len
+bits_of_lanes_more lanes i d h =
     bits_sum (take (i + 1) lanes) ∙ sum_by_more (λ (l : Lane). l.len) lanes i d h ∙ ap (λ n. n + (get_or lanes i d).len) (sym (bits_sum (take i lanes)))
 
-pub key_bits-le : (lanes : List Lane) (i : ℕ) → key_bits (take i lanes) ≤ key_bits lanes
-key_bits-le lanes i = let a = bits_sum (take i lanes) in let b = bits_sum lanes in let c = sum_by-take-le (λ (l : Lane). l.len) lanes i in omega arith
+pub bits_of_lanes-le : (lanes : List Lane) (i : ℕ) → bits_of_lanes (take i lanes) ≤ bits_of_lanes lanes
+bits_of_lanes-le lanes i = let a = bits_sum (take i lanes) in let b = bits_sum lanes in let c = sum_by-take-le (λ (l : Lane). l.len) lanes i in omega arith
 
 pub key_of_more : (words : Words) (lanes : List Lane) (i : ℕ) (d : Lane) → i < length lanes
     → key_of words (take (i + 1) lanes) ≡ 2 ^ (get_or lanes i d).len * key_of words (take i lanes) + lane_of words (get_or lanes i d)
@@ -48,3 +52,14 @@ number_of_zeros (suc n) = number_of_zeros n
 
 pub number_of-zero : (bytes : List ℕ) (n : ℕ) → bytes ≡ replicate n 0 → number_of bytes ≡ 0
 number_of-zero bytes n e = ap number_of e ∙ number_of_zeros n
+
+-- headers without tails
+pub sent_without : (words : Words) (headers : List OutHeader) (n : ℕ) → length headers ≤ n
+    → flat_map (λ (x : OutHeader × List ℕ). header_bytes words x.0 x.1) (zip headers (replicate n [])) ≡ flat_map (λ (h : OutHeader). header_bytes words h []) headers
+sent_without words [] n few = refl
+sent_without words (h ∷ hs) zero few = absurd (omega (arith, few))
+sent_without words (h ∷ hs) (suc n) few = ap (λ (rest : List ℕ). header_bytes words h [] ++ rest) (sent_without words hs n (omega (arith, few)))
+
+pub sent_bytes_without : (words : Words) (headers : List OutHeader) (payload : List ℕ) → length headers ≤ 64
+    → sent_bytes words headers no_tails payload ≡ flat_map (λ (h : OutHeader). header_bytes words h []) headers ++ payload
+sent_bytes_without words headers payload few = ap (λ (bytes : List ℕ). bytes ++ payload) (sent_without words headers 64 few)

@@ -33,7 +33,7 @@ carried_first look stages vector rise place whole v o = record {
 begins_carried : (look : Look) (c : Config) (packet : Packet) → Rise c.stages → (place : Place) → place.outcomes ≡ replicate 256 0 → (p : Parse) → Begins c packet place p → CarriedFor look c packet 0 0 0 place p
 begins_carried look c packet rise place o Short b = (b.0, λ w. ap (λ (ws : List ℕ). slice_index ws w) b.1 ∙ get_or-zeros 224 w 0)
 begins_carried look c packet rise place o Reject b = (b.0, λ w. ap (λ (ws : List ℕ). slice_index ws w) b.1 ∙ get_or-zeros 224 w 0)
-begins_carried look c packet rise place o (Accept vector used) b = (b.0, carried_first look c.stages (put vector c.in_port packet.port) rise place b.2 b.1 o)
+begins_carried look c packet rise place o (Accept r) b = (b.0, carried_first look c.stages (put r.vector c.in_port packet.port) rise place b.2 b.1 o)
 
 pub holds_entered : (look : Look) (c : Config) → Rise c.stages → (e : Entered) (place : Place) → EnteredBy c e place → Holds look c e 0 0 0 place
 holds_entered look c rise e place h = record {

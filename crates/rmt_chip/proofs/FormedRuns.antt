@@ -1,15 +1,14 @@
--- The chip can run each configuration that keeps the rules of form and the limits.
-use Rattle.std.proofs.Common.{◌≡◌, ℕ, zero, suc, ◌+◌, ◌-◌, ◌*◌, ◌<◌, ◌≤◌, true, cond, not, ◌&&◌, ltb, leb, eqb, List, [], ◌∷◌, length, get_or, map, All, Option, Some, None, refl, inl, inr, arith}
+-- The chip can run each supported configuration that keeps the rules of form and the limits.
+use Rattle.std.proofs.Common.{◌≡◌, ℕ, zero, suc, ◌+◌, ◌-◌, ◌*◌, ◌^◌, ◌<◌, ◌≤◌, true, false, cond, not, ◌&&◌, ltb, leb, eqb, List, [], ◌∷◌, length, get_or, map, All, Some, None, refl, inl, inr, arith}
 use Rattle.std.specs.Prelude.{IsTrue, is_none, count_by, slice_get, slice_index}
 use Rattle.std.specs.List.{list_all, AllByRecursion}
-use Rattle.std.proofs.lemmas.Bool.{ltb-true, leb-true, eqb-true, lt-ltb, le-leb, cases_lt, and_parts, and_from}
-use Rattle.std.proofs.lemmas.List.{length-map, get_or-map}
+use Rattle.std.proofs.lemmas.Bool.{ltb-true, leb-true, eqb-true, lt-ltb, le-leb, cases_lt, and_parts, and_from, not-true}
+use Rattle.std.proofs.lemmas.List.{length-map, get_or-map, nil_from_length}
 use Rattle.std.proofs.lemmas.List.Elements.{All-from_recursion, All-weaker}
 use Rattle.std.proofs.lemmas.List.Sums.{sum_by-cons, AllPass-from_list_all}
 use Rattle.std.proofs.lemmas.Option.{slice_get-get_or}
 use Rattle.rmt_bits.specs.Words.{word_size}
 use Rattle.rmt_bits.specs.declared.lane.Lane.{Lane}
-use Rattle.rmt_config.specs.declared.limits.LimitHit.{LimitHit}
 use Rattle.rmt_config.specs.declared.config.Config.{Config}
 use Rattle.rmt_config.specs.declared.config.OutHeader.{OutHeader}
 use Rattle.rmt_config.specs.declared.config.ParserConfig.{ParserConfig}
@@ -21,7 +20,6 @@ use Rattle.rmt_config.specs.declared.config.Stage.{Stage}
 use Rattle.rmt_config.specs.declared.config.SlotUnit.{SlotUnit}
 use Rattle.rmt_config.specs.declared.config.Unit.{Unit as ChipUnit}
 use Rattle.rmt_config.specs.declared.config.Unit.TheVariants.{Gate, Slot}
-use Rattle.rmt_config.specs.declared.config.UnitGuard.{UnitGuard}
 use Rattle.rmt_config.specs.declared.config.Memory.{Memory}
 use Rattle.rmt_config.specs.declared.config.Memory.TheVariants.{Without, Exact, Ternary}
 use Rattle.rmt_config.specs.declared.config.Vliw.{Vliw}
@@ -29,23 +27,20 @@ use Rattle.rmt_config.specs.declared.config.Operation.{Operation}
 use Rattle.rmt_config.specs.declared.config.Source.{Source}
 use Rattle.rmt_config.specs.declared.config.Source.TheVariants.{Word, Held, Constant}
 use Rattle.rmt_config.specs.Life.{has_memory}
-use Rattle.rmt_config.specs.Form.{is_lane_of, lane_is_formed, bits_of_lanes, header_is_formed, headers_are_formed, next_is_formed, extract_is_formed, match_is_formed, entry_is_formed, entries_are_formed, never_falls_from, memory_is_formed, unit_is_formed, Place, places_of, source_is_formed, kind_is_formed, lane_of_operation, operation_is_formed, rises_from, vliw_is_formed, code_is_formed, srows_are_formed, trows_are_formed, stage_is_formed, starts_are_formed, stages_are_formed, ports_are_formed, nodes_are_formed, has_no_guard, is_without, unit_is_of_this_step, stage_is_of_this_step, states_are_of_this_step, is_of_this_step, Formed}
-use Rattle.rmt_config.specs.Limits.{over, or_hit, first_hit, stage_hit, stages_hit, entries_hit, entry_hit, is_slot, slots_hit, code_hit, nodes_hit, last_start_hit, stage_limit_hit, IsWithinLimits}
+use Rattle.rmt_config.specs.Parser.{has_no_tail}
+use Rattle.rmt_config.specs.declared.form.code.Place.{Place}
+use Rattle.rmt_config.specs.Order.{rises_from, never_falls_from}
+use Rattle.rmt_config.specs.LaneForm.{is_lane_of, lane_is_formed, bits_of_lanes, header_is_formed, headers_are_formed, ports_are_formed}
+use Rattle.rmt_config.specs.ParserForm.{next_is_formed, extract_is_formed, lookups_of, match_is_formed, entry_is_formed, states_are_formed, entries_are_formed, parser_is_formed}
+use Rattle.rmt_config.specs.UnitForm.{slot_head_is_formed, memory_is_formed, unit_is_formed}
+use Rattle.rmt_config.specs.CodeForm.{places_of, source_is_formed, kind_is_formed, lane_of_operation, operation_is_formed, vliw_is_formed, code_is_formed}
+use Rattle.rmt_config.specs.StageForm.{srow_fits, trow_fits, stage_is_formed, starts_are_formed, stages_are_formed}
+use Rattle.rmt_config.specs.Form.{Formed}
+use Rattle.rmt_config.specs.Resources.{is_slot}
+use Rattle.rmt_config.specs.Limits.{last_start_hit, IsWithinLimits}
+use Rattle.rmt_config.proofs.LimitLaws.{within, KeepsLimits, limits_kept}
+use Rattle.rmt_chip.specs.Supported.{unit_is_supported, stage_is_supported, is_supported}
 use Rattle.rmt_chip.specs.Runnable.{LaneFits, source_fits, OperationFits, InstructionFits, is_plain, StageFits, start_of, StagesFit, extract_fits, ParserFits, HeaderFits, IsRunnable}
-
--- ---- limits
-
--- a limit that is not passed
-within : (most limit stage sum : ℕ) → over most limit stage sum ≡ None → sum ≤ most
-within most limit stage sum e =
-    elim (cases_lt most sum) [
-      | inl more ↦ absurd (let h = rw (lt-ltb most sum more) at e in cc)
-      | inr fits ↦ fits
-    ]
-
-neither : (a b : Option LimitHit) → or_hit a b ≡ None → (a ≡ None) × (b ≡ None)
-neither (Some hit) b e = absurd cc
-neither None b e = (refl, e)
 
 -- ---- lanes
 
@@ -91,53 +86,51 @@ header_fits h e =
 
 extract_is_fit : (need : ℕ) (x : Extract) → extract_is_formed need x ≡ true → extract_fits need x ≡ true
 extract_is_fit need (Bits from lane) e =
-    let p = and_parts (lane_is_formed lane) (leb (from + lane.len) (8 * need)) e in
-    let f = lane_fits lane p.0 in
+    let p = and_parts (ltb from 65536 && lane_is_formed lane) (leb (from + lane.len) (8 * need)) e in
+    let f = lane_fits lane (and_parts (ltb from 65536) (lane_is_formed lane) p.0).1 in
     rw (lt-ltb lane.word 224 f.exists, le-leb (lane.low + lane.len) (word_size lane.word) f.within) p.1
 extract_is_fit need (One lane) e =
     let p = and_parts (lane_is_formed lane) (eqb lane.len 1) e in
     let f = lane_fits lane p.0 in
     rw (lt-ltb lane.word 224 f.exists, le-leb (lane.low + lane.len) (word_size lane.word) f.within) p.1
 
-short_step : (states : ℕ) (e : ParserEntry) → entry_is_formed states e ≡ true → e.advance ≤ e.need
+short_step : (states : List ParserState) (e : ParserEntry) → entry_is_formed states e ≡ true → e.advance ≤ e.need
 short_step states e formed =
-    let state = ltb e.state states in
-    let matches = match_is_formed e in
+    let front = ltb e.state (length states) && ltb e.state 256 && match_is_formed (lookups_of states e.state) e && ltb e.need 256 in
     let step = leb e.advance e.need in
-    let next = next_is_formed states e.state e.next in
+    let next = next_is_formed (length states) e.state e.next in
     let few = ltb (length e.extracts) 256 in
-    let p = and_parts (state && matches && step && next && few) (list_all (extract_is_formed e.need) e.extracts) formed in
-    let q = and_parts (state && matches && step && next) few p.0 in
-    let r = and_parts (state && matches && step) next q.0 in
-    leb-true e.advance e.need (and_parts (state && matches) step r.0).1
+    let p = and_parts (front && step && next && few) (list_all (extract_is_formed e.need) e.extracts) formed in
+    let q = and_parts (front && step && next) few p.0 in
+    let r = and_parts (front && step) next q.0 in
+    leb-true e.advance e.need (and_parts front step r.0).1
 
-extracts_fit : (states : ℕ) (e : ParserEntry) → entry_is_formed states e ≡ true → All (λ x. IsTrue (extract_fits e.need x)) e.extracts
+extracts_fit : (states : List ParserState) (e : ParserEntry) → entry_is_formed states e ≡ true → All (λ x. IsTrue (extract_fits e.need x)) e.extracts
 extracts_fit states e formed =
-    let front = ltb e.state states && match_is_formed e && leb e.advance e.need && next_is_formed states e.state e.next && ltb (length e.extracts) 256 in
-    let p = and_parts front (list_all (extract_is_formed e.need) e.extracts) formed in
+    let front = ltb e.state (length states) && ltb e.state 256 && match_is_formed (lookups_of states e.state) e && ltb e.need 256 && leb e.advance e.need in
+    let p = and_parts (front && next_is_formed (length states) e.state e.next && ltb (length e.extracts) 256) (list_all (extract_is_formed e.need) e.extracts) formed in
     All-weaker _ (λ x. IsTrue (extract_fits e.need x)) (extract_is_fit e.need) e.extracts (AllPass-from_list_all (extract_is_formed e.need) e.extracts p.1)
 
-parser_fits : (p : ParserConfig) → states_are_of_this_step p.states ≡ true → entries_are_formed p ≡ true → ParserFits p
-parser_fits p come e =
-    let states = and_parts (eqb (length p.states) 1) (list_all (λ (s : ParserState). eqb (length s.lookups) 0) p.states) come in
+parser_fits : (p : ParserConfig) → parser_is_formed p ≡ true → ParserFits p
+parser_fits p e =
+    let states = states_are_formed p.states in
+    let entries = entries_are_formed p in
+    let tails = and_parts (states && entries) (has_no_tail p) e in
     let few = ltb (length p.entries) 65536 in
-    let each = list_all (entry_is_formed (length p.states)) p.entries in
-    let q = and_parts (few && each) (never_falls_from 0 (map (λ (e : ParserEntry). e.state) p.entries)) e in
-    let r = and_parts few each q.0 in
+    let each = list_all (entry_is_formed p.states) p.entries in
+    let q = and_parts (few && each) (never_falls_from 0 (map (λ (e : ParserEntry). e.state) p.entries)) (and_parts states entries tails.0).1 in
+    let all = AllPass-from_list_all (entry_is_formed p.states) p.entries (and_parts few each q.0).1 in
     record {
-      short_steps = All-weaker _ (λ (e : ParserEntry). e.advance ≤ e.need) (short_step (length p.states)) p.entries (AllPass-from_list_all (entry_is_formed (length p.states)) p.entries r.1);
-      extracts = All-weaker _ (λ (e : ParserEntry). All (λ x. IsTrue (extract_fits e.need x)) e.extracts) (extracts_fit (length p.states)) p.entries (AllPass-from_list_all (entry_is_formed (length p.states)) p.entries r.1);
+      no_tail = nil_from_length p.tails (eqb-true (length p.tails) 0 tails.1);
+      short_steps = All-weaker _ (λ (e : ParserEntry). e.advance ≤ e.need) (short_step p.states) p.entries all;
+      extracts = All-weaker _ (λ (e : ParserEntry). All (λ x. IsTrue (extract_fits e.need x)) e.extracts) (extracts_fit p.states) p.entries all;
     }
 
 -- ---- units
 
-no_guard : (g : Option UnitGuard) → has_no_guard g ≡ true → is_none g ≡ true
-no_guard None e = refl
-no_guard (Some g) e = absurd cc
-
 -- a slot without memory does not count
-no_count : (s : SlotUnit) (m : Memory) → is_without m ≡ true → memory_is_formed s m ≡ true → (not s.counted && not (has_memory m)) ≡ true
-no_count s Without come e =
+no_count : (s : SlotUnit) (m : Memory) → has_memory m ≡ false → memory_is_formed s m ≡ true → not s.counted ≡ true
+no_count s Without none e =
     let counts = not s.counted in
     let actions = eqb s.actions 0 in
     let held = eqb s.held 0 in
@@ -146,30 +139,31 @@ no_count s Without come e =
     let q = and_parts (counts && actions && s.last && held) keys p.0 in
     let r = and_parts (counts && actions && s.last) held q.0 in
     let t = and_parts (counts && actions) s.last r.0 in
-    and_from counts true (and_parts counts actions t.0).0 refl
-no_count s (Exact width per quanta first_way keys records counters) come e = absurd cc
-no_count s (Ternary quanta keys records counters) come e = absurd cc
+    (and_parts counts actions t.0).0
+no_count s (Exact width per quanta first_way keys records counters) none e = absurd cc
+no_count s (Ternary quanta keys records counters) none e = absurd cc
 
-unit_plain : (u : ChipUnit) → unit_is_of_this_step u ≡ true → unit_is_formed u ≡ true → is_plain u ≡ true
-unit_plain (Gate g) come e = absurd cc
-unit_plain (Slot s) come e =
-    let p = and_parts (has_no_guard s.guard) (is_without s.memory) come in
-    let q = and_parts (leb s.actions 14) (memory_is_formed s s.memory) e in
-    and_from (is_none s.guard) (not s.counted && not (has_memory s.memory)) (no_guard s.guard p.0) (no_count s s.memory p.1 q.1)
+unit_plain : (u : ChipUnit) → unit_is_supported u ≡ true → unit_is_formed u ≡ true → is_plain u ≡ true
+unit_plain (Gate g) runs e = absurd cc
+unit_plain (Slot s) runs e =
+    let p = and_parts (is_none s.guard) (not (has_memory s.memory)) runs in
+    let q = and_parts (slot_head_is_formed s) (memory_is_formed s s.memory) e in
+    let counts = no_count s s.memory (not-true (has_memory s.memory) p.1) q.1 in
+    and_from (is_none s.guard) (not s.counted && not (has_memory s.memory)) p.0 (and_from (not s.counted) (not (has_memory s.memory)) counts p.1)
 
-units_plain : (us : List ChipUnit) → list_all unit_is_of_this_step us ≡ true → list_all unit_is_formed us ≡ true → AllByRecursion (λ u. IsTrue (is_plain u)) us
-units_plain [] come each = tt
-units_plain (u ∷ us) come each =
-    let p = and_parts (unit_is_of_this_step u) (list_all unit_is_of_this_step us) come in
+units_plain : (us : List ChipUnit) → list_all unit_is_supported us ≡ true → list_all unit_is_formed us ≡ true → AllByRecursion (λ u. IsTrue (is_plain u)) us
+units_plain [] runs each = tt
+units_plain (u ∷ us) runs each =
+    let p = and_parts (unit_is_supported u) (list_all unit_is_supported us) runs in
     let q = and_parts (unit_is_formed u) (list_all unit_is_formed us) each in
     (unit_plain u p.0 q.0, units_plain us p.1 q.1)
 
 -- each unit is a slot
-slots_only : (us : List ChipUnit) → list_all unit_is_of_this_step us ≡ true → count_by is_slot us ≡ length us
-slots_only [] come = refl
-slots_only (Gate g ∷ us) come = absurd cc
-slots_only (Slot s ∷ us) come =
-    let p = and_parts (has_no_guard s.guard && is_without s.memory) (list_all unit_is_of_this_step us) come in
+slots_only : (us : List ChipUnit) → list_all unit_is_supported us ≡ true → count_by is_slot us ≡ length us
+slots_only [] runs = refl
+slots_only (Gate g ∷ us) runs = absurd cc
+slots_only (Slot s ∷ us) runs =
+    let p = and_parts (unit_is_supported (Slot s)) (list_all unit_is_supported us) runs in
     let rest : count_by is_slot us ≡ length us = slots_only us p.1 in
     let one_more : count_by is_slot (Slot s ∷ us) ≡ 1 + count_by is_slot us = sum_by-cons (λ (u : ChipUnit). cond (is_slot u) 1 0) (Slot s) us in
     omega arith
@@ -238,30 +232,38 @@ code_fits (place ∷ places) (v ∷ code) e =
 
 -- ---- stages
 
-stage_fits : (s : Stage) → stage_is_of_this_step s ≡ true → stage_is_formed s ≡ true → count_by is_slot s.units ≤ 16 → StageFits s
-stage_fits s come e slots =
-    let few = ltb (length s.units) 256 in
+-- the rules of a stage without those on its rows
+stage_parts : (s : Stage) → stage_is_formed s ≡ true → (list_all unit_is_formed s.units ≡ true) × (code_is_formed (places_of s.units) s.code ≡ true)
+stage_parts s e =
+    let front = ltb s.start 65536 && ltb (length s.units) 256 in
     let each = list_all unit_is_formed s.units in
     let code = code_is_formed (places_of s.units) s.code in
-    let srows = srows_are_formed s.units s.srows in
-    let p = and_parts (few && each && code && srows) (trows_are_formed s.units s.trows) e in
-    let q = and_parts (few && each && code) srows p.0 in
-    let r = and_parts (few && each) code q.0 in
-    let t = and_parts few each r.0 in
-    let all : count_by is_slot s.units ≡ length s.units = slots_only s.units come in
+    let few_srows = ltb (length s.srows) (2 ^ 32) in
+    let srows = list_all srow_fits s.srows in
+    let few_trows = ltb (length s.trows) (2 ^ 32) in
+    let p = and_parts (front && each && code && few_srows && srows && few_trows) (list_all trow_fits s.trows) e in
+    let q = and_parts (front && each && code && few_srows && srows) few_trows p.0 in
+    let r = and_parts (front && each && code && few_srows) srows q.0 in
+    let t = and_parts (front && each && code) few_srows r.0 in
+    let u = and_parts (front && each) code t.0 in
+    ((and_parts front each u.0).1, u.1)
+
+stage_fits : (s : Stage) → stage_is_supported s ≡ true → stage_is_formed s ≡ true → count_by is_slot s.units ≤ 16 → StageFits s
+stage_fits s runs e slots =
+    let parts = stage_parts s e in
+    let all : count_by is_slot s.units ≡ length s.units = slots_only s.units runs in
     record {
       few_units = omega arith;
-      plain = All-from_recursion (λ u. IsTrue (is_plain u)) s.units (units_plain s.units come t.1);
-      code = All-from_recursion InstructionFits s.code (code_fits (places_of s.units) s.code r.1);
+      plain = All-from_recursion (λ u. IsTrue (is_plain u)) s.units (units_plain s.units runs parts.0);
+      code = All-from_recursion InstructionFits s.code (code_fits (places_of s.units) s.code parts.1);
     }
 
-each_stage_fits : (k : ℕ) (ss : List Stage) → list_all stage_is_of_this_step ss ≡ true → list_all stage_is_formed ss ≡ true → stage_hit slots_hit k ss ≡ None → AllByRecursion StageFits ss
-each_stage_fits k [] come each no_hit = tt
-each_stage_fits k (s ∷ ss) come each no_hit =
-    let p = and_parts (stage_is_of_this_step s) (list_all stage_is_of_this_step ss) come in
+each_stage_fits : (ss : List Stage) → list_all stage_is_supported ss ≡ true → list_all stage_is_formed ss ≡ true → AllByRecursion (λ (s : Stage). count_by is_slot s.units ≤ 16) ss → AllByRecursion StageFits ss
+each_stage_fits [] runs each slots = tt
+each_stage_fits (s ∷ ss) runs each slots =
+    let p = and_parts (stage_is_supported s) (list_all stage_is_supported ss) runs in
     let q = and_parts (stage_is_formed s) (list_all stage_is_formed ss) each in
-    let n = neither (slots_hit k s) (stage_hit slots_hit (k + 1) ss) no_hit in
-    (stage_fits s p.0 q.0 (within 16 10 k (count_by is_slot s.units) n.0), each_stage_fits (k + 1) ss p.1 q.1 n.1)
+    (stage_fits s p.0 q.0 slots.0, each_stage_fits ss p.1 q.1 slots.1)
 
 starts_rise : (ns : List ℕ) → starts_are_formed ns ≡ true → rises_from 0 ns ≡ true
 starts_rise [] e = refl
@@ -296,55 +298,44 @@ starts_end : (ss : List Stage) → ((j k : ℕ) → j < k → k < length ss → 
 starts_end [] rise e k lt = absurd (omega (arith, lt))
 starts_end (s ∷ ss) rise e k lt = upto_last (s ∷ ss) rise (last_start (s ∷ ss) s (omega arith) e) k lt
 
-stages_fit : (ss : List Stage) → list_all stage_is_of_this_step ss ≡ true → stages_are_formed ss ≡ true → length ss ≤ 32 → stage_limit_hit ss ≡ None → StagesFit ss
-stages_fit ss come e few_stages no_hit =
-    let few = ltb (length ss) 256 in
-    let each = list_all stage_is_formed ss in
-    let p = and_parts (few && each) (starts_are_formed (map (λ (s : Stage). s.start) ss)) e in
+stages_fit : (c : Config) → list_all stage_is_supported c.stages ≡ true → stages_are_formed c.stages ≡ true → KeepsLimits c → StagesFit c.stages
+stages_fit c runs e limits =
+    let few = ltb (length c.stages) 256 in
+    let each = list_all stage_is_formed c.stages in
+    let p = and_parts (few && each) (starts_are_formed (map (λ (s : Stage). s.start) c.stages)) e in
     let q = and_parts few each p.0 in
-    let n = neither (stage_hit slots_hit 0 ss) (or_hit (stage_hit code_hit 0 ss) (or_hit (nodes_hit ss) (last_start_hit ss))) no_hit in
-    let m = neither (stage_hit code_hit 0 ss) (or_hit (nodes_hit ss) (last_start_hit ss)) n.1 in
-    let l = neither (nodes_hit ss) (last_start_hit ss) m.1 in
     record {
-      few = few_stages;
-      rise = stages_rise ss p.1;
-      last = starts_end ss (stages_rise ss p.1) l.1;
-      each = All-from_recursion StageFits ss (each_stage_fits 0 ss come q.1 n.0);
+      few = limits.stages;
+      rise = stages_rise c.stages p.1;
+      last = starts_end c.stages (stages_rise c.stages p.1) limits.last_start;
+      each = All-from_recursion StageFits c.stages (each_stage_fits c.stages runs q.1 limits.slots);
     }
 
 -- ---- all of it
 
-pub runnable : (c : Config) → Formed c → IsWithinLimits c → IsRunnable c
-runnable c formed limits =
-    let step = is_of_this_step c in
+pub runnable : (c : Config) → Formed c → IsWithinLimits c → IsTrue (is_supported c) → IsRunnable c
+runnable c formed limits supported =
     let in_port = is_lane_of 9 c.in_port in
     let out_port = is_lane_of 9 c.out_port in
     let drop = is_lane_of 1 c.drop in
     let ports = ports_are_formed c in
     let headers = headers_are_formed c.headers in
-    let entries = entries_are_formed c.parser in
-    let stages = stages_are_formed c.stages in
-    let a = and_parts (step && ports && headers && entries && stages) (nodes_are_formed c) formed in
-    let b = and_parts (step && ports && headers && entries) stages a.0 in
-    let d = and_parts (step && ports && headers) entries b.0 in
-    let e = and_parts (step && ports) headers d.0 in
-    let f = and_parts step ports e.0 in
-    let come = and_parts (states_are_of_this_step c.parser.states) (list_all stage_is_of_this_step c.stages) f.0 in
-    let drops = and_parts (in_port && out_port) drop f.1 in
-    let two = and_parts in_port out_port drops.0 in
-    let few_headers = and_parts (leb (length c.headers) 64) (list_all header_is_formed c.headers) e.1 in
-    let of_entries = first_hit entry_hit c.parser.entries in
-    let of_stages = stage_limit_hit c.stages in
-    let n = neither (stages_hit c) (or_hit (entries_hit c) (or_hit of_entries of_stages)) limits in
-    let m = neither (entries_hit c) (or_hit of_entries of_stages) n.1 in
-    let l = neither of_entries of_stages m.1 in
+    let parser = parser_is_formed c.parser in
+    let a = and_parts (ports && headers && parser) (stages_are_formed c.stages) formed.items in
+    let b = and_parts (ports && headers) parser a.0 in
+    let d = and_parts ports headers b.0 in
+    let drops = and_parts (ltb c.seed 256 && in_port && out_port) drop d.0 in
+    let outs = and_parts (ltb c.seed 256 && in_port) out_port drops.0 in
+    let ins = and_parts (ltb c.seed 256) in_port outs.0 in
+    let few_headers = and_parts (leb (length c.headers) 64) (list_all header_is_formed c.headers) d.1 in
     record {
-      in_port = lane_of_fits 9 c.in_port two.0;
-      port_bits = lane_of_len 9 c.in_port two.0;
-      out_port = lane_of_fits 9 c.out_port two.1;
-      out_bits = lane_of_len 9 c.out_port two.1;
+      in_port = lane_of_fits 9 c.in_port ins.1;
+      port_bits = lane_of_len 9 c.in_port ins.1;
+      out_port = lane_of_fits 9 c.out_port outs.1;
+      out_bits = lane_of_len 9 c.out_port outs.1;
       drop = lane_of_fits 1 c.drop drops.1;
+      few_headers = leb-true (length c.headers) 64 few_headers.0;
       headers = All-weaker _ HeaderFits header_fits c.headers (AllPass-from_list_all header_is_formed c.headers few_headers.1);
-      parser = parser_fits c.parser come.0 d.1;
-      stages = stages_fit c.stages come.1 b.1 (within 32 1 0 (length c.stages) n.0) l.1;
+      parser = parser_fits c.parser b.1;
+      stages = stages_fit c supported a.1 (limits_kept c limits);
     }

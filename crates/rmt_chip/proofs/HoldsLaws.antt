@@ -25,39 +25,39 @@ for_write look c packet rise k t old new inside at w Short held =
 for_write look c packet rise k t old new inside at w Reject held =
     let stays : new.vector ≡ old.vector = vector_stays k old new (ap is_accepted held.0) w in
     (w.same.parsed ∙ held.0, λ v. ap (λ (ws : List ℕ). slice_index ws v) stays ∙ held.1 v)
-for_write look c packet rise k t old new inside at w (Accept vector used) held =
+for_write look c packet rise k t old new inside at w (Accept r) held =
     let test : is_accepted old.parsed ≡ true = ap is_accepted held.0 in
     let wrote : new.vector ≡ applied (due_at old k) old.vector = w.vector ∙ ap (λ (b : Bool). cond b (applied (due_at old k) old.vector) old.vector) test in
-    (w.same.parsed ∙ held.0, carried_write look c.stages (put vector c.in_port packet.port) rise k t old new inside at wrote w.outcomes w.running w.due held.1)
+    (w.same.parsed ∙ held.0, carried_write look c.stages (put r.vector c.in_port packet.port) rise k t old new inside at wrote w.outcomes w.running w.due held.1)
 
 for_write_none : (look : Look) (c : Config) (packet : Packet) (t : ℕ) (place : Place) → NoneAt c.stages 12 (t + 1) → (p : Parse) → CarriedFor look c packet t t t place p → CarriedFor look c packet (t + 1) t t place p
 for_write_none look c packet t place none Short held = held
 for_write_none look c packet t place none Reject held = held
-for_write_none look c packet t place none (Accept vector used) held = (held.0, carried_write_none look c.stages (put vector c.in_port packet.port) t place none held.1)
+for_write_none look c packet t place none (Accept r) held = (held.0, carried_write_none look c.stages (put r.vector c.in_port packet.port) t place none held.1)
 
 for_read : (look : Look) (c : Config) (packet : Packet) → Rise c.stages → (k t : ℕ) (stage : Stage) (old new : Place) → k < length c.stages → get_or c.stages k stage ≡ stage → start_of c.stages k + 9 ≡ t + 1
     → ReadBy k stage old new → (p : Parse) → CarriedFor look c packet (t + 1) t t old p → CarriedFor look c packet (t + 1) (t + 1) t new p
 for_read look c packet rise k t stage old new inside is at w Short held = (w.same.parsed ∙ held.0, λ v. ap (λ (ws : List ℕ). slice_index ws v) w.vector ∙ held.1 v)
 for_read look c packet rise k t stage old new inside is at w Reject held = (w.same.parsed ∙ held.0, λ v. ap (λ (ws : List ℕ). slice_index ws v) w.vector ∙ held.1 v)
-for_read look c packet rise k t stage old new inside is at w (Accept vector used) held =
-    (w.same.parsed ∙ held.0, carried_read look c.stages (put vector c.in_port packet.port) rise k t stage old new inside is at w (ap is_accepted held.0) held.1)
+for_read look c packet rise k t stage old new inside is at w (Accept r) held =
+    (w.same.parsed ∙ held.0, carried_read look c.stages (put r.vector c.in_port packet.port) rise k t stage old new inside is at w (ap is_accepted held.0) held.1)
 
 for_read_none : (look : Look) (c : Config) (packet : Packet) (t : ℕ) (place : Place) → NoneAt c.stages 9 (t + 1) → (p : Parse) → CarriedFor look c packet (t + 1) t t place p → CarriedFor look c packet (t + 1) (t + 1) t place p
 for_read_none look c packet t place none Short held = held
 for_read_none look c packet t place none Reject held = held
-for_read_none look c packet t place none (Accept vector used) held = (held.0, carried_read_none look c.stages (put vector c.in_port packet.port) t place none held.1)
+for_read_none look c packet t place none (Accept r) held = (held.0, carried_read_none look c.stages (put r.vector c.in_port packet.port) t place none held.1)
 
 for_act : (look : Look) (c : Config) (packet : Packet) → Rise c.stages → (k t : ℕ) (stage : Stage) (old new : Place) → k < length c.stages → get_or c.stages k stage ≡ stage → start_of c.stages k + 8 ≡ t + 1
     → DecidedBy stage old new → (p : Parse) → CarriedFor look c packet (t + 1) (t + 1) t old p → CarriedFor look c packet (t + 1) (t + 1) (t + 1) new p
 for_act look c packet rise k t stage old new inside is at w Short held = (w.same.parsed ∙ held.0, λ v. ap (λ (ws : List ℕ). slice_index ws v) w.vector ∙ held.1 v)
 for_act look c packet rise k t stage old new inside is at w Reject held = (w.same.parsed ∙ held.0, λ v. ap (λ (ws : List ℕ). slice_index ws v) w.vector ∙ held.1 v)
-for_act look c packet rise k t stage old new inside is at w (Accept vector used) held =
-    (w.same.parsed ∙ held.0, carried_act look c.stages (put vector c.in_port packet.port) rise k t stage old new inside is at w (ap is_accepted held.0) held.1)
+for_act look c packet rise k t stage old new inside is at w (Accept r) held =
+    (w.same.parsed ∙ held.0, carried_act look c.stages (put r.vector c.in_port packet.port) rise k t stage old new inside is at w (ap is_accepted held.0) held.1)
 
 for_act_none : (look : Look) (c : Config) (packet : Packet) (t : ℕ) (place : Place) → NoneAt c.stages 8 (t + 1) → (p : Parse) → CarriedFor look c packet (t + 1) (t + 1) t place p → CarriedFor look c packet (t + 1) (t + 1) (t + 1) place p
 for_act_none look c packet t place none Short held = held
 for_act_none look c packet t place none Reject held = held
-for_act_none look c packet t place none (Accept vector used) held = (held.0, carried_act_none look c.stages (put vector c.in_port packet.port) t place none held.1)
+for_act_none look c packet t place none (Accept r) held = (held.0, carried_act_none look c.stages (put r.vector c.in_port packet.port) t place none held.1)
 
 -- the same of a place that holds a packet or none
 with_same : (look : Look) (c : Config) (e : Entered) (a b d a' b' d' : ℕ) (old new : Place) → SamePacket old new → Holds look c e a b d old

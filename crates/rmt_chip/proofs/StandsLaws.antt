@@ -55,7 +55,7 @@ clock_right c inputs frame old new answer bytes runs ring same_config same_stopp
 words_held : (look : Look) (c : Config) (packet : Packet) (age : ℕ) (place : Place) (p : Parse) → CarriedFor look c packet age age age place p → (w : ℕ) → slice_index place.vector w ≡ words_from look c packet p age w
 words_held look c packet age place Short held w = held.1 w
 words_held look c packet age place Reject held w = held.1 w
-words_held look c packet age place (Accept vector used) held w = held.1.words w
+words_held look c packet age place (Accept r) held w = held.1.words w
 
 pub shows_entered : (c : Config) (age : ℕ) (item : Option Entered) (place : Place) (seen : Seen) → HoldsIf (own_look c) c item age age age place → place.taken ≡ true → seen.number ≡ place.number → seen.words.now ≡ place.vector → Shows c age item (Some seen)
 shows_entered c age None place seen held taken number words = cc

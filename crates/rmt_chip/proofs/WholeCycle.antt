@@ -20,7 +20,7 @@ held_at : (look : Look) (c : Config) (item : ℕ → Option Entered) (newest age
 held_at look c item newest age at places place h e is all =
     subst (HoldsIf look c (item age) age age age) (ap (λ n. get_or places n place) (sym e) ∙ sym is) (all age place h)
 
-pub cycle_right : (c : Config) → Rise c.stages → (inputs : List (Option Packet)) (input : Option Packet) (before newest number latency last : ℕ) (places one two three : List Place) (new place : Place) (answer : Option Verdict) (bytes : List ℕ)
+pub cycle_right : (c : Config) → Rise c.stages → c.parser.tails ≡ [] → (inputs : List (Option Packet)) (input : Option Packet) (before newest number latency last : ℕ) (places one two three : List Place) (new place : Place) (answer : Option Verdict) (bytes : List ℕ)
     → before < 385 → length places ≡ 385 → newest ≡ (before + 1) % 385 → number ≡ packets_of (reverse inputs) → EntersIf c (numbered_as input number) new
     → ((look : Look) (item : ℕ → Option Entered) → AllHold look c item past past past newest (set places newest new) → AllHold look c item now past past newest one)
     → ((look : Look) (item : ℕ → Option Entered) → AllHold look c item now past past newest one → AllHold look c item now now past newest two)
@@ -28,7 +28,7 @@ pub cycle_right : (c : Config) → Rise c.stages → (inputs : List (Option Pack
     → latency ≡ latency_of c.stages → latency ≤ 384 → last ≡ ring_at newest latency → place ≡ get_or three last place → AnswersIf (leaving_if c place place.taken) answer bytes
     → AllHold (own_look c) c (entered_at inputs) now now now before places
     → AllHold (own_look c) c (entered_at (inputs ++ input ∷ [])) now now now newest three × AnswersIf (answer_at c (inputs ++ input ∷ []) (length inputs)) answer bytes
-cycle_right c rise inputs input before newest number latency last places one two three new place answer bytes ring full turn count enters write read act leaves small last_is place_is left held =
+cycle_right c rise none inputs input before newest number latency last places one two three new place answer bytes ring full turn count enters write read act leaves small last_is place_is left held =
     let look = own_look c in
     let item = entered_at (inputs ++ input ∷ []) in
     let first : item 0 ≡ numbered_as input number = entered_first inputs input ∙ ap (numbered_as input) (sym count) in
@@ -37,4 +37,4 @@ cycle_right c rise inputs input before newest number latency last places one two
     let after = act look item (read look item (write look item turned)) in
     let at_last : HoldsIf look c (item latency) latency latency latency place = held_at look c item newest latency last three place (omega arith) last_is place_is after in
     let at_age : HoldsIf look c (item (latency_of c.stages)) (latency_of c.stages) (latency_of c.stages) (latency_of c.stages) place = subst (λ n. HoldsIf look c (item n) n n n place) leaves at_last in
-    (after, subst (λ (o : Option Outcome). AnswersIf o answer bytes) (sym (answer_entered c inputs input)) (leaves_right c look (item (latency_of c.stages)) place answer bytes at_age left))
+    (after, subst (λ (o : Option Outcome). AnswersIf o answer bytes) (sym (answer_entered c inputs input)) (leaves_right c look none (item (latency_of c.stages)) place answer bytes at_age left))

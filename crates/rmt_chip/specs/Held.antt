@@ -38,8 +38,8 @@ pub record Carried (look : Look) (stages : List Stage) (vector : List ℕ) (word
 abbrev pub CarriedFor : Look → Config → Packet → ℕ → ℕ → ℕ → Place → Parse → Type 0
 CarriedFor look c packet words_age read_age acts_age place Short = (place.parsed ≡ parsed.Short) × ((w : ℕ) → slice_index place.vector w ≡ 0)
 CarriedFor look c packet words_age read_age acts_age place Reject = (place.parsed ≡ parsed.Reject) × ((w : ℕ) → slice_index place.vector w ≡ 0)
-CarriedFor look c packet words_age read_age acts_age place (Accept vector used) =
-    (place.parsed ≡ parsed.Accept used) × Carried look c.stages (put vector c.in_port packet.port) words_age read_age acts_age place
+CarriedFor look c packet words_age read_age acts_age place (Accept r) =
+    (place.parsed ≡ parsed.Accept r.at) × Carried look c.stages (put r.vector c.in_port packet.port) words_age read_age acts_age place
 
 -- a packet, and how many entered before it
 pub record Entered : Type 0 where
@@ -90,7 +90,7 @@ pub record DecidedBy (stage : Stage) (old new : Place) : Type 0 where
 abbrev pub Begins : Config → Packet → Place → Parse → Type 0
 Begins c packet place Short = (place.parsed ≡ parsed.Short) × (place.vector ≡ replicate 224 0)
 Begins c packet place Reject = (place.parsed ≡ parsed.Reject) × (place.vector ≡ replicate 224 0)
-Begins c packet place (Accept vector used) = (place.parsed ≡ parsed.Accept used) × (place.vector ≡ put vector c.in_port packet.port) × (length place.vector ≡ 224)
+Begins c packet place (Accept r) = (place.parsed ≡ parsed.Accept r.at) × (place.vector ≡ put r.vector c.in_port packet.port) × (length place.vector ≡ 224)
 
 -- a place with a packet that enters
 pub record EnteredBy (c : Config) (entered : Entered) (place : Place) : Type 0 where

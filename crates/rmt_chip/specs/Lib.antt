@@ -7,3 +7,4 @@ pub mod Parsing
 pub mod Inputs
 pub mod Leaving
 pub mod Stands
+pub mod Supported

@@ -1,5 +1,5 @@
 -- What a configuration must be for the chip to run it.
-use Rattle.std.specs.Prelude.{◌≡◌, ℕ, ◌+◌, ◌*◌, ◌^◌, ◌<◌, ◌≤◌, Bool, true, false, ◌&&◌, not, nat_lt, nat_le, ◌==◌, IsTrue, is_none, List, length, map, slice_index, All}
+use Rattle.std.specs.Prelude.{◌≡◌, ℕ, ◌+◌, ◌*◌, ◌^◌, ◌<◌, ◌≤◌, Bool, true, false, ◌&&◌, not, nat_lt, nat_le, ◌==◌, IsTrue, is_none, List, [], length, map, slice_index, All}
 use Rattle.rmt_bits.specs.Words.{word_size}
 use Rattle.rmt_bits.specs.declared.lane.Lane.{Lane}
 use Rattle.rmt_config.specs.declared.config.Operation.{Operation}
@@ -15,7 +15,8 @@ use Rattle.rmt_config.specs.declared.config.ParserConfig.{ParserConfig}
 use Rattle.rmt_config.specs.declared.config.ParserEntry.{ParserEntry}
 use Rattle.rmt_config.specs.declared.config.Extract.{Extract}
 use Rattle.rmt_config.specs.declared.config.Extract.TheVariants.{Bits, One}
-use Rattle.rmt_config.specs.Life.{has_memory, key_bits}
+use Rattle.rmt_config.specs.LaneForm.{bits_of_lanes}
+use Rattle.rmt_config.specs.Life.{has_memory}
 
 -- a lane lies in its word
 pub record LaneFits (lane : Lane) : Type 0 where
@@ -65,7 +66,9 @@ abbrev pub extract_fits : ℕ → Extract → Bool
 extract_fits need (Bits from lane) = nat_lt lane.word 224 && (nat_le (lane.low + lane.len) (word_size lane.word) && nat_le (from + lane.len) (8 * need))
 extract_fits need (One lane) = nat_lt lane.word 224 && (nat_le (lane.low + lane.len) (word_size lane.word) && (lane.len == 1))
 
+-- a parser without tails, whose entries find their bits in what they need
 pub record ParserFits (parser : ParserConfig) : Type 0 where
+  pub no_tail : parser.tails ≡ []
   pub short_steps : All (λ (e : ParserEntry). e.advance ≤ e.need) parser.entries
   pub extracts : All (λ (e : ParserEntry). All (λ x. IsTrue (extract_fits e.need x)) e.extracts) parser.entries
 
@@ -74,7 +77,7 @@ pub record HeaderFits (header : OutHeader) : Type 0 where
   pub valid : LaneFits header.valid
   pub few_bytes : header.bytes ≤ 64
   pub pieces : All LaneFits header.pieces
-  pub whole : key_bits header.pieces ≡ 8 * header.bytes
+  pub whole : bits_of_lanes header.pieces ≡ 8 * header.bytes
 
 pub record IsRunnable (c : Config) : Type 0 where
   pub in_port : LaneFits c.in_port
@@ -82,6 +85,7 @@ pub record IsRunnable (c : Config) : Type 0 where
   pub out_port : LaneFits c.out_port
   pub out_bits : c.out_port.len ≡ 9
   pub drop : LaneFits c.drop
+  pub few_headers : length c.headers ≤ 64
   pub headers : All HeaderFits c.headers
   pub parser : ParserFits c.parser
   pub stages : StagesFit c.stages

@@ -35,7 +35,7 @@ pub struct Chip {
 }
 
 impl Chip {
-    ghost use Rattle.std.specs.Prelude.{[], ◌∷◌, ◌++◌, ◌^◌, ℕ, List, Option, length, IfOk, OnErr, IsErr};
+    ghost use Rattle.std.specs.Prelude.{[], ◌∷◌, ◌++◌, ◌^◌, ℕ, List, Option, length, IfOk, OnErr, IsErr, IsTrue};
     ghost use Rattle.rmt_bits.specs.Packet.{Packet};
     ghost use Rattle.rmt_config.specs.declared.config.Config.{Config};
     ghost use Rattle.rmt_config.specs.ChipRun.{answer_at, chip_counts_of};
@@ -43,13 +43,15 @@ impl Chip {
     ghost use Rattle.rmt_config.specs.Limits.{IsWithinLimits};
     ghost use Rattle.rmt_chip.specs.Inputs.{input_of, MayEnter};
     ghost use Rattle.rmt_chip.specs.Leaving.{AnswersIf};
+    ghost use Rattle.rmt_chip.specs.Supported.{is_supported};
     ghost use Rattle.rmt_chip.specs.Stands.{Stands, Shows, HasStopped, entered_of, in_flight};
 
-    /// A chip in which no packet is. It takes all memory of the chip but that of the frames, and can
-    /// only be refused for memory.
+    /// A chip in which no packet is, of a configuration that it runs so far. It takes all memory of the
+    /// chip but that of the frames, and can only be refused for memory.
     pub fn open(alloc: Global, config: Config) -> Result<Chip, ChipFault>
         requires form { Formed config }
         requires limits { IsWithinLimits config }
+        requires supported { IsTrue (is_supported config) }
         ensures { IfOk result (λ chip. Stands config [] chip) }
     {
         let places = all_places(alloc, config.stages.as_slice())?;

@@ -17,5 +17,6 @@ mod place;
 mod ring;
 pub mod seen;
 mod steps;
+pub mod supported;
 mod write;
 mod writes;

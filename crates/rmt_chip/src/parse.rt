@@ -1,8 +1,8 @@
 //! The chip's parser.
 
-ghost use Rattle.std.specs.Prelude.{◌≡◌, ◌+◌, ◌*◌, ◌<◌, ◌≤◌, ◌^◌, ℕ, List, length, take, drop, fold, map, All, IsTrue, slice_index, slice_get, option_copied, replicate};
-ghost use Rattle.rmt_config.specs.Parser.{Parse, parse as parse_of, step as step_of, entry_of, extracted, lookup_value};
-ghost use Rattle.rmt_chip.specs.Parsing.{StepGives, StaysWithin, value_at, RunGives, ParsesTo};
+ghost use Rattle.std.specs.Prelude.{◌≡◌, ◌+◌, ◌*◌, ◌<◌, ◌≤◌, ◌^◌, ℕ, List, length, take, drop, fold, map, All, IsTrue, slice_index, slice_get, Some, None, option_copied, replicate};
+ghost use Rattle.rmt_config.specs.Parser.{Parse, Reached, parse as parse_of, step as step_of, taken, entry_of, extracted, lookup_value, value_at};
+ghost use Rattle.rmt_chip.specs.Parsing.{standing, StepGives, StaysWithin, RunGives, ParsesTo};
 ghost use Rattle.rmt_chip.specs.Runnable.{ParserFits, extract_fits};
 
 use crate::lanes::put;
@@ -47,15 +47,15 @@ fn lookup(frame: &[u8], cursor: u32, state: &ParserState) -> u32
     ((first * 256 + second) * 256 + third) * 256 + fourth
 }
 
-/// The first entry of a state that agrees with the lookup bytes on its mask.
-fn entry(parser: &ParserConfig, state: u8, value: u32) -> Option<&ParserEntry>
-    ensures { option_copied result ≡ entry_of parser.now state value }
+/// The number of the first entry of a state that agrees with the lookup bytes on its mask.
+fn entry_number(parser: &ParserConfig, state: u8, value: u32) -> Option<usize>
+    ensures { result ≡ entry_of parser.now state value }
 {
     parser
         .entries
         .as_slice()
         .iter()
-        .find(|e| e.state == state && value & e.mask == e.value)
+        .position(|e| e.state == state && value & e.mask == e.value)
 }
 
 fn extract(vector: &mut Vector, window: &[u8], one: Extract)
@@ -83,14 +83,14 @@ fn extract_all(vector: &mut Vector, window: &[u8], extracts: &[Extract])
     }
 }
 
-/// What an entry of the parser does at a byte of the frame. `goes` stands for the states to come.
+/// What an entry of the parser without a tail does at a byte of the frame. `goes` stands for the states to come.
 fn follow(entry: &ParserEntry, frame: &[u8], cursor: u32, vector: &mut Vector) -> Step
     requires near { cursor < 2 ^ 31 }
     requires short { length frame.now < 2 ^ 31 }
     requires advance { entry.now.advance ≤ entry.now.need }
     requires extracts { All (λ x. IsTrue (extract_fits entry.now.need x)) entry.now.extracts }
-    ensures step { (goes : ℕ → ℕ → List ℕ → Parse) →
-        StepGives goes (step_of goes frame.now (Some entry.now) cursor vector.old) result vector.new }
+    ensures step { (goes : ℕ → Reached → Parse) →
+        StepGives goes (step_of goes frame.now None (Some entry.now) (standing vector.old cursor)) result vector.new }
     ensures within { StaysWithin (length frame.now) result }
 {
     let need = entry.need as usize;
@@ -136,14 +136,17 @@ fn one_state(
     requires near { cursor < 2 ^ 31 }
     requires short { length frame.now < 2 ^ 31 }
     requires fits { ParserFits parser.now }
-    ensures step { (goes : ℕ → ℕ → List ℕ → Parse) →
-        StepGives goes (step_of goes frame.now
-        (entry_of parser.now state (value_at frame.now cursor (slice_get parser.now.states state))) cursor vector.old) result vector.new }
+    ensures step { (goes : ℕ → Reached → Parse) →
+        StepGives goes (taken goes parser.now frame.now
+        (entry_of parser.now state (value_at frame.now cursor (slice_get parser.now.states state))) (standing vector.old cursor)) result vector.new }
     ensures within { StaysWithin (length frame.now) result }
 {
     let value = value_of(parser, frame, state, cursor);
-    match entry(parser, state, value) {
-        Some(entry) => follow(entry, frame, cursor, vector),
+    match entry_number(parser, state, value) {
+        Some(number) => {
+            let entries = parser.entries.as_slice();
+            follow(&entries[number], frame, cursor, vector)
+        }
         None => Step::Reject,
     }
 }

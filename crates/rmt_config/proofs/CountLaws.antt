@@ -65,8 +65,8 @@ life_below age look k (stage ∷ stages) life early h =
 outcome_below : (age : ℕ) (look : Look) (c : Config) (packet : Packet) (p : Parse) → CountBelow age c.stages → AreBelow age (outcome_from look c packet p).counted
 outcome_below age look c packet Short early = All-nil _
 outcome_below age look c packet Reject early = All-nil _
-outcome_below age look c packet (Accept vector used) early =
-    let below : AreBelow age (life_of look c.stages (put vector c.in_port packet.port)).counted = life_below age look 0 c.stages _ early (All-nil _) in
+outcome_below age look c packet (Accept r) early =
+    let below : AreBelow age (life_of look c.stages (put r.vector c.in_port packet.port)).counted = life_below age look 0 c.stages _ early (All-nil _) in
     either (λ (o : Outcome). AreBelow age o.counted) _ _ _ below below
 
 -- the hit that a count of a packet makes

@@ -9,7 +9,7 @@ use Rattle.rmt_config.specs.declared.config.Stage.{Stage}
 use Rattle.rmt_config.specs.declared.config.Unit.TheVariants.{Gate}
 use Rattle.rmt_config.specs.declared.config.OpKind.TheVariants as kind
 use Rattle.rmt_config.specs.declared.config.Source.TheVariants.{Word, Constant}
-use Rattle.rmt_config.specs.Parser.{parse, Accept, Reject}
+use Rattle.rmt_config.specs.Parser.{parse, begin, Accept, Reject}
 use Rattle.rmt_config.specs.ChipRun.{answer_at, inputs_of, outcomes_of, own_look, cycles_of, flight_of, words_at, packet_at, number_at}
 use Rattle.rmt_config.proofs.ExamplesParts.{packet, lane, sent, copy, instruction, plain_slot, plain_stage, one_header, one_byte}
 
@@ -158,6 +158,7 @@ two_headers = record {
         ∷ record { state = 0; value = 0xff000000; mask = 0xff000000; need = 1; advance = 1; next = next.Reject; extracts = [] }
         ∷ record { state = 0; value = 0; mask = 0; need = 1; advance = 1; next = next.Accept; extracts = One (lane 0 1 1) ∷ Bits 0 (lane 1 0 8) ∷ [] }
         ∷ record { state = 1; value = 0; mask = 0; need = 2; advance = 2; next = next.Accept; extracts = One (lane 0 2 1) ∷ Bits 0 (lane 66 0 16) ∷ [] } ∷ [];
+    tails = [];
   };
   stages = [];
 }
@@ -177,10 +178,11 @@ abbrev pub past_the_end : ParserConfig
 past_the_end = record {
   states = record { lookups = 0 ∷ 2 ∷ [] } ∷ [];
   entries = record { state = 0; value = 0x01000000; mask = 0xffff0000; need = 1; advance = 0; next = next.Accept; extracts = [] } ∷ [];
+  tails = [];
 }
 
 -- a byte past the end reads as 0
-pub past_the_end_zero : parse past_the_end (1 ∷ 2 ∷ []) ≡ Accept (replicate 224 0) 0
+pub past_the_end_zero : parse past_the_end (1 ∷ 2 ∷ []) ≡ Accept begin
 past_the_end_zero = refl
 
 -- no entry matches
@@ -202,9 +204,10 @@ behind_one_byte = record {
   entries =
       record { state = 0; value = 0; mask = 0; need = 1; advance = 1; next = next.State 1; extracts = [] }
       ∷ record { state = 1; value = 0x07000000; mask = 0xff000000; need = 0; advance = 0; next = next.Accept; extracts = [] } ∷ [];
+  tails = [];
 }
 
-pub behind_one_byte_accepts : parse behind_one_byte (9 ∷ 7 ∷ []) ≡ Accept (replicate 224 0) 1
+pub behind_one_byte_accepts : parse behind_one_byte (9 ∷ 7 ∷ []) ≡ Accept (record begin { at = 1 })
 behind_one_byte_accepts = refl
 
 pub behind_one_byte_rejects : parse behind_one_byte (7 ∷ 9 ∷ []) ≡ Reject

@@ -55,6 +55,7 @@ one_header bytes extracts pieces stages = record {
   parser = record {
     states = record { lookups = [] } ∷ [];
     entries = record { state = 0; value = 0; mask = 0; need = bytes; advance = bytes; next = next.Accept; extracts = One (lane 0 1 1) ∷ extracts } ∷ [];
+    tails = [];
   };
   stages = stages;
 }

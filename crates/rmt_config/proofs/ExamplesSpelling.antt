@@ -8,7 +8,7 @@ use Rattle.rmt_config.specs.declared.config.Unit.TheVariants.{Slot}
 use Rattle.rmt_config.specs.declared.config.Memory.TheVariants.{Without}
 use Rattle.rmt_config.specs.declared.config.OpKind.TheVariants as kind
 use Rattle.rmt_config.specs.declared.config.Source.TheVariants.{Constant}
-use Rattle.rmt_config.specs.Form.{is_formed}
+use Rattle.rmt_config.specs.Form.{items_are_formed}
 use Rattle.rmt_config.specs.Limits.{limit_hit}
 use Rattle.rmt_config.specs.Spelling.{spelled}
 
@@ -23,6 +23,7 @@ sends_to_one valid piece = record {
   parser = record {
     states = record { lookups = [] } ∷ [];
     entries = record { state = 0; value = 0; mask = 0; need = 1; advance = 1; next = next.Accept; extracts = One valid ∷ Bits 0 piece ∷ [] } ∷ [];
+    tails = [];
   };
   stages = record {
     start = 0;
@@ -70,10 +71,10 @@ pub own_words-length : length (spelled own_words) ≡ 95
 own_words-length = refl
 
 -- both keep the rules of form and the limits
-pub shared_words-formed : is_formed shared_words ≡ true
+pub shared_words-formed : items_are_formed shared_words ≡ true
 shared_words-formed = refl
 
-pub own_words-formed : is_formed own_words ≡ true
+pub own_words-formed : items_are_formed own_words ≡ true
 own_words-formed = refl
 
 pub shared_words-fits : limit_hit shared_words ≡ None
@@ -83,5 +84,5 @@ pub own_words-fits : limit_hit own_words ≡ None
 own_words-fits = refl
 
 -- the same with a port of entry of one bit less is not formed
-pub narrow_port-unformed : is_formed (record own_words { in_port = record { word = 64; low = 0; len = 8 } }) ≡ false
+pub narrow_port-unformed : items_are_formed (record own_words { in_port = record { word = 64; low = 0; len = 8 } }) ≡ false
 narrow_port-unformed = refl

@@ -1,6 +1,6 @@
 -- What the clocked chip answers, cycle by cycle.
 use Rattle.std.specs.Prelude.{ℕ, ◌+◌, ◌-◌, List, [], ◌∷◌, ◌++◌, ◌==◌, nat_lt, if◌then◌else◌, Option, Some, None, map, drop, length, replicate, slice_get, option_map, option_and_then, min, filter_map, ◌||◌, take, count_by, is_some}
-use Rattle.std.specs.List.{flat_map, range_with_len}
+use Rattle.std.specs.List.{flat_map, range_with_len, zip}
 use Rattle.rmt_bits.specs.Bits.{bytes_of}
 use Rattle.rmt_bits.specs.Packet.{Packet}
 use Rattle.rmt_bits.specs.Counts.{Hit, counts}
@@ -13,9 +13,10 @@ use Rattle.rmt_config.specs.declared.config.Stage.{Stage}
 use Rattle.rmt_config.specs.declared.config.Unit.{Unit}
 use Rattle.rmt_config.specs.declared.config.CellNumber.{CellNumber}
 use Rattle.rmt_config.specs.declared.config.Unit.TheVariants.{Gate, Slot}
+use Rattle.rmt_config.specs.declared.tails.TailAt.{TailAt}
 use Rattle.rmt_config.specs.Parser.{Parse, Short, Reject, Accept, parse, put}
 use Rattle.rmt_config.specs.Cells.{Found, look_up}
-use Rattle.rmt_config.specs.Life.{Words, Look, Life, Counted, lane_of, key_of, key_bits, life_of}
+use Rattle.rmt_config.specs.Life.{Words, Look, Life, Counted, lane_of, key_of, life_of}
 
 -- the age at which a packet leaves: the last start and 12, or 0 where there is no stage
 abbrev pub latency_of : List Stage → ℕ
@@ -27,7 +28,7 @@ latency_of (stage ∷ next ∷ stages) = latency_of (next ∷ stages)
 abbrev pub slot_look : ℕ → Stage → Option Unit → ℕ → Option Found
 slot_look seed stage None key = None
 slot_look seed stage (Some (Gate g)) key = None
-slot_look seed stage (Some (Slot slot)) key = look_up seed stage slot (key_bits slot.keys) key
+slot_look seed stage (Some (Slot slot)) key = look_up seed stage slot key
 
 -- the look-up function that a configuration has by itself
 abbrev pub own_look : Config → Look
@@ -39,23 +40,32 @@ pub record Outcome : Type 0 where
   pub bytes : List ℕ
   pub counted : List Counted
 
--- the bytes of a header whose valid lane is 1, by its lanes, and none of another
-abbrev pub header_bytes : Words → OutHeader → List ℕ
-header_bytes words h = if lane_of words h.valid == 1 then bytes_of h.bytes (key_of words h.pieces) else []
+-- the bytes of a tail that stands in a frame
+abbrev pub tail_bytes : List ℕ → TailAt → List ℕ
+tail_bytes frame t = take t.len (drop t.place frame)
+
+-- the bytes of a header whose valid lane is 1, by its lanes, and then its tail, and none of another
+abbrev pub header_bytes : Words → OutHeader → List ℕ → List ℕ
+header_bytes words h tail = if lane_of words h.valid == 1 then bytes_of h.bytes (key_of words h.pieces) ++ tail else []
+
+-- the headers of which the valid lane is 1 in their order, each with its tail, and then the payload
+abbrev pub sent_bytes : Words → List OutHeader → List (List ℕ) → List ℕ → List ℕ
+sent_bytes words headers tails payload = flat_map (λ (x : OutHeader × List ℕ). header_bytes words x.0 x.1) (zip headers tails) ++ payload
 
 -- what becomes of a packet that the parser accepted, by its words at the age at which it leaves
-abbrev pub finished : Config → List ℕ → Life → Outcome
-finished c payload life =
+abbrev pub finished : Config → List (List ℕ) → List ℕ → Life → Outcome
+finished c tails payload life =
     let words = life.word (latency_of c.stages) in
     if lane_of words c.drop == 1
     then record { verdict = verdict.Dropped; bytes = []; counted = life.counted }
-    else record { verdict = verdict.Sent (lane_of words c.out_port); bytes = flat_map (header_bytes words) c.headers ++ payload; counted = life.counted }
+    else record { verdict = verdict.Sent (lane_of words c.out_port); bytes = sent_bytes words c.headers tails payload; counted = life.counted }
 
 -- what becomes of a packet by its parse; on one that is short or rejected no unit runs
 abbrev pub outcome_from : Look → Config → Packet → Parse → Outcome
 outcome_from look c packet Short = record { verdict = verdict.Short; bytes = []; counted = [] }
 outcome_from look c packet Reject = record { verdict = verdict.Reject; bytes = []; counted = [] }
-outcome_from look c packet (Accept vector used) = finished c (drop used packet.frame) (life_of look c.stages (put vector c.in_port packet.port))
+outcome_from look c packet (Accept r) =
+    finished c (map (tail_bytes packet.frame) r.tails) (drop r.at packet.frame) (life_of look c.stages (put r.vector c.in_port packet.port))
 
 -- what becomes of a packet under a look-up function
 abbrev pub outcome_of : Look → Config → Packet → Outcome
@@ -125,7 +135,7 @@ chip_counts_of c inputs = counts (counted_numbers c) (hits_in c inputs)
 abbrev pub words_from : Look → Config → Packet → Parse → ℕ → Words
 words_from look c packet Short age w = 0
 words_from look c packet Reject age w = 0
-words_from look c packet (Accept vector used) age w = (life_of look c.stages (put vector c.in_port packet.port)).word age w
+words_from look c packet (Accept r) age w = (life_of look c.stages (put r.vector c.in_port packet.port)).word age w
 
 -- the words of a packet at an age
 abbrev pub words_at : Look → Config → Packet → ℕ → Words

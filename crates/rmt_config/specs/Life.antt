@@ -1,5 +1,5 @@
 -- One packet's way through the stages: its words at each age, its outcomes, and what it counts.
-use Rattle.std.specs.Prelude.{ℕ, ◌+◌, ◌*◌, ◌-◌, ◌%◌, ◌/◌, ◌^◌, List, [], ◌∷◌, ◌++◌, Bool, true, false, ◌&&◌, ◌==◌, nat_le, bit_and, bit_or, bit_xor, if◌then◌else◌, Option, Some, None, find, fold, reverse, replicate, slice_get, slice_index, slice_set, option_map, unwrap_or, sum, map}
+use Rattle.std.specs.Prelude.{ℕ, ◌+◌, ◌*◌, ◌-◌, ◌%◌, ◌/◌, ◌^◌, List, [], ◌∷◌, ◌++◌, Bool, true, false, ◌&&◌, ◌==◌, nat_le, bit_and, bit_or, bit_xor, if◌then◌else◌, Option, Some, None, find, fold, reverse, replicate, slice_get, slice_index, slice_set, option_map, unwrap_or}
 use Rattle.std.specs.List.{list_all}
 use Rattle.rmt_bits.specs.Bits.{slice, deposit}
 use Rattle.rmt_bits.specs.declared.lane.Lane.{Lane}
@@ -54,10 +54,6 @@ lane_of words lane = slice (words lane.word) lane.low lane.len
 -- lanes as one number, the first one highest
 abbrev pub key_of : Words → List Lane → ℕ
 key_of words lanes = fold (λ n lane. 2 ^ lane.len * n + lane_of words lane) 0 lanes
-
--- how many bits lanes have together
-abbrev pub key_bits : List Lane → ℕ
-key_bits lanes = sum (map (λ (lane : Lane). lane.len) lanes)
 
 -- what a source reads, in an operation of that many bits
 abbrev pub source_of : Words → ℕ → ℕ → Source → ℕ

@@ -1,7 +1,7 @@
 -- The spelling of an image: the bytes of a configuration. Numbers stand highest byte first, and a list behind its count.
 use Rattle.std.specs.Prelude.{ℕ, ◌<◌, ◌^◌, List, [], ◌∷◌, ◌++◌, length, All, Bool, true, false, Option, Some, None, codes}
-use Rattle.std.specs.Int.{w16, w32, to_be_bytes, bytes_high_first}
 use Rattle.std.specs.List.{flat_map, AllByRecursion}
+use Rattle.rmt_bits.specs.Bits.{bytes_of}
 use Rattle.rmt_bits.specs.declared.lane.Lane.{Lane}
 use Rattle.rmt_config.specs.declared.config.Config.{Config}
 use Rattle.rmt_config.specs.declared.config.OutHeader.{OutHeader}
@@ -32,10 +32,10 @@ use Rattle.rmt_config.specs.declared.config.Source.{Source}
 use Rattle.rmt_config.specs.declared.config.Source.TheVariants.{Word, Held, Constant}
 
 abbrev pub two_bytes : ℕ → List ℕ
-two_bytes n = to_be_bytes w16 n
+two_bytes n = bytes_of 2 n
 
 abbrev pub four_bytes : ℕ → List ℕ
-four_bytes n = to_be_bytes w32 n
+four_bytes n = bytes_of 4 n
 
 -- the items of a list behind a count of one, two or four bytes
 abbrev pub spelled_list8 : {A : Type 0} → (A → List ℕ) → List A → List ℕ
@@ -135,10 +135,10 @@ spelled_vliw v = spelled_list8 spelled_operation v.ops
 
 -- the 112 bits of a row are one number of 14 bytes
 abbrev pub spelled_srow : SramRow → List ℕ
-spelled_srow r = r.block ∷ two_bytes r.row ++ bytes_high_first 14 r.bits
+spelled_srow r = r.block ∷ two_bytes r.row ++ bytes_of 14 r.bits
 
 abbrev pub spelled_trow : TcamRow → List ℕ
-spelled_trow r = r.block ∷ two_bytes r.row ++ bytes_high_first 5 r.value ++ bytes_high_first 5 r.mask
+spelled_trow r = r.block ∷ two_bytes r.row ++ bytes_of 5 r.value ++ bytes_of 5 r.mask
 
 -- the instructions have no count: each slot has one for each action and one for its default
 abbrev pub spelled_stage : Stage → List ℕ
@@ -207,32 +207,3 @@ pub record CountsFit (c : Config) : Type 0 where
   pub parser : CountsFitParser c.parser
   pub stages : length c.stages < 2 ^ 8
   pub each_stage : All CountsFitStage c.stages
-
--- the numbers of two and of four bytes fit them, as the types of a configuration say
-abbrev pub NumberFitsExtract : Extract → Type 0
-NumberFitsExtract (Bits from lane) = from < 2 ^ 16
-NumberFitsExtract (One lane) = Unit {0}
-
-pub record NumbersFitEntry (e : ParserEntry) : Type 0 where
-  pub value : e.value < 2 ^ 32
-  pub mask : e.mask < 2 ^ 32
-  pub extracts : AllByRecursion NumberFitsExtract e.extracts
-
-abbrev pub NumberFitsSource : Source → Type 0
-NumberFitsSource (Word word low) = Unit {0}
-NumberFitsSource (Held low) = low < 2 ^ 16
-NumberFitsSource (Constant value) = value < 2 ^ 32
-
-abbrev pub NumbersFitOperation : Operation → Type 0
-NumbersFitOperation op = NumberFitsSource op.left × NumberFitsSource op.right
-
-abbrev pub NumbersFitVliw : Vliw → Type 0
-NumbersFitVliw v = AllByRecursion NumbersFitOperation v.ops
-
-pub record NumbersFitStage (s : Stage) : Type 0 where
-  pub start : s.start < 2 ^ 16
-  pub code : AllByRecursion NumbersFitVliw s.code
-
-pub record NumbersFit (c : Config) : Type 0 where
-  pub entries : AllByRecursion NumbersFitEntry c.parser.entries
-  pub stages : AllByRecursion NumbersFitStage c.stages

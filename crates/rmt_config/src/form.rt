@@ -1,25 +1,37 @@
 //! Whether a configuration keeps the rules of form, rule by rule.
 
-ghost use Rattle.std.specs.Prelude.{◌≡◌, ◌==◌, length, IfOk, IsOkUnless, IsTrue, ◌↔◌};
+ghost use Rattle.std.specs.Prelude.{◌≡◌, All, IfOk, IsOkUnless, IsTrue, ◌↔◌};
 ghost use Rattle.std.specs.List.{list_all};
-ghost use Rattle.rmt_config.specs.Form.{states_are_of_this_step, is_of_this_step, is_formed, Formed, nodes_are_formed};
-ghost use Rattle.rmt_config.specs.declared.config.ParserState.{ParserState};
+ghost use Rattle.rmt_config.specs.StageForm.{stage_is_formed, rows_are_formed};
+ghost use Rattle.rmt_config.specs.CellForm.{StageHolds};
+ghost use Rattle.rmt_config.specs.Form.{items_are_formed, WholeIsFormed, Formed};
 ghost use Rattle.rmt_config.specs.declared.form.FormFault.TheVariants.{NoMemory};
 
-pub mod header;
+mod cells;
+pub mod code;
+mod header;
+mod item;
 pub mod lane;
-pub mod node;
+mod layout;
+mod memory;
+pub mod number;
+mod numbers;
 pub mod parser;
-pub mod stage;
+mod parts;
+mod rows;
+mod search;
+pub mod shape;
+mod stage;
+mod tables;
+mod told;
 pub mod unit;
-pub mod vliw;
 
-use crate::config::{Config, ParserState};
-use crate::form::header::headers_fit;
-use crate::form::lane::ports_fit;
-use crate::form::node::{are_distinct, node_list};
-use crate::form::parser::entries_fit;
-use crate::form::stage::{stages_fit, stages_have_come};
+use crate::config::{Config, Stage};
+use crate::form::item::items_fit;
+use crate::form::memory::stage_holds;
+use crate::form::numbers::numbers_are_distinct;
+use crate::form::rows::rows_fit;
+use crate::form::tables::tables_fit;
 use std::alloc::{AllocError, Global};
 use thiserror::Error;
 
@@ -38,48 +50,53 @@ impl From<AllocError> for FormFault {
     }
 }
 
-fn each_state_has_come(states: &[ParserState]) -> bool
-    ensures { result ≡ list_all (λ (s : ParserState). length s.lookups == 0) states.now }
+/// Whether the rows of each stage keep the rules of form.
+fn all_rows_fit(stages: &[Stage]) -> bool
+    ensures { result ≡ list_all rows_are_formed stages.now }
 {
-    states.iter().all(|state| state.lookups.len() == 0)
+    stages.iter().all(rows_fit)
 }
 
-fn states_have_come(states: &[ParserState]) -> bool
-    ensures { result ≡ states_are_of_this_step states.now }
+/// Whether the memories of stages, whose items and rows keep their rules, hold what they may.
+fn memories_hold(stages: &[Stage]) -> bool
+    requires formed { IsTrue (list_all stage_is_formed stages.now) }
+    requires rows { IsTrue (list_all rows_are_formed stages.now) }
+    ensures { IsTrue result ↔ All StageHolds stages.now }
 {
-    states.len() == 1 && each_state_has_come(states)
+    for stage in stages {
+        if !stage_holds(stage) {
+            return false;
+        }
+    }
+    true
 }
 
-fn has_come(config: &Config) -> bool
-    ensures { result ≡ is_of_this_step config.now }
+/// Whether a configuration, whose items keep their rules, keeps those of the whole.
+fn whole_fits(alloc: Global, config: &Config) -> Result<bool, AllocError>
+    requires { IsTrue (items_are_formed config.now) }
+    ensures { IfOk result (λ formed. IsTrue formed ↔ WholeIsFormed config.now) }
 {
-    states_have_come(config.parser.states.as_slice()) && stages_have_come(config.stages.as_slice())
+    let stages = config.stages.as_slice();
+    if !all_rows_fit(stages) || !tables_fit(config) || !memories_hold(stages) {
+        return Ok(false);
+    }
+    numbers_are_distinct(alloc, config)
 }
 
-fn nodes_fit(alloc: Global, config: &Config) -> Result<bool, AllocError>
-    ensures { IfOk result (λ fits. fits ≡ nodes_are_formed config.now) }
-{
-    let nodes = node_list(alloc, config)?;
-    Ok(are_distinct(nodes.as_slice()))
-}
-
+/// Whether a configuration keeps all rules of form.
 fn is_in_form(alloc: Global, config: &Config) -> Result<bool, AllocError>
-    ensures { IfOk result (λ formed. formed ≡ is_formed config.now) }
+    ensures { IfOk result (λ formed. IsTrue formed ↔ Formed config.now) }
 {
-    if !has_come(config) || !ports_fit(config) {
+    if !items_fit(config) {
         return Ok(false);
     }
-    if !headers_fit(config.headers.as_slice()) || !entries_fit(&config.parser) {
-        return Ok(false);
-    }
-    if !stages_fit(alloc, config.stages.as_slice())? {
-        return Ok(false);
-    }
-    nodes_fit(alloc, config)
+    whole_fits(alloc, config)
 }
 
 impl Config {
     /// Whether the configuration keeps the rules of form; its only refusal is `NoMemory`.
+    ///
+    /// The time is that of the items, but for a factor of their logarithm; memory is taken for the entry numbers alone.
     pub fn formed(&self, alloc: Global) -> Result<bool, FormFault>
         ensures exact { IfOk result (λ formed. IsTrue formed ↔ Formed self.now) }
         ensures only_memory { IsOkUnless result FormFault.NoMemory }

@@ -4,4 +4,5 @@
 pub mod config;
 pub mod form;
 pub mod limits;
+pub mod tails;
 pub mod vector;

@@ -1,13 +1,22 @@
 //! The limits of the chip, and the first that a configuration passes.
 
-ghost use Rattle.std.specs.Prelude.{◌≡◌, ◌<◌, ◌+◌, ◌≤◌, ◌^◌, length, map, min, count_by, MatchResult, Some, None};
-ghost use Rattle.std.specs.List.{flat_map};
-ghost use Rattle.rmt_config.specs.Form.{node_of};
-ghost use Rattle.rmt_config.specs.Limits.{stage_of_node, over as over_limit, or_hit, first_hit, stage_hit, entry_hit, is_slot, slots_hit, code_hit, last_start_hit, stage_limit_hit, limit_hit, IsWithinLimits};
-ghost use Rattle.rmt_config.specs.declared.config.Stage.{Stage};
+ghost use Rattle.std.specs.Prelude.{◌≡◌, ◌<◌, ℕ, length, MatchResult, Some, None};
+ghost use Rattle.rmt_config.specs.Limits.{told, over as over_limit, last_start_hit, stage_limit_hit, limit_hit, IsWithinLimits};
 ghost use Rattle.rmt_config.specs.declared.config.Config.{Config};
 
-use crate::config::{Config, ParserEntry, Stage, Unit};
+pub mod crossbar;
+pub mod listing;
+pub mod marks;
+pub mod node;
+pub mod parser;
+pub mod stage;
+pub mod total;
+
+use crate::config::{Config, Stage};
+use crate::limits::node::over_in_nodes;
+use crate::limits::parser::over_in_parser;
+use crate::limits::stage::{StageLimit, over_in_reading, over_in_stages, over_in_units};
+use crate::limits::total::told_length;
 
 /// A limit of the chip that a configuration passes.
 ///
@@ -22,17 +31,14 @@ pub struct LimitHit {
     pub need: u32,
 }
 
-fn over(most: u32, limit: u8, stage: u8, sum: u128) -> Option<LimitHit>
-    ensures { result ≡ over_limit most limit stage sum }
+/// The hit of a sum that is above its limit. A sum of 4,294,967,295 stands for any that is at least that.
+pub fn over(most: u32, limit: u8, stage: u8, sum: u32) -> Option<LimitHit>
+    requires { most < 4294967295 }
+    ensures { (n : ℕ) → sum ≡ told n → result ≡ over_limit most limit stage n }
 {
-    if sum <= most as u128 {
+    if sum <= most {
         return None;
     }
-    let sum = if sum < 4294967295 {
-        sum as u32
-    } else {
-        4294967295
-    };
     Some(LimitHit {
         limit,
         stage,
@@ -41,136 +47,49 @@ fn over(most: u32, limit: u8, stage: u8, sum: u128) -> Option<LimitHit>
     })
 }
 
-fn over_in_entry(entry: &ParserEntry) -> Option<LimitHit>
-    ensures { result ≡ entry_hit entry.now }
-{
-    match over(128, 5, 0, entry.need as u128) {
-        Some(hit) => Some(hit),
-        None => over(64, 5, 0, entry.extracts.len() as u128),
-    }
-}
-
-fn over_in_entries(entries: &[ParserEntry]) -> Option<LimitHit>
-    ensures { result ≡ first_hit entry_hit entries.now }
-{
-    for entry in entries {
-        if let Some(hit) = over_in_entry(entry) {
-            return Some(hit);
-        }
-    }
-    None
-}
-
-fn count_slots(units: &[Unit]) -> usize
-    ensures { result ≡ count_by is_slot units.now }
-{
-    units
-        .iter()
-        .filter(|unit| matches!(unit, Unit::Slot(_)))
-        .count()
-}
-
-fn over_in_slots(stages: &[Stage]) -> Option<LimitHit>
-    requires { length stages.now < 256 }
-    ensures { result ≡ stage_hit slots_hit 0 stages.now }
-{
-    let mut at: u16 = 0;
-    for stage in stages {
-        if let Some(hit) = over(
-            16,
-            10,
-            at as u8,
-            count_slots(stage.units.as_slice()) as u128,
-        ) {
-            return Some(hit);
-        }
-        at += 1;
-    }
-    None
-}
-
-fn over_in_code(stages: &[Stage]) -> Option<LimitHit>
-    requires { length stages.now < 256 }
-    ensures { result ≡ stage_hit code_hit 0 stages.now }
-{
-    let mut at: u16 = 0;
-    for stage in stages {
-        if let Some(hit) = over(32, 11, at as u8, stage.code.len() as u128) {
-            return Some(hit);
-        }
-        at += 1;
-    }
-    None
-}
-
-fn count_nodes(stages: &[Stage]) -> u128
-    ensures { result ≡ length (flat_map (λ (stage : Stage). map node_of stage.units) stages.now) }
-{
-    let mut nodes: u128 = 0;
-    for stage in stages {
-        nodes += stage.units.len() as u128;
-    }
-    nodes
-}
-
-/// The stage in which the 129th node stands.
-fn stage_of_129th(stages: &[Stage]) -> u8
-    requires { length stages.now < 256 }
-    ensures { result ≡ stage_of_node 128 0 stages.now }
-{
-    let mut place: usize = 128;
-    let mut number: u8 = 0;
-    for stage in stages {
-        let units = stage.units.len();
-        if place < units {
-            return number;
-        }
-        place -= units;
-        number += 1;
-    }
-    number
-}
-
 fn over_in_last_start(stages: &[Stage]) -> Option<LimitHit>
     requires { length stages.now < 256 }
     ensures { result ≡ last_start_hit stages.now }
 {
     match stages.last() {
         None => None,
-        Some(stage) => over(372, 16, (stages.len() - 1) as u8, stage.start as u128),
+        Some(stage) => over(372, 16, (stages.len() - 1) as u8, stage.start as u32),
     }
 }
 
 /// The first limit on stages that is passed, by number and then by stage.
-fn over_in_stages(stages: &[Stage]) -> Option<LimitHit>
+fn over_in_all_stages(stages: &[Stage]) -> Option<LimitHit>
     requires { length stages.now < 256 }
     ensures { result ≡ stage_limit_hit stages.now }
 {
-    if let Some(hit) = over_in_slots(stages) {
+    if let Some(hit) = over_in_reading(stages) {
         return Some(hit);
     }
-    if let Some(hit) = over_in_code(stages) {
+    if let Some(hit) = over_in_units(stages) {
         return Some(hit);
     }
-    if let Some(hit) = over(128, 14, stage_of_129th(stages), count_nodes(stages)) {
+    if let Some(hit) = over_in_nodes(stages) {
         return Some(hit);
     }
-    over_in_last_start(stages)
+    if let Some(hit) = over_in_stages(StageLimit::Width, stages) {
+        return Some(hit);
+    }
+    if let Some(hit) = over_in_last_start(stages) {
+        return Some(hit);
+    }
+    over_in_stages(StageLimit::Listings, stages)
 }
 
 fn first_over(config: &Config) -> Option<LimitHit>
     ensures { result ≡ limit_hit config.now }
 {
-    if let Some(hit) = over(32, 1, 0, config.stages.len() as u128) {
+    if let Some(hit) = over(32, 1, 0, told_length(config.stages.len())) {
         return Some(hit);
     }
-    if let Some(hit) = over(256, 3, 0, config.parser.entries.len() as u128) {
+    if let Some(hit) = over_in_parser(&config.parser) {
         return Some(hit);
     }
-    if let Some(hit) = over_in_entries(config.parser.entries.as_slice()) {
-        return Some(hit);
-    }
-    over_in_stages(config.stages.as_slice())
+    over_in_all_stages(config.stages.as_slice())
 }
 
 impl Config {

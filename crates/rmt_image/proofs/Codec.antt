@@ -1,29 +1,16 @@
--- A reader and a spelling that belong together: what is read was spelled so, and what is spelled so is read again.
-use Rattle.std.proofs.Common.{◌≡◌, ℕ, zero, suc, ◌+◌, ◌^◌, ◌<◌, ◌≤◌, Bool, true, false, cond, ltb, List, [], ◌∷◌, ◌++◌, length, get_or, take, drop, Result, Ok, Err, refl, sym, ap, subst, ◌∙◌, append_assoc, arith, inl, inr}
-use Rattle.std.specs.List.{flat_map, AllZip}
-use Rattle.std.specs.Int.{Width, w16, w32, byte_len, from_be_bytes, to_be_bytes}
-use Rattle.std.proofs.lemmas.Bool.{cases_lt, ltb-false, le-ltb}
-use Rattle.std.proofs.lemmas.List.{take_at, drop_at, take-append-drop, length-append, length-take, get_or-drop, get_or-take, get_or_past}
-use Rattle.std.proofs.lemmas.Nat.{be_bytes_2, be_bytes_4, from_be_bytes-to_be_bytes_2, from_be_bytes-to_be_bytes_4}
+-- A reader and a spelling that undo each other, and how such pairs are joined: what is read is spelled so, and what is spelled so is read.
+use Rattle.std.proofs.Common.{◌≡◌, ℕ, zero, suc, ◌+◌, ◌*◌, ◌^◌, ◌<◌, ◌≤◌, Bool, true, false, cond, ltb, leb, eqb, List, [], ◌∷◌, ◌++◌, length, map, take, drop, Result, Ok, Err, refl, sym, ap, subst, ◌∙◌, append_assoc, arith, inl, inr, ◌⊎◌}
+use Rattle.std.specs.List.{flat_map, list_all, AllZip}
+use Rattle.std.proofs.lemmas.Bool.{ltb-false, le-ltb, eqb-true, eq-eqb, ne_eqb, and_parts}
+use Rattle.std.proofs.lemmas.List.{take_at, drop_at, take-append-drop, length-append, length-take}
+use Rattle.rmt_bits.specs.Bits.{number_of, bytes_of}
+use Rattle.rmt_bits.proofs.ByteLaws.{AreBytes, bytes_of-number_of}
+use Rattle.rmt_image.proofs.NumberLaws.{AreBytes-drop, AreBytes-take, AreBytes-rest, length-bytes_of, number_of-bytes_of}
+use Rattle.rmt_config.specs.Order.{rises_from}
+use Rattle.rmt_config.specs.Spelling.{two_bytes, four_bytes}
 use Rattle.rmt_image.specs.declared.fault.ReadFault.{ReadFault}
 use Rattle.rmt_image.specs.declared.fault.ReadFault.TheVariants.{Short, Form}
-use Rattle.rmt_image.specs.Reading.{◌>>=◌, Reader, behind, made, kept, times_from, each, listed, number_at}
-
-abbrev pub IsBytes : List ℕ → Type 0
-IsBytes bytes = (i : ℕ) → get_or bytes i 0 < 256
-
-pub IsBytes-drop : (n : ℕ) (bytes : List ℕ) → IsBytes bytes → IsBytes (drop n bytes)
-IsBytes-drop n bytes h i = rw get_or-drop (h (n + i))
-
-pub IsBytes-take : (n : ℕ) (bytes : List ℕ) → IsBytes bytes → IsBytes (take n bytes)
-IsBytes-take n bytes h i =
-    elim (cases_lt i n) [
-      | inl lt ↦ rw (get_or-take n bytes i 0 lt) (h i)
-      | inr le ↦ rw (get_or_past (take n bytes) i 0 (omega (arith, length-take n bytes))) (omega arith)
-    ]
-
-pub IsBytes-rest : (b : ℕ) (bytes : List ℕ) → IsBytes (b ∷ bytes) → IsBytes bytes
-IsBytes-rest b bytes h i = h (suc i)
+use Rattle.rmt_image.specs.Readers.{◌>>=◌, Reader, give, behind, made, kept, where_, when, no_other, chosen, items_at, list_at, each, listed, byte_at, number_at}
 
 -- the value of a step that did not fail
 pub bind_ok : {A B : Type 0} (r : Result A ReadFault) (f : A → Result B ReadFault) (y : B) → (r >>= f) ≡ Ok y → (x : A) × (r ≡ Ok x) × (f x ≡ Ok y)
@@ -48,11 +35,11 @@ ok_is x y e = cc
 -- what a reader took from the front, and what is then known
 pub record Took (bytes text rest : List ℕ) (known : Type 0) : Type 0 where
   pub parts : bytes ≡ text ++ rest
-  pub rest_fits : IsBytes rest
+  pub rest_fits : AreBytes rest
   pub fact : known
 
 pub record Codec {A : Type 0} (read : Reader A) (spell : A → List ℕ) (P R : A → Type 0) : Type 0 where
-  pub takes : (bytes : List ℕ) (x : A) (rest : List ℕ) → IsBytes bytes → read bytes ≡ Ok (x, rest) → Took bytes (spell x) rest (R x)
+  pub takes : (bytes : List ℕ) (x : A) (rest : List ℕ) → AreBytes bytes → read bytes ≡ Ok (x, rest) → Took bytes (spell x) rest (R x)
   pub again : (x : A) (rest : List ℕ) → P x → read (spell x ++ rest) ≡ Ok (x, rest)
 
 -- for fewer values, and with nothing known
@@ -115,24 +102,109 @@ pub codec_made : {A B : Type 0} (f : A → B) {read : Reader A} {s : A → List 
     → ((a : A) → R a → s a ≡ spell (f a)) → ((b : B) → Q b → (a : A) × (f a ≡ b) × (s a ≡ spell b) × P a) → Codec (made f read) spell Q (λ _. Unit {0})
 codec_made f c spell Q same back = codec_made_known f c spell Q (λ _. Unit {0}) (λ a r. (same a r, tt)) back
 
+-- an item that takes no byte
+pub codec_give : {A : Type 0} (y : A) (spell : A → List ℕ) → spell y ≡ [] → Codec (give y) spell (λ x. x ≡ y) (λ x. x ≡ y)
+codec_give {A} y spell nothing = record {
+  takes = λ bytes x rest fits e.
+      let front : A × List ℕ = (y, bytes) in
+      subst (λ (z : A × List ℕ). Took bytes (spell z.0) z.1 (z.0 ≡ y)) (ok_is front (x, rest) e)
+      (record { parts = ap (λ (t : List ℕ). t ++ bytes) (sym nothing); rest_fits = fits; fact = refl });
+  again = λ x rest p. rw p (ap (λ (t : List ℕ). give y (t ++ rest)) nothing);
+}
+
+-- an item where a test of what stands before it is passed
+pub codec_where : {A : Type 0} (test : Bool) {read : Reader A} {spell : A → List ℕ} {P R : A → Type 0} → Codec read spell P R → Codec (where_ test read) spell (λ x. (test ≡ true) × P x) (λ x. (test ≡ true) × R x)
+codec_where {A} test {read} {spell} {P} {R} c = record {
+  takes = λ bytes x rest fits e.
+      let g = passed test (read bytes) (x, rest) e in
+      let t = c.takes bytes x rest fits g.1 in
+      record { parts = t.parts; rest_fits = t.rest_fits; fact = (g.0, t.fact) };
+  again = λ x rest p. rw p.0 (c.again x rest p.1);
+}
+  where
+    passed : (b : Bool) (r : Result (A × List ℕ) ReadFault) (y : A × List ℕ) → cond b r (Err Form) ≡ Ok y → (b ≡ true) × (r ≡ Ok y)
+    passed true r y e = (refl, e)
+    passed false r y e = absurd cc
+
+-- ---- choices
+
+-- choices of bytes from `least` on: what is read behind one is spelled so with the byte before it
+pub record Choices {A : Type 0} (choices : ℕ → Reader A) (spell : A → List ℕ) (P : A → Type 0) (least : ℕ) : Type 0 where
+  pub takes : (k : ℕ) (bytes : List ℕ) (x : A) (rest : List ℕ) → AreBytes bytes → choices k bytes ≡ Ok (x, rest) → Took (k ∷ bytes) (spell x) rest (Unit {0})
+  pub again : (x : A) (rest : List ℕ) → P x → (k : ℕ) × (text : List ℕ) × (least ≤ k) × (spell x ≡ k ∷ text) × (choices k (text ++ rest) ≡ Ok (x, rest))
+
+pub choices_none : {A : Type 0} (spell : A → List ℕ) (least : ℕ) → Choices no_other spell (λ _. ⊥) least
+choices_none spell least = record { takes = λ k bytes x rest fits e. absurd cc; again = λ x rest p. absurd p }
+
+-- what stands behind the byte k, made into what is chosen, or one of the others, which are above k
+pub choices_when : {A B : Type 0} (k : ℕ) (f : A → B) {read : Reader A} {s : A → List ℕ} {P R : A → Type 0} {others : ℕ → Reader B} {spell : B → List ℕ} {Q : B → Type 0}
+    → Codec read s P R → Choices others spell Q (suc k) → ((a : A) → k ∷ s a ≡ spell (f a)) → (K : B → Type 0) → ((b : B) → K b → ((a : A) × (f a ≡ b) × P a) ⊎ Q b)
+    → Choices (when k (made f read) others) spell K k
+choices_when {A} {B} k f {read} {s} {P} {R} {others} {spell} {Q} c others_codec same K which = record {
+  takes = λ n bytes x rest fits e. taken n bytes x rest fits (eqb n k) refl e;
+  again = λ x rest p. elim (which x p) [
+    | inl one ↦ this x rest one
+    | inr other ↦ that x rest other
+  ];
+}
+  where
+    taken : (n : ℕ) (bytes : List ℕ) (x : B) (rest : List ℕ) → AreBytes bytes → (b : Bool) → eqb n k ≡ b → cond b (made f read bytes) (others n bytes) ≡ Ok (x, rest) → Took (n ∷ bytes) (spell x) rest (Unit {0})
+    taken n bytes x rest fits true is e =
+        let a = bind_ok (read bytes) (λ (y : A × List ℕ). Ok (f y.0, y.1)) (x, rest) e in
+        let t = c.takes bytes a.0.0 a.0.1 fits a.1 in
+        let made_pair : B × List ℕ = (f a.0.0, a.0.1) in
+        subst (λ (y : B × List ℕ). Took (n ∷ bytes) (spell y.0) y.1 (Unit {0})) (ok_is made_pair (x, rest) a.2)
+        (record {
+          parts = ap (λ (m : ℕ). m ∷ bytes) (eqb-true n k is) ∙ ap (λ (text : List ℕ). k ∷ text) t.parts ∙ ap (λ (text : List ℕ). text ++ a.0.1) (same a.0.0);
+          rest_fits = t.rest_fits;
+          fact = tt;
+        })
+    taken n bytes x rest fits false is e = others_codec.takes n bytes x rest fits e
+
+    this : (x : B) (rest : List ℕ) → (a : A) × (f a ≡ x) × P a → (n : ℕ) × (text : List ℕ) × (k ≤ n) × (spell x ≡ n ∷ text) × (when k (made f read) others n (text ++ rest) ≡ Ok (x, rest))
+    this x rest one =
+        let read_again = c.again one.0 rest one.2 in (
+          k,
+          s one.0,
+          omega arith,
+          ap spell (sym one.1) ∙ sym (same one.0),
+          ap (λ (b : Bool). cond b (made f read (s one.0 ++ rest)) (others k (s one.0 ++ rest))) (eq-eqb k k refl) ∙ rw read_again (ap (λ (y : B). Ok (y, rest)) one.1),
+        )
+
+    that : (x : B) (rest : List ℕ) → Q x → (n : ℕ) × (text : List ℕ) × (k ≤ n) × (spell x ≡ n ∷ text) × (when k (made f read) others n (text ++ rest) ≡ Ok (x, rest))
+    that x rest other =
+        let o = others_codec.again x rest other in
+        let apart : eqb o.0 k ≡ false = ne_eqb o.0 k (λ e. absurd (omega (arith, e, o.2))) in
+        (o.0, o.1, omega (arith, o.2), o.3, ap (λ (b : Bool). cond b (made f read (o.1 ++ rest)) (others o.0 (o.1 ++ rest))) apart ∙ o.4)
+
+pub codec_chosen : {A : Type 0} {choices : ℕ → Reader A} {spell : A → List ℕ} {P : A → Type 0} {least : ℕ} → Choices choices spell P least → Codec (chosen choices) spell P (λ _. Unit {0})
+codec_chosen {A} {choices} {spell} {P} c = record { takes = taken; again = again }
+  where
+    taken : (bytes : List ℕ) (x : A) (rest : List ℕ) → AreBytes bytes → chosen choices bytes ≡ Ok (x, rest) → Took bytes (spell x) rest (Unit {0})
+    taken [] x rest fits e = absurd cc
+    taken (k ∷ bytes) x rest fits e = c.takes k bytes x rest (AreBytes-rest k bytes fits) e
+
+    again : (x : A) (rest : List ℕ) → P x → chosen choices (spell x ++ rest) ≡ Ok (x, rest)
+    again x rest p = let o = c.again x rest p in ap (λ (text : List ℕ). chosen choices (text ++ rest)) o.3 ∙ o.4
+
 -- ---- lists
 
--- each item keeps its fact behind the one before it
-abbrev pub AllAlong : {S A : Type 0} → (S → A → Type 0) → (A → S) → S → List A → Type 0
-AllAlong P after s [] = Unit {0}
-AllAlong P after s (x ∷ xs) = P s x × AllAlong P after (after x) xs
+-- each item keeps its fact under the least number that the one before it leaves
+abbrev pub AllAlong : {A : Type 0} → (ℕ → A → Type 0) → (A → ℕ) → ℕ → List A → Type 0
+AllAlong P after least [] = Unit {0}
+AllAlong P after least (x ∷ xs) = P least x × AllAlong P after (after x) xs
 
-times_take : {S A : Type 0} {read : S → Reader A} {spell : A → List ℕ} {P R : S → A → Type 0} (after : A → S) → ((s : S) → Codec (read s) spell (P s) (R s))
-    → (n : ℕ) (s : S) (bytes : List ℕ) (xs : List A) (rest : List ℕ) → IsBytes bytes → times_from read after s n bytes ≡ Ok (xs, rest) → Took bytes (flat_map spell xs) rest (length xs ≡ n)
-unfolding times_from
-times_take {S} {A} {read} {spell} after c zero s bytes xs rest fits e =
+items_take : {A : Type 0} {read : ℕ → Reader A} {spell : A → List ℕ} {P R : ℕ → A → Type 0} (after : A → ℕ) → ((least : ℕ) → Codec (read least) spell (P least) (R least))
+    → (n least : ℕ) (bytes : List ℕ) (xs : List A) (rest : List ℕ) → AreBytes bytes → items_at read after least n bytes ≡ Ok (xs, rest) → Took bytes (flat_map spell xs) rest (length xs ≡ n)
+unfolding items_at
+items_take {A} {read} {spell} after c zero least bytes xs rest fits e =
     let nothing : List A × List ℕ = ([], bytes) in
     subst (λ (y : List A × List ℕ). Took bytes (flat_map spell y.0) y.1 (length y.0 ≡ 0)) (ok_is nothing (xs, rest) e) (record { parts = refl; rest_fits = fits; fact = refl })
-times_take {S} {A} {read} {spell} after c (suc n) s bytes xs rest fits e =
-    let a = bind_ok (read s bytes) (λ (y : A × List ℕ). times_from read after (after y.0) n y.1 >>= λ ys. Ok (y.0 ∷ ys.0, ys.1)) (xs, rest) e in
-    let b = bind_ok (times_from read after (after a.0.0) n a.0.1) (λ (ys : List A × List ℕ). Ok (a.0.0 ∷ ys.0, ys.1)) (xs, rest) a.2 in
-    let t1 = (c s).takes bytes a.0.0 a.0.1 fits a.1 in
-    let t2 = times_take after c n (after a.0.0) a.0.1 b.0.0 b.0.1 t1.rest_fits b.1 in
+items_take {A} {read} {spell} after c (suc n) least bytes xs rest fits e =
+    let a = bind_ok (read least bytes) (λ (y : A × List ℕ). items_at read after (after y.0) n y.1 >>= λ ys. Ok (y.0 ∷ ys.0, ys.1)) (xs, rest) e in
+    let b = bind_ok (items_at read after (after a.0.0) n a.0.1) (λ (ys : List A × List ℕ). Ok (a.0.0 ∷ ys.0, ys.1)) (xs, rest) a.2 in
+    let t1 = (c least).takes bytes a.0.0 a.0.1 fits a.1 in
+    let t2 = items_take after c n (after a.0.0) a.0.1 b.0.0 b.0.1 t1.rest_fits b.1 in
     let all : List A × List ℕ = (a.0.0 ∷ b.0.0, b.0.1) in
     subst (λ (y : List A × List ℕ). Took bytes (flat_map spell y.0) y.1 (length y.0 ≡ suc n)) (ok_is all (xs, rest) b.2)
     (record {
@@ -141,36 +213,44 @@ times_take {S} {A} {read} {spell} after c (suc n) s bytes xs rest fits e =
       fact = ap suc t2.fact;
     })
 
-times_again : {S A : Type 0} {read : S → Reader A} {spell : A → List ℕ} {P R : S → A → Type 0} (after : A → S) → ((s : S) → Codec (read s) spell (P s) (R s))
-    → (xs : List A) (s : S) (rest : List ℕ) → AllAlong P after s xs → times_from read after s (length xs) (flat_map spell xs ++ rest) ≡ Ok (xs, rest)
-unfolding times_from
-times_again after c [] s rest p = refl
-times_again {S} {A} {read} {spell} after c (x ∷ xs) s rest p =
-    ap (times_from read after s (suc (length xs))) (append_assoc (spell x) (flat_map spell xs) rest)
-    ∙ rw ((c s).again x (flat_map spell xs ++ rest) p.0, times_again after c xs (after x) rest p.1) refl
+items_again : {A : Type 0} {read : ℕ → Reader A} {spell : A → List ℕ} {P R : ℕ → A → Type 0} (after : A → ℕ) → ((least : ℕ) → Codec (read least) spell (P least) (R least))
+    → (xs : List A) (least : ℕ) (rest : List ℕ) → AllAlong P after least xs → items_at read after least (length xs) (flat_map spell xs ++ rest) ≡ Ok (xs, rest)
+unfolding items_at
+items_again after c [] least rest p = refl
+items_again {A} {read} {spell} after c (x ∷ xs) least rest p =
+    ap (items_at read after least (suc (length xs))) (append_assoc (spell x) (flat_map spell xs) rest)
+    ∙ rw ((c least).again x (flat_map spell xs ++ rest) p.0, items_again after c xs (after x) rest p.1) refl
 
--- a count, and the items
-pub codec_listed : {S A : Type 0} {count : Reader ℕ} {number : ℕ → List ℕ} {N M : ℕ → Type 0} {read : S → Reader A} {spell : A → List ℕ} {P R : S → A → Type 0}
-    → Codec count number N M → (after : A → S) (s : S) → ((s : S) → Codec (read s) spell (P s) (R s))
-    → Codec (listed count (times_from read after s)) (λ xs. number (length xs) ++ flat_map spell xs) (λ xs. N (length xs) × AllAlong P after s xs) (λ _. Unit {0})
-codec_listed {S} {A} {count} {number} {N} {M} {read} {spell} {P} {R} n after s c = record {
+-- as many items as was said before
+pub codec_items : {A : Type 0} {read : ℕ → Reader A} {spell : A → List ℕ} {P R : ℕ → A → Type 0} (after : A → ℕ) (least : ℕ) → ((least : ℕ) → Codec (read least) spell (P least) (R least)) → (n : ℕ)
+    → Codec (items_at read after least n) (flat_map spell) (λ xs. (length xs ≡ n) × AllAlong P after least xs) (λ xs. length xs ≡ n)
+codec_items {A} {read} {spell} after least c n = record {
+  takes = λ bytes xs rest fits e. items_take after c n least bytes xs rest fits e;
+  again = λ xs rest p. ap (λ (m : ℕ). items_at read after least m (flat_map spell xs ++ rest)) (sym p.0) ∙ items_again after c xs least rest p.1;
+}
+
+-- a count, and a list of that many items
+pub codec_listed : {A : Type 0} {count : Reader ℕ} {number : ℕ → List ℕ} {N M : ℕ → Type 0} {items : ℕ → Reader (List A)} {text : List A → List ℕ} {Q : List A → Type 0}
+    → Codec count number N M → ((n : ℕ) → Codec (items n) text (λ xs. (length xs ≡ n) × Q xs) (λ xs. length xs ≡ n))
+    → Codec (listed count items) (λ xs. number (length xs) ++ text xs) (λ xs. N (length xs) × Q xs) (λ _. Unit {0})
+codec_listed {A} {count} {number} {N} {M} {items} {text} {Q} n c = record {
   takes = λ bytes xs rest fits e.
-      let a = bind_ok (count bytes) (λ (k : ℕ × List ℕ). times_from read after s k.0 k.1) (xs, rest) e in
+      let a = bind_ok (count bytes) (λ (k : ℕ × List ℕ). items k.0 k.1) (xs, rest) e in
       let t1 = n.takes bytes a.0.0 a.0.1 fits a.1 in
-      let t2 = times_take after c a.0.0 s a.0.1 xs rest t1.rest_fits a.2 in
+      let t2 = (c a.0.0).takes a.0.1 xs rest t1.rest_fits a.2 in
       record {
-        parts = t1.parts ∙ ap (λ (t : List ℕ). number a.0.0 ++ t) t2.parts ∙ ap (λ (k : ℕ). number k ++ (flat_map spell xs ++ rest)) (sym t2.fact) ∙ sym (append_assoc (number (length xs)) (flat_map spell xs) rest);
+        parts = t1.parts ∙ ap (λ (t : List ℕ). number a.0.0 ++ t) t2.parts ∙ ap (λ (k : ℕ). number k ++ (text xs ++ rest)) (sym t2.fact) ∙ sym (append_assoc (number (length xs)) (text xs) rest);
         rest_fits = t2.rest_fits;
         fact = tt;
       };
   again = λ xs rest p.
-      ap (listed count (times_from read after s)) (append_assoc (number (length xs)) (flat_map spell xs) rest)
-      ∙ rw (n.again (length xs) (flat_map spell xs ++ rest) p.0) (times_again after c xs s rest p.1);
+      ap (listed count items) (append_assoc (number (length xs)) (text xs) rest)
+      ∙ rw (n.again (length xs) (text xs ++ rest) p.0) ((c (length xs)).again xs rest (refl, p.1));
 }
 
 -- an item for each of a list
 each_takes : {B A : Type 0} {read : B → Reader A} {spell : A → List ℕ} {P R : B → A → Type 0} → ((b : B) → Codec (read b) spell (P b) (R b))
-    → (places : List B) (bytes : List ℕ) (xs : List A) (rest : List ℕ) → IsBytes bytes → each read places bytes ≡ Ok (xs, rest) → Took bytes (flat_map spell xs) rest (Unit {0})
+    → (places : List B) (bytes : List ℕ) (xs : List A) (rest : List ℕ) → AreBytes bytes → each read places bytes ≡ Ok (xs, rest) → Took bytes (flat_map spell xs) rest (Unit {0})
 unfolding each
 each_takes {B} {A} {read} {spell} c [] bytes xs rest fits e =
     let nothing : List A × List ℕ = ([], bytes) in
@@ -204,28 +284,71 @@ codec_each c places = record { takes = each_takes c places; again = each_again c
 
 -- ---- numbers
 
-pub record IsWide (w : Width) (limit : ℕ) : Type 0 where
-  pub len : (n : ℕ) → length (to_be_bytes w n) ≡ byte_len w
-  pub back : (bytes : List ℕ) → length bytes ≡ byte_len w → IsBytes bytes → to_be_bytes w (from_be_bytes w bytes) ≡ bytes
-  pub again : (n : ℕ) → n < limit → from_be_bytes w (to_be_bytes w n) ≡ n
+byte_takes : (bytes : List ℕ) (x : ℕ) (rest : List ℕ) → AreBytes bytes → byte_at bytes ≡ Ok (x, rest) → Took bytes (x ∷ []) rest (Unit {0})
+unfolding byte_at
+byte_takes [] x rest fits e = absurd cc
+byte_takes (b ∷ bs) x rest fits e =
+    let front : ℕ × List ℕ = (b, bs) in
+    subst (λ (y : ℕ × List ℕ). Took (b ∷ bs) (y.0 ∷ []) y.1 (Unit {0})) (ok_is front (x, rest) e) (record { parts = refl; rest_fits = AreBytes-rest b bs fits; fact = tt })
 
-pub wide16 : IsWide w16 (2 ^ 16)
-wide16 = record { len = λ n. refl; back = λ bytes len fits. be_bytes_2 bytes _ len fits refl; again = λ n lt. from_be_bytes-to_be_bytes_2 n lt }
+pub byte_codec : Codec byte_at (λ n. n ∷ []) (λ _. Unit {0}) (λ _. Unit {0})
+unfolding byte_at
+byte_codec = record { takes = byte_takes; again = λ x rest p. refl }
 
-pub wide32 : IsWide w32 (2 ^ 32)
-wide32 = record { len = λ n. refl; back = λ bytes len fits. be_bytes_4 bytes _ len fits refl; again = λ n lt. from_be_bytes-to_be_bytes_4 n lt }
-
-pub codec_number : (w : Width) (limit : ℕ) → IsWide w limit → Codec (number_at w) (to_be_bytes w) (λ n. n < limit) (λ _. Unit {0})
-codec_number w limit wide = record {
-  takes = λ bytes n rest fits e.
-      let whole : ℕ × List ℕ = (from_be_bytes w (take (byte_len w) bytes), drop (byte_len w) bytes) in
-      let g = guard_ok (ltb (length bytes) (byte_len w)) Short whole (n, rest) e in
-      let long : byte_len w ≤ length bytes = ltb-false _ _ g.0 in
-      let front : to_be_bytes w (from_be_bytes w (take (byte_len w) bytes)) ≡ take (byte_len w) bytes = wide.back (take (byte_len w) bytes) (omega (arith, length-take (byte_len w) bytes)) (IsBytes-take (byte_len w) bytes fits) in
-      subst (λ (y : ℕ × List ℕ). Took bytes (to_be_bytes w y.0) y.1 (Unit {0})) g.1
-      (record { parts = sym (take-append-drop (byte_len w) bytes) ∙ ap (λ (t : List ℕ). t ++ drop (byte_len w) bytes) (sym front); rest_fits = IsBytes-drop (byte_len w) bytes fits; fact = tt });
-  again = λ n rest lt.
-      let len = wide.len n in
-      let long : ltb (length (to_be_bytes w n ++ rest)) (byte_len w) ≡ false = le-ltb _ _ (omega (arith, length-append (to_be_bytes w n) rest)) in
-      rw (long, take_at (to_be_bytes w n) rest (byte_len w) len, drop_at (to_be_bytes w n) rest (byte_len w) len, wide.again n lt) refl;
+-- a number of n bytes
+pub codec_number : (n : ℕ) → Codec (number_at n) (bytes_of n) (λ x. x < 2 ^ (8 * n)) (λ _. Unit {0})
+unfolding number_at
+codec_number n = record {
+  takes = λ bytes x rest fits e.
+      let whole : ℕ × List ℕ = (number_of (take n bytes), drop n bytes) in
+      let g = guard_ok (ltb (length bytes) n) Short whole (x, rest) e in
+      let long : n ≤ length bytes = ltb-false _ _ g.0 in
+      let len : length (take n bytes) ≡ n = omega (arith, length-take n bytes) in
+      let front : bytes_of n (number_of (take n bytes)) ≡ take n bytes =
+      ap (λ (k : ℕ). bytes_of k (number_of (take n bytes))) (sym len) ∙ bytes_of-number_of (take n bytes) (AreBytes-take n bytes fits) in
+      subst (λ (y : ℕ × List ℕ). Took bytes (bytes_of n y.0) y.1 (Unit {0})) g.1
+      (record { parts = sym (take-append-drop n bytes) ∙ ap (λ (t : List ℕ). t ++ drop n bytes) (sym front); rest_fits = AreBytes-drop n bytes fits; fact = tt });
+  again = λ x rest lt.
+      let len = length-bytes_of n x in
+      let long : ltb (length (bytes_of n x ++ rest)) n ≡ false = le-ltb _ _ (omega (arith, length-append (bytes_of n x) rest, len)) in
+      rw (long, take_at (bytes_of n x) rest n len, drop_at (bytes_of n x) rest n len, number_of-bytes_of n x lt) refl;
 }
+
+pub two_codec : Codec (number_at 2) two_bytes (λ n. n < 2 ^ 16) (λ _. Unit {0})
+two_codec = codec_number 2
+
+pub four_codec : Codec (number_at 4) four_bytes (λ n. n < 2 ^ 32) (λ _. Unit {0})
+four_codec = codec_number 4
+
+-- ---- lists of items of which none depends on another
+
+-- another text that is the same
+pub codec_respelled : {A : Type 0} {read : Reader A} {s : A → List ℕ} {P R : A → Type 0} → Codec read s P R → (t : A → List ℕ) → ((x : A) → s x ≡ t x) → Codec read t P R
+codec_respelled {A} {read} {s} {P} {R} c t same = record {
+  takes = λ bytes x rest fits e. let k = c.takes bytes x rest fits e in record { parts = k.parts ∙ ap (λ (text : List ℕ). text ++ rest) (same x); rest_fits = k.rest_fits; fact = k.fact };
+  again = λ x rest p. ap (λ (text : List ℕ). read (text ++ rest)) (sym (same x)) ∙ c.again x rest p;
+}
+
+all_along : {A : Type 0} (test : A → Bool) (after : A → ℕ) (least : ℕ) (xs : List A) → list_all test xs ≡ true → AllAlong (λ _ x. test x ≡ true) after least xs
+all_along test after least [] e = tt
+all_along test after least (x ∷ xs) e = let p = and_parts (test x) (list_all test xs) e in (p.0, all_along test after (after x) xs p.1)
+
+pub codec_list : {A : Type 0} (test : A → Bool) {read : Reader A} {spell : A → List ℕ} {R : A → Type 0} → Codec read spell (λ x. test x ≡ true) R → (n : ℕ)
+    → Codec (list_at read n) (flat_map spell) (λ xs. (length xs ≡ n) × (list_all test xs ≡ true)) (λ xs. length xs ≡ n)
+codec_list {A} test c n =
+    let all = codec_items (λ (_ : A). 0) 0 (λ _. c) n in
+    record { takes = all.takes; again = λ xs rest p. all.again xs rest (p.0, all_along test (λ _. 0) 0 xs p.1) }
+
+-- numbers that stand by themselves
+pub alone : (ns : List ℕ) → flat_map (λ n. n ∷ []) ns ≡ ns
+alone [] = refl
+alone (n ∷ ns) = ap (λ (ms : List ℕ). n ∷ ms) (alone ns)
+
+-- items that rise by a number of theirs
+pub rising_along : {A : Type 0} (test : A → Bool) (number : A → ℕ) (least : ℕ) (xs : List A) → list_all test xs ≡ true → rises_from least (map number xs) ≡ true
+    → AllAlong (λ least x. (test x ≡ true) × (leb least (number x) ≡ true)) (λ x. number x + 1) least xs
+rising_along test number least [] each order = tt
+rising_along test number least (x ∷ xs) each order =
+    let p = and_parts (test x) (list_all test xs) each in
+    let q = and_parts (leb least (number x)) (rises_from (number x + 1) (map number xs)) order in
+    ((p.0, q.0), rising_along test number (number x + 1) xs p.1 q.1)

@@ -1,102 +1,74 @@
--- The numbers, lanes, headers and parser entries of an image: each is read as it is spelled.
-use Rattle.std.proofs.Common.{◌≡◌, ℕ, zero, suc, ◌+◌, ◌*◌, ◌^◌, ◌<◌, Bool, true, false, cond, ◌&&◌, ltb, leb, eqb, List, [], ◌∷◌, ◌++◌, length, map, Result, Ok, Err, refl, sym, ap, subst, ◌∙◌, arith, inl, inr, ◌⊎◌, lit<}
-use Rattle.std.specs.List.{flat_map, list_all, AllByRecursion}
+-- The lanes, headers and parser of an image: each is read as it is spelled.
+use Rattle.std.proofs.Common.{◌≡◌, ℕ, zero, suc, ◌+◌, ◌-◌, ◌*◌, ◌%◌, ◌^◌, ◌<◌, ◌≤◌, Bool, true, false, ◌&&◌, ltb, leb, eqb, List, [], ◌∷◌, ◌++◌, length, map, refl, sym, ap, arith, inl, inr, ◌⊎◌}
+use Rattle.std.specs.List.{flat_map, list_all}
 use Rattle.std.specs.Prelude.{bit_and}
-use Rattle.std.specs.Int.{w16, w32}
 use Rattle.std.proofs.lemmas.Bool.{ltb-true, eqb-true, leb-true, le-leb, and_parts, and_from}
-use Rattle.std.proofs.lemmas.List.{append-nil, nil_from_length}
+use Rattle.std.proofs.lemmas.List.{nil_from_length}
+use Rattle.std.proofs.lemmas.Nat.{and_le_r}
+use Rattle.rmt_bits.specs.Words.{word_size}
 use Rattle.rmt_bits.specs.declared.lane.Lane.{Lane}
 use Rattle.rmt_config.specs.declared.config.OutHeader.{OutHeader}
-use Rattle.rmt_config.specs.declared.config.ParserState.{ParserState}
 use Rattle.rmt_config.specs.declared.config.ParserConfig.{ParserConfig}
+use Rattle.rmt_config.specs.declared.config.ParserState.{ParserState}
 use Rattle.rmt_config.specs.declared.config.ParserEntry.{ParserEntry}
 use Rattle.rmt_config.specs.declared.config.Next.{Next}
 use Rattle.rmt_config.specs.declared.config.Next.TheVariants as next
 use Rattle.rmt_config.specs.declared.config.Extract.{Extract}
 use Rattle.rmt_config.specs.declared.config.Extract.TheVariants.{Bits, One}
-use Rattle.rmt_config.specs.Form.{lane_is_formed, is_lane_of, bits_of_lanes, header_is_formed, headers_are_formed, next_is_formed, extract_is_formed, match_is_formed, entry_is_formed, never_falls_from, entries_are_formed, states_are_of_this_step}
-use Rattle.rmt_config.specs.Spelling.{two_bytes, four_bytes, spelled_list8, spelled_list16, spelled_flag, spelled_lane, spelled_header, spelled_state, spelled_next, spelled_extract, spelled_entry, spelled_parser, NumberFitsExtract, NumbersFitEntry}
-use Rattle.rmt_image.specs.declared.fault.ReadFault.{ReadFault}
-use Rattle.rmt_image.specs.declared.fault.ReadFault.TheVariants.{Form}
-use Rattle.rmt_image.specs.Reading.{◌⊗◌, made, kept, only, byte_at, two_at, four_at, zero_at, flag_at, lane_of_parts, word_from_at, lane_from_at, lane_at, lane_of_at, lanes_at, header_of_parts, bytes_at, pieces_at, header_at, headers_at, state_at, one_at, states_at, entry_state_at, match_at, need_at, later_state_at, next_of, next_at, bits_extract_at, extract_of, extract_at, extracts_at, EntryHead, entry_head_at, entry_of_parts, entry_at, state_of, entries_at, parser_of_parts, parser_at}
-use Rattle.rmt_image.proofs.Codec.{IsBytes, IsBytes-rest, bind_ok, ok_is, Took, Codec, codec_for, codec_kept, codec_behind, codec_made, AllAlong, codec_listed, codec_number, wide16, wide32}
-
--- ---- tests joined by &&
-
-pub split3 : (a b c : Bool) → (a && b && c) ≡ true → (a ≡ true) × (b ≡ true) × (c ≡ true)
-split3 a b c e = let p = and_parts (a && b) c e in let q = and_parts a b p.0 in (q.0, q.1, p.1)
-
-pub split4 : (a b c d : Bool) → (a && b && c && d) ≡ true → (a ≡ true) × (b ≡ true) × (c ≡ true) × (d ≡ true)
-split4 a b c d e = let p = and_parts (a && b && c) d e in let q = split3 a b c p.0 in (q.0, q.1, q.2, p.1)
-
-pub split6 : (a b c d f g : Bool) → (a && b && c && d && f && g) ≡ true → (a ≡ true) × (b ≡ true) × (c ≡ true) × (d ≡ true) × (f ≡ true) × (g ≡ true)
-split6 a b c d f g e = let p = and_parts (a && b && c && d && f) g e in let r = and_parts (a && b && c && d) f p.0 in let q = split4 a b c d r.0 in (q.0, q.1, q.2, q.3, r.1, p.1)
-
--- which way a choice went
-pub chosen : {A : Type 0} (b : Bool) (x y z : A) → cond b x y ≡ z → ((b ≡ true) × (x ≡ z)) ⊎ ((b ≡ false) × (y ≡ z))
-chosen true x y z e = inl (refl, e)
-chosen false x y z e = inr (refl, e)
-
--- a test of all items, as one of each behind the one before
-pub all_along : {A : Type 0} (test : A → Bool) (xs : List A) → list_all test xs ≡ true → AllAlong (λ (_ : Unit {0}) x. test x ≡ true) (λ _. tt) tt xs
-all_along test [] e = tt
-all_along test (x ∷ xs) e = let p = and_parts (test x) (list_all test xs) e in (p.0, all_along test xs p.1)
+use Rattle.rmt_config.specs.Order.{rises_from, never_falls_from}
+use Rattle.rmt_config.specs.LaneForm.{lane_is_formed, is_lane_of, header_is_formed, headers_are_formed}
+use Rattle.rmt_config.specs.declared.config.TailOf.{TailOf}
+use Rattle.rmt_config.specs.Parser.{has_no_tail}
+use Rattle.rmt_config.specs.ParserForm.{state_is_formed, states_are_formed, extract_is_formed, next_is_formed, lookups_of, match_is_formed, entry_is_formed, parser_is_formed}
+use Rattle.rmt_config.specs.Spelling.{two_bytes, four_bytes, spelled_list8, spelled_list16, spelled_flag, spelled_lane, spelled_header, spelled_state, spelled_next, spelled_extract, spelled_entry, spelled_parser}
+use Rattle.rmt_image.specs.declared.reading.parser.EntryHead.{EntryHead}
+use Rattle.rmt_image.specs.Readers.{kept, byte_at, is_flag, is_one, flag_at}
+use Rattle.rmt_image.specs.Reading.{word_at, lane_of_parts, lane_from_at, lane_at, has_bits, lane_of_at, header_of_parts, header_size_fits, is_covered, at_most, at_least, header_at, headers_at, offset_at, one_more, state_of_parts, state_at, states_at, entry_state_at, match_fits, match_at, need_fits, need_at, later_state_at, accepts, rejects, next_at, bits_of_parts, lies_in, bits_at, extract_at, head_of_parts, entry_head_at, entry_of_parts, entry_at, state_of, parser_of_parts, parser_at}
+use Rattle.rmt_image.proofs.Splits.{split2, split3, split4, split6, split8}
+use Rattle.rmt_image.proofs.Codec.{Codec, codec_for, codec_kept, codec_behind, codec_made, codec_give, choices_none, choices_when, codec_chosen, AllAlong, codec_items, codec_listed, byte_codec, two_codec, four_codec, codec_list, alone}
 
 -- ---- numbers
 
-byte_takes : (bytes : List ℕ) (x : ℕ) (rest : List ℕ) → IsBytes bytes → byte_at bytes ≡ Ok (x, rest) → Took bytes (x ∷ []) rest (Unit {0})
-unfolding byte_at
-byte_takes [] x rest fits e = absurd cc
-byte_takes (b ∷ bs) x rest fits e =
-    let front : ℕ × List ℕ = (b, bs) in
-    subst (λ (y : ℕ × List ℕ). Took (b ∷ bs) (y.0 ∷ []) y.1 (Unit {0})) (ok_is front (x, rest) e) (record { parts = refl; rest_fits = IsBytes-rest b bs fits; fact = tt })
-
-pub byte_codec : Codec byte_at (λ n. n ∷ []) (λ _. Unit {0}) (λ _. Unit {0})
-unfolding byte_at
-byte_codec = record { takes = byte_takes; again = λ x rest p. refl }
-
-pub two_codec : Codec two_at two_bytes (λ n. n < 2 ^ 16) (λ _. Unit {0})
-unfolding two_at
-two_codec = codec_number w16 (2 ^ 16) wide16
-
-pub four_codec : Codec four_at four_bytes (λ n. n < 2 ^ 32) (λ _. Unit {0})
-unfolding four_at
-four_codec = codec_number w32 (2 ^ 32) wide32
-
-pub zero_codec : Codec zero_at (λ n. n ∷ []) (λ n. Unit {0} × (only 0 n ≡ true)) (λ n. Unit {0} × (only 0 n ≡ true))
-unfolding zero_at
-zero_codec = codec_kept (only 0) byte_codec
-
-flag_same : (a : ℕ) → leb a 1 ≡ true → a ≡ spelled_flag (eqb a 1)
+flag_same : (a : ℕ) → is_flag a ≡ true → a ≡ spelled_flag (is_one a)
 flag_same zero h = refl
 flag_same (suc zero) h = refl
 flag_same (suc (suc a)) h = absurd (omega (arith, leb-true (suc (suc a)) 1 h))
 
-flag_back : (b : Bool) → (a : ℕ) × (only 1 a ≡ b) × (a ∷ [] ≡ spelled_flag b ∷ []) × (Unit {0} × (leb a 1 ≡ true))
+flag_back : (b : Bool) → (a : ℕ) × (is_one a ≡ b) × (a ∷ [] ≡ spelled_flag b ∷ []) × (Unit {0} × (is_flag a ≡ true))
 flag_back true = (1, refl, refl, (tt, refl))
 flag_back false = (0, refl, refl, (tt, refl))
 
 pub flag_codec : Codec flag_at (λ b. spelled_flag b ∷ []) (λ _. Unit {0}) (λ _. Unit {0})
 unfolding flag_at
-flag_codec = codec_made (only 1) (codec_kept (λ n. leb n 1) byte_codec) (λ b. spelled_flag b ∷ []) (λ _. Unit {0}) (λ a r. ap (λ (n : ℕ). n ∷ []) (flag_same a r.1)) (λ b q. flag_back b)
+flag_codec = codec_made is_one (codec_kept is_flag byte_codec) (λ b. spelled_flag b ∷ []) (λ _. Unit {0}) (λ a r. ap (λ (n : ℕ). n ∷ []) (flag_same a r.1)) (λ b q. flag_back b)
+
+-- a byte that passes a test
+pub codec_byte : (test : ℕ → Bool) → Codec (kept test byte_at) (λ n. n ∷ []) (λ n. test n ≡ true) (λ n. test n ≡ true)
+codec_byte test =
+    let c = codec_kept test byte_codec in
+    record {
+      takes = λ bytes x rest fits e. let t = c.takes bytes x rest fits e in record { parts = t.parts; rest_fits = t.rest_fits; fact = t.fact.1 };
+      again = λ x rest p. c.again x rest (tt, p);
+    }
 
 -- ---- lanes and headers
 
-pub word_codec : (least : ℕ) → Codec (word_from_at least) (λ n. n ∷ []) (λ n. Unit {0} × ((ltb n 224 && leb least n) ≡ true)) (λ n. Unit {0} × ((ltb n 224 && leb least n) ≡ true))
-unfolding word_from_at
-word_codec least = codec_kept (λ n. ltb n 224 && leb least n) byte_codec
-
-lane_word : (l : Lane) → lane_is_formed l ≡ true → ltb l.word 224 ≡ true
-lane_word l e = (split4 _ _ _ _ e).0
+pub word_codec : (least : ℕ) → Codec (word_at least) (λ n. n ∷ []) (λ n. (ltb n 224 && leb least n) ≡ true) (λ _. Unit {0})
+unfolding word_at
+word_codec least = codec_for (codec_byte (λ n. ltb n 224 && leb least n)) (λ n. (ltb n 224 && leb least n) ≡ true) (λ n p. p)
 
 pub lane_from_codec : (least : ℕ) → Codec (lane_from_at least) spelled_lane (λ l. (lane_is_formed l ≡ true) × (leb least l.word ≡ true)) (λ _. Unit {0})
 unfolding lane_from_at
 lane_from_codec least =
     codec_for (codec_kept lane_is_formed
     (codec_made lane_of_parts (codec_behind (word_codec least) (λ _. codec_behind byte_codec (λ _. byte_codec))) spelled_lane
-    (λ l. (ltb l.word 224 && leb least l.word) ≡ true) (λ a r. refl) (λ l q. ((l.word, (l.low, l.len)), refl, refl, ((tt, q), (tt, tt))))))
+    (λ l. (ltb l.word 224 && leb least l.word) ≡ true) (λ a r. refl) (λ l q. ((l.word, (l.low, l.len)), refl, refl, (q, (tt, tt))))))
     (λ l. (lane_is_formed l ≡ true) × (leb least l.word ≡ true))
-    (λ l q. (and_from (ltb l.word 224) (leb least l.word) (lane_word l q.0) q.1, q.0))
+    (λ l q. (and_from (ltb l.word 224) (leb least l.word) (split4 q.0).0 q.1, q.0))
+
+-- what is tested of a lane
+pub lane_tests : (l : Lane) → lane_is_formed l ≡ true → (ltb l.word 224 ≡ true) × (leb 1 l.len ≡ true) × (leb l.len 32 ≡ true) × (leb (l.low + l.len) (word_size l.word) ≡ true)
+lane_tests l e = split4 e
 
 pub lane_codec : Codec lane_at spelled_lane (λ l. lane_is_formed l ≡ true) (λ _. Unit {0})
 unfolding lane_at
@@ -104,243 +76,208 @@ lane_codec = codec_for (lane_from_codec 0) (λ l. lane_is_formed l ≡ true) (λ
 
 pub lane_of_codec : (len : ℕ) → Codec (lane_of_at len) spelled_lane (λ l. is_lane_of len l ≡ true) (λ _. Unit {0})
 unfolding lane_of_at
-lane_of_codec len = codec_for (codec_kept (λ (l : Lane). eqb l.len len) lane_codec) (λ l. is_lane_of len l ≡ true) (λ l q. and_parts (lane_is_formed l) (eqb l.len len) q)
-
-pub pieces_codec : Codec pieces_at (spelled_list8 spelled_lane) (λ xs. list_all lane_is_formed xs ≡ true) (λ _. Unit {0})
-unfolding pieces_at lanes_at
-pieces_codec = codec_for (codec_listed byte_codec (λ _. tt) tt (λ _. lane_codec)) (λ xs. list_all lane_is_formed xs ≡ true) (λ xs q. (tt, all_along lane_is_formed xs q))
-
-bytes_codec : Codec bytes_at (λ n. n ∷ []) (λ n. Unit {0} × ((leb 1 n && leb n 64) ≡ true)) (λ n. Unit {0} × ((leb 1 n && leb n 64) ≡ true))
-unfolding bytes_at
-bytes_codec = codec_kept (λ n. leb 1 n && leb n 64) byte_codec
+lane_of_codec len = codec_for (codec_kept (has_bits len) lane_codec) (λ l. is_lane_of len l ≡ true) (λ l q. split2 q)
 
 abbrev HeaderParts : OutHeader → Type 0
-HeaderParts h = (is_lane_of 1 h.valid ≡ true) × ((leb 1 h.bytes && leb h.bytes 64) ≡ true) × (list_all lane_is_formed h.pieces ≡ true)
+HeaderParts h = (is_lane_of 1 h.valid ≡ true) × ((header_size_fits h.bytes ≡ true) × (list_all lane_is_formed h.pieces ≡ true))
 
-header_parts : (h : OutHeader) → header_is_formed h ≡ true → HeaderParts h × (eqb (bits_of_lanes h.pieces) (8 * h.bytes) ≡ true)
-header_parts h e =
-    let p = split6 (is_lane_of 1 h.valid) (leb 1 h.bytes) (leb h.bytes 64) (ltb (length h.pieces) 256) (list_all lane_is_formed h.pieces) (eqb (bits_of_lanes h.pieces) (8 * h.bytes)) e in
-    ((p.0, and_from _ _ p.1 p.2, p.4), p.5)
+header_parts : (h : OutHeader) → header_is_formed h ≡ true → HeaderParts h × (is_covered h ≡ true)
+header_parts h e = let p = split6 e in ((p.0, (and_from _ _ p.1 p.2, p.4)), p.5)
 
 pub header_codec : Codec header_at spelled_header (λ h. header_is_formed h ≡ true) (λ _. Unit {0})
 unfolding header_at
 header_codec =
-    codec_for (codec_kept (λ (h : OutHeader). eqb (bits_of_lanes h.pieces) (8 * h.bytes))
-    (codec_made header_of_parts (codec_behind (lane_of_codec 1) (λ _. codec_behind bytes_codec (λ _. pieces_codec))) spelled_header
-    HeaderParts (λ a r. refl) (λ h q. ((h.valid, (h.bytes, h.pieces)), refl, refl, (q.0, ((tt, q.1), q.2))))))
+    codec_for (codec_kept is_covered
+    (codec_made header_of_parts (codec_behind (lane_of_codec 1) (λ _. codec_behind (codec_byte header_size_fits) (λ _. codec_listed byte_codec (codec_list lane_is_formed lane_codec)))) spelled_header
+    HeaderParts (λ a r. refl) (λ h q. ((h.valid, (h.bytes, h.pieces)), refl, refl, (q.0, (q.1.0, (tt, q.1.1)))))))
     (λ h. header_is_formed h ≡ true) header_parts
 
 pub headers_codec : Codec headers_at (spelled_list8 spelled_header) (λ hs. headers_are_formed hs ≡ true) (λ _. Unit {0})
 unfolding headers_at
 headers_codec =
-    codec_for (codec_listed (codec_kept (λ n. leb n 64) byte_codec) (λ _. tt) tt (λ _. header_codec)) (λ hs. headers_are_formed hs ≡ true)
-    (λ hs q. let p = and_parts (leb (length hs) 64) (list_all header_is_formed hs) q in ((tt, p.0), all_along header_is_formed hs p.1))
+    codec_for (codec_listed (codec_byte (at_most 64)) (codec_list header_is_formed header_codec)) (λ hs. headers_are_formed hs ≡ true) (λ hs q. split2 q)
 
 -- ---- states
 
-state_codec : Codec state_at spelled_state (λ s. eqb (length s.lookups) 0 ≡ true) (λ _. Unit {0})
+offset_codec : (least : ℕ) → Codec (offset_at least) (λ n. n ∷ []) (λ n. (ltb n 128 ≡ true) × (leb least n ≡ true)) (λ _. Unit {0})
+unfolding offset_at
+offset_codec least =
+    codec_for (codec_byte (λ n. ltb n 128 && leb least n)) (λ n. (ltb n 128 ≡ true) × (leb least n ≡ true)) (λ n p. and_from (ltb n 128) (leb least n) p.0 p.1)
+
+offsets_along : (least : ℕ) (ns : List ℕ) → list_all (λ n. ltb n 128) ns ≡ true → rises_from least ns ≡ true → AllAlong (λ least n. (ltb n 128 ≡ true) × (leb least n ≡ true)) one_more least ns
+offsets_along least [] each order = tt
+offsets_along least (n ∷ ns) each order =
+    let p = and_parts (ltb n 128) (list_all (λ n. ltb n 128) ns) each in
+    let q = and_parts (leb least n) (rises_from (n + 1) ns) order in
+    ((p.0, q.0), offsets_along (n + 1) ns p.1 q.1)
+
+state_codec : Codec state_at spelled_state (λ s. state_is_formed s ≡ true) (λ _. Unit {0})
 unfolding state_at
 state_codec =
-    codec_made (λ (_ : ℕ). let s : ParserState = record { lookups = [] } in s) zero_codec spelled_state (λ s. eqb (length s.lookups) 0 ≡ true)
-    (λ a r. ap (λ (n : ℕ). n ∷ []) (eqb-true a 0 r.1))
-    (λ s q.
-    let nothing : s.lookups ≡ [] = nil_from_length s.lookups (eqb-true _ _ q) in
-    let made_again : List ℕ → ParserState = λ l. record { lookups = l } in
-    (0, sym (ap made_again nothing), sym (ap (λ (l : List ℕ). length l ∷ l) nothing), (tt, refl)))
+    codec_made state_of_parts (codec_listed byte_codec (codec_items one_more 0 offset_codec)) spelled_state (λ s. state_is_formed s ≡ true)
+    (λ a r. ap (λ (ns : List ℕ). length a ∷ ns) (alone a))
+    (λ s q. let p = split2 q in (s.lookups, refl, ap (λ (ns : List ℕ). length s.lookups ∷ ns) (alone s.lookups), (tt, offsets_along 0 s.lookups p.1 p.0)))
 
-states_back : (ss : List ParserState) → states_are_of_this_step ss ≡ true
-    → (a : ℕ × ParserState) × (a.1 ∷ [] ≡ ss) × (two_bytes a.0 ++ spelled_state a.1 ≡ spelled_list16 spelled_state ss) × (((a.0 < 2 ^ 16) × (only 1 a.0 ≡ true)) × (eqb (length a.1.lookups) 0 ≡ true))
-states_back [] e = absurd cc
-states_back (s ∷ []) e =
-    let p = and_parts true (list_all (λ (s : ParserState). eqb (length s.lookups) 0) (s ∷ [])) e in
-    ((1, s), refl, ap (λ (t : List ℕ). two_bytes 1 ++ t) (sym (append-nil (spelled_state s))), ((lit< tt, refl), (and_parts (eqb (length s.lookups) 0) true p.1).0))
-states_back (s ∷ t ∷ ss) e =
-    let p = and_parts (eqb (length (s ∷ t ∷ ss)) 1) (list_all (λ (s : ParserState). eqb (length s.lookups) 0) (s ∷ t ∷ ss)) e in
-    absurd (omega (arith, eqb-true (length (s ∷ t ∷ ss)) 1 p.0))
-
-one_codec : Codec one_at two_bytes (λ n. (n < 2 ^ 16) × (only 1 n ≡ true)) (λ n. Unit {0} × (only 1 n ≡ true))
-unfolding one_at
-one_codec = codec_kept (only 1) two_codec
-
-pub states_codec : Codec states_at (spelled_list16 spelled_state) (λ ss. states_are_of_this_step ss ≡ true) (λ _. Unit {0})
+pub states_codec : Codec states_at (spelled_list16 spelled_state) (λ ss. states_are_formed ss ≡ true) (λ _. Unit {0})
 unfolding states_at
 states_codec =
-    codec_made (λ (x : ℕ × ParserState). x.1 ∷ []) (codec_behind one_codec (λ _. state_codec)) (spelled_list16 spelled_state) (λ ss. states_are_of_this_step ss ≡ true)
-    (λ a r. ap (λ (n : ℕ). two_bytes n ++ spelled_state a.1) (eqb-true a.0 1 r.0.1) ∙ ap (λ (t : List ℕ). two_bytes 1 ++ t) (sym (append-nil (spelled_state a.1))))
-    states_back
+    codec_for (codec_listed (codec_kept (at_least 1) two_codec) (codec_list state_is_formed state_codec)) (λ ss. states_are_formed ss ≡ true)
+    (λ ss q. let p = split3 q in ((ltb-true (length ss) 65536 p.1, p.0), p.2))
+
+-- ---- what an entry does
+
+later_codec : (states state : ℕ) → Codec (later_state_at states state) (λ n. n ∷ []) (λ n. (ltb n states && ltb state n) ≡ true) (λ _. Unit {0})
+unfolding later_state_at
+later_codec states state = codec_for (codec_byte (λ n. ltb n states && ltb state n)) (λ n. (ltb n states && ltb state n) ≡ true) (λ n p. p)
+
+-- what is gone to by a choice byte from k on
+abbrev NextFrom : ℕ → ℕ → ℕ → Next → Type 0
+NextFrom states state k next.Accept = k ≡ 0
+NextFrom states state k next.Reject = k ≤ 1
+NextFrom states state k (next.State s) = (ltb s states && ltb state s) ≡ true
+
+next_0 : (states state : ℕ) (x : Next) → NextFrom states state 0 x → ((a : Unit {0}) × (accepts a ≡ x) × (a ≡ tt)) ⊎ NextFrom states state 1 x
+next_0 states state next.Accept p = inl (tt, refl, refl)
+next_0 states state next.Reject p = inr (omega arith)
+next_0 states state (next.State s) p = inr p
+
+next_1 : (states state : ℕ) (x : Next) → NextFrom states state 1 x → ((a : Unit {0}) × (rejects a ≡ x) × (a ≡ tt)) ⊎ NextFrom states state 2 x
+next_1 states state next.Accept p = absurd (omega (arith, p))
+next_1 states state next.Reject p = inl (tt, refl, refl)
+next_1 states state (next.State s) p = inr p
+
+next_2 : (states state : ℕ) (x : Next) → NextFrom states state 2 x → ((a : ℕ) × (next.State a ≡ x) × ((ltb a states && ltb state a) ≡ true)) ⊎ ⊥
+next_2 states state next.Accept p = absurd (omega (arith, p))
+next_2 states state next.Reject p = absurd (omega (arith, p))
+next_2 states state (next.State s) p = inl (s, refl, p)
+
+next_from : (states state : ℕ) (x : Next) → next_is_formed states state x ≡ true → NextFrom states state 0 x
+next_from states state next.Accept p = refl
+next_from states state next.Reject p = omega arith
+next_from states state (next.State s) p = let q = split3 p in and_from (ltb s states) (ltb state s) q.0 q.2
+
+pub next_codec : (states state : ℕ) → Codec (next_at states state) spelled_next (λ x. next_is_formed states state x ≡ true) (λ _. Unit {0})
+unfolding next_at
+next_codec states state =
+    codec_for
+    (codec_chosen
+    (choices_when 0 accepts (codec_give tt (λ _. []) refl)
+    (choices_when 1 rejects (codec_give tt (λ _. []) refl)
+    (choices_when 2 next.State (later_codec states state) (choices_none spelled_next 3) (λ a. refl) (NextFrom states state 2) (next_2 states state))
+    (λ a. refl) (NextFrom states state 1) (next_1 states state))
+    (λ a. refl) (NextFrom states state 0) (next_0 states state)))
+    (λ x. next_is_formed states state x ≡ true) (next_from states state)
+
+bits_codec : (need : ℕ) → Codec (bits_at need) (λ x. two_bytes x.0 ++ spelled_lane x.1) (λ x. ((x.0 < 2 ^ 16) × (lane_is_formed x.1 ≡ true)) × (lies_in need x ≡ true)) (λ _. Unit {0})
+unfolding bits_at
+bits_codec need = codec_for (codec_kept (lies_in need) (codec_behind two_codec (λ _. lane_codec))) _ (λ x q. q)
+
+abbrev ExtractFrom : ℕ → ℕ → Extract → Type 0
+ExtractFrom need k (Bits from lane) = (k ≡ 0) × ((ltb from 65536 && lane_is_formed lane && leb (from + lane.len) (8 * need)) ≡ true)
+ExtractFrom need k (One lane) = is_lane_of 1 lane ≡ true
+
+extract_0 : (need : ℕ) (x : Extract) → ExtractFrom need 0 x → ((a : ℕ × Lane) × (bits_of_parts a ≡ x) × (((a.0 < 2 ^ 16) × (lane_is_formed a.1 ≡ true)) × (lies_in need a ≡ true))) ⊎ ExtractFrom need 1 x
+extract_0 need (Bits from lane) p = let q = split3 p.1 in inl ((from, lane), refl, ((ltb-true from 65536 q.0, q.1), q.2))
+extract_0 need (One lane) p = inr p
+
+extract_1 : (need : ℕ) (x : Extract) → ExtractFrom need 1 x → ((a : Lane) × (One a ≡ x) × (is_lane_of 1 a ≡ true)) ⊎ ⊥
+extract_1 need (Bits from lane) p = absurd (omega (arith, p.0))
+extract_1 need (One lane) p = inl (lane, refl, p)
+
+extract_from : (need : ℕ) (x : Extract) → extract_is_formed need x ≡ true → ExtractFrom need 0 x
+extract_from need (Bits from lane) p = (refl, p)
+extract_from need (One lane) p = p
+
+pub extract_codec : (need : ℕ) → Codec (extract_at need) spelled_extract (λ x. extract_is_formed need x ≡ true) (λ _. Unit {0})
+unfolding extract_at
+extract_codec need =
+    codec_for
+    (codec_chosen
+    (choices_when 0 bits_of_parts (bits_codec need)
+    (choices_when 1 One (lane_of_codec 1) (choices_none spelled_extract 2) (λ a. refl) (ExtractFrom need 1) (extract_1 need))
+    (λ a. refl) (ExtractFrom need 0) (extract_0 need)))
+    (λ x. extract_is_formed need x ≡ true) (extract_from need)
 
 -- ---- entries
 
-entry_state_codec : (states least : ℕ) → Codec (entry_state_at states least) (λ n. n ∷ []) (λ n. Unit {0} × ((ltb n states && leb least n) ≡ true)) (λ n. Unit {0} × ((ltb n states && leb least n) ≡ true))
+entry_state_codec : (states least : ℕ) → Codec (entry_state_at states least) (λ n. n ∷ []) (λ n. (ltb n states && leb least n) ≡ true) (λ _. Unit {0})
 unfolding entry_state_at
-entry_state_codec states least = codec_kept (λ n. ltb n states && leb least n) byte_codec
+entry_state_codec states least = codec_for (codec_byte (λ n. ltb n states && leb least n)) (λ n. (ltb n states && leb least n) ≡ true) (λ n p. p)
 
-later_codec : (states state : ℕ) → Codec (later_state_at states state) (λ n. n ∷ []) (λ n. Unit {0} × ((ltb n states && ltb state n) ≡ true)) (λ n. Unit {0} × ((ltb n states && ltb state n) ≡ true))
-unfolding later_state_at
-later_codec states state = codec_kept (λ n. ltb n states && ltb state n) byte_codec
+abbrev MatchParts : ℕ → ℕ × ℕ → Type 0
+MatchParts lookups x = ((x.0 < 2 ^ 32) × (x.1 < 2 ^ 32)) × (match_fits lookups x ≡ true)
 
--- what stands behind a choice byte, with that byte before it
-abbrev no_item : {A : Type 0} → Result A ReadFault
-no_item = Err Form
+match_codec : (lookups : ℕ) → Codec (match_at lookups) (λ x. four_bytes x.0 ++ four_bytes x.1) (MatchParts lookups) (λ _. Unit {0})
+unfolding match_at
+match_codec lookups = codec_for (codec_kept (match_fits lookups) (codec_behind four_codec (λ _. four_codec))) (MatchParts lookups) (λ x q. q)
 
-no_value : {A : Type 0} (x : A) → no_item ≡ Ok x → ⊥
-no_value x e = cc
+need_codec : Codec need_at (λ x. x.0 ∷ x.1 ∷ []) (λ x. need_fits x ≡ true) (λ _. Unit {0})
+unfolding need_at
+need_codec = codec_for (codec_kept need_fits (codec_behind byte_codec (λ _. byte_codec))) (λ x. need_fits x ≡ true) (λ x q. ((tt, tt), q))
 
-pub behind_choice : {A B : Type 0} {read : List ℕ → Result (A × List ℕ) ReadFault} {s : A → List ℕ} {P R : A → Type 0} (choice k : ℕ) (f : A → B) (spell : B → List ℕ) → Codec read s P R → ((a : A) → choice ∷ s a ≡ spell (f a))
-    → k ≡ choice → (bytes : List ℕ) (x : B) (rest : List ℕ) → IsBytes bytes → made f read bytes ≡ Ok (x, rest) → Took (k ∷ bytes) (spell x) rest (Unit {0})
-behind_choice {A} {B} {read} {s} choice k f spell c same is bytes x rest fits e =
-    let a = bind_ok (read bytes) (λ (y : A × List ℕ). Ok (f y.0, y.1)) (x, rest) e in
-    let t = c.takes bytes a.0.0 a.0.1 fits a.1 in
-    let made_pair : B × List ℕ = (f a.0.0, a.0.1) in
-    subst (λ (y : B × List ℕ). Took (k ∷ bytes) (spell y.0) y.1 (Unit {0})) (ok_is made_pair (x, rest) a.2)
-    (record {
-      parts = ap (λ (n : ℕ). n ∷ bytes) is ∙ ap (λ (text : List ℕ). choice ∷ text) t.parts ∙ ap (λ (text : List ℕ). text ++ a.0.1) (same a.0.0);
-      rest_fits = t.rest_fits;
-      fact = tt;
-    })
+abbrev head_text : EntryHead → List ℕ
+head_text h = (h.state ∷ []) ++ ((four_bytes h.value ++ four_bytes h.mask) ++ (h.need ∷ h.advance ∷ []))
 
-abbrev one_item : {A : Type 0} → A → Result A ReadFault
-one_item x = Ok x
+abbrev HeadKeeps : List ParserState → ℕ → EntryHead → Type 0
+HeadKeeps states least h =
+    ((ltb h.state (length states) && leb least h.state) ≡ true)
+    × (MatchParts (lookups_of states h.state) (h.value, h.mask) × (need_fits (h.need, h.advance) ≡ true))
 
--- a value that is its choice byte alone
-choice_alone : {B : Type 0} (choice k : ℕ) (y : B) (spell : B → List ℕ) → choice ∷ [] ≡ spell y → k ≡ choice → (bytes : List ℕ) (x : B) (rest : List ℕ) → IsBytes bytes
-    → one_item {A = B × List ℕ} (y, bytes) ≡ Ok (x, rest) → Took (k ∷ bytes) (spell x) rest (Unit {0})
-choice_alone {B} choice k y spell same is bytes x rest fits e =
-    let front : B × List ℕ = (y, bytes) in
-    subst (λ (z : B × List ℕ). Took (k ∷ bytes) (spell z.0) z.1 (Unit {0})) (ok_is front (x, rest) e)
-    (record { parts = ap (λ (n : ℕ). n ∷ bytes) is ∙ ap (λ (text : List ℕ). text ++ bytes) same; rest_fits = fits; fact = tt })
-
-next_takes : (states state k : ℕ) (bytes : List ℕ) (x : Next) (rest : List ℕ) → IsBytes bytes → next_of states state k bytes ≡ Ok (x, rest) → Took (k ∷ bytes) (spelled_next x) rest (Unit {0})
-next_takes states state k bytes x rest fits e =
-    let last : Result (Next × List ℕ) ReadFault = cond (eqb k 2) (made next.State (later_state_at states state) bytes) (Err Form) in
-    let middle : Result (Next × List ℕ) ReadFault = cond (eqb k 1) (Ok (next.Reject, bytes)) last in
-    let first : Result (Next × List ℕ) ReadFault = Ok (next.Accept, bytes) in
-    let second : Result (Next × List ℕ) ReadFault = Ok (next.Reject, bytes) in
-    let wanted : Result (Next × List ℕ) ReadFault = Ok (x, rest) in
-    elim (chosen (eqb k 0) first middle wanted e) [
-      | inl p ↦ choice_alone 0 k next.Accept spelled_next refl (eqb-true k 0 p.0) bytes x rest fits p.1
-      | inr p ↦ elim (chosen (eqb k 1) second last wanted p.1) [
-        | inl q ↦ choice_alone 1 k next.Reject spelled_next refl (eqb-true k 1 q.0) bytes x rest fits q.1
-        | inr q ↦ elim (chosen (eqb k 2) (made next.State (later_state_at states state) bytes) (Err Form) wanted q.1) [
-          | inl r ↦ behind_choice 2 k next.State spelled_next (later_codec states state) (λ a. refl) (eqb-true k 2 r.0) bytes x rest fits r.1
-          | inr r ↦ absurd (no_value (x, rest) r.1)
-        ]
-      ]
-    ]
-
-next_again : (states state : ℕ) (x : Next) (rest : List ℕ) → next_is_formed states state x ≡ true → next_at states state (spelled_next x ++ rest) ≡ Ok (x, rest)
-unfolding next_at byte_at
-next_again states state next.Accept rest p = refl
-next_again states state next.Reject rest p = refl
-next_again states state (next.State s) rest p = rw ((later_codec states state).again s rest (tt, p)) refl
-
-next_codec : (states state : ℕ) → Codec (next_at states state) spelled_next (λ x. next_is_formed states state x ≡ true) (λ _. Unit {0})
-unfolding next_at
-next_codec states state = record {
-  takes = λ bytes x rest fits e.
-      let a = bind_ok (byte_at bytes) (λ (c : ℕ × List ℕ). next_of states state c.0 c.1) (x, rest) e in
-      let t = byte_codec.takes bytes a.0.0 a.0.1 fits a.1 in
-      let u = next_takes states state a.0.0 a.0.1 x rest t.rest_fits a.2 in
-      record { parts = t.parts ∙ u.parts; rest_fits = u.rest_fits; fact = tt };
-  again = next_again states state;
-}
-
--- an extract of packet bits: where they begin, and their lane
-bits_codec : (need : ℕ) → Codec (kept (λ (x : ℕ × Lane). leb (x.0 + x.1.len) (8 * need)) (two_at ⊗ lane_at)) (λ x. two_bytes x.0 ++ spelled_lane x.1)
-    (λ x. ((x.0 < 2 ^ 16) × (lane_is_formed x.1 ≡ true)) × (leb (x.0 + x.1.len) (8 * need) ≡ true)) (λ x. (Unit {0} × Unit {0}) × (leb (x.0 + x.1.len) (8 * need) ≡ true))
-bits_codec need = codec_kept (λ (x : ℕ × Lane). leb (x.0 + x.1.len) (8 * need)) (codec_behind two_codec (λ _. lane_codec))
-
-extract_takes : (need k : ℕ) (bytes : List ℕ) (x : Extract) (rest : List ℕ) → IsBytes bytes → extract_of need k bytes ≡ Ok (x, rest) → Took (k ∷ bytes) (spelled_extract x) rest (Unit {0})
-unfolding bits_extract_at
-extract_takes need k bytes x rest fits e =
-    let wanted : Result (Extract × List ℕ) ReadFault = Ok (x, rest) in
-    let last : Result (Extract × List ℕ) ReadFault = cond (eqb k 1) (made One (lane_of_at 1) bytes) (Err Form) in
-    elim (chosen (eqb k 0) (bits_extract_at need bytes) last wanted e) [
-      | inl p ↦ behind_choice 0 k (λ (y : ℕ × Lane). Bits y.0 y.1) spelled_extract (bits_codec need) (λ a. refl) (eqb-true k 0 p.0) bytes x rest fits p.1
-      | inr p ↦ elim (chosen (eqb k 1) (made One (lane_of_at 1) bytes) (Err Form) wanted p.1) [
-        | inl q ↦ behind_choice 1 k One spelled_extract (lane_of_codec 1) (λ a. refl) (eqb-true k 1 q.0) bytes x rest fits q.1
-        | inr q ↦ absurd (no_value (x, rest) q.1)
-      ]
-    ]
-
-extract_again : (need : ℕ) (x : Extract) (rest : List ℕ) → (extract_is_formed need x ≡ true) × NumberFitsExtract x → extract_at need (spelled_extract x ++ rest) ≡ Ok (x, rest)
-unfolding extract_at byte_at bits_extract_at
-extract_again need (Bits from lane) rest p =
-    let q = and_parts (lane_is_formed lane) (leb (from + lane.len) (8 * need)) p.0 in
-    rw ((bits_codec need).again (from, lane) rest ((p.1, q.0), q.1)) refl
-extract_again need (One lane) rest p = rw ((lane_of_codec 1).again lane rest p.0) refl
-
-extract_codec : (need : ℕ) → Codec (extract_at need) spelled_extract (λ x. (extract_is_formed need x ≡ true) × NumberFitsExtract x) (λ _. Unit {0})
-unfolding extract_at
-extract_codec need = record {
-  takes = λ bytes x rest fits e.
-      let a = bind_ok (byte_at bytes) (λ (c : ℕ × List ℕ). extract_of need c.0 c.1) (x, rest) e in
-      let t = byte_codec.takes bytes a.0.0 a.0.1 fits a.1 in
-      let u = extract_takes need a.0.0 a.0.1 x rest t.rest_fits a.2 in
-      record { parts = t.parts ∙ u.parts; rest_fits = u.rest_fits; fact = tt };
-  again = extract_again need;
-}
-
-extracts_along : (need : ℕ) (xs : List Extract) → list_all (extract_is_formed need) xs ≡ true → AllByRecursion NumberFitsExtract xs
-    → AllAlong (λ (_ : Unit {0}) x. (extract_is_formed need x ≡ true) × NumberFitsExtract x) (λ _. tt) tt xs
-extracts_along need [] e fit = tt
-extracts_along need (x ∷ xs) e fit = let p = and_parts (extract_is_formed need x) (list_all (extract_is_formed need) xs) e in ((p.0, fit.0), extracts_along need xs p.1 fit.1)
-
-abbrev match_test : ℕ × ℕ → Bool
-match_test x = eqb (bit_and x.0 x.1) x.0 && eqb x.1 0
-
-head_codec : (states least : ℕ) → Codec (entry_head_at states least) (λ h. h.0 ∷ ((four_bytes h.1.0.0 ++ four_bytes h.1.0.1) ++ (h.1.1.0 ∷ h.1.1.1 ∷ [])))
-    (λ h. (Unit {0} × ((ltb h.0 states && leb least h.0) ≡ true)) × ((((h.1.0.0 < 2 ^ 32) × (h.1.0.1 < 2 ^ 32)) × (match_test h.1.0 ≡ true)) × ((Unit {0} × Unit {0}) × (leb h.1.1.1 h.1.1.0 ≡ true)))) (λ _. Unit {0})
-unfolding entry_head_at match_at need_at
+head_codec : (states : List ParserState) (least : ℕ) → Codec (entry_head_at states least) head_text (HeadKeeps states least) (λ _. Unit {0})
+unfolding entry_head_at
 head_codec states least =
-    codec_for (codec_behind (entry_state_codec states least) (λ _. codec_behind (codec_kept match_test (codec_behind four_codec (λ _. four_codec))) (λ _. codec_kept (λ (x : ℕ × ℕ). leb x.1 x.0) (codec_behind byte_codec (λ _. byte_codec)))))
-    _ (λ h q. q)
+    codec_made head_of_parts (codec_behind (entry_state_codec (length states) least) (λ state. codec_behind (match_codec (lookups_of states state)) (λ _. need_codec)))
+    head_text (HeadKeeps states least) (λ a r. refl) (λ h q. ((h.state, ((h.value, h.mask), (h.need, h.advance))), refl, refl, q))
 
 -- what an entry keeps that stands behind one of that state
-abbrev pub EntryKeeps : ℕ → ℕ → ParserEntry → Type 0
-EntryKeeps states least e = (entry_is_formed states e ≡ true) × (leb least e.state ≡ true) × NumbersFitEntry e
+abbrev pub EntryKeeps : List ParserState → ℕ → ParserEntry → Type 0
+EntryKeeps states least e = (entry_is_formed states e ≡ true) × (leb least e.state ≡ true)
 
-entry_back : (states least : ℕ) (e : ParserEntry) → EntryKeeps states least e
-    → ((Unit {0} × ((ltb e.state states && leb least e.state) ≡ true)) × ((((e.value < 2 ^ 32) × (e.mask < 2 ^ 32)) × (match_is_formed e ≡ true)) × ((Unit {0} × Unit {0}) × (leb e.advance e.need ≡ true))))
-    × ((next_is_formed states e.state e.next ≡ true) × (Unit {0} × AllAlong (λ (_ : Unit {0}) x. (extract_is_formed e.need x ≡ true) × NumberFitsExtract x) (λ _. tt) tt e.extracts))
+abbrev head_of : ParserEntry → EntryHead
+head_of e = record { state = e.state; value = e.value; mask = e.mask; need = e.need; advance = e.advance }
+
+abbrev entry_parts : ParserEntry → EntryHead × (Next × List Extract)
+entry_parts e = (head_of e, (e.next, e.extracts))
+
+entry_back : (states : List ParserState) (least : ℕ) (e : ParserEntry) → EntryKeeps states least e
+    → HeadKeeps states least (head_of e) × ((next_is_formed (length states) e.state e.next ≡ true) × (Unit {0} × (list_all (extract_is_formed e.need) e.extracts ≡ true)))
 entry_back states least e keeps =
-    let p = split6 (ltb e.state states) (match_is_formed e) (leb e.advance e.need) (next_is_formed states e.state e.next) (ltb (length e.extracts) 256) (list_all (extract_is_formed e.need) e.extracts) keeps.0 in
-    (((tt, and_from (ltb e.state states) (leb least e.state) p.0 keeps.1), (((keeps.2.value, keeps.2.mask), p.1), ((tt, tt), p.2))), (p.3, (tt, extracts_along e.need e.extracts p.5 keeps.2.extracts)))
+    let p : (ltb e.state (length states) ≡ true) × (ltb e.state 256 ≡ true) × (match_is_formed (lookups_of states e.state) e ≡ true) × (ltb e.need 256 ≡ true)
+    × (leb e.advance e.need ≡ true) × (next_is_formed (length states) e.state e.next ≡ true) × (ltb (length e.extracts) 256 ≡ true) × (list_all (extract_is_formed e.need) e.extracts ≡ true) =
+    split8 keeps.0 in
+    let m : (ltb e.mask (2 ^ 32) ≡ true) × (eqb (bit_and e.value e.mask) e.value ≡ true) × (eqb (e.mask % 2 ^ (8 * (4 - lookups_of states e.state))) 0 ≡ true) = split3 p.2 in
+    let mask : e.mask < 2 ^ 32 = ltb-true e.mask (2 ^ 32) m.0 in
+    let value : e.value < 2 ^ 32 = omega (arith, mask, eqb-true (bit_and e.value e.mask) e.value m.1, and_le_r e.value e.mask) in
+    ((and_from (ltb e.state (length states)) (leb least e.state) p.0 keeps.1, (((value, mask), and_from _ _ m.1 m.2), p.4)), (p.5, (tt, p.7)))
 
-pub entry_codec : (states least : ℕ) → Codec (entry_at states least) spelled_entry (EntryKeeps states least) (λ _. Unit {0})
-unfolding entry_at extracts_at
+entry_text : (a : EntryHead × (Next × List Extract)) → head_text a.0 ++ (spelled_next a.1.0 ++ ((length a.1.1 ∷ []) ++ flat_map spelled_extract a.1.1)) ≡ spelled_entry (entry_of_parts a)
+entry_text a = refl
+
+pub entry_codec : (states : List ParserState) (least : ℕ) → Codec (entry_at states least) spelled_entry (EntryKeeps states least) (λ _. Unit {0})
+unfolding entry_at
 entry_codec states least =
     codec_made entry_of_parts
-    (codec_behind (head_codec states least) (λ (h : EntryHead). codec_behind (next_codec states h.0) (λ _. codec_listed byte_codec (λ _. tt) tt (λ _. extract_codec h.1.1.0))))
-    spelled_entry (EntryKeeps states least)
-    (λ a r. entry_text a)
-    (λ e keeps. let a = (entry_parts e) in (a, refl, entry_text a, entry_back states least e keeps))
-  where
-    entry_parts : ParserEntry → EntryHead × (Next × List Extract)
-    entry_parts e = ((e.state, ((e.value, e.mask), (e.need, e.advance))), (e.next, e.extracts))
+    (codec_behind (head_codec states least) (λ (h : EntryHead). codec_behind (next_codec (length states) h.state) (λ _. codec_listed byte_codec (codec_list (extract_is_formed h.need) (extract_codec h.need)))))
+    spelled_entry (EntryKeeps states least) (λ a r. entry_text a) (λ e keeps. (entry_parts e, refl, entry_text (entry_parts e), entry_back states least e keeps))
 
-    entry_text : (a : EntryHead × (Next × List Extract))
-        → (a.0.0 ∷ ((four_bytes a.0.1.0.0 ++ four_bytes a.0.1.0.1) ++ (a.0.1.1.0 ∷ a.0.1.1.1 ∷ []))) ++ (spelled_next a.1.0 ++ ((length a.1.1 ∷ []) ++ flat_map spelled_extract a.1.1)) ≡ spelled_entry (entry_of_parts a)
-    entry_text a = refl
-
-entries_along : (states least : ℕ) (es : List ParserEntry) → list_all (entry_is_formed states) es ≡ true → never_falls_from least (map state_of es) ≡ true → AllByRecursion NumbersFitEntry es
-    → AllAlong (EntryKeeps states) state_of least es
-entries_along states least [] each order fit = tt
-entries_along states least (e ∷ es) each order fit =
+entries_along : (states : List ParserState) (least : ℕ) (es : List ParserEntry) → list_all (entry_is_formed states) es ≡ true → never_falls_from least (map state_of es) ≡ true → AllAlong (EntryKeeps states) state_of least es
+entries_along states least [] each order = tt
+entries_along states least (e ∷ es) each order =
     let p = and_parts (entry_is_formed states e) (list_all (entry_is_formed states) es) each in
     let q = and_parts (leb least e.state) (never_falls_from e.state (map state_of es)) order in
-    ((p.0, q.0, fit.0), entries_along states e.state es p.1 q.1 fit.1)
+    ((p.0, q.0), entries_along states e.state es p.1 q.1)
 
-abbrev pub ParserKeeps : ParserConfig → Type 0
-ParserKeeps p = (states_are_of_this_step p.states ≡ true) × (entries_are_formed p ≡ true) × AllByRecursion NumbersFitEntry p.entries
+-- a parser without tails is its states and entries
+parser_whole : (p : ParserConfig) → has_no_tail p ≡ true → parser_of_parts (p.states, p.entries) ≡ p
+parser_whole p none = ap (λ (tails : List TailOf). record p { tails = tails }) (sym (nil_from_length p.tails (eqb-true (length p.tails) 0 none)))
 
-pub parser_codec : Codec parser_at spelled_parser ParserKeeps (λ _. Unit {0})
-unfolding parser_at entries_at
+pub parser_codec : Codec parser_at spelled_parser (λ p. parser_is_formed p ≡ true) (λ _. Unit {0})
+unfolding parser_at
 parser_codec =
     codec_made parser_of_parts
-    (codec_behind states_codec (λ (states : List ParserState). codec_listed two_codec state_of 0 (entry_codec (length states))))
-    spelled_parser ParserKeeps
-    (λ a r. refl)
-    (λ p keeps.
-    let q = split3 (ltb (length p.entries) 65536) (list_all (entry_is_formed (length p.states)) p.entries) (never_falls_from 0 (map state_of p.entries)) keeps.1 in
-    ((p.states, p.entries), refl, refl, (keeps.0, (ltb-true (length p.entries) 65536 q.0, entries_along (length p.states) 0 p.entries q.1 q.2 keeps.2))))
+    (codec_behind states_codec (λ (states : List ParserState). codec_listed two_codec (codec_items state_of 0 (entry_codec states))))
+    spelled_parser (λ p. parser_is_formed p ≡ true) (λ a r. refl)
+    (λ p formed.
+    let q = split3 formed in
+    let r = split3 q.1 in
+    ((p.states, p.entries), parser_whole p q.2, refl, (q.0, (ltb-true (length p.entries) 65536 r.0, entries_along p.states 0 p.entries r.1 r.2))))

@@ -1,6 +1,10 @@
-pub mod Loops
-pub mod ReadLoops
-pub mod Codec
-pub mod Items
-pub mod Units
+mod Appending
+mod NumberLaws
+mod Codec
+mod ItemLoops
+mod Splits
+mod Items
+mod Units
+mod Stages
 pub mod Whole
+mod ReadingExamples

@@ -1,7 +1,7 @@
--- Reading an image from its front: what is read and the bytes behind it, or the first fault that is met.
-use Rattle.std.specs.Prelude.{◌≡◌, ℕ, zero, suc, ◌+◌, ◌*◌, List, [], ◌∷◌, length, take, drop, Bool, not, ◌&&◌, ◌==◌, nat_lt, nat_le, bit_and, if◌then◌else◌, Option, Some, None, Result, Ok, Err, codes, nat_eq}
-use Rattle.std.specs.Int.{Width, w16, w32, w64, byte_len, from_be_bytes}
+-- Reading an image from its front: the configuration that is read, or the first fault that is met.
+use Rattle.std.specs.Prelude.{◌≡◌, ℕ, ◌+◌, ◌*◌, ◌-◌, ◌^◌, ◌%◌, List, [], ◌∷◌, length, drop, Bool, true, false, not, ◌&&◌, ◌==◌, nat_lt, nat_le, bit_and, if◌then◌else◌, Option, Some, None, Result, Ok, Err, codes, nat_eq}
 use Rattle.std.specs.List.{starts_with}
+use Rattle.rmt_bits.specs.Words.{word_size}
 use Rattle.rmt_bits.specs.declared.lane.Lane.{Lane}
 use Rattle.rmt_config.specs.declared.config.Config.{Config}
 use Rattle.rmt_config.specs.declared.config.OutHeader.{OutHeader}
@@ -16,312 +16,356 @@ use Rattle.rmt_config.specs.declared.config.Stage.{Stage}
 use Rattle.rmt_config.specs.declared.config.SramRow.{SramRow}
 use Rattle.rmt_config.specs.declared.config.TcamRow.{TcamRow}
 use Rattle.rmt_config.specs.declared.config.Unit.{Unit as ChipUnit}
-use Rattle.rmt_config.specs.declared.config.Unit.TheVariants.{Slot}
+use Rattle.rmt_config.specs.declared.config.Unit.TheVariants.{Gate, Slot}
+use Rattle.rmt_config.specs.declared.config.UnitGuard.{UnitGuard}
+use Rattle.rmt_config.specs.declared.config.GateUnit.{GateUnit}
+use Rattle.rmt_config.specs.declared.config.GateTest.{GateTest}
 use Rattle.rmt_config.specs.declared.config.SlotUnit.{SlotUnit}
-use Rattle.rmt_config.specs.declared.config.Memory.TheVariants.{Without}
+use Rattle.rmt_config.specs.declared.config.CellNumber.{CellNumber}
+use Rattle.rmt_config.specs.declared.config.Memory.{Memory}
+use Rattle.rmt_config.specs.declared.config.Memory.TheVariants.{Without, Exact, Ternary}
 use Rattle.rmt_config.specs.declared.config.Vliw.{Vliw}
 use Rattle.rmt_config.specs.declared.config.Operation.{Operation}
 use Rattle.rmt_config.specs.declared.config.OpKind.{OpKind}
 use Rattle.rmt_config.specs.declared.config.OpKind.TheVariants as kind
 use Rattle.rmt_config.specs.declared.config.Source.{Source}
 use Rattle.rmt_config.specs.declared.config.Source.TheVariants.{Word, Held, Constant}
-use Rattle.rmt_config.specs.declared.limits.LimitHit.{LimitHit}
-use Rattle.rmt_config.specs.Form.{lane_is_formed, bits_of_lanes, memory_is_formed, Place, places_of, source_is_formed, kind_is_formed, is_formed}
+use Rattle.rmt_config.specs.LaneForm.{lane_is_formed, bits_of_lanes}
+use Rattle.rmt_config.specs.ParserForm.{lookups_of}
+use Rattle.rmt_config.specs.Shapes.{exact_shape, ternary_shape}
+use Rattle.rmt_config.specs.declared.form.shape.Shape.{Shape}
+use Rattle.rmt_config.specs.UnitForm.{memory_is_formed}
+use Rattle.rmt_config.specs.CodeForm.{places_of, kind_is_formed}
+use Rattle.rmt_config.specs.declared.form.code.Place.{Place}
+use Rattle.rmt_config.specs.Form.{Formed}
 use Rattle.rmt_config.specs.Limits.{limit_hit}
 use Rattle.rmt_image.specs.declared.fault.ImageFault.{ImageFault}
 use Rattle.rmt_image.specs.declared.fault.ImageFault.TheVariants as image
 use Rattle.rmt_image.specs.declared.fault.ReadFault.{ReadFault}
 use Rattle.rmt_image.specs.declared.fault.ReadFault.TheVariants.{Short, Form}
-use Rattle.rmt_image.specs.declared.fault.ReadError.{ReadError}
-use Rattle.rmt_image.specs.declared.fault.ReadError.TheVariants as errors
-
-infixl 10 ◌>>=◌
-abbrev pub ◌>>=◌ : {A B : Type 0} → Result A ReadFault → (A → Result B ReadFault) → Result B ReadFault
-(Ok x) >>= f = f x
-(Err e) >>= f = Err e
-
--- what a function returned, seen by view, is what reading gives, unless memory ran out
-abbrev pub Fails : {Y : Type 0} → ReadError → Result Y ReadFault → Type 0
-Fails errors.Memory read = Unit {0}
-Fails (errors.Fault f) read = read ≡ Err f
-
-abbrev pub Gives : {X Y : Type 0} → (X → Y) → Result X ReadError → Result Y ReadFault → Type 0
-Gives view (Ok x) read = read ≡ Ok (view x)
-Gives view (Err e) read = Fails e read
-
--- ---- ways to read
-
-abbrev pub Reader : Type 0 → Type 0
-Reader A = List ℕ → Result (A × List ℕ) ReadFault
-
--- one item, and another that may depend on it behind it
-abbrev pub behind : {A B : Type 0} → Reader A → (A → Reader B) → Reader (A × B)
-behind first second bytes = do
-  x ← first bytes
-  y ← second x.0 x.1
-  Ok ((x.0, y.0), y.1)
-
-infixr 35 ◌⊗◌
-abbrev pub ◌⊗◌ : {A B : Type 0} → Reader A → Reader B → Reader (A × B)
-first ⊗ second = behind first (λ _. second)
-
-abbrev pub made : {A B : Type 0} → (A → B) → Reader A → Reader B
-made f read bytes = do
-  x ← read bytes
-  Ok (f x.0, x.1)
-
--- an item that passes a test; else the form is broken
-abbrev pub kept : {A : Type 0} → (A → Bool) → Reader A → Reader A
-kept test read bytes = do
-  x ← read bytes
-  if test x.0 then Ok x else Err Form
-
--- n items, each read by what is kept of the one before it
-unfoldable pub times_from : {S A : Type 0} → (S → Reader A) → (A → S) → S → ℕ → Reader (List A)
-times_from read after s zero bytes = Ok ([], bytes)
-times_from read after s (suc n) bytes = do
-  x ← read s bytes
-  xs ← times_from read after (after x.0) n x.1
-  Ok (x.0 ∷ xs.0, xs.1)
-
-abbrev pub times : {A : Type 0} → Reader A → ℕ → Reader (List A)
-times read n = times_from (λ (_ : Unit {0}). read) (λ _. tt) tt n
-
--- an item for each of a list
-unfoldable pub each : {P A : Type 0} → (P → Reader A) → List P → Reader (List A)
-each read [] bytes = Ok ([], bytes)
-each read (place ∷ places) bytes = do
-  x ← read place bytes
-  xs ← each read places x.1
-  Ok (x.0 ∷ xs.0, xs.1)
-
--- a count, and as many items as it says
-abbrev pub listed : {A : Type 0} → Reader ℕ → (ℕ → Reader (List A)) → Reader (List A)
-listed count items bytes = do
-  n ← count bytes
-  items n.0 n.1
-
--- ---- numbers
-
-unfoldable pub byte_at : Reader ℕ
-byte_at [] = Err Short
-byte_at (byte ∷ rest) = Ok (byte, rest)
-
-abbrev pub number_at : Width → Reader ℕ
-number_at w bytes = if nat_lt (length bytes) (byte_len w) then Err Short else Ok (from_be_bytes w (take (byte_len w) bytes), drop (byte_len w) bytes)
-
-unfoldable pub two_at : Reader ℕ
-two_at bytes = number_at w16 bytes
-
-unfoldable pub four_at : Reader ℕ
-four_at bytes = number_at w32 bytes
-
--- five bytes
-unfoldable pub five_at : Reader ℕ
-five_at bytes = if nat_lt (length bytes) 5 then Err Short else Ok (from_be_bytes w64 (0 ∷ 0 ∷ 0 ∷ take 5 bytes), drop 5 bytes)
-
--- fourteen bytes, as six and eight
-unfoldable pub bits_at : Reader ℕ
-bits_at bytes =
-    if nat_lt (length bytes) 14 then Err Short
-    else Ok (from_be_bytes w64 (0 ∷ 0 ∷ take 6 bytes) * 18446744073709551616 + from_be_bytes w64 (take 8 (drop 6 bytes)), drop 14 bytes)
-
-abbrev pub only : ℕ → ℕ → Bool
-only n m = m == n
-
--- a number that can only be 0 so far
-unfoldable pub zero_at : Reader ℕ
-zero_at bytes = kept (only 0) byte_at bytes
-
-unfoldable pub flag_at : Reader Bool
-flag_at bytes = made (only 1) (kept (λ n. nat_le n 1) byte_at) bytes
+use Rattle.rmt_image.specs.declared.reading.config.Ports.{Ports}
+use Rattle.rmt_image.specs.declared.reading.memory.Blocks.{Blocks}
+use Rattle.rmt_image.specs.declared.reading.memory.Format.{Format}
+use Rattle.rmt_image.specs.declared.reading.parser.EntryHead.{EntryHead}
+use Rattle.rmt_image.specs.declared.reading.slot.Marks.{Marks}
+use Rattle.rmt_image.specs.Readers.{Reader, give, behind, ◌⊗◌, made, kept, where_, when, no_other, chosen, items_at, list_at, each, listed, byte_at, number_at, flag_at}
 
 -- ---- lanes and headers
 
--- a lane whose word is at least that one
+-- a word of the vector, from that one on
+unfoldable pub word_at : ℕ → Reader ℕ
+word_at least bytes = kept (λ word. nat_lt word 224 && nat_le least word) byte_at bytes
+
 abbrev pub lane_of_parts : ℕ × (ℕ × ℕ) → Lane
 lane_of_parts x = record { word = x.0; low = x.1.0; len = x.1.1 }
 
-unfoldable pub word_from_at : ℕ → Reader ℕ
-word_from_at least bytes = kept (λ word. nat_lt word 224 && nat_le least word) byte_at bytes
-
+-- a lane whose word is at least that one
 unfoldable pub lane_from_at : ℕ → Reader Lane
-lane_from_at least bytes = kept lane_is_formed (made lane_of_parts (word_from_at least ⊗ byte_at ⊗ byte_at)) bytes
+lane_from_at least bytes = kept lane_is_formed (made lane_of_parts (word_at least ⊗ byte_at ⊗ byte_at)) bytes
 
 unfoldable pub lane_at : Reader Lane
 lane_at bytes = lane_from_at 0 bytes
 
+abbrev pub has_bits : ℕ → Lane → Bool
+has_bits len lane = lane.len == len
+
+-- a lane of that many bits
 unfoldable pub lane_of_at : ℕ → Reader Lane
-lane_of_at len bytes = kept (λ lane. lane.len == len) lane_at bytes
+lane_of_at len bytes = kept (has_bits len) lane_at bytes
 
-unfoldable pub lanes_at : ℕ → Reader (List Lane)
-lanes_at n bytes = times lane_at n bytes
+abbrev pub lanes_at : ℕ → Reader (List Lane)
+lanes_at n = list_at lane_at n
 
--- a header of 1 to 64 bytes, whose lanes have its bits
 abbrev pub header_of_parts : Lane × (ℕ × List Lane) → OutHeader
 header_of_parts x = record { valid = x.0; bytes = x.1.0; pieces = x.1.1 }
 
-unfoldable pub bytes_at : Reader ℕ
-bytes_at bytes = kept (λ n. nat_le 1 n && nat_le n 64) byte_at bytes
+abbrev pub header_size_fits : ℕ → Bool
+header_size_fits n = nat_le 1 n && nat_le n 64
 
-unfoldable pub pieces_at : Reader (List Lane)
-pieces_at bytes = listed byte_at lanes_at bytes
+abbrev pub is_covered : OutHeader → Bool
+is_covered h = bits_of_lanes h.pieces == 8 * h.bytes
 
+-- a header of 1 to 64 bytes, whose lanes have its bits
 unfoldable pub header_at : Reader OutHeader
-header_at bytes = kept (λ (h : OutHeader). bits_of_lanes h.pieces == 8 * h.bytes) (made header_of_parts (lane_of_at 1 ⊗ bytes_at ⊗ pieces_at)) bytes
+header_at bytes = kept is_covered (made header_of_parts (lane_of_at 1 ⊗ kept header_size_fits byte_at ⊗ listed byte_at lanes_at)) bytes
+
+abbrev pub at_most : ℕ → ℕ → Bool
+at_most most n = nat_le n most
+
+abbrev pub at_least : ℕ → ℕ → Bool
+at_least least n = nat_le least n
+
+abbrev pub below : ℕ → ℕ → Bool
+below bound n = nat_lt n bound
 
 unfoldable pub headers_at : Reader (List OutHeader)
-headers_at bytes = listed (kept (λ n. nat_le n 64) byte_at) (times header_at) bytes
+headers_at bytes = listed (kept (at_most 64) byte_at) (list_at header_at) bytes
 
 -- ---- the parser
 
--- so far there is one state, and it has no lookups
-unfoldable pub state_at : Reader ParserState
-state_at bytes = made (λ _. record { lookups = [] }) zero_at bytes
+-- a lookup offset, below 128 and at least that number
+unfoldable pub offset_at : ℕ → Reader ℕ
+offset_at least bytes = kept (λ n. nat_lt n 128 && nat_le least n) byte_at bytes
 
-unfoldable pub one_at : Reader ℕ
-one_at bytes = kept (only 1) two_at bytes
+abbrev pub one_more : ℕ → ℕ
+one_more n = n + 1
+
+abbrev pub state_of_parts : List ℕ → ParserState
+state_of_parts lookups = record { lookups = lookups }
+
+unfoldable pub state_at : Reader ParserState
+state_at bytes = made state_of_parts (listed byte_at (items_at offset_at one_more 0)) bytes
 
 unfoldable pub states_at : Reader (List ParserState)
-states_at bytes = made (λ (x : ℕ × ParserState). x.1 ∷ []) (one_at ⊗ state_at) bytes
+states_at bytes = listed (kept (at_least 1) (number_at 2)) (list_at state_at) bytes
 
 -- the state of an entry, at least that of the one before
 unfoldable pub entry_state_at : ℕ → ℕ → Reader ℕ
 entry_state_at states least bytes = kept (λ s. nat_lt s states && nat_le least s) byte_at bytes
 
-unfoldable pub match_at : Reader (ℕ × ℕ)
-match_at bytes = kept (λ (x : ℕ × ℕ). (bit_and x.0 x.1 == x.0) && (x.1 == 0)) (four_at ⊗ four_at) bytes
+-- a value with no bit outside the mask, and a mask with none of an absent lookup byte
+abbrev pub match_fits : ℕ → ℕ × ℕ → Bool
+match_fits lookups x = (bit_and x.0 x.1 == x.0) && (x.1 % 2 ^ (8 * (4 - lookups)) == 0)
 
+unfoldable pub match_at : ℕ → Reader (ℕ × ℕ)
+match_at lookups bytes = kept (match_fits lookups) (number_at 4 ⊗ number_at 4) bytes
+
+abbrev pub need_fits : ℕ × ℕ → Bool
+need_fits x = nat_le x.1 x.0
+
+-- the bytes that an entry needs, and how far it goes
 unfoldable pub need_at : Reader (ℕ × ℕ)
-need_at bytes = kept (λ (x : ℕ × ℕ). nat_le x.1 x.0) (byte_at ⊗ byte_at) bytes
+need_at bytes = kept need_fits (byte_at ⊗ byte_at) bytes
 
 unfoldable pub later_state_at : ℕ → ℕ → Reader ℕ
 later_state_at states state bytes = kept (λ s. nat_lt s states && nat_lt state s) byte_at bytes
 
-abbrev pub next_of : ℕ → ℕ → ℕ → Reader Next
-next_of states state choice rest =
-    if choice == 0 then Ok (next.Accept, rest)
-    else (if choice == 1 then Ok (next.Reject, rest)
-    else (if choice == 2 then made next.State (later_state_at states state) rest else Err Form))
+abbrev pub accepts : Unit {0} → Next
+accepts x = next.Accept
+
+abbrev pub rejects : Unit {0} → Next
+rejects x = next.Reject
 
 unfoldable pub next_at : ℕ → ℕ → Reader Next
-next_at states state bytes = do
-  choice ← byte_at bytes
-  next_of states state choice.0 choice.1
+next_at states state bytes =
+    chosen (when 0 (made accepts (give tt)) (when 1 (made rejects (give tt)) (when 2 (made next.State (later_state_at states state)) no_other))) bytes
 
-unfoldable pub bits_extract_at : ℕ → Reader Extract
-bits_extract_at need bytes =
-    made (λ (x : ℕ × Lane). Bits x.0 x.1) (kept (λ (x : ℕ × Lane). nat_le (x.0 + x.1.len) (8 * need)) (two_at ⊗ lane_at)) bytes
+abbrev pub bits_of_parts : ℕ × Lane → Extract
+bits_of_parts x = Bits x.0 x.1
 
-abbrev pub extract_of : ℕ → ℕ → Reader Extract
-extract_of need choice rest =
-    if choice == 0 then bits_extract_at need rest else (if choice == 1 then made One (lane_of_at 1) rest else Err Form)
+abbrev pub lies_in : ℕ → ℕ × Lane → Bool
+lies_in need x = nat_le (x.0 + x.1.len) (8 * need)
+
+-- bits of a packet, within the bytes that the entry needs
+unfoldable pub bits_at : ℕ → Reader (ℕ × Lane)
+bits_at need bytes = kept (lies_in need) (number_at 2 ⊗ lane_at) bytes
 
 unfoldable pub extract_at : ℕ → Reader Extract
-extract_at need bytes = do
-  choice ← byte_at bytes
-  extract_of need choice.0 choice.1
+extract_at need bytes = chosen (when 0 (made bits_of_parts (bits_at need)) (when 1 (made One (lane_of_at 1)) no_other)) bytes
 
-unfoldable pub extracts_at : ℕ → ℕ → Reader (List Extract)
-extracts_at need n bytes = times (extract_at need) n bytes
+abbrev pub head_of_parts : ℕ × ((ℕ × ℕ) × (ℕ × ℕ)) → EntryHead
+head_of_parts x = record { state = x.0; value = x.1.0.0; mask = x.1.0.1; need = x.1.1.0; advance = x.1.1.1 }
 
-abbrev pub EntryHead : Type 0
-EntryHead = ℕ × ((ℕ × ℕ) × (ℕ × ℕ))
-
-unfoldable pub entry_head_at : ℕ → ℕ → Reader EntryHead
-entry_head_at states least bytes = (entry_state_at states least ⊗ match_at ⊗ need_at) bytes
+-- when an entry is taken, and how far it goes
+unfoldable pub entry_head_at : List ParserState → ℕ → Reader EntryHead
+entry_head_at states least bytes =
+    made head_of_parts (behind (entry_state_at (length states) least) (λ state. match_at (lookups_of states state) ⊗ need_at)) bytes
 
 abbrev pub entry_of_parts : EntryHead × (Next × List Extract) → ParserEntry
 entry_of_parts x = record {
-  state = x.0.0;
-  value = x.0.1.0.0;
-  mask = x.0.1.0.1;
-  need = x.0.1.1.0;
-  advance = x.0.1.1.1;
+  state = x.0.state;
+  value = x.0.value;
+  mask = x.0.mask;
+  need = x.0.need;
+  advance = x.0.advance;
   next = x.1.0;
   extracts = x.1.1;
 }
 
-unfoldable pub entry_at : ℕ → ℕ → Reader ParserEntry
+unfoldable pub entry_at : List ParserState → ℕ → Reader ParserEntry
 entry_at states least bytes =
-    made entry_of_parts (behind (entry_head_at states least) (λ (head : EntryHead). next_at states head.0 ⊗ listed byte_at (extracts_at head.1.1.0))) bytes
+    made entry_of_parts
+    (behind (entry_head_at states least) (λ (head : EntryHead). next_at (length states) head.state ⊗ listed byte_at (list_at (extract_at head.need)))) bytes
 
 abbrev pub state_of : ParserEntry → ℕ
 state_of e = e.state
 
-unfoldable pub entries_at : ℕ → ℕ → Reader (List ParserEntry)
-entries_at states n bytes = times_from (entry_at states) state_of 0 n bytes
-
 abbrev pub parser_of_parts : List ParserState × List ParserEntry → ParserConfig
-parser_of_parts x = record { states = x.0; entries = x.1 }
+parser_of_parts x = record { states = x.0; entries = x.1; tails = [] }
 
 unfoldable pub parser_at : Reader ParserConfig
-parser_at bytes = made parser_of_parts (behind states_at (λ states. listed two_at (entries_at (length states)))) bytes
+parser_at bytes = made parser_of_parts (behind states_at (λ states. listed (number_at 2) (items_at (entry_at states) state_of 0))) bytes
 
--- ---- units: so far slots, with no guard and no memory
+-- ---- gates
 
-unfoldable pub node_at : Reader ℕ
-node_at bytes = made (λ (x : ℕ × ℕ). x.0) (byte_at ⊗ zero_at) bytes
+abbrev pub no_guard : Unit {0} → Option UnitGuard
+no_guard x = None
 
-unfoldable pub actions_at : Reader ℕ
-actions_at bytes = kept (λ n. nat_le n 14) byte_at bytes
+abbrev pub guard_of_parts : ℕ × ℕ → Option UnitGuard
+guard_of_parts x = Some (record { parent = x.0; mask = x.1 })
 
-unfoldable pub marks_at : Reader (Bool × (ℕ × Bool))
-marks_at bytes = (flag_at ⊗ actions_at ⊗ flag_at) bytes
+abbrev pub mask_is_even : ℕ → Bool
+mask_is_even mask = mask % 2 == 0
 
-unfoldable pub keys_at : Reader (List Lane)
-keys_at bytes = listed two_at lanes_at bytes
+unfoldable pub guard_at : Reader (Option UnitGuard)
+guard_at bytes = chosen (when 0 (made no_guard (give tt)) (when 1 (made guard_of_parts (byte_at ⊗ kept mask_is_even (number_at 2))) no_other)) bytes
 
-unfoldable pub data_at : Reader (ℕ × List Lane)
-data_at bytes = (two_at ⊗ keys_at) bytes
+abbrev pub test_of_parts : Lane × (ℕ × ℕ) → GateTest
+test_of_parts x = record { lane = x.0; value = x.1.0; mask = x.1.1 }
 
-abbrev pub slot_of_parts : ℕ × ((Bool × (ℕ × Bool)) × ((ℕ × List Lane) × ℕ)) → SlotUnit
-slot_of_parts x = record {
-  node = x.0;
-  guard = None;
-  counted = x.1.0.0;
-  actions = x.1.0.1.0;
-  last = x.1.0.1.1;
-  held = x.1.1.0.0;
-  keys = x.1.1.0.1;
-  memory = Without;
-  numbers = [];
+abbrev pub test_fits : GateTest → Bool
+test_fits t = nat_lt t.mask (2 ^ t.lane.len) && (bit_and t.value t.mask == t.value)
+
+unfoldable pub test_at : Reader GateTest
+test_at bytes = kept test_fits (made test_of_parts (lane_at ⊗ number_at 4 ⊗ number_at 4)) bytes
+
+abbrev pub gate_of_parts : ℕ × (Option UnitGuard × List GateTest) → GateUnit
+gate_of_parts x = record { node = x.0; guard = x.1.0; tests = x.1.1 }
+
+unfoldable pub gate_at : Reader GateUnit
+gate_at bytes = made gate_of_parts (byte_at ⊗ guard_at ⊗ listed (kept (at_least 1) byte_at) (list_at test_at)) bytes
+
+-- ---- slots
+
+abbrev pub marks_of_parts : Bool × (ℕ × Bool) → Marks
+marks_of_parts x = record { counted = x.0; actions = x.1.0; last = x.1.1 }
+
+unfoldable pub marks_at : Reader Marks
+marks_at bytes = made marks_of_parts (flag_at ⊗ kept (at_most 14) byte_at ⊗ flag_at) bytes
+
+-- what stands before the memory of a slot
+abbrev pub SlotHead : Type 0
+SlotHead = (ℕ × Option UnitGuard) × (Marks × (ℕ × List Lane))
+
+-- a slot with its memory and its numbers
+abbrev pub slot_with : SlotHead → Memory → List CellNumber → SlotUnit
+slot_with x memory numbers = record {
+  node = x.0.0;
+  guard = x.0.1;
+  counted = x.1.0.counted;
+  actions = x.1.0.actions;
+  last = x.1.0.last;
+  held = x.1.1.0;
+  keys = x.1.1.1;
+  memory = memory;
+  numbers = numbers;
 }
 
-unfoldable pub slot_head_at : Reader SlotUnit
-slot_head_at bytes =
-    kept (λ (s : SlotUnit). memory_is_formed s s.memory) (made slot_of_parts (node_at ⊗ marks_at ⊗ data_at ⊗ zero_at)) bytes
+abbrev pub slot_of_head : SlotHead → SlotUnit
+slot_of_head x = slot_with x Without []
 
-unfoldable pub no_numbers_at : Reader ℕ
-no_numbers_at bytes = kept (only 0) four_at bytes
+-- a slot that has no memory yet, nor numbers
+unfoldable pub slot_head_at : Reader SlotUnit
+slot_head_at bytes = made slot_of_head ((byte_at ⊗ guard_at) ⊗ marks_at ⊗ number_at 2 ⊗ listed (number_at 2) lanes_at) bytes
+
+-- a block below that number
+unfoldable pub block_at : ℕ → Reader ℕ
+block_at most bytes = kept (below most) byte_at bytes
+
+abbrev pub blocks_of_parts : List ℕ × (List ℕ × List ℕ) → Blocks
+blocks_of_parts x = record { keys = x.0; records = x.1.0; counters = x.1.1 }
+
+-- blocks of the keys below that number, blocks of the records and of the counters
+unfoldable pub blocks_at : ℕ → Shape → Reader Blocks
+blocks_at most shape bytes =
+    made blocks_of_parts (list_at (block_at most) shape.keys ⊗ list_at (block_at 106) shape.records ⊗ list_at (block_at 106) shape.counters) bytes
+
+-- what a slot with memory has: a key of at most 640 bits, and an action
+abbrev pub takes_memory : SlotUnit → Bool
+takes_memory s = nat_le 1 (length s.keys) && nat_le (bits_of_lanes s.keys) 640 && nat_le 1 s.actions
+
+abbrev pub quanta_fit : ℕ → Bool
+quanta_fit quanta = nat_le 1 quanta && nat_le quanta 106
+
+-- cells of a head and a key of that many bits fit a row of units of that width
+abbrev pub cells_fit : ℕ → ℕ → ℕ → Bool
+cells_fit bits width per = nat_le 1 per && nat_le (per * (bits + 8)) (112 * width)
+
+abbrev pub format_of_parts : ℕ × (ℕ × (ℕ × ℕ)) → Format
+format_of_parts x = record { width = x.0; per = x.1.0; quanta = x.1.1.0; first_way = x.1.1.1 }
+
+-- the width of a unit, the cells of a row, the quanta, and the first way
+unfoldable pub format_at : SlotUnit → Reader Format
+format_at s bytes =
+    made format_of_parts
+    (behind (kept (at_least 1) byte_at) (λ width. kept (cells_fit (bits_of_lanes s.keys) width) (number_at 2) ⊗ kept quanta_fit byte_at ⊗ byte_at)) bytes
+
+abbrev pub format_shape : SlotUnit → Format → Shape
+format_shape s f = exact_shape f.width f.per f.quanta s.held s.counted
+
+unfoldable pub exact_at : SlotUnit → Reader (Format × Blocks)
+exact_at s bytes = where_ (takes_memory s) (behind (format_at s) (λ f. blocks_at 106 (format_shape s f))) bytes
+
+unfoldable pub ternary_at : SlotUnit → Reader (ℕ × Blocks)
+ternary_at s bytes =
+    where_ (takes_memory s) (behind (kept quanta_fit byte_at) (λ quanta. blocks_at 16 (ternary_shape (bits_of_lanes s.keys) quanta s.held s.counted))) bytes
+
+abbrev pub without : Unit {0} → Memory
+without x = Without
+
+abbrev pub exact_of_parts : Format × Blocks → Memory
+exact_of_parts x = Exact x.0.width x.0.per x.0.quanta x.0.first_way x.1.keys x.1.records x.1.counters
+
+abbrev pub ternary_of_parts : ℕ × Blocks → Memory
+ternary_of_parts x = Ternary x.0 x.1.keys x.1.records x.1.counters
+
+-- no memory, where the slot has nothing that needs one; or that of an exact or a ternary part
+unfoldable pub memory_at : SlotUnit → Reader Memory
+memory_at s bytes =
+    chosen (when 0 (made without (where_ (memory_is_formed s Without) (give tt)))
+    (when 1 (made exact_of_parts (exact_at s)) (when 2 (made ternary_of_parts (ternary_at s)) no_other))) bytes
+
+-- a slot without memory has no numbers
+abbrev pub may_have_numbers : Memory → ℕ → Bool
+may_have_numbers Without n = n == 0
+may_have_numbers (Exact width per quanta first_way keys records counters) n = true
+may_have_numbers (Ternary quanta keys records counters) n = true
+
+abbrev pub number_of_parts : ℕ × ℕ → CellNumber
+number_of_parts x = record { cell = x.0; number = x.1 }
+
+unfoldable pub cell_number_at : Reader CellNumber
+cell_number_at bytes = made number_of_parts (number_at 4 ⊗ number_at 4) bytes
+
+unfoldable pub numbers_at : Memory → Reader (List CellNumber)
+numbers_at memory bytes = listed (kept (may_have_numbers memory) (number_at 4)) (list_at cell_number_at) bytes
+
+abbrev pub slot_of_parts : SlotUnit × (Memory × List CellNumber) → SlotUnit
+slot_of_parts x = record {
+  node = x.0.node;
+  guard = x.0.guard;
+  counted = x.0.counted;
+  actions = x.0.actions;
+  last = x.0.last;
+  held = x.0.held;
+  keys = x.0.keys;
+  memory = x.1.0;
+  numbers = x.1.1;
+}
 
 unfoldable pub slot_at : Reader SlotUnit
-slot_at bytes = made (λ (x : SlotUnit × ℕ). x.0) (slot_head_at ⊗ no_numbers_at) bytes
-
-unfoldable pub slot_choice_at : Reader ℕ
-slot_choice_at bytes = kept (only 1) byte_at bytes
+slot_at bytes = made slot_of_parts (behind slot_head_at (λ s. behind (memory_at s) numbers_at)) bytes
 
 unfoldable pub unit_at : Reader ChipUnit
-unit_at bytes = made (λ (x : ℕ × SlotUnit). Slot x.1) (slot_choice_at ⊗ slot_at) bytes
-
-unfoldable pub units_at : ℕ → Reader (List ChipUnit)
-units_at n bytes = times unit_at n bytes
+unit_at bytes = chosen (when 0 (made Gate gate_at) (when 1 (made Slot slot_at) no_other)) bytes
 
 -- ---- instructions
 
--- a default instruction has no data source
-unfoldable pub source_choice_at : Place → Reader ℕ
-source_choice_at place bytes = kept (λ n. nat_le n 2 && not (place.1 && (n == 1))) byte_at bytes
+abbrev pub word_of_parts : ℕ × ℕ → Source
+word_of_parts x = Word x.0 x.1
 
-abbrev pub source_of : ℕ → Reader Source
-source_of choice rest =
-    if choice == 0 then made (λ (x : ℕ × ℕ). Word x.0 x.1) (word_from_at 0 ⊗ byte_at) rest
-    else (if choice == 1 then made Held two_at rest else made Constant four_at rest)
+abbrev pub fits_word : ℕ → ℕ → ℕ → Bool
+fits_word len word low = nat_le (low + len) (word_size word)
 
+abbrev pub fits_held : Place → ℕ → ℕ → Bool
+fits_held place len low = nat_le (low + len) place.held
+
+-- a source of that many bits; a default has no data
 unfoldable pub source_at : Place → ℕ → Reader Source
-source_at place len bytes = do
-  choice ← source_choice_at place bytes
-  kept (source_is_formed place len) (source_of choice.0) choice.1
+source_at place len bytes =
+    chosen (when 0 (made word_of_parts (behind (word_at 0) (λ word. kept (fits_word len word) byte_at)))
+    (when 1 (made Held (where_ (not place.is_default) (kept (fits_held place len) (number_at 2))))
+    (when 2 (made Constant (kept (below (2 ^ len)) (number_at 4))) no_other))) bytes
 
 abbrev pub kind_of : ℕ → OpKind
 kind_of n =
@@ -329,7 +373,7 @@ kind_of n =
     else (if n == 1 then kind.Add else (if n == 2 then kind.Sub else (if n == 3 then kind.And else (if n == 4 then kind.Or else kind.Xor))))
 
 unfoldable pub kind_at : Reader OpKind
-kind_at bytes = made kind_of (kept (λ n. nat_le n 5) byte_at) bytes
+kind_at bytes = made kind_of (kept (at_most 5) byte_at) bytes
 
 abbrev pub operation_of_parts : Lane × (OpKind × (Source × Source)) → Operation
 operation_of_parts x = record {
@@ -341,65 +385,53 @@ operation_of_parts x = record {
   right = x.1.1.1;
 }
 
+abbrev pub kind_fits : Operation → Bool
+kind_fits op = kind_is_formed op.kind op.right
+
 -- an operation on a word that is at least that one
 unfoldable pub operation_at : Place → ℕ → Reader Operation
 operation_at place least bytes =
-    kept (λ (op : Operation). kind_is_formed op.kind op.right)
+    kept kind_fits
     (made operation_of_parts (behind (lane_from_at least) (λ (lane : Lane). kind_at ⊗ source_at place lane.len ⊗ source_at place lane.len))) bytes
 
 abbrev pub next_word : Operation → ℕ
 next_word op = op.word + 1
 
-unfoldable pub operations_at : Place → ℕ → Reader (List Operation)
-operations_at place n bytes = times_from (operation_at place) next_word 0 n bytes
+abbrev pub vliw_of_parts : List Operation → Vliw
+vliw_of_parts ops = record { ops = ops }
 
 unfoldable pub vliw_at : Place → Reader Vliw
-vliw_at place bytes = made (λ (ops : List Operation). record { ops = ops }) (listed byte_at (operations_at place)) bytes
-
-unfoldable pub code_at : List Place → Reader (List Vliw)
-code_at places bytes = each vliw_at places bytes
+vliw_at place bytes = made vliw_of_parts (listed byte_at (items_at (operation_at place) next_word 0)) bytes
 
 -- ---- rows and stages
 
-unfoldable pub sram_block_at : Reader ℕ
-sram_block_at bytes = kept (λ n. nat_lt n 106) byte_at bytes
-
-unfoldable pub tcam_block_at : Reader ℕ
-tcam_block_at bytes = kept (λ n. nat_lt n 16) byte_at bytes
+abbrev pub srow_of_parts : ℕ × (ℕ × ℕ) → SramRow
+srow_of_parts x = record { block = x.0; row = x.1.0; bits = x.1.1 }
 
 unfoldable pub srow_at : Reader SramRow
-srow_at bytes =
-    made (λ (x : ℕ × (ℕ × ℕ)). record { block = x.0; row = x.1.0; bits = x.1.1 }) (sram_block_at ⊗ two_at ⊗ bits_at) bytes
+srow_at bytes = made srow_of_parts (block_at 106 ⊗ number_at 2 ⊗ number_at 14) bytes
+
+abbrev pub trow_of_parts : ℕ × (ℕ × (ℕ × ℕ)) → TcamRow
+trow_of_parts x = record { block = x.0; row = x.1.0; value = x.1.1.0; mask = x.1.1.1 }
 
 unfoldable pub trow_at : Reader TcamRow
-trow_at bytes =
-    made (λ (x : ℕ × (ℕ × (ℕ × ℕ))). record { block = x.0; row = x.1.0; value = x.1.1.0; mask = x.1.1.1 })
-    (tcam_block_at ⊗ two_at ⊗ five_at ⊗ five_at) bytes
-
-unfoldable pub srows_at : ℕ → Reader (List SramRow)
-srows_at n bytes = times srow_at n bytes
-
-unfoldable pub trows_at : ℕ → Reader (List TcamRow)
-trows_at n bytes = times trow_at n bytes
+trow_at bytes = made trow_of_parts (block_at 16 ⊗ number_at 2 ⊗ number_at 5 ⊗ number_at 5) bytes
 
 -- the first start is 0, and a later one is at least the least
 abbrev pub start_fits : ℕ → ℕ → Bool
 start_fits least start = if least == 0 then start == 0 else nat_le least start
 
-unfoldable pub start_at : ℕ → Reader ℕ
-start_at least bytes = kept (start_fits least) two_at bytes
-
 abbrev pub StageHead : Type 0
 StageHead = ℕ × List ChipUnit
 
 unfoldable pub stage_head_at : ℕ → Reader StageHead
-stage_head_at least bytes = (start_at least ⊗ listed byte_at units_at) bytes
+stage_head_at least bytes = (kept (start_fits least) (number_at 2) ⊗ listed byte_at (list_at unit_at)) bytes
 
 abbrev pub StageTail : Type 0
 StageTail = List Vliw × (List SramRow × List TcamRow)
 
 unfoldable pub stage_tail_at : List Place → Reader StageTail
-stage_tail_at places bytes = (code_at places ⊗ listed four_at srows_at ⊗ listed four_at trows_at) bytes
+stage_tail_at places bytes = (each vliw_at places ⊗ listed (number_at 4) (list_at srow_at) ⊗ listed (number_at 4) (list_at trow_at)) bytes
 
 abbrev pub stage_of_parts : StageHead × StageTail → Stage
 stage_of_parts x = record { start = x.0.0; units = x.0.1; code = x.1.0; srows = x.1.1.0; trows = x.1.1.1 }
@@ -411,47 +443,57 @@ stage_at least bytes =
 abbrev pub next_start : Stage → ℕ
 next_start s = s.start + 1
 
-unfoldable pub stages_at : ℕ → Reader (List Stage)
-stages_at n bytes = times_from stage_at next_start 0 n bytes
-
 -- ---- the whole
 
-abbrev pub Ports : Type 0
-Ports = ℕ × (Lane × (Lane × Lane))
+abbrev pub ports_of_parts : ℕ × (Lane × (Lane × Lane)) → Ports
+ports_of_parts x = record { seed = x.0; in_port = x.1.0; out_port = x.1.1.0; drop = x.1.1.1 }
 
 unfoldable pub ports_at : Reader Ports
-ports_at bytes = (byte_at ⊗ lane_of_at 9 ⊗ lane_of_at 9 ⊗ lane_of_at 1) bytes
+ports_at bytes = made ports_of_parts (byte_at ⊗ lane_of_at 9 ⊗ lane_of_at 9 ⊗ lane_of_at 1) bytes
 
 abbrev pub config_of_parts : Ports × (List OutHeader × (ParserConfig × List Stage)) → Config
 config_of_parts x = record {
-  seed = x.0.0;
-  in_port = x.0.1.0;
-  out_port = x.0.1.1.0;
-  drop = x.0.1.1.1;
+  seed = x.0.seed;
+  in_port = x.0.in_port;
+  out_port = x.0.out_port;
+  drop = x.0.drop;
   headers = x.1.0;
   parser = x.1.1.0;
   stages = x.1.1.1;
 }
 
 unfoldable pub config_at : Reader Config
-config_at bytes = made config_of_parts (ports_at ⊗ headers_at ⊗ parser_at ⊗ listed byte_at stages_at) bytes
+config_at bytes = made config_of_parts (ports_at ⊗ headers_at ⊗ parser_at ⊗ listed byte_at (items_at stage_at next_start 0)) bytes
 
--- the rules on the whole, and then the limits
-abbrev pub within : Config → Option LimitHit → Result Config ImageFault
-within c None = Ok c
-within c (Some hit) = Err (image.Limit hit)
+-- what the rules on the whole and then the limits answer
+abbrev pub WholeAnswers : Config → Result Config ImageFault → Type 0
+WholeAnswers c (Ok d) = (d ≡ c) × Formed c × (limit_hit c ≡ None)
+WholeAnswers c (Err image.Form) = Formed c → ⊥
+WholeAnswers c (Err (image.Limit hit)) = Formed c × (limit_hit c ≡ Some hit)
+WholeAnswers c (Err image.NoMemory) = ⊥
+WholeAnswers c (Err image.Magic) = ⊥
+WholeAnswers c (Err image.Version) = ⊥
+WholeAnswers c (Err image.Short) = ⊥
+WholeAnswers c (Err image.Trailing) = ⊥
 
-abbrev pub whole : Config → Result Config ImageFault
-whole c = if is_formed c then within c (limit_hit c) else Err image.Form
+-- nothing may stand behind the configuration
+abbrev pub EndAnswers : Config × List ℕ → Result Config ImageFault → Type 0
+EndAnswers (c, []) answer = WholeAnswers c answer
+EndAnswers (c, byte ∷ rest) answer = answer ≡ Err image.Trailing
 
-abbrev pub ended : Result (Config × List ℕ) ReadFault → Result Config ImageFault
-ended (Err Short) = Err image.Short
-ended (Err Form) = Err image.Form
-ended (Ok x) = if nat_lt 0 (length x.1) then Err image.Trailing else whole x.0
+abbrev pub ConfigAnswers : Result (Config × List ℕ) ReadFault → Result Config ImageFault → Type 0
+ConfigAnswers (Err Short) answer = answer ≡ Err image.Short
+ConfigAnswers (Err Form) answer = answer ≡ Err image.Form
+ConfigAnswers (Ok x) answer = EndAnswers x answer
+
+abbrev pub VersionAnswers : Bool → List ℕ → Result Config ImageFault → Type 0
+VersionAnswers true bytes answer = ConfigAnswers (config_at bytes) answer
+VersionAnswers false bytes answer = answer ≡ Err image.Version
+
+abbrev pub MagicAnswers : Bool → List ℕ → Result Config ImageFault → Type 0
+MagicAnswers true bytes answer = VersionAnswers (starts_with nat_eq bytes (0 ∷ 1 ∷ [])) (drop 2 bytes) answer
+MagicAnswers false bytes answer = answer ≡ Err image.Magic
 
 -- what an image is read as: the four letters, the version 1, the configuration and nothing behind it
-unfoldable pub image_of : List ℕ → Result Config ImageFault
-image_of bytes =
-    if starts_with nat_eq bytes (codes "RMTI")
-    then (if starts_with nat_eq (drop 4 bytes) (0 ∷ 1 ∷ []) then ended (config_at (drop 6 bytes)) else Err image.Version)
-    else Err image.Magic
+abbrev pub Answers : List ℕ → Result Config ImageFault → Type 0
+Answers bytes answer = MagicAnswers (starts_with nat_eq bytes (codes "RMTI")) (drop 4 bytes) answer

@@ -6,5 +6,5 @@ mod reading;
 mod writing;
 
 pub use fault::ImageFault;
-pub use reading::{read_image, spells_one};
+pub use reading::{answers_one, read_image, spells_one};
 pub use writing::write_image;

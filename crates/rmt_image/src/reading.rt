@@ -1,16 +1,19 @@
-ghost use Rattle.std.specs.Prelude.{◌≡◌, ◌≢◌, IfOk, Ok, Err};
-ghost use Rattle.rmt_config.specs.Form.{Formed};
-ghost use Rattle.rmt_config.specs.Limits.{IsWithinLimits};
-ghost use Rattle.rmt_config.specs.Spelling.{spelled, NumbersFit};
+//! Images are read from their front, once, in time and memory linear in their bytes.
+
+ghost use Rattle.std.specs.Prelude.{◌≡◌, ◌≢◌, ℕ, List, Result, IfOk, Ok, Err};
+ghost use Rattle.rmt_config.specs.Spells.{Spells};
 ghost use Rattle.rmt_config.specs.declared.config.Config.{Config};
-ghost use Rattle.rmt_image.specs.Reading.{whole, ended, image_of, config_at};
+ghost use Rattle.rmt_image.specs.declared.fault.ImageFault.{ImageFault};
+ghost use Rattle.rmt_image.specs.Reading.{WholeAnswers, ConfigAnswers, config_at, Answers};
 
 mod config;
+mod gate;
 mod header;
+mod items;
 mod lane;
+mod memory;
 mod number;
 mod parser;
-mod row;
 mod slot;
 mod stage;
 mod vliw;
@@ -22,7 +25,7 @@ use std::alloc::Global;
 
 /// The rules on the whole configuration, and then the limits.
 fn looked_at(alloc: Global, config: Config) -> Result<Config, ImageFault>
-    ensures { result ≢ Err ImageFault.NoMemory → result ≡ whole config }
+    ensures { result ≢ Err ImageFault.NoMemory → WholeAnswers config result }
 {
     match config.formed(alloc) {
         Err(_) => Err(ImageFault::NoMemory),
@@ -35,7 +38,7 @@ fn looked_at(alloc: Global, config: Config) -> Result<Config, ImageFault>
 }
 
 fn behind_version(alloc: Global, bytes: &[u8]) -> Result<Config, ImageFault>
-    ensures { result ≢ Err ImageFault.NoMemory → result ≡ ended (config_at bytes.now) }
+    ensures { result ≢ Err ImageFault.NoMemory → ConfigAnswers (config_at bytes.now) result }
 {
     match config_of(alloc, bytes) {
         Err(ReadError::Memory) => Err(ImageFault::NoMemory),
@@ -50,9 +53,8 @@ fn behind_version(alloc: Global, bytes: &[u8]) -> Result<Config, ImageFault>
     }
 }
 
-#[tactic(auto, unfolding(crate::specs::Reading::image_of))]
 fn image(alloc: Global, bytes: &[u8]) -> Result<Config, ImageFault>
-    ensures { result ≢ Err ImageFault.NoMemory → result ≡ image_of bytes.now }
+    ensures { result ≢ Err ImageFault.NoMemory → Answers bytes.now result }
 {
     if !bytes.starts_with(b"RMTI") {
         return Err(ImageFault::Magic);
@@ -72,20 +74,23 @@ fn image(alloc: Global, bytes: &[u8]) -> Result<Config, ImageFault>
 /// the whole configuration, again `Form`, and at last the limits of the chip. The first of these is told.
 pub fn read_image(alloc: Global, bytes: &[u8]) -> Result<Config, ImageFault>
     // What is read is spelled so, keeps the rules of form and is within the limits.
-    ensures found { IfOk result (λ c. (bytes.now ≡ spelled c) × Formed c × IsWithinLimits c) }
+    ensures found { IfOk result (λ c. Spells bytes.now c) }
 
     // What is spelled so is read, unless memory runs out.
-    ensures only { (c : Config) → NumbersFit c → Formed c → IsWithinLimits c → bytes.now ≡ spelled c →
-        result ≢ Err ImageFault.NoMemory → result ≡ Ok c }
+    ensures only { (c : Config) → Spells bytes.now c → result ≢ Err ImageFault.NoMemory → result ≡ Ok c }
 
     // Which fault it is: the first that is met from the front.
-    ensures exact { result ≢ Err ImageFault.NoMemory → result ≡ image_of bytes.now }
+    ensures exact { result ≢ Err ImageFault.NoMemory → Answers bytes.now result }
 {
     image(alloc, bytes)
 }
 
 /// No image spells two configurations.
 pub fn spells_one()
-    ensures { (c d : Config) → NumbersFit c → Formed c → IsWithinLimits c → NumbersFit d → Formed d → IsWithinLimits d →
-        spelled c ≡ spelled d → c ≡ d }
+    ensures { (bytes : List ℕ) (c d : Config) → Spells bytes c → Spells bytes d → c ≡ d }
+{}
+
+/// Each image has one answer, but for want of memory: the configuration or the first fault.
+pub fn answers_one()
+    ensures { (bytes : List ℕ) (a b : Result Config ImageFault) → Answers bytes a → Answers bytes b → a ≡ b }
 {}

@@ -2,7 +2,7 @@
 
 ghost use Rattle.std.specs.Prelude.{◌<◌, length};
 
-mod programs;
+pub(crate) mod programs;
 mod shown;
 
 use crate::check::programs::{ARMS, ARMS_SHOWN, REALISTIC, REALISTIC_SHOWN, TWINS, TWINS_SHOWN};

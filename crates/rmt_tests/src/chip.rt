@@ -184,6 +184,18 @@ fn distances(rt: HostRuntime) -> Result<(), Fail> {
     Ok(())
 }
 
+/// A packet of two bytes through one stage of these units, and the bytes that it then has.
+fn one_stage(
+    rt: &(impl Abort + AllocGlobal),
+    units: &[&[Operation]],
+    bytes: &[u8],
+) -> Result<(), Fail> {
+    let stage = Plan { start: 0, units };
+    let mut chip = chip(rt, &[A, B], &[A, B], &[stage])?;
+    let rows = [sent(0, &[0xa3, 0x11], 0, bytes)];
+    replay(rt, &mut chip, 12, &rows, &[])
+}
+
 /// Units of one stage on one word: the last one's word stands, with the old bits around its lane.
 #[test]
 fn units_on_one_word(rt: HostRuntime) -> Result<(), Fail> {
@@ -192,20 +204,11 @@ fn units_on_one_word(rt: HostRuntime) -> Result<(), Fail> {
         set(B, OpKind::Copy, read(A), number(0)),
     ];
     let high: &[Operation] = &[set(part(A, 4, 4), OpKind::Copy, number(0x5), number(0))];
-    let table: [(&[&[Operation]], [u8; 2]); 5] = [
-        (&[low], [0xaf, 0xa3]),
-        (&[high], [0x53, 0x11]),
-        (&[low, high], [0x53, 0xa3]),
-        (&[high, low], [0xaf, 0xa3]),
-        (&[low, high, low], [0xaf, 0xa3]),
-    ];
-    for (units, bytes) in table {
-        let stage = Plan { start: 0, units };
-        let mut chip = chip(&rt, &[A, B], &[A, B], &[stage])?;
-        let rows = [sent(0, &[0xa3, 0x11], 0, &bytes)];
-        replay(&rt, &mut chip, 12, &rows, &[])?;
-    }
-    Ok(())
+    one_stage(&rt, &[low], &[0xaf, 0xa3])?;
+    one_stage(&rt, &[high], &[0x53, 0x11])?;
+    one_stage(&rt, &[low, high], &[0x53, 0xa3])?;
+    one_stage(&rt, &[high, low], &[0xaf, 0xa3])?;
+    one_stage(&rt, &[low, high, low], &[0xaf, 0xa3])
 }
 
 /// Words of 32 bits: two operands and a result.

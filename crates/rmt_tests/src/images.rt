@@ -84,7 +84,8 @@ fn code_of(answer: Result<Config, ImageFault>) -> (u8, u8, u8, u32) {
     }
 }
 
-fn read(alloc: Global, image: &[u8]) -> (u8, u8, u8, u32) {
+/// What is read of an image: the code, and for a limit its number, the stage and the sum.
+pub fn read(alloc: Global, image: &[u8]) -> (u8, u8, u8, u32) {
     code_of(read_image(alloc, image))
 }
 
@@ -217,5 +218,46 @@ fn whole(rt: HostRuntime) -> Result<(), Fail> {
     image.extend_from_slice(&IMAGE[73..87])?;
     image.extend_from_slice(&IMAGE[73..95])?;
     assert_eq!(rt; read(alloc, &image).0, 4);
+    Ok(())
+}
+
+/// A stage of the smallest image with that start, node and guard, which sends to that port.
+fn put_stage(
+    image: &mut Vec<u8>,
+    start: u16,
+    node: u8,
+    guard: &[u8],
+    port: u8,
+) -> Result<(), Fail> {
+    image.extend_from_slice(&start.to_be_bytes())?;
+    image.extend_from_slice(&[1, 1, node])?;
+    image.extend_from_slice(guard)?;
+    image.extend_from_slice(&IMAGE[60..81])?;
+    image.push(port)?;
+    image.extend_from_slice(&IMAGE[82..95])?;
+    Ok(())
+}
+
+/// The code of two stages, the second of which has a guard on the first.
+fn guarded(alloc: Global, node: u8, guard: &[u8]) -> Result<u8, Fail> {
+    let mut image = Vec::from_slice(alloc, &IMAGE[..53])?;
+    image.push(2)?;
+    put_stage(&mut image, 0, 0, &[0], 1)?;
+    put_stage(&mut image, 12, node, guard, 2)?;
+    Ok(read(alloc, &image).0)
+}
+
+#[test]
+fn guards(rt: HostRuntime) -> Result<(), Fail> {
+    let alloc = rt.alloc();
+    assert_eq!(rt; guarded(alloc, 1, &[0])?, 0);
+    assert_eq!(rt; guarded(alloc, 1, &[1, 0, 0, 2])?, 0);
+    assert_eq!(rt; guarded(alloc, 1, &[1, 0, 0, 4])?, 0);
+
+    // Outcome 0, the node itself, a node that is none, and two tables of one node.
+    assert_eq!(rt; guarded(alloc, 1, &[1, 0, 0, 1])?, 4);
+    assert_eq!(rt; guarded(alloc, 1, &[1, 1, 0, 2])?, 4);
+    assert_eq!(rt; guarded(alloc, 1, &[1, 2, 0, 2])?, 4);
+    assert_eq!(rt; guarded(alloc, 0, &[0])?, 4);
     Ok(())
 }

@@ -8,7 +8,11 @@ mod check;
 #[cfg(test)]
 mod chip;
 #[cfg(test)]
+mod image_rules;
+#[cfg(test)]
 mod images;
+#[cfg(test)]
+mod loading;
 #[cfg(test)]
 mod outside;
 #[cfg(test)]
@@ -17,6 +21,8 @@ mod packets;
 mod packing;
 #[cfg(test)]
 mod pieces;
+#[cfg(test)]
+mod registers;
 #[cfg(test)]
 mod tails;
 #[cfg(test)]

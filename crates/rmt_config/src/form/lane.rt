@@ -1,8 +1,11 @@
+//! The rules of form of lanes and ports.
+
 ghost use Rattle.std.specs.Prelude.{◌≡◌, ◌<◌, length};
 ghost use Rattle.std.specs.List.{list_all};
-ghost use Rattle.rmt_config.specs.Form.{lane_is_formed, is_lane_of, bits_of_lanes, ports_are_formed};
+ghost use Rattle.rmt_config.specs.LaneForm.{lane_is_formed, is_lane_of, bits_of_lanes, ports_are_formed};
 
 use crate::config::Config;
+use crate::form::number::fits_byte;
 use rmt_bits::lane::{Lane, word_size};
 
 /// Whether a lane has 1 to 32 bits that lie in a word of the vector.
@@ -22,13 +25,14 @@ pub fn lane_fits_of(len: u8, lane: Lane) -> bool
     lane_fits(lane) && lane.len == len
 }
 
+/// Whether each of the lanes has 1 to 32 bits that lie in a word of the vector.
 pub fn lanes_fit(lanes: &[Lane]) -> bool
     ensures { result ≡ list_all lane_is_formed lanes.now }
 {
     lanes.iter().all(|lane| lane_fits(*lane))
 }
 
-/// How many bits lanes have together.
+/// How many bits fewer than 65,536 lanes have together.
 pub fn count_bits(lanes: &[Lane]) -> u32
     requires { length lanes.now < 65536 }
     ensures { result ≡ bits_of_lanes lanes.now }
@@ -40,10 +44,12 @@ pub fn count_bits(lanes: &[Lane]) -> u32
     bits
 }
 
+/// Whether the ports' lanes have 9 bits and that of the drop bit has one.
 pub fn ports_fit(config: &Config) -> bool
     ensures { result ≡ ports_are_formed config.now }
 {
-    lane_fits_of(9, config.in_port)
+    fits_byte(config.seed)
+        && lane_fits_of(9, config.in_port)
         && lane_fits_of(9, config.out_port)
         && lane_fits_of(1, config.drop)
 }

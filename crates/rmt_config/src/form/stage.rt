@@ -1,93 +1,57 @@
-ghost use Rattle.std.specs.Prelude.{◌≡◌, ℕ, [], ◌++◌, ◌∷◌, replicate, false, true, IfOk, OnOk, map, IsTrue};
-ghost use Rattle.std.specs.List.{flat_map, list_all};
-ghost use Rattle.rmt_config.specs.Form.{Place, unit_places, places_of, code_is_formed, srows_are_formed, trows_are_formed, stage_is_formed, stages_are_formed, starts_are_formed, rises_from, stage_is_of_this_step, unit_is_of_this_step};
+//! The rules of form of a stage as it is read: its start, its units, its code, and the numbers of its rows.
+
+ghost use Rattle.std.specs.Prelude.{◌≡◌, map};
+ghost use Rattle.std.specs.List.{list_all};
+ghost use Rattle.rmt_config.specs.Order.{rises_from};
+ghost use Rattle.rmt_config.specs.StageForm.{srow_fits as srow_is_small, trow_fits as trow_is_small, stage_is_formed, starts_are_formed, stages_are_formed};
 ghost use Rattle.rmt_config.specs.declared.config.Stage.{Stage};
 
-use crate::config::{SlotUnit, Stage, Unit, Vliw};
-use crate::form::unit::{units_fit, units_have_come};
-use crate::form::vliw::vliw_fits;
-use std::alloc::{AllocError, Global};
+use crate::config::{SramRow, Stage, TcamRow};
+use crate::form::code::code_fits;
+use crate::form::number::fits_two_bytes;
+use crate::form::unit::units_fit;
 
-fn put_slot_places(places: &mut Vec<(u16, bool)>, slot: &SlotUnit) -> Result<(), AllocError>
-    ensures { OnOk result (places.new.items ≡ places.old.items ++ (replicate slot.now.actions (slot.now.held, false) ++ (slot.now.held, true) ∷ [])) }
+fn srow_fits(row: SramRow) -> bool
+    ensures { result ≡ srow_is_small row }
 {
-    for _ in 0..slot.actions {
-        places.push((slot.held, false))?;
-    }
-    places.push((slot.held, true))?;
-    Ok(())
+    row.block < 106 && fits_two_bytes(row.row) && row.bits < 1u128 << 112
 }
 
-fn put_places(places: &mut Vec<(u16, bool)>, units: &[Unit]) -> Result<(), AllocError>
-    ensures { OnOk result (places.new.items ≡ places.old.items ++ flat_map unit_places units.now) }
+fn srows_fit(rows: &[SramRow]) -> bool
+    ensures { result ≡ list_all srow_is_small rows.now }
 {
-    for unit in units {
-        if let Unit::Slot(slot) = unit {
-            put_slot_places(places, slot)?;
-        }
-    }
-    Ok(())
+    rows.iter().all(|row| srow_fits(*row))
 }
 
-/// Where the instructions of a stage stand, in their order: the data bits of the slot, and whether it is its default.
-pub fn place_list(alloc: Global, units: &[Unit]) -> Result<Vec<(u16, bool)>, AllocError>
-    ensures { IfOk result (λ places. places.items ≡ places_of units.now) }
+fn trow_fits(row: TcamRow) -> bool
+    ensures { result ≡ trow_is_small row }
 {
-    let mut places = Vec::new(alloc);
-    put_places(&mut places, units)?;
-    Ok(places)
+    row.block < 16 && fits_two_bytes(row.row) && row.value < 1u64 << 40 && row.mask < 1u64 << 40
 }
 
-fn code_fits(places: &[(u16, bool)], code: &[Vliw]) -> bool
-    ensures { result ≡ code_is_formed places.now code.now }
+fn trows_fit(rows: &[TcamRow]) -> bool
+    ensures { result ≡ list_all trow_is_small rows.now }
 {
-    if places.len() != code.len() {
-        return false;
-    }
-    for (at, place) in places.iter().enumerate() {
-        if !vliw_fits(*place, &code[at]) {
-            return false;
-        }
-    }
-    true
+    rows.iter().all(|row| trow_fits(*row))
 }
 
-fn srows_fit(stage: &Stage) -> bool
-    requires { IsTrue (stage_is_of_this_step stage.now) }
-    ensures { result ≡ srows_are_formed stage.now.units stage.now.srows }
+fn stage_fits(stage: &Stage) -> bool
+    ensures { result ≡ stage_is_formed stage.now }
 {
-    stage.srows.len() == 0
+    fits_two_bytes(stage.start)
+        && stage.units.len() < 256
+        && units_fit(stage.units.as_slice())
+        && code_fits(stage.units.as_slice(), stage.code.as_slice())
+        && (stage.srows.len() as u64) < 4294967296
+        && srows_fit(stage.srows.as_slice())
+        && (stage.trows.len() as u64) < 4294967296
+        && trows_fit(stage.trows.as_slice())
 }
 
-fn trows_fit(stage: &Stage) -> bool
-    requires { IsTrue (stage_is_of_this_step stage.now) }
-    ensures { result ≡ trows_are_formed stage.now.units stage.now.trows }
+fn each_stage_fits(stages: &[Stage]) -> bool
+    ensures { result ≡ list_all stage_is_formed stages.now }
 {
-    stage.trows.len() == 0
-}
-
-fn stage_fits(alloc: Global, stage: &Stage) -> Result<bool, AllocError>
-    requires { IsTrue (stage_is_of_this_step stage.now) }
-    ensures { IfOk result (λ fits. fits ≡ stage_is_formed stage.now) }
-{
-    let units = stage.units.as_slice();
-    if units.len() >= 256 || !units_fit(units) {
-        return Ok(false);
-    }
-    let places = place_list(alloc, units)?;
-    Ok(code_fits(places.as_slice(), stage.code.as_slice()) && srows_fit(stage) && trows_fit(stage))
-}
-
-fn stage_has_come(stage: &Stage) -> bool
-    ensures { result ≡ stage_is_of_this_step stage.now }
-{
-    units_have_come(stage.units.as_slice())
-}
-
-pub fn stages_have_come(stages: &[Stage]) -> bool
-    ensures { result ≡ list_all stage_is_of_this_step stages.now }
-{
-    stages.iter().all(stage_has_come)
+    stages.iter().all(stage_fits)
 }
 
 fn rise_above(stages: &[Stage]) -> bool
@@ -112,24 +76,9 @@ fn starts_rise(stages: &[Stage]) -> bool
     }
 }
 
-fn each_stage_fits(alloc: Global, stages: &[Stage]) -> Result<bool, AllocError>
-    requires { IsTrue (list_all stage_is_of_this_step stages.now) }
-    ensures { IfOk result (λ fits. fits ≡ list_all stage_is_formed stages.now) }
+/// Whether each stage fits by itself, and their starts rise from 0.
+pub fn stages_fit(stages: &[Stage]) -> bool
+    ensures { result ≡ stages_are_formed stages.now }
 {
-    for stage in stages {
-        if !stage_fits(alloc, stage)? {
-            return Ok(false);
-        }
-    }
-    Ok(true)
-}
-
-pub fn stages_fit(alloc: Global, stages: &[Stage]) -> Result<bool, AllocError>
-    requires { IsTrue (list_all stage_is_of_this_step stages.now) }
-    ensures { IfOk result (λ fits. fits ≡ stages_are_formed stages.now) }
-{
-    if stages.len() >= 256 || !starts_rise(stages) {
-        return Ok(false);
-    }
-    each_stage_fits(alloc, stages)
+    stages.len() < 256 && each_stage_fits(stages) && starts_rise(stages)
 }

@@ -1,53 +1,211 @@
-ghost use Rattle.std.specs.Prelude.{◌≡◌};
+//! The rules of form of gates and slots by themselves.
+
+ghost use Rattle.std.specs.Prelude.{◌≡◌, ◌<◌, ◌≤◌, ◌+◌, ◌*◌, length, IsTrue, nat_le};
 ghost use Rattle.std.specs.List.{list_all};
-ghost use Rattle.rmt_config.specs.Form.{memory_is_formed, unit_is_formed, unit_is_of_this_step};
+ghost use Rattle.rmt_config.specs.LaneForm.{bits_of_lanes};
+ghost use Rattle.rmt_config.specs.Shapes.{exact_shape as shape_of_exact, ternary_shape as shape_of_ternary};
+ghost use Rattle.rmt_config.specs.UnitForm.{guard_is_formed, test_is_formed, gate_is_formed, number_is_formed, slot_head_is_formed, are_sram_blocks, are_tcam_blocks, has_shape, may_have_memory, format_is_formed, memory_is_formed, slot_is_formed, unit_is_formed};
+ghost use Rattle.rmt_config.specs.declared.config.Memory.TheVariants.{Without};
 
-use crate::config::{Memory, SlotUnit, Unit};
+use crate::config::{CellNumber, GateTest, GateUnit, Memory, SlotUnit, Unit, UnitGuard};
+use crate::form::lane::{count_bits, lane_fits, lanes_fit};
+use crate::form::number::{fits_byte, fits_four_bytes, fits_two_bytes};
+use crate::form::shape::{Shape, exact_shape, ternary_shape};
+use rmt_bits::answer::Bytes;
 
-pub fn memory_fits(slot: &SlotUnit) -> bool
-    ensures { result ≡ memory_is_formed slot.now slot.now.memory }
+fn guard_fits(guard: Option<UnitGuard>) -> bool
+    ensures { result ≡ guard_is_formed guard }
 {
-    match slot.memory {
-        Memory::Without => {
-            !slot.counted
-                && slot.actions == 0
-                && slot.last
-                && slot.held == 0
-                && slot.keys.len() == 0
-                && slot.numbers.len() == 0
+    match guard {
+        None => true,
+        Some(guard) => {
+            fits_byte(guard.parent) && fits_two_bytes(guard.mask) && guard.mask % 2 == 0
         }
-        Memory::Exact { .. } => true,
-        Memory::Ternary { .. } => true,
     }
 }
 
-pub fn unit_fits(unit: &Unit) -> bool
+fn test_fits(test: GateTest) -> bool
+    ensures { result ≡ test_is_formed test }
+{
+    lane_fits(test.lane)
+        && (test.mask as u64) < (1u64 << test.lane.len)
+        && test.value & test.mask == test.value
+}
+
+fn each_test_fits(tests: &[GateTest]) -> bool
+    ensures { result ≡ list_all test_is_formed tests.now }
+{
+    tests.iter().all(|test| test_fits(*test))
+}
+
+fn gate_fits(gate: &GateUnit) -> bool
+    ensures { result ≡ gate_is_formed gate.now }
+{
+    fits_byte(gate.node)
+        && guard_fits(gate.guard)
+        && 1 <= gate.tests.len()
+        && gate.tests.len() < 256
+        && each_test_fits(gate.tests.as_slice())
+}
+
+fn number_fits(number: CellNumber) -> bool
+    ensures { result ≡ number_is_formed number }
+{
+    fits_four_bytes(number.cell) && fits_four_bytes(number.number)
+}
+
+fn numbers_fit(numbers: &[CellNumber]) -> bool
+    ensures { result ≡ list_all number_is_formed numbers.now }
+{
+    numbers.iter().all(|number| number_fits(*number))
+}
+
+fn slot_head_fits(slot: &SlotUnit) -> bool
+    ensures value { result ≡ slot_head_is_formed slot.now }
+    ensures keys { IsTrue result → length slot.now.keys < 65536 }
+{
+    fits_byte(slot.node)
+        && guard_fits(slot.guard)
+        && slot.actions <= 14
+        && fits_two_bytes(slot.held)
+        && slot.keys.len() < 65536
+        && lanes_fit(slot.keys.as_slice())
+        && (slot.numbers.len() as u64) < 4294967296
+        && numbers_fit(slot.numbers.as_slice())
+}
+
+fn sram_blocks_fit(blocks: &Bytes) -> bool
+    ensures { result ≡ are_sram_blocks blocks.now }
+{
+    blocks.as_slice().iter().all(|block| *block < 106)
+}
+
+fn tcam_blocks_fit(blocks: &Bytes) -> bool
+    ensures { result ≡ are_tcam_blocks blocks.now }
+{
+    blocks.as_slice().iter().all(|block| *block < 16)
+}
+
+/// The bits of a slot's key.
+fn key_bits(slot: &SlotUnit) -> u32
+    requires { length slot.now.keys < 65536 }
+    ensures { result ≡ bits_of_lanes slot.now.keys }
+{
+    count_bits(slot.keys.as_slice())
+}
+
+fn can_have_memory(slot: &SlotUnit, quanta: u8) -> bool
+    requires { length slot.now.keys < 65536 }
+    ensures value { result ≡ may_have_memory slot.now quanta }
+    ensures key { IsTrue result → bits_of_lanes slot.now.keys ≤ 640 }
+{
+    1 <= slot.keys.len()
+        && key_bits(slot) <= 640
+        && 1 <= slot.actions
+        && 1 <= quanta
+        && quanta <= 106
+}
+
+/// Whether the cells of a row, each a head of 8 bits and a key of that many, fit blocks side by side.
+fn cells_fit(bits: u32, width: u8, per: u16) -> bool
+    requires { bits ≤ 640 }
+    ensures { result ≡ nat_le (per * (bits + 8)) (112 * width) }
+{
+    per as u32 * (bits + 8) <= 112 * width as u32
+}
+
+fn lists_fit(shape: Shape, keys: &Bytes, records: &Bytes, counters: &Bytes) -> bool
+    ensures { result ≡ has_shape shape keys.now records.now counters.now }
+{
+    keys.len() as u64 == shape.keys
+        && records.len() as u64 == shape.records
+        && counters.len() as u64 == shape.counters
+}
+
+fn format_fits(slot: &SlotUnit, width: u8, per: u16, quanta: u8, first_way: u8) -> bool
+    requires { length slot.now.keys < 65536 }
+    ensures { result ≡ format_is_formed slot.now width per quanta first_way }
+{
+    can_have_memory(slot, quanta)
+        && 1 <= width
+        && fits_byte(width)
+        && 1 <= per
+        && fits_two_bytes(per)
+        && fits_byte(first_way)
+        && cells_fit(key_bits(slot), width, per)
+}
+
+fn needs_no_memory(slot: &SlotUnit) -> bool
+    ensures { result ≡ memory_is_formed slot.now Without }
+{
+    !slot.counted
+        && slot.actions == 0
+        && slot.last
+        && slot.held == 0
+        && slot.keys.len() == 0
+        && slot.numbers.len() == 0
+}
+
+fn memory_fits(slot: &SlotUnit) -> bool
+    requires { length slot.now.keys < 65536 }
+    ensures { result ≡ memory_is_formed slot.now slot.now.memory }
+{
+    match &slot.memory {
+        Memory::Without => needs_no_memory(slot),
+        Memory::Exact {
+            width,
+            per,
+            quanta,
+            first_way,
+            keys,
+            records,
+            counters,
+        } => {
+            let shape = exact_shape(*width, *per, *quanta, slot.held, slot.counted);
+            format_fits(slot, *width, *per, *quanta, *first_way)
+                && lists_fit(shape, keys, records, counters)
+                && sram_blocks_fit(keys)
+                && sram_blocks_fit(records)
+                && sram_blocks_fit(counters)
+        }
+        Memory::Ternary {
+            quanta,
+            keys,
+            records,
+            counters,
+        } => {
+            can_have_memory(slot, *quanta)
+                && lists_fit(
+                    ternary_shape(key_bits(slot), *quanta, slot.held, slot.counted),
+                    keys,
+                    records,
+                    counters,
+                )
+                && tcam_blocks_fit(keys)
+                && sram_blocks_fit(records)
+                && sram_blocks_fit(counters)
+        }
+    }
+}
+
+fn slot_fits(slot: &SlotUnit) -> bool
+    ensures { result ≡ slot_is_formed slot.now }
+{
+    slot_head_fits(slot) && memory_fits(slot)
+}
+
+fn unit_fits(unit: &Unit) -> bool
     ensures { result ≡ unit_is_formed unit.now }
 {
     match unit {
-        Unit::Gate(_) => true,
-        Unit::Slot(slot) => slot.actions <= 14 && memory_fits(slot),
+        Unit::Gate(gate) => gate_fits(gate),
+        Unit::Slot(slot) => slot_fits(slot),
     }
 }
 
+/// Whether each of the units fits by itself.
 pub fn units_fit(units: &[Unit]) -> bool
     ensures { result ≡ list_all unit_is_formed units.now }
 {
     units.iter().all(unit_fits)
-}
-
-fn unit_has_come(unit: &Unit) -> bool
-    ensures { result ≡ unit_is_of_this_step unit.now }
-{
-    match unit {
-        Unit::Gate(_) => false,
-        Unit::Slot(slot) => slot.guard.is_none() && matches!(slot.memory, Memory::Without),
-    }
-}
-
-/// Whether each unit is a slot without a guard and without memory.
-pub fn units_have_come(units: &[Unit]) -> bool
-    ensures { result ≡ list_all unit_is_of_this_step units.now }
-{
-    units.iter().all(unit_has_come)
 }

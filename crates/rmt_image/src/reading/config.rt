@@ -1,5 +1,8 @@
+//! The configuration behind the version.
+
 ghost use Rattle.std.specs.Prelude.{◌≡◌};
-ghost use Rattle.rmt_image.specs.Reading.{Gives, ports_at, config_at};
+ghost use Rattle.rmt_image.specs.Readers.{Gives};
+ghost use Rattle.rmt_image.specs.Reading.{ports_at, config_at};
 
 use crate::fault::ReadError;
 use crate::reading::header::headers_of;
@@ -12,15 +15,30 @@ use rmt_bits::sequence::Sequence;
 use rmt_config::config::Config;
 use std::alloc::Global;
 
+/// The seed, and the lanes of the ports and of the drop bit.
+#[derive(Clone, Copy)]
+struct Ports {
+    seed: u8,
+    in_port: Lane,
+    out_port: Lane,
+    drop: Lane,
+}
+
 #[tactic(auto, unfolding(crate::specs::Reading::ports_at))]
-fn ports_of(bytes: &[u8]) -> Result<((u8, (Lane, (Lane, Lane))), &[u8]), ReadError>
+fn ports_of(bytes: &[u8]) -> Result<(Ports, &[u8]), ReadError>
     ensures { Gives (λ x. (x.0, x.1.now)) result (ports_at bytes.now) }
 {
     let (seed, rest) = byte_of(bytes)?;
     let (in_port, rest) = lane_of_bits(9, rest)?;
     let (out_port, rest) = lane_of_bits(9, rest)?;
     let (drop, rest) = lane_of_bits(1, rest)?;
-    Ok(((seed, (in_port, (out_port, drop))), rest))
+    let ports = Ports {
+        seed,
+        in_port,
+        out_port,
+        drop,
+    };
+    Ok((ports, rest))
 }
 
 /// The configuration at the front of the bytes behind the version.
@@ -28,16 +46,15 @@ fn ports_of(bytes: &[u8]) -> Result<((u8, (Lane, (Lane, Lane))), &[u8]), ReadErr
 pub fn config_of(alloc: Global, bytes: &[u8]) -> Result<(Config, &[u8]), ReadError>
     ensures { Gives (λ x. (x.0, x.1.now)) result (config_at bytes.now) }
 {
-    let ((seed, (in_port, (out_port, drop))), rest) = ports_of(bytes)?;
+    let (ports, rest) = ports_of(bytes)?;
     let (headers, rest) = headers_of(alloc, rest)?;
     let (parser, rest) = parser_of(alloc, rest)?;
-    let (count, rest) = byte_of(rest)?;
-    let (stages, rest) = stages_of(alloc, count, rest)?;
+    let (stages, rest) = stages_of(alloc, rest)?;
     let config = Config {
-        seed,
-        in_port,
-        out_port,
-        drop,
+        seed: ports.seed,
+        in_port: ports.in_port,
+        out_port: ports.out_port,
+        drop: ports.drop,
         headers: Sequence::from_vec(headers),
         parser,
         stages: Sequence::from_vec(stages),

@@ -1,8 +1,12 @@
+//! Headers.
+
 ghost use Rattle.std.specs.Prelude.{◌≡◌, ◌<◌, length, IfOk};
-ghost use Rattle.rmt_image.specs.Reading.{Gives, times, bytes_at, pieces_at, header_at, headers_at};
+ghost use Rattle.rmt_image.specs.Readers.{Gives, kept, listed, list_at, byte_at};
+ghost use Rattle.rmt_image.specs.Reading.{lanes_at, header_size_fits, header_at, headers_at};
 
 use crate::fault::{ReadError, ReadFault};
-use crate::reading::lane::{lane_of_bits, lanes_of};
+use crate::reading::items::{Items, items_of};
+use crate::reading::lane::{Lanes, lane_of_bits};
 use crate::reading::number::byte_of;
 use rmt_bits::lane::Lane;
 use rmt_bits::sequence::Sequence;
@@ -10,24 +14,22 @@ use rmt_config::config::OutHeader;
 use rmt_config::form::lane::count_bits;
 use std::alloc::Global;
 
-#[tactic(auto, unfolding(crate::specs::Reading::bytes_at))]
-fn byte_count_of(bytes: &[u8]) -> Result<(u8, &[u8]), ReadError>
-    ensures { Gives (λ x. (x.0, x.1.now)) result (bytes_at bytes.now) }
+fn size_of(bytes: &[u8]) -> Result<(u8, &[u8]), ReadError>
+    ensures { Gives (λ x. (x.0, x.1.now)) result (kept header_size_fits byte_at bytes.now) }
 {
-    let (count, rest) = byte_of(bytes)?;
-    if count < 1 || count > 64 {
+    let (size, rest) = byte_of(bytes)?;
+    if size < 1 || size > 64 {
         return Err(ReadError::Fault(ReadFault::Form));
     }
-    Ok((count, rest))
+    Ok((size, rest))
 }
 
-#[tactic(auto, unfolding(crate::specs::Reading::pieces_at))]
 fn pieces_of(alloc: Global, bytes: &[u8]) -> Result<(Vec<Lane>, &[u8]), ReadError>
-    ensures read { Gives (λ x. (x.0.items, x.1.now)) result (pieces_at bytes.now) }
+    ensures read { Gives (λ x. (x.0.items, x.1.now)) result (listed byte_at lanes_at bytes.now) }
     ensures few { IfOk result (λ x. length x.0.items < 256) }
 {
     let (count, rest) = byte_of(bytes)?;
-    let (lanes, rest) = lanes_of(alloc, count as u16, rest)?;
+    let (lanes, rest) = items_of(alloc, &Lanes, count as u64, rest)?;
     Ok((lanes, rest))
 }
 
@@ -36,7 +38,7 @@ fn header_of(alloc: Global, bytes: &[u8]) -> Result<(OutHeader, &[u8]), ReadErro
     ensures { Gives (λ x. (x.0, x.1.now)) result (header_at bytes.now) }
 {
     let (valid, rest) = lane_of_bits(1, bytes)?;
-    let (bytes, rest) = byte_count_of(rest)?;
+    let (bytes, rest) = size_of(rest)?;
     let (pieces, rest) = pieces_of(alloc, rest)?;
     if count_bits(&pieces) != 8 * bytes as u32 {
         return Err(ReadError::Fault(ReadFault::Form));
@@ -52,19 +54,35 @@ fn header_of(alloc: Global, bytes: &[u8]) -> Result<(OutHeader, &[u8]), ReadErro
     ))
 }
 
-fn header_list(alloc: Global, count: u8, bytes: &[u8]) -> Result<(Vec<OutHeader>, &[u8]), ReadError>
-    ensures { Gives (λ x. (x.0.items, x.1.now)) result (times header_at count bytes.now) }
-{
-    let mut headers = Vec::new(alloc);
-    let mut rest = bytes;
-    for _ in 0..count {
-        let (header, after) = header_of(alloc, rest)?;
-        headers.push(header)?;
-        rest = after;
+#[derive(Drop)]
+struct Headers;
+
+impl Items for Headers {
+    type Item = OutHeader;
+
+    ghost item_at = { λ _ _. header_at };
+
+    ghost after = { λ _ _. 0 };
+
+    fn item<'a>(
+        &self,
+        alloc: Global,
+        _least: u32,
+        bytes: &'a [u8],
+    ) -> Result<(OutHeader, &'a [u8]), ReadError> {
+        header_of(alloc, bytes)
     }
-    Ok((headers, rest))
+
+    fn least_size(&self) -> usize {
+        5
+    }
+
+    fn least_after(&self, _item: &OutHeader) -> u32 {
+        0
+    }
 }
 
+/// The headers behind their count, at most 64.
 #[tactic(auto, unfolding(crate::specs::Reading::headers_at))]
 pub fn headers_of(alloc: Global, bytes: &[u8]) -> Result<(Vec<OutHeader>, &[u8]), ReadError>
     ensures { Gives (λ x. (x.0.items, x.1.now)) result (headers_at bytes.now) }
@@ -73,5 +91,5 @@ pub fn headers_of(alloc: Global, bytes: &[u8]) -> Result<(Vec<OutHeader>, &[u8])
     if count > 64 {
         return Err(ReadError::Fault(ReadFault::Form));
     }
-    header_list(alloc, count, rest)
+    items_of(alloc, &Headers, count as u64, rest)
 }

@@ -1,9 +1,13 @@
-ghost use Rattle.std.specs.Prelude.{◌≡◌};
-ghost use Rattle.rmt_image.specs.Reading.{Gives, byte_at, two_at, four_at, five_at, bits_at, zero_at, flag_at};
+//! Numbers at the front of an image's bytes, highest byte first.
+
+ghost use Rattle.std.specs.Prelude.{◌≡◌, ◌≤◌, ◌<◌, ◌*◌, ◌^◌, length, IfOk};
+ghost use Rattle.rmt_bits.specs.Bits.{number_of};
+ghost use Rattle.rmt_image.specs.Readers.{Gives, byte_at, number_at, flag_at};
 
 use crate::fault::{ReadError, ReadFault};
 
-#[tactic(auto, unfolding(crate::specs::Reading::byte_at))]
+/// A byte.
+#[tactic(auto, unfolding(crate::specs::Readers::byte_at))]
 pub fn byte_of(bytes: &[u8]) -> Result<(u8, &[u8]), ReadError>
     ensures { Gives (λ x. (x.0, x.1.now)) result (byte_at bytes.now) }
 {
@@ -13,71 +17,66 @@ pub fn byte_of(bytes: &[u8]) -> Result<(u8, &[u8]), ReadError>
     }
 }
 
-#[tactic(auto, unfolding(crate::specs::Reading::two_at))]
+/// At most 14 bytes as a number.
+fn number(bytes: &[u8]) -> u128
+    requires { length bytes.now ≤ 14 }
+    ensures value { result ≡ number_of bytes.now }
+    ensures small { result < 2 ^ (8 * length bytes.now) }
+{
+    let mut number = 0;
+    for byte in bytes {
+        number = 256 * number + u128::from(*byte);
+    }
+    number
+}
+
+/// The number that the first `count` bytes are, at most 14.
+#[tactic(auto, unfolding(crate::specs::Readers::number_at))]
+fn number_from(count: usize, bytes: &[u8]) -> Result<(u128, &[u8]), ReadError>
+    requires { count ≤ 14 }
+    ensures read { Gives (λ x. (x.0, x.1.now)) result (number_at count bytes.now) }
+    ensures small { IfOk result (λ x. x.0 < 2 ^ (8 * count)) }
+{
+    if bytes.len() < count {
+        return Err(ReadError::Fault(ReadFault::Short));
+    }
+    let (front, rest) = bytes.split_at(count);
+    Ok((number(front), rest))
+}
+
+/// A number of two bytes.
 pub fn two_of(bytes: &[u8]) -> Result<(u16, &[u8]), ReadError>
-    ensures { Gives (λ x. (x.0, x.1.now)) result (two_at bytes.now) }
+    ensures { Gives (λ x. (x.0, x.1.now)) result (number_at 2 bytes.now) }
 {
-    if bytes.len() < 2 {
-        return Err(ReadError::Fault(ReadFault::Short));
-    }
-    let (front, rest) = bytes.split_at(2);
-    Ok((u16::from_be_bytes([front[0], front[1]]), rest))
+    let (number, rest) = number_from(2, bytes)?;
+    Ok((number as u16, rest))
 }
 
-#[tactic(auto, unfolding(crate::specs::Reading::four_at))]
+/// A number of four bytes.
 pub fn four_of(bytes: &[u8]) -> Result<(u32, &[u8]), ReadError>
-    ensures { Gives (λ x. (x.0, x.1.now)) result (four_at bytes.now) }
+    ensures { Gives (λ x. (x.0, x.1.now)) result (number_at 4 bytes.now) }
 {
-    if bytes.len() < 4 {
-        return Err(ReadError::Fault(ReadFault::Short));
-    }
-    let (front, rest) = bytes.split_at(4);
-    let number = u32::from_be_bytes([front[0], front[1], front[2], front[3]]);
-    Ok((number, rest))
+    let (number, rest) = number_from(4, bytes)?;
+    Ok((number as u32, rest))
 }
 
-#[tactic(auto, unfolding(crate::specs::Reading::five_at))]
+/// A number of five bytes.
 pub fn five_of(bytes: &[u8]) -> Result<(u64, &[u8]), ReadError>
-    ensures { Gives (λ x. (x.0, x.1.now)) result (five_at bytes.now) }
+    ensures { Gives (λ x. (x.0, x.1.now)) result (number_at 5 bytes.now) }
 {
-    if bytes.len() < 5 {
-        return Err(ReadError::Fault(ReadFault::Short));
-    }
-    let (front, rest) = bytes.split_at(5);
-    let number = u64::from_be_bytes([0, 0, 0, front[0], front[1], front[2], front[3], front[4]]);
-    Ok((number, rest))
+    let (number, rest) = number_from(5, bytes)?;
+    Ok((number as u64, rest))
 }
 
-/// Fourteen bytes, as six and eight.
-#[tactic(auto, unfolding(crate::specs::Reading::bits_at))]
-pub fn bits_of(bytes: &[u8]) -> Result<(u128, &[u8]), ReadError>
-    ensures { Gives (λ x. (x.0, x.1.now)) result (bits_at bytes.now) }
+/// A number of fourteen bytes.
+pub fn fourteen_of(bytes: &[u8]) -> Result<(u128, &[u8]), ReadError>
+    ensures { Gives (λ x. (x.0, x.1.now)) result (number_at 14 bytes.now) }
 {
-    if bytes.len() < 14 {
-        return Err(ReadError::Fault(ReadFault::Short));
-    }
-    let (front, rest) = bytes.split_at(14);
-    let high = u64::from_be_bytes([
-        0, 0, front[0], front[1], front[2], front[3], front[4], front[5],
-    ]);
-    let low = u64::from_be_bytes([
-        front[6], front[7], front[8], front[9], front[10], front[11], front[12], front[13],
-    ]);
-    Ok((high as u128 * 18446744073709551616 + low as u128, rest))
+    number_from(14, bytes)
 }
 
-#[tactic(auto, unfolding(crate::specs::Reading::zero_at))]
-pub fn zero_of(bytes: &[u8]) -> Result<(u8, &[u8]), ReadError>
-    ensures { Gives (λ x. (x.0, x.1.now)) result (zero_at bytes.now) }
-{
-    let (byte, rest) = byte_of(bytes)?;
-    if byte != 0 {
-        return Err(ReadError::Fault(ReadFault::Form));
-    }
-    Ok((byte, rest))
-}
-
-#[tactic(auto, unfolding(crate::specs::Reading::flag_at))]
+/// A byte that is 0 or 1.
+#[tactic(auto, unfolding(crate::specs::Readers::flag_at))]
 pub fn flag_of(bytes: &[u8]) -> Result<(bool, &[u8]), ReadError>
     ensures { Gives (λ x. (x.0, x.1.now)) result (flag_at bytes.now) }
 {

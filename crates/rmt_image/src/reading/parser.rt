@@ -1,62 +1,160 @@
-ghost use Rattle.std.specs.Prelude.{◌≡◌};
-ghost use Rattle.rmt_image.specs.Reading.{Gives, state_at, one_at, states_at, entry_state_at, match_at, need_at, later_state_at, next_at, bits_extract_at, extract_at, extracts_at, entry_head_at, entry_at, entries_at, parser_at};
+//! The parser: its states with their lookups, and its entries.
+
+ghost use Rattle.std.specs.Prelude.{◌≡◌, ◌-◌, ◌*◌, ◌<◌, ◌^◌};
+ghost use Rattle.rmt_image.specs.Readers.{Gives, kept, listed, list_at, items_at, byte_at, number_at};
+ghost use Rattle.rmt_image.specs.Reading.{offset_at, one_more, state_at, states_at, entry_state_at, match_fits, match_at, need_at, later_state_at, next_at, bits_at, extract_at, entry_head_at, entry_at, state_of, parser_at};
+ghost use Rattle.rmt_config.specs.ParserForm.{lookups_of};
 
 use crate::fault::{ReadError, ReadFault};
+use crate::reading::items::{Items, items_of};
 use crate::reading::lane::{lane_of, lane_of_bits};
-use crate::reading::number::{byte_of, four_of, two_of, zero_of};
+use crate::reading::number::{byte_of, four_of, two_of};
+use rmt_bits::lane::Lane;
 use rmt_bits::sequence::Sequence;
 use rmt_config::config::{Extract, Next, ParserConfig, ParserEntry, ParserState};
 use std::alloc::Global;
 
+// ---- states
+
+#[tactic(auto, unfolding(crate::specs::Reading::offset_at))]
+fn offset_of(least: u32, bytes: &[u8]) -> Result<(u8, &[u8]), ReadError>
+    ensures { Gives (λ x. (x.0, x.1.now)) result (offset_at least bytes.now) }
+{
+    let (offset, rest) = byte_of(bytes)?;
+    if offset >= 128 || (offset as u32) < least {
+        return Err(ReadError::Fault(ReadFault::Form));
+    }
+    Ok((offset, rest))
+}
+
+#[derive(Drop)]
+struct Offsets;
+
+impl Items for Offsets {
+    type Item = u8;
+
+    ghost item_at = { λ _. offset_at };
+
+    ghost after = { λ _. one_more };
+
+    fn item<'a>(
+        &self,
+        _alloc: Global,
+        least: u32,
+        bytes: &'a [u8],
+    ) -> Result<(u8, &'a [u8]), ReadError> {
+        offset_of(least, bytes)
+    }
+
+    fn least_size(&self) -> usize {
+        1
+    }
+
+    fn least_after(&self, offset: &u8) -> u32 {
+        *offset as u32 + 1
+    }
+}
+
 #[tactic(auto, unfolding(crate::specs::Reading::state_at))]
-fn state_of(alloc: Global, bytes: &[u8]) -> Result<(ParserState, &[u8]), ReadError>
+fn state_from(alloc: Global, bytes: &[u8]) -> Result<(ParserState, &[u8]), ReadError>
     ensures { Gives (λ x. (x.0, x.1.now)) result (state_at bytes.now) }
 {
-    let (_, rest) = zero_of(bytes)?;
-    let lookups = Sequence::new(alloc);
+    let (count, rest) = byte_of(bytes)?;
+    let (lookups, rest) = items_of(alloc, &Offsets, count as u64, rest)?;
+    let lookups = Sequence::from_vec(lookups);
     Ok((ParserState { lookups }, rest))
 }
 
-#[tactic(auto, unfolding(crate::specs::Reading::one_at))]
-fn one_of(bytes: &[u8]) -> Result<(u16, &[u8]), ReadError>
-    ensures { Gives (λ x. (x.0, x.1.now)) result (one_at bytes.now) }
-{
-    let (count, rest) = two_of(bytes)?;
-    if count != 1 {
-        return Err(ReadError::Fault(ReadFault::Form));
+#[derive(Drop)]
+struct States;
+
+impl Items for States {
+    type Item = ParserState;
+
+    ghost item_at = { λ _ _. state_at };
+
+    ghost after = { λ _ _. 0 };
+
+    fn item<'a>(
+        &self,
+        alloc: Global,
+        _least: u32,
+        bytes: &'a [u8],
+    ) -> Result<(ParserState, &'a [u8]), ReadError> {
+        state_from(alloc, bytes)
     }
-    Ok((count, rest))
+
+    fn least_size(&self) -> usize {
+        1
+    }
+
+    fn least_after(&self, _state: &ParserState) -> u32 {
+        0
+    }
 }
 
 #[tactic(auto, unfolding(crate::specs::Reading::states_at))]
 fn states_of(alloc: Global, bytes: &[u8]) -> Result<(Vec<ParserState>, &[u8]), ReadError>
     ensures { Gives (λ x. (x.0.items, x.1.now)) result (states_at bytes.now) }
 {
-    let (_, rest) = one_of(bytes)?;
-    let (state, rest) = state_of(alloc, rest)?;
-    let mut states = Vec::new(alloc);
-    states.push(state)?;
-    Ok((states, rest))
+    let (count, rest) = two_of(bytes)?;
+    if count < 1 {
+        return Err(ReadError::Fault(ReadFault::Form));
+    }
+    items_of(alloc, &States, count as u64, rest)
 }
 
+// ---- when an entry is taken
+
 #[tactic(auto, unfolding(crate::specs::Reading::entry_state_at))]
-fn entry_state_of(states: usize, least: u8, bytes: &[u8]) -> Result<(u8, &[u8]), ReadError>
+fn entry_state_of(states: usize, least: u32, bytes: &[u8]) -> Result<(u8, &[u8]), ReadError>
     ensures { Gives (λ x. (x.0, x.1.now)) result (entry_state_at states least bytes.now) }
 {
     let (state, rest) = byte_of(bytes)?;
-    if state as usize >= states || state < least {
+    if state as usize >= states || (state as u32) < least {
         return Err(ReadError::Fault(ReadFault::Form));
     }
     Ok((state, rest))
 }
 
+/// How many lookups a state has.
+fn count_lookups(states: &[ParserState], state: u8) -> usize
+    ensures { result ≡ lookups_of states.now state }
+{
+    match states.get(state as usize) {
+        Some(state) => state.lookups.len(),
+        None => 0,
+    }
+}
+
+/// One more than the greatest number that stands in the bytes that fewer than four lookups leave.
+fn absent_bits(lookups: usize) -> u64
+    ensures is { result ≡ 2 ^ (8 * (4 - lookups)) }
+    ensures some { 0 < result }
+{
+    match lookups {
+        0 => 4294967296,
+        1 => 16777216,
+        2 => 65536,
+        3 => 256,
+        _ => 1,
+    }
+}
+
+/// Whether a value lies in its mask, and the mask in the bytes of that many lookups.
+fn is_match(lookups: usize, value: u32, mask: u32) -> bool
+    ensures { result ≡ match_fits lookups (value, mask) }
+{
+    value & mask == value && mask as u64 % absent_bits(lookups) == 0
+}
+
 #[tactic(auto, unfolding(crate::specs::Reading::match_at))]
-fn match_of(bytes: &[u8]) -> Result<((u32, u32), &[u8]), ReadError>
-    ensures { Gives (λ x. (x.0, x.1.now)) result (match_at bytes.now) }
+fn match_of(lookups: usize, bytes: &[u8]) -> Result<((u32, u32), &[u8]), ReadError>
+    ensures { Gives (λ x. (x.0, x.1.now)) result (match_at lookups bytes.now) }
 {
     let (value, rest) = four_of(bytes)?;
     let (mask, rest) = four_of(rest)?;
-    if value & mask != value || mask != 0 {
+    if !is_match(lookups, value, mask) {
         return Err(ReadError::Fault(ReadFault::Form));
     }
     Ok(((value, mask), rest))
@@ -74,6 +172,39 @@ fn need_of(bytes: &[u8]) -> Result<((u8, u8), &[u8]), ReadError>
     Ok(((need, advance), rest))
 }
 
+/// When an entry is taken, and how far it goes.
+#[derive(Clone, Copy)]
+struct EntryHead {
+    state: u8,
+    value: u32,
+    mask: u32,
+    need: u8,
+    advance: u8,
+}
+
+#[tactic(auto, unfolding(crate::specs::Reading::entry_head_at))]
+fn entry_head_of<'a>(
+    states: &[ParserState],
+    least: u32,
+    bytes: &'a [u8],
+) -> Result<(EntryHead, &'a [u8]), ReadError>
+    ensures { Gives (λ x. (x.0, x.1.now)) result (entry_head_at states.now least bytes.now) }
+{
+    let (state, rest) = entry_state_of(states.len(), least, bytes)?;
+    let ((value, mask), rest) = match_of(count_lookups(states, state), rest)?;
+    let ((need, advance), rest) = need_of(rest)?;
+    let head = EntryHead {
+        state,
+        value,
+        mask,
+        need,
+        advance,
+    };
+    Ok((head, rest))
+}
+
+// ---- what an entry does
+
 #[tactic(auto, unfolding(crate::specs::Reading::later_state_at))]
 fn later_state_of(states: usize, state: u8, bytes: &[u8]) -> Result<(u8, &[u8]), ReadError>
     ensures { Gives (λ x. (x.0, x.1.now)) result (later_state_at states state bytes.now) }
@@ -89,135 +220,168 @@ fn later_state_of(states: usize, state: u8, bytes: &[u8]) -> Result<(u8, &[u8]),
 fn next_of(states: usize, state: u8, bytes: &[u8]) -> Result<(Next, &[u8]), ReadError>
     ensures { Gives (λ x. (x.0, x.1.now)) result (next_at states state bytes.now) }
 {
-    let (choice, rest) = byte_of(bytes)?;
-    if choice == 0 {
-        return Ok((Next::Accept, rest));
+    match bytes {
+        [] => Err(ReadError::Fault(ReadFault::Short)),
+        [0, rest @ ..] => Ok((Next::Accept, rest)),
+        [1, rest @ ..] => Ok((Next::Reject, rest)),
+        [2, rest @ ..] => {
+            let (to, rest) = later_state_of(states, state, rest)?;
+            Ok((Next::State(to), rest))
+        }
+        _ => Err(ReadError::Fault(ReadFault::Form)),
     }
-    if choice == 1 {
-        return Ok((Next::Reject, rest));
-    }
-    if choice != 2 {
-        return Err(ReadError::Fault(ReadFault::Form));
-    }
-    let (to, rest) = later_state_of(states, state, rest)?;
-    Ok((Next::State(to), rest))
 }
 
-#[tactic(auto, unfolding(crate::specs::Reading::bits_extract_at))]
-fn bits_extract_of(need: u8, bytes: &[u8]) -> Result<(Extract, &[u8]), ReadError>
-    ensures { Gives (λ x. (x.0, x.1.now)) result (bits_extract_at need bytes.now) }
+#[tactic(auto, unfolding(crate::specs::Reading::bits_at))]
+fn bits_of(need: u8, bytes: &[u8]) -> Result<((u16, Lane), &[u8]), ReadError>
+    ensures { Gives (λ x. (x.0, x.1.now)) result (bits_at need bytes.now) }
 {
     let (from, rest) = two_of(bytes)?;
     let (lane, rest) = lane_of(rest)?;
     if from as u32 + lane.len as u32 > 8 * need as u32 {
         return Err(ReadError::Fault(ReadFault::Form));
     }
-    Ok((Extract::Bits { from, lane }, rest))
+    Ok(((from, lane), rest))
 }
 
 #[tactic(auto, unfolding(crate::specs::Reading::extract_at))]
 fn extract_of(need: u8, bytes: &[u8]) -> Result<(Extract, &[u8]), ReadError>
     ensures { Gives (λ x. (x.0, x.1.now)) result (extract_at need bytes.now) }
 {
-    let (choice, rest) = byte_of(bytes)?;
-    if choice == 0 {
-        return bits_extract_of(need, rest);
+    match bytes {
+        [] => Err(ReadError::Fault(ReadFault::Short)),
+        [0, rest @ ..] => {
+            let ((from, lane), rest) = bits_of(need, rest)?;
+            Ok((Extract::Bits { from, lane }, rest))
+        }
+        [1, rest @ ..] => {
+            let (lane, rest) = lane_of_bits(1, rest)?;
+            Ok((Extract::One { lane }, rest))
+        }
+        _ => Err(ReadError::Fault(ReadFault::Form)),
     }
-    if choice != 1 {
-        return Err(ReadError::Fault(ReadFault::Form));
-    }
-    let (lane, rest) = lane_of_bits(1, rest)?;
-    Ok((Extract::One { lane }, rest))
 }
 
-fn extracts_of(
-    alloc: Global,
+#[derive(Drop)]
+struct Extracts {
     need: u8,
-    count: u8,
-    bytes: &[u8],
-) -> Result<(Vec<Extract>, &[u8]), ReadError>
-    ensures { Gives (λ x. (x.0.items, x.1.now)) result (extracts_at need count bytes.now) }
-{
-    let mut extracts = Vec::new(alloc);
-    let mut rest = bytes;
-    for _ in 0..count {
-        let (extract, after) = extract_of(need, rest)?;
-        extracts.push(extract)?;
-        rest = after;
-    }
-    Ok((extracts, rest))
 }
 
-#[tactic(auto, unfolding(crate::specs::Reading::entry_head_at))]
-fn entry_head_of(
-    states: usize,
-    least: u8,
-    bytes: &[u8],
-) -> Result<((u8, ((u32, u32), (u8, u8))), &[u8]), ReadError>
-    ensures { Gives (λ x. (x.0, x.1.now)) result (entry_head_at states least bytes.now) }
-{
-    let (state, rest) = entry_state_of(states, least, bytes)?;
-    let (matched, rest) = match_of(rest)?;
-    let (needed, rest) = need_of(rest)?;
-    Ok(((state, (matched, needed)), rest))
+impl Items for Extracts {
+    type Item = Extract;
+
+    ghost item_at = { λ list _. extract_at list.need };
+
+    ghost after = { λ _ _. 0 };
+
+    fn item<'a>(
+        &self,
+        _alloc: Global,
+        _least: u32,
+        bytes: &'a [u8],
+    ) -> Result<(Extract, &'a [u8]), ReadError> {
+        extract_of(self.need, bytes)
+    }
+
+    fn least_size(&self) -> usize {
+        4
+    }
+
+    fn least_after(&self, _extract: &Extract) -> u32 {
+        0
+    }
 }
+
+fn extracts_of(alloc: Global, need: u8, bytes: &[u8]) -> Result<(Vec<Extract>, &[u8]), ReadError>
+    ensures { Gives (λ x. (x.0.items, x.1.now)) result (listed byte_at (list_at (extract_at need)) bytes.now) }
+{
+    let (count, rest) = byte_of(bytes)?;
+    items_of(alloc, &Extracts { need }, count as u64, rest)
+}
+
+// ---- entries
 
 #[tactic(auto, unfolding(crate::specs::Reading::entry_at))]
-fn entry_of(
+fn entry_of<'a>(
     alloc: Global,
-    states: usize,
-    least: u8,
-    bytes: &[u8],
-) -> Result<(ParserEntry, &[u8]), ReadError>
-    ensures { Gives (λ x. (x.0, x.1.now)) result (entry_at states least bytes.now) }
+    states: &[ParserState],
+    least: u32,
+    bytes: &'a [u8],
+) -> Result<(ParserEntry, &'a [u8]), ReadError>
+    ensures { Gives (λ x. (x.0, x.1.now)) result (entry_at states.now least bytes.now) }
 {
-    let ((state, ((value, mask), (need, advance))), rest) = entry_head_of(states, least, bytes)?;
-    let (next, rest) = next_of(states, state, rest)?;
-    let (count, rest) = byte_of(rest)?;
-    let (extracts, rest) = extracts_of(alloc, need, count, rest)?;
-    let extracts = Sequence::from_vec(extracts);
-    Ok((
-        ParserEntry {
-            state,
-            value,
-            mask,
-            need,
-            advance,
-            next,
-            extracts,
-        },
-        rest,
-    ))
+    let (head, rest) = entry_head_of(states, least, bytes)?;
+    let (next, rest) = next_of(states.len(), head.state, rest)?;
+    let (extracts, rest) = extracts_of(alloc, head.need, rest)?;
+    let entry = ParserEntry {
+        state: head.state,
+        value: head.value,
+        mask: head.mask,
+        need: head.need,
+        advance: head.advance,
+        next,
+        extracts: Sequence::from_vec(extracts),
+    };
+    Ok((entry, rest))
 }
 
-fn entries_of(
-    alloc: Global,
-    states: usize,
-    count: u16,
-    bytes: &[u8],
-) -> Result<(Vec<ParserEntry>, &[u8]), ReadError>
-    ensures { Gives (λ x. (x.0.items, x.1.now)) result (entries_at states count bytes.now) }
-{
-    let mut entries = Vec::new(alloc);
-    let mut rest = bytes;
-    let mut least = 0;
-    for _ in 0..count {
-        let (entry, after) = entry_of(alloc, states, least, rest)?;
-        least = entry.state;
-        entries.push(entry)?;
-        rest = after;
+#[derive(Drop)]
+struct Entries<'s> {
+    states: &'s [ParserState],
+}
+
+impl<'s> Items for Entries<'s> {
+    type Item = ParserEntry;
+
+    ghost item_at = { λ list. entry_at list.states.now };
+
+    ghost after = { λ _. state_of };
+
+    fn item<'a>(
+        &self,
+        alloc: Global,
+        least: u32,
+        bytes: &'a [u8],
+    ) -> Result<(ParserEntry, &'a [u8]), ReadError> {
+        entry_of(alloc, self.states, least, bytes)
     }
-    Ok((entries, rest))
+
+    fn least_size(&self) -> usize {
+        13
+    }
+
+    fn least_after(&self, entry: &ParserEntry) -> u32 {
+        entry.state as u32
+    }
 }
 
+fn entries_of<'a>(
+    alloc: Global,
+    states: &[ParserState],
+    bytes: &'a [u8],
+) -> Result<(Vec<ParserEntry>, &'a [u8]), ReadError>
+    ensures { Gives (λ x. (x.0.items, x.1.now)) result (listed (number_at 2) (items_at (entry_at states.now) state_of 0) bytes.now) }
+{
+    let (count, rest) = two_of(bytes)?;
+    items_of(alloc, &Entries { states }, count as u64, rest)
+}
+
+/// The states behind their count, and the entries behind theirs.
 #[tactic(auto, unfolding(crate::specs::Reading::parser_at))]
 pub fn parser_of(alloc: Global, bytes: &[u8]) -> Result<(ParserConfig, &[u8]), ReadError>
     ensures { Gives (λ x. (x.0, x.1.now)) result (parser_at bytes.now) }
 {
     let (states, rest) = states_of(alloc, bytes)?;
-    let (count, rest) = two_of(rest)?;
-    let (entries, rest) = entries_of(alloc, states.len(), count, rest)?;
+    let (entries, rest) = entries_of(alloc, &states, rest)?;
     let states = Sequence::from_vec(states);
     let entries = Sequence::from_vec(entries);
-    Ok((ParserConfig { states, entries }, rest))
+    let tails = Sequence::new(alloc);
+    Ok((
+        ParserConfig {
+            states,
+            entries,
+            tails,
+        },
+        rest,
+    ))
 }

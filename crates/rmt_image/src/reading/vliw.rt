@@ -1,52 +1,80 @@
-ghost use Rattle.std.specs.Prelude.{◌≡◌, ◌≤◌};
-ghost use Rattle.rmt_image.specs.Reading.{Gives, source_choice_at, source_of, source_at, kind_at, operation_at, operations_at, vliw_at, code_at};
+//! Instructions, each at its place in a slot.
+
+ghost use Rattle.std.specs.Prelude.{◌≡◌, ◌≤◌, ◌<◌, ◌^◌, ◌++◌, OnOk, IfOk};
+ghost use Rattle.rmt_config.specs.CodeForm.{slot_places, places_of};
+ghost use Rattle.rmt_image.specs.Readers.{Gives, kept, where_, each, items_at, byte_at, number_at};
+ghost use Rattle.rmt_image.specs.Reading.{below, fits_word, fits_held, source_at, kind_at, operation_at, next_word, vliw_at};
 
 use crate::fault::{ReadError, ReadFault};
+use crate::reading::items::{Items, items_of};
 use crate::reading::lane::{lane_from, word_of};
 use crate::reading::number::{byte_of, four_of, two_of};
+use rmt_bits::lane::word_size;
 use rmt_bits::sequence::Sequence;
-use rmt_config::config::{OpKind, Operation, Source, Vliw};
-use rmt_config::form::vliw::{kind_fits, source_fits};
-use std::alloc::Global;
+use rmt_config::config::{OpKind, Operation, SlotUnit, Source, Unit, Vliw};
+use rmt_config::form::code::{Place, kind_fits};
+use std::alloc::{AllocError, Global};
 
-#[tactic(auto, unfolding(crate::specs::Reading::source_choice_at))]
-fn source_choice_of(place: (u16, bool), bytes: &[u8]) -> Result<(u8, &[u8]), ReadError>
-    ensures { Gives (λ x. (x.0, x.1.now)) result (source_choice_at place bytes.now) }
+// ---- operations
+
+fn low_of(len: u8, word: u8, bytes: &[u8]) -> Result<(u8, &[u8]), ReadError>
+    requires { word < 224 }
+    ensures { Gives (λ x. (x.0, x.1.now)) result (kept (fits_word len word) byte_at bytes.now) }
 {
-    let (choice, rest) = byte_of(bytes)?;
-    if choice > 2 || (place.1 && choice == 1) {
+    let (low, rest) = byte_of(bytes)?;
+    if low as u16 + len as u16 > word_size(word) as u16 {
         return Err(ReadError::Fault(ReadFault::Form));
     }
-    Ok((choice, rest))
+    Ok((low, rest))
 }
 
-fn source_behind(choice: u8, bytes: &[u8]) -> Result<(Source, &[u8]), ReadError>
-    ensures { Gives (λ x. (x.0, x.1.now)) result (source_of choice bytes.now) }
+fn held_of(place: Place, len: u8, bytes: &[u8]) -> Result<(u16, &[u8]), ReadError>
+    ensures { Gives (λ x. (x.0, x.1.now)) result (kept (fits_held place len) (number_at 2) bytes.now) }
 {
-    if choice == 0 {
-        let (word, rest) = word_of(0, bytes)?;
-        let (low, rest) = byte_of(rest)?;
-        return Ok((Source::Word { word, low }, rest));
+    let (low, rest) = two_of(bytes)?;
+    if low as u32 + len as u32 > place.held as u32 {
+        return Err(ReadError::Fault(ReadFault::Form));
     }
-    if choice == 1 {
-        let (low, rest) = two_of(bytes)?;
-        return Ok((Source::Held { low }, rest));
-    }
-    let (value, rest) = four_of(bytes)?;
-    Ok((Source::Constant { value }, rest))
+    Ok((low, rest))
 }
 
+fn constant_of(len: u8, bytes: &[u8]) -> Result<(u32, &[u8]), ReadError>
+    requires { len ≤ 32 }
+    ensures { Gives (λ x. (x.0, x.1.now)) result (kept (below (2 ^ len)) (number_at 4) bytes.now) }
+{
+    let (value, rest) = four_of(bytes)?;
+    if value as u64 >= 1u64 << len {
+        return Err(ReadError::Fault(ReadFault::Form));
+    }
+    Ok((value, rest))
+}
+
+/// A source of `len` bits, at most 32, of an instruction at a place.
 #[tactic(auto, unfolding(crate::specs::Reading::source_at))]
-fn source_from(place: (u16, bool), len: u8, bytes: &[u8]) -> Result<(Source, &[u8]), ReadError>
+fn source_of(place: Place, len: u8, bytes: &[u8]) -> Result<(Source, &[u8]), ReadError>
     requires { len ≤ 32 }
     ensures { Gives (λ x. (x.0, x.1.now)) result (source_at place len bytes.now) }
 {
-    let (choice, rest) = source_choice_of(place, bytes)?;
-    let (source, rest) = source_behind(choice, rest)?;
-    if !source_fits(place, len, source) {
-        return Err(ReadError::Fault(ReadFault::Form));
+    match bytes {
+        [] => Err(ReadError::Fault(ReadFault::Short)),
+        [0, rest @ ..] => {
+            let (word, rest) = word_of(0, rest)?;
+            let (low, rest) = low_of(len, word, rest)?;
+            Ok((Source::Word { word, low }, rest))
+        }
+        [1, rest @ ..] => {
+            if place.is_default {
+                return Err(ReadError::Fault(ReadFault::Form));
+            }
+            let (low, rest) = held_of(place, len, rest)?;
+            Ok((Source::Held { low }, rest))
+        }
+        [2, rest @ ..] => {
+            let (value, rest) = constant_of(len, rest)?;
+            Ok((Source::Constant { value }, rest))
+        }
+        _ => Err(ReadError::Fault(ReadFault::Form)),
     }
-    Ok((source, rest))
 }
 
 #[tactic(auto, unfolding(crate::specs::Reading::kind_at))]
@@ -67,17 +95,13 @@ fn kind_of(bytes: &[u8]) -> Result<(OpKind, &[u8]), ReadError>
 }
 
 #[tactic(auto, unfolding(crate::specs::Reading::operation_at))]
-fn operation_of(
-    place: (u16, bool),
-    least: u16,
-    bytes: &[u8],
-) -> Result<(Operation, &[u8]), ReadError>
+fn operation_of(place: Place, least: u32, bytes: &[u8]) -> Result<(Operation, &[u8]), ReadError>
     ensures { Gives (λ x. (x.0, x.1.now)) result (operation_at place least bytes.now) }
 {
     let (lane, rest) = lane_from(least, bytes)?;
     let (kind, rest) = kind_of(rest)?;
-    let (left, rest) = source_from(place, lane.len, rest)?;
-    let (right, rest) = source_from(place, lane.len, rest)?;
+    let (left, rest) = source_of(place, lane.len, rest)?;
+    let (right, rest) = source_of(place, lane.len, rest)?;
     if !kind_fits(kind, right) {
         return Err(ReadError::Fault(ReadFault::Form));
     }
@@ -94,43 +118,85 @@ fn operation_of(
     ))
 }
 
-fn operations_of(
-    alloc: Global,
-    place: (u16, bool),
-    count: u8,
-    bytes: &[u8],
-) -> Result<(Vec<Operation>, &[u8]), ReadError>
-    ensures { Gives (λ x. (x.0.items, x.1.now)) result (operations_at place count bytes.now) }
-{
-    let mut ops = Vec::new(alloc);
-    let mut rest = bytes;
-    let mut least: u16 = 0;
-    for _ in 0..count {
-        let (op, after) = operation_of(place, least, rest)?;
-        least = op.word as u16 + 1;
-        ops.push(op)?;
-        rest = after;
+/// The operations of an instruction at a place.
+#[derive(Drop)]
+struct Operations {
+    place: Place,
+}
+
+impl Items for Operations {
+    type Item = Operation;
+
+    ghost item_at = { λ list. operation_at list.place };
+
+    ghost after = { λ _. next_word };
+
+    fn item<'a>(
+        &self,
+        _alloc: Global,
+        least: u32,
+        bytes: &'a [u8],
+    ) -> Result<(Operation, &'a [u8]), ReadError> {
+        operation_of(self.place, least, bytes)
     }
-    Ok((ops, rest))
+
+    fn least_size(&self) -> usize {
+        10
+    }
+
+    fn least_after(&self, op: &Operation) -> u32 {
+        op.word as u32 + 1
+    }
 }
 
 #[tactic(auto, unfolding(crate::specs::Reading::vliw_at))]
-fn vliw_of(alloc: Global, place: (u16, bool), bytes: &[u8]) -> Result<(Vliw, &[u8]), ReadError>
+fn vliw_of(alloc: Global, place: Place, bytes: &[u8]) -> Result<(Vliw, &[u8]), ReadError>
     ensures { Gives (λ x. (x.0, x.1.now)) result (vliw_at place bytes.now) }
 {
     let (count, rest) = byte_of(bytes)?;
-    let (ops, rest) = operations_of(alloc, place, count, rest)?;
+    let (ops, rest) = items_of(alloc, &Operations { place }, count as u64, rest)?;
     let ops = Sequence::from_vec(ops);
     Ok((Vliw { ops }, rest))
 }
 
-/// An instruction for each place: the data bits of its slot, and whether it is the slot's default.
-pub fn code_of<'a>(
+// ---- the code of a stage
+
+fn put_slot_places(places: &mut Vec<Place>, slot: &SlotUnit) -> Result<(), AllocError>
+    ensures { OnOk result (places.new.items ≡ places.old.items ++ slot_places slot.now) }
+{
+    let held = slot.held;
+    for _ in 0..slot.actions {
+        places.push(Place {
+            held,
+            is_default: false,
+        })?;
+    }
+    places.push(Place {
+        held,
+        is_default: true,
+    })?;
+    Ok(())
+}
+
+/// Where the instructions of a stage stand, in their order.
+fn place_list(alloc: Global, units: &[Unit]) -> Result<Vec<Place>, AllocError>
+    ensures { IfOk result (λ places. places.items ≡ places_of units.now) }
+{
+    let mut places = Vec::new(alloc);
+    for unit in units {
+        if let Unit::Slot(slot) = unit {
+            put_slot_places(&mut places, slot)?;
+        }
+    }
+    Ok(places)
+}
+
+fn code_at<'a>(
     alloc: Global,
-    places: &[(u16, bool)],
+    places: &[Place],
     bytes: &'a [u8],
 ) -> Result<(Vec<Vliw>, &'a [u8]), ReadError>
-    ensures { Gives (λ x. (x.0.items, x.1.now)) result (code_at places.now bytes.now) }
+    ensures { Gives (λ x. (x.0.items, x.1.now)) result (each vliw_at places.now bytes.now) }
 {
     let mut code = Vec::new(alloc);
     let mut rest = bytes;
@@ -140,4 +206,16 @@ pub fn code_of<'a>(
         rest = after;
     }
     Ok((code, rest))
+}
+
+/// An instruction for each place of the units of a stage.
+pub fn code_of<'a>(
+    alloc: Global,
+    units: &[Unit],
+    bytes: &'a [u8],
+) -> Result<(Vec<Vliw>, &'a [u8]), ReadError>
+    ensures { Gives (λ x. (x.0.items, x.1.now)) result (each vliw_at (places_of units.now) bytes.now) }
+{
+    let places = place_list(alloc, units)?;
+    code_at(alloc, &places, bytes)
 }

@@ -1,33 +1,26 @@
-ghost use Rattle.std.specs.Prelude.{◌≡◌, ◌++◌, OnOk};
-ghost use Rattle.std.specs.List.{flat_map};
-ghost use Rattle.rmt_config.specs.Spelling.{two_bytes, four_bytes, spelled_lane};
+ghost use Rattle.rmt_config.specs.Spelling.{spelled_lane, spelled_header, CountsFitHeader};
 
+use crate::writing::spelled::{Spelled, put_list8};
 use rmt_bits::lane::Lane;
+use rmt_config::config::OutHeader;
 use std::alloc::AllocError;
 
-pub fn put_two(out: &mut Vec<u8>, number: u16) -> Result<(), AllocError>
-    ensures { OnOk result (out.new.items ≡ out.old.items ++ two_bytes number) }
-{
-    out.extend_from_slice(&number.to_be_bytes())
-}
+impl Spelled for Lane {
+    ghost spelling = { spelled_lane };
 
-pub fn put_four(out: &mut Vec<u8>, number: u32) -> Result<(), AllocError>
-    ensures { OnOk result (out.new.items ≡ out.old.items ++ four_bytes number) }
-{
-    out.extend_from_slice(&number.to_be_bytes())
-}
-
-pub fn put_lane(out: &mut Vec<u8>, lane: &Lane) -> Result<(), AllocError>
-    ensures { OnOk result (out.new.items ≡ out.old.items ++ spelled_lane lane.now) }
-{
-    out.extend_from_slice(&[lane.word, lane.low, lane.len])
-}
-
-pub fn put_lanes(out: &mut Vec<u8>, lanes: &[Lane]) -> Result<(), AllocError>
-    ensures { OnOk result (out.new.items ≡ out.old.items ++ flat_map spelled_lane lanes.now) }
-{
-    for lane in lanes {
-        put_lane(out, lane)?;
+    fn put(&self, out: &mut Vec<u8>) -> Result<(), AllocError> {
+        out.extend_from_slice(&[self.word, self.low, self.len])
     }
-    Ok(())
+}
+
+impl Spelled for OutHeader {
+    ghost spelling = { spelled_header };
+
+    ghost fits = { CountsFitHeader };
+
+    fn put(&self, out: &mut Vec<u8>) -> Result<(), AllocError> {
+        self.valid.put(out)?;
+        out.push(self.bytes)?;
+        put_list8(out, self.pieces.as_slice())
+    }
 }

@@ -1,8 +1,7 @@
-ghost use Rattle.std.specs.Prelude.{◌≡◌, ◌++◌, ◌∷◌, [], ◌<◌, ◌^◌, length, All, OnOk};
-ghost use Rattle.std.specs.List.{flat_map};
+ghost use Rattle.std.specs.Prelude.{◌≡◌, ◌++◌, ◌∷◌, [], ◌<◌, ◌^◌, length, OnOk};
 ghost use Rattle.rmt_config.specs.Spelling.{spelled_flag, spelled_guard, spelled_test, spelled_gate, spelled_memory, spelled_number, spelled_slot_head, spelled_slot, spelled_unit, CountsFitSlot, CountsFitUnit};
 
-use crate::writing::lane::{put_four, put_lane, put_lanes, put_two};
+use crate::writing::spelled::{Spelled, put_four, put_list8, put_list16, put_list32, put_two};
 use rmt_config::config::{CellNumber, GateTest, GateUnit, Memory, SlotUnit, Unit, UnitGuard};
 use std::alloc::AllocError;
 
@@ -24,21 +23,14 @@ fn put_guard(out: &mut Vec<u8>, guard: &Option<UnitGuard>) -> Result<(), AllocEr
     }
 }
 
-fn put_test(out: &mut Vec<u8>, test: &GateTest) -> Result<(), AllocError>
-    ensures { OnOk result (out.new.items ≡ out.old.items ++ spelled_test test.now) }
-{
-    put_lane(out, &test.lane)?;
-    put_four(out, test.value)?;
-    put_four(out, test.mask)
-}
+impl Spelled for GateTest {
+    ghost spelling = { spelled_test };
 
-fn put_tests(out: &mut Vec<u8>, tests: &[GateTest]) -> Result<(), AllocError>
-    ensures { OnOk result (out.new.items ≡ out.old.items ++ flat_map spelled_test tests.now) }
-{
-    for test in tests {
-        put_test(out, test)?;
+    fn put(&self, out: &mut Vec<u8>) -> Result<(), AllocError> {
+        self.lane.put(out)?;
+        put_four(out, self.value)?;
+        put_four(out, self.mask)
     }
-    Ok(())
 }
 
 fn put_gate(out: &mut Vec<u8>, gate: &GateUnit) -> Result<(), AllocError>
@@ -47,8 +39,7 @@ fn put_gate(out: &mut Vec<u8>, gate: &GateUnit) -> Result<(), AllocError>
 {
     out.push(gate.node)?;
     put_guard(out, &gate.guard)?;
-    out.push(gate.tests.len() as u8)?;
-    put_tests(out, gate.tests.as_slice())
+    put_list8(out, gate.tests.as_slice())
 }
 
 fn put_memory(out: &mut Vec<u8>, memory: &Memory) -> Result<(), AllocError>
@@ -86,20 +77,13 @@ fn put_memory(out: &mut Vec<u8>, memory: &Memory) -> Result<(), AllocError>
     }
 }
 
-fn put_number(out: &mut Vec<u8>, number: &CellNumber) -> Result<(), AllocError>
-    ensures { OnOk result (out.new.items ≡ out.old.items ++ spelled_number number.now) }
-{
-    put_four(out, number.cell)?;
-    put_four(out, number.number)
-}
+impl Spelled for CellNumber {
+    ghost spelling = { spelled_number };
 
-fn put_numbers(out: &mut Vec<u8>, numbers: &[CellNumber]) -> Result<(), AllocError>
-    ensures { OnOk result (out.new.items ≡ out.old.items ++ flat_map spelled_number numbers.now) }
-{
-    for number in numbers {
-        put_number(out, number)?;
+    fn put(&self, out: &mut Vec<u8>) -> Result<(), AllocError> {
+        put_four(out, self.cell)?;
+        put_four(out, self.number)
     }
-    Ok(())
 }
 
 fn put_slot_head(out: &mut Vec<u8>, slot: &SlotUnit) -> Result<(), AllocError>
@@ -118,35 +102,26 @@ fn put_slot(out: &mut Vec<u8>, slot: &SlotUnit) -> Result<(), AllocError>
     ensures { OnOk result (out.new.items ≡ out.old.items ++ spelled_slot slot.now) }
 {
     put_slot_head(out, slot)?;
-    put_two(out, slot.keys.len() as u16)?;
-    put_lanes(out, slot.keys.as_slice())?;
+    put_list16(out, slot.keys.as_slice())?;
     put_memory(out, &slot.memory)?;
-    put_four(out, slot.numbers.len() as u32)?;
-    put_numbers(out, slot.numbers.as_slice())
+    put_list32(out, slot.numbers.as_slice())
 }
 
-fn put_unit(out: &mut Vec<u8>, unit: &Unit) -> Result<(), AllocError>
-    requires { CountsFitUnit unit.now }
-    ensures { OnOk result (out.new.items ≡ out.old.items ++ spelled_unit unit.now) }
-{
-    match unit {
-        Unit::Gate(gate) => {
-            out.push(0)?;
-            put_gate(out, gate)
-        }
-        Unit::Slot(slot) => {
-            out.push(1)?;
-            put_slot(out, slot)
-        }
-    }
-}
+impl Spelled for Unit {
+    ghost spelling = { spelled_unit };
 
-pub fn put_units(out: &mut Vec<u8>, units: &[Unit]) -> Result<(), AllocError>
-    requires { All CountsFitUnit units.now }
-    ensures { OnOk result (out.new.items ≡ out.old.items ++ flat_map spelled_unit units.now) }
-{
-    for unit in units {
-        put_unit(out, unit)?;
+    ghost fits = { CountsFitUnit };
+
+    fn put(&self, out: &mut Vec<u8>) -> Result<(), AllocError> {
+        match self {
+            Unit::Gate(gate) => {
+                out.push(0)?;
+                put_gate(out, gate)
+            }
+            Unit::Slot(slot) => {
+                out.push(1)?;
+                put_slot(out, slot)
+            }
+        }
     }
-    Ok(())
 }

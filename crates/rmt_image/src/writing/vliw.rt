@@ -1,8 +1,7 @@
-ghost use Rattle.std.specs.Prelude.{◌≡◌, ◌++◌, All, OnOk};
-ghost use Rattle.std.specs.List.{flat_map};
+ghost use Rattle.std.specs.Prelude.{◌≡◌, ◌++◌, OnOk};
 ghost use Rattle.rmt_config.specs.Spelling.{spelled_kind, spelled_source, spelled_operation, spelled_vliw, CountsFitVliw};
 
-use crate::writing::lane::{put_four, put_two};
+use crate::writing::spelled::{Spelled, put_four, put_list8, put_two};
 use rmt_config::config::{OpKind, Operation, Source, Vliw};
 use std::alloc::AllocError;
 
@@ -35,37 +34,22 @@ fn put_source(out: &mut Vec<u8>, source: Source) -> Result<(), AllocError>
     }
 }
 
-fn put_operation(out: &mut Vec<u8>, op: &Operation) -> Result<(), AllocError>
-    ensures { OnOk result (out.new.items ≡ out.old.items ++ spelled_operation op.now) }
-{
-    out.extend_from_slice(&[op.word, op.low, op.len, kind_byte(op.kind)])?;
-    put_source(out, op.left)?;
-    put_source(out, op.right)
-}
+impl Spelled for Operation {
+    ghost spelling = { spelled_operation };
 
-fn put_operations(out: &mut Vec<u8>, ops: &[Operation]) -> Result<(), AllocError>
-    ensures { OnOk result (out.new.items ≡ out.old.items ++ flat_map spelled_operation ops.now) }
-{
-    for op in ops {
-        put_operation(out, op)?;
+    fn put(&self, out: &mut Vec<u8>) -> Result<(), AllocError> {
+        out.extend_from_slice(&[self.word, self.low, self.len, kind_byte(self.kind)])?;
+        put_source(out, self.left)?;
+        put_source(out, self.right)
     }
-    Ok(())
 }
 
-fn put_vliw(out: &mut Vec<u8>, vliw: &Vliw) -> Result<(), AllocError>
-    requires { CountsFitVliw vliw.now }
-    ensures { OnOk result (out.new.items ≡ out.old.items ++ spelled_vliw vliw.now) }
-{
-    out.push(vliw.ops.len() as u8)?;
-    put_operations(out, vliw.ops.as_slice())
-}
+impl Spelled for Vliw {
+    ghost spelling = { spelled_vliw };
 
-pub fn put_code(out: &mut Vec<u8>, code: &[Vliw]) -> Result<(), AllocError>
-    requires { All CountsFitVliw code.now }
-    ensures { OnOk result (out.new.items ≡ out.old.items ++ flat_map spelled_vliw code.now) }
-{
-    for vliw in code {
-        put_vliw(out, vliw)?;
+    ghost fits = { CountsFitVliw };
+
+    fn put(&self, out: &mut Vec<u8>) -> Result<(), AllocError> {
+        put_list8(out, self.ops.as_slice())
     }
-    Ok(())
 }

@@ -8,6 +8,7 @@ use rmt_bits::sequence::Sequence;
 use rmt_chip::chip::Chip;
 use rmt_chip::frame::Frame;
 use rmt_chip::out::Out;
+use rmt_chip::supported::is_supported;
 use rmt_config::config::{
     Config, Extract, Memory, Next, OpKind, Operation, OutHeader, ParserConfig, ParserEntry,
     ParserState, SlotUnit, Source, Stage, Unit, Vliw,
@@ -118,6 +119,7 @@ fn parser(alloc: Global, loads: &[Lane]) -> Result<ParserConfig, Fail> {
     Ok(ParserConfig {
         states: Sequence::from_vec(vec![in alloc; state]?),
         entries: Sequence::from_vec(vec![in alloc; entry]?),
+        tails: Sequence::new(alloc),
     })
 }
 
@@ -184,10 +186,11 @@ pub fn config(
     })
 }
 
-/// A chip with a configuration that is in form and within the limits.
+/// A chip with a configuration that is in form and within the limits, and that the chip runs.
 pub fn open(rt: &(impl Abort + AllocGlobal), config: Config) -> Result<Chip, Fail> {
     assert!(rt; config.formed(rt.alloc())?, "a configuration in form");
     assert!(rt; config.fits().is_ok(), "a configuration within limits");
+    assert!(rt; is_supported(&config), "a configuration that the chip runs");
     Ok(Chip::open(rt.alloc(), config)?)
 }
 

@@ -1,11 +1,15 @@
--- The chip opens on what keeps the rules of form and the limits.
-use Rattle.rmt.specs.Promises.{IsSound}
+-- The chip opens on what it runs.
+use Rattle.rmt.specs.Promises.{MayRun}
 use Rattle.rmt.proofs.running.start.Goals as goal
 
 pub open-requires-clause-form : goal.open-requires-clause-form
-unfolding IsSound
+unfolding MayRun
 open-requires-clause-form c = c.requires.0
 
 pub open-requires-clause-limits : goal.open-requires-clause-limits
-unfolding IsSound
+unfolding MayRun
 open-requires-clause-limits c = c.requires.1
+
+pub open-requires-clause-supported : goal.open-requires-clause-supported
+unfolding MayRun
+open-requires-clause-supported c = c.requires.2

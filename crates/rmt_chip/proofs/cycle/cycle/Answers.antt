@@ -20,7 +20,7 @@ returns c =
     let place_is : place ≡ get_or c.act_all.new.places c.place_of-last.result place = ap (λ (p : Place). get_or c.act_all.new.places c.place_of-last.result p) c.index-places-last.is in
     IfOk-weaker c.leave.result _ _
     (λ answer left inputs before ring turn count held.
-    cycle_right config c.requires.fits.stages.rise inputs (input_of c.args.frame) before c.args.newest c.args.number c.args.latency c.place_of-last.result
+    cycle_right config c.requires.fits.stages.rise c.requires.fits.parser.no_tail inputs (input_of c.args.frame) before c.args.newest c.args.number c.args.latency c.place_of-last.result
     c.args.places.now c.write_all.new.places c.read_all.new.places c.act_all.new.places c.enter_if.new.place place answer c.leave.new.out.items
     ring c.requires.full turn count c.in_ok-enter_if.ensures c.write_all.ensures c.in_ok-read_all.ensures c.in_ok-act_all.ensures
     c.requires.leaves small last place_is left held)

@@ -3,8 +3,9 @@ use Rattle.std.specs.Prelude.{slice_index}
 use Rattle.std.proofs.lemmas.List.{take_all}
 use Rattle.rmt_bits.specs.declared.lane.Lane.{Lane}
 use Rattle.rmt_bits.specs.Bits.{number_of, deposit}
-use Rattle.rmt_config.specs.Life.{key_of, key_bits, lane_of}
-use Rattle.rmt_chip.proofs.EmitLaws.{key_bits_more, key_bits-le, key_of_more, filled_more, number_of-zero}
+use Rattle.rmt_config.specs.LaneForm.{bits_of_lanes}
+use Rattle.rmt_config.specs.Life.{key_of, lane_of}
+use Rattle.rmt_chip.proofs.EmitLaws.{bits_of_lanes_more, bits_of_lanes-le, key_of_more, filled_more, number_of-zero}
 use Rattle.rmt_chip.proofs.emit.fill.Goals as goal
 
 abbrev no_lane : Lane
@@ -13,8 +14,8 @@ no_lane = record { word = 0; low = 0; len = 0 }
 pub bytes_of_bits-requires-clause-within : goal.bytes_of_bits-requires-clause-within
 bytes_of_bits-requires-clause-within c =
     let i = c.loop-piece.piece-index in
-    let more = key_bits_more c.args.pieces.now i no_lane (omega arith) in
-    let most = key_bits-le c.args.pieces.now (i + 1) in
+    let more = bits_of_lanes_more c.args.pieces.now i no_lane (omega arith) in
+    let most = bits_of_lanes-le c.args.pieces.now (i + 1) in
     let at = c.loop-piece.invariant.at_is in
     let whole = c.requires.whole in
     omega arith
@@ -22,8 +23,8 @@ bytes_of_bits-requires-clause-within c =
 pub overflow_add-at : goal.overflow_add-at
 overflow_add-at c =
     let i = c.loop-piece.piece-index in
-    let more = key_bits_more c.args.pieces.now i no_lane (omega arith) in
-    let most = key_bits-le c.args.pieces.now (i + 1) in
+    let more = bits_of_lanes_more c.args.pieces.now i no_lane (omega arith) in
+    let most = bits_of_lanes-le c.args.pieces.now (i + 1) in
     let at = c.loop-piece.invariant.at_is in
     let whole = c.requires.whole in
     let short = c.requires.short in
@@ -35,8 +36,8 @@ loop-piece-preserved c =
     let lanes = c.args.pieces.now in
     let words = λ (w : ℕ). slice_index c.args.vector.now w in
     let lane = get_or lanes i no_lane in
-    let more = key_bits_more lanes i no_lane (omega arith) in
-    let most = key_bits-le lanes (i + 1) in
+    let more = bits_of_lanes_more lanes i no_lane (omega arith) in
+    let most = bits_of_lanes-le lanes (i + 1) in
     let at = c.loop-piece.invariant.at_is in
     let whole = c.requires.whole in
     let len : c.from-at.result ≡ lane.len = c.from-at.ensures in
@@ -59,7 +60,7 @@ returns c =
     let lanes = c.args.pieces.now in
     let words = λ (w : ℕ). slice_index c.args.vector.now w in
     let all = take_all c.loop-piece.piece-index lanes (omega arith) in
-    let at : c.loop-piece.at ≡ 8 * length c.args.buffer.now = c.loop-piece.invariant.at_is ∙ ap key_bits all ∙ c.requires.whole in
+    let at : c.loop-piece.at ≡ 8 * length c.args.buffer.now = c.loop-piece.invariant.at_is ∙ ap bits_of_lanes all ∙ c.requires.whole in
     let none : 8 * length c.args.buffer.now - c.loop-piece.at ≡ 0 = omega arith in
     c.loop-piece.invariant.so_far
     ∙ ap (λ (n : ℕ). key_of words (take c.loop-piece.piece-index lanes) * 2 ^ n) none

@@ -1,20 +1,20 @@
-use Rattle.std.proofs.Common.{◌≤◌, ◌==◌, ◌&&◌, bit_and, ℕ, Option, All, IsTrue, sym, ap, subst, ◌∙◌}
+use Rattle.std.proofs.Common.{◌≡◌, ℕ, List, Option, sym, ap, subst, ◌∙◌}
+use Rattle.std.specs.Prelude.{slice_index_or}
 use Rattle.rmt_config.specs.declared.config.ParserEntry.{ParserEntry}
-use Rattle.rmt_config.specs.Parser.{entry_of, step}
-use Rattle.rmt_chip.specs.Parsing.{StepGives}
-use Rattle.rmt_chip.specs.Runnable.{extract_fits}
-use Rattle.rmt_chip.proofs.ParseLaws.{find_holds}
+use Rattle.rmt_config.specs.Parser.{Parse, entry_of, taken}
+use Rattle.rmt_chip.specs.Parsing.{standing, StepGives}
+use Rattle.rmt_chip.proofs.ParseLaws.{entry_there, taken_without}
 use Rattle.rmt_chip.proofs.parse.one_state.Goals as goal
-
-pub follow-requires-clause-advance : goal.follow-requires-clause-advance
-follow-requires-clause-advance c =
-    find_holds (λ (e : ParserEntry). e.advance ≤ e.need) (λ (e : ParserEntry). (e.state == c.args.state) && (bit_and c.value_of-value.result e.mask == e.value)) c.args.parser.now.entries c.in-Some.entry.now (sym c.in-Some.ensures) c.requires.fits.short_steps
-
-pub follow-requires-clause-extracts : goal.follow-requires-clause-extracts
-follow-requires-clause-extracts c =
-    find_holds (λ (e : ParserEntry). All (λ x. IsTrue (extract_fits e.need x)) e.extracts) (λ (e : ParserEntry). (e.state == c.args.state) && (bit_and c.value_of-value.result e.mask == e.value)) c.args.parser.now.entries c.in-Some.entry.now (sym c.in-Some.ensures) c.requires.fits.extracts
 
 pub returns-in-Some-clause-step : goal.returns-in-Some-clause-step
 returns-in-Some-clause-step c = λ goes.
-    let found = ap (λ (v : ℕ). entry_of c.args.parser.now c.args.state v) (sym c.value_of-value.ensures) ∙ sym c.in-Some.ensures in
-    subst (λ (o : Option ParserEntry). StepGives goes (step goes c.args.frame.now o c.args.cursor c.args.vector.now) c.follow.result c.follow.new.vector) (sym found) (c.follow.ensures.step goes)
+    let parser = c.args.parser.now in
+    let frame = c.args.frame.now in
+    let n = c.in-Some.number in
+    let e = c.index-entries-number.result in
+    let r = standing c.args.vector.now c.args.cursor in
+    let read : e ≡ slice_index_or parser.entries n e = c.index-entries-number.is ∙ ap (λ (es : List ParserEntry). slice_index_or es n e) c.as_slice-entries.ensures in
+    let found = entry_there parser c.args.state c.value_of-value.result n e (sym c.in-Some.ensures) read in
+    let which = c.in-Some.ensures ∙ ap (λ (v : ℕ). entry_of parser c.args.state v) c.value_of-value.ensures in
+    subst (λ (o : Option ℕ). StepGives goes (taken goes parser frame o r) c.follow.result c.follow.new.vector) which
+    (subst (λ (p : Parse). StepGives goes p c.follow.result c.follow.new.vector) (sym (taken_without goes parser c.requires.fits.no_tail frame n e r found)) (c.follow.ensures.step goes))

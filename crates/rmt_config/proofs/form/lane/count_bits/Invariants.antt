@@ -1,5 +1,5 @@
 use Rattle.std.proofs.Common.{◌≡◌, ◌≤◌, ◌*◌, take}
-use Rattle.rmt_config.specs.Form.{bits_of_lanes}
+use Rattle.rmt_config.specs.LaneForm.{bits_of_lanes}
 use Rattle.rmt_config.proofs.form.lane.count_bits.Given as goal
 
 abbrev pub invariant-loop-lane : goal.invariant-loop-lane

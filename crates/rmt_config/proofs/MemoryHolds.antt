@@ -1,0 +1,60 @@
+-- Answers on the rows of a memory, at equal layouts, rows and numbers.
+use Rattle.std.proofs.Common.{◌≡◌, ℕ, ◌*◌, ◌/◌, ◌%◌, List, length, Bool, false, ap, ◌∙◌, subst, arith}
+use Rattle.std.specs.Prelude.{◌↔◌, IsTrue}
+use Rattle.std.proofs.lemmas.Bool.{false≢true}
+use Rattle.rmt_config.specs.declared.form.layout.Layout.{Layout}
+use Rattle.rmt_config.specs.declared.config.Stage.{Stage}
+use Rattle.rmt_config.specs.declared.config.SlotUnit.{SlotUnit}
+use Rattle.rmt_config.specs.declared.config.SramRow.{SramRow}
+use Rattle.rmt_config.specs.declared.config.TcamRow.{TcamRow}
+use Rattle.rmt_config.specs.declared.config.CellNumber.{CellNumber}
+use Rattle.rmt_config.specs.StageForm.{srow_number, trow_number}
+use Rattle.rmt_config.specs.Shapes.{record_width, record_units}
+use Rattle.rmt_config.specs.Cells.{sram_row}
+use Rattle.rmt_config.specs.Layouts.{BlocksTold, listed_cells, cells_hold, exact_records, SramTold}
+
+abbrev pub SramAnswer : Bool → Layout → List SramRow → List CellNumber → List ℕ → Type 0
+SramAnswer b l rows numbers blocks =
+    IsTrue b ↔ BlocksTold l (λ r. srow_number r / l.rows) (λ r. srow_number r % l.rows) (λ (r : SramRow). r.bits) (listed_cells numbers) rows blocks
+
+pub sram-same : (b : Bool) (l l' : Layout) (rows rows' : List SramRow) (numbers numbers' : List CellNumber) (blocks : List ℕ) → l' ≡ l → rows' ≡ rows → numbers' ≡ numbers
+    → SramAnswer b l' rows' numbers' blocks → SramAnswer b l rows numbers blocks
+sram-same b l l' rows rows' numbers numbers' blocks el er en h =
+    subst (λ x. SramAnswer b x rows numbers blocks) el
+    (subst (λ x. SramAnswer b l' x numbers blocks) er (subst (λ x. SramAnswer b l' rows' x blocks) en h))
+
+abbrev pub TcamAnswer : Bool → Layout → List TcamRow → List CellNumber → List ℕ → Type 0
+TcamAnswer b l rows numbers blocks =
+    IsTrue b ↔ BlocksTold l (λ r. trow_number r / l.rows) (λ r. trow_number r % l.rows) (λ (r : TcamRow). r.mask) (listed_cells numbers) rows blocks
+
+pub tcam-same : (b : Bool) (l l' : Layout) (rows rows' : List TcamRow) (numbers numbers' : List CellNumber) (blocks : List ℕ) → l' ≡ l → rows' ≡ rows → numbers' ≡ numbers
+    → TcamAnswer b l' rows' numbers' blocks → TcamAnswer b l rows numbers blocks
+tcam-same b l l' rows rows' numbers numbers' blocks el er en h =
+    subst (λ x. TcamAnswer b x rows numbers blocks) el
+    (subst (λ x. TcamAnswer b l' x numbers blocks) er (subst (λ x. TcamAnswer b l' rows' x blocks) en h))
+
+pub cells-same : (l l' : Layout) (rows rows' : List SramRow) (numbers numbers' : List CellNumber) (blocks : List ℕ) (first actions : ℕ) → l' ≡ l → rows' ≡ rows → numbers' ≡ numbers
+    → cells_hold l' (sram_row rows') blocks first actions numbers' ≡ cells_hold l (sram_row rows) blocks first actions numbers
+cells-same l l' rows rows' numbers numbers' blocks first actions el er en =
+    ap (λ x. cells_hold l' (sram_row rows') blocks first actions x) en
+    ∙ ap (λ x. cells_hold l' (sram_row x) blocks first actions numbers) er ∙ ap (λ x. cells_hold x (sram_row rows) blocks first actions numbers) el
+
+-- ---- an answer in three parts
+
+pub breaks_first : (A B : Type 0) → (A → ⊥) → IsTrue false ↔ (A × B)
+breaks_first A B unmet = (λ f. absurd (false≢true f), λ all. absurd (unmet all.0))
+
+pub breaks_second : (A B C : Type 0) → (B → ⊥) → IsTrue false ↔ (A × (B × C))
+breaks_second A B C unmet = (λ f. absurd (false≢true f), λ all. absurd (unmet all.1.0))
+
+-- a record of no bits has no blocks
+pub no_records : (stage : Stage) (s : SlotUnit) (p d : ℕ) (rs : List ℕ) → s.held ≡ 0
+    → length rs ≡ d * (record_units (4 * p) s.held * record_width s.held) → SramTold (exact_records p d s.held) stage s rs
+no_records stage s p d rs none len j lt =
+    let width : record_width s.held ≡ 0 = ap record_width none in
+    let e : d * (record_units (4 * p) s.held * record_width s.held) ≡ 0 =
+    ap (λ w. d * (record_units (4 * p) s.held * w)) width ∙ times_none d (record_units (4 * p) s.held) in
+    absurd (omega (arith, lt, len, e))
+  where
+    times_none : (a b : ℕ) → a * (b * 0) ≡ 0
+    times_none a b = omega arith

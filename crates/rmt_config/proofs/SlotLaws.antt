@@ -1,0 +1,256 @@
+-- The rules on what the memory of a slot holds, from the look over its rows.
+use Rattle.std.proofs.Common.{◌≡◌, ℕ, ◌+◌, ◌*◌, ◌%◌, ◌^◌, ◌<◌, ◌≤◌, List, [], ◌∷◌, length, get_or, drop, map, Bool, true, false, ◌&&◌, ltb, eqb, sym, refl, ap, ◌∙◌, subst, arith}
+use Rattle.std.specs.Prelude.{◌↔◌, IsTrue}
+use Rattle.std.specs.List.{list_all, flat_map, fold}
+use Rattle.std.proofs.lemmas.Bool.{and_parts, ltb-true, leb-true, eqb-true, eq-eqb, both_ways, not-true}
+use Rattle.std.proofs.lemmas.List.Sums.{AllPass-from_list_all}
+use Rattle.rmt_bits.proofs.FunctionLaws.{funext}
+use Rattle.rmt_bits.specs.declared.lane.Lane.{Lane}
+use Rattle.rmt_config.specs.declared.config.Stage.{Stage}
+use Rattle.rmt_config.specs.declared.config.Unit.{Unit}
+use Rattle.rmt_config.specs.declared.config.Unit.TheVariants.{Gate, Slot}
+use Rattle.rmt_config.specs.declared.config.GateUnit.{GateUnit}
+use Rattle.rmt_config.specs.declared.config.SlotUnit.{SlotUnit}
+use Rattle.rmt_config.specs.declared.config.Memory.{Memory}
+use Rattle.rmt_config.specs.declared.config.Memory.TheVariants.{Without, Exact, Ternary}
+use Rattle.rmt_config.specs.LaneForm.{bits_of_lanes, lane_is_formed}
+use Rattle.rmt_config.specs.Order.{rises_from}
+use Rattle.rmt_config.specs.Cells.{sram_row, content_of}
+use Rattle.rmt_config.specs.Shapes.{divided_up, record_width, record_units}
+use Rattle.rmt_config.specs.StageForm.{is_listed, sram_blocks, tcam_blocks, srow_fits, trow_fits, srow_is_formed, trow_is_formed, stage_is_formed, rows_are_formed}
+use Rattle.rmt_config.specs.UnitForm.{slot_is_formed, slot_head_is_formed, memory_is_formed, may_have_memory, unit_is_formed}
+use Rattle.rmt_config.specs.CellForm.{SlotHolds, numbers_are_formed, head_is_formed, none, coded_from}
+use Rattle.rmt_config.specs.MemoryRules.{FormedRows, ExactFits, TernaryFits}
+use Rattle.rmt_config.specs.Layouts.{quantum_of, local_of, entry_in, listed_cells, cells_hold, exact_keys, exact_records, ternary_keys, ternary_records, SramTold, TcamTold}
+use Rattle.rmt_config.proofs.RiseLaws.{one_off}
+use Rattle.rmt_config.proofs.CellLayouts.{exact-entry, ternary-record}
+use Rattle.rmt_config.proofs.MemoryLaws.{exact-told, ternary-told}
+
+-- ---- the numbers of a slot
+
+all-within : {X : Type 0} (q f g : X → Bool) (xs : List X) → ((x : X) → q x ≡ true → f x ≡ g x) → list_all q xs ≡ true → list_all f xs ≡ list_all g xs
+all-within q f g [] same h = refl
+all-within q f g (x ∷ xs) same h =
+    let parts = and_parts (q x) (list_all q xs) h in
+    ap (λ (b : Bool). b && list_all f xs) (same x parts.0) ∙ ap (λ (b : Bool). g x && b) (all-within q f g xs same parts.1)
+
+and-agree : (a b c : Bool) → (a ≡ true → b ≡ c) → (a && b) ≡ (a && c)
+and-agree true b c h = h refl
+and-agree false b c h = refl
+
+pub exact-numbers : (stage : Stage) (first : ℕ) (s : SlotUnit) (k p d w : ℕ) (ks rs cs : List ℕ) → 0 < p → 0 < d
+    → cells_hold (exact_keys k p d (bits_of_lanes s.keys)) (sram_row stage.srows) ks first s.actions s.numbers
+    ≡ numbers_are_formed first stage (record s { memory = Exact k p d w ks rs cs })
+exact-numbers stage first s k p d w ks rs cs lp ld =
+    let l = exact_keys k p d (bits_of_lanes s.keys) in
+    let sram = sram_row stage.srows in
+    let cells = listed_cells s.numbers in
+    let count : 4 * d * (1024 * p) ≡ 4096 * d * p = omega arith in
+    let before : ℕ → Bool = λ m. rises_from 0 cells && list_all (λ n. ltb n m) cells in
+    let f : ℕ → Bool = λ n. head_is_formed first s.actions (entry_in l sram ks (quantum_of l n) (local_of l n) % 256) in
+    let g : ℕ → Bool = λ n. head_is_formed first s.actions (content_of stage (record s { memory = Exact k p d w ks rs cs }) n).head in
+    ap (λ m. before m && list_all f cells) count
+    ∙ ap (λ (h : ℕ → Bool). before (4096 * d * p) && list_all h cells)
+    (funext f g (λ n. ap (λ e. head_is_formed first s.actions (e % 256)) (sym (exact-entry sram ks k p d (bits_of_lanes s.keys) n lp ld))))
+
+pub ternary-numbers : (stage : Stage) (first : ℕ) (s : SlotUnit) (d : ℕ) (ks rs cs : List ℕ)
+    → cells_hold (ternary_records d (s.held + 8)) (sram_row stage.srows) rs first s.actions s.numbers
+    ≡ numbers_are_formed first stage (record s { memory = Ternary d ks rs cs })
+ternary-numbers stage first s d ks rs cs =
+    let l = ternary_records d (s.held + 8) in
+    let sram = sram_row stage.srows in
+    let cells = listed_cells s.numbers in
+    let count : 1 * d * 2048 ≡ 2048 * d = omega arith in
+    let before : ℕ → Bool = λ m. rises_from 0 cells && list_all (λ n. ltb n m) cells in
+    let f : ℕ → Bool = λ n. head_is_formed first s.actions (entry_in l sram rs (quantum_of l n) (local_of l n) % 256) in
+    let g : ℕ → Bool = λ n. head_is_formed first s.actions (content_of stage (record s { memory = Ternary d ks rs cs }) n).head in
+    ap (λ m. before m && list_all f cells) count
+    ∙ and-agree (before (2048 * d)) (list_all f cells) (list_all g cells) (λ h.
+    all-within (λ n. ltb n (2048 * d)) f g cells
+    (λ n lt. ap (λ e. head_is_formed first s.actions (e % 256)) (sym (ternary-record sram rs d s.held n (ltb-true n (2048 * d) lt))))
+    (and_parts (rises_from 0 cells) (list_all (λ n. ltb n (2048 * d)) cells) h).1)
+
+-- ---- a slot by the kind of its memory
+
+pub exact-slot : (stage : Stage) (first : ℕ) (s : SlotUnit) (k p d w : ℕ) (ks rs cs : List ℕ) → FormedRows stage → ExactFits s k p d ks rs
+    → (IsTrue (cells_hold (exact_keys k p d (bits_of_lanes s.keys)) (sram_row stage.srows) ks first s.actions s.numbers)
+    × (SramTold (exact_keys k p d (bits_of_lanes s.keys)) stage s ks × SramTold (exact_records p d s.held) stage s rs))
+    ↔ SlotHolds stage first (record s { memory = Exact k p d w ks rs cs })
+exact-slot stage first s k p d w ks rs cs rows fit =
+    let e = exact-numbers stage first s k p d w ks rs cs fit.some_p fit.some_d in
+    let told = exact-told stage s k p d w ks rs cs rows fit in (
+      λ all. let both = told.0 all.1 in record { numbers = sym e ∙ all.0; others = both.0; ends = both.1 },
+      λ holds. (e ∙ holds.numbers, told.1 (holds.others, holds.ends)),
+    )
+
+pub ternary-slot : (stage : Stage) (first : ℕ) (s : SlotUnit) (d : ℕ) (ks rs cs : List ℕ) → FormedRows stage → TernaryFits s d ks rs
+    → (IsTrue (cells_hold (ternary_records d (s.held + 8)) (sram_row stage.srows) rs first s.actions s.numbers)
+    × (TcamTold (ternary_keys d (bits_of_lanes s.keys)) stage s ks × SramTold (ternary_records d (s.held + 8)) stage s rs))
+    ↔ SlotHolds stage first (record s { memory = Ternary d ks rs cs })
+ternary-slot stage first s d ks rs cs rows fit =
+    let e = ternary-numbers stage first s d ks rs cs in
+    let told = ternary-told stage s d ks rs cs rows fit in (
+      λ all. let both = told.0 all.1 in record { numbers = sym e ∙ all.0; others = both.0; ends = both.1 },
+      λ holds. (e ∙ holds.numbers, told.1 (holds.others, holds.ends)),
+    )
+
+no_items : {X : Type 0} (xs : List X) → length xs ≡ 0 → xs ≡ []
+no_items [] e = refl
+no_items (x ∷ xs) e = absurd (omega (arith, e))
+
+pub without-slot : (stage : Stage) (first : ℕ) (s : SlotUnit) → s.numbers ≡ [] → SlotHolds stage first (record s { memory = Without })
+without-slot stage first s e = record {
+  numbers = ap (λ ns. numbers_are_formed first stage (record s { memory = Without; numbers = ns })) e;
+  others = λ n lt unset. absurd (omega (arith, lt));
+  ends = none;
+}
+
+-- the kind of the memory that a slot has
+pub slot-at : (X : Type 0) (stage : Stage) (first : ℕ) (s : SlotUnit) (m : Memory) → s.memory ≡ m
+    → (X ↔ SlotHolds stage first (record s { memory = m })) → (X ↔ SlotHolds stage first s)
+slot-at X stage first s m e h = subst (λ m'. X ↔ SlotHolds stage first (record s { memory = m' })) (sym e) h
+
+-- ---- what the item rules say
+
+fold-least : (ns : List ℕ) (a : ℕ) → a ≤ fold ◌+◌ a ns
+fold-least [] a = omega arith
+fold-least (n ∷ ns) a = let rest = fold-least ns (a + n) in omega (arith, rest)
+
+lane-bit : (lane : Lane) → lane_is_formed lane ≡ true → 1 ≤ lane.len
+lane-bit lane h = leb-true 1 lane.len (and_parts _ _ (and_parts _ _ (and_parts _ _ h).0).0).1
+
+-- a key with a lane has a bit
+some-bits : (lanes : List Lane) → 1 ≤ length lanes → list_all lane_is_formed lanes ≡ true → 0 < bits_of_lanes lanes
+some-bits [] some h = absurd (omega (arith, some))
+some-bits (lane ∷ lanes) some h =
+    let first = (and_parts (lane_is_formed lane) (list_all lane_is_formed lanes) h).0 in
+    let big : 1 ≤ lane.len = lane-bit lane first in
+    let least = fold-least (map (λ (l : Lane). l.len) lanes) (0 + lane.len) in
+    omega (arith, big, least)
+
+-- the facts of a slot's head and of its memory that are needed
+record HeadFacts (s : SlotUnit) : Type 0 where
+  actions : s.actions ≤ 14
+  held : s.held < 65536
+  lanes : list_all lane_is_formed s.keys ≡ true
+
+head-facts : (s : SlotUnit) → slot_head_is_formed s ≡ true → HeadFacts s
+head-facts s h =
+    let h7 = and_parts _ _ h in
+    let h6 = and_parts _ _ h7.0 in
+    let h5 = and_parts _ _ h6.0 in
+    let h4 = and_parts _ _ h5.0 in
+    let h3 = and_parts _ _ h4.0 in
+    let h2 = and_parts _ _ h3.0 in
+    record { actions = leb-true s.actions 14 h2.1; held = ltb-true s.held 65536 h3.1; lanes = h5.1 }
+
+record MemoryFacts (s : SlotUnit) (d : ℕ) : Type 0 where
+  keys : 1 ≤ length s.keys
+  bits : bits_of_lanes s.keys ≤ 640
+  some_d : 1 ≤ d
+  most_d : d ≤ 106
+
+memory-facts : (s : SlotUnit) (d : ℕ) → may_have_memory s d ≡ true → MemoryFacts s d
+memory-facts s d h =
+    let m4 = and_parts _ _ h in
+    let m3 = and_parts _ _ m4.0 in
+    let m2 = and_parts _ _ m3.0 in
+    let m1 = and_parts _ _ m2.0 in
+    record { keys = leb-true 1 (length s.keys) m1.0; bits = leb-true (bits_of_lanes s.keys) 640 m1.1; some_d = leb-true 1 d m3.1; most_d = leb-true d 106 m4.1 }
+
+pub exact-fits : (s : SlotUnit) (k p d w : ℕ) (ks rs cs : List ℕ) → slot_head_is_formed s ≡ true → memory_is_formed s (Exact k p d w ks rs cs) ≡ true → ExactFits s k p d ks rs
+exact-fits s k p d w ks rs cs head h =
+    let p10 = and_parts _ _ h in
+    let p9 = and_parts _ _ p10.0 in
+    let p8 = and_parts _ _ p9.0 in
+    let p7 = and_parts _ _ p8.0 in
+    let p6 = and_parts _ _ p7.0 in
+    let p5 = and_parts _ _ p6.0 in
+    let p4 = and_parts _ _ p5.0 in
+    let p3 = and_parts _ _ p4.0 in
+    let p2 = and_parts _ _ p3.0 in
+    let p1 = and_parts _ _ p2.0 in
+    let shapes = and_parts _ _ p7.1 in
+    let lengths = and_parts _ _ shapes.0 in
+    let facts = memory-facts s d p1.0 in
+    let top = head-facts s head in
+    record {
+      some_k = leb-true 1 k p1.1;
+      most_k = ltb-true k 256 p2.1;
+      some_p = leb-true 1 p p3.1;
+      most_p = ltb-true p 65536 p4.1;
+      some_d = facts.some_d;
+      most_d = facts.most_d;
+      most_bits = facts.bits;
+      fits = leb-true (p * (bits_of_lanes s.keys + 8)) (112 * k) p6.1;
+      most_held = top.held;
+      keys = eqb-true (length ks) (d * (4 * k)) lengths.0;
+      records = eqb-true (length rs) (d * (record_units (4 * p) s.held * record_width s.held)) lengths.1;
+    }
+
+pub ternary-fits : (s : SlotUnit) (d : ℕ) (ks rs cs : List ℕ) → slot_head_is_formed s ≡ true → memory_is_formed s (Ternary d ks rs cs) ≡ true → TernaryFits s d ks rs
+ternary-fits s d ks rs cs head h =
+    let p4 = and_parts _ _ h in
+    let p3 = and_parts _ _ p4.0 in
+    let p2 = and_parts _ _ p3.0 in
+    let p1 = and_parts _ _ p2.0 in
+    let shapes = and_parts _ _ p1.1 in
+    let lengths = and_parts _ _ shapes.0 in
+    let facts = memory-facts s d p1.0 in
+    let top = head-facts s head in
+    record {
+      some_d = facts.some_d;
+      most_d = facts.most_d;
+      some_bits = some-bits s.keys facts.keys top.lanes;
+      most_bits = facts.bits;
+      most_held = top.held;
+      keys = eqb-true (length ks) (d * divided_up (bits_of_lanes s.keys) 40) lengths.0;
+      records = eqb-true (length rs) (d * (record_units 2 (s.held + 8) * record_width (s.held + 8))) lengths.1;
+    }
+
+pub without-numbers : (s : SlotUnit) → memory_is_formed s Without ≡ true → s.numbers ≡ []
+without-numbers s h = no_items s.numbers (eqb-true (length s.numbers) 0 (and_parts _ _ h).1)
+
+-- ---- the slots of a stage, with the numbers of their first instructions
+
+pub few-actions : (s : SlotUnit) → slot_is_formed s ≡ true → s.actions ≤ 14
+few-actions s h = (head-facts s (and_parts (slot_head_is_formed s) (memory_is_formed s s.memory) h).0).actions
+
+pub coded-slot : (units : List Unit) (i first : ℕ) (d : Unit) (s : SlotUnit) → i < length units → get_or units i d ≡ Slot s
+    → coded_from first (drop i units) ≡ record { first = first; slot = s } ∷ coded_from (first + s.actions + 1) (drop (i + 1) units)
+coded-slot units i first d s lt e =
+    ap (coded_from first) (one_off units i d lt) ∙ ap (λ u. coded_from first (u ∷ drop (i + 1) units)) e
+
+pub coded-gate : (units : List Unit) (i first : ℕ) (d : Unit) (g : GateUnit) → i < length units → get_or units i d ≡ Gate g
+    → coded_from first (drop i units) ≡ coded_from first (drop (i + 1) units)
+coded-gate units i first d g lt e =
+    ap (coded_from first) (one_off units i d lt) ∙ ap (λ u. coded_from first (u ∷ drop (i + 1) units)) e
+
+pub unit-formed : (units : List Unit) (i : ℕ) (d : Unit) → i < length units → list_all unit_is_formed units ≡ true → unit_is_formed (get_or units i d) ≡ true
+unit-formed units i d lt h = AllPass-from_list_all unit_is_formed units h i d lt
+
+-- the rows of a stage that keeps its rules
+pub formed-rows : (stage : Stage) → stage_is_formed stage ≡ true → rows_are_formed stage ≡ true → FormedRows stage
+formed-rows stage items rows =
+    let r3 = and_parts _ _ rows in
+    let r2 = and_parts _ _ r3.0 in
+    let r1 = and_parts _ _ r2.0 in
+    let i7 = and_parts _ _ items in
+    let i6 = and_parts _ _ i7.0 in
+    let i5 = and_parts _ _ i6.0 in
+    let sall = AllPass-from_list_all (srow_is_formed stage.units) stage.srows r1.0 in
+    let tall = AllPass-from_list_all (trow_is_formed stage.units) stage.trows r2.1 in
+    let sfit = AllPass-from_list_all srow_fits stage.srows i5.1 in
+    let tfit = AllPass-from_list_all trow_fits stage.trows i7.1 in
+    record {
+      srise = r1.1;
+      slow = λ k d lt. let x = get_or stage.srows k d in
+          ltb-true x.row 1024 (and_parts (ltb x.row 1024) (is_listed x.block (flat_map sram_blocks stage.units)) (and_parts _ _ (sall k d lt)).0).0;
+      sbits = λ k d lt. let x = get_or stage.srows k d in ltb-true x.bits (2 ^ 112) (and_parts _ _ (sfit k d lt)).1;
+      trise = r3.1;
+      tlow = λ k d lt. let x = get_or stage.trows k d in
+          ltb-true x.row 2048 (and_parts (ltb x.row 2048) (is_listed x.block (flat_map tcam_blocks stage.units)) (and_parts _ _ (and_parts _ _ (tall k d lt)).0).0).0;
+      tbits = λ k d lt. let x = get_or stage.trows k d in ltb-true x.mask (2 ^ 40) (and_parts _ _ (tfit k d lt)).1;
+      tsome = λ k d lt none. let x = get_or stage.trows k d in
+          both_ways (eqb x.mask 0) (not-true (eqb x.mask 0) (and_parts _ _ (and_parts _ _ (tall k d lt)).0).1) (eq-eqb x.mask 0 none);
+    }

@@ -1,0 +1,181 @@
+//! The heads of listed cells, read from the rows of their blocks.
+
+ghost use Rattle.std.specs.Prelude.{◌≡◌, ℕ, ◌+◌, ◌-◌, ◌*◌, ◌/◌, ◌%◌, ◌^◌, ◌<◌, ◌≤◌, ◌&&◌, length, map, IsTrue, All, nat_lt};
+ghost use Rattle.std.specs.List.{list_all};
+ghost use Rattle.rmt_bits.specs.Bits.{slice as slice_of};
+ghost use Rattle.rmt_config.specs.Order.{rises_from};
+ghost use Rattle.rmt_config.specs.StageForm.{srow_number};
+ghost use Rattle.rmt_config.specs.Cells.{sram_row, unit_row, blocks_at};
+ghost use Rattle.rmt_config.specs.CellForm.{head_is_formed};
+ghost use Rattle.rmt_config.specs.Layouts.{IsLayout, listed_cells, quantum_of, local_of, unit_of, row_of, position_of, entry_in, heads_hold, cells_hold, HasHeads};
+ghost use Rattle.rmt_config.specs.declared.config.SramRow.{SramRow};
+ghost use Rattle.rmt_config.specs.declared.config.CellNumber.{CellNumber};
+
+use crate::config::{CellNumber, SramRow};
+use crate::form::layout::Layout;
+use crate::form::search::{Numbered, first_near, items_rise};
+use crate::form::told::joined;
+
+/// Where the last head was found among the rows: its first block's row, and that of the block beside it.
+#[derive(Clone, Copy)]
+struct Near {
+    first: usize,
+    second: usize,
+}
+
+/// What a row of an SRAM block holds; a row that isn't listed is 0.
+fn row_bits(rows: &[SramRow], block: u8, row: u64, near: &mut usize) -> u128
+    requires order { IsTrue (rises_from 0 (map srow_number rows.now)) }
+    requires low { All (λ (r : SramRow). r.row < 1024) rows.now }
+    requires row { row < 1024 }
+    ensures { result ≡ sram_row rows.now block row }
+{
+    let number = block as u64 * 1024 + row;
+    let at = first_near(rows, number, *near);
+    *near = at;
+    if at < rows.len() && rows[at].place() as u64 == number {
+        rows[at].bits
+    } else {
+        0
+    }
+}
+
+/// The 8 bits from one on of two rows side by side.
+fn head_of_two(first: u128, second: u128, at: u64) -> u8
+    requires first { first < 2 ^ 112 }
+    requires at { at < 112 }
+    ensures { result ≡ (second % 256 * 2 ^ (112 - at) + first / 2 ^ at) % 256 }
+{
+    let low = first >> at;
+    let high = (second % 256) << (112 - at);
+    ((high + low) % 256) as u8
+}
+
+/// The 8 bits from one on of a row of a unit.
+fn head_at(
+    layout: &Layout,
+    blocks: &[u8],
+    rows: &[SramRow],
+    unit: u64,
+    row: u64,
+    bit: u64,
+    near: &mut Near,
+) -> u8
+    requires heads { HasHeads layout.now }
+    requires unit { (unit + 1) * layout.now.side ≤ length blocks.now }
+    requires bit { bit + 8 ≤ 112 * layout.now.side }
+    requires row { row < 1024 }
+    requires order { IsTrue (rises_from 0 (map srow_number rows.now)) }
+    requires low { All (λ (r : SramRow). r.row < 1024) rows.now }
+    requires small { All (λ (r : SramRow). r.bits < 2 ^ 112) rows.now }
+    ensures { result ≡ slice_of (unit_row 112 (sram_row rows.now) row (blocks_at blocks.now layout.now.side unit)) bit 8 }
+{
+    let block = bit / 112;
+    let at = joined(unit, layout.side, block) as usize;
+    let first = row_bits(rows, blocks[at], row, &mut near.first);
+    let second = if block + 1 < layout.side {
+        row_bits(rows, blocks[at + 1], row, &mut near.second)
+    } else {
+        0
+    };
+    head_of_two(first, second, bit % 112)
+}
+
+/// The head of a cell.
+fn head_of(layout: &Layout, blocks: &[u8], rows: &[SramRow], cell: u64, near: &mut Near) -> u8
+    requires heads { HasHeads layout.now }
+    requires blocks { length blocks.now ≡ layout.now.quanta * layout.now.units * layout.now.side }
+    requires cell { cell < layout.now.ways * layout.now.quanta * layout.now.way }
+    requires order { IsTrue (rises_from 0 (map srow_number rows.now)) }
+    requires low { All (λ (r : SramRow). r.row < 1024) rows.now }
+    requires small { All (λ (r : SramRow). r.bits < 2 ^ 112) rows.now }
+    ensures { result ≡ entry_in layout.now (sram_row rows.now) blocks.now (quantum_of layout.now cell) (local_of layout.now cell) % 256 }
+{
+    let quantum = cell / layout.way % layout.quanta;
+    let local = joined(
+        cell / layout.way / layout.quanta,
+        layout.way,
+        cell % layout.way,
+    );
+    let in_unit = joined(layout.rows, layout.per, 0);
+    let unit = joined(quantum, layout.units, local / in_unit);
+    let row = local % in_unit / layout.per;
+    let bit = joined(local % layout.per, layout.entry, 0);
+    head_at(layout, blocks, rows, unit, row, bit, near)
+}
+
+/// Whether a head is that of an occupied cell that runs one of these instructions.
+fn head_fits(head: u8, first: u32, actions: u8) -> bool
+    requires { first < 65536 }
+    ensures { result ≡ head_is_formed first actions head }
+{
+    let code = (head / 8 % 32) as u32;
+    head % 2 == 1 && head / 2 % 4 == 0 && first <= code && code < first + actions as u32
+}
+
+/// Whether the heads of all listed cells are such heads.
+fn heads_fit(
+    layout: &Layout,
+    blocks: &[u8],
+    rows: &[SramRow],
+    numbers: &[CellNumber],
+    first: u32,
+    actions: u8,
+) -> bool
+    requires heads { HasHeads layout.now }
+    requires blocks { length blocks.now ≡ layout.now.quanta * layout.now.units * layout.now.side }
+    requires cells { All (λ (n : CellNumber). n.cell < layout.now.ways * layout.now.quanta * layout.now.way) numbers.now }
+    requires order { IsTrue (rises_from 0 (map srow_number rows.now)) }
+    requires low { All (λ (r : SramRow). r.row < 1024) rows.now }
+    requires small { All (λ (r : SramRow). r.bits < 2 ^ 112) rows.now }
+    requires first { first < 65536 }
+    ensures { result ≡ heads_hold layout.now (sram_row rows.now) blocks.now first actions (listed_cells numbers.now) }
+{
+    let mut near = Near {
+        first: 0,
+        second: 0,
+    };
+    for number in numbers {
+        let head = head_of(layout, blocks, rows, number.cell as u64, &mut near);
+        if !head_fits(head, first, actions) {
+            return false;
+        }
+    }
+    true
+}
+
+/// Whether all listed cells are below a count.
+fn cells_fit(numbers: &[CellNumber], count: u64) -> bool
+    ensures { result ≡ list_all (λ n. nat_lt n count) (listed_cells numbers.now) }
+{
+    for number in numbers {
+        if number.cell as u64 >= count {
+            return false;
+        }
+    }
+    true
+}
+
+/// Whether the listed cells rise, are cells of the memory, and have the heads of occupied cells that run one of these instructions.
+pub fn cells_are_formed(
+    layout: &Layout,
+    blocks: &[u8],
+    rows: &[SramRow],
+    numbers: &[CellNumber],
+    first: u32,
+    actions: u8,
+) -> bool
+    requires heads { HasHeads layout.now }
+    requires blocks { length blocks.now ≡ layout.now.quanta * layout.now.units * layout.now.side }
+    requires order { IsTrue (rises_from 0 (map srow_number rows.now)) }
+    requires low { All (λ (r : SramRow). r.row < 1024) rows.now }
+    requires small { All (λ (r : SramRow). r.bits < 2 ^ 112) rows.now }
+    requires first { first < 65536 }
+    ensures { result ≡ cells_hold layout.now (sram_row rows.now) blocks.now first actions numbers.now }
+{
+    let count = joined(joined(layout.ways, layout.quanta, 0), layout.way, 0);
+    if !items_rise(numbers) || !cells_fit(numbers, count) {
+        return false;
+    }
+    heads_fit(layout, blocks, rows, numbers, first, actions)
+}

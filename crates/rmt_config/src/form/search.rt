@@ -1,0 +1,130 @@
+//! The rows of memory and the listed cells, each in rising order, and the search among them.
+
+ghost use Rattle.std.specs.Prelude.{◌≡◌, ℕ, ◌+◌, ◌*◌, ◌<◌, ◌≤◌, length, map, IsTrue, slice_index_or};
+ghost use Rattle.rmt_config.specs.Order.{rises_from};
+ghost use Rattle.rmt_config.specs.StageForm.{is_listed, srow_number, trow_number};
+ghost use Rattle.rmt_config.specs.declared.config.SramRow.{SramRow};
+ghost use Rattle.rmt_config.specs.declared.config.TcamRow.{TcamRow};
+ghost use Rattle.rmt_config.specs.declared.config.CellNumber.{CellNumber};
+
+use crate::config::{CellNumber, SramRow, TcamRow};
+
+/// What stands in a list by rising numbers: a row, by its block and its row in it, or a listed cell.
+pub trait Numbered {
+    ghost place_of: { Self → ℕ };
+
+    fn place(&self) -> u32
+        ensures { result ≡ place_of self.now };
+}
+
+/// A row of memory, and the bits that may be set only in entries of listed cells.
+pub trait MemoryRow: Numbered {
+    ghost bits_of: { Self → ℕ };
+
+    fn bits(&self) -> u128
+        ensures { result ≡ bits_of self.now };
+}
+
+impl MemoryRow for SramRow {
+    ghost bits_of = { λ r. r.bits };
+
+    fn bits(&self) -> u128 {
+        self.bits
+    }
+}
+
+impl MemoryRow for TcamRow {
+    ghost bits_of = { λ r. r.mask };
+
+    fn bits(&self) -> u128 {
+        self.mask as u128
+    }
+}
+
+impl Numbered for SramRow {
+    ghost place_of = { srow_number };
+
+    fn place(&self) -> u32 {
+        1024 * self.block as u32 + self.row as u32
+    }
+}
+
+impl Numbered for TcamRow {
+    ghost place_of = { trow_number };
+
+    fn place(&self) -> u32 {
+        2048 * self.block as u32 + self.row as u32
+    }
+}
+
+impl Numbered for CellNumber {
+    ghost place_of = { λ n. n.cell };
+
+    fn place(&self) -> u32 {
+        self.cell
+    }
+}
+
+/// The index of the first item whose number is at least this one.
+pub fn first_from<T: Numbered>(items: &[T], place: u64) -> usize
+    requires { IsTrue (rises_from 0 (map T.place_of items.now)) }
+    ensures within { result ≤ length items.now }
+    ensures below { (k : ℕ) (d : T) → k < result → T.place_of (slice_index_or items.now k d) < place }
+    ensures above { (k : ℕ) (d : T) → result ≤ k → k < length items.now → place ≤ T.place_of (slice_index_or items.now k d) }
+{
+    let mut low = 0;
+    let mut high = items.len();
+    while low < high {
+        let middle = low + (high - low) / 2;
+        if (items[middle].place() as u64) < place {
+            low = middle + 1;
+        } else {
+            high = middle;
+        }
+    }
+    low
+}
+
+/// The same, looked for first at a place near which the last one was found, and at the next.
+pub fn first_near<T: Numbered>(items: &[T], place: u64, near: usize) -> usize
+    requires { IsTrue (rises_from 0 (map T.place_of items.now)) }
+    ensures within { result ≤ length items.now }
+    ensures below { (k : ℕ) (d : T) → k < result → T.place_of (slice_index_or items.now k d) < place }
+    ensures above { (k : ℕ) (d : T) → result ≤ k → k < length items.now → place ≤ T.place_of (slice_index_or items.now k d) }
+{
+    if near < items.len() {
+        if items[near].place() as u64 == place {
+            return near;
+        }
+        let next = near + 1;
+        if next < items.len() && items[next].place() as u64 == place {
+            return next;
+        }
+    }
+    first_from(items, place)
+}
+
+/// Whether items rise by their numbers.
+pub fn items_rise<T: Numbered>(items: &[T]) -> bool
+    ensures { result ≡ rises_from 0 (map T.place_of items.now) }
+{
+    let mut least: u64 = 0;
+    for item in items {
+        let place = item.place() as u64;
+        if place < least {
+            return false;
+        }
+        least = place + 1;
+    }
+    true
+}
+
+/// Whether a cell is among those that are listed, looked for first near the place where the last one was found.
+pub fn is_cell_listed(numbers: &[CellNumber], cell: u64, near: &mut usize) -> bool
+    requires { IsTrue (rises_from 0 (map (λ (n : CellNumber). n.cell) numbers.now)) }
+    ensures { result ≡ is_listed cell (map (λ (n : CellNumber). n.cell) numbers.now) }
+{
+    let at = first_near(numbers, cell, *near);
+    *near = at;
+    at < numbers.len() && numbers[at].cell as u64 == cell
+}

@@ -1,0 +1,16 @@
+-- Bytes that calls append.
+use Rattle.std.proofs.Common.{◌≡◌, ℕ, List, ◌++◌, ap, ◌∙◌, append_assoc, Result, Ok, Err, cond}
+use Rattle.std.specs.Prelude.{OnOk, is_ok}
+use Rattle.std.proofs.lemmas.Result.{on_ok_weaker}
+
+-- four pieces one behind the other, the last by a call whose result is returned
+pub appended_four : {T E : Type 0} (r : Result T E) (front a b c d o1 o2 o3 o4 : List ℕ) → o1 ≡ front ++ a → o2 ≡ o1 ++ b → o3 ≡ o2 ++ c
+    → OnOk r (o4 ≡ o3 ++ d) → OnOk r (o4 ≡ front ++ (a ++ b ++ c ++ d))
+appended_four r front a b c d o1 o2 o3 o4 e1 e2 e3 last =
+    let e : o3 ≡ front ++ (a ++ b ++ c) = e3 ∙ ap (λ (x : List ℕ). x ++ c) (e2 ∙ ap (λ (x : List ℕ). x ++ b) e1) ∙ simp append_assoc in
+    on_ok_weaker r (λ l. l ∙ ap (λ (x : List ℕ). x ++ d) e ∙ append_assoc front (a ++ b ++ c) d) last
+
+-- what was appended where a call went well, as other bytes that are the same
+pub appended_as : {T E : Type 0} (r : Result T E) (new old text same : List ℕ) → new ≡ cond (is_ok r) (old ++ text) old → text ≡ same → OnOk r (new ≡ old ++ same)
+appended_as (Ok x) new old text same e is = e ∙ ap (λ (t : List ℕ). old ++ t) is
+appended_as (Err x) new old text same e is = tt

@@ -1,7 +1,0 @@
-use Rattle.std.proofs.Common.{◌≡◌, ◌-◌}
-use Rattle.rmt_image.specs.Reading.{times_from, header_at}
-use Rattle.rmt_image.proofs.ReadLoops.{with_front}
-use Rattle.rmt_image.proofs.reading.header.header_list.Given as goal
-
-abbrev pub invariant-loop : goal.invariant-loop
-invariant-loop l = with_front l.headers.items (times_from (λ (_ : Unit {0}). header_at) (λ _. tt) tt (l.count - l.counter) l.rest) ≡ times_from (λ (_ : Unit {0}). header_at) (λ _. tt) tt l.count l.bytes

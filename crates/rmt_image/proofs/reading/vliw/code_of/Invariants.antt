@@ -1,7 +1,0 @@
-use Rattle.std.proofs.Common.{◌≡◌, drop}
-use Rattle.rmt_image.specs.Reading.{each, vliw_at}
-use Rattle.rmt_image.proofs.ReadLoops.{with_front}
-use Rattle.rmt_image.proofs.reading.vliw.code_of.Given as goal
-
-abbrev pub invariant-loop-place : goal.invariant-loop-place
-invariant-loop-place l = with_front l.code.items (each vliw_at (drop l.place-index l.places) l.rest) ≡ each vliw_at l.places l.bytes

@@ -1,0 +1,298 @@
+//! The memory of a slot, with its lists of blocks, whose lengths follow from the numbers before them.
+
+ghost use Rattle.std.specs.Prelude.{◌≡◌, ◌<◌, ◌≤◌, length, IsTrue};
+ghost use Rattle.rmt_config.specs.LaneForm.{bits_of_lanes};
+ghost use Rattle.rmt_config.specs.UnitForm.{memory_is_formed};
+ghost use Rattle.rmt_config.specs.declared.config.Memory.TheVariants.{Without};
+ghost use Rattle.rmt_image.specs.Readers.{Gives, where_, kept, list_at, byte_at, number_at};
+ghost use Rattle.rmt_image.specs.Reading.{at_least, block_at, blocks_at, takes_memory, quanta_fit, cells_fit, format_at, format_shape, exact_at, ternary_at, exact_of_parts, ternary_of_parts, memory_at};
+
+use crate::fault::{ReadError, ReadFault};
+use crate::reading::items::{Items, items_of};
+use crate::reading::number::{byte_of, two_of};
+use rmt_bits::answer::Bytes;
+use rmt_bits::sequence::Sequence;
+use rmt_config::config::{Memory, SlotUnit};
+use rmt_config::form::lane::count_bits;
+use rmt_config::form::shape::{Shape, exact_shape, ternary_shape};
+use std::alloc::Global;
+
+// ---- lists of blocks
+
+/// Blocks below a number.
+#[derive(Drop)]
+struct BlocksBelow {
+    most: u8,
+}
+
+impl Items for BlocksBelow {
+    type Item = u8;
+
+    ghost item_at = { λ list _. block_at list.most };
+
+    ghost after = { λ _ _. 0 };
+
+    fn item<'a>(
+        &self,
+        _alloc: Global,
+        _least: u32,
+        bytes: &'a [u8],
+    ) -> Result<(u8, &'a [u8]), ReadError> {
+        block_of(self.most, bytes)
+    }
+
+    fn least_size(&self) -> usize {
+        1
+    }
+
+    fn least_after(&self, _block: &u8) -> u32 {
+        0
+    }
+}
+
+/// A block below that number.
+#[tactic(auto, unfolding(crate::specs::Reading::block_at))]
+pub fn block_of(most: u8, bytes: &[u8]) -> Result<(u8, &[u8]), ReadError>
+    ensures { Gives (λ x. (x.0, x.1.now)) result (block_at most bytes.now) }
+{
+    let (block, rest) = byte_of(bytes)?;
+    if block >= most {
+        return Err(ReadError::Fault(ReadFault::Form));
+    }
+    Ok((block, rest))
+}
+
+fn block_list(
+    alloc: Global,
+    most: u8,
+    count: u64,
+    bytes: &[u8],
+) -> Result<(Bytes, &[u8]), ReadError>
+    ensures { Gives (λ x. (x.0, x.1.now)) result (list_at (block_at most) count bytes.now) }
+{
+    let (blocks, rest) = items_of(alloc, &BlocksBelow { most }, count, bytes)?;
+    Ok((Sequence::from_vec(blocks), rest))
+}
+
+/// The lists of blocks of a memory.
+#[derive(Drop)]
+struct Blocks {
+    keys: Bytes,
+    records: Bytes,
+    counters: Bytes,
+}
+
+#[tactic(auto, unfolding(crate::specs::Reading::blocks_at))]
+fn blocks_of(
+    alloc: Global,
+    most: u8,
+    shape: Shape,
+    bytes: &[u8],
+) -> Result<(Blocks, &[u8]), ReadError>
+    ensures { Gives (λ x. (x.0, x.1.now)) result (blocks_at most shape bytes.now) }
+{
+    let (keys, rest) = block_list(alloc, most, shape.keys, bytes)?;
+    let (records, rest) = block_list(alloc, 106, shape.records, rest)?;
+    let (counters, rest) = block_list(alloc, 106, shape.counters, rest)?;
+    let blocks = Blocks {
+        keys,
+        records,
+        counters,
+    };
+    Ok((blocks, rest))
+}
+
+// ---- the numbers before them
+
+/// The bits of a slot's key.
+fn key_bits(slot: &SlotUnit) -> u32
+    requires { length slot.now.keys < 65536 }
+    ensures { result ≡ bits_of_lanes slot.now.keys }
+{
+    count_bits(slot.keys.as_slice())
+}
+
+fn is_memory_allowed(slot: &SlotUnit) -> bool
+    requires { length slot.now.keys < 65536 }
+    ensures value { result ≡ takes_memory slot.now }
+    ensures narrow { IsTrue result → bits_of_lanes slot.now.keys ≤ 640 }
+{
+    1 <= slot.keys.len() && key_bits(slot) <= 640 && 1 <= slot.actions
+}
+
+fn is_memory_needless(slot: &SlotUnit) -> bool
+    ensures { result ≡ memory_is_formed slot.now Without }
+{
+    !slot.counted
+        && slot.actions == 0
+        && slot.last
+        && slot.held == 0
+        && slot.keys.len() == 0
+        && slot.numbers.len() == 0
+}
+
+fn quanta_of(bytes: &[u8]) -> Result<(u8, &[u8]), ReadError>
+    ensures { Gives (λ x. (x.0, x.1.now)) result (kept quanta_fit byte_at bytes.now) }
+{
+    let (quanta, rest) = byte_of(bytes)?;
+    if quanta < 1 || quanta > 106 {
+        return Err(ReadError::Fault(ReadFault::Form));
+    }
+    Ok((quanta, rest))
+}
+
+fn width_of(bytes: &[u8]) -> Result<(u8, &[u8]), ReadError>
+    ensures { Gives (λ x. (x.0, x.1.now)) result (kept (at_least 1) byte_at bytes.now) }
+{
+    let (width, rest) = byte_of(bytes)?;
+    if width < 1 {
+        return Err(ReadError::Fault(ReadFault::Form));
+    }
+    Ok((width, rest))
+}
+
+fn per_of(bits: u32, width: u8, bytes: &[u8]) -> Result<(u16, &[u8]), ReadError>
+    ensures { Gives (λ x. (x.0, x.1.now)) result (kept (cells_fit bits width) (number_at 2) bytes.now) }
+{
+    let (per, rest) = two_of(bytes)?;
+    if per < 1 || per as u64 * (bits as u64 + 8) > 112 * width as u64 {
+        return Err(ReadError::Fault(ReadFault::Form));
+    }
+    Ok((per, rest))
+}
+
+/// The numbers of exact memory before its lists.
+#[derive(Clone, Copy)]
+struct Format {
+    width: u8,
+    per: u16,
+    quanta: u8,
+    first_way: u8,
+}
+
+#[tactic(auto, unfolding(crate::specs::Reading::format_at))]
+fn format_of<'a>(slot: &SlotUnit, bytes: &'a [u8]) -> Result<(Format, &'a [u8]), ReadError>
+    requires { length slot.now.keys < 65536 }
+    ensures { Gives (λ x. (x.0, x.1.now)) result (format_at slot.now bytes.now) }
+{
+    let (width, rest) = width_of(bytes)?;
+    let (per, rest) = per_of(key_bits(slot), width, rest)?;
+    let (quanta, rest) = quanta_of(rest)?;
+    let (first_way, rest) = byte_of(rest)?;
+    let format = Format {
+        width,
+        per,
+        quanta,
+        first_way,
+    };
+    Ok((format, rest))
+}
+
+// ---- memories
+
+#[tactic(auto, unfolding(crate::specs::Reading::exact_at))]
+fn exact_of<'a>(
+    alloc: Global,
+    slot: &SlotUnit,
+    bytes: &'a [u8],
+) -> Result<((Format, Blocks), &'a [u8]), ReadError>
+    requires { length slot.now.keys < 65536 }
+    ensures { Gives (λ x. (x.0, x.1.now)) result (exact_at slot.now bytes.now) }
+{
+    if !is_memory_allowed(slot) {
+        return Err(ReadError::Fault(ReadFault::Form));
+    }
+    let (format, rest) = format_of(slot, bytes)?;
+    let shape = exact_shape(
+        format.width,
+        format.per,
+        format.quanta,
+        slot.held,
+        slot.counted,
+    );
+    let (blocks, rest) = blocks_of(alloc, 106, shape, rest)?;
+    Ok(((format, blocks), rest))
+}
+
+#[tactic(auto, unfolding(crate::specs::Reading::ternary_at))]
+fn ternary_of<'a>(
+    alloc: Global,
+    slot: &SlotUnit,
+    bytes: &'a [u8],
+) -> Result<((u8, Blocks), &'a [u8]), ReadError>
+    requires { length slot.now.keys < 65536 }
+    ensures { Gives (λ x. (x.0, x.1.now)) result (ternary_at slot.now bytes.now) }
+{
+    if !is_memory_allowed(slot) {
+        return Err(ReadError::Fault(ReadFault::Form));
+    }
+    let (quanta, rest) = quanta_of(bytes)?;
+    let shape = ternary_shape(key_bits(slot), quanta, slot.held, slot.counted);
+    let (blocks, rest) = blocks_of(alloc, 16, shape, rest)?;
+    Ok(((quanta, blocks), rest))
+}
+
+fn exact_memory(format: Format, blocks: Blocks) -> Memory
+    ensures { result ≡ exact_of_parts (format, blocks) }
+{
+    let Blocks {
+        keys,
+        records,
+        counters,
+    } = blocks;
+    Memory::Exact {
+        width: format.width,
+        per: format.per,
+        quanta: format.quanta,
+        first_way: format.first_way,
+        keys,
+        records,
+        counters,
+    }
+}
+
+fn ternary_memory(quanta: u8, blocks: Blocks) -> Memory
+    ensures { result ≡ ternary_of_parts (quanta, blocks) }
+{
+    let Blocks {
+        keys,
+        records,
+        counters,
+    } = blocks;
+    Memory::Ternary {
+        quanta,
+        keys,
+        records,
+        counters,
+    }
+}
+
+/// The memory of a slot of which all that stands before it was read, with fewer than 65,536 key lanes.
+#[tactic(auto, unfolding(crate::specs::Reading::memory_at))]
+pub fn memory_of<'a>(
+    alloc: Global,
+    slot: &SlotUnit,
+    bytes: &'a [u8],
+) -> Result<(Memory, &'a [u8]), ReadError>
+    requires { length slot.now.keys < 65536 }
+    ensures { Gives (λ x. (x.0, x.1.now)) result (memory_at slot.now bytes.now) }
+{
+    match bytes {
+        [] => Err(ReadError::Fault(ReadFault::Short)),
+        [0, rest @ ..] => {
+            if !is_memory_needless(slot) {
+                return Err(ReadError::Fault(ReadFault::Form));
+            }
+            Ok((Memory::Without, rest))
+        }
+        [1, rest @ ..] => {
+            let ((format, blocks), rest) = exact_of(alloc, slot, rest)?;
+            Ok((exact_memory(format, blocks), rest))
+        }
+        [2, rest @ ..] => {
+            let ((quanta, blocks), rest) = ternary_of(alloc, slot, rest)?;
+            Ok((ternary_memory(quanta, blocks), rest))
+        }
+        _ => Err(ReadError::Fault(ReadFault::Form)),
+    }
+}
