@@ -8,6 +8,8 @@ mod check;
 #[cfg(test)]
 mod chip;
 #[cfg(test)]
+mod entries;
+#[cfg(test)]
 mod image_rules;
 #[cfg(test)]
 mod images;
@@ -21,6 +23,8 @@ mod packets;
 mod packing;
 #[cfg(test)]
 mod pieces;
+#[cfg(test)]
+mod plain;
 #[cfg(test)]
 mod registers;
 #[cfg(test)]

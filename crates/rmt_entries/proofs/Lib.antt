@@ -1,0 +1,11 @@
+mod Examples
+pub mod GatherLaws
+pub mod LawKeys
+pub mod LawLines
+pub mod LawLists
+pub mod NameLaws
+pub mod NumberLaws
+pub mod ProgramLaws
+pub mod ReadingLaws
+pub mod TextLaws
+pub mod WordLaws

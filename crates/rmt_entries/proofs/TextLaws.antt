@@ -1,0 +1,97 @@
+-- Texts, read line by line.
+use Rattle.std.proofs.Common.{◌≡◌, ℕ, ◌+◌, ◌<◌, ◌==◌, Bool, true, false, not, cond, List, [], ◌∷◌, ◌++◌, Result, Ok, Err, length, refl, sym, ap, subst, ◌∙◌, length-append, arith}
+use Rattle.std.specs.List.{before_first, after_first, enumerate_from, filter}
+use Rattle.std.specs.Result.{IsErrAnd}
+use Rattle.std.proofs.lemmas.Bool.{eqb-true, true≢false}
+use Rattle.std.proofs.lemmas.List.{length-map}
+use Rattle.rmt_ast.specs.declared.program.Program.{Program}
+use Rattle.rmt_ast.specs.declared.program.Node.{Node}
+use Rattle.rmt_ast.specs.EntryLists.{terms_at}
+use Rattle.rmt_ast.specs.declared.entry.Entry.{Entry}
+use Rattle.rmt_entries.specs.declared.fault.EntryFault.{EntryFault}
+use Rattle.rmt_entries.specs.declared.fault.EntryFault.TheVariants.{At, NoMemory}
+use Rattle.rmt_entries.specs.declared.gathered.Gathered.{Gathered}
+use Rattle.rmt_entries.specs.Entries.{by_node, entries_of, entry_of, reading}
+use Rattle.rmt_entries.specs.Fault.{Gives}
+use Rattle.rmt_entries.specs.Lines.{is_passed_over, numbered_lines}
+use Rattle.rmt_entries.specs.Reads.{Reads, node_terms}
+use Rattle.rmt_entries.specs.Standing.{Gathers, IsFault, Took}
+use Rattle.rmt_entries.specs.Tables.{applied_tables}
+use Rattle.rmt_entries.proofs.GatherLaws.{length-by_node}
+use Rattle.rmt_entries.proofs.WordLaws.{first_part}
+
+abbrev is_feed : ℕ → Bool
+is_feed b = b == 10
+
+-- the lines of a text: its first line, and then those behind it
+pub lines_cut : (n : ℕ) (text : List ℕ) → numbered_lines n text
+    ≡ cond (not (is_passed_over (before_first is_feed text))) ((n, before_first is_feed text) ∷ numbered_lines (n + 1) (after_first is_feed text)) (numbered_lines (n + 1) (after_first is_feed text))
+lines_cut n text =
+    first_part is_feed (kept n) (kept (n + 1)) (λ line ls. cond (not (is_passed_over line)) ((n, line) ∷ ls) ls) (λ line ls. refl) refl text
+  where
+    kept : ℕ → List (List ℕ) → List (ℕ × List ℕ)
+    kept n ls = filter (λ l. not (is_passed_over l.1)) (enumerate_from n ls)
+
+-- nothing is read yet
+pub reads_first : (p : Program) (text : List ℕ) (g : Gathered) → Gathers (node_terms p) [] g → Reads p text text 1 g
+reads_first p text g h = record { entries = []; gathered = h; same = refl; few = omega arith }
+
+module _ (p : Program) (text rest : List ℕ) (n : ℕ) (g : Gathered) (r : Reads p text rest n g) (line behind : List ℕ) (front : line ≡ before_first is_feed rest) (back : behind ≡ after_first is_feed rest) where
+  -- a line is passed over
+  skipped : is_passed_over line ≡ true → numbered_lines n rest ≡ numbered_lines (n + 1) behind
+  skipped h = lines_cut n rest ∙ rw (← front, ← back, h) refl
+
+  pub reads_passed : is_passed_over line ≡ true → Reads p text behind (n + 1) g
+  reads_passed h = record {
+    entries = r.entries;
+    gathered = r.gathered;
+    same = r.same ∙ ap (reading (applied_tables p) r.entries) (skipped h);
+    few = omega (arith, r.few);
+  }
+
+  here : is_passed_over line ≡ false → numbered_lines n rest ≡ (n, line) ∷ numbered_lines (n + 1) behind
+  here h = lines_cut n rest ∙ rw (← front, ← back, h) refl
+
+  -- a line said its entry
+  pub reads_took : (next : Gathered) → is_passed_over line ≡ false → Took (applied_tables p) (node_terms p) r.entries line next → Reads p text behind (n + 1) next
+  reads_took next h took = record {
+    entries = r.entries ++ took.entry ∷ [];
+    gathered = took.gathered;
+    same = r.same ∙ ap (reading (applied_tables p) r.entries) (here h) ∙ rw took.said refl;
+    few = omega (arith, r.few, length-append r.entries (took.entry ∷ []));
+  }
+
+  -- a line is bad
+  pub reads_bad : (code : ℕ) → is_passed_over line ≡ false → entry_of (applied_tables p) r.entries line ≡ Err code → entries_of p text ≡ Err (At code n)
+  reads_bad code h bad =
+      let read : reading (applied_tables p) [] (numbered_lines 1 text) ≡ Err (At code n) = r.same ∙ ap (reading (applied_tables p) r.entries) (here h) ∙ rw bad refl in
+      rw read refl
+
+-- no line is left
+pub reads_end : (p : Program) (text : List ℕ) (n : ℕ) (g : Gathered) → Reads p text [] n g → entries_of p text ≡ Ok g.lists.items
+reads_end p text n g r =
+    let nodes : length (node_terms p) ≡ length p.nodes = length-map p.nodes (λ (node : Node). terms_at p node.what) in
+    rw r.same (ap (λ (k : ℕ). Ok (by_node k r.entries)) (sym nodes) ∙ ap Ok (sym r.gathered.lists))
+
+-- a fault of a line, where the whole text has it
+pub gives_fault : (fault : EntryFault) (n : ℕ) (wanted : Result (List (List Entry)) EntryFault) (P : ℕ → Type 0) → IsFault fault n P → ((code : ℕ) → P code → wanted ≡ Err (At code n)) → Gives (Err fault) wanted
+gives_fault NoMemory n wanted P h each = tt
+gives_fault (At code line) n wanted P h each = each code h.1 ∙ ap (λ (l : ℕ). Err (At code l)) (sym h.0)
+
+-- the lists are as many as the nodes
+pub lists_of_nodes : (p : Program) (text rest : List ℕ) (n : ℕ) (g : Gathered) → Reads p text rest n g → length (node_terms p) ≡ length g.lists.items
+lists_of_nodes p text rest n g r = sym (ap length r.gathered.lists ∙ length-by_node (length (node_terms p)) r.entries)
+
+-- a fault that is handed on
+pub gives_handed : (r : Result (List (List Entry)) EntryFault) (fault : EntryFault) (wanted : Result (List (List Entry)) EntryFault) → IsErrAnd r (λ e. e ≡ fault) → Gives (Err fault) wanted
+    → Gives r wanted
+gives_handed (Ok x) fault wanted h g = absurd h
+gives_handed (Err e) fault wanted h g = subst (λ (f : EntryFault). Gives (Err f) wanted) (sym h) g
+
+pub has_bytes : (text : List ℕ) → (length text == 0) ≡ false → 0 < length text
+has_bytes [] h = absurd (true≢false h)
+has_bytes (x ∷ xs) h = omega arith
+
+pub has_none : (text : List ℕ) → (length text == 0) ≡ true → text ≡ []
+has_none [] h = refl
+has_none (x ∷ xs) h = absurd (omega (arith, eqb-true (length (x ∷ xs)) 0 h))

@@ -1,0 +1,19 @@
+use Rattle.std.proofs.Common.{sym}
+use Rattle.std.specs.Str.{bytes_eq}
+use Rattle.rmt_bits.proofs.AllLaws.{All-find}
+use Rattle.rmt_entries.specs.NamedTables.{seen_table}
+use Rattle.rmt_entries.specs.Standing.{IsAppliedBy, IsBelow, IsReadable}
+use Rattle.rmt_entries.specs.Tables.{AppliedTable}
+use Rattle.rmt_entries.proofs.line.take_table.Goals as goal
+
+pub returns-in-Some-named-clause-readable : goal.returns-in-Some-named-clause-readable
+returns-in-Some-named-clause-readable c =
+    All-find IsReadable (λ (t : AppliedTable). bytes_eq c.in-Some.name.now t.name) c.args.tables.now (seen_table c.in-Some-named.table.now) c.requires (sym c.in-Some-named.ensures)
+
+pub returns-in-Some-named-clause-applied : goal.returns-in-Some-named-clause-applied
+returns-in-Some-named-clause-applied c terms h =
+    All-find (IsAppliedBy terms) (λ (t : AppliedTable). bytes_eq c.in-Some.name.now t.name) c.args.tables.now (seen_table c.in-Some-named.table.now) h (sym c.in-Some-named.ensures)
+
+pub returns-in-Some-named-clause-within : goal.returns-in-Some-named-clause-within
+returns-in-Some-named-clause-within c nodes h =
+    All-find (IsBelow nodes) (λ (t : AppliedTable). bytes_eq c.in-Some.name.now t.name) c.args.tables.now (seen_table c.in-Some-named.table.now) h (sym c.in-Some-named.ensures)

@@ -1,0 +1,11 @@
+pub mod Entries
+pub mod Fault
+pub mod Keys
+pub mod Lines
+pub mod NamedTables
+pub mod Names
+pub mod Numbers
+pub mod Reads
+pub mod Standing
+pub mod Tables
+pub mod Taken

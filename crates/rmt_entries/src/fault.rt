@@ -1,0 +1,40 @@
+//! Why an entry text is refused.
+
+ghost use Rattle.std.specs.Prelude.{◌≡◌};
+ghost use Rattle.rmt_entries.specs.declared.fault.EntryFault.TheVariants.{NoMemory};
+
+use std::alloc::{AllocError, AllocFailed};
+use thiserror::Error;
+
+/// Why an entry text is refused.
+#[derive(Debug, Drop, Error)]
+pub enum EntryFault {
+    /// There is not enough memory.
+    #[error("out of memory")]
+    NoMemory,
+    /// A line is bad.
+    #[error("line {line} of the entries has a fault of code {code}")]
+    At {
+        /// The least rule that the line breaks. 1: its form. 2: no table has the name. 3: the key. 4: no such action
+        /// in the table's list. 5: the arguments. 6: an earlier line has the key. 7: the table is full.
+        code: u8,
+        /// The number of the line, from 1.
+        line: u32,
+    },
+}
+
+impl From<AllocError> for EntryFault {
+    ghost from_gives = { λ _ e. e ≡ NoMemory };
+
+    fn from(_error: AllocError) -> EntryFault {
+        EntryFault::NoMemory
+    }
+}
+
+impl<T: Drop> From<AllocFailed<T>> for EntryFault {
+    ghost from_gives = { λ _ e. e ≡ NoMemory };
+
+    fn from(_error: AllocFailed<T>) -> EntryFault {
+        EntryFault::NoMemory
+    }
+}

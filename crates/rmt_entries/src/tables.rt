@@ -1,0 +1,204 @@
+//! The tables of a program as their entries' lines see them.
+
+ghost use Rattle.std.specs.Prelude.{◌≡◌, ◌≤◌, length, map, IfOk, option_map, option_copied, slice_get};
+ghost use Rattle.rmt_ast.specs.EntryLists.{params_of};
+ghost use Rattle.rmt_ast.specs.State.{width_of};
+ghost use Rattle.rmt_entries.specs.Names.{seen};
+ghost use Rattle.rmt_entries.specs.Tables.{action_name, applied_table, applied_tables, table_named, table_of};
+ghost use Rattle.rmt_entries.specs.NamedTables.{name_of_table, seen_table, seen_tables};
+
+use crate::names::Names;
+use rmt_ast::program::{Kind, Program, Table, What};
+use rmt_bits::sequence::Sequence;
+use std::alloc::{AllocError, Global};
+use std::marker::Model;
+
+/// A table with the node that applies it, and what its entries' lines are read by.
+#[derive(Drop)]
+pub struct NamedTable<'a> {
+    /// The number of the node.
+    pub node: u32,
+    /// The table's name.
+    pub name: &'a [u8],
+    /// How its entries match.
+    pub kind: Kind,
+    /// The most entries.
+    pub size: u32,
+    /// The widths of its key's fields.
+    pub widths: Vec<u8>,
+    /// The names of its list of actions.
+    pub actions: Names<'a>,
+    /// The widths of the parameters of each of them.
+    pub params: Vec<&'a [u8]>,
+}
+
+/// The tables of a program, found by their names. Contracts see their list.
+#[derive(Drop)]
+pub struct Tables<'a> {
+    tables: Sequence<NamedTable<'a>>,
+    names: Names<'a>,
+}
+
+impl<'a> Model for Tables<'a> {
+    ghost use Rattle.std.specs.Prelude.{◌≡◌, List, map};
+    ghost use Rattle.rmt_entries.specs.Tables.{AppliedTable};
+    ghost use Rattle.rmt_entries.specs.NamedTables.{seen_tables, name_of_table};
+
+    ghost Value = { List AppliedTable };
+
+    ghost view = { λ t. seen_tables t.tables };
+
+    ghost invariant = { λ t. t.names ≡ map name_of_table (seen_tables t.tables) };
+}
+
+impl<'a> Tables<'a> {
+    /// The tables that the nodes of a program apply. The only fault is want of memory.
+    pub fn of(alloc: Global, program: &'a Program) -> Result<Tables<'a>, AllocError>
+        requires { length program.now.nodes ≤ 128 }
+        ensures { IfOk result (λ tables. tables ≡ applied_tables program.now) }
+    {
+        let tables = all_tables(alloc, program)?;
+        let names = table_names(alloc, tables.as_slice())?;
+        Ok(Tables {
+            tables: Sequence::from_vec(tables),
+            names,
+        })
+    }
+
+    /// The table of a name.
+    pub fn named(&self, name: &[u8]) -> Option<&NamedTable<'a>>
+        ensures { option_map (λ t. seen_table t.now) result ≡ table_named self.now name.now }
+    {
+        match self.names.number(name) {
+            Some(place) => self.tables.get(place),
+            None => None,
+        }
+    }
+}
+
+/// The width of a field.
+fn width_of(program: &Program, field: u32) -> u8
+    ensures { result ≡ width_of program.now field }
+{
+    match program.fields.get(field as usize) {
+        Some(field) => field.width,
+        None => 0,
+    }
+}
+
+/// The widths of an action's parameters.
+fn params_of(program: &Program, action: u32) -> &[u8]
+    ensures { result.now ≡ params_of program.now action }
+{
+    match program.actions.get(action as usize) {
+        Some(action) => action.params.as_slice(),
+        None => b"".as_slice(),
+    }
+}
+
+/// The name of an action.
+fn action_name(program: &Program, action: u32) -> &[u8]
+    ensures { result.now ≡ action_name program.now action }
+{
+    match program.actions.get(action as usize) {
+        Some(action) => action.name.as_slice(),
+        None => b"".as_slice(),
+    }
+}
+
+/// The widths of fields.
+fn widths_of(alloc: Global, program: &Program, fields: &[u32]) -> Result<Vec<u8>, AllocError>
+    ensures { IfOk result (λ widths. widths.items ≡ map (width_of program.now) fields.now) }
+{
+    let mut widths = Vec::new(alloc);
+    for field in fields {
+        widths.push(width_of(program, *field))?;
+    }
+    Ok(widths)
+}
+
+/// The widths of the parameters of actions.
+fn all_params<'a>(
+    alloc: Global,
+    program: &'a Program,
+    actions: &[u32],
+) -> Result<Vec<&'a [u8]>, AllocError>
+    ensures { IfOk result (λ params. seen params.items ≡ map (params_of program.now) actions.now) }
+{
+    let mut params = Vec::new(alloc);
+    for action in actions {
+        params.push(params_of(program, *action))?;
+    }
+    Ok(params)
+}
+
+/// The names of actions.
+fn action_names<'a>(
+    alloc: Global,
+    program: &'a Program,
+    actions: &[u32],
+) -> Result<Vec<&'a [u8]>, AllocError>
+    ensures { IfOk result (λ names. seen names.items ≡ map (action_name program.now) actions.now) }
+{
+    let mut names = Vec::new(alloc);
+    for action in actions {
+        names.push(action_name(program, *action))?;
+    }
+    Ok(names)
+}
+
+/// A table that a node applies.
+fn named_table<'a>(
+    alloc: Global,
+    program: &'a Program,
+    node: u32,
+    table: &'a Table,
+) -> Result<NamedTable<'a>, AllocError>
+    ensures { IfOk result (λ named. seen_table named ≡ applied_table program.now node table.now) }
+{
+    let names = action_names(alloc, program, table.actions.as_slice())?;
+    Ok(NamedTable {
+        node,
+        name: table.name.as_slice(),
+        kind: table.kind,
+        size: table.size,
+        widths: widths_of(alloc, program, table.key.as_slice())?,
+        actions: Names::of(alloc, names)?,
+        params: all_params(alloc, program, table.actions.as_slice())?,
+    })
+}
+
+/// The table that a node applies; an `if` has none.
+fn table_of<'a>(program: &'a Program, what: &What) -> Option<&'a Table>
+    ensures { option_copied result ≡ table_of program.now what.now }
+{
+    match what {
+        What::Apply(table) => program.tables.get(*table as usize),
+        What::Gate { .. } => None,
+    }
+}
+
+/// The tables that the nodes of a program apply.
+fn all_tables(alloc: Global, program: &Program) -> Result<Vec<NamedTable<'_>>, AllocError>
+    requires { length program.now.nodes ≤ 128 }
+    ensures { IfOk result (λ tables. map seen_table tables.items ≡ applied_tables program.now) }
+{
+    let mut tables = Vec::new(alloc);
+    for (number, node) in program.nodes.as_slice().iter().enumerate() {
+        if let Some(table) = table_of(program, &node.what) {
+            tables.push(named_table(alloc, program, number as u32, table)?)?;
+        }
+    }
+    Ok(tables)
+}
+
+/// The names of tables, with their numbers.
+fn table_names<'a>(alloc: Global, tables: &[NamedTable<'a>]) -> Result<Names<'a>, AllocError>
+    ensures { IfOk result (λ names. names ≡ map name_of_table (seen_tables tables.now)) }
+{
+    let mut names = Vec::new(alloc);
+    for table in tables {
+        names.push(table.name)?;
+    }
+    Names::of(alloc, names)
+}

@@ -1,0 +1,17 @@
+pub mod AnswerLaws
+pub mod BestLaws
+pub mod CountingLaws
+pub mod Examples
+pub mod FieldLaws
+pub mod FindLaws
+pub mod FirstLaws
+pub mod GroupLaws
+pub mod KeyLaws
+pub mod OrderLaws
+pub mod PlaceLaws
+pub mod RankingLaws
+pub mod RunLaws
+pub mod SentLaws
+pub mod StandsLaws
+pub mod WalkLaws
+pub mod WidthLaws

@@ -1,0 +1,18 @@
+//! Runs a packet program on one packet after another, table by table, and counts hits of entries.
+#![tactic(auto)]
+
+mod act;
+mod answer;
+mod control;
+mod counters;
+pub mod fault;
+mod fields;
+mod group;
+mod grouping;
+mod lookup;
+mod numbers;
+pub mod plain;
+mod reached;
+mod run;
+mod sent;
+mod walk;
