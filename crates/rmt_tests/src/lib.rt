@@ -22,6 +22,8 @@ mod packets;
 #[cfg(test)]
 mod packing;
 #[cfg(test)]
+mod parsers;
+#[cfg(test)]
 mod pieces;
 #[cfg(test)]
 mod plain;

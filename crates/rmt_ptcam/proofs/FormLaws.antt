@@ -1,0 +1,282 @@
+-- The plain parser keeps the rules of form of entries and tails.
+use Rattle.std.proofs.Common.{◌≡◌, ℕ, zero, suc, ◌+◌, ◌*◌, ◌-◌, ◌<◌, ◌≤◌, true, List, [], ◌∷◌, ◌++◌, get_or, length, map, reverse, Option, Some, None, refl, sym, ap, subst, ◌∙◌, append_assoc, inl, inr, arith}
+use Rattle.std.specs.Prelude.{All, IfSome, slice_get, option_map, unwrap_or}
+use Rattle.std.specs.List.{range_with_len}
+use Rattle.std.specs.List.Sorted.{IsNonDecreasingBy}
+use Rattle.std.proofs.lemmas.Bool.{cases_lt, lt-ltb, le-leb}
+use Rattle.std.proofs.lemmas.List.{length-append, length-map, get_or_append_left, get_or-append_right, reverse-append}
+use Rattle.std.proofs.lemmas.List.Elements.{All-nil, All-cons, All-head, All-tail, All-append, All-map, All-weaker}
+use Rattle.std.proofs.lemmas.Option.{slice_get-get_or}
+use Rattle.rmt_bits.specs.Words.{word_size}
+use Rattle.rmt_bits.specs.declared.lane.Lane.{Lane}
+use Rattle.rmt_bits.proofs.AllLaws.{All-slice_get, All-flat_map}
+use Rattle.rmt_bits.proofs.ListLaws.{slice_get-front, slice_get-end}
+use Rattle.rmt_ast.specs.declared.program.Program.{Program}
+use Rattle.rmt_ast.specs.declared.program.Field.{Field}
+use Rattle.rmt_ast.specs.declared.program.Header.{Header}
+use Rattle.rmt_ast.specs.declared.program.Tail.{Tail}
+use Rattle.rmt_ast.specs.declared.program.Target.{Target}
+use Rattle.rmt_ast.specs.State.{width_of}
+use Rattle.rmt_ast.specs.WellFormed.{IsProgram, IsHeader, IsTail, bits_of}
+use Rattle.rmt_phv.specs.Packing.{pieces}
+use Rattle.rmt_phv.specs.Places.{LiesInWord, lengths_of}
+use Rattle.rmt_config.specs.declared.config.ParserConfig.{ParserConfig}
+use Rattle.rmt_config.specs.declared.config.ParserEntry.{ParserEntry}
+use Rattle.rmt_config.specs.declared.config.TailOf.{TailOf}
+use Rattle.rmt_config.specs.declared.config.Extract.TheVariants.{Bits, One}
+use Rattle.rmt_config.specs.ParserForm.{extract_is_formed}
+use Rattle.rmt_config.specs.LaneForm.{lane_is_formed, bits_of_lanes}
+use Rattle.rmt_ptcam.specs.Agreement.{lanes_of}
+use Rattle.rmt_ptcam.specs.Fitting.{IsEntry, IsTailOf, IsParser}
+use Rattle.rmt_ptcam.specs.Places.{KeepsApart}
+use Rattle.rmt_ptcam.specs.Needs.{place_in, entry_count}
+use Rattle.rmt_ptcam.specs.Plain.{bits_from, lanes_in_order, extracts_of, entry_to, entry_of_case, entries_of, entries_from, tail_at, tails_for, tails_from, plain}
+use Rattle.rmt_ptcam.proofs.PlainLaws.{bits_of_lanes-append, lanes_bits, place_within}
+use Rattle.rmt_ptcam.proofs.VectorLaws.{word_size-le}
+
+-- ---- lists that stand by a number
+
+module _ {X : Type 0} (f : X → ℕ) where
+  pub sorted-append : (xs ys : List X) (m : ℕ) → All (λ x. f x ≤ m) xs → All (λ y. m ≤ f y) ys → IsNonDecreasingBy f xs → IsNonDecreasingBy f ys → IsNonDecreasingBy f (xs ++ ys)
+  sorted-append xs ys m below above sx sy i j d le lt =
+      let total = length-append xs ys in
+      elim (cases_lt j (length xs)) [
+        | inl front ↦
+            let i_front : i < length xs = omega (arith, le, front) in
+            subst (λ x. f x ≤ f (get_or (xs ++ ys) j d)) (sym (get_or_append_left xs ys d i i_front))
+            (subst (λ y. f (get_or xs i d) ≤ f y) (sym (get_or_append_left xs ys d j front)) (sx i j d le front))
+        | inr behind ↦
+            let j_inside : j - length xs < length ys = omega (arith, behind, total, lt) in
+            let right : get_or (xs ++ ys) j d ≡ get_or ys (j - length xs) d = get_or-append_right xs ys (length xs) j d refl behind in
+            elim (cases_lt i (length xs)) [
+              | inl front ↦
+                  let a = below i d front in
+                  let b = above (j - length xs) d j_inside in
+                  subst (λ x. f x ≤ f (get_or (xs ++ ys) j d)) (sym (get_or_append_left xs ys d i front))
+                  (subst (λ y. f (get_or xs i d) ≤ f y) (sym right) (omega (arith, a, b)))
+              | inr far ↦
+                  subst (λ x. f x ≤ f (get_or (xs ++ ys) j d)) (sym (get_or-append_right xs ys (length xs) i d refl far))
+                  (subst (λ y. f (get_or ys (i - length xs) d) ≤ f y) (sym right) (sy (i - length xs) (j - length xs) d (omega (arith, le, far, behind)) j_inside))
+            ]
+      ]
+
+  pub sorted-same : (xs : List X) (m : ℕ) → All (λ x. f x ≡ m) xs → IsNonDecreasingBy f xs
+  sorted-same xs m same i j d le lt = let a = same i d (omega (arith, le, lt)) in let b = same j d lt in omega (arith, a, b)
+
+pub if_some : {X : Type 0} (P : X → Type 0) (o : Option X) → ((x : X) → o ≡ Some x → P x) → IfSome o P
+if_some P None h = tt
+if_some P (Some x) h = h x refl
+
+-- ---- extracts
+
+All-reverse : {X : Type 0} (P : X → Type 0) (xs : List X) → All P xs → All P (reverse xs)
+All-reverse P [] h = All-nil P
+All-reverse P (x ∷ xs) h =
+    subst (All P) (sym (reverse-append (x ∷ []) xs)) (All-append P (reverse xs) (x ∷ []) (All-reverse P xs (All-tail P x xs h)) (All-cons P x [] (All-head P x xs h) (All-nil P)))
+
+-- the lanes of a field lie in their words
+pub lanes_lie : (p : Program) (places : List (List Lane)) (f : ℕ) → KeepsApart p places → All LiesInWord (lanes_of places f)
+lanes_lie p places f keeps = by (slice_get places f) refl
+  where
+    by : (o : Option (List Lane)) → slice_get places f ≡ o → All LiesInWord (unwrap_or o [])
+    by None is = All-nil LiesInWord
+    by (Some ls) is = All-slice_get (λ (xs : List Lane). All LiesInWord xs) places f ls keeps.within is
+
+pub in_order_lie : (p : Program) (places : List (List Lane)) (fs : List ℕ) → KeepsApart p places → All LiesInWord (lanes_in_order places fs)
+in_order_lie p places fs keeps =
+    All-flat_map LiesInWord (λ f. reverse (lanes_of places f)) fs (λ k d lt. All-reverse LiesInWord (lanes_of places (get_or fs k d)) (lanes_lie p places (get_or fs k d) keeps))
+
+lane_formed : (l : Lane) → LiesInWord l → lane_is_formed l ≡ true
+lane_formed l lies =
+    let small = word_size-le l.word in
+    rw (lt-ltb l.word 224 lies.exists, le-leb 1 l.len lies.has_bits, le-leb l.len 32 (omega (arith, small, lies.within)), le-leb (l.low + l.len) (word_size l.word) lies.within) refl
+
+bits_formed : (need from : ℕ) (lanes : List Lane) → need ≤ 64 → All LiesInWord lanes → from + bits_of_lanes lanes ≤ 8 * need → All (λ x. extract_is_formed need x ≡ true) (bits_from from lanes)
+bits_formed need from [] few lie within = All-nil (λ x. extract_is_formed need x ≡ true)
+bits_formed need from (l ∷ ls) few lie within =
+    let all = bits_of_lanes-append (l ∷ []) ls in
+    let one : bits_of_lanes (l ∷ []) ≡ l.len = omega arith in
+    All-cons (λ x. extract_is_formed need x ≡ true) (Bits from l) (bits_from (from + l.len) ls)
+    (rw (lt-ltb from 65536 (omega (arith, all, one, within, few)), lane_formed l (All-head LiesInWord l ls lie), le-leb (from + l.len) (8 * need) (omega (arith, all, one, within))) refl)
+    (bits_formed need (from + l.len) ls few (All-tail LiesInWord l ls lie) (omega (arith, all, one, within)))
+
+-- a field of one bit has lanes of one bit
+lens_at : (places : List (List Lane)) (fs : List Field) (f : ℕ) (x : Field) → lengths_of places ≡ map (λ (y : Field). pieces y.width) fs → slice_get fs f ≡ Some x → map (λ (l : Lane). l.len) (lanes_of places f) ≡ pieces x.width
+lens_at places [] f x cut is = absurd cc
+lens_at [] (y ∷ fs) f x cut is = absurd cc
+lens_at (ls ∷ places) (y ∷ fs) zero x cut is =
+    let here : map (λ (l : Lane). l.len) ls ≡ pieces y.width = cc in
+    let same : y ≡ x = cc in
+    here ∙ ap (λ (z : Field). pieces z.width) same
+lens_at (ls ∷ places) (y ∷ fs) (suc f) x cut is = lens_at places fs f x (let rest : lengths_of places ≡ map (λ (z : Field). pieces z.width) fs = cc in rest) is
+
+all_ones : (ls : List Lane) → map (λ (l : Lane). l.len) ls ≡ 1 ∷ [] → All (λ (l : Lane). l.len ≡ 1) ls
+all_ones [] e = All-nil (λ (l : Lane). l.len ≡ 1)
+all_ones (l ∷ []) e = All-cons (λ (m : Lane). m.len ≡ 1) l [] (let one : l.len ≡ 1 = cc in one) (All-nil (λ (m : Lane). m.len ≡ 1))
+all_ones (l ∷ m ∷ ls) e = absurd cc
+
+bit_lanes : (p : Program) (places : List (List Lane)) (f : ℕ) → KeepsApart p places → width_of p f ≡ 1 → All (λ (l : Lane). l.len ≡ 1) (lanes_of places f)
+bit_lanes p places f keeps one = by (slice_get p.fields f) refl one
+  where
+    by : (o : Option Field) → slice_get p.fields f ≡ o → unwrap_or (option_map (λ (x : Field). x.width) o) 0 ≡ 1 → All (λ (l : Lane). l.len ≡ 1) (lanes_of places f)
+    by None is w = absurd (omega (arith, w))
+    by (Some x) is w = all_ones (lanes_of places f) (lens_at places p.fields f x keeps.cut is ∙ ap pieces w)
+
+ones_formed : (need : ℕ) (lanes : List Lane) → All LiesInWord lanes → All (λ (l : Lane). l.len ≡ 1) lanes → All (λ x. extract_is_formed need x ≡ true) (map One lanes)
+ones_formed need lanes lie one =
+    All-map (λ x. extract_is_formed need x ≡ true) One lanes (λ k d lt. rw (lane_formed (get_or lanes k d) (lie k d lt), one k d lt) refl)
+
+-- the extracts of a header find their bits in its bytes
+pub header_formed : (p : Program) (places : List (List Lane)) (n : ℕ) (h : Header) → KeepsApart p places → IsHeader p n h → All (λ x. extract_is_formed h.bytes x ≡ true) (extracts_of places h)
+header_formed p places n h keeps good =
+    All-append (λ x. extract_is_formed h.bytes x ≡ true) (map One (lanes_of places h.valid)) (bits_from 0 (lanes_in_order places h.fields))
+    (ones_formed h.bytes (lanes_of places h.valid) (lanes_lie p places h.valid keeps) (bit_lanes p places h.valid keeps good.valid))
+    (bits_formed h.bytes 0 (lanes_in_order places h.fields) good.is_not_long (in_order_lie p places h.fields keeps)
+    (let bits = lanes_bits p places h.fields keeps in omega (arith, bits, good.whole_bytes)))
+
+-- ---- entries
+
+module _ (p : Program) (places : List (List Lane)) where
+  -- what holds of each entry of a header
+  pub of_header : (P : ParserEntry → Type 0) (n : ℕ) (h : Header) → ((value mask : ℕ) (t : Target) → P (entry_to places n h value mask t)) → All P (entries_of p places n h)
+  of_header P n h each =
+      All-append P (map (entry_of_case p places n h) h.cases) (entry_to places n h 0 0 h.other ∷ [])
+      (All-map P (entry_of_case p places n h) h.cases (λ k d lt. each _ _ _))
+      (All-cons P (entry_to places n h 0 0 h.other) [] (each 0 0 h.other) (All-nil P))
+
+  states_from : (n : ℕ) (hs : List Header) → All (λ (e : ParserEntry). n ≤ e.state) (entries_from p places n hs)
+  states_from n [] = All-nil (λ (e : ParserEntry). n ≤ e.state)
+  states_from n (h ∷ hs) =
+      All-append (λ (e : ParserEntry). n ≤ e.state) (entries_of p places n h) (entries_from p places (n + 1) hs)
+      (of_header (λ (e : ParserEntry). n ≤ e.state) n h (λ v m t. omega arith))
+      (All-weaker (λ (e : ParserEntry). n + 1 ≤ e.state) (λ (e : ParserEntry). n ≤ e.state) (λ e more. omega (arith, more)) (entries_from p places (n + 1) hs) (states_from (n + 1) hs))
+
+  pub by_state : (n : ℕ) (hs : List Header) → IsNonDecreasingBy (λ (e : ParserEntry). e.state) (entries_from p places n hs)
+  by_state n [] = λ i j d le lt. absurd (omega (arith, lt))
+  by_state n (h ∷ hs) =
+      sorted-append (λ (e : ParserEntry). e.state) (entries_of p places n h) (entries_from p places (n + 1) hs) n
+      (of_header (λ (e : ParserEntry). e.state ≤ n) n h (λ v m t. omega arith))
+      (All-weaker (λ (e : ParserEntry). n + 1 ≤ e.state) (λ (e : ParserEntry). n ≤ e.state) (λ e more. omega (arith, more)) (entries_from p places (n + 1) hs) (states_from (n + 1) hs))
+      (sorted-same (λ (e : ParserEntry). e.state) (entries_of p places n h) n (of_header (λ (e : ParserEntry). e.state ≡ n) n h (λ v m t. refl)))
+      (by_state (n + 1) hs)
+
+  pub entries_are : (n : ℕ) (hs : List Header) → All (λ (h : Header). All (λ x. extract_is_formed h.bytes x ≡ true) (extracts_of places h)) hs → All IsEntry (entries_from p places n hs)
+  entries_are n [] formed = All-nil IsEntry
+  entries_are n (h ∷ hs) formed =
+      All-append IsEntry (entries_of p places n h) (entries_from p places (n + 1) hs)
+      (of_header IsEntry n h (λ v m t. record { advance = omega arith; extracts = All-head (λ (x : Header). All (λ e. extract_is_formed x.bytes e ≡ true) (extracts_of places x)) h hs formed }))
+      (entries_are (n + 1) hs (All-tail (λ (x : Header). All (λ e. extract_is_formed x.bytes e ≡ true) (extracts_of places x)) h hs formed))
+
+-- ---- tails
+
+module _ (p : Program) where
+  range_least : (n : ℕ) (h : Header) (t : Tail) (a c : ℕ) → All (λ (x : TailOf). a ≤ x.entry) (map (tail_at p n h t) (range_with_len a c))
+  range_least n h t a zero = All-nil (λ (x : TailOf). a ≤ x.entry)
+  range_least n h t a (suc c) =
+      All-cons (λ (x : TailOf). a ≤ x.entry) (tail_at p n h t a) (map (tail_at p n h t) (range_with_len (a + 1) c)) (omega arith)
+      (All-weaker (λ (x : TailOf). a + 1 ≤ x.entry) (λ (x : TailOf). a ≤ x.entry) (λ x more. omega (arith, more)) _ (range_least n h t (a + 1) c))
+
+  range_most : (n : ℕ) (h : Header) (t : Tail) (a c end : ℕ) → a + c ≤ end → All (λ (x : TailOf). x.entry ≤ end) (map (tail_at p n h t) (range_with_len a c))
+  range_most n h t a zero end le = All-nil (λ (x : TailOf). x.entry ≤ end)
+  range_most n h t a (suc c) end le =
+      All-cons (λ (x : TailOf). x.entry ≤ end) (tail_at p n h t a) (map (tail_at p n h t) (range_with_len (a + 1) c)) (omega (arith, le)) (range_most n h t (a + 1) c end (omega (arith, le)))
+
+  range_sorted : (n : ℕ) (h : Header) (t : Tail) (a c : ℕ) → IsNonDecreasingBy (λ (x : TailOf). x.entry) (map (tail_at p n h t) (range_with_len a c))
+  range_sorted n h t a zero = λ i j d le lt. absurd (omega (arith, lt))
+  range_sorted n h t a (suc c) =
+      sorted-append (λ (x : TailOf). x.entry) (tail_at p n h t a ∷ []) (map (tail_at p n h t) (range_with_len (a + 1) c)) a
+      (All-cons (λ (x : TailOf). x.entry ≤ a) (tail_at p n h t a) [] (omega arith) (All-nil (λ (x : TailOf). x.entry ≤ a)))
+      (All-weaker (λ (x : TailOf). a + 1 ≤ x.entry) (λ (x : TailOf). a ≤ x.entry) (λ x more. omega (arith, more)) _ (range_least n h t (a + 1) c))
+      (sorted-same (λ (x : TailOf). x.entry) (tail_at p n h t a ∷ []) a (All-cons (λ (x : TailOf). x.entry ≡ a) (tail_at p n h t a) [] refl (All-nil (λ (x : TailOf). x.entry ≡ a))))
+      (range_sorted n h t (a + 1) c)
+
+  tails_for_all : (P : TailOf → Type 0) (n : ℕ) (h : Header) (a : ℕ) (o : Option Tail) → ((t : Tail) → o ≡ Some t → All P (map (tail_at p n h t) (range_with_len a (entry_count h)))) → All P (tails_for p n h a o)
+  tails_for_all P n h a None each = All-nil P
+  tails_for_all P n h a (Some t) each = each t refl
+
+  tails_for_sorted : (n : ℕ) (h : Header) (a : ℕ) (o : Option Tail) → IsNonDecreasingBy (λ (x : TailOf). x.entry) (tails_for p n h a o)
+  tails_for_sorted n h a None = λ i j d le lt. absurd (omega (arith, lt))
+  tails_for_sorted n h a (Some t) = range_sorted n h t a (entry_count h)
+
+  tails_least : (n a : ℕ) (hs : List Header) → All (λ (x : TailOf). a ≤ x.entry) (tails_from p n a hs)
+  tails_least n a [] = All-nil (λ (x : TailOf). a ≤ x.entry)
+  tails_least n a (h ∷ hs) =
+      All-append (λ (x : TailOf). a ≤ x.entry) (tails_for p n h a h.tail) (tails_from p (n + 1) (a + entry_count h) hs)
+      (tails_for_all (λ (x : TailOf). a ≤ x.entry) n h a h.tail (λ t is. range_least n h t a (entry_count h)))
+      (All-weaker (λ (x : TailOf). a + entry_count h ≤ x.entry) (λ (x : TailOf). a ≤ x.entry) (λ x more. omega (arith, more)) _ (tails_least (n + 1) (a + entry_count h) hs))
+
+  pub by_entry : (n a : ℕ) (hs : List Header) → IsNonDecreasingBy (λ (x : TailOf). x.entry) (tails_from p n a hs)
+  by_entry n a [] = λ i j d le lt. absurd (omega (arith, lt))
+  by_entry n a (h ∷ hs) =
+      sorted-append (λ (x : TailOf). x.entry) (tails_for p n h a h.tail) (tails_from p (n + 1) (a + entry_count h) hs) (a + entry_count h)
+      (tails_for_all (λ (x : TailOf). x.entry ≤ a + entry_count h) n h a h.tail (λ t is. range_most n h t a (entry_count h) (a + entry_count h) (omega arith)))
+      (tails_least (n + 1) (a + entry_count h) hs) (tails_for_sorted n h a h.tail) (by_entry (n + 1) (a + entry_count h) hs)
+
+All-between : (P : ℕ → Type 0) (a c : ℕ) → ((w : ℕ) → a ≤ w → w < a + c → P w) → All P (range_with_len a c)
+All-between P a zero h = All-nil P
+All-between P a (suc c) h =
+    All-cons P a (range_with_len (a + 1) c) (h a (omega arith) (omega arith)) (All-between P (a + 1) c (λ w from lt. h w (omega (arith, from)) (omega (arith, lt))))
+
+-- a header whose tail is told by a field of its own
+pub record HasTail (p : Program) (h : Header) : Type 0 where
+  pub tail : IfSome h.tail (IsTail p h.fields)
+  pub whole : bits_of p h.fields ≡ 8 * h.bytes
+
+tail_of_header : (p : Program) (h : Header) (t : Tail) (o : Option Tail) → o ≡ Some t → IfSome o (IsTail p h.fields) → IsTail p h.fields t
+tail_of_header p h t None e told = absurd cc
+tail_of_header p h t (Some u) e told = let same : u ≡ t = cc in subst (IsTail p h.fields) same told
+
+module _ (p : Program) (places : List (List Lane)) (parser : ParserConfig) where
+  length-entries_of : (n : ℕ) (h : Header) → length (entries_of p places n h) ≡ entry_count h
+  length-entries_of n h = length-append (map (entry_of_case p places n h) h.cases) _ ∙ ap (λ k. k + 1) (length-map h.cases _)
+
+  -- the entries of a header stand behind those before it
+  needs_at : (n a w : ℕ) (front rest : List ParserEntry) (h : Header) (e : ParserEntry) → parser.entries ≡ front ++ (entries_of p places n h ++ rest) → length front ≡ a → a ≤ w → w < a + entry_count h
+      → slice_get parser.entries w ≡ Some e → e.need ≡ h.bytes
+  needs_at n a w front rest h e all long from lt found =
+      let k = w - a in
+      let at : length front + k ≡ w = omega (arith, long, from) in
+      let count = length-entries_of n h in
+      let inside : k < length (entries_of p places n h) = omega (arith, count, from, lt) in
+      let here : slice_get (entries_of p places n h) k ≡ Some e =
+      sym (slice_get-front (entries_of p places n h) rest k inside) ∙ sym (slice_get-end front (entries_of p places n h ++ rest) k)
+      ∙ ap (slice_get (front ++ (entries_of p places n h ++ rest))) at ∙ sym (ap (λ (es : List ParserEntry). slice_get es w) all) ∙ found in
+      All-slice_get (λ (x : ParserEntry). x.need ≡ h.bytes) (entries_of p places n h) k e (of_header p places (λ (x : ParserEntry). x.need ≡ h.bytes) n h (λ v m t. refl)) here
+
+  pub tails_fit : (n a : ℕ) (front : List ParserEntry) (hs : List Header) → parser.entries ≡ front ++ entries_from p places n hs → length front ≡ a → n + length hs ≤ 64 → All (HasTail p) hs
+      → All (IsTailOf parser) (tails_from p n a hs)
+  tails_fit n a front [] all long few told = All-nil (IsTailOf parser)
+  tails_fit n a front (h ∷ hs) all long few told =
+      let this : HasTail p h = All-head (HasTail p) h hs told in
+      let rest = entries_from p places (n + 1) hs in
+      let count = length-entries_of n h in
+      let parts = length-append front (entries_of p places n h) in
+      All-append (IsTailOf parser) (tails_for p n h a h.tail) (tails_from p (n + 1) (a + entry_count h) hs)
+      (tails_for_all p (IsTailOf parser) n h a h.tail (λ t is.
+      let it : IsTail p h.fields t = tail_of_header p h t h.tail is this.tail in
+      let within = place_within p h.fields t.field it.own in
+      All-map (IsTailOf parser) (tail_at p n h t) (range_with_len a (entry_count h))
+      (All-between (λ w. IsTailOf parser (tail_at p n h t w)) a (entry_count h) (λ w from lt. record {
+        header = omega (arith, few);
+        few_bits = it.narrow;
+        within = if_some (λ (e : ParserEntry). place_in p h.fields t.field + width_of p t.field ≤ 8 * e.need) (slice_get parser.entries w)
+            (λ e found. let need = needs_at n a w front rest h e all long from lt found in omega (arith, within, this.whole, need));
+      }))))
+      (tails_fit (n + 1) (a + entry_count h) (front ++ entries_of p places n h) hs (all ∙ sym (append_assoc front (entries_of p places n h) rest)) (omega (arith, parts, count, long)) (omega (arith, few)) (All-tail (HasTail p) h hs told))
+
+-- what holds of each header and its number holds of all
+all_numbered : (P : Header → Type 0) (hs : List Header) → ((n : ℕ) (h : Header) → slice_get hs n ≡ Some h → P h) → All P hs
+all_numbered P hs h k d lt = h k (get_or hs k d) (slice_get-get_or hs k d lt)
+
+-- the plain parser is one that the chip can run
+pub plain_is_parser : (p : Program) (places : List (List Lane)) → IsProgram p → KeepsApart p places → IsParser (plain p places)
+plain_is_parser p places good keeps = record {
+  by_state = by_state p places 0 p.headers;
+  entries =
+      entries_are p places 0 p.headers
+      (all_numbered (λ (h : Header). All (λ x. extract_is_formed h.bytes x ≡ true) (extracts_of places h)) p.headers (λ n h is. header_formed p places n h keeps (good.headers n h is)));
+  by_entry = by_entry p 0 0 p.headers;
+  tails =
+      tails_fit p places (plain p places) 0 0 [] p.headers refl refl (omega (arith, good.counts.headers))
+      (all_numbered (HasTail p) p.headers (λ n h is. let this = good.headers n h is in record { tail = this.tail; whole = this.whole_bytes }));
+}

@@ -1,0 +1,6 @@
+pub mod Agreement
+pub mod Fitting
+pub mod Parsing
+pub mod Needs
+pub mod Plain
+pub mod Places

@@ -1,0 +1,82 @@
+//! The plain parser of a program: one state for each header.
+
+ghost use Rattle.std.specs.Prelude.{◌≡◌, ◌≢◌, ◌≤◌, Err, IfOk, length};
+ghost use Rattle.rmt_ast.specs.WellFormed.{IsProgram, bits_of};
+ghost use Rattle.rmt_ptcam.specs.declared.fault.ParserFault.TheVariants.{NoMemory};
+ghost use Rattle.rmt_ptcam.specs.Needs.{lookups_of};
+ghost use Rattle.rmt_ptcam.specs.Plain.{planned, state_of as state_of_header};
+ghost use Rattle.rmt_ptcam.specs.Fitting.{IsParser};
+ghost use Rattle.rmt_ptcam.specs.Places.{KeepsApart};
+
+use crate::entries::{push_entries, push_tails};
+use crate::fault::ParserFault;
+use crate::headers::is_looked_up;
+use crate::need::parser_need;
+use rmt_ast::program::{Header, Program};
+use rmt_bits::answer::Bytes;
+use rmt_bits::sequence::Sequence;
+use rmt_config::config::{ParserConfig, ParserState};
+use rmt_phv::places::Places;
+use std::alloc::{AllocError, Global};
+
+/// The state of a header: it looks at all bytes of the fields that the header selects by.
+fn state_of(alloc: Global, program: &Program, header: &Header) -> Result<ParserState, AllocError>
+    requires program { IsProgram program.now }
+    requires short { bits_of program.now header.now.fields ≤ 512 }
+    ensures { IfOk result (λ state. state ≡ state_of_header program.now header.now) }
+{
+    let mut lookups = Bytes::new(alloc);
+    for byte in 0..header.bytes {
+        if is_looked_up(program, header, byte) {
+            lookups.push(byte)?;
+        }
+    }
+    Ok(ParserState { lookups })
+}
+
+/// The plain parser of a program, into these places of its fields.
+///
+/// It has one state for each header, with the header's number. Its entries are the cases in order and then one for all
+/// other packets; each needs the header's bytes and moves behind them, sets `valid`, and puts each field into its lanes, the
+/// high piece first. A state looks at all bytes of the fields that its header selects by. Each entry of a header with a tail
+/// has that tail.
+///
+/// # Errors
+///
+/// As `parser_need`, else for want of memory.
+pub fn plain_parser(
+    alloc: Global,
+    program: &Program,
+    places: &Places,
+) -> Result<ParserConfig, ParserFault>
+    requires program { IsProgram program.now }
+    requires places { KeepsApart program.now places.now }
+    // Which parser, or which refusal, unless memory runs out.
+    ensures made { result ≢ Err NoMemory → result ≡ planned program.now places.now }
+    // The chip can run it.
+    ensures runs { IfOk result IsParser }
+{
+    parser_need(program)?;
+    let mut states = Sequence::new(alloc);
+    let mut entries = Sequence::new(alloc);
+    let mut tails = Sequence::new(alloc);
+    for (number, header) in program.headers.as_slice().iter().enumerate() {
+        let state = state_of(alloc, program, header)?;
+        push_tails(&mut tails, program, number as u8, header, entries.len())?;
+        push_entries(
+            alloc,
+            &mut entries,
+            program,
+            places,
+            number as u8,
+            header,
+            &state,
+        )?;
+        states.push(state)?;
+    }
+    Ok(ParserConfig {
+        states,
+        entries,
+        tails,
+    })
+}

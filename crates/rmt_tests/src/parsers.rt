@@ -1,0 +1,194 @@
+//! Plain parsers of program texts, and frames that they parse.
+
+ghost use Rattle.std.specs.Prelude.{◌<◌, length, IfOk};
+ghost use Rattle.rmt_ptcam.specs.Fitting.{IsParser};
+
+use rmt_check::laws::one_meaning;
+use rmt_check::read_program;
+use rmt_config::config::ParserConfig;
+use rmt_config::tails::Tails;
+use rmt_config::vector::Vector;
+use rmt_packets::packet_line::read_packet;
+use rmt_phv::pack_fields;
+use rmt_ptcam::fault::ParserFault;
+use rmt_ptcam::parse::Parsed;
+use rmt_ptcam::{parse_chip, parser_need, plain_parser};
+use std::alloc::{AllocError, Global};
+use std::test::*;
+
+/// The plain parser of a text that means a program; `parser_need` and `plain_parser` refuse alike.
+fn parser_of(alloc: Global, text: &[u8]) -> Result<ParserConfig, ParserFault>
+    requires { length text.now < 4294967295 }
+    ensures { IfOk result IsParser }
+{
+    let Ok(program) = read_program(alloc, text) else {
+        return Err(ParserFault::NoMemory);
+    };
+    one_meaning();
+    parser_need(&program)?;
+    let Ok(places) = pack_fields(alloc, &program) else {
+        return Err(ParserFault::NoMemory);
+    };
+    plain_parser(alloc, &program, &places)
+}
+
+/// What the parser makes of a frame.
+fn parsed(parser: &ParserConfig, frame: &[u8]) -> Parsed
+    requires fits { IsParser parser.now }
+    requires short { length frame.now < 9217 }
+{
+    let mut vector = Vector::new();
+    let mut tails = Tails::new();
+    parse_chip(parser, frame, &mut vector, &mut tails)
+}
+
+/// The headers of an Ethernet switch: 16 cases and `else`s.
+const HEADERS: &[u8] =
+    b"header eth { dst : 48; src : 48; kind : 16; } next (kind) { 0x8100 : vlan; 0x0800 : ipv4; 0x86dd : ipv6; else : accept; } header vlan { pcp : 3; dei : 1; vid : 12; kind : 16; } next (kind) { 0x0800 : ipv4; 0x86dd : ipv6; else : accept; } header ipv4 { version : 4; ihl : 4; tos : 8; length : 16; id : 16; flags : 3; frag : 13; ttl : 8; proto : 8; sum : 16; src : 32; dst : 32; } next (ihl, proto) { 5, 6 : tcp; 5, 17 : udp; 5, 0 & 0 : accept; else : reject; } header ipv6 { version : 4; class : 8; flow : 20; length : 16; nxt : 8; hops : 8; src : 128; dst : 128; } next (nxt) { 6 : tcp; 17 : udp; else : accept; } header tcp { sport : 16; dport : 16; seq : 32; ack : 32; off : 4; flags : 12; window : 16; sum : 16; urgent : 16; } next accept; header udp { sport : 16; dport : 16; length : 16; sum : 16; } next accept; control { }";
+
+/// Packet lines, and how their frames parse: UDP twice, TCP behind a tag, UDP over IPv6, an unknown kind, options of IPv4,
+/// and a cut tag.
+const FRAMES: [(&[u8], Parsed); 7] = [
+    (
+        b"0 02000000000102000000000208004500002000000000401100000b000001c0a8010500350035000c0000deadbeef",
+        Parsed::Accept { used: 42 },
+    ),
+    (
+        b"0 02000000000102000000000208004500002000000000401100000a000001c0a8010500350035000c0000deadbeef",
+        Parsed::Accept { used: 42 },
+    ),
+    (
+        b"0 0200000000010200000000028100000508004500002800000000400600000b000001c0a802050050005100000001000000005002200000000000",
+        Parsed::Accept { used: 58 },
+    ),
+    (
+        b"0 02000000000102000000000286dd600000000008114020010db800000000000000000000000220010db80000000000000000000000010035003500080000",
+        Parsed::Accept { used: 62 },
+    ),
+    (
+        b"0 02000000000902000000000208060001",
+        Parsed::Accept { used: 14 },
+    ),
+    (
+        b"0 02000000000102000000000208004600002000000000401100000b000001c0a80105",
+        Parsed::Reject,
+    ),
+    (b"0 0200000000010200000000028100000508", Parsed::Short),
+];
+
+#[test]
+fn realistic_frames(rt: HostRuntime) -> Result<(), Fail> {
+    let parser = parser_of(rt.alloc(), HEADERS)?;
+    assert_eq!(rt; parser.entries.len(), 16);
+    assert_eq!(rt; parser.states.len(), 6);
+    let mut frame = Vec::new(rt.alloc());
+    for (line, want) in FRAMES.as_slice() {
+        assert_eq!(rt; read_packet(rt.alloc(), *line, &mut frame), Ok(0));
+        assert!(rt; frame.len() < 9217);
+        assert_eq!(rt; parsed(&parser, frame.as_slice()), *want);
+    }
+    Ok(())
+}
+
+/// The first of these frames, cut at each byte: its headers have 42.
+#[test]
+fn frame_cut_at_each_byte(rt: HostRuntime) -> Result<(), Fail> {
+    let parser = parser_of(rt.alloc(), HEADERS)?;
+    let mut frame = Vec::new(rt.alloc());
+    assert_eq!(rt; read_packet(rt.alloc(), FRAMES[0].0, &mut frame), Ok(0));
+    assert_eq!(rt; frame.len(), 46);
+    for len in 0..47 {
+        let want = if len < 42 {
+            Parsed::Short
+        } else {
+            Parsed::Accept { used: 42 }
+        };
+        assert_eq!(rt; parsed(&parser, &frame.as_slice()[..len]), want);
+    }
+    Ok(())
+}
+
+/// A header whose `n` tells a tail of `n * 4 - 4` bytes: one of 4 bytes, a cut one, and one of fewer than 0.
+#[test]
+fn tails_of_a_header(rt: HostRuntime) -> Result<(), Fail> {
+    let text = b"header o { n : 4; z : 4; tail n * 4 - 4; } next accept; control { }";
+    let parser = parser_of(rt.alloc(), text)?;
+    let mut vector = Vector::new();
+    let mut tails = Tails::new();
+    let whole = [0x2f, 1, 2, 3, 4, 5];
+    let used = parse_chip(&parser, whole.as_slice(), &mut vector, &mut tails);
+    assert_eq!(rt; used, Parsed::Accept { used: 5 });
+    assert_eq!(rt; tails.get(0), (1, 4));
+    assert_eq!(rt; parsed(&parser, [0x2f, 1, 2, 3].as_slice()), Parsed::Short);
+    assert_eq!(rt;
+        parsed(&parser, [0x0f, 1, 2, 3, 4].as_slice()),
+        Parsed::Reject
+    );
+    Ok(())
+}
+
+/// Whether a text is refused for its lookups or its extracts.
+fn is_refused(alloc: Global, text: &[u8], lookups: u32, extracts: u32) -> bool
+    requires { length text.now < 4294967295 }
+{
+    match parser_of(alloc, text) {
+        Err(ParserFault::LookupWide { header: 0, bytes }) => bytes == lookups,
+        Err(
+            ParserFault::StepWide {
+                header: 0,
+                extracts: count,
+            },
+        ) => count == extracts,
+        _ => false,
+    }
+}
+
+/// A select of 6 bytes, one of 5 of a field that begins inside a byte, and a header of 64 fields.
+#[test]
+fn headers_that_are_refused(rt: HostRuntime) -> Result<(), Fail> {
+    let six = b"header h { a : 24; b : 24; } next (a, b) { else : accept; } control { }";
+    assert!(rt; is_refused(rt.alloc(), six, 6, 0));
+    let five = b"header h { a : 4; b : 32; c : 4; } next (b) { else : accept; } control { }";
+    assert!(rt; is_refused(rt.alloc(), five, 5, 0));
+    let four = b"header h { a : 8; b : 32; c : 8; } next (b) { else : accept; } control { }";
+    assert!(rt; parser_of(rt.alloc(), four).is_ok());
+    let mut wide = String::new(rt.alloc());
+    wide.push_str("header h {")?;
+    for number in 0..64 {
+        let field = format!(in rt.alloc(); " f{number} : 8;")?;
+        wide.push_str(field.as_str())?;
+    }
+    wide.push_str(" } next accept; control { }")?;
+    assert!(rt; wide.len() < 10000);
+    assert!(rt; is_refused(rt.alloc(), wide.as_bytes(), 0, 65));
+    Ok(())
+}
+
+/// A header of 16 bits with that many cases.
+fn with_cases(alloc: Global, cases: u32) -> Result<String, AllocError> {
+    let mut text = String::new(alloc);
+    text.push_str("header h { f : 16; } next (f) {")?;
+    for number in 0..cases {
+        let case = format!(in alloc; " {number} : accept;")?;
+        text.push_str(case.as_str())?;
+    }
+    text.push_str(" else : reject; } control { }")?;
+    Ok(text)
+}
+
+/// 256 cases and the `else` are one entry too many.
+#[test]
+fn entries_that_are_refused(rt: HostRuntime) -> Result<(), Fail> {
+    let most = with_cases(rt.alloc(), 255)?;
+    assert!(rt; most.len() < 10000);
+    let parser = parser_of(rt.alloc(), most.as_bytes())?;
+    assert_eq!(rt; parser.entries.len(), 256);
+    let more = with_cases(rt.alloc(), 256)?;
+    assert!(rt; more.len() < 10000);
+    let is_full = matches!(
+        parser_of(rt.alloc(), more.as_bytes()),
+        Err(ParserFault::ParserFull { entries: 257 })
+    );
+    assert!(rt; is_full);
+    Ok(())
+}
