@@ -4,6 +4,8 @@
 #[cfg(test)]
 mod bits;
 #[cfg(test)]
+mod cells;
+#[cfg(test)]
 mod check;
 #[cfg(test)]
 mod chip;
