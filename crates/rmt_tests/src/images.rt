@@ -70,6 +70,13 @@ const BROKEN: [(usize, u8, u8); 52] = [
     (90, 1, 3), // a row that is not there
 ];
 
+/// The code of the smallest image where one byte is greater by 1, for each byte.
+const NEXT_BYTE: [u8; 95] = [
+    1, 1, 1, 1, 2, 2, 0, 0, 0, 4, 0, 0, 4, 0, 0, 4, 4, 0, 0, 4, 4, 4, 0, 4, 4, 4, 4, 4, 4, 4, 4, 4,
+    4, 4, 4, 4, 4, 4, 4, 0, 4, 0, 3, 4, 0, 0, 4, 4, 4, 4, 0, 4, 4, 3, 4, 4, 4, 4, 0, 4, 4, 4, 4, 4,
+    4, 4, 4, 4, 4, 4, 4, 4, 4, 0, 0, 0, 0, 4, 4, 4, 0, 0, 4, 4, 4, 4, 4, 3, 3, 3, 3, 3, 3, 3, 3,
+];
+
 /// The code of an answer, 0 for Ok and 7 for want of memory; for the limits the number and the stage too.
 fn code_of(answer: Result<Config, ImageFault>) -> (u8, u8, u8, u32) {
     match answer {
@@ -101,6 +108,16 @@ fn broken_bytes(rt: HostRuntime) {
         assert!(rt; place < 95);
         image[place] = byte;
         assert_eq!(rt; read(rt.alloc(), &image).0, code, "byte {place} is {byte}");
+    }
+}
+
+#[test]
+fn each_byte_changed(rt: HostRuntime) {
+    for (place, code) in NEXT_BYTE.iter().enumerate() {
+        let mut image = IMAGE;
+        assert!(rt; place < 95);
+        image[place] = image[place].wrapping_add(1);
+        assert_eq!(rt; read(rt.alloc(), &image).0, *code, "byte {place}");
     }
 }
 
