@@ -1,14 +1,12 @@
 -- The causes of the answers of `sim` and `probe`.
 use Rattle.std.proofs.Common.{◌≡◌, ◌≢◌, ℕ, ◌≤◌, ◌⊎◌, List, Option, Some, None, Ok, Err, Result, length, sym, refl, ap, ◌∙◌, inl, inr, ⊎_elim, subst}
-use Rattle.std.specs.Prelude.{IsSome, IsTrue}
-use Rattle.std.proofs.lemmas.Bool.{both_ways}
+use Rattle.std.specs.Prelude.{IsSome}
 use Rattle.rmt_config.specs.declared.config.Config.{Config}
 use Rattle.rmt_config.specs.Spells.{Spells}
-use Rattle.rmt_chip.specs.Supported.{is_supported}
 use Rattle.rmt_image.specs.declared.fault.ImageFault.{ImageFault}
 use Rattle.rmt_image.specs.declared.fault.ImageFault.TheVariants as fault
 use Rattle.rmt_image.specs.Reading.{Answers}
-use Rattle.rmt_image.proofs.Whole.{image_again, spelled_once}
+use Rattle.rmt_image.proofs.Whole.{image_again}
 use Rattle.rmt_packets.specs.PacketText.{packets_of, BadLine}
 use Rattle.rmt.specs.declared.status.Status.{Status}
 use Rattle.rmt.specs.declared.status.Status.TheVariants as status
@@ -29,13 +27,13 @@ bytes_within files image packets bytes text r = record { bytes = bytes; is_there
 abbrev text_within : (files : Files) (image packets bytes text : List ℕ) → BothRead files image packets bytes text → IsWithin files packets packets_limit
 text_within files image packets bytes text r = record { bytes = text; is_there = r.packets_were; is_short = r.packets_fit }
 
-pub is_image : (bytes : List ℕ) (c : Config) → Spells bytes c → IsTrue (is_supported c) → IsImageOf bytes c
+pub is_image : (bytes : List ℕ) (c : Config) → Spells bytes c → IsImageOf bytes c
 unfolding IsImageOf
-is_image bytes c spells runs = (spells, runs)
+is_image bytes c spells = spells
 
 pub may_run : (bytes : List ℕ) (c : Config) → IsImageOf bytes c → MayRun c
 unfolding IsImageOf MayRun
-may_run bytes c is = (is.0.formed, is.0.limits, is.1)
+may_run bytes c is = (is.formed, is.limits)
 
 abbrev pub has_image : (files : Files) (image packets bytes text : List ℕ) (c : Config) → BothRead files image packets bytes text → IsImageOf bytes c → HasImage files image packets
 has_image files image packets bytes text c r is = record {
@@ -94,7 +92,7 @@ is_err told = Err told
 
 -- an image that is refused for a fault of its bytes
 pub refused_for_bytes : (bytes : List ℕ) (told : ImageFault) → (is_err told ≢ is_err fault.NoMemory → Answers bytes (is_err told)) → told ≢ fault.NoMemory → Refused bytes told
-refused_for_bytes bytes told exact of_bytes = inl (exact (λ e. of_bytes (same_fault told fault.NoMemory e)), of_bytes)
+refused_for_bytes bytes told exact of_bytes = (exact (λ e. of_bytes (same_fault told fault.NoMemory e)), of_bytes)
   where
     same_fault : (a b : ImageFault) → is_err a ≡ is_err b → a ≡ b
     same_fault a b e = cc
@@ -112,9 +110,7 @@ same_bytes files name limit a b = let both : Some a.bytes ≡ Some b.bytes = sym
 -- what is run is not refused
 not_refused : (bytes : List ℕ) (c : Config) → IsImageOf bytes c → (told : ImageFault) → Refused bytes told → ⊥
 unfolding IsImageOf
-not_refused bytes c is told refused =
-    ⊎_elim (λ bad. let both : is_err told ≡ is_ok c = image_again bytes c is.0 (is_err told) bad.0 in cc)
-    (λ other. both_ways (is_supported c) (ap is_supported (spelled_once bytes c other.0 is.0 other.1) ∙ other.2) is.1) refused
+not_refused bytes c is told refused = let both : is_err told ≡ is_ok c = image_again bytes c is (is_err told) refused.0 in cc
 
 module _ (files : Files) (image packets : List ℕ) where
   -- an image that is run is no bad one

@@ -1,6 +1,6 @@
 -- The configuration of a text of the small form keeps the rules of form and the limits.
 use Rattle.std.proofs.Common.{◌≡◌, ℕ, zero, suc, ◌+◌, ◌-◌, ◌*◌, ◌<◌, ◌≤◌, ◌≢◌, Bool, true, false, ◌&&◌, List, [], ◌∷◌, length, Some, None, refl, ◌∙◌, subst, arith, lit≤}
-use Rattle.std.specs.Prelude.{All, IsTrue, find, map, slice_get, nat_lt, ◌==◌}
+use Rattle.std.specs.Prelude.{All, find, map, slice_get, nat_lt, ◌==◌}
 use Rattle.std.specs.List.{list_all, list_any, flat_map, count_by, sum_by, AllByRecursion}
 use Rattle.std.proofs.lemmas.Bool.{and_parts, false≢true, ne_eqb, lt-ltb, ltb-true, le-ltb, le-leb}
 use Rattle.std.proofs.lemmas.List.Elements.{All-cons, All-nil}
@@ -12,7 +12,6 @@ use Rattle.rmt_config.specs.CellForm.{StageHolds, SlotHolds, Coded, MemoryEnds, 
 use Rattle.rmt_config.specs.Resources.{is_slot, is_gate, unit_instructions, unit_data, unit_sram, unit_tcam, unit_width, greatest_by, most_listed_in, exact_words, ternary_words, crossbar_bits, node_numbers}
 use Rattle.rmt_config.specs.Limits.{IsWithinLimits, last_start_hit}
 use Rattle.rmt_config.proofs.LimitLaws.{distinct_le, limits_keep}
-use Rattle.rmt_chip.specs.Supported.{stage_is_supported, is_supported}
 use Rattle.rmt_config.specs.declared.config.Stage.{Stage}
 use Rattle.rmt_config.specs.declared.config.SlotUnit.{SlotUnit}
 use Rattle.rmt_config.specs.declared.config.Unit.TheVariants.{Slot}
@@ -166,12 +165,3 @@ within_limits es few =
       last_start = no_start_hit es few;
       listed = each_small (λ (s : Stage). most_listed_in s.units) 1 (λ n e. lit≤ tt) 0 es;
     })
-
--- ---- what the chip runs
-
-all_supported : (n : ℕ) (es : List Effect) → list_all stage_is_supported (stages_from n es) ≡ true
-all_supported n [] = refl
-all_supported n (e ∷ es) = all_supported (n + 1) es
-
-pub supported : (es : List Effect) → IsTrue (is_supported (small_config es))
-supported es = all_supported 0 es

@@ -8,7 +8,7 @@ use Rattle.rmt.specs.SmallConfig.{small_config}
 use Rattle.rmt.specs.Promises.{IsImageOf, Makes, compile_lines}
 use Rattle.rmt.proofs.Law.{small_config-same, fits_of}
 use Rattle.rmt.proofs.StateLaw.{small_config-keeps}
-use Rattle.rmt.proofs.SmallFormed.{formed, within_limits, supported}
+use Rattle.rmt.proofs.SmallFormed.{formed, within_limits}
 use Rattle.rmt.proofs.SmallImage.{image_is_short}
 
 -- there are as many steps as applied tables
@@ -20,14 +20,11 @@ steps_are_few text steps h = let few = h.means.form.applied_count in let same = 
 
 small_image : (text image : List ℕ) (steps : List Effect) → (h : Steps text steps) → image ≡ spelled (small_config (steps_of h.parts)) → IsImageOf image (small_config (steps_of h.parts))
 unfolding IsImageOf
-small_image text image steps h is = (
-  record {
-    spelled = is;
-    formed = formed (effect_of h.parts) (fits_of h.parts h.means.form) h.parts.applied h.means.form.applied_count;
-    limits = within_limits (steps_of h.parts) (subst (λ l. length l ≤ 32) h.steps_are (steps_are_few text steps h));
-  },
-  supported (steps_of h.parts),
-)
+small_image text image steps h is = record {
+  spelled = is;
+  formed = formed (effect_of h.parts) (fits_of h.parts h.means.form) h.parts.applied h.means.form.applied_count;
+  limits = within_limits (steps_of h.parts) (subst (λ l. length l ≤ 32) h.steps_are (steps_are_few text steps h));
+}
 
 -- what is made of a text whose steps are these
 pub makes : (text entries image lines : List ℕ) (steps : List Effect) (h : Steps text steps) → entries ≡ [] → image ≡ spelled (small_config steps) → lines ≡ compile_lines (length steps) → Makes text entries image lines

@@ -1,11 +1,10 @@
 -- What the top call promises of `compile`, over the files as they stood before and after.
-use Rattle.std.specs.Prelude.{◌≡◌, ℕ, ◌*◌, ◌<◌, ◌≤◌, ◌⊎◌, List, [], ◌++◌, Option, Some, None, length, codes, IsTrue}
+use Rattle.std.specs.Prelude.{◌≡◌, ℕ, ◌*◌, ◌<◌, ◌≤◌, ◌⊎◌, List, [], ◌++◌, Option, Some, None, length, codes}
 use Rattle.std.specs.Fmt.{decimal}
 use Rattle.rmt_config.specs.declared.config.Config.{Config}
 use Rattle.rmt_config.specs.Form.{Formed}
 use Rattle.rmt_config.specs.Limits.{IsWithinLimits}
 use Rattle.rmt_config.specs.Spells.{Spells}
-use Rattle.rmt_chip.specs.Supported.{is_supported}
 use Rattle.rmt.specs.declared.status.Status.{Status}
 use Rattle.rmt.specs.declared.status.Status.TheVariants.{Done, Usage, ReadFault, WriteFault, BadProgram, BadEntries, NoFit, BadImage, BadPackets, TooLong, NoMemory}
 use Rattle.rmt.specs.SmallForm.{SmallProgram, Means, program_of, steps_of}
@@ -52,13 +51,13 @@ bad_program_line = codes "bad program 0 line 1 column 1\n"
 abbrev pub bad_entries_line : List ℕ
 bad_entries_line = codes "bad entries 0 line 1\n"
 
--- the bytes are the image of a configuration that the chip runs
+-- the bytes are the image of a configuration
 unfoldable pub IsImageOf : List ℕ → Config → Type 0
-IsImageOf bytes c = Spells bytes c × IsTrue (is_supported c)
+IsImageOf bytes c = Spells bytes c
 
--- the configuration keeps the rules of form and every limit of the chip, and the chip runs it
+-- the configuration keeps the rules of form and every limit of the chip
 unfoldable pub MayRun : Config → Type 0
-MayRun c = Formed c × IsWithinLimits c × IsTrue (is_supported c)
+MayRun c = Formed c × IsWithinLimits c
 
 -- What is made of two texts: the program that the text means, and the image and the lines of a configuration
 -- whose chip run answers, for every list of packets, what the program gives.

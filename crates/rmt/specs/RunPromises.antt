@@ -1,8 +1,6 @@
 -- What the top call promises of `sim` and `probe`, over the files as they stood before.
-use Rattle.std.specs.Prelude.{◌≡◌, ◌≢◌, ℕ, ◌⊎◌, List, Some, None, Err, false}
+use Rattle.std.specs.Prelude.{◌≡◌, ◌≢◌, ℕ, ◌⊎◌, List, Some, None, Err}
 use Rattle.rmt_config.specs.declared.config.Config.{Config}
-use Rattle.rmt_config.specs.Spells.{Spells}
-use Rattle.rmt_chip.specs.Supported.{is_supported}
 use Rattle.rmt_image.specs.declared.fault.ImageFault.{ImageFault}
 use Rattle.rmt_image.specs.declared.fault.ImageFault.TheVariants as fault
 use Rattle.rmt_image.specs.Reading.{Answers}
@@ -17,18 +15,16 @@ use Rattle.rmt.specs.ProbeText.{probed_of}
 abbrev pub packets_limit : ℕ
 packets_limit = 67108864
 
--- both files are there and within their limits, and the image is that of a configuration that the chip runs
+-- both files are there and within their limits, and the image is that of a configuration
 pub record HasImage (files : Files) (image packets : List ℕ) : Type 0 where
   pub text : IsWithin files packets packets_limit
   pub bytes : IsWithin files image image_limit
   pub config : Config
   pub is_image : IsImageOf bytes.bytes config
 
--- why an image is refused: for a fault of its bytes; one whose configuration the chip doesn't run yet counts as out of form
+-- an image is refused for a fault of its bytes
 abbrev pub Refused : List ℕ → ImageFault → Type 0
-Refused bytes told =
-    (Answers bytes (Err told) × (told ≢ fault.NoMemory))
-    ⊎ ((c : Config) × Spells bytes c × (is_supported c ≡ false) × (told ≡ fault.Form))
+Refused bytes told = Answers bytes (Err told) × (told ≢ fault.NoMemory)
 
 -- the image is refused for its bytes; both files are there and within their limits
 pub record HasBadImage (files : Files) (image packets : List ℕ) : Type 0 where

@@ -133,9 +133,7 @@ fn cycle(alloc: Global, run: &mut Run, frame: Option<Frame<'_>>) -> Result<(), C
         Goes w c (inputs ++ input_of frame.entry ∷ []) run.new told before now) }
     ensures err { OnErr result (run.new.waiting.items ≡ run.old.waiting.items) }
 {
-    let Ok(left) = run.chip.clock(alloc, frame, &mut run.leaving) else {
-        return Err(ChipFault::NoMemory);
-    };
+    let left = run.chip.clock(frame, &mut run.leaving);
     let number = run.answered;
     run.cycles += 1;
     run.answered += u64::from(left.is_some());

@@ -1,21 +1,18 @@
 //! Running an image on the packets of a text.
 
-ghost use Rattle.std.specs.Prelude.{◌≡◌, ◌≢◌, ◌≤◌, ◌⊎◌, ◌++◌, ℕ, List, Some, None, length, IsTrue, IsSome, IfOk, IfErr, string_bytes};
-ghost use Rattle.rmt.specs.Promises.{IsImageOf};
+ghost use Rattle.std.specs.Prelude.{◌≡◌, ◌≢◌, ◌≤◌, ◌⊎◌, ◌++◌, ℕ, List, Some, None, length, IsTrue, IsSome, IfOk, string_bytes};
 ghost use Rattle.rmt_io.specs.Faults.{Rose};
 ghost use Rattle.rmt_packets.specs.PacketText.{packets_of};
 ghost use Rattle.rmt.specs.Printing.{GainsFront};
 ghost use Rattle.rmt.specs.SimText.{bad_image_line};
 ghost use Rattle.rmt.specs.Watching.{text_of};
-ghost use Rattle.rmt.specs.RunPromises.{Refused, RunCauses, RunAbsent, RunPrints, IsOfRun};
+ghost use Rattle.rmt.specs.RunPromises.{RunCauses, RunAbsent, RunPrints, IsOfRun};
 
 use crate::loading::{IMAGE_LIMIT, PACKETS_LIMIT, read_texts, status_of};
 use crate::printing::end_with;
 use crate::running::run_text;
 use crate::status::Status;
 use crate::watch::Watch;
-use rmt_chip::supported::is_supported;
-use rmt_config::config::Config;
 use rmt_image::{ImageFault, read_image};
 use rmt_io::shelf::Shelf;
 use rmt_io::sink::Sink;
@@ -39,23 +36,6 @@ fn line_of(alloc: Global, fault: ImageFault) -> Result<String, AllocError>
             let need = hit.need;
             format!(in alloc; "bad image 6 limit {limit} stage {stage} sum {sum} need {need}\n")
         }
-    }
-}
-
-/// The configuration of an image that the chip runs. What the chip doesn't run yet is refused as what is out of form.
-fn image_to_run(alloc: Global, bytes: &[u8]) -> Result<Config, ImageFault>
-    ensures found { IfOk result (λ c. IsImageOf bytes.now c) }
-    ensures refused { IfErr result (λ told. told ≢ ImageFault.NoMemory → Refused bytes.now told) }
-{
-    match read_image(alloc, bytes) {
-        Ok(config) => {
-            if is_supported(&config) {
-                Ok(config)
-            } else {
-                Err(ImageFault::Form)
-            }
-        }
-        Err(fault) => Err(fault),
     }
 }
 
@@ -86,7 +66,7 @@ pub fn simulate<F: Shelf, O: Sink>(
         Ok(texts) => texts,
         Err(fault) => return status_of(fault),
     };
-    match image_to_run(alloc, &texts.first) {
+    match read_image(alloc, &texts.first) {
         Ok(config) => run_text(alloc, config, watch, &texts.second, out),
         Err(fault) => tell_bad_image(alloc, fault, out),
     }

@@ -435,6 +435,97 @@ fn hostile_images_and_faults(rt: HostRuntime) -> Result<(), Fail> {
     Ok(())
 }
 
+/// Adds a stage of the smallest image, with this start, node, guard and port.
+fn push_stage(
+    image: &mut Vec<u8>,
+    start: u16,
+    node: u8,
+    guard: &[u8],
+    port: u8,
+) -> Result<(), AllocError> {
+    image.extend_from_slice(&start.to_be_bytes())?;
+    image.extend_from_slice(&SMALLEST_IMAGE[56..58])?;
+    image.push(node)?;
+    image.extend_from_slice(guard)?;
+    image.extend_from_slice(&SMALLEST_IMAGE[60..81])?;
+    image.push(port)?;
+    image.extend_from_slice(&SMALLEST_IMAGE[82..])
+}
+
+/// The smallest image, with a second stage.
+fn two_stages(alloc: Global, start: u16, guard: &[u8], port: u8) -> Result<Vec<u8>, AllocError> {
+    let mut image = Vec::from_slice(alloc, &SMALLEST_IMAGE[..53])?;
+    image.push(2)?;
+    push_stage(&mut image, 0, 0, &[0], 1)?;
+    push_stage(&mut image, start, 1, guard, port)?;
+    Ok(image)
+}
+
+/// The smallest image, with 32 stages that begin in 32 cycles.
+fn many_stages(alloc: Global) -> Result<Vec<u8>, AllocError> {
+    let mut image = Vec::from_slice(alloc, &SMALLEST_IMAGE[..53])?;
+    image.push(32)?;
+    for k in 0..32u8 {
+        push_stage(&mut image, u16::from(k), k, &[0], 1)?;
+    }
+    Ok(image)
+}
+
+#[test]
+fn images_of_no_program(rt: HostRuntime) -> Result<(), Fail> {
+    let alloc = rt.alloc();
+    let mut wide = SMALLEST_IMAGE;
+    wide[75] = 10;
+    let mut other = SMALLEST_IMAGE;
+    other[81] = 2;
+    let many = many_stages(alloc)?;
+    let last = two_stages(alloc, 372, &[0], 1)?;
+    let runs = two_stages(alloc, 12, &[1, 0, 0, 2], 2)?;
+    let rests = two_stages(alloc, 12, &[1, 0, 0, 4], 2)?;
+    let odd = two_stages(alloc, 12, &[1, 0, 0, 1], 2)?;
+    for (image, status, printed) in [
+        // A port's lane of 10 bits, and another port.
+        (
+            wide.as_slice(),
+            Status::Done,
+            "0 1 ff\ncycles 13\nflight 1\n",
+        ),
+        (
+            other.as_slice(),
+            Status::Done,
+            "0 2 ff\ncycles 13\nflight 1\n",
+        ),
+        // Stages that overlap, and the last start.
+        (
+            many.as_slice(),
+            Status::Done,
+            "0 1 ff\ncycles 44\nflight 1\n",
+        ),
+        (
+            last.as_slice(),
+            Status::Done,
+            "0 1 ff\ncycles 385\nflight 1\n",
+        ),
+        // Guards: node 0 misses, which is outcome 1.
+        (
+            runs.as_slice(),
+            Status::Done,
+            "0 2 ff\ncycles 25\nflight 1\n",
+        ),
+        (
+            rests.as_slice(),
+            Status::Done,
+            "0 1 ff\ncycles 25\nflight 1\n",
+        ),
+        (odd.as_slice(), Status::BadImage, "bad image 4\n"),
+    ] {
+        let (answer, text) = simulated(&rt, image, &[9], &[99])?;
+        assert_eq!(rt; answer, status, "{printed}");
+        assert_eq!(rt; text.as_slice(), printed.as_bytes(), "{printed}");
+    }
+    Ok(())
+}
+
 /// Probes the smallest image, with a sink that takes up to 8 bytes a call and fails in one.
 fn probed(
     rt: &(impl Abort + AllocGlobal),

@@ -6,3 +6,4 @@ pub mod Control
 pub mod Answers
 pub mod WellFormed
 pub mod EntryLists
+pub mod Places

@@ -1,6 +1,6 @@
 -- A cycle of the chip against the chip run.
 use Rattle.std.proofs.Common.{◌≡◌, ℕ, zero, suc, ◌+◌, ◌-◌, ◌<◌, ◌≤◌, Bool, true, false, cond, eqb, List, [], ◌∷◌, ◌++◌, length, get_or, drop, reverse, Option, Some, None, refl, sym, ap, ◌∙◌, subst, ⊎_elim, arith}
-use Rattle.std.specs.Prelude.{map, replicate, slice_index, slice_get, option_map, option_and_then}
+use Rattle.std.specs.Prelude.{map, slice_index, slice_get, option_map, option_and_then}
 use Rattle.std.proofs.Math.Path.{fun_ext}
 use Rattle.std.proofs.lemmas.Bool.{cases_lt, lt-ltb, le-ltb}
 use Rattle.std.proofs.lemmas.List.{get_or-reverse, length-reverse, length_push}
@@ -10,18 +10,17 @@ use Rattle.rmt_bits.specs.declared.answer.Verdict.{Verdict}
 use Rattle.rmt_config.specs.declared.config.Config.{Config}
 use Rattle.rmt_config.specs.Life.{Look, Life, Words, Counted, lane_of, life_of}
 use Rattle.rmt_config.specs.declared.tails.TailAt.{TailAt}
-use Rattle.rmt_config.specs.Parser.{Parse, Short, Reject, Accept, parse, put, no_tail}
+use Rattle.rmt_config.specs.Parser.{Parse, Short, Reject, Accept, parse, put}
 use Rattle.rmt_config.specs.ChipRun.{Outcome, tail_bytes, finished, outcome_from, outcome_of, own_look, answer_at, latency_of}
 use Rattle.rmt_chip.specs.declared.place.Place.{Place}
-use Rattle.rmt_chip.specs.declared.place.Parsed.{Parsed}
-use Rattle.rmt_chip.specs.Held.{CarriedFor, Entered, HoldsIf, EntersIf}
+use Rattle.rmt_ptcam.specs.declared.parse.Parsed.{Parsed}
+use Rattle.rmt_chip.specs.Held.{CarriedFor, Entered, HoldsIf, EntersIf, FrameIs}
 use Rattle.rmt_chip.specs.Inputs.{entered_in, entered_at, packets_of}
-use Rattle.rmt_chip.specs.Leaving.{Answers, AnswersIf, leaving, leaving_if, no_tails, still}
+use Rattle.rmt_chip.specs.Leaving.{Answers, AnswersIf, leaving, leaving_if, still}
 use Rattle.rmt_chip.proofs.LifeLaws.{Rise}
 use Rattle.rmt_chip.proofs.EnterLaws.{holds_entered}
-use Rattle.rmt_chip.proofs.ParseLaws.{HasTails, parse_keeps}
 
-pub holds_enters : (look : Look) (c : Config) → Rise c.stages → (e : Option Entered) (place : Place) → EntersIf c e place → HoldsIf look c e 0 0 0 place
+pub holds_enters : (look : Look) (c : Config) → Rise c.stages → (e : Option Entered) (place : Place) → EntersIf c e place → HoldsIf look c e 0 0 0 0 place
 holds_enters look c rise None place h = h
 holds_enters look c rise (Some e) place h = holds_entered look c rise e place h
 
@@ -37,35 +36,31 @@ one_of false v w x y m n = record { verdicts = refl; bytes = refl }
 finished_same : (c : Config) (tails : List (List ℕ)) (payload : List ℕ) (words : Words) (life life' : Life) → life.word (latency_of c.stages) ≡ words → life'.word (latency_of c.stages) ≡ words → SameAnswer (finished c tails payload life) (finished c tails payload life')
 finished_same c tails payload words life life' e e' = rw (e, e') (one_of (eqb (lane_of words c.drop) 1) _ _ _ _ life.counted life'.counted)
 
--- the bytes of empty tails
-no_bytes : (frame : List ℕ) (tails : List TailAt) → tails ≡ replicate 64 no_tail → map (tail_bytes frame) tails ≡ no_tails
-no_bytes frame tails e = ap (map (tail_bytes frame)) e
-
-leaving_for : (look : Look) (c : Config) (packet : Packet) (place : Place) → place.frame.items ≡ packet.frame → (p : Parse) → HasTails (replicate 64 no_tail) p
-    → CarriedFor look c packet (latency_of c.stages) (latency_of c.stages) (latency_of c.stages) place p → SameAnswer (leaving c place place.parsed) (outcome_from look c packet p)
-leaving_for look c packet place f Short tails held = subst (λ (x : Parsed). SameAnswer (leaving c place x) (outcome_from look c packet Short)) (sym held.0) (record { verdicts = refl; bytes = refl })
-leaving_for look c packet place f Reject tails held = subst (λ (x : Parsed). SameAnswer (leaving c place x) (outcome_from look c packet Reject)) (sym held.0) (record { verdicts = refl; bytes = refl })
-leaving_for look c packet place f (Accept r) tails held =
+leaving_for : (look : Look) (c : Config) (packet : Packet) (l : ℕ) (place : Place) (frame : List ℕ) → frame ≡ packet.frame → (p : Parse)
+    → CarriedFor look c packet (latency_of c.stages) (latency_of c.stages) (latency_of c.stages) l place p → SameAnswer (leaving c place frame place.parsed) (outcome_from look c packet p)
+leaving_for look c packet l place frame f Short held = subst (λ (x : Parsed). SameAnswer (leaving c place frame x) (outcome_from look c packet Short)) (sym held.0) (record { verdicts = refl; bytes = refl })
+leaving_for look c packet l place frame f Reject held = subst (λ (x : Parsed). SameAnswer (leaving c place frame x) (outcome_from look c packet Reject)) (sym held.0) (record { verdicts = refl; bytes = refl })
+leaving_for look c packet l place frame f (Accept r) held =
     let v0 = put r.vector c.in_port packet.port in
-    let words : (λ (w : ℕ). slice_index place.vector w) ≡ (life_of look c.stages v0).word (latency_of c.stages) = fun_ext held.1.words in
-    let same : SameAnswer (finished c no_tails (drop r.at packet.frame) (still place.vector)) (finished c no_tails (drop r.at packet.frame) (life_of look c.stages v0)) =
-    finished_same c no_tails (drop r.at packet.frame) ((life_of look c.stages v0).word (latency_of c.stages)) (still place.vector) (life_of look c.stages v0) words refl in
-    subst (λ (x : Parsed). SameAnswer (leaving c place x) (outcome_from look c packet (Accept r))) (sym held.0)
-    (subst (λ (fr : List ℕ). SameAnswer (finished c no_tails (drop r.at fr) (still place.vector)) (outcome_from look c packet (Accept r))) (sym f)
-    (subst (λ (t : List (List ℕ)). SameAnswer (finished c no_tails (drop r.at packet.frame) (still place.vector)) (finished c t (drop r.at packet.frame) (life_of look c.stages v0))) (sym (no_bytes packet.frame r.tails tails)) same))
+    let words : (λ (w : ℕ). slice_index place.vector w) ≡ (life_of look c.stages v0).word (latency_of c.stages) = fun_ext held.2.words in
+    let same : SameAnswer (finished c (map (tail_bytes packet.frame) r.tails) (drop r.at packet.frame) (still place.vector)) (outcome_from look c packet (Accept r)) =
+    finished_same c (map (tail_bytes packet.frame) r.tails) (drop r.at packet.frame) ((life_of look c.stages v0).word (latency_of c.stages)) (still place.vector) (life_of look c.stages v0) words refl in
+    subst (λ (x : Parsed). SameAnswer (leaving c place frame x) (outcome_from look c packet (Accept r))) (sym held.0)
+    (subst (λ (fr : List ℕ). SameAnswer (finished c (map (tail_bytes fr) place.tails) (drop r.at fr) (still place.vector)) (outcome_from look c packet (Accept r))) (sym f)
+    (subst (λ (ts : List TailAt). SameAnswer (finished c (map (tail_bytes packet.frame) ts) (drop r.at packet.frame) (still place.vector)) (outcome_from look c packet (Accept r))) (sym held.1) same))
 
 same_answers : (a b : Outcome) (answer : Verdict) (bytes : List ℕ) → SameAnswer a b → Answers a answer bytes → Answers b answer bytes
 same_answers a b answer bytes s h = record { verdict_is = h.verdict_is ∙ s.verdicts; bytes_are = h.bytes_are ∙ s.bytes }
 
--- what leaves a place is the outcome of the packet that it holds
-pub leaves_right : (c : Config) (look : Look) → c.parser.tails ≡ [] → (item : Option Entered) (place : Place) (answer : Option Verdict) (bytes : List ℕ)
-    → HoldsIf look c item (latency_of c.stages) (latency_of c.stages) (latency_of c.stages) place → AnswersIf (leaving_if c place place.taken) answer bytes
+-- what leaves a packet slot is the outcome of the packet that it holds
+pub leaves_right : (c : Config) (look : Look) (l : ℕ) (item : Option Entered) (place : Place) (frame : List ℕ) (answer : Option Verdict) (bytes : List ℕ)
+    → HoldsIf look c item (latency_of c.stages) (latency_of c.stages) (latency_of c.stages) l place → FrameIs item frame → AnswersIf (leaving_if c place frame place.taken) answer bytes
     → AnswersIf (option_map (λ (e : Entered). outcome_of look c e.packet) item) answer bytes
-leaves_right c look none None place answer bytes held left = subst (λ (b : Bool). AnswersIf (leaving_if c place b) answer bytes) held left
-leaves_right c look none (Some e) place None bytes held left = absurd (let h : AnswersIf (leaving_if c place true) None bytes = subst (λ (b : Bool). AnswersIf (leaving_if c place b) None bytes) held.taken left in h)
-leaves_right c look none (Some e) place (Some answer) bytes held left =
-    let h : AnswersIf (leaving_if c place true) (Some answer) bytes = subst (λ (b : Bool). AnswersIf (leaving_if c place b) (Some answer) bytes) held.taken left in
-    same_answers (leaving c place place.parsed) (outcome_of look c e.packet) answer bytes (leaving_for look c e.packet place held.frame (parse c.parser e.packet.frame) (parse_keeps c.parser none e.packet.frame) held.carried) h
+leaves_right c look l None place frame answer bytes held is left = subst (λ (b : Bool). AnswersIf (leaving_if c place frame b) answer bytes) held.taken left
+leaves_right c look l (Some e) place frame None bytes held is left = absurd (let h : AnswersIf (leaving_if c place frame true) None bytes = subst (λ (b : Bool). AnswersIf (leaving_if c place frame b) None bytes) held.taken left in h)
+leaves_right c look l (Some e) place frame (Some answer) bytes held is left =
+    let h : AnswersIf (leaving_if c place frame true) (Some answer) bytes = subst (λ (b : Bool). AnswersIf (leaving_if c place frame b) (Some answer) bytes) held.taken left in
+    same_answers (leaving c place frame place.parsed) (outcome_of look c e.packet) answer bytes (leaving_for look c e.packet l place frame is (parse c.parser e.packet.frame) held.carried) h
 
 -- the packets that entered, by age
 entered_packet : {Y : Type 0} (f : Packet → Y) (inputs : List (Option Packet)) (age : ℕ) → option_map (λ (e : Entered). f e.packet) (entered_in inputs age) ≡ option_and_then (λ (i : Option Packet). option_map f i) (slice_get inputs age)

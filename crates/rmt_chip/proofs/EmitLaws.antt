@@ -1,65 +1,47 @@
--- The lanes of a header, one after another.
-use Rattle.std.proofs.Common.{◌≡◌, ℕ, zero, suc, replicate, ◌+◌, ◌-◌, ◌*◌, ◌/◌, ◌%◌, ◌^◌, ◌<◌, ◌≤◌, List, [], ◌∷◌, ◌++◌, length, get_or, take, refl, sym, ap, ◌∙◌, arith}
-use Rattle.std.specs.List.{sum_by, flat_map, zip}
-use Rattle.std.proofs.lemmas.List.Sums.{sum_by_more, sum_by-take-le, sum-map, fold_more}
-use Rattle.std.proofs.lemmas.Nat.{pow_pos, pow-add, shr_high, mod_low}
-use Rattle.rmt_bits.specs.Bits.{deposit, number_of}
-use Rattle.rmt_bits.specs.declared.lane.Lane.{Lane}
+-- The bytes of headers with their tails, one after another.
+use Rattle.std.proofs.Common.{◌≡◌, ℕ, zero, suc, ◌+◌, ◌<◌, ◌≤◌, Bool, true, false, cond, eqb, List, [], ◌∷◌, ◌++◌, length, get_or, take, refl, sym, ap, ◌∙◌, append_assoc, arith}
+use Rattle.std.proofs.lemmas.List.{length-append, length-take, append-nil}
+use Rattle.rmt_bits.specs.Bits.{bytes_of}
+use Rattle.rmt_chip.proofs.RunLaws.{length-bytes_of}
 use Rattle.rmt_config.specs.declared.config.OutHeader.{OutHeader}
-use Rattle.rmt_config.specs.LaneForm.{bits_of_lanes}
 use Rattle.rmt_config.specs.Life.{Words, lane_of, key_of}
-use Rattle.rmt_config.specs.ChipRun.{header_bytes, sent_bytes}
-use Rattle.rmt_chip.specs.Leaving.{no_tails}
+use Rattle.rmt_config.specs.ChipRun.{header_bytes}
+use Rattle.rmt_chip.specs.Leaving.{headers_sent}
 
-lane_len : Lane → ℕ
-lane_len lane = lane.len
+more : (words : Words) (headers : List OutHeader) (tails : List (List ℕ)) (n : ℕ) (d : OutHeader) → n < length headers → n < length tails
+    → headers_sent words (take (suc n) headers) (take (suc n) tails) ≡ headers_sent words (take n headers) (take n tails) ++ header_bytes words (get_or headers n d) (get_or tails n [])
+more words [] tails n d h t = absurd (omega (arith, h))
+more words (x ∷ hs) [] n d h t = absurd (omega (arith, t))
+more words (x ∷ hs) (y ∷ ts) zero d h t = append-nil (header_bytes words x y)
+more words (x ∷ hs) (y ∷ ts) (suc n) d h t =
+    ap (λ (rest : List ℕ). header_bytes words x y ++ rest) (more words hs ts n d (omega (arith, h)) (omega (arith, t)))
+    ∙ sym (append_assoc (header_bytes words x y) (headers_sent words (take n hs) (take n ts)) (header_bytes words (get_or hs n d) (get_or ts n [])))
 
-bits_sum : (lanes : List Lane) → bits_of_lanes lanes ≡ sum_by (λ (l : Lane). l.len) lanes
-bits_sum lanes = sum-map (λ (l : Lane). l.len) lanes
+pub sent_more : (words : Words) (headers : List OutHeader) (tails : List (List ℕ)) (n : ℕ) (d : OutHeader) → n < length headers → n < length tails
+    → headers_sent words (take (n + 1) headers) (take (n + 1) tails) ≡ headers_sent words (take n headers) (take n tails) ++ header_bytes words (get_or headers n d) (get_or tails n [])
+sent_more words headers tails n d h t =
+    let next : n + 1 ≡ suc n = omega arith in
+    ap (λ m. headers_sent words (take m headers) (take m tails)) next ∙ more words headers tails n d h t
 
-pub bits_of_lanes_more : (lanes : List Lane) (i : ℕ) (d : Lane) → i < length lanes → bits_of_lanes (take (i + 1) lanes) ≡ bits_of_lanes (take i lanes) + (get_or lanes i d).len
-bits_of_lanes_more lanes i d h =
-    bits_sum (take (i + 1) lanes) ∙ sum_by_more (λ (l : Lane). l.len) lanes i d h ∙ ap (λ n. n + (get_or lanes i d).len) (sym (bits_sum (take i lanes)))
+-- tails past the last header are left out
+pub sent_short : (words : Words) (headers : List OutHeader) (tails : List (List ℕ)) (n : ℕ) → length headers ≤ n → headers_sent words headers (take n tails) ≡ headers_sent words headers tails
+sent_short words [] tails n h = refl
+sent_short words (x ∷ hs) [] zero h = refl
+sent_short words (x ∷ hs) [] (suc n) h = refl
+sent_short words (x ∷ hs) (y ∷ ts) zero h = absurd (omega (arith, h))
+sent_short words (x ∷ hs) (y ∷ ts) (suc n) h = ap (λ (rest : List ℕ). header_bytes words x y ++ rest) (sent_short words hs ts n (omega (arith, h)))
 
-pub bits_of_lanes-le : (lanes : List Lane) (i : ℕ) → bits_of_lanes (take i lanes) ≤ bits_of_lanes lanes
-bits_of_lanes-le lanes i = let a = bits_sum (take i lanes) in let b = bits_sum lanes in let c = sum_by-take-le (λ (l : Lane). l.len) lanes i in omega arith
+if_sent : (b : Bool) (xs : List ℕ) → length (cond b xs []) ≤ length xs
+if_sent true xs = omega arith
+if_sent false xs = omega arith
 
-pub key_of_more : (words : Words) (lanes : List Lane) (i : ℕ) (d : Lane) → i < length lanes
-    → key_of words (take (i + 1) lanes) ≡ 2 ^ (get_or lanes i d).len * key_of words (take i lanes) + lane_of words (get_or lanes i d)
-key_of_more words lanes i d h = fold_more (λ n (lane : Lane). 2 ^ lane.len * n + lane_of words lane) 0 lanes i d h
+-- a header with a tail that was taken from a frame
+pub header_bytes-le : (words : Words) (h : OutHeader) (tail : List ℕ) (n : ℕ) → length tail ≤ n → length (header_bytes words h tail) ≤ h.bytes + n
+header_bytes-le words h tail n short =
+    let all = if_sent (eqb (lane_of words h.valid) 1) (bytes_of h.bytes (key_of words h.pieces) ++ tail) in
+    let parts = length-append (bytes_of h.bytes (key_of words h.pieces)) tail in
+    let size = length-bytes_of h.bytes (key_of words h.pieces) in
+    omega (arith, all, parts, size, short)
 
--- a deposit below the bits so far
-pub deposit_below : (n k low len x : ℕ) → n ≡ k * 2 ^ (low + len) → x < 2 ^ len → deposit n low len x ≡ (2 ^ len * k + x) * 2 ^ low
-deposit_below n k low len x e h =
-    let split : 2 ^ (low + len) ≡ 2 ^ low * 2 ^ len = pow-add 2 low len in
-    let whole : n ≡ k * 2 ^ (low + len) + 0 = omega (arith, e) in
-    let high : n / 2 ^ (low + len) ≡ k = ap (λ m. m / 2 ^ (low + len)) whole ∙ shr_high k (low + len) 0 (pow_pos (low + len)) in
-    let again : n ≡ k * 2 ^ len * 2 ^ low + 0 = e ∙ (let m : k * 2 ^ (low + len) ≡ k * 2 ^ len * 2 ^ low + 0 = rw split (omega arith) in m) in
-    let rest : n % 2 ^ low ≡ 0 = ap (λ m. m % 2 ^ low) again ∙ mod_low (k * 2 ^ len) low 0 (pow_pos low) in
-    rw (high, rest, split) (omega arith)
-
--- one more piece in a header's bytes
-pub filled_more : (n n' k at len x size : ℕ) → n ≡ k * 2 ^ (size - at) → at + len ≤ size → x < 2 ^ len → n' ≡ deposit n (size - (at + len)) len x
-    → n' ≡ (2 ^ len * k + x) * 2 ^ (size - (at + len))
-filled_more n n' k at len x size was within small put =
-    let low = size - (at + len) in
-    let split : size - at ≡ low + len = omega arith in
-    put ∙ deposit_below n k low len x (was ∙ ap (λ m. k * 2 ^ m) split) small
-
-number_of_zeros : (n : ℕ) → number_of (replicate n 0) ≡ 0
-number_of_zeros zero = refl
-number_of_zeros (suc n) = number_of_zeros n
-
-pub number_of-zero : (bytes : List ℕ) (n : ℕ) → bytes ≡ replicate n 0 → number_of bytes ≡ 0
-number_of-zero bytes n e = ap number_of e ∙ number_of_zeros n
-
--- headers without tails
-pub sent_without : (words : Words) (headers : List OutHeader) (n : ℕ) → length headers ≤ n
-    → flat_map (λ (x : OutHeader × List ℕ). header_bytes words x.0 x.1) (zip headers (replicate n [])) ≡ flat_map (λ (h : OutHeader). header_bytes words h []) headers
-sent_without words [] n few = refl
-sent_without words (h ∷ hs) zero few = absurd (omega (arith, few))
-sent_without words (h ∷ hs) (suc n) few = ap (λ (rest : List ℕ). header_bytes words h [] ++ rest) (sent_without words hs n (omega (arith, few)))
-
-pub sent_bytes_without : (words : Words) (headers : List OutHeader) (payload : List ℕ) → length headers ≤ 64
-    → sent_bytes words headers no_tails payload ≡ flat_map (λ (h : OutHeader). header_bytes words h []) headers ++ payload
-sent_bytes_without words headers payload few = ap (λ (bytes : List ℕ). bytes ++ payload) (sent_without words headers 64 few)
+pub length-taken : (n : ℕ) (xs : List ℕ) → length (take n xs) ≤ n
+length-taken n xs = let e = length-take n xs in omega (arith, e)

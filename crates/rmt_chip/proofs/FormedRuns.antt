@@ -1,60 +1,45 @@
--- The chip can run each supported configuration that keeps the rules of form and the limits.
-use Rattle.std.proofs.Common.{◌≡◌, ℕ, zero, suc, ◌+◌, ◌-◌, ◌*◌, ◌^◌, ◌<◌, ◌≤◌, true, false, cond, not, ◌&&◌, ltb, leb, eqb, List, [], ◌∷◌, length, get_or, map, All, Some, None, refl, inl, inr, arith}
-use Rattle.std.specs.Prelude.{IsTrue, is_none, count_by, slice_get, slice_index}
+-- The chip can run each configuration that keeps the rules of form of its items and the limits.
+use Rattle.std.proofs.Common.{◌≡◌, ℕ, zero, suc, ◌+◌, ◌-◌, ◌*◌, ◌^◌, ◌<◌, ◌≤◌, true, ◌&&◌, ltb, leb, eqb, List, [], ◌∷◌, length, get_or, map, Some, None, lit<, ap, refl, inl, inr, arith}
+use Rattle.std.specs.Prelude.{IsTrue, count_by, slice_get, slice_index}
 use Rattle.std.specs.List.{list_all, AllByRecursion}
-use Rattle.std.proofs.lemmas.Bool.{ltb-true, leb-true, eqb-true, lt-ltb, le-leb, cases_lt, and_parts, and_from, not-true}
+use Rattle.std.specs.List.Sorted.{IsNonDecreasingBy}
+use Rattle.std.proofs.lemmas.Bool.{ltb-true, leb-true, eqb-true, cases_lt, and_parts}
 use Rattle.std.proofs.lemmas.List.{length-map, get_or-map, nil_from_length}
 use Rattle.std.proofs.lemmas.List.Elements.{All-from_recursion, All-weaker}
-use Rattle.std.proofs.lemmas.List.Sums.{sum_by-cons, AllPass-from_list_all}
+use Rattle.std.proofs.lemmas.List.Sums.{AllPass-from_list_all}
 use Rattle.std.proofs.lemmas.Option.{slice_get-get_or}
-use Rattle.rmt_bits.specs.Words.{word_size}
 use Rattle.rmt_bits.specs.declared.lane.Lane.{Lane}
 use Rattle.rmt_config.specs.declared.config.Config.{Config}
 use Rattle.rmt_config.specs.declared.config.OutHeader.{OutHeader}
 use Rattle.rmt_config.specs.declared.config.ParserConfig.{ParserConfig}
 use Rattle.rmt_config.specs.declared.config.ParserState.{ParserState}
 use Rattle.rmt_config.specs.declared.config.ParserEntry.{ParserEntry}
-use Rattle.rmt_config.specs.declared.config.Extract.{Extract}
-use Rattle.rmt_config.specs.declared.config.Extract.TheVariants.{Bits, One}
+use Rattle.rmt_config.specs.declared.config.TailOf.{TailOf}
 use Rattle.rmt_config.specs.declared.config.Stage.{Stage}
 use Rattle.rmt_config.specs.declared.config.SlotUnit.{SlotUnit}
 use Rattle.rmt_config.specs.declared.config.Unit.{Unit as ChipUnit}
 use Rattle.rmt_config.specs.declared.config.Unit.TheVariants.{Gate, Slot}
-use Rattle.rmt_config.specs.declared.config.Memory.{Memory}
-use Rattle.rmt_config.specs.declared.config.Memory.TheVariants.{Without, Exact, Ternary}
 use Rattle.rmt_config.specs.declared.config.Vliw.{Vliw}
 use Rattle.rmt_config.specs.declared.config.Operation.{Operation}
 use Rattle.rmt_config.specs.declared.config.Source.{Source}
 use Rattle.rmt_config.specs.declared.config.Source.TheVariants.{Word, Held, Constant}
-use Rattle.rmt_config.specs.Life.{has_memory}
 use Rattle.rmt_config.specs.Parser.{has_no_tail}
 use Rattle.rmt_config.specs.declared.form.code.Place.{Place}
 use Rattle.rmt_config.specs.Order.{rises_from, never_falls_from}
 use Rattle.rmt_config.specs.LaneForm.{is_lane_of, lane_is_formed, bits_of_lanes, header_is_formed, headers_are_formed, ports_are_formed}
 use Rattle.rmt_config.specs.ParserForm.{next_is_formed, extract_is_formed, lookups_of, match_is_formed, entry_is_formed, states_are_formed, entries_are_formed, parser_is_formed}
-use Rattle.rmt_config.specs.UnitForm.{slot_head_is_formed, memory_is_formed, unit_is_formed}
+use Rattle.rmt_config.specs.UnitForm.{guard_is_formed, number_is_formed, slot_head_is_formed, memory_is_formed, unit_is_formed}
 use Rattle.rmt_config.specs.CodeForm.{places_of, source_is_formed, kind_is_formed, lane_of_operation, operation_is_formed, vliw_is_formed, code_is_formed}
 use Rattle.rmt_config.specs.StageForm.{srow_fits, trow_fits, stage_is_formed, starts_are_formed, stages_are_formed}
-use Rattle.rmt_config.specs.Form.{Formed}
-use Rattle.rmt_config.specs.Resources.{is_slot}
+use Rattle.rmt_config.specs.Form.{items_are_formed}
+use Rattle.rmt_config.specs.Resources.{is_slot, is_gate}
 use Rattle.rmt_config.specs.Limits.{last_start_hit, IsWithinLimits}
 use Rattle.rmt_config.proofs.LimitLaws.{within, KeepsLimits, limits_kept}
-use Rattle.rmt_chip.specs.Supported.{unit_is_supported, stage_is_supported, is_supported}
-use Rattle.rmt_chip.specs.Runnable.{LaneFits, source_fits, OperationFits, InstructionFits, is_plain, StageFits, start_of, StagesFit, extract_fits, ParserFits, HeaderFits, IsRunnable}
+use Rattle.rmt_ptcam.specs.Fitting.{IsEntry, IsParser}
+use Rattle.rmt_chip.specs.Runnable.{LaneFits, source_fits, OperationFits, InstructionFits, data_bits, StageFits, start_of, StagesFit, HeaderFits, IsRunnable}
+use Rattle.rmt_chip.proofs.ReadingLaws.{lane_fits, stage_reads}
 
 -- ---- lanes
-
-lane_fits : (lane : Lane) → lane_is_formed lane ≡ true → LaneFits lane
-lane_fits lane e =
-    let word = ltb lane.word 224 in
-    let least = leb 1 lane.len in
-    let most = leb lane.len 32 in
-    let p = and_parts (word && least && most) (leb (lane.low + lane.len) (word_size lane.word)) e in
-    let q = and_parts (word && least) most p.0 in
-    record {
-      exists = ltb-true lane.word 224 (and_parts word least q.0).0;
-      within = leb-true (lane.low + lane.len) (word_size lane.word) p.1;
-    }
 
 lane_of_fits : (len : ℕ) (lane : Lane) → is_lane_of len lane ≡ true → LaneFits lane
 lane_of_fits len lane e = lane_fits lane (and_parts (lane_is_formed lane) (eqb lane.len len) e).0
@@ -84,18 +69,24 @@ header_fits h e =
 
 -- ---- the parser
 
-extract_is_fit : (need : ℕ) (x : Extract) → extract_is_formed need x ≡ true → extract_fits need x ≡ true
-extract_is_fit need (Bits from lane) e =
-    let p = and_parts (ltb from 65536 && lane_is_formed lane) (leb (from + lane.len) (8 * need)) e in
-    let f = lane_fits lane (and_parts (ltb from 65536) (lane_is_formed lane) p.0).1 in
-    rw (lt-ltb lane.word 224 f.exists, le-leb (lane.low + lane.len) (word_size lane.word) f.within) p.1
-extract_is_fit need (One lane) e =
-    let p = and_parts (lane_is_formed lane) (eqb lane.len 1) e in
-    let f = lane_fits lane p.0 in
-    rw (lt-ltb lane.word 224 f.exists, le-leb (lane.low + lane.len) (word_size lane.word) f.within) p.1
+falls_least : {X : Type 0} (f : X → ℕ) (least : ℕ) (xs : List X) → never_falls_from least (map f xs) ≡ true → (i : ℕ) (d : X) → i < length xs → least ≤ f (get_or xs i d)
+falls_least f least [] e i d lt = absurd (omega (arith, lt))
+falls_least f least (x ∷ xs) e zero d lt = leb-true least (f x) (and_parts (leb least (f x)) (never_falls_from (f x) (map f xs)) e).0
+falls_least f least (x ∷ xs) e (suc i) d lt =
+    let p = and_parts (leb least (f x)) (never_falls_from (f x) (map f xs)) e in
+    let first : least ≤ f x = leb-true least (f x) p.0 in
+    let rest : f x ≤ f (get_or xs i d) = falls_least f (f x) xs p.1 i d (omega (arith, lt)) in
+    omega arith
 
-short_step : (states : List ParserState) (e : ParserEntry) → entry_is_formed states e ≡ true → e.advance ≤ e.need
-short_step states e formed =
+never_falls : {X : Type 0} (f : X → ℕ) (least : ℕ) (xs : List X) → never_falls_from least (map f xs) ≡ true → IsNonDecreasingBy f xs
+never_falls f least [] e i j d le lt = absurd (omega (arith, lt))
+never_falls f least (x ∷ xs) e zero zero d le lt = omega arith
+never_falls f least (x ∷ xs) e zero (suc j) d le lt = falls_least f (f x) xs (and_parts (leb least (f x)) (never_falls_from (f x) (map f xs)) e).1 j d (omega (arith, lt))
+never_falls f least (x ∷ xs) e (suc i) zero d le lt = absurd (omega (arith, le))
+never_falls f least (x ∷ xs) e (suc i) (suc j) d le lt = never_falls f (f x) xs (and_parts (leb least (f x)) (never_falls_from (f x) (map f xs)) e).1 i j d (omega (arith, le)) (omega (arith, lt))
+
+entry_fits : (states : List ParserState) (e : ParserEntry) → entry_is_formed states e ≡ true → IsEntry e
+entry_fits states e formed =
     let front = ltb e.state (length states) && ltb e.state 256 && match_is_formed (lookups_of states e.state) e && ltb e.need 256 in
     let step = leb e.advance e.need in
     let next = next_is_formed (length states) e.state e.next in
@@ -103,15 +94,12 @@ short_step states e formed =
     let p = and_parts (front && step && next && few) (list_all (extract_is_formed e.need) e.extracts) formed in
     let q = and_parts (front && step && next) few p.0 in
     let r = and_parts (front && step) next q.0 in
-    leb-true e.advance e.need (and_parts front step r.0).1
+    record {
+      advance = leb-true e.advance e.need (and_parts front step r.0).1;
+      extracts = AllPass-from_list_all (extract_is_formed e.need) e.extracts p.1;
+    }
 
-extracts_fit : (states : List ParserState) (e : ParserEntry) → entry_is_formed states e ≡ true → All (λ x. IsTrue (extract_fits e.need x)) e.extracts
-extracts_fit states e formed =
-    let front = ltb e.state (length states) && ltb e.state 256 && match_is_formed (lookups_of states e.state) e && ltb e.need 256 && leb e.advance e.need in
-    let p = and_parts (front && next_is_formed (length states) e.state e.next && ltb (length e.extracts) 256) (list_all (extract_is_formed e.need) e.extracts) formed in
-    All-weaker _ (λ x. IsTrue (extract_fits e.need x)) (extract_is_fit e.need) e.extracts (AllPass-from_list_all (extract_is_formed e.need) e.extracts p.1)
-
-parser_fits : (p : ParserConfig) → parser_is_formed p ≡ true → ParserFits p
+parser_fits : (p : ParserConfig) → parser_is_formed p ≡ true → IsParser p
 parser_fits p e =
     let states = states_are_formed p.states in
     let entries = entries_are_formed p in
@@ -120,53 +108,33 @@ parser_fits p e =
     let each = list_all (entry_is_formed p.states) p.entries in
     let q = and_parts (few && each) (never_falls_from 0 (map (λ (e : ParserEntry). e.state) p.entries)) (and_parts states entries tails.0).1 in
     let all = AllPass-from_list_all (entry_is_formed p.states) p.entries (and_parts few each q.0).1 in
+    let none : p.tails ≡ [] = nil_from_length p.tails (eqb-true (length p.tails) 0 tails.1) in
+    let no_tails : length p.tails ≡ 0 = ap (λ (ts : List TailOf). length ts) none in
     record {
-      no_tail = nil_from_length p.tails (eqb-true (length p.tails) 0 tails.1);
-      short_steps = All-weaker _ (λ (e : ParserEntry). e.advance ≤ e.need) (short_step p.states) p.entries all;
-      extracts = All-weaker _ (λ (e : ParserEntry). All (λ x. IsTrue (extract_fits e.need x)) e.extracts) (extracts_fit p.states) p.entries all;
+      by_state = never_falls (λ (e : ParserEntry). e.state) 0 p.entries q.1;
+      entries = All-weaker _ IsEntry (entry_fits p.states) p.entries all;
+      by_entry = λ i j d le lt. absurd (omega arith);
+      tails = λ i d lt. absurd (omega arith);
     }
 
 -- ---- units
 
--- a slot without memory does not count
-no_count : (s : SlotUnit) (m : Memory) → has_memory m ≡ false → memory_is_formed s m ≡ true → not s.counted ≡ true
-no_count s Without none e =
-    let counts = not s.counted in
-    let actions = eqb s.actions 0 in
-    let held = eqb s.held 0 in
-    let keys = eqb (length s.keys) 0 in
-    let p = and_parts (counts && actions && s.last && held && keys) (eqb (length s.numbers) 0) e in
-    let q = and_parts (counts && actions && s.last && held) keys p.0 in
-    let r = and_parts (counts && actions && s.last) held q.0 in
-    let t = and_parts (counts && actions) s.last r.0 in
-    (and_parts counts actions t.0).0
-no_count s (Exact width per quanta first_way keys records counters) none e = absurd cc
-no_count s (Ternary quanta keys records counters) none e = absurd cc
+slot_is_short : (s : SlotUnit) → slot_head_is_formed s ≡ true → s.held < 65536
+slot_is_short s e =
+    let front = ltb s.node 256 && guard_is_formed s.guard && leb s.actions 14 in
+    let held = ltb s.held 65536 in
+    let keys = ltb (length s.keys) 65536 in
+    let lanes = list_all lane_is_formed s.keys in
+    let few = ltb (length s.numbers) (2 ^ 32) in
+    let p = and_parts (front && held && keys && lanes && few) (list_all number_is_formed s.numbers) e in
+    let q = and_parts (front && held && keys && lanes) few p.0 in
+    let r = and_parts (front && held && keys) lanes q.0 in
+    let t = and_parts (front && held) keys r.0 in
+    ltb-true s.held 65536 (and_parts front held t.0).1
 
-unit_plain : (u : ChipUnit) → unit_is_supported u ≡ true → unit_is_formed u ≡ true → is_plain u ≡ true
-unit_plain (Gate g) runs e = absurd cc
-unit_plain (Slot s) runs e =
-    let p = and_parts (is_none s.guard) (not (has_memory s.memory)) runs in
-    let q = and_parts (slot_head_is_formed s) (memory_is_formed s s.memory) e in
-    let counts = no_count s s.memory (not-true (has_memory s.memory) p.1) q.1 in
-    and_from (is_none s.guard) (not s.counted && not (has_memory s.memory)) p.0 (and_from (not s.counted) (not (has_memory s.memory)) counts p.1)
-
-units_plain : (us : List ChipUnit) → list_all unit_is_supported us ≡ true → list_all unit_is_formed us ≡ true → AllByRecursion (λ u. IsTrue (is_plain u)) us
-units_plain [] runs each = tt
-units_plain (u ∷ us) runs each =
-    let p = and_parts (unit_is_supported u) (list_all unit_is_supported us) runs in
-    let q = and_parts (unit_is_formed u) (list_all unit_is_formed us) each in
-    (unit_plain u p.0 q.0, units_plain us p.1 q.1)
-
--- each unit is a slot
-slots_only : (us : List ChipUnit) → list_all unit_is_supported us ≡ true → count_by is_slot us ≡ length us
-slots_only [] runs = refl
-slots_only (Gate g ∷ us) runs = absurd cc
-slots_only (Slot s ∷ us) runs =
-    let p = and_parts (unit_is_supported (Slot s)) (list_all unit_is_supported us) runs in
-    let rest : count_by is_slot us ≡ length us = slots_only us p.1 in
-    let one_more : count_by is_slot (Slot s ∷ us) ≡ 1 + count_by is_slot us = sum_by-cons (λ (u : ChipUnit). cond (is_slot u) 1 0) (Slot s) us in
-    omega arith
+unit_is_short : (u : ChipUnit) → unit_is_formed u ≡ true → data_bits u < 65536
+unit_is_short (Gate g) e = lit< tt
+unit_is_short (Slot s) e = slot_is_short s (and_parts (slot_head_is_formed s) (memory_is_formed s s.memory) e).0
 
 -- ---- instructions
 
@@ -248,22 +216,20 @@ stage_parts s e =
     let u = and_parts (front && each) code t.0 in
     ((and_parts front each u.0).1, u.1)
 
-stage_fits : (s : Stage) → stage_is_supported s ≡ true → stage_is_formed s ≡ true → count_by is_slot s.units ≤ 16 → StageFits s
-stage_fits s runs e slots =
+stage_fits : (s : Stage) → stage_is_formed s ≡ true → count_by is_slot s.units ≤ 16 → count_by is_gate s.units ≤ 16 → StageFits s
+stage_fits s e slots gates =
     let parts = stage_parts s e in
-    let all : count_by is_slot s.units ≡ length s.units = slots_only s.units runs in
     record {
-      few_units = omega arith;
-      plain = All-from_recursion (λ u. IsTrue (is_plain u)) s.units (units_plain s.units runs parts.0);
+      reads = stage_reads s parts.0 slots gates;
+      short = All-weaker _ (λ u. data_bits u < 65536) unit_is_short s.units (AllPass-from_list_all unit_is_formed s.units parts.0);
       code = All-from_recursion InstructionFits s.code (code_fits (places_of s.units) s.code parts.1);
     }
 
-each_stage_fits : (ss : List Stage) → list_all stage_is_supported ss ≡ true → list_all stage_is_formed ss ≡ true → AllByRecursion (λ (s : Stage). count_by is_slot s.units ≤ 16) ss → AllByRecursion StageFits ss
-each_stage_fits [] runs each slots = tt
-each_stage_fits (s ∷ ss) runs each slots =
-    let p = and_parts (stage_is_supported s) (list_all stage_is_supported ss) runs in
+each_stage_fits : (ss : List Stage) → list_all stage_is_formed ss ≡ true → AllByRecursion (λ (s : Stage). count_by is_slot s.units ≤ 16) ss → AllByRecursion (λ (s : Stage). count_by is_gate s.units ≤ 16) ss → AllByRecursion StageFits ss
+each_stage_fits [] each slots gates = tt
+each_stage_fits (s ∷ ss) each slots gates =
     let q = and_parts (stage_is_formed s) (list_all stage_is_formed ss) each in
-    (stage_fits s p.0 q.0 slots.0, each_stage_fits ss p.1 q.1 slots.1)
+    (stage_fits s q.0 slots.0 gates.0, each_stage_fits ss q.1 slots.1 gates.1)
 
 starts_rise : (ns : List ℕ) → starts_are_formed ns ≡ true → rises_from 0 ns ≡ true
 starts_rise [] e = refl
@@ -298,8 +264,8 @@ starts_end : (ss : List Stage) → ((j k : ℕ) → j < k → k < length ss → 
 starts_end [] rise e k lt = absurd (omega (arith, lt))
 starts_end (s ∷ ss) rise e k lt = upto_last (s ∷ ss) rise (last_start (s ∷ ss) s (omega arith) e) k lt
 
-stages_fit : (c : Config) → list_all stage_is_supported c.stages ≡ true → stages_are_formed c.stages ≡ true → KeepsLimits c → StagesFit c.stages
-stages_fit c runs e limits =
+stages_fit : (c : Config) → stages_are_formed c.stages ≡ true → KeepsLimits c → StagesFit c.stages
+stages_fit c e limits =
     let few = ltb (length c.stages) 256 in
     let each = list_all stage_is_formed c.stages in
     let p = and_parts (few && each) (starts_are_formed (map (λ (s : Stage). s.start) c.stages)) e in
@@ -308,20 +274,20 @@ stages_fit c runs e limits =
       few = limits.stages;
       rise = stages_rise c.stages p.1;
       last = starts_end c.stages (stages_rise c.stages p.1) limits.last_start;
-      each = All-from_recursion StageFits c.stages (each_stage_fits c.stages runs q.1 limits.slots);
+      each = All-from_recursion StageFits c.stages (each_stage_fits c.stages q.1 limits.slots limits.gates);
     }
 
 -- ---- all of it
 
-pub runnable : (c : Config) → Formed c → IsWithinLimits c → IsTrue (is_supported c) → IsRunnable c
-runnable c formed limits supported =
+pub runnable : (c : Config) → IsTrue (items_are_formed c) → IsWithinLimits c → IsRunnable c
+runnable c formed limits =
     let in_port = is_lane_of 9 c.in_port in
     let out_port = is_lane_of 9 c.out_port in
     let drop = is_lane_of 1 c.drop in
     let ports = ports_are_formed c in
     let headers = headers_are_formed c.headers in
     let parser = parser_is_formed c.parser in
-    let a = and_parts (ports && headers && parser) (stages_are_formed c.stages) formed.items in
+    let a = and_parts (ports && headers && parser) (stages_are_formed c.stages) formed in
     let b = and_parts (ports && headers) parser a.0 in
     let d = and_parts ports headers b.0 in
     let drops = and_parts (ltb c.seed 256 && in_port && out_port) drop d.0 in
@@ -337,5 +303,5 @@ runnable c formed limits supported =
       few_headers = leb-true (length c.headers) 64 few_headers.0;
       headers = All-weaker _ HeaderFits header_fits c.headers (AllPass-from_list_all header_is_formed c.headers few_headers.1);
       parser = parser_fits c.parser b.1;
-      stages = stages_fit c supported a.1 (limits_kept c limits);
+      stages = stages_fit c a.1 (limits_kept c limits);
     }

@@ -1,5 +1,5 @@
--- What the steps of a stage make of a place, whatever packet it holds.
-use Rattle.std.proofs.Common.{◌≡◌, ℕ, ◌+◌, ◌<◌, Bool, true, false, cond, List, length, get_or, Option, Some, None, Vec, Global, ap, ◌∙◌}
+-- What the steps of a stage make of a packet slot, whatever packet it holds.
+use Rattle.std.proofs.Common.{◌≡◌, ℕ, ◌+◌, ◌<◌, Bool, true, false, cond, List, length, get_or, Option, Some, None, refl, ap, ◌∙◌}
 use Rattle.std.specs.Prelude.{slice_index}
 use Rattle.rmt_bits.specs.Packet.{Packet}
 use Rattle.rmt_config.specs.declared.config.Config.{Config}
@@ -9,107 +9,77 @@ use Rattle.rmt_config.specs.Parser.{Parse, Short, Reject, Accept, parse, put}
 use Rattle.rmt_chip.specs.declared.place.Place.{Place}
 use Rattle.rmt_chip.specs.Runnable.{start_of}
 use Rattle.rmt_chip.specs.Writes.{applied}
-use Rattle.rmt_chip.specs.Held.{is_accepted, due_at, CarriedFor, Entered, Holds, HoldsIf, SamePacket, WrittenBy, ReadBy, DecidedBy}
+use Rattle.rmt_chip.specs.Pending.{due_at}
+use Rattle.rmt_chip.specs.Held.{is_accepted, Carried, CarriedFor, Entered, HoldsIf, SamePacket, WrittenBy, ReadBy, DecidedBy, LookedBy}
 use Rattle.rmt_chip.proofs.LifeLaws.{Rise}
-use Rattle.rmt_chip.proofs.HeldLaws.{NoneAt, carried_write, carried_write_none, carried_read, carried_read_none, carried_act, carried_act_none}
+use Rattle.rmt_chip.proofs.HeldLaws.{NoneAt, carried_write, carried_write_none, carried_read, carried_read_none, carried_act, carried_act_none, carried_look, carried_look_none}
 
--- the vector of a place that is not accepted stays
-vector_stays : (k : ℕ) (old new : Place) → is_accepted old.parsed ≡ false → WrittenBy k old new → new.vector ≡ old.vector
-vector_stays k old new h w = w.vector ∙ ap (λ (b : Bool). cond b (applied (due_at old k) old.vector) old.vector) h
+-- a packet that was not accepted keeps its words
+words_stay : (old new : Place) → new.vector ≡ old.vector → ((w : ℕ) → slice_index old.vector w ≡ 0) → (w : ℕ) → slice_index new.vector w ≡ 0
+words_stay old new e zeros w = ap (λ (ws : List ℕ). slice_index ws w) e ∙ zeros w
 
-for_write : (look : Look) (c : Config) (packet : Packet) → Rise c.stages → (k t : ℕ) (old new : Place) → k < length c.stages → start_of c.stages k + 12 ≡ t + 1
-    → WrittenBy k old new → (p : Parse) → CarriedFor look c packet t t t old p → CarriedFor look c packet (t + 1) t t new p
-for_write look c packet rise k t old new inside at w Short held =
-    let stays : new.vector ≡ old.vector = vector_stays k old new (ap is_accepted held.0) w in
-    (w.same.parsed ∙ held.0, λ v. ap (λ (ws : List ℕ). slice_index ws v) stays ∙ held.1 v)
-for_write look c packet rise k t old new inside at w Reject held =
-    let stays : new.vector ≡ old.vector = vector_stays k old new (ap is_accepted held.0) w in
-    (w.same.parsed ∙ held.0, λ v. ap (λ (ws : List ℕ). slice_index ws v) stays ∙ held.1 v)
-for_write look c packet rise k t old new inside at w (Accept r) held =
-    let test : is_accepted old.parsed ≡ true = ap is_accepted held.0 in
-    let wrote : new.vector ≡ applied (due_at old k) old.vector = w.vector ∙ ap (λ (b : Bool). cond b (applied (due_at old k) old.vector) old.vector) test in
-    (w.same.parsed ∙ held.0, carried_write look c.stages (put r.vector c.in_port packet.port) rise k t old new inside at wrote w.outcomes w.running w.due held.1)
+-- a step that keeps the packet, and the words where it was not accepted, and takes what is carried from some ages to others
+module _ (look : Look) (c : Config) (packet : Packet) (a b d l a' b' d' l' : ℕ) (old new : Place) (same : SamePacket old new)
+    (rests : is_accepted old.parsed ≡ false → new.vector ≡ old.vector)
+    (goes : (vector : List ℕ) → is_accepted old.parsed ≡ true → Carried look c.stages vector a b d l old → Carried look c.stages vector a' b' d' l' new) where
+  step_for : (p : Parse) → CarriedFor look c packet a b d l old p → CarriedFor look c packet a' b' d' l' new p
+  step_for Short held = (same.parsed ∙ held.0, words_stay old new (rests (ap is_accepted held.0)) held.1)
+  step_for Reject held = (same.parsed ∙ held.0, words_stay old new (rests (ap is_accepted held.0)) held.1)
+  step_for (Accept r) held = (same.parsed ∙ held.0, same.tails ∙ held.1, goes (put r.vector c.in_port packet.port) (ap is_accepted held.0) held.2)
 
-for_write_none : (look : Look) (c : Config) (packet : Packet) (t : ℕ) (place : Place) → NoneAt c.stages 12 (t + 1) → (p : Parse) → CarriedFor look c packet t t t place p → CarriedFor look c packet (t + 1) t t place p
-for_write_none look c packet t place none Short held = held
-for_write_none look c packet t place none Reject held = held
-for_write_none look c packet t place none (Accept r) held = (held.0, carried_write_none look c.stages (put r.vector c.in_port packet.port) t place none held.1)
-
-for_read : (look : Look) (c : Config) (packet : Packet) → Rise c.stages → (k t : ℕ) (stage : Stage) (old new : Place) → k < length c.stages → get_or c.stages k stage ≡ stage → start_of c.stages k + 9 ≡ t + 1
-    → ReadBy k stage old new → (p : Parse) → CarriedFor look c packet (t + 1) t t old p → CarriedFor look c packet (t + 1) (t + 1) t new p
-for_read look c packet rise k t stage old new inside is at w Short held = (w.same.parsed ∙ held.0, λ v. ap (λ (ws : List ℕ). slice_index ws v) w.vector ∙ held.1 v)
-for_read look c packet rise k t stage old new inside is at w Reject held = (w.same.parsed ∙ held.0, λ v. ap (λ (ws : List ℕ). slice_index ws v) w.vector ∙ held.1 v)
-for_read look c packet rise k t stage old new inside is at w (Accept r) held =
-    (w.same.parsed ∙ held.0, carried_read look c.stages (put r.vector c.in_port packet.port) rise k t stage old new inside is at w (ap is_accepted held.0) held.1)
-
-for_read_none : (look : Look) (c : Config) (packet : Packet) (t : ℕ) (place : Place) → NoneAt c.stages 9 (t + 1) → (p : Parse) → CarriedFor look c packet (t + 1) t t place p → CarriedFor look c packet (t + 1) (t + 1) t place p
-for_read_none look c packet t place none Short held = held
-for_read_none look c packet t place none Reject held = held
-for_read_none look c packet t place none (Accept r) held = (held.0, carried_read_none look c.stages (put r.vector c.in_port packet.port) t place none held.1)
-
-for_act : (look : Look) (c : Config) (packet : Packet) → Rise c.stages → (k t : ℕ) (stage : Stage) (old new : Place) → k < length c.stages → get_or c.stages k stage ≡ stage → start_of c.stages k + 8 ≡ t + 1
-    → DecidedBy stage old new → (p : Parse) → CarriedFor look c packet (t + 1) (t + 1) t old p → CarriedFor look c packet (t + 1) (t + 1) (t + 1) new p
-for_act look c packet rise k t stage old new inside is at w Short held = (w.same.parsed ∙ held.0, λ v. ap (λ (ws : List ℕ). slice_index ws v) w.vector ∙ held.1 v)
-for_act look c packet rise k t stage old new inside is at w Reject held = (w.same.parsed ∙ held.0, λ v. ap (λ (ws : List ℕ). slice_index ws v) w.vector ∙ held.1 v)
-for_act look c packet rise k t stage old new inside is at w (Accept r) held =
-    (w.same.parsed ∙ held.0, carried_act look c.stages (put r.vector c.in_port packet.port) rise k t stage old new inside is at w (ap is_accepted held.0) held.1)
-
-for_act_none : (look : Look) (c : Config) (packet : Packet) (t : ℕ) (place : Place) → NoneAt c.stages 8 (t + 1) → (p : Parse) → CarriedFor look c packet (t + 1) (t + 1) t place p → CarriedFor look c packet (t + 1) (t + 1) (t + 1) place p
-for_act_none look c packet t place none Short held = held
-for_act_none look c packet t place none Reject held = held
-for_act_none look c packet t place none (Accept r) held = (held.0, carried_act_none look c.stages (put r.vector c.in_port packet.port) t place none held.1)
-
--- the same of a place that holds a packet or none
-with_same : (look : Look) (c : Config) (e : Entered) (a b d a' b' d' : ℕ) (old new : Place) → SamePacket old new → Holds look c e a b d old
-    → CarriedFor look c e.packet a' b' d' new (parse c.parser e.packet.frame) → Holds look c e a' b' d' new
-with_same look c e a b d a' b' d' old new same held carried = record {
+-- the same of a packet slot that holds a packet or none
+step_if : (look : Look) (c : Config) (e : Option Entered) (a b d l a' b' d' l' : ℕ) (old new : Place) → SamePacket old new → (is_accepted old.parsed ≡ false → new.vector ≡ old.vector)
+    → ((vector : List ℕ) → is_accepted old.parsed ≡ true → Carried look c.stages vector a b d l old → Carried look c.stages vector a' b' d' l' new)
+    → HoldsIf look c e a b d l old → HoldsIf look c e a' b' d' l' new
+step_if look c None a b d l a' b' d' l' old new same rests goes held = record { taken = same.taken ∙ held.taken; rests = ap is_accepted same.parsed ∙ held.rests }
+step_if look c (Some e) a b d l a' b' d' l' old new same rests goes held = record {
   taken = same.taken ∙ held.taken;
   number = same.number ∙ held.number;
-  frame = ap (λ (f : Vec ℕ Global). f.items) same.frame ∙ held.frame;
-  carried = carried;
+  size = same.size ∙ held.size;
+  carried = step_for look c e.packet a b d l a' b' d' l' old new same rests goes (parse c.parser e.packet.frame) held.carried;
 }
 
-pub holds_write : (look : Look) (c : Config) → Rise c.stages → (e : Option Entered) (k t : ℕ) (old new : Place) → k < length c.stages → start_of c.stages k + 12 ≡ t + 1
-    → WrittenBy k old new → HoldsIf look c e t t t old → HoldsIf look c e (t + 1) t t new
-holds_write look c rise None k t old new inside at w held = w.same.taken ∙ held
-holds_write look c rise (Some e) k t old new inside at w held =
-    with_same look c e t t t (t + 1) t t old new w.same held (for_write look c e.packet rise k t old new inside at w (parse c.parser e.packet.frame) held.carried)
+unchanged : (place : Place) → SamePacket place place
+unchanged place = record { taken = refl; number = refl; size = refl; parsed = refl; tails = refl }
 
-pub holds_write_none : (look : Look) (c : Config) (e : Option Entered) (t : ℕ) (place : Place) → NoneAt c.stages 12 (t + 1) → HoldsIf look c e t t t place → HoldsIf look c e (t + 1) t t place
-holds_write_none look c None t place none held = held
-holds_write_none look c (Some e) t place none held = record {
-  taken = held.taken;
-  number = held.number;
-  frame = held.frame;
-  carried = for_write_none look c e.packet t place none (parse c.parser e.packet.frame) held.carried;
-}
+pub holds_write : (look : Look) (c : Config) → Rise c.stages → (e : Option Entered) (k t l : ℕ) (old new : Place) → k < length c.stages → start_of c.stages k + 12 ≡ t + 1
+    → WrittenBy k old new → HoldsIf look c e t t t l old → HoldsIf look c e (t + 1) t t l new
+holds_write look c rise e k t l old new inside at w held =
+    step_if look c e t t t l (t + 1) t t l old new w.same
+    (λ no. w.vector ∙ ap (λ (b : Bool). cond b (applied (due_at old.pending.items k) old.vector) old.vector) no)
+    (λ vector yes. carried_write look c.stages vector rise k t l old new inside at (w.vector ∙ ap (λ (b : Bool). cond b (applied (due_at old.pending.items k) old.vector) old.vector) yes) w.outcomes w.pending)
+    held
 
-pub holds_read : (look : Look) (c : Config) → Rise c.stages → (e : Option Entered) (k t : ℕ) (stage : Stage) (old new : Place) → k < length c.stages → get_or c.stages k stage ≡ stage → start_of c.stages k + 9 ≡ t + 1
-    → ReadBy k stage old new → HoldsIf look c e (t + 1) t t old → HoldsIf look c e (t + 1) (t + 1) t new
-holds_read look c rise None k t stage old new inside is at w held = w.same.taken ∙ held
-holds_read look c rise (Some e) k t stage old new inside is at w held =
-    with_same look c e (t + 1) t t (t + 1) (t + 1) t old new w.same held (for_read look c e.packet rise k t stage old new inside is at w (parse c.parser e.packet.frame) held.carried)
+pub holds_write_none : (look : Look) (c : Config) (e : Option Entered) (t l : ℕ) (place : Place) → NoneAt c.stages 12 (t + 1) → HoldsIf look c e t t t l place → HoldsIf look c e (t + 1) t t l place
+holds_write_none look c e t l place none held =
+    step_if look c e t t t l (t + 1) t t l place place (unchanged place) (λ no. refl) (λ vector yes. carried_write_none look c.stages vector t l place none) held
 
-pub holds_read_none : (look : Look) (c : Config) (e : Option Entered) (t : ℕ) (place : Place) → NoneAt c.stages 9 (t + 1) → HoldsIf look c e (t + 1) t t place → HoldsIf look c e (t + 1) (t + 1) t place
-holds_read_none look c None t place none held = held
-holds_read_none look c (Some e) t place none held = record {
-  taken = held.taken;
-  number = held.number;
-  frame = held.frame;
-  carried = for_read_none look c e.packet t place none (parse c.parser e.packet.frame) held.carried;
-}
+pub holds_read : (look : Look) (c : Config) → Rise c.stages → (e : Option Entered) (k t l : ℕ) (stage : Stage) (old new : Place) → k < length c.stages → get_or c.stages k stage ≡ stage → start_of c.stages k + 9 ≡ t + 1
+    → ReadBy k stage old new → HoldsIf look c e (t + 1) t t l old → HoldsIf look c e (t + 1) (t + 1) t l new
+holds_read look c rise e k t l stage old new inside is at r held =
+    step_if look c e (t + 1) t t l (t + 1) (t + 1) t l old new r.same (λ no. r.vector)
+    (λ vector yes. carried_read look c.stages vector rise k t l stage old new inside is at r yes) held
+
+pub holds_read_none : (look : Look) (c : Config) (e : Option Entered) (t l : ℕ) (place : Place) → NoneAt c.stages 9 (t + 1) → HoldsIf look c e (t + 1) t t l place → HoldsIf look c e (t + 1) (t + 1) t l place
+holds_read_none look c e t l place none held =
+    step_if look c e (t + 1) t t l (t + 1) (t + 1) t l place place (unchanged place) (λ no. refl) (λ vector yes. carried_read_none look c.stages vector t l place none) held
 
 pub holds_act : (look : Look) (c : Config) → Rise c.stages → (e : Option Entered) (k t : ℕ) (stage : Stage) (old new : Place) → k < length c.stages → get_or c.stages k stage ≡ stage → start_of c.stages k + 8 ≡ t + 1
-    → DecidedBy stage old new → HoldsIf look c e (t + 1) (t + 1) t old → HoldsIf look c e (t + 1) (t + 1) (t + 1) new
-holds_act look c rise None k t stage old new inside is at w held = w.same.taken ∙ held
-holds_act look c rise (Some e) k t stage old new inside is at w held =
-    with_same look c e (t + 1) (t + 1) t (t + 1) (t + 1) (t + 1) old new w.same held (for_act look c e.packet rise k t stage old new inside is at w (parse c.parser e.packet.frame) held.carried)
+    → DecidedBy k stage old new → HoldsIf look c e (t + 1) (t + 1) t (t + 1) old → HoldsIf look c e (t + 1) (t + 1) (t + 1) (t + 1) new
+holds_act look c rise e k t stage old new inside is at d held =
+    step_if look c e (t + 1) (t + 1) t (t + 1) (t + 1) (t + 1) (t + 1) (t + 1) old new d.same (λ no. d.vector)
+    (λ vector yes. carried_act look c.stages vector rise k t stage old new inside is at d yes) held
 
-pub holds_act_none : (look : Look) (c : Config) (e : Option Entered) (t : ℕ) (place : Place) → NoneAt c.stages 8 (t + 1) → HoldsIf look c e (t + 1) (t + 1) t place → HoldsIf look c e (t + 1) (t + 1) (t + 1) place
-holds_act_none look c None t place none held = held
-holds_act_none look c (Some e) t place none held = record {
-  taken = held.taken;
-  number = held.number;
-  frame = held.frame;
-  carried = for_act_none look c e.packet t place none (parse c.parser e.packet.frame) held.carried;
-}
+pub holds_act_none : (look : Look) (c : Config) (e : Option Entered) (t : ℕ) (place : Place) → NoneAt c.stages 8 (t + 1) → HoldsIf look c e (t + 1) (t + 1) t (t + 1) place → HoldsIf look c e (t + 1) (t + 1) (t + 1) (t + 1) place
+holds_act_none look c e t place none held =
+    step_if look c e (t + 1) (t + 1) t (t + 1) (t + 1) (t + 1) (t + 1) (t + 1) place place (unchanged place) (λ no. refl) (λ vector yes. carried_act_none look c.stages vector t place none) held
+
+pub holds_look : (look : Look) (c : Config) → Rise c.stages → (e : Option Entered) (k t : ℕ) (stage : Stage) (old new : Place) → k < length c.stages → get_or c.stages k stage ≡ stage → start_of c.stages k ≡ t
+    → LookedBy look k stage old new → HoldsIf look c e t t t t old → HoldsIf look c e t t t (t + 1) new
+holds_look look c rise e k t stage old new inside is at l held =
+    step_if look c e t t t t t t t (t + 1) old new l.same (λ no. l.vector)
+    (λ vector yes. carried_look look c.stages vector rise k t stage old new inside is at l yes) held
+
+pub holds_look_none : (look : Look) (c : Config) (e : Option Entered) (t : ℕ) (place : Place) → NoneAt c.stages 0 t → HoldsIf look c e t t t t place → HoldsIf look c e t t t (t + 1) place
+holds_look_none look c e t place none held =
+    step_if look c e t t t t t t t (t + 1) place place (unchanged place) (λ no. refl) (λ vector yes. carried_look_none look c.stages vector t place none) held

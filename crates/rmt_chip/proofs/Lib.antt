@@ -1,17 +1,40 @@
 pub mod ComputeLaws
 pub mod LifeLaws
 pub mod WriteLaws
-pub mod DecideLaws
 pub mod HeldLaws
 pub mod RingLaws
 pub mod HoldsLaws
 pub mod PassLaws
-pub mod ParseLaws
 pub mod EnterLaws
+pub mod LaneLaws
 pub mod EmitLaws
 pub mod CycleLaws
 pub mod LatencyLaws
 pub mod WholeCycle
-pub mod CountLaws
 pub mod StandsLaws
 pub mod FormedRuns
+pub mod FrameLaws
+pub mod PendingLaws
+pub mod TailLaws
+mod RowLaws
+mod RunLaws
+mod WordLaws
+mod RangeLaws
+mod BestLaws
+mod CellLaws
+mod FoundLaws
+mod LayLaws
+mod ExamplesMemory
+pub mod FormedMemory
+pub mod FormedSlots
+pub mod PlaceLaws
+pub mod GroupLaws
+pub mod CountersLaws
+pub mod NumbersLaws
+pub mod DecidingLaws
+pub mod LookLaws
+pub mod ReadingLaws
+pub mod ExamplesDeciding
+pub mod TurnLaws
+pub mod StageMemoriesLaws
+pub mod StageSlots

@@ -6,7 +6,7 @@ use Rattle.std.proofs.lemmas.Bool.Decides.{nat_tests}
 use Rattle.rmt_config.specs.declared.config.Stage.{Stage}
 use Rattle.rmt_chip.specs.declared.place.Place.{Place}
 use Rattle.rmt_chip.specs.Runnable.{start_of}
-use Rattle.rmt_chip.specs.Ring.{ring_at, partly, done_before}
+use Rattle.rmt_chip.specs.Ring.{ring_at, partly, partly_next, done_before}
 use Rattle.rmt_chip.proofs.LifeLaws.{Rise}
 use Rattle.rmt_chip.proofs.HeldLaws.{NoneAt}
 
@@ -134,3 +134,63 @@ pass_end Q stages after newest places rise none was t d h =
 
 pub pass_start : (Q : ℕ → ℕ → Place → Type 0) (newest : ℕ) (places : List Place) → ((t : ℕ) (d : Place) → t < 385 → Q t (t - 1) (get_or places (ring_at newest t) d)) → AllPlaces Q 0 newest places
 pass_start Q newest places was t d h = subst (λ u. Q t u (get_or places (ring_at newest t) d)) (sym (partly-from 0 t (omega arith))) (was t d h)
+
+-- ---- a pass that may begin at age 0: what it has done at ages below a bound, and not yet from there on
+pub next-below : (bound t : ℕ) → t < bound → partly_next bound t ≡ t + 1
+next-below bound t h = grind (arith, nat_tests)
+
+pub next-from : (bound t : ℕ) → bound ≤ t → partly_next bound t ≡ t
+next-from bound t h = grind (arith, nat_tests)
+
+abbrev pub AllNext : (ℕ → ℕ → Place → Type 0) → ℕ → ℕ → List Place → Type 0
+AllNext Q bound newest places = (t : ℕ) (d : Place) → t < 385 → Q t (partly_next bound t) (get_or places (ring_at newest t) d)
+
+pub next_step : (Q : ℕ → ℕ → Place → Type 0) (stages : List Stage) (after k newest : ℕ) (places : List Place) (new : Place) → Rise stages → k < length stages
+    → start_of stages k + after < 385 → newest < 385 → length places ≡ 385
+    → ((t : ℕ) (place : Place) → NoneAt stages after t → Q t t place → Q t (t + 1) place)
+    → AllNext Q (done_before stages after k) newest places
+    → Q (start_of stages k + after) (start_of stages k + after + 1) new
+    → AllNext Q (start_of stages k + after + 1) newest (set places (ring_at newest (start_of stages k + after)) new)
+next_step Q stages after k newest places new rise inside small ring full none was now t d h =
+    let a = start_of stages k + after in
+    let b = done_before stages after k in
+    let le : b ≤ a = done_le stages after k rise inside in
+    ⊎_elim
+    (λ (e : t ≡ a).
+    let place : get_or (set places (ring_at newest a) new) (ring_at newest t) d ≡ new =
+    ap (λ n. get_or (set places (ring_at newest a) new) (ring_at newest n) d) e ∙ get_or-set_same places (ring_at newest a) new d (omega (arith, ring_at-lt newest a)) in
+    let age : partly_next (a + 1) t ≡ t + 1 = next-below (a + 1) t (omega arith) in
+    subst (Q t (partly_next (a + 1) t)) (sym place) (subst (λ u. Q t u new) (sym age) (subst (λ u. Q u (u + 1) new) (sym e) now)))
+    (λ (apart : t ≢ a).
+    let other : ring_at newest t ≢ ring_at newest a = ring_at-apart newest t a ring h small apart in
+    let place : get_or (set places (ring_at newest a) new) (ring_at newest t) d ≡ get_or places (ring_at newest t) d = get_or-set_other places (ring_at newest a) (ring_at newest t) new d other in
+    let old = get_or places (ring_at newest t) d in
+    subst (Q t (partly_next (a + 1) t)) (sym place)
+    (⊎_elim
+    (λ (l : t < a).
+    let age : partly_next (a + 1) t ≡ t + 1 = next-below (a + 1) t (omega arith) in
+    subst (λ u. Q t u old) (sym age)
+    (⊎_elim
+    (λ (f : t < b). subst (λ u. Q t u old) (next-below b t f) (was t d h))
+    (λ (f : b ≤ t). none t old (quiet stages after k t rise (omega arith) f (λ _. l)) (subst (λ u. Q t u old) (next-from b t f) (was t d h)))
+    (cases_lt t b)))
+    (λ (l : a ≤ t).
+    let age : partly_next (a + 1) t ≡ t = next-from (a + 1) t (omega arith) in
+    subst (λ u. Q t u old) (sym age) (subst (λ u. Q t u old) (next-from b t (omega arith)) (was t d h)))
+    (cases_lt t a)))
+    (cases_eq t a)
+
+pub next_end : (Q : ℕ → ℕ → Place → Type 0) (stages : List Stage) (after newest : ℕ) (places : List Place) → Rise stages
+    → ((t : ℕ) (place : Place) → NoneAt stages after t → Q t t place → Q t (t + 1) place)
+    → AllNext Q (done_before stages after (length stages)) newest places
+    → (t : ℕ) (d : Place) → t < 385 → Q t (t + 1) (get_or places (ring_at newest t) d)
+next_end Q stages after newest places rise none was t d h =
+    let b = done_before stages after (length stages) in
+    let old = get_or places (ring_at newest t) d in
+    ⊎_elim
+    (λ (f : t < b). subst (λ u. Q t u old) (next-below b t f) (was t d h))
+    (λ (f : b ≤ t). none t old (quiet stages after (length stages) t rise (omega arith) f (λ l. absurd (omega arith))) (subst (λ u. Q t u old) (next-from b t f) (was t d h)))
+    (cases_lt t b)
+
+pub next_start : (Q : ℕ → ℕ → Place → Type 0) (newest : ℕ) (places : List Place) → ((t : ℕ) (d : Place) → t < 385 → Q t t (get_or places (ring_at newest t) d)) → AllNext Q 0 newest places
+next_start Q newest places was t d h = subst (λ u. Q t u (get_or places (ring_at newest t) d)) (sym (next-from 0 t (omega arith))) (was t d h)

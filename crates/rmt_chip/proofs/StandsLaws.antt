@@ -1,23 +1,27 @@
 -- What a chip stands for, one cycle later.
-use Rattle.std.proofs.Common.{◌≡◌, ℕ, ◌+◌, ◌%◌, ◌<◌, ◌≤◌, Bool, true, false, cond, List, [], ◌∷◌, ◌++◌, length, reverse, Option, Some, None, sym, ap, ◌∙◌, subst, le-leb, arith}
-use Rattle.std.specs.Prelude.{is_some, slice_index}
+use Rattle.std.proofs.Common.{◌≡◌, ℕ, ◌+◌, ◌%◌, ◌<◌, ◌≤◌, Bool, true, false, cond, List, [], ◌∷◌, ◌++◌, length, reverse, Option, Some, None, refl, sym, ap, ◌∙◌, subst, le-leb, arith}
+use Rattle.std.specs.Prelude.{IsTrue, is_some, is_none, slice_index}
+use Rattle.rmt_config.specs.Limits.{limit_hit, IsWithinLimits}
 use Rattle.rmt_bits.specs.Packet.{Packet}
 use Rattle.rmt_bits.specs.declared.answer.Verdict.{Verdict}
 use Rattle.rmt_config.specs.declared.config.Config.{Config}
 use Rattle.rmt_config.specs.Life.{Look}
 use Rattle.rmt_config.specs.Parser.{Parse, Short, Reject, Accept, parse}
-use Rattle.rmt_config.specs.ChipRun.{own_look, answer_at, latency_of, chip_counts_of, words_from}
+use Rattle.rmt_config.specs.ChipRun.{own_look, answer_at, latency_of, words_from}
+use Rattle.rmt_bits.specs.declared.answer.Count.{Count}
+use Rattle.std.proofs.Common.{Vec, Global}
+use Rattle.rmt_chip.specs.declared.memory.SlotMemory.{SlotMemory}
+use Rattle.rmt_chip.specs.FrameList.{frames_of}
+use Rattle.rmt_chip.specs.StageMemories.{LaidOut}
+use Rattle.rmt_chip.specs.Standing.{InFlight}
 use Rattle.rmt_chip.specs.declared.place.Place.{Place}
 use Rattle.rmt_chip.specs.declared.chip.Chip.{Chip}
 use Rattle.rmt_chip.specs.declared.frame.Frame.{Frame}
 use Rattle.rmt_chip.specs.declared.seen.Seen.{Seen}
-use Rattle.rmt_chip.specs.Runnable.{IsRunnable}
 use Rattle.rmt_chip.specs.Held.{Entered, HoldsIf, CarriedFor}
 use Rattle.rmt_chip.specs.Inputs.{entered_at, packets_of, input_of}
 use Rattle.rmt_chip.specs.Leaving.{AnswersIf}
-use Rattle.rmt_chip.specs.Ring.{now, AllHold}
 use Rattle.rmt_chip.specs.Stands.{Stands, Shows, in_flight}
-use Rattle.rmt_chip.proofs.CountLaws.{counts_nothing}
 use Rattle.rmt_chip.proofs.EnterLaws.{reverse_push}
 
 packets_push : (inputs : List (Option Packet)) (frame : Option Frame) → packets_of (reverse (inputs ++ input_of frame ∷ [])) ≡ packets_of (reverse inputs) + cond (is_some frame) 1 0
@@ -25,44 +29,43 @@ packets_push inputs None = ap packets_of (reverse_push inputs None) ∙ (let e :
 packets_push inputs (Some f) = ap packets_of (reverse_push inputs (input_of (Some f)))
 
 -- what one cycle of the parts gives
-abbrev pub CycleGives : Config → ℕ → Option Frame → ℕ → List Place → List Place → Option Verdict → List ℕ → Type 0
-CycleGives c newest frame number old new answer bytes = (inputs : List (Option Packet)) (before : ℕ) → before < 385 → newest ≡ (before + 1) % 385 →
-    number ≡ packets_of (reverse inputs) →
-    AllHold (own_look c) c (entered_at inputs) now now now before old →
-    AllHold (own_look c) c (entered_at (inputs ++ input_of frame ∷ [])) now now now newest new × AnswersIf (answer_at c (inputs ++ input_of frame ∷ []) (length inputs)) answer bytes
+abbrev pub CycleGives : Config → ℕ → Option Frame → ℕ → List Place → List Place → List (List ℕ) → List (List ℕ) → List Count → List Count → Option Verdict → List ℕ → Type 0
+CycleGives c newest frame number old new frames frames' counters counters' answer bytes = (inputs : List (Option Packet)) (before : ℕ) → before < 385 → newest ≡ (before + 1) % 385 →
+    number ≡ packets_of (reverse inputs) → InFlight c inputs before old frames counters
+    → InFlight c (inputs ++ input_of frame ∷ []) newest new frames' counters' × AnswersIf (answer_at c (inputs ++ input_of frame ∷ []) (length inputs)) answer bytes
 
 pub clock_right : (c : Config) (inputs : List (Option Packet)) (frame : Option Frame) (old new : Chip) (answer : Option Verdict) (bytes : List ℕ)
-    → IsRunnable old.config → old.newest < 385 → new.config ≡ old.config → new.stopped ≡ old.stopped → new.entered ≡ old.entered + cond (is_some frame) 1 0 → new.newest ≡ (old.newest + 1) % 385 → new.counters ≡ old.counters
-    → CycleGives old.config new.newest frame old.entered old.places.items new.places.items answer bytes
+    → old.newest < 385 → new.config ≡ old.config → new.memories ≡ old.memories → new.entered ≡ old.entered + cond (is_some frame) 1 0 → new.newest ≡ (old.newest + 1) % 385
+    → (LaidOut old.config.seed old.config.stages old.memories.items →
+    CycleGives old.config new.newest frame old.entered old.places.items new.places.items (frames_of old.frames) (frames_of new.frames) old.counters new.counters answer bytes)
     → Stands c inputs old → Stands c (inputs ++ input_of frame ∷ []) new × AnswersIf (answer_at c (inputs ++ input_of frame ∷ []) (length inputs)) answer bytes
-clock_right c inputs frame old new answer bytes runs ring same_config same_stopped grown turned same_counters cycle s =
+clock_right c inputs frame old new answer bytes ring same_config same_memories grown turned cycle s =
     let cfg = old.config in
-    let next = inputs ++ input_of frame ∷ [] in
-    let held : AllHold (own_look cfg) cfg (entered_at inputs) now now now old.newest old.places.items =
-    subst (λ (k : Config). AllHold (own_look k) k (entered_at inputs) now now now old.newest old.places.items) (sym s.config_is) s.places_hold in
-    let r = cycle inputs old.newest ring turned s.entered_is held in
-    let count : old.counters ≡ [] = s.counters_are ∙ subst (λ (k : Config). chip_counts_of k inputs ≡ []) s.config_is (counts_nothing cfg runs inputs) in
-    let stands : Stands cfg next new = record {
-      config_is = same_config;
-      goes_on = same_stopped ∙ s.goes_on;
-      entered_is = grown ∙ ap (λ n. n + cond (is_some frame) 1 0) s.entered_is ∙ sym (packets_push inputs frame);
-      places_hold = r.0;
-      counters_are = same_counters ∙ count ∙ sym (counts_nothing cfg runs next);
-    } in
-    subst (λ (k : Config). Stands k next new × AnswersIf (answer_at k next (length inputs)) answer bytes) s.config_is (stands, r.1)
+    let flies : InFlight cfg inputs old.newest old.places.items (frames_of old.frames) old.counters =
+    subst (λ (k : Config). InFlight k inputs old.newest old.places.items (frames_of old.frames) old.counters) (sym s.config_is) s.in_flight in
+    let r = cycle s.memories_are inputs old.newest ring turned s.entered_is flies in (
+      record {
+        config_is = same_config ∙ s.config_is;
+        memories_are = subst (λ (k : Config). LaidOut k.seed k.stages new.memories.items) (sym same_config)
+            (subst (λ (m : Vec (Vec SlotMemory Global) Global). LaidOut cfg.seed cfg.stages m.items) (sym same_memories) s.memories_are);
+        entered_is = grown ∙ ap (λ n. n + cond (is_some frame) 1 0) s.entered_is ∙ sym (packets_push inputs frame);
+        in_flight = subst (λ (k : Config). InFlight k (inputs ++ input_of frame ∷ []) new.newest new.places.items (frames_of new.frames) new.counters) s.config_is r.0;
+      },
+      subst (λ (k : Config). AnswersIf (answer_at k (inputs ++ input_of frame ∷ []) (length inputs)) answer bytes) s.config_is r.1,
+    )
 
 -- the words of a packet in its place are those of its life
-words_held : (look : Look) (c : Config) (packet : Packet) (age : ℕ) (place : Place) (p : Parse) → CarriedFor look c packet age age age place p → (w : ℕ) → slice_index place.vector w ≡ words_from look c packet p age w
-words_held look c packet age place Short held w = held.1 w
-words_held look c packet age place Reject held w = held.1 w
-words_held look c packet age place (Accept r) held w = held.1.words w
+words_held : (look : Look) (c : Config) (packet : Packet) (age l : ℕ) (place : Place) (p : Parse) → CarriedFor look c packet age age age l place p → (w : ℕ) → slice_index place.vector w ≡ words_from look c packet p age w
+words_held look c packet age l place Short held w = held.1 w
+words_held look c packet age l place Reject held w = held.1 w
+words_held look c packet age l place (Accept r) held w = held.2.words w
 
-pub shows_entered : (c : Config) (age : ℕ) (item : Option Entered) (place : Place) (seen : Seen) → HoldsIf (own_look c) c item age age age place → place.taken ≡ true → seen.number ≡ place.number → seen.words.now ≡ place.vector → Shows c age item (Some seen)
-shows_entered c age None place seen held taken number words = cc
+pub shows_entered : (c : Config) (age : ℕ) (item : Option Entered) (place : Place) (seen : Seen) → HoldsIf (own_look c) c item age age age (age + 1) place → place.taken ≡ true → seen.number ≡ place.number → seen.words.now ≡ place.vector → Shows c age item (Some seen)
+shows_entered c age None place seen held taken number words = let free : place.taken ≡ false = held.taken in cc
 shows_entered c age (Some e) place seen held taken number words =
-    (number ∙ held.number, λ w. ap (λ (ws : List ℕ). slice_index ws w) words ∙ words_held (own_look c) c e.packet age place (parse c.parser e.packet.frame) held.carried w)
+    (number ∙ held.number, λ w. ap (λ (ws : List ℕ). slice_index ws w) words ∙ words_held (own_look c) c e.packet age (age + 1) place (parse c.parser e.packet.frame) held.carried w)
 
-pub shows_none : (c : Config) (age : ℕ) (item : Option Entered) (place : Place) → HoldsIf (own_look c) c item age age age place → place.taken ≡ false → Shows c age item None
+pub shows_none : (c : Config) (age : ℕ) (item : Option Entered) (place : Place) → HoldsIf (own_look c) c item age age age (age + 1) place → place.taken ≡ false → Shows c age item None
 shows_none c age None place held taken = tt
 shows_none c age (Some e) place held taken = let h : place.taken ≡ true = held.taken in cc
 
@@ -70,3 +73,11 @@ shows_none c age (Some e) place held taken = let h : place.taken ≡ true = held
 pub shows_within : (c : Config) (inputs : List (Option Packet)) (age : ℕ) (seen : Option Seen) → age ≤ latency_of c.stages → Shows c age (entered_at inputs age) seen → Shows c age (in_flight c inputs age) seen
 shows_within c inputs age seen h shows =
     subst (λ (b : Bool). Shows c age (cond b (entered_at inputs age) None) seen) (sym (le-leb age (latency_of c.stages) h)) shows
+
+-- a configuration within its limits, as the chip keeps the fact
+pub no_limit : (c : Config) → IsTrue (is_none (limit_hit c)) → IsWithinLimits c
+no_limit c h = none_of (limit_hit c) h
+  where
+    none_of : {A : Type 0} (o : Option A) → is_none o ≡ true → o ≡ None
+    none_of None e = refl
+    none_of (Some x) e = absurd cc

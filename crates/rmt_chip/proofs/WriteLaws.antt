@@ -1,15 +1,18 @@
 -- What lists of writes make of a word.
-use Rattle.std.proofs.Common.{◌≡◌, ◌≢◌, ℕ, zero, suc, ◌+◌, ◌<◌, ◌≤◌, Bool, true, false, cond, eqb, List, [], ◌∷◌, ◌++◌, length, get_or, set, take, map, reverse, Option, Some, None, refl, sym, ap, ◌∙◌, arith}
-use Rattle.std.specs.Prelude.{find, option_map, unwrap_or, slice_index}
+use Rattle.std.proofs.Common.{◌≡◌, ◌≢◌, ℕ, zero, suc, ◌+◌, ◌<◌, ◌≤◌, Bool, true, false, cond, eqb, List, [], ◌∷◌, ◌++◌, length, get_or, set, take, map, reverse, Option, Some, None, refl, sym, ap, subst, ◌∙◌, arith}
+use Rattle.std.specs.Prelude.{find, option_map, unwrap_or, slice_index, slice_get, max}
 use Rattle.std.proofs.lemmas.List.{take_more, map_more, reverse-append, get_or-set_same, get_or-set_other, length-set, get_or-map}
 use Rattle.std.proofs.lemmas.Bool.Decides.{nat_tests}
 use Rattle.rmt_config.specs.declared.config.Operation.{Operation}
 use Rattle.rmt_config.specs.declared.config.Vliw.{Vliw}
+use Rattle.rmt_chip.specs.declared.looked.Looked.{Looked}
+use Rattle.rmt_chip.specs.declared.ran.Ran.{Ran}
+use Rattle.rmt_chip.specs.Ran.{running_of, all_running}
 use Rattle.rmt_config.specs.declared.config.OpKind.TheVariants as kind
 use Rattle.rmt_config.specs.declared.config.Source.TheVariants.{Word}
 use Rattle.rmt_config.specs.Life.{Words, Running, or_else, op_on, written, word_after}
 use Rattle.rmt_chip.specs.declared.write.Write.{Write}
-use Rattle.rmt_chip.specs.Writes.{last_on, applied, run_of, runs_of}
+use Rattle.rmt_chip.specs.Writes.{last_on, applied, most_ops}
 
 or_else-none : {A : Type 0} (o : Option A) → or_else o None ≡ o
 or_else-none (Some x) = refl
@@ -70,13 +73,13 @@ abbrev pub no_op : Operation
 no_op = record { word = 0; low = 0; len = 0; kind = kind.Copy; left = Word 0 0; right = Word 0 0 }
 
 -- a step that adds an operation's write
-pub push_step : (due due' init : List Write) (x : Write) (ops : List Operation) (i : ℕ) (words : Words) → i < length ops
+pub push_step : (due due' init : List Write) (x : Write) (ops : List Operation) (i held : ℕ) (words : Words) → i < length ops
     → ((j k : ℕ) → j < k → k < length ops → slice_index (map (λ (op : Operation). op.word) ops) j < slice_index (map (λ (op : Operation). op.word) ops) k)
-    → x.word ≡ (get_or ops i no_op).word → x.value ≡ written words 0 (get_or ops i no_op) → due' ≡ due ++ x ∷ []
-    → ((w : ℕ) → last_on due w ≡ or_else (option_map (written words 0) (op_on w (take i ops))) (last_on init w))
-    → (w : ℕ) → last_on due' w ≡ or_else (option_map (written words 0) (op_on w (take (i + 1) ops))) (last_on init w)
-push_step due due' init x ops i words h rises word value grown before w =
-    let f = written words 0 in
+    → x.word ≡ (get_or ops i no_op).word → x.value ≡ written words held (get_or ops i no_op) → due' ≡ due ++ x ∷ []
+    → ((w : ℕ) → last_on due w ≡ or_else (option_map (written words held) (op_on w (take i ops))) (last_on init w))
+    → (w : ℕ) → last_on due' w ≡ or_else (option_map (written words held) (op_on w (take (i + 1) ops))) (last_on init w)
+push_step due due' init x ops i held words h rises word value grown before w =
+    let f = written words held in
     let op = get_or ops i no_op in
     let more : option_map f (op_on w (take (i + 1) ops)) ≡ or_else (cond (eqb op.word w) (Some (f op)) None) (option_map f (op_on w (take i ops))) =
     op_on_more f ops i no_op w h rises in
@@ -88,12 +91,18 @@ push_step due due' init x ops i words h rises word value grown before w =
     ∙ ap (λ o. or_else o (last_on init w)) (sym more)
 
 -- one more instruction that runs
-pub runs_of_more : (code : List Vliw) (numbers : List ℕ) (i d : ℕ) (words : Words) (w : ℕ) → i < length numbers
-    → word_after (runs_of code (take (i + 1) numbers)) words w
-    ≡ or_else (option_map (written words 0) (op_on w (run_of code (get_or numbers i d)).ops)) (word_after (runs_of code (take i numbers)) words w)
-runs_of_more code numbers i d words w h =
-    ap (λ (xs : List Running). word_after (reverse xs) words w) (map_more (run_of code) numbers i d h)
-    ∙ ap (λ (xs : List Running). word_after xs words w) (reverse-append (map (run_of code) (take i numbers)) (run_of code (get_or numbers i d) ∷ []))
+pub running_more : (code : List Vliw) (looked : List Looked) (rans : List Ran) (i : ℕ) (d : Ran) (words : Words) (w : ℕ) → i < length rans
+    → word_after (all_running code looked (take (i + 1) rans)) words w
+    ≡ or_else (option_map (written words (running_of code looked (get_or rans i d)).held) (op_on w (running_of code looked (get_or rans i d)).ops)) (word_after (all_running code looked (take i rans)) words w)
+running_more code looked rans i d words w h =
+    ap (λ (xs : List Running). word_after (reverse xs) words w) (map_more (running_of code looked) rans i d h)
+    ∙ ap (λ (xs : List Running). word_after xs words w) (reverse-append (map (running_of code looked) (take i rans)) (running_of code looked (get_or rans i d) ∷ []))
+
+-- no instruction has more operations
+pub most-le : (code : List Vliw) (i : ℕ) (v : Vliw) → slice_get code i ≡ Some v → length v.ops ≤ most_ops code
+most-le [] i v e = absurd cc
+most-le (x ∷ code) zero v e = let same : x ≡ v = cc in subst (λ (y : Vliw). length y.ops ≤ max (length x.ops) (most_ops code)) same (omega arith)
+most-le (x ∷ code) (suc i) v e = let rest : length v.ops ≤ most_ops code = most-le code i v e in omega arith
 
 -- a word after the writes
 pub applied-word : (writes : List Write) (vector : List ℕ) (w : ℕ) → length vector ≡ 224 → slice_index (applied writes vector) w ≡ unwrap_or (last_on writes w) (slice_index vector w)

@@ -1,5 +1,5 @@
 -- What has entered the chip, by age.
-use Rattle.std.specs.Prelude.{ℕ, zero, suc, ◌+◌, ◌<◌, ◌≤◌, length, List, [], ◌∷◌, Option, Some, None, option_map, reverse}
+use Rattle.std.specs.Prelude.{ℕ, slice_set, zero, suc, ◌+◌, ◌<◌, ◌≤◌, length, List, [], ◌∷◌, Option, Some, None, option_map, reverse}
 use Rattle.std.specs.Option.{ForSome}
 use Rattle.rmt_bits.specs.Packet.{Packet}
 use Rattle.rmt_chip.specs.declared.frame.Frame.{Frame}
@@ -36,3 +36,8 @@ MayEnter frame = ForSome frame (λ (f : Frame). (f.port < 512) × (1 ≤ length 
 -- a packet behind so many others
 abbrev pub numbered_as : Option Packet → ℕ → Option Entered
 numbered_as input number = option_map (λ p. record { packet = p; number = number }) input
+
+-- the frames in the packet slots after a cycle's input has entered one of them
+abbrev pub frames_after : Option Frame → ℕ → List (List ℕ) → List (List ℕ)
+frames_after None at frames = frames
+frames_after (Some f) at frames = slice_set frames at f.bytes.now

@@ -1,13 +1,15 @@
--- How a packet leaves its place.
-use Rattle.std.specs.Prelude.{◌≡◌, ℕ, List, [], drop, replicate, Option, Some, None, slice_index, Bool, true, false}
+-- How a packet leaves its slot.
+use Rattle.std.specs.Prelude.{◌≡◌, ℕ, List, [], map, drop, Option, Some, None, slice_index, Bool, true, false}
+use Rattle.std.specs.List.{flat_map, zip}
 use Rattle.rmt_bits.specs.declared.answer.Verdict.{Verdict}
 use Rattle.rmt_bits.specs.declared.answer.Verdict.TheVariants as verdict
 use Rattle.rmt_config.specs.declared.config.Config.{Config}
-use Rattle.rmt_config.specs.Life.{Life}
-use Rattle.rmt_config.specs.ChipRun.{Outcome, finished}
+use Rattle.rmt_config.specs.declared.config.OutHeader.{OutHeader}
+use Rattle.rmt_config.specs.Life.{Words, Life}
+use Rattle.rmt_config.specs.ChipRun.{Outcome, header_bytes, tail_bytes, finished}
+use Rattle.rmt_ptcam.specs.declared.parse.Parsed.{Parsed}
+use Rattle.rmt_ptcam.specs.declared.parse.Parsed.TheVariants as parsed
 use Rattle.rmt_chip.specs.declared.place.Place.{Place}
-use Rattle.rmt_chip.specs.declared.place.Parsed.{Parsed}
-use Rattle.rmt_chip.specs.declared.place.Parsed.TheVariants as parsed
 
 -- a verdict and bytes are those of an outcome
 pub record Answers (outcome : Outcome) (answer : Verdict) (bytes : List ℕ) : Type 0 where
@@ -25,16 +27,16 @@ AnswersIf (Some outcome) (Some answer) bytes = Answers outcome answer bytes
 abbrev pub still : List ℕ → Life
 still vector = record { word = λ age w. slice_index vector w; outcomes = []; counted = [] }
 
--- the bytes of the tails of the headers, none of which has one
-abbrev pub no_tails : List (List ℕ)
-no_tails = replicate 64 []
+-- the bytes of the valid headers, each with its tail
+abbrev pub headers_sent : Words → List OutHeader → List (List ℕ) → List ℕ
+headers_sent words headers tails = flat_map (λ (x : OutHeader × List ℕ). header_bytes words x.0 x.1) (zip headers tails)
 
--- what leaves, by how the parser ended and the words as they stand
-abbrev pub leaving : Config → Place → Parsed → Outcome
-leaving c place parsed.Short = record { verdict = verdict.Short; bytes = []; counted = [] }
-leaving c place parsed.Reject = record { verdict = verdict.Reject; bytes = []; counted = [] }
-leaving c place (parsed.Accept used) = finished c no_tails (drop used place.frame.items) (still place.vector)
+-- what leaves, by how the parser ended, the frame and the words as they stand
+abbrev pub leaving : Config → Place → List ℕ → Parsed → Outcome
+leaving c place frame parsed.Short = record { verdict = verdict.Short; bytes = []; counted = [] }
+leaving c place frame parsed.Reject = record { verdict = verdict.Reject; bytes = []; counted = [] }
+leaving c place frame (parsed.Accept used) = finished c (map (tail_bytes frame) place.tails) (drop used frame) (still place.vector)
 
-abbrev pub leaving_if : Config → Place → Bool → Option Outcome
-leaving_if c place false = None
-leaving_if c place true = Some (leaving c place place.parsed)
+abbrev pub leaving_if : Config → Place → List ℕ → Bool → Option Outcome
+leaving_if c place frame false = None
+leaving_if c place frame true = Some (leaving c place frame place.parsed)

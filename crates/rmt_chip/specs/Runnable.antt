@@ -1,5 +1,5 @@
 -- What a configuration must be for the chip to run it.
-use Rattle.std.specs.Prelude.{◌≡◌, ℕ, ◌+◌, ◌*◌, ◌^◌, ◌<◌, ◌≤◌, Bool, true, false, ◌&&◌, not, nat_lt, nat_le, ◌==◌, IsTrue, is_none, List, [], length, map, slice_index, All}
+use Rattle.std.specs.Prelude.{◌≡◌, ℕ, ◌+◌, ◌*◌, ◌^◌, ◌<◌, ◌≤◌, Bool, true, ◌&&◌, nat_lt, nat_le, IsTrue, List, length, map, slice_index, All}
 use Rattle.rmt_bits.specs.Words.{word_size}
 use Rattle.rmt_bits.specs.declared.lane.Lane.{Lane}
 use Rattle.rmt_config.specs.declared.config.Operation.{Operation}
@@ -11,12 +11,9 @@ use Rattle.rmt_config.specs.declared.config.Vliw.{Vliw}
 use Rattle.rmt_config.specs.declared.config.Stage.{Stage}
 use Rattle.rmt_config.specs.declared.config.Config.{Config}
 use Rattle.rmt_config.specs.declared.config.OutHeader.{OutHeader}
-use Rattle.rmt_config.specs.declared.config.ParserConfig.{ParserConfig}
-use Rattle.rmt_config.specs.declared.config.ParserEntry.{ParserEntry}
-use Rattle.rmt_config.specs.declared.config.Extract.{Extract}
-use Rattle.rmt_config.specs.declared.config.Extract.TheVariants.{Bits, One}
 use Rattle.rmt_config.specs.LaneForm.{bits_of_lanes}
-use Rattle.rmt_config.specs.Life.{has_memory}
+use Rattle.rmt_config.specs.declared.config.GateTest.{GateTest}
+use Rattle.rmt_ptcam.specs.Fitting.{IsParser}
 
 -- a lane lies in its word
 pub record LaneFits (lane : Lane) : Type 0 where
@@ -40,14 +37,23 @@ pub record InstructionFits (code : Vliw) : Type 0 where
   pub each : All OperationFits code.ops
   pub rises : (i j : ℕ) → i < j → j < length code.ops → slice_index (map (λ (op : Operation). op.word) code.ops) i < slice_index (map (λ (op : Operation). op.word) code.ops) j
 
--- a table slot without a guard, memory and counters
-abbrev pub is_plain : Unit → Bool
-is_plain (Gate gate) = false
-is_plain (Slot slot) = is_none slot.guard && (not slot.counted && not (has_memory slot.memory))
+-- the lanes of tests and keys exist, and no key has more than 640 bits
+abbrev pub UnitReads : Unit → Type 0
+UnitReads (Gate g) = All (λ (t : GateTest). LaneFits t.lane) g.tests
+UnitReads (Slot s) = All LaneFits s.keys × (bits_of_lanes s.keys ≤ 640)
+
+pub record StageReads (stage : Stage) : Type 0 where
+  pub few_units : length stage.units ≤ 32
+  pub each : All UnitReads stage.units
+
+-- the bits of data of a unit's entries
+abbrev pub data_bits : Unit → ℕ
+data_bits (Gate g) = 0
+data_bits (Slot s) = s.held
 
 pub record StageFits (stage : Stage) : Type 0 where
-  pub few_units : length stage.units ≤ 32
-  pub plain : All (λ unit. IsTrue (is_plain unit)) stage.units
+  pub reads : StageReads stage
+  pub short : All (λ u. data_bits u < 65536) stage.units
   pub code : All InstructionFits stage.code
 
 -- the age at which a stage begins
@@ -60,17 +66,6 @@ pub record StagesFit (stages : List Stage) : Type 0 where
   pub rise : (j k : ℕ) → j < k → k < length stages → start_of stages j < start_of stages k
   pub last : (k : ℕ) → k < length stages → start_of stages k ≤ 372
   pub each : All StageFits stages
-
--- an extract finds its bits in the bytes that its entry needs
-abbrev pub extract_fits : ℕ → Extract → Bool
-extract_fits need (Bits from lane) = nat_lt lane.word 224 && (nat_le (lane.low + lane.len) (word_size lane.word) && nat_le (from + lane.len) (8 * need))
-extract_fits need (One lane) = nat_lt lane.word 224 && (nat_le (lane.low + lane.len) (word_size lane.word) && (lane.len == 1))
-
--- a parser without tails, whose entries find their bits in what they need
-pub record ParserFits (parser : ParserConfig) : Type 0 where
-  pub no_tail : parser.tails ≡ []
-  pub short_steps : All (λ (e : ParserEntry). e.advance ≤ e.need) parser.entries
-  pub extracts : All (λ (e : ParserEntry). All (λ x. IsTrue (extract_fits e.need x)) e.extracts) parser.entries
 
 -- a header that is sent: its lanes have as many bits as its bytes, at most 64
 pub record HeaderFits (header : OutHeader) : Type 0 where
@@ -87,5 +82,5 @@ pub record IsRunnable (c : Config) : Type 0 where
   pub drop : LaneFits c.drop
   pub few_headers : length c.headers ≤ 64
   pub headers : All HeaderFits c.headers
-  pub parser : ParserFits c.parser
+  pub parser : IsParser c.parser
   pub stages : StagesFit c.stages

@@ -1,26 +1,22 @@
 -- What a chip stands for.
-use Rattle.std.specs.Prelude.{◌≡◌, ℕ, true, false, nat_le, if◌then◌else◌, List, Option, Some, None, reverse, slice_index}
+use Rattle.std.specs.Prelude.{◌≡◌, ℕ, nat_le, if◌then◌else◌, List, Option, Some, None, reverse, slice_index}
 use Rattle.rmt_bits.specs.Packet.{Packet}
 use Rattle.rmt_config.specs.declared.config.Config.{Config}
-use Rattle.rmt_config.specs.ChipRun.{own_look, chip_counts_of, latency_of, words_at}
+use Rattle.rmt_config.specs.ChipRun.{own_look, latency_of, words_at}
 use Rattle.rmt_chip.specs.declared.chip.Chip.{Chip}
 use Rattle.rmt_chip.specs.declared.seen.Seen.{Seen}
+use Rattle.rmt_chip.specs.FrameList.{frames_of}
 use Rattle.rmt_chip.specs.Held.{Entered}
 use Rattle.rmt_chip.specs.Inputs.{entered_at, packets_of}
-use Rattle.rmt_chip.specs.Ring.{now, AllHold}
+use Rattle.rmt_chip.specs.StageMemories.{LaidOut}
+use Rattle.rmt_chip.specs.Standing.{InFlight}
 
--- a chip with this configuration stands for the inputs of the cycles so far: each place holds what entered so many
--- cycles ago, at that age of its life
+-- a chip with this configuration stands for the inputs of the cycles so far
 pub record Stands (c : Config) (inputs : List (Option Packet)) (chip : Chip) : Type 0 where
   pub config_is : chip.config ≡ c
-  pub goes_on : chip.stopped ≡ false
+  pub memories_are : LaidOut chip.config.seed chip.config.stages chip.memories.items
   pub entered_is : chip.entered ≡ packets_of (reverse inputs)
-  pub places_hold : AllHold (own_look c) c (entered_at inputs) now now now chip.newest chip.places.items
-  pub counters_are : chip.counters ≡ chip_counts_of c inputs
-
--- a chip that wanted memory in vain
-abbrev pub HasStopped : Chip → Type 0
-HasStopped chip = chip.stopped ≡ true
+  pub in_flight : InFlight c inputs chip.newest chip.places.items (frames_of chip.frames) chip.counters
 
 -- how many packets entered
 abbrev pub entered_of : Chip → ℕ

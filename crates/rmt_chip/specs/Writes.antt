@@ -1,8 +1,7 @@
 -- Whole words that are still to be written.
-use Rattle.std.specs.Prelude.{◌≡◌, ℕ, List, [], ◌∷◌, Option, Some, None, ◌==◌, if◌then◌else◌, fold, slice_set, slice_get, option_map, unwrap_or, map, reverse}
+use Rattle.std.specs.Prelude.{ℕ, List, [], ◌∷◌, Option, Some, None, ◌==◌, if◌then◌else◌, fold, slice_set, length, max}
 use Rattle.rmt_config.specs.declared.config.Vliw.{Vliw}
-use Rattle.rmt_config.specs.declared.config.Stage.{Stage}
-use Rattle.rmt_config.specs.Life.{or_else, Running, Acts}
+use Rattle.rmt_config.specs.Life.{or_else}
 use Rattle.rmt_chip.specs.declared.write.Write.{Write}
 
 -- what the writes, one after another, make of a word, if one of them is on it
@@ -14,16 +13,7 @@ last_on (x ∷ xs) w = or_else (last_on xs w) (if x.word == w then Some x.value 
 abbrev pub applied : List Write → List ℕ → List ℕ
 applied writes vector = fold (λ v (x : Write). slice_set v x.word x.value) vector writes
 
--- instructions by number, run without a record
-abbrev pub run_of : List Vliw → ℕ → Running
-run_of code i = record { ops = unwrap_or (option_map (λ (v : Vliw). v.ops) (slice_get code i)) []; held = 0 }
-
--- the same for a list of numbers, the last one first
-abbrev pub runs_of : List Vliw → List ℕ → List Running
-runs_of code numbers = reverse (map (run_of code) numbers)
-
--- what the units of a stage make of a packet: its outcomes, and the instructions that run, none of them with a count
-pub record Decides (stage : Stage) (acts : Acts) (outcomes running : List ℕ) : Type 0 where
-  pub outcomes_are : outcomes ≡ acts.outcomes
-  pub running_are : runs_of stage.code running ≡ acts.running
-  pub uncounted : acts.counted ≡ []
+-- the most operations that an instruction has
+abbrev pub most_ops : List Vliw → ℕ
+most_ops [] = 0
+most_ops (v ∷ vs) = max (length v.ops) (most_ops vs)

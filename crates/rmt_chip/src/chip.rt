@@ -1,41 +1,52 @@
 //! The clocked chip.
 
-ghost use Rattle.std.specs.Prelude.{◌≡◌, ◌<◌, vec_len};
+ghost use Rattle.std.specs.Prelude.{◌≡◌, ◌<◌, All, IsTrue, is_none, vec_len};
 ghost use Rattle.std.proofs.Props.{props};
 ghost use Rattle.rmt_config.specs.ChipRun.{latency_of};
-ghost use Rattle.rmt_chip.specs.Runnable.{IsRunnable};
+ghost use Rattle.rmt_config.specs.Form.{items_are_formed};
+ghost use Rattle.rmt_config.specs.Limits.{limit_hit};
+ghost use Rattle.rmt_chip.specs.declared.place.Place.{Place as PlaceOf};
+ghost use Rattle.rmt_chip.specs.Pending.{HaveRoomFor};
+ghost use Rattle.rmt_chip.specs.StageMemories.{MemoriesOf};
 
+use crate::counters::Counters;
 use crate::cycle::{cycle, latency};
 use crate::fault::ChipFault;
 use crate::frame::Frame;
+use crate::frames::Frames;
+use crate::lay::lay_all;
+use crate::memory::SlotMemory;
 use crate::open::all_places;
 use crate::out::Out;
 use crate::place::Place;
 use crate::ring::{PLACES, place_of};
 use crate::seen::Seen;
 use rmt_bits::answer::{Counts, Verdict};
-use rmt_bits::sequence::Sequence;
 use rmt_config::config::Config;
 use std::alloc::Global;
 
-/// The chip: its configuration, and a ring of places for the packets in flight.
+/// The chip: its configuration with the memories laid out for reading, and a ring of slots for the packets in flight.
 #[derive(Drop)]
 pub struct Chip {
     config: Config,
+    memories: Vec<Vec<SlotMemory>>,
     places: Vec<Place>,
+    frames: Frames,
+    counters: Counters,
     newest: usize,
     entered: u64,
-    counters: Counts,
     latency: u16,
-    stopped: bool,
-    ghost runs: { IsRunnable config } by { Prim.hlevel props },
+    ghost formed: { IsTrue (items_are_formed config) },
+    ghost limits: { IsTrue (is_none (limit_hit config)) },
+    ghost fit: { MemoriesOf config.stages memories.items } by { Prim.hlevel props },
     ghost full: { vec_len places ≡ 385 },
+    ghost room: { All (λ (p : PlaceOf). HaveRoomFor config.stages p.pending.items) places.items } by { Prim.hlevel props },
     ghost in_ring: { newest < 385 },
     ghost leaves: { latency ≡ latency_of config.stages },
 }
 
 impl Chip {
-    ghost use Rattle.std.specs.Prelude.{[], ◌∷◌, ◌++◌, ◌^◌, ℕ, List, Option, length, IfOk, OnErr, IsErr, IsTrue};
+    ghost use Rattle.std.specs.Prelude.{[], ◌∷◌, ◌++◌, ◌^◌, ℕ, List, Option, length, IfOk};
     ghost use Rattle.rmt_bits.specs.Packet.{Packet};
     ghost use Rattle.rmt_config.specs.declared.config.Config.{Config};
     ghost use Rattle.rmt_config.specs.ChipRun.{answer_at, chip_counts_of};
@@ -43,27 +54,30 @@ impl Chip {
     ghost use Rattle.rmt_config.specs.Limits.{IsWithinLimits};
     ghost use Rattle.rmt_chip.specs.Inputs.{input_of, MayEnter};
     ghost use Rattle.rmt_chip.specs.Leaving.{AnswersIf};
-    ghost use Rattle.rmt_chip.specs.Supported.{is_supported};
-    ghost use Rattle.rmt_chip.specs.Stands.{Stands, Shows, HasStopped, entered_of, in_flight};
+    ghost use Rattle.rmt_chip.specs.Stands.{Stands, Shows, entered_of, in_flight};
 
-    /// A chip in which no packet is, of a configuration that it runs so far. It takes all memory of the
-    /// chip but that of the frames, and can only be refused for memory.
+    /// A chip in which no packet is. It takes all memory that the chip ever needs, and can only be
+    /// refused for memory.
     pub fn open(alloc: Global, config: Config) -> Result<Chip, ChipFault>
         requires form { Formed config }
         requires limits { IsWithinLimits config }
-        requires supported { IsTrue (is_supported config) }
         ensures { IfOk result (λ chip. Stands config [] chip) }
     {
-        let places = all_places(alloc, config.stages.as_slice())?;
+        let stages = config.stages.as_slice();
+        let places = all_places(alloc, stages)?;
+        let memories = lay_all(alloc, config.seed, stages)?;
+        let counters = Counters::open(alloc, &config)?;
+        let frames = Frames::new(alloc)?;
         let latency = latency(config.stages.as_slice());
         Ok(Chip {
             config,
+            memories,
             places,
+            frames,
+            counters,
             newest: 0,
             entered: 0,
-            counters: Sequence::new(alloc),
             latency,
-            stopped: false,
         })
     }
 
@@ -77,48 +91,31 @@ impl Chip {
     /// One cycle, with a frame or nothing. The frame must be one that may enter, and fewer than
     /// 2^63 packets may have entered before. The answer is that to the packet that leaves, or None
     /// where none leaves; after a packet was sent its bytes are in `out`, and after every other
-    /// answer `out` is empty. A chip that was refused memory once is refused it from then on.
-    pub fn clock(
-        &mut self,
-        _alloc: Global,
-        frame: Option<Frame<'_>>,
-        out: &mut Out,
-    ) -> Result<Option<Verdict>, ChipFault>
+    /// answer `out` is empty. It takes no memory.
+    pub fn clock(&mut self, frame: Option<Frame<'_>>, out: &mut Out) -> Option<Verdict>
         requires frame { MayEnter frame }
         requires few { entered_of self.old < 2 ^ 63 }
-        ensures ok { IfOk result (λ answer. (c : Config) (inputs : List (Option Packet)) → Stands c inputs self.old →
+        ensures { (c : Config) (inputs : List (Option Packet)) → Stands c inputs self.old →
             Stands c (inputs ++ input_of frame.entry ∷ []) self.new
-            × AnswersIf (answer_at c (inputs ++ input_of frame.entry ∷ []) (length inputs)) answer out.new) }
-        ensures err { OnErr result (HasStopped self.new × (out.new ≡ [])) }
-        ensures stopped { HasStopped self.old → IsErr result }
+            × AnswersIf (answer_at c (inputs ++ input_of frame.entry ∷ []) (length inputs)) result out.new }
     {
-        out.bytes.clear();
-        if self.stopped {
-            return Err(ChipFault::NoMemory);
-        }
         let newest = (self.newest + 1) % PLACES;
         let grown = self.entered + u64::from(frame.is_some());
-        let clocked = cycle(
+        let answer = cycle(
             &self.config,
+            &self.memories,
             &mut self.places,
+            &mut self.frames,
+            &mut self.counters,
             newest,
             frame,
             self.entered,
             self.latency,
-            &mut out.bytes,
+            out,
         );
-        match clocked {
-            Ok(answer) => {
-                self.newest = newest;
-                self.entered = grown;
-                Ok(answer)
-            }
-            Err(_) => {
-                out.bytes.clear();
-                self.stopped = true;
-                Err(ChipFault::NoMemory)
-            }
-        }
+        self.newest = newest;
+        self.entered = grown;
+        answer
     }
 
     /// The packet of this age, counted in cycles since it entered; None exactly where none of that
@@ -145,7 +142,7 @@ impl Chip {
         ensures { (c : Config) (inputs : List (Option Packet)) → Stands c inputs self.now →
             result.now ≡ chip_counts_of c inputs }
     {
-        &self.counters
+        self.counters.counts()
     }
 
     /// The age at which a packet leaves: 12 cycles behind the last start, or 0 without a stage.

@@ -1,25 +1,42 @@
 //! What an operation of an instruction writes.
 
-ghost use Rattle.std.specs.Prelude.{◌≡◌, ◌+◌, ◌<◌, ◌≤◌, ◌^◌, IsTrue, slice_index};
-ghost use Rattle.rmt_bits.specs.Words.{word_size as word_size_of};
+ghost use Rattle.std.specs.Prelude.{◌≡◌, ◌+◌, ◌<◌, ◌≤◌, ◌^◌, IsTrue, length, slice_index};
+ghost use Rattle.rmt_bits.specs.Bits.{number_of, slice as slice_of};
 ghost use Rattle.rmt_config.specs.Life.{source_of, computed as computed_of, written as written_of};
 ghost use Rattle.rmt_chip.specs.Runnable.{source_fits, OperationFits};
 
 use crate::write::Write;
-use rmt_bits::bits::{deposit, slice};
+use rmt_bits::bits::{bits_of_bytes, deposit, slice};
 use rmt_config::config::{OpKind, Operation, Source};
 use rmt_config::vector::Vector;
 
-/// What a source reads, in an operation of `len` bits, where no record is at hand.
-fn source(vector: &Vector, len: u8, from: Source) -> u32
+/// Bits of a record, whose bytes stand highest first, from its bit `low` upward; 0 past its end.
+fn held_bits(held: &[u8], low: u16, len: u8) -> u32
     requires short { len ≤ 32 }
+    requires few { length held.now ≤ 8192 }
+    ensures value { result ≡ slice_of (number_of held.now) low len }
+    ensures within { result < 2 ^ len }
+{
+    let bits = 8 * held.len() as u32;
+    let low = u32::from(low);
+    if low >= bits {
+        return 0;
+    }
+    let here = (bits - low).min(u32::from(len));
+    bits_of_bytes(held, bits - low - here, here as u8) as u32
+}
+
+/// What a source reads, in an operation of `len` bits.
+fn source(vector: &Vector, held: &[u8], len: u8, from: Source) -> u32
+    requires short { len ≤ 32 }
+    requires few { length held.now ≤ 8192 }
     requires fits { IsTrue (source_fits len from) }
-    ensures value { result ≡ source_of (λ w. slice_index vector.now w) 0 len from }
+    ensures value { result ≡ source_of (λ w. slice_index vector.now w) (number_of held.now) len from }
     ensures within { result < 2 ^ len }
 {
     match from {
         Source::Word { word, low } => slice(u128::from(vector.get(word)), low, len) as u32,
-        Source::Held { .. } => 0,
+        Source::Held { low } => held_bits(held, low, len),
         Source::Constant { value } => value,
     }
 }
@@ -46,14 +63,15 @@ fn computed(kind: OpKind, len: u8, left: u32, right: u32) -> u32
     value as u32
 }
 
-/// The whole word that an operation writes, from the words at hand.
-pub fn written(vector: &Vector, op: Operation) -> Write
-    requires { OperationFits op }
+/// The whole word that an operation writes, from the words at hand and a record.
+pub fn written(vector: &Vector, held: &[u8], op: Operation) -> Write
+    requires fits { OperationFits op }
+    requires few { length held.now ≤ 8192 }
     ensures word { result.word ≡ op.word }
-    ensures value { result.value ≡ written_of (λ w. slice_index vector.now w) 0 op }
+    ensures value { result.value ≡ written_of (λ w. slice_index vector.now w) (number_of held.now) op }
 {
-    let left = source(vector, op.len, op.left);
-    let right = source(vector, op.len, op.right);
+    let left = source(vector, held, op.len, op.left);
+    let right = source(vector, held, op.len, op.right);
     let value = computed(op.kind, op.len, left, right);
     let old = vector.get(op.word);
     Write {

@@ -1,21 +1,28 @@
 //! One cycle of the chip.
 
-ghost use Rattle.std.specs.Prelude.{◌≡◌, ◌+◌, ◌%◌, ◌<◌, ◌≤◌, ◌++◌, ◌∷◌, [], ℕ, List, Option, length, reverse, IfOk};
+ghost use Rattle.std.specs.Prelude.{◌≡◌, ◌+◌, ◌%◌, ◌<◌, ◌≤◌, ◌++◌, ◌∷◌, [], ℕ, List, Option, length, reverse, All};
 ghost use Rattle.rmt_bits.specs.Packet.{Packet};
-ghost use Rattle.rmt_config.specs.ChipRun.{own_look, answer_at, latency_of};
-ghost use Rattle.rmt_chip.specs.Inputs.{entered_at, input_of, packets_of, MayEnter};
+ghost use Rattle.rmt_config.specs.ChipRun.{answer_at, latency_of};
+ghost use Rattle.rmt_chip.specs.declared.place.Place.{Place as PlaceOf};
+ghost use Rattle.rmt_chip.specs.Standing.{InFlight};
+ghost use Rattle.rmt_chip.specs.FrameList.{frames_of};
+ghost use Rattle.rmt_chip.specs.Inputs.{input_of, packets_of, MayEnter};
 ghost use Rattle.rmt_chip.specs.Leaving.{AnswersIf};
-ghost use Rattle.rmt_chip.specs.Ring.{now, AllHold};
+ghost use Rattle.rmt_chip.specs.Pending.{HaveRoomFor};
 ghost use Rattle.rmt_chip.specs.Runnable.{IsRunnable, StagesFit};
+ghost use Rattle.rmt_chip.specs.StageMemories.{MemoriesOf, LaidOut};
 
+use crate::counters::Counters;
 use crate::emit::leave;
 use crate::enter::enter_if;
 use crate::frame::Frame;
+use crate::frames::Frames;
+use crate::memory::SlotMemory;
+use crate::out::Out;
 use crate::place::Place;
-use crate::ring::{act_all, place_of, read_all, write_all};
+use crate::ring::{act_all, look_all, place_of, read_all, write_all};
 use rmt_bits::answer::Verdict;
 use rmt_config::config::{Config, Stage};
-use std::alloc::AllocError;
 
 /// The age at which a packet leaves: 12 cycles behind the last start, or 0 where there is no stage.
 pub fn latency(stages: &[Stage]) -> u16
@@ -29,32 +36,39 @@ pub fn latency(stages: &[Stage]) -> u16
     }
 }
 
-/// One cycle: the input enters the place `newest`, every stage acts on the packets at its ages, and
+/// One cycle: the input enters the slot `newest`, every stage acts on the packets at its ages, and
 /// the packet whose age is `latency` leaves.
 pub fn cycle(
     config: &Config,
+    memories: &[Vec<SlotMemory>],
     places: &mut [Place],
+    frames: &mut Frames,
+    counters: &mut Counters,
     newest: usize,
     frame: Option<Frame<'_>>,
     number: u64,
     latency: u16,
-    out: &mut Vec<u8>,
-) -> Result<Option<Verdict>, AllocError>
+    out: &mut Out,
+) -> Option<Verdict>
     requires fits { IsRunnable config.now }
+    requires memories { MemoriesOf config.now.stages memories.now }
     requires full { length places.old ≡ 385 }
+    requires room { All (λ (p : PlaceOf). HaveRoomFor config.now.stages p.pending.items) places.old }
     requires in_ring { newest < 385 }
     requires frame { MayEnter frame }
     requires leaves { latency ≡ latency_of config.now.stages }
-    ensures { IfOk result (λ answer. (inputs : List (Option Packet)) (before : ℕ) → before < 385 → newest ≡ (before + 1) % 385 →
-        number ≡ packets_of (reverse inputs) →
-        AllHold (own_look config.now) config.now (entered_at inputs) now now now before places.old →
-        AllHold (own_look config.now) config.now (entered_at (inputs ++ input_of frame.entry ∷ [])) now now now newest places.new
-        × AnswersIf (answer_at config.now (inputs ++ input_of frame.entry ∷ []) (length inputs)) answer out.new.items) }
+    ensures room { All (λ (p : PlaceOf). HaveRoomFor config.now.stages p.pending.items) places.new }
+    ensures gives { (inputs : List (Option Packet)) (before : ℕ) → before < 385 → newest ≡ (before + 1) % 385 →
+        number ≡ packets_of (reverse inputs) → LaidOut config.now.seed config.now.stages memories.now →
+        InFlight config.now inputs before places.old (frames_of frames.old) counters.old →
+        InFlight config.now (inputs ++ input_of frame.entry ∷ []) newest places.new (frames_of frames.new) counters.new
+        × AnswersIf (answer_at config.now (inputs ++ input_of frame.entry ∷ []) (length inputs)) result out.new }
 {
-    enter_if(&mut places[newest], config, frame, number)?;
+    enter_if(&mut places[newest], frames, newest, config, frame, number);
     write_all(places, newest, config);
-    read_all(places, newest, config)?;
-    act_all(places, newest, config)?;
+    read_all(places, newest, config);
+    act_all(places, newest, config, counters);
+    look_all(places, newest, config, memories);
     let last = place_of(newest, usize::from(latency));
-    leave(config, &places[last], out)
+    leave(config, &places[last], frames, last, out)
 }

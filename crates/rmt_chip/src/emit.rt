@@ -1,104 +1,77 @@
 //! How a packet leaves.
 
-ghost use Rattle.std.specs.Prelude.{◌≡◌, [], ◌+◌, ◌*◌, ◌<◌, ◌≤◌, ◌++◌, length, take, drop, All, IfOk, OnOk, slice_index};
-ghost use Rattle.rmt_config.specs.LaneForm.{bits_of_lanes};
-ghost use Rattle.rmt_config.specs.Life.{key_of};
-ghost use Rattle.rmt_config.specs.ChipRun.{header_bytes, sent_bytes, finished};
-ghost use Rattle.rmt_bits.specs.Bits.{bytes_of, number_of};
-ghost use Rattle.rmt_config.specs.declared.config.OutHeader.{OutHeader};
-ghost use Rattle.std.specs.List.{flat_map};
-ghost use Rattle.rmt_chip.specs.Leaving.{Answers, AnswersIf, leaving_if, no_tails, still};
-ghost use Rattle.rmt_chip.specs.Runnable.{HeaderFits, LaneFits, IsRunnable};
+ghost use Rattle.std.specs.Prelude.{◌≡◌, [], ◌+◌, ◌-◌, ◌*◌, ◌<◌, ◌≤◌, ◌++◌, length, take, drop, min, map, All, slice_index};
+ghost use Rattle.std.specs.List.{flat_map, zip};
+ghost use Rattle.rmt_config.specs.declared.tails.TailAt.{TailAt as TailAtOf};
+ghost use Rattle.rmt_config.specs.declared.config.OutHeader.{OutHeader as OutHeaderOf};
+ghost use Rattle.rmt_config.specs.ChipRun.{header_bytes, sent_bytes, tail_bytes, finished};
+ghost use Rattle.rmt_chip.specs.FrameList.{frame_at};
+ghost use Rattle.rmt_chip.specs.Leaving.{Answers, AnswersIf, leaving_if, headers_sent, still};
+ghost use Rattle.rmt_chip.specs.Runnable.{HeaderFits, IsRunnable};
+ghost use Rattle.rmt_chip.specs.Tails.{tails_len};
 
+use crate::frames::Frames;
 use crate::lanes::lane;
-use crate::place::{Parsed, Place};
+use crate::out::Out;
+use crate::place::Place;
 use rmt_bits::answer::Verdict;
-use rmt_bits::bits::bytes_of_bits;
-use rmt_bits::lane::Lane;
 use rmt_config::config::{Config, OutHeader};
+use rmt_config::tails::Tails;
 use rmt_config::vector::Vector;
-use std::alloc::AllocError;
+use rmt_ptcam::parse::Parsed;
 
-/// Writes the lanes of a header, the first one highest, into that many bytes, which are all 0.
-fn fill(buffer: &mut [u8], vector: &Vector, pieces: &[Lane])
-    requires fit { All LaneFits pieces.now }
-    requires whole { bits_of_lanes pieces.now ≡ 8 * length buffer.old }
-    requires short { length buffer.old ≤ 64 }
-    ensures { number_of buffer.new ≡ key_of (λ w. slice_index vector.now w) pieces.now }
+/// Adds a part of the frame in a packet slot: so many bytes from a place on, or as many as it has there.
+fn push_part(out: &mut Out, frames: &Frames, at: usize, from: u32, size: u32)
+    requires exists { at < 385 }
+    requires room { length out.old + min size (length (frame_at frames.now at) - from) ≤ 13312 }
+    ensures { out.new ≡ out.old ++ take size (drop from (frame_at frames.now at)) }
 {
-    buffer.fill(0);
-    let mut at: u32 = 0;
-    for piece in pieces {
-        let bits = lane(vector, *piece);
-        bytes_of_bits(u128::from(bits), piece.len, buffer, at);
-        at += u32::from(piece.len);
-    }
+    let len = frames.len(at);
+    let from = from.min(len);
+    out.push_frame(frames, at, from, size.min(len - from));
 }
 
-/// Adds bytes, said by their number.
-fn push_bytes(out: &mut Vec<u8>, bytes: &[u8]) -> Result<(), AllocError>
-    ensures { OnOk result (out.new.items ≡ out.old.items ++ bytes_of (length bytes.now) (number_of bytes.now)) }
-{
-    out.extend_from_slice(bytes)?;
-    Ok(())
-}
-
-/// Adds a header's bytes.
-fn push_pieces(out: &mut Vec<u8>, vector: &Vector, header: &OutHeader) -> Result<(), AllocError>
-    requires { HeaderFits header.now }
-    ensures { OnOk result (out.new.items ≡ out.old.items ++ bytes_of header.now.bytes (key_of (λ w. slice_index vector.now w) header.now.pieces)) }
-{
-    let mut buffer = [0; 64];
-    let size = usize::from(header.bytes);
-    let part = &mut buffer[..size];
-    fill(part, vector, header.pieces.as_slice());
-    push_bytes(out, part)
-}
-
-/// Adds the bytes of a header without a tail if it is valid.
-fn push_header(out: &mut Vec<u8>, vector: &Vector, header: &OutHeader) -> Result<(), AllocError>
-    requires { HeaderFits header.now }
-    ensures { OnOk result (out.new.items ≡ out.old.items ++ header_bytes (λ w. slice_index vector.now w) header.now []) }
+/// Adds the bytes of a header and its tail if it is valid.
+fn push_header(
+    out: &mut Out,
+    vector: &Vector,
+    header: &OutHeader,
+    tail: (u16, u16),
+    frames: &Frames,
+    at: usize,
+)
+    requires exists { at < 385 }
+    requires fits { HeaderFits header.now }
+    requires room { length out.old + (64 + tail.1) ≤ 13312 }
+    ensures { out.new ≡ out.old ++ header_bytes (λ w. slice_index vector.now w) header.now (take tail.1 (drop tail.0 (frame_at frames.now at))) }
 {
     if lane(vector, header.valid) == 1 {
-        return push_pieces(out, vector, header);
+        out.push_lanes(vector, header);
+        push_part(out, frames, at, u32::from(tail.0), u32::from(tail.1));
     }
-    Ok(())
 }
 
-/// Adds the bytes of all valid headers, in their order.
-fn push_headers(out: &mut Vec<u8>, vector: &Vector, headers: &[OutHeader]) -> Result<(), AllocError>
-    requires { All HeaderFits headers.now }
-    ensures { OnOk result (out.new.items ≡ out.old.items ++ flat_map (λ (h : OutHeader). header_bytes (λ w. slice_index vector.now w) h []) headers.now) }
-{
-    for header in headers {
-        push_header(out, vector, header)?;
-    }
-    Ok(())
-}
-
-/// Adds what a packet without tails is sent as: the valid headers, and then the payload.
-fn push_sent(
-    out: &mut Vec<u8>,
+/// Adds the bytes of all valid headers, in their order, each with its tail.
+fn push_headers(
+    out: &mut Out,
     vector: &Vector,
     headers: &[OutHeader],
-    payload: &[u8],
-) -> Result<(), AllocError>
+    tails: &Tails,
+    frames: &Frames,
+    at: usize,
+)
+    requires exists { at < 385 }
     requires few { length headers.now ≤ 64 }
     requires fit { All HeaderFits headers.now }
-    ensures { OnOk result (out.new.items ≡ out.old.items ++ sent_bytes (λ w. slice_index vector.now w) headers.now no_tails payload.now) }
+    requires empty { out.old ≡ [] }
+    requires short { tails_len tails.now ≤ 9216 }
+    ensures bytes { out.new ≡ headers_sent (λ w. slice_index vector.now w) headers.now (map (tail_bytes (frame_at frames.now at)) tails.now) }
+    ensures within { length out.new ≤ 4096 + tails_len tails.now }
 {
-    push_headers(out, vector, headers)?;
-    out.extend_from_slice(payload)?;
-    Ok(())
-}
-
-/// The payload of a frame, which begins at a byte.
-fn payload_of(frame: &[u8], used: u32) -> &[u8]
-    ensures { result.now ≡ drop used frame.now }
-{
-    let start = (used as usize).min(frame.len());
-    &frame[start..]
+    for (n, header) in headers.iter().enumerate() {
+        let tail = tails.get(n as u8);
+        push_header(out, vector, header, tail, frames, at);
+    }
 }
 
 /// The answer to an accepted packet whose payload begins at a byte.
@@ -106,39 +79,46 @@ fn finish(
     config: &Config,
     place: &Place,
     used: u32,
-    out: &mut Vec<u8>,
-) -> Result<Verdict, AllocError>
+    frames: &Frames,
+    at: usize,
+    out: &mut Out,
+) -> Verdict
+    requires exists { at < 385 }
     requires fits { IsRunnable config.now }
-    requires empty { out.old.items ≡ [] }
-    ensures { IfOk result (λ verdict. Answers (finished config.now no_tails (drop used place.now.frame.items) (still place.now.vector)) verdict out.new.items) }
+    requires empty { out.old ≡ [] }
+    requires short { tails_len place.now.tails + (length (frame_at frames.now at) - used) ≤ 9216 }
+    ensures { Answers (finished config.now (map (tail_bytes (frame_at frames.now at)) place.now.tails) (drop used (frame_at frames.now at)) (still place.now.vector)) result out.new }
 {
     if lane(&place.vector, config.drop) == 1 {
-        return Ok(Verdict::Dropped);
+        return Verdict::Dropped;
     }
-    let payload = payload_of(&place.frame, used);
-    push_sent(out, &place.vector, config.headers.as_slice(), payload)?;
-    Ok(Verdict::Sent {
+    let headers = config.headers.as_slice();
+    push_headers(out, &place.vector, headers, &place.tails, frames, at);
+    push_part(out, frames, at, used, frames.len(at));
+    Verdict::Sent {
         port: lane(&place.vector, config.out_port) as u16,
-    })
+    }
 }
 
-/// The answer to the packet in a place, and the bytes that it is sent with; None where no packet
-/// is there.
+/// The answer to the packet in slot `at`, and the bytes that it is sent with; None where no packet is there.
 pub fn leave(
     config: &Config,
     place: &Place,
-    out: &mut Vec<u8>,
-) -> Result<Option<Verdict>, AllocError>
-    requires { IsRunnable config.now }
-    ensures { IfOk result (λ answer. AnswersIf (leaving_if config.now place.now place.now.taken) answer out.new.items) }
+    frames: &Frames,
+    at: usize,
+    out: &mut Out,
+) -> Option<Verdict>
+    requires exists { at < 385 }
+    requires fits { IsRunnable config.now }
+    ensures { AnswersIf (leaving_if config.now place.now (frame_at frames.now at) place.now.taken) result out.new }
 {
     out.clear();
     if !place.taken {
-        return Ok(None);
+        return None;
     }
     match place.parsed {
-        Parsed::Short => Ok(Some(Verdict::Short)),
-        Parsed::Reject => Ok(Some(Verdict::Reject)),
-        Parsed::Accept { used } => Ok(Some(finish(config, place, used, out)?)),
+        Parsed::Short => Some(Verdict::Short),
+        Parsed::Reject => Some(Verdict::Reject),
+        Parsed::Accept { used } => Some(finish(config, place, used, frames, at, out)),
     }
 }

@@ -1,59 +1,80 @@
-//! The places of a chip in which no packet is.
+//! What a chip has before the first cycle: empty packet slots with all room, and the memories laid out.
 
-ghost use Rattle.std.specs.Prelude.{◌≡◌, false, All, IfOk, vec_len};
+ghost use Rattle.std.specs.Prelude.{◌≡◌, All, IfOk, vec_len};
+ghost use Rattle.rmt_chip.specs.declared.place.Place.{Place as PlaceOf};
+ghost use Rattle.rmt_chip.specs.Held.{IsFree};
+ghost use Rattle.rmt_chip.specs.Pending.{HasRoomFor, HaveRoomFor};
+ghost use Rattle.rmt_chip.specs.Writes.{most_ops};
 
-use crate::place::{Parsed, Place};
+use crate::pending::Pending;
+use crate::place::Place;
 use crate::ring::PLACES;
-use crate::write::Write;
-use rmt_config::config::Stage;
+use crate::room::room;
+use rmt_config::config::{Stage, Vliw};
+use rmt_config::tails::Tails;
 use rmt_config::vector::Vector;
+use rmt_ptcam::parse::Parsed;
 use std::alloc::{AllocError, Global};
 
-/// The most words that a stage writes for one packet.
-fn most_writes(stage: &Stage) -> usize {
-    let mut count: usize = 0;
-    for instruction in stage.code.as_slice() {
-        count = count.saturating_add(instruction.ops.len());
-    }
-    count
-}
-
-/// Room for what each of 32 stages writes for one packet.
-fn room_by_stage(alloc: Global, stages: &[Stage]) -> Result<Vec<Vec<Write>>, AllocError>
-    ensures { IfOk result (λ due. vec_len due ≡ 32) }
+/// The most operations that an instruction has.
+fn most_operations(code: &[Vliw]) -> usize
+    ensures { result ≡ most_ops code.now }
 {
-    let mut due = Vec::with_capacity(alloc, 32)?;
-    for k in 0..32 {
-        let count = if k < stages.len() {
-            most_writes(&stages[k])
-        } else {
-            0
-        };
-        due.push(Vec::with_capacity(alloc, count)?)?;
+    let mut most: usize = 0;
+    for instruction in code {
+        most = most.max(instruction.ops.len());
     }
-    Ok(due)
+    most
 }
 
-/// A place without a packet.
+/// Room for what a stage keeps for one packet.
+fn nothing_kept(alloc: Global, stage: &Stage) -> Result<Pending, AllocError>
+    ensures { IfOk result (λ pending. HasRoomFor stage.now pending) }
+{
+    let units = stage.units.len();
+    let Some(writes) = units.checked_mul(most_operations(stage.code.as_slice())) else {
+        return Err(AllocError);
+    };
+    Ok(Pending {
+        looked: room(alloc, stage)?,
+        running: Vec::with_capacity(alloc, units)?,
+        due: Vec::with_capacity(alloc, writes)?,
+    })
+}
+
+/// Room for what each stage keeps for one packet.
+fn nothing_pending(alloc: Global, stages: &[Stage]) -> Result<Vec<Pending>, AllocError>
+    ensures { IfOk result (λ pending. HaveRoomFor stages.now pending.items) }
+{
+    let mut pending = Vec::with_capacity(alloc, stages.len())?;
+    for stage in stages {
+        pending.push(nothing_kept(alloc, stage)?)?;
+    }
+    Ok(pending)
+}
+
+/// A packet slot without a packet.
 fn empty_place(alloc: Global, stages: &[Stage]) -> Result<Place, AllocError>
-    ensures { IfOk result (λ place. place.taken ≡ false) }
+    ensures free { IfOk result (λ place. IsFree place) }
+    ensures room { IfOk result (λ place. HaveRoomFor stages.now place.pending.items) }
 {
     Ok(Place {
         taken: false,
         number: 0,
-        frame: Vec::new(alloc),
-        parsed: Parsed::Short,
+        size: 0,
+        parsed: Parsed::Reject,
         vector: Vector::new(),
+        tails: Tails::new(),
         outcomes: [0; 256],
-        running: Vec::with_capacity(alloc, 32)?,
-        due: room_by_stage(alloc, stages)?,
+        pending: nothing_pending(alloc, stages)?,
     })
 }
 
-/// The 385 places of a chip, all without a packet.
+/// The 385 packet slots of a chip, all without a packet.
 pub fn all_places(alloc: Global, stages: &[Stage]) -> Result<Vec<Place>, AllocError>
     ensures full { IfOk result (λ places. vec_len places ≡ 385) }
-    ensures empty { IfOk result (λ places. All (λ place. place.taken ≡ false) places.items) }
+    ensures free { IfOk result (λ places. All IsFree places.items) }
+    ensures room { IfOk result (λ places. All (λ (p : PlaceOf). HaveRoomFor stages.now p.pending.items) places.items) }
 {
     let mut places = Vec::with_capacity(alloc, PLACES)?;
     for _at in 0..PLACES {

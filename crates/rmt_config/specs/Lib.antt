@@ -20,3 +20,4 @@ pub mod LimitSteps
 pub mod Spells
 pub mod Layouts
 pub mod MemoryRules
+pub mod Agreement

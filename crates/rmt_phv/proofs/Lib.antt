@@ -1,5 +1,8 @@
 pub mod Examples
-pub mod Taking
+pub mod SetLaws
+pub mod WriterLaws
+pub mod StandingLaws
 pub mod Packed
-pub mod FieldCount
+pub mod PairLaws
 pub mod PackingLaws
+pub mod FieldCount

@@ -1,7 +1,10 @@
 -- How the fields of a program are packed into the words of the header vector.
-use Rattle.std.specs.Prelude.{ℕ, ◌+◌, ◌-◌, ◌/◌, ◌%◌, List, [], ◌∷◌, ◌++◌, Bool, not, ◌==◌, if◌then◌else◌, nat_le, Option, Some, None, option_map, find, replicate, Result, Ok, Err}
+use Rattle.std.specs.Prelude.{ℕ, ◌+◌, ◌-◌, ◌/◌, ◌%◌, List, [], ◌∷◌, ◌++◌, Bool, not, ◌&&◌, ◌==◌, if◌then◌else◌, nat_le, Option, Some, None, option_map, find, map, replicate, sum_by, Result, Ok, Err}
 use Rattle.std.specs.List.{list_any, range_with_len}
+use Rattle.rmt_bits.specs.Words.{word_size}
 use Rattle.rmt_bits.specs.declared.lane.Lane.{Lane}
+use Rattle.rmt_ast.specs.declared.program.Action.{Action}
+use Rattle.rmt_ast.specs.declared.program.Assign.{Assign}
 use Rattle.rmt_ast.specs.declared.program.Field.{Field}
 use Rattle.rmt_ast.specs.declared.program.Program.{Program}
 use Rattle.rmt_phv.specs.declared.fault.PhvFull.{PhvFull}
@@ -24,36 +27,58 @@ class_of len = if nat_le len 8 then 8 else if nat_le len 16 then 16 else 32
 abbrev pub first_word : ℕ → ℕ
 first_word len = if nat_le len 8 then 0 else if nat_le len 16 then 64 else 160
 
--- the words that hold a piece: those of the least class that does, then those of the greater ones
+-- the words that a piece tries in turn: those of the least class that holds it, then those of the greater ones
 abbrev pub words_for : ℕ → List ℕ
 words_for len = range_with_len (first_word len) (224 - first_word len)
 
--- no lane stands in a word; one that holds a piece has no room for another
-abbrev pub is_free : List Lane → ℕ → Bool
-is_free lanes word = not (list_any (λ (l : Lane). l.word == word) lanes)
+-- a piece that stands: the field's number and where it lies
+pub record Piece : Type 0 where
+  pub field : ℕ
+  pub lane : Lane
 
--- the lane of a piece: the low bits of the first word that is free
-abbrev pub lane_for : List Lane → ℕ → Option Lane
-lane_for lanes len = option_map (λ word. record { word = word; low = 0; len = len }) (find (is_free lanes) (words_for len))
+-- an action assigns a field
+abbrev pub writes : Action → ℕ → Bool
+writes a f = list_any (λ (x : Assign). x.dest == f) a.assigns
 
--- The lanes of some pieces, one after another, beside the lanes that stand. Err has the first piece that finds no word.
+-- a word holds a piece of a field that passes the test
+abbrev pub holds : (ℕ → Bool) → List Piece → ℕ → Bool
+holds test taken word = list_any (λ (x : Piece). (x.lane.word == word) && test x.field) taken
+
+-- the lowest free bit of a word, whose pieces stand from bit 0 on without a gap
+abbrev pub free_bit : List Piece → ℕ → ℕ
+free_bit taken word = sum_by (λ (x : Piece). if x.lane.word == word then x.lane.len else 0) taken
+
+-- Word w serves a piece of field f: it has room, and holds no piece of f, nor one of a field that some action writes together with f.
+abbrev pub serves : Program → ℕ → List Piece → ℕ → ℕ → Bool
+serves p f taken len w =
+    nat_le (free_bit taken w + len) (word_size w) && not (holds (λ g. g == f) taken w) && not (list_any (λ (a : Action). writes a f && holds (writes a) taken w) p.actions)
+
+-- the lane of a piece: the lowest free bits of the first word that serves
+abbrev pub lane_for : Program → ℕ → List Piece → ℕ → Option Lane
+lane_for p f taken len = option_map (λ word. record { word = word; low = free_bit taken word; len = len }) (find (serves p f taken len) (words_for len))
+
+-- the pieces of field f at these lanes
+abbrev pub pieces_at : ℕ → List Lane → List Piece
+pieces_at f lanes = map (λ (lane : Lane). record { field = f; lane = lane }) lanes
+
+-- The lanes of some pieces of field f, one after another, beside the pieces that stand. Err has the first piece that no word serves.
 abbrev pub lane_then : ℕ → Option Lane → (Lane → Result (List Lane) ℕ) → Result (List Lane) ℕ
 lane_then len None rest = Err len
 lane_then len (Some lane) rest = map_ok (λ lanes. lane ∷ lanes) (rest lane)
 
-abbrev pub lanes_for : List Lane → List ℕ → Result (List Lane) ℕ
-lanes_for lanes [] = Ok []
-lanes_for lanes (len ∷ lens) = lane_then len (lane_for lanes len) (λ lane. lanes_for (lanes ++ lane ∷ []) lens)
+abbrev pub lanes_for : Program → ℕ → List Piece → List ℕ → Result (List Lane) ℕ
+lanes_for p f taken [] = Ok []
+lanes_for p f taken (len ∷ lens) = lane_then len (lane_for p f taken len) (λ lane. lanes_for p f (taken ++ pieces_at f (lane ∷ [])) lens)
 
--- The lanes of some fields, the first of which has the number n, beside the lanes that stand.
+-- The lanes of some fields, the first of which has the number f, beside the pieces that stand.
 abbrev pub field_then : ℕ → Result (List Lane) ℕ → (List Lane → Result (List (List Lane)) PhvFull) → Result (List (List Lane)) PhvFull
-field_then n (Err piece) rest = Err (At n (class_of piece))
-field_then n (Ok own) rest = map_ok (λ places. own ∷ places) (rest own)
+field_then f (Err piece) rest = Err (At f (class_of piece))
+field_then f (Ok own) rest = map_ok (λ places. own ∷ places) (rest own)
 
-abbrev pub places_from : ℕ → List Lane → List Field → Result (List (List Lane)) PhvFull
-places_from n lanes [] = Ok []
-places_from n lanes (f ∷ fs) = field_then n (lanes_for lanes (pieces f.width)) (λ own. places_from (n + 1) (lanes ++ own) fs)
+abbrev pub places_from : Program → ℕ → List Piece → List Field → Result (List (List Lane)) PhvFull
+places_from p f taken [] = Ok []
+places_from p f taken (x ∷ xs) = field_then f (lanes_for p f taken (pieces x.width)) (λ own. places_from p (f + 1) (taken ++ pieces_at f own) xs)
 
 -- The places of a program's fields: fields by number, pieces low first.
 abbrev pub packing : Program → Result (List (List Lane)) PhvFull
-packing p = places_from 0 [] p.fields
+packing p = places_from p 0 [] p.fields

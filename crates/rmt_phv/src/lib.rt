@@ -5,6 +5,8 @@ pub mod fault;
 pub mod pack;
 mod piece;
 pub mod places;
+pub mod sets;
 mod words;
+mod writers;
 
 pub use pack::pack_fields;

@@ -15,7 +15,8 @@ use Rattle.rmt_ptcam.specs.Needs.{place_in, lookups_of, extract_count, refusal}
 use Rattle.rmt_ptcam.specs.Plain.{plain, looked_up, extracts_of}
 use Rattle.rmt_config.specs.Parser.{parse, Accept, Reject, Short, no_tail}
 use Rattle.rmt_config.specs.ChipRun.{tail_bytes}
-use Rattle.rmt_ptcam.specs.Agreement.{lanes_of, held_in}
+use Rattle.rmt_ast.specs.Places.{lanes_of}
+use Rattle.rmt_config.specs.Agreement.{held_in}
 use Rattle.rmt_ast.specs.Walk.{walk}
 use Rattle.rmt_ast.specs.Walk as walks
 

@@ -26,9 +26,9 @@ use Rattle.rmt_config.specs.declared.config.TailOf.{TailOf}
 use Rattle.rmt_config.specs.declared.config.Extract.TheVariants.{Bits, One}
 use Rattle.rmt_config.specs.ParserForm.{extract_is_formed}
 use Rattle.rmt_config.specs.LaneForm.{lane_is_formed, bits_of_lanes}
-use Rattle.rmt_ptcam.specs.Agreement.{lanes_of}
+use Rattle.rmt_ast.specs.Places.{lanes_of}
 use Rattle.rmt_ptcam.specs.Fitting.{IsEntry, IsTailOf, IsParser}
-use Rattle.rmt_ptcam.specs.Places.{KeepsApart}
+use Rattle.rmt_phv.specs.Places.{KeepsApart}
 use Rattle.rmt_ptcam.specs.Needs.{place_in, entry_count}
 use Rattle.rmt_ptcam.specs.Plain.{bits_from, lanes_in_order, extracts_of, entry_to, entry_of_case, entries_of, entries_from, tail_at, tails_for, tails_from, plain}
 use Rattle.rmt_ptcam.proofs.PlainLaws.{bits_of_lanes-append, lanes_bits, place_within}
@@ -101,7 +101,7 @@ bits_formed need from (l ∷ ls) few lie within =
     (bits_formed need (from + l.len) ls few (All-tail LiesInWord l ls lie) (omega (arith, all, one, within)))
 
 -- a field of one bit has lanes of one bit
-lens_at : (places : List (List Lane)) (fs : List Field) (f : ℕ) (x : Field) → lengths_of places ≡ map (λ (y : Field). pieces y.width) fs → slice_get fs f ≡ Some x → map (λ (l : Lane). l.len) (lanes_of places f) ≡ pieces x.width
+pub lens_at : (places : List (List Lane)) (fs : List Field) (f : ℕ) (x : Field) → lengths_of places ≡ map (λ (y : Field). pieces y.width) fs → slice_get fs f ≡ Some x → map (λ (l : Lane). l.len) (lanes_of places f) ≡ pieces x.width
 lens_at places [] f x cut is = absurd cc
 lens_at [] (y ∷ fs) f x cut is = absurd cc
 lens_at (ls ∷ places) (y ∷ fs) zero x cut is =
@@ -143,6 +143,9 @@ module _ (p : Program) (places : List (List Lane)) where
       All-append P (map (entry_of_case p places n h) h.cases) (entry_to places n h 0 0 h.other ∷ [])
       (All-map P (entry_of_case p places n h) h.cases (λ k d lt. each _ _ _))
       (All-cons P (entry_to places n h 0 0 h.other) [] (each 0 0 h.other) (All-nil P))
+
+  pub length-entries_of : (n : ℕ) (h : Header) → length (entries_of p places n h) ≡ entry_count h
+  length-entries_of n h = length-append (map (entry_of_case p places n h) h.cases) _ ∙ ap (λ k. k + 1) (length-map h.cases _)
 
   states_from : (n : ℕ) (hs : List Header) → All (λ (e : ParserEntry). n ≤ e.state) (entries_from p places n hs)
   states_from n [] = All-nil (λ (e : ParserEntry). n ≤ e.state)
@@ -198,7 +201,7 @@ module _ (p : Program) where
   tails_for_sorted n h a None = λ i j d le lt. absurd (omega (arith, lt))
   tails_for_sorted n h a (Some t) = range_sorted n h t a (entry_count h)
 
-  tails_least : (n a : ℕ) (hs : List Header) → All (λ (x : TailOf). a ≤ x.entry) (tails_from p n a hs)
+  pub tails_least : (n a : ℕ) (hs : List Header) → All (λ (x : TailOf). a ≤ x.entry) (tails_from p n a hs)
   tails_least n a [] = All-nil (λ (x : TailOf). a ≤ x.entry)
   tails_least n a (h ∷ hs) =
       All-append (λ (x : TailOf). a ≤ x.entry) (tails_for p n h a h.tail) (tails_from p (n + 1) (a + entry_count h) hs)
@@ -212,7 +215,7 @@ module _ (p : Program) where
       (tails_for_all (λ (x : TailOf). x.entry ≤ a + entry_count h) n h a h.tail (λ t is. range_most n h t a (entry_count h) (a + entry_count h) (omega arith)))
       (tails_least (n + 1) (a + entry_count h) hs) (tails_for_sorted n h a h.tail) (by_entry (n + 1) (a + entry_count h) hs)
 
-All-between : (P : ℕ → Type 0) (a c : ℕ) → ((w : ℕ) → a ≤ w → w < a + c → P w) → All P (range_with_len a c)
+pub All-between : (P : ℕ → Type 0) (a c : ℕ) → ((w : ℕ) → a ≤ w → w < a + c → P w) → All P (range_with_len a c)
 All-between P a zero h = All-nil P
 All-between P a (suc c) h =
     All-cons P a (range_with_len (a + 1) c) (h a (omega arith) (omega arith)) (All-between P (a + 1) c (λ w from lt. h w (omega (arith, from)) (omega (arith, lt))))
@@ -222,21 +225,18 @@ pub record HasTail (p : Program) (h : Header) : Type 0 where
   pub tail : IfSome h.tail (IsTail p h.fields)
   pub whole : bits_of p h.fields ≡ 8 * h.bytes
 
-tail_of_header : (p : Program) (h : Header) (t : Tail) (o : Option Tail) → o ≡ Some t → IfSome o (IsTail p h.fields) → IsTail p h.fields t
+pub tail_of_header : (p : Program) (h : Header) (t : Tail) (o : Option Tail) → o ≡ Some t → IfSome o (IsTail p h.fields) → IsTail p h.fields t
 tail_of_header p h t None e told = absurd cc
 tail_of_header p h t (Some u) e told = let same : u ≡ t = cc in subst (IsTail p h.fields) same told
 
 module _ (p : Program) (places : List (List Lane)) (parser : ParserConfig) where
-  length-entries_of : (n : ℕ) (h : Header) → length (entries_of p places n h) ≡ entry_count h
-  length-entries_of n h = length-append (map (entry_of_case p places n h) h.cases) _ ∙ ap (λ k. k + 1) (length-map h.cases _)
-
   -- the entries of a header stand behind those before it
   needs_at : (n a w : ℕ) (front rest : List ParserEntry) (h : Header) (e : ParserEntry) → parser.entries ≡ front ++ (entries_of p places n h ++ rest) → length front ≡ a → a ≤ w → w < a + entry_count h
       → slice_get parser.entries w ≡ Some e → e.need ≡ h.bytes
   needs_at n a w front rest h e all long from lt found =
       let k = w - a in
       let at : length front + k ≡ w = omega (arith, long, from) in
-      let count = length-entries_of n h in
+      let count = length-entries_of p places n h in
       let inside : k < length (entries_of p places n h) = omega (arith, count, from, lt) in
       let here : slice_get (entries_of p places n h) k ≡ Some e =
       sym (slice_get-front (entries_of p places n h) rest k inside) ∙ sym (slice_get-end front (entries_of p places n h ++ rest) k)
@@ -249,7 +249,7 @@ module _ (p : Program) (places : List (List Lane)) (parser : ParserConfig) where
   tails_fit n a front (h ∷ hs) all long few told =
       let this : HasTail p h = All-head (HasTail p) h hs told in
       let rest = entries_from p places (n + 1) hs in
-      let count = length-entries_of n h in
+      let count = length-entries_of p places n h in
       let parts = length-append front (entries_of p places n h) in
       All-append (IsTailOf parser) (tails_for p n h a h.tail) (tails_from p (n + 1) (a + entry_count h) hs)
       (tails_for_all p (IsTailOf parser) n h a h.tail (λ t is.

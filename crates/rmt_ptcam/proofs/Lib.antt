@@ -4,5 +4,11 @@ pub mod VectorLaws
 pub mod NeedLaws
 pub mod PlainLaws
 pub mod FormLaws
-pub mod PlaceLaws
+pub mod BitRunLaws
+pub mod ByteRunLaws
+pub mod CaseLaws
+pub mod HoldLaws
+pub mod EntryLaws
+pub mod FieldLaws
+pub mod AgreementLaws
 mod Examples

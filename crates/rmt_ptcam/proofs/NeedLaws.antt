@@ -132,7 +132,7 @@ refused_none p n entries le so_far counted few =
     ∙ ap (λ (b : Bool). cond b (Some (ParserFull (min (entries_in p.headers) 4294967295))) None) under
 
 -- a program that is not refused has few entries
-either_none : (a b : Option ParserFault) → option_or a b ≡ None → b ≡ None
+pub either_none : (a b : Option ParserFault) → option_or a b ≡ None → b ≡ None
 either_none None b e = e
 either_none (Some f) b e = absurd cc
 

@@ -29,8 +29,8 @@ use Rattle.rmt_config.specs.declared.config.ParserEntry.{ParserEntry}
 use Rattle.rmt_config.specs.LaneForm.{bits_of_lanes}
 use Rattle.rmt_config.specs.Parser.{lookup_value}
 use Rattle.rmt_ptcam.specs.Needs.{place_in, entry_count, entries_in, refusal}
-use Rattle.rmt_ptcam.specs.Places.{KeepsApart}
-use Rattle.rmt_ptcam.specs.Agreement.{lanes_of}
+use Rattle.rmt_phv.specs.Places.{KeepsApart}
+use Rattle.rmt_ast.specs.Places.{lanes_of}
 use Rattle.rmt_ptcam.specs.Plain.{lanes_in_order, bits_from, with_field, state_of, looked_up, IsNear, tail_at, tails_for, tails_from, entry_of_case, entries_of, entries_from, plain}
 use Rattle.rmt_ptcam.proofs.NeedLaws.{filter_range_more, fits_in}
 
@@ -39,7 +39,7 @@ use Rattle.rmt_ptcam.proofs.NeedLaws.{filter_range_more, fits_in}
 pub bits_of-cons : (p : Program) (g : ℕ) (gs : List ℕ) → bits_of p (g ∷ gs) ≡ width_of p g + bits_of p gs
 bits_of-cons p g gs = sum_by-cons (λ (n : ℕ). n) (width_of p g) (map (width_of p) gs)
 
-contains_tail : (g : ℕ) (gs : List ℕ) (f k : ℕ) → g ≢ f → k < length (g ∷ gs) → slice_index_or (g ∷ gs) k f ≡ f → Contains gs f
+pub contains_tail : (g : ℕ) (gs : List ℕ) (f k : ℕ) → g ≢ f → k < length (g ∷ gs) → slice_index_or (g ∷ gs) k f ≡ f → Contains gs f
 contains_tail g gs f zero other lt is = absurd (other is)
 contains_tail g gs f (suc k) other lt is = (k, omega (arith, lt), is)
 

@@ -1,6 +1,4 @@
-pub mod Agreement
 pub mod Fitting
 pub mod Parsing
 pub mod Needs
 pub mod Plain
-pub mod Places

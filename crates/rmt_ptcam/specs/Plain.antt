@@ -20,7 +20,7 @@ use Rattle.rmt_config.specs.declared.config.Extract.{Extract}
 use Rattle.rmt_config.specs.declared.config.Extract.TheVariants.{Bits, One}
 use Rattle.rmt_config.specs.declared.config.TailOf.{TailOf}
 use Rattle.rmt_config.specs.Parser.{lookup_value}
-use Rattle.rmt_ptcam.specs.Agreement.{lanes_of}
+use Rattle.rmt_ast.specs.Places.{lanes_of}
 use Rattle.rmt_ptcam.specs.declared.fault.ParserFault.{ParserFault}
 use Rattle.rmt_ptcam.specs.Needs.{place_in, lookups_of, entry_count, refusal, unless}
 

@@ -5,7 +5,7 @@ ghost use Rattle.rmt_bits.specs.declared.lane.Lane.{Lane};
 ghost use Rattle.rmt_config.specs.declared.config.Extract.{Extract};
 ghost use Rattle.rmt_config.specs.declared.config.Extract.TheVariants.{One};
 ghost use Rattle.rmt_config.specs.LaneForm.{bits_of_lanes};
-ghost use Rattle.rmt_ptcam.specs.Agreement.{lanes_of};
+ghost use Rattle.rmt_ast.specs.Places.{lanes_of};
 ghost use Rattle.rmt_ptcam.specs.Plain.{lanes_in_order, bits_from, extracts_of};
 
 use rmt_ast::program::Header;

@@ -6,7 +6,8 @@ ghost use Rattle.rmt_ptcam.specs.declared.fault.ParserFault.TheVariants.{NoMemor
 ghost use Rattle.rmt_ptcam.specs.Needs.{lookups_of};
 ghost use Rattle.rmt_ptcam.specs.Plain.{planned, state_of as state_of_header};
 ghost use Rattle.rmt_ptcam.specs.Fitting.{IsParser};
-ghost use Rattle.rmt_ptcam.specs.Places.{KeepsApart};
+ghost use Rattle.rmt_phv.specs.Places.{KeepsApart};
+ghost use Rattle.rmt_config.specs.Agreement.{AgreesWith};
 
 use crate::entries::{push_entries, push_tails};
 use crate::fault::ParserFault;
@@ -55,6 +56,9 @@ pub fn plain_parser(
     ensures made { result ≢ Err NoMemory → result ≡ planned program.now places.now }
     // The chip can run it.
     ensures runs { IfOk result IsParser }
+    // The chip's parse of each frame, whole or cut, ends as the walk of the program's parse graph does: too short, rejected, or
+    // accepted with the same values of the fields in their places, the same tails, and the payload at the same byte.
+    ensures agrees { IfOk result (λ parser. AgreesWith parser places.now program.now) }
 {
     parser_need(program)?;
     let mut states = Sequence::new(alloc);

@@ -9,7 +9,7 @@ type Change = (usize, usize, &'static [u8], (u8, u8, u8, u32));
 
 /// Two stages: `meta.x = h.f`; then a table exact on `meta.x` with the entry `7 go 5` in cell 5,544, and one that
 /// clears `meta.x`.
-const STRICT_AND_WEAK: [u8; 220] = [
+pub const STRICT_AND_WEAK: [u8; 220] = [
     0x52, 0x4d, 0x54, 0x49, 0, 1, 0, 0x40, 0, 9, 0x41, 0, 9, 0, 0, 1, 1, 0, 1, 1, 1, 1, 1, 0, 8, 0,
     1, 0, 0, 1, 0, 0, 0, 0, 0, 0, 0, 0, 0, 1, 1, 0, 2, 1, 0, 1, 1, 0, 0, 0, 1, 0, 8, 2, 0, 0, 1, 1,
     0, 0, 0, 0, 1, 0, 0, 0, 0, 0, 0, 0, 0, 0, 1, 2, 0, 8, 0, 0, 1, 0, 2, 0, 0, 0, 0, 0, 0, 0, 0, 0,
@@ -21,7 +21,7 @@ const STRICT_AND_WEAK: [u8; 220] = [
 ];
 
 /// The same without an entry.
-const WITHOUT_ENTRIES: [u8; 178] = [
+pub const WITHOUT_ENTRIES: [u8; 178] = [
     0x52, 0x4d, 0x54, 0x49, 0, 1, 0, 0x40, 0, 9, 0x41, 0, 9, 0, 0, 1, 1, 0, 1, 1, 1, 1, 1, 0, 8, 0,
     1, 0, 0, 1, 0, 0, 0, 0, 0, 0, 0, 0, 0, 1, 1, 0, 2, 1, 0, 1, 1, 0, 0, 0, 1, 0, 8, 2, 0, 0, 1, 1,
     0, 0, 0, 0, 1, 0, 0, 0, 0, 0, 0, 0, 0, 0, 1, 2, 0, 8, 0, 0, 1, 0, 2, 0, 0, 0, 0, 0, 0, 0, 0, 0,
@@ -32,7 +32,7 @@ const WITHOUT_ENTRIES: [u8; 178] = [
 
 /// A parser of two states; a gate on the second header, a ternary table of 17 bits in two parts behind its one arm,
 /// with three entries, and a table without memory behind the other.
-const GATED: [u8; 409] = [
+pub const GATED: [u8; 409] = [
     0x52, 0x4d, 0x54, 0x49, 0, 1, 1, 0x40, 0, 9, 0x41, 0, 9, 0, 0, 1, 2, 0, 1, 1, 1, 1, 1, 0, 8, 0,
     2, 1, 2, 1, 0x42, 0, 0x10, 0, 2, 1, 0, 0, 0, 3, 0, 1, 0, 0, 0, 0xff, 0, 0, 0, 1, 1, 2, 1, 2, 1,
     0, 1, 1, 0, 0, 0, 1, 0, 8, 0, 0, 0, 0, 0, 0, 0, 0, 0, 1, 1, 0, 2, 1, 0, 1, 1, 0, 0, 0, 1, 0, 8,

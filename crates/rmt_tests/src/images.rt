@@ -4,7 +4,7 @@ use std::alloc::Global;
 use std::test::*;
 
 /// The smallest image: one header of a byte, and one table that sends each packet to port 1.
-const IMAGE: [u8; 95] = [
+pub const IMAGE: [u8; 95] = [
     0x52, 0x4d, 0x54, 0x49, 0, 1, 0, 0x40, 0, 9, 0x41, 0, 9, 0, 0, 1, // letters, version, seed, ports
     1, 1, 0, 1, 1, 1, 2, 0, 8, // the header
     0, 1, 0, // the state

@@ -8,8 +8,6 @@ mod cells;
 #[cfg(test)]
 mod check;
 #[cfg(test)]
-mod chip;
-#[cfg(test)]
 mod entries;
 #[cfg(test)]
 mod image_rules;
@@ -17,6 +15,8 @@ mod image_rules;
 mod images;
 #[cfg(test)]
 mod loading;
+#[cfg(test)]
+mod memories;
 #[cfg(test)]
 mod outside;
 #[cfg(test)]

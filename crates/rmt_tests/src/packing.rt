@@ -1,15 +1,30 @@
 use rmt_ast::name::Name;
-use rmt_ast::program::{Field, Program};
+use rmt_ast::program::{Action, Assign, Expr, Field, Leaf, Program};
+use rmt_bits::answer::Bytes;
 use rmt_bits::sequence::Sequence;
 use rmt_phv::fault::PhvFull;
 use rmt_phv::pack_fields;
 use rmt_phv::places::Places;
-use std::alloc::Global;
+use std::alloc::{AllocError, Global};
 use std::test::*;
 
-/// The places of fields of these widths, of which there are fewer than 256.
-fn places(alloc: Global, widths: &[u8]) -> Result<Places, PhvFull> {
-    let mut fields = Vec::new(alloc);
+/// An action that sets these fields to 0.
+fn action(alloc: Global, fields: &[u32]) -> Result<Action, AllocError> {
+    let mut assigns = Sequence::new(alloc);
+    for field in fields {
+        let expr = Expr::One(Leaf::Number(0));
+        assigns.push(Assign { dest: *field, expr })?;
+    }
+    Ok(Action {
+        name: Name::new(alloc),
+        params: Bytes::new(alloc),
+        assigns,
+    })
+}
+
+/// The places of fields of these widths, of which there are fewer than 256, under actions that set these fields.
+fn places(alloc: Global, widths: &[u8], actions: &[&[u32]]) -> Result<Places, PhvFull> {
+    let mut fields = Sequence::new(alloc);
     for width in widths {
         let name = Name::new(alloc);
         fields.push(Field {
@@ -17,46 +32,86 @@ fn places(alloc: Global, widths: &[u8]) -> Result<Places, PhvFull> {
             width: *width,
         })?;
     }
-    if fields.len() > 255 {
+    let mut all = Sequence::new(alloc);
+    for fields in actions {
+        all.push(action(alloc, fields)?)?;
+    }
+    if fields.len() > 255 || all.len() > 256 {
         return Err(PhvFull::NoMemory);
     }
     let program = Program {
-        fields: Sequence::from_vec(fields),
+        fields,
         headers: Sequence::new(alloc),
-        actions: Sequence::new(alloc),
+        actions: all,
         tables: Sequence::new(alloc),
         nodes: Sequence::new(alloc),
     };
     pack_fields(alloc, &program)
 }
 
-/// Two ports, a drop, a header of one byte, and 70 bits of metadata.
+/// Widths of fields, the fields that each action sets, and of each piece the field, the word, the lowest bit and the length.
+type Row<'a> = (&'a [u8], &'a [&'a [u32]], &'a [(usize, u8, u8, u8)]);
+
+/// The fields of the smallest program; two fields of one word, and two that one action sets; two pieces of one field; a
+/// rest that shares a word.
+const ROWS: [Row<'static>; 5] = [
+    (
+        &[9, 9, 1, 1, 8],
+        &[&[1]],
+        &[
+            (0, 64, 0, 9),
+            (1, 65, 0, 9),
+            (2, 0, 0, 1),
+            (3, 0, 1, 1),
+            (4, 1, 0, 8),
+        ],
+    ),
+    (
+        &[9, 9, 1, 1, 2, 2, 4],
+        &[&[4], &[5]],
+        &[
+            (0, 64, 0, 9),
+            (1, 65, 0, 9),
+            (2, 0, 0, 1),
+            (3, 0, 1, 1),
+            (4, 0, 2, 2),
+            (5, 0, 4, 2),
+            (6, 1, 0, 4),
+        ],
+    ),
+    (
+        &[2, 2, 2],
+        &[&[0, 1], &[1, 1]],
+        &[(0, 0, 0, 2), (1, 1, 0, 2), (2, 0, 2, 2)],
+    ),
+    (
+        &[70, 1, 34],
+        &[],
+        &[
+            (0, 160, 0, 32),
+            (0, 161, 0, 32),
+            (0, 0, 0, 6),
+            (1, 0, 6, 1),
+            (2, 162, 0, 32),
+            (2, 1, 0, 2),
+        ],
+    ),
+    (&[], &[], &[]),
+];
+
 #[test]
-fn places_small_fields(rt: HostRuntime) -> Result<(), Fail> {
-    let places = places(rt.alloc(), &[9, 9, 1, 1, 8, 70])?;
-    let mut seen = Vec::new(rt.alloc());
-    let mut counts = Vec::new(rt.alloc());
-    for lanes in places.as_slice() {
-        counts.push(lanes.len())?;
-        for lane in lanes.as_slice() {
-            seen.push((lane.word, lane.low, lane.len))?;
+fn packs_fields(rt: HostRuntime) -> Result<(), Fail> {
+    for (widths, actions, pieces) in ROWS {
+        let places = places(rt.alloc(), widths, actions)?;
+        let mut seen = Vec::new(rt.alloc());
+        for (field, lanes) in places.as_slice().iter().enumerate() {
+            for lane in lanes.as_slice() {
+                seen.push((field, lane.word, lane.low, lane.len))?;
+            }
         }
+        assert_eq!(rt; places.len(), widths.len());
+        assert_eq!(rt; seen.as_slice(), pieces);
     }
-    assert_eq!(rt; counts.as_slice(), [1, 1, 1, 1, 1, 3].as_slice());
-    assert_eq!(rt;
-        seen.as_slice(),
-        [
-            (64, 0, 9),
-            (65, 0, 9),
-            (0, 0, 1),
-            (1, 0, 1),
-            (2, 0, 8),
-            (160, 0, 32),
-            (161, 0, 32),
-            (3, 0, 6)
-        ]
-        .as_slice()
-    );
     Ok(())
 }
 
@@ -64,12 +119,12 @@ fn places_small_fields(rt: HostRuntime) -> Result<(), Fail> {
 #[test]
 fn tells_the_65th_wide_field(rt: HostRuntime) {
     let is_told = matches!(
-        places(rt.alloc(), &[32; 65]),
+        places(rt.alloc(), &[32; 65], &[]),
         Err(PhvFull::At {
             field: 64,
             class: 32
         })
     );
     assert!(rt; is_told);
-    assert!(rt; places(rt.alloc(), &[32; 64]).is_ok());
+    assert!(rt; places(rt.alloc(), &[32; 64], &[]).is_ok());
 }

@@ -14,32 +14,32 @@ byte_of false = refl
 pub returns-in-Answers-clause-ok : goal.returns-in-Answers-clause-ok
 returns-in-Answers-clause-ok c =
     let old = c.args.run.now in
-    let left = c.in-Ok.left in
+    let left = c.clock-left.result in
     let one : c.from.result ≡ cond (is_some left) 1 0 = c.from.ensures ∙ ap bool_byte c.is_some.ensures ∙ byte_of (is_some left) in
     ok_then c.add_answer.result
     (λ line w k inputs told before now g.
-    goes_answer w k inputs (input_of c.args.frame) old _ told before now left c.clock.new.out c.bytes.result.now c.in-Answers.is c.bytes.ensures
-    (clocked_so k inputs (input_of c.args.frame) old _ left c.clock.new.out c.from.result (c.in-Ok.ensures.ok k inputs g.stands) refl refl refl one) line g)
+    goes_answer w k inputs (input_of c.args.frame) old _ told before now left c.clock-left.new.out c.bytes.result.now c.in-Answers.is c.bytes.ensures
+    (clocked_so k inputs (input_of c.args.frame) old _ left c.clock-left.new.out c.from.result (c.clock-left.ensures k inputs g.stands) refl refl refl one) line g)
     c.add_answer.ensures.line
 
 pub returns-then-run-from-clause-ok : goal.returns-then-run-from-clause-ok
 returns-then-run-from-clause-ok c =
     let old = c.args.run.now in
-    let left = c.in-Ok.left in
+    let left = c.clock-left.result in
     let one : c.from.result ≡ cond (is_some left) 1 0 = c.from.ensures ∙ ap bool_byte c.is_some.ensures ∙ byte_of (is_some left) in
     let reached : old.cycles + 1 ≡ c.in-Vectors.cycle + 1 = omega (arith, c.if-run-from.true, c.from-in-Vectors.ensures) in
     ok_then c.add_vectors.result
     (λ lines w k inputs told before now g.
-    goes_vectors w k inputs (input_of c.args.frame) old _ told before now left c.clock.new.out c.in-Vectors.cycle c.in-Vectors.is reached
-    (clocked_so k inputs (input_of c.args.frame) old _ left c.clock.new.out c.from.result (c.in-Ok.ensures.ok k inputs g.stands) refl refl refl one)
+    goes_vectors w k inputs (input_of c.args.frame) old _ told before now left c.clock-left.new.out c.in-Vectors.cycle c.in-Vectors.is reached
+    (clocked_so k inputs (input_of c.args.frame) old _ left c.clock-left.new.out c.from.result (c.clock-left.ensures k inputs g.stands) refl refl refl one)
     (λ all stands long. lines k all c.in-Vectors.cycle stands long) g)
     c.add_vectors.ensures.lines
 
 pub returns-else-run-from-clause-ok : goal.returns-else-run-from-clause-ok
 returns-else-run-from-clause-ok c = λ w k inputs told before now g.
     let old = c.args.run.now in
-    let left = c.in-Ok.left in
+    let left = c.clock-left.result in
     let one : c.from.result ≡ cond (is_some left) 1 0 = c.from.ensures ∙ ap bool_byte c.is_some.ensures ∙ byte_of (is_some left) in
     let other : old.cycles + 1 ≡ c.in-Vectors.cycle + 1 → ⊥ = λ e. absurd (omega (arith, c.if-run-from.false, c.from-in-Vectors.ensures, e)) in
-    goes_past w k inputs (input_of c.args.frame) old _ told before now left c.clock.new.out c.in-Vectors.cycle c.in-Vectors.is other
-    (clocked_so k inputs (input_of c.args.frame) old _ left c.clock.new.out c.from.result (c.in-Ok.ensures.ok k inputs g.stands) refl refl refl one) refl g
+    goes_past w k inputs (input_of c.args.frame) old _ told before now left c.clock-left.new.out c.in-Vectors.cycle c.in-Vectors.is other
+    (clocked_so k inputs (input_of c.args.frame) old _ left c.clock-left.new.out c.from.result (c.clock-left.ensures k inputs g.stands) refl refl refl one) refl g

@@ -1,12 +1,12 @@
 -- One line after another.
-use Rattle.std.proofs.Common.{◌≡◌, ◌++◌, Ok, Some, refl, arith, ◌∙◌, slice_range}
+use Rattle.std.proofs.Common.{◌≡◌, ◌++◌, List, Option, Ok, Err, Some, refl, ap, subst, append-nil, arith, ◌∙◌, slice_range}
 use Rattle.std.specs.Prelude.{map}
 use Rattle.rmt_bits.specs.Packet.{Packet}
 use Rattle.rmt_packets.specs.PacketText.{packet_of, packets_of}
 use Rattle.rmt.specs.Watching.{ran, shown}
-use Rattle.rmt.specs.Running.{said}
+use Rattle.rmt.specs.Running.{Goes, said}
 use Rattle.rmt.proofs.DrainLaws.{turned, turned_front}
-use Rattle.rmt.proofs.ReachLaws.{reached_first, reached_entered, reached_numbered, reached_more, reached_front}
+use Rattle.rmt.proofs.ReachLaws.{reached_first, reached_entered, reached_numbered, reached_more, reached_bad, reached_front}
 use Rattle.rmt.proofs.running.enter_all.Goals as goal
 
 pub returns-in_default-clause-front : goal.returns-in_default-clause-front
@@ -59,3 +59,22 @@ returns-in-Err-clause-front g c = λ t.
     reached_front c.args.watch c.args.config c.args.text.now c.loop-line.at c.loop-line.number l.next l.number line c.loop-line.run told before mid (g.O.Sink.bytes c.enter.new.out) r c.in-Some.ensures.some
     (turned_front c.args.watch c.args.config (map Some r.done) c.loop-line.run told (g.O.Sink.told c.loop-line.out) before mid _ c.loop-line.invariant.tells
     (c.in-Err.ensures.front c.args.watch c.args.config (map Some r.done) before) r.goes t)
+
+pub returns-in-Ok-Some-clause-ok : goal.returns-in-Ok-Some-clause-ok
+returns-in-Ok-Some-clause-ok g c =
+    let l = c.in-Some.line in
+    let r = c.loop-line.invariant.reached in
+    let line = slice_range c.args.text.now l.from l.to in
+    let told = g.O.Sink.told c.args.out.now in
+    let before = g.O.Sink.bytes c.args.out.now in
+    let mid = g.O.Sink.bytes c.loop-line.out in
+    let now = g.O.Sink.bytes c.enter.new.out in
+    let bad : packet_of line ≡ Err c.in-Ok-Some.code = rw c.in-Ok-Some.field-0-is at c.in-Ok-Some.ensures.says in
+    let nothing : map Some r.done ++ said (packet_of line) ≡ map Some r.done = ap (λ x. map Some r.done ++ said x) bad ∙ append-nil (map Some r.done) in
+    let goes = turned c.args.watch c.args.config (map Some r.done) (map Some r.done ++ said (packet_of line)) c.loop-line.run c.enter.new.run told (g.O.Sink.told c.loop-line.out) before mid now c.loop-line.invariant.tells
+    (c.in-Ok-Some.ensures.ok c.args.watch c.args.config (map Some r.done) before) r.goes in (
+      r.done,
+      subst (λ (xs : List (Option Packet)). Goes c.args.watch c.args.config xs c.enter.new.run told before now) nothing goes,
+      reached_bad c.args.watch c.args.config c.args.text.now c.loop-line.at c.loop-line.number l.next l.number c.in-Ok-Some.code line c.loop-line.run told before mid r c.in-Some.ensures.some bad,
+      omega (arith, r.few, c.loop-line.invariant.within, c.requires.short),
+    )

@@ -1,4 +1,4 @@
--- The chip opens on what it runs.
+-- The chip opens on each configuration of an image.
 use Rattle.rmt.specs.Promises.{MayRun}
 use Rattle.rmt.proofs.running.start.Goals as goal
 
@@ -9,7 +9,3 @@ open-requires-clause-form c = c.requires.0
 pub open-requires-clause-limits : goal.open-requires-clause-limits
 unfolding MayRun
 open-requires-clause-limits c = c.requires.1
-
-pub open-requires-clause-supported : goal.open-requires-clause-supported
-unfolding MayRun
-open-requires-clause-supported c = c.requires.2

@@ -5,7 +5,7 @@ use Rattle.rmt_chip.proofs.compute.written.Goals as goal
 
 fits : (c : goal.After-deposit) → c.deposit.result < 2 ^ word_size_of c.args.op.word
 fits c =
-    let h = deposited c.from.result c.args.op.low c.args.op.len c.from-2.result c.args.op.word c.requires.within (rw c.from.ensures c.get-old.ensures.within) (rw c.from-2.ensures c.computed-value.ensures.within) in
+    let h = deposited c.from.result c.args.op.low c.args.op.len c.from-2.result c.args.op.word c.requires.fits.within (rw c.from.ensures c.get-old.ensures.within) (rw c.from-2.ensures c.computed-value.ensures.within) in
     rw c.deposit.ensures h
 
 pub overflow_cast-result : goal.overflow_cast-result
@@ -14,4 +14,4 @@ overflow_cast-result c =
     omega arith
 
 pub invariant_of-result : goal.invariant_of-result
-invariant_of-result c = record { exists = c.requires.exists; within = fits c }
+invariant_of-result c = record { exists = c.requires.fits.exists; within = fits c }

@@ -1,27 +1,52 @@
-use Rattle.std.proofs.Common.{◌≡◌, ◌≤◌, get_or, ap, ◌∙◌, arith}
-use Rattle.std.proofs.lemmas.Result.{IfOk-weaker}
+use Rattle.std.proofs.Common.{◌≡◌, ◌≤◌, ◌++◌, ◌∷◌, [], ℕ, List, length, get_or, set, Vec, Global, sym, ap, subst, ◌∙◌, arith}
+use Rattle.std.proofs.lemmas.List.Elements.{All-set}
 use Rattle.rmt_chip.specs.declared.place.Place.{Place}
-use Rattle.rmt_chip.specs.Inputs.{input_of}
+use Rattle.rmt_chip.specs.declared.pending.Pending.{Pending}
+use Rattle.rmt_chip.specs.FrameList.{frames_of}
+use Rattle.rmt_chip.specs.Inputs.{input_of, frames_after}
+use Rattle.rmt_chip.specs.Leaving.{AnswersIf, leaving_if}
+use Rattle.rmt_chip.specs.Pending.{HaveRoomFor}
 use Rattle.rmt_chip.specs.Ring.{ring_at}
+use Rattle.rmt_chip.specs.Standing.{InFlight}
 use Rattle.rmt_chip.proofs.LatencyLaws.{latency-le}
-use Rattle.rmt_chip.proofs.WholeCycle.{cycle_right}
+use Rattle.rmt_chip.proofs.WholeCycle.{Passes, cycle_right}
 use Rattle.rmt_chip.proofs.cycle.cycle.Goals as goal
+
+pub write_all-requires-clause-room : goal.write_all-requires-clause-room
+write_all-requires-clause-room c =
+    let stages = c.args.config.now.stages in
+    All-set (λ (p : Place). HaveRoomFor stages p.pending.items) c.args.places.now c.args.newest c.enter_if.new.place
+    (subst (λ (x : Vec Pending Global). HaveRoomFor stages x.items) (sym c.enter_if.ensures.room) (c.requires.room c.args.newest c.index-places-newest.result (omega arith)))
+    c.requires.room
 
 pub place_of-last-requires-clause-age : goal.place_of-last-requires-clause-age
 place_of-last-requires-clause-age c = let most = latency-le c.args.config.now.stages c.requires.fits.stages in omega arith
 
-pub returns : goal.returns
-returns c =
+pub returns-clause-gives : goal.returns-clause-gives
+returns-clause-gives c = λ inputs before ring turn count laid flight.
     let config = c.args.config.now in
     let most = latency-le config.stages c.requires.fits.stages in
     let small : c.args.latency ≤ 384 = omega arith in
+    let at = c.place_of-last.result in
     let last = c.place_of-last.ensures.place ∙ ap (ring_at c.args.newest) c.from.ensures in
-    let place = get_or c.act_all.new.places c.place_of-last.result c.index-places-last.result in
-    let place_is : place ≡ get_or c.act_all.new.places c.place_of-last.result place = ap (λ (p : Place). get_or c.act_all.new.places c.place_of-last.result p) c.index-places-last.is in
-    IfOk-weaker c.leave.result _ _
-    (λ answer left inputs before ring turn count held.
-    cycle_right config c.requires.fits.stages.rise c.requires.fits.parser.no_tail inputs (input_of c.args.frame) before c.args.newest c.args.number c.args.latency c.place_of-last.result
-    c.args.places.now c.write_all.new.places c.read_all.new.places c.act_all.new.places c.enter_if.new.place place answer c.leave.new.out.items
-    ring c.requires.full turn count c.in_ok-enter_if.ensures c.write_all.ensures c.in_ok-read_all.ensures c.in_ok-act_all.ensures
-    c.requires.leaves small last place_is left held)
-    c.leave.ensures
+    let four = c.look_all.new.places in
+    let place = get_or four at c.index-places-last.result in
+    let place_is : place ≡ get_or four at place = ap (λ (p : Place). get_or four at p) c.index-places-last.is in
+    let frames = c.args.frames.now in
+    let many = frames.all in
+    let ok = frames.chains.ok.0 in
+    let as_many = frames.stand.as_many in
+    let all_frames : length (frames_of frames) ≡ 385 = omega arith in
+    let passes : Passes config (set c.args.places.now c.args.newest c.enter_if.new.place) c.write_all.new.places c.read_all.new.places c.act_all.new.places four c.args.newest c.args.counters.now c.act_all.new.counters = record {
+      write = c.write_all.ensures.holds;
+      read = c.read_all.ensures.holds;
+      act = c.act_all.ensures.holds;
+      look = λ item. c.look_all.ensures.holds item laid;
+    } in
+    let entered = c.enter_if.ensures.frames in
+    let left : AnswersIf (leaving_if config place (get_or (frames_after c.args.frame c.args.newest (frames_of frames)) at []) place.taken) c.leave.result c.leave.new.out =
+    subst (λ (fs : List (List ℕ)). AnswersIf (leaving_if config place (get_or fs at []) place.taken) c.leave.result c.leave.new.out) entered c.leave.ensures in
+    let given = cycle_right config c.requires.fits.stages.rise inputs c.args.frame before c.args.newest c.args.number c.args.latency at
+    c.args.places.now c.write_all.new.places c.read_all.new.places c.act_all.new.places four (frames_of frames) c.args.counters.now c.act_all.new.counters
+    c.enter_if.new.place place c.leave.result c.leave.new.out ring c.requires.full all_frames turn count c.enter_if.ensures.entered passes c.requires.leaves small last place_is left flight in
+    (subst (λ (fs : List (List ℕ)). InFlight config (inputs ++ input_of c.args.frame ∷ []) c.args.newest four fs c.act_all.new.counters) (sym entered) given.0, given.1)

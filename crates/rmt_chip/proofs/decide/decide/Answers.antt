@@ -1,48 +1,36 @@
-use Rattle.std.proofs.Common.{◌≡◌, ◌≤◌, ◌+◌, ◌*◌, ◌<◌, ◌++◌, [], ◌∷◌, ℕ, Bool, true, false, List, Vec, Global, length, get_or, set, cond, ap, sym, ◌∙◌, subst, arith}
-use Rattle.std.proofs.lemmas.Bool.{false≢true}
+use Rattle.std.proofs.Common.{◌≡◌, ◌<◌, ap, sym, ◌∙◌, subst, List, length, get_or, fold, arith}
+use Rattle.std.proofs.lemmas.List.{take_all}
+use Rattle.rmt_bits.proofs.ListLaws.{slice_get-item}
 use Rattle.rmt_config.specs.declared.config.Unit.{Unit}
-use Rattle.rmt_config.specs.declared.config.Unit.TheVariants.{Slot}
-use Rattle.rmt_chip.specs.Runnable.{is_plain}
-use Rattle.rmt_chip.proofs.DecideLaws.{deciding_more, defaults}
+use Rattle.rmt_config.specs.Life.{unit_acts}
+use Rattle.rmt_chip.specs.Ran.{HaveDone}
+use Rattle.rmt_chip.proofs.DecidingLaws.{before_all, upto_more}
 use Rattle.rmt_chip.proofs.decide.decide.Goals as goal
-use Rattle.rmt_chip.proofs.decide.decide.Goals.{in-Slot, then-misses+in_ok-push, else-misses, in_default}
 
-pub loop-unit-preserved : goal.loop-unit-preserved
-loop-unit-preserved c =
-    let i = c.loop-unit.unit-index in
+pub loop-i-preserved : goal.loop-i-preserved
+loop-i-preserved c =
     let units = c.args.stage.now.units in
-    let same = c.as_slice-unit-items.ensures in
-    let unit = c.unit-item.result in
-    let inside : i < length units = rw same at c.loop-unit-test.true in
-    let at : get_or units i unit ≡ unit = sym (c.unit-item.is ∙ ap (λ (us : List Unit). get_or us i unit) same) in
-    let plain : is_plain unit ≡ true = subst (λ (u : Unit). is_plain u ≡ true) at (c.requires.fits.plain i unit inside) in
-    elim c.match-unit.branch [
-      | in-Slot w ↦
-          let slot = w.in-Slot.slot in
-          let is_slot : get_or units i unit ≡ Slot slot = at ∙ w.in-Slot.is in
-          let plain_slot : is_plain (Slot slot) ≡ true = subst (λ (u : Unit). is_plain u ≡ true) w.in-Slot.is plain in
-          let base : c.match-unit.base ≡ c.loop-unit.base + slot.actions + 1 = omega arith in
-          let small : c.match-unit.base ≤ 256 * (i + 1) = omega arith in
-          let nodes : length c.match-unit.outcomes ≡ 256 = c.match-unit.auto.outcomes ∙ c.loop-unit.invariant.all_nodes in
-          let outcomes : (b : Bool) → defaults slot c.loop-unit.outcomes ≡ b → c.match-unit.outcomes ≡ cond b (set c.loop-unit.outcomes slot.node 1) c.loop-unit.outcomes =
-          λ b e. w.outcomes-is ∙ w.misses.ensures.outcomes ∙ ap (λ (x : Bool). cond x (set c.loop-unit.outcomes slot.node 1) c.loop-unit.outcomes) e in
-          elim w.if-misses.branch [
-            | then-misses+in_ok-push v ↦
-                let test : defaults slot c.loop-unit.outcomes ≡ true = sym w.misses.ensures.runs ∙ v.if-misses.true in
-                let running : c.match-unit.running.items ≡ c.loop-unit.running.items ++ (c.loop-unit.base + slot.actions) ∷ [] =
-                ap (λ (v : Vec ℕ Global). v.items) (w.running-is ∙ v.running-is) ∙ v.in_ok-push.ensures.items ∙ ap (λ (n : ℕ). c.loop-unit.running.items ++ (c.loop-unit.base + n) ∷ []) v.from.ensures in
-                record {
-                  all_nodes = nodes;
-                  so_far = λ look k words. deciding_more look k c.args.stage.now words units i slot unit c.args.outcomes.now c.loop-unit.outcomes c.loop-unit.running.items c.loop-unit.base true c.match-unit.outcomes c.match-unit.running.items c.match-unit.base inside is_slot plain_slot test (outcomes true test) running base (c.loop-unit.invariant.so_far look k words);
-                  small = small;
-                }
-            | else-misses v ↦
-                let test : defaults slot c.loop-unit.outcomes ≡ false = sym w.misses.ensures.runs ∙ v.if-misses.false in
-                record {
-                  all_nodes = nodes;
-                  so_far = λ look k words. deciding_more look k c.args.stage.now words units i slot unit c.args.outcomes.now c.loop-unit.outcomes c.loop-unit.running.items c.loop-unit.base false c.match-unit.outcomes c.match-unit.running.items c.match-unit.base inside is_slot plain_slot test (outcomes false test) (ap (λ (v : Vec ℕ Global). v.items) (w.running-is ∙ v.running-is)) base (c.loop-unit.invariant.so_far look k words);
-                  small = small;
-                }
-          ]
-      | in_default w ↦ absurd (false≢true (subst (λ (u : Unit). is_plain u ≡ true) w.in_default.is plain))
-    ]
+    let same = c.as_slice-units.ensures in
+    let i = c.loop-i.i in
+    let unit = c.index-units-i.result in
+    let inside : i < length units = rw same at c.loop-i-test.true in
+    let at : get_or units i unit ≡ unit = sym (c.index-units-i.is ∙ ap (λ (us : List Unit). get_or us i unit) same) in
+    let was = c.loop-i.invariant in
+    let d = c.decide_unit-base in
+    let within : i < length c.args.looked.now = omega arith in
+    let one = (slice_get-item c.args.looked.now i within).0 in
+    record {
+      all_nodes = omega arith;
+      room = omega arith;
+      few = omega arith;
+      small = omega arith;
+      so_far = λ look k words read. upto_more look k words c.args.stage.now c.args.looked.now c.args.bytes c.args.counters.now i c.args.outcomes.now
+          c.loop-i.outcomes c.loop-i.running.items c.loop-i.counters c.loop-i.base unit one d.new.outcomes d.new.running.items d.new.counters d.result
+          read inside at (λ acts here low done. d.ensures.done look k c.args.stage.now words one c.args.counters.now acts here low done) d.ensures.next (was.so_far look k words read);
+    }
+
+pub returns-clause-done : goal.returns-clause-done
+returns-clause-done c = λ look k words read.
+    let all = take_all c.loop-i.i c.args.stage.now.units (let end = ap (λ (us : List Unit). length us) c.as_slice-units.ensures in omega arith) in
+    subst (λ (us : List Unit). HaveDone c.args.stage.now c.args.looked.now c.args.bytes c.args.counters.now (fold (unit_acts look k c.args.stage.now words) (before_all c.args.outcomes.now) us) c.loop-i.outcomes c.loop-i.running.items c.loop-i.counters) all
+    (c.loop-i.invariant.so_far look k words read).done

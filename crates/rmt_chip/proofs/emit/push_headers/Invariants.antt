@@ -1,9 +1,13 @@
-use Rattle.std.proofs.Common.{◌≡◌, ◌++◌, [], take}
+use Rattle.std.proofs.Common.{◌≡◌, ◌≤◌, ◌+◌, ◌*◌, length, map, take}
 use Rattle.std.specs.Prelude.{slice_index}
-use Rattle.std.specs.List.{flat_map}
-use Rattle.rmt_config.specs.declared.config.OutHeader.{OutHeader}
-use Rattle.rmt_config.specs.ChipRun.{header_bytes}
+use Rattle.rmt_config.specs.ChipRun.{tail_bytes}
+use Rattle.rmt_chip.specs.FrameList.{frame_at}
+use Rattle.rmt_chip.specs.Leaving.{headers_sent}
+use Rattle.rmt_chip.specs.Tails.{tails_len}
 use Rattle.rmt_chip.proofs.emit.push_headers.Given as goal
 
-abbrev pub invariant-loop-header : goal.invariant-loop-header
-invariant-loop-header l = l.out.items ≡ l.initial.out.items ++ flat_map (λ (h : OutHeader). header_bytes (λ w. slice_index l.fn.vector w) h []) (take l.header-index l.headers)
+abbrev pub invariant-loop-n : goal.invariant-loop-n
+invariant-loop-n l = record {
+  sent : l.out ≡ headers_sent (λ w. slice_index l.vector w) (take l.n l.headers) (take l.n (map (tail_bytes (frame_at l.frames l.at)) l.tails));
+  within : length l.out ≤ 64 * l.n + tails_len (take l.n l.tails);
+}

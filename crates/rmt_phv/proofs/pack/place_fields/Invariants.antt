@@ -1,12 +1,13 @@
-use Rattle.std.proofs.Common.{◌≡◌, [], drop}
-use Rattle.rmt_phv.specs.Packing.{places_from}
+use Rattle.std.proofs.Common.{◌≡◌, drop, length}
+use Rattle.rmt_phv.specs.Packing.{packing, places_from}
 use Rattle.rmt_phv.specs.Standing.{Stands}
-use Rattle.rmt_phv.proofs.Packed.{then, joined}
+use Rattle.rmt_phv.proofs.Packed.{then, pieces_of}
 use Rattle.rmt_phv.proofs.pack.place_fields.Given as goal
 
--- the words of the places so far are taken, and these places and those of the fields left are all
+-- the pieces of the places so far stand, and these places and those of the fields left are all
 abbrev pub invariant-loop-number : goal.invariant-loop-number
 invariant-loop-number l = record {
-  stand : Stands (joined l.places) l.words;
-  so_far : places_from 0 [] l.fields ≡ then l.places (places_from l.number (joined l.places) (drop l.number l.fields));
+  count : length l.places ≡ l.number;
+  stand : Stands l.program (pieces_of 0 l.places) l.words.words;
+  so_far : packing l.program ≡ then l.places (places_from l.program l.number (pieces_of 0 l.places) (drop l.number l.program.fields));
 }

@@ -7,6 +7,9 @@ use Rattle.rmt_ptcam.proofs.NeedLaws.{unless_ok, header_short}
 use Rattle.rmt_ptcam.specs.Fitting.{IsParser}
 use Rattle.rmt_ptcam.proofs.PlainLaws.{few_entries, lanes_bits, built_all}
 use Rattle.rmt_ptcam.proofs.FormLaws.{plain_is_parser}
+use Rattle.rmt_ptcam.proofs.AgreementLaws.{plain_agrees}
+use Rattle.rmt_config.specs.Agreement.{AgreesWith}
+use Rattle.rmt_config.specs.declared.config.ParserConfig.{ParserConfig}
 use Rattle.rmt_ptcam.proofs.plain.plain_parser.Goals as goal
 
 pub push_tails-requires-clause-header : goal.push_tails-requires-clause-header
@@ -57,3 +60,12 @@ returns-clause-runs c =
     let l = c.loop-number in
     let end : length p.headers ≤ l.number = subst (λ (xs : List Header). length xs ≤ l.number) c.as_slice-header-items.ensures c.loop-number-test.false in
     subst IsParser (sym (built_all p places l.number l.states l.entries l.tails end l.invariant)) (plain_is_parser p places c.requires.program c.requires.places)
+
+pub returns-clause-agrees : goal.returns-clause-agrees
+returns-clause-agrees c =
+    let p = c.args.program.now in
+    let places = c.args.places.now in
+    let l = c.loop-number in
+    let end : length p.headers ≤ l.number = subst (λ (xs : List Header). length xs ≤ l.number) c.as_slice-header-items.ensures c.loop-number-test.false in
+    let fits : refusal p ≡ None = unless_ok (refusal p) (tt {0}) (tt {0}) (sym c.parser_need.ensures ∙ c.in_ok-parser_need.was) in
+    subst (λ (parser : ParserConfig). AgreesWith parser places p) (sym (built_all p places l.number l.states l.entries l.tails end l.invariant)) (plain_agrees p places c.requires.program c.requires.places fits)

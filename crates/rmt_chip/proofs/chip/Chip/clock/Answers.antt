@@ -1,8 +1,14 @@
-use Rattle.std.proofs.Common.{◌≡◌, ℕ, ◌+◌, ◌%◌, Bool, true, false, cond, List, refl, sym, ap, ◌∙◌, subst, arith}
+use Rattle.std.proofs.Common.{◌≡◌, ℕ, ◌+◌, ◌%◌, Bool, true, false, cond, List, All, refl, sym, ap, ◌∙◌, subst, arith}
 use Rattle.std.specs.Prelude.{is_some}
 use Rattle.std.proofs.lemmas.List.{with_items_is}
+use Rattle.std.proofs.Common.{Vec, Global}
 use Rattle.rmt_chip.specs.declared.place.Place.{Place}
-use Rattle.rmt_chip.proofs.StandsLaws.{CycleGives, clock_right}
+use Rattle.rmt_chip.specs.declared.memory.SlotMemory.{SlotMemory}
+use Rattle.rmt_chip.specs.FrameList.{frames_of}
+use Rattle.rmt_chip.specs.Pending.{HaveRoomFor}
+use Rattle.rmt_chip.specs.StageMemories.{MemoriesOf, LaidOut}
+use Rattle.rmt_chip.proofs.FormedRuns.{runnable}
+use Rattle.rmt_chip.proofs.StandsLaws.{CycleGives, clock_right, no_limit}
 use Rattle.rmt_chip.proofs.chip.Chip.clock.Goals as goal
 use mir.Val.{bool_byte}
 
@@ -10,15 +16,36 @@ byte_of : (b : Bool) → bool_byte b ≡ cond b 1 0
 byte_of true = refl
 byte_of false = refl
 
-pub returns-in-Ok-clause-ok : goal.returns-in-Ok-clause-ok
-returns-in-Ok-clause-ok c = λ config inputs stands.
+pub cycle-answer-requires-clause-fits : goal.cycle-answer-requires-clause-fits
+cycle-answer-requires-clause-fits c =
+    let self = c.args.self.now in
+    runnable self.config self.formed (no_limit self.config self.limits)
+
+pub cycle-answer-requires-clause-memories : goal.cycle-answer-requires-clause-memories
+cycle-answer-requires-clause-memories c =
+    let self = c.args.self.now in
+    subst (MemoriesOf self.config.stages) (sym c.deref.ensures.value) self.fit
+
+pub cycle-answer-requires-clause-room : goal.cycle-answer-requires-clause-room
+cycle-answer-requires-clause-room c =
+    let self = c.args.self.now in
+    subst (All (λ (p : Place). HaveRoomFor self.config.stages p.pending.items)) (sym c.deref_mut.ensures.value) self.room
+
+pub returns : goal.returns
+returns c = λ config inputs stands.
     let old = c.args.self.now in
-    let same = c.cycle-clocked.auto.places in
+    let same = c.cycle-answer.auto.places in
     let lent = c.deref_mut.ensures.len in
-    let items = with_items_is old.places c.cycle-clocked.new.places (omega arith) in
+    let items = with_items_is old.places c.cycle-answer.new.places (omega arith) in
     let grown : c.from.result ≡ cond (is_some c.args.frame) 1 0 = c.from.ensures ∙ ap bool_byte c.is_some.ensures ∙ byte_of (is_some c.args.frame) in
-    let fact : CycleGives old.config ((old.newest + 1) % 385) c.args.frame old.entered old.places.items c.cycle-clocked.new.places c.in-Ok.answer c.cycle-clocked.new.out.items =
-    subst (λ (ps : List Place). CycleGives old.config ((old.newest + 1) % 385) c.args.frame old.entered ps c.cycle-clocked.new.places c.in-Ok.answer c.cycle-clocked.new.out.items) c.deref_mut.ensures.value c.in-Ok.ensures in
-    clock_right config inputs c.args.frame old _ c.in-Ok.answer c.cycle-clocked.new.out.items old.runs old.in_ring refl refl
-    (ap (λ (n : ℕ). old.entered + n) grown) refl refl
-    (subst (λ (ps : List Place). CycleGives old.config ((old.newest + 1) % 385) c.args.frame old.entered old.places.items ps c.in-Ok.answer c.cycle-clocked.new.out.items) (sym items) fact) stands
+    let fact : LaidOut old.config.seed old.config.stages old.memories.items
+    → CycleGives old.config ((old.newest + 1) % 385) c.args.frame old.entered old.places.items c.cycle-answer.new.places (frames_of old.frames) (frames_of c.cycle-answer.new.frames) old.counters c.cycle-answer.new.counters c.cycle-answer.result c.cycle-answer.new.out =
+    λ laid inputs before ring turn count.
+    subst (λ (ps : List Place). CycleGives old.config ((old.newest + 1) % 385) c.args.frame old.entered ps c.cycle-answer.new.places (frames_of old.frames) (frames_of c.cycle-answer.new.frames) old.counters c.cycle-answer.new.counters c.cycle-answer.result c.cycle-answer.new.out)
+    c.deref_mut.ensures.value
+    (λ i b r t n. c.cycle-answer.ensures.gives i b r t n (subst (λ (m : List (Vec SlotMemory Global)). LaidOut old.config.seed old.config.stages m) (sym c.deref.ensures.value) laid))
+    inputs before ring turn count in
+    clock_right config inputs c.args.frame old _ c.cycle-answer.result c.cycle-answer.new.out old.in_ring refl refl
+    (ap (λ (n : ℕ). old.entered + n) grown) refl
+    (λ laid. subst (λ (ps : List Place). CycleGives old.config ((old.newest + 1) % 385) c.args.frame old.entered old.places.items ps (frames_of old.frames) (frames_of c.cycle-answer.new.frames) old.counters c.cycle-answer.new.counters c.cycle-answer.result c.cycle-answer.new.out) (sym items) (fact laid))
+    stands

@@ -1,23 +1,43 @@
-use Rattle.std.proofs.Common.{[], refl, sym, ◌∙◌, arith}
+use Rattle.std.proofs.Common.{List, All, refl, sym, ap, subst, ◌∙◌, arith}
+use Rattle.std.specs.Prelude.{is_none}
+use Rattle.rmt_config.specs.declared.config.Stage.{Stage}
+use Rattle.rmt_chip.specs.declared.place.Place.{Place}
+use Rattle.rmt_chip.specs.Pending.{HaveRoomFor}
 use Rattle.rmt_chip.specs.Ring.{ring_at}
-use Rattle.rmt_chip.proofs.CountLaws.{counts_nothing}
+use Rattle.rmt_chip.specs.StageMemories.{AllSlotsFormed, MemoriesOf, LaidOut}
+use Rattle.rmt_config.specs.ChipRun.{latency_of}
 use Rattle.rmt_chip.proofs.FormedRuns.{runnable}
 use Rattle.rmt_chip.proofs.RingLaws.{ring_at-lt}
+use Rattle.rmt_chip.proofs.StageSlots.{slots_formed}
 use Rattle.rmt_chip.proofs.chip.Chip.open.Goals as goal
+
+pub lay_all-requires : goal.lay_all-requires
+lay_all-requires c = subst AllSlotsFormed (sym c.as_slice-stages.ensures) (slots_formed c.args.config c.requires.form)
 
 pub latency-latency-requires : goal.latency-latency-requires
 latency-latency-requires c =
-    let stages = (runnable c.args.config c.requires.form c.requires.limits c.requires.supported).stages in
-    rw c.as_slice-2.ensures stages
+    let stages = (runnable c.args.config c.requires.form.items c.requires.limits).stages in
+    rw c.as_slice.ensures stages
 
-pub invariant_of-result-clause-runs : goal.invariant_of-result-clause-runs
-invariant_of-result-clause-runs c = runnable c.args.config c.requires.form c.requires.limits c.requires.supported
+pub invariant_of-result : goal.invariant_of-result
+invariant_of-result c = record {
+  formed = c.requires.form.items;
+  limits = ap is_none c.requires.limits;
+  fit = subst (λ (ss : List Stage). MemoriesOf ss c.in_ok-memories.memories.items) c.as_slice-stages.ensures c.in_ok-memories.ensures.fit;
+  full = c.in_ok-places.ensures.full;
+  room = subst (λ (ss : List Stage). All (λ (p : Place). HaveRoomFor ss p.pending.items) c.in_ok-places.places.items) c.as_slice-stages.ensures c.in_ok-places.ensures.room;
+  in_ring = omega arith;
+  leaves = c.latency-latency.ensures.value ∙ ap latency_of c.as_slice.ensures;
+}
 
 pub returns : goal.returns
 returns c = record {
   config_is = refl;
-  goes_on = refl;
+  memories_are = subst (λ (ss : List Stage). LaidOut c.args.config.seed ss c.in_ok-memories.memories.items) c.as_slice-stages.ensures c.in_ok-memories.ensures.laid;
   entered_is = refl;
-  places_hold = λ age d h. c.in_ok-places.ensures.empty (ring_at 0 age) d (omega (arith, ring_at-lt 0 age, c.in_ok-places.ensures.full));
-  counters_are = c.new.ensures ∙ sym (counts_nothing c.args.config (runnable c.args.config c.requires.form c.requires.limits c.requires.supported) []);
+  in_flight = record {
+    places_hold = λ age d h. c.in_ok-places.ensures.free (ring_at 0 age) d (let lt = ring_at-lt 0 age in let full = c.in_ok-places.ensures.full in omega arith);
+    frames_stand = λ age h. tt;
+    counters_are = c.in_ok-counters.ensures;
+  };
 }

@@ -1,0 +1,109 @@
+//! Finds the bound of a program.
+
+ghost use Rattle.std.specs.Prelude.{◌≡◌, ◌≤◌, [], ◌∷◌, length, IfOk};
+ghost use Rattle.rmt_ast.specs.WellFormed.{IsProgram};
+ghost use Rattle.rmt_pack.specs.declared.placement.Placement.{Placement};
+ghost use Rattle.rmt_pack.specs.Formats.{divided_up};
+ghost use Rattle.rmt_pack.specs.Placements.{IsLegal, stage_count};
+ghost use Rattle.rmt_bounds.specs.Bounds.{EdgesRise, stage_bound, four_bounds, proof_of, greatest as greatest_number, all_bests as all_bests_of, sram_sum as sram_of, tcam_sum as tcam_of, table_count as tables_of};
+ghost use Rattle.rmt_bounds.specs.Fits.{AreSmall};
+ghost use Rattle.rmt_bounds.specs.Proofs.{Gives};
+
+use crate::best::{all_bests, greatest, longest_chain};
+use crate::bound::{Bound, Proof};
+use crate::fault::BoundFault;
+use crate::sums::{sram_sum, table_count, tcam_sum};
+use rmt_ast::deps::{Deps, Edge};
+use rmt_ast::program::Program;
+use rmt_pack::format::divide_up;
+use std::alloc::{AllocError, Global};
+
+/// What all nodes of a program take together.
+#[derive(Clone, Copy)]
+struct Taken {
+    /// SRAM blocks, at least.
+    sram: u32,
+    /// TCAM blocks.
+    tcam: u32,
+    /// Slots.
+    tables: u32,
+}
+
+/// The first of the four proofs that gives so many stages.
+fn proof_for(
+    alloc: Global,
+    program: &Program,
+    edges: &[Edge],
+    bests: &[u32],
+    taken: &Taken,
+    stages: u32,
+) -> Result<Proof, AllocError>
+    requires program { IsProgram program.now }
+    requires rise { EdgesRise program.now edges.now }
+    requires bests { bests.now ≡ all_bests_of program.now edges.now }
+    requires small { AreSmall bests.now }
+    requires few { length bests.now ≤ 128 }
+    requires sram { taken.now.sram ≡ sram_of program.now }
+    requires tcam { taken.now.tcam ≡ tcam_of program.now }
+    requires tables { taken.now.tables ≡ tables_of program.now }
+    requires few_sram { taken.now.sram ≤ 6946816 }
+    requires few_tcam { taken.now.tcam ≤ 6946816 }
+    requires few_tables { taken.now.tables ≤ 128 }
+    ensures { IfOk result (λ proof. proof ≡ proof_of program.now edges.now (four_bounds program.now edges.now) stages) }
+{
+    if greatest(bests) == stages {
+        let chain = longest_chain(alloc, program, edges, bests)?;
+        return Ok(Proof::Chain(chain));
+    }
+    if divide_up(taken.sram, 106) == stages {
+        return Ok(Proof::Sram(taken.sram));
+    }
+    if divide_up(taken.tcam, 16) == stages {
+        return Ok(Proof::Tcam(taken.tcam));
+    }
+    Ok(Proof::Slots(taken.tables))
+}
+
+/// The greatest of the four numbers of stages that chains, SRAM, TCAM and slots give.
+fn greatest_of_four(bests: &[u32], taken: &Taken) -> u32
+    requires few_sram { taken.now.sram ≤ 6946816 }
+    requires few_tcam { taken.now.tcam ≤ 6946816 }
+    requires few_tables { taken.now.tables ≤ 128 }
+    ensures { result ≡ greatest_number (greatest_number bests.now ∷ divided_up taken.now.sram 106 ∷ divided_up taken.now.tcam 16 ∷ divided_up taken.now.tables 16 ∷ []) }
+{
+    greatest(bests)
+        .max(divide_up(taken.sram, 106))
+        .max(divide_up(taken.tcam, 16))
+        .max(divide_up(taken.tables, 16))
+}
+
+/// The stage bound of a program, and what proves it.
+///
+/// It is the greatest of four numbers: that of the longest chain of nodes along field edges, and those of the SRAM
+/// blocks, TCAM blocks and slots that all tables take at least. The first of these that is the bound is told.
+///
+/// # Errors
+///
+/// For want of memory alone.
+pub fn bound(alloc: Global, program: &Program, deps: &Deps) -> Result<Bound, BoundFault>
+    requires program { IsProgram program.now }
+    requires rise { EdgesRise program.now deps.now.field }
+    // It is the stage bound, with the proof that the rule names.
+    ensures bound { IfOk result (λ b. b ≡ stage_bound program.now deps.now.field) }
+    // The proof gives it.
+    ensures given { IfOk result (λ b. Gives program.now deps.now.field b.proof b.stages) }
+    // No legal placement has fewer stages.
+    ensures proved { IfOk result (λ b. (placement : Placement) → IsLegal program.now deps.now.field placement →
+        b.stages ≤ stage_count placement) }
+{
+    let edges = deps.field.as_slice();
+    let bests = all_bests(alloc, program, edges)?;
+    let taken = Taken {
+        sram: sram_sum(program),
+        tcam: tcam_sum(program),
+        tables: table_count(program),
+    };
+    let stages = greatest_of_four(bests.as_slice(), &taken);
+    let proof = proof_for(alloc, program, edges, bests.as_slice(), &taken, stages)?;
+    Ok(Bound { stages, proof })
+}

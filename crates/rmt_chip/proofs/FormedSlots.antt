@@ -1,0 +1,118 @@
+-- The slots of a configuration that keeps the rules of form are ones whose memory can be laid out.
+use Rattle.std.proofs.Common.{◌≡◌, ℕ, ◌+◌, ◌*◌, ◌^◌, ◌<◌, List, [], ◌∷◌, get_or, map, true, subst, arith}
+use Rattle.std.specs.Prelude.{All}
+use Rattle.std.specs.List.{list_all}
+use Rattle.std.proofs.lemmas.Bool.{and_parts, eqb-true, ltb-true}
+use Rattle.std.proofs.lemmas.List.{length-map, get_or-map}
+use Rattle.std.proofs.lemmas.List.Elements.{All-cons, All-head, All-tail}
+use Rattle.std.proofs.lemmas.List.Sums.{AllPass-from_list_all}
+use Rattle.rmt_bits.proofs.AllLaws.{All-left, All-right}
+use Rattle.rmt_config.specs.declared.config.Config.{Config}
+use Rattle.rmt_config.specs.declared.config.Stage.{Stage}
+use Rattle.rmt_config.specs.declared.config.TcamRow.{TcamRow}
+use Rattle.rmt_config.specs.declared.config.SlotUnit.{SlotUnit}
+use Rattle.rmt_config.specs.declared.config.Unit.{Unit as ChipUnit}
+use Rattle.rmt_config.specs.declared.config.Unit.TheVariants.{Gate, Slot}
+use Rattle.rmt_config.specs.declared.config.Memory.{Memory}
+use Rattle.rmt_config.specs.declared.config.Memory.TheVariants.{Without, Exact, Ternary}
+use Rattle.rmt_config.specs.Order.{each_between}
+use Rattle.rmt_config.specs.UnitForm.{slot_head_is_formed, memory_is_formed, unit_is_formed}
+use Rattle.rmt_config.specs.StageForm.{trow_fits, stage_is_formed, rows_are_formed}
+use Rattle.rmt_config.specs.TableForm.{Placed, placed_from, placed_units, ways_follow, unit_stands}
+use Rattle.rmt_config.specs.CellForm.{SlotHolds, StageHolds, Coded, coded_from}
+use Rattle.rmt_config.specs.MemoryRules.{FormedRows}
+use Rattle.rmt_config.specs.Form.{Formed}
+use Rattle.rmt_config.proofs.SlotLaws.{formed-rows}
+use Rattle.rmt_chip.specs.Memories.{WaysFit, UnitFormed}
+
+-- ---- the ways of a part are numbered behind those of the parts before it
+
+record FollowsAt (m : Memory) : Type 0 where
+  parts : ℕ
+  follow : ways_follow parts m ≡ true
+
+abbrev Follows : ChipUnit → Type 0
+Follows (Gate g) = Unit {0}
+Follows (Slot s) = FollowsAt s.memory
+
+follows-of : (before behind : List Placed) (stage : ℕ) (u : ChipUnit) → unit_stands before (record { stage = stage; unit = u }) behind ≡ true → Follows u
+follows-of before behind stage (Gate g) h = tt
+follows-of before behind stage (Slot s) h = record { parts = _; follow = (and_parts _ _ (and_parts _ _ (and_parts _ _ h).1).0).1 }
+
+each-follows : (before xs : List Placed) → each_between unit_stands before xs ≡ true → All (λ (x : Placed). Follows x.unit) xs
+each-follows before [] h = λ k d lt. absurd (omega (arith, lt))
+each-follows before (x ∷ xs) h =
+    let parts = and_parts (unit_stands before x xs) (each_between unit_stands (x ∷ before) xs) h in
+    All-cons (λ (y : Placed). Follows y.unit) x xs (follows-of before xs x.stage x.unit parts.0) (each-follows (x ∷ before) xs parts.1)
+
+ways-fit : (s : SlotUnit) (m : Memory) → FollowsAt m → memory_is_formed s m ≡ true → WaysFit m
+ways-fit s Without at h = tt
+ways-fit s (Exact k p d w ks rs cs) at h =
+    let p7 = and_parts _ _ (and_parts _ _ (and_parts _ _ (and_parts _ _ h).0).0).0 in
+    let p5 = and_parts _ _ (and_parts _ _ p7.0).0 in
+    let byte : w < 256 = ltb-true w 256 p5.1 in
+    let four : w ≡ 4 * at.parts = eqb-true w (4 * at.parts) at.follow in
+    omega (arith, byte, four)
+ways-fit s (Ternary d ks rs cs) at h = tt
+
+all-unmap : {X Y : Type 0} (P : Y → Type 0) (f : X → Y) (xs : List X) → All P (map f xs) → All (λ x. P (f x)) xs
+all-unmap P f xs h = λ k d lt.
+    let size = length-map xs f in
+    subst P (get_or-map f xs k d (f d) lt) (h k (f d) (omega (arith, size, lt)))
+
+-- ---- the slots of a stage
+
+units-formed : (stage : Stage) → FormedRows stage → All (λ (r : TcamRow). r.value < 2 ^ 40) stage.trows → (units : List ChipUnit) (first : ℕ) → list_all unit_is_formed units ≡ true
+    → All (λ (c : Coded). SlotHolds stage c.first c.slot) (coded_from first units) → All Follows units → All (UnitFormed stage) units
+units-formed stage rows values [] first form holds follow = λ k d lt. absurd (omega (arith, lt))
+units-formed stage rows values ((Gate g) ∷ units) first form holds follow =
+    let parts = and_parts (unit_is_formed (Gate g)) (list_all unit_is_formed units) form in
+    All-cons (UnitFormed stage) (Gate g) units tt (units-formed stage rows values units first parts.1 holds (All-tail Follows (Gate g) units follow))
+units-formed stage rows values ((Slot s) ∷ units) first form holds follow =
+    let parts = and_parts (unit_is_formed (Slot s)) (list_all unit_is_formed units) form in
+    let P : Coded → Type 0 = λ c. SlotHolds stage c.first c.slot in
+    let rest = coded_from (first + s.actions + 1) units in
+    let memory = (and_parts (slot_head_is_formed s) (memory_is_formed s s.memory) parts.0).1 in
+    All-cons (UnitFormed stage) (Slot s) units
+    (record {
+      rows = rows;
+      values = values;
+      form = parts.0;
+      first = first;
+      holds = All-head P (record { first = first; slot = s }) rest holds;
+      ways = ways-fit s s.memory (All-head Follows (Slot s) units follow) memory;
+    })
+    (units-formed stage rows values units (first + s.actions + 1) parts.1 (All-tail P (record { first = first; slot = s }) rest holds) (All-tail Follows (Slot s) units follow))
+
+stage-formed : (stage : Stage) → stage_is_formed stage ≡ true → rows_are_formed stage ≡ true → StageHolds stage → All Follows stage.units → All (UnitFormed stage) stage.units
+stage-formed stage items rows holds follow =
+    let p7 = and_parts _ _ items in
+    let p6 = and_parts _ _ p7.0 in
+    let p5 = and_parts _ _ p6.0 in
+    let p4 = and_parts _ _ p5.0 in
+    let p3 = and_parts _ _ p4.0 in
+    let p2 = and_parts _ _ p3.0 in
+    let fit = AllPass-from_list_all trow_fits stage.trows p7.1 in
+    let values : All (λ (r : TcamRow). r.value < 2 ^ 40) stage.trows = λ k d lt. let x = get_or stage.trows k d in ltb-true x.value (2 ^ 40) (and_parts _ _ (and_parts _ _ (fit k d lt)).0).1 in
+    units-formed stage (formed-rows stage items rows) values stage.units 0 p2.1 holds follow
+
+-- ---- those of all stages
+
+stages-formed : (k : ℕ) (stages : List Stage) → list_all stage_is_formed stages ≡ true → list_all rows_are_formed stages ≡ true → All StageHolds stages
+    → All (λ (x : Placed). Follows x.unit) (placed_from k stages) → All (λ (stage : Stage). All (UnitFormed stage) stage.units) stages
+stages-formed k [] items rows holds follow = λ j d lt. absurd (omega (arith, lt))
+stages-formed k (stage ∷ stages) items rows holds follow =
+    let i = and_parts (stage_is_formed stage) (list_all stage_is_formed stages) items in
+    let r = and_parts (rows_are_formed stage) (list_all rows_are_formed stages) rows in
+    let place : ChipUnit → Placed = λ u. record { stage = k; unit = u } in
+    let P : Placed → Type 0 = λ x. Follows x.unit in
+    let own = all-unmap P place stage.units (All-left P (map place stage.units) (placed_from (k + 1) stages) follow) in
+    let later = All-right P (map place stage.units) (placed_from (k + 1) stages) follow in
+    All-cons (λ (x : Stage). All (UnitFormed x) x.units) stage stages
+    (stage-formed stage i.0 r.0 (All-head StageHolds stage stages holds) own)
+    (stages-formed (k + 1) stages i.1 r.1 (All-tail StageHolds stage stages holds) later)
+
+pub formed-slots : (c : Config) → Formed c → All (λ (stage : Stage). All (UnitFormed stage) stage.units) c.stages
+formed-slots c formed =
+    let items = (and_parts _ _ (and_parts _ _ (and_parts _ _ formed.items).1).0).1 in
+    stages-formed 0 c.stages items formed.whole.rows formed.whole.memory (each-follows [] (placed_units c) formed.whole.tables)

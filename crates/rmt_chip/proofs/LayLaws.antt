@@ -1,0 +1,131 @@
+-- What is read from the rows of a stage is what the cells of a slot hold.
+use Rattle.std.proofs.Common.{◌≡◌, ℕ, ◌+◌, ◌*◌, ◌/◌, ◌%◌, ◌^◌, ◌<◌, ◌≤◌, List, [], ◌∷◌, length, get_or, drop, map, true, sym, refl, ap, ◌∙◌, subst, arith}
+use Rattle.std.specs.Prelude.{All, Result, IfOk}
+use Rattle.std.proofs.lemmas.Result.{IfOk-weaker}
+use Rattle.std.proofs.lemmas.List.{length-take, length-drop}
+use Rattle.std.proofs.lemmas.List.Elements.{All-head, All-tail}
+use Rattle.std.proofs.lemmas.Nat.{shr_below, div_below, mul-le}
+use Rattle.std.proofs.Math.Nat.{mod-eq_of_lt, div-one}
+use Rattle.rmt_bits.specs.Bits.{slice}
+use Rattle.rmt_bits.proofs.BitLaws.{slice-lt}
+use Rattle.rmt_config.specs.declared.config.SramRow.{SramRow}
+use Rattle.rmt_config.specs.declared.config.TcamRow.{TcamRow}
+use Rattle.rmt_config.specs.declared.config.CellNumber.{CellNumber}
+use Rattle.rmt_config.specs.declared.form.layout.Layout.{Layout}
+use Rattle.rmt_config.specs.Shapes.{divided_up}
+use Rattle.rmt_config.specs.Cells.{sram_row, tcam_row, blocks_at, cell_of, entry_at, unit_row, row_record, Content}
+use Rattle.rmt_config.specs.Layouts.{exact_keys, ternary_records, ternary_keys}
+use Rattle.rmt_config.specs.StageForm.{trow_number}
+use Rattle.rmt_config.specs.Order.{rises_from}
+use Rattle.rmt_config.proofs.UnitBits.{Within}
+use Rattle.rmt_config.proofs.HeldRows.{rows-agree}
+use Rattle.rmt_config.proofs.CellLayouts.{exact-entry, ternary-record}
+use Rattle.rmt_chip.specs.Laying.{entry_of, runs_of}
+use Rattle.rmt_chip.specs.Grouping.{Compared, words_of}
+use Rattle.rmt_chip.specs.Comparing.{compared_at}
+use Rattle.rmt_chip.specs.Memories.{compared_of}
+use Rattle.rmt_chip.proofs.RunLaws.{runs-same}
+use Rattle.rmt_chip.proofs.WordLaws.{words-unit}
+
+-- the lowest byte of a number, and what is above it
+low-byte : (x : ℕ) → slice x 0 8 ≡ x % 256
+low-byte x = ap (λ n. n % 256) (div-one x)
+
+above-byte : (x bits : ℕ) → x < 2 ^ (bits + 8) → slice x 8 bits ≡ x / 256
+above-byte x bits lt = mod-eq_of_lt (shr_below x bits 8 lt)
+
+-- listed cells of a memory, by its ways
+pub cells-below : (numbers numbers' : List CellNumber) (count m : ℕ) → numbers' ≡ numbers → count ≡ m → All (λ (c : CellNumber). c.cell < m) numbers → All (λ (c : CellNumber). c.cell < count) numbers'
+cells-below numbers numbers' count m same is below = λ k d lt.
+    subst (λ n. (get_or numbers' k d).cell < n) (sym is) (subst (λ (cs : List CellNumber). All (λ (c : CellNumber). c.cell < m) cs) (sym same) below k d lt)
+
+pub IfOk-then : {X Y : Type 0} (r : Result X Y) (P Q : X → Type 0) → IfOk r P → ((x : X) → P x → Q x) → IfOk r Q
+IfOk-then r P Q h f = IfOk-weaker r P Q f h
+
+-- ---- an exact part
+
+module _ (rows rows' : List SramRow) (numbers numbers' : List CellNumber) (l : Layout) (ks : List ℕ) (k p d bits bits' : ℕ) (layout : l ≡ exact_keys k p d bits') (same_bits : bits' ≡ bits)
+    (same_rows : rows' ≡ rows) (same_numbers : numbers' ≡ numbers) (some_p : 0 < p) (some_d : 0 < d) where
+  abbrev entry : ℕ → ℕ
+  entry n = entry_at (sram_row rows) ks k bits (cell_of (1024 * d) p n)
+
+  entry-same : (n : ℕ) → entry_of l (sram_row rows) ks n ≡ entry n
+  entry-same n = ap (λ (m : Layout). entry_of m (sram_row rows) ks n) (layout ∙ ap (exact_keys k p d) same_bits) ∙ sym (exact-entry (sram_row rows) ks k p d bits n some_p some_d)
+
+  read-same : (size from len : ℕ) → runs_of size (λ n. slice (entry_of l (sram_row rows') ks n) from len) numbers' ≡ runs_of size (λ n. slice (entry n) from len) numbers
+  read-same size from len =
+      ap (λ (rs : List SramRow). runs_of size (λ n. slice (entry_of l (sram_row rs) ks n) from len) numbers') same_rows
+      ∙ ap (λ (cs : List CellNumber). runs_of size (λ n. slice (entry_of l (sram_row rows) ks n) from len) cs) same_numbers
+      ∙ runs-same size _ _ numbers (λ i z lt. ap (λ e. slice e from len) (entry-same (get_or numbers i z).cell))
+
+  pub exact-heads : runs_of 1 (λ n. slice (entry_of l (sram_row rows') ks n) 0 8) numbers' ≡ runs_of 1 (λ n. entry n % 256) numbers
+  exact-heads = read-same 1 0 8 ∙ runs-same 1 _ _ numbers (λ i z lt. low-byte (entry (get_or numbers i z).cell))
+
+  pub exact-keys : runs_of (divided_up bits' 8) (λ n. slice (entry_of l (sram_row rows') ks n) 8 bits') numbers' ≡ runs_of (divided_up bits 8) (λ n. entry n / 256) numbers
+  exact-keys =
+      ap (λ b. runs_of (divided_up b 8) (λ n. slice (entry_of l (sram_row rows') ks n) 8 b) numbers') same_bits
+      ∙ read-same (divided_up bits 8) 8 bits
+      ∙ runs-same (divided_up bits 8) _ _ numbers (λ i z lt. above-byte (entry (get_or numbers i z).cell) bits (slice-lt _ _ (bits + 8)))
+
+-- ---- a ternary part
+
+module _ (rows rows' : List SramRow) (numbers numbers' : List CellNumber) (l : Layout) (rs : List ℕ) (d held : ℕ) (layout : l ≡ ternary_records d (held + 8))
+    (same_rows : rows' ≡ rows) (same_numbers : numbers' ≡ numbers) (below : All (λ (c : CellNumber). c.cell < 2048 * d) numbers) where
+  abbrev kept : ℕ → ℕ
+  kept n = row_record (sram_row rows) rs held n
+
+  kept-same : (n : ℕ) → n < 2048 * d → entry_of l (sram_row rows) rs n ≡ kept n
+  kept-same n lt = ap (λ (m : Layout). entry_of m (sram_row rows) rs n) layout ∙ sym (ternary-record (sram_row rows) rs d held n lt)
+
+  row-same : (size from len : ℕ) → runs_of size (λ n. slice (entry_of l (sram_row rows') rs n) from len) numbers' ≡ runs_of size (λ n. slice (kept n) from len) numbers
+  row-same size from len =
+      ap (λ (xs : List SramRow). runs_of size (λ n. slice (entry_of l (sram_row xs) rs n) from len) numbers') same_rows
+      ∙ ap (λ (cs : List CellNumber). runs_of size (λ n. slice (entry_of l (sram_row rows) rs n) from len) cs) same_numbers
+      ∙ runs-same size _ _ numbers (λ i z lt. ap (λ e. slice e from len) (kept-same (get_or numbers i z).cell (below i z lt)))
+
+  pub ternary-heads : runs_of 1 (λ n. slice (entry_of l (sram_row rows') rs n) 0 8) numbers' ≡ runs_of 1 (λ n. kept n % 256) numbers
+  ternary-heads = row-same 1 0 8 ∙ runs-same 1 _ _ numbers (λ i z lt. low-byte (kept (get_or numbers i z).cell))
+
+  pub ternary-data : runs_of (divided_up held 8) (λ n. slice (entry_of l (sram_row rows') rs n) 8 held) numbers' ≡ runs_of (divided_up held 8) (λ n. kept n / 256) numbers
+  ternary-data =
+      row-same (divided_up held 8) 8 held
+      ∙ runs-same (divided_up held 8) _ _ numbers (λ i z lt. above-byte (kept (get_or numbers i z).cell) held (slice-lt _ _ (held + 8)))
+
+-- a quantum of a listed row has its blocks
+pub blocks-there : (d width len n : ℕ) → len ≡ d * width → n < 2048 * d → (n / 2048 + 1) * width ≤ len
+blocks-there d width len n is lt =
+    let low : n / 2048 < d = div_below n 2048 d (omega arith) (omega (arith, lt)) in
+    let fit : (n / 2048 + 1) * width ≤ d * width = mul-le (n / 2048 + 1) width d width (omega (arith, low)) (omega arith) in
+    omega (arith, fit, is)
+
+module _ (rows : List TcamRow) (ks : List ℕ) (d width : ℕ) (whole : length ks ≡ d * width) (rise : rises_from 0 (map trow_number rows) ≡ true)
+    (low : All (λ (r : TcamRow). r.row < 2048) rows) (masks : All (λ (r : TcamRow). r.mask < 2 ^ 40) rows) (values : All (λ (r : TcamRow). r.value < 2 ^ 40) rows) where
+  within : (val : TcamRow → ℕ) → All (λ (r : TcamRow). val r < 2 ^ 40) rows → Within 40 (tcam_row val rows)
+  within val small = (rows-agree (ternary_keys d 1) (λ (r : TcamRow). r.block) (λ (r : TcamRow). r.row) val trow_number rows (λ r. refl) rise low small).within
+
+  words-read : (val : TcamRow → ℕ) → All (λ (r : TcamRow). val r < 2 ^ 40) rows → (n : ℕ) → n < 2048 * d
+      → map (λ b. tcam_row val rows b (n % 2048)) (blocks_at ks width (n / 2048)) ≡ words_of width (unit_row 40 (tcam_row val rows) (n % 2048) (blocks_at ks width (n / 2048)))
+  words-read val small n lt =
+      let blocks = blocks_at ks width (n / 2048) in
+      let there = blocks-there d width (length ks) n whole lt in
+      let next : (n / 2048 + 1) * width ≡ n / 2048 * width + width = omega arith in
+      let size : length blocks ≡ width = (let e = length-take width (drop (n / 2048 * width) ks) in let f = length-drop (n / 2048 * width) ks in omega (arith, e, f, there, next)) in
+      sym (words-unit (tcam_row val rows) (n % 2048) blocks (within val small)) ∙ ap (λ c. words_of c (unit_row 40 (tcam_row val rows) (n % 2048) blocks)) size
+
+  -- what the listed rows compare
+  pub compared-same : (numbers : List CellNumber) (content : ℕ → Content) → All (λ (c : CellNumber). c.cell < 2048 * d) numbers
+      → ((n : ℕ) → (content n).mask ≡ unit_row 40 (tcam_row (λ (r : TcamRow). r.mask) rows) (n % 2048) (blocks_at ks width (n / 2048)))
+      → ((n : ℕ) → (content n).key ≡ unit_row 40 (tcam_row (λ (r : TcamRow). r.value) rows) (n % 2048) (blocks_at ks width (n / 2048)))
+      → map (λ (c : CellNumber). compared_at rows ks width c.cell) numbers ≡ map (λ (c : CellNumber). compared_of width (content c.cell)) numbers
+  compared-same [] content below mask key = refl
+  compared-same (c ∷ cs) content below mask key =
+      let n = c.cell in
+      let lt : n < 2048 * d = All-head (λ (x : CellNumber). x.cell < 2048 * d) c cs below in
+      let m : map (λ b. tcam_row (λ (r : TcamRow). r.mask) rows b (n % 2048)) (blocks_at ks width (n / 2048)) ≡ words_of width (content n).mask =
+      words-read (λ (r : TcamRow). r.mask) masks n lt ∙ ap (words_of width) (sym (mask n)) in
+      let v : map (λ b. tcam_row (λ (r : TcamRow). r.value) rows b (n % 2048)) (blocks_at ks width (n / 2048)) ≡ words_of width (content n).key =
+      words-read (λ (r : TcamRow). r.value) values n lt ∙ ap (words_of width) (sym (key n)) in
+      let head : compared_at rows ks width n ≡ compared_of width (content n) =
+      ap (λ (ms : List ℕ). record { masks = ms; values = (compared_at rows ks width n).values }) m ∙ ap (λ (vs : List ℕ). record { masks = words_of width (content n).mask; values = vs }) v in
+      ap (λ (x : Compared). x ∷ map (λ (y : CellNumber). compared_at rows ks width y.cell) cs) head
+      ∙ ap (λ (xs : List Compared). compared_of width (content n) ∷ xs) (compared-same cs content (All-tail (λ (x : CellNumber). x.cell < 2048 * d) c cs below) mask key)

@@ -1,0 +1,85 @@
+-- What a stage keeps for a packet has room.
+use Rattle.std.proofs.Common.{◌≡◌, ◌≢◌, ℕ, zero, suc, set, Option, Some, Vec, Global, refl, ⊎_elim, ◌⊎◌, inl, inr, ◌++◌, ◌<◌, ◌≤◌, List, [], ◌∷◌, length, get_or, All, sym, ap, ◌∙◌, subst, arith}
+use Rattle.std.specs.Prelude.{slice_index, slice_get, option_map, unwrap_or}
+use Rattle.rmt_config.specs.declared.config.Stage.{Stage}
+use Rattle.rmt_config.specs.declared.config.Unit.{Unit}
+use Rattle.rmt_config.specs.declared.config.Unit.TheVariants.{Gate, Slot}
+use Rattle.rmt_config.specs.Life.{Look}
+use Rattle.std.proofs.lemmas.Bool.{cases_eq}
+use Rattle.rmt_chip.specs.declared.looked.Looked.{Looked}
+use Rattle.rmt_chip.specs.declared.pending.Pending.{Pending}
+use Rattle.rmt_chip.specs.declared.place.Place.{Place}
+use Rattle.rmt_chip.specs.declared.ran.Ran.{Ran}
+use Rattle.rmt_chip.specs.declared.write.Write.{Write}
+use Rattle.rmt_chip.specs.Held.{SamePacket, LookedBy}
+use Rattle.rmt_chip.specs.Pending.{looked_at, running_at, due_at}
+use Rattle.rmt_chip.specs.Looked.{HaveRoom, AllLooked, held_bytes}
+use Rattle.rmt_chip.specs.Runnable.{StageFits, data_bits}
+
+-- records of at most 8,192 bytes
+abbrev pub AreShort : List Looked → Type 0
+AreShort looked = All (λ (l : Looked). length l.held.items ≤ 8192) looked
+
+few_held : (u : Unit) → data_bits u < 65536 → held_bytes u ≤ 8192
+few_held (Gate g) h = omega arith
+few_held (Slot s) h = omega (arith, h)
+
+unit_in : (xs : List Unit) → 0 < length xs → Unit
+unit_in [] h = absurd (omega (arith, h))
+unit_in (x ∷ xs) h = x
+
+pub short_records : (stage : Stage) → StageFits stage → (looked : List Looked) → HaveRoom stage looked → AreShort looked
+short_records stage fits looked room i d lt =
+    let size = room.all_units in
+    let u = unit_in stage.units (omega arith) in
+    let inside : i < length stage.units = omega arith in
+    let held = room.each i u d inside in
+    subst (λ (n : ℕ). n ≤ 8192) (sym held) (few_held (get_or stage.units i u) (fits.short i u inside))
+
+-- ---- one stage's part is replaced
+
+set_here : (ps : List Pending) (k : ℕ) (p : Pending) → k < length ps → slice_get (set ps k p) k ≡ Some p
+set_here [] k p lt = absurd (omega (arith, lt))
+set_here (x ∷ ps) zero p lt = refl
+set_here (x ∷ ps) (suc k) p lt = set_here ps k p (omega (arith, lt))
+
+set_there : (ps : List Pending) (k j : ℕ) (p : Pending) → j ≢ k → slice_get (set ps k p) j ≡ slice_get ps j
+set_there [] k j p apart = refl
+set_there (x ∷ ps) zero zero p apart = absurd (apart refl)
+set_there (x ∷ ps) zero (suc j) p apart = refl
+set_there (x ∷ ps) (suc k) zero p apart = refl
+set_there (x ∷ ps) (suc k) (suc j) p apart = set_there ps k j p (λ e. apart (ap suc e))
+
+-- a part that stays as it was
+kept : {A : Type 0} (part : Pending → List A) (ps : List Pending) (k : ℕ) (p q : Pending) → k < length ps → slice_get ps k ≡ Some q → part p ≡ part q
+    → (j : ℕ) → unwrap_or (option_map part (slice_get (set ps k p) j)) [] ≡ unwrap_or (option_map part (slice_get ps j)) []
+kept {A} part ps k p q lt is same j =
+    let found : Option Pending → List A = λ o. unwrap_or (option_map part o) [] in
+    ⊎_elim
+    (λ (e : j ≡ k).
+    ap (λ n. found (slice_get (set ps k p) n)) e ∙ ap found (set_here ps k p lt) ∙ same ∙ sym (ap found is) ∙ sym (ap (λ n. found (slice_get ps n)) e))
+    (λ (apart : j ≢ k). ap found (set_there ps k j p apart))
+    (cases_eq j k)
+
+pub looked_by : (look : Look) (k : ℕ) (stage : Stage) (old new : Place) (p q : Pending) → k < length old.pending.items → slice_get old.pending.items k ≡ Some q → new.pending.items ≡ set old.pending.items k p
+    → SamePacket old new → new.vector ≡ old.vector → new.outcomes ≡ old.outcomes → p.running ≡ q.running → p.due ≡ q.due
+    → AllLooked look k (λ v. slice_index old.vector v) stage p.looked.items → LookedBy look k stage old new
+looked_by look k stage old new p q lt is put same v o r d looked =
+    let ps = old.pending.items in
+    record {
+      same = same;
+      vector = v;
+      outcomes = o;
+      running = λ j. ap (λ (x : List Pending). running_at x j) put ∙ kept (λ (x : Pending). x.running.items) ps k p q lt is (ap (λ (x : Vec Ran Global). x.items) r) j;
+      due = λ j. ap (λ (x : List Pending). due_at x j) put ∙ kept (λ (x : Pending). x.due.items) ps k p q lt is (ap (λ (x : Vec Write Global). x.items) d) j;
+      others = λ j apart. ap (λ (x : List Pending). looked_at x j) put ∙ ap (λ (x : Option Pending). unwrap_or (option_map (λ (y : Pending). y.looked.items) x) []) (set_there ps k j p apart);
+      looked = λ yes. subst (AllLooked look k (λ v. slice_index old.vector v) stage)
+          (sym (ap (λ (x : List Pending). looked_at x k) put ∙ ap (λ (x : Option Pending). unwrap_or (option_map (λ (y : Pending). y.looked.items) x) []) (set_here ps k p lt))) looked;
+    }
+
+-- what stands in a list with one more
+pub push_slice : {A : Type 0} (xs : List A) (x : A) (k : ℕ) (p : A) → slice_get (xs ++ x ∷ []) k ≡ Some p → (slice_get xs k ≡ Some p) ⊎ ((k ≡ length xs) × (x ≡ p))
+push_slice [] x zero p e = inr (refl, cc)
+push_slice [] x (suc k) p e = absurd cc
+push_slice (y ∷ ys) x zero p e = inl e
+push_slice (y ∷ ys) x (suc k) p e = elim (push_slice ys x k p e) [ inl before ↦ inl before | inr (here, same) ↦ inr (ap suc here, same) ]

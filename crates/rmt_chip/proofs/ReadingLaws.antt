@@ -1,0 +1,144 @@
+-- What the units of a configuration read that keeps the rules of form and the limits, and what its own look-ups look into.
+use Rattle.std.proofs.Common.{◌≡◌, ℕ, ◌+◌, ◌*◌, ◌^◌, ◌<◌, ◌≤◌, true, cond, not, ◌&&◌, ltb, leb, eqb, List, [], ◌∷◌, length, get_or, All, Option, Some, refl, ap, ◌∙◌, arith}
+use Rattle.std.specs.Prelude.{slice_get, count_by, option_and_then, bit_and}
+use Rattle.std.specs.List.{list_all}
+use Rattle.std.proofs.lemmas.Bool.{ltb-true, leb-true, eqb-true, and_parts}
+use Rattle.std.proofs.lemmas.List.{nil_from_length}
+use Rattle.std.proofs.lemmas.List.Elements.{All-weaker}
+use Rattle.std.proofs.lemmas.List.Sums.{sum_by-cons, AllPass-from_list_all}
+use Rattle.std.proofs.lemmas.Option.{slice_get-get_or}
+use Rattle.rmt_bits.specs.Words.{word_size}
+use Rattle.rmt_bits.specs.declared.lane.Lane.{Lane}
+use Rattle.rmt_config.specs.declared.config.Config.{Config}
+use Rattle.rmt_config.specs.declared.config.Stage.{Stage}
+use Rattle.rmt_config.specs.declared.config.GateTest.{GateTest}
+use Rattle.rmt_config.specs.declared.config.SlotUnit.{SlotUnit}
+use Rattle.rmt_config.specs.declared.config.Unit.{Unit as ChipUnit}
+use Rattle.rmt_config.specs.declared.config.Unit.TheVariants.{Gate, Slot}
+use Rattle.rmt_config.specs.declared.config.Memory.{Memory}
+use Rattle.rmt_config.specs.declared.config.Memory.TheVariants.{Without, Exact, Ternary}
+use Rattle.rmt_config.specs.LaneForm.{lane_is_formed, bits_of_lanes}
+use Rattle.rmt_config.specs.UnitForm.{guard_is_formed, test_is_formed, number_is_formed, slot_head_is_formed, may_have_memory, format_is_formed, has_shape, are_sram_blocks, are_tcam_blocks, memory_is_formed, unit_is_formed}
+use Rattle.rmt_config.specs.Shapes.{exact_shape, ternary_shape}
+use Rattle.rmt_config.specs.Resources.{is_slot, is_gate}
+use Rattle.rmt_config.specs.ChipRun.{slot_look, own_look}
+use Rattle.rmt_chip.specs.Runnable.{LaneFits, UnitReads, StageReads}
+use Rattle.rmt_chip.specs.Memory.{LooksInto}
+
+-- ---- lanes
+
+pub lane_fits : (lane : Lane) → lane_is_formed lane ≡ true → LaneFits lane
+lane_fits lane e =
+    let word = ltb lane.word 224 in
+    let least = leb 1 lane.len in
+    let most = leb lane.len 32 in
+    let p = and_parts (word && least && most) (leb (lane.low + lane.len) (word_size lane.word)) e in
+    let q = and_parts (word && least) most p.0 in
+    record {
+      exists = ltb-true lane.word 224 (and_parts word least q.0).0;
+      within = leb-true (lane.low + lane.len) (word_size lane.word) p.1;
+    }
+
+test_fits : (t : GateTest) → test_is_formed t ≡ true → LaneFits t.lane
+test_fits t e =
+    let lane = lane_is_formed t.lane in
+    let p = and_parts (lane && ltb t.mask (2 ^ t.lane.len)) (eqb (bit_and t.value t.mask) t.value) e in
+    lane_fits t.lane (and_parts lane (ltb t.mask (2 ^ t.lane.len)) p.0).0
+
+-- ---- keys
+
+keys_fit : (s : SlotUnit) → slot_head_is_formed s ≡ true → All LaneFits s.keys
+keys_fit s e =
+    let front = ltb s.node 256 && guard_is_formed s.guard && leb s.actions 14 && ltb s.held 65536 && ltb (length s.keys) 65536 in
+    let lanes = list_all lane_is_formed s.keys in
+    let few = ltb (length s.numbers) (2 ^ 32) in
+    let p = and_parts (front && lanes && few) (list_all number_is_formed s.numbers) e in
+    let q = and_parts (front && lanes) few p.0 in
+    All-weaker _ LaneFits lane_fits s.keys (AllPass-from_list_all lane_is_formed s.keys (and_parts front lanes q.0).1)
+
+short_key : (s : SlotUnit) (quanta : ℕ) → may_have_memory s quanta ≡ true → bits_of_lanes s.keys ≤ 640
+short_key s quanta e =
+    let some = leb 1 (length s.keys) in
+    let bits = leb (bits_of_lanes s.keys) 640 in
+    let acts = leb 1 s.actions in
+    let p = and_parts (some && bits && acts && leb 1 quanta) (leb quanta 106) e in
+    let q = and_parts (some && bits && acts) (leb 1 quanta) p.0 in
+    let r = and_parts (some && bits) acts q.0 in
+    leb-true (bits_of_lanes s.keys) 640 (and_parts some bits r.0).1
+
+key_is_short : (s : SlotUnit) (m : Memory) → memory_is_formed s m ≡ true → bits_of_lanes s.keys ≤ 640
+key_is_short s Without e =
+    let front = not s.counted && eqb s.actions 0 && s.last && eqb s.held 0 in
+    let none = eqb (length s.keys) 0 in
+    let p = and_parts (front && none) (eqb (length s.numbers) 0) e in
+    let empty : s.keys ≡ [] = nil_from_length s.keys (eqb-true (length s.keys) 0 (and_parts front none p.0).1) in
+    let bits : bits_of_lanes s.keys ≡ 0 = ap bits_of_lanes empty in
+    omega arith
+key_is_short s (Exact width per quanta first_way keys records counters) e =
+    let format = format_is_formed s width per quanta first_way in
+    let shape = has_shape (exact_shape width per quanta s.held s.counted) keys records counters in
+    let a = and_parts (format && shape && are_sram_blocks keys && are_sram_blocks records) (are_sram_blocks counters) e in
+    let b = and_parts (format && shape && are_sram_blocks keys) (are_sram_blocks records) a.0 in
+    let d = and_parts (format && shape) (are_sram_blocks keys) b.0 in
+    let f = (and_parts format shape d.0).0 in
+    let may = may_have_memory s quanta in
+    let w = leb 1 width in
+    let x = ltb width 256 in
+    let y = leb 1 per in
+    let z = ltb per 65536 in
+    let v = ltb first_way 256 in
+    let g = and_parts (may && w && x && y && z && v) (leb (per * (bits_of_lanes s.keys + 8)) (112 * width)) f in
+    let h = and_parts (may && w && x && y && z) v g.0 in
+    let i = and_parts (may && w && x && y) z h.0 in
+    let j = and_parts (may && w && x) y i.0 in
+    let k = and_parts (may && w) x j.0 in
+    short_key s quanta (and_parts may w k.0).0
+key_is_short s (Ternary quanta keys records counters) e =
+    let may = may_have_memory s quanta in
+    let shape = has_shape (ternary_shape (bits_of_lanes s.keys) quanta s.held s.counted) keys records counters in
+    let a = and_parts (may && shape && are_tcam_blocks keys && are_sram_blocks records) (are_sram_blocks counters) e in
+    let b = and_parts (may && shape && are_tcam_blocks keys) (are_sram_blocks records) a.0 in
+    let d = and_parts (may && shape) (are_tcam_blocks keys) b.0 in
+    short_key s quanta (and_parts may shape d.0).0
+
+-- ---- units and stages
+
+pub unit_reads : (u : ChipUnit) → unit_is_formed u ≡ true → UnitReads u
+unit_reads (Gate g) e =
+    let front = ltb g.node 256 && guard_is_formed g.guard && leb 1 (length g.tests) && ltb (length g.tests) 256 in
+    All-weaker _ (λ (t : GateTest). LaneFits t.lane) test_fits g.tests (AllPass-from_list_all test_is_formed g.tests (and_parts front (list_all test_is_formed g.tests) e).1)
+unit_reads (Slot s) e =
+    let p = and_parts (slot_head_is_formed s) (memory_is_formed s s.memory) e in
+    (keys_fit s p.0, key_is_short s s.memory p.1)
+
+slots_and_gates : (us : List ChipUnit) → count_by is_slot us + count_by is_gate us ≡ length us
+slots_and_gates [] = refl
+slots_and_gates (Gate g ∷ us) =
+    let rest = slots_and_gates us in
+    let s : count_by is_slot (Gate g ∷ us) ≡ 0 + count_by is_slot us = sum_by-cons (λ (u : ChipUnit). cond (is_slot u) 1 0) (Gate g) us in
+    let t : count_by is_gate (Gate g ∷ us) ≡ 1 + count_by is_gate us = sum_by-cons (λ (u : ChipUnit). cond (is_gate u) 1 0) (Gate g) us in
+    omega arith
+slots_and_gates (Slot x ∷ us) =
+    let rest = slots_and_gates us in
+    let s : count_by is_slot (Slot x ∷ us) ≡ 1 + count_by is_slot us = sum_by-cons (λ (u : ChipUnit). cond (is_slot u) 1 0) (Slot x) us in
+    let t : count_by is_gate (Slot x ∷ us) ≡ 0 + count_by is_gate us = sum_by-cons (λ (u : ChipUnit). cond (is_gate u) 1 0) (Slot x) us in
+    omega arith
+
+-- the units of a formed stage within its limits read lanes that exist, and short keys
+pub stage_reads : (s : Stage) → list_all unit_is_formed s.units ≡ true → count_by is_slot s.units ≤ 16 → count_by is_gate s.units ≤ 16 → StageReads s
+stage_reads s formed slots gates =
+    let all = slots_and_gates s.units in
+    record {
+      few_units = omega arith;
+      each = All-weaker _ UnitReads unit_reads s.units (AllPass-from_list_all unit_is_formed s.units formed);
+    }
+
+-- ---- look-ups
+
+-- a configuration's own look-ups look into its slots
+pub own_looks : (c : Config) (k : ℕ) (d : Stage) → k < length c.stages → LooksInto c.seed (get_or c.stages k d) (own_look c) k
+own_looks c k d inside i u below s is key =
+    let stage = get_or c.stages k d in
+    ap (λ (o : Option Stage). option_and_then (λ (t : Stage). slot_look c.seed t (slice_get t.units i) key) o) (slice_get-get_or c.stages k d inside)
+    ∙ ap (λ (o : Option ChipUnit). slot_look c.seed stage o key) (slice_get-get_or stage.units i u below)
+    ∙ ap (λ (v : ChipUnit). slot_look c.seed stage (Some v) key) is

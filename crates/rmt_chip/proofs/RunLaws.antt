@@ -1,0 +1,72 @@
+-- Runs of bytes by listed cell.
+use Rattle.std.proofs.Common.{◌≡◌, ℕ, zero, suc, ◌+◌, ◌*◌, ◌/◌, ◌%◌, ◌^◌, ◌<◌, List, [], ◌∷◌, ◌++◌, length, get_or, take, drop, sym, refl, ap, ◌∙◌, subst, append-nil, add-one, arith}
+use Rattle.std.specs.Prelude.{All}
+use Rattle.std.proofs.lemmas.List.Elements.{All-head, All-tail}
+use Rattle.std.proofs.lemmas.List.{length-append, length_push, take_more}
+use Rattle.std.proofs.lemmas.Grind.{flat_map-append}
+use Rattle.std.proofs.Math.Seq.{take-append_seam, drop-append-add}
+use Rattle.std.proofs.lemmas.Nat.{div-add-mod', div_below, pow-add}
+use Rattle.rmt_bits.specs.Bits.{bytes_of, number_of}
+use Rattle.rmt_bits.proofs.ByteLaws.{number_of_push}
+use Rattle.rmt_config.specs.declared.config.CellNumber.{CellNumber}
+use Rattle.rmt_chip.specs.Laying.{runs_of}
+
+pub length-bytes_of : (count n : ℕ) → length (bytes_of count n) ≡ count
+length-bytes_of zero n = refl
+length-bytes_of (suc count) n = length_push (bytes_of count (n / 256)) (n % 256) ∙ ap (λ m. m + 1) (length-bytes_of count (n / 256)) ∙ add-one count
+
+-- a number is that of its bytes
+pub number_of-bytes_of : (count n : ℕ) → n < 2 ^ (8 * count) → number_of (bytes_of count n) ≡ n
+number_of-bytes_of zero n lt = let e : 8 * 0 ≡ 0 = omega arith in let one : n < 1 = subst (λ m. n < 2 ^ m) e lt in omega (arith, one)
+number_of-bytes_of (suc count) n lt =
+    let e : 8 * suc count ≡ 8 * count + 8 = omega arith in
+    let wide : n < 2 ^ (8 * count) * 256 = subst (λ m. n < m) (ap (λ m. 2 ^ m) e ∙ pow-add 2 (8 * count) 8) lt in
+    let high : n / 256 < 2 ^ (8 * count) = div_below n 256 (2 ^ (8 * count)) (omega arith) wide in
+    let whole : n / 256 * 256 + n % 256 ≡ n = div-add-mod' n 256 in
+    number_of_push (bytes_of count (n / 256)) (n % 256) ∙ ap (λ m. 256 * m + n % 256) (number_of-bytes_of count (n / 256) high) ∙ omega (arith, whole)
+
+module _ (size : ℕ) (value : ℕ → ℕ) where
+  pub length-runs : (numbers : List CellNumber) → length (runs_of size value numbers) ≡ length numbers * size
+  length-runs [] = omega arith
+  length-runs (c ∷ cs) =
+      let one = length-bytes_of size (value c.cell) in
+      let rest = length-runs cs in
+      let next : suc (length cs) * size ≡ size + length cs * size = omega arith in
+      length-append (bytes_of size (value c.cell)) (runs_of size value cs) ∙ omega (arith, one, rest, next)
+
+  -- the run of a listed cell
+  pub run-is : (numbers : List CellNumber) (at : ℕ) (d : CellNumber) → at < length numbers
+      → take size (drop (at * size) (runs_of size value numbers)) ≡ bytes_of size (value (get_or numbers at d).cell)
+  run-is [] at d lt = absurd (omega (arith, lt))
+  run-is (c ∷ cs) zero d lt =
+      let none : 0 * size ≡ 0 = omega arith in
+      let front = bytes_of size (value c.cell) in
+      ap (λ n. take size (drop n (front ++ runs_of size value cs))) none
+      ∙ ap (λ n. take n (front ++ runs_of size value cs)) (sym (length-bytes_of size (value c.cell))) ∙ take-append_seam front (runs_of size value cs)
+  run-is (c ∷ cs) (suc at) d lt =
+      let front = bytes_of size (value c.cell) in
+      let next : suc at * size ≡ length front + at * size = (let one = length-bytes_of size (value c.cell) in let e : suc at * size ≡ size + at * size = omega arith in omega (arith, one, e)) in
+      ap (λ n. take size (drop n (front ++ runs_of size value cs))) next
+      ∙ ap (take size) (drop-append-add front (runs_of size value cs) (at * size))
+      ∙ run-is cs at d (omega (arith, lt))
+
+  -- one more cell
+  pub runs-more : (numbers : List CellNumber) (i : ℕ) (d : CellNumber) → i < length numbers
+      → runs_of size value (take i numbers) ++ bytes_of size (value (get_or numbers i d).cell) ≡ runs_of size value (take (i + 1) numbers)
+  runs-more numbers i d lt =
+      let x = get_or numbers i d in
+      sym (ap (runs_of size value) (take_more numbers i d lt)
+      ∙ flat_map-append (λ (c : CellNumber). bytes_of size (value c.cell)) (take i numbers) (x ∷ [])
+      ∙ ap (λ (bs : List ℕ). runs_of size value (take i numbers) ++ bs) (append-nil (bytes_of size (value x.cell))))
+
+-- runs of no bytes
+pub runs-none : (value : ℕ → ℕ) (numbers : List CellNumber) → runs_of 0 value numbers ≡ []
+runs-none value [] = refl
+runs-none value (c ∷ cs) = runs-none value cs
+
+-- of values that are the same at each listed cell
+pub runs-same : (size : ℕ) (f g : ℕ → ℕ) (numbers : List CellNumber) → All (λ (c : CellNumber). f c.cell ≡ g c.cell) numbers → runs_of size f numbers ≡ runs_of size g numbers
+runs-same size f g [] h = refl
+runs-same size f g (c ∷ cs) h =
+    ap (λ n. bytes_of size n ++ runs_of size f cs) (All-head (λ (c : CellNumber). f c.cell ≡ g c.cell) c cs h)
+    ∙ ap (λ (bs : List ℕ). bytes_of size (g c.cell) ++ bs) (runs-same size f g cs (All-tail (λ (c : CellNumber). f c.cell ≡ g c.cell) c cs h))

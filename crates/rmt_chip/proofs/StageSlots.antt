@@ -1,0 +1,27 @@
+-- The slots of a formed configuration, stage by stage: their memory can be laid out, and its own look-ups look into them.
+use Rattle.std.proofs.Common.{◌≡◌, ℕ, get_or, subst}
+use Rattle.std.specs.Prelude.{All, Some, slice_get}
+use Rattle.std.proofs.lemmas.Option.{get_or_from_slice_get}
+use Rattle.rmt_config.specs.declared.config.Config.{Config}
+use Rattle.rmt_config.specs.declared.config.Stage.{Stage}
+use Rattle.rmt_config.specs.declared.config.Unit.{Unit as ChipUnit}
+use Rattle.rmt_config.specs.declared.config.Unit.TheVariants.{Slot}
+use Rattle.rmt_config.specs.Form.{Formed}
+use Rattle.rmt_config.specs.ChipRun.{own_look}
+use Rattle.rmt_chip.specs.Memories.{UnitFormed}
+use Rattle.rmt_chip.specs.Memory.{LooksInto}
+use Rattle.rmt_chip.specs.StageMemories.{AllSlotsFormed}
+use Rattle.rmt_chip.proofs.FormedSlots.{formed-slots}
+use Rattle.rmt_chip.proofs.ReadingLaws.{own_looks}
+use Rattle.rmt_chip.proofs.StageMemoriesLaws.{place_below}
+
+pub slots_formed : (c : Config) → Formed c → AllSlotsFormed c.stages
+slots_formed c formed k stage at i s is =
+    let here : get_or c.stages k stage ≡ stage = get_or_from_slice_get c.stages k stage stage at in
+    let all = formed-slots c formed k stage (place_below c.stages k stage at) in
+    let units = subst (λ (t : Stage). All (UnitFormed t) t.units) here all in
+    subst (λ (u : ChipUnit). UnitFormed stage u) (get_or_from_slice_get stage.units i (Slot s) (Slot s) is) (units i (Slot s) (place_below stage.units i (Slot s) is))
+
+pub looks_into_own : (c : Config) (k : ℕ) (stage : Stage) → slice_get c.stages k ≡ Some stage → LooksInto c.seed stage (own_look c) k
+looks_into_own c k stage at =
+    subst (λ (t : Stage). LooksInto c.seed t (own_look c) k) (get_or_from_slice_get c.stages k stage stage at) (own_looks c k stage (place_below c.stages k stage at))

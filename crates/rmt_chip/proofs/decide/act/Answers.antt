@@ -1,0 +1,61 @@
+use Rattle.std.proofs.Common.{◌≡◌, ◌-◌, ◌+◌, ◌++◌, [], ◌∷◌, ap, sym, ◌∙◌, subst, ℕ, List, true, false, get_or, set}
+use Rattle.std.proofs.lemmas.List.{get_or_default}
+use Rattle.rmt_config.specs.Life.{slot_acts}
+use Rattle.rmt_chip.specs.declared.looked.Looked.{Looked}
+use Rattle.rmt_chip.specs.declared.ran.Ran.{Ran}
+use Rattle.rmt_chip.specs.Ran.{HaveDone, CountsAlso}
+use Rattle.rmt_chip.proofs.DecidingLaws.{slot_found, slot_missed, slot_rests, one_if}
+use Rattle.rmt_chip.proofs.decide.act.Goals as goal
+
+pub returns-then-one-clause-done : goal.returns-then-one-clause-done
+returns-then-one-clause-done c = λ stage found d first acts finds low was.
+    let slot = c.args.slot.now in
+    let looked = c.args.looked.now in
+    let unit = c.args.at.unit in
+    let bytes = c.args.bytes in
+    let base = c.args.at.base in
+    let counters = c.count.new.counters in
+    let read = c.index-looked-from.result in
+    let one = get_or looked unit d in
+    let same : read ≡ one = c.index-looked-from.is ∙ ap (λ (i : ℕ). get_or looked i read) c.from.ensures ∙ get_or_default looked unit read d c.requires.inside in
+    let code : c.from-code.result ≡ one.code = c.from-code.ensures ∙ ap (λ (l : Looked). l.code) same in
+    let value : c.saturating_sub.result ≡ one.code - base = c.saturating_sub.ensures ∙ ap (λ (n : ℕ). n - base) code in
+    let outcomes : set c.args.outcomes.now c.from-node.result (2 + c.saturating_sub.result) ≡ set c.args.outcomes.now slot.node (2 + (one.code - base)) =
+    ap (λ (n : ℕ). set c.args.outcomes.now n (2 + c.saturating_sub.result)) c.from-node.ensures ∙ ap (λ (n : ℕ). set c.args.outcomes.now slot.node (2 + n)) value in
+    let running : c.run.new.running.items ≡ c.args.running.now.items ++ record { code = one.code; unit = unit; found = true } ∷ [] =
+    c.run.ensures.items ∙ ap (λ (n : ℕ). c.args.running.now.items ++ record { code = n; unit = unit; found = true } ∷ []) code in
+    let counts : CountsAlso c.args.counters.now counters (one_if slot.counted one.number bytes) =
+    subst (λ (l : Looked). CountsAlso c.args.counters.now counters (one_if slot.counted l.number bytes)) same c.count.ensures in
+    let done = slot_found stage slot found looked unit d bytes base first c.args.counters.now counters acts c.args.outcomes.now c.args.running.now.items
+    c.requires.inside finds (ap (λ (l : Looked). l.hit) (sym same) ∙ c.if-one.true) low counts was in
+    subst (λ (os : List ℕ). HaveDone stage looked bytes first (slot_acts stage slot found acts) os c.run.new.running.items counters) (sym outcomes)
+    (subst (λ (rs : List Ran). HaveDone stage looked bytes first (slot_acts stage slot found acts) (set c.args.outcomes.now slot.node (2 + (one.code - base))) rs counters) (sym running) done)
+
+pub returns-then-slot-clause-done : goal.returns-then-slot-clause-done
+returns-then-slot-clause-done c = λ stage found d first acts finds low was.
+    let slot = c.args.slot.now in
+    let looked = c.args.looked.now in
+    let unit = c.args.at.unit in
+    let bytes = c.args.bytes in
+    let base = c.args.at.base in
+    let counters = c.args.counters.now in
+    let read = c.index-looked-from.result in
+    let one = get_or looked unit d in
+    let same : read ≡ one = c.index-looked-from.is ∙ ap (λ (i : ℕ). get_or looked i read) c.from.ensures ∙ get_or_default looked unit read d c.requires.inside in
+    let outcomes : set c.args.outcomes.now c.from-node.result 1 ≡ set c.args.outcomes.now slot.node 1 = ap (λ (n : ℕ). set c.args.outcomes.now n 1) c.from-node.ensures in
+    let running : c.run-then-slot.new.running.items ≡ c.args.running.now.items ++ record { code = base + slot.actions; unit = unit; found = false } ∷ [] =
+    c.run-then-slot.ensures.items ∙ ap (λ (n : ℕ). c.args.running.now.items ++ record { code = n; unit = unit; found = false } ∷ []) c.default_code-code.ensures.value in
+    let done = slot_missed stage slot found looked one unit bytes base first counters acts c.args.outcomes.now c.args.running.now.items
+    finds (ap (λ (l : Looked). l.hit) (sym same) ∙ c.if-one.false) c.if-slot.true low was in
+    subst (λ (os : List ℕ). HaveDone stage looked bytes first (slot_acts stage slot found acts) os c.run-then-slot.new.running.items counters) (sym outcomes)
+    (subst (λ (rs : List Ran). HaveDone stage looked bytes first (slot_acts stage slot found acts) (set c.args.outcomes.now slot.node 1) rs counters) (sym running) done)
+
+pub returns-else-slot-clause-done : goal.returns-else-slot-clause-done
+returns-else-slot-clause-done c = λ stage found d first acts finds low was.
+    let looked = c.args.looked.now in
+    let unit = c.args.at.unit in
+    let read = c.index-looked-from.result in
+    let one = get_or looked unit d in
+    let same : read ≡ one = c.index-looked-from.is ∙ ap (λ (i : ℕ). get_or looked i read) c.from.ensures ∙ get_or_default looked unit read d c.requires.inside in
+    slot_rests stage c.args.slot.now found looked one c.args.bytes first c.args.counters.now acts c.args.outcomes.now c.args.running.now.items
+    finds (ap (λ (l : Looked). l.hit) (sym same) ∙ c.if-one.false) c.if-slot.false was

@@ -1,0 +1,59 @@
+use Rattle.std.proofs.Common.{◌≡◌, ◌<◌, ◌≤◌, ℕ, List, length, Some, sym, subst, ap, ◌∙◌, arith}
+use Rattle.std.specs.Prelude.{slice_get}
+use Rattle.std.proofs.lemmas.Option.{slice_get-get_or}
+use Rattle.std.proofs.lemmas.List.Elements.{All-set}
+use Rattle.rmt_config.specs.declared.config.Stage.{Stage}
+use Rattle.rmt_chip.specs.declared.place.Place.{Place}
+use Rattle.rmt_chip.specs.Pending.{HaveRoomFor}
+use Rattle.rmt_chip.specs.Runnable.{start_of}
+use Rattle.rmt_chip.specs.Ring.{ring_at}
+use Rattle.rmt_config.specs.ChipRun.{own_look}
+use Rattle.rmt_chip.specs.Held.{LookedBy}
+use Rattle.rmt_chip.specs.Memory.{AllLaid, LooksInto}
+use Rattle.rmt_chip.proofs.PassLaws.{look_turn, look_done, start_read, stage_read}
+use Rattle.rmt_chip.proofs.ReadingLaws.{own_looks}
+use Rattle.rmt_chip.proofs.ring.look_all.Goals as goal
+
+pub place_of-at-requires-clause-age : goal.place_of-at-requires-clause-age
+place_of-at-requires-clause-age c =
+    let stages = c.args.config.now.stages in
+    let inside : c.loop-k.k < length stages = omega arith in
+    let from = start_read stages c.as_slice-stages.result.now c.loop-k.k c.from.result c.index-stages-k.result c.as_slice-stages.ensures inside c.from.ensures c.index-stages-k.is in
+    let last : start_of stages c.loop-k.k ≤ 372 = c.requires.fits.last c.loop-k.k inside in
+    omega arith
+
+pub loop-k-preserved : goal.loop-k-preserved
+loop-k-preserved c =
+    let stages = c.args.config.now.stages in
+    let slice = c.as_slice-stages.result.now in
+    let stage = c.index-stages-k.result in
+    let k = c.loop-k.k in
+    let at = c.place_of-at.result in
+    let places = c.loop-k.places in
+    let old = c.index-places-at.result in
+    let new = c.look.new.place in
+    let inside : k < length stages = omega arith in
+    let many : length places ≡ 385 = omega arith in
+    let is = stage_read stages slice k stage c.as_slice-stages.ensures c.index-stages-k.is in
+    let from = start_read stages slice k c.from.result stage c.as_slice-stages.ensures inside c.from.ensures c.index-stages-k.is in
+    let place_is : at ≡ ring_at c.args.newest (start_of stages k) = c.place_of-at.ensures.place ∙ ap (λ (n : ℕ). ring_at c.args.newest (n)) from in
+    let found : slice_get slice k ≡ Some stage = slice_get-get_or slice k stage (let same = ap length c.as_slice-stages.ensures in omega arith) ∙ ap Some (sym c.index-stages-k.is) in
+    record {
+      room = All-set (λ (p : Place). HaveRoomFor stages p.pending.items) places at new
+          (subst (λ (ss : List Stage). HaveRoomFor ss new.pending.items) c.as_slice-stages.ensures c.look.ensures.room)
+          c.loop-k.invariant.room;
+      holds = λ item laid held.
+          let config = c.args.config.now in
+          let memories = c.args.memories.now in
+          let m = c.index-memories-k.result in
+          let all = c.requires.memories.all_stages in
+          let there : slice_get stages k ≡ Some stage = slice_get-get_or stages k stage inside ∙ ap Some (sym is) in
+          let mine : slice_get memories k ≡ Some m = slice_get-get_or memories k m (omega arith) ∙ ap Some (sym c.index-memories-k.is) in
+          let lies : AllLaid config.seed stage c.deref.result.now = subst (AllLaid config.seed stage) (sym c.deref.ensures.value) (laid k stage m there mine) in
+          let looks : LooksInto config.seed stage (own_look config) k = subst (λ (x : Stage). LooksInto config.seed x (own_look config) k) (sym is) (own_looks config k stage inside) in
+          look_turn (own_look config) config item c.args.newest k at places stage old new c.requires.fits.rise inside is (c.requires.fits.last k inside) c.requires.newest many place_is c.index-places-at.is
+          (subst (λ (p : Place). LookedBy (own_look config) k stage p new) (sym c.index-places-at.is) (c.look.ensures.looked stage found config.seed (own_look config) lies looks)) (c.loop-k.invariant.holds item laid held);
+    }
+
+pub returns-clause-holds : goal.returns-clause-holds
+returns-clause-holds c = λ item laid held. look_done (own_look c.args.config.now) c.args.config.now item c.args.newest c.loop-k.k c.loop-k.places c.requires.fits.rise (omega arith) (c.loop-k.invariant.holds item laid held)

@@ -1,0 +1,32 @@
+-- The hits that the stages count in one cycle.
+use Rattle.std.specs.Prelude.{ℕ, zero, suc, ◌+◌, List, [], ◌++◌, length, Option, Some, None, slice_get}
+use Rattle.rmt_bits.specs.Packet.{Packet}
+use Rattle.rmt_bits.specs.Counts.{Hit}
+use Rattle.rmt_config.specs.declared.config.Config.{Config}
+use Rattle.rmt_config.specs.declared.config.Stage.{Stage}
+use Rattle.rmt_config.specs.Life.{Look}
+use Rattle.rmt_config.specs.Parser.{Parse, Short, Reject, Accept, parse, put}
+use Rattle.rmt_chip.specs.Counting.{hits_made}
+use Rattle.rmt_chip.specs.Held.{Entered}
+use Rattle.rmt_chip.specs.Lives.{acts_at}
+
+-- those of stage k for a packet, by its parse
+abbrev pub hits_from : Look → Config → ℕ → Stage → Packet → Parse → List Hit
+hits_from look c k stage packet Short = []
+hits_from look c k stage packet Reject = []
+hits_from look c k stage packet (Accept r) = hits_made (length packet.frame) (acts_at look c.stages (put r.vector c.in_port packet.port) k stage).counted
+
+-- the same where a packet is
+abbrev pub hits_of : Look → Config → ℕ → Stage → Option Entered → List Hit
+hits_of look c k stage None = []
+hits_of look c k stage (Some e) = hits_from look c k stage e.packet (parse c.parser e.packet.frame)
+
+-- those of stage k in a cycle, for the packet that is 8 cycles past the stage's start
+abbrev pub hits_at : Look → Config → (ℕ → Option Entered) → ℕ → Option Stage → List Hit
+hits_at look c item k None = []
+hits_at look c item k (Some stage) = hits_of look c k stage (item (stage.start + 8))
+
+-- those of the first stages
+abbrev pub hits_upto : Look → Config → (ℕ → Option Entered) → ℕ → List Hit
+hits_upto look c item zero = []
+hits_upto look c item (suc k) = hits_upto look c item k ++ hits_at look c item k (slice_get c.stages k)

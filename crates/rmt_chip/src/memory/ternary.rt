@@ -1,0 +1,158 @@
+//! The rows of a ternary part in groups that compare the same bits, and the first that has a key.
+
+ghost use Rattle.std.specs.Prelude.{◌≡◌, ℕ, ◌+◌, ◌*◌, ◌/◌, ◌%◌, ◌^◌, ◌<◌, ◌≤◌, length, map, All, IfOk, None};
+ghost use Rattle.rmt_bits.specs.Bits.{slice as slice_of, number_of};
+ghost use Rattle.rmt_config.specs.Cells.{tcam_row, blocks_at};
+ghost use Rattle.rmt_config.specs.declared.config.TcamRow.{TcamRow};
+ghost use Rattle.rmt_config.specs.declared.config.CellNumber.{CellNumber};
+ghost use Rattle.rmt_chip.specs.Laying.{TcamRows};
+ghost use Rattle.rmt_chip.specs.Grouping.{words_of_key, masked, place_in, is_before as is_before_of, earlier as earlier_of, best_of, AreGrouped};
+ghost use Rattle.rmt_chip.specs.Comparing.{compared_at};
+
+use crate::memory::group::{Group, place};
+use crate::memory::grouping::{Grouping, add};
+use crate::memory::rows::tcam_bits;
+use crate::memory::runs::unit_blocks;
+use rmt_bits::bits::bits_of_bytes;
+use rmt_config::config::{CellNumber, TcamRow};
+use std::alloc::{AllocError, Global};
+use std::collections::BTreeMap;
+
+/// The bits that each of some blocks compares in a row.
+fn masks_of(
+    alloc: Global,
+    rows: &[TcamRow],
+    blocks: &[u8],
+    row: u64,
+) -> Result<Vec<u64>, AllocError>
+    requires rows { TcamRows rows.now }
+    requires row { row < 2048 }
+    ensures { IfOk result (λ masks. masks.items ≡ map (λ b. tcam_row (λ (t : TcamRow). t.mask) rows.now b row) blocks.now) }
+{
+    let mut masks = Vec::with_capacity(alloc, blocks.len())?;
+    for block in blocks {
+        masks.push(tcam_bits(rows, *block, row).mask)?;
+    }
+    Ok(masks)
+}
+
+/// What these bits must be.
+fn values_of(
+    alloc: Global,
+    rows: &[TcamRow],
+    blocks: &[u8],
+    row: u64,
+) -> Result<Vec<u64>, AllocError>
+    requires rows { TcamRows rows.now }
+    requires row { row < 2048 }
+    ensures { IfOk result (λ values. values.items ≡ map (λ b. tcam_row (λ (t : TcamRow). t.value) rows.now b row) blocks.now) }
+{
+    let mut values = Vec::with_capacity(alloc, blocks.len())?;
+    for block in blocks {
+        values.push(tcam_bits(rows, *block, row).value)?;
+    }
+    Ok(values)
+}
+
+/// The listed rows of a part in groups, where a key takes `side` blocks.
+pub fn groups_of(
+    alloc: Global,
+    rows: &[TcamRow],
+    blocks: &[u8],
+    side: u64,
+    numbers: &[CellNumber],
+) -> Result<Vec<Group>, AllocError>
+    requires rows { TcamRows rows.now }
+    requires cells { All (λ (n : CellNumber). (n.cell / 2048 + 1) * side ≤ length blocks.now) numbers.now }
+    ensures { IfOk result (λ groups. AreGrouped (map (λ (n : CellNumber). compared_at rows.now blocks.now side n.cell) numbers.now) groups.items) }
+{
+    let mut grouping = Grouping {
+        groups: Vec::new(alloc),
+        index: BTreeMap::new(alloc),
+    };
+    for at in 0..numbers.len() {
+        let cell = numbers[at].cell as u64;
+        let unit = unit_blocks(blocks, side, cell / 2048);
+        let masks = masks_of(alloc, rows, unit, cell % 2048)?;
+        let values = values_of(alloc, rows, unit, cell % 2048)?;
+        add(alloc, &mut grouping, masks, values, at)?;
+    }
+    let Grouping { groups, .. } = grouping;
+    Ok(groups)
+}
+
+/// The 40 bits of a key from one on.
+fn word_at(key: &[u8], low: u32) -> u64
+    requires short { length key.now ≤ 80 }
+    requires low { low < 640 }
+    ensures { result ≡ slice_of (number_of key.now) low 40 }
+{
+    let bits = 8 * key.len() as u32;
+    if bits <= low {
+        return 0;
+    }
+    let len = (bits - low).min(40);
+    bits_of_bytes(key, bits - low - len, len as u8) as u64
+}
+
+/// A key in 16 words of 40 bits, the lowest first.
+fn key_words(key: &[u8]) -> [u64; 16]
+    requires { length key.now ≤ 80 }
+    ensures { result ≡ words_of_key (number_of key.now) }
+{
+    let mut words = [0; 16];
+    for at in 0..16 {
+        words[at] = word_at(key, 40 * at as u32);
+    }
+    words
+}
+
+/// The place of the first row of a group that has a key.
+fn place_for(group: &Group, words: &[u64]) -> Option<usize>
+    requires { length words.now ≡ 16 }
+    ensures { result ≡ place_in group.now (masked group.now.masks.items words.now) }
+{
+    let mut wanted = [0; 16];
+    let count = group.masks.len().min(16);
+    for at in 0..count {
+        wanted[at] = words[at] & group.masks[at];
+    }
+    place(group, &wanted[..count])
+}
+
+/// Whether a place that was found comes before another.
+fn is_before(found: Option<usize>, place: usize) -> bool
+    ensures { result ≡ is_before_of found place }
+{
+    match found {
+        Some(found) => found < place,
+        None => false,
+    }
+}
+
+/// The earlier of two places.
+fn earlier(first: Option<usize>, second: Option<usize>) -> Option<usize>
+    ensures { result ≡ earlier_of first second }
+{
+    match (first, second) {
+        (Some(a), Some(b)) => Some(a.min(b)),
+        (Some(a), None) => Some(a),
+        (None, other) => other,
+    }
+}
+
+/// The earliest place that the groups have for a key. Groups whose first row stands behind it are not looked at.
+pub fn best_place(groups: &[Group], key: &[u8]) -> Option<usize>
+    requires { length key.now ≤ 80 }
+    ensures { result ≡ best_of groups.now (words_of_key (number_of key.now)) None }
+{
+    let words = key_words(key);
+    let mut best = None;
+    for group in groups {
+        if is_before(best, group.first) {
+            return best;
+        }
+        best = earlier(best, place_for(group, &words));
+    }
+    best
+}

@@ -1,0 +1,4 @@
+pub mod Examples
+pub mod EdgeLaws
+pub mod LevelLaws
+pub mod Ends

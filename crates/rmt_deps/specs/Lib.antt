@@ -1,0 +1,5 @@
+pub mod Edges
+pub mod Levels
+pub mod NumberSets
+pub mod Facts
+pub mod Ends

@@ -1,0 +1,97 @@
+-- What the tables of a well-formed program need.
+use Rattle.std.proofs.Common.{◌≡◌, ℕ, ◌*◌, ◌^◌, ◌<◌, ◌≤◌, List, [], ◌∷◌, Option, Some, None, map, length, max, refl, ap, sym, subst, arith, unwrap_or}
+use Rattle.std.specs.Prelude.{All, fold, sum, slice_get, option_map}
+use Rattle.std.proofs.Math.Nat.{max-le}
+use Rattle.std.proofs.lemmas.List.Elements.{All-nil, All-cons, All-head, All-tail, All-map, All-weaker}
+use Rattle.std.proofs.lemmas.List.Sums.{sum_by-cons, sum_by-le}
+use Rattle.rmt_bits.proofs.AllLaws.{All-slice_get}
+use Rattle.rmt_bits.proofs.ListLaws.{slice_get-item}
+use Rattle.rmt_ast.specs.declared.program.Program.{Program}
+use Rattle.rmt_ast.specs.declared.program.Field.{Field}
+use Rattle.rmt_ast.specs.declared.program.Action.{Action}
+use Rattle.rmt_ast.specs.declared.program.Table.{Table}
+use Rattle.rmt_ast.specs.declared.program.Kind.{Kind}
+use Rattle.rmt_ast.specs.declared.program.Kind.TheVariants.{Keyless, Exact, Prefix, Ternary}
+use Rattle.rmt_ast.specs.State.{width_of}
+use Rattle.rmt_ast.specs.WellFormed.{IsProgram, IsTable, IsKeyed, HasKey, IsAction, IsWidth, bits_of}
+use Rattle.rmt_pack.specs.Formats.{IsNeed, HasNeed}
+use Rattle.rmt_pack.specs.Placements.{key_bits, data_bits, param_bits, table_need}
+
+-- the greatest of numbers that are all within a bound is within it
+pub fold-max-le : (bound a : ℕ) (xs : List ℕ) → a ≤ bound → All (λ x. x ≤ bound) xs → fold max a xs ≤ bound
+fold-max-le bound a [] first rest = first
+fold-max-le bound a (x ∷ xs) first rest =
+    fold-max-le bound (max a x) xs (max-le first (All-head (λ y. y ≤ bound) x xs rest)) (All-tail (λ y. y ≤ bound) x xs rest)
+
+-- the parameters of an action have at most 2,048 bits
+params-few : (params : List ℕ) → All IsWidth params → length params ≤ 16 → sum params ≤ 2048
+params-few params widths few =
+    let each : All (λ w. w ≤ 128) params = All-weaker IsWidth (λ w. w ≤ 128) (λ w is. is.1) params widths in
+    let bits : sum params ≤ length params * 128 = sum_by-le (λ w. w) 128 params each in
+    omega arith
+
+option_params : (p : Program) → IsProgram p → (a : ℕ) (o : Option Action) → slice_get p.actions a ≡ o → unwrap_or (option_map (λ (x : Action). sum x.params) o) 0 ≤ 2048
+option_params p is a None at = omega arith
+option_params p is a (Some x) at =
+    let action = All-slice_get (IsAction p) p.actions a x is.actions at in params-few x.params action.params action.few_params
+
+pub param_bits-few : (p : Program) → IsProgram p → (a : ℕ) → param_bits p a ≤ 2048
+param_bits-few p is a = option_params p is a (slice_get p.actions a) refl
+
+every : (P : ℕ → Type 0) → ((x : ℕ) → P x) → (xs : List ℕ) → All P xs
+every P each [] = All-nil P
+every P each (x ∷ xs) = All-cons P x xs (each x) (every P each xs)
+
+pub data_bits-few : (p : Program) → IsProgram p → (t : Table) → data_bits p t ≤ 2048
+data_bits-few p is t =
+    fold-max-le 2048 0 (map (param_bits p) t.actions) (omega arith)
+    (All-map (λ x. x ≤ 2048) (param_bits p) t.actions (every (λ a. param_bits p a ≤ 2048) (param_bits-few p is) t.actions))
+
+-- a field has at least one bit
+width-some : (p : Program) → IsProgram p → (f : ℕ) → f < length p.fields → 1 ≤ width_of p f
+width-some p is f there =
+    let item = slice_get-item p.fields f there in
+    let field = All-slice_get (λ (x : Field). IsWidth x.width) p.fields f item.0 is.fields.widths item.1 in
+    let width : width_of p f ≡ item.0.width = ap (λ (o : Option Field). unwrap_or (option_map (λ (x : Field). x.width) o) 0) item.1 in
+    omega (arith, field.0)
+
+key-some : (p : Program) → IsProgram p → (fs : List ℕ) → 1 ≤ length fs → All (λ f. f < length p.fields) fs → 1 ≤ bits_of p fs
+key-some p is [] some fields = absurd (omega arith)
+key-some p is (f ∷ fs) some fields =
+    let first : 1 ≤ width_of p f = width-some p is f (All-head (λ g. g < length p.fields) f fs fields) in
+    omega (arith, sum_by-cons (λ x. x) (width_of p f) (map (width_of p) fs))
+
+keyed_need : (p : Program) → IsProgram p → (t : Table) → IsKeyed p t → IsNeed (table_need p t)
+keyed_need p is t key = record {
+  has_key = key-some p is t.key key.has_key key.key_fields;
+  key = key.key_bits;
+  held = data_bits-few p is t;
+  has_size = key.has_size;
+  size = key.size;
+}
+
+has_need_of_kind : (p : Program) → IsProgram p → (t : Table) (kind : Kind) → HasKey p kind t → HasNeed kind (table_need p t)
+has_need_of_kind p is t Keyless key = tt
+has_need_of_kind p is t Exact key = keyed_need p is t key
+has_need_of_kind p is t Prefix key = keyed_need p is t key.0
+has_need_of_kind p is t Ternary key = keyed_need p is t key
+
+-- what each table of a well-formed program needs has a format
+pub has_need : (p : Program) → IsProgram p → (n : ℕ) (t : Table) → slice_get p.tables n ≡ Some t → HasNeed t.kind (table_need p t)
+has_need p is n t at = has_need_of_kind p is t t.kind (All-slice_get (IsTable p) p.tables n t is.tables at).key
+
+-- the bits of a key are no more than a number holds
+key-small_of_kind : (p : Program) (t : Table) (kind : Kind) → HasKey p kind t → key_bits p t ≤ 640
+key-small_of_kind p t Keyless key = subst (λ (fs : List ℕ). bits_of p fs ≤ 640) (sym key.key) (omega arith)
+key-small_of_kind p t Exact key = key.key_bits
+key-small_of_kind p t Prefix key = key.0.key_bits
+key-small_of_kind p t Ternary key = key.key_bits
+
+pub key-small : (p : Program) (t : Table) → IsTable p t → key_bits p t < 2 ^ 32
+key-small p t is = omega (arith, key-small_of_kind p t t.kind is.key)
+
+pub params-small : (p : Program) → IsProgram p → (t : Table) → All (λ a. param_bits p a < 2 ^ 32) t.actions
+params-small p is t = every (λ a. param_bits p a < 2 ^ 32) (λ a. omega (arith, param_bits-few p is a)) t.actions
+
+pub table_has_need : (p : Program) → IsProgram p → (t : Table) → IsTable p t → HasNeed t.kind (table_need p t)
+table_has_need p is t table = has_need_of_kind p is t t.kind table.key

@@ -1,0 +1,157 @@
+//! The records of cells of exact parts and of rows of ternary parts.
+
+ghost use Rattle.std.specs.Prelude.{◌≡◌, ◌+◌, ◌*◌, ◌-◌, ◌/◌, ◌%◌, ◌^◌, ◌<◌, ◌≤◌, length};
+ghost use Rattle.rmt_bits.specs.Bits.{number_of};
+ghost use Rattle.rmt_config.specs.Shapes.{divided_up as divided_up_of, record_width as record_width_of, records_a_row as records_a_row_of, record_units as record_units_of};
+ghost use Rattle.rmt_pack.specs.Rows.{blocks_of};
+ghost use Rattle.rmt_pack.specs.Shape.{IsShape, cells_in};
+ghost use Rattle.rmt_pack.specs.Cells.{record_of, HoldsRecord, EntriesStay, OtherRecordsStay, PutsRecord, quantum_in, index_in, thousands_in};
+
+use crate::place::{Spot, blocks_from, place_of};
+use crate::rows::Rows;
+use crate::run::{read_run, write_run};
+use crate::shape::{EXACT, Shape};
+
+/// The quotient, rounded up.
+fn divided_up(a: u32, b: u32) -> u32
+    requires some { 0 < b }
+    requires fits { a + b < 2 ^ 32 }
+    ensures { result ≡ divided_up_of a b }
+{
+    (a + b - 1) / b
+}
+
+/// How many blocks stand side by side for a record of `held` bits.
+fn record_width(held: u16) -> u32
+    ensures { result ≡ record_width_of held }
+{
+    divided_up(held as u32, 112)
+}
+
+/// How many records of `held` bits a row of such blocks has.
+fn records_a_row(held: u16) -> u32
+    requires { 0 < held }
+    ensures value { result ≡ records_a_row_of held }
+    ensures some { 0 < result }
+    ensures most { result < 113 }
+{
+    112 * record_width(held) / held as u32
+}
+
+/// A quantum of a part, and the number of a cell or row in it.
+#[derive(Clone, Copy)]
+struct InQuantum {
+    quantum: u32,
+    index: u32,
+}
+
+/// The quantum in which a cell or row stands.
+fn quantum_of(shape: &Shape, cell: u32) -> InQuantum
+    requires shape { IsShape shape.now }
+    requires cell { cell < cells_in shape.now }
+    ensures quantum { result.quantum ≡ quantum_in shape.now cell }
+    ensures index { result.index ≡ index_in shape.now cell }
+    ensures quanta { result.quantum < shape.now.quanta }
+    ensures indices { result.index < 1024 * thousands_in shape.now }
+{
+    if shape.memory == EXACT {
+        let place = place_of(shape, cell);
+        InQuantum {
+            quantum: place.row / 1024,
+            index: (place.way * 1024 + place.row % 1024) * shape.per as u32 + place.position,
+        }
+    } else {
+        InQuantum {
+            quantum: cell / 2048,
+            index: cell % 2048,
+        }
+    }
+}
+
+/// How many times 1,024 cells or rows a quantum has.
+fn thousands_of(shape: &Shape) -> u32
+    ensures { result ≡ thousands_in shape.now }
+{
+    if shape.memory == EXACT {
+        4 * shape.per as u32
+    } else {
+        2
+    }
+}
+
+/// Where the record of a cell or row begins.
+fn spot_of(shape: &Shape, cell: u32) -> Spot
+    requires shape { IsShape shape.now }
+    requires cell { cell < cells_in shape.now }
+    requires some { 0 < shape.now.held }
+    ensures first { let q = records_a_row_of shape.now.held in
+        result.first ≡ (quantum_in shape.now cell * record_units_of (thousands_in shape.now) shape.now.held + index_in shape.now cell / (1024 * q)) * record_width_of shape.now.held }
+    ensures row { let q = records_a_row_of shape.now.held in result.row ≡ index_in shape.now cell % (1024 * q) / q }
+    ensures low { result.low ≡ index_in shape.now cell % records_a_row_of shape.now.held * shape.now.held }
+    ensures rows { result.row < 1024 }
+    ensures there { result.first + record_width_of shape.now.held ≤ length shape.now.records }
+    ensures room { result.low + shape.now.held ≤ 112 * record_width_of shape.now.held }
+{
+    let per = records_a_row(shape.held);
+    let at = quantum_of(shape, cell);
+    let units = divided_up(thousands_of(shape), per);
+    let unit = at.quantum * units + at.index / (1024 * per);
+    Spot {
+        first: unit as usize * record_width(shape.held) as usize,
+        row: (at.index % (1024 * per) / per) as u16,
+        low: at.index % per * shape.held as u32,
+    }
+}
+
+/// Puts bytes into the record of a cell or row; a record of no bits has no place.
+fn put_record(rows: &mut Rows, shape: &Shape, cell: u32, held: &[u8])
+    requires shape { IsShape shape.now }
+    requires cell { cell < cells_in shape.now }
+    requires held { length held.now ≡ divided_up_of shape.now.held 8 }
+    requires small { number_of held.now < 2 ^ shape.now.held }
+    ensures bits { PutsRecord (blocks_of rows.old) (blocks_of rows.new) shape.now cell (number_of held.now) }
+    ensures fits { shape.now.held < 2 ^ 16 }
+{
+    if shape.held == 0 {
+        return;
+    }
+    let spot = spot_of(shape, cell);
+    let width = record_width(shape.held) as usize;
+    let blocks = blocks_from(shape.records.as_slice(), spot.first, width);
+    write_run(rows, blocks, spot.row, spot.low, shape.held as u32, held);
+}
+
+/// Writes the record of a cell or row, as bytes, highest first.
+pub fn write_record(rows: &mut Rows, shape: &Shape, cell: u32, held: &[u8])
+    requires shape { IsShape shape.now }
+    requires cell { cell < cells_in shape.now }
+    requires held { length held.now ≡ divided_up_of shape.now.held 8 }
+    requires small { number_of held.now < 2 ^ shape.now.held }
+
+    // A record reads back.
+    ensures holds { HoldsRecord (blocks_of rows.new) shape.now cell held.now }
+    ensures record { record_of (blocks_of rows.new) shape.now cell ≡ number_of held.now }
+
+    // All else stays.
+    ensures others { OtherRecordsStay (blocks_of rows.old) (blocks_of rows.new) shape.now cell }
+    ensures entries { EntriesStay (blocks_of rows.old) (blocks_of rows.new) shape.now }
+    ensures bits { PutsRecord (blocks_of rows.old) (blocks_of rows.new) shape.now cell (number_of held.now) }
+{
+    put_record(rows, shape, cell, held);
+}
+
+/// Reads the record of a cell or row into bytes, highest first; what they held before is lost.
+pub fn read_record(rows: &Rows, shape: &Shape, cell: u32, held: &mut [u8])
+    requires shape { IsShape shape.now }
+    requires cell { cell < cells_in shape.now }
+    requires held { length held.old ≡ divided_up_of shape.now.held 8 }
+    ensures { HoldsRecord (blocks_of rows.now) shape.now cell held.new }
+{
+    if shape.held == 0 {
+        return;
+    }
+    let spot = spot_of(shape, cell);
+    let width = record_width(shape.held) as usize;
+    let blocks = blocks_from(shape.records.as_slice(), spot.first, width);
+    read_run(rows, blocks, spot.row, spot.low, shape.held as u32, held);
+}

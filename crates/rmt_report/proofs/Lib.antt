@@ -1,0 +1,3 @@
+mod Examples
+mod MarkLaws
+mod ReportLaws

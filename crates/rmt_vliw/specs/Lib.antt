@@ -1,0 +1,4 @@
+pub mod Folding
+pub mod Known
+pub mod Operations
+pub mod Effects
