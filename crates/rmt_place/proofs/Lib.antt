@@ -1,0 +1,12 @@
+pub mod ApartLaws
+pub mod Examples
+pub mod HitLaws
+pub mod KeepLaws
+pub mod LeastLaws
+pub mod LegalLaws
+pub mod LegalPlacement
+pub mod LoadLaws
+pub mod OrderLaws
+pub mod PlaceLaws
+pub mod StageLaws
+pub mod StartLaws

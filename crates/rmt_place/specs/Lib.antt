@@ -1,0 +1,5 @@
+pub mod Needs
+pub mod Placing
+pub mod Starting
+pub mod Steps
+pub mod Standings

@@ -1,0 +1,78 @@
+//! Why nodes are not placed, or stages not started.
+
+ghost use Rattle.std.specs.Prelude.{◌≡◌};
+ghost use Rattle.rmt_place.specs.declared.fault.PlaceFault.TheVariants as place_fault;
+ghost use Rattle.rmt_place.specs.declared.fault.StageFull.TheVariants as stage_full;
+
+use rmt_bits::sequence::Sequence;
+use rmt_config::limits::LimitHit;
+use rmt_deps::fault::DepsFault;
+use rmt_pack::placement::Placement;
+use std::alloc::{AllocError, AllocFailed};
+use thiserror::Error;
+
+/// Why stages are not started.
+#[derive(Debug, Drop, Error)]
+pub enum PlaceFault {
+    /// There is not enough memory.
+    #[error("out of memory")]
+    NoMemory,
+}
+
+impl From<AllocError> for PlaceFault {
+    ghost from_gives = { λ _ e. e ≡ place_fault.NoMemory };
+
+    fn from(_error: AllocError) -> PlaceFault {
+        PlaceFault::NoMemory
+    }
+}
+
+impl<T: Drop> From<AllocFailed<T>> for PlaceFault {
+    ghost from_gives = { λ _ e. e ≡ place_fault.NoMemory };
+
+    fn from(_error: AllocFailed<T>) -> PlaceFault {
+        PlaceFault::NoMemory
+    }
+}
+
+/// Why nodes are not placed.
+#[derive(Debug, Drop, Error)]
+pub enum StageFull {
+    /// There is not enough memory.
+    #[error("out of memory")]
+    NoMemory,
+    /// A node doesn't stand in the stages that are left for it.
+    #[error("node {node} doesn't stand in the stages that are left for it")]
+    At {
+        /// The number of the node, from 0 on.
+        node: u32,
+        /// What was placed, with the quanta of this node that found room.
+        placed: Placement,
+        /// For each stage from the node's earliest on, the first limit that one more of its quanta would pass.
+        hits: Sequence<LimitHit>,
+    },
+}
+
+impl From<AllocError> for StageFull {
+    ghost from_gives = { λ _ e. e ≡ stage_full.NoMemory };
+
+    fn from(_error: AllocError) -> StageFull {
+        StageFull::NoMemory
+    }
+}
+
+impl<T: Drop> From<AllocFailed<T>> for StageFull {
+    ghost from_gives = { λ _ e. e ≡ stage_full.NoMemory };
+
+    fn from(_error: AllocFailed<T>) -> StageFull {
+        StageFull::NoMemory
+    }
+}
+
+impl From<DepsFault> for StageFull {
+    ghost from_gives = { λ _ e. e ≡ stage_full.NoMemory };
+
+    fn from(_error: DepsFault) -> StageFull {
+        StageFull::NoMemory
+    }
+}

@@ -1,0 +1,13 @@
+//! Places the nodes of a program into the stages of the chip, and starts the stages as early as they may.
+#![tactic(auto)]
+
+pub mod demand;
+pub mod fault;
+mod load;
+mod order;
+pub mod placing;
+mod stages;
+pub mod start;
+
+pub use placing::place;
+pub use start::offsets;

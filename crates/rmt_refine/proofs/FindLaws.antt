@@ -1,0 +1,183 @@
+-- What `find` gives: an item that passes, the least of a range, and the best by an order.
+use Rattle.std.proofs.Common.{◌≡◌, ℕ, zero, suc, ◌+◌, ◌<◌, ◌≤◌, ◌≢◌, Bool, true, false, ◌&&◌, cond, List, [], ◌∷◌, Option, Some, None, length, get_or, refl, sym, subst, ◌⊎◌, inl, inr, arith}
+use Rattle.std.specs.Prelude.{All, Contains, filter, find}
+use Rattle.std.specs.List.{range_with_len}
+use Rattle.std.proofs.lemmas.Bool.{and_parts, both_ways}
+use Rattle.std.proofs.lemmas.List.FromFn.{length-range_with_len, get_or-range_with_len}
+use Rattle.std.proofs.lemmas.Option.{none-some, same_Some}
+
+-- ---- members
+
+pub Contains-first : {X : Type 0} (x : X) (xs : List X) → Contains (x ∷ xs) x
+Contains-first x xs = (0, omega arith, refl)
+
+pub Contains-later : {X : Type 0} (y : X) (xs : List X) (x : X) → Contains xs x → Contains (y ∷ xs) x
+Contains-later y xs x h = let lt = h.1 in (suc h.0, omega (arith, lt), h.2)
+
+split_at : {X : Type 0} (y : X) (xs : List X) (x : X) (k : ℕ) → k < length (y ∷ xs) → get_or (y ∷ xs) k x ≡ x → (y ≡ x) ⊎ Contains xs x
+split_at y xs x zero lt e = inl e
+split_at y xs x (suc k) lt e = inr (k, omega (arith, lt), e)
+
+pub Contains-split : {X : Type 0} (y : X) (xs : List X) (x : X) → Contains (y ∷ xs) x → (y ≡ x) ⊎ Contains xs x
+Contains-split y xs x h = split_at y xs x h.0 h.1 h.2
+
+pub All-contains : {X : Type 0} (P : X → Type 0) (xs : List X) (x : X) → All P xs → Contains xs x → P x
+All-contains P xs x all h = subst P h.2 (all h.0 x h.1)
+
+pub Contains-range : (n i : ℕ) → i < n → Contains (range_with_len 0 n) i
+Contains-range n i lt =
+    let e : 0 + i ≡ i = omega arith in
+    (i, subst (λ m. i < m) (sym (length-range_with_len 0 n)) lt, subst (λ m. get_or (range_with_len 0 n) i i ≡ m) e (get_or-range_with_len 0 n i i lt))
+
+pub Contains-range_from : (a n i : ℕ) → i < n → Contains (range_with_len a n) (a + i)
+Contains-range_from a n i lt = (i, subst (λ m. i < m) (sym (length-range_with_len a n)) lt, get_or-range_with_len a n i (a + i) lt)
+
+kept : {X : Type 0} (b : Bool) (test : X → Bool) (x : X) (xs : List X) (y : X) → test x ≡ b → test y ≡ true → Contains (x ∷ xs) y
+    → (Contains xs y → Contains (filter test xs) y) → Contains (cond b (x ∷ filter test xs) (filter test xs)) y
+kept true test x xs y e pass there rest =
+    elim (Contains-split x xs y there) [
+      | inl same ↦ subst (λ z. Contains (z ∷ filter test xs) y) (sym same) (Contains-first y (filter test xs))
+      | inr later ↦ Contains-later x (filter test xs) y (rest later)
+    ]
+kept false test x xs y e pass there rest =
+    elim (Contains-split x xs y there) [
+      | inl same ↦ absurd (both_ways (test x) e (subst (λ z. test z ≡ true) (sym same) pass))
+      | inr later ↦ rest later
+    ]
+
+-- a member that passes is kept by a filter, and what is kept was there and passes
+pub filter_keeps : {X : Type 0} (test : X → Bool) (xs : List X) (y : X) → Contains xs y → test y ≡ true → Contains (filter test xs) y
+filter_keeps test [] y there pass = absurd (let lt = there.1 in omega (arith, lt))
+filter_keeps test (x ∷ xs) y there pass = kept (test x) test x xs y refl pass there (λ later. filter_keeps test xs y later pass)
+
+was : {X : Type 0} (b : Bool) (test : X → Bool) (x : X) (xs : List X) (y : X) → test x ≡ b → Contains (cond b (x ∷ filter test xs) (filter test xs)) y
+    → (Contains (filter test xs) y → Contains xs y × (test y ≡ true)) → Contains (x ∷ xs) y × (test y ≡ true)
+was true test x xs y e h rest =
+    elim (Contains-split x (filter test xs) y h) [
+      | inl same ↦ (subst (λ z. Contains (x ∷ xs) z) same (Contains-first x xs), subst (λ z. test z ≡ true) same e)
+      | inr later ↦ let r = rest later in (Contains-later x xs y r.0, r.1)
+    ]
+was false test x xs y e h rest = let r = rest h in (Contains-later x xs y r.0, r.1)
+
+pub filtered_there : {X : Type 0} (test : X → Bool) (xs : List X) (y : X) → Contains (filter test xs) y → Contains xs y × (test y ≡ true)
+filtered_there test [] y there = absurd (let lt = there.1 in omega (arith, lt))
+filtered_there test (x ∷ xs) y there = was (test x) test x xs y refl there (λ later. filtered_there test xs y later)
+
+-- ---- an item that passes
+
+cond_cases : {X : Type 0} (b : Bool) (y x : X) (rest : Option X) → cond b (Some y) rest ≡ Some x → ((b ≡ true) × (y ≡ x)) ⊎ ((b ≡ false) × (rest ≡ Some x))
+cond_cases true y x rest e = inl (refl, same_Some y x e)
+cond_cases false y x rest e = inr (refl, e)
+
+pub find-passes : {X : Type 0} (test : X → Bool) (xs : List X) (x : X) → find test xs ≡ Some x → Contains xs x × (test x ≡ true)
+find-passes test [] x e = absurd (none-some x e)
+find-passes test (y ∷ ys) x e =
+    elim (cond_cases (test y) y x (find test ys) e) [
+      | inl h ↦ (subst (λ z. Contains (y ∷ ys) z) h.1 (Contains-first y ys), subst (λ z. test z ≡ true) h.1 h.0)
+      | inr h ↦ let r = find-passes test ys x h.1 in (Contains-later y ys x r.0, r.1)
+    ]
+
+cond_some : {X : Type 0} (b : Bool) (y : X) (rest : Option X) → (b ≡ false → (z : X) × (rest ≡ Some z)) → (z : X) × (cond b (Some y) rest ≡ Some z)
+cond_some true y rest h = (y, refl)
+cond_some false y rest h = h refl
+
+-- a list with an item that passes
+pub find-some : {X : Type 0} (test : X → Bool) (xs : List X) (x : X) → Contains xs x → test x ≡ true → (z : X) × (find test xs ≡ Some z)
+find-some test [] x h pass = absurd (let lt = h.1 in omega (arith, lt))
+find-some test (y ∷ ys) x h pass =
+    cond_some (test y) y (find test ys) (λ fails.
+    elim (Contains-split y ys x h) [
+      | inl e ↦ absurd (both_ways (test x) (subst (λ z. test z ≡ false) e fails) pass)
+      | inr later ↦ find-some test ys x later pass
+    ])
+
+-- no item, where each that there may be is refuted
+pub none_unless : {X : Type 0} (o : Option X) → ((x : X) → o ≡ Some x → ⊥) → o ≡ None
+none_unless None h = refl
+none_unless (Some x) h = absurd (h x refl)
+
+-- the first number of a range that passes is the least
+pub find-least : (test : ℕ → Bool) (a n j i : ℕ) → find test (range_with_len a n) ≡ Some j → a ≤ i → i < a + n → test i ≡ true → j ≤ i
+find-least test a zero j i e le lt pass = absurd (none-some j e)
+find-least test a (suc n) j i e le lt pass =
+    elim (cond_cases (test a) a j (find test (range_with_len (a + 1) n)) e) [
+      | inl h ↦ let same = h.1 in omega (arith, same)
+      | inr h ↦
+          let ne : i ≢ a = λ same. both_ways (test a) h.0 (subst (λ z. test z ≡ true) same pass) in
+          find-least test (a + 1) n j i h.1 (omega (arith, ne, le)) (omega (arith, lt)) pass
+    ]
+
+-- ---- the best item
+
+-- an item that passes, and that no other one that passes comes before
+pub record IsBest {X : Type 0} (test : X → Bool) (before : X → X → Bool) (xs : List X) (m : X) : Type 0 where
+  pub there : Contains xs m
+  pub passes : test m ≡ true
+  pub best : (o : X) → Contains xs o → test o ≡ true → before o m ≡ true → ⊥
+
+tells : {X : Type 0} (test : X → Bool) (xs : List X) (o : Option X) → find test xs ≡ o
+    → ((x : X) → Contains xs x → test x ≡ true → ⊥) ⊎ ((z : X) × Contains xs z × (test z ≡ true))
+tells test xs None e = inl (λ x h pass. let r = find-some test xs x h pass in none-some r.0 (subst (λ q. q ≡ Some r.0) e r.1))
+tells test xs (Some z) e = let r = find-passes test xs z e in inr (z, r.0, r.1)
+
+and_from : (a b : Bool) → a ≡ true → b ≡ true → (a && b) ≡ true
+and_from true b ha hb = hb
+and_from false b ha hb = ha
+
+better : {X : Type 0} (test : X → Bool) (before : X → X → Bool) → ((x : X) → before x x ≡ true → ⊥)
+    → ((x y z : X) → before x y ≡ true → before y z ≡ true → before x z ≡ true)
+    → (y : X) (ys : List X) (m : X) → IsBest test before ys m → (b : Bool) → (test y && before y m) ≡ b → (z : X) × IsBest test before (y ∷ ys) z
+better test before never chain y ys m is true e =
+    let both = and_parts (test y) (before y m) e in (
+      y,
+      record {
+        there = Contains-first y ys;
+        passes = both.0;
+        best = λ o h pass first.
+            elim (Contains-split y ys o h) [
+              | inl same ↦ never y (subst (λ z. before z y ≡ true) (sym same) first)
+              | inr later ↦ is.best o later pass (chain o y m first both.1)
+            ];
+      },
+    )
+better test before never chain y ys m is false e = (
+  m,
+  record {
+    there = Contains-later y ys m is.there;
+    passes = is.passes;
+    best = λ o h pass first.
+        elim (Contains-split y ys o h) [
+          | inl same ↦
+              both_ways (test y && before y m) e
+              (and_from (test y) (before y m) (subst (λ z. test z ≡ true) (sym same) pass) (subst (λ z. before z m ≡ true) (sym same) first))
+          | inr later ↦ is.best o later pass first
+        ];
+  },
+)
+
+-- where an order is strict, a list with an item that passes has a best one
+pub best_there : {X : Type 0} (test : X → Bool) (before : X → X → Bool) → ((x : X) → before x x ≡ true → ⊥)
+    → ((x y z : X) → before x y ≡ true → before y z ≡ true → before x z ≡ true)
+    → (xs : List X) (x : X) → Contains xs x → test x ≡ true → (m : X) × IsBest test before xs m
+best_there test before never chain [] x h pass = absurd (let lt = h.1 in omega (arith, lt))
+best_there test before never chain (y ∷ ys) x h pass =
+    elim (tells test ys (find test ys) refl) [
+      | inl none ↦ elim (Contains-split y ys x h) [
+        | inl e ↦ (
+          y,
+          record {
+            there = Contains-first y ys;
+            passes = subst (λ z. test z ≡ true) (sym e) pass;
+            best = λ o there passes first.
+                elim (Contains-split y ys o there) [
+                  | inl same ↦ never y (subst (λ z. before z y ≡ true) (sym same) first)
+                  | inr later ↦ none o later passes
+                ];
+          },
+        )
+        | inr later ↦ absurd (none x later pass)
+      ]
+      | inr some ↦
+          let r = best_there test before never chain ys some.0 some.1 some.2 in
+          better test before never chain y ys r.0 r.1 (test y && before y r.0) refl
+    ]

@@ -1,0 +1,150 @@
+-- Which of two entries that match comes first.
+use Rattle.std.proofs.Common.{◌≡◌, ◌≢◌, ℕ, ◌<◌, Bool, true, false, ◌&&◌, ◌==◌, List, length, map, get_or, refl, sym, ap, ◌∙◌, subst, ◌⊎◌, inl, inr, arith}
+use Rattle.std.specs.Prelude.{AllPairs, Contains, nat_lt}
+use Rattle.std.specs.List.{AllZip}
+use Rattle.std.proofs.lemmas.Bool.{and_parts, both_ways, cases_lt, eqb-true, eq-eqb, lt-ltb, ltb-true, or_cases, or_left, or_right}
+use Rattle.std.proofs.lemmas.List.{get_or_default}
+use Rattle.rmt_ast.specs.declared.program.Program.{Program}
+use Rattle.rmt_ast.specs.declared.program.Test.{Test}
+use Rattle.rmt_ast.specs.declared.program.Table.{Table}
+use Rattle.rmt_ast.specs.declared.program.Kind.{Kind}
+use Rattle.rmt_ast.specs.declared.program.Kind.TheVariants.{Keyless, Exact, Prefix, Ternary}
+use Rattle.rmt_ast.specs.declared.entry.Entry.{Entry}
+use Rattle.rmt_ast.specs.EntryLists.{AreTableEntries, HasKeysOnce, HasRank, IsEntry, IsPrefix, IsWhole, terms_of}
+use Rattle.rmt_ast.specs.Lookup.{matches, precedes}
+use Rattle.rmt_ast.specs.State.{width_of}
+use Rattle.rmt_ast.specs.WellFormed.{IsTest}
+use Rattle.rmt_refine.proofs.FindLaws.{All-contains}
+use Rattle.rmt_refine.proofs.KeyLaws.{prefix_masks, same_tests, whole_masks}
+
+-- ---- the order is strict
+
+never_lt : (n : ℕ) → nat_lt n n ≡ true → ⊥
+never_lt n h = let lt = ltb-true n n h in omega (arith, lt)
+
+lt_chain : (a b c : ℕ) → nat_lt a b ≡ true → nat_lt b c ≡ true → nat_lt a c ≡ true
+lt_chain a b c h g = let ab = ltb-true a b h in let bc = ltb-true b c g in lt-ltb a c (omega (arith, ab, bc))
+
+-- a lower priority number, or the same and an earlier line
+abbrev IsEarlier : Entry → Entry → Type 0
+IsEarlier a b = (a.rank < b.rank) ⊎ ((a.rank ≡ b.rank) × (a.number < b.number))
+
+earlier : (a b : Entry) → precedes Ternary a b ≡ true → IsEarlier a b
+earlier a b h =
+    elim (or_cases (nat_lt a.rank b.rank) ((a.rank == b.rank) && nat_lt a.number b.number) h) [
+      | inl lt ↦ inl (ltb-true a.rank b.rank lt)
+      | inr both ↦
+          let r = and_parts (a.rank == b.rank) (nat_lt a.number b.number) both in
+          inr (eqb-true a.rank b.rank r.0, ltb-true a.number b.number r.1)
+    ]
+
+and_from : (a b : Bool) → a ≡ true → b ≡ true → (a && b) ≡ true
+and_from true b ha hb = hb
+and_from false b ha hb = ha
+
+from_earlier : (a b : Entry) → IsEarlier a b → precedes Ternary a b ≡ true
+from_earlier a b (inl lt) = or_left (nat_lt a.rank b.rank) ((a.rank == b.rank) && nat_lt a.number b.number) (lt-ltb a.rank b.rank lt)
+from_earlier a b (inr both) =
+    or_right (nat_lt a.rank b.rank) ((a.rank == b.rank) && nat_lt a.number b.number)
+    (and_from (a.rank == b.rank) (nat_lt a.number b.number) (eq-eqb a.rank b.rank both.0) (lt-ltb a.number b.number both.1))
+
+pub precedes_never : (kind : Kind) (e : Entry) → precedes kind e e ≡ true → ⊥
+precedes_never Keyless e h = both_ways false refl h
+precedes_never Exact e h = both_ways false refl h
+precedes_never Prefix e h = never_lt e.rank h
+precedes_never Ternary e h =
+    elim (earlier e e h) [
+      | inl lt ↦ omega (arith, lt)
+      | inr both ↦ let lt = both.1 in omega (arith, lt)
+    ]
+
+earlier_chain : (a b c : Entry) → IsEarlier a b → IsEarlier b c → IsEarlier a c
+earlier_chain a b c (inl x) (inl y) = inl (omega (arith, x, y))
+earlier_chain a b c (inl x) (inr y) = let e = y.0 in inl (omega (arith, x, e))
+earlier_chain a b c (inr x) (inl y) = let e = x.0 in inl (omega (arith, y, e))
+earlier_chain a b c (inr x) (inr y) = let l = x.1 in let m = y.1 in inr (x.0 ∙ y.0, omega (arith, l, m))
+
+pub precedes_chain : (kind : Kind) (a b c : Entry) → precedes kind a b ≡ true → precedes kind b c ≡ true → precedes kind a c ≡ true
+precedes_chain Keyless a b c h g = h
+precedes_chain Exact a b c h g = h
+precedes_chain Prefix a b c h g = lt_chain c.rank b.rank a.rank g h
+precedes_chain Ternary a b c h g = from_earlier a c (earlier_chain a b c (earlier a b h) (earlier b c g))
+
+-- ---- of two entries that match one comes first, or they are the same
+
+pairs_at : {X : Type 0} (R : X → X → Type 0) (xs : List X) (a b : X) → AllPairs R xs → (i j : ℕ) → i < length xs → j < length xs
+    → get_or xs i a ≡ a → get_or xs j b ≡ b → (R a b → ⊥) → (R b a → ⊥) → (i < j) ⊎ ((j < i) ⊎ (i ≡ j)) → a ≡ b
+pairs_at R xs a b pairs i j li lj ea eb not_ab not_ba (inl lt) =
+    absurd (not_ab (subst (λ y. R a y) (get_or_default xs j a b lj ∙ eb) (subst (λ x. R x (get_or xs j a)) ea (pairs i j a lt lj))))
+pairs_at R xs a b pairs i j li lj ea eb not_ab not_ba (inr (inl lt)) =
+    absurd (not_ba (subst (λ y. R y a) eb (subst (λ x. R (get_or xs j b) x) (get_or_default xs i b a li ∙ ea) (pairs j i b lt li))))
+pairs_at R xs a b pairs i j li lj ea eb not_ab not_ba (inr (inr e)) =
+    sym ea ∙ ap (λ k. get_or xs k a) e ∙ get_or_default xs j a b lj ∙ eb
+
+pub compare : (i j : ℕ) → (i < j) ⊎ ((j < i) ⊎ (i ≡ j))
+compare i j =
+    elim (cases_lt i j) [
+      | inl lt ↦ inl lt
+      | inr le ↦ elim (cases_lt j i) [
+        | inl lt ↦ inr (inl lt)
+        | inr back ↦ inr (inr (omega (arith, le, back)))
+      ]
+    ]
+
+-- two members of a list in which no two stand so to each other
+pub pairs_same : {X : Type 0} (R : X → X → Type 0) (xs : List X) (a b : X) → AllPairs R xs → Contains xs a → Contains xs b → (R a b → ⊥) → (R b a → ⊥) → a ≡ b
+pairs_same R xs a b pairs ca cb not_ab not_ba = pairs_at R xs a b pairs ca.0 cb.0 ca.1 cb.1 ca.2 cb.2 not_ab not_ba (compare ca.0 cb.0)
+
+-- which of two comes first
+abbrev pub Ordered : Kind → Entry → Entry → Type 0
+Ordered kind a b = (a ≡ b) ⊎ ((precedes kind a b ≡ true) ⊎ (precedes kind b a ≡ true))
+
+same_keys : (p : Program) (s key : List ℕ) (es : List Entry) (M : ℕ → Test → Type 0) (masks : (w : ℕ) (t u : Test) → M w t → M w u → t.mask ≡ u.mask)
+    (a b : Entry) → AllPairs (λ (x y : Entry). x.tests ≢ y.tests) es → Contains es a → Contains es b
+    → AllZip IsTest (map (width_of p) key) a.tests → AllZip IsTest (map (width_of p) key) b.tests
+    → AllZip M (map (width_of p) key) a.tests → AllZip M (map (width_of p) key) b.tests → matches key s a ≡ true → matches key s b ≡ true → a ≡ b
+same_keys p s key es M masks a b once ca cb ta tb ma mb pa pb =
+    let same = same_tests p s key M masks a.tests b.tests ta tb ma mb pa pb in
+    pairs_same (λ (x y : Entry). x.tests ≢ y.tests) es a b once ca cb (λ ne. ne same) (λ ne. ne (sym same))
+
+ordered : (kind : Kind) (p : Program) (s key : List ℕ) (es : List Entry) (a b : Entry) → HasKeysOnce kind es → AllPairs (λ (x y : Entry). x.number < y.number) es
+    → Contains es a → Contains es b
+    → AllZip IsTest (map (width_of p) key) a.tests → AllZip IsTest (map (width_of p) key) b.tests
+    → HasRank kind (map (width_of p) key) a → HasRank kind (map (width_of p) key) b
+    → matches key s a ≡ true → matches key s b ≡ true → (kind ≡ Keyless → ⊥) → Ordered kind a b
+ordered Keyless p s key es a b once rising ca cb ta tb ra rb pa pb keyed = absurd (keyed refl)
+ordered Exact p s key es a b once rising ca cb ta tb ra rb pa pb keyed =
+    inl (same_keys p s key es IsWhole whole_masks a b once ca cb ta tb ra.0 rb.0 pa pb)
+ordered Prefix p s key es a b once rising ca cb ta tb ra rb pa pb keyed =
+    elim (compare a.rank b.rank) [
+      | inl lt ↦ inr (inr (lt-ltb a.rank b.rank lt))
+      | inr more ↦ elim more [
+        | inl lt ↦ inr (inl (lt-ltb b.rank a.rank lt))
+        | inr e ↦
+            inl (same_keys p s key es (IsPrefix b.rank) (prefix_masks b.rank) a b once ca cb ta tb
+            (subst (λ r. AllZip (IsPrefix r) (map (width_of p) key) a.tests) e ra) rb pa pb)
+      ]
+    ]
+ordered Ternary p s key es a b once rising ca cb ta tb ra rb pa pb keyed =
+    elim (compare a.rank b.rank) [
+      | inl lt ↦ inr (inl (from_earlier a b (inl lt)))
+      | inr more ↦ elim more [
+        | inl lt ↦ inr (inr (from_earlier b a (inl lt)))
+        | inr e ↦ elim (compare a.number b.number) [
+          | inl lt ↦ inr (inl (from_earlier a b (inr (e, lt))))
+          | inr others ↦ elim others [
+            | inl lt ↦ inr (inr (from_earlier b a (inr (sym e, lt))))
+            | inr same ↦
+                inl (pairs_same (λ (x y : Entry). x.number < y.number) es a b rising ca cb (λ lt. omega (arith, same, lt)) (λ lt. omega (arith, same, lt)))
+          ]
+        ]
+      ]
+    ]
+
+-- of two entries of a table that both match a state
+pub are_ordered : (p : Program) (n : ℕ) (t : Table) (es : List Entry) (s : List ℕ) (a b : Entry) → AreTableEntries n es (terms_of p t) → (t.kind ≡ Keyless → ⊥)
+    → Contains es a → Contains es b → matches t.key s a ≡ true → matches t.key s b ≡ true → Ordered t.kind a b
+are_ordered p n t es s a b are keyed ca cb pa pb =
+    let ia : IsEntry n (terms_of p t) a = All-contains (IsEntry n (terms_of p t)) es a are.each ca in
+    let ib : IsEntry n (terms_of p t) b = All-contains (IsEntry n (terms_of p t)) es b are.each cb in
+    ordered t.kind p s t.key es a b are.keys_once are.rising ca cb ia.tests ib.tests ia.rank ib.rank pa pb keyed

@@ -1,0 +1,330 @@
+-- Which instructions run in a stage: those of the tables whose outcome is set there.
+use Rattle.std.proofs.Common.{◌≡◌, ℕ, zero, suc, ◌+◌, ◌<◌, ◌≤◌, Bool, true, false, ◌&&◌, ◌==◌, cond, List, [], ◌∷◌, Option, Some, None, length, drop, refl, sym, ap, ◌∙◌, subst, ◌⊎◌, inl, inr, arith}
+use Rattle.std.specs.Prelude.{IfSome, filter, fold, nat_lt, option_and_then, slice_get, slice_index, slice_set}
+use Rattle.std.specs.List.{AllZip, range_with_len}
+use Rattle.std.proofs.lemmas.Bool.{both_ways, cases_lt, eq-eqb, lt-ltb, ltb-true}
+use Rattle.std.proofs.lemmas.Option.{none-some, same_Some, slice_get_within}
+use Rattle.rmt_bits.proofs.ListLaws.{slice_get-item}
+use Rattle.rmt_bits.specs.declared.lane.Lane.{Lane}
+use Rattle.rmt_ast.specs.declared.program.Program.{Program}
+use Rattle.rmt_ast.specs.declared.program.Table.{Table}
+use Rattle.rmt_ast.specs.declared.program.Node.{Node}
+use Rattle.rmt_ast.specs.declared.program.What.{What}
+use Rattle.rmt_ast.specs.declared.program.What.TheVariants as what
+use Rattle.rmt_ast.specs.declared.entry.Entry.{Entry}
+use Rattle.rmt_ast.specs.Control.{runs}
+use Rattle.rmt_ast.specs.Lookup.{hit_of}
+use Rattle.rmt_ast.specs.State.{joined}
+use Rattle.rmt_config.specs.declared.config.Config.{Config}
+use Rattle.rmt_config.specs.declared.config.Stage.{Stage}
+use Rattle.rmt_config.specs.declared.config.Unit.{Unit}
+use Rattle.rmt_config.specs.declared.config.Unit.TheVariants.{Gate, Slot}
+use Rattle.rmt_config.specs.declared.config.SlotUnit.{SlotUnit}
+use Rattle.rmt_config.specs.Cells.{Found}
+use Rattle.rmt_config.specs.Life.{Acts, Words, acts_of, gate_passes, guarded, key_of, looked_up, slot_acts, unit_acts}
+use Rattle.rmt_config.specs.Life.{runs as chip_runs}
+use Rattle.rmt_config.specs.Resources.{unit_instructions}
+use Rattle.rmt_pack.specs.declared.placement.Part.{Part}
+use Rattle.rmt_pack.specs.Placements.{quanta_in}
+use Rattle.rmt_refine.specs.View.{View, as_slot, look_in}
+use Rattle.rmt_refine.specs.Places.{high_first}
+use Rattle.rmt_refine.specs.Units.{DoesAs, TableCarried, UnitCarried, applied, guard_in, last_stage, node_in, nodes_in, table_at}
+use Rattle.rmt_refine.specs.Cells.{first_code}
+use Rattle.rmt_refine.specs.LookUps.{FindsAs}
+use Rattle.rmt_refine.specs.Outcomes.{IsSetIn, TableSetIn}
+use Rattle.rmt_refine.proofs.NodeLaws.{one_place, within_last}
+use Rattle.rmt_refine.proofs.PartLaws.{IsPart, and_at, quanta_of_node, slot_of_part, some_and, unit_of_part}
+use Rattle.rmt_refine.proofs.RankLaws.{compare}
+use Rattle.rmt_config.specs.Life.{Running, code_at}
+use Rattle.rmt_ast.specs.EntryLists.{params_of}
+use Rattle.rmt_refine.specs.Cells.{HasArguments}
+use Rattle.rmt_refine.proofs.StageLaws.{AreSet, IsAt, is_set, stands_where_set, IsRun, ReadsAs, StageReads, base_after, drop_head, eqb_false, first_code_next, guard_right, looks, not_there, own_before, own_unset, place_after, run_outcome, some_outcome, unit_law}
+
+-- ---- what one unit adds
+
+gate_adds : (b : Bool) (a : Acts) (x : List ℕ) → (cond b (record a { outcomes = x }) a).running ≡ a.running
+gate_adds true a x = refl
+gate_adds false a x = refl
+
+unit_stops : (c : Config) (v : View) (k : ℕ) (stage : Stage) (words : Words) (a : Acts) (u : Unit) → chip_runs (node_in u) (guard_in u) a.outcomes ≡ false
+    → (unit_acts (look_in c v) k stage words a u).running ≡ a.running
+unit_stops c v k stage words a (Gate g) e = gate_adds (chip_runs g.node g.guard a.outcomes) a (slice_set a.outcomes g.node (cond (gate_passes words g.tests) 2 1))
+unit_stops c v k stage words a (Slot s) e = ap (λ (b : Bool). (cond b (slot_acts stage s (looked_up (look_in c v) k a.place words s) a) a).running) e
+
+slot_adds : (c : Config) (v : View) (k : ℕ) (stage : Stage) (words : Words) (a : Acts) (s : SlotUnit) (o : Option Found) → chip_runs s.node s.guard a.outcomes ≡ true
+    → looked_up (look_in c v) k a.place words s ≡ o → (unit_acts (look_in c v) k stage words a (Slot s)).running ≡ (slot_acts stage s o a).running
+slot_adds c v k stage words a s o e found =
+    ap (λ (b : Bool). (cond b (slot_acts stage s (looked_up (look_in c v) k a.place words s) a) a).running) e ∙ ap (λ (f : Option Found). (slot_acts stage s f a).running) found
+
+miss_adds : (stage : Stage) (s : SlotUnit) (a : Acts) → s.last ≡ true → (slot_acts stage s None a).running ≡ record { ops = code_at stage (a.base + s.actions); held = 0 } ∷ a.running
+miss_adds stage s a e = rw e refl
+
+miss_adds_none : (stage : Stage) (s : SlotUnit) (a : Acts) → s.last ≡ false → (slot_acts stage s None a).running ≡ a.running
+miss_adds_none stage s a e = rw e refl
+
+module _ (p : Program) (places : List (List Lane)) (parts : List Part) (starts : List ℕ) (c : Config) (v : View) (entries : ℕ → List Entry) (state : ℕ → List ℕ) (outcomes : List ℕ) (set_in : ℕ → ℕ) where
+  -- the facts of the run and of the outcomes before a unit
+  abbrev TheRun : Type 0
+  TheRun = IsRun p places parts starts c v entries state outcomes set_in
+
+  abbrev SetBefore : ℕ → ℕ → List ℕ → Type 0
+  SetBefore = AreSet p places parts starts c v entries state outcomes set_in
+
+  abbrev UnitAt : ℕ → ℕ → ℕ → Stage → Unit → Node → Type 0
+  UnitAt = IsAt p places parts starts c v entries state outcomes set_in
+
+  abbrev Reads : Words → ℕ → What → Type 0
+  Reads = ReadsAs p places parts starts c v entries state outcomes set_in
+
+  -- what a table's node runs: the instruction of the entry that is hit, with its arguments, or the default's
+  abbrev pub RunsInstruction : Table → ℕ → Stage → Option Entry → Running → Type 0
+  RunsInstruction t first stage None r = r.ops ≡ code_at stage (first + length t.actions)
+  RunsInstruction t first stage (Some e) r = (r.ops ≡ code_at stage (first + e.action)) × HasArguments (params_of p (slice_index t.actions e.action)) e.args r.held
+
+  -- a node applies a table, runs, and has its outcome set in stage k
+  pub record ActsIn (k n : ℕ) (t : Table) : Type 0 where
+    pub table_is : table_at p n ≡ Some t
+    pub set_here : set_in n ≡ k
+    pub goes : (node : Node) → slice_get p.nodes n ≡ Some node → runs node.guard outcomes ≡ true
+
+  -- an instruction that runs in stage k is that of node n
+  pub record RunsFor (k n : ℕ) (r : Running) : Type 0 where
+    pub place : ℕ
+    pub stage : Stage
+    pub slot : SlotUnit
+    pub table : Table
+    pub part : IsPart c n k place stage slot
+    pub acts : ActsIn k n table
+    pub runs_it : RunsInstruction table (first_code stage place) stage (hit_of table.kind table.key (entries n) (state n)) r
+
+  -- what node n adds to the instructions that run in stage k: its own where it acts there, else none
+  abbrev pub Adds : ℕ → ℕ → List Running → List Running → Type 0
+  Adds k n old new = ((new ≡ old) × ((t : Table) → ActsIn k n t → ⊥)) ⊎ ((r : Running) × (new ≡ r ∷ old) × RunsFor k n r)
+
+  -- the instructions of the nodes before number m that run in stage k, the last one first
+  abbrev pub RanBefore : ℕ → ℕ → List Running → Type 0
+  RanBefore k zero new = new ≡ []
+  RanBefore k (suc m) new = (old : List Running) × RanBefore k m old × Adds k m old new
+
+  same_goes : (n : ℕ) (node : Node) → slice_get p.nodes n ≡ Some node → runs node.guard outcomes ≡ true → (x : Node) → slice_get p.nodes n ≡ Some x → runs x.guard outcomes ≡ true
+  same_goes n node at goes x e = subst (λ (y : Node). runs y.guard outcomes ≡ true) (same_Some node x (sym at ∙ e)) goes
+
+  -- a slot that runs
+  slot_runs : (k n place : ℕ) (stage : Stage) (s : SlotUnit) (node : Node) (words : Words) (a : Acts) (t : Table) (o : Option Entry) → TheRun → UnitAt k n place stage (Slot s) node
+      → a.base ≡ first_code stage place → TableCarried places parts n k t s → table_at p n ≡ Some t → k ≤ set_in n → runs node.guard outcomes ≡ true
+      → chip_runs s.node s.guard a.outcomes ≡ true → looked_up (look_in c v) k a.place words s ≡ look_in c v k place (joined p t.key (state n))
+      → hit_of t.kind t.key (entries n) (state n) ≡ o → FindsAs p c v n t (joined p t.key (state n)) o → TableSetIn p parts c v n t (joined p t.key (state n)) (set_in n) o
+      → Adds k n a.running (unit_acts (look_in c v) k stage words a (Slot s)).running
+  slot_runs k n place stage s node words a t None run at base carried table le goes acts looks_there hit finds sets =
+      let part : IsPart c n k place stage s = record { stage_is = at.stage_is; slot_is = ap (option_and_then as_slot) at.unit_is; node_is = at.carried.number } in
+      let none = looks_there ∙ finds k place s (slot_of_part c n k place stage s part) at.carried.number in
+      elim (compare k (set_in n)) [
+        | inl lt ↦
+            inl (
+              slot_adds c v k stage words a s None acts none
+                  ∙ miss_adds_none stage s a (carried.last ∙ eqb_false k (last_stage parts n) (λ e. omega (arith, e, sets, lt))),
+              (λ u h. let e = h.set_here in omega (arith, e, lt)),
+            )
+        | inr more ↦ elim more [
+          | inl gt ↦ absurd (omega (arith, gt, le))
+          | inr e ↦
+              let r : Running = record { ops = code_at stage (a.base + s.actions); held = 0 } in
+              inr (
+                r,
+                slot_adds c v k stage words a s None acts none ∙ miss_adds stage s a (carried.last ∙ eq-eqb k (last_stage parts n) (e ∙ sets)),
+                record {
+                  place = place;
+                  stage = stage;
+                  slot = s;
+                  table = t;
+                  part = part;
+                  acts = record { table_is = table; set_here = sym e; goes = same_goes n node at.node_is goes };
+                  runs_it = subst (λ h. RunsInstruction t (first_code stage place) stage h r) (sym hit)
+                      (ap (λ b. code_at stage (b + s.actions)) base ∙ ap (λ m. code_at stage (first_code stage place + m)) carried.actions);
+                },
+              )
+        ]
+      ]
+  slot_runs k n place stage s node words a t (Some e) run at base carried table le goes acts looks_there hit finds sets =
+      let part : IsPart c n k place stage s = record { stage_is = at.stage_is; slot_is = ap (option_and_then as_slot) at.unit_is; node_is = at.carried.number } in
+      let f = sets.0 in
+      let here : f.k ≡ set_in n = sets.1 in
+      let f_part : IsPart c n f.k f.place f.stage f.slot = record { stage_is = f.stage_is; slot_is = f.slot_is; node_is = f.node_is } in
+      let f_at = unit_of_part p places parts starts c n f.k f.place f.stage f.slot run.units f_part in
+      let f_last = within_last parts n f.k (quanta_of_node p parts f.k f.place n f_at.0) in
+      elim (compare k (set_in n)) [
+        | inl lt ↦
+            inl (
+              slot_adds c v k stage words a s None acts (looks_there ∙ f.none_before k place s (omega (arith, lt, here)) (slot_of_part c n k place stage s part) at.carried.number)
+                  ∙ miss_adds_none stage s a (carried.last ∙ eqb_false k (last_stage parts n) (λ x. omega (arith, x, lt, here, f_last))),
+              (λ u h. let x = h.set_here in omega (arith, x, lt)),
+            )
+        | inr more ↦ elim more [
+          | inl gt ↦ absurd (omega (arith, gt, le))
+          | inr same ↦
+              let k_is : f.k ≡ k = here ∙ sym same in
+              let place_is : f.place ≡ place = one_place p parts k n f.place place (subst (λ j. slice_get (nodes_in p parts j) f.place ≡ Some n) k_is f_at.0) at.number in
+              let stage_is : f.stage ≡ stage = same_Some f.stage stage (sym f.stage_is ∙ ap (slice_get c.stages) k_is ∙ at.stage_is) in
+              let looks_is : look_in c v k place (joined p t.key (state n)) ≡ Some f.found =
+              ap (λ j. look_in c v j place (joined p t.key (state n))) (sym k_is) ∙ ap (λ i. look_in c v f.k i (joined p t.key (state n))) (sym place_is) ∙ f.looks in
+              let entry = f.is_entry in
+              let code : f.found.code ≡ first_code stage place + e.action =
+              entry.code ∙ ap (λ (x : Stage). first_code x f.place + e.action) stage_is ∙ ap (λ i. first_code stage i + e.action) place_is in
+              let r : Running = record { ops = code_at stage f.found.code; held = f.found.held } in
+              inr (
+                r,
+                slot_adds c v k stage words a s (Some f.found) acts (looks_there ∙ looks_is),
+                record {
+                  place = place;
+                  stage = stage;
+                  slot = s;
+                  table = t;
+                  part = part;
+                  acts = record { table_is = table; set_here = sym same; goes = same_goes n node at.node_is goes };
+                  runs_it = subst (λ h. RunsInstruction t (first_code stage place) stage h r) (sym hit) (ap (code_at stage) code, entry.held);
+                },
+              )
+        ]
+      ]
+
+  -- a unit that runs
+  acting_adds : (k n place : ℕ) (stage : Stage) (u : Unit) (node : Node) (words : Words) (a : Acts) (w : What) → TheRun → UnitAt k n place stage u node → node.what ≡ w
+      → a.place ≡ place → a.base ≡ first_code stage place → k ≤ set_in n → runs node.guard outcomes ≡ true → chip_runs (node_in u) (guard_in u) a.outcomes ≡ true → Reads words n w
+      → Adds k n a.running (unit_acts (look_in c v) k stage words a u).running
+  acting_adds k n place stage (Gate g) node words a w run at is here base le goes acts reads =
+      inl (gate_adds (chip_runs g.node g.guard a.outcomes) a (slice_set a.outcomes g.node (cond (gate_passes words g.tests) 2 1)), (λ t h. no_table w is t h.table_is))
+    where
+      does : DoesAs p places parts k n node.what (Gate g)
+      does = and_at (slice_get p.nodes n) (λ (x : Node). DoesAs p places parts k n x.what (Gate g)) node at.node_is at.carried.does
+
+      no_table : (w' : What) → node.what ≡ w' → (t : Table) → table_at p n ≡ Some t → ⊥
+      no_table (what.Apply i) e t table = subst (λ x. DoesAs p places parts k n x (Gate g)) e does
+      no_table (what.Gate field test) e t table =
+          let none : table_at p n ≡ None = ap (option_and_then (λ (x : Node). applied p x.what)) at.node_is ∙ ap (applied p) e in
+          none-some t (sym none ∙ table)
+  acting_adds k n place stage (Slot s) node words a (what.Gate field test) run at is here base le goes acts reads =
+      let does = and_at (slice_get p.nodes n) (λ (x : Node). DoesAs p places parts k n x.what (Slot s)) node at.node_is at.carried.does in
+      absurd (subst (λ x. DoesAs p places parts k n x (Slot s)) is does)
+  acting_adds k n place stage (Slot s) node words a (what.Apply i) run at is here base le goes acts reads =
+      let does = subst (λ x. DoesAs p places parts k n x (Slot s)) is
+      (and_at (slice_get p.nodes n) (λ (x : Node). DoesAs p places parts k n x.what (Slot s)) node at.node_is at.carried.does) in
+      let table = some_and (slice_get p.tables i) (λ (t : Table). TableCarried places parts n k t s) does in
+      let t = table.0 in
+      let carried : TableCarried places parts n k t s = table.2 in
+      let key = joined p t.key (state n) in
+      let at_table : table_at p n ≡ Some t =
+      ap (option_and_then (λ (x : Node). applied p x.what)) at.node_is ∙ ap (applied p) is ∙ table.1 in
+      let sets = subst (λ x. IsSetIn p parts c v (entries n) (state n) n x (set_in n)) is (run.sets n node at.node_is goes) in
+      let set_there = and_at (slice_get p.tables i) (λ (x : Table). TableSetIn p parts c v n x (joined p x.key (state n)) (set_in n) (hit_of x.kind x.key (entries n) (state n))) t table.1 sets in
+      let part : IsPart c n k place stage s = record { stage_is = at.stage_is; slot_is = ap (option_and_then as_slot) at.unit_is; node_is = at.carried.number } in
+      let reads_key : key_of words (high_first places t.key) ≡ key = subst (λ o. IfSome o (λ (x : Table). key_of words (high_first places x.key) ≡ joined p x.key (state n))) table.1 reads in
+      let looks_there : looked_up (look_in c v) k a.place words s ≡ look_in c v k place key =
+      ap (λ m. looked_up (look_in c v) k m words s) here ∙ looks c v n k place stage words s key part (ap (key_of words) carried.keys ∙ reads_key) s.memory refl in
+      slot_runs k n place stage s node words a t (hit_of t.kind t.key (entries n) (state n)) run at base carried at_table le goes acts looks_there refl (run.finds n t at_table) set_there
+
+  -- a unit of stage k
+  unit_adds : (k n place : ℕ) (stage : Stage) (u : Unit) (node : Node) (words : Words) (a : Acts) → TheRun → UnitAt k n place stage u node
+      → a.place ≡ place → a.base ≡ first_code stage place → SetBefore k n a.outcomes → (runs node.guard outcomes ≡ true → k ≤ set_in n → Reads words n node.what)
+      → Adds k n a.running (unit_acts (look_in c v) k stage words a u).running
+  unit_adds k n place stage u node words a run at here base set reads = by_run (runs node.guard outcomes) refl
+    where
+      own : slice_index a.outcomes n ≡ cond (is_set p places parts starts c v entries state outcomes set_in k n n) (slice_index outcomes n) 0
+      own = set.each n at.within
+
+      guard : guarded (guard_in u) a.outcomes ≡ runs node.guard outcomes
+      guard = guard_right p places parts starts c v entries state outcomes set_in k n place stage u node a.outcomes run at set
+
+      own_value : (x : ℕ) → slice_index a.outcomes n ≡ x → (slice_index a.outcomes (node_in u) == 0) ≡ (x == 0)
+      own_value x e = ap (λ m. slice_index a.outcomes m == 0) at.carried.number ∙ ap (λ y. y == 0) e
+
+      by_run : (r : Bool) → runs node.guard outcomes ≡ r → Adds k n a.running (unit_acts (look_in c v) k stage words a u).running
+      by_run false off =
+          let stopped : chip_runs (node_in u) (guard_in u) a.outcomes ≡ false = ap (λ b. b && (slice_index a.outcomes (node_in u) == 0)) (guard ∙ off) in
+          inl (unit_stops c v k stage words a u stopped, (λ t h. both_ways (runs node.guard outcomes) off (h.goes node at.node_is)))
+      by_run true goes =
+          elim (cases_lt (set_in n) k) [
+            | inl lt ↦
+                let value : slice_index a.outcomes n ≡ slice_index outcomes n =
+                own ∙ ap (λ b. cond b (slice_index outcomes n) 0) (own_before p places parts starts c v entries state outcomes set_in k n lt n) in
+                let some : (slice_index outcomes n ≡ 0) → ⊥ =
+                λ e. some_outcome p places parts starts c v entries state outcomes set_in n (set_in n) node.what (run.sets n node at.node_is goes)
+                (sym (run_outcome p places parts starts c v entries state outcomes set_in n node run at.node_is goes) ∙ e) in
+                let stopped : chip_runs (node_in u) (guard_in u) a.outcomes ≡ false =
+                ap (λ b. b && (slice_index a.outcomes (node_in u) == 0)) (guard ∙ goes) ∙ own_value (slice_index outcomes n) value ∙ eqb_false (slice_index outcomes n) 0 some in
+                inl (unit_stops c v k stage words a u stopped, (λ t h. let e = h.set_here in omega (arith, e, lt)))
+            | inr le ↦
+                let value : slice_index a.outcomes n ≡ 0 =
+                own ∙ ap (λ b. cond b (slice_index outcomes n) 0) (own_unset p places parts starts c v entries state outcomes set_in k n le) in
+                let acts : chip_runs (node_in u) (guard_in u) a.outcomes ≡ true =
+                ap (λ b. b && (slice_index a.outcomes (node_in u) == 0)) (guard ∙ goes) ∙ own_value 0 value in
+                acting_adds k n place stage u node words a node.what run at refl here base le goes acts (reads goes le)
+          ]
+
+  -- ---- all units of a stage
+
+  -- the units of the nodes from number m on
+  abbrev FromNode : ℕ → Stage → Words → ℕ → ℕ → List ℕ → Type 0
+  FromNode k stage words m last ns =
+      (us : List Unit) (a : Acts) → AllZip (UnitCarried p places parts k) ns us → drop a.place stage.units ≡ us → drop a.place (nodes_in p parts k) ≡ ns
+      → a.base ≡ first_code stage a.place → SetBefore k m a.outcomes → RanBefore k m a.running → RanBefore k last (fold (unit_acts (look_in c v) k stage words) a us).running
+
+  ran_next : (k m : ℕ) (old new : List Running) → RanBefore k m old → Adds k m old new → RanBefore k (m + 1) new
+  ran_next k m old new ran adds = let e : suc m ≡ m + 1 = omega arith in let P : ℕ → Type 0 = λ j. RanBefore k j new in subst P e (old, ran, adds)
+
+  by_node : (k : ℕ) (stage : Stage) (words : Words) (m last : ℕ) (node : Node) (ns : List ℕ) (b : Bool) → TheRun → slice_get c.stages k ≡ Some stage
+      → StageReads p places parts starts c v entries state outcomes set_in k words → slice_get p.nodes m ≡ Some node → nat_lt 0 (quanta_in parts m k) ≡ b
+      → FromNode k stage words (m + 1) last ns → FromNode k stage words m last (cond b (m ∷ ns) ns)
+  by_node k stage words m last node ns false run stage_is reads is_node e rest us a zip units nodes base set ran =
+      rest us a zip units nodes base
+      (not_there p places parts starts c v entries state outcomes set_in k m node a.outcomes run is_node (slice_get_within p.nodes m node is_node) e set)
+      (ran_next k m a.running a.running ran (inl (
+        refl,
+        λ t h.
+            let within = slice_get_within p.nodes m node is_node in
+            let here = h.set_here in
+            let stands = stands_where_set p places parts starts c v entries state outcomes set_in m (set_in m) node.what run.units within (run.sets m node is_node (h.goes node is_node)) in
+            both_ways (nat_lt 0 (quanta_in parts m k)) e (lt-ltb 0 (quanta_in parts m k) (subst (λ j. 0 < quanta_in parts m j) here stands)),
+      )))
+  by_node k stage words m last node ns true run stage_is reads is_node e rest [] a zip units nodes base set ran = absurd zip
+  by_node k stage words m last node ns true run stage_is reads is_node e rest (u ∷ us) a zip units nodes base set ran =
+      let unit = drop_head stage.units a.place u us units in
+      let number = drop_head (nodes_in p parts k) a.place m ns nodes in
+      let at : UnitAt k m a.place stage u node = record {
+        within = slice_get_within p.nodes m node is_node;
+        stage_is = stage_is;
+        unit_is = unit.0;
+        number = number.0;
+        carried = zip.0;
+        node_is = is_node;
+      } in
+      let after = unit_acts (look_in c v) k stage words a u in
+      let next : after.place ≡ a.place + 1 = place_after c v k stage words a u in
+      let stands = ltb-true 0 (quanta_in parts m k) e in
+      let done = unit_law p places parts starts c v entries state outcomes set_in k m a.place stage u node words a run at refl base set (reads m node is_node stands) in
+      let adds = unit_adds k m a.place stage u node words a run at refl base set (reads m node is_node stands) in
+      rest us after zip.1 (ap (λ i. drop i stage.units) next ∙ unit.1) (ap (λ i. drop i (nodes_in p parts k)) next ∙ number.1)
+      (base_after c v k stage words a u ∙ ap (λ n. n + unit_instructions u) base ∙ sym (first_code_next stage a.place u unit.0) ∙ sym (ap (first_code stage) next)) done
+      (ran_next k m a.running after.running ran adds)
+
+  from_node : (k : ℕ) (stage : Stage) (words : Words) (count m : ℕ) → m + count ≡ length p.nodes → TheRun → slice_get c.stages k ≡ Some stage
+      → StageReads p places parts starts c v entries state outcomes set_in k words
+      → FromNode k stage words m (length p.nodes) (filter (λ n. nat_lt 0 (quanta_in parts n k)) (range_with_len m count))
+  from_node k stage words zero m sum run stage_is reads [] a zip units nodes base set ran =
+      let e : m ≡ length p.nodes = omega (arith, sum) in
+      let P : ℕ → Type 0 = λ j. RanBefore k j a.running in
+      subst P e ran
+  from_node k stage words zero m sum run stage_is reads (u ∷ us) a zip units nodes base set ran = absurd zip
+  from_node k stage words (suc count) m sum run stage_is reads us a zip units nodes base set ran =
+      let node = slice_get-item p.nodes m (omega (arith, sum)) in
+      by_node k stage words m (length p.nodes) node.0 (filter (λ n. nat_lt 0 (quanta_in parts n k)) (range_with_len (m + 1) count)) (nat_lt 0 (quanta_in parts m k)) run stage_is reads node.1 refl
+      (from_node k stage words count (m + 1) (omega (arith, sum)) run stage_is reads) us a zip units nodes base set ran
+
+  -- In a stage the instructions of its acting tables run, each once.
+  pub running_law : (k : ℕ) (stage : Stage) (words : Words) (now : List ℕ) → TheRun → slice_get c.stages k ≡ Some stage
+      → StageReads p places parts starts c v entries state outcomes set_in k words → SetBefore k 0 now
+      → RanBefore k (length p.nodes) (acts_of (look_in c v) k stage words now).running
+  running_law k stage words now run stage_is reads set =
+      let zip = and_at (slice_get c.stages k) (λ (s : Stage). AllZip (UnitCarried p places parts k) (nodes_in p parts k) s.units) stage stage_is
+      (run.units.units k (slice_get_within c.stages k stage stage_is)) in
+      from_node k stage words (length p.nodes) 0 (omega arith) run stage_is reads stage.units
+      (record { outcomes = now; running = []; counted = []; base = 0; place = 0 }) zip refl refl refl set refl

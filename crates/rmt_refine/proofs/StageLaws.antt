@@ -1,0 +1,623 @@
+-- Outcomes, stage by stage: after a stage, the nodes whose outcome is set up to there have that of the program's run, and no other node has one.
+use Rattle.std.proofs.Common.{◌≡◌, ℕ, zero, suc, ◌+◌, ◌-◌, ◌/◌, ◌%◌, ◌^◌, ◌<◌, ◌≤◌, Bool, true, false, ◌&&◌, ◌||◌, ◌==◌, cond, List, [], ◌∷◌, Option, Some, None, length, get_or, take, drop, refl, sym, ap, ◌∙◌, subst, ◌⊎◌, inl, inr, arith}
+use Rattle.std.specs.Prelude.{IfSome, filter, fold, nat_lt, option_and_then, option_map, slice_get, slice_index, slice_set, sum_by, unwrap_or, ⊤}
+use Rattle.std.specs.List.{AllZip, range_with_len}
+use Rattle.std.proofs.Math.ListN.{length-set}
+use Rattle.std.proofs.lemmas.Bool.{both_ways, cases_lt, eq-eqb, eqb-true, false_from_ne_true, le-ltb, lt-ltb, ltb-true}
+use Rattle.std.proofs.lemmas.List.{get_or-set_other, get_or-set_same, take_more}
+use Rattle.std.proofs.lemmas.List.Sums.{sum_by_push}
+use Rattle.std.proofs.lemmas.Option.{get_or_from_slice_get, same_Some, slice_get_within}
+use Rattle.std.proofs.lemmas.List.Elements.{All-weaker}
+use Rattle.rmt_bits.proofs.ListLaws.{slice_get-item}
+use Rattle.rmt_bits.specs.declared.lane.Lane.{Lane}
+use Rattle.rmt_ast.specs.declared.program.Program.{Program}
+use Rattle.rmt_ast.specs.declared.program.Table.{Table}
+use Rattle.rmt_ast.specs.declared.program.Node.{Node}
+use Rattle.rmt_ast.specs.declared.program.Guard.{Guard}
+use Rattle.rmt_ast.specs.declared.program.What.{What}
+use Rattle.rmt_ast.specs.declared.program.What.TheVariants as what
+use Rattle.rmt_ast.specs.declared.entry.Entry.{Entry}
+use Rattle.rmt_ast.specs.Control.{runs}
+use Rattle.rmt_ast.specs.Lookup.{hit_of}
+use Rattle.rmt_ast.specs.State.{joined, passes}
+use Rattle.rmt_config.specs.declared.config.Config.{Config}
+use Rattle.rmt_config.specs.declared.config.Stage.{Stage}
+use Rattle.rmt_config.specs.declared.config.Unit.{Unit}
+use Rattle.rmt_config.specs.declared.config.Unit.TheVariants.{Gate, Slot}
+use Rattle.rmt_config.specs.declared.config.GateUnit.{GateUnit}
+use Rattle.rmt_config.specs.declared.config.SlotUnit.{SlotUnit}
+use Rattle.rmt_config.specs.declared.config.Memory.{Memory}
+use Rattle.rmt_config.specs.declared.config.Memory.TheVariants.{Without, Exact, Ternary}
+use Rattle.rmt_config.specs.Cells.{Found}
+use Rattle.rmt_config.specs.Life.{Acts, Life, Words, acts_of, gate_passes, guarded, has_memory, key_of, looked_up, slot_acts, through, through_from, unit_acts}
+use Rattle.rmt_config.specs.Life.{runs as chip_runs}
+use Rattle.rmt_config.specs.Resources.{unit_instructions}
+use Rattle.rmt_pack.specs.declared.placement.Part.{Part}
+use Rattle.rmt_pack.specs.Placements.{quanta_in}
+use Rattle.rmt_refine.specs.View.{View, as_slot, look_in}
+use Rattle.rmt_refine.specs.Places.{high_first}
+use Rattle.rmt_refine.specs.Units.{DoesAs, TableCarried, UnitCarried, UnitsCarried, applied, guard_in, guard_of, last_stage, node_in, nodes_in, table_at, tests_of}
+use Rattle.rmt_refine.specs.Cells.{first_code}
+use Rattle.rmt_refine.specs.LookUps.{FindsAs}
+use Rattle.rmt_refine.specs.Outcomes.{IsSetIn, TableSetIn, hit_outcome, node_outcome}
+use Rattle.rmt_refine.proofs.FindLaws.{All-contains}
+use Rattle.rmt_refine.proofs.NodeLaws.{one_place, part_there, stands_in_last, within_last}
+use Rattle.rmt_refine.proofs.PartLaws.{IsPart, and_at, look_of_part, quanta_of_node, slot_of_part, some_and, unit_of_part}
+use Rattle.rmt_refine.proofs.RankLaws.{compare}
+
+-- ---- what one unit does to the outcomes
+
+pub gate_off : (c : Config) (v : View) (k : ℕ) (stage : Stage) (words : Words) (a : Acts) (g : GateUnit) → chip_runs g.node g.guard a.outcomes ≡ false
+    → (unit_acts (look_in c v) k stage words a (Gate g)).outcomes ≡ a.outcomes
+gate_off c v k stage words a g e = ap (λ (b : Bool). (cond b (record a { outcomes = slice_set a.outcomes g.node (cond (gate_passes words g.tests) 2 1) }) a).outcomes) e
+
+pub gate_on : (c : Config) (v : View) (k : ℕ) (stage : Stage) (words : Words) (a : Acts) (g : GateUnit) → chip_runs g.node g.guard a.outcomes ≡ true
+    → (unit_acts (look_in c v) k stage words a (Gate g)).outcomes ≡ slice_set a.outcomes g.node (cond (gate_passes words g.tests) 2 1)
+gate_on c v k stage words a g e = ap (λ (b : Bool). (cond b (record a { outcomes = slice_set a.outcomes g.node (cond (gate_passes words g.tests) 2 1) }) a).outcomes) e
+
+pub slot_off : (c : Config) (v : View) (k : ℕ) (stage : Stage) (words : Words) (a : Acts) (s : SlotUnit) → chip_runs s.node s.guard a.outcomes ≡ false
+    → (unit_acts (look_in c v) k stage words a (Slot s)).outcomes ≡ a.outcomes
+slot_off c v k stage words a s e = ap (λ (b : Bool). (cond b (slot_acts stage s (looked_up (look_in c v) k a.place words s) a) a).outcomes) e
+
+slot_on : (c : Config) (v : View) (k : ℕ) (stage : Stage) (words : Words) (a : Acts) (s : SlotUnit) (o : Option Found) → chip_runs s.node s.guard a.outcomes ≡ true
+    → looked_up (look_in c v) k a.place words s ≡ o → (unit_acts (look_in c v) k stage words a (Slot s)).outcomes ≡ (slot_acts stage s o a).outcomes
+slot_on c v k stage words a s o e found =
+    ap (λ (b : Bool). (cond b (slot_acts stage s (looked_up (look_in c v) k a.place words s) a) a).outcomes) e ∙ ap (λ (f : Option Found). (slot_acts stage s f a).outcomes) found
+
+miss_last : (stage : Stage) (s : SlotUnit) (a : Acts) → s.last ≡ true → (slot_acts stage s None a).outcomes ≡ slice_set a.outcomes s.node 1
+miss_last stage s a e = rw e refl
+
+miss_more : (stage : Stage) (s : SlotUnit) (a : Acts) → s.last ≡ false → (slot_acts stage s None a).outcomes ≡ a.outcomes
+miss_more stage s a e = rw e refl
+
+-- a slot looks its key up, where it has memory; one without has nothing to find
+pub looks : (c : Config) (v : View) (n k place : ℕ) (stage : Stage) (words : Words) (s : SlotUnit) (key : ℕ) → IsPart c n k place stage s → key_of words s.keys ≡ key
+    → (m : Memory) → s.memory ≡ m → looked_up (look_in c v) k place words s ≡ look_in c v k place key
+looks c v n k place stage words s key part reads Without e =
+    (let none : looked_up (look_in c v) k place words s ≡ None = ap (λ (m : Memory). cond (has_memory m) (look_in c v k place (key_of words s.keys)) None) e in none)
+    ∙ sym (look_of_part c v n k place key stage s part ∙ rw e refl)
+looks c v n k place stage words s key part reads (Exact w per d first ks rs cs) e =
+    ap (λ (m : Memory). cond (has_memory m) (look_in c v k place (key_of words s.keys)) None) e ∙ ap (look_in c v k place) reads
+looks c v n k place stage words s key part reads (Ternary d ks rs cs) e =
+    ap (λ (m : Memory). cond (has_memory m) (look_in c v k place (key_of words s.keys)) None) e ∙ ap (look_in c v k place) reads
+
+-- ---- guards
+
+same_guard : (g : Option Guard) (now outcomes : List ℕ) → ((x : Guard) → g ≡ Some x → slice_index now x.parent ≡ slice_index outcomes x.parent) → guarded (guard_of g) now ≡ runs g outcomes
+same_guard None now outcomes same = refl
+same_guard (Some x) now outcomes same = ap (λ o. x.mask / 2 ^ o % 2 == 1) (same x refl)
+
+ltb_false : (a b : ℕ) → b ≤ a → nat_lt a b ≡ false
+ltb_false a b le = le-ltb a b le
+
+and_false : (b : Bool) → (b && false) ≡ false
+and_false true = refl
+and_false false = refl
+
+pub eqb_false : (a b : ℕ) → (a ≡ b → ⊥) → (a == b) ≡ false
+eqb_false a b ne = false_from_ne_true (a == b) (λ e. ne (eqb-true a b e))
+
+-- ---- units one after another
+
+pub drop_head : {X : Type 0} (xs : List X) (i : ℕ) (x : X) (ys : List X) → drop i xs ≡ x ∷ ys → (slice_get xs i ≡ Some x) × (drop (i + 1) xs ≡ ys)
+drop_head [] zero x ys e = absurd (let none : ⊥ = cc in none)
+drop_head [] (suc i) x ys e = absurd (let none : ⊥ = cc in none)
+drop_head (z ∷ zs) zero x ys e = (cc, cc)
+drop_head (z ∷ zs) (suc i) x ys e =
+    let r = drop_head zs i x ys e in
+    let next : suc i + 1 ≡ suc (i + 1) = omega arith in
+    (r.0, ap (λ m. drop m (z ∷ zs)) next ∙ r.1)
+
+pub first_code_next : (stage : Stage) (i : ℕ) (u : Unit) → slice_get stage.units i ≡ Some u → first_code stage (i + 1) ≡ first_code stage i + unit_instructions u
+first_code_next stage i u e =
+    ap (sum_by unit_instructions) (take_more stage.units i u (slice_get_within stage.units i u e))
+    ∙ sum_by_push unit_instructions (take i stage.units) (get_or stage.units i u)
+    ∙ ap (λ (x : Unit). first_code stage i + unit_instructions x) (get_or_from_slice_get stage.units i u u e)
+
+pub place_after : (c : Config) (v : View) (k : ℕ) (stage : Stage) (words : Words) (a : Acts) (u : Unit) → (unit_acts (look_in c v) k stage words a u).place ≡ a.place + 1
+place_after c v k stage words a (Gate g) = refl
+place_after c v k stage words a (Slot s) = refl
+
+same_base : (b : Bool) (a : Acts) (x : List ℕ) → (cond b (record a { outcomes = x }) a).base ≡ a.base
+same_base true a x = refl
+same_base false a x = refl
+
+pub base_after : (c : Config) (v : View) (k : ℕ) (stage : Stage) (words : Words) (a : Acts) (u : Unit) → (unit_acts (look_in c v) k stage words a u).base ≡ a.base + unit_instructions u
+base_after c v k stage words a (Gate g) =
+    let none : a.base ≡ a.base + 0 = omega arith in
+    same_base (chip_runs g.node g.guard a.outcomes) a (slice_set a.outcomes g.node (cond (gate_passes words g.tests) 2 1)) ∙ none
+base_after c v k stage words a (Slot s) = let sum : a.base + s.actions + 1 ≡ a.base + (s.actions + 1) = omega arith in sum
+
+-- ---- a stage
+
+module _ (p : Program) (places : List (List Lane)) (parts : List Part) (starts : List ℕ) (c : Config) (v : View) (entries : ℕ → List Entry) (state : ℕ → List ℕ) (outcomes : List ℕ) (set_in : ℕ → ℕ) where
+  -- the outcome of node n is set before the units of stage k from node m on act
+  abbrev pub is_set : ℕ → ℕ → ℕ → Bool
+  is_set k m n = nat_lt (set_in n) k || ((set_in n == k) && nat_lt n m)
+
+  -- the outcomes before these units act
+  pub record AreSet (k m : ℕ) (now : List ℕ) : Type 0 where
+    pub room : length p.nodes ≤ length now
+    pub each : (n : ℕ) → n < length p.nodes → slice_index now n ≡ cond (is_set k m n) (slice_index outcomes n) 0
+
+  -- what a node reads from the words at the start of a stage is what it reads from its state
+  abbrev pub ReadsAs : Words → ℕ → What → Type 0
+  ReadsAs words n (what.Apply i) = IfSome (slice_get p.tables i) (λ (t : Table). key_of words (high_first places t.key) ≡ joined p t.key (state n))
+  ReadsAs words n (what.Gate field test) = gate_passes words (tests_of places field test) ≡ passes test (slice_index (state n) field)
+
+  -- What the law rests on: the run's outcomes and states by node, and the stage in which each outcome is set.
+  pub record IsRun : Type 0 where
+    pub units : UnitsCarried p places parts starts c
+    pub given : (n : ℕ) (node : Node) → slice_get p.nodes n ≡ Some node
+        → slice_index outcomes n ≡ cond (runs node.guard outcomes) (node_outcome p (entries n) (state n) node.what) 0
+    pub sets : (n : ℕ) (node : Node) → slice_get p.nodes n ≡ Some node → runs node.guard outcomes ≡ true → IsSetIn p parts c v (entries n) (state n) n node.what (set_in n)
+    pub finds : (n : ℕ) (t : Table) → table_at p n ≡ Some t → FindsAs p c v n t (joined p t.key (state n)) (hit_of t.kind t.key (entries n) (state n))
+    pub parents : (n : ℕ) (node : Node) (g : Guard) → slice_get p.nodes n ≡ Some node → node.guard ≡ Some g
+        → (g.parent < n) × ((k : ℕ) → 0 < quanta_in parts n k → (slice_index outcomes g.parent ≡ 0) ⊎ (set_in g.parent ≤ k))
+
+  -- ---- which outcomes are set
+
+  other_set : (k n j : ℕ) → (j ≡ n → ⊥) → is_set k n j ≡ is_set k (n + 1) j
+  other_set k n j ne =
+      let same : nat_lt j n ≡ nat_lt j (n + 1) = elim (compare j n) [
+        | inl lt ↦ lt-ltb j n lt ∙ sym (lt-ltb j (n + 1) (omega (arith, lt)))
+        | inr more ↦ elim more [
+          | inl gt ↦ ltb_false j n (omega (arith, gt)) ∙ sym (ltb_false j (n + 1) (omega (arith, gt)))
+          | inr e ↦ absurd (ne e)
+        ]
+      ] in
+      ap (λ b. nat_lt (set_in j) k || ((set_in j == k) && b)) same
+
+  pub own_before : (k n : ℕ) → set_in n < k → (m : ℕ) → is_set k m n ≡ true
+  own_before k n lt m = ap (λ b. b || ((set_in n == k) && nat_lt n m)) (lt-ltb (set_in n) k lt)
+
+  pub own_unset : (k n : ℕ) → k ≤ set_in n → is_set k n n ≡ false
+  own_unset k n le =
+      ap (λ b. b || ((set_in n == k) && nat_lt n n)) (ltb_false (set_in n) k le)
+      ∙ ap (λ b. (set_in n == k) && b) (ltb_false n n (omega arith)) ∙ and_false (set_in n == k)
+
+  own_now : (k n : ℕ) → set_in n ≡ k → is_set k (n + 1) n ≡ true
+  own_now k n e =
+      let here : nat_lt n (n + 1) ≡ true = lt-ltb n (n + 1) (omega arith) in
+      ap (λ b. b || ((set_in n == k) && nat_lt n (n + 1))) (ltb_false (set_in n) k (omega (arith, e)))
+      ∙ ap (λ b. b && nat_lt n (n + 1)) (eq-eqb (set_in n) k e) ∙ here
+
+  own_later : (k n m : ℕ) → k < set_in n → is_set k m n ≡ false
+  own_later k n m lt =
+      ap (λ b. b || ((set_in n == k) && nat_lt n m)) (ltb_false (set_in n) k (omega (arith, lt)))
+      ∙ ap (λ b. b && nat_lt n m) (eqb_false (set_in n) k (λ e. omega (arith, e, lt)))
+
+  stays : (k n : ℕ) (now : List ℕ) → AreSet k n now → slice_index now n ≡ cond (is_set k (n + 1) n) (slice_index outcomes n) 0 → AreSet k (n + 1) now
+  stays k n now set own = record {
+    room = set.room;
+    each = λ j lt.
+        elim (compare j n) [
+          | inl less ↦ set.each j lt ∙ ap (λ b. cond b (slice_index outcomes j) 0) (other_set k n j (λ e. omega (arith, less, e)))
+          | inr rest ↦ elim rest [
+            | inl more ↦ set.each j lt ∙ ap (λ b. cond b (slice_index outcomes j) 0) (other_set k n j (λ e. omega (arith, more, e)))
+            | inr e ↦ subst (λ i. slice_index now i ≡ cond (is_set k (n + 1) i) (slice_index outcomes i) 0) (sym e) own
+          ]
+        ];
+  }
+
+  sets_own : (k n : ℕ) (now : List ℕ) → n < length p.nodes → AreSet k n now → set_in n ≡ k → AreSet k (n + 1) (slice_set now n (slice_index outcomes n))
+  sets_own k n now within set e =
+      let x = slice_index outcomes n in
+      let room = set.room in
+      let others : (j : ℕ) → j < length p.nodes → (j ≡ n → ⊥) → slice_index (slice_set now n x) j ≡ cond (is_set k (n + 1) j) (slice_index outcomes j) 0 =
+      λ j lt ne. get_or-set_other now n j x 0 ne ∙ set.each j lt ∙ ap (λ b. cond b (slice_index outcomes j) 0) (other_set k n j ne) in
+      record {
+        room = subst (λ m. length p.nodes ≤ m) (sym (length-set now n x)) set.room;
+        each = λ j lt.
+            elim (compare j n) [
+              | inl less ↦ others j lt (λ same. omega (arith, less, same))
+              | inr rest ↦ elim rest [
+                | inl more ↦ others j lt (λ same. omega (arith, more, same))
+                | inr same ↦
+                    subst (λ i. slice_index (slice_set now n x) i ≡ cond (is_set k (n + 1) i) (slice_index outcomes i) 0) (sym same)
+                    (get_or-set_same now n x 0 (omega (arith, within, room)) ∙ ap (λ b. cond b x 0) (sym (own_now k n e)))
+              ]
+            ];
+      }
+
+  -- ---- one unit
+
+  parent_set : (k n q : ℕ) → q < n → set_in q ≤ k → is_set k n q ≡ true
+  parent_set k n q less le =
+      elim (compare (set_in q) k) [
+        | inl lt ↦ own_before k q lt n
+        | inr more ↦ elim more [
+          | inl gt ↦ absurd (omega (arith, gt, le))
+          | inr e ↦
+              ap (λ b. b || ((set_in q == k) && nat_lt q n)) (ltb_false (set_in q) k (omega (arith, e)))
+              ∙ ap (λ b. b && nat_lt q n) (eq-eqb (set_in q) k e) ∙ lt-ltb q n less
+        ]
+      ]
+
+  either_same : (b : Bool) (x : ℕ) → cond b x x ≡ x
+  either_same true x = refl
+  either_same false x = refl
+
+  -- what is known of the unit of node n, which stands at a place of stage k
+  pub record IsAt (k n place : ℕ) (stage : Stage) (u : Unit) (node : Node) : Type 0 where
+    pub within : n < length p.nodes
+    pub stage_is : slice_get c.stages k ≡ Some stage
+    pub unit_is : slice_get stage.units place ≡ Some u
+    pub number : slice_get (nodes_in p parts k) place ≡ Some n
+    pub carried : UnitCarried p places parts k n u
+    pub node_is : slice_get p.nodes n ≡ Some node
+
+  pub guard_right : (k n place : ℕ) (stage : Stage) (u : Unit) (node : Node) (now : List ℕ) → IsRun → IsAt k n place stage u node → AreSet k n now
+      → guarded (guard_in u) now ≡ runs node.guard outcomes
+  guard_right k n place stage u node now run at set =
+      let same = and_at (slice_get p.nodes n) (λ (x : Node). guard_in u ≡ guard_of x.guard) node at.node_is at.carried.guard in
+      ap (λ g. guarded g now) same
+      ∙ same_guard node.guard now outcomes (λ g is.
+      let parent = run.parents n node g at.node_is is in
+      let less = parent.0 in
+      let within = at.within in
+      let value = set.each g.parent (omega (arith, less, within)) in
+      elim (parent.1 k (quanta_of_node p parts k place n at.number)) [
+        | inl none ↦ value ∙ ap (λ o. cond (is_set k n g.parent) o 0) none ∙ either_same (is_set k n g.parent) 0 ∙ sym none
+        | inr le ↦ value ∙ ap (λ b. cond b (slice_index outcomes g.parent) 0) (parent_set k n g.parent less le)
+      ])
+
+  unit_off : (k : ℕ) (stage : Stage) (words : Words) (a : Acts) (u : Unit) → chip_runs (node_in u) (guard_in u) a.outcomes ≡ false
+      → (unit_acts (look_in c v) k stage words a u).outcomes ≡ a.outcomes
+  unit_off k stage words a (Gate g) e = gate_off c v k stage words a g e
+  unit_off k stage words a (Slot s) e = slot_off c v k stage words a s e
+
+  -- the outcome of a node that runs
+  pub run_outcome : (n : ℕ) (node : Node) → IsRun → slice_get p.nodes n ≡ Some node → runs node.guard outcomes ≡ true → slice_index outcomes n ≡ node_outcome p (entries n) (state n) node.what
+  run_outcome n node run is_node goes = run.given n node is_node ∙ ap (λ b. cond b (node_outcome p (entries n) (state n) node.what) 0) goes
+
+  gate_law : (k n place : ℕ) (stage : Stage) (g : GateUnit) (node : Node) (words : Words) (a : Acts) (w : What) → IsRun → IsAt k n place stage (Gate g) node → node.what ≡ w
+      → AreSet k n a.outcomes → k ≤ set_in n → runs node.guard outcomes ≡ true → chip_runs g.node g.guard a.outcomes ≡ true → ReadsAs words n w
+      → AreSet k (n + 1) (unit_acts (look_in c v) k stage words a (Gate g)).outcomes
+  gate_law k n place stage g node words a (what.Apply i) run at is set le goes acts reads =
+      let does = and_at (slice_get p.nodes n) (λ (x : Node). DoesAs p places parts k n x.what (Gate g)) node at.node_is at.carried.does in
+      absurd (subst (λ x. DoesAs p places parts k n x (Gate g)) is does)
+  gate_law k n place stage g node words a (what.Gate field test) run at is set le goes acts reads =
+      let does = subst (λ x. DoesAs p places parts k n x (Gate g)) is
+      (and_at (slice_get p.nodes n) (λ (x : Node). DoesAs p places parts k n x.what (Gate g)) node at.node_is at.carried.does) in
+      let sets = subst (λ x. IsSetIn p parts c v (entries n) (state n) n x (set_in n)) is (run.sets n node at.node_is goes) in
+      let stands = quanta_of_node p parts k place n at.number in
+      let same : set_in n ≡ k = elim (compare k (set_in n)) [
+        | inl lt ↦ absurd (let none = sets.1 k lt in omega (arith, none, stands))
+        | inr more ↦ elim more [
+          | inl gt ↦ absurd (omega (arith, gt, le))
+          | inr e ↦ sym e
+        ]
+      ] in
+      let value : cond (gate_passes words g.tests) 2 1 ≡ slice_index outcomes n =
+      ap (λ ts. cond (gate_passes words ts) 2 1) does ∙ ap (λ b. cond b 2 1) reads
+      ∙ sym (run_outcome n node run at.node_is goes ∙ ap (node_outcome p (entries n) (state n)) is) in
+      let done : (unit_acts (look_in c v) k stage words a (Gate g)).outcomes ≡ slice_set a.outcomes n (slice_index outcomes n) =
+      gate_on c v k stage words a g acts ∙ ap (λ m. slice_set a.outcomes m (cond (gate_passes words g.tests) 2 1)) at.carried.number
+      ∙ ap (slice_set a.outcomes n) value in
+      subst (AreSet k (n + 1)) (sym done) (sets_own k n a.outcomes at.within set same)
+
+  -- a slot that finds nothing
+  slot_miss : (k n : ℕ) (stage : Stage) (s : SlotUnit) (words : Words) (a : Acts) → n < length p.nodes → s.node ≡ n → s.last ≡ (k == last_stage parts n)
+      → AreSet k n a.outcomes → k ≤ set_in n → chip_runs s.node s.guard a.outcomes ≡ true → looked_up (look_in c v) k a.place words s ≡ None
+      → ((set_in n ≡ k) × (k ≡ last_stage parts n) × (slice_index outcomes n ≡ 1)) ⊎ ((k < set_in n) × (k < last_stage parts n))
+      → AreSet k (n + 1) (unit_acts (look_in c v) k stage words a (Slot s)).outcomes
+  slot_miss k n stage s words a within number last set le acts none (inl now) =
+      let done : (unit_acts (look_in c v) k stage words a (Slot s)).outcomes ≡ slice_set a.outcomes n (slice_index outcomes n) =
+      slot_on c v k stage words a s None acts none ∙ miss_last stage s a (last ∙ eq-eqb k (last_stage parts n) now.1)
+      ∙ ap (λ m. slice_set a.outcomes m 1) number ∙ ap (slice_set a.outcomes n) (sym now.2) in
+      subst (AreSet k (n + 1)) (sym done) (sets_own k n a.outcomes within set now.0)
+  slot_miss k n stage s words a within number last set le acts none (inr later) =
+      let lt = later.1 in
+      let done : (unit_acts (look_in c v) k stage words a (Slot s)).outcomes ≡ a.outcomes =
+      slot_on c v k stage words a s None acts none ∙ miss_more stage s a (last ∙ eqb_false k (last_stage parts n) (λ e. omega (arith, e, lt))) in
+      subst (AreSet k (n + 1)) (sym done)
+      (stays k n a.outcomes set
+      (set.each n within ∙ ap (λ b. cond b (slice_index outcomes n) 0) (own_unset k n le ∙ sym (own_later k n (n + 1) later.0))))
+
+  by_found : (k n place : ℕ) (stage : Stage) (s : SlotUnit) (node : Node) (words : Words) (a : Acts) (t : Table) (o : Option Entry) → IsRun → IsAt k n place stage (Slot s) node
+      → a.base ≡ first_code stage place → s.last ≡ (k == last_stage parts n) → AreSet k n a.outcomes → k ≤ set_in n → chip_runs s.node s.guard a.outcomes ≡ true
+      → looked_up (look_in c v) k a.place words s ≡ look_in c v k place (joined p t.key (state n)) → FindsAs p c v n t (joined p t.key (state n)) o
+      → TableSetIn p parts c v n t (joined p t.key (state n)) (set_in n) o → slice_index outcomes n ≡ hit_outcome o
+      → AreSet k (n + 1) (unit_acts (look_in c v) k stage words a (Slot s)).outcomes
+  by_found k n place stage s node words a t None run at base last set le acts looks_there finds sets value =
+      let part : IsPart c n k place stage s = record { stage_is = at.stage_is; slot_is = ap (option_and_then as_slot) at.unit_is; node_is = at.carried.number } in
+      let none = looks_there ∙ finds k place s (slot_of_part c n k place stage s part) at.carried.number in
+      slot_miss k n stage s words a at.within at.carried.number last set le acts none
+      (elim (compare k (set_in n)) [
+        | inl lt ↦ inr (lt, subst (λ m. k < m) sets lt)
+        | inr more ↦ elim more [
+          | inl gt ↦ absurd (omega (arith, gt, le))
+          | inr e ↦ inl (sym e, e ∙ sets, value)
+        ]
+      ])
+  by_found k n place stage s node words a t (Some e) run at base last set le acts looks_there finds sets value =
+      let part : IsPart c n k place stage s = record { stage_is = at.stage_is; slot_is = ap (option_and_then as_slot) at.unit_is; node_is = at.carried.number } in
+      let f = sets.0 in
+      let here : f.k ≡ set_in n = sets.1 in
+      let f_part : IsPart c n f.k f.place f.stage f.slot = record { stage_is = f.stage_is; slot_is = f.slot_is; node_is = f.node_is } in
+      let f_at = unit_of_part p places parts starts c n f.k f.place f.stage f.slot run.units f_part in
+      let f_last = within_last parts n f.k (quanta_of_node p parts f.k f.place n f_at.0) in
+      elim (compare k (set_in n)) [
+        | inl lt ↦
+            slot_miss k n stage s words a at.within at.carried.number last set le acts
+            (looks_there ∙ f.none_before k place s (omega (arith, lt, here)) (slot_of_part c n k place stage s part) at.carried.number)
+            (inr (lt, omega (arith, lt, here, f_last)))
+        | inr more ↦ elim more [
+          | inl gt ↦ absurd (omega (arith, gt, le))
+          | inr same ↦
+              let k_is : f.k ≡ k = here ∙ sym same in
+              let place_is : f.place ≡ place = one_place p parts k n f.place place (subst (λ j. slice_get (nodes_in p parts j) f.place ≡ Some n) k_is f_at.0) at.number in
+              let stage_is : f.stage ≡ stage = same_Some f.stage stage (sym f.stage_is ∙ ap (slice_get c.stages) k_is ∙ at.stage_is) in
+              let looks_is : look_in c v k place (joined p t.key (state n)) ≡ Some f.found =
+              ap (λ j. look_in c v j place (joined p t.key (state n))) (sym k_is) ∙ ap (λ i. look_in c v f.k i (joined p t.key (state n))) (sym place_is) ∙ f.looks in
+              let entry = f.is_entry in
+              let code : f.found.code ≡ first_code stage place + e.action =
+              entry.code ∙ ap (λ (x : Stage). first_code x f.place + e.action) stage_is ∙ ap (λ i. first_code stage i + e.action) place_is in
+              let action : 2 + (f.found.code - a.base) ≡ 2 + e.action = omega (arith, code, base) in
+              let done : (unit_acts (look_in c v) k stage words a (Slot s)).outcomes ≡ slice_set a.outcomes n (slice_index outcomes n) =
+              slot_on c v k stage words a s (Some f.found) acts (looks_there ∙ looks_is)
+              ∙ ap (λ m. slice_set a.outcomes m (2 + (f.found.code - a.base))) at.carried.number
+              ∙ ap (slice_set a.outcomes n) (action ∙ sym value) in
+              subst (AreSet k (n + 1)) (sym done) (sets_own k n a.outcomes at.within set (sym same))
+        ]
+      ]
+
+  slot_law : (k n place : ℕ) (stage : Stage) (s : SlotUnit) (node : Node) (words : Words) (a : Acts) (w : What) → IsRun → IsAt k n place stage (Slot s) node → node.what ≡ w
+      → a.place ≡ place → a.base ≡ first_code stage place → AreSet k n a.outcomes → k ≤ set_in n → runs node.guard outcomes ≡ true
+      → chip_runs s.node s.guard a.outcomes ≡ true → ReadsAs words n w → AreSet k (n + 1) (unit_acts (look_in c v) k stage words a (Slot s)).outcomes
+  slot_law k n place stage s node words a (what.Gate field test) run at is here base set le goes acts reads =
+      let does = and_at (slice_get p.nodes n) (λ (x : Node). DoesAs p places parts k n x.what (Slot s)) node at.node_is at.carried.does in
+      absurd (subst (λ x. DoesAs p places parts k n x (Slot s)) is does)
+  slot_law k n place stage s node words a (what.Apply i) run at is here base set le goes acts reads =
+      let does = subst (λ x. DoesAs p places parts k n x (Slot s)) is
+      (and_at (slice_get p.nodes n) (λ (x : Node). DoesAs p places parts k n x.what (Slot s)) node at.node_is at.carried.does) in
+      let table = some_and (slice_get p.tables i) (λ (t : Table). TableCarried places parts n k t s) does in
+      let t = table.0 in
+      let carried : TableCarried places parts n k t s = table.2 in
+      let key = joined p t.key (state n) in
+      let hit = hit_of t.kind t.key (entries n) (state n) in
+      let at_table : table_at p n ≡ Some t =
+      ap (option_and_then (λ (x : Node). applied p x.what)) at.node_is ∙ ap (applied p) is ∙ table.1 in
+      let sets = subst (λ x. IsSetIn p parts c v (entries n) (state n) n x (set_in n)) is (run.sets n node at.node_is goes) in
+      let set_there = and_at (slice_get p.tables i) (λ (x : Table). TableSetIn p parts c v n x (joined p x.key (state n)) (set_in n) (hit_of x.kind x.key (entries n) (state n))) t table.1 sets in
+      let value : slice_index outcomes n ≡ hit_outcome hit =
+      run_outcome n node run at.node_is goes ∙ ap (node_outcome p (entries n) (state n)) is
+      ∙ ap (λ o. unwrap_or (option_map (λ (x : Table). hit_outcome (hit_of x.kind x.key (entries n) (state n))) o) 0) table.1 in
+      let part : IsPart c n k place stage s = record { stage_is = at.stage_is; slot_is = ap (option_and_then as_slot) at.unit_is; node_is = at.carried.number } in
+      let reads_key : key_of words (high_first places t.key) ≡ key = subst (λ o. IfSome o (λ (x : Table). key_of words (high_first places x.key) ≡ joined p x.key (state n))) table.1 reads in
+      let looks_there : looked_up (look_in c v) k a.place words s ≡ look_in c v k place key =
+      ap (λ m. looked_up (look_in c v) k m words s) here ∙ looks c v n k place stage words s key part (ap (key_of words) carried.keys ∙ reads_key) s.memory refl in
+      by_found k n place stage s node words a t hit run at base carried.last set le acts looks_there (run.finds n t at_table) set_there value
+
+  -- a node that runs has an outcome
+  hit_some_outcome : (o : Option Entry) → hit_outcome o ≡ 0 → ⊥
+  hit_some_outcome None e = omega (arith, e)
+  hit_some_outcome (Some x) e = omega (arith, e)
+
+  test_outcome : (b : Bool) (x : ℕ) → x ≡ cond b 2 1 → x ≡ 0 → ⊥
+  test_outcome true x e none = omega (arith, e, none)
+  test_outcome false x e none = omega (arith, e, none)
+
+  pub some_outcome : (n k : ℕ) (w : What) → IsSetIn p parts c v (entries n) (state n) n w k → node_outcome p (entries n) (state n) w ≡ 0 → ⊥
+  some_outcome n k (what.Apply i) sets e =
+      let table = some_and (slice_get p.tables i) (λ (t : Table). TableSetIn p parts c v n t (joined p t.key (state n)) k (hit_of t.kind t.key (entries n) (state n))) sets in
+      let t = table.0 in
+      hit_some_outcome (hit_of t.kind t.key (entries n) (state n))
+      (sym (ap (λ o. unwrap_or (option_map (λ (x : Table). hit_outcome (hit_of x.kind x.key (entries n) (state n))) o) 0) table.1) ∙ e)
+  some_outcome n k (what.Gate field test) sets e =
+      test_outcome (passes test (slice_index (state n) field)) (node_outcome p (entries n) (state n) (what.Gate field test)) refl e
+
+  -- a unit of stage k: after it the outcome of its node is set too, where that is set in this stage
+  pub unit_law : (k n place : ℕ) (stage : Stage) (u : Unit) (node : Node) (words : Words) (a : Acts) → IsRun → IsAt k n place stage u node
+      → a.place ≡ place → a.base ≡ first_code stage place → AreSet k n a.outcomes → (runs node.guard outcomes ≡ true → k ≤ set_in n → ReadsAs words n node.what)
+      → AreSet k (n + 1) (unit_acts (look_in c v) k stage words a u).outcomes
+  unit_law k n place stage u node words a run at here base set reads = by_run (runs node.guard outcomes) refl
+    where
+      own : slice_index a.outcomes n ≡ cond (is_set k n n) (slice_index outcomes n) 0
+      own = set.each n at.within
+
+      guard : guarded (guard_in u) a.outcomes ≡ runs node.guard outcomes
+      guard = guard_right k n place stage u node a.outcomes run at set
+
+      unset_too : (m : ℕ) → m ≡ n → slice_index a.outcomes m ≡ slice_index a.outcomes n
+      unset_too m e = ap (slice_index a.outcomes) e
+
+      acting : (u' : Unit) → u ≡ u' → runs node.guard outcomes ≡ true → k ≤ set_in n → chip_runs (node_in u) (guard_in u) a.outcomes ≡ true → AreSet k (n + 1) (unit_acts (look_in c v) k stage words a u).outcomes
+      acting (Gate g) e goes le acts =
+          let P : Unit → Type 0 = λ x. IsAt k n place stage x node in
+          let Q : Unit → Type 0 = λ x. AreSet k (n + 1) (unit_acts (look_in c v) k stage words a x).outcomes in
+          subst Q (sym e) (gate_law k n place stage g node words a node.what run (subst P e at) refl set le goes
+          (subst (λ x. chip_runs (node_in x) (guard_in x) a.outcomes ≡ true) e acts) (reads goes le))
+      acting (Slot s) e goes le acts =
+          let P : Unit → Type 0 = λ x. IsAt k n place stage x node in
+          let Q : Unit → Type 0 = λ x. AreSet k (n + 1) (unit_acts (look_in c v) k stage words a x).outcomes in
+          subst Q (sym e) (slot_law k n place stage s node words a node.what run (subst P e at) refl here base set le goes
+          (subst (λ x. chip_runs (node_in x) (guard_in x) a.outcomes ≡ true) e acts) (reads goes le))
+
+      by_run : (r : Bool) → runs node.guard outcomes ≡ r → AreSet k (n + 1) (unit_acts (look_in c v) k stage words a u).outcomes
+      by_run false off =
+          let stopped : chip_runs (node_in u) (guard_in u) a.outcomes ≡ false = ap (λ b. b && (slice_index a.outcomes (node_in u) == 0)) (guard ∙ off) in
+          let none : slice_index outcomes n ≡ 0 = run.given n node at.node_is ∙ ap (λ b. cond b (node_outcome p (entries n) (state n) node.what) 0) off in
+          let value : slice_index a.outcomes n ≡ cond (is_set k (n + 1) n) (slice_index outcomes n) 0 =
+          own ∙ ap (λ x. cond (is_set k n n) x 0) none ∙ either_same (is_set k n n) 0
+          ∙ sym (ap (λ x. cond (is_set k (n + 1) n) x 0) none ∙ either_same (is_set k (n + 1) n) 0) in
+          subst (AreSet k (n + 1)) (sym (unit_off k stage words a u stopped)) (stays k n a.outcomes set value)
+      by_run true goes =
+          elim (cases_lt (set_in n) k) [
+            | inl lt ↦
+                let value : slice_index a.outcomes n ≡ slice_index outcomes n = own ∙ ap (λ b. cond b (slice_index outcomes n) 0) (own_before k n lt n) in
+                let some : (slice_index outcomes n ≡ 0) → ⊥ =
+                λ e. some_outcome n (set_in n) node.what (run.sets n node at.node_is goes) (sym (run_outcome n node run at.node_is goes) ∙ e) in
+                let stopped : chip_runs (node_in u) (guard_in u) a.outcomes ≡ false =
+                ap (λ b. b && (slice_index a.outcomes (node_in u) == 0)) (guard ∙ goes)
+                ∙ ap (λ x. x == 0) (unset_too (node_in u) at.carried.number ∙ value) ∙ eqb_false (slice_index outcomes n) 0 some in
+                subst (AreSet k (n + 1)) (sym (unit_off k stage words a u stopped))
+                (stays k n a.outcomes set (value ∙ sym (ap (λ b. cond b (slice_index outcomes n) 0) (own_before k n lt (n + 1)))))
+            | inr le ↦
+                let value : slice_index a.outcomes n ≡ 0 = own ∙ ap (λ b. cond b (slice_index outcomes n) 0) (own_unset k n le) in
+                let acts : chip_runs (node_in u) (guard_in u) a.outcomes ≡ true =
+                ap (λ b. b && (slice_index a.outcomes (node_in u) == 0)) (guard ∙ goes)
+                ∙ ap (λ x. x == 0) (unset_too (node_in u) at.carried.number ∙ value) in
+                acting u refl goes le acts
+          ]
+
+  -- ---- all units of a stage
+
+  -- a node has quanta in the stage in which its outcome is set
+  pub stands_where_set : (n k : ℕ) (w : What) → UnitsCarried p places parts starts c → n < length p.nodes → IsSetIn p parts c v (entries n) (state n) n w k → 0 < quanta_in parts n k
+  stands_where_set n k (what.Gate field test) units within sets = sets.0
+  stands_where_set n k (what.Apply i) units within sets =
+      let table = some_and (slice_get p.tables i) (λ (t : Table). TableSetIn p parts c v n t (joined p t.key (state n)) k (hit_of t.kind t.key (entries n) (state n))) sets in
+      by_hit table.0 (hit_of table.0.kind table.0.key (entries n) (state n)) table.2
+    where
+      by_hit : (t : Table) (o : Option Entry) → TableSetIn p parts c v n t (joined p t.key (state n)) k o → 0 < quanta_in parts n k
+      by_hit t None e =
+          subst (λ j. 0 < quanta_in parts n j) (sym e)
+          (stands_in_last parts n
+          (All-weaker (λ (x : Part). (x.node < length p.nodes) × (x.stage < length c.stages) × (0 < x.quanta)) (λ (x : Part). 0 < x.quanta) (λ x h. h.2) parts units.no_other)
+          (units.each_node n within))
+      by_hit t (Some x) h =
+          let f = h.0 in
+          let part : IsPart c n f.k f.place f.stage f.slot = record { stage_is = f.stage_is; slot_is = f.slot_is; node_is = f.node_is } in
+          subst (λ j. 0 < quanta_in parts n j) h.1 (quanta_of_node p parts f.k f.place n (unit_of_part p places parts starts c n f.k f.place f.stage f.slot units part).0)
+
+  -- a node that doesn't stand in a stage
+  pub not_there : (k n : ℕ) (node : Node) (now : List ℕ) → IsRun → slice_get p.nodes n ≡ Some node → n < length p.nodes → nat_lt 0 (quanta_in parts n k) ≡ false → AreSet k n now → AreSet k (n + 1) now
+  not_there k n node now run is_node within off set = stays k n now set (set.each n within ∙ by_run (runs node.guard outcomes) refl)
+    where
+      by_run : (r : Bool) → runs node.guard outcomes ≡ r → cond (is_set k n n) (slice_index outcomes n) 0 ≡ cond (is_set k (n + 1) n) (slice_index outcomes n) 0
+      by_run false e =
+          let none : slice_index outcomes n ≡ 0 = run.given n node is_node ∙ ap (λ b. cond b (node_outcome p (entries n) (state n) node.what) 0) e in
+          ap (λ x. cond (is_set k n n) x 0) none ∙ either_same (is_set k n n) 0
+          ∙ sym (ap (λ x. cond (is_set k (n + 1) n) x 0) none ∙ either_same (is_set k (n + 1) n) 0)
+      by_run true e =
+          let other : (set_in n == k) ≡ false = eqb_false (set_in n) k (λ same.
+          both_ways (nat_lt 0 (quanta_in parts n k)) off
+          (lt-ltb 0 (quanta_in parts n k) (subst (λ j. 0 < quanta_in parts n j) same (stands_where_set n (set_in n) node.what run.units within (run.sets n node is_node e))))) in
+          ap (λ b. cond (nat_lt (set_in n) k || (b && nat_lt n n)) (slice_index outcomes n) 0) other
+          ∙ sym (ap (λ b. cond (nat_lt (set_in n) k || (b && nat_lt n (n + 1))) (slice_index outcomes n) 0) other)
+
+  -- what is read at the start of a stage, by the nodes that may act there
+  abbrev pub StageReads : ℕ → Words → Type 0
+  StageReads k words = (n : ℕ) (node : Node) → slice_get p.nodes n ≡ Some node → 0 < quanta_in parts n k → runs node.guard outcomes ≡ true → k ≤ set_in n → ReadsAs words n node.what
+
+  abbrev stands_in : ℕ → ℕ → Bool
+  stands_in k n = nat_lt 0 (quanta_in parts n k)
+
+  -- the units of the nodes from number m on
+  abbrev FromNode : ℕ → Stage → Words → ℕ → ℕ → List ℕ → Type 0
+  FromNode k stage words m last ns =
+      (us : List Unit) (a : Acts) → AllZip (UnitCarried p places parts k) ns us → drop a.place stage.units ≡ us → drop a.place (nodes_in p parts k) ≡ ns
+      → a.base ≡ first_code stage a.place → AreSet k m a.outcomes → AreSet k last (fold (unit_acts (look_in c v) k stage words) a us).outcomes
+
+  by_node : (k : ℕ) (stage : Stage) (words : Words) (m last : ℕ) (node : Node) (ns : List ℕ) (b : Bool) → IsRun → slice_get c.stages k ≡ Some stage → StageReads k words → slice_get p.nodes m ≡ Some node
+      → stands_in k m ≡ b → FromNode k stage words (m + 1) last ns → FromNode k stage words m last (cond b (m ∷ ns) ns)
+  by_node k stage words m last node ns false run stage_is reads is_node e rest us a zip units nodes base set =
+      rest us a zip units nodes base (not_there k m node a.outcomes run is_node (slice_get_within p.nodes m node is_node) e set)
+  by_node k stage words m last node ns true run stage_is reads is_node e rest [] a zip units nodes base set = absurd zip
+  by_node k stage words m last node ns true run stage_is reads is_node e rest (u ∷ us) a zip units nodes base set =
+      let unit = drop_head stage.units a.place u us units in
+      let number = drop_head (nodes_in p parts k) a.place m ns nodes in
+      let at : IsAt k m a.place stage u node = record {
+        within = slice_get_within p.nodes m node is_node;
+        stage_is = stage_is;
+        unit_is = unit.0;
+        number = number.0;
+        carried = zip.0;
+        node_is = is_node;
+      } in
+      let after = unit_acts (look_in c v) k stage words a u in
+      let next : after.place ≡ a.place + 1 = place_after c v k stage words a u in
+      let done = unit_law k m a.place stage u node words a run at refl base set (reads m node is_node (ltb-true 0 (quanta_in parts m k) e)) in
+      rest us after zip.1 (ap (λ i. drop i stage.units) next ∙ unit.1) (ap (λ i. drop i (nodes_in p parts k)) next ∙ number.1)
+      (base_after c v k stage words a u ∙ ap (λ n. n + unit_instructions u) base ∙ sym (first_code_next stage a.place u unit.0) ∙ sym (ap (first_code stage) next)) done
+
+  from_node : (k : ℕ) (stage : Stage) (words : Words) (count m : ℕ) → m + count ≡ length p.nodes → IsRun → slice_get c.stages k ≡ Some stage → StageReads k words
+      → FromNode k stage words m (length p.nodes) (filter (stands_in k) (range_with_len m count))
+  from_node k stage words zero m sum run stage_is reads [] a zip units nodes base set =
+      let e : m ≡ length p.nodes = omega (arith, sum) in
+      subst (λ n. AreSet k n a.outcomes) e set
+  from_node k stage words zero m sum run stage_is reads (u ∷ us) a zip units nodes base set = absurd zip
+  from_node k stage words (suc count) m sum run stage_is reads us a zip units nodes base set =
+      let node = slice_get-item p.nodes m (omega (arith, sum)) in
+      by_node k stage words m (length p.nodes) node.0 (filter (stands_in k) (range_with_len (m + 1) count)) (stands_in k m) run stage_is reads node.1 refl
+      (from_node k stage words count (m + 1) (omega (arith, sum)) run stage_is reads) us a zip units nodes base set
+
+  stage_end : (k : ℕ) (now : List ℕ) → AreSet k (length p.nodes) now → AreSet (k + 1) 0 now
+  stage_end k now set = record {
+    room = set.room;
+    each = λ n lt. set.each n lt ∙ ap (λ b. cond b (slice_index outcomes n) 0) (same n lt);
+  }
+    where
+      same : (n : ℕ) → n < length p.nodes → is_set k (length p.nodes) n ≡ is_set (k + 1) 0 n
+      same n lt =
+          elim (compare (set_in n) k) [
+            | inl less ↦ own_before k n less (length p.nodes) ∙ sym (own_before (k + 1) n (omega (arith, less)) 0)
+            | inr more ↦ elim more [
+              | inl gt ↦
+                  own_later k n (length p.nodes) gt
+                  ∙ sym (ap (λ b. b || ((set_in n == k + 1) && nat_lt n 0)) (ltb_false (set_in n) (k + 1) (omega (arith, gt)))
+                  ∙ ap (λ b. (set_in n == k + 1) && b) (ltb_false n 0 (omega arith)) ∙ and_false (set_in n == k + 1))
+              | inr e ↦ parent_set k (length p.nodes) n lt (omega (arith, e)) ∙ sym (own_before (k + 1) n (omega (arith, e)) 0)
+            ]
+          ]
+
+  -- After a stage the outcomes that are set in it are there too.
+  pub stage_law : (k : ℕ) (stage : Stage) (words : Words) (now : List ℕ) → IsRun → slice_get c.stages k ≡ Some stage → StageReads k words → AreSet k 0 now
+      → AreSet (k + 1) 0 (acts_of (look_in c v) k stage words now).outcomes
+  stage_law k stage words now run stage_is reads set =
+      let zip = and_at (slice_get c.stages k) (λ (s : Stage). AllZip (UnitCarried p places parts k) (nodes_in p parts k) s.units) stage stage_is
+      (run.units.units k (slice_get_within c.stages k stage stage_is)) in
+      stage_end k _
+      (from_node k stage words (length p.nodes) 0 (omega arith) run stage_is reads stage.units
+      (record { outcomes = now; running = []; counted = []; base = 0; place = 0 }) zip refl refl refl set)
+
+  -- ---- all stages
+
+  -- what is read at the start of each stage from number k on
+  abbrev pub AllRead : ℕ → List Stage → Life → Type 0
+  AllRead k [] life = ⊤
+  AllRead k (stage ∷ stages) life = StageReads k (life.word stage.start) × AllRead (k + 1) stages (through (look_in c v) k stage life)
+
+  pub stages_law : (k : ℕ) (stages : List Stage) (life : Life) → IsRun → drop k c.stages ≡ stages → AllRead k stages life → AreSet k 0 life.outcomes
+      → AreSet (k + length stages) 0 (through_from (look_in c v) k stages life).outcomes
+  stages_law k [] life run there reads set =
+      let e : k ≡ k + 0 = omega arith in
+      subst (λ j. AreSet j 0 life.outcomes) e set
+  stages_law k (stage ∷ stages) life run there reads set =
+      let here = drop_head c.stages k stage stages there in
+      let next = through (look_in c v) k stage life in
+      let e : k + 1 + length stages ≡ k + length (stage ∷ stages) = omega arith in
+      subst (λ j. AreSet j 0 (through_from (look_in c v) (k + 1) stages next).outcomes) e
+      (stages_law (k + 1) stages next run here.1 reads.1 (stage_law k stage (life.word stage.start) life.outcomes run here.0 reads.0 set))
+
+  -- behind the last stage every outcome is set
+  pub all_set : (now : List ℕ) → IsRun → AreSet (length c.stages) 0 now → (n : ℕ) → n < length p.nodes → slice_index now n ≡ slice_index outcomes n
+  all_set now run set n within = set.each n within ∙ by_run (runs node.0.guard outcomes) refl
+    where
+      node : (x : Node) × (slice_get p.nodes n ≡ Some x)
+      node = slice_get-item p.nodes n within
+
+      by_run : (r : Bool) → runs node.0.guard outcomes ≡ r → cond (is_set (length c.stages) 0 n) (slice_index outcomes n) 0 ≡ slice_index outcomes n
+      by_run false e =
+          let none : slice_index outcomes n ≡ 0 = run.given n node.0 node.1 ∙ ap (λ b. cond b (node_outcome p (entries n) (state n) node.0.what) 0) e in
+          ap (λ x. cond (is_set (length c.stages) 0 n) x 0) none ∙ either_same (is_set (length c.stages) 0 n) 0 ∙ sym none
+      by_run true e =
+          let stands = stands_where_set n (set_in n) node.0.what run.units within (run.sets n node.0 node.1 e) in
+          let y = part_there parts n (set_in n) stands in
+          let own = All-contains (λ (x : Part). (x.node < length p.nodes) × (x.stage < length c.stages) × (0 < x.quanta)) parts y.0 run.units.no_other y.1 in
+          let lt : set_in n < length c.stages = subst (λ j. j < length c.stages) y.3 own.1 in
+          ap (λ b. cond b (slice_index outcomes n) 0) (own_before (length c.stages) n lt 0)
+
+  -- before the first stage none is
+  pub none_set : (now : List ℕ) → length p.nodes ≤ length now → ((n : ℕ) → n < length p.nodes → slice_index now n ≡ 0) → AreSet 0 0 now
+  none_set now room none = record {
+    room = room;
+    each = λ n lt. none n lt ∙ sym (ap (λ b. cond b (slice_index outcomes n) 0) (unset n));
+  }
+    where
+      unset : (n : ℕ) → is_set 0 0 n ≡ false
+      unset n =
+          ap (λ b. b || ((set_in n == 0) && nat_lt n 0)) (ltb_false (set_in n) 0 (omega arith))
+          ∙ ap (λ b. (set_in n == 0) && b) (ltb_false n 0 (omega arith)) ∙ and_false (set_in n == 0)

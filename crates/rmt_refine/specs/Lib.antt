@@ -1,0 +1,9 @@
+pub mod View
+pub mod Places
+pub mod Units
+pub mod Cells
+pub mod LookUps
+pub mod Laws
+pub mod Outcomes
+pub mod Code
+pub mod Carries

@@ -1,0 +1,32 @@
+-- First part of a configuration's carrying a program: where its fields stand.
+use Rattle.std.specs.Prelude.{◌≡◌, ℕ, List, [], ◌∷◌, reverse}
+use Rattle.std.specs.List.{AllZip, flat_map}
+use Rattle.rmt_bits.specs.declared.lane.Lane.{Lane}
+use Rattle.rmt_ast.specs.declared.program.Program.{Program}
+use Rattle.rmt_ast.specs.declared.program.Header.{Header}
+use Rattle.rmt_ast.specs.Places.{lanes_of}
+use Rattle.rmt_config.specs.declared.config.Config.{Config}
+use Rattle.rmt_config.specs.declared.config.OutHeader.{OutHeader}
+use Rattle.rmt_phv.specs.Places.{KeepsApart}
+
+-- the lanes of some fields, highest bits first
+abbrev pub high_first : List (List Lane) → List ℕ → List Lane
+high_first places fields = flat_map (λ f. reverse (lanes_of places f)) fields
+
+-- a field of one piece stands in that lane
+abbrev pub StandsIn : List (List Lane) → ℕ → Lane → Type 0
+StandsIn places f lane = lanes_of places f ≡ lane ∷ []
+
+-- a header is sent by the lanes of its fields
+pub record HeaderCarried (places : List (List Lane)) (h : Header) (o : OutHeader) : Type 0 where
+  pub valid : StandsIn places h.valid o.valid
+  pub bytes : o.bytes ≡ h.bytes
+  pub pieces : o.pieces ≡ high_first places h.fields
+
+-- The fields have places that keep apart, and the configuration reads and writes the ports, the mark of dropping and the headers there.
+pub record PlacesCarried (p : Program) (places : List (List Lane)) (c : Config) : Type 0 where
+  pub apart : KeepsApart p places
+  pub in_port : StandsIn places 0 c.in_port
+  pub out_port : StandsIn places 1 c.out_port
+  pub drop : StandsIn places 2 c.drop
+  pub headers : AllZip (HeaderCarried places) p.headers c.headers

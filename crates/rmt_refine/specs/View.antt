@@ -1,0 +1,57 @@
+-- The cells that the look-ups of a packet see. A configuration has cells of its own; where entries change in flight, packets see others.
+use Rattle.std.specs.Prelude.{ℕ, Option, Some, None, find, option_map, option_and_then, slice_get, unwrap_or}
+use Rattle.rmt_config.specs.declared.config.Config.{Config}
+use Rattle.rmt_config.specs.declared.config.Stage.{Stage}
+use Rattle.rmt_config.specs.declared.config.Unit.{Unit}
+use Rattle.rmt_config.specs.declared.config.Unit.TheVariants.{Gate, Slot}
+use Rattle.rmt_config.specs.declared.config.SlotUnit.{SlotUnit}
+use Rattle.rmt_config.specs.LaneForm.{bits_of_lanes}
+use Rattle.rmt_config.specs.Cells.{Content, Found, candidates, code_of, content_of, has_key, number_of_cell}
+use Rattle.rmt_config.specs.Life.{Look}
+
+-- a seed, and of each cell, by stage, place of the slot in the stage and number in the slot, what it holds and the number of its entry
+pub record View : Type 0 where
+  pub seed : ℕ
+  pub content : ℕ → ℕ → ℕ → Content
+  pub number : ℕ → ℕ → ℕ → ℕ
+
+-- a unit as a slot
+abbrev pub as_slot : Unit → Option SlotUnit
+as_slot (Gate g) = None
+as_slot (Slot s) = Some s
+
+-- the slot at a place of a stage
+abbrev pub slot_of : Stage → ℕ → Option SlotUnit
+slot_of stage place = option_and_then as_slot (slice_get stage.units place)
+
+abbrev pub slot_at : Config → ℕ → ℕ → Option SlotUnit
+slot_at c k place = option_and_then (λ (stage : Stage). slot_of stage place) (slice_get c.stages k)
+
+-- a cell without an entry
+abbrev pub no_content : Content
+no_content = record { head = 0; key = 0; mask = 0; held = 0 }
+
+-- what a cell of a configuration holds
+abbrev pub own_content : Config → ℕ → ℕ → ℕ → Content
+own_content c k place n =
+    unwrap_or (option_and_then (λ (stage : Stage). option_map (λ (slot : SlotUnit). content_of stage slot n) (slot_of stage place)) (slice_get c.stages k)) no_content
+
+abbrev pub own_number : Config → ℕ → ℕ → ℕ → ℕ
+own_number c k place n = unwrap_or (option_map (λ (slot : SlotUnit). number_of_cell slot.numbers n) (slot_at c k place)) 0
+
+-- a configuration's own cells under its own seed
+abbrev pub own_view : Config → View
+own_view c = record { seed = c.seed; content = own_content c; number = own_number c }
+
+-- what a look-up finds in a cell
+abbrev pub found_at : View → ℕ → ℕ → ℕ → Found
+found_at v k place n = record { code = code_of (v.content k place n).head; held = (v.content k place n).held; number = v.number k place n }
+
+-- what a key finds in a slot: the cell of least number among its candidates that has it
+abbrev pub found_in_slot : View → ℕ → ℕ → ℕ → SlotUnit → Option Found
+found_in_slot v k place key slot =
+    option_map (found_at v k place) (find (λ n. has_key key (v.content k place n)) (candidates v.seed (bits_of_lanes slot.keys) slot.memory key))
+
+-- the look-ups in the slots of a configuration, made in a view
+abbrev pub look_in : Config → View → Look
+look_in c v k place key = option_and_then (found_in_slot v k place key) (slot_at c k place)
