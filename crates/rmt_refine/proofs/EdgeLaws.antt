@@ -1,11 +1,11 @@
 -- No part of a node stands before a part of its parent, where the parts keep every edge.
 use Rattle.std.proofs.Common.{◌≡◌, ℕ, zero, suc, ◌+◌, ◌-◌, ◌<◌, ◌≤◌, Bool, true, false, not, ◌&&◌, ◌||◌, ◌==◌, cond, List, [], ◌∷◌, ◌/◌, ◌%◌, ◌^◌, Option, Some, None, length, map, refl, sym, ap, ◌∙◌, subst, ◌⊎◌, inl, inr, arith}
-use Rattle.std.specs.Prelude.{All, Contains, bit_and, filter, slice_get, slice_index, ⊤}
+use Rattle.std.specs.Prelude.{All, Contains, MatchBool, bit_and, filter, slice_get, slice_index, ⊤}
 use Rattle.std.specs.List.{list_any, range_with_len}
 use Rattle.std.proofs.lemmas.Bool.{eq-eqb, eqb-true, false_from_ne_true, true_from_ne_false}
 use Rattle.std.proofs.Math.Nat.{div-one, zero-div}
 use Rattle.std.proofs.lemmas.Nat.{and_mod, and_shr}
-use Rattle.std.proofs.lemmas.List.Elements.{All-cons, All-head, All-nil, All-tail}
+use Rattle.std.proofs.lemmas.List.Elements.{All-cons, All-contains_itself, All-head, All-nil, All-tail}
 use Rattle.std.proofs.lemmas.Option.{none-some, same_Some, slice_get_within}
 use Rattle.rmt_bits.proofs.AllLaws.{All-left, All-parts, All-right}
 use Rattle.rmt_bits.specs.declared.lane.Lane.{Lane}
@@ -21,7 +21,7 @@ use Rattle.rmt_ast.specs.WellFormed.{IsGuard, IsProgram}
 use Rattle.rmt_deps.specs.Edges.{are_other_arms, depends, edge, edges_among, edges_between, edges_from, field_edges, guard_if, guard_of, guard_then, guards_of, guards_up, is_parent, on_different_arms, word_edges}
 use Rattle.rmt_config.specs.declared.config.Config.{Config}
 use Rattle.rmt_pack.specs.declared.placement.Part.{Part}
-use Rattle.rmt_pack.specs.Placements.{Keeps}
+use Rattle.rmt_pack.specs.Placements.{Keeps, is_strict, quanta_in}
 use Rattle.rmt_refine.specs.Carries.{EdgesKept, all_edges}
 use Rattle.rmt_refine.specs.Outcomes.{ChildrenFollow, entries_at, node_outcome, run_before}
 use Rattle.rmt_refine.specs.Units.{UnitsCarried}
@@ -201,23 +201,27 @@ parent_edge p places P n g program within e all =
     field_edge p places P g.parent n kind.Successor (parent_less p n g program e) within (parent_beside p n g program e) (2, omega arith, refl)
     (ap (is_parent g.parent) e ∙ eq-eqb g.parent g.parent refl) all
 
+-- stages of two nodes that an edge joins are in its order
+pub in_order : (p : Program) (places : List (List Lane)) (parts : List Part) (starts : List ℕ) (c : Config) → UnitsCarried p places parts starts c
+    → EdgesKept (all_edges p places) parts starts → (e : Edge) (j k : ℕ) → Contains (all_edges p places) e → 0 < quanta_in parts e.from j → 0 < quanta_in parts e.to k
+    → MatchBool (is_strict e.kind) (j < k) (j ≤ k)
+in_order p places parts starts c units kept e j k there some_j some_k =
+    let a = part_there parts e.from j some_j in
+    let b = part_there parts e.to k some_k in
+    let Own : Part → Type 0 = λ x. (x.node < length p.nodes) × (x.stage < length c.stages) × (0 < x.quanta) in
+    let own_a = All-contains Own parts a.0 units.no_other a.1 in
+    let own_b = All-contains Own parts b.0 units.no_other b.1 in
+    let all = All-contains (λ (x : Edge). All (λ (y : Part). All (Keeps x y) parts) parts) (all_edges p places) e kept.order there in
+    let one = All-contains (λ (y : Part). All (Keeps e y) parts) parts a.0 all a.1 in
+    let kept_there = All-contains (Keeps e a.0) parts b.0 one b.1 a.2 b.2 own_a.2 own_b.2 in
+    subst (λ i. MatchBool (is_strict e.kind) (i < k) (i ≤ k)) a.3 (subst (λ i. MatchBool (is_strict e.kind) (a.0.stage < i) (a.0.stage ≤ i)) b.3 kept_there)
+
 pub children_follow : (p : Program) (places : List (List Lane)) (parts : List Part) (starts : List ℕ) (c : Config) → IsProgram p → UnitsCarried p places parts starts c
     → EdgesKept (all_edges p places) parts starts → ChildrenFollow p parts
 children_follow p places parts starts c program units kept n node g at is j k some_j some_k =
     let e : guard_of p n ≡ Some g = ap guard_if at ∙ is in
-    let keeps = parent_edge p places (λ (x : Edge). All (λ (a : Part). All (Keeps x a) parts) parts) n g program (slice_get_within p.nodes n node at) e kept.order in
-    let a = part_there parts g.parent j some_j in
-    let b = part_there parts n k some_k in
-    let Own : Part → Type 0 = λ x. (x.node < length p.nodes) × (x.stage < length c.stages) × (0 < x.quanta) in
-    let own_a = All-contains Own parts a.0 units.no_other a.1 in
-    let own_b = All-contains Own parts b.0 units.no_other b.1 in
-    let x = edge g.parent n kind.Successor in
-    let one = All-contains (λ (y : Part). All (Keeps x y) parts) parts a.0 keeps a.1 in
-    let two = All-contains (Keeps x a.0) parts b.0 one b.1 in
-    let le : a.0.stage ≤ b.0.stage = two a.2 b.2 own_a.2 own_b.2 in
-    let ea = a.3 in
-    let eb = b.3 in
-    omega (arith, le, ea, eb)
+    let there = parent_edge p places (Contains (all_edges p places)) n g program (slice_get_within p.nodes n node at) e (All-contains_itself (all_edges p places)) in
+    in_order p places parts starts c units kept (edge g.parent n kind.Successor) j k there some_j some_k
 
 -- ---- two nodes that both run
 

@@ -27,7 +27,7 @@ use Rattle.rmt_ast.specs.Lookup.{hit_of}
 use Rattle.rmt_ast.specs.State.{width_of}
 use Rattle.rmt_ast.specs.WellFormed.{Fits, IsProgram}
 use Rattle.rmt_phv.specs.Places.{written_by}
-use Rattle.rmt_deps.specs.Edges.{expr_fields, leaf_fields, of_action, of_table, of_what, read_by, writes_of}
+use Rattle.rmt_deps.specs.Edges.{expr_fields, leaf_fields, of_action, of_node, of_table, of_what, read_by, writes_of}
 use Rattle.rmt_refine.specs.Outcomes.{entries_at, run_before}
 use Rattle.rmt_refine.proofs.FindLaws.{All-contains, Contains-first, Contains-later, Contains-split}
 use Rattle.rmt_refine.proofs.LookUpLaws.{hit_some}
@@ -186,16 +186,17 @@ listed p n t es s (Some e) are hit =
     let long = length-map t.actions (params_of p) in
     Contains-later t.default t.actions (slice_index t.actions e.action) (Contains-get_or t.actions e.action 0 (omega (arith, within, long)))
 
--- a table's node writes what the action that it runs writes
-pub writes_listed : (p : Program) (n i : ℕ) (node : Node) (t : Table) (es : List Entry) (s : List ℕ) (f : ℕ) → slice_get p.nodes n ≡ Some node → node.what ≡ Apply i → slice_get p.tables i ≡ Some t
-    → AreTableEntries n es (terms_of p t) → Contains (of_action p written_by (action_run t (hit_of t.kind t.key es s))) f → Contains (writes_of p n) f
-writes_listed p n i node t es s f at is table are there =
+-- a table's node touches what the action that it runs touches
+pub fields_listed : (p : Program) (fields : Action → List ℕ) (n i : ℕ) (node : Node) (t : Table) (es : List Entry) (s : List ℕ) (f : ℕ) → slice_get p.nodes n ≡ Some node → node.what ≡ Apply i
+    → slice_get p.tables i ≡ Some t → AreTableEntries n es (terms_of p t) → Contains (of_action p fields (action_run t (hit_of t.kind t.key es s))) f
+    → Contains (of_node p (of_table p fields) (λ field. []) n) f
+fields_listed p fields n i node t es s f at is table are there =
     let g : ℕ → List ℕ = λ field. [] in
-    let e : writes_of p n ≡ of_table p written_by t =
-    ap (λ o. unwrap_or (option_map (λ (x : Node). of_what p (of_table p written_by) g x.what) o) []) at
-    ∙ ap (of_what p (of_table p written_by) g) is ∙ ap (λ o. unwrap_or (option_map (of_table p written_by) o) []) table in
+    let e : of_node p (of_table p fields) g n ≡ of_table p fields t =
+    ap (λ o. unwrap_or (option_map (λ (x : Node). of_what p (of_table p fields) g x.what) o) []) at
+    ∙ ap (of_what p (of_table p fields) g) is ∙ ap (λ o. unwrap_or (option_map (of_table p fields) o) []) table in
     subst (λ xs. Contains xs f) (sym e)
-    (Contains-flat_map (of_action p written_by) (t.default ∷ t.actions) (action_run t (hit_of t.kind t.key es s)) f (listed p n t es s (hit_of t.kind t.key es s) are refl) there)
+    (Contains-flat_map (of_action p fields) (t.default ∷ t.actions) (action_run t (hit_of t.kind t.key es s)) f (listed p n t es s (hit_of t.kind t.key es s) are refl) there)
 
 done_other : (p : Program) (n : ℕ) (node : Node) (w : What) (es : List Entry) (r : Run) (f : ℕ) → slice_get p.nodes n ≡ Some node → node.what ≡ w → AreEntriesAt n es (terms_at p w)
     → (Contains (writes_of p n) f → ⊥) → slice_index (done_by p es n w r).state f ≡ slice_index r.state f
@@ -208,7 +209,7 @@ done_other p n node (Apply i) es r f at is are none = by_table (slice_get p.tabl
     by_table (Some t) e entries =
         let o = hit_of t.kind t.key es r.state in
         ap (λ s. slice_index s f) (applied_state p n t o r)
-        ∙ act_other p (action_run t o) (args_run t o) r.state f (λ there. none (writes_listed p n i node t es r.state f at is e entries there))
+        ∙ act_other p (action_run t o) (args_run t o) r.state f (λ there. none (fields_listed p written_by n i node t es r.state f at is e entries there))
 
 either_other : (b : Bool) (q r : Run) (f : ℕ) → (b ≡ true → slice_index q.state f ≡ slice_index r.state f) → slice_index (cond b q r).state f ≡ slice_index r.state f
 either_other true q r f h = h refl

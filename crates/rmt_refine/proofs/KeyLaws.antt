@@ -45,7 +45,7 @@ same_bool true y there back = sym (there refl)
 same_bool false true there back = back refl
 same_bool false false there back = refl
 
-block_eq : (a b r s k : ℕ) → r < 2 ^ k → s < 2 ^ k → (a * 2 ^ k + r == b * 2 ^ k + s) ≡ ((a == b) && (r == s))
+pub block_eq : (a b r s k : ℕ) → r < 2 ^ k → s < 2 ^ k → (a * 2 ^ k + r == b * 2 ^ k + s) ≡ ((a == b) && (r == s))
 block_eq a b r s k hr hs =
     same_bool (a * 2 ^ k + r == b * 2 ^ k + s) ((a == b) && (r == s))
     (λ h.

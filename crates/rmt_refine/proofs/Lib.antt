@@ -15,4 +15,33 @@ pub mod FieldLaws
 pub mod EdgeLaws
 pub mod CarriedLaws
 pub mod LaneLaws
+pub mod WalkedLaws
+pub mod OrderLaws
+pub mod DoneLaws
+pub mod NumberLaws
+pub mod HitLaws
+pub mod CountLaws
+pub mod RisingLaws
+pub mod CellNumberLaws
+pub mod ListLaws
+pub mod ReadLaws
+pub mod SeenLaws
+pub mod WrittenLaws
+pub mod WordLaws
+pub mod BeginLaws
+pub mod EndLaws
+pub mod PacketLaws
+pub mod RefinedLaws
+mod RefinedExamples
 mod Examples
+mod TwoStages
+mod ListedLaws
+mod PlacesExamples
+mod CellsExamples
+mod CodeExamples
+mod ParserExamples
+mod FormExamples
+mod CarriedExamples
+mod BrokenExamples
+mod OutcomeExamples
+mod ListExamples

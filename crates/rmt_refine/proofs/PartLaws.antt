@@ -82,7 +82,7 @@ look_of_part c v n k place key stage slot part = ap (option_and_then (found_in_s
 
 -- ---- its memory
 
-slot_is_unit : (u : Unit) (slot : SlotUnit) → as_slot u ≡ Some slot → u ≡ Slot slot
+pub slot_is_unit : (u : Unit) (slot : SlotUnit) → as_slot u ≡ Some slot → u ≡ Slot slot
 slot_is_unit (Gate g) slot e = absurd (none-some slot e)
 slot_is_unit (Slot s) slot e = ap Slot (same_Some s slot e)
 

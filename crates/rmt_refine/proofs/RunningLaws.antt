@@ -1,8 +1,8 @@
--- Which instructions run in a stage: those of the tables whose outcome is set there.
-use Rattle.std.proofs.Common.{◌≡◌, ℕ, zero, suc, ◌+◌, ◌<◌, ◌≤◌, Bool, true, false, ◌&&◌, ◌==◌, cond, List, [], ◌∷◌, Option, Some, None, length, drop, refl, sym, ap, ◌∙◌, subst, ◌⊎◌, inl, inr, arith}
-use Rattle.std.specs.Prelude.{IfSome, filter, fold, nat_lt, option_and_then, slice_get, slice_index, slice_set}
+-- Which instructions run in a stage and what is counted in it: those of the tables whose outcome is set there, and their hits.
+use Rattle.std.proofs.Common.{◌≡◌, ℕ, zero, suc, ◌+◌, ◌<◌, ◌≤◌, Bool, true, false, ◌&&◌, ◌==◌, cond, List, [], ◌∷◌, ◌++◌, Option, Some, None, length, map, drop, refl, sym, ap, ◌∙◌, subst, ◌⊎◌, inl, inr, arith}
+use Rattle.std.specs.Prelude.{IfSome, filter, fold, nat_lt, option_and_then, option_map, slice_get, slice_index, slice_set, unwrap_or}
 use Rattle.std.specs.List.{AllZip, range_with_len}
-use Rattle.std.proofs.lemmas.Bool.{both_ways, cases_lt, eq-eqb, lt-ltb, ltb-true}
+use Rattle.std.proofs.lemmas.Bool.{both_ways, cases_lt, eq-eqb, eqb-true, lt-ltb, ltb-true}
 use Rattle.std.proofs.lemmas.Option.{none-some, same_Some, slice_get_within}
 use Rattle.rmt_bits.proofs.ListLaws.{slice_get-item}
 use Rattle.rmt_bits.specs.declared.lane.Lane.{Lane}
@@ -33,34 +33,78 @@ use Rattle.rmt_refine.specs.Cells.{first_code}
 use Rattle.rmt_refine.specs.LookUps.{FindsAs}
 use Rattle.rmt_refine.specs.Outcomes.{IsSetIn, TableSetIn}
 use Rattle.rmt_refine.proofs.NodeLaws.{one_place, within_last}
-use Rattle.rmt_refine.proofs.PartLaws.{IsPart, and_at, quanta_of_node, slot_of_part, some_and, unit_of_part}
+use Rattle.rmt_refine.proofs.PartLaws.{IsPart, and_at, quanta_of_node, slot_of_part, some_and, then_some, unit_of_part}
 use Rattle.rmt_refine.proofs.RankLaws.{compare}
-use Rattle.rmt_config.specs.Life.{Running, code_at}
+use Rattle.rmt_config.specs.Life.{Counted, Running, code_at}
 use Rattle.rmt_ast.specs.EntryLists.{params_of}
 use Rattle.rmt_refine.specs.Cells.{HasArguments}
 use Rattle.rmt_refine.proofs.StageLaws.{AreSet, IsAt, is_set, stands_where_set, IsRun, ReadsAs, StageReads, base_after, drop_head, eqb_false, first_code_next, guard_right, looks, not_there, own_before, own_unset, place_after, run_outcome, some_outcome, unit_law}
 
 -- ---- what one unit adds
 
-gate_adds : (b : Bool) (a : Acts) (x : List ℕ) → (cond b (record a { outcomes = x }) a).running ≡ a.running
+-- the instructions that run, and the counts
+abbrev pub made : Acts → List Running × List Counted
+made a = (a.running, a.counted)
+
+gate_adds : (b : Bool) (a : Acts) (x : List ℕ) → made (cond b (record a { outcomes = x }) a) ≡ made a
 gate_adds true a x = refl
 gate_adds false a x = refl
 
 unit_stops : (c : Config) (v : View) (k : ℕ) (stage : Stage) (words : Words) (a : Acts) (u : Unit) → chip_runs (node_in u) (guard_in u) a.outcomes ≡ false
-    → (unit_acts (look_in c v) k stage words a u).running ≡ a.running
+    → made (unit_acts (look_in c v) k stage words a u) ≡ made a
 unit_stops c v k stage words a (Gate g) e = gate_adds (chip_runs g.node g.guard a.outcomes) a (slice_set a.outcomes g.node (cond (gate_passes words g.tests) 2 1))
-unit_stops c v k stage words a (Slot s) e = ap (λ (b : Bool). (cond b (slot_acts stage s (looked_up (look_in c v) k a.place words s) a) a).running) e
+unit_stops c v k stage words a (Slot s) e = ap (λ (b : Bool). made (cond b (slot_acts stage s (looked_up (look_in c v) k a.place words s) a) a)) e
 
 slot_adds : (c : Config) (v : View) (k : ℕ) (stage : Stage) (words : Words) (a : Acts) (s : SlotUnit) (o : Option Found) → chip_runs s.node s.guard a.outcomes ≡ true
-    → looked_up (look_in c v) k a.place words s ≡ o → (unit_acts (look_in c v) k stage words a (Slot s)).running ≡ (slot_acts stage s o a).running
+    → looked_up (look_in c v) k a.place words s ≡ o → made (unit_acts (look_in c v) k stage words a (Slot s)) ≡ made (slot_acts stage s o a)
 slot_adds c v k stage words a s o e found =
-    ap (λ (b : Bool). (cond b (slot_acts stage s (looked_up (look_in c v) k a.place words s) a) a).running) e ∙ ap (λ (f : Option Found). (slot_acts stage s f a).running) found
+    ap (λ (b : Bool). made (cond b (slot_acts stage s (looked_up (look_in c v) k a.place words s) a) a)) e ∙ ap (λ (f : Option Found). made (slot_acts stage s f a)) found
 
-miss_adds : (stage : Stage) (s : SlotUnit) (a : Acts) → s.last ≡ true → (slot_acts stage s None a).running ≡ record { ops = code_at stage (a.base + s.actions); held = 0 } ∷ a.running
+miss_adds : (stage : Stage) (s : SlotUnit) (a : Acts) → s.last ≡ true → made (slot_acts stage s None a) ≡ (record { ops = code_at stage (a.base + s.actions); held = 0 } ∷ a.running, a.counted)
 miss_adds stage s a e = rw e refl
 
-miss_adds_none : (stage : Stage) (s : SlotUnit) (a : Acts) → s.last ≡ false → (slot_acts stage s None a).running ≡ a.running
+miss_adds_none : (stage : Stage) (s : SlotUnit) (a : Acts) → s.last ≡ false → made (slot_acts stage s None a) ≡ made a
 miss_adds_none stage s a e = rw e refl
+
+-- the number that a hit in a table counts
+abbrev pub counted_hit : Table → Option Entry → List ℕ
+counted_hit t None = []
+counted_hit t (Some e) = cond t.counted (e.number ∷ []) []
+
+abbrev pub count_of : ℕ → ℕ → Counted
+count_of age n = record { number = n; age = age }
+
+-- counts that are made in a stage
+abbrev pub counts_in : Stage → List ℕ → List Counted
+counts_in stage ns = map (count_of (stage.start + 8)) ns
+
+count_adds : (b d : Bool) (n m age : ℕ) (old : List Counted) → b ≡ d → n ≡ m
+    → cond b (count_of age n ∷ old) old ≡ map (count_of age) (cond d (m ∷ []) []) ++ old
+count_adds b true n m age old e same = rw (e, same) refl
+count_adds b false n m age old e same = rw e refl
+
+hit_adds : (stage : Stage) (s : SlotUnit) (a : Acts) (t : Table) (e : Entry) (f : Found) → s.counted ≡ t.counted → f.number ≡ e.number
+    → made (slot_acts stage s (Some f) a) ≡ (record { ops = code_at stage f.code; held = f.held } ∷ a.running, counts_in stage (counted_hit t (Some e)) ++ a.counted)
+hit_adds stage s a t e f counted number =
+    ap (λ (cs : List Counted). (record { ops = code_at stage f.code; held = f.held } ∷ a.running, cs))
+    (count_adds s.counted t.counted f.number e.number (stage.start + 8) a.counted counted number)
+
+-- ---- what a node counts
+
+-- a node runs in a run with these outcomes
+abbrev pub node_goes : Program → List ℕ → ℕ → Bool
+node_goes p outcomes n = unwrap_or (option_map (λ (node : Node). runs node.guard outcomes) (slice_get p.nodes n)) false
+
+-- what a table counts in a state
+abbrev pub table_counts : List Entry → List ℕ → Option Table → List ℕ
+table_counts es s o = unwrap_or (option_map (λ (t : Table). counted_hit t (hit_of t.kind t.key es s)) o) []
+
+-- the number that node n counts: where it runs and hits an entry in a counted table
+abbrev pub own_numbers : Program → (ℕ → List Entry) → (ℕ → List ℕ) → List ℕ → ℕ → List ℕ
+own_numbers p entries state outcomes n = cond (node_goes p outcomes n) (table_counts (entries n) (state n) (table_at p n)) []
+
+pub goes_at : (p : Program) (outcomes : List ℕ) (n : ℕ) (node : Node) → slice_get p.nodes n ≡ Some node → node_goes p outcomes n ≡ runs node.guard outcomes
+goes_at p outcomes n node at = ap (λ o. unwrap_or (option_map (λ (x : Node). runs x.guard outcomes) o) false) at
 
 module _ (p : Program) (places : List (List Lane)) (parts : List Part) (starts : List ℕ) (c : Config) (v : View) (entries : ℕ → List Entry) (state : ℕ → List ℕ) (outcomes : List ℕ) (set_in : ℕ → ℕ) where
   -- the facts of the run and of the outcomes before a unit
@@ -101,10 +145,68 @@ module _ (p : Program) (places : List (List Lane)) (parts : List Part) (starts :
   abbrev pub Adds : ℕ → ℕ → List Running → List Running → Type 0
   Adds k n old new = ((new ≡ old) × ((t : Table) → ActsIn k n t → ⊥)) ⊎ ((r : Running) × (new ≡ r ∷ old) × RunsFor k n r)
 
+  -- what the unit of node n makes: its own instruction where it acts there, and what it counts, else nothing
+  abbrev Makes : ℕ → ℕ → Stage → Acts → Acts → Type 0
+  Makes k n stage a b =
+      ((made b ≡ made a) × ((t : Table) → ActsIn k n t → ⊥))
+      ⊎ ((r : Running) × (x : RunsFor k n r)
+      × (made b ≡ (r ∷ a.running, counts_in stage (counted_hit x.table (hit_of x.table.kind x.table.key (entries n) (state n))) ++ a.counted)))
+
   -- the instructions of the nodes before number m that run in stage k, the last one first
   abbrev pub RanBefore : ℕ → ℕ → List Running → Type 0
   RanBefore k zero new = new ≡ []
   RanBefore k (suc m) new = (old : List Running) × RanBefore k m old × Adds k m old new
+
+  abbrev is_going : ℕ → Bool
+  is_going = node_goes p outcomes
+
+  abbrev own : ℕ → List ℕ
+  own = own_numbers p entries state outcomes
+
+  -- what the nodes before number m count in stage k, the last one first
+  abbrev pub counted_before : ℕ → Stage → ℕ → List Counted
+  counted_before k stage zero = []
+  counted_before k stage (suc m) = counts_in stage (cond (set_in m == k) (own m) []) ++ counted_before k stage m
+
+  -- what the units of the nodes before number m have made
+  abbrev HaveMade : ℕ → Stage → ℕ → Acts → Type 0
+  HaveMade k stage m a = RanBefore k m a.running × (a.counted ≡ counted_before k stage m)
+
+  own_at : (k n : ℕ) (t : Table) → ActsIn k n t → own n ≡ counted_hit t (hit_of t.kind t.key (entries n) (state n))
+  own_at k n t acts =
+      let node = then_some (λ (x : Node). applied p x.what) (slice_get p.nodes n) t acts.table_is in
+      ap (λ b. cond b (table_counts (entries n) (state n) (table_at p n)) []) (goes_at p outcomes n node.0 node.1 ∙ acts.goes node.0 node.1) ∙ ap (table_counts (entries n) (state n)) acts.table_is
+
+  own_none : (k n : ℕ) → set_in n ≡ k → ((t : Table) → ActsIn k n t → ⊥) → own n ≡ []
+  own_none k n here none = by_goes (is_going n) refl
+    where
+      by_table : (o : Option Table) → table_at p n ≡ o → is_going n ≡ true → table_counts (entries n) (state n) (table_at p n) ≡ []
+      by_table None e going = ap (table_counts (entries n) (state n)) e
+      by_table (Some t) e going = absurd (none t (record { table_is = e; set_here = here; goes = λ node at. sym (goes_at p outcomes n node at) ∙ going }))
+
+      by_goes : (b : Bool) → is_going n ≡ b → own n ≡ []
+      by_goes false e = ap (λ b. cond b (table_counts (entries n) (state n) (table_at p n)) []) e
+      by_goes true e = ap (λ b. cond b (table_counts (entries n) (state n) (table_at p n)) []) e ∙ by_table (table_at p n) refl e
+
+  -- only a node that acts in a stage counts there
+  counts_here : (k n : ℕ) (b : Bool) → (set_in n == k) ≡ b → ((t : Table) → ActsIn k n t → ⊥) → cond (set_in n == k) (own n) [] ≡ []
+  counts_here k n true e none = ap (λ b. cond b (own n) []) e ∙ own_none k n (eqb-true (set_in n) k e) none
+  counts_here k n false e none = ap (λ b. cond b (own n) []) e
+
+  makes_next : (k n : ℕ) (stage : Stage) (a b : Acts) → HaveMade k stage n a → Makes k n stage a b → HaveMade k stage (suc n) b
+  makes_next k n stage a b have (inl none) = (
+    (a.running, have.0, inl (ap (λ (m : List Running × List Counted). m.0) none.0, none.1)),
+    ap (λ (m : List Running × List Counted). m.1) none.0 ∙ have.1
+        ∙ sym (ap (λ ns. counts_in stage ns ++ counted_before k stage n) (counts_here k n (set_in n == k) refl none.1)),
+  )
+  makes_next k n stage a b have (inr one) =
+      let acts = one.1.acts in (
+        (a.running, have.0, inr (one.0, ap (λ (m : List Running × List Counted). m.0) one.2, one.1)),
+        ap (λ (m : List Running × List Counted). m.1) one.2
+            ∙ ap (λ cs. counts_in stage (counted_hit one.1.table (hit_of one.1.table.kind one.1.table.key (entries n) (state n))) ++ cs) have.1
+            ∙ sym (ap (λ ns. counts_in stage ns ++ counted_before k stage n)
+            (ap (λ b. cond b (own n) []) (eq-eqb (set_in n) k acts.set_here) ∙ own_at k n one.1.table acts)),
+      )
 
   same_goes : (n : ℕ) (node : Node) → slice_get p.nodes n ≡ Some node → runs node.guard outcomes ≡ true → (x : Node) → slice_get p.nodes n ≡ Some x → runs x.guard outcomes ≡ true
   same_goes n node at goes x e = subst (λ (y : Node). runs y.guard outcomes ≡ true) (same_Some node x (sym at ∙ e)) goes
@@ -114,7 +216,7 @@ module _ (p : Program) (places : List (List Lane)) (parts : List Part) (starts :
       → a.base ≡ first_code stage place → TableCarried places parts n k t s → table_at p n ≡ Some t → k ≤ set_in n → runs node.guard outcomes ≡ true
       → chip_runs s.node s.guard a.outcomes ≡ true → looked_up (look_in c v) k a.place words s ≡ look_in c v k place (joined p t.key (state n))
       → hit_of t.kind t.key (entries n) (state n) ≡ o → FindsAs p c v n t (joined p t.key (state n)) o → TableSetIn p parts c v n t (joined p t.key (state n)) (set_in n) o
-      → Adds k n a.running (unit_acts (look_in c v) k stage words a (Slot s)).running
+      → Makes k n stage a (unit_acts (look_in c v) k stage words a (Slot s))
   slot_runs k n place stage s node words a t None run at base carried table le goes acts looks_there hit finds sets =
       let part : IsPart c n k place stage s = record { stage_is = at.stage_is; slot_is = ap (option_and_then as_slot) at.unit_is; node_is = at.carried.number } in
       let none = looks_there ∙ finds k place s (slot_of_part c n k place stage s part) at.carried.number in
@@ -131,7 +233,6 @@ module _ (p : Program) (places : List (List Lane)) (parts : List Part) (starts :
               let r : Running = record { ops = code_at stage (a.base + s.actions); held = 0 } in
               inr (
                 r,
-                slot_adds c v k stage words a s None acts none ∙ miss_adds stage s a (carried.last ∙ eq-eqb k (last_stage parts n) (e ∙ sets)),
                 record {
                   place = place;
                   stage = stage;
@@ -142,6 +243,8 @@ module _ (p : Program) (places : List (List Lane)) (parts : List Part) (starts :
                   runs_it = subst (λ h. RunsInstruction t (first_code stage place) stage h r) (sym hit)
                       (ap (λ b. code_at stage (b + s.actions)) base ∙ ap (λ m. code_at stage (first_code stage place + m)) carried.actions);
                 },
+                slot_adds c v k stage words a s None acts none ∙ miss_adds stage s a (carried.last ∙ eq-eqb k (last_stage parts n) (e ∙ sets))
+                    ∙ ap (λ h. (r ∷ a.running, counts_in stage (counted_hit t h) ++ a.counted)) (sym hit),
               )
         ]
       ]
@@ -173,7 +276,6 @@ module _ (p : Program) (places : List (List Lane)) (parts : List Part) (starts :
               let r : Running = record { ops = code_at stage f.found.code; held = f.found.held } in
               inr (
                 r,
-                slot_adds c v k stage words a s (Some f.found) acts (looks_there ∙ looks_is),
                 record {
                   place = place;
                   stage = stage;
@@ -183,15 +285,17 @@ module _ (p : Program) (places : List (List Lane)) (parts : List Part) (starts :
                   acts = record { table_is = table; set_here = sym same; goes = same_goes n node at.node_is goes };
                   runs_it = subst (λ h. RunsInstruction t (first_code stage place) stage h r) (sym hit) (ap (code_at stage) code, entry.held);
                 },
+                slot_adds c v k stage words a s (Some f.found) acts (looks_there ∙ looks_is) ∙ hit_adds stage s a t e f.found carried.counted entry.number
+                    ∙ ap (λ h. (r ∷ a.running, counts_in stage (counted_hit t h) ++ a.counted)) (sym hit),
               )
         ]
       ]
 
   -- a unit that runs
-  acting_adds : (k n place : ℕ) (stage : Stage) (u : Unit) (node : Node) (words : Words) (a : Acts) (w : What) → TheRun → UnitAt k n place stage u node → node.what ≡ w
+  acting_makes : (k n place : ℕ) (stage : Stage) (u : Unit) (node : Node) (words : Words) (a : Acts) (w : What) → TheRun → UnitAt k n place stage u node → node.what ≡ w
       → a.place ≡ place → a.base ≡ first_code stage place → k ≤ set_in n → runs node.guard outcomes ≡ true → chip_runs (node_in u) (guard_in u) a.outcomes ≡ true → Reads words n w
-      → Adds k n a.running (unit_acts (look_in c v) k stage words a u).running
-  acting_adds k n place stage (Gate g) node words a w run at is here base le goes acts reads =
+      → Makes k n stage a (unit_acts (look_in c v) k stage words a u)
+  acting_makes k n place stage (Gate g) node words a w run at is here base le goes acts reads =
       inl (gate_adds (chip_runs g.node g.guard a.outcomes) a (slice_set a.outcomes g.node (cond (gate_passes words g.tests) 2 1)), (λ t h. no_table w is t h.table_is))
     where
       does : DoesAs p places parts k n node.what (Gate g)
@@ -202,10 +306,10 @@ module _ (p : Program) (places : List (List Lane)) (parts : List Part) (starts :
       no_table (what.Gate field test) e t table =
           let none : table_at p n ≡ None = ap (option_and_then (λ (x : Node). applied p x.what)) at.node_is ∙ ap (applied p) e in
           none-some t (sym none ∙ table)
-  acting_adds k n place stage (Slot s) node words a (what.Gate field test) run at is here base le goes acts reads =
+  acting_makes k n place stage (Slot s) node words a (what.Gate field test) run at is here base le goes acts reads =
       let does = and_at (slice_get p.nodes n) (λ (x : Node). DoesAs p places parts k n x.what (Slot s)) node at.node_is at.carried.does in
       absurd (subst (λ x. DoesAs p places parts k n x (Slot s)) is does)
-  acting_adds k n place stage (Slot s) node words a (what.Apply i) run at is here base le goes acts reads =
+  acting_makes k n place stage (Slot s) node words a (what.Apply i) run at is here base le goes acts reads =
       let does = subst (λ x. DoesAs p places parts k n x (Slot s)) is
       (and_at (slice_get p.nodes n) (λ (x : Node). DoesAs p places parts k n x.what (Slot s)) node at.node_is at.carried.does) in
       let table = some_and (slice_get p.tables i) (λ (t : Table). TableCarried places parts n k t s) does in
@@ -223,10 +327,10 @@ module _ (p : Program) (places : List (List Lane)) (parts : List Part) (starts :
       slot_runs k n place stage s node words a t (hit_of t.kind t.key (entries n) (state n)) run at base carried at_table le goes acts looks_there refl (run.finds n t at_table) set_there
 
   -- a unit of stage k
-  unit_adds : (k n place : ℕ) (stage : Stage) (u : Unit) (node : Node) (words : Words) (a : Acts) → TheRun → UnitAt k n place stage u node
+  unit_makes : (k n place : ℕ) (stage : Stage) (u : Unit) (node : Node) (words : Words) (a : Acts) → TheRun → UnitAt k n place stage u node
       → a.place ≡ place → a.base ≡ first_code stage place → SetBefore k n a.outcomes → (runs node.guard outcomes ≡ true → k ≤ set_in n → Reads words n node.what)
-      → Adds k n a.running (unit_acts (look_in c v) k stage words a u).running
-  unit_adds k n place stage u node words a run at here base set reads = by_run (runs node.guard outcomes) refl
+      → Makes k n stage a (unit_acts (look_in c v) k stage words a u)
+  unit_makes k n place stage u node words a run at here base set reads = by_run (runs node.guard outcomes) refl
     where
       own : slice_index a.outcomes n ≡ cond (is_set p places parts starts c v entries state outcomes set_in k n n) (slice_index outcomes n) 0
       own = set.each n at.within
@@ -237,7 +341,7 @@ module _ (p : Program) (places : List (List Lane)) (parts : List Part) (starts :
       own_value : (x : ℕ) → slice_index a.outcomes n ≡ x → (slice_index a.outcomes (node_in u) == 0) ≡ (x == 0)
       own_value x e = ap (λ m. slice_index a.outcomes m == 0) at.carried.number ∙ ap (λ y. y == 0) e
 
-      by_run : (r : Bool) → runs node.guard outcomes ≡ r → Adds k n a.running (unit_acts (look_in c v) k stage words a u).running
+      by_run : (r : Bool) → runs node.guard outcomes ≡ r → Makes k n stage a (unit_acts (look_in c v) k stage words a u)
       by_run false off =
           let stopped : chip_runs (node_in u) (guard_in u) a.outcomes ≡ false = ap (λ b. b && (slice_index a.outcomes (node_in u) == 0)) (guard ∙ off) in
           inl (unit_stops c v k stage words a u stopped, (λ t h. both_ways (runs node.guard outcomes) off (h.goes node at.node_is)))
@@ -257,7 +361,7 @@ module _ (p : Program) (places : List (List Lane)) (parts : List Part) (starts :
                 own ∙ ap (λ b. cond b (slice_index outcomes n) 0) (own_unset p places parts starts c v entries state outcomes set_in k n le) in
                 let acts : chip_runs (node_in u) (guard_in u) a.outcomes ≡ true =
                 ap (λ b. b && (slice_index a.outcomes (node_in u) == 0)) (guard ∙ goes) ∙ own_value 0 value in
-                acting_adds k n place stage u node words a node.what run at refl here base le goes acts (reads goes le)
+                acting_makes k n place stage u node words a node.what run at refl here base le goes acts (reads goes le)
           ]
 
   -- ---- all units of a stage
@@ -266,18 +370,18 @@ module _ (p : Program) (places : List (List Lane)) (parts : List Part) (starts :
   abbrev FromNode : ℕ → Stage → Words → ℕ → ℕ → List ℕ → Type 0
   FromNode k stage words m last ns =
       (us : List Unit) (a : Acts) → AllZip (UnitCarried p places parts k) ns us → drop a.place stage.units ≡ us → drop a.place (nodes_in p parts k) ≡ ns
-      → a.base ≡ first_code stage a.place → SetBefore k m a.outcomes → RanBefore k m a.running → RanBefore k last (fold (unit_acts (look_in c v) k stage words) a us).running
+      → a.base ≡ first_code stage a.place → SetBefore k m a.outcomes → HaveMade k stage m a → HaveMade k stage last (fold (unit_acts (look_in c v) k stage words) a us)
 
-  ran_next : (k m : ℕ) (old new : List Running) → RanBefore k m old → Adds k m old new → RanBefore k (m + 1) new
-  ran_next k m old new ran adds = let e : suc m ≡ m + 1 = omega arith in let P : ℕ → Type 0 = λ j. RanBefore k j new in subst P e (old, ran, adds)
+  made_next : (k m : ℕ) (stage : Stage) (a b : Acts) → HaveMade k stage m a → Makes k m stage a b → HaveMade k stage (m + 1) b
+  made_next k m stage a b have makes = let e : suc m ≡ m + 1 = omega arith in let P : ℕ → Type 0 = λ j. HaveMade k stage j b in subst P e (makes_next k m stage a b have makes)
 
   by_node : (k : ℕ) (stage : Stage) (words : Words) (m last : ℕ) (node : Node) (ns : List ℕ) (b : Bool) → TheRun → slice_get c.stages k ≡ Some stage
       → StageReads p places parts starts c v entries state outcomes set_in k words → slice_get p.nodes m ≡ Some node → nat_lt 0 (quanta_in parts m k) ≡ b
       → FromNode k stage words (m + 1) last ns → FromNode k stage words m last (cond b (m ∷ ns) ns)
-  by_node k stage words m last node ns false run stage_is reads is_node e rest us a zip units nodes base set ran =
+  by_node k stage words m last node ns false run stage_is reads is_node e rest us a zip units nodes base set have =
       rest us a zip units nodes base
       (not_there p places parts starts c v entries state outcomes set_in k m node a.outcomes run is_node (slice_get_within p.nodes m node is_node) e set)
-      (ran_next k m a.running a.running ran (inl (
+      (made_next k m stage a a have (inl (
         refl,
         λ t h.
             let within = slice_get_within p.nodes m node is_node in
@@ -285,8 +389,8 @@ module _ (p : Program) (places : List (List Lane)) (parts : List Part) (starts :
             let stands = stands_where_set p places parts starts c v entries state outcomes set_in m (set_in m) node.what run.units within (run.sets m node is_node (h.goes node is_node)) in
             both_ways (nat_lt 0 (quanta_in parts m k)) e (lt-ltb 0 (quanta_in parts m k) (subst (λ j. 0 < quanta_in parts m j) here stands)),
       )))
-  by_node k stage words m last node ns true run stage_is reads is_node e rest [] a zip units nodes base set ran = absurd zip
-  by_node k stage words m last node ns true run stage_is reads is_node e rest (u ∷ us) a zip units nodes base set ran =
+  by_node k stage words m last node ns true run stage_is reads is_node e rest [] a zip units nodes base set have = absurd zip
+  by_node k stage words m last node ns true run stage_is reads is_node e rest (u ∷ us) a zip units nodes base set have =
       let unit = drop_head stage.units a.place u us units in
       let number = drop_head (nodes_in p parts k) a.place m ns nodes in
       let at : UnitAt k m a.place stage u node = record {
@@ -301,30 +405,41 @@ module _ (p : Program) (places : List (List Lane)) (parts : List Part) (starts :
       let next : after.place ≡ a.place + 1 = place_after c v k stage words a u in
       let stands = ltb-true 0 (quanta_in parts m k) e in
       let done = unit_law p places parts starts c v entries state outcomes set_in k m a.place stage u node words a run at refl base set (reads m node is_node stands) in
-      let adds = unit_adds k m a.place stage u node words a run at refl base set (reads m node is_node stands) in
+      let makes = unit_makes k m a.place stage u node words a run at refl base set (reads m node is_node stands) in
       rest us after zip.1 (ap (λ i. drop i stage.units) next ∙ unit.1) (ap (λ i. drop i (nodes_in p parts k)) next ∙ number.1)
       (base_after c v k stage words a u ∙ ap (λ n. n + unit_instructions u) base ∙ sym (first_code_next stage a.place u unit.0) ∙ sym (ap (first_code stage) next)) done
-      (ran_next k m a.running after.running ran adds)
+      (made_next k m stage a after have makes)
 
   from_node : (k : ℕ) (stage : Stage) (words : Words) (count m : ℕ) → m + count ≡ length p.nodes → TheRun → slice_get c.stages k ≡ Some stage
       → StageReads p places parts starts c v entries state outcomes set_in k words
       → FromNode k stage words m (length p.nodes) (filter (λ n. nat_lt 0 (quanta_in parts n k)) (range_with_len m count))
-  from_node k stage words zero m sum run stage_is reads [] a zip units nodes base set ran =
+  from_node k stage words zero m sum run stage_is reads [] a zip units nodes base set have =
       let e : m ≡ length p.nodes = omega (arith, sum) in
-      let P : ℕ → Type 0 = λ j. RanBefore k j a.running in
-      subst P e ran
-  from_node k stage words zero m sum run stage_is reads (u ∷ us) a zip units nodes base set ran = absurd zip
-  from_node k stage words (suc count) m sum run stage_is reads us a zip units nodes base set ran =
+      let P : ℕ → Type 0 = λ j. HaveMade k stage j a in
+      subst P e have
+  from_node k stage words zero m sum run stage_is reads (u ∷ us) a zip units nodes base set have = absurd zip
+  from_node k stage words (suc count) m sum run stage_is reads us a zip units nodes base set have =
       let node = slice_get-item p.nodes m (omega (arith, sum)) in
       by_node k stage words m (length p.nodes) node.0 (filter (λ n. nat_lt 0 (quanta_in parts n k)) (range_with_len (m + 1) count)) (nat_lt 0 (quanta_in parts m k)) run stage_is reads node.1 refl
-      (from_node k stage words count (m + 1) (omega (arith, sum)) run stage_is reads) us a zip units nodes base set ran
+      (from_node k stage words count (m + 1) (omega (arith, sum)) run stage_is reads) us a zip units nodes base set have
+
+  stage_makes : (k : ℕ) (stage : Stage) (words : Words) (now : List ℕ) → TheRun → slice_get c.stages k ≡ Some stage
+      → StageReads p places parts starts c v entries state outcomes set_in k words → SetBefore k 0 now
+      → HaveMade k stage (length p.nodes) (acts_of (look_in c v) k stage words now)
+  stage_makes k stage words now run stage_is reads set =
+      let zip = and_at (slice_get c.stages k) (λ (s : Stage). AllZip (UnitCarried p places parts k) (nodes_in p parts k) s.units) stage stage_is
+      (run.units.units k (slice_get_within c.stages k stage stage_is)) in
+      from_node k stage words (length p.nodes) 0 (omega arith) run stage_is reads stage.units
+      (record { outcomes = now; running = []; counted = []; base = 0; place = 0 }) zip refl refl refl set (refl, refl)
 
   -- In a stage the instructions of its acting tables run, each once.
   pub running_law : (k : ℕ) (stage : Stage) (words : Words) (now : List ℕ) → TheRun → slice_get c.stages k ≡ Some stage
       → StageReads p places parts starts c v entries state outcomes set_in k words → SetBefore k 0 now
       → RanBefore k (length p.nodes) (acts_of (look_in c v) k stage words now).running
-  running_law k stage words now run stage_is reads set =
-      let zip = and_at (slice_get c.stages k) (λ (s : Stage). AllZip (UnitCarried p places parts k) (nodes_in p parts k) s.units) stage stage_is
-      (run.units.units k (slice_get_within c.stages k stage stage_is)) in
-      from_node k stage words (length p.nodes) 0 (omega arith) run stage_is reads stage.units
-      (record { outcomes = now; running = []; counted = []; base = 0; place = 0 }) zip refl refl refl set refl
+  running_law k stage words now run stage_is reads set = (stage_makes k stage words now run stage_is reads set).0
+
+  -- And their hits in counted tables are counted, each once.
+  pub stage_counts : (k : ℕ) (stage : Stage) (words : Words) (now : List ℕ) → TheRun → slice_get c.stages k ≡ Some stage
+      → StageReads p places parts starts c v entries state outcomes set_in k words → SetBefore k 0 now
+      → (acts_of (look_in c v) k stage words now).counted ≡ counted_before k stage (length p.nodes)
+  stage_counts k stage words now run stage_is reads set = (stage_makes k stage words now run stage_is reads set).1

@@ -7,3 +7,6 @@ pub mod Laws
 pub mod Outcomes
 pub mod Code
 pub mod Carries
+pub mod CountedHits
+pub mod Refined
+pub mod RunsAs

@@ -1,6 +1,6 @@
-//! What holds of the look-ups of every configuration.
+//! What holds of every configuration that carries a program.
 
-ghost use Rattle.rmt_refine.specs.Laws.{LookUpsFindHits, OwnLooksAreInItsView};
+ghost use Rattle.rmt_refine.specs.Laws.{ListsAreAnswered, LookUpsFindHits, OwnLooksAreInItsView, PacketsAreAnswered};
 
 /// Look-ups made in a configuration's own view are those that the chip makes: in its own cells, under its own seed.
 pub fn own_looks()
@@ -13,4 +13,20 @@ pub fn own_looks()
 /// in any part.
 pub fn look_ups()
     ensures { LookUpsFindHits }
+{}
+
+/// Where a configuration carries a well-formed program with its entries, as a map tells, with the cells of a view, each
+/// packet whose look-ups are made in that view becomes what the program answers: it has the same verdict and the same
+/// bytes, and each number is counted as often as the program hits the entry of that number in a counted table. The
+/// frame may be any bytes, the port any number below 512.
+pub fn packets()
+    ensures { PacketsAreAnswered }
+{}
+
+/// Where a configuration carries a well-formed program with its entries, as a map tells, with its own cells, and what
+/// its memory holds is well formed (its slots list exactly the cells that are occupied), then the chip run over every
+/// list of packets gives the verdicts and bytes of the plain run, in order, and leaves the same counters. The packets
+/// are any that can come in: on ports 0 to 511, with 1 to 9,216 bytes.
+pub fn packet_lists()
+    ensures { ListsAreAnswered }
 {}

@@ -1,0 +1,164 @@
+-- The program on two stages and its entries are well formed.
+use Rattle.std.proofs.Common.{◌≡◌, ◌^◌, ◌<◌, ◌≤◌, ℕ, zero, suc, List, [], ◌∷◌, length, map, refl, arith}
+use Rattle.std.specs.Prelude.{All, bit_and, codes}
+use Rattle.std.proofs.lemmas.List.Elements.{All-cons, All-from_recursion, All-nil}
+use Rattle.std.proofs.lemmas.List.Kept.{AllPairs-cons}
+use Rattle.rmt_bits.specs.Bits.{number_of}
+use Rattle.rmt_ast.specs.declared.program.Field.{Field}
+use Rattle.rmt_ast.specs.declared.program.Header.{Header}
+use Rattle.rmt_ast.specs.declared.program.Action.{Action}
+use Rattle.rmt_ast.specs.declared.program.Assign.{Assign}
+use Rattle.rmt_ast.specs.declared.program.Table.{Table}
+use Rattle.rmt_ast.specs.declared.entry.Entry.{Entry}
+use Rattle.rmt_ast.specs.EntryLists.{AreEntries, AreTableEntries, IsEntry, terms_of}
+use Rattle.rmt_ast.specs.WellFormed.{AllNumbered, AreAppliedOnce, BeginsWith, HasFields, HasHeaderNames, HasNames, IsAction, IsAssign, IsHeader, IsNode, IsProgram, IsTable, IsTest, IsWidth, Takes, name_of}
+use Rattle.rmt_ast.proofs.Programs.{action, field, keyless}
+use Rattle.rmt_ast.proofs.WellFormedLemmas.{AllNumbered-from_items, AllPairs-none, AreDistinct-from_apart}
+use Rattle.rmt_refine.proofs.ListedLaws.{three, two}
+use Rattle.rmt_refine.proofs.TwoStages.{back, entries, first_line, go, keep, lists, lowest_last, note, ports, program, restore, second_line, test}
+
+-- ---- the program
+
+fields : HasFields program
+fields = record {
+  in_port = refl;
+  out_port = refl;
+  drop = refl;
+  in_order = refl;
+  all_there = omega arith;
+  few_metadata = omega arith;
+  widths =
+      All-from_recursion (λ (f : Field). IsWidth f.width) program.fields
+      ((omega arith, omega arith), ((omega arith, omega arith), ((omega arith, omega arith), ((omega arith, omega arith), ((omega arith, omega arith), ((omega arith, omega arith), tt))))));
+}
+
+headers : AllNumbered (IsHeader program) program.headers
+headers = AllNumbered-from_items (IsHeader program) program.headers (
+  record {
+    valid = refl;
+    whole_bytes = refl;
+    is_not_empty = omega arith;
+    is_not_long = omega arith;
+    tail = tt;
+    selects_own = All-nil _;
+    selects_once = AreDistinct-from_apart (λ f. f) [] refl;
+    plain = λ e. refl;
+    cases = All-nil _;
+    other = tt;
+  },
+  tt,
+)
+
+-- an action that makes one assignment
+one_assign : (name params : List ℕ) (a : Assign) → All IsWidth params → length params ≤ 16 → IsAssign program params a → IsAction program (action name params (a ∷ []))
+one_assign name params a widths few h = record {
+  params = widths;
+  few_params = few;
+  assigns = All-cons (IsAssign program params) a [] h (All-nil (IsAssign program params));
+  few_assigns = omega arith;
+}
+
+actions : All (IsAction program) program.actions
+actions = three (IsAction program) go keep restore
+    (one_assign _ (9 ∷ []) _ (All-cons IsWidth 9 [] (omega arith, omega arith) (All-nil IsWidth)) (omega arith)
+    (record { is_field = omega arith; is_not_in_port = λ e. omega (arith, e); expr = refl }))
+    (one_assign _ [] _ (All-nil _) (omega arith) (record { is_field = omega arith; is_not_in_port = λ e. omega (arith, e); expr = (omega arith, refl) }))
+    (one_assign _ [] _ (All-nil _) (omega arith) (record { is_field = omega arith; is_not_in_port = λ e. omega (arith, e); expr = (omega arith, refl) }))
+
+-- a table without a key, whose default has no argument
+keyless_table : (name : List ℕ) (default : ℕ) → Takes program default [] → IsTable program (keyless name default)
+keyless_table name default h = record {
+  key = record { key = refl; actions = refl; size = refl; counted = refl };
+  actions = All-nil _;
+  actions_once = AreDistinct-from_apart (λ a. a) [] refl;
+  few_actions = omega arith;
+  default = h;
+}
+
+ports_table : IsTable program ports
+ports_table = record {
+  key = record {
+    has_key = omega arith;
+    key_fields = All-cons (λ f. f < 6) 4 [] (omega arith) (All-nil (λ f. f < 6));
+    key_once = AreDistinct-from_apart (λ f. f) (4 ∷ []) refl;
+    key_bits = omega arith;
+    has_actions = omega arith;
+    has_size = omega arith;
+    size = omega arith;
+  };
+  actions = All-cons (λ a. a < 3) 0 [] (omega arith) (All-nil (λ a. a < 3));
+  actions_once = AreDistinct-from_apart (λ a. a) (0 ∷ []) refl;
+  few_actions = omega arith;
+  default = (omega arith, tt);
+}
+
+nodes : AllNumbered (IsNode program) program.nodes
+nodes = AllNumbered-from_items (IsNode program) program.nodes
+    (record { guard = tt; what = omega arith }, (record { guard = tt; what = omega arith }, (record { guard = tt; what = omega arith }, tt)))
+
+applied : AreAppliedOnce program
+applied zero h = refl
+applied (suc zero) h = refl
+applied (suc (suc zero)) h = refl
+applied (suc (suc (suc t))) h = absurd (omega (arith, h))
+
+names : HasNames program
+names = record {
+  of_in_port = refl;
+  of_out_port = refl;
+  of_drop = refl;
+  of_headers = All-from_recursion (HasHeaderNames program) program.headers
+      (record { valid = refl; fields = All-from_recursion (λ f. BeginsWith (codes "h.") (name_of program f)) (4 ∷ []) (refl, tt) }, tt);
+  of_metadata = All-from_recursion (λ (f : Field). BeginsWith (codes "meta.") f.name) (field (codes "meta.x") 8 ∷ []) (refl, tt);
+  fields_once = AreDistinct-from_apart number_of (map (λ (x : Field). x.name) program.fields) refl;
+  headers_once = AreDistinct-from_apart number_of (map (λ (x : Header). x.name) program.headers) refl;
+  actions_once = AreDistinct-from_apart number_of (map (λ (x : Action). x.name) program.actions) refl;
+  tables_once = AreDistinct-from_apart number_of (map (λ (x : Table). x.name) program.tables) refl;
+}
+
+pub is_program : IsProgram program
+is_program = record {
+  fields = fields;
+  headers = headers;
+  actions = actions;
+  tables = three (IsTable program) note ports back (keyless_table _ 1 tt) ports_table (keyless_table _ 2 tt);
+  nodes = nodes;
+  applied = applied;
+  counts = record { a_header = omega arith; headers = omega arith; actions = omega arith; nodes = omega arith };
+  names = names;
+}
+
+-- ---- its entries
+
+no_entries : (n : ℕ) (t : Table) → AreTableEntries n [] (terms_of program (keyless t.name t.default))
+no_entries n t = record { each = All-nil _; rising = AllPairs-none (λ (a b : Entry). a.number < b.number); keys_once = tt; within_size = omega arith }
+
+is_test : (value mask : ℕ) → value < 2 ^ 8 → mask < 2 ^ 8 → bit_and value mask ≡ value → IsTest 8 (test value mask)
+is_test value mask lv lm e = record { value_fits = lv; mask_fits = lm; value_is_masked = e }
+
+abbrev IsOwn : Entry → Type 0
+IsOwn = IsEntry 1 (terms_of program ports)
+
+abbrev Rises : Entry → Entry → Type 0
+Rises a b = a.number < b.number
+
+its_entries : AreTableEntries 1 entries (terms_of program ports)
+its_entries = record {
+  each = three IsOwn lowest_last first_line second_line
+      (record { table = refl; tests = (is_test 0x10 0xf0 (omega arith) (omega arith) refl, tt); rank = tt; action = (omega arith, tt) })
+      (record { table = refl; tests = (is_test 0x02 0x0f (omega arith) (omega arith) refl, tt); rank = tt; action = (omega arith, tt) })
+      (record { table = refl; tests = (is_test 0x32 0xff (omega arith) (omega arith) refl, tt); rank = tt; action = (omega arith, tt) });
+  rising =
+      AllPairs-cons Rises lowest_last (first_line ∷ second_line ∷ []) (two (Rises lowest_last) first_line second_line (omega arith) (omega arith))
+      (AllPairs-cons Rises first_line (second_line ∷ []) (All-cons (Rises first_line) second_line [] (omega arith) (All-nil (Rises first_line)))
+      (AllPairs-cons Rises second_line [] (All-nil (Rises second_line)) (AllPairs-none Rises)));
+  keys_once = tt;
+  within_size = omega arith;
+}
+
+pub are_entries : AreEntries program lists
+are_entries = record {
+  for_each_node = refl;
+  each = AllNumbered-from_items _ lists (no_entries 0 note, (its_entries, (no_entries 2 back, tt)));
+  numbers_once = AreDistinct-from_apart (λ n. n) (0 ∷ 1 ∷ 2 ∷ []) refl;
+}
