@@ -1,10 +1,6 @@
 -- Entries that are put into groups, one after another.
-use Rattle.std.proofs.Common.{◌≡◌, ◌≢◌, ℕ, zero, suc, ◌+◌, ◌<◌, ◌≤◌, ◌++◌, Bool, true, false, cond, List, [], ◌∷◌, length, get_or, Option, Some, None, Vec, Global, ⊎_elim, refl, sym, ap, subst, ◌∙◌, arith}
+use Rattle.std.proofs.Common.{◌≡◌, ◌≢◌, ℕ, zero, suc, ◌+◌, ◌<◌, ◌≤◌, ◌++◌, Bool, true, false, cond, List, [], ◌∷◌, length, get_or, Option, Some, None, ⊎_elim, refl, sym, ap, subst, ◌∙◌, arith}
 use Rattle.std.specs.Prelude.{All, AllPairs, IsSomeAnd, slice_get, slice_set, unwrap_or}
-use Rattle.std.specs.Ordering.{nat_cmp}
-use Rattle.std.specs.Cmp.Lexicographic.{slice_cmp}
-use Rattle.std.specs.Map.{lookup}
-use Rattle.std.specs.BTreeMap.{insert_entry}
 use Rattle.std.proofs.lemmas.Bool.{cases_eq, cases_lt}
 use Rattle.std.proofs.lemmas.List.{get_or-map, length-map, map_push, length_push}
 use Rattle.std.proofs.lemmas.List.Elements.{All-push, All-set}
@@ -15,9 +11,10 @@ use Rattle.rmt_bits.proofs.ListLaws.{slice_get-front, slice_get-end}
 use Rattle.rmt_ast.specs.declared.entry.Entry.{Entry}
 use Rattle.rmt_plain.specs.declared.group.Group.{Group}
 use Rattle.rmt_plain.specs.declared.grouping.Grouping.{Grouping}
-use Rattle.rmt_plain.specs.Grouping.{masks_of, values_of, are_same, place_in, PutAt, firsts, HasPlaces, Finds, IsFound, AreGrouped}
-use Rattle.rmt_plain.specs.Indexing.{index_at, AreIndexed, Chosen}
-use Rattle.rmt_plain.proofs.PlaceLaws.{same_lists_of, are_same-own, lookup-insert}
+use Rattle.rmt_plain.specs.Grouping.{masks_of, values_of, place_in, PutAt, firsts, HasPlaces, Finds, IsFound, AreGrouped}
+use Rattle.rmt_plain.specs.Indexing.{AreIndexed, Chosen}
+use Rattle.rmt_plain.specs.Places.{are_same, place_of, HasPut}
+use Rattle.rmt_plain.proofs.PlaceLaws.{same_lists_of, are_same-own}
 
 -- what is found among items is found among more
 slice_get-more : {X : Type 0} (xs : List X) (y : X) (i : ℕ) (x : X) → slice_get xs i ≡ Some x → slice_get (xs ++ y ∷ []) i ≡ Some x
@@ -171,9 +168,9 @@ module _ (es : List Entry) (groups : List Group) (old : AreGrouped es groups) wh
         }
 
 -- a new group, with its number in the index
-pub begin_indexed : (masks : List ℕ) (at : ℕ) (old new : Grouping) (g : Group) (number : ℕ) (name : Vec ℕ Global) → g.masks.items ≡ masks → g.first ≡ at → ((vs : List ℕ) → place_in g vs ≡ None) → number ≡ length old.groups.items
-    → name.items ≡ masks → new.groups.items ≡ old.groups.items ++ g ∷ [] → new.index.entries ≡ insert_entry (λ (x y : Vec ℕ Global). slice_cmp nat_cmp x.items y.items) old.index.entries name number → Chosen masks at old new number
-begin_indexed masks at old new g number name is first empty counted named groups index es size ix =
+pub begin_indexed : (masks : List ℕ) (at : ℕ) (old new : Grouping) (g : Group) (number : ℕ) → g.masks.items ≡ masks → g.first ≡ at → ((vs : List ℕ) → place_in g vs ≡ None) → number ≡ length old.groups.items
+    → new.groups.items ≡ old.groups.items ++ g ∷ [] → HasPut masks number old.index new.index → Chosen masks at old new number
+begin_indexed masks at old new g number is first empty counted groups put es size ix =
     (record { grouped = subst (AreGrouped es) (sym groups) (grouped_new es old.groups.items ix.grouped g (first ∙ sym size) empty); index = index_new }, at_number masks refl)
   where
     there : slice_get new.groups.items number ≡ Some g
@@ -182,15 +179,13 @@ begin_indexed masks at old new g number name is first empty counted named groups
     at_number : (ms : List ℕ) → ms ≡ masks → IsSomeAnd (slice_get new.groups.items number) (λ (x : Group). x.masks.items ≡ ms)
     at_number ms same = subst (λ o. IsSomeAnd o (λ (x : Group). x.masks.items ≡ ms)) (sym there) (is ∙ sym same)
 
-    index_new : (ms : List ℕ) (k : ℕ) → index_at new.index ms ≡ Some k → IsSomeAnd (slice_get new.groups.items k) (λ (x : Group). x.masks.items ≡ ms)
-    index_new ms k found =
-        by (are_same ms name.items) refl
-        (sym (ap (λ (xs : List (Vec ℕ Global × ℕ)). lookup (λ (x : Vec ℕ Global). are_same ms x.items) xs) index ∙ lookup-insert (λ (x : Vec ℕ Global). x.items) ms name number old.index.entries) ∙ found)
+    index_new : (ms : List ℕ) (k : ℕ) → place_of new.index ms ≡ Some k → IsSomeAnd (slice_get new.groups.items k) (λ (x : Group). x.masks.items ≡ ms)
+    index_new ms k found = by (are_same ms masks) refl (sym (put ms) ∙ found)
       where
-        by : (b : Bool) → are_same ms name.items ≡ b → cond b (Some number) (index_at old.index ms) ≡ Some k → IsSomeAnd (slice_get new.groups.items k) (λ (x : Group). x.masks.items ≡ ms)
+        by : (b : Bool) → are_same ms masks ≡ b → cond b (Some number) (place_of old.index ms) ≡ Some k → IsSomeAnd (slice_get new.groups.items k) (λ (x : Group). x.masks.items ≡ ms)
         by true same h =
             let k_is : number ≡ k = ap (λ o. unwrap_or o k) h in
-            subst (λ n. IsSomeAnd (slice_get new.groups.items n) (λ (x : Group). x.masks.items ≡ ms)) k_is (at_number ms (same_lists_of ms name.items same ∙ named))
+            subst (λ n. IsSomeAnd (slice_get new.groups.items n) (λ (x : Group). x.masks.items ≡ ms)) k_is (at_number ms (same_lists_of ms masks same))
         by false same h =
             subst (λ (gs : List Group). IsSomeAnd (slice_get gs k) (λ (x : Group). x.masks.items ≡ ms)) (sym groups)
             (some_more (λ (x : Group). x.masks.items ≡ ms) old.groups.items g k (ix.index ms k h))
@@ -207,7 +202,7 @@ put_indexed es e at k old new d h size ix inside put groups index =
       grouped = subst (AreGrouped (es ++ e ∷ [])) (sym groups) (grouped_put es old.groups.items ix.0.grouped e k g h there own here);
       index = λ ms m found.
           subst (λ (gs : List Group). IsSomeAnd (slice_get gs m) (λ (x : Group). x.masks.items ≡ ms)) (sym groups)
-          (set_kept ms m g there here (ix.0.index ms m (ap (λ i. index_at i ms) (sym index) ∙ found)));
+          (set_kept ms m g there here (ix.0.index ms m (ap (λ i. place_of i ms) (sym index) ∙ found)));
     }
   where
     set_kept : (ms : List ℕ) (m : ℕ) (g : Group) → slice_get old.groups.items k ≡ Some g → PutAt (values_of e.tests) (length es) g h → IsSomeAnd (slice_get old.groups.items m) (λ (x : Group). x.masks.items ≡ ms)
@@ -228,8 +223,8 @@ chosen_within groups k masks h = by (slice_get groups k) refl h
     by (Some g) is h = slice_get_within groups k g is
 
 -- at first there is no group
-pub no_groups : (g : Grouping) → g.groups.items ≡ [] → g.index.entries ≡ [] → AreIndexed [] g
+pub no_groups : (g : Grouping) → g.groups.items ≡ [] → ((ms : List ℕ) → place_of g.index ms ≡ None) → AreIndexed [] g
 no_groups g none empty = record {
   grouped = subst (AreGrouped []) (sym none) (record { sound = λ k d lt. absurd (omega arith); rising = λ i j d lt inside. absurd (omega arith); early = λ k d lt. absurd (omega arith); complete = λ j e at. absurd (none-some e at) });
-  index = λ ms k found. absurd (none-some k (sym (ap (λ (es : List (Vec ℕ Global × ℕ)). lookup (λ (x : Vec ℕ Global). are_same ms x.items) es) empty) ∙ found));
+  index = λ ms k found. absurd (none-some k (sym (empty ms) ∙ found));
 }

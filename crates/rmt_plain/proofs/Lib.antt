@@ -7,6 +7,7 @@ pub mod FindLaws
 pub mod FirstLaws
 pub mod GroupLaws
 pub mod KeyLaws
+pub mod MarkLaws
 pub mod OrderLaws
 pub mod PlaceLaws
 pub mod RankingLaws

@@ -1,11 +1,10 @@
 -- Entries in groups that test the same bits of the key.
-use Rattle.std.specs.Prelude.{◌≡◌, ℕ, ◌≤◌, Bool, false, List, [], ◌∷◌, length, map, All, AllPairs, Option, Some, None, IsSomeAnd, if◌then◌else◌, bit_and, min, nat_lt, slice_get, slice_index, unwrap_or}
-use Rattle.std.specs.Ordering.{nat_cmp, is_eq}
-use Rattle.std.specs.Cmp.Lexicographic.{slice_cmp}
-use Rattle.std.specs.BTreeMap.{get_by}
+use Rattle.std.specs.Prelude.{◌≡◌, ℕ, ◌≤◌, Bool, true, false, List, [], ◌∷◌, length, map, All, AllPairs, Option, Some, None, IsSomeAnd, if◌then◌else◌, bit_and, min, nat_lt, slice_get, slice_index, unwrap_or}
 use Rattle.rmt_ast.specs.declared.program.Test.{Test}
 use Rattle.rmt_ast.specs.declared.entry.Entry.{Entry}
 use Rattle.rmt_plain.specs.declared.group.Group.{Group}
+use Rattle.rmt_plain.specs.Places.{are_same, place_of}
+use Rattle.rmt_plain.specs.Marks.{total_of, is_marked}
 
 abbrev pub masks_of : List Test → List ℕ
 masks_of tests = map (λ (t : Test). t.mask) tests
@@ -19,19 +18,27 @@ masked [] fs s = []
 masked (m ∷ ms) [] s = []
 masked (m ∷ ms) (f ∷ fs) s = bit_and (slice_index s f) m ∷ masked ms fs s
 
--- whether two lists of bits are the same
-abbrev pub are_same : List ℕ → List ℕ → Bool
-are_same xs ys = is_eq (slice_cmp nat_cmp xs ys)
-
 -- the place of the first entry of a group that wants these bits
 abbrev pub place_in : Group → List ℕ → Option ℕ
-place_in g values = get_by (λ k. slice_cmp nat_cmp values k.items) g.places
+place_in g values = place_of g.places values
 
 -- an entry that wants these bits was added at a place behind the others
 pub record PutAt (values : List ℕ) (at : ℕ) (old new : Group) : Type 0 where
   pub masks : new.masks.items ≡ old.masks.items
   pub first : new.first ≡ old.first
   pub places : (vs : List ℕ) → place_in new vs ≡ (if are_same vs values then Some (unwrap_or (place_in old values) at) else place_in old vs)
+
+-- what an entry wants is marked
+abbrev pub IsMarked : List Bool → Entry → Type 0
+IsMarked marks e = is_marked marks (total_of (values_of e.tests)) ≡ true
+
+-- what entries want is marked
+abbrev pub AreMarked : List Bool → List Entry → Type 0
+AreMarked marks es = All (IsMarked marks) es
+
+-- the place that a group has for bits of a key; bits without a mark have none
+abbrev pub marked_place : List Bool → Group → List ℕ → Option ℕ
+marked_place marks g values = if is_marked marks (total_of values) then place_in g values else None
 
 -- the earlier of two places
 abbrev pub earlier : Option ℕ → Option ℕ → Option ℕ
@@ -45,10 +52,10 @@ is_before None n = false
 is_before (Some a) n = nat_lt a n
 
 -- the earliest place that some groups have for a key, or one that was found before; groups behind it are not looked at
-abbrev pub best_of : List Group → List ℕ → List ℕ → Option ℕ → Option ℕ
-best_of [] key s best = best
-best_of (g ∷ gs) key s best =
-    if is_before best g.first then best else best_of gs key s (earlier best (place_in g (masked g.masks.items key s)))
+abbrev pub best_of : List Bool → List Group → List ℕ → List ℕ → Option ℕ → Option ℕ
+best_of marks [] key s best = best
+best_of marks (g ∷ gs) key s best =
+    if is_before best g.first then best else best_of marks gs key s (earlier best (marked_place marks g (masked g.masks.items key s)))
 
 -- the places of the groups' first entries
 abbrev pub firsts : List Group → List ℕ

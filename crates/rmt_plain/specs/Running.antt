@@ -13,7 +13,7 @@ use Rattle.rmt_ast.specs.Control as control
 use Rattle.rmt_plain.specs.declared.lookup.Lookup.{Lookup}
 use Rattle.rmt_plain.specs.declared.run.Run.{Run}
 use Rattle.rmt_plain.specs.Ranking.{IsRanked}
-use Rattle.rmt_plain.specs.Grouping.{AreGrouped, best_of}
+use Rattle.rmt_plain.specs.Grouping.{AreGrouped, AreMarked, best_of}
 
 -- what the nodes so far have left
 abbrev pub run_of : Run → control.Run
@@ -25,7 +25,7 @@ at_start p s = record { state = s; outcomes = replicate (length p.nodes) 0; hits
 
 -- the entry that a look-up finds for a key
 abbrev pub entry_for : List ℕ → List ℕ → Lookup → Option Entry
-entry_for key s l = option_and_then (slice_get l.entries.items) (best_of l.groups.items key s None)
+entry_for key s l = option_and_then (slice_get l.entries.items) (best_of l.marks.items l.groups.items key s None)
 
 -- the entry that is looked up; a node without a table to look up has none
 abbrev pub first_of : List ℕ → List ℕ → Option Lookup → Option Entry
@@ -57,10 +57,11 @@ kind_of p (Gate field test) = Keyless
 abbrev pub kind_of_node : Program → ℕ → Kind
 kind_of_node p n = unwrap_or (option_map (λ (node : Node). kind_of p node.what) (slice_get p.nodes n)) Keyless
 
--- the entries of a list are ready to be looked up: ranked, and in groups
+-- the entries of a list are ready to be looked up: ranked, in groups, and marked
 pub record IsReady (kind : Kind) (es : List Entry) (l : Lookup) : Type 0 where
   pub ranked : IsRanked kind es l.entries.items
   pub grouped : AreGrouped l.entries.items l.groups.items
+  pub marked : AreMarked l.marks.items l.entries.items
 
 -- the lists of the nodes from number n on, each ready for its node's table
 abbrev pub AreReady : Program → ℕ → List (List Entry) → List Lookup → Type 0

@@ -3,9 +3,9 @@
 ghost use Rattle.std.specs.Prelude.{◌≡◌, ℕ, List, None, IfOk, OnOk};
 ghost use Rattle.rmt_plain.specs.Grouping.{masks_of, values_of, place_in, PutAt};
 
+use crate::places::{Places, no_places, place_of, put_place};
 use rmt_ast::program::Test;
 use std::alloc::{AllocError, Global};
-use std::collections::BTreeMap;
 
 /// The entries of some masks.
 #[derive(Drop)]
@@ -15,7 +15,7 @@ pub struct Group {
     /// The place of the first of them.
     pub first: usize,
     /// By the bits that they want there, the place of the first that wants these.
-    pub places: BTreeMap<Vec<u128>, usize>,
+    pub places: Places,
 }
 
 /// A group that has no entry so far.
@@ -27,7 +27,7 @@ pub fn group_of(alloc: Global, masks: Vec<u128>, first: usize) -> Group
     Group {
         masks,
         first,
-        places: BTreeMap::new(alloc),
+        places: no_places(alloc),
     }
 }
 
@@ -57,7 +57,7 @@ pub fn values(alloc: Global, tests: &[Test]) -> Result<Vec<u128>, AllocError>
 pub fn place(group: &Group, values: &[u128]) -> Option<usize>
     ensures { result ≡ place_in group.now values.now }
 {
-    group.places.get(values).copied()
+    place_of(&group.places, values)
 }
 
 /// Adds an entry that wants these bits, at a place behind those of all others.
@@ -67,7 +67,7 @@ pub fn put(group: &mut Group, values: Vec<u128>, at: usize) -> Result<(), AllocE
     match place(group, &values) {
         Some(_) => Ok(()),
         None => {
-            group.places.insert(values, at)?;
+            put_place(&mut group.places, values, at)?;
             Ok(())
         }
     }

@@ -3,25 +3,18 @@
 ghost use Rattle.std.specs.Prelude.{◌≡◌, ◌++◌, ◌∷◌, [], List, length, IfOk, OnOk};
 ghost use Rattle.rmt_ast.specs.declared.entry.Entry.{Entry};
 ghost use Rattle.rmt_plain.specs.Grouping.{AreGrouped};
-ghost use Rattle.rmt_plain.specs.Indexing.{AreIndexed, Chosen, index_at};
+ghost use Rattle.rmt_plain.specs.Indexing.{AreIndexed, Chosen};
 
 use crate::group::{Group, group_of, masks, put, values};
+use crate::places::{Places, no_places, place_of, put_place};
 use rmt_ast::entry::Entry;
 use std::alloc::{AllocError, Global};
-use std::collections::BTreeMap;
 
 /// Groups, and their numbers by their masks.
 #[derive(Drop)]
 pub struct Grouping {
     pub groups: Vec<Group>,
-    pub index: BTreeMap<Vec<u128>, usize>,
-}
-
-/// The number of the group of some masks, if there is one.
-fn number(index: &BTreeMap<Vec<u128>, usize>, masks: &[u128]) -> Option<usize>
-    ensures { result ≡ index_at index.now masks.now }
-{
-    index.get(masks).copied()
+    pub index: Places,
 }
 
 /// The number of a new group of some masks, whose first entry stands at a place.
@@ -35,7 +28,7 @@ fn begin(
 {
     let number = grouping.groups.len();
     let name = Vec::from_slice(alloc, &masks)?;
-    grouping.index.insert(name, number)?;
+    put_place(&mut grouping.index, name, number)?;
     grouping.groups.push(group_of(alloc, masks, at))?;
     Ok(number)
 }
@@ -49,7 +42,7 @@ fn choose(
 ) -> Result<usize, AllocError>
     ensures { IfOk result (Chosen masks.items at grouping.old grouping.new) }
 {
-    match number(&grouping.index, &masks) {
+    match place_of(&grouping.index, &masks) {
         Some(number) => Ok(number),
         None => begin(alloc, grouping, masks, at),
     }
@@ -76,7 +69,7 @@ pub fn groups_of(alloc: Global, entries: &[Entry]) -> Result<Vec<Group>, AllocEr
 {
     let mut grouping = Grouping {
         groups: Vec::new(alloc),
-        index: BTreeMap::new(alloc),
+        index: no_places(alloc),
     };
     for at in 0..entries.len() {
         add(alloc, &mut grouping, &entries[at], at)?;

@@ -1,13 +1,15 @@
 //! The entries of a table, ready to be looked up.
 
-ghost use Rattle.std.specs.Prelude.{◌≡◌, IfOk, OnOk, None, option_copied, option_and_then, slice_get};
-ghost use Rattle.rmt_plain.specs.Grouping.{masked, is_before as is_before_of, earlier as earlier_of, best_of};
+ghost use Rattle.std.specs.Prelude.{◌≡◌, ◌∷◌, [], IfOk, OnOk, None, option_copied, option_and_then, slice_get};
+ghost use Rattle.rmt_plain.specs.Grouping.{masked, marked_place, is_before as is_before_of, earlier as earlier_of, best_of};
 ghost use Rattle.rmt_plain.specs.Ranking.{weight_of, IsRanked};
 ghost use Rattle.rmt_plain.specs.Running.{kind_of, kind_of_node, entry_for, IsReady, AreReady};
 
 use crate::group::{Group, place};
 use crate::grouping::groups_of;
+use crate::marks::{is_marked, marks_of, total};
 use crate::numbers::number_at;
+use crate::places::place_of_one;
 use rmt_ast::entry::{Entry, EntryLists};
 use rmt_ast::program::{Kind, Program, What};
 use rmt_bits::sequence::Sequence;
@@ -20,6 +22,8 @@ pub struct Lookup {
     pub entries: Vec<Entry>,
     /// By rising place of their first entry.
     pub groups: Vec<Group>,
+    /// Of the bits that the entries want.
+    pub marks: Vec<bool>,
 }
 
 /// Where an entry of a rank stands: of those that match, one of the least weight is hit.
@@ -48,7 +52,12 @@ pub fn lookup_of(alloc: Global, kind: Kind, entries: Sequence<Entry>) -> Result<
 {
     let entries = ranked(kind, entries)?;
     let groups = groups_of(alloc, &entries)?;
-    Ok(Lookup { entries, groups })
+    let marks = marks_of(alloc, &entries)?;
+    Ok(Lookup {
+        entries,
+        groups,
+        marks,
+    })
 }
 
 /// The kind of the table that a node applies.
@@ -107,6 +116,45 @@ fn mask_key(
     Ok(())
 }
 
+/// The place that a group has for a key of one field.
+fn place_of_field(marks: &[bool], group: &Group, value: u128) -> Option<usize>
+    ensures { result ≡ marked_place marks.now group.now (value ∷ []) }
+{
+    if is_marked(marks, value) {
+        return place_of_one(&group.places, value);
+    }
+    None
+}
+
+/// The place that a group has for bits of a key.
+fn place_of_bits(marks: &[bool], group: &Group, values: &[u128]) -> Option<usize>
+    ensures { result ≡ marked_place marks.now group.now values.now }
+{
+    if is_marked(marks, total(values)) {
+        return place(group, values);
+    }
+    None
+}
+
+/// The place that a group has for a key. A key of one field needs no list of its bits.
+fn place_for(
+    wanted: &mut Vec<u128>,
+    marks: &[bool],
+    group: &Group,
+    key: &[u32],
+    state: &[u128],
+) -> Result<Option<usize>, AllocError>
+    ensures { IfOk result (λ place. place
+        ≡ marked_place marks.now group.now (masked group.now.masks.items key.now state.now)) }
+{
+    if group.masks.len() == 1 && key.len() == 1 {
+        let value = number_at(state, key[0] as usize) & group.masks[0];
+        return Ok(place_of_field(marks, group, value));
+    }
+    mask_key(wanted, &group.masks, key, state)?;
+    Ok(place_of_bits(marks, group, wanted))
+}
+
 /// Whether a place that was found comes before another.
 fn is_before(found: Option<usize>, place: usize) -> bool
     ensures { result ≡ is_before_of found place }
@@ -132,19 +180,19 @@ fn earlier(first: Option<usize>, second: Option<usize>) -> Option<usize>
 /// not looked at.
 fn best_place(
     wanted: &mut Vec<u128>,
+    marks: &[bool],
     groups: &[Group],
     key: &[u32],
     state: &[u128],
 ) -> Result<Option<usize>, AllocError>
-    ensures { IfOk result (λ best. best ≡ best_of groups.now key.now state.now None) }
+    ensures { IfOk result (λ best. best ≡ best_of marks.now groups.now key.now state.now None) }
 {
     let mut best = None;
     for group in groups {
         if is_before(best, group.first) {
             return Ok(best);
         }
-        mask_key(wanted, &group.masks, key, state)?;
-        best = earlier(best, place(group, wanted));
+        best = earlier(best, place_for(wanted, marks, group, key, state)?);
     }
     Ok(best)
 }
@@ -168,7 +216,7 @@ pub fn first_match<'a>(
 ) -> Result<Option<&'a Entry>, AllocError>
     ensures { IfOk result (λ found. option_copied found ≡ entry_for key.now state.now lookup.now) }
 {
-    let mut wanted = Vec::with_capacity(alloc, key.len())?;
-    let place = best_place(&mut wanted, &lookup.groups, key, state)?;
+    let mut wanted = Vec::new(alloc);
+    let place = best_place(&mut wanted, &lookup.marks, &lookup.groups, key, state)?;
     Ok(entry_at(&lookup.entries, place))
 }

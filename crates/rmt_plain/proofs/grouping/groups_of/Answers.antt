@@ -7,7 +7,7 @@ use Rattle.rmt_plain.proofs.GroupLaws.{no_groups}
 use Rattle.rmt_plain.proofs.grouping.groups_of.Goals as goal
 
 pub loop-at-init : goal.loop-at-init
-loop-at-init c = no_groups _ c.new.ensures.items c.new-2.ensures.empty
+loop-at-init c = no_groups _ c.new.ensures.items c.no_places.ensures
 
 pub loop-at-preserved : goal.loop-at-preserved
 loop-at-preserved c =
