@@ -8,7 +8,7 @@ use Rattle.std.proofs.lemmas.Option.{none-some, slice_get-get_or, slice_get_with
 use Rattle.rmt_ast.specs.declared.entry.Entry.{Entry}
 use Rattle.rmt_ast.specs.Lookup.{matches}
 use Rattle.rmt_plain.specs.declared.group.Group.{Group}
-use Rattle.rmt_plain.specs.Grouping.{masks_of, values_of, masked, place_in, marked_place, IsMarked, AreMarked, earlier, is_before, best_of, firsts, HasPlaces, AreGrouped}
+use Rattle.rmt_plain.specs.Grouping.{masks_of, values_of, masked, place_in, marked_place, IsMarked, earlier, is_before, best_of, firsts, HasPlaces, AreGrouped}
 use Rattle.rmt_plain.proofs.FindLaws.{find-first, find-none}
 use Rattle.rmt_plain.proofs.KeyLaws.{FitsKey, masked-passed, passed-masked}
 
@@ -98,7 +98,7 @@ module _ (marks : List Bool) (key s : List ℕ) where
       by true e rest = let low = later in before_most best h.first i e (omega arith)
       by false e rest = rest
 
-  module _ (es : List Entry) (groups : List Group) (fits : All (λ (e : Entry). FitsKey key e.tests) es) (grouped : AreGrouped es groups) (marked : AreMarked marks es) where
+  module _ (es : List Entry) (groups : List Group) (fits : All (λ (e : Entry). FitsKey key e.tests) es) (grouped : AreGrouped es groups) (marked : All (IsMarked marks) es) where
     abbrev IsMatch : ℕ → Type 0
     IsMatch i = IsSomeAnd (slice_get es i) (λ (e : Entry). matches key s e ≡ true)
 

@@ -28,7 +28,7 @@ slice_get-set_same [] k x y at = absurd (none-some x at)
 slice_get-set_same (z ∷ zs) zero x y at = refl
 slice_get-set_same (z ∷ zs) (suc k) x y at = slice_get-set_same zs k x y at
 
-slice_get-set_other : {X : Type 0} (xs : List X) (k m : ℕ) (y : X) → m ≢ k → slice_get (slice_set xs k y) m ≡ slice_get xs m
+pub slice_get-set_other : {X : Type 0} (xs : List X) (k m : ℕ) (y : X) → m ≢ k → slice_get (slice_set xs k y) m ≡ slice_get xs m
 slice_get-set_other [] k m y apart = refl
 slice_get-set_other (z ∷ zs) zero zero y apart = absurd (apart refl)
 slice_get-set_other (z ∷ zs) zero (suc m) y apart = refl

@@ -74,7 +74,7 @@ module _ (p : Program) (n : ℕ) (es : List Entry) (t : Table) (good : IsRunnabl
   fit_all k d lt = fits_key (map (width_of p) t.key) t.key (get_or es k d).tests (length-map t.key (width_of p)) (entries.each k d lt).tests
 
   looked_up : (l : Lookup) → IsReady t.kind es l → entry_for t.key s l ≡ find (matches t.key s) l.entries.items
-  looked_up l ready = entry-best l.marks.items t.key s l.entries.items l.groups.items (All-permutation (λ (e : Entry). FitsKey t.key e.tests) es l.entries.items ready.ranked.same fit_all) ready.grouped ready.marked
+  looked_up l ready = entry-best l.marks.items t.key s l.entries.items l.groups.items (All-permutation (λ (e : Entry). FitsKey t.key e.tests) es l.entries.items ready.ranked.same fit_all) ready.grouped ready.marks.wanted
 
   pub served_hit : (o : Option Lookup) → Serves t.kind es o → first_of t.key s o ≡ hit_of t.kind t.key es s
   served_hit None none = sym (ap (λ xs. hit_of t.kind t.key xs s) none ∙ hit_of-nil t.kind t.key s)

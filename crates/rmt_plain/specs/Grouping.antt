@@ -1,10 +1,10 @@
 -- Entries in groups that test the same bits of the key.
-use Rattle.std.specs.Prelude.{◌≡◌, ℕ, ◌≤◌, Bool, true, false, List, [], ◌∷◌, length, map, All, AllPairs, Option, Some, None, IsSomeAnd, if◌then◌else◌, bit_and, min, nat_lt, slice_get, slice_index, unwrap_or}
+use Rattle.std.specs.Prelude.{◌≡◌, ℕ, ◌≤◌, Bool, true, false, List, [], ◌∷◌, length, map, All, AllPairs, Contains, Option, Some, None, IsSomeAnd, if◌then◌else◌, bit_and, min, nat_lt, slice_get, slice_index, unwrap_or}
 use Rattle.rmt_ast.specs.declared.program.Test.{Test}
 use Rattle.rmt_ast.specs.declared.entry.Entry.{Entry}
 use Rattle.rmt_plain.specs.declared.group.Group.{Group}
 use Rattle.rmt_plain.specs.Places.{are_same, place_of}
-use Rattle.rmt_plain.specs.Marks.{total_of, is_marked}
+use Rattle.rmt_plain.specs.Marks.{total_of, slot_of, is_marked}
 
 abbrev pub masks_of : List Test → List ℕ
 masks_of tests = map (λ (t : Test). t.mask) tests
@@ -28,13 +28,19 @@ pub record PutAt (values : List ℕ) (at : ℕ) (old new : Group) : Type 0 where
   pub first : new.first ≡ old.first
   pub places : (vs : List ℕ) → place_in new vs ≡ (if are_same vs values then Some (unwrap_or (place_in old values) at) else place_in old vs)
 
+-- the slot of what an entry wants, among so many
+abbrev pub slot_for : ℕ → Entry → ℕ
+slot_for slots e = slot_of slots (total_of (values_of e.tests))
+
 -- what an entry wants is marked
 abbrev pub IsMarked : List Bool → Entry → Type 0
 IsMarked marks e = is_marked marks (total_of (values_of e.tests)) ≡ true
 
--- what entries want is marked
-abbrev pub AreMarked : List Bool → List Entry → Type 0
-AreMarked marks es = All (IsMarked marks) es
+-- so many slots, of which those of what entries want are marked
+pub record AreMarks (slots : ℕ) (es : List Entry) (marks : List Bool) : Type 0 where
+  pub slots_are : length marks ≡ slots
+  pub wanted : All (IsMarked marks) es
+  pub only : (k : ℕ) → slice_get marks k ≡ Some true → Contains (map (slot_for slots) es) k
 
 -- the place that a group has for bits of a key; bits without a mark have none
 abbrev pub marked_place : List Bool → Group → List ℕ → Option ℕ

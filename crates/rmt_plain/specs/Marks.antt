@@ -1,5 +1,9 @@
 -- Marks by lists of numbers.
-use Rattle.std.specs.Prelude.{ℕ, ◌+◌, ◌*◌, ◌/◌, ◌%◌, ◌^◌, Bool, true, List, fold, length, slice_get, unwrap_or}
+use Rattle.std.specs.Prelude.{ℕ, ◌+◌, ◌-◌, ◌*◌, ◌/◌, ◌%◌, ◌^◌, Bool, true, List, fold, length, min, slice_get, unwrap_or}
+
+-- how many slots so many entries have
+abbrev pub slots_for : ℕ → ℕ
+slots_for entries = min (entries * 16) (2 ^ 64 - 1)
 
 -- the sum of a list, modulo 2 ^ 128
 abbrev pub total_of : List ℕ → ℕ

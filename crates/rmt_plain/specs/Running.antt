@@ -13,7 +13,8 @@ use Rattle.rmt_ast.specs.Control as control
 use Rattle.rmt_plain.specs.declared.lookup.Lookup.{Lookup}
 use Rattle.rmt_plain.specs.declared.run.Run.{Run}
 use Rattle.rmt_plain.specs.Ranking.{IsRanked}
-use Rattle.rmt_plain.specs.Grouping.{AreGrouped, AreMarked, best_of}
+use Rattle.rmt_plain.specs.Grouping.{AreGrouped, AreMarks, best_of}
+use Rattle.rmt_plain.specs.Marks.{slots_for}
 
 -- what the nodes so far have left
 abbrev pub run_of : Run → control.Run
@@ -61,7 +62,7 @@ kind_of_node p n = unwrap_or (option_map (λ (node : Node). kind_of p node.what)
 pub record IsReady (kind : Kind) (es : List Entry) (l : Lookup) : Type 0 where
   pub ranked : IsRanked kind es l.entries.items
   pub grouped : AreGrouped l.entries.items l.groups.items
-  pub marked : AreMarked l.marks.items l.entries.items
+  pub marks : AreMarks (slots_for (length l.entries.items)) l.entries.items l.marks.items
 
 -- the lists of the nodes from number n on, each ready for its node's table
 abbrev pub AreReady : Program → ℕ → List (List Entry) → List Lookup → Type 0

@@ -6,7 +6,8 @@ ghost use Rattle.rmt_plain.specs.Runnable.{IsRunnable};
 ghost use Rattle.rmt_plain.specs.Running.{run_of, first_of, done_with, passed_with, run_with};
 
 use crate::act::act;
-use crate::lookup::{Lookup, first_match};
+use crate::lookup::Lookup;
+use crate::matching::first_match;
 use crate::numbers::{number_at, put_at};
 use crate::run::Run;
 use crate::walk::passes;

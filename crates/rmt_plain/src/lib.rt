@@ -11,6 +11,7 @@ mod group;
 mod grouping;
 mod lookup;
 mod marks;
+mod matching;
 mod numbers;
 mod places;
 pub mod plain;

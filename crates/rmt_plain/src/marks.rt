@@ -2,8 +2,8 @@
 //! map is asked for few of the lists that no entry wants.
 
 ghost use Rattle.std.specs.Prelude.{◌≡◌, length, true, slice_set, IfOk};
-ghost use Rattle.rmt_plain.specs.Grouping.{AreMarked};
-ghost use Rattle.rmt_plain.specs.Marks.{total_of, slot_of, is_marked as is_marked_of};
+ghost use Rattle.rmt_plain.specs.Grouping.{AreMarks};
+ghost use Rattle.rmt_plain.specs.Marks.{total_of, slot_of, slots_for, is_marked as is_marked_of};
 
 use crate::group::values;
 use crate::numbers::put_at;
@@ -53,7 +53,7 @@ fn mark(marks: &mut [bool], total: u128)
 
 /// The marks of what entries want.
 pub fn marks_of(alloc: Global, entries: &[Entry]) -> Result<Vec<bool>, AllocError>
-    ensures { IfOk result (λ marks. AreMarked marks.items entries.now) }
+    ensures { IfOk result (λ marks. AreMarks (slots_for (length entries.now)) entries.now marks.items) }
 {
     let mut marks = vec![in alloc; false; entries.len().saturating_mul(SLOTS)]?;
     for at in 0..entries.len() {

@@ -1,6 +1,6 @@
 use Rattle.std.proofs.Common.{sym, ◌∙◌, arith}
 use Rattle.rmt_plain.proofs.KeyLaws.{masked-ended}
-use Rattle.rmt_plain.proofs.lookup.mask_key.Goals as goal
+use Rattle.rmt_plain.proofs.matching.mask_key.Goals as goal
 
 pub returns : goal.returns
 returns c =
