@@ -54,7 +54,7 @@ use Rattle.rmt_ptcam.proofs.FieldLaws.{OwnsFields, owns_fields, length-set_field
 
 -- ---- a program that is not refused
 
-none_first : (a b : Option ParserFault) → option_or a b ≡ None → a ≡ None
+pub none_first : (a b : Option ParserFault) → option_or a b ≡ None → a ≡ None
 none_first None b e = refl
 none_first (Some f) b e = absurd cc
 
@@ -72,12 +72,12 @@ few_of_headers p n zero (g ∷ hs) h none is =
 few_of_headers p n (suc i) (g ∷ hs) h none is = few_of_headers p (n + 1) i hs h (either_none (header_fault p n g) (first_fault p (n + 1) hs) none) is
 
 -- no header of such a program looks at more than four bytes
-few_lookups : (p : Program) (n : ℕ) (h : Header) → refusal p ≡ None → slice_get p.headers n ≡ Some h → length (lookups_of p h) ≤ 4
+pub few_lookups : (p : Program) (n : ℕ) (h : Header) → refusal p ≡ None → slice_get p.headers n ≡ Some h → length (lookups_of p h) ≤ 4
 few_lookups p n h fits is = few_of_headers p 0 n p.headers h (none_first (first_fault p 0 p.headers) (full_fault p) fits) is
 
 -- ---- the vector behind a header
 
-valid_lens : (p : Program) (places : List (List Lane)) (f : ℕ) → KeepsApart p places → width_of p f ≡ 1 → map (λ (l : Lane). l.len) (lanes_of places f) ≡ 1 ∷ []
+pub valid_lens : (p : Program) (places : List (List Lane)) (f : ℕ) → KeepsApart p places → width_of p f ≡ 1 → map (λ (l : Lane). l.len) (lanes_of places f) ≡ 1 ∷ []
 valid_lens p places f keeps one = by (slice_get p.fields f) refl one
   where
     by : (o : Option Field) → slice_get p.fields f ≡ o → unwrap_or (option_map (λ (x : Field). x.width) o) 0 ≡ 1 → map (λ (l : Lane). l.len) (lanes_of places f) ≡ 1 ∷ []
@@ -141,13 +141,13 @@ module _ (p : Program) (places : List (List Lane)) (keeps : KeepsApart p places)
 -- ---- one header
 
 -- the bytes of a header
-window_bytes : (frame : List ℕ) (at bytes : ℕ) → All (λ b. b < 256) frame → AreBytes (take bytes (drop at frame))
+pub window_bytes : (frame : List ℕ) (at bytes : ℕ) → All (λ b. b < 256) frame → AreBytes (take bytes (drop at frame))
 window_bytes frame at bytes small i = elim (cases_lt i (length (take bytes (drop at frame)))) [
   | inl inside ↦ All-take (λ b. b < 256) bytes (drop at frame) (All-drop (λ b. b < 256) at frame small) i 0 inside
   | inr past ↦ let none : get_or (take bytes (drop at frame)) i 0 ≡ 0 = get_or_past (take bytes (drop at frame)) i 0 past in omega (arith, none)
 ]
 
-length_window : (frame : List ℕ) (at bytes : ℕ) → at + bytes ≤ length frame → length (take bytes (drop at frame)) ≡ bytes
+pub length_window : (frame : List ℕ) (at bytes : ℕ) → at + bytes ≤ length frame → length (take bytes (drop at frame)) ≡ bytes
 length_window frame at bytes within = let left = length-drop at frame in length-take-le bytes (drop at frame) (omega (arith, left, within))
 
 module _ (p : Program) (n : ℕ) (h : Header) (is : IsHeader p n h) (owns : OwnsFields p h) (frame : List ℕ) (small : All (λ b. b < 256) frame) (at : ℕ) (inside : at + h.bytes ≤ length frame) where

@@ -49,7 +49,7 @@ places_apart p (k ∷ ks) f g other in_f in_g = elim (eqb_tells k f) [
 ]
 
 -- the runs of the fields that a header selects by
-select_apart : (p : Program) (n : ℕ) (h : Header) → IsHeader p n h → AreRuns (low_of p h) (width_of p) h.select
+pub select_apart : (p : Program) (n : ℕ) (h : Header) → IsHeader p n h → AreRuns (low_of p h) (width_of p) h.select
 select_apart p n h is i j d lt below =
     let f : ℕ = get_or h.select i d in
     let g : ℕ = get_or h.select j d in
@@ -66,7 +66,7 @@ select_apart p n h is i j d lt below =
 -- ---- lookup bytes
 
 -- the byte of a number of so many bytes
-abbrev byte_of : ℕ → ℕ → ℕ → ℕ
+abbrev pub byte_of : ℕ → ℕ → ℕ → ℕ
 byte_of count n o = slice n (8 * (count - 1 - o)) 8
 
 -- the lookup bytes of the header whose bytes have this number
@@ -77,7 +77,7 @@ shown p h n = high_bytes (map (byte_of h.bytes n) (lookups_of p h))
 abbrev pub number_with : Program → Header → List ℕ → ℕ
 number_with p h xs = filled (low_of p h) (width_of p) 0 h.select xs
 
-lookups_within : (p : Program) (h : Header) → All (λ o. o < h.bytes) (lookups_of p h)
+pub lookups_within : (p : Program) (h : Header) → All (λ o. o < h.bytes) (lookups_of p h)
 lookups_within p h = All-filter (is_looked_up p h) (λ o. o < h.bytes) (range_with_len 0 h.bytes) (All-range (λ o. o < h.bytes) 0 h.bytes (λ o lt. omega (arith, lt)))
 
 -- what is read at the lookup bytes, from anywhere
@@ -85,7 +85,7 @@ pub shown_from : (p : Program) (h : Header) (n : ℕ) (read : ℕ → ℕ) → (
 shown_from p h n read each =
     ap high_bytes (map_same read (byte_of h.bytes n) (lookups_of p h) (λ k d lt. each (get_or (lookups_of p h) k d) (lookups_within p h k d lt)))
 
-looked_up_shown : (p : Program) (h : Header) (xs : List ℕ) → looked_up p h xs ≡ shown p h (number_with p h xs)
+pub looked_up_shown : (p : Program) (h : Header) (xs : List ℕ) → looked_up p h xs ≡ shown p h (number_with p h xs)
 looked_up_shown p h xs =
     shown_from p h (number_with p h xs) (λ o. slice_index (bytes_of h.bytes (number_with p h xs)) (0 + o))
     (λ o lt. let at : 0 + o ≡ o = omega arith in ap (slice_index (bytes_of h.bytes (number_with p h xs))) at ∙ bytes_of-at h.bytes (number_with p h xs) o lt)
@@ -95,7 +95,7 @@ kept true y zs x c = (suc c.0, omega (arith, c.1), c.2)
 kept false y zs x c = c
 
 -- an item that passes is among those that do
-contains_filter : (t : ℕ → Bool) (xs : List ℕ) (x k : ℕ) → k < length xs → get_or xs k x ≡ x → t x ≡ true → Contains (filter t xs) x
+pub contains_filter : (t : ℕ → Bool) (xs : List ℕ) (x k : ℕ) → k < length xs → get_or xs k x ≡ x → t x ≡ true → Contains (filter t xs) x
 contains_filter t [] x k lt at passes = absurd (omega (arith, lt))
 contains_filter t (y ∷ ys) x zero lt at passes =
     let here : t y ≡ true = ap t at ∙ passes in
@@ -123,18 +123,18 @@ bit_looked_up p n h i f is bit =
 
 -- ---- cases
 
-both_or_neither : (a b : Bool) → (a ≡ true → b ≡ true) → (b ≡ true → a ≡ true) → a ≡ b
+pub both_or_neither : (a b : Bool) → (a ≡ true → b ≡ true) → (b ≡ true → a ≡ true) → a ≡ b
 both_or_neither true b f g = sym (f refl)
 both_or_neither false true f g = g refl
 both_or_neither false false f g = refl
 
-masks_fit : (p : Program) (fs : List ℕ) (ts : List Test) → AreTests p fs ts → AllZip (λ f x. x < 2 ^ width_of p f) fs (map (λ (t : Test). t.mask) ts)
+pub masks_fit : (p : Program) (fs : List ℕ) (ts : List Test) → AreTests p fs ts → AllZip (λ f x. x < 2 ^ width_of p f) fs (map (λ (t : Test). t.mask) ts)
 masks_fit p [] [] h = tt
 masks_fit p [] (t ∷ ts) h = absurd h
 masks_fit p (f ∷ fs) [] h = absurd h
 masks_fit p (f ∷ fs) (t ∷ ts) h = (h.0.mask_fits, masks_fit p fs ts h.1)
 
-values_fit : (p : Program) (fs : List ℕ) (ts : List Test) → AreTests p fs ts → AllZip (λ f x. x < 2 ^ width_of p f) fs (map (λ (t : Test). t.value) ts)
+pub values_fit : (p : Program) (fs : List ℕ) (ts : List Test) → AreTests p fs ts → AllZip (λ f x. x < 2 ^ width_of p f) fs (map (λ (t : Test). t.value) ts)
 values_fit p [] [] h = tt
 values_fit p [] (t ∷ ts) h = absurd h
 values_fit p (f ∷ fs) [] h = absurd h
@@ -174,6 +174,10 @@ module _ (p : Program) (low : ℕ → ℕ) (n mask value : ℕ) (s : List ℕ) w
       ∙ ap (λ x. bit_and x t.mask) (sym (All-head (λ g. slice_index s g ≡ slice n (low g) (width_of p g)) f fs holds))
       ∙ here ∙ tests.0.value_is_masked ∙ sym values.0)
       (runs_from_pass fs ts tests.1 (All-tail (λ g. slice_index s g ≡ slice n (low g) (width_of p g)) f fs holds) masks.1 values.1 parts.1)
+
+-- each field is read back where values are written
+pub case_reads : (p : Program) (n : ℕ) (h : Header) → IsHeader p n h → (xs : List ℕ) → AllFit (low_of p h) (width_of p) h.select xs → AllZip (λ f x. slice (number_with p h xs) (low_of p h f) (width_of p f) ≡ x) h.select xs
+case_reads p n h is xs fit = filled_reads (low_of p h) (width_of p) 0 h.select xs fit (select_apart p n h is)
 
 -- a state in which the fields that a header selects by have the values of the header with this number
 abbrev pub HasSelected : Program → Header → ℕ → List ℕ → Type 0

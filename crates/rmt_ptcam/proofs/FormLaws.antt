@@ -69,7 +69,7 @@ if_some P (Some x) h = h x refl
 
 -- ---- extracts
 
-All-reverse : {X : Type 0} (P : X → Type 0) (xs : List X) → All P xs → All P (reverse xs)
+pub All-reverse : {X : Type 0} (P : X → Type 0) (xs : List X) → All P xs → All P (reverse xs)
 All-reverse P [] h = All-nil P
 All-reverse P (x ∷ xs) h =
     subst (All P) (sym (reverse-append (x ∷ []) xs)) (All-append P (reverse xs) (x ∷ []) (All-reverse P xs (All-tail P x xs h)) (All-cons P x [] (All-head P x xs h) (All-nil P)))
@@ -86,7 +86,7 @@ pub in_order_lie : (p : Program) (places : List (List Lane)) (fs : List ℕ) →
 in_order_lie p places fs keeps =
     All-flat_map LiesInWord (λ f. reverse (lanes_of places f)) fs (λ k d lt. All-reverse LiesInWord (lanes_of places (get_or fs k d)) (lanes_lie p places (get_or fs k d) keeps))
 
-lane_formed : (l : Lane) → LiesInWord l → lane_is_formed l ≡ true
+pub lane_formed : (l : Lane) → LiesInWord l → lane_is_formed l ≡ true
 lane_formed l lies =
     let small = word_size-le l.word in
     rw (lt-ltb l.word 224 lies.exists, le-leb 1 l.len lies.has_bits, le-leb l.len 32 (omega (arith, small, lies.within)), le-leb (l.low + l.len) (word_size l.word) lies.within) refl

@@ -12,3 +12,18 @@ pub mod EntryLaws
 pub mod FieldLaws
 pub mod AgreementLaws
 mod Examples
+pub mod LookupLaws
+pub mod TogetherLaws
+pub mod WindowLaws
+pub mod RowLaws
+pub mod FormedRows
+pub mod JoinFacts
+pub mod JoinLaws
+pub mod JoinedParse
+pub mod AddingLaws
+pub mod JoinedForm
+pub mod JoinedKeeps
+pub mod CompactLaws
+pub mod ClusteringLaws
+pub mod PlainForm
+mod ClusterExamples

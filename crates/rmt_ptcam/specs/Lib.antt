@@ -2,3 +2,6 @@ pub mod Fitting
 pub mod Parsing
 pub mod Needs
 pub mod Plain
+pub mod Joining
+pub mod Adding
+pub mod Clustering

@@ -2,6 +2,7 @@
 
 ghost use Rattle.std.specs.Prelude.{◌≡◌};
 ghost use Rattle.rmt_ptcam.specs.declared.fault.ParserFault.TheVariants.{NoMemory};
+ghost use Rattle.rmt_ptcam.specs.declared.fault.JoinFault.TheVariants.{NoMemory as NoRoom};
 
 use std::alloc::{AllocError, AllocFailed};
 use thiserror::Error;
@@ -49,5 +50,21 @@ impl<T: Drop> From<AllocFailed<T>> for ParserFault {
 
     fn from(_error: AllocFailed<T>) -> ParserFault {
         ParserFault::NoMemory
+    }
+}
+
+/// Why an entry isn't joined.
+#[derive(Debug, Drop, Error)]
+pub enum JoinFault {
+    /// There is not enough memory.
+    #[error("out of memory")]
+    NoMemory,
+}
+
+impl From<AllocError> for JoinFault {
+    ghost from_gives = { λ _ e. e ≡ NoRoom };
+
+    fn from(_error: AllocError) -> JoinFault {
+        JoinFault::NoMemory
     }
 }

@@ -2,18 +2,26 @@
 #![tactic(auto)]
 
 mod cases;
+pub mod clustered;
+mod clustering;
+mod compact;
 mod entries;
 mod extract;
 pub mod fault;
 mod headers;
+pub mod joining;
 mod lookup;
+mod lookups;
 pub mod need;
 pub mod parse;
 mod pieces;
 pub mod plain;
+mod rows;
 mod search;
 mod step;
 
+pub use clustered::clustered_parser;
+pub use joining::join;
 pub use need::parser_need;
 pub use parse::parse_chip;
 pub use plain::plain_parser;

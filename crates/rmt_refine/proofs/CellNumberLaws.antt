@@ -3,7 +3,7 @@ use Rattle.std.proofs.Common.{◌≡◌, ℕ, zero, suc, ◌+◌, ◌<◌, Bool,
 use Rattle.std.specs.Prelude.{All, Contains, find, nat_le, nat_lt, option_and_then, option_map, slice_get, unwrap_or}
 use Rattle.std.specs.List.{flat_map, list_all, list_any}
 use Rattle.std.proofs.lemmas.Bool.{and_parts, both_ways, eq-eqb, eqb-true, ltb-true}
-use Rattle.std.proofs.lemmas.List.Elements.{All-head, All-tail, Contains-append_cases}
+use Rattle.std.proofs.lemmas.List.Elements.{All-head, All-tail}
 use Rattle.std.proofs.lemmas.Option.{none-some, same_Some}
 use Rattle.rmt_bits.proofs.AllLaws.{All-from_test, All-slice_get}
 use Rattle.rmt_bits.specs.Counts.{in_order}
@@ -36,21 +36,12 @@ use Rattle.rmt_refine.specs.Units.{DoesAs, TableCarried, applied, table_at}
 use Rattle.rmt_refine.specs.Cells.{IsSpotOf, IsTold, Spot, TableCellsCarried}
 use Rattle.rmt_refine.specs.Carries.{Carries}
 use Rattle.rmt_refine.specs.Outcomes.{entries_at}
-use Rattle.rmt_refine.proofs.FieldLaws.{Contains-flat_map}
 use Rattle.rmt_refine.proofs.FindLaws.{All-contains, Contains-split}
-use Rattle.rmt_refine.proofs.NumberLaws.{Contains-item, Contains-map, any_from, counted_is, from_counted, in_counted, mapped_from}
+use Rattle.rmt_refine.proofs.MemberLaws.{Contains-flat_map, Contains-item, Contains-map, flat_from, mapped_from}
+use Rattle.rmt_refine.proofs.NumberLaws.{any_from, counted_is, from_counted, in_counted}
 use Rattle.rmt_refine.proofs.OutcomeLaws.{list_at}
 use Rattle.rmt_refine.proofs.PartLaws.{IsPart, part_of_spot, slot_is_unit, slot_of_part, some_and, spot_of_part, then_some, unit_of_part}
 use Rattle.rmt_refine.proofs.RisingLaws.{same_order}
-
--- ---- members
-
-flat_from : {X Y : Type 0} (f : X → List Y) (xs : List X) (y : Y) → Contains (flat_map f xs) y → (i : ℕ) × (x : X) × (slice_get xs i ≡ Some x) × Contains (f x) y
-flat_from f [] y there = absurd (let lt = there.1 in omega (arith, lt))
-flat_from f (x ∷ xs) y there = elim (Contains-append_cases (f x) (flat_map f xs) y there) [
-  | inl here ↦ (0, x, refl, here)
-  | inr later ↦ let r = flat_from f xs y later in (suc r.0, r.1, r.2, r.3)
-]
 
 -- ---- what a slot's memory holds
 
@@ -116,7 +107,7 @@ pub record CellsListed (stage : Stage) (slot : SlotUnit) : Type 0 where
   pub seen : (n : CellNumber) → Contains slot.numbers n → is_seen (content_of stage slot n.cell).head ≡ true
   pub others : (n : ℕ) → n < cells_in slot.memory → is_seen (content_of stage slot n).head ≡ true → Contains (cells_of slot) n
 
-cells_listed : (stage : Stage) (first : ℕ) (slot : SlotUnit) → SlotHolds stage first slot → CellsListed stage slot
+pub cells_listed : (stage : Stage) (first : ℕ) (slot : SlotUnit) → SlotHolds stage first slot → CellsListed stage slot
 cells_listed stage first slot holds = record {
   rises = front.0;
   within = λ n there. ltb-true n.cell (cells_in slot.memory) (All-contains (λ x. nat_lt x (cells_in slot.memory) ≡ true) (cells_of slot) n.cell all_within (cell_there n there));

@@ -1,10 +1,8 @@
 -- The program on two stages: the cells of the configuration hold its entries.
-use Rattle.std.proofs.Common.{◌≡◌, ℕ, zero, suc, ◌+◌, ◌*◌, ◌/◌, ◌%◌, ◌^◌, ◌<◌, ◌≤◌, Bool, true, false, ◌&&◌, ◌==◌, cond, List, [], ◌∷◌, Some, None, map, refl, ap, ◌∙◌, subst, inl, inr, arith}
-use Rattle.std.specs.Prelude.{All, Contains, IsSomeAnd, option_map, slice_get, unwrap_or}
-use Rattle.std.proofs.lemmas.Bool.{both_ways}
+use Rattle.std.proofs.Common.{◌≡◌, ℕ, zero, suc, ◌<◌, true, List, [], ◌∷◌, Some, map, refl, ◌∙◌, subst, inl, inr, arith}
+use Rattle.std.specs.Prelude.{All, Contains, IsSomeAnd, slice_get}
 use Rattle.std.proofs.lemmas.List.Elements.{All-nil}
 use Rattle.std.proofs.lemmas.Option.{none-some, same_Some}
-use Rattle.std.proofs.Math.Nat.{zero-div}
 use Rattle.rmt_bits.specs.Bits.{slice}
 use Rattle.rmt_ast.specs.declared.program.Table.{Table}
 use Rattle.rmt_ast.specs.declared.program.Kind.TheVariants.{Ternary}
@@ -13,72 +11,39 @@ use Rattle.rmt_ast.specs.Lookup.{precedes}
 use Rattle.rmt_ast.specs.State.{width_of}
 use Rattle.rmt_ast.proofs.WellFormedLemmas.{AreDistinct-from_apart}
 use Rattle.rmt_config.specs.declared.config.Stage.{Stage}
-use Rattle.rmt_config.specs.declared.config.SramRow.{SramRow}
-use Rattle.rmt_config.specs.Cells.{Blocks, is_seen, row_record, sram_row, unit_row}
+use Rattle.rmt_config.specs.Cells.{is_seen}
 use Rattle.rmt_refine.specs.declared.map.CellOf.{CellOf}
 use Rattle.rmt_refine.specs.View.{own_content, own_number, own_view}
 use Rattle.rmt_refine.specs.Cells.{CellsCarried, HasArguments, HoldsEntry, IsBefore, IsCandidate, IsSpotOf, IsTold, Spot, TableCellsCarried, first_code, tests_as_one}
 use Rattle.rmt_refine.specs.Units.{table_at}
 use Rattle.rmt_refine.proofs.CellLaws.{carried_from}
-use Rattle.rmt_refine.proofs.FindLaws.{All-contains, Contains-range}
-use Rattle.rmt_refine.proofs.StageLaws.{eqb_false}
+use Rattle.rmt_refine.proofs.FindLaws.{All-contains, Contains-range, Contains-split}
+use Rattle.rmt_refine.proofs.CellNumberLaws.{cells_listed}
+use Rattle.rmt_refine.proofs.MemoryExamples.{first_holds, second_holds}
 use Rattle.rmt_refine.proofs.ListedLaws.{never, three}
 use Rattle.rmt_refine.proofs.TwoStages.{back, cells, config, entries, first_line, first_stage, lists, lowest_last, note, ports, program, second_line, second_stage}
 
 -- ---- cells
 
--- a row of SRAM alone, row 0 of block 0
-abbrev one_row : ℕ → List SramRow
-one_row bits = record { block = 0; row = 0; bits = bits } ∷ []
-
-row_off : (bits block row : ℕ) → (0 ≡ row → ⊥) → sram_row (one_row bits) block row ≡ 0
-row_off bits block row ne =
-    let r : SramRow = record { block = 0; row = 0; bits = bits } in
-    ap (λ b. unwrap_or (option_map (λ (x : SramRow). x.bits) (cond ((0 == block) && b) (Some r) None)) 0) (eqb_false 0 row ne) ∙ by_block r (0 == block)
-  where
-    by_block : (r : SramRow) (b : Bool) → unwrap_or (option_map (λ (x : SramRow). x.bits) (cond (b && false) (Some r) None)) 0 ≡ 0
-    by_block r true = refl
-    by_block r false = refl
-
-unit_off : (size : ℕ) (held : Blocks) (row : ℕ) → ((block : ℕ) → held block row ≡ 0) → (blocks : List ℕ) → unit_row size held row blocks ≡ 0
-unit_off size held row none [] = refl
-unit_off size held row none (b ∷ bs) =
-    let one = none b in
-    let rest = unit_off size held row none bs in
-    let zeros : 0 + 2 ^ size * 0 ≡ 0 = omega arith in
-    ap (λ n. n + 2 ^ size * unit_row size held row bs) one ∙ ap (λ n. 0 + 2 ^ size * n) rest ∙ zeros
-
--- six records stand in a row, so behind those of row 0 none has a bit
-empty_row : (bits n : ℕ) → 6 ≤ n → n < 2048 → row_record (sram_row (one_row bits)) (0 ∷ []) 9 n ≡ 0
-empty_row bits n ge lt =
-    let row = n % 2048 % 6144 / 6 in
-    let ne : 0 ≡ row → ⊥ = λ e. omega (arith, e, ge, lt) in
-    let none = unit_off 112 (sram_row (one_row bits)) row (λ block. row_off bits block row ne) in
-    ap (λ v. slice v (n % 2048 % 6 * 17) 17) (none _) ∙ ap (λ x. x % 2 ^ 17) (zero-div (2 ^ (n % 2048 % 6 * 17)))
-
-unseen : (bits n : ℕ) → 6 ≤ n → n < 2048 → is_seen (row_record (sram_row (one_row bits)) (0 ∷ []) 9 n % 256) ≡ true → ⊥
-unseen bits n ge lt seen = both_ways _ (ap (λ r. is_seen (r % 256)) (empty_row bits n ge lt)) seen
-
 abbrev Told : ℕ → ℕ → ℕ → Type 0
 Told k place n = (e : Entry) × Contains entries e × IsTold cells e (record { stage = k; place = place; cell = n })
 
+-- no cell of the first part is seen but the two that it lists
 first_only : (n : ℕ) → n < 2048 → is_seen (own_content config 0 1 n).head ≡ true → Told 0 1 n
-first_only zero lt seen = (first_line, (1, omega arith, refl), (1, omega arith, refl))
-first_only (suc zero) lt seen = (second_line, (2, omega arith, refl), (2, omega arith, refl))
-first_only (suc (suc zero)) lt seen = never seen
-first_only (suc (suc (suc zero))) lt seen = never seen
-first_only (suc (suc (suc (suc zero)))) lt seen = never seen
-first_only (suc (suc (suc (suc (suc zero))))) lt seen = never seen
-first_only (suc (suc (suc (suc (suc (suc n)))))) lt seen = absurd (unseen _ (suc (suc (suc (suc (suc (suc n)))))) (omega arith) lt seen)
+first_only n lt seen = elim (Contains-split 0 (1 ∷ []) n ((cells_listed first_stage 1 _ first_holds).others n lt seen)) [
+  | inl e ↦ subst (Told 0 1) e (first_line, (1, omega arith, refl), (1, omega arith, refl))
+  | inr later ↦ elim (Contains-split 1 [] n later) [
+    | inl e ↦ subst (Told 0 1) e (second_line, (2, omega arith, refl), (2, omega arith, refl))
+    | inr more ↦ absurd (let none = more.1 in omega (arith, none))
+  ]
+]
 
+-- and of the second one but the one
 second_only : (n : ℕ) → n < 2048 → is_seen (own_content config 1 0 n).head ≡ true → Told 1 0 n
-second_only zero lt seen = (lowest_last, (0, omega arith, refl), (0, omega arith, refl))
-second_only (suc zero) lt seen = never seen
-second_only (suc (suc zero)) lt seen = never seen
-second_only (suc (suc (suc zero))) lt seen = never seen
-second_only (suc (suc (suc (suc zero)))) lt seen = never seen
-second_only (suc (suc (suc (suc (suc zero))))) lt seen = never seen
-second_only (suc (suc (suc (suc (suc (suc n)))))) lt seen = absurd (unseen _ (suc (suc (suc (suc (suc (suc n)))))) (omega arith) lt seen)
+second_only n lt seen = elim (Contains-split 0 [] n ((cells_listed second_stage 0 _ second_holds).others n lt seen)) [
+  | inl e ↦ subst (Told 1 0) e (lowest_last, (0, omega arith, refl), (0, omega arith, refl))
+  | inr more ↦ absurd (let none = more.1 in omega (arith, none))
+]
 
 -- the place of the part in each stage
 abbrev own_place : ℕ → ℕ

@@ -1,10 +1,9 @@
 -- What the instruction that runs for a node does to the words, and what the node leaves of the state.
-use Rattle.std.proofs.Common.{◌≡◌, ℕ, ◌+◌, ◌==◌, cond, List, [], ◌∷◌, Option, Some, None, map, refl, sym, ap, ◌∙◌, subst, inl, inr, arith}
+use Rattle.std.proofs.Common.{◌≡◌, ℕ, ◌+◌, ◌==◌, cond, List, [], Option, Some, None, map, refl, sym, ap, ◌∙◌, subst, arith}
 use Rattle.std.specs.Prelude.{Contains, option_map, slice_get, slice_index, unwrap_or}
-use Rattle.std.specs.List.{AllZip, flat_map}
+use Rattle.std.specs.List.{AllZip}
 use Rattle.std.proofs.lemmas.Bool.{eqb-true}
 use Rattle.std.proofs.lemmas.List.{length-map}
-use Rattle.std.proofs.lemmas.List.Elements.{Contains-append_cases}
 use Rattle.std.proofs.lemmas.Option.{none-some, slice_get-get_or, slice_get-map, slice_get_within}
 use Rattle.rmt_bits.specs.declared.lane.Lane.{Lane}
 use Rattle.rmt_ast.specs.declared.program.Program.{Program}
@@ -34,10 +33,10 @@ use Rattle.rmt_refine.specs.Code.{ChangesOnly, DoesAction, DoesDefault, Hold, Ta
 use Rattle.rmt_refine.specs.Outcomes.{entries_at, run_before}
 use Rattle.rmt_refine.specs.Units.{applied, table_at}
 use Rattle.rmt_refine.proofs.CarriedLaws.{set_in}
-use Rattle.rmt_refine.proofs.FieldLaws.{Contains-flat_map, action_run, applied_state, args_run, fields_listed}
-use Rattle.rmt_refine.proofs.FindLaws.{All-contains, Contains-first, Contains-later, Contains-split, find-passes}
+use Rattle.rmt_refine.proofs.FieldLaws.{action_run, applied_state, args_run, fields_listed}
+use Rattle.rmt_refine.proofs.FindLaws.{All-contains, find-passes}
+use Rattle.rmt_refine.proofs.MemberLaws.{Contains-flat_map, Contains-map, from_flat_map, mapped_from}
 use Rattle.rmt_refine.proofs.LookUpLaws.{hit_some}
-use Rattle.rmt_refine.proofs.OrderLaws.{Contains-map}
 use Rattle.rmt_refine.proofs.OutcomeLaws.{list_at}
 use Rattle.rmt_refine.proofs.PartLaws.{some_and, then_some}
 use Rattle.rmt_refine.proofs.RunLaws.{guard_at, run_next}
@@ -45,20 +44,6 @@ use Rattle.rmt_refine.proofs.RunningLaws.{ActsIn, RunsFor, RunsInstruction}
 use Rattle.rmt_refine.proofs.TheLaw.{its_terms}
 
 -- ---- members
-
-from_map : {X Y : Type 0} (f : X → Y) (xs : List X) (y : Y) → Contains (map f xs) y → (x : X) × Contains xs x × (f x ≡ y)
-from_map f [] y there = absurd (let lt = there.1 in omega (arith, lt))
-from_map f (x ∷ xs) y there = elim (Contains-split (f x) (map f xs) y there) [
-  | inl e ↦ (x, Contains-first x xs, e)
-  | inr later ↦ let r = from_map f xs y later in (r.0, Contains-later x xs r.0 r.1, r.2)
-]
-
-from_flat_map : {X Y : Type 0} (f : X → List Y) (xs : List X) (y : Y) → Contains (flat_map f xs) y → (x : X) × Contains xs x × Contains (f x) y
-from_flat_map f [] y there = absurd (let lt = there.1 in omega (arith, lt))
-from_flat_map f (x ∷ xs) y there = elim (Contains-append_cases (f x) (flat_map f xs) y there) [
-  | inl here ↦ (x, Contains-first x xs, here)
-  | inr later ↦ let r = from_flat_map f xs y later in (r.0, Contains-later x xs r.0 r.1, r.2)
-]
 
 -- a field that is written has its lanes in words that are written
 pub lane_touched : (places : List (List Lane)) (fields : List ℕ) (f : ℕ) (l : Lane) → Contains fields f → Contains (lanes_of places f) l → Contains (words_of places fields) l.word
@@ -180,7 +165,7 @@ module _ (p : Program) (lists : List (List Entry)) (m : Map) (c : Config) (v : V
       let found = find-passes (λ (x : Operation). x.word == w) r.ops op on in
       let lanes = assigned_lanes p m.places (action_run t (hit_at n t)) in
       let own = All-contains (λ (x : Operation). Contains (map (λ (l : Lane). l.word) lanes) x.word) r.ops op does.words found.0 in
-      let lane = from_map (λ (l : Lane). l.word) lanes op.word own in
+      let lane = mapped_from (λ (l : Lane). l.word) lanes op.word own in
       let field = from_flat_map (lanes_of m.places) (of_action p written_by (action_run t (hit_at n t))) lane.0 lane.1 in
       subst (Contains (words_of m.places (writes_of p n))) (lane.2 ∙ eqb-true op.word w found.1)
       (lane_touched m.places (writes_of p n) field.0 lane.0 (written_listed n t field.0 e field.1) field.2)

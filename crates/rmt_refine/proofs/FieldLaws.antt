@@ -1,10 +1,10 @@
 -- Which fields nodes change, and on which ones what they leave depends.
-use Rattle.std.proofs.Common.{◌≡◌, ℕ, zero, suc, ◌+◌, ◌<◌, ◌≤◌, Bool, true, false, cond, List, [], ◌∷◌, ◌++◌, Option, Some, None, length, map, refl, sym, ap, ◌∙◌, subst, ◌⊎◌, inl, inr, arith}
+use Rattle.std.proofs.Common.{◌≡◌, ℕ, zero, suc, ◌+◌, ◌<◌, ◌≤◌, Bool, true, false, cond, List, [], ◌∷◌, Option, Some, None, length, map, refl, sym, ap, ◌∙◌, subst, ◌⊎◌, inl, inr, arith}
 use Rattle.std.specs.Prelude.{Contains, option_map, slice_get, slice_index, slice_set, unwrap_or}
 use Rattle.std.specs.List.{AllZip, flat_map}
 use Rattle.std.proofs.Math.ListN.{length-set}
 use Rattle.std.proofs.lemmas.Bool.{cases_lt}
-use Rattle.std.proofs.lemmas.List.Elements.{Contains-get_or}
+use Rattle.std.proofs.lemmas.List.Elements.{Contains-append_left, Contains-append_right, Contains-get_or}
 use Rattle.std.proofs.lemmas.List.{get_or-set_other, get_or-set_same, length-map}
 use Rattle.std.proofs.lemmas.Option.{same_Some, slice_get_within}
 use Rattle.rmt_bits.proofs.ListLaws.{slice_get-item}
@@ -31,6 +31,7 @@ use Rattle.rmt_deps.specs.Edges.{expr_fields, leaf_fields, of_action, of_node, o
 use Rattle.rmt_refine.specs.Outcomes.{entries_at, run_before}
 use Rattle.rmt_refine.proofs.FindLaws.{All-contains, Contains-first, Contains-later, Contains-split}
 use Rattle.rmt_refine.proofs.LookUpLaws.{hit_some}
+use Rattle.rmt_refine.proofs.MemberLaws.{Contains-flat_map}
 use Rattle.rmt_refine.proofs.OutcomeLaws.{list_at}
 use Rattle.rmt_refine.proofs.PartLaws.{some_and}
 use Rattle.rmt_refine.proofs.RankLaws.{compare}
@@ -62,22 +63,11 @@ operand_same s t args (leaf.Field f) same = same f (Contains-first f [])
 operand_same s t args (leaf.Param i) same = refl
 operand_same s t args (leaf.Number n) same = refl
 
-pub Contains-left : {X : Type 0} (xs ys : List X) (x : X) → Contains xs x → Contains (xs ++ ys) x
-Contains-left [] ys x there = absurd (let lt = there.1 in omega (arith, lt))
-Contains-left (z ∷ zs) ys x there = elim (Contains-split z zs x there) [
-  | inl e ↦ subst (λ w. Contains (w ∷ zs ++ ys) x) (sym e) (Contains-first x (zs ++ ys))
-  | inr later ↦ Contains-later z (zs ++ ys) x (Contains-left zs ys x later)
-]
-
-pub Contains-right : {X : Type 0} (xs ys : List X) (x : X) → Contains ys x → Contains (xs ++ ys) x
-Contains-right [] ys x there = there
-Contains-right (z ∷ zs) ys x there = Contains-later z (zs ++ ys) x (Contains-right zs ys x there)
-
 value_same : (width : ℕ) (e : Expr) (s t args : List ℕ) → ((f : ℕ) → Contains (expr_fields e) f → slice_index s f ≡ slice_index t f) → value_of width e s args ≡ value_of width e t args
 value_same width (One x) s t args same = operand_same s t args x same
 value_same width (Two op x y) s t args same =
-    ap (λ a. computed op width a (operand s args y)) (operand_same s t args x (λ f there. same f (Contains-left (leaf_fields x) (leaf_fields y) f there)))
-    ∙ ap (computed op width (operand t args x)) (operand_same s t args y (λ f there. same f (Contains-right (leaf_fields x) (leaf_fields y) f there)))
+    ap (λ a. computed op width a (operand s args y)) (operand_same s t args x (λ f there. same f (Contains-append_left (leaf_fields x) (leaf_fields y) f there)))
+    ∙ ap (computed op width (operand t args x)) (operand_same s t args y (λ f there. same f (Contains-append_right (leaf_fields x) (leaf_fields y) f there)))
 
 -- two states of the same length agree on some fields
 pub record Agree (known : ℕ → Type 0) (s t : List ℕ) : Type 0 where
@@ -124,10 +114,10 @@ acted_agree p args [] known s t agree reads = record {
 }
 acted_agree p args (a ∷ assigns) known s t agree reads =
     let rest_fields = flat_map (λ (x : Assign). expr_fields x.expr) assigns in
-    let value = value_same (width_of p a.dest) a.expr s t args (λ f there. agree.same f (reads f (Contains-left (expr_fields a.expr) rest_fields f there))) in
+    let value = value_same (width_of p a.dest) a.expr s t args (λ f there. agree.same f (reads f (Contains-append_left (expr_fields a.expr) rest_fields f there))) in
     let next = set_agree known s t a.dest _ _ agree value in
     let rest = acted_agree p args assigns (λ f. known f ⊎ (a.dest ≡ f)) (assigned p args s a) (assigned p args t a) next
-    (λ f there. inl (reads f (Contains-right (expr_fields a.expr) rest_fields f there))) in
+    (λ f there. inl (reads f (Contains-append_right (expr_fields a.expr) rest_fields f there))) in
     record {
       long = rest.long;
       same = λ f which. elim which [
@@ -166,13 +156,6 @@ args_run t (Some e) = e.args
 pub applied_state : (p : Program) (n : ℕ) (t : Table) (o : Option Entry) (r : Run) → (applied_table p n t o r).state ≡ act_of p (action_run t o) (args_run t o) r.state
 applied_state p n t None r = refl
 applied_state p n t (Some e) r = refl
-
-pub Contains-flat_map : {X Y : Type 0} (f : X → List Y) (xs : List X) (x : X) (y : Y) → Contains xs x → Contains (f x) y → Contains (flat_map f xs) y
-Contains-flat_map f [] x y there in_x = absurd (let lt = there.1 in omega (arith, lt))
-Contains-flat_map f (z ∷ zs) x y there in_x = elim (Contains-split z zs x there) [
-  | inl e ↦ Contains-left (f z) (flat_map f zs) y (subst (λ w. Contains (f w) y) (sym e) in_x)
-  | inr later ↦ Contains-right (f z) (flat_map f zs) y (Contains-flat_map f zs x y later in_x)
-]
 
 -- the action is the default or one of the list
 listed : (p : Program) (n : ℕ) (t : Table) (es : List Entry) (s : List ℕ) (o : Option Entry) → AreTableEntries n es (terms_of p t) → hit_of t.kind t.key es s ≡ o

@@ -2,7 +2,7 @@
 use Rattle.std.proofs.Common.{◌≡◌, ℕ, zero, suc, ◌+◌, ◌*◌, ◌/◌, ◌%◌, ◌^◌, ◌<◌, ◌≤◌, List, [], ◌∷◌, ◌++◌, refl, sym, ap, ◌∙◌, subst, ◌⊎◌, inl, inr, arith}
 use Rattle.std.specs.Prelude.{All, AllPairs, Contains}
 use Rattle.std.specs.List.{flat_map}
-use Rattle.std.proofs.lemmas.List.Elements.{All-cons, All-head, All-nil, All-tail}
+use Rattle.std.proofs.lemmas.List.Elements.{All-cons, All-head, All-nil, All-tail, Contains-append_left, Contains-append_right}
 use Rattle.std.proofs.Math.Nat.{mod-one}
 use Rattle.std.proofs.lemmas.Nat.{div-mul-add, mod-mul-add}
 use Rattle.rmt_bits.proofs.BitLaws.{slice-add, slice-lt}
@@ -14,7 +14,6 @@ use Rattle.rmt_config.specs.Agreement.{IsFree}
 use Rattle.rmt_config.specs.Life.{Words, lane_of}
 use Rattle.rmt_phv.specs.Places.{AreApart}
 use Rattle.rmt_refine.specs.Code.{ChangesOnly, held_by, words_after}
-use Rattle.rmt_refine.proofs.FieldLaws.{Contains-left, Contains-right}
 use Rattle.rmt_refine.proofs.FindLaws.{All-contains, Contains-split}
 use Rattle.rmt_refine.proofs.RankLaws.{compare}
 
@@ -96,14 +95,14 @@ pairs_across : {X : Type 0} (R : X → X → Type 0) (xs ys : List X) (x y : X) 
 pairs_across R [] ys x y pairs in_x in_y = absurd (let lt = in_x.1 in omega (arith, lt))
 pairs_across R (z ∷ zs) ys x y pairs in_x in_y =
     elim (Contains-split z zs x in_x) [
-      | inl e ↦ subst (λ w. R w y) e (All-contains (R z) (zs ++ ys) y (pairs_head R z (zs ++ ys) pairs) (Contains-right zs ys y in_y))
+      | inl e ↦ subst (λ w. R w y) e (All-contains (R z) (zs ++ ys) y (pairs_head R z (zs ++ ys) pairs) (Contains-append_right zs ys y in_y))
       | inr later ↦ pairs_across R zs ys x y (pairs_tail R z (zs ++ ys) pairs) later in_y
     ]
 
 in_some : (places : List (List Lane)) (f : ℕ) (l : Lane) → Contains (lanes_of places f) l → Contains (flat_map (λ (ls : List Lane). ls) places) l
 in_some [] f l there = absurd (let lt = there.1 in omega (arith, lt))
-in_some (p ∷ places) zero l there = Contains-left p (flat_map (λ (ls : List Lane). ls) places) l there
-in_some (p ∷ places) (suc f) l there = Contains-right p (flat_map (λ (ls : List Lane). ls) places) l (in_some places f l there)
+in_some (p ∷ places) zero l there = Contains-append_left p (flat_map (λ (ls : List Lane). ls) places) l there
+in_some (p ∷ places) (suc f) l there = Contains-append_right p (flat_map (λ (ls : List Lane). ls) places) l (in_some places f l there)
 
 apart_lt : (places : List (List Lane)) (f g : ℕ) (a b : Lane) → AllPairs AreApart (flat_map (λ (ls : List Lane). ls) places) → f < g
     → Contains (lanes_of places f) a → Contains (lanes_of places g) b → AreApart a b

@@ -1,4 +1,5 @@
 pub mod FindLaws
+pub mod MemberLaws
 pub mod KeyLaws
 pub mod RankLaws
 pub mod PartLaws
@@ -37,6 +38,7 @@ mod Examples
 mod TwoStages
 mod ListedLaws
 mod PlacesExamples
+mod MemoryExamples
 mod CellsExamples
 mod CodeExamples
 mod ParserExamples

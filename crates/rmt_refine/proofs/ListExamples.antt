@@ -8,9 +8,13 @@ use Rattle.rmt_ast.specs.Answers.{answers_of, counts_of}
 use Rattle.rmt_config.specs.declared.config.Config.{Config}
 use Rattle.rmt_config.specs.declared.config.Unit.TheVariants.{Slot}
 use Rattle.rmt_config.specs.ChipRun.{chip_counts_of, inputs_of, outcomes_of}
-use Rattle.rmt_refine.specs.RunsAs.{told_by_answer, told_by_outcome}
+use Rattle.rmt_refine.specs.RunsAs.{RunsAs, told_by_answer, told_by_outcome}
+use Rattle.rmt_refine.proofs.CarriedExamples.{carried}
+use Rattle.rmt_refine.proofs.FormExamples.{are_entries, is_program}
+use Rattle.rmt_refine.proofs.ListLaws.{lists_law}
+use Rattle.rmt_refine.proofs.MemoryExamples.{memories_hold}
 use Rattle.rmt_refine.proofs.OutcomeExamples.{packet}
-use Rattle.rmt_refine.proofs.TwoStages.{config, first_stage, keyless_unit, lists, number_at, ports_unit, program, second_stage}
+use Rattle.rmt_refine.proofs.TwoStages.{config, first_stage, its_map, keyless_unit, lists, number_at, ports_unit, program, second_stage}
 
 -- line 1, line 0, no line, and line 1 again
 abbrev packets : List Packet
@@ -39,3 +43,7 @@ one_too_many = record config {
 
 pub other_counter : chip_counts_of one_too_many (inputs_of one_too_many packets) ≡ count 0 1 ∷ count 1 2 ∷ count 2 0 ∷ count 5 0 ∷ []
 other_counter = refl
+
+-- the law for lists holds of every list of packets there
+pub all_lists : RunsAs program lists config
+all_lists = lists_law program lists its_map config is_program are_entries carried memories_hold

@@ -3,7 +3,7 @@ use Rattle.std.proofs.Common.{◌≡◌, ℕ, ◌+◌, ◌*◌, ◌%◌, ◌^◌
 use Rattle.std.specs.Prelude.{All, Contains, count_by, filter, sum_by}
 use Rattle.std.specs.List.{flat_map, list_any}
 use Rattle.std.specs.List.Sorted.{IsStrictlyIncreasing}
-use Rattle.std.proofs.lemmas.Bool.{both_ways}
+use Rattle.std.proofs.lemmas.Bool.{both_ways, eq-eqb}
 use Rattle.std.proofs.lemmas.List.Elements.{All-head, All-tail, All-weaker}
 use Rattle.std.proofs.lemmas.List.Sums.{sum_by-append, sum_by-cons}
 use Rattle.rmt_bits.specs.Packet.{IsPacket, Packet}
@@ -28,7 +28,7 @@ use Rattle.rmt_refine.specs.Refined.{AnswersAs}
 use Rattle.rmt_refine.specs.RunsAs.{RunsAs, told_by_answer, told_by_outcome}
 use Rattle.rmt_refine.proofs.CellNumberLaws.{same_numbers}
 use Rattle.rmt_refine.proofs.FindLaws.{Contains-first, Contains-later}
-use Rattle.rmt_refine.proofs.NumberLaws.{any_there}
+use Rattle.rmt_refine.proofs.MemberLaws.{any_passes}
 use Rattle.rmt_refine.proofs.RefinedLaws.{own_packet}
 use Rattle.rmt_refine.proofs.RisingLaws.{order_member}
 use Rattle.rmt_refine.proofs.StageLaws.{eqb_false}
@@ -144,7 +144,7 @@ module _ (p : Program) (lists : List (List Entry)) (c : Config) where
       chip_counts_of-all c packets (EndBefore-rising c.stages rising)
       ∙ ap (map (count_for ours)) (same_numbers p lists m c entries carries memory)
       ∙ map_same (count_for ours) (count_for theirs) (in_order numbers)
-      (λ n there. same_count n ours theirs (packets_same n packets (any_there numbers n (order_member numbers n there)) all))
+      (λ n there. same_count n ours theirs (packets_same n packets (any_passes (λ m. m == n) numbers n (order_member numbers n there) (eq-eqb n n refl)) all))
 
   told_same : (o : Outcome) (a : Answer) → o.verdict ≡ a.verdict → o.bytes ≡ a.bytes → told_by_outcome o ≡ told_by_answer a
   told_same o a verdict bytes = ap (λ x. (x, o.bytes)) verdict ∙ ap (λ x. (a.verdict, x)) bytes

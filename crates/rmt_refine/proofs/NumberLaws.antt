@@ -1,12 +1,12 @@
 -- The numbers of entries in counted tables.
-use Rattle.std.proofs.Common.{◌≡◌, ℕ, zero, suc, ◌+◌, Bool, true, false, ◌||◌, ◌==◌, cond, List, [], ◌∷◌, ◌++◌, Some, length, map, refl, sym, ap, ◌∙◌, subst, inl, inr, arith}
+use Rattle.std.proofs.Common.{◌≡◌, ℕ, zero, suc, ◌+◌, Bool, true, false, ◌||◌, ◌==◌, cond, List, [], ◌∷◌, ◌++◌, Some, length, refl, sym, ap, ◌∙◌, subst, inl, inr, arith}
 use Rattle.std.specs.Prelude.{Contains, option_map, slice_get, unwrap_or}
 use Rattle.std.specs.List.{flat_map, list_any}
 use Rattle.std.proofs.Math.ListN.{get_or-append}
 use Rattle.std.proofs.lemmas.Bool.{both_ways, eq-eqb, eqb-true, false_from_ne_true}
 use Rattle.std.proofs.lemmas.List.{get_or-append-add, length-append}
 use Rattle.std.proofs.lemmas.List.Elements.{Contains-append_cases, Contains-append_left, Contains-append_right}
-use Rattle.std.proofs.lemmas.Option.{get_or_from_slice_get, none-some, same_Some, slice_get_within}
+use Rattle.std.proofs.lemmas.Option.{none-some, same_Some}
 use Rattle.rmt_ast.specs.declared.program.Program.{Program}
 use Rattle.rmt_ast.specs.declared.program.Table.{Table}
 use Rattle.rmt_ast.specs.declared.program.Node.{Node}
@@ -18,39 +18,11 @@ use Rattle.rmt_ast.specs.EntryLists.{AreEntries}
 use Rattle.rmt_ast.specs.WellFormed.{AreDistinct}
 use Rattle.rmt_refine.specs.Units.{applied}
 use Rattle.rmt_refine.specs.Outcomes.{entries_at}
-use Rattle.rmt_refine.proofs.FieldLaws.{Contains-flat_map}
-use Rattle.rmt_refine.proofs.FindLaws.{Contains-first, Contains-later, Contains-split}
+use Rattle.rmt_refine.proofs.FindLaws.{Contains-first, Contains-later}
+use Rattle.rmt_refine.proofs.MemberLaws.{Contains-flat_map, Contains-item, Contains-map, any_passes}
 use Rattle.rmt_refine.proofs.OutcomeLaws.{list_at}
 
 -- ---- members
-
-pub Contains-item : {X : Type 0} (xs : List X) (i : ℕ) (x : X) → slice_get xs i ≡ Some x → Contains xs x
-Contains-item xs i x e = (i, slice_get_within xs i x e, get_or_from_slice_get xs i x x e)
-
-pub Contains-map : {X Y : Type 0} (f : X → Y) (xs : List X) (x : X) → Contains xs x → Contains (map f xs) (f x)
-Contains-map f [] x there = absurd (let lt = there.1 in omega (arith, lt))
-Contains-map f (y ∷ ys) x there = elim (Contains-split y ys x there) [
-  | inl e ↦ subst (λ z. Contains (f y ∷ map f ys) (f z)) e (Contains-first (f y) (map f ys))
-  | inr later ↦ Contains-later (f y) (map f ys) (f x) (Contains-map f ys x later)
-]
-
-pub mapped_from : {X Y : Type 0} (f : X → Y) (xs : List X) (y : Y) → Contains (map f xs) y → (x : X) × Contains xs x × (f x ≡ y)
-mapped_from f [] y there = absurd (let lt = there.1 in omega (arith, lt))
-mapped_from f (x ∷ xs) y there = elim (Contains-split (f x) (map f xs) y there) [
-  | inl e ↦ (x, Contains-first x xs, e)
-  | inr later ↦ let r = mapped_from f xs y later in (r.0, Contains-later x xs r.0 r.1, r.2)
-]
-
-pub any_there : (xs : List ℕ) (x : ℕ) → Contains xs x → list_any (λ m. m == x) xs ≡ true
-any_there [] x there = absurd (let lt = there.1 in omega (arith, lt))
-any_there (y ∷ ys) x there = elim (Contains-split y ys x there) [
-  | inl e ↦ ap (λ b. b || list_any (λ m. m == x) ys) (eq-eqb y x e)
-  | inr later ↦ ap (λ b. (y == x) || b) (any_there ys x later) ∙ or_true (y == x)
-]
-  where
-    or_true : (b : Bool) → (b || true) ≡ true
-    or_true true = refl
-    or_true false = refl
 
 pub any_from : (xs : List ℕ) (x : ℕ) → list_any (λ m. m == x) xs ≡ true → Contains xs x
 any_from [] x e = absurd (both_ways false refl e)
@@ -149,8 +121,9 @@ number_counted p lists n node t e entries at table there = by t.counted refl
 
     by : (b : Bool) → t.counted ≡ b → list_any (λ m. m == e.number) (counted_numbers p p.nodes lists) ≡ t.counted
     by true is =
-        any_there (counted_numbers p p.nodes lists) e.number
-        (in_counted p p.nodes lists n node (entries_at lists n) e.number at list (counted_is p node.what t table ∙ is) own) ∙ sym is
+        any_passes (λ m. m == e.number) (counted_numbers p p.nodes lists) e.number
+        (in_counted p p.nodes lists n node (entries_at lists n) e.number at list (counted_is p node.what t table ∙ is) own)
+        (eq-eqb e.number e.number refl) ∙ sym is
     by false is =
         false_from_ne_true (list_any (λ m. m == e.number) (counted_numbers p p.nodes lists)) (λ any.
         let r = from_counted p p.nodes lists e.number (any_from (counted_numbers p p.nodes lists) e.number any) in

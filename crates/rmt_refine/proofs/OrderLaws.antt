@@ -1,10 +1,8 @@
 -- Two nodes that both run and that an edge joins stand in its order, and their stages as far apart as it asks.
-use Rattle.std.proofs.Common.{◌≡◌, ℕ, ◌+◌, ◌<◌, ◌≤◌, Bool, true, false, ◌==◌, List, [], ◌∷◌, length, map, refl, sym, subst, ◌⊎◌, inl, inr, arith}
+use Rattle.std.proofs.Common.{◌≡◌, ℕ, ◌+◌, ◌<◌, ◌≤◌, true, false, ◌==◌, List, [], ◌∷◌, length, refl, subst, ◌⊎◌, inl, inr, arith}
 use Rattle.std.specs.Prelude.{Contains, MatchBool, filter, slice_index}
-use Rattle.std.specs.List.{list_any}
 use Rattle.std.proofs.lemmas.Bool.{eq-eqb, or_left, or_right}
 use Rattle.std.proofs.lemmas.List.Elements.{All-contains_itself}
-use Rattle.std.proofs.lemmas.List.Folds.{list_any_at}
 use Rattle.rmt_ast.specs.declared.deps.Edge.{Edge}
 use Rattle.rmt_ast.specs.declared.deps.EdgeKind.{EdgeKind}
 use Rattle.rmt_ast.specs.declared.deps.EdgeKind.TheVariants as kind
@@ -23,20 +21,11 @@ use Rattle.rmt_refine.specs.View.{View}
 use Rattle.rmt_refine.specs.Carries.{CarriesIn, all_edges}
 use Rattle.rmt_refine.proofs.EdgeLaws.{field_edge, in_order, run_beside, word_edge}
 use Rattle.rmt_refine.proofs.FieldLaws.{Goes}
-use Rattle.rmt_refine.proofs.FindLaws.{Contains-first, Contains-later, Contains-split, filter_keeps}
+use Rattle.rmt_refine.proofs.FindLaws.{filter_keeps}
+use Rattle.rmt_refine.proofs.MemberLaws.{Contains-map, any_passes}
 use Rattle.rmt_refine.proofs.NodeLaws.{part_there}
 
 -- ---- members
-
-pub Contains-map : {X Y : Type 0} (f : X → Y) (xs : List X) (x : X) → Contains xs x → Contains (map f xs) (f x)
-Contains-map f [] x there = absurd (let lt = there.1 in omega (arith, lt))
-Contains-map f (y ∷ ys) x there = elim (Contains-split y ys x there) [
-  | inl e ↦ subst (λ z. Contains (f y ∷ map f ys) (f z)) e (Contains-first (f y) (map f ys))
-  | inr later ↦ Contains-later (f y) (map f ys) (f x) (Contains-map f ys x later)
-]
-
-any_passes : {X : Type 0} (test : X → Bool) (xs : List X) (x : X) → Contains xs x → test x ≡ true → list_any test xs ≡ true
-any_passes test xs x there pass = list_any_at test xs there.0 x there.1 (subst (λ y. test y ≡ true) (sym there.2) pass)
 
 they_meet : (xs ys : List ℕ) (n : ℕ) → Contains xs n → Contains ys n → meet xs ys ≡ true
 they_meet xs ys n in_xs in_ys = any_passes (contains ys) xs n in_xs (any_passes (λ y. y == n) ys n in_ys (eq-eqb n n refl))

@@ -125,7 +125,7 @@ kind_of_part p places parts starts c n t k place stage slot carried at part =
 
 -- ---- its candidates
 
-cell_lt : (way row rows per w : ℕ) → way < 4 → row < rows → w < (way * rows + row) * per + 0 + per → w < 4 * rows * per
+pub cell_lt : (way row rows per w : ℕ) → way < 4 → row < rows → w < (way * rows + row) * per + 0 + per → w < 4 * rows * per
 cell_lt way row rows per w some_way some_row lt =
     let ways = mul-le way rows 3 rows (omega (arith, some_way)) (omega arith) in
     let more = mul-le (way * rows + row + 1) per (4 * rows) per (omega (arith, ways, some_row)) (omega arith) in

@@ -47,7 +47,7 @@ one_value values v w once (i, li, vi) (j, lj, wj) same =
 -- ---- those of an action
 
 -- the fields of a list are among those that are assigned to
-dests_known : (assigns : List Assign) (fields known : List ℕ) → All (Contains known) fields → All (λ (a : Assign). Contains known a.dest) assigns → All (Contains known) (fold with_dest fields assigns)
+pub dests_known : (assigns : List Assign) (fields known : List ℕ) → All (Contains known) fields → All (λ (a : Assign). Contains known a.dest) assigns → All (Contains known) (fold with_dest fields assigns)
 dests_known [] fields known so_far rest = so_far
 dests_known (a ∷ assigns) fields known so_far rest =
     let here : Contains known a.dest = All-head (λ (b : Assign). Contains known b.dest) a assigns rest in

@@ -1,0 +1,157 @@
+-- Joined and clustered parsers that are worked by hand.
+use Rattle.std.proofs.Common.{◌≡◌, ◌++◌, ℕ, List, [], ◌∷◌, None, length, map, refl}
+use Rattle.std.specs.Prelude.{codes}
+use Rattle.std.specs.List.{range_with_len}
+use Rattle.rmt_bits.specs.declared.lane.Lane.{Lane}
+use Rattle.rmt_ast.proofs.Programs.{field, two_headers, tail_between}
+use Rattle.rmt_ast.specs.declared.program.Case.{Case}
+use Rattle.rmt_ast.specs.declared.program.Field.{Field}
+use Rattle.rmt_ast.specs.declared.program.Program.{Program}
+use Rattle.rmt_ast.specs.declared.program.Target.{Target}
+use Rattle.rmt_ast.specs.declared.program.Target.TheVariants as target
+use Rattle.rmt_config.specs.declared.config.Extract.TheVariants.{Bits, One}
+use Rattle.rmt_config.specs.declared.config.Next.TheVariants as next
+use Rattle.rmt_config.specs.declared.config.ParserEntry.{ParserEntry}
+use Rattle.rmt_config.specs.Parser.{parse, Short}
+use Rattle.rmt_ptcam.specs.Plain.{plain}
+use Rattle.rmt_ptcam.specs.Joining.{join_of, byte_at, spread, together}
+use Rattle.rmt_ptcam.specs.Clustering.{arrivals, clustered}
+
+abbrev lane : ℕ → ℕ → ℕ → Lane
+lane word low len = record { word = word; low = low; len = len }
+
+-- in_port, out_port, drop, h.valid, h.k, g.valid, g.x; h.k shares its word with drop
+abbrev places : List (List Lane)
+places =
+    (lane 64 0 9 ∷ []) ∷ (lane 65 0 9 ∷ []) ∷ (lane 160 0 1 ∷ []) ∷ (lane 0 0 1 ∷ [])
+    ∷ (lane 160 1 8 ∷ []) ∷ (lane 1 0 1 ∷ []) ∷ (lane 66 0 16 ∷ []) ∷ []
+
+-- the entry of h that goes to g and the one of g in one: it needs both, and does all extracts; g's state can't be met
+two_in_one : (clustered two_headers places).entries
+    ≡ record { state = 0; value = 0x01000000; mask = 0xff000000; need = 3; advance = 3; next = next.Accept; extracts = One (lane 0 0 1) ∷ Bits 0 (lane 160 1 8) ∷ One (lane 1 0 1) ∷ Bits 8 (lane 66 0 16) ∷ [] }
+    ∷ record { state = 0; value = 0x02000000; mask = 0x03000000; need = 1; advance = 1; next = next.Accept; extracts = One (lane 0 0 1) ∷ Bits 0 (lane 160 1 8) ∷ [] }
+    ∷ record { state = 0; value = 0xff000000; mask = 0xff000000; need = 1; advance = 1; next = next.Reject; extracts = One (lane 0 0 1) ∷ Bits 0 (lane 160 1 8) ∷ [] }
+    ∷ record { state = 0; value = 0; mask = 0; need = 1; advance = 1; next = next.Accept; extracts = One (lane 0 0 1) ∷ Bits 0 (lane 160 1 8) ∷ [] }
+    ∷ []
+unfolding together
+two_in_one = refl
+
+one_state : (clustered two_headers places).states ≡ record { lookups = 0 ∷ [] } ∷ []
+unfolding together
+one_state = refl
+
+-- with g cut, or with no byte, the frame is too short
+cut : parse (clustered two_headers places) (1 ∷ 0xab ∷ []) ≡ Short
+unfolding together
+cut = refl
+
+-- an entry with a tail isn't joined
+with_tail : join_of (plain tail_between ((lane 64 0 9 ∷ []) ∷ (lane 65 0 9 ∷ []) ∷ (lane 0 0 1 ∷ []) ∷ (lane 1 0 1 ∷ []) ∷ (lane 2 0 8 ∷ []) ∷ (lane 3 0 1 ∷ []) ∷ (lane 4 0 8 ∷ []) ∷ [])) 0 0 ≡ None
+unfolding together
+with_tail = refl
+
+-- bytes 0 and 2 of one state, and bytes 0 and 1 of another one three bytes behind
+lookups_of_both : together (0 ∷ 2 ∷ []) 3 (0 ∷ 1 ∷ []) ≡ 0 ∷ 2 ∷ 3 ∷ 4 ∷ []
+unfolding together
+lookups_of_both = refl
+
+second_byte : byte_at (0 ∷ 2 ∷ []) 0xab120000 2 ≡ 0x12
+second_byte = refl
+
+over_more : spread (0 ∷ 2 ∷ []) (0 ∷ 1 ∷ 2 ∷ []) 0xab120000 ≡ 0xab001200
+over_more = refl
+
+-- ---- the headers of a switch: a tag, two versions of IP, and two protocols above them
+
+abbrev block : List ℕ → List Field
+block widths = field (codes "f.valid") 1 ∷ map (field (codes "f.x")) widths
+
+-- eth 3 to 6, vlan 7 to 11, ipv4 12 to 23, ipv6 24 to 32, tcp 33 to 42, udp 43 to 47
+abbrev switch_fields : List Field
+switch_fields =
+    field (codes "in_port") 9 ∷ field (codes "out_port") 9 ∷ field (codes "drop") 1 ∷ block (48 ∷ 48 ∷ 16 ∷ []) ++ (block (3 ∷ 1 ∷ 12 ∷ 16 ∷ [])
+    ++ (block (4 ∷ 4 ∷ 8 ∷ 16 ∷ 16 ∷ 3 ∷ 13 ∷ 8 ∷ 8 ∷ 16 ∷ 32 ∷ 32 ∷ []) ++ (block (4 ∷ 8 ∷ 20 ∷ 16 ∷ 8 ∷ 8 ∷ 128 ∷ 128 ∷ [])
+    ++ (block (16 ∷ 16 ∷ 32 ∷ 32 ∷ 4 ∷ 12 ∷ 16 ∷ 16 ∷ 16 ∷ []) ++ block (16 ∷ 16 ∷ 16 ∷ 16 ∷ [])))))
+
+abbrev one_test : ℕ → ℕ → Target → Case
+one_test width value to = record { tests = record { value = value; mask = width } ∷ []; target = to }
+
+abbrev two_tests : ℕ → ℕ → ℕ → Target → Case
+two_tests first second mask to = record { tests = record { value = first; mask = 0xf } ∷ record { value = second; mask = mask } ∷ []; target = to }
+
+abbrev switch : Program
+switch = record two_headers {
+  fields = switch_fields;
+  headers =
+      record {
+        name = codes "eth";
+        valid = 3;
+        fields = range_with_len 4 3;
+        bytes = 14;
+        tail = None;
+        select = 6 ∷ [];
+        cases = one_test 0xffff 0x8100 (target.Node 1) ∷ one_test 0xffff 0x0800 (target.Node 2) ∷ one_test 0xffff 0x86dd (target.Node 3) ∷ [];
+        other = target.Accept;
+      }
+      ∷ record {
+        name = codes "vlan";
+        valid = 7;
+        fields = range_with_len 8 4;
+        bytes = 4;
+        tail = None;
+        select = 11 ∷ [];
+        cases = one_test 0xffff 0x0800 (target.Node 2) ∷ one_test 0xffff 0x86dd (target.Node 3) ∷ [];
+        other = target.Accept;
+      }
+      ∷ record {
+        name = codes "ipv4";
+        valid = 12;
+        fields = range_with_len 13 12;
+        bytes = 20;
+        tail = None;
+        select = 14 ∷ 21 ∷ [];
+        cases = two_tests 5 6 0xff (target.Node 4) ∷ two_tests 5 17 0xff (target.Node 5) ∷ two_tests 5 0 0 target.Accept ∷ [];
+        other = target.Reject;
+      }
+      ∷ record {
+        name = codes "ipv6";
+        valid = 25;
+        fields = range_with_len 26 8;
+        bytes = 40;
+        tail = None;
+        select = 30 ∷ [];
+        cases = one_test 0xff 6 (target.Node 4) ∷ one_test 0xff 17 (target.Node 5) ∷ [];
+        other = target.Accept;
+      }
+      ∷ record { name = codes "tcp"; valid = 34; fields = range_with_len 35 9; bytes = 20; tail = None; select = []; cases = []; other = target.Accept }
+      ∷ record { name = codes "udp"; valid = 44; fields = range_with_len 45 4; bytes = 8; tail = None; select = []; cases = []; other = target.Accept }
+      ∷ [];
+}
+
+-- one case goes to the tag, and two to each version of IP
+arrive : map (arrivals switch) (0 ∷ 1 ∷ 2 ∷ 3 ∷ 4 ∷ 5 ∷ []) ≡ 0 ∷ 1 ∷ 2 ∷ 2 ∷ 2 ∷ 2 ∷ []
+arrive = refl
+
+-- no lane is told, so that extracts are few to write; the states and what they look up don't hang on them
+switch_states : (clustered switch []).states ≡ record { lookups = 12 ∷ 13 ∷ 16 ∷ 17 ∷ [] } ∷ record { lookups = 0 ∷ 9 ∷ [] } ∷ record { lookups = 6 ∷ [] } ∷ []
+unfolding together
+switch_states = refl
+
+switch_counts : length (clustered switch []).entries ∷ length (plain switch []).entries ∷ [] ≡ 13 ∷ 16 ∷ []
+unfolding together
+switch_counts = refl
+
+-- the tag and what is behind it stand first in the first state: need, value and mask of each entry
+switch_first : map (λ (e : ParserEntry). e.need) (clustered switch []).entries ≡ 18 ∷ 18 ∷ 18 ∷ 14 ∷ 14 ∷ 14 ∷ 40 ∷ 28 ∷ 20 ∷ 20 ∷ 60 ∷ 48 ∷ 40 ∷ []
+unfolding together
+switch_first = refl
+
+switch_values : map (λ (e : ParserEntry). e.value) (clustered switch []).entries
+    ≡ 0x81000800 ∷ 0x810086dd ∷ 0x81000000 ∷ 0x08000000 ∷ 0x86dd0000 ∷ 0 ∷ 0x05060000 ∷ 0x05110000 ∷ 0x05000000 ∷ 0 ∷ 0x06000000 ∷ 0x11000000 ∷ 0 ∷ []
+unfolding together
+switch_values = refl
+
+switch_masks : map (λ (e : ParserEntry). e.mask) (clustered switch []).entries
+    ≡ 0xffffffff ∷ 0xffffffff ∷ 0xffff0000 ∷ 0xffff0000 ∷ 0xffff0000 ∷ 0 ∷ 0x0fff0000 ∷ 0x0fff0000 ∷ 0x0f000000 ∷ 0 ∷ 0xff000000 ∷ 0xff000000 ∷ 0 ∷ []
+unfolding together
+switch_masks = refl

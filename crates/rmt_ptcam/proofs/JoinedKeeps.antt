@@ -1,0 +1,374 @@
+-- The rows of a joined parser, and what joining gives.
+use Rattle.std.proofs.Common.{◌≡◌, ◌≢◌, ◌&&◌, cond, eqb, nat_lt, Bool, true, false, ℕ, ◌+◌, ◌-◌, ◌*◌, ◌%◌, ◌^◌, ◌<◌, ◌≤◌, List, [], ◌∷◌, ◌++◌, get_or, length, map, take, drop, Option, Some, None, refl, sym, ap, subst, ◌∙◌, arith}
+use Rattle.std.specs.Prelude.{All, IfSome, nat_le, option_map, slice_get, slice_set, unwrap_or}
+use Rattle.std.specs.List.{list_all}
+use Rattle.std.specs.List.Sorted.{IsNonDecreasingBy}
+use Rattle.std.proofs.lemmas.Bool.{and_parts, and_from, lt-ltb, le-leb, ltb-true, leb-true, eqb-true, eqb-false}
+use Rattle.std.proofs.lemmas.List.{get_or-take, get_or-drop, get_or-map, length-append, length-drop, length-map, length-set, length-take}
+use Rattle.std.proofs.lemmas.List.Elements.{All-nil, All-cons, All-append, All-drop, All-head, All-map, All-set, All-tail, All-take, All-weaker}
+use Rattle.std.proofs.lemmas.List.Folds.{list_all-append, list_all-map}
+use Rattle.std.proofs.lemmas.Option.{get_or_from_slice_get, slice_get_within}
+use Rattle.rmt_config.specs.Order.{rises_from}
+use Rattle.rmt_config.specs.Parser.{tail_of}
+use Rattle.rmt_config.specs.declared.config.ParserConfig.{ParserConfig}
+use Rattle.rmt_config.specs.declared.config.ParserEntry.{ParserEntry}
+use Rattle.rmt_config.specs.declared.config.ParserState.{ParserState}
+use Rattle.rmt_config.specs.declared.config.Extract.{Extract}
+use Rattle.rmt_config.specs.declared.config.Extract.TheVariants.{Bits, One}
+use Rattle.rmt_config.specs.declared.config.Next.{Next}
+use Rattle.rmt_config.specs.declared.config.Next.TheVariants as next
+use Rattle.rmt_config.specs.declared.config.TailOf.{TailOf}
+use Rattle.rmt_config.specs.LaneForm.{lane_is_formed}
+use Rattle.rmt_config.specs.ParserForm.{extract_is_formed, lookups_of, next_is_formed, state_is_formed}
+use Rattle.rmt_ptcam.specs.Joining.{IsGood, KeepsForm, Row, both, byte_at, can_join, entries_in, join_at, join_to, joined, joined_entry, joined_row, lookups_at, moved, rows_in, rows_of, spread, together, widened, widened_entry}
+use Rattle.rmt_ptcam.proofs.AddingLaws.{length_rows, row_of}
+use Rattle.rmt_ptcam.proofs.FormLaws.{sorted-append, sorted-same}
+use Rattle.rmt_ptcam.proofs.FormedRows.{IsFormed, IsRow, IsRowTail, entries_of_rows, rows_are}
+use Rattle.rmt_ptcam.proofs.JoinFacts.{MayJoin, RiseLow, are_joined, entry_compares, lookups_formed, may_join, rows_in_entries}
+use Rattle.rmt_ptcam.proofs.JoinedForm.{made_keeps}
+use Rattle.rmt_ptcam.proofs.JoinedParse.{formed_e, get_set_other, get_set_same, joined_alike, next_there, second_formed, second_own}
+use Rattle.rmt_ptcam.proofs.LookupLaws.{Compares, byte_small, compares_at, compares_by}
+use Rattle.rmt_ptcam.proofs.TogetherLaws.{both_compares, few_here, list_all_below, together_low, together_rises}
+
+-- ---- extracts of a joined entry
+
+wider_extract : (need more : ℕ) (x : Extract) → need ≤ more → extract_is_formed need x ≡ true → extract_is_formed more x ≡ true
+wider_extract need more (One lane) le is = is
+wider_extract need more (Bits from lane) le is =
+    let a : ((nat_lt from 65536 && lane_is_formed lane) ≡ true) × (nat_le (from + lane.len) (8 * need) ≡ true) = and_parts (nat_lt from 65536 && lane_is_formed lane) (nat_le (from + lane.len) (8 * need)) is in
+    let within : from + lane.len ≤ 8 * need = leb-true (from + lane.len) (8 * need) a.1 in
+    and_from (nat_lt from 65536 && lane_is_formed lane) (nat_le (from + lane.len) (8 * more)) a.0 (le-leb (from + lane.len) (8 * more) (omega (arith, within, le)))
+
+moved_extract : (bytes need more : ℕ) (x : Extract) → bytes + need ≤ more → more ≤ 128 → extract_is_formed need x ≡ true → extract_is_formed more (moved bytes x) ≡ true
+moved_extract bytes need more (One lane) le few is = is
+moved_extract bytes need more (Bits from lane) le few is =
+    let a : ((nat_lt from 65536 && lane_is_formed lane) ≡ true) × (nat_le (from + lane.len) (8 * need) ≡ true) = and_parts (nat_lt from 65536 && lane_is_formed lane) (nat_le (from + lane.len) (8 * need)) is in
+    let b : (nat_lt from 65536 ≡ true) × (lane_is_formed lane ≡ true) = and_parts (nat_lt from 65536) (lane_is_formed lane) a.0 in
+    let within : from + lane.len ≤ 8 * need = leb-true (from + lane.len) (8 * need) a.1 in
+    and_from (nat_lt (from + 8 * bytes) 65536 && lane_is_formed lane) (nat_le (from + 8 * bytes + lane.len) (8 * more))
+    (and_from (nat_lt (from + 8 * bytes) 65536) (lane_is_formed lane) (lt-ltb (from + 8 * bytes) 65536 (omega (arith, within, le, few))) b.1)
+    (le-leb (from + 8 * bytes + lane.len) (8 * more) (omega (arith, within, le)))
+
+all_from : {X : Type 0} (p q : X → Bool) (xs : List X) → ((x : X) → p x ≡ true → q x ≡ true) → list_all p xs ≡ true → list_all q xs ≡ true
+all_from p q [] each is = refl
+all_from p q (x ∷ xs) each is =
+    let parts : (p x ≡ true) × (list_all p xs ≡ true) = and_parts (p x) (list_all p xs) is in
+    and_from (q x) (list_all q xs) (each x parts.0) (all_from p q xs each parts.1)
+
+-- a next state that is behind a later one is behind an earlier one
+earlier_next : (states first second : ℕ) (to : Next) → first < second → next_is_formed states second to ≡ true → next_is_formed states first to ≡ true
+earlier_next states first second next.Accept lt is = refl
+earlier_next states first second next.Reject lt is = refl
+earlier_next states first second (next.State s) lt is =
+    let a : ((nat_lt s states && nat_lt s 256) ≡ true) × (nat_lt second s ≡ true) = and_parts (nat_lt s states && nat_lt s 256) (nat_lt second s) is in
+    let behind : second < s = ltb-true second s a.1 in
+    and_from (nat_lt s states && nat_lt s 256) (nat_lt first s) a.0 (lt-ltb first s (omega (arith, behind, lt)))
+
+-- the rows of a parser stand by state
+pub sorted_rows : (parser : ParserConfig) → KeepsForm parser → IsNonDecreasingBy (λ (x : Row). x.entry.state) (rows_of parser)
+sorted_rows parser keeps i j d le lt =
+    let same : map (λ (x : Row). x.entry) (rows_of parser) ≡ parser.entries = entries_of_rows parser 0 parser.entries in
+    let sorted : IsNonDecreasingBy (λ (x : ParserEntry). x.state) (map (λ (x : Row). x.entry) (rows_of parser)) = subst (λ (es : List ParserEntry). IsNonDecreasingBy (λ (x : ParserEntry). x.state) es) (sym same) keeps.fits.by_state in
+    let long = length-map (rows_of parser) (λ (x : Row). x.entry) in
+    let one = ap (λ (x : ParserEntry). x.state) (get_or-map (λ (x : Row). x.entry) (rows_of parser) i d d.entry (omega (arith, le, lt))) in
+    let two = ap (λ (x : ParserEntry). x.state) (get_or-map (λ (x : Row). x.entry) (rows_of parser) j d d.entry lt) in
+    let three = sorted i j d.entry le (omega (arith, long, lt)) in
+    omega (arith, one, two, three)
+
+-- ---- the rows of a joined parser
+
+module _ (parser : ParserConfig) (keeps : KeepsForm parser) (at : ℕ) (e : ParserEntry) (m : ℕ) (there : slice_get parser.entries at ≡ Some e) (on : e.next ≡ next.State m) (may : MayJoin parser at e m) where
+  abbrev n : ℕ
+  n = e.state
+
+  abbrev here : List ℕ
+  here = lookups_at parser.states n
+
+  abbrev behind : List ℕ
+  behind = lookups_at parser.states m
+
+  abbrev to : List ℕ
+  to = together here e.advance behind
+
+  abbrev states : List ParserState
+  states = slice_set parser.states n (record { lookups = to })
+
+  abbrev front : List Row
+  front = take at (rows_of parser)
+
+  abbrev back : List Row
+  back = drop (at + 1) (rows_of parser)
+
+  abbrev second : List Row
+  second = rows_in m (rows_of parser)
+
+  abbrev widen : Row → Row
+  widen = widened here to n
+
+  abbrev join_row : Row → Row
+  join_row = joined_row here behind e
+
+  first : IsFormed parser.states e
+  first = formed_e parser keeps at e m there on may
+
+  as_many : length states ≡ length parser.states
+  as_many = length-set parser.states n (record { lookups = to })
+
+  own_lookups : lookups_of states n ≡ length to
+  own_lookups = ap (λ (o : Option ParserState). unwrap_or (option_map (λ (s : ParserState). length s.lookups) o) 0) (get_set_same parser.states n (record { lookups = to }) first.state_there)
+
+  other_lookups : (s : ℕ) → s ≢ n → lookups_of states s ≡ lookups_of parser.states s
+  other_lookups s other = ap (λ (o : Option ParserState). unwrap_or (option_map (λ (x : ParserState). length x.lookups) o) 0) (get_set_other parser.states n s (record { lookups = to }) other)
+
+  -- a row of another state
+  kept_row : (x : Row) → x.entry.state ≢ n → IsRow parser.states x → IsRow states x
+  kept_row x other is = record {
+    entry = record {
+      state_there = subst (λ k. x.entry.state < k) (sym as_many) is.entry.state_there;
+      state_small = is.entry.state_small;
+      mask_small = is.entry.mask_small;
+      masked = is.entry.masked;
+      mask_within = ap (λ k. x.entry.mask % 2 ^ (8 * (4 - k))) (other_lookups x.entry.state other) ∙ is.entry.mask_within;
+      need_small = is.entry.need_small;
+      advance = is.entry.advance;
+      next = subst (λ k. next_is_formed k x.entry.state x.entry.next ≡ true) (sym as_many) is.entry.next;
+      few = is.entry.few;
+      extracts = is.entry.extracts;
+    };
+    tail = is.tail;
+  }
+
+  -- a row of the state, over more lookups
+  own_row : (x : Row) → x.entry.state ≡ n → IsRow parser.states x → IsRow states (record x { entry = widened_entry here to x.entry })
+  own_row x own is =
+      let lists : RiseLow here = lookups_formed parser.states n keeps.states in
+      let few : length here ≤ 4 = few_here here e.advance behind lists.rises lists.low may.few in
+      let old : Compares here x.entry.mask x.entry.value = entry_compares parser.states x.entry n is.entry own in
+      let new : Compares to (spread here to x.entry.mask) (spread here to x.entry.value) =
+      compares_by (byte_at here x.entry.mask) (byte_at here x.entry.value) (byte_small here x.entry.mask) (byte_small here x.entry.value)
+      (compares_at 0 here x.entry.mask x.entry.value lists.rises few old) to may.few in
+      record {
+        entry = record {
+          state_there = subst (λ k. x.entry.state < k) (sym as_many) is.entry.state_there;
+          state_small = is.entry.state_small;
+          mask_small = new.mask.small;
+          masked = new.within;
+          mask_within = ap (λ k. spread here to x.entry.mask % 2 ^ (8 * (4 - k))) (ap (lookups_of states) own ∙ own_lookups) ∙ new.mask.within;
+          need_small = is.entry.need_small;
+          advance = is.entry.advance;
+          next = subst (λ k. next_is_formed k x.entry.state x.entry.next ≡ true) (sym as_many) is.entry.next;
+          few = is.entry.few;
+          extracts = is.entry.extracts;
+        };
+        tail = same_need x.tail is.tail;
+      }
+    where
+      same_need : (o : Option TailOf) → IfSome o (IsRowTail x.entry) → IfSome o (IsRowTail (widened_entry here to x.entry))
+      same_need None fits = tt
+      same_need (Some t) fits = record { header = fits.header; few_bits = fits.few_bits; within = fits.within }
+
+  widened_row : (x : Row) → IsRow parser.states x → IsRow states (widen x)
+  widened_row x is = by (eqb x.entry.state n) refl
+    where
+      by : (b : Bool) → eqb x.entry.state n ≡ b → IsRow states (cond b (record x { entry = widened_entry here to x.entry }) x)
+      by true own = own_row x (eqb-true x.entry.state n own) is
+      by false other = kept_row x (eqb-false x.entry.state n other) is
+
+  -- a joined row
+  new_row : (y : Row) → y.entry.state ≡ m → IsRow parser.states y → (e.need + y.entry.need ≤ 128) × (length e.extracts + length y.entry.extracts ≤ 64) → IsRow states (join_row y)
+  new_row y own is light =
+      let f : ParserEntry = y.entry in
+      let words = are_joined parser at e f m keeps may first is.entry own in
+      let new : Compares to (both here e.advance behind e.mask f.mask) (both here e.advance behind e.value f.value) = both_compares here e.advance behind e.mask e.value f.mask f.value words in
+      let later : n < m = ltb-true n m (next_there parser keeps at e m there on may).1 in
+      let need : e.need + f.need ≤ 128 = light.0 in
+      let first_within = first.advance in
+      let second_within = is.entry.advance in
+      record {
+        entry = record {
+          state_there = subst (λ k. n < k) (sym as_many) first.state_there;
+          state_small = first.state_small;
+          mask_small = new.mask.small;
+          masked = new.within;
+          mask_within = ap (λ k. both here e.advance behind e.mask f.mask % 2 ^ (8 * (4 - k))) own_lookups ∙ new.mask.within;
+          need_small = omega (arith, need);
+          advance = omega (arith, first_within, second_within);
+          next = earlier_next (length states) n m f.next later (subst (λ k. next_is_formed k m f.next ≡ true) (sym as_many) (subst (λ s. next_is_formed (length parser.states) s f.next ≡ true) own is.entry.next));
+          few = let long = length-append e.extracts (map (moved e.advance) f.extracts) in let some = length-map f.extracts (moved e.advance) in let all = light.1 in omega (arith, long, some, all);
+          extracts =
+              list_all-append (extract_is_formed (e.need + f.need)) e.extracts (map (moved e.advance) f.extracts)
+              ∙ and_from (list_all (extract_is_formed (e.need + f.need)) e.extracts) (list_all (extract_is_formed (e.need + f.need)) (map (moved e.advance) f.extracts))
+              (all_from (extract_is_formed e.need) (extract_is_formed (e.need + f.need)) e.extracts (λ x h. wider_extract e.need (e.need + f.need) x (omega arith) h) first.extracts)
+              (list_all-map (extract_is_formed (e.need + f.need)) (moved e.advance) f.extracts
+              ∙ all_from (extract_is_formed f.need) (λ x. extract_is_formed (e.need + f.need) (moved e.advance x)) f.extracts
+              (λ x h. moved_extract e.advance f.need (e.need + f.need) x (omega (arith, first_within)) need h) is.entry.extracts);
+        };
+        tail = by y.tail is.tail;
+      }
+    where
+      by : (o : Option TailOf) → IfSome o (IsRowTail y.entry) → IfSome (option_map (λ (t : TailOf). record t { from = t.from + 8 * e.advance }) o) (IsRowTail (joined_entry here behind e y.entry))
+      by None fits = tt
+      by (Some t) fits = record {
+        header = fits.header;
+        few_bits = fits.few_bits;
+        within = let a = fits.within in let b = first.advance in omega (arith, a, b);
+      }
+
+  abbrev rows : List Row
+  rows = map widen front ++ (map join_row second ++ map widen back)
+
+  second_light : All (λ (y : Row). (e.need + y.entry.need ≤ 128) × (length e.extracts + length y.entry.extracts ≤ 64)) second
+  second_light =
+      let P : ParserEntry → Type 0 = λ f. (e.need + f.need ≤ 128) × (length e.extracts + length f.extracts ≤ 64) in
+      All_back P second (subst (λ (es : List ParserEntry). All P es) (sym (rows_in_entries parser m 0 parser.entries)) may.light)
+    where
+      All_back : (P : ParserEntry → Type 0) (xs : List Row) → All P (map (λ (x : Row). x.entry) xs) → All (λ (x : Row). P x.entry) xs
+      All_back P [] each = All-nil (λ (x : Row). P x.entry)
+      All_back P (x ∷ xs) each = All-cons (λ (x : Row). P x.entry) x xs (All-head P x.entry (map (λ (y : Row). y.entry) xs) each) (All_back P xs (All-tail P x.entry (map (λ (y : Row). y.entry) xs) each))
+
+  pub rows_formed : All (IsRow states) rows
+  rows_formed =
+      let all : All (IsRow parser.states) (rows_of parser) = rows_are parser keeps in
+      let wide : (xs : List Row) → All (IsRow parser.states) xs → All (IsRow states) (map widen xs) =
+      λ xs each. All-map (IsRow states) widen xs (All-weaker (IsRow parser.states) (λ (x : Row). IsRow states (widen x)) widened_row xs each) in
+      All-append (IsRow states) (map widen front) (map join_row second ++ map widen back) (wide front (All-take (IsRow parser.states) at (rows_of parser) all))
+      (All-append (IsRow states) (map join_row second) (map widen back)
+      (All-map (IsRow states) join_row second (λ k d lt.
+      new_row (get_or second k d) (second_own parser keeps at e m there on may k d lt) (second_formed parser keeps at e m there on may k d lt) (second_light k d lt)))
+      (wide back (All-drop (IsRow parser.states) (at + 1) (rows_of parser) all)))
+
+  -- ---- in order
+
+  abbrev state_of : Row → ℕ
+  state_of x = x.entry.state
+
+  widen_state : (x : Row) → state_of (widen x) ≡ state_of x
+  widen_state x = by (eqb x.entry.state n)
+    where
+      by : (b : Bool) → state_of (cond b (record x { entry = widened_entry here to x.entry }) x) ≡ state_of x
+      by true = refl
+      by false = refl
+
+  sorted_widen : (xs : List Row) → IsNonDecreasingBy state_of xs → IsNonDecreasingBy state_of (map widen xs)
+  sorted_widen xs sorted i j d le lt =
+      let long = length-map xs widen in
+      let inside : j < length xs = omega (arith, long, lt) in
+      let one : state_of (get_or (map widen xs) i d) ≡ state_of (get_or xs i d) = ap state_of (get_or-map widen xs i d d (omega (arith, le, inside))) ∙ widen_state (get_or xs i d) in
+      let two : state_of (get_or (map widen xs) j d) ≡ state_of (get_or xs j d) = ap state_of (get_or-map widen xs j d d inside) ∙ widen_state (get_or xs j d) in
+      let three = sorted i j d le inside in
+      omega (arith, one, two, three)
+
+  sorted_all : IsNonDecreasingBy state_of (rows_of parser)
+  sorted_all = sorted_rows parser keeps
+
+  at_own : (d : Row) → (state_of (get_or (rows_of parser) at d) ≡ n) × (at < length (rows_of parser))
+  at_own d =
+      let found : slice_get (rows_of parser) at ≡ Some (record { entry = e; tail = tail_of parser at }) = row_of parser at e there in
+      (ap state_of (get_or_from_slice_get (rows_of parser) at (record { entry = e; tail = tail_of parser at }) d found), slice_get_within (rows_of parser) at (record { entry = e; tail = tail_of parser at }) found)
+
+  sorted_front : IsNonDecreasingBy state_of front
+  sorted_front i j d le lt =
+      let long = length-take at (rows_of parser) in
+      let one = ap state_of (get_or-take at (rows_of parser) i d (omega (arith, long, le, lt))) in
+      let two = ap state_of (get_or-take at (rows_of parser) j d (omega (arith, long, lt))) in
+      let three = sorted_all i j d le (omega (arith, long, lt)) in
+      omega (arith, one, two, three)
+
+  sorted_back : IsNonDecreasingBy state_of back
+  sorted_back i j d le lt =
+      let long = length-drop (at + 1) (rows_of parser) in
+      let one = ap state_of (get_or-drop (at + 1) (rows_of parser) i d) in
+      let two = ap state_of (get_or-drop (at + 1) (rows_of parser) j d) in
+      let three = sorted_all (at + 1 + i) (at + 1 + j) d (omega (arith, le)) (omega (arith, long, lt)) in
+      omega (arith, one, two, three)
+
+  front_low : All (λ (x : Row). state_of x ≤ n) front
+  front_low k d lt =
+      let long = length-take at (rows_of parser) in
+      let own = at_own d in
+      let one = ap state_of (get_or-take at (rows_of parser) k d (omega (arith, long, lt))) in
+      let three = sorted_all k at d (omega (arith, long, lt)) own.1 in
+      omega (arith, one, three, own.0)
+
+  back_high : All (λ (x : Row). n ≤ state_of x) back
+  back_high k d lt =
+      let long = length-drop (at + 1) (rows_of parser) in
+      let own = at_own d in
+      let two = ap state_of (get_or-drop (at + 1) (rows_of parser) k d) in
+      let three = sorted_all at (at + 1 + k) d (omega arith) (omega (arith, long, lt)) in
+      omega (arith, two, three, own.0)
+
+  widened_low : All (λ (x : Row). state_of x ≤ n) (map widen front)
+  widened_low = All-map (λ (x : Row). state_of x ≤ n) widen front (λ k d lt. subst (λ s. s ≤ n) (sym (widen_state (get_or front k d))) (front_low k d lt))
+
+  widened_high : All (λ (x : Row). n ≤ state_of x) (map widen back)
+  widened_high = All-map (λ (x : Row). n ≤ state_of x) widen back (λ k d lt. subst (λ s. n ≤ s) (sym (widen_state (get_or back k d))) (back_high k d lt))
+
+  joined_own : All (λ (x : Row). state_of x ≡ n) (map join_row second)
+  joined_own = All-map (λ (x : Row). state_of x ≡ n) join_row second (λ k d lt. refl)
+
+  rows_sorted : IsNonDecreasingBy state_of rows
+  rows_sorted =
+      sorted-append state_of (map widen front) (map join_row second ++ map widen back) n widened_low
+      (All-append (λ (x : Row). n ≤ state_of x) (map join_row second) (map widen back) (All-weaker (λ (x : Row). state_of x ≡ n) (λ (x : Row). n ≤ state_of x) (λ (x : Row) same. omega (arith, same)) (map join_row second) joined_own) widened_high)
+      (sorted_widen front sorted_front)
+      (sorted-append state_of (map join_row second) (map widen back) n (All-weaker (λ (x : Row). state_of x ≡ n) (λ (x : Row). state_of x ≤ n) (λ (x : Row) same. omega (arith, same)) (map join_row second) joined_own) widened_high
+      (sorted-same state_of (map join_row second) n joined_own) (sorted_widen back sorted_back))
+
+  pub rows_count : length rows + 1 ≡ length parser.entries + length (entries_in m parser.entries)
+  rows_count =
+      let a = length-append (map widen front) (map join_row second ++ map widen back) in
+      let b = length-append (map join_row second) (map widen back) in
+      let c = length-map front widen in
+      let d = length-map second join_row in
+      let f = length-map back widen in
+      let g = length-take at (rows_of parser) in
+      let h = length-drop (at + 1) (rows_of parser) in
+      let i = length_rows parser in
+      let j = slice_get_within parser.entries at e there in
+      let k : length second ≡ length (entries_in m parser.entries) = sym (length-map second (λ (x : Row). x.entry)) ∙ ap length (rows_in_entries parser m 0 parser.entries) in
+      omega (arith, a, b, c, d, f, g, h, i, j, k)
+
+  states_formed : All (λ s. state_is_formed s ≡ true) states
+  states_formed =
+      All-set (λ s. state_is_formed s ≡ true) parser.states n (record { lookups = to })
+      (and_from (rises_from 0 to) (list_all (λ o. nat_lt o 128) to) (together_rises here behind e.advance)
+      (list_all_below to (together_low here behind e.advance))) keeps.states
+
+  pub joined_keeps : KeepsForm (joined parser at e m)
+  joined_keeps = let count = rows_count in let room = may.room in made_keeps states rows (omega (arith, count, room)) states_formed rows_formed rows_sorted
+
+-- ---- what joining gives
+
+pub join_good : (parser : ParserConfig) → KeepsForm parser → (at : ℕ) (o : Option ParserEntry) → slice_get parser.entries at ≡ o → IfSome (join_at parser at o) (IsGood parser)
+join_good parser keeps at None there = tt
+join_good parser keeps at (Some e) there = by e.next refl
+  where
+    when : (m : ℕ) (b : Bool) → e.next ≡ next.State m → can_join parser at e m ≡ b → IfSome (cond b (Some (joined parser at e m)) None) (IsGood parser)
+    when m true on can =
+        let may : MayJoin parser at e m = may_join parser at e m can in
+        record { alike = joined_alike parser keeps at e m there on may; keeps = joined_keeps parser keeps at e m there on may }
+    when m false on can = tt
+
+    by : (to : Next) → e.next ≡ to → IfSome (join_to parser at e to) (IsGood parser)
+    by next.Accept on = tt
+    by next.Reject on = tt
+    by (next.State m) on = when m (can_join parser at e m) on refl
+
+-- at most one entry goes
+pub join_counts : (parser : ParserConfig) → KeepsForm parser → (at : ℕ) (o : Option ParserEntry) → slice_get parser.entries at ≡ o → IfSome (join_at parser at o) (λ q. length parser.entries ≤ length q.entries + 1)
+join_counts parser keeps at None there = tt
+join_counts parser keeps at (Some e) there = by e.next refl
+  where
+    when : (m : ℕ) (b : Bool) → e.next ≡ next.State m → can_join parser at e m ≡ b → IfSome (cond b (Some (joined parser at e m)) None) (λ q. length parser.entries ≤ length q.entries + 1)
+    when m true on can =
+        let may : MayJoin parser at e m = may_join parser at e m can in
+        let count = rows_count parser keeps at e m there on may in
+        let long = length-map (rows parser keeps at e m there on may) (λ (x : Row). x.entry) in
+        omega (arith, count, long)
+    when m false on can = tt
+
+    by : (to : Next) → e.next ≡ to → IfSome (join_to parser at e to) (λ q. length parser.entries ≤ length q.entries + 1)
+    by next.Accept on = tt
+    by next.Reject on = tt
+    by (next.State m) on = when m (can_join parser at e m) on refl

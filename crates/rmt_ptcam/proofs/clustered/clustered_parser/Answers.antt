@@ -1,0 +1,37 @@
+use Rattle.std.proofs.Common.{◌≡◌, None, ap, sym, subst, ◌∙◌, arith}
+use Rattle.std.specs.Prelude.{length}
+use Rattle.std.proofs.lemmas.List.{length-map}
+use Rattle.rmt_config.specs.declared.config.ParserConfig.{ParserConfig}
+use Rattle.rmt_ptcam.specs.Joining.{KeepsForm}
+use Rattle.rmt_ptcam.specs.Needs.{refusal}
+use Rattle.rmt_ptcam.specs.Plain.{plain, state_of}
+use Rattle.rmt_ptcam.proofs.ClusteringLaws.{planned_ok, states_all}
+use Rattle.rmt_ptcam.proofs.PlainForm.{plain_keeps}
+use Rattle.rmt_ptcam.proofs.clustered.clustered_parser.Goals as goal
+
+pub all_joined-requires-clause-keeps : goal.all_joined-requires-clause-keeps
+all_joined-requires-clause-keeps c =
+    let p = c.args.program.now in
+    let places = c.args.places.now in
+    let made : (refusal p ≡ None) × (c.in_ok-parser.parser ≡ plain p places) = planned_ok p places c.in_ok-parser.parser (c.in_ok-parser.ensures.made (λ e. cc)) in
+    subst KeepsForm (sym made.1) (plain_keeps p places c.requires.program c.requires.places made.0)
+
+pub compact-requires-clause-some : goal.compact-requires-clause-some
+compact-requires-clause-some c =
+    let p = c.args.program.now in
+    let places = c.args.places.now in
+    let made : (refusal p ≡ None) × (c.in_ok-parser.parser ≡ plain p places) = planned_ok p places c.in_ok-parser.parser (c.in_ok-parser.ensures.made (λ e. cc)) in
+    let a : length c.all_joined.new.parser.states ≡ length c.in_ok-parser.parser.states = ap (λ (q : ParserConfig). length q.states) c.in_ok-all_joined.ensures.joined ∙ states_all p c.in_ok-parser.parser in
+    let b : length c.in_ok-parser.parser.states ≡ length p.headers = ap (λ (q : ParserConfig). length q.states) made.1 ∙ length-map p.headers (state_of p) in
+    let some = c.requires.program.counts.a_header in
+    omega (arith, a, b, some)
+
+pub compact-requires-clause-few : goal.compact-requires-clause-few
+compact-requires-clause-few c =
+    let p = c.args.program.now in
+    let places = c.args.places.now in
+    let made : (refusal p ≡ None) × (c.in_ok-parser.parser ≡ plain p places) = planned_ok p places c.in_ok-parser.parser (c.in_ok-parser.ensures.made (λ e. cc)) in
+    let a : length c.all_joined.new.parser.states ≡ length c.in_ok-parser.parser.states = ap (λ (q : ParserConfig). length q.states) c.in_ok-all_joined.ensures.joined ∙ states_all p c.in_ok-parser.parser in
+    let b : length c.in_ok-parser.parser.states ≡ length p.headers = ap (λ (q : ParserConfig). length q.states) made.1 ∙ length-map p.headers (state_of p) in
+    let few = c.requires.program.counts.headers in
+    omega (arith, a, b, few)

@@ -1,0 +1,15 @@
+use Rattle.std.proofs.Common.{◌≡◌, ◌+◌, ◌-◌, arith}
+use Rattle.rmt_ptcam.specs.Clustering.{all_joined}
+use Rattle.rmt_ptcam.proofs.ClusteringLaws.{good_on, headers_less}
+use Rattle.rmt_ptcam.proofs.clustering.all_joined.Goals as goal
+
+pub loop-left-preserved : goal.loop-left-preserved
+loop-left-preserved c =
+    let left = c.loop-left.left in
+    record {
+      so_far =
+          headers_less c.args.program.now left (left - 1) c.loop-left.parser c.one_header.new.parser (all_joined c.args.program.now c.args.parser.now)
+          (let one : left ≡ left - 1 + 1 = omega arith in one) c.in_ok-one_header.ensures.step c.loop-left.invariant.so_far;
+      good = good_on c.args.parser.now c.loop-left.parser c.one_header.new.parser c.loop-left.invariant.good c.in_ok-one_header.ensures.good;
+      few = let few = c.loop-left.invariant.few in omega (arith, few);
+    }

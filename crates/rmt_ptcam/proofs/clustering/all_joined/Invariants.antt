@@ -1,0 +1,15 @@
+use Rattle.std.proofs.Common.{◌≡◌, ◌≤◌, fold, reverse}
+use Rattle.std.specs.List.{range_with_len}
+use Rattle.rmt_ptcam.specs.Joining.{IsGood}
+use Rattle.rmt_ptcam.specs.Clustering.{all_joined, one_header}
+use Rattle.rmt_ptcam.proofs.clustering.all_joined.Given as goal
+
+abbrev pub decreases-loop-left : goal.decreases-loop-left
+decreases-loop-left l = l.left
+
+abbrev pub invariant-loop-left : goal.invariant-loop-left
+invariant-loop-left l = record {
+  so_far : fold (one_header l.program) l.parser (reverse (range_with_len 0 l.left)) ≡ all_joined l.program l.initial.parser;
+  good : IsGood l.initial.parser l.parser;
+  few : l.left ≤ 64;
+}

@@ -1,0 +1,21 @@
+use Rattle.std.proofs.Common.{◌≡◌, List, ap, ◌∙◌, arith}
+use Rattle.rmt_config.specs.declared.config.ParserEntry.{ParserEntry}
+use Rattle.rmt_ptcam.proofs.AddingLaws.{numbers_within}
+use Rattle.rmt_config.specs.declared.config.ParserConfig.{ParserConfig}
+use Rattle.std.proofs.lemmas.Option.{IfSome_then}
+use Rattle.rmt_ptcam.specs.Joining.{number_of_entry}
+use Rattle.rmt_ptcam.proofs.joining.join.Goals as goal
+
+pub returns-clause-alike : goal.returns-clause-alike
+returns-clause-alike c = IfSome_then c.in_ok-join_at.field-0 c.in_ok-join_at.ensures.good (λ (q : ParserConfig) good. good.alike)
+
+pub returns-clause-keeps : goal.returns-clause-keeps
+returns-clause-keeps c = IfSome_then c.in_ok-join_at.field-0 c.in_ok-join_at.ensures.good (λ (q : ParserConfig) good. good.keeps)
+
+pub join_at-requires-clause-there : goal.join_at-requires-clause-there
+join_at-requires-clause-there c =
+    let es = c.args.parser.now.entries in
+    let own = c.requires.there in
+    let within = numbers_within c.args.state es in
+    let at : c.number_of_entry-at.result ≡ number_of_entry es c.args.state c.args.entry = c.number_of_entry-at.ensures ∙ ap (λ (xs : List ParserEntry). number_of_entry xs c.args.state c.args.entry) c.as_slice.ensures in
+    omega (arith, own, within, at)

@@ -1,0 +1,47 @@
+//! The clustered parser of a program: several headers in one step.
+
+ghost use Rattle.std.specs.Prelude.{◌≡◌, ◌≢◌, Err, IfOk};
+ghost use Rattle.rmt_ast.specs.WellFormed.{IsProgram};
+ghost use Rattle.rmt_config.specs.Agreement.{AgreesWith};
+ghost use Rattle.rmt_phv.specs.Places.{KeepsApart};
+ghost use Rattle.rmt_ptcam.specs.declared.fault.ParserFault.TheVariants.{NoMemory};
+ghost use Rattle.rmt_ptcam.specs.Clustering.{clustered_or};
+ghost use Rattle.rmt_ptcam.specs.Joining.{KeepsForm};
+
+use crate::clustering::all_joined;
+use crate::compact::compact;
+use crate::fault::ParserFault;
+use crate::plain::plain_parser;
+use rmt_ast::program::Program;
+use rmt_config::config::ParserConfig;
+use rmt_phv::places::Places;
+use std::alloc::Global;
+
+/// The clustered parser of a program, into these places of its fields: the plain parser, some of whose entries are joined.
+///
+/// Headers are taken from the last to the first, and each of their entries once, from the first to the last. An entry that
+/// goes to a header is joined to the entries that stand for it by then, where these are one, or no other case or `else` of
+/// the program goes to that header; and where it can be, as `join` says. States that can't be met are left out, and the
+/// others numbered in order.
+///
+/// # Errors
+///
+/// As `plain_parser`.
+pub fn clustered_parser(
+    alloc: Global,
+    program: &Program,
+    places: &Places,
+) -> Result<ParserConfig, ParserFault>
+    requires program { IsProgram program.now }
+    requires places { KeepsApart program.now places.now }
+    // Which parser, or which refusal, unless memory runs out.
+    ensures made { result ≢ Err NoMemory → result ≡ clustered_or program.now places.now }
+    // It keeps the rules of form, so the chip can run it.
+    ensures keeps { IfOk result KeepsForm }
+    // The chip's parse of each frame, whole or cut, ends as the walk of the program's parse graph does.
+    ensures agrees { IfOk result (λ parser. AgreesWith parser places.now program.now) }
+{
+    let mut parser = plain_parser(alloc, program, places)?;
+    all_joined(alloc, program, &mut parser)?;
+    Ok(compact(alloc, &parser)?)
+}
