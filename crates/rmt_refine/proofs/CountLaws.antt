@@ -52,7 +52,7 @@ zero_either true = refl
 zero_either false = refl
 
 -- what stands below the next number stands below this one, or is it
-below_next : (a k x : ℕ) → cond (nat_lt a (k + 1)) x 0 ≡ cond (nat_lt a k) x 0 + cond (a == k) x 0
+pub below_next : (a k x : ℕ) → cond (nat_lt a (k + 1)) x 0 ≡ cond (nat_lt a k) x 0 + cond (a == k) x 0
 below_next a k x = elim (compare a k) [
   | inl lt ↦ rw (lt-ltb a (k + 1) (omega (arith, lt)), lt-ltb a k lt, eqb_false a k (λ e. omega (arith, e, lt))) (omega arith)
   | inr more ↦ elim more [
