@@ -1,14 +1,16 @@
 //! Texts through tokens, syntax and check: the fault of each, or its program.
 
-ghost use Rattle.std.specs.Prelude.{◌<◌, length};
+ghost use Rattle.std.specs.Prelude.{◌<◌, length, IfOk};
+ghost use Rattle.rmt_ast.specs.WellFormed.{IsProgram};
 
 pub(crate) mod programs;
-mod shown;
+pub(crate) mod shown;
 
 use crate::check::programs::{ARMS, ARMS_SHOWN, REALISTIC, REALISTIC_SHOWN, TWINS, TWINS_SHOWN};
 use crate::check::shown::shown;
 use rmt_ast::program::Program;
-use rmt_check::check;
+use rmt_check::laws::one_meaning;
+use rmt_check::{check, read_program};
 use rmt_lexer::fault::ProgramFault;
 use rmt_lexer::tokens;
 use rmt_syntax::syntax;
@@ -23,6 +25,18 @@ fn answer(alloc: Global, text: &[u8]) -> Result<Program, ProgramFault>
     let list = tokens(alloc, text)?;
     let tree = syntax(alloc, &list)?;
     check(alloc, &tree)
+}
+
+/// The program of a text, which is well formed.
+pub(crate) fn program_of(alloc: Global, text: &[u8]) -> Result<Program, ProgramFault>
+    requires { length text.now < 4294967295 }
+    ensures { IfOk result (λ program. IsProgram program) }
+{
+    one_meaning();
+    match read_program(alloc, text) {
+        Ok(program) => Ok(program),
+        Err(fault) => Err(fault),
+    }
 }
 
 /// A text, the code of its fault, and the line and the column where it is told.
@@ -522,8 +536,8 @@ fn tells_faults(rt: HostRuntime) {
     }
 }
 
-/// A text whose middle part is repeated.
-fn repeated(
+/// A text whose middle part is repeated, in which `#` is its number from 0 on.
+pub(crate) fn repeated(
     alloc: Global,
     front: &[u8],
     piece: &[u8],
@@ -568,18 +582,19 @@ fn tells_of_a_long_name_with_many_fields(rt: HostRuntime) {
 const SPACES: &[u8] =
     b"header x { x : 8; } next accept; meta { x : 8; } action x(x : 8) { x.x = x; } table x { exact meta.x; actions x; size 1; default x(1); } control { apply x; }";
 
+const PROGRAMS: [(&[u8], &str); 4] = [
+    (REALISTIC, REALISTIC_SHOWN),
+    (ARMS, ARMS_SHOWN),
+    (TWINS, TWINS_SHOWN),
+    (
+        SPACES,
+        "field in_port 9\nfield out_port 9\nfield drop 1\nfield x.valid 1\nfield x.x 8\nfield meta.x 8\nheader x valid 3 fields 4 bytes 1 select else accept\naction x params 8 f4=p0\ntable x exact key 5 actions 0 default 0 args 1 size 1 uncounted\nnode apply 0\n",
+    ),
+];
+
 #[test]
 fn reads_programs(rt: HostRuntime) {
-    let table: [(&'static [u8], &'static str); 4] = [
-        (REALISTIC, REALISTIC_SHOWN),
-        (ARMS, ARMS_SHOWN),
-        (TWINS, TWINS_SHOWN),
-        (
-            SPACES,
-            "field in_port 9\nfield out_port 9\nfield drop 1\nfield x.valid 1\nfield x.x 8\nfield meta.x 8\nheader x valid 3 fields 4 bytes 1 select else accept\naction x params 8 f4=p0\ntable x exact key 5 actions 0 default 0 args 1 size 1 uncounted\nnode apply 0\n",
-        ),
-    ];
-    for (text, want) in table {
+    for (text, want) in PROGRAMS {
         assert!(rt; text.len() < 10000);
         let program = answer(rt.alloc(), text).expect(&rt, "a program");
         let got = shown(rt.alloc(), &program).expect(&rt, "memory");

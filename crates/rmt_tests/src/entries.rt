@@ -1,16 +1,10 @@
 //! Entry texts: the lists of good lines of each kind of table, and each code of bad ones.
 
-ghost use Rattle.std.specs.Prelude.{◌<◌, length, IfOk};
-ghost use Rattle.rmt_ast.specs.WellFormed.{IsProgram};
-
+use crate::check::program_of;
 use crate::check::programs::REALISTIC;
 use rmt_ast::entry::{Entry, EntryLists};
-use rmt_ast::program::Program;
-use rmt_check::laws::one_meaning;
-use rmt_check::read_program;
 use rmt_entries::entries;
 use rmt_entries::fault::EntryFault;
-use rmt_lexer::fault::ProgramFault;
 use std::alloc::{AllocError, Global};
 use std::process::Abort;
 use std::test::*;
@@ -34,18 +28,6 @@ action go(p : 9) { out_port = p; }
 table r { prefix h.d; actions go; size 1024; counted; default go(0); }
 control { apply r; }
 ";
-
-/// The program of a text, which is well formed.
-fn program_of(alloc: Global, text: &[u8]) -> Result<Program, ProgramFault>
-    requires { length text.now < 4294967295 }
-    ensures { IfOk result (λ program. IsProgram program) }
-{
-    one_meaning();
-    match read_program(alloc, text) {
-        Ok(program) => Ok(program),
-        Err(fault) => Err(fault),
-    }
-}
 
 /// Writes an entry on a line.
 fn push_entry(out: &mut String, entry: &Entry) -> Result<(), AllocError> {

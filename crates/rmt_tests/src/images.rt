@@ -1,6 +1,6 @@
 use rmt_config::config::Config;
 use rmt_image::{ImageFault, read_image};
-use std::alloc::Global;
+use std::alloc::{AllocError, Global};
 use std::test::*;
 
 /// The smallest image: one header of a byte, and one table that sends each packet to port 1.
@@ -135,6 +135,20 @@ fn cut_short(rt: HostRuntime) {
     }
 }
 
+/// Adds a stage of that start with copies of the smallest image's slot; `node` is the first one's node, and then the next.
+fn push_stage(image: &mut Vec<u8>, start: u16, slots: u8, node: &mut u8) -> Result<(), AllocError> {
+    let [high, low] = start.to_be_bytes();
+    image.extend_from_slice(&[high, low, slots])?;
+    for _ in 0..slots {
+        push_all(image, &[&[1, *node], &IMAGE[59..72]])?;
+        *node = node.wrapping_add(1);
+    }
+    for _ in 0..slots {
+        image.extend_from_slice(&IMAGE[72..87])?;
+    }
+    image.extend_from_slice(&IMAGE[87..95])
+}
+
 /// An image of the smallest one's parts: that many copies of the entry and of the stage's slots and stages.
 fn image_of(
     alloc: Global,
@@ -142,9 +156,8 @@ fn image_of(
     stages: u8,
     slots: u8,
     apart: u16,
-) -> Result<Vec<u8>, Fail> {
-    let mut image = Vec::new(alloc);
-    image.extend_from_slice(&IMAGE[..28])?;
+) -> Result<Vec<u8>, AllocError> {
+    let mut image = Vec::from_slice(alloc, &IMAGE[..28])?;
     image.extend_from_slice(&entries.to_be_bytes())?;
     for _ in 0..entries {
         image.extend_from_slice(&IMAGE[30..53])?;
@@ -152,129 +165,132 @@ fn image_of(
     image.push(stages)?;
     let mut node: u8 = 0;
     for stage in 0..stages {
-        image.extend_from_slice(&(stage as u16).wrapping_mul(apart).to_be_bytes())?;
-        image.push(slots)?;
-        for _ in 0..slots {
-            image.push(1)?;
-            image.push(node)?;
-            image.extend_from_slice(&IMAGE[59..72])?;
-            node = node.wrapping_add(1);
-        }
-        for _ in 0..slots {
-            image.extend_from_slice(&IMAGE[72..87])?;
-        }
-        image.extend_from_slice(&IMAGE[87..95])?;
+        push_stage(
+            &mut image,
+            u16::from(stage).wrapping_mul(apart),
+            slots,
+            &mut node,
+        )?;
     }
     Ok(image)
 }
 
+/// How many entries, stages and slots of a stage, how far stages stand apart, and what is read.
+const MANY: [(u16, u8, u8, u16, (u8, u8, u8, u32)); 11] = [
+    (1, 1, 1, 0, (0, 0, 0, 0)),
+    (256, 32, 4, 12, (0, 0, 0, 0)),
+    (1, 33, 1, 1, (6, 1, 0, 33)),
+    (257, 33, 1, 1, (6, 1, 0, 33)),
+    (257, 1, 1, 1, (6, 3, 0, 257)),
+    (1, 2, 17, 1, (6, 10, 0, 17)),
+    (1, 3, 43, 1, (6, 10, 0, 43)),
+    (1, 13, 10, 1, (6, 14, 12, 130)),
+    (1, 2, 1, 373, (6, 16, 1, 373)),
+    (1, 2, 1, 0, (4, 0, 0, 0)), // starts that stay
+    (1, 2, 129, 1, (4, 0, 0, 0)), // 257 units with one node twice
+];
+
 #[test]
 fn limits(rt: HostRuntime) -> Result<(), Fail> {
-    let alloc = rt.alloc();
-    assert_eq!(rt; read(alloc, &image_of(alloc, 1, 1, 1, 0)?), (0, 0, 0, 0));
-    assert_eq!(rt;
-        read(alloc, &image_of(alloc, 256, 32, 4, 12)?),
-        (0, 0, 0, 0)
-    );
-    assert_eq!(rt; read(alloc, &image_of(alloc, 1, 33, 1, 1)?), (6, 1, 0, 33));
-    assert_eq!(rt;
-        read(alloc, &image_of(alloc, 257, 33, 1, 1)?),
-        (6, 1, 0, 33)
-    );
-    assert_eq!(rt;
-        read(alloc, &image_of(alloc, 257, 1, 1, 1)?),
-        (6, 3, 0, 257)
-    );
-    assert_eq!(rt; read(alloc, &image_of(alloc, 1, 2, 17, 1)?), (6, 10, 0, 17));
-    assert_eq!(rt; read(alloc, &image_of(alloc, 1, 3, 43, 1)?), (6, 10, 0, 43));
-    assert_eq!(rt;
-        read(alloc, &image_of(alloc, 1, 13, 10, 1)?),
-        (6, 14, 12, 130)
-    );
-    assert_eq!(rt;
-        read(alloc, &image_of(alloc, 1, 2, 1, 373)?),
-        (6, 16, 1, 373)
-    );
+    for (entries, stages, slots, apart, answer) in MANY {
+        let image = image_of(rt.alloc(), entries, stages, slots, apart)?;
+        assert_eq!(rt; read(rt.alloc(), &image), answer);
+    }
     Ok(())
 }
 
 #[test]
 fn needs(rt: HostRuntime) {
-    let mut image = IMAGE;
-    image[39] = 129;
-    assert_eq!(rt; read(rt.alloc(), &image), (6, 5, 0, 129));
-    image[39] = 128;
-    assert_eq!(rt; read(rt.alloc(), &image), (0, 0, 0, 0));
+    for (need, answer) in [(128, (0, 0, 0, 0)), (129, (6, 5, 0, 129))] {
+        let mut image = IMAGE;
+        image[39] = need;
+        assert_eq!(rt; read(rt.alloc(), &image), answer);
+    }
 }
+
+/// What stands behind the first bytes of the smallest image, how many those are, and the code that is read.
+const ENDINGS: [(usize, &[u8], u8); 4] = [
+    (95, &[0], 5),
+    // a row in a block that no slot has
+    (
+        87,
+        &[
+            0, 0, 0, 1, 5, 0, 0, 1, 1, 1, 1, 1, 1, 1, 1, 1, 1, 1, 1, 1, 1, 0, 0, 0, 0,
+        ],
+        4,
+    ),
+    // behind it a byte too many comes first
+    (
+        87,
+        &[
+            0, 0, 0, 1, 5, 0, 0, 1, 1, 1, 1, 1, 1, 1, 1, 1, 1, 1, 1, 1, 1, 0, 0, 0, 0, 0,
+        ],
+        5,
+    ),
+    // two operations on one word
+    (
+        72,
+        &[
+            2, 0x41, 0, 9, 0, 2, 0, 0, 0, 1, 2, 0, 0, 0, 0, 0x41, 0, 9, 0, 2, 0, 0, 0, 1, 2, 0, 0,
+            0, 0, 0, 0, 0, 0, 0, 0, 0, 0,
+        ],
+        4,
+    ),
+];
 
 #[test]
-fn whole(rt: HostRuntime) -> Result<(), Fail> {
-    let alloc = rt.alloc();
-
-    // Starts that stay, and 257 units with one node twice.
-    assert_eq!(rt; read(alloc, &image_of(alloc, 1, 2, 1, 0)?).0, 4);
-    assert_eq!(rt; read(alloc, &image_of(alloc, 1, 2, 129, 1)?).0, 4);
-
-    // A byte too many.
-    let mut image = image_of(alloc, 1, 1, 1, 0)?;
-    image.push(0)?;
-    assert_eq!(rt; read(alloc, &image).0, 5);
-
-    // A row in a block that no slot has: behind it a byte too many comes first.
-    let mut image = Vec::from_slice(alloc, &IMAGE[..87])?;
-    image.extend_from_slice(&[0, 0, 0, 1, 5, 0, 0])?;
-    image.extend_from_slice(&[1; 14])?;
-    image.extend_from_slice(&[0, 0, 0, 0])?;
-    assert_eq!(rt; read(alloc, &image).0, 4);
-    image.push(0)?;
-    assert_eq!(rt; read(alloc, &image).0, 5);
-
-    // Two operations on one word.
-    let mut image = Vec::from_slice(alloc, &IMAGE[..72])?;
-    image.push(2)?;
-    image.extend_from_slice(&IMAGE[73..87])?;
-    image.extend_from_slice(&IMAGE[73..95])?;
-    assert_eq!(rt; read(alloc, &image).0, 4);
+fn endings(rt: HostRuntime) -> Result<(), Fail> {
+    for (len, bytes, code) in ENDINGS {
+        assert!(rt; len <= 95);
+        let mut image = Vec::from_slice(rt.alloc(), &IMAGE[..len])?;
+        image.extend_from_slice(bytes)?;
+        assert_eq!(rt; read(rt.alloc(), &image).0, code);
+    }
     Ok(())
 }
 
-/// A stage of the smallest image with that start, node and guard, which sends to that port.
-fn put_stage(
-    image: &mut Vec<u8>,
-    start: u16,
-    node: u8,
-    guard: &[u8],
-    port: u8,
-) -> Result<(), Fail> {
-    image.extend_from_slice(&start.to_be_bytes())?;
-    image.extend_from_slice(&[1, 1, node])?;
-    image.extend_from_slice(guard)?;
-    image.extend_from_slice(&IMAGE[60..81])?;
-    image.push(port)?;
-    image.extend_from_slice(&IMAGE[82..95])?;
+/// Adds parts to an image.
+fn push_all(image: &mut Vec<u8>, parts: &[&[u8]]) -> Result<(), AllocError> {
+    for part in parts {
+        image.extend_from_slice(part)?;
+    }
     Ok(())
 }
 
-/// The code of two stages, the second of which has a guard on the first.
-fn guarded(alloc: Global, node: u8, guard: &[u8]) -> Result<u8, Fail> {
-    let mut image = Vec::from_slice(alloc, &IMAGE[..53])?;
-    image.push(2)?;
-    put_stage(&mut image, 0, 0, &[0], 1)?;
-    put_stage(&mut image, 12, node, guard, 2)?;
+/// The code of two stages of the smallest image, the second of which has that node and a guard on the first, and sends to
+/// port 2.
+fn guarded(alloc: Global, node: u8, guard: &[u8]) -> Result<u8, AllocError> {
+    let mut image = Vec::new(alloc);
+    let parts: [&[u8]; 9] = [
+        &IMAGE[..53],
+        &[2, 0, 0, 1, 1, 0, 0],
+        &IMAGE[60..95],
+        &[0, 12, 1, 1],
+        &[node],
+        guard,
+        &IMAGE[60..81],
+        &[2],
+        &IMAGE[82..95],
+    ];
+    push_all(&mut image, &parts)?;
     Ok(read(alloc, &image).0)
 }
 
+/// The node of the second stage, its guard, and the code that is read.
+const GUARDS: [(u8, &[u8], u8); 7] = [
+    (1, &[0], 0),
+    (1, &[1, 0, 0, 2], 0),
+    (1, &[1, 0, 0, 4], 0),
+    (1, &[1, 0, 0, 1], 4), // outcome 0
+    (1, &[1, 1, 0, 2], 4), // the node itself
+    (1, &[1, 2, 0, 2], 4), // a node that is none
+    (0, &[0], 4), // two tables of one node
+];
+
 #[test]
 fn guards(rt: HostRuntime) -> Result<(), Fail> {
-    let alloc = rt.alloc();
-    assert_eq!(rt; guarded(alloc, 1, &[0])?, 0);
-    assert_eq!(rt; guarded(alloc, 1, &[1, 0, 0, 2])?, 0);
-    assert_eq!(rt; guarded(alloc, 1, &[1, 0, 0, 4])?, 0);
-
-    // Outcome 0, the node itself, a node that is none, and two tables of one node.
-    assert_eq!(rt; guarded(alloc, 1, &[1, 0, 0, 1])?, 4);
-    assert_eq!(rt; guarded(alloc, 1, &[1, 1, 0, 2])?, 4);
-    assert_eq!(rt; guarded(alloc, 1, &[1, 2, 0, 2])?, 4);
-    assert_eq!(rt; guarded(alloc, 0, &[0])?, 4);
+    for (node, guard, code) in GUARDS {
+        assert_eq!(rt; guarded(rt.alloc(), node, guard)?, code);
+    }
     Ok(())
 }

@@ -2,17 +2,25 @@
 #![tactic(auto)]
 
 #[cfg(test)]
+mod actions;
+#[cfg(test)]
 mod bits;
 #[cfg(test)]
 mod cells;
 #[cfg(test)]
 mod check;
 #[cfg(test)]
+mod chip;
+#[cfg(test)]
 mod entries;
+#[cfg(test)]
+mod formats;
 #[cfg(test)]
 mod image_rules;
 #[cfg(test)]
 mod images;
+#[cfg(test)]
+mod layouts;
 #[cfg(test)]
 mod loading;
 #[cfg(test)]
@@ -31,6 +39,10 @@ mod pieces;
 mod plain;
 #[cfg(test)]
 mod registers;
+#[cfg(test)]
+mod reports;
+#[cfg(test)]
+mod shelves;
 #[cfg(test)]
 mod tails;
 #[cfg(test)]

@@ -63,37 +63,37 @@ fn load_few(alloc: Global, layout: &Layout, keys: &Keys, seed: u8) -> Result<Num
     load(alloc, layout, keys, seed)
 }
 
-/// How many keys were loaded.
-fn loaded(answer: &Result<Numbers, LoadFault>) -> Option<usize> {
+/// How many keys were loaded, and 0; or how many keys and cells an overfull list has.
+fn told(answer: &Result<Numbers, LoadFault>) -> Option<(usize, u64)> {
     match answer {
-        Ok(cells) => Some(cells.len()),
+        Ok(cells) => Some((cells.len(), 0)),
+        Err(LoadFault::Overfull { members, cells }) => Some((members.len(), *cells)),
         Err(_) => None,
     }
 }
 
-/// How many keys and cells an overfull list has.
-fn overfull(answer: &Result<Numbers, LoadFault>) -> Option<(usize, u64)> {
-    match answer {
-        Err(LoadFault::Overfull { members, cells }) => Some((members.len(), *cells)),
-        _ => None,
+/// What comes of loading the keys of one byte from 0 to `most` - 1.
+fn of_short_keys(alloc: Global, layout: &Layout, most: u8, seed: u8) -> Option<(usize, u64)>
+    requires parts { length layout.now ≤ 64 }
+    requires rows { All (λ (part : Ways). 1 ≤ part.rows) layout.now }
+    requires few_cells { cells_of layout.now < 2 ^ 32 }
+{
+    match short_keys(alloc, most) {
+        Ok(keys) => told(&load_few(alloc, layout, &keys, seed)),
+        Err(_) => None,
     }
 }
 
-/// One row of one cell in each of four ways: 4 keys load under every seed, and 5 have 4 cells.
+/// One row of one cell in each of four ways: without a key there is nothing to load, 4 keys load under every seed, and 5 have
+/// 4 cells.
 #[test]
 fn four_cells_hold_four_keys(rt: HostRuntime) -> Result<(), Fail> {
     let layout = one_part(rt.alloc(), Ways { rows: 1, per: 1 })?;
-    let four = short_keys(rt.alloc(), 4)?;
-    let five = short_keys(rt.alloc(), 5)?;
     for seed in 0..=255 {
-        assert_eq!(rt;
-            loaded(&load_few(rt.alloc(), &layout, &four, seed)),
-            Some(4)
-        );
-        assert_eq!(rt;
-            overfull(&load_few(rt.alloc(), &layout, &five, seed)),
-            Some((5, 4))
-        );
+        for (most, wanted) in [(0, (0, 0)), (4, (4, 0)), (5, (5, 4))] {
+            let got = of_short_keys(rt.alloc(), &layout, most, seed);
+            assert_eq!(rt; got, Some(wanted), "{most} keys under seed {seed}");
+        }
     }
     Ok(())
 }
@@ -106,37 +106,26 @@ fn two_parts_share_the_keys(rt: HostRuntime) -> Result<(), Fail> {
         Ways { rows: 1, per: 1 },
         Ways { rows: 1, per: 3 },
     )?;
-    let most = short_keys(rt.alloc(), 16)?;
-    let more = short_keys(rt.alloc(), 17)?;
-    assert_eq!(rt; loaded(&load_few(rt.alloc(), &layout, &most, 0)), Some(16));
-    assert_eq!(rt;
-        overfull(&load_few(rt.alloc(), &layout, &more, 0)),
-        Some((17, 16))
-    );
+    for (most, wanted) in [(16, (16, 0)), (17, (17, 16))] {
+        let got = of_short_keys(rt.alloc(), &layout, most, 0);
+        assert_eq!(rt; got, Some(wanted), "{most} keys");
+    }
     Ok(())
 }
 
-/// Keys 4 apart have one row in each way: 639, 895, 127 and 383 of 1,024 under seed 0.
-#[test]
-fn colliding_keys_share_four_cells(rt: HostRuntime) -> Result<(), Fail> {
-    let layout = one_part(rt.alloc(), Ways { rows: 1024, per: 1 })?;
-    let four = keys_of(rt.alloc(), &[&[0, 0], &[0, 4], &[0, 8], &[0, 12]])?;
-    let five = keys_of(rt.alloc(), &[&[0, 0], &[0, 4], &[0, 8], &[0, 12], &[0, 16]])?;
-    assert_eq!(rt; loaded(&load_few(rt.alloc(), &layout, &four, 0)), Some(4));
-    assert_eq!(rt;
-        overfull(&load_few(rt.alloc(), &layout, &five, 0)),
-        Some((5, 4))
-    );
-    Ok(())
-}
-
-/// With two rows of one cell a way these keys have, in this order, the cells 0 3 4 7, 0 2 5 7, 0 2 4 6, 1 3 4 6,
-/// 0 2 4 7 and 1 2 4 7. Where each takes its first free cell (0, 2, 4, 1, 7) none is left for the last: keys move.
-#[test]
-fn keys_move(rt: HostRuntime) -> Result<(), Fail> {
-    let layout = one_part(rt.alloc(), Ways { rows: 2, per: 1 })?;
-    let keys = keys_of(
-        rt.alloc(),
+/// The rows of each way, which have one cell, keys, and what comes of loading them under seed 0.
+const KEYS: [(u32, &[&[u8]], (usize, u64)); 3] = [
+    // keys 4 apart have one row in each way: 639, 895, 127 and 383 of 1,024
+    (1024, &[&[0, 0], &[0, 4], &[0, 8], &[0, 12]], (4, 0)),
+    (
+        1024,
+        &[&[0, 0], &[0, 4], &[0, 8], &[0, 12], &[0, 16]],
+        (5, 4),
+    ),
+    // these keys have, in this order, the cells 0 3 4 7, 0 2 5 7, 0 2 4 6, 1 3 4 6, 0 2 4 7 and 1 2 4 7: where each takes its
+    // first free cell (0, 2, 4, 1, 7) none is left for the last, so keys move
+    (
+        2,
         &[
             &[12, 2, 0, 0, 0, 0],
             &[4, 9, 0, 0, 0, 0],
@@ -145,16 +134,18 @@ fn keys_move(rt: HostRuntime) -> Result<(), Fail> {
             &[8, 1, 0, 0, 0, 0],
             &[1, 9, 0, 0, 0, 0],
         ],
-    )?;
-    assert_eq!(rt; loaded(&load_few(rt.alloc(), &layout, &keys, 0)), Some(6));
-    Ok(())
-}
+        (6, 0),
+    ),
+];
 
-/// Without a key there is nothing to load.
 #[test]
-fn no_keys_load(rt: HostRuntime) -> Result<(), Fail> {
-    let layout = one_part(rt.alloc(), Ways { rows: 1, per: 1 })?;
-    let none = short_keys(rt.alloc(), 0)?;
-    assert_eq!(rt; loaded(&load_few(rt.alloc(), &layout, &none, 0)), Some(0));
+fn keys_share_cells_and_move(rt: HostRuntime) -> Result<(), Fail> {
+    for (rows, bytes, wanted) in KEYS {
+        assert!(rt; 1 <= rows && rows <= 1024);
+        let layout = one_part(rt.alloc(), Ways { rows, per: 1 })?;
+        let keys = keys_of(rt.alloc(), bytes)?;
+        let got = told(&load_few(rt.alloc(), &layout, &keys, 0));
+        assert_eq!(rt; got, Some(wanted));
+    }
     Ok(())
 }

@@ -177,173 +177,185 @@ fn get_record(
     true
 }
 
-fn head(occupied: bool, visible: u8, code: u8) -> Head {
-    Head {
-        occupied,
-        visible,
-        code,
-    }
-}
+/// A cell, its head and key, and of the row where they stand the block, the number and the bits.
+const CELLS: [(u32, Head, [u8; 6], u8, u16, u128); 6] = [
+    (
+        0,
+        Head {
+            occupied: true,
+            visible: 0,
+            code: 0,
+        },
+        [0, 0, 0, 0, 0, 0],
+        0,
+        0,
+        0xffff_ffff_ffff_ff00_0000_0000_0001,
+    ),
+    (
+        1,
+        Head {
+            occupied: true,
+            visible: 3,
+            code: 31,
+        },
+        [255, 255, 255, 255, 255, 255],
+        0,
+        0,
+        0xffff_ffff_ffff_ff00_0000_0000_0001,
+    ),
+    (
+        2046,
+        Head {
+            occupied: false,
+            visible: 2,
+            code: 21,
+        },
+        [0x01, 0x23, 0x45, 0x67, 0x89, 0xab],
+        0,
+        1023,
+        0x0123_4567_89ab_ac,
+    ),
+    (
+        2048,
+        Head {
+            occupied: true,
+            visible: 1,
+            code: 0,
+        },
+        [0xfe, 0xdc, 0xba, 0x98, 0x76, 0x54],
+        4,
+        0,
+        0xfedc_ba98_7654_03,
+    ),
+    (
+        4097,
+        Head {
+            occupied: true,
+            visible: 0,
+            code: 30,
+        },
+        [0, 0, 0, 0, 0, 1],
+        1,
+        0,
+        0x1f1_0000_0000_0000_00,
+    ),
+    (
+        16383,
+        Head {
+            occupied: true,
+            visible: 2,
+            code: 21,
+        },
+        [0x01, 0x23, 0x45, 0x67, 0x89, 0xab],
+        7,
+        1023,
+        0x0123_4567_89ab_ad00_0000_0000_0000,
+    ),
+];
 
 /// The first and last position of a row, the last row of a quantum, the first of the next, a second way, the last cell.
 #[test]
 fn cells_stand_and_read_back(rt: HostRuntime) -> Result<(), Fail> {
     let part = small_part(rt.alloc())?;
     let mut rows = Rows::new(rt.alloc())?;
-    let cells = [
-        (
-            0,
-            head(true, 0, 0),
-            [0, 0, 0, 0, 0, 0],
-            0,
-            0,
-            0xffff_ffff_ffff_ff00_0000_0000_0001,
-        ),
-        (
-            1,
-            head(true, 3, 31),
-            [255, 255, 255, 255, 255, 255],
-            0,
-            0,
-            0xffff_ffff_ffff_ff00_0000_0000_0001,
-        ),
-        (
-            2046,
-            head(false, 2, 21),
-            [0x01, 0x23, 0x45, 0x67, 0x89, 0xab],
-            0,
-            1023,
-            0x0123_4567_89ab_ac,
-        ),
-        (
-            2048,
-            head(true, 1, 0),
-            [0xfe, 0xdc, 0xba, 0x98, 0x76, 0x54],
-            4,
-            0,
-            0xfedc_ba98_7654_03,
-        ),
-        (
-            4097,
-            head(true, 0, 30),
-            [0, 0, 0, 0, 0, 1],
-            1,
-            0,
-            0x1f1_0000_0000_0000_00,
-        ),
-        (
-            16383,
-            head(true, 2, 21),
-            [0x01, 0x23, 0x45, 0x67, 0x89, 0xab],
-            7,
-            1023,
-            0x0123_4567_89ab_ad00_0000_0000_0000,
-        ),
-    ];
-    for (cell, head, key, _, _, _) in &cells {
-        assert!(rt;
-            put_cell(&mut rows, &part, 16384, 6, *cell, *head, key),
-            "cell {cell}"
-        );
+    for (cell, head, key, _, _, _) in CELLS {
+        let is_put = put_cell(&mut rows, &part, 16384, 6, cell, head, &key);
+        assert!(rt; is_put, "cell {cell}");
     }
-    for (cell, head, key, block, row, bits) in &cells {
+    for (cell, head, key, block, row, bits) in CELLS {
         let mut read = [9; 6];
-        assert_eq!(rt; row_at(&rows, *block, *row), Some(*bits), "cell {cell}");
-        assert_eq!(rt;
-            get_cell(&rows, &part, 16384, 6, *cell, &mut read),
-            Some(*head),
-            "cell {cell}"
-        );
-        assert_eq!(rt; read, *key, "cell {cell}");
+        let found = get_cell(&rows, &part, 16384, 6, cell, &mut read);
+        let seen = (row_at(&rows, block, row), found, read);
+        assert!(rt; seen == (Some(bits), Some(head), key), "cell {cell}");
     }
     Ok(())
 }
+
+/// A key of 112 bits, its head, and the rows where the cells 5 and 24,575 stand.
+const WIDE_KEY: [u8; 14] = [0x80, 0, 0, 0, 0, 0, 0, 0, 0, 0, 0, 0, 0, 5];
+
+const WIDE_HEAD: Head = Head {
+    occupied: true,
+    visible: 0,
+    code: 31,
+};
+
+const WIDE_ROWS: [(u8, u16, u128); 5] = [
+    (45, 0, 0x5f9_0000_0000_00),
+    (46, 0, 0x8000_0000_0000),
+    (66, 1023, 0x5f9_0000_0000_00),
+    (67, 1023, 0x8000_0000_0000),
+    (44, 0, 0),
+];
 
 /// Entries across two blocks, of which the last is that of the last cell.
 #[test]
 fn wide_cells_stand_and_read_back(rt: HostRuntime) -> Result<(), Fail> {
     let part = wide_part(rt.alloc())?;
     let mut rows = Rows::new(rt.alloc())?;
-    let key = [0x80, 0, 0, 0, 0, 0, 0, 0, 0, 0, 0, 0, 0, 5];
     for cell in [5, 24575] {
         let mut read = [9; 14];
-        assert!(rt; put_cell(&mut rows, &part, 24576, 14, cell, head(true, 0, 31), &key));
-        assert_eq!(rt;
-            get_cell(&rows, &part, 24576, 14, cell, &mut read),
-            Some(head(true, 0, 31))
-        );
-        assert_eq!(rt; read, key);
+        let is_put = put_cell(&mut rows, &part, 24576, 14, cell, WIDE_HEAD, &WIDE_KEY);
+        let found = get_cell(&rows, &part, 24576, 14, cell, &mut read);
+        assert!(rt; is_put && found == Some(WIDE_HEAD) && read == WIDE_KEY);
     }
-    for (block, row, bits) in [
-        (45, 0, 0x5f9_0000_0000_00),
-        (46, 0, 0x8000_0000_0000),
-        (66, 1023, 0x5f9_0000_0000_00),
-        (67, 1023, 0x8000_0000_0000),
-        (44, 0, 0),
-    ] {
+    for (block, row, bits) in WIDE_ROWS {
         assert_eq!(rt; row_at(&rows, block, row), Some(bits), "block {block}");
     }
     Ok(())
 }
+
+/// A cell, its record, and of the row where it stands the block, the number and the bits.
+const RECORDS: [(u32, [u8; 2], u8, u16, u128); 7] = [
+    (0, [0xbe, 0xef], 8, 0, 0xffff_0000_0000_0000_0000_8001_beef),
+    (1, [0x80, 0x01], 8, 0, 0xffff_0000_0000_0000_0000_8001_beef),
+    (6, [0xff, 0xff], 8, 0, 0xffff_0000_0000_0000_0000_8001_beef),
+    (7, [0x12, 0x34], 8, 1, 0x1234),
+    (2048, [0x01, 0x00], 10, 0, 0x0100),
+    (12288, [0x00, 0x01], 8, 877, 0x1_0000_0000_0000_0000_0000),
+    (16383, [0xbe, 0xef], 11, 146, 0xbeef_0000),
+];
 
 /// Seven records a row: the first and last of a row, the next row, the next quantum, the next unit, the last.
 #[test]
 fn records_stand_and_read_back(rt: HostRuntime) -> Result<(), Fail> {
     let part = small_part(rt.alloc())?;
     let mut rows = Rows::new(rt.alloc())?;
-    let records = [
-        (0, [0xbe, 0xef], 8, 0, 0xffff_0000_0000_0000_0000_8001_beef),
-        (1, [0x80, 0x01], 8, 0, 0xffff_0000_0000_0000_0000_8001_beef),
-        (6, [0xff, 0xff], 8, 0, 0xffff_0000_0000_0000_0000_8001_beef),
-        (7, [0x12, 0x34], 8, 1, 0x1234),
-        (2048, [0x01, 0x00], 10, 0, 0x0100),
-        (12288, [0x00, 0x01], 8, 877, 0x1_0000_0000_0000_0000_0000),
-        (16383, [0xbe, 0xef], 11, 146, 0xbeef_0000),
-    ];
-    for (cell, held, _, _, _) in &records {
-        assert!(rt;
-            put_record(&mut rows, &part, 16384, 2, *cell, held),
-            "cell {cell}"
-        );
+    for (cell, held, _, _, _) in RECORDS {
+        let is_put = put_record(&mut rows, &part, 16384, 2, cell, &held);
+        assert!(rt; is_put, "cell {cell}");
     }
-    for (cell, held, block, row, bits) in &records {
+    for (cell, held, block, row, bits) in RECORDS {
         let mut read = [9; 2];
-        assert_eq!(rt; row_at(&rows, *block, *row), Some(*bits), "cell {cell}");
-        assert!(rt;
-            get_record(&rows, &part, 16384, 2, *cell, &mut read),
-            "cell {cell}"
-        );
-        assert_eq!(rt; read, *held, "cell {cell}");
+        let is_read = get_record(&rows, &part, 16384, 2, cell, &mut read);
+        let seen = (row_at(&rows, block, row), is_read, read);
+        assert!(rt; seen == (Some(bits), true, held), "cell {cell}");
     }
     Ok(())
 }
+
+const TERNARY_RECORDS: [(u32, [u8; 3], u8, u16, u128); 2] = [
+    (0, [0x01, 0x02, 0xff], 0, 0, 0x0102ff),
+    (
+        4095,
+        [0xab, 0xcd, 0xef],
+        1,
+        511,
+        0xab_cdef_0000_0000_0000_0000_00,
+    ),
+];
 
 /// The records of the first and the last row of a ternary part.
 #[test]
 fn ternary_records_stand_and_read_back(rt: HostRuntime) -> Result<(), Fail> {
     let part = ternary_part(rt.alloc())?;
     let mut rows = Rows::new(rt.alloc())?;
-    for (cell, held, block, row, bits) in [
-        (0, [0x01, 0x02, 0xff], 0, 0, 0x0102ff),
-        (
-            4095,
-            [0xab, 0xcd, 0xef],
-            1,
-            511,
-            0xab_cdef_0000_0000_0000_0000_00,
-        ),
-    ] {
+    for (cell, held, block, row, bits) in TERNARY_RECORDS {
         let mut read = [9; 3];
-        assert!(rt;
-            put_record(&mut rows, &part, 4096, 3, cell, &held),
-            "row {cell}"
-        );
-        assert_eq!(rt; row_at(&rows, block, row), Some(bits), "row {cell}");
-        assert!(rt;
-            get_record(&rows, &part, 4096, 3, cell, &mut read),
-            "row {cell}"
-        );
-        assert_eq!(rt; read, held, "row {cell}");
+        let is_put = put_record(&mut rows, &part, 4096, 3, cell, &held);
+        let is_read = get_record(&rows, &part, 4096, 3, cell, &mut read);
+        let seen = (row_at(&rows, block, row), is_put && is_read, read);
+        assert!(rt; seen == (Some(bits), true, held), "row {cell}");
     }
     Ok(())
 }

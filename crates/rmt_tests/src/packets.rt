@@ -1,9 +1,13 @@
+//! Packet texts line by line, and the lines of answers.
+
 use rmt_bits::answer::{Answer, Verdict};
 use rmt_bits::sequence::Sequence;
 use rmt_packets::answer_line::write_answer;
 use rmt_packets::lines::{Line, next_line};
 use rmt_packets::packet_line::{PacketFault, read_packet};
-use std::test::Fail;
+use std::alloc::{AllocError, Global};
+use std::process::Abort;
+use std::test::*;
 
 #[test]
 fn lines_of_a_text(rt: HostRuntime) {
@@ -25,74 +29,75 @@ fn lines_of_a_text(rt: HostRuntime) {
     assert_eq!(rt; next_line(text, 21, 6), None);
 }
 
-#[test]
-fn packets_of_lines(rt: HostRuntime) -> Result<(), Fail> {
-    let alloc = rt.alloc();
-    let mut frame = vec![in alloc; 7u8]?;
-    assert_eq!(rt; read_packet(alloc, b"511 fFa0", &mut frame), Ok(511));
-    assert_eq!(rt; frame.as_slice(), [255, 160].as_slice());
-    assert_eq!(rt;
-        read_packet(alloc, b"2 abc", &mut frame),
-        Err(PacketFault::Code(1))
-    );
-    assert_eq!(rt; frame.len(), 0);
-    assert_eq!(rt;
-        read_packet(alloc, b"512 00", &mut frame),
-        Err(PacketFault::Code(2))
-    );
-    assert_eq!(rt;
-        read_packet(alloc, b"0 ", &mut frame),
-        Err(PacketFault::Code(3))
-    );
-    let mut longest = vec![in alloc; b'0'; 2 + 18432]?;
-    assert_eq!(rt; longest.len(), 18434);
-    longest[1] = b' ';
-    assert_eq!(rt; read_packet(alloc, longest.as_slice(), &mut frame), Ok(0));
-    assert_eq!(rt; frame.len(), 9216);
-    longest.push(b'0')?;
-    assert_eq!(rt;
-        read_packet(alloc, longest.as_slice(), &mut frame),
-        Err(PacketFault::Code(3))
-    );
+/// Compares what is read of a line: the port, and the bytes of the frame.
+fn reads(
+    rt: &(impl Abort + AllocGlobal),
+    line: &[u8],
+    answer: Result<u16, PacketFault>,
+    bytes: &[u8],
+) -> Result<(), AllocError> {
+    let mut frame = Vec::new(rt.alloc());
+    frame.push(7)?;
+    assert_eq!(rt; read_packet(rt.alloc(), line, &mut frame), answer);
+    assert_eq!(rt; frame.as_slice(), bytes);
     Ok(())
 }
 
+/// A line, and what is read of it.
+type Row = (&'static [u8], Result<u16, PacketFault>, &'static [u8]);
+
+const LINES: [Row; 4] = [
+    (b"511 fFa0", Ok(511), &[255, 160]),
+    (b"2 abc", Err(PacketFault::Code(1)), &[]),
+    (b"512 00", Err(PacketFault::Code(2)), &[]),
+    (b"0 ", Err(PacketFault::Code(3)), &[]),
+];
+
+#[test]
+fn packets_of_lines(rt: HostRuntime) -> Result<(), Fail> {
+    for (line, answer, bytes) in LINES {
+        reads(&rt, line, answer, bytes)?;
+    }
+    let mut longest = b"0 ".to_vec(rt.alloc())?;
+    longest.extend_from_slice(vec![in rt.alloc(); b'0'; 18432]?.as_slice())?;
+    let zeros = vec![in rt.alloc(); 0u8; 9216]?;
+    reads(&rt, longest.as_slice(), Ok(0), zeros.as_slice())?;
+    longest.push(b'0')?;
+    reads(&rt, longest.as_slice(), Err(PacketFault::Code(3)), &[])?;
+    Ok(())
+}
+
+/// Adds the line of an answer with these bytes.
+fn push_answer(
+    alloc: Global,
+    text: &mut Vec<u8>,
+    number: u64,
+    verdict: Verdict,
+    bytes: &[u8],
+) -> Result<(), Fail> {
+    let answer = Answer {
+        verdict,
+        bytes: Sequence::from_vec(Vec::from_slice(alloc, bytes)?),
+        hits: Sequence::new(alloc),
+    };
+    write_answer(alloc, number, &answer, text)?;
+    Ok(())
+}
+
+const ANSWERS: [(u64, Verdict, &[u8]); 5] = [
+    (9, Verdict::Short, &[]),
+    (9, Verdict::Reject, &[]),
+    (9, Verdict::Dropped, &[]),
+    (9, Verdict::Sent { port: 5 }, &[]),
+    (10, Verdict::Sent { port: 511 }, &[255, 10]),
+];
+
 #[test]
 fn lines_of_answers(rt: HostRuntime) -> Result<(), Fail> {
-    let alloc = rt.alloc();
-    let mut text = vec![in alloc]?;
-    for verdict in [
-        Verdict::Short,
-        Verdict::Reject,
-        Verdict::Dropped,
-        Verdict::Sent { port: 5 },
-    ] {
-        let bytes = Sequence::from_vec(vec![in alloc]?);
-        let hits = Sequence::new(alloc);
-        write_answer(
-            alloc,
-            9,
-            &Answer {
-                verdict,
-                bytes,
-                hits,
-            },
-            &mut text,
-        )?;
+    let mut text = Vec::new(rt.alloc());
+    for (number, verdict, bytes) in ANSWERS {
+        push_answer(rt.alloc(), &mut text, number, verdict, bytes)?;
     }
-    let bytes = Sequence::from_vec(vec![in alloc; 255u8, 10]?);
-    let hits = Sequence::new(alloc);
-    let verdict = Verdict::Sent { port: 511 };
-    write_answer(
-        alloc,
-        10,
-        &Answer {
-            verdict,
-            bytes,
-            hits,
-        },
-        &mut text,
-    )?;
     let wanted = b"9 drop short\n9 drop reject\n9 drop action\n9 5 -\n10 511 ff0a\n";
     assert_eq!(rt; text.as_slice(), wanted.as_slice());
     Ok(())

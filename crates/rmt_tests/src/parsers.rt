@@ -3,6 +3,7 @@
 ghost use Rattle.std.specs.Prelude.{◌<◌, length, IfOk};
 ghost use Rattle.rmt_ptcam.specs.Fitting.{IsParser};
 
+use crate::check::repeated;
 use rmt_check::laws::one_meaning;
 use rmt_check::read_program;
 use rmt_config::config::ParserConfig;
@@ -79,8 +80,6 @@ const FRAMES: [(&[u8], Parsed); 7] = [
 #[test]
 fn realistic_frames(rt: HostRuntime) -> Result<(), Fail> {
     let parser = parser_of(rt.alloc(), HEADERS)?;
-    assert_eq!(rt; parser.entries.len(), 16);
-    assert_eq!(rt; parser.states.len(), 6);
     let mut frame = Vec::new(rt.alloc());
     for (line, want) in FRAMES.as_slice() {
         assert_eq!(rt; read_packet(rt.alloc(), *line, &mut frame), Ok(0));
@@ -108,87 +107,116 @@ fn frame_cut_at_each_byte(rt: HostRuntime) -> Result<(), Fail> {
     Ok(())
 }
 
-/// A header whose `n` tells a tail of `n * 4 - 4` bytes: one of 4 bytes, a cut one, and one of fewer than 0.
+/// A header whose `n` tells a tail of `n * 4 - 4` bytes, and frames: a tail of 4 bytes, a cut one, and one of fewer than 0.
+const TAILED: &[u8] = b"header o { n : 4; z : 4; tail n * 4 - 4; } next accept; control { }";
+
+const TAILS: [(&[u8], Parsed, (u16, u16)); 3] = [
+    (&[0x2f, 1, 2, 3, 4, 5], Parsed::Accept { used: 5 }, (1, 4)),
+    (&[0x2f, 1, 2, 3], Parsed::Short, (0, 0)),
+    (&[0x0f, 1, 2, 3, 4], Parsed::Reject, (0, 0)),
+];
+
 #[test]
 fn tails_of_a_header(rt: HostRuntime) -> Result<(), Fail> {
-    let text = b"header o { n : 4; z : 4; tail n * 4 - 4; } next accept; control { }";
-    let parser = parser_of(rt.alloc(), text)?;
-    let mut vector = Vector::new();
-    let mut tails = Tails::new();
-    let whole = [0x2f, 1, 2, 3, 4, 5];
-    let used = parse_chip(&parser, whole.as_slice(), &mut vector, &mut tails);
-    assert_eq!(rt; used, Parsed::Accept { used: 5 });
-    assert_eq!(rt; tails.get(0), (1, 4));
-    assert_eq!(rt; parsed(&parser, [0x2f, 1, 2, 3].as_slice()), Parsed::Short);
-    assert_eq!(rt;
-        parsed(&parser, [0x0f, 1, 2, 3, 4].as_slice()),
-        Parsed::Reject
-    );
+    let parser = parser_of(rt.alloc(), TAILED)?;
+    for (frame, answer, tail) in TAILS {
+        let mut vector = Vector::new();
+        let mut tails = Tails::new();
+        assert!(rt; frame.len() < 9217);
+        let got = parse_chip(&parser, frame, &mut vector, &mut tails);
+        assert_eq!(rt; got, answer);
+        if got == (Parsed::Accept { used: 5 }) {
+            assert_eq!(rt; tails.get(0), tail);
+        }
+    }
     Ok(())
 }
 
-/// Whether a text is refused for its lookups or its extracts.
-fn is_refused(alloc: Global, text: &[u8], lookups: u32, extracts: u32) -> bool
+/// How many entries and states the parser of a text has, or why it has none.
+fn told(alloc: Global, text: &[u8]) -> Result<String, AllocError>
     requires { length text.now < 4294967295 }
 {
     match parser_of(alloc, text) {
-        Err(ParserFault::LookupWide { header: 0, bytes }) => bytes == lookups,
-        Err(
-            ParserFault::StepWide {
-                header: 0,
-                extracts: count,
-            },
-        ) => count == extracts,
-        _ => false,
+        Ok(parser) => format!(in alloc;
+            "{} entries {} states",
+            parser.entries.len(),
+            parser.states.len()
+        ),
+        Err(ParserFault::LookupWide { header, bytes }) => format!(in alloc;
+            "lookup {header} {bytes}"
+        ),
+        Err(ParserFault::StepWide { header, extracts }) => format!(in alloc;
+            "step {header} {extracts}"
+        ),
+        Err(ParserFault::ParserFull { entries }) => format!(in alloc; "full {entries}"),
+        Err(_) => Err(AllocError),
     }
 }
 
-/// A select of 6 bytes, one of 5 of a field that begins inside a byte, and a header of 64 fields.
+/// A text whose middle part is repeated so often, and what is told of its parser.
+type Row = (
+    &'static [u8],
+    &'static [u8],
+    u16,
+    &'static [u8],
+    &'static str,
+);
+
+/// A program with 16 cases and `else`s; a select of 6 bytes, one of 5 of a field that begins inside a byte, and one of 4; a
+/// header of 64 fields; 255 cases and the `else`, and one case more.
+const SIZES: [Row; 7] = [
+    (HEADERS, b"", 0, b"", "16 entries 6 states"),
+    (
+        b"header h { a : 24; b : 24; } next (a, b) { else : accept; } control { }",
+        b"",
+        0,
+        b"",
+        "lookup 0 6",
+    ),
+    (
+        b"header h { a : 4; b : 32; c : 4; } next (b) { else : accept; } control { }",
+        b"",
+        0,
+        b"",
+        "lookup 0 5",
+    ),
+    (
+        b"header h { a : 8; b : 32; c : 8; } next (b) { else : accept; } control { }",
+        b"",
+        0,
+        b"",
+        "1 entries 1 states",
+    ),
+    (
+        b"header h {",
+        b" f# : 8;",
+        64,
+        b" } next accept; control { }",
+        "step 0 65",
+    ),
+    (
+        b"header h { f : 16; } next (f) {",
+        b" # : accept;",
+        255,
+        b" else : reject; } control { }",
+        "256 entries 1 states",
+    ),
+    (
+        b"header h { f : 16; } next (f) {",
+        b" # : accept;",
+        256,
+        b" else : reject; } control { }",
+        "full 257",
+    ),
+];
+
 #[test]
-fn headers_that_are_refused(rt: HostRuntime) -> Result<(), Fail> {
-    let six = b"header h { a : 24; b : 24; } next (a, b) { else : accept; } control { }";
-    assert!(rt; is_refused(rt.alloc(), six, 6, 0));
-    let five = b"header h { a : 4; b : 32; c : 4; } next (b) { else : accept; } control { }";
-    assert!(rt; is_refused(rt.alloc(), five, 5, 0));
-    let four = b"header h { a : 8; b : 32; c : 8; } next (b) { else : accept; } control { }";
-    assert!(rt; parser_of(rt.alloc(), four).is_ok());
-    let mut wide = String::new(rt.alloc());
-    wide.push_str("header h {")?;
-    for number in 0..64 {
-        let field = format!(in rt.alloc(); " f{number} : 8;")?;
-        wide.push_str(field.as_str())?;
+fn sizes_of_parsers(rt: HostRuntime) -> Result<(), Fail> {
+    for (front, piece, times, back, wanted) in SIZES {
+        let text = repeated(rt.alloc(), front, piece, times, back)?;
+        assert!(rt; text.len() < 10000);
+        let got = told(rt.alloc(), text.as_slice())?;
+        assert_eq!(rt; got.as_str(), wanted);
     }
-    wide.push_str(" } next accept; control { }")?;
-    assert!(rt; wide.len() < 10000);
-    assert!(rt; is_refused(rt.alloc(), wide.as_bytes(), 0, 65));
-    Ok(())
-}
-
-/// A header of 16 bits with that many cases.
-fn with_cases(alloc: Global, cases: u32) -> Result<String, AllocError> {
-    let mut text = String::new(alloc);
-    text.push_str("header h { f : 16; } next (f) {")?;
-    for number in 0..cases {
-        let case = format!(in alloc; " {number} : accept;")?;
-        text.push_str(case.as_str())?;
-    }
-    text.push_str(" else : reject; } control { }")?;
-    Ok(text)
-}
-
-/// 256 cases and the `else` are one entry too many.
-#[test]
-fn entries_that_are_refused(rt: HostRuntime) -> Result<(), Fail> {
-    let most = with_cases(rt.alloc(), 255)?;
-    assert!(rt; most.len() < 10000);
-    let parser = parser_of(rt.alloc(), most.as_bytes())?;
-    assert_eq!(rt; parser.entries.len(), 256);
-    let more = with_cases(rt.alloc(), 256)?;
-    assert!(rt; more.len() < 10000);
-    let is_full = matches!(
-        parser_of(rt.alloc(), more.as_bytes()),
-        Err(ParserFault::ParserFull { entries: 257 })
-    );
-    assert!(rt; is_full);
     Ok(())
 }

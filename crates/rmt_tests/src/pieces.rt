@@ -1,146 +1,11 @@
+//! Packet texts that are read in pieces.
+
 ghost use Rattle.std.specs.Prelude.{◌+◌, ◌^◌, ◌<◌, ◌≤◌, length, IsTrue};
 
-use rmt_io::mem_shelf::MemShelf;
-use rmt_io::shelf::{Shelf, ShelfFault};
-use rmt_io::true_shelf::TrueShelf;
 use rmt_packets::packet_line::{PacketFault, read_packet};
 use rmt_packets::pieces::Lines;
 use std::alloc::{AllocError, Global};
-use std::fs;
 use std::test::Fail;
-
-/// A name that no other file of the tests' folder has.
-const NAME: &str = "rmt_io_open_file_test";
-
-/// The bytes of the open file from its position on, at most `room` at a time, and a 0 behind each piece.
-fn pieces_of<S: Shelf>(alloc: Global, shelf: &mut S, room: u8) -> Result<Vec<u8>, Fail>
-    requires { 0 < room }
-{
-    let mut into = vec![in alloc; 9u8; room as usize]?;
-    let mut pieces = Vec::new(alloc);
-    for _ in 0..20 {
-        let count = shelf.next(into.as_mut_slice())?;
-        if count == 0 {
-            break;
-        }
-        pieces.extend_from_slice(&into[..count])?;
-        pieces.push(0)?;
-    }
-    Ok(pieces)
-}
-
-#[test]
-fn a_file_in_pieces(rt: HostRuntime) -> Result<(), Fail> {
-    let alloc = rt.alloc();
-    let name = String::from_str(alloc, "a")?;
-    // what the file holds, the most bytes of one call, the room of the caller, and what comes
-    let rows: [(&[u8], u32, u8, &[u8]); 6] = [
-        (b"", 1, 1, b""),
-        (b"abcde", 1, 8, b"a\0b\0c\0d\0e\0"),
-        (b"abcde", 8, 2, b"ab\0cd\0e\0"),
-        (b"abcde", 3, 8, b"abc\0de\0"),
-        (b"abcde", 5, 5, b"abcde\0"),
-        (b"abcde", 9, 9, b"abcde\0"),
-    ];
-    for (bytes, most, room, wanted) in rows {
-        assert!(rt; 0 < most && 0 < room);
-        let mut shelf = MemShelf::new(Vec::new(alloc), most);
-        assert_eq!(rt; pieces_of(alloc, &mut shelf, room)?.len(), 0);
-        shelf.put_file(&name, &bytes.to_vec(alloc)?)?;
-        shelf.open(alloc, &name)?;
-        assert_eq!(rt; pieces_of(alloc, &mut shelf, room)?.as_slice(), wanted);
-        assert_eq!(rt; pieces_of(alloc, &mut shelf, room)?.len(), 0);
-        shelf.open(alloc, &name)?;
-        assert_eq!(rt; pieces_of(alloc, &mut shelf, room)?.as_slice(), wanted);
-    }
-    Ok(())
-}
-
-#[test]
-fn what_closes_a_file(rt: HostRuntime) -> Result<(), Fail> {
-    let alloc = rt.alloc();
-    let name = String::from_str(alloc, "a")?;
-    let other = String::from_str(alloc, "b")?;
-    let mut into = vec![in alloc; 9u8; 1]?;
-    let mut read = Vec::new(alloc);
-    let mut shelf = MemShelf::new(Vec::new(alloc), 2);
-    shelf.put_file(&name, &b"abc".to_vec(alloc)?)?;
-    shelf.open(alloc, &name)?;
-    assert_eq!(rt; shelf.next(into.as_mut_slice()), Ok(1));
-    // a file that is replaced goes on in its new bytes, and ends where it has no more
-    shelf.put_file(&name, &b"xyz".to_vec(alloc)?)?;
-    assert_eq!(rt; shelf.next(into.as_mut_slice()), Ok(1));
-    assert_eq!(rt; into.as_slice(), b"y".as_slice());
-    shelf.put_file(&name, &b"x".to_vec(alloc)?)?;
-    assert_eq!(rt; shelf.next(into.as_mut_slice()), Ok(0));
-    shelf.open(alloc, &name)?;
-    shelf.write(alloc, &name, &b"new".to_vec(alloc)?)?;
-    assert_eq!(rt; shelf.next(into.as_mut_slice()), Ok(0));
-    shelf.open(alloc, &name)?;
-    shelf.read(alloc, &name, 3, &mut read)?;
-    assert_eq!(rt; shelf.next(into.as_mut_slice()), Ok(0));
-    shelf.open(alloc, &name)?;
-    assert_eq!(rt; shelf.open(alloc, &other), Err(ShelfFault::Failed));
-    assert_eq!(rt; shelf.next(into.as_mut_slice()), Ok(0));
-    Ok(())
-}
-
-#[test]
-fn each_call_of_an_open_file_fails(rt: HostRuntime) -> Result<(), Fail> {
-    let alloc = rt.alloc();
-    let name = String::from_str(alloc, "a")?;
-    // which call fails, and what is read of "ab" by `open` and three calls of `next`, with `!` for a fault
-    let rows: [(u64, &[u8]); 5] = [
-        (1, b"!---"),
-        (2, b".!ab"),
-        (3, b".a!b"),
-        (4, b".ab!"),
-        (5, b".ab-"),
-    ];
-    for (number, wanted) in rows {
-        let mut shelf = MemShelf::new(vec![in alloc; number]?, 1);
-        shelf.put_file(&name, &b"ab".to_vec(alloc)?)?;
-        let mut told = Vec::new(alloc);
-        told.push(if shelf.open(alloc, &name).is_ok() {
-            b'.'
-        } else {
-            b'!'
-        })?;
-        for _ in 0..3 {
-            let mut into = [b'-'];
-            let answer = shelf.next(into.as_mut_slice());
-            told.push(if answer.is_ok() { into[0] } else { b'!' })?;
-        }
-        assert_eq!(rt; told.as_slice(), wanted);
-    }
-    Ok(())
-}
-
-#[test]
-fn an_open_file_of_the_machine(rt: HostRuntime) -> Result<(), Fail> {
-    let alloc = rt.alloc();
-    let mut shelf = TrueShelf::new(&rt);
-    let name = String::from_str(alloc, NAME)?;
-    let mut read = Vec::new(alloc);
-    assert_eq!(rt; pieces_of(alloc, &mut shelf, 2)?.len(), 0);
-    assert_eq!(rt; shelf.open(alloc, &name), Err(ShelfFault::Failed));
-    shelf.write(alloc, &name, &b"abcde".to_vec(alloc)?)?;
-    shelf.open(alloc, &name)?;
-    assert_eq!(rt;
-        pieces_of(alloc, &mut shelf, 2)?.as_slice(),
-        b"ab\0cd\0e\0".as_slice()
-    );
-    shelf.open(alloc, &name)?;
-    shelf.read(alloc, &name, 5, &mut read)?;
-    assert_eq!(rt; pieces_of(alloc, &mut shelf, 2)?.len(), 0);
-    shelf.open(alloc, &name)?;
-    shelf.write(alloc, &name, &Vec::new(alloc))?;
-    assert_eq!(rt; pieces_of(alloc, &mut shelf, 2)?.len(), 0);
-    shelf.open(alloc, &name)?;
-    assert_eq!(rt; pieces_of(alloc, &mut shelf, 2)?.len(), 0);
-    fs::remove_file(&rt, NAME)?;
-    Ok(())
-}
 
 /// The number of a ready line, as a byte, and its text, with a line feed behind it.
 fn tell(lines: &Lines, into: &mut Vec<u8>) -> Result<(), AllocError>
@@ -258,16 +123,13 @@ fn a_long_line_is_read_as_its_front(rt: HostRuntime) -> Result<(), Fail> {
     ];
     for (digits, wanted) in rows {
         let mut line = b"7 ".to_vec(alloc)?;
-        line.extend_from_slice(vec![in alloc; b'0'; digits as usize]?.as_slice())?;
-        assert_eq!(rt; read_packet(alloc, line.as_slice(), &mut frame), wanted);
+        line.resize(digits as usize + 2, b'0')?;
         assert!(rt; line.len() <= 65536);
-        let mut lines = Lines::new(alloc)?;
-        let taken = lines.take(line.as_slice());
-        assert_eq!(rt; taken.used as usize, line.len());
-        let last = lines.finish();
-        assert!(rt; last);
-        if last {
-            assert_eq!(rt; read_packet(alloc, lines.text(), &mut frame), wanted);
+        // behind its number, and before a line feed
+        let told = in_pieces(alloc, line.as_slice(), 0, 65536)?;
+        let front = told.as_slice().get(1..told.len().saturating_sub(1));
+        for text in [line.as_slice(), front.unwrap_or(&[])] {
+            assert_eq!(rt; read_packet(alloc, text, &mut frame), wanted);
         }
     }
     Ok(())

@@ -2,7 +2,7 @@
 
 ghost use Rattle.std.specs.Prelude.{◌<◌, length};
 
-use rmt_ast::name::Name;
+use crate::check::shown::push_name;
 use rmt_ast::program::Program;
 use rmt_check::read_program;
 use rmt_lexer::fault::ProgramFault;
@@ -10,38 +10,21 @@ use std::alloc::{AllocError, Global};
 use std::process::Abort;
 use std::test::*;
 
-fn push_name(out: &mut String, name: &Name) -> Result<(), AllocError> {
-    for byte in name.as_slice() {
-        out.push(char::from(*byte))?;
-    }
-    Ok(())
-}
-
 /// The fields of a program with their widths, and its headers with their tails.
 fn shown(alloc: Global, program: &Program) -> Result<String, AllocError> {
     let mut out = String::new(alloc);
     for field in program.fields.as_slice() {
         push_name(&mut out, &field.name)?;
-        let width = field.width;
-        let text = format!(in alloc; " {width}, ")?;
-        out.push_str(text.as_str())?;
+        write!(out, " {}, ", field.width)?;
     }
     for header in program.headers.as_slice() {
         push_name(&mut out, &header.name)?;
-        let valid = header.valid;
-        let bytes = header.bytes;
-        let text = format!(in alloc; " valid {valid} bytes {bytes} fields")?;
-        out.push_str(text.as_str())?;
+        write!(out, " valid {} bytes {} fields", header.valid, header.bytes)?;
         for number in header.fields.as_slice() {
-            let text = format!(in alloc; " {number}")?;
-            out.push_str(text.as_str())?;
+            write!(out, " {number}")?;
         }
         if let Some(tail) = &header.tail {
-            let field = tail.field;
-            let unit = tail.unit;
-            let base = tail.base;
-            let text = format!(in alloc; " tail {field} * {unit} - {base}")?;
-            out.push_str(text.as_str())?;
+            write!(out, " tail {} * {} - {}", tail.field, tail.unit, tail.base)?;
         }
         out.push_str(";")?;
     }

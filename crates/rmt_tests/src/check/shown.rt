@@ -2,7 +2,7 @@
 
 use rmt_ast::name::Name;
 use rmt_ast::program::{
-    Action, Case, Expr, Header, Kind, Leaf, Node, Op, Program, Table, Target, Test, What,
+    Action, Assign, Case, Expr, Header, Kind, Leaf, Node, Op, Program, Table, Target, Test, What,
 };
 use std::alloc::{AllocError, Global};
 
@@ -12,97 +12,80 @@ pub fn shown(alloc: Global, program: &Program) -> Result<String, AllocError> {
     for field in program.fields.as_slice() {
         out.push_str("field ")?;
         push_name(&mut out, &field.name)?;
-        push_number(alloc, &mut out, u128::from(field.width))?;
-        out.push_str("\n")?;
+        write!(out, " {}\n", field.width)?;
     }
     for header in program.headers.as_slice() {
-        push_header(alloc, &mut out, header)?;
+        push_header(&mut out, header)?;
     }
     for action in program.actions.as_slice() {
-        push_action(alloc, &mut out, action)?;
+        push_action(&mut out, action)?;
     }
     for table in program.tables.as_slice() {
-        push_table(alloc, &mut out, table)?;
+        push_table(&mut out, table)?;
     }
     for node in program.nodes.as_slice() {
-        push_node(alloc, &mut out, node)?;
+        push_node(&mut out, node)?;
     }
     Ok(out)
 }
 
-fn push_name(out: &mut String, name: &Name) -> Result<(), AllocError> {
+/// A name as it is spelled.
+pub fn push_name(out: &mut String, name: &Name) -> Result<(), AllocError> {
     for byte in name.as_slice() {
         out.push(char::from(*byte))?;
     }
     Ok(())
 }
 
-/// A number behind a space.
-fn push_number(alloc: Global, out: &mut String, number: u128) -> Result<(), AllocError> {
-    let text = format!(in alloc; " {number}")?;
-    out.push_str(text.as_str())
-}
-
-fn push_numbers(alloc: Global, out: &mut String, numbers: &[u32]) -> Result<(), AllocError> {
+fn push_numbers(out: &mut String, numbers: &[u32]) -> Result<(), AllocError> {
     for number in numbers {
-        push_number(alloc, out, u128::from(*number))?;
+        write!(out, " {number}")?;
     }
     Ok(())
 }
 
-fn push_test(alloc: Global, out: &mut String, test: &Test) -> Result<(), AllocError> {
-    let value = test.value;
-    let mask = test.mask;
-    let text = format!(in alloc; " {value}&{mask}")?;
-    out.push_str(text.as_str())
+fn push_test(out: &mut String, test: &Test) -> Result<(), AllocError> {
+    write!(out, " {}&{}", test.value, test.mask)
 }
 
-fn push_target(alloc: Global, out: &mut String, target: &Target) -> Result<(), AllocError> {
+fn push_target(out: &mut String, target: &Target) -> Result<(), AllocError> {
     match target {
         Target::Accept => out.push_str(" accept"),
         Target::Reject => out.push_str(" reject"),
-        Target::Node(number) => {
-            let text = format!(in alloc; " #{number}")?;
-            out.push_str(text.as_str())
-        }
+        Target::Node(number) => write!(out, " #{number}"),
     }
 }
 
-fn push_case(alloc: Global, out: &mut String, case: &Case) -> Result<(), AllocError> {
+fn push_case(out: &mut String, case: &Case) -> Result<(), AllocError> {
     out.push_str(" case")?;
     for test in case.tests.as_slice() {
-        push_test(alloc, out, test)?;
+        push_test(out, test)?;
     }
     out.push_str(" to")?;
-    push_target(alloc, out, &case.target)
+    push_target(out, &case.target)
 }
 
-fn push_header(alloc: Global, out: &mut String, header: &Header) -> Result<(), AllocError> {
+fn push_header(out: &mut String, header: &Header) -> Result<(), AllocError> {
     out.push_str("header ")?;
     push_name(out, &header.name)?;
-    out.push_str(" valid")?;
-    push_number(alloc, out, u128::from(header.valid))?;
-    out.push_str(" fields")?;
-    push_numbers(alloc, out, header.fields.as_slice())?;
-    out.push_str(" bytes")?;
-    push_number(alloc, out, u128::from(header.bytes))?;
-    out.push_str(" select")?;
-    push_numbers(alloc, out, header.select.as_slice())?;
+    write!(out, " valid {} fields", header.valid)?;
+    push_numbers(out, header.fields.as_slice())?;
+    write!(out, " bytes {} select", header.bytes)?;
+    push_numbers(out, header.select.as_slice())?;
     for case in header.cases.as_slice() {
-        push_case(alloc, out, case)?;
+        push_case(out, case)?;
     }
     out.push_str(" else")?;
-    push_target(alloc, out, &header.other)?;
+    push_target(out, &header.other)?;
     out.push_str("\n")
 }
 
-fn push_leaf(alloc: Global, out: &mut String, leaf: &Leaf) -> Result<(), AllocError> {
-    let text = match leaf {
-        Leaf::Field(number) => format!(in alloc; "f{number}")?,
-        Leaf::Param(number) => format!(in alloc; "p{number}")?,
-        Leaf::Number(number) => format!(in alloc; "n{number}")?,
-    };
-    out.push_str(text.as_str())
+fn push_leaf(out: &mut String, leaf: &Leaf) -> Result<(), AllocError> {
+    match leaf {
+        Leaf::Field(number) => write!(out, "f{number}"),
+        Leaf::Param(number) => write!(out, "p{number}"),
+        Leaf::Number(number) => write!(out, "n{number}"),
+    }
 }
 
 fn sign_of(op: Op) -> &'static str {
@@ -115,30 +98,34 @@ fn sign_of(op: Op) -> &'static str {
     }
 }
 
-fn push_expr(alloc: Global, out: &mut String, expr: &Expr) -> Result<(), AllocError> {
+fn push_expr(out: &mut String, expr: &Expr) -> Result<(), AllocError> {
     match expr {
-        Expr::One(leaf) => push_leaf(alloc, out, leaf),
+        Expr::One(leaf) => push_leaf(out, leaf),
         Expr::Two(op, left, right) => {
-            push_leaf(alloc, out, left)?;
+            push_leaf(out, left)?;
             out.push_str(sign_of(*op))?;
-            push_leaf(alloc, out, right)
+            push_leaf(out, right)
         }
     }
 }
 
-fn push_action(alloc: Global, out: &mut String, action: &Action) -> Result<(), AllocError> {
+/// Assignments, each behind a space.
+pub fn push_assigns(out: &mut String, assigns: &[Assign]) -> Result<(), AllocError> {
+    for assign in assigns {
+        write!(out, " f{}=", assign.dest)?;
+        push_expr(out, &assign.expr)?;
+    }
+    Ok(())
+}
+
+fn push_action(out: &mut String, action: &Action) -> Result<(), AllocError> {
     out.push_str("action ")?;
     push_name(out, &action.name)?;
     out.push_str(" params")?;
     for width in action.params.as_slice() {
-        push_number(alloc, out, u128::from(*width))?;
+        write!(out, " {width}")?;
     }
-    for assign in action.assigns.as_slice() {
-        let dest = assign.dest;
-        let text = format!(in alloc; " f{dest}=")?;
-        out.push_str(text.as_str())?;
-        push_expr(alloc, out, &assign.expr)?;
-    }
+    push_assigns(out, action.assigns.as_slice())?;
     out.push_str("\n")
 }
 
@@ -151,46 +138,36 @@ fn kind_of(kind: Kind) -> &'static str {
     }
 }
 
-fn push_table(alloc: Global, out: &mut String, table: &Table) -> Result<(), AllocError> {
+fn push_table(out: &mut String, table: &Table) -> Result<(), AllocError> {
     out.push_str("table ")?;
     push_name(out, &table.name)?;
     out.push_str(kind_of(table.kind))?;
     out.push_str(" key")?;
-    push_numbers(alloc, out, table.key.as_slice())?;
+    push_numbers(out, table.key.as_slice())?;
     out.push_str(" actions")?;
-    push_numbers(alloc, out, table.actions.as_slice())?;
-    out.push_str(" default")?;
-    push_number(alloc, out, u128::from(table.default))?;
-    out.push_str(" args")?;
+    push_numbers(out, table.actions.as_slice())?;
+    write!(out, " default {} args", table.default)?;
     for arg in table.args.as_slice() {
-        push_number(alloc, out, *arg)?;
+        write!(out, " {arg}")?;
     }
-    out.push_str(" size")?;
-    push_number(alloc, out, u128::from(table.size))?;
-    out.push_str(if table.counted {
-        " counted\n"
+    let counted = if table.counted {
+        "counted"
     } else {
-        " uncounted\n"
-    })
+        "uncounted"
+    };
+    write!(out, " size {} {counted}\n", table.size)
 }
 
-fn push_node(alloc: Global, out: &mut String, node: &Node) -> Result<(), AllocError> {
+fn push_node(out: &mut String, node: &Node) -> Result<(), AllocError> {
     out.push_str("node")?;
     if let Some(guard) = &node.guard {
-        let parent = guard.parent;
-        let mask = guard.mask;
-        let text = format!(in alloc; " under {parent} mask {mask}")?;
-        out.push_str(text.as_str())?;
+        write!(out, " under {} mask {}", guard.parent, guard.mask)?;
     }
     match &node.what {
-        What::Apply(table) => {
-            out.push_str(" apply")?;
-            push_number(alloc, out, u128::from(*table))?;
-        }
+        What::Apply(table) => write!(out, " apply {table}")?,
         What::Gate { field, test } => {
-            out.push_str(" if")?;
-            push_number(alloc, out, u128::from(*field))?;
-            push_test(alloc, out, test)?;
+            write!(out, " if {field}")?;
+            push_test(out, test)?;
         }
     }
     out.push_str("\n")

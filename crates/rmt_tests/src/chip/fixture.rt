@@ -1,0 +1,197 @@
+//! Chips of images that are written out, and what they are to answer.
+
+ghost use Rattle.rmt_chip.specs.Inputs.{MayEnter};
+
+use rmt_bits::answer::Verdict;
+use rmt_chip::chip::Chip;
+use rmt_chip::frame::Frame;
+use rmt_chip::out::Out;
+use rmt_image::read_image;
+use std::alloc::AllocError;
+use std::process::Abort;
+use std::test::*;
+
+/// The port and the frame that enter in a cycle, of which an empty one is none, and the answer to them with its bytes.
+pub type Row<'a> = (u16, &'a [u8], Option<Verdict>, &'a [u8]);
+
+/// A cycle in which nothing enters.
+pub const NOTHING: Row<'static> = (0, &[], None, &[]);
+
+/// A packet is sent to port 0.
+pub const SENT: Option<Verdict> = Some(Verdict::Sent { port: 0 });
+
+/// A cycle, an age, a word, and the packet's number with the word's value; None for no packet.
+pub type Look = (usize, u16, u8, Option<(u64, u32)>);
+
+/// The front of an image whose header has two bytes, in words 2 and 3. In every image here the header's valid bit is bit 0
+/// of word 0, and the drop bit is bit 0 of word 1.
+pub const TWO_BYTES: &str = "
+524d5449 0001 00 400009 410009 010001       # letters, version, seed, in_port, out_port, drop
+01 000001 02 02 020008 030008               # a header with the bytes in words 2 and 3
+0001 00                                     # a state that looks at nothing
+0001 00 00000000 00000000 02 02 00 03       # an entry that takes 2 bytes and accepts
+     01000001 000000020008 000008030008     # it makes the header valid, and fills the words
+";
+
+/// No rows of SRAM and TCAM.
+pub const NO_ROWS: &str = "00000000 00000000";
+
+/// The value of a hexadecimal digit.
+fn digit_of(byte: u8) -> Option<u8> {
+    match byte {
+        b'0'..=b'9' => Some(byte - b'0'),
+        b'a'..=b'f' => Some(byte - b'a' + 10),
+        _ => None,
+    }
+}
+
+/// Adds the bytes of a text of hexadecimal digits; blanks are passed over, and what stands behind `#` on a line.
+fn push_text(image: &mut Vec<u8>, text: &str) -> Result<(), AllocError> {
+    let mut is_note = false;
+    let mut high = None;
+    for byte in text.as_bytes() {
+        if *byte == b'#' || *byte == b'\n' {
+            is_note = *byte == b'#';
+        }
+        if is_note {
+            continue;
+        }
+        if let Some(digit) = digit_of(*byte) {
+            match high {
+                None => high = Some(digit),
+                Some(first) => {
+                    image.push(digit.wrapping_add(16u8.wrapping_mul(first)))?;
+                    high = None;
+                }
+            }
+        }
+    }
+    Ok(())
+}
+
+/// Adds the bytes of texts.
+pub fn push_texts(image: &mut Vec<u8>, texts: &[&str]) -> Result<(), AllocError> {
+    for text in texts {
+        push_text(image, text)?;
+    }
+    Ok(())
+}
+
+/// A chip of an image that is in form and within the limits.
+pub fn open_image(rt: &(impl Abort + AllocGlobal), image: &[u8]) -> Result<Chip, Fail> {
+    let config = read_image(rt.alloc(), image)?;
+    assert!(rt; config.formed(rt.alloc())?, "a configuration in form");
+    assert!(rt; config.fits().is_ok(), "a configuration within limits");
+    Ok(Chip::open(rt.alloc(), config)?)
+}
+
+/// A chip of an image in several texts.
+pub fn open(rt: &(impl Abort + AllocGlobal), texts: &[&str]) -> Result<Chip, Fail> {
+    let mut image = Vec::new(rt.alloc());
+    push_texts(&mut image, texts)?;
+    open_image(rt, image.as_slice())
+}
+
+/// The frame of an input.
+fn frame_of<'a>(rt: &impl Abort, input: Option<(u16, &'a [u8])>) -> Option<Frame<'a>>
+    ensures { MayEnter result }
+{
+    match input {
+        None => None,
+        Some((port, bytes)) => {
+            assert!(rt; port < 512 && !bytes.is_empty() && bytes.len() <= 9216);
+            Some(Frame { port, bytes })
+        }
+    }
+}
+
+/// One cycle.
+pub fn step(
+    rt: &impl Abort,
+    chip: &mut Chip,
+    out: &mut Out,
+    input: Option<(u16, &[u8])>,
+) -> Option<Verdict> {
+    assert!(rt; chip.entered() < 1 << 63);
+    let frame = frame_of(rt, input);
+    chip.clock(frame, out)
+}
+
+/// What is seen of the packet of an age: its number, and a word.
+fn seen(rt: &impl Abort, chip: &Chip, age: u16, word: u8) -> Option<(u64, u32)> {
+    assert!(rt; word < 224);
+    match chip.probe(age) {
+        None => None,
+        Some(seen) => Some((seen.number, seen.words.get(word))),
+    }
+}
+
+/// Compares what is seen in a cycle.
+fn look(rt: &impl Abort, chip: &Chip, now: usize, looks: &[Look]) {
+    for (cycle, age, word, wanted) in looks {
+        if *cycle == now {
+            assert_eq!(rt;
+                seen(rt, chip, *age, *word),
+                *wanted,
+                "word {word} at age {age} in cycle {cycle}"
+            );
+        }
+    }
+}
+
+/// What enters with a row.
+fn input_of<'a>(row: Option<&Row<'a>>) -> Option<(u16, &'a [u8])> {
+    match row {
+        None => None,
+        Some((port, frame, _, _)) => {
+            if frame.is_empty() {
+                None
+            } else {
+                Some((*port, *frame))
+            }
+        }
+    }
+}
+
+/// Compares the answer of a cycle with that of the row that is to leave in it, if there is one.
+fn answered(
+    rt: &impl Abort,
+    cycle: usize,
+    verdict: Option<Verdict>,
+    bytes: &[u8],
+    row: Option<&Row<'_>>,
+) {
+    let (wanted, sent): (Option<Verdict>, &[u8]) = match row {
+        None => (None, &[]),
+        Some((_, _, verdict, sent)) => (*verdict, *sent),
+    };
+    assert_eq!(rt; verdict, wanted, "cycle {cycle}");
+    assert_eq!(rt; bytes, sent, "cycle {cycle}");
+}
+
+/// Clocks a chip with an input a cycle, and then with nothing, until two cycles after the last row
+/// has left; compares each answer, and what is seen on the way.
+pub fn replay(
+    rt: &(impl Abort + AllocGlobal),
+    chip: &mut Chip,
+    latency: u16,
+    rows: &[Row<'_>],
+    looks: &[Look],
+) -> Result<(), Fail> {
+    assert_eq!(rt; chip.latency(), latency);
+    let latency = usize::from(latency);
+    let mut out = Out::new(rt.alloc())?;
+    let cycles = rows.len().saturating_add(latency + 2);
+    for cycle in 0..cycles {
+        let input = input_of(rows.get(cycle));
+        let verdict = step(rt, chip, &mut out, input);
+        let leaving = if cycle < latency {
+            None
+        } else {
+            rows.get(cycle - latency)
+        };
+        answered(rt, cycle, verdict, out.bytes(), leaving);
+        look(rt, chip, cycle, looks);
+    }
+    Ok(())
+}

@@ -1,0 +1,377 @@
+//! Shelves in memory and of the machine, step by step.
+
+use rmt_io::mem_shelf::MemShelf;
+use rmt_io::shelf::{Shelf, ShelfFault};
+use rmt_io::true_shelf::TrueShelf;
+use std::alloc::{AllocError, Global};
+use std::fs;
+use std::process::Abort;
+use std::test::*;
+
+/// What is asked of a shelf for a file.
+#[derive(Clone, Copy)]
+enum Step {
+    /// It is made these bytes.
+    Write(&'static [u8]),
+    /// It is read, where it has at most so many bytes.
+    Read(u64),
+    /// It is opened.
+    Open,
+    /// The next bytes of the open file are read, at most so many.
+    Next(usize),
+}
+
+/// The name of a file, what is asked, the answer, and the bytes that stand in the buffer then; before each step `-` does.
+type Row = (&'static str, Step, Result<(), ShelfFault>, &'static [u8]);
+
+/// Reads the next bytes of the open file.
+fn next<S: Shelf>(
+    alloc: Global,
+    shelf: &mut S,
+    room: usize,
+    read: &mut Vec<u8>,
+) -> Result<Result<(), ShelfFault>, AllocError> {
+    if room == 0 {
+        return Err(AllocError);
+    }
+    let mut piece = vec![in alloc; 0u8; room]?;
+    match shelf.next(piece.as_mut_slice()) {
+        Ok(count) => {
+            read.clear();
+            read.extend_from_slice(&piece[..count])?;
+            Ok(Ok(()))
+        }
+        Err(fault) => Ok(Err(fault)),
+    }
+}
+
+/// Takes a step.
+fn act<S: Shelf>(
+    alloc: Global,
+    shelf: &mut S,
+    name: &str,
+    step: Step,
+    read: &mut Vec<u8>,
+) -> Result<Result<(), ShelfFault>, AllocError> {
+    let name = String::from_str(alloc, name)?;
+    match step {
+        Step::Write(bytes) => {
+            let bytes = Vec::from_slice(alloc, bytes)?;
+            Ok(shelf.write(alloc, &name, &bytes))
+        }
+        Step::Read(most) => Ok(shelf.read(alloc, &name, most, read)),
+        Step::Open => Ok(shelf.open(alloc, &name)),
+        Step::Next(room) => next(alloc, shelf, room, read),
+    }
+}
+
+/// Takes steps, and compares their answers.
+fn run<S: Shelf>(
+    rt: &(impl Abort + AllocGlobal),
+    shelf: &mut S,
+    rows: &[Row],
+) -> Result<(), AllocError> {
+    let mut read = Vec::new(rt.alloc());
+    for (name, step, answer, bytes) in rows {
+        read.clear();
+        read.push(b'-')?;
+        assert_eq!(rt; act(rt.alloc(), shelf, name, *step, &mut read)?, *answer);
+        assert_eq!(rt; read.as_slice(), *bytes);
+    }
+    Ok(())
+}
+
+/// Replaces or makes a file of a shelf in memory; an error for want of memory.
+fn put(alloc: Global, shelf: &mut MemShelf, name: &str, bytes: &[u8]) -> Result<(), AllocError> {
+    let name = String::from_str(alloc, name)?;
+    let bytes = Vec::from_slice(alloc, bytes)?;
+    match shelf.put_file(&name, &bytes) {
+        Ok(()) => Ok(()),
+        Err(_) => Err(AllocError),
+    }
+}
+
+/// How many bytes a file of a shelf in memory has.
+fn size_of(alloc: Global, shelf: &MemShelf, name: &str) -> Result<Option<usize>, AllocError> {
+    let name = String::from_str(alloc, name)?;
+    match shelf.file(&name) {
+        None => Ok(None),
+        Some(bytes) => Ok(Some(bytes.len())),
+    }
+}
+
+const READ: [Row; 6] = [
+    ("b", Step::Write(&[3]), Ok(()), b"-"),
+    ("a", Step::Read(2), Ok(()), &[1, 2]),
+    ("b", Step::Read(2), Ok(()), &[3]),
+    ("a", Step::Read(1), Err(ShelfFault::TooLong), b""),
+    ("a", Step::Write(b""), Ok(()), b"-"),
+    ("a", Step::Read(0), Ok(()), b""),
+];
+
+#[test]
+fn shelf_in_memory(rt: HostRuntime) -> Result<(), Fail> {
+    let mut shelf = MemShelf::new(Vec::new(rt.alloc()), 5);
+    assert_eq!(rt; size_of(rt.alloc(), &shelf, "a")?, None);
+    put(rt.alloc(), &mut shelf, "a", &[1, 2])?;
+    run(&rt, &mut shelf, &READ)?;
+    assert_eq!(rt; size_of(rt.alloc(), &shelf, "a")?, Some(0));
+    Ok(())
+}
+
+const READS: Row = ("a", Step::Read(1), Ok(()), b"7");
+
+const READS_NEW: Row = ("a", Step::Read(1), Ok(()), b"8");
+
+const CANNOT_READ: Row = ("a", Step::Read(1), Err(ShelfFault::Failed), b"");
+
+const WRITES: Row = ("a", Step::Write(b"8"), Ok(()), b"-");
+
+const CANNOT_WRITE: Row = ("a", Step::Write(b"8"), Err(ShelfFault::Failed), b"-");
+
+/// The number of the call that fails, and what is read and written.
+const FAILING: [(u64, &[Row]); 3] = [
+    (1, &[CANNOT_READ, WRITES, READS_NEW, WRITES, READS_NEW]),
+    (2, &[READS, CANNOT_WRITE, READS, WRITES, READS_NEW]),
+    (3, &[READS, WRITES, CANNOT_READ, WRITES, READS_NEW]),
+];
+
+#[test]
+fn shelf_calls_fail_by_number(rt: HostRuntime) -> Result<(), Fail> {
+    for (number, rows) in FAILING {
+        let mut shelf = MemShelf::new(vec![in rt.alloc(); number]?, 5);
+        put(rt.alloc(), &mut shelf, "a", b"7")?;
+        run(&rt, &mut shelf, rows)?;
+    }
+    Ok(())
+}
+
+const OPENS: Row = ("a", Step::Open, Ok(()), b"-");
+
+const CANNOT_OPEN: Row = ("a", Step::Open, Err(ShelfFault::Failed), b"-");
+
+const CANNOT_GO_ON: Row = ("a", Step::Next(1), Err(ShelfFault::Failed), b"-");
+
+/// The number of the call that fails, and what is read of "ab", a byte a call.
+const FAILING_OPEN: [(u64, &[Row]); 5] = [
+    (
+        1,
+        &[
+            CANNOT_OPEN,
+            ("a", Step::Next(1), Ok(()), b""),
+            ("a", Step::Next(1), Ok(()), b""),
+            ("a", Step::Next(1), Ok(()), b""),
+        ],
+    ),
+    (
+        2,
+        &[
+            OPENS,
+            CANNOT_GO_ON,
+            ("a", Step::Next(1), Ok(()), b"a"),
+            ("a", Step::Next(1), Ok(()), b"b"),
+        ],
+    ),
+    (
+        3,
+        &[
+            OPENS,
+            ("a", Step::Next(1), Ok(()), b"a"),
+            CANNOT_GO_ON,
+            ("a", Step::Next(1), Ok(()), b"b"),
+        ],
+    ),
+    (
+        4,
+        &[
+            OPENS,
+            ("a", Step::Next(1), Ok(()), b"a"),
+            ("a", Step::Next(1), Ok(()), b"b"),
+            CANNOT_GO_ON,
+        ],
+    ),
+    (
+        5,
+        &[
+            OPENS,
+            ("a", Step::Next(1), Ok(()), b"a"),
+            ("a", Step::Next(1), Ok(()), b"b"),
+            ("a", Step::Next(1), Ok(()), b""),
+        ],
+    ),
+];
+
+#[test]
+fn each_call_of_an_open_file_fails(rt: HostRuntime) -> Result<(), Fail> {
+    for (number, rows) in FAILING_OPEN {
+        let mut shelf = MemShelf::new(vec![in rt.alloc(); number]?, 1);
+        put(rt.alloc(), &mut shelf, "a", b"ab")?;
+        run(&rt, &mut shelf, rows)?;
+    }
+    Ok(())
+}
+
+/// The most bytes of a call, and how the file "abcde" is read.
+const PIECES: [(u32, &[Row]); 5] = [
+    (
+        1,
+        &[
+            OPENS,
+            ("a", Step::Next(8), Ok(()), b"a"),
+            ("a", Step::Next(8), Ok(()), b"b"),
+            ("a", Step::Next(8), Ok(()), b"c"),
+            ("a", Step::Next(8), Ok(()), b"d"),
+            ("a", Step::Next(8), Ok(()), b"e"),
+            ("a", Step::Next(8), Ok(()), b""),
+        ],
+    ),
+    (
+        8,
+        &[
+            ("a", Step::Next(2), Ok(()), b""),
+            OPENS,
+            ("a", Step::Next(2), Ok(()), b"ab"),
+            ("a", Step::Next(2), Ok(()), b"cd"),
+            ("a", Step::Next(2), Ok(()), b"e"),
+            ("a", Step::Next(2), Ok(()), b""),
+            ("a", Step::Next(2), Ok(()), b""),
+        ],
+    ),
+    (
+        3,
+        &[
+            OPENS,
+            ("a", Step::Next(8), Ok(()), b"abc"),
+            OPENS,
+            ("a", Step::Next(8), Ok(()), b"abc"),
+            ("a", Step::Next(8), Ok(()), b"de"),
+            ("a", Step::Next(8), Ok(()), b""),
+        ],
+    ),
+    (
+        5,
+        &[
+            OPENS,
+            ("a", Step::Next(5), Ok(()), b"abcde"),
+            ("a", Step::Next(5), Ok(()), b""),
+        ],
+    ),
+    (
+        9,
+        &[
+            OPENS,
+            ("a", Step::Next(9), Ok(()), b"abcde"),
+            ("a", Step::Next(9), Ok(()), b""),
+        ],
+    ),
+];
+
+#[test]
+fn a_file_in_pieces(rt: HostRuntime) -> Result<(), Fail> {
+    for (most, rows) in PIECES {
+        assert!(rt; 0 < most);
+        let mut shelf = MemShelf::new(Vec::new(rt.alloc()), most);
+        put(rt.alloc(), &mut shelf, "a", b"abcde")?;
+        run(&rt, &mut shelf, rows)?;
+    }
+    let mut shelf = MemShelf::new(Vec::new(rt.alloc()), 1);
+    put(rt.alloc(), &mut shelf, "a", b"")?;
+    run(
+        &rt,
+        &mut shelf,
+        &[
+            OPENS,
+            ("a", Step::Next(1), Ok(()), b""),
+            ("a", Step::Next(1), Ok(()), b""),
+        ],
+    )?;
+    Ok(())
+}
+
+const CLOSED: [Row; 10] = [
+    ("a", Step::Next(1), Ok(()), b""),
+    OPENS,
+    ("a", Step::Write(b"new"), Ok(()), b"-"),
+    ("a", Step::Next(1), Ok(()), b""),
+    OPENS,
+    ("a", Step::Read(3), Ok(()), b"new"),
+    ("a", Step::Next(1), Ok(()), b""),
+    OPENS,
+    ("b", Step::Open, Err(ShelfFault::Failed), b"-"),
+    ("a", Step::Next(1), Ok(()), b""),
+];
+
+/// A file that is replaced goes on in its new bytes, and ends where it has no more; a write, a read and a refusal close it.
+#[test]
+fn what_closes_a_file(rt: HostRuntime) -> Result<(), Fail> {
+    let mut shelf = MemShelf::new(Vec::new(rt.alloc()), 2);
+    put(rt.alloc(), &mut shelf, "a", b"abc")?;
+    run(
+        &rt,
+        &mut shelf,
+        &[OPENS, ("a", Step::Next(1), Ok(()), b"a")],
+    )?;
+    put(rt.alloc(), &mut shelf, "a", b"xyz")?;
+    run(&rt, &mut shelf, &[("a", Step::Next(1), Ok(()), b"y")])?;
+    put(rt.alloc(), &mut shelf, "a", b"x")?;
+    run(&rt, &mut shelf, &CLOSED)?;
+    Ok(())
+}
+
+/// Names that no other file of the tests' folder has.
+const NAME: &str = "rmt_io_open_file_test";
+
+const LONG_NAME: &str = "rmt_io_true_shelf_test";
+
+const OF_THE_MACHINE: [Row; 18] = [
+    (NAME, Step::Next(2), Ok(()), b""),
+    (NAME, Step::Open, Err(ShelfFault::Failed), b"-"),
+    (NAME, Step::Read(9), Err(ShelfFault::Failed), b""),
+    (
+        "rmt_io_no_folder/file",
+        Step::Write(b"x"),
+        Err(ShelfFault::Failed),
+        b"-",
+    ),
+    (NAME, Step::Write(b"abcde"), Ok(()), b"-"),
+    (NAME, Step::Open, Ok(()), b"-"),
+    (NAME, Step::Next(2), Ok(()), b"ab"),
+    (NAME, Step::Next(2), Ok(()), b"cd"),
+    (NAME, Step::Next(2), Ok(()), b"e"),
+    (NAME, Step::Next(2), Ok(()), b""),
+    (NAME, Step::Open, Ok(()), b"-"),
+    (NAME, Step::Read(5), Ok(()), b"abcde"),
+    (NAME, Step::Next(2), Ok(()), b""),
+    (NAME, Step::Open, Ok(()), b"-"),
+    (NAME, Step::Write(b""), Ok(()), b"-"),
+    (NAME, Step::Next(2), Ok(()), b""),
+    (NAME, Step::Open, Ok(()), b"-"),
+    (NAME, Step::Next(2), Ok(()), b""),
+];
+
+#[test]
+fn a_file_of_the_machine(rt: HostRuntime) -> Result<(), Fail> {
+    let mut shelf = TrueShelf::new(&rt);
+    run(&rt, &mut shelf, &OF_THE_MACHINE)?;
+    fs::remove_file(&rt, NAME)?;
+    Ok(())
+}
+
+/// A file that is read in more than one call of the system, and the limits below its size.
+#[test]
+fn a_long_file_of_the_machine(rt: HostRuntime) -> Result<(), Fail> {
+    let mut shelf = TrueShelf::new(&rt);
+    let name = String::from_str(rt.alloc(), LONG_NAME)?;
+    let bytes = vec![in rt.alloc(); 5u8; 10000]?;
+    let mut into = Vec::new(rt.alloc());
+    shelf.write(rt.alloc(), &name, &bytes)?;
+    shelf.read(rt.alloc(), &name, 10000, &mut into)?;
+    assert_eq!(rt; into.as_slice(), bytes.as_slice());
+    for limit in [9999, 0] {
+        let answer = shelf.read(rt.alloc(), &name, limit, &mut into);
+        assert_eq!(rt; answer, Err(ShelfFault::TooLong));
+        assert_eq!(rt; into.len(), 0);
+    }
+    fs::remove_file(&rt, LONG_NAME)?;
+    Ok(())
+}
