@@ -1,6 +1,6 @@
 -- Joined and clustered parsers that are worked by hand.
-use Rattle.std.proofs.Common.{◌≡◌, ◌++◌, ℕ, List, [], ◌∷◌, None, length, map, refl}
-use Rattle.std.specs.Prelude.{codes}
+use Rattle.std.proofs.Common.{◌≡◌, Bool, true, false, ◌++◌, ℕ, List, [], ◌∷◌, None, length, map, refl}
+use Rattle.std.specs.Prelude.{codes, is_some, replicate}
 use Rattle.std.specs.List.{range_with_len}
 use Rattle.rmt_bits.specs.declared.lane.Lane.{Lane}
 use Rattle.rmt_ast.proofs.Programs.{field, two_headers, tail_between}
@@ -12,6 +12,7 @@ use Rattle.rmt_ast.specs.declared.program.Target.TheVariants as target
 use Rattle.rmt_config.specs.declared.config.Extract.TheVariants.{Bits, One}
 use Rattle.rmt_config.specs.declared.config.Next.TheVariants as next
 use Rattle.rmt_config.specs.declared.config.ParserEntry.{ParserEntry}
+use Rattle.rmt_config.specs.declared.config.ParserConfig.{ParserConfig}
 use Rattle.rmt_config.specs.Parser.{parse, Short}
 use Rattle.rmt_ptcam.specs.Plain.{plain}
 use Rattle.rmt_ptcam.specs.Joining.{join_of, byte_at, spread, together}
@@ -155,3 +156,67 @@ switch_masks : map (λ (e : ParserEntry). e.mask) (clustered switch []).entries
     ≡ 0xffffffff ∷ 0xffffffff ∷ 0xffff0000 ∷ 0xffff0000 ∷ 0xffff0000 ∷ 0 ∷ 0x0fff0000 ∷ 0x0fff0000 ∷ 0x0f000000 ∷ 0 ∷ 0xff000000 ∷ 0xff000000 ∷ 0 ∷ []
 unfolding together
 switch_masks = refl
+
+-- ---- where entries aren't joined
+
+-- a parser of two states, an entry of the first going to the second
+abbrev pair_of : List ℕ → List ℕ → ParserEntry → ParserEntry → ParserConfig
+pair_of here there e f = record { states = record { lookups = here } ∷ record { lookups = there } ∷ []; entries = e ∷ f ∷ []; tails = [] }
+
+abbrev first_of : ℕ → ℕ → ParserEntry
+first_of bytes count = record { state = 0; value = 0; mask = 0; need = bytes; advance = bytes; next = next.State 1; extracts = replicate count (One (lane 0 0 1)) }
+
+abbrev second_of : ℕ → ℕ → ParserEntry
+second_of bytes count = record { state = 1; value = 0; mask = 0; need = bytes; advance = bytes; next = next.Accept; extracts = replicate count (One (lane 0 0 1)) }
+
+abbrev joins : ParserConfig → Bool
+joins parser = is_some (join_of parser 0 0)
+
+-- four lookup bytes, and five; one that both look up counts once, and one behind byte 127 is none
+four_and_five : joins (pair_of (0 ∷ 1 ∷ []) (0 ∷ 1 ∷ []) (first_of 2 1) (second_of 2 1)) ∷ joins (pair_of (0 ∷ 1 ∷ []) (0 ∷ 1 ∷ 2 ∷ []) (first_of 2 1) (second_of 3 1))
+    ∷ joins (pair_of (0 ∷ 1 ∷ 2 ∷ []) (0 ∷ 1 ∷ []) (first_of 2 1) (second_of 2 1)) ∷ joins (pair_of [] (120 ∷ []) (first_of 8 1) (second_of 1 1)) ∷ []
+    ≡ true ∷ false ∷ true ∷ false ∷ []
+unfolding together
+four_and_five = refl
+
+-- 128 bytes, and 129
+bytes_128 : joins (pair_of [] [] (first_of 64 1) (second_of 64 1)) ∷ joins (pair_of [] [] (first_of 65 1) (second_of 64 1)) ∷ [] ≡ true ∷ false ∷ []
+unfolding together
+bytes_128 = refl
+
+-- 64 extracts, and 65
+extracts_64 : joins (pair_of [] [] (first_of 1 32) (second_of 1 32)) ∷ joins (pair_of [] [] (first_of 1 33) (second_of 1 32)) ∷ [] ≡ true ∷ false ∷ []
+unfolding together
+extracts_64 = refl
+
+-- an entry that needs more than it moves by, that compares a byte behind, that goes nowhere, and a state through which a frame could fall
+others : joins (pair_of [] [] (record (first_of 2 1) { advance = 1 }) (second_of 1 1)) ∷ joins (pair_of (2 ∷ []) [] (record (first_of 2 1) { mask = 0xff000000 }) (second_of 1 1))
+    ∷ joins (pair_of [] [] (record (first_of 2 1) { next = next.Accept }) (second_of 1 1)) ∷ joins (pair_of [] (0 ∷ []) (first_of 2 1) (record (second_of 1 1) { mask = 0x01000000 })) ∷ []
+    ≡ false ∷ false ∷ false ∷ false ∷ []
+unfolding together
+others = refl
+
+-- a header of two entries that one case alone goes to is joined, and one that nothing goes to is left out
+abbrev three : Program
+three = record two_headers {
+  headers =
+      record { name = codes "a"; valid = 3; fields = 4 ∷ []; bytes = 1; tail = None; select = 4 ∷ []; cases = one_test 0xff 1 (target.Node 1) ∷ []; other = target.Reject }
+      ∷ record { name = codes "b"; valid = 3; fields = 4 ∷ []; bytes = 1; tail = None; select = 4 ∷ []; cases = one_test 0xff 2 target.Accept ∷ []; other = target.Reject }
+      ∷ record { name = codes "c"; valid = 3; fields = 4 ∷ []; bytes = 1; tail = None; select = []; cases = []; other = target.Accept } ∷ [];
+}
+
+three_states : (clustered three []).states ≡ record { lookups = 0 ∷ 1 ∷ [] } ∷ []
+unfolding together
+three_states = refl
+
+three_values : map (λ (e : ParserEntry). e.value) (clustered three []).entries ≡ 0x01020000 ∷ 0x01000000 ∷ 0 ∷ []
+unfolding together
+three_values = refl
+
+three_masks : map (λ (e : ParserEntry). e.mask) (clustered three []).entries ≡ 0xffff0000 ∷ 0xff000000 ∷ 0 ∷ []
+unfolding together
+three_masks = refl
+
+three_needs : map (λ (e : ParserEntry). e.need) (clustered three []).entries ≡ 2 ∷ 2 ∷ 1 ∷ []
+unfolding together
+three_needs = refl

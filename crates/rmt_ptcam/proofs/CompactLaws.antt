@@ -24,6 +24,7 @@ use Rattle.rmt_config.specs.Parser.{Parse, Reached, Short, begin, behind, follow
 use Rattle.rmt_config.specs.ParserForm.{lookups_of, next_is_formed, state_is_formed}
 use Rattle.rmt_ptcam.specs.Adding.{Adds}
 use Rattle.rmt_ptcam.specs.Joining.{IsGood, KeepsForm, ParsesAlike, Row, is_among, parser_of, rows_of, tails_in}
+use Rattle.rmt_ptcam.specs.Steps.{parse_within}
 use Rattle.rmt_ptcam.specs.Clustering.{compact, is_met, met_states, number_in, renamed, renamed_next, state_behind, states_kept}
 use Rattle.rmt_ptcam.proofs.AddingLaws.{filter_short, length_rows}
 use Rattle.rmt_ptcam.proofs.FormedRows.{IsFormed, IsRow, IsRowTail, entries_of_rows, formed_parts, rows_are, split_at}
@@ -212,7 +213,7 @@ module _ (parser : ParserConfig) (keeps : KeepsForm parser) where
       let to : next_is_formed (length parser.states) e.state (next.State t) ≡ true = subst (λ (x : Next). next_is_formed (length parser.states) e.state x ≡ true) on is.next in
       ltb-true e.state t (and_parts (nat_lt t (length parser.states) && nat_lt t 256) (nat_lt e.state t) to).1
 
-  first_met : met 0 ≡ true
+  pub first_met : met 0 ≡ true
   first_met = stays parser.entries (0 ∷ []) 0 refl
 
   -- a state that a met one goes to is met
@@ -369,6 +370,18 @@ module _ (parser : ParserConfig) (keeps : KeepsForm parser) where
         ∙ ap (λ (o : Option Row). row_step goes frame o r) (found_same s value is)
         ∙ row_renamed goes (parse_from k parser frame) s value r (find (hits s value) (rows_of parser)) is refl (λ t q passes. compact_from k t q passes)
         ∙ sym (taken_row parser (parse_from k parser frame) frame s value r)
+
+    -- cut off after so many states
+    pub compact_within : (rest : Parse) (k s : ℕ) (r : Reached) → met s ≡ true → parse_within rest k (compact parser) frame (number s) r ≡ parse_within rest k parser frame s r
+    compact_within rest zero s r is = refl
+    compact_within rest (suc k) s r is =
+        let value : ℕ = value_at frame r.at (slice_get parser.states s) in
+        let goes : ℕ → Reached → Parse = parse_within rest k (compact parser) frame in
+        taken_made goes frame (number s) (value_at frame r.at (slice_get kept (number s))) r kept rows
+        ∙ ap (λ (o : Option ParserState). row_step goes frame (find (hits (number s) (value_at frame r.at o)) rows) r) (kept_at met parser.states s is)
+        ∙ ap (λ (o : Option Row). row_step goes frame o r) (found_same s value is)
+        ∙ row_renamed goes (parse_within rest k parser frame) s value r (find (hits s value) (rows_of parser)) is refl (λ t q passes. compact_within rest k t q passes)
+        ∙ sym (taken_row parser (parse_within rest k parser frame) frame s value r)
 
     more_states : (j k : ℕ) (r : Reached) → 0 < length kept → length kept ≤ k → parse_from k (compact parser) frame 0 r ≡ parse_from (k + j) (compact parser) frame 0 r
     more_states zero k r some enough = let e : k ≡ k + 0 = omega arith in ap (λ n. parse_from n (compact parser) frame 0 r) e

@@ -64,7 +64,7 @@ frame_small frame small i = elim (cases_lt i (length frame)) [
 
 -- with as many states to come as there are, one more makes no difference
 module _ (parser : ParserConfig) (keeps : KeepsForm parser) (frame : List ℕ) where
-  found_row : (state value : ℕ) (x : Row) → find (hits state value) (rows_of parser) ≡ Some x → (next_is_formed (length parser.states) state x.entry.next ≡ true)
+  pub found_row : (state value : ℕ) (x : Row) → find (hits state value) (rows_of parser) ≡ Some x → (next_is_formed (length parser.states) state x.entry.next ≡ true)
   found_row state value x found =
       let is : IsRow parser.states x = All-find (IsRow parser.states) (hits state value) (rows_of parser) x (rows_are parser keeps) found in
       let own : x.entry.state ≡ state = eqb-true x.entry.state state (and_parts (eqb x.entry.state state) (eqb (bit_and value x.entry.mask) x.entry.value) (find_passes (hits state value) (rows_of parser) x found)).0 in
@@ -119,10 +119,10 @@ module _ (parser : ParserConfig) (keeps : KeepsForm parser) (at : ℕ) (e : Pars
   abbrev own_row : Row
   own_row = record { entry = e; tail = None }
 
-  abbrev new_rows : List Row
+  abbrev pub new_rows : List Row
   new_rows = map widen front ++ (map join_row second ++ map widen back)
 
-  abbrev new_states : List ParserState
+  abbrev pub new_states : List ParserState
   new_states = slice_set parser.states n (record { lookups = to })
 
   formed_rows : All (IsRow parser.states) (rows_of parser)
@@ -200,7 +200,7 @@ module _ (parser : ParserConfig) (keeps : KeepsForm parser) (at : ℕ) (e : Pars
         ap (λ (xs : List Row). find p xs) rows_split ∙ find-append p front (own_row ∷ back)
         ∙ ap (λ (b : Bool). option_or (find p front) (cond b (Some own_row) (find p back))) (and_left (eqb n state) (eqb (bit_and value e.mask) e.value) not_own)
 
-    step_other : (goes : ℕ → Reached → Parse) (frame : List ℕ) (r : Reached) → row_step goes frame (find (hits state value) new_rows) r ≡ row_step goes frame (find (hits state value) (rows_of parser)) r
+    pub step_other : (goes : ℕ → Reached → Parse) (frame : List ℕ) (r : Reached) → row_step goes frame (find (hits state value) new_rows) r ≡ row_step goes frame (find (hits state value) (rows_of parser)) r
     step_other goes frame r =
         ap (λ (o : Option Row). row_step goes frame o r) found_other ∙ by (find (hits state value) front) ∙ sym (ap (λ (o : Option Row). row_step goes frame o r) found_before)
       where
@@ -304,6 +304,22 @@ module _ (parser : ParserConfig) (keeps : KeepsForm parser) (at : ℕ) (e : Pars
         ap (λ (o : Option Row). row_step goes frame (option_map join_row o) r) found
         ∙ two_steps here behind_lookups parser.states e y formed_e formed may.whole frame small r goes others (follow_later goes others (length parser.states) m y.entry.next on_formed same)
         ∙ ap (λ (p : Parse). cond (nat_lt (length frame) (r.at + e.need)) Short p) (sym (next between refl ∙ ap (λ (o : Option Row). row_step others frame o between) found))
+
+    -- the rows of the state, where the joined entry is as its two parts
+    pub own_rows : (goes others : ℕ → Reached → Parse) → row_step goes frame (find (hits n value) (rows_of parser)) r ≡ row_step others frame (find (hits n value) (rows_of parser)) r
+        → (find (hits n value) (rows_of parser) ≡ Some own_row → cond (nat_lt (length frame) (r.at + e.need)) Short (row_step goes frame in_second (behind (take e.need (drop r.at frame)) e r)) ≡ row_step others frame (Some own_row) r)
+        → row_step goes frame (find (hits n new_value) new_rows) r ≡ row_step others frame (find (hits n value) (rows_of parser)) r
+    own_rows goes others same joined_same = ap (λ (o : Option Row). row_step goes frame o r) found_new ∙ by in_front (hits n value own_row) found_old
+      where
+        by : (f : Option Row) (b : Bool) → find (hits n value) (rows_of parser) ≡ option_or f (cond b (Some own_row) in_back)
+            → row_step goes frame (option_or (option_map widen f) (option_or (cond b (option_map join_row in_second) None) (option_map widen in_back))) r ≡ row_step others frame (find (hits n value) (rows_of parser)) r
+        by (Some x) b found = widen_step goes frame r (Some x) ∙ sym (ap (λ (o : Option Row). row_step goes frame o r) found) ∙ same
+        by None true found =
+            ap (λ (o : Option Row). row_step goes frame (option_or (option_map join_row o) (option_map widen in_back)) r) second_found.1
+            ∙ sym (ap (λ (o : Option Row). row_step goes frame (option_map join_row o) r) second_found.1)
+            ∙ step_joined goes goes (λ q. row_step goes frame in_second q) (λ s q behind_m below. refl) (λ q at_next. refl)
+            ∙ joined_same found ∙ sym (ap (λ (o : Option Row). row_step others frame o r) found)
+        by None false found = widen_step goes frame r in_back ∙ sym (ap (λ (o : Option Row). row_step goes frame o r) found) ∙ same
 
     -- the rows of the state, where later states go on alike
     step_own : (k : ℕ) (goes : ℕ → Reached → Parse) → n < length parser.states → length parser.states ≤ n + suc k

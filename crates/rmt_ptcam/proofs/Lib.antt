@@ -27,3 +27,5 @@ pub mod CompactLaws
 pub mod ClusteringLaws
 pub mod PlainForm
 mod ClusterExamples
+pub mod FewerLaws
+pub mod StepsLaws

@@ -5,3 +5,4 @@ pub mod Plain
 pub mod Joining
 pub mod Adding
 pub mod Clustering
+pub mod Steps

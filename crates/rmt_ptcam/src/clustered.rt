@@ -1,12 +1,14 @@
 //! The clustered parser of a program: several headers in one step.
 
-ghost use Rattle.std.specs.Prelude.{◌≡◌, ◌≢◌, Err, IfOk};
+ghost use Rattle.std.specs.Prelude.{◌≡◌, ◌≢◌, ◌≤◌, length, Err, IfOk};
 ghost use Rattle.rmt_ast.specs.WellFormed.{IsProgram};
 ghost use Rattle.rmt_config.specs.Agreement.{AgreesWith};
 ghost use Rattle.rmt_phv.specs.Places.{KeepsApart};
 ghost use Rattle.rmt_ptcam.specs.declared.fault.ParserFault.TheVariants.{NoMemory};
 ghost use Rattle.rmt_ptcam.specs.Clustering.{clustered_or};
 ghost use Rattle.rmt_ptcam.specs.Joining.{KeepsForm};
+ghost use Rattle.rmt_ptcam.specs.Plain.{plain};
+ghost use Rattle.rmt_ptcam.specs.Steps.{MeetsNoMore};
 
 use crate::clustering::all_joined;
 use crate::compact::compact;
@@ -40,6 +42,10 @@ pub fn clustered_parser(
     ensures keeps { IfOk result KeepsForm }
     // The chip's parse of each frame, whole or cut, ends as the walk of the program's parse graph does.
     ensures agrees { IfOk result (λ parser. AgreesWith parser places.now program.now) }
+    // On no frame it meets more states than the walk takes headers.
+    ensures pace { IfOk result (λ parser. MeetsNoMore parser program.now) }
+    // It has no more entries than the plain parser.
+    ensures few { IfOk result (λ parser. length parser.entries ≤ length (plain program.now places.now).entries) }
 {
     let mut parser = plain_parser(alloc, program, places)?;
     all_joined(alloc, program, &mut parser)?;

@@ -1,0 +1,799 @@
+-- The clustered parser has no more entries than the plain one.
+use Rattle.std.proofs.Common.{◌≡◌, ◌⊎◌, ◌&&◌, not, cond, eqb, nat_lt, Bool, true, false, ℕ, zero, suc, ◌+◌, ◌<◌, ◌≤◌, List, [], ◌∷◌, ◌++◌, length, map, take, drop, fold, reverse, Option, Some, None, refl, sym, ap, subst, ◌∙◌, append_assoc, inl, inr, arith}
+use Rattle.std.specs.Prelude.{◌||◌, ◌==◌, All, option_map, slice_get}
+use Rattle.std.specs.List.{filter, flat_map, range_with_len}
+use Rattle.std.proofs.lemmas.Bool.{cases_eq, and_from, and_parts, eqb-true, eq-eqb, lt-ltb, ltb-true, ne_eqb, or_cases, or_left, or_right, le-ltb}
+use Rattle.std.proofs.lemmas.List.{append-nil, length-append, length-map, length-take-le, reverse-append, take_all, map-append, take-map, drop-map, take_at, drop_at}
+use Rattle.std.proofs.lemmas.List.Elements.{All-nil, All-cons, All-append, All-head, All-map, All-tail, All-weaker, filter-append}
+use Rattle.std.proofs.lemmas.Option.{slice_get-map, slice_get_within}
+use Rattle.rmt_ast.specs.declared.program.Program.{Program}
+use Rattle.rmt_ast.specs.declared.program.Header.{Header}
+use Rattle.rmt_ast.specs.declared.program.Target.{Target}
+use Rattle.rmt_ast.specs.declared.program.Target.TheVariants as target
+use Rattle.rmt_config.specs.declared.config.ParserConfig.{ParserConfig}
+use Rattle.rmt_config.specs.declared.config.ParserEntry.{ParserEntry}
+use Rattle.rmt_config.specs.declared.config.Next.{Next}
+use Rattle.rmt_config.specs.declared.config.Next.TheVariants as next
+use Rattle.std.proofs.lemmas.Option.{same_Some}
+use Rattle.rmt_bits.specs.declared.lane.Lane.{Lane}
+use Rattle.std.proofs.lemmas.List.Folds.{list_any-append}
+use Rattle.rmt_ast.specs.declared.program.Case.{Case}
+use Rattle.rmt_bits.proofs.ListLaws.{range_more, slice_get-end, slice_get-item}
+use Rattle.rmt_ptcam.specs.Joining.{KeepsForm, Row, can_join, entries_in, is_among, join_at, join_to, joined, joined_row, lookups_at, number_of_entry, rows_in, rows_of, together, widened, widened_entry}
+use Rattle.rmt_ptcam.specs.Clustering.{Clustering, all_joined, arrivals, behind_join, clustered, compact, is_met, is_wanted, one_entry, one_header, renamed, some_entries, state_behind, targets_of}
+use Rattle.rmt_ptcam.proofs.FormedRows.{entries_of_rows, split_at}
+use Rattle.rmt_ptcam.proofs.AddingLaws.{filter_short, take_next}
+use Rattle.rmt_ptcam.proofs.JoinFacts.{MayJoin, may_join}
+use Rattle.rmt_ptcam.proofs.JoinedKeeps.{joined_keeps}
+use Rattle.rmt_ptcam.proofs.JoinedParse.{next_there}
+use Rattle.rmt_ptcam.specs.Clustering.{goes_to}
+use Rattle.rmt_ptcam.specs.Plain.{entries_from, entries_of, entry_of_case, entry_to, next_of, plain}
+
+-- ---- how many items pass
+
+abbrev pub count : {X : Type 0} → (X → Bool) → List X → ℕ
+count p xs = length (filter p xs)
+
+pub count-append : {X : Type 0} (p : X → Bool) (xs ys : List X) → count p (xs ++ ys) ≡ count p xs + count p ys
+count-append p xs ys = ap length (filter-append p xs ys) ∙ length-append (filter p xs) (filter p ys)
+
+pub count_less : {X : Type 0} (p q : X → Bool) (xs : List X) → ((x : X) → p x ≡ true → q x ≡ true) → count p xs ≤ count q xs
+count_less p q [] weaker = omega arith
+count_less p q (x ∷ xs) weaker = by (p x) (q x) (weaker x) (count_less p q xs weaker)
+  where
+    by : (a b : Bool) → (a ≡ true → b ≡ true) → count p xs ≤ count q xs → length (cond a (x ∷ filter p xs) (filter p xs)) ≤ length (cond b (x ∷ filter q xs) (filter q xs))
+    by true true w rest = omega (arith, rest)
+    by true false w rest = (let no_way : false ≡ true = w refl in absurd cc)
+    by false true w rest = omega (arith, rest)
+    by false false w rest = rest
+
+pub count_of_filter : {X : Type 0} (p q : X → Bool) (xs : List X) → count p (filter q xs) ≤ count p xs
+count_of_filter p q [] = omega arith
+count_of_filter p q (x ∷ xs) = by (p x) (q x) refl (count_of_filter p q xs)
+  where
+    by : (a b : Bool) → p x ≡ a → count p (filter q xs) ≤ count p xs → count p (cond b (x ∷ filter q xs) (filter q xs)) ≤ length (cond a (x ∷ filter p xs) (filter p xs))
+    by true true is rest = (let one : count p (x ∷ filter q xs) ≡ suc (count p (filter q xs)) = ap (λ (c : Bool). length (cond c (x ∷ filter p (filter q xs)) (filter p (filter q xs)))) is in omega (arith, one, rest))
+    by true false is rest = omega (arith, rest)
+    by false true is rest = (let one : count p (x ∷ filter q xs) ≡ count p (filter q xs) = ap (λ (c : Bool). length (cond c (x ∷ filter p (filter q xs)) (filter p (filter q xs)))) is in omega (arith, one, rest))
+    by false false is rest = rest
+
+-- two tests that exclude each other
+pub count_two : {X : Type 0} (a q r : X → Bool) (xs : List X) → ((x : X) → q x ≡ true → a x ≡ true) → ((x : X) → r x ≡ true → a x ≡ true) → ((x : X) → q x ≡ true → r x ≡ false) → count q xs + count r xs ≤ count a xs
+count_two a q r [] one two apart = omega arith
+count_two a q r (x ∷ xs) one two apart = by (a x) (q x) (r x) (one x) (two x) (apart x) (count_two a q r xs one two apart)
+  where
+    by : (b c d : Bool) → (c ≡ true → b ≡ true) → (d ≡ true → b ≡ true) → (c ≡ true → d ≡ false) → count q xs + count r xs ≤ count a xs
+        → length (cond c (x ∷ filter q xs) (filter q xs)) + length (cond d (x ∷ filter r xs) (filter r xs)) ≤ length (cond b (x ∷ filter a xs) (filter a xs))
+    by true true true w v u rest = (let no_way : true ≡ false = u refl in absurd cc)
+    by true true false w v u rest = omega (arith, rest)
+    by true false true w v u rest = omega (arith, rest)
+    by true false false w v u rest = omega (arith, rest)
+    by false true d w v u rest = (let no_way : false ≡ true = w refl in absurd cc)
+    by false false true w v u rest = (let no_way : false ≡ true = v refl in absurd cc)
+    by false false false w v u rest = rest
+
+pub count_none : {X : Type 0} (p : X → Bool) (xs : List X) → All (λ x. p x ≡ false) xs → count p xs ≡ 0
+count_none p [] each = refl
+count_none p (x ∷ xs) each = ap (λ (b : Bool). length (cond b (x ∷ filter p xs) (filter p xs))) (All-head (λ y. p y ≡ false) x xs each) ∙ count_none p xs (All-tail (λ y. p y ≡ false) x xs each)
+
+pub count_all : {X : Type 0} (p : X → Bool) (xs : List X) → All (λ x. p x ≡ true) xs → count p xs ≡ length xs
+count_all p [] each = refl
+count_all p (x ∷ xs) each = ap (λ (b : Bool). length (cond b (x ∷ filter p xs) (filter p xs))) (All-head (λ y. p y ≡ true) x xs each) ∙ ap suc (count_all p xs (All-tail (λ y. p y ≡ true) x xs each))
+
+pub count_map : {X Y : Type 0} (p : Y → Bool) (f : X → Y) (xs : List X) → count p (map f xs) ≡ count (λ x. p (f x)) xs
+count_map p f [] = refl
+count_map p f (x ∷ xs) = by (p (f x)) (count_map p f xs)
+  where
+    by : (b : Bool) → count p (map f xs) ≡ count (λ y. p (f y)) xs → length (cond b (f x ∷ filter p (map f xs)) (filter p (map f xs))) ≡ length (cond b (x ∷ filter (λ y. p (f y)) xs) (filter (λ y. p (f y)) xs))
+    by true rest = ap suc rest
+    by false rest = rest
+
+pub filter_none : {X : Type 0} (p : X → Bool) (xs : List X) → All (λ x. p x ≡ false) xs → filter p xs ≡ []
+filter_none p [] each = refl
+filter_none p (x ∷ xs) each = ap (λ (b : Bool). cond b (x ∷ filter p xs) (filter p xs)) (All-head (λ y. p y ≡ false) x xs each) ∙ filter_none p xs (All-tail (λ y. p y ≡ false) x xs each)
+
+abbrev tally : Bool → ℕ
+tally b = cond b 1 0
+
+count_one : {X : Type 0} (p : X → Bool) (x : X) → count p (x ∷ []) ≡ tally (p x)
+count_one p x = by (p x)
+  where
+    by : (b : Bool) → length (cond b (x ∷ []) []) ≡ tally b
+    by true = refl
+    by false = refl
+
+-- ---- where entries stand and go
+
+abbrev pub shape : ParserEntry → ℕ × Next
+shape e = (e.state, e.next)
+
+abbrev pub leads : ℕ → Next → Bool
+leads m next.Accept = false
+leads m next.Reject = false
+leads m (next.State k) = eqb k m
+
+abbrev pub edge : ℕ → ℕ × Next → Bool
+edge m x = leads m x.1
+
+abbrev pub edges : ℕ → List (ℕ × Next) → ℕ
+edges m xs = count (edge m) xs
+
+-- the first state, and each one that some entry goes to
+abbrev pub arrived : List (ℕ × Next) → ℕ → Bool
+arrived xs s = eqb s 0 || nat_lt 0 (edges s xs)
+
+-- the entries of such states
+abbrev pub busy : List (ℕ × Next) → ℕ
+busy xs = count (λ (x : ℕ × Next). arrived xs x.0) xs
+
+module _ (front back : List (ℕ × Next)) (n m : ℕ) (lt : n < m) where
+  abbrev old : List (ℕ × Next)
+  old = front ++ (n, next.State m) ∷ back
+
+  abbrev mine : ℕ × Next → Bool
+  mine x = eqb x.0 m
+
+  abbrev second : List (ℕ × Next)
+  second = filter mine old
+
+  abbrev from_own : ℕ × Next → ℕ × Next
+  from_own x = (n, x.1)
+
+  abbrev new : List (ℕ × Next)
+  new = front ++ (map from_own second ++ back)
+
+  abbrev a : ℕ × Next → Bool
+  a x = arrived old x.0
+
+  abbrev own : ℕ
+  own = tally (arrived old n)
+
+  count_old : (p : ℕ × Next → Bool) → count p old ≡ count p front + (tally (p (n, next.State m)) + count p back)
+  count_old p =
+      let one = count-append p front ((n, next.State m) ∷ back) in
+      let two = count-append p ((n, next.State m) ∷ []) back in
+      let three = count_one p (n, next.State m) in
+      omega (arith, one, two, three)
+
+  count_new : (p : ℕ × Next → Bool) → count p new ≡ count p front + (count p (map from_own second) + count p back)
+  count_new p = let one = count-append p front (map from_own second ++ back) in let two = count-append p (map from_own second) back in omega (arith, one, two)
+
+  -- nothing is gone to that wasn't
+  fewer_edges : (s : ℕ) → edges s new ≤ edges s front + (edges s second + edges s back)
+  fewer_edges s = let one = count_new (edge s) in let two : edges s (map from_own second) ≡ edges s second = count_map (edge s) from_own second in omega (arith, one, two)
+
+  arrived_less : (s : ℕ) → arrived new s ≡ true → arrived old s ≡ true
+  arrived_less s is = elim (or_cases (eqb s 0) (nat_lt 0 (edges s new)) is) [
+    | inl first ↦ or_left (eqb s 0) (nat_lt 0 (edges s old)) first
+    | inr some ↦
+        let more : 0 < edges s new = ltb-true 0 (edges s new) some in
+        let one = fewer_edges s in
+        let two = count_old (edge s) in
+        let three = count_of_filter (edge s) mine old in
+        or_right (eqb s 0) (nat_lt 0 (edges s old)) (lt-ltb 0 (edges s old) (omega (arith, more, one, two, three)))
+  ]
+
+  own_count : count a (map from_own second) ≡ cond (arrived old n) (length second) 0
+  own_count = count_map a from_own second ∙ by (arrived old n)
+    where
+      by : (b : Bool) → count (λ (x : ℕ × Next). b) second ≡ cond b (length second) 0
+      by true = count_all (λ (x : ℕ × Next). true) second (λ k d l. refl)
+      by false = count_none (λ (x : ℕ × Next). false) second (λ k d l. refl)
+
+  busy_new : busy new ≤ count a new
+  busy_new = count_less (λ (x : ℕ × Next). arrived new x.0) a new (λ x is. arrived_less x.0 is)
+
+  -- one entry for one
+  pub less_one : length second ≡ 1 → busy new ≤ busy old
+  less_one one =
+      let b = busy_new in
+      let c = count_new a in
+      let d = count_old a in
+      let e = own_count in
+      by (arrived old n) b c d e
+    where
+      by : (t : Bool) → busy new ≤ count a new → count a new ≡ count a front + (count a (map from_own second) + count a back) → busy old ≡ count a front + (tally t + count a back)
+          → count a (map from_own second) ≡ cond t (length second) 0 → busy new ≤ busy old
+      by true b c d e = omega (arith, b, c, d, e, one)
+      by false b c d e = omega (arith, b, c, d, e)
+
+  abbrev q : ℕ × Next → Bool
+  q x = a x && not (mine x)
+
+  -- the one entry that went there is gone
+  none_left : edges m old ≤ 1 → edges m new ≡ 0
+  none_left few =
+      let one = fewer_edges m in
+      let two = count_old (edge m) in
+      let here : tally (eqb m m) ≡ 1 = ap tally (eq-eqb m m refl) in
+      let split : filter mine old ≡ filter mine front ++ filter mine back =
+      filter-append mine front ((n, next.State m) ∷ back) ∙ ap (λ (b : Bool). filter mine front ++ cond b ((n, next.State m) ∷ filter mine back) (filter mine back)) (ne_eqb n m (λ e. omega (arith, lt, e))) in
+      let three : edges m second ≡ edges m (filter mine front) + edges m (filter mine back) = ap (edges m) split ∙ count-append (edge m) (filter mine front) (filter mine back) in
+      let four = count_of_filter (edge m) mine front in
+      let five = count_of_filter (edge m) mine back in
+      omega (arith, few, one, two, here, three, four, five)
+
+  arrived_m : arrived old m ≡ true
+  arrived_m =
+      let two = count_old (edge m) in
+      let here : tally (eqb m m) ≡ 1 = ap tally (eq-eqb m m refl) in
+      or_right (eqb m 0) (nat_lt 0 (edges m old)) (lt-ltb 0 (edges m old) (omega (arith, two, here)))
+
+  pub less_only : edges m old ≤ 1 → busy new ≤ busy old
+  less_only few =
+      let gone = none_left few in
+      let b : busy new ≤ count q new = count_less (λ (x : ℕ × Next). arrived new x.0) q new (λ x is. and_from (a x) (not (mine x)) (arrived_less x.0 is) (not_m x.0 gone is)) in
+      let c = count_new q in
+      let d = count_old a in
+      let e = own_count in
+      let f : count q (map from_own second) ≤ count a (map from_own second) = count_less q a (map from_own second) (λ x is. (and_parts (a x) (not (mine x)) is).0) in
+      let g : count q front + count mine front ≤ count a front = both front in
+      let h : count q back + count mine back ≤ count a back = both back in
+      let i : length second ≡ count mine front + (tally (eqb n m) + count mine back) = count_old mine in
+      let j : tally (eqb n m) ≡ 0 = ap tally (ne_eqb n m (λ e. omega (arith, lt, e))) in
+      by (arrived old n) b c d e f g h i j
+    where
+      not_m : (s : ℕ) → edges m new ≡ 0 → arrived new s ≡ true → not (eqb s m) ≡ true
+      not_m s gone is = elim (cases_eq s m) [
+        | inl same ↦ elim (or_cases (eqb s 0) (nat_lt 0 (edges s new)) is) [
+          | inl first ↦ (let z : s ≡ 0 = eqb-true s 0 first in absurd (omega (arith, lt, z, same)))
+          | inr some ↦ (let more : 0 < edges m new = subst (λ k. 0 < edges k new) same (ltb-true 0 (edges s new) some) in absurd (omega (arith, more, gone)))
+        ]
+        | inr other ↦ ap not (ne_eqb s m other)
+      ]
+
+      both : (xs : List (ℕ × Next)) → count q xs + count mine xs ≤ count a xs
+      both xs = count_two a q mine xs (λ x is. (and_parts (a x) (not (mine x)) is).0)
+          (λ x is. (let same : x.0 ≡ m = eqb-true x.0 m is in subst (λ s. arrived old s ≡ true) (sym same) arrived_m))
+          (λ x is. (let other : not (mine x) ≡ true = (and_parts (a x) (not (mine x)) is).1 in turned (mine x) other))
+        where
+          turned : (b : Bool) → not b ≡ true → b ≡ false
+          turned true e = absurd cc
+          turned false e = refl
+
+      by : (t : Bool) → busy new ≤ count q new → count q new ≡ count q front + (count q (map from_own second) + count q back) → busy old ≡ count a front + (tally t + count a back)
+          → count a (map from_own second) ≡ cond t (length second) 0 → count q (map from_own second) ≤ count a (map from_own second) → count q front + count mine front ≤ count a front → count q back + count mine back ≤ count a back
+          → length second ≡ count mine front + (tally (eqb n m) + count mine back) → tally (eqb n m) ≡ 0 → busy new ≤ busy old
+      by true b c d e f g h i j = omega (arith, b, c, d, e, f, g, h, i, j)
+      by false b c d e f g h i j = omega (arith, b, c, d, e, f, g, h, i, j)
+
+-- ---- the shapes of a parser's entries
+
+abbrev pub shapes : ParserConfig → List (ℕ × Next)
+shapes parser = map shape parser.entries
+
+map-map : {X Y Z : Type 0} (f : Y → Z) (g : X → Y) (xs : List X) → map f (map g xs) ≡ map (λ x. f (g x)) xs
+map-map f g [] = refl
+map-map f g (x ∷ xs) = ap (λ l. f (g x) ∷ l) (map-map f g xs)
+
+map_same : {X Y : Type 0} (f g : X → Y) (xs : List X) → ((x : X) → f x ≡ g x) → map f xs ≡ map g xs
+map_same f g [] same = refl
+map_same f g (x ∷ xs) same = ap (λ y. y ∷ map f xs) (same x) ∙ ap (λ l. g x ∷ l) (map_same f g xs same)
+
+filter_map : {X Y : Type 0} (p : Y → Bool) (f : X → Y) (xs : List X) → filter p (map f xs) ≡ map f (filter (λ x. p (f x)) xs)
+filter_map p f [] = refl
+filter_map p f (x ∷ xs) = by (p (f x)) (filter_map p f xs)
+  where
+    by : (b : Bool) → filter p (map f xs) ≡ map f (filter (λ y. p (f y)) xs) → cond b (f x ∷ filter p (map f xs)) (filter p (map f xs)) ≡ map f (cond b (x ∷ filter (λ y. p (f y)) xs) (filter (λ y. p (f y)) xs))
+    by true rest = ap (λ l. f x ∷ l) rest
+    by false rest = rest
+
+module _ (parser : ParserConfig) (at : ℕ) (e : ParserEntry) (m : ℕ) where
+  abbrev here : List ℕ
+  here = lookups_at parser.states e.state
+
+  abbrev there : List ℕ
+  there = lookups_at parser.states m
+
+  abbrev to : List ℕ
+  to = together here e.advance there
+
+  abbrev row_shape : Row → ℕ × Next
+  row_shape x = (x.entry.state, x.entry.next)
+
+  rows_shapes : map row_shape (rows_of parser) ≡ shapes parser
+  rows_shapes = sym (map-map shape (λ (x : Row). x.entry) (rows_of parser)) ∙ ap (map shape) (entries_of_rows parser 0 parser.entries)
+
+  widened_shape : (x : Row) → row_shape (widened here to e.state x) ≡ row_shape x
+  widened_shape x = by (eqb x.entry.state e.state)
+    where
+      by : (b : Bool) → row_shape (cond b (record x { entry = widened_entry here to x.entry }) x) ≡ row_shape x
+      by true = refl
+      by false = refl
+
+  widened_shapes : (xs : List Row) → map shape (map (λ (x : Row). x.entry) (map (widened here to e.state) xs)) ≡ map row_shape xs
+  widened_shapes xs =
+      map-map shape (λ (x : Row). x.entry) (map (widened here to e.state) xs) ∙ map-map row_shape (widened here to e.state) xs ∙ map_same (λ x. row_shape (widened here to e.state x)) row_shape xs widened_shape
+
+  joined_shapes : (xs : List Row) → map shape (map (λ (x : Row). x.entry) (map (joined_row here there e) xs)) ≡ map (λ (x : ℕ × Next). (e.state, x.1)) (map row_shape xs)
+  joined_shapes xs =
+      map-map shape (λ (x : Row). x.entry) (map (joined_row here there e) xs) ∙ map-map row_shape (joined_row here there e) xs
+      ∙ sym (map-map (λ (x : ℕ × Next). (e.state, x.1)) row_shape xs)
+
+  -- what stands where after a join
+  pub join_shapes : shapes (joined parser at e m) ≡ take at (shapes parser) ++ (map (λ (x : ℕ × Next). (e.state, x.1)) (filter (λ (x : ℕ × Next). eqb x.0 m) (shapes parser)) ++ drop (at + 1) (shapes parser))
+  join_shapes =
+      let rows : List Row = rows_of parser in
+      let es : List Row → List (ℕ × Next) = λ xs. map shape (map (λ (x : Row). x.entry) xs) in
+      let apart : (xs ys : List Row) → es (xs ++ ys) ≡ es xs ++ es ys =
+      λ xs ys. ap (map shape) (map-append (λ (x : Row). x.entry) xs ys) ∙ map-append shape (map (λ (x : Row). x.entry) xs) (map (λ (x : Row). x.entry) ys) in
+      let f : List Row = map (widened here to e.state) (take at rows) in
+      let g : List Row = map (joined_row here there e) (rows_in m rows) in
+      let h : List Row = map (widened here to e.state) (drop (at + 1) rows) in
+      apart f (g ++ h) ∙ ap (λ l. es f ++ l) (apart g h)
+      ∙ ap (λ l. l ++ (es g ++ es h)) (widened_shapes (take at rows) ∙ sym (take-map row_shape at rows) ∙ ap (take at) rows_shapes)
+      ∙ ap (λ l. take at (shapes parser) ++ (l ++ es h)) (joined_shapes (rows_in m rows) ∙ ap (map (λ (x : ℕ × Next). (e.state, x.1))) (sym (filter_map (λ (x : ℕ × Next). eqb x.0 m) row_shape rows) ∙ ap (filter (λ (x : ℕ × Next). eqb x.0 m)) rows_shapes))
+      ∙ ap (λ l. take at (shapes parser) ++ (map (λ (x : ℕ × Next). (e.state, x.1)) (filter (λ (x : ℕ × Next). eqb x.0 m) (shapes parser)) ++ l)) (widened_shapes (drop (at + 1) rows) ∙ sym (drop-map row_shape (at + 1) rows) ∙ ap (drop (at + 1)) rows_shapes)
+
+-- ---- the entries of one header, one after another
+
+abbrev own_shape : ℕ → Target → ℕ × Next
+own_shape n t = (n, next_of t)
+
+-- targets of some headers that are header m
+abbrev arrivals_in : List Header → ℕ → ℕ
+arrivals_in hs m = count (goes_to m) (flat_map targets_of hs)
+
+-- headers before, this one and those behind
+pub record Sides (p : Program) (before own behind : ℕ → ℕ) : Type 0 where
+  pub sum : (m : ℕ) → before m + (own m + behind m) ≡ arrivals p m
+
+-- header n is worked on: what is before it, what is done of it, what is left, and what is behind
+pub record IsRunning (before own behind : ℕ → ℕ) (limit n : ℕ) (fore : List (ℕ × Next)) (ts : List Target) (c : Clustering) : Type 0 where
+  pub keeps : KeepsForm c.parser
+  pub done : List (ℕ × Next)
+  pub back : List (ℕ × Next)
+  pub split : shapes c.parser ≡ fore ++ (done ++ (map (own_shape n) ts ++ back))
+  pub at : c.at ≡ length fore + length done
+  pub front_low : All (λ (x : ℕ × Next). x.0 < n) fore
+  pub done_own : All (λ (x : ℕ × Next). x.0 ≡ n) done
+  pub back_high : All (λ (x : ℕ × Next). n < x.0) back
+  pub front_edges : (m : ℕ) → edges m fore ≤ before m
+  pub back_edges : (m : ℕ) → behind m ≡ 0 → edges m back ≡ 0
+  pub left_edges : (m : ℕ) → edges m (map (own_shape n) ts) ≤ own m
+  pub own_edges : (m : ℕ) → behind m ≡ 0 → edges m done + edges m (map (own_shape n) ts) ≤ own m
+  pub few : busy (shapes c.parser) ≤ limit
+
+leads_target : (m : ℕ) (t : Target) → leads m (next_of t) ≡ goes_to m t
+leads_target m target.Accept = refl
+leads_target m target.Reject = refl
+leads_target m (target.Node k) = refl
+
+module _ (p : Program) (before own behind : ℕ → ℕ) (sides : Sides p before own behind) (limit n : ℕ) (fore : List (ℕ × Next)) (t : Target) (ts : List Target) (c : Clustering) (is : IsRunning before own behind limit n fore (t ∷ ts) c) where
+  abbrev rest : List (ℕ × Next)
+  rest = map (own_shape n) ts
+
+  abbrev x : ℕ × Next
+  x = own_shape n t
+
+  -- what is before the entry
+  abbrev ahead : List (ℕ × Next)
+  ahead = fore ++ is.done
+
+  split_here : shapes c.parser ≡ ahead ++ (x ∷ (rest ++ is.back))
+  split_here = is.split ∙ sym (append_assoc fore is.done (x ∷ (rest ++ is.back)))
+
+  long_ahead : length ahead ≡ c.at
+  long_ahead = length-append fore is.done ∙ sym is.at
+
+  entry_here : (o : Option ParserEntry) → slice_get c.parser.entries c.at ≡ o → option_map shape o ≡ Some x
+  entry_here o found =
+      let same : c.at ≡ length ahead + 0 = let a = long_ahead in omega (arith, a) in
+      ap (option_map shape) (sym found) ∙ sym (slice_get-map shape c.parser.entries c.at) ∙ ap (λ l. slice_get l c.at) split_here ∙ ap (slice_get (ahead ++ (x ∷ (rest ++ is.back)))) same
+      ∙ slice_get-end ahead (x ∷ (rest ++ is.back)) 0
+
+  -- the entry stays
+  stays_so : (d : Clustering) → d ≡ record c { at = c.at + 1 } → IsRunning before own behind limit n fore ts d
+  stays_so d same =
+      subst (IsRunning before own behind limit n fore ts) (sym same) (record {
+        keeps = is.keeps;
+        done = is.done ++ x ∷ [];
+        back = is.back;
+        split = is.split ∙ ap (λ l. fore ++ l) (sym (append_assoc is.done (x ∷ []) (rest ++ is.back)));
+        at = let a = is.at in let b = length-append is.done (x ∷ []) in omega (arith, a, b);
+        front_low = is.front_low;
+        done_own = All-append (λ (y : ℕ × Next). y.0 ≡ n) is.done (x ∷ []) is.done_own (All-cons (λ (y : ℕ × Next). y.0 ≡ n) x [] refl (All-nil (λ (y : ℕ × Next). y.0 ≡ n)));
+        back_high = is.back_high;
+        front_edges = is.front_edges;
+        back_edges = is.back_edges;
+        left_edges = λ m. (let a = is.left_edges m in let d = count-append (edge m) (x ∷ []) rest in omega (arith, a, d));
+        own_edges = λ m none. (let a = is.own_edges m none in let b = count-append (edge m) is.done (x ∷ []) in let d = count-append (edge m) (x ∷ []) rest in omega (arith, a, b, d));
+        few = is.few;
+      })
+
+  -- and where it is joined
+  module _ (e : ParserEntry) (there : slice_get c.parser.entries c.at ≡ Some e) (m : ℕ) (on : e.next ≡ next.State m) (can : can_join c.parser c.at e m ≡ true) (wanted : is_wanted p c.parser (next.State m) ≡ true) where
+    abbrev tail : List (ℕ × Next)
+    tail = rest ++ is.back
+
+    shape_is : shape e ≡ x
+    shape_is = same_Some (shape e) x (entry_here (Some e) there)
+
+    state_is : e.state ≡ n
+    state_is = ap (λ (y : ℕ × Next). y.0) shape_is
+
+    next_is : next_of t ≡ next.State m
+    next_is = sym (ap (λ (y : ℕ × Next). y.1) shape_is) ∙ on
+
+    may : MayJoin c.parser c.at e m
+    may = may_join c.parser c.at e m can
+
+    lower : n < m
+    lower = let later : e.state < m = ltb-true e.state m (next_there c.parser is.keeps c.at e m there on may).1 in omega (arith, later, state_is)
+
+    as_old : shapes c.parser ≡ old ahead tail n m lower
+    as_old = split_here ∙ ap (λ (to : Next). ahead ++ ((n, to) ∷ tail)) next_is
+
+    abbrev merged : ParserConfig
+    merged = joined c.parser c.at e m
+
+    abbrev mine_of : List (ℕ × Next)
+    mine_of = second ahead tail n m lower
+
+    as_new : shapes merged ≡ new ahead tail n m lower
+    as_new =
+        let tail_is : drop (c.at + 1) (shapes c.parser) ≡ tail =
+        ap (drop (c.at + 1)) (split_here ∙ sym (append_assoc ahead (x ∷ []) tail))
+        ∙ drop_at (ahead ++ x ∷ []) tail (c.at + 1) (length-append ahead (x ∷ []) ∙ ap (λ k. k + 1) long_ahead) in
+        let head_is : take c.at (shapes c.parser) ≡ ahead = ap (take c.at) split_here ∙ take_at ahead (x ∷ tail) c.at long_ahead in
+        join_shapes c.parser c.at e m
+        ∙ ap (λ l. l ++ (map (λ (y : ℕ × Next). (e.state, y.1)) (filter (λ (y : ℕ × Next). eqb y.0 m) (shapes c.parser)) ++ drop (c.at + 1) (shapes c.parser))) head_is
+        ∙ ap (λ l. ahead ++ (map (λ (y : ℕ × Next). (e.state, y.1)) (filter (λ (y : ℕ × Next). eqb y.0 m) (shapes c.parser)) ++ l)) tail_is
+        ∙ ap (λ l. ahead ++ (map (λ (y : ℕ × Next). (e.state, y.1)) (filter (λ (y : ℕ × Next). eqb y.0 m) l) ++ tail)) as_old
+        ∙ ap (λ k. ahead ++ (map (λ (y : ℕ × Next). (k, y.1)) mine_of ++ tail)) state_is
+
+    -- what the entry is joined to stands behind
+    mine_back : mine_of ≡ filter (λ (y : ℕ × Next). eqb y.0 m) is.back
+    mine_back =
+        let p1 : ℕ × Next → Bool = λ y. eqb y.0 m in
+        let low : filter p1 ahead ≡ [] = filter_none p1 ahead (All-append (λ (y : ℕ × Next). p1 y ≡ false) fore is.done
+        (All-weaker (λ (y : ℕ × Next). y.0 < n) (λ (y : ℕ × Next). p1 y ≡ false) (λ (y : ℕ × Next) lt. ne_eqb y.0 m (λ e. (let l = lower in omega (arith, lt, l, e)))) fore is.front_low)
+        (All-weaker (λ (y : ℕ × Next). y.0 ≡ n) (λ (y : ℕ × Next). p1 y ≡ false) (λ (y : ℕ × Next) same. ne_eqb y.0 m (λ e. (let l = lower in omega (arith, same, l, e)))) is.done is.done_own)) in
+        let own_none : filter p1 rest ≡ [] = filter_none p1 rest (All-map (λ (y : ℕ × Next). p1 y ≡ false) (own_shape n) ts (λ k d lt. ne_eqb n m (λ e. (let l = lower in omega (arith, l, e))))) in
+        filter-append p1 ahead ((n, next.State m) ∷ tail) ∙ ap (λ l. l ++ filter p1 ((n, next.State m) ∷ tail)) low
+        ∙ ap (λ (b : Bool). cond b ((n, next.State m) ∷ filter p1 tail) (filter p1 tail)) (ne_eqb n m (λ e. (let l = lower in omega (arith, l, e))))
+        ∙ filter-append p1 rest is.back ∙ ap (λ l. l ++ filter p1 is.back) own_none
+
+    one_way : edges m (x ∷ rest) ≡ suc (edges m rest)
+    one_way = ap (λ (to : Next). length (cond (leads m to) (x ∷ filter (edge m) rest) (filter (edge m) rest))) next_is ∙ ap (λ (b : Bool). length (cond b (x ∷ filter (edge m) rest) (filter (edge m) rest))) (eq-eqb m m refl)
+
+    not_more : busy (new ahead tail n m lower) ≤ busy (old ahead tail n m lower)
+    not_more = elim (or_cases (length (entries_in m c.parser.entries) == 1) (arrivals p m == 1) wanted) [
+      | inl one ↦
+          let count_is : length (entries_in m c.parser.entries) ≡ 1 = eqb-true (length (entries_in m c.parser.entries)) 1 one in
+          let same : length mine_of ≡ length (entries_in m c.parser.entries) =
+          ap (λ l. length (filter (λ (y : ℕ × Next). eqb y.0 m) l)) (sym as_old) ∙ ap length (filter_map (λ (y : ℕ × Next). eqb y.0 m) shape c.parser.entries) ∙ length-map (entries_in m c.parser.entries) shape in
+          less_one ahead tail n m lower (same ∙ count_is)
+      | inr only ↦
+          let total : arrivals p m ≡ 1 = eqb-true (arrivals p m) 1 only in
+          let sum = sides.sum m in
+          let a = is.left_edges m in
+          let b = one_way in
+          let none : behind m ≡ 0 = omega (arith, total, sum, a, b) in
+          let d = is.own_edges m none in
+          let f = is.front_edges m in
+          let g = is.back_edges m none in
+          let h : edges m (shapes c.parser) ≡ edges m fore + (edges m is.done + (edges m (x ∷ rest) + edges m is.back)) =
+          ap (edges m) is.split ∙ count-append (edge m) fore (is.done ++ ((x ∷ rest) ++ is.back)) ∙ ap (λ k. edges m fore + k) (count-append (edge m) is.done ((x ∷ rest) ++ is.back))
+          ∙ ap (λ k. edges m fore + (edges m is.done + k)) (count-append (edge m) (x ∷ rest) is.back) in
+          let i : edges m (old ahead tail n m lower) ≡ edges m (shapes c.parser) = ap (edges m) (sym as_old) in
+          less_only ahead tail n m lower (omega (arith, total, sum, a, b, none, d, f, g, h, i))
+    ]
+
+    joined_so : IsRunning before own behind limit n fore ts (behind_join c (Some merged))
+    joined_so =
+        let moved_in : List (ℕ × Next) = map (λ (y : ℕ × Next). (n, y.1)) mine_of in
+        let long_q : length merged.entries ≡ length (new ahead tail n m lower) = sym (length-map merged.entries shape) ∙ ap length as_new in
+        let long_c : length c.parser.entries ≡ length (old ahead tail n m lower) = sym (length-map c.parser.entries shape) ∙ ap length as_old in
+        let a = length-append ahead (moved_in ++ tail) in
+        let b = length-append moved_in tail in
+        let d = length-append ahead ((n, next.State m) ∷ tail) in
+        let f = length-append is.done moved_in in
+        record {
+          keeps = joined_keeps c.parser is.keeps c.at e m there on may;
+          done = is.done ++ moved_in;
+          back = is.back;
+          split = as_new ∙ append_assoc fore is.done (moved_in ++ tail) ∙ ap (λ l. fore ++ l) (sym (append_assoc is.done moved_in tail));
+          at = let at = is.at in omega (arith, long_q, long_c, a, b, d, f, at);
+          front_low = is.front_low;
+          done_own = All-append (λ (y : ℕ × Next). y.0 ≡ n) is.done moved_in is.done_own (All-map (λ (y : ℕ × Next). y.0 ≡ n) (λ (y : ℕ × Next). (n, y.1)) mine_of (λ k dd lt. refl));
+          back_high = is.back_high;
+          front_edges = is.front_edges;
+          back_edges = is.back_edges;
+          left_edges = λ k. (let g = is.left_edges k in let h = count-append (edge k) (x ∷ []) rest in omega (arith, g, h));
+          own_edges = λ k none.
+              (let g = is.own_edges k none in
+              let h = count-append (edge k) (x ∷ []) rest in
+              let i = count-append (edge k) is.done moved_in in
+              let j : edges k moved_in ≡ edges k mine_of = count_map (edge k) (λ (y : ℕ × Next). (n, y.1)) mine_of in
+              let l : edges k mine_of ≡ edges k (filter (λ (y : ℕ × Next). eqb y.0 m) is.back) = ap (edges k) mine_back in
+              let o = count_of_filter (edge k) (λ (y : ℕ × Next). eqb y.0 m) is.back in
+              let r = is.back_edges k none in
+              omega (arith, g, h, i, j, l, o, r));
+          few = let g = not_more in let h : busy (shapes merged) ≡ busy (new ahead tail n m lower) = ap busy as_new in let i : busy (shapes c.parser) ≡ busy (old ahead tail n m lower) = ap busy as_old in let j = is.few in omega (arith, g, h, i, j);
+        }
+
+  -- one entry on
+  pub step_on : IsRunning before own behind limit n fore ts (one_entry p c (slice_get c.parser.entries c.at))
+  step_on = by (slice_get c.parser.entries c.at) refl
+    where
+      joins : (e : ParserEntry) (m : ℕ) (can : Bool) → slice_get c.parser.entries c.at ≡ Some e → e.next ≡ next.State m → can_join c.parser c.at e m ≡ can → is_wanted p c.parser (next.State m) ≡ true
+          → IsRunning before own behind limit n fore ts (behind_join c (cond can (Some (joined c.parser c.at e m)) None))
+      joins e m true there on can wanted = joined_so e there m on can wanted
+      joins e m false there on can wanted = stays_so (record c { at = c.at + 1 }) refl
+
+      goes : (e : ParserEntry) (to : Next) → slice_get c.parser.entries c.at ≡ Some e → e.next ≡ to → is_wanted p c.parser to ≡ true → IsRunning before own behind limit n fore ts (behind_join c (join_to c.parser c.at e to))
+      goes e next.Accept there on wanted = absurd cc
+      goes e next.Reject there on wanted = absurd cc
+      goes e (next.State m) there on wanted = joins e m (can_join c.parser c.at e m) there on refl wanted
+
+      chosen : (e : ParserEntry) (b : Bool) → slice_get c.parser.entries c.at ≡ Some e → is_wanted p c.parser e.next ≡ b
+          → IsRunning before own behind limit n fore ts (cond b (behind_join c (join_at c.parser c.at (Some e))) (record c { at = c.at + 1 }))
+      chosen e true there wanted = goes e e.next there refl wanted
+      chosen e false there wanted = stays_so (record c { at = c.at + 1 }) refl
+
+      by : (o : Option ParserEntry) → slice_get c.parser.entries c.at ≡ o → IsRunning before own behind limit n fore ts (one_entry p c o)
+      by None there = (let none : option_map shape None ≡ Some x = entry_here None there in absurd cc)
+      by (Some e) there = chosen e (is_wanted p c.parser e.next) there refl
+
+-- ---- a whole header
+
+module _ (p : Program) (before own behind : ℕ → ℕ) (sides : Sides p before own behind) (limit n : ℕ) (fore : List (ℕ × Next)) where
+  run : (ts : List Target) (a : ℕ) (c : Clustering) → IsRunning before own behind limit n fore ts c
+      → IsRunning before own behind limit n fore [] (fold (λ (d : Clustering) k. one_entry p d (slice_get d.parser.entries d.at)) c (range_with_len a (length ts)))
+  run [] a c is = is
+  run (t ∷ ts) a c is = run ts (a + 1) (one_entry p c (slice_get c.parser.entries c.at)) (step_on p before own behind sides limit n fore t ts c is)
+
+-- the shapes of some headers' entries, the first of which has number n
+abbrev shapes_from : ℕ → List Header → List (ℕ × Next)
+shapes_from n [] = []
+shapes_from n (h ∷ hs) = map (own_shape n) (targets_of h) ++ shapes_from (n + 1) hs
+
+shapes_from-append : (n : ℕ) (xs ys : List Header) → shapes_from n (xs ++ ys) ≡ shapes_from n xs ++ shapes_from (n + length xs) ys
+shapes_from-append n [] ys = let e : n ≡ n + 0 = omega arith in ap (λ k. shapes_from k ys) e
+shapes_from-append n (x ∷ xs) ys =
+    let e : n + 1 + length xs ≡ n + length (x ∷ xs) = omega arith in
+    ap (λ l. map (own_shape n) (targets_of x) ++ l) (shapes_from-append (n + 1) xs ys)
+    ∙ sym (append_assoc (map (own_shape n) (targets_of x)) (shapes_from (n + 1) xs) (shapes_from (n + 1 + length xs) ys))
+    ∙ ap (λ k. (map (own_shape n) (targets_of x) ++ shapes_from (n + 1) xs) ++ shapes_from k ys) e
+
+shapes_low : (n : ℕ) (hs : List Header) → All (λ (x : ℕ × Next). x.0 < n + length hs) (shapes_from n hs)
+shapes_low n [] = All-nil (λ (x : ℕ × Next). x.0 < n + 0)
+shapes_low n (h ∷ hs) =
+    All-append (λ (x : ℕ × Next). x.0 < n + length (h ∷ hs)) (map (own_shape n) (targets_of h)) (shapes_from (n + 1) hs)
+    (All-map (λ (x : ℕ × Next). x.0 < n + length (h ∷ hs)) (own_shape n) (targets_of h) (λ k d lt. omega arith))
+    (All-weaker (λ (x : ℕ × Next). x.0 < n + 1 + length hs) (λ (x : ℕ × Next). x.0 < n + length (h ∷ hs)) (λ (x : ℕ × Next) lt. omega (arith, lt)) (shapes_from (n + 1) hs) (shapes_low (n + 1) hs))
+
+own_arrivals : (m n : ℕ) (ts : List Target) → edges m (map (own_shape n) ts) ≡ count (goes_to m) ts
+own_arrivals m n ts = count_map (edge m) (own_shape n) ts ∙ same ts
+  where
+    same : (us : List Target) → count (λ t. leads m (next_of t)) us ≡ count (goes_to m) us
+    same [] = refl
+    same (u ∷ us) =
+        ap (λ (b : Bool). length (cond b (u ∷ filter (λ t. leads m (next_of t)) us) (filter (λ t. leads m (next_of t)) us))) (leads_target m u) ∙ by (goes_to m u) (same us)
+      where
+        by : (b : Bool) → count (λ t. leads m (next_of t)) us ≡ count (goes_to m) us
+            → length (cond b (u ∷ filter (λ t. leads m (next_of t)) us) (filter (λ t. leads m (next_of t)) us)) ≡ length (cond b (u ∷ filter (goes_to m) us) (filter (goes_to m) us))
+        by true rest = ap suc rest
+        by false rest = rest
+
+shapes_arrivals : (m n : ℕ) (hs : List Header) → edges m (shapes_from n hs) ≡ arrivals_in hs m
+shapes_arrivals m n [] = refl
+shapes_arrivals m n (h ∷ hs) =
+    let a = count-append (edge m) (map (own_shape n) (targets_of h)) (shapes_from (n + 1) hs) in
+    let b = own_arrivals m n (targets_of h) in
+    let c = shapes_arrivals m (n + 1) hs in
+    let d = count-append (goes_to m) (targets_of h) (flat_map targets_of hs) in
+    omega (arith, a, b, c, d)
+
+arrivals-append : (xs ys : List Header) (m : ℕ) → arrivals_in (xs ++ ys) m ≡ arrivals_in xs m + arrivals_in ys m
+arrivals-append [] ys m = omega arith
+arrivals-append (g ∷ xs) ys m =
+    let a = count-append (goes_to m) (targets_of g) (flat_map targets_of (xs ++ ys)) in
+    let b = arrivals-append xs ys m in
+    let c = count-append (goes_to m) (targets_of g) (flat_map targets_of xs) in
+    omega (arith, a, b, c)
+
+-- the headers before n are as in the plain parser
+record IsWaiting (p : Program) (limit n : ℕ) (parser : ParserConfig) : Type 0 where
+  keeps : KeepsForm parser
+  back : List (ℕ × Next)
+  split : shapes parser ≡ shapes_from 0 (take n p.headers) ++ back
+  back_high : All (λ (x : ℕ × Next). n ≤ x.0) back
+  back_edges : (m : ℕ) → arrivals_in (drop n p.headers) m ≡ 0 → edges m back ≡ 0
+  few : busy (shapes parser) ≤ limit
+
+module _ (p : Program) (limit n : ℕ) (h : Header) (found : slice_get p.headers n ≡ Some h) (parser : ParserConfig) (is : IsWaiting p limit (n + 1) parser) where
+  abbrev ts : List Target
+  ts = targets_of h
+
+  abbrev front : List (ℕ × Next)
+  front = shapes_from 0 (take n p.headers)
+
+  hs_split : p.headers ≡ take n p.headers ++ h ∷ drop (n + 1) p.headers
+  hs_split = split_at p.headers n h found
+
+  long_take : length (take n p.headers) ≡ n
+  long_take = let inside = slice_get_within p.headers n h found in length-take-le n p.headers (omega (arith, inside))
+
+  split_h : shapes parser ≡ front ++ (map (own_shape n) ts ++ is.back)
+  split_h =
+      let one : 0 + length (take n p.headers) ≡ n = let a = long_take in omega (arith, a) in
+      is.split ∙ ap (λ l. shapes_from 0 l ++ is.back) (take_next p.headers n h found)
+      ∙ ap (λ l. l ++ is.back) (shapes_from-append 0 (take n p.headers) (h ∷ []) ∙ ap (λ k. front ++ shapes_from k (h ∷ [])) one ∙ ap (λ l. front ++ l) (append-nil (map (own_shape n) ts)))
+      ∙ append_assoc front (map (own_shape n) ts) is.back
+
+  front_is_low : All (λ (x : ℕ × Next). x.0 < n) front
+  front_is_low = subst (λ k. All (λ (x : ℕ × Next). x.0 < k) front) (let a = long_take in (let e : 0 + length (take n p.headers) ≡ n = omega (arith, a) in e)) (shapes_low 0 (take n p.headers))
+
+  back_is_high : All (λ (x : ℕ × Next). n < x.0) is.back
+  back_is_high = All-weaker (λ (x : ℕ × Next). n + 1 ≤ x.0) (λ (x : ℕ × Next). n < x.0) (λ (x : ℕ × Next) le. omega (arith, le)) is.back is.back_high
+
+  the_sides : Sides p (arrivals_in (take n p.headers)) (λ m. count (goes_to m) ts) (arrivals_in (drop (n + 1) p.headers))
+  the_sides = record {
+    sum = λ m. (let a = ap (λ (l : List Header). arrivals_in l m) hs_split in
+        let b = arrivals-append (take n p.headers) (h ∷ drop (n + 1) p.headers) m in
+        let d = count-append (goes_to m) ts (flat_map targets_of (drop (n + 1) p.headers)) in
+        omega (arith, a, b, d));
+  }
+
+  count_shapes : (q : ℕ × Next → Bool) → count q (shapes parser) ≡ count q front + (count q (map (own_shape n) ts) + count q is.back)
+  count_shapes q = ap (count q) split_h ∙ count-append q front (map (own_shape n) ts ++ is.back) ∙ ap (λ k. count q front + k) (count-append q (map (own_shape n) ts) is.back)
+
+  start_at : number_of_entry parser.entries n 0 ≡ length front
+  start_at =
+      let q : ℕ × Next → Bool = λ x. nat_lt x.0 n in
+      let a = count_shapes q in
+      let b : count q (shapes parser) ≡ length (filter (λ (e : ParserEntry). nat_lt e.state n) parser.entries) = count_map q shape parser.entries in
+      let c = count_all q front (All-weaker (λ (x : ℕ × Next). x.0 < n) (λ (x : ℕ × Next). q x ≡ true) (λ (x : ℕ × Next) lt. lt-ltb x.0 n lt) front front_is_low) in
+      let d = count_none q (map (own_shape n) ts) (All-map (λ (x : ℕ × Next). q x ≡ false) (own_shape n) ts (λ k dd lt. le-ltb n n (omega arith))) in
+      let e = count_none q is.back (All-weaker (λ (x : ℕ × Next). n < x.0) (λ (x : ℕ × Next). q x ≡ false) (λ (x : ℕ × Next) lt. le-ltb x.0 n (omega (arith, lt))) is.back back_is_high) in
+      omega (arith, a, b, c, d, e)
+
+  own_many : length (entries_in n parser.entries) ≡ length ts
+  own_many =
+      let q : ℕ × Next → Bool = λ x. eqb x.0 n in
+      let a = count_shapes q in
+      let b : count q (shapes parser) ≡ length (entries_in n parser.entries) = count_map q shape parser.entries in
+      let c = count_none q front (All-weaker (λ (x : ℕ × Next). x.0 < n) (λ (x : ℕ × Next). q x ≡ false) (λ (x : ℕ × Next) lt. ne_eqb x.0 n (λ e. omega (arith, lt, e))) front front_is_low) in
+      let d = count_all q (map (own_shape n) ts) (All-map (λ (x : ℕ × Next). q x ≡ true) (own_shape n) ts (λ k dd lt. eq-eqb n n refl)) in
+      let f = length-map ts (own_shape n) in
+      let e = count_none q is.back (All-weaker (λ (x : ℕ × Next). n < x.0) (λ (x : ℕ × Next). q x ≡ false) (λ (x : ℕ × Next) lt. ne_eqb x.0 n (λ e. omega (arith, lt, e))) is.back back_is_high) in
+      omega (arith, a, b, c, d, e, f)
+
+  starts : IsRunning (arrivals_in (take n p.headers)) (λ m. count (goes_to m) ts) (arrivals_in (drop (n + 1) p.headers)) limit n front ts (record { parser = parser; at = number_of_entry parser.entries n 0 })
+  starts = record {
+    keeps = is.keeps;
+    done = [];
+    back = is.back;
+    split = split_h;
+    at = let a = start_at in omega (arith, a);
+    front_low = front_is_low;
+    done_own = All-nil (λ (x : ℕ × Next). x.0 ≡ n);
+    back_high = back_is_high;
+    front_edges = λ m. (let a = shapes_arrivals m 0 (take n p.headers) in omega (arith, a));
+    back_edges = is.back_edges;
+    left_edges = λ m. (let a = own_arrivals m n ts in omega (arith, a));
+    own_edges = λ m none. (let a = own_arrivals m n ts in omega (arith, a));
+    few = is.few;
+  }
+
+  -- the header is done
+  header_done : IsWaiting p limit n (one_header p parser n)
+  header_done =
+      let ended : IsRunning (arrivals_in (take n p.headers)) (λ m. count (goes_to m) ts) (arrivals_in (drop (n + 1) p.headers)) limit n front [] (some_entries p (length (entries_in n parser.entries)) (record { parser = parser; at = number_of_entry parser.entries n 0 })) =
+      subst (λ k. IsRunning (arrivals_in (take n p.headers)) (λ m. count (goes_to m) ts) (arrivals_in (drop (n + 1) p.headers)) limit n front [] (some_entries p k (record { parser = parser; at = number_of_entry parser.entries n 0 }))) (sym own_many)
+      (run p (arrivals_in (take n p.headers)) (λ m. count (goes_to m) ts) (arrivals_in (drop (n + 1) p.headers)) the_sides limit n front ts 0 (record { parser = parser; at = number_of_entry parser.entries n 0 }) starts) in
+      waits (some_entries p (length (entries_in n parser.entries)) (record { parser = parser; at = number_of_entry parser.entries n 0 })) ended
+    where
+      behind_zero : (m : ℕ) → arrivals_in (drop n p.headers) m ≡ count (goes_to m) ts + arrivals_in (drop (n + 1) p.headers) m
+      behind_zero m =
+          let all : drop n p.headers ≡ h ∷ drop (n + 1) p.headers = ap (drop n) hs_split ∙ drop_at (take n p.headers) (h ∷ drop (n + 1) p.headers) n long_take in
+          ap (λ (l : List Header). arrivals_in l m) all ∙ count-append (goes_to m) ts (flat_map targets_of (drop (n + 1) p.headers))
+
+      waits : (c : Clustering) → IsRunning (arrivals_in (take n p.headers)) (λ m. count (goes_to m) ts) (arrivals_in (drop (n + 1) p.headers)) limit n front [] c → IsWaiting p limit n c.parser
+      waits c e = record {
+        keeps = e.keeps;
+        back = e.done ++ e.back;
+        split = e.split;
+        back_high =
+            All-append (λ (x : ℕ × Next). n ≤ x.0) e.done e.back (All-weaker (λ (x : ℕ × Next). x.0 ≡ n) (λ (x : ℕ × Next). n ≤ x.0) (λ (x : ℕ × Next) same. omega (arith, same)) e.done e.done_own)
+            (All-weaker (λ (x : ℕ × Next). n < x.0) (λ (x : ℕ × Next). n ≤ x.0) (λ (x : ℕ × Next) lt. omega (arith, lt)) e.back e.back_high);
+        back_edges = λ m none.
+            (let a = behind_zero m in
+            let b : arrivals_in (drop (n + 1) p.headers) m ≡ 0 = omega (arith, none, a) in
+            let d = e.own_edges m b in
+            let f = e.back_edges m b in
+            let g = count-append (edge m) e.done e.back in
+            omega (arith, none, a, b, d, f, g));
+        few = e.few;
+      }
+
+-- ---- all headers
+
+module _ (p : Program) (limit : ℕ) where
+  waiting_all : (n : ℕ) (parser : ParserConfig) → n ≤ length p.headers → IsWaiting p limit n parser → IsWaiting p limit 0 (fold (one_header p) parser (reverse (range_with_len 0 n)))
+  waiting_all zero parser le is = is
+  waiting_all (suc n) parser le is =
+      let item = slice_get-item p.headers n (omega (arith, le)) in
+      let one : suc n ≡ n + 1 = omega arith in
+      let here : IsWaiting p limit (n + 1) parser = subst (λ k. IsWaiting p limit k parser) one is in
+      let next : IsWaiting p limit n (one_header p parser n) = header_done p limit n item.0 item.1 parser here in
+      let zero_more : 0 + n ≡ n = omega arith in
+      let order : reverse (range_with_len 0 (suc n)) ≡ n ∷ reverse (range_with_len 0 n) =
+      ap (λ k. reverse (range_with_len 0 k)) one ∙ ap reverse (range_more 0 n) ∙ reverse-append (range_with_len 0 n) ((0 + n) ∷ []) ∙ ap (λ k. k ∷ reverse (range_with_len 0 n)) zero_more in
+      subst (λ l. IsWaiting p limit 0 (fold (one_header p) parser l)) (sym order) (waiting_all n (one_header p parser n) (omega (arith, le)) next)
+
+entries_shapes : (p : Program) (places : List (List Lane)) (n : ℕ) (hs : List Header) → map shape (entries_from p places n hs) ≡ shapes_from n hs
+entries_shapes p places n [] = refl
+entries_shapes p places n (h ∷ hs) =
+    map-append shape (entries_of p places n h) (entries_from p places (n + 1) hs)
+    ∙ ap (λ l. l ++ map shape (entries_from p places (n + 1) hs)) (map-append shape (map (entry_of_case p places n h) h.cases) (entry_to places n h 0 0 h.other ∷ [])
+    ∙ ap (λ l. l ++ own_shape n h.other ∷ []) (map-map shape (entry_of_case p places n h) h.cases ∙ sym (map-map (own_shape n) (λ (c : Case). c.target) h.cases))
+    ∙ sym (map-append (own_shape n) (map (λ (c : Case). c.target) h.cases) (h.other ∷ [])))
+    ∙ ap (λ l. map (own_shape n) (targets_of h) ++ l) (entries_shapes p places (n + 1) hs)
+
+-- ---- states that are met are gone to
+
+met_arrived : (es : List ParserEntry) (met : List ℕ) (s : ℕ) → is_among (fold (λ (ms : List ℕ) (e : ParserEntry). cond (is_among ms e.state) (ms ++ state_behind e.next) ms) met es) s ≡ true
+    → (is_among met s ≡ true) ⊎ (0 < edges s (map shape es))
+met_arrived [] met s is = inl is
+met_arrived (e ∷ es) met s is = by (is_among met e.state) (met_arrived es (cond (is_among met e.state) (met ++ state_behind e.next) met) s is)
+  where
+    more : edges s (map shape (e ∷ es)) ≡ length (cond (leads s e.next) (shape e ∷ filter (edge s) (map shape es)) (filter (edge s) (map shape es)))
+    more = refl
+
+    later : (b : Bool) → 0 < edges s (map shape es) → 0 < length (cond b (shape e ∷ filter (edge s) (map shape es)) (filter (edge s) (map shape es)))
+    later true lt = omega (arith, lt)
+    later false lt = lt
+
+    new_one : (to : Next) → is_among (state_behind to) s ≡ true → leads s to ≡ true
+    new_one next.Accept found = absurd cc
+    new_one next.Reject found = absurd cc
+    new_one (next.State k) found = elim (or_cases (eqb k s) false found) [ inl same ↦ same | inr none ↦ absurd cc ]
+
+    by : (b : Bool) → (is_among (cond b (met ++ state_behind e.next) met) s ≡ true) ⊎ (0 < edges s (map shape es)) → (is_among met s ≡ true) ⊎ (0 < edges s (map shape (e ∷ es)))
+    by b (inr lt) = inr (later (leads s e.next) lt)
+    by false (inl found) = inl found
+    by true (inl found) = elim (or_cases (is_among met s) (is_among (state_behind e.next) s) (sym (list_any-append (λ y. eqb y s) met (state_behind e.next)) ∙ found)) [
+      | inl old_one ↦ inl old_one
+      | inr fresh ↦ inr (let here : leads s e.next ≡ true = new_one e.next fresh in
+          subst (λ (b : Bool). 0 < length (cond b (shape e ∷ filter (edge s) (map shape es)) (filter (edge s) (map shape es)))) (sym here) (let e : 0 < suc (length (filter (edge s) (map shape es))) = omega arith in e))
+    ]
+
+compact_few : (parser : ParserConfig) → length (compact parser).entries ≤ busy (shapes parser)
+compact_few parser =
+    let met : ParserEntry → Bool = λ e. is_met parser e.state in
+    let a = length-map (map (renamed (is_met parser)) (filter (λ (x : Row). is_met parser x.entry.state) (rows_of parser))) (λ (x : Row). x.entry) in
+    let b = length-map (filter (λ (x : Row). is_met parser x.entry.state) (rows_of parser)) (renamed (is_met parser)) in
+    let c : count (λ (x : Row). is_met parser x.entry.state) (rows_of parser) ≡ count met parser.entries =
+    sym (count_map met (λ (x : Row). x.entry) (rows_of parser)) ∙ ap (count met) (entries_of_rows parser 0 parser.entries) in
+    let d : count met parser.entries ≤ count (λ (e : ParserEntry). arrived (shapes parser) e.state) parser.entries =
+    count_less met (λ (e : ParserEntry). arrived (shapes parser) e.state) parser.entries (λ e is. gone e.state (met_arrived parser.entries (0 ∷ []) e.state is)) in
+    let f : busy (shapes parser) ≡ count (λ (e : ParserEntry). arrived (shapes parser) e.state) parser.entries = count_map (λ (x : ℕ × Next). arrived (shapes parser) x.0) shape parser.entries in
+    omega (arith, a, b, c, d, f)
+  where
+    gone : (s : ℕ) → (is_among (0 ∷ []) s ≡ true) ⊎ (0 < edges s (shapes parser)) → arrived (shapes parser) s ≡ true
+    gone s (inr lt) = or_right (eqb s 0) (nat_lt 0 (edges s (shapes parser))) (lt-ltb 0 (edges s (shapes parser)) lt)
+    gone s (inl found) = elim (or_cases (eqb 0 s) false found) [
+      | inl same ↦ or_left (eqb s 0) (nat_lt 0 (edges s (shapes parser))) (eq-eqb s 0 (sym (eqb-true 0 s same)))
+      | inr none ↦ absurd cc
+    ]
+
+-- no more entries than the plain parser has
+pub clustered_few : (p : Program) (places : List (List Lane)) → KeepsForm (plain p places) → length (clustered p places).entries ≤ length (plain p places).entries
+clustered_few p places keeps =
+    let limit : ℕ = length (plain p places).entries in
+    let start : IsWaiting p limit (length p.headers) (plain p places) =
+    record {
+      keeps = keeps;
+      back = [];
+      split = entries_shapes p places 0 p.headers ∙ ap (shapes_from 0) (sym (take_all (length p.headers) p.headers (omega arith))) ∙ sym (append-nil (shapes_from 0 (take (length p.headers) p.headers)));
+      back_high = All-nil (λ (x : ℕ × Next). length p.headers ≤ x.0);
+      back_edges = λ m none. refl;
+      few = let a = filter_short (λ (x : ℕ × Next). arrived (shapes (plain p places)) x.0) (shapes (plain p places)) in let b = length-map (plain p places).entries shape in omega (arith, a, b);
+    } in
+    let ended : IsWaiting p limit 0 (all_joined p (plain p places)) = waiting_all p limit (length p.headers) (plain p places) (omega arith) start in
+    let a = compact_few (all_joined p (plain p places)) in
+    let b = ended.few in
+    omega (arith, a, b)
