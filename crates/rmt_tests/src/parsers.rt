@@ -1,4 +1,4 @@
-//! Plain parsers of program texts, and frames that they parse.
+//! Plain and clustered parsers of program texts, and frames that they parse.
 
 ghost use Rattle.std.specs.Prelude.{◌<◌, length, IfOk};
 ghost use Rattle.rmt_ptcam.specs.Fitting.{IsParser};
@@ -13,12 +13,24 @@ use rmt_packets::packet_line::read_packet;
 use rmt_phv::pack_fields;
 use rmt_ptcam::fault::ParserFault;
 use rmt_ptcam::parse::Parsed;
-use rmt_ptcam::{parse_chip, parser_need, plain_parser};
+use rmt_ptcam::{clustered_parser, parse_chip, parser_need, plain_parser};
 use std::alloc::{AllocError, Global};
 use std::test::*;
 
-/// The plain parser of a text that means a program; `parser_need` and `plain_parser` refuse alike.
-fn parser_of(alloc: Global, text: &[u8]) -> Result<ParserConfig, ParserFault>
+/// A rule by which a program gets its parser.
+#[derive(Clone, Copy)]
+enum Rule {
+    /// One state for each header.
+    Plain,
+    /// Several headers in one step.
+    Clustered,
+}
+
+/// Both rules.
+const RULES: [Rule; 2] = [Rule::Plain, Rule::Clustered];
+
+/// The parser by a rule of a text that means a program; `parser_need` refuses as the rules do.
+fn parser_of(alloc: Global, text: &[u8], rule: Rule) -> Result<ParserConfig, ParserFault>
     requires { length text.now < 4294967295 }
     ensures { IfOk result IsParser }
 {
@@ -30,7 +42,10 @@ fn parser_of(alloc: Global, text: &[u8]) -> Result<ParserConfig, ParserFault>
     let Ok(places) = pack_fields(alloc, &program) else {
         return Err(ParserFault::NoMemory);
     };
-    plain_parser(alloc, &program, &places)
+    match rule {
+        Rule::Plain => plain_parser(alloc, &program, &places),
+        Rule::Clustered => clustered_parser(alloc, &program, &places),
+    }
 }
 
 /// What the parser makes of a frame.
@@ -79,30 +94,46 @@ const FRAMES: [(&[u8], Parsed); 7] = [
 
 #[test]
 fn realistic_frames(rt: HostRuntime) -> Result<(), Fail> {
-    let parser = parser_of(rt.alloc(), HEADERS)?;
-    let mut frame = Vec::new(rt.alloc());
-    for (line, want) in FRAMES.as_slice() {
-        assert_eq!(rt; read_packet(rt.alloc(), *line, &mut frame), Ok(0));
-        assert!(rt; frame.len() < 9217);
-        assert_eq!(rt; parsed(&parser, frame.as_slice()), *want);
+    for rule in RULES {
+        let parser = parser_of(rt.alloc(), HEADERS, rule)?;
+        let mut frame = Vec::new(rt.alloc());
+        for (line, want) in FRAMES.as_slice() {
+            assert_eq!(rt; read_packet(rt.alloc(), *line, &mut frame), Ok(0));
+            assert!(rt; frame.len() < 9217);
+            assert_eq!(rt; parsed(&parser, frame.as_slice()), *want);
+        }
     }
     Ok(())
 }
 
-/// The first of these frames, cut at each byte: its headers have 42.
+/// How both parsers end on the front of a frame of which the headers have so many bytes.
+fn end_alike(plain: &ParserConfig, clustered: &ParserConfig, front: &[u8], headers: u32) -> bool
+    requires plain { IsParser plain.now }
+    requires clustered { IsParser clustered.now }
+    requires short { length front.now < 9217 }
+{
+    let want = if front.len() < headers as usize {
+        Parsed::Short
+    } else {
+        Parsed::Accept { used: headers }
+    };
+    parsed(plain, front) == want && parsed(clustered, front) == want
+}
+
+/// Each of these frames that is accepted, cut at each byte.
 #[test]
-fn frame_cut_at_each_byte(rt: HostRuntime) -> Result<(), Fail> {
-    let parser = parser_of(rt.alloc(), HEADERS)?;
+fn frames_cut_at_each_byte(rt: HostRuntime) -> Result<(), Fail> {
+    let plain = parser_of(rt.alloc(), HEADERS, Rule::Plain)?;
+    let clustered = parser_of(rt.alloc(), HEADERS, Rule::Clustered)?;
     let mut frame = Vec::new(rt.alloc());
-    assert_eq!(rt; read_packet(rt.alloc(), FRAMES[0].0, &mut frame), Ok(0));
-    assert_eq!(rt; frame.len(), 46);
-    for len in 0..47 {
-        let want = if len < 42 {
-            Parsed::Short
-        } else {
-            Parsed::Accept { used: 42 }
-        };
-        assert_eq!(rt; parsed(&parser, &frame.as_slice()[..len]), want);
+    for (line, end) in FRAMES.as_slice() {
+        if let Parsed::Accept { used } = *end {
+            assert_eq!(rt; read_packet(rt.alloc(), *line, &mut frame), Ok(0));
+            assert!(rt; frame.len() < 9217);
+            for len in 0..frame.len() + 1 {
+                assert!(rt; end_alike(&plain, &clustered, &frame.as_slice()[..len], used));
+            }
+        }
     }
     Ok(())
 }
@@ -118,7 +149,7 @@ const TAILS: [(&[u8], Parsed, (u16, u16)); 3] = [
 
 #[test]
 fn tails_of_a_header(rt: HostRuntime) -> Result<(), Fail> {
-    let parser = parser_of(rt.alloc(), TAILED)?;
+    let parser = parser_of(rt.alloc(), TAILED, Rule::Clustered)?;
     for (frame, answer, tail) in TAILS {
         let mut vector = Vector::new();
         let mut tails = Tails::new();
@@ -132,11 +163,11 @@ fn tails_of_a_header(rt: HostRuntime) -> Result<(), Fail> {
     Ok(())
 }
 
-/// How many entries and states the parser of a text has, or why it has none.
-fn told(alloc: Global, text: &[u8]) -> Result<String, AllocError>
+/// How many entries and states the parser by a rule of a text has, or why it has none.
+fn told(alloc: Global, text: &[u8], rule: Rule) -> Result<String, AllocError>
     requires { length text.now < 4294967295 }
 {
-    match parser_of(alloc, text) {
+    match parser_of(alloc, text, rule) {
         Ok(parser) => format!(in alloc;
             "{} entries {} states",
             parser.entries.len(),
@@ -153,24 +184,33 @@ fn told(alloc: Global, text: &[u8]) -> Result<String, AllocError>
     }
 }
 
-/// A text whose middle part is repeated so often, and what is told of its parser.
+/// A text whose middle part is repeated so often, and what is told of its plain and of its clustered parser.
 type Row = (
     &'static [u8],
     &'static [u8],
     u16,
     &'static [u8],
     &'static str,
+    &'static str,
 );
 
 /// A program with 16 cases and `else`s; a select of 6 bytes, one of 5 of a field that begins inside a byte, and one of 4; a
 /// header of 64 fields; 255 cases and the `else`, and one case more.
 const SIZES: [Row; 7] = [
-    (HEADERS, b"", 0, b"", "16 entries 6 states"),
+    (
+        HEADERS,
+        b"",
+        0,
+        b"",
+        "16 entries 6 states",
+        "13 entries 3 states",
+    ),
     (
         b"header h { a : 24; b : 24; } next (a, b) { else : accept; } control { }",
         b"",
         0,
         b"",
+        "lookup 0 6",
         "lookup 0 6",
     ),
     (
@@ -179,12 +219,14 @@ const SIZES: [Row; 7] = [
         0,
         b"",
         "lookup 0 5",
+        "lookup 0 5",
     ),
     (
         b"header h { a : 8; b : 32; c : 8; } next (b) { else : accept; } control { }",
         b"",
         0,
         b"",
+        "1 entries 1 states",
         "1 entries 1 states",
     ),
     (
@@ -193,12 +235,14 @@ const SIZES: [Row; 7] = [
         64,
         b" } next accept; control { }",
         "step 0 65",
+        "step 0 65",
     ),
     (
         b"header h { f : 16; } next (f) {",
         b" # : accept;",
         255,
         b" else : reject; } control { }",
+        "256 entries 1 states",
         "256 entries 1 states",
     ),
     (
@@ -207,16 +251,19 @@ const SIZES: [Row; 7] = [
         256,
         b" else : reject; } control { }",
         "full 257",
+        "full 257",
     ),
 ];
 
 #[test]
 fn sizes_of_parsers(rt: HostRuntime) -> Result<(), Fail> {
-    for (front, piece, times, back, wanted) in SIZES {
+    for (front, piece, times, back, plain, clustered) in SIZES {
         let text = repeated(rt.alloc(), front, piece, times, back)?;
         assert!(rt; text.len() < 10000);
-        let got = told(rt.alloc(), text.as_slice())?;
-        assert_eq!(rt; got.as_str(), wanted);
+        let got = told(rt.alloc(), text.as_slice(), Rule::Plain)?;
+        assert_eq!(rt; got.as_str(), plain);
+        let got = told(rt.alloc(), text.as_slice(), Rule::Clustered)?;
+        assert_eq!(rt; got.as_str(), clustered);
     }
     Ok(())
 }
