@@ -1,0 +1,59 @@
+-- The entries of a part stand in its cells, no two in one.
+use Rattle.std.proofs.Common.{◌≡◌, ◌≢◌, ℕ, zero, suc, ◌+◌, ◌-◌, ◌<◌, List, [], ◌∷◌, Bool, true, false, cond, ltb, leb, get_or, map, arith}
+use Rattle.std.specs.Prelude.{All, AllPairs, filter}
+use Rattle.std.specs.List.{range_with_len}
+use Rattle.std.proofs.lemmas.Bool.{and_parts, ltb-true, leb-true}
+use Rattle.std.proofs.lemmas.List.Elements.{All-filter, All-map, All-weaker, filter_passes}
+use Rattle.std.proofs.lemmas.List.Sorted.{All-permutation}
+use Rattle.rmt_bits.proofs.AllLaws.{All-range}
+use Rattle.rmt_pack.proofs.FormatLaws.{of_map}
+use Rattle.rmt_phv.proofs.PairLaws.{AllPairs-map}
+use Rattle.rmt_build.specs.declared.stands.Stand.{Stand}
+use Rattle.rmt_build.specs.Rooms.{StandApart}
+use Rattle.rmt_build.specs.Standing.{StandOnce, counted_from, stands_there, stands_within}
+
+pairs-tail : {X : Type 0} (R : X → X → Type 0) (x : X) (xs : List X) → AllPairs R (x ∷ xs) → AllPairs R xs
+pairs-tail R x xs pairs i j d less lt = pairs (suc i) (suc j) d (omega (arith, less)) (omega (arith, lt))
+
+pairs-head : {X : Type 0} (R : X → X → Type 0) (x : X) (xs : List X) → AllPairs R (x ∷ xs) → All (R x) xs
+pairs-head R x xs pairs k d lt = pairs 0 (suc k) d (omega arith) (omega (arith, lt))
+
+pairs-cons : {X : Type 0} (R : X → X → Type 0) (x : X) (xs : List X) → All (R x) xs → AllPairs R xs → AllPairs R (x ∷ xs)
+pairs-cons R x xs first rest i zero d less lt = absurd (omega (arith, less))
+pairs-cons R x xs first rest zero (suc j) d less lt = first j d (omega (arith, lt))
+pairs-cons R x xs first rest (suc i) (suc j) d less lt = rest i j d (omega (arith, less)) (omega (arith, lt))
+
+pairs-filter : {X : Type 0} (R : X → X → Type 0) (test : X → Bool) (xs : List X) → AllPairs R xs → AllPairs R (filter test xs)
+pairs-filter R test [] pairs = pairs
+pairs-filter {X} R test (x ∷ xs) pairs =
+    by_test (test x) (All-filter test (R x) xs (pairs-head R x xs pairs)) (pairs-filter R test xs (pairs-tail R x xs pairs))
+  where
+    by_test : (b : Bool) → All (R x) (filter test xs) → AllPairs R (filter test xs) → AllPairs R (cond b (x ∷ filter test xs) (filter test xs))
+    by_test true first rest = pairs-cons R x (filter test xs) first rest
+    by_test false first rest = rest
+
+-- the entries of a part, of a table whose entries stand once
+pub part-apart : (count first cells : ℕ) (own : List Stand) → StandOnce count own → StandApart count cells (stands_within first cells own)
+part-apart count first cells own once =
+    let there = stands_there first cells in
+    let inside = filter there own in
+    let passed : All (λ (s : Stand). there s ≡ true) inside = filter_passes there own in
+    let few : All (λ (s : Stand). s.entry < count) own =
+    of_map (λ n. n < count) (λ (s : Stand). s.entry) own
+    (All-permutation (λ n. n < count) (range_with_len 0 count) (map (λ (s : Stand). s.entry) own) once.each (All-range (λ n. n < count) 0 count (λ n lt. omega (arith, lt)))) in
+    record {
+      entries = All-map (λ (s : Stand). s.entry < count) (counted_from first) inside (All-filter there (λ (s : Stand). s.entry < count) own few);
+      cells = All-map (λ (s : Stand). s.cell < cells) (counted_from first) inside
+          (All-weaker (λ (s : Stand). there s ≡ true) (λ (s : Stand). s.cell - first < cells)
+          (λ s passes.
+          let parts = and_parts (leb first s.cell) (ltb s.cell (first + cells)) passes in
+          let low = leb-true first s.cell parts.0 in
+          let high = ltb-true s.cell (first + cells) parts.1 in
+          omega (arith, low, high)) inside passed);
+      apart = AllPairs-map (λ (a b : Stand). a.cell ≢ b.cell) (counted_from first) inside
+          (λ i j d less lt.
+          let rise : (get_or inside i d).cell < (get_or inside j d).cell = pairs-filter (λ (a b : Stand). a.cell < b.cell) there own once.rise i j d less lt in
+          let parts = and_parts (leb first (get_or inside i d).cell) (ltb (get_or inside i d).cell (first + cells)) (passed i d (omega (arith, less, lt))) in
+          let low = leb-true first (get_or inside i d).cell parts.0 in
+          λ same. omega (arith, rise, low, same));
+    }

@@ -1,0 +1,123 @@
+-- Instructions of foldings do what a configuration that carries a program asks of them.
+use Rattle.std.proofs.Common.{◌≡◌, ◌≢◌, ◌⊎◌, ◌+◌, ◌*◌, ◌^◌, ◌<◌, ◌≤◌, ◌∙◌, ℕ, List, [], ◌∷◌, ◌++◌, Some, length, map, get_or, refl, sym, ap, subst, arith}
+use Rattle.std.specs.Prelude.{All, Contains, Option, option_map, slice_get, slice_index, unwrap_or}
+use Rattle.std.specs.List.{AllZip, flat_map}
+use Rattle.std.specs.List.Sorted.{IsPermutation}
+use Rattle.std.proofs.lemmas.List.{get_or-map, length-map}
+use Rattle.std.proofs.lemmas.List.Elements.{All-contains, All-contains_itself, All-map, All-nil, All-weaker, Contains-get_or}
+use Rattle.std.proofs.lemmas.List.Sorted.{All-permutation}
+use Rattle.rmt_bits.specs.declared.lane.Lane.{Lane}
+use Rattle.rmt_bits.proofs.AllLaws.{All-flat_map}
+use Rattle.rmt_ast.specs.declared.program.Program.{Program}
+use Rattle.rmt_ast.specs.declared.program.Action.{Action}
+use Rattle.rmt_ast.specs.declared.program.Assign.{Assign}
+use Rattle.rmt_ast.specs.Control.{act_of}
+use Rattle.rmt_ast.specs.EntryLists.{params_of}
+use Rattle.rmt_ast.specs.Places.{lanes_of}
+use Rattle.rmt_ast.specs.WellFormed.{Fits}
+use Rattle.rmt_config.specs.declared.config.Operation.{Operation}
+use Rattle.rmt_config.specs.Agreement.{IsFree}
+use Rattle.rmt_config.specs.Life.{Words, lane_of}
+use Rattle.rmt_deps.specs.Edges.{of_action}
+use Rattle.rmt_pack.proofs.FormatLaws.{of_map}
+use Rattle.rmt_phv.specs.Places.{written_by}
+use Rattle.rmt_vliw.specs.declared.folded.Folded.{Folded}
+use Rattle.rmt_vliw.specs.Effects as effects
+use Rattle.rmt_vliw.specs.Folding.{IsFolding, dests_of}
+use Rattle.rmt_vliw.specs.Operations.{given, operations_of}
+use Rattle.rmt_vliw.proofs.MeaningLaws.{action_of, folded_is}
+use Rattle.rmt_vliw.proofs.OperationLaws.{IsOpOf, operation_word, ops_all}
+use Rattle.rmt_vliw.proofs.PieceLaws.{piece_of}
+use Rattle.rmt_vliw.proofs.ValueLaws.{dests_known}
+use Rattle.rmt_refine.specs.Cells.{HasArguments}
+use Rattle.rmt_refine.specs.Code.{held_by, Hold, words_after, assigned_lanes, ChangesOnly, WritesWordsOf, DoesAction, DoesDefault}
+use Rattle.rmt_refine.proofs.MemberLaws.{Contains-flat_map}
+
+-- ---- the words that hold a state
+
+-- what lanes hold together
+held_same : (words : Words) (lanes : List Lane) → effects.held_by words lanes ≡ held_by words lanes
+held_same words [] = refl
+held_same words (l ∷ ls) = ap (λ n. lane_of words l + 2 ^ l.len * n) (held_same words ls)
+
+hold_here : (places : List (List Lane)) (words : Words) (s : List ℕ) → effects.Hold places words s → Hold places words s
+hold_here places words s hold f = sym (held_same words (lanes_of places f)) ∙ hold f
+
+hold_there : (places : List (List Lane)) (words : Words) (s : List ℕ) → Hold places words s → effects.Hold places words s
+hold_there places words s hold f = held_same words (lanes_of places f) ∙ hold f
+
+-- ---- the lanes that an action assigns
+
+contains_map : {X Y : Type 0} (f : X → Y) (xs : List X) (x : X) → Contains xs x → Contains (map f xs) (f x)
+contains_map f xs x (k, lt, is) =
+    let long = length-map xs f in
+    (k, omega (arith, long, lt), get_or-map f xs k x (f x) lt ∙ ap f is)
+
+module _ (p : Program) (places : List (List Lane)) (n : ℕ) where
+  -- a value is of a field that the action assigns
+  abbrev IsAssigned : Assign → Type 0
+  IsAssigned v = Contains (of_action p written_by n) v.dest
+
+  lanes_assigned : (values : List Assign) → All IsAssigned values → All (λ (v : Assign). All (Contains (assigned_lanes p places n)) (lanes_of places v.dest)) values
+  lanes_assigned values dests i d lt j e below =
+      Contains-flat_map (lanes_of places) (of_action p written_by n) (get_or values i d).dest (get_or (lanes_of places (get_or values i d).dest) j e)
+      (dests i d lt) (Contains-get_or (lanes_of places (get_or values i d).dest) j e below)
+
+  -- what changes only bits of the values' lanes changes only bits of those that the action assigns
+  changes_assigned : (values : List Assign) (ops : List Operation) → All IsAssigned values → effects.ChangesOnly (effects.written_lanes places values) ops → ChangesOnly (assigned_lanes p places n) ops
+  changes_assigned values ops dests changes words held word bit free =
+      changes words held word bit (λ i d lt. All-contains (λ (l : Lane). (l.word ≢ word) ⊎ ((bit < l.low) ⊎ (l.low + l.len ≤ bit))) (assigned_lanes p places n) (get_or (effects.written_lanes places values) i d) free
+      (All-flat_map (Contains (assigned_lanes p places n)) (λ (v : Assign). lanes_of places v.dest) values (lanes_assigned values dests) i d lt))
+
+  -- the operations of the values are on words of those lanes
+  words_assigned : (params : List ℕ) (values : List Assign) (ops : List Operation) → All IsAssigned values → IsPermutation (operations_of places params values) ops → WritesWordsOf (assigned_lanes p places n) ops
+  words_assigned params values ops dests same =
+      All-weaker (IsOpOf places params values) (λ (y : Operation). Contains (map (λ (l : Lane). l.word) (assigned_lanes p places n)) y.word)
+      (λ y op.
+      (let v = op.value in
+      let none : Lane = record { word = 0; low = 0; len = 0 } in
+      let lane = get_or (lanes_of places v.dest) op.place none in
+      let there : Contains (assigned_lanes p places n) lane =
+      Contains-flat_map (lanes_of places) (of_action p written_by n) v.dest lane (All-contains IsAssigned values v dests op.among) (Contains-get_or (lanes_of places v.dest) op.place none op.inside) in
+      let word : y.word ≡ lane.word =
+      ap (λ (x : Operation). x.word) (op.is none) ∙ operation_word places params v.expr (piece_of (lanes_of places v.dest) op.place lane.len) lane in
+      subst (Contains (map (λ (l : Lane). l.word) (assigned_lanes p places n))) (sym word) (contains_map (λ (l : Lane). l.word) (assigned_lanes p places n) lane there)))
+      ops (All-permutation (IsOpOf places params values) (operations_of places params values) ops same (ops_all places params values))
+
+  module _ (folded : Folded) (folding : IsFolding p n folded) where
+    -- the values of its folding are of such fields
+    values_assigned : All IsAssigned folded.values
+    values_assigned =
+        let found = action_of p n folded folding in
+        let a = found.0 in
+        let values = (folded_is a folded found.2).1 in
+        let itself = of_map (Contains (written_by a)) (λ (x : Assign). x.dest) a.assigns (All-contains_itself (written_by a)) in
+        let known : All (Contains (written_by a)) (dests_of a.assigns) = dests_known a.assigns [] (written_by a) (All-nil (Contains (written_by a))) itself in
+        let own = of_map (Contains (written_by a)) (λ (v : Assign). v.dest) folded.values (subst (All (Contains (written_by a))) (sym values.dests) known) in
+        subst (λ (o : Option Action). All (λ (v : Assign). Contains (unwrap_or (option_map written_by o) []) v.dest) folded.values) (sym found.1) own
+
+    params_same : params_of p n ≡ folded.params
+    params_same =
+        let found = action_of p n folded folding in
+        ap (λ (o : Option Action). unwrap_or (option_map (λ (x : Action). x.params) o) []) found.1 ∙ sym (folded_is found.0 folded found.2).0
+
+    -- ---- instructions
+
+    pub does_action : (ops : List Operation) → IsPermutation (operations_of places folded.params folded.values) ops → effects.Does p places n folded ops → DoesAction p places n ops
+    does_action ops same does = record {
+      acts = λ s args words held state fit has hold.
+          hold_here places (words_after ops held words) (act_of p n args s)
+          (does.acts s args words held state (subst (λ ps. AllZip Fits ps args) params_same fit) (subst (λ ps. HasArguments ps args held) params_same has) (hold_there places words s hold));
+      others = changes_assigned folded.values ops values_assigned does.others;
+      words = words_assigned folded.params folded.values ops values_assigned same;
+    }
+
+    given_assigned : (args : List ℕ) → All IsAssigned (map (given args) folded.values)
+    given_assigned args = All-map IsAssigned (given args) folded.values values_assigned
+
+    pub does_default : (args : List ℕ) (ops : List Operation) → IsPermutation (operations_of places [] (map (given args) folded.values)) ops → effects.DoesWith p places n args folded ops → DoesDefault p places n args ops
+    does_default args ops same does = record {
+      acts = λ s words held state hold. hold_here places (words_after ops held words) (act_of p n args s) (does.acts s words held state (hold_there places words s hold));
+      others = changes_assigned folded.values ops values_assigned does.others;
+      words = words_assigned [] (map (given args) folded.values) ops (given_assigned args) same;
+    }

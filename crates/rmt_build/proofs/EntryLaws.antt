@@ -1,0 +1,140 @@
+-- The numbers of entries of a table of a well-formed program.
+use Rattle.std.proofs.Common.{◌≡◌, ◌≢◌, ℕ, zero, suc, ◌+◌, ◌*◌, ◌/◌, ◌%◌, ◌^◌, ◌<◌, ◌≤◌, List, [], ◌∷◌, Some, None, length, get_or, take, map, max, refl, sym, ap, ◌∙◌, subst, arith}
+use Rattle.std.specs.Prelude.{All, AllPairs, Option, fold, option_map, slice_get, slice_index, sum, unwrap_or}
+use Rattle.std.specs.List.{AllZip}
+use Rattle.std.proofs.lemmas.List.{get_or-take, length-take, length-append, length-map, get_or-map, get_or_default}
+use Rattle.std.proofs.lemmas.List.Elements.{All-nil, All-cons}
+use Rattle.std.proofs.lemmas.Nat.{pow-add, div_below}
+use Rattle.std.proofs.Math.Nat.{pow-le-pow_right}
+use Rattle.rmt_bits.specs.Bits.{bytes_of, number_of}
+use Rattle.rmt_bits.proofs.AllLaws.{All-slice_get}
+use Rattle.rmt_bits.proofs.ByteLaws.{number_of_push}
+use Rattle.rmt_ast.specs.declared.program.Program.{Program}
+use Rattle.rmt_ast.specs.declared.program.Action.{Action}
+use Rattle.rmt_ast.specs.declared.program.Field.{Field}
+use Rattle.rmt_ast.specs.declared.program.Kind.{Kind}
+use Rattle.rmt_ast.specs.declared.program.Kind.TheVariants.{Keyless, Exact, Prefix, Ternary}
+use Rattle.rmt_ast.specs.declared.program.Table.{Table}
+use Rattle.rmt_ast.specs.declared.program.Test.{Test}
+use Rattle.rmt_ast.specs.declared.entry.Entry.{Entry}
+use Rattle.rmt_ast.specs.EntryLists.{IsEntry, params_of, terms_of}
+use Rattle.rmt_ast.specs.State.{width_of}
+use Rattle.rmt_ast.specs.WellFormed.{Fits, HasKey, IsProgram, IsTable, IsTest, IsWidth}
+use Rattle.rmt_config.specs.Shapes.{divided_up}
+use Rattle.rmt_pack.specs.Placements.{data_bits, param_bits}
+use Rattle.rmt_pack.proofs.FormatLaws.{divided_up-covers}
+use Rattle.rmt_pack.proofs.TcamLaws.{masks-fit, side_by_side-lt, values-fit}
+use Rattle.rmt_refine.specs.Cells.{tests_as_one}
+use Rattle.rmt_build.specs.Data.{data_of}
+use Rattle.rmt_build.specs.Holding.{head_for}
+use Rattle.rmt_build.specs.Rooms.{AreOf}
+use Rattle.rmt_build.proofs.RecordLaws.{data-lt}
+use Rattle.rmt_build.proofs.WordLaws.{side-tests}
+
+-- ---- numbers as bytes
+
+pub length-bytes_of : (count n : ℕ) → length (bytes_of count n) ≡ count
+length-bytes_of zero n = refl
+length-bytes_of (suc count) n = length-append (bytes_of count (n / 256)) (n % 256 ∷ []) ∙ (let e = length-bytes_of count (n / 256) in omega (arith, e))
+
+pub number_of-bytes_of : (count n : ℕ) → n < 2 ^ (8 * count) → number_of (bytes_of count n) ≡ n
+number_of-bytes_of zero n lt = omega (arith, lt)
+number_of-bytes_of (suc count) n lt =
+    let more : 8 * suc count ≡ 8 * count + 8 = omega arith in
+    let size : 2 ^ (8 * suc count) ≡ 2 ^ (8 * count) * 2 ^ 8 = ap (λ k. 2 ^ k) more ∙ pow-add 2 (8 * count) 8 in
+    let less : n / 256 < 2 ^ (8 * count) = div_below n 256 (2 ^ (8 * count)) (omega arith) (omega (arith, lt, size)) in
+    number_of_push (bytes_of count (n / 256)) (n % 256) ∙ ap (λ k. 256 * k + n % 256) (number_of-bytes_of count (n / 256) less) ∙ (let e : 256 * (n / 256) + n % 256 ≡ n = omega arith in e)
+
+-- ---- tests
+
+pub tests_value-lt : (ws : List ℕ) (ts : List Test) → AllZip IsTest ws ts → tests_as_one (λ t. t.value) ws ts < 2 ^ sum ws
+tests_value-lt ws ts all = subst (λ n. n < 2 ^ sum ws) (side-tests (λ t. t.value) ws ts) (side_by_side-lt ws (map (λ (t : Test). t.value) ts) (values-fit ws ts all))
+
+pub tests_mask-lt : (ws : List ℕ) (ts : List Test) → AllZip IsTest ws ts → tests_as_one (λ t. t.mask) ws ts < 2 ^ sum ws
+tests_mask-lt ws ts all = subst (λ n. n < 2 ^ sum ws) (side-tests (λ t. t.mask) ws ts) (side_by_side-lt ws (map (λ (t : Test). t.mask) ts) (masks-fit ws ts all))
+
+-- a head and what stands above it
+pub above-lt : (code rest bits : ℕ) → code < 32 → rest < 2 ^ bits → head_for code + 256 * rest < 2 ^ (bits + 8)
+above-lt code rest bits lc lr =
+    let size : 2 ^ (bits + 8) ≡ 2 ^ bits * 2 ^ 8 = pow-add 2 bits 8 in omega (arith, lc, lr, size)
+
+-- ---- widths
+
+module _ (p : Program) (is : IsProgram p) where
+  width-small : (f : ℕ) → width_of p f ≤ 128
+  width-small f = small (slice_get p.fields f) (λ x e. (All-slice_get (λ (x : Field). IsWidth x.width) p.fields f x is.fields.widths e).1)
+    where
+      small : (o : Option Field) → ((x : Field) → o ≡ Some x → x.width ≤ 128) → unwrap_or (option_map (λ (x : Field). x.width) o) 0 ≤ 128
+      small None has = omega arith
+      small (Some x) has = has x refl
+
+  pub widths-small : (fields : List ℕ) → All (λ w. w ≤ 128) (map (width_of p) fields)
+  widths-small [] = All-nil (λ w. w ≤ 128)
+  widths-small (f ∷ fs) = All-cons (λ w. w ≤ 128) (width_of p f) (map (width_of p) fs) (width-small f) (widths-small fs)
+
+-- ---- data
+
+fold-max-from : (a : ℕ) (xs : List ℕ) → a ≤ fold max a xs
+fold-max-from a [] = omega arith
+fold-max-from a (x ∷ xs) = let le = fold-max-from (max a x) xs in omega (arith, le)
+
+fold-max-at : (a : ℕ) (xs : List ℕ) (i : ℕ) → i < length xs → get_or xs i 0 ≤ fold max a xs
+fold-max-at a [] i lt = absurd (omega (arith, lt))
+fold-max-at a (x ∷ xs) zero lt = let le = fold-max-from (max a x) xs in omega (arith, le)
+fold-max-at a (x ∷ xs) (suc i) lt = fold-max-at (max a x) xs i (omega (arith, lt))
+
+-- the parameters of an action of a table have no more bits than its data
+pub data-fits : (p : Program) (t : Table) (action : ℕ) → action < length t.actions → sum (params_of p (slice_index t.actions action)) ≤ data_bits p t
+data-fits p t action lt =
+    let xs = map (param_bits p) t.actions in
+    let there : action < length xs = let e = length-map t.actions (param_bits p) in omega (arith, e, lt) in
+    let le = fold-max-at 0 xs action there in
+    let at : get_or xs action 0 ≡ param_bits p (slice_index t.actions action) = get_or-map (param_bits p) t.actions action 0 0 lt in
+    let same : sum (params_of p (slice_index t.actions action)) ≡ param_bits p (slice_index t.actions action) = bits (slice_get p.actions (slice_index t.actions action)) in
+    omega (arith, le, at, same)
+  where
+    bits : (o : Option Action) → sum (unwrap_or (option_map (λ (x : Action). x.params) o) []) ≡ unwrap_or (option_map (λ (x : Action). sum x.params) o) 0
+    bits None = refl
+    bits (Some x) = refl
+
+-- ---- stands before one
+
+pub before-one : {X : Type 0} (R : X → X → Type 0) (xs : List X) (i : ℕ) (d : X) → AllPairs R xs → i < length xs → All (λ y. R y (get_or xs i d)) (take i xs)
+before-one R xs i d pairs there k e lt =
+    let less : k < i = let long = length-take i xs in omega (arith, long, lt) in
+    subst (λ y. R y (get_or xs i d)) (sym (get_or-take i xs k e less)) (subst (R (get_or xs k e)) (get_or_default xs i e d there) (pairs k i e less there))
+
+-- ---- what is written of an entry
+
+pub key-number : (ws : List ℕ) (ts : List Test) → AllZip IsTest ws ts
+    → number_of (bytes_of (divided_up (sum ws) 8) (tests_as_one (λ t. t.value) ws ts)) ≡ tests_as_one (λ t. t.value) ws ts
+key-number ws ts all =
+    let lt = tests_value-lt ws ts all in
+    let covers = divided_up-covers (sum ws) 8 (omega arith) in
+    let wide : 2 ^ sum ws ≤ 2 ^ (8 * divided_up (sum ws) 8) = pow-le-pow_right (omega arith) (omega (arith, covers)) in
+    number_of-bytes_of (divided_up (sum ws) 8) (tests_as_one (λ t. t.value) ws ts) (omega (arith, lt, wide))
+
+pub data-small : (ws vs : List ℕ) (bits : ℕ) → AllZip Fits ws vs → sum ws ≤ bits → data_of ws vs < 2 ^ bits
+data-small ws vs bits fit le =
+    let lt = data-lt ws vs fit in
+    let wide : 2 ^ sum ws ≤ 2 ^ bits = pow-le-pow_right (omega arith) le in
+    omega (arith, lt, wide)
+
+pub slice_get-at : {X : Type 0} (xs : List X) (i : ℕ) (x : X) → i < length xs → x ≡ get_or xs i x → slice_get xs i ≡ Some x
+slice_get-at [] i x lt is = absurd (omega (arith, lt))
+slice_get-at (y ∷ ys) zero x lt is = ap Some (sym is)
+slice_get-at (y ∷ ys) (suc i) x lt is = slice_get-at ys i x (omega (arith, lt)) is
+
+pub entry-of : (p : Program) (t : Table) (es : List Entry) (entries : AreOf p t es) (i : ℕ) (e : Entry) → slice_get es i ≡ Some e → IsEntry entries.0 (terms_of p t) e
+entry-of p t es entries i e at = All-slice_get (IsEntry entries.0 (terms_of p t)) es i e entries.1 at
+
+-- ---- keys
+
+pub key-fields : (p : Program) (t : Table) → IsTable p t → t.kind ≢ Keyless → All (λ f. f < length p.fields) t.key
+key-fields p t is keyed = by_kind t.kind is.key keyed
+  where
+    by_kind : (kind : Kind) → HasKey p kind t → kind ≢ Keyless → All (λ f. f < length p.fields) t.key
+    by_kind Keyless key keyed = absurd (keyed refl)
+    by_kind Exact key keyed = key.key_fields
+    by_kind Prefix key keyed = key.0.key_fields
+    by_kind Ternary key keyed = key.key_fields

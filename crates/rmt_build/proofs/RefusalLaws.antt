@@ -1,0 +1,70 @@
+-- What is the first refusal of a program that the parser, the actions and the fields fit.
+use Rattle.std.proofs.Common.{◌≡◌, ◌≢◌, ◌∙◌, List, Option, Some, None, Result, Ok, Err, refl, sym, ap, subst}
+use Rattle.std.specs.Option.{option_or}
+use Rattle.std.specs.Prelude.{⊤, IfErr, IfOk, option_map}
+use Rattle.std.proofs.lemmas.Option.{none-some, same_Some}
+use Rattle.rmt_bits.specs.declared.lane.Lane.{Lane}
+use Rattle.rmt_ast.specs.declared.program.Program.{Program}
+use Rattle.rmt_ast.specs.declared.deps.Deps.{Deps}
+use Rattle.rmt_bounds.specs.Bounds.{stage_bound}
+use Rattle.rmt_deps.specs.Edges.{dependencies_of, field_edges}
+use Rattle.rmt_pack.specs.declared.placement.Part.{Part}
+use Rattle.rmt_phv.specs.Packing.{packing}
+use Rattle.rmt_place.specs.Placing.{placement}
+use Rattle.rmt_ptcam.specs.declared.fault.ParserFault.{ParserFault}
+use Rattle.rmt_ptcam.specs.Needs.{refusal, unless}
+use Rattle.rmt_vliw.specs.declared.fault.ActionDeep.{ActionDeep}
+use Rattle.rmt_build.specs.declared.built.Built.{Built}
+use Rattle.rmt_build.specs.declared.fault.NoFit.{NoFit}
+use Rattle.rmt_build.specs.declared.fault.NoFit.TheVariants as no_fit
+use Rattle.rmt_build.specs.Folds.{first_deep}
+use Rattle.rmt_build.specs.Refusals.{IsLate, action_told, first_refusal, packed_told, parser_told, stuck_told}
+
+-- then the nodes are looked at
+pub then_placed : (p : Program) (places : List (List Lane)) → refusal p ≡ None → first_deep 0 p.actions ≡ None → packing p ≡ Ok places
+    → first_refusal p ≡ stuck_told (placement p places (dependencies_of p places))
+then_placed p places fits shallow packed =
+    ap (λ (o : Option ParserFault). option_or (option_map parser_told o) (option_or (option_map action_told (first_deep 0 p.actions)) (packed_told p (packing p)))) fits
+    ∙ ap (λ (o : Option ActionDeep). option_or (option_map action_told o) (packed_told p (packing p))) shallow
+    ∙ ap (packed_told p) packed
+
+-- of a program whose nodes all stand there is none
+pub none_refused : (p : Program) (places : List (List Lane)) (parts : List Part) → refusal p ≡ None → first_deep 0 p.actions ≡ None → packing p ≡ Ok places
+    → placement p places (dependencies_of p places) ≡ Ok parts → first_refusal p ≡ None
+none_refused p places parts fits shallow packed placed = then_placed p places fits shallow packed ∙ ap stuck_told placed
+
+-- a late refusal is the first one, where there is a first one
+pub late_is_first : (first : Option NoFit) (e fault : NoFit) → IsLate first e → first ≡ Some fault → e ≢ no_fit.NoMemory → e ≡ fault
+late_is_first first no_fit.NoMemory fault late is other = absurd (other refl)
+late_is_first first (no_fit.Lookup header bytes) fault late is other = absurd late
+late_is_first first (no_fit.Step header extracts) fault late is other = absurd late
+late_is_first first (no_fit.Parser many) fault late is other = absurd late
+late_is_first first (no_fit.Action number field) fault late is other = absurd late
+late_is_first first (no_fit.Phv field class) fault late is other = absurd late
+late_is_first first (no_fit.Stage node hits) fault late is other = same_Some (no_fit.Stage node hits) fault (sym late ∙ is)
+late_is_first first (no_fit.Load node members cells) fault late is other = absurd (none-some fault (sym late ∙ is))
+
+-- the value of what is done, else this one
+given_or : {X E : Type 0} → X → Result X E → X
+given_or d (Ok x) = x
+given_or d (Err e) = d
+
+pub done_not_failed : {X E : Type 0} (x : X) (e : E) → (let r : Result X E = Ok x in r) ≢ Err e
+done_not_failed {X} {E} x e is = subst (λ (r : Result X E). IfErr r (λ _. ⊥)) is tt
+
+-- a program that the parser fits isn't refused
+pub not_refused : (o : Option ParserFault) → (let r : Result ⊤ ParserFault = Ok tt in r) ≡ unless o tt → o ≡ None
+not_refused None is = refl
+not_refused (Some fault) is = absurd (done_not_failed tt fault is)
+
+-- what is built by the rule is what the rule gives
+pub by_rule : {X E : Type 0} (x y : X) (none : E) (rule : Result X E) → ((let r : Result X E = Ok x in r) ≢ Err none → Ok x ≡ rule) → rule ≡ Ok y → x ≡ y
+unfolding given_or
+by_rule x y none rule made is = ap (given_or x) (made (done_not_failed x none) ∙ is)
+
+-- the bound of what stands in these places
+pub bound_there : (p : Program) (places : List (List Lane)) (deps : Deps) (r : Result Built NoFit) → deps ≡ dependencies_of p places
+    → IfOk r (λ b. b.map.places ≡ places) → IfOk r (λ b. b.bound ≡ stage_bound p deps.field)
+    → IfOk r (λ b. b.bound ≡ stage_bound p (field_edges p b.map.places))
+bound_there p places deps (Err e) edges there bound = tt
+bound_there p places deps (Ok b) edges there bound = bound ∙ ap (λ (d : Deps). stage_bound p d.field) edges ∙ ap (λ (ps : List (List Lane)). stage_bound p (field_edges p ps)) (sym there)

@@ -1,0 +1,112 @@
+-- What is known of the entries of the nodes so far, under one seed.
+use Rattle.std.proofs.Common.{◌≡◌, ℕ, ◌+◌, ◌<◌, List, [], ◌∷◌, ◌++◌, Some, length, map, get_or, refl, sym, ap, ◌∙◌, subst, inl, inr, arith}
+use Rattle.std.specs.Prelude.{slice_get, unwrap_or}
+use Rattle.std.proofs.lemmas.Bool.{cases_lt}
+use Rattle.std.proofs.lemmas.List.{length-append, length-map}
+use Rattle.std.proofs.lemmas.Option.{get_or_from_slice_get, same_Some, slice_get_within}
+use Rattle.rmt_bits.proofs.ListLaws.{slice_get-end, slice_get-front, slice_get-item}
+use Rattle.rmt_bits.specs.Bits.{bytes_of}
+use Rattle.rmt_ast.specs.declared.program.Program.{Program}
+use Rattle.rmt_ast.specs.declared.program.Node.{Node}
+use Rattle.rmt_ast.specs.declared.program.Table.{Table}
+use Rattle.rmt_ast.specs.declared.program.Kind.TheVariants.{Exact}
+use Rattle.rmt_ast.specs.declared.entry.Entry.{Entry}
+use Rattle.rmt_ast.specs.EntryLists.{AreEntries, AreEntriesAt, AreTableEntries, terms_of}
+use Rattle.rmt_ast.specs.State.{width_of}
+use Rattle.rmt_config.specs.Shapes.{divided_up}
+use Rattle.rmt_cuckoo.specs.Loading.{IsOverfull}
+use Rattle.rmt_pack.specs.declared.placement.Part.{Part}
+use Rattle.rmt_pack.specs.Placements.{key_bits}
+use Rattle.rmt_refine.specs.Cells.{tests_as_one}
+use Rattle.rmt_refine.specs.Outcomes.{entries_at}
+use Rattle.rmt_refine.specs.Units.{applied, table_at}
+use Rattle.rmt_refine.proofs.OutcomeLaws.{list_at}
+use Rattle.rmt_refine.proofs.PartLaws.{some_and, then_some}
+use Rattle.rmt_refine.proofs.TheLaw.{its_terms}
+use Rattle.rmt_build.specs.declared.stands.Stand.{Stand}
+use Rattle.rmt_build.specs.declared.loading.TableTried.{TableTried}
+use Rattle.rmt_build.specs.declared.loading.TableTried.TheVariants.{Overfull, Stand as Standing}
+use Rattle.rmt_build.specs.Loads.{AreAllLoaded, AreLoadedBefore, IsFull, StandAt, StandBy, keys_of, layout_of}
+use Rattle.rmt_build.specs.Standing.{StandOnce}
+use Rattle.rmt_build.specs.Tries.{IsTried, StandOrFull}
+
+-- ---- one node
+
+-- the list of a node
+pub list_is : (p : Program) (lists : List (List Entry)) (n : ℕ) (xs : List (List Entry)) (es : List Entry) → AreEntries p lists → n < length p.nodes → xs ≡ lists → es ≡ get_or xs n es → es ≡ entries_at lists n
+list_is p lists n xs es entries within same is =
+    let node = slice_get-item p.nodes n within in
+    let list = list_at p lists n node.0 entries node.1 in
+    is ∙ ap (λ ys. get_or ys n es) same ∙ get_or_from_slice_get lists n (entries_at lists n) es list.0
+
+pub own_entries : (p : Program) (lists : List (List Entry)) (n : ℕ) (t : Table) → AreEntries p lists → table_at p n ≡ Some t → AreTableEntries n (entries_at lists n) (terms_of p t)
+own_entries p lists n t entries at =
+    let node = then_some (λ (x : Node). applied p x.what) (slice_get p.nodes n) t at in
+    let list = list_at p lists n node.0 entries node.1 in
+    subst (AreEntriesAt n (entries_at lists n)) (its_terms p node.0.what t node.2) list.1
+
+pub tried_stands : (p : Program) (parts : List Part) (seed n : ℕ) (t : Table) (es : List Entry) → t.kind ≡ Exact → (tried : TableTried) → IsTried (layout_of p parts n) seed (keys_of p t es) tried
+    → StandOrFull p parts seed n es (Some t) tried
+tried_stands p parts seed n t es exact (Standing own) h =
+    let many = length-map es (λ (e : Entry). bytes_of (divided_up (key_bits p t) 8) (tests_as_one (λ test. test.value) (map (width_of p) t.key) e.tests)) in
+    subst (λ kind. StandBy p parts seed n t es kind own) (sym exact) (h.0, h.1, subst (λ k. StandOnce k own) many h.2, h.3)
+tried_stands p parts seed n t es exact (Overfull members cells) h = (exact, h.0, h.1, h.2)
+
+-- ---- the nodes so far
+
+-- the entries of the first nodes stand
+pub record LoadedUpto (p : Program) (lists : List (List Entry)) (parts : List Part) (seed m : ℕ) (stands : List (List Stand)) : Type 0 where
+  pub count : length stands ≡ m
+  pub each : (n : ℕ) (es : List Entry) (own : List Stand) → slice_get lists n ≡ Some es → slice_get stands n ≡ Some own → StandAt p parts seed n es (table_at p n) own
+
+module _ (p : Program) (lists : List (List Entry)) (parts : List Part) (seed : ℕ) where
+  pub loaded_none : (stands : List (List Stand)) → stands ≡ [] → LoadedUpto p lists parts seed 0 stands
+  loaded_none stands none = subst (LoadedUpto p lists parts seed 0) (sym none) (record { count = refl; each = λ n es own at own_at. absurd (let lt = slice_get_within [] n own own_at in omega (arith, lt)) })
+
+  entries_are : (n : ℕ) (es : List Entry) → slice_get lists n ≡ Some es → entries_at lists n ≡ es
+  entries_are n es at = ap (λ o. unwrap_or o []) at
+
+  pub loaded_push : (m : ℕ) (stands : List (List Stand)) (own : List Stand) → LoadedUpto p lists parts seed m stands → StandAt p parts seed m (entries_at lists m) (table_at p m) own
+      → LoadedUpto p lists parts seed (m + 1) (stands ++ own ∷ [])
+  loaded_push m stands own upto here = record {
+    count = (let many = length-append stands (own ∷ []) in let count = upto.count in omega (arith, many, count));
+    each = λ n es mine at mine_at. elim (cases_lt n (length stands)) [
+      | inl lt ↦ upto.each n es mine at (sym (slice_get-front stands (own ∷ []) n lt) ∙ mine_at)
+      | inr le ↦
+          let count = upto.count in
+          let many = length-append stands (own ∷ []) in
+          let within = slice_get_within (stands ++ own ∷ []) n mine mine_at in
+          let last : n ≡ length stands + 0 = omega (arith, le, within, many) in
+          let same : own ≡ mine = same_Some own mine (sym (slice_get-end stands (own ∷ []) 0) ∙ ap (slice_get (stands ++ own ∷ [])) (sym last) ∙ mine_at) in
+          let number : m ≡ n = omega (arith, last, count) in
+          subst (StandAt p parts seed n es (table_at p n)) same
+          (subst (λ xs. StandAt p parts seed n xs (table_at p n) own) (entries_are n es at)
+          (subst (λ k. StandAt p parts seed k (entries_at lists k) (table_at p k) own) number here))
+    ];
+  }
+
+  pub all_loaded_at : (stands : List (List Stand)) → LoadedUpto p lists parts seed (length p.nodes) stands → AreAllLoaded p lists parts seed stands
+  all_loaded_at stands upto = record { all_there = upto.count; each = upto.each }
+
+  -- every exact table before is loaded
+  pub loaded_before : (m : ℕ) (stands : List (List Stand)) → LoadedUpto p lists parts seed m stands → AreLoadedBefore p lists parts seed m
+  loaded_before m stands upto n t es lt applies =
+      let own = slice_get-item stands n (let count = upto.count in omega (arith, count, lt)) in
+      let stand = upto.each n es own.0 applies.entries own.1 in
+      let by = subst (λ kind. StandBy p parts seed n t es kind own.0) applies.exact (subst (λ o. StandAt p parts seed n es o own.0) applies.table stand) in
+      (by.0, by.1)
+
+  -- a table that isn't
+  pub is_full : (n members cells : ℕ) → AreEntries p lists → n < length p.nodes → StandOrFull p parts seed n (entries_at lists n) (table_at p n) (Overfull members cells) → IsFull p lists parts seed n members cells
+  is_full n members cells entries within h =
+      let t = some_and (table_at p n) (λ (x : Table). (x.kind ≡ Exact) × (own : List ℕ) × IsOverfull (layout_of p parts n) seed (keys_of p x (entries_at lists n)) own cells × (members ≡ length own)) h in
+      let node = slice_get-item p.nodes n within in
+      let list = list_at p lists n node.0 entries node.1 in
+      record {
+        table = t.0;
+        entries = entries_at lists n;
+        own = t.2.1;
+        applies = record { table = t.1; exact = t.2.0; entries = list.0 };
+        overfull = t.2.2;
+        many = t.2.3;
+      }

@@ -1,0 +1,42 @@
+use Rattle.std.proofs.Common.{rules, ◌≡◌, ◌∙◌, None, Ok, ap, sym}
+use Rattle.std.proofs.lemmas.Option.{none-some}
+use Rattle.rmt_deps.specs.Edges.{dependencies_of}
+use Rattle.rmt_phv.specs.declared.fault.PhvFull.TheVariants as phv
+use Rattle.rmt_phv.specs.Packing.{packing}
+use Rattle.rmt_phv.proofs.FieldCount.{few_fields}
+use Rattle.rmt_place.specs.Placing.{placement}
+use Rattle.rmt_ptcam.specs.Needs.{refusal}
+use Rattle.rmt_vliw.specs.declared.fault.ActionDeep.TheVariants as action
+use Rattle.rmt_build.specs.Folds.{first_deep}
+use Rattle.rmt_build.specs.Refusals.{first_refusal}
+use Rattle.rmt_build.proofs.RefusalLaws.{bound_there, by_rule, done_not_failed, none_refused, not_refused}
+use Rattle.rmt_build.proofs.joined.build.Goals as goal
+
+pub pack_fields-requires-clause-few_fields : goal.pack_fields-requires-clause-few_fields
+pack_fields-requires-clause-few_fields c = few_fields c.args.program.now c.requires.program
+
+pub returns-in_err-plan-clause-load : goal.returns-in_err-plan-clause-load
+returns-in_err-plan-clause-load c node members cells places parts is packed placed =
+    let p = c.args.program.now in
+    let here = c.in_ok-places.places in
+    let same : here ≡ places = by_rule here places phv.NoMemory (packing p) c.in_ok-places.ensures.packed packed in
+    let there : placement p here c.in_ok-deps.deps ≡ Ok parts =
+    ap (placement p here) c.in_ok-deps.ensures.edges ∙ ap (λ ps. placement p ps (dependencies_of p ps)) same ∙ placed in
+    c.in_err-plan.ensures.load node members cells parts (search rules) there
+
+pub returns-clause-bound : goal.returns-clause-bound
+returns-clause-bound c =
+    let p = c.args.program.now in
+    let places = c.in_ok-plan.plan.places in
+    let here : places ≡ c.in_ok-places.places = c.in_ok-plan.ensures.places in
+    let edges : c.in_ok-deps.deps ≡ dependencies_of p places = c.in_ok-deps.ensures.edges ∙ ap (dependencies_of p) (sym here) in
+    bound_there p places c.in_ok-deps.deps c.built_of.result edges c.built_of.ensures.places c.built_of.ensures.bound
+
+pub returns-clause-refused : goal.returns-clause-refused
+returns-clause-refused c fault first other =
+    let p = c.args.program.now in
+    let places = c.in_ok-plan.plan.places in
+    let fits : refusal p ≡ None = not_refused (refusal p) c.in_ok-parser_need.ensures in
+    let shallow : first_deep 0 p.actions ≡ None = c.in_ok-folded.ensures.refused (done_not_failed c.in_ok-folded.folded action.NoMemory) in
+    let packed : packing p ≡ Ok places = sym (c.in_ok-places.ensures.packed (done_not_failed c.in_ok-places.places phv.NoMemory)) ∙ ap Ok (sym c.in_ok-plan.ensures.places) in
+    absurd (none-some fault (sym (none_refused p places c.in_ok-plan.plan.placement.parts fits shallow packed c.in_ok-plan.ensures.plan.placement) ∙ first))

@@ -1,0 +1,70 @@
+use Rattle.std.proofs.Common.{◌≡◌, ◌<◌, ◌≤◌, ◌∙◌, ℕ, List, Ok, length, refl, sym, ap, subst, arith}
+use Rattle.std.specs.Prelude.{All, Contains}
+use Rattle.rmt_ast.specs.declared.deps.Deps.{Deps}
+use Rattle.rmt_ast.specs.declared.deps.Edge.{Edge}
+use Rattle.rmt_deps.specs.Edges.{GoForward, dependencies_of}
+use Rattle.rmt_deps.specs.Levels as levels
+use Rattle.rmt_deps.proofs.EdgeLaws.{go_forward}
+use Rattle.rmt_pack.specs.declared.placement.Part.{Part}
+use Rattle.rmt_pack.specs.Placements.{Keeps}
+use Rattle.rmt_pack.specs.Starts.{KeepDistances, stages_of}
+use Rattle.rmt_place.specs.Placing.{placement}
+use Rattle.rmt_place.specs.Starting.{stages_in, starts_of}
+use Rattle.rmt_refine.specs.Carries.{all_edges}
+use Rattle.rmt_build.specs.Loads.{AreAllLoaded}
+use Rattle.rmt_build.specs.Plans.{AreParts}
+use Rattle.rmt_build.proofs.QuantaLaws.{exact_quanta}
+use Rattle.rmt_build.proofs.LoadedLaws.{they_stand}
+use Rattle.rmt_build.proofs.PlacedLaws.{in_stages, parts_are, stages_few, starts_long, to_stages}
+use Rattle.rmt_build.proofs.StartedLaws.{early}
+use Rattle.rmt_build.proofs.joined.plan_of.Goals as goal
+
+pub place-requires-clause-forward : goal.place-requires-clause-forward
+place-requires-clause-forward c = subst (GoForward (length c.args.program.now.nodes)) (sym c.requires.deps) (go_forward c.args.program.now c.args.places)
+
+pub load_all-requires-clause-parts : goal.load_all-requires-clause-parts
+load_all-requires-clause-parts c =
+    let p = c.args.program.now in
+    let deps = c.args.deps.now in
+    let forward : GoForward (length p.nodes) deps = subst (GoForward (length p.nodes)) (sym c.requires.deps) (go_forward p c.args.places) in
+    let done = c.in_ok-placement.ensures in
+    subst (AreParts p) (sym c.as_slice-parts.ensures) (parts_are p c.args.places deps c.in_ok-placement.placement.parts c.requires.program forward done.placed done.parts done.apart done.limits)
+
+pub returns-clause-plan : goal.returns-clause-plan
+returns-clause-plan c =
+    let p = c.args.program.now in
+    let lists = c.args.entries.now in
+    let places = c.args.places in
+    let deps = c.args.deps.now in
+    let parts = c.in_ok-placement.placement.parts in
+    let done = c.in_ok-placement.ensures in
+    let begun = c.in_ok-starts.ensures in
+    let starts = c.in_ok-starts.starts in
+    let forward : GoForward (length p.nodes) deps = subst (GoForward (length p.nodes)) (sym c.requires.deps) (go_forward p places) in
+    let are : AreParts p parts = parts_are p places deps parts c.requires.program forward done.placed done.parts done.apart done.limits in
+    let edges : levels.all_edges deps ≡ all_edges p places = ap levels.all_edges c.requires.deps in
+    let begin : starts ≡ starts_of (levels.all_edges deps) parts = begun.starts in
+    let long : length starts ≡ stages_in parts = ap length begin ∙ starts_long (levels.all_edges deps) parts in
+    let loaded : AreAllLoaded p lists parts c.in_ok-loaded.loaded.seed c.in_ok-loaded.loaded.stands =
+    subst (λ (ps : List Part). AreAllLoaded p lists ps c.in_ok-loaded.loaded.seed c.in_ok-loaded.loaded.stands) c.as_slice-parts.ensures c.in_ok-loaded.ensures.loaded in
+    record {
+      is_plan = record {
+        folded = c.requires.folded;
+        places = c.requires.places;
+        parts = are;
+        formats = c.in_ok-formats.ensures;
+        stands = they_stand p lists parts c.in_ok-loaded.loaded.seed c.in_ok-loaded.loaded.stands c.requires.program c.requires.entries are loaded;
+      };
+      placement = ap (placement p places) (sym c.requires.deps) ∙ done.placed;
+      starts = begin ∙ ap (λ es. starts_of es parts) edges;
+      edges = record {
+        order = subst (λ (es : List Edge). All (λ e. All (λ a. All (Keeps e a) parts) parts) es) edges done.keeps;
+        distances = subst (λ (es : List Edge). KeepDistances es parts starts) edges begun.kept;
+      };
+      limits = done.limits;
+      early = early (levels.all_edges deps) parts (length starts) (λ k e there in_k. (let within = to_stages parts e.to k in_k in omega (arith, within, long))) starts refl begun.least;
+      loaded = loaded;
+      exact = exact_quanta p places deps parts c.requires.program done.placed are;
+      few_stages = let few = stages_few parts done.stages in omega (arith, few, long);
+      in_stages = subst (λ m. All (λ (x : Part). x.stage < m) parts) (sym long) (in_stages parts);
+    }

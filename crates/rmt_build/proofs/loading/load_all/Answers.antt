@@ -1,0 +1,36 @@
+use Rattle.std.proofs.Common.{ℕ, ◌≡◌, arith, inl, inr, subst, sym}
+use Rattle.std.proofs.lemmas.Bool.{cases_lt}
+use Rattle.rmt_build.specs.Loads.{IsFull}
+use Rattle.rmt_build.specs.Tries.{AreTried}
+use Rattle.rmt_build.proofs.loading.load_all.Goals as goal
+
+pub loop-seed-preserved : goal.loop-seed-preserved
+loop-seed-preserved c s lt =
+    let p = c.args.program.now in
+    let lists = c.args.entries.now in
+    let parts = c.args.parts.now in
+    let full = subst (AreTried p lists parts c.loop-seed.seed) c.in_default.is c.in_ok-stands.ensures in
+    elim (cases_lt s c.loop-seed.seed) [
+      | inl less ↦ c.loop-seed.invariant s less
+      | inr le ↦
+          let same : s ≡ c.loop-seed.seed = omega (arith, lt, le) in
+          subst (λ k. (m : ℕ) × (count : ℕ) × (few : ℕ) × IsFull p lists parts k m count few) (sym same) (c.in_default.field-0.node, c.in_default.field-0.members, c.in_default.field-0.cells, full.0)
+    ]
+
+pub returns-in-Overfull-clause-refused : goal.returns-in-Overfull-clause-refused
+returns-in-Overfull-clause-refused c =
+    let p = c.args.program.now in
+    let lists = c.args.entries.now in
+    let parts = c.args.parts.now in
+    let full = subst (AreTried p lists parts 7) c.in-Overfull.is c.in_ok-stands-2.ensures in
+    let end = c.loop-seed-test.false in
+    record {
+      each = λ s lt. elim (cases_lt s 7) [
+        | inl less ↦ c.loop-seed.invariant s (omega (arith, less, end))
+        | inr le ↦
+            let same : s ≡ 7 = omega (arith, lt, le) in
+            subst (λ k. (m : ℕ) × (count : ℕ) × (few : ℕ) × IsFull p lists parts k m count few) (sym same) (c.in-Overfull.full.node, c.in-Overfull.full.members, c.in-Overfull.full.cells, full.0)
+      ];
+      last = full.0;
+      first = full.1;
+    }

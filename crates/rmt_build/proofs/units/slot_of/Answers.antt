@@ -1,0 +1,109 @@
+use Rattle.std.proofs.Common.{◌≡◌, ◌∙◌, ◌<◌, List, [], Some, None, refl, ap, sym, subst, get_or, length, map, arith}
+use Rattle.std.specs.Prelude.{◌==◌, All, IfSome, Option, slice_get}
+use Rattle.std.proofs.lemmas.List.{length-map}
+use Rattle.std.proofs.lemmas.Option.{get_or_from_slice_get, slice_get-get_or, slice_get_read}
+use Rattle.rmt_ast.specs.declared.entry.Entry.{Entry}
+use Rattle.rmt_ast.specs.declared.program.Guard.{Guard}
+use Rattle.rmt_ast.specs.declared.program.Node.{Node}
+use Rattle.rmt_ast.specs.declared.program.What.TheVariants.{Apply}
+use Rattle.rmt_ast.specs.EntryLists.{terms_at}
+use Rattle.rmt_config.specs.declared.config.Memory.{Memory}
+use Rattle.rmt_pack.specs.Placements.{quanta_in}
+use Rattle.rmt_pack.proofs.NeedLaws.{data_bits-few, params-small}
+use Rattle.rmt_refine.specs.Places.{high_first}
+use Rattle.rmt_refine.specs.Units.{HasKind, guard_of, last_stage}
+use Rattle.rmt_build.specs.declared.stands.Stand.{Stand}
+use Rattle.rmt_build.specs.Plans.{format_at, need_in, quanta_before, stands_of_part}
+use Rattle.rmt_build.specs.Standing.{cells_for}
+use Rattle.rmt_build.specs.Memories.{memory_for}
+use Rattle.rmt_build.specs.Numbers.{number_at}
+use Rattle.rmt_build.proofs.PlanLaws.{is_table}
+use Rattle.rmt_build.proofs.UnitPartLaws.{slot_part}
+use Rattle.rmt_build.proofs.StandingLaws.{part_entries}
+use Rattle.rmt_build.proofs.UnitLaws.{guard_small, kind_of_memory, node_applies, slot_carried}
+use Rattle.rmt_build.proofs.units.slot_of.Goals as goal
+
+pub numbers_of-requires : goal.numbers_of-requires
+numbers_of-requires c =
+    let p = c.args.program.now in
+    let plan = c.args.plan.now in
+    let n = c.args.node in
+    let es = c.index-as_slice-node.result in
+    let lists = c.as_slice-2.ensures in
+    let terms = length-map p.nodes (λ (x : Node). terms_at p x.what) in
+    let all = c.requires.entries.for_each_node in
+    let long = c.requires.plan.stands.all_there in
+    let at : slice_get c.args.entries.now n ≡ Some es =
+    slice_get_read c.args.entries.now (length c.args.entries.now) n es refl (omega (arith, all, terms, c.requires.node)) (c.index-as_slice-node.is ∙ ap (λ xs. get_or xs n es) lists) in
+    let own : slice_get plan.stands n ≡ Some (get_or plan.stands n []) = slice_get-get_or plan.stands n [] (omega (arith, long, all, terms, c.requires.node)) in
+    let t = c.args.table.now in
+    let per = (format_at p n).per in
+    let parts = plan.placement.parts in
+    let those = part_entries (length es) (cells_for t.kind per (quanta_before parts n c.args.stage)) (cells_for t.kind per (quanta_in parts n c.args.stage)) (get_or plan.stands n [])
+    (c.requires.plan.stands.each n es (get_or plan.stands n []) at own) in
+    subst (λ (xs : List Stand). All (λ (s : Stand). s.entry < length c.as_slice-list.result.now) xs) (sym (c.as_slice-3.ensures ∙ c.in_ok-stands.ensures))
+    (subst (λ (xs : List Entry). All (λ (s : Stand). s.entry < length xs) (stands_of_part p plan t n c.args.stage)) (sym c.as_slice-list.ensures) those)
+
+pub guard_of-requires : goal.guard_of-requires
+guard_of-requires c =
+    let p = c.args.program.now in
+    let n = c.args.node in
+    let a = node_applies p n c.args.table.now c.requires.table in
+    let few = c.requires.program.counts.nodes in
+    let zero : Node = record { guard = None; what = Apply 0 } in
+    let same : get_or c.as_slice-4.result.now n zero ≡ a.node = ap (λ xs. get_or xs n zero) c.as_slice-4.ensures ∙ get_or_from_slice_get p.nodes n a.node zero a.at in
+    subst (λ (x : Node). IfSome x.guard (λ (g : Guard). g.parent < 256)) (sym same) (guard_small n a.node.guard (c.requires.program.nodes n a.node a.at).guard (omega (arith, c.requires.node, few)))
+
+pub overflow_cast-result-2 : goal.overflow_cast-result-2
+overflow_cast-result-2 c =
+    let few = (is_table c.args.program.now c.requires.program c.args.node c.args.table.now c.requires.table).few_actions in
+    omega (arith, few, c.len.ensures)
+
+pub data_bits-requires : goal.data_bits-requires
+data_bits-requires c = params-small c.args.program.now c.requires.program c.args.table.now
+
+pub overflow_cast-result-3 : goal.overflow_cast-result-3
+overflow_cast-result-3 c =
+    let few = data_bits-few c.args.program.now c.requires.program c.args.table.now in
+    omega (arith, few, c.data_bits.ensures)
+
+pub returns-clause-unit : goal.returns-clause-unit
+returns-clause-unit c =
+    let p = c.args.program.now in
+    let plan = c.args.plan.now in
+    let parts = plan.placement.parts in
+    let n = c.args.node in
+    let k = c.args.stage in
+    let t = c.args.table.now in
+    let a = node_applies p n t c.requires.table in
+    let zero : Node = record { guard = None; what = Apply 0 } in
+    let same : get_or c.as_slice-4.result.now n zero ≡ a.node = ap (λ xs. get_or xs n zero) c.as_slice-4.ensures ∙ get_or_from_slice_get p.nodes n a.node zero a.at in
+    slot_carried p plan.places parts k n t _ a.node c.requires.table a.at refl
+    (c.guard_of.ensures.guard ∙ ap (λ (x : Node). guard_of x.guard) same)
+    (record {
+      counted = refl;
+      actions = c.len.ensures;
+      keys = c.in_ok-keys.ensures ∙ ap (high_first plan.places) c.as_slice.ensures;
+      memory = subst (λ (m : Memory). HasKind t.kind (quanta_in parts n k) m) (sym c.in_ok-memory.ensures.memory) (kind_of_memory t.kind (need_in p parts t n k) c.args.taken.now);
+      last = ap (λ x. k == x) (c.last_stage.ensures ∙ ap (λ ps. last_stage ps n) c.as_slice-5.ensures);
+    })
+
+pub returns-clause-parts : goal.returns-clause-parts
+returns-clause-parts c =
+    let p = c.args.program.now in
+    let plan = c.args.plan.now in
+    let n = c.args.node in
+    let t = c.args.table.now in
+    let es = c.index-as_slice-node.result in
+    let terms = length-map p.nodes (λ (x : Node). terms_at p x.what) in
+    let all = c.requires.entries.for_each_node in
+    let at : slice_get c.args.entries.now n ≡ Some es =
+    slice_get_read c.args.entries.now (length c.args.entries.now) n es refl (omega (arith, all, terms, c.requires.node)) (c.index-as_slice-node.is ∙ ap (λ xs. get_or xs n es) c.as_slice-2.ensures) in
+    slot_part p c.args.entries.now plan c.args.stage _ t es c.requires.table at (record {
+      memory = c.in_ok-memory.ensures.memory ∙ ap (memory_for t.kind (need_in p plan.placement.parts t n c.args.stage)) c.requires.taken;
+      held = c.data_bits.ensures;
+      numbers = c.in_ok-numbers.ensures.numbers ∙ (ap (λ (xs : List Entry). map (number_at xs) c.as_slice-3.result.now) c.as_slice-list.ensures ∙ ap (map (number_at es)) (c.as_slice-3.ensures ∙ c.in_ok-stands.ensures));
+    })
+
+pub returns-clause-small : goal.returns-clause-small
+returns-clause-small c = (c.guard_of.ensures.small, c.in_ok-numbers.ensures.small)

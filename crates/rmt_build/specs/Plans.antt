@@ -1,0 +1,97 @@
+-- Where the nodes of a program are to stand, and what that has to keep.
+use Rattle.std.specs.Prelude.{◌≡◌, ℕ, ◌*◌, ◌<◌, ◌≤◌, List, [], Some, All, AllPairs, map, length, count_by, nat_lt, option_map, unwrap_or, slice_get, slice_index_or, sum_by}
+use Rattle.std.specs.List.{range_with_len}
+use Rattle.rmt_ast.specs.declared.program.Program.{Program}
+use Rattle.rmt_ast.specs.declared.program.Table.{Table}
+use Rattle.rmt_ast.specs.declared.program.Node.{Node}
+use Rattle.rmt_ast.specs.declared.program.What.{What}
+use Rattle.rmt_ast.specs.declared.program.What.TheVariants.{Apply, Gate}
+use Rattle.rmt_ast.specs.declared.entry.Entry.{Entry}
+use Rattle.rmt_pack.specs.declared.format.Format.{Format}
+use Rattle.rmt_pack.specs.declared.placement.Part.{Part}
+use Rattle.rmt_pack.specs.Formats.{memory_format, no_memory}
+use Rattle.rmt_pack.specs.Placements.{data_bits, key_bits, quanta_in, quanta_of, table_need, taken_in}
+use Rattle.rmt_phv.specs.Places.{KeepsApart}
+use Rattle.rmt_place.specs.Placing.{AreTwo, IsPart}
+use Rattle.rmt_refine.specs.Units.{table_at}
+use Rattle.rmt_build.specs.declared.memory.Need.{Need}
+use Rattle.rmt_build.specs.declared.memory.Taken.{Taken}
+use Rattle.rmt_build.specs.declared.plan.Plan.{Plan}
+use Rattle.rmt_build.specs.declared.stands.Stand.{Stand}
+use Rattle.rmt_build.specs.Folds.{AreFoldings}
+use Rattle.rmt_build.specs.Standing.{StandOnce, cells_for, stands_within}
+
+-- ---- formats
+
+-- the memory format of a node, by the rule; a gate has no memory
+abbrev pub what_format : Program → What → Format
+what_format p (Apply t) = unwrap_or (option_map (λ (table : Table). memory_format table.kind (table_need p table)) (slice_get p.tables t)) no_memory
+what_format p (Gate field test) = no_memory
+
+-- those of all nodes
+abbrev pub formats_of : Program → List Format
+formats_of p = map (λ (node : Node). what_format p node.what) p.nodes
+
+abbrev pub format_at : Program → ℕ → Format
+format_at p n = slice_index_or (formats_of p) n no_memory
+
+-- ---- parts
+
+-- the quanta of a node in the stages before one
+abbrev pub quanta_before : List Part → ℕ → ℕ → ℕ
+quanta_before parts n k = sum_by (quanta_in parts n) (range_with_len 0 k)
+
+-- the parts of a node in the stages before one
+abbrev pub parts_before : List Part → ℕ → ℕ → ℕ
+parts_before parts n k = count_by (λ j. nat_lt 0 (quanta_in parts n j)) (range_with_len 0 k)
+
+-- The parts of the nodes of a program, in the formats of the rule: each is of one of its nodes, in a stage of the chip, and has a quantum; no two
+-- are of one node in one stage; each node has all its quanta; and the blocks of a stage are enough.
+pub record AreParts (p : Program) (parts : List Part) : Type 0 where
+  pub each : All (IsPart (length p.nodes)) parts
+  pub apart : AllPairs AreTwo parts
+  pub whole : (n : ℕ) → n < length p.nodes → (format_at p n).quanta ≤ quanta_of parts n
+  pub sram : (k : ℕ) → taken_in p parts (λ n. (format_at p n).sram) k ≤ 106
+  pub tcam : (k : ℕ) → taken_in p parts (λ n. (format_at p n).tcam) k ≤ 16
+
+-- what the memory of the table of node n has to hold in stage k
+abbrev pub need_in : Program → List Part → Table → ℕ → ℕ → Need
+need_in p parts t n k = record {
+  format = format_at p n;
+  quanta = quanta_in parts n k;
+  before = parts_before parts n k;
+  key = key_bits p t;
+  held = data_bits p t;
+  counted = t.counted;
+}
+
+-- the blocks of stage k that the nodes before node n take
+abbrev pub taken_upto : Program → List Part → ℕ → ℕ → Taken
+taken_upto p parts k n = record {
+  sram = sum_by (λ m. quanta_in parts m k * (format_at p m).sram) (range_with_len 0 n);
+  tcam = sum_by (λ m. quanta_in parts m k * (format_at p m).tcam) (range_with_len 0 n);
+}
+
+-- ---- a plan
+
+-- the entries of the table of node n that stand in its part in stage k, by the cells of the part; without a key there are none
+abbrev pub stands_of_part : Program → Plan → Table → ℕ → ℕ → List Stand
+stands_of_part p plan t n k =
+    let cells = cells_for t.kind (format_at p n).per in
+    let parts = plan.placement.parts in
+    stands_within (cells (quanta_before parts n k)) (cells (quanta_in parts n k)) (slice_index_or plan.stands n [])
+
+-- the entries of each node stand, each in one cell of its table
+pub record AreStands (p : Program) (lists : List (List Entry)) (parts : List Part) (stands : List (List Stand)) : Type 0 where
+  pub all_there : length stands ≡ length lists
+  pub each : (n : ℕ) (es : List Entry) (own : List Stand) → slice_get lists n ≡ Some es → slice_get stands n ≡ Some own → StandOnce (length es) own
+  pub within : (n : ℕ) (t : Table) (own : List Stand) → table_at p n ≡ Some t → slice_get stands n ≡ Some own
+      → All (λ (s : Stand). s.cell < cells_for t.kind (format_at p n).per (quanta_of parts n)) own
+
+-- where everything is to stand, for a program with these entries
+pub record IsPlan (p : Program) (lists : List (List Entry)) (plan : Plan) : Type 0 where
+  pub folded : AreFoldings p plan.folded
+  pub places : KeepsApart p plan.places
+  pub parts : AreParts p plan.placement.parts
+  pub formats : plan.formats ≡ formats_of p
+  pub stands : AreStands p lists plan.placement.parts plan.stands

@@ -1,0 +1,300 @@
+//! The back end joined.
+
+ghost use Rattle.std.specs.Prelude.{◌≡◌, ◌≢◌, ◌<◌, ◌≤◌, ℕ, List, All, Some, None, Ok, Err, IfErr, IfOk, IsOkUnless, length, slice_index, true};
+ghost use Rattle.rmt_bits.specs.declared.lane.Lane.{Lane};
+ghost use Rattle.rmt_ast.specs.declared.program.Header.{Header};
+ghost use Rattle.rmt_ast.specs.EntryLists.{AreEntries};
+ghost use Rattle.rmt_ast.specs.WellFormed.{IsProgram};
+ghost use Rattle.rmt_bounds.specs.Bounds.{stage_bound};
+ghost use Rattle.rmt_config.specs.declared.limits.LimitHit.{LimitHit};
+ghost use Rattle.rmt_config.specs.Agreement.{AgreesWith};
+ghost use Rattle.rmt_config.specs.Form.{Formed};
+ghost use Rattle.rmt_config.specs.Limits.{IsWithinLimits};
+ghost use Rattle.rmt_config.specs.declared.config.Stage.{Stage};
+ghost use Rattle.rmt_deps.specs.Edges.{dependencies_of, field_edges};
+ghost use Rattle.rmt_pack.specs.declared.placement.Part.{Part};
+ghost use Rattle.rmt_phv.specs.Packing.{packing};
+ghost use Rattle.rmt_phv.specs.Places.{KeepsApart};
+ghost use Rattle.rmt_place.specs.Needs.{demands_of, keeps_limits};
+ghost use Rattle.rmt_place.specs.Placing.{placement as placement_by_rule, standing_in};
+ghost use Rattle.rmt_place.specs.Starting.{starts_of};
+ghost use Rattle.rmt_ptcam.specs.Needs.{refusal};
+ghost use Rattle.rmt_ptcam.specs.Plain.{plain, planned};
+ghost use Rattle.rmt_refine.specs.Carries.{Carries, all_edges};
+ghost use Rattle.rmt_refine.specs.Places.{PlacesCarried};
+ghost use Rattle.rmt_build.specs.Folds.{AreFoldings};
+ghost use Rattle.rmt_build.specs.BuiltStage.{IsBuiltStage};
+ghost use Rattle.rmt_build.specs.Loads.{AreNotLoaded};
+ghost use Rattle.rmt_build.specs.Plans.{IsPlan};
+ghost use Rattle.rmt_build.specs.Promises.{HasBlocksInOrder, HasFormatOfRule, StandInRows};
+ghost use Rattle.rmt_build.specs.Refusals.{IsLate, first_refusal, stuck_told};
+ghost use Rattle.rmt_build.specs.Stages.{AreStagesOf, IsPlanByRule};
+ghost use Rattle.rmt_build.specs.Told.{cells_told};
+
+use crate::built::Built;
+use crate::code::code_of;
+use crate::fault::NoFit;
+use crate::formats::formats_of;
+use crate::front::fold_all;
+use crate::lanes::{lane_of, out_headers};
+use crate::listing::{sram_rows, tcam_rows};
+use crate::loading::load_all;
+use crate::numbers::cells_of;
+use crate::plan::Plan;
+use crate::rows::write_units;
+use crate::tcam::TcamRows;
+use crate::units::units_of;
+use rmt_ast::deps::Deps;
+use rmt_ast::entry::EntryLists;
+use rmt_ast::program::Program;
+use rmt_bits::sequence::Sequence;
+use rmt_bounds::find::bound;
+use rmt_config::config::{Config, ParserConfig, Stage};
+use rmt_deps::dependencies;
+use rmt_pack::rows::Rows;
+use rmt_phv::pack_fields;
+use rmt_phv::places::Places;
+use rmt_place::{offsets, place};
+use rmt_ptcam::{parser_need, plain_parser};
+use rmt_refine::map::Map;
+use rmt_vliw::folded::Folded;
+use std::alloc::{AllocError, Global};
+
+/// A program with its entries as the chip holds them: the configuration, the map of where everything stands in it, and a
+/// bound on the stages.
+///
+/// # Errors
+///
+/// The first of these that the program breaks: `Lookup` or `Step` of the first header that the parser can't take, `Parser`
+/// where it has too many entries, `Action` of the first action that is too deep, `Phv` of the first piece that no word
+/// serves, `Stage` of the first node that doesn't stand, `Load` where under no seed all exact tables are loaded. Else for
+/// want of memory.
+pub fn build(alloc: Global, program: &Program, entries: &EntryLists) -> Result<Built, NoFit>
+    requires program { IsProgram program.now }
+    requires entries { AreEntries program.now entries.now }
+    // No image tells a tail yet.
+    requires no_tails { All (λ (h : Header). h.tail ≡ None) program.now.headers }
+    // The configuration carries the program with its entries, as the map says.
+    ensures carries { IfOk result (λ b. Carries program.now entries.now b.map b.config) }
+    // It keeps the rules of form, and the limits of the chip.
+    ensures formed { IfOk result (λ b. Formed b.config) }
+    ensures limits { IfOk result (λ b. IsWithinLimits b.config) }
+    // Fields are packed, frames parsed, nodes placed and stages started by their rules.
+    ensures places { IfOk result (λ b. packing program.now ≡ Ok b.map.places) }
+    ensures parser { IfOk result (λ b. planned program.now b.map.places ≡ Ok b.config.parser) }
+    ensures placement { IfOk result (λ b.
+        placement_by_rule program.now b.map.places (dependencies_of program.now b.map.places) ≡ Ok b.map.placement.parts) }
+    ensures starts { IfOk result (λ b. b.map.starts ≡ starts_of (all_edges program.now b.map.places) b.map.placement.parts) }
+    ensures bound { IfOk result (λ b. b.bound ≡ stage_bound program.now (field_edges program.now b.map.places)) }
+    // Exact memories have the formats of the rule, blocks are numbered in the order of the units, and rows stand by rank.
+    ensures formats { IfOk result (λ b. All (λ (s : Stage). All (HasFormatOfRule program.now) s.units) b.config.stages) }
+    ensures blocks { IfOk result (λ b. All HasBlocksInOrder b.config.stages) }
+    ensures rows { IfOk result (λ b. StandInRows program.now entries.now b.map.placement.parts b.map.cells) }
+    // The first refusal before the entries are loaded, unless memory runs out.
+    ensures refused { (fault : NoFit) → first_refusal program.now ≡ Some fault → result ≢ Err NoFit.NoMemory → result ≡ Err fault }
+    // Each refusal has its cause.
+    ensures lookup { (header bytes : ℕ) → result ≡ Err (NoFit.Lookup header bytes) → first_refusal program.now ≡ Some (NoFit.Lookup header bytes) }
+    ensures step { (header extracts : ℕ) → result ≡ Err (NoFit.Step header extracts) → first_refusal program.now ≡ Some (NoFit.Step header extracts) }
+    ensures full { (many : ℕ) → result ≡ Err (NoFit.Parser many) → first_refusal program.now ≡ Some (NoFit.Parser many) }
+    ensures action { (number field : ℕ) → result ≡ Err (NoFit.Action number field) → first_refusal program.now ≡ Some (NoFit.Action number field) }
+    ensures phv { (field class : ℕ) → result ≡ Err (NoFit.Phv field class) → first_refusal program.now ≡ Some (NoFit.Phv field class) }
+    ensures stage { (node : ℕ) (hits : List LimitHit) → result ≡ Err (NoFit.Stage node hits) → first_refusal program.now ≡ Some (NoFit.Stage node hits) }
+    ensures load { (node members cells : ℕ) (places : List (List Lane)) (parts : List Part) → result ≡ Err (NoFit.Load node members cells)
+        → packing program.now ≡ Ok places → placement_by_rule program.now places (dependencies_of program.now places) ≡ Ok parts
+        → AreNotLoaded program.now entries.now parts node members cells }
+{
+    parser_need(program)?;
+    let folded = fold_all(alloc, program)?;
+    let places = pack_fields(alloc, program)?;
+    let parser = plain_parser(alloc, program, &places)?;
+    let deps = dependencies(alloc, program, &places)?;
+    let plan = plan_of(alloc, program, entries, folded, places, &deps)?;
+    built_of(alloc, program, entries, &deps, plan, parser)
+}
+
+/// A program that is planned, with its parser, as the chip holds it.
+fn built_of(
+    alloc: Global,
+    program: &Program,
+    entries: &EntryLists,
+    deps: &Deps,
+    plan: Plan,
+    parser: ParserConfig,
+) -> Result<Built, NoFit>
+    requires program { IsProgram program.now }
+    requires entries { AreEntries program.now entries.now }
+    requires no_tails { All (λ (h : Header). h.tail ≡ None) program.now.headers }
+    requires plan { IsPlanByRule program.now entries.now plan }
+    requires seed { plan.seed < 8 }
+    requires fits { refusal program.now ≡ None }
+    requires parser { parser ≡ plain program.now plan.places }
+    requires agrees { AgreesWith parser plan.places program.now }
+    requires deps { deps.now ≡ dependencies_of program.now plan.places }
+    ensures carries { IfOk result (λ b. Carries program.now entries.now b.map b.config) }
+    ensures formed { IfOk result (λ b. Formed b.config) }
+    ensures limits { IfOk result (λ b. IsWithinLimits b.config) }
+    ensures places { IfOk result (λ b. b.map.places ≡ plan.places) }
+    ensures parser { IfOk result (λ b. b.config.parser ≡ parser) }
+    ensures placement { IfOk result (λ b. b.map.placement ≡ plan.placement) }
+    ensures starts { IfOk result (λ b. b.map.starts ≡ plan.starts) }
+    ensures bound { IfOk result (λ b. b.bound ≡ stage_bound program.now deps.now.field) }
+    ensures formats { IfOk result (λ b. All (λ (s : Stage). All (HasFormatOfRule program.now) s.units) b.config.stages) }
+    ensures blocks { IfOk result (λ b. All HasBlocksInOrder b.config.stages) }
+    ensures rows { IfOk result (λ b. StandInRows program.now entries.now b.map.placement.parts b.map.cells) }
+    ensures memory { IsOkUnless result NoFit.NoMemory }
+{
+    let stages = stages_of(alloc, program, entries, &plan)?;
+    let bound = bound(alloc, program, deps)?;
+    let config = config_of(alloc, program, &plan, parser, stages)?;
+    let map = map_of(alloc, program, plan, &config)?;
+    Ok(Built { config, map, bound })
+}
+
+/// Where everything is to stand.
+fn plan_of(
+    alloc: Global,
+    program: &Program,
+    entries: &EntryLists,
+    folded: Sequence<Folded>,
+    places: Places,
+    deps: &Deps,
+) -> Result<Plan, NoFit>
+    requires program { IsProgram program.now }
+    requires entries { AreEntries program.now entries.now }
+    requires folded { AreFoldings program.now folded }
+    requires places { KeepsApart program.now places }
+    requires deps { deps.now ≡ dependencies_of program.now places }
+    ensures plan { IfOk result (IsPlanByRule program.now entries.now) }
+    ensures seed { IfOk result (λ plan. plan.seed < 8) }
+    ensures places { IfOk result (λ plan. plan.places ≡ places) }
+    ensures late { IfErr result (IsLate (stuck_told (placement_by_rule program.now places deps.now))) }
+    ensures stage { (node : ℕ) (hits : List LimitHit) → result ≡ Err (NoFit.Stage node hits) →
+        stuck_told (placement_by_rule program.now places deps.now) ≡ Some (NoFit.Stage node hits) }
+    ensures load { (node members cells : ℕ) (parts : List Part) → result ≡ Err (NoFit.Load node members cells)
+        → placement_by_rule program.now places deps.now ≡ Ok parts → AreNotLoaded program.now entries.now parts node members cells }
+{
+    let placement = place(alloc, program, &places, deps)?;
+    let starts = offsets(alloc, &placement, deps)?;
+    let formats = formats_of(alloc, program)?;
+    let parts = placement.parts.as_slice();
+    let loaded = load_all(alloc, program, entries, formats.as_slice(), parts)?;
+    Ok(Plan {
+        folded,
+        places,
+        placement,
+        starts,
+        formats,
+        stands: loaded.stands,
+        seed: loaded.seed,
+    })
+}
+
+/// A stage: its units, their instructions, and what its memories hold.
+fn stage_of(
+    alloc: Global,
+    program: &Program,
+    entries: &EntryLists,
+    plan: &Plan,
+    stage: u32,
+    start: u16,
+) -> Result<Stage, NoFit>
+    requires program { IsProgram program.now }
+    requires entries { AreEntries program.now entries.now }
+    requires plan { IsPlan program.now entries.now plan.now }
+    requires limits { keeps_limits (standing_in (demands_of program.now plan.now.places) plan.now.placement.parts stage) ≡ true }
+    requires stage { stage < 32 }
+    requires start { start ≡ slice_index plan.now.starts stage }
+    ensures stage { IfOk result (IsBuiltStage program.now entries.now plan.now stage) }
+    ensures memory { IsOkUnless result NoFit.NoMemory }
+{
+    let units = units_of(alloc, program, entries, plan, stage)?;
+    let code = code_of(alloc, program, plan, units.as_slice())?;
+    let mut sram = Rows::new(alloc)?;
+    let mut tcam = TcamRows::new(alloc)?;
+    write_units(
+        alloc,
+        &mut sram,
+        &mut tcam,
+        program,
+        entries,
+        plan,
+        stage,
+        units.as_slice(),
+    )?;
+    let srows = sram_rows(alloc, &sram)?;
+    let trows = tcam_rows(alloc, &tcam)?;
+    Ok(Stage {
+        start,
+        units,
+        code,
+        srows,
+        trows,
+    })
+}
+
+/// The stages, in their order.
+fn stages_of(
+    alloc: Global,
+    program: &Program,
+    entries: &EntryLists,
+    plan: &Plan,
+) -> Result<Sequence<Stage>, NoFit>
+    requires program { IsProgram program.now }
+    requires entries { AreEntries program.now entries.now }
+    requires plan { IsPlanByRule program.now entries.now plan.now }
+    ensures stages { IfOk result (AreStagesOf program.now entries.now plan.now) }
+    ensures memory { IsOkUnless result NoFit.NoMemory }
+{
+    let mut stages = Sequence::new(alloc);
+    let starts = plan.starts.as_slice();
+    for number in 0..starts.len() as u32 {
+        let start = starts[number as usize];
+        stages.push(stage_of(alloc, program, entries, plan, number, start)?)?;
+    }
+    Ok(stages)
+}
+
+/// The configuration with these stages and this parser.
+fn config_of(
+    alloc: Global,
+    program: &Program,
+    plan: &Plan,
+    parser: ParserConfig,
+    stages: Sequence<Stage>,
+) -> Result<Config, AllocError>
+    requires program { IsProgram program.now }
+    requires places { KeepsApart program.now plan.now.places }
+    ensures places { IfOk result (PlacesCarried program.now plan.now.places) }
+    ensures seed { IfOk result (λ config. config.seed ≡ plan.now.seed) }
+    ensures parser { IfOk result (λ config. config.parser ≡ parser) }
+    ensures stages { IfOk result (λ config. config.stages ≡ stages) }
+{
+    let headers = out_headers(alloc, program, &plan.places)?;
+    Ok(Config {
+        seed: plan.seed,
+        in_port: lane_of(&plan.places, 0),
+        out_port: lane_of(&plan.places, 1),
+        drop: lane_of(&plan.places, 2),
+        headers,
+        parser,
+        stages,
+    })
+}
+
+/// The map of a plan that became this configuration.
+fn map_of(alloc: Global, program: &Program, plan: Plan, config: &Config) -> Result<Map, AllocError>
+    requires nodes { length program.now.nodes ≤ 128 }
+    requires stages { length config.now.stages ≤ 32 }
+    ensures places { IfOk result (λ map. map.places ≡ plan.places) }
+    ensures placement { IfOk result (λ map. map.placement ≡ plan.placement) }
+    ensures starts { IfOk result (λ map. map.starts ≡ plan.starts) }
+    ensures cells { IfOk result (λ map. map.cells ≡ cells_told (length program.now.nodes) config.now.stages) }
+{
+    let cells = cells_of(alloc, program.nodes.len() as u8, config.stages.as_slice())?;
+    Ok(Map {
+        places: plan.places,
+        placement: plan.placement,
+        starts: plan.starts,
+        cells,
+    })
+}
