@@ -1,11 +1,10 @@
 -- The instructions of units, one unit after another, stand where the configuration looks for them.
-use Rattle.std.proofs.Common.{◌≡◌, ℕ, zero, suc, ◌+◌, ◌<◌, List, [], ◌∷◌, ◌++◌, Some, length, refl, sym, ap, subst, ◌∙◌, append_assoc, length-append, arith}
-use Rattle.std.specs.Prelude.{IsSomeAnd, Option, option_map, slice_get, sum_by, take, unwrap_or}
-use Rattle.std.specs.List.{AllZip}
+use Rattle.std.proofs.Common.{◌≡◌, ℕ, zero, suc, ◌+◌, List, [], ◌∷◌, ◌++◌, Some, length, refl, sym, ap, subst, ◌∙◌, append_assoc, length-append, arith}
+use Rattle.std.specs.Prelude.{Option, option_map, slice_get, sum_by, take, unwrap_or}
 use Rattle.std.proofs.lemmas.List.{append-nil}
 use Rattle.std.proofs.lemmas.List.Sums.{sum_by-cons}
 use Rattle.std.proofs.lemmas.Option.{none-some, same_Some, slice_get_within}
-use Rattle.std.proofs.lemmas.Slice.Zip.{AllZip-left, AllZip-long}
+use Rattle.std.proofs.lemmas.Slice.Zip.{AllZip-long}
 use Rattle.rmt_bits.specs.declared.lane.Lane.{Lane}
 use Rattle.rmt_bits.proofs.ListLaws.{slice_get-front, slice_get-end}
 use Rattle.rmt_ast.specs.declared.program.Program.{Program}
@@ -20,7 +19,7 @@ use Rattle.rmt_config.specs.declared.config.Vliw.{Vliw}
 use Rattle.rmt_config.specs.Resources.{unit_instructions}
 use Rattle.rmt_refine.specs.Code.{CodeCarried, DoesAction, DoesDefault}
 use Rattle.rmt_refine.specs.Units.{table_at}
-use Rattle.rmt_refine.specs.View.{as_slot, slot_of}
+use Rattle.rmt_refine.specs.View.{as_slot}
 use Rattle.rmt_refine.proofs.PartLaws.{and_at, some_and, then_some}
 use Rattle.rmt_build.specs.UnitCode.{DoActions, DoTable, DoUnit, DoUnits}
 

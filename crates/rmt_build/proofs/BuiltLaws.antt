@@ -1,13 +1,12 @@
 -- From the units of a stage to the stage: its entries can be written, and what is written is what a plan asks.
-use Rattle.std.proofs.Common.{◌≡◌, ◌≢◌, ℕ, zero, suc, ◌+◌, ◌<◌, ◌≤◌, ◌^◌, true, List, [], ◌∷◌, ◌++◌, Some, length, map, get_or, refl, sym, ap, ◌∙◌, subst, inl, inr, arith}
-use Rattle.std.specs.Prelude.{All, AllPairs, Contains, option_and_then, slice_get, slice_index, sum_by, ⊤}
-use Rattle.std.specs.List.{AllZip, flat_map, range_with_len}
+use Rattle.std.proofs.Common.{◌≡◌, ◌≢◌, ℕ, zero, suc, ◌<◌, ◌≤◌, true, List, [], ◌∷◌, ◌++◌, Some, length, get_or, sym, ap, ◌∙◌, subst, inl, inr, arith}
+use Rattle.std.specs.Prelude.{All, AllPairs, Contains, option_and_then, slice_get, slice_index, sum_by}
+use Rattle.std.specs.List.{AllZip, flat_map}
 use Rattle.std.proofs.lemmas.List.{get_or_default, length-map}
-use Rattle.std.proofs.lemmas.List.Elements.{All-cons, All-head, All-nil, All-tail, All-weaker, Contains-append_cases, Contains-append_left, Contains-append_right}
+use Rattle.std.proofs.lemmas.List.Elements.{Contains-append_left}
 use Rattle.std.proofs.lemmas.Option.{get_or_from_slice_get, none-some, same_Some, slice_get_within}
 use Rattle.std.proofs.lemmas.Slice.Zip.{AllZip-long}
 use Rattle.rmt_bits.proofs.ListLaws.{slice_get-item}
-use Rattle.rmt_bits.specs.declared.lane.Lane.{Lane}
 use Rattle.rmt_ast.specs.declared.program.Program.{Program}
 use Rattle.rmt_ast.specs.declared.program.Node.{Node}
 use Rattle.rmt_ast.specs.declared.program.Table.{Table}
@@ -18,15 +17,12 @@ use Rattle.rmt_config.specs.declared.config.GateUnit.{GateUnit}
 use Rattle.rmt_config.specs.declared.config.Memory.{Memory}
 use Rattle.rmt_config.specs.declared.config.Memory.TheVariants as memory
 use Rattle.rmt_config.specs.declared.config.SlotUnit.{SlotUnit}
-use Rattle.rmt_config.specs.declared.config.SramRow.{SramRow}
 use Rattle.rmt_config.specs.declared.config.Stage.{Stage}
-use Rattle.rmt_config.specs.declared.config.TcamRow.{TcamRow}
 use Rattle.rmt_config.specs.declared.config.Unit.{Unit}
 use Rattle.rmt_config.specs.declared.config.Unit.TheVariants.{Gate, Slot}
 use Rattle.rmt_config.specs.LaneForm.{bits_of_lanes}
 use Rattle.rmt_config.specs.Resources.{memory_sram, memory_tcam, unit_instructions, unit_sram, unit_tcam}
 use Rattle.rmt_config.specs.StageForm.{memory_sram_blocks, memory_tcam_blocks, sram_blocks, tcam_blocks}
-use Rattle.rmt_pack.specs.declared.placement.Part.{Part}
 use Rattle.rmt_pack.specs.Placements.{key_bits, quanta_in}
 use Rattle.rmt_pack.proofs.BlockLaws.{apart-both, apart-right, range-apart}
 use Rattle.rmt_place.specs.Needs.{demands_of, keeps_limits}
@@ -37,17 +33,17 @@ use Rattle.rmt_refine.specs.View.{as_slot, slot_of}
 use Rattle.rmt_refine.proofs.MemberLaws.{Contains-flat_map, Contains-item}
 use Rattle.rmt_refine.proofs.PartLaws.{quanta_of_node, slot_is_unit, then_some}
 use Rattle.rmt_build.specs.declared.plan.Plan.{Plan}
-use Rattle.rmt_build.specs.BuiltStage.{HasPart, HaveParts, IsBuiltSlot, IsBuiltStage, SmallUnit}
+use Rattle.rmt_build.specs.BuiltStage.{HasPart, HaveParts, IsBuiltStage, SmallUnit}
 use Rattle.rmt_build.specs.Holding.{Held}
-use Rattle.rmt_build.specs.Listing.{IsSramRow, IsTcamRow, ListsSram, ListsTcam}
+use Rattle.rmt_build.specs.Listing.{ListsSram, ListsTcam}
 use Rattle.rmt_build.specs.Memories.{memory_for}
 use Rattle.rmt_build.specs.Plans.{IsPlan, need_in, taken_upto}
 use Rattle.rmt_build.specs.UnitCode.{DoUnits}
-use Rattle.rmt_build.specs.Written.{SlotFits, UnitFits, UnitsApart, UnitsWritten}
+use Rattle.rmt_build.specs.Written.{UnitFits, UnitsApart, UnitsWritten}
 use Rattle.rmt_build.proofs.FitLaws.{slot-fits}
 use Rattle.rmt_build.proofs.FormBlocks.{AreBlocks, HasMemory, are_blocks}
 use Rattle.rmt_build.proofs.FormFits.{zip_at, zip_get}
-use Rattle.rmt_build.proofs.FormStage.{HoldsData, IsGateOf, IsSlotOf, keep_limits, kinds}
+use Rattle.rmt_build.proofs.FormStage.{HoldsData, keep_limits, kinds}
 use Rattle.rmt_build.proofs.StageLaws.{rows-formed, slot-built}
 
 -- ---- lists without a common item

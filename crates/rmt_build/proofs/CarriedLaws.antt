@@ -1,20 +1,16 @@
 -- A configuration whose stages are those of a plan carries the program.
-use Rattle.std.proofs.Common.{◌≡◌, ℕ, zero, suc, ◌<◌, ◌≤◌, ◌+◌, List, [], ◌∷◌, Some, length, map, get_or, refl, ap, ◌∙◌, subst, arith}
+use Rattle.std.proofs.Common.{◌≡◌, ℕ, suc, ◌<◌, ◌+◌, List, [], ◌∷◌, Some, length, map, get_or, refl, ap, ◌∙◌, subst, arith}
 use Rattle.std.specs.Prelude.{All, Contains, IsSomeAnd, slice_get, slice_index}
 use Rattle.std.specs.List.{AllZip}
 use Rattle.std.proofs.lemmas.List.Elements.{Contains-get_or}
 use Rattle.rmt_bits.proofs.ListLaws.{slice_get-alike, slice_get-item}
 use Rattle.rmt_ast.specs.declared.program.Program.{Program}
-use Rattle.rmt_ast.specs.declared.program.Node.{Node}
 use Rattle.rmt_ast.specs.declared.entry.Entry.{Entry}
-use Rattle.rmt_ast.specs.EntryLists.{AreEntries, terms_at}
-use Rattle.rmt_ast.specs.WellFormed.{AllNumbered}
+use Rattle.rmt_ast.specs.EntryLists.{AreEntries}
 use Rattle.rmt_config.specs.declared.config.Config.{Config}
 use Rattle.rmt_config.specs.declared.config.Stage.{Stage}
 use Rattle.rmt_config.specs.Agreement.{AgreesWith}
 use Rattle.rmt_pack.specs.declared.placement.Part.{Part}
-use Rattle.rmt_pack.specs.Placements.{quanta_of}
-use Rattle.rmt_place.specs.Placing.{IsPart}
 use Rattle.rmt_refine.specs.declared.map.CellOf.{CellOf}
 use Rattle.rmt_refine.specs.Carries.{Carries, EdgesKept, all_edges}
 use Rattle.rmt_refine.specs.Cells.{CellsCarried, IsSpotOf}
@@ -31,7 +27,6 @@ use Rattle.rmt_build.proofs.DistinctLaws.{told_once}
 use Rattle.rmt_build.proofs.SpotLaws.{listed_stands, part_size, table_of_part}
 use Rattle.rmt_build.proofs.TableLaws.{AreInRows, AreLoaded, table_cells}
 use Rattle.rmt_build.proofs.ToldLaws.{IsListed, told_listed}
-use Rattle.rmt_refine.proofs.MemberLaws.{Contains-item}
 
 starts_same : (stages : List Stage) (starts : List ℕ) → length stages ≡ length starts → ((k : ℕ) (s : Stage) → slice_get stages k ≡ Some s → s.start ≡ slice_index starts k)
     → map (λ (s : Stage). s.start) stages ≡ starts

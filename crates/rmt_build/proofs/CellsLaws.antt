@@ -1,8 +1,8 @@
 -- The cells of a configuration that is built by a plan hold the entries, as the map tells.
-use Rattle.std.proofs.Common.{◌≡◌, ℕ, zero, suc, ◌+◌, ◌-◌, ◌*◌, ◌<◌, ◌≤◌, ◌==◌, Bool, true, false, List, [], ◌∷◌, Option, Some, None, length, map, get_or, refl, sym, ap, ◌∙◌, subst, ◌⊎◌, inl, inr, arith}
-use Rattle.std.specs.Prelude.{All, AllPairs, Contains, IsSomeAnd, MatchOption, filter, find, nat_lt, option_and_then, option_map, slice_get, slice_index, sum_by, unwrap_or, ⊤}
+use Rattle.std.proofs.Common.{◌≡◌, ℕ, zero, suc, ◌+◌, ◌-◌, ◌*◌, ◌<◌, ◌≤◌, List, Option, Some, length, map, refl, sym, ap, ◌∙◌, subst, ◌⊎◌, inl, inr, arith}
+use Rattle.std.specs.Prelude.{All, AllPairs, Contains, IsSomeAnd, MatchOption, nat_lt, option_and_then, option_map, slice_get, sum_by, ⊤}
 use Rattle.std.specs.List.{AllZip, range_with_len}
-use Rattle.std.proofs.lemmas.Bool.{both_ways, cases_eq, eq-eqb, eqb-true, lt-ltb}
+use Rattle.std.proofs.lemmas.Bool.{lt-ltb}
 use Rattle.std.proofs.lemmas.List.Elements.{All-weaker}
 use Rattle.std.proofs.lemmas.Option.{get_or_from_slice_get, none-some, same_Some, slice_get-map, slice_get_within}
 use Rattle.std.proofs.lemmas.Slice.Zip.{AllZip-left}
@@ -16,7 +16,6 @@ use Rattle.rmt_ast.specs.declared.program.What.{What}
 use Rattle.rmt_ast.specs.declared.program.What.TheVariants as what
 use Rattle.rmt_ast.specs.declared.entry.Entry.{Entry}
 use Rattle.rmt_ast.specs.EntryLists.{AreEntries, AreEntriesAt, AreTableEntries, terms_at, terms_of}
-use Rattle.rmt_config.specs.declared.config.CellNumber.{CellNumber}
 use Rattle.rmt_config.specs.declared.config.Config.{Config}
 use Rattle.rmt_config.specs.declared.config.SlotUnit.{SlotUnit}
 use Rattle.rmt_config.specs.declared.config.Stage.{Stage}
@@ -26,25 +25,24 @@ use Rattle.rmt_pack.specs.declared.placement.Part.{Part}
 use Rattle.rmt_pack.specs.Placements.{quanta_in, quanta_of}
 use Rattle.rmt_bounds.proofs.StageSums.{Within, quanta_of-le-total, total, total-same}
 use Rattle.rmt_refine.specs.declared.map.CellOf.{CellOf}
-use Rattle.rmt_refine.specs.Cells.{IsSpotOf, IsTold, Spot}
+use Rattle.rmt_refine.specs.Cells.{IsTold, Spot}
 use Rattle.rmt_refine.specs.Units.{DoesAs, UnitCarried, UnitsCarried, applied, nodes_in, table_at}
-use Rattle.rmt_refine.specs.View.{as_slot, slot_of}
+use Rattle.rmt_refine.specs.View.{as_slot}
 use Rattle.rmt_refine.proofs.FindLaws.{All-contains, Contains-range, filter_keeps}
-use Rattle.rmt_refine.proofs.NodeLaws.{one_place}
 use Rattle.rmt_refine.proofs.NumberLaws.{one_list}
-use Rattle.rmt_refine.proofs.PartLaws.{IsPart, and_at, part_of_spot, some_and, spot_of_part, then_some, unit_of_part}
+use Rattle.rmt_refine.proofs.PartLaws.{IsPart, and_at, some_and, then_some}
 use Rattle.rmt_refine.proofs.TheLaw.{its_terms}
 use Rattle.rmt_build.specs.declared.plan.Plan.{Plan}
 use Rattle.rmt_build.specs.declared.stands.Stand.{Stand}
 use Rattle.rmt_build.specs.BuiltStage.{IsBuiltStage}
 use Rattle.rmt_build.specs.Plans.{AreStands, format_at, quanta_before}
 use Rattle.rmt_build.specs.Standing.{cells_for}
-use Rattle.rmt_build.specs.Told.{cell_told, cells_told}
+use Rattle.rmt_build.specs.Told.{cells_told}
 use Rattle.rmt_build.proofs.PartLaws.{sum_more}
-use Rattle.rmt_build.proofs.SpotLaws.{HasTable, StandsAt, listed_stands, part_size, rising_place, stands_listed, table_of_part}
-use Rattle.rmt_build.proofs.StandLaws.{behind_parts, entry_there, first_cell, one_stand, part_cells, some_part}
-use Rattle.rmt_build.proofs.ToldLaws.{IsListed, listed_told, told_listed}
-use Rattle.rmt_refine.proofs.MemberLaws.{Contains-item, Contains-map}
+use Rattle.rmt_build.proofs.SpotLaws.{StandsAt, listed_stands, rising_place, stands_listed, table_of_part}
+use Rattle.rmt_build.proofs.StandLaws.{behind_parts, entry_there, first_cell, one_stand, some_part}
+use Rattle.rmt_build.proofs.ToldLaws.{listed_told, told_listed}
+use Rattle.rmt_refine.proofs.MemberLaws.{Contains-map}
 
 -- ---- members of lists of entries
 

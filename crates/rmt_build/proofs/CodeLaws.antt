@@ -1,7 +1,7 @@
 -- Instructions of foldings do what a configuration that carries a program asks of them.
-use Rattle.std.proofs.Common.{◌≡◌, ◌≢◌, ◌⊎◌, ◌+◌, ◌*◌, ◌^◌, ◌<◌, ◌≤◌, ◌∙◌, ℕ, List, [], ◌∷◌, ◌++◌, Some, length, map, get_or, refl, sym, ap, subst, arith}
-use Rattle.std.specs.Prelude.{All, Contains, Option, option_map, slice_get, slice_index, unwrap_or}
-use Rattle.std.specs.List.{AllZip, flat_map}
+use Rattle.std.proofs.Common.{◌≡◌, ◌≢◌, ◌⊎◌, ◌+◌, ◌*◌, ◌^◌, ◌<◌, ◌≤◌, ◌∙◌, ℕ, List, [], ◌∷◌, map, get_or, refl, sym, ap, subst, arith}
+use Rattle.std.specs.Prelude.{All, Contains, Option, option_map, unwrap_or}
+use Rattle.std.specs.List.{AllZip}
 use Rattle.std.specs.List.Sorted.{IsPermutation}
 use Rattle.std.proofs.lemmas.List.{get_or-map, length-map}
 use Rattle.std.proofs.lemmas.List.Elements.{All-contains, All-contains_itself, All-map, All-nil, All-weaker, Contains-get_or}
@@ -16,7 +16,6 @@ use Rattle.rmt_ast.specs.EntryLists.{params_of}
 use Rattle.rmt_ast.specs.Places.{lanes_of}
 use Rattle.rmt_ast.specs.WellFormed.{Fits}
 use Rattle.rmt_config.specs.declared.config.Operation.{Operation}
-use Rattle.rmt_config.specs.Agreement.{IsFree}
 use Rattle.rmt_config.specs.Life.{Words, lane_of}
 use Rattle.rmt_deps.specs.Edges.{of_action}
 use Rattle.rmt_pack.proofs.FormatLaws.{of_map}

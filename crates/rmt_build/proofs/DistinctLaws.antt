@@ -1,5 +1,5 @@
 -- A map tells of each cell once.
-use Rattle.std.proofs.Common.{◌≡◌, ◌≢◌, ℕ, zero, suc, ◌+◌, ◌-◌, ◌<◌, ◌≤◌, ◌&&◌, ◌==◌, Bool, true, false, cond, List, [], ◌∷◌, ◌++◌, Some, length, map, get_or, refl, sym, ap, ◌∙◌, subst, inl, inr, arith}
+use Rattle.std.proofs.Common.{◌≡◌, ◌≢◌, ℕ, suc, ◌+◌, ◌-◌, ◌<◌, ◌==◌, Bool, true, false, cond, List, [], ◌∷◌, Some, length, map, get_or, refl, sym, ap, ◌∙◌, subst, arith}
 use Rattle.std.specs.Prelude.{All, AllPairs, Contains, filter, nat_le, nat_lt, option_and_then, slice_get}
 use Rattle.std.specs.List.{flat_map, range_with_len}
 use Rattle.std.proofs.lemmas.Bool.{and_parts, eqb-true, leb-true}
@@ -30,11 +30,11 @@ use Rattle.rmt_build.specs.declared.plan.Plan.{Plan}
 use Rattle.rmt_build.specs.declared.stands.Stand.{Stand}
 use Rattle.rmt_build.specs.BuiltStage.{IsBuiltStage}
 use Rattle.rmt_build.specs.Numbers.{number_at}
-use Rattle.rmt_build.specs.Plans.{AreStands, stands_of_part}
+use Rattle.rmt_build.specs.Plans.{AreStands}
 use Rattle.rmt_build.specs.Standing.{StandOnce, counted_from, stands_there, stands_within}
 use Rattle.rmt_build.specs.Told.{cell_told, cells_told, stages_told, unit_told}
 use Rattle.rmt_build.proofs.SpotLaws.{listed_stands, part_stands, slot_built, table_of_part}
-use Rattle.rmt_build.proofs.ToldLaws.{ListedIn, stages_listed, unit_listed}
+use Rattle.rmt_build.proofs.ToldLaws.{stages_listed, unit_listed}
 use Rattle.rmt_refine.proofs.MemberLaws.{Contains-map, flat_from}
 
 -- ---- pairs of joined lists

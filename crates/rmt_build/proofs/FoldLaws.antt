@@ -1,6 +1,6 @@
 -- The actions of a program, folded one after another.
 use Rattle.std.proofs.Common.{◌≡◌, ℕ, ◌+◌, ◌<◌, List, length, get_or, drop, Ok, Err, Some, refl, sym, ap, ◌∙◌}
-use Rattle.std.specs.Prelude.{Option, Result}
+use Rattle.std.specs.Prelude.{Result}
 use Rattle.std.proofs.lemmas.List.{at_drop_more}
 use Rattle.rmt_ast.specs.declared.program.Action.{Action}
 use Rattle.rmt_vliw.specs.declared.folded.Folded.{Folded}

@@ -29,7 +29,7 @@ use Rattle.rmt_pack.specs.Placements.{quanta_in, quanta_of, table_need}
 use Rattle.rmt_place.specs.Needs.{demands_of, keeps_limits}
 use Rattle.rmt_place.specs.Placing.{standing_in}
 use Rattle.rmt_ptcam.specs.Needs.{refusal}
-use Rattle.rmt_ptcam.specs.Plain.{plain}
+use Rattle.rmt_ptcam.specs.Clustering.{clustered}
 use Rattle.rmt_refine.specs.Carries.{EdgesKept, all_edges}
 use Rattle.rmt_refine.specs.Places.{PlacesCarried}
 use Rattle.rmt_refine.specs.Units.{UnitCarried, UnitsCarried, last_stage, nodes_in, table_at}
@@ -40,12 +40,11 @@ use Rattle.rmt_refine.proofs.RankLaws.{compare}
 use Rattle.rmt_build.specs.declared.plan.Plan.{Plan}
 use Rattle.rmt_build.specs.BuiltStage.{IsBuiltStage}
 use Rattle.rmt_build.specs.Plans.{IsPlan, format_at, what_format}
+use Rattle.rmt_build.proofs.FormClustered.{clustered_formed, clustered_parts}
 use Rattle.rmt_build.proofs.FormFits.{data_held, limits_kept, memories, zip_at, zip_get}
 use Rattle.rmt_build.proofs.FormHolds.{all_hold, starts_formed}
 use Rattle.rmt_build.proofs.FormLanes.{headers_formed, ports_formed}
 use Rattle.rmt_build.proofs.FormBlocks.{HasMemory}
-use Rattle.rmt_build.proofs.FormParser.{few_parts}
-use Rattle.rmt_build.proofs.FormParsing.{parser_formed}
 use Rattle.rmt_build.proofs.FormStage.{HoldsData}
 use Rattle.rmt_build.proofs.FormStages.{stages_formed}
 use Rattle.rmt_build.proofs.FormTables.{ArePlaced, Built, StagesFrom, tables_formed}
@@ -99,10 +98,10 @@ module _ (p : Program) (lists : List (List Entry)) (plan : Plan) (c : Config) (p
   abbrev parts : List Part
   parts = plan.placement.parts
 
-  pub limits_by_plan : refusal p ≡ None → c.parser ≡ plain p plan.places → ((k : ℕ) → k < 32 → keeps_limits (standing_in (demands_of p plan.places) parts k) ≡ true)
+  pub limits_by_plan : refusal p ≡ None → c.parser ≡ clustered p plan.places → ((k : ℕ) → k < 32 → keeps_limits (standing_in (demands_of p plan.places) parts k) ≡ true)
       → IsWithinLimits c
   limits_by_plan fits parser limits =
-      limits_kept p lists plan program entries is_plan.parts c built few long (subst FewParts (sym parser) (few_parts p plan.places is_plan.places program fits)) limits early
+      limits_kept p lists plan program entries is_plan.parts c built few long (subst FewParts (sym parser) (clustered_parts p plan.places program is_plan.places fits)) limits early
 
   module _ (carried : PlacesCarried p plan.places c) (units : UnitsCarried p plan.places parts plan.starts c) (edges : EdgesKept (all_edges p plan.places) parts plan.starts)
       (exact : HasQuanta p parts) where
@@ -160,7 +159,7 @@ module _ (p : Program) (lists : List (List Entry)) (plan : Plan) (c : Config) (p
           };
         }
 
-    -- with the plain parser of a program without tails
-    pub formed_with_plain : refusal p ≡ None → All (λ (h : Header). h.tail ≡ None) p.headers → c.parser ≡ plain p plan.places → c.seed < 256 → entries_are_numbered c ≡ true → Formed c
-    formed_with_plain fits tails parser seed numbers =
-        formed_by_plan fits seed (ap parser_is_formed parser ∙ parser_formed p program fits plan.places is_plan.places tails) numbers
+    -- with the clustered parser of a program without tails
+    pub formed_with_clustered : refusal p ≡ None → All (λ (h : Header). h.tail ≡ None) p.headers → c.parser ≡ clustered p plan.places → c.seed < 256 → entries_are_numbered c ≡ true → Formed c
+    formed_with_clustered fits tails parser seed numbers =
+        formed_by_plan fits seed (ap parser_is_formed parser ∙ clustered_formed p plan.places program is_plan.places fits tails) numbers

@@ -25,6 +25,10 @@ bits_count : (from : ℕ) (lanes : List Lane) → length (bits_from from lanes) 
 bits_count from [] = refl
 bits_count from (l ∷ lanes) = ap suc (bits_count (from + l.len) lanes)
 
+-- an entry that needs at most 128 bytes and has at most 64 extracts
+abbrev pub IsSmall : ParserEntry → Type 0
+IsSmall e = (e.need ≤ 128) × (length e.extracts ≤ 64)
+
 module _ (p : Program) (places : List (List Lane)) (keeps : KeepsApart p places) where
   pub few_extracts : (n : ℕ) (h : Header) → IsHeader p n h → IsNarrow p h → length (extracts_of places h) ≤ 64
   few_extracts n h is few =
@@ -35,10 +39,6 @@ module _ (p : Program) (places : List (List Lane)) (keeps : KeepsApart p places)
       let rest = bits_count 0 (lanes_in_order places h.fields) ∙ lanes_count p places keeps h.fields in
       let most = few.1 in
       omega (arith, all, one, rest, most)
-
-  -- what is asked of an entry
-  abbrev IsSmall : ParserEntry → Type 0
-  IsSmall e = (e.need ≤ 128) × (length e.extracts ≤ 64)
 
   of_header : (n : ℕ) (h : Header) → IsHeader p n h → IsNarrow p h → (h.bytes ≤ 128) × (length (extracts_of places h) ≤ 64)
   of_header n h is few = let most = is.is_not_long in (omega (arith, most), few_extracts n h is few)

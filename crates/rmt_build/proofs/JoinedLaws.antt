@@ -1,8 +1,7 @@
 -- A configuration of the stages of a plan by the rules: it carries the program, and keeps what is promised beside that.
-use Rattle.std.proofs.Common.{◌≡◌, ◌≢◌, ℕ, ◌+◌, ◌*◌, ◌/◌, ◌-◌, ◌<◌, ◌≤◌, List, Option, Some, None, Ok, true, length, map, get_or, refl, sym, ap, subst, ◌∙◌, inl, inr, arith}
+use Rattle.std.proofs.Common.{◌≡◌, ℕ, ◌+◌, ◌*◌, ◌/◌, ◌-◌, ◌<◌, ◌≤◌, List, Option, Some, None, length, map, get_or, refl, sym, ap, subst, ◌∙◌, inl, inr, arith}
 use Rattle.std.specs.Prelude.{All, Contains, option_map, slice_get}
 use Rattle.std.specs.List.{range_with_len}
-use Rattle.std.proofs.lemmas.List.Elements.{Contains-get_or}
 use Rattle.std.proofs.lemmas.Nat.{le-div}
 use Rattle.std.proofs.lemmas.Option.{get_or_from_slice_get, none-some, same_Some, slice_get-get_or, slice_get-map, slice_get_within}
 use Rattle.std.proofs.lemmas.Slice.Zip.{AllZip-long}
@@ -19,11 +18,10 @@ use Rattle.rmt_ast.specs.declared.program.Test.{Test}
 use Rattle.rmt_ast.specs.declared.program.What.{What}
 use Rattle.rmt_ast.specs.declared.program.What.TheVariants.{Apply, Gate}
 use Rattle.rmt_ast.specs.declared.entry.Entry.{Entry}
-use Rattle.rmt_ast.specs.EntryLists.{AreEntries, terms_at}
+use Rattle.rmt_ast.specs.EntryLists.{AreEntries}
 use Rattle.rmt_ast.specs.State.{width_of}
 use Rattle.rmt_ast.specs.WellFormed.{AllNumbered, IsProgram, IsTable}
 use Rattle.rmt_config.specs.declared.config.Config.{Config}
-use Rattle.rmt_config.specs.declared.config.GateUnit.{GateUnit}
 use Rattle.rmt_config.specs.declared.config.Memory.{Memory}
 use Rattle.rmt_config.specs.declared.config.SlotUnit.{SlotUnit}
 use Rattle.rmt_config.specs.declared.config.Stage.{Stage}
@@ -37,22 +35,21 @@ use Rattle.rmt_config.specs.Limits.{IsWithinLimits}
 use Rattle.rmt_pack.specs.declared.format.Need.{Need}
 use Rattle.rmt_pack.specs.declared.placement.Part.{Part}
 use Rattle.rmt_pack.specs.declared.placement.Placement.{Placement}
-use Rattle.rmt_pack.specs.Formats.{HasNeed, IsFormat, memory_format, no_memory}
+use Rattle.rmt_pack.specs.Formats.{HasNeed, memory_format, no_memory}
 use Rattle.rmt_pack.specs.Placements.{key_bits, quanta_in, table_need}
 use Rattle.rmt_pack.proofs.NeedLaws.{table_has_need}
+use Rattle.rmt_ptcam.specs.Clustering.{clustered}
 use Rattle.rmt_ptcam.specs.Needs.{refusal}
-use Rattle.rmt_ptcam.specs.Plain.{plain}
 use Rattle.rmt_ptcam.proofs.PlainLaws.{lanes_bits}
 use Rattle.rmt_refine.specs.declared.map.CellOf.{CellOf}
 use Rattle.rmt_refine.specs.declared.map.Map.{Map}
 use Rattle.rmt_refine.specs.Carries.{Carries}
 use Rattle.rmt_refine.specs.Cells.{tests_as_one}
 use Rattle.rmt_refine.specs.Places.{PlacesCarried}
-use Rattle.rmt_refine.specs.Units.{UnitCarried, UnitsCarried, applied, node_in, nodes_in, table_at}
+use Rattle.rmt_refine.specs.Units.{UnitCarried, UnitsCarried, nodes_in, table_at}
 use Rattle.rmt_refine.specs.View.{as_slot, slot_of}
-use Rattle.rmt_refine.proofs.PartLaws.{IsPart, slot_is_unit, then_some}
+use Rattle.rmt_refine.proofs.PartLaws.{slot_is_unit, then_some}
 use Rattle.rmt_build.specs.declared.plan.Plan.{Plan}
-use Rattle.rmt_build.specs.declared.stands.Stand.{Stand}
 use Rattle.rmt_build.specs.BuiltStage.{IsBuiltStage}
 use Rattle.rmt_build.specs.Memories.{blocks_for, memory_for}
 use Rattle.rmt_build.specs.Plans.{format_at, need_in, quanta_before, taken_upto, what_format}
@@ -62,14 +59,14 @@ use Rattle.rmt_build.specs.Standing.{cells_for}
 use Rattle.rmt_build.specs.Told.{cells_told}
 use Rattle.rmt_build.proofs.CarriedLaws.{built_carries, units_carried}
 use Rattle.rmt_build.proofs.FormBlocks.{HasMemory, are_blocks, blocks_in_order}
-use Rattle.rmt_build.proofs.FormConfig.{formed_with_plain, limits_by_plan}
+use Rattle.rmt_build.proofs.FormConfig.{formed_with_clustered, limits_by_plan}
 use Rattle.rmt_build.proofs.FormFits.{memories, zip_get}
 use Rattle.rmt_build.proofs.FormStage.{kinds}
 use Rattle.rmt_build.proofs.LoadedLaws.{loaded_there, rows_in_order}
 use Rattle.rmt_build.proofs.MemoryLaws.{format_of_kind}
 use Rattle.rmt_build.proofs.NumberedLaws.{entries_numbered}
 use Rattle.rmt_build.proofs.PromiseLaws.{memory_format_is, stand_in_rows}
-use Rattle.rmt_build.proofs.SpotLaws.{StandsAt, slot_built}
+use Rattle.rmt_build.proofs.SpotLaws.{slot_built}
 use Rattle.rmt_build.proofs.TableLaws.{AreInRows, AreLoaded}
 
 -- ---- each node has a quantum
@@ -193,12 +190,12 @@ module _ (p : Program) (lists : List (List Entry)) (plan : Plan) (c : Config) (p
   few : length c.stages ≤ 32
   few = let most = is.few_stages in omega (arith, long, most)
 
-  pub joined_limits : refusal p ≡ None → c.parser ≡ plain p plan.places → IsWithinLimits c
+  pub joined_limits : refusal p ≡ None → c.parser ≡ clustered p plan.places → IsWithinLimits c
   joined_limits fits parser = limits_by_plan p lists plan c program entries is.is_plan built few long is.early fits parser is.limits
 
-  pub joined_formed : PlacesCarried p plan.places c → refusal p ≡ None → All (λ (h : Header). h.tail ≡ None) p.headers → c.parser ≡ plain p plan.places → plan.seed < 8 → Formed c
+  pub joined_formed : PlacesCarried p plan.places c → refusal p ≡ None → All (λ (h : Header). h.tail ≡ None) p.headers → c.parser ≡ clustered p plan.places → plan.seed < 8 → Formed c
   joined_formed places fits tails parser small =
-      formed_with_plain p lists plan c program entries is.is_plan built few long is.early places units_are is.edges is.exact fits tails parser (omega (arith, small, seed))
+      formed_with_clustered p lists plan c program entries is.is_plan built few long is.early places units_are is.edges is.exact fits tails parser (omega (arith, small, seed))
       (entries_numbered p lists plan c entries units_are is.is_plan.stands built)
 
 -- ---- its map

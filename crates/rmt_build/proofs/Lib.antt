@@ -12,6 +12,7 @@ mod FitLaws
 mod FoldLaws
 mod FoldingLaws
 mod FormBlocks
+mod FormClustered
 mod FormCode
 mod FormConfig
 mod FormEach
@@ -21,7 +22,6 @@ mod FormLanes
 mod FormLimits
 mod FormMemory
 mod FormParser
-mod FormParsing
 mod FormSlots
 mod FormStage
 mod FormStages

@@ -1,12 +1,12 @@
 -- The blocks of parts: as many as quanta times those of a quantum.
-use Rattle.std.proofs.Common.{◌≡◌, ◌≢◌, ℕ, ◌+◌, ◌*◌, ◌/◌, ◌≤◌, ◌<◌, Bool, true, false, cond, refl, sym, ap, subst, ◌∙◌, arith}
+use Rattle.std.proofs.Common.{◌≡◌, ◌≢◌, ℕ, ◌+◌, ◌*◌, ◌/◌, ◌≤◌, ◌<◌, Bool, cond, refl, sym, ap, ◌∙◌, arith}
 use Rattle.std.proofs.Math.Nat.{div-lt_iff_lt-mul, mul-le-mul_left}
 use Rattle.rmt_ast.specs.declared.program.Kind.{Kind}
 use Rattle.rmt_ast.specs.declared.program.Kind.TheVariants.{Keyless, Exact, Prefix, Ternary}
-use Rattle.rmt_config.specs.Shapes.{divided_up, exact_shape, record_units, record_width, ternary_shape}
+use Rattle.rmt_config.specs.Shapes.{divided_up, record_units, record_width}
 use Rattle.rmt_pack.specs.declared.format.Format.{Format}
 use Rattle.rmt_pack.specs.declared.format.Need.{Need as TableNeed}
-use Rattle.rmt_pack.specs.Formats.{HasNeed, IsNeed, IsExactFormat, IsFormat, exact_layout, memory_format, ternary_format}
+use Rattle.rmt_pack.specs.Formats.{HasNeed, IsNeed, IsFormat, memory_format, ternary_format}
 use Rattle.rmt_pack.proofs.FormatLaws.{exact_format-taken}
 use Rattle.rmt_bounds.proofs.FormatBounds.{ternary_fits_stage}
 use Rattle.rmt_build.specs.declared.memory.Need.{Need}

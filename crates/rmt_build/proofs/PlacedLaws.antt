@@ -1,5 +1,5 @@
 -- A placement by the rule, and its starts.
-use Rattle.std.proofs.Common.{◌≡◌, ℕ, zero, suc, ◌+◌, ◌<◌, ◌≤◌, List, [], ◌∷◌, ◌++◌, Ok, true, filter, get_or, length, map, refl, sym, ap, subst, ◌∙◌, arith}
+use Rattle.std.proofs.Common.{◌≡◌, ℕ, zero, suc, ◌+◌, ◌<◌, ◌≤◌, List, [], ◌∷◌, Ok, true, filter, get_or, length, map, refl, ap, subst, arith}
 use Rattle.std.specs.Prelude.{◌==◌, All, AllPairs, Contains}
 use Rattle.std.proofs.lemmas.List.Elements.{All-contains, All-map}
 use Rattle.rmt_pack.proofs.FormatLaws.{filtered}

@@ -15,16 +15,15 @@ use Rattle.rmt_ast.specs.WellFormed.{IsProgram, IsTable}
 use Rattle.rmt_pack.specs.declared.format.Format.{Format}
 use Rattle.rmt_pack.specs.declared.placement.Part.{Part}
 use Rattle.rmt_pack.specs.Formats.{HasNeed, IsFormat, memory_format, no_memory}
-use Rattle.rmt_pack.specs.Placements.{quanta_in, table_need, taken_in}
+use Rattle.rmt_pack.specs.Placements.{quanta_in, table_need}
 use Rattle.rmt_pack.proofs.NeedLaws.{table_has_need}
 use Rattle.rmt_refine.specs.Units.{table_at}
 use Rattle.rmt_ast.specs.declared.program.Test.{Test}
 use Rattle.rmt_ast.specs.declared.program.What.TheVariants.{Gate}
 use Rattle.rmt_build.specs.declared.memory.Need.{Need}
-use Rattle.rmt_build.specs.declared.memory.Taken.{Taken}
 use Rattle.rmt_build.specs.Memories.{HasRoom, blocks_for, sram_for, taken_behind, tcam_for}
 use Rattle.rmt_build.specs.Plans.{AreParts, format_at, formats_of, need_in, parts_before, taken_upto, what_format}
-use Rattle.rmt_build.proofs.MemoryLaws.{IsNeedOf, Quantum, few_quanta, format_of_kind, quantum_of, sram_is, tcam_is}
+use Rattle.rmt_build.proofs.MemoryLaws.{IsNeedOf, few_quanta, format_of_kind, quantum_of, sram_is, tcam_is}
 use Rattle.rmt_build.proofs.PartLaws.{parts_more, sum_more}
 use Rattle.rmt_build.proofs.UnitLaws.{node_applies}
 

@@ -1,24 +1,21 @@
 -- A placement by the rule gives each node exactly its quanta.
-use Rattle.std.proofs.Common.{◌≡◌, ◌≢◌, ℕ, ◌+◌, ◌<◌, ◌≤◌, List, [], ◌∷◌, ◌++◌, Ok, true, cond, eqb, get_or, length, map, inl, inr, refl, sym, ap, subst, ◌∙◌, arith}
+use Rattle.std.proofs.Common.{◌≡◌, ◌≢◌, ℕ, ◌+◌, ◌<◌, ◌≤◌, List, [], ◌∷◌, Ok, cond, eqb, length, inl, inr, refl, sym, ap, subst, ◌∙◌, arith}
 use Rattle.std.specs.Prelude.{All, AllPairs, Contains}
 use Rattle.std.proofs.lemmas.Bool.{cases_eq, ne_eqb}
-use Rattle.std.proofs.lemmas.List.{length-map}
 use Rattle.std.proofs.lemmas.List.Elements.{All-head, All-tail}
 use Rattle.std.proofs.lemmas.List.Sums.{sum_by-append, sum_by-cons}
 use Rattle.rmt_bits.specs.declared.lane.Lane.{Lane}
 use Rattle.rmt_ast.specs.declared.deps.Deps.{Deps}
 use Rattle.rmt_ast.specs.declared.deps.Edge.{Edge}
 use Rattle.rmt_ast.specs.declared.program.Program.{Program}
-use Rattle.rmt_ast.specs.declared.program.Node.{Node}
 use Rattle.rmt_ast.specs.WellFormed.{IsProgram}
-use Rattle.rmt_deps.specs.Edges.{GoForward}
 use Rattle.rmt_deps.specs.Levels.{all_edges, levels_of}
 use Rattle.rmt_pack.specs.declared.format.Format.{Format}
 use Rattle.rmt_pack.specs.declared.placement.Part.{Part}
 use Rattle.rmt_pack.specs.Placements.{quanta_of}
 use Rattle.rmt_place.specs.declared.demand.Demand.{Demand}
-use Rattle.rmt_place.specs.Needs.{demand_at, demands_of, keeps_limits, what_demands}
-use Rattle.rmt_place.specs.Placing.{IsPart, earliest_stage, order_of, placed_all, placed_node, placement, spread, stages_from, standing_in}
+use Rattle.rmt_place.specs.Needs.{demand_at, demands_of}
+use Rattle.rmt_place.specs.Placing.{earliest_stage, order_of, placed_all, placed_node, placement, spread, stages_from}
 use Rattle.rmt_place.proofs.ApartLaws.{order_distinct}
 use Rattle.rmt_place.proofs.KeepLaws.{placed_induction, placed_is}
 use Rattle.rmt_place.proofs.LegalLaws.{spread_quanta}

@@ -2,7 +2,6 @@
 use Rattle.std.proofs.Common.{◌≡◌, ◌≢◌, ◌∙◌, List, Option, Some, None, Result, Ok, Err, refl, sym, ap, subst}
 use Rattle.std.specs.Option.{option_or}
 use Rattle.std.specs.Prelude.{⊤, IfErr, IfOk, option_map}
-use Rattle.std.proofs.lemmas.Option.{none-some, same_Some}
 use Rattle.rmt_bits.specs.declared.lane.Lane.{Lane}
 use Rattle.rmt_ast.specs.declared.program.Program.{Program}
 use Rattle.rmt_ast.specs.declared.deps.Deps.{Deps}
@@ -16,9 +15,8 @@ use Rattle.rmt_ptcam.specs.Needs.{refusal, unless}
 use Rattle.rmt_vliw.specs.declared.fault.ActionDeep.{ActionDeep}
 use Rattle.rmt_build.specs.declared.built.Built.{Built}
 use Rattle.rmt_build.specs.declared.fault.NoFit.{NoFit}
-use Rattle.rmt_build.specs.declared.fault.NoFit.TheVariants as no_fit
 use Rattle.rmt_build.specs.Folds.{first_deep}
-use Rattle.rmt_build.specs.Refusals.{IsLate, action_told, first_refusal, packed_told, parser_told, stuck_told}
+use Rattle.rmt_build.specs.Refusals.{action_told, first_refusal, packed_told, parser_told, stuck_told}
 
 -- then the nodes are looked at
 pub then_placed : (p : Program) (places : List (List Lane)) → refusal p ≡ None → first_deep 0 p.actions ≡ None → packing p ≡ Ok places
@@ -32,17 +30,6 @@ then_placed p places fits shallow packed =
 pub none_refused : (p : Program) (places : List (List Lane)) (parts : List Part) → refusal p ≡ None → first_deep 0 p.actions ≡ None → packing p ≡ Ok places
     → placement p places (dependencies_of p places) ≡ Ok parts → first_refusal p ≡ None
 none_refused p places parts fits shallow packed placed = then_placed p places fits shallow packed ∙ ap stuck_told placed
-
--- a late refusal is the first one, where there is a first one
-pub late_is_first : (first : Option NoFit) (e fault : NoFit) → IsLate first e → first ≡ Some fault → e ≢ no_fit.NoMemory → e ≡ fault
-late_is_first first no_fit.NoMemory fault late is other = absurd (other refl)
-late_is_first first (no_fit.Lookup header bytes) fault late is other = absurd late
-late_is_first first (no_fit.Step header extracts) fault late is other = absurd late
-late_is_first first (no_fit.Parser many) fault late is other = absurd late
-late_is_first first (no_fit.Action number field) fault late is other = absurd late
-late_is_first first (no_fit.Phv field class) fault late is other = absurd late
-late_is_first first (no_fit.Stage node hits) fault late is other = same_Some (no_fit.Stage node hits) fault (sym late ∙ is)
-late_is_first first (no_fit.Load node members cells) fault late is other = absurd (none-some fault (sym late ∙ is))
 
 -- the value of what is done, else this one
 given_or : {X E : Type 0} → X → Result X E → X

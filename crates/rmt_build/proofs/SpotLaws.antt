@@ -1,10 +1,9 @@
 -- In a configuration that is built by a plan, the cells in which the map tells that an entry stands are those in which it stands by the plan.
-use Rattle.std.proofs.Common.{◌≡◌, ◌≢◌, ℕ, zero, suc, ◌+◌, ◌<◌, ◌≤◌, List, [], ◌∷◌, Option, Some, None, length, map, get_or, refl, sym, ap, ◌∙◌, subst, ◌⊎◌, inl, inr, arith}
-use Rattle.std.specs.Prelude.{All, AllPairs, Contains, IsSomeAnd, option_and_then, option_map, slice_get, slice_index_or, unwrap_or}
+use Rattle.std.proofs.Common.{◌≡◌, ℕ, ◌+◌, ◌<◌, List, [], Option, Some, length, map, get_or, refl, sym, ap, ◌∙◌, subst, ◌⊎◌, inl, inr, arith}
+use Rattle.std.specs.Prelude.{AllPairs, Contains, option_and_then, option_map, slice_get, unwrap_or}
 use Rattle.std.proofs.lemmas.List.{length-map}
-use Rattle.std.proofs.lemmas.Option.{get_or_from_slice_get, none-some, same_Some, slice_get_within}
+use Rattle.std.proofs.lemmas.Option.{get_or_from_slice_get, slice_get_within}
 use Rattle.rmt_bits.proofs.ListLaws.{slice_get-alike, slice_get-item}
-use Rattle.rmt_bits.specs.declared.lane.Lane.{Lane}
 use Rattle.rmt_ast.specs.declared.program.Program.{Program}
 use Rattle.rmt_ast.specs.declared.program.Node.{Node}
 use Rattle.rmt_ast.specs.declared.program.Table.{Table}
@@ -14,20 +13,14 @@ use Rattle.rmt_ast.specs.declared.program.What.{What}
 use Rattle.rmt_ast.specs.declared.program.What.TheVariants as what
 use Rattle.rmt_ast.specs.declared.entry.Entry.{Entry}
 use Rattle.rmt_ast.specs.EntryLists.{AreEntries}
-use Rattle.rmt_ast.specs.Answers.{entry_numbers}
 use Rattle.rmt_config.specs.declared.config.CellNumber.{CellNumber}
 use Rattle.rmt_config.specs.declared.config.Config.{Config}
 use Rattle.rmt_config.specs.declared.config.SlotUnit.{SlotUnit}
 use Rattle.rmt_config.specs.declared.config.Stage.{Stage}
 use Rattle.rmt_config.specs.declared.config.Unit.TheVariants.{Slot}
 use Rattle.rmt_config.specs.Cells.{cells_in}
-use Rattle.rmt_refine.specs.declared.map.CellOf.{CellOf}
-use Rattle.rmt_refine.specs.Cells.{IsSpotOf, IsTold, Spot}
 use Rattle.rmt_refine.specs.Units.{DoesAs, TableCarried, UnitsCarried, applied, table_at}
-use Rattle.rmt_refine.proofs.FindLaws.{All-contains, Contains-split}
-use Rattle.rmt_refine.proofs.NodeLaws.{one_place}
-use Rattle.rmt_refine.proofs.NumberLaws.{one_list}
-use Rattle.rmt_refine.proofs.PartLaws.{IsPart, part_of_spot, some_and, unit_of_part}
+use Rattle.rmt_refine.proofs.PartLaws.{IsPart, some_and, unit_of_part}
 use Rattle.rmt_build.specs.declared.memory.Need.{Need}
 use Rattle.rmt_build.specs.declared.memory.Taken.{Taken}
 use Rattle.rmt_build.specs.declared.plan.Plan.{Plan}
@@ -37,9 +30,7 @@ use Rattle.rmt_build.specs.Memories.{memory_for}
 use Rattle.rmt_build.specs.Numbers.{number_at}
 use Rattle.rmt_build.specs.Plans.{AreStands, format_at, need_in, stands_of_part, taken_upto}
 use Rattle.rmt_build.specs.Standing.{cells_for, stands_within}
-use Rattle.rmt_build.specs.Told.{cells_told}
-use Rattle.rmt_build.proofs.StandLaws.{behind_parts, entry_within, first_cell, one_stand, part_cells, within_from, within_to}
-use Rattle.rmt_build.proofs.ToldLaws.{listed_told, told_listed}
+use Rattle.rmt_build.proofs.StandLaws.{entry_within, first_cell, part_cells, within_from, within_to}
 use Rattle.rmt_refine.proofs.MemberLaws.{Contains-item, Contains-map, mapped_from}
 
 -- ---- entries by rising number

@@ -1,11 +1,9 @@
 -- Entries that stand each in one cell of their table: which of them stand in a part.
-use Rattle.std.proofs.Common.{◌≡◌, ◌≢◌, ℕ, zero, suc, ◌+◌, ◌-◌, ◌*◌, ◌<◌, ◌≤◌, ◌&&◌, ◌==◌, Bool, true, false, List, [], ◌∷◌, length, map, refl, sym, ap, ◌∙◌, subst, ◌⊎◌, inl, inr, arith}
-use Rattle.std.specs.Prelude.{All, AllPairs, Contains, filter, nat_le, nat_lt, sum_by}
+use Rattle.std.proofs.Common.{◌≡◌, ℕ, zero, suc, ◌+◌, ◌-◌, ◌<◌, ◌≤◌, ◌&&◌, ◌==◌, true, false, List, [], ◌∷◌, map, refl, sym, ap, ◌∙◌, subst, inl, inr, arith}
+use Rattle.std.specs.Prelude.{AllPairs, Contains, filter, nat_le, nat_lt}
 use Rattle.std.specs.List.{IsDistinct, range_with_len}
-use Rattle.std.specs.List.Sorted.{IsPermutation}
 use Rattle.std.proofs.lemmas.Bool.{and_parts, both_ways, cases_eq, cases_lt, eq-eqb, le-leb, leb-true, lt-ltb, ltb-true, ne_eqb}
 use Rattle.std.proofs.lemmas.List.Elements.{All-from_recursion}
-use Rattle.std.proofs.lemmas.List.FromFn.{length-range_with_len}
 use Rattle.std.proofs.lemmas.List.Sorted.{All-permutation, Contains-permutation}
 use Rattle.std.proofs.lemmas.Map.Keys.{IsDistinct-IsPermutation, IsDistinct-from_apart, IsDistinct-head, IsDistinct-tail}
 use Rattle.rmt_bits.proofs.AllLaws.{All-range}
@@ -14,7 +12,7 @@ use Rattle.rmt_ast.specs.declared.program.Kind.TheVariants.{Keyless, Exact, Pref
 use Rattle.rmt_pack.specs.declared.placement.Part.{Part}
 use Rattle.rmt_pack.specs.Placements.{quanta_in}
 use Rattle.rmt_pack.proofs.BlockLaws.{range-apart}
-use Rattle.rmt_refine.proofs.FindLaws.{All-contains, Contains-first, Contains-later, Contains-range, Contains-split, filter_keeps, filtered_there}
+use Rattle.rmt_refine.proofs.FindLaws.{All-contains, Contains-range, Contains-split, filter_keeps, filtered_there}
 use Rattle.rmt_build.specs.declared.stands.Stand.{Stand}
 use Rattle.rmt_build.specs.Plans.{quanta_before}
 use Rattle.rmt_build.specs.Standing.{StandOnce, cells_for, counted_from, stands_there, stands_within}

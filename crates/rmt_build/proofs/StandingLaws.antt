@@ -1,6 +1,6 @@
 -- The entries of parts.
-use Rattle.std.proofs.Common.{◌≡◌, ℕ, ◌+◌, ◌<◌, ◌≤◌, ◌∙◌, Bool, true, false, cond, List, [], ◌∷◌, Some, length, map, get_or, filter, refl, sym, ap, subst, arith}
-use Rattle.std.specs.Prelude.{All, ◌&&◌, nat_le, nat_lt, slice_get}
+use Rattle.std.proofs.Common.{◌≡◌, ℕ, ◌<◌, ◌∙◌, false, cond, List, [], ◌∷◌, map, filter, refl, ap, arith}
+use Rattle.std.specs.Prelude.{All, ◌&&◌, nat_le}
 use Rattle.std.specs.List.{range_with_len}
 use Rattle.std.proofs.Math.Bool.{and-false}
 use Rattle.std.proofs.lemmas.Bool.{le-ltb}

@@ -1,7 +1,7 @@
 -- The cells of each table hold its entries, as the map tells.
-use Rattle.std.proofs.Common.{◌≡◌, ◌≢◌, ℕ, zero, suc, ◌+◌, ◌*◌, ◌%◌, ◌<◌, ◌≤◌, ◌==◌, ◌&&◌, ◌||◌, Bool, true, false, List, [], ◌∷◌, Option, Some, None, length, map, get_or, refl, sym, ap, ◌∙◌, subst, ◌⊎◌, inl, inr, arith}
-use Rattle.std.specs.Prelude.{All, AllPairs, Contains, IsSomeAnd, ⊤, find, nat_lt, option_and_then, option_map, slice_get, unwrap_or}
-use Rattle.std.proofs.lemmas.Bool.{and_parts, both_ways, eq-eqb, eqb-true, false_from_ne_true, ltb-true, or_cases}
+use Rattle.std.proofs.Common.{◌≡◌, ◌≢◌, ℕ, ◌*◌, ◌<◌, ◌==◌, ◌&&◌, true, false, List, Option, Some, None, length, map, get_or, refl, sym, ap, ◌∙◌, subst, ◌⊎◌, inl, inr, arith}
+use Rattle.std.specs.Prelude.{All, Contains, IsSomeAnd, ⊤, find, nat_lt, option_and_then, option_map, slice_get, unwrap_or}
+use Rattle.std.proofs.lemmas.Bool.{and_parts, both_ways, eq-eqb, eqb-true, ltb-true, or_cases}
 use Rattle.std.proofs.lemmas.List.{get_or_default}
 use Rattle.std.proofs.lemmas.List.Elements.{Contains-get_or}
 use Rattle.std.proofs.lemmas.Option.{none-some, same_Some, slice_get_within}
@@ -42,7 +42,7 @@ use Rattle.rmt_build.specs.Plans.{AreStands, format_at, need_in, stands_of_part,
 use Rattle.rmt_build.specs.Promises.{HasRows}
 use Rattle.rmt_build.specs.Standing.{GoesFirst, StandInOrder, StandOnce, cells_for}
 use Rattle.rmt_build.specs.Told.{cells_told}
-use Rattle.rmt_build.proofs.CellsLaws.{each_stands, no_cells, one_spot, part_in, stands_told, table_entries, told_stands}
+use Rattle.rmt_build.proofs.CellsLaws.{each_stands, no_cells, one_spot, part_in, stands_told, told_stands}
 use Rattle.rmt_build.proofs.SpotLaws.{StandsAt, listed_stands, part_size, slot_built, stand_there, stands_listed, there_stands}
 use Rattle.rmt_build.proofs.StandLaws.{behind_parts, first_cell, one_cell, part_cells}
 use Rattle.rmt_refine.proofs.MemberLaws.{Contains-item}

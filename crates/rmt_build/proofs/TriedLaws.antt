@@ -26,7 +26,7 @@ use Rattle.rmt_refine.proofs.TheLaw.{its_terms}
 use Rattle.rmt_build.specs.declared.stands.Stand.{Stand}
 use Rattle.rmt_build.specs.declared.loading.TableTried.{TableTried}
 use Rattle.rmt_build.specs.declared.loading.TableTried.TheVariants.{Overfull, Stand as Standing}
-use Rattle.rmt_build.specs.Loads.{AreAllLoaded, AreLoadedBefore, IsFull, StandAt, StandBy, keys_of, layout_of}
+use Rattle.rmt_build.specs.Loads.{AreAllLoaded, AreLoaded, AreLoadedBefore, IsFull, StandAt, StandBy, keys_of, layout_of}
 use Rattle.rmt_build.specs.Standing.{StandOnce}
 use Rattle.rmt_build.specs.Tries.{IsTried, StandOrFull}
 
@@ -95,6 +95,12 @@ module _ (p : Program) (lists : List (List Entry)) (parts : List Part) (seed : �
       let stand = upto.each n es own.0 applies.entries own.1 in
       let by = subst (λ kind. StandBy p parts seed n t es kind own.0) applies.exact (subst (λ o. StandAt p parts seed n es o own.0) applies.table stand) in
       (by.0, by.1)
+
+  -- where the entries of all nodes stand, every exact table is loaded
+  pub all_loaded : (stands : List (List Stand)) → AreAllLoaded p lists parts seed stands → AreLoaded p lists parts seed
+  all_loaded stands all n t es applies =
+      let node = then_some (λ (x : Node). applied p x.what) (slice_get p.nodes n) t applies.table in
+      loaded_before (length p.nodes) stands (record { count = all.all_there; each = all.each }) n t es (slice_get_within p.nodes n node.0 node.1) applies
 
   -- a table that isn't
   pub is_full : (n members cells : ℕ) → AreEntries p lists → n < length p.nodes → StandOrFull p parts seed n (entries_at lists n) (table_at p n) (Overfull members cells) → IsFull p lists parts seed n members cells

@@ -52,14 +52,31 @@ pub record IsFull (p : Program) (lists : List (List Entry)) (parts : List Part) 
   pub overfull : IsOverfull (layout_of p parts n) seed (keys_of p table entries) own cells
   pub many : members ≡ length own
 
+-- under a seed the exact table of node n with these entries is loaded
+abbrev pub IsLoadedUnder : Program → List Part → ℕ → ℕ → Table → List Entry → Type 0
+IsLoadedUnder p parts seed n t es = (cells : List ℕ) × IsLoading (layout_of p parts n) seed (keys_of p t es) cells
+
 -- under a seed every exact table before node n is loaded
 abbrev pub AreLoadedBefore : Program → List (List Entry) → List Part → ℕ → ℕ → Type 0
-AreLoadedBefore p lists parts seed n =
-    (m : ℕ) (t : Table) (es : List Entry) → m < n → AppliesExact p lists m t es → (cells : List ℕ) × IsLoading (layout_of p parts m) seed (keys_of p t es) cells
+AreLoadedBefore p lists parts seed n = (m : ℕ) (t : Table) (es : List Entry) → m < n → AppliesExact p lists m t es → IsLoadedUnder p parts seed m t es
+
+-- under a seed every exact table is loaded
+abbrev pub AreLoaded : Program → List (List Entry) → List Part → ℕ → Type 0
+AreLoaded p lists parts seed = (n : ℕ) (t : Table) (es : List Entry) → AppliesExact p lists n t es → IsLoadedUnder p parts seed n t es
+
+-- under each seed that is less some exact table is full
+abbrev pub AreFullBefore : Program → List (List Entry) → List Part → ℕ → Type 0
+AreFullBefore p lists parts seed = (s : ℕ) → s < seed → (m : ℕ) × (count : ℕ) × (few : ℕ) × IsFull p lists parts s m count few
+
+-- one of the seeds 0 to 7 under which every exact table is loaded, where under each lesser one some table is full
+pub record IsFirstSeed (p : Program) (lists : List (List Entry)) (parts : List Part) (seed : ℕ) : Type 0 where
+  pub few : seed < 8
+  pub loaded : AreLoaded p lists parts seed
+  pub least : AreFullBefore p lists parts seed
 
 -- Under each of the seeds 0 to 7 some exact table is full; under seed 7 the first one is that of this node.
 pub record AreNotLoaded (p : Program) (lists : List (List Entry)) (parts : List Part) (n members cells : ℕ) : Type 0 where
-  pub each : (seed : ℕ) → seed < 8 → (m : ℕ) × (count : ℕ) × (few : ℕ) × IsFull p lists parts seed m count few
+  pub each : AreFullBefore p lists parts 8
   pub last : IsFull p lists parts 7 n members cells
   pub first : AreLoadedBefore p lists parts 7 n
 

@@ -1,5 +1,5 @@
 -- The numbers of the entries that stand in cells.
-use Rattle.std.specs.Prelude.{ℕ, List, option_map, unwrap_or, slice_get}
+use Rattle.std.specs.Prelude.{List, option_map, unwrap_or, slice_get}
 use Rattle.rmt_ast.specs.declared.entry.Entry.{Entry}
 use Rattle.rmt_config.specs.declared.config.CellNumber.{CellNumber}
 use Rattle.rmt_build.specs.declared.stands.Stand.{Stand}

@@ -1,5 +1,5 @@
 -- What the configuration of a program keeps beside carrying it.
-use Rattle.std.specs.Prelude.{◌≡◌, ◌<◌, ℕ, ◌+◌, ◌*◌, ⊤, List, Bool, false, ◌&&◌, ◌||◌, ◌==◌, nat_lt, Some, All, Contains, count_by, length, slice_get}
+use Rattle.std.specs.Prelude.{◌≡◌, ℕ, ◌+◌, ◌*◌, ⊤, List, Bool, false, ◌&&◌, ◌||◌, ◌==◌, nat_lt, Some, Contains, count_by, length, slice_get}
 use Rattle.std.specs.List.{flat_map, range_with_len}
 use Rattle.rmt_ast.specs.declared.program.Program.{Program}
 use Rattle.rmt_ast.specs.declared.program.Table.{Table}

@@ -1,5 +1,5 @@
 -- In which cells of its table each entry stands.
-use Rattle.std.specs.Prelude.{◌≡◌, ◌<◌, ◌⊎◌, ℕ, ◌+◌, ◌-◌, ◌*◌, List, [], Bool, ◌&&◌, nat_lt, nat_le, All, AllPairs, filter, map, length, slice_get, Some}
+use Rattle.std.specs.Prelude.{◌≡◌, ◌<◌, ◌⊎◌, ℕ, ◌+◌, ◌-◌, ◌*◌, List, Bool, ◌&&◌, nat_lt, nat_le, AllPairs, filter, map, length, slice_get, Some}
 use Rattle.std.specs.List.{range_with_len}
 use Rattle.std.specs.List.Sorted.{IsPermutation}
 use Rattle.rmt_ast.specs.declared.program.Kind.{Kind}

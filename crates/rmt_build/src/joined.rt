@@ -18,13 +18,13 @@ ghost use Rattle.rmt_phv.specs.Places.{KeepsApart};
 ghost use Rattle.rmt_place.specs.Needs.{demands_of, keeps_limits};
 ghost use Rattle.rmt_place.specs.Placing.{placement as placement_by_rule, standing_in};
 ghost use Rattle.rmt_place.specs.Starting.{starts_of};
+ghost use Rattle.rmt_ptcam.specs.Clustering.{clustered, clustered_or};
 ghost use Rattle.rmt_ptcam.specs.Needs.{refusal};
-ghost use Rattle.rmt_ptcam.specs.Plain.{plain, planned};
 ghost use Rattle.rmt_refine.specs.Carries.{Carries, all_edges};
 ghost use Rattle.rmt_refine.specs.Places.{PlacesCarried};
 ghost use Rattle.rmt_build.specs.Folds.{AreFoldings};
 ghost use Rattle.rmt_build.specs.BuiltStage.{IsBuiltStage};
-ghost use Rattle.rmt_build.specs.Loads.{AreNotLoaded};
+ghost use Rattle.rmt_build.specs.Loads.{AreNotLoaded, IsFirstSeed};
 ghost use Rattle.rmt_build.specs.Plans.{IsPlan};
 ghost use Rattle.rmt_build.specs.Promises.{HasBlocksInOrder, HasFormatOfRule, StandInRows};
 ghost use Rattle.rmt_build.specs.Refusals.{IsLate, first_refusal, stuck_told};
@@ -41,7 +41,7 @@ use crate::listing::{sram_rows, tcam_rows};
 use crate::loading::load_all;
 use crate::numbers::cells_of;
 use crate::plan::Plan;
-use crate::rows::write_units;
+use crate::rows::{PlannedStage, write_units};
 use crate::tcam::TcamRows;
 use crate::units::units_of;
 use rmt_ast::deps::Deps;
@@ -55,13 +55,14 @@ use rmt_pack::rows::Rows;
 use rmt_phv::pack_fields;
 use rmt_phv::places::Places;
 use rmt_place::{offsets, place};
-use rmt_ptcam::{parser_need, plain_parser};
+use rmt_ptcam::{clustered_parser, parser_need};
 use rmt_refine::map::Map;
 use rmt_vliw::folded::Folded;
 use std::alloc::{AllocError, Global};
 
 /// A program with its entries as the chip holds them: the configuration, the map of where everything stands in it, and a
-/// bound on the stages.
+/// bound on the stages. Frames are parsed by the clustered parser, and exact tables are loaded under the first of the seeds 0
+/// to 7 under which all of them are.
 ///
 /// # Errors
 ///
@@ -81,11 +82,13 @@ pub fn build(alloc: Global, program: &Program, entries: &EntryLists) -> Result<B
     ensures limits { IfOk result (λ b. IsWithinLimits b.config) }
     // Fields are packed, frames parsed, nodes placed and stages started by their rules.
     ensures places { IfOk result (λ b. packing program.now ≡ Ok b.map.places) }
-    ensures parser { IfOk result (λ b. planned program.now b.map.places ≡ Ok b.config.parser) }
+    ensures parser { IfOk result (λ b. clustered_or program.now b.map.places ≡ Ok b.config.parser) }
     ensures placement { IfOk result (λ b.
         placement_by_rule program.now b.map.places (dependencies_of program.now b.map.places) ≡ Ok b.map.placement.parts) }
     ensures starts { IfOk result (λ b. b.map.starts ≡ starts_of (all_edges program.now b.map.places) b.map.placement.parts) }
     ensures bound { IfOk result (λ b. b.bound ≡ stage_bound program.now (field_edges program.now b.map.places)) }
+    // All exact tables are loaded under its seed, and under no lesser one.
+    ensures seed { IfOk result (λ b. IsFirstSeed program.now entries.now b.map.placement.parts b.config.seed) }
     // Exact memories have the formats of the rule, blocks are numbered in the order of the units, and rows stand by rank.
     ensures formats { IfOk result (λ b. All (λ (s : Stage). All (HasFormatOfRule program.now) s.units) b.config.stages) }
     ensures blocks { IfOk result (λ b. All HasBlocksInOrder b.config.stages) }
@@ -106,7 +109,7 @@ pub fn build(alloc: Global, program: &Program, entries: &EntryLists) -> Result<B
     parser_need(program)?;
     let folded = fold_all(alloc, program)?;
     let places = pack_fields(alloc, program)?;
-    let parser = plain_parser(alloc, program, &places)?;
+    let parser = clustered_parser(alloc, program, &places)?;
     let deps = dependencies(alloc, program, &places)?;
     let plan = plan_of(alloc, program, entries, folded, places, &deps)?;
     built_of(alloc, program, entries, &deps, plan, parser)
@@ -125,9 +128,9 @@ fn built_of(
     requires entries { AreEntries program.now entries.now }
     requires no_tails { All (λ (h : Header). h.tail ≡ None) program.now.headers }
     requires plan { IsPlanByRule program.now entries.now plan }
-    requires seed { plan.seed < 8 }
+    requires seed { IsFirstSeed program.now entries.now plan.placement.parts plan.seed }
     requires fits { refusal program.now ≡ None }
-    requires parser { parser ≡ plain program.now plan.places }
+    requires parser { parser ≡ clustered program.now plan.places }
     requires agrees { AgreesWith parser plan.places program.now }
     requires deps { deps.now ≡ dependencies_of program.now plan.places }
     ensures carries { IfOk result (λ b. Carries program.now entries.now b.map b.config) }
@@ -138,6 +141,7 @@ fn built_of(
     ensures placement { IfOk result (λ b. b.map.placement ≡ plan.placement) }
     ensures starts { IfOk result (λ b. b.map.starts ≡ plan.starts) }
     ensures bound { IfOk result (λ b. b.bound ≡ stage_bound program.now deps.now.field) }
+    ensures seed { IfOk result (λ b. IsFirstSeed program.now entries.now b.map.placement.parts b.config.seed) }
     ensures formats { IfOk result (λ b. All (λ (s : Stage). All (HasFormatOfRule program.now) s.units) b.config.stages) }
     ensures blocks { IfOk result (λ b. All HasBlocksInOrder b.config.stages) }
     ensures rows { IfOk result (λ b. StandInRows program.now entries.now b.map.placement.parts b.map.cells) }
@@ -165,7 +169,7 @@ fn plan_of(
     requires places { KeepsApart program.now places }
     requires deps { deps.now ≡ dependencies_of program.now places }
     ensures plan { IfOk result (IsPlanByRule program.now entries.now) }
-    ensures seed { IfOk result (λ plan. plan.seed < 8) }
+    ensures seed { IfOk result (λ plan. IsFirstSeed program.now entries.now plan.placement.parts plan.seed) }
     ensures places { IfOk result (λ plan. plan.places ≡ places) }
     ensures late { IfErr result (IsLate (stuck_told (placement_by_rule program.now places deps.now))) }
     ensures stage { (node : ℕ) (hits : List LimitHit) → result ≡ Err (NoFit.Stage node hits) →
@@ -211,16 +215,13 @@ fn stage_of(
     let code = code_of(alloc, program, plan, units.as_slice())?;
     let mut sram = Rows::new(alloc)?;
     let mut tcam = TcamRows::new(alloc)?;
-    write_units(
-        alloc,
-        &mut sram,
-        &mut tcam,
+    let planned = PlannedStage {
         program,
         entries,
         plan,
         stage,
-        units.as_slice(),
-    )?;
+    };
+    write_units(alloc, &mut sram, &mut tcam, &planned, units.as_slice())?;
     let srows = sram_rows(alloc, &sram)?;
     let trows = tcam_rows(alloc, &tcam)?;
     Ok(Stage {

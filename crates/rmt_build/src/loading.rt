@@ -11,7 +11,7 @@ ghost use Rattle.rmt_ast.specs.State.{width_of};
 ghost use Rattle.rmt_ast.specs.WellFormed.{IsKeyed, IsProgram, IsTest};
 ghost use Rattle.rmt_pack.specs.Placements.{quanta_in as quanta_of};
 ghost use Rattle.rmt_place.specs.Placing.{AreTwo};
-ghost use Rattle.rmt_build.specs.Loads.{AreAllLoaded, IsNotLoaded, keys_of as keys_as_bytes, layout_in, ways_for};
+ghost use Rattle.rmt_build.specs.Loads.{AreAllLoaded, IsFirstSeed, IsNotLoaded, keys_of as keys_as_bytes, layout_in, ways_for};
 ghost use Rattle.rmt_build.specs.Plans.{AreParts, format_at, formats_of};
 ghost use Rattle.rmt_build.specs.Tries.{AreTried, IsTried, StandOrFull};
 ghost use Rattle.rmt_refine.specs.Outcomes.{entries_at};
@@ -63,6 +63,15 @@ enum Tried {
 enum TableTried {
     Stand(Stands),
     Overfull { members: u32, cells: u64 },
+}
+
+/// The table that a node applies, with its entries and the format of its memory.
+#[derive(Clone, Copy)]
+struct NodeTable<'a> {
+    node: u32,
+    table: &'a Table,
+    entries: &'a [Entry],
+    format: &'a Format,
 }
 
 /// Adds the part of so many quanta, if there are any.
@@ -148,23 +157,20 @@ fn load_exact(
 fn try_exact(
     alloc: Global,
     program: &Program,
-    table: &Table,
-    entries: &[Entry],
     parts: &[Part],
-    node: u32,
-    format: &Format,
+    own: &NodeTable,
     seed: u8,
 ) -> Result<TableTried, AllocError>
     requires program { IsProgram program.now }
-    requires table { table_at program.now node ≡ Some table.now }
-    requires exact { table.now.kind ≡ Exact }
-    requires entries { AreTableEntries node entries.now (terms_of program.now table.now) }
-    requires format { format.now ≡ format_at program.now node }
+    requires table { table_at program.now own.now.node ≡ Some own.now.table.now }
+    requires exact { own.now.table.now.kind ≡ Exact }
+    requires entries { AreTableEntries own.now.node own.now.entries.now (terms_of program.now own.now.table.now) }
+    requires format { own.now.format.now ≡ format_at program.now own.now.node }
     requires parts { AreParts program.now parts.now }
-    ensures { IfOk result (StandOrFull program.now parts.now seed node entries.now (Some table.now)) }
+    ensures { IfOk result (StandOrFull program.now parts.now seed own.now.node own.now.entries.now (Some own.now.table.now)) }
 {
-    let layout = layout_of(alloc, parts, node, format)?;
-    let keys = keys_of(alloc, program, table, entries)?;
+    let layout = layout_of(alloc, parts, own.node, own.format)?;
+    let keys = keys_of(alloc, program, own.table, own.entries)?;
     let tried = load_exact(alloc, &layout, &keys, seed)?;
     Ok(tried)
 }
@@ -173,25 +179,22 @@ fn try_exact(
 fn try_table(
     alloc: Global,
     program: &Program,
-    table: &Table,
-    entries: &[Entry],
     parts: &[Part],
-    node: u32,
-    format: &Format,
+    own: &NodeTable,
     seed: u8,
 ) -> Result<TableTried, AllocError>
     requires program { IsProgram program.now }
-    requires table { table_at program.now node ≡ Some table.now }
-    requires entries { AreTableEntries node entries.now (terms_of program.now table.now) }
-    requires format { format.now ≡ format_at program.now node }
+    requires table { table_at program.now own.now.node ≡ Some own.now.table.now }
+    requires entries { AreTableEntries own.now.node own.now.entries.now (terms_of program.now own.now.table.now) }
+    requires format { own.now.format.now ≡ format_at program.now own.now.node }
     requires parts { AreParts program.now parts.now }
-    ensures { IfOk result (StandOrFull program.now parts.now seed node entries.now (Some table.now)) }
+    ensures { IfOk result (StandOrFull program.now parts.now seed own.now.node own.now.entries.now (Some own.now.table.now)) }
 {
-    match table.kind {
+    match own.table.kind {
         Kind::Keyless => Ok(TableTried::Stand(Sequence::new(alloc))),
-        Kind::Exact => try_exact(alloc, program, table, entries, parts, node, format, seed),
+        Kind::Exact => try_exact(alloc, program, parts, own, seed),
         Kind::Prefix | Kind::Ternary => {
-            let stands = in_order(alloc, table.kind, entries)?;
+            let stands = in_order(alloc, own.table.kind, own.entries)?;
             Ok(TableTried::Stand(stands))
         }
     }
@@ -226,16 +229,13 @@ fn try_node(
         return Ok(TableTried::Stand(Sequence::new(alloc)));
     };
     let own = entries.as_slice()[node].as_slice();
-    try_table(
-        alloc,
-        program,
+    let own = NodeTable {
+        node: node as u32,
         table,
-        own,
-        parts,
-        node as u32,
-        &formats[node],
-        seed,
-    )
+        entries: own,
+        format: &formats[node],
+    };
+    try_table(alloc, program, parts, &own, seed)
 }
 
 /// Puts the entries of all nodes into cells, under a seed.
@@ -287,7 +287,7 @@ pub fn load_all(
     requires formats { formats.now ≡ formats_of program.now }
     requires parts { AreParts program.now parts.now }
     ensures loaded { IfOk result (λ loaded. AreAllLoaded program.now entries.now parts.now loaded.seed loaded.stands) }
-    ensures seed { IfOk result (λ loaded. loaded.seed < 8) }
+    ensures seed { IfOk result (λ loaded. IsFirstSeed program.now entries.now parts.now loaded.seed) }
     ensures refused { IfErr result (λ e. IsNotLoaded program.now entries.now parts.now e) }
 {
     for seed in 0..7 {

@@ -1,6 +1,6 @@
 //! What the memories of a stage hold.
 
-ghost use Rattle.std.specs.Prelude.{◌≡◌, ◌≢◌, ◌+◌, ◌*◌, ◌^◌, ◌/◌, ◌<◌, ◌≤◌, ◌++◌, ℕ, [], All, AllPairs, Contains, IfOk, OnOk, length, map, slice_index, sum, sum_by};
+ghost use Rattle.std.specs.Prelude.{◌≡◌, ◌≢◌, ◌+◌, ◌*◌, ◌^◌, ◌/◌, ◌<◌, ◌≤◌, ◌++◌, ℕ, [], All, AllPairs, Contains, IfOk, OnOk, length, map, slice_get, slice_index, sum, sum_by, Some};
 ghost use Rattle.std.specs.List.{AllZip};
 ghost use Rattle.rmt_ast.specs.declared.program.Test.{Test};
 ghost use Rattle.rmt_ast.specs.EntryLists.{AreEntries, params_of as params_by};
@@ -43,6 +43,38 @@ use rmt_pack::record::write_record;
 use rmt_pack::rows::Rows;
 use rmt_pack::shape::{EXACT, Shape, TERNARY};
 use std::alloc::{AllocError, Global};
+
+/// A stage of a plan for a program with these entries.
+#[derive(Clone, Copy)]
+pub struct PlannedStage<'a> {
+    /// The program.
+    pub program: &'a Program,
+    /// The entries of each of its nodes.
+    pub entries: &'a EntryLists,
+    /// Where everything is to stand.
+    pub plan: &'a Plan,
+    /// The number of the stage, 0 to 31.
+    pub stage: u32,
+}
+
+/// The entries of a part: those of a table of a program, where they stand, and the number in the stage of the first
+/// instruction of the table.
+#[derive(Clone, Copy)]
+struct PartEntries<'a> {
+    program: &'a Program,
+    table: &'a Table,
+    entries: &'a [Entry],
+    stands: &'a [Stand],
+    first: u8,
+}
+
+/// An entry of a part, with the widths of its action's parameters and the number in the stage of its instruction.
+#[derive(Clone, Copy)]
+struct PlacedEntry<'a> {
+    entry: &'a Entry,
+    params: &'a [u8],
+    code: u8,
+}
 
 /// A list of blocks with the same blocks.
 fn copied(alloc: Global, blocks: &Bytes) -> Result<Bytes, AllocError>
@@ -103,36 +135,40 @@ fn ternary_shape(
     })
 }
 
-/// Writes an entry into its cell of an exact part. Its instruction has this number in the stage.
+/// Writes an entry into its cell of an exact part.
 fn write_exact(
     alloc: Global,
     sram: &mut Rows,
     shape: &Shape,
     cell: u32,
-    code: u8,
     widths: &[u8],
-    params: &[u8],
-    entry: &Entry,
+    placed: &PlacedEntry,
 ) -> Result<(), AllocError>
     requires shape { IsShape shape.now }
     requires exact { shape.now.memory ≡ 1 }
     requires cell { cell < cells_in shape.now }
-    requires code { code < 32 }
+    requires code { placed.now.code < 32 }
     requires key { shape.now.key ≡ sum widths.now }
-    requires held { sum params.now ≤ shape.now.held }
+    requires held { sum placed.now.params.now ≤ shape.now.held }
     requires widths { All (λ w. w ≤ 128) widths.now }
-    requires params { All (λ w. w ≤ 128) params.now }
-    requires tests { AllZip IsTest widths.now entry.now.tests }
-    requires args { AllZip Fits params.now entry.now.args }
+    requires params { All (λ w. w ≤ 128) placed.now.params.now }
+    requires tests { AllZip IsTest widths.now placed.now.entry.now.tests }
+    requires args { AllZip Fits placed.now.params.now placed.now.entry.now.args }
     ensures { OnOk result (PutsCell (blocks_of sram.old) (blocks_of sram.new) shape.now cell
-        (head_for code + 256 * tests_as_one (λ (t : Test). t.value) widths.now entry.now.tests) (data_of params.now entry.now.args)) }
+        (head_for placed.now.code + 256 * tests_as_one (λ (t : Test). t.value) widths.now placed.now.entry.now.tests) (data_of placed.now.params.now placed.now.entry.now.args)) }
 {
-    let key = key_bytes(alloc, widths, entry.tests.as_slice())?;
-    let held = record_bytes(alloc, shape.held as u32, 0, params, entry.args.as_slice())?;
+    let key = key_bytes(alloc, widths, placed.entry.tests.as_slice())?;
+    let held = record_bytes(
+        alloc,
+        shape.held as u32,
+        0,
+        placed.params,
+        placed.entry.args.as_slice(),
+    )?;
     let head = Head {
         occupied: true,
         visible: 0,
-        code,
+        code: placed.code,
     };
     write_cell(sram, shape, cell, head, key.as_slice());
     write_record(sram, shape, cell, held.as_slice());
@@ -171,30 +207,28 @@ fn headed_bytes(
     Ok(bytes)
 }
 
-/// Writes the head and the data of an entry into its record of a ternary part. Its instruction has this number in the stage.
+/// Writes the head and the data of an entry into its record of a ternary part.
 fn write_head(
     alloc: Global,
     sram: &mut Rows,
     shape: &Shape,
     cell: u32,
-    code: u8,
-    params: &[u8],
-    entry: &Entry,
+    placed: &PlacedEntry,
 ) -> Result<(), AllocError>
     requires shape { IsShape shape.now }
     requires cell { cell < cells_in shape.now }
-    requires code { code < 32 }
-    requires held { 8 + sum params.now ≤ shape.now.held }
-    requires params { All (λ w. w ≤ 128) params.now }
-    requires args { AllZip Fits params.now entry.now.args }
-    ensures { OnOk result (PutsRecord (blocks_of sram.old) (blocks_of sram.new) shape.now cell (head_for code + 256 * data_of params.now entry.now.args)) }
+    requires code { placed.now.code < 32 }
+    requires held { 8 + sum placed.now.params.now ≤ shape.now.held }
+    requires params { All (λ w. w ≤ 128) placed.now.params.now }
+    requires args { AllZip Fits placed.now.params.now placed.now.entry.now.args }
+    ensures { OnOk result (PutsRecord (blocks_of sram.old) (blocks_of sram.new) shape.now cell (head_for placed.now.code + 256 * data_of placed.now.params.now placed.now.entry.now.args)) }
 {
     let held = headed_bytes(
         alloc,
         shape.held as u32,
-        code,
-        params,
-        entry.args.as_slice(),
+        placed.code,
+        placed.params,
+        placed.entry.args.as_slice(),
     )?;
     write_record(sram, shape, cell, held.as_slice());
     Ok(())
@@ -214,188 +248,180 @@ fn params_of<'a>(program: &'a Program, table: &Table, entry: &Entry) -> &'a [u8]
         .as_slice()
 }
 
-/// Writes entries into the cells of an exact part. The first instruction of the part has this number in the stage.
+/// The entry of a part with this number.
+fn placed_entry<'a>(part: &PartEntries<'a>, number: usize) -> PlacedEntry<'a>
+    requires program { IsProgram part.now.program.now }
+    requires table { IsTable part.now.program.now part.now.table.now }
+    requires entries { AreOf part.now.program.now part.now.table.now part.now.entries.now }
+    requires few { part.now.first + length part.now.table.now.actions ≤ 32 }
+    requires number { number < length part.now.entries.now }
+    ensures entry { slice_get part.now.entries.now number ≡ Some result.entry.now }
+    ensures params { result.params.now ≡ params_by part.now.program.now (slice_index part.now.table.now.actions result.entry.now.action) }
+    ensures widths { All (λ w. w ≤ 128) result.params.now }
+    ensures code { result.code ≡ part.now.first + result.entry.now.action }
+{
+    let entry = &part.entries[number];
+    PlacedEntry {
+        entry,
+        params: params_of(part.program, part.table, entry),
+        code: part.first + entry.action as u8,
+    }
+}
+
+/// Writes entries into the cells of an exact part.
 fn write_cells(
     alloc: Global,
     sram: &mut Rows,
-    program: &Program,
-    table: &Table,
-    entries: &[Entry],
-    stands: &[Stand],
+    part: &PartEntries,
     shape: &Shape,
     widths: &[u8],
-    first: u8,
 ) -> Result<(), AllocError>
-    requires program { IsProgram program.now }
-    requires table { IsTable program.now table.now }
-    requires entries { AreOf program.now table.now entries.now }
-    requires stands { StandApart (length entries.now) (cells_in shape.now) stands.now }
+    requires program { IsProgram part.now.program.now }
+    requires table { IsTable part.now.program.now part.now.table.now }
+    requires entries { AreOf part.now.program.now part.now.table.now part.now.entries.now }
+    requires stands { StandApart (length part.now.entries.now) (cells_in shape.now) part.now.stands.now }
     requires shape { IsShape shape.now }
     requires exact { shape.now.memory ≡ 1 }
-    requires key { shape.now.key ≡ bits_of_key program.now table.now }
-    requires held { shape.now.held ≡ bits_of_data program.now table.now }
-    requires widths { widths.now ≡ map (width_of program.now) table.now.key }
-    requires few { first + length table.now.actions ≤ 32 }
+    requires key { shape.now.key ≡ bits_of_key part.now.program.now part.now.table.now }
+    requires held { shape.now.held ≡ bits_of_data part.now.program.now part.now.table.now }
+    requires widths { widths.now ≡ map (width_of part.now.program.now) part.now.table.now.key }
+    requires few { part.now.first + length part.now.table.now.actions ≤ 32 }
     requires zeros { (b r : ℕ) → Contains (shape.now.keys ++ shape.now.records) b → blocks_of sram.old b r ≡ 0 }
-    ensures holds { OnOk result (ExactSo program.now table.now entries.now first (blocks_of sram.new) shape.now stands.now) }
+    ensures holds { OnOk result (ExactSo part.now.program.now part.now.table.now part.now.entries.now part.now.first (blocks_of sram.new) shape.now part.now.stands.now) }
     ensures others { OnOk result ((b r : ℕ) → (Contains (shape.now.keys ++ shape.now.records) b → ⊥) → blocks_of sram.new b r ≡ blocks_of sram.old b r) }
 {
-    for stand in stands {
-        let entry = &entries[stand.entry as usize];
-        let params = params_of(program, table, entry);
-        let code = first + entry.action as u8;
-        write_exact(alloc, sram, shape, stand.cell, code, widths, params, entry)?;
+    for stand in part.stands {
+        let placed = placed_entry(part, stand.entry as usize);
+        write_exact(alloc, sram, shape, stand.cell, widths, &placed)?;
     }
     Ok(())
 }
 
-/// Writes entries into the rows of a ternary part with these TCAM blocks. The first instruction of the part has this number in the stage.
+/// Writes entries into the rows of a ternary part with these TCAM blocks.
 fn write_rows(
     alloc: Global,
     sram: &mut Rows,
     tcam: &mut TcamRows,
-    program: &Program,
-    table: &Table,
-    entries: &[Entry],
-    stands: &[Stand],
+    part: &PartEntries,
     shape: &Shape,
     blocks: &[u8],
     widths: &Bytes,
-    first: u8,
 ) -> Result<(), PackFault>
-    requires program { IsProgram program.now }
-    requires table { IsTable program.now table.now }
-    requires entries { AreOf program.now table.now entries.now }
-    requires stands { StandApart (length entries.now) (cells_in shape.now) stands.now }
+    requires program { IsProgram part.now.program.now }
+    requires table { IsTable part.now.program.now part.now.table.now }
+    requires entries { AreOf part.now.program.now part.now.table.now part.now.entries.now }
+    requires stands { StandApart (length part.now.entries.now) (cells_in shape.now) part.now.stands.now }
     requires shape { IsShape shape.now }
     requires ternary { shape.now.memory ≡ 2 }
-    requires key { shape.now.key ≡ bits_of_key program.now table.now }
-    requires held { shape.now.held ≡ bits_of_data program.now table.now + 8 }
-    requires widths { widths.now ≡ map (width_of program.now) table.now.key }
-    requires few { first + length table.now.actions ≤ 32 }
-    requires blocks { AreKeyBlocks (bits_of_key program.now table.now) shape.now.quanta blocks.now }
+    requires key { shape.now.key ≡ bits_of_key part.now.program.now part.now.table.now }
+    requires held { shape.now.held ≡ bits_of_data part.now.program.now part.now.table.now + 8 }
+    requires widths { widths.now ≡ map (width_of part.now.program.now) part.now.table.now.key }
+    requires few { part.now.first + length part.now.table.now.actions ≤ 32 }
+    requires blocks { AreKeyBlocks (bits_of_key part.now.program.now part.now.table.now) shape.now.quanta blocks.now }
     requires zeros { (b r : ℕ) → Contains shape.now.records b → blocks_of sram.old b r ≡ 0 }
     requires zero_values { (b r : ℕ) → Contains blocks.now b → values_of tcam.old b r ≡ 0 }
     requires zero_masks { (b r : ℕ) → Contains blocks.now b → masks_of tcam.old b r ≡ 0 }
-    ensures holds { OnOk result (TernarySo program.now table.now entries.now first
-        (record { sram = blocks_of sram.new; values = values_of tcam.new; masks = masks_of tcam.new }) shape.now blocks.now stands.now) }
+    ensures holds { OnOk result (TernarySo part.now.program.now part.now.table.now part.now.entries.now part.now.first
+        (record { sram = blocks_of sram.new; values = values_of tcam.new; masks = masks_of tcam.new }) shape.now blocks.now part.now.stands.now) }
     ensures others { OnOk result ((b r : ℕ) → (Contains shape.now.records b → ⊥) → blocks_of sram.new b r ≡ blocks_of sram.old b r) }
     ensures other_values { OnOk result ((b r : ℕ) → (Contains blocks.now b → ⊥) → values_of tcam.new b r ≡ values_of tcam.old b r) }
     ensures other_masks { OnOk result ((b r : ℕ) → (Contains blocks.now b → ⊥) → masks_of tcam.new b r ≡ masks_of tcam.old b r) }
 {
-    for stand in stands {
-        let entry = &entries[stand.entry as usize];
-        let params = params_of(program, table, entry);
-        let code = first + entry.action as u8;
-        write_tests(alloc, tcam, blocks, stand.cell, widths, &entry.tests)?;
-        write_head(alloc, sram, shape, stand.cell, code, params, entry)?;
+    for stand in part.stands {
+        let placed = placed_entry(part, stand.entry as usize);
+        write_tests(alloc, tcam, blocks, stand.cell, widths, &placed.entry.tests)?;
+        write_head(alloc, sram, shape, stand.cell, &placed)?;
     }
     Ok(())
 }
 
-/// Writes entries into an exact part. The first instruction of the part has this number in the stage.
+/// Writes entries into an exact part.
 fn write_exact_part(
     alloc: Global,
     sram: &mut Rows,
-    program: &Program,
-    table: &Table,
-    entries: &[Entry],
-    stands: &[Stand],
+    part: &PartEntries,
     width: u8,
     per: u16,
     quanta: u8,
     keys: &Bytes,
     records: &Bytes,
-    first: u8,
 ) -> Result<(), AllocError>
-    requires program { IsProgram program.now }
-    requires table { IsTable program.now table.now }
-    requires kind { table.now.kind ≢ Kind.Keyless }
-    requires entries { AreOf program.now table.now entries.now }
-    requires shape { IsShape (exact_part (bits_of_key program.now table.now) (bits_of_data program.now table.now) width per quanta keys.now records.now) }
-    requires stands { StandApart (length entries.now) (4096 * quanta * per) stands.now }
-    requires few { first + length table.now.actions ≤ 32 }
+    requires program { IsProgram part.now.program.now }
+    requires table { IsTable part.now.program.now part.now.table.now }
+    requires kind { part.now.table.now.kind ≢ Kind.Keyless }
+    requires entries { AreOf part.now.program.now part.now.table.now part.now.entries.now }
+    requires shape { IsShape (exact_part (bits_of_key part.now.program.now part.now.table.now) (bits_of_data part.now.program.now part.now.table.now) width per quanta keys.now records.now) }
+    requires stands { StandApart (length part.now.entries.now) (4096 * quanta * per) part.now.stands.now }
+    requires few { part.now.first + length part.now.table.now.actions ≤ 32 }
     requires zeros { (b r : ℕ) → Contains (keys.now ++ records.now) b → blocks_of sram.old b r ≡ 0 }
-    ensures holds { OnOk result (ExactSo program.now table.now entries.now first (blocks_of sram.new)
-        (exact_part (bits_of_key program.now table.now) (bits_of_data program.now table.now) width per quanta keys.now records.now) stands.now) }
+    ensures holds { OnOk result (ExactSo part.now.program.now part.now.table.now part.now.entries.now part.now.first (blocks_of sram.new)
+        (exact_part (bits_of_key part.now.program.now part.now.table.now) (bits_of_data part.now.program.now part.now.table.now) width per quanta keys.now records.now) part.now.stands.now) }
     ensures others { OnOk result ((b r : ℕ) → (Contains (keys.now ++ records.now) b → ⊥) → blocks_of sram.new b r ≡ blocks_of sram.old b r) }
 {
-    let widths = widths_of(alloc, program, table.key.as_slice())?;
-    let key = key_bits(program, table) as u16;
-    let held = data_bits(program, table) as u16;
+    let widths = widths_of(alloc, part.program, part.table.key.as_slice())?;
+    let key = key_bits(part.program, part.table) as u16;
+    let held = data_bits(part.program, part.table) as u16;
     let shape = exact_shape(alloc, key, held, width, per, quanta, keys, records)?;
     let widths = widths.as_slice();
-    write_cells(
-        alloc, sram, program, table, entries, stands, &shape, widths, first,
-    )?;
+    write_cells(alloc, sram, part, &shape, widths)?;
     Ok(())
 }
 
-/// Writes entries into a ternary part. The first instruction of the part has this number in the stage.
+/// Writes entries into a ternary part.
 fn write_ternary_part(
     alloc: Global,
     sram: &mut Rows,
     tcam: &mut TcamRows,
-    program: &Program,
-    table: &Table,
-    entries: &[Entry],
-    stands: &[Stand],
+    part: &PartEntries,
     quanta: u8,
     keys: &Bytes,
     records: &Bytes,
-    first: u8,
 ) -> Result<(), PackFault>
-    requires program { IsProgram program.now }
-    requires table { IsTable program.now table.now }
-    requires kind { table.now.kind ≢ Kind.Keyless }
-    requires entries { AreOf program.now table.now entries.now }
-    requires shape { IsShape (ternary_part (bits_of_key program.now table.now) (bits_of_data program.now table.now) quanta records.now) }
-    requires keys { AreKeyBlocks (bits_of_key program.now table.now) quanta keys.now }
-    requires stands { StandApart (length entries.now) (2048 * quanta) stands.now }
-    requires few { first + length table.now.actions ≤ 32 }
+    requires program { IsProgram part.now.program.now }
+    requires table { IsTable part.now.program.now part.now.table.now }
+    requires kind { part.now.table.now.kind ≢ Kind.Keyless }
+    requires entries { AreOf part.now.program.now part.now.table.now part.now.entries.now }
+    requires shape { IsShape (ternary_part (bits_of_key part.now.program.now part.now.table.now) (bits_of_data part.now.program.now part.now.table.now) quanta records.now) }
+    requires keys { AreKeyBlocks (bits_of_key part.now.program.now part.now.table.now) quanta keys.now }
+    requires stands { StandApart (length part.now.entries.now) (2048 * quanta) part.now.stands.now }
+    requires few { part.now.first + length part.now.table.now.actions ≤ 32 }
     requires zeros { (b r : ℕ) → Contains records.now b → blocks_of sram.old b r ≡ 0 }
     requires zero_values { (b r : ℕ) → Contains keys.now b → values_of tcam.old b r ≡ 0 }
     requires zero_masks { (b r : ℕ) → Contains keys.now b → masks_of tcam.old b r ≡ 0 }
-    ensures holds { OnOk result (TernarySo program.now table.now entries.now first
+    ensures holds { OnOk result (TernarySo part.now.program.now part.now.table.now part.now.entries.now part.now.first
         (record { sram = blocks_of sram.new; values = values_of tcam.new; masks = masks_of tcam.new })
-        (ternary_part (bits_of_key program.now table.now) (bits_of_data program.now table.now) quanta records.now) keys.now stands.now) }
+        (ternary_part (bits_of_key part.now.program.now part.now.table.now) (bits_of_data part.now.program.now part.now.table.now) quanta records.now) keys.now part.now.stands.now) }
     ensures others { OnOk result ((b r : ℕ) → (Contains records.now b → ⊥) → blocks_of sram.new b r ≡ blocks_of sram.old b r) }
     ensures other_values { OnOk result ((b r : ℕ) → (Contains keys.now b → ⊥) → values_of tcam.new b r ≡ values_of tcam.old b r) }
     ensures other_masks { OnOk result ((b r : ℕ) → (Contains keys.now b → ⊥) → masks_of tcam.new b r ≡ masks_of tcam.old b r) }
 {
-    let widths = widths_of(alloc, program, table.key.as_slice())?;
-    let key = key_bits(program, table) as u16;
-    let held = data_bits(program, table) as u16;
+    let widths = widths_of(alloc, part.program, part.table.key.as_slice())?;
+    let key = key_bits(part.program, part.table) as u16;
+    let held = data_bits(part.program, part.table) as u16;
     let shape = ternary_shape(alloc, key, held, quanta, records)?;
     let keys = keys.as_slice();
-    write_rows(
-        alloc, sram, tcam, program, table, entries, stands, &shape, keys, &widths, first,
-    )?;
+    write_rows(alloc, sram, tcam, part, &shape, keys, &widths)?;
     Ok(())
 }
 
-/// Writes entries into a part with this memory. The first instruction of the part has this number in the stage.
+/// Writes entries into a part with this memory.
 fn write_part(
     alloc: Global,
     sram: &mut Rows,
     tcam: &mut TcamRows,
-    program: &Program,
-    table: &Table,
-    entries: &[Entry],
-    stands: &[Stand],
+    part: &PartEntries,
     memory: &Memory,
-    first: u8,
 ) -> Result<(), PackFault>
-    requires program { IsProgram program.now }
-    requires table { IsTable program.now table.now }
-    requires entries { AreOf program.now table.now entries.now }
-    requires blocks { HasBlocks program.now table.now memory.now }
-    requires stands { StandApart (length entries.now) (cells_in_memory memory.now) stands.now }
-    requires few { first + length table.now.actions ≤ 32 }
+    requires program { IsProgram part.now.program.now }
+    requires table { IsTable part.now.program.now part.now.table.now }
+    requires entries { AreOf part.now.program.now part.now.table.now part.now.entries.now }
+    requires blocks { HasBlocks part.now.program.now part.now.table.now memory.now }
+    requires stands { StandApart (length part.now.entries.now) (cells_in_memory memory.now) part.now.stands.now }
+    requires few { part.now.first + length part.now.table.now.actions ≤ 32 }
     requires zeros { (b r : ℕ) → Contains (memory_sram_blocks memory.now) b → blocks_of sram.old b r ≡ 0 }
     requires zero_values { (b r : ℕ) → Contains (memory_tcam_blocks memory.now) b → values_of tcam.old b r ≡ 0 }
     requires zero_masks { (b r : ℕ) → Contains (memory_tcam_blocks memory.now) b → masks_of tcam.old b r ≡ 0 }
-    ensures holds { OnOk result (PartHolds program.now table.now entries.now stands.now first (bits_of_key program.now table.now) (bits_of_data program.now table.now)
+    ensures holds { OnOk result (PartHolds part.now.program.now part.now.table.now part.now.entries.now part.now.stands.now part.now.first (bits_of_key part.now.program.now part.now.table.now) (bits_of_data part.now.program.now part.now.table.now)
         (record { sram = blocks_of sram.new; values = values_of tcam.new; masks = masks_of tcam.new }) memory.now) }
     ensures others { OnOk result ((b r : ℕ) → (Contains (memory_sram_blocks memory.now) b → ⊥) → blocks_of sram.new b r ≡ blocks_of sram.old b r) }
     ensures other_values { OnOk result ((b r : ℕ) → (Contains (memory_tcam_blocks memory.now) b → ⊥) → values_of tcam.new b r ≡ values_of tcam.old b r) }
@@ -411,10 +437,7 @@ fn write_part(
             records,
             ..
         } => {
-            write_exact_part(
-                alloc, sram, program, table, entries, stands, *width, *per, *quanta, keys, records,
-                first,
-            )?;
+            write_exact_part(alloc, sram, part, *width, *per, *quanta, keys, records)?;
             Ok(())
         }
         Memory::Ternary {
@@ -423,9 +446,7 @@ fn write_part(
             records,
             ..
         } => {
-            write_ternary_part(
-                alloc, sram, tcam, program, table, entries, stands, *quanta, keys, records, first,
-            )?;
+            write_ternary_part(alloc, sram, tcam, part, *quanta, keys, records)?;
             Ok(())
         }
     }
@@ -436,44 +457,46 @@ fn write_slot(
     alloc: Global,
     sram: &mut Rows,
     tcam: &mut TcamRows,
-    program: &Program,
-    entries: &EntryLists,
-    plan: &Plan,
-    stage: u32,
+    planned: &PlannedStage,
     slot: &SlotUnit,
     first: u8,
 ) -> Result<(), PackFault>
-    requires program { IsProgram program.now }
-    requires entries { AreEntries program.now entries.now }
-    requires plan { IsPlan program.now entries.now plan.now }
-    requires stage { stage < 32 }
-    requires slot { SlotFits program.now entries.now plan.now stage slot.now }
+    requires program { IsProgram planned.now.program.now }
+    requires entries { AreEntries planned.now.program.now planned.now.entries.now }
+    requires plan { IsPlan planned.now.program.now planned.now.entries.now planned.now.plan.now }
+    requires stage { planned.now.stage < 32 }
+    requires slot { SlotFits planned.now.program.now planned.now.entries.now planned.now.plan.now planned.now.stage slot.now }
     requires few { first + slot.now.actions ≤ 32 }
     requires zeros { (b r : ℕ) → Contains (memory_sram_blocks slot.now.memory) b → blocks_of sram.old b r ≡ 0 }
     requires zero_values { (b r : ℕ) → Contains (memory_tcam_blocks slot.now.memory) b → values_of tcam.old b r ≡ 0 }
     requires zero_masks { (b r : ℕ) → Contains (memory_tcam_blocks slot.now.memory) b → masks_of tcam.old b r ≡ 0 }
-    ensures written { OnOk result (SlotWritten program.now entries.now plan.now stage first
+    ensures written { OnOk result (SlotWritten planned.now.program.now planned.now.entries.now planned.now.plan.now planned.now.stage first
         (record { sram = blocks_of sram.new; values = values_of tcam.new; masks = masks_of tcam.new }) slot.now) }
     ensures others { OnOk result ((b r : ℕ) → (Contains (memory_sram_blocks slot.now.memory) b → ⊥) → blocks_of sram.new b r ≡ blocks_of sram.old b r) }
     ensures other_values { OnOk result ((b r : ℕ) → (Contains (memory_tcam_blocks slot.now.memory) b → ⊥) → values_of tcam.new b r ≡ values_of tcam.old b r) }
     ensures other_masks { OnOk result ((b r : ℕ) → (Contains (memory_tcam_blocks slot.now.memory) b → ⊥) → masks_of tcam.new b r ≡ masks_of tcam.old b r) }
 {
     let node = slot.node as usize;
+    let program = planned.program;
     if let Some(table) = applied(program, &program.nodes.as_slice()[node]) {
-        let own = entries.as_slice()[node].as_slice();
-        let stands = stands_in(alloc, program, plan, table, node as u32, stage)?;
-        let stands = stands.as_slice();
-        write_part(
+        let own = planned.entries.as_slice()[node].as_slice();
+        let stands = stands_in(
             alloc,
-            sram,
-            tcam,
+            program,
+            planned.plan,
+            table,
+            node as u32,
+            planned.stage,
+        )?;
+        let stands = stands.as_slice();
+        let part = PartEntries {
             program,
             table,
-            own,
+            entries: own,
             stands,
-            &slot.memory,
             first,
-        )?;
+        };
+        write_part(alloc, sram, tcam, &part, &slot.memory)?;
         return Ok(());
     }
     Ok(())
@@ -488,23 +511,20 @@ pub fn write_units(
     alloc: Global,
     sram: &mut Rows,
     tcam: &mut TcamRows,
-    program: &Program,
-    entries: &EntryLists,
-    plan: &Plan,
-    stage: u32,
+    planned: &PlannedStage,
     units: &[Unit],
 ) -> Result<(), PackFault>
-    requires program { IsProgram program.now }
-    requires entries { AreEntries program.now entries.now }
-    requires plan { IsPlan program.now entries.now plan.now }
-    requires stage { stage < 32 }
-    requires units { All (UnitFits program.now entries.now plan.now stage) units.now }
+    requires program { IsProgram planned.now.program.now }
+    requires entries { AreEntries planned.now.program.now planned.now.entries.now }
+    requires plan { IsPlan planned.now.program.now planned.now.entries.now planned.now.plan.now }
+    requires stage { planned.now.stage < 32 }
+    requires units { All (UnitFits planned.now.program.now planned.now.entries.now planned.now.plan.now planned.now.stage) units.now }
     requires apart { AllPairs UnitsApart units.now }
     requires few { sum_by unit_instructions units.now ≤ 32 }
     requires zeros { (b r : ℕ) → blocks_of sram.old b r ≡ 0 }
     requires zero_values { (b r : ℕ) → values_of tcam.old b r ≡ 0 }
     requires zero_masks { (b r : ℕ) → masks_of tcam.old b r ≡ 0 }
-    ensures { OnOk result (UnitsWritten program.now entries.now plan.now stage units.now (length units.now)
+    ensures { OnOk result (UnitsWritten planned.now.program.now planned.now.entries.now planned.now.plan.now planned.now.stage units.now (length units.now)
         (record { sram = blocks_of sram.new; values = values_of tcam.new; masks = masks_of tcam.new })) }
 {
     let mut first = 0;
@@ -512,9 +532,7 @@ pub fn write_units(
         match unit {
             Unit::Gate(_) => {}
             Unit::Slot(slot) => {
-                write_slot(
-                    alloc, sram, tcam, program, entries, plan, stage, slot, first,
-                )?;
+                write_slot(alloc, sram, tcam, planned, slot, first)?;
                 first += slot.actions + 1;
             }
         }

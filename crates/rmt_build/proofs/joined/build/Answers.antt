@@ -8,7 +8,6 @@ use Rattle.rmt_place.specs.Placing.{placement}
 use Rattle.rmt_ptcam.specs.Needs.{refusal}
 use Rattle.rmt_vliw.specs.declared.fault.ActionDeep.TheVariants as action
 use Rattle.rmt_build.specs.Folds.{first_deep}
-use Rattle.rmt_build.specs.Refusals.{first_refusal}
 use Rattle.rmt_build.proofs.RefusalLaws.{bound_there, by_rule, done_not_failed, none_refused, not_refused}
 use Rattle.rmt_build.proofs.joined.build.Goals as goal
 

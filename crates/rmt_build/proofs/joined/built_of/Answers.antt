@@ -1,19 +1,19 @@
-use Rattle.std.proofs.Common.{◌≡◌, ◌∙◌, ◌≤◌, ℕ, List, length, ap, sym, subst, arith}
+use Rattle.std.proofs.Common.{◌≡◌, ◌∙◌, List, length, ap, sym, subst, arith}
 use Rattle.std.specs.Prelude.{All}
 use Rattle.rmt_ast.specs.declared.deps.Deps.{Deps}
 use Rattle.rmt_ast.specs.declared.entry.Entry.{Entry}
 use Rattle.rmt_ast.specs.declared.program.Program.{Program}
-use Rattle.rmt_bounds.specs.Bounds.{EdgesRise}
 use Rattle.rmt_config.specs.declared.config.Config.{Config}
 use Rattle.rmt_config.specs.declared.config.Stage.{Stage}
 use Rattle.rmt_config.specs.Agreement.{AgreesWith}
-use Rattle.rmt_deps.specs.Edges.{GoesForward, dependencies_of}
+use Rattle.rmt_deps.specs.Edges.{GoesForward}
 use Rattle.rmt_deps.proofs.EdgeLaws.{go_forward}
 use Rattle.rmt_pack.specs.declared.placement.Placement.{Placement}
 use Rattle.rmt_refine.specs.declared.map.CellOf.{CellOf}
 use Rattle.rmt_refine.specs.declared.map.Map.{Map}
 use Rattle.rmt_refine.specs.Carries.{Carries}
 use Rattle.rmt_build.specs.declared.plan.Plan.{Plan}
+use Rattle.rmt_build.specs.Loads.{IsFirstSeed}
 use Rattle.rmt_build.specs.Promises.{StandInRows}
 use Rattle.rmt_build.specs.Stages.{AreStagesOf}
 use Rattle.rmt_build.specs.Told.{cells_told}
@@ -61,7 +61,7 @@ returns-clause-formed c =
     let made = c.in_ok-config.ensures in
     let are = are_stages p lists plan config c.in_ok-stages.stages made.stages c.in_ok-stages.ensures.stages in
     joined_formed p lists plan config c.requires.program c.requires.entries c.requires.plan are.all_there are.each made.seed made.places c.requires.fits c.requires.no_tails
-    (made.parser ∙ c.requires.parser) c.requires.seed
+    (made.parser ∙ c.requires.parser) c.requires.seed.few
 
 pub returns-clause-limits : goal.returns-clause-limits
 returns-clause-limits c =
@@ -72,6 +72,15 @@ returns-clause-limits c =
     let made = c.in_ok-config.ensures in
     let are = are_stages p lists plan config c.in_ok-stages.stages made.stages c.in_ok-stages.ensures.stages in
     joined_limits p lists plan config c.requires.program c.requires.entries c.requires.plan are.all_there are.each made.seed c.requires.fits (made.parser ∙ c.requires.parser)
+
+pub returns-clause-seed : goal.returns-clause-seed
+returns-clause-seed c =
+    let p = c.args.program.now in
+    let lists = c.args.entries.now in
+    let plan = c.args.plan in
+    let placement : c.in_ok-map.map.placement ≡ plan.placement = c.in_ok-map.ensures.placement in
+    let seed : c.in_ok-config.config.seed ≡ plan.seed = c.in_ok-config.ensures.seed in
+    subst (λ (x : Placement). IsFirstSeed p lists x.parts c.in_ok-config.config.seed) (sym placement) (subst (IsFirstSeed p lists plan.placement.parts) (sym seed) c.requires.seed)
 
 pub returns-clause-formats : goal.returns-clause-formats
 returns-clause-formats c =

@@ -1,17 +1,16 @@
-use Rattle.std.proofs.Common.{◌≡◌, ◌<◌, ◌≤◌, ◌∙◌, ℕ, List, Ok, length, refl, sym, ap, subst, arith}
-use Rattle.std.specs.Prelude.{All, Contains}
-use Rattle.rmt_ast.specs.declared.deps.Deps.{Deps}
+use Rattle.std.proofs.Common.{◌≡◌, ◌<◌, ◌∙◌, List, length, refl, sym, ap, subst, arith}
+use Rattle.std.specs.Prelude.{All}
 use Rattle.rmt_ast.specs.declared.deps.Edge.{Edge}
-use Rattle.rmt_deps.specs.Edges.{GoForward, dependencies_of}
+use Rattle.rmt_deps.specs.Edges.{GoForward}
 use Rattle.rmt_deps.specs.Levels as levels
 use Rattle.rmt_deps.proofs.EdgeLaws.{go_forward}
 use Rattle.rmt_pack.specs.declared.placement.Part.{Part}
 use Rattle.rmt_pack.specs.Placements.{Keeps}
-use Rattle.rmt_pack.specs.Starts.{KeepDistances, stages_of}
+use Rattle.rmt_pack.specs.Starts.{KeepDistances}
 use Rattle.rmt_place.specs.Placing.{placement}
 use Rattle.rmt_place.specs.Starting.{stages_in, starts_of}
 use Rattle.rmt_refine.specs.Carries.{all_edges}
-use Rattle.rmt_build.specs.Loads.{AreAllLoaded}
+use Rattle.rmt_build.specs.Loads.{AreAllLoaded, IsFirstSeed}
 use Rattle.rmt_build.specs.Plans.{AreParts}
 use Rattle.rmt_build.proofs.QuantaLaws.{exact_quanta}
 use Rattle.rmt_build.proofs.LoadedLaws.{they_stand}
@@ -29,6 +28,10 @@ load_all-requires-clause-parts c =
     let forward : GoForward (length p.nodes) deps = subst (GoForward (length p.nodes)) (sym c.requires.deps) (go_forward p c.args.places) in
     let done = c.in_ok-placement.ensures in
     subst (AreParts p) (sym c.as_slice-parts.ensures) (parts_are p c.args.places deps c.in_ok-placement.placement.parts c.requires.program forward done.placed done.parts done.apart done.limits)
+
+pub returns-clause-seed : goal.returns-clause-seed
+returns-clause-seed c =
+    subst (λ (ps : List Part). IsFirstSeed c.args.program.now c.args.entries.now ps c.in_ok-loaded.loaded.seed) c.as_slice-parts.ensures c.in_ok-loaded.ensures.seed
 
 pub returns-clause-plan : goal.returns-clause-plan
 returns-clause-plan c =

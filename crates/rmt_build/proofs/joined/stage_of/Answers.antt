@@ -1,4 +1,4 @@
-use Rattle.std.proofs.Common.{List, length, ap, sym, subst}
+use Rattle.std.proofs.Common.{List, length, sym, subst}
 use Rattle.std.specs.Prelude.{All, AllPairs, sum_by, ◌≤◌}
 use Rattle.rmt_config.specs.declared.config.Stage.{Stage}
 use Rattle.rmt_config.specs.declared.config.Unit.{Unit}

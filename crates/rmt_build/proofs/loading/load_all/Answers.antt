@@ -2,6 +2,7 @@ use Rattle.std.proofs.Common.{ℕ, ◌≡◌, arith, inl, inr, subst, sym}
 use Rattle.std.proofs.lemmas.Bool.{cases_lt}
 use Rattle.rmt_build.specs.Loads.{IsFull}
 use Rattle.rmt_build.specs.Tries.{AreTried}
+use Rattle.rmt_build.proofs.TriedLaws.{all_loaded}
 use Rattle.rmt_build.proofs.loading.load_all.Goals as goal
 
 pub loop-seed-preserved : goal.loop-seed-preserved
@@ -16,6 +17,31 @@ loop-seed-preserved c s lt =
           let same : s ≡ c.loop-seed.seed = omega (arith, lt, le) in
           subst (λ k. (m : ℕ) × (count : ℕ) × (few : ℕ) × IsFull p lists parts k m count few) (sym same) (c.in_default.field-0.node, c.in_default.field-0.members, c.in_default.field-0.cells, full.0)
     ]
+
+pub returns-in-Stand-clause-seed : goal.returns-in-Stand-clause-seed
+returns-in-Stand-clause-seed c =
+    let p = c.args.program.now in
+    let lists = c.args.entries.now in
+    let parts = c.args.parts.now in
+    let stand = subst (AreTried p lists parts c.loop-seed.seed) c.in-Stand.is c.in_ok-stands.ensures in
+    record {
+      few = let low = c.loop-seed-test.true in omega (arith, low);
+      loaded = all_loaded p lists parts c.loop-seed.seed c.in-Stand.stands stand;
+      least = c.loop-seed.invariant;
+    }
+
+pub returns-in-Stand-2-clause-seed : goal.returns-in-Stand-2-clause-seed
+returns-in-Stand-2-clause-seed c =
+    let p = c.args.program.now in
+    let lists = c.args.entries.now in
+    let parts = c.args.parts.now in
+    let stand = subst (AreTried p lists parts 7) c.in-Stand-2.is c.in_ok-stands-2.ensures in
+    let end = c.loop-seed-test.false in
+    record {
+      few = omega arith;
+      loaded = all_loaded p lists parts 7 c.in-Stand-2.stands stand;
+      least = λ s lt. c.loop-seed.invariant s (omega (arith, lt, end));
+    }
 
 pub returns-in-Overfull-clause-refused : goal.returns-in-Overfull-clause-refused
 returns-in-Overfull-clause-refused c =

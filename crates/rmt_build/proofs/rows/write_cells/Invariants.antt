@@ -7,6 +7,6 @@ use Rattle.rmt_build.proofs.rows.write_cells.Given as goal
 -- the entries so far
 abbrev pub invariant-loop-stand : goal.invariant-loop-stand
 invariant-loop-stand l = record {
-  holds : ExactSo l.program l.table l.entries l.first (blocks_of l.sram) l.shape (take l.stand-index l.stands);
+  holds : ExactSo l.part.program.now l.part.table.now l.part.entries.now l.part.first (blocks_of l.sram) l.shape (take l.stand-index l.part.stands.now);
   others : (b r : ℕ) → (Contains (l.shape.keys ++ l.shape.records) b → ⊥) → blocks_of l.sram b r ≡ blocks_of l.fn.sram b r;
 }

@@ -6,10 +6,10 @@ use Rattle.rmt_pack.proofs.NeedLaws.{data_bits-few, params-small}
 use Rattle.rmt_build.proofs.rows.write_exact_part.Goals as goal
 
 pub data_bits-held-requires : goal.data_bits-held-requires
-data_bits-held-requires c = params-small c.args.program.now c.requires.program c.args.table.now
+data_bits-held-requires c = params-small c.args.part.now.program.now c.requires.program c.args.part.now.table.now
 
 pub overflow_cast-held : goal.overflow_cast-held
-overflow_cast-held c = let few = data_bits-few c.args.program.now c.requires.program c.args.table.now in let is = c.data_bits-held.ensures in omega (arith, few, is)
+overflow_cast-held c = let few = data_bits-few c.args.part.now.program.now c.requires.program c.args.part.now.table.now in let is = c.data_bits-held.ensures in omega (arith, few, is)
 
 pub returns-clause-others : goal.returns-clause-others
 returns-clause-others c =

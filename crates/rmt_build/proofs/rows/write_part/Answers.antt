@@ -24,15 +24,15 @@ write_ternary_part-requires-clause-zero_masks c = subst (λ (m : Memory). (b r :
 
 pub returns-in_ok-write_exact_part-in-Exact : goal.returns-in_ok-write_exact_part-in-Exact
 returns-in_ok-write_exact_part-in-Exact c =
-    let p = c.args.program.now in
-    let t = c.args.table.now in
-    let es = c.args.entries.now in
-    let stands = c.args.stands.now in
+    let p = c.args.part.now.program.now in
+    let t = c.args.part.now.table.now in
+    let es = c.args.part.now.entries.now in
+    let stands = c.args.part.now.stands.now in
     let h : Held = record { sram = blocks_of c.write_exact_part.new.sram; values = values_of c.args.tcam.now; masks = masks_of c.args.tcam.now } in
     let blocks = subst (HasBlocks p t) c.in-Exact.is c.requires.blocks in
     record {
-      holds = subst (PartHolds p t es stands c.args.first (key_bits p t) (data_bits p t) h) (sym c.in-Exact.is)
-          (exact-holds p t c.requires.entries.0 es c.args.first c.requires.entries.1 c.requires.few h (key_bits p t) (data_bits p t) c.in-Exact.quanta c.in-Exact.keys c.in-Exact.records c.in-Exact.counters stands
+      holds = subst (PartHolds p t es stands c.args.part.now.first (key_bits p t) (data_bits p t) h) (sym c.in-Exact.is)
+          (exact-holds p t c.requires.entries.0 es c.args.part.now.first c.requires.entries.1 c.requires.few h (key_bits p t) (data_bits p t) c.in-Exact.quanta c.in-Exact.keys c.in-Exact.records c.in-Exact.counters stands
           c.in-Exact.width c.in-Exact.per c.in-Exact.first_way blocks.0 refl c.in_ok-write_exact_part-in-Exact.ensures.holds);
       others = subst (λ (m : Memory). (b r : ℕ) → (Contains (memory_sram_blocks m) b → ⊥) → blocks_of c.write_exact_part.new.sram b r ≡ blocks_of c.args.sram.now b r) (sym c.in-Exact.is)
           c.in_ok-write_exact_part-in-Exact.ensures.others;
@@ -42,14 +42,14 @@ returns-in_ok-write_exact_part-in-Exact c =
 
 pub returns-in_ok-write_ternary_part-in-Ternary : goal.returns-in_ok-write_ternary_part-in-Ternary
 returns-in_ok-write_ternary_part-in-Ternary c =
-    let p = c.args.program.now in
-    let t = c.args.table.now in
-    let es = c.args.entries.now in
-    let stands = c.args.stands.now in
+    let p = c.args.part.now.program.now in
+    let t = c.args.part.now.table.now in
+    let es = c.args.part.now.entries.now in
+    let stands = c.args.part.now.stands.now in
     let h : Held = record { sram = blocks_of c.write_ternary_part.new.sram; values = values_of c.write_ternary_part.new.tcam; masks = masks_of c.write_ternary_part.new.tcam } in
     record {
-      holds = subst (PartHolds p t es stands c.args.first (key_bits p t) (data_bits p t) h) (sym c.in-Ternary.is)
-          (ternary-holds p t c.requires.entries.0 es c.args.first c.requires.entries.1 c.requires.few h (key_bits p t) (data_bits p t) c.in-Ternary.quanta c.in-Ternary.keys c.in-Ternary.records c.in-Ternary.counters stands
+      holds = subst (PartHolds p t es stands c.args.part.now.first (key_bits p t) (data_bits p t) h) (sym c.in-Ternary.is)
+          (ternary-holds p t c.requires.entries.0 es c.args.part.now.first c.requires.entries.1 c.requires.few h (key_bits p t) (data_bits p t) c.in-Ternary.quanta c.in-Ternary.keys c.in-Ternary.records c.in-Ternary.counters stands
           c.in_ok-write_ternary_part-in-Ternary.ensures.holds);
       others = subst (λ (m : Memory). (b r : ℕ) → (Contains (memory_sram_blocks m) b → ⊥) → blocks_of c.write_ternary_part.new.sram b r ≡ blocks_of c.args.sram.now b r) (sym c.in-Ternary.is)
           c.in_ok-write_ternary_part-in-Ternary.ensures.others;

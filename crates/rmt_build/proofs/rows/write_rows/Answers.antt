@@ -21,7 +21,7 @@ use Rattle.rmt_build.specs.declared.stands.Stand.{Stand}
 use Rattle.rmt_build.specs.Data.{data_of}
 use Rattle.rmt_build.specs.Holding.{Held, PutsRow, TernarySo, data_for, head_for, mask_for, value_for}
 use Rattle.rmt_build.specs.Listing.{masks_of, values_of}
-use Rattle.rmt_build.proofs.EntryLaws.{above-lt, before-one, data-fits, data-small, entry-of, slice_get-at, tests_mask-lt, widths-small}
+use Rattle.rmt_build.proofs.EntryLaws.{above-lt, before-one, data-fits, data-small, entry-of, tests_mask-lt, widths-small}
 use Rattle.rmt_build.proofs.ExactLaws.{record-elsewhere, unit-listed}
 use Rattle.rmt_build.proofs.HoldLaws.{entry-action, entry-fits}
 use Rattle.rmt_build.proofs.TernaryLaws.{ternary-start, ternary-step}
@@ -37,15 +37,15 @@ room cell quanta each long lt is =
 
 pub write_tests-requires : goal.write_tests-requires
 write_tests-requires c =
-    let p = c.args.program.now in
-    let t = c.args.table.now in
-    let es = c.args.entries.now in
+    let p = c.args.part.now.program.now in
+    let t = c.args.part.now.table.now in
+    let es = c.args.part.now.entries.now in
     let none : Stand = record { cell = 0; entry = 0 } in
     let i = c.loop-stand.stand-index in
     let lt = c.loop-stand-test.true in
-    let x = get_or c.args.stands.now i none in
-    let e = c.index-entries-stand.result in
-    let at : slice_get es x.entry ≡ Some e = slice_get-at es x.entry e (c.requires.stands.entries i none lt) c.index-entries-stand.is in
+    let x = get_or c.args.part.now.stands.now i none in
+    let e = c.placed_entry-placed.result.entry.now in
+    let at : slice_get es x.entry ≡ Some e = c.placed_entry-placed.ensures.entry in
     let n = c.requires.entries.0 in
     let is = entry-of p t es c.requires.entries x.entry e at in
     let blocks = c.requires.blocks in
@@ -62,32 +62,32 @@ write_tests-requires c =
 
 pub write_head-requires : goal.write_head-requires
 write_head-requires c =
-    let p = c.args.program.now in
-    let t = c.args.table.now in
-    let es = c.args.entries.now in
+    let p = c.args.part.now.program.now in
+    let t = c.args.part.now.table.now in
+    let es = c.args.part.now.entries.now in
     let none : Stand = record { cell = 0; entry = 0 } in
     let i = c.loop-stand.stand-index in
     let lt = c.loop-stand-test.true in
-    let x = get_or c.args.stands.now i none in
-    let e = c.index-entries-stand.result in
-    let at : slice_get es x.entry ≡ Some e = slice_get-at es x.entry e (c.requires.stands.entries i none lt) c.index-entries-stand.is in
+    let x = get_or c.args.part.now.stands.now i none in
+    let e = c.placed_entry-placed.result.entry.now in
+    let at : slice_get es x.entry ≡ Some e = c.placed_entry-placed.ensures.entry in
     let n = c.requires.entries.0 in
     let is = entry-of p t es c.requires.entries x.entry e at in
     let acts = entry-action p t n e is in
-    let params = c.params_of-params.ensures.params in
-    let fits : sum c.params_of-params.result.now ≤ data_bits p t = subst (λ (ps : List ℕ). sum ps ≤ data_bits p t) (sym params) (data-fits p t e.action acts) in
+    let params = c.placed_entry-placed.ensures.params in
+    let fits : sum c.placed_entry-placed.result.params.now ≤ data_bits p t = subst (λ (ps : List ℕ). sum ps ≤ data_bits p t) (sym params) (data-fits p t e.action acts) in
     record {
       shape = c.requires.shape;
       cell = c.requires.stands.cells i none lt;
-      code = let few = c.requires.few in omega (arith, acts, few);
+      code = let few = c.requires.few in let code = c.placed_entry-placed.ensures.code in omega (arith, acts, few, code);
       held = let held = c.requires.held in omega (arith, fits, held);
-      params = c.params_of-params.ensures.widths;
+      params = c.placed_entry-placed.ensures.widths;
       args = subst (λ (ps : List ℕ). AllZip Fits ps e.args) (sym params) (entry-fits p t n e is);
     }
 
 pub loop-stand-init : goal.loop-stand-init
 loop-stand-init c = record {
-  holds = ternary-start c.args.program.now c.args.table.now c.args.entries.now c.args.first
+  holds = ternary-start c.args.part.now.program.now c.args.part.now.table.now c.args.part.now.entries.now c.args.part.now.first
       (record { sram = blocks_of c.args.sram.now; values = values_of c.args.tcam.now; masks = masks_of c.args.tcam.now }) c.args.shape.now c.args.blocks.now c.requires.shape
       c.requires.zeros c.requires.zero_values c.requires.zero_masks;
   others = λ b r out. refl;
@@ -97,24 +97,24 @@ loop-stand-init c = record {
 
 pub loop-stand-preserved : goal.loop-stand-preserved
 loop-stand-preserved c =
-    let p = c.args.program.now in
-    let t = c.args.table.now in
-    let es = c.args.entries.now in
+    let p = c.args.part.now.program.now in
+    let t = c.args.part.now.table.now in
+    let es = c.args.part.now.entries.now in
     let none : Stand = record { cell = 0; entry = 0 } in
     let i = c.loop-stand.stand-index in
     let lt = c.loop-stand-test.true in
-    let x = get_or c.args.stands.now i none in
-    let e = c.index-entries-stand.result in
-    let at : slice_get es x.entry ≡ Some e = slice_get-at es x.entry e (c.requires.stands.entries i none lt) c.index-entries-stand.is in
+    let x = get_or c.args.part.now.stands.now i none in
+    let e = c.placed_entry-placed.result.entry.now in
+    let at : slice_get es x.entry ≡ Some e = c.placed_entry-placed.ensures.entry in
     let n = c.requires.entries.0 in
     let is = entry-of p t es c.requires.entries x.entry e at in
     let acts = entry-action p t n e is in
     let s = c.args.shape.now in
-    let stands = c.args.stands.now in
+    let stands = c.args.part.now.stands.now in
     let blocks = c.args.blocks.now in
     let old : Held = record { sram = blocks_of c.loop-stand.sram; values = values_of c.loop-stand.tcam; masks = masks_of c.loop-stand.tcam } in
     let new : Held = record { sram = blocks_of c.write_head.new.sram; values = values_of c.write_tests.new.tcam; masks = masks_of c.write_tests.new.tcam } in
-    let code = c.args.first + e.action in
+    let code = c.args.part.now.first + e.action in
     let code_lt : code < 32 = let few = c.requires.few in omega (arith, acts, few) in
     let held : s.held < 2 ^ 16 = let le = data_bits-few p c.requires.program t in let same = c.requires.held in omega (arith, le, same) in
     let mask : mask_for p t e < 2 ^ s.key = subst (λ k. mask_for p t e < 2 ^ k) (sym c.requires.key) (tests_mask-lt (map (width_of p) t.key) e.tests is.tests) in
@@ -122,7 +122,8 @@ loop-stand-preserved c =
     subst (λ k. head_for code + 256 * data_for p t e < 2 ^ k) (sym c.requires.held)
     (above-lt code (data_for p t e) (data_bits p t) code_lt (data-small (params_of p (slice_index t.actions e.action)) e.args (data_bits p t) (entry-fits p t n e is) (data-fits p t e.action acts))) in
     let puts : PutsRecord old.sram new.sram s x.cell (head_for code + 256 * data_for p t e) =
-    subst (λ (ps : List ℕ). PutsRecord old.sram new.sram s x.cell (head_for code + 256 * data_of ps e.args)) c.params_of-params.ensures.params c.in_ok-write_head.ensures in
+    subst (λ (ps : List ℕ). PutsRecord old.sram new.sram s x.cell (head_for code + 256 * data_of ps e.args)) c.placed_entry-placed.ensures.params
+    (subst (λ k. PutsRecord old.sram new.sram s x.cell (head_for k + 256 * data_of c.placed_entry-placed.result.params.now e.args)) c.placed_entry-placed.ensures.code c.in_ok-write_head.ensures) in
     let key : map (width_of p) t.key ≡ c.args.widths.now = sym c.requires.widths in
     let bits : sum c.args.widths.now ≡ s.key = ap sum c.requires.widths ∙ sym c.requires.key in
     let values : PutsRow old.values new.values (x.cell % 2048) (blocks_at blocks (divided_up s.key 40) (x.cell / 2048)) (value_for p t e) =
@@ -133,8 +134,8 @@ loop-stand-preserved c =
     (subst (λ (ws : List ℕ). PutsRow old.masks new.masks (x.cell % 2048) (blocks_at blocks (divided_up (sum c.args.widths.now) 40) (x.cell / 2048)) (tests_as_one (λ (u : Test). u.mask) ws e.tests)) c.requires.widths c.in_ok-write_tests.ensures.masks) in
     let each = divided_up s.key 40 in
     record {
-      holds = subst (TernarySo p t es c.args.first new s blocks) (sym (take_more stands i none lt))
-          (ternary-step p t es c.args.first old new s blocks (take i stands) x e c.requires.shape held c.requires.blocks.apart (c.requires.stands.cells i none lt)
+      holds = subst (TernarySo p t es c.args.part.now.first new s blocks) (sym (take_more stands i none lt))
+          (ternary-step p t es c.args.part.now.first old new s blocks (take i stands) x e c.requires.shape held c.requires.blocks.apart (c.requires.stands.cells i none lt)
           (All-take (λ (y : Stand). y.cell < cells_in s) i stands c.requires.stands.cells)
           (before-one (λ (a b : Stand). a.cell ≢ b.cell) stands i none c.requires.stands.apart lt) at whole mask puts values masks c.loop-stand.invariant.holds);
       others = λ b r out. record-elsewhere old.sram new.sram s x.cell (head_for code + 256 * data_for p t e) puts b r out ∙ c.loop-stand.invariant.others b r out;

@@ -12,13 +12,13 @@ use Rattle.rmt_build.proofs.rows.write_slot.Goals as goal
 pub returns-clause-written : goal.returns-clause-written
 returns-clause-written c =
     let fits = c.requires.slot in
-    absurd (none-some fits.table (c.in_default.ensures ∙ applied-here c.args.program.now c.as_slice.result.now c.args.slot.now.node _ fits.table c.as_slice.ensures fits.is_table))
+    absurd (none-some fits.table (c.in_default.ensures ∙ applied-here c.args.planned.now.program.now c.as_slice.result.now c.args.slot.now.node _ fits.table c.as_slice.ensures fits.is_table))
 
 pub returns-in-Some-clause-written : goal.returns-in-Some-clause-written
 returns-in-Some-clause-written c =
     let fits = c.requires.slot in
-    let p = c.args.program.now in
-    let lists = c.args.entries.now in
+    let p = c.args.planned.now.program.now in
+    let lists = c.args.planned.now.entries.now in
     let slot = c.args.slot.now in
     let n = slot.node in
     let t = c.in-Some.table.now in

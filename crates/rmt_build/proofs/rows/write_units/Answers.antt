@@ -20,27 +20,27 @@ pub write_slot-requires-clause-zeros : goal.write_slot-requires-clause-zeros
 unfolding held
 write_slot-requires-clause-zeros c =
     let at = slice_get-at c.args.units.now c.loop-unit.unit-index c.unit-item.result c.loop-unit-test.true c.unit-item.is in
-    (units-zero c.args.program.now c.args.entries.now c.args.plan.now c.args.stage c.args.units.now (held c.loop-unit.sram c.loop-unit.tcam) c.loop-unit.unit-index c.in-Slot.slot c.requires.apart (at ∙ ap Some c.in-Slot.is) c.loop-unit.invariant.written).0
+    (units-zero c.args.planned.now.program.now c.args.planned.now.entries.now c.args.planned.now.plan.now c.args.planned.now.stage c.args.units.now (held c.loop-unit.sram c.loop-unit.tcam) c.loop-unit.unit-index c.in-Slot.slot c.requires.apart (at ∙ ap Some c.in-Slot.is) c.loop-unit.invariant.written).0
 
 pub write_slot-requires-clause-zero_values : goal.write_slot-requires-clause-zero_values
 unfolding held
 write_slot-requires-clause-zero_values c =
     let at = slice_get-at c.args.units.now c.loop-unit.unit-index c.unit-item.result c.loop-unit-test.true c.unit-item.is in
-    (units-zero c.args.program.now c.args.entries.now c.args.plan.now c.args.stage c.args.units.now (held c.loop-unit.sram c.loop-unit.tcam) c.loop-unit.unit-index c.in-Slot.slot c.requires.apart (at ∙ ap Some c.in-Slot.is) c.loop-unit.invariant.written).1
+    (units-zero c.args.planned.now.program.now c.args.planned.now.entries.now c.args.planned.now.plan.now c.args.planned.now.stage c.args.units.now (held c.loop-unit.sram c.loop-unit.tcam) c.loop-unit.unit-index c.in-Slot.slot c.requires.apart (at ∙ ap Some c.in-Slot.is) c.loop-unit.invariant.written).1
 
 pub write_slot-requires-clause-zero_masks : goal.write_slot-requires-clause-zero_masks
 unfolding held
 write_slot-requires-clause-zero_masks c =
     let at = slice_get-at c.args.units.now c.loop-unit.unit-index c.unit-item.result c.loop-unit-test.true c.unit-item.is in
-    (units-zero c.args.program.now c.args.entries.now c.args.plan.now c.args.stage c.args.units.now (held c.loop-unit.sram c.loop-unit.tcam) c.loop-unit.unit-index c.in-Slot.slot c.requires.apart (at ∙ ap Some c.in-Slot.is) c.loop-unit.invariant.written).2
+    (units-zero c.args.planned.now.program.now c.args.planned.now.entries.now c.args.planned.now.plan.now c.args.planned.now.stage c.args.units.now (held c.loop-unit.sram c.loop-unit.tcam) c.loop-unit.unit-index c.in-Slot.slot c.requires.apart (at ∙ ap Some c.in-Slot.is) c.loop-unit.invariant.written).2
 
 pub loop-unit-preserved : goal.loop-unit-preserved
 unfolding held
 loop-unit-preserved c =
-    let p = c.args.program.now in
-    let lists = c.args.entries.now in
-    let plan = c.args.plan.now in
-    let k = c.args.stage in
+    let p = c.args.planned.now.program.now in
+    let lists = c.args.planned.now.entries.now in
+    let plan = c.args.planned.now.plan.now in
+    let k = c.args.planned.now.stage in
     let units = c.args.units.now in
     let i = c.loop-unit.unit-index in
     let u = c.unit-item.result in

@@ -9,6 +9,6 @@ use Rattle.rmt_build.proofs.rows.write_units.Given as goal
 -- the units so far, and their instructions
 abbrev pub invariant-loop-unit : goal.invariant-loop-unit
 invariant-loop-unit l = record {
-  written : UnitsWritten l.program l.entries l.plan l.stage l.units l.unit-index (record { sram = blocks_of l.sram; values = values_of l.tcam; masks = masks_of l.tcam });
+  written : UnitsWritten l.planned.program.now l.planned.entries.now l.planned.plan.now l.planned.stage l.units l.unit-index (record { sram = blocks_of l.sram; values = values_of l.tcam; masks = masks_of l.tcam });
   first : l.first ≡ sum_by unit_instructions (take l.unit-index l.units);
 }

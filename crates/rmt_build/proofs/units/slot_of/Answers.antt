@@ -1,5 +1,5 @@
 use Rattle.std.proofs.Common.{◌≡◌, ◌∙◌, ◌<◌, List, [], Some, None, refl, ap, sym, subst, get_or, length, map, arith}
-use Rattle.std.specs.Prelude.{◌==◌, All, IfSome, Option, slice_get}
+use Rattle.std.specs.Prelude.{◌==◌, All, IfSome, slice_get}
 use Rattle.std.proofs.lemmas.List.{length-map}
 use Rattle.std.proofs.lemmas.Option.{get_or_from_slice_get, slice_get-get_or, slice_get_read}
 use Rattle.rmt_ast.specs.declared.entry.Entry.{Entry}

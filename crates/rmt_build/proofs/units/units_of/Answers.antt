@@ -1,4 +1,4 @@
-use Rattle.std.proofs.Common.{◌≡◌, ◌<◌, ◌+◌, ℕ, Bool, ◌++◌, ◌∷◌, [], ◌∙◌, ap, sym, subst, cond, filter, List, true, false, arith}
+use Rattle.std.proofs.Common.{◌≡◌, ◌<◌, ◌+◌, ℕ, Bool, ◌++◌, ◌∷◌, [], ◌∙◌, ap, sym, subst, cond, filter, true, false, arith}
 use Rattle.std.specs.Prelude.{All, nat_lt}
 use Rattle.std.specs.List.{AllZip, range_with_len}
 use Rattle.std.proofs.lemmas.Bool.{le-ltb, lt-ltb}
