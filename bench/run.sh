@@ -1,45 +1,85 @@
 #!/usr/bin/env bash
-# Packets per second and peak memory of `./rmt sim`, one line a case: short packets through one stage and through 32; frames of 9,216 bytes
-# with 385 of them in flight; and one counted table of 32-bit keys, exact with 100,000 entries in three stages, and ternary with 20,000
-# entries under 40 masks. The tables' images are made by bench/images.py.
+# Seconds and peak memory of `./rmt`, one line a case: short packets through one stage and through 32; frames of 9,216 bytes with 385 of
+# them in flight; a counted table of 100,000 exact keys, and one of 20,000 ternary entries under 40 masks, by `sim` and by `plain`; and two
+# tables of 1,000,000 exact keys each, which are compiled and then run.
 set -eu
 top=$(cd "$(dirname "$0")/.." && pwd)
 work=$(mktemp -d)
 trap 'rm -rf "$work"' EXIT
-"$top/rmt" compile "$top/examples/smallest.rmt" "$top/examples/none.ent" "$work/one.img" >/dev/null
-python3 "$top/bench/images.py" exact "$work/exact.img" 100000 5,5,4
-python3 "$top/bench/images.py" ternary "$work/ternary.img" 20000 40
+"$top/rmt" >/dev/null || true # builds the program
 python3 - "$top" "$work" <<'PY'
-import os, resource, subprocess, sys, time
+import os, subprocess, sys, time
 top, work = sys.argv[1:]
-tables = "".join(f"table t{k} {{ default send(); }}\n" for k in range(32))
-applies = " ".join(f"apply t{k};" for k in range(32))
-with open(f"{work}/many.rmt", "w") as f:
-    f.write("header h { f : 8; } next accept;\naction send() { out_port = 1; }\n" + tables + "control { " + applies + " }\n")
-subprocess.run([f"{top}/rmt", "compile", f"{work}/many.rmt", f"{top}/examples/none.ent", f"{work}/many.img"], check=True, stdout=subprocess.DEVNULL)
+program = f"{top}/crates/rmt/out/rmt"
 
 
-def short(k):
-    return f"{k % 512} {k % 256:02x}{k >> 8 & 255:02x}\n"
+def write(name, lines):
+    with open(f"{work}/{name}", "w") as f:
+        f.writelines(lines)
 
 
-def long(k):
-    return f"{k % 512} " + f"{k % 256:02x}" * 9216 + "\n"
-
-
-def keyed(entries):
-    return lambda k: f"{k % 512} {k * 7919 % entries * 2654435761 % 2**32:08x}0102\n"
-
-
-cases = (("one stage", "one", 1_000_000, short), ("32 stages", "many", 100_000, short), ("32 stages, long frames", "many", 3_000, long),
-         ("exact table", "exact", 1_000_000, keyed(100_000)), ("ternary table", "ternary", 1_000_000, keyed(20_000)))
-for name, image, count, packet in cases:
-    with open(f"{work}/packets", "w") as f:
-        f.writelines(packet(k) for k in range(count))
+def run(*words):
+    """Runs the program, and gives its seconds and its peak memory in MiB."""
     begun = time.time()
     with open(os.devnull, "w") as none:
-        subprocess.run([f"{top}/rmt", "sim", f"{work}/{image}.img", f"{work}/packets"], check=True, stdout=none)
-    seconds = time.time() - begun
-    peak = resource.getrusage(resource.RUSAGE_CHILDREN).ru_maxrss / 1024
-    print(f"{name}: {count} packets in {seconds:.2f} s, {count / seconds:,.0f} a second, peak so far {peak:.0f} MiB")
+        process = subprocess.Popen([program, *[w if w.isdigit() or w in ("compile", "sim", "plain") else f"{work}/{w}" for w in words]], stdout=none)
+        _, status, usage = os.wait4(process.pid, 0)
+    if status != 0:
+        sys.exit(f"{words} ended with status {status}")
+    return time.time() - begun, usage.ru_maxrss / 1024
+
+
+def compiled(name):
+    seconds, peak = run("compile", f"{name}.rmt", f"{name}.ent", f"{name}.img")
+    print(f"{name}: compiled in {seconds:.2f} s, {peak:.0f} MiB")
+
+
+def packets(name, count, packet):
+    write(f"{name}.pkt", (packet(k) for k in range(count)))
+    for words in (("sim", f"{name}.img"), ("plain", f"{name}.rmt", f"{name}.ent")):
+        seconds, peak = run(*words, f"{name}.pkt")
+        print(f"{name}: {words[0]} of {count} packets in {seconds:.2f} s, {count / seconds:,.0f} a second, {peak:.0f} MiB")
+
+
+def key(i):
+    return i * 2654435761 % 2**32
+
+
+def wide(i):
+    return 0x020000000000 + key(i)
+
+
+chain = "".join(f"table t{k} {{ exact meta.x; actions inc; size 1; default inc(); }}\n" for k in range(32))
+applied = " ".join(f"apply t{k};" for k in range(32))
+tabled = "header h {{ k : 32; x : 16; }} next accept;\naction go(p : 9) {{ out_port = p; }}\n" \
+    "table t {{ {} h.k; actions go; size {}; counted; default go(0); }}\ncontrol {{ apply t; }}\n"
+masks = [0xffffffff ^ 1 << m for m in range(32)] + [0xffffffff ^ 3 << m for m in range(8)]
+
+write("one.rmt", ["header h { f : 8; } next accept;\naction send() { out_port = 1; }\ntable t { default send(); }\ncontrol { apply t; }\n"])
+write("one.ent", [])
+compiled("one")
+packets("one", 4_000_000, lambda k: f"{k % 512} {k * 7919 % 2**64:016x}\n")
+
+write("many.rmt", ["header h { f : 8; } next accept;\nmeta { x : 8; }\naction inc() { meta.x = meta.x + 1; }\n", chain, f"control {{ {applied} }}\n"])
+write("many.ent", [])
+compiled("many")
+packets("many", 100_000, lambda k: f"{k % 512} {k % 256:02x}{k >> 8 & 255:02x}\n")
+packets("many", 3_000, lambda k: f"{k % 512} " + f"{k % 256:02x}" * 9216 + "\n")
+
+write("exact.rmt", [tabled.format("exact", 100_000)])
+write("exact.ent", (f"t {key(i)} go {i % 512}\n" for i in range(100_000)))
+compiled("exact")
+packets("exact", 1_000_000, lambda k: f"{k % 512} {key(k * 7919 % 100_000):08x}0102\n")
+
+write("ternary.rmt", [tabled.format("ternary", 20_000)])
+write("ternary.ent", (f"t {i} {key(i)}&{masks[i % 40]} go {i % 512}\n" for i in range(20_000)))
+compiled("ternary")
+packets("ternary", 1_000_000, lambda k: f"{k % 512} {key(k * 7919 % 20_000):08x}0102\n")
+
+write("large.rmt", ["header h { a : 48; b : 48; } next accept;\naction go(p : 9) { out_port = p; }\n"
+    "table first { exact h.a; actions go; size 1000000; default go(0); }\ntable second { exact h.b; actions go; size 1000000; default go(0); }\n"
+    "control { apply first; apply second; }\n"])
+write("large.ent", (f"{table} {wide(i)} go {i % 512}\n" for table in ("first", "second") for i in range(1_000_000)))
+compiled("large")
+packets("large", 1_000_000, lambda k: f"{k % 512} {wide(k):012x}{wide(k * 7 % 1_000_000):012x}\n")
 PY

@@ -1,27 +1,16 @@
-//! The program `rmt`: its top call, and `main`.
+//! The program `rmt`: it gives the words of its command line to the top call, and ends with the answer.
 #![tactic(auto)]
+
+#[cfg(test)]
+mod tests;
 
 ghost use Rattle.std.specs.Prelude.{◌≡◌, ◌≢◌, IfOk, drop};
 ghost use Rattle.std.specs.Vec.Iter.{into_iter_items};
 
-mod commands;
-mod compiling;
-mod configure;
-mod loading;
-mod printing;
-mod running;
-mod simulating;
-pub mod small;
-pub mod status;
-#[cfg(test)]
-mod tests;
-pub mod top;
-mod vectors;
-mod watch;
-
+use rmt_core::rmt;
+use rmt_core::status::Status;
 use rmt_io::true_shelf::TrueShelf;
 use rmt_io::true_sink::TrueSink;
-use status::Status;
 use std::alloc::Global;
 use std::env::Args;
 use std::io::ErrorKind;
@@ -39,7 +28,7 @@ fn main(rt: HostRuntime) -> ExitCode {
     };
     let mut shelf = TrueShelf::new(&rt);
     let mut out = TrueSink::new(&rt);
-    ExitCode::from(top::rmt(rt.alloc(), &words, &mut shelf, &mut out) as u8)
+    ExitCode::from(rmt(rt.alloc(), &words, &mut shelf, &mut out) as u8)
 }
 
 /// The words of the command line behind the program's name.

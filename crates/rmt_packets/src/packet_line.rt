@@ -5,7 +5,6 @@ ghost use Rattle.rmt_packets.specs.Fault.{MatchFault};
 ghost use Rattle.rmt_packets.specs.Pieces.{front_of};
 ghost use Rattle.rmt_packets.specs.PacketText.{begins_with_port, is_digit, number_of_digits, packet_of, port_digits};
 
-use std::alloc::Global;
 use thiserror::Error;
 
 /// Why a packet line was not read, or an answer line not written.
@@ -30,7 +29,7 @@ const FRAME_DIGITS: usize = 18432;
 /// Reads a packet line: it answers the port, and replaces what `into` held by the frame. After a refusal `into` is
 /// empty.
 #[tactic(auto, using(crate::proofs::Fronts::packet_of_front))]
-pub fn read_packet(_alloc: Global, line: &[u8], into: &mut Vec<u8>) -> Result<u16, PacketFault>
+pub fn read_packet(line: &[u8], into: &mut Vec<u8>) -> Result<u16, PacketFault>
     ensures packet { IfOk result (λ port. packet_of line.now ≡ Ok (record { port = port; frame = into.new.items })) }
     ensures code { IfErr result (λ fault. MatchFault fault ⊤ (λ code. packet_of line.now ≡ Err code)) }
     ensures emptied { OnErr result (into.new.items ≡ []) }

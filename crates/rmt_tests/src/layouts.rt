@@ -8,7 +8,7 @@ ghost use Rattle.rmt_deps.specs.Edges.{GoForward};
 ghost use Rattle.rmt_pack.specs.declared.placement.Part.{Part as PartOf};
 ghost use Rattle.std.specs.Prelude.{length};
 
-mod programs;
+pub(crate) mod programs;
 
 use crate::check::programs::REALISTIC;
 use crate::check::{program_of, repeated};
@@ -61,7 +61,7 @@ fn push_numbers(out: &mut String, word: &str, numbers: &[u32]) -> Result<(), All
     out.push_str("\n")
 }
 
-fn push_parts(out: &mut String, parts: &[Part]) -> Result<(), AllocError> {
+pub(crate) fn push_parts(out: &mut String, parts: &[Part]) -> Result<(), AllocError> {
     out.push_str("parts")?;
     for part in parts {
         write!(out, " {}@{}*{}", part.node, part.stage, part.quanta)?;
@@ -69,7 +69,7 @@ fn push_parts(out: &mut String, parts: &[Part]) -> Result<(), AllocError> {
     out.push_str("\n")
 }
 
-fn push_hits(out: &mut String, node: u32, hits: &[LimitHit]) -> Result<(), AllocError> {
+pub(crate) fn push_hits(out: &mut String, node: u32, hits: &[LimitHit]) -> Result<(), AllocError> {
     write!(out, "stuck {node}")?;
     for hit in hits {
         write!(out, " {}:{}:{}:{}", hit.stage, hit.limit, hit.sum, hit.need)?;
@@ -128,7 +128,7 @@ fn rising(alloc: Global, program: &Program, edges: &[Edge]) -> Result<Sequence<E
     Ok(rising)
 }
 
-fn push_proof(out: &mut String, bound: &Bound) -> Result<(), AllocError> {
+pub(crate) fn push_proof(out: &mut String, bound: &Bound) -> Result<(), AllocError> {
     write!(out, "{}", bound.stages)?;
     match &bound.proof {
         Proof::Chain(chain) => push_numbers(out, " chain", chain.as_slice()),
@@ -274,7 +274,7 @@ fn placements(rt: HostRuntime) {
 }
 
 /// A key of 640 bits that reads words of 648.
-const HITS: &str =
+pub(crate) const HITS: &str =
     "stuck 0 0:8:0:648 1:8:0:648 2:8:0:648 3:8:0:648 4:8:0:648 5:8:0:648 6:8:0:648 7:8:0:648 8:8:0:648 9:8:0:648 10:8:0:648 11:8:0:648 12:8:0:648 13:8:0:648 14:8:0:648 15:8:0:648 16:8:0:648 17:8:0:648 18:8:0:648 19:8:0:648 20:8:0:648 21:8:0:648 22:8:0:648 23:8:0:648 24:8:0:648 25:8:0:648 26:8:0:648 27:8:0:648 28:8:0:648 29:8:0:648 30:8:0:648 31:8:0:648\n";
 
 #[test]
@@ -305,7 +305,7 @@ fn bounds(rt: HostRuntime) {
 }
 
 /// Tables that each look at what the earlier ones write, and write it again.
-fn long_chain(alloc: Global, tables: u16) -> Result<Vec<u8>, AllocError> {
+pub(crate) fn long_chain(alloc: Global, tables: u16) -> Result<Vec<u8>, AllocError> {
     let declared = repeated(
         alloc,
         b"header h { f : 8; } next accept; meta { x : 8; } action inc() { meta.x = meta.x + 1; } ",

@@ -6,6 +6,8 @@ mod actions;
 #[cfg(test)]
 mod bits;
 #[cfg(test)]
+mod building;
+#[cfg(test)]
 mod cells;
 #[cfg(test)]
 mod check;
@@ -41,6 +43,8 @@ mod plain;
 mod registers;
 #[cfg(test)]
 mod reports;
+#[cfg(test)]
+mod running;
 #[cfg(test)]
 mod shelves;
 #[cfg(test)]

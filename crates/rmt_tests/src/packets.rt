@@ -1,11 +1,10 @@
 //! Packet texts line by line, and the lines of answers.
 
-use rmt_bits::answer::{Answer, Verdict};
-use rmt_bits::sequence::Sequence;
-use rmt_packets::answer_line::write_answer;
+use rmt_bits::answer::Verdict;
+use rmt_packets::answer_line::write_line;
 use rmt_packets::lines::{Line, next_line};
 use rmt_packets::packet_line::{PacketFault, read_packet};
-use std::alloc::{AllocError, Global};
+use std::alloc::AllocError;
 use std::process::Abort;
 use std::test::*;
 
@@ -38,7 +37,7 @@ fn reads(
 ) -> Result<(), AllocError> {
     let mut frame = Vec::new(rt.alloc());
     frame.push(7)?;
-    assert_eq!(rt; read_packet(rt.alloc(), line, &mut frame), answer);
+    assert_eq!(rt; read_packet(line, &mut frame), answer);
     assert_eq!(rt; frame.as_slice(), bytes);
     Ok(())
 }
@@ -67,23 +66,6 @@ fn packets_of_lines(rt: HostRuntime) -> Result<(), Fail> {
     Ok(())
 }
 
-/// Adds the line of an answer with these bytes.
-fn push_answer(
-    alloc: Global,
-    text: &mut Vec<u8>,
-    number: u64,
-    verdict: Verdict,
-    bytes: &[u8],
-) -> Result<(), Fail> {
-    let answer = Answer {
-        verdict,
-        bytes: Sequence::from_vec(Vec::from_slice(alloc, bytes)?),
-        hits: Sequence::new(alloc),
-    };
-    write_answer(alloc, number, &answer, text)?;
-    Ok(())
-}
-
 const ANSWERS: [(u64, Verdict, &[u8]); 5] = [
     (9, Verdict::Short, &[]),
     (9, Verdict::Reject, &[]),
@@ -96,7 +78,7 @@ const ANSWERS: [(u64, Verdict, &[u8]); 5] = [
 fn lines_of_answers(rt: HostRuntime) -> Result<(), Fail> {
     let mut text = Vec::new(rt.alloc());
     for (number, verdict, bytes) in ANSWERS {
-        push_answer(rt.alloc(), &mut text, number, verdict, bytes)?;
+        write_line(number, verdict, bytes, &mut text)?;
     }
     let wanted = b"9 drop short\n9 drop reject\n9 drop action\n9 5 -\n10 511 ff0a\n";
     assert_eq!(rt; text.as_slice(), wanted.as_slice());

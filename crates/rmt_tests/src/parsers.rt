@@ -98,7 +98,7 @@ fn realistic_frames(rt: HostRuntime) -> Result<(), Fail> {
         let parser = parser_of(rt.alloc(), HEADERS, rule)?;
         let mut frame = Vec::new(rt.alloc());
         for (line, want) in FRAMES.as_slice() {
-            assert_eq!(rt; read_packet(rt.alloc(), *line, &mut frame), Ok(0));
+            assert_eq!(rt; read_packet(*line, &mut frame), Ok(0));
             assert!(rt; frame.len() < 9217);
             assert_eq!(rt; parsed(&parser, frame.as_slice()), *want);
         }
@@ -128,7 +128,7 @@ fn frames_cut_at_each_byte(rt: HostRuntime) -> Result<(), Fail> {
     let mut frame = Vec::new(rt.alloc());
     for (line, end) in FRAMES.as_slice() {
         if let Parsed::Accept { used } = *end {
-            assert_eq!(rt; read_packet(rt.alloc(), *line, &mut frame), Ok(0));
+            assert_eq!(rt; read_packet(*line, &mut frame), Ok(0));
             assert!(rt; frame.len() < 9217);
             for len in 0..frame.len() + 1 {
                 assert!(rt; end_alike(&plain, &clustered, &frame.as_slice()[..len], used));

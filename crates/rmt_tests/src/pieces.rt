@@ -129,7 +129,7 @@ fn a_long_line_is_read_as_its_front(rt: HostRuntime) -> Result<(), Fail> {
         let told = in_pieces(alloc, line.as_slice(), 0, 65536)?;
         let front = told.as_slice().get(1..told.len().saturating_sub(1));
         for text in [line.as_slice(), front.unwrap_or(&[])] {
-            assert_eq!(rt; read_packet(alloc, text, &mut frame), wanted);
+            assert_eq!(rt; read_packet(text, &mut frame), wanted);
         }
     }
     Ok(())

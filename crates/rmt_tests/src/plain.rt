@@ -57,10 +57,10 @@ fn run(rt: &(impl Abort + AllocGlobal), plain: &mut Plain, packets: &[&[u8]], li
     let mut frame = vec![in rt.alloc(); 0u8; 0].expect(rt, "memory");
     let mut number = 0u64;
     for packet in packets {
-        let port = read_packet(rt.alloc(), packet, &mut frame).expect(rt, "a packet");
+        let port = read_packet(packet, &mut frame).expect(rt, "a packet");
         assert!(rt; port < 512 && !frame.is_empty() && frame.len() <= 9216);
         let answer = plain.packet(rt.alloc(), port, &frame).expect(rt, "memory");
-        write_answer(rt.alloc(), number, &answer, lines).expect(rt, "memory");
+        write_answer(number, &answer, lines).expect(rt, "memory");
         number = number.wrapping_add(1);
     }
 }

@@ -1,0 +1,83 @@
+-- Where the files are as they must be, each command gives Done.
+use Rattle.std.proofs.Common.{◌≡◌, ℕ, List, Option, inl, inr, ap, refl, ◌∙◌, subst}
+use Rattle.rmt_ast.specs.declared.program.Program.{Program}
+use Rattle.rmt_ast.specs.declared.program.Header.{Header}
+use Rattle.rmt_ast.specs.declared.entry.Entry.{Entry}
+use Rattle.rmt_bounds.specs.declared.bound.Bound.{Bound}
+use Rattle.rmt_config.specs.declared.config.Config.{Config}
+use Rattle.rmt_sample.specs.Texts.{entries_text, program_text}
+use Rattle.rmt_build.specs.declared.fault.NoFit.{NoFit}
+use Rattle.rmt_build.specs.Refusals.{first_refusal}
+use Rattle.rmt_core.specs.declared.status.Status.TheVariants.{Done}
+use Rattle.rmt_core.specs.declared.watch.Watch.{Watch}
+use Rattle.rmt_core.specs.declared.watch.Watch.TheVariants.{Answers, Vectors}
+use Rattle.rmt_core.specs.Commands.{Compile, Sim, Probe, Plain, Report, Sample}
+use Rattle.rmt_core.specs.Compiling.{Builds, Compiles, Fitted, Loaded, Untailed, written}
+use Rattle.rmt_core.specs.Files.{Files, entries_limit, image_limit, packets_limit, program_limit}
+use Rattle.rmt_core.specs.Given.{Given, Opens, Reads, told}
+use Rattle.rmt_core.specs.Gives.{Gives}
+use Rattle.rmt_core.specs.Headline.{Fits, IsComplete, IsGoodText, IsImage, IsReady}
+use Rattle.rmt_core.specs.PlainText.{GivesPlain, plain_text}
+use Rattle.rmt_core.specs.Reporting.{report_line}
+use Rattle.rmt_core.specs.Runs.{Runs}
+use Rattle.rmt_core.specs.Sampling.{GivesSample, sample_line}
+use Rattle.rmt_core.specs.Simulating.{GivesRun, Spelled}
+use Rattle.rmt_core.specs.Texts.{Understands}
+use Rattle.rmt_core.specs.Watching.{text_of}
+use Rattle.rmt_core.proofs.GivenOnce.{NeverBoth, OneMeaning, never_both}
+use Rattle.rmt_core.proofs.GivenDone.{opened_there, read_within, run_done, spelled_is, understood}
+
+module _ (apart : NeverBoth) (files : Files) (finish : List ℕ → Config → Bound → Given) (is : (image : List ℕ) (c : Config) (b : Bound) → (finish image c b).status ≡ Done) (p : Program) (lists : List (List Entry)) (g : Given) (fits : Fits p lists) where
+  loaded_ready : Loaded files finish p lists g → g.status ≡ Done
+  loaded_ready (inl x) = ap (λ (k : Given). k.status) x.5 ∙ is x.0 x.2 x.3
+  loaded_ready (inr x) = absurd (never_both apart p lists fits.places fits.parts fits.seed x.0 fits.packed fits.placed fits.loaded fits.few x.1)
+
+  builds_ready : Builds files finish p lists g → g.status ≡ Done
+  builds_ready h =
+      let untailed : Fitted files finish p lists g (first_refusal p) = subst (λ (o : Option Header). Untailed files finish p lists g o) fits.no_tail h in
+      let fitted : Loaded files finish p lists g = subst (λ (o : Option NoFit). Fitted files finish p lists g o) fits.no_refusal untailed in
+      loaded_ready fitted
+
+compile_ready : OneMeaning → NeverBoth → (files : Files) (program entries image : List ℕ) (g : Given) → IsReady files (Compile program entries image) → Gives files (Compile program entries image) g → g.status ≡ Done
+compile_ready one apart files program entries image g ready h =
+    let both = ready.2 in
+    let read = read_within files program program_limit (λ text. Reads files entries entries_limit (λ entry_text. Understands files text entry_text (Compiles files image))) g (both.text, both.has_text) h in
+    let told = read_within files entries entries_limit (λ entry_text. Understands files both.text entry_text (Compiles files image)) g (both.entry_text, both.has_entries) read in
+    builds_ready apart files (written files image ready.0) (λ _ _ _. refl) ready.0 ready.1 g ready.3 (understood one files both.text both.entry_text (Compiles files image) g ready.0 ready.1 both.means both.says told)
+
+sample_ready : OneMeaning → NeverBoth → (files : Files) (number : ℕ) (g : Given) → IsReady files (Sample number) → GivesSample files number g → g.status ≡ Done
+sample_ready one apart files number g ready h =
+    let p = ready.0 in
+    let lists = ready.1 in
+    let built = understood one files (program_text number) (entries_text number) (λ q l. Builds files (λ image c b. told files Done (sample_line number q l c)) q l) g p lists ready.2 ready.3 h in
+    builds_ready apart files (λ image c b. told files Done (sample_line number p lists c)) (λ _ _ _. refl) p lists g ready.4 built
+
+run_ready : (w : Watch) (files : Files) (image packets : List ℕ) (g : Given) → IsImage files image → IsGoodText files packets → GivesRun w files image packets g → g.status ≡ Done
+run_ready w files image packets g i t h =
+    let read = read_within files image image_limit (λ bytes. Opens files packets (λ text. Spelled files bytes (λ c. Runs files (text_of w c) packets_limit text))) g (i.bytes, i.has_bytes) h in
+    let opened = opened_there files packets t.text (λ text. Spelled files i.bytes (λ c. Runs files (text_of w c) packets_limit text)) g t.has_text.is_there read in
+    let run = spelled_is files i.bytes (λ c. Runs files (text_of w c) packets_limit t.text) g i.config i.spells opened in
+    ap (λ (k : Given). k.status) (run_done files (text_of w i.config) packets_limit t.text g t.has_text.is_short t.is_good run)
+
+plain_ready : OneMeaning → (files : Files) (program entries packets : List ℕ) (g : Given) → IsReady files (Plain program entries packets) → GivesPlain files program entries packets g → g.status ≡ Done
+plain_ready one files program entries packets g ready h =
+    let both = ready.2 in
+    let t = ready.3 in
+    let read = read_within files program program_limit
+    (λ text. Reads files entries entries_limit
+    (λ entry_text. Opens files packets (λ packet_text. Understands files text entry_text (λ p lists. Runs files (plain_text p lists) packets_limit packet_text)))) g (both.text, both.has_text) h in
+    let second = read_within files entries entries_limit
+    (λ entry_text. Opens files packets (λ packet_text. Understands files both.text entry_text (λ p lists. Runs files (plain_text p lists) packets_limit packet_text))) g (both.entry_text, both.has_entries) read in
+    let opened = opened_there files packets t.text (λ packet_text. Understands files both.text both.entry_text (λ p lists. Runs files (plain_text p lists) packets_limit packet_text)) g t.has_text.is_there second in
+    let run = understood one files both.text both.entry_text (λ p lists. Runs files (plain_text p lists) packets_limit t.text) g ready.0 ready.1 both.means both.says opened in
+    ap (λ (k : Given). k.status) (run_done files (plain_text ready.0 ready.1) packets_limit t.text g t.has_text.is_short t.is_good run)
+
+pub is_complete : OneMeaning → NeverBoth → IsComplete
+is_complete one apart files (Compile program entries image) g ready h = compile_ready one apart files program entries image g ready h
+is_complete one apart files (Sim image packets) g ready h = run_ready Answers files image packets g ready.0 ready.1 h
+is_complete one apart files (Probe image packets cycle) g ready h = run_ready (Vectors cycle) files image packets g ready.0 ready.1 h
+is_complete one apart files (Plain program entries packets) g ready h = plain_ready one files program entries packets g ready h
+is_complete one apart files (Report image) g ready h =
+    let read = read_within files image image_limit (λ bytes. Spelled files bytes (λ c k. k ≡ told files Done (report_line c))) g (ready.bytes, ready.has_bytes) h in
+    ap (λ (k : Given). k.status) (spelled_is files ready.bytes (λ c k. k ≡ told files Done (report_line c)) g ready.config ready.spells read)
+is_complete one apart files (Sample number) g ready h = sample_ready one apart files number g ready h

@@ -1,0 +1,297 @@
+-- Each command gives one status and one text over the same files, but for the numbers of a table that doesn't load.
+use Rattle.std.proofs.Common.{◌≡◌, ◌⊎◌, inl, inr, ⊎_elim, ℕ, ◌+◌, ◌<◌, ◌≤◌, List, [], ◌∷◌, ◌++◌, length, map, Option, Some, None, Result, Ok, Err, sym, refl, ap, ◌∙◌, subst, arith}
+use Rattle.std.specs.Prelude.{replicate}
+use Rattle.std.proofs.lemmas.List.{length-map}
+use Rattle.rmt_bits.specs.Packet.{Packet}
+use Rattle.rmt_bits.specs.declared.lane.Lane.{Lane}
+use Rattle.rmt_ast.specs.declared.program.Program.{Program}
+use Rattle.rmt_ast.specs.declared.program.Header.{Header}
+use Rattle.rmt_ast.specs.declared.entry.Entry.{Entry}
+use Rattle.rmt_ast.specs.Answers.{answers_of}
+use Rattle.rmt_check.specs.Means.{Means, Outcome}
+use Rattle.rmt_entries.specs.declared.fault.EntryFault.{EntryFault}
+use Rattle.rmt_entries.specs.declared.fault.EntryFault.TheVariants.{NoMemory, At}
+use Rattle.rmt_entries.specs.Entries.{entries_of}
+use Rattle.rmt_cuckoo.specs.declared.layout.Ways.{Ways}
+use Rattle.rmt_cuckoo.specs.Loading.{IsLoading, IsOverfull}
+use Rattle.rmt_config.specs.declared.config.Config.{Config}
+use Rattle.rmt_config.specs.declared.config.Stage.{Stage}
+use Rattle.rmt_config.specs.ChipRun.{cycles_of, inputs_of, latency_of}
+use Rattle.rmt_image.specs.declared.fault.ImageFault.{ImageFault}
+use Rattle.rmt_image.proofs.Whole.{answered_once}
+use Rattle.rmt_deps.specs.Edges.{dependencies_of, field_edges}
+use Rattle.rmt_pack.specs.declared.placement.Part.{Part}
+use Rattle.rmt_phv.specs.Packing.{packing}
+use Rattle.rmt_phv.specs.declared.fault.PhvFull.{PhvFull}
+use Rattle.rmt_place.specs.Placing.{Stuck, placement as placement_by_rule}
+use Rattle.rmt_place.specs.Starting.{starts_of}
+use Rattle.rmt_bounds.specs.declared.bound.Bound.{Bound}
+use Rattle.rmt_bounds.specs.Bounds.{stage_bound}
+use Rattle.rmt_refine.specs.declared.map.Map.{Map}
+use Rattle.rmt_refine.specs.Carries.{all_edges}
+use Rattle.rmt_refine.specs.RunsAs.{told_by_answer}
+use Rattle.rmt_sample.specs.Texts.{entries_text, program_text}
+use Rattle.rmt_build.specs.declared.fault.NoFit.{NoFit}
+use Rattle.rmt_build.specs.declared.fault.NoFit.TheVariants.{Load}
+use Rattle.rmt_build.specs.Loads.{AreFullBefore, AreLoaded, AreLoadedBefore, AreNotLoaded, IsFull as IsFullTable}
+use Rattle.rmt_build.specs.Refusals.{first_refusal}
+use Rattle.rmt_packets.specs.PacketText.{Reading}
+use Rattle.rmt_core.specs.declared.status.Status.TheVariants.{Done}
+use Rattle.rmt_core.specs.declared.watch.Watch.{Watch}
+use Rattle.rmt_core.specs.declared.watch.Watch.TheVariants as watch
+use Rattle.rmt_core.specs.Commands.{Compile, Sim, Probe, Plain, Report, Sample}
+use Rattle.rmt_core.specs.CompileText.{compile_text}
+use Rattle.rmt_core.specs.Compiling.{Builds, Compiles, Fitted, IsFull, Loaded, Makes, Untailed, first_tail, written}
+use Rattle.rmt_core.specs.Files.{Files, Found, Absent, Long, Holds, entries_limit, found, image_limit, packets_limit, program_limit}
+use Rattle.rmt_core.specs.Given.{Given, OfFound, OfOpened, Opens, Reads, told}
+use Rattle.rmt_core.specs.Headline.{GivesOne, OtherNumbers}
+use Rattle.rmt_core.specs.NoFitText.{no_fit_line}
+use Rattle.rmt_core.specs.PlainText.{plain_text}
+use Rattle.rmt_core.specs.Reporting.{report_line}
+use Rattle.rmt_core.specs.Runs.{Runs}
+use Rattle.rmt_core.specs.Sampling.{answers_line, sample_line, sample_packets}
+use Rattle.rmt_core.specs.Simulating.{GivesRun, OfAnswer, Spelled}
+use Rattle.rmt_core.specs.Texts.{OfEntries, OfMeaning, Understands}
+use Rattle.rmt_core.specs.Watching.{text_of}
+
+-- each text has one meaning
+abbrev pub OneMeaning : Type 0
+OneMeaning = (text : List ℕ) (m n : Outcome) → Means text m → Means text n → m ≡ n
+
+-- no table has both a loading and keys with too few cells
+abbrev pub NeverBoth : Type 0
+NeverBoth = (layout : List Ways) (seed : ℕ) (keys : List (List ℕ)) (cells members : List ℕ) (count : ℕ) → IsLoading layout seed keys cells → IsOverfull layout seed keys members count → ⊥
+
+-- ---- two givens
+
+abbrev pub AreOne : Given → Given → Type 0
+AreOne g h = (g.status ≡ h.status) × ((g.text ≡ h.text) ⊎ OtherNumbers g.text h.text)
+
+-- all that a command gives is one
+abbrev pub GivesOnce : (Given → Type 0) → Type 0
+GivesOnce P = (g h : Given) → P g → P h → AreOne g h
+
+same_given : (g h k : Given) → g ≡ k → h ≡ k → AreOne g h
+same_given g h k a b =
+    let same : g ≡ h = a ∙ sym b in
+    (ap (λ (x : Given). x.status) same, inl (ap (λ (x : Given). x.text) same))
+
+-- ---- files, texts and images
+
+once_found : (files : Files) (next : List ℕ → Given → Type 0) (f : Found) → ((bytes : List ℕ) → GivesOnce (next bytes)) → GivesOnce (λ g. OfFound files next g f)
+once_found files next Absent once g h a b = same_given g h _ a b
+once_found files next Long once g h a b = same_given g h _ a b
+once_found files next (Holds bytes) once g h a b = once bytes g h a b
+
+reads_once : (files : Files) (name : List ℕ) (limit : ℕ) (next : List ℕ → Given → Type 0) → ((bytes : List ℕ) → GivesOnce (next bytes)) → GivesOnce (Reads files name limit next)
+reads_once files name limit next once g h a b = once_found files next (found limit (files name)) once g h a b
+
+once_opened : (files : Files) (next : List ℕ → Given → Type 0) (f : Option (List ℕ)) → ((bytes : List ℕ) → GivesOnce (next bytes)) → GivesOnce (λ g. OfOpened files next g f)
+once_opened files next None once g h a b = same_given g h _ a b
+once_opened files next (Some bytes) once g h a b = once bytes g h a b
+
+opens_once : (files : Files) (name : List ℕ) (next : List ℕ → Given → Type 0) → ((bytes : List ℕ) → GivesOnce (next bytes)) → GivesOnce (Opens files name next)
+opens_once files name next once g h a b = once_opened files next (files name) once g h a b
+
+once_says : (files : Files) (next : Program → List (List Entry) → Given → Type 0) (p : Program) (r : Result (List (List Entry)) EntryFault) → ((lists : List (List Entry)) → GivesOnce (next p lists))
+    → GivesOnce (λ g. OfEntries files next p g r)
+once_says files next p (Ok lists) once g h a b = once lists g h a b
+once_says files next p (Err (At code line)) once g h a b = same_given g h _ a b
+once_says files next p (Err NoMemory) once g h a b = absurd a
+
+once_means : (files : Files) (entries : List ℕ) (next : Program → List (List Entry) → Given → Type 0) (m : Outcome) → ((p : Program) (lists : List (List Entry)) → GivesOnce (next p lists))
+    → GivesOnce (λ g. OfMeaning files entries next g m)
+once_means files entries next (Ok p) once g h a b = once_says files next p (entries_of p entries) (once p) g h a b
+once_means files entries next (Err fault) once g h a b = same_given g h _ a b
+
+understands_once : OneMeaning → (files : Files) (program entries : List ℕ) (next : Program → List (List Entry) → Given → Type 0) → ((p : Program) (lists : List (List Entry)) → GivesOnce (next p lists))
+    → GivesOnce (Understands files program entries next)
+understands_once one files program entries next once g h a b =
+    once_means files entries next a.0 once g h a.2 (subst (λ m. OfMeaning files entries next h m) (one program b.0 a.0 b.1 a.1) b.2)
+
+once_answered : (files : Files) (next : Config → Given → Type 0) (r : Result Config ImageFault) → ((c : Config) → GivesOnce (next c)) → GivesOnce (λ g. OfAnswer files next g r)
+once_answered files next (Ok c) once g h a b = once c g h a b
+once_answered files next (Err fault) once g h a b = same_given g h _ a b
+
+spelled_once : (files : Files) (bytes : List ℕ) (next : Config → Given → Type 0) → ((c : Config) → GivesOnce (next c)) → GivesOnce (Spelled files bytes next)
+spelled_once files bytes next once g h a b =
+    once_answered files next a.0 once g h a.2 (subst (λ r. OfAnswer files next h r) (answered_once bytes b.0 a.0 b.1 a.1) b.2)
+
+-- ---- what is made, or is not loaded
+
+pub same_places : (p : Program) (a b : List (List Lane)) → packing p ≡ Ok a → packing p ≡ Ok b → a ≡ b
+same_places p a b e f = let both : ◌≡◌ {A = Result (List (List Lane)) PhvFull} (Ok a) (Ok b) = sym e ∙ f in cc
+
+pub same_parts : (p : Program) (a b : List (List Lane)) (parts others : List Part) → a ≡ b → placement_by_rule p a (dependencies_of p a) ≡ Ok parts → placement_by_rule p b (dependencies_of p b) ≡ Ok others → parts ≡ others
+same_parts p a b parts others is e f =
+    let both : ◌≡◌ {A = Result (List Part) Stuck} (Ok parts) (Ok others) = sym e ∙ (ap (λ l. placement_by_rule p l (dependencies_of p l)) is ∙ f) in cc
+
+latency_by : List ℕ → ℕ
+latency_by [] = 0
+latency_by (s ∷ []) = s + 12
+latency_by (s ∷ t ∷ starts) = latency_by (t ∷ starts)
+
+latency_is : (stages : List Stage) → latency_of stages ≡ latency_by (map (λ (s : Stage). s.start) stages)
+unfolding latency_by
+latency_is [] = refl
+latency_is (s ∷ []) = refl
+latency_is (s ∷ t ∷ stages) = latency_is (t ∷ stages)
+
+abbrev starts_in : Config → List ℕ
+starts_in c = map (λ (s : Stage). s.start) c.stages
+
+-- as many stages, and one latency
+same_length : (c d : Config) → starts_in c ≡ starts_in d → length c.stages ≡ length d.stages
+same_length c d starts = sym (length-map c.stages (λ (s : Stage). s.start)) ∙ (ap length starts ∙ length-map d.stages (λ (s : Stage). s.start))
+
+same_latency : (c d : Config) → starts_in c ≡ starts_in d → latency_of c.stages ≡ latency_of d.stages
+same_latency c d starts = latency_is c.stages ∙ (ap latency_by starts ∙ sym (latency_is d.stages))
+
+one_text : (p : Program) (c d : Config) (b e : Bound) → starts_in c ≡ starts_in d → b ≡ e → compile_text p c b ≡ compile_text p d e
+one_text p c d b e starts is =
+    let long = same_length c d starts in
+    let late = same_latency c d starts in
+    rw (long, late, is) refl
+
+one_line : (n : ℕ) (p : Program) (lists : List (List Entry)) (c d : Config) → starts_in c ≡ starts_in d → sample_line n p lists c ≡ sample_line n p lists d
+one_line n p lists c d starts =
+    let answers = map told_by_answer (answers_of p lists (sample_packets n)) in
+    ap (λ s. answers_line n answers s (cycles_of c (sample_packets n))) (same_length c d starts)
+    ∙ ap (λ k. answers_line n answers (length d.stages) k) (ap length (inputs (sample_packets n)))
+  where
+    inputs : (packets : List Packet) → inputs_of c packets ≡ inputs_of d packets
+    inputs [] = refl
+    inputs (x ∷ xs) = ap (λ l. map Some (x ∷ xs) ++ replicate l None) (same_latency c d starts)
+
+module _ (apart : NeverBoth) (p : Program) (lists : List (List Entry)) where
+  -- no table is loaded and full under one seed
+  pub not_loaded_and_full : (parts : List Part) (seed n members cells : ℕ) → AreLoaded p lists parts seed → IsFullTable p lists parts seed n members cells → ⊥
+  not_loaded_and_full parts seed n members cells loaded full =
+      let own = loaded n full.table full.entries full.applies in
+      apart _ _ _ own.0 full.own cells own.1 full.overfull
+
+  -- under a seed before which some table is full none is loaded
+  pub none_before : (parts : List Part) (s seed : ℕ) → AreFullBefore p lists parts seed → AreLoaded p lists parts s → s < seed → ⊥
+  none_before parts s seed each loaded less =
+      let full = each s less in
+      not_loaded_and_full parts s full.0 full.1 full.2 loaded full.3
+
+  -- the first full table of the last seed
+  full_later : (parts : List Part) (n m members cells : ℕ) → IsFullTable p lists parts 7 n members cells → AreLoadedBefore p lists parts 7 m → n < m → ⊥
+  full_later parts n m members cells full loaded less =
+      let own = loaded n full.table full.entries less full.applies in
+      apart _ _ _ own.0 full.own cells own.1 full.overfull
+
+  one_node : (parts : List Part) (n members cells m others few : ℕ) → AreNotLoaded p lists parts n members cells → AreNotLoaded p lists parts m others few → n ≡ m
+  one_node parts n members cells m others few a b =
+      ⊎_elim (λ less. absurd (full_later parts n m members cells a.last b.first less))
+      (λ le. ⊎_elim (λ less. absurd (full_later parts m n others few b.last a.first less)) (λ ge. omega arith) (order m n)) (order n m)
+    where
+      order : (x y : ℕ) → (x < y) ⊎ (y ≤ x)
+      order x y = grind arith
+
+  -- the stages of what is made start at the same times
+  same_starts : (image other : List ℕ) (m n : Map) (c d : Config) (b e : Bound) → Makes p lists image m c b → Makes p lists other n d e → starts_in c ≡ starts_in d
+  same_starts image other m n c d b e x y =
+      let places = same_places p m.places n.places x.by_rule.places y.by_rule.places in
+      let parts = same_parts p m.places n.places m.placement.parts n.placement.parts places x.by_rule.placement y.by_rule.placement in
+      let starts : m.starts ≡ n.starts = x.by_rule.starts ∙ (ap (λ l. starts_of (all_edges p l) m.placement.parts) places ∙ (ap (λ l. starts_of (all_edges p n.places) l) parts ∙ sym y.by_rule.starts)) in
+      x.carries.units.starts_are ∙ (starts ∙ sym y.carries.units.starts_are)
+
+  made_once : (image other : List ℕ) (m n : Map) (c d : Config) (b e : Bound) → Makes p lists image m c b → Makes p lists other n d e → compile_text p c b ≡ compile_text p d e
+  made_once image other m n c d b e x y =
+      let places = same_places p m.places n.places x.by_rule.places y.by_rule.places in
+      one_text p c d b e (same_starts image other m n c d b e x y) (x.bound ∙ (ap (λ l. stage_bound p (field_edges p l)) places ∙ sym y.bound))
+
+  -- no program is made and full
+  pub never_both : (places : List (List Lane)) (parts : List Part) (seed : ℕ) (line : List ℕ) → packing p ≡ Ok places → placement_by_rule p places (dependencies_of p places) ≡ Ok parts → AreLoaded p lists parts seed → seed < 8
+      → IsFull p lists line → ⊥
+  never_both places parts seed line packed placed loaded few y =
+      let same = same_parts p places y.places parts y.parts (same_places p places y.places packed y.packed) placed y.placed in
+      none_before y.parts seed 8 y.full.each (subst (λ l. AreLoaded p lists l seed) same loaded) few
+
+  full_once : (line other : List ℕ) → IsFull p lists line → IsFull p lists other → OtherNumbers line other
+  full_once line other x y =
+      let same = same_parts p x.places y.places x.parts y.parts (same_places p x.places y.places x.packed y.packed) x.placed y.placed in
+      let node = one_node y.parts x.node x.members x.cells y.node y.members y.cells (subst (λ l. AreNotLoaded p lists l x.node x.members x.cells) same x.full) y.full in
+      record {
+        program = p;
+        node = x.node;
+        members = x.members;
+        cells = x.cells;
+        others = y.members;
+        few = y.cells;
+        first = x.line_is;
+        second = y.line_is ∙ ap (λ n. no_fit_line p (Load n y.members y.cells)) (sym node);
+      }
+
+  -- a command tells of all that is made in one way
+  abbrev pub TellsOnce : (List ℕ → Config → Bound → Given) → Type 0
+  TellsOnce finish =
+      (image other : List ℕ) (m n : Map) (c d : Config) (b e : Bound) → Makes p lists image m c b → Makes p lists other n d e
+      → ((finish image c b).status ≡ (finish other d e).status) × ((finish image c b).text ≡ (finish other d e).text)
+
+  loaded_once : (files : Files) (finish : List ℕ → Config → Bound → Given) → TellsOnce finish → GivesOnce (Loaded files finish p lists)
+  loaded_once files finish one g h (inl x) (inl y) =
+      let same = one x.0 y.0 x.1 y.1 x.2 y.2 x.3 y.3 x.4 y.4 in (
+        ap (λ (k : Given). k.status) x.5 ∙ (same.0 ∙ sym (ap (λ (k : Given). k.status) y.5)),
+        inl (ap (λ (k : Given). k.text) x.5 ∙ (same.1 ∙ sym (ap (λ (k : Given). k.text) y.5))),
+      )
+  loaded_once files finish one g h (inl x) (inr y) = absurd (never_both x.1.places x.1.placement.parts x.2.seed y.0 x.4.by_rule.places x.4.by_rule.placement x.4.by_rule.seed.loaded x.4.by_rule.seed.few y.1)
+  loaded_once files finish one g h (inr x) (inl y) = absurd (never_both y.1.places y.1.placement.parts y.2.seed x.0 y.4.by_rule.places y.4.by_rule.placement y.4.by_rule.seed.loaded y.4.by_rule.seed.few x.1)
+  loaded_once files finish one g h (inr x) (inr y) = (
+    ap (λ (k : Given). k.status) x.2 ∙ sym (ap (λ (k : Given). k.status) y.2),
+    inr (
+        subst (λ (t : List ℕ). OtherNumbers t h.text) (sym (ap (λ (k : Given). k.text) x.2))
+        (subst (λ (t : List ℕ). OtherNumbers x.0 t) (sym (ap (λ (k : Given). k.text) y.2)) (full_once x.0 y.0 x.1 y.1))
+        ),
+  )
+
+  fitted_once : (files : Files) (finish : List ℕ → Config → Bound → Given) → TellsOnce finish → (fault : Option NoFit) → GivesOnce (λ g. Fitted files finish p lists g fault)
+  fitted_once files finish one (Some fault) g h a b = same_given g h _ a b
+  fitted_once files finish one None g h a b = loaded_once files finish one g h a b
+
+  untailed_once : (files : Files) (finish : List ℕ → Config → Bound → Given) → TellsOnce finish → (tail : Option Header) → GivesOnce (λ g. Untailed files finish p lists g tail)
+  untailed_once files finish one (Some header) g h a b = same_given g h _ a b
+  untailed_once files finish one None g h a b = fitted_once files finish one (first_refusal p) g h a b
+
+  builds_once : (files : Files) (finish : List ℕ → Config → Bound → Given) → TellsOnce finish → GivesOnce (Builds files finish p lists)
+  builds_once files finish one g h a b = untailed_once files finish one (first_tail p) g h a b
+
+  compiles_once : (files : Files) (name : List ℕ) → GivesOnce (Compiles files name p lists)
+  compiles_once files name = builds_once files (written files name p) (λ image other m n c d b e x y. (refl, made_once image other m n c d b e x y))
+
+  samples_once : (files : Files) (number : ℕ) → GivesOnce (Builds files (λ image c b. told files Done (sample_line number p lists c)) p lists)
+  samples_once files number =
+      builds_once files (λ image c b. told files Done (sample_line number p lists c))
+      (λ image other m n c d b e x y. (refl, one_line number p lists c d (same_starts image other m n c d b e x y)))
+
+tells_once : (k : Given) → GivesOnce (λ g. g ≡ k)
+tells_once k g h a b = same_given g h k a b
+
+runs_once : (files : Files) (printed : Reading → List ℕ) (limit : ℕ) (text : List ℕ) → GivesOnce (Runs files printed limit text)
+runs_once files printed limit text g h a b = same_given g h _ a b
+
+run_once : (w : Watch) (files : Files) (image packets : List ℕ) → GivesOnce (GivesRun w files image packets)
+run_once w files image packets =
+    reads_once files image image_limit _
+    (λ bytes. opens_once files packets _ (λ text. spelled_once files bytes (λ c. Runs files (text_of w c) packets_limit text) (λ c. runs_once files (text_of w c) packets_limit text)))
+
+-- ---- the law
+
+pub gives_one : OneMeaning → NeverBoth → GivesOne
+gives_one one apart files (Compile program entries image) g h a b =
+    reads_once files program program_limit _
+    (λ text. reads_once files entries entries_limit _ (λ entry_text. understands_once one files text entry_text _ (λ p lists. compiles_once apart p lists files image))) g h a b
+gives_one one apart files (Sim image packets) g h a b = run_once watch.Answers files image packets g h a b
+gives_one one apart files (Probe image packets cycle) g h a b = run_once (watch.Vectors cycle) files image packets g h a b
+gives_one one apart files (Plain program entries packets) g h a b =
+    reads_once files program program_limit _
+    (λ text. reads_once files entries entries_limit _
+    (λ entry_text. opens_once files packets _ (λ packet_text. understands_once one files text entry_text
+    (λ p lists. Runs files (plain_text p lists) packets_limit packet_text) (λ p lists. runs_once files (plain_text p lists) packets_limit packet_text)))) g h a b
+gives_one one apart files (Report image) g h a b =
+    reads_once files image image_limit _ (λ bytes. spelled_once files bytes (λ c g. g ≡ told files Done (report_line c)) (λ c. tells_once (told files Done (report_line c)))) g h a b
+gives_one one apart files (Sample number) g h a b =
+    understands_once one files (program_text number) (entries_text number) (λ p lists. Builds files (λ image c k. told files Done (sample_line number p lists c)) p lists)
+    (λ p lists. samples_once apart p lists files number) g h a b

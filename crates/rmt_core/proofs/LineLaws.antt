@@ -1,0 +1,12 @@
+-- Lines put together of parts.
+use Rattle.std.proofs.Common.{◌≡◌, ℕ, List, ◌++◌, Result, Ok, Err, OnOk, ap, ◌∙◌, append_assoc}
+
+-- what an answer gives, and what follows from it
+pub ok_then : {A E : Type 0} {P Q : Type 0} (r : Result A E) → (P → Q) → OnOk r P → OnOk r Q
+ok_then (Ok x) f h = f h
+ok_then (Err e) f h = tt
+
+-- three parts appended one after another
+pub three_parts : (a b c d x y z : List ℕ) → b ≡ a ++ x → c ≡ b ++ y → d ≡ c ++ z → d ≡ a ++ (x ++ (y ++ z))
+three_parts a b c d x y z first second third =
+    third ∙ ap (λ l. l ++ z) (second ∙ ap (λ l. l ++ y) first) ∙ append_assoc (a ++ x) y z ∙ append_assoc a x (y ++ z)

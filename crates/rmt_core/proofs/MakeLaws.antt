@@ -1,0 +1,116 @@
+-- What the back end built is what `compile` makes.
+use Rattle.std.proofs.Common.{◌≡◌, ◌≢◌, ℕ, ◌<◌, ◌≤◌, List, [], ◌∷◌, Option, Some, None, Result, Ok, Err, length, inl, refl, sym, subst, ◌∙◌}
+use Rattle.std.specs.Prelude.{All, IfErr, IfOk}
+use Rattle.std.proofs.lemmas.List.Elements.{All-cons, All-nil}
+use Rattle.rmt_bits.specs.declared.lane.Lane.{Lane}
+use Rattle.rmt_ast.specs.declared.deps.Edge.{Edge}
+use Rattle.rmt_ast.specs.declared.program.Program.{Program}
+use Rattle.rmt_ast.specs.declared.entry.Entry.{Entry}
+use Rattle.rmt_ast.specs.WellFormed.{IsProgram}
+use Rattle.rmt_bounds.specs.declared.bound.Bound.{Bound}
+use Rattle.rmt_bounds.specs.declared.bound.Proof.{Proof}
+use Rattle.rmt_bounds.specs.declared.bound.Proof.TheVariants.{Chain, Sram, Tcam, Slots}
+use Rattle.rmt_bounds.specs.Bounds.{stage_bound}
+use Rattle.rmt_bounds.specs.Proofs.{Gives, IsChain}
+use Rattle.rmt_bounds.proofs.GivenLaws.{bound-given}
+use Rattle.rmt_config.specs.declared.config.Config.{Config}
+use Rattle.rmt_config.specs.Form.{Formed}
+use Rattle.rmt_config.specs.Limits.{IsWithinLimits}
+use Rattle.rmt_config.specs.Spelling.{spelled}
+use Rattle.rmt_deps.specs.Edges.{field_edges}
+use Rattle.rmt_deps.proofs.EdgeLaws.{go_forward}
+use Rattle.rmt_refine.specs.declared.map.Map.{Map}
+use Rattle.rmt_refine.specs.Carries.{Carries}
+use Rattle.rmt_refine.specs.RunsAs.{RunsAs}
+use Rattle.rmt_build.specs.declared.built.Built.{Built}
+use Rattle.rmt_build.specs.declared.fault.NoFit.{NoFit}
+use Rattle.rmt_build.specs.declared.fault.NoFit.TheVariants as no_fit
+use Rattle.rmt_build.specs.Refusals.{first_refusal}
+use Rattle.rmt_core.specs.declared.status.Status.TheVariants as status
+use Rattle.rmt_core.specs.Files.{Files, updated}
+use Rattle.rmt_core.specs.Given.{Given}
+use Rattle.rmt_core.specs.Compiling.{Builds, Compiles, Fitted, IsByRule, Makes, Untailed, written}
+use Rattle.rmt_core.specs.CompileText.{compile_text}
+use Rattle.rmt_core.specs.Making.{AreOfText, IsBuilt, MakesImage}
+use Rattle.rmt_core.specs.NoFitText.{AreNodesOf}
+use Rattle.rmt_core.proofs.ImageSize.{image_is_short}
+
+-- ---- the nodes of a bound
+
+chain_nodes : (p : Program) (edges : List Edge) (ns : List ℕ) → IsChain p edges ns → All (λ n. n < length p.nodes) ns
+chain_nodes p edges [] c = All-nil (λ n. n < length p.nodes)
+chain_nodes p edges (n ∷ []) c = All-cons (λ x. x < length p.nodes) n [] c (All-nil (λ x. x < length p.nodes))
+chain_nodes p edges (a ∷ b ∷ ns) c = All-cons (λ x. x < length p.nodes) a (b ∷ ns) c.0 (chain_nodes p edges (b ∷ ns) c.2)
+
+gives_nodes : (p : Program) (edges : List Edge) (proof : Proof) (stages : ℕ) → Gives p edges proof stages → AreNodesOf p proof
+gives_nodes p edges (Chain ns) stages g = chain_nodes p edges ns g.0
+gives_nodes p edges (Sram blocks) stages g = tt
+gives_nodes p edges (Tcam blocks) stages g = tt
+gives_nodes p edges (Slots tables) stages g = tt
+
+-- the chain that proves the bound of a program has nodes of it
+pub are_nodes : (p : Program) (places : List (List Lane)) (b : Bound) → IsProgram p → b ≡ stage_bound p (field_edges p places) → AreNodesOf p b.proof
+are_nodes p places b program is =
+    let edges = field_edges p places in
+    let forward = (go_forward p places).field in
+    subst (λ (x : Bound). AreNodesOf p x.proof) (sym is)
+    (gives_nodes p edges (stage_bound p edges).proof (stage_bound p edges).stages
+    (bound-given p program edges (λ k d lt. (let e = forward k d lt in (e.later, e.is_node)))))
+
+-- ---- what is made
+
+-- where something was built, nothing was refused
+pub not_refused : (p : Program) (r : Result Built NoFit) (built : Built) → r ≡ Ok built → ((fault : NoFit) → first_refusal p ≡ Some fault → r ≢ Err no_fit.NoMemory → r ≡ Err fault)
+    → first_refusal p ≡ None
+not_refused p r built is refused = by (first_refusal p) refl
+  where
+    never : (fault : NoFit) → (let x : Result Built NoFit = Ok built in x) ≢ Err fault
+    never fault e = subst (λ (x : Result Built NoFit). IfErr x (λ _. ⊥)) e tt
+
+    by : (o : Option NoFit) → first_refusal p ≡ o → o ≡ None
+    by None e = refl
+    by (Some fault) e = absurd (never fault (sym is ∙ refused fault e (λ memory. never no_fit.NoMemory (sym is ∙ memory))))
+
+-- an image that spells what was built
+pub made : (p : Program) (lists : List (List Entry)) (image : List ℕ) (m : Map) (c : Config) (b : Bound) → IsProgram p → AreOfText p lists → image ≡ spelled c
+    → Formed c → IsWithinLimits c → RunsAs p lists c → Carries p lists m c → IsByRule p lists m c → b ≡ stage_bound p (field_edges p m.places) → Makes p lists image m c b
+made p lists image m c b program said spells formed limits runs carries rule bound = record {
+  spells = record { spelled = spells; formed = formed; limits = limits };
+  short = subst (λ (bytes : List ℕ). length bytes ≤ 268435456) (sym spells) (image_is_short p said.0 lists m c program said.1 said.2 carries formed limits);
+  runs = runs;
+  carries = carries;
+  by_rule = rule;
+  bound = bound;
+}
+
+-- what is built is told of
+pub builds : (files : Files) (finish : List ℕ → Config → Bound → Given) (p : Program) (lists : List (List Entry)) (built : Built) → IsBuilt p lists built
+    → Builds files finish p lists (finish (spelled built.config) built.config built.bound)
+builds files finish p lists built is =
+    let g = finish (spelled built.config) built.config built.bound in
+    subst (λ o. Untailed files finish p lists g o) (sym is.no_tail) (subst (λ o. Fitted files finish p lists g o) (sym is.no_refusal)
+    (inl (spelled built.config, built.map, built.config, built.bound, is.makes, refl)))
+
+-- its image and its lines are what `compile` makes
+pub built_image : (p : Program) (lists : List (List Entry)) (built : Built) (image lines : List ℕ) → IsBuilt p lists built → image ≡ spelled built.config
+    → lines ≡ compile_text p built.config built.bound → MakesImage p lists image lines
+built_image p lists built image lines is image_is lines_are files name =
+    subst (λ g. Compiles files name p lists g) (same image lines image_is lines_are) (builds files (written files name p) p lists built is)
+  where
+    same : (i l : List ℕ) → i ≡ spelled built.config → l ≡ compile_text p built.config built.bound
+        → written files name p (spelled built.config) built.config built.bound ≡ record { status = status.Done; text = l; files = updated files name i; writes = Some name }
+    same i l e f = rw (e, f) refl
+
+-- ---- the lines
+
+abbrev IsSomeText : List ℕ → Type 0
+IsSomeText [] = ⊥
+IsSomeText (x ∷ xs) = Unit {0}
+
+pub lines_some : (p : Program) (c : Config) (b : Bound) (lines : List ℕ) → lines ≡ compile_text p c b → lines ≢ []
+lines_some p c b lines is none = subst IsSomeText (sym is ∙ none) tt
+
+-- two facts of a value that is there give a third
+pub both_ok : {A E : Type 0} {P Q R : A → Type 0} (r : Result A E) → ((x : A) → P x → Q x → R x) → IfOk r P → IfOk r Q → IfOk r R
+both_ok (Ok x) f p q = f x p q
+both_ok (Err e) f p q = tt

@@ -1,0 +1,57 @@
+-- What a call of `sample` told.
+use Rattle.std.proofs.Common.{◌≡◌, ◌≢◌, ◌⊎◌, inl, inr, ⊎_elim, ℕ, Bool, List, map, length, refl, sym, ap, ◌∙◌}
+use Rattle.rmt_ast.specs.declared.program.Program.{Program}
+use Rattle.rmt_ast.specs.declared.entry.Entry.{Entry}
+use Rattle.rmt_build.specs.declared.built.Built.{Built}
+use Rattle.rmt_config.specs.declared.config.Config.{Config}
+use Rattle.rmt_config.specs.ChipRun.{cycles_of, outcomes_of}
+use Rattle.rmt_packets.specs.PacketText.{packets_of}
+use Rattle.rmt_refine.specs.RunsAs.{told_by_outcome}
+use Rattle.rmt_sample.specs.Texts.{packets_text}
+use Rattle.rmt_core.specs.declared.status.Status.{Status}
+use Rattle.rmt_core.specs.declared.status.Status.TheVariants.{Done, NoMemory, ReadFault, WriteFault}
+use Rattle.rmt_core.specs.Commands.{IsPossible, Sample}
+use Rattle.rmt_core.specs.Compiling.{Builds}
+use Rattle.rmt_core.specs.Ends.{Answered}
+use Rattle.rmt_core.specs.Files.{Files}
+use Rattle.rmt_core.specs.Given.{told}
+use Rattle.rmt_core.specs.Making.{IsBuilt}
+use Rattle.rmt_core.specs.Sampling.{answers_line, sample_line, sample_packets}
+use Rattle.rmt_core.specs.Tallies.{chip_line}
+use Rattle.rmt_core.specs.Telling.{Tells}
+use Rattle.rmt_core.proofs.MakeLaws.{builds}
+use Rattle.rmt_core.proofs.PacketLaws.{text_says_packets}
+use Rattle.rmt_core.proofs.TextLaws.{line_answered}
+
+-- the chip's answers are those of the plain run
+pub line_of_plain : (n : ℕ) (p : Program) (lists : List (List Entry)) (built : Built) → IsBuilt p lists built → sample_line n p lists built.config ≡ chip_line n built.config
+line_of_plain n p lists built is =
+    ap (λ answers. answers_line n answers (length built.config.stages) (cycles_of built.config (sample_packets n)))
+    (sym (is.makes.runs.answers (sample_packets n) (text_says_packets (packets_text n))))
+
+-- the line of the packets that the text says
+pub chip_line_of : (n : ℕ) (c : Config) (text found line : List ℕ) → text ≡ packets_text n
+    → found ≡ answers_line n (map told_by_outcome (outcomes_of c (packets_of text).packets)) (length c.stages) (cycles_of c (packets_of text).packets) → line ≡ chip_line n c → found ≡ line
+chip_line_of n c text found line text_is found_is line_is =
+    found_is ∙ ap (λ t. answers_line n (map told_by_outcome (outcomes_of c (packets_of t).packets)) (length c.stages) (cycles_of c (packets_of t).packets)) text_is ∙ sym line_is
+
+-- the line was told
+pub sample_answered : (files : Files) (steady tells : Bool) (writing faults after : ℕ) (old new : List ℕ) (n : ℕ) (p : Program) (lists : List (List Entry)) (built : Built) (result : Status)
+    → IsBuilt p lists built → Tells tells old new faults after (sample_line n p lists built.config) Done result
+    → Answered (record { files = files; after = files; steady = steady; writing = writing; writing_after = writing; tells = tells; old = old; new = new; faults = faults; faults_after = after })
+    (Builds files (λ image c b. told files Done (sample_line n p lists c)) p lists) result
+sample_answered files steady tells writing faults after old new n p lists built result is t =
+    line_answered _ (Builds files (λ image c b. told files Done (sample_line n p lists c)) p lists) Done result (sample_line n p lists built.config)
+    (builds files (λ image c b. told files Done (sample_line n p lists c)) p lists built is) (λ _. refl) (inl refl) t
+
+-- what may come of telling it
+pub told_possible : (n : ℕ) {tells : Bool} {old new line : List ℕ} {faults after : ℕ} {result : Status} → Tells tells old new faults after line Done result → IsPossible (Sample n) result
+told_possible n t = ⊎_elim (λ e. inl (inl e)) (λ rest. ⊎_elim (λ e. inr (inr (inr e))) (λ e. inr (inl e)) rest) t.kind
+
+pub told_no_reading : {tells : Bool} {old new line : List ℕ} {faults after : ℕ} {result : Status} → Tells tells old new faults after line Done result → result ≢ ReadFault
+told_no_reading {tells} {old} {new} {line} {faults} {after} {result} t e = by result e t.kind
+  where
+    by : (r : Status) → r ≡ ReadFault → (r ≡ Done) ⊎ ((r ≡ WriteFault) ⊎ (r ≡ NoMemory)) → ⊥
+    by r e (inl d) = cc
+    by r e (inr (inl w)) = cc
+    by r e (inr (inr m)) = cc

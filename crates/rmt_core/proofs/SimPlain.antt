@@ -1,0 +1,182 @@
+-- What `sim` prints of an image that `compile` made is what `plain` prints of the program, and then the cycles and the flight.
+use Rattle.std.proofs.Common.{◌≡◌, ℕ, ◌+◌, ◌≤◌, true, List, [], ◌∷◌, ◌++◌, map, Option, Some, None, Ok, length, sym, refl, inl, inr, ap, ◌∙◌, append_assoc}
+use Rattle.std.specs.Prelude.{All}
+use Rattle.std.specs.List.{flat_map}
+use Rattle.std.specs.Str.{bytes_eq}
+use Rattle.std.proofs.lemmas.Slice.Eq.{bytes_eq-Decides}
+use Rattle.rmt_bits.specs.Packet.{IsPacket, Packet}
+use Rattle.rmt_bits.specs.declared.answer.Answer.{Answer}
+use Rattle.rmt_bits.specs.declared.answer.Verdict.{Verdict}
+use Rattle.rmt_ast.specs.declared.program.Program.{Program}
+use Rattle.rmt_ast.specs.declared.program.Header.{Header}
+use Rattle.rmt_ast.specs.declared.entry.Entry.{Entry}
+use Rattle.rmt_ast.specs.Answers.{answers_of, counts_of}
+use Rattle.rmt_check.specs.Means.{Means}
+use Rattle.rmt_entries.specs.Entries.{entries_of}
+use Rattle.rmt_config.specs.declared.config.Config.{Config}
+use Rattle.rmt_config.specs.ChipRun.{Outcome, chip_counts_of, cycles_of, flight_of, inputs_of, outcomes_of}
+use Rattle.rmt_config.specs.Spells.{Spells}
+use Rattle.rmt_refine.specs.RunsAs.{RunsAs, told_by_answer, told_by_outcome}
+use Rattle.rmt_build.specs.declared.fault.NoFit.{NoFit}
+use Rattle.rmt_build.specs.Refusals.{first_refusal}
+use Rattle.rmt_packets.specs.AnswerLine.{answer_line}
+use Rattle.rmt_packets.specs.PacketText.{BadLine, Reading, packets_of}
+use Rattle.rmt_core.specs.declared.status.Status.TheVariants.{Done}
+use Rattle.rmt_core.specs.declared.watch.Watch.TheVariants as watch
+use Rattle.rmt_core.specs.Commands.{Compile}
+use Rattle.rmt_core.specs.Compiling.{Compiles, Fitted, Loaded, Untailed, first_tail, written}
+use Rattle.rmt_core.specs.Files.{Files, entries_limit, image_limit, packets_limit, program_limit, updated}
+use Rattle.rmt_core.specs.Given.{Given, Opens, Reads}
+use Rattle.rmt_core.specs.Gives.{Gives}
+use Rattle.rmt_core.specs.Headline.{IsWithin, SimPrintsPlain}
+use Rattle.rmt_core.specs.PlainText.{GivesPlain, plain_lines, plain_text}
+use Rattle.rmt_core.specs.Runs.{Runs}
+use Rattle.rmt_core.specs.SimText.{answer_lines, count_line, cycles_line, flight_line, printed_of, sim_text}
+use Rattle.rmt_core.specs.Simulating.{GivesRun, Spelled}
+use Rattle.rmt_core.specs.Texts.{Understands}
+use Rattle.rmt_core.specs.Watching.{text_of}
+use Rattle.rmt_core.proofs.GivenOnce.{OneMeaning}
+use Rattle.rmt_core.proofs.GivenDone.{RanToEnd, Understood, opened_there, ran_to_end, read_within, run_done, spelled_is, understood, was_opened, was_read, was_understood}
+use Rattle.rmt_core.proofs.PacketLaws.{text_says_packets}
+
+-- ---- the texts
+
+-- a line tells the verdict and the bytes
+abbrev line_of : ℕ → Verdict × List ℕ → List ℕ
+line_of n x = answer_line n (record { verdict = x.0; bytes = x.1; hits = [] })
+
+lines_same : (n : ℕ) (os : List Outcome) (answers : List Answer) → map told_by_outcome os ≡ map told_by_answer answers → answer_lines n os ≡ plain_lines n answers
+lines_same n [] [] e = refl
+lines_same n [] (a ∷ answers) e = cc
+lines_same n (o ∷ os) [] e = cc
+lines_same n (o ∷ os) (a ∷ answers) e =
+    let head : told_by_outcome o ≡ told_by_answer a = cc in
+    let tail : map told_by_outcome os ≡ map told_by_answer answers = cc in
+    ap (λ l. l ++ answer_lines (n + 1) os) (ap (line_of n) head) ∙ ap (λ l. answer_line n a ++ l) (lines_same (n + 1) os answers tail)
+
+-- what a text without a bad line says
+good : (r : Reading) → r.bad ≡ None → r ≡ record { packets = r.packets; bad = None }
+good r e = ap (λ (b : Option BadLine). record { packets = r.packets; bad = b }) e
+
+sim_is : (c : Config) (r : Reading) → r.bad ≡ None → printed_of c r ≡ sim_text c r.packets
+sim_is c r e = ap (printed_of c) (good r e)
+
+plain_is : (p : Program) (lists : List (List Entry)) (r : Reading) → r.bad ≡ None → plain_text p lists r ≡ plain_lines 0 (answers_of p lists r.packets) ++ flat_map count_line (counts_of p lists r.packets)
+plain_is p lists r e = ap (plain_text p lists) (good r e)
+
+same_texts : (p : Program) (lists : List (List Entry)) (c : Config) (packets : List Packet) → RunsAs p lists c → All IsPacket packets
+    → sim_text c packets ≡ (plain_lines 0 (answers_of p lists packets) ++ flat_map count_line (counts_of p lists packets)) ++ (cycles_line (cycles_of c packets) ++ flight_line (flight_of c packets))
+same_texts p lists c packets runs are =
+    let lines = lines_same 0 (outcomes_of c packets) (answers_of p lists packets) (runs.answers packets are) in
+    let counts = runs.counters packets are in
+    append_assoc (answer_lines 0 (outcomes_of c packets) ++ flat_map count_line (chip_counts_of c (inputs_of c packets))) (cycles_line (cycles_of c packets)) (flight_line (flight_of c packets))
+    ∙ ap (λ l. l ++ (cycles_line (cycles_of c packets) ++ flight_line (flight_of c packets)))
+    (ap (λ l. l ++ flat_map count_line (chip_counts_of c (inputs_of c packets))) lines ∙ ap (λ l. plain_lines 0 (answers_of p lists packets) ++ flat_map count_line l) counts)
+
+-- ---- what `compile` made
+
+-- an image in files, of a configuration that runs as a program does
+record IsMade (p : Program) (lists : List (List Entry)) (file : Option (List ℕ)) : Type 0 where
+  bytes : List ℕ
+  config : Config
+  stands : file ≡ Some bytes
+  short : length bytes ≤ image_limit
+  spells : Spells bytes config
+  runs : RunsAs p lists config
+
+stands_updated : (files : Files) (name bytes : List ℕ) → updated files name bytes name ≡ Some bytes
+stands_updated files name bytes = let same : bytes_eq name name ≡ true = (bytes_eq-Decides name name).1 refl in rw same refl
+
+module _ (p : Program) (lists : List (List Entry)) (files : Files) (name : List ℕ) (g : Given) (done : g.status ≡ Done) where
+  loaded_done : Loaded files (written files name p) p lists g → IsMade p lists (g.files name)
+  loaded_done (inl x) = record {
+    bytes = x.0;
+    config = x.2;
+    stands = ap (λ (k : Given). k.files name) x.5 ∙ stands_updated files name x.0;
+    short = x.4.short;
+    spells = x.4.spells;
+    runs = x.4.runs;
+  }
+  loaded_done (inr x) = absurd (let e = sym (ap (λ (k : Given). k.status) x.2) ∙ done in cc)
+
+  fitted_done : (o : Option NoFit) → Fitted files (written files name p) p lists g o → IsMade p lists (g.files name)
+  fitted_done None h = loaded_done h
+  fitted_done (Some fault) h = absurd (let e = sym (ap (λ (k : Given). k.status) h) ∙ done in cc)
+
+  untailed_done : (o : Option Header) → Untailed files (written files name p) p lists g o → IsMade p lists (g.files name)
+  untailed_done None h = fitted_done (first_refusal p) h
+  untailed_done (Some header) h = absurd (let e = sym (ap (λ (k : Given). k.status) h) ∙ done in cc)
+
+  compiled : Compiles files name p lists g → IsMade p lists (g.files name)
+  compiled h = untailed_done (first_tail p) h
+
+-- the two texts, and what was made of them
+record Compiled (files : Files) (program entries image : List ℕ) (g : Given) : Type 0 where
+  text : List ℕ
+  entry_text : List ℕ
+  has_text : IsWithin files program program_limit text
+  has_entries : IsWithin files entries entries_limit entry_text
+  meant : Understood text entry_text (Compiles files image) g
+  made : IsMade meant.program meant.lists (g.files image)
+
+was_compiled : (files : Files) (program entries image : List ℕ) (g : Given) → g.status ≡ Done → Gives files (Compile program entries image) g → Compiled files program entries image g
+was_compiled files program entries image g done h =
+    let first = was_read files program program_limit (λ text. Reads files entries entries_limit (λ entry_text. Understands files text entry_text (Compiles files image))) g done h in
+    let second = was_read files entries entries_limit (λ entry_text. Understands files first.bytes entry_text (Compiles files image)) g done first.then in
+    let meant = was_understood files first.bytes second.bytes (Compiles files image) g done second.then in
+    record {
+      text = first.bytes;
+      entry_text = second.bytes;
+      has_text = first.within;
+      has_entries = second.within;
+      meant = meant;
+      made = compiled meant.program meant.lists files image g done meant.then;
+    }
+
+-- ---- the runs
+
+-- a run of an image to the end of a packet text
+record Simulated (files : Files) (packets : List ℕ) (c : Config) (g : Given) : Type 0 where
+  text : List ℕ
+  is_there : files packets ≡ Some text
+  ran : RanToEnd files (text_of watch.Answers c) packets_limit text g
+
+simulated_is : (files : Files) (image packets bytes : List ℕ) (c : Config) (g : Given) → g.status ≡ Done → IsWithin files image image_limit bytes → Spells bytes c → GivesRun watch.Answers files image packets g
+    → Simulated files packets c g
+simulated_is files image packets bytes c g done within spells h =
+    let read = read_within files image image_limit (λ bytes. Opens files packets (λ text. Spelled files bytes (λ c. Runs files (text_of watch.Answers c) packets_limit text))) g (bytes, within) h in
+    let opened = was_opened files packets (λ text. Spelled files bytes (λ c. Runs files (text_of watch.Answers c) packets_limit text)) g done read in
+    let run = spelled_is files bytes (λ c. Runs files (text_of watch.Answers c) packets_limit opened.0) g c spells opened.2 in
+    record { text = opened.0; is_there = opened.1; ran = ran_to_end files (text_of watch.Answers c) packets_limit opened.0 g done run }
+
+plain_run : OneMeaning → (files : Files) (program entries packets text entry_text packet_text : List ℕ) (p : Program) (lists : List (List Entry)) (g : Given) → IsWithin files program program_limit text
+    → IsWithin files entries entries_limit entry_text → files packets ≡ Some packet_text → Means text (Ok p) → entries_of p entry_text ≡ Ok lists → GivesPlain files program entries packets g
+    → Runs files (plain_text p lists) packets_limit packet_text g
+plain_run one files program entries packets text entry_text packet_text p lists g has_text has_entries is means says h =
+    let first = read_within files program program_limit
+    (λ text. Reads files entries entries_limit
+    (λ entry_text. Opens files packets (λ packet_text. Understands files text entry_text (λ p lists. Runs files (plain_text p lists) packets_limit packet_text)))) g (text, has_text) h in
+    let second = read_within files entries entries_limit
+    (λ entry_text. Opens files packets (λ packet_text. Understands files text entry_text (λ p lists. Runs files (plain_text p lists) packets_limit packet_text))) g (entry_text, has_entries) first in
+    let opened = opened_there files packets packet_text (λ packet_text. Understands files text entry_text (λ p lists. Runs files (plain_text p lists) packets_limit packet_text)) g is second in
+    understood one files text entry_text (λ p lists. Runs files (plain_text p lists) packets_limit packet_text) g p lists means says opened
+
+later_within : (files later : Files) (name bytes : List ℕ) (limit : ℕ) → later name ≡ files name → IsWithin files name limit bytes → IsWithin later name limit bytes
+later_within files later name bytes limit same w = record { is_there = same ∙ w.is_there; is_short = w.is_short }
+
+-- ---- the law
+
+pub sim_prints_plain : OneMeaning → SimPrintsPlain
+sim_prints_plain one files later program entries image packets made simulated run compiles done same_image same_program same_entries simulates sim_done plains =
+    let c = was_compiled files program entries image made done compiles in
+    let within : IsWithin later image image_limit c.made.bytes = record { is_there = same_image ∙ c.made.stands; is_short = c.made.short } in
+    let s = simulated_is later image packets c.made.bytes c.made.config simulated sim_done within c.made.spells simulates in
+    let r = plain_run one later program entries packets c.text c.entry_text s.text c.meant.program c.meant.lists run (later_within files later program c.text program_limit same_program c.has_text)
+    (later_within files later entries c.entry_text entries_limit same_entries c.has_entries) s.is_there c.meant.means c.meant.says plains in
+    let told = run_done later (plain_text c.meant.program c.meant.lists) packets_limit s.text run s.ran.short s.ran.good r in
+    let reading = packets_of s.text in
+    let sim_text_is = s.ran.text_is ∙ (sim_is c.made.config reading s.ran.good ∙ same_texts c.meant.program c.meant.lists c.made.config reading.packets c.made.runs (text_says_packets s.text)) in
+    let plain_text_is : run.text ≡ plain_lines 0 (answers_of c.meant.program c.meant.lists reading.packets) ++ flat_map count_line (counts_of c.meant.program c.meant.lists reading.packets) =
+    ap (λ (k : Given). k.text) told ∙ plain_is c.meant.program c.meant.lists reading s.ran.good in
+    let last = cycles_line (cycles_of c.made.config reading.packets) ++ flight_line (flight_of c.made.config reading.packets) in
+    (ap (λ (k : Given). k.status) told, cycles_of c.made.config reading.packets, flight_of c.made.config reading.packets, sim_text_is ∙ ap (λ l. l ++ last) (sym plain_text_is))

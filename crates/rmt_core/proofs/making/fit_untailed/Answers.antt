@@ -1,0 +1,36 @@
+use Rattle.std.proofs.Common.{refl, subst, sym}
+use Rattle.rmt_config.specs.Spelling.{spelled}
+use Rattle.rmt_core.specs.Compiling.{IsByRule}
+use Rattle.rmt_core.specs.Making.{TellsWhy}
+use Rattle.rmt_core.proofs.MakeLaws.{made, not_refused}
+use Rattle.rmt_core.proofs.NoFitLaws.{no_tails, same_Err, tells_refusal}
+use Rattle.rmt_core.proofs.making.fit_untailed.Goals as goal
+
+pub build-requires-clause-no_tails : goal.build-requires-clause-no_tails
+build-requires-clause-no_tails c = no_tails c.args.program.now.headers c.requires.no_tail
+
+pub returns-in-Ok-clause-built : goal.returns-in-Ok-clause-built
+returns-in-Ok-clause-built c =
+    let p = c.args.program.now in
+    let lists = c.args.entries.now in
+    let map = c.in-Ok.built.map in
+    let config = c.in-Ok.built.config in
+    let bound = c.in-Ok.built.bound in
+    let b = c.in-Ok.ensures in
+    let runs = c.packet_lists.ensures p lists map config c.requires.program c.requires.entries b.carries b.formed.whole.memory in
+    let rule : IsByRule p lists map config = record { places = b.places; parser = b.parser; placement = b.placement; starts = b.starts; seed = b.seed } in
+    record {
+      no_tail = c.requires.no_tail;
+      no_refusal = not_refused p c.build.result c.in-Ok.built c.in-Ok.is c.build.ensures.refused;
+      makes = made p lists (spelled config) map config bound c.requires.program c.requires.said refl b.formed b.limits runs b.carries rule b.bound;
+    }
+
+pub returns-in-Err-clause-refused : goal.returns-in-Err-clause-refused
+returns-in-Err-clause-refused c = λ line e.
+    let p = c.args.program.now in
+    let lists = c.args.entries.now in
+    let told = same_Err _ _ e in
+    let b = c.build.ensures in
+    subst (TellsWhy p lists) (sym (c.refusal_of.ensures.line line told))
+    (tells_refusal p lists c.build.result c.in-Err.fault c.in-Err.is (c.refusal_of.ensures.no_memory line told) c.requires.no_tail
+    b.refused b.lookup b.step b.full b.action b.phv b.stage b.load)

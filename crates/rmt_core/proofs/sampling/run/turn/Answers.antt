@@ -1,0 +1,9 @@
+use Rattle.std.proofs.Common.{refl, sym}
+use Rattle.rmt_chip.specs.Inputs.{input_of}
+use Rattle.rmt_core.proofs.TallyLaws.{stands_on}
+use Rattle.rmt_core.proofs.sampling.run.turn.Goals as goal
+
+pub returns-clause-stands : goal.returns-clause-stands
+returns-clause-stands c = λ k inputs s.
+    stands_on k inputs (input_of c.args.frame) c.args.run.now _ c.clock-left.result c.clock-left.new.out (c.clock-left.ensures k inputs s.stands) refl
+    (λ answers counts. rw (sym c.bytes.ensures) (c.count.ensures.counts answers counts)) s

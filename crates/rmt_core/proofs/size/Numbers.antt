@@ -1,0 +1,138 @@
+-- Where a configuration carries entries, each number that its slots list is that of an entry.
+use Rattle.std.proofs.Common.{◌≡◌, ℕ, zero, suc, ◌+◌, ◌<◌, true, ◌==◌, List, [], ◌∷◌, Some, get_or, refl, sym, ap, ◌∙◌, subst, inl, inr, arith}
+use Rattle.std.specs.Prelude.{All, Contains, map, option_and_then, option_map, slice_get, unwrap_or}
+use Rattle.std.proofs.lemmas.Bool.{cases_order, eq-eqb, eqb-true}
+use Rattle.std.proofs.lemmas.List.{get_or_default}
+use Rattle.std.proofs.lemmas.List.Elements.{All-contains_itself, All-head, All-map, All-nil, All-tail}
+use Rattle.std.proofs.lemmas.Option.{none-some, same_Some, slice_get-get_or}
+use Rattle.rmt_bits.proofs.AllLaws.{All-flat_map, All-slice_get}
+use Rattle.rmt_ast.specs.declared.program.Program.{Program}
+use Rattle.rmt_ast.specs.declared.program.Table.{Table}
+use Rattle.rmt_ast.specs.declared.program.Node.{Node}
+use Rattle.rmt_ast.specs.declared.program.What.{What}
+use Rattle.rmt_ast.specs.declared.program.What.TheVariants as what
+use Rattle.rmt_ast.specs.declared.entry.Entry.{Entry}
+use Rattle.rmt_ast.specs.EntryLists.{AreEntries}
+use Rattle.rmt_config.specs.declared.config.Config.{Config}
+use Rattle.rmt_config.specs.declared.config.Stage.{Stage}
+use Rattle.rmt_config.specs.declared.config.Unit.{Unit}
+use Rattle.rmt_config.specs.declared.config.Unit.TheVariants.{Gate, Slot}
+use Rattle.rmt_config.specs.declared.config.SlotUnit.{SlotUnit}
+use Rattle.rmt_config.specs.declared.config.CellNumber.{CellNumber}
+use Rattle.rmt_config.specs.CellForm.{Coded, SlotHolds, StageHolds, coded_from, entry_numbers, numbers_of_stage, numbers_of_unit}
+use Rattle.rmt_config.specs.Cells.{Content, content_of, is_seen, number_of_cell}
+use Rattle.rmt_config.specs.Order.{rises_from}
+use Rattle.rmt_config.proofs.RiseLaws.{rise-below}
+use Rattle.rmt_refine.specs.declared.map.Map.{Map}
+use Rattle.rmt_refine.specs.View.{as_slot, no_content, own_content, own_number, slot_of}
+use Rattle.rmt_refine.specs.Units.{DoesAs, TableCarried, applied, table_at}
+use Rattle.rmt_refine.specs.Cells.{Spot}
+use Rattle.rmt_refine.specs.Carries.{Carries}
+use Rattle.rmt_refine.specs.Outcomes.{entries_at}
+use Rattle.rmt_refine.proofs.CellNumberLaws.{cells_listed}
+use Rattle.rmt_refine.proofs.FindLaws.{All-contains, find-passes, find-some}
+use Rattle.rmt_refine.proofs.OutcomeLaws.{list_at}
+use Rattle.rmt_refine.proofs.PartLaws.{IsPart, slot_of_part, some_and, spot_of_part, unit_of_part}
+
+-- ---- what a slot lists
+
+-- the rules of form of a slot
+coded_slot : (P : Coded → Type 0) (units : List Unit) (first place : ℕ) (slot : SlotUnit) → option_and_then as_slot (slice_get units place) ≡ Some slot → All P (coded_from first units)
+    → (f : ℕ) × P (record { first = f; slot = slot })
+coded_slot P [] first place slot e all = absurd (none-some slot e)
+coded_slot P ((Gate g) ∷ units) first zero slot e all = absurd (none-some slot e)
+coded_slot P ((Gate g) ∷ units) first (suc place) slot e all = coded_slot P units first place slot e all
+coded_slot P ((Slot s) ∷ units) first zero slot e all =
+    (first, subst (λ x. P (record { first = first; slot = x })) (same_Some s slot e) (All-head P (record { first = first; slot = s }) (coded_from (first + s.actions + 1) units) all))
+coded_slot P ((Slot s) ∷ units) first (suc place) slot e all =
+    coded_slot P units (first + s.actions + 1) place slot e (All-tail P (record { first = first; slot = s }) (coded_from (first + s.actions + 1) units) all)
+
+-- items that rise are the same where their numbers are
+one_cell : (numbers : List CellNumber) (x y : CellNumber) → rises_from 0 (map (λ (n : CellNumber). n.cell) numbers) ≡ true → Contains numbers x → Contains numbers y → x.cell ≡ y.cell → x ≡ y
+one_cell numbers x y rises in_x in_y same =
+    let below = rise-below (λ (n : CellNumber). n.cell) 0 numbers rises in
+    let at_y : get_or numbers in_y.0 x ≡ y = get_or_default numbers in_y.0 x y in_y.1 ∙ in_y.2 in
+    let x_cell : (get_or numbers in_x.0 x).cell ≡ x.cell = ap (λ (n : CellNumber). n.cell) in_x.2 in
+    let y_cell : (get_or numbers in_y.0 x).cell ≡ y.cell = ap (λ (n : CellNumber). n.cell) at_y in
+    elim (cases_order in_x.0 in_y.0) as (λ _. x ≡ y) [
+      | inl at ↦ sym in_x.2 ∙ ap (λ i. get_or numbers i x) at ∙ at_y
+      | inr (inl lt) ↦ absurd (omega (arith, below in_x.0 in_y.0 x lt in_y.1, x_cell, y_cell, same))
+      | inr (inr gt) ↦ absurd (omega (arith, below in_y.0 in_x.0 x gt in_x.1, x_cell, y_cell, same))
+    ]
+
+-- the number of a cell that is listed
+number_listed : (numbers : List CellNumber) (x : CellNumber) → rises_from 0 (map (λ (n : CellNumber). n.cell) numbers) ≡ true → Contains numbers x → number_of_cell numbers x.cell ≡ x.number
+number_listed numbers x rises there =
+    let first = find-some (λ (n : CellNumber). n.cell == x.cell) numbers x there (eq-eqb x.cell x.cell refl) in
+    let passes = find-passes (λ (n : CellNumber). n.cell == x.cell) numbers first.0 first.1 in
+    let same : first.0 ≡ x = one_cell numbers first.0 x rises passes.0 there (eqb-true first.0.cell x.cell passes.1) in
+    ap (λ o. unwrap_or (option_map (λ (n : CellNumber). n.number) o) 0) first.1 ∙ ap (λ (n : CellNumber). n.number) same
+
+-- ---- the table of a slot
+
+table_done : (p : Program) (m : Map) (k n : ℕ) (w : What) (slot : SlotUnit) → DoesAs p m.places m.placement.parts k n w (Slot slot) → (t : Table) × (applied p w ≡ Some t)
+table_done p m k n (what.Apply i) slot does =
+    let t = some_and (slice_get p.tables i) (λ (x : Table). TableCarried m.places m.placement.parts n k x slot) does in (t.0, t.1)
+table_done p m k n (what.Gate field test) slot does = absurd does
+
+module _ (p : Program) (lists : List (List Entry)) (m : Map) (c : Config) (entries : AreEntries p lists) (carries : Carries p lists m c) (memory : All StageHolds c.stages) where
+  own_content_is : (k place cell : ℕ) (stage : Stage) (slot : SlotUnit) → IsPart c slot.node k place stage slot → own_content c k place cell ≡ content_of stage slot cell
+  own_content_is k place cell stage slot part =
+      ap (λ o. unwrap_or (option_and_then (λ (x : Stage). option_map (λ (y : SlotUnit). content_of x y cell) (slot_of x place)) o) no_content) part.stage_is
+      ∙ ap (λ o. unwrap_or (option_map (λ (y : SlotUnit). content_of stage y cell) o) no_content) part.slot_is
+
+  own_number_is : (k place cell : ℕ) (stage : Stage) (slot : SlotUnit) → IsPart c slot.node k place stage slot → own_number c k place cell ≡ number_of_cell slot.numbers cell
+  own_number_is k place cell stage slot part =
+      ap (λ o. unwrap_or (option_map (λ (y : SlotUnit). number_of_cell y.numbers cell) o) 0) (slot_of_part c slot.node k place stage slot part)
+
+  -- an entry of a list
+  record IsOf (number : ℕ) : Type 0 where
+    node : ℕ
+    entry : Entry
+    list_is : slice_get lists node ≡ Some (entries_at lists node)
+    there : Contains (entries_at lists node) entry
+    number_is : entry.number ≡ number
+
+  entry_of_number : (k place : ℕ) (stage : Stage) (slot : SlotUnit) (x : CellNumber) → IsPart c slot.node k place stage slot → Contains slot.numbers x → IsOf x.number
+  entry_of_number k place stage slot x part there =
+      let unit = unit_of_part p m.places m.placement.parts m.starts c slot.node k place stage slot carries.units part in
+      let node = some_and (slice_get p.nodes slot.node) (λ (n : Node). DoesAs p m.places m.placement.parts k slot.node n.what (Slot slot)) unit.1.does in
+      let table = table_done p m k slot.node node.0.what slot node.2 in
+      let at_table : table_at p slot.node ≡ Some table.0 = ap (option_and_then (λ (n : Node). applied p n.what)) node.1 ∙ table.1 in
+      let list = list_at p lists slot.node node.0 entries node.1 in
+      let coded = coded_slot (λ (y : Coded). SlotHolds stage y.first y.slot) stage.units 0 place slot part.slot_is (All-slice_get StageHolds c.stages k stage memory part.stage_is) in
+      let listed = cells_listed stage coded.0 slot coded.1 in
+      let cells = carries.cells.tables slot.node table.0 (entries_at lists slot.node) at_table list.0 in
+      let spot : Spot = record { stage = k; place = place; cell = x.cell } in
+      let is_spot = spot_of_part c slot.node k place x.cell stage slot part (listed.within x there) in
+      let seen : is_seen (own_content c k place x.cell).head ≡ true =
+      ap (λ (y : Content). is_seen y.head) (own_content_is k place x.cell stage slot part) ∙ listed.seen x there in
+      let e = cells.only spot is_spot seen in
+      let holds = cells.holds e.0 spot stage e.1 is_spot e.2 part.stage_is in
+      record {
+        node = slot.node;
+        entry = e.0;
+        list_is = list.0;
+        there = e.1;
+        number_is = sym holds.number_is ∙ own_number_is k place x.cell stage slot part ∙ number_listed slot.numbers x listed.rises there;
+      }
+
+  -- ---- so their numbers are below what the numbers of entries are below
+
+  module _ (n : ℕ) (below : All (λ es. All (λ (e : Entry). e.number < n) es) lists) where
+    unit_below : (k place : ℕ) (stage : Stage) (u : Unit) → slice_get c.stages k ≡ Some stage → slice_get stage.units place ≡ Some u → All (λ x. x < n) (numbers_of_unit u)
+    unit_below k place stage (Gate g) stage_is unit_is = All-nil (λ x. x < n)
+    unit_below k place stage (Slot slot) stage_is unit_is =
+        let part : IsPart c slot.node k place stage slot = record { stage_is = stage_is; slot_is = ap (option_and_then as_slot) unit_is; node_is = refl } in
+        All-map (λ x. x < n) (λ (x : CellNumber). x.number) slot.numbers (λ i d lt.
+        let x = get_or slot.numbers i d in
+        let of = entry_of_number k place stage slot x part (All-contains_itself slot.numbers i d lt) in
+        let all = All-slice_get (λ es. All (λ (e : Entry). e.number < n) es) lists of.node (entries_at lists of.node) below of.list_is in
+        subst (λ y. y < n) of.number_is (All-contains (λ (e : Entry). e.number < n) (entries_at lists of.node) of.entry all of.there))
+
+    pub numbers_below : All (λ x. x < n) (entry_numbers c)
+    numbers_below =
+        All-flat_map (λ x. x < n) numbers_of_stage c.stages (λ k d lt.
+        let stage = get_or c.stages k d in
+        All-flat_map (λ x. x < n) numbers_of_unit stage.units (λ i u lti.
+        unit_below k i stage (get_or stage.units i u) (slice_get-get_or c.stages k d lt) (slice_get-get_or stage.units i u lti)))

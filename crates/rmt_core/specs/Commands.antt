@@ -1,0 +1,95 @@
+-- The words of a command line.
+use Rattle.std.specs.Prelude.{◌≡◌, ◌⊎◌, ℕ, Bool, List, [], ◌∷◌, ◌&&◌, Option, Some, None, option_map, nat_le, length, map, codes, if◌then◌else◌, string_bytes}
+use Rattle.std.specs.List.{list_all}
+use Rattle.std.specs.Str.{bytes_eq}
+use Rattle.std.specs.Prelude.{String}
+use Rattle.std.specs.Global.{Global}
+use Rattle.rmt_packets.specs.PacketText.{is_digit, number_of_digits}
+use Rattle.rmt_core.specs.declared.status.Status.{Status}
+use Rattle.rmt_core.specs.declared.status.Status.TheVariants.{Done, BadProgram, BadEntries, NoFit, BadImage, BadPackets, TooLong}
+use Rattle.rmt_core.specs.Ends.{IsOfOutside}
+
+-- a command, with the names of its files; `sample` reads none
+pub data Command : Type 0 where
+  Compile : (program entries image : List ℕ) → Command
+  Sim : (image packets : List ℕ) → Command
+  Probe : (image packets : List ℕ) (cycle : ℕ) → Command
+  Plain : (program entries packets : List ℕ) → Command
+  Report : (image : List ℕ) → Command
+  Sample : (number : ℕ) → Command
+
+-- the cycle that 1 to 9 decimal digits say
+abbrev pub cycle_of : List ℕ → Option ℕ
+cycle_of word = if nat_le 1 (length word) && nat_le (length word) 9 && list_all is_digit word then Some (number_of_digits word) else None
+
+-- 1 to 6 decimal digits
+abbrev pub is_short_number : List ℕ → Bool
+is_short_number word = nat_le 1 (length word) && nat_le (length word) 6 && list_all is_digit word
+
+-- a number from 1 to 100,000
+abbrev pub is_sample_number : ℕ → Bool
+is_sample_number n = nat_le 1 n && nat_le n 100000
+
+-- the number that 1 to 6 decimal digits say, from 1 to 100,000
+abbrev pub sample_number_of : List ℕ → Option ℕ
+sample_number_of word = if is_short_number word && is_sample_number (number_of_digits word) then Some (number_of_digits word) else None
+
+-- a probe command, where its last word is a cycle
+abbrev pub probe_of : List ℕ → List ℕ → Option ℕ → Option Command
+probe_of image packets cycle = option_map (λ n. Probe image packets n) cycle
+
+-- the command of a word with three words behind it
+abbrev pub with_three : List ℕ → List ℕ → List ℕ → List ℕ → Option Command
+with_three word first second third =
+    if bytes_eq word (codes "compile") then Some (Compile first second third)
+    else (if bytes_eq word (codes "plain") then Some (Plain first second third)
+    else (if bytes_eq word (codes "probe") then probe_of first second (cycle_of third) else None))
+
+-- the command of a word with one word behind it
+abbrev pub with_one : List ℕ → List ℕ → Option Command
+with_one word first =
+    if bytes_eq word (codes "report") then Some (Report first)
+    else (if bytes_eq word (codes "sample") then option_map Sample (sample_number_of first) else None)
+
+-- the command that words are: `compile PROGRAM ENTRIES IMAGE`, `sim IMAGE PACKETS`, `probe IMAGE PACKETS CYCLE`, `plain PROGRAM ENTRIES PACKETS`,
+-- `report IMAGE` or `sample N`
+abbrev pub command_of : List (List ℕ) → Option Command
+command_of (word ∷ first ∷ second ∷ third ∷ []) = with_three word first second third
+command_of (word ∷ image ∷ packets ∷ []) = if bytes_eq word (codes "sim") then Some (Sim image packets) else None
+command_of (word ∷ first ∷ []) = with_one word first
+command_of _ = None
+
+-- what holds of the command that words are
+abbrev pub IfCommand : Option Command → (Command → Type 0) → Type 0
+IfCommand None P = Unit {0}
+IfCommand (Some command) P = P command
+
+-- the command is `compile`
+abbrev pub IsCompile : Command → Type 0
+IsCompile (Compile program entries image) = Unit {0}
+IsCompile (Sim image packets) = ⊥
+IsCompile (Probe image packets cycle) = ⊥
+IsCompile (Plain program entries packets) = ⊥
+IsCompile (Report image) = ⊥
+IsCompile (Sample number) = ⊥
+
+-- the answers of files that a command may have
+abbrev pub IsOf : Command → Status → Type 0
+IsOf (Compile program entries image) status = (status ≡ Done) ⊎ (status ≡ BadProgram) ⊎ (status ≡ BadEntries) ⊎ (status ≡ NoFit) ⊎ (status ≡ TooLong)
+IsOf (Sim image packets) status = (status ≡ Done) ⊎ (status ≡ BadImage) ⊎ (status ≡ BadPackets) ⊎ (status ≡ TooLong)
+IsOf (Probe image packets cycle) status = (status ≡ Done) ⊎ (status ≡ BadImage) ⊎ (status ≡ BadPackets) ⊎ (status ≡ TooLong)
+IsOf (Plain program entries packets) status = (status ≡ Done) ⊎ (status ≡ BadProgram) ⊎ (status ≡ BadEntries) ⊎ (status ≡ BadPackets) ⊎ (status ≡ TooLong)
+IsOf (Report image) status = (status ≡ Done) ⊎ (status ≡ BadImage) ⊎ (status ≡ TooLong)
+IsOf (Sample number) status = (status ≡ Done) ⊎ (status ≡ BadProgram) ⊎ (status ≡ BadEntries) ⊎ (status ≡ NoFit)
+
+-- all of them
+abbrev pub IsPossible : Command → Status → Type 0
+IsPossible command status = IsOf command status ⊎ IsOfOutside status
+
+-- and those of a run over a packet text
+abbrev pub IsRunStatus : Status → Type 0
+IsRunStatus status = (status ≡ Done) ⊎ (status ≡ BadPackets) ⊎ (status ≡ TooLong) ⊎ IsOfOutside status
+
+-- words as their bytes
+abbrev pub words_of : List (String Global) → List (List ℕ)
+words_of words = map string_bytes words

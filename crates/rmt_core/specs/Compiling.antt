@@ -1,0 +1,97 @@
+-- What `compile` gives: the image of a configuration that answers as the program does, or why there is none.
+use Rattle.std.specs.Prelude.{◌≡◌, ◌≤◌, ◌⊎◌, ℕ, List, Option, Some, None, Ok, length, find, is_some}
+use Rattle.rmt_bits.specs.declared.lane.Lane.{Lane}
+use Rattle.rmt_ast.specs.declared.program.Program.{Program}
+use Rattle.rmt_ast.specs.declared.program.Header.{Header}
+use Rattle.rmt_ast.specs.declared.entry.Entry.{Entry}
+use Rattle.rmt_config.specs.declared.config.Config.{Config}
+use Rattle.rmt_config.specs.Spells.{Spells}
+use Rattle.rmt_bounds.specs.declared.bound.Bound.{Bound}
+use Rattle.rmt_bounds.specs.Bounds.{stage_bound}
+use Rattle.rmt_deps.specs.Edges.{dependencies_of, field_edges}
+use Rattle.rmt_pack.specs.declared.placement.Part.{Part}
+use Rattle.rmt_phv.specs.Packing.{packing}
+use Rattle.rmt_place.specs.Placing.{placement as placement_by_rule}
+use Rattle.rmt_place.specs.Starting.{starts_of}
+use Rattle.rmt_ptcam.specs.Clustering.{clustered_or}
+use Rattle.rmt_refine.specs.declared.map.Map.{Map}
+use Rattle.rmt_refine.specs.Carries.{Carries, all_edges}
+use Rattle.rmt_refine.specs.RunsAs.{RunsAs}
+use Rattle.rmt_build.specs.declared.fault.NoFit.{NoFit}
+use Rattle.rmt_build.specs.declared.fault.NoFit.TheVariants.{Load}
+use Rattle.rmt_build.specs.Loads.{AreNotLoaded, IsFirstSeed}
+use Rattle.rmt_build.specs.Refusals.{first_refusal}
+use Rattle.rmt_core.specs.declared.status.Status.TheVariants as status
+use Rattle.rmt_core.specs.Files.{Files, entries_limit, image_limit, program_limit, updated}
+use Rattle.rmt_core.specs.Given.{Given, Reads, told}
+use Rattle.rmt_core.specs.Texts.{Understands}
+use Rattle.rmt_core.specs.NoFitText.{no_fit_line, tail_line}
+use Rattle.rmt_core.specs.CompileText.{compile_text}
+
+-- Fields are packed, frames parsed, nodes placed and stages started by their rules, and exact tables are loaded under the first seed that serves.
+pub record IsByRule (p : Program) (lists : List (List Entry)) (m : Map) (c : Config) : Type 0 where
+  pub places : packing p ≡ Ok m.places
+  pub parser : clustered_or p m.places ≡ Ok c.parser
+  pub placement : placement_by_rule p m.places (dependencies_of p m.places) ≡ Ok m.placement.parts
+  pub starts : m.starts ≡ starts_of (all_edges p m.places) m.placement.parts
+  pub seed : IsFirstSeed p lists m.placement.parts c.seed
+
+-- The image spells one configuration within every limit. As the map tells, it carries the program with its entries and is made by the rules; and for every list
+-- of packets its chip run gives the verdicts, bytes and counters of the plain run. The bound is that of the program.
+pub record Makes (p : Program) (lists : List (List Entry)) (image : List ℕ) (m : Map) (c : Config) (b : Bound) : Type 0 where
+  pub spells : Spells image c
+  pub short : length image ≤ image_limit
+  pub runs : RunsAs p lists c
+  pub carries : Carries p lists m c
+  pub by_rule : IsByRule p lists m c
+  pub bound : b ≡ stage_bound p (field_edges p m.places)
+
+-- the first header with a tail
+abbrev pub first_tail : Program → Option Header
+first_tail p = find (λ (h : Header). is_some h.tail) p.headers
+
+-- under each seed some exact table has entries that have fewer cells than they are: the line names the first such table of the last seed
+pub record IsFull (p : Program) (lists : List (List Entry)) (line : List ℕ) : Type 0 where
+  pub places : List (List Lane)
+  pub parts : List Part
+  pub node : ℕ
+  pub members : ℕ
+  pub cells : ℕ
+  pub packed : packing p ≡ Ok places
+  pub placed : placement_by_rule p places (dependencies_of p places) ≡ Ok parts
+  pub full : AreNotLoaded p lists parts node members cells
+  pub line_is : line ≡ no_fit_line p (Load node members cells)
+
+-- What is made of a program with its entries: an image of a configuration, of which a command tells, or the last line for tables that don't load.
+abbrev pub Loaded : Files → (List ℕ → Config → Bound → Given) → Program → List (List Entry) → Given → Type 0
+Loaded files finish p lists g =
+    ((image : List ℕ) × (m : Map) × (c : Config) × (b : Bound) × Makes p lists image m c b × (g ≡ finish image c b))
+    ⊎ ((line : List ℕ) × IsFull p lists line × (g ≡ told files status.NoFit line))
+
+-- a refusal before loading ends it
+abbrev pub Fitted : Files → (List ℕ → Config → Bound → Given) → Program → List (List Entry) → Given → Option NoFit → Type 0
+Fitted files finish p lists g (Some fault) = g ≡ told files status.NoFit (no_fit_line p fault)
+Fitted files finish p lists g None = Loaded files finish p lists g
+
+-- and a tail before all others
+abbrev pub Untailed : Files → (List ℕ → Config → Bound → Given) → Program → List (List Entry) → Given → Option Header → Type 0
+Untailed files finish p lists g (Some header) = g ≡ told files status.NoFit (tail_line header)
+Untailed files finish p lists g None = Fitted files finish p lists g (first_refusal p)
+
+-- a command that makes a configuration for a program with its entries, and tells of it
+abbrev pub Builds : Files → (List ℕ → Config → Bound → Given) → Program → List (List Entry) → Given → Type 0
+Builds files finish p lists g = Untailed files finish p lists g (first_tail p)
+
+-- the image stands under a name, and its lines are printed
+abbrev pub written : Files → List ℕ → Program → List ℕ → Config → Bound → Given
+written files name p image c b = record { status = status.Done; text = compile_text p c b; files = updated files name image; writes = Some name }
+
+abbrev pub Compiles : Files → List ℕ → Program → List (List Entry) → Given → Type 0
+Compiles files name p lists g = Builds files (written files name p) p lists g
+
+-- `compile PROGRAM ENTRIES IMAGE`
+abbrev pub GivesCompile : Files → List ℕ → List ℕ → List ℕ → Given → Type 0
+GivesCompile files program entries image =
+    Reads files program program_limit (λ text.
+    Reads files entries entries_limit (λ entry_text.
+    Understands files text entry_text (Compiles files image)))

@@ -1,0 +1,34 @@
+-- Files by name, and what a command finds in them.
+use Rattle.std.specs.Prelude.{ℕ, List, Option, Some, None, length, nat_lt, if◌then◌else◌}
+use Rattle.std.specs.Str.{bytes_eq}
+
+-- the bytes of files by name
+abbrev pub Files : Type 0
+Files = List ℕ → Option (List ℕ)
+
+-- the files with one more, or another one of its name
+abbrev pub updated : Files → List ℕ → List ℕ → Files
+updated files name bytes = λ other. if bytes_eq other name then Some bytes else files other
+
+-- what is found in a file of which so many bytes may be read
+pub data Found : Type 0 where
+  Absent : Found
+  Long : Found
+  Holds : (bytes : List ℕ) → Found
+
+abbrev pub found : ℕ → Option (List ℕ) → Found
+found limit None = Absent
+found limit (Some bytes) = if nat_lt limit (length bytes) then Long else Holds bytes
+
+-- how many bytes a program text, an entry text, an image and a packet text may have
+abbrev pub program_limit : ℕ
+program_limit = 1048576
+
+abbrev pub entries_limit : ℕ
+entries_limit = 67108864
+
+abbrev pub image_limit : ℕ
+image_limit = 268435456
+
+abbrev pub packets_limit : ℕ
+packets_limit = 1099511627776

@@ -1,0 +1,9 @@
+-- What a sink gained.
+use Rattle.std.specs.Prelude.{◌≡◌, ℕ, List, ◌++◌}
+
+-- what was gained from old to new is a front of the text, of which this is the rest
+pub record GainsFront (old new text : List ℕ) : Type 0 where
+  pub gained : List ℕ
+  pub rest : List ℕ
+  pub text_is : text ≡ gained ++ rest
+  pub new_is : new ≡ old ++ gained

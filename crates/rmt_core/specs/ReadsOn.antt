@@ -1,0 +1,48 @@
+-- What a reader of packets in pieces stands for.
+use Rattle.std.specs.Prelude.{◌≡◌, ◌≤◌, ℕ, ◌+◌, Bool, List, [], ◌∷◌, ◌++◌, None, length, IsTrue, if◌then◌else◌}
+use Rattle.rmt_bits.specs.Packet.{Packet}
+use Rattle.rmt_packets.specs.Lines.{numbered_lines}
+use Rattle.rmt_packets.specs.PacketText.{reading_of}
+use Rattle.rmt_packets.specs.Pieces.{LineState, Stands, ended_lines, front_of}
+
+-- what a reader holds: the reader of its lines, the bytes that the shelf gave and that wait to be taken, how many bytes more may be
+-- asked of the shelf, whether the text's end was seen and its last line taken, and how many packets were given
+pub record ReaderState : Type 0 where
+  pub lines : LineState
+  pub waiting : List ℕ
+  pub left : ℕ
+  pub is_finished : Bool
+  pub given : ℕ
+
+-- the packet lines of what was taken: at the end of the text the last one too, whether a line feed ends it or not
+abbrev pub lines_taken : Bool → List ℕ → List (ℕ × List ℕ)
+lines_taken is_finished taken = if is_finished then numbered_lines 1 taken else ended_lines taken
+
+-- a reader took this front of a text of which so many bytes may be read, and the shelf has yet to give the rest
+pub record Took (limit : ℕ) (text : List ℕ) (reader : ReaderState) (rest taken : List ℕ) : Type 0 where
+  pub stands : Stands taken reader.lines
+  pub whole : text ≡ taken ++ (reader.waiting ++ rest)
+  pub within : length taken + (length reader.waiting + reader.left) ≡ limit
+  pub finished : IsTrue reader.is_finished → taken ≡ text
+
+-- a reader gave these packets of a text of which so many bytes may be read, and the shelf has yet to give the rest
+pub record ReadsOn (limit : ℕ) (text : List ℕ) (done : List Packet) (reader : ReaderState) (rest : List ℕ) : Type 0 where
+  pub taken : List ℕ
+  pub took : Took limit text reader rest taken
+  pub packets : reading_of (lines_taken reader.is_finished taken) ≡ record { packets = done; bad = None }
+
+-- behind these packets a reader holds the next packet line
+pub record AtLine (limit : ℕ) (text : List ℕ) (done : List Packet) (reader : ReaderState) (rest : List ℕ) : Type 0 where
+  pub taken : List ℕ
+  pub took : Took limit text reader rest taken
+  pub earlier : List (ℕ × List ℕ)
+  pub line : List ℕ
+  pub lines : lines_taken reader.is_finished taken ≡ earlier ++ (reader.lines.number, line) ∷ []
+  pub packets : reading_of earlier ≡ record { packets = done; bad = None }
+  pub front : reader.lines.front ≡ front_of line
+
+-- a text was taken that has so many packet lines at least
+pub record HasLines (count : ℕ) (is_finished : Bool) (lines : LineState) : Type 0 where
+  pub text : List ℕ
+  pub stands : Stands text lines
+  pub enough : count ≤ length (lines_taken is_finished text)

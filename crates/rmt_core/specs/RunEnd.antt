@@ -1,0 +1,43 @@
+-- How a run over a packet text ends.
+use Rattle.std.specs.Prelude.{◌≡◌, ◌≢◌, ◌≤◌, ◌<◌, ℕ, Bool, IsTrue, List, [], Option, Some, None, option_map, length}
+use Rattle.rmt_bits.specs.Packet.{Packet}
+use Rattle.rmt_packets.specs.PacketText.{BadLine, Reading}
+use Rattle.rmt_core.specs.declared.run_end.Bad.{Bad}
+use Rattle.rmt_core.specs.declared.run_end.RunFault.{RunFault}
+use Rattle.rmt_core.specs.declared.run_end.RunFault.TheVariants.{NoMemory, Write, Read, TooLong}
+use Rattle.rmt_core.specs.declared.status.Status.{Status}
+use Rattle.rmt_core.specs.declared.status.Status.TheVariants as status
+use Rattle.rmt_core.specs.Printing.{GainsFront}
+use Rattle.rmt_core.specs.Runs.{reading_within, told_reading}
+
+-- a bad line, as the definition of packet texts has it
+abbrev pub bad_line : Option Bad → Option BadLine
+bad_line bad = option_map (λ (b : Bad). record { code = b.code; line = b.line }) bad
+
+abbrev pub status_of_fault : RunFault → Status
+status_of_fault NoMemory = status.NoMemory
+status_of_fault Write = status.WriteFault
+status_of_fault Read = status.ReadFault
+status_of_fault TooLong = status.TooLong
+
+abbrev pub status_of_end : Option Bad → Status
+status_of_end None = status.Done
+status_of_end (Some bad) = status.BadPackets
+
+-- A text of which so many bytes may be read was read to its end, or to its first bad line: it says these packets before.
+pub record ReadsAll (limit : ℕ) (text : List ℕ) (done : List Packet) (bad : Option BadLine) : Type 0 where
+  pub says : reading_within limit text ≡ record { packets = done; bad = bad }
+  pub ends : bad ≡ None → length text ≤ limit
+
+-- A run was cut off: a front of these lines was printed, and a fault of the sink comes only where there are lines.
+pub record Cut (lines : List ℕ) (told : Bool) (before now : List ℕ) (fault : RunFault) : Type 0 where
+  pub front : IsTrue told → GainsFront before now lines
+  pub some : fault ≡ Write → lines ≢ []
+
+-- A run over a text ended early: a front of what the text gives was printed, a fault of the sink comes only where that is something, and TooLong only of a text that goes
+-- on behind its limit and has no bad line within it.
+pub record Breaks (printed : Reading → List ℕ) (limit : ℕ) (text : List ℕ) (told : Bool) (before now : List ℕ) (fault : RunFault) : Type 0 where
+  pub front : IsTrue told → GainsFront before now (printed (told_reading limit text (reading_within limit text).bad))
+  pub some : fault ≡ Write → printed (told_reading limit text (reading_within limit text).bad) ≢ []
+  pub long : fault ≡ TooLong → limit < length text
+  pub within : fault ≡ TooLong → (reading_within limit text).bad ≡ None

@@ -1,0 +1,28 @@
+-- What `sim` and `probe` give.
+use Rattle.std.specs.Prelude.{◌≡◌, ℕ, List, Result, Ok, Err}
+use Rattle.rmt_config.specs.declared.config.Config.{Config}
+use Rattle.rmt_image.specs.declared.fault.ImageFault.{ImageFault}
+use Rattle.rmt_image.specs.Reading.{Answers}
+use Rattle.rmt_core.specs.declared.status.Status.TheVariants.{BadImage}
+use Rattle.rmt_core.specs.declared.watch.Watch.{Watch}
+use Rattle.rmt_core.specs.Files.{Files, image_limit, packets_limit}
+use Rattle.rmt_core.specs.Given.{Given, Opens, Reads, told}
+use Rattle.rmt_core.specs.Runs.{Runs}
+use Rattle.rmt_core.specs.SimText.{bad_image_line}
+use Rattle.rmt_core.specs.Watching.{text_of}
+
+-- with the configuration of an image a command goes on; it ends with the fault of bytes that are none
+abbrev pub OfAnswer : Files → (Config → Given → Type 0) → Given → Result Config ImageFault → Type 0
+OfAnswer files next g (Ok c) = next c g
+OfAnswer files next g (Err fault) = g ≡ told files BadImage (bad_image_line fault)
+
+-- a command that looks at the bytes of an image
+abbrev pub Spelled : Files → List ℕ → (Config → Given → Type 0) → Given → Type 0
+Spelled files bytes next g = (answer : Result Config ImageFault) × Answers bytes answer × OfAnswer files next g answer
+
+-- `sim IMAGE PACKETS` and `probe IMAGE PACKETS CYCLE`, by what is watched
+abbrev pub GivesRun : Watch → Files → List ℕ → List ℕ → Given → Type 0
+GivesRun watch files image packets =
+    Reads files image image_limit (λ bytes.
+    Opens files packets (λ text.
+    Spelled files bytes (λ c. Runs files (text_of watch c) packets_limit text)))

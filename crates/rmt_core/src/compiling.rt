@@ -1,0 +1,152 @@
+//! The command `compile`.
+
+ghost use Rattle.std.specs.Prelude.{◌≡◌, ◌≢◌, ◌≤◌, ◌⊎◌, [], Some, Ok, IsTrue, length, string_bytes};
+ghost use Rattle.rmt_ast.specs.EntryLists.{AreEntries};
+ghost use Rattle.rmt_ast.specs.WellFormed.{IsProgram};
+ghost use Rattle.rmt_io.specs.Faults.{Rose};
+ghost use Rattle.rmt_core.specs.Commands.{IsPossible, Compile};
+ghost use Rattle.rmt_core.specs.Compiling.{Compiles, GivesCompile};
+ghost use Rattle.rmt_core.specs.Ends.{Answered, AreSame, Ends};
+ghost use Rattle.rmt_core.specs.Files.{entries_limit, program_limit, updated};
+ghost use Rattle.rmt_core.specs.Given.{Reads};
+ghost use Rattle.rmt_core.specs.Making.{AreOfText};
+ghost use Rattle.rmt_core.specs.Texts.{Understands};
+
+use crate::loading::{ENTRIES_LIMIT, PROGRAM_LIMIT, read_file};
+use crate::making::{Made, Refusal, make};
+use crate::printing::end_with;
+use crate::status::Status;
+use crate::texts::{Meant, tell_text_fault, understand};
+use rmt_check::laws::one_meaning;
+use rmt_io::shelf::{Shelf, ShelfFault};
+use rmt_io::sink::Sink;
+use std::alloc::Global;
+
+/// Compiles a program and its entries to an image, and prints its lines. The image and the lines are made before anything is
+/// written.
+pub fn compile<F: Shelf, O: Sink>(
+    alloc: Global,
+    program: &String,
+    entries: &String,
+    image: &String,
+    shelf: &mut F,
+    out: &mut O,
+) -> Status
+    ensures possible { IsPossible (Compile (string_bytes program.now) (string_bytes entries.now) (string_bytes image.now)) result }
+    ensures answered { IsTrue (F.told shelf.old) → Answered (record { files = F.file shelf.old; after = F.file shelf.new; steady = F.steady shelf.old; writing = F.writing_faults shelf.old; writing_after = F.writing_faults shelf.new; tells = O.told out.old; old = O.bytes out.old; new = O.bytes out.new; faults = O.faults out.old; faults_after = O.faults out.new }) (GivesCompile (F.file shelf.old) (string_bytes program.now) (string_bytes entries.now) (string_bytes image.now)) result }
+    ensures quiet { result ≡ Status.NoMemory → IsTrue (O.told out.old) → O.bytes out.new ≡ O.bytes out.old }
+    ensures read_fault { result ≡ Status.ReadFault → Rose (F.reading_faults shelf.old) (F.reading_faults shelf.new) }
+    ensures write_fault { result ≡ Status.WriteFault → Rose (F.writing_faults shelf.old) (F.writing_faults shelf.new) ⊎ Rose (O.faults out.old) (O.faults out.new) }
+    ensures steady_write { result ≡ Status.WriteFault → IsTrue (F.steady shelf.old) → Rose (O.faults out.old) (O.faults out.new) }
+    ensures tells { F.told shelf.new ≡ F.told shelf.old }
+    ensures sink_tells { O.told out.new ≡ O.told out.old }
+{
+    match read_file(alloc, program, PROGRAM_LIMIT, shelf) {
+        Ok(text) => compile_text(alloc, &text, entries, image, shelf, out),
+        Err(status) => status,
+    }
+}
+
+/// Compiles a program text with the entries of a file.
+fn compile_text<F: Shelf, O: Sink>(
+    alloc: Global,
+    text: &Vec<u8>,
+    entries: &String,
+    image: &String,
+    shelf: &mut F,
+    out: &mut O,
+) -> Status
+    requires { length text.now.items ≤ program_limit }
+    ensures possible { IsPossible (Compile [] (string_bytes entries.now) (string_bytes image.now)) result }
+    ensures answered { IsTrue (F.told shelf.old) → Answered (record { files = F.file shelf.old; after = F.file shelf.new; steady = F.steady shelf.old; writing = F.writing_faults shelf.old; writing_after = F.writing_faults shelf.new; tells = O.told out.old; old = O.bytes out.old; new = O.bytes out.new; faults = O.faults out.old; faults_after = O.faults out.new }) (Reads (F.file shelf.old) (string_bytes entries.now) entries_limit (λ entry_text. Understands (F.file shelf.old) text.now.items entry_text (Compiles (F.file shelf.old) (string_bytes image.now)))) result }
+    ensures quiet { result ≡ Status.NoMemory → IsTrue (O.told out.old) → O.bytes out.new ≡ O.bytes out.old }
+    ensures read_fault { result ≡ Status.ReadFault → Rose (F.reading_faults shelf.old) (F.reading_faults shelf.new) }
+    ensures write_fault { result ≡ Status.WriteFault → Rose (F.writing_faults shelf.old) (F.writing_faults shelf.new) ⊎ Rose (O.faults out.old) (O.faults out.new) }
+    ensures steady_write { result ≡ Status.WriteFault → IsTrue (F.steady shelf.old) → Rose (O.faults out.old) (O.faults out.new) }
+    ensures tells { F.told shelf.new ≡ F.told shelf.old }
+    ensures sink_tells { O.told out.new ≡ O.told out.old }
+{
+    match read_file(alloc, entries, ENTRIES_LIMIT, shelf) {
+        Ok(entry_text) => compile_texts(alloc, text, &entry_text, image, shelf, out),
+        Err(status) => status,
+    }
+}
+
+/// Compiles a program text with an entry text.
+fn compile_texts<F: Shelf, O: Sink>(
+    alloc: Global,
+    text: &Vec<u8>,
+    entry_text: &Vec<u8>,
+    image: &String,
+    shelf: &mut F,
+    out: &mut O,
+) -> Status
+    requires text { length text.now.items ≤ program_limit }
+    requires entries { length entry_text.now.items ≤ entries_limit }
+    ensures possible { IsPossible (Compile [] [] (string_bytes image.now)) result }
+    ensures no_reading { result ≢ Status.ReadFault }
+    ensures answered { IsTrue (F.told shelf.old) → Answered (record { files = F.file shelf.old; after = F.file shelf.new; steady = F.steady shelf.old; writing = F.writing_faults shelf.old; writing_after = F.writing_faults shelf.new; tells = O.told out.old; old = O.bytes out.old; new = O.bytes out.new; faults = O.faults out.old; faults_after = O.faults out.new }) (Understands (F.file shelf.old) text.now.items entry_text.now.items (Compiles (F.file shelf.old) (string_bytes image.now))) result }
+    ensures quiet { result ≡ Status.NoMemory → IsTrue (O.told out.old) → O.bytes out.new ≡ O.bytes out.old }
+    ensures write_fault { result ≡ Status.WriteFault → Rose (F.writing_faults shelf.old) (F.writing_faults shelf.new) ⊎ Rose (O.faults out.old) (O.faults out.new) }
+    ensures steady_write { result ≡ Status.WriteFault → IsTrue (F.steady shelf.old) → Rose (O.faults out.old) (O.faults out.new) }
+    ensures tells { F.told shelf.new ≡ F.told shelf.old }
+    ensures sink_tells { O.told out.new ≡ O.told out.old }
+{
+    one_meaning();
+    match understand(alloc, text.as_slice(), entry_text.as_slice()) {
+        Ok(meant) => compile_meant(alloc, &meant, image, shelf, out),
+        Err(fault) => tell_text_fault(alloc, fault, out),
+    }
+}
+
+/// Compiles a program with its entries.
+fn compile_meant<F: Shelf, O: Sink>(
+    alloc: Global,
+    meant: &Meant,
+    image: &String,
+    shelf: &mut F,
+    out: &mut O,
+) -> Status
+    requires program { IsProgram meant.now.program }
+    requires entries { AreEntries meant.now.program meant.now.entries }
+    requires said { AreOfText meant.now.program meant.now.entries }
+    ensures possible { IsPossible (Compile [] [] (string_bytes image.now)) result }
+    ensures no_reading { result ≢ Status.ReadFault }
+    ensures answered { IsTrue (F.told shelf.old) → Answered (record { files = F.file shelf.old; after = F.file shelf.new; steady = F.steady shelf.old; writing = F.writing_faults shelf.old; writing_after = F.writing_faults shelf.new; tells = O.told out.old; old = O.bytes out.old; new = O.bytes out.new; faults = O.faults out.old; faults_after = O.faults out.new }) (Compiles (F.file shelf.old) (string_bytes image.now) meant.now.program meant.now.entries) result }
+    ensures quiet { result ≡ Status.NoMemory → IsTrue (O.told out.old) → O.bytes out.new ≡ O.bytes out.old }
+    ensures write_fault { result ≡ Status.WriteFault → Rose (F.writing_faults shelf.old) (F.writing_faults shelf.new) ⊎ Rose (O.faults out.old) (O.faults out.new) }
+    ensures steady_write { result ≡ Status.WriteFault → IsTrue (F.steady shelf.old) → Rose (O.faults out.old) (O.faults out.new) }
+    ensures tells { F.told shelf.new ≡ F.told shelf.old }
+    ensures sink_tells { O.told out.new ≡ O.told out.old }
+{
+    match make(alloc, &meant.program, &meant.entries) {
+        Ok(made) => deliver(alloc, &made, image, shelf, out),
+        Err(Refusal::NoMemory) => Status::NoMemory,
+        Err(Refusal::NoFit { line }) => end_with(out, line.as_slice(), Status::NoFit),
+    }
+}
+
+/// Writes an image to a file, and then prints its lines.
+fn deliver<F: Shelf, O: Sink>(
+    alloc: Global,
+    made: &Made,
+    name: &String,
+    shelf: &mut F,
+    out: &mut O,
+) -> Status
+    requires { made.now.lines ≢ [] }
+    ensures kind { (result ≡ Status.Done) ⊎ (result ≡ Status.WriteFault) ⊎ (result ≡ Status.NoMemory) }
+    ensures ends { result ≢ Status.NoMemory → IsTrue (F.told shelf.old) → Ends (record { files = F.file shelf.old; after = F.file shelf.new; steady = F.steady shelf.old; writing = F.writing_faults shelf.old; writing_after = F.writing_faults shelf.new; tells = O.told out.old; old = O.bytes out.old; new = O.bytes out.new; faults = O.faults out.old; faults_after = O.faults out.new }) (record { status = Status.Done; text = made.now.lines; files = updated (F.file shelf.old) (string_bytes name.now) made.now.image.items; writes = Some (string_bytes name.now) }) result }
+    ensures files { result ≡ Status.NoMemory → IsTrue (F.told shelf.old) → AreSame (F.file shelf.new) (F.file shelf.old) }
+    ensures quiet { result ≡ Status.NoMemory → IsTrue (O.told out.old) → O.bytes out.new ≡ O.bytes out.old }
+    ensures write_fault { result ≡ Status.WriteFault → Rose (F.writing_faults shelf.old) (F.writing_faults shelf.new) ⊎ Rose (O.faults out.old) (O.faults out.new) }
+    ensures steady_write { result ≡ Status.WriteFault → IsTrue (F.steady shelf.old) → Rose (O.faults out.old) (O.faults out.new) }
+    ensures tells { F.told shelf.new ≡ F.told shelf.old }
+    ensures sink_tells { O.told out.new ≡ O.told out.old }
+{
+    match shelf.write(alloc, name, &made.image) {
+        Ok(()) => end_with(out, made.lines.as_slice(), Status::Done),
+        Err(ShelfFault::NoMemory) => Status::NoMemory,
+        Err(ShelfFault::Failed | ShelfFault::TooLong) => Status::WriteFault,
+    }
+}

@@ -1,0 +1,38 @@
+//! What holds of what the commands give.
+
+ghost use Rattle.rmt_core.specs.Headline.{GivesAlways, GivesOne, IsComplete, SimPrintsPlain};
+
+use rmt_check::laws::one_meaning;
+use rmt_cuckoo::never_both;
+use rmt_entries::laws::lists_or_fault;
+
+/// Each command gives one status and one text over the same files, but for the numbers of a table that doesn't load.
+pub fn gives_one()
+    ensures { GivesOne }
+{
+    one_meaning();
+    never_both();
+}
+
+/// Whatever the files are, each command but `compile` gives something.
+pub fn gives_always()
+    ensures { GivesAlways }
+{
+    one_meaning();
+    lists_or_fault();
+}
+
+/// Where the files are as they must be, a command gives `Done`.
+pub fn is_complete()
+    ensures { IsComplete }
+{
+    one_meaning();
+    never_both();
+}
+
+/// What `compile` made runs as `plain` runs the program: `sim` prints the same, and then its cycles and its flight.
+pub fn sim_prints_plain()
+    ensures { SimPrintsPlain }
+{
+    one_meaning();
+}

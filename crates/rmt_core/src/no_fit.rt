@@ -1,0 +1,195 @@
+//! The last lines that tell why a program doesn't fit the chip.
+
+ghost use Rattle.std.specs.Prelude.{◌≡◌, ◌++◌, IfOk, OnOk, codes};
+ghost use Rattle.std.specs.Fmt.{decimal};
+ghost use Rattle.std.specs.List.{flat_map};
+ghost use Rattle.rmt_core.specs.NoFitText.{action_name, field_name, header_name, hit_text, no_fit_line, node_name, tail_line};
+
+use crate::names::{add_action_name, add_field_name, add_header_name, add_node_name};
+use rmt_ast::program::{Header, Program};
+use rmt_build::fault::NoFit;
+use rmt_config::limits::LimitHit;
+use std::alloc::{AllocError, Global};
+
+/// `no fit`, the kind and its parts; nothing where there is no memory.
+pub fn no_fit_text(alloc: Global, program: &Program, fault: &NoFit) -> Result<Vec<u8>, AllocError>
+    ensures { IfOk result (λ text. text.items ≡ no_fit_line program.now fault.now) }
+{
+    let mut text = Vec::new(alloc);
+    add_no_fit(alloc, program, fault, &mut text)?;
+    Ok(text)
+}
+
+/// `no fit tail` and the name of a header that has one.
+pub fn tail_text(alloc: Global, header: &Header) -> Result<Vec<u8>, AllocError>
+    ensures { IfOk result (λ text. text.items ≡ tail_line header.now) }
+{
+    let mut text = Vec::new(alloc);
+    text.extend_from_slice(b"no fit tail ")?;
+    text.extend_from_slice(header.name.as_slice())?;
+    text.extend_from_slice(b"\n")?;
+    Ok(text)
+}
+
+/// Appends the line of a refusal.
+fn add_no_fit(
+    alloc: Global,
+    program: &Program,
+    fault: &NoFit,
+    text: &mut Vec<u8>,
+) -> Result<(), AllocError>
+    ensures { OnOk result (text.new.items ≡ text.old.items ++ no_fit_line program.now fault.now) }
+{
+    match fault {
+        NoFit::NoMemory => Ok(()),
+        NoFit::Lookup { header, bytes } => {
+            add_header_line(alloc, program, b"no fit lookup ", *header, *bytes, text)
+        }
+        NoFit::Step { header, extracts } => {
+            add_header_line(alloc, program, b"no fit step ", *header, *extracts, text)
+        }
+        NoFit::Parser { entries } => add_parser_line(alloc, *entries, text),
+        NoFit::Action { action, field } => add_action_line(program, *action, *field, text),
+        NoFit::Phv { field, class } => add_field_line(alloc, program, *field, *class, text),
+        NoFit::Stage { node, hits } => {
+            add_stage_line(alloc, program, *node, hits.as_slice(), text)
+        }
+        NoFit::Load {
+            table,
+            members,
+            cells,
+        } => add_load_line(alloc, program, *table, *members, *cells, text),
+    }
+}
+
+/// Appends a space, a number and a line feed.
+fn add_last_number(alloc: Global, number: u64, text: &mut Vec<u8>) -> Result<(), AllocError>
+    ensures { OnOk result (text.new.items ≡ text.old.items ++ (codes " " ++ (decimal number ++ codes "\n"))) }
+{
+    let end = format!(in alloc; " {number}\n")?;
+    text.extend_from_slice(end.as_bytes())
+}
+
+/// Appends words, the name of a header and a number.
+fn add_header_line(
+    alloc: Global,
+    program: &Program,
+    words: &[u8],
+    header: u32,
+    number: u32,
+    text: &mut Vec<u8>,
+) -> Result<(), AllocError>
+    ensures { OnOk result (text.new.items ≡ text.old.items ++ (words.now ++ (header_name program.now header ++ (codes " " ++ (decimal number ++ codes "\n"))))) }
+{
+    text.extend_from_slice(words)?;
+    add_header_name(program, header, text)?;
+    add_last_number(alloc, u64::from(number), text)
+}
+
+/// Appends the line of a parser with too many entries.
+fn add_parser_line(alloc: Global, entries: u32, text: &mut Vec<u8>) -> Result<(), AllocError>
+    ensures { OnOk result (text.new.items ≡ text.old.items ++ (codes "no fit parser " ++ (decimal entries ++ codes "\n"))) }
+{
+    let line = format!(in alloc; "no fit parser {entries}\n")?;
+    text.extend_from_slice(line.as_bytes())
+}
+
+/// Appends the line of an action that is too deep in a field.
+fn add_action_line(
+    program: &Program,
+    action: u32,
+    field: u32,
+    text: &mut Vec<u8>,
+) -> Result<(), AllocError>
+    ensures { OnOk result (text.new.items ≡ text.old.items ++ (codes "no fit action " ++ (action_name program.now action ++ (codes " " ++ (field_name program.now field ++ codes "\n"))))) }
+{
+    text.extend_from_slice(b"no fit action ")?;
+    add_action_name(program, action, text)?;
+    text.extend_from_slice(b" ")?;
+    add_field_name(program, field, text)?;
+    text.extend_from_slice(b"\n")
+}
+
+/// Appends the line of a field for which no word of a class is left.
+fn add_field_line(
+    alloc: Global,
+    program: &Program,
+    field: u32,
+    class: u8,
+    text: &mut Vec<u8>,
+) -> Result<(), AllocError>
+    ensures { OnOk result (text.new.items ≡ text.old.items ++ (codes "no fit phv " ++ (field_name program.now field ++ (codes " " ++ (decimal class ++ codes "\n"))))) }
+{
+    text.extend_from_slice(b"no fit phv ")?;
+    add_field_name(program, field, text)?;
+    add_last_number(alloc, u64::from(class), text)
+}
+
+/// Appends the line of a node that doesn't stand in the stages that are left.
+fn add_stage_line(
+    alloc: Global,
+    program: &Program,
+    node: u32,
+    hits: &[LimitHit],
+    text: &mut Vec<u8>,
+) -> Result<(), AllocError>
+    ensures { OnOk result (text.new.items ≡ text.old.items ++ (codes "no fit stage " ++ (node_name program.now node ++ (flat_map hit_text hits.now ++ codes "\n")))) }
+{
+    text.extend_from_slice(b"no fit stage ")?;
+    add_node_name(alloc, program, node, text)?;
+    add_hits(alloc, hits, text)?;
+    text.extend_from_slice(b"\n")
+}
+
+/// Appends the limits that one more quantum would pass, stage by stage.
+fn add_hits(alloc: Global, hits: &[LimitHit], text: &mut Vec<u8>) -> Result<(), AllocError>
+    ensures { OnOk result (text.new.items ≡ text.old.items ++ flat_map hit_text hits.now) }
+{
+    for hit in hits {
+        add_hit(alloc, hit, text)?;
+    }
+    Ok(())
+}
+
+/// Appends a stage, a limit, its sum there and what one more quantum would take.
+fn add_hit(alloc: Global, hit: &LimitHit, text: &mut Vec<u8>) -> Result<(), AllocError>
+    ensures { OnOk result (text.new.items ≡ text.old.items ++ hit_text hit.now) }
+{
+    let LimitHit {
+        limit,
+        stage,
+        sum,
+        need,
+    } = *hit;
+    let part = format!(in alloc; " {stage}:{limit}:{sum}:{need}")?;
+    text.extend_from_slice(part.as_bytes())
+}
+
+/// Appends the line of a node whose table has some entries that have fewer cells.
+fn add_load_line(
+    alloc: Global,
+    program: &Program,
+    node: u32,
+    members: u32,
+    cells: u64,
+    text: &mut Vec<u8>,
+) -> Result<(), AllocError>
+    ensures { OnOk result (text.new.items ≡ text.old.items ++ (codes "no fit load " ++ (node_name program.now node ++ (codes " " ++ (decimal members ++ (codes " " ++ (decimal cells ++ codes "\n"))))))) }
+{
+    text.extend_from_slice(b"no fit load ")?;
+    add_node_name(alloc, program, node, text)?;
+    add_two_numbers(alloc, members, cells, text)
+}
+
+/// Appends two numbers, each behind a space, and a line feed.
+fn add_two_numbers(
+    alloc: Global,
+    first: u32,
+    second: u64,
+    text: &mut Vec<u8>,
+) -> Result<(), AllocError>
+    ensures { OnOk result (text.new.items ≡ text.old.items ++ (codes " " ++ (decimal first ++ (codes " " ++ (decimal second ++ codes "\n"))))) }
+{
+    let end = format!(in alloc; " {first} {second}\n")?;
+    text.extend_from_slice(end.as_bytes())
+}

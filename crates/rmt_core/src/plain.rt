@@ -1,0 +1,138 @@
+//! The command `plain`.
+
+ghost use Rattle.std.specs.Prelude.{◌≡◌, ◌≤◌, ◌⊎◌, ℕ, List, [], IsTrue, length, string_bytes};
+ghost use Rattle.rmt_ast.specs.EntryLists.{AreEntries};
+ghost use Rattle.rmt_ast.specs.WellFormed.{IsProgram};
+ghost use Rattle.rmt_io.specs.Faults.{Rose};
+ghost use Rattle.rmt_core.specs.Commands.{IsPossible, Plain as Command};
+ghost use Rattle.rmt_core.specs.Ends.{Answered};
+ghost use Rattle.rmt_core.specs.Files.{entries_limit, packets_limit, program_limit};
+ghost use Rattle.rmt_core.specs.PlainRunning.{OfOpen, OfText, OfTexts};
+ghost use Rattle.rmt_core.specs.PlainText.{GivesPlain, plain_text};
+ghost use Rattle.rmt_core.specs.Runs.{Runs};
+
+use crate::loading::{ENTRIES_LIMIT, PACKETS_LIMIT, PROGRAM_LIMIT, open_file, read_file};
+use crate::plain_run::run_plain;
+use crate::status::Status;
+use crate::texts::{Meant, tell_text_fault, understand};
+use rmt_check::laws::one_meaning;
+use rmt_io::shelf::Shelf;
+use rmt_io::sink::Sink;
+use rmt_plain::plain::Plain;
+use std::alloc::Global;
+
+/// Runs a program with its entries table by table, one packet of a text after another.
+pub fn plain<F: Shelf, O: Sink>(
+    alloc: Global,
+    program: &String,
+    entries: &String,
+    packets: &String,
+    shelf: &mut F,
+    out: &mut O,
+) -> Status
+    ensures possible { IsPossible (Command (string_bytes program.now) (string_bytes entries.now) (string_bytes packets.now)) result }
+    ensures answered { IsTrue (F.told shelf.old) → Answered (record { files = F.file shelf.old; after = F.file shelf.new; steady = F.steady shelf.old; writing = F.writing_faults shelf.old; writing_after = F.writing_faults shelf.new; tells = O.told out.old; old = O.bytes out.old; new = O.bytes out.new; faults = O.faults out.old; faults_after = O.faults out.new }) (GivesPlain (F.file shelf.old) (string_bytes program.now) (string_bytes entries.now) (string_bytes packets.now)) result }
+    ensures read_fault { result ≡ Status.ReadFault → Rose (F.reading_faults shelf.old) (F.reading_faults shelf.new) }
+    ensures write_fault { result ≡ Status.WriteFault → Rose (O.faults out.old) (O.faults out.new) }
+    ensures tells { F.told shelf.new ≡ F.told shelf.old }
+    ensures sink_tells { O.told out.new ≡ O.told out.old }
+{
+    match read_file(alloc, program, PROGRAM_LIMIT, shelf) {
+        Ok(text) => plain_of_text(alloc, &text, entries, packets, shelf, out),
+        Err(status) => status,
+    }
+}
+
+/// Runs the program of a text with the entries of a file.
+fn plain_of_text<F: Shelf, O: Sink>(
+    alloc: Global,
+    text: &Vec<u8>,
+    entries: &String,
+    packets: &String,
+    shelf: &mut F,
+    out: &mut O,
+) -> Status
+    requires { length text.now.items ≤ program_limit }
+    ensures possible { IsPossible (Command [] (string_bytes entries.now) (string_bytes packets.now)) result }
+    ensures answered { IsTrue (F.told shelf.old) → Answered (record { files = F.file shelf.old; after = F.file shelf.new; steady = F.steady shelf.old; writing = F.writing_faults shelf.old; writing_after = F.writing_faults shelf.new; tells = O.told out.old; old = O.bytes out.old; new = O.bytes out.new; faults = O.faults out.old; faults_after = O.faults out.new }) (OfText (F.file shelf.old) (string_bytes entries.now) (string_bytes packets.now) text.now.items) result }
+    ensures read_fault { result ≡ Status.ReadFault → Rose (F.reading_faults shelf.old) (F.reading_faults shelf.new) }
+    ensures write_fault { result ≡ Status.WriteFault → Rose (O.faults out.old) (O.faults out.new) }
+    ensures tells { F.told shelf.new ≡ F.told shelf.old }
+    ensures sink_tells { O.told out.new ≡ O.told out.old }
+{
+    match read_file(alloc, entries, ENTRIES_LIMIT, shelf) {
+        Ok(entry_text) => plain_of_texts(alloc, text, &entry_text, packets, shelf, out),
+        Err(status) => status,
+    }
+}
+
+/// Runs the program and the entries of two texts over the packets of a file.
+fn plain_of_texts<F: Shelf, O: Sink>(
+    alloc: Global,
+    text: &Vec<u8>,
+    entry_text: &Vec<u8>,
+    packets: &String,
+    shelf: &mut F,
+    out: &mut O,
+) -> Status
+    requires text { length text.now.items ≤ program_limit }
+    requires entries { length entry_text.now.items ≤ entries_limit }
+    ensures possible { IsPossible (Command [] [] (string_bytes packets.now)) result }
+    ensures answered { IsTrue (F.told shelf.old) → Answered (record { files = F.file shelf.old; after = F.file shelf.new; steady = F.steady shelf.old; writing = F.writing_faults shelf.old; writing_after = F.writing_faults shelf.new; tells = O.told out.old; old = O.bytes out.old; new = O.bytes out.new; faults = O.faults out.old; faults_after = O.faults out.new }) (OfTexts (F.file shelf.old) (string_bytes packets.now) text.now.items entry_text.now.items) result }
+    ensures read_fault { result ≡ Status.ReadFault → Rose (F.reading_faults shelf.old) (F.reading_faults shelf.new) }
+    ensures write_fault { result ≡ Status.WriteFault → Rose (O.faults out.old) (O.faults out.new) }
+    ensures tells { F.told shelf.new ≡ F.told shelf.old }
+    ensures sink_tells { O.told out.new ≡ O.told out.old }
+{
+    match open_file(alloc, packets, shelf) {
+        Ok(()) => plain_of_open(alloc, text, entry_text, shelf, out),
+        Err(status) => status,
+    }
+}
+
+/// Runs the program and the entries of two texts over the packets of the shelf's open file.
+fn plain_of_open<F: Shelf, O: Sink>(
+    alloc: Global,
+    text: &Vec<u8>,
+    entry_text: &Vec<u8>,
+    shelf: &mut F,
+    out: &mut O,
+) -> Status
+    requires text { length text.now.items ≤ program_limit }
+    requires entries { length entry_text.now.items ≤ entries_limit }
+    ensures possible { IsPossible (Command [] [] []) result }
+    ensures answered { IsTrue (F.told shelf.old) → Answered (record { files = F.file shelf.old; after = F.file shelf.new; steady = F.steady shelf.old; writing = F.writing_faults shelf.old; writing_after = F.writing_faults shelf.new; tells = O.told out.old; old = O.bytes out.old; new = O.bytes out.new; faults = O.faults out.old; faults_after = O.faults out.new }) (OfOpen (F.file shelf.old) text.now.items entry_text.now.items (F.rest shelf.old)) result }
+    ensures read_fault { result ≡ Status.ReadFault → Rose (F.reading_faults shelf.old) (F.reading_faults shelf.new) }
+    ensures write_fault { result ≡ Status.WriteFault → Rose (O.faults out.old) (O.faults out.new) }
+    ensures tells { F.told shelf.new ≡ F.told shelf.old }
+    ensures sink_tells { O.told out.new ≡ O.told out.old }
+{
+    one_meaning();
+    match understand(alloc, text.as_slice(), entry_text.as_slice()) {
+        Ok(meant) => plain_of_meant(alloc, meant, shelf, out),
+        Err(fault) => tell_text_fault(alloc, fault, out),
+    }
+}
+
+/// Runs a program with its entries over the packets of the shelf's open file.
+fn plain_of_meant<F: Shelf, O: Sink>(
+    alloc: Global,
+    meant: Meant,
+    shelf: &mut F,
+    out: &mut O,
+) -> Status
+    requires program { IsProgram meant.program }
+    requires entries { AreEntries meant.program meant.entries }
+    ensures possible { IsPossible (Command [] [] []) result }
+    ensures answered { IsTrue (F.told shelf.old) → Answered (record { files = F.file shelf.old; after = F.file shelf.new; steady = F.steady shelf.old; writing = F.writing_faults shelf.old; writing_after = F.writing_faults shelf.new; tells = O.told out.old; old = O.bytes out.old; new = O.bytes out.new; faults = O.faults out.old; faults_after = O.faults out.new }) (Runs (F.file shelf.old) (plain_text meant.program meant.entries) packets_limit (F.rest shelf.old)) result }
+    ensures read_fault { result ≡ Status.ReadFault → Rose (F.reading_faults shelf.old) (F.reading_faults shelf.new) }
+    ensures write_fault { result ≡ Status.WriteFault → Rose (O.faults out.old) (O.faults out.new) }
+    ensures tells { F.told shelf.new ≡ F.told shelf.old }
+    ensures sink_tells { O.told out.new ≡ O.told out.old }
+{
+    let Meant { program, entries } = meant;
+    match Plain::new(alloc, program, entries) {
+        Ok(mut plain) => run_plain(alloc, shelf, PACKETS_LIMIT, &mut plain, out),
+        Err(_) => Status::NoMemory,
+    }
+}

@@ -1,0 +1,237 @@
+//! Reading the packets of a text in pieces, as a shelf gives them.
+
+ghost use Rattle.std.specs.Prelude.{◌≡◌, ◌+◌, ◌<◌, ◌≤◌, ℕ, false, List, [], None, length, IfOk, IsTrue, IsErrOf, OnErr};
+ghost use Rattle.rmt_bits.specs.Packet.{Packet};
+ghost use Rattle.rmt_io.specs.Faults.{Rose};
+ghost use Rattle.rmt_packets.specs.PacketText.{packets_of};
+ghost use Rattle.rmt_core.specs.Pieces.{Comes, GoesTooFar};
+ghost use Rattle.rmt_core.specs.ReadsOn.{AtLine, HasLines, ReadsOn};
+
+mod piece;
+
+use piece::{PIECE, Piece};
+use rmt_io::shelf::Shelf;
+use rmt_packets::packet_line::{PacketFault, read_packet};
+use rmt_packets::pieces::Lines;
+use std::alloc::{AllocError, Global};
+use std::marker::Model;
+
+/// What comes next in a packet text.
+#[derive(Clone, Copy, Debug, PartialEq, Eq)]
+pub enum Step {
+    /// A packet on this port, 0 to 511.
+    Packet { port: u16 },
+    /// A bad line: its code, 1 to 3, and its number, from 1.
+    Bad { code: u8, line: u64 },
+    /// The end of the text.
+    End,
+}
+
+/// Why nothing more is read of a packet text.
+#[derive(Clone, Copy, Debug, PartialEq, Eq)]
+pub enum StepFault {
+    NoMemory,
+    /// The shelf failed.
+    Read,
+    /// The text has more bytes than may be read.
+    TooLong,
+}
+
+/// A reader of the packets of a shelf's open file, of which so many bytes may be read.
+#[derive(Drop)]
+pub struct PacketReader {
+    lines: Lines,
+    /// The bytes that the shelf gave and that are not taken yet.
+    piece: Piece,
+    /// How many bytes more may be asked of the shelf.
+    left: u64,
+    /// Whether the end of the text was seen, and its last line taken.
+    is_finished: bool,
+    /// How many packets it gave.
+    given: u64,
+}
+
+impl Model for PacketReader {
+    ghost use Rattle.std.specs.Prelude.{◌+◌, ◌≤◌, length};
+    ghost use Rattle.rmt_core.specs.ReadsOn.{HasLines, ReaderState};
+
+    ghost Value = { ReaderState };
+
+    ghost view = { λ r. record { lines = r.lines; waiting = r.piece; left = r.left; is_finished = r.is_finished; given = r.given } };
+
+    ghost invariant = { λ r. (r.lines.taken + (length r.piece + r.left) ≤ 1099511627776) × HasLines r.given r.is_finished r.lines };
+}
+
+impl PacketReader {
+    /// A reader that gave no packet yet, of a text of which `limit` bytes may be read. No other call takes memory, but
+    /// for the frame.
+    pub fn new(alloc: Global, limit: u64) -> Result<PacketReader, AllocError>
+        requires { limit ≤ 1099511627776 }
+        ensures reads { IfOk result (λ reader. (text : List ℕ) → ReadsOn limit text [] reader text) }
+        ensures given { IfOk result (λ reader. reader.given ≡ 0) }
+    {
+        let Ok(lines) = Lines::new(alloc) else {
+            return Err(AllocError);
+        };
+        Ok(PacketReader {
+            lines,
+            piece: Piece::new(alloc)?,
+            left: limit,
+            is_finished: false,
+            given: 0,
+        })
+    }
+
+    /// The next packet, whose frame replaces what `frame` held, or what ends the text. Behind a bad line or a refusal
+    /// what a further call answers is of no use.
+    pub fn next<F: Shelf>(&mut self, shelf: &mut F, frame: &mut Vec<u8>) -> Result<Step, StepFault>
+        // What comes next, over a shelf that tells its files; a text that goes on behind the limit ends with `TooLong`.
+        ensures comes { IfOk result (λ step. IsTrue (F.told shelf.old) → (limit : ℕ) (text : List ℕ) (done : List Packet) → ReadsOn limit text done self.old (F.rest shelf.old)
+            → Comes (λ packets. ReadsOn limit text packets self.new (F.rest shelf.new)) limit text done frame.new.items step) }
+        ensures too_long { IsErrOf result StepFault.TooLong → IsTrue (F.told shelf.old) → (limit : ℕ) (text : List ℕ) (done : List Packet) → ReadsOn limit text done self.old (F.rest shelf.old)
+            → GoesTooFar limit text done }
+        // Which packets may come, and how many.
+        ensures port { IfOk result (λ step. (port : ℕ) → step ≡ Step.Packet port → port < 512) }
+        ensures frame { IfOk result (λ step. (port : ℕ) → step ≡ Step.Packet port → (1 ≤ length frame.new.items) × (length frame.new.items ≤ 9216)) }
+        ensures given { IfOk result (λ step. (port : ℕ) → step ≡ Step.Packet port → self.new.given ≡ self.old.given + 1) }
+        ensures few { self.new.given ≤ 1099511627776 }
+        // A fault of the shelf is counted; a steady one has none.
+        ensures failed { IsErrOf result StepFault.Read → Rose (F.reading_faults shelf.old) (F.reading_faults shelf.new) }
+        ensures never_fails { IsErrOf result StepFault.Read → IsTrue (F.steady shelf.old) → ⊥ }
+        // What stays the same.
+        ensures files { (name : List ℕ) → F.file shelf.new name ≡ F.file shelf.old name }
+        ensures tells { F.told shelf.new ≡ F.told shelf.old }
+        ensures stays_steady { IsTrue (F.steady shelf.old) → IsTrue (F.steady shelf.new) }
+        ensures reading { F.reading_faults shelf.old ≤ F.reading_faults shelf.new }
+        ensures writing { F.writing_faults shelf.new ≡ F.writing_faults shelf.old }
+    {
+        if self.find(shelf)? {
+            self.packet(frame)
+        } else {
+            Ok(Step::End)
+        }
+    }
+
+    /// Goes on to the next packet line, and answers whether there is one.
+    fn find<F: Shelf>(&mut self, shelf: &mut F) -> Result<bool, StepFault>
+        ensures line { IfOk result (λ is_line. IsTrue is_line → IsTrue (F.told shelf.old) → (limit : ℕ) (text : List ℕ) (done : List Packet) → ReadsOn limit text done self.old (F.rest shelf.old)
+            → AtLine limit text done self.new (F.rest shelf.new)) }
+        ensures end { IfOk result (λ is_line. is_line ≡ false → IsTrue (F.told shelf.old) → (limit : ℕ) (text : List ℕ) (done : List Packet) → ReadsOn limit text done self.old (F.rest shelf.old)
+            → (length text ≤ limit) × (packets_of text ≡ record { packets = done; bad = None })) }
+        ensures too_long { IsErrOf result StepFault.TooLong → IsTrue (F.told shelf.old) → (limit : ℕ) (text : List ℕ) (done : List Packet) → ReadsOn limit text done self.old (F.rest shelf.old)
+            → GoesTooFar limit text done }
+        ensures ready { IfOk result (λ is_line. IsTrue is_line → IsTrue self.new.lines.is_ready) }
+        ensures one_more { IfOk result (λ is_line. IsTrue is_line → HasLines (self.new.given + 1) self.new.is_finished self.new.lines) }
+        ensures given { self.new.given ≡ self.old.given }
+        ensures few { self.old.given ≤ 1099511627776 }
+        ensures failed { IsErrOf result StepFault.Read → Rose (F.reading_faults shelf.old) (F.reading_faults shelf.new) }
+        ensures never_fails { IsErrOf result StepFault.Read → IsTrue (F.steady shelf.old) → ⊥ }
+        ensures files { (name : List ℕ) → F.file shelf.new name ≡ F.file shelf.old name }
+        ensures tells { F.told shelf.new ≡ F.told shelf.old }
+        ensures stays_steady { IsTrue (F.steady shelf.old) → IsTrue (F.steady shelf.new) }
+        ensures reading { F.reading_faults shelf.old ≤ F.reading_faults shelf.new }
+        ensures writing { F.writing_faults shelf.new ≡ F.writing_faults shelf.old }
+    {
+        if self.is_finished {
+            return Ok(false);
+        }
+        let mut is_ready = self.take_line();
+        while !is_ready {
+            if !self.fill(shelf)? {
+                return Ok(self.finish());
+            }
+            is_ready = self.take_line();
+        }
+        Ok(true)
+    }
+
+    /// Takes the waiting bytes up to the end of the next packet line, and all where they end none.
+    fn take_line(&mut self) -> bool
+        requires { self.old.is_finished ≡ false }
+        ensures line { IsTrue result → (limit : ℕ) (text rest : List ℕ) (done : List Packet) → ReadsOn limit text done self.old rest → AtLine limit text done self.new rest }
+        ensures none { result ≡ false → (limit : ℕ) (text rest : List ℕ) (done : List Packet) → ReadsOn limit text done self.old rest → ReadsOn limit text done self.new rest }
+        ensures empty { result ≡ false → self.new.waiting ≡ [] }
+        ensures ready { self.new.lines.is_ready ≡ result }
+        ensures one_more { IsTrue result → HasLines (self.new.given + 1) self.new.is_finished self.new.lines }
+        ensures given { self.new.given ≡ self.old.given }
+        ensures left { self.new.left ≡ self.old.left }
+        ensures going_on { self.new.is_finished ≡ false }
+    {
+        let taken = self.lines.take(self.piece.bytes());
+        self.piece.skip(taken.used as usize);
+        taken.ready
+    }
+
+    /// Asks the shelf for the next bytes, and answers whether any came; none come at the end of the text.
+    fn fill<F: Shelf>(&mut self, shelf: &mut F) -> Result<bool, StepFault>
+        requires empty { self.old.waiting ≡ [] }
+        requires going_on { self.old.is_finished ≡ false }
+        ensures reads { IfOk result (λ _. IsTrue (F.told shelf.old) → (limit : ℕ) (text : List ℕ) (done : List Packet) → ReadsOn limit text done self.old (F.rest shelf.old)
+            → ReadsOn limit text done self.new (F.rest shelf.new)) }
+        ensures less { IfOk result (λ is_more. IsTrue is_more → self.new.left < self.old.left) }
+        ensures ended { IfOk result (λ is_more. is_more ≡ false → IsTrue (F.told shelf.old) → F.rest shelf.new ≡ []) }
+        ensures empty { IfOk result (λ is_more. is_more ≡ false → self.new.waiting ≡ []) }
+        ensures too_long { IsErrOf result StepFault.TooLong → IsTrue (F.told shelf.old) → (limit : ℕ) (text : List ℕ) (done : List Packet) → ReadsOn limit text done self.old (F.rest shelf.old)
+            → GoesTooFar limit text done }
+        ensures going_on { self.new.is_finished ≡ false }
+        ensures given { self.new.given ≡ self.old.given }
+        ensures failed { IsErrOf result StepFault.Read → Rose (F.reading_faults shelf.old) (F.reading_faults shelf.new) }
+        ensures never_fails { IsErrOf result StepFault.Read → IsTrue (F.steady shelf.old) → ⊥ }
+        ensures files { (name : List ℕ) → F.file shelf.new name ≡ F.file shelf.old name }
+        ensures tells { F.told shelf.new ≡ F.told shelf.old }
+        ensures stays_steady { IsTrue (F.steady shelf.old) → IsTrue (F.steady shelf.new) }
+        ensures reading { F.reading_faults shelf.old ≤ F.reading_faults shelf.new }
+        ensures writing { F.writing_faults shelf.new ≡ F.writing_faults shelf.old }
+    {
+        let most = self.left.min(PIECE as u64).max(1);
+        let Ok(count) = self.piece.fill(shelf, most as usize) else {
+            return Err(StepFault::Read);
+        };
+        if self.left < count as u64 {
+            self.piece.skip(count);
+            return Err(StepFault::TooLong);
+        }
+        self.left -= count as u64;
+        Ok(0 < count)
+    }
+
+    /// Ends the text, and answers whether its last line is a packet line without a line feed.
+    fn finish(&mut self) -> bool
+        requires empty { self.old.waiting ≡ [] }
+        requires going_on { self.old.is_finished ≡ false }
+        ensures line { IsTrue result → (limit : ℕ) (text rest : List ℕ) (done : List Packet) → rest ≡ [] → ReadsOn limit text done self.old rest → AtLine limit text done self.new rest }
+        ensures end { result ≡ false → (limit : ℕ) (text rest : List ℕ) (done : List Packet) → rest ≡ [] → ReadsOn limit text done self.old rest
+            → (length text ≤ limit) × (packets_of text ≡ record { packets = done; bad = None }) }
+        ensures ready { self.new.lines.is_ready ≡ result }
+        ensures one_more { IsTrue result → HasLines (self.new.given + 1) self.new.is_finished self.new.lines }
+        ensures given { self.new.given ≡ self.old.given }
+    {
+        self.is_finished = true;
+        self.lines.finish()
+    }
+
+    /// Reads the packet line that is ready.
+    fn packet(&mut self, frame: &mut Vec<u8>) -> Result<Step, StepFault>
+        requires ready { IsTrue self.old.lines.is_ready }
+        requires one_more { HasLines (self.old.given + 1) self.old.is_finished self.old.lines }
+        ensures comes { IfOk result (λ step. (limit : ℕ) (text rest : List ℕ) (done : List Packet) → AtLine limit text done self.old rest
+            → Comes (λ packets. ReadsOn limit text packets self.new rest) limit text done frame.new.items step) }
+        ensures port { IfOk result (λ step. (port : ℕ) → step ≡ Step.Packet port → port < 512) }
+        ensures frame { IfOk result (λ step. (port : ℕ) → step ≡ Step.Packet port → (1 ≤ length frame.new.items) × (length frame.new.items ≤ 9216)) }
+        ensures given { IfOk result (λ step. (port : ℕ) → step ≡ Step.Packet port → self.new.given ≡ self.old.given + 1) }
+        ensures few { self.new.given ≤ 1099511627776 }
+        ensures no_memory { OnErr result (IsErrOf result StepFault.NoMemory) }
+    {
+        match read_packet(self.lines.text(), frame) {
+            Ok(port) => {
+                self.given += 1;
+                Ok(Step::Packet { port })
+            }
+            Err(PacketFault::Code(code)) => Ok(Step::Bad {
+                code,
+                line: self.lines.number(),
+            }),
+            Err(PacketFault::NoMemory) => Err(StepFault::NoMemory),
+        }
+    }
+}

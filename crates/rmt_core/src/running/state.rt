@@ -1,0 +1,40 @@
+//! What there is of a run beside its chip.
+
+ghost use Rattle.std.specs.Prelude.{ℕ, Bool, List, [], IfOk};
+ghost use Rattle.rmt_config.specs.declared.config.Config.{Config};
+ghost use Rattle.rmt_chip.specs.declared.chip.Chip.{Chip};
+ghost use Rattle.rmt_chip.specs.Stands.{Stands};
+ghost use Rattle.rmt_core.specs.Running.{Goes};
+
+use crate::waiting::Waiting;
+use crate::watch::Watch;
+use rmt_chip::fault::ChipFault;
+use rmt_chip::out::Out;
+use std::alloc::Global;
+
+/// What is printed of a run, the bytes of what leaves, the lines that are not written yet, and how many answers and
+/// cycles there were.
+#[derive(Drop)]
+pub struct Run {
+    pub watch: Watch,
+    pub leaving: Out,
+    pub waiting: Waiting,
+    pub answered: u64,
+    pub cycles: u64,
+}
+
+/// A run in which nothing entered.
+pub fn start(alloc: Global, watch: Watch) -> Result<Run, ChipFault>
+    ensures { IfOk result (λ run. (c : Config) (chip : Chip) (told : Bool) (before : List ℕ) → Stands c [] chip → Goes watch c [] run chip told before before) }
+{
+    match Out::new(alloc) {
+        Ok(leaving) => Ok(Run {
+            watch,
+            leaving,
+            waiting: Waiting::new(alloc),
+            answered: 0,
+            cycles: 0,
+        }),
+        Err(fault) => Err(fault),
+    }
+}

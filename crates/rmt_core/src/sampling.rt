@@ -1,0 +1,118 @@
+//! The command `sample`.
+
+ghost use Rattle.std.specs.Prelude.{◌≡◌, ◌≢◌, ◌≤◌, ◌⊎◌, ◌++◌, ℕ, Bool, List, None, length};
+ghost use Rattle.rmt_ast.specs.EntryLists.{AreEntries};
+ghost use Rattle.rmt_ast.specs.WellFormed.{IsProgram};
+ghost use Rattle.rmt_config.specs.Form.{Formed};
+ghost use Rattle.rmt_config.specs.Limits.{IsWithinLimits};
+ghost use Rattle.rmt_io.specs.Faults.{Rose};
+ghost use Rattle.rmt_sample.specs.Texts.{entries_text, packets_text, program_text};
+ghost use Rattle.rmt_core.specs.Commands.{IsPossible, Sample as SampleOf};
+ghost use Rattle.rmt_core.specs.Compiling.{Builds};
+ghost use Rattle.rmt_core.specs.Ends.{Answered};
+ghost use Rattle.rmt_core.specs.Files.{Files};
+ghost use Rattle.rmt_core.specs.Given.{told};
+ghost use Rattle.rmt_core.specs.Making.{AreOfText};
+ghost use Rattle.rmt_core.specs.Sampling.{GivesSample, sample_line};
+ghost use Rattle.rmt_core.specs.Tallies.{chip_line};
+ghost use Rattle.rmt_core.specs.Telling.{Tells};
+
+mod enter;
+mod line;
+pub mod run;
+pub mod tally;
+
+use crate::making::{Refusal, fit};
+use crate::printing::end_with;
+use crate::sampling::line::run_line;
+use crate::status::Status;
+use crate::telling::tell;
+use crate::texts::{Meant, tell_text_fault, understand};
+use rmt_build::built::Built;
+use rmt_check::laws::one_meaning;
+use rmt_io::sink::Sink;
+use rmt_sample::make::sample as make_texts;
+use rmt_sample::sample::Sample;
+use std::alloc::Global;
+
+/// Makes a large input from a number, 1 to 100,000, builds its program with its entries, runs its packets through the chip,
+/// and prints the line of the counts. It reads and writes no file.
+pub fn sample<O: Sink>(alloc: Global, number: u32, out: &mut O) -> Status
+    requires some { 1 ≤ number }
+    requires most { number ≤ 100000 }
+    ensures possible { IsPossible (SampleOf number) result }
+    ensures no_reading { result ≢ Status.ReadFault }
+    ensures answered { (files : Files) (steady : Bool) (writing : ℕ) → Answered (record { files = files; after = files; steady = steady; writing = writing; writing_after = writing; tells = O.told out.old; old = O.bytes out.old; new = O.bytes out.new; faults = O.faults out.old; faults_after = O.faults out.new }) (GivesSample files number) result }
+    ensures write_fault { result ≡ Status.WriteFault → Rose (O.faults out.old) (O.faults out.new) }
+    ensures sink_tells { O.told out.new ≡ O.told out.old }
+{
+    match make_texts(alloc, number) {
+        Ok(texts) => sample_texts(alloc, number, &texts, out),
+        Err(_) => Status::NoMemory,
+    }
+}
+
+/// The same of the texts that the number gives.
+fn sample_texts<O: Sink>(alloc: Global, number: u32, texts: &Sample, out: &mut O) -> Status
+    requires most { number ≤ 100000 }
+    requires program { texts.now.program ≡ program_text number }
+    requires entries { texts.now.entries ≡ entries_text number }
+    requires packets { texts.now.packets ≡ packets_text number }
+    ensures possible { IsPossible (SampleOf number) result }
+    ensures no_reading { result ≢ Status.ReadFault }
+    ensures answered { (files : Files) (steady : Bool) (writing : ℕ) → Answered (record { files = files; after = files; steady = steady; writing = writing; writing_after = writing; tells = O.told out.old; old = O.bytes out.old; new = O.bytes out.new; faults = O.faults out.old; faults_after = O.faults out.new }) (GivesSample files number) result }
+    ensures write_fault { result ≡ Status.WriteFault → Rose (O.faults out.old) (O.faults out.new) }
+    ensures sink_tells { O.told out.new ≡ O.told out.old }
+{
+    one_meaning();
+    match understand(alloc, texts.program.as_slice(), texts.entries.as_slice()) {
+        Ok(meant) => sample_meant(alloc, number, &meant, texts.packets.as_slice(), out),
+        Err(fault) => tell_text_fault(alloc, fault, out),
+    }
+}
+
+/// The same of a program with its entries.
+fn sample_meant<O: Sink>(
+    alloc: Global,
+    number: u32,
+    meant: &Meant,
+    packets: &[u8],
+    out: &mut O,
+) -> Status
+    requires program { IsProgram meant.now.program }
+    requires entries { AreEntries meant.now.program meant.now.entries }
+    requires said { AreOfText meant.now.program meant.now.entries }
+    requires packets { packets.now ≡ packets_text number }
+    ensures possible { IsPossible (SampleOf number) result }
+    ensures no_reading { result ≢ Status.ReadFault }
+    ensures answered { (files : Files) (steady : Bool) (writing : ℕ) → Answered (record { files = files; after = files; steady = steady; writing = writing; writing_after = writing; tells = O.told out.old; old = O.bytes out.old; new = O.bytes out.new; faults = O.faults out.old; faults_after = O.faults out.new }) (Builds files (λ image c b. told files Status.Done (sample_line number meant.now.program meant.now.entries c)) meant.now.program meant.now.entries) result }
+    ensures write_fault { result ≡ Status.WriteFault → Rose (O.faults out.old) (O.faults out.new) }
+    ensures sink_tells { O.told out.new ≡ O.told out.old }
+{
+    match fit(alloc, &meant.program, &meant.entries) {
+        Ok(built) => tell_built(alloc, number, built, packets, out),
+        Err(Refusal::NoMemory) => Status::NoMemory,
+        Err(Refusal::NoFit { line }) => end_with(out, line.as_slice(), Status::NoFit),
+    }
+}
+
+/// Runs the packets through the chip of what was built, and tells the counts.
+fn tell_built<O: Sink>(
+    alloc: Global,
+    number: u32,
+    built: Built,
+    packets: &[u8],
+    out: &mut O,
+) -> Status
+    requires form { Formed built.config }
+    requires limits { IsWithinLimits built.config }
+    requires packets { packets.now ≡ packets_text number }
+    ensures line { (line : List ℕ) → line ≡ chip_line number built.config → Tells (O.told out.old) (O.bytes out.old) (O.bytes out.new) (O.faults out.old) (O.faults out.new) line Status.Done result }
+    ensures sink_tells { O.told out.new ≡ O.told out.old }
+{
+    tell(
+        run_line(alloc, number, built.config, packets),
+        Status::Done,
+        out,
+    )
+}

@@ -1,0 +1,98 @@
+//! The text of the vectors in flight.
+
+ghost use Rattle.std.specs.Prelude.{◌≡◌, ℕ, ◌+◌, ◌-◌, ◌<◌, ◌++◌, List, Option, length, slice_index, OnOk, IfOk};
+ghost use Rattle.rmt_bits.specs.Packet.{Packet};
+ghost use Rattle.rmt_config.specs.declared.config.Config.{Config};
+ghost use Rattle.rmt_config.specs.ChipRun.{latency_of, number_at, packet_at};
+ghost use Rattle.rmt_chip.specs.Stands.{Stands};
+ghost use Rattle.rmt_core.specs.ProbeText.{hex_text, word_text, words_below, vector_line, packet_line, lines_below};
+
+use rmt_bits::lane::word_size;
+use rmt_chip::chip::Chip;
+use rmt_config::vector::Vector;
+use std::alloc::{AllocError, Global};
+
+/// How many words a vector has.
+const WORDS: u8 = 224;
+
+/// The hexadecimal digits, by their values.
+const DIGITS: &[u8; 16] = b"0123456789abcdef";
+
+/// Appends so many of a number's lowest hexadecimal digits.
+fn add_hex(count: u8, value: u32, text: &mut Vec<u8>) -> Result<(), AllocError>
+    requires { count < 9 }
+    ensures { OnOk result (text.new.items ≡ text.old.items ++ hex_text count value) }
+{
+    let mut places = count;
+    while places > 0 {
+        places -= 1;
+        let digit = (value >> (4 * places)) % 16;
+        text.push(DIGITS[digit as usize])?;
+    }
+    Ok(())
+}
+
+/// Appends a word that is not 0 with its number.
+fn add_word(alloc: Global, word: u8, value: u32, text: &mut Vec<u8>) -> Result<(), AllocError>
+    requires { word < 224 }
+    ensures { OnOk result (text.new.items ≡ text.old.items ++ word_text word value) }
+{
+    if value == 0 {
+        return Ok(());
+    }
+    let head = format!(in alloc; " {word}:")?;
+    text.extend_from_slice(head.as_bytes())?;
+    add_hex(word_size(word) / 4, value, text)
+}
+
+/// Appends the words of a vector.
+fn add_words(alloc: Global, words: &Vector, text: &mut Vec<u8>) -> Result<(), AllocError>
+    ensures { OnOk result (text.new.items ≡ text.old.items ++ words_below (λ w. slice_index words.now w) 224) }
+{
+    for word in 0..WORDS {
+        add_word(alloc, word, words.get(word), text)?;
+    }
+    Ok(())
+}
+
+/// Appends the line of a packet of this number and age.
+fn add_line(
+    alloc: Global,
+    number: u64,
+    age: u16,
+    words: &Vector,
+    text: &mut Vec<u8>,
+) -> Result<(), AllocError>
+    ensures { OnOk result (text.new.items ≡ text.old.items ++ vector_line number age (λ w. slice_index words.now w)) }
+{
+    let head = format!(in alloc; "{number} {age}")?;
+    text.extend_from_slice(head.as_bytes())?;
+    add_words(alloc, words, text)?;
+    text.push(b'\n')?;
+    Ok(())
+}
+
+/// Appends the line of the packet of this age, if one is in flight.
+fn add_age(alloc: Global, chip: &Chip, age: u16, text: &mut Vec<u8>) -> Result<(), AllocError>
+    ensures { OnOk result ((c : Config) (inputs : List (Option Packet)) (cycle : ℕ) → Stands c inputs chip.now → length inputs ≡ cycle + 1 →
+        text.new.items ≡ text.old.items ++ packet_line c (number_at inputs (cycle - age)) age (packet_at c inputs cycle age)) }
+{
+    match chip.probe(age) {
+        Some(seen) => add_line(alloc, seen.number, age, seen.words, text),
+        None => Ok(()),
+    }
+}
+
+/// The lines of the packets in flight, the oldest first.
+pub fn vectors_text(alloc: Global, chip: &Chip) -> Result<Vec<u8>, AllocError>
+    ensures { IfOk result (λ lines. (c : Config) (inputs : List (Option Packet)) (cycle : ℕ) → Stands c inputs chip.now → length inputs ≡ cycle + 1 →
+        lines.items ≡ lines_below c inputs cycle (latency_of c.stages + 1)) }
+{
+    let mut text = Vec::new(alloc);
+    let mut below = u32::from(chip.latency()) + 1;
+    while below > 0 {
+        below -= 1;
+        add_age(alloc, chip, below as u16, &mut text)?;
+    }
+    Ok(text)
+}

@@ -1,0 +1,74 @@
+//! The lines of a run that are not written yet.
+
+ghost use Rattle.std.specs.Prelude.{◌≡◌, ◌≢◌, ◌≤◌, ◌⊎◌, ◌++◌, [], length, IsTrue, OnOk, OnErr};
+ghost use Rattle.rmt_io.specs.Faults.{Rose};
+ghost use Rattle.rmt_core.specs.Ends.{PrintsAll};
+ghost use Rattle.rmt_core.specs.Printing.{GainsFront};
+ghost use Rattle.rmt_core.specs.Waiting.{Written};
+
+use crate::printing::print;
+use crate::status::Status;
+use rmt_io::sink::{Sink, SinkFault};
+use std::alloc::Global;
+
+/// How many bytes of lines wait at most before they are written.
+const MOST: usize = 65_536;
+
+/// Lines that wait until they are many, so that a sink is not called for each of them.
+#[derive(Drop)]
+pub struct Waiting {
+    pub lines: Vec<u8>,
+}
+
+impl Waiting {
+    /// No lines.
+    pub fn new(alloc: Global) -> Waiting
+        ensures { result.lines.items ≡ [] }
+    {
+        Waiting {
+            lines: Vec::new(alloc),
+        }
+    }
+
+    /// Writes the lines where they have more than 65,536 bytes. After a fault a front of them was written.
+    pub fn write_many<O: Sink>(&mut self, out: &mut O) -> Result<(), SinkFault>
+        ensures few { OnOk result (length self.new.lines.items ≤ 65536) }
+        ensures written { OnOk result (Written self.old.lines.items self.new.lines.items (O.told out.old) (O.bytes out.old) (O.bytes out.new)) }
+        ensures front { OnErr result (IsTrue (O.told out.old) → GainsFront (O.bytes out.old) (O.bytes out.new) self.old.lines.items) }
+        ensures some { OnErr result (self.old.lines.items ≢ []) }
+        ensures failed { OnErr result (Rose (O.faults out.old) (O.faults out.new)) }
+        ensures tells { O.told out.new ≡ O.told out.old }
+        ensures counts { O.faults out.old ≤ O.faults out.new }
+    {
+        if self.lines.len() <= MOST {
+            return Ok(());
+        }
+        match print(out, self.lines.as_slice()) {
+            Ok(()) => {
+                self.lines.clear();
+                Ok(())
+            }
+            Err(fault) => Err(fault),
+        }
+    }
+
+    /// Writes the lines and a last text behind them, and answers the status; where the sink fails, it is `WriteFault`.
+    pub fn end<O: Sink>(&self, last: &[u8], status: Status, out: &mut O) -> Status
+        requires { PrintsAll status }
+        ensures status { (result ≡ status) ⊎ (result ≡ Status.WriteFault) }
+        ensures printed { result ≡ status → IsTrue (O.told out.old) → O.bytes out.new ≡ O.bytes out.old ++ (self.now.lines.items ++ last.now) }
+        ensures front { IsTrue (O.told out.old) → GainsFront (O.bytes out.old) (O.bytes out.new) (self.now.lines.items ++ last.now) }
+        ensures some { result ≡ Status.WriteFault → self.now.lines.items ++ last.now ≢ [] }
+        ensures failed { result ≡ Status.WriteFault → Rose (O.faults out.old) (O.faults out.new) }
+        ensures tells { O.told out.new ≡ O.told out.old }
+        ensures counts { O.faults out.old ≤ O.faults out.new }
+    {
+        let Ok(()) = print(out, self.lines.as_slice()) else {
+            return Status::WriteFault;
+        };
+        match print(out, last) {
+            Ok(()) => status,
+            Err(_) => Status::WriteFault,
+        }
+    }
+}
