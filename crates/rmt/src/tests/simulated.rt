@@ -225,6 +225,41 @@ fn many_packets_through_all_stages(rt: HostRuntime) -> Result<(), Fail> {
     Ok(())
 }
 
+/// How `sim` of the smallest image ends over so many packets where a call of the sink fails, and how many bytes it printed.
+fn cut_off(alloc: Global, packets: &str, sink_fails: u64) -> Result<(Status, usize), Fail> {
+    let files = [
+        ("p", SMALLEST.as_bytes()),
+        ("e", b"".as_slice()),
+        ("k", packets.as_bytes()),
+    ];
+    let mut shelf = shelf_of(alloc, &files, STEADY)?;
+    let _compiled = run_over(alloc, &["compile", "p", "e", "i"], &mut shelf, STEADY)?;
+    let outside = Outside {
+        sink_fails,
+        taken: 8_192,
+        ..STEADY
+    };
+    let (status, text) = run_over(alloc, &["sim", "i", "k"], &mut shelf, outside)?;
+    Ok((status, text.len()))
+}
+
+/// 12,000 lines have 120,890 bytes, and the cycles and the flight 23 more; a call of the sink takes 8,192.
+#[test]
+fn sink_fails_near_the_end(rt: HostRuntime) -> Result<(), Fail> {
+    let alloc = rt.alloc();
+    let (packets, _lines) = packets_of(alloc, 12_000, "5a")?;
+    for (sink_fails, status, least, most) in [
+        (0u64, Status::Done, 120_913usize, 120_913usize),
+        (1, Status::WriteFault, 0, 0),
+        (16, Status::WriteFault, 100_000, 120_890),
+    ] {
+        let (ended, printed) = cut_off(alloc, packets.as_str(), sink_fails)?;
+        let is_right = ended == status && least <= printed && printed <= most;
+        assert!(rt; is_right, "{sink_fails}");
+    }
+    Ok(())
+}
+
 /// An image stands where it is read from, whatever its name was before.
 #[test]
 fn image_over_its_program(rt: HostRuntime) -> Result<(), Fail> {
