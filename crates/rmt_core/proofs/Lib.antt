@@ -25,6 +25,7 @@ pub mod SampleTexts
 pub mod ShownLaws
 pub mod SimPlain
 pub mod TallyLaws
+pub mod TextExamples
 pub mod TextLaws
 pub mod VectorLaws
 pub mod VectorTexts

@@ -41,6 +41,8 @@ pub fn rmt<F: Shelf, O: Sink>(
     // Faults of the outside come only where a count rose in this call; a steady shelf has none of writing.
     ensures read_fault { result ≡ Status.ReadFault → Rose (F.reading_faults shelf.old) (F.reading_faults shelf.new) }
     ensures write_fault { result ≡ Status.WriteFault → Rose (F.writing_faults shelf.old) (F.writing_faults shelf.new) ⊎ Rose (O.faults out.old) (O.faults out.new) }
+    // Only `compile` writes a file, so with any other command the sink failed.
+    ensures sink_fault { result ≡ Status.WriteFault → (IfCommand (command_of (words_of words.now.items)) IsCompile → ⊥) → Rose (O.faults out.old) (O.faults out.new) }
     ensures steady_write { result ≡ Status.WriteFault → IsTrue (F.steady shelf.old) → Rose (O.faults out.old) (O.faults out.new) }
     // What tells its content goes on doing so.
     ensures tells { F.told shelf.new ≡ F.told shelf.old }

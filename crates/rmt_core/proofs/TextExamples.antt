@@ -1,0 +1,66 @@
+-- Last lines, lines of commands, and words that are a command.
+use Rattle.std.specs.Prelude.{◌≡◌, ◌∷◌, [], true, false, codes, refl, Some, None}
+use Rattle.std.specs.Fmt.{digits}
+use Rattle.rmt_core.specs.declared.status.Status.TheVariants.{BadPackets, Done, TooLong}
+use Rattle.rmt_core.specs.Commands.{Report, Sample, Sim, command_of, sample_number_of}
+use Rattle.rmt_core.specs.CompileText.{minimal_line}
+use Rattle.rmt_core.specs.Files.{Absent, Holds, Long, found}
+use Rattle.rmt_core.specs.NoFitText.{hit_text}
+use Rattle.rmt_core.specs.Runs.{run_status}
+use Rattle.rmt_core.specs.Sampling.{counts_line}
+use Rattle.rmt_core.specs.Texts.{bad_entries_line, bad_program_line}
+
+pub a_bad_program : bad_program_line 8 1 8 ≡ codes "bad program 8 line 1 column 8\n"
+unfolding digits
+a_bad_program = refl
+
+pub a_bad_entry : bad_entries_line 6 2 ≡ codes "bad entries 6 line 2\n"
+unfolding digits
+a_bad_entry = refl
+
+pub a_hit : hit_text (record { limit = 8; stage = 31; sum = 0; need = 648 }) ≡ codes " 31:8:0:648"
+unfolding digits
+a_hit = refl
+
+pub a_sample : counts_line 1000 2000 1000 1000 24000 1 2012 ≡ codes "sample 1000 packets 2000 out 1000 drop 1000 sent 24000 stages 1 cycles 2012\n"
+unfolding digits
+a_sample = refl
+
+pub not_minimal : minimal_line false ≡ codes "minimal no\n"
+not_minimal = refl
+
+-- words that are a command, and words that are none
+pub zeros_before : command_of (codes "sample" ∷ codes "007" ∷ []) ≡ Some (Sample 7)
+zeros_before = refl
+
+pub none_at_all : sample_number_of (codes "0") ≡ None
+none_at_all = refl
+
+pub one_too_many : sample_number_of (codes "100001") ≡ None
+one_too_many = refl
+
+pub a_report : command_of (codes "report" ∷ codes "i" ∷ []) ≡ Some (Report (codes "i"))
+a_report = refl
+
+pub one_file_too_few : command_of (codes "sim" ∷ codes "i" ∷ []) ≡ None
+one_file_too_few = refl
+
+-- files at their limit, and one byte past it
+pub at_the_limit : found 2 (Some (1 ∷ 2 ∷ [])) ≡ Holds (1 ∷ 2 ∷ [])
+at_the_limit = refl
+
+pub past_the_limit : found 1 (Some (1 ∷ 2 ∷ [])) ≡ Long
+past_the_limit = refl
+
+pub no_file : found 1 None ≡ Absent
+no_file = refl
+
+-- a bad line within the limit counts before what stands behind it
+pub bad_and_long : run_status true (Some (record { code = 1; line = 3 })) ≡ BadPackets
+bad_and_long = refl
+
+pub good_and_long : run_status true None ≡ TooLong
+good_and_long = refl
+
+pub good_and_short : run_status false None ≡ Done
+good_and_short = refl
