@@ -34,7 +34,7 @@ pub fn compile<F: Shelf, O: Sink>(
 ) -> Status
     ensures possible { IsPossible (Compile (string_bytes program.now) (string_bytes entries.now) (string_bytes image.now)) result }
     ensures answered { IsTrue (F.told shelf.old) → Answered (record { files = F.file shelf.old; after = F.file shelf.new; steady = F.steady shelf.old; writing = F.writing_faults shelf.old; writing_after = F.writing_faults shelf.new; tells = O.told out.old; old = O.bytes out.old; new = O.bytes out.new; faults = O.faults out.old; faults_after = O.faults out.new }) (GivesCompile (F.file shelf.old) (string_bytes program.now) (string_bytes entries.now) (string_bytes image.now)) result }
-    ensures quiet { result ≡ Status.NoMemory → IsTrue (O.told out.old) → O.bytes out.new ≡ O.bytes out.old }
+    ensures quiet { (result ≡ Status.NoMemory) ⊎ (result ≡ Status.ReadFault) ⊎ (result ≡ Status.TooLong) → IsTrue (O.told out.old) → O.bytes out.new ≡ O.bytes out.old }
     ensures read_fault { result ≡ Status.ReadFault → Rose (F.reading_faults shelf.old) (F.reading_faults shelf.new) }
     ensures write_fault { result ≡ Status.WriteFault → Rose (F.writing_faults shelf.old) (F.writing_faults shelf.new) ⊎ Rose (O.faults out.old) (O.faults out.new) }
     ensures steady_write { result ≡ Status.WriteFault → IsTrue (F.steady shelf.old) → Rose (O.faults out.old) (O.faults out.new) }
@@ -59,7 +59,7 @@ fn compile_text<F: Shelf, O: Sink>(
     requires { length text.now.items ≤ program_limit }
     ensures possible { IsPossible (Compile [] (string_bytes entries.now) (string_bytes image.now)) result }
     ensures answered { IsTrue (F.told shelf.old) → Answered (record { files = F.file shelf.old; after = F.file shelf.new; steady = F.steady shelf.old; writing = F.writing_faults shelf.old; writing_after = F.writing_faults shelf.new; tells = O.told out.old; old = O.bytes out.old; new = O.bytes out.new; faults = O.faults out.old; faults_after = O.faults out.new }) (Reads (F.file shelf.old) (string_bytes entries.now) entries_limit (λ entry_text. Understands (F.file shelf.old) text.now.items entry_text (Compiles (F.file shelf.old) (string_bytes image.now)))) result }
-    ensures quiet { result ≡ Status.NoMemory → IsTrue (O.told out.old) → O.bytes out.new ≡ O.bytes out.old }
+    ensures quiet { (result ≡ Status.NoMemory) ⊎ (result ≡ Status.ReadFault) ⊎ (result ≡ Status.TooLong) → IsTrue (O.told out.old) → O.bytes out.new ≡ O.bytes out.old }
     ensures read_fault { result ≡ Status.ReadFault → Rose (F.reading_faults shelf.old) (F.reading_faults shelf.new) }
     ensures write_fault { result ≡ Status.WriteFault → Rose (F.writing_faults shelf.old) (F.writing_faults shelf.new) ⊎ Rose (O.faults out.old) (O.faults out.new) }
     ensures steady_write { result ≡ Status.WriteFault → IsTrue (F.steady shelf.old) → Rose (O.faults out.old) (O.faults out.new) }
@@ -85,6 +85,7 @@ fn compile_texts<F: Shelf, O: Sink>(
     requires entries { length entry_text.now.items ≤ entries_limit }
     ensures possible { IsPossible (Compile [] [] (string_bytes image.now)) result }
     ensures no_reading { result ≢ Status.ReadFault }
+    ensures not_long { result ≢ Status.TooLong }
     ensures answered { IsTrue (F.told shelf.old) → Answered (record { files = F.file shelf.old; after = F.file shelf.new; steady = F.steady shelf.old; writing = F.writing_faults shelf.old; writing_after = F.writing_faults shelf.new; tells = O.told out.old; old = O.bytes out.old; new = O.bytes out.new; faults = O.faults out.old; faults_after = O.faults out.new }) (Understands (F.file shelf.old) text.now.items entry_text.now.items (Compiles (F.file shelf.old) (string_bytes image.now))) result }
     ensures quiet { result ≡ Status.NoMemory → IsTrue (O.told out.old) → O.bytes out.new ≡ O.bytes out.old }
     ensures write_fault { result ≡ Status.WriteFault → Rose (F.writing_faults shelf.old) (F.writing_faults shelf.new) ⊎ Rose (O.faults out.old) (O.faults out.new) }
@@ -112,6 +113,7 @@ fn compile_meant<F: Shelf, O: Sink>(
     requires said { AreOfText meant.now.program meant.now.entries }
     ensures possible { IsPossible (Compile [] [] (string_bytes image.now)) result }
     ensures no_reading { result ≢ Status.ReadFault }
+    ensures not_long { result ≢ Status.TooLong }
     ensures answered { IsTrue (F.told shelf.old) → Answered (record { files = F.file shelf.old; after = F.file shelf.new; steady = F.steady shelf.old; writing = F.writing_faults shelf.old; writing_after = F.writing_faults shelf.new; tells = O.told out.old; old = O.bytes out.old; new = O.bytes out.new; faults = O.faults out.old; faults_after = O.faults out.new }) (Compiles (F.file shelf.old) (string_bytes image.now) meant.now.program meant.now.entries) result }
     ensures quiet { result ≡ Status.NoMemory → IsTrue (O.told out.old) → O.bytes out.new ≡ O.bytes out.old }
     ensures write_fault { result ≡ Status.WriteFault → Rose (F.writing_faults shelf.old) (F.writing_faults shelf.new) ⊎ Rose (O.faults out.old) (O.faults out.new) }

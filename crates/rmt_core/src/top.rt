@@ -36,8 +36,8 @@ pub fn rmt<F: Shelf, O: Sink>(
     // A call ends as what the command gives over these files, or it is stopped by the outside or by want of memory.
     ensures answered { IsTrue (F.told shelf.old) → IfCommand (command_of (words_of words.now.items)) (λ command.
         Answered (record { files = F.file shelf.old; after = F.file shelf.new; steady = F.steady shelf.old; writing = F.writing_faults shelf.old; writing_after = F.writing_faults shelf.new; tells = O.told out.old; old = O.bytes out.old; new = O.bytes out.new; faults = O.faults out.old; faults_after = O.faults out.new }) (Gives (F.file shelf.old) command) result) }
-    // `compile` has its image and its lines before it writes anything.
-    ensures compile_quiet { result ≡ Status.NoMemory → IfCommand (command_of (words_of words.now.items)) IsCompile → IsTrue (O.told out.old) → O.bytes out.new ≡ O.bytes out.old }
+    // `compile` has read its files, and has its image and its lines, before it writes or prints anything.
+    ensures compile_quiet { (result ≡ Status.NoMemory) ⊎ (result ≡ Status.ReadFault) ⊎ (result ≡ Status.TooLong) → IfCommand (command_of (words_of words.now.items)) IsCompile → IsTrue (O.told out.old) → O.bytes out.new ≡ O.bytes out.old }
     // Faults of the outside come only where a count rose in this call; a steady shelf has none of writing.
     ensures read_fault { result ≡ Status.ReadFault → Rose (F.reading_faults shelf.old) (F.reading_faults shelf.new) }
     ensures write_fault { result ≡ Status.WriteFault → Rose (F.writing_faults shelf.old) (F.writing_faults shelf.new) ⊎ Rose (O.faults out.old) (O.faults out.new) }
