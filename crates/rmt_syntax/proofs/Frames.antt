@@ -1,16 +1,8 @@
 -- What nodes that are not read to their end have read, and have to read.
-use Rattle.std.proofs.Common.{◌≡◌, ◌<◌, ◌∙◌, sym, ap, refl, List, [], ◌∷◌, ◌++◌, append_assoc, append-nil, map, length, length-append, arith}
-use Rattle.std.specs.List.{flat_map, fold}
-use Rattle.std.proofs.lemmas.Grind.{flat_map-append}
-use Rattle.rmt_syntax.specs.declared.tree.Rule.{Rule}
+use Rattle.rmt_syntax.proofs.Words.{◌≡◌, ◌<◌, ◌∙◌, sym, ap, refl, List, [], ◌∷◌, ◌++◌, append_assoc, append-nil, map, length, length-append, arith, flat_map, fold, flat_map-append, Rule, Part, Phrase, Done, opens, shuts, marks, Goal, part, phrase, shut, frame_marks, frame_goals, outer_goals}
 use Rattle.rmt_syntax.specs.declared.tree.Tree.{Tree, Many}
-use Rattle.rmt_syntax.specs.declared.grammar.Part.{Part}
-use Rattle.rmt_syntax.specs.declared.grammar.Phrase.{Phrase}
-use Rattle.rmt_syntax.specs.declared.grammar.Phrase.TheVariants.{Done}
 use Rattle.rmt_syntax.specs.declared.reader.Frame.{Frame}
-use Rattle.rmt_syntax.specs.Trees.{opens, shuts, marks, Goal, part, phrase, shut}
-use Rattle.rmt_syntax.specs.State.{frame_marks, frame_goals, outer_goals}
-use Rattle.rmt_syntax.proofs.Marks.{marks_many}
+use Rattle.rmt_syntax.proofs.Forests.{marks_many}
 
 -- a node that is read to its end stands in the one around it
 pub closed : (fs gs : List Frame) (o : Frame) (r : Rule) (v : List Tree) (ps : List Tree) → gs ≡ fs ++ o ∷ [] → ps ≡ o.parts ++ Many r v ∷ []

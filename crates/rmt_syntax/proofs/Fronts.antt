@@ -1,49 +1,13 @@
 -- What comes next is among the terminals that may.
-use Rattle.std.proofs.Common.{◌≡◌, ◌∙◌, inl, inr, ℕ, zero, suc, Bool, true, false, cond, sym, ap, refl, subst, List, [], ◌∷◌, ◌++◌, Some, map}
-use Rattle.std.specs.Prelude.{◌&&◌, ◌||◌, not, slice_get, if◌then◌else◌}
-use Rattle.std.specs.List.{list_any, list_all, flat_map, find}
-use Rattle.std.proofs.lemmas.Bool.{false_from_ne_true}
-use Rattle.rmt_lexer.specs.declared.token.Token.{Token}
-use Rattle.rmt_syntax.specs.declared.terminal.Terminal.{Terminal}
-use Rattle.rmt_syntax.specs.declared.tree.Rule.{Rule}
-use Rattle.rmt_syntax.specs.declared.grammar.Part.{Part}
-use Rattle.rmt_syntax.specs.declared.grammar.Part.TheVariants.{One, Node}
-use Rattle.rmt_syntax.specs.declared.grammar.Phrase.{Phrase}
-use Rattle.rmt_syntax.specs.declared.grammar.Phrase.TheVariants.{Whole, Done}
-use Rattle.rmt_syntax.specs.Grammar.{Form, choices, terminal_of}
-use Rattle.rmt_syntax.specs.Trees.{Mark, tokens_in, Goal, part, phrase, shut, Reads, nothing, token, node, end, done, choose}
-use Rattle.rmt_syntax.specs.Lookahead.{same, member, first_of, first_form, first_phrase, may_begin, is_empty, is_done, may_end, front, tails, Apart, choice_of, is_operand_name}
-use Rattle.rmt_syntax.proofs.Sets.{same_is, and_true, or_true, or_left, or_right, not_true, not_both, member_here, member_left, member_right, member_either, subset_is, subset}
-use Rattle.rmt_syntax.proofs.Checks.{distinct, ends_well, in_order, goes_on, fine, beginning, differ}
-
-pub all_at : {A : Type 0} (p : A → Bool) (xs : List A) (i : ℕ) (x : A) → list_all p xs ≡ true → slice_get xs i ≡ Some x → p x ≡ true
-all_at p [] i x h e = cc
-all_at p (y ∷ ys) zero x h e = let same : y ≡ x = cc in subst (λ v. p v ≡ true) same (and_true (p y) (list_all p ys) h).0
-all_at p (y ∷ ys) (suc i) x h e = all_at p ys i x (and_true (p y) (list_all p ys) h).1 e
-
-pub any_at : {A : Type 0} (p : A → Bool) (xs : List A) (i : ℕ) (x : A) → p x ≡ true → slice_get xs i ≡ Some x → list_any p xs ≡ true
-any_at p [] i x h e = cc
-any_at p (y ∷ ys) zero x h e = let same : x ≡ y = cc in or_left (p y) _ (subst (λ v. p v ≡ true) same h)
-any_at p (y ∷ ys) (suc i) x h e = or_right (p y) _ (any_at p ys i x h e)
+use Rattle.rmt_syntax.proofs.Words.{◌≡◌, ◌∙◌, inl, inr, ℕ, zero, suc, Bool, true, false, cond, sym, ap, refl, subst, List, [], ◌∷◌, ◌++◌, Some, map, ◌&&◌, ◌||◌, not, slice_get, if◌then◌else◌, list_all, flat_map, find, false_from_ne_true, Token, Terminal, Rule, Part, One, Node, Phrase, Whole, Done, Form, choices, terminal_of, Mark, tokens_in, Goal, part, phrase, shut, Reads, nothing, token, node, end, done, choose, same, member, first_of, first_form, first_phrase, may_begin, is_empty, is_done, may_end, front, tails, Apart, choice_of, is_operand_name, and_parts, or_cases, or_right, not-true, both_ways}
+use Rattle.rmt_syntax.proofs.Sets.{all_member, all_at, any_at, member_here, member_left, member_right, member_either, subset_is, subset}
+use Rattle.rmt_syntax.proofs.Checks.{distinct, ends_well, distinct_of, ends_of, goes_of, begins_of, differ}
 
 -- what a form may begin with its phrase may begin with
 pub member_form : (t : Terminal) (fs : List Form) (i : ℕ) (f : Form) → slice_get fs i ≡ Some f → member t (first_form f) ≡ true → member t (flat_map first_form fs) ≡ true
 member_form t [] i f e m = cc
 member_form t (g ∷ gs) zero f e m = let same : f ≡ g = cc in member_left t (first_form g) _ (subst (λ v. member t (first_form v) ≡ true) same m)
 member_form t (g ∷ gs) (suc i) f e m = member_right t (first_form g) _ (member_form t gs i f e m)
-
--- the four checks of a phrase
-pub distinct_of : (x : Phrase) → distinct x (choices x) ≡ true
-distinct_of x = (and_true (distinct x (choices x)) _ (and_true _ _ (and_true _ _ (fine x)).0).0).0
-
-pub ends_of : (x : Phrase) → list_all ends_well (choices x) ≡ true
-ends_of x = (and_true (distinct x (choices x)) _ (and_true _ _ (and_true _ _ (fine x)).0).0).1
-
-pub order_of : (x : Phrase) → list_all (λ (f : Form). in_order x f.0 f.1) (choices x) ≡ true
-order_of x = (and_true _ _ (and_true _ _ (fine x)).0).1
-
-pub goes_of : (x : Phrase) → goes_on x ≡ true
-goes_of x = (and_true _ _ (fine x)).1
 
 -- an empty form is behind a phrase that may end, and ends it
 pub empty_ends : (x : Phrase) (i : ℕ) (next : Phrase) → slice_get (choices x) i ≡ Some ([], next) → (may_end x ≡ true) × (is_done next ≡ true)
@@ -64,10 +28,10 @@ the_rest t false xs e m = cc
 -- the text of a rule begins as it says
 rule_begins : (t : Terminal) (r : Rule) (gs : List Goal) → member t (front (phrase (Whole r) ∷ gs)) ≡ true → member t (first_of r) ≡ true
 rule_begins t r gs m =
-    let both = and_true (not (may_end (Whole r))) (subset (first_phrase (Whole r)) (first_of r)) (beginning r) in
+    let both = and_parts (not (may_end (Whole r))) (subset (first_phrase (Whole r)) (first_of r)) (begins_of (Whole r)) in
     elim (member_either t (first_phrase (Whole r)) _ m) [
       | inl k ↦ subset_is (first_phrase (Whole r)) (first_of r) both.1 t k
-      | inr k ↦ absurd (no_rest t (may_end (Whole r)) (front gs) (not_true _ both.0) k)
+      | inr k ↦ absurd (no_rest t (may_end (Whole r)) (front gs) (not-true _ both.0) k)
     ]
 
 -- a form's phrase begins as the form does
@@ -88,15 +52,6 @@ first_token t more (node {r = r} {gs = gs} d) e = rule_begins (terminal_of t.wha
 first_token t more (end d) e = first_token t more d e
 first_token t more (done d) e = first_token t more d e
 first_token t more (choose {x = x} {gs = gs} i parts next is d) e = form_begins (terminal_of t.what) x i parts next gs is (first_token t more d e)
-
-all_member : (p : Terminal → Bool) (xs : List Terminal) (t : Terminal) → list_all p xs ≡ true → member t xs ≡ true → p t ≡ true
-all_member p [] t h m = cc
-all_member p (x ∷ xs) t h m =
-    let both = and_true (p x) (list_all p xs) h in
-    elim (or_true (same x t) (member t xs) m) [
-      | inl e ↦ subst (λ v. p v ≡ true) (same_is x t e) both.0
-      | inr k ↦ all_member p xs t both.1 k
-    ]
 
 or_nothing : (b : Bool) → (b || false) ≡ b
 or_nothing true = refl
@@ -122,14 +77,14 @@ find_full x t (g ∷ fs) zero f d o e n m =
     take_first t g fs (subst (λ v. may_begin v t ≡ true) same (begins_as f t n ∙ m)) ∙ ap Some (sym same)
 find_full x t (g ∷ []) (suc i) f d o e n m = cc
 find_full x t (g ∷ h ∷ fs) (suc i) f d o e n m =
-    let first = and_true (not (is_empty g) && list_all (λ (other : Form). differ x (first_form g) (first_form other)) (h ∷ fs)) (distinct x (h ∷ fs)) d in
-    let both = and_true (not (is_empty g)) _ first.0 in
+    let first = and_parts (not (is_empty g) && list_all (λ (other : Form). differ x (first_form g) (first_form other)) (h ∷ fs)) (distinct x (h ∷ fs)) d in
+    let both = and_parts (not (is_empty g)) _ first.0 in
     let other : differ x (first_form g) (first_form f) ≡ true = all_at (λ (other : Form). differ x (first_form g) (first_form other)) (h ∷ fs) i f both.1 e in
     let passes : may_begin g t ≡ false = false_from_ne_true (may_begin g t) (λ k.
-    let here : member t (first_form g) ≡ true = sym (begins_as g t (not_true _ both.0)) ∙ k in
-    elim (or_true (not (member t (first_form f))) (is_operand_name x t) (all_member (λ v. not (member v (first_form f)) || is_operand_name x v) (first_form g) t other here)) [
-      | inl a ↦ not_both _ m (not_true _ a)
-      | inr a ↦ not_both _ a o
+    let here : member t (first_form g) ≡ true = sym (begins_as g t (not-true _ both.0)) ∙ k in
+    elim (or_cases (not (member t (first_form f))) (is_operand_name x t) (all_member (λ v. not (member v (first_form f)) || is_operand_name x v) (first_form g) t other here)) [
+      | inl a ↦ both_ways _ (not-true _ a) m
+      | inr a ↦ both_ways _ o a
     ]) in
     pass_first t g (h ∷ fs) passes ∙ find_full x t (h ∷ fs) i f first.1 o e n m
 
@@ -142,9 +97,9 @@ find_empty x t (g ∷ fs) zero next d e n =
     take_first t g fs (subst (λ (v : Form). may_begin v t ≡ true) same refl) ∙ ap Some (sym same)
 find_empty x t (g ∷ []) (suc i) next d e n = cc
 find_empty x t (g ∷ h ∷ fs) (suc i) next d e n =
-    let first = and_true (not (is_empty g) && list_all (λ (other : Form). differ x (first_form g) (first_form other)) (h ∷ fs)) (distinct x (h ∷ fs)) d in
-    let both = and_true (not (is_empty g)) _ first.0 in
-    let passes : may_begin g t ≡ false = false_from_ne_true (may_begin g t) (λ k. n (member_left t (first_form g) _ (sym (begins_as g t (not_true _ both.0)) ∙ k))) in
+    let first = and_parts (not (is_empty g) && list_all (λ (other : Form). differ x (first_form g) (first_form other)) (h ∷ fs)) (distinct x (h ∷ fs)) d in
+    let both = and_parts (not (is_empty g)) _ first.0 in
+    let passes : may_begin g t ≡ false = false_from_ne_true (may_begin g t) (λ k. n (member_left t (first_form g) _ (sym (begins_as g t (not-true _ both.0)) ∙ k))) in
     pass_first t g (h ∷ fs) passes ∙ find_empty x t (h ∷ fs) i next first.1 e (λ k. n (member_right t (first_form g) _ k))
 
 -- the form that the text goes on with is the one that is found
@@ -156,9 +111,9 @@ chosen x t more i [] next gs ms e d is apart o =
     let ends = empty_ends x i next e in
     let behind : member c (front gs) ≡ true = subst (λ (n : Phrase). member c (front (phrase n ∷ gs)) ≡ true) (done_is next ends.1) (first_token t more d is) in
     find_empty x c (choices x) i next (distinct_of x) e (λ m.
-    elim (or_true (not (may_end x)) (subset (first_phrase x) (tails x)) (goes_of x)) [
-      | inl a ↦ not_both _ ends.0 (not_true _ a)
-      | inr a ↦ not_both _ behind (apart c (subset_is (first_phrase x) (tails x) a c m))
+    elim (or_cases (not (may_end x)) (subset (first_phrase x) (tails x)) (goes_of x)) [
+      | inl a ↦ both_ways _ (not-true _ a) ends.0
+      | inr a ↦ both_ways _ (apart c (subset_is (first_phrase x) (tails x) a c m)) behind
     ])
 chosen x t more i (One c ∷ ps) next gs ms e d is apart o =
     find_full x (terminal_of t.what) (choices x) i (One c ∷ ps, next) (distinct_of x) o e refl (first_token t more d is)

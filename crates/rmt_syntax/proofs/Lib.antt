@@ -2,16 +2,13 @@ mod Checks
 mod Choosing
 mod Cuts
 mod Deciding
-mod Ends
 mod Faults
 mod Forests
 mod Frames
 mod Fronts
 mod Machine
-mod Marks
 mod Operands
 mod Produce
-mod Sets
-mod Shapes
+pub mod Sets
 mod Standing
-mod Weights
+mod Words

@@ -1,20 +1,7 @@
 -- The steps of a reader keep what it stands for.
-use Rattle.std.proofs.Common.{◌≡◌, ◌∙◌, ℕ, zero, suc, ◌<◌, ◌≤◌, false, sym, ap, refl, subst, List, [], ◌∷◌, ◌++◌, Some, map, take, drop, length, fold, arith, append_assoc, append-nil}
-use Rattle.std.specs.Prelude.{slice_get}
-use Rattle.rmt_lexer.specs.declared.token.Token.{Token}
-use Rattle.rmt_lexer.specs.declared.token.TokenKind.TheVariants as kind
-use Rattle.rmt_syntax.specs.declared.terminal.Terminal.{Terminal}
-use Rattle.rmt_syntax.specs.declared.terminal.Terminal.TheVariants as terminal
-use Rattle.rmt_syntax.specs.declared.tree.Rule.{Rule}
-use Rattle.rmt_syntax.specs.declared.tree.Rule.TheVariants as rule
-use Rattle.rmt_syntax.specs.declared.grammar.Part.{Part}
-use Rattle.rmt_syntax.specs.declared.grammar.Part.TheVariants.{One, Node}
-use Rattle.rmt_syntax.specs.declared.grammar.Phrase.{Phrase}
-use Rattle.rmt_syntax.specs.declared.grammar.Phrase.TheVariants.{Whole, Done}
-use Rattle.rmt_syntax.specs.Grammar.{choices, terminal_of}
-use Rattle.rmt_syntax.specs.Trees.{Mark, leaf, opens, shuts, tokens_in, Goal, part, phrase, shut, Reads, token, node, end, done, choose, IsText, IsNested, IsNestedFrom, depth_of, depth_after}
-use Rattle.rmt_syntax.specs.Lookahead.{is_done}
-use Rattle.rmt_syntax.specs.State.{Stands}
+use Rattle.rmt_syntax.proofs.Words.{◌≡◌, ◌∙◌, ℕ, zero, suc, ◌<◌, ◌≤◌, false, sym, ap, refl, subst, List, [], ◌∷◌, ◌++◌, Some, map, take, drop, length, fold, arith, append_assoc, append-nil, slice_get, Token, Terminal, Rule, Part, One, Node, Phrase, Whole, Done, choices, terminal_of, Mark, leaf, opens, shuts, tokens_in, Goal, part, phrase, shut, Reads, token, node, end, done, choose, IsText, IsNested, IsNestedFrom, depth_of, depth_after, is_done, Stands, append_cancel_left, slice_get_within, Orderly, fold-append}
+use Rattle.rmt_syntax.proofs.Words.kind
+use Rattle.rmt_syntax.proofs.Words.rule
 
 pub tokens_append : (a b : List Mark) → tokens_in (a ++ b) ≡ tokens_in a ++ tokens_in b
 tokens_append [] b = refl
@@ -22,31 +9,28 @@ tokens_append (leaf t ∷ a) b = ap (λ ts. t ∷ ts) (tokens_append a b)
 tokens_append (opens r ∷ a) b = tokens_append a b
 tokens_append (shuts r ∷ a) b = tokens_append a b
 
-cancel : {A : Type 0} (xs ys zs : List A) → xs ++ ys ≡ xs ++ zs → ys ≡ zs
-cancel [] ys zs h = h
-cancel (x ∷ xs) ys zs h = cancel xs ys zs cc
-
 pub take_next : {A : Type 0} (xs : List A) (n : ℕ) (x : A) → slice_get xs n ≡ Some x → take (suc n) xs ≡ take n xs ++ x ∷ []
 take_next [] n x h = cc
 take_next (y ∷ ys) zero x h = let e : y ≡ x = cc in ap (λ v. v ∷ []) e
 take_next (y ∷ ys) (suc n) x h = ap (λ v. y ∷ v) (take_next ys n x h)
 
-pub within : {A : Type 0} (xs : List A) (n : ℕ) (x : A) → slice_get xs n ≡ Some x → n < length xs
-within [] n x h = cc
-within (y ∷ ys) zero x h = omega arith
-within (y ∷ ys) (suc n) x h = let k : n < length ys = within ys n x h in omega arith
+-- a text that begins with the tokens goes on by what is to come, with the next token
+pub goes_on : {tokens : List Token} {at : ℕ} {t : Token} {goals : List Goal} {seen all : List Mark} {depth : ℕ} {more : List Token} → slice_get tokens at ≡ Some t
+    → Stands tokens at goals seen depth → IsText all → tokens_in all ≡ take (suc at) tokens ++ more
+    → (ms : List Mark) × (all ≡ seen ++ ms) × Reads goals ms × (tokens_in ms ≡ t ∷ more)
+goes_on {tokens} {at} {t} {seen = seen} {all = all} {more = more} here s text e =
+    let w = s.whole all more text e in (
+      w.0,
+      w.1,
+      w.2,
+      append_cancel_left (take at tokens) (tokens_in w.0) (t ∷ more)
+          (ap (λ v. v ++ tokens_in w.0) (sym s.read) ∙ sym (tokens_append seen w.0) ∙ ap tokens_in (sym w.1) ∙ e
+          ∙ ap (λ v. v ++ more) (take_next tokens at t here) ∙ append_assoc (take at tokens) (t ∷ []) more),
+    )
 
--- the next token is the first of the marks that are to come
-pub next_token : (tokens more : List Token) (at : ℕ) (t : Token) (all seen ms : List Mark) → slice_get tokens at ≡ Some t → tokens_in seen ≡ take at tokens
-    → all ≡ seen ++ ms → tokens_in all ≡ take (suc at) tokens ++ more → tokens_in ms ≡ t ∷ more
-next_token tokens more at t all seen ms here read is e =
-    cancel (take at tokens) (tokens_in ms) (t ∷ more)
-    (ap (λ v. v ++ tokens_in ms) (sym read) ∙ sym (tokens_append seen ms) ∙ ap tokens_in (sym is) ∙ e
-    ∙ ap (λ v. v ++ more) (take_next tokens at t here) ∙ append_assoc (take at tokens) (t ∷ []) more)
-
-pub nested_more : (n : ℕ) (ms : List Mark) (m : Mark) → IsNestedFrom n ms → fold depth_after n (ms ++ m ∷ []) ≤ 32 → IsNestedFrom n (ms ++ m ∷ [])
-nested_more n [] m h k = (h, k)
-nested_more n (x ∷ ms) m h k = (h.0, nested_more (depth_after n x) ms m h.1 k)
+pub nested_append : (n : ℕ) (a b : List Mark) → IsNestedFrom n a → IsNestedFrom (fold depth_after n a) b → IsNestedFrom n (a ++ b)
+nested_append n [] b h k = k
+nested_append n (x ∷ a) b h k = (h.0, nested_append (depth_after n x) a b h.1 k)
 
 pub nested_front : (n : ℕ) (a b : List Mark) → IsNestedFrom n (a ++ b) → fold depth_after n a ≤ 32
 nested_front n [] [] h = h
@@ -56,9 +40,12 @@ nested_front n (x ∷ a) b h = nested_front (depth_after n x) a b h.1
 pub nested_now : (ms : List Mark) → IsNested ms → depth_of ms ≤ 32
 nested_now ms h = nested_front 0 ms [] (subst IsNested (sym (append-nil ms)) h)
 
-pub depth_append : (n : ℕ) (ms : List Mark) (m : Mark) → fold depth_after n (ms ++ m ∷ []) ≡ depth_after (fold depth_after n ms) m
-depth_append n [] m = refl
-depth_append n (x ∷ ms) m = depth_append (depth_after n x) ms m
+pub depth_append : (a b : List Mark) → depth_of (a ++ b) ≡ fold depth_after (depth_of a) b
+depth_append a b = fold-append depth_after 0 a b
+
+-- few blocks are open
+pub room : {tokens : List Token} {at : ℕ} {goals : List Goal} {seen : List Mark} {depth : ℕ} → Stands tokens at goals seen depth → depth ≤ 32
+room {seen = seen} s = omega (arith, s.open_blocks, nested_now seen s.nested)
 
 shuts_less : (n : ℕ) (r : Rule) → depth_after n (shuts r) ≤ n
 shuts_less n rule.Block = omega arith
@@ -67,9 +54,6 @@ shuts_less n _ = omega arith
 opens_fits : (n : ℕ) (r : Rule) → n ≤ 32 → (r ≡ rule.Block → n < 32) → depth_after n (opens r) ≤ 32
 opens_fits n rule.Block h k = let lt : n < 32 = k refl in omega arith
 opens_fits n _ h k = h
-
-leaf_same : (n : ℕ) (t : Token) → depth_after n (leaf t) ≡ n
-leaf_same n t = refl
 
 -- behind the end of a rule
 pub after_end : {r : Rule} {gs : List Goal} {ms : List Mark} → Reads (shut r ∷ gs) ms → (rest : List Mark) × (ms ≡ shuts r ∷ rest) × Reads gs rest
@@ -91,51 +75,56 @@ after_node (node {ms = ms} d) = (ms, refl, d)
 pub after_one : {c : Terminal} {gs : List Goal} {ms : List Mark} → Reads (part (One c) ∷ gs) ms → (t : Token) × (rest : List Mark) × (ms ≡ leaf t ∷ rest) × (terminal_of t.what ≡ c) × Reads gs rest
 after_one (token {t = t} {ms = ms} is d) = (t, ms, refl, is, d)
 
-pub done_stands : (tokens : List Token) (at : ℕ) (t : Token) (gs : List Goal) (seen : List Mark) (depth : ℕ) → slice_get tokens at ≡ Some t
-    → Stands tokens at (phrase Done ∷ gs) seen depth → Stands tokens at gs seen depth
-done_stands tokens at t gs seen depth here s = record {
-  read = s.read;
-  sound = λ ms d. s.sound ms (done d);
-  whole = λ all more text e. let w = s.whole all more text e in (w.0, w.1, after_done w.2);
-  nested = s.nested;
-  open_blocks = s.open_blocks;
-  orderly = s.orderly.2;
-  ended = λ h. absurd (omega (arith, h, within tokens at t here));
-}
+module _ {tokens : List Token} {at : ℕ} {t : Token} (here : slice_get tokens at ≡ Some t) where
+  -- A step over marks: what is to come behind them reads on, and all that was to come, with the token, begins with them.
+  pub step : {next : ℕ} {goals gs : List Goal} {seen : List Mark} {depth : ℕ} (ms : List Mark) (further : List Token) → Stands tokens at goals seen depth → take (suc next) tokens ≡ take (suc at) tokens ++ further → tokens_in (seen ++ ms) ≡ take next tokens
+      → ((rest : List Mark) → Reads gs rest → Reads goals (ms ++ rest))
+      → ((rest : List Mark) (more : List Token) → Reads goals rest → tokens_in rest ≡ t ∷ (further ++ more) → (behind : List Mark) × (rest ≡ ms ++ behind) × Reads gs behind)
+      → IsNestedFrom depth ms → Orderly gs → (length tokens ≤ next → gs ≡ phrase Done ∷ shut rule.Program ∷ []) → Stands tokens next gs (seen ++ ms) (fold depth_after depth ms)
+  step {seen = seen} ms further s far read sound whole nested orderly ended = record {
+    read = read;
+    sound = λ rest d. subst IsText (sym (append_assoc seen ms rest)) (s.sound (ms ++ rest) (sound rest d));
+    whole = λ all more text e.
+        let w = goes_on here s text (e ∙ ap (λ v. v ++ more) far ∙ append_assoc (take (suc at) tokens) further more) in
+        let v = whole w.0 more w.2 w.3 in
+        (v.0, w.1 ∙ ap (λ v. seen ++ v) v.1 ∙ sym (append_assoc seen ms v.0), v.2);
+    nested = nested_append 0 seen ms s.nested (subst (λ n. IsNestedFrom n ms) s.open_blocks nested);
+    open_blocks = ap (λ n. fold depth_after n ms) s.open_blocks ∙ sym (depth_append seen ms);
+    orderly = orderly;
+    ended = ended;
+  }
 
-pub shut_stands : (tokens : List Token) (at : ℕ) (t : Token) (r : Rule) (gs : List Goal) (seen : List Mark) (depth : ℕ) → slice_get tokens at ≡ Some t
-    → Stands tokens at (shut r ∷ gs) seen depth → Stands tokens at gs (seen ++ shuts r ∷ []) (depth_after depth (shuts r))
-shut_stands tokens at t r gs seen depth here s = record {
-  read = tokens_append seen (shuts r ∷ []) ∙ append-nil (tokens_in seen) ∙ s.read;
-  sound = λ ms d. subst IsText (sym (append_assoc seen (shuts r ∷ []) ms)) (s.sound (shuts r ∷ ms) (end d));
-  whole = λ all more text e.
-      let w = s.whole all more text e in
-      let v = after_end w.2 in
-      (v.0, w.1 ∙ ap (λ ms. seen ++ ms) v.1 ∙ sym (append_assoc seen (shuts r ∷ []) v.0), v.2);
-  nested = nested_more 0 seen (shuts r) s.nested (rw depth_append (omega (arith, shuts_less (depth_of seen) r, nested_now seen s.nested)));
-  open_blocks = ap (λ n. depth_after n (shuts r)) s.open_blocks ∙ sym (depth_append 0 seen (shuts r));
-  orderly = s.orderly;
-  ended = λ h. absurd (omega (arith, h, within tokens at t here));
-}
+  -- a step over a mark that is no token
+  silent : {goals gs : List Goal} {seen : List Mark} {depth : ℕ} (m : Mark) → tokens_in (m ∷ []) ≡ [] → Stands tokens at goals seen depth → ((rest : List Mark) → Reads gs rest → Reads goals (m ∷ rest))
+      → ((rest : List Mark) → Reads goals rest → (behind : List Mark) × (rest ≡ m ∷ behind) × Reads gs behind)
+      → depth_after depth m ≤ 32 → Orderly gs → Stands tokens at gs (seen ++ m ∷ []) (depth_after depth m)
+  silent {seen = seen} m none s sound whole fits orderly =
+      step (m ∷ []) [] s (sym (append-nil _)) (tokens_append seen (m ∷ []) ∙ ap (λ v. tokens_in seen ++ v) none ∙ append-nil (tokens_in seen) ∙ s.read)
+      sound (λ rest more d e. whole rest d) (room s, fits) orderly (λ h. absurd (omega (arith, h, slice_get_within tokens at t here)))
 
-pub close_stands : (tokens : List Token) (at : ℕ) (t : Token) (r : Rule) (gs : List Goal) (seen : List Mark) (depth : ℕ) → slice_get tokens at ≡ Some t
-    → Stands tokens at (phrase Done ∷ shut r ∷ gs) seen depth → Stands tokens at gs (seen ++ shuts r ∷ []) (depth_after depth (shuts r))
-close_stands tokens at t r gs seen depth here s = shut_stands tokens at t r gs seen depth here (done_stands tokens at t (shut r ∷ gs) seen depth here s)
+  pub shut_stands : {r : Rule} {gs : List Goal} {seen : List Mark} {depth : ℕ} → Stands tokens at (shut r ∷ gs) seen depth → Stands tokens at gs (seen ++ shuts r ∷ []) (depth_after depth (shuts r))
+  shut_stands {r = r} {depth = depth} s = silent (shuts r) refl s (λ rest d. end d) (λ rest d. after_end d) (omega (arith, shuts_less depth r, room s)) s.orderly
 
-pub enter_stands : (tokens : List Token) (at : ℕ) (t : Token) (r : Rule) (gs : List Goal) (seen : List Mark) (depth : ℕ) → slice_get tokens at ≡ Some t
-    → (r ≡ rule.Block → depth < 32) → Stands tokens at (part (Node r) ∷ gs) seen depth → Stands tokens at (phrase (Whole r) ∷ shut r ∷ gs) (seen ++ opens r ∷ []) (depth_after depth (opens r))
-enter_stands tokens at t r gs seen depth here fits s = record {
-  read = tokens_append seen (opens r ∷ []) ∙ append-nil (tokens_in seen) ∙ s.read;
-  sound = λ ms d. subst IsText (sym (append_assoc seen (opens r ∷ []) ms)) (s.sound (opens r ∷ ms) (node d));
-  whole = λ all more text e.
-      let w = s.whole all more text e in
-      let v = after_node w.2 in
-      (v.0, w.1 ∙ ap (λ ms. seen ++ ms) v.1 ∙ sym (append_assoc seen (opens r ∷ []) v.0), v.2);
-  nested = nested_more 0 seen (opens r) s.nested (rw depth_append (opens_fits (depth_of seen) r (nested_now seen s.nested) (λ b. subst (λ n. n < 32) s.open_blocks (fits b))));
-  open_blocks = ap (λ n. depth_after n (opens r)) s.open_blocks ∙ sym (depth_append 0 seen (opens r));
-  orderly = ((λ h. absurd (s.orderly.0 cc)), s.orderly.1, s.orderly.2);
-  ended = λ h. absurd (omega (arith, within tokens at t here));
-}
+  pub enter_stands : {r : Rule} {gs : List Goal} {seen : List Mark} {depth : ℕ} → (r ≡ rule.Block → depth < 32) → Stands tokens at (part (Node r) ∷ gs) seen depth → Stands tokens at (phrase (Whole r) ∷ shut r ∷ gs) (seen ++ opens r ∷ []) (depth_after depth (opens r))
+  enter_stands {r = r} {depth = depth} fits s =
+      silent (opens r) refl s (λ rest d. node d) (λ rest d. after_node d) (opens_fits depth r (room s) fits) ((λ h. absurd (s.orderly.0 cc)), s.orderly.1, s.orderly.2)
+
+  -- a step over no mark
+  pub stay : {goals gs : List Goal} {seen : List Mark} {depth : ℕ} → Stands tokens at goals seen depth
+      → ((ms : List Mark) → Reads gs ms → Reads goals ms) → ((ms : List Mark) (more : List Token) → Reads goals ms → tokens_in ms ≡ t ∷ more → Reads gs ms)
+      → Orderly gs → Stands tokens at gs seen depth
+  stay s sound whole orderly = record {
+    read = s.read;
+    sound = λ ms d. s.sound ms (sound ms d);
+    whole = λ all more text e. let w = goes_on here s text e in (w.0, w.1, whole w.0 more w.2 w.3);
+    nested = s.nested;
+    open_blocks = s.open_blocks;
+    orderly = orderly;
+    ended = λ h. absurd (omega (arith, h, slice_get_within tokens at t here));
+  }
+
+  pub done_stands : {gs : List Goal} {seen : List Mark} {depth : ℕ} → Stands tokens at (phrase Done ∷ gs) seen depth → Stands tokens at gs seen depth
+  done_stands s = stay s (λ ms d. done d) (λ ms more d e. after_done d) s.orderly.2
 
 take_split : {A : Type 0} (xs : List A) (n : ℕ) → take (suc n) xs ≡ take n xs ++ take 1 (drop n xs)
 take_split [] zero = refl
@@ -143,24 +132,19 @@ take_split [] (suc n) = refl
 take_split (x ∷ xs) zero = refl
 take_split (x ∷ xs) (suc n) = ap (λ v. x ∷ v) (take_split xs n)
 
-end_of : (t : Token) (c : Terminal) → t.what ≡ kind.End → terminal_of t.what ≡ c → c ≡ terminal.End
-end_of t c is e = sym e ∙ ap terminal_of is
+pub read_next : {tokens : List Token} {at : ℕ} {t : Token} {goals : List Goal} {seen : List Mark} {depth : ℕ} (ms : List Mark) → tokens_in ms ≡ t ∷ [] → slice_get tokens at ≡ Some t
+    → Stands tokens at goals seen depth → tokens_in (seen ++ ms) ≡ take (suc at) tokens
+read_next {tokens} {at} {t} {seen = seen} ms one here s = tokens_append seen ms ∙ ap (λ v. v ++ tokens_in ms) s.read ∙ ap (λ v. take at tokens ++ v) one ∙ sym (take_next tokens at t here)
 
-pub take_stands : (tokens : List Token) (at : ℕ) (t : Token) (c : Terminal) (gs : List Goal) (seen : List Mark) (depth : ℕ) → slice_get tokens at ≡ Some t
+pub take_stands : {tokens : List Token} {at : ℕ} {t : Token} {c : Terminal} {gs : List Goal} {seen : List Mark} {depth : ℕ} → slice_get tokens at ≡ Some t
     → (length tokens ≤ suc at → t.what ≡ kind.End) → terminal_of t.what ≡ c → Stands tokens at (part (One c) ∷ gs) seen depth → Stands tokens (suc at) gs (seen ++ leaf t ∷ []) depth
-take_stands tokens at t c gs seen depth here last is s = record {
-  read = tokens_append seen (leaf t ∷ []) ∙ ap (λ v. v ++ t ∷ []) s.read ∙ sym (take_next tokens at t here);
-  sound = λ ms d. subst IsText (sym (append_assoc seen (leaf t ∷ []) ms)) (s.sound (leaf t ∷ ms) (token is d));
-  whole = λ all more text e.
-      let further : List Token = take 1 (drop (suc at) tokens) ++ more in
-      let e' : tokens_in all ≡ take (suc at) tokens ++ further = e ∙ ap (λ v. v ++ more) (take_split tokens (suc at)) ∙ append_assoc (take (suc at) tokens) (take 1 (drop (suc at) tokens)) more in
-      let w = s.whole all further text e' in
-      let v = after_one w.2 in
-      let same : v.0 ∷ tokens_in v.1 ≡ t ∷ further = sym (ap tokens_in v.2) ∙ next_token tokens further at t all seen w.0 here s.read w.1 e' in
-      let it : v.0 ≡ t = cc in
-      (v.1, w.1 ∙ ap (λ ms. seen ++ ms) v.2 ∙ ap (λ u. seen ++ leaf u ∷ v.1) it ∙ sym (append_assoc seen (leaf t ∷ []) v.1), v.4);
-  nested = nested_more 0 seen (leaf t) s.nested (rw depth_append (nested_now seen s.nested));
-  open_blocks = s.open_blocks ∙ sym (depth_append 0 seen (leaf t));
-  orderly = s.orderly.1;
-  ended = λ h. s.orderly.0 (end_of t c (last h) is);
-}
+take_stands {tokens} {at} {t} here last is s =
+    step here (leaf t ∷ []) (take 1 (drop (suc at) tokens)) s (take_split tokens (suc at)) (read_next (leaf t ∷ []) refl here s) (λ rest d. token is d) (λ rest more d e. one_leaf (after_one d) e)
+    (room s, room s) s.orderly.1 (λ h. s.orderly.0 (sym is ∙ ap terminal_of (last h)))
+  where
+    one_leaf : {c : Terminal} {gs : List Goal} {ms : List Mark} {ts : List Token} → (u : Token) × (rest : List Mark) × (ms ≡ leaf u ∷ rest) × (terminal_of u.what ≡ c) × Reads gs rest
+        → tokens_in ms ≡ t ∷ ts → (rest : List Mark) × (ms ≡ leaf t ∷ rest) × Reads gs rest
+    one_leaf {ts = ts} v e =
+        let same : v.0 ∷ tokens_in v.1 ≡ t ∷ ts = sym (ap tokens_in v.2) ∙ e in
+        let it : v.0 ≡ t = cc in
+        (v.1, v.2 ∙ ap (λ u. leaf u ∷ v.1) it, v.4)

@@ -1,114 +1,54 @@
 -- Lists of terminals as sets.
-use Rattle.std.proofs.Common.{◌≡◌, ◌∙◌, ◌⊎◌, inl, inr, Bool, true, false, sym, ap, refl, subst, List, [], ◌∷◌, ◌++◌, Some}
-use Rattle.std.specs.Prelude.{◌&&◌, ◌||◌, not, slice_get}
-use Rattle.std.specs.List.{list_all}
-use Rattle.std.proofs.lemmas.Bool.{eqb-true, eq-eqb}
-use Rattle.rmt_syntax.specs.declared.terminal.Terminal.{Terminal}
-use Rattle.rmt_syntax.specs.declared.terminal.Terminal.TheVariants as terminal
-use Rattle.rmt_syntax.specs.Lookahead.{terminal_number, same, member, Apart}
-
-abbrev pub all_terminals : List Terminal
-all_terminals = terminal.Header ∷ terminal.Next ∷ terminal.Accept ∷ terminal.Reject ∷ terminal.Meta ∷ terminal.Action ∷ terminal.Table ∷ terminal.Exact ∷ terminal.Prefix ∷ terminal.Ternary ∷ terminal.Actions ∷ terminal.Default ∷ terminal.Size ∷ terminal.Counted ∷ terminal.Control ∷ terminal.Apply ∷ terminal.If ∷ terminal.Else ∷ terminal.Hit ∷ terminal.Miss ∷ terminal.InPort ∷ terminal.OutPort ∷ terminal.Drop ∷ terminal.Valid ∷ terminal.Tail ∷ terminal.Name ∷ terminal.Number ∷ terminal.OpenBrace ∷ terminal.CloseBrace ∷ terminal.OpenParen ∷ terminal.CloseParen ∷ terminal.Colon ∷ terminal.Semicolon ∷ terminal.Comma ∷ terminal.Dot ∷ terminal.Assign ∷ terminal.Plus ∷ terminal.Minus ∷ terminal.Star ∷ terminal.Ampersand ∷ terminal.Bar ∷ terminal.Caret ∷ terminal.Equal ∷ terminal.End ∷ terminal.Other ∷ []
-
-listed : (t : Terminal) → slice_get all_terminals (terminal_number t) ≡ Some t
-listed terminal.Header = refl
-listed terminal.Next = refl
-listed terminal.Accept = refl
-listed terminal.Reject = refl
-listed terminal.Meta = refl
-listed terminal.Action = refl
-listed terminal.Table = refl
-listed terminal.Exact = refl
-listed terminal.Prefix = refl
-listed terminal.Ternary = refl
-listed terminal.Actions = refl
-listed terminal.Default = refl
-listed terminal.Size = refl
-listed terminal.Counted = refl
-listed terminal.Control = refl
-listed terminal.Apply = refl
-listed terminal.If = refl
-listed terminal.Else = refl
-listed terminal.Hit = refl
-listed terminal.Miss = refl
-listed terminal.InPort = refl
-listed terminal.OutPort = refl
-listed terminal.Drop = refl
-listed terminal.Valid = refl
-listed terminal.Tail = refl
-listed terminal.Name = refl
-listed terminal.Number = refl
-listed terminal.OpenBrace = refl
-listed terminal.CloseBrace = refl
-listed terminal.OpenParen = refl
-listed terminal.CloseParen = refl
-listed terminal.Colon = refl
-listed terminal.Semicolon = refl
-listed terminal.Comma = refl
-listed terminal.Dot = refl
-listed terminal.Assign = refl
-listed terminal.Plus = refl
-listed terminal.Minus = refl
-listed terminal.Star = refl
-listed terminal.Ampersand = refl
-listed terminal.Bar = refl
-listed terminal.Caret = refl
-listed terminal.Equal = refl
-listed terminal.End = refl
-listed terminal.Other = refl
+use Rattle.rmt_syntax.proofs.Words.{cases_Bool, ◌≡◌, ◌∙◌, ◌⊎◌, inl, inr, ℕ, zero, suc, Bool, true, false, sym, ap, refl, subst, List, [], ◌∷◌, ◌++◌, Some, not, slice_get, list_all, list_any, same_true, same_false, true_same, the_type, Terminal, same, member, Apart, and_parts, or_cases, or_left, or_right, not-true, both_ways, false_from_ne_true, list_any-append}
 
 pub same_refl : (t : Terminal) → same t t ≡ true
-same_refl t = eq-eqb (terminal_number t) (terminal_number t) refl
+same_refl t = true_same the_type t t refl
 
 pub same_is : (a b : Terminal) → same a b ≡ true → a ≡ b
-same_is a b h =
-    let e : terminal_number a ≡ terminal_number b = eqb-true (terminal_number a) (terminal_number b) h in
-    let f : Some a ≡ Some b = sym (listed a) ∙ ap (slice_get all_terminals) e ∙ listed b in
-    cc
+same_is a b h = same_true the_type tt a b h
 
-pub and_true : (a b : Bool) → (a && b) ≡ true → (a ≡ true) × (b ≡ true)
-and_true true b h = (refl, h)
-and_true false b h = cc
+-- whether b is a
+pub same_or : (a b : Terminal) → (b ≡ a) ⊎ (b ≡ a → ⊥)
+same_or a b = elim (cases_Bool (same a b)) [ inl e ↦ inl (sym (same_is a b e)) | inr e ↦ inr (λ k. same_false the_type a b e (sym k)) ]
 
-pub or_true : (a b : Bool) → (a || b) ≡ true → (a ≡ true) ⊎ (b ≡ true)
-or_true true b h = inl refl
-or_true false b h = inr h
+pub all_at : {A : Type 0} (p : A → Bool) (xs : List A) (i : ℕ) (x : A) → list_all p xs ≡ true → slice_get xs i ≡ Some x → p x ≡ true
+all_at p [] i x h e = cc
+all_at p (y ∷ ys) zero x h e = let same : y ≡ x = cc in subst (λ v. p v ≡ true) same (and_parts (p y) (list_all p ys) h).0
+all_at p (y ∷ ys) (suc i) x h e = all_at p ys i x (and_parts (p y) (list_all p ys) h).1 e
 
-pub or_left : (a b : Bool) → a ≡ true → (a || b) ≡ true
-or_left true b h = refl
-or_left false b h = cc
+pub any_at : {A : Type 0} (p : A → Bool) (xs : List A) (i : ℕ) (x : A) → p x ≡ true → slice_get xs i ≡ Some x → list_any p xs ≡ true
+any_at p [] i x h e = cc
+any_at p (y ∷ ys) zero x h e = let same : x ≡ y = cc in or_left (p y) _ (subst (λ v. p v ≡ true) same h)
+any_at p (y ∷ ys) (suc i) x h e = or_right (p y) _ (any_at p ys i x h e)
 
-pub or_right : (a b : Bool) → b ≡ true → (a || b) ≡ true
-or_right true b h = refl
-or_right false b h = h
-
-pub not_true : (a : Bool) → not a ≡ true → a ≡ false
-not_true true h = cc
-not_true false h = refl
-
-pub not_both : (a : Bool) → a ≡ true → a ≡ false → ⊥
-not_both a h k = let e : true ≡ false = sym h ∙ k in cc
+-- where some item passes, it stands at a place
+pub some_at : {A : Type 0} (p : A → Bool) (xs : List A) → list_any p xs ≡ true → (i : ℕ) × (x : A) × (slice_get xs i ≡ Some x) × (p x ≡ true)
+some_at p [] h = cc
+some_at p (y ∷ ys) h = elim (or_cases (p y) (list_any p ys) h) [
+  | inl e ↦ (0, y, refl, e)
+  | inr e ↦ (let k = some_at p ys e in (suc k.0, k.1, k.2, k.3))
+]
 
 pub member_here : (t u : Terminal) (ts : List Terminal) → u ≡ t → member t (u ∷ ts) ≡ true
 member_here t u ts e = or_left (same u t) (member t ts) (ap (λ v. same v t) e ∙ same_refl t)
 
 pub member_one : (t u : Terminal) → member t (u ∷ []) ≡ true → same u t ≡ true
-member_one t u h = elim (or_true (same u t) false h) [ inl e ↦ e | inr e ↦ cc ]
+member_one t u h = elim (or_cases (same u t) false h) [ inl e ↦ e | inr e ↦ cc ]
 
 pub member_left : (t : Terminal) (xs ys : List Terminal) → member t xs ≡ true → member t (xs ++ ys) ≡ true
-member_left t [] ys h = cc
-member_left t (x ∷ xs) ys h = elim (or_true (same x t) (member t xs) h) [ inl e ↦ or_left (same x t) _ e | inr e ↦ or_right (same x t) _ (member_left t xs ys e) ]
+member_left t xs ys h = list_any-append (λ c. same c t) xs ys ∙ or_left (member t xs) (member t ys) h
 
 pub member_right : (t : Terminal) (xs ys : List Terminal) → member t ys ≡ true → member t (xs ++ ys) ≡ true
-member_right t [] ys h = h
-member_right t (x ∷ xs) ys h = or_right (same x t) _ (member_right t xs ys h)
+member_right t xs ys h = list_any-append (λ c. same c t) xs ys ∙ or_right (member t xs) (member t ys) h
 
 pub member_either : (t : Terminal) (xs ys : List Terminal) → member t (xs ++ ys) ≡ true → (member t xs ≡ true) ⊎ (member t ys ≡ true)
-member_either t [] ys h = inr h
-member_either t (x ∷ xs) ys h = elim (or_true (same x t) (member t (xs ++ ys)) h) [
-  | inl e ↦ inl (or_left (same x t) _ e)
-  | inr e ↦ elim (member_either t xs ys e) [ inl k ↦ inl (or_right (same x t) _ k) | inr k ↦ inr k ]
-]
+member_either t xs ys h = or_cases (member t xs) (member t ys) (sym (list_any-append (λ c. same c t) xs ys) ∙ h)
+
+pub all_member : (p : Terminal → Bool) (xs : List Terminal) (t : Terminal) → list_all p xs ≡ true → member t xs ≡ true → p t ≡ true
+all_member p [] t h m = cc
+all_member p (x ∷ xs) t h m =
+    let both = and_parts (p x) (list_all p xs) h in
+    elim (or_cases (same x t) (member t xs) m) [ inl e ↦ subst (λ v. p v ≡ true) (same_is x t e) both.0 | inr k ↦ all_member p xs t both.1 k ]
 
 abbrev pub subset : List Terminal → List Terminal → Bool
 subset xs ys = list_all (λ t. member t ys) xs
@@ -117,29 +57,13 @@ abbrev pub disjoint : List Terminal → List Terminal → Bool
 disjoint xs ys = list_all (λ t. not (member t ys)) xs
 
 pub subset_is : (xs ys : List Terminal) → subset xs ys ≡ true → (t : Terminal) → member t xs ≡ true → member t ys ≡ true
-subset_is [] ys h t m = cc
-subset_is (x ∷ xs) ys h t m =
-    let both = and_true (member x ys) (subset xs ys) h in
-    elim (or_true (same x t) (member t xs) m) [
-      | inl e ↦ subst (λ v. member v ys ≡ true) (same_is x t e) both.0
-      | inr k ↦ subset_is xs ys both.1 t k
-    ]
+subset_is xs ys h t m = all_member (λ v. member v ys) xs t h m
 
 pub disjoint_is : (xs ys : List Terminal) → disjoint xs ys ≡ true → Apart xs ys
-disjoint_is [] ys h t m = cc
-disjoint_is (x ∷ xs) ys h t m =
-    let both = and_true (not (member x ys)) (disjoint xs ys) h in
-    elim (or_true (same x t) (member t xs) m) [
-      | inl e ↦ subst (λ v. member v ys ≡ false) (same_is x t e) (not_true _ both.0)
-      | inr k ↦ disjoint_is xs ys both.1 t k
-    ]
+disjoint_is xs ys h t m = not-true _ (all_member (λ v. not (member v ys)) xs t h m)
 
 pub apart_both : (xs ys zs : List Terminal) → Apart xs ys → Apart xs zs → Apart xs (ys ++ zs)
-apart_both xs ys zs f g t m = false_of (member t (ys ++ zs)) (λ h. elim (member_either t ys zs h) [ inl k ↦ not_both _ k (f t m) | inr k ↦ not_both _ k (g t m) ])
-  where
-    false_of : (b : Bool) → (b ≡ true → ⊥) → b ≡ false
-    false_of true h = absurd (h refl)
-    false_of false h = refl
+apart_both xs ys zs f g t m = false_from_ne_true (member t (ys ++ zs)) (λ h. elim (member_either t ys zs h) [ inl k ↦ both_ways _ (f t m) k | inr k ↦ both_ways _ (g t m) k ])
 
 pub apart_part : (xs ys zs : List Terminal) → subset xs ys ≡ true → Apart ys zs → Apart xs zs
 apart_part xs ys zs h f t m = f t (subset_is xs ys h t m)

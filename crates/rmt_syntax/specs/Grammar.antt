@@ -1,15 +1,16 @@
--- The grammar of program text.
+-- The grammar of program text: what a public clause speaks of, and a reader has to believe. Its words are passed on.
 use Rattle.std.specs.Prelude.{ℕ, List, [], ◌∷◌, Bool, ◌==◌, codes, if◌then◌else◌}
 use Rattle.std.specs.Str.{bytes_eq}
 use Rattle.rmt_lexer.specs.declared.token.TokenKind.{TokenKind}
 use Rattle.rmt_lexer.specs.declared.token.TokenKind.TheVariants as token
-use Rattle.rmt_syntax.specs.declared.terminal.Terminal.{Terminal}
-use Rattle.rmt_syntax.specs.declared.terminal.Terminal.TheVariants as terminal
-use Rattle.rmt_syntax.specs.declared.tree.Rule.TheVariants as rule
-use Rattle.rmt_syntax.specs.declared.grammar.Part.{Part}
-use Rattle.rmt_syntax.specs.declared.grammar.Part.TheVariants.{One, Node}
-use Rattle.rmt_syntax.specs.declared.grammar.Phrase.{Phrase}
-use Rattle.rmt_syntax.specs.declared.grammar.Phrase.TheVariants.{Whole}
+pub use Rattle.rmt_syntax.specs.declared.terminal.Terminal.{Terminal}
+pub use Rattle.rmt_syntax.specs.declared.terminal.Terminal.TheVariants as terminal
+pub use Rattle.rmt_syntax.specs.declared.tree.Rule.{Rule}
+pub use Rattle.rmt_syntax.specs.declared.tree.Rule.TheVariants as rule
+pub use Rattle.rmt_syntax.specs.declared.grammar.Part.{Part}
+pub use Rattle.rmt_syntax.specs.declared.grammar.Part.TheVariants.{One, Node}
+pub use Rattle.rmt_syntax.specs.declared.grammar.Phrase.{Phrase}
+pub use Rattle.rmt_syntax.specs.declared.grammar.Phrase.TheVariants.{Whole, Done}
 use Rattle.rmt_syntax.specs.declared.grammar.Phrase.TheVariants as phrase
 
 -- the reserved words
@@ -39,8 +40,7 @@ keywords =
     (codes "out_port", terminal.OutPort) ∷
     (codes "drop", terminal.Drop) ∷
     (codes "valid", terminal.Valid) ∷
-    (codes "tail", terminal.Tail) ∷
-    []
+    (codes "tail", terminal.Tail) ∷ []
 
 -- the signs of one byte
 abbrev pub signs : List (ℕ × Terminal)
@@ -59,8 +59,7 @@ signs =
     (42, terminal.Star) ∷  -- *
     (38, terminal.Ampersand) ∷  -- &
     (124, terminal.Bar) ∷  -- |
-    (94, terminal.Caret) ∷  -- ^
-    []
+    (94, terminal.Caret) ∷ []  -- ^
 
 -- the entry of a table
 abbrev pub entry : {K : Type 0} → (K → Bool) → List (K × Terminal) → Terminal → Terminal
@@ -87,6 +86,7 @@ abbrev pub Form : Type 0
 Form = List Part × Phrase
 
 -- The grammar. The text of a rule is one of the forms of its phrase `Whole`; a phrase that goes on is one of its forms again.
+-- What each phrase is of, is said at its variant.
 abbrev pub choices : Phrase → List Form
 -- program = { header | meta | action | table } [ control ] END
 choices (Whole rule.Program) =
@@ -95,204 +95,131 @@ choices (Whole rule.Program) =
     (Node rule.Action ∷ [], Whole rule.Program) ∷
     (Node rule.Table ∷ [], Whole rule.Program) ∷
     (Node rule.Control ∷ One terminal.End ∷ [], phrase.Done) ∷
-    (One terminal.End ∷ [], phrase.Done) ∷
-    []
+    (One terminal.End ∷ [], phrase.Done) ∷ []
 -- header = "header" NAME "{" { NAME ":" NUMBER ";" } [ "tail" NAME "*" NUMBER "-" NUMBER ";" ] "}" "next" next
-choices (Whole rule.Header) =
-    (One terminal.Header ∷ One terminal.Name ∷ One terminal.OpenBrace ∷ [], phrase.HeaderFields) ∷
-    []
--- the fields of a header, its tail, if any, and what follows them
+choices (Whole rule.Header) = (One terminal.Header ∷ One terminal.Name ∷ One terminal.OpenBrace ∷ [], phrase.HeaderFields) ∷ []
 choices phrase.HeaderFields =
     (One terminal.Name ∷ One terminal.Colon ∷ One terminal.Number ∷ One terminal.Semicolon ∷ [], phrase.HeaderFields) ∷
     (One terminal.Tail ∷ One terminal.Name ∷ One terminal.Star ∷ One terminal.Number ∷ One terminal.Minus ∷ One terminal.Number ∷ One terminal.Semicolon ∷ One terminal.CloseBrace ∷ One terminal.Next ∷ Node rule.Next ∷ [], phrase.Done) ∷
-    (One terminal.CloseBrace ∷ One terminal.Next ∷ Node rule.Next ∷ [], phrase.Done) ∷
-    []
+    (One terminal.CloseBrace ∷ One terminal.Next ∷ Node rule.Next ∷ [], phrase.Done) ∷ []
 -- next = target ";" | "(" NAME { "," NAME } ")" "{" { case } "else" ":" target ";" "}"
 choices (Whole rule.Next) =
     (Node rule.Target ∷ One terminal.Semicolon ∷ [], phrase.Done) ∷
-    (One terminal.OpenParen ∷ One terminal.Name ∷ [], phrase.SelectNames) ∷
-    []
--- the further names of a select
+    (One terminal.OpenParen ∷ One terminal.Name ∷ [], phrase.SelectNames) ∷ []
 choices phrase.SelectNames =
     (One terminal.Comma ∷ One terminal.Name ∷ [], phrase.SelectNames) ∷
-    (One terminal.CloseParen ∷ One terminal.OpenBrace ∷ [], phrase.Cases) ∷
-    []
--- the cases of a select
+    (One terminal.CloseParen ∷ One terminal.OpenBrace ∷ [], phrase.Cases) ∷ []
 choices phrase.Cases =
     (Node rule.Case ∷ [], phrase.Cases) ∷
-    (One terminal.Else ∷ One terminal.Colon ∷ Node rule.Target ∷ One terminal.Semicolon ∷ One terminal.CloseBrace ∷ [], phrase.Done) ∷
-    []
+    (One terminal.Else ∷ One terminal.Colon ∷ Node rule.Target ∷ One terminal.Semicolon ∷ One terminal.CloseBrace ∷ [], phrase.Done) ∷ []
 -- case = value { "," value } ":" target ";"
-choices (Whole rule.Case) =
-    (Node rule.Value ∷ [], phrase.MoreValues) ∷
-    []
--- the further values of a case
+choices (Whole rule.Case) = (Node rule.Value ∷ [], phrase.MoreValues) ∷ []
 choices phrase.MoreValues =
     (One terminal.Comma ∷ Node rule.Value ∷ [], phrase.MoreValues) ∷
-    (One terminal.Colon ∷ Node rule.Target ∷ One terminal.Semicolon ∷ [], phrase.Done) ∷
-    []
+    (One terminal.Colon ∷ Node rule.Target ∷ One terminal.Semicolon ∷ [], phrase.Done) ∷ []
 -- value = NUMBER [ "&" NUMBER ]
-choices (Whole rule.Value) =
-    (One terminal.Number ∷ [], phrase.Mask) ∷
-    []
--- the mask of a value, if any
+choices (Whole rule.Value) = (One terminal.Number ∷ [], phrase.Mask) ∷ []
 choices phrase.Mask =
     (One terminal.Ampersand ∷ One terminal.Number ∷ [], phrase.Done) ∷
-    ([], phrase.Done) ∷
-    []
+    ([], phrase.Done) ∷ []
 -- target = NAME | "accept" | "reject"
 choices (Whole rule.Target) =
     (One terminal.Name ∷ [], phrase.Done) ∷
     (One terminal.Accept ∷ [], phrase.Done) ∷
-    (One terminal.Reject ∷ [], phrase.Done) ∷
-    []
+    (One terminal.Reject ∷ [], phrase.Done) ∷ []
 -- meta = "meta" "{" { NAME ":" NUMBER ";" } "}"
-choices (Whole rule.Meta) =
-    (One terminal.Meta ∷ One terminal.OpenBrace ∷ [], phrase.MetaFields) ∷
-    []
--- the metadata fields
+choices (Whole rule.Meta) = (One terminal.Meta ∷ One terminal.OpenBrace ∷ [], phrase.MetaFields) ∷ []
 choices phrase.MetaFields =
     (One terminal.Name ∷ One terminal.Colon ∷ One terminal.Number ∷ One terminal.Semicolon ∷ [], phrase.MetaFields) ∷
-    (One terminal.CloseBrace ∷ [], phrase.Done) ∷
-    []
+    (One terminal.CloseBrace ∷ [], phrase.Done) ∷ []
 -- action = "action" NAME "(" [ param { "," param } ] ")" "{" { field "=" expr ";" } "}"
-choices (Whole rule.Action) =
-    (One terminal.Action ∷ One terminal.Name ∷ One terminal.OpenParen ∷ [], phrase.Params) ∷
-    []
--- the parameters of an action
+choices (Whole rule.Action) = (One terminal.Action ∷ One terminal.Name ∷ One terminal.OpenParen ∷ [], phrase.Params) ∷ []
 choices phrase.Params =
     (Node rule.Param ∷ [], phrase.MoreParams) ∷
-    (One terminal.CloseParen ∷ One terminal.OpenBrace ∷ [], phrase.Assignments) ∷
-    []
--- its further parameters
+    (One terminal.CloseParen ∷ One terminal.OpenBrace ∷ [], phrase.Assignments) ∷ []
 choices phrase.MoreParams =
     (One terminal.Comma ∷ Node rule.Param ∷ [], phrase.MoreParams) ∷
-    (One terminal.CloseParen ∷ One terminal.OpenBrace ∷ [], phrase.Assignments) ∷
-    []
--- its assignments
+    (One terminal.CloseParen ∷ One terminal.OpenBrace ∷ [], phrase.Assignments) ∷ []
 choices phrase.Assignments =
     (Node rule.Field ∷ One terminal.Assign ∷ Node rule.Expr ∷ One terminal.Semicolon ∷ [], phrase.Assignments) ∷
-    (One terminal.CloseBrace ∷ [], phrase.Done) ∷
-    []
+    (One terminal.CloseBrace ∷ [], phrase.Done) ∷ []
 -- param = NAME ":" NUMBER
-choices (Whole rule.Param) =
-    (One terminal.Name ∷ One terminal.Colon ∷ One terminal.Number ∷ [], phrase.Done) ∷
-    []
+choices (Whole rule.Param) = (One terminal.Name ∷ One terminal.Colon ∷ One terminal.Number ∷ [], phrase.Done) ∷ []
 -- field = NAME "." NAME | NAME "." "valid" | "meta" "." NAME | "in_port" | "out_port" | "drop"
 choices (Whole rule.Field) =
     (One terminal.Name ∷ One terminal.Dot ∷ [], phrase.FieldEnd) ∷
     (One terminal.Meta ∷ One terminal.Dot ∷ One terminal.Name ∷ [], phrase.Done) ∷
     (One terminal.InPort ∷ [], phrase.Done) ∷
     (One terminal.OutPort ∷ [], phrase.Done) ∷
-    (One terminal.Drop ∷ [], phrase.Done) ∷
-    []
--- what follows the dot of a header's field
+    (One terminal.Drop ∷ [], phrase.Done) ∷ []
 choices phrase.FieldEnd =
     (One terminal.Name ∷ [], phrase.Done) ∷
-    (One terminal.Valid ∷ [], phrase.Done) ∷
-    []
+    (One terminal.Valid ∷ [], phrase.Done) ∷ []
 -- expr = leaf [ ( "+" | "-" | "&" | "|" | "^" ) leaf ]
-choices (Whole rule.Expr) =
-    (Node rule.Leaf ∷ [], phrase.Operation) ∷
-    []
--- the operator and its second operand, if any
+choices (Whole rule.Expr) = (Node rule.Leaf ∷ [], phrase.Operation) ∷ []
 choices phrase.Operation =
     (One terminal.Plus ∷ Node rule.Leaf ∷ [], phrase.Done) ∷
     (One terminal.Minus ∷ Node rule.Leaf ∷ [], phrase.Done) ∷
     (One terminal.Ampersand ∷ Node rule.Leaf ∷ [], phrase.Done) ∷
     (One terminal.Bar ∷ Node rule.Leaf ∷ [], phrase.Done) ∷
     (One terminal.Caret ∷ Node rule.Leaf ∷ [], phrase.Done) ∷
-    ([], phrase.Done) ∷
-    []
+    ([], phrase.Done) ∷ []
 -- leaf = field | NAME | NUMBER
 choices (Whole rule.Leaf) =
     (Node rule.Field ∷ [], phrase.Done) ∷
     (One terminal.Name ∷ [], phrase.Done) ∷
-    (One terminal.Number ∷ [], phrase.Done) ∷
-    []
+    (One terminal.Number ∷ [], phrase.Done) ∷ []
 -- table = "table" NAME "{" [ key ] "default" NAME "(" [ NUMBER { "," NUMBER } ] ")" ";" "}"
-choices (Whole rule.Table) =
-    (One terminal.Table ∷ One terminal.Name ∷ One terminal.OpenBrace ∷ [], phrase.TableKey) ∷
-    []
--- the key of a table, if any, and its default
+choices (Whole rule.Table) = (One terminal.Table ∷ One terminal.Name ∷ One terminal.OpenBrace ∷ [], phrase.TableKey) ∷ []
 choices phrase.TableKey =
     (Node rule.Key ∷ One terminal.Default ∷ One terminal.Name ∷ One terminal.OpenParen ∷ [], phrase.Arguments) ∷
-    (One terminal.Default ∷ One terminal.Name ∷ One terminal.OpenParen ∷ [], phrase.Arguments) ∷
-    []
--- the arguments of the default
+    (One terminal.Default ∷ One terminal.Name ∷ One terminal.OpenParen ∷ [], phrase.Arguments) ∷ []
 choices phrase.Arguments =
     (One terminal.Number ∷ [], phrase.MoreArguments) ∷
-    (One terminal.CloseParen ∷ One terminal.Semicolon ∷ One terminal.CloseBrace ∷ [], phrase.Done) ∷
-    []
--- its further arguments
+    (One terminal.CloseParen ∷ One terminal.Semicolon ∷ One terminal.CloseBrace ∷ [], phrase.Done) ∷ []
 choices phrase.MoreArguments =
     (One terminal.Comma ∷ One terminal.Number ∷ [], phrase.MoreArguments) ∷
-    (One terminal.CloseParen ∷ One terminal.Semicolon ∷ One terminal.CloseBrace ∷ [], phrase.Done) ∷
-    []
+    (One terminal.CloseParen ∷ One terminal.Semicolon ∷ One terminal.CloseBrace ∷ [], phrase.Done) ∷ []
 -- key = ( "exact" | "prefix" | "ternary" ) field { "," field } ";" "actions" NAME { "," NAME } ";" "size" NUMBER ";" [ "counted" ";" ]
 choices (Whole rule.Key) =
     (One terminal.Exact ∷ Node rule.Field ∷ [], phrase.KeyFields) ∷
     (One terminal.Prefix ∷ Node rule.Field ∷ [], phrase.KeyFields) ∷
-    (One terminal.Ternary ∷ Node rule.Field ∷ [], phrase.KeyFields) ∷
-    []
--- the further fields of a key
+    (One terminal.Ternary ∷ Node rule.Field ∷ [], phrase.KeyFields) ∷ []
 choices phrase.KeyFields =
     (One terminal.Comma ∷ Node rule.Field ∷ [], phrase.KeyFields) ∷
-    (One terminal.Semicolon ∷ One terminal.Actions ∷ One terminal.Name ∷ [], phrase.KeyActions) ∷
-    []
--- the further actions of a table
+    (One terminal.Semicolon ∷ One terminal.Actions ∷ One terminal.Name ∷ [], phrase.KeyActions) ∷ []
 choices phrase.KeyActions =
     (One terminal.Comma ∷ One terminal.Name ∷ [], phrase.KeyActions) ∷
-    (One terminal.Semicolon ∷ One terminal.Size ∷ One terminal.Number ∷ One terminal.Semicolon ∷ [], phrase.Counted) ∷
-    []
--- the word `counted`, if it stands there
+    (One terminal.Semicolon ∷ One terminal.Size ∷ One terminal.Number ∷ One terminal.Semicolon ∷ [], phrase.Counted) ∷ []
 choices phrase.Counted =
     (One terminal.Counted ∷ One terminal.Semicolon ∷ [], phrase.Done) ∷
-    ([], phrase.Done) ∷
-    []
+    ([], phrase.Done) ∷ []
 -- control = "control" block
-choices (Whole rule.Control) =
-    (One terminal.Control ∷ Node rule.Block ∷ [], phrase.Done) ∷
-    []
+choices (Whole rule.Control) = (One terminal.Control ∷ Node rule.Block ∷ [], phrase.Done) ∷ []
 -- block = "{" { stmt } "}"
-choices (Whole rule.Block) =
-    (One terminal.OpenBrace ∷ [], phrase.Statements) ∷
-    []
--- the statements of a block
+choices (Whole rule.Block) = (One terminal.OpenBrace ∷ [], phrase.Statements) ∷ []
 choices phrase.Statements =
     (Node rule.Stmt ∷ [], phrase.Statements) ∷
-    (One terminal.CloseBrace ∷ [], phrase.Done) ∷
-    []
+    (One terminal.CloseBrace ∷ [], phrase.Done) ∷ []
 -- stmt = "apply" NAME ( ";" | "{" { arm } "}" ) | "if" "(" field [ "&" NUMBER ] "==" NUMBER ")" block [ "else" block ]
 choices (Whole rule.Stmt) =
     (One terminal.Apply ∷ One terminal.Name ∷ [], phrase.Applied) ∷
-    (One terminal.If ∷ One terminal.OpenParen ∷ Node rule.Field ∷ [], phrase.Condition) ∷
-    []
--- what follows the table of an `apply`
+    (One terminal.If ∷ One terminal.OpenParen ∷ Node rule.Field ∷ [], phrase.Condition) ∷ []
 choices phrase.Applied =
     (One terminal.Semicolon ∷ [], phrase.Done) ∷
-    (One terminal.OpenBrace ∷ [], phrase.Arms) ∷
-    []
--- its arms
+    (One terminal.OpenBrace ∷ [], phrase.Arms) ∷ []
 choices phrase.Arms =
     (Node rule.Arm ∷ [], phrase.Arms) ∷
-    (One terminal.CloseBrace ∷ [], phrase.Done) ∷
-    []
--- what follows the field of an `if`
+    (One terminal.CloseBrace ∷ [], phrase.Done) ∷ []
 choices phrase.Condition =
     (One terminal.Ampersand ∷ One terminal.Number ∷ One terminal.Equal ∷ One terminal.Number ∷ One terminal.CloseParen ∷ Node rule.Block ∷ [], phrase.Otherwise) ∷
-    (One terminal.Equal ∷ One terminal.Number ∷ One terminal.CloseParen ∷ Node rule.Block ∷ [], phrase.Otherwise) ∷
-    []
--- the `else` of an `if`, if any
+    (One terminal.Equal ∷ One terminal.Number ∷ One terminal.CloseParen ∷ Node rule.Block ∷ [], phrase.Otherwise) ∷ []
 choices phrase.Otherwise =
     (One terminal.Else ∷ Node rule.Block ∷ [], phrase.Done) ∷
-    ([], phrase.Done) ∷
-    []
+    ([], phrase.Done) ∷ []
 -- arm = ( "hit" | "miss" | NAME ) block
 choices (Whole rule.Arm) =
     (One terminal.Hit ∷ Node rule.Block ∷ [], phrase.Done) ∷
     (One terminal.Miss ∷ Node rule.Block ∷ [], phrase.Done) ∷
-    (One terminal.Name ∷ Node rule.Block ∷ [], phrase.Done) ∷
-    []
--- nothing
+    (One terminal.Name ∷ Node rule.Block ∷ [], phrase.Done) ∷ []
 choices phrase.Done = []

@@ -1,16 +1,15 @@
--- What a reader that stands in the middle of a text has read, and what it still has to read.
+-- What a reader that stands in the middle of a text has read, and what it still has to read. It serves the code and its
+-- proofs: no public clause speaks of it.
 use Rattle.std.specs.Prelude.{◌≡◌, ℕ, suc, List, [], ◌∷◌, ◌++◌, map, fold, take, length, ◌≤◌, false, Some, slice_get}
 use Rattle.std.specs.List.{flat_map}
 use Rattle.rmt_lexer.specs.declared.token.Token.{Token}
 use Rattle.rmt_syntax.specs.declared.reader.Frame.{Frame}
 use Rattle.rmt_syntax.specs.declared.reader.Reader.{Reader}
-use Rattle.rmt_syntax.specs.declared.tree.Rule.TheVariants as rule
-use Rattle.rmt_syntax.specs.declared.grammar.Phrase.TheVariants.{Done}
 use Rattle.rmt_lexer.specs.declared.fault.ProgramFault.{ProgramFault}
 use Rattle.rmt_lexer.specs.declared.fault.ProgramFault.TheVariants.{NoMemory, At}
 use Rattle.rmt_syntax.specs.Lookahead.{Orderly, is_operand_name}
-use Rattle.rmt_syntax.specs.Grammar.{terminal_of}
-use Rattle.rmt_syntax.specs.declared.grammar.Phrase.{Phrase}
+use Rattle.rmt_syntax.specs.Grammar.{Phrase, Done, terminal_of}
+use Rattle.rmt_syntax.specs.Grammar.rule
 use Rattle.rmt_syntax.specs.Trees.{Mark, opens, marks, tokens_in, Goal, part, phrase, shut, Reads, IsText, IsNested, depth_of, IsFault}
 
 -- the marks of the parts that a node has so far
@@ -43,6 +42,10 @@ pub record Stands (tokens : List Token) (at : ℕ) (goals : List Goal) (seen : L
   pub open_blocks : depth ≡ depth_of seen
   pub orderly : Orderly goals
   pub ended : length tokens ≤ at → goals ≡ phrase Done ∷ shut rule.Program ∷ []
+
+-- the reader stands before the token at the place
+abbrev pub Before : List Token → ℕ → Reader → Type 0
+Before tokens at r = Stands tokens at (goals_of r) (marks_of r) r.depth
 
 -- no tree has these tokens and blocks nested in one another at most 32 deep
 abbrev pub HasNoTree : List Token → Type 0

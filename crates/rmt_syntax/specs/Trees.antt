@@ -1,22 +1,17 @@
--- Parse trees, read from left to right, and which of them the grammar has.
+-- Parse trees, read from left to right, which of them the grammar has, and what a fault is: what a public clause speaks of,
+-- and a reader has to believe.
 use Rattle.std.specs.Prelude.{◌≡◌, ℕ, suc, ◌+◌, ◌-◌, ◌≤◌, List, [], ◌∷◌, ◌++◌, map, fold, take, Some, slice_get, Result, Ok, Err, ◌⊎◌}
 use Rattle.std.specs.List.{flat_map}
 use Rattle.rmt_lexer.specs.declared.token.Token.{Token}
 use Rattle.rmt_lexer.specs.declared.fault.ProgramFault.{ProgramFault}
 use Rattle.rmt_lexer.specs.declared.fault.ProgramFault.TheVariants.{NoMemory, At}
-use Rattle.rmt_syntax.specs.declared.terminal.Terminal.{Terminal}
 use Rattle.rmt_syntax.specs.declared.tree.Tree.{Tree, Many}
 use Rattle.rmt_syntax.specs.declared.tree.Tree.TheViews.{made-One}
 use Rattle.rmt_syntax.specs.declared.tree.Tree.TheOpen.{Tree-F}
 use Rattle.rmt_syntax.specs.declared.tree.Tree.TheOpen as tree
 use Rattle.rmt_syntax.specs.declared.tree.Tree.TheFolds.{fold-Tree}
-use Rattle.rmt_syntax.specs.declared.tree.Rule.{Rule}
-use Rattle.rmt_syntax.specs.declared.tree.Rule.TheVariants as rule
-use Rattle.rmt_syntax.specs.declared.grammar.Part.{Part}
-use Rattle.rmt_syntax.specs.declared.grammar.Part.TheVariants.{One, Node}
-use Rattle.rmt_syntax.specs.declared.grammar.Phrase.{Phrase}
-use Rattle.rmt_syntax.specs.declared.grammar.Phrase.TheVariants.{Whole, Done}
-use Rattle.rmt_syntax.specs.Grammar.{terminal_of, choices}
+use Rattle.rmt_syntax.specs.Grammar.{Terminal, Rule, Part, One, Node, Phrase, Whole, Done, terminal_of, choices}
+use Rattle.rmt_syntax.specs.Grammar.rule
 
 -- a token, or where the text of a rule begins or ends
 pub data Mark : Type 0 where

@@ -5,7 +5,7 @@ use crate::terminal::Terminal;
 use crate::tree::Rule;
 
 /// A part of the text of a rule.
-#[derive(Clone, Copy, Debug, PartialEq, Eq)]
+#[derive(Clone, Copy)]
 pub enum Part {
     /// A token.
     One(Terminal),
@@ -14,7 +14,7 @@ pub enum Part {
 }
 
 /// What is still to come of the text of a rule.
-#[derive(Clone, Copy, Debug, PartialEq, Eq)]
+#[derive(Clone, Copy)]
 pub enum Phrase {
     /// All of it.
     Whole(Rule),
@@ -67,12 +67,28 @@ pub enum Phrase {
 }
 
 /// One of the forms of a phrase: its parts up to where there is a choice again, and the phrase that goes on from there.
-#[derive(Clone, Copy, Debug)]
+#[derive(Clone, Copy)]
 pub struct Choice {
     /// The parts up to the next choice.
     pub parts: &'static [Part],
     /// The phrase that goes on behind them.
     pub then: Phrase,
+}
+
+/// Forms, one a row: its tokens, the rules whose texts stand in it in brackets, and the phrase behind them.
+macro_rules! forms {
+    ($([$($part:tt)*] => $then:tt $(($rule:ident))?),* $(,)?) => {
+        &[$(Choice {
+            parts: &[$(part!($part)),*],
+            then: Phrase::$then $((Rule::$rule))?,
+        }),*]
+    };
+}
+
+/// A part of a form.
+macro_rules! part {
+    (($rule:ident)) => { Part::Node(Rule::$rule) };
+    ($terminal:ident) => { Part::One(Terminal::$terminal) };
 }
 
 /// The forms of a phrase. No two begin with the same token, and one without parts stands last.
@@ -81,537 +97,136 @@ pub fn choices(phrase: Phrase) -> &'static [Choice]
 {
     match phrase {
         // program = { header | meta | action | table } [ control ] END
-        Phrase::Whole(Rule::Program) => &[
-            Choice {
-                parts: &[Part::Node(Rule::Header)],
-                then: Phrase::Whole(Rule::Program),
-            },
-            Choice {
-                parts: &[Part::Node(Rule::Meta)],
-                then: Phrase::Whole(Rule::Program),
-            },
-            Choice {
-                parts: &[Part::Node(Rule::Action)],
-                then: Phrase::Whole(Rule::Program),
-            },
-            Choice {
-                parts: &[Part::Node(Rule::Table)],
-                then: Phrase::Whole(Rule::Program),
-            },
-            Choice {
-                parts: &[Part::Node(Rule::Control), Part::One(Terminal::End)],
-                then: Phrase::Done,
-            },
-            Choice {
-                parts: &[Part::One(Terminal::End)],
-                then: Phrase::Done,
-            },
+        Phrase::Whole(Rule::Program) => forms![
+            [(Header)] => Whole(Program),
+            [(Meta)] => Whole(Program),
+            [(Action)] => Whole(Program),
+            [(Table)] => Whole(Program),
+            [(Control) End] => Done,
+            [End] => Done,
         ],
-        // header = "header" NAME "{" { NAME ":" NUMBER ";" } [ "tail" NAME "*" NUMBER "-" NUMBER ";" ] "}" "next" next
-        Phrase::Whole(Rule::Header) => &[Choice {
-            parts: &[
-                Part::One(Terminal::Header),
-                Part::One(Terminal::Name),
-                Part::One(Terminal::OpenBrace),
-            ],
-            then: Phrase::HeaderFields,
-        }],
-        Phrase::HeaderFields => &[
-            Choice {
-                parts: &[
-                    Part::One(Terminal::Name),
-                    Part::One(Terminal::Colon),
-                    Part::One(Terminal::Number),
-                    Part::One(Terminal::Semicolon),
-                ],
-                then: Phrase::HeaderFields,
-            },
-            Choice {
-                parts: &[
-                    Part::One(Terminal::Tail),
-                    Part::One(Terminal::Name),
-                    Part::One(Terminal::Star),
-                    Part::One(Terminal::Number),
-                    Part::One(Terminal::Minus),
-                    Part::One(Terminal::Number),
-                    Part::One(Terminal::Semicolon),
-                    Part::One(Terminal::CloseBrace),
-                    Part::One(Terminal::Next),
-                    Part::Node(Rule::Next),
-                ],
-                then: Phrase::Done,
-            },
-            Choice {
-                parts: &[
-                    Part::One(Terminal::CloseBrace),
-                    Part::One(Terminal::Next),
-                    Part::Node(Rule::Next),
-                ],
-                then: Phrase::Done,
-            },
+        // header = "header" NAME "{" { NAME ":" NUMBER ";" } [ "tail" NAME "*" NUMBER "-" NUMBER ";" ] "}"
+        //     "next" next
+        Phrase::Whole(Rule::Header) => forms![[Header Name OpenBrace] => HeaderFields],
+        Phrase::HeaderFields => forms![
+            [Name Colon Number Semicolon] => HeaderFields,
+            [Tail Name Star Number Minus Number Semicolon CloseBrace Next (Next)] => Done,
+            [CloseBrace Next (Next)] => Done,
         ],
         // next = target ";" | "(" NAME { "," NAME } ")" "{" { case } "else" ":" target ";" "}"
-        Phrase::Whole(Rule::Next) => &[
-            Choice {
-                parts: &[Part::Node(Rule::Target), Part::One(Terminal::Semicolon)],
-                then: Phrase::Done,
-            },
-            Choice {
-                parts: &[Part::One(Terminal::OpenParen), Part::One(Terminal::Name)],
-                then: Phrase::SelectNames,
-            },
+        Phrase::Whole(Rule::Next) => forms![
+            [(Target) Semicolon] => Done,
+            [OpenParen Name] => SelectNames,
         ],
-        Phrase::SelectNames => &[
-            Choice {
-                parts: &[Part::One(Terminal::Comma), Part::One(Terminal::Name)],
-                then: Phrase::SelectNames,
-            },
-            Choice {
-                parts: &[
-                    Part::One(Terminal::CloseParen),
-                    Part::One(Terminal::OpenBrace),
-                ],
-                then: Phrase::Cases,
-            },
-        ],
-        Phrase::Cases => &[
-            Choice {
-                parts: &[Part::Node(Rule::Case)],
-                then: Phrase::Cases,
-            },
-            Choice {
-                parts: &[
-                    Part::One(Terminal::Else),
-                    Part::One(Terminal::Colon),
-                    Part::Node(Rule::Target),
-                    Part::One(Terminal::Semicolon),
-                    Part::One(Terminal::CloseBrace),
-                ],
-                then: Phrase::Done,
-            },
+        Phrase::SelectNames => forms![[Comma Name] => SelectNames, [CloseParen OpenBrace] => Cases],
+        Phrase::Cases => forms![
+            [(Case)] => Cases,
+            [Else Colon (Target) Semicolon CloseBrace] => Done,
         ],
         // case = value { "," value } ":" target ";"
-        Phrase::Whole(Rule::Case) => &[Choice {
-            parts: &[Part::Node(Rule::Value)],
-            then: Phrase::MoreValues,
-        }],
-        Phrase::MoreValues => &[
-            Choice {
-                parts: &[Part::One(Terminal::Comma), Part::Node(Rule::Value)],
-                then: Phrase::MoreValues,
-            },
-            Choice {
-                parts: &[
-                    Part::One(Terminal::Colon),
-                    Part::Node(Rule::Target),
-                    Part::One(Terminal::Semicolon),
-                ],
-                then: Phrase::Done,
-            },
+        Phrase::Whole(Rule::Case) => forms![[(Value)] => MoreValues],
+        Phrase::MoreValues => forms![
+            [Comma (Value)] => MoreValues,
+            [Colon (Target) Semicolon] => Done,
         ],
         // value = NUMBER [ "&" NUMBER ]
-        Phrase::Whole(Rule::Value) => &[Choice {
-            parts: &[Part::One(Terminal::Number)],
-            then: Phrase::Mask,
-        }],
-        Phrase::Mask => &[
-            Choice {
-                parts: &[Part::One(Terminal::Ampersand), Part::One(Terminal::Number)],
-                then: Phrase::Done,
-            },
-            Choice {
-                parts: &[],
-                then: Phrase::Done,
-            },
-        ],
+        Phrase::Whole(Rule::Value) => forms![[Number] => Mask],
+        Phrase::Mask => forms![[Ampersand Number] => Done, [] => Done],
         // target = NAME | "accept" | "reject"
-        Phrase::Whole(Rule::Target) => &[
-            Choice {
-                parts: &[Part::One(Terminal::Name)],
-                then: Phrase::Done,
-            },
-            Choice {
-                parts: &[Part::One(Terminal::Accept)],
-                then: Phrase::Done,
-            },
-            Choice {
-                parts: &[Part::One(Terminal::Reject)],
-                then: Phrase::Done,
-            },
-        ],
+        Phrase::Whole(Rule::Target) => forms![[Name] => Done, [Accept] => Done, [Reject] => Done],
         // meta = "meta" "{" { NAME ":" NUMBER ";" } "}"
-        Phrase::Whole(Rule::Meta) => &[Choice {
-            parts: &[Part::One(Terminal::Meta), Part::One(Terminal::OpenBrace)],
-            then: Phrase::MetaFields,
-        }],
-        Phrase::MetaFields => &[
-            Choice {
-                parts: &[
-                    Part::One(Terminal::Name),
-                    Part::One(Terminal::Colon),
-                    Part::One(Terminal::Number),
-                    Part::One(Terminal::Semicolon),
-                ],
-                then: Phrase::MetaFields,
-            },
-            Choice {
-                parts: &[Part::One(Terminal::CloseBrace)],
-                then: Phrase::Done,
-            },
+        Phrase::Whole(Rule::Meta) => forms![[Meta OpenBrace] => MetaFields],
+        Phrase::MetaFields => forms![
+            [Name Colon Number Semicolon] => MetaFields,
+            [CloseBrace] => Done,
         ],
         // action = "action" NAME "(" [ param { "," param } ] ")" "{" { field "=" expr ";" } "}"
-        Phrase::Whole(Rule::Action) => &[Choice {
-            parts: &[
-                Part::One(Terminal::Action),
-                Part::One(Terminal::Name),
-                Part::One(Terminal::OpenParen),
-            ],
-            then: Phrase::Params,
-        }],
-        Phrase::Params => &[
-            Choice {
-                parts: &[Part::Node(Rule::Param)],
-                then: Phrase::MoreParams,
-            },
-            Choice {
-                parts: &[
-                    Part::One(Terminal::CloseParen),
-                    Part::One(Terminal::OpenBrace),
-                ],
-                then: Phrase::Assignments,
-            },
+        Phrase::Whole(Rule::Action) => forms![[Action Name OpenParen] => Params],
+        Phrase::Params => forms![[(Param)] => MoreParams, [CloseParen OpenBrace] => Assignments],
+        Phrase::MoreParams => forms![
+            [Comma (Param)] => MoreParams,
+            [CloseParen OpenBrace] => Assignments,
         ],
-        Phrase::MoreParams => &[
-            Choice {
-                parts: &[Part::One(Terminal::Comma), Part::Node(Rule::Param)],
-                then: Phrase::MoreParams,
-            },
-            Choice {
-                parts: &[
-                    Part::One(Terminal::CloseParen),
-                    Part::One(Terminal::OpenBrace),
-                ],
-                then: Phrase::Assignments,
-            },
-        ],
-        Phrase::Assignments => &[
-            Choice {
-                parts: &[
-                    Part::Node(Rule::Field),
-                    Part::One(Terminal::Assign),
-                    Part::Node(Rule::Expr),
-                    Part::One(Terminal::Semicolon),
-                ],
-                then: Phrase::Assignments,
-            },
-            Choice {
-                parts: &[Part::One(Terminal::CloseBrace)],
-                then: Phrase::Done,
-            },
+        Phrase::Assignments => forms![
+            [(Field) Assign (Expr) Semicolon] => Assignments,
+            [CloseBrace] => Done,
         ],
         // param = NAME ":" NUMBER
-        Phrase::Whole(Rule::Param) => &[Choice {
-            parts: &[
-                Part::One(Terminal::Name),
-                Part::One(Terminal::Colon),
-                Part::One(Terminal::Number),
-            ],
-            then: Phrase::Done,
-        }],
+        Phrase::Whole(Rule::Param) => forms![[Name Colon Number] => Done],
         // field = NAME "." NAME | NAME "." "valid" | "meta" "." NAME | "in_port" | "out_port" | "drop"
-        Phrase::Whole(Rule::Field) => &[
-            Choice {
-                parts: &[Part::One(Terminal::Name), Part::One(Terminal::Dot)],
-                then: Phrase::FieldEnd,
-            },
-            Choice {
-                parts: &[
-                    Part::One(Terminal::Meta),
-                    Part::One(Terminal::Dot),
-                    Part::One(Terminal::Name),
-                ],
-                then: Phrase::Done,
-            },
-            Choice {
-                parts: &[Part::One(Terminal::InPort)],
-                then: Phrase::Done,
-            },
-            Choice {
-                parts: &[Part::One(Terminal::OutPort)],
-                then: Phrase::Done,
-            },
-            Choice {
-                parts: &[Part::One(Terminal::Drop)],
-                then: Phrase::Done,
-            },
+        Phrase::Whole(Rule::Field) => forms![
+            [Name Dot] => FieldEnd,
+            [Meta Dot Name] => Done,
+            [InPort] => Done,
+            [OutPort] => Done,
+            [Drop] => Done,
         ],
-        Phrase::FieldEnd => &[
-            Choice {
-                parts: &[Part::One(Terminal::Name)],
-                then: Phrase::Done,
-            },
-            Choice {
-                parts: &[Part::One(Terminal::Valid)],
-                then: Phrase::Done,
-            },
-        ],
+        Phrase::FieldEnd => forms![[Name] => Done, [Valid] => Done],
         // expr = leaf [ ( "+" | "-" | "&" | "|" | "^" ) leaf ]
-        Phrase::Whole(Rule::Expr) => &[Choice {
-            parts: &[Part::Node(Rule::Leaf)],
-            then: Phrase::Operation,
-        }],
-        Phrase::Operation => &[
-            Choice {
-                parts: &[Part::One(Terminal::Plus), Part::Node(Rule::Leaf)],
-                then: Phrase::Done,
-            },
-            Choice {
-                parts: &[Part::One(Terminal::Minus), Part::Node(Rule::Leaf)],
-                then: Phrase::Done,
-            },
-            Choice {
-                parts: &[Part::One(Terminal::Ampersand), Part::Node(Rule::Leaf)],
-                then: Phrase::Done,
-            },
-            Choice {
-                parts: &[Part::One(Terminal::Bar), Part::Node(Rule::Leaf)],
-                then: Phrase::Done,
-            },
-            Choice {
-                parts: &[Part::One(Terminal::Caret), Part::Node(Rule::Leaf)],
-                then: Phrase::Done,
-            },
-            Choice {
-                parts: &[],
-                then: Phrase::Done,
-            },
+        Phrase::Whole(Rule::Expr) => forms![[(Leaf)] => Operation],
+        Phrase::Operation => forms![
+            [Plus (Leaf)] => Done,
+            [Minus (Leaf)] => Done,
+            [Ampersand (Leaf)] => Done,
+            [Bar (Leaf)] => Done,
+            [Caret (Leaf)] => Done,
+            [] => Done,
         ],
         // leaf = field | NAME | NUMBER
-        Phrase::Whole(Rule::Leaf) => &[
-            Choice {
-                parts: &[Part::Node(Rule::Field)],
-                then: Phrase::Done,
-            },
-            Choice {
-                parts: &[Part::One(Terminal::Name)],
-                then: Phrase::Done,
-            },
-            Choice {
-                parts: &[Part::One(Terminal::Number)],
-                then: Phrase::Done,
-            },
-        ],
+        Phrase::Whole(Rule::Leaf) => forms![[(Field)] => Done, [Name] => Done, [Number] => Done],
         // table = "table" NAME "{" [ key ] "default" NAME "(" [ NUMBER { "," NUMBER } ] ")" ";" "}"
-        Phrase::Whole(Rule::Table) => &[Choice {
-            parts: &[
-                Part::One(Terminal::Table),
-                Part::One(Terminal::Name),
-                Part::One(Terminal::OpenBrace),
-            ],
-            then: Phrase::TableKey,
-        }],
-        Phrase::TableKey => &[
-            Choice {
-                parts: &[
-                    Part::Node(Rule::Key),
-                    Part::One(Terminal::Default),
-                    Part::One(Terminal::Name),
-                    Part::One(Terminal::OpenParen),
-                ],
-                then: Phrase::Arguments,
-            },
-            Choice {
-                parts: &[
-                    Part::One(Terminal::Default),
-                    Part::One(Terminal::Name),
-                    Part::One(Terminal::OpenParen),
-                ],
-                then: Phrase::Arguments,
-            },
+        Phrase::Whole(Rule::Table) => forms![[Table Name OpenBrace] => TableKey],
+        Phrase::TableKey => forms![
+            [(Key) Default Name OpenParen] => Arguments,
+            [Default Name OpenParen] => Arguments,
         ],
-        Phrase::Arguments => &[
-            Choice {
-                parts: &[Part::One(Terminal::Number)],
-                then: Phrase::MoreArguments,
-            },
-            Choice {
-                parts: &[
-                    Part::One(Terminal::CloseParen),
-                    Part::One(Terminal::Semicolon),
-                    Part::One(Terminal::CloseBrace),
-                ],
-                then: Phrase::Done,
-            },
+        Phrase::Arguments => forms![
+            [Number] => MoreArguments,
+            [CloseParen Semicolon CloseBrace] => Done,
         ],
-        Phrase::MoreArguments => &[
-            Choice {
-                parts: &[Part::One(Terminal::Comma), Part::One(Terminal::Number)],
-                then: Phrase::MoreArguments,
-            },
-            Choice {
-                parts: &[
-                    Part::One(Terminal::CloseParen),
-                    Part::One(Terminal::Semicolon),
-                    Part::One(Terminal::CloseBrace),
-                ],
-                then: Phrase::Done,
-            },
+        Phrase::MoreArguments => forms![
+            [Comma Number] => MoreArguments,
+            [CloseParen Semicolon CloseBrace] => Done,
         ],
-        // key = ( "exact" | "prefix" | "ternary" ) field { "," field } ";" "actions" NAME { "," NAME } ";" "size" NUMBER ";" [ "counted" ";" ]
-        Phrase::Whole(Rule::Key) => &[
-            Choice {
-                parts: &[Part::One(Terminal::Exact), Part::Node(Rule::Field)],
-                then: Phrase::KeyFields,
-            },
-            Choice {
-                parts: &[Part::One(Terminal::Prefix), Part::Node(Rule::Field)],
-                then: Phrase::KeyFields,
-            },
-            Choice {
-                parts: &[Part::One(Terminal::Ternary), Part::Node(Rule::Field)],
-                then: Phrase::KeyFields,
-            },
+        // key = ( "exact" | "prefix" | "ternary" ) field { "," field } ";" "actions" NAME { "," NAME } ";"
+        //     "size" NUMBER ";" [ "counted" ";" ]
+        Phrase::Whole(Rule::Key) => forms![
+            [Exact (Field)] => KeyFields,
+            [Prefix (Field)] => KeyFields,
+            [Ternary (Field)] => KeyFields,
         ],
-        Phrase::KeyFields => &[
-            Choice {
-                parts: &[Part::One(Terminal::Comma), Part::Node(Rule::Field)],
-                then: Phrase::KeyFields,
-            },
-            Choice {
-                parts: &[
-                    Part::One(Terminal::Semicolon),
-                    Part::One(Terminal::Actions),
-                    Part::One(Terminal::Name),
-                ],
-                then: Phrase::KeyActions,
-            },
+        Phrase::KeyFields => forms![
+            [Comma (Field)] => KeyFields,
+            [Semicolon Actions Name] => KeyActions,
         ],
-        Phrase::KeyActions => &[
-            Choice {
-                parts: &[Part::One(Terminal::Comma), Part::One(Terminal::Name)],
-                then: Phrase::KeyActions,
-            },
-            Choice {
-                parts: &[
-                    Part::One(Terminal::Semicolon),
-                    Part::One(Terminal::Size),
-                    Part::One(Terminal::Number),
-                    Part::One(Terminal::Semicolon),
-                ],
-                then: Phrase::Counted,
-            },
+        Phrase::KeyActions => forms![
+            [Comma Name] => KeyActions,
+            [Semicolon Size Number Semicolon] => Counted,
         ],
-        Phrase::Counted => &[
-            Choice {
-                parts: &[Part::One(Terminal::Counted), Part::One(Terminal::Semicolon)],
-                then: Phrase::Done,
-            },
-            Choice {
-                parts: &[],
-                then: Phrase::Done,
-            },
-        ],
+        Phrase::Counted => forms![[Counted Semicolon] => Done, [] => Done],
         // control = "control" block
-        Phrase::Whole(Rule::Control) => &[Choice {
-            parts: &[Part::One(Terminal::Control), Part::Node(Rule::Block)],
-            then: Phrase::Done,
-        }],
+        Phrase::Whole(Rule::Control) => forms![[Control (Block)] => Done],
         // block = "{" { stmt } "}"
-        Phrase::Whole(Rule::Block) => &[Choice {
-            parts: &[Part::One(Terminal::OpenBrace)],
-            then: Phrase::Statements,
-        }],
-        Phrase::Statements => &[
-            Choice {
-                parts: &[Part::Node(Rule::Stmt)],
-                then: Phrase::Statements,
-            },
-            Choice {
-                parts: &[Part::One(Terminal::CloseBrace)],
-                then: Phrase::Done,
-            },
+        Phrase::Whole(Rule::Block) => forms![[OpenBrace] => Statements],
+        Phrase::Statements => forms![[(Stmt)] => Statements, [CloseBrace] => Done],
+        // stmt = "apply" NAME ( ";" | "{" { arm } "}" ) | "if" "(" field [ "&" NUMBER ] "==" NUMBER ")" block
+        //     [ "else" block ]
+        Phrase::Whole(Rule::Stmt) => forms![
+            [Apply Name] => Applied,
+            [If OpenParen (Field)] => Condition,
         ],
-        // stmt = "apply" NAME ( ";" | "{" { arm } "}" ) | "if" "(" field [ "&" NUMBER ] "==" NUMBER ")" block [ "else" block ]
-        Phrase::Whole(Rule::Stmt) => &[
-            Choice {
-                parts: &[Part::One(Terminal::Apply), Part::One(Terminal::Name)],
-                then: Phrase::Applied,
-            },
-            Choice {
-                parts: &[
-                    Part::One(Terminal::If),
-                    Part::One(Terminal::OpenParen),
-                    Part::Node(Rule::Field),
-                ],
-                then: Phrase::Condition,
-            },
+        Phrase::Applied => forms![[Semicolon] => Done, [OpenBrace] => Arms],
+        Phrase::Arms => forms![[(Arm)] => Arms, [CloseBrace] => Done],
+        Phrase::Condition => forms![
+            [Ampersand Number Equal Number CloseParen (Block)] => Otherwise,
+            [Equal Number CloseParen (Block)] => Otherwise,
         ],
-        Phrase::Applied => &[
-            Choice {
-                parts: &[Part::One(Terminal::Semicolon)],
-                then: Phrase::Done,
-            },
-            Choice {
-                parts: &[Part::One(Terminal::OpenBrace)],
-                then: Phrase::Arms,
-            },
-        ],
-        Phrase::Arms => &[
-            Choice {
-                parts: &[Part::Node(Rule::Arm)],
-                then: Phrase::Arms,
-            },
-            Choice {
-                parts: &[Part::One(Terminal::CloseBrace)],
-                then: Phrase::Done,
-            },
-        ],
-        Phrase::Condition => &[
-            Choice {
-                parts: &[
-                    Part::One(Terminal::Ampersand),
-                    Part::One(Terminal::Number),
-                    Part::One(Terminal::Equal),
-                    Part::One(Terminal::Number),
-                    Part::One(Terminal::CloseParen),
-                    Part::Node(Rule::Block),
-                ],
-                then: Phrase::Otherwise,
-            },
-            Choice {
-                parts: &[
-                    Part::One(Terminal::Equal),
-                    Part::One(Terminal::Number),
-                    Part::One(Terminal::CloseParen),
-                    Part::Node(Rule::Block),
-                ],
-                then: Phrase::Otherwise,
-            },
-        ],
-        Phrase::Otherwise => &[
-            Choice {
-                parts: &[Part::One(Terminal::Else), Part::Node(Rule::Block)],
-                then: Phrase::Done,
-            },
-            Choice {
-                parts: &[],
-                then: Phrase::Done,
-            },
-        ],
+        Phrase::Otherwise => forms![[Else (Block)] => Done, [] => Done],
         // arm = ( "hit" | "miss" | NAME ) block
-        Phrase::Whole(Rule::Arm) => &[
-            Choice {
-                parts: &[Part::One(Terminal::Hit), Part::Node(Rule::Block)],
-                then: Phrase::Done,
-            },
-            Choice {
-                parts: &[Part::One(Terminal::Miss), Part::Node(Rule::Block)],
-                then: Phrase::Done,
-            },
-            Choice {
-                parts: &[Part::One(Terminal::Name), Part::Node(Rule::Block)],
-                then: Phrase::Done,
-            },
+        Phrase::Whole(Rule::Arm) => forms![
+            [Hit (Block)] => Done,
+            [Miss (Block)] => Done,
+            [Name (Block)] => Done,
         ],
         Phrase::Done => &[],
     }

@@ -6,61 +6,32 @@ use crate::grammar::{Choice, Part, Phrase, choices};
 use crate::terminal::{Terminal, is_same};
 use crate::tree::Rule;
 
-/// The terminals that the text of a rule may begin with.
+/// A list of terminals.
+macro_rules! terminals {
+    ($($terminal:ident),*) => { &[$(Terminal::$terminal),*] };
+}
+
+/// The terminals that the text of a rule may begin with, in the order of its forms.
 fn first_of(rule: Rule) -> &'static [Terminal]
     ensures { result.now ≡ first_of rule }
 {
     match rule {
-        Rule::Program => &[
-            Terminal::End,
-            Terminal::Header,
-            Terminal::Meta,
-            Terminal::Action,
-            Terminal::Table,
-            Terminal::Control,
-        ],
-        Rule::Header => &[Terminal::Header],
-        Rule::Next => &[
-            Terminal::OpenParen,
-            Terminal::Name,
-            Terminal::Accept,
-            Terminal::Reject,
-        ],
-        Rule::Case => &[Terminal::Number],
-        Rule::Value => &[Terminal::Number],
-        Rule::Target => &[Terminal::Name, Terminal::Accept, Terminal::Reject],
-        Rule::Meta => &[Terminal::Meta],
-        Rule::Action => &[Terminal::Action],
-        Rule::Param => &[Terminal::Name],
-        Rule::Field => &[
-            Terminal::Name,
-            Terminal::Meta,
-            Terminal::InPort,
-            Terminal::OutPort,
-            Terminal::Drop,
-        ],
-        Rule::Expr => &[
-            Terminal::Name,
-            Terminal::Meta,
-            Terminal::InPort,
-            Terminal::OutPort,
-            Terminal::Drop,
-            Terminal::Number,
-        ],
-        Rule::Leaf => &[
-            Terminal::Name,
-            Terminal::Meta,
-            Terminal::InPort,
-            Terminal::OutPort,
-            Terminal::Drop,
-            Terminal::Number,
-        ],
-        Rule::Table => &[Terminal::Table],
-        Rule::Key => &[Terminal::Exact, Terminal::Prefix, Terminal::Ternary],
-        Rule::Control => &[Terminal::Control],
-        Rule::Block => &[Terminal::OpenBrace],
-        Rule::Stmt => &[Terminal::Apply, Terminal::If],
-        Rule::Arm => &[Terminal::Hit, Terminal::Miss, Terminal::Name],
+        Rule::Program => terminals![Header, Meta, Action, Table, Control, End],
+        Rule::Header => terminals![Header],
+        Rule::Next => terminals![Name, Accept, Reject, OpenParen],
+        Rule::Case | Rule::Value => terminals![Number],
+        Rule::Target => terminals![Name, Accept, Reject],
+        Rule::Meta => terminals![Meta],
+        Rule::Action => terminals![Action],
+        Rule::Param => terminals![Name],
+        Rule::Field => terminals![Name, Meta, InPort, OutPort, Drop],
+        Rule::Expr | Rule::Leaf => terminals![Name, Meta, InPort, OutPort, Drop, Name, Number],
+        Rule::Table => terminals![Table],
+        Rule::Key => terminals![Exact, Prefix, Ternary],
+        Rule::Control => terminals![Control],
+        Rule::Block => terminals![OpenBrace],
+        Rule::Stmt => terminals![Apply, If],
+        Rule::Arm => terminals![Hit, Miss, Name],
     }
 }
 
@@ -68,12 +39,7 @@ fn first_of(rule: Rule) -> &'static [Terminal]
 fn is_member(terminal: Terminal, terminals: &[Terminal]) -> bool
     ensures { result ≡ member terminal terminals.now }
 {
-    for other in terminals {
-        if is_same(*other, terminal) {
-            return true;
-        }
-    }
-    false
+    terminals.iter().any(|other| is_same(*other, terminal))
 }
 
 /// Whether a form may begin with a terminal. One without parts may always stand.

@@ -9,7 +9,7 @@ ghost use Rattle.rmt_syntax.specs.Grammar.{terminal_of};
 ghost use Rattle.rmt_syntax.specs.Trees.{Answers, Gives, IsTreeOf};
 ghost use Rattle.rmt_lexer.specs.Text.{EndsOnce};
 ghost use Rattle.rmt_syntax.specs.Lookahead.{is_done, weight};
-ghost use Rattle.rmt_syntax.specs.State.{Stands, Refuses, IsNoOperandName, goals_of, marks_of};
+ghost use Rattle.rmt_syntax.specs.State.{Before, Refuses, IsNoOperandName, goals_of};
 
 use crate::grammar::{Part, Phrase};
 use crate::lookahead::{choice_of, is_done, is_operand_name};
@@ -42,9 +42,16 @@ fn token_at(tokens: &[Token], at: usize) -> &Token
     &tokens[at]
 }
 
+/// Whether a token is of a kind.
+fn is_kind(token: &Token, wanted: Terminal) -> bool
+    ensures yes { result ≡ true → terminal_of token.now.what ≡ wanted }
+    ensures no { result ≡ false → terminal_of token.now.what ≡ wanted → ⊥ }
+{
+    is_same(wanted, terminal_of(token))
+}
+
 /// Takes a token as the part that comes next, or refuses it.
 fn take_part(
-    alloc: Global,
     reader: &mut Reader,
     tokens: &[Token],
     at: usize,
@@ -53,15 +60,15 @@ fn take_part(
     requires inside { at < length tokens.now }
     requires ends { EndsOnce tokens.now }
     requires next { slice_get reader.old.inner.todo.now 0 ≡ Some (One wanted) }
-    requires stands { Stands tokens.now at (goals_of reader.old) (marks_of reader.old) reader.old.depth }
-    ensures ok { OnOk result (Stands tokens.now (at + 1) (goals_of reader.new) (marks_of reader.new) reader.new.depth) }
+    requires stands { Before tokens.now at reader.old }
+    ensures ok { OnOk result (Before tokens.now (at + 1) reader.new) }
     ensures err { IfErr result (λ fault. Refuses tokens.now fault) }
 {
     let token = token_at(tokens, at);
-    if !is_same(wanted, terminal_of(token)) {
+    if !is_kind(token, wanted) {
         return Err(fault_at(3, token));
     }
-    reader.take(token.copy(alloc)?)?;
+    reader.take(token.copy(reader.alloc)?)?;
     Ok(())
 }
 
@@ -80,7 +87,7 @@ fn is_block(rule: Rule) -> bool
 fn check_block(reader: &Reader, tokens: &[Token], at: usize, rule: Rule) -> Result<(), ProgramFault>
     requires inside { at < length tokens.now }
     requires next { slice_get reader.now.inner.todo.now 0 ≡ Some (Node rule) }
-    requires stands { Stands tokens.now at (goals_of reader.now) (marks_of reader.now) reader.now.depth }
+    requires stands { Before tokens.now at reader.now }
     ensures ok { OnOk result (rule ≡ Block → reader.now.depth < 32) }
     ensures err { IfErr result (λ fault. Refuses tokens.now fault) }
 {
@@ -88,7 +95,7 @@ fn check_block(reader: &Reader, tokens: &[Token], at: usize, rule: Rule) -> Resu
         return Ok(());
     }
     let token = token_at(tokens, at);
-    if !is_same(Terminal::OpenBrace, terminal_of(token)) {
+    if !is_kind(token, Terminal::OpenBrace) {
         return Err(fault_at(3, token));
     }
     if reader.depth == MOST_BLOCKS {
@@ -99,7 +106,6 @@ fn check_block(reader: &Reader, tokens: &[Token], at: usize, rule: Rule) -> Resu
 
 /// Begins the node that comes next, or refuses the token.
 fn enter_node(
-    alloc: Global,
     reader: &mut Reader,
     tokens: &[Token],
     at: usize,
@@ -107,13 +113,13 @@ fn enter_node(
 ) -> Result<(), ProgramFault>
     requires inside { at < length tokens.now }
     requires next { slice_get reader.old.inner.todo.now 0 ≡ Some (Node rule) }
-    requires stands { Stands tokens.now at (goals_of reader.old) (marks_of reader.old) reader.old.depth }
-    ensures ok { OnOk result (Stands tokens.now at (goals_of reader.new) (marks_of reader.new) reader.new.depth) }
+    requires stands { Before tokens.now at reader.old }
+    ensures ok { OnOk result (Before tokens.now at reader.new) }
     ensures lower { OnOk result (weight (goals_of reader.new) < weight (goals_of reader.old)) }
     ensures err { IfErr result (λ fault. Refuses tokens.now fault) }
 {
     check_block(reader, tokens, at, rule)?;
-    reader.enter(alloc, rule)?;
+    reader.enter(rule)?;
     Ok(())
 }
 
@@ -122,8 +128,8 @@ fn close_node(reader: &mut Reader, tokens: &[Token], at: usize) -> Result<(), Pr
     requires inside { at < length tokens.now }
     requires next { reader.old.inner.todo.now ≡ [] }
     requires then { reader.old.inner.then ≡ Done }
-    requires stands { Stands tokens.now at (goals_of reader.old) (marks_of reader.old) reader.old.depth }
-    ensures ok { OnOk result (Stands tokens.now at (goals_of reader.new) (marks_of reader.new) reader.new.depth) }
+    requires stands { Before tokens.now at reader.old }
+    ensures ok { OnOk result (Before tokens.now at reader.new) }
     ensures lower { OnOk result (weight (goals_of reader.new) < weight (goals_of reader.old)) }
     ensures err { IfErr result (λ fault. Refuses tokens.now fault) }
 {
@@ -140,8 +146,8 @@ fn choose_form(reader: &mut Reader, tokens: &[Token], at: usize) -> Result<(), P
     requires next { reader.old.inner.todo.now ≡ [] }
     requires then { is_done reader.old.inner.then ≡ false }
     requires name { IsNoOperandName reader.old.inner.then tokens.now at }
-    requires stands { Stands tokens.now at (goals_of reader.old) (marks_of reader.old) reader.old.depth }
-    ensures ok { OnOk result (Stands tokens.now at (goals_of reader.new) (marks_of reader.new) reader.new.depth) }
+    requires stands { Before tokens.now at reader.old }
+    ensures ok { OnOk result (Before tokens.now at reader.new) }
     ensures lower { OnOk result (weight (goals_of reader.new) < weight (goals_of reader.old)) }
     ensures err { IfErr result (λ fault. Refuses tokens.now fault) }
 {
@@ -161,31 +167,26 @@ fn is_dot(tokens: &[Token], at: usize) -> bool
     ensures other { result ≡ false → (t : Token) → slice_get tokens.now at ≡ Some t → terminal_of t.what ≡ Dot → ⊥ }
 {
     match tokens.get(at) {
-        Some(token) => is_same(Terminal::Dot, terminal_of(token)),
+        Some(token) => is_kind(token, Terminal::Dot),
         None => false,
     }
 }
 
 /// Takes a name as an operand, or as the first token of one.
-fn take_operand(
-    alloc: Global,
-    reader: &mut Reader,
-    tokens: &[Token],
-    at: usize,
-) -> Result<(), ProgramFault>
+fn take_operand(reader: &mut Reader, tokens: &[Token], at: usize) -> Result<(), ProgramFault>
     requires inside { at < length tokens.now }
     requires ends { EndsOnce tokens.now }
     requires next { reader.old.inner.todo.now ≡ [] }
     requires then { reader.old.inner.then ≡ Whole rule.Leaf }
     requires name { (t : Token) → slice_get tokens.now at ≡ Some t → terminal_of t.what ≡ Name }
-    requires stands { Stands tokens.now at (goals_of reader.old) (marks_of reader.old) reader.old.depth }
-    ensures ok { OnOk result (Stands tokens.now (at + 1) (goals_of reader.new) (marks_of reader.new) reader.new.depth) }
+    requires stands { Before tokens.now at reader.old }
+    ensures ok { OnOk result (Before tokens.now (at + 1) reader.new) }
     ensures err { IfErr result (λ fault. Refuses tokens.now fault) }
 {
     let token = token_at(tokens, at);
-    let name = token.copy(alloc)?;
+    let name = token.copy(reader.alloc)?;
     if is_dot(tokens, at + 1) {
-        reader.take_field(alloc, name)?;
+        reader.take_field(name)?;
         Ok(())
     } else {
         reader.take_name(name)?;
@@ -194,18 +195,13 @@ fn take_operand(
 }
 
 /// Goes on with the phrase that comes next, and tells whether the token is taken.
-fn pass_phrase(
-    alloc: Global,
-    reader: &mut Reader,
-    tokens: &[Token],
-    at: usize,
-) -> Result<bool, ProgramFault>
+fn pass_phrase(reader: &mut Reader, tokens: &[Token], at: usize) -> Result<bool, ProgramFault>
     requires inside { at < length tokens.now }
     requires ends { EndsOnce tokens.now }
     requires next { reader.old.inner.todo.now ≡ [] }
-    requires stands { Stands tokens.now at (goals_of reader.old) (marks_of reader.old) reader.old.depth }
-    ensures taken { IfOk result (λ taken. taken ≡ true → Stands tokens.now (at + 1) (goals_of reader.new) (marks_of reader.new) reader.new.depth) }
-    ensures stands { IfOk result (λ taken. taken ≡ false → Stands tokens.now at (goals_of reader.new) (marks_of reader.new) reader.new.depth) }
+    requires stands { Before tokens.now at reader.old }
+    ensures taken { IfOk result (λ taken. taken ≡ true → Before tokens.now (at + 1) reader.new) }
+    ensures stands { IfOk result (λ taken. taken ≡ false → Before tokens.now at reader.new) }
     ensures lower { IfOk result (λ taken. taken ≡ false → weight (goals_of reader.new) < weight (goals_of reader.old)) }
     ensures err { IfErr result (λ fault. Refuses tokens.now fault) }
 {
@@ -215,7 +211,7 @@ fn pass_phrase(
         return Ok(false);
     }
     if is_operand_name(phrase, terminal_of(token_at(tokens, at))) {
-        take_operand(alloc, reader, tokens, at)?;
+        take_operand(reader, tokens, at)?;
         return Ok(true);
     }
     choose_form(reader, tokens, at)?;
@@ -223,24 +219,19 @@ fn pass_phrase(
 }
 
 /// Reads one token.
-fn read_token(
-    alloc: Global,
-    reader: &mut Reader,
-    tokens: &[Token],
-    at: usize,
-) -> Result<(), ProgramFault>
+fn read_token(reader: &mut Reader, tokens: &[Token], at: usize) -> Result<(), ProgramFault>
     requires inside { at < length tokens.now }
     requires ends { EndsOnce tokens.now }
-    requires stands { Stands tokens.now at (goals_of reader.old) (marks_of reader.old) reader.old.depth }
-    ensures ok { OnOk result (Stands tokens.now (at + 1) (goals_of reader.new) (marks_of reader.new) reader.new.depth) }
+    requires stands { Before tokens.now at reader.old }
+    ensures ok { OnOk result (Before tokens.now (at + 1) reader.new) }
     ensures err { IfErr result (λ fault. Refuses tokens.now fault) }
 {
     loop {
         match reader.next() {
-            Some(Part::One(wanted)) => return take_part(alloc, reader, tokens, at, wanted),
-            Some(Part::Node(rule)) => enter_node(alloc, reader, tokens, at, rule)?,
+            Some(Part::One(wanted)) => return take_part(reader, tokens, at, wanted),
+            Some(Part::Node(rule)) => enter_node(reader, tokens, at, rule)?,
             None => {
-                if pass_phrase(alloc, reader, tokens, at)? {
+                if pass_phrase(reader, tokens, at)? {
                     return Ok(());
                 }
             }
@@ -258,7 +249,7 @@ pub fn syntax(alloc: Global, tokens: &Vec<Token>) -> Result<Tree, ProgramFault>
 {
     let mut reader = Reader::new(alloc);
     for at in 0..tokens.len() {
-        read_token(alloc, &mut reader, tokens.as_slice(), at)?;
+        read_token(&mut reader, tokens.as_slice(), at)?;
     }
     Ok(reader.finish())
 }

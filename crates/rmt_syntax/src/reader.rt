@@ -1,7 +1,6 @@
-ghost use Rattle.std.specs.Prelude.{◌≡◌, [], ◌∷◌, ◌++◌, ◌<◌, List, Bool, true, false, OnOk, IfOk, IfErr, IfNone, slice_get, option_copied, length, map};
+ghost use Rattle.std.specs.Prelude.{◌≡◌, [], ◌∷◌, ◌++◌, ◌<◌, List, Bool, true, false, OnOk, IfOk, IfNone, slice_get, option_copied, length, map};
 ghost use Rattle.rmt_syntax.specs.Trees.{Mark, leaf, opens, shuts, marks, Goal, part, phrase, shut, depth_after};
 ghost use Rattle.rmt_syntax.specs.State.{marks_of, goals_of};
-ghost use Rattle.rmt_lexer.specs.declared.fault.ProgramFault.TheVariants.{NoMemory};
 ghost use Rattle.rmt_syntax.specs.declared.tree.Rule.TheVariants as rule;
 ghost use Rattle.rmt_syntax.specs.declared.grammar.Part.{Part};
 ghost use Rattle.rmt_syntax.specs.declared.grammar.Part.TheVariants.{Node, One};
@@ -12,9 +11,8 @@ use crate::grammar::{Choice, Part, Phrase};
 use crate::terminal::Terminal;
 use crate::tree::{Rule, Tree};
 use rmt_bits::sequence::Sequence;
-use rmt_lexer::fault::ProgramFault;
 use rmt_lexer::token::Token;
-use std::alloc::Global;
+use std::alloc::{AllocError, Global};
 use std::mem;
 
 /// A node that is not read to its end.
@@ -33,6 +31,8 @@ pub struct Frame {
 /// A reader in the middle of a text.
 #[derive(Drop)]
 pub struct Reader {
+    /// Where its nodes are allocated.
+    pub alloc: Global,
     /// The nodes around the one that is read, from the outermost on.
     pub outer: Vec<Frame>,
     /// The node that is read.
@@ -64,6 +64,7 @@ impl Reader {
         ensures depth { result.depth ≡ 0 }
     {
         Reader {
+            alloc,
             outer: Vec::new(alloc),
             inner: fresh(alloc, Rule::Program),
             depth: 0,
@@ -79,12 +80,11 @@ impl Reader {
     }
 
     /// Reads a token as the part that comes next.
-    pub fn take(&mut self, token: Token) -> Result<(), ProgramFault>
+    pub fn take(&mut self, token: Token) -> Result<(), AllocError>
         requires { 0 < length self.old.inner.todo.now }
         ensures marks { OnOk result (marks_of self.new ≡ marks_of self.old ++ leaf token ∷ []) }
         ensures goals { (p : Part) → slice_get self.old.inner.todo.now 0 ≡ Some p → OnOk result (goals_of self.old ≡ part p ∷ goals_of self.new) }
         ensures depth { self.new.depth ≡ self.old.depth }
-        ensures err { IfErr result (λ fault. fault ≡ NoMemory) }
     {
         self.inner.todo = &self.inner.todo[1..];
         self.inner.parts.push(Tree::One(token))?;
@@ -103,11 +103,9 @@ impl Reader {
         self.inner.todo = choice.parts;
         self.inner.then = choice.then;
     }
-}
 
-impl Reader {
     /// Begins the node that comes next.
-    pub fn enter(&mut self, alloc: Global, rule: Rule) -> Result<(), ProgramFault>
+    pub fn enter(&mut self, rule: Rule) -> Result<(), AllocError>
         requires next { slice_get self.old.inner.todo.now 0 ≡ Some (Node rule) }
         requires room { self.old.depth < 255 }
         ensures marks { OnOk result (marks_of self.new ≡ marks_of self.old ++ opens rule ∷ []) }
@@ -115,10 +113,9 @@ impl Reader {
             → goals_of self.new ≡ phrase (Whole rule) ∷ shut rule ∷ gs) }
         ensures depth { OnOk result (self.new.depth ≡ depth_after self.old.depth (opens rule)) }
         ensures todo { OnOk result (self.new.inner.todo.now ≡ []) }
-        ensures err { IfErr result (λ fault. fault ≡ NoMemory) }
     {
         self.inner.todo = &self.inner.todo[1..];
-        let outer = mem::replace(&mut self.inner, fresh(alloc, rule));
+        let outer = mem::replace(&mut self.inner, fresh(self.alloc, rule));
         self.outer.push(outer)?;
         if rule == Rule::Block {
             self.depth += 1;
@@ -127,13 +124,12 @@ impl Reader {
     }
 
     /// Ends the node that is read, and tells whether there is one around it.
-    pub fn close(&mut self) -> Result<bool, ProgramFault>
+    pub fn close(&mut self) -> Result<bool, AllocError>
         requires todo { self.old.inner.todo.now ≡ [] }
         requires then { self.old.inner.then ≡ Done }
         ensures marks { IfOk result (λ closed. closed ≡ true → marks_of self.new ≡ marks_of self.old ++ shuts self.old.inner.rule ∷ []) }
         ensures goals { IfOk result (λ closed. closed ≡ true → goals_of self.old ≡ phrase Done ∷ shut self.old.inner.rule ∷ goals_of self.new) }
         ensures depth { IfOk result (λ closed. closed ≡ true → self.new.depth ≡ depth_after self.old.depth (shuts self.old.inner.rule)) }
-        ensures err { IfErr result (λ fault. fault ≡ NoMemory) }
         ensures last { IfOk result (λ closed. closed ≡ false → goals_of self.old ≡ phrase Done ∷ shut self.old.inner.rule ∷ []) }
     {
         let Some(outer) = self.outer.pop() else {
@@ -156,16 +152,13 @@ impl Reader {
             parts: self.inner.parts,
         }
     }
-}
 
-impl Reader {
     /// Reads a name as an operand.
-    pub fn take_name(&mut self, token: Token) -> Result<(), ProgramFault>
+    pub fn take_name(&mut self, token: Token) -> Result<(), AllocError>
         requires { self.old.inner.todo.now ≡ [] }
         ensures marks { OnOk result (marks_of self.new ≡ marks_of self.old ++ leaf token ∷ []) }
         ensures goals { (gs : List Goal) → OnOk result (goals_of self.old ≡ phrase self.old.inner.then ∷ gs → goals_of self.new ≡ phrase Done ∷ gs) }
         ensures depth { self.new.depth ≡ self.old.depth }
-        ensures err { IfErr result (λ fault. fault ≡ NoMemory) }
     {
         self.choose(&Choice {
             parts: &[Part::One(Terminal::Name)],
@@ -176,20 +169,19 @@ impl Reader {
     }
 
     /// Reads a name as the first token of a field that is an operand.
-    pub fn take_field(&mut self, alloc: Global, token: Token) -> Result<(), ProgramFault>
+    pub fn take_field(&mut self, token: Token) -> Result<(), AllocError>
         requires next { self.old.inner.todo.now ≡ [] }
         requires room { self.old.depth < 255 }
-        ensures marks { OnOk result (marks_of self.new ≡ (marks_of self.old ++ opens rule.Field ∷ []) ++ leaf token ∷ []) }
+        ensures marks { OnOk result (marks_of self.new ≡ marks_of self.old ++ opens rule.Field ∷ leaf token ∷ []) }
         ensures goals { (gs : List Goal) → OnOk result (goals_of self.old ≡ phrase self.old.inner.then ∷ gs
             → goals_of self.new ≡ part (One Dot) ∷ phrase FieldEnd ∷ shut rule.Field ∷ phrase Done ∷ gs) }
         ensures depth { OnOk result (self.new.depth ≡ self.old.depth) }
-        ensures err { IfErr result (λ fault. fault ≡ NoMemory) }
     {
         self.choose(&Choice {
             parts: &[Part::Node(Rule::Field)],
             then: Phrase::Done,
         });
-        self.enter(alloc, Rule::Field)?;
+        self.enter(Rule::Field)?;
         self.choose(&Choice {
             parts: &[Part::One(Terminal::Name), Part::One(Terminal::Dot)],
             then: Phrase::FieldEnd,

@@ -56,203 +56,61 @@ pub enum Terminal {
     Other,
 }
 
-/// A reserved word.
-#[derive(Clone, Copy)]
-struct Keyword {
-    word: &'static [u8],
-    terminal: Terminal,
-}
-
 /// The reserved words.
-fn keywords() -> &'static [Keyword]
-    ensures { map (λ k. (k.word.now, k.terminal)) result.now ≡ keywords }
-{
-    &[
-        Keyword {
-            word: b"header",
-            terminal: Terminal::Header,
-        },
-        Keyword {
-            word: b"next",
-            terminal: Terminal::Next,
-        },
-        Keyword {
-            word: b"accept",
-            terminal: Terminal::Accept,
-        },
-        Keyword {
-            word: b"reject",
-            terminal: Terminal::Reject,
-        },
-        Keyword {
-            word: b"meta",
-            terminal: Terminal::Meta,
-        },
-        Keyword {
-            word: b"action",
-            terminal: Terminal::Action,
-        },
-        Keyword {
-            word: b"table",
-            terminal: Terminal::Table,
-        },
-        Keyword {
-            word: b"exact",
-            terminal: Terminal::Exact,
-        },
-        Keyword {
-            word: b"prefix",
-            terminal: Terminal::Prefix,
-        },
-        Keyword {
-            word: b"ternary",
-            terminal: Terminal::Ternary,
-        },
-        Keyword {
-            word: b"actions",
-            terminal: Terminal::Actions,
-        },
-        Keyword {
-            word: b"default",
-            terminal: Terminal::Default,
-        },
-        Keyword {
-            word: b"size",
-            terminal: Terminal::Size,
-        },
-        Keyword {
-            word: b"counted",
-            terminal: Terminal::Counted,
-        },
-        Keyword {
-            word: b"control",
-            terminal: Terminal::Control,
-        },
-        Keyword {
-            word: b"apply",
-            terminal: Terminal::Apply,
-        },
-        Keyword {
-            word: b"if",
-            terminal: Terminal::If,
-        },
-        Keyword {
-            word: b"else",
-            terminal: Terminal::Else,
-        },
-        Keyword {
-            word: b"hit",
-            terminal: Terminal::Hit,
-        },
-        Keyword {
-            word: b"miss",
-            terminal: Terminal::Miss,
-        },
-        Keyword {
-            word: b"in_port",
-            terminal: Terminal::InPort,
-        },
-        Keyword {
-            word: b"out_port",
-            terminal: Terminal::OutPort,
-        },
-        Keyword {
-            word: b"drop",
-            terminal: Terminal::Drop,
-        },
-        Keyword {
-            word: b"valid",
-            terminal: Terminal::Valid,
-        },
-        Keyword {
-            word: b"tail",
-            terminal: Terminal::Tail,
-        },
-    ]
-}
-
-/// A sign of one byte.
-#[derive(Clone, Copy)]
-struct Sign {
-    byte: u8,
-    terminal: Terminal,
-}
+const KEYWORDS: &[(&[u8], Terminal)] = &[
+    (b"header", Terminal::Header),
+    (b"next", Terminal::Next),
+    (b"accept", Terminal::Accept),
+    (b"reject", Terminal::Reject),
+    (b"meta", Terminal::Meta),
+    (b"action", Terminal::Action),
+    (b"table", Terminal::Table),
+    (b"exact", Terminal::Exact),
+    (b"prefix", Terminal::Prefix),
+    (b"ternary", Terminal::Ternary),
+    (b"actions", Terminal::Actions),
+    (b"default", Terminal::Default),
+    (b"size", Terminal::Size),
+    (b"counted", Terminal::Counted),
+    (b"control", Terminal::Control),
+    (b"apply", Terminal::Apply),
+    (b"if", Terminal::If),
+    (b"else", Terminal::Else),
+    (b"hit", Terminal::Hit),
+    (b"miss", Terminal::Miss),
+    (b"in_port", Terminal::InPort),
+    (b"out_port", Terminal::OutPort),
+    (b"drop", Terminal::Drop),
+    (b"valid", Terminal::Valid),
+    (b"tail", Terminal::Tail),
+];
 
 /// The signs of one byte.
-fn signs() -> &'static [Sign]
-    ensures { map (λ s. (s.byte, s.terminal)) result.now ≡ signs }
-{
-    &[
-        Sign {
-            byte: b'{',
-            terminal: Terminal::OpenBrace,
-        },
-        Sign {
-            byte: b'}',
-            terminal: Terminal::CloseBrace,
-        },
-        Sign {
-            byte: b'(',
-            terminal: Terminal::OpenParen,
-        },
-        Sign {
-            byte: b')',
-            terminal: Terminal::CloseParen,
-        },
-        Sign {
-            byte: b':',
-            terminal: Terminal::Colon,
-        },
-        Sign {
-            byte: b';',
-            terminal: Terminal::Semicolon,
-        },
-        Sign {
-            byte: b',',
-            terminal: Terminal::Comma,
-        },
-        Sign {
-            byte: b'.',
-            terminal: Terminal::Dot,
-        },
-        Sign {
-            byte: b'=',
-            terminal: Terminal::Assign,
-        },
-        Sign {
-            byte: b'+',
-            terminal: Terminal::Plus,
-        },
-        Sign {
-            byte: b'-',
-            terminal: Terminal::Minus,
-        },
-        Sign {
-            byte: b'*',
-            terminal: Terminal::Star,
-        },
-        Sign {
-            byte: b'&',
-            terminal: Terminal::Ampersand,
-        },
-        Sign {
-            byte: b'|',
-            terminal: Terminal::Bar,
-        },
-        Sign {
-            byte: b'^',
-            terminal: Terminal::Caret,
-        },
-    ]
-}
+const SIGNS: &[(u8, Terminal)] = &[
+    (b'{', Terminal::OpenBrace),
+    (b'}', Terminal::CloseBrace),
+    (b'(', Terminal::OpenParen),
+    (b')', Terminal::CloseParen),
+    (b':', Terminal::Colon),
+    (b';', Terminal::Semicolon),
+    (b',', Terminal::Comma),
+    (b'.', Terminal::Dot),
+    (b'=', Terminal::Assign),
+    (b'+', Terminal::Plus),
+    (b'-', Terminal::Minus),
+    (b'*', Terminal::Star),
+    (b'&', Terminal::Ampersand),
+    (b'|', Terminal::Bar),
+    (b'^', Terminal::Caret),
+];
 
 /// The terminal of a word in a table of reserved words, or that of a name.
-fn keyword_in(table: &[Keyword], word: &[u8]) -> Terminal
-    ensures { result ≡ entry (λ k. bytes_eq k word.now) (map (λ k. (k.word.now, k.terminal)) table.now) Name }
+fn keyword_in(table: &[(&[u8], Terminal)], word: &[u8]) -> Terminal
+    ensures { result ≡ entry (λ k. bytes_eq k word.now) (map (λ k. (k.0.now, k.1)) table.now) Name }
 {
-    for keyword in table {
-        if keyword.word == word {
-            return keyword.terminal;
+    for (keyword, terminal) in table {
+        if *keyword == word {
+            return *terminal;
         }
     }
     Terminal::Name
@@ -262,16 +120,16 @@ fn keyword_in(table: &[Keyword], word: &[u8]) -> Terminal
 fn word_terminal(word: &[u8]) -> Terminal
     ensures { result ≡ word_terminal word.now }
 {
-    keyword_in(keywords(), word)
+    keyword_in(KEYWORDS, word)
 }
 
 /// The terminal of a byte in a table of signs.
-fn sign_in(table: &[Sign], byte: u8) -> Terminal
-    ensures { result ≡ entry (λ k. k == byte) (map (λ s. (s.byte, s.terminal)) table.now) Other }
+fn sign_in(table: &[(u8, Terminal)], byte: u8) -> Terminal
+    ensures { result ≡ entry (λ k. k == byte) table.now Other }
 {
-    for sign in table {
-        if sign.byte == byte {
-            return sign.terminal;
+    for (sign, terminal) in table {
+        if *sign == byte {
+            return *terminal;
         }
     }
     Terminal::Other
@@ -281,7 +139,7 @@ fn sign_in(table: &[Sign], byte: u8) -> Terminal
 fn sign_terminal(byte: u8) -> Terminal
     ensures { result ≡ sign_terminal byte }
 {
-    sign_in(signs(), byte)
+    sign_in(SIGNS, byte)
 }
 
 /// Whether two terminals are the same.

@@ -1,4 +1,4 @@
-use Rattle.rmt_syntax.proofs.Shapes.{node_shape}
+use Rattle.rmt_syntax.proofs.Forests.{node_shape}
 use Rattle.rmt_syntax.proofs.laws.node_parts.Goals as goal
 
 pub returns : goal.returns

@@ -1,4 +1,4 @@
-use Rattle.rmt_syntax.proofs.Shapes.{token_shape}
+use Rattle.rmt_syntax.proofs.Forests.{token_shape}
 use Rattle.rmt_syntax.proofs.laws.token_part.Goals as goal
 
 pub returns : goal.returns

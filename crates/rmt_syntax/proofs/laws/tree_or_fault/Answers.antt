@@ -1,10 +1,6 @@
-use Rattle.std.proofs.Common.{◌≡◌, ◌∙◌, ◌⊎◌, inl, inr, ℕ, List, sym, ap, refl, subst, arith}
-use Rattle.std.specs.Prelude.{slice_get}
-use Rattle.std.proofs.lemmas.Option.{slice_get_within}
-use Rattle.rmt_lexer.specs.declared.token.Token.{Token}
+use Rattle.rmt_syntax.proofs.Words.{◌≡◌, ◌∙◌, ◌⊎◌, inl, inr, ℕ, List, sym, ap, refl, subst, arith, slice_get, slice_get_within, Token, HasFault, HasTree, IsFault, IsTreeOf, IsText, IsNested, marks, tokens_in}
+use Rattle.rmt_syntax.proofs.Words.rule
 use Rattle.rmt_syntax.specs.declared.tree.Tree.{Tree}
-use Rattle.rmt_syntax.specs.declared.tree.Rule.TheVariants as rule
-use Rattle.rmt_syntax.specs.Trees.{HasFault, HasTree, IsFault, IsTreeOf, IsText, IsNested, marks, tokens_in}
 use Rattle.rmt_syntax.proofs.Deciding.{Verdict, good, bad, verdict}
 use Rattle.rmt_syntax.proofs.Forests.{tree_of, same_tree}
 use Rattle.rmt_syntax.proofs.Standing.{same_token}

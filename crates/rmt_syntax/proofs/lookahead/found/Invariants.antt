@@ -1,7 +1,4 @@
-use Rattle.std.proofs.Common.{◌≡◌, drop, map}
-use Rattle.std.specs.List.{find}
-use Rattle.rmt_syntax.specs.Grammar.{Form}
-use Rattle.rmt_syntax.specs.Lookahead.{may_begin}
+use Rattle.rmt_syntax.proofs.Words.{◌≡◌, drop, map, find, Form, may_begin}
 use Rattle.rmt_syntax.proofs.lookahead.found.Given as goal
 
 abbrev pub invariant-loop-form : goal.invariant-loop-form

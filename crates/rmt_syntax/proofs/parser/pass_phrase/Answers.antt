@@ -1,6 +1,4 @@
-use Rattle.std.proofs.Common.{◌∙◌, sym, ap}
-use Rattle.rmt_lexer.specs.declared.token.Token.{Token}
-use Rattle.rmt_syntax.specs.Grammar.{terminal_of}
+use Rattle.rmt_syntax.proofs.Words.{◌∙◌, sym, ap, Token, terminal_of}
 use Rattle.rmt_syntax.proofs.Standing.{same_token, operand_is}
 use Rattle.rmt_syntax.proofs.parser.pass_phrase.Goals as goal
 

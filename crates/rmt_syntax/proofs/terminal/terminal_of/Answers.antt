@@ -1,5 +1,4 @@
-use Rattle.std.proofs.Common.{sym, ap, ◌∙◌}
-use Rattle.rmt_syntax.specs.Grammar.{word_terminal, terminal_of}
+use Rattle.rmt_syntax.proofs.Words.{sym, ap, ◌∙◌, word_terminal, terminal_of}
 use Rattle.rmt_syntax.proofs.terminal.terminal_of.Goals as goal
 
 pub returns-in-Word : goal.returns-in-Word

@@ -1,4 +1,4 @@
-use Rattle.std.proofs.Common.{◌∷◌, [], ◌++◌, ap, ◌∙◌, sym}
+use Rattle.rmt_syntax.proofs.Words.{◌∷◌, [], ◌++◌, ap, ◌∙◌, sym}
 use Rattle.rmt_syntax.specs.declared.reader.Frame.{Frame}
 use Rattle.rmt_syntax.proofs.Frames.{closing}
 use Rattle.rmt_syntax.proofs.reader.Reader.close.Goals as goal

@@ -1,4 +1,4 @@
-use Rattle.rmt_syntax.specs.declared.tree.Rule.TheVariants as rule
+use Rattle.rmt_syntax.proofs.Words.rule
 use Rattle.rmt_syntax.proofs.Frames.{finished}
 use Rattle.rmt_syntax.proofs.reader.Reader.finish.Goals as goal
 

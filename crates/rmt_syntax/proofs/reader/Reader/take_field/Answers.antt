@@ -1,12 +1,6 @@
-use Rattle.std.proofs.Common.{◌≡◌, ◌∙◌, sym, ap, ◌∷◌, List}
-use Rattle.std.specs.Prelude.{slice_get}
-use Rattle.rmt_syntax.specs.Trees.{Goal, part, phrase, shut}
-use Rattle.rmt_syntax.specs.State.{goals_of}
-use Rattle.rmt_syntax.specs.declared.grammar.Part.{Part}
-use Rattle.rmt_syntax.specs.declared.grammar.Part.TheVariants.{One, Node}
-use Rattle.rmt_syntax.specs.declared.grammar.Phrase.TheVariants.{Whole, Done, FieldEnd}
-use Rattle.rmt_syntax.specs.declared.terminal.Terminal.TheVariants as terminal
-use Rattle.rmt_syntax.specs.declared.tree.Rule.TheVariants as rule
+use Rattle.rmt_syntax.proofs.Words.{◌≡◌, ◌∙◌, sym, ap, ◌∷◌, List, slice_get, Goal, part, phrase, shut, goals_of, Part, One, Node, Whole, Done, FieldEnd}
+use Rattle.rmt_syntax.proofs.Words.terminal
+use Rattle.rmt_syntax.proofs.Words.rule
 use Rattle.rmt_syntax.proofs.Standing.{next_phrase}
 use Rattle.rmt_syntax.proofs.reader.Reader.take_field.Goals as goal
 

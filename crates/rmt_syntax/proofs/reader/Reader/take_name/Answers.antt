@@ -1,11 +1,5 @@
-use Rattle.std.proofs.Common.{◌≡◌, ◌∙◌, sym, ap, ◌∷◌, List}
-use Rattle.std.specs.Prelude.{slice_get}
-use Rattle.rmt_syntax.specs.Trees.{Goal, part, phrase}
-use Rattle.rmt_syntax.specs.State.{goals_of}
-use Rattle.rmt_syntax.specs.declared.grammar.Part.{Part}
-use Rattle.rmt_syntax.specs.declared.grammar.Part.TheVariants.{One}
-use Rattle.rmt_syntax.specs.declared.grammar.Phrase.TheVariants.{Done}
-use Rattle.rmt_syntax.specs.declared.terminal.Terminal.TheVariants as terminal
+use Rattle.rmt_syntax.proofs.Words.{◌≡◌, ◌∙◌, sym, ap, ◌∷◌, List, slice_get, Goal, part, phrase, goals_of, Part, One, Done}
+use Rattle.rmt_syntax.proofs.Words.terminal
 use Rattle.rmt_syntax.proofs.reader.Reader.take_name.Goals as goal
 
 pub returns-clause-goals : goal.returns-clause-goals
