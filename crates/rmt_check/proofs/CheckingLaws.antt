@@ -1,65 +1,43 @@
--- Checks of some rules after others.
-use Rattle.std.proofs.Common.{◌≡◌, ℕ, List, [], ◌∷◌, ◌++◌, Option, None, Some, option_map, Result, Ok, Err, lit<, refl, sym, ap, subst, ◌∙◌}
+-- Checks of the rules, one after another.
+use Rattle.std.proofs.Common.{◌≡◌, ℕ, suc, ◌+◌, ◌-◌, ◌<◌, ◌≤◌, List, [], ◌∷◌, Option, None, Some, option_map, get_or, drop, drop-cons, Result, Ok, Err, lit<, refl, sym, ap, ap₂, ◌∙◌, arith}
 use Rattle.std.specs.Prelude.{All, IfOk, IfErr}
 use Rattle.std.specs.Option.{option_or}
+use Rattle.std.proofs.lemmas.List.{get_or-map}
 use Rattle.std.proofs.lemmas.List.Elements.{All-nil, All-cons}
+use Rattle.std.proofs.lemmas.List.FromFn.{get_or-range_with_len}
 use Rattle.rmt_lexer.specs.declared.fault.ProgramFault.{ProgramFault}
 use Rattle.rmt_lexer.specs.declared.fault.ProgramFault.TheVariants.{NoMemory, At}
 use Rattle.rmt_lexer.specs.declared.place.Place.{Place}
 use Rattle.rmt_check.specs.declared.source.Source.{Source}
 use Rattle.rmt_check.specs.Rules.{broken, earliest, least_of}
 use Rattle.rmt_ast.specs.declared.program.Program.{Program}
-use Rattle.rmt_check.specs.Meaning.{Answers, program_of, told}
-use Rattle.rmt_check.specs.Checking.{Rules, IsFault, Checks, verdict_of}
+use Rattle.rmt_check.specs.Meaning.{Answers, program_of}
+use Rattle.rmt_check.specs.Checking.{Rules, IsFault, broken_by}
 use Rattle.rmt_check.specs.Sizes.{AreNested, IsSized}
 use Rattle.rmt_check.proofs.Bounds.{sized}
-use Rattle.rmt_check.proofs.LawFaults.{no_places}
+use Rattle.rmt_check.proofs.programs.RuleLaws.{no_places}
 
-least-append : (xs ys : Rules) → least_of (xs ++ ys) ≡ option_or (least_of xs) (least_of ys)
-least-append [] ys = refl
-least-append ((code, ps) ∷ xs) ys =
-    ap (option_or (option_map (λ (p : Place). (code, p)) (earliest ps))) (least-append xs ys) ∙ assoc (option_map (λ (p : Place). (code, p)) (earliest ps)) (least_of xs) (least_of ys)
-  where
-    assoc : (a b c : Option (ℕ × Place)) → option_or a (option_or b c) ≡ option_or (option_or a b) c
-    assoc None b c = refl
-    assoc (Some x) b c = refl
+-- The rules in the order of their codes.
+module _ (s : Source) where
+  code_at : (i : ℕ) → i < 17 → (get_or (broken s) i (0, [])).0 ≡ 5 + i
+  code_at i lt = sym (get_or-map (λ (rule : ℕ × List Place). rule.0) (broken s) i (0, []) 0 lt) ∙ get_or-range_with_len 5 17 i 0 lt
 
--- after rules that are kept, those that follow decide
-pub kept_then : (xs ys : Rules) (r : Result (Unit {0}) ProgramFault) → least_of xs ≡ None → Checks ys r → Checks (xs ++ ys) r
-kept_then xs ys (Ok u) k h = least-append xs ys ∙ ap (λ (o : Option (ℕ × Place)). option_or o (least_of ys)) k ∙ h
-kept_then xs ys (Err NoMemory) k h = tt
-kept_then xs ys (Err (At code line column)) k h =
-    ap (option_map told) (least-append xs ys ∙ ap (λ (o : Option (ℕ × Place)). option_or o (least_of ys)) k) ∙ h
+  module _ (code : ℕ) (from : 5 ≤ code) (to : code < 22) where
+    at_code : drop (code - 5) (broken s) ≡ (code, broken_by code s) ∷ drop (code + 1 - 5) (broken s)
+    at_code =
+        let within : code - 5 < 17 = omega arith in
+        let next : suc (code - 5) ≡ code + 1 - 5 = omega arith in
+        let own : 5 + (code - 5) ≡ code = omega arith in
+        drop-cons (broken s) (code - 5) (0, []) within
+        ∙ ap₂ (λ (c n : ℕ). (c, broken_by code s) ∷ drop n (broken s)) (code_at (code - 5) within ∙ own) next
 
--- a fault of some rules is that of these and those that follow
-pub fault_then : (xs ys : Rules) (e : ProgramFault) → IsFault xs e → IsFault (xs ++ ys) e
-fault_then xs ys NoMemory h = tt
-fault_then xs ys (At code line column) h = ap (option_map told) (least-append xs ys) ∙ by (least_of xs) h
-  where
-    by : (o : Option (ℕ × Place)) → option_map told o ≡ Some (At code line column) → option_map told (option_or o (least_of ys)) ≡ Some (At code line column)
-    by None e = absurd (cc)
-    by (Some f) e = e
+    -- the rule of a code is kept: those behind it decide
+    pub kept_at : earliest (broken_by code s) ≡ None → least_of (drop (code - 5) (broken s)) ≡ least_of (drop (code + 1 - 5) (broken s))
+    kept_at none = ap least_of at_code ∙ ap (λ (o : Option Place). option_or (option_map (λ (p : Place). (code, p)) o) (least_of (drop (code + 1 - 5) (broken s)))) none
 
--- A rule that was looked at, before others and at last: where it is broken, if anywhere.
-module _ (code : ℕ) (ps : List Place) where
-  pub rule_kept : (rest : Rules) (found : Result (Option Place) ProgramFault) (r : Result (Unit {0}) ProgramFault) → IfOk found (λ p. p ≡ earliest ps) → verdict_of code found ≡ Ok tt
-      → Checks rest r → Checks ((code, ps) ∷ rest) r
-  rule_kept rest (Ok None) r h e k = kept_then ((code, ps) ∷ []) rest r (ap (λ (o : Option Place). option_or (option_map (λ (p : Place). (code, p)) o) None) (sym h)) k
-  rule_kept rest (Ok (Some p)) r h e k = cc
-  rule_kept rest (Err f) r h e k = cc
-
-  pub rule_broken : (rest : Rules) (found : Result (Option Place) ProgramFault) (fault : ProgramFault) → IfOk found (λ p. p ≡ earliest ps) → IfErr found (λ f. f ≡ NoMemory)
-      → verdict_of code found ≡ Err fault → IsFault ((code, ps) ∷ rest) fault
-  rule_broken rest (Ok None) fault h m e = cc
-  rule_broken rest (Ok (Some p)) fault h m e =
-      let is : At code p.line p.column ≡ fault = cc in
-      subst (IsFault ((code, ps) ∷ rest)) is (ap (λ (o : Option Place). option_map told (option_or (option_map (λ (q : Place). (code, q)) o) (least_of rest))) (sym h))
-  rule_broken rest (Err f) fault h m e = let is : NoMemory ≡ fault = cc in subst (IsFault ((code, ps) ∷ rest)) is tt
-
-  pub rule_last : (found : Result (Option Place) ProgramFault) (r : Result (Unit {0}) ProgramFault) → IfOk found (λ p. p ≡ earliest ps) → IfErr found (λ f. f ≡ NoMemory)
-      → r ≡ verdict_of code found → Checks ((code, ps) ∷ []) r
-  rule_last found (Ok u) h m e = rule_kept [] found (Ok u) h (sym e) refl
-  rule_last found (Err f) h m e = rule_broken [] found f h m (sym e)
+    -- it is broken
+    pub broken_there : (p : Place) → earliest (broken_by code s) ≡ Some p → least_of (drop (code - 5) (broken s)) ≡ Some (code, p)
+    broken_there p some = ap least_of at_code ∙ ap (λ (o : Option Place). option_or (option_map (λ (q : Place). (code, q)) o) (least_of (drop (code + 1 - 5) (broken s)))) some
 
 -- Rules that are kept.
 none_first : (code : ℕ) (ps : List Place) (rest : Rules) → least_of ((code, ps) ∷ rest) ≡ None → (ps ≡ []) × (least_of rest ≡ None)
@@ -86,8 +64,3 @@ sized_where_kept s none nested =
 pub fault_answers : (s : Source) (e : ProgramFault) → IsFault (broken s) e → Answers s (Err e)
 fault_answers s NoMemory h = tt
 fault_answers s (At code line column) h = h
-
-pub built_answers : (s : Source) (r : Result Program ProgramFault) → least_of (broken s) ≡ None → IfOk r (λ p. p ≡ program_of s) → IfErr r (λ e. e ≡ NoMemory) → Answers s r
-built_answers s (Ok p) k h f = (k, h)
-built_answers s (Err NoMemory) k h f = tt
-built_answers s (Err (At code line column)) k h f = absurd (cc)

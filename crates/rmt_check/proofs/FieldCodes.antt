@@ -10,9 +10,8 @@ use Rattle.rmt_check.specs.declared.source.HeaderText.{HeaderText}
 use Rattle.rmt_check.specs.declared.source.Source.{Source}
 use Rattle.rmt_check.specs.Names.{printed, known_fields, header_fields, metadata, fields_of, named_declared, named_header, named_from, Owner, of_all, of_metadata, of_header, same_owner, Named, own, same_field, named_fields, field_place, is_field, number_of, is_known}
 use Rattle.rmt_check.specs.Meaning.{field_number}
-use Rattle.rmt_check.specs.Standing.{code_of, code, owner_at, key_in, stored}
-use Rattle.rmt_check.proofs.LawLists.{same_head, same_tail}
-use Rattle.rmt_check.proofs.LawNames.{stands_for, number_at}
+use Rattle.rmt_check.specs.Standing.{code_of, code, owner_at, named_at, stored}
+use Rattle.rmt_check.proofs.Finding.{stands_for, number_at}
 
 same_owner-code : (a b : Owner) → same_owner a b ≡ (code_of a == code_of b)
 same_owner-code of_all of_all = refl
@@ -43,24 +42,19 @@ known-code x (y ∷ ys) = ap₂ (λ (a b : Bool). a || b) (same_field-code x y) 
 -- what is stored tells the field
 owner_is : (a b : Owner) → code_of a ≡ code_of b → a ≡ b
 owner_is of_all of_all e = refl
-owner_is of_all of_metadata e = absurd (omega arith)
-owner_is of_all (of_header n) e = absurd (omega arith)
-owner_is of_metadata of_all e = absurd (omega arith)
 owner_is of_metadata of_metadata e = refl
-owner_is of_metadata (of_header n) e = absurd (omega arith)
-owner_is (of_header m) of_all e = absurd (omega arith)
-owner_is (of_header m) of_metadata e = absurd (omega arith)
 owner_is (of_header m) (of_header n) e = ap of_header (omega arith)
+owner_is _ _ e = absurd (omega arith)
 
 pub field_is : (x y : Named) → code x ≡ code y → x ≡ y
-field_is x y e = ap₂ own (owner_is x.owner y.owner (same_head (code_of x.owner) (code_of y.owner) x.name y.name e)) (same_tail (code_of x.owner) (code_of y.owner) x.name y.name e)
+field_is x y e = let owners : code_of x.owner ≡ code_of y.owner = cc in let names : x.name ≡ y.name = cc in ap₂ own (owner_is x.owner y.owner owners) names
 
 code_owner : (n : ℕ) → code_of (owner_at n) ≡ n
 code_owner zero = refl
 code_owner (suc zero) = refl
 code_owner (suc (suc n)) = refl
 
-pub stored-code : (k : ℕ × Bor (List ℕ)) → stored k ≡ code (key_in k)
+pub stored-code : (k : ℕ × Bor (List ℕ)) → stored k ≡ code (named_at k)
 stored-code k = ap (λ (n : ℕ). n ∷ k.1.now) (sym (code_owner k.0))
 
 -- the number by which a header's fields are stored

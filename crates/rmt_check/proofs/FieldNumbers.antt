@@ -7,13 +7,13 @@ use Rattle.std.proofs.lemmas.List.{map_push, map-append, length-map, length-take
 use Rattle.std.proofs.lemmas.Option.{slice_get-map}
 use Rattle.std.proofs.lemmas.Simd.{map-map}
 use Rattle.indexmap.specs.IndexMap.{get, insert_entry}
-use Rattle.rmt_check.specs.declared.fields.Fields.{Fields}
+use Rattle.rmt_check.specs.declared.names.fields.Fields.{Fields}
 use Rattle.rmt_check.specs.declared.source.Declared.{Declared}
 use Rattle.rmt_check.specs.declared.source.HeaderText.{HeaderText}
 use Rattle.rmt_check.specs.declared.source.Source.{Source}
 use Rattle.rmt_check.specs.Names.{Known, number_of, Owner, of_metadata, of_header, own, printed, known_fields, header_fields, metadata, fields_of, named_declared, named_header, named_from, named_fields, field_place, width_at, width_of}
 use Rattle.rmt_check.specs.Numbering.{HasNumbers}
-use Rattle.rmt_check.specs.Standing.{Keyed, HasFields, Grows, stored, keyed_declared, keyed_header, keyed_from, keyed_fields, number_in, width_in, code_of, code, key_in}
+use Rattle.rmt_check.specs.Standing.{Keyed, HasFields, Grows, stored, keyed_declared, keyed_header, keyed_from, keyed_fields, stored_number, stored_width, code_of, code, named_at}
 use Rattle.rmt_check.proofs.FieldCodes.{place-code, stored-code}
 use Rattle.rmt_check.proofs.Numbering.{same, number_new, numbers_again}
 
@@ -112,15 +112,15 @@ widths_are s =
     ∙ sym (map-append (λ (f : Known). f.1) (flat_map header_fields s.headers) (known_fields (codes "meta") (metadata s))))
 
 module _ (f : Fields) (s : Source) (h : HasFields f (keyed_fields s)) (k : ℕ × Bor (List ℕ)) where
-  pub number_found : number_in f (stored k) ≡ field_place s (key_in k)
+  pub number_found : stored_number f (stored k) ≡ field_place s (named_at k)
   number_found =
-      h.numbers.at (stored k) ∙ ap₂ number_of (codes_are s) (stored-code k) ∙ sym (place-code (key_in k) (named_fields s))
+      h.numbers.at (stored k) ∙ ap₂ number_of (codes_are s) (stored-code k) ∙ sym (place-code (named_at k) (named_fields s))
 
   at_number : (n : ℕ) → unwrap_or (slice_get f.widths.items n) 0 ≡ width_at s n
   at_number n = ap (λ (ws : List ℕ). unwrap_or (slice_get ws n) 0) (h.widths ∙ widths_are s) ∙ ap (λ (o : Option ℕ). unwrap_or o 0) (slice_get-map (λ (x : Known). x.1) (fields_of s) n)
 
-  pub width_found : width_in f (stored k) ≡ width_of s (key_in k)
-  width_found = ap (λ (o : Option ℕ). option_map_or (λ (n : ℕ). unwrap_or (slice_get f.widths.items n) 0) o 0) number_found ∙ by (field_place s (key_in k))
+  pub width_found : stored_width f (stored k) ≡ width_of s (named_at k)
+  width_found = ap (λ (o : Option ℕ). option_map_or (λ (n : ℕ). unwrap_or (slice_get f.widths.items n) 0) o 0) number_found ∙ by (field_place s (named_at k))
     where
       by : (o : Option ℕ) → option_map_or (λ (n : ℕ). unwrap_or (slice_get f.widths.items n) 0) o 0 ≡ option_map_or (width_at s) o 0
       by None = refl

@@ -1,6 +1,7 @@
 -- What the answers of the three readers say of a text.
-use Rattle.std.proofs.Common.{◌≡◌, ℕ, List, None, Some, Option, option_map, Result, Ok, Err, sym, ap, subst, ◌∙◌}
+use Rattle.std.proofs.Common.{◌≡◌, ℕ, List, None, Some, Option, option_map, Result, Ok, Err, sym, ap, subst}
 use Rattle.std.specs.Prelude.{Vec}
+use Rattle.std.proofs.lemmas.Option.{same_Some}
 use Rattle.std.specs.declared.alloc.Global.{Global}
 use Rattle.rmt_ast.specs.declared.program.Program.{Program}
 use Rattle.rmt_lexer.specs.declared.fault.ProgramFault.{ProgramFault}
@@ -24,15 +25,14 @@ pub syntax_fault : (text : List ℕ) (tokens : List Token) (e : ProgramFault) �
 syntax_fault text tokens NoMemory is h = tt
 syntax_fault text tokens (At code line column) is h = of_grammar tokens code line column is h
 
+-- the rule and the place that a fault tells
+abbrev fault_in : ProgramFault → Option (ℕ × Place)
+fault_in NoMemory = None
+fault_in (At code line column) = let p : Place = record { line = line; column = column } in Some (code, p)
+
 fault_is : (o : Option (ℕ × Place)) (code line column : ℕ) → option_map told o ≡ Some (At code line column) → o ≡ (let p : Place = record { line = line; column = column } in Some (code, p))
 fault_is None code line column e = cc
-fault_is (Some f) code line column e =
-    let same : At f.0 f.1.line f.1.column ≡ At code line column = cc in
-    let a : f.0 ≡ code = cc in
-    let b : f.1.line ≡ line = cc in
-    let d : f.1.column ≡ column = cc in
-    ap (λ n. let p : Place = record { line = f.1.line; column = f.1.column } in Some (n, p)) a
-    ∙ ap (λ n. let p : Place = record { line = n; column = f.1.column } in Some (code, p)) b ∙ ap (λ n. let p : Place = record { line = line; column = n } in Some (code, p)) d
+fault_is (Some f) code line column e = ap fault_in (same_Some (told f) (At code line column) e)
 
 pub checked : (text : List ℕ) (tokens : List Token) (t : Tree) (r : Result Program ProgramFault) → tokens_of text ≡ Ok tokens → IsTreeOf tokens t → Answers (source_of t) r → SaysMeaning text r
 checked text tokens t (Ok p) is tree h = subst (λ q. Means text (Ok q)) (sym h.1) (of_program tokens t is tree h.0)

@@ -10,7 +10,7 @@ use Rattle.rmt_syntax.specs.declared.tree.Tree.TheVariants.{rolls-One, rolls-Man
 use Rattle.rmt_syntax.specs.declared.tree.Tree.TheFolds.{fold-Tree, fold-roll-Tree}
 use Rattle.rmt_check.specs.declared.source.Under.{Under}
 use Rattle.rmt_check.specs.declared.source.NodeText.{NodeText}
-use Rattle.rmt_check.specs.Reading.{parts_of, each, first_at, node_of, Adds, Read, all_added, arm_adds, with_arm, statement_added, is_statement, text_added, reads, layer_added, added}
+use Rattle.rmt_check.specs.Reading.{parts_of, each, first_at, node_text, Adds, Read, all_added, arm_adds, with_arm, statement_added, is_statement, text_added, reads, layer_added, added}
 
 pub one : (t : Token) → out-Tree (One t) ≡ tree.One t
 one t = ap out-Tree (sym (rolls-One t)) ∙ out-roll-Tree (tree.One t)
@@ -85,10 +85,10 @@ abbrev chosen : List Read → Bool → Adds
 chosen rs b = if b then statement_added rs else all_added (map (λ (r : Read). r.1) rs)
 
 pub added_statement : (r : Rule) (v : List Tree) (under : Option Under) (before : List NodeText) → is_statement r ≡ true
-    → added (Many r v) under before ≡ fold (with_arm (length before)) (before ++ node_of under v ∷ []) (enumerate_from 0 (arms v))
+    → added (Many r v) under before ≡ fold (with_arm (length before)) (before ++ node_text under v ∷ []) (enumerate_from 0 (arms v))
 added_statement r v under before h =
     ap (λ (f : Adds). f under before) (added_many r v ∙ ap (chosen (owns v)) h)
-    ∙ ap (λ (ts : List Tree). fold (with_arm (length before)) (before ++ node_of under ts ∷ []) (enumerate_from 0 (arms v))) (trees_of v)
+    ∙ ap (λ (ts : List Tree). fold (with_arm (length before)) (before ++ node_text under ts ∷ []) (enumerate_from 0 (arms v))) (trees_of v)
 
 pub added_other : (r : Rule) (v : List Tree) (under : Option Under) (before : List NodeText) → is_statement r ≡ false → added (Many r v) under before ≡ all_added (adds_of v) under before
 added_other r v under before h =
@@ -96,4 +96,4 @@ added_other r v under before h =
 
 pub ruleset added_laws = (added_one, added_statement, added_other)
 
-pub ruleset places = (each_here, first_here)
+pub ruleset places = (each_here, first_here, each_some, each_none)

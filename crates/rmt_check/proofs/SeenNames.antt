@@ -1,146 +1,125 @@
--- Names that are seen one after another, and those that repeat an earlier one.
-use Rattle.std.proofs.Common.{◌≡◌, ℕ, ◌<◌, ◌+◌, List, [], ◌∷◌, ◌++◌, Bool, true, false, ◌&&◌, ◌||◌, if◌then◌else◌, nat_eq, not, None, Some, Option, map, take, length, get_or, refl, sym, ap, ap₂, ◌∙◌, append_assoc, length-append}
+-- Names that repeat an earlier one.
+use Rattle.std.proofs.Common.{◌≡◌, ℕ, ◌+◌, ◌<◌, List, [], ◌∷◌, ◌++◌, Bool, true, false, ◌&&◌, ◌||◌, not, cond, if◌then◌else◌, nat_eq, Option, map, take, length, get_or, refl, sym, ap, ap₂, ◌∙◌, append_assoc, length-append}
 use Rattle.std.specs.Borrow.{Bor}
 use Rattle.std.specs.Cmp.Lexicographic.{pointwise}
-use Rattle.std.specs.List.{list_any, enumerate_from, flat_map, filter_map, cons_option}
-use Rattle.std.specs.Option.{option_to_list}
+use Rattle.std.specs.List.{list_any, enumerate_from, flat_map}
 use Rattle.std.specs.Str.{bytes_eq}
 use Rattle.std.proofs.lemmas.List.{take_more, map_push, map-append, map-id, append-nil}
 use Rattle.std.proofs.Math.Seq.{take-append_seam}
-use Rattle.std.proofs.lemmas.List.Concat.{flat_map-append}
 use Rattle.std.proofs.lemmas.List.Folds.{list_any-append}
 use Rattle.std.proofs.lemmas.Slice.Eq.{bytes_eq-Decides}
-use Rattle.indexmap.specs.IndexSet.{insert_key}
 use Rattle.rmt_bits.proofs.FunctionLaws.{bytes_eq-pointwise}
 use Rattle.rmt_lexer.specs.declared.place.Place.{Place}
-use Rattle.rmt_check.specs.declared.source.Declared.{Declared}
 use Rattle.rmt_check.specs.declared.source.Ident.{Ident}
-use Rattle.rmt_check.specs.declared.source.TableText.{TableText}
 use Rattle.rmt_check.specs.declared.source.FieldText.{FieldText}
 use Rattle.rmt_check.specs.declared.source.Source.{Source}
-use Rattle.rmt_check.specs.Names.{is_known, same_field, named}
-use Rattle.rmt_check.specs.Numbering.{bytes_of}
-use Rattle.rmt_check.specs.Standing.{stored}
-use Rattle.rmt_check.specs.Rules.{when, earlier, earliest, repeated_by, repeated, repeated_fields, declared_names}
-use Rattle.rmt_check.specs.Seen.{with_name, seen_after, repeated_after, stored_ident}
+use Rattle.rmt_check.specs.Names.{Named, is_known, same_field, named}
+use Rattle.rmt_check.specs.Standing.{named_at}
+use Rattle.rmt_check.specs.Rules.{when, earlier, earliest, repeated_by, repeated, repeated_fields}
+use Rattle.rmt_check.specs.Seen.{with_name, seen_after, repeated_after, stored_ident, told_ident}
 use Rattle.rmt_check.proofs.Earliest.{joined}
-use Rattle.rmt_check.proofs.Numbering.{same}
-use Rattle.rmt_check.proofs.FieldCodes.{same_field-code}
-
--- tests of what a set holds, borrowed names or keys of fields, for the same bytes
-abbrev pub same_name : Bor (List ℕ) → Bor (List ℕ) → Bool
-same_name x y = pointwise nat_eq x.now y.now
-
-pub same_name-agrees : (x y : Bor (List ℕ)) → same_name x y ≡ same bytes_of x y
-same_name-agrees x y = sym (bytes_eq-pointwise x.now y.now)
-
-abbrev pub same_key : ℕ × Bor (List ℕ) → ℕ × Bor (List ℕ) → Bool
-same_key x y = nat_eq x.0 y.0 && pointwise nat_eq x.1.now y.1.now
-
-pub same_key-agrees : (x y : ℕ × Bor (List ℕ)) → same_key x y ≡ same stored x y
-same_key-agrees x y = ap (λ (r : Bool). nat_eq x.0 y.0 && r) (sym (bytes_eq-pointwise x.1.now y.1.now))
+use Rattle.rmt_check.proofs.FieldCodes.{same_field-code, stored-code}
 
 not-not : (b : Bool) → not (not b) ≡ b
 not-not true = refl
 not-not false = refl
 
--- A set of keys, each of which stands for its bytes, by a test that finds those of the same bytes.
-module _ {K : Type 0} (bytes : K → List ℕ) (test : K → K → Bool) (agrees : (x y : K) → test x y ≡ same bytes x y) where
-  -- whether the set has a key
-  pub is_known-keys : (k : K) (ks : List K) → list_any (test k) ks ≡ is_known (map bytes ks) (bytes k)
-  is_known-keys k [] = refl
-  is_known-keys k (x ∷ xs) = rw (agrees k x) (ap (λ (r : Bool). bytes_eq (bytes k) (bytes x) || r) (is_known-keys k xs))
+-- The items behind one that is the same.
+module _ {X : Type 0} (same : X → X → Bool) (place : X → Place) where
+  -- those of a list that stands behind other items
+  abbrev behind : List X → List X → List Place
+  behind before [] = []
+  behind before (x ∷ xs) = when (list_any (same x) before) (place x) ++ behind (before ++ x ∷ []) xs
 
-  -- the set with one more key
-  pub names-insert : (ks : List K) (k : K) → map bytes (insert_key test ks k) ≡ with_name (map bytes ks) (bytes k)
-  names-insert ks k = rw (← is_known-keys k ks) (by (list_any (test k) ks))
+  numbered : (before xs : List X) → flat_map (λ (e : ℕ × X). when (list_any (same e.1) (take e.0 (before ++ xs))) (place e.1)) (enumerate_from (length before) xs) ≡ behind before xs
+  numbered before [] = refl
+  numbered before (x ∷ xs) =
+      let whole : before ++ x ∷ xs ≡ (before ++ x ∷ []) ++ xs = sym (append_assoc before (x ∷ []) xs) in
+      let long : length before + 1 ≡ length (before ++ x ∷ []) = sym (length-append before (x ∷ [])) in
+      let rest = numbered (before ++ x ∷ []) xs in
+      ap₂ (λ (ps qs : List Place). ps ++ qs) (ap (λ ys. when (list_any (same x) ys) (place x)) (take-append_seam before (x ∷ xs)))
+      (ap₂ (λ (ys : List X) (n : ℕ). flat_map (λ (e : ℕ × X). when (list_any (same e.1) (take e.0 ys)) (place e.1)) (enumerate_from n xs)) whole long ∙ rest)
+
+  behind-push : (before xs : List X) (x : X) → behind before (xs ++ x ∷ []) ≡ behind before xs ++ when (list_any (same x) (before ++ xs)) (place x)
+  behind-push before [] x = append-nil (when (list_any (same x) before) (place x)) ∙ ap (λ ys. when (list_any (same x) ys) (place x)) (sym (append-nil before))
+  behind-push before (y ∷ ys) x =
+      ap (λ (ps : List Place). when (list_any (same y) before) (place y) ++ ps)
+      (behind-push (before ++ y ∷ []) ys x ∙ ap (λ zs. behind (before ++ y ∷ []) ys ++ when (list_any (same x) zs) (place x)) (append_assoc before (y ∷ []) ys))
+      ∙ sym (append_assoc (when (list_any (same y) before) (place y)) (behind (before ++ y ∷ []) ys) (when (list_any (same x) (before ++ y ∷ ys)) (place x)))
+
+  -- one more item
+  pub repeated_by-push : (xs : List X) (x : X) → repeated_by same place (xs ++ x ∷ []) ≡ repeated_by same place xs ++ when (list_any (same x) xs) (place x)
+  repeated_by-push xs x =
+      numbered [] (xs ++ x ∷ []) ∙ behind-push [] xs x ∙ ap (λ (ps : List Place). ps ++ when (list_any (same x) xs) (place x)) (sym (numbered [] xs))
+
+  -- by another test that answers the same
+  repeated_by-alike : (other : X → X → Bool) → ((x y : X) → same x y ≡ other x y) → (xs : List X) → repeated_by same place xs ≡ repeated_by other place xs
+  repeated_by-alike other h xs = λ i. repeated_by (λ x y. h x y i) place xs
+
+-- the items that a function gives
+repeated_by-map : {X Y : Type 0} (f : X → Y) (same : Y → Y → Bool) (place : Y → Place) (xs : List X) → repeated_by same place (map f xs) ≡ repeated_by (λ x y. same (f x) (f y)) (λ x. place (f x)) xs
+repeated_by-map {X} {Y} f same place xs = numbered same place [] (map f xs) ∙ each [] xs ∙ sym (numbered (λ x y. same (f x) (f y)) (λ x. place (f x)) [] xs)
+  where
+    any : (y : Y) (ys : List X) → list_any (same y) (map f ys) ≡ list_any (λ z. same y (f z)) ys
+    any y [] = refl
+    any y (z ∷ zs) = ap (λ (b : Bool). same y (f z) || b) (any y zs)
+
+    each : (before ys : List X) → behind same place (map f before) (map f ys) ≡ behind (λ x y. same (f x) (f y)) (λ x. place (f x)) before ys
+    each before [] = refl
+    each before (y ∷ ys) =
+        ap₂ (λ (ps qs : List Place). ps ++ qs) (ap (λ (b : Bool). when b (place (f y))) (any (f y) before))
+        (ap (λ zs. behind same place zs (map f ys)) (sym (map_push f before y)) ∙ each (before ++ y ∷ []) ys)
+
+-- The step of a loop that keeps the set of the keys that it saw.
+module _ {K : Type 0} (eq : K → K → Bool) (xs : List (K × Place)) (i : ℕ) (x : K × Place) (lt : i < length xs) (at : x ≡ get_or xs i x) where
+  more : take (i + 1) xs ≡ take i xs ++ x ∷ []
+  more = take_more xs i x lt ∙ ap (λ (y : K × Place). take i xs ++ y ∷ []) (sym at)
+
+  pub mark_more : (best one next : Option Place) (known fresh : Bool) → best ≡ earliest (repeated_by (λ x y. eq x.0 y.0) (λ x. x.1) (take i xs)) → known ≡ list_any (λ y. eq x.0 y.0) (take i xs)
+      → fresh ≡ not known → one ≡ earliest (when (not fresh) x.1) → next ≡ earlier best one → next ≡ earliest (repeated_by (λ x y. eq x.0 y.0) (λ x. x.1) (take (i + 1) xs))
+  mark_more best one next known fresh b k f o n =
+      let again : not fresh ≡ list_any (λ y. eq x.0 y.0) (take i xs) = ap not f ∙ not-not known ∙ k in
+      rw (more, repeated_by-push (λ (x y : K × Place). eq x.0 y.0) (λ x. x.1) (take i xs) x)
+      (joined (repeated_by (λ x y. eq x.0 y.0) (λ x. x.1) (take i xs)) (when (list_any (λ y. eq x.0 y.0) (take i xs)) x.1) best one next n b (o ∙ ap (λ (t : Bool). earliest (when t x.1)) again))
+
+  pub keys_more : ((a b : K) → eq a b ≡ eq b a) → (was is : K → Bool) → ((k : K) → was k ≡ list_any (λ y. eq k y.0) (take i xs)) → ((k : K) → is k ≡ cond (eq x.0 k) true (was k))
+      → (k : K) → is k ≡ list_any (λ y. eq k y.0) (take (i + 1) xs)
+  keys_more symm was is before after k =
+      rw (more, list_any-append (λ (y : K × Place). eq k y.0) (take i xs) (x ∷ []))
+      (after k ∙ ap₂ (λ (b a : Bool). cond b true a) (symm x.0 k) (before k) ∙ last (eq k x.0) (list_any (λ y. eq k y.0) (take i xs)))
     where
-      by : (b : Bool) → map bytes (if b then ks else ks ++ k ∷ []) ≡ (if b then map bytes ks else map bytes ks ++ bytes k ∷ [])
-      by true = refl
-      by false = map_push bytes ks k
+      last : (b a : Bool) → cond b true a ≡ (a || (b || false))
+      last true true = refl
+      last true false = refl
+      last false true = refl
+      last false false = refl
 
-  -- the place of a key that the set did not take
-  pub place-insert : (fresh : Bool) (ks : List K) (k : K) (seen : List (List ℕ)) (p : Place) (r : Option Place) → fresh ≡ not (list_any (test k) ks) → map bytes ks ≡ seen
-      → r ≡ earliest (when (not fresh) p) → r ≡ earliest (when (is_known seen (bytes k)) p)
-  place-insert fresh ks k seen p r e names h =
-      let known : not fresh ≡ is_known seen (bytes k) = ap not e ∙ not-not _ ∙ is_known-keys k ks ∙ ap (λ (ns : List (List ℕ)). is_known ns (bytes k)) names in
-      rw (← known) h
+-- names with their places
+pub repeated_marks : (marks : List (Bor (List ℕ) × Place)) (xs : List Ident) → map told_ident marks ≡ xs → repeated_by (λ x y. pointwise nat_eq x.0.now y.0.now) (λ x. x.1) marks ≡ repeated xs
+repeated_marks marks xs e =
+    repeated_by-alike (λ (x y : Bor (List ℕ) × Place). pointwise nat_eq x.0.now y.0.now) (λ x. x.1) (λ x y. bytes_eq x.0.now y.0.now) (λ x y. sym (bytes_eq-pointwise x.0.now y.0.now)) marks
+    ∙ sym (repeated_by-map told_ident (λ (x y : Ident). bytes_eq x.name y.name) (λ x. x.place) marks) ∙ ap repeated e
 
--- the places of repeated names, one name on
-pub repeated_after-cons : (seen : List (List ℕ)) (x : Ident) (xs : List Ident) → repeated_after seen (x ∷ xs) ≡ when (is_known seen x.name) x.place ++ repeated_after (with_name seen x.name) xs
+same_key : (k l : ℕ × Bor (List ℕ)) → (nat_eq k.0 l.0 && pointwise nat_eq k.1.now l.1.now) ≡ same_field (named_at k) (named_at l)
+same_key k l =
+    ap (λ (b : Bool). nat_eq k.0 l.0 && b) (sym (bytes_eq-pointwise k.1.now l.1.now)) ∙ ap₂ bytes_eq (stored-code k) (stored-code l) ∙ sym (same_field-code (named_at k) (named_at l))
+
+-- keys of fields with their places
+pub repeated_keys : (s : Source) (marks : List ((ℕ × Bor (List ℕ)) × Place)) (fs : List FieldText) → map {B = Named × Place} (λ m. (named_at m.0, m.1)) marks ≡ map (λ (f : FieldText). (named s f, f.place)) fs
+    → repeated_by (λ x y. nat_eq x.0.0 y.0.0 && pointwise nat_eq x.0.1.now y.0.1.now) (λ x. x.1) marks ≡ repeated_fields s fs
+repeated_keys s marks fs e =
+    let same : Named × Place → Named × Place → Bool = λ x y. same_field x.0 y.0 in
+    repeated_by-alike (λ (x y : (ℕ × Bor (List ℕ)) × Place). nat_eq x.0.0 y.0.0 && pointwise nat_eq x.0.1.now y.0.1.now) (λ x. x.1) (λ x y. same_field (named_at x.0) (named_at y.0)) (λ x y. same_key x.0 y.0) marks
+    ∙ sym (repeated_by-map (λ (m : (ℕ × Bor (List ℕ)) × Place). (named_at m.0, m.1)) same (λ x. x.1) marks) ∙ ap (repeated_by same (λ x. x.1)) e
+    ∙ repeated_by-map (λ (f : FieldText). (named s f, f.place)) same (λ x. x.1) fs
+
+-- Names that are seen, each once.
+repeated_after-cons : (seen : List (List ℕ)) (x : Ident) (xs : List Ident) → repeated_after seen (x ∷ xs) ≡ when (is_known seen x.name) x.place ++ repeated_after (with_name seen x.name) xs
 repeated_after-cons seen x xs = by (is_known seen x.name)
   where
     by : (b : Bool) → (if b then x.place ∷ repeated_after seen xs else repeated_after (seen ++ x.name ∷ []) xs) ≡ when b x.place ++ repeated_after (if b then seen else seen ++ x.name ∷ []) xs
     by true = refl
     by false = refl
-
-pub repeated_after-append : (seen : List (List ℕ)) (xs ys : List Ident) → repeated_after seen (xs ++ ys) ≡ repeated_after seen xs ++ repeated_after (seen_after seen xs) ys
-repeated_after-append seen [] ys = refl
-repeated_after-append seen (x ∷ xs) ys =
-    repeated_after-cons seen x (xs ++ ys)
-    ∙ ap (λ (ps : List Place). when (is_known seen x.name) x.place ++ ps) (repeated_after-append (with_name seen x.name) xs ys)
-    ∙ sym (append_assoc (when (is_known seen x.name) x.place) (repeated_after (with_name seen x.name) xs) (repeated_after (seen_after (with_name seen x.name) xs) ys))
-    ∙ ap (λ (ps : List Place). ps ++ repeated_after (seen_after (with_name seen x.name) xs) ys) (sym (repeated_after-cons seen x xs))
-
-pub seen_after-append : (seen : List (List ℕ)) (xs ys : List Ident) → seen_after seen (xs ++ ys) ≡ seen_after (seen_after seen xs) ys
-seen_after-append seen [] ys = refl
-seen_after-append seen (x ∷ xs) ys = seen_after-append (with_name seen x.name) xs ys
-
-repeated_after-push : (seen : List (List ℕ)) (xs : List Ident) (x : Ident) → repeated_after seen (xs ++ x ∷ []) ≡ repeated_after seen xs ++ when (is_known (seen_after seen xs) x.name) x.place
-repeated_after-push seen xs x =
-    repeated_after-append seen xs (x ∷ [])
-    ∙ ap (λ (ps : List Place). repeated_after seen xs ++ ps) (repeated_after-cons (seen_after seen xs) x [] ∙ append-nil (when (is_known (seen_after seen xs) x.name) x.place))
-
--- The step of a loop that sees the names of some items.
-module _ {X : Type 0} (f : X → Ident) (start seen : List (List ℕ)) (xs : List X) (i : ℕ) (x : X) (lt : i < length xs) (at : x ≡ get_or xs i x) where
-  idents_more : map f (take (i + 1) xs) ≡ map f (take i xs) ++ f x ∷ []
-  idents_more = ap (map f) (take_more xs i x lt) ∙ map_push f (take i xs) (get_or xs i x) ∙ ap (λ (y : X). map f (take i xs) ++ f y ∷ []) (sym at)
-
-  pub see_more : (best one next : Option Place) (p : Place) (name : List ℕ) → best ≡ earliest (repeated_after start (map f (take i xs))) → seen ≡ seen_after start (map f (take i xs))
-      → p ≡ (f x).place → name ≡ (f x).name → one ≡ earliest (when (is_known seen name) p) → next ≡ earlier best one → next ≡ earliest (repeated_after start (map f (take (i + 1) xs)))
-  see_more best one next p name h s at_place at_name e step =
-      let before = map f (take i xs) in
-      let one_is : one ≡ earliest (when (is_known (seen_after start before) (f x).name) (f x).place) =
-      e ∙ ap (λ (ns : List (List ℕ)). earliest (when (is_known ns name) p)) s ∙ ap (λ (n : List ℕ). earliest (when (is_known (seen_after start before) n) p)) at_name ∙ ap (λ (q : Place). earliest (when (is_known (seen_after start before) (f x).name) q)) at_place in
-      rw (idents_more, repeated_after-push start before (f x))
-      (joined (repeated_after start before) (when (is_known (seen_after start before) (f x).name) (f x).place) best one next step h one_is)
-
-  pub seen_more : (next : List (List ℕ)) (name : List ℕ) → seen ≡ seen_after start (map f (take i xs)) → name ≡ (f x).name → next ≡ with_name seen name → next ≡ seen_after start (map f (take (i + 1) xs))
-  seen_more next name s at_name e =
-      let before = map f (take i xs) in
-      rw (idents_more, seen_after-append start before (f x ∷ []))
-      (e ∙ ap (λ (ns : List (List ℕ)). with_name ns name) s ∙ ap (with_name (seen_after start before)) at_name)
-
--- The step of a loop that sees the names of some lists.
-module _ {X : Type 0} (g : X → List Ident) (start seen : List (List ℕ)) (xs : List X) (i : ℕ) (x : X) (lt : i < length xs) (at : x ≡ get_or xs i x) where
-  lists_more : flat_map g (take (i + 1) xs) ≡ flat_map g (take i xs) ++ g x
-  lists_more =
-      ap (flat_map g) (take_more xs i x lt) ∙ flat_map-append g (take i xs) (get_or xs i x ∷ [])
-      ∙ ap (λ (ys : List Ident). flat_map g (take i xs) ++ ys) (append-nil (g (get_or xs i x)) ∙ ap g (sym at))
-
-  pub see_list_more : (best one next : Option Place) → best ≡ earliest (repeated_after start (flat_map g (take i xs))) → seen ≡ seen_after start (flat_map g (take i xs))
-      → one ≡ earliest (repeated_after seen (g x)) → next ≡ earlier best one → next ≡ earliest (repeated_after start (flat_map g (take (i + 1) xs)))
-  see_list_more best one next h s e step =
-      let before = flat_map g (take i xs) in
-      let one_is : one ≡ earliest (repeated_after (seen_after start before) (g x)) = e ∙ ap (λ (ns : List (List ℕ)). earliest (repeated_after ns (g x))) s in
-      rw (lists_more, repeated_after-append start before (g x))
-      (joined (repeated_after start before) (repeated_after (seen_after start before) (g x)) best one next step h one_is)
-
-  pub seen_list_more : (next : List (List ℕ)) → seen ≡ seen_after start (flat_map g (take i xs)) → next ≡ seen_after seen (g x) → next ≡ seen_after start (flat_map g (take (i + 1) xs))
-  seen_list_more next s e =
-      rw (lists_more, seen_after-append start (flat_map g (take i xs)) (g x)) (e ∙ ap (λ (ns : List (List ℕ)). seen_after ns (g x)) s)
-
-pub declared_names-flat_map : {X : Type 0} (f : X → List Declared) (xs : List X) → declared_names (flat_map f xs) ≡ flat_map (λ x. declared_names (f x)) xs
-declared_names-flat_map f [] = refl
-declared_names-flat_map f (x ∷ xs) = map-append _ (f x) (flat_map f xs) ∙ ap (λ (is : List Ident). declared_names (f x) ++ is) (declared_names-flat_map f xs)
-
-pub filter_map-flat_map : {X Y : Type 0} (h : X → Option Y) (xs : List X) → filter_map h xs ≡ flat_map (λ x. option_to_list (h x)) xs
-filter_map-flat_map h [] = refl
-filter_map-flat_map h (x ∷ xs) = by (h x) (filter_map-flat_map h xs)
-  where
-    by : (o : Option _) → filter_map h xs ≡ flat_map (λ x. option_to_list (h x)) xs → cons_option o (filter_map h xs) ≡ option_to_list o ++ flat_map (λ x. option_to_list (h x)) xs
-    by None e = e
-    by (Some y) e = ap (λ ys. y ∷ ys) e
 
 either : (a b c : Bool) → (c ≡ true → a ≡ true) → (a || (c || b)) ≡ (a || b)
 either true b c h = refl
@@ -165,38 +144,13 @@ is_known-seen seen q (x ∷ xs) = is_known-seen (with_name seen x.name) q xs ∙
         regroup false true c = refl
         regroup false false c = refl
 
-pub is_known-seen_after : (xs : List Ident) (q : List ℕ) → is_known (seen_after [] xs) q ≡ is_known (map (λ (x : Ident). x.name) xs) q
-is_known-seen_after xs q = is_known-seen [] q xs
-
--- the tables whose names were not seen are those that are not named
-pub not_seen-tables : (seen : List (List ℕ)) (xs : List Ident) (ts : List TableText) → seen ≡ seen_after [] xs
-    → flat_map (λ (t : TableText). when (not (is_known seen t.ident.name)) t.ident.place) ts ≡ flat_map (λ (t : TableText). when (not (is_known (map (λ (x : Ident). x.name) xs) t.ident.name)) t.ident.place) ts
-not_seen-tables seen xs [] e = refl
-not_seen-tables seen xs (t ∷ ts) e =
-    let known : is_known seen t.ident.name ≡ is_known (map (λ (x : Ident). x.name) xs) t.ident.name = ap (λ (ns : List (List ℕ)). is_known ns t.ident.name) e ∙ is_known-seen_after xs t.ident.name in
-    rw known (ap (λ (ps : List Place). when (not (is_known (map (λ (x : Ident). x.name) xs) t.ident.name)) t.ident.place ++ ps) (not_seen-tables seen xs ts e))
-
 -- The items behind one that is the same, found among the names before them.
 module _ {X : Type 0} (same : X → X → Bool) (place : X → Place) (ident : X → Ident) (alike : (x y : X) → same x y ≡ bytes_eq (ident x).name (ident y).name) (placed : (x : X) → place x ≡ (ident x).place) where
-  abbrev behind : List X → List X → List Place
-  behind before [] = []
-  behind before (x ∷ xs) = when (list_any (same x) before) (place x) ++ behind (before ++ x ∷ []) xs
-
-  -- an item before which there are these
-  numbered : (before xs : List X) → flat_map (λ (e : ℕ × X). when (list_any (same e.1) (take e.0 (before ++ xs))) (place e.1)) (enumerate_from (length before) xs) ≡ behind before xs
-  numbered before [] = refl
-  numbered before (x ∷ xs) =
-      let whole : before ++ x ∷ xs ≡ (before ++ x ∷ []) ++ xs = sym (append_assoc before (x ∷ []) xs) in
-      let long : length before + 1 ≡ length (before ++ x ∷ []) = sym (length-append before (x ∷ [])) in
-      let rest = numbered (before ++ x ∷ []) xs in
-      ap₂ (λ (ps qs : List Place). ps ++ qs) (ap (λ ys. when (list_any (same x) ys) (place x)) (take-append_seam before (x ∷ xs)))
-      (ap₂ (λ (ys : List X) (n : ℕ). flat_map (λ (e : ℕ × X). when (list_any (same e.1) (take e.0 ys)) (place e.1)) (enumerate_from n xs)) whole long ∙ rest)
-
   any_known : (x : X) (ys : List X) → list_any (same x) ys ≡ is_known (map (λ y. (ident y).name) ys) (ident x).name
   any_known x [] = refl
   any_known x (y ∷ ys) = ap₂ (λ (a b : Bool). a || b) (alike x y) (any_known x ys)
 
-  seen_behind : (before xs : List X) (seen : List (List ℕ)) → ((q : List ℕ) → is_known (map (λ y. (ident y).name) before) q ≡ is_known seen q) → behind before xs ≡ repeated_after seen (map ident xs)
+  seen_behind : (before xs : List X) (seen : List (List ℕ)) → ((q : List ℕ) → is_known (map (λ y. (ident y).name) before) q ≡ is_known seen q) → behind same place before xs ≡ repeated_after seen (map ident xs)
   seen_behind before [] seen h = refl
   seen_behind before (x ∷ xs) seen h =
       let first : list_any (same x) before ≡ is_known seen (ident x).name = any_known x before ∙ h (ident x).name in
@@ -206,7 +160,7 @@ module _ {X : Type 0} (same : X → X → Bool) (place : X → Place) (ident : X
       ap₂ (λ (ps qs : List Place). ps ++ qs) (ap₂ (λ (b : Bool) (p : Place). when b p) first (placed x)) more ∙ sym (repeated_after-cons seen (ident x) (map ident xs))
 
   pub repeated_by-after : (xs : List X) → repeated_by same place xs ≡ repeated_after [] (map ident xs)
-  repeated_by-after xs = numbered [] xs ∙ seen_behind [] xs [] (λ q. refl)
+  repeated_by-after xs = numbered same place [] xs ∙ seen_behind [] xs [] (λ q. refl)
 
 pub repeated-after : (xs : List Ident) → repeated xs ≡ repeated_after [] xs
 repeated-after xs =

@@ -8,7 +8,6 @@ pub mod Numbering
 pub mod Standing
 pub mod Seen
 pub mod Building
-pub mod Looked
 pub mod Found
 pub mod Naming
 pub mod Checking

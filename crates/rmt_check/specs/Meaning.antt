@@ -1,4 +1,5 @@
 -- The program that a text means, and the answer to a text.
+-- The public contracts rest on it: a reader has to believe it.
 use Rattle.std.specs.Prelude.{◌≡◌, ⊤, ℕ, zero, suc, ◌+◌, ◌-◌, ◌/◌, ◌^◌, List, [], ◌∷◌, false, Option, Some, None, length, take, fold, map, zip, option_map, unwrap_or, slice_get, bit_and, bit_or, Result, Ok, Err}
 use Rattle.std.specs.List.{range_with_len}
 use Rattle.std.specs.Option.{option_map_or}
@@ -49,7 +50,7 @@ use Rattle.rmt_check.specs.declared.source.WhatText.{WhatText}
 use Rattle.rmt_check.specs.declared.source.WhatText.TheVariants.{Apply as ApplyText, If}
 use Rattle.rmt_check.specs.declared.source.NodeText.{NodeText}
 use Rattle.rmt_check.specs.declared.source.Source.{Source}
-use Rattle.rmt_check.specs.Names.{Known, number_of, header_names, action_names, table_names, param_names, fields_of, Named, field_place, named, width_of, nodes_of, listed_by, selected}
+use Rattle.rmt_check.specs.Names.{Known, number_of, header_names, action_names, table_names, param_names, fields_of, Named, field_place, named, width_of, nodes_of, ident_names, listed_by, selected}
 use Rattle.rmt_check.specs.Rules.{bits_of, fault_of}
 
 -- the number of a name, which is known
@@ -169,7 +170,7 @@ arm_mask actions arms i =
 
 -- the outcomes for which the i-th arm of a node runs; of an `if` the first runs where it holds, its `else` where not
 abbrev pub mask_in : Source → WhatText → ℕ → ℕ
-mask_in s (ApplyText table arms) i = arm_mask (map (λ (a : Ident). a.name) (listed_by s table.name)) arms i
+mask_in s (ApplyText table arms) i = arm_mask (ident_names (listed_by s table.name)) arms i
 mask_in s (If field mask value) zero = 4
 mask_in s (If field mask value) (suc i) = 2
 

@@ -1,4 +1,5 @@
 -- What a text means: its program, or its one fault.
+-- The public contracts rest on it: a reader has to believe it.
 use Rattle.std.specs.Prelude.{◌≡◌, ⊤, ℕ, List, None, Some, Result, Ok, Err}
 use Rattle.rmt_ast.specs.declared.program.Program.{Program}
 use Rattle.rmt_lexer.specs.declared.fault.ProgramFault.{ProgramFault}

@@ -1,4 +1,5 @@
 -- What the names of a text stand for.
+-- The public contracts rest on it: a reader has to believe it.
 use Rattle.std.specs.Prelude.{ℕ, ◌+◌, List, [], ◌∷◌, ◌++◌, Bool, true, false, ◌==◌, ◌&&◌, Option, Some, None, codes, length, map, find, position, filter_map, option_map, unwrap_or, slice_get}
 use Rattle.std.specs.List.{list_any, flat_map}
 use Rattle.std.specs.Option.{option_to_list, option_map_or}
@@ -64,10 +65,6 @@ abbrev pub fields_of : Source → List Known
 fields_of s =
     (codes "in_port", 9) ∷ (codes "out_port", 9) ∷ (codes "drop", 1) ∷ flat_map header_fields s.headers
     ++ known_fields (codes "meta") (metadata s)
-
--- the names of the fields by number, as they are printed
-abbrev pub field_names : Source → List (List ℕ)
-field_names s = map (λ (f : Known). f.0) (fields_of s)
 
 -- Whose a field is: every program's, the metadata's, or that of the header with a number.
 pub data Owner : Type 0 where
@@ -143,10 +140,6 @@ width_at s n = unwrap_or (option_map (λ (f : Known). f.1) (slice_get (fields_of
 abbrev pub width_of : Source → Named → ℕ
 width_of s x = option_map_or (width_at s) (field_place s x) 0
 
--- the widths of the fields of a header's select
-abbrev pub select_widths : Source → HeaderText → List ℕ
-select_widths s h = map (λ (i : Ident). width_of s (selected s h i)) h.select
-
 -- the nodes of the control
 abbrev pub nodes_of : Source → List NodeText
 nodes_of s = unwrap_or s.control []
@@ -165,10 +158,6 @@ listed t = unwrap_or (option_map (λ (k : KeyText). k.actions) t.key) []
 
 abbrev pub ident_names : List Ident → List (List ℕ)
 ident_names is = map (λ (i : Ident). i.name) is
-
--- of each table, the names of the actions of its list
-abbrev pub list_names : List TableText → List (List (List ℕ))
-list_names ts = map (λ (t : TableText). ident_names (listed t)) ts
 
 -- the actions of the list of the first table with a name
 abbrev pub listed_by : Source → List ℕ → List Ident

@@ -1,4 +1,5 @@
 -- What the parts of every text of the grammar have.
+-- A public law rests on it: a reader has to believe it.
 use Rattle.std.specs.Prelude.{◌≢◌, ◌<◌, ◌≤◌, ℕ, List, Option, Some, None, ⊤, All, codes, length}
 use Rattle.std.specs.Option.{IfSome}
 use Rattle.rmt_lexer.specs.declared.token.Token.{Token}
@@ -43,8 +44,7 @@ pub record IsKeyText (k : KeyText) : Type 0 where
 
 -- the key of a table, if it has one
 abbrev pub HasKeyText : Option KeyText → Type 0
-HasKeyText None = ⊤
-HasKeyText (Some k) = IsKeyText k
+HasKeyText key = IfSome key IsKeyText
 
 -- the arm that a node stands in, if any, is one of the first n nodes
 abbrev pub IsUnder : ℕ → Option Under → Type 0

@@ -1,9 +1,10 @@
 -- Names and their numbers in maps.
+-- A helper: no public contract cites it.
 use Rattle.std.specs.Prelude.{◌≡◌, ℕ, List, map}
 use Rattle.std.specs.Borrow.{Bor}
 use Rattle.std.specs.Map.{lookup}
 use Rattle.std.specs.Str.{bytes_eq}
-use Rattle.rmt_check.specs.declared.numbers.Numbers.TheInside.{Inside}
+use Rattle.rmt_check.specs.declared.names.numbers.Numbers.TheInside.{Inside}
 use Rattle.rmt_check.specs.Names.{number_of}
 
 -- a borrowed name as its bytes

@@ -1,7 +1,8 @@
 -- The parts of a program's text, read from its tree.
-use Rattle.std.specs.Prelude.{ℕ, List, [], ◌∷◌, ◌++◌, Bool, true, false, if◌then◌else◌, Option, Some, None, length, fold, map, filter_map, option_map, unwrap_or}
+-- The public contracts rest on it: a reader has to believe it.
+use Rattle.std.specs.Prelude.{ℕ, List, [], ◌∷◌, ◌++◌, Bool, true, false, if◌then◌else◌, Option, Some, None, length, fold, map, filter_map, option_map, is_some, unwrap_or, ◌==◌}
 use Rattle.std.specs.List.{cons_option, enumerate_from}
-use Rattle.std.specs.Option.{option_or}
+use Rattle.std.specs.Option.{option_or, option_and_then}
 use Rattle.rmt_lexer.specs.declared.token.Token.{Token}
 use Rattle.rmt_lexer.specs.declared.token.TokenKind.{TokenKind}
 use Rattle.rmt_lexer.specs.declared.token.TokenKind.TheVariants as token
@@ -13,6 +14,8 @@ use Rattle.rmt_syntax.specs.declared.tree.Tree.TheViews.{out-Tree}
 use Rattle.rmt_syntax.specs.declared.tree.Tree.TheOpen.{Tree-F}
 use Rattle.rmt_syntax.specs.declared.tree.Tree.TheOpen as tree
 use Rattle.rmt_syntax.specs.declared.tree.Tree.TheFolds.{fold-Tree}
+use denote.Enum.Bare.{sameb}
+use Rattle.rmt_syntax.specs.contracts.tree.Rule.{the_type}
 use Rattle.rmt_syntax.specs.declared.tree.Rule.{Rule}
 use Rattle.rmt_syntax.specs.declared.tree.Rule.TheVariants as rule
 use Rattle.rmt_syntax.specs.Grammar.{terminal_of}
@@ -57,6 +60,23 @@ parts_of (tree.Many r parts) = parts
 
 abbrev pub parts : Tree → List Tree
 parts t = parts_of (out-Tree t)
+
+-- whether two rules are the same
+abbrev pub same_rule : Rule → Rule → Bool
+same_rule a b = sameb the_type a b
+
+-- the parts of the text of a rule; none of other trees
+abbrev pub parts_if : Rule → Tree-F Tree → Option (List Tree)
+parts_if r (tree.One t) = None
+parts_if r (tree.Many s parts) = if same_rule r s then Some parts else None
+
+-- what the parts of the text of a rule say, if anything
+abbrev pub at_rule : {A : Type 0} → Rule → (List Tree → Option A) → Tree → Option A
+at_rule r see t = option_and_then see (parts_if r (out-Tree t))
+
+-- what is made of the parts of the text of a rule
+abbrev pub of_rule : {A : Type 0} → Rule → (List Tree → A) → Tree → Option A
+of_rule r make t = option_map make (parts_if r (out-Tree t))
 
 -- what is seen first in a list of parts
 abbrev pub first : {A : Type 0} → (Tree → Option A) → List Tree → Option A
@@ -149,24 +169,29 @@ abbrev pub number_among : List Tree → Number
 number_among ts = unwrap_or (first_number ts) no_number
 
 -- the place of the first token among some parts
+abbrev pub token_place : Tree → Option Place
+token_place = at_token (λ t. Some (place_of t))
+
 abbrev pub first_place : List Tree → Option Place
-first_place = first (at_token (λ t. Some (place_of t)))
+first_place = first token_place
 
 abbrev pub place_among : List Tree → Place
 place_among ts = unwrap_or (first_place ts) nowhere
 
--- a name or a number behind a token of a kind
+-- what stands behind a token of a kind
 abbrev pub behind : {A : Type 0} → Option Place → Option A → Option A
 behind None x = None
 behind (Some p) x = x
 
+abbrev pub seen_behind : {A : Type 0} → Terminal → (Tree → Option A) → List Tree → Option A
+seen_behind c see (a ∷ b ∷ rest) = behind (place_at c a) (see b)
+seen_behind c see _ = None
+
 abbrev pub name_behind : Terminal → List Tree → Option Ident
-name_behind c (a ∷ b ∷ rest) = behind (place_at c a) (name_at b)
-name_behind c _ = None
+name_behind c = seen_behind c name_at
 
 abbrev pub number_behind : Terminal → List Tree → Option Number
-number_behind c (a ∷ b ∷ rest) = behind (place_at c a) (number_at b)
-number_behind c _ = None
+number_behind c = seen_behind c number_at
 
 -- a name and a number with a token between them
 abbrev pub joined : Option Ident → Option Place → Option Number → Option Declared
@@ -179,31 +204,33 @@ declared_at (a ∷ b ∷ c ∷ rest) = joined (name_at a) (place_at terminal.Col
 declared_at _ = None
 
 -- param = NAME ":" NUMBER
-abbrev pub param_in : Tree-F Tree → Option Declared
-param_in (tree.Many rule.Param parts) = Some (record { ident = name_among parts; width = number_among parts })
-param_in _ = None
+abbrev pub param_text : List Tree → Declared
+param_text ts = record { ident = name_among ts; width = number_among ts }
 
 abbrev pub param_at : Tree → Option Declared
-param_at t = param_in (out-Tree t)
+param_at = of_rule rule.Param param_text
 
 -- the words that a field is written with, in their order: names and reserved words
 abbrev pub word_in : TokenKind → Token → Option Ident
 word_in (token.Word w) t = Some (ident_of t)
 word_in _ t = None
 
+abbrev pub word_at : Tree → Option Ident
+word_at = at_token (λ t. word_in t.what t)
+
 abbrev pub words : List Tree → List Ident
-words ts = filter_map (at_token (λ t. word_in t.what t)) ts
+words = filter_map word_at
 
 -- whose a field of two words is: of the header that the first names, else of the metadata
-abbrev pub owner_of : Option Ident → OwnerText
-owner_of None = owner.Metadata
-owner_of (Some header) = owner.Header header
+abbrev pub owner_text : Option Ident → OwnerText
+owner_text None = owner.Metadata
+owner_text (Some header) = owner.Header header
 
 -- a field of one word, or of two with a dot between them
-abbrev pub field_of : Option Ident → List Ident → FieldText
-field_of header [] = record { place = nowhere; owner = owner.Intrinsic; ident = no_name }
-field_of header (a ∷ []) = record { place = a.place; owner = owner.Intrinsic; ident = a }
-field_of header (a ∷ b ∷ rest) = record { place = a.place; owner = owner_of header; ident = b }
+abbrev pub field_text : Option Ident → List Ident → FieldText
+field_text header [] = record { place = nowhere; owner = owner.Intrinsic; ident = no_name }
+field_text header (a ∷ []) = record { place = a.place; owner = owner.Intrinsic; ident = a }
+field_text header (a ∷ b ∷ rest) = record { place = a.place; owner = owner_text header; ident = b }
 
 -- the header that the first part of a field names
 abbrev pub header_in : List Tree → Option Ident
@@ -211,12 +238,8 @@ header_in [] = None
 header_in (t ∷ ts) = name_at t
 
 -- field = NAME "." NAME | NAME "." "valid" | "meta" "." NAME | "in_port" | "out_port" | "drop"
-abbrev pub field_in : Tree-F Tree → Option FieldText
-field_in (tree.Many rule.Field parts) = Some (field_of (header_in parts) (words parts))
-field_in _ = None
-
 abbrev pub field_at : Tree → Option FieldText
-field_at t = field_in (out-Tree t)
+field_at = of_rule rule.Field (λ ts. field_text (header_in ts) (words ts))
 
 -- target = NAME | "accept" | "reject"
 abbrev pub target_if : Terminal → Token → Option TargetText
@@ -225,61 +248,59 @@ target_if terminal.Accept t = Some target.Accept
 target_if terminal.Reject t = Some target.Reject
 target_if _ t = None
 
-abbrev pub target_of : List Tree → Option TargetText
-target_of = first (at_token (λ t. target_if (terminal_of t.what) t))
+abbrev pub target_word : Tree → Option TargetText
+target_word = at_token (λ t. target_if (terminal_of t.what) t)
 
-abbrev pub target_in : Tree-F Tree → Option TargetText
-target_in (tree.Many rule.Target parts) = target_of parts
-target_in _ = None
+abbrev pub target_text : List Tree → Option TargetText
+target_text = first target_word
+
+abbrev pub target_at : Tree → Option TargetText
+target_at = at_rule rule.Target target_text
 
 abbrev pub first_target : List Tree → Option TargetText
-first_target = first (λ t. target_in (out-Tree t))
+first_target = first target_at
 
 abbrev pub target_among : List Tree → TargetText
 target_among ts = unwrap_or (first_target ts) (target.Header no_name)
 
 -- value = NUMBER [ "&" NUMBER ]
-abbrev pub value_of : List Tree → ValueText
-value_of ts = record { value = number_among ts; mask = first_at (number_behind terminal.Ampersand) ts }
+abbrev pub value_text : List Tree → ValueText
+value_text ts = record { value = number_among ts; mask = first_at (number_behind terminal.Ampersand) ts }
 
-abbrev pub value_in : Tree-F Tree → Option ValueText
-value_in (tree.Many rule.Value parts) = Some (value_of parts)
-value_in _ = None
+abbrev pub value_at : Tree → Option ValueText
+value_at = of_rule rule.Value value_text
 
 -- case = value { "," value } ":" target ";"
-abbrev pub case_in : Tree-F Tree → Option CaseText
-case_in (tree.Many rule.Case parts) =
-    Some (record { values = filter_map (λ t. value_in (out-Tree t)) parts; target = target_among parts })
-case_in _ = None
+abbrev pub case_text : List Tree → CaseText
+case_text ts = record { values = filter_map value_at ts; target = target_among ts }
 
 abbrev pub case_at : Tree → Option CaseText
-case_at t = case_in (out-Tree t)
+case_at = of_rule rule.Case case_text
 
 -- next = target ";" | "(" NAME { "," NAME } ")" "{" { case } "else" ":" target ";" "}"
-abbrev pub next_in : Tree-F Tree → Option (List Tree)
-next_in (tree.Many rule.Next parts) = Some parts
-next_in _ = None
+abbrev pub next_at : Tree → Option (List Tree)
+next_at t = parts_if rule.Next (out-Tree t)
 
 -- what stands behind `next`
 abbrev pub first_next : List Tree → Option (List Tree)
-first_next = first (λ t. next_in (out-Tree t))
+first_next = first next_at
 
 abbrev pub next_among : List Tree → List Tree
 next_among ts = unwrap_or (first_next ts) []
 
 -- a tail of what stands at its word, its name and its numbers
-abbrev pub tail_of : Option Place → Option Ident → Option Number → Option Number → Option TailText
-tail_of (Some p) (Some i) (Some m) (Some n) = Some (record { place = p; field = i; unit = m; base = n })
-tail_of _ _ _ _ = None
+abbrev pub tail_text : Option Place → Option Ident → Option Number → Option Number → Option TailText
+tail_text (Some p) (Some i) (Some m) (Some n) = Some (record { place = p; field = i; unit = m; base = n })
+tail_text _ _ _ _ = None
 
 -- "tail" NAME "*" NUMBER "-" NUMBER
 abbrev pub tail_at : List Tree → Option TailText
-tail_at (a ∷ b ∷ c ∷ d ∷ e ∷ f ∷ rest) = tail_of (place_at terminal.Tail a) (name_at b) (number_at d) (number_at f)
+tail_at (a ∷ b ∷ c ∷ d ∷ e ∷ f ∷ rest) = tail_text (place_at terminal.Tail a) (name_at b) (number_at d) (number_at f)
 tail_at _ = None
 
 -- header = "header" NAME "{" { NAME ":" NUMBER ";" } [ "tail" NAME "*" NUMBER "-" NUMBER ";" ] "}" "next" next
-abbrev pub header_of : List Tree → HeaderText
-header_of ts = record {
+abbrev pub header_text : List Tree → HeaderText
+header_text ts = record {
   ident = name_among ts;
   fields = each declared_at ts;
   tail = first_at tail_at ts;
@@ -288,35 +309,25 @@ header_of ts = record {
   other = target_among (next_among ts);
 }
 
-abbrev pub header_part : Tree-F Tree → Option HeaderText
-header_part (tree.Many rule.Header parts) = Some (header_of parts)
-header_part _ = None
-
 abbrev pub header_at : Tree → Option HeaderText
-header_at t = header_part (out-Tree t)
+header_at = of_rule rule.Header header_text
 
 -- meta = "meta" "{" { NAME ":" NUMBER ";" } "}"
-abbrev pub meta_in : Tree-F Tree → Option MetaText
-meta_in (tree.Many rule.Meta parts) =
-    Some (record { place = place_among parts; fields = each declared_at parts })
-meta_in _ = None
+abbrev pub meta_text : List Tree → MetaText
+meta_text ts = record { place = place_among ts; fields = each declared_at ts }
 
 abbrev pub meta_at : Tree → Option MetaText
-meta_at t = meta_in (out-Tree t)
+meta_at = of_rule rule.Meta meta_text
 
 -- leaf = field | NAME | NUMBER
 abbrev pub leaf_part : Tree → Option LeafText
 leaf_part t = option_or (option_map leaf.Field (field_at t)) (option_or (option_map leaf.Param (name_at t)) (option_map leaf.Number (number_at t)))
 
-abbrev pub leaf_of : List Tree → Option LeafText
-leaf_of = first leaf_part
-
-abbrev pub leaf_in : Tree-F Tree → Option LeafText
-leaf_in (tree.Many rule.Leaf parts) = leaf_of parts
-leaf_in _ = None
+abbrev pub leaf_text : List Tree → Option LeafText
+leaf_text = first leaf_part
 
 abbrev pub leaf_at : Tree → Option LeafText
-leaf_at t = leaf_in (out-Tree t)
+leaf_at = at_rule rule.Leaf leaf_text
 
 -- an operator
 abbrev pub op_of : Terminal → Option Op
@@ -343,12 +354,11 @@ abbrev pub first_leaf : List Tree → Option LeafText
 first_leaf = first leaf_at
 
 -- expr = leaf [ ( "+" | "-" | "&" | "|" | "^" ) leaf ]
-abbrev pub expr_of : List Tree → ExprText
-expr_of ts = record { left = unwrap_or (first_leaf ts) (leaf.Number no_number); right = first_at operation_at ts }
+abbrev pub expr_text : List Tree → ExprText
+expr_text ts = record { left = unwrap_or (first_leaf ts) (leaf.Number no_number); right = first_at operation_at ts }
 
-abbrev pub expr_in : Tree-F Tree → Option ExprText
-expr_in (tree.Many rule.Expr parts) = Some (expr_of parts)
-expr_in _ = None
+abbrev pub expr_at : Tree → Option ExprText
+expr_at = of_rule rule.Expr expr_text
 
 -- a field and what is assigned to it
 abbrev pub assigned : Option FieldText → Option Place → Option ExprText → Option AssignText
@@ -357,23 +367,19 @@ assigned _ _ _ = None
 
 -- field "=" expr
 abbrev pub assign_at : List Tree → Option AssignText
-assign_at (a ∷ b ∷ c ∷ rest) = assigned (field_at a) (place_at terminal.Assign b) (expr_in (out-Tree c))
+assign_at (a ∷ b ∷ c ∷ rest) = assigned (field_at a) (place_at terminal.Assign b) (expr_at c)
 assign_at _ = None
 
 -- action = "action" NAME "(" [ param { "," param } ] ")" "{" { field "=" expr ";" } "}"
-abbrev pub action_of : List Tree → ActionText
-action_of ts = record {
+abbrev pub action_text : List Tree → ActionText
+action_text ts = record {
   ident = name_among ts;
   params = filter_map param_at ts;
   assigns = each assign_at ts;
 }
 
-abbrev pub action_in : Tree-F Tree → Option ActionText
-action_in (tree.Many rule.Action parts) = Some (action_of parts)
-action_in _ = None
-
 abbrev pub action_at : Tree → Option ActionText
-action_at t = action_in (out-Tree t)
+action_at = of_rule rule.Action action_text
 
 -- how a key is compared
 abbrev pub kind_of : Terminal → Option Kind
@@ -382,23 +388,22 @@ kind_of terminal.Prefix = Some Prefix
 kind_of terminal.Ternary = Some Ternary
 kind_of _ = None
 
+abbrev pub kind_at : Tree → Option Kind
+kind_at = at_token (λ t. kind_of (terminal_of t.what))
+
 abbrev pub first_kind : List Tree → Option Kind
-first_kind = first (at_token (λ t. kind_of (terminal_of t.what)))
+first_kind = first kind_at
 
 abbrev pub kind_among : List Tree → Kind
 kind_among ts = unwrap_or (first_kind ts) Keyless
 
 -- whether a table is counted
-abbrev pub counted_if : Terminal → Option Bool
-counted_if terminal.Counted = Some true
-counted_if _ = None
-
 abbrev pub counted_among : List Tree → Bool
-counted_among ts = unwrap_or (first (at_token (λ t. counted_if (terminal_of t.what))) ts) false
+counted_among ts = is_some (first (place_at terminal.Counted) ts)
 
 -- key = ( "exact" | "prefix" | "ternary" ) field { "," field } ";" "actions" NAME { "," NAME } ";" "size" NUMBER ";" [ "counted" ";" ]
-abbrev pub key_of : List Tree → KeyText
-key_of ts = record {
+abbrev pub key_text : List Tree → KeyText
+key_text ts = record {
   kind = kind_among ts;
   fields = filter_map field_at ts;
   actions = names ts;
@@ -406,29 +411,24 @@ key_of ts = record {
   counted = counted_among ts;
 }
 
-abbrev pub key_in : Tree-F Tree → Option KeyText
-key_in (tree.Many rule.Key parts) = Some (key_of parts)
-key_in _ = None
+abbrev pub key_at : Tree → Option KeyText
+key_at = of_rule rule.Key key_text
 
 -- the name behind the word `default`
 abbrev pub default_name : List Tree → Option Ident
 default_name = first_at (name_behind terminal.Default)
 
 -- table = "table" NAME "{" [ key ] "default" NAME "(" [ NUMBER { "," NUMBER } ] ")" ";" "}"
-abbrev pub table_of : List Tree → TableText
-table_of ts = record {
+abbrev pub table_text : List Tree → TableText
+table_text ts = record {
   ident = name_among ts;
-  key = first (λ t. key_in (out-Tree t)) ts;
+  key = first key_at ts;
   default = unwrap_or (default_name ts) no_name;
   args = numbers ts;
 }
 
-abbrev pub table_in : Tree-F Tree → Option TableText
-table_in (tree.Many rule.Table parts) = Some (table_of parts)
-table_in _ = None
-
 abbrev pub table_at : Tree → Option TableText
-table_at t = table_in (out-Tree t)
+table_at = of_rule rule.Table table_text
 
 -- arm = ( "hit" | "miss" | NAME ) block
 abbrev pub arm_if : Terminal → Token → Option ArmText
@@ -437,12 +437,14 @@ arm_if terminal.Miss t = Some arm.Miss
 arm_if terminal.Name t = Some (arm.Action (ident_of t))
 arm_if _ t = None
 
-abbrev pub arm_of : List Tree → Option ArmText
-arm_of = first (at_token (λ t. arm_if (terminal_of t.what) t))
+abbrev pub arm_word : Tree → Option ArmText
+arm_word = at_token (λ t. arm_if (terminal_of t.what) t)
 
-abbrev pub arm_in : Tree-F Tree → Option ArmText
-arm_in (tree.Many rule.Arm parts) = arm_of parts
-arm_in _ = None
+abbrev pub arm_of : List Tree → Option ArmText
+arm_of = first arm_word
+
+abbrev pub arm_at : Tree → Option ArmText
+arm_at = at_rule rule.Arm arm_of
 
 -- the field of an `if`, and the number behind its "=="
 abbrev pub first_field : List Tree → Option FieldText
@@ -452,12 +454,12 @@ abbrev pub equal_number : List Tree → Option Number
 equal_number = first_at (number_behind terminal.Equal)
 
 -- stmt = "apply" NAME ( ";" | "{" { arm } "}" ) | "if" "(" field [ "&" NUMBER ] "==" NUMBER ")" block [ "else" block ]
-abbrev pub what_of : Option FieldText → List Tree → WhatText
-what_of None ts = Apply (name_among ts) (filter_map (λ t. arm_in (out-Tree t)) ts)
-what_of (Some field) ts = If field (first_at (number_behind terminal.Ampersand) ts) (unwrap_or (equal_number ts) no_number)
+abbrev pub what_text : Option FieldText → List Tree → WhatText
+what_text None ts = Apply (name_among ts) (filter_map arm_at ts)
+what_text (Some field) ts = If field (first_at (number_behind terminal.Ampersand) ts) (unwrap_or (equal_number ts) no_number)
 
-abbrev pub node_of : Option Under → List Tree → NodeText
-node_of under ts = record { place = place_among ts; under = under; what = what_of (first_field ts) ts }
+abbrev pub node_text : Option Under → List Tree → NodeText
+node_text under ts = record { place = place_among ts; under = under; what = what_text (first_field ts) ts }
 
 -- What a tree adds to the nodes before it, where it stands in an arm or in none.
 abbrev pub Adds : Type 0
@@ -486,7 +488,7 @@ with_arm parent before a = let u : Under = record { parent = parent; arm = a.0 }
 -- a statement adds itself, and behind it the nodes of its arms
 abbrev pub statement_added : List Read → Adds
 statement_added reads under before =
-    fold (with_arm (length before)) (before ++ node_of under (map (λ (r : Read). r.0) reads) ∷ []) (enumerate_from 0 (filter_map arm_adds reads))
+    fold (with_arm (length before)) (before ++ node_text under (map (λ (r : Read). r.0) reads) ∷ []) (enumerate_from 0 (filter_map arm_adds reads))
 
 abbrev pub is_statement : Rule → Bool
 is_statement rule.Stmt = true
@@ -510,20 +512,18 @@ abbrev pub added : Tree → Adds
 added t = fold-Tree (Tree → Adds) layer_added t t
 
 -- control = "control" block
-abbrev pub control_in : Tree-F Tree → Option (List NodeText)
-control_in (tree.Many rule.Control parts) = Some (all_added (map added parts) None [])
-control_in _ = None
+abbrev pub control_text : List Tree → List NodeText
+control_text ts = all_added (map added ts) None []
+
+abbrev pub control_at : Tree → Option (List NodeText)
+control_at = of_rule rule.Control control_text
 
 abbrev pub control_among : List Tree → Option (List NodeText)
-control_among ts = first (λ t. control_in (out-Tree t)) ts
+control_among = first control_at
 
 -- the end of a text
-abbrev pub end_in : TokenKind → Token → Option Place
-end_in token.End t = Some (place_of t)
-end_in _ t = None
-
 abbrev pub first_end : List Tree → Option Place
-first_end = first (at_token (λ t. end_in t.what t))
+first_end = first (place_at terminal.End)
 
 abbrev pub end_among : List Tree → Place
 end_among ts = unwrap_or (first_end ts) nowhere

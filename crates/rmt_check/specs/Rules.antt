@@ -1,4 +1,5 @@
--- The rules of form, each as the places where it is broken, and the fault of a text.
+-- The rules of form, each as the places where it is broken, and the fault of a text: what a reader of the contract of `check`
+-- has to believe.
 use Rattle.std.specs.Prelude.{ℕ, ◌+◌, ◌-◌, ◌*◌, ◌%◌, ◌^◌, List, [], ◌∷◌, ◌++◌, Bool, true, false, not, ◌==◌, ◌&&◌, ◌||◌, nat_le, nat_lt, if◌then◌else◌, Option, Some, None, length, drop, take, map, zip, sum, option_map}
 use Rattle.std.specs.List.{flat_map, list_any, enumerate_from}
 use Rattle.std.specs.Option.{option_to_list, option_or, is_none}

@@ -1,5 +1,6 @@
--- Names that are seen one after another.
+-- Names that are seen one after another: a helper of proofs, which no public clause cites.
 use Rattle.std.specs.Prelude.{ℕ, List, [], ◌∷◌, ◌++◌, if◌then◌else◌, fold}
+use Rattle.std.specs.Borrow.{Bor}
 use Rattle.rmt_lexer.specs.declared.place.Place.{Place}
 use Rattle.rmt_check.specs.declared.source.Ident.{Ident}
 use Rattle.rmt_check.specs.declared.source.FieldText.{FieldText}
@@ -24,3 +25,7 @@ repeated_after seen (x ∷ xs) =
 -- a field by what it is stored by, at its first token
 abbrev pub stored_ident : Source → FieldText → Ident
 stored_ident s f = record { place = f.place; name = code (named s f) }
+
+-- a name that was marked with its place
+abbrev pub told_ident : Bor (List ℕ) × Place → Ident
+told_ident m = record { place = m.1; name = m.0.now }

@@ -1,4 +1,5 @@
 -- How large the parts of a text are where the rules of widths and counts are kept.
+-- A helper: no public contract cites it.
 use Rattle.std.specs.Prelude.{◌≤◌, ⊤, List, Option, Some, None, All, length}
 use Rattle.std.specs.Option.{IfSome}
 use Rattle.rmt_check.specs.declared.source.Declared.{Declared}

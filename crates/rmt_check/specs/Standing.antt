@@ -1,15 +1,17 @@
 -- What the look-ups of names keep.
+-- A helper: no public contract cites it.
 use Rattle.std.specs.Prelude.{◌≡◌, ℕ, zero, suc, ◌+◌, List, [], ◌∷◌, ◌++◌, codes, map, Option, slice_get, unwrap_or}
 use Rattle.std.specs.Borrow.{Bor}
 use Rattle.std.specs.Map.{lookup}
 use Rattle.std.specs.Str.{bytes_eq}
 use Rattle.std.specs.Option.{option_map_or}
-use Rattle.rmt_check.specs.declared.fields.Fields.{Fields}
+use Rattle.rmt_check.specs.declared.names.fields.Fields.{Fields}
 use Rattle.rmt_check.specs.declared.names.Names.TheInside.{Inside}
 use Rattle.rmt_check.specs.declared.source.Declared.{Declared}
 use Rattle.rmt_check.specs.declared.source.HeaderText.{HeaderText}
+use Rattle.rmt_check.specs.declared.source.TableText.{TableText}
 use Rattle.rmt_check.specs.declared.source.Source.{Source}
-use Rattle.rmt_check.specs.Names.{Owner, of_all, of_metadata, of_header, Named, own, metadata, header_names, action_names, table_names, list_names}
+use Rattle.rmt_check.specs.Names.{Owner, of_all, of_metadata, of_header, Named, own, metadata, header_names, action_names, table_names, ident_names, listed}
 use Rattle.rmt_check.specs.Numbering.{HasNumbers}
 
 -- A field is stored by a number for its owner in front of its own name: 0 for what every program has, 1 for the metadata,
@@ -28,8 +30,8 @@ owner_at zero = of_all
 owner_at (suc zero) = of_metadata
 owner_at (suc (suc n)) = of_header n
 
-abbrev pub key_in : ℕ × Bor (List ℕ) → Named
-key_in k = own (owner_at k.0) k.1.now
+abbrev pub named_at : ℕ × Bor (List ℕ) → Named
+named_at k = own (owner_at k.0) k.1.now
 
 -- a key as it is stored
 abbrev pub stored : ℕ × Bor (List ℕ) → List ℕ
@@ -57,12 +59,16 @@ keyed_intrinsic = (0 ∷ codes "in_port", 9) ∷ (0 ∷ codes "out_port", 9) ∷
 abbrev pub keyed_fields : Source → List Keyed
 keyed_fields s = keyed_intrinsic ++ keyed_from 2 s.headers ++ keyed_declared 1 (metadata s)
 
--- the number of the field that is stored so, and its width
-abbrev pub number_in : Fields → List ℕ → Option ℕ
-number_in f k = lookup (λ x. bytes_eq k (stored x)) f.numbers.entries
+-- of each table, the names of the actions of its list
+abbrev pub list_names : List TableText → List (List (List ℕ))
+list_names ts = map (λ (t : TableText). ident_names (listed t)) ts
 
-abbrev pub width_in : Fields → List ℕ → ℕ
-width_in f k = option_map_or (λ (n : ℕ). unwrap_or (slice_get f.widths.items n) 0) (number_in f k) 0
+-- the number of the field that is stored so, and its width
+abbrev pub stored_number : Fields → List ℕ → Option ℕ
+stored_number f k = lookup (λ x. bytes_eq k (stored x)) f.numbers.entries
+
+abbrev pub stored_width : Fields → List ℕ → ℕ
+stored_width f k = option_map_or (λ (n : ℕ). unwrap_or (slice_get f.widths.items n) 0) (stored_number f k) 0
 
 -- these are the fields, in their order
 pub record HasFields (f : Fields) (fields : List Keyed) : Type 0 where

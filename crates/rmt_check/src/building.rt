@@ -1,7 +1,6 @@
 //! Builds the program that a checked text means.
 
-ghost use Rattle.std.specs.Prelude.{◌≡◌, IfOk, IfErr};
-ghost use Rattle.rmt_lexer.specs.declared.fault.ProgramFault.TheVariants.{NoMemory};
+ghost use Rattle.std.specs.Prelude.{◌≡◌, IfOk};
 ghost use Rattle.rmt_check.specs.Meaning.{program_of};
 ghost use Rattle.rmt_check.specs.Sizes.{IsSized};
 
@@ -12,8 +11,7 @@ use crate::building::nodes::nodes_of;
 use crate::building::tables::tables_of;
 use crate::names::Names;
 use rmt_ast::program::Program;
-use rmt_lexer::fault::ProgramFault;
-use std::alloc::Global;
+use std::alloc::{AllocError, Global};
 
 mod actions;
 mod fields;
@@ -28,11 +26,10 @@ mod values;
 ///
 /// # Errors
 ///
-/// For want of memory alone.
-pub fn build(alloc: Global, names: &Names<'_>) -> Result<Program, ProgramFault>
+/// For want of memory.
+pub fn build(alloc: Global, names: &Names<'_>) -> Result<Program, AllocError>
     requires { IsSized names.now }
     ensures program { IfOk result (λ program. program ≡ program_of names.now) }
-    ensures err { IfErr result (λ fault. fault ≡ NoMemory) }
 {
     Ok(Program {
         fields: fields_of(alloc, names.source())?,

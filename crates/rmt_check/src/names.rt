@@ -1,22 +1,25 @@
 //! What the names of a program's text stand for.
 
-ghost use Rattle.std.specs.Prelude.{◌≡◌, find, IfOk, IfErr, option_copied, option_map};
+ghost use Rattle.std.specs.Prelude.{◌≡◌, find, IfOk, option_copied, option_map};
 ghost use Rattle.std.specs.Str.{bytes_eq};
 ghost use Rattle.rmt_check.specs.declared.source.ActionText.{ActionText};
 ghost use Rattle.rmt_check.specs.declared.source.TableText.{TableText};
 ghost use Rattle.rmt_check.specs.Names as words;
 ghost use Rattle.rmt_check.specs.Names.{number_of, field_place, is_field, named, width_of, header_names, action_names, table_names, ident_names, listed, listed_by, owner_of, params_of, selected};
-ghost use Rattle.rmt_check.specs.Standing.{key_in, owner_at};
-ghost use Rattle.rmt_lexer.specs.declared.fault.ProgramFault.TheVariants.{NoMemory};
+ghost use Rattle.rmt_check.specs.Standing.{named_at, owner_at};
 
-use crate::fields::{FIRST_HEADER, FieldKey, Fields, INTRINSIC, METADATA};
-use crate::name_lists;
-use crate::numbers::Numbers;
+use crate::names::fields::{FIRST_HEADER, FieldKey, Fields, INTRINSIC, METADATA};
+use crate::names::numbers::Numbers;
 use crate::source::{ActionText, Declared, FieldText, HeaderText, Ident, OwnerText, Source};
 use rmt_bits::sequence::Sequence;
-use rmt_lexer::fault::ProgramFault;
-use std::alloc::Global;
+use std::alloc::{AllocError, Global};
 use std::marker::Model;
+
+pub mod fields;
+pub mod labels;
+pub mod lists;
+pub mod numbers;
+pub mod params;
 
 /// The names that a program's text declares, for look-ups. Contracts see it as the text.
 #[derive(Drop)]
@@ -44,20 +47,15 @@ impl<'a> Model for Names<'a> {
 }
 
 impl<'a> Names<'a> {
-    /// The names of a text.
-    ///
-    /// # Errors
-    ///
-    /// For want of memory alone.
-    pub fn of(alloc: Global, source: &'a Source) -> Result<Names<'a>, ProgramFault>
+    /// The names of a text. The only fault is want of memory.
+    pub fn of(alloc: Global, source: &'a Source) -> Result<Names<'a>, AllocError>
         ensures names { IfOk result (λ n. n ≡ source.now) }
-        ensures fault { IfErr result (λ e. e ≡ NoMemory) }
     {
         let fields = Fields::of(alloc, source)?;
-        let headers = name_lists::headers(alloc, source.headers.as_slice())?;
-        let actions = name_lists::actions(alloc, source.actions.as_slice())?;
-        let tables = name_lists::tables(alloc, source.tables.as_slice())?;
-        let lists = name_lists::lists(alloc, source.tables.as_slice())?;
+        let headers = lists::names_of(alloc, source.headers.as_slice())?;
+        let actions = lists::names_of(alloc, source.actions.as_slice())?;
+        let tables = lists::names_of(alloc, source.tables.as_slice())?;
+        let lists = lists::lists(alloc, source.tables.as_slice())?;
         let nothing = Numbers::of(alloc, Vec::new(alloc))?;
         Ok(Names {
             source,
@@ -99,14 +97,14 @@ impl<'a> Names<'a> {
 
     /// The key of a field that is named.
     pub fn key<'b>(&self, field: &'b FieldText) -> FieldKey<'b>
-        ensures { key_in result ≡ named self.now field.now }
+        ensures { named_at result ≡ named self.now field.now }
     {
         (self.owner(&field.owner), field.ident.name.as_slice())
     }
 
     /// The key of a field that a header names as its own.
     pub fn own_key<'b>(&self, header: &HeaderText, ident: &'b Ident) -> FieldKey<'b>
-        ensures { key_in result ≡ selected self.now header.now ident.now }
+        ensures { named_at result ≡ selected self.now header.now ident.now }
     {
         let owner = self.header_owner(header.ident.name.as_slice());
         (owner, ident.name.as_slice())
@@ -114,14 +112,14 @@ impl<'a> Names<'a> {
 
     /// The number of the field with a key.
     pub fn field(&self, key: FieldKey<'_>) -> Option<usize>
-        ensures { result ≡ field_place self.now (key_in key.entry) }
+        ensures { result ≡ field_place self.now (named_at key.entry) }
     {
         self.fields.number(key)
     }
 
     /// The width of the field with a key, and 0 for a key that is none.
     pub fn width(&self, key: FieldKey<'_>) -> u128
-        ensures { result ≡ width_of self.now (key_in key.entry) }
+        ensures { result ≡ width_of self.now (named_at key.entry) }
     {
         self.fields.width(key)
     }
@@ -177,7 +175,7 @@ impl<'a> Names<'a> {
 
     /// Whether there is a field with a key.
     pub fn knows_field(&self, key: FieldKey<'_>) -> bool
-        ensures { result ≡ is_field self.now (key_in key.entry) }
+        ensures { result ≡ is_field self.now (named_at key.entry) }
     {
         self.field(key).is_some()
     }

@@ -6,28 +6,28 @@ use rmt_bits::sequence::Sequence;
 use rmt_lexer::place::Place;
 
 /// A name and its place.
-#[derive(Debug, Drop)]
+#[derive(Drop)]
 pub struct Ident {
     pub place: Place,
     pub name: Name,
 }
 
 /// A number and its place.
-#[derive(Clone, Copy, Debug)]
+#[derive(Clone, Copy)]
 pub struct Number {
     pub place: Place,
     pub value: u128,
 }
 
 /// A name with a width: a field of a header or of the metadata, or a parameter.
-#[derive(Debug, Drop)]
+#[derive(Drop)]
 pub struct Declared {
     pub ident: Ident,
     pub width: Number,
 }
 
 /// Whose a field is.
-#[derive(Debug, Drop)]
+#[derive(Drop)]
 pub enum OwnerText {
     /// Every program has it.
     Intrinsic,
@@ -36,7 +36,7 @@ pub enum OwnerText {
 }
 
 /// A field that is named.
-#[derive(Debug, Drop)]
+#[derive(Drop)]
 pub struct FieldText {
     /// Of its first token.
     pub place: Place,
@@ -46,28 +46,28 @@ pub struct FieldText {
 }
 
 /// A value that a case compares, with its mask.
-#[derive(Clone, Copy, Debug)]
+#[derive(Clone, Copy)]
 pub struct ValueText {
     pub value: Number,
     pub mask: Option<Number>,
 }
 
 /// Where a header goes on.
-#[derive(Debug, Drop)]
+#[derive(Drop)]
 pub enum TargetText {
     Header(Ident),
     Accept,
     Reject,
 }
 
-#[derive(Debug, Drop)]
+#[derive(Drop)]
 pub struct CaseText {
     pub values: Sequence<ValueText>,
     pub target: TargetText,
 }
 
 /// A part of a header behind its fields: as many bytes as a field's value times a unit, less a base.
-#[derive(Debug, Drop)]
+#[derive(Drop)]
 pub struct TailText {
     /// Of the word `tail`.
     pub place: Place,
@@ -80,7 +80,7 @@ pub struct TailText {
 }
 
 /// A header. One with a plain target selects by nothing and has no case.
-#[derive(Debug, Drop)]
+#[derive(Drop)]
 pub struct HeaderText {
     pub ident: Ident,
     pub fields: Sequence<Declared>,
@@ -90,7 +90,7 @@ pub struct HeaderText {
     pub other: TargetText,
 }
 
-#[derive(Debug, Drop)]
+#[derive(Drop)]
 pub struct MetaText {
     /// Of the word `meta`.
     pub place: Place,
@@ -98,7 +98,7 @@ pub struct MetaText {
 }
 
 /// An operand.
-#[derive(Debug, Drop)]
+#[derive(Drop)]
 pub enum LeafText {
     Field(FieldText),
     Param(Ident),
@@ -106,26 +106,26 @@ pub enum LeafText {
 }
 
 /// An operator and its place.
-#[derive(Clone, Copy, Debug)]
+#[derive(Clone, Copy)]
 pub struct Sign {
     pub place: Place,
     pub op: Op,
 }
 
 /// What is assigned: one operand, or two with the operator between them.
-#[derive(Debug, Drop)]
+#[derive(Drop)]
 pub struct ExprText {
     pub left: LeafText,
     pub right: Option<(Sign, LeafText)>,
 }
 
-#[derive(Debug, Drop)]
+#[derive(Drop)]
 pub struct AssignText {
     pub dest: FieldText,
     pub expr: ExprText,
 }
 
-#[derive(Debug, Drop)]
+#[derive(Drop)]
 pub struct ActionText {
     pub ident: Ident,
     pub params: Sequence<Declared>,
@@ -133,7 +133,7 @@ pub struct ActionText {
 }
 
 /// The key of a table and what goes with it.
-#[derive(Debug, Drop)]
+#[derive(Drop)]
 pub struct KeyText {
     pub kind: Kind,
     pub fields: Sequence<FieldText>,
@@ -142,7 +142,7 @@ pub struct KeyText {
     pub counted: bool,
 }
 
-#[derive(Debug, Drop)]
+#[derive(Drop)]
 pub struct TableText {
     pub ident: Ident,
     pub key: Option<KeyText>,
@@ -151,7 +151,7 @@ pub struct TableText {
 }
 
 /// For which outcomes an arm of an `apply` stands.
-#[derive(Debug, Drop)]
+#[derive(Drop)]
 pub enum ArmText {
     Hit,
     Miss,
@@ -160,13 +160,13 @@ pub enum ArmText {
 
 /// The arm that a node stands in: which one of which node, from 0 on. Of an `if` the first arm is its block,
 /// the second its `else`.
-#[derive(Clone, Copy, Debug)]
+#[derive(Clone, Copy)]
 pub struct Under {
     pub parent: usize,
     pub arm: usize,
 }
 
-#[derive(Debug, Drop)]
+#[derive(Drop)]
 pub enum WhatText {
     Apply {
         table: Ident,
@@ -180,7 +180,7 @@ pub enum WhatText {
 }
 
 /// An `apply` or an `if`.
-#[derive(Debug, Drop)]
+#[derive(Drop)]
 pub struct NodeText {
     /// Of its word.
     pub place: Place,
@@ -189,7 +189,7 @@ pub struct NodeText {
 }
 
 /// The parts of a program's text, each kind in the order of the text.
-#[derive(Debug, Drop)]
+#[derive(Drop)]
 pub struct Source {
     pub headers: Sequence<HeaderText>,
     pub metas: Sequence<MetaText>,

@@ -1,23 +1,22 @@
 //! Actions.
 
-ghost use Rattle.std.specs.Prelude.{◌≡◌, map, IfOk, IfErr};
-ghost use Rattle.rmt_lexer.specs.declared.fault.ProgramFault.TheVariants.{NoMemory};
+ghost use Rattle.std.specs.Prelude.{◌≡◌, map, IfOk};
 ghost use Rattle.rmt_check.specs.declared.source.Declared.{Declared};
 ghost use Rattle.rmt_check.specs.Meaning.{leaf_of, expr_of, assign_of, action_of};
 ghost use Rattle.rmt_check.specs.Sizes.{AreNarrow, IsSized, IsSizedAction};
 
 use crate::building::known::{field_number, param_number};
 use crate::names::Names;
-use crate::reading_words::copy_name;
+use crate::names::params::ActionNames;
+use crate::reading::words::copy_name;
 use crate::source::{ActionText, AssignText, Declared, ExprText, LeafText};
 use rmt_ast::program::{Action, Assign, Expr, Leaf};
 use rmt_bits::answer::Bytes;
 use rmt_bits::sequence::Sequence;
-use rmt_lexer::fault::ProgramFault;
-use std::alloc::Global;
+use std::alloc::{AllocError, Global};
 
 /// An operand of an assignment of this action.
-fn leaf_of(names: &Names<'_>, action: &ActionText, leaf: &LeafText) -> Leaf
+fn leaf_of(names: &Names<'_>, action: &ActionNames<'_>, leaf: &LeafText) -> Leaf
     requires sized { IsSized names.now }
     requires action { IsSizedAction action.now }
     ensures { result ≡ leaf_of names.now action.now leaf.now }
@@ -29,7 +28,7 @@ fn leaf_of(names: &Names<'_>, action: &ActionText, leaf: &LeafText) -> Leaf
     }
 }
 
-fn expr_of(names: &Names<'_>, action: &ActionText, expr: &ExprText) -> Expr
+fn expr_of(names: &Names<'_>, action: &ActionNames<'_>, expr: &ExprText) -> Expr
     requires sized { IsSized names.now }
     requires action { IsSizedAction action.now }
     ensures { result ≡ expr_of names.now action.now expr.now.left expr.now.right }
@@ -41,7 +40,7 @@ fn expr_of(names: &Names<'_>, action: &ActionText, expr: &ExprText) -> Expr
     }
 }
 
-fn assign_of(names: &Names<'_>, action: &ActionText, assign: &AssignText) -> Assign
+fn assign_of(names: &Names<'_>, action: &ActionNames<'_>, assign: &AssignText) -> Assign
     requires sized { IsSized names.now }
     requires action { IsSizedAction action.now }
     ensures { result ≡ assign_of names.now action.now assign.now }
@@ -53,10 +52,9 @@ fn assign_of(names: &Names<'_>, action: &ActionText, assign: &AssignText) -> Ass
 }
 
 /// The widths of parameters, each of at most 128 bits.
-fn widths_of(alloc: Global, params: &[Declared]) -> Result<Bytes, ProgramFault>
+fn widths_of(alloc: Global, params: &[Declared]) -> Result<Bytes, AllocError>
     requires { AreNarrow params.now }
-    ensures widths { IfOk result (λ widths. widths ≡ map (λ (d : Declared). d.width.value) params.now) }
-    ensures err { IfErr result (λ fault. fault ≡ NoMemory) }
+    ensures { IfOk result (λ widths. widths ≡ map (λ (d : Declared). d.width.value) params.now) }
 {
     let mut widths = Sequence::new(alloc);
     for param in params {
@@ -68,38 +66,36 @@ fn widths_of(alloc: Global, params: &[Declared]) -> Result<Bytes, ProgramFault>
 fn assigns_of(
     alloc: Global,
     names: &Names<'_>,
-    action: &ActionText,
-) -> Result<Sequence<Assign>, ProgramFault>
+    action: &ActionNames<'_>,
+) -> Result<Sequence<Assign>, AllocError>
     requires sized { IsSized names.now }
     requires action { IsSizedAction action.now }
-    ensures assigns { IfOk result (λ assigns. assigns ≡ map (assign_of names.now action.now) action.now.assigns) }
-    ensures err { IfErr result (λ fault. fault ≡ NoMemory) }
+    ensures { IfOk result (λ assigns. assigns ≡ map (assign_of names.now action.now) action.now.assigns) }
 {
     let mut assigns = Sequence::new(alloc);
-    for assign in action.assigns.as_slice() {
+    for assign in action.action().assigns.as_slice() {
         assigns.push(assign_of(names, action, assign))?;
     }
     Ok(assigns)
 }
 
-fn action_of(alloc: Global, names: &Names<'_>, action: &ActionText) -> Result<Action, ProgramFault>
+fn action_of(alloc: Global, names: &Names<'_>, action: &ActionText) -> Result<Action, AllocError>
     requires sized { IsSized names.now }
     requires action { IsSizedAction action.now }
-    ensures action { IfOk result (λ built. built ≡ action_of names.now action.now) }
-    ensures err { IfErr result (λ fault. fault ≡ NoMemory) }
+    ensures { IfOk result (λ built. built ≡ action_of names.now action.now) }
 {
+    let own = ActionNames::of(alloc, action)?;
     Ok(Action {
         name: copy_name(alloc, &action.ident.name)?,
         params: widths_of(alloc, action.params.as_slice())?,
-        assigns: assigns_of(alloc, names, action)?,
+        assigns: assigns_of(alloc, names, &own)?,
     })
 }
 
 /// The actions of a text.
-pub fn actions_of(alloc: Global, names: &Names<'_>) -> Result<Sequence<Action>, ProgramFault>
+pub fn actions_of(alloc: Global, names: &Names<'_>) -> Result<Sequence<Action>, AllocError>
     requires { IsSized names.now }
-    ensures actions { IfOk result (λ actions. actions ≡ map (action_of names.now) names.now.actions) }
-    ensures err { IfErr result (λ fault. fault ≡ NoMemory) }
+    ensures { IfOk result (λ actions. actions ≡ map (action_of names.now) names.now.actions) }
 {
     let mut actions = Sequence::new(alloc);
     for action in names.source().actions.as_slice() {

@@ -1,8 +1,7 @@
 //! Fields.
 
-ghost use Rattle.std.specs.Prelude.{◌≡◌, ◌≤◌, ◌++◌, ◌∷◌, [], All, OnOk, IfOk, IfErr, codes, map};
+ghost use Rattle.std.specs.Prelude.{◌≡◌, ◌≤◌, ◌++◌, ◌∷◌, [], All, OnOk, IfOk, codes, map};
 ghost use Rattle.std.specs.List.{flat_map};
-ghost use Rattle.rmt_lexer.specs.declared.fault.ProgramFault.TheVariants.{NoMemory};
 ghost use Rattle.rmt_check.specs.declared.source.MetaText.{MetaText};
 ghost use Rattle.rmt_check.specs.Names.{printed, known_fields, header_fields, fields_of};
 ghost use Rattle.rmt_check.specs.Meaning.{field_of};
@@ -12,13 +11,11 @@ use crate::source::{Declared, HeaderText, MetaText, Source};
 use rmt_ast::name::Name;
 use rmt_ast::program::Field;
 use rmt_bits::sequence::Sequence;
-use rmt_lexer::fault::ProgramFault;
-use std::alloc::Global;
+use std::alloc::{AllocError, Global};
 
 /// The name by which a field of a header, or of the metadata, is printed.
-fn printed(alloc: Global, owner: &[u8], name: &[u8]) -> Result<Vec<u8>, ProgramFault>
-    ensures printed { IfOk result (λ whole. whole.items ≡ printed owner.now name.now) }
-    ensures err { IfErr result (λ fault. fault ≡ NoMemory) }
+fn printed(alloc: Global, owner: &[u8], name: &[u8]) -> Result<Vec<u8>, AllocError>
+    ensures { IfOk result (λ whole. whole.items ≡ printed owner.now name.now) }
 {
     let mut whole = Vec::new(alloc);
     whole.extend_from_slice(owner)?;
@@ -28,9 +25,8 @@ fn printed(alloc: Global, owner: &[u8], name: &[u8]) -> Result<Vec<u8>, ProgramF
 }
 
 /// Adds a field of that name and width.
-fn add(fields: &mut Vec<Field>, name: Vec<u8>, width: u8) -> Result<(), ProgramFault>
-    ensures added { OnOk result (fields.new.items ≡ fields.old.items ++ field_of (name.items, width) ∷ []) }
-    ensures err { IfErr result (λ fault. fault ≡ NoMemory) }
+fn add(fields: &mut Vec<Field>, name: Vec<u8>, width: u8) -> Result<(), AllocError>
+    ensures { OnOk result (fields.new.items ≡ fields.old.items ++ field_of (name.items, width) ∷ []) }
 {
     fields.push(Field {
         name: Name::from_vec(name),
@@ -45,18 +41,16 @@ fn add_copy(
     fields: &mut Vec<Field>,
     name: &[u8],
     width: u8,
-) -> Result<(), ProgramFault>
-    ensures added { OnOk result (fields.new.items ≡ fields.old.items ++ field_of (name.now, width) ∷ []) }
-    ensures err { IfErr result (λ fault. fault ≡ NoMemory) }
+) -> Result<(), AllocError>
+    ensures { OnOk result (fields.new.items ≡ fields.old.items ++ field_of (name.now, width) ∷ []) }
 {
     add(fields, Vec::from_slice(alloc, name)?, width)
 }
 
 /// Adds the fields that every program has.
-fn add_intrinsic(alloc: Global, fields: &mut Vec<Field>) -> Result<(), ProgramFault>
-    ensures added { OnOk result (fields.new.items
+fn add_intrinsic(alloc: Global, fields: &mut Vec<Field>) -> Result<(), AllocError>
+    ensures { OnOk result (fields.new.items
         ≡ fields.old.items ++ map field_of ((codes "in_port", 9) ∷ (codes "out_port", 9) ∷ (codes "drop", 1) ∷ [])) }
-    ensures err { IfErr result (λ fault. fault ≡ NoMemory) }
 {
     add_copy(alloc, fields, b"in_port", 9)?;
     add_copy(alloc, fields, b"out_port", 9)?;
@@ -70,10 +64,9 @@ fn add_declared(
     fields: &mut Vec<Field>,
     owner: &[u8],
     declared: &[Declared],
-) -> Result<(), ProgramFault>
+) -> Result<(), AllocError>
     requires { AreNarrow declared.now }
-    ensures added { OnOk result (fields.new.items ≡ fields.old.items ++ map field_of (known_fields owner.now declared.now)) }
-    ensures err { IfErr result (λ fault. fault ≡ NoMemory) }
+    ensures { OnOk result (fields.new.items ≡ fields.old.items ++ map field_of (known_fields owner.now declared.now)) }
 {
     for field in declared {
         let name = printed(alloc, owner, field.ident.name.as_slice())?;
@@ -83,14 +76,9 @@ fn add_declared(
 }
 
 /// Adds a header's valid and its fields.
-fn add_header(
-    alloc: Global,
-    fields: &mut Vec<Field>,
-    header: &HeaderText,
-) -> Result<(), ProgramFault>
+fn add_header(alloc: Global, fields: &mut Vec<Field>, header: &HeaderText) -> Result<(), AllocError>
     requires { IsSizedHeader header.now }
-    ensures added { OnOk result (fields.new.items ≡ fields.old.items ++ map field_of (header_fields header.now)) }
-    ensures err { IfErr result (λ fault. fault ≡ NoMemory) }
+    ensures { OnOk result (fields.new.items ≡ fields.old.items ++ map field_of (header_fields header.now)) }
 {
     let name = header.ident.name.as_slice();
     add(fields, printed(alloc, name, b"valid")?, 1)?;
@@ -101,10 +89,9 @@ fn add_headers(
     alloc: Global,
     fields: &mut Vec<Field>,
     headers: &[HeaderText],
-) -> Result<(), ProgramFault>
+) -> Result<(), AllocError>
     requires { All IsSizedHeader headers.now }
-    ensures added { OnOk result (fields.new.items ≡ fields.old.items ++ map field_of (flat_map header_fields headers.now)) }
-    ensures err { IfErr result (λ fault. fault ≡ NoMemory) }
+    ensures { OnOk result (fields.new.items ≡ fields.old.items ++ map field_of (flat_map header_fields headers.now)) }
 {
     for header in headers {
         add_header(alloc, fields, header)?;
@@ -112,11 +99,10 @@ fn add_headers(
     Ok(())
 }
 
-fn add_metas(alloc: Global, fields: &mut Vec<Field>, metas: &[MetaText]) -> Result<(), ProgramFault>
+fn add_metas(alloc: Global, fields: &mut Vec<Field>, metas: &[MetaText]) -> Result<(), AllocError>
     requires { All (λ (m : MetaText). AreNarrow m.fields) metas.now }
-    ensures added { OnOk result (fields.new.items
+    ensures { OnOk result (fields.new.items
         ≡ fields.old.items ++ map field_of (known_fields (codes "meta") (flat_map (λ (m : MetaText). m.fields) metas.now))) }
-    ensures err { IfErr result (λ fault. fault ≡ NoMemory) }
 {
     for meta in metas {
         add_declared(alloc, fields, b"meta", meta.fields.as_slice())?;
@@ -125,10 +111,9 @@ fn add_metas(alloc: Global, fields: &mut Vec<Field>, metas: &[MetaText]) -> Resu
 }
 
 /// The fields of a text.
-pub fn fields_of(alloc: Global, source: &Source) -> Result<Sequence<Field>, ProgramFault>
+pub fn fields_of(alloc: Global, source: &Source) -> Result<Sequence<Field>, AllocError>
     requires { IsSized source.now }
-    ensures fields { IfOk result (λ fields. fields ≡ map field_of (fields_of source.now)) }
-    ensures err { IfErr result (λ fault. fault ≡ NoMemory) }
+    ensures { IfOk result (λ fields. fields ≡ map field_of (fields_of source.now)) }
 {
     let mut fields = Vec::new(alloc);
     add_intrinsic(alloc, &mut fields)?;

@@ -1,26 +1,23 @@
 //! Headers.
 
-ghost use Rattle.std.specs.Prelude.{◌≡◌, ◌≤◌, ◌<◌, ◌+◌, ◌^◌, All, IfOk, IfErr, length, map, option_map};
+ghost use Rattle.std.specs.Prelude.{◌≡◌, ◌≤◌, ◌<◌, ◌+◌, ◌^◌, IfOk, map, option_map, zip};
 ghost use Rattle.std.specs.List.{range_with_len};
-ghost use Rattle.rmt_lexer.specs.declared.fault.ProgramFault.TheVariants.{NoMemory};
 ghost use Rattle.rmt_check.specs.declared.source.Ident.{Ident};
-ghost use Rattle.rmt_check.specs.Names.{selected};
+ghost use Rattle.rmt_check.specs.declared.source.ValueText.{ValueText};
+ghost use Rattle.rmt_check.specs.Names.{selected, width_of};
 ghost use Rattle.rmt_check.specs.Rules as rules;
-ghost use Rattle.rmt_check.specs.Meaning.{case_of, field_number, header_from, headers_from, tail_of};
-ghost use Rattle.rmt_check.specs.Building.{case_with, tests_for};
+ghost use Rattle.rmt_check.specs.Meaning.{case_of, field_number, header_from, headers_from, tail_of, test_of};
 ghost use Rattle.rmt_check.specs.Sizes.{IsSized, IsSizedHeader, IsSizedTail};
 
 use crate::building::known::{number_at, target_of};
-use crate::building::values::test_of;
+use crate::building::values::test_at;
 use crate::names::Names;
-use crate::reading_words::copy_name;
-use crate::selects::select_widths;
-use crate::source::{CaseText, Declared, HeaderText, TailText, ValueText};
+use crate::reading::words::copy_name;
+use crate::source::{CaseText, HeaderText, TailText, ValueText};
 use rmt_ast::program::{Case, Header, Tail, Test};
 use rmt_bits::answer::Numbers;
 use rmt_bits::sequence::Sequence;
-use rmt_lexer::fault::ProgramFault;
-use std::alloc::Global;
+use std::alloc::{AllocError, Global};
 
 /// The bits of a header's fields, of which there are at most 512.
 fn bits_of(header: &HeaderText) -> u128
@@ -36,10 +33,9 @@ fn bits_of(header: &HeaderText) -> u128
 }
 
 /// So many numbers, one after another.
-fn numbers_from(alloc: Global, first: u32, count: usize) -> Result<Numbers, ProgramFault>
+fn numbers_from(alloc: Global, first: u32, count: usize) -> Result<Numbers, AllocError>
     requires { first + count < 2 ^ 32 }
-    ensures numbers { IfOk result (λ numbers. numbers ≡ range_with_len first count) }
-    ensures err { IfErr result (λ fault. fault ≡ NoMemory) }
+    ensures { IfOk result (λ numbers. numbers ≡ range_with_len first count) }
 {
     let mut numbers = Sequence::new(alloc);
     for at in 0..count {
@@ -53,11 +49,10 @@ fn select_numbers(
     alloc: Global,
     names: &Names<'_>,
     header: &HeaderText,
-) -> Result<Numbers, ProgramFault>
+) -> Result<Numbers, AllocError>
     requires { IsSized names.now }
-    ensures numbers { IfOk result (λ numbers. numbers
+    ensures { IfOk result (λ numbers. numbers
         ≡ map (λ (i : Ident). field_number names.now (selected names.now header.now i)) header.now.select) }
-    ensures err { IfErr result (λ fault. fault ≡ NoMemory) }
 {
     let mut numbers = Sequence::new(alloc);
     for one in header.select.as_slice() {
@@ -66,70 +61,53 @@ fn select_numbers(
     Ok(numbers)
 }
 
-/// Tests of values, each of a field with the width beside it, at most 128; as far as both go.
+/// The tests of values for the fields of a header's select, as far as both go.
 fn tests_of(
     alloc: Global,
-    widths: &[u128],
+    names: &Names<'_>,
+    header: &HeaderText,
     values: &[ValueText],
-) -> Result<Sequence<Test>, ProgramFault>
-    requires { All (λ w. w ≤ 128) widths.now }
-    ensures tests { IfOk result (λ tests. tests ≡ tests_for widths.now values.now) }
-    ensures err { IfErr result (λ fault. fault ≡ NoMemory) }
+) -> Result<Vec<Test>, AllocError>
+    requires { IsSized names.now }
+    ensures { IfOk result (λ tests. tests.items
+        ≡ map (λ (x : Ident × ValueText). test_of (width_of names.now (selected names.now header.now x.0)) x.1) (zip header.now.select values.now)) }
 {
-    let mut tests = Sequence::new(alloc);
-    for at in 0..widths.len().min(values.len()) {
-        tests.push(test_of(widths[at], &values[at]))?;
-    }
-    Ok(tests)
+    let idents = header.select.as_slice();
+    idents
+        .iter()
+        .zip(values)
+        .map(|(ident, value)| test_at(names, names.own_key(header, ident), value))
+        .collect(alloc)
 }
 
-/// A case of a header whose select has these widths, each of at most 128 bits.
 fn case_of(
     alloc: Global,
     names: &Names<'_>,
-    widths: &[u128],
+    header: &HeaderText,
     case: &CaseText,
-) -> Result<Case, ProgramFault>
-    requires sized { IsSized names.now }
-    requires widths { All (λ w. w ≤ 128) widths.now }
-    ensures case { IfOk result (λ built. built ≡ case_with names.now widths.now case.now) }
-    ensures err { IfErr result (λ fault. fault ≡ NoMemory) }
+) -> Result<Case, AllocError>
+    requires { IsSized names.now }
+    ensures { IfOk result (λ built. built ≡ case_of names.now header.now case.now) }
 {
     Ok(Case {
-        tests: tests_of(alloc, widths, case.values.as_slice())?,
+        tests: Sequence::from_vec(tests_of(alloc, names, header, case.values.as_slice())?),
         target: target_of(names, &case.target),
     })
-}
-
-fn cases_with(
-    alloc: Global,
-    names: &Names<'_>,
-    widths: &[u128],
-    cases: &[CaseText],
-) -> Result<Sequence<Case>, ProgramFault>
-    requires sized { IsSized names.now }
-    requires widths { All (λ w. w ≤ 128) widths.now }
-    ensures cases { IfOk result (λ built. built ≡ map (case_with names.now widths.now) cases.now) }
-    ensures err { IfErr result (λ fault. fault ≡ NoMemory) }
-{
-    let mut built = Sequence::new(alloc);
-    for case in cases {
-        built.push(case_of(alloc, names, widths, case)?)?;
-    }
-    Ok(built)
 }
 
 fn cases_of(
     alloc: Global,
     names: &Names<'_>,
     header: &HeaderText,
-) -> Result<Sequence<Case>, ProgramFault>
+) -> Result<Sequence<Case>, AllocError>
     requires { IsSized names.now }
-    ensures cases { IfOk result (λ cases. cases ≡ map (case_of names.now header.now) header.now.cases) }
-    ensures err { IfErr result (λ fault. fault ≡ NoMemory) }
+    ensures { IfOk result (λ cases. cases ≡ map (case_of names.now header.now) header.now.cases) }
 {
-    let widths = select_widths(alloc, names, header)?;
-    cases_with(alloc, names, widths.as_slice(), header.cases.as_slice())
+    let mut cases = Sequence::new(alloc);
+    for case in header.cases.as_slice() {
+        cases.push(case_of(alloc, names, header, case)?)?;
+    }
+    Ok(cases)
 }
 
 /// The tail of a header whose text is within the bounds of the rules.
@@ -163,12 +141,11 @@ fn header_from(
     names: &Names<'_>,
     valid: u32,
     header: &HeaderText,
-) -> Result<Header, ProgramFault>
+) -> Result<Header, AllocError>
     requires sized { IsSized names.now }
     requires header { IsSizedHeader header.now }
     requires valid { valid < 2 ^ 16 }
-    ensures header { IfOk result (λ built. built ≡ header_from names.now valid header.now) }
-    ensures err { IfErr result (λ fault. fault ≡ NoMemory) }
+    ensures { IfOk result (λ built. built ≡ header_from names.now valid header.now) }
 {
     Ok(Header {
         name: copy_name(alloc, &header.ident.name)?,
@@ -183,10 +160,9 @@ fn header_from(
 }
 
 /// The headers of a text.
-pub fn headers_of(alloc: Global, names: &Names<'_>) -> Result<Sequence<Header>, ProgramFault>
+pub fn headers_of(alloc: Global, names: &Names<'_>) -> Result<Sequence<Header>, AllocError>
     requires { IsSized names.now }
-    ensures headers { IfOk result (λ headers. headers ≡ headers_from names.now 3 names.now.headers) }
-    ensures err { IfErr result (λ fault. fault ≡ NoMemory) }
+    ensures { IfOk result (λ headers. headers ≡ headers_from names.now 3 names.now.headers) }
 {
     let mut headers = Sequence::new(alloc);
     let mut valid: u32 = 3;

@@ -1,15 +1,15 @@
 //! Numbers of names that are known, as they stand in a program.
 
-ghost use Rattle.std.specs.Prelude.{◌≡◌, ◌<◌, ◌≤◌, ◌^◌, length, position, unwrap_or};
-ghost use Rattle.std.specs.Str.{bytes_eq};
+ghost use Rattle.std.specs.Prelude.{◌≡◌, ◌<◌, ◌≤◌, ◌^◌, length, unwrap_or};
 ghost use Rattle.rmt_check.specs.Names.{param_names, header_names, named, table_names};
 ghost use Rattle.rmt_check.specs.Meaning.{index_of, field_number, action_number, target_of};
 ghost use Rattle.rmt_check.specs.Sizes.{IsSized};
-ghost use Rattle.rmt_check.specs.Standing.{key_in};
+ghost use Rattle.rmt_check.specs.Standing.{named_at};
 
-use crate::fields::FieldKey;
 use crate::names::Names;
-use crate::source::{ActionText, Declared, FieldText, Ident, TargetText};
+use crate::names::fields::FieldKey;
+use crate::names::params::ActionNames;
+use crate::source::{FieldText, Ident, TargetText};
 use rmt_ast::program::Target;
 
 /// A number that was found, and 0 for none.
@@ -23,7 +23,7 @@ fn number_or_0(found: Option<usize>) -> u32
 /// The number of the field with a key.
 pub fn number_at(names: &Names<'_>, key: FieldKey<'_>) -> u32
     requires { IsSized names.now }
-    ensures { result ≡ field_number names.now (key_in key.entry) }
+    ensures { result ≡ field_number names.now (named_at key.entry) }
 {
     number_or_0(names.field(key))
 }
@@ -75,19 +75,11 @@ pub fn target_of(names: &Names<'_>, target: &TargetText) -> Target
     }
 }
 
-fn place_of_param(params: &[Declared], name: &[u8]) -> Option<usize>
-    ensures { result ≡ position (λ d. bytes_eq name.now d.ident.name) params.now }
-{
-    params
-        .iter()
-        .position(|param| name == param.ident.name.as_slice())
-}
-
 /// The number of a parameter of an action, of which there are at most 16.
-pub fn param_number(action: &ActionText, name: &[u8]) -> u32
+#[tactic(auto, using(crate::proofs::BuildingLaws::param_small))]
+pub fn param_number(action: &ActionNames<'_>, name: &[u8]) -> u32
     requires { length action.now.params ≤ 16 }
     ensures { result ≡ index_of (param_names action.now) name.now }
 {
-    let place = place_of_param(action.params.as_slice(), name);
-    number_or_0(place)
+    number_or_0(action.params().number(name))
 }

@@ -1,24 +1,22 @@
 //! The nodes of the control.
 
-ghost use Rattle.std.specs.Prelude.{◌≡◌, ◌≤◌, IfOk, IfErr, length, map, option_map};
-ghost use Rattle.rmt_lexer.specs.declared.fault.ProgramFault.TheVariants.{NoMemory};
+ghost use Rattle.std.specs.Prelude.{◌≡◌, ◌≤◌, IfOk, length, map, option_map};
 ghost use Rattle.rmt_check.specs.declared.source.NodeText.{NodeText};
 ghost use Rattle.rmt_check.specs.Names.{nodes_of};
 ghost use Rattle.rmt_check.specs.Meaning.{guard_of, node_of, what_of};
-ghost use Rattle.rmt_check.specs.Building.{arm_masks, gate_of};
+ghost use Rattle.rmt_check.specs.Building.{arm_masks};
 ghost use Rattle.rmt_check.specs.Naming.{IsUnder};
 ghost use Rattle.rmt_check.specs.Sizes.{IsSized};
 
 use crate::building::known::{field_number, table_number};
 use crate::building::outcomes::{all_arm_masks, mask_in};
-use crate::building::values::test_of;
-use crate::control;
+use crate::building::values::test_at;
 use crate::names::Names;
+use crate::rules::control;
 use crate::source::{FieldText, NodeText, Under, ValueText, WhatText};
 use rmt_ast::program::{Guard, Node, What};
 use rmt_bits::sequence::Sequence;
-use rmt_lexer::fault::ProgramFault;
-use std::alloc::Global;
+use std::alloc::{AllocError, Global};
 
 /// The outcomes for which a node runs that stands in this arm, where those of each arm of each node are given.
 fn mask_of(names: &Names<'_>, nodes: &[NodeText], masks: &[Sequence<u16>], under: &Under) -> u16
@@ -53,17 +51,6 @@ fn guard_of(
     }
 }
 
-/// The test of an `if`.
-fn gate_of(names: &Names<'_>, field: &FieldText, value: &ValueText) -> What
-    requires { IsSized names.now }
-    ensures { result ≡ gate_of names.now field.now value.now }
-{
-    What::Gate {
-        field: field_number(names, field),
-        test: test_of(names.width_of(field), value),
-    }
-}
-
 fn what_of(names: &Names<'_>, what: &WhatText) -> What
     requires { IsSized names.now }
     ensures { result ≡ what_of names.now what.now }
@@ -75,7 +62,10 @@ fn what_of(names: &Names<'_>, what: &WhatText) -> What
                 value: *value,
                 mask: *mask,
             };
-            gate_of(names, field, &value)
+            What::Gate {
+                field: field_number(names, field),
+                test: test_at(names, names.key(field), &value),
+            }
         }
     }
 }
@@ -94,10 +84,9 @@ fn node_of(names: &Names<'_>, nodes: &[NodeText], masks: &[Sequence<u16>], node:
 }
 
 /// The nodes of a text.
-pub fn nodes_of(alloc: Global, names: &Names<'_>) -> Result<Sequence<Node>, ProgramFault>
+pub fn nodes_of(alloc: Global, names: &Names<'_>) -> Result<Sequence<Node>, AllocError>
     requires { IsSized names.now }
-    ensures nodes { IfOk result (λ nodes. nodes ≡ map (node_of names.now) (nodes_of names.now)) }
-    ensures err { IfErr result (λ fault. fault ≡ NoMemory) }
+    ensures { IfOk result (λ nodes. nodes ≡ map (node_of names.now) (nodes_of names.now)) }
 {
     let texts = control::nodes_of(names.source());
     let masks = all_arm_masks(alloc, names, texts)?;

@@ -1,19 +1,17 @@
 //! The outcomes for which an arm runs, as bits: that of a miss is 1, and those of a hit are 2 to 15.
 
-ghost use Rattle.std.specs.Prelude.{◌≡◌, ◌≤◌, ◌<◌, ◌+◌, ◌^◌, ◌-◌, IfOk, IfErr, bit_and, length, map, slice_get, unwrap_or};
+ghost use Rattle.std.specs.Prelude.{◌≡◌, ◌≤◌, ◌<◌, ◌+◌, ◌^◌, ◌-◌, IfOk, bit_and, length, map, slice_get, unwrap_or};
 ghost use Rattle.std.specs.List.{range_with_len};
-ghost use Rattle.rmt_lexer.specs.declared.fault.ProgramFault.TheVariants.{NoMemory};
 ghost use Rattle.rmt_check.specs.declared.source.NodeText.{NodeText};
 ghost use Rattle.rmt_check.specs.Meaning.{arm_mask, index_of, mask_in, outcomes_of};
 ghost use Rattle.rmt_check.specs.Building.{arm_masks};
 ghost use Rattle.rmt_check.specs.Sizes.{IsSized};
 
 use crate::names::Names;
-use crate::numbers::Numbers;
+use crate::names::numbers::Numbers;
 use crate::source::{ArmText, NodeText, WhatText};
 use rmt_bits::sequence::Sequence;
-use rmt_lexer::fault::ProgramFault;
-use std::alloc::Global;
+use std::alloc::{AllocError, Global};
 
 /// The number of an action in a table's list, which has at most 14.
 #[tactic(auto, using(crate::proofs::Bounds::index_few))]
@@ -49,10 +47,9 @@ fn masks_of_arms(
     alloc: Global,
     list: &Numbers<'_>,
     arms: &[ArmText],
-) -> Result<Sequence<u16>, ProgramFault>
+) -> Result<Sequence<u16>, AllocError>
     requires { length list.now ≤ 14 }
-    ensures masks { IfOk result (λ masks. masks ≡ map (arm_mask list.now arms.now) (range_with_len 0 (length arms.now))) }
-    ensures err { IfErr result (λ fault. fault ≡ NoMemory) }
+    ensures { IfOk result (λ masks. masks ≡ map (arm_mask list.now arms.now) (range_with_len 0 (length arms.now))) }
 {
     let mut masks = Sequence::new(alloc);
     let mut earlier: u16 = 0;
@@ -65,14 +62,9 @@ fn masks_of_arms(
 }
 
 /// The outcomes for which each arm of a node runs; nothing of an `if`.
-fn arm_masks(
-    alloc: Global,
-    names: &Names<'_>,
-    node: &WhatText,
-) -> Result<Sequence<u16>, ProgramFault>
+fn arm_masks(alloc: Global, names: &Names<'_>, node: &WhatText) -> Result<Sequence<u16>, AllocError>
     requires { IsSized names.now }
-    ensures masks { IfOk result (λ masks. masks ≡ arm_masks names.now node.now) }
-    ensures err { IfErr result (λ fault. fault ≡ NoMemory) }
+    ensures { IfOk result (λ masks. masks ≡ arm_masks names.now node.now) }
 {
     match node {
         WhatText::Apply { table, arms } => {
@@ -88,10 +80,9 @@ pub fn all_arm_masks(
     alloc: Global,
     names: &Names<'_>,
     nodes: &[NodeText],
-) -> Result<Vec<Sequence<u16>>, ProgramFault>
+) -> Result<Vec<Sequence<u16>>, AllocError>
     requires { IsSized names.now }
-    ensures masks { IfOk result (λ masks. masks.items ≡ map (λ (n : NodeText). arm_masks names.now n.what) nodes.now) }
-    ensures err { IfErr result (λ fault. fault ≡ NoMemory) }
+    ensures { IfOk result (λ masks. masks.items ≡ map (λ (n : NodeText). arm_masks names.now n.what) nodes.now) }
 {
     let mut masks = Vec::new(alloc);
     for node in nodes {

@@ -1,7 +1,6 @@
 //! Tables.
 
-ghost use Rattle.std.specs.Prelude.{◌≡◌, IfOk, IfErr, map};
-ghost use Rattle.rmt_lexer.specs.declared.fault.ProgramFault.TheVariants.{NoMemory};
+ghost use Rattle.std.specs.Prelude.{◌≡◌, IfOk, map};
 ghost use Rattle.rmt_check.specs.declared.source.Number.{Number};
 ghost use Rattle.rmt_check.specs.declared.source.FieldText.{FieldText};
 ghost use Rattle.rmt_check.specs.Names.{named};
@@ -10,23 +9,21 @@ ghost use Rattle.rmt_check.specs.Sizes.{IsSized, IsSizedKey, IsSizedTable};
 
 use crate::building::known::{action_number, field_number};
 use crate::names::Names;
-use crate::reading_words::copy_name;
+use crate::reading::words::copy_name;
 use crate::source::{FieldText, Ident, KeyText, Number, TableText};
 use rmt_ast::program::{Kind, Table};
 use rmt_bits::answer::Numbers;
 use rmt_bits::sequence::Sequence;
-use rmt_lexer::fault::ProgramFault;
-use std::alloc::Global;
+use std::alloc::{AllocError, Global};
 
 /// The numbers of the fields of a key.
 fn key_numbers(
     alloc: Global,
     names: &Names<'_>,
     fields: &[FieldText],
-) -> Result<Numbers, ProgramFault>
+) -> Result<Numbers, AllocError>
     requires { IsSized names.now }
-    ensures numbers { IfOk result (λ numbers. numbers ≡ map (λ (f : FieldText). field_number names.now (named names.now f)) fields.now) }
-    ensures err { IfErr result (λ fault. fault ≡ NoMemory) }
+    ensures { IfOk result (λ numbers. numbers ≡ map (λ (f : FieldText). field_number names.now (named names.now f)) fields.now) }
 {
     let mut numbers = Sequence::new(alloc);
     for field in fields {
@@ -40,10 +37,9 @@ fn action_numbers(
     alloc: Global,
     names: &Names<'_>,
     actions: &[Ident],
-) -> Result<Numbers, ProgramFault>
+) -> Result<Numbers, AllocError>
     requires { IsSized names.now }
-    ensures numbers { IfOk result (λ numbers. numbers ≡ map (action_number names.now) actions.now) }
-    ensures err { IfErr result (λ fault. fault ≡ NoMemory) }
+    ensures { IfOk result (λ numbers. numbers ≡ map (action_number names.now) actions.now) }
 {
     let mut numbers = Sequence::new(alloc);
     for action in actions {
@@ -53,22 +49,16 @@ fn action_numbers(
 }
 
 /// The values of numbers.
-fn values_of(alloc: Global, numbers: &[Number]) -> Result<Sequence<u128>, ProgramFault>
-    ensures values { IfOk result (λ values. values ≡ map (λ (n : Number). n.value) numbers.now) }
-    ensures err { IfErr result (λ fault. fault ≡ NoMemory) }
+fn values_of(alloc: Global, numbers: &[Number]) -> Result<Vec<u128>, AllocError>
+    ensures { IfOk result (λ values. values.items ≡ map (λ (n : Number). n.value) numbers.now) }
 {
-    let mut values = Sequence::new(alloc);
-    for number in numbers {
-        values.push(number.value)?;
-    }
-    Ok(values)
+    numbers.iter().map(|number| number.value).collect(alloc)
 }
 
 /// A table without a key.
-fn keyless(alloc: Global, names: &Names<'_>, table: &TableText) -> Result<Table, ProgramFault>
+fn keyless(alloc: Global, names: &Names<'_>, table: &TableText) -> Result<Table, AllocError>
     requires { IsSized names.now }
-    ensures table { IfOk result (λ built. built ≡ table_with names.now table.now None) }
-    ensures err { IfErr result (λ fault. fault ≡ NoMemory) }
+    ensures { IfOk result (λ built. built ≡ table_with names.now table.now None) }
 {
     Ok(Table {
         name: copy_name(alloc, &table.ident.name)?,
@@ -76,7 +66,7 @@ fn keyless(alloc: Global, names: &Names<'_>, table: &TableText) -> Result<Table,
         key: Sequence::new(alloc),
         actions: Sequence::new(alloc),
         default: action_number(names, &table.default),
-        args: values_of(alloc, table.args.as_slice())?,
+        args: Sequence::from_vec(values_of(alloc, table.args.as_slice())?),
         size: 0,
         counted: false,
     })
@@ -88,11 +78,10 @@ fn keyed(
     names: &Names<'_>,
     table: &TableText,
     key: &KeyText,
-) -> Result<Table, ProgramFault>
+) -> Result<Table, AllocError>
     requires sized { IsSized names.now }
     requires key { IsSizedKey (Some key.now) }
-    ensures table { IfOk result (λ built. built ≡ table_with names.now table.now (Some key.now)) }
-    ensures err { IfErr result (λ fault. fault ≡ NoMemory) }
+    ensures { IfOk result (λ built. built ≡ table_with names.now table.now (Some key.now)) }
 {
     Ok(Table {
         name: copy_name(alloc, &table.ident.name)?,
@@ -100,17 +89,16 @@ fn keyed(
         key: key_numbers(alloc, names, key.fields.as_slice())?,
         actions: action_numbers(alloc, names, key.actions.as_slice())?,
         default: action_number(names, &table.default),
-        args: values_of(alloc, table.args.as_slice())?,
+        args: Sequence::from_vec(values_of(alloc, table.args.as_slice())?),
         size: key.size.value as u32,
         counted: key.counted,
     })
 }
 
-fn table_of(alloc: Global, names: &Names<'_>, table: &TableText) -> Result<Table, ProgramFault>
+fn table_of(alloc: Global, names: &Names<'_>, table: &TableText) -> Result<Table, AllocError>
     requires sized { IsSized names.now }
     requires table { IsSizedTable table.now }
-    ensures table { IfOk result (λ built. built ≡ table_of names.now table.now) }
-    ensures err { IfErr result (λ fault. fault ≡ NoMemory) }
+    ensures { IfOk result (λ built. built ≡ table_of names.now table.now) }
 {
     match &table.key {
         None => keyless(alloc, names, table),
@@ -119,10 +107,9 @@ fn table_of(alloc: Global, names: &Names<'_>, table: &TableText) -> Result<Table
 }
 
 /// The tables of a text.
-pub fn tables_of(alloc: Global, names: &Names<'_>) -> Result<Sequence<Table>, ProgramFault>
+pub fn tables_of(alloc: Global, names: &Names<'_>) -> Result<Sequence<Table>, AllocError>
     requires { IsSized names.now }
-    ensures tables { IfOk result (λ tables. tables ≡ map (table_of names.now) names.now.tables) }
-    ensures err { IfErr result (λ fault. fault ≡ NoMemory) }
+    ensures { IfOk result (λ tables. tables ≡ map (table_of names.now) names.now.tables) }
 {
     let mut tables = Sequence::new(alloc);
     for table in names.source().tables.as_slice() {

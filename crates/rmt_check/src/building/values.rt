@@ -1,8 +1,13 @@
 //! Tests of fields: values with the bits that count.
 
 ghost use Rattle.std.specs.Prelude.{◌≡◌, ◌≤◌};
+ghost use Rattle.rmt_check.specs.Names.{width_of};
 ghost use Rattle.rmt_check.specs.Meaning.{ones, test_of};
+ghost use Rattle.rmt_check.specs.Sizes.{IsSized};
+ghost use Rattle.rmt_check.specs.Standing.{named_at};
 
+use crate::names::Names;
+use crate::names::fields::FieldKey;
 use crate::source::ValueText;
 use rmt_ast::program::Test;
 
@@ -19,7 +24,7 @@ fn ones(width: u128) -> u128
 }
 
 /// A test of a field of `width` bits, at most 128: without a mask all of them count.
-pub fn test_of(width: u128, value: &ValueText) -> Test
+fn test_of(width: u128, value: &ValueText) -> Test
     requires { width ≤ 128 }
     ensures { result ≡ test_of width value.now }
 {
@@ -31,4 +36,12 @@ pub fn test_of(width: u128, value: &ValueText) -> Test
         value: value.value.value & mask,
         mask,
     }
+}
+
+/// A test of the field with a key.
+pub fn test_at(names: &Names<'_>, key: FieldKey<'_>, value: &ValueText) -> Test
+    requires { IsSized names.now }
+    ensures { result ≡ test_of (width_of names.now (named_at key.entry)) value.now }
+{
+    test_of(names.width(key), value)
 }

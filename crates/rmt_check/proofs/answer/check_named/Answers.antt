@@ -1,5 +1,5 @@
 use Rattle.std.proofs.lemmas.Result.{err_from_is_err_and}
-use Rattle.rmt_check.proofs.CheckingLaws.{built_answers, fault_answers, sized_where_kept}
+use Rattle.rmt_check.proofs.CheckingLaws.{fault_answers, sized_where_kept}
 use Rattle.rmt_check.proofs.answer.check_named.Goals as goal
 
 pub returns-in_err-check_rules : goal.returns-in_err-check_rules
@@ -9,6 +9,3 @@ returns-in_err-check_rules c =
 
 pub build-requires : goal.build-requires
 build-requires c = sized_where_kept c.args.names.now c.in_ok-check_rules.ensures c.requires
-
-pub returns : goal.returns
-returns c = built_answers c.args.names.now c.build.result c.in_ok-check_rules.ensures c.build.ensures.program c.build.ensures.err

@@ -3,7 +3,7 @@ use Rattle.std.specs.Prelude.{All}
 use Rattle.rmt_ast.specs.WellFormed.{IsProgram}
 use Rattle.rmt_check.specs.Naming.{IsPlainWord}
 use Rattle.rmt_check.specs.Reading.{source_of}
-use Rattle.rmt_check.proofs.LawTokens.{tokens_plain}
+use Rattle.rmt_check.proofs.texts.WordLaws.{tokens_plain}
 use Rattle.rmt_check.proofs.laws.answer_is_well_formed.Goals as goal
 
 pub returns : goal.returns

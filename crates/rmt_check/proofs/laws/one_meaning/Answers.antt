@@ -49,21 +49,16 @@ module _ (k : Known) (text : List ℕ) where
   no_tree : (a b : List Token) (t : Tree) (code line column : ℕ) → tokens_of text ≡ Ok a → tokens_of text ≡ Ok b → IsTreeOf a t → IsFault b code line column → ⊥
   no_tree a b t code line column ea eb ht hf = k.apart a (k.ends text a ea) (t, ht) (code, line, column, subst (λ ts. IsFault ts code line column) (same_tokens b a eb ea) hf)
 
-  same_code : (a b c d e f : ℕ) → a ≡ b → c ≡ d → e ≡ f → fault_at a c e ≡ fault_at b d f
-  same_code a b c d e f p q r = ap (λ n. fault_at n c e) p ∙ ap (λ n. fault_at b n e) q ∙ ap (λ n. fault_at b d n) r
-
   alone : {m n : Outcome} → Means text m → Means text n → m ≡ n
   alone (of_tokens a l c e) (of_tokens b m d f) =
       let same : ◌≡◌ {A = Result (List Token) ProgramFault} (Err (At a l c)) (Err (At b m d)) = sym e ∙ f in
-      let p : a ≡ b = cc in let q : l ≡ m = cc in let r : c ≡ d = cc in
-      same_code a b l m c d p q r
+      let p : a ≡ b = cc in let q : l ≡ m = cc in let r : c ≡ d = cc in cc
   alone (of_tokens a l c e) (of_grammar ts b m d f g) = cc
   alone (of_tokens a l c e) (of_rules ts t g f h i) = cc
   alone (of_tokens a l c e) (of_program ts t f h i) = cc
   alone (of_grammar ts a l c e f) (of_tokens b m d g) = cc
   alone (of_grammar ts a l c e f) (of_grammar us b m d g h) =
-      let r = k.one_fault ts a b l m c d (k.ends text ts e) f (subst (λ vs. IsFault vs b m d) (same_tokens us ts g e) h) in
-      same_code a b l m c d r.0 r.1 r.2
+      let r = k.one_fault ts a b l m c d (k.ends text ts e) f (subst (λ vs. IsFault vs b m d) (same_tokens us ts g e) h) in cc (r.0, r.1, r.2)
   alone (of_grammar ts a l c e f) (of_rules us t g h i j) = absurd (no_tree us ts t a l c h e i f)
   alone (of_grammar ts a l c e f) (of_program us t g h i) = absurd (no_tree us ts t a l c g e h f)
   alone (of_rules ts t f e h i) (of_tokens b m d g) = cc

@@ -1,4 +1,4 @@
-use Rattle.rmt_check.proofs.FoundLaws.{all_found}
+use Rattle.rmt_check.proofs.texts.FoundLaws.{all_found}
 use Rattle.rmt_check.proofs.laws.parts_are_found.Goals as goal
 
 pub returns : goal.returns

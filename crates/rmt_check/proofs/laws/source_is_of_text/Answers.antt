@@ -1,4 +1,4 @@
-use Rattle.rmt_check.proofs.LawText.{text_law}
+use Rattle.rmt_check.proofs.texts.TextLaws.{text_law}
 use Rattle.rmt_check.proofs.laws.source_is_of_text.Goals as goal
 
 pub returns : goal.returns

@@ -16,8 +16,8 @@ masks_of_arms-requires c =
     let few : length (ident_names listed) ≤ 14 = omega (arith, length-map listed (λ (i : Ident). i.name), listed_few c.args.names.now c.as_slice.result.now c.requires) in
     subst (λ (xs : List (List ℕ)). length xs ≤ 14) (sym c.list-list.ensures) few
 
-pub returns-in-Apply-clause-masks : goal.returns-in-Apply-clause-masks
-returns-in-Apply-clause-masks c =
+pub returns-in-Apply : goal.returns-in-Apply
+returns-in-Apply c =
     let s = c.args.names.now in
     let list = c.list-list.result.now in
     let arms = c.as_slice-in-Apply.result.now in
@@ -29,4 +29,4 @@ returns-in-Apply-clause-masks c =
     ∙ ap (λ (names : List (List ℕ)). map (arm_mask names c.in-Apply.arms) (range_with_len 0 (length c.in-Apply.arms)))
     (c.list-list.ensures ∙ ap (λ (name : List ℕ). ident_names (listed_by s name)) c.as_slice.ensures)
     ∙ sym (ap (arm_masks s) c.in-Apply.is))
-    c.masks_of_arms.ensures.masks
+    c.masks_of_arms.ensures

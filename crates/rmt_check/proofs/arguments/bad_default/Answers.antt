@@ -1,5 +1,0 @@
-use Rattle.rmt_check.proofs.Earliest.{earliest-append}
-use Rattle.rmt_check.proofs.arguments.bad_default.Goals as goal
-
-pub returns : goal.returns
-returns c = rw (earliest-append, c.earlier.ensures) (cc)

@@ -1,5 +1,0 @@
-use Rattle.rmt_check.proofs.Earliest.{earliest-append}
-use Rattle.rmt_check.proofs.keys.key_kinds.Goals as goal
-
-pub returns-clause-again : goal.returns-clause-again
-returns-clause-again c = rw (earliest-append, c.earlier.ensures) (cc (c.in_ok-selects.ensures.again, c.in_ok-keys.ensures.again))

@@ -1,9 +1,0 @@
-use Rattle.std.proofs.Common.{◌≡◌, take}
-use Rattle.std.specs.List.{flat_map}
-use Rattle.rmt_check.specs.Looked.{not_later}
-use Rattle.rmt_check.specs.Rules.{earliest, target_names}
-use Rattle.rmt_check.specs.declared.source.CaseText.{CaseText}
-use Rattle.rmt_check.proofs.later.target_before_in_cases.Given as goal
-
-abbrev pub invariant-loop-case : goal.invariant-loop-case
-invariant-loop-case l = l.first ≡ earliest (flat_map (λ (x : CaseText). flat_map (not_later l.names l.number) (target_names x.target)) (take l.case-index l.cases))

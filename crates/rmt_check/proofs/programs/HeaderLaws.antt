@@ -1,0 +1,313 @@
+-- The headers of a text that breaks no rule.
+use Rattle.std.proofs.Common.{◌≡◌, ◌≢◌, ℕ, zero, suc, ◌+◌, ◌<◌, ◌≤◌, ◌⊎◌, inl, inr, List, [], ◌∷◌, ◌++◌, true, Some, Option, option_map, unwrap_or, codes, length, slice_get, All, Contains, refl, sym, ap, ◌∙◌, ⊎_elim, append_assoc, arith, ◌-◌, ◌*◌, ◌/◌, ◌%◌, ◌^◌, Bool, false, not, ◌&&◌, ◌==◌, if◌then◌else◌, nat_le, None, option_to_list, map, zip, sum, take, get_or, ap₂, subst, zero-add}
+use Rattle.std.specs.List.{range_with_len, flat_map, enumerate_from}
+use Rattle.std.proofs.lemmas.List.{length-map}
+use Rattle.std.proofs.lemmas.List.Elements.{All-nil, All-cons, All-head, All-tail, All-append, All-map}
+use Rattle.std.proofs.lemmas.List.FromFn.{length-range_with_len, get_or-range_with_len}
+use Rattle.std.proofs.lemmas.Option.{slice_get-map, slice_get_within, same_Some}
+use Rattle.rmt_check.specs.declared.source.Ident.{Ident}
+use Rattle.rmt_check.specs.declared.source.Declared.{Declared}
+use Rattle.rmt_check.specs.declared.source.HeaderText.{HeaderText}
+use Rattle.rmt_check.specs.declared.source.Source.{Source}
+use Rattle.rmt_check.specs.Names.{header_names, metadata, Owner, of_all, of_metadata, of_header, Named, own, in_port, named_declared, named_header, named_from, named_fields, is_field, header_owner, selected, number_of, is_known, printed, width_of}
+use Rattle.rmt_check.specs.Standing.{code_of, code}
+use Rattle.rmt_check.specs.Meaning.{field_number, index_of, test_of, target_of, tail_of, case_of, header_from, headers_from, program_of}
+use Rattle.rmt_check.proofs.Finding.{number_at, stands_within}
+use Rattle.rmt_check.proofs.FieldCodes.{field_at, headers_long}
+use Rattle.rmt_check.proofs.programs.NameLaws.{distinct_names, known_here, number_here, AreApart, names_of, are_apart, apart_made}
+use Rattle.rmt_bits.proofs.AllLaws.{All-slice_get}
+use Rattle.rmt_bits.proofs.ListLaws.{slice_get-end, append-nil_left, append-nil_right, flat_map-nil, map-nil}
+use Rattle.rmt_check.proofs.programs.BlockLaws.{start_of, length-headers_from, width_at, each_header}
+use Rattle.rmt_check.proofs.programs.PrintedLaws.{apart_headers}
+use Rattle.rmt_check.proofs.programs.RuleLaws.{KeepsRules, no_when, no_when_not, one_known, unknown_targets, bad_size, bad_tails, early_targets, case_widths, repeated_select, bad_cases}
+use Rattle.std.specs.Option.{IfSome}
+use Rattle.std.proofs.lemmas.Bool.{leb-true, leb-false, eqb-true, and_parts}
+use Rattle.std.proofs.lemmas.List.Concat.{flat_map-append}
+use Rattle.std.proofs.lemmas.Simd.{map-map}
+use Rattle.rmt_ast.specs.WellFormed.{AllNumbered, AreDistinct, IsTest, AreTests, IsTarget, IsTail, IsCase, IsHeader}
+use Rattle.rmt_ast.proofs.WellFormedLemmas.{AllNumbered-from_items}
+use Rattle.rmt_check.specs.declared.source.ValueText.{ValueText}
+use Rattle.rmt_check.specs.declared.source.TargetText.{TargetText}
+use Rattle.rmt_check.specs.declared.source.CaseText.{CaseText}
+use Rattle.rmt_check.specs.declared.source.TailText.{TailText}
+use Rattle.rmt_check.specs.Rules.{when, repeated, unknown, target_names, targets, unknown_own, unknown_select, unknown_tail, is_size, is_tail_range, bad_tail, bits_of, is_at_most, too_wide_value, too_wide_case, bad_case, value_place}
+use Rattle.rmt_check.specs.Naming.{IsHeaderText}
+use Rattle.rmt_check.proofs.programs.ListLaws.{none_in, All-mid, none_numbered}
+use Rattle.rmt_check.proofs.programs.FieldLaws.{test_law, field_width, distinct_fields}
+use Rattle.rmt_ast.specs.State as state
+use Rattle.rmt_check.specs.declared.source.TargetText.TheVariants as target
+
+-- A field of a header's own is one of its fields.
+
+-- what stands neither in front nor behind stands between
+module _ {X : Type 0} (q : X) where
+  not_behind : (mid post : List X) (f : ℕ) → slice_get (mid ++ post) f ≡ Some q → All (λ k. k ≢ q) post → slice_get mid f ≡ Some q
+  not_behind [] post f e none = absurd (All-slice_get (λ k. k ≢ q) post f q none e refl)
+  not_behind (m ∷ mid) post zero e none = e
+  not_behind (m ∷ mid) post (suc f) e none = not_behind mid post f e none
+
+  between : (pre mid post : List X) (f : ℕ) → slice_get (pre ++ (mid ++ post)) f ≡ Some q → All (λ k. k ≢ q) pre → All (λ k. k ≢ q) post
+      → (i : ℕ) × (f ≡ length pre + i) × (slice_get mid i ≡ Some q)
+  between [] mid post f e none behind = (f, omega arith, not_behind mid post f e behind)
+  between (p ∷ pre) mid post zero e none behind = absurd (All-head (λ k. k ≢ q) p pre none (same_Some p q e))
+  between (p ∷ pre) mid post (suc f) e none behind =
+      let r = between pre mid post f e (All-tail (λ k. k ≢ q) p pre none) behind in let l = r.1 in (r.0, omega arith, r.2)
+
+same_number : (m n : ℕ) → of_header m ≡ of_header n → m ≡ n
+same_number m n e = let f = ap code_of e in omega (arith, f)
+
+-- A field of one owner is none of another's.
+module _ (owner : Owner) (name : List ℕ) where
+  not_field : (o : Owner) (n : List ℕ) → o ≢ owner → own o n ≢ own owner name
+  not_field o n other same = other (ap (λ (x : Named). x.owner) same)
+
+  not_declared : (o : Owner) (ds : List Declared) → o ≢ owner → All (λ k. k ≢ own owner name) (named_declared o ds)
+  not_declared o ds other = All-map (λ k. k ≢ own owner name) (λ (d : Declared). own o d.ident.name) ds (λ k d lt. not_field o _ other)
+
+-- nor is one of a header that of another
+module _ (m : ℕ) (name : List ℕ) where
+  abbrev Differs : Named → Type 0
+  Differs k = k ≢ own (of_header m) name
+
+  not_from : (n : ℕ) (hs : List HeaderText) → (m < n) ⊎ (n + length hs ≤ m) → All Differs (named_from n hs)
+  not_from n [] apart = All-nil Differs
+  not_from n (h ∷ hs) apart =
+      let other : of_header n ≢ of_header m = λ same. ⊎_elim (λ lt. let e = same_number n m same in absurd (omega arith)) (λ le. let e = same_number n m same in absurd (omega arith)) apart in
+      All-append Differs (named_header n h) (named_from (n + 1) hs)
+      (All-cons Differs (own (of_header n) (codes "valid")) (named_declared (of_header n) h.fields) (not_field (of_header m) name (of_header n) (codes "valid") other) (not_declared (of_header m) name (of_header n) h.fields other))
+      (not_from (n + 1) hs (⊎_elim (λ lt. inl (omega arith)) (λ le. inr (omega arith)) apart))
+
+-- the fields of a header between those of the headers before it and after it
+named_split : (n : ℕ) (before : List HeaderText) (h : HeaderText) (after : List HeaderText)
+    → named_from n (before ++ h ∷ after) ≡ named_from n before ++ (named_header (n + length before) h ++ named_from (n + length before + 1) after)
+named_split n [] h after = ap (λ (k : ℕ). named_header k h ++ named_from (k + 1) after) (omega arith)
+named_split n (b ∷ before) h after =
+    let moved : n + 1 + length before ≡ n + length (b ∷ before) = omega arith in
+    ap (λ (ks : List Named). named_header n b ++ ks)
+    (named_split (n + 1) before h after ∙ ap (λ (k : ℕ). named_from (n + 1) before ++ (named_header k h ++ named_from (k + 1) after)) moved)
+    ∙ sym (append_assoc (named_header n b) (named_from (n + 1) before) (named_header (n + length (b ∷ before)) h ++ named_from (n + length (b ∷ before) + 1) after))
+
+module _ (s : Source) (keeps : KeepsRules s) (before : List HeaderText) (h : HeaderText) (after : List HeaderText) (e : s.headers ≡ before ++ h ∷ after) where
+  abbrev number : ℕ
+  number = 0 + length before
+
+  owner_here : header_owner s h.ident.name ≡ of_header number
+  owner_here =
+      let here : length before ≡ length before + 0 = omega arith in
+      let there : slice_get s.headers (length before) ≡ Some h = ap (λ (hs : List HeaderText). slice_get hs (length before)) e ∙ ap (slice_get (before ++ h ∷ after)) here ∙ slice_get-end before (h ∷ after) 0 in
+      let at : slice_get (header_names s) (length before) ≡ Some h.ident.name =
+      slice_get-map (λ (x : HeaderText). x.ident.name) s.headers (length before) ∙ ap (option_map (λ (x : HeaderText). x.ident.name)) there in
+      let same : length before ≡ number = omega arith in
+      ap (λ (o : Option ℕ). of_header (unwrap_or o (length s.headers))) (number_at (header_names s) h.ident.name (known_here (header_names s) (length before) h.ident.name at))
+      ∙ ap of_header (number_here (header_names s) (length before) h.ident.name at (distinct_names (header_names s) (apart_headers s keeps)) ∙ same)
+
+  abbrev front : List Named
+  front = in_port ∷ own of_all (codes "out_port") ∷ own of_all (codes "drop") ∷ named_from 0 before
+
+  abbrev behind : List Named
+  behind = named_from (number + 1) after ++ named_declared of_metadata (metadata s)
+
+  split : named_fields s ≡ front ++ (named_header number h ++ behind)
+  split =
+      ap (λ (ks : List Named). in_port ∷ own of_all (codes "out_port") ∷ own of_all (codes "drop") ∷ (ks ++ named_declared of_metadata (metadata s))) (ap (named_from 0) e ∙ named_split 0 before h after)
+      ∙ ap (λ (ks : List Named). in_port ∷ own of_all (codes "out_port") ∷ own of_all (codes "drop") ∷ ks)
+      (append_assoc (named_from 0 before) (named_header number h ++ named_from (number + 1) after) (named_declared of_metadata (metadata s))
+      ∙ ap (λ (ks : List Named). named_from 0 before ++ ks) (append_assoc (named_header number h) (named_from (number + 1) after) (named_declared of_metadata (metadata s))))
+
+  module _ (name : List ℕ) where
+    abbrev Other : Named → Type 0
+    Other k = k ≢ own (of_header number) name
+
+    not_before : All Other front
+    not_before =
+        let other : of_all ≢ of_header number = λ same. cc (same) in
+        All-cons Other in_port (own of_all (codes "out_port") ∷ own of_all (codes "drop") ∷ named_from 0 before) (not_field (of_header number) name of_all (codes "in_port") other)
+        (All-cons Other (own of_all (codes "out_port")) (own of_all (codes "drop") ∷ named_from 0 before) (not_field (of_header number) name of_all (codes "out_port") other)
+        (All-cons Other (own of_all (codes "drop")) (named_from 0 before) (not_field (of_header number) name of_all (codes "drop") other) (not_from number name 0 before (inr (omega arith)))))
+
+    not_after : All Other behind
+    not_after =
+        All-append Other (named_from (number + 1) after) (named_declared of_metadata (metadata s)) (not_from number name (number + 1) after (inl (omega arith)))
+        (not_declared (of_header number) name of_metadata (metadata s) (λ same. cc (same)))
+
+  -- a field that the header names as its own is one of its fields, where it is not its valid
+  pub own_field : (i : Ident) → is_field s (selected s h i) ≡ true → i.name ≢ codes "valid" → Contains (range_with_len (start_of before + 1) (length h.fields)) (field_number s (selected s h i))
+  own_field i known not_valid =
+      let at = ap (λ (ks : List Named). slice_get ks (field_number s (selected s h i))) (sym split) ∙ field_at s (selected s h i) known ∙ ap (λ (o : Owner). Some (own o i.name)) owner_here in
+      let place = between (own (of_header number) i.name) front (named_header number h) behind (field_number s (selected s h i)) at (not_before i.name) (not_after i.name) in
+      by place.0 place.1 place.2
+    where
+      by : (k : ℕ) → field_number s (selected s h i) ≡ length front + k → slice_get (named_header number h) k ≡ Some (own (of_header number) i.name)
+          → Contains (range_with_len (start_of before + 1) (length h.fields)) (field_number s (selected s h i))
+      by zero is at = absurd (not_valid (ap (λ (x : Named). x.name) (sym (same_Some (own (of_header number) (codes "valid")) (own (of_header number) i.name) at))))
+      by (suc k) is at =
+          let l = slice_get_within (named_header number h) (suc k) (own (of_header number) i.name) at in
+          let m = length-map h.fields (λ (d : Declared). own (of_header number) d.ident.name) in
+          let within : k < length h.fields = omega arith in
+          let long = length-range_with_len (start_of before + 1) (length h.fields) in
+          let first = headers_long 0 before in
+          let place : start_of before + 1 + k ≡ field_number s (selected s h i) = omega arith in
+          (k, omega arith, get_or-range_with_len (start_of before + 1) (length h.fields) k (field_number s (selected s h i)) within ∙ place)
+
+-- numbers in a row, and what stands at them
+row : {X Y : Type 0} (g : ℕ → Y) (f : X → Y) (xs : List X) (n : ℕ) → ((i : ℕ) (x : X) → slice_get xs i ≡ Some x → g (n + i) ≡ f x) → map g (range_with_len n (length xs)) ≡ map f xs
+row g f [] n h = refl
+row g f (x ∷ xs) n h =
+    let zero_more : n ≡ n + 0 = omega arith in
+    ap₂ (λ y ys. y ∷ ys) (ap g zero_more ∙ h 0 x refl)
+    (row g f xs (n + 1) (λ i y e. let one_more : n + 1 + i ≡ n + suc i = omega arith in ap g one_more ∙ h (suc i) y e))
+
+-- whole bytes
+whole : (b : ℕ) → is_size b ≡ true → (b ≡ 8 * (b / 8)) × (1 ≤ b / 8) × (b / 8 ≤ 64)
+whole b e =
+    let first = and_parts (nat_le 1 b && nat_le b 512) (b % 8 == 0) e in
+    let second = and_parts (nat_le 1 b) (nat_le b 512) first.0 in
+    let low = leb-true 1 b second.0 in
+    let high = leb-true b 512 second.1 in
+    let even = eqb-true (b % 8) 0 first.1 in
+    (omega arith, omega arith, omega arith)
+
+-- a case with as many values as there are names
+same_count : (h : HeaderText) (c : CaseText) → 1 ≤ length c.values → bad_case h c ≡ [] → length h.select ≡ length c.values
+same_count h c some e = by (length h.select == length c.values) refl e
+  where
+    by : (b : Bool) → (length h.select == length c.values) ≡ b → (if b then [] else map value_place (take 1 c.values)) ≡ [] → length h.select ≡ length c.values
+    by true same none = eqb-true (length h.select) (length c.values) same
+    by false same none = absurd (one c.values some (map-nil value_place (take 1 c.values) none))
+      where
+        one : (vs : List ValueText) → 1 ≤ length vs → take 1 vs ≡ [] → ⊥
+        one [] l e = absurd (omega arith)
+        one (v ∷ vs) l e = cc
+
+module _ (s : Source) (h : HeaderText) (known : All (λ (i : Ident). is_field s (selected s h i) ≡ true) h.select) where
+  tests_of : (is : List Ident) (vs : List ValueText) → All (λ (i : Ident). is_field s (selected s h i) ≡ true) is → length is ≡ length vs
+      → flat_map (λ (x : Ident × ValueText). too_wide_value (width_of s (selected s h x.0)) x.1) (zip is vs) ≡ []
+      → AreTests (program_of s) (map (λ (i : Ident). field_number s (selected s h i)) is) (map (λ (x : Ident × ValueText). test_of (width_of s (selected s h x.0)) x.1) (zip is vs))
+  tests_of [] [] k same e = tt
+  tests_of [] (v ∷ vs) k same e = absurd (omega arith)
+  tests_of (i ∷ is) [] k same e = absurd (omega arith)
+  tests_of (i ∷ is) (v ∷ vs) k same e =
+      let parts = none_in (too_wide_value (width_of s (selected s h i)) v) (flat_map (λ (x : Ident × ValueText). too_wide_value (width_of s (selected s h x.0)) x.1) (zip is vs) ∷ []) e in (
+        subst (λ w. IsTest w (test_of (width_of s (selected s h i)) v)) (sym (field_width s (selected s h i) (All-head (λ (j : Ident). is_field s (selected s h j) ≡ true) i is k)))
+            (test_law (width_of s (selected s h i)) v parts.0),
+        tests_of is vs (All-tail (λ (j : Ident). is_field s (selected s h j) ≡ true) i is k) (omega arith) parts.1.0,
+      )
+
+  once : repeated h.select ≡ [] → AreDistinct (map (λ (i : Ident). field_number s (selected s h i)) h.select)
+  once e =
+      let owner = code_of (header_owner s h.ident.name) in
+      let apart : AreApart (map (λ (i : Ident). code (selected s h i)) h.select) =
+      subst AreApart (map-map (λ (n : List ℕ). owner ∷ n) (λ (i : Ident). i.name) h.select) (apart_made (λ (n : List ℕ). owner ∷ n) (λ a b same. cc) (names_of h.select) (are_apart h.select e)) in
+      distinct_fields s (selected s h) h.select known apart
+
+-- a target that is known and later
+target_law : (s : Source) (n : ℕ) (t : TargetText) → unknown (header_names s) (target_names t) ≡ []
+    → flat_map (λ (i : Ident). when (is_at_most (number_of (header_names s) i.name) n) i.place) (target_names t) ≡ [] → IsTarget (program_of s) n (target_of s t)
+target_law s n target.Accept known later = tt
+target_law s n target.Reject known later = tt
+target_law s n (target.Header i) known later =
+    let k = one_known (header_names s) i known in
+    let at = number_at (header_names s) i.name k in
+    let not_early : is_at_most (number_of (header_names s) i.name) n ≡ false = no_when (is_at_most (number_of (header_names s) i.name) n) i.place (append-nil_left (when (is_at_most (number_of (header_names s) i.name) n) i.place) [] later) in
+    let l = stands_within (λ (x : HeaderText). x.ident.name) i.name s.headers k in
+    let m = length-headers_from s 3 s.headers in
+    (leb-false (index_of (header_names s) i.name) n (sym (ap (λ (o : Option ℕ). is_at_most o n) at) ∙ not_early), omega arith)
+
+-- what is found nowhere among the targets of some cases
+none_in_cases : {X : Type 0} (f : Ident → List X) (cs : List CaseText) → flat_map f (flat_map (λ (c : CaseText). target_names c.target) cs) ≡ [] → All (λ (c : CaseText). flat_map f (target_names c.target) ≡ []) cs
+none_in_cases f [] e = All-nil (λ (c : CaseText). flat_map f (target_names c.target) ≡ [])
+none_in_cases f (c ∷ cs) e =
+    let parts = none_in (flat_map f (target_names c.target)) (flat_map f (flat_map (λ (c : CaseText). target_names c.target) cs) ∷ []) (sym (flat_map-append f (target_names c.target) (flat_map (λ (c : CaseText). target_names c.target) cs)) ∙ e) in
+    All-cons (λ (c : CaseText). flat_map f (target_names c.target) ≡ []) c cs parts.0 (none_in_cases f cs parts.1.0)
+
+none_in_targets : {X : Type 0} (f : Ident → List X) (h : HeaderText) → flat_map f (targets h) ≡ [] → All (λ (c : CaseText). flat_map f (target_names c.target) ≡ []) h.cases × (flat_map f (target_names h.other) ≡ [])
+none_in_targets f h e =
+    let parts = none_in (flat_map f (flat_map (λ (c : CaseText). target_names c.target) h.cases)) (flat_map f (target_names h.other) ∷ []) (sym (flat_map-append f (flat_map (λ (c : CaseText). target_names c.target) h.cases) (target_names h.other)) ∙ e) in
+    (none_in_cases f h.cases parts.0, parts.1.0)
+
+module _ (s : Source) (keeps : KeepsRules s) (text : All IsHeaderText s.headers) (before : List HeaderText) (h : HeaderText) (after : List HeaderText) (e : s.headers ≡ before ++ h ∷ after) where
+  here : (P : HeaderText → Type 0) → All P s.headers → P h
+  here P all = All-mid P before h after (subst (All P) e all)
+
+  selects_known : All (λ (i : Ident). is_field s (selected s h i) ≡ true) h.select
+  selects_known k d lt =
+      no_when_not (is_field s (selected s h (get_or h.select k d))) (get_or h.select k d).place
+      (flat_map-nil (λ (i : Ident). when (not (is_field s (selected s h i))) i.place) h.select (append-nil_left (unknown_select s h) (unknown_tail s h) (here (λ (x : HeaderText). unknown_own s x ≡ []) keeps.own_known)) k d lt)
+
+  -- the widths of the header's fields by their numbers
+  widths : map (state.width_of (program_of s)) (range_with_len (start_of before + 1) (length h.fields)) ≡ map (λ (d : Declared). d.width.value) h.fields
+  widths = row (state.width_of (program_of s)) (λ (d : Declared). d.width.value) h.fields (start_of before + 1)
+      (λ i d at. width_at s before h after e (suc i) (start_of before + 1 + i) (printed h.ident.name d.ident.name, d.width.value) (omega arith)
+      (slice_get-map (λ (x : Declared). (printed h.ident.name x.ident.name, x.width.value)) h.fields i ∙ ap (option_map (λ (x : Declared). (printed h.ident.name x.ident.name, x.width.value))) at))
+
+  -- the tail, if there is one
+  tail_law : IfSome (option_map (tail_of s h) h.tail) (IsTail (program_of s) (range_with_len (start_of before + 1) (length h.fields)))
+  tail_law =
+      by h.tail (append-nil_right (unknown_select s h) (unknown_tail s h) (here (λ (x : HeaderText). unknown_own s x ≡ []) keeps.own_known)) (here (λ (x : HeaderText). bad_tails s x ≡ []) keeps.tails_fit)
+      (here IsHeaderText text).tail
+    where
+      by : (o : Option TailText) → flat_map (λ (t : TailText). when (not (is_field s (selected s h t.field))) t.field.place) (option_to_list o) ≡ [] → flat_map (bad_tail s h) (option_to_list o) ≡ []
+          → IfSome o (λ (t : TailText). t.field.name ≢ codes "valid") → IfSome (option_map (tail_of s h) o) (IsTail (program_of s) (range_with_len (start_of before + 1) (length h.fields)))
+      by None known fits plain = tt
+      by (Some t) known fits plain =
+          let field = selected s h t.field in
+          let there = no_when_not (is_field s field) t.field.place (append-nil_left (when (not (is_field s field)) t.field.place) [] known) in
+          let wide = field_width s field there in
+          let n = (2 ^ width_of s field - 1) * t.unit.value in
+          let range = no_when_not (is_tail_range (width_of s field) t.unit.value t.base.value) t.place (append-nil_left (bad_tail s h t) [] fits) in
+          let five = and_parts _ (nat_le n (t.base.value + 64)) range in
+          let four = and_parts _ (nat_le t.base.value n) five.0 in
+          let three = and_parts _ (nat_le t.base.value 255) four.0 in
+          let two = and_parts _ (nat_le t.unit.value 255) three.0 in
+          let one = and_parts (nat_le (width_of s field) 8) (nat_le 1 t.unit.value) two.0 in
+          let greatest : (2 ^ state.width_of (program_of s) (field_number s field) - 1) * t.unit.value ≡ n = ap (λ w. (2 ^ w - 1) * t.unit.value) wide in
+          record {
+            own = own_field s keeps before h after e t.field there plain;
+            narrow = subst (λ w. w ≤ 8) (sym wide) (leb-true (width_of s field) 8 one.0);
+            has_unit = leb-true 1 t.unit.value one.1;
+            unit = leb-true t.unit.value 255 two.1;
+            base = leb-true t.base.value 255 three.1;
+            reaches = subst (λ m. t.base.value ≤ m) (sym greatest) (leb-true t.base.value n four.1);
+            is_not_long = subst (λ m. m ≤ t.base.value + 64) (sym greatest) (leb-true n (t.base.value + 64) five.1);
+          }
+
+  plain_law : map (λ (i : Ident). field_number s (selected s h i)) h.select ≡ [] → map (case_of s h) h.cases ≡ []
+  plain_law none = by h.cases (here IsHeaderText text).cases (flat_map-nil (bad_case h) h.cases (here (λ (x : HeaderText). bad_cases x ≡ []) keeps.case_length))
+    where
+      by : (cs : List CaseText) → All (λ (c : CaseText). 1 ≤ length c.values) cs → All (λ (c : CaseText). bad_case h c ≡ []) cs → map (case_of s h) cs ≡ []
+      by [] some good = refl
+      by (c ∷ cs) some good =
+          let l = All-head (λ (c : CaseText). 1 ≤ length c.values) c cs some in
+          let m = same_count h c l (All-head (λ (c : CaseText). bad_case h c ≡ []) c cs good) in
+          let n : length h.select ≡ 0 = ap length (map-nil (λ (i : Ident). field_number s (selected s h i)) h.select none) in
+          absurd (omega arith)
+
+  pub header_law : IsHeader (program_of s) (length before) (header_from s (start_of before) h)
+  header_law =
+      let size = whole (bits_of h) (no_when_not (is_size (bits_of h)) h.ident.place (here (λ (x : HeaderText). bad_size x ≡ []) keeps.header_size)) in
+      let known = none_in_targets (λ (i : Ident). when (not (is_known (header_names s) i.name)) i.place) h (here (λ (x : HeaderText). unknown_targets s x ≡ []) keeps.targets_known) in
+      let later = none_in_targets (λ (i : Ident). when (is_at_most (number_of (header_names s) i.name) (length before)) i.place) h
+      (subst (λ (n : ℕ). early_targets s (n, h) ≡ []) (zero-add (length before)) (none_numbered (early_targets s) 0 before h after (subst (λ (hs : List HeaderText). flat_map (early_targets s) (enumerate_from 0 hs) ≡ []) e keeps.targets_later))) in
+      let plain = here IsHeaderText text in
+      let good = flat_map-nil (bad_case h) h.cases (here (λ (x : HeaderText). bad_cases x ≡ []) keeps.case_length) in
+      let fit = flat_map-nil (too_wide_case s h) h.cases (here (λ (x : HeaderText). case_widths s x ≡ []) keeps.cases_fit) in
+      record {
+        valid = width_at s before h after e 0 (start_of before) (printed h.ident.name (codes "valid"), 1) (omega arith) refl;
+        whole_bytes = ap sum widths ∙ size.0;
+        is_not_empty = size.1;
+        is_not_long = size.2;
+        tail = tail_law;
+        selects_own = All-map (Contains (range_with_len (start_of before + 1) (length h.fields))) (λ (i : Ident). field_number s (selected s h i)) h.select
+            (λ k d lt. own_field s keeps before h after e (get_or h.select k d) (selects_known k d lt) (plain.select k d lt));
+        selects_once = once s h selects_known (here (λ (x : HeaderText). repeated_select x ≡ []) keeps.select_once);
+        plain = plain_law;
+        cases = All-map (IsCase (program_of s) (length before) (map (λ (i : Ident). field_number s (selected s h i)) h.select)) (case_of s h) h.cases
+            (λ k d lt. record {
+              tests = tests_of s h selects_known h.select (get_or h.cases k d).values selects_known (same_count h (get_or h.cases k d) (plain.cases k d lt) (good k d lt)) (fit k d lt);
+              target = target_law s (length before) (get_or h.cases k d).target (known.0 k d lt) (later.0 k d lt);
+            });
+        other = target_law s (length before) h.other known.1 later.1;
+      }
+
+pub headers_law : (s : Source) → KeepsRules s → All IsHeaderText s.headers → AllNumbered (IsHeader (program_of s)) (headers_from s 3 s.headers)
+headers_law s keeps text = AllNumbered-from_items (IsHeader (program_of s)) (headers_from s 3 s.headers) (each_header s (IsHeader (program_of s)) (λ before h after e. header_law s keeps text before h after e))

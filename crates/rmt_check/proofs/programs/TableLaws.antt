@@ -1,0 +1,137 @@
+-- The tables of a text that breaks no rule.
+use Rattle.std.proofs.Common.{◌≡◌, ℕ, ◌<◌, ◌≤◌, List, [], ◌∷◌, true, not, ◌&&◌, ◌==◌, nat_lt, nat_le, None, Some, Option, option_map, unwrap_or, map, zip, sum, length, drop, slice_get, get_or, IsSomeAnd, All, refl, sym, ap, ap₂, subst, ◌∙◌, arith}
+use Rattle.std.specs.List.{flat_map, AllZip}
+use Rattle.std.proofs.lemmas.Bool.{ltb-false, leb-true, eqb-true, and_parts}
+use Rattle.std.proofs.lemmas.List.{length-map}
+use Rattle.std.proofs.lemmas.List.Elements.{All-head, All-tail, All-map}
+use Rattle.std.proofs.lemmas.Simd.{map-map}
+use Rattle.std.proofs.lemmas.Option.{slice_get-map}
+use Rattle.rmt_ast.specs.declared.program.Kind.{Kind}
+use Rattle.rmt_ast.specs.declared.program.Kind.TheVariants.{Keyless, Exact, Prefix, Ternary}
+use Rattle.rmt_ast.specs.declared.program.Action.{Action}
+use Rattle.rmt_ast.specs.WellFormed.{AreDistinct, Fits, Takes, IsKeyed, HasKey, IsTable}
+use Rattle.rmt_check.specs.declared.source.Ident.{Ident}
+use Rattle.rmt_check.specs.declared.source.Number.{Number}
+use Rattle.rmt_check.specs.declared.source.Declared.{Declared}
+use Rattle.rmt_check.specs.declared.source.FieldText.{FieldText}
+use Rattle.rmt_check.specs.declared.source.ActionText.{ActionText}
+use Rattle.rmt_check.specs.declared.source.KeyText.{KeyText}
+use Rattle.rmt_check.specs.declared.source.TableText.{TableText}
+use Rattle.rmt_check.specs.declared.source.Source.{Source}
+use Rattle.rmt_check.specs.Names.{is_known, is_field, named, action_names, width_of, params_of, listed, key_fields}
+use Rattle.rmt_check.specs.Rules.{when, too_wide, unknown, unknown_field, unknown_in_table, further_prefix, bad_key, key_bits, bad_default, bad_table_size, repeated_fields}
+use Rattle.rmt_check.specs.Meaning.{field_number, action_number, action_of, table_with, table_of, program_of}
+use Rattle.rmt_check.specs.Naming.{IsKeyText, HasKeyText}
+use Rattle.rmt_bits.proofs.ListLaws.{drop-nil, flat_map-nil, map-nil}
+use Rattle.rmt_check.proofs.programs.ListLaws.{none_in}
+use Rattle.rmt_check.proofs.Finding.{stands_for, stands_within}
+use Rattle.rmt_check.proofs.programs.RuleLaws.{no_when, no_when_not, one_known, all_known, field_known, KeepsRules, repeated_actions, bad_key_of, long_key, many_listed, bad_size_of}
+use Rattle.rmt_check.proofs.programs.NameLaws.{AreApart, are_apart, apart_after, distinct_numbers}
+use Rattle.rmt_check.proofs.programs.FieldLaws.{number_fits, field_within, field_width, distinct_fields}
+use Rattle.rmt_check.specs.Seen.{stored_ident}
+use Rattle.rmt_check.proofs.SeenNames.{repeated_fields-after}
+use Rattle.rmt_ast.specs.State as state
+
+-- arguments that are as many as the parameters and fit them
+args_fit : (ds : List Declared) (ns : List Number) → length ds ≡ length ns → flat_map (λ (x : Declared × Number). too_wide x.0.width.value x.1) (zip ds ns) ≡ []
+    → AllZip Fits (map (λ (d : Declared). d.width.value) ds) (map (λ (n : Number). n.value) ns)
+args_fit [] [] same e = tt
+args_fit [] (n ∷ ns) same e = absurd (omega arith)
+args_fit (d ∷ ds) [] same e = absurd (omega arith)
+args_fit (d ∷ ds) (n ∷ ns) same e =
+    let parts = none_in (too_wide d.width.value n) (flat_map (λ (x : Declared × Number). too_wide x.0.width.value x.1) (zip ds ns) ∷ []) e in
+    (number_fits d.width.value n parts.0, args_fit ds ns (omega arith) parts.1.0)
+
+module _ (s : Source) where
+  takes : (t : TableText) → is_known (action_names s) t.default.name ≡ true → bad_default s t ≡ [] → Takes (program_of s) (action_number s t.default) (map (λ (n : Number). n.value) t.args)
+  takes t known e =
+      let r = stands_for (λ (a : ActionText). a.ident.name) t.default.name s.actions known in
+      let parts = none_in (when (not (length (params_of s t.default.name) == length t.args)) t.default.place)
+      (flat_map (λ (x : Declared × Number). too_wide x.0.width.value x.1) (zip (params_of s t.default.name) t.args) ∷ []) e in
+      let params : params_of s t.default.name ≡ r.item.params = ap (λ (o : Option ActionText). unwrap_or (option_map (λ (a : ActionText). a.params) o) []) r.found in
+      let same = eqb-true (length (params_of s t.default.name)) (length t.args) (no_when_not (length (params_of s t.default.name) == length t.args) t.default.place parts.0) in
+      let at : slice_get (map (action_of s) s.actions) (action_number s t.default) ≡ Some (action_of s r.item) =
+      slice_get-map (action_of s) s.actions (action_number s t.default) ∙ ap (option_map (action_of s)) r.at in
+      subst (λ (o : Option Action). IsSomeAnd o (λ (a : Action). AllZip Fits a.params (map (λ (n : Number). n.value) t.args))) (sym at)
+      (args_fit r.item.params t.args (ap length (sym params) ∙ same) (subst (λ (ds : List Declared). flat_map (λ (x : Declared × Number). too_wide x.0.width.value x.1) (zip ds t.args) ≡ []) params parts.1.0))
+
+  fields_known : (fs : List FieldText) → flat_map (unknown_field s) fs ≡ [] → All (λ (f : FieldText). is_field s (named s f) ≡ true) fs
+  fields_known fs e k d lt = field_known s (get_or fs k d) (flat_map-nil (unknown_field s) fs e k d lt)
+
+  key_widths : (fs : List FieldText) → All (λ (f : FieldText). is_field s (named s f) ≡ true) fs
+      → map (state.width_of (program_of s)) (map (λ (f : FieldText). field_number s (named s f)) fs) ≡ map (λ (f : FieldText). width_of s (named s f)) fs
+  key_widths [] known = refl
+  key_widths (f ∷ fs) known =
+      let rest = key_widths fs (All-tail (λ (f : FieldText). is_field s (named s f) ≡ true) f fs known) in
+      let one = field_width s (named s f) (All-head (λ (f : FieldText). is_field s (named s f) ≡ true) f fs known) in
+      ap₂ (λ (x : ℕ) xs. x ∷ xs) one rest
+
+  is_keyed : (t : TableText) (k : KeyText) → IsKeyText k → All (λ (f : FieldText). is_field s (named s f) ≡ true) k.fields → repeated_fields s k.fields ≡ []
+      → sum (map (λ (f : FieldText). width_of s (named s f)) k.fields) ≤ 640 → bad_table_size (Some k) ≡ [] → IsKeyed (program_of s) (table_with s t (Some k))
+  is_keyed t k text known once short size =
+      let numbers = length-map k.fields (λ (f : FieldText). field_number s (named s f)) in
+      let actions = length-map k.actions (action_number s) in
+      let sizes = and_parts (nat_le 1 k.size.value) (nat_le k.size.value 1048576) (no_when_not (nat_le 1 k.size.value && nat_le k.size.value 1048576) k.size.place size) in
+      record {
+        has_key = let some = text.fields in omega arith;
+        key_fields = All-map (λ f. f < length (program_of s).fields) (λ (f : FieldText). field_number s (named s f)) k.fields (λ i d lt. field_within s (named s (get_or k.fields i d)) (known i d lt));
+        key_once = distinct_fields s (named s) k.fields known
+            (subst AreApart (map-map (λ (i : Ident). i.name) (stored_ident s) k.fields) (apart_after (map (stored_ident s) k.fields) (sym (repeated_fields-after s k.fields) ∙ once)));
+        key_bits = subst (λ (l : List ℕ). sum l ≤ 640) (sym (key_widths k.fields known)) short;
+        has_actions = let some = text.actions in omega arith;
+        has_size = leb-true 1 k.size.value sizes.0;
+        size = leb-true k.size.value 1048576 sizes.1;
+      }
+
+  one_prefix : (fs : List FieldText) → further_prefix Prefix fs ≡ [] → length fs ≤ 1
+  one_prefix fs e = drop-nil 1 fs (map-nil (λ (f : FieldText). f.place) (drop 1 fs) e)
+
+  has_key : (t : TableText) (key : Option KeyText) → HasKeyText key → flat_map (unknown_field s) (unwrap_or (option_map (λ (k : KeyText). k.fields) key) []) ≡ [] → bad_key s key ≡ []
+      → sum (map (λ (f : FieldText). width_of s (named s f)) (unwrap_or (option_map (λ (k : KeyText). k.fields) key) [])) ≤ 640 → bad_table_size key ≡ []
+      → HasKey (program_of s) (table_with s t key).kind (table_with s t key)
+  has_key t None text known form short size = record { key = refl; actions = refl; size = refl; counted = refl }
+  has_key t (Some k) text known form short size =
+      let parts = none_in (further_prefix k.kind k.fields) (repeated_fields s k.fields ∷ []) form in
+      by k.kind parts.0 (λ e. text.kind e) (is_keyed t k text (fields_known k.fields known) parts.1.0 short size)
+    where
+      by : (kind : Kind) → further_prefix kind k.fields ≡ [] → (kind ≡ Keyless → ⊥) → IsKeyed (program_of s) (table_with s t (Some k)) → HasKey (program_of s) kind (table_with s t (Some k))
+      by Keyless one other is = absurd (other refl)
+      by Exact one other is = is
+      by Prefix one other is =
+          let l = one_prefix k.fields one in
+          let m = text.fields in
+          let n = length-map k.fields (λ (f : FieldText). field_number s (named s f)) in (is, omega arith)
+      by Ternary one other is = is
+
+  -- the actions that a table lists, and its default
+  lists : (t : TableText) (key : Option KeyText) → (table_with s t key).actions ≡ map (action_number s) (unwrap_or (option_map (λ (k : KeyText). k.actions) key) [])
+  lists t None = refl
+  lists t (Some k) = refl
+
+  falls_to : (t : TableText) (key : Option KeyText) → Takes (program_of s) (action_number s t.default) (map (λ (n : Number). n.value) t.args) → Takes (program_of s) (table_with s t key).default (table_with s t key).args
+  falls_to t None takes = takes
+  falls_to t (Some k) takes = takes
+
+module _ (s : Source) (h : KeepsRules s) where
+  one : (t : TableText) → HasKeyText t.key → unknown_in_table s t ≡ [] → repeated_actions t ≡ [] → bad_key_of s t ≡ [] → long_key s t ≡ [] → many_listed t ≡ [] → bad_default s t ≡ [] → bad_size_of t ≡ []
+      → IsTable (program_of s) (table_of s t)
+  one t text unknowns once form long many default size =
+      let known = none_in (flat_map (unknown_field s) (key_fields t)) (unknown (action_names s) (listed t) ∷ unknown (action_names s) (t.default ∷ []) ∷ []) unknowns in
+      let acts = all_known (action_names s) (listed t) known.1.0 in
+      let few = drop-nil 14 (listed t) (map-nil (λ (x : Ident). x.place) (drop 14 (listed t)) many) in
+      let same = lists s t t.key in
+      record {
+        key = has_key s t t.key text known.0 form (ltb-false 640 (key_bits s t) (no_when (nat_lt 640 (key_bits s t)) t.ident.place long)) size;
+        actions = subst (All (λ a. a < length (program_of s).actions)) (sym same)
+            (All-map (λ a. a < length (program_of s).actions) (action_number s) (listed t) (λ k d lt. within (get_or (listed t) k d) (acts k d lt)));
+        actions_once = subst (λ (l : List ℕ). AreDistinct l) (sym same) (distinct_numbers (action_names s) (listed t) acts (are_apart (listed t) once));
+        few_actions = let a = ap length same in let b = length-map (listed t) (action_number s) in omega arith;
+        default = falls_to s t t.key (takes s t (one_known (action_names s) t.default known.1.1.0) default);
+      }
+    where
+      within : (i : Ident) → is_known (action_names s) i.name ≡ true → action_number s i < length (map (action_of s) s.actions)
+      within i k = let l = stands_within (λ (a : ActionText). a.ident.name) i.name s.actions k in let m = length-map s.actions (action_of s) in omega arith
+
+  pub tables_law : All (λ (t : TableText). HasKeyText t.key) s.tables → All (IsTable (program_of s)) (map (table_of s) s.tables)
+  tables_law text = All-map (IsTable (program_of s)) (table_of s) s.tables (λ k d lt. one (get_or s.tables k d) (text k d lt)
+      (h.tables_known k d lt) (h.listed_once k d lt) (h.key_form k d lt) (h.key_short k d lt) (h.listed_few k d lt) (h.default_fits k d lt) (h.table_size k d lt))

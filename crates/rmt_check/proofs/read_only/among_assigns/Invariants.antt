@@ -1,9 +1,0 @@
-use Rattle.std.proofs.Common.{◌≡◌, take}
-use Rattle.std.specs.List.{flat_map}
-use Rattle.rmt_check.specs.declared.source.AssignText.{AssignText}
-use Rattle.rmt_check.specs.Names.{in_port, named, same_field}
-use Rattle.rmt_check.specs.Rules.{earliest, when}
-use Rattle.rmt_check.proofs.read_only.among_assigns.Given as goal
-
-abbrev pub invariant-loop-assign : goal.invariant-loop-assign
-invariant-loop-assign l = l.first ≡ earliest (flat_map (λ (x : AssignText). when (same_field (named l.names x.dest) in_port) x.dest.place) (take l.assign-index l.assigns))

@@ -1,0 +1,9 @@
+use Rattle.std.proofs.Common.{◌≡◌, map, take}
+use Rattle.rmt_lexer.specs.declared.place.Place.{Place}
+use Rattle.rmt_check.specs.declared.source.FieldText.{FieldText}
+use Rattle.rmt_check.specs.Names.{Named, named}
+use Rattle.rmt_check.specs.Standing.{named_at}
+use Rattle.rmt_check.proofs.rules.keys.repeated_fields.Given as goal
+
+abbrev pub invariant-loop-field : goal.invariant-loop-field
+invariant-loop-field l = map {B = Named × Place} (λ m. (named_at m.0, m.1)) l.marks.items ≡ map (λ (f : FieldText). (named l.names f, f.place)) (take l.field-index l.fields)

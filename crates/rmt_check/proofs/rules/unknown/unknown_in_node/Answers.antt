@@ -1,0 +1,16 @@
+use Rattle.std.proofs.Common.{List, [], ◌∷◌, ℕ, ap, ap₂, ◌∙◌}
+use Rattle.std.specs.List.{flat_map}
+use Rattle.rmt_check.specs.declared.source.ArmText.{ArmText}
+use Rattle.rmt_check.specs.Names.{table_names, ident_names, listed_by}
+use Rattle.rmt_check.specs.Rules.{earliest, unknown, arm_names}
+use Rattle.rmt_check.proofs.rules.unknown.unknown_in_node.Goals as goal
+
+pub returns-in-Apply : goal.returns-in-Apply
+returns-in-Apply c =
+    let s = c.args.names.now in
+    let t = c.in-Apply.table in
+    let list = ident_names (listed_by s t.name) in
+    let table = c.unknown_one.ensures ∙ ap (λ (ns : List (List ℕ)). earliest (unknown ns (t ∷ []))) c.tables.ensures in
+    let known = c.list-list.ensures ∙ ap (λ (name : List ℕ). ident_names (listed_by s name)) c.as_slice.ensures in
+    let each = c.unknown_in_arms.ensures ∙ ap₂ (λ (ns : List (List ℕ)) (arms : List ArmText). earliest (unknown ns (flat_map arm_names arms))) known c.as_slice-in-Apply.ensures in
+    rw c.in-Apply.is (c.earlier.ensures.joined (unknown (table_names s) (t ∷ [])) (unknown list (flat_map arm_names c.in-Apply.arms)) table each)

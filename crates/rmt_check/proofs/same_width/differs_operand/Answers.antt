@@ -1,5 +1,0 @@
-use Rattle.rmt_check.proofs.Earliest.{earliest-append}
-use Rattle.rmt_check.proofs.same_width.differs_operand.Goals as goal
-
-pub returns : goal.returns
-returns c = rw (earliest-append, c.earlier.ensures) (cc)

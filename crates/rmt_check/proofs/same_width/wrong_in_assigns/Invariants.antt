@@ -1,8 +1,0 @@
-use Rattle.std.proofs.Common.{◌≡◌, take}
-use Rattle.std.specs.List.{flat_map}
-use Rattle.rmt_check.specs.Looked.{wrong_operands}
-use Rattle.rmt_check.specs.Rules.{earliest}
-use Rattle.rmt_check.proofs.same_width.wrong_in_assigns.Given as goal
-
-abbrev pub invariant-loop-assign : goal.invariant-loop-assign
-invariant-loop-assign l = l.first ≡ earliest (flat_map (wrong_operands l.names l.action) (take l.assign-index l.assign-items))

@@ -1,0 +1,5 @@
+pub mod PartLaws
+pub mod PhraseLaws
+pub mod FoundLaws
+pub mod WordLaws
+pub mod TextLaws

@@ -1,5 +1,0 @@
-use Rattle.rmt_check.proofs.Earliest.{earliest_more_at}
-use Rattle.rmt_check.proofs.unknown.unknown_in_tables.Goals as goal
-
-pub loop-table-preserved : goal.loop-table-preserved
-loop-table-preserved c = earliest_more_at _ _ _ _ _ _ _ c.loop-table-test.true c.table-item.is c.loop-table.invariant (cc) c.earlier-first.ensures

@@ -1,0 +1,77 @@
+//! Codes 13 and 20: tables that are applied again, and tables that are not applied.
+
+ghost use Rattle.std.specs.Prelude.{◌≡◌, IfOk, map, option_copied};
+ghost use Rattle.rmt_check.specs.Names as names;
+ghost use Rattle.rmt_check.specs.Names.{ident_names};
+ghost use Rattle.rmt_check.specs.Rules.{broken_13, broken_20, earliest};
+
+use crate::names::numbers::Numbers;
+use crate::rules::control::nodes_of;
+use crate::rules::places::place_when;
+use crate::rules::repeats::repeated_names;
+use crate::rules::search::earliest_of;
+use crate::source::{Ident, NodeText, Source, WhatText};
+use rmt_lexer::place::Place;
+use std::alloc::{AllocError, Global};
+
+/// The table that a node applies.
+fn applied(node: &NodeText) -> Option<&Ident>
+    ensures { option_copied result ≡ names.applied node.now.what }
+{
+    match &node.what {
+        WhatText::Apply { table, .. } => Some(table),
+        WhatText::If { .. } => None,
+    }
+}
+
+/// The tables that the control applies, one behind another.
+fn applied_tables(alloc: Global, source: &Source) -> Result<Vec<&Ident>, AllocError>
+    ensures { IfOk result (λ tables. map (λ t. t.now) tables.items ≡ names.applied_tables source.now) }
+{
+    let mut tables = Vec::new(alloc);
+    for node in nodes_of(source) {
+        if let Some(table) = applied(node) {
+            tables.push(table)?;
+        }
+    }
+    Ok(tables)
+}
+
+/// The names of some tables, for look-ups.
+fn names_of<'a>(alloc: Global, tables: &[&'a Ident]) -> Result<Numbers<'a>, AllocError>
+    ensures { IfOk result (λ names. names ≡ ident_names (map (λ t. t.now) tables.now)) }
+{
+    let mut names = Vec::new(alloc);
+    for table in tables {
+        names.push(table.name.as_slice())?;
+    }
+    Numbers::of(alloc, names)
+}
+
+/// Where a table is applied again.
+///
+/// # Errors
+///
+/// For want of memory.
+pub fn applied_twice(alloc: Global, source: &Source) -> Result<Option<Place>, AllocError>
+    ensures { IfOk result (λ p. p ≡ earliest (broken_13 source.now)) }
+{
+    let tables = applied_tables(alloc, source)?;
+    repeated_names(alloc, tables.as_slice())
+}
+
+/// Where a table is declared that no node applies.
+///
+/// # Errors
+///
+/// For want of memory.
+pub fn not_applied(alloc: Global, source: &Source) -> Result<Option<Place>, AllocError>
+    ensures { IfOk result (λ p. p ≡ earliest (broken_20 source.now)) }
+{
+    let tables = applied_tables(alloc, source)?;
+    let applied = names_of(alloc, tables.as_slice())?;
+    Ok(earliest_of(source.tables.as_slice(), |table| {
+        let is_applied = applied.knows(table.ident.name.as_slice());
+        place_when(!is_applied, table.ident.place)
+    }))
+}

@@ -1,0 +1,56 @@
+//! Items that repeat an earlier one, found by a set of the keys that are seen.
+
+ghost use Rattle.std.specs.Prelude.{◌≡◌, map, IfOk, IfErr};
+ghost use Rattle.rmt_check.specs.Rules as rules;
+ghost use Rattle.rmt_check.specs.Rules.{earliest, repeated_by};
+
+use crate::names::labels::{Label, Labelled};
+use crate::rules::places::{earlier, place_when};
+use indexmap::IndexSet;
+use rmt_lexer::place::Place;
+use std::alloc::{AllocError, Global};
+use std::hash::Hash;
+
+/// The earliest place of a key that repeats an earlier one.
+///
+/// # Errors
+///
+/// For want of memory.
+pub fn repeated<K: Eq + Hash + Copy>(
+    alloc: Global,
+    marks: &[(K, Place)],
+) -> Result<Option<Place>, AllocError>
+    ensures { IfOk result (λ p. p ≡ earliest (repeated_by (λ x y. K.eq x.0 y.0) (λ x. x.1) marks.now)) }
+{
+    let mut seen = IndexSet::new(alloc);
+    let mut first = None;
+    for mark in marks {
+        let is_new = seen.insert(mark.0)?;
+        first = earlier(first, place_when(!is_new, mark.1));
+    }
+    Ok(first)
+}
+
+impl<T: Labelled> Labelled for &T {
+    ghost ident_of = { λ r. T.ident_of r.now };
+
+    fn label(&self) -> Label<'_> {
+        (*self).label()
+    }
+}
+
+/// The earliest place of a name that repeats an earlier one.
+///
+/// # Errors
+///
+/// For want of memory.
+pub fn repeated_names<T: Labelled>(alloc: Global, items: &[T]) -> Result<Option<Place>, AllocError>
+    ensures { IfOk result (λ p. p ≡ earliest (rules.repeated (map T.ident_of items.now))) }
+{
+    let mut marks = Vec::new(alloc);
+    for item in items {
+        let label = item.label();
+        marks.push((label.name, label.place))?;
+    }
+    repeated(alloc, marks.as_slice())
+}

@@ -1,0 +1,171 @@
+//! Code 10: operands and numbers of the width that they need.
+
+ghost use Rattle.std.specs.Prelude.{◌≡◌, IfOk, option_map};
+ghost use Rattle.std.specs.List.{flat_map};
+ghost use Rattle.std.specs.Option.{option_to_list};
+ghost use Rattle.rmt_check.specs.Names.{named, operands, width_of};
+ghost use Rattle.rmt_check.specs.Rules as rules;
+ghost use Rattle.rmt_check.specs.Rules.{broken_10, earliest, too_wide_node};
+
+use crate::names::Names;
+use crate::names::params::ActionNames;
+use crate::rules::control::nodes_of;
+use crate::rules::places::{earlier, place_when};
+use crate::rules::search::{earliest_beside, earliest_of, try_earliest_of};
+use crate::source::{
+    ActionText, CaseText, ExprText, HeaderText, LeafText, Number, Sign, ValueText, WhatText,
+};
+use rmt_lexer::place::Place;
+use std::alloc::{AllocError, Global};
+
+/// Whether a number is of at most so many bits.
+fn fits(width: u128, number: u128) -> bool
+    ensures { result ≡ rules.fits width number }
+{
+    width >= 128 || number < 1 << width
+}
+
+/// Where a number does not fit a width.
+pub fn too_wide(width: u128, number: Number) -> Option<Place>
+    ensures { result ≡ earliest (rules.too_wide width number) }
+{
+    place_when(!fits(width, number.value), number.place)
+}
+
+/// Where an operand is of another width.
+fn differs(
+    names: &Names<'_>,
+    action: &ActionNames<'_>,
+    width: u128,
+    leaf: &LeafText,
+) -> Option<Place>
+    ensures { result ≡ earliest (rules.differs names.now action.now width leaf.now) }
+{
+    match leaf {
+        LeafText::Field(field) => {
+            let own = names.width_of(field);
+            place_when(own != width, field.place)
+        }
+        LeafText::Param(param) => {
+            let own = action.width(param.name.as_slice());
+            place_when(own != width, param.place)
+        }
+        LeafText::Number(number) => too_wide(width, *number),
+    }
+}
+
+/// Where the second operand, if there is one, is of another width.
+fn differs_right(
+    names: &Names<'_>,
+    action: &ActionNames<'_>,
+    width: u128,
+    right: &Option<(Sign, LeafText)>,
+) -> Option<Place>
+    ensures { result ≡ earliest (flat_map (rules.differs names.now action.now width) (option_to_list (option_map (λ r. r.1) right.now))) }
+{
+    match right {
+        Some((_, leaf)) => differs(names, action, width, leaf),
+        None => None,
+    }
+}
+
+/// Where an operand of an expression is of another width.
+fn differs_operand(
+    names: &Names<'_>,
+    action: &ActionNames<'_>,
+    width: u128,
+    expr: &ExprText,
+) -> Option<Place>
+    ensures { result ≡ earliest (flat_map (rules.differs names.now action.now width) (operands expr.now)) }
+{
+    earlier(
+        differs(names, action, width, &expr.left),
+        differs_right(names, action, width, &expr.right),
+    )
+}
+
+fn wrong_in_action(
+    alloc: Global,
+    names: &Names<'_>,
+    action: &ActionText,
+) -> Result<Option<Place>, AllocError>
+    ensures { IfOk result (λ p. p ≡ earliest (flat_map (λ x. flat_map (rules.differs names.now action.now (width_of names.now (named names.now x.dest))) (operands x.expr)) action.now.assigns)) }
+{
+    let own = ActionNames::of(alloc, action)?;
+    Ok(earliest_of(action.assigns.as_slice(), |assign| {
+        let width = names.width_of(&assign.dest);
+        differs_operand(names, &own, width, &assign.expr)
+    }))
+}
+
+/// Where a mask, if there is one, does not fit a width.
+fn too_wide_mask(width: u128, mask: Option<Number>) -> Option<Place>
+    ensures { result ≡ earliest (flat_map (rules.too_wide width) (option_to_list mask)) }
+{
+    match mask {
+        Some(number) => too_wide(width, number),
+        None => None,
+    }
+}
+
+/// Where a value, or its mask, does not fit a width.
+fn too_wide_value(width: u128, value: ValueText) -> Option<Place>
+    ensures { result ≡ earliest (rules.too_wide_value width value) }
+{
+    earlier(
+        too_wide(width, value.value),
+        too_wide_mask(width, value.mask),
+    )
+}
+
+/// Where a value of a case does not fit the field of the select beside it.
+fn too_wide_case(names: &Names<'_>, header: &HeaderText, case: &CaseText) -> Option<Place>
+    ensures { result ≡ earliest (rules.too_wide_case names.now header.now case.now) }
+{
+    earliest_beside(
+        header.select.as_slice(),
+        case.values.as_slice(),
+        |ident, value| too_wide_value(names.width(names.own_key(header, ident)), *value),
+    )
+}
+
+/// Where the number of a node's test does not fit the field.
+fn too_wide_in_node(names: &Names<'_>, what: &WhatText) -> Option<Place>
+    ensures { result ≡ earliest (too_wide_node names.now what.now) }
+{
+    match what {
+        WhatText::Apply { .. } => None,
+        WhatText::If { field, mask, value } => {
+            let width = names.width_of(field);
+            too_wide_value(
+                width,
+                ValueText {
+                    value: *value,
+                    mask: *mask,
+                },
+            )
+        }
+    }
+}
+
+/// Where an operand is not of the width of the assigned field, or a number does not fit its field.
+///
+/// # Errors
+///
+/// For want of memory.
+pub fn widths_differ(alloc: Global, names: &Names<'_>) -> Result<Option<Place>, AllocError>
+    ensures { IfOk result (λ p. p ≡ earliest (broken_10 names.now)) }
+{
+    let source = names.source();
+    let actions = try_earliest_of(source.actions.as_slice(), |action| {
+        wrong_in_action(alloc, names, action)
+    })?;
+    let headers = earliest_of(source.headers.as_slice(), |header| {
+        earliest_of(
+            header.cases.as_slice(),
+            |case| too_wide_case(names, header, case),
+        )
+    });
+    let nodes = earliest_of(nodes_of(source), |node| too_wide_in_node(names, &node.what));
+    Ok(earlier(earlier(actions, headers), nodes))
+}

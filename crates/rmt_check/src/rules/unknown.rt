@@ -1,0 +1,257 @@
+//! Code 6: names that are not declared where they are used.
+
+ghost use Rattle.std.specs.Prelude.{◌≡◌, ◌∷◌, ◌++◌, [], not, IfOk, option_map, option_to_list};
+ghost use Rattle.std.specs.List.{flat_map};
+ghost use Rattle.rmt_check.specs.Names.{header_names, is_field, operands, selected};
+ghost use Rattle.rmt_check.specs.Rules as rules;
+ghost use Rattle.rmt_check.specs.Rules.{arm_names, broken_6, earliest, target_names, targets, unknown, when};
+ghost use Rattle.rmt_check.specs.Standing.{named_at};
+
+use crate::names::Names;
+use crate::names::fields::FieldKey;
+use crate::names::numbers::Numbers;
+use crate::names::params::ActionNames;
+use crate::rules::control::nodes_of;
+use crate::rules::counts::listed;
+use crate::rules::keys::key_fields;
+use crate::rules::places::{earlier, place_when};
+use crate::rules::search::{earliest_of, try_earliest_of};
+use crate::source::{
+    ActionText, ArmText, AssignText, ExprText, FieldText, HeaderText, Ident, LeafText, OwnerText,
+    Sign, TableText, TargetText, WhatText,
+};
+use rmt_lexer::place::Place;
+use std::alloc::{AllocError, Global};
+
+/// Where a name is not among these.
+fn unknown_one(names: &Numbers<'_>, ident: &Ident) -> Option<Place>
+    ensures { result ≡ earliest (unknown names.now (ident.now ∷ [])) }
+{
+    place_when(!names.knows(ident.name.as_slice()), ident.place)
+}
+
+/// The earliest place of a name that is not among these.
+fn unknown_among(names: &Numbers<'_>, idents: &[Ident]) -> Option<Place>
+    ensures { result ≡ earliest (unknown names.now idents.now) }
+{
+    earliest_of(idents, |ident| {
+        place_when(!names.knows(ident.name.as_slice()), ident.place)
+    })
+}
+
+/// Where a field's header is not declared.
+fn unknown_owner(names: &Names<'_>, owner: &OwnerText) -> Option<Place>
+    ensures { result ≡ earliest (rules.unknown_owner names.now owner.now) }
+{
+    match owner {
+        OwnerText::Header(header) => unknown_one(names.headers(), header),
+        OwnerText::Intrinsic => None,
+        OwnerText::Metadata => None,
+    }
+}
+
+/// The place, where no field has the key.
+fn unknown_key(names: &Names<'_>, key: FieldKey<'_>, place: Place) -> Option<Place>
+    ensures { result ≡ earliest (when (not (is_field names.now (named_at key.entry))) place) }
+{
+    place_when(!names.knows_field(key), place)
+}
+
+/// Where a field, or its header, is not declared.
+fn unknown_field(names: &Names<'_>, field: &FieldText) -> Option<Place>
+    ensures { result ≡ earliest (rules.unknown_field names.now field.now) }
+{
+    earlier(
+        unknown_owner(names, &field.owner),
+        unknown_key(names, names.key(field), field.ident.place),
+    )
+}
+
+/// Where a target is no header.
+fn unknown_target(names: &Names<'_>, target: &TargetText) -> Option<Place>
+    ensures { result ≡ earliest (unknown (header_names names.now) (target_names target.now)) }
+{
+    match target {
+        TargetText::Header(header) => unknown_one(names.headers(), header),
+        TargetText::Accept => None,
+        TargetText::Reject => None,
+    }
+}
+
+/// Where a header goes on to no header.
+fn unknown_in_targets(names: &Names<'_>, header: &HeaderText) -> Option<Place>
+    ensures { result ≡ earliest (unknown (header_names names.now) (targets header.now)) }
+{
+    let cases = earliest_of(header.cases.as_slice(), |case| {
+        unknown_target(names, &case.target)
+    });
+    earlier(cases, unknown_target(names, &header.other))
+}
+
+/// Where a name is no field of the header.
+fn unknown_own_field(names: &Names<'_>, header: &HeaderText, ident: &Ident) -> Option<Place>
+    ensures { result ≡ earliest (when (not (is_field names.now (selected names.now header.now ident.now))) ident.now.place) }
+{
+    unknown_key(names, names.own_key(header, ident), ident.place)
+}
+
+/// Where a select names no field of its header.
+fn unknown_select(names: &Names<'_>, header: &HeaderText) -> Option<Place>
+    ensures { result ≡ earliest (rules.unknown_select names.now header.now) }
+{
+    earliest_of(header.select.as_slice(), |ident| {
+        unknown_own_field(names, header, ident)
+    })
+}
+
+/// Where a tail names no field of its header.
+fn unknown_tail(names: &Names<'_>, header: &HeaderText) -> Option<Place>
+    ensures { result ≡ earliest (rules.unknown_tail names.now header.now) }
+{
+    let Some(tail) = &header.tail else {
+        return None;
+    };
+    unknown_own_field(names, header, &tail.field)
+}
+
+/// Where a select or a tail names no field of its header.
+fn unknown_own(names: &Names<'_>, header: &HeaderText) -> Option<Place>
+    ensures { result ≡ earliest (rules.unknown_own names.now header.now) }
+{
+    earlier(unknown_select(names, header), unknown_tail(names, header))
+}
+
+/// Where an operand is not declared.
+fn unknown_leaf(names: &Names<'_>, action: &ActionNames<'_>, leaf: &LeafText) -> Option<Place>
+    ensures { result ≡ earliest (rules.unknown_leaf names.now action.now leaf.now) }
+{
+    match leaf {
+        LeafText::Field(field) => unknown_field(names, field),
+        LeafText::Param(param) => unknown_one(action.params(), param),
+        LeafText::Number(_) => None,
+    }
+}
+
+/// Where the second operand, if there is one, is not declared.
+fn unknown_right(
+    names: &Names<'_>,
+    action: &ActionNames<'_>,
+    right: &Option<(Sign, LeafText)>,
+) -> Option<Place>
+    ensures { result ≡ earliest (flat_map (rules.unknown_leaf names.now action.now) (option_to_list (option_map (λ r. r.1) right.now))) }
+{
+    match right {
+        Some((_, leaf)) => unknown_leaf(names, action, leaf),
+        None => None,
+    }
+}
+
+/// Where an operand of an expression is not declared.
+fn unknown_operand(names: &Names<'_>, action: &ActionNames<'_>, expr: &ExprText) -> Option<Place>
+    ensures { result ≡ earliest (flat_map (rules.unknown_leaf names.now action.now) (operands expr.now)) }
+{
+    earlier(
+        unknown_leaf(names, action, &expr.left),
+        unknown_right(names, action, &expr.right),
+    )
+}
+
+fn unknown_in_assign(
+    names: &Names<'_>,
+    action: &ActionNames<'_>,
+    assign: &AssignText,
+) -> Option<Place>
+    ensures { result ≡ earliest (rules.unknown_assign names.now action.now assign.now) }
+{
+    earlier(
+        unknown_field(names, &assign.dest),
+        unknown_operand(names, action, &assign.expr),
+    )
+}
+
+fn unknown_in_action(
+    alloc: Global,
+    names: &Names<'_>,
+    action: &ActionText,
+) -> Result<Option<Place>, AllocError>
+    ensures { IfOk result (λ p. p ≡ earliest (flat_map (rules.unknown_assign names.now action.now) action.now.assigns)) }
+{
+    let own = ActionNames::of(alloc, action)?;
+    Ok(earliest_of(action.assigns.as_slice(), |assign| {
+        unknown_in_assign(names, &own, assign)
+    }))
+}
+
+fn unknown_in_table(names: &Names<'_>, table: &TableText) -> Option<Place>
+    ensures { result ≡ earliest (rules.unknown_in_table names.now table.now) }
+{
+    let fields = earliest_of(key_fields(table), |field| unknown_field(names, field));
+    let actions = unknown_among(names.actions(), listed(table));
+    earlier(
+        earlier(fields, actions),
+        unknown_one(names.actions(), &table.default),
+    )
+}
+
+/// Where an arm's action is not in the list.
+fn unknown_arm(list: &Numbers<'_>, arm: &ArmText) -> Option<Place>
+    ensures { result ≡ earliest (unknown list.now (arm_names arm.now)) }
+{
+    match arm {
+        ArmText::Action(action) => unknown_one(list, action),
+        ArmText::Hit => None,
+        ArmText::Miss => None,
+    }
+}
+
+fn unknown_in_arms(list: &Numbers<'_>, arms: &[ArmText]) -> Option<Place>
+    ensures { result ≡ earliest (unknown list.now (flat_map arm_names arms.now)) }
+{
+    earliest_of(arms, |arm| unknown_arm(list, arm))
+}
+
+fn unknown_in_node(names: &Names<'_>, what: &WhatText) -> Option<Place>
+    ensures { result ≡ earliest (rules.unknown_in_node names.now what.now) }
+{
+    match what {
+        WhatText::Apply { table, arms } => {
+            let list = names.list(table.name.as_slice());
+            earlier(
+                unknown_one(names.tables(), table),
+                unknown_in_arms(list, arms.as_slice()),
+            )
+        }
+        WhatText::If { field, .. } => unknown_field(names, field),
+    }
+}
+
+/// Where a header names no field of its own, or goes on to no header.
+fn unknown_in_headers(names: &Names<'_>) -> Option<Place>
+    ensures { result ≡ earliest (flat_map (rules.unknown_own names.now) names.now.headers ++ flat_map (λ h. unknown (header_names names.now) (targets h)) names.now.headers) }
+{
+    let headers = names.source().headers.as_slice();
+    let own = earliest_of(headers, |header| unknown_own(names, header));
+    let targets = earliest_of(headers, |header| unknown_in_targets(names, header));
+    earlier(own, targets)
+}
+
+/// Where a name is not declared.
+///
+/// # Errors
+///
+/// For want of memory.
+pub fn unknown_name(alloc: Global, names: &Names<'_>) -> Result<Option<Place>, AllocError>
+    ensures { IfOk result (λ p. p ≡ earliest (broken_6 names.now)) }
+{
+    let source = names.source();
+    let headers = unknown_in_headers(names);
+    let actions = try_earliest_of(source.actions.as_slice(), |action| {
+        unknown_in_action(alloc, names, action)
+    })?;
+    let tables = earliest_of(
+        source.tables.as_slice(),
+        |table| unknown_in_table(names, table),
+    );
+    let nodes = earliest_of(nodes_of(source), |node| unknown_in_node(names, &node.what));
+    Ok(earlier(earlier(earlier(headers, actions), tables), nodes))
+}

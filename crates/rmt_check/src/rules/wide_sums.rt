@@ -1,0 +1,46 @@
+//! Code 11: sums of at most 32 bits.
+
+ghost use Rattle.std.specs.Prelude.{◌≡◌};
+ghost use Rattle.rmt_check.specs.Rules as rules;
+ghost use Rattle.rmt_check.specs.Rules.{broken_11, earliest};
+
+use crate::names::Names;
+use crate::rules::places::place_when;
+use crate::rules::search::earliest_of;
+use crate::source::{LeafText, Sign};
+use rmt_ast::program::Op;
+use rmt_lexer::place::Place;
+
+fn is_sum(op: Op) -> bool
+    ensures { result ≡ rules.is_sum op }
+{
+    match op {
+        Op::Add => true,
+        Op::Sub => true,
+        Op::And => false,
+        Op::Or => false,
+        Op::Xor => false,
+    }
+}
+
+/// Where a sum goes into more than 32 bits.
+fn wide_sign(width: u128, right: &Option<(Sign, LeafText)>) -> Option<Place>
+    ensures { result ≡ earliest (rules.wide_sign width right.now) }
+{
+    match right {
+        Some((sign, _)) => place_when(is_sum(sign.op) && 32 < width, sign.place),
+        None => None,
+    }
+}
+
+/// Where `+` or `-` goes into a field of more than 32 bits.
+pub fn wide_arithmetic(names: &Names<'_>) -> Option<Place>
+    ensures { result ≡ earliest (broken_11 names.now) }
+{
+    let source = names.source();
+    earliest_of(source.actions.as_slice(), |action| {
+        earliest_of(action.assigns.as_slice(), |assign| {
+            wide_sign(names.width_of(&assign.dest), &assign.expr.right)
+        })
+    })
+}
