@@ -40,8 +40,8 @@ use crate::lanes::{lane_of, out_headers};
 use crate::listing::{sram_rows, tcam_rows};
 use crate::loading::load_all;
 use crate::numbers::cells_of;
-use crate::plan::Plan;
-use crate::rows::{PlannedStage, write_units};
+use crate::plan::{Plan, PlannedStage};
+use crate::rows::write_units;
 use crate::tcam::TcamRows;
 use crate::units::units_of;
 use rmt_ast::deps::Deps;
@@ -211,16 +211,16 @@ fn stage_of(
     ensures stage { IfOk result (IsBuiltStage program.now entries.now plan.now stage) }
     ensures memory { IsOkUnless result NoFit.NoMemory }
 {
-    let units = units_of(alloc, program, entries, plan, stage)?;
-    let code = code_of(alloc, program, plan, units.as_slice())?;
-    let mut sram = Rows::new(alloc)?;
-    let mut tcam = TcamRows::new(alloc)?;
     let planned = PlannedStage {
         program,
         entries,
         plan,
         stage,
     };
+    let units = units_of(alloc, &planned)?;
+    let code = code_of(alloc, program, plan, units.as_slice())?;
+    let mut sram = Rows::new(alloc)?;
+    let mut tcam = TcamRows::new(alloc)?;
     write_units(alloc, &mut sram, &mut tcam, &planned, units.as_slice())?;
     let srows = sram_rows(alloc, &sram)?;
     let trows = tcam_rows(alloc, &tcam)?;

@@ -1,6 +1,8 @@
 //! What is known of a program before its stages are put together.
 
 use crate::stands::Stands;
+use rmt_ast::entry::EntryLists;
+use rmt_ast::program::Program;
 use rmt_bits::sequence::Sequence;
 use rmt_pack::format::Format;
 use rmt_pack::placement::Placement;
@@ -24,4 +26,17 @@ pub struct Plan {
     pub stands: Sequence<Stands>,
     /// The seed under which exact keys are loaded.
     pub seed: u8,
+}
+
+/// A stage of a plan for a program with these entries.
+#[derive(Clone, Copy)]
+pub struct PlannedStage<'a> {
+    /// The program.
+    pub program: &'a Program,
+    /// The entries of each of its nodes.
+    pub entries: &'a EntryLists,
+    /// Where everything is to stand.
+    pub plan: &'a Plan,
+    /// The number of the stage, 0 to 31.
+    pub stage: u32,
 }

@@ -25,12 +25,12 @@ ghost use Rattle.rmt_build.specs.Written.{SlotFits, SlotWritten, UnitFits, Units
 
 use crate::data::{key_bytes, record_bytes, widths_of};
 use crate::formats::applied;
-use crate::plan::Plan;
+use crate::plan::PlannedStage;
 use crate::stands::Stand;
 use crate::tcam::TcamRows;
 use crate::units::stands_in;
 use crate::words::write_tests;
-use rmt_ast::entry::{Entry, EntryLists};
+use rmt_ast::entry::Entry;
 use rmt_ast::program::{Kind, Program, Table};
 use rmt_bits::answer::Bytes;
 use rmt_bits::bits::bytes_of_bits;
@@ -43,19 +43,6 @@ use rmt_pack::record::write_record;
 use rmt_pack::rows::Rows;
 use rmt_pack::shape::{EXACT, Shape, TERNARY};
 use std::alloc::{AllocError, Global};
-
-/// A stage of a plan for a program with these entries.
-#[derive(Clone, Copy)]
-pub struct PlannedStage<'a> {
-    /// The program.
-    pub program: &'a Program,
-    /// The entries of each of its nodes.
-    pub entries: &'a EntryLists,
-    /// Where everything is to stand.
-    pub plan: &'a Plan,
-    /// The number of the stage, 0 to 31.
-    pub stage: u32,
-}
 
 /// The entries of a part: those of a table of a program, where they stand, and the number in the stage of the first
 /// instruction of the table.
@@ -76,6 +63,16 @@ struct PlacedEntry<'a> {
     code: u8,
 }
 
+/// The format of an exact part, and its blocks.
+#[derive(Clone, Copy)]
+struct ExactBlocks<'a> {
+    width: u8,
+    per: u16,
+    quanta: u8,
+    keys: &'a Bytes,
+    records: &'a Bytes,
+}
+
 /// A list of blocks with the same blocks.
 fn copied(alloc: Global, blocks: &Bytes) -> Result<Bytes, AllocError>
     ensures { IfOk result (λ same. same ≡ blocks.now) }
@@ -88,27 +85,18 @@ fn copied(alloc: Global, blocks: &Bytes) -> Result<Bytes, AllocError>
 }
 
 /// The shape of an exact part.
-fn exact_shape(
-    alloc: Global,
-    key: u16,
-    held: u16,
-    width: u8,
-    per: u16,
-    quanta: u8,
-    keys: &Bytes,
-    records: &Bytes,
-) -> Result<Shape, AllocError>
-    ensures { IfOk result (λ shape. shape ≡ exact_part key held width per quanta keys.now records.now) }
+fn exact_shape(alloc: Global, key: u16, held: u16, own: &ExactBlocks) -> Result<Shape, AllocError>
+    ensures { IfOk result (λ shape. shape ≡ exact_part key held own.now.width own.now.per own.now.quanta own.now.keys.now own.now.records.now) }
 {
     Ok(Shape {
         memory: EXACT,
         key,
-        width,
-        per,
-        quanta,
+        width: own.width,
+        per: own.per,
+        quanta: own.quanta,
         held,
-        keys: copied(alloc, keys)?,
-        records: copied(alloc, records)?,
+        keys: copied(alloc, own.keys)?,
+        records: copied(alloc, own.records)?,
     })
 }
 
@@ -340,28 +328,24 @@ fn write_exact_part(
     alloc: Global,
     sram: &mut Rows,
     part: &PartEntries,
-    width: u8,
-    per: u16,
-    quanta: u8,
-    keys: &Bytes,
-    records: &Bytes,
+    own: &ExactBlocks,
 ) -> Result<(), AllocError>
     requires program { IsProgram part.now.program.now }
     requires table { IsTable part.now.program.now part.now.table.now }
     requires kind { part.now.table.now.kind ≢ Kind.Keyless }
     requires entries { AreOf part.now.program.now part.now.table.now part.now.entries.now }
-    requires shape { IsShape (exact_part (bits_of_key part.now.program.now part.now.table.now) (bits_of_data part.now.program.now part.now.table.now) width per quanta keys.now records.now) }
-    requires stands { StandApart (length part.now.entries.now) (4096 * quanta * per) part.now.stands.now }
+    requires shape { IsShape (exact_part (bits_of_key part.now.program.now part.now.table.now) (bits_of_data part.now.program.now part.now.table.now) own.now.width own.now.per own.now.quanta own.now.keys.now own.now.records.now) }
+    requires stands { StandApart (length part.now.entries.now) (4096 * own.now.quanta * own.now.per) part.now.stands.now }
     requires few { part.now.first + length part.now.table.now.actions ≤ 32 }
-    requires zeros { (b r : ℕ) → Contains (keys.now ++ records.now) b → blocks_of sram.old b r ≡ 0 }
+    requires zeros { (b r : ℕ) → Contains (own.now.keys.now ++ own.now.records.now) b → blocks_of sram.old b r ≡ 0 }
     ensures holds { OnOk result (ExactSo part.now.program.now part.now.table.now part.now.entries.now part.now.first (blocks_of sram.new)
-        (exact_part (bits_of_key part.now.program.now part.now.table.now) (bits_of_data part.now.program.now part.now.table.now) width per quanta keys.now records.now) part.now.stands.now) }
-    ensures others { OnOk result ((b r : ℕ) → (Contains (keys.now ++ records.now) b → ⊥) → blocks_of sram.new b r ≡ blocks_of sram.old b r) }
+        (exact_part (bits_of_key part.now.program.now part.now.table.now) (bits_of_data part.now.program.now part.now.table.now) own.now.width own.now.per own.now.quanta own.now.keys.now own.now.records.now) part.now.stands.now) }
+    ensures others { OnOk result ((b r : ℕ) → (Contains (own.now.keys.now ++ own.now.records.now) b → ⊥) → blocks_of sram.new b r ≡ blocks_of sram.old b r) }
 {
     let widths = widths_of(alloc, part.program, part.table.key.as_slice())?;
     let key = key_bits(part.program, part.table) as u16;
     let held = data_bits(part.program, part.table) as u16;
-    let shape = exact_shape(alloc, key, held, width, per, quanta, keys, records)?;
+    let shape = exact_shape(alloc, key, held, own)?;
     let widths = widths.as_slice();
     write_cells(alloc, sram, part, &shape, widths)?;
     Ok(())
@@ -437,7 +421,14 @@ fn write_part(
             records,
             ..
         } => {
-            write_exact_part(alloc, sram, part, *width, *per, *quanta, keys, records)?;
+            let own = ExactBlocks {
+                width: *width,
+                per: *per,
+                quanta: *quanta,
+                keys,
+                records,
+            };
+            write_exact_part(alloc, sram, part, &own)?;
             Ok(())
         }
         Memory::Ternary {
@@ -480,14 +471,7 @@ fn write_slot(
     let program = planned.program;
     if let Some(table) = applied(program, &program.nodes.as_slice()[node]) {
         let own = planned.entries.as_slice()[node].as_slice();
-        let stands = stands_in(
-            alloc,
-            program,
-            planned.plan,
-            table,
-            node as u32,
-            planned.stage,
-        )?;
+        let stands = stands_in(alloc, planned, table, node as u32)?;
         let stands = stands.as_slice();
         let part = PartEntries {
             program,

@@ -19,9 +19,8 @@ use crate::lanes::{gate_tests, high_first};
 use crate::memory::{Need, Taken, memory_of};
 use crate::numbers::numbers_of;
 use crate::parts::{last_stage, parts_before, quanta_before, quanta_in};
-use crate::plan::Plan;
+use crate::plan::{Plan, PlannedStage};
 use crate::stands::{Stands, stands_from};
-use rmt_ast::entry::EntryLists;
 use rmt_ast::program::{Guard, Kind, Program, Table, Test, What};
 use rmt_bits::sequence::Sequence;
 use rmt_config::config::{GateUnit, Memory, SlotUnit, Unit, UnitGuard};
@@ -69,22 +68,22 @@ fn gate_of(
 }
 
 /// What the memory of a table's part in a stage has to hold.
-fn need_of(program: &Program, plan: &Plan, table: &Table, node: u32, stage: u32) -> Need
-    requires program { IsProgram program.now }
-    requires parts { AreParts program.now plan.now.placement.parts }
-    requires formats { plan.now.formats ≡ formats_of program.now }
-    requires table { table_at program.now node ≡ Some table.now }
+fn need_of(planned: &PlannedStage, table: &Table, node: u32) -> Need
+    requires program { IsProgram planned.now.program.now }
+    requires parts { AreParts planned.now.program.now planned.now.plan.now.placement.parts }
+    requires formats { planned.now.plan.now.formats ≡ formats_of planned.now.program.now }
+    requires table { table_at planned.now.program.now node ≡ Some table.now }
     requires key { table.now.kind ≢ Kind.Keyless }
-    requires stage { stage < 32 }
-    ensures { result ≡ need_in program.now plan.now.placement.parts table.now node stage }
+    requires stage { planned.now.stage < 32 }
+    ensures { result ≡ need_in planned.now.program.now planned.now.plan.now.placement.parts table.now node planned.now.stage }
 {
-    let parts = plan.placement.parts.as_slice();
+    let parts = planned.plan.placement.parts.as_slice();
     Need {
-        format: plan.formats.as_slice()[node as usize],
-        quanta: quanta_in(parts, node, stage) as u8,
-        before: parts_before(parts, node, stage),
-        key: key_bits(program, table),
-        held: data_bits(program, table) as u16,
+        format: planned.plan.formats.as_slice()[node as usize],
+        quanta: quanta_in(parts, node, planned.stage) as u8,
+        before: parts_before(parts, node, planned.stage),
+        key: key_bits(planned.program, table),
+        held: data_bits(planned.program, table) as u16,
         counted: table.counted,
     }
 }
@@ -92,93 +91,86 @@ fn need_of(program: &Program, plan: &Plan, table: &Table, node: u32, stage: u32)
 /// The memory of a table's part in a stage, in the next blocks of the stage.
 fn slot_memory(
     alloc: Global,
-    program: &Program,
-    plan: &Plan,
+    planned: &PlannedStage,
     taken: &mut Taken,
     table: &Table,
     node: u32,
-    stage: u32,
 ) -> Result<Memory, AllocError>
-    requires program { IsProgram program.now }
-    requires parts { AreParts program.now plan.now.placement.parts }
-    requires formats { plan.now.formats ≡ formats_of program.now }
-    requires table { table_at program.now node ≡ Some table.now }
-    requires stage { stage < 32 }
-    requires taken { taken.old ≡ taken_upto program.now plan.now.placement.parts stage node }
+    requires program { IsProgram planned.now.program.now }
+    requires parts { AreParts planned.now.program.now planned.now.plan.now.placement.parts }
+    requires formats { planned.now.plan.now.formats ≡ formats_of planned.now.program.now }
+    requires table { table_at planned.now.program.now node ≡ Some table.now }
+    requires stage { planned.now.stage < 32 }
+    requires taken { taken.old ≡ taken_upto planned.now.program.now planned.now.plan.now.placement.parts planned.now.stage node }
     ensures memory { IfOk result (λ memory. memory ≡
-        memory_for table.now.kind (need_in program.now plan.now.placement.parts table.now node stage) taken.old) }
-    ensures taken { OnOk result (taken.new ≡ taken_upto program.now plan.now.placement.parts stage (node + 1)) }
+        memory_for table.now.kind (need_in planned.now.program.now planned.now.plan.now.placement.parts table.now node planned.now.stage) taken.old) }
+    ensures taken { OnOk result (taken.new ≡ taken_upto planned.now.program.now planned.now.plan.now.placement.parts planned.now.stage (node + 1)) }
 {
     if table.kind == Kind::Keyless {
         return Ok(Memory::Without);
     }
-    let need = need_of(program, plan, table, node, stage);
+    let need = need_of(planned, table, node);
     memory_of(alloc, taken, table.kind, &need)
 }
 
 /// The entries of the table of a node that stand in its part in a stage, by the cells of the part.
 pub fn stands_in(
     alloc: Global,
-    program: &Program,
-    plan: &Plan,
+    planned: &PlannedStage,
     table: &Table,
     node: u32,
-    stage: u32,
 ) -> Result<Stands, AllocError>
-    requires program { IsProgram program.now }
-    requires parts { AreParts program.now plan.now.placement.parts }
-    requires formats { plan.now.formats ≡ formats_of program.now }
-    requires table { table_at program.now node ≡ Some table.now }
-    requires stage { stage < 32 }
-    requires stands { node < length plan.now.stands }
-    ensures { IfOk result (λ own. own ≡ stands_of_part program.now plan.now table.now node stage) }
+    requires program { IsProgram planned.now.program.now }
+    requires parts { AreParts planned.now.program.now planned.now.plan.now.placement.parts }
+    requires formats { planned.now.plan.now.formats ≡ formats_of planned.now.program.now }
+    requires table { table_at planned.now.program.now node ≡ Some table.now }
+    requires stage { planned.now.stage < 32 }
+    requires stands { node < length planned.now.plan.now.stands }
+    ensures { IfOk result (λ own. own ≡ stands_of_part planned.now.program.now planned.now.plan.now table.now node planned.now.stage) }
 {
     if table.kind == Kind::Keyless {
         return Ok(Sequence::new(alloc));
     }
-    let parts = plan.placement.parts.as_slice();
-    let per = plan.formats.as_slice()[node as usize].per;
-    let first = cells_of(table.kind, per, quanta_before(parts, node, stage));
-    let cells = cells_of(table.kind, per, quanta_in(parts, node, stage));
-    let stands = plan.stands.as_slice()[node as usize].as_slice();
+    let parts = planned.plan.placement.parts.as_slice();
+    let per = planned.plan.formats.as_slice()[node as usize].per;
+    let first = cells_of(table.kind, per, quanta_before(parts, node, planned.stage));
+    let cells = cells_of(table.kind, per, quanta_in(parts, node, planned.stage));
+    let stands = planned.plan.stands.as_slice()[node as usize].as_slice();
     stands_from(alloc, stands, first, cells)
 }
 
 /// The unit of a table's part in a stage, with its memory in the next blocks of the stage.
 fn slot_of(
     alloc: Global,
-    program: &Program,
-    entries: &EntryLists,
-    plan: &Plan,
+    planned: &PlannedStage,
     taken: &mut Taken,
     table: &Table,
     node: u32,
-    stage: u32,
 ) -> Result<Unit, AllocError>
-    requires program { IsProgram program.now }
-    requires entries { AreEntries program.now entries.now }
-    requires plan { IsPlan program.now entries.now plan.now }
-    requires table { table_at program.now node ≡ Some table.now }
-    requires node { node < length program.now.nodes }
-    requires stage { stage < 32 }
-    requires taken { taken.old ≡ taken_upto program.now plan.now.placement.parts stage node }
-    ensures unit { IfOk result (UnitCarried program.now plan.now.places plan.now.placement.parts stage node) }
-    ensures parts { IfOk result (λ unit. HaveParts program.now entries.now plan.now stage (unit ∷ [])) }
+    requires program { IsProgram planned.now.program.now }
+    requires entries { AreEntries planned.now.program.now planned.now.entries.now }
+    requires plan { IsPlan planned.now.program.now planned.now.entries.now planned.now.plan.now }
+    requires table { table_at planned.now.program.now node ≡ Some table.now }
+    requires node { node < length planned.now.program.now.nodes }
+    requires stage { planned.now.stage < 32 }
+    requires taken { taken.old ≡ taken_upto planned.now.program.now planned.now.plan.now.placement.parts planned.now.stage node }
+    ensures unit { IfOk result (UnitCarried planned.now.program.now planned.now.plan.now.places planned.now.plan.now.placement.parts planned.now.stage node) }
+    ensures parts { IfOk result (λ unit. HaveParts planned.now.program.now planned.now.entries.now planned.now.plan.now planned.now.stage (unit ∷ [])) }
     ensures small { IfOk result SmallUnit }
-    ensures taken { OnOk result (taken.new ≡ taken_upto program.now plan.now.placement.parts stage (node + 1)) }
+    ensures taken { OnOk result (taken.new ≡ taken_upto planned.now.program.now planned.now.plan.now.placement.parts planned.now.stage (node + 1)) }
 {
-    let keys = high_first(alloc, &plan.places, table.key.as_slice())?;
-    let memory = slot_memory(alloc, program, plan, taken, table, node, stage)?;
-    let stands = stands_in(alloc, program, plan, table, node, stage)?;
-    let list = entries.as_slice()[node as usize].as_slice();
+    let keys = high_first(alloc, &planned.plan.places, table.key.as_slice())?;
+    let memory = slot_memory(alloc, planned, taken, table, node)?;
+    let stands = stands_in(alloc, planned, table, node)?;
+    let list = planned.entries.as_slice()[node as usize].as_slice();
     let numbers = numbers_of(alloc, stands.as_slice(), list)?;
     Ok(Unit::Slot(SlotUnit {
         node: node as u8,
-        guard: guard_of(program.nodes.as_slice()[node as usize].guard),
+        guard: guard_of(planned.program.nodes.as_slice()[node as usize].guard),
         counted: table.counted,
         actions: table.actions.len() as u8,
-        last: stage == last_stage(plan.placement.parts.as_slice(), node),
-        held: data_bits(program, table) as u16,
+        last: planned.stage == last_stage(planned.plan.placement.parts.as_slice(), node),
+        held: data_bits(planned.program, table) as u16,
         keys,
         memory,
         numbers,
@@ -188,56 +180,55 @@ fn slot_of(
 /// The unit of a node in a stage.
 fn unit_of(
     alloc: Global,
-    program: &Program,
-    entries: &EntryLists,
-    plan: &Plan,
+    planned: &PlannedStage,
     taken: &mut Taken,
     node: u32,
-    stage: u32,
 ) -> Result<Unit, AllocError>
-    requires program { IsProgram program.now }
-    requires entries { AreEntries program.now entries.now }
-    requires plan { IsPlan program.now entries.now plan.now }
-    requires node { node < length program.now.nodes }
-    requires stage { stage < 32 }
-    requires taken { taken.old ≡ taken_upto program.now plan.now.placement.parts stage node }
-    ensures unit { IfOk result (UnitCarried program.now plan.now.places plan.now.placement.parts stage node) }
-    ensures parts { IfOk result (λ unit. HaveParts program.now entries.now plan.now stage (unit ∷ [])) }
+    requires program { IsProgram planned.now.program.now }
+    requires entries { AreEntries planned.now.program.now planned.now.entries.now }
+    requires plan { IsPlan planned.now.program.now planned.now.entries.now planned.now.plan.now }
+    requires node { node < length planned.now.program.now.nodes }
+    requires stage { planned.now.stage < 32 }
+    requires taken { taken.old ≡ taken_upto planned.now.program.now planned.now.plan.now.placement.parts planned.now.stage node }
+    ensures unit { IfOk result (UnitCarried planned.now.program.now planned.now.plan.now.places planned.now.plan.now.placement.parts planned.now.stage node) }
+    ensures parts { IfOk result (λ unit. HaveParts planned.now.program.now planned.now.entries.now planned.now.plan.now planned.now.stage (unit ∷ [])) }
     ensures small { IfOk result SmallUnit }
-    ensures taken { OnOk result (taken.new ≡ taken_upto program.now plan.now.placement.parts stage (node + 1)) }
+    ensures taken { OnOk result (taken.new ≡ taken_upto planned.now.program.now planned.now.plan.now.placement.parts planned.now.stage (node + 1)) }
 {
-    let own = &program.nodes.as_slice()[node as usize];
+    let own = &planned.program.nodes.as_slice()[node as usize];
     match own.what {
         What::Apply(table) => {
-            let table = &program.tables.as_slice()[table as usize];
-            slot_of(alloc, program, entries, plan, taken, table, node, stage)
+            let table = &planned.program.tables.as_slice()[table as usize];
+            slot_of(alloc, planned, taken, table, node)
         }
-        What::Gate { field, test } => gate_of(alloc, program, plan, node, own.guard, field, &test),
+        What::Gate { field, test } => gate_of(
+            alloc,
+            planned.program,
+            planned.plan,
+            node,
+            own.guard,
+            field,
+            &test,
+        ),
     }
 }
 
 /// The units of a stage: one for each node that stands there, by number.
-pub fn units_of(
-    alloc: Global,
-    program: &Program,
-    entries: &EntryLists,
-    plan: &Plan,
-    stage: u32,
-) -> Result<Sequence<Unit>, AllocError>
-    requires program { IsProgram program.now }
-    requires entries { AreEntries program.now entries.now }
-    requires plan { IsPlan program.now entries.now plan.now }
-    requires stage { stage < 32 }
-    ensures units { IfOk result (AllZip (UnitCarried program.now plan.now.places plan.now.placement.parts stage)
-        (nodes_in program.now plan.now.placement.parts stage)) }
-    ensures parts { IfOk result (HaveParts program.now entries.now plan.now stage) }
+pub fn units_of(alloc: Global, planned: &PlannedStage) -> Result<Sequence<Unit>, AllocError>
+    requires program { IsProgram planned.now.program.now }
+    requires entries { AreEntries planned.now.program.now planned.now.entries.now }
+    requires plan { IsPlan planned.now.program.now planned.now.entries.now planned.now.plan.now }
+    requires stage { planned.now.stage < 32 }
+    ensures units { IfOk result (AllZip (UnitCarried planned.now.program.now planned.now.plan.now.places planned.now.plan.now.placement.parts planned.now.stage)
+        (nodes_in planned.now.program.now planned.now.plan.now.placement.parts planned.now.stage)) }
+    ensures parts { IfOk result (HaveParts planned.now.program.now planned.now.entries.now planned.now.plan.now planned.now.stage) }
     ensures small { IfOk result (All SmallUnit) }
 {
     let mut units = Sequence::new(alloc);
     let mut taken = Taken { sram: 0, tcam: 0 };
-    for node in 0..program.nodes.len() as u32 {
-        if quanta_in(plan.placement.parts.as_slice(), node, stage) > 0 {
-            units.push(unit_of(alloc, program, entries, plan, &mut taken, node, stage)?)?;
+    for node in 0..planned.program.nodes.len() as u32 {
+        if quanta_in(planned.plan.placement.parts.as_slice(), node, planned.stage) > 0 {
+            units.push(unit_of(alloc, planned, &mut taken, node)?)?;
         }
     }
     Ok(units)

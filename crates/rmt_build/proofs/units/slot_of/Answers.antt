@@ -25,28 +25,28 @@ use Rattle.rmt_build.proofs.units.slot_of.Goals as goal
 
 pub numbers_of-requires : goal.numbers_of-requires
 numbers_of-requires c =
-    let p = c.args.program.now in
-    let plan = c.args.plan.now in
+    let p = c.args.planned.now.program.now in
+    let plan = c.args.planned.now.plan.now in
     let n = c.args.node in
     let es = c.index-as_slice-node.result in
     let lists = c.as_slice-2.ensures in
     let terms = length-map p.nodes (λ (x : Node). terms_at p x.what) in
     let all = c.requires.entries.for_each_node in
     let long = c.requires.plan.stands.all_there in
-    let at : slice_get c.args.entries.now n ≡ Some es =
-    slice_get_read c.args.entries.now (length c.args.entries.now) n es refl (omega (arith, all, terms, c.requires.node)) (c.index-as_slice-node.is ∙ ap (λ xs. get_or xs n es) lists) in
+    let at : slice_get c.args.planned.now.entries.now n ≡ Some es =
+    slice_get_read c.args.planned.now.entries.now (length c.args.planned.now.entries.now) n es refl (omega (arith, all, terms, c.requires.node)) (c.index-as_slice-node.is ∙ ap (λ xs. get_or xs n es) lists) in
     let own : slice_get plan.stands n ≡ Some (get_or plan.stands n []) = slice_get-get_or plan.stands n [] (omega (arith, long, all, terms, c.requires.node)) in
     let t = c.args.table.now in
     let per = (format_at p n).per in
     let parts = plan.placement.parts in
-    let those = part_entries (length es) (cells_for t.kind per (quanta_before parts n c.args.stage)) (cells_for t.kind per (quanta_in parts n c.args.stage)) (get_or plan.stands n [])
+    let those = part_entries (length es) (cells_for t.kind per (quanta_before parts n c.args.planned.now.stage)) (cells_for t.kind per (quanta_in parts n c.args.planned.now.stage)) (get_or plan.stands n [])
     (c.requires.plan.stands.each n es (get_or plan.stands n []) at own) in
     subst (λ (xs : List Stand). All (λ (s : Stand). s.entry < length c.as_slice-list.result.now) xs) (sym (c.as_slice-3.ensures ∙ c.in_ok-stands.ensures))
-    (subst (λ (xs : List Entry). All (λ (s : Stand). s.entry < length xs) (stands_of_part p plan t n c.args.stage)) (sym c.as_slice-list.ensures) those)
+    (subst (λ (xs : List Entry). All (λ (s : Stand). s.entry < length xs) (stands_of_part p plan t n c.args.planned.now.stage)) (sym c.as_slice-list.ensures) those)
 
 pub guard_of-requires : goal.guard_of-requires
 guard_of-requires c =
-    let p = c.args.program.now in
+    let p = c.args.planned.now.program.now in
     let n = c.args.node in
     let a = node_applies p n c.args.table.now c.requires.table in
     let few = c.requires.program.counts.nodes in
@@ -56,24 +56,24 @@ guard_of-requires c =
 
 pub overflow_cast-result-2 : goal.overflow_cast-result-2
 overflow_cast-result-2 c =
-    let few = (is_table c.args.program.now c.requires.program c.args.node c.args.table.now c.requires.table).few_actions in
+    let few = (is_table c.args.planned.now.program.now c.requires.program c.args.node c.args.table.now c.requires.table).few_actions in
     omega (arith, few, c.len.ensures)
 
 pub data_bits-requires : goal.data_bits-requires
-data_bits-requires c = params-small c.args.program.now c.requires.program c.args.table.now
+data_bits-requires c = params-small c.args.planned.now.program.now c.requires.program c.args.table.now
 
 pub overflow_cast-result-3 : goal.overflow_cast-result-3
 overflow_cast-result-3 c =
-    let few = data_bits-few c.args.program.now c.requires.program c.args.table.now in
+    let few = data_bits-few c.args.planned.now.program.now c.requires.program c.args.table.now in
     omega (arith, few, c.data_bits.ensures)
 
 pub returns-clause-unit : goal.returns-clause-unit
 returns-clause-unit c =
-    let p = c.args.program.now in
-    let plan = c.args.plan.now in
+    let p = c.args.planned.now.program.now in
+    let plan = c.args.planned.now.plan.now in
     let parts = plan.placement.parts in
     let n = c.args.node in
-    let k = c.args.stage in
+    let k = c.args.planned.now.stage in
     let t = c.args.table.now in
     let a = node_applies p n t c.requires.table in
     let zero : Node = record { guard = None; what = Apply 0 } in
@@ -90,17 +90,17 @@ returns-clause-unit c =
 
 pub returns-clause-parts : goal.returns-clause-parts
 returns-clause-parts c =
-    let p = c.args.program.now in
-    let plan = c.args.plan.now in
+    let p = c.args.planned.now.program.now in
+    let plan = c.args.planned.now.plan.now in
     let n = c.args.node in
     let t = c.args.table.now in
     let es = c.index-as_slice-node.result in
     let terms = length-map p.nodes (λ (x : Node). terms_at p x.what) in
     let all = c.requires.entries.for_each_node in
-    let at : slice_get c.args.entries.now n ≡ Some es =
-    slice_get_read c.args.entries.now (length c.args.entries.now) n es refl (omega (arith, all, terms, c.requires.node)) (c.index-as_slice-node.is ∙ ap (λ xs. get_or xs n es) c.as_slice-2.ensures) in
-    slot_part p c.args.entries.now plan c.args.stage _ t es c.requires.table at (record {
-      memory = c.in_ok-memory.ensures.memory ∙ ap (memory_for t.kind (need_in p plan.placement.parts t n c.args.stage)) c.requires.taken;
+    let at : slice_get c.args.planned.now.entries.now n ≡ Some es =
+    slice_get_read c.args.planned.now.entries.now (length c.args.planned.now.entries.now) n es refl (omega (arith, all, terms, c.requires.node)) (c.index-as_slice-node.is ∙ ap (λ xs. get_or xs n es) c.as_slice-2.ensures) in
+    slot_part p c.args.planned.now.entries.now plan c.args.planned.now.stage _ t es c.requires.table at (record {
+      memory = c.in_ok-memory.ensures.memory ∙ ap (memory_for t.kind (need_in p plan.placement.parts t n c.args.planned.now.stage)) c.requires.taken;
       held = c.data_bits.ensures;
       numbers = c.in_ok-numbers.ensures.numbers ∙ (ap (λ (xs : List Entry). map (number_at xs) c.as_slice-3.result.now) c.as_slice-list.ensures ∙ ap (map (number_at es)) (c.as_slice-3.ensures ∙ c.in_ok-stands.ensures));
     })

@@ -13,20 +13,20 @@ use Rattle.rmt_build.proofs.units.unit_of.Goals as goal
 
 pub returns-in-Gate-clause-taken : goal.returns-in-Gate-clause-taken
 returns-in-Gate-clause-taken c =
-    let p = c.args.program.now in
-    let parts = c.args.plan.now.placement.parts in
+    let p = c.args.planned.now.program.now in
+    let parts = c.args.planned.now.plan.now.placement.parts in
     let n = c.args.node in
     let zero : Node = record { guard = None; what = Apply 0 } in
     let node : Node = get_or p.nodes n zero in
     let at : slice_get p.nodes n ≡ Some node = slice_get-get_or p.nodes n zero c.requires.node in
     let does : node.what ≡ Gate c.in-Gate.field c.in-Gate.test = sym (ap (λ xs. (get_or xs n zero).what) c.as_slice.ensures) ∙ c.in-Gate.is in
-    on_ok c.gate_of.result (c.args.taken.now ≡ taken_upto p parts c.args.stage (n + 1)) (c.requires.taken ∙ gate_taken p parts c.args.stage n node c.in-Gate.field c.in-Gate.test at does)
+    on_ok c.gate_of.result (c.args.taken.now ≡ taken_upto p parts c.args.planned.now.stage (n + 1)) (c.requires.taken ∙ gate_taken p parts c.args.planned.now.stage n node c.in-Gate.field c.in-Gate.test at does)
 
 pub returns-in-Gate-clause-parts : goal.returns-in-Gate-clause-parts
 returns-in-Gate-clause-parts c =
-    let p = c.args.program.now in
-    let plan = c.args.plan.now in
-    let lists = c.args.entries.now in
-    let k = c.args.stage in
+    let p = c.args.planned.now.program.now in
+    let plan = c.args.planned.now.plan.now in
+    let lists = c.args.planned.now.entries.now in
+    let k = c.args.planned.now.stage in
     if_ok c.gate_of.result (λ (u : Unit). (ls : List (List Entry)) (j : ℕ) → HaveParts p ls plan j (u ∷ [])) (λ (u : Unit). HaveParts p lists plan k (u ∷ []))
     (λ u holds. holds lists k) c.gate_of.ensures.parts
