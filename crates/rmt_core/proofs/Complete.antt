@@ -5,7 +5,6 @@ use Rattle.rmt_ast.specs.declared.program.Header.{Header}
 use Rattle.rmt_ast.specs.declared.entry.Entry.{Entry}
 use Rattle.rmt_bounds.specs.declared.bound.Bound.{Bound}
 use Rattle.rmt_config.specs.declared.config.Config.{Config}
-use Rattle.rmt_sample.specs.Texts.{entries_text, program_text}
 use Rattle.rmt_build.specs.declared.fault.NoFit.{NoFit}
 use Rattle.rmt_build.specs.Refusals.{first_refusal}
 use Rattle.rmt_core.specs.declared.status.Status.TheVariants.{Done}
@@ -25,7 +24,7 @@ use Rattle.rmt_core.specs.Simulating.{GivesRun, Spelled}
 use Rattle.rmt_core.specs.Texts.{Understands}
 use Rattle.rmt_core.specs.Watching.{text_of}
 use Rattle.rmt_core.proofs.GivenOnce.{NeverBoth, OneMeaning, never_both}
-use Rattle.rmt_core.proofs.GivenDone.{opened_there, read_within, run_done, spelled_is, understood}
+use Rattle.rmt_core.proofs.GivenDone.{opened_there, read_within, run_done, sample_built, spelled_is, understood}
 
 module _ (apart : NeverBoth) (files : Files) (finish : List ℕ → Config → Bound → Given) (is : (image : List ℕ) (c : Config) (b : Bound) → (finish image c b).status ≡ Done) (p : Program) (lists : List (List Entry)) (g : Given) (fits : Fits p lists) where
   loaded_ready : Loaded files finish p lists g → g.status ≡ Done
@@ -49,8 +48,7 @@ sample_ready : OneMeaning → NeverBoth → (files : Files) (number : ℕ) (g : 
 sample_ready one apart files number g ready h =
     let p = ready.0 in
     let lists = ready.1 in
-    let built = understood one files (program_text number) (entries_text number) (λ q l. Builds files (λ image c b. told files Done (sample_line number q l c)) q l) g p lists ready.2 ready.3 h in
-    builds_ready apart files (λ image c b. told files Done (sample_line number p lists c)) (λ _ _ _. refl) p lists g ready.4 built
+    builds_ready apart files (λ image c b. told files Done (sample_line number p lists c)) (λ _ _ _. refl) p lists g ready.3 (sample_built one files number g p lists ready.2 h)
 
 run_ready : (w : Watch) (files : Files) (image packets : List ℕ) (g : Given) → IsImage files image → IsGoodText files packets → GivesRun w files image packets g → g.status ≡ Done
 run_ready w files image packets g i t h =

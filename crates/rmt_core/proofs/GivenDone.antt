@@ -11,14 +11,17 @@ use Rattle.rmt_entries.specs.declared.fault.EntryFault.TheVariants.{NoMemory, At
 use Rattle.rmt_entries.specs.Entries.{entries_of}
 use Rattle.rmt_image.proofs.Whole.{image_again}
 use Rattle.rmt_packets.specs.PacketText.{BadLine, Reading, packets_of}
+use Rattle.rmt_sample.specs.Texts.{entries_text, program_text}
 use Rattle.rmt_core.specs.declared.status.Status.TheVariants.{Done}
+use Rattle.rmt_core.specs.Compiling.{Builds}
 use Rattle.rmt_core.specs.Files.{Files, Long, Holds, found}
 use Rattle.rmt_core.specs.Given.{Given, OfFound, OfOpened, Opens, Reads, told}
 use Rattle.rmt_core.specs.Headline.{IsWithin}
 use Rattle.rmt_core.specs.Runs.{Runs, reading_within, run_status, told_reading}
+use Rattle.rmt_core.specs.Sampling.{AreOfSample, GivesSample, sample_line}
 use Rattle.rmt_core.specs.Simulating.{OfAnswer, Spelled}
 use Rattle.rmt_core.specs.Texts.{OfEntries, OfMeaning, Understands}
-use Rattle.rmt_core.proofs.GivenOnce.{OneMeaning}
+use Rattle.rmt_core.proofs.GivenOnce.{OneMeaning, sample_understood}
 
 -- ---- a file that is there is read
 
@@ -40,6 +43,12 @@ pub understood : OneMeaning → (files : Files) (text entry_text : List ℕ) (ne
 understood one files text entry_text next g p lists means says h =
     let meant : OfMeaning files entry_text next g (Ok p) = subst (λ m. OfMeaning files entry_text next g m) (one text h.0 (Ok p) h.1 means) h.2 in
     subst (λ r. OfEntries files next p g r) says meant
+
+-- what is made of a program with entries that the texts of a number mean
+pub sample_built : OneMeaning → (files : Files) (number : ℕ) (g : Given) (p : Program) (lists : List (List Entry)) → AreOfSample number p lists → GivesSample files number g
+    → Builds files (λ image c b. told files Done (sample_line number p lists c)) p lists g
+sample_built one files number g p lists of h =
+    understood one files (program_text number) (entries_text number) (λ q l. Builds files (λ image c b. told files Done (sample_line number q l c)) q l) g p lists of.means of.says (sample_understood files number g h)
 
 -- ---- an image of a configuration
 

@@ -49,7 +49,7 @@ use Rattle.rmt_core.specs.NoFitText.{no_fit_line}
 use Rattle.rmt_core.specs.PlainText.{plain_text}
 use Rattle.rmt_core.specs.Reporting.{report_line}
 use Rattle.rmt_core.specs.Runs.{Runs}
-use Rattle.rmt_core.specs.Sampling.{answers_line, sample_line, sample_packets}
+use Rattle.rmt_core.specs.Sampling.{GivesSample, answers_line, sample_line, sample_packets}
 use Rattle.rmt_core.specs.Simulating.{GivesRun, OfAnswer, Spelled}
 use Rattle.rmt_core.specs.Texts.{OfEntries, OfMeaning, Understands}
 use Rattle.rmt_core.specs.Watching.{text_of}
@@ -277,6 +277,13 @@ run_once w files image packets =
     reads_once files image image_limit _
     (λ bytes. opens_once files packets _ (λ text. spelled_once files bytes (λ c. Runs files (text_of w c) packets_limit text) (λ c. runs_once files (text_of w c) packets_limit text)))
 
+-- `sample` understands its texts
+pub sample_understood : (files : Files) (number : ℕ) (g : Given) → GivesSample files number g
+    → Understands files (program_text number) (entries_text number) (λ p lists. Builds files (λ image c k. told files Done (sample_line number p lists c)) p lists) g
+sample_understood files number g h =
+    let next = λ (p : Program) (lists : List (List Entry)). Builds files (λ image c k. told files Done (sample_line number p lists c)) p lists in
+    (Ok h.0, h.2.means, subst (λ (r : Result (List (List Entry)) EntryFault). OfEntries files next h.0 g r) (sym h.2.says) h.3)
+
 -- ---- the law
 
 pub gives_one : OneMeaning → NeverBoth → GivesOne
@@ -294,4 +301,4 @@ gives_one one apart files (Report image) g h a b =
     reads_once files image image_limit _ (λ bytes. spelled_once files bytes (λ c g. g ≡ told files Done (report_line c)) (λ c. tells_once (told files Done (report_line c)))) g h a b
 gives_one one apart files (Sample number) g h a b =
     understands_once one files (program_text number) (entries_text number) (λ p lists. Builds files (λ image c k. told files Done (sample_line number p lists c)) p lists)
-    (λ p lists. samples_once apart p lists files number) g h a b
+    (λ p lists. samples_once apart p lists files number) g h (sample_understood files number g a) (sample_understood files number h b)

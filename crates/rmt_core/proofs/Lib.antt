@@ -30,4 +30,5 @@ pub mod TextLaws
 pub mod VectorLaws
 pub mod VectorTexts
 pub mod WaitingLaws
+pub mod sample
 pub mod size

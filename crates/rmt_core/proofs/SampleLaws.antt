@@ -1,5 +1,5 @@
 -- What a call of `sample` told.
-use Rattle.std.proofs.Common.{◌≡◌, ◌≢◌, ◌⊎◌, inl, inr, ⊎_elim, ℕ, Bool, List, map, length, refl, sym, ap, ◌∙◌}
+use Rattle.std.proofs.Common.{◌≡◌, ◌≢◌, ◌⊎◌, ◌≤◌, inl, inr, ⊎_elim, ℕ, Bool, Result, Err, Ok, List, map, length, refl, sym, ap, subst, ◌∙◌}
 use Rattle.rmt_ast.specs.declared.program.Program.{Program}
 use Rattle.rmt_ast.specs.declared.entry.Entry.{Entry}
 use Rattle.rmt_build.specs.declared.built.Built.{Built}
@@ -7,7 +7,14 @@ use Rattle.rmt_config.specs.declared.config.Config.{Config}
 use Rattle.rmt_config.specs.ChipRun.{cycles_of, outcomes_of}
 use Rattle.rmt_packets.specs.PacketText.{packets_of}
 use Rattle.rmt_refine.specs.RunsAs.{told_by_outcome}
-use Rattle.rmt_sample.specs.Texts.{packets_text}
+use Rattle.rmt_check.specs.Means.{Means, Outcome, fault_at}
+use Rattle.rmt_entries.specs.Entries.{entries_of}
+use Rattle.rmt_entries.specs.declared.fault.EntryFault.TheVariants.{At}
+use Rattle.rmt_sample.specs.Texts.{entries_text, packets_text, program_text}
+use Rattle.rmt_core.specs.declared.texts.Meant.{Meant}
+use Rattle.rmt_core.specs.declared.texts.TextFault.{TextFault}
+use Rattle.rmt_core.specs.declared.texts.TextFault.TheVariants as text
+use Rattle.rmt_core.specs.SampleProgram.{sample_program}
 use Rattle.rmt_core.specs.declared.status.Status.{Status}
 use Rattle.rmt_core.specs.declared.status.Status.TheVariants.{Done, NoMemory, ReadFault, WriteFault}
 use Rattle.rmt_core.specs.Commands.{IsPossible, Sample}
@@ -21,7 +28,9 @@ use Rattle.rmt_core.specs.Tallies.{chip_line}
 use Rattle.rmt_core.specs.Telling.{Tells}
 use Rattle.rmt_core.proofs.MakeLaws.{builds}
 use Rattle.rmt_core.proofs.PacketLaws.{text_says_packets}
-use Rattle.rmt_core.proofs.TextLaws.{line_answered}
+use Rattle.rmt_core.proofs.GivenOnce.{OneMeaning}
+use Rattle.rmt_core.proofs.TextLaws.{IsFaultOf, is_fault_of, line_answered}
+use Rattle.rmt_core.proofs.sample.MeaningLaws.{sample_is_meant}
 
 -- the chip's answers are those of the plain run
 pub line_of_plain : (n : ℕ) (p : Program) (lists : List (List Entry)) (built : Built) → IsBuilt p lists built → sample_line n p lists built.config ≡ chip_line n built.config
@@ -46,7 +55,7 @@ sample_answered files steady tells writing faults after old new n p lists built 
 
 -- what may come of telling it
 pub told_possible : (n : ℕ) {tells : Bool} {old new line : List ℕ} {faults after : ℕ} {result : Status} → Tells tells old new faults after line Done result → IsPossible (Sample n) result
-told_possible n t = ⊎_elim (λ e. inl (inl e)) (λ rest. ⊎_elim (λ e. inr (inr (inr e))) (λ e. inr (inl e)) rest) t.kind
+told_possible n t = ⊎_elim (λ e. inl (inl e)) (λ rest. ⊎_elim (λ e. inr (inr e)) (λ e. inr (inl e)) rest) t.kind
 
 pub told_no_reading : {tells : Bool} {old new line : List ℕ} {faults after : ℕ} {result : Status} → Tells tells old new faults after line Done result → result ≢ ReadFault
 told_no_reading {tells} {old} {new} {line} {faults} {after} {result} t e = by result e t.kind
@@ -55,3 +64,26 @@ told_no_reading {tells} {old} {new} {line} {faults} {after} {result} t e = by re
     by r e (inl d) = cc
     by r e (inr (inl w)) = cc
     by r e (inr (inr m)) = cc
+
+-- of two texts of a number no fault is told
+pub only_memory : OneMeaning → (n : ℕ) → 1 ≤ n → n ≤ 100000 → (fault : TextFault) → IsFaultOf (program_text n) (entries_text n) fault → fault ≡ text.NoMemory
+only_memory one n some few text.NoMemory is = refl
+only_memory one n some few (text.BadProgram code line column) is =
+    let e = one (program_text n) (fault_at code line column) (Ok (sample_program n)) is (sample_is_meant n some few).means in
+    cc
+only_memory one n some few (text.BadEntries code line) is =
+    let of = sample_is_meant n some few in
+    let e : ◌≡◌ {A = Outcome} (Ok is.0) (Ok (sample_program n)) = one (program_text n) (Ok is.0) (Ok (sample_program n)) is.1 of.means in
+    let same : is.0 ≡ sample_program n = cc in
+    let bad : entries_of (sample_program n) (entries_text n) ≡ Err (At code line) = ap (λ p. entries_of p (entries_text n)) (sym same) ∙ is.2 in
+    let good = of.says in
+    cc
+
+-- what the answer to them says
+pub no_fault : OneMeaning → (n : ℕ) → 1 ≤ n → n ≤ 100000 → (program entries : List ℕ) (r : Result Meant TextFault) (fault : TextFault) → program ≡ program_text n → entries ≡ entries_text n → r ≡ Err fault
+    → ((code line column : ℕ) → r ≡ Err (text.BadProgram code line column) → Means program (fault_at code line column))
+    → ((code line : ℕ) → r ≡ Err (text.BadEntries code line) → (p : Program) × Means program (Ok p) × (entries_of p entries ≡ Err (At code line)))
+    → fault ≡ text.NoMemory
+no_fault one n some few program entries r fault program_is entries_is is bad_program bad_entries =
+    let told = is_fault_of program entries r fault is bad_program bad_entries in
+    only_memory one n some few fault (subst (λ t. IsFaultOf (program_text n) t fault) entries_is (subst (λ t. IsFaultOf t entries fault) program_is told))

@@ -103,7 +103,7 @@ is_frame j = by (eqb (j % 2) 0)
 
 -- ---- lines
 
-free_cons : (x : ℕ) (xs : List ℕ) → is_feed x ≡ false → NoFeed xs → NoFeed (x ∷ xs)
+pub free_cons : (x : ℕ) (xs : List ℕ) → is_feed x ≡ false → NoFeed xs → NoFeed (x ∷ xs)
 free_cons x xs e n zero lt = e
 free_cons x xs e n (suc k) lt = n k (omega arith)
 
@@ -144,7 +144,7 @@ not_passed ds more b =
     ap (λ l. is_passed_over (l ++ more)) b.is ∙ rw (ne_eqb b.first 32 (λ e. omega (arith, b.low)), ne_eqb b.first 35 (λ e. omega (arith, b.low))) refl
 
 -- one line, and then the others
-line_behind : (k : ℕ) (line rest : List ℕ) → NoFeed line → is_passed_over line ≡ false → numbered_lines k ((line ++ 10 ∷ []) ++ rest) ≡ (k, line) ∷ numbered_lines (k + (feeds line + 1)) rest
+pub line_behind : (k : ℕ) (line rest : List ℕ) → NoFeed line → is_passed_over line ≡ false → numbered_lines k ((line ++ 10 ∷ []) ++ rest) ≡ (k, line) ∷ numbered_lines (k + (feeds line + 1)) rest
 line_behind k line rest free passed =
     ap (numbered_lines k) (append_assoc line (10 ∷ []) rest) ∙ numbered_append k line rest
     ∙ ap (λ l. l ++ numbered_lines (k + (feeds line + 1)) rest) (numbered_line k line free ∙ ap (λ b. cond b [] ((k, line) ∷ [])) passed)

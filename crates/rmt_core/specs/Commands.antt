@@ -6,7 +6,7 @@ use Rattle.std.specs.Prelude.{String}
 use Rattle.std.specs.Global.{Global}
 use Rattle.rmt_packets.specs.PacketText.{is_digit, number_of_digits}
 use Rattle.rmt_core.specs.declared.status.Status.{Status}
-use Rattle.rmt_core.specs.declared.status.Status.TheVariants.{Done, BadProgram, BadEntries, NoFit, BadImage, BadPackets, TooLong}
+use Rattle.rmt_core.specs.declared.status.Status.TheVariants.{Done, WriteFault, BadProgram, BadEntries, NoFit, BadImage, BadPackets, TooLong, NoMemory}
 use Rattle.rmt_core.specs.Ends.{IsOfOutside}
 
 -- a command, with the names of its files; `sample` reads none
@@ -80,11 +80,16 @@ IsOf (Sim image packets) status = (status ≡ Done) ⊎ (status ≡ BadImage) �
 IsOf (Probe image packets cycle) status = (status ≡ Done) ⊎ (status ≡ BadImage) ⊎ (status ≡ BadPackets) ⊎ (status ≡ TooLong)
 IsOf (Plain program entries packets) status = (status ≡ Done) ⊎ (status ≡ BadProgram) ⊎ (status ≡ BadEntries) ⊎ (status ≡ BadPackets) ⊎ (status ≡ TooLong)
 IsOf (Report image) status = (status ≡ Done) ⊎ (status ≡ BadImage) ⊎ (status ≡ TooLong)
-IsOf (Sample number) status = (status ≡ Done) ⊎ (status ≡ BadProgram) ⊎ (status ≡ BadEntries) ⊎ (status ≡ NoFit)
+IsOf (Sample number) status = (status ≡ Done) ⊎ (status ≡ NoFit)
+
+-- those of the outside or of want of memory; `sample` reads no file
+abbrev pub IsOutside : Command → Status → Type 0
+IsOutside (Sample number) status = (status ≡ NoMemory) ⊎ (status ≡ WriteFault)
+IsOutside _ status = IsOfOutside status
 
 -- all of them
 abbrev pub IsPossible : Command → Status → Type 0
-IsPossible command status = IsOf command status ⊎ IsOfOutside status
+IsPossible command status = IsOf command status ⊎ IsOutside command status
 
 -- and those of a run over a packet text
 abbrev pub IsRunStatus : Status → Type 0

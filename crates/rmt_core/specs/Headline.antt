@@ -15,7 +15,6 @@ use Rattle.rmt_packets.specs.PacketText.{packets_of}
 use Rattle.rmt_build.specs.declared.fault.NoFit.TheVariants.{Load}
 use Rattle.rmt_build.specs.Loads.{AreLoaded}
 use Rattle.rmt_build.specs.Refusals.{first_refusal}
-use Rattle.rmt_sample.specs.Texts.{entries_text, program_text}
 use Rattle.rmt_core.specs.declared.status.Status.TheVariants.{Done}
 use Rattle.rmt_core.specs.Commands.{Command, Compile, Sim, Probe, Plain, Report, Sample}
 use Rattle.rmt_core.specs.Compiling.{first_tail}
@@ -23,6 +22,7 @@ use Rattle.rmt_core.specs.Files.{Files, entries_limit, image_limit, packets_limi
 use Rattle.rmt_core.specs.Given.{Given}
 use Rattle.rmt_core.specs.Gives.{Gives}
 use Rattle.rmt_core.specs.NoFitText.{no_fit_line}
+use Rattle.rmt_core.specs.Sampling.{AreOfSample}
 use Rattle.rmt_core.specs.SimText.{cycles_line, flight_line}
 
 -- After Done of `compile`, and over files in which its image stands, `sim` of that image with Done prints what `plain` of the program and entries prints for the same
@@ -101,7 +101,7 @@ IsReady files (Sim image packets) = IsImage files image × IsGoodText files pack
 IsReady files (Probe image packets cycle) = IsImage files image × IsGoodText files packets
 IsReady files (Plain program entries packets) = (p : Program) × (lists : List (List Entry)) × MeanBoth files program entries p lists × IsGoodText files packets
 IsReady files (Report image) = IsImage files image
-IsReady files (Sample number) = (p : Program) × (lists : List (List Entry)) × Means (program_text number) (Ok p) × (entries_of p (entries_text number) ≡ Ok lists) × Fits p lists
+IsReady files (Sample number) = (p : Program) × (lists : List (List Entry)) × AreOfSample number p lists × Fits p lists
 
 abbrev pub IsComplete : Type 0
 IsComplete = (files : Files) (command : Command) (g : Given) → IsReady files command → Gives files command g → g.status ≡ Done

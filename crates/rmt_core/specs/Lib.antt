@@ -18,6 +18,7 @@ pub mod Simulating
 pub mod PlainText
 pub mod PlainRunning
 pub mod Reporting
+pub mod SampleProgram
 pub mod Sampling
 pub mod Tallies
 pub mod Gives

@@ -1,6 +1,7 @@
 //! What holds of what the commands give.
 
 ghost use Rattle.rmt_core.specs.Headline.{GivesAlways, GivesOne, IsComplete, SimPrintsPlain};
+ghost use Rattle.rmt_core.specs.Sampling.{SampleIsMeant};
 
 use rmt_check::laws::one_meaning;
 use rmt_cuckoo::never_both;
@@ -36,3 +37,8 @@ pub fn sim_prints_plain()
 {
     one_meaning();
 }
+
+/// The texts of `sample` mean a program with its entries, for every number from 1 to 100,000.
+pub fn sample_is_meant()
+    ensures { SampleIsMeant }
+{}

@@ -27,7 +27,7 @@ use crate::printing::end_with;
 use crate::sampling::line::run_line;
 use crate::status::Status;
 use crate::telling::tell;
-use crate::texts::{Meant, tell_text_fault, understand};
+use crate::texts::{Meant, TextFault, understand};
 use rmt_build::built::Built;
 use rmt_check::laws::one_meaning;
 use rmt_io::sink::Sink;
@@ -52,8 +52,9 @@ pub fn sample<O: Sink>(alloc: Global, number: u32, out: &mut O) -> Status
     }
 }
 
-/// The same of the texts that the number gives.
+/// The same of the texts that the number gives. They mean a program with entries, so no fault of a text comes.
 fn sample_texts<O: Sink>(alloc: Global, number: u32, texts: &Sample, out: &mut O) -> Status
+    requires some { 1 ≤ number }
     requires most { number ≤ 100000 }
     requires program { texts.now.program ≡ program_text number }
     requires entries { texts.now.entries ≡ entries_text number }
@@ -67,7 +68,9 @@ fn sample_texts<O: Sink>(alloc: Global, number: u32, texts: &Sample, out: &mut O
     one_meaning();
     match understand(alloc, texts.program.as_slice(), texts.entries.as_slice()) {
         Ok(meant) => sample_meant(alloc, number, &meant, texts.packets.as_slice(), out),
-        Err(fault) => tell_text_fault(alloc, fault, out),
+        Err(TextFault::NoMemory) => Status::NoMemory,
+        Err(TextFault::BadProgram { .. }) => unreachable!(),
+        Err(TextFault::BadEntries { .. }) => unreachable!(),
     }
 }
 

@@ -5,10 +5,12 @@ use Rattle.rmt_entries.specs.Entries.{entries_of}
 use Rattle.rmt_core.specs.Compiling.{Builds}
 use Rattle.rmt_core.specs.declared.status.Status.TheVariants.{Done}
 use Rattle.rmt_core.specs.Given.{told}
-use Rattle.rmt_core.specs.Sampling.{sample_line}
+use Rattle.rmt_core.specs.Sampling.{AreOfSample, GivesSample, sample_line}
+use Rattle.rmt_core.proofs.SampleLaws.{no_fault}
 use Rattle.rmt_core.proofs.SampleTexts.{entries_short, program_short}
-use Rattle.rmt_core.proofs.TextLaws.{IsFaultOf, is_fault_of, text_fault_answered, understands_answered}
-use Rattle.rmt_sample.specs.Texts.{entries_text, program_text}
+use Rattle.rmt_core.proofs.EndLaws.{no_memory}
+use Rattle.rmt_core.proofs.GivenDone.{sample_built}
+use Rattle.rmt_core.proofs.TextLaws.{answered_as}
 use Rattle.rmt_core.proofs.sampling.sample_texts.Goals as goal
 
 pub understand-requires-clause-text : goal.understand-requires-clause-text
@@ -26,16 +28,26 @@ returns-in-Ok-clause-answered g c = λ files steady writing.
     let n = c.args.number in
     let p = c.in-Ok.meant.program in
     let lists = c.in-Ok.meant.entries in
-    let means = subst (λ t. Means t (Ok p)) (c.as_slice.ensures ∙ c.requires.program) c.in-Ok.ensures.means in
-    let says = subst (λ t. entries_of p t ≡ Ok lists) (c.as_slice-2.ensures ∙ c.requires.entries) c.in-Ok.ensures.says in
-    understands_answered _ (program_text n) (entries_text n) (λ q l. Builds files (λ image k b. told files Done (sample_line n q l k)) q l) p lists c.sample_meant.result
-    (c.one_meaning.ensures.alone (program_text n)) means says (c.sample_meant.ensures.answered files steady writing)
+    let of : AreOfSample n p lists = record {
+      means = subst (λ t. Means t (Ok p)) (c.as_slice.ensures ∙ c.requires.program) c.in-Ok.ensures.means;
+      says = subst (λ t. entries_of p t ≡ Ok lists) (c.as_slice-2.ensures ∙ c.requires.entries) c.in-Ok.ensures.says;
+    } in
+    answered_as _ (Builds files (λ image k b. told files Done (sample_line n p lists k)) p lists) (GivesSample files n) c.sample_meant.result
+    (λ k h. (p, lists, of, h)) (λ k h. sample_built c.one_meaning.ensures.alone files n k p lists of h) (c.sample_meant.ensures.answered files steady writing)
 
-pub returns-in-Err-clause-answered : goal.returns-in-Err-clause-answered
-returns-in-Err-clause-answered g c = λ files steady writing.
-    let n = c.args.number in
-    let told_of = is_fault_of c.as_slice.result.now c.as_slice-2.result.now c.understand.result c.in-Err.fault c.in-Err.is c.understand.ensures.bad_program c.understand.ensures.bad_entries in
-    let of_text = subst (λ t. IsFaultOf t c.as_slice-2.result.now c.in-Err.fault) (c.as_slice.ensures ∙ c.requires.program) told_of in
-    let fault = subst (λ t. IsFaultOf (program_text n) t c.in-Err.fault) (c.as_slice-2.ensures ∙ c.requires.entries) of_text in
-    text_fault_answered _ (program_text n) (entries_text n) (λ q l. Builds files (λ image k b. told files Done (sample_line n q l k)) q l) c.in-Err.fault c.tell_text_fault.result
-    fault (λ _. refl) c.tell_text_fault.ensures.line
+pub returns-in-Err-NoMemory-clause-answered : goal.returns-in-Err-NoMemory-clause-answered
+returns-in-Err-NoMemory-clause-answered g c = λ files steady writing. no_memory _ (GivesSample files c.args.number) (λ _. refl) (λ _. refl)
+
+pub unreachable-requires : goal.unreachable-requires
+unreachable-requires g c =
+    let e = no_fault c.one_meaning.ensures.alone c.args.number c.requires.some c.requires.most c.as_slice.result.now c.as_slice-2.result.now c.understand.result c.in-Err-BadProgram.field-0
+    (c.as_slice.ensures ∙ c.requires.program) (c.as_slice-2.ensures ∙ c.requires.entries) c.in-Err-BadProgram.is c.understand.ensures.bad_program c.understand.ensures.bad_entries in
+    let is = c.in-Err-BadProgram.field-0-is in
+    cc
+
+pub unreachable-requires-in-Err-BadEntries : goal.unreachable-requires-in-Err-BadEntries
+unreachable-requires-in-Err-BadEntries g c =
+    let e = no_fault c.one_meaning.ensures.alone c.args.number c.requires.some c.requires.most c.as_slice.result.now c.as_slice-2.result.now c.understand.result c.in-Err-BadEntries.field-0
+    (c.as_slice.ensures ∙ c.requires.program) (c.as_slice-2.ensures ∙ c.requires.entries) c.in-Err-BadEntries.is c.understand.ensures.bad_program c.understand.ensures.bad_entries in
+    let is = c.in-Err-BadEntries.field-0-is in
+    cc

@@ -1,0 +1,12 @@
+pub mod Forests
+pub mod ShapeLaws
+pub mod ProgramForest
+pub mod DecimalLaws
+pub mod TokenLaws
+pub mod ProgramSource
+pub mod SourceLaws
+pub mod ProgramLaws
+pub mod EntryLineLaws
+pub mod AddressLaws
+pub mod EntryLaws
+pub mod MeaningLaws

@@ -1,0 +1,53 @@
+-- Forests: trees one after another, of which the tokens and the marks are computed.
+use Rattle.std.proofs.Common.{◌≡◌, ◌∙◌, sym, ap, refl, List, [], ◌∷◌, ◌++◌, map, append_assoc}
+use Rattle.std.specs.List.{flat_map}
+use Rattle.rmt_lexer.specs.declared.token.Token.{Token}
+use Rattle.rmt_syntax.specs.declared.tree.Rule.{Rule}
+use Rattle.rmt_syntax.specs.declared.tree.Tree.{Tree, One, Many}
+use Rattle.rmt_syntax.specs.declared.tree.Tree.TheVariants.{rolls-One, rolls-Many}
+use Rattle.rmt_syntax.specs.declared.tree.Tree.TheOpen as tree
+use Rattle.rmt_syntax.specs.declared.tree.Tree.TheFolds.{fold-roll-Tree}
+use Rattle.rmt_syntax.specs.Trees.{Mark, leaf, opens, shuts, marks, marks_step}
+
+-- no tree, or one and what stands behind it
+pub data Forest : Type 0 where
+  nil : Forest
+  one : Token → Forest → Forest
+  many : Rule → Forest → Forest → Forest
+
+-- some tokens, and what stands behind them
+abbrev pub run : List Token → Forest → Forest
+run [] f = f
+run (t ∷ ts) f = one t (run ts f)
+
+abbrev pub trees : Forest → List Tree
+trees nil = []
+trees (one t f) = One t ∷ trees f
+trees (many r inner f) = Many r (trees inner) ∷ trees f
+
+abbrev pub marks_of : Forest → List Mark
+marks_of nil = []
+marks_of (one t f) = leaf t ∷ marks_of f
+marks_of (many r inner f) = opens r ∷ (marks_of inner ++ shuts r ∷ marks_of f)
+
+marks_one : (t : Token) → marks (One t) ≡ leaf t ∷ []
+marks_one t = ap marks (sym (rolls-One t)) ∙ fold-roll-Tree (List Mark) marks_step (tree.One t)
+
+each_marks : (v : List Tree) → flat_map (λ m. m) (map marks v) ≡ flat_map marks v
+each_marks [] = refl
+each_marks (t ∷ v) = ap (λ ms. marks t ++ ms) (each_marks v)
+
+marks_many : (r : Rule) (v : List Tree) → marks (Many r v) ≡ opens r ∷ (flat_map marks v ++ shuts r ∷ [])
+marks_many r v = ap marks (sym (rolls-Many r v)) ∙ fold-roll-Tree (List Mark) marks_step (tree.Many r v) ∙ ap (λ ms. opens r ∷ (ms ++ shuts r ∷ [])) (each_marks v)
+
+pub marks_trees : (f : Forest) → flat_map marks (trees f) ≡ marks_of f
+marks_trees nil = refl
+marks_trees (one t f) = ap (λ ms. ms ++ flat_map marks (trees f)) (marks_one t) ∙ ap (λ ms. leaf t ∷ ms) (marks_trees f)
+marks_trees (many r inner f) =
+    ap (λ ms. ms ++ flat_map marks (trees f)) (marks_many r (trees inner) ∙ ap (λ ms. opens r ∷ (ms ++ shuts r ∷ [])) (marks_trees inner))
+    ∙ ap (λ ms. opens r ∷ ms) (append_assoc (marks_of inner) (shuts r ∷ []) (flat_map marks (trees f)))
+    ∙ ap (λ ms. opens r ∷ (marks_of inner ++ shuts r ∷ ms)) (marks_trees f)
+
+-- of one tree
+pub marks_tree : (r : Rule) (f : Forest) → marks (Many r (trees f)) ≡ opens r ∷ (marks_of f ++ shuts r ∷ [])
+marks_tree r f = marks_many r (trees f) ∙ ap (λ ms. opens r ∷ (ms ++ shuts r ∷ [])) (marks_trees f)
