@@ -1,7 +1,7 @@
 #!/usr/bin/env bash
 # Seconds and peak memory of `./rmt`, one line a case: short packets through one stage and through 32; frames of 9,216 bytes with 385 of
-# them in flight; a counted table of 100,000 exact keys, and one of 20,000 ternary entries under 40 masks, by `sim` and by `plain`; and two
-# tables of 1,000,000 exact keys each, which are compiled and then run.
+# them in flight; a counted table of 100,000 exact keys, and one of 20,000 ternary entries under 40 masks, by `sim` and by `plain`; two
+# tables of 1,000,000 exact keys each, which are compiled and then run; 128 tables; and a ternary table that is too large for the chip.
 set -eu
 top=$(cd "$(dirname "$0")/.." && pwd)
 work=$(mktemp -d)
@@ -18,14 +18,14 @@ def write(name, lines):
         f.writelines(lines)
 
 
-def run(*words):
-    """Runs the program, and gives its seconds and its peak memory in MiB."""
+def run(*words, wanted=0):
+    """Runs the program, which is to end with that status, and gives its seconds and its peak memory in MiB."""
     begun = time.time()
     with open(os.devnull, "w") as none:
         process = subprocess.Popen([program, *[w if w.isdigit() or w in ("compile", "sim", "plain") else f"{work}/{w}" for w in words]], stdout=none)
         _, status, usage = os.wait4(process.pid, 0)
-    if status != 0:
-        sys.exit(f"{words} ended with status {status}")
+    if os.waitstatus_to_exitcode(status) != wanted:
+        sys.exit(f"{words} ended with status {os.waitstatus_to_exitcode(status)}")
     return time.time() - begun, usage.ru_maxrss / 1024
 
 
@@ -82,4 +82,17 @@ write("large.rmt", ["header h { a : 48; b : 48; } next accept;\naction go(p : 9)
 write("large.ent", (f"{table} {wide(i)} go {i % 512}\n" for table in ("first", "second") for i in range(1_000_000)))
 compiled("large")
 packets("large", 1_000_000, lambda k: f"{k % 512} {wide(k):012x}{wide(k * 7 % 1_000_000):012x}\n")
+
+fields = "".join(f"f{k} : 8; " for k in range(60))
+metadata = "".join(f"m{k} : 8; " for k in range(128))
+setters = "".join(f"action set{k}() {{ meta.m{k} = 1; }}\ntable t{k} {{ exact h.f{k % 60}; actions set{k}; size 256; default set{k}(); }}\n" for k in range(128))
+write("wide.rmt", [f"header h {{ {fields}}} next accept;\nmeta {{ {metadata}}}\n", setters, f"control {{ {' '.join(f'apply t{k};' for k in range(128))} }}\n"])
+write("wide.ent", [])
+compiled("wide")
+
+write("tall.rmt", ["header h { k : 80; } next accept;\naction go(p : 9) { out_port = p; }\n"
+    "table t { ternary h.k; actions go; size 1048576; default go(0); }\ncontrol { apply t; }\n"])
+write("tall.ent", [])
+seconds, peak = run("compile", "tall.rmt", "tall.ent", "tall.img", wanted=6)
+print(f"tall: refused in {seconds:.2f} s, {peak:.0f} MiB")
 PY
