@@ -1,3 +1,4 @@
+pub mod NameListLaws
 pub mod Programs
 pub mod Examples
 pub mod WellFormedLemmas

@@ -8,20 +8,12 @@ use Rattle.std.proofs.lemmas.Option.{none-some, slice_get-map}
 use Rattle.std.proofs.lemmas.List.{length-map}
 use Rattle.rmt_bits.proofs.AllLaws.{All-slice_get, All-find}
 use Rattle.rmt_bits.proofs.ListLaws.{slice_get-below, slice_get-alike}
-use Rattle.rmt_ast.specs.declared.program.Program.{Program}
-use Rattle.rmt_ast.specs.declared.program.Header.{Header}
-use Rattle.rmt_ast.specs.declared.program.Action.{Action}
-use Rattle.rmt_ast.specs.declared.program.Table.{Table}
-use Rattle.rmt_ast.specs.declared.program.Kind.{Kind}
+use Rattle.rmt_ast.specs.Types.{Program, Header, Tail, Target, Action, Table, Kind, Node, What}
 use Rattle.rmt_ast.specs.declared.program.Kind.TheVariants.{Keyless, Exact, Prefix, Ternary}
-use Rattle.rmt_ast.specs.declared.program.Target.{Target}
 use Rattle.rmt_ast.specs.declared.program.Target.TheVariants as target
-use Rattle.rmt_ast.specs.declared.program.Node.{Node}
-use Rattle.rmt_ast.specs.declared.program.What.{What}
 use Rattle.rmt_ast.specs.declared.program.What.TheVariants.{Apply, Gate}
 use Rattle.rmt_ast.specs.declared.entry.Entry.{Entry}
 use Rattle.rmt_ast.specs.State.{IsState, width_of}
-use Rattle.rmt_ast.specs.declared.program.Tail.{Tail}
 use Rattle.rmt_ast.specs.Walk.{Walk, Short, Reject, Accept, Reached, begin, walk_from, walk, step, past_tail, behind, behind_tail, follow, with_header, target_of}
 use Rattle.rmt_ast.specs.Actions.{acted}
 use Rattle.rmt_ast.specs.Lookup.{hit_of, hits}

@@ -1,9 +1,9 @@
 -- What holds of each item and its number, and what holds of each item and each later one, shown item by item.
-use Rattle.std.proofs.Common.{◌≡◌, ◌≢◌, ℕ, zero, suc, ◌+◌, Bool, true, not, ◌&&◌, List, [], ◌∷◌, Some, ap, subst, arith}
+use Rattle.std.proofs.Common.{◌≡◌, ◌≢◌, ℕ, zero, suc, ◌+◌, Bool, true, not, ◌&&◌, List, [], ◌∷◌, ◌++◌, length, Some, ap, subst, arith}
 use Rattle.std.specs.Prelude.{⊤, slice_get, AllPairs, ◌==◌, unwrap_or}
 use Rattle.std.specs.List.{list_all}
 use Rattle.std.proofs.lemmas.Bool.{and_parts, not-true, eqb-false}
-use Rattle.std.proofs.lemmas.Option.{none-some}
+use Rattle.std.proofs.lemmas.Option.{none-some, same_Some}
 use Rattle.std.proofs.lemmas.List.Kept.{AllPairs-cons}
 use Rattle.rmt_bits.proofs.AllLaws.{All-from_test}
 use Rattle.rmt_ast.specs.WellFormed.{AllNumbered, AreDistinct}
@@ -23,6 +23,13 @@ AllNumbered-from_items P xs h n x e = subst (λ m. P m x) (omega arith) (at_numb
 
 pub AllNumbered-none : {X : Type 0} (P : ℕ → X → Type 0) → AllNumbered P []
 AllNumbered-none P n x e = absurd (none-some x e)
+
+-- one item more
+pub AllNumbered-push : {X : Type 0} (P : ℕ → X → Type 0) (xs : List X) (y : X) → AllNumbered P xs → P (length xs) y → AllNumbered P (xs ++ y ∷ [])
+AllNumbered-push P [] y h p zero x e = subst (P 0) (same_Some y x e) p
+AllNumbered-push P [] y h p (suc n) x e = absurd (none-some x e)
+AllNumbered-push P (z ∷ xs) y h p zero x e = h zero x e
+AllNumbered-push P (z ∷ xs) y h p (suc n) x e = AllNumbered-push (λ k. P (suc k)) xs y (λ k v at. h (suc k) v at) p n x e
 
 pub AllPairs-none : {X : Type 0} (R : X → X → Type 0) → AllPairs R []
 AllPairs-none R i j d below within = absurd (omega (arith, within))

@@ -1,3 +1,4 @@
+pub mod Types
 pub mod State
 pub mod Walk
 pub mod Actions
@@ -7,3 +8,4 @@ pub mod Answers
 pub mod WellFormed
 pub mod EntryLists
 pub mod Places
+pub mod NameList

@@ -4,4 +4,5 @@
 pub mod deps;
 pub mod entry;
 pub mod name;
+pub mod name_list;
 pub mod program;

@@ -1,6 +1,6 @@
 -- What holds of all items of a list, of its parts, and of an item that is found.
 use Rattle.std.proofs.Common.{◌≡◌, ℕ, zero, suc, ◌+◌, ◌<◌, Bool, true, false, cond, List, [], ◌∷◌, ◌++◌, Option, Some, ap, subst, arith}
-use Rattle.std.specs.Prelude.{All, find, slice_get, unwrap_or}
+use Rattle.std.specs.Prelude.{All, filter, find, map, slice_get, unwrap_or}
 use Rattle.std.specs.List.{flat_map, list_all, range_with_len}
 use Rattle.std.proofs.lemmas.List.Elements.{All-nil, All-cons, All-head, All-tail, All-append, All-weaker}
 use Rattle.std.proofs.lemmas.List.Sums.{AllPass-from_list_all}
@@ -50,3 +50,19 @@ found P false y rest x here later e = later e
 pub All-find : {X : Type 0} (P : X → Type 0) (test : X → Bool) (xs : List X) (x : X) → All P xs → find test xs ≡ Some x → P x
 All-find P test [] x h e = absurd (none-some x e)
 All-find P test (y ∷ ys) x h e = found P (test y) y (find test ys) x (All-head P y ys h) (All-find P test ys x (All-tail P y ys h)) e
+
+-- of a list from which another is made, and of what a filter keeps
+pub All-unmap : {X Y : Type 0} (P : Y → Type 0) (f : X → Y) (xs : List X) → All P (map f xs) → All (λ x. P (f x)) xs
+All-unmap P f [] h = All-nil (λ x. P (f x))
+All-unmap P f (x ∷ xs) h = All-cons (λ y. P (f y)) x xs (All-head P (f x) (map f xs) h) (All-unmap P f xs (All-tail P (f x) (map f xs) h))
+
+rest_of : {X : Type 0} (P : X → Type 0) (b : Bool) (x : X) (xs : List X) → All P (cond b (x ∷ xs) xs) → All P xs
+rest_of P true x xs h = All-tail P x xs h
+rest_of P false x xs h = h
+
+pub All-unfilter : {X : Type 0} (P : X → Type 0) (test : X → Bool) (xs : List X) → All P (filter test xs) → All (λ x. test x ≡ true → P x) xs
+All-unfilter P test [] h = All-nil (λ x. test x ≡ true → P x)
+All-unfilter {X} P test (x ∷ xs) h =
+    All-cons (λ x. test x ≡ true → P x) x xs
+    (λ passes. All-head P x (filter test xs) (let F : Bool → Type 0 = λ b. All P (cond b (x ∷ filter test xs) (filter test xs)) in subst F passes h))
+    (All-unfilter P test xs (rest_of P (test x) x (filter test xs) h))

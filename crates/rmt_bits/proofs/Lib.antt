@@ -4,5 +4,7 @@ pub mod ByteLaws
 pub mod Examples
 pub mod FunctionLaws
 pub mod ListLaws
+pub mod MemberLaws
 pub mod OptionLaws
+pub mod PairLaws
 pub mod WordLaws

@@ -1,11 +1,12 @@
 -- Lists: where there is an item, lists without items, and one item more.
-use Rattle.std.proofs.Common.{◌≡◌, ℕ, zero, suc, ◌+◌, ◌<◌, ◌≤◌, List, [], ◌∷◌, ◌++◌, length, drop, Some, refl, ap, ◌∙◌, arith}
-use Rattle.std.specs.Prelude.{All, IsSome, slice_get, map}
-use Rattle.std.specs.List.{flat_map, range_with_len}
+use Rattle.std.proofs.Common.{◌≡◌, ◌≢◌, ℕ, zero, suc, ◌+◌, ◌<◌, ◌≤◌, Bool, false, cond, List, [], ◌∷◌, ◌++◌, length, drop, Option, None, Some, refl, ap, sym, subst, ◌∙◌, arith}
+use Rattle.std.specs.Prelude.{All, IsSome, IsSomeAnd, find, slice_get, slice_set, map}
+use Rattle.std.specs.List.{flat_map, range_with_len, sum_by}
 use Rattle.std.proofs.lemmas.List.{map-id, length-drop}
 use Rattle.std.proofs.lemmas.List.FromFn.{map-range_with_len_more}
 use Rattle.std.proofs.lemmas.List.Elements.{All-nil, All-cons, All-head, All-tail}
-use Rattle.std.proofs.lemmas.Option.{none-some}
+use Rattle.std.proofs.lemmas.List.Sums.{sum_by-cons}
+use Rattle.std.proofs.lemmas.Option.{none-some, slice_get_within}
 
 -- a list has an item at each place below its length
 pub slice_get-below : {X : Type 0} (xs : List X) (i : ℕ) → i < length xs → IsSome (slice_get xs i)
@@ -69,3 +70,41 @@ drop-nil n xs e = let gone : length (drop n xs) ≡ 0 = ap length e in omega (ar
 -- a longer range
 pub range_more : (a n : ℕ) → range_with_len a (n + 1) ≡ range_with_len a n ++ (a + n) ∷ []
 range_more a n = simp map-id at (map-range_with_len_more (λ (x : ℕ). x) a n (a + n) refl)
+
+-- what is found among items is found among more
+pub slice_get-more : {X : Type 0} (xs : List X) (y : X) (i : ℕ) (x : X) → slice_get xs i ≡ Some x → slice_get (xs ++ y ∷ []) i ≡ Some x
+slice_get-more xs y i x at = slice_get-front xs (y ∷ []) i (slice_get_within xs i x at) ∙ at
+
+pub slice_get-pushed : {X : Type 0} (xs : List X) (y : X) → slice_get (xs ++ y ∷ []) (length xs) ≡ Some y
+slice_get-pushed xs y = ap (slice_get (xs ++ y ∷ [])) (let e : length xs ≡ length xs + 0 = omega arith in e) ∙ slice_get-end xs (y ∷ []) 0
+
+pub IsSomeAnd-more : {X : Type 0} (P : X → Type 0) (xs : List X) (y : X) (i : ℕ) → IsSomeAnd (slice_get xs i) P → IsSomeAnd (slice_get (xs ++ y ∷ []) i) P
+IsSomeAnd-more P xs y i h = by (slice_get xs i) refl h
+  where
+    by : (o : Option _) → slice_get xs i ≡ o → IsSomeAnd o P → IsSomeAnd (slice_get (xs ++ y ∷ []) i) P
+    by None is h = absurd h
+    by (Some x) is h = subst (λ o. IsSomeAnd o P) (sym (slice_get-more xs y i x is)) h
+
+-- an item that is set stands at its place, and each other where it stood
+pub slice_get-set_same : {X : Type 0} (xs : List X) (k : ℕ) (x y : X) → slice_get xs k ≡ Some x → slice_get (slice_set xs k y) k ≡ Some y
+slice_get-set_same [] k x y at = absurd (none-some x at)
+slice_get-set_same (z ∷ zs) zero x y at = refl
+slice_get-set_same (z ∷ zs) (suc k) x y at = slice_get-set_same zs k x y at
+
+pub slice_get-set_other : {X : Type 0} (xs : List X) (k m : ℕ) (y : X) → m ≢ k → slice_get (slice_set xs k y) m ≡ slice_get xs m
+slice_get-set_other [] k m y apart = refl
+slice_get-set_other (z ∷ zs) zero zero y apart = absurd (apart refl)
+slice_get-set_other (z ∷ zs) zero (suc m) y apart = refl
+slice_get-set_other (z ∷ zs) (suc k) zero y apart = refl
+slice_get-set_other (z ∷ zs) (suc k) (suc m) y apart = slice_get-set_other zs k m y (λ e. apart (ap suc e))
+
+-- a test that all items fail finds none
+pub find-none : {X : Type 0} (test : X → Bool) (xs : List X) → All (λ x. test x ≡ false) xs → find test xs ≡ None
+find-none test [] h = refl
+find-none test (x ∷ xs) h =
+    ap (λ b. cond b (Some x) (find test xs)) (All-head (λ x. test x ≡ false) x xs h) ∙ find-none test xs (All-tail (λ x. test x ≡ false) x xs h)
+
+-- the sum over a list that is made of another
+pub sum_by-map : {X Y : Type 0} (g : Y → ℕ) (f : X → Y) (xs : List X) → sum_by g (map f xs) ≡ sum_by (λ x. g (f x)) xs
+sum_by-map g f [] = refl
+sum_by-map g f (x ∷ xs) = sum_by-cons g (f x) (map f xs) ∙ ap (λ n. g (f x) + n) (sum_by-map g f xs) ∙ sym (sum_by-cons (λ y. g (f y)) x xs)

@@ -8,7 +8,7 @@ use Rattle.std.proofs.lemmas.Bool.{eqb-true, and_parts, or_cases, cases_lt, fals
 use Rattle.std.proofs.lemmas.List.Elements.{All-nil, All-cons, All-contains, Contains-append_right}
 use Rattle.std.proofs.lemmas.List.Sums.{sum_by-cons}
 use Rattle.rmt_bits.proofs.ListLaws.{slice_get-item, slice_get-end}
-use Rattle.rmt_pack.proofs.FormatLaws.{of_map, divided_up-least}
+use Rattle.rmt_pack.proofs.FormatLaws.{divided_up-least}
 use Rattle.rmt_ast.specs.declared.deps.Edge.{Edge}
 use Rattle.rmt_ast.specs.declared.program.Program.{Program}
 use Rattle.rmt_ast.specs.declared.program.Node.{Node}
@@ -24,6 +24,7 @@ use Rattle.rmt_bounds.specs.Bounds.{fit_alone, stages_of_what, node_stages, shar
 use Rattle.rmt_bounds.specs.Proofs.{joins, shared_by, IsChain, chain_stages, Gives}
 use Rattle.rmt_bounds.proofs.StageSums.{total, total-le, total-swap, total-times, total-same, total-some, quanta_of-le-total, Within, NotBefore, Reaches, reaches, reaches-less}
 use Rattle.rmt_bounds.proofs.NodeLaws.{IsLeast, of_what, fits_alone, blocks-le, sram-le_of_kind, tcam-le_of_kind, whole_tcam}
+use Rattle.rmt_bits.proofs.AllLaws.{All-unmap}
 
 -- ---- one node in a legal placement
 
@@ -77,7 +78,7 @@ max-le-rest a (x ∷ xs) =
 
 -- each part stands in one of the stages
 part_within : (parts : List Part) → All (λ (x : Part). x.stage + 1 ≤ fold max 0 (map (λ (y : Part). y.stage + 1) parts)) parts
-part_within parts = of_map (λ s. s ≤ fold max 0 (map (λ (y : Part). y.stage + 1) parts)) (λ (y : Part). y.stage + 1) parts (max-le-rest 0 (map (λ (y : Part). y.stage + 1) parts))
+part_within parts = All-unmap (λ s. s ≤ fold max 0 (map (λ (y : Part). y.stage + 1) parts)) (λ (y : Part). y.stage + 1) parts (max-le-rest 0 (map (λ (y : Part). y.stage + 1) parts))
 
 cond-le : (t : Bool) → cond t 0 1 ≤ 1
 cond-le true = omega arith

@@ -5,9 +5,9 @@ use Rattle.std.specs.List.{range_with_len}
 use Rattle.rmt_ast.specs.declared.deps.Edge.{Edge}
 use Rattle.rmt_ast.specs.declared.deps.EdgeKind.TheVariants as edge
 use Rattle.rmt_ast.specs.declared.program.Program.{Program}
+use Rattle.rmt_ast.specs.declared.program.Table.{Table}
 use Rattle.rmt_ast.specs.declared.program.Kind.{Kind}
 use Rattle.rmt_ast.specs.declared.program.Kind.TheVariants.{Exact, Ternary}
-use Rattle.rmt_ast.specs.declared.program.Table.{Table}
 use Rattle.rmt_ast.proofs.Programs.{field, with_fields, header, action, keyless, apply_table, strict_and_weak}
 use Rattle.rmt_bounds.specs.declared.bound.Bound.{Bound}
 use Rattle.rmt_bounds.specs.declared.bound.Proof.{Proof}

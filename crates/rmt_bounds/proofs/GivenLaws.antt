@@ -5,13 +5,13 @@ use Rattle.std.specs.List.{list_any, position_or_len}
 use Rattle.std.proofs.Math.Nat.{max-eq_left, max-eq_right, min-eq_left, min-eq_right}
 use Rattle.std.proofs.lemmas.List.Sums.{passes_at_first, fails_before_first}
 use Rattle.std.proofs.lemmas.Bool.{ltb-true, ltb-false, eqb-true, eqb-false, eq-eqb, ne_eqb, and_parts, and_from, cases_lt, cases_eq, false≢true}
-use Rattle.std.proofs.lemmas.List.Elements.{All-nil, All-cons, All-map, All-weaker, All-contains, All-contains_itself, Contains-append_right}
+use Rattle.std.proofs.lemmas.List.Elements.{All-nil, All-cons, All-weaker, All-contains, All-contains_itself, Contains-append_right}
 use Rattle.rmt_ast.specs.declared.deps.Edge.{Edge}
 use Rattle.rmt_ast.specs.declared.program.Program.{Program}
 use Rattle.rmt_ast.specs.WellFormed.{IsProgram}
 use Rattle.rmt_pack.specs.Formats.{divided_up}
 use Rattle.rmt_pack.specs.Placements.{is_strict}
-use Rattle.rmt_pack.proofs.FormatLaws.{filtered, unfiltered, of_map}
+use Rattle.rmt_pack.proofs.FormatLaws.{filtered}
 use Rattle.rmt_bounds.specs.Bounds.{EdgesRise, node_stages, through, shared, edges_into, best_of_node, bests, all_bests, greatest, least, node_before, chain_to, longest_chain, sram_sum, tcam_sum, table_count, four_bounds, proof_of, stage_bound}
 use Rattle.rmt_bounds.specs.declared.bound.Proof.{Proof}
 use Rattle.rmt_bounds.specs.declared.bound.Proof.TheVariants.{Chain, Sram, Tcam, Slots}
@@ -19,6 +19,8 @@ use Rattle.rmt_bounds.specs.Proofs.{joins, shared_by, IsChain, chain_stages, Giv
 use Rattle.rmt_bounds.proofs.BestLaws.{length-bests, index-front, index-last}
 use Rattle.rmt_bounds.proofs.ChainLaws.{any_item, max-le-rest}
 use Rattle.rmt_bounds.proofs.NodeLaws.{node-some}
+use Rattle.rmt_bits.proofs.MemberLaws.{Contains-map, Contains-unmap}
+use Rattle.rmt_bits.proofs.AllLaws.{All-unmap, All-unfilter}
 
 -- ---- the greatest and the least are reached
 
@@ -53,21 +55,13 @@ least-reached (x ∷ xs) y there = elim (min-reached x xs) [
 
 -- ---- items of lists
 
-from_map : {X Y : Type 0} (f : X → Y) (xs : List X) (y : Y) → Contains (map f xs) y → (x : X) × Contains xs x × (f x ≡ y)
-from_map {X} {Y} f xs y there =
-    All-contains (λ z. (x : X) × Contains xs x × (f x ≡ z)) (map f xs) y
-    (All-map (λ z. (x : X) × Contains xs x × (f x ≡ z)) f xs (All-weaker (Contains xs) (λ z. (x : X) × Contains xs x × (f x ≡ f z)) (λ z found. (z, found, refl)) xs (All-contains_itself xs))) there
-
-in_map : {X Y : Type 0} (f : X → Y) (xs : List X) (x : X) → Contains xs x → Contains (map f xs) (f x)
-in_map f xs x there = All-contains (λ z. Contains (map f xs) (f z)) xs x (of_map (Contains (map f xs)) f xs (All-contains_itself (map f xs))) there
-
 from_filter : {X : Type 0} (t : X → Bool) (xs : List X) (x : X) → Contains (filter t xs) x → Contains xs x × (t x ≡ true)
 from_filter t xs x there =
     All-contains (λ z. Contains xs z × (t z ≡ true)) (filter t xs) x
     (filtered (λ z. Contains xs z × (t z ≡ true)) t xs (All-weaker (Contains xs) (λ z. t z ≡ true → Contains xs z × (t z ≡ true)) (λ z found pass. (found, pass)) xs (All-contains_itself xs))) there
 
 in_filter : {X : Type 0} (t : X → Bool) (xs : List X) (x : X) → Contains xs x → t x ≡ true → Contains (filter t xs) x
-in_filter t xs x there pass = All-contains (λ z. t z ≡ true → Contains (filter t xs) z) xs x (unfiltered (Contains (filter t xs)) t xs (All-contains_itself (filter t xs))) there pass
+in_filter t xs x there pass = All-contains (λ z. t z ≡ true → Contains (filter t xs) z) xs x (All-unfilter (Contains (filter t xs)) t xs (All-contains_itself (filter t xs))) there pass
 
 or-first : (a b : Bool) → a ≡ true → (a || b) ≡ true
 or-first true b is = refl
@@ -146,7 +140,7 @@ module _ (p : Program) (is : IsProgram p) (edges : List Edge) (rise : EdgesRise 
   comes n there = elim (max-reached (node_stages p n) (map (through p (bests p edges n)) (edges_into edges n))) [
     | inl own ↦ inl (best-at n there ∙ own)
     | inr later ↦ inr
-        (let item = from_map (through p (bests p edges n)) (edges_into edges n) (best_of_node p edges (bests p edges n) n) later in
+        (let item = Contains-unmap (through p (bests p edges n)) (edges_into edges n) (best_of_node p edges (bests p edges n) n) later in
         let found = from_filter (λ (e : Edge). e.to == n) edges item.0 item.1 in
         let to : item.0.to ≡ n = eqb-true item.0.to n found.1 in
         let r = rises item.0 found.0 in
@@ -159,7 +153,7 @@ module _ (p : Program) (is : IsProgram p) (edges : List Edge) (rise : EdgesRise 
       let r = rises e found in
       let f = through p (bests p edges n) in
       let top = best_of_node p edges (bests p edges n) n in
-      let within = of_map (λ x. x ≤ top) f (edges_into edges n) (max-le-rest (node_stages p n) (map f (edges_into edges n))) in
+      let within = All-unmap (λ x. x ≤ top) f (edges_into edges n) (max-le-rest (node_stages p n) (map f (edges_into edges n))) in
       let here = All-contains (λ g. f g ≤ top) (edges_into edges n) e within (in_filter (λ (g : Edge). g.to == n) edges e found (eq-eqb e.to n to)) in
       omega (arith, here, best-at n there, through-all n e (omega arith) (omega (arith, r.0, to)))
 
@@ -202,8 +196,8 @@ module _ (p : Program) (is : IsProgram p) (edges : List Edge) (rise : EdgesRise 
       let into = in_filter is_into edges one.0 one.1 (eq-eqb one.0.to n one.2) in
       let good = in_filter is_best (edges_into edges n) one.0 into (eq-eqb (through p all one.0) (best n) one.3) in
       let m = node_before p edges all n in
-      let item = from_map from_of (filter is_best (edges_into edges n)) m
-      (least-reached (map from_of (filter is_best (edges_into edges n))) one.0.from (in_map from_of (filter is_best (edges_into edges n)) one.0 good)) in
+      let item = Contains-unmap from_of (filter is_best (edges_into edges n)) m
+      (least-reached (map from_of (filter is_best (edges_into edges n))) one.0.from (Contains-map from_of (filter is_best (edges_into edges n)) one.0 good)) in
       let first = from_filter is_best (edges_into edges n) item.0 item.1 in
       let then = from_filter is_into edges item.0 first.0 in
       let to : item.0.to ≡ n = eqb-true item.0.to n then.1 in

@@ -9,19 +9,20 @@ use Rattle.std.proofs.lemmas.List.Elements.{All-nil, All-cons, All-head, All-tai
 use Rattle.rmt_bits.proofs.ListLaws.{slice_get-below, slice_get-item}
 use Rattle.rmt_ast.specs.declared.program.Program.{Program}
 use Rattle.rmt_ast.specs.declared.program.Table.{Table}
-use Rattle.rmt_ast.specs.declared.program.Node.{Node}
 use Rattle.rmt_ast.specs.declared.program.Kind.{Kind}
-use Rattle.rmt_ast.specs.declared.program.Kind.TheVariants.{Keyless, Exact, Prefix, Ternary}
+use Rattle.rmt_ast.specs.declared.program.Node.{Node}
 use Rattle.rmt_ast.specs.declared.program.What.{What}
+use Rattle.rmt_ast.specs.declared.program.Kind.TheVariants.{Keyless, Exact, Prefix, Ternary}
 use Rattle.rmt_ast.specs.declared.program.What.TheVariants.{Apply, Gate}
 use Rattle.rmt_ast.specs.WellFormed.{IsProgram, IsWhat}
 use Rattle.rmt_pack.specs.declared.format.Format.{Format}
 use Rattle.rmt_pack.specs.declared.format.Need.{Need}
 use Rattle.rmt_pack.specs.Formats.{divided_up, record_width, records_a_row, record_units, no_memory, ternary_format, exact_format, exact_formats, memory_format, whole, goes_before, IsFormat, IsExactFormat, IsNeed, HasNeed}
 use Rattle.rmt_pack.specs.Placements.{IsNodeFormat, table_need}
-use Rattle.rmt_pack.proofs.FormatLaws.{of_formats, formats_are, of_map, records_a_row-some, record_blocks-le, exact_format-taken}
+use Rattle.rmt_pack.proofs.FormatLaws.{of_formats, formats_are, records_a_row-some, record_blocks-le, exact_format-taken}
 use Rattle.rmt_pack.proofs.NeedLaws.{has_need}
 use Rattle.rmt_bounds.specs.Bounds.{fit_alone, stages_for, least, least_stages, stages_of_what, node_stages, format_of_what}
+use Rattle.rmt_bits.proofs.AllLaws.{All-unmap}
 
 -- ---- the least of some numbers
 
@@ -76,7 +77,7 @@ exact_blocks n f is = omega (arith, ap (λ (g : Format). g.sram) is.layout, is.h
 exact_stages : (n : Need) (f : Format) → IsExactFormat n f → least_stages Exact n ≤ stages_for f
 exact_stages n f is =
     of_formats (λ g. least (map stages_for (exact_formats n)) ≤ stages_for g) n
-    (of_map (λ x. least (map stages_for (exact_formats n)) ≤ x) stages_for (exact_formats n) (least-le (map stages_for (exact_formats n)))) f is
+    (All-unmap (λ x. least (map stages_for (exact_formats n)) ≤ x) stages_for (exact_formats n) (least-le (map stages_for (exact_formats n)))) f is
 
 -- a stage at least, where a quantum stands in one
 one_at_least : (quanta fit : ℕ) → 1 ≤ quanta → 1 ≤ fit → 1 ≤ divided_up quanta fit

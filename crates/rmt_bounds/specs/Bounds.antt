@@ -4,9 +4,9 @@ use Rattle.rmt_ast.specs.declared.deps.Edge.{Edge}
 use Rattle.rmt_ast.specs.declared.program.Program.{Program}
 use Rattle.rmt_ast.specs.declared.program.Table.{Table}
 use Rattle.rmt_ast.specs.declared.program.Kind.{Kind}
-use Rattle.rmt_ast.specs.declared.program.Kind.TheVariants.{Keyless, Exact, Prefix, Ternary}
 use Rattle.rmt_ast.specs.declared.program.Node.{Node}
 use Rattle.rmt_ast.specs.declared.program.What.{What}
+use Rattle.rmt_ast.specs.declared.program.Kind.TheVariants.{Keyless, Exact, Prefix, Ternary}
 use Rattle.rmt_ast.specs.declared.program.What.TheVariants.{Apply, Gate}
 use Rattle.rmt_pack.specs.declared.format.Format.{Format}
 use Rattle.rmt_pack.specs.declared.format.Need.{Need}

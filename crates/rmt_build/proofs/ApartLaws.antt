@@ -5,18 +5,12 @@ use Rattle.std.specs.List.{range_with_len}
 use Rattle.std.proofs.lemmas.Bool.{and_parts, ltb-true, leb-true}
 use Rattle.std.proofs.lemmas.List.Elements.{All-filter, All-map, All-weaker, filter_passes}
 use Rattle.std.proofs.lemmas.List.Sorted.{All-permutation}
-use Rattle.rmt_bits.proofs.AllLaws.{All-range}
-use Rattle.rmt_pack.proofs.FormatLaws.{of_map}
+use Rattle.rmt_bits.proofs.AllLaws.{All-range, All-unmap}
 use Rattle.rmt_phv.proofs.PairLaws.{AllPairs-map}
 use Rattle.rmt_build.specs.declared.stands.Stand.{Stand}
 use Rattle.rmt_build.specs.Rooms.{StandApart}
 use Rattle.rmt_build.specs.Standing.{StandOnce, counted_from, stands_there, stands_within}
-
-pairs-tail : {X : Type 0} (R : X → X → Type 0) (x : X) (xs : List X) → AllPairs R (x ∷ xs) → AllPairs R xs
-pairs-tail R x xs pairs i j d less lt = pairs (suc i) (suc j) d (omega (arith, less)) (omega (arith, lt))
-
-pairs-head : {X : Type 0} (R : X → X → Type 0) (x : X) (xs : List X) → AllPairs R (x ∷ xs) → All (R x) xs
-pairs-head R x xs pairs k d lt = pairs 0 (suc k) d (omega arith) (omega (arith, lt))
+use Rattle.rmt_bits.proofs.PairLaws.{AllPairs-tail, AllPairs-head}
 
 pairs-cons : {X : Type 0} (R : X → X → Type 0) (x : X) (xs : List X) → All (R x) xs → AllPairs R xs → AllPairs R (x ∷ xs)
 pairs-cons R x xs first rest i zero d less lt = absurd (omega (arith, less))
@@ -26,7 +20,7 @@ pairs-cons R x xs first rest (suc i) (suc j) d less lt = rest i j d (omega (arit
 pairs-filter : {X : Type 0} (R : X → X → Type 0) (test : X → Bool) (xs : List X) → AllPairs R xs → AllPairs R (filter test xs)
 pairs-filter R test [] pairs = pairs
 pairs-filter {X} R test (x ∷ xs) pairs =
-    by_test (test x) (All-filter test (R x) xs (pairs-head R x xs pairs)) (pairs-filter R test xs (pairs-tail R x xs pairs))
+    by_test (test x) (All-filter test (R x) xs (AllPairs-head R x xs pairs)) (pairs-filter R test xs (AllPairs-tail R x xs pairs))
   where
     by_test : (b : Bool) → All (R x) (filter test xs) → AllPairs R (filter test xs) → AllPairs R (cond b (x ∷ filter test xs) (filter test xs))
     by_test true first rest = pairs-cons R x (filter test xs) first rest
@@ -39,7 +33,7 @@ part-apart count first cells own once =
     let inside = filter there own in
     let passed : All (λ (s : Stand). there s ≡ true) inside = filter_passes there own in
     let few : All (λ (s : Stand). s.entry < count) own =
-    of_map (λ n. n < count) (λ (s : Stand). s.entry) own
+    All-unmap (λ n. n < count) (λ (s : Stand). s.entry) own
     (All-permutation (λ n. n < count) (range_with_len 0 count) (map (λ (s : Stand). s.entry) own) once.each (All-range (λ n. n < count) 0 count (λ n lt. omega (arith, lt)))) in
     record {
       entries = All-map (λ (s : Stand). s.entry < count) (counted_from first) inside (All-filter there (λ (s : Stand). s.entry < count) own few);

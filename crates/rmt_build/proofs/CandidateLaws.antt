@@ -4,7 +4,7 @@ use Rattle.std.specs.Prelude.{Contains, count_by, filter, nat_lt, sum_by}
 use Rattle.std.specs.List.{flat_map, range_with_len}
 use Rattle.std.proofs.lemmas.Bool.{both_ways, cases_lt, ltb-true, lt-ltb}
 use Rattle.std.proofs.lemmas.Grind.{flat_map-append}
-use Rattle.std.proofs.lemmas.List.Elements.{All-cons, All-nil, Contains-append_cases}
+use Rattle.std.proofs.lemmas.List.Elements.{All-cons, All-nil, Contains-append_cases, All-contains}
 use Rattle.std.proofs.lemmas.List.FromFn.{get_or-range_with_len, length-range_with_len}
 use Rattle.std.proofs.lemmas.List.Sums.{sum_by_push}
 use Rattle.std.proofs.lemmas.Nat.{mod_below, mul-le}
@@ -17,9 +17,10 @@ use Rattle.rmt_config.specs.Shapes.{divided_up}
 use Rattle.rmt_cuckoo.specs.declared.layout.Ways.{Ways}
 use Rattle.rmt_cuckoo.specs.declared.way.Way.{Way}
 use Rattle.rmt_cuckoo.specs.Loading.{candidates, cells_in, row_start, way_of, ways_from}
-use Rattle.rmt_refine.proofs.FindLaws.{All-contains, Contains-range}
-use Rattle.rmt_refine.proofs.MemberLaws.{Contains-flat_map, from_flat_map, mapped_from}
+use Rattle.rmt_refine.proofs.FindLaws.{Contains-range}
+use Rattle.rmt_refine.proofs.MemberLaws.{Contains-flat_map, from_flat_map}
 use Rattle.rmt_refine.proofs.PartLaws.{cell_lt}
+use Rattle.rmt_bits.proofs.MemberLaws.{Contains-unmap}
 
 range_bounds : (a n x : ℕ) → Contains (range_with_len a n) x → (a ≤ x) × (x < a + n)
 range_bounds a n x there =
@@ -103,7 +104,7 @@ module _ (q : ℕ → ℕ) (per : ℕ) where
     in_ways : (last k x : ℕ) → k < last → 0 < q k → Contains (flat_map cells_of_way (map (way_of (4 * parts_upto k) (first_cell k) (part_at k)) (0 ∷ 1 ∷ 2 ∷ 3 ∷ []))) x → InPart last x
     in_ways last k x before some there =
         let w = from_flat_map cells_of_way (map (way_of (4 * parts_upto k) (first_cell k) (part_at k)) (0 ∷ 1 ∷ 2 ∷ 3 ∷ [])) x there in
-        let j = mapped_from (way_of (4 * parts_upto k) (first_cell k) (part_at k)) (0 ∷ 1 ∷ 2 ∷ 3 ∷ []) w.0 w.1 in
+        let j = Contains-unmap (way_of (4 * parts_upto k) (first_cell k) (part_at k)) (0 ∷ 1 ∷ 2 ∷ 3 ∷ []) w.0 w.1 in
         record { k = k; before = before; some = some; way = j.0; is_way = four j.0 j.1; there = subst (λ (y : Way). Contains (cells_of_way y) x) (sym j.2) w.2 }
 
     cells_next : (k : ℕ) → first_cell k + cells_in (part_at k) ≡ first_cell (k + 1)

@@ -4,11 +4,9 @@ use Rattle.std.specs.Prelude.{All, Contains, IsSomeAnd, slice_get, slice_index}
 use Rattle.std.specs.List.{AllZip}
 use Rattle.std.proofs.lemmas.List.Elements.{Contains-get_or}
 use Rattle.rmt_bits.proofs.ListLaws.{slice_get-alike, slice_get-item}
-use Rattle.rmt_ast.specs.declared.program.Program.{Program}
+use Rattle.rmt_build.specs.Types.{Program, Config, Stage}
 use Rattle.rmt_ast.specs.declared.entry.Entry.{Entry}
 use Rattle.rmt_ast.specs.EntryLists.{AreEntries}
-use Rattle.rmt_config.specs.declared.config.Config.{Config}
-use Rattle.rmt_config.specs.declared.config.Stage.{Stage}
 use Rattle.rmt_config.specs.Agreement.{AgreesWith}
 use Rattle.rmt_pack.specs.declared.placement.Part.{Part}
 use Rattle.rmt_refine.specs.declared.map.CellOf.{CellOf}

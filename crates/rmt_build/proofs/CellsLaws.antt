@@ -3,23 +3,15 @@ use Rattle.std.proofs.Common.{◌≡◌, ℕ, zero, suc, ◌+◌, ◌-◌, ◌*�
 use Rattle.std.specs.Prelude.{All, AllPairs, Contains, IsSomeAnd, MatchOption, nat_lt, option_and_then, option_map, slice_get, sum_by, ⊤}
 use Rattle.std.specs.List.{AllZip, range_with_len}
 use Rattle.std.proofs.lemmas.Bool.{lt-ltb}
-use Rattle.std.proofs.lemmas.List.Elements.{All-weaker}
+use Rattle.std.proofs.lemmas.List.Elements.{All-weaker, All-contains}
 use Rattle.std.proofs.lemmas.Option.{get_or_from_slice_get, none-some, same_Some, slice_get-map, slice_get_within}
 use Rattle.std.proofs.lemmas.Slice.Zip.{AllZip-left}
 use Rattle.rmt_bits.proofs.ListLaws.{slice_get-item}
-use Rattle.rmt_ast.specs.declared.program.Program.{Program}
-use Rattle.rmt_ast.specs.declared.program.Node.{Node}
-use Rattle.rmt_ast.specs.declared.program.Table.{Table}
-use Rattle.rmt_ast.specs.declared.program.Kind.{Kind}
+use Rattle.rmt_build.specs.Types.{Program, Table, Kind, Node, What, Config, Stage, Unit, SlotUnit}
 use Rattle.rmt_ast.specs.declared.program.Kind.TheVariants.{Keyless, Exact, Prefix, Ternary}
-use Rattle.rmt_ast.specs.declared.program.What.{What}
 use Rattle.rmt_ast.specs.declared.program.What.TheVariants as what
 use Rattle.rmt_ast.specs.declared.entry.Entry.{Entry}
 use Rattle.rmt_ast.specs.EntryLists.{AreEntries, AreEntriesAt, AreTableEntries, terms_at, terms_of}
-use Rattle.rmt_config.specs.declared.config.Config.{Config}
-use Rattle.rmt_config.specs.declared.config.SlotUnit.{SlotUnit}
-use Rattle.rmt_config.specs.declared.config.Stage.{Stage}
-use Rattle.rmt_config.specs.declared.config.Unit.{Unit}
 use Rattle.rmt_config.specs.declared.config.Unit.TheVariants.{Gate, Slot}
 use Rattle.rmt_pack.specs.declared.placement.Part.{Part}
 use Rattle.rmt_pack.specs.Placements.{quanta_in, quanta_of}
@@ -28,7 +20,7 @@ use Rattle.rmt_refine.specs.declared.map.CellOf.{CellOf}
 use Rattle.rmt_refine.specs.Cells.{IsTold, Spot}
 use Rattle.rmt_refine.specs.Units.{DoesAs, UnitCarried, UnitsCarried, applied, nodes_in, table_at}
 use Rattle.rmt_refine.specs.View.{as_slot}
-use Rattle.rmt_refine.proofs.FindLaws.{All-contains, Contains-range, filter_keeps}
+use Rattle.rmt_refine.proofs.FindLaws.{Contains-range, filter_keeps}
 use Rattle.rmt_refine.proofs.NumberLaws.{one_list}
 use Rattle.rmt_refine.proofs.PartLaws.{IsPart, and_at, some_and, then_some}
 use Rattle.rmt_refine.proofs.TheLaw.{its_terms}
@@ -42,7 +34,7 @@ use Rattle.rmt_build.proofs.PartLaws.{sum_more}
 use Rattle.rmt_build.proofs.SpotLaws.{StandsAt, listed_stands, rising_place, stands_listed, table_of_part}
 use Rattle.rmt_build.proofs.StandLaws.{behind_parts, entry_there, first_cell, one_stand, some_part}
 use Rattle.rmt_build.proofs.ToldLaws.{listed_told, told_listed}
-use Rattle.rmt_refine.proofs.MemberLaws.{Contains-map}
+use Rattle.rmt_bits.proofs.MemberLaws.{Contains-map}
 
 -- ---- members of lists of entries
 

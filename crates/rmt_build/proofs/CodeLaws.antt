@@ -1,24 +1,19 @@
 -- Instructions of foldings do what a configuration that carries a program asks of them.
-use Rattle.std.proofs.Common.{◌≡◌, ◌≢◌, ◌⊎◌, ◌+◌, ◌*◌, ◌^◌, ◌<◌, ◌≤◌, ◌∙◌, ℕ, List, [], ◌∷◌, map, get_or, refl, sym, ap, subst, arith}
+use Rattle.std.proofs.Common.{◌≡◌, ◌≢◌, ◌⊎◌, ◌+◌, ◌*◌, ◌^◌, ◌<◌, ◌≤◌, ◌∙◌, ℕ, List, [], ◌∷◌, map, get_or, refl, sym, ap, subst}
 use Rattle.std.specs.Prelude.{All, Contains, Option, option_map, unwrap_or}
 use Rattle.std.specs.List.{AllZip}
 use Rattle.std.specs.List.Sorted.{IsPermutation}
-use Rattle.std.proofs.lemmas.List.{get_or-map, length-map}
 use Rattle.std.proofs.lemmas.List.Elements.{All-contains, All-contains_itself, All-map, All-nil, All-weaker, Contains-get_or}
 use Rattle.std.proofs.lemmas.List.Sorted.{All-permutation}
 use Rattle.rmt_bits.specs.declared.lane.Lane.{Lane}
-use Rattle.rmt_bits.proofs.AllLaws.{All-flat_map}
-use Rattle.rmt_ast.specs.declared.program.Program.{Program}
-use Rattle.rmt_ast.specs.declared.program.Action.{Action}
-use Rattle.rmt_ast.specs.declared.program.Assign.{Assign}
+use Rattle.rmt_bits.proofs.AllLaws.{All-flat_map, All-unmap}
+use Rattle.rmt_build.specs.Types.{Program, Action, Assign, Operation}
 use Rattle.rmt_ast.specs.Control.{act_of}
 use Rattle.rmt_ast.specs.EntryLists.{params_of}
 use Rattle.rmt_ast.specs.Places.{lanes_of}
 use Rattle.rmt_ast.specs.WellFormed.{Fits}
-use Rattle.rmt_config.specs.declared.config.Operation.{Operation}
 use Rattle.rmt_config.specs.Life.{Words, lane_of}
 use Rattle.rmt_deps.specs.Edges.{of_action}
-use Rattle.rmt_pack.proofs.FormatLaws.{of_map}
 use Rattle.rmt_phv.specs.Places.{written_by}
 use Rattle.rmt_vliw.specs.declared.folded.Folded.{Folded}
 use Rattle.rmt_vliw.specs.Effects as effects
@@ -31,6 +26,7 @@ use Rattle.rmt_vliw.proofs.ValueLaws.{dests_known}
 use Rattle.rmt_refine.specs.Cells.{HasArguments}
 use Rattle.rmt_refine.specs.Code.{held_by, Hold, words_after, assigned_lanes, ChangesOnly, WritesWordsOf, DoesAction, DoesDefault}
 use Rattle.rmt_refine.proofs.MemberLaws.{Contains-flat_map}
+use Rattle.rmt_bits.proofs.MemberLaws.{Contains-map}
 
 -- ---- the words that hold a state
 
@@ -46,11 +42,6 @@ hold_there : (places : List (List Lane)) (words : Words) (s : List ℕ) → Hold
 hold_there places words s hold f = held_same words (lanes_of places f) ∙ hold f
 
 -- ---- the lanes that an action assigns
-
-contains_map : {X Y : Type 0} (f : X → Y) (xs : List X) (x : X) → Contains xs x → Contains (map f xs) (f x)
-contains_map f xs x (k, lt, is) =
-    let long = length-map xs f in
-    (k, omega (arith, long, lt), get_or-map f xs k x (f x) lt ∙ ap f is)
 
 module _ (p : Program) (places : List (List Lane)) (n : ℕ) where
   -- a value is of a field that the action assigns
@@ -80,7 +71,7 @@ module _ (p : Program) (places : List (List Lane)) (n : ℕ) where
       Contains-flat_map (lanes_of places) (of_action p written_by n) v.dest lane (All-contains IsAssigned values v dests op.among) (Contains-get_or (lanes_of places v.dest) op.place none op.inside) in
       let word : y.word ≡ lane.word =
       ap (λ (x : Operation). x.word) (op.is none) ∙ operation_word places params v.expr (piece_of (lanes_of places v.dest) op.place lane.len) lane in
-      subst (Contains (map (λ (l : Lane). l.word) (assigned_lanes p places n))) (sym word) (contains_map (λ (l : Lane). l.word) (assigned_lanes p places n) lane there)))
+      subst (Contains (map (λ (l : Lane). l.word) (assigned_lanes p places n))) (sym word) (Contains-map (λ (l : Lane). l.word) (assigned_lanes p places n) lane there)))
       ops (All-permutation (IsOpOf places params values) (operations_of places params values) ops same (ops_all places params values))
 
   module _ (folded : Folded) (folding : IsFolding p n folded) where
@@ -90,9 +81,9 @@ module _ (p : Program) (places : List (List Lane)) (n : ℕ) where
         let found = action_of p n folded folding in
         let a = found.0 in
         let values = (folded_is a folded found.2).1 in
-        let itself = of_map (Contains (written_by a)) (λ (x : Assign). x.dest) a.assigns (All-contains_itself (written_by a)) in
+        let itself = All-unmap (Contains (written_by a)) (λ (x : Assign). x.dest) a.assigns (All-contains_itself (written_by a)) in
         let known : All (Contains (written_by a)) (dests_of a.assigns) = dests_known a.assigns [] (written_by a) (All-nil (Contains (written_by a))) itself in
-        let own = of_map (Contains (written_by a)) (λ (v : Assign). v.dest) folded.values (subst (All (Contains (written_by a))) (sym values.dests) known) in
+        let own = All-unmap (Contains (written_by a)) (λ (v : Assign). v.dest) folded.values (subst (All (Contains (written_by a))) (sym values.dests) known) in
         subst (λ (o : Option Action). All (λ (v : Assign). Contains (unwrap_or (option_map written_by o) []) v.dest) folded.values) (sym found.1) own
 
     params_same : params_of p n ≡ folded.params

@@ -1,24 +1,18 @@
 -- A map tells of each cell once.
-use Rattle.std.proofs.Common.{◌≡◌, ◌≢◌, ℕ, suc, ◌+◌, ◌-◌, ◌<◌, ◌==◌, Bool, true, false, cond, List, [], ◌∷◌, Some, length, map, get_or, refl, sym, ap, ◌∙◌, subst, arith}
+use Rattle.std.proofs.Common.{◌≡◌, ◌≢◌, ℕ, suc, ◌+◌, ◌-◌, ◌<◌, ◌==◌, Bool, true, false, cond, List, [], ◌∷◌, Some, map, get_or, refl, sym, ap, ◌∙◌, subst, arith}
 use Rattle.std.specs.Prelude.{All, AllPairs, Contains, filter, nat_le, nat_lt, option_and_then, slice_get}
 use Rattle.std.specs.List.{flat_map, range_with_len}
 use Rattle.std.proofs.lemmas.Bool.{and_parts, eqb-true, leb-true}
-use Rattle.std.proofs.lemmas.List.{get_or-map, length-map}
 use Rattle.std.proofs.lemmas.List.Elements.{Contains-get_or}
 use Rattle.std.proofs.lemmas.List.FromFn.{get_or-range_with_len, length-range_with_len}
 use Rattle.std.proofs.lemmas.List.Kept.{AllPairs-filter}
 use Rattle.std.proofs.lemmas.Option.{get_or_from_slice_get, slice_get_within}
-use Rattle.rmt_ast.specs.declared.program.Program.{Program}
+use Rattle.rmt_build.specs.Types.{Program, Config, Stage, Unit, SlotUnit, CellNumber}
 use Rattle.rmt_ast.specs.declared.entry.Entry.{Entry}
 use Rattle.rmt_ast.specs.EntryLists.{AreEntries}
 use Rattle.rmt_ast.specs.WellFormed.{AreDistinct}
-use Rattle.rmt_config.specs.declared.config.CellNumber.{CellNumber}
-use Rattle.rmt_config.specs.declared.config.Config.{Config}
-use Rattle.rmt_config.specs.declared.config.SlotUnit.{SlotUnit}
-use Rattle.rmt_config.specs.declared.config.Stage.{Stage}
-use Rattle.rmt_config.specs.declared.config.Unit.{Unit}
 use Rattle.rmt_config.specs.declared.config.Unit.TheVariants.{Gate, Slot}
-use Rattle.rmt_place.proofs.OrderLaws.{pairs_append, pairs_nil}
+use Rattle.rmt_place.proofs.OrderLaws.{pairs_nil}
 use Rattle.rmt_refine.specs.declared.map.CellOf.{CellOf}
 use Rattle.rmt_refine.specs.Units.{UnitsCarried}
 use Rattle.rmt_refine.specs.View.{as_slot}
@@ -35,18 +29,11 @@ use Rattle.rmt_build.specs.Standing.{StandOnce, counted_from, stands_there, stan
 use Rattle.rmt_build.specs.Told.{cell_told, cells_told, stages_told, unit_told}
 use Rattle.rmt_build.proofs.SpotLaws.{listed_stands, part_stands, slot_built, table_of_part}
 use Rattle.rmt_build.proofs.ToldLaws.{stages_listed, unit_listed}
-use Rattle.rmt_refine.proofs.MemberLaws.{Contains-map, flat_from}
+use Rattle.rmt_refine.proofs.MemberLaws.{flat_from}
+use Rattle.rmt_bits.proofs.PairLaws.{AllPairs-map, AllPairs-append}
+use Rattle.rmt_bits.proofs.MemberLaws.{Contains-map}
 
 -- ---- pairs of joined lists
-
-pairs_map : {X Y : Type 0} (R : Y → Y → Type 0) (f : X → Y) (xs : List X) → AllPairs (λ a b. R (f a) (f b)) xs → AllPairs R (map f xs)
-pairs_map R f [] all = pairs_nil R
-pairs_map R f (x ∷ xs) all = λ i j d lt inside.
-    (let long = length-map (x ∷ xs) f in
-    let in_j : j < length (x ∷ xs) = omega (arith, long, inside) in
-    let in_i : i < length (x ∷ xs) = omega (arith, lt, in_j) in
-    subst (λ a. R a (get_or (map f (x ∷ xs)) j d)) (sym (get_or-map f (x ∷ xs) i x d in_i))
-    (subst (R (f (get_or (x ∷ xs) i x))) (sym (get_or-map f (x ∷ xs) j x d in_j)) (all i j x lt in_j)))
 
 across : {X : Type 0} (R : X → X → Type 0) (xs ys : List X) → ((a b : X) → Contains xs a → Contains ys b → R a b) → All (λ a. All (R a) ys) xs
 across R xs ys all = λ k d lt. λ j e less. all (get_or xs k d) (get_or ys j e) (Contains-get_or xs k d lt) (Contains-get_or ys j e less)
@@ -55,7 +42,7 @@ pub flat_pairs : {X Y : Type 0} (R : Y → Y → Type 0) (f : X → List Y) (xs 
     → ((i j : ℕ) (x y : X) (a b : Y) → i < j → slice_get xs i ≡ Some x → slice_get xs j ≡ Some y → Contains (f x) a → Contains (f y) b → R a b) → AllPairs R (flat_map f xs)
 flat_pairs R f [] each apart = pairs_nil R
 flat_pairs R f (x ∷ xs) each apart =
-    pairs_append R (f x) (flat_map f xs) (each 0 x refl)
+    AllPairs-append R (f x) (flat_map f xs) (each 0 x refl)
     (flat_pairs R f xs (λ i y at. each (suc i) y at) (λ i j y z a b lt at_y at_z in_a in_b. apart (suc i) (suc j) y z a b (omega (arith, lt)) at_y at_z in_a in_b))
     (across R (f x) (flat_map f xs) (λ a b in_a in_b.
     (let r = flat_from f xs b in_b in apart 0 (suc r.0) x r.1 a b (omega arith) refl r.2 in_a r.3)))
@@ -65,9 +52,9 @@ flat_pairs R f (x ∷ xs) each apart =
 -- those of the stands of a part differ
 part_apart : (es : List Entry) (own : List Stand) (count first cells k : ℕ) → StandOnce count own → AllPairs ◌≢◌ (map (cell_told k) (map (number_at es) (stands_within first cells own)))
 part_apart es own count first cells k once =
-    pairs_map ◌≢◌ (cell_told k) (map (number_at es) (stands_within first cells own))
-    (pairs_map (λ (a b : CellNumber). cell_told k a ≢ cell_told k b) (number_at es) (stands_within first cells own)
-    (pairs_map (λ (a b : Stand). cell_told k (number_at es a) ≢ cell_told k (number_at es b)) (counted_from first) (filter (stands_there first cells) own)
+    AllPairs-map ◌≢◌ (cell_told k) (map (number_at es) (stands_within first cells own))
+    (AllPairs-map (λ (a b : CellNumber). cell_told k a ≢ cell_told k b) (number_at es) (stands_within first cells own)
+    (AllPairs-map (λ (a b : Stand). cell_told k (number_at es a) ≢ cell_told k (number_at es b)) (counted_from first) (filter (stands_there first cells) own)
     (λ i j d lt inside same.
     (let kept = filter (stands_there first cells) own in
     let less = AllPairs-filter (λ (a b : Stand). a.cell < b.cell) (stands_there first cells) own once.rise i j d lt inside in
@@ -110,7 +97,7 @@ module _ (p : Program) (lists : List (List Entry)) (plan : Plan) (c : Config) (e
   stages_apart n first [] known = pairs_nil ◌≢◌
   stages_apart n first (stage ∷ stages) known =
       let none : first + 0 ≡ first = omega arith in
-      pairs_append ◌≢◌ (flat_map (unit_told n first) stage.units) (stages_told n (first + 1) stages)
+      AllPairs-append ◌≢◌ (flat_map (unit_told n first) stage.units) (stages_told n (first + 1) stages)
       (stage_apart n first stage (sym (ap (slice_get c.stages) none) ∙ known 0 stage refl))
       (stages_apart n (first + 1) stages (λ at s is. (let e : first + 1 + at ≡ first + suc at = omega arith in ap (slice_get c.stages) e ∙ known (suc at) s is)))
       (across ◌≢◌ (flat_map (unit_told n first) stage.units) (stages_told n (first + 1) stages) (λ a b in_a in_b same.

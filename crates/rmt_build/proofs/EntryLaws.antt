@@ -9,13 +9,8 @@ use Rattle.std.proofs.Math.Nat.{pow-le-pow_right}
 use Rattle.rmt_bits.specs.Bits.{bytes_of, number_of}
 use Rattle.rmt_bits.proofs.AllLaws.{All-slice_get}
 use Rattle.rmt_bits.proofs.ByteLaws.{number_of_push}
-use Rattle.rmt_ast.specs.declared.program.Program.{Program}
-use Rattle.rmt_ast.specs.declared.program.Action.{Action}
-use Rattle.rmt_ast.specs.declared.program.Field.{Field}
-use Rattle.rmt_ast.specs.declared.program.Kind.{Kind}
+use Rattle.rmt_build.specs.Types.{Program, Field, Test, Action, Table, Kind}
 use Rattle.rmt_ast.specs.declared.program.Kind.TheVariants.{Keyless, Exact, Prefix, Ternary}
-use Rattle.rmt_ast.specs.declared.program.Table.{Table}
-use Rattle.rmt_ast.specs.declared.program.Test.{Test}
 use Rattle.rmt_ast.specs.declared.entry.Entry.{Entry}
 use Rattle.rmt_ast.specs.EntryLists.{IsEntry, params_of, terms_of}
 use Rattle.rmt_ast.specs.State.{width_of}

@@ -6,8 +6,7 @@ use Rattle.std.proofs.lemmas.List.{length-take, length-drop}
 use Rattle.std.proofs.lemmas.List.Elements.{All-nil, All-push, All-contains, Contains-get_or, Contains-append_left, Contains-append_right, Contains-push}
 use Rattle.rmt_bits.specs.Bits.{slice}
 use Rattle.rmt_bits.proofs.AllLaws.{All-left}
-use Rattle.rmt_ast.specs.declared.program.Program.{Program}
-use Rattle.rmt_ast.specs.declared.program.Table.{Table}
+use Rattle.rmt_build.specs.Types.{Program, Table}
 use Rattle.rmt_ast.specs.declared.entry.Entry.{Entry}
 use Rattle.rmt_config.specs.CellForm.{EndsAt, RecordsEnd}
 use Rattle.rmt_config.specs.Cells.{Blocks, blocks_at, unit_row}

@@ -3,10 +3,8 @@ use Rattle.std.proofs.Common.{◌≡◌, ℕ, zero, suc, ◌<◌, ◌≤◌, ◌
 use Rattle.std.specs.Prelude.{Contains, Option, option_map, sum, unwrap_or}
 use Rattle.std.specs.List.{fold}
 use Rattle.std.proofs.lemmas.Option.{slice_get_read}
-use Rattle.rmt_ast.specs.declared.program.Program.{Program}
+use Rattle.rmt_build.specs.Types.{Program, Action, Table}
 use Rattle.rmt_vliw.specs.declared.folded.Folded.{Folded}
-use Rattle.rmt_ast.specs.declared.program.Action.{Action}
-use Rattle.rmt_ast.specs.declared.program.Table.{Table}
 use Rattle.rmt_pack.specs.Placements.{data_bits, param_bits}
 use Rattle.rmt_vliw.specs.Folding.{IsFolding}
 use Rattle.rmt_vliw.proofs.MeaningLaws.{action_of, folded_is}

@@ -8,17 +8,11 @@ use Rattle.std.proofs.lemmas.List.{length-append, length-map, length-set}
 use Rattle.std.proofs.lemmas.List.Elements.{All-append, All-cons, All-drop, All-filter, All-head, All-map, All-nil, All-set, All-tail, All-take}
 use Rattle.std.proofs.lemmas.List.Sums.{list_all-from_AllPass}
 use Rattle.rmt_bits.specs.declared.lane.Lane.{Lane}
-use Rattle.rmt_ast.specs.declared.program.Header.{Header}
-use Rattle.rmt_ast.specs.declared.program.Program.{Program}
+use Rattle.rmt_build.specs.Types.{Program, Header, ParserConfig, ParserState, ParserEntry, Next, TailOf}
 use Rattle.rmt_ast.specs.WellFormed.{IsProgram}
 use Rattle.rmt_phv.specs.Places.{KeepsApart}
 use Rattle.rmt_phv.proofs.PairLaws.{All-from_map}
-use Rattle.rmt_config.specs.declared.config.Next.{Next}
 use Rattle.rmt_config.specs.declared.config.Next.TheVariants as next
-use Rattle.rmt_config.specs.declared.config.ParserConfig.{ParserConfig}
-use Rattle.rmt_config.specs.declared.config.ParserEntry.{ParserEntry}
-use Rattle.rmt_config.specs.declared.config.ParserState.{ParserState}
-use Rattle.rmt_config.specs.declared.config.TailOf.{TailOf}
 use Rattle.rmt_config.specs.Order.{never_falls_from}
 use Rattle.rmt_config.specs.Parser.{tail_of}
 use Rattle.rmt_config.specs.ParserForm.{entry_is_formed, parser_is_formed, state_is_formed}

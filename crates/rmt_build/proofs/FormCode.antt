@@ -3,12 +3,8 @@ use Rattle.std.proofs.Common.{◌≡◌, ℕ, zero, suc, true, false, List, [], 
 use Rattle.std.specs.Prelude.{All}
 use Rattle.std.proofs.lemmas.List.Elements.{All-head, All-tail}
 use Rattle.rmt_bits.specs.declared.lane.Lane.{Lane}
-use Rattle.rmt_ast.specs.declared.program.Program.{Program}
-use Rattle.rmt_ast.specs.declared.program.Table.{Table}
-use Rattle.rmt_config.specs.declared.config.SlotUnit.{SlotUnit}
-use Rattle.rmt_config.specs.declared.config.Unit.{Unit}
+use Rattle.rmt_build.specs.Types.{Program, Table, Unit, SlotUnit, Vliw}
 use Rattle.rmt_config.specs.declared.config.Unit.TheVariants.{Gate, Slot}
-use Rattle.rmt_config.specs.declared.config.Vliw.{Vliw}
 use Rattle.rmt_config.specs.declared.form.code.Place.{Place}
 use Rattle.rmt_config.specs.CodeForm.{code_is_formed, places_of, slot_places, unit_places, vliw_is_formed}
 use Rattle.rmt_pack.specs.Placements.{data_bits}

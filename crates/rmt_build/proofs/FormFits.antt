@@ -3,21 +3,15 @@ use Rattle.std.proofs.Common.{List, Some, [], ap, arith, get_or, inl, inr, lengt
 use Rattle.std.specs.Prelude.{All, option_and_then, slice_get, slice_index, sum_by}
 use Rattle.std.specs.List.{AllZip, range_with_len}
 use Rattle.std.proofs.lemmas.List.{get_or_default, length-map}
-use Rattle.std.proofs.lemmas.List.Elements.{All-cons, All-map, All-nil}
+use Rattle.std.proofs.lemmas.List.Elements.{All-cons, All-map, All-nil, All-contains}
 use Rattle.std.proofs.lemmas.Option.{get_or_from_slice_get, none-some, same_Some, slice_get-get_or, slice_get_within}
 use Rattle.rmt_bits.proofs.AllLaws.{All-flat_map, All-range}
 use Rattle.rmt_bits.proofs.ListLaws.{slice_get-item}
 use Rattle.rmt_ast.specs.declared.entry.Entry.{Entry}
-use Rattle.rmt_ast.specs.declared.program.Kind.{Kind}
+use Rattle.rmt_build.specs.Types.{Program, Table, Kind, Node, Config, Stage, Unit, SlotUnit}
 use Rattle.rmt_ast.specs.declared.program.Kind.TheVariants as kind
-use Rattle.rmt_ast.specs.declared.program.Node.{Node}
-use Rattle.rmt_ast.specs.declared.program.Program.{Program}
-use Rattle.rmt_ast.specs.declared.program.Table.{Table}
 use Rattle.rmt_ast.specs.EntryLists.{AreEntries, terms_at}
 use Rattle.rmt_ast.specs.WellFormed.{AllNumbered, IsProgram}
-use Rattle.rmt_config.specs.declared.config.SlotUnit.{SlotUnit}
-use Rattle.rmt_config.specs.declared.config.Stage.{Stage}
-use Rattle.rmt_config.specs.declared.config.Unit.{Unit}
 use Rattle.rmt_config.specs.declared.config.Unit.TheVariants.{Gate, Slot}
 use Rattle.rmt_config.specs.Resources.{distinct, memory_width, node_count, node_numbers, unit_width}
 use Rattle.rmt_config.specs.TableForm.{node_of}
@@ -29,7 +23,7 @@ use Rattle.rmt_place.specs.Needs.{demands_of, keeps_limits}
 use Rattle.rmt_place.specs.Placing.{standing_in}
 use Rattle.rmt_refine.specs.Units.{UnitCarried, applied, node_in, nodes_in, table_at}
 use Rattle.rmt_refine.specs.View.{as_slot}
-use Rattle.rmt_refine.proofs.FindLaws.{All-contains, Contains-range, filtered_there}
+use Rattle.rmt_refine.proofs.FindLaws.{Contains-range, filtered_there}
 use Rattle.rmt_refine.proofs.PartLaws.{then_some}
 use Rattle.rmt_build.specs.declared.memory.Need.{Need}
 use Rattle.rmt_build.specs.declared.memory.Taken.{Taken}
@@ -41,7 +35,6 @@ use Rattle.rmt_build.proofs.FormBlocks.{HasMemory, are_blocks, few_sram, few_tca
 use Rattle.rmt_build.proofs.FormLimits.{FewParts, FitsStage, within_limits}
 use Rattle.rmt_build.proofs.FormStage.{HoldsData, keep_limits, kinds}
 use Rattle.rmt_build.proofs.PlanLaws.{is_format}
-use Rattle.rmt_config.specs.declared.config.Config.{Config}
 use Rattle.rmt_config.specs.Limits.{IsWithinLimits}
 use Rattle.rmt_build.proofs.FormSums.{distinct_apart, distinct_from, sum_within}
 use Rattle.std.proofs.lemmas.List.FromFn.{length-range_with_len}

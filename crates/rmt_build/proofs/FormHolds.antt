@@ -5,14 +5,9 @@ use Rattle.std.specs.List.{AllZip}
 use Rattle.std.proofs.lemmas.Bool.{eq-eqb, le-leb}
 use Rattle.std.proofs.lemmas.Option.{none-some, same_Some, slice_get-get_or, slice_get-map, slice_get_within}
 use Rattle.rmt_ast.specs.declared.entry.Entry.{Entry}
-use Rattle.rmt_ast.specs.declared.program.Node.{Node}
-use Rattle.rmt_ast.specs.declared.program.Program.{Program}
-use Rattle.rmt_ast.specs.declared.program.Table.{Table}
+use Rattle.rmt_build.specs.Types.{Program, Table, Node, Stage, Unit, GateUnit, SlotUnit}
 use Rattle.rmt_ast.specs.EntryLists.{AreEntries, AreEntriesAt, AreTableEntries, terms_at, terms_of}
 use Rattle.rmt_ast.specs.WellFormed.{AllNumbered, IsProgram}
-use Rattle.rmt_config.specs.declared.config.SlotUnit.{SlotUnit}
-use Rattle.rmt_config.specs.declared.config.Stage.{Stage}
-use Rattle.rmt_config.specs.declared.config.Unit.{Unit}
 use Rattle.rmt_config.specs.declared.config.Unit.TheVariants.{Gate, Slot}
 use Rattle.rmt_config.specs.CellForm.{SlotHolds, StageHolds}
 use Rattle.rmt_config.specs.Order.{rises_from}
@@ -28,7 +23,6 @@ use Rattle.rmt_build.specs.Plans.{AreParts, AreStands}
 use Rattle.rmt_build.proofs.FormFits.{slot_built}
 use Rattle.rmt_build.proofs.FormMemory.{slot_holds, slots_hold}
 use Rattle.rmt_build.proofs.FormStage.{kinds}
-use Rattle.rmt_config.specs.declared.config.GateUnit.{GateUnit}
 
 -- ---- starts
 

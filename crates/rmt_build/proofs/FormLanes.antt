@@ -9,16 +9,12 @@ use Rattle.std.proofs.lemmas.List.Elements.{All-head, All-tail}
 use Rattle.std.proofs.lemmas.List.Sums.{list_all-from_AllPass, sum_by-cons}
 use Rattle.std.proofs.lemmas.Option.{none-some, same_Some, slice_get-get_or, slice_get-map}
 use Rattle.rmt_bits.specs.declared.lane.Lane.{Lane}
-use Rattle.rmt_ast.specs.declared.program.Program.{Program}
-use Rattle.rmt_ast.specs.declared.program.Field.{Field}
-use Rattle.rmt_ast.specs.declared.program.Header.{Header}
+use Rattle.rmt_build.specs.Types.{Program, Field, Header, Config, OutHeader}
 use Rattle.rmt_ast.specs.Places.{lanes_of}
 use Rattle.rmt_ast.specs.State.{width_of}
 use Rattle.rmt_ast.specs.WellFormed.{IsHeader, IsProgram}
 use Rattle.rmt_phv.specs.Packing.{pieces}
 use Rattle.rmt_phv.specs.Places.{KeepsApart, LiesInWord}
-use Rattle.rmt_config.specs.declared.config.Config.{Config}
-use Rattle.rmt_config.specs.declared.config.OutHeader.{OutHeader}
 use Rattle.rmt_config.specs.LaneForm.{bits_of_lanes, header_is_formed, headers_are_formed, is_lane_of, lane_is_formed, ports_are_formed}
 use Rattle.rmt_ptcam.specs.declared.fault.ParserFault.{ParserFault}
 use Rattle.rmt_ptcam.specs.declared.fault.ParserFault.TheVariants.{LookupWide, StepWide}

@@ -4,16 +4,12 @@ use Rattle.std.specs.Prelude.{All}
 use Rattle.std.proofs.lemmas.List.{length-append, length-map}
 use Rattle.std.proofs.lemmas.List.Elements.{All-append, All-cons, All-head, All-map, All-nil, All-tail}
 use Rattle.rmt_bits.specs.declared.lane.Lane.{Lane}
-use Rattle.rmt_ast.specs.declared.program.Program.{Program}
-use Rattle.rmt_ast.specs.declared.program.Header.{Header}
+use Rattle.rmt_build.specs.Types.{Program, Header, ParserState, ParserEntry, Extract}
 use Rattle.rmt_ast.specs.Places.{lanes_of}
 use Rattle.rmt_ast.specs.WellFormed.{IsHeader, IsProgram}
 use Rattle.rmt_phv.specs.Packing.{pieces}
 use Rattle.rmt_phv.specs.Places.{KeepsApart}
-use Rattle.rmt_config.specs.declared.config.Extract.{Extract}
 use Rattle.rmt_config.specs.declared.config.Extract.TheVariants.{One}
-use Rattle.rmt_config.specs.declared.config.ParserEntry.{ParserEntry}
-use Rattle.rmt_config.specs.declared.config.ParserState.{ParserState}
 use Rattle.rmt_ptcam.specs.Needs.{refusal}
 use Rattle.rmt_ptcam.specs.Plain.{bits_from, entries_from, entries_of, entry_of_case, entry_to, extracts_of, lanes_in_order, plain, state_of}
 use Rattle.rmt_ptcam.proofs.NeedLaws.{fits_in}

@@ -8,12 +8,9 @@ use Rattle.std.proofs.lemmas.List.Sums.{list_all-from_AllPass}
 use Rattle.std.proofs.lemmas.Nat.{mul-le}
 use Rattle.std.proofs.Math.Nat.{mul-div-le}
 use Rattle.rmt_bits.proofs.AllLaws.{All-range}
-use Rattle.rmt_ast.specs.declared.program.Program.{Program}
-use Rattle.rmt_ast.specs.declared.program.Kind.{Kind}
+use Rattle.rmt_build.specs.Types.{Program, Table, Kind, SlotUnit}
 use Rattle.rmt_ast.specs.declared.program.Kind.TheVariants as kind
-use Rattle.rmt_ast.specs.declared.program.Table.{Table}
 use Rattle.rmt_ast.specs.WellFormed.{HasKey, bits_of}
-use Rattle.rmt_config.specs.declared.config.SlotUnit.{SlotUnit}
 use Rattle.rmt_config.specs.Shapes.{divided_up, exact_shape, ternary_shape}
 use Rattle.rmt_config.specs.UnitForm.{are_sram_blocks, are_tcam_blocks, format_is_formed, has_shape, may_have_memory, memory_is_formed}
 use Rattle.rmt_config.specs.LaneForm.{bits_of_lanes}

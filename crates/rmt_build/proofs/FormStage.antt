@@ -4,27 +4,17 @@ use Rattle.std.specs.Prelude.{All, AllPairs, Contains, count_by, filter, nat_le,
 use Rattle.std.specs.List.{AllZip, flat_map, range_with_len}
 use Rattle.std.proofs.lemmas.Bool.{eq-eqb, leb-true, ltb-true}
 use Rattle.std.proofs.lemmas.List.{get_or_default}
-use Rattle.std.proofs.lemmas.List.Elements.{All-append, All-cons, All-contains_itself, All-head, All-map, All-nil, All-tail, All-weaker, Contains-append_cases, Contains-append_left, Contains-append_right}
+use Rattle.std.proofs.lemmas.List.Elements.{All-append, All-cons, All-contains_itself, All-head, All-map, All-nil, All-tail, All-weaker, Contains-append_cases, Contains-append_left, Contains-append_right, All-contains}
 use Rattle.std.proofs.lemmas.List.Kept.{AllPairs-filter}
 use Rattle.std.proofs.lemmas.List.Sums.{AllPass-from_list_all, sum_by-cons}
 use Rattle.std.proofs.lemmas.Option.{get_or_from_slice_get, slice_get-map, slice_get_within}
 use Rattle.rmt_bits.specs.Words.{word_size}
 use Rattle.rmt_bits.specs.declared.lane.Lane.{Lane}
-use Rattle.rmt_ast.specs.declared.program.Program.{Program}
-use Rattle.rmt_ast.specs.declared.program.Kind.{Kind}
+use Rattle.rmt_build.specs.Types.{Program, Test, Table, Kind, Node, What, Unit, GateUnit, GateTest, SlotUnit, Memory}
 use Rattle.rmt_ast.specs.declared.program.Kind.TheVariants as kind
-use Rattle.rmt_ast.specs.declared.program.Node.{Node}
-use Rattle.rmt_ast.specs.declared.program.Table.{Table}
-use Rattle.rmt_ast.specs.declared.program.Test.{Test}
-use Rattle.rmt_ast.specs.declared.program.What.{What}
 use Rattle.rmt_ast.specs.declared.program.What.TheVariants as what
 use Rattle.rmt_ast.specs.Places.{lanes_of}
-use Rattle.rmt_config.specs.declared.config.GateTest.{GateTest}
-use Rattle.rmt_config.specs.declared.config.GateUnit.{GateUnit}
-use Rattle.rmt_config.specs.declared.config.Memory.{Memory}
 use Rattle.rmt_config.specs.declared.config.Memory.TheVariants as memory
-use Rattle.rmt_config.specs.declared.config.SlotUnit.{SlotUnit}
-use Rattle.rmt_config.specs.declared.config.Unit.{Unit}
 use Rattle.rmt_config.specs.declared.config.Unit.TheVariants.{Gate, Slot}
 use Rattle.rmt_config.specs.Resources.{crossbar_bits, exact_words, is_gate, is_slot, key_words_if_exact, key_words_if_ternary, ternary_words, unit_data, unit_instructions, words_of}
 use Rattle.rmt_pack.specs.declared.placement.Part.{Part}
@@ -36,20 +26,14 @@ use Rattle.rmt_place.specs.Placing.{standing_in}
 use Rattle.rmt_ptcam.proofs.FormLaws.{All-reverse}
 use Rattle.rmt_refine.specs.Places.{high_first}
 use Rattle.rmt_refine.specs.Units.{DoesAs, HasKind, TableCarried, UnitCarried, applied, nodes_in, table_at, tests_from, tests_of}
-use Rattle.rmt_refine.proofs.FindLaws.{All-contains, Contains-first, Contains-later, Contains-split, filter_keeps, filtered_there}
+use Rattle.rmt_refine.proofs.FindLaws.{filter_keeps, filtered_there}
 use Rattle.rmt_refine.proofs.NodeLaws.{part_there}
 use Rattle.rmt_refine.proofs.PartLaws.{some_and}
 use Rattle.rmt_build.proofs.FormSums.{distinct_within, sum_within, zip_sum}
 use Rattle.rmt_refine.proofs.MemberLaws.{Contains-flat_map}
+use Rattle.rmt_bits.proofs.MemberLaws.{Contains-map}
 
 -- ---- members
-
-in_map : {X Y : Type 0} (f : X → Y) (xs : List X) (x : X) → Contains xs x → Contains (map f xs) (f x)
-in_map f [] x there = absurd (let lt = there.1 in omega (arith, lt))
-in_map f (y ∷ ys) x there = elim (Contains-split y ys x there) [
-  | inl e ↦ subst (λ z. Contains (f y ∷ map f ys) (f z)) e (Contains-first (f y) (map f ys))
-  | inr later ↦ Contains-later (f y) (map f ys) (f x) (in_map f ys x later)
-]
 
 -- numbers that stand in both lists or in neither
 abbrev Within : List ℕ → List ℕ → Type 0
@@ -95,7 +79,7 @@ module _ (p : Program) (places : List (List Lane)) (parts : List Part) (k : ℕ)
   nodes_there i d lt =
       let n = get_or (nodes_in p parts k) i d in
       let x = its_part n (i, lt, get_or_default (nodes_in p parts k) i n d lt) in
-      subst (Contains part_nodes) x.2 (in_map (λ (y : Part). y.node) in_stage x.0 x.1)
+      subst (Contains part_nodes) x.2 (Contains-map (λ (y : Part). y.node) in_stage x.0 x.1)
 
   sum_map : (g : ℕ → ℕ) (h : Part → ℕ) (xs : List Part) → ((x : Part) → h x ≡ g x.node) → sum_by g (map (λ (x : Part). x.node) xs) ≡ sum_by h xs
   sum_map g h [] same = refl
@@ -124,7 +108,7 @@ module _ (p : Program) (places : List (List Lane)) (parts : List Part) (k : ℕ)
       let x = its_part n there in
       let own : Standing = record { demand = demand x.0.node; quanta = x.0.quanta } in
       Contains-flat_map (λ (y : Standing). g y.demand) standing own w
-      (in_map (λ (y : Part). record { demand = demand y.node; quanta = y.quanta }) in_stage x.0 x.1) (subst (λ m. Contains (g (demand m)) w) (sym x.2) is)
+      (Contains-map (λ (y : Part). record { demand = demand y.node; quanta = y.quanta }) in_stage x.0 x.1) (subst (λ m. Contains (g (demand m)) w) (sym x.2) is)
 
   -- ---- one unit
 
@@ -215,7 +199,7 @@ module _ (p : Program) (places : List (List Lane)) (parts : List Part) (k : ℕ)
       let rest = words_of_fields places fs in
       All-append (λ (l : Lane). Contains (own ++ rest) l.word) (reverse (lanes_of places f)) (high_first places fs)
       (All-reverse (λ (l : Lane). Contains (own ++ rest) l.word) (lanes_of places f)
-      (All-weaker (Contains (lanes_of places f)) (λ (l : Lane). Contains (own ++ rest) l.word) (λ l there. Contains-append_left own rest l.word (in_map (λ (x : Lane). x.word) (lanes_of places f) l there))
+      (All-weaker (Contains (lanes_of places f)) (λ (l : Lane). Contains (own ++ rest) l.word) (λ l there. Contains-append_left own rest l.word (Contains-map (λ (x : Lane). x.word) (lanes_of places f) l there))
       (lanes_of places f) (All-contains_itself (lanes_of places f))))
       (All-weaker (λ (l : Lane). Contains rest l.word) (λ (l : Lane). Contains (own ++ rest) l.word) (λ l there. Contains-append_right own rest l.word there) (high_first places fs) (field_words fs))
 
@@ -257,7 +241,7 @@ module _ (p : Program) (places : List (List Lane)) (parts : List Part) (k : ℕ)
   gate_words g field t is w there =
       let ws = words_of_fields places (field ∷ []) in
       let lanes = lanes_of places field in
-      let own = All-weaker (Contains lanes) (λ (l : Lane). Contains ws l.word) (λ l in_l. Contains-append_left (map (λ (x : Lane). x.word) lanes) [] l.word (in_map (λ (x : Lane). x.word) lanes l in_l))
+      let own = All-weaker (Contains lanes) (λ (l : Lane). Contains ws l.word) (λ l in_l. Contains-append_left (map (λ (x : Lane). x.word) lanes) [] l.word (Contains-map (λ (x : Lane). x.word) lanes l in_l))
       lanes (All-contains_itself lanes) in
       let tests = subst (All (λ (x : GateTest). Contains ws x.lane.word)) (sym is)
       (All-reverse (λ (x : GateTest). Contains ws x.lane.word) (tests_from 0 t lanes) (test_words 0 t lanes ws own)) in

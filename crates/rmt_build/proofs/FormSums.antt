@@ -10,7 +10,7 @@ use Rattle.std.proofs.lemmas.List.Kept.{AllPairs-cons}
 use Rattle.std.proofs.lemmas.List.Sums.{sum_by-cons}
 use Rattle.rmt_ast.proofs.WellFormedLemmas.{AllPairs-none}
 use Rattle.rmt_config.specs.Resources.{distinct, is_in}
-use Rattle.rmt_refine.proofs.FindLaws.{Contains-first, Contains-later, Contains-split}
+use Rattle.rmt_bits.proofs.MemberLaws.{Contains-first, Contains-later, Contains-split}
 
 -- a list without one of its numbers
 record Without (g : ℕ → ℕ) (ms : List ℕ) (n : ℕ) : Type 0 where

@@ -3,35 +3,27 @@ use Rattle.std.proofs.Common.{Bool, List, None, Option, Some, [], ap, arith, con
 use Rattle.std.specs.Prelude.{All, Contains, count_by, filter, find, option_and_then, slice_get}
 use Rattle.std.specs.List.{AllZip, range_with_len}
 use Rattle.std.proofs.lemmas.Bool.{both_ways, cases_eq, cases_lt, eq-eqb, eqb-true, le-ltb, lt-ltb, ltb-true, ne_eqb, or_left, or_right}
-use Rattle.std.proofs.lemmas.List.Elements.{All-append, All-cons, All-head, All-nil, All-tail, All-weaker}
+use Rattle.std.proofs.lemmas.List.Elements.{All-append, All-cons, All-head, All-nil, All-tail, All-weaker, All-contains}
 use Rattle.std.proofs.lemmas.List.Folds.{list_any-append}
 use Rattle.std.proofs.lemmas.List.Sums.{sum_by-cons}
 use Rattle.rmt_bits.specs.declared.lane.Lane.{Lane}
-use Rattle.rmt_ast.specs.declared.program.Kind.{Kind}
+use Rattle.rmt_build.specs.Types.{Program, Test, Table, Kind, Node, Guard, Config, Stage, Unit, UnitGuard}
 use Rattle.rmt_ast.specs.declared.program.Kind.TheVariants as kind
-use Rattle.rmt_ast.specs.declared.program.Node.{Node}
-use Rattle.rmt_ast.specs.declared.program.Program.{Program}
-use Rattle.rmt_ast.specs.declared.program.Table.{Table}
 use Rattle.rmt_ast.specs.declared.program.What.TheVariants as what
-use Rattle.rmt_config.specs.declared.config.Stage.{Stage}
-use Rattle.rmt_config.specs.declared.config.Unit.{Unit}
 use Rattle.rmt_config.specs.TableForm.{Placed, tables_are_formed, follows_part, is_part_of, same_flag, same_guard, same_kind, same_lanes, unit_stands, ways_follow, guard_of, guard_stands, has_node, is_among, node_of, placed_from}
 use Rattle.rmt_pack.specs.declared.placement.Part.{Part}
 use Rattle.rmt_pack.specs.Placements.{data_bits, quanta_in}
 use Rattle.rmt_refine.specs.Units.{UnitCarried, applied, table_at, guard_in, guard_of as guard_of_node, last_stage, node_in, nodes_in}
-use Rattle.rmt_refine.proofs.FindLaws.{All-contains, Contains-first, Contains-later, Contains-range, Contains-range_from, Contains-split, filter_keeps, filtered_there, find-passes}
+use Rattle.rmt_refine.proofs.FindLaws.{Contains-range, Contains-range_from, filter_keeps, filtered_there, find-passes}
 use Rattle.rmt_build.specs.Plans.{need_in, parts_before, taken_upto}
 use Rattle.rmt_build.proofs.PartLaws.{parts_more}
 use Rattle.rmt_config.specs.declared.config.Unit.TheVariants.{Gate, Slot}
 use Rattle.rmt_ast.specs.WellFormed.{IsProgram}
-use Rattle.rmt_ast.specs.declared.program.Guard.{Guard}
-use Rattle.rmt_ast.specs.declared.program.Test.{Test}
 use Rattle.rmt_refine.specs.Outcomes.{ChildrenFollow}
 use Rattle.rmt_refine.proofs.RunLaws.{is_earlier}
 use Rattle.rmt_refine.proofs.PartLaws.{and_at}
 use Rattle.rmt_build.proofs.FormStage.{HoldsData, IsGateOf, IsSlotOf, kinds}
 use Rattle.rmt_build.proofs.FormBlocks.{HasMemory}
-use Rattle.rmt_config.specs.declared.config.UnitGuard.{UnitGuard}
 use Rattle.rmt_build.specs.declared.memory.Need.{Need}
 use Rattle.rmt_build.specs.declared.memory.Taken.{Taken}
 use Rattle.rmt_build.specs.Memories.{memory_for}
@@ -40,8 +32,8 @@ use Rattle.std.proofs.lemmas.Option.{none-some, same_Some}
 use Rattle.rmt_refine.specs.Places.{high_first}
 use Rattle.rmt_refine.proofs.NodeLaws.{within_last}
 use Rattle.rmt_config.specs.Order.{each_between}
-use Rattle.rmt_config.specs.declared.config.Config.{Config}
 use Rattle.std.proofs.lemmas.List.FromFn.{get_or-range_with_len, length-range_with_len}
+use Rattle.rmt_bits.proofs.MemberLaws.{Contains-first, Contains-later, Contains-split}
 
 -- ---- units of a node among others
 

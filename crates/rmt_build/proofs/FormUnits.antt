@@ -11,15 +11,11 @@ use Rattle.std.proofs.lemmas.Option.{slice_get_within}
 use Rattle.rmt_bits.proofs.BitLaws.{slice-lt}
 use Rattle.rmt_bits.specs.Bits.{slice}
 use Rattle.rmt_bits.specs.declared.lane.Lane.{Lane}
-use Rattle.rmt_ast.specs.declared.program.Program.{Program}
-use Rattle.rmt_ast.specs.declared.program.Guard.{Guard}
-use Rattle.rmt_ast.specs.declared.program.Node.{Node}
-use Rattle.rmt_ast.specs.declared.program.Test.{Test}
+use Rattle.rmt_build.specs.Types.{Program, Test, Node, Guard, GateUnit}
 use Rattle.rmt_ast.specs.Places.{lanes_of}
 use Rattle.rmt_ast.specs.State.{width_of}
 use Rattle.rmt_ast.specs.WellFormed.{IsGuard, IsProgram, IsTest}
 use Rattle.rmt_phv.specs.Places.{KeepsApart, LiesInWord}
-use Rattle.rmt_config.specs.declared.config.GateUnit.{GateUnit}
 use Rattle.rmt_config.specs.LaneForm.{bits_of_lanes}
 use Rattle.rmt_config.specs.UnitForm.{gate_is_formed, guard_is_formed, test_is_formed}
 use Rattle.rmt_ptcam.proofs.FormLaws.{All-reverse, lane_formed, lanes_lie}

@@ -5,12 +5,10 @@ use Rattle.std.proofs.lemmas.Bool.{cases_lt}
 use Rattle.std.proofs.lemmas.List.{length-map, drop_more, append_assoc, get_or_default}
 use Rattle.std.proofs.lemmas.Option.{slice_get_past, unwrap_or-slice_get}
 use Rattle.rmt_bits.specs.declared.lane.Lane.{Lane}
-use Rattle.rmt_ast.specs.declared.program.Program.{Program}
-use Rattle.rmt_ast.specs.declared.program.Test.{Test}
+use Rattle.rmt_build.specs.Types.{Program, Test, GateTest}
 use Rattle.rmt_ast.specs.Places.{lanes_of}
 use Rattle.rmt_ast.specs.State.{width_of}
 use Rattle.rmt_bits.specs.Bits.{slice}
-use Rattle.rmt_config.specs.declared.config.GateTest.{GateTest}
 use Rattle.rmt_config.specs.LaneForm.{bits_of_lanes}
 use Rattle.rmt_phv.specs.Packing.{pieces}
 use Rattle.rmt_phv.specs.Places.{KeepsApart}

@@ -18,8 +18,7 @@ use Rattle.rmt_pack.specs.declared.placement.Part.{Part}
 use Rattle.rmt_pack.specs.Formats.{HasNeed, IsExactFormat, IsFormat, IsNeed, exact_layout}
 use Rattle.rmt_pack.specs.Placements.{key_bits, quanta_in, table_need}
 use Rattle.rmt_bits.specs.Bits.{bytes_of}
-use Rattle.rmt_ast.specs.declared.program.Program.{Program}
-use Rattle.rmt_ast.specs.declared.program.Table.{Table}
+use Rattle.rmt_build.specs.Types.{Program, Table}
 use Rattle.rmt_ast.specs.declared.program.Kind.TheVariants.{Exact}
 use Rattle.rmt_ast.specs.declared.entry.Entry.{Entry}
 use Rattle.rmt_ast.specs.EntryLists.{AreTableEntries, terms_of}

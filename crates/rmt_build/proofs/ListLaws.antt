@@ -7,13 +7,6 @@ use Rattle.std.proofs.lemmas.List.Elements.{filter-append}
 use Rattle.rmt_bits.proofs.ListLaws.{range_more}
 use Rattle.std.proofs.lemmas.List.{append-nil, drop_more, take_more, reverse-append}
 use Rattle.std.proofs.lemmas.Option.{none-some, same_Some}
-use Rattle.rmt_ast.specs.WellFormed.{AllNumbered}
-
-pub numbered_push : {X : Type 0} (P : ℕ → X → Type 0) (xs : List X) (y : X) → AllNumbered P xs → P (length xs) y → AllNumbered P (xs ++ y ∷ [])
-numbered_push P [] y h p zero x e = subst (P 0) (same_Some y x e) p
-numbered_push P [] y h p (suc n) x e = absurd (none-some x e)
-numbered_push P (z ∷ xs) y h p zero x e = h zero x e
-numbered_push P (z ∷ xs) y h p (suc n) x e = numbered_push (λ k. P (suc k)) xs y (λ k v at. h (suc k) v at) p n x e
 
 pub zip_push : {X Y : Type 0} (R : X → Y → Type 0) (xs : List X) (ys : List Y) (x : X) (y : Y) → AllZip R xs ys → R x y → AllZip R (xs ++ x ∷ []) (ys ++ y ∷ [])
 zip_push R [] [] x y h r = (r, tt)

@@ -5,22 +5,16 @@ use Rattle.std.specs.List.{list_any}
 use Rattle.std.proofs.lemmas.Bool.{and_from, false_from_ne_true}
 use Rattle.std.proofs.lemmas.List.{get_or-map, length-map}
 use Rattle.std.proofs.lemmas.List.Elements.{Contains-get_or}
-use Rattle.rmt_ast.specs.declared.program.Program.{Program}
+use Rattle.rmt_build.specs.Types.{Program, Config, Stage, Unit, SlotUnit, CellNumber}
 use Rattle.rmt_ast.specs.declared.entry.Entry.{Entry}
 use Rattle.rmt_ast.specs.EntryLists.{AreEntries}
-use Rattle.rmt_config.specs.declared.config.CellNumber.{CellNumber}
-use Rattle.rmt_config.specs.declared.config.Config.{Config}
-use Rattle.rmt_config.specs.declared.config.SlotUnit.{SlotUnit}
-use Rattle.rmt_config.specs.declared.config.Stage.{Stage}
-use Rattle.rmt_config.specs.declared.config.Unit.{Unit}
 use Rattle.rmt_config.specs.declared.config.Unit.TheVariants.{Gate, Slot}
 use Rattle.rmt_config.specs.CellForm.{entries_are_numbered, entry_numbers, numbers_of_stage, numbers_of_unit}
 use Rattle.rmt_config.specs.Order.{are_new}
 use Rattle.rmt_place.proofs.OrderLaws.{pairs_nil}
 use Rattle.rmt_refine.specs.Units.{UnitsCarried}
 use Rattle.rmt_refine.specs.View.{as_slot}
-use Rattle.rmt_refine.proofs.FindLaws.{Contains-first, Contains-later, Contains-split}
-use Rattle.rmt_refine.proofs.MemberLaws.{Contains-map, flat_from, mapped_from}
+use Rattle.rmt_refine.proofs.MemberLaws.{flat_from}
 use Rattle.rmt_refine.proofs.NodeLaws.{one_place}
 use Rattle.rmt_refine.proofs.NumberLaws.{any_from, one_list}
 use Rattle.rmt_refine.proofs.PartLaws.{IsPart, unit_of_part}
@@ -31,6 +25,7 @@ use Rattle.rmt_build.specs.Told.{cell_told, cells_told}
 use Rattle.rmt_build.proofs.CellsLaws.{one_spot, same_entry, table_entries}
 use Rattle.rmt_build.proofs.DistinctLaws.{flat_pairs, slot_apart}
 use Rattle.rmt_build.proofs.SpotLaws.{StandsAt, listed_stands, table_of_part}
+use Rattle.rmt_bits.proofs.MemberLaws.{Contains-unmap, Contains-map, Contains-first, Contains-later, Contains-split}
 
 -- ---- numbers that differ are new
 
@@ -61,7 +56,7 @@ module _ (p : Program) (lists : List (List Entry)) (plan : Plan) (c : Config) (e
   number_at_unit : (k place x : ℕ) (stage : Stage) (u : Unit) → slice_get c.stages k ≡ Some stage → slice_get stage.units place ≡ Some u → Contains (numbers_of_unit u) x → NumberAt k place x stage u
   number_at_unit k place x stage (Gate g) at unit_is there = absurd (let lt = there.1 in omega (arith, lt))
   number_at_unit k place x stage (Slot s) at unit_is there =
-      let y = mapped_from (λ (n : CellNumber). n.number) s.numbers x there in
+      let y = Contains-unmap (λ (n : CellNumber). n.number) s.numbers x there in
       record { slot = s; part = record { stage_is = at; slot_is = ap (option_and_then as_slot) unit_is; node_is = refl }; number = y.0; there = y.1; is = y.2 }
 
   -- one number stands in one unit alone, in one cell

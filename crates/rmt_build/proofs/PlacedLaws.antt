@@ -8,9 +8,7 @@ use Rattle.rmt_bits.specs.declared.lane.Lane.{Lane}
 use Rattle.rmt_bits.proofs.FunctionLaws.{funext}
 use Rattle.rmt_ast.specs.declared.deps.Deps.{Deps}
 use Rattle.rmt_ast.specs.declared.deps.Edge.{Edge}
-use Rattle.rmt_ast.specs.declared.program.Program.{Program}
-use Rattle.rmt_ast.specs.declared.program.Node.{Node}
-use Rattle.rmt_ast.specs.declared.program.What.{What}
+use Rattle.rmt_build.specs.Types.{Program, Node, What}
 use Rattle.rmt_ast.specs.declared.program.What.TheVariants.{Apply, Gate}
 use Rattle.rmt_ast.specs.WellFormed.{IsProgram}
 use Rattle.rmt_deps.specs.Edges.{GoForward}

@@ -5,10 +5,7 @@ use Rattle.std.specs.List.{range_with_len}
 use Rattle.std.proofs.lemmas.List.{get_or_default, length-map}
 use Rattle.std.proofs.lemmas.Option.{get_or_from_slice_get, slice_get-map, slice_get_within}
 use Rattle.rmt_bits.proofs.AllLaws.{All-slice_get}
-use Rattle.rmt_ast.specs.declared.program.Program.{Program}
-use Rattle.rmt_ast.specs.declared.program.Node.{Node}
-use Rattle.rmt_ast.specs.declared.program.Table.{Table}
-use Rattle.rmt_ast.specs.declared.program.Kind.{Kind}
+use Rattle.rmt_build.specs.Types.{Program, Test, Table, Kind, Node}
 use Rattle.rmt_ast.specs.declared.program.Kind.TheVariants.{Keyless, Exact, Prefix, Ternary}
 use Rattle.rmt_pack.specs.declared.format.Need.{Need as TableNeed}
 use Rattle.rmt_ast.specs.WellFormed.{IsProgram, IsTable}
@@ -18,7 +15,6 @@ use Rattle.rmt_pack.specs.Formats.{HasNeed, IsFormat, memory_format, no_memory}
 use Rattle.rmt_pack.specs.Placements.{quanta_in, table_need}
 use Rattle.rmt_pack.proofs.NeedLaws.{table_has_need}
 use Rattle.rmt_refine.specs.Units.{table_at}
-use Rattle.rmt_ast.specs.declared.program.Test.{Test}
 use Rattle.rmt_ast.specs.declared.program.What.TheVariants.{Gate}
 use Rattle.rmt_build.specs.declared.memory.Need.{Need}
 use Rattle.rmt_build.specs.Memories.{HasRoom, blocks_for, sram_for, taken_behind, tcam_for}

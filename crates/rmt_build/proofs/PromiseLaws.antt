@@ -3,25 +3,21 @@ use Rattle.std.proofs.Common.{◌≡◌, ℕ, zero, suc, ◌+◌, ◌*◌, ◌<�
 use Rattle.std.specs.Prelude.{Contains, count_by, nat_lt, slice_get, sum_by}
 use Rattle.std.specs.List.{range_with_len}
 use Rattle.std.proofs.lemmas.Bool.{cases_eq, eq-eqb, lt-ltb, le-ltb, ne_eqb}
-use Rattle.std.proofs.lemmas.List.Elements.{Contains-get_or}
+use Rattle.std.proofs.lemmas.List.Elements.{Contains-get_or, All-contains}
 use Rattle.std.proofs.lemmas.List.{get_or-map, length-map}
 use Rattle.std.proofs.lemmas.List.FromFn.{get_or-range_with_len, length-range_with_len}
 use Rattle.std.proofs.lemmas.List.Sorted.{All-permutation, length_permutation, sum_by-IsPermutation}
 use Rattle.std.proofs.lemmas.List.Sums.{sum_by-cons}
 use Rattle.std.proofs.lemmas.Option.{get_or_from_slice_get, same_Some}
 use Rattle.rmt_bits.proofs.AllLaws.{All-range}
-use Rattle.rmt_bits.proofs.ListLaws.{slice_get-alike, slice_get-item}
-use Rattle.rmt_ast.specs.declared.program.Program.{Program}
-use Rattle.rmt_ast.specs.declared.program.Kind.{Kind}
+use Rattle.rmt_bits.proofs.ListLaws.{slice_get-alike, slice_get-item, sum_by-map}
+use Rattle.rmt_build.specs.Types.{Program, Kind, Config, Stage}
 use Rattle.rmt_ast.specs.declared.program.Kind.TheVariants.{Keyless, Exact, Prefix, Ternary}
 use Rattle.rmt_ast.specs.declared.entry.Entry.{Entry}
 use Rattle.rmt_ast.specs.EntryLists.{AreEntries}
-use Rattle.rmt_config.specs.declared.config.Config.{Config}
-use Rattle.rmt_config.specs.declared.config.Stage.{Stage}
 use Rattle.rmt_refine.specs.declared.map.CellOf.{CellOf}
 use Rattle.rmt_refine.specs.Cells.{IsTold}
 use Rattle.rmt_refine.specs.Units.{UnitsCarried}
-use Rattle.rmt_refine.proofs.FindLaws.{All-contains}
 use Rattle.rmt_build.specs.declared.memory.Need.{Need}
 use Rattle.rmt_build.specs.declared.memory.Taken.{Taken}
 use Rattle.rmt_build.specs.declared.stands.Stand.{Stand}
@@ -34,7 +30,7 @@ use Rattle.rmt_build.specs.Standing.{GoesFirst, StandInOrder, cells_for}
 use Rattle.rmt_build.specs.Told.{cells_told}
 use Rattle.rmt_build.proofs.CellsLaws.{told_stands}
 use Rattle.rmt_build.proofs.TableLaws.{AreInRows}
-use Rattle.rmt_refine.proofs.MemberLaws.{Contains-map}
+use Rattle.rmt_bits.proofs.MemberLaws.{Contains-map}
 
 -- ---- formats
 
@@ -125,10 +121,6 @@ sum_places {X = X} f xs d = by xs
         (by ys ∙ sym (later y ys (length ys) 0) ∙ sym (shifted (λ j. f (get_or (y ∷ ys) j d)) 0 (length ys)))
         ∙ sym (sum_by-cons (λ j. f (get_or (y ∷ ys) j d)) 0 (range_with_len (0 + 1) (length ys)))
 
-sum-of_map : {X Y : Type 0} (g : Y → ℕ) (f : X → Y) (xs : List X) → sum_by g (map f xs) ≡ sum_by (λ x. g (f x)) xs
-sum-of_map g f [] = refl
-sum-of_map g f (x ∷ xs) = sum_by-cons g (f x) (map f xs) ∙ ap (λ n. g (f x) + n) (sum-of_map g f xs) ∙ sym (sum_by-cons (λ y. g (f y)) x xs)
-
 module _ (kind : Kind) (es : List Entry) (own : List Stand) (order : StandInOrder kind es own) (s : Stand) (e : Entry) (there : Contains own s) (entry_is : slice_get es s.entry ≡ Some e) where
   abbrev first_at : Stand → Bool
   first_at r = goes_first kind (get_or es r.entry e) e
@@ -178,7 +170,7 @@ module _ (kind : Kind) (es : List Entry) (own : List Stand) (order : StandInOrde
   pub row_is : s.cell ≡ count_by (λ (f : Entry). goes_first kind f e) es
   row_is =
       place_is ∙ sym row_counts
-      ∙ sym (sum-of_map (λ (i : ℕ). cond (goes_first kind (get_or es i e) e) 1 0) (λ (r : Stand). r.entry) own)
+      ∙ sym (sum_by-map (λ (i : ℕ). cond (goes_first kind (get_or es i e) e) 1 0) (λ (r : Stand). r.entry) own)
       ∙ sum_by-IsPermutation (λ (i : ℕ). cond (goes_first kind (get_or es i e) e) 1 0) (range_with_len 0 (length es)) (map (λ (r : Stand). r.entry) own) order.each
       ∙ sym (sum_places (λ (f : Entry). cond (goes_first kind f e) 1 0) es e)
 

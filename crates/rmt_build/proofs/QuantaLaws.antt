@@ -2,12 +2,12 @@
 use Rattle.std.proofs.Common.{◌≡◌, ◌≢◌, ℕ, ◌+◌, ◌<◌, ◌≤◌, List, [], ◌∷◌, Ok, cond, eqb, length, inl, inr, refl, sym, ap, subst, ◌∙◌, arith}
 use Rattle.std.specs.Prelude.{All, AllPairs, Contains}
 use Rattle.std.proofs.lemmas.Bool.{cases_eq, ne_eqb}
-use Rattle.std.proofs.lemmas.List.Elements.{All-head, All-tail}
+use Rattle.std.proofs.lemmas.List.Elements.{All-head, All-tail, All-contains}
 use Rattle.std.proofs.lemmas.List.Sums.{sum_by-append, sum_by-cons}
 use Rattle.rmt_bits.specs.declared.lane.Lane.{Lane}
 use Rattle.rmt_ast.specs.declared.deps.Deps.{Deps}
 use Rattle.rmt_ast.specs.declared.deps.Edge.{Edge}
-use Rattle.rmt_ast.specs.declared.program.Program.{Program}
+use Rattle.rmt_build.specs.Types.{Program}
 use Rattle.rmt_ast.specs.WellFormed.{IsProgram}
 use Rattle.rmt_deps.specs.Levels.{all_edges, levels_of}
 use Rattle.rmt_pack.specs.declared.format.Format.{Format}
@@ -20,10 +20,10 @@ use Rattle.rmt_place.proofs.ApartLaws.{order_distinct}
 use Rattle.rmt_place.proofs.KeepLaws.{placed_induction, placed_is}
 use Rattle.rmt_place.proofs.LegalLaws.{spread_quanta}
 use Rattle.rmt_place.proofs.LegalPlacement.{node_quanta}
-use Rattle.rmt_place.proofs.OrderLaws.{pairs_head, pairs_tail}
-use Rattle.rmt_refine.proofs.FindLaws.{All-contains, Contains-first, Contains-later}
 use Rattle.rmt_build.specs.Plans.{AreParts, format_at}
 use Rattle.rmt_build.proofs.PlacedLaws.{format_same}
+use Rattle.rmt_bits.proofs.PairLaws.{AllPairs-head, AllPairs-tail}
+use Rattle.rmt_bits.proofs.MemberLaws.{Contains-first, Contains-later}
 
 others_none : (xs : List Part) (n : ℕ) → All (λ (x : Part). x.node ≢ n) xs → quanta_of xs n ≡ 0
 others_none [] n other = refl
@@ -52,15 +52,15 @@ few_next demands edges n m rest parts more h placed =
           let own : quanta_of s.parts m ≡ quanta_of s.parts n = ap (quanta_of s.parts) same in
           let needs : (demand_at demands m).quanta ≡ (demand_at demands n).quanta = ap (λ (j : ℕ). (demand_at demands j).quanta) same in
           record {
-            apart = pairs_tail (λ a b. a ≡ b → ⊥) m rest h.apart;
-            none = λ there. absurd (All-contains (λ j. m ≡ j → ⊥) rest n (pairs_head (λ a b. a ≡ b → ⊥) m rest h.apart) there same);
+            apart = AllPairs-tail (λ a b. a ≡ b → ⊥) m rest h.apart;
+            none = λ there. absurd (All-contains (λ j. m ≡ j → ⊥) rest n (AllPairs-head (λ a b. a ≡ b → ⊥) m rest h.apart) there same);
             few = omega (arith, split, before, own, needs, all);
           }
       | inr other ↦
           let own : quanta_of s.parts n ≡ 0 = others_none s.parts n (λ i d lt e. other (sym (is.own_parts i d lt).node ∙ e)) in
           let few = h.few in
           record {
-            apart = pairs_tail (λ a b. a ≡ b → ⊥) m rest h.apart;
+            apart = AllPairs-tail (λ a b. a ≡ b → ⊥) m rest h.apart;
             none = λ there. (let none = h.none (Contains-later m rest n there) in omega (arith, split, own, none));
             few = omega (arith, split, own, few);
           }

@@ -3,7 +3,7 @@ use Rattle.std.proofs.Common.{◌≡◌, ◌≢◌, ◌∙◌, List, Option, Som
 use Rattle.std.specs.Option.{option_or}
 use Rattle.std.specs.Prelude.{⊤, IfErr, IfOk, option_map}
 use Rattle.rmt_bits.specs.declared.lane.Lane.{Lane}
-use Rattle.rmt_ast.specs.declared.program.Program.{Program}
+use Rattle.rmt_build.specs.Types.{Program}
 use Rattle.rmt_ast.specs.declared.deps.Deps.{Deps}
 use Rattle.rmt_bounds.specs.Bounds.{stage_bound}
 use Rattle.rmt_deps.specs.Edges.{dependencies_of, field_edges}

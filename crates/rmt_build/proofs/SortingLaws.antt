@@ -13,7 +13,7 @@ use Rattle.std.proofs.lemmas.Map.Keys.{IsDistinct-IsPermutation}
 use Rattle.std.proofs.lemmas.Map.Made.{AllPairs-from_IsDistinct, IsDistinct-from_AllPairs}
 use Rattle.std.proofs.lemmas.Option.{get_or_from_slice_get, same_Some, slice_get-map, slice_get_within}
 use Rattle.rmt_ast.specs.declared.entry.Entry.{Entry}
-use Rattle.rmt_ast.specs.declared.program.Kind.{Kind}
+use Rattle.rmt_build.specs.Types.{Kind}
 use Rattle.rmt_ast.specs.declared.program.Kind.TheVariants.{Prefix, Ternary}
 use Rattle.rmt_build.specs.declared.stands.Stand.{Stand}
 use Rattle.rmt_build.specs.Sorting.{AreSorted, placed_from, rank_in, rows_from}

@@ -4,19 +4,11 @@ use Rattle.std.specs.Prelude.{AllPairs, Contains, option_and_then, option_map, s
 use Rattle.std.proofs.lemmas.List.{length-map}
 use Rattle.std.proofs.lemmas.Option.{get_or_from_slice_get, slice_get_within}
 use Rattle.rmt_bits.proofs.ListLaws.{slice_get-alike, slice_get-item}
-use Rattle.rmt_ast.specs.declared.program.Program.{Program}
-use Rattle.rmt_ast.specs.declared.program.Node.{Node}
-use Rattle.rmt_ast.specs.declared.program.Table.{Table}
-use Rattle.rmt_ast.specs.declared.program.Kind.{Kind}
+use Rattle.rmt_build.specs.Types.{Program, Table, Kind, Node, What, Config, Stage, SlotUnit, CellNumber}
 use Rattle.rmt_ast.specs.declared.program.Kind.TheVariants.{Keyless, Exact, Prefix, Ternary}
-use Rattle.rmt_ast.specs.declared.program.What.{What}
 use Rattle.rmt_ast.specs.declared.program.What.TheVariants as what
 use Rattle.rmt_ast.specs.declared.entry.Entry.{Entry}
 use Rattle.rmt_ast.specs.EntryLists.{AreEntries}
-use Rattle.rmt_config.specs.declared.config.CellNumber.{CellNumber}
-use Rattle.rmt_config.specs.declared.config.Config.{Config}
-use Rattle.rmt_config.specs.declared.config.SlotUnit.{SlotUnit}
-use Rattle.rmt_config.specs.declared.config.Stage.{Stage}
 use Rattle.rmt_config.specs.declared.config.Unit.TheVariants.{Slot}
 use Rattle.rmt_config.specs.Cells.{cells_in}
 use Rattle.rmt_refine.specs.Units.{DoesAs, TableCarried, UnitsCarried, applied, table_at}
@@ -31,7 +23,8 @@ use Rattle.rmt_build.specs.Numbers.{number_at}
 use Rattle.rmt_build.specs.Plans.{AreStands, format_at, need_in, stands_of_part, taken_upto}
 use Rattle.rmt_build.specs.Standing.{cells_for, stands_within}
 use Rattle.rmt_build.proofs.StandLaws.{entry_within, first_cell, part_cells, within_from, within_to}
-use Rattle.rmt_refine.proofs.MemberLaws.{Contains-item, Contains-map, mapped_from}
+use Rattle.rmt_refine.proofs.MemberLaws.{Contains-item}
+use Rattle.rmt_bits.proofs.MemberLaws.{Contains-unmap, Contains-map}
 
 -- ---- entries by rising number
 
@@ -138,7 +131,7 @@ module _ (p : Program) (lists : List (List Entry)) (plan : Plan) (c : Config) (e
       -- a number that the slot lists is that of an entry that stands there
       pub listed_stands : (x : CellNumber) → Contains slot.numbers x → (e : Entry) × Contains es e × (e.number ≡ x.number) × StandsAt p plan n t es own e k x.cell
       listed_stands x there =
-          let y = mapped_from (number_at es) (stands_of_part p plan t slot.node k) x (subst (λ xs. Contains xs x) slot_built.numbers there) in
+          let y = Contains-unmap (number_at es) (stands_of_part p plan t slot.node k) x (subst (λ xs. Contains xs x) slot_built.numbers there) in
           let known = within_from (first_cell t.kind (format_at p n).per plan.placement.parts n k) (part_cells t.kind (format_at p n).per plan.placement.parts n k) own y.0
           (subst (λ xs. Contains xs y.0) part_stands y.1) in
           let below = entry_within (length es) own (stands.each n es own es_are own_is) known.0 known.1 in

@@ -3,21 +3,21 @@ use Rattle.std.proofs.Common.{◌≡◌, ℕ, zero, suc, ◌+◌, ◌-◌, ◌<�
 use Rattle.std.specs.Prelude.{AllPairs, Contains, filter, nat_le, nat_lt}
 use Rattle.std.specs.List.{IsDistinct, range_with_len}
 use Rattle.std.proofs.lemmas.Bool.{and_parts, both_ways, cases_eq, cases_lt, eq-eqb, le-leb, leb-true, lt-ltb, ltb-true, ne_eqb}
-use Rattle.std.proofs.lemmas.List.Elements.{All-from_recursion}
+use Rattle.std.proofs.lemmas.List.Elements.{All-from_recursion, All-contains}
 use Rattle.std.proofs.lemmas.List.Sorted.{All-permutation, Contains-permutation}
 use Rattle.std.proofs.lemmas.Map.Keys.{IsDistinct-IsPermutation, IsDistinct-from_apart, IsDistinct-head, IsDistinct-tail}
 use Rattle.rmt_bits.proofs.AllLaws.{All-range}
-use Rattle.rmt_ast.specs.declared.program.Kind.{Kind}
+use Rattle.rmt_build.specs.Types.{Kind}
 use Rattle.rmt_ast.specs.declared.program.Kind.TheVariants.{Keyless, Exact, Prefix, Ternary}
 use Rattle.rmt_pack.specs.declared.placement.Part.{Part}
 use Rattle.rmt_pack.specs.Placements.{quanta_in}
 use Rattle.rmt_pack.proofs.BlockLaws.{range-apart}
-use Rattle.rmt_refine.proofs.FindLaws.{All-contains, Contains-range, Contains-split, filter_keeps, filtered_there}
+use Rattle.rmt_refine.proofs.FindLaws.{Contains-range, filter_keeps, filtered_there}
 use Rattle.rmt_build.specs.declared.stands.Stand.{Stand}
 use Rattle.rmt_build.specs.Plans.{quanta_before}
 use Rattle.rmt_build.specs.Standing.{StandOnce, cells_for, counted_from, stands_there, stands_within}
 use Rattle.rmt_build.proofs.PartLaws.{quanta_more}
-use Rattle.rmt_refine.proofs.MemberLaws.{Contains-map, mapped_from}
+use Rattle.rmt_bits.proofs.MemberLaws.{Contains-unmap, Contains-map, Contains-split}
 
 -- ---- each entry once
 
@@ -53,7 +53,7 @@ same_stand (x ∷ xs) a b distinct in_a in_b e = elim (Contains-split x xs a in_
 module _ (count : ℕ) (own : List Stand) (once : StandOnce count own) where
   pub entry_there : (i : ℕ) → i < count → (s : Stand) × Contains own s × (s.entry ≡ i)
   entry_there i lt =
-      mapped_from (λ (s : Stand). s.entry) own i
+      Contains-unmap (λ (s : Stand). s.entry) own i
       (Contains-permutation (range_with_len 0 count) (map (λ (s : Stand). s.entry) own) i once.each (Contains-range count i lt))
 
   pub entry_within : (s : Stand) → Contains own s → s.entry < count
@@ -99,7 +99,7 @@ module _ (count : ℕ) (own : List Stand) (once : StandOnce count own) where
 pub within_from : (first cells : ℕ) (own : List Stand) (y : Stand) → Contains (stands_within first cells own) y
     → (s : Stand) × Contains own s × (s.entry ≡ y.entry) × (s.cell ≡ first + y.cell) × (y.cell < cells)
 within_from first cells own y there =
-    let found = mapped_from (counted_from first) (filter (stands_there first cells) own) y there in
+    let found = Contains-unmap (counted_from first) (filter (stands_there first cells) own) y there in
     let s = found.0 in
     let kept = filtered_there (stands_there first cells) own s found.1 in
     let both = and_parts (nat_le first s.cell) (nat_lt s.cell (first + cells)) kept.1 in

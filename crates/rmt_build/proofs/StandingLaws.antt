@@ -6,8 +6,8 @@ use Rattle.std.proofs.Math.Bool.{and-false}
 use Rattle.std.proofs.lemmas.Bool.{le-ltb}
 use Rattle.std.proofs.lemmas.List.Elements.{All-map}
 use Rattle.std.proofs.lemmas.List.Sorted.{All-permutation}
-use Rattle.rmt_bits.proofs.AllLaws.{All-range}
-use Rattle.rmt_pack.proofs.FormatLaws.{filtered, of_map}
+use Rattle.rmt_bits.proofs.AllLaws.{All-range, All-unmap}
+use Rattle.rmt_pack.proofs.FormatLaws.{filtered}
 use Rattle.rmt_build.specs.declared.stands.Stand.{Stand}
 use Rattle.rmt_build.specs.Standing.{StandOnce, counted_from, stands_there, stands_within}
 
@@ -23,6 +23,6 @@ pub part_entries : (count first cells : ℕ) (stands : List Stand) → StandOnce
 part_entries count first cells stands once =
     let range : All (λ i. i < count) (range_with_len 0 count) = All-range (λ i. i < count) 0 count (λ w lt. omega (arith, lt)) in
     let all : All (λ (s : Stand). s.entry < count) stands =
-    of_map (λ i. i < count) (λ (s : Stand). s.entry) stands (All-permutation (λ i. i < count) (range_with_len 0 count) (map (λ (s : Stand). s.entry) stands) once.each range) in
+    All-unmap (λ i. i < count) (λ (s : Stand). s.entry) stands (All-permutation (λ i. i < count) (range_with_len 0 count) (map (λ (s : Stand). s.entry) stands) once.each range) in
     All-map (λ (s : Stand). s.entry < count) (counted_from first) (filter (stands_there first cells) stands)
     (filtered (λ (s : Stand). s.entry < count) (stands_there first cells) stands (λ i d lt passes. all i d lt))

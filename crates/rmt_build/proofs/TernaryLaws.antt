@@ -6,8 +6,7 @@ use Rattle.std.proofs.lemmas.List.{length-take, length-drop, get_or_default}
 use Rattle.std.proofs.lemmas.List.Elements.{All-nil, All-push, All-contains, Contains-push}
 use Rattle.std.proofs.lemmas.Nat.{div-add-mod', same_from_place}
 use Rattle.rmt_bits.proofs.AllLaws.{All-left}
-use Rattle.rmt_ast.specs.declared.program.Program.{Program}
-use Rattle.rmt_ast.specs.declared.program.Table.{Table}
+use Rattle.rmt_build.specs.Types.{Program, Table}
 use Rattle.rmt_ast.specs.declared.entry.Entry.{Entry}
 use Rattle.rmt_config.specs.CellForm.{EndsAt}
 use Rattle.rmt_config.specs.Cells.{Blocks, blocks_at, row_key, unit_row}

@@ -3,20 +3,18 @@ use Rattle.std.proofs.Common.{◌≡◌, ℕ, zero, suc, ◌+◌, ◌<◌, ◌==
 use Rattle.std.specs.Prelude.{Contains, option_and_then, slice_get}
 use Rattle.std.specs.List.{flat_map, range_with_len}
 use Rattle.std.proofs.lemmas.Bool.{eq-eqb, eqb-true}
-use Rattle.std.proofs.lemmas.List.Elements.{Contains-append_cases, Contains-append_left, Contains-append_right}
+use Rattle.std.proofs.lemmas.List.Elements.{Contains-append_cases, Contains-append_left, Contains-append_right, All-contains}
 use Rattle.std.proofs.lemmas.Option.{none-some, same_Some}
 use Rattle.rmt_bits.proofs.AllLaws.{All-range}
-use Rattle.rmt_config.specs.declared.config.CellNumber.{CellNumber}
-use Rattle.rmt_config.specs.declared.config.SlotUnit.{SlotUnit}
-use Rattle.rmt_config.specs.declared.config.Stage.{Stage}
-use Rattle.rmt_config.specs.declared.config.Unit.{Unit}
+use Rattle.rmt_build.specs.Types.{Stage, Unit, SlotUnit, CellNumber}
 use Rattle.rmt_config.specs.declared.config.Unit.TheVariants.{Gate, Slot}
 use Rattle.rmt_refine.specs.declared.map.CellOf.{CellOf}
 use Rattle.rmt_refine.specs.View.{as_slot, slot_of}
-use Rattle.rmt_refine.proofs.FindLaws.{All-contains, Contains-range}
+use Rattle.rmt_refine.proofs.FindLaws.{Contains-range}
 use Rattle.rmt_refine.proofs.PartLaws.{slot_is_unit, then_some}
 use Rattle.rmt_build.specs.Told.{cell_told, cells_told, stages_told, unit_told}
-use Rattle.rmt_refine.proofs.MemberLaws.{Contains-flat_map, Contains-item, Contains-map, flat_from, mapped_from}
+use Rattle.rmt_refine.proofs.MemberLaws.{Contains-flat_map, Contains-item, flat_from}
+use Rattle.rmt_bits.proofs.MemberLaws.{Contains-unmap, Contains-map}
 
 -- a slot of node n lists a cell
 pub record IsListed (n first : ℕ) (stages : List Stage) (x : CellOf) : Type 0 where
@@ -48,7 +46,7 @@ unit_listed n k (Slot s) x there = by (s.node == n) refl there
     by : (b : Bool) → (s.node == n) ≡ b → Contains (cond b (map (cell_told k) s.numbers) []) x → ListedIn n k (Slot s) x
     by false is none = absurd (let lt = none.1 in omega (arith, lt))
     by true is own =
-        let r = mapped_from (cell_told k) s.numbers x own in
+        let r = Contains-unmap (cell_told k) s.numbers x own in
         record { slot = s; number = r.0; unit_is = refl; node_is = eqb-true s.node n is; there = r.1; told = r.2 }
 
 pub stages_listed : (n first : ℕ) (stages : List Stage) (x : CellOf) → Contains (stages_told n first stages) x → IsListed n first stages x

@@ -6,7 +6,7 @@ use Rattle.std.proofs.lemmas.Bool.{cases_eq, eq-eqb}
 use Rattle.std.proofs.lemmas.List.{length-map, get_or-map, same_lists, get_or_default}
 use Rattle.std.proofs.lemmas.List.Elements.{All-head, All-tail, All-cons, All-nil}
 use Rattle.std.proofs.lemmas.Nat.{and_block, and_le_l, same_from_place}
-use Rattle.rmt_ast.specs.declared.program.Test.{Test}
+use Rattle.rmt_build.specs.Types.{Test}
 use Rattle.rmt_ast.specs.WellFormed.{IsTest}
 use Rattle.rmt_config.specs.Cells.{Blocks, blocks_at}
 use Rattle.rmt_pack.specs.declared.tcam.TcamWord.{TcamWord}

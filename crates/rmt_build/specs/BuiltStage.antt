@@ -1,18 +1,10 @@
 -- When a stage of a configuration is that of a plan.
 use Rattle.std.specs.Prelude.{◌≡◌, ◌≢◌, ◌<◌, ◌^◌, ℕ, ⊤, List, true, Option, Some, None, All, length, map, option_and_then, slice_get, slice_index}
 use Rattle.std.specs.List.{AllZip}
-use Rattle.rmt_ast.specs.declared.program.Program.{Program}
-use Rattle.rmt_ast.specs.declared.program.Table.{Table}
+use Rattle.rmt_build.specs.Types.{Program, Table, Stage, SramRow, TcamRow, Unit, UnitGuard, SlotUnit, CellNumber}
 use Rattle.rmt_ast.specs.declared.entry.Entry.{Entry}
 use Rattle.rmt_ast.specs.State.{width_of}
-use Rattle.rmt_config.specs.declared.config.CellNumber.{CellNumber}
-use Rattle.rmt_config.specs.declared.config.SlotUnit.{SlotUnit}
-use Rattle.rmt_config.specs.declared.config.SramRow.{SramRow}
-use Rattle.rmt_config.specs.declared.config.Stage.{Stage}
-use Rattle.rmt_config.specs.declared.config.TcamRow.{TcamRow}
-use Rattle.rmt_config.specs.declared.config.Unit.{Unit}
 use Rattle.rmt_config.specs.declared.config.Unit.TheVariants.{Gate, Slot}
-use Rattle.rmt_config.specs.declared.config.UnitGuard.{UnitGuard}
 use Rattle.rmt_config.specs.CellForm.{MemoryEnds, is_clear}
 use Rattle.rmt_config.specs.Cells.{cells_in, content_of, visible_bits}
 use Rattle.rmt_config.specs.StageForm.{rows_are_formed}

@@ -1,7 +1,6 @@
 -- What the actions of a program fold to.
 use Rattle.std.specs.Prelude.{◌≡◌, ℕ, ◌+◌, List, [], ◌∷◌, Option, Some, None, Result, Ok, Err, length}
-use Rattle.rmt_ast.specs.declared.program.Program.{Program}
-use Rattle.rmt_ast.specs.declared.program.Action.{Action}
+use Rattle.rmt_build.specs.Types.{Program, Action}
 use Rattle.rmt_ast.specs.WellFormed.{AllNumbered}
 use Rattle.rmt_vliw.specs.declared.folded.Folded.{Folded}
 use Rattle.rmt_vliw.specs.declared.fault.ActionDeep.{ActionDeep}

@@ -1,11 +1,9 @@
 -- What the memory of a table's part holds, once its entries are written.
 use Rattle.std.specs.Prelude.{◌≡◌, ◌≢◌, ◌<◌, ℕ, ◌+◌, ◌*◌, ◌-◌, ◌/◌, ◌%◌, ◌^◌, List, [], true, Some, ⊤, All, AllPairs, Contains, length, map, slice_get, slice_index}
-use Rattle.rmt_ast.specs.declared.program.Program.{Program}
-use Rattle.rmt_ast.specs.declared.program.Table.{Table}
+use Rattle.rmt_build.specs.Types.{Program, Table, Memory}
 use Rattle.rmt_ast.specs.declared.entry.Entry.{Entry}
 use Rattle.rmt_ast.specs.EntryLists.{params_of}
 use Rattle.rmt_ast.specs.State.{width_of}
-use Rattle.rmt_config.specs.declared.config.Memory.{Memory}
 use Rattle.rmt_config.specs.declared.config.Memory.TheVariants.{Without, Exact, Ternary}
 use Rattle.rmt_config.specs.CellForm.{EndsAt, RecordsEnd, is_clear}
 use Rattle.rmt_config.specs.Cells.{Blocks, Content, cell_of, cells_in, data_at, entry_at, row_key, row_record, unit_row, visible_bits}

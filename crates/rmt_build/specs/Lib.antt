@@ -1,3 +1,4 @@
+pub mod Types
 pub mod BuiltStage
 pub mod Data
 pub mod Folds

@@ -1,7 +1,6 @@
 -- The rows of a stage in lists.
 use Rattle.std.specs.Prelude.{◌≡◌, ◌≢◌, ℕ, ◌+◌, ◌*◌, ◌^◌, ◌<◌, ◌≤◌, List, All, map, length, true, bit_and, if◌then◌else◌, nat_lt, slice_index}
-use Rattle.rmt_config.specs.declared.config.SramRow.{SramRow}
-use Rattle.rmt_config.specs.declared.config.TcamRow.{TcamRow}
+use Rattle.rmt_build.specs.Types.{SramRow, TcamRow}
 use Rattle.rmt_config.specs.Cells.{Blocks, sram_row, tcam_row}
 use Rattle.rmt_config.specs.Order.{rises_from}
 use Rattle.rmt_config.specs.StageForm.{srow_number, trow_number}

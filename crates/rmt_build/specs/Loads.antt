@@ -2,9 +2,7 @@
 use Rattle.std.specs.Prelude.{◌≡◌, ◌<◌, ⊤, ℕ, ◌*◌, List, [], ◌∷◌, if◌then◌else◌, All, Option, Some, None, filter, map, length, nat_lt, slice_get}
 use Rattle.std.specs.List.{range_with_len}
 use Rattle.rmt_bits.specs.Bits.{bytes_of}
-use Rattle.rmt_ast.specs.declared.program.Program.{Program}
-use Rattle.rmt_ast.specs.declared.program.Table.{Table}
-use Rattle.rmt_ast.specs.declared.program.Kind.{Kind}
+use Rattle.rmt_build.specs.Types.{Program, Table, Kind}
 use Rattle.rmt_ast.specs.declared.program.Kind.TheVariants.{Keyless, Exact, Prefix, Ternary}
 use Rattle.rmt_ast.specs.declared.entry.Entry.{Entry}
 use Rattle.rmt_ast.specs.State.{width_of}

@@ -1,9 +1,8 @@
 -- The memory of a table's part, in the next blocks of its stage.
 use Rattle.std.specs.Prelude.{ℕ, ◌+◌, ◌*◌, ◌≤◌}
 use Rattle.std.specs.List.{range_with_len}
-use Rattle.rmt_ast.specs.declared.program.Kind.{Kind}
+use Rattle.rmt_build.specs.Types.{Kind, Memory}
 use Rattle.rmt_ast.specs.declared.program.Kind.TheVariants.{Keyless, Exact, Prefix, Ternary}
-use Rattle.rmt_config.specs.declared.config.Memory.{Memory}
 use Rattle.rmt_config.specs.declared.config.Memory.TheVariants as memory
 use Rattle.rmt_config.specs.declared.form.shape.Shape.{Shape}
 use Rattle.rmt_config.specs.Shapes.{exact_shape, ternary_shape}

@@ -1,7 +1,7 @@
 -- The numbers of the entries that stand in cells.
 use Rattle.std.specs.Prelude.{List, option_map, unwrap_or, slice_get}
 use Rattle.rmt_ast.specs.declared.entry.Entry.{Entry}
-use Rattle.rmt_config.specs.declared.config.CellNumber.{CellNumber}
+use Rattle.rmt_build.specs.Types.{CellNumber}
 use Rattle.rmt_build.specs.declared.stands.Stand.{Stand}
 
 -- the cell and the number of an entry that stands

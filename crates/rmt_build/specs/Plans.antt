@@ -1,10 +1,7 @@
 -- Where the nodes of a program are to stand, and what that has to keep.
 use Rattle.std.specs.Prelude.{◌≡◌, ℕ, ◌*◌, ◌<◌, ◌≤◌, List, [], Some, All, AllPairs, map, length, count_by, nat_lt, option_map, unwrap_or, slice_get, slice_index_or, sum_by}
 use Rattle.std.specs.List.{range_with_len}
-use Rattle.rmt_ast.specs.declared.program.Program.{Program}
-use Rattle.rmt_ast.specs.declared.program.Table.{Table}
-use Rattle.rmt_ast.specs.declared.program.Node.{Node}
-use Rattle.rmt_ast.specs.declared.program.What.{What}
+use Rattle.rmt_build.specs.Types.{Program, Table, Node, What}
 use Rattle.rmt_ast.specs.declared.program.What.TheVariants.{Apply, Gate}
 use Rattle.rmt_ast.specs.declared.entry.Entry.{Entry}
 use Rattle.rmt_pack.specs.declared.format.Format.{Format}

@@ -1,15 +1,10 @@
 -- What the configuration of a program keeps beside carrying it.
 use Rattle.std.specs.Prelude.{◌≡◌, ℕ, ◌+◌, ◌*◌, ⊤, List, Bool, false, ◌&&◌, ◌||◌, ◌==◌, nat_lt, Some, Contains, count_by, length, slice_get}
 use Rattle.std.specs.List.{flat_map, range_with_len}
-use Rattle.rmt_ast.specs.declared.program.Program.{Program}
-use Rattle.rmt_ast.specs.declared.program.Table.{Table}
-use Rattle.rmt_ast.specs.declared.program.Kind.{Kind}
+use Rattle.rmt_build.specs.Types.{Program, Table, Kind, Stage, Unit, Memory}
 use Rattle.rmt_ast.specs.declared.program.Kind.TheVariants.{Keyless, Exact, Prefix, Ternary}
 use Rattle.rmt_ast.specs.declared.entry.Entry.{Entry}
-use Rattle.rmt_config.specs.declared.config.Stage.{Stage}
-use Rattle.rmt_config.specs.declared.config.Unit.{Unit}
 use Rattle.rmt_config.specs.declared.config.Unit.TheVariants.{Gate, Slot}
-use Rattle.rmt_config.specs.declared.config.Memory.{Memory}
 use Rattle.rmt_config.specs.declared.config.Memory.TheVariants as memory
 use Rattle.rmt_config.specs.Resources.{unit_sram, unit_tcam}
 use Rattle.rmt_pack.specs.declared.format.Format.{Format}

@@ -2,7 +2,7 @@
 use Rattle.std.specs.Prelude.{◌≡◌, ⊤, List, Option, Some, None, Result, Ok, Err, option_map}
 use Rattle.std.specs.Option.{option_or}
 use Rattle.rmt_bits.specs.declared.lane.Lane.{Lane}
-use Rattle.rmt_ast.specs.declared.program.Program.{Program}
+use Rattle.rmt_build.specs.Types.{Program}
 use Rattle.rmt_deps.specs.Edges.{dependencies_of}
 use Rattle.rmt_pack.specs.declared.placement.Part.{Part}
 use Rattle.rmt_phv.specs.declared.fault.PhvFull.{PhvFull}

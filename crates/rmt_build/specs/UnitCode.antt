@@ -2,11 +2,8 @@
 use Rattle.std.specs.Prelude.{◌≡◌, ℕ, All, true, false, List, [], ◌∷◌, ◌++◌, IsSomeAnd, length}
 use Rattle.std.specs.List.{AllZip}
 use Rattle.rmt_bits.specs.declared.lane.Lane.{Lane}
-use Rattle.rmt_ast.specs.declared.program.Program.{Program}
-use Rattle.rmt_ast.specs.declared.program.Table.{Table}
-use Rattle.rmt_config.specs.declared.config.Unit.{Unit}
+use Rattle.rmt_build.specs.Types.{Program, Table, Unit, Vliw}
 use Rattle.rmt_config.specs.declared.config.Unit.TheVariants.{Gate, Slot}
-use Rattle.rmt_config.specs.declared.config.Vliw.{Vliw}
 use Rattle.rmt_config.specs.CodeForm.{vliw_is_formed}
 use Rattle.rmt_pack.specs.Placements.{data_bits}
 use Rattle.rmt_refine.specs.Code.{DoesAction, DoesDefault}

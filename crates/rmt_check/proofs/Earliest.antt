@@ -1,11 +1,12 @@
 -- Laws of the earlier of two places, and of the earliest of a list.
 use Rattle.std.proofs.Common.{◌≡◌, ℕ, ◌<◌, ◌≤◌, ◌+◌, List, [], ◌∷◌, ◌++◌, Bool, true, false, if◌then◌else◌, None, Some, Option, map, take, length, get_or, refl, sym, ap, ◌∙◌, arith}
-use Rattle.std.specs.List.{flat_map}
+use Rattle.std.specs.List.{enumerate_from, flat_map}
 use Rattle.std.proofs.lemmas.Bool.Decides.{nat_tests}
 use Rattle.std.proofs.lemmas.List.{take_more, map_more, take_all, append-nil}
 use Rattle.std.proofs.lemmas.List.Concat.{flat_map-append}
-use Rattle.rmt_lexer.specs.declared.place.Place.{Place}
-use Rattle.rmt_check.specs.Rules.{is_before, earlier, earliest}
+use Rattle.std.proofs.lemmas.List.FromFn.{length-enumerate_from, get_or-enumerate_from}
+use Rattle.rmt_check.specs.Parts.{Place, Ident, CaseText, HeaderText}
+use Rattle.rmt_check.specs.Rules.{is_before, earlier, earliest, target_names, targets}
 
 -- what is before a place that is before a third is before that
 before_before : (c b a : Place) → is_before c b ≡ true → is_before b a ≡ true → is_before c a ≡ true
@@ -65,6 +66,20 @@ module _ {X : Type 0} (f : X → List Place) where
   pub earliest_all : (best : Option Place) (xs : List X) (i : ℕ) → length xs ≤ i → best ≡ earliest (flat_map f (take i xs)) → best ≡ earliest (flat_map f xs)
   earliest_all best xs i le h = h ∙ ap (λ (ys : List X). earliest (flat_map f ys)) (take_all i xs le)
 
+-- the same of a loop over items with their numbers
+module _ {X : Type 0} (f : ℕ × X → List Place) (xs : List X) (i : ℕ) where
+  pub earliest_more_numbered : (best one next : Option Place) (x : X) → i < length xs → x ≡ get_or xs i x → best ≡ earliest (flat_map f (take i (enumerate_from 0 xs)))
+      → one ≡ earliest (f (i, x)) → next ≡ earlier best one → next ≡ earliest (flat_map f (take (i + 1) (enumerate_from 0 xs)))
+  earliest_more_numbered best one next x lt at h e n =
+      let within : i < length (enumerate_from 0 xs) = rw (length-enumerate_from 0 xs) lt in
+      let number : 0 + i ≡ i = omega arith in
+      let here : (i, x) ≡ get_or (enumerate_from 0 xs) i (i, x) =
+      ap (λ (y : X). (i, y)) at ∙ sym (get_or-enumerate_from 0 xs i (i, x) lt ∙ ap (λ (k : ℕ). (k, get_or xs i x)) number) in
+      earliest_more_at f best one next (enumerate_from 0 xs) i (i, x) within here h e n
+
+  pub earliest_all_numbered : (best : Option Place) → length xs ≤ i → best ≡ earliest (flat_map f (take i (enumerate_from 0 xs))) → best ≡ earliest (flat_map f (enumerate_from 0 xs))
+  earliest_all_numbered best le h = earliest_all f best (enumerate_from 0 xs) i (rw (length-enumerate_from 0 xs) le) h
+
 -- the step of a loop over items that stand at one place each
 pub earliest_more_place : {X : Type 0} (f : X → Place) (best next : Option Place) (p : Place) (xs : List X) (i : ℕ) (x : X) → i < length xs → x ≡ get_or xs i x → best ≡ earliest (map f (take i xs))
     → p ≡ f x → next ≡ earlier best (Some p) → next ≡ earliest (map f (take (i + 1) xs))
@@ -75,6 +90,12 @@ earliest_more_place f best next p xs i x lt at h e n =
 pub flat_map-flat_map : {X Y Z : Type 0} (f : Y → List Z) (g : X → List Y) (xs : List X) → flat_map f (flat_map g xs) ≡ flat_map (λ x. flat_map f (g x)) xs
 flat_map-flat_map f g [] = refl
 flat_map-flat_map f g (x ∷ xs) = flat_map-append f (g x) (flat_map g xs) ∙ ap (λ ys. flat_map f (g x) ++ ys) (flat_map-flat_map f g xs)
+
+-- what is broken at the targets of a header: by its cases and the last one
+pub at_targets : (f : Ident → List Place) (h : HeaderText) → flat_map f (targets h) ≡ flat_map (λ (c : CaseText). flat_map f (target_names c.target)) h.cases ++ flat_map f (target_names h.other)
+at_targets f h =
+    flat_map-append f (flat_map (λ (c : CaseText). target_names c.target) h.cases) (target_names h.other)
+    ∙ ap (λ (ps : List Place). ps ++ flat_map f (target_names h.other)) (flat_map-flat_map f (λ (c : CaseText). target_names c.target) h.cases)
 
 -- for the attribute of a function that joins what was found
 pub ruleset joins = (earliest-append)

@@ -1,28 +1,8 @@
 -- A small text, as it is read: each part stands at a column of one line.
-use Rattle.std.proofs.Common.{ℕ, ◌+◌, List, [], ◌∷◌, codes, false, None, Some}
+use Rattle.std.proofs.Common.{ℕ, ◌+◌, List, [], ◌∷◌, codes, false, None, Some, Option}
 use Rattle.rmt_ast.specs.declared.program.Kind.TheVariants.{Exact}
 use Rattle.rmt_ast.specs.declared.program.Op.TheVariants.{Add}
-use Rattle.rmt_lexer.specs.declared.place.Place.{Place}
-use Rattle.rmt_check.specs.declared.source.Ident.{Ident}
-use Rattle.rmt_check.specs.declared.source.Number.{Number}
-use Rattle.rmt_check.specs.declared.source.Declared.{Declared}
-use Rattle.rmt_check.specs.declared.source.OwnerText.{OwnerText}
-use Rattle.rmt_check.specs.declared.source.FieldText.{FieldText}
-use Rattle.rmt_check.specs.declared.source.ValueText.{ValueText}
-use Rattle.rmt_check.specs.declared.source.CaseText.{CaseText}
-use Rattle.rmt_check.specs.declared.source.TailText.{TailText}
-use Rattle.rmt_check.specs.declared.source.HeaderText.{HeaderText}
-use Rattle.rmt_check.specs.declared.source.MetaText.{MetaText}
-use Rattle.rmt_check.specs.declared.source.LeafText.{LeafText}
-use Rattle.rmt_check.specs.declared.source.Sign.{Sign}
-use Rattle.rmt_check.specs.declared.source.ExprText.{ExprText}
-use Rattle.rmt_check.specs.declared.source.AssignText.{AssignText}
-use Rattle.rmt_check.specs.declared.source.ActionText.{ActionText}
-use Rattle.rmt_check.specs.declared.source.KeyText.{KeyText}
-use Rattle.rmt_check.specs.declared.source.TableText.{TableText}
-use Rattle.rmt_check.specs.declared.source.Under.{Under}
-use Rattle.rmt_check.specs.declared.source.NodeText.{NodeText}
-use Rattle.rmt_check.specs.declared.source.Source.{Source}
+use Rattle.rmt_check.specs.Parts.{Place, Ident, Number, Declared, OwnerText, FieldText, ValueText, CaseText, TailText, HeaderText, MetaText, LeafText, Sign, ExprText, AssignText, ActionText, KeyText, TableText, Under, NodeText, Source}
 use Rattle.rmt_check.specs.declared.source.OwnerText.TheVariants as owner
 use Rattle.rmt_check.specs.declared.source.TargetText.TheVariants as target
 use Rattle.rmt_check.specs.declared.source.LeafText.TheVariants as leaf
@@ -72,29 +52,22 @@ header_h =
       other = target.Accept;
     }
 
+-- a header that selects by nothing
+abbrev pub plain_header : ℕ → List ℕ → List Declared → Option TailText → HeaderText
+plain_header column name fields tail = record { ident = ident column name; fields = fields; tail = tail; select = []; cases = []; other = target.Accept }
+
 -- header g { a : 16; } next accept;
 abbrev pub header_g : HeaderText
-header_g = record {
-  ident = ident 10 (codes "g");
-  fields = declared 11 (codes "a") 16 ∷ [];
-  tail = None;
-  select = [];
-  cases = [];
-  other = target.Accept;
-}
+header_g = plain_header 10 (codes "g") (declared 11 (codes "a") 16 ∷ []) None
+
+abbrev pub tail : ℕ → ℕ → List ℕ → ℕ → ℕ → ℕ → ℕ → TailText
+tail column name_column name unit_column unit base_column base =
+    record { place = at column; field = ident name_column name; unit = number unit_column unit; base = number base_column base }
 
 -- header o { n : WIDTH; z : 4; tail NAME * UNIT - BASE; } next accept;
 abbrev pub header_o : (width : ℕ) (name : List ℕ) (unit base : ℕ) → HeaderText
 header_o width name unit base =
-    let t : TailText = record { place = at 84; field = ident 85 name; unit = number 86 unit; base = number 87 base } in
-    record {
-      ident = ident 80 (codes "o");
-      fields = declared 81 (codes "n") width ∷ declared 83 (codes "z") 4 ∷ [];
-      tail = Some t;
-      select = [];
-      cases = [];
-      other = target.Accept;
-    }
+    plain_header 80 (codes "o") (declared 81 (codes "n") width ∷ declared 83 (codes "z") 4 ∷ []) (Some (tail 84 85 name 86 unit 87 base))
 
 -- meta { m : 16; }
 abbrev pub meta : MetaText

@@ -1,15 +1,6 @@
 -- The program that the small text means.
 use Rattle.std.proofs.Common.{◌≡◌, [], ◌∷◌, ℕ, List, codes, false, None, Some, map, refl}
-use Rattle.rmt_ast.specs.declared.program.Field.{Field}
-use Rattle.rmt_ast.specs.declared.program.Header.{Header}
-use Rattle.rmt_ast.specs.declared.program.Tail.{Tail}
-use Rattle.rmt_ast.specs.declared.program.Case.{Case}
-use Rattle.rmt_ast.specs.declared.program.Test.{Test}
-use Rattle.rmt_ast.specs.declared.program.Action.{Action}
-use Rattle.rmt_ast.specs.declared.program.Assign.{Assign}
-use Rattle.rmt_ast.specs.declared.program.Table.{Table}
-use Rattle.rmt_ast.specs.declared.program.Node.{Node}
-use Rattle.rmt_ast.specs.declared.program.Guard.{Guard}
+use Rattle.rmt_check.specs.Parts.{Field, Header, Tail, Case, Test, Action, Assign, Table, Node, Guard}
 use Rattle.rmt_ast.specs.declared.program.Target.TheVariants as to
 use Rattle.rmt_ast.specs.declared.program.Expr.TheVariants.{One, Two}
 use Rattle.rmt_ast.specs.declared.program.Leaf.TheVariants as leaf

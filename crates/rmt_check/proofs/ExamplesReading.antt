@@ -4,21 +4,13 @@ use Rattle.std.specs.Prelude.{codes}
 use Rattle.rmt_lexer.specs.declared.token.TokenKind.TheVariants as token
 use Rattle.rmt_syntax.specs.declared.tree.Tree.{Tree, One, Many}
 use Rattle.rmt_syntax.specs.declared.tree.Rule.TheVariants as rule
-use Rattle.rmt_check.specs.declared.source.Ident.{Ident}
-use Rattle.rmt_check.specs.declared.source.Declared.{Declared}
+use Rattle.rmt_check.specs.Parts.{Ident, Declared, FieldText, ArmText, Under, NodeText}
 use Rattle.rmt_check.specs.declared.source.OwnerText.TheVariants.{Header, Metadata}
-use Rattle.rmt_check.specs.declared.source.FieldText.{FieldText}
-use Rattle.rmt_check.specs.declared.source.Number.{Number}
-use Rattle.rmt_check.specs.declared.source.TailText.{TailText}
-use Rattle.rmt_check.specs.declared.source.HeaderText.{HeaderText}
-use Rattle.rmt_check.specs.declared.source.TargetText.TheVariants.{Accept}
-use Rattle.rmt_check.specs.declared.source.ArmText.{ArmText}
 use Rattle.rmt_check.specs.declared.source.ArmText.TheVariants.{Hit, Miss}
-use Rattle.rmt_check.specs.declared.source.Under.{Under}
 use Rattle.rmt_check.specs.declared.source.WhatText.TheVariants.{Apply}
-use Rattle.rmt_check.specs.declared.source.NodeText.{NodeText}
 use Rattle.rmt_check.specs.Reading.{param_at, field_at, header_at, control_among}
 use Rattle.rmt_check.proofs.ReadingLaws.{one, many, added_one, added_is}
+use Rattle.rmt_check.proofs.ExampleText.{at, ident, number, plain_header, tail}
 
 -- the tokens at a column of the line
 abbrev word : ℕ → List ℕ → Tree
@@ -28,69 +20,53 @@ abbrev sign : ℕ → List ℕ → Tree
 sign column [] = One (record { line = 1; column = column; what = token.End })
 sign column (byte ∷ rest) = One (record { line = 1; column = column; what = token.Sign byte })
 
-abbrev number : ℕ → ℕ → Tree
-number column n = One (record { line = 1; column = column; what = token.Number n })
+abbrev digits : ℕ → ℕ → Tree
+digits column n = One (record { line = 1; column = column; what = token.Number n })
 
--- what is read at a column of the line
-abbrev ident : ℕ → List ℕ → Ident
-ident column w = record { place = record { line = 1; column = column }; name = w }
-
-abbrev value : ℕ → ℕ → Number
-value column n = record { place = record { line = 1; column = column }; value = n }
-
+-- a field or parameter, and its width at another column
 abbrev field : ℕ → List ℕ → ℕ → ℕ → Declared
-field column w at n = record { ident = ident column w; width = value at n }
+field column w behind n = record { ident = ident column w; width = number behind n }
 
 -- `port: 9`
-a_param : (v : List Tree) → v ≡ word 1 (codes "port") ∷ sign 5 (codes ":") ∷ number 7 9 ∷ []
-    → param_at (Many rule.Param v) ≡ Some (field 1 (codes "port") 7 9)
+a_param : (v : List Tree) → v ≡ word 1 (codes "port") ∷ sign 5 (codes ":") ∷ digits 7 9 ∷ []
+    → param_at (Many rule.Param v ∷ []) ≡ Some (field 1 (codes "port") 7 9)
 a_param v h = simp (many, h, one)
 
 -- `eth.dst`
 a_field : (v : List Tree) → v ≡ word 1 (codes "eth") ∷ sign 4 (codes ".") ∷ word 5 (codes "dst") ∷ []
-    → field_at (Many rule.Field v)
-    ≡ (let f : FieldText = record { place = record { line = 1; column = 1 }; owner = Header (ident 1 (codes "eth")); ident = ident 5 (codes "dst") } in Some f)
+    → field_at (Many rule.Field v ∷ [])
+    ≡ (let f : FieldText = record { place = at 1; owner = Header (ident 1 (codes "eth")); ident = ident 5 (codes "dst") } in Some f)
 a_field v h = simp (many, h, one)
 
 -- `meta.hop`
 a_meta_field : (v : List Tree) → v ≡ word 1 (codes "meta") ∷ sign 5 (codes ".") ∷ word 6 (codes "hop") ∷ []
-    → field_at (Many rule.Field v)
-    ≡ (let f : FieldText = record { place = record { line = 1; column = 1 }; owner = Metadata; ident = ident 6 (codes "hop") } in Some f)
+    → field_at (Many rule.Field v ∷ [])
+    ≡ (let f : FieldText = record { place = at 1; owner = Metadata; ident = ident 6 (codes "hop") } in Some f)
 a_meta_field v h = simp (many, h, one)
 
 -- `header h { a: 8; b: 16; } next accept;`
 a_header : (target next header : List Tree) → target ≡ word 32 (codes "accept") ∷ []
     → next ≡ Many rule.Target target ∷ sign 38 (codes ";") ∷ []
     → header
-    ≡ word 1 (codes "header") ∷ word 8 (codes "h") ∷ sign 10 (codes "{") ∷ word 12 (codes "a") ∷ sign 13 (codes ":") ∷ number 15 8 ∷ sign 16 (codes ";")
-    ∷ word 18 (codes "b") ∷ sign 19 (codes ":") ∷ number 21 16 ∷ sign 23 (codes ";") ∷ sign 25 (codes "}") ∷ word 27 (codes "next")
+    ≡ word 1 (codes "header") ∷ word 8 (codes "h") ∷ sign 10 (codes "{") ∷ word 12 (codes "a") ∷ sign 13 (codes ":") ∷ digits 15 8 ∷ sign 16 (codes ";")
+    ∷ word 18 (codes "b") ∷ sign 19 (codes ":") ∷ digits 21 16 ∷ sign 23 (codes ";") ∷ sign 25 (codes "}") ∷ word 27 (codes "next")
     ∷ Many rule.Next next ∷ []
-    → header_at (Many rule.Header header)
-    ≡ (let h : HeaderText = record {
-      ident = ident 8 (codes "h");
-      fields = field 12 (codes "a") 15 8 ∷ field 18 (codes "b") 21 16 ∷ [];
-      tail = None;
-      select = [];
-      cases = [];
-      other = Accept;
-    } in Some h)
+    → header_at (Many rule.Header header ∷ []) ≡ Some (plain_header 8 (codes "h") (field 12 (codes "a") 15 8 ∷ field 18 (codes "b") 21 16 ∷ []) None)
 a_header target next header t n h = simp (many, one, t, n, h)
 
 -- `header o { n: 8; tail n*4-20; } next accept;`
 a_tail : (target next header : List Tree) → target ≡ word 38 (codes "accept") ∷ []
     → next ≡ Many rule.Target target ∷ sign 44 (codes ";") ∷ []
     → header
-    ≡ word 1 (codes "header") ∷ word 8 (codes "o") ∷ sign 10 (codes "{") ∷ word 12 (codes "n") ∷ sign 13 (codes ":") ∷ number 15 8 ∷ sign 16 (codes ";")
-    ∷ word 18 (codes "tail") ∷ word 23 (codes "n") ∷ sign 24 (codes "*") ∷ number 25 4 ∷ sign 26 (codes "-") ∷ number 27 20 ∷ sign 29 (codes ";")
+    ≡ word 1 (codes "header") ∷ word 8 (codes "o") ∷ sign 10 (codes "{") ∷ word 12 (codes "n") ∷ sign 13 (codes ":") ∷ digits 15 8 ∷ sign 16 (codes ";")
+    ∷ word 18 (codes "tail") ∷ word 23 (codes "n") ∷ sign 24 (codes "*") ∷ digits 25 4 ∷ sign 26 (codes "-") ∷ digits 27 20 ∷ sign 29 (codes ";")
     ∷ sign 31 (codes "}") ∷ word 33 (codes "next") ∷ Many rule.Next next ∷ []
-    → header_at (Many rule.Header header)
-    ≡ (let t : TailText = record { place = record { line = 1; column = 18 }; field = ident 23 (codes "n"); unit = value 25 4; base = value 27 20 } in
-    let h : HeaderText = record { ident = ident 8 (codes "o"); fields = field 12 (codes "n") 15 8 ∷ []; tail = Some t; select = []; cases = []; other = Accept } in
-    Some h)
+    → header_at (Many rule.Header header ∷ [])
+    ≡ Some (plain_header 8 (codes "o") (field 12 (codes "n") 15 8 ∷ []) (Some (tail 18 23 (codes "n") 25 4 27 20)))
 a_tail target next header t n h = simp (many, one, t, n, h)
 
 abbrev node : ℕ → Option Under → Ident → List ArmText → NodeText
-node column under table arms = record { place = record { line = 1; column = column }; under = under; what = Apply table arms }
+node column under table arms = record { place = at column; under = under; what = Apply table arms }
 
 abbrev under : ℕ → ℕ → Option Under
 under parent arm = let u : Under = record { parent = parent; arm = arm } in Some u

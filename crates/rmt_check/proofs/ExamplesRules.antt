@@ -2,15 +2,9 @@
 use Rattle.std.proofs.Common.{◌≡◌, ℕ, [], ◌∷◌, List, codes, None, Some, map, refl}
 use Rattle.std.specs.List.{flat_map, range_with_len}
 use Rattle.rmt_ast.specs.declared.program.Kind.TheVariants.{Prefix}
-use Rattle.rmt_check.specs.declared.source.FieldText.{FieldText}
+use Rattle.rmt_check.specs.Parts.{FieldText, CaseText, HeaderText, AssignText, KeyText, NodeText, Source}
 use Rattle.rmt_check.specs.declared.source.TargetText.TheVariants as target
-use Rattle.rmt_check.specs.declared.source.CaseText.{CaseText}
-use Rattle.rmt_check.specs.declared.source.HeaderText.{HeaderText}
 use Rattle.rmt_check.specs.declared.source.LeafText.TheVariants as leaf
-use Rattle.rmt_check.specs.declared.source.AssignText.{AssignText}
-use Rattle.rmt_check.specs.declared.source.KeyText.{KeyText}
-use Rattle.rmt_check.specs.declared.source.NodeText.{NodeText}
-use Rattle.rmt_check.specs.declared.source.Source.{Source}
 use Rattle.rmt_check.specs.Rules.{broken_5, broken_6, broken_7, broken_8, broken_9, broken_10, broken_11, broken_12, broken_13, broken_14, broken_15, broken_16, broken_17, broken_18, broken_19, broken_20, broken_21, fault_of, text_start}
 use Rattle.rmt_check.proofs.ExampleText.{at, ident, number, declared, of_header, of_meta, of_all, value, header_h, header_g, header_o, meta, one, assign, action_set, action_hop, add_one, key, table_t, apply_t, text}
 

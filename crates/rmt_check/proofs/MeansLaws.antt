@@ -3,13 +3,9 @@ use Rattle.std.proofs.Common.{◌≡◌, ℕ, List, None, Some, Option, option_m
 use Rattle.std.specs.Prelude.{Vec}
 use Rattle.std.proofs.lemmas.Option.{same_Some}
 use Rattle.std.specs.declared.alloc.Global.{Global}
-use Rattle.rmt_ast.specs.declared.program.Program.{Program}
-use Rattle.rmt_lexer.specs.declared.fault.ProgramFault.{ProgramFault}
+use Rattle.rmt_check.specs.Parts.{Program, Place, ProgramFault, Token, Tree}
 use Rattle.rmt_lexer.specs.declared.fault.ProgramFault.TheVariants.{NoMemory, At}
-use Rattle.rmt_lexer.specs.declared.place.Place.{Place}
-use Rattle.rmt_lexer.specs.declared.token.Token.{Token}
 use Rattle.rmt_lexer.specs.Text.{Gives, tokens_of}
-use Rattle.rmt_syntax.specs.declared.tree.Tree.{Tree}
 use Rattle.rmt_syntax.specs.Trees as trees
 use Rattle.rmt_syntax.specs.Trees.{IsTreeOf}
 use Rattle.rmt_check.specs.Reading.{source_of}

@@ -1,17 +1,15 @@
 -- Each node of a control stands in an arm of one of its nodes, an earlier one.
-use Rattle.std.proofs.Common.{◌≡◌, ℕ, zero, suc, ◌+◌, ◌<◌, ◌≤◌, List, [], ◌∷◌, ◌++◌, Bool, true, false, if◌then◌else◌, None, Some, Option, unwrap_or, map, filter_map, fold, length, get_or, All, sym, ap, subst, ◌∙◌, length-append, arith}
+use Rattle.std.proofs.Common.{◌≡◌, ℕ, ◌+◌, ◌<◌, ◌≤◌, List, [], ◌∷◌, ◌++◌, Bool, true, false, if◌then◌else◌, None, Some, Option, unwrap_or, map, filter_map, fold, length, get_or, All, sym, ap, subst, ◌∙◌, length-append, arith}
 use Rattle.std.specs.List.{cons_option, enumerate_from}
 use Rattle.std.proofs.lemmas.List.Elements.{All-nil, All-cons, All-head, All-tail, All-map}
-use Rattle.std.proofs.lemmas.Option.{none-some, same_Some, slice_get-get_or}
+use Rattle.std.proofs.lemmas.Option.{none-some, slice_get-get_or}
 use Rattle.rmt_syntax.specs.declared.tree.Tree.{Tree, roll-Tree, out-Tree, out-roll-Tree}
 use Rattle.rmt_syntax.specs.declared.tree.Tree.TheVariants.{rolls-One}
 use Rattle.rmt_syntax.specs.declared.tree.Tree.TheOpen.{Tree-F}
 use Rattle.rmt_syntax.specs.declared.tree.Tree.TheFolds.{fold-Tree, map-Tree, ind-Tree, fold-roll-Tree}
-use Rattle.rmt_syntax.specs.declared.tree.Rule.{Rule}
+use Rattle.rmt_check.specs.Parts.{Rule, Under, NodeText}
 use Rattle.rmt_ast.specs.WellFormed.{AllNumbered}
-use Rattle.rmt_ast.proofs.WellFormedLemmas.{AllNumbered-none}
-use Rattle.rmt_check.specs.declared.source.Under.{Under}
-use Rattle.rmt_check.specs.declared.source.NodeText.{NodeText}
+use Rattle.rmt_ast.proofs.WellFormedLemmas.{AllNumbered-none, AllNumbered-push}
 use Rattle.rmt_check.specs.Reading.{parts_of, node_text, Adds, Read, all_added, is_arm, arm_adds, with_arm, statement_added, is_statement, text_added, reads, layer_added, added, control_text, control_at, control_among, parts, source_of}
 use Rattle.rmt_check.specs.Naming.{IsUnder}
 use Rattle.rmt_check.proofs.texts.PartLaws.{made_of, first_seen, or_default}
@@ -35,12 +33,6 @@ record Grows (least : ℕ) (ns : List NodeText) : Type 0 where
 pub later : (m n : ℕ) (under : Option Under) → m ≤ n → IsUnder m under → IsUnder n under
 later m n None le h = tt
 later m n (Some u) le h = let l = h in omega arith
-
-numbered_push : {X : Type 0} (P : ℕ → X → Type 0) (xs : List X) (y : X) → AllNumbered P xs → P (length xs) y → AllNumbered P (xs ++ y ∷ [])
-numbered_push P [] y h p zero x e = subst (P 0) (same_Some y x e) p
-numbered_push P [] y h p (suc n) x e = absurd (none-some x e)
-numbered_push P (z ∷ xs) y h p zero x e = h zero x e
-numbered_push P (z ∷ xs) y h p (suc n) x e = numbered_push (λ k. P (suc k)) xs y (λ k v at. h (suc k) v at) p n x e
 
 -- what is added keeps the order
 abbrev Keeps : Adds → Type 0
@@ -77,7 +69,7 @@ statement_keeps : (rs : List Read) → ReadsKeep rs → Keeps (statement_added r
 statement_keeps rs keeps ns under order stands =
     let node = node_text under (map (λ (r : Read). r.0) rs) in
     let pushed : length (ns ++ node ∷ []) ≡ length ns + 1 = length-append ns (node ∷ []) in
-    let arms = arms_keep (length ns) 0 (filter_map arm_adds rs) (arms_of rs keeps) (ns ++ node ∷ []) (numbered_push (λ n (x : NodeText). IsUnder n x.under) ns node order stands) (omega arith) in
+    let arms = arms_keep (length ns) 0 (filter_map arm_adds rs) (arms_of rs keeps) (ns ++ node ∷ []) (AllNumbered-push (λ n (x : NodeText). IsUnder n x.under) ns node order stands) (omega arith) in
     record { order = arms.order; long = let l = arms.long in omega arith }
 
 text_keeps : (r : Rule) (rs : List Read) → ReadsKeep rs → Keeps (text_added r rs)
@@ -112,14 +104,15 @@ tree_keeps = ind-Tree TreeKeeps (λ x y is. subst (λ z. TreeKeeps (roll-Tree z)
 trees_keep : (ts : List Tree) → All Keeps (map added ts)
 trees_keep ts = All-map Keeps added ts (λ k d lt. tree_keeps (get_or ts k d))
 
-control_order : (u : Tree) (ns : List NodeText) → control_at u ≡ Some ns → InOrder ns
-control_order u ns e =
-    let m = made_of rule.Control control_text u ns e in
+control_order : (ts : List Tree) (ns : List NodeText) → All (λ t. Unit {0}) ts → control_at ts ≡ Some ns → InOrder ns
+control_order [] ns h e = absurd (none-some ns e)
+control_order (u ∷ us) ns h e =
+    let m = made_of rule.Control control_text u us ns e in
     subst InOrder m.2 (all_keep (map added m.0) (trees_keep m.0) [] None (AllNumbered-none (λ n (x : NodeText). IsUnder n x.under)) tt).order
 
 pub nodes_in_order : (ts : List Tree) → InOrder (unwrap_or (control_among ts) [])
 nodes_in_order ts =
-    or_default InOrder (control_among ts) [] (first_seen (λ t. Unit {0}) InOrder control_at (λ u ns all e. control_order u ns e) ts (λ k d lt. tt))
+    or_default InOrder (control_among ts) [] (first_seen (λ t. Unit {0}) InOrder control_at control_order ts (λ k d lt. tt))
     (AllNumbered-none (λ n (x : NodeText). IsUnder n x.under))
 
 -- Each node of a control stands in an arm of one of its nodes.

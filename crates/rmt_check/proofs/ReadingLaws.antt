@@ -2,15 +2,12 @@
 use Rattle.std.proofs.Common.{◌≡◌, ◌∙◌, ℕ, zero, suc, ◌+◌, ◌<◌, List, [], ◌∷◌, ◌++◌, Bool, true, false, if◌then◌else◌, Option, Some, None, fold, map, filter_map, length, drop, refl, sym, ap, arith, add-one, append_assoc}
 use Rattle.std.specs.List.{cons_option, enumerate_from}
 use Rattle.std.specs.Option.{option_or}
-use Rattle.rmt_lexer.specs.declared.token.Token.{Token}
-use Rattle.rmt_syntax.specs.declared.tree.Rule.{Rule}
+use Rattle.rmt_check.specs.Parts.{Token, Rule, Under, NodeText}
 use Rattle.rmt_syntax.specs.declared.tree.Tree.{Tree, One, Many, out-Tree, out-roll-Tree}
 use Rattle.rmt_syntax.specs.declared.tree.Tree.TheOpen as tree
 use Rattle.rmt_syntax.specs.declared.tree.Tree.TheVariants.{rolls-One, rolls-Many}
 use Rattle.rmt_syntax.specs.declared.tree.Tree.TheFolds.{fold-Tree, fold-roll-Tree}
-use Rattle.rmt_check.specs.declared.source.Under.{Under}
-use Rattle.rmt_check.specs.declared.source.NodeText.{NodeText}
-use Rattle.rmt_check.specs.Reading.{parts_of, each, first_at, node_text, Adds, Read, all_added, arm_adds, with_arm, statement_added, is_statement, text_added, reads, layer_added, added}
+use Rattle.rmt_check.specs.Reading.{parts_of, each, first, node_text, Adds, Read, all_added, arm_adds, with_arm, statement_added, is_statement, text_added, reads, layer_added, added}
 
 pub one : (t : Token) → out-Tree (One t) ≡ tree.One t
 one t = ap out-Tree (sym (rolls-One t)) ∙ out-roll-Tree (tree.One t)
@@ -18,21 +15,15 @@ one t = ap out-Tree (sym (rolls-One t)) ∙ out-roll-Tree (tree.One t)
 pub many : (r : Rule) (v : List Tree) → out-Tree (Many r v) ≡ tree.Many r v
 many r v = ap out-Tree (sym (rolls-Many r v)) ∙ out-roll-Tree (tree.Many r v)
 
-each_next : {A : Type 0} (see : List Tree → Option A) (ts : List Tree) (n : ℕ) → n < length ts → each see (drop n ts) ≡ cons_option (see (drop n ts)) (each see (drop (suc n) ts))
-each_next see [] n lt = absurd (omega arith)
-each_next see (t ∷ ts) zero lt = refl
-each_next see (t ∷ ts) (suc n) lt = each_next see ts n (omega arith)
-
-first_next : {A : Type 0} (see : List Tree → Option A) (ts : List Tree) (n : ℕ) → n < length ts → first_at see (drop n ts) ≡ option_or (see (drop n ts)) (first_at see (drop (suc n) ts))
-first_next see [] n lt = absurd (omega arith)
-first_next see (t ∷ ts) zero lt = refl
-first_next see (t ∷ ts) (suc n) lt = first_next see ts n (omega arith)
-
 pub each_here : {A : Type 0} (see : List Tree → Option A) (ts : List Tree) (n : ℕ) → n < length ts → each see (drop n ts) ≡ cons_option (see (drop n ts)) (each see (drop (n + 1) ts))
-each_here see ts n lt = rw add-one (each_next see ts n lt)
+each_here see [] n lt = absurd (omega arith)
+each_here see (t ∷ ts) zero lt = refl
+each_here see (t ∷ ts) (suc n) lt = rw add-one (rw add-one at (each_here see ts n (omega arith)))
 
-pub first_here : {A : Type 0} (see : List Tree → Option A) (ts : List Tree) (n : ℕ) → n < length ts → first_at see (drop n ts) ≡ option_or (see (drop n ts)) (first_at see (drop (n + 1) ts))
-first_here see ts n lt = rw add-one (first_next see ts n lt)
+pub first_here : {A : Type 0} (see : List Tree → Option A) (ts : List Tree) (n : ℕ) → n < length ts → first see (drop n ts) ≡ option_or (see (drop n ts)) (first see (drop (n + 1) ts))
+first_here see [] n lt = absurd (omega arith)
+first_here see (t ∷ ts) zero lt = refl
+first_here see (t ∷ ts) (suc n) lt = rw add-one (rw add-one at (first_here see ts n (omega arith)))
 
 -- what is found at a place joins what was found before it
 pub each_some : {A : Type 0} (see : List Tree → Option A) (ts : List Tree) (n : ℕ) (found next all : List A) (x : A) → n < length ts → found ++ each see (drop n ts) ≡ all → see (drop n ts) ≡ Some x

@@ -1,13 +1,11 @@
+pub mod Parts
 pub mod Reading
 pub mod Names
 pub mod Rules
 pub mod Meaning
 pub mod Means
 pub mod Sizes
-pub mod Numbering
 pub mod Standing
-pub mod Seen
-pub mod Building
 pub mod Found
 pub mod Naming
 pub mod Checking

@@ -3,54 +3,19 @@
 use Rattle.std.specs.Prelude.{◌≡◌, ⊤, ℕ, zero, suc, ◌+◌, ◌-◌, ◌/◌, ◌^◌, List, [], ◌∷◌, false, Option, Some, None, length, take, fold, map, zip, option_map, unwrap_or, slice_get, bit_and, bit_or, Result, Ok, Err}
 use Rattle.std.specs.List.{range_with_len}
 use Rattle.std.specs.Option.{option_map_or}
-use Rattle.rmt_ast.specs.declared.program.Program.{Program}
-use Rattle.rmt_ast.specs.declared.program.Field.{Field}
-use Rattle.rmt_ast.specs.declared.program.Tail.{Tail}
-use Rattle.rmt_ast.specs.declared.program.Header.{Header}
-use Rattle.rmt_ast.specs.declared.program.Case.{Case}
-use Rattle.rmt_ast.specs.declared.program.Test.{Test}
-use Rattle.rmt_ast.specs.declared.program.Target.{Target}
+use Rattle.rmt_check.specs.Parts.{Program, Field, Header, Tail, Case, Test, Target, Action, Assign, Expr, Leaf, Table, Node, Guard, What, Place, ProgramFault, Ident, Number, Declared, FieldText, ValueText, TargetText, CaseText, TailText, HeaderText, LeafText, Sign, AssignText, ActionText, KeyText, TableText, ArmText, Under, WhatText, NodeText, Source}
 use Rattle.rmt_ast.specs.declared.program.Target.TheVariants as to
-use Rattle.rmt_ast.specs.declared.program.Action.{Action}
-use Rattle.rmt_ast.specs.declared.program.Assign.{Assign}
-use Rattle.rmt_ast.specs.declared.program.Expr.{Expr}
 use Rattle.rmt_ast.specs.declared.program.Expr.TheVariants.{One, Two}
-use Rattle.rmt_ast.specs.declared.program.Leaf.{Leaf}
 use Rattle.rmt_ast.specs.declared.program.Leaf.TheVariants as leaf
-use Rattle.rmt_ast.specs.declared.program.Table.{Table}
 use Rattle.rmt_ast.specs.declared.program.Kind.TheVariants.{Keyless}
-use Rattle.rmt_ast.specs.declared.program.Node.{Node}
-use Rattle.rmt_ast.specs.declared.program.Guard.{Guard}
-use Rattle.rmt_ast.specs.declared.program.What.{What}
 use Rattle.rmt_ast.specs.declared.program.What.TheVariants.{Apply, Gate}
-use Rattle.rmt_lexer.specs.declared.fault.ProgramFault.{ProgramFault}
 use Rattle.rmt_lexer.specs.declared.fault.ProgramFault.TheVariants.{NoMemory, At}
-use Rattle.rmt_lexer.specs.declared.place.Place.{Place}
-use Rattle.rmt_check.specs.declared.source.Ident.{Ident}
-use Rattle.rmt_check.specs.declared.source.Number.{Number}
-use Rattle.rmt_check.specs.declared.source.Declared.{Declared}
-use Rattle.rmt_check.specs.declared.source.FieldText.{FieldText}
-use Rattle.rmt_check.specs.declared.source.ValueText.{ValueText}
-use Rattle.rmt_check.specs.declared.source.TargetText.{TargetText}
 use Rattle.rmt_check.specs.declared.source.TargetText.TheVariants as target
-use Rattle.rmt_check.specs.declared.source.CaseText.{CaseText}
-use Rattle.rmt_check.specs.declared.source.TailText.{TailText}
-use Rattle.rmt_check.specs.declared.source.HeaderText.{HeaderText}
-use Rattle.rmt_check.specs.declared.source.LeafText.{LeafText}
 use Rattle.rmt_check.specs.declared.source.LeafText.TheVariants as text
-use Rattle.rmt_check.specs.declared.source.Sign.{Sign}
-use Rattle.rmt_check.specs.declared.source.AssignText.{AssignText}
-use Rattle.rmt_check.specs.declared.source.ActionText.{ActionText}
-use Rattle.rmt_check.specs.declared.source.KeyText.{KeyText}
-use Rattle.rmt_check.specs.declared.source.TableText.{TableText}
-use Rattle.rmt_check.specs.declared.source.ArmText.{ArmText}
 use Rattle.rmt_check.specs.declared.source.ArmText.TheVariants as arm
-use Rattle.rmt_check.specs.declared.source.Under.{Under}
-use Rattle.rmt_check.specs.declared.source.WhatText.{WhatText}
 use Rattle.rmt_check.specs.declared.source.WhatText.TheVariants.{Apply as ApplyText, If}
-use Rattle.rmt_check.specs.declared.source.NodeText.{NodeText}
-use Rattle.rmt_check.specs.declared.source.Source.{Source}
-use Rattle.rmt_check.specs.Names.{Known, number_of, header_names, action_names, table_names, param_names, fields_of, Named, field_place, named, width_of, nodes_of, ident_names, listed_by, selected}
+use Rattle.rmt_ast.specs.NameList.{number_of}
+use Rattle.rmt_check.specs.Names.{Known, header_names, action_names, table_names, param_names, fields_of, printed_name, Named, field_place, named, width_of, nodes_of, ident_names, listed_by, selected}
 use Rattle.rmt_check.specs.Rules.{bits_of, fault_of}
 
 -- the number of a name, which is known
@@ -62,7 +27,7 @@ abbrev pub field_number : Source → Named → ℕ
 field_number s x = unwrap_or (field_place s x) 0
 
 abbrev pub field_of : Known → Field
-field_of f = record { name = f.0; width = f.1 }
+field_of f = record { name = printed_name f; width = f.width }
 
 -- the number whose lowest bits, so many, are all ones
 abbrev pub ones : ℕ → ℕ

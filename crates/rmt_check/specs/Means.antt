@@ -1,13 +1,9 @@
 -- What a text means: its program, or its one fault.
 -- The public contracts rest on it: a reader has to believe it.
 use Rattle.std.specs.Prelude.{◌≡◌, ⊤, ℕ, List, None, Some, Result, Ok, Err}
-use Rattle.rmt_ast.specs.declared.program.Program.{Program}
-use Rattle.rmt_lexer.specs.declared.fault.ProgramFault.{ProgramFault}
+use Rattle.rmt_check.specs.Parts.{Program, Place, ProgramFault, Token, Tree}
 use Rattle.rmt_lexer.specs.declared.fault.ProgramFault.TheVariants.{NoMemory, At}
-use Rattle.rmt_lexer.specs.declared.place.Place.{Place}
-use Rattle.rmt_lexer.specs.declared.token.Token.{Token}
 use Rattle.rmt_lexer.specs.Text.{tokens_of}
-use Rattle.rmt_syntax.specs.declared.tree.Tree.{Tree}
 use Rattle.rmt_syntax.specs.Trees.{IsFault, IsTreeOf}
 use Rattle.rmt_check.specs.Reading.{source_of}
 use Rattle.rmt_check.specs.Rules.{fault_of}

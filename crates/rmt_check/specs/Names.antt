@@ -1,37 +1,13 @@
 -- What the names of a text stand for.
 -- The public contracts rest on it: a reader has to believe it.
-use Rattle.std.specs.Prelude.{ℕ, ◌+◌, List, [], ◌∷◌, ◌++◌, Bool, true, false, ◌==◌, ◌&&◌, Option, Some, None, codes, length, map, find, position, filter_map, option_map, unwrap_or, slice_get}
-use Rattle.std.specs.List.{list_any, flat_map}
+use Rattle.std.specs.Prelude.{ℕ, List, [], ◌∷◌, ◌++◌, Bool, true, false, ◌==◌, ◌&&◌, Option, Some, None, codes, length, map, find, position, filter_map, option_map, unwrap_or, slice_get, is_some}
+use Rattle.std.specs.List.{flat_map, enumerate_from}
 use Rattle.std.specs.Option.{option_to_list, option_map_or}
 use Rattle.std.specs.Str.{bytes_eq}
-use Rattle.rmt_check.specs.declared.source.Ident.{Ident}
-use Rattle.rmt_check.specs.declared.source.Declared.{Declared}
-use Rattle.rmt_check.specs.declared.source.OwnerText.{OwnerText}
+use Rattle.rmt_ast.specs.NameList.{number_of}
+use Rattle.rmt_check.specs.Parts.{Ident, Declared, OwnerText, FieldText, HeaderText, MetaText, LeafText, Sign, ExprText, ActionText, KeyText, TableText, WhatText, NodeText, Source}
 use Rattle.rmt_check.specs.declared.source.OwnerText.TheVariants as owner
-use Rattle.rmt_check.specs.declared.source.FieldText.{FieldText}
-use Rattle.rmt_check.specs.declared.source.HeaderText.{HeaderText}
-use Rattle.rmt_check.specs.declared.source.MetaText.{MetaText}
-use Rattle.rmt_check.specs.declared.source.LeafText.{LeafText}
-use Rattle.rmt_check.specs.declared.source.Sign.{Sign}
-use Rattle.rmt_check.specs.declared.source.ExprText.{ExprText}
-use Rattle.rmt_check.specs.declared.source.ActionText.{ActionText}
-use Rattle.rmt_check.specs.declared.source.KeyText.{KeyText}
-use Rattle.rmt_check.specs.declared.source.TableText.{TableText}
-use Rattle.rmt_check.specs.declared.source.WhatText.{WhatText}
 use Rattle.rmt_check.specs.declared.source.WhatText.TheVariants.{Apply, If}
-use Rattle.rmt_check.specs.declared.source.NodeText.{NodeText}
-use Rattle.rmt_check.specs.declared.source.Source.{Source}
-
--- a field of the program: the name by which it is printed, and its width
-abbrev pub Known : Type 0
-Known = List ℕ × ℕ
-
--- the number of a name: the place of the first that is equal
-abbrev pub number_of : List (List ℕ) → List ℕ → Option ℕ
-number_of names name = position (bytes_eq name) names
-
-abbrev pub is_known : List (List ℕ) → List ℕ → Bool
-is_known names name = list_any (bytes_eq name) names
 
 abbrev pub header_names : Source → List (List ℕ)
 header_names s = map (λ (h : HeaderText). h.ident.name) s.headers
@@ -45,26 +21,9 @@ table_names s = map (λ (t : TableText). t.ident.name) s.tables
 abbrev pub param_names : ActionText → List (List ℕ)
 param_names a = map (λ (d : Declared). d.ident.name) a.params
 
--- a field of a header, or of the metadata, as it is printed
-abbrev pub printed : List ℕ → List ℕ → List ℕ
-printed owner name = owner ++ codes "." ++ name
-
-abbrev pub known_fields : List ℕ → List Declared → List Known
-known_fields owner ds = map (λ (d : Declared). (printed owner d.ident.name, d.width.value)) ds
-
--- the fields of a header, its valid first
-abbrev pub header_fields : HeaderText → List Known
-header_fields h = (printed h.ident.name (codes "valid"), 1) ∷ known_fields h.ident.name h.fields
-
 -- the metadata fields
 abbrev pub metadata : Source → List Declared
 metadata s = flat_map (λ (m : MetaText). m.fields) s.metas
-
--- the fields by number: in_port, out_port, drop, those of each header, those of the metadata
-abbrev pub fields_of : Source → List Known
-fields_of s =
-    (codes "in_port", 9) ∷ (codes "out_port", 9) ∷ (codes "drop", 1) ∷ flat_map header_fields s.headers
-    ++ known_fields (codes "meta") (metadata s)
 
 -- Whose a field is: every program's, the metadata's, or that of the header with a number.
 pub data Owner : Type 0 where
@@ -92,22 +51,40 @@ same_field x y = same_owner x.owner y.owner && bytes_eq x.name y.name
 abbrev pub in_port : Named
 in_port = own of_all (codes "in_port")
 
-abbrev pub named_declared : Owner → List Declared → List Named
-named_declared owner ds = map (λ (d : Declared). own owner d.ident.name) ds
+-- a field of the program, and the name of its owner, where that is printed in front of its own
+pub record Known : Type 0 where
+  pub named : Named
+  pub width : ℕ
+  pub owner_name : Option (List ℕ)
+
+-- the fields that every program has
+abbrev pub common : List ℕ → ℕ → Known
+common name width = record { named = own of_all name; width = width; owner_name = None }
+
+abbrev pub common_fields : List Known
+common_fields = common (codes "in_port") 9 ∷ common (codes "out_port") 9 ∷ common (codes "drop") 1 ∷ []
+
+-- a field of a header, or of the metadata
+abbrev pub owned : Owner → List ℕ → List ℕ → ℕ → Known
+owned owner owner_name name width = record { named = own owner name; width = width; owner_name = Some owner_name }
+
+abbrev pub declared_fields : Owner → List ℕ → List Declared → List Known
+declared_fields owner owner_name ds = map (λ (d : Declared). owned owner owner_name d.ident.name d.width.value) ds
 
 -- the fields of the header with a number, its valid first
-abbrev pub named_header : ℕ → HeaderText → List Named
-named_header n h = own (of_header n) (codes "valid") ∷ named_declared (of_header n) h.fields
+abbrev pub header_fields : ℕ × HeaderText → List Known
+header_fields h = owned (of_header h.0) h.1.ident.name (codes "valid") 1 ∷ declared_fields (of_header h.0) h.1.ident.name h.1.fields
 
--- the fields of some headers, the first of which has that number
-abbrev pub named_from : ℕ → List HeaderText → List Named
-named_from n [] = []
-named_from n (h ∷ hs) = named_header n h ++ named_from (n + 1) hs
+-- the fields by number: those of every program, those of each header, those of the metadata
+abbrev pub fields_of : Source → List Known
+fields_of s = common_fields ++ flat_map header_fields (enumerate_from 0 s.headers) ++ declared_fields of_metadata (codes "meta") (metadata s)
 
--- the fields by number, as they are named
-abbrev pub named_fields : Source → List Named
-named_fields s =
-    in_port ∷ own of_all (codes "out_port") ∷ own of_all (codes "drop") ∷ named_from 0 s.headers ++ named_declared of_metadata (metadata s)
+-- the name by which a field is printed, as drop or eth.dst
+abbrev pub printed : List ℕ → List ℕ → List ℕ
+printed owner name = owner ++ codes "." ++ name
+
+abbrev pub printed_name : Known → List ℕ
+printed_name f = option_map_or (λ owner. printed owner f.named.name) f.owner_name f.named.name
 
 -- the header of a name; for a name that is none, one that has no field
 abbrev pub header_owner : Source → List ℕ → Owner
@@ -126,16 +103,20 @@ named s f = own (owner_of s f.owner) f.ident.name
 abbrev pub selected : Source → HeaderText → Ident → Named
 selected s h i = own (header_owner s h.ident.name) i.name
 
+-- the fields by number, as a text names them
+abbrev pub named_fields : Source → List Named
+named_fields s = map (λ (f : Known). f.named) (fields_of s)
+
 -- the number of a field: the place of the first that is the same
 abbrev pub field_place : Source → Named → Option ℕ
 field_place s x = position (same_field x) (named_fields s)
 
 abbrev pub is_field : Source → Named → Bool
-is_field s x = list_any (same_field x) (named_fields s)
+is_field s x = is_some (field_place s x)
 
 -- the width of a field by its number, and by its name; 0 where there is none
 abbrev pub width_at : Source → ℕ → ℕ
-width_at s n = unwrap_or (option_map (λ (f : Known). f.1) (slice_get (fields_of s) n)) 0
+width_at s n = unwrap_or (option_map (λ (f : Known). f.width) (slice_get (fields_of s) n)) 0
 
 abbrev pub width_of : Source → Named → ℕ
 width_of s x = option_map_or (width_at s) (field_place s x) 0

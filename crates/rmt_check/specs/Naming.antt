@@ -2,21 +2,10 @@
 -- A public law rests on it: a reader has to believe it.
 use Rattle.std.specs.Prelude.{◌≢◌, ◌<◌, ◌≤◌, ℕ, List, Option, Some, None, ⊤, All, codes, length}
 use Rattle.std.specs.Option.{IfSome}
-use Rattle.rmt_lexer.specs.declared.token.Token.{Token}
-use Rattle.rmt_syntax.specs.declared.tree.Tree.{Tree}
+use Rattle.rmt_check.specs.Parts.{Token, Tree, Ident, Declared, CaseText, TailText, HeaderText, KeyText, TableText, Under, NodeText, Source}
 use Rattle.rmt_syntax.specs.Trees.{marks, tokens_in}
 use Rattle.rmt_ast.specs.declared.program.Kind.TheVariants.{Keyless}
 use Rattle.rmt_ast.specs.WellFormed.{AllNumbered}
-use Rattle.rmt_check.specs.declared.source.Ident.{Ident}
-use Rattle.rmt_check.specs.declared.source.Declared.{Declared}
-use Rattle.rmt_check.specs.declared.source.CaseText.{CaseText}
-use Rattle.rmt_check.specs.declared.source.TailText.{TailText}
-use Rattle.rmt_check.specs.declared.source.HeaderText.{HeaderText}
-use Rattle.rmt_check.specs.declared.source.KeyText.{KeyText}
-use Rattle.rmt_check.specs.declared.source.TableText.{TableText}
-use Rattle.rmt_check.specs.declared.source.Under.{Under}
-use Rattle.rmt_check.specs.declared.source.NodeText.{NodeText}
-use Rattle.rmt_check.specs.declared.source.Source.{Source}
 use Rattle.rmt_check.specs.Names.{nodes_of}
 use Rattle.rmt_check.specs.Reading.{word_of}
 

@@ -1,57 +1,27 @@
 -- The parts of a program's text, read from its tree.
 -- The public contracts rest on it: a reader has to believe it.
-use Rattle.std.specs.Prelude.{ℕ, List, [], ◌∷◌, ◌++◌, Bool, true, false, if◌then◌else◌, Option, Some, None, length, fold, map, filter_map, option_map, is_some, unwrap_or, ◌==◌}
+use Rattle.std.specs.Prelude.{ℕ, List, [], ◌∷◌, ◌++◌, Bool, true, false, if◌then◌else◌, Option, Some, None, length, fold, map, filter_map, option_map, is_some, unwrap_or, drop}
 use Rattle.std.specs.List.{cons_option, enumerate_from}
 use Rattle.std.specs.Option.{option_or, option_and_then}
-use Rattle.rmt_lexer.specs.declared.token.Token.{Token}
-use Rattle.rmt_lexer.specs.declared.token.TokenKind.{TokenKind}
+use Rattle.rmt_check.specs.Parts.{Kind, Op, Place, Token, TokenKind, Terminal, Rule, Tree, Ident, Number, Declared, OwnerText, FieldText, ValueText, TargetText, CaseText, TailText, HeaderText, MetaText, LeafText, Sign, ExprText, AssignText, ActionText, KeyText, TableText, ArmText, Under, WhatText, NodeText, Source}
 use Rattle.rmt_lexer.specs.declared.token.TokenKind.TheVariants as token
-use Rattle.rmt_lexer.specs.declared.place.Place.{Place}
-use Rattle.rmt_syntax.specs.declared.terminal.Terminal.{Terminal}
 use Rattle.rmt_syntax.specs.declared.terminal.Terminal.TheVariants as terminal
-use Rattle.rmt_syntax.specs.declared.tree.Tree.{Tree}
 use Rattle.rmt_syntax.specs.declared.tree.Tree.TheViews.{out-Tree}
 use Rattle.rmt_syntax.specs.declared.tree.Tree.TheOpen.{Tree-F}
 use Rattle.rmt_syntax.specs.declared.tree.Tree.TheOpen as tree
 use Rattle.rmt_syntax.specs.declared.tree.Tree.TheFolds.{fold-Tree}
 use denote.Enum.Bare.{sameb}
 use Rattle.rmt_syntax.specs.contracts.tree.Rule.{the_type}
-use Rattle.rmt_syntax.specs.declared.tree.Rule.{Rule}
 use Rattle.rmt_syntax.specs.declared.tree.Rule.TheVariants as rule
 use Rattle.rmt_syntax.specs.Grammar.{terminal_of}
 use Rattle.rmt_syntax.specs.Lookahead.{same}
-use Rattle.rmt_ast.specs.declared.program.Kind.{Kind}
 use Rattle.rmt_ast.specs.declared.program.Kind.TheVariants.{Keyless, Exact, Prefix, Ternary}
-use Rattle.rmt_ast.specs.declared.program.Op.{Op}
 use Rattle.rmt_ast.specs.declared.program.Op.TheVariants.{Add, Sub, And, Or, Xor}
-use Rattle.rmt_check.specs.declared.source.Ident.{Ident}
-use Rattle.rmt_check.specs.declared.source.Number.{Number}
-use Rattle.rmt_check.specs.declared.source.Declared.{Declared}
-use Rattle.rmt_check.specs.declared.source.OwnerText.{OwnerText}
 use Rattle.rmt_check.specs.declared.source.OwnerText.TheVariants as owner
-use Rattle.rmt_check.specs.declared.source.FieldText.{FieldText}
-use Rattle.rmt_check.specs.declared.source.ValueText.{ValueText}
-use Rattle.rmt_check.specs.declared.source.TargetText.{TargetText}
 use Rattle.rmt_check.specs.declared.source.TargetText.TheVariants as target
-use Rattle.rmt_check.specs.declared.source.CaseText.{CaseText}
-use Rattle.rmt_check.specs.declared.source.TailText.{TailText}
-use Rattle.rmt_check.specs.declared.source.HeaderText.{HeaderText}
-use Rattle.rmt_check.specs.declared.source.MetaText.{MetaText}
-use Rattle.rmt_check.specs.declared.source.LeafText.{LeafText}
 use Rattle.rmt_check.specs.declared.source.LeafText.TheVariants as leaf
-use Rattle.rmt_check.specs.declared.source.Sign.{Sign}
-use Rattle.rmt_check.specs.declared.source.ExprText.{ExprText}
-use Rattle.rmt_check.specs.declared.source.AssignText.{AssignText}
-use Rattle.rmt_check.specs.declared.source.ActionText.{ActionText}
-use Rattle.rmt_check.specs.declared.source.KeyText.{KeyText}
-use Rattle.rmt_check.specs.declared.source.TableText.{TableText}
-use Rattle.rmt_check.specs.declared.source.ArmText.{ArmText}
 use Rattle.rmt_check.specs.declared.source.ArmText.TheVariants as arm
-use Rattle.rmt_check.specs.declared.source.Under.{Under}
-use Rattle.rmt_check.specs.declared.source.WhatText.{WhatText}
 use Rattle.rmt_check.specs.declared.source.WhatText.TheVariants.{Apply, If}
-use Rattle.rmt_check.specs.declared.source.NodeText.{NodeText}
-use Rattle.rmt_check.specs.declared.source.Source.{Source}
 
 -- the parts of a tree
 abbrev pub parts_of : Tree-F Tree → List Tree
@@ -70,36 +40,38 @@ abbrev pub parts_if : Rule → Tree-F Tree → Option (List Tree)
 parts_if r (tree.One t) = None
 parts_if r (tree.Many s parts) = if same_rule r s then Some parts else None
 
--- what the parts of the text of a rule say, if anything
-abbrev pub at_rule : {A : Type 0} → Rule → (List Tree → Option A) → Tree → Option A
-at_rule r see t = option_and_then see (parts_if r (out-Tree t))
+-- Of some trees, the parts of the first: it is the text of a rule.
+abbrev pub parts_at : Rule → List Tree → Option (List Tree)
+parts_at r [] = None
+parts_at r (t ∷ ts) = parts_if r (out-Tree t)
 
--- what is made of the parts of the text of a rule
-abbrev pub of_rule : {A : Type 0} → Rule → (List Tree → A) → Tree → Option A
-of_rule r make t = option_map make (parts_if r (out-Tree t))
+-- what these parts say, if anything
+abbrev pub at_rule : {A : Type 0} → Rule → (List Tree → Option A) → List Tree → Option A
+at_rule r see ts = option_and_then see (parts_at r ts)
 
--- what is seen first in a list of parts
-abbrev pub first : {A : Type 0} → (Tree → Option A) → List Tree → Option A
-first see [] = None
-first see (t ∷ ts) = option_or (see t) (first see ts)
+-- what is made of these parts
+abbrev pub of_rule : {A : Type 0} → Rule → (List Tree → A) → List Tree → Option A
+of_rule r make ts = option_map make (parts_at r ts)
 
--- what is seen at each place among some parts: there, and in the parts behind it
+-- what is seen at each place among some trees: in the tree there, and in those behind it
 abbrev pub each : {A : Type 0} → (List Tree → Option A) → List Tree → List A
 each see [] = []
 each see (t ∷ ts) = cons_option (see (t ∷ ts)) (each see ts)
 
 -- the first of what is seen so
-abbrev pub first_at : {A : Type 0} → (List Tree → Option A) → List Tree → Option A
-first_at see [] = None
-first_at see (t ∷ ts) = option_or (see (t ∷ ts)) (first_at see ts)
+abbrev pub first : {A : Type 0} → (List Tree → Option A) → List Tree → Option A
+first see [] = None
+first see (t ∷ ts) = option_or (see (t ∷ ts)) (first see ts)
 
 -- what is seen in a token; nothing in other parts
 abbrev pub in_token : {A : Type 0} → (Token → Option A) → Tree-F Tree → Option A
 in_token see (tree.One t) = see t
 in_token see (tree.Many r parts) = None
 
-abbrev pub at_token : {A : Type 0} → (Token → Option A) → Tree → Option A
-at_token see t = in_token see (out-Tree t)
+-- of some trees, in the first
+abbrev pub at_token : {A : Type 0} → (Token → Option A) → List Tree → Option A
+at_token see [] = None
+at_token see (t ∷ ts) = in_token see (out-Tree t)
 
 abbrev pub place_of : Token → Place
 place_of t = record { line = t.line; column = t.column }
@@ -108,7 +80,7 @@ place_of t = record { line = t.line; column = t.column }
 abbrev pub place_if : Terminal → Token → Option Place
 place_if c t = if same c (terminal_of t.what) then Some (place_of t) else None
 
-abbrev pub place_at : Terminal → Tree → Option Place
+abbrev pub place_at : Terminal → List Tree → Option Place
 place_at c = at_token (place_if c)
 
 -- nowhere, in place of what a text of the grammar always has (specs/Found.antt)
@@ -132,29 +104,22 @@ abbrev pub name_if : Terminal → Token → Option Ident
 name_if terminal.Name t = Some (ident_of t)
 name_if _ t = None
 
-abbrev pub name_at : Tree → Option Ident
+abbrev pub name_at : List Tree → Option Ident
 name_at = at_token (λ t. name_if (terminal_of t.what) t)
 
 abbrev pub number_in : TokenKind → Place → Option Number
 number_in (token.Number n) place = Some (record { place = place; value = n })
 number_in _ place = None
 
-abbrev pub number_at : Tree → Option Number
+abbrev pub number_at : List Tree → Option Number
 number_at = at_token (λ t. number_in t.what (place_of t))
 
 -- the names and the numbers among some parts
 abbrev pub names : List Tree → List Ident
-names ts = filter_map name_at ts
+names ts = each name_at ts
 
 abbrev pub numbers : List Tree → List Number
-numbers ts = filter_map number_at ts
-
--- the first of them
-abbrev pub first_name : List Tree → Option Ident
-first_name = first name_at
-
-abbrev pub first_number : List Tree → Option Number
-first_number = first number_at
+numbers ts = each number_at ts
 
 abbrev pub no_name : Ident
 no_name = record { place = nowhere; name = [] }
@@ -163,29 +128,25 @@ abbrev pub no_number : Number
 no_number = record { place = nowhere; value = 0 }
 
 abbrev pub name_among : List Tree → Ident
-name_among ts = unwrap_or (first_name ts) no_name
+name_among ts = unwrap_or (first name_at ts) no_name
 
 abbrev pub number_among : List Tree → Number
-number_among ts = unwrap_or (first_number ts) no_number
+number_among ts = unwrap_or (first number_at ts) no_number
 
 -- the place of the first token among some parts
-abbrev pub token_place : Tree → Option Place
+abbrev pub token_place : List Tree → Option Place
 token_place = at_token (λ t. Some (place_of t))
 
-abbrev pub first_place : List Tree → Option Place
-first_place = first token_place
-
 abbrev pub place_among : List Tree → Place
-place_among ts = unwrap_or (first_place ts) nowhere
+place_among ts = unwrap_or (first token_place ts) nowhere
 
 -- what stands behind a token of a kind
 abbrev pub behind : {A : Type 0} → Option Place → Option A → Option A
 behind None x = None
 behind (Some p) x = x
 
-abbrev pub seen_behind : {A : Type 0} → Terminal → (Tree → Option A) → List Tree → Option A
-seen_behind c see (a ∷ b ∷ rest) = behind (place_at c a) (see b)
-seen_behind c see _ = None
+abbrev pub seen_behind : {A : Type 0} → Terminal → (List Tree → Option A) → List Tree → Option A
+seen_behind c see ts = behind (place_at c ts) (see (drop 1 ts))
 
 abbrev pub name_behind : Terminal → List Tree → Option Ident
 name_behind c = seen_behind c name_at
@@ -200,14 +161,13 @@ joined _ _ _ = None
 
 -- NAME ":" NUMBER
 abbrev pub declared_at : List Tree → Option Declared
-declared_at (a ∷ b ∷ c ∷ rest) = joined (name_at a) (place_at terminal.Colon b) (number_at c)
-declared_at _ = None
+declared_at ts = joined (name_at ts) (place_at terminal.Colon (drop 1 ts)) (number_at (drop 2 ts))
 
 -- param = NAME ":" NUMBER
 abbrev pub param_text : List Tree → Declared
 param_text ts = record { ident = name_among ts; width = number_among ts }
 
-abbrev pub param_at : Tree → Option Declared
+abbrev pub param_at : List Tree → Option Declared
 param_at = of_rule rule.Param param_text
 
 -- the words that a field is written with, in their order: names and reserved words
@@ -215,11 +175,11 @@ abbrev pub word_in : TokenKind → Token → Option Ident
 word_in (token.Word w) t = Some (ident_of t)
 word_in _ t = None
 
-abbrev pub word_at : Tree → Option Ident
+abbrev pub word_at : List Tree → Option Ident
 word_at = at_token (λ t. word_in t.what t)
 
 abbrev pub words : List Tree → List Ident
-words = filter_map word_at
+words = each word_at
 
 -- whose a field of two words is: of the header that the first names, else of the metadata
 abbrev pub owner_text : Option Ident → OwnerText
@@ -232,14 +192,9 @@ field_text header [] = record { place = nowhere; owner = owner.Intrinsic; ident 
 field_text header (a ∷ []) = record { place = a.place; owner = owner.Intrinsic; ident = a }
 field_text header (a ∷ b ∷ rest) = record { place = a.place; owner = owner_text header; ident = b }
 
--- the header that the first part of a field names
-abbrev pub header_in : List Tree → Option Ident
-header_in [] = None
-header_in (t ∷ ts) = name_at t
-
 -- field = NAME "." NAME | NAME "." "valid" | "meta" "." NAME | "in_port" | "out_port" | "drop"
-abbrev pub field_at : Tree → Option FieldText
-field_at = of_rule rule.Field (λ ts. field_text (header_in ts) (words ts))
+abbrev pub field_at : List Tree → Option FieldText
+field_at = of_rule rule.Field (λ ts. field_text (name_at ts) (words ts))
 
 -- target = NAME | "accept" | "reject"
 abbrev pub target_if : Terminal → Token → Option TargetText
@@ -248,45 +203,38 @@ target_if terminal.Accept t = Some target.Accept
 target_if terminal.Reject t = Some target.Reject
 target_if _ t = None
 
-abbrev pub target_word : Tree → Option TargetText
+abbrev pub target_word : List Tree → Option TargetText
 target_word = at_token (λ t. target_if (terminal_of t.what) t)
 
 abbrev pub target_text : List Tree → Option TargetText
 target_text = first target_word
 
-abbrev pub target_at : Tree → Option TargetText
+abbrev pub target_at : List Tree → Option TargetText
 target_at = at_rule rule.Target target_text
 
-abbrev pub first_target : List Tree → Option TargetText
-first_target = first target_at
-
 abbrev pub target_among : List Tree → TargetText
-target_among ts = unwrap_or (first_target ts) (target.Header no_name)
+target_among ts = unwrap_or (first target_at ts) (target.Header no_name)
 
 -- value = NUMBER [ "&" NUMBER ]
 abbrev pub value_text : List Tree → ValueText
-value_text ts = record { value = number_among ts; mask = first_at (number_behind terminal.Ampersand) ts }
+value_text ts = record { value = number_among ts; mask = first (number_behind terminal.Ampersand) ts }
 
-abbrev pub value_at : Tree → Option ValueText
+abbrev pub value_at : List Tree → Option ValueText
 value_at = of_rule rule.Value value_text
 
 -- case = value { "," value } ":" target ";"
 abbrev pub case_text : List Tree → CaseText
-case_text ts = record { values = filter_map value_at ts; target = target_among ts }
+case_text ts = record { values = each value_at ts; target = target_among ts }
 
-abbrev pub case_at : Tree → Option CaseText
+abbrev pub case_at : List Tree → Option CaseText
 case_at = of_rule rule.Case case_text
 
 -- next = target ";" | "(" NAME { "," NAME } ")" "{" { case } "else" ":" target ";" "}"
-abbrev pub next_at : Tree → Option (List Tree)
-next_at t = parts_if rule.Next (out-Tree t)
-
--- what stands behind `next`
-abbrev pub first_next : List Tree → Option (List Tree)
-first_next = first next_at
+abbrev pub next_at : List Tree → Option (List Tree)
+next_at = parts_at rule.Next
 
 abbrev pub next_among : List Tree → List Tree
-next_among ts = unwrap_or (first_next ts) []
+next_among ts = unwrap_or (first next_at ts) []
 
 -- a tail of what stands at its word, its name and its numbers
 abbrev pub tail_text : Option Place → Option Ident → Option Number → Option Number → Option TailText
@@ -295,38 +243,37 @@ tail_text _ _ _ _ = None
 
 -- "tail" NAME "*" NUMBER "-" NUMBER
 abbrev pub tail_at : List Tree → Option TailText
-tail_at (a ∷ b ∷ c ∷ d ∷ e ∷ f ∷ rest) = tail_text (place_at terminal.Tail a) (name_at b) (number_at d) (number_at f)
-tail_at _ = None
+tail_at ts = tail_text (place_at terminal.Tail ts) (name_at (drop 1 ts)) (number_at (drop 3 ts)) (number_at (drop 5 ts))
 
 -- header = "header" NAME "{" { NAME ":" NUMBER ";" } [ "tail" NAME "*" NUMBER "-" NUMBER ";" ] "}" "next" next
 abbrev pub header_text : List Tree → HeaderText
 header_text ts = record {
   ident = name_among ts;
   fields = each declared_at ts;
-  tail = first_at tail_at ts;
+  tail = first tail_at ts;
   select = names (next_among ts);
-  cases = filter_map case_at (next_among ts);
+  cases = each case_at (next_among ts);
   other = target_among (next_among ts);
 }
 
-abbrev pub header_at : Tree → Option HeaderText
+abbrev pub header_at : List Tree → Option HeaderText
 header_at = of_rule rule.Header header_text
 
 -- meta = "meta" "{" { NAME ":" NUMBER ";" } "}"
 abbrev pub meta_text : List Tree → MetaText
 meta_text ts = record { place = place_among ts; fields = each declared_at ts }
 
-abbrev pub meta_at : Tree → Option MetaText
+abbrev pub meta_at : List Tree → Option MetaText
 meta_at = of_rule rule.Meta meta_text
 
 -- leaf = field | NAME | NUMBER
-abbrev pub leaf_part : Tree → Option LeafText
-leaf_part t = option_or (option_map leaf.Field (field_at t)) (option_or (option_map leaf.Param (name_at t)) (option_map leaf.Number (number_at t)))
+abbrev pub leaf_part : List Tree → Option LeafText
+leaf_part ts = option_or (option_map leaf.Field (field_at ts)) (option_or (option_map leaf.Param (name_at ts)) (option_map leaf.Number (number_at ts)))
 
 abbrev pub leaf_text : List Tree → Option LeafText
 leaf_text = first leaf_part
 
-abbrev pub leaf_at : Tree → Option LeafText
+abbrev pub leaf_at : List Tree → Option LeafText
 leaf_at = at_rule rule.Leaf leaf_text
 
 -- an operator
@@ -347,17 +294,13 @@ operation (Some sign) (Some l) = Some (sign, l)
 operation _ _ = None
 
 abbrev pub operation_at : List Tree → Option (Sign × LeafText)
-operation_at (a ∷ b ∷ rest) = operation (at_token sign_of a) (leaf_at b)
-operation_at _ = None
-
-abbrev pub first_leaf : List Tree → Option LeafText
-first_leaf = first leaf_at
+operation_at ts = operation (at_token sign_of ts) (leaf_at (drop 1 ts))
 
 -- expr = leaf [ ( "+" | "-" | "&" | "|" | "^" ) leaf ]
 abbrev pub expr_text : List Tree → ExprText
-expr_text ts = record { left = unwrap_or (first_leaf ts) (leaf.Number no_number); right = first_at operation_at ts }
+expr_text ts = record { left = unwrap_or (first leaf_at ts) (leaf.Number no_number); right = first operation_at ts }
 
-abbrev pub expr_at : Tree → Option ExprText
+abbrev pub expr_at : List Tree → Option ExprText
 expr_at = of_rule rule.Expr expr_text
 
 -- a field and what is assigned to it
@@ -367,18 +310,17 @@ assigned _ _ _ = None
 
 -- field "=" expr
 abbrev pub assign_at : List Tree → Option AssignText
-assign_at (a ∷ b ∷ c ∷ rest) = assigned (field_at a) (place_at terminal.Assign b) (expr_at c)
-assign_at _ = None
+assign_at ts = assigned (field_at ts) (place_at terminal.Assign (drop 1 ts)) (expr_at (drop 2 ts))
 
 -- action = "action" NAME "(" [ param { "," param } ] ")" "{" { field "=" expr ";" } "}"
 abbrev pub action_text : List Tree → ActionText
 action_text ts = record {
   ident = name_among ts;
-  params = filter_map param_at ts;
+  params = each param_at ts;
   assigns = each assign_at ts;
 }
 
-abbrev pub action_at : Tree → Option ActionText
+abbrev pub action_at : List Tree → Option ActionText
 action_at = of_rule rule.Action action_text
 
 -- how a key is compared
@@ -388,46 +330,32 @@ kind_of terminal.Prefix = Some Prefix
 kind_of terminal.Ternary = Some Ternary
 kind_of _ = None
 
-abbrev pub kind_at : Tree → Option Kind
+abbrev pub kind_at : List Tree → Option Kind
 kind_at = at_token (λ t. kind_of (terminal_of t.what))
-
-abbrev pub first_kind : List Tree → Option Kind
-first_kind = first kind_at
-
-abbrev pub kind_among : List Tree → Kind
-kind_among ts = unwrap_or (first_kind ts) Keyless
-
--- whether a table is counted
-abbrev pub counted_among : List Tree → Bool
-counted_among ts = is_some (first (place_at terminal.Counted) ts)
 
 -- key = ( "exact" | "prefix" | "ternary" ) field { "," field } ";" "actions" NAME { "," NAME } ";" "size" NUMBER ";" [ "counted" ";" ]
 abbrev pub key_text : List Tree → KeyText
 key_text ts = record {
-  kind = kind_among ts;
-  fields = filter_map field_at ts;
+  kind = unwrap_or (first kind_at ts) Keyless;
+  fields = each field_at ts;
   actions = names ts;
   size = number_among ts;
-  counted = counted_among ts;
+  counted = is_some (first (place_at terminal.Counted) ts);
 }
 
-abbrev pub key_at : Tree → Option KeyText
+abbrev pub key_at : List Tree → Option KeyText
 key_at = of_rule rule.Key key_text
-
--- the name behind the word `default`
-abbrev pub default_name : List Tree → Option Ident
-default_name = first_at (name_behind terminal.Default)
 
 -- table = "table" NAME "{" [ key ] "default" NAME "(" [ NUMBER { "," NUMBER } ] ")" ";" "}"
 abbrev pub table_text : List Tree → TableText
 table_text ts = record {
   ident = name_among ts;
   key = first key_at ts;
-  default = unwrap_or (default_name ts) no_name;
+  default = unwrap_or (first (name_behind terminal.Default) ts) no_name;
   args = numbers ts;
 }
 
-abbrev pub table_at : Tree → Option TableText
+abbrev pub table_at : List Tree → Option TableText
 table_at = of_rule rule.Table table_text
 
 -- arm = ( "hit" | "miss" | NAME ) block
@@ -437,29 +365,22 @@ arm_if terminal.Miss t = Some arm.Miss
 arm_if terminal.Name t = Some (arm.Action (ident_of t))
 arm_if _ t = None
 
-abbrev pub arm_word : Tree → Option ArmText
+abbrev pub arm_word : List Tree → Option ArmText
 arm_word = at_token (λ t. arm_if (terminal_of t.what) t)
 
 abbrev pub arm_of : List Tree → Option ArmText
 arm_of = first arm_word
 
-abbrev pub arm_at : Tree → Option ArmText
+abbrev pub arm_at : List Tree → Option ArmText
 arm_at = at_rule rule.Arm arm_of
-
--- the field of an `if`, and the number behind its "=="
-abbrev pub first_field : List Tree → Option FieldText
-first_field = first field_at
-
-abbrev pub equal_number : List Tree → Option Number
-equal_number = first_at (number_behind terminal.Equal)
 
 -- stmt = "apply" NAME ( ";" | "{" { arm } "}" ) | "if" "(" field [ "&" NUMBER ] "==" NUMBER ")" block [ "else" block ]
 abbrev pub what_text : Option FieldText → List Tree → WhatText
-what_text None ts = Apply (name_among ts) (filter_map arm_at ts)
-what_text (Some field) ts = If field (first_at (number_behind terminal.Ampersand) ts) (unwrap_or (equal_number ts) no_number)
+what_text None ts = Apply (name_among ts) (each arm_at ts)
+what_text (Some field) ts = If field (first (number_behind terminal.Ampersand) ts) (unwrap_or (first (number_behind terminal.Equal) ts) no_number)
 
 abbrev pub node_text : Option Under → List Tree → NodeText
-node_text under ts = record { place = place_among ts; under = under; what = what_text (first_field ts) ts }
+node_text under ts = record { place = place_among ts; under = under; what = what_text (first field_at ts) ts }
 
 -- What a tree adds to the nodes before it, where it stands in an arm or in none.
 abbrev pub Adds : Type 0
@@ -515,26 +436,19 @@ added t = fold-Tree (Tree → Adds) layer_added t t
 abbrev pub control_text : List Tree → List NodeText
 control_text ts = all_added (map added ts) None []
 
-abbrev pub control_at : Tree → Option (List NodeText)
+abbrev pub control_at : List Tree → Option (List NodeText)
 control_at = of_rule rule.Control control_text
 
 abbrev pub control_among : List Tree → Option (List NodeText)
 control_among = first control_at
 
--- the end of a text
-abbrev pub first_end : List Tree → Option Place
-first_end = first (place_at terminal.End)
-
-abbrev pub end_among : List Tree → Place
-end_among ts = unwrap_or (first_end ts) nowhere
-
 -- program = { header | meta | action | table } [ control ] END
 abbrev pub source_of : Tree → Source
 source_of t = record {
-  headers = filter_map header_at (parts t);
-  metas = filter_map meta_at (parts t);
-  actions = filter_map action_at (parts t);
-  tables = filter_map table_at (parts t);
+  headers = each header_at (parts t);
+  metas = each meta_at (parts t);
+  actions = each action_at (parts t);
+  tables = each table_at (parts t);
   control = control_among (parts t);
-  end = end_among (parts t);
+  end = unwrap_or (first (place_at terminal.End) (parts t)) nowhere;
 }

@@ -4,38 +4,16 @@ use Rattle.std.specs.Prelude.{ℕ, ◌+◌, ◌-◌, ◌*◌, ◌%◌, ◌^◌, 
 use Rattle.std.specs.List.{flat_map, list_any, enumerate_from}
 use Rattle.std.specs.Option.{option_to_list, option_or, is_none}
 use Rattle.std.specs.Str.{bytes_eq}
-use Rattle.rmt_ast.specs.declared.program.Kind.{Kind}
+use Rattle.rmt_check.specs.Parts.{Kind, Op, Place, Ident, Number, Declared, OwnerText, FieldText, ValueText, TargetText, CaseText, TailText, HeaderText, MetaText, LeafText, Sign, AssignText, ActionText, KeyText, TableText, ArmText, WhatText, NodeText, Source}
 use Rattle.rmt_ast.specs.declared.program.Kind.TheVariants.{Prefix}
-use Rattle.rmt_ast.specs.declared.program.Op.{Op}
 use Rattle.rmt_ast.specs.declared.program.Op.TheVariants.{Add, Sub, And, Or, Xor}
-use Rattle.rmt_lexer.specs.declared.place.Place.{Place}
-use Rattle.rmt_check.specs.declared.source.Ident.{Ident}
-use Rattle.rmt_check.specs.declared.source.Number.{Number}
-use Rattle.rmt_check.specs.declared.source.Declared.{Declared}
-use Rattle.rmt_check.specs.declared.source.OwnerText.{OwnerText}
 use Rattle.rmt_check.specs.declared.source.OwnerText.TheVariants as owner
-use Rattle.rmt_check.specs.declared.source.FieldText.{FieldText}
-use Rattle.rmt_check.specs.declared.source.ValueText.{ValueText}
-use Rattle.rmt_check.specs.declared.source.TargetText.{TargetText}
 use Rattle.rmt_check.specs.declared.source.TargetText.TheVariants as target
-use Rattle.rmt_check.specs.declared.source.CaseText.{CaseText}
-use Rattle.rmt_check.specs.declared.source.TailText.{TailText}
-use Rattle.rmt_check.specs.declared.source.HeaderText.{HeaderText}
-use Rattle.rmt_check.specs.declared.source.MetaText.{MetaText}
-use Rattle.rmt_check.specs.declared.source.LeafText.{LeafText}
 use Rattle.rmt_check.specs.declared.source.LeafText.TheVariants as leaf
-use Rattle.rmt_check.specs.declared.source.Sign.{Sign}
-use Rattle.rmt_check.specs.declared.source.AssignText.{AssignText}
-use Rattle.rmt_check.specs.declared.source.ActionText.{ActionText}
-use Rattle.rmt_check.specs.declared.source.KeyText.{KeyText}
-use Rattle.rmt_check.specs.declared.source.TableText.{TableText}
-use Rattle.rmt_check.specs.declared.source.ArmText.{ArmText}
 use Rattle.rmt_check.specs.declared.source.ArmText.TheVariants as arm
-use Rattle.rmt_check.specs.declared.source.WhatText.{WhatText}
 use Rattle.rmt_check.specs.declared.source.WhatText.TheVariants.{Apply, If}
-use Rattle.rmt_check.specs.declared.source.NodeText.{NodeText}
-use Rattle.rmt_check.specs.declared.source.Source.{Source}
-use Rattle.rmt_check.specs.Names.{number_of, is_known, header_names, action_names, table_names, param_names, metadata, in_port, same_field, is_field, named, width_of, nodes_of, applied_tables, listed, listed_by, key_fields, selected, param_width, params_of, operands}
+use Rattle.rmt_ast.specs.NameList.{number_of, is_known}
+use Rattle.rmt_check.specs.Names.{header_names, action_names, table_names, param_names, metadata, in_port, same_field, is_field, named, width_of, nodes_of, applied_tables, listed, listed_by, key_fields, selected, param_width, params_of, operands}
 
 -- a place, where something is broken there
 abbrev pub when : Bool → Place → List Place
@@ -60,17 +38,38 @@ places xs = map (λ (x : Ident). x.place) xs
 abbrev pub declared_names : List Declared → List Ident
 declared_names ds = map (λ (d : Declared). d.ident) ds
 
+abbrev pub headers_of : Source → List Ident
+headers_of s = map (λ (h : HeaderText). h.ident) s.headers
+
+abbrev pub actions_of : Source → List Ident
+actions_of s = map (λ (a : ActionText). a.ident) s.actions
+
+abbrev pub tables_of : Source → List Ident
+tables_of s = map (λ (t : TableText). t.ident) s.tables
+
+abbrev pub fields_twice : HeaderText → List Place
+fields_twice h = repeated (declared_names h.fields)
+
+abbrev pub params_twice : ActionText → List Place
+params_twice a = repeated (declared_names a.params)
+
+abbrev pub listed_twice : TableText → List Place
+listed_twice t = repeated (listed t)
+
+abbrev pub further_metas : Source → List Place
+further_metas s = map (λ (m : MetaText). m.place) (drop 1 s.metas)
+
 -- Code 5: a name is declared again in its space, `meta` stands again, or an action is listed twice in a table.
 abbrev pub broken_5 : Source → List Place
 broken_5 s =
-    repeated (map (λ (h : HeaderText). h.ident) s.headers)
-    ++ flat_map (λ (h : HeaderText). repeated (declared_names h.fields)) s.headers
-    ++ map (λ (m : MetaText). m.place) (drop 1 s.metas)
+    repeated (headers_of s)
+    ++ flat_map fields_twice s.headers
+    ++ further_metas s
     ++ repeated (declared_names (metadata s))
-    ++ repeated (map (λ (a : ActionText). a.ident) s.actions)
-    ++ flat_map (λ (a : ActionText). repeated (declared_names a.params)) s.actions
-    ++ repeated (map (λ (t : TableText). t.ident) s.tables)
-    ++ flat_map (λ (t : TableText). repeated (listed t)) s.tables
+    ++ repeated (actions_of s)
+    ++ flat_map params_twice s.actions
+    ++ repeated (tables_of s)
+    ++ flat_map listed_twice s.tables
 
 -- a field's header that is not declared
 abbrev pub unknown_owner : Source → OwnerText → List Place
@@ -90,6 +89,10 @@ target_names target.Reject = []
 -- the headers that a header goes on to
 abbrev pub targets : HeaderText → List Ident
 targets h = flat_map (λ (c : CaseText). target_names c.target) h.cases ++ target_names h.other
+
+-- the names of those that are none
+abbrev pub unknown_targets : Source → HeaderText → List Place
+unknown_targets s h = unknown (header_names s) (targets h)
 
 -- the names of a select that are no fields of the header
 abbrev pub unknown_select : Source → HeaderText → List Place
@@ -111,6 +114,9 @@ unknown_leaf s a (leaf.Number n) = []
 abbrev pub unknown_assign : Source → ActionText → AssignText → List Place
 unknown_assign s a x = unknown_field s x.dest ++ flat_map (unknown_leaf s a) (operands x.expr)
 
+abbrev pub unknown_in_action : Source → ActionText → List Place
+unknown_in_action s a = flat_map (unknown_assign s a) a.assigns
+
 abbrev pub unknown_in_table : Source → TableText → List Place
 unknown_in_table s t =
     flat_map (unknown_field s) (key_fields t) ++ unknown (action_names s) (listed t) ++ unknown (action_names s) (t.default ∷ [])
@@ -126,14 +132,17 @@ unknown_in_node s (Apply table arms) =
     unknown (table_names s) (table ∷ []) ++ unknown (map (λ (i : Ident). i.name) (listed_by s table.name)) (flat_map arm_names arms)
 unknown_in_node s (If field mask value) = unknown_field s field
 
+abbrev pub unknown_at_node : Source → NodeText → List Place
+unknown_at_node s n = unknown_in_node s n.what
+
 -- Code 6: a name is not declared where it is used.
 abbrev pub broken_6 : Source → List Place
 broken_6 s =
     flat_map (unknown_own s) s.headers
-    ++ flat_map (λ (h : HeaderText). unknown (header_names s) (targets h)) s.headers
-    ++ flat_map (λ (a : ActionText). flat_map (unknown_assign s a) a.assigns) s.actions
+    ++ flat_map (unknown_targets s) s.headers
+    ++ flat_map (unknown_in_action s) s.actions
     ++ flat_map (unknown_in_table s) s.tables
-    ++ flat_map (λ (n : NodeText). unknown_in_node s n.what) (nodes_of s)
+    ++ flat_map (unknown_at_node s) (nodes_of s)
 
 abbrev pub is_width : ℕ → Bool
 is_width n = nat_le 1 n && nat_le n 128
@@ -141,12 +150,15 @@ is_width n = nat_le 1 n && nat_le n 128
 abbrev pub no_widths : List Declared → List Place
 no_widths ds = flat_map (λ (d : Declared). when (not (is_width d.width.value)) d.width.place) ds
 
+abbrev pub field_widths : HeaderText → List Place
+field_widths h = no_widths h.fields
+
+abbrev pub param_widths : ActionText → List Place
+param_widths a = no_widths a.params
+
 -- Code 7: a width is 0 or above 128.
 abbrev pub broken_7 : Source → List Place
-broken_7 s =
-    flat_map (λ (h : HeaderText). no_widths h.fields) s.headers
-    ++ no_widths (metadata s)
-    ++ flat_map (λ (a : ActionText). no_widths a.params) s.actions
+broken_7 s = flat_map field_widths s.headers ++ no_widths (metadata s) ++ flat_map param_widths s.actions
 
 -- the bits of a header
 abbrev pub bits_of : HeaderText → ℕ
@@ -156,20 +168,27 @@ bits_of h = sum (map (λ (d : Declared). d.width.value) h.fields)
 abbrev pub is_size : ℕ → Bool
 is_size bits = nat_le 1 bits && nat_le bits 512 && (bits % 8 == 0)
 
+abbrev pub bad_size : HeaderText → List Place
+bad_size h = when (not (is_size (bits_of h))) h.ident.place
+
 -- Code 8: a header is of 0 bits, of more than 512, or not of whole bytes.
 abbrev pub broken_8 : Source → List Place
-broken_8 s = flat_map (λ (h : HeaderText). when (not (is_size (bits_of h))) h.ident.place) s.headers
+broken_8 s = flat_map bad_size s.headers
 
 abbrev pub is_at_most : Option ℕ → ℕ → Bool
 is_at_most None n = false
 is_at_most (Some m) n = nat_le m n
 
+-- a name of a header that is declared at or before header n
+abbrev pub not_later : Source → ℕ → Ident → List Place
+not_later s n i = when (is_at_most (number_of (header_names s) i.name) n) i.place
+
+abbrev pub early_targets : Source → ℕ × HeaderText → List Place
+early_targets s h = flat_map (not_later s h.0) (targets h.1)
+
 -- Code 9: header n names a header that is declared at or before itself.
 abbrev pub broken_9 : Source → List Place
-broken_9 s =
-    flat_map
-    (λ (h : ℕ × HeaderText). flat_map (λ (i : Ident). when (is_at_most (number_of (header_names s) i.name) h.0) i.place) (targets h.1))
-    (enumerate_from 0 s.headers)
+broken_9 s = flat_map (early_targets s) (enumerate_from 0 s.headers)
 
 abbrev pub fits : ℕ → ℕ → Bool
 fits width n = nat_lt n (2 ^ width)
@@ -196,14 +215,18 @@ too_wide_node s (Apply table arms) = []
 too_wide_node s (If field mask value) =
     let v : ValueText = record { value = value; mask = mask } in too_wide_value (width_of s (named s field)) v
 
+abbrev pub operand_widths : Source → ActionText → List Place
+operand_widths s a = flat_map (λ (x : AssignText). flat_map (differs s a (width_of s (named s x.dest))) (operands x.expr)) a.assigns
+
+abbrev pub case_widths : Source → HeaderText → List Place
+case_widths s h = flat_map (too_wide_case s h) h.cases
+
+abbrev pub gate_widths : Source → NodeText → List Place
+gate_widths s n = too_wide_node s n.what
+
 -- Code 10: an operand is not of the width of the assigned field, or a number does not fit the field.
 abbrev pub broken_10 : Source → List Place
-broken_10 s =
-    flat_map
-    (λ (a : ActionText). flat_map (λ (x : AssignText). flat_map (differs s a (width_of s (named s x.dest))) (operands x.expr)) a.assigns)
-    s.actions
-    ++ flat_map (λ (h : HeaderText). flat_map (too_wide_case s h) h.cases) s.headers
-    ++ flat_map (λ (n : NodeText). too_wide_node s n.what) (nodes_of s)
+broken_10 s = flat_map (operand_widths s) s.actions ++ flat_map (case_widths s) s.headers ++ flat_map (gate_widths s) (nodes_of s)
 
 abbrev pub is_sum : Op → Bool
 is_sum Add = true
@@ -216,15 +239,19 @@ abbrev pub wide_sign : ℕ → Option (Sign × LeafText) → List Place
 wide_sign width None = []
 wide_sign width (Some r) = when (is_sum r.0.op && nat_lt 32 width) r.0.place
 
+abbrev pub wide_signs : Source → ActionText → List Place
+wide_signs s a = flat_map (λ (x : AssignText). wide_sign (width_of s (named s x.dest)) x.expr.right) a.assigns
+
 -- Code 11: `+` or `-` into a field wider than 32 bits.
 abbrev pub broken_11 : Source → List Place
-broken_11 s =
-    flat_map (λ (a : ActionText). flat_map (λ (x : AssignText). wide_sign (width_of s (named s x.dest)) x.expr.right) a.assigns) s.actions
+broken_11 s = flat_map (wide_signs s) s.actions
+
+abbrev pub written_ports : Source → ActionText → List Place
+written_ports s a = flat_map (λ (x : AssignText). when (same_field (named s x.dest) in_port) x.dest.place) a.assigns
 
 -- Code 12: `in_port` is assigned.
 abbrev pub broken_12 : Source → List Place
-broken_12 s =
-    flat_map (λ (a : ActionText). flat_map (λ (x : AssignText). when (same_field (named s x.dest) in_port) x.dest.place) a.assigns) s.actions
+broken_12 s = flat_map (written_ports s) s.actions
 
 -- Code 13: a table is applied again.
 abbrev pub broken_13 : Source → List Place
@@ -242,20 +269,32 @@ abbrev pub bad_key : Source → Option KeyText → List Place
 bad_key s None = []
 bad_key s (Some k) = further_prefix k.kind k.fields ++ repeated_fields s k.fields
 
+abbrev pub bad_key_of : Source → TableText → List Place
+bad_key_of s t = bad_key s t.key
+
+abbrev pub repeated_select : HeaderText → List Place
+repeated_select h = repeated h.select
+
 -- Code 14: a prefix key has a second field, or a key or a select has a field twice.
 abbrev pub broken_14 : Source → List Place
-broken_14 s = flat_map (λ (h : HeaderText). repeated h.select) s.headers ++ flat_map (λ (t : TableText). bad_key s t.key) s.tables
+broken_14 s = flat_map repeated_select s.headers ++ flat_map (bad_key_of s) s.tables
 
 abbrev pub key_bits : Source → TableText → ℕ
 key_bits s t = sum (map (λ (f : FieldText). width_of s (named s f)) (key_fields t))
 
+abbrev pub long_key : Source → TableText → List Place
+long_key s t = when (nat_lt 640 (key_bits s t)) t.ident.place
+
 -- Code 15: a key is of more than 640 bits.
 abbrev pub broken_15 : Source → List Place
-broken_15 s = flat_map (λ (t : TableText). when (nat_lt 640 (key_bits s t)) t.ident.place) s.tables
+broken_15 s = flat_map (long_key s) s.tables
+
+abbrev pub many_listed : TableText → List Place
+many_listed t = places (drop 14 (listed t))
 
 -- Code 16: a table lists more than 14 actions.
 abbrev pub broken_16 : Source → List Place
-broken_16 s = flat_map (λ (t : TableText). places (drop 14 (listed t))) s.tables
+broken_16 s = flat_map many_listed s.tables
 
 abbrev pub value_place : ValueText → Place
 value_place v = v.value.place
@@ -270,9 +309,12 @@ bad_default s t =
     when (not (length (params_of s t.default.name) == length t.args)) t.default.place
     ++ flat_map (λ (x : Declared × Number). too_wide x.0.width.value x.1) (zip (params_of s t.default.name) t.args)
 
+abbrev pub bad_cases : HeaderText → List Place
+bad_cases h = flat_map (bad_case h) h.cases
+
 -- Code 17: the values of a case or the arguments of a default are not as they have to be.
 abbrev pub broken_17 : Source → List Place
-broken_17 s = flat_map (λ (h : HeaderText). flat_map (bad_case h) h.cases) s.headers ++ flat_map (bad_default s) s.tables
+broken_17 s = flat_map bad_cases s.headers ++ flat_map (bad_default s) s.tables
 
 -- the first place of a text
 abbrev pub text_start : Place
@@ -282,26 +324,52 @@ abbrev pub bad_table_size : Option KeyText → List Place
 bad_table_size None = []
 bad_table_size (Some k) = when (not (nat_le 1 k.size.value && nat_le k.size.value 1048576)) k.size.place
 
+abbrev pub no_header : Source → List Place
+no_header s = when (length s.headers == 0) text_start
+
+abbrev pub many_headers : Source → List Place
+many_headers s = map (λ (h : HeaderText). h.ident.place) (drop 64 s.headers)
+
+abbrev pub many_actions : Source → List Place
+many_actions s = map (λ (a : ActionText). a.ident.place) (drop 256 s.actions)
+
+abbrev pub many_params : ActionText → List Place
+many_params a = places (drop 16 (declared_names a.params))
+
+abbrev pub many_assigns : ActionText → List Place
+many_assigns a = map (λ (x : AssignText). x.dest.place) (drop 64 a.assigns)
+
+abbrev pub many_metadata : Source → List Place
+many_metadata s = places (drop 256 (declared_names (metadata s)))
+
+abbrev pub many_nodes : Source → List Place
+many_nodes s = map (λ (n : NodeText). n.place) (drop 128 (nodes_of s))
+
+abbrev pub bad_size_of : TableText → List Place
+bad_size_of t = bad_table_size t.key
+
 -- Code 18: no header, more than 64, more than 256 actions, 16 parameters, 64 assignments, 256 metadata fields or 128 nodes, or a size of 0 or above 1,048,576.
 abbrev pub broken_18 : Source → List Place
 broken_18 s =
-    when (length s.headers == 0) text_start
-    ++ map (λ (h : HeaderText). h.ident.place) (drop 64 s.headers)
-    ++ map (λ (a : ActionText). a.ident.place) (drop 256 s.actions)
-    ++ flat_map (λ (a : ActionText). places (drop 16 (declared_names a.params))) s.actions
-    ++ flat_map (λ (a : ActionText). map (λ (x : AssignText). x.dest.place) (drop 64 a.assigns)) s.actions
-    ++ places (drop 256 (declared_names (metadata s)))
-    ++ map (λ (n : NodeText). n.place) (drop 128 (nodes_of s))
-    ++ flat_map (λ (t : TableText). bad_table_size t.key) s.tables
+    no_header s
+    ++ many_headers s
+    ++ many_actions s
+    ++ flat_map many_params s.actions
+    ++ flat_map many_assigns s.actions
+    ++ many_metadata s
+    ++ many_nodes s
+    ++ flat_map bad_size_of s.tables
 
 -- Code 19: there is no control.
 abbrev pub broken_19 : Source → List Place
 broken_19 s = when (is_none s.control) s.end
 
+abbrev pub not_applied : Source → TableText → List Place
+not_applied s t = when (not (is_known (map (λ (i : Ident). i.name) (applied_tables s)) t.ident.name)) t.ident.place
+
 -- Code 20: no node applies a table.
 abbrev pub broken_20 : Source → List Place
-broken_20 s =
-    flat_map (λ (t : TableText). when (not (is_known (map (λ (i : Ident). i.name) (applied_tables s)) t.ident.name)) t.ident.place) s.tables
+broken_20 s = flat_map (not_applied s) s.tables
 
 -- The lengths of a tail: its field has at most 8 bits, its unit is 1 to 255, its base at most 255, and the greatest value of
 -- the field makes 0 to 64 bytes.
@@ -312,9 +380,12 @@ is_tail_range width unit base =
 abbrev pub bad_tail : Source → HeaderText → TailText → List Place
 bad_tail s h t = when (not (is_tail_range (width_of s (selected s h t.field)) t.unit.value t.base.value)) t.place
 
+abbrev pub bad_tails : Source → HeaderText → List Place
+bad_tails s h = flat_map (bad_tail s h) (option_to_list h.tail)
+
 -- Code 21: the lengths of a tail are not as they have to be.
 abbrev pub broken_21 : Source → List Place
-broken_21 s = flat_map (λ (h : HeaderText). flat_map (bad_tail s h) (option_to_list h.tail)) s.headers
+broken_21 s = flat_map (bad_tails s) s.headers
 
 -- a place before another
 abbrev pub is_before : Place → Place → Bool

@@ -1,17 +1,10 @@
 -- How large the parts of a text are where the rules of widths and counts are kept.
 -- A helper: no public contract cites it.
-use Rattle.std.specs.Prelude.{◌≤◌, ⊤, List, Option, Some, None, All, length}
+use Rattle.std.specs.Prelude.{◌≤◌, ◌+◌, ⊤, ℕ, List, Option, Some, None, All, length}
+use Rattle.std.specs.List.{sum_by}
 use Rattle.std.specs.Option.{IfSome}
-use Rattle.rmt_check.specs.declared.source.Declared.{Declared}
-use Rattle.rmt_check.specs.declared.source.TailText.{TailText}
-use Rattle.rmt_check.specs.declared.source.HeaderText.{HeaderText}
-use Rattle.rmt_check.specs.declared.source.MetaText.{MetaText}
-use Rattle.rmt_check.specs.declared.source.ActionText.{ActionText}
-use Rattle.rmt_check.specs.declared.source.KeyText.{KeyText}
-use Rattle.rmt_check.specs.declared.source.TableText.{TableText}
-use Rattle.rmt_check.specs.declared.source.NodeText.{NodeText}
-use Rattle.rmt_check.specs.declared.source.Source.{Source}
-use Rattle.rmt_check.specs.Names.{Known, fields_of, nodes_of, listed}
+use Rattle.rmt_check.specs.Parts.{Declared, TailText, HeaderText, ActionText, KeyText, TableText, NodeText, Source}
+use Rattle.rmt_check.specs.Names.{Known, action_names, fields_of, header_names, listed, metadata, nodes_of, param_names, table_names}
 use Rattle.rmt_check.specs.Rules.{bits_of}
 use Rattle.rmt_check.specs.Naming.{IsUnder}
 
@@ -22,7 +15,7 @@ AreNarrow ds = All (λ (d : Declared). d.width.value ≤ 128) ds
 -- an action of at most 16 parameters
 pub record IsSizedAction (a : ActionText) : Type 0 where
   pub widths : AreNarrow a.params
-  pub few : length a.params ≤ 16
+  pub few : length (param_names a) ≤ 16
 
 -- a table with a key has at most 1,048,576 entries
 abbrev pub IsSizedKey : Option KeyText → Type 0
@@ -50,16 +43,19 @@ pub record IsSizedHeader (h : HeaderText) : Type 0 where
 abbrev pub AreNested : Source → Type 0
 AreNested s = All (λ (n : NodeText). IsUnder (length (nodes_of s)) n.under) (nodes_of s)
 
+-- how many numbers some headers have, each one for its valid and one for each field
+abbrev pub count_of : List HeaderText → ℕ
+count_of hs = sum_by (λ (h : HeaderText). 1 + length h.fields) hs
+
 -- the sizes of the parts of a text
 pub record IsSized (s : Source) : Type 0 where
-  pub widths : All (λ (f : Known). f.1 ≤ 128) (fields_of s)
-  pub few_fields : length (fields_of s) ≤ 33091
-  pub metas : All (λ (m : MetaText). AreNarrow m.fields) s.metas
+  pub widths : All (λ (f : Known). f.width ≤ 128) (fields_of s)
+  pub few_metadata : length (metadata s) ≤ 256
   pub headers : All IsSizedHeader s.headers
-  pub few_headers : length s.headers ≤ 64
+  pub few_headers : length (header_names s) ≤ 64
+  pub few_fields : count_of s.headers ≤ 32832
   pub actions : All IsSizedAction s.actions
-  pub few_actions : length s.actions ≤ 256
+  pub few_actions : length (action_names s) ≤ 256
   pub tables : All IsSizedTable s.tables
-  pub few_tables : length s.tables ≤ 128
+  pub few_tables : length (table_names s) ≤ 128
   pub few_nodes : length (nodes_of s) ≤ 128
-  pub parents : AreNested s

@@ -10,19 +10,9 @@ ghost use Rattle.rmt_check.specs.Checking.{broken_by, Checks};
 use crate::building::build;
 use crate::names::Names;
 use crate::reading::read;
-use crate::rules::applied::{applied_twice, not_applied};
-use crate::rules::arguments::bad_arguments;
-use crate::rules::control::no_control;
-use crate::rules::counts::{count_limit, too_many_actions};
-use crate::rules::keys::{key_kinds, key_too_wide};
-use crate::rules::later::target_not_later;
-use crate::rules::name_twice::name_twice;
-use crate::rules::read_only::read_only;
-use crate::rules::same_width::widths_differ;
-use crate::rules::tails::tail_range;
-use crate::rules::unknown::unknown_name;
-use crate::rules::wide_sums::wide_arithmetic;
-use crate::rules::widths::{header_size, width_range};
+use crate::rules::{
+    applied, arguments, assigned, counts, keys, later, name_twice, same_width, unknown, widths,
+};
 use crate::source::Source;
 use rmt_ast::program::Program;
 use rmt_lexer::fault::ProgramFault;
@@ -38,23 +28,23 @@ fn broken_at(alloc: Global, names: &Names<'_>, code: u8) -> Result<Option<Place>
 {
     let source = names.source();
     match code {
-        5 => name_twice(alloc, source),
-        6 => unknown_name(alloc, names),
-        7 => Ok(width_range(source)),
-        8 => Ok(header_size(source)),
-        9 => Ok(target_not_later(names)),
-        10 => widths_differ(alloc, names),
-        11 => Ok(wide_arithmetic(names)),
-        12 => Ok(read_only(names)),
-        13 => applied_twice(alloc, source),
-        14 => key_kinds(alloc, names),
-        15 => Ok(key_too_wide(names)),
-        16 => Ok(too_many_actions(source)),
-        17 => Ok(bad_arguments(names)),
-        18 => count_limit(alloc, source),
-        19 => Ok(no_control(source)),
-        20 => not_applied(alloc, source),
-        21 => Ok(tail_range(names)),
+        5 => name_twice::name_twice(alloc, source),
+        6 => unknown::unknown_name(alloc, names),
+        7 => Ok(widths::width_range(source)),
+        8 => Ok(widths::header_size(source)),
+        9 => Ok(later::target_not_later(names)),
+        10 => same_width::widths_differ(alloc, names),
+        11 => Ok(assigned::wide_arithmetic(names)),
+        12 => Ok(assigned::read_only(names)),
+        13 => applied::applied_twice(alloc, source),
+        14 => keys::key_kinds(alloc, names),
+        15 => Ok(keys::key_too_wide(names)),
+        16 => Ok(counts::too_many_actions(source)),
+        17 => Ok(arguments::bad_arguments(names)),
+        18 => counts::count_limit(alloc, source),
+        19 => Ok(counts::no_control(source)),
+        20 => applied::not_applied(alloc, source),
+        21 => Ok(widths::tail_range(names)),
         _ => Ok(None),
     }
 }

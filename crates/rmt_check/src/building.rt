@@ -2,14 +2,16 @@
 
 ghost use Rattle.std.specs.Prelude.{◌≡◌, IfOk};
 ghost use Rattle.rmt_check.specs.Meaning.{program_of};
-ghost use Rattle.rmt_check.specs.Sizes.{IsSized};
+ghost use Rattle.rmt_check.specs.Sizes.{AreNested, IsSized};
 
-use crate::building::actions::actions_of;
+use crate::building::actions::action_of;
 use crate::building::fields::fields_of;
 use crate::building::headers::headers_of;
-use crate::building::nodes::nodes_of;
-use crate::building::tables::tables_of;
+use crate::building::mapped::mapped;
+use crate::building::nodes::node_of;
+use crate::building::tables::table_of;
 use crate::names::Names;
+use crate::rules::parts::nodes_of;
 use rmt_ast::program::Program;
 use std::alloc::{AllocError, Global};
 
@@ -17,6 +19,7 @@ mod actions;
 mod fields;
 mod headers;
 mod known;
+mod mapped;
 mod nodes;
 mod outcomes;
 mod tables;
@@ -28,14 +31,20 @@ mod values;
 ///
 /// For want of memory.
 pub fn build(alloc: Global, names: &Names<'_>) -> Result<Program, AllocError>
-    requires { IsSized names.now }
+    requires sized { IsSized names.now }
+    requires nested { AreNested names.now }
     ensures program { IfOk result (λ program. program ≡ program_of names.now) }
 {
+    let source = names.source();
     Ok(Program {
-        fields: fields_of(alloc, names.source())?,
+        fields: fields_of(alloc, names)?,
         headers: headers_of(alloc, names)?,
-        actions: actions_of(alloc, names)?,
-        tables: tables_of(alloc, names)?,
-        nodes: nodes_of(alloc, names)?,
+        actions: mapped(alloc, source.actions.as_slice(), |action| {
+            action_of(alloc, names, action)
+        })?,
+        tables: mapped(alloc, source.tables.as_slice(), |table| {
+            table_of(alloc, names, table)
+        })?,
+        nodes: mapped(alloc, nodes_of(source), |node| Ok(node_of(names, node)))?,
     })
 }

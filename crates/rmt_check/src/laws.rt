@@ -1,12 +1,9 @@
 ghost use Rattle.std.specs.Prelude.{◌≡◌, ℕ, List, None, Ok};
 ghost use Rattle.rmt_ast.specs.declared.program.Program.{Program};
 ghost use Rattle.rmt_ast.specs.WellFormed.{IsProgram};
-ghost use Rattle.rmt_lexer.specs.declared.token.Token.{Token};
+ghost use Rattle.rmt_check.specs.Parts.{Token, Rule, Tree, Source};
 ghost use Rattle.rmt_lexer.specs.Text.{tokens_of};
-ghost use Rattle.rmt_syntax.specs.declared.tree.Rule.{Rule};
-ghost use Rattle.rmt_syntax.specs.declared.tree.Tree.{Tree};
 ghost use Rattle.rmt_syntax.specs.Trees.{IsOf, IsText, IsTreeOf, marks};
-ghost use Rattle.rmt_check.specs.declared.source.Source.{Source};
 ghost use Rattle.rmt_check.specs.Found.{IsFound};
 ghost use Rattle.rmt_check.specs.Meaning.{program_of, Answers};
 ghost use Rattle.rmt_check.specs.Means.{Means, Outcome};

@@ -2,15 +2,16 @@
 
 ghost use Rattle.std.specs.Prelude.{◌≡◌, find, IfOk, option_copied, option_map};
 ghost use Rattle.std.specs.Str.{bytes_eq};
-ghost use Rattle.rmt_check.specs.declared.source.ActionText.{ActionText};
-ghost use Rattle.rmt_check.specs.declared.source.TableText.{TableText};
+ghost use Rattle.rmt_check.specs.Parts.{ActionText, TableText};
 ghost use Rattle.rmt_check.specs.Names as words;
-ghost use Rattle.rmt_check.specs.Names.{number_of, field_place, is_field, named, width_of, header_names, action_names, table_names, ident_names, listed, listed_by, owner_of, params_of, selected};
+ghost use Rattle.rmt_ast.specs.NameList.{number_of};
+ghost use Rattle.rmt_check.specs.Names.{fields_of, field_place, is_field, named, width_at, width_of, header_names, action_names, table_names, ident_names, listed, listed_by, owner_of, params_of, selected};
 ghost use Rattle.rmt_check.specs.Standing.{named_at, owner_at};
 
-use crate::names::fields::{FIRST_HEADER, FieldKey, Fields, INTRINSIC, METADATA};
-use crate::names::numbers::Numbers;
+use crate::names::fields::{FIRST_HEADER, FieldKey, INTRINSIC, KnownField, METADATA};
 use crate::source::{ActionText, Declared, FieldText, HeaderText, Ident, OwnerText, Source};
+use indexmap::IndexMap;
+use rmt_ast::name_list::NameList;
 use rmt_bits::sequence::Sequence;
 use std::alloc::{AllocError, Global};
 use std::marker::Model;
@@ -18,32 +19,43 @@ use std::marker::Model;
 pub mod fields;
 pub mod labels;
 pub mod lists;
-pub mod numbers;
 pub mod params;
 
 /// The names that a program's text declares, for look-ups. Contracts see it as the text.
 #[derive(Drop)]
 pub struct Names<'a> {
     source: &'a Source,
-    fields: Fields<'a>,
-    headers: Numbers<'a>,
-    actions: Numbers<'a>,
-    tables: Numbers<'a>,
+    fields: Sequence<KnownField<'a>>,
+    field_numbers: IndexMap<FieldKey<'a>, usize>,
+    headers: NameList<'a>,
+    actions: NameList<'a>,
+    tables: NameList<'a>,
     /// Of each table, the actions of its list.
-    lists: Sequence<Numbers<'a>>,
+    lists: Sequence<NameList<'a>>,
     /// The list of a table that is none.
-    nothing: Numbers<'a>,
+    nothing: NameList<'a>,
 }
 
 impl<'a> Model for Names<'a> {
-    ghost use Rattle.rmt_check.specs.declared.source.Source.{Source};
-    ghost use Rattle.rmt_check.specs.Standing.{IsNames};
+    ghost use Rattle.rmt_check.specs.Parts.{Source};
+    ghost use Rattle.std.specs.Prelude.{◌≡◌, []};
+    ghost use Rattle.rmt_ast.specs.NameList.{HasNumbers};
+    ghost use Rattle.rmt_check.specs.Names.{fields_of, header_names, action_names, table_names};
+    ghost use Rattle.rmt_check.specs.Standing.{all_codes, list_names, stored};
 
     ghost Value = { Source };
 
     ghost view = { λ n. n.source.now };
 
-    ghost invariant = { IsNames };
+    ghost invariant = { λ n. record {
+      fields : n.fields ≡ fields_of n.source.now;
+      field_numbers : HasNumbers stored n.field_numbers.entries (all_codes n.fields);
+      headers : n.headers ≡ header_names n.source.now;
+      actions : n.actions ≡ action_names n.source.now;
+      tables : n.tables ≡ table_names n.source.now;
+      lists : n.lists ≡ list_names n.source.now.tables;
+      nothing : n.nothing ≡ [];
+    } };
 }
 
 impl<'a> Names<'a> {
@@ -51,15 +63,17 @@ impl<'a> Names<'a> {
     pub fn of(alloc: Global, source: &'a Source) -> Result<Names<'a>, AllocError>
         ensures names { IfOk result (λ n. n ≡ source.now) }
     {
-        let fields = Fields::of(alloc, source)?;
+        let fields = fields::known_fields(alloc, source)?;
+        let field_numbers = fields::first_places(alloc, fields.as_slice())?;
         let headers = lists::names_of(alloc, source.headers.as_slice())?;
         let actions = lists::names_of(alloc, source.actions.as_slice())?;
         let tables = lists::names_of(alloc, source.tables.as_slice())?;
         let lists = lists::lists(alloc, source.tables.as_slice())?;
-        let nothing = Numbers::of(alloc, Vec::new(alloc))?;
+        let nothing = NameList::of(alloc, Vec::new(alloc))?;
         Ok(Names {
             source,
             fields,
+            field_numbers,
             headers,
             actions,
             tables,
@@ -81,7 +95,24 @@ impl<'a> Names<'a> {
         ensures { owner_at result ≡ words.header_owner self.now name.now }
     {
         let headers = self.source.headers.as_slice();
-        FIRST_HEADER + self.header(name).unwrap_or(headers.len())
+        FIRST_HEADER + self.headers().number(name).unwrap_or(headers.len())
+    }
+
+    /// The fields by number.
+    pub fn fields(&self) -> &[KnownField<'a>]
+        ensures { result.now ≡ fields_of self.now }
+    {
+        self.fields.as_slice()
+    }
+
+    /// The width of a field by its number, and 0 for a number that is none.
+    fn width_at(&self, number: usize) -> u128
+        ensures { result ≡ width_at self.now number }
+    {
+        match self.fields().get(number) {
+            Some(field) => field.width(),
+            None => 0,
+        }
     }
 
     /// The number of a field's owner.
@@ -114,14 +145,17 @@ impl<'a> Names<'a> {
     pub fn field(&self, key: FieldKey<'_>) -> Option<usize>
         ensures { result ≡ field_place self.now (named_at key.entry) }
     {
-        self.fields.number(key)
+        self.field_numbers.get(&key).copied()
     }
 
     /// The width of the field with a key, and 0 for a key that is none.
     pub fn width(&self, key: FieldKey<'_>) -> u128
         ensures { result ≡ width_of self.now (named_at key.entry) }
     {
-        self.fields.width(key)
+        match self.field(key) {
+            Some(number) => self.width_at(number),
+            None => 0,
+        }
     }
 
     /// The width of a field that is named, and 0 where there is none.
@@ -131,43 +165,22 @@ impl<'a> Names<'a> {
         self.width(self.key(field))
     }
 
-    /// The number of a header.
-    pub fn header(&self, name: &[u8]) -> Option<usize>
-        ensures { result ≡ number_of (header_names self.now) name.now }
-    {
-        self.headers.number(name)
-    }
-
-    /// The number of an action.
-    pub fn action(&self, name: &[u8]) -> Option<usize>
-        ensures { result ≡ number_of (action_names self.now) name.now }
-    {
-        self.actions.number(name)
-    }
-
-    /// The number of a table.
-    pub fn table(&self, name: &[u8]) -> Option<usize>
-        ensures { result ≡ number_of (table_names self.now) name.now }
-    {
-        self.tables.number(name)
-    }
-
     /// The headers by name.
-    pub fn headers(&self) -> &Numbers<'a>
+    pub fn headers(&self) -> &NameList<'a>
         ensures { result.now ≡ header_names self.now }
     {
         &self.headers
     }
 
     /// The actions by name.
-    pub fn actions(&self) -> &Numbers<'a>
+    pub fn actions(&self) -> &NameList<'a>
         ensures { result.now ≡ action_names self.now }
     {
         &self.actions
     }
 
     /// The tables by name.
-    pub fn tables(&self) -> &Numbers<'a>
+    pub fn tables(&self) -> &NameList<'a>
         ensures { result.now ≡ table_names self.now }
     {
         &self.tables
@@ -181,7 +194,7 @@ impl<'a> Names<'a> {
     }
 
     /// The actions of the list of the first table of a name.
-    fn found_list(&self, table: &[u8]) -> Option<&Numbers<'a>>
+    fn found_list(&self, table: &[u8]) -> Option<&NameList<'a>>
         ensures { option_copied result ≡ option_map (λ (t : TableText). ident_names (listed t)) (find (λ (t : TableText). bytes_eq table.now t.ident.name) self.now.tables) }
     {
         match self.tables.number(table) {
@@ -191,27 +204,17 @@ impl<'a> Names<'a> {
     }
 
     /// The actions of a table's list by name, none for a name that is no table.
-    pub fn list(&self, table: &[u8]) -> &Numbers<'a>
+    pub fn list(&self, table: &[u8]) -> &NameList<'a>
         ensures { result.now ≡ ident_names (listed_by self.now table.now) }
     {
         self.found_list(table).unwrap_or(&self.nothing)
-    }
-
-    /// The number of an action in a table's list.
-    pub fn listed(&self, table: &[u8], action: &[u8]) -> Option<usize>
-        ensures { result ≡ number_of (ident_names (listed_by self.now table.now)) action.now }
-    {
-        self.list(table).number(action)
     }
 
     /// The first action of a name.
     pub fn action_text(&self, name: &[u8]) -> Option<&'a ActionText>
         ensures { option_copied result ≡ find (λ (a : ActionText). bytes_eq name.now a.ident.name) self.now.actions }
     {
-        match self.actions.number(name) {
-            Some(number) => self.source.actions.get(number),
-            None => None,
-        }
+        lists::first_named(&self.actions, &self.source.actions, name)
     }
 
     /// The parameters of an action, none for a name that is none.

@@ -3,20 +3,17 @@
 
 pub mod applied;
 pub mod arguments;
-pub mod control;
+pub mod assigned;
 pub mod counts;
 pub mod keys;
 pub mod later;
 pub mod name_twice;
-pub mod read_only;
 pub mod same_width;
-pub mod tails;
 pub mod unknown;
-pub mod wide_sums;
 pub mod widths;
 
 // What the rules share.
-pub mod placed;
+pub mod parts;
 pub mod places;
 pub mod repeats;
 pub mod search;

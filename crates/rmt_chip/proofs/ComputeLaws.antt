@@ -6,7 +6,7 @@ use Rattle.std.proofs.Math.Pow.{pow_mono}
 use Rattle.rmt_bits.specs.Words.{word_size}
 use Rattle.rmt_bits.specs.Bits.{slice, deposit}
 use Rattle.rmt_bits.proofs.BitLaws.{deposit-lt}
-use Rattle.rmt_config.specs.declared.config.OpKind.{OpKind}
+use Rattle.rmt_chip.specs.Types.{OpKind}
 use Rattle.rmt_config.specs.declared.config.OpKind.TheVariants as kind
 use Rattle.rmt_config.specs.Life.{computed}
 

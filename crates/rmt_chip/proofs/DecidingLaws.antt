@@ -10,10 +10,8 @@ use Rattle.std.proofs.lemmas.Option.{slice_get-get_or}
 use Rattle.rmt_bits.specs.Bits.{number_of}
 use Rattle.rmt_bits.specs.Counts.{Hit, counts}
 use Rattle.rmt_bits.specs.declared.answer.Count.{Count}
-use Rattle.rmt_config.specs.declared.config.Stage.{Stage}
-use Rattle.rmt_config.specs.declared.config.Unit.{Unit}
+use Rattle.rmt_chip.specs.Types.{Stage, Unit, SlotUnit}
 use Rattle.rmt_config.specs.declared.config.Unit.TheVariants.{Gate, Slot}
-use Rattle.rmt_config.specs.declared.config.SlotUnit.{SlotUnit}
 use Rattle.rmt_config.specs.Cells.{Found}
 use Rattle.rmt_config.specs.Life.{Look, Words, Acts, Running, Counted, unit_acts, slot_acts, code_at, runs}
 use Rattle.rmt_chip.specs.declared.looked.Looked.{Looked}

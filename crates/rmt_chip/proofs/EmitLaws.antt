@@ -3,7 +3,7 @@ use Rattle.std.proofs.Common.{◌≡◌, ℕ, zero, suc, ◌+◌, ◌<◌, ◌�
 use Rattle.std.proofs.lemmas.List.{length-append, length-take, append-nil}
 use Rattle.rmt_bits.specs.Bits.{bytes_of}
 use Rattle.rmt_chip.proofs.RunLaws.{length-bytes_of}
-use Rattle.rmt_config.specs.declared.config.OutHeader.{OutHeader}
+use Rattle.rmt_chip.specs.Types.{OutHeader}
 use Rattle.rmt_config.specs.Life.{Words, lane_of, key_of}
 use Rattle.rmt_config.specs.ChipRun.{header_bytes}
 use Rattle.rmt_chip.specs.Leaving.{headers_sent}

@@ -4,8 +4,7 @@ use Rattle.rmt_bits.specs.Bits.{number_of}
 use Rattle.rmt_bits.specs.Counts.{counts}
 use Rattle.rmt_bits.specs.declared.answer.Count.{Count}
 use Rattle.rmt_bits.specs.declared.lane.Lane.{Lane}
-use Rattle.rmt_config.specs.declared.config.UnitGuard.{UnitGuard}
-use Rattle.rmt_config.specs.declared.config.Vliw.{Vliw}
+use Rattle.rmt_chip.specs.Types.{UnitGuard, Vliw}
 use Rattle.rmt_config.specs.LaneForm.{bits_of_lanes}
 use Rattle.rmt_config.specs.Shapes.{divided_up}
 use Rattle.rmt_config.specs.Life.{guarded, runs, key_of}

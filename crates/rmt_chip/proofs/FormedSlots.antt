@@ -1,19 +1,13 @@
 -- The slots of a configuration that keeps the rules of form are ones whose memory can be laid out.
-use Rattle.std.proofs.Common.{◌≡◌, ℕ, ◌+◌, ◌*◌, ◌^◌, ◌<◌, List, [], ◌∷◌, get_or, map, true, subst, arith}
+use Rattle.std.proofs.Common.{◌≡◌, ℕ, ◌+◌, ◌*◌, ◌^◌, ◌<◌, List, [], ◌∷◌, get_or, map, true, arith}
 use Rattle.std.specs.Prelude.{All}
 use Rattle.std.specs.List.{list_all}
 use Rattle.std.proofs.lemmas.Bool.{and_parts, eqb-true, ltb-true}
-use Rattle.std.proofs.lemmas.List.{length-map, get_or-map}
 use Rattle.std.proofs.lemmas.List.Elements.{All-cons, All-head, All-tail}
 use Rattle.std.proofs.lemmas.List.Sums.{AllPass-from_list_all}
-use Rattle.rmt_bits.proofs.AllLaws.{All-left, All-right}
-use Rattle.rmt_config.specs.declared.config.Config.{Config}
-use Rattle.rmt_config.specs.declared.config.Stage.{Stage}
-use Rattle.rmt_config.specs.declared.config.TcamRow.{TcamRow}
-use Rattle.rmt_config.specs.declared.config.SlotUnit.{SlotUnit}
-use Rattle.rmt_config.specs.declared.config.Unit.{Unit as ChipUnit}
+use Rattle.rmt_bits.proofs.AllLaws.{All-left, All-right, All-unmap}
+use Rattle.rmt_chip.specs.Types.{Config, Stage, TcamRow, Unit as ChipUnit, SlotUnit, Memory}
 use Rattle.rmt_config.specs.declared.config.Unit.TheVariants.{Gate, Slot}
-use Rattle.rmt_config.specs.declared.config.Memory.{Memory}
 use Rattle.rmt_config.specs.declared.config.Memory.TheVariants.{Without, Exact, Ternary}
 use Rattle.rmt_config.specs.Order.{each_between}
 use Rattle.rmt_config.specs.UnitForm.{slot_head_is_formed, memory_is_formed, unit_is_formed}
@@ -54,11 +48,6 @@ ways-fit s (Exact k p d w ks rs cs) at h =
     let four : w ≡ 4 * at.parts = eqb-true w (4 * at.parts) at.follow in
     omega (arith, byte, four)
 ways-fit s (Ternary d ks rs cs) at h = tt
-
-all-unmap : {X Y : Type 0} (P : Y → Type 0) (f : X → Y) (xs : List X) → All P (map f xs) → All (λ x. P (f x)) xs
-all-unmap P f xs h = λ k d lt.
-    let size = length-map xs f in
-    subst P (get_or-map f xs k d (f d) lt) (h k (f d) (omega (arith, size, lt)))
 
 -- ---- the slots of a stage
 
@@ -106,7 +95,7 @@ stages-formed k (stage ∷ stages) items rows holds follow =
     let r = and_parts (rows_are_formed stage) (list_all rows_are_formed stages) rows in
     let place : ChipUnit → Placed = λ u. record { stage = k; unit = u } in
     let P : Placed → Type 0 = λ x. Follows x.unit in
-    let own = all-unmap P place stage.units (All-left P (map place stage.units) (placed_from (k + 1) stages) follow) in
+    let own = All-unmap P place stage.units (All-left P (map place stage.units) (placed_from (k + 1) stages) follow) in
     let later = All-right P (map place stage.units) (placed_from (k + 1) stages) follow in
     All-cons (λ (x : Stage). All (UnitFormed x) x.units) stage stages
     (stage-formed stage i.0 r.0 (All-head StageHolds stage stages holds) own)

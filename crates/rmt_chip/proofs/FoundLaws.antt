@@ -10,14 +10,10 @@ use Rattle.rmt_bits.specs.Bits.{bytes_of, number_of}
 use Rattle.rmt_bits.specs.Hash.{hash_row}
 use Rattle.rmt_bits.proofs.BitLaws.{slice-lt}
 use Rattle.rmt_bits.proofs.ByteLaws.{AreBytes, bytes_of-number_of}
-use Rattle.rmt_config.specs.declared.config.Stage.{Stage}
-use Rattle.rmt_config.specs.declared.config.SlotUnit.{SlotUnit}
-use Rattle.rmt_config.specs.declared.config.CellNumber.{CellNumber}
-use Rattle.rmt_config.specs.declared.config.Memory.{Memory}
+use Rattle.rmt_chip.specs.Types.{Stage, TcamRow, SlotUnit, CellNumber, Memory}
 use Rattle.rmt_config.specs.declared.config.Memory.TheVariants.{Without, Exact, Ternary}
 use Rattle.rmt_config.specs.LaneForm.{bits_of_lanes}
 use Rattle.rmt_config.specs.Shapes.{divided_up}
-use Rattle.rmt_config.specs.declared.config.TcamRow.{TcamRow}
 use Rattle.rmt_config.specs.StageForm.{trow_number}
 use Rattle.rmt_config.specs.Layouts.{ternary_keys}
 use Rattle.rmt_config.specs.Cells.{Content, content_of, tcam_row, blocks_at, candidates, has_key, is_seen, found_in, look_up}

@@ -5,7 +5,7 @@ use Rattle.std.proofs.Common.{Vec, Global}
 use Rattle.std.proofs.Math.Path.{fun_ext}
 use Rattle.std.proofs.lemmas.List.{get_or_default}
 use Rattle.std.proofs.lemmas.Bool.{cases_lt, cases_eq}
-use Rattle.rmt_config.specs.declared.config.Stage.{Stage}
+use Rattle.rmt_chip.specs.Types.{Stage}
 use Rattle.rmt_config.specs.Life.{Look, Words, Acts, Running, life_of, acts_of, word_after}
 use Rattle.rmt_chip.specs.declared.place.Place.{Place}
 use Rattle.rmt_chip.specs.declared.pending.Pending.{Pending}

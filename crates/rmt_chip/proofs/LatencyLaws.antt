@@ -1,6 +1,6 @@
 -- The age at which packets leave.
 use Rattle.std.proofs.Common.{◌≡◌, suc, ◌+◌, ◌-◌, ◌<◌, ◌≤◌, List, [], ◌∷◌, length, get_or, refl, sym, ap, ◌∙◌, arith}
-use Rattle.rmt_config.specs.declared.config.Stage.{Stage}
+use Rattle.rmt_chip.specs.Types.{Stage}
 use Rattle.rmt_config.specs.ChipRun.{latency_of}
 use Rattle.rmt_chip.specs.Runnable.{start_of, StagesFit}
 use Rattle.rmt_chip.proofs.LifeLaws.{start_of-get}

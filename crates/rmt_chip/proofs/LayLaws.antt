@@ -8,9 +8,7 @@ use Rattle.std.proofs.lemmas.Nat.{shr_below, div_below, mul-le}
 use Rattle.std.proofs.Math.Nat.{mod-eq_of_lt, div-one}
 use Rattle.rmt_bits.specs.Bits.{slice}
 use Rattle.rmt_bits.proofs.BitLaws.{slice-lt}
-use Rattle.rmt_config.specs.declared.config.SramRow.{SramRow}
-use Rattle.rmt_config.specs.declared.config.TcamRow.{TcamRow}
-use Rattle.rmt_config.specs.declared.config.CellNumber.{CellNumber}
+use Rattle.rmt_chip.specs.Types.{SramRow, TcamRow, CellNumber}
 use Rattle.rmt_config.specs.declared.form.layout.Layout.{Layout}
 use Rattle.rmt_config.specs.Shapes.{divided_up}
 use Rattle.rmt_config.specs.Cells.{sram_row, tcam_row, blocks_at, cell_of, entry_at, unit_row, row_record, Content}

@@ -1,8 +1,7 @@
 -- What a stage keeps for a packet has room.
 use Rattle.std.proofs.Common.{◌≡◌, ◌≢◌, ℕ, zero, suc, set, Option, Some, Vec, Global, refl, ⊎_elim, ◌⊎◌, inl, inr, ◌++◌, ◌<◌, ◌≤◌, List, [], ◌∷◌, length, get_or, All, sym, ap, ◌∙◌, subst, arith}
 use Rattle.std.specs.Prelude.{slice_index, slice_get, option_map, unwrap_or}
-use Rattle.rmt_config.specs.declared.config.Stage.{Stage}
-use Rattle.rmt_config.specs.declared.config.Unit.{Unit}
+use Rattle.rmt_chip.specs.Types.{Stage, Unit}
 use Rattle.rmt_config.specs.declared.config.Unit.TheVariants.{Gate, Slot}
 use Rattle.rmt_config.specs.Life.{Look}
 use Rattle.std.proofs.lemmas.Bool.{cases_eq}

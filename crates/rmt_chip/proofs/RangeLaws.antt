@@ -6,7 +6,7 @@ use Rattle.std.proofs.lemmas.Bool.{cases_lt, cases_eq, false_from_ne_true, eqb-t
 use Rattle.std.proofs.lemmas.List.Folds.{find_at}
 use Rattle.std.proofs.lemmas.List.Sums.{position_or_len_is}
 use Rattle.std.proofs.lemmas.Option.{slice_get-get_or}
-use Rattle.rmt_config.specs.declared.config.CellNumber.{CellNumber}
+use Rattle.rmt_chip.specs.Types.{CellNumber}
 use Rattle.rmt_config.specs.Order.{rises_from}
 use Rattle.rmt_config.specs.StageForm.{is_listed}
 use Rattle.rmt_config.specs.Cells.{number_of_cell}

@@ -8,8 +8,7 @@ use Rattle.rmt_bits.specs.Bits.{slice, bytes_of}
 use Rattle.rmt_config.specs.declared.form.layout.Layout.{Layout}
 use Rattle.rmt_config.specs.Layouts.{IsLayout, position_of}
 use Rattle.rmt_bits.proofs.BitLaws.{mod-low, slice-lt}
-use Rattle.rmt_config.specs.declared.config.SramRow.{SramRow}
-use Rattle.rmt_config.specs.declared.config.TcamRow.{TcamRow}
+use Rattle.rmt_chip.specs.Types.{SramRow, TcamRow}
 use Rattle.rmt_config.specs.Order.{rises_from}
 use Rattle.rmt_config.specs.StageForm.{trow_number}
 use Rattle.rmt_config.specs.Cells.{sram_row, tcam_row, unit_row}

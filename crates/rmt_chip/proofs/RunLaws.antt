@@ -8,7 +8,7 @@ use Rattle.std.proofs.Math.Seq.{take-append_seam, drop-append-add}
 use Rattle.std.proofs.lemmas.Nat.{div-add-mod', div_below, pow-add}
 use Rattle.rmt_bits.specs.Bits.{bytes_of, number_of}
 use Rattle.rmt_bits.proofs.ByteLaws.{number_of_push}
-use Rattle.rmt_config.specs.declared.config.CellNumber.{CellNumber}
+use Rattle.rmt_chip.specs.Types.{CellNumber}
 use Rattle.rmt_chip.specs.Laying.{runs_of}
 
 pub length-bytes_of : (count n : ℕ) → length (bytes_of count n) ≡ count

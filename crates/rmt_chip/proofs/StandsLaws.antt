@@ -4,7 +4,7 @@ use Rattle.std.specs.Prelude.{IsTrue, is_some, is_none, slice_index}
 use Rattle.rmt_config.specs.Limits.{limit_hit, IsWithinLimits}
 use Rattle.rmt_bits.specs.Packet.{Packet}
 use Rattle.rmt_bits.specs.declared.answer.Verdict.{Verdict}
-use Rattle.rmt_config.specs.declared.config.Config.{Config}
+use Rattle.rmt_chip.specs.Types.{Config}
 use Rattle.rmt_config.specs.Life.{Look}
 use Rattle.rmt_config.specs.Parser.{Parse, Short, Reject, Accept, parse}
 use Rattle.rmt_config.specs.ChipRun.{own_look, answer_at, latency_of, words_from}

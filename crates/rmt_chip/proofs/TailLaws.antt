@@ -4,10 +4,7 @@ use Rattle.std.specs.Prelude.{slice_get, replicate, drop, take}
 use Rattle.std.proofs.lemmas.Bool.{cases_lt, lt-ltb, le-ltb}
 use Rattle.std.proofs.lemmas.List.Sums.{sum_by-cons}
 use Rattle.rmt_bits.proofs.AllLaws.{All-slice_get}
-use Rattle.rmt_config.specs.declared.config.ParserConfig.{ParserConfig}
-use Rattle.rmt_config.specs.declared.config.ParserEntry.{ParserEntry}
-use Rattle.rmt_config.specs.declared.config.TailOf.{TailOf}
-use Rattle.rmt_config.specs.declared.config.Next.{Next}
+use Rattle.rmt_chip.specs.Types.{ParserConfig, ParserEntry, Next, TailOf}
 use Rattle.rmt_config.specs.declared.config.Next.TheVariants as next
 use Rattle.rmt_config.specs.declared.tails.TailAt.{TailAt}
 use Rattle.rmt_config.specs.Parser.{Parse, Reached, Short, Reject, Accept, parse, parse_from, taken, step, past_tail, past_length, behind, behind_tail, follow, tail_of, entry_of, value_at, begin, no_tail}

@@ -11,11 +11,8 @@ use Rattle.rmt_bits.proofs.ListLaws.{slice_get-item}
 use Rattle.rmt_bits.specs.Packet.{Packet}
 use Rattle.rmt_bits.specs.Counts.{Hit, count_for, counts, in_order}
 use Rattle.rmt_bits.specs.declared.answer.Count.{Count}
-use Rattle.rmt_config.specs.declared.config.Config.{Config}
-use Rattle.rmt_config.specs.declared.config.Stage.{Stage}
-use Rattle.rmt_config.specs.declared.config.Unit.{Unit as ChipUnit}
+use Rattle.rmt_chip.specs.Types.{Config, Stage, Unit as ChipUnit, SlotUnit}
 use Rattle.rmt_config.specs.declared.config.Unit.TheVariants.{Gate, Slot}
-use Rattle.rmt_config.specs.declared.config.SlotUnit.{SlotUnit}
 use Rattle.rmt_config.specs.Cells.{Found}
 use Rattle.rmt_config.specs.Parser.{Parse, Reached, Short, Reject, Accept, parse, put}
 use Rattle.rmt_config.specs.Life.{Look, Words, Life, Acts, Counted, lane_of, life_of, unit_acts, slot_acts, looked_up, runs}

@@ -3,7 +3,7 @@ use Rattle.std.proofs.Common.{◌≡◌, ℕ, ◌+◌, ◌%◌, ◌<◌, ◌≤�
 use Rattle.rmt_bits.specs.Packet.{Packet}
 use Rattle.rmt_bits.specs.declared.answer.Count.{Count}
 use Rattle.rmt_bits.specs.declared.answer.Verdict.{Verdict}
-use Rattle.rmt_config.specs.declared.config.Config.{Config}
+use Rattle.rmt_chip.specs.Types.{Config}
 use Rattle.rmt_config.specs.Life.{Look}
 use Rattle.rmt_config.specs.ChipRun.{Outcome, own_look, answer_at, latency_of}
 use Rattle.rmt_chip.specs.declared.frame.Frame.{Frame}

@@ -1,6 +1,6 @@
 -- What the rows of a ternary part compare, read from the rows of its blocks.
 use Rattle.std.specs.Prelude.{ℕ, ◌/◌, ◌%◌, List, map}
-use Rattle.rmt_config.specs.declared.config.TcamRow.{TcamRow}
+use Rattle.rmt_chip.specs.Types.{TcamRow}
 use Rattle.rmt_config.specs.Cells.{tcam_row, blocks_at}
 use Rattle.rmt_chip.specs.Grouping.{Compared}
 

@@ -2,8 +2,7 @@
 use Rattle.std.specs.Prelude.{ℕ, zero, suc, ◌+◌, List, [], ◌++◌, length, Option, Some, None, slice_get}
 use Rattle.rmt_bits.specs.Packet.{Packet}
 use Rattle.rmt_bits.specs.Counts.{Hit}
-use Rattle.rmt_config.specs.declared.config.Config.{Config}
-use Rattle.rmt_config.specs.declared.config.Stage.{Stage}
+use Rattle.rmt_chip.specs.Types.{Config, Stage}
 use Rattle.rmt_config.specs.Life.{Look}
 use Rattle.rmt_config.specs.Parser.{Parse, Short, Reject, Accept, parse, put}
 use Rattle.rmt_chip.specs.Counting.{hits_made}

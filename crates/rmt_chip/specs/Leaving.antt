@@ -3,8 +3,7 @@ use Rattle.std.specs.Prelude.{◌≡◌, ℕ, List, [], map, drop, Option, Some,
 use Rattle.std.specs.List.{flat_map, zip}
 use Rattle.rmt_bits.specs.declared.answer.Verdict.{Verdict}
 use Rattle.rmt_bits.specs.declared.answer.Verdict.TheVariants as verdict
-use Rattle.rmt_config.specs.declared.config.Config.{Config}
-use Rattle.rmt_config.specs.declared.config.OutHeader.{OutHeader}
+use Rattle.rmt_chip.specs.Types.{Config, OutHeader}
 use Rattle.rmt_config.specs.Life.{Words, Life}
 use Rattle.rmt_config.specs.ChipRun.{Outcome, header_bytes, tail_bytes, finished}
 use Rattle.rmt_ptcam.specs.declared.parse.Parsed.{Parsed}

@@ -1,3 +1,4 @@
+pub mod Types
 pub mod Runnable
 pub mod Writes
 pub mod Lives

@@ -1,6 +1,6 @@
 -- A packet's life up to some stage.
 use Rattle.std.specs.Prelude.{ℕ, List, take}
-use Rattle.rmt_config.specs.declared.config.Stage.{Stage}
+use Rattle.rmt_chip.specs.Types.{Stage}
 use Rattle.rmt_config.specs.Life.{Look, Life, Acts, life_of, acts_of}
 
 -- the life through the first n stages

@@ -1,8 +1,7 @@
 -- What a unit read for a packet, against what the definitions find.
 use Rattle.std.specs.Prelude.{◌≡◌, ℕ, ◌<◌, true, false, List, length, Option, Some, None, slice_index_or}
 use Rattle.rmt_bits.specs.Bits.{number_of}
-use Rattle.rmt_config.specs.declared.config.Stage.{Stage}
-use Rattle.rmt_config.specs.declared.config.Unit.{Unit}
+use Rattle.rmt_chip.specs.Types.{Stage, Unit}
 use Rattle.rmt_config.specs.declared.config.Unit.TheVariants.{Gate, Slot}
 use Rattle.rmt_config.specs.Cells.{Found}
 use Rattle.rmt_config.specs.Shapes.{divided_up}

@@ -1,13 +1,8 @@
 -- The memory of a slot laid out for reading, against the slot's cells.
 use Rattle.std.specs.Prelude.{◌≡◌, ℕ, ◌+◌, ◌*◌, ◌^◌, ◌<◌, List, length, map, true, All, Option, None}
 use Rattle.rmt_bits.specs.Bits.{number_of}
-use Rattle.rmt_config.specs.declared.config.Stage.{Stage}
-use Rattle.rmt_config.specs.declared.config.TcamRow.{TcamRow}
-use Rattle.rmt_config.specs.declared.config.Unit.{Unit as ChipUnit}
+use Rattle.rmt_chip.specs.Types.{Stage, TcamRow, Unit as ChipUnit, SlotUnit, CellNumber, Memory}
 use Rattle.rmt_config.specs.declared.config.Unit.TheVariants.{Gate, Slot}
-use Rattle.rmt_config.specs.declared.config.SlotUnit.{SlotUnit}
-use Rattle.rmt_config.specs.declared.config.CellNumber.{CellNumber}
-use Rattle.rmt_config.specs.declared.config.Memory.{Memory}
 use Rattle.rmt_config.specs.declared.config.Memory.TheVariants.{Without, Exact, Ternary}
 use Rattle.rmt_config.specs.LaneForm.{bits_of_lanes}
 use Rattle.rmt_config.specs.Order.{rises_from}

@@ -1,6 +1,6 @@
 -- Room for what the stages read for a packet.
 use Rattle.std.specs.Prelude.{◌≡◌, ℕ, ◌*◌, ◌≤◌, List, [], length, Some, option_map, unwrap_or, slice_get, vec_len, vec_capacity}
-use Rattle.rmt_config.specs.declared.config.Stage.{Stage}
+use Rattle.rmt_chip.specs.Types.{Stage}
 use Rattle.rmt_chip.specs.declared.pending.Pending.{Pending}
 use Rattle.rmt_chip.specs.declared.looked.Looked.{Looked}
 use Rattle.rmt_chip.specs.declared.ran.Ran.{Ran}

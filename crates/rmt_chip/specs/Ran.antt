@@ -3,9 +3,7 @@ use Rattle.std.specs.Prelude.{◌≡◌, ℕ, ◌+◌, ◌++◌, if◌then◌els
 use Rattle.rmt_bits.specs.Bits.{number_of}
 use Rattle.rmt_bits.specs.Counts.{Hit, counts}
 use Rattle.rmt_bits.specs.declared.answer.Count.{Count}
-use Rattle.rmt_config.specs.declared.config.Vliw.{Vliw}
-use Rattle.rmt_config.specs.declared.config.Stage.{Stage}
-use Rattle.rmt_config.specs.declared.config.Unit.{Unit}
+use Rattle.rmt_chip.specs.Types.{Stage, Unit, Vliw}
 use Rattle.rmt_config.specs.declared.config.Unit.TheVariants.{Gate, Slot}
 use Rattle.rmt_config.specs.Life.{Running, Acts}
 use Rattle.rmt_chip.specs.declared.looked.Looked.{Looked}

@@ -1,8 +1,7 @@
 -- The memories of all stages.
 use Rattle.std.specs.Prelude.{◌≡◌, ℕ, List, length, Some, slice_get, Vec}
-use Rattle.rmt_config.specs.declared.config.Stage.{Stage}
+use Rattle.rmt_chip.specs.Types.{Stage, SlotUnit}
 use Rattle.rmt_chip.specs.declared.memory.SlotMemory.{SlotMemory}
-use Rattle.rmt_config.specs.declared.config.SlotUnit.{SlotUnit}
 use Rattle.rmt_config.specs.declared.config.Unit.TheVariants.{Slot}
 use Rattle.rmt_chip.specs.Memories.{SlotFormed}
 use Rattle.rmt_chip.specs.Memory.{MemoriesFit, AllLaid}

@@ -2,7 +2,7 @@
 use Rattle.std.specs.Prelude.{◌≡◌, ℕ, List, Option}
 use Rattle.rmt_bits.specs.Packet.{Packet}
 use Rattle.rmt_bits.specs.declared.answer.Count.{Count}
-use Rattle.rmt_config.specs.declared.config.Config.{Config}
+use Rattle.rmt_chip.specs.Types.{Config}
 use Rattle.rmt_config.specs.ChipRun.{own_look, chip_counts_of}
 use Rattle.rmt_chip.specs.declared.place.Place.{Place}
 use Rattle.rmt_chip.specs.Inputs.{entered_at}

@@ -1,7 +1,7 @@
 -- What a chip stands for.
 use Rattle.std.specs.Prelude.{◌≡◌, ℕ, nat_le, if◌then◌else◌, List, Option, Some, None, reverse, slice_index}
 use Rattle.rmt_bits.specs.Packet.{Packet}
-use Rattle.rmt_config.specs.declared.config.Config.{Config}
+use Rattle.rmt_chip.specs.Types.{Config}
 use Rattle.rmt_config.specs.ChipRun.{own_look, latency_of, words_at}
 use Rattle.rmt_chip.specs.declared.chip.Chip.{Chip}
 use Rattle.rmt_chip.specs.declared.seen.Seen.{Seen}

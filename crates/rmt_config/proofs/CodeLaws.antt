@@ -4,8 +4,7 @@ use Rattle.std.specs.Prelude.{replicate}
 use Rattle.std.specs.List.{list_all}
 use Rattle.std.proofs.Math.Bool.{and_assoc, and-true}
 use Rattle.std.proofs.Math.Seq.{drop-cons}
-use Rattle.rmt_config.specs.declared.config.Vliw.{Vliw}
-use Rattle.rmt_config.specs.declared.config.Unit.{Unit}
+use Rattle.rmt_config.specs.Types.{Unit, Vliw}
 use Rattle.rmt_config.specs.declared.form.code.Place.{Place}
 use Rattle.rmt_config.specs.CodeForm.{unit_places, places_of, vliw_is_formed, code_is_formed}
 

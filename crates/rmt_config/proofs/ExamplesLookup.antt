@@ -2,10 +2,8 @@
 use Rattle.std.specs.Prelude.{◌≡◌, ℕ, ◌+◌, ◌*◌, ◌^◌, Bool, List, [], ◌∷◌, ◌++◌, Some, None, true, false, replicate, refl}
 use Rattle.std.specs.List.{range_with_len}
 use Rattle.rmt_bits.specs.declared.answer.Verdict.TheVariants as verdict
-use Rattle.rmt_config.specs.declared.config.Config.{Config}
-use Rattle.rmt_config.specs.declared.config.Unit.{Unit}
+use Rattle.rmt_config.specs.Types.{Config, Unit, CellNumber}
 use Rattle.rmt_config.specs.declared.config.Unit.TheVariants.{Gate, Slot}
-use Rattle.rmt_config.specs.declared.config.CellNumber.{CellNumber}
 use Rattle.rmt_config.specs.declared.config.Memory.TheVariants.{Exact, Ternary}
 use Rattle.rmt_config.specs.declared.config.Extract.TheVariants.{Bits}
 use Rattle.rmt_config.specs.declared.config.Source.TheVariants.{Word, Held, Constant}

@@ -3,19 +3,12 @@ use Rattle.std.specs.Prelude.{ℕ, List, [], ◌∷◌, Option, true, false}
 use Rattle.rmt_bits.specs.Packet.{Packet}
 use Rattle.rmt_bits.specs.declared.lane.Lane.{Lane}
 use Rattle.rmt_bits.specs.declared.answer.Verdict.TheVariants as verdict
-use Rattle.rmt_config.specs.declared.config.Config.{Config}
+use Rattle.rmt_config.specs.Types.{Config, Extract, Stage, Unit, UnitGuard, Vliw, Operation, Source}
 use Rattle.rmt_config.specs.declared.config.Next.TheVariants as next
-use Rattle.rmt_config.specs.declared.config.Extract.{Extract}
 use Rattle.rmt_config.specs.declared.config.Extract.TheVariants.{Bits, One}
-use Rattle.rmt_config.specs.declared.config.Stage.{Stage}
-use Rattle.rmt_config.specs.declared.config.Unit.{Unit}
 use Rattle.rmt_config.specs.declared.config.Unit.TheVariants.{Slot}
-use Rattle.rmt_config.specs.declared.config.UnitGuard.{UnitGuard}
 use Rattle.rmt_config.specs.declared.config.Memory.TheVariants.{Without}
-use Rattle.rmt_config.specs.declared.config.Vliw.{Vliw}
-use Rattle.rmt_config.specs.declared.config.Operation.{Operation}
 use Rattle.rmt_config.specs.declared.config.OpKind.TheVariants as kind
-use Rattle.rmt_config.specs.declared.config.Source.{Source}
 use Rattle.rmt_config.specs.declared.config.Source.TheVariants.{Constant}
 use Rattle.rmt_config.specs.ChipRun.{Outcome}
 use Rattle.rmt_config.specs.Life.{Counted}

@@ -1,7 +1,7 @@
 -- Images that are known byte by byte: one header of a byte, and one table that sends each packet to port 1.
 use Rattle.std.specs.Prelude.{◌≡◌, [], ◌∷◌, None, true, false, length, refl}
 use Rattle.rmt_bits.specs.declared.lane.Lane.{Lane}
-use Rattle.rmt_config.specs.declared.config.Config.{Config}
+use Rattle.rmt_config.specs.Types.{Config}
 use Rattle.rmt_config.specs.declared.config.Next.TheVariants as next
 use Rattle.rmt_config.specs.declared.config.Extract.TheVariants.{Bits, One}
 use Rattle.rmt_config.specs.declared.config.Unit.TheVariants.{Slot}

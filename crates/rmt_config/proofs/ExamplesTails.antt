@@ -1,8 +1,7 @@
 -- Parsers with tails, and packets that are sent with them.
 use Rattle.std.specs.Prelude.{◌≡◌, ℕ, List, [], ◌∷◌, ◌++◌, Some, None, false, replicate, refl}
 use Rattle.rmt_bits.specs.declared.answer.Verdict.TheVariants as verdict
-use Rattle.rmt_config.specs.declared.config.Config.{Config}
-use Rattle.rmt_config.specs.declared.config.TailOf.{TailOf}
+use Rattle.rmt_config.specs.Types.{Config, TailOf}
 use Rattle.rmt_config.specs.declared.config.Next.TheVariants as next
 use Rattle.rmt_config.specs.declared.config.Extract.TheVariants.{Bits, One}
 use Rattle.rmt_config.specs.Parser.{parse, entry_of, tail_of, tail_length, no_tail, Accept, Reject, Short}

@@ -5,7 +5,7 @@ use Rattle.std.proofs.lemmas.Bool.{cases_order}
 use Rattle.std.proofs.lemmas.Nat.{same_from_place, div-add-mod', mod_below}
 use Rattle.std.proofs.lemmas.List.{length-take, length-drop, get_or-take, get_or-drop}
 use Rattle.rmt_bits.specs.Bits.{slice}
-use Rattle.rmt_config.specs.declared.config.SramRow.{SramRow}
+use Rattle.rmt_config.specs.Types.{SramRow}
 use Rattle.rmt_config.specs.Order.{rises_from}
 use Rattle.rmt_config.specs.StageForm.{srow_number}
 use Rattle.rmt_config.specs.Cells.{sram_row, unit_row, blocks_at}

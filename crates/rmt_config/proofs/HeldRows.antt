@@ -1,5 +1,5 @@
 -- What blocks hold, by rows in rising order.
-use Rattle.std.proofs.Common.{◌≡◌, ℕ, zero, suc, ◌+◌, ◌*◌, ◌/◌, ◌%◌, ◌^◌, ◌<◌, List, [], ◌∷◌, length, get_or, map, Bool, true, false, ◌&&◌, cond, eqb, Some, None, sym, refl, ap, ◌∙◌, subst, arith, inl, inr}
+use Rattle.std.proofs.Common.{◌≡◌, ℕ, zero, suc, ◌+◌, ◌*◌, ◌/◌, ◌%◌, ◌^◌, ◌<◌, List, [], ◌∷◌, length, get_or, map, Bool, true, false, ◌&&◌, cond, eqb, Some, sym, refl, ap, ◌∙◌, subst, arith, inl, inr}
 use Rattle.std.specs.Prelude.{All, find, option_map, unwrap_or, slice_get}
 use Rattle.std.proofs.lemmas.Bool.{cases_Bool, and_parts, and_from, eqb-true, eq-eqb, false_from_ne_true}
 use Rattle.std.proofs.lemmas.Nat.{div-mul-add, mod-mul-add, pow_pos}
@@ -9,10 +9,11 @@ use Rattle.std.proofs.lemmas.List.Sums.{position_or_len_is}
 use Rattle.rmt_config.specs.declared.form.layout.Layout.{Layout}
 use Rattle.rmt_config.specs.Order.{rises_from}
 use Rattle.rmt_config.specs.Cells.{Blocks, sram_row}
-use Rattle.rmt_config.specs.declared.config.SramRow.{SramRow}
+use Rattle.rmt_config.specs.Types.{SramRow}
 use Rattle.rmt_config.proofs.UnitBits.{Within}
 use Rattle.rmt_config.proofs.RiseLaws.{rise-below}
 use Rattle.rmt_config.proofs.ToldBits.{Agrees}
+use Rattle.rmt_bits.proofs.ListLaws.{find-none}
 
 -- the first item of that block and row, and what it says
 abbrev pub stands : {X : Type 0} → (X → ℕ) → (X → ℕ) → ℕ → ℕ → X → Bool
@@ -49,11 +50,6 @@ found-item {X} fb fr val num h xs k d is rise lt b r eb er =
         is (get_or xs j d) ∙ ap (λ n. h * n + fr (get_or xs j d)) e1 ∙ ap (λ n. h * fb (get_or xs k d) + n) e2 ∙ sym (is (get_or xs k d)) in
         let below = rise-below num 0 xs rise j k d less lt in
         absurd (omega (arith, e, below)))
-
-find-none : {X : Type 0} (p : X → Bool) (xs : List X) → All (λ x. p x ≡ false) xs → find p xs ≡ None
-find-none p [] h = refl
-find-none p (x ∷ xs) h =
-    ap (λ b. cond b (Some x) (find p xs)) (All-head (λ x. p x ≡ false) x xs h) ∙ find-none p xs (All-tail (λ x. p x ≡ false) x xs h)
 
 pub found-none : {X : Type 0} (fb fr val : X → ℕ) (xs : List X) (b r : ℕ) → All (λ x. fb x ≡ b → fr x ≡ r → ⊥) xs → held_of fb fr val xs b r ≡ 0
 found-none fb fr val xs b r none =

@@ -6,8 +6,7 @@ use Rattle.std.proofs.lemmas.List.{map_more, take_more, take_all, flat_map_more,
 use Rattle.std.proofs.lemmas.List.Folds.{list_any-append, list_all-append}
 use Rattle.std.proofs.lemmas.List.Sums.{sum_by-append, sum_by-cons, position_or_len_is}
 use Rattle.std.proofs.lemmas.List.FromFn.{length-range_with_len, get_or-range_with_len}
-use Rattle.rmt_config.specs.declared.config.Stage.{Stage}
-use Rattle.rmt_config.specs.declared.config.Unit.{Unit}
+use Rattle.rmt_config.specs.Types.{Stage, Unit}
 use Rattle.rmt_config.specs.TableForm.{node_of}
 use Rattle.rmt_config.specs.Resources.{is_in, distinct, times_in, most_listed, node_numbers, node_count}
 use Rattle.rmt_config.specs.Limits.{told, crowded_stage}

@@ -3,11 +3,7 @@ use Rattle.std.proofs.Common.{◌≡◌, ℕ, ◌*◌, ◌/◌, ◌%◌, List, l
 use Rattle.std.specs.Prelude.{◌↔◌, IsTrue}
 use Rattle.std.proofs.lemmas.Bool.{false≢true}
 use Rattle.rmt_config.specs.declared.form.layout.Layout.{Layout}
-use Rattle.rmt_config.specs.declared.config.Stage.{Stage}
-use Rattle.rmt_config.specs.declared.config.SlotUnit.{SlotUnit}
-use Rattle.rmt_config.specs.declared.config.SramRow.{SramRow}
-use Rattle.rmt_config.specs.declared.config.TcamRow.{TcamRow}
-use Rattle.rmt_config.specs.declared.config.CellNumber.{CellNumber}
+use Rattle.rmt_config.specs.Types.{Stage, SramRow, TcamRow, SlotUnit, CellNumber}
 use Rattle.rmt_config.specs.StageForm.{srow_number, trow_number}
 use Rattle.rmt_config.specs.Shapes.{record_width, record_units}
 use Rattle.rmt_config.specs.Cells.{sram_row}

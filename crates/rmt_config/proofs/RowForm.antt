@@ -4,9 +4,7 @@ use Rattle.std.specs.Prelude.{bit_and}
 use Rattle.std.specs.List.{list_all, flat_map}
 use Rattle.std.proofs.lemmas.Bool.{and_from, lt-ltb, ne_eqb, eq-eqb, or_cases, both_ways, not_from_false}
 use Rattle.std.proofs.lemmas.List.{get_or-replicate}
-use Rattle.rmt_config.specs.declared.config.Unit.{Unit}
-use Rattle.rmt_config.specs.declared.config.SramRow.{SramRow}
-use Rattle.rmt_config.specs.declared.config.TcamRow.{TcamRow}
+use Rattle.rmt_config.specs.Types.{SramRow, TcamRow, Unit}
 use Rattle.rmt_config.specs.StageForm.{is_listed, sram_blocks, tcam_blocks, srow_is_formed, trow_is_formed}
 use Rattle.rmt_config.proofs.RiseLaws.{one_off}
 

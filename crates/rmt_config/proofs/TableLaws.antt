@@ -6,14 +6,10 @@ use Rattle.std.proofs.lemmas.List.{get_or-replicate}
 use Rattle.std.proofs.lemmas.List.Sums.{sum_by-cons}
 use Rattle.std.proofs.Math.Seq.{drop-cons}
 use Rattle.rmt_bits.specs.declared.lane.Lane.{Lane}
-use Rattle.rmt_config.specs.declared.config.Unit.{Unit}
+use Rattle.rmt_config.specs.Types.{Stage, Unit, GateUnit, UnitGuard, SlotUnit}
 use Rattle.rmt_config.specs.declared.config.Unit.TheVariants.{Gate, Slot}
-use Rattle.rmt_config.specs.declared.config.GateUnit.{GateUnit}
-use Rattle.rmt_config.specs.declared.config.SlotUnit.{SlotUnit}
-use Rattle.rmt_config.specs.declared.config.UnitGuard.{UnitGuard}
 use Rattle.rmt_config.specs.Order.{each_between}
 use Rattle.rmt_config.specs.TableForm.{Placed, node_of, guard_of, has_node, is_among, guard_stands, same_flag, same_lane, same_lanes, follows_part, ways_follow, unit_stands, placed_from}
-use Rattle.rmt_config.specs.declared.config.Stage.{Stage}
 use Rattle.rmt_config.specs.declared.form.tables.Part.{Part}
 use Rattle.rmt_config.specs.declared.form.tables.Nodes.{Nodes}
 use Rattle.rmt_config.specs.NodesKnown.{placed_of, so_far_of, left_of, last_of, Knows}

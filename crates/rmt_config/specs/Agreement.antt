@@ -1,5 +1,5 @@
 -- When a parser agrees with the walk of a program's parse graph.
-use Rattle.std.specs.Prelude.{◌≡◌, ◌≢◌, ◌<◌, ◌≤◌, ◌⊎◌, ◌*◌, ◌^◌, ⊤, ℕ, ◌+◌, List, [], ◌∷◌, All, slice_index, slice_index_or, slice_set, length}
+use Rattle.std.specs.Prelude.{◌≡◌, ◌≢◌, ◌<◌, ◌≤◌, ◌⊎◌, ◌*◌, ◌^◌, ℕ, ◌+◌, List, [], ◌∷◌, All, slice_index, slice_index_or, slice_set, length}
 use Rattle.std.specs.List.{flat_map}
 use Rattle.rmt_bits.specs.Bits.{slice}
 use Rattle.rmt_bits.specs.declared.lane.Lane.{Lane}
@@ -7,8 +7,7 @@ use Rattle.rmt_ast.specs.declared.program.Program.{Program}
 use Rattle.rmt_ast.specs.Places.{lanes_of}
 use Rattle.rmt_ast.specs.Walk.{Walk, walk}
 use Rattle.rmt_ast.specs.Walk as walks
-use Rattle.rmt_config.specs.declared.config.ParserConfig.{ParserConfig}
-use Rattle.rmt_config.specs.declared.tails.TailAt.{TailAt}
+use Rattle.rmt_config.specs.Types.{ParserConfig}
 use Rattle.rmt_config.specs.ChipRun.{tail_bytes}
 use Rattle.rmt_config.specs.Parser.{Parse, Short, Reject, Accept, Reached, parse, no_tail}
 

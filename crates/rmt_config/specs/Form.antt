@@ -1,6 +1,6 @@
 -- The rules of form of a configuration: those of each item, which are looked at as it is read, and those of the whole.
 use Rattle.std.specs.Prelude.{Bool, ◌&&◌, IsTrue, All}
-use Rattle.rmt_config.specs.declared.config.Config.{Config}
+use Rattle.rmt_config.specs.Types.{Config}
 use Rattle.rmt_config.specs.LaneForm.{ports_are_formed, headers_are_formed}
 use Rattle.rmt_config.specs.ParserForm.{parser_is_formed}
 use Rattle.rmt_config.specs.StageForm.{stages_are_formed, rows_are_formed}

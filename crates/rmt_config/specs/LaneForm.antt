@@ -3,8 +3,7 @@ use Rattle.std.specs.Prelude.{ℕ, ◌+◌, ◌*◌, List, length, map, sum, Boo
 use Rattle.std.specs.List.{list_all}
 use Rattle.rmt_bits.specs.Words.{word_size}
 use Rattle.rmt_bits.specs.declared.lane.Lane.{Lane}
-use Rattle.rmt_config.specs.declared.config.Config.{Config}
-use Rattle.rmt_config.specs.declared.config.OutHeader.{OutHeader}
+use Rattle.rmt_config.specs.Types.{Config, OutHeader}
 
 -- 1 to 32 bits of a word that there is
 abbrev pub lane_is_formed : Lane → Bool

@@ -6,16 +6,11 @@ use Rattle.rmt_config.specs.Order.{rises_from}
 use Rattle.rmt_config.specs.CellForm.{head_is_formed}
 use Rattle.rmt_bits.specs.Bits.{slice}
 use Rattle.rmt_config.specs.declared.form.layout.Layout.{Layout}
-use Rattle.rmt_config.specs.declared.config.CellNumber.{CellNumber}
+use Rattle.rmt_config.specs.Types.{Stage, SramRow, TcamRow, SlotUnit, CellNumber, Memory}
 use Rattle.rmt_config.specs.Cells.{Blocks, unit_row, blocks_at}
 use Rattle.rmt_config.specs.StageForm.{is_listed, srow_number, trow_number}
 use Rattle.rmt_config.specs.LaneForm.{bits_of_lanes}
 use Rattle.rmt_config.specs.Shapes.{divided_up, record_width, records_a_row, record_units}
-use Rattle.rmt_config.specs.declared.config.Stage.{Stage}
-use Rattle.rmt_config.specs.declared.config.SramRow.{SramRow}
-use Rattle.rmt_config.specs.declared.config.TcamRow.{TcamRow}
-use Rattle.rmt_config.specs.declared.config.SlotUnit.{SlotUnit}
-use Rattle.rmt_config.specs.declared.config.Memory.{Memory}
 use Rattle.rmt_config.specs.declared.config.Memory.TheVariants.{Without, Exact, Ternary}
 
 -- ---- a cell by its quantum and its number in it

@@ -1,3 +1,4 @@
+pub mod Types
 pub mod Parser
 pub mod Cells
 pub mod Life

@@ -3,19 +3,10 @@ use Rattle.std.specs.Prelude.{ℕ, ◌+◌, ◌*◌, ◌-◌, ◌%◌, ◌/◌, 
 use Rattle.std.specs.List.{list_all}
 use Rattle.rmt_bits.specs.Bits.{slice, deposit}
 use Rattle.rmt_bits.specs.declared.lane.Lane.{Lane}
-use Rattle.rmt_config.specs.declared.config.Stage.{Stage}
-use Rattle.rmt_config.specs.declared.config.Unit.{Unit}
+use Rattle.rmt_config.specs.Types.{Stage, Unit, GateTest, UnitGuard, SlotUnit, Memory, Vliw, Operation, OpKind, Source}
 use Rattle.rmt_config.specs.declared.config.Unit.TheVariants.{Gate, Slot}
-use Rattle.rmt_config.specs.declared.config.GateTest.{GateTest}
-use Rattle.rmt_config.specs.declared.config.SlotUnit.{SlotUnit}
-use Rattle.rmt_config.specs.declared.config.UnitGuard.{UnitGuard}
-use Rattle.rmt_config.specs.declared.config.Vliw.{Vliw}
-use Rattle.rmt_config.specs.declared.config.Operation.{Operation}
-use Rattle.rmt_config.specs.declared.config.OpKind.{OpKind}
 use Rattle.rmt_config.specs.declared.config.OpKind.TheVariants as kind
-use Rattle.rmt_config.specs.declared.config.Source.{Source}
 use Rattle.rmt_config.specs.declared.config.Source.TheVariants.{Word, Held, Constant}
-use Rattle.rmt_config.specs.declared.config.Memory.{Memory}
 use Rattle.rmt_config.specs.declared.config.Memory.TheVariants.{Without, Exact, Ternary}
 use Rattle.rmt_config.specs.Cells.{Found}
 

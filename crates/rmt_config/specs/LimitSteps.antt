@@ -6,8 +6,7 @@ use Rattle.rmt_config.specs.declared.limits.total.Resource.{Resource}
 use Rattle.rmt_config.specs.declared.limits.total.Resource.TheVariants as resource
 use Rattle.rmt_config.specs.declared.limits.stage.StageLimit.{StageLimit}
 use Rattle.rmt_config.specs.declared.limits.stage.StageLimit.TheVariants as limit
-use Rattle.rmt_config.specs.declared.config.Stage.{Stage}
-use Rattle.rmt_config.specs.declared.config.Unit.{Unit}
+use Rattle.rmt_config.specs.Types.{Stage, Unit}
 use Rattle.rmt_config.specs.Resources.{is_slot, is_gate, unit_instructions, unit_data, unit_sram, unit_tcam, is_in, distinct, times_in}
 use Rattle.rmt_config.specs.Limits.{told, sram_hit, tcam_hit, exact_words_hit, ternary_words_hit, slots_hit, code_hit, data_hit, gates_hit, width_hit, listed_hit}
 

@@ -2,11 +2,7 @@
 use Rattle.std.specs.Prelude.{◌≡◌, ℕ, ◌+◌, ◌-◌, List, [], ◌∷◌, length, take, nat_lt, min, if◌then◌else◌, slice_get, Option, Some, None}
 use Rattle.std.specs.List.{flat_map, count_by, sum_by, range_with_len, position_or_len}
 use Rattle.rmt_config.specs.declared.limits.LimitHit.{LimitHit}
-use Rattle.rmt_config.specs.declared.config.Config.{Config}
-use Rattle.rmt_config.specs.declared.config.ParserConfig.{ParserConfig}
-use Rattle.rmt_config.specs.declared.config.ParserState.{ParserState}
-use Rattle.rmt_config.specs.declared.config.ParserEntry.{ParserEntry}
-use Rattle.rmt_config.specs.declared.config.Stage.{Stage}
+use Rattle.rmt_config.specs.Types.{Config, ParserConfig, ParserState, ParserEntry, Stage}
 use Rattle.rmt_config.specs.Resources.{is_slot, is_gate, unit_instructions, unit_data, unit_sram, unit_tcam, unit_width, greatest_by, most_listed_in, exact_words, ternary_words, crossbar_bits, node_count}
 
 -- ---- sums and hits

@@ -1,9 +1,6 @@
 -- What the rules of form say of the rows of a stage and of the numbers of a memory, fact by fact.
 use Rattle.std.specs.Prelude.{◌≡◌, ℕ, ◌+◌, ◌*◌, ◌^◌, ◌<◌, ◌≤◌, List, length, map, true, All}
-use Rattle.rmt_config.specs.declared.config.Stage.{Stage}
-use Rattle.rmt_config.specs.declared.config.SramRow.{SramRow}
-use Rattle.rmt_config.specs.declared.config.TcamRow.{TcamRow}
-use Rattle.rmt_config.specs.declared.config.SlotUnit.{SlotUnit}
+use Rattle.rmt_config.specs.Types.{Stage, SramRow, TcamRow, SlotUnit}
 use Rattle.rmt_config.specs.LaneForm.{bits_of_lanes}
 use Rattle.rmt_config.specs.Order.{rises_from}
 use Rattle.rmt_config.specs.Shapes.{divided_up, record_width, record_units}

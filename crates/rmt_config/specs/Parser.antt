@@ -2,14 +2,9 @@
 use Rattle.std.specs.Prelude.{ℕ, zero, suc, ◌+◌, ◌*◌, ◌-◌, List, [], ◌∷◌, ◌++◌, Bool, ◌&&◌, ◌==◌, bit_and, nat_lt, if◌then◌else◌, Option, Some, None, find, position, fold, map, take, drop, length, slice_get, slice_index, slice_set, replicate}
 use Rattle.rmt_bits.specs.Bits.{deposit, bits_of_bytes}
 use Rattle.rmt_bits.specs.declared.lane.Lane.{Lane}
-use Rattle.rmt_config.specs.declared.config.ParserConfig.{ParserConfig}
-use Rattle.rmt_config.specs.declared.config.ParserState.{ParserState}
-use Rattle.rmt_config.specs.declared.config.ParserEntry.{ParserEntry}
-use Rattle.rmt_config.specs.declared.config.Next.{Next}
+use Rattle.rmt_config.specs.Types.{ParserConfig, ParserState, ParserEntry, Next, Extract, TailOf}
 use Rattle.rmt_config.specs.declared.config.Next.TheVariants as next
-use Rattle.rmt_config.specs.declared.config.Extract.{Extract}
 use Rattle.rmt_config.specs.declared.config.Extract.TheVariants.{Bits, One}
-use Rattle.rmt_config.specs.declared.config.TailOf.{TailOf}
 use Rattle.rmt_config.specs.declared.tails.TailAt.{TailAt}
 
 -- where a tail stands that has no bytes

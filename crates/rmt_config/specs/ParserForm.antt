@@ -1,12 +1,8 @@
 -- The rules of form of the parser: states with their lookups, and entries.
 use Rattle.std.specs.Prelude.{ℕ, ◌+◌, ◌*◌, ◌-◌, ◌^◌, ◌%◌, List, length, map, Bool, true, ◌&&◌, ◌==◌, nat_lt, nat_le, bit_and, option_map, unwrap_or, slice_get}
 use Rattle.std.specs.List.{list_all}
-use Rattle.rmt_config.specs.declared.config.ParserConfig.{ParserConfig}
-use Rattle.rmt_config.specs.declared.config.ParserState.{ParserState}
-use Rattle.rmt_config.specs.declared.config.ParserEntry.{ParserEntry}
-use Rattle.rmt_config.specs.declared.config.Next.{Next}
+use Rattle.rmt_config.specs.Types.{ParserConfig, ParserState, ParserEntry, Next, Extract}
 use Rattle.rmt_config.specs.declared.config.Next.TheVariants.{Accept, Reject, State}
-use Rattle.rmt_config.specs.declared.config.Extract.{Extract}
 use Rattle.rmt_config.specs.declared.config.Extract.TheVariants.{Bits, One}
 use Rattle.rmt_config.specs.Parser.{has_no_tail}
 use Rattle.rmt_config.specs.Order.{rises_from, never_falls_from}

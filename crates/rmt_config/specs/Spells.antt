@@ -1,6 +1,6 @@
 -- An image of version 1, and the configuration that it spells.
 use Rattle.std.specs.Prelude.{◌≡◌, ℕ, List}
-use Rattle.rmt_config.specs.declared.config.Config.{Config}
+use Rattle.rmt_config.specs.Types.{Config}
 use Rattle.rmt_config.specs.Spelling.{spelled}
 use Rattle.rmt_config.specs.Form.{Formed}
 use Rattle.rmt_config.specs.Limits.{IsWithinLimits}

@@ -1,12 +1,8 @@
 -- The rules of form of a stage by itself: its units, its code, and the places of its rows.
 use Rattle.std.specs.Prelude.{ℕ, ◌+◌, ◌*◌, ◌^◌, List, [], ◌∷◌, length, map, ◌++◌, Bool, true, not, ◌&&◌, ◌==◌, nat_lt, bit_and}
 use Rattle.std.specs.List.{flat_map, list_all, list_any}
-use Rattle.rmt_config.specs.declared.config.Stage.{Stage}
-use Rattle.rmt_config.specs.declared.config.SramRow.{SramRow}
-use Rattle.rmt_config.specs.declared.config.TcamRow.{TcamRow}
-use Rattle.rmt_config.specs.declared.config.Unit.{Unit}
+use Rattle.rmt_config.specs.Types.{Stage, SramRow, TcamRow, Unit, Memory}
 use Rattle.rmt_config.specs.declared.config.Unit.TheVariants.{Gate, Slot}
-use Rattle.rmt_config.specs.declared.config.Memory.{Memory}
 use Rattle.rmt_config.specs.declared.config.Memory.TheVariants.{Without, Exact, Ternary}
 use Rattle.rmt_config.specs.Order.{rises_from}
 use Rattle.rmt_config.specs.UnitForm.{unit_is_formed}

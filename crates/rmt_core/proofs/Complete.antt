@@ -1,10 +1,8 @@
 -- Where the files are as they must be, each command gives Done.
 use Rattle.std.proofs.Common.{◌≡◌, ℕ, List, Option, inl, inr, ap, refl, ◌∙◌, subst}
-use Rattle.rmt_ast.specs.declared.program.Program.{Program}
-use Rattle.rmt_ast.specs.declared.program.Header.{Header}
+use Rattle.rmt_core.specs.Types.{Program, Header, Config}
 use Rattle.rmt_ast.specs.declared.entry.Entry.{Entry}
 use Rattle.rmt_bounds.specs.declared.bound.Bound.{Bound}
-use Rattle.rmt_config.specs.declared.config.Config.{Config}
 use Rattle.rmt_build.specs.declared.fault.NoFit.{NoFit}
 use Rattle.rmt_build.specs.Refusals.{first_refusal}
 use Rattle.rmt_core.specs.declared.status.Status.TheVariants.{Done}

@@ -6,13 +6,8 @@ use Rattle.std.proofs.Math.Nat.{le-mul_of_pos_right}
 use Rattle.std.proofs.lemmas.Nat.{pow_pos}
 use Rattle.std.proofs.lemmas.List.{drop_all}
 use Rattle.std.proofs.lemmas.List.Elements.{All-cons, All-head, All-nil, All-tail}
-use Rattle.rmt_config.specs.declared.config.Config.{Config}
-use Rattle.rmt_config.specs.declared.config.Memory.{Memory}
+use Rattle.rmt_core.specs.Types.{Config, Stage, SramRow, TcamRow, SlotUnit, Memory}
 use Rattle.rmt_config.specs.declared.config.Memory.TheVariants.{Without, Exact, Ternary}
-use Rattle.rmt_config.specs.declared.config.SlotUnit.{SlotUnit}
-use Rattle.rmt_config.specs.declared.config.SramRow.{SramRow}
-use Rattle.rmt_config.specs.declared.config.Stage.{Stage}
-use Rattle.rmt_config.specs.declared.config.TcamRow.{TcamRow}
 use Rattle.rmt_config.specs.CellForm.{Coded, EndsAt, MemoryEnds, RecordsEnd, SlotHolds, StageHolds, cells_of, coded_from, entries_are_numbered, is_clear, none, exact, ternary, numbers_are_formed}
 use Rattle.rmt_config.specs.Cells.{Blocks, blocks_at, cells_in, content_of, record_at, sram_row, tcam_row, unit_row}
 use Rattle.rmt_config.specs.Form.{Formed, items_are_formed}

@@ -3,7 +3,7 @@ use Rattle.std.proofs.Common.{◌≡◌, ◌⊎◌, inl, inr, ℕ, zero, suc, �
 use Rattle.std.specs.Prelude.{map, replicate}
 use Rattle.std.specs.Fmt.{decimal}
 use Rattle.rmt_bits.specs.Packet.{Packet}
-use Rattle.rmt_config.specs.declared.config.Config.{Config}
+use Rattle.rmt_core.specs.Types.{Config}
 use Rattle.rmt_config.specs.ChipRun.{inputs_of}
 use Rattle.rmt_chip.specs.declared.chip.Chip.{Chip}
 use Rattle.rmt_packets.specs.PacketText.{BadLine}

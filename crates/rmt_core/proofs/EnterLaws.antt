@@ -5,7 +5,7 @@ use Rattle.std.proofs.lemmas.List.{map-append}
 use Rattle.rmt_bits.specs.Packet.{Packet}
 use Rattle.rmt_chip.specs.declared.frame.Frame.{Frame}
 use Rattle.rmt_chip.specs.Inputs.{MayEnter}
-use Rattle.rmt_config.specs.declared.config.Config.{Config}
+use Rattle.rmt_core.specs.Types.{Config}
 use Rattle.rmt_config.specs.ChipRun.{inputs_of, latency_of}
 use Rattle.rmt_packets.specs.PacketText.{BadLine, Reading, packets_of, reading_of}
 use Rattle.rmt_packets.specs.Pieces.{ended_lines}

@@ -1,10 +1,9 @@
 -- What commands give with Done, and when they give it.
 use Rattle.std.proofs.Common.{◌≡◌, ℕ, ◌≤◌, Bool, true, false, cond, ltb, List, length, Option, Some, None, Result, Ok, Err, sym, refl, ap, ◌∙◌, subst}
 use Rattle.std.proofs.lemmas.Bool.{le-ltb, ltb-false}
-use Rattle.rmt_ast.specs.declared.program.Program.{Program}
+use Rattle.rmt_core.specs.Types.{Program, Config}
 use Rattle.rmt_ast.specs.declared.entry.Entry.{Entry}
 use Rattle.rmt_check.specs.Means.{Means, Outcome}
-use Rattle.rmt_config.specs.declared.config.Config.{Config}
 use Rattle.rmt_config.specs.Spells.{Spells}
 use Rattle.rmt_entries.specs.declared.fault.EntryFault.{EntryFault}
 use Rattle.rmt_entries.specs.declared.fault.EntryFault.TheVariants.{NoMemory, At}

@@ -4,8 +4,7 @@ use Rattle.std.specs.Prelude.{replicate}
 use Rattle.std.proofs.lemmas.List.{length-map}
 use Rattle.rmt_bits.specs.Packet.{Packet}
 use Rattle.rmt_bits.specs.declared.lane.Lane.{Lane}
-use Rattle.rmt_ast.specs.declared.program.Program.{Program}
-use Rattle.rmt_ast.specs.declared.program.Header.{Header}
+use Rattle.rmt_core.specs.Types.{Program, Header, Config, Stage}
 use Rattle.rmt_ast.specs.declared.entry.Entry.{Entry}
 use Rattle.rmt_ast.specs.Answers.{answers_of}
 use Rattle.rmt_check.specs.Means.{Means, Outcome}
@@ -14,8 +13,6 @@ use Rattle.rmt_entries.specs.declared.fault.EntryFault.TheVariants.{NoMemory, At
 use Rattle.rmt_entries.specs.Entries.{entries_of}
 use Rattle.rmt_cuckoo.specs.declared.layout.Ways.{Ways}
 use Rattle.rmt_cuckoo.specs.Loading.{IsLoading, IsOverfull}
-use Rattle.rmt_config.specs.declared.config.Config.{Config}
-use Rattle.rmt_config.specs.declared.config.Stage.{Stage}
 use Rattle.rmt_config.specs.ChipRun.{cycles_of, inputs_of, latency_of}
 use Rattle.rmt_image.specs.declared.fault.ImageFault.{ImageFault}
 use Rattle.rmt_image.proofs.Whole.{answered_once}

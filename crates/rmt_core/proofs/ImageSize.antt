@@ -3,7 +3,7 @@ use Rattle.std.proofs.Common.{◌≡◌, ℕ, ◌+◌, ◌*◌, ◌<◌, ◌≤�
 use Rattle.std.specs.Prelude.{All}
 use Rattle.std.specs.List.{range_with_len}
 use Rattle.std.proofs.lemmas.List.Elements.{All-filter, All-map}
-use Rattle.rmt_ast.specs.declared.program.Program.{Program}
+use Rattle.rmt_core.specs.Types.{Program, Config}
 use Rattle.rmt_ast.specs.declared.entry.Entry.{Entry}
 use Rattle.rmt_ast.specs.WellFormed.{IsProgram}
 use Rattle.rmt_entries.specs.declared.fault.EntryFault.{EntryFault}
@@ -12,7 +12,6 @@ use Rattle.rmt_entries.specs.Lines.{numbered_lines}
 use Rattle.rmt_entries.specs.Tables.{applied_tables}
 use Rattle.rmt_entries.proofs.LawKeys.{same_Ok}
 use Rattle.rmt_entries.proofs.LawLists.{entries_law}
-use Rattle.rmt_config.specs.declared.config.Config.{Config}
 use Rattle.rmt_config.specs.CellForm.{entry_numbers}
 use Rattle.rmt_config.specs.Form.{Formed}
 use Rattle.rmt_config.specs.Limits.{IsWithinLimits}

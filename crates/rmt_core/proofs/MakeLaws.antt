@@ -4,7 +4,7 @@ use Rattle.std.specs.Prelude.{All, IfErr, IfOk}
 use Rattle.std.proofs.lemmas.List.Elements.{All-cons, All-nil}
 use Rattle.rmt_bits.specs.declared.lane.Lane.{Lane}
 use Rattle.rmt_ast.specs.declared.deps.Edge.{Edge}
-use Rattle.rmt_ast.specs.declared.program.Program.{Program}
+use Rattle.rmt_core.specs.Types.{Program, Config}
 use Rattle.rmt_ast.specs.declared.entry.Entry.{Entry}
 use Rattle.rmt_ast.specs.WellFormed.{IsProgram}
 use Rattle.rmt_bounds.specs.declared.bound.Bound.{Bound}
@@ -13,7 +13,6 @@ use Rattle.rmt_bounds.specs.declared.bound.Proof.TheVariants.{Chain, Sram, Tcam,
 use Rattle.rmt_bounds.specs.Bounds.{stage_bound}
 use Rattle.rmt_bounds.specs.Proofs.{Gives, IsChain}
 use Rattle.rmt_bounds.proofs.GivenLaws.{bound-given}
-use Rattle.rmt_config.specs.declared.config.Config.{Config}
 use Rattle.rmt_config.specs.Form.{Formed}
 use Rattle.rmt_config.specs.Limits.{IsWithinLimits}
 use Rattle.rmt_config.specs.Spelling.{spelled}

@@ -5,9 +5,7 @@ use Rattle.std.specs.Option.{option_or}
 use Rattle.std.proofs.lemmas.List.Elements.{All-cons, All-nil}
 use Rattle.std.proofs.lemmas.Option.{none-some}
 use Rattle.rmt_bits.specs.declared.lane.Lane.{Lane}
-use Rattle.rmt_ast.specs.declared.program.Program.{Program}
-use Rattle.rmt_ast.specs.declared.program.Header.{Header}
-use Rattle.rmt_ast.specs.declared.program.Tail.{Tail}
+use Rattle.rmt_core.specs.Types.{Program, Header, Tail}
 use Rattle.rmt_ast.specs.declared.entry.Entry.{Entry}
 use Rattle.rmt_config.specs.declared.limits.LimitHit.{LimitHit}
 use Rattle.rmt_deps.specs.Edges.{dependencies_of}

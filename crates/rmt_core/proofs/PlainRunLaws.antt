@@ -3,7 +3,7 @@ use Rattle.std.proofs.Common.{◌≡◌, ℕ, ◌+◌, Bool, List, [], ◌∷◌
 use Rattle.std.proofs.lemmas.List.{map-append, length-map}
 use Rattle.rmt_bits.specs.Packet.{Packet}
 use Rattle.rmt_bits.specs.declared.answer.Answer.{Answer}
-use Rattle.rmt_ast.specs.declared.program.Program.{Program}
+use Rattle.rmt_core.specs.Types.{Program}
 use Rattle.rmt_ast.specs.declared.entry.Entry.{Entry}
 use Rattle.rmt_ast.specs.Answers.{answer_of, answers_of}
 use Rattle.rmt_packets.specs.AnswerLine.{answer_line}

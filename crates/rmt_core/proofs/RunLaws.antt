@@ -7,7 +7,7 @@ use Rattle.std.specs.List.{range_with_len, cons_option}
 use Rattle.std.proofs.lemmas.Bool.{le-ltb}
 use Rattle.rmt_bits.specs.Packet.{Packet}
 use Rattle.rmt_bits.specs.declared.answer.Verdict.{Verdict}
-use Rattle.rmt_config.specs.declared.config.Config.{Config}
+use Rattle.rmt_core.specs.Types.{Config}
 use Rattle.rmt_config.specs.ChipRun.{Outcome, answer_at, latency_of}
 use Rattle.rmt_chip.specs.declared.chip.Chip.{Chip}
 use Rattle.rmt_chip.specs.Stands.{Stands, entered_of}

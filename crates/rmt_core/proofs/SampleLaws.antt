@@ -1,9 +1,8 @@
 -- What a call of `sample` told.
 use Rattle.std.proofs.Common.{◌≡◌, ◌≢◌, ◌⊎◌, ◌≤◌, inl, inr, ⊎_elim, ℕ, Bool, Result, Err, Ok, List, map, length, refl, sym, ap, subst, ◌∙◌}
-use Rattle.rmt_ast.specs.declared.program.Program.{Program}
+use Rattle.rmt_core.specs.Types.{Program, Config}
 use Rattle.rmt_ast.specs.declared.entry.Entry.{Entry}
 use Rattle.rmt_build.specs.declared.built.Built.{Built}
-use Rattle.rmt_config.specs.declared.config.Config.{Config}
 use Rattle.rmt_config.specs.ChipRun.{cycles_of, outcomes_of}
 use Rattle.rmt_packets.specs.PacketText.{packets_of}
 use Rattle.rmt_refine.specs.RunsAs.{told_by_outcome}

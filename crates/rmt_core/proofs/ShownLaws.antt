@@ -5,7 +5,7 @@ use Rattle.std.specs.List.{flat_map}
 use Rattle.std.specs.Option.{option_to_list}
 use Rattle.std.proofs.lemmas.Bool.{cases_lt, lt-ltb, le-ltb}
 use Rattle.rmt_bits.specs.Packet.{Packet}
-use Rattle.rmt_config.specs.declared.config.Config.{Config}
+use Rattle.rmt_core.specs.Types.{Config}
 use Rattle.rmt_config.specs.ChipRun.{answer_at, chip_counts_of, cycles_of, flight_of, inputs_of, latency_of, outcomes_of}
 use Rattle.rmt_packets.specs.PacketText.{BadLine}
 use Rattle.rmt_core.specs.declared.watch.Watch.{Watch}

@@ -7,13 +7,11 @@ use Rattle.std.proofs.lemmas.Slice.Eq.{bytes_eq-Decides}
 use Rattle.rmt_bits.specs.Packet.{IsPacket, Packet}
 use Rattle.rmt_bits.specs.declared.answer.Answer.{Answer}
 use Rattle.rmt_bits.specs.declared.answer.Verdict.{Verdict}
-use Rattle.rmt_ast.specs.declared.program.Program.{Program}
-use Rattle.rmt_ast.specs.declared.program.Header.{Header}
+use Rattle.rmt_core.specs.Types.{Program, Header, Config}
 use Rattle.rmt_ast.specs.declared.entry.Entry.{Entry}
 use Rattle.rmt_ast.specs.Answers.{answers_of, counts_of}
 use Rattle.rmt_check.specs.Means.{Means}
 use Rattle.rmt_entries.specs.Entries.{entries_of}
-use Rattle.rmt_config.specs.declared.config.Config.{Config}
 use Rattle.rmt_config.specs.ChipRun.{Outcome, chip_counts_of, cycles_of, flight_of, inputs_of, outcomes_of}
 use Rattle.rmt_config.specs.Spells.{Spells}
 use Rattle.rmt_refine.specs.RunsAs.{RunsAs, told_by_answer, told_by_outcome}

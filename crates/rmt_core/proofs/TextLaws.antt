@@ -1,7 +1,7 @@
 -- A last line for two texts that mean no program with entries is what a command gives that understands them.
 use Rattle.std.proofs.Common.{◌≡◌, ◌⊎◌, inl, inr, ⊎_elim, ℕ, Bool, List, Result, Ok, Err, refl, sym, subst}
 use Rattle.std.specs.Prelude.{⊤}
-use Rattle.rmt_ast.specs.declared.program.Program.{Program}
+use Rattle.rmt_core.specs.Types.{Program}
 use Rattle.rmt_ast.specs.declared.entry.Entry.{Entry}
 use Rattle.rmt_check.specs.Means.{Means, Outcome, fault_at}
 use Rattle.rmt_entries.specs.Entries.{entries_of}

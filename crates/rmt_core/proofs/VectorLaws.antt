@@ -9,7 +9,7 @@ use Rattle.std.proofs.lemmas.List.Recursion.{is_count_by}
 use Rattle.std.proofs.lemmas.List.{reverse-append, length-reverse, take-append-le, take-append-drop}
 use Rattle.rmt_bits.specs.Packet.{Packet}
 use Rattle.rmt_bits.proofs.FunctionLaws.{funext}
-use Rattle.rmt_config.specs.declared.config.Config.{Config}
+use Rattle.rmt_core.specs.Types.{Config}
 use Rattle.rmt_config.specs.Life.{Words}
 use Rattle.rmt_config.specs.ChipRun.{inputs_of, latency_of, number_at, own_look, packet_at, words_at}
 use Rattle.rmt_chip.specs.declared.seen.Seen.{Seen}

@@ -4,7 +4,7 @@ use Rattle.std.specs.Prelude.{codes, slice_index}
 use Rattle.std.specs.List.{flat_map, range_with_len}
 use Rattle.std.proofs.lemmas.Grind.{flat_map-append}
 use Rattle.rmt_bits.specs.Packet.{Packet}
-use Rattle.rmt_config.specs.declared.config.Config.{Config}
+use Rattle.rmt_core.specs.Types.{Config}
 use Rattle.rmt_config.specs.Life.{Words}
 use Rattle.rmt_config.specs.ChipRun.{number_at, packet_at}
 use Rattle.rmt_core.specs.ProbeText.{hex_text, lines_below, packet_line, word_text, words_below}

@@ -2,8 +2,7 @@
 use Rattle.std.specs.Prelude.{ℕ, Bool, List, ◌++◌, ◌==◌, codes, if◌then◌else◌, length}
 use Rattle.std.specs.Fmt.{decimal}
 use Rattle.std.specs.List.{flat_map}
-use Rattle.rmt_ast.specs.declared.program.Program.{Program}
-use Rattle.rmt_config.specs.declared.config.Config.{Config}
+use Rattle.rmt_core.specs.Types.{Program, Config}
 use Rattle.rmt_config.specs.ChipRun.{latency_of}
 use Rattle.rmt_bounds.specs.declared.bound.Bound.{Bound}
 use Rattle.rmt_bounds.specs.declared.bound.Proof.{Proof}

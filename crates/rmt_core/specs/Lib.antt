@@ -1,3 +1,4 @@
+pub mod Types
 pub mod Commands
 pub mod CommandReading
 pub mod Files

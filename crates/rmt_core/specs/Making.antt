@@ -1,11 +1,10 @@
 -- What is made of a program with its entries, whatever the files are and the name of the image.
 use Rattle.std.specs.Prelude.{◌≡◌, ◌≤◌, ℕ, List, Some, None, Ok, length}
-use Rattle.rmt_ast.specs.declared.program.Program.{Program}
+use Rattle.rmt_core.specs.Types.{Program, Config}
 use Rattle.rmt_ast.specs.declared.entry.Entry.{Entry}
 use Rattle.rmt_bounds.specs.declared.bound.Bound.{Bound}
 use Rattle.rmt_build.specs.declared.built.Built.{Built}
 use Rattle.rmt_build.specs.Refusals.{first_refusal}
-use Rattle.rmt_config.specs.declared.config.Config.{Config}
 use Rattle.rmt_config.specs.Spelling.{spelled}
 use Rattle.rmt_entries.specs.Entries.{entries_of}
 use Rattle.rmt_core.specs.declared.status.Status.TheVariants.{Done, NoFit}

@@ -2,11 +2,7 @@
 use Rattle.std.specs.Prelude.{◌<◌, ⊤, ℕ, All, length, List, [], ◌++◌, codes, Option, Some, None, unwrap_or, option_map, slice_get}
 use Rattle.std.specs.Fmt.{decimal}
 use Rattle.std.specs.List.{flat_map}
-use Rattle.rmt_ast.specs.declared.program.Program.{Program}
-use Rattle.rmt_ast.specs.declared.program.Field.{Field}
-use Rattle.rmt_ast.specs.declared.program.Header.{Header}
-use Rattle.rmt_ast.specs.declared.program.Action.{Action}
-use Rattle.rmt_ast.specs.declared.program.Table.{Table}
+use Rattle.rmt_core.specs.Types.{Program, Field, Header, Action, Table}
 use Rattle.rmt_config.specs.declared.limits.LimitHit.{LimitHit}
 use Rattle.rmt_bounds.specs.declared.bound.Proof.{Proof}
 use Rattle.rmt_bounds.specs.declared.bound.Proof.TheVariants.{Chain, Sram, Tcam, Slots}

@@ -1,7 +1,7 @@
 -- A plain run over the packets of a text.
 use Rattle.std.specs.Prelude.{◌≡◌, ℕ, Bool, List, length}
 use Rattle.rmt_bits.specs.Packet.{Packet}
-use Rattle.rmt_ast.specs.declared.program.Program.{Program}
+use Rattle.rmt_core.specs.Types.{Program}
 use Rattle.rmt_ast.specs.declared.entry.Entry.{Entry}
 use Rattle.rmt_ast.specs.Answers.{answers_of}
 use Rattle.rmt_plain.specs.declared.plain.Plain.{Plain}

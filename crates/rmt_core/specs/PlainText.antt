@@ -2,7 +2,7 @@
 use Rattle.std.specs.Prelude.{ℕ, ◌+◌, List, [], ◌∷◌, ◌++◌, Option, Some, None}
 use Rattle.std.specs.List.{flat_map}
 use Rattle.rmt_bits.specs.declared.answer.Answer.{Answer}
-use Rattle.rmt_ast.specs.declared.program.Program.{Program}
+use Rattle.rmt_core.specs.Types.{Program}
 use Rattle.rmt_ast.specs.declared.entry.Entry.{Entry}
 use Rattle.rmt_ast.specs.Answers.{answers_of, counts_of}
 use Rattle.rmt_packets.specs.AnswerLine.{answer_line}

@@ -5,7 +5,7 @@ use Rattle.std.specs.List.{flat_map, range_with_len}
 use Rattle.rmt_bits.specs.Packet.{Packet}
 use Rattle.rmt_bits.specs.Words.{word_size}
 use Rattle.rmt_packets.specs.PacketText.{Reading, BadLine}
-use Rattle.rmt_config.specs.declared.config.Config.{Config}
+use Rattle.rmt_core.specs.Types.{Config}
 use Rattle.rmt_config.specs.Life.{Words}
 use Rattle.rmt_config.specs.ChipRun.{inputs_of, latency_of, number_at, own_look, packet_at, words_at}
 use Rattle.rmt_core.specs.Runs.{bad_packets_line}

@@ -1,7 +1,7 @@
 -- What `report` gives: the use of a configuration as one line of JSON.
 use Rattle.std.specs.Prelude.{◌≡◌, List, ℕ, ◌++◌, codes}
 use Rattle.serde_json.specs.Written.{compact_text}
-use Rattle.rmt_config.specs.declared.config.Config.{Config}
+use Rattle.rmt_core.specs.Types.{Config}
 use Rattle.rmt_report.specs.Report.{report_of}
 use Rattle.rmt_core.specs.declared.status.Status.TheVariants.{Done}
 use Rattle.rmt_core.specs.Files.{Files, image_limit}

@@ -2,21 +2,11 @@
 use Rattle.std.specs.Prelude.{ℕ, ◌+◌, ◌%◌, List, [], ◌∷◌, true, false, None, Some, codes, map}
 use Rattle.std.specs.List.{range_with_len}
 use Rattle.rmt_ast.specs.declared.entry.Entry.{Entry}
-use Rattle.rmt_ast.specs.declared.program.Action.{Action}
-use Rattle.rmt_ast.specs.declared.program.Assign.{Assign}
-use Rattle.rmt_ast.specs.declared.program.Case.{Case}
+use Rattle.rmt_core.specs.Types.{Program, Field, Header, Case, Test, Action, Assign, Leaf, Table, Node, Guard}
 use Rattle.rmt_ast.specs.declared.program.Expr.TheVariants.{One}
-use Rattle.rmt_ast.specs.declared.program.Field.{Field}
-use Rattle.rmt_ast.specs.declared.program.Guard.{Guard}
-use Rattle.rmt_ast.specs.declared.program.Header.{Header}
 use Rattle.rmt_ast.specs.declared.program.Kind.TheVariants.{Exact}
-use Rattle.rmt_ast.specs.declared.program.Leaf.{Leaf}
 use Rattle.rmt_ast.specs.declared.program.Leaf.TheVariants as leaf
-use Rattle.rmt_ast.specs.declared.program.Node.{Node}
-use Rattle.rmt_ast.specs.declared.program.Program.{Program}
-use Rattle.rmt_ast.specs.declared.program.Table.{Table}
 use Rattle.rmt_ast.specs.declared.program.Target.TheVariants as to
-use Rattle.rmt_ast.specs.declared.program.Test.{Test}
 use Rattle.rmt_ast.specs.declared.program.What.TheVariants.{Apply, Gate}
 use Rattle.rmt_entries.specs.Keys.{whole}
 use Rattle.rmt_sample.specs.Texts.{host, station}

@@ -5,10 +5,9 @@ use Rattle.std.specs.List.{filter}
 use Rattle.rmt_bits.specs.Packet.{Packet}
 use Rattle.rmt_bits.specs.declared.answer.Verdict.{Verdict}
 use Rattle.rmt_bits.specs.declared.answer.Verdict.TheVariants.{Short, Reject, Dropped, Sent}
-use Rattle.rmt_ast.specs.declared.program.Program.{Program}
+use Rattle.rmt_core.specs.Types.{Program, Config}
 use Rattle.rmt_ast.specs.declared.entry.Entry.{Entry}
 use Rattle.rmt_ast.specs.Answers.{answers_of}
-use Rattle.rmt_config.specs.declared.config.Config.{Config}
 use Rattle.rmt_config.specs.ChipRun.{cycles_of}
 use Rattle.rmt_check.specs.Means.{Means}
 use Rattle.rmt_entries.specs.Entries.{entries_of}

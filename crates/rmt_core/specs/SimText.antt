@@ -9,7 +9,7 @@ use Rattle.rmt_image.specs.declared.fault.ImageFault.{ImageFault}
 use Rattle.rmt_image.specs.declared.fault.ImageFault.TheVariants as fault
 use Rattle.rmt_packets.specs.AnswerLine.{answer_line}
 use Rattle.rmt_packets.specs.PacketText.{Reading, BadLine}
-use Rattle.rmt_config.specs.declared.config.Config.{Config}
+use Rattle.rmt_core.specs.Types.{Config}
 use Rattle.rmt_config.specs.ChipRun.{Outcome, outcomes_of, inputs_of, chip_counts_of, cycles_of, flight_of}
 use Rattle.rmt_core.specs.Runs.{bad_packets_line}
 

@@ -1,6 +1,6 @@
 -- What `sim` and `probe` give.
 use Rattle.std.specs.Prelude.{◌≡◌, ℕ, List, Result, Ok, Err}
-use Rattle.rmt_config.specs.declared.config.Config.{Config}
+use Rattle.rmt_core.specs.Types.{Config}
 use Rattle.rmt_image.specs.declared.fault.ImageFault.{ImageFault}
 use Rattle.rmt_image.specs.Reading.{Answers}
 use Rattle.rmt_core.specs.declared.status.Status.TheVariants.{BadImage}

@@ -1,7 +1,7 @@
 -- What a program text and an entry text mean together, and the last lines that tell their faults.
 use Rattle.std.specs.Prelude.{◌≡◌, ℕ, List, ◌++◌, codes, Result, Ok, Err}
 use Rattle.std.specs.Fmt.{decimal}
-use Rattle.rmt_ast.specs.declared.program.Program.{Program}
+use Rattle.rmt_core.specs.Types.{Program}
 use Rattle.rmt_ast.specs.declared.entry.Entry.{Entry}
 use Rattle.rmt_check.specs.Means.{Means, Outcome}
 use Rattle.rmt_entries.specs.declared.fault.EntryFault.{EntryFault}

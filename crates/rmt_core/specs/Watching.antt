@@ -3,7 +3,7 @@ use Rattle.std.specs.Prelude.{ℕ, ◌+◌, List, [], ◌++◌, length, filter_m
 use Rattle.std.specs.List.{flat_map, range_with_len}
 use Rattle.rmt_bits.specs.Packet.{Packet}
 use Rattle.rmt_packets.specs.PacketText.{Reading, BadLine}
-use Rattle.rmt_config.specs.declared.config.Config.{Config}
+use Rattle.rmt_core.specs.Types.{Config}
 use Rattle.rmt_config.specs.ChipRun.{Outcome, answer_at, chip_counts_of, inputs_of, latency_of}
 use Rattle.rmt_core.specs.declared.watch.Watch.{Watch}
 use Rattle.rmt_core.specs.declared.watch.Watch.TheVariants.{Answers, Vectors}

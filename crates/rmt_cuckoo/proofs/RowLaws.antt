@@ -1,8 +1,8 @@
 -- Rows of cells, and the ways of a table.
 use Rattle.std.proofs.Common.{◌≡◌, ℕ, zero, suc, ◌+◌, ◌-◌, ◌*◌, ◌<◌, ◌≤◌, List, [], ◌∷◌, ◌++◌, length, map, take, drop, get_or, All, refl, ap, sym, ◌∙◌, subst, arith}
 use Rattle.std.specs.List.{flat_map, range_with_len}
-use Rattle.std.proofs.lemmas.List.{map-id, append_assoc, length-map, length-append, drop_more}
-use Rattle.std.proofs.lemmas.List.FromFn.{map-range_with_len_more, length-range_with_len, get_or-range_with_len}
+use Rattle.std.proofs.lemmas.List.{append_assoc, length-map, length-append, drop_more}
+use Rattle.std.proofs.lemmas.List.FromFn.{length-range_with_len, get_or-range_with_len}
 use Rattle.std.proofs.lemmas.List.Elements.{All-nil, All-cons, All-head, All-tail, All-append, All-from_get_or}
 use Rattle.std.proofs.lemmas.List.Sums.{sum_by-cons}
 use Rattle.std.proofs.lemmas.Nat.{row_fits}
@@ -14,10 +14,7 @@ use Rattle.rmt_cuckoo.specs.declared.way.Way.{Way}
 use Rattle.rmt_cuckoo.specs.declared.choices.Choices.{Choices}
 use Rattle.rmt_cuckoo.specs.Loading.{cells_in, cells_of, way_of, ways_from, ways_of, row_start, candidates}
 use Rattle.rmt_cuckoo.specs.Choices.{cells_from, starts_at, starts_of, choices_at, EndWithin, AreChoices, AreWithin}
-
--- one cell more
-pub range_more : (a n : ℕ) → range_with_len a (n + 1) ≡ range_with_len a n ++ (a + n) ∷ []
-range_more a n = simp map-id at (map-range_with_len_more (λ (x : ℕ). x) a n (a + n) refl)
+use Rattle.rmt_bits.proofs.ListLaws.{range_more}
 
 pub row_more : (all before : List ℕ) (start cell : ℕ) → start ≤ cell → all ≡ before ++ range_with_len start (cell - start)
     → all ++ cell ∷ [] ≡ before ++ range_with_len start (cell + 1 - start)

@@ -6,13 +6,13 @@ use Rattle.rmt_ast.specs.declared.program.Program.{Program}
 use Rattle.rmt_ast.specs.declared.program.Action.{Action}
 use Rattle.rmt_ast.specs.declared.program.Assign.{Assign}
 use Rattle.rmt_ast.specs.declared.program.Expr.{Expr}
-use Rattle.rmt_ast.specs.declared.program.Expr.TheVariants.{One, Two}
 use Rattle.rmt_ast.specs.declared.program.Leaf.{Leaf}
-use Rattle.rmt_ast.specs.declared.program.Leaf.TheVariants as leaf
 use Rattle.rmt_ast.specs.declared.program.Table.{Table}
 use Rattle.rmt_ast.specs.declared.program.Node.{Node}
 use Rattle.rmt_ast.specs.declared.program.Guard.{Guard}
 use Rattle.rmt_ast.specs.declared.program.What.{What}
+use Rattle.rmt_ast.specs.declared.program.Expr.TheVariants.{One, Two}
+use Rattle.rmt_ast.specs.declared.program.Leaf.TheVariants as leaf
 use Rattle.rmt_ast.specs.declared.program.What.TheVariants.{Apply, Gate}
 use Rattle.rmt_ast.specs.declared.deps.Edge.{Edge}
 use Rattle.rmt_ast.specs.declared.deps.EdgeKind.{EdgeKind}

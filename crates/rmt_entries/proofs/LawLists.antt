@@ -1,24 +1,24 @@
 -- The lists that a text says are well formed for its program.
-use Rattle.std.proofs.Common.{◌≡◌, ◌≢◌, ℕ, zero, suc, ◌-◌, ◌^◌, ◌<◌, ◌≤◌, ◌==◌, Bool, true, false, List, [], ◌∷◌, ◌++◌, Option, Some, None, Result, Ok, Err, IsTrue, IsSomeAnd, All, cond, length, map, option_map, slice_get, get_or, refl, sym, ap, subst, ◌∙◌, add-one, inl, inr, arith}
+use Rattle.std.proofs.Common.{◌≡◌, ◌≢◌, ℕ, zero, suc, ◌-◌, ◌^◌, ◌<◌, ◌≤◌, ◌==◌, Bool, true, false, List, [], ◌∷◌, ◌++◌, Option, Some, None, Result, Ok, Err, IsTrue, IsSomeAnd, All, cond, length, option_map, slice_get, get_or, refl, sym, ap, subst, ◌∙◌, add-one, inl, inr, arith}
 use Rattle.std.specs.Prelude.{AllPairs}
 use Rattle.std.specs.List.{AllZip, flat_map}
 use Rattle.std.proofs.Math.Pow.{pow-lt, pow_mono}
 use Rattle.std.proofs.lemmas.Bool.{cases_lt, eqb-true}
 use Rattle.std.proofs.lemmas.Grind.{flat_map-append}
-use Rattle.std.proofs.lemmas.List.{get_or-map, append-nil, length-map}
+use Rattle.std.proofs.lemmas.List.{append-nil, length-map}
 use Rattle.std.proofs.lemmas.List.Elements.{All-nil, All-cons, All-append, All-filter, All-map, All-weaker, All-head, All-tail}
-use Rattle.std.proofs.lemmas.List.Kept.{AllPairs-cons, AllPairs-filter}
+use Rattle.std.proofs.lemmas.List.Kept.{AllPairs-filter}
 use Rattle.std.proofs.lemmas.Option.{get_or_from_slice_get, same_Some, slice_get-get_or, slice_get-map, slice_get_within}
 use Rattle.rmt_bits.proofs.AllLaws.{All-slice_get}
 use Rattle.rmt_bits.proofs.ListLaws.{slice_get-item}
 use Rattle.rmt_ast.proofs.WellFormedLemmas.{AllPairs-none}
 use Rattle.rmt_ast.specs.declared.program.Program.{Program}
-use Rattle.rmt_ast.specs.declared.program.Table.{Table}
 use Rattle.rmt_ast.specs.declared.program.Test.{Test}
+use Rattle.rmt_ast.specs.declared.program.Table.{Table}
+use Rattle.rmt_ast.specs.declared.program.Kind.{Kind}
 use Rattle.rmt_ast.specs.declared.program.Node.{Node}
 use Rattle.rmt_ast.specs.declared.program.What.{What}
 use Rattle.rmt_ast.specs.declared.program.What.TheVariants.{Apply, Gate}
-use Rattle.rmt_ast.specs.declared.program.Kind.{Kind}
 use Rattle.rmt_ast.specs.declared.program.Kind.TheVariants.{Keyless, Exact, Prefix, Ternary}
 use Rattle.rmt_ast.specs.declared.entry.Entry.{Entry}
 use Rattle.rmt_ast.specs.Answers.{entry_numbers}
@@ -36,6 +36,7 @@ use Rattle.rmt_entries.proofs.GatherLaws.{by_node_at, by_node_more, length-by_no
 use Rattle.rmt_entries.proofs.LawKeys.{same_Ok}
 use Rattle.rmt_entries.proofs.LawLines.{AreRead, Fit, IsOwn, none_read, read_push}
 use Rattle.rmt_entries.proofs.ProgramLaws.{are_applied, have_params}
+use Rattle.rmt_bits.proofs.PairLaws.{AllPairs-append, AllPairs-map}
 
 -- all lines
 reading_law : (terms : List (Option Terms)) (tables : List AppliedTable) (es out : List Entry) (ls : List (ℕ × List ℕ)) → All (Fit terms) tables → AreRead terms es → reading tables es ls ≡ Ok out → AreRead terms out
@@ -114,22 +115,6 @@ none_at terms (x ∷ xs) n h e = by (n == x.table) refl (none_at terms xs n (All
         let none : None ≡ Some own.own = same_Some None (Some own.own) at in
         cc
     by false s rest = rest
-
--- pairs of what is made of items
-AllPairs-map : {X Y : Type 0} (R : Y → Y → Type 0) (f : X → Y) (xs : List X) → AllPairs (λ a b. R (f a) (f b)) xs → AllPairs R (map f xs)
-AllPairs-map R f [] h = AllPairs-none R
-AllPairs-map R f (x ∷ xs) h = λ i j d lt below.
-    let later : j < length (x ∷ xs) = subst (λ (n : ℕ). j < n) (length-map (x ∷ xs) f) below in
-    let earlier : i < length (x ∷ xs) = omega arith in
-    subst (λ y. R y (get_or (map f (x ∷ xs)) j d)) (sym (get_or-map f (x ∷ xs) i x d earlier))
-    (subst (λ y. R (f (get_or (x ∷ xs) i x)) y) (sym (get_or-map f (x ∷ xs) j x d later)) (h i j x lt later))
-
-AllPairs-append : {X : Type 0} (R : X → X → Type 0) (xs ys : List X) → AllPairs R xs → AllPairs R ys → All (λ x. All (R x) ys) xs → AllPairs R (xs ++ ys)
-AllPairs-append R [] ys h k across = k
-AllPairs-append R (x ∷ xs) ys h k across =
-    AllPairs-cons R x (xs ++ ys)
-    (All-append (R x) xs ys (λ j d lt. h 0 (suc j) d (omega arith) (omega arith)) (All-head (λ z. All (R z) ys) x xs across))
-    (AllPairs-append R xs ys (λ i j d lt below. h (suc i) (suc j) d (omega arith) (omega arith)) k (All-tail (λ z. All (R z) ys) x xs across))
 
 not_both : (o : Option Entry) (k : ℕ) → IsSomeAnd o (λ (e : Entry). e.table < k) → IsSomeAnd o (λ (e : Entry). e.table ≡ k) → ⊥
 not_both None k x y = absurd x

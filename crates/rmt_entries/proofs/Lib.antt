@@ -3,7 +3,6 @@ pub mod GatherLaws
 pub mod LawKeys
 pub mod LawLines
 pub mod LawLists
-pub mod NameLaws
 pub mod NumberLaws
 pub mod ProgramLaws
 pub mod ReadingLaws

@@ -3,7 +3,6 @@ pub mod Fault
 pub mod Keys
 pub mod Lines
 pub mod NamedTables
-pub mod Names
 pub mod Numbers
 pub mod Reads
 pub mod Standing

@@ -1,7 +1,7 @@
 -- What is kept of a program's tables.
 use Rattle.std.specs.Prelude.{List, ℕ, map}
 use Rattle.rmt_entries.specs.declared.tables.NamedTable.{NamedTable}
-use Rattle.rmt_entries.specs.Names.{seen}
+use Rattle.rmt_ast.specs.NameList.{seen}
 use Rattle.rmt_entries.specs.Tables.{AppliedTable}
 
 abbrev pub seen_table : NamedTable → AppliedTable

@@ -8,7 +8,6 @@ mod gathered;
 mod keys;
 pub mod laws;
 mod line;
-mod names;
 mod numbers;
 mod tables;
 mod text;

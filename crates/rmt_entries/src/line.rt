@@ -7,7 +7,7 @@ ghost use Rattle.rmt_entries.specs.declared.keys.Key.{Key};
 ghost use Rattle.rmt_entries.specs.Entries.{arguments, behind_key, of_table, read_words, with_arguments};
 ghost use Rattle.rmt_entries.specs.Lines.{is_printable};
 ghost use Rattle.rmt_entries.specs.NamedTables.{seen_table};
-ghost use Rattle.rmt_entries.specs.Names.{seen};
+ghost use Rattle.rmt_ast.specs.NameList.{seen};
 ghost use Rattle.rmt_entries.specs.Standing.{IsAppliedBy, IsBelow, IsFault, IsReadable};
 
 use crate::arguments::arguments;

@@ -3,11 +3,11 @@
 ghost use Rattle.std.specs.Prelude.{◌≡◌, ◌≤◌, length, map, IfOk, option_map, option_copied, slice_get};
 ghost use Rattle.rmt_ast.specs.EntryLists.{params_of};
 ghost use Rattle.rmt_ast.specs.State.{width_of};
-ghost use Rattle.rmt_entries.specs.Names.{seen};
+ghost use Rattle.rmt_ast.specs.NameList.{seen};
 ghost use Rattle.rmt_entries.specs.Tables.{action_name, applied_table, applied_tables, table_named, table_of};
 ghost use Rattle.rmt_entries.specs.NamedTables.{name_of_table, seen_table, seen_tables};
 
-use crate::names::Names;
+use rmt_ast::name_list::NameList;
 use rmt_ast::program::{Kind, Program, Table, What};
 use rmt_bits::sequence::Sequence;
 use std::alloc::{AllocError, Global};
@@ -27,7 +27,7 @@ pub struct NamedTable<'a> {
     /// The widths of its key's fields.
     pub widths: Vec<u8>,
     /// The names of its list of actions.
-    pub actions: Names<'a>,
+    pub actions: NameList<'a>,
     /// The widths of the parameters of each of them.
     pub params: Vec<&'a [u8]>,
 }
@@ -36,7 +36,7 @@ pub struct NamedTable<'a> {
 #[derive(Drop)]
 pub struct Tables<'a> {
     tables: Sequence<NamedTable<'a>>,
-    names: Names<'a>,
+    names: NameList<'a>,
 }
 
 impl<'a> Model for Tables<'a> {
@@ -163,7 +163,7 @@ fn named_table<'a>(
         kind: table.kind,
         size: table.size,
         widths: widths_of(alloc, program, table.key.as_slice())?,
-        actions: Names::of(alloc, names)?,
+        actions: NameList::of(alloc, names)?,
         params: all_params(alloc, program, table.actions.as_slice())?,
     })
 }
@@ -193,12 +193,12 @@ fn all_tables(alloc: Global, program: &Program) -> Result<Vec<NamedTable<'_>>, A
 }
 
 /// The names of tables, with their numbers.
-fn table_names<'a>(alloc: Global, tables: &[NamedTable<'a>]) -> Result<Names<'a>, AllocError>
+fn table_names<'a>(alloc: Global, tables: &[NamedTable<'a>]) -> Result<NameList<'a>, AllocError>
     ensures { IfOk result (λ names. names ≡ map name_of_table (seen_tables tables.now)) }
 {
     let mut names = Vec::new(alloc);
     for table in tables {
         names.push(table.name)?;
     }
-    Names::of(alloc, names)
+    NameList::of(alloc, names)
 }

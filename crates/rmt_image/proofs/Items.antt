@@ -7,17 +7,11 @@ use Rattle.std.proofs.lemmas.List.{nil_from_length}
 use Rattle.std.proofs.lemmas.Nat.{and_le_r}
 use Rattle.rmt_bits.specs.Words.{word_size}
 use Rattle.rmt_bits.specs.declared.lane.Lane.{Lane}
-use Rattle.rmt_config.specs.declared.config.OutHeader.{OutHeader}
-use Rattle.rmt_config.specs.declared.config.ParserConfig.{ParserConfig}
-use Rattle.rmt_config.specs.declared.config.ParserState.{ParserState}
-use Rattle.rmt_config.specs.declared.config.ParserEntry.{ParserEntry}
-use Rattle.rmt_config.specs.declared.config.Next.{Next}
+use Rattle.rmt_image.specs.Types.{OutHeader, ParserConfig, ParserState, ParserEntry, Next, Extract, TailOf}
 use Rattle.rmt_config.specs.declared.config.Next.TheVariants as next
-use Rattle.rmt_config.specs.declared.config.Extract.{Extract}
 use Rattle.rmt_config.specs.declared.config.Extract.TheVariants.{Bits, One}
 use Rattle.rmt_config.specs.Order.{rises_from, never_falls_from}
 use Rattle.rmt_config.specs.LaneForm.{lane_is_formed, is_lane_of, header_is_formed, headers_are_formed}
-use Rattle.rmt_config.specs.declared.config.TailOf.{TailOf}
 use Rattle.rmt_config.specs.Parser.{has_no_tail}
 use Rattle.rmt_config.specs.ParserForm.{state_is_formed, states_are_formed, extract_is_formed, next_is_formed, lookups_of, match_is_formed, entry_is_formed, parser_is_formed}
 use Rattle.rmt_config.specs.Spelling.{two_bytes, four_bytes, spelled_list8, spelled_list16, spelled_flag, spelled_lane, spelled_header, spelled_state, spelled_next, spelled_extract, spelled_entry, spelled_parser}

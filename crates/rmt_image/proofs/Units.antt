@@ -5,14 +5,8 @@ use Rattle.std.specs.Prelude.{bit_and}
 use Rattle.std.proofs.lemmas.Bool.{ltb-true, eqb-true, leb-true, and_parts, and_from}
 use Rattle.std.proofs.lemmas.Nat.{and_le_r}
 use Rattle.std.proofs.Math.Pow.{pow_mono}
-use Rattle.rmt_config.specs.declared.config.Unit.{Unit as ChipUnit}
+use Rattle.rmt_image.specs.Types.{Unit as ChipUnit, GateUnit, GateTest, UnitGuard, SlotUnit, CellNumber, Memory}
 use Rattle.rmt_config.specs.declared.config.Unit.TheVariants.{Gate, Slot}
-use Rattle.rmt_config.specs.declared.config.UnitGuard.{UnitGuard}
-use Rattle.rmt_config.specs.declared.config.GateUnit.{GateUnit}
-use Rattle.rmt_config.specs.declared.config.GateTest.{GateTest}
-use Rattle.rmt_config.specs.declared.config.SlotUnit.{SlotUnit}
-use Rattle.rmt_config.specs.declared.config.CellNumber.{CellNumber}
-use Rattle.rmt_config.specs.declared.config.Memory.{Memory}
 use Rattle.rmt_config.specs.declared.config.Memory.TheVariants.{Without, Exact, Ternary}
 use Rattle.rmt_config.specs.LaneForm.{lane_is_formed, bits_of_lanes}
 use Rattle.rmt_config.specs.Shapes.{ternary_shape}

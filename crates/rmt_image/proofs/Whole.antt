@@ -5,10 +5,7 @@ use Rattle.std.specs.List.{starts_with}
 use Rattle.std.specs.Cmp.Lexicographic.{same_text}
 use Rattle.std.proofs.lemmas.List.{append-nil, take-append-drop}
 use Rattle.rmt_bits.proofs.ByteLaws.{AreBytes}
-use Rattle.rmt_config.specs.declared.config.Config.{Config}
-use Rattle.rmt_config.specs.declared.config.OutHeader.{OutHeader}
-use Rattle.rmt_config.specs.declared.config.ParserConfig.{ParserConfig}
-use Rattle.rmt_config.specs.declared.config.Stage.{Stage}
+use Rattle.rmt_image.specs.Types.{Config, OutHeader, ParserConfig, Stage}
 use Rattle.rmt_config.specs.declared.limits.LimitHit.{LimitHit}
 use Rattle.rmt_config.specs.LaneForm.{is_lane_of, ports_are_formed, headers_are_formed}
 use Rattle.rmt_config.specs.ParserForm.{parser_is_formed}

@@ -13,7 +13,7 @@ use Rattle.std.proofs.lemmas.List.MinMax.{IsFirstBest-from_best_of}
 use Rattle.std.proofs.lemmas.Bool.{leb-true, le-leb}
 use Rattle.std.proofs.lemmas.Bool.Decides.{nat_tests}
 use Rattle.rmt_bits.proofs.ListLaws.{range_more}
-use Rattle.rmt_bits.proofs.AllLaws.{All-parts, All-flat_map}
+use Rattle.rmt_bits.proofs.AllLaws.{All-parts, All-flat_map, All-unmap, All-unfilter}
 use Rattle.rmt_config.specs.Shapes.{divided_up, record_width, records_a_row, record_units}
 use Rattle.rmt_pack.specs.declared.format.Format.{Format}
 use Rattle.rmt_pack.specs.declared.format.Need.{Need}
@@ -106,13 +106,6 @@ of_rest : {X : Type 0} (P : X → Type 0) (b : Bool) (x : X) (xs : List X) → A
 of_rest P true x xs all = All-tail P x xs all
 of_rest P false x xs all = all
 
-pub unfiltered : {X : Type 0} (P : X → Type 0) (t : X → Bool) (xs : List X) → All P (filter t xs) → All (λ x. t x ≡ true → P x) xs
-unfiltered P t [] all = All-nil (λ x. t x ≡ true → P x)
-unfiltered {X} P t (x ∷ xs) all =
-    All-cons (λ x. t x ≡ true → P x) x xs
-    (λ passes. All-head P x (filter t xs) (let F : Bool → Type 0 = λ b. All P (cond b (x ∷ filter t xs) (filter t xs)) in subst F passes all))
-    (unfiltered P t xs (of_rest P (t x) x (filter t xs) all))
-
 filtered_by : {X : Type 0} (P : X → Type 0) (b : Bool) (x : X) (xs : List X) → (b ≡ true → P x) → All P xs → All P (cond b (x ∷ xs) xs)
 filtered_by P true x xs here rest = All-cons P x xs (here refl) rest
 filtered_by P false x xs here rest = rest
@@ -121,10 +114,6 @@ pub filtered : {X : Type 0} (P : X → Type 0) (t : X → Bool) (xs : List X) �
 filtered P t [] all = All-nil P
 filtered P t (x ∷ xs) all =
     filtered_by P (t x) x (filter t xs) (All-head (λ x. t x ≡ true → P x) x xs all) (filtered P t xs (All-tail (λ x. t x ≡ true → P x) x xs all))
-
-pub of_map : {X Y : Type 0} (P : Y → Type 0) (f : X → Y) (xs : List X) → All P (map f xs) → All (λ x. P (f x)) xs
-of_map P f [] all = All-nil (λ x. P (f x))
-of_map P f (x ∷ xs) all = All-cons (λ x. P (f x)) x xs (All-head P (f x) (map f xs) all) (of_map P f xs (All-tail P (f x) (map f xs) all))
 
 pub of_range : (P : ℕ → Type 0) (a m k : ℕ) → a ≤ k → k < a + m → All P (range_with_len a m) → P k
 of_range P a m k low high all =
@@ -141,9 +130,9 @@ in_range P a (suc m) each =
 pub of_formats : (P : Format → Type 0) (n : Need) → All P (exact_formats n) → (f : Format) → IsExactFormat n f → P f
 of_formats P n all f is =
     let Q : Format → Type 0 = λ g. is_in_stage g ≡ true → P g in
-    let rows = All-parts Q (layouts_of_width n) (range_with_len 1 8) (unfiltered P is_in_stage _ all) in
+    let rows = All-parts Q (layouts_of_width n) (range_with_len 1 8) (All-unfilter P is_in_stage _ all) in
     let row = of_range (λ k. All Q (layouts_of_width n k)) 1 8 f.width is.has_width (omega (arith, is.width)) rows in
-    let cells = of_map Q (exact_layout n f.width) (range_with_len 1 (most_cells n f.width)) row in
+    let cells = All-unmap Q (exact_layout n f.width) (range_with_len 1 (most_cells n f.width)) row in
     let here : Q (exact_layout n f.width f.per) =
     of_range (λ p. Q (exact_layout n f.width p)) 1 (most_cells n f.width) f.per is.has_cells (omega (arith, is.cells)) cells in
     subst Q (sym is.layout) here (le-leb f.sram 106 is.one_stage)

@@ -6,8 +6,8 @@ use Rattle.std.proofs.Math.Nat.{mod-eq-sub-mod}
 use Rattle.std.specs.Prelude.{All}
 use Rattle.std.proofs.lemmas.List.Elements.{All-nil, All-append, All-map, All-weaker}
 use Rattle.rmt_bits.specs.declared.lane.Lane.{Lane}
-use Rattle.rmt_ast.specs.declared.program.Field.{Field}
 use Rattle.rmt_ast.specs.declared.program.Program.{Program}
+use Rattle.rmt_ast.specs.declared.program.Field.{Field}
 use Rattle.rmt_phv.specs.declared.fault.PhvFull.{PhvFull}
 use Rattle.rmt_phv.specs.Packing.{Piece, map_ok, pieces, pieces_at, lane_for, lanes_for, lane_then, field_then, places_from}
 use Rattle.rmt_phv.specs.Standing.{told}

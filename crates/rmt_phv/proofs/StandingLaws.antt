@@ -10,8 +10,8 @@ use Rattle.std.proofs.lemmas.List.Sums.{sum_by_push}
 use Rattle.std.proofs.lemmas.Option.{slice_get_cases, slice_get-get_or}
 use Rattle.rmt_bits.proofs.FunctionLaws.{funext}
 use Rattle.rmt_bits.specs.declared.lane.Lane.{Lane}
-use Rattle.rmt_ast.specs.declared.program.Action.{Action}
 use Rattle.rmt_ast.specs.declared.program.Program.{Program}
+use Rattle.rmt_ast.specs.declared.program.Action.{Action}
 use Rattle.rmt_phv.specs.declared.words.Word.{Word}
 use Rattle.rmt_phv.specs.Packing.{Piece, pieces_at, writes, holds, free_bit}
 use Rattle.rmt_phv.specs.Sets.{has, Meet}

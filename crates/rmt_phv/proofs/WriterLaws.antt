@@ -6,8 +6,8 @@ use Rattle.std.proofs.lemmas.Bool.{eq-eqb, ne_eqb, lt-ltb, le-ltb, cases_lt, cas
 use Rattle.std.proofs.lemmas.Option.{slice_get_past}
 use Rattle.std.proofs.lemmas.Nat.Bits.{bit_at-zero}
 use Rattle.rmt_bits.proofs.WordLaws.{get_or-zeros}
-use Rattle.rmt_ast.specs.declared.program.Action.{Action}
 use Rattle.rmt_ast.specs.declared.program.Program.{Program}
+use Rattle.rmt_ast.specs.declared.program.Action.{Action}
 use Rattle.rmt_phv.specs.Packing.{writes}
 use Rattle.rmt_phv.specs.Sets.{has}
 use Rattle.rmt_phv.specs.Writers.{assigns}

@@ -3,10 +3,10 @@ use Rattle.std.specs.Prelude.{ℕ, ◌+◌, ◌-◌, ◌/◌, ◌%◌, List, [],
 use Rattle.std.specs.List.{list_any, range_with_len}
 use Rattle.rmt_bits.specs.Words.{word_size}
 use Rattle.rmt_bits.specs.declared.lane.Lane.{Lane}
+use Rattle.rmt_ast.specs.declared.program.Program.{Program}
+use Rattle.rmt_ast.specs.declared.program.Field.{Field}
 use Rattle.rmt_ast.specs.declared.program.Action.{Action}
 use Rattle.rmt_ast.specs.declared.program.Assign.{Assign}
-use Rattle.rmt_ast.specs.declared.program.Field.{Field}
-use Rattle.rmt_ast.specs.declared.program.Program.{Program}
 use Rattle.rmt_phv.specs.declared.fault.PhvFull.{PhvFull}
 use Rattle.rmt_phv.specs.declared.fault.PhvFull.TheVariants.{At}
 

@@ -1,7 +1,7 @@
 -- Sets of the actions that assign a field.
 use Rattle.std.specs.Prelude.{◌≡◌, ℕ, ◌<◌, List, Bool, false, length, slice_get, slice_index_or, option_map, unwrap_or}
-use Rattle.rmt_ast.specs.declared.program.Action.{Action}
 use Rattle.rmt_ast.specs.declared.program.Program.{Program}
+use Rattle.rmt_ast.specs.declared.program.Action.{Action}
 use Rattle.rmt_phv.specs.Packing.{writes}
 use Rattle.rmt_phv.specs.Sets.{has}
 

@@ -9,7 +9,8 @@ use Rattle.rmt_place.specs.declared.demand.Demand.{Demand}
 use Rattle.rmt_place.specs.Needs.{demand_at}
 use Rattle.rmt_place.specs.Placing.{AreTwo, earliest_stage, fitting, order_of, placed_all, placed_node, spread, stages_from, standing_in, taken_part}
 use Rattle.rmt_place.proofs.KeepLaws.{placed_induction, placed_is, spread_own}
-use Rattle.rmt_place.proofs.OrderLaws.{order_goes, pairs_append, pairs_head, pairs_nil, pairs_tail}
+use Rattle.rmt_place.proofs.OrderLaws.{order_goes, pairs_nil}
+use Rattle.rmt_bits.proofs.PairLaws.{AllPairs-tail, AllPairs-head, AllPairs-append}
 
 -- the parts of a node stand in rising stages
 taken_rises : (n k taken : ℕ) → AllPairs (λ (x y : Part). x.stage < y.stage) (taken_part n k taken)
@@ -34,7 +35,7 @@ spread_rises demands parts n a (suc m) left =
     let taken = fitting (standing_in demands parts a) (demand_at demands n) left in
     let rest = (spread demands parts n (range_with_len (a + 1) m) (left - taken)).parts in
     let later = spread_own demands parts n (a + 1) (a + 1 + m) (a + 1) m (left - taken) (omega arith) (omega arith) in
-    pairs_append (λ (x y : Part). x.stage < y.stage) (taken_part n a taken) rest (taken_rises n a taken) (spread_rises demands parts n (a + 1) m (left - taken))
+    AllPairs-append (λ (x y : Part). x.stage < y.stage) (taken_part n a taken) rest (taken_rises n a taken) (spread_rises demands parts n (a + 1) m (left - taken))
     (λ i d lt j f inside. (let at = taken_at n a taken i d lt in let own = (later j f inside).behind in omega (arith, at, own)))
 
 no_range_rises : (demands : List Demand) (parts : List Part) (n a left : ℕ) → AllPairs (λ (x y : Part). x.stage < y.stage) (spread demands parts n (stages_from a) left).parts
@@ -57,15 +58,15 @@ parts_apart demands edges nodes final distinct is =
         let rises = no_range_rises demands parts n (earliest_stage edges parts n) (demand_at demands n).quanta in
         let others : All (λ (x : Part). x.node ≡ n → ⊥) parts = All-head (λ m. All (λ (x : Part). x.node ≡ m → ⊥) parts) n rest holds.2 in (
           subst (λ (l : List Part). AllPairs AreTwo l) (sym p.behind)
-              (pairs_append AreTwo parts own holds.0
+              (AllPairs-append AreTwo parts own holds.0
               (λ i j d lt below node stage. (let up = rises i j d lt below in absurd (omega (arith, up, stage))))
               (λ i d lt j f inside node stage. others i d lt (node ∙ (p.own_parts j f inside).node))),
-          pairs_tail (λ a b. a ≡ b → ⊥) n rest holds.1,
+          AllPairs-tail (λ a b. a ≡ b → ⊥) n rest holds.1,
           λ i d lt.
               subst (λ (l : List Part). All (λ (x : Part). x.node ≡ get_or rest i d → ⊥) l) (sym p.behind)
               (All-append (λ (x : Part). x.node ≡ get_or rest i d → ⊥) parts own
               (All-tail (λ m. All (λ (x : Part). x.node ≡ m → ⊥) parts) n rest holds.2 i d lt)
-              (λ j f inside same. pairs_head (λ a b. a ≡ b → ⊥) n rest holds.1 i d lt (sym (p.own_parts j f inside).node ∙ same))),
+              (λ j f inside same. AllPairs-head (λ a b. a ≡ b → ⊥) n rest holds.1 i d lt (sym (p.own_parts j f inside).node ∙ same))),
         )
 
 pub order_distinct : (levels : List ℕ) → AllPairs (λ m n. m ≡ n → ⊥) (order_of levels)

@@ -16,9 +16,11 @@ use Rattle.rmt_pack.specs.Placements.{is_strict, Keeps}
 use Rattle.rmt_place.specs.declared.demand.Demand.{Demand}
 use Rattle.rmt_place.specs.Needs.{demand_at}
 use Rattle.rmt_place.specs.Placing.{allowed_by, earliest_stage, fitting, hits_from, IsPart, last_stage, order_of, placed_all, placed_node, placed_then, settled, Spread, spread, stages_from, standing_in, Stuck, taken_part}
-use Rattle.rmt_place.proofs.LeastLaws.{items-le, of_filter}
+use Rattle.rmt_place.proofs.LeastLaws.{items-le}
 use Rattle.rmt_deps.proofs.LevelLaws.{path-le, path_there}
-use Rattle.rmt_place.proofs.OrderLaws.{Goes, order_goes, pairs_head, pairs_tail}
+use Rattle.rmt_place.proofs.OrderLaws.{Goes, order_goes}
+use Rattle.rmt_bits.proofs.AllLaws.{All-unfilter}
+use Rattle.rmt_bits.proofs.PairLaws.{AllPairs-tail, AllPairs-head}
 
 -- ---- the parts of a node
 
@@ -95,14 +97,14 @@ last-le parts n a there is =
     let all : All (λ (x : Part). x.stage ≤ last_stage parts n) (filter (λ (x : Part). eqb x.node n) parts) =
     items-le (λ (x : Part). x.stage) 0 (filter (λ (x : Part). eqb x.node n) parts) in
     All-contains (λ (x : Part). eqb x.node n ≡ true → x.stage ≤ last_stage parts n) parts a
-    (of_filter (λ (x : Part). x.stage ≤ last_stage parts n) (λ (x : Part). eqb x.node n) parts all) there (eq-eqb a.node n is)
+    (All-unfilter (λ (x : Part). x.stage ≤ last_stage parts n) (λ (x : Part). eqb x.node n) parts all) there (eq-eqb a.node n is)
 
 allowed-le : (edges : List Edge) (parts : List Part) (e : Edge) → Contains edges e → allowed_by parts e ≤ earliest_stage edges parts e.to
 allowed-le edges parts e there =
     let all : All (λ (x : Edge). allowed_by parts x ≤ earliest_stage edges parts e.to) (filter (λ (x : Edge). eqb x.to e.to) edges) =
     items-le (allowed_by parts) 0 (filter (λ (x : Edge). eqb x.to e.to) edges) in
     All-contains (λ (x : Edge). eqb x.to e.to ≡ true → allowed_by parts x ≤ earliest_stage edges parts e.to) edges e
-    (of_filter (λ (x : Edge). allowed_by parts x ≤ earliest_stage edges parts e.to) (λ (x : Edge). eqb x.to e.to) edges all) there (eq-eqb e.to e.to refl)
+    (All-unfilter (λ (x : Edge). allowed_by parts x ≤ earliest_stage edges parts e.to) (λ (x : Edge). eqb x.to e.to) edges all) there (eq-eqb e.to e.to refl)
 
 -- the parts so far keep an edge, and where its earlier node is still to come, none of them is of its later one
 pub record KeepsSoFar (e : Edge) (nodes : List ℕ) (parts : List Part) : Type 0 where
@@ -148,7 +150,7 @@ keeps_more demands edges e n rest parts more own there forward order so_far plac
           (λ i d lt. All-append (Keeps e (get_or own i d)) parts own (new_old i d lt) (new_new i d lt)));
       waits = λ later. subst (λ (l : List Part). All (λ (x : Part). x.node ≡ e.to → ⊥) l) (sym placed.behind)
           (All-append (λ (x : Part). x.node ≡ e.to → ⊥) parts own (so_far.waits (Contains-append_right (n ∷ []) rest e.from later))
-          (λ i d lt to. All-contains (λ m. n ≡ e.to → m ≡ e.from → ⊥) rest e.from (pairs_head (λ x y. x ≡ e.to → y ≡ e.from → ⊥) n rest order) later
+          (λ i d lt to. All-contains (λ m. n ≡ e.to → m ≡ e.from → ⊥) rest e.from (AllPairs-head (λ x y. x ≡ e.to → y ≡ e.from → ⊥) n rest order) later
           (sym (placed.own_parts i d lt).node ∙ to) refl));
     }
 
@@ -171,7 +173,7 @@ pub placed_keeps : (demands : List Demand) (edges : List Edge) (e : Edge) (nodes
 placed_keeps demands edges e nodes final there forward order is =
     (placed_induction demands edges (λ rest parts. InOrder e rest × KeepsSoFar e rest parts)
     (λ n rest parts more holds placed. (
-      pairs_tail (λ x y. x ≡ e.to → y ≡ e.from → ⊥) n rest holds.0,
+      AllPairs-tail (λ x y. x ≡ e.to → y ≡ e.from → ⊥) n rest holds.0,
       keeps_more demands edges e n rest parts more _ there forward holds.0 holds.1 (placed_is demands edges parts more n placed),
     ))
     nodes [] final (order, record { kept = All-nil (λ a. All (Keeps e a) []); waits = λ _. All-nil (λ (x : Part). x.node ≡ e.to → ⊥) }) is).1.kept

@@ -6,13 +6,13 @@ use Rattle.std.proofs.Math.ListN.{get_or-append}
 use Rattle.std.proofs.Math.Seq.{get_or-append_seam}
 use Rattle.std.proofs.lemmas.Bool.{cases_lt, eqb-true, eq-eqb, or_cases, false≢true}
 use Rattle.std.proofs.lemmas.List.Elements.{All-nil, All-cons, All-head, All-tail, All-map, All-contains, All-from_get_or, Contains-get_or, Contains-append_right}
-use Rattle.rmt_bits.proofs.AllLaws.{All-flat_map, All-parts}
+use Rattle.rmt_bits.proofs.AllLaws.{All-flat_map, All-parts, All-unfilter, All-unmap}
 use Rattle.rmt_bits.proofs.ListLaws.{flat_map-none}
 use Rattle.rmt_ast.specs.declared.deps.Edge.{Edge}
 use Rattle.rmt_config.specs.Resources.{greatest_by, is_in}
 use Rattle.rmt_pack.specs.declared.placement.Part.{Part}
 use Rattle.rmt_pack.specs.Starts.{distance, stages_of, KeepDistances}
-use Rattle.rmt_pack.proofs.FormatLaws.{filtered, of_map, of_range, in_range}
+use Rattle.rmt_pack.proofs.FormatLaws.{filtered, of_range, in_range}
 use Rattle.rmt_place.specs.Starting.{asked_by, next_start, stages_in, starts_behind, starts_of}
 use Rattle.rmt_place.proofs.StartLaws.{starts_until, starts_more}
 
@@ -53,15 +53,6 @@ contains_in ns n c = in_at ns n c.0 c.1 c.2
     in_at [] m k lt is = absurd (omega arith)
     in_at (x ∷ ms) m zero lt is = ap (λ b. b || is_in ms m) (eq-eqb x m is)
     in_at (x ∷ ms) m (suc k) lt is = or_later (eqb x m) (is_in ms m) (in_at ms m k (omega arith) is)
-
--- what a filter keeps has been tested
-pub of_filter : {X : Type 0} (P : X → Type 0) (t : X → Bool) (xs : List X) → All P (filter t xs) → All (λ x. t x ≡ true → P x) xs
-of_filter P t [] all = All-nil (λ x. t x ≡ true → P x)
-of_filter P t (x ∷ xs) all = by_test (t x) refl all (λ rest. of_filter P t xs rest)
-  where
-    by_test : (b : Bool) → t x ≡ b → All P (cond b (x ∷ filter t xs) (filter t xs)) → (All P (filter t xs) → All (λ y. t y ≡ true → P y) xs) → All (λ y. t y ≡ true → P y) (x ∷ xs)
-    by_test true e all rest = All-cons (λ y. t y ≡ true → P y) x xs (λ _. All-head P x (filter t xs) all) (rest (All-tail P x (filter t xs) all))
-    by_test false e all rest = All-cons (λ y. t y ≡ true → P y) x xs (λ is. absurd (false≢true (sym e ∙ is))) (rest all)
 
 -- ---- starts of the first stages
 
@@ -118,9 +109,9 @@ next-asked edges parts starts e j there from to lt =
     let behind : All (λ s. s ≤ next) (starts_behind starts parts k e.from (distance e.kind)) =
     subst (λ (b : Bool). All (λ s. s ≤ next) (cond b (starts_behind starts parts k e.from (distance e.kind)) [])) (contains_in (stages_of parts e.to) k to) own in
     let kept : All (λ i. get_or starts i 0 + distance e.kind ≤ next) (filter (is_in (stages_of parts e.from)) (range_with_len 0 k)) =
-    of_map (λ s. s ≤ next) (λ i. slice_index starts i + distance e.kind) (filter (is_in (stages_of parts e.from)) (range_with_len 0 k)) behind in
+    All-unmap (λ s. s ≤ next) (λ i. slice_index starts i + distance e.kind) (filter (is_in (stages_of parts e.from)) (range_with_len 0 k)) behind in
     of_range (λ i. is_in (stages_of parts e.from) i ≡ true → get_or starts i 0 + distance e.kind ≤ next) 0 k j (omega arith) (omega arith)
-    (of_filter (λ i. get_or starts i 0 + distance e.kind ≤ next) (is_in (stages_of parts e.from)) (range_with_len 0 k) kept)
+    (All-unfilter (λ i. get_or starts i 0 + distance e.kind ≤ next) (is_in (stages_of parts e.from)) (range_with_len 0 k) kept)
     (contains_in (stages_of parts e.from) j from)
 
 -- ---- all stages

@@ -7,8 +7,8 @@ use Rattle.std.proofs.lemmas.List.Elements.{All-head, All-tail, All-map}
 use Rattle.std.proofs.lemmas.List.Sums.{sum_by-append, sum_by-cons}
 use Rattle.rmt_bits.specs.declared.lane.Lane.{Lane}
 use Rattle.rmt_ast.specs.declared.program.Program.{Program}
-use Rattle.rmt_ast.specs.declared.program.Node.{Node}
 use Rattle.rmt_ast.specs.declared.program.Table.{Table}
+use Rattle.rmt_ast.specs.declared.program.Node.{Node}
 use Rattle.rmt_ast.specs.declared.program.What.{What}
 use Rattle.rmt_ast.specs.declared.program.What.TheVariants.{Apply, Gate}
 use Rattle.rmt_pack.specs.declared.format.Format.{Format}

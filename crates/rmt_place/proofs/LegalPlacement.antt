@@ -7,16 +7,16 @@ use Rattle.std.proofs.lemmas.List.{get_or_default, length-map}
 use Rattle.std.proofs.lemmas.List.Elements.{All-head, All-tail}
 use Rattle.std.proofs.lemmas.List.Sums.{sum_by-append}
 use Rattle.rmt_bits.specs.declared.lane.Lane.{Lane}
-use Rattle.rmt_bits.proofs.AllLaws.{All-left, All-parts}
+use Rattle.rmt_bits.proofs.AllLaws.{All-left, All-parts, All-unfilter}
 use Rattle.rmt_bits.proofs.ListLaws.{slice_get-item}
 use Rattle.rmt_ast.specs.declared.deps.Edge.{Edge}
 use Rattle.rmt_ast.specs.declared.deps.Deps.{Deps}
 use Rattle.rmt_ast.specs.declared.program.Program.{Program}
-use Rattle.rmt_ast.specs.declared.program.Node.{Node}
 use Rattle.rmt_ast.specs.declared.program.Table.{Table}
 use Rattle.rmt_ast.specs.declared.program.Kind.{Kind}
-use Rattle.rmt_ast.specs.declared.program.Kind.TheVariants.{Keyless, Exact, Prefix, Ternary}
+use Rattle.rmt_ast.specs.declared.program.Node.{Node}
 use Rattle.rmt_ast.specs.declared.program.What.{What}
+use Rattle.rmt_ast.specs.declared.program.Kind.TheVariants.{Keyless, Exact, Prefix, Ternary}
 use Rattle.rmt_ast.specs.declared.program.What.TheVariants.{Apply, Gate}
 use Rattle.rmt_ast.specs.WellFormed.{IsProgram, IsWhat}
 use Rattle.rmt_config.specs.Resources.{is_in}
@@ -37,7 +37,7 @@ use Rattle.rmt_place.specs.Needs.{Standing, demand_at, demands_of, keeps_limits,
 use Rattle.rmt_place.specs.Placing.{earliest_stage, hits_from, IsPart, order_of, placed_all, placed_node, settled, Spread, spread, stages_from, standing_in, Stuck}
 use Rattle.rmt_place.specs.Steps.{numbers_of}
 use Rattle.rmt_place.proofs.KeepLaws.{placed_induction, placed_is, placement_keeps}
-use Rattle.rmt_place.proofs.LeastLaws.{contains_in, of_filter}
+use Rattle.rmt_place.proofs.LeastLaws.{contains_in}
 use Rattle.rmt_place.proofs.LegalLaws.{format_at, same_blocks, spread_quanta, tables-le, taken-le, what_format}
 use Rattle.rmt_place.proofs.StageLaws.{kept_at}
 
@@ -55,7 +55,7 @@ all_there levels n lt small = by_cases (is_in (order_of levels) n) refl
         let level = get_or levels n 0 in
         let none = All-parts (λ m. m ≡ n → ⊥) (λ l. filter (λ m. eqb (get_or levels m 0) l) (range_with_len 0 (length levels))) (range_with_len 0 (length levels)) (not_in (order_of levels) n e) in
         let own = of_range (λ l. All (λ m. m ≡ n → ⊥) (filter (λ m. eqb (get_or levels m 0) l) (range_with_len 0 (length levels)))) 0 (length levels) level (omega arith) (omega arith) none in
-        let each = of_filter (λ m. m ≡ n → ⊥) (λ m. eqb (get_or levels m 0) level) (range_with_len 0 (length levels)) own in
+        let each = All-unfilter (λ m. m ≡ n → ⊥) (λ m. eqb (get_or levels m 0) level) (range_with_len 0 (length levels)) own in
         absurd (of_range (λ m. eqb (get_or levels m 0) level ≡ true → m ≡ n → ⊥) 0 (length levels) n (omega arith) (omega arith) each (eq-eqb level level refl) refl)
 
 settled_left : (n : ℕ) (parts more : List Part) (hits : List LimitHit) (s : Spread) → settled n parts hits s ≡ Ok more → s.left ≡ 0

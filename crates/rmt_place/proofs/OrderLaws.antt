@@ -2,28 +2,17 @@
 use Rattle.std.proofs.Common.{◌≡◌, ℕ, zero, suc, ◌+◌, ◌<◌, ◌≤◌, List, [], ◌∷◌, ◌++◌, length, get_or, filter, true, eqb, sym, subst, ap, ◌∙◌, arith}
 use Rattle.std.specs.List.{All, AllPairs, flat_map, range_with_len}
 use Rattle.std.proofs.lemmas.Bool.{eqb-true}
-use Rattle.std.proofs.lemmas.List.Elements.{All-nil, All-head, All-tail, All-append}
+use Rattle.std.proofs.lemmas.List.Elements.{All-nil, All-append}
 use Rattle.std.proofs.lemmas.List.Kept.{AllPairs-cons, AllPairs-filter}
 use Rattle.rmt_deps.proofs.EdgeLaws.{numbers_more}
 use Rattle.rmt_pack.proofs.FormatLaws.{filtered, in_range}
 use Rattle.rmt_place.specs.Placing.{order_of}
+use Rattle.rmt_bits.proofs.PairLaws.{AllPairs-append}
 
 -- ---- pairs of a list
 
-pub pairs_head : {X : Type 0} (R : X → X → Type 0) (x : X) (xs : List X) → AllPairs R (x ∷ xs) → All (R x) xs
-pairs_head R x xs all = λ k d lt. all 0 (suc k) d (omega arith) (omega arith)
-
-pub pairs_tail : {X : Type 0} (R : X → X → Type 0) (x : X) (xs : List X) → AllPairs R (x ∷ xs) → AllPairs R xs
-pairs_tail R x xs all = λ i j d lt below. all (suc i) (suc j) d (omega arith) (omega arith)
-
 pub pairs_nil : {X : Type 0} (R : X → X → Type 0) → AllPairs R []
 pairs_nil R = λ i j d lt below. absurd (omega arith)
-
-pub pairs_append : {X : Type 0} (R : X → X → Type 0) (xs ys : List X) → AllPairs R xs → AllPairs R ys → All (λ x. All (R x) ys) xs → AllPairs R (xs ++ ys)
-pairs_append R [] ys front back across = back
-pairs_append R (x ∷ xs) ys front back across =
-    AllPairs-cons R x (xs ++ ys) (All-append (R x) xs ys (pairs_head R x xs front) (All-head (λ z. All (R z) ys) x xs across))
-    (pairs_append R xs ys (pairs_tail R x xs front) back (All-tail (λ z. All (R z) ys) x xs across))
 
 range_rises : (a m : ℕ) → AllPairs (λ x y. x < y) (range_with_len a m)
 range_rises a zero = pairs_nil (λ x y. x < y)
@@ -73,7 +62,7 @@ first_goes levels (suc k) =
     let more : suc k ≡ k + 1 = omega arith in
     let e : first_levels levels (suc k) ≡ first_levels levels k ++ of_level levels (0 + k) = ap (first_levels levels) more ∙ numbers_more (of_level levels) 0 k in
     subst (λ (l : List ℕ). AllPairs (Goes levels) l) (sym e)
-    (pairs_append (Goes levels) (first_levels levels k) (of_level levels (0 + k)) (first_goes levels k) (level_goes levels (0 + k))
+    (AllPairs-append (Goes levels) (first_levels levels k) (of_level levels (0 + k)) (first_goes levels k) (level_goes levels (0 + k))
     (λ i d lt j f inside.
     (let below = levels_below levels k i d lt in
     let is = level_is levels (0 + k) j f inside in

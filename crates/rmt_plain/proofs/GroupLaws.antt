@@ -1,5 +1,5 @@
 -- Entries that are put into groups, one after another.
-use Rattle.std.proofs.Common.{◌≡◌, ◌≢◌, ℕ, zero, suc, ◌+◌, ◌<◌, ◌≤◌, ◌++◌, Bool, true, false, cond, List, [], ◌∷◌, length, get_or, Option, Some, None, ⊎_elim, refl, sym, ap, subst, ◌∙◌, arith}
+use Rattle.std.proofs.Common.{◌≡◌, ◌≢◌, ℕ, ◌+◌, ◌<◌, ◌≤◌, ◌++◌, Bool, true, false, cond, List, [], ◌∷◌, length, get_or, Option, Some, None, ⊎_elim, refl, sym, ap, subst, ◌∙◌, arith}
 use Rattle.std.specs.Prelude.{All, AllPairs, IsSomeAnd, slice_get, slice_set, unwrap_or}
 use Rattle.std.proofs.lemmas.Bool.{cases_eq, cases_lt}
 use Rattle.std.proofs.lemmas.List.{get_or-map, length-map, map_push, length_push}
@@ -7,7 +7,7 @@ use Rattle.std.proofs.lemmas.List.Elements.{All-push, All-set}
 use Rattle.std.proofs.lemmas.List.Quantifiers.{all_pairs_push}
 use Rattle.std.proofs.lemmas.Option.{none-some, slice_get_within, slice_get-get_or, get_or_from_slice_get}
 use Rattle.std.proofs.Math.Seq.{map-set_same}
-use Rattle.rmt_bits.proofs.ListLaws.{slice_get-front, slice_get-end}
+use Rattle.rmt_bits.proofs.ListLaws.{slice_get-front, slice_get-more, slice_get-pushed, slice_get-set_same, slice_get-set_other, IsSomeAnd-more}
 use Rattle.rmt_ast.specs.declared.entry.Entry.{Entry}
 use Rattle.rmt_plain.specs.declared.group.Group.{Group}
 use Rattle.rmt_plain.specs.declared.grouping.Grouping.{Grouping}
@@ -16,39 +16,13 @@ use Rattle.rmt_plain.specs.Indexing.{AreIndexed, Chosen}
 use Rattle.rmt_plain.specs.Places.{are_same, place_of, HasPut}
 use Rattle.rmt_plain.proofs.PlaceLaws.{same_lists_of, are_same-own}
 
--- what is found among items is found among more
-slice_get-more : {X : Type 0} (xs : List X) (y : X) (i : ℕ) (x : X) → slice_get xs i ≡ Some x → slice_get (xs ++ y ∷ []) i ≡ Some x
-slice_get-more xs y i x at = slice_get-front xs (y ∷ []) i (slice_get_within xs i x at) ∙ at
-
-slice_get-pushed : {X : Type 0} (xs : List X) (y : X) → slice_get (xs ++ y ∷ []) (length xs) ≡ Some y
-slice_get-pushed xs y = ap (slice_get (xs ++ y ∷ [])) (let e : length xs ≡ length xs + 0 = omega arith in e) ∙ slice_get-end xs (y ∷ []) 0
-
-slice_get-set_same : {X : Type 0} (xs : List X) (k : ℕ) (x y : X) → slice_get xs k ≡ Some x → slice_get (slice_set xs k y) k ≡ Some y
-slice_get-set_same [] k x y at = absurd (none-some x at)
-slice_get-set_same (z ∷ zs) zero x y at = refl
-slice_get-set_same (z ∷ zs) (suc k) x y at = slice_get-set_same zs k x y at
-
-pub slice_get-set_other : {X : Type 0} (xs : List X) (k m : ℕ) (y : X) → m ≢ k → slice_get (slice_set xs k y) m ≡ slice_get xs m
-slice_get-set_other [] k m y apart = refl
-slice_get-set_other (z ∷ zs) zero zero y apart = absurd (apart refl)
-slice_get-set_other (z ∷ zs) zero (suc m) y apart = refl
-slice_get-set_other (z ∷ zs) (suc k) zero y apart = refl
-slice_get-set_other (z ∷ zs) (suc k) (suc m) y apart = slice_get-set_other zs k m y (λ e. apart (ap suc e))
-
-some_more : {X : Type 0} (P : X → Type 0) (xs : List X) (y : X) (i : ℕ) → IsSomeAnd (slice_get xs i) P → IsSomeAnd (slice_get (xs ++ y ∷ []) i) P
-some_more P xs y i h = by (slice_get xs i) refl h
-  where
-    by : (o : Option _) → slice_get xs i ≡ o → IsSomeAnd o P → IsSomeAnd (slice_get (xs ++ y ∷ []) i) P
-    by None is h = absurd h
-    by (Some x) is h = subst (λ o. IsSomeAnd o P) (sym (slice_get-more xs y i x is)) h
-
 -- place i is that of an entry of the masks that wants these bits, and no earlier than the first
 abbrev IsPlace : List Entry → ℕ → List ℕ → List ℕ → ℕ → Type 0
 IsPlace es first masks vs i = (first ≤ i) × IsSomeAnd (slice_get es i) (λ (x : Entry). (masks_of x.tests ≡ masks) × (values_of x.tests ≡ vs))
 
 -- a group has its places among more entries too
 places_more : (es : List Entry) (e : Entry) (g : Group) → HasPlaces es g → HasPlaces (es ++ e ∷ []) g
-places_more es e g h vs i found = ((h vs i found).0, some_more (λ (x : Entry). (masks_of x.tests ≡ g.masks.items) × (values_of x.tests ≡ vs)) es e i (h vs i found).1)
+places_more es e g h vs i found = ((h vs i found).0, IsSomeAnd-more (λ (x : Entry). (masks_of x.tests ≡ g.masks.items) × (values_of x.tests ≡ vs)) es e i (h vs i found).1)
 
 module _ (es : List Entry) (groups : List Group) (old : AreGrouped es groups) where
   -- a new group
@@ -188,7 +162,7 @@ begin_indexed masks at old new g number is first empty counted groups put es siz
             subst (λ n. IsSomeAnd (slice_get new.groups.items n) (λ (x : Group). x.masks.items ≡ ms)) k_is (at_number ms (same_lists_of ms masks same))
         by false same h =
             subst (λ (gs : List Group). IsSomeAnd (slice_get gs k) (λ (x : Group). x.masks.items ≡ ms)) (sym groups)
-            (some_more (λ (x : Group). x.masks.items ≡ ms) old.groups.items g k (ix.index ms k h))
+            (IsSomeAnd-more (λ (x : Group). x.masks.items ≡ ms) old.groups.items g k (ix.index ms k h))
 
 -- an entry that is put into the group of its masks
 pub put_indexed : (es : List Entry) (e : Entry) (at k : ℕ) (old new : Grouping) (d h : Group) → length es ≡ at → AreIndexed es old × IsSomeAnd (slice_get old.groups.items k) (λ (x : Group). x.masks.items ≡ masks_of e.tests)

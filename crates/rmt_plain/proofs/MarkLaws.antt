@@ -8,7 +8,7 @@ use Rattle.std.proofs.lemmas.Option.{none-some}
 use Rattle.rmt_ast.specs.declared.entry.Entry.{Entry}
 use Rattle.rmt_plain.specs.Marks.{slot_of, is_marked}
 use Rattle.rmt_plain.specs.Grouping.{slot_for, IsMarked, AreMarks}
-use Rattle.rmt_plain.proofs.GroupLaws.{slice_get-set_other}
+use Rattle.rmt_bits.proofs.ListLaws.{slice_get-set_other}
 
 not_marked : (slots k : ℕ) → slice_get (replicate slots false) k ≡ Some true → ⊥
 not_marked zero k h = none-some true h

@@ -8,12 +8,12 @@ use Rattle.std.proofs.lemmas.Option.{slice_get-map}
 use Rattle.rmt_bits.proofs.AllLaws.{All-slice_get}
 use Rattle.rmt_bits.proofs.ListLaws.{slice_get-alike}
 use Rattle.rmt_ast.specs.declared.program.Program.{Program}
-use Rattle.rmt_ast.specs.declared.program.Table.{Table}
 use Rattle.rmt_ast.specs.declared.program.Test.{Test}
+use Rattle.rmt_ast.specs.declared.program.Table.{Table}
 use Rattle.rmt_ast.specs.declared.program.Kind.{Kind}
-use Rattle.rmt_ast.specs.declared.program.Kind.TheVariants.{Keyless, Exact, Prefix, Ternary}
 use Rattle.rmt_ast.specs.declared.program.Node.{Node}
 use Rattle.rmt_ast.specs.declared.program.What.{What}
+use Rattle.rmt_ast.specs.declared.program.Kind.TheVariants.{Keyless, Exact, Prefix, Ternary}
 use Rattle.rmt_ast.specs.declared.program.What.TheVariants.{Apply, Gate}
 use Rattle.rmt_ast.specs.declared.entry.Entry.{Entry}
 use Rattle.rmt_ast.specs.State.{width_of}

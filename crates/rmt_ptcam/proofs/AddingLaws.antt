@@ -6,12 +6,9 @@ use Rattle.std.proofs.lemmas.List.{take_rest, append-nil, length-append, length-
 use Rattle.std.proofs.lemmas.List.Elements.{All-head, All-tail, filter-append}
 use Rattle.std.proofs.lemmas.Bool.{eq-eqb, eqb-true, ltb-true, ne_eqb}
 use Rattle.std.proofs.lemmas.Option.{same_Some}
-use Rattle.rmt_config.specs.declared.config.ParserConfig.{ParserConfig}
-use Rattle.rmt_config.specs.declared.config.ParserEntry.{ParserEntry}
-use Rattle.rmt_config.specs.declared.config.TailOf.{TailOf}
+use Rattle.rmt_ptcam.specs.Types.{ParserConfig, ParserState, ParserEntry, TailOf}
 use Rattle.rmt_config.specs.Parser.{tail_of}
 use Rattle.rmt_ptcam.specs.Adding.{Adds}
-use Rattle.rmt_config.specs.declared.config.ParserState.{ParserState}
 use Rattle.rmt_ptcam.proofs.JoinFacts.{rows_in_entries}
 use Rattle.rmt_ptcam.specs.Joining.{Row, entries_in, joined_row, numbered, parser_of, rows_in, rows_of, tails_in, widened, widened_entry}
 use Rattle.rmt_ptcam.proofs.FormedRows.{entries_of_rows, row_at}

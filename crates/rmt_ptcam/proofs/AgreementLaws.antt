@@ -14,13 +14,7 @@ use Rattle.rmt_bits.proofs.AllLaws.{All-find}
 use Rattle.rmt_bits.proofs.ByteLaws.{AreBytes}
 use Rattle.rmt_bits.proofs.ListLaws.{slice_get-item}
 use Rattle.rmt_bits.proofs.WordLaws.{get_or-zeros}
-use Rattle.rmt_ast.specs.declared.program.Program.{Program}
-use Rattle.rmt_ast.specs.declared.program.Header.{Header}
-use Rattle.rmt_ast.specs.declared.program.Case.{Case}
-use Rattle.rmt_ast.specs.declared.program.Field.{Field}
-use Rattle.rmt_ast.specs.declared.program.Tail.{Tail}
-use Rattle.rmt_ast.specs.declared.program.Test.{Test}
-use Rattle.rmt_ast.specs.declared.program.Target.{Target}
+use Rattle.rmt_ptcam.specs.Types.{Program, Field, Header, Tail, Case, Test, Target, ParserConfig, ParserState, ParserEntry, TailOf}
 use Rattle.rmt_ast.specs.declared.program.Target.TheVariants as target
 use Rattle.rmt_ast.specs.Places.{lanes_of}
 use Rattle.rmt_ast.specs.State.{width_of, set_fields, start}
@@ -32,10 +26,6 @@ use Rattle.rmt_phv.specs.Places.{KeepsApart}
 use Rattle.rmt_config.specs.Agreement.{held_in, Holds, HasReached, EndsAs, AgreesWith}
 use Rattle.rmt_config.specs.ChipRun.{tail_bytes}
 use Rattle.rmt_config.specs.declared.config.Extract.TheVariants.{One}
-use Rattle.rmt_config.specs.declared.config.ParserConfig.{ParserConfig}
-use Rattle.rmt_config.specs.declared.config.ParserEntry.{ParserEntry}
-use Rattle.rmt_config.specs.declared.config.ParserState.{ParserState}
-use Rattle.rmt_config.specs.declared.config.TailOf.{TailOf}
 use Rattle.rmt_config.specs.declared.tails.TailAt.{TailAt}
 use Rattle.rmt_config.specs.LaneForm.{bits_of_lanes}
 use Rattle.rmt_config.specs.Parser.{Parse, Reached, Short, Reject, parse, parse_from, begin, behind, behind_tail, extracted, follow, lookup_value, no_tail, past_length, past_tail, step, tail_length, taken, value_at, entry_of}

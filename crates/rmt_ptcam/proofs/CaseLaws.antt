@@ -11,9 +11,7 @@ use Rattle.std.proofs.lemmas.List.FromFn.{length-range_with_len, get_or-range_wi
 use Rattle.rmt_bits.specs.Bits.{slice, bytes_of}
 use Rattle.rmt_bits.proofs.AllLaws.{All-range}
 use Rattle.rmt_bits.proofs.BitLaws.{slice-lt}
-use Rattle.rmt_ast.specs.declared.program.Program.{Program}
-use Rattle.rmt_ast.specs.declared.program.Header.{Header}
-use Rattle.rmt_ast.specs.declared.program.Test.{Test}
+use Rattle.rmt_ptcam.specs.Types.{Program, Header, Test}
 use Rattle.rmt_ast.specs.State.{width_of, passes}
 use Rattle.rmt_ast.specs.Walk.{all_pass}
 use Rattle.rmt_ast.specs.WellFormed.{IsHeader, AreTests}

@@ -4,15 +4,10 @@ use Rattle.std.specs.Prelude.{codes, is_some, replicate}
 use Rattle.std.specs.List.{range_with_len}
 use Rattle.rmt_bits.specs.declared.lane.Lane.{Lane}
 use Rattle.rmt_ast.proofs.Programs.{field, two_headers, tail_between}
-use Rattle.rmt_ast.specs.declared.program.Case.{Case}
-use Rattle.rmt_ast.specs.declared.program.Field.{Field}
-use Rattle.rmt_ast.specs.declared.program.Program.{Program}
-use Rattle.rmt_ast.specs.declared.program.Target.{Target}
+use Rattle.rmt_ptcam.specs.Types.{Program, Field, Case, Target, ParserConfig, ParserEntry}
 use Rattle.rmt_ast.specs.declared.program.Target.TheVariants as target
 use Rattle.rmt_config.specs.declared.config.Extract.TheVariants.{Bits, One}
 use Rattle.rmt_config.specs.declared.config.Next.TheVariants as next
-use Rattle.rmt_config.specs.declared.config.ParserEntry.{ParserEntry}
-use Rattle.rmt_config.specs.declared.config.ParserConfig.{ParserConfig}
 use Rattle.rmt_config.specs.Parser.{parse, Short}
 use Rattle.rmt_ptcam.specs.Plain.{plain}
 use Rattle.rmt_ptcam.specs.Joining.{join_of, byte_at, spread, together}

@@ -14,12 +14,8 @@ use Rattle.std.proofs.lemmas.Option.{get_or_from_slice_get, slice_get-get_or, sl
 use Rattle.rmt_bits.proofs.AllLaws.{All-find}
 use Rattle.rmt_bits.proofs.FunctionLaws.{funext}
 use Rattle.rmt_bits.proofs.ListLaws.{range_more}
-use Rattle.rmt_config.specs.declared.config.ParserConfig.{ParserConfig}
-use Rattle.rmt_config.specs.declared.config.ParserEntry.{ParserEntry}
-use Rattle.rmt_config.specs.declared.config.ParserState.{ParserState}
-use Rattle.rmt_config.specs.declared.config.Next.{Next}
+use Rattle.rmt_ptcam.specs.Types.{ParserConfig, ParserState, ParserEntry, Next, TailOf}
 use Rattle.rmt_config.specs.declared.config.Next.TheVariants as next
-use Rattle.rmt_config.specs.declared.config.TailOf.{TailOf}
 use Rattle.rmt_config.specs.Parser.{Parse, Reached, Short, begin, behind, follow, parse_from, past_tail, value_at}
 use Rattle.rmt_config.specs.ParserForm.{lookups_of, next_is_formed, state_is_formed}
 use Rattle.rmt_ptcam.specs.Adding.{Adds}

@@ -11,13 +11,7 @@ use Rattle.std.proofs.lemmas.List.Elements.{All-nil, All-head, All-tail, All-app
 use Rattle.std.proofs.lemmas.List.Folds.{find-append}
 use Rattle.std.proofs.lemmas.Option.{slice_get-get_or, same_Some}
 use Rattle.rmt_bits.specs.declared.lane.Lane.{Lane}
-use Rattle.rmt_ast.specs.declared.program.Program.{Program}
-use Rattle.rmt_ast.specs.declared.program.Header.{Header}
-use Rattle.rmt_ast.specs.declared.program.Case.{Case}
-use Rattle.rmt_ast.specs.declared.program.Tail.{Tail}
-use Rattle.rmt_ast.specs.declared.program.Target.{Target}
-use Rattle.rmt_config.specs.declared.config.ParserEntry.{ParserEntry}
-use Rattle.rmt_config.specs.declared.config.TailOf.{TailOf}
+use Rattle.rmt_ptcam.specs.Types.{Program, Header, Tail, Case, Target, ParserEntry, TailOf}
 use Rattle.rmt_config.specs.Parser.{entry_of, tail_of}
 use Rattle.rmt_ptcam.specs.Needs.{entry_count}
 use Rattle.rmt_ptcam.specs.Plain.{entry_to, entry_of_case, entries_of, entries_from, tail_at, tails_for, tails_from, plain}

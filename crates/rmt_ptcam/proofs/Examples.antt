@@ -2,8 +2,7 @@
 use Rattle.std.proofs.Common.{◌≡◌, ◌++◌, ℕ, List, [], ◌∷◌, None, Some, map, refl}
 use Rattle.rmt_bits.specs.declared.lane.Lane.{Lane}
 use Rattle.rmt_ast.proofs.Programs.{two_headers, tail_between}
-use Rattle.rmt_ast.specs.declared.program.Program.{Program}
-use Rattle.rmt_ast.specs.declared.program.Header.{Header}
+use Rattle.rmt_ptcam.specs.Types.{Program, Header}
 use Rattle.rmt_ast.specs.declared.program.Target.TheVariants as target
 use Rattle.rmt_ast.proofs.Programs.{field, with_fields, header}
 use Rattle.std.specs.Prelude.{codes, replicate}

@@ -6,18 +6,12 @@ use Rattle.std.proofs.lemmas.Bool.{cases_eq, and_from, and_parts, eqb-true, eq-e
 use Rattle.std.proofs.lemmas.List.{append-nil, length-append, length-map, length-take-le, reverse-append, take_all, map-append, take-map, drop-map, take_at, drop_at}
 use Rattle.std.proofs.lemmas.List.Elements.{All-nil, All-cons, All-append, All-head, All-map, All-tail, All-weaker, filter-append}
 use Rattle.std.proofs.lemmas.Option.{slice_get-map, slice_get_within}
-use Rattle.rmt_ast.specs.declared.program.Program.{Program}
-use Rattle.rmt_ast.specs.declared.program.Header.{Header}
-use Rattle.rmt_ast.specs.declared.program.Target.{Target}
+use Rattle.rmt_ptcam.specs.Types.{Program, Header, Case, Target, ParserConfig, ParserEntry, Next}
 use Rattle.rmt_ast.specs.declared.program.Target.TheVariants as target
-use Rattle.rmt_config.specs.declared.config.ParserConfig.{ParserConfig}
-use Rattle.rmt_config.specs.declared.config.ParserEntry.{ParserEntry}
-use Rattle.rmt_config.specs.declared.config.Next.{Next}
 use Rattle.rmt_config.specs.declared.config.Next.TheVariants as next
 use Rattle.std.proofs.lemmas.Option.{same_Some}
 use Rattle.rmt_bits.specs.declared.lane.Lane.{Lane}
 use Rattle.std.proofs.lemmas.List.Folds.{list_any-append}
-use Rattle.rmt_ast.specs.declared.program.Case.{Case}
 use Rattle.rmt_bits.proofs.ListLaws.{range_more, slice_get-end, slice_get-item}
 use Rattle.rmt_ptcam.specs.Joining.{KeepsForm, Row, can_join, entries_in, is_among, join_at, join_to, joined, joined_row, lookups_at, number_of_entry, rows_in, rows_of, together, widened, widened_entry}
 use Rattle.rmt_ptcam.specs.Clustering.{Clustering, all_joined, arrivals, behind_join, clustered, compact, is_met, is_wanted, one_entry, one_header, renamed, some_entries, state_behind, targets_of}

@@ -8,8 +8,7 @@ use Rattle.std.proofs.lemmas.List.Elements.{All-head, All-tail}
 use Rattle.std.proofs.lemmas.List.FromFn.{length-range_with_len, get_or-range_with_len}
 use Rattle.std.proofs.lemmas.Option.{same_Some}
 use Rattle.rmt_bits.specs.Bits.{slice}
-use Rattle.rmt_ast.specs.declared.program.Program.{Program}
-use Rattle.rmt_ast.specs.declared.program.Header.{Header}
+use Rattle.rmt_ptcam.specs.Types.{Program, Header}
 use Rattle.rmt_ast.specs.State.{width_of, set_fields}
 use Rattle.rmt_ast.specs.WellFormed.{HasFields, AreDistinct, bits_of, header_fields}
 use Rattle.rmt_ptcam.specs.Needs.{place_in}

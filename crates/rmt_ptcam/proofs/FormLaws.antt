@@ -11,18 +11,11 @@ use Rattle.rmt_bits.specs.Words.{word_size}
 use Rattle.rmt_bits.specs.declared.lane.Lane.{Lane}
 use Rattle.rmt_bits.proofs.AllLaws.{All-slice_get, All-flat_map}
 use Rattle.rmt_bits.proofs.ListLaws.{slice_get-front, slice_get-end}
-use Rattle.rmt_ast.specs.declared.program.Program.{Program}
-use Rattle.rmt_ast.specs.declared.program.Field.{Field}
-use Rattle.rmt_ast.specs.declared.program.Header.{Header}
-use Rattle.rmt_ast.specs.declared.program.Tail.{Tail}
-use Rattle.rmt_ast.specs.declared.program.Target.{Target}
+use Rattle.rmt_ptcam.specs.Types.{Program, Field, Header, Tail, Target, ParserConfig, ParserEntry, TailOf}
 use Rattle.rmt_ast.specs.State.{width_of}
 use Rattle.rmt_ast.specs.WellFormed.{IsProgram, IsHeader, IsTail, bits_of}
 use Rattle.rmt_phv.specs.Packing.{pieces}
 use Rattle.rmt_phv.specs.Places.{LiesInWord, lengths_of}
-use Rattle.rmt_config.specs.declared.config.ParserConfig.{ParserConfig}
-use Rattle.rmt_config.specs.declared.config.ParserEntry.{ParserEntry}
-use Rattle.rmt_config.specs.declared.config.TailOf.{TailOf}
 use Rattle.rmt_config.specs.declared.config.Extract.TheVariants.{Bits, One}
 use Rattle.rmt_config.specs.ParserForm.{extract_is_formed}
 use Rattle.rmt_config.specs.LaneForm.{lane_is_formed, bits_of_lanes}

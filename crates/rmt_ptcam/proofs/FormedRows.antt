@@ -7,10 +7,7 @@ use Rattle.std.proofs.lemmas.List.{length-append}
 use Rattle.std.proofs.lemmas.List.Elements.{All-nil, All-cons, All-head, All-tail}
 use Rattle.std.proofs.lemmas.Option.{same_Some}
 use Rattle.rmt_bits.proofs.ListLaws.{slice_get-end}
-use Rattle.rmt_config.specs.declared.config.ParserConfig.{ParserConfig}
-use Rattle.rmt_config.specs.declared.config.ParserEntry.{ParserEntry}
-use Rattle.rmt_config.specs.declared.config.ParserState.{ParserState}
-use Rattle.rmt_config.specs.declared.config.TailOf.{TailOf}
+use Rattle.rmt_ptcam.specs.Types.{ParserConfig, ParserState, ParserEntry, TailOf}
 use Rattle.rmt_config.specs.Parser.{tail_of}
 use Rattle.rmt_config.specs.ParserForm.{entry_is_formed, extract_is_formed, lookups_of, match_is_formed, next_is_formed}
 use Rattle.rmt_ptcam.specs.Joining.{Row, KeepsForm, rows_from, rows_of}

@@ -14,7 +14,7 @@ use Rattle.rmt_bits.proofs.ByteLaws.{bits_of_bytes-add, bits_of_bytes-lt, bits_o
 use Rattle.rmt_ast.specs.Places.{lanes_of}
 use Rattle.rmt_phv.specs.Places.{LiesInWord, AreApart}
 use Rattle.rmt_config.specs.Agreement.{held_in, Holds}
-use Rattle.rmt_config.specs.declared.config.Extract.{Extract}
+use Rattle.rmt_ptcam.specs.Types.{Extract}
 use Rattle.rmt_config.specs.declared.config.Extract.TheVariants.{Bits, One}
 use Rattle.rmt_config.specs.LaneForm.{bits_of_lanes}
 use Rattle.rmt_config.specs.Parser.{put, extracted}

@@ -8,9 +8,7 @@ use Rattle.std.proofs.lemmas.List.Elements.{All-head, All-tail, All-nil, filter_
 use Rattle.std.proofs.lemmas.List.{append-nil}
 use Rattle.std.specs.Int.Bits.{and_zero_r}
 use Rattle.rmt_bits.proofs.AllLaws.{All-from_test, All-slice_get}
-use Rattle.rmt_config.specs.declared.config.ParserConfig.{ParserConfig}
-use Rattle.rmt_config.specs.declared.config.ParserEntry.{ParserEntry}
-use Rattle.rmt_config.specs.declared.config.ParserState.{ParserState}
+use Rattle.rmt_ptcam.specs.Types.{ParserConfig, ParserState, ParserEntry}
 use Rattle.rmt_config.specs.Order.{rises_from}
 use Rattle.rmt_config.specs.Parser.{tail_of, value_at}
 use Rattle.rmt_config.specs.ParserForm.{lookups_of, state_is_formed}

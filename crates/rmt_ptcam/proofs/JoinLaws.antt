@@ -7,9 +7,7 @@ use Rattle.std.proofs.Math.Seq.{take-add}
 use Rattle.rmt_bits.specs.Bits.{bits_of_bytes}
 use Rattle.rmt_bits.proofs.AllLaws.{All-from_test}
 use Rattle.rmt_bits.proofs.ByteLaws.{AreBytes}
-use Rattle.rmt_config.specs.declared.config.ParserEntry.{ParserEntry}
-use Rattle.rmt_config.specs.declared.config.ParserState.{ParserState}
-use Rattle.rmt_config.specs.declared.config.TailOf.{TailOf}
+use Rattle.rmt_ptcam.specs.Types.{ParserState, ParserEntry, TailOf}
 use Rattle.rmt_config.specs.Parser.{Parse, Reached, Short, behind, extracted, follow, past_length, past_tail, step, tail_length}
 use Rattle.rmt_config.specs.ParserForm.{extract_is_formed}
 use Rattle.rmt_ptcam.specs.Joining.{Row, joined_entry, moved}

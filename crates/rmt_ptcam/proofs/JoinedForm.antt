@@ -7,9 +7,7 @@ use Rattle.std.proofs.lemmas.List.Elements.{All-nil, All-cons, All-append, All-h
 use Rattle.rmt_bits.proofs.AllLaws.{All-from_test}
 use Rattle.std.proofs.lemmas.Option.{slice_get-map}
 use Rattle.rmt_bits.proofs.ListLaws.{slice_get-end}
-use Rattle.rmt_config.specs.declared.config.ParserEntry.{ParserEntry}
-use Rattle.rmt_config.specs.declared.config.ParserState.{ParserState}
-use Rattle.rmt_config.specs.declared.config.TailOf.{TailOf}
+use Rattle.rmt_ptcam.specs.Types.{ParserState, ParserEntry, TailOf}
 use Rattle.rmt_config.specs.ParserForm.{entry_is_formed, extract_is_formed, state_is_formed}
 use Rattle.rmt_ptcam.specs.Fitting.{IsEntry, IsTailOf}
 use Rattle.rmt_ptcam.specs.Joining.{KeepsForm, Row, numbered, parser_of, tails_in}

@@ -8,10 +8,7 @@ use Rattle.std.proofs.lemmas.List.Folds.{find-append}
 use Rattle.std.proofs.lemmas.List.Elements.{All-head, All-tail, All-take, All-drop, All-filter, All-weaker, All-map}
 use Rattle.std.proofs.lemmas.List.Elements.{filter_passes}
 use Rattle.rmt_bits.proofs.AllLaws.{All-find, All-slice_get}
-use Rattle.rmt_config.specs.declared.config.ParserConfig.{ParserConfig}
-use Rattle.rmt_config.specs.declared.config.ParserEntry.{ParserEntry}
-use Rattle.rmt_config.specs.declared.config.ParserState.{ParserState}
-use Rattle.rmt_config.specs.declared.config.Next.{Next}
+use Rattle.rmt_ptcam.specs.Types.{ParserConfig, ParserState, ParserEntry, Next}
 use Rattle.rmt_config.specs.declared.config.Next.TheVariants as next
 use Rattle.rmt_config.specs.Parser.{Parse, Reached, Short, begin, behind, follow, lookup_value, parse_from, tail_of, value_at}
 use Rattle.rmt_config.specs.ParserForm.{next_is_formed}
@@ -23,6 +20,7 @@ use Rattle.rmt_ptcam.proofs.JoinLaws.{two_steps}
 use Rattle.rmt_ptcam.proofs.LookupLaws.{looked_at, test_widened}
 use Rattle.rmt_ptcam.proofs.RowLaws.{follow_later, hits, row_step, step_same, taken_made, taken_row}
 use Rattle.rmt_ptcam.proofs.TogetherLaws.{own_here, few_here, test_joined}
+use Rattle.rmt_bits.proofs.ListLaws.{find-none}
 
 -- ---- lists
 
@@ -48,10 +46,6 @@ find_map p q f (x ∷ xs) same = by (p (f x)) (q x) (All-head (λ y. p (f y) ≡
     by true false e rest = absurd cc
     by false true e rest = absurd cc
     by false false e rest = rest
-
-pub find_none : {X : Type 0} (p : X → Bool) (xs : List X) → All (λ x. p x ≡ false) xs → find p xs ≡ None
-find_none p [] fails = refl
-find_none p (x ∷ xs) fails = ap (λ (b : Bool). cond b (Some x) (find p xs)) (All-head (λ y. p y ≡ false) x xs fails) ∙ find_none p xs (All-tail (λ y. p y ≡ false) x xs fails)
 
 -- every byte of a frame is small, past its end too
 pub frame_small : (frame : List ℕ) → All (λ b. b < 256) frame → (i : ℕ) → slice_index frame i < 256
@@ -189,7 +183,7 @@ module _ (parser : ParserConfig) (keeps : KeepsForm parser) (at : ℕ) (e : Pars
         find-append p (map widen front) (map join_row second ++ map widen back)
         ∙ ap (λ (o : Option Row). option_or (find p (map widen front)) o) (find-append p (map join_row second) (map widen back))
         ∙ ap (λ (o : Option Row). option_or (find p (map widen front)) (option_or o (find p (map widen back))))
-        (find_none p (map join_row second) (All-map (λ (x : Row). p x ≡ false) join_row second
+        (find-none p (map join_row second) (All-map (λ (x : Row). p x ≡ false) join_row second
         (λ k d lt. and_left (eqb n state) _ not_own)))
         ∙ ap (λ (o : Option Row). option_or o (find p (map widen back))) (find_map p p widen front (λ k d lt. widen_other (get_or front k d)))
         ∙ ap (λ (o : Option Row). option_or (option_map widen (find p front)) o) (find_map p p widen back (λ k d lt. widen_other (get_or back k d)))
@@ -268,7 +262,7 @@ module _ (parser : ParserConfig) (keeps : KeepsForm parser) (at : ℕ) (e : Pars
       where
         by : (b : Bool) → All (λ (y : Row). hits n new_value (join_row y) ≡ (b && hits m next_value y)) second → find (hits n new_value) (map join_row second) ≡ cond b (option_map join_row in_second) None
         by true same = find_map (hits n new_value) (hits m next_value) join_row second same
-        by false same = find_none (hits n new_value) (map join_row second) (All-map (λ (x : Row). hits n new_value x ≡ false) join_row second same)
+        by false same = find-none (hits n new_value) (map join_row second) (All-map (λ (x : Row). hits n new_value x ≡ false) join_row second same)
 
     found_new : find (hits n new_value) new_rows ≡ option_or (option_map widen in_front) (option_or (cond (hits n value own_row) (option_map join_row in_second) None) (option_map widen in_back))
     found_new =

@@ -4,11 +4,9 @@ use Rattle.std.specs.Prelude.{All, IfSome, slice_get, slice_index, slice_index_o
 use Rattle.std.proofs.lemmas.Option.{get_or_from_slice_get, slice_get_within, slice_get_read}
 use Rattle.std.proofs.lemmas.List.Quantifiers.{position-Some}
 use Rattle.std.proofs.lemmas.List.{get_or-map, get_or_past}
-use Rattle.rmt_config.specs.declared.config.ParserConfig.{ParserConfig}
-use Rattle.rmt_config.specs.declared.config.ParserEntry.{ParserEntry}
+use Rattle.rmt_ptcam.specs.Types.{ParserConfig, ParserEntry, TailOf}
 use Rattle.std.proofs.lemmas.Bool.{eqb-true, le-ltb}
 use Rattle.rmt_bits.proofs.AllLaws.{All-find}
-use Rattle.rmt_config.specs.declared.config.TailOf.{TailOf}
 use Rattle.rmt_config.specs.Parser.{Parse, Reached, Short, Reject, parse, parse_from, taken, step, follow, past_tail, extracted, entry_of, tail_of, value_at}
 use Rattle.rmt_config.specs.declared.tails.TailAt.{TailAt}
 use Rattle.rmt_ptcam.specs.declared.step.Step.{Step}

@@ -11,12 +11,7 @@ use Rattle.rmt_bits.specs.Bits.{slice}
 use Rattle.rmt_bits.specs.declared.lane.Lane.{Lane}
 use Rattle.rmt_bits.proofs.AllLaws.{All-range}
 use Rattle.rmt_bits.proofs.BitLaws.{slice-lt}
-use Rattle.rmt_ast.specs.declared.program.Program.{Program}
-use Rattle.rmt_ast.specs.declared.program.Header.{Header}
-use Rattle.rmt_ast.specs.declared.program.Case.{Case}
-use Rattle.rmt_ast.specs.declared.program.Field.{Field}
-use Rattle.rmt_ast.specs.declared.program.Test.{Test}
-use Rattle.rmt_ast.specs.declared.program.Target.{Target}
+use Rattle.rmt_ptcam.specs.Types.{Program, Field, Header, Case, Test, Target, ParserState}
 use Rattle.rmt_ast.specs.declared.program.Target.TheVariants as target
 use Rattle.rmt_ast.specs.Places.{lanes_of}
 use Rattle.rmt_ast.specs.State.{width_of}
@@ -24,7 +19,6 @@ use Rattle.rmt_ast.specs.WellFormed.{AreTests, IsCase, IsHeader, IsProgram, IsTa
 use Rattle.rmt_phv.specs.Packing.{pieces}
 use Rattle.rmt_phv.specs.Places.{KeepsApart}
 use Rattle.rmt_config.specs.declared.config.Extract.TheVariants.{One}
-use Rattle.rmt_config.specs.declared.config.ParserState.{ParserState}
 use Rattle.rmt_config.specs.Order.{rises_from}
 use Rattle.rmt_config.specs.ParserForm.{entry_is_formed, extract_is_formed, lookups_of as lookups_in_state, next_is_formed, state_is_formed}
 use Rattle.rmt_ptcam.specs.declared.fault.ParserFault.TheVariants.{LookupWide, ParserFull, StepWide}

@@ -6,13 +6,9 @@ use Rattle.std.proofs.lemmas.Bool.{cases_lt, eq-eqb, lt-ltb, le-ltb, ltb-true, a
 use Rattle.std.proofs.lemmas.List.{length-append}
 use Rattle.rmt_bits.proofs.FunctionLaws.{funext}
 use Rattle.rmt_bits.proofs.ListLaws.{slice_get-end}
-use Rattle.rmt_config.specs.declared.config.ParserConfig.{ParserConfig}
-use Rattle.rmt_config.specs.declared.config.ParserEntry.{ParserEntry}
-use Rattle.rmt_config.specs.declared.config.ParserState.{ParserState}
-use Rattle.rmt_config.specs.declared.config.TailOf.{TailOf}
+use Rattle.rmt_ptcam.specs.Types.{ParserConfig, ParserState, ParserEntry, Next, TailOf}
 use Rattle.rmt_config.specs.Parser.{Parse, Reached, Reject, Short, behind, entry_of, follow, past_tail, step, tail_of, taken}
 use Rattle.rmt_ptcam.specs.Joining.{Row, rows_from, rows_of, parser_of, tails_in, numbered}
-use Rattle.rmt_config.specs.declared.config.Next.{Next}
 use Rattle.rmt_config.specs.declared.config.Next.TheVariants as next
 use Rattle.rmt_config.specs.ParserForm.{next_is_formed}
 use Rattle.rmt_ptcam.proofs.SearchLaws.{apart}

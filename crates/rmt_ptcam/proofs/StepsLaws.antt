@@ -4,7 +4,7 @@ use Rattle.std.specs.Prelude.{All, slice_get, slice_set}
 use Rattle.std.proofs.lemmas.Bool.{cases_eq, cases_lt, le-ltb, lt-ltb, ltb-true, and_parts}
 use Rattle.std.specs.List.{range_with_len}
 use Rattle.rmt_bits.specs.declared.lane.Lane.{Lane}
-use Rattle.rmt_ast.specs.declared.program.Program.{Program}
+use Rattle.rmt_ptcam.specs.Types.{Program, ParserConfig, ParserState, ParserEntry, Next, TailOf}
 use Rattle.rmt_ast.specs.Walk as walks
 use Rattle.rmt_ast.specs.WellFormed.{IsProgram}
 use Rattle.rmt_phv.specs.Places.{KeepsApart}
@@ -20,11 +20,6 @@ use Rattle.rmt_ptcam.proofs.JoinFacts.{may_join}
 use Rattle.rmt_ptcam.proofs.JoinedKeeps.{joined_keeps}
 use Rattle.rmt_ptcam.proofs.JoinedParse.{formed_e}
 use Rattle.rmt_bits.specs.Bits.{bits_of_bytes}
-use Rattle.rmt_config.specs.declared.config.ParserConfig.{ParserConfig}
-use Rattle.rmt_config.specs.declared.config.ParserEntry.{ParserEntry}
-use Rattle.rmt_config.specs.declared.config.ParserState.{ParserState}
-use Rattle.rmt_config.specs.declared.config.TailOf.{TailOf}
-use Rattle.rmt_config.specs.declared.config.Next.{Next}
 use Rattle.rmt_config.specs.declared.config.Next.TheVariants as next
 use Rattle.rmt_config.specs.Parser.{Parse, Reached, Accept, Reject, Short, behind, behind_tail, follow, past_length, past_tail, step, tail_length, value_at}
 use Rattle.rmt_config.specs.ParserForm.{next_is_formed}

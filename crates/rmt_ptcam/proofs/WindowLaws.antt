@@ -11,7 +11,7 @@ use Rattle.rmt_bits.specs.declared.lane.Lane.{Lane}
 use Rattle.rmt_bits.proofs.BitLaws.{slice-from_low}
 use Rattle.rmt_bits.proofs.ByteLaws.{AreBytes, number_of-append, number_of-lt}
 use Rattle.std.proofs.lemmas.Nat.{shr-shr}
-use Rattle.rmt_config.specs.declared.config.Extract.{Extract}
+use Rattle.rmt_ptcam.specs.Types.{Extract}
 use Rattle.rmt_config.specs.declared.config.Extract.TheVariants.{Bits, One}
 use Rattle.rmt_config.specs.Parser.{extracted, put}
 use Rattle.rmt_config.specs.ParserForm.{extract_is_formed}

@@ -1,9 +1,7 @@
 -- Rows that are added behind entries and tails.
 use Rattle.std.specs.Prelude.{◌≡◌, ◌<◌, ◌+◌, ◌*◌, ℕ, ⊤, List, ◌++◌, map, length}
-use Rattle.rmt_config.specs.declared.config.Extract.{Extract}
+use Rattle.rmt_ptcam.specs.Types.{ParserEntry, Extract, TailOf}
 use Rattle.rmt_config.specs.declared.config.Extract.TheVariants.{Bits, One}
-use Rattle.rmt_config.specs.declared.config.ParserEntry.{ParserEntry}
-use Rattle.rmt_config.specs.declared.config.TailOf.{TailOf}
 use Rattle.rmt_ptcam.specs.Joining.{Row, tails_in}
 
 -- entries and tails with these rows behind them

@@ -1,9 +1,7 @@
 -- Which parsers the chip can run: those that keep the rules of form of entries and tails.
 use Rattle.std.specs.Prelude.{◌≡◌, ◌+◌, ◌*◌, ◌<◌, ◌≤◌, true, All, IfSome, slice_get}
 use Rattle.std.specs.List.Sorted.{IsNonDecreasingBy}
-use Rattle.rmt_config.specs.declared.config.ParserConfig.{ParserConfig}
-use Rattle.rmt_config.specs.declared.config.ParserEntry.{ParserEntry}
-use Rattle.rmt_config.specs.declared.config.TailOf.{TailOf}
+use Rattle.rmt_ptcam.specs.Types.{ParserConfig, ParserEntry, TailOf}
 use Rattle.rmt_config.specs.ParserForm.{extract_is_formed}
 
 -- an entry moves within the bytes that it needs, and its extracts find their bits there

@@ -2,8 +2,7 @@
 use Rattle.std.specs.Prelude.{ℕ, ◌+◌, ◌*◌, List, [], ◌∷◌, Bool, ◌&&◌, ◌==◌, nat_lt, if◌then◌else◌, min, Option, Some, None, length, sum_by, Result, Ok, Err}
 use Rattle.std.specs.Option.{option_or}
 use Rattle.std.specs.List.{filter, list_any, range_with_len}
-use Rattle.rmt_ast.specs.declared.program.Program.{Program}
-use Rattle.rmt_ast.specs.declared.program.Header.{Header}
+use Rattle.rmt_ptcam.specs.Types.{Program, Header}
 use Rattle.rmt_ast.specs.State.{width_of}
 use Rattle.rmt_phv.specs.Packing.{pieces}
 use Rattle.rmt_ptcam.specs.declared.fault.ParserFault.{ParserFault}

@@ -3,22 +3,11 @@ use Rattle.std.specs.Prelude.{◌<◌, ⊤, ℕ, ◌+◌, ◌*◌, ◌-◌, List
 use Rattle.std.specs.List.{flat_map, range_with_len, zip}
 use Rattle.rmt_bits.specs.Bits.{deposit, bytes_of}
 use Rattle.rmt_bits.specs.declared.lane.Lane.{Lane}
-use Rattle.rmt_ast.specs.declared.program.Program.{Program}
-use Rattle.rmt_ast.specs.declared.program.Header.{Header}
-use Rattle.rmt_ast.specs.declared.program.Tail.{Tail}
-use Rattle.rmt_ast.specs.declared.program.Case.{Case}
-use Rattle.rmt_ast.specs.declared.program.Test.{Test}
-use Rattle.rmt_ast.specs.declared.program.Target.{Target}
+use Rattle.rmt_ptcam.specs.Types.{Program, Header, Tail, Case, Test, Target, ParserConfig, ParserState, ParserEntry, Next, Extract, TailOf}
 use Rattle.rmt_ast.specs.declared.program.Target.TheVariants as target
 use Rattle.rmt_ast.specs.State.{width_of}
-use Rattle.rmt_config.specs.declared.config.ParserConfig.{ParserConfig}
-use Rattle.rmt_config.specs.declared.config.ParserState.{ParserState}
-use Rattle.rmt_config.specs.declared.config.ParserEntry.{ParserEntry}
-use Rattle.rmt_config.specs.declared.config.Next.{Next}
 use Rattle.rmt_config.specs.declared.config.Next.TheVariants as next
-use Rattle.rmt_config.specs.declared.config.Extract.{Extract}
 use Rattle.rmt_config.specs.declared.config.Extract.TheVariants.{Bits, One}
-use Rattle.rmt_config.specs.declared.config.TailOf.{TailOf}
 use Rattle.rmt_config.specs.Parser.{lookup_value}
 use Rattle.rmt_ast.specs.Places.{lanes_of}
 use Rattle.rmt_ptcam.specs.declared.fault.ParserFault.{ParserFault}

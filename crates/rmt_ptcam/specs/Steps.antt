@@ -1,9 +1,8 @@
 -- How many states of a parser a frame meets, and how many headers its walk takes.
 use Rattle.std.specs.Prelude.{◌≡◌, ℕ, zero, suc, List, All, ◌<◌, slice_get}
-use Rattle.rmt_ast.specs.declared.program.Program.{Program}
+use Rattle.rmt_ptcam.specs.Types.{Program, ParserConfig}
 use Rattle.rmt_ast.specs.Walk.{Walk}
 use Rattle.rmt_ast.specs.Walk as walks
-use Rattle.rmt_config.specs.declared.config.ParserConfig.{ParserConfig}
 use Rattle.rmt_config.specs.Parser.{Parse, Reached, Short, Reject, begin, entry_of, taken, value_at}
 
 -- the parse from a state on, cut off after so many states: another answer stands for the rest

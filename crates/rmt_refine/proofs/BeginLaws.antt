@@ -8,7 +8,7 @@ use Rattle.std.proofs.lemmas.List.Elements.{All-head, All-nil, All-tail, Contain
 use Rattle.rmt_bits.specs.Bits.{deposit, slice}
 use Rattle.rmt_bits.specs.declared.lane.Lane.{Lane}
 use Rattle.rmt_bits.proofs.BitLaws.{slice-deposit_above, slice-deposit_below, slice-deposit_same}
-use Rattle.rmt_ast.specs.declared.program.Program.{Program}
+use Rattle.rmt_refine.specs.Types.{Program, Config}
 use Rattle.rmt_ast.specs.Places.{lanes_of}
 use Rattle.rmt_ast.specs.State.{IsState, width_of}
 use Rattle.rmt_ast.specs.Walk as walks
@@ -16,7 +16,6 @@ use Rattle.rmt_ast.specs.Walk.{walk}
 use Rattle.rmt_ast.specs.WellFormed.{IsProgram}
 use Rattle.rmt_ast.proofs.RunStateLaws.{LeavesState, walk_leaves}
 use Rattle.rmt_phv.specs.Places.{KeepsApart, LiesInWord}
-use Rattle.rmt_config.specs.declared.config.Config.{Config}
 use Rattle.rmt_config.specs.Agreement.{HasReached, Holds, held_in}
 use Rattle.rmt_config.specs.ChipRun.{tail_bytes}
 use Rattle.rmt_config.specs.LaneForm.{bits_of_lanes}
@@ -24,10 +23,10 @@ use Rattle.rmt_config.specs.Life.{Words, lane_of}
 use Rattle.rmt_config.specs.Parser.{Reached, Accept, no_tail, parse, put}
 use Rattle.rmt_refine.specs.Code.{Hold, held_by}
 use Rattle.rmt_refine.specs.Places.{PlacesCarried, StandsIn}
-use Rattle.rmt_refine.proofs.FindLaws.{Contains-first}
 use Rattle.rmt_refine.proofs.LaneLaws.{SameIn, StandApart, fields_apart, held_same}
 use Rattle.rmt_refine.proofs.ReadLaws.{lanes_width}
 use Rattle.rmt_refine.proofs.WalkedLaws.{KeepsPort, KeepsTails, WalkLeaves, parse_keeps_tails, walk_keeps_port}
+use Rattle.rmt_bits.proofs.MemberLaws.{Contains-first}
 
 -- ---- a vector as words
 

@@ -7,18 +7,15 @@ use Rattle.rmt_ast.specs.declared.deps.EdgeKind.TheVariants as edges
 use Rattle.rmt_ast.specs.Walk.{Walk}
 use Rattle.rmt_ast.specs.Walk as walks
 use Rattle.rmt_deps.specs.Edges.{edge}
-use Rattle.rmt_config.specs.declared.config.Config.{Config}
-use Rattle.rmt_config.specs.declared.config.Stage.{Stage}
-use Rattle.rmt_config.specs.declared.config.Operation.{Operation}
+use Rattle.rmt_refine.specs.Types.{Config, ParserConfig, Stage, Operation}
 use Rattle.rmt_config.specs.declared.config.Extract.TheVariants.{Bits, One as PutOne}
 use Rattle.rmt_config.specs.declared.config.Next.TheVariants as next
-use Rattle.rmt_config.specs.declared.config.ParserConfig.{ParserConfig}
 use Rattle.rmt_config.specs.declared.config.Source.TheVariants.{Word}
 use Rattle.rmt_config.specs.declared.config.Unit.TheVariants.{Slot}
 use Rattle.rmt_refine.specs.Carries.{Carries}
 use Rattle.rmt_refine.proofs.ListedLaws.{never}
-use Rattle.rmt_refine.proofs.FindLaws.{Contains-split}
 use Rattle.rmt_refine.proofs.TwoStages.{config, copy, entries, first_line, first_stage, its_map, its_parser, keyless_unit, lane, lists, note, number_at, ports, ports_unit, program, second_stage, send, send_zero}
+use Rattle.rmt_bits.proofs.MemberLaws.{Contains-split}
 
 -- a configuration with another first stage
 abbrev with_first : Stage → Config

@@ -10,13 +10,14 @@ use Rattle.rmt_pack.specs.declared.placement.Part.{Part}
 use Rattle.rmt_pack.specs.Placements.{Keeps, is_strict}
 use Rattle.rmt_pack.specs.Starts.{distance, stages_of}
 use Rattle.rmt_refine.specs.Carries.{Carries, EdgesKept, all_edges}
-use Rattle.rmt_refine.proofs.FindLaws.{All-contains, Contains-split}
 use Rattle.rmt_refine.proofs.TwoStages.{config, its_map, lists, parts, places, program}
 use Rattle.rmt_refine.proofs.ListedLaws.{all_by, at_most, differ, three}
 use Rattle.rmt_refine.proofs.PlacesExamples.{places_carried, units_carried}
 use Rattle.rmt_refine.proofs.CellsExamples.{cells_carried}
 use Rattle.rmt_refine.proofs.CodeExamples.{code_carried}
 use Rattle.rmt_refine.proofs.ParserExamples.{parser_agrees}
+use Rattle.rmt_bits.proofs.MemberLaws.{Contains-split}
+use Rattle.std.proofs.lemmas.List.Elements.{All-contains}
 
 -- ---- edges and starts
 

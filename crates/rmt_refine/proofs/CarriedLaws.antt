@@ -2,13 +2,12 @@
 -- read from their states.
 use Rattle.std.proofs.Common.{◌≡◌, ℕ, ◌+◌, ◌<◌, ◌≤◌, List, length, refl, subst, arith}
 use Rattle.std.specs.Prelude.{slice_index}
-use Rattle.rmt_ast.specs.declared.program.Program.{Program}
+use Rattle.rmt_refine.specs.Types.{Program, Config}
 use Rattle.rmt_ast.specs.declared.entry.Entry.{Entry}
 use Rattle.rmt_ast.specs.Control.{run}
 use Rattle.rmt_ast.specs.EntryLists.{AreEntries}
 use Rattle.rmt_ast.specs.State.{IsState}
 use Rattle.rmt_ast.specs.WellFormed.{IsProgram}
-use Rattle.rmt_config.specs.declared.config.Config.{Config}
 use Rattle.rmt_config.specs.Life.{Life, through_from}
 use Rattle.rmt_refine.specs.declared.map.Map.{Map}
 use Rattle.rmt_refine.specs.View.{View, look_in}

@@ -1,17 +1,14 @@
 -- The cells of a table, where each entry has one spot of its own.
 use Rattle.std.proofs.Common.{◌≡◌, ℕ, List, Some, true, sym, ◌∙◌, subst}
 use Rattle.std.specs.Prelude.{All, Contains, slice_get}
-use Rattle.rmt_ast.specs.declared.program.Program.{Program}
-use Rattle.rmt_ast.specs.declared.program.Table.{Table}
+use Rattle.rmt_refine.specs.Types.{Program, Table, Config, Stage}
 use Rattle.rmt_ast.specs.declared.entry.Entry.{Entry}
 use Rattle.rmt_ast.specs.Lookup.{precedes}
-use Rattle.rmt_config.specs.declared.config.Config.{Config}
-use Rattle.rmt_config.specs.declared.config.Stage.{Stage}
 use Rattle.rmt_config.specs.Cells.{is_seen}
 use Rattle.rmt_refine.specs.declared.map.CellOf.{CellOf}
 use Rattle.rmt_refine.specs.View.{View}
 use Rattle.rmt_refine.specs.Cells.{HoldsEntry, IsBefore, IsCandidate, IsSpotOf, IsTold, Spot, TableCellsCarried, first_code, tests_as_one}
-use Rattle.rmt_refine.proofs.FindLaws.{All-contains}
+use Rattle.std.proofs.lemmas.List.Elements.{All-contains}
 
 -- each entry has the spot that a function tells, and the map tells of that one alone
 pub record HaveSpots (p : Program) (c : Config) (v : View) (cells : List CellOf) (n : ℕ) (t : Table) (widths : List ℕ) (es : List Entry) (spot : Entry → Spot) : Type 0 where

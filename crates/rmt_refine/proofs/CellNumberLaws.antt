@@ -3,26 +3,17 @@ use Rattle.std.proofs.Common.{◌≡◌, ℕ, zero, suc, ◌+◌, ◌<◌, Bool,
 use Rattle.std.specs.Prelude.{All, Contains, find, nat_le, nat_lt, option_and_then, option_map, slice_get, unwrap_or}
 use Rattle.std.specs.List.{flat_map, list_all, list_any}
 use Rattle.std.proofs.lemmas.Bool.{and_parts, both_ways, eq-eqb, eqb-true, ltb-true}
-use Rattle.std.proofs.lemmas.List.Elements.{All-head, All-tail}
+use Rattle.std.proofs.lemmas.List.Elements.{All-head, All-tail, All-contains}
 use Rattle.std.proofs.lemmas.Option.{none-some, same_Some}
 use Rattle.rmt_bits.proofs.AllLaws.{All-from_test, All-slice_get}
 use Rattle.rmt_bits.specs.Counts.{in_order}
-use Rattle.rmt_ast.specs.declared.program.Program.{Program}
-use Rattle.rmt_ast.specs.declared.program.Table.{Table}
-use Rattle.rmt_ast.specs.declared.program.Node.{Node}
-use Rattle.rmt_ast.specs.declared.program.What.{What}
+use Rattle.rmt_refine.specs.Types.{Program, Table, Node, What, Config, Stage, Unit, SlotUnit, CellNumber, Memory}
 use Rattle.rmt_ast.specs.declared.program.What.TheVariants as what
 use Rattle.rmt_ast.specs.declared.entry.Entry.{Entry}
 use Rattle.rmt_ast.specs.Answers.{counted_numbers, entry_numbers, is_counted}
 use Rattle.rmt_ast.specs.EntryLists.{AreEntries}
 use Rattle.rmt_ast.specs.State.{width_of}
-use Rattle.rmt_config.specs.declared.config.Config.{Config}
-use Rattle.rmt_config.specs.declared.config.Stage.{Stage}
-use Rattle.rmt_config.specs.declared.config.Unit.{Unit}
 use Rattle.rmt_config.specs.declared.config.Unit.TheVariants.{Gate, Slot}
-use Rattle.rmt_config.specs.declared.config.SlotUnit.{SlotUnit}
-use Rattle.rmt_config.specs.declared.config.CellNumber.{CellNumber}
-use Rattle.rmt_config.specs.declared.config.Memory.{Memory}
 use Rattle.rmt_config.specs.declared.config.Memory.TheVariants.{Without, Exact, Ternary}
 use Rattle.rmt_config.specs.CellForm.{Coded, SlotHolds, StageHolds, cells_of, coded_from, content_is_formed, is_clear}
 use Rattle.rmt_config.specs.Cells.{Content, cells_in, code_of, content_of, is_occupied, is_seen, number_of_cell, visible_bits}
@@ -36,12 +27,12 @@ use Rattle.rmt_refine.specs.Units.{DoesAs, TableCarried, applied, table_at}
 use Rattle.rmt_refine.specs.Cells.{IsSpotOf, IsTold, Spot, TableCellsCarried}
 use Rattle.rmt_refine.specs.Carries.{Carries}
 use Rattle.rmt_refine.specs.Outcomes.{entries_at}
-use Rattle.rmt_refine.proofs.FindLaws.{All-contains, Contains-split}
-use Rattle.rmt_refine.proofs.MemberLaws.{Contains-flat_map, Contains-item, Contains-map, flat_from, mapped_from}
+use Rattle.rmt_refine.proofs.MemberLaws.{Contains-flat_map, Contains-item, flat_from}
 use Rattle.rmt_refine.proofs.NumberLaws.{any_from, counted_is, from_counted, in_counted}
 use Rattle.rmt_refine.proofs.OutcomeLaws.{list_at}
 use Rattle.rmt_refine.proofs.PartLaws.{IsPart, part_of_spot, slot_is_unit, slot_of_part, some_and, spot_of_part, then_some, unit_of_part}
 use Rattle.rmt_refine.proofs.RisingLaws.{same_order}
+use Rattle.rmt_bits.proofs.MemberLaws.{Contains-map, Contains-unmap, Contains-split}
 
 -- ---- what a slot's memory holds
 
@@ -236,7 +227,7 @@ module _ (p : Program) (lists : List (List Entry)) (m : Map) (c : Config) (entri
 
       by : (b : Bool) → slot.counted ≡ b → Contains (cond b (map (λ (x : CellNumber). x.number) slot.numbers) []) n → Contains (counted_numbers p p.nodes lists) n
       by true e h =
-          let x = mapped_from (λ (y : CellNumber). y.number) slot.numbers n h in
+          let x = Contains-unmap (λ (y : CellNumber). y.number) slot.numbers n h in
           subst (Contains (counted_numbers p p.nodes lists)) x.2 (told k place stage slot x.0 part e x.1)
       by false e h = absurd (let lt = h.1 in omega (arith, lt))
 
@@ -262,7 +253,7 @@ module _ (p : Program) (lists : List (List Entry)) (m : Map) (c : Config) (entri
   entry_has k place cell stage slot e part counted lt seen number =
       let known = slot_known k place stage slot part in
       let listed = known.listed.others cell lt (sym (ap (λ (y : Content). is_seen y.head) (own_content_is slot.node k place cell stage slot part)) ∙ seen) in
-      let x = mapped_from (λ (y : CellNumber). y.cell) slot.numbers cell listed in
+      let x = Contains-unmap (λ (y : CellNumber). y.cell) slot.numbers cell listed in
       let same : x.0.number ≡ e.number =
       sym (listed_number slot.numbers 0 x.0 known.listed.rises x.1) ∙ ap (number_of_cell slot.numbers) x.2
       ∙ sym (own_number_is slot.node k place cell stage slot part) ∙ number in
@@ -295,7 +286,7 @@ module _ (p : Program) (lists : List (List Entry)) (m : Map) (c : Config) (entri
       let r = from_counted p p.nodes lists n there in
       let list = list_at p lists r.n r.node entries r.node_is in
       let same : r.es ≡ entries_at lists r.n = same_Some r.es (entries_at lists r.n) (sym r.list_is ∙ list.0) in
-      let e = mapped_from (λ (x : Entry). x.number) r.es n r.there in
+      let e = Contains-unmap (λ (x : Entry). x.number) r.es n r.there in
       let t = counted_table p r.node.what r.counted in
       subst (Contains (chip_numbers c)) e.2 (node_has r.n r.node t.0 e.0 r.node_is t.1 t.2 (subst (λ es. Contains es e.0) same e.1))
 

@@ -1,27 +1,27 @@
 -- The program on two stages: the cells of the configuration hold its entries.
 use Rattle.std.proofs.Common.{◌≡◌, ℕ, zero, suc, ◌<◌, true, List, [], ◌∷◌, Some, map, refl, ◌∙◌, subst, inl, inr, arith}
 use Rattle.std.specs.Prelude.{All, Contains, IsSomeAnd, slice_get}
-use Rattle.std.proofs.lemmas.List.Elements.{All-nil}
+use Rattle.std.proofs.lemmas.List.Elements.{All-nil, All-contains}
 use Rattle.std.proofs.lemmas.Option.{none-some, same_Some}
 use Rattle.rmt_bits.specs.Bits.{slice}
-use Rattle.rmt_ast.specs.declared.program.Table.{Table}
+use Rattle.rmt_refine.specs.Types.{Table, Stage}
 use Rattle.rmt_ast.specs.declared.program.Kind.TheVariants.{Ternary}
 use Rattle.rmt_ast.specs.declared.entry.Entry.{Entry}
 use Rattle.rmt_ast.specs.Lookup.{precedes}
 use Rattle.rmt_ast.specs.State.{width_of}
 use Rattle.rmt_ast.proofs.WellFormedLemmas.{AreDistinct-from_apart}
-use Rattle.rmt_config.specs.declared.config.Stage.{Stage}
 use Rattle.rmt_config.specs.Cells.{is_seen}
 use Rattle.rmt_refine.specs.declared.map.CellOf.{CellOf}
 use Rattle.rmt_refine.specs.View.{own_content, own_number, own_view}
 use Rattle.rmt_refine.specs.Cells.{CellsCarried, HasArguments, HoldsEntry, IsBefore, IsCandidate, IsSpotOf, IsTold, Spot, TableCellsCarried, first_code, tests_as_one}
 use Rattle.rmt_refine.specs.Units.{table_at}
 use Rattle.rmt_refine.proofs.CellLaws.{carried_from}
-use Rattle.rmt_refine.proofs.FindLaws.{All-contains, Contains-range, Contains-split}
+use Rattle.rmt_refine.proofs.FindLaws.{Contains-range}
 use Rattle.rmt_refine.proofs.CellNumberLaws.{cells_listed}
 use Rattle.rmt_refine.proofs.MemoryExamples.{first_holds, second_holds}
 use Rattle.rmt_refine.proofs.ListedLaws.{never, three}
 use Rattle.rmt_refine.proofs.TwoStages.{back, cells, config, entries, first_line, first_stage, lists, lowest_last, note, ports, program, second_line, second_stage}
+use Rattle.rmt_bits.proofs.MemberLaws.{Contains-split}
 
 -- ---- cells
 

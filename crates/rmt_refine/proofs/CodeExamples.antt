@@ -8,13 +8,9 @@ use Rattle.std.proofs.lemmas.Option.{none-some, same_Some}
 use Rattle.rmt_bits.specs.Bits.{deposit, slice}
 use Rattle.rmt_bits.specs.declared.lane.Lane.{Lane}
 use Rattle.rmt_bits.proofs.BitLaws.{slice-deposit_above, slice-deposit_below, slice-deposit_same, slice-lt}
-use Rattle.rmt_ast.specs.declared.program.Table.{Table}
+use Rattle.rmt_refine.specs.Types.{Table, Stage, SlotUnit, Operation, Source}
 use Rattle.rmt_ast.specs.Places.{lanes_of}
 use Rattle.rmt_ast.specs.State.{IsState}
-use Rattle.rmt_config.specs.declared.config.Stage.{Stage}
-use Rattle.rmt_config.specs.declared.config.SlotUnit.{SlotUnit}
-use Rattle.rmt_config.specs.declared.config.Operation.{Operation}
-use Rattle.rmt_config.specs.declared.config.Source.{Source}
 use Rattle.rmt_config.specs.declared.config.Source.TheVariants.{Word, Held, Constant}
 use Rattle.rmt_config.specs.Life.{Words, code_at, lane_of, source_of, written}
 use Rattle.rmt_refine.specs.View.{slot_of}

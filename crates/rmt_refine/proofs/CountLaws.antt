@@ -6,15 +6,12 @@ use Rattle.std.proofs.lemmas.List.Sorted.{IsPermutation-reverse, sum_by-IsPermut
 use Rattle.std.proofs.lemmas.List.Sums.{sum_by-append, sum_by-cons}
 use Rattle.rmt_bits.proofs.ListLaws.{slice_get-item}
 use Rattle.rmt_bits.specs.declared.lane.Lane.{Lane}
-use Rattle.rmt_ast.specs.declared.program.Program.{Program}
-use Rattle.rmt_ast.specs.declared.program.Node.{Node}
+use Rattle.rmt_refine.specs.Types.{Program, Node, Config, Stage}
 use Rattle.rmt_ast.specs.declared.entry.Entry.{Entry}
 use Rattle.rmt_ast.specs.Control.{run, runs}
 use Rattle.rmt_ast.specs.EntryLists.{AreEntries}
 use Rattle.rmt_ast.specs.State.{IsState}
 use Rattle.rmt_ast.specs.WellFormed.{IsProgram}
-use Rattle.rmt_config.specs.declared.config.Config.{Config}
-use Rattle.rmt_config.specs.declared.config.Stage.{Stage}
 use Rattle.rmt_config.specs.Life.{Counted, Life, acts_of, through, through_from}
 use Rattle.rmt_pack.specs.declared.placement.Part.{Part}
 use Rattle.rmt_refine.specs.declared.map.Map.{Map}
@@ -24,12 +21,12 @@ use Rattle.rmt_refine.specs.CountedHits.{counted_hits}
 use Rattle.rmt_refine.specs.Outcomes.{entries_at, run_before}
 use Rattle.rmt_refine.specs.Units.{table_at}
 use Rattle.rmt_refine.proofs.CarriedLaws.{carried_run, set_in as carried_set_in}
-use Rattle.rmt_refine.proofs.FindLaws.{All-contains}
 use Rattle.rmt_refine.proofs.HitLaws.{hits_sum, own_sum}
 use Rattle.rmt_refine.proofs.NodeLaws.{part_there}
 use Rattle.rmt_refine.proofs.RankLaws.{compare}
 use Rattle.rmt_refine.proofs.RunningLaws.{count_of, counted_before, counts_in, goes_at, own_numbers, stage_counts, table_counts}
 use Rattle.rmt_refine.proofs.StageLaws.{AllRead, AreSet, IsRun, drop_head, eqb_false, none_set, stage_law, stands_where_set}
+use Rattle.std.proofs.lemmas.List.Elements.{All-contains}
 
 -- ---- sums of counts
 

@@ -6,11 +6,7 @@ use Rattle.std.proofs.lemmas.Bool.{eqb-true}
 use Rattle.std.proofs.lemmas.List.{length-map}
 use Rattle.std.proofs.lemmas.Option.{none-some, slice_get-get_or, slice_get-map, slice_get_within}
 use Rattle.rmt_bits.specs.declared.lane.Lane.{Lane}
-use Rattle.rmt_ast.specs.declared.program.Program.{Program}
-use Rattle.rmt_ast.specs.declared.program.Action.{Action}
-use Rattle.rmt_ast.specs.declared.program.Table.{Table}
-use Rattle.rmt_ast.specs.declared.program.Node.{Node}
-use Rattle.rmt_ast.specs.declared.program.What.{What}
+use Rattle.rmt_refine.specs.Types.{Program, Action, Table, Node, What, Config, Stage, Operation}
 use Rattle.rmt_ast.specs.declared.program.What.TheVariants.{Apply, Gate}
 use Rattle.rmt_ast.specs.declared.entry.Entry.{Entry}
 use Rattle.rmt_ast.specs.Control.{Run, act_of, applied_table, done_by, run}
@@ -21,9 +17,6 @@ use Rattle.rmt_ast.specs.State.{IsState}
 use Rattle.rmt_ast.specs.WellFormed.{Fits, IsProgram}
 use Rattle.rmt_phv.specs.Places.{written_by}
 use Rattle.rmt_deps.specs.Edges.{of_action, of_node, of_table, read_by, reads_of, words_of, writes_of}
-use Rattle.rmt_config.specs.declared.config.Config.{Config}
-use Rattle.rmt_config.specs.declared.config.Operation.{Operation}
-use Rattle.rmt_config.specs.declared.config.Stage.{Stage}
 use Rattle.rmt_config.specs.Life.{Running, Words, op_on}
 use Rattle.rmt_refine.specs.declared.map.Map.{Map}
 use Rattle.rmt_refine.specs.View.{View}
@@ -34,14 +27,16 @@ use Rattle.rmt_refine.specs.Outcomes.{entries_at, run_before}
 use Rattle.rmt_refine.specs.Units.{applied, table_at}
 use Rattle.rmt_refine.proofs.CarriedLaws.{set_in}
 use Rattle.rmt_refine.proofs.FieldLaws.{action_run, applied_state, args_run, fields_listed}
-use Rattle.rmt_refine.proofs.FindLaws.{All-contains, find-passes}
-use Rattle.rmt_refine.proofs.MemberLaws.{Contains-flat_map, Contains-map, from_flat_map, mapped_from}
+use Rattle.rmt_refine.proofs.FindLaws.{find-passes}
+use Rattle.rmt_refine.proofs.MemberLaws.{Contains-flat_map, from_flat_map}
 use Rattle.rmt_refine.proofs.LookUpLaws.{hit_some}
 use Rattle.rmt_refine.proofs.OutcomeLaws.{list_at}
 use Rattle.rmt_refine.proofs.PartLaws.{some_and, then_some}
 use Rattle.rmt_refine.proofs.RunLaws.{guard_at, run_next}
 use Rattle.rmt_refine.proofs.RunningLaws.{ActsIn, RunsFor, RunsInstruction}
 use Rattle.rmt_refine.proofs.TheLaw.{its_terms}
+use Rattle.rmt_bits.proofs.MemberLaws.{Contains-map, Contains-unmap}
+use Rattle.std.proofs.lemmas.List.Elements.{All-contains}
 
 -- ---- members
 
@@ -165,7 +160,7 @@ module _ (p : Program) (lists : List (List Entry)) (m : Map) (c : Config) (v : V
       let found = find-passes (λ (x : Operation). x.word == w) r.ops op on in
       let lanes = assigned_lanes p m.places (action_run t (hit_at n t)) in
       let own = All-contains (λ (x : Operation). Contains (map (λ (l : Lane). l.word) lanes) x.word) r.ops op does.words found.0 in
-      let lane = mapped_from (λ (l : Lane). l.word) lanes op.word own in
+      let lane = Contains-unmap (λ (l : Lane). l.word) lanes op.word own in
       let field = from_flat_map (lanes_of m.places) (of_action p written_by (action_run t (hit_at n t))) lane.0 lane.1 in
       subst (Contains (words_of m.places (writes_of p n))) (lane.2 ∙ eqb-true op.word w found.1)
       (lane_touched m.places (writes_of p n) field.0 lane.0 (written_listed n t field.0 e field.1) field.2)

@@ -5,31 +5,29 @@ use Rattle.std.specs.List.{list_any, range_with_len}
 use Rattle.std.proofs.lemmas.Bool.{eq-eqb, eqb-true, false_from_ne_true, true_from_ne_false}
 use Rattle.std.proofs.Math.Nat.{div-one, zero-div}
 use Rattle.std.proofs.lemmas.Nat.{and_mod, and_shr}
-use Rattle.std.proofs.lemmas.List.Elements.{All-cons, All-contains_itself, All-head, All-nil, All-tail}
+use Rattle.std.proofs.lemmas.List.Elements.{All-contains_itself, All-contains}
 use Rattle.std.proofs.lemmas.Option.{none-some, same_Some, slice_get_within}
-use Rattle.rmt_bits.proofs.AllLaws.{All-left, All-parts, All-right}
+use Rattle.rmt_bits.proofs.AllLaws.{All-left, All-parts, All-right, All-unmap}
 use Rattle.rmt_bits.specs.declared.lane.Lane.{Lane}
 use Rattle.rmt_ast.specs.declared.deps.Edge.{Edge}
 use Rattle.rmt_ast.specs.declared.deps.EdgeKind.{EdgeKind}
 use Rattle.rmt_ast.specs.declared.deps.EdgeKind.TheVariants as kind
-use Rattle.rmt_ast.specs.declared.program.Program.{Program}
-use Rattle.rmt_ast.specs.declared.program.Node.{Node}
-use Rattle.rmt_ast.specs.declared.program.Guard.{Guard}
+use Rattle.rmt_refine.specs.Types.{Program, Node, Guard, Config}
 use Rattle.rmt_ast.specs.declared.entry.Entry.{Entry}
 use Rattle.rmt_ast.specs.Control.{run, runs}
 use Rattle.rmt_ast.specs.WellFormed.{IsGuard, IsProgram}
 use Rattle.rmt_deps.specs.Edges.{are_other_arms, depends, edge, edges_among, edges_between, edges_from, field_edges, guard_if, guard_of, guard_then, guards_of, guards_up, is_parent, on_different_arms, word_edges}
-use Rattle.rmt_config.specs.declared.config.Config.{Config}
 use Rattle.rmt_pack.specs.declared.placement.Part.{Part}
 use Rattle.rmt_pack.specs.Placements.{Keeps, is_strict, quanta_in}
 use Rattle.rmt_refine.specs.Carries.{EdgesKept, all_edges}
 use Rattle.rmt_refine.specs.Outcomes.{ChildrenFollow, entries_at, node_outcome, run_before}
 use Rattle.rmt_refine.specs.Units.{UnitsCarried}
-use Rattle.rmt_refine.proofs.FindLaws.{All-contains, Contains-first, Contains-later, Contains-range, Contains-range_from, Contains-split, filter_keeps}
+use Rattle.rmt_refine.proofs.FindLaws.{Contains-range, Contains-range_from, filter_keeps}
 use Rattle.rmt_refine.proofs.NodeLaws.{part_there}
 use Rattle.rmt_refine.proofs.RankLaws.{compare}
 use Rattle.rmt_refine.proofs.FieldLaws.{Goes}
 use Rattle.rmt_refine.proofs.RunLaws.{is_earlier, outcome_at}
+use Rattle.rmt_bits.proofs.MemberLaws.{Contains-first, Contains-later, Contains-split}
 
 -- ---- a node and its parent are not on different arms
 
@@ -166,10 +164,6 @@ parent_beside p n g program e =
     ]))
 
 -- ---- the edge of a parent
-
-All-unmap : {X Y : Type 0} (P : Y → Type 0) (f : X → Y) (xs : List X) → All P (map f xs) → All (λ x. P (f x)) xs
-All-unmap P f [] h = All-nil (λ x. P (f x))
-All-unmap P f (x ∷ xs) h = All-cons (λ y. P (f y)) x xs (All-head P (f x) (map f xs) h) (All-unmap P f xs (All-tail P (f x) (map f xs) h))
 
 edge_among : (p : Program) (places : List (List Lane)) (P : Edge → Type 0) (kinds : List EdgeKind) (a b : ℕ) (k : EdgeKind) → a < b → b < length p.nodes → on_different_arms p a b ≡ false
     → Contains kinds k → depends p places k a b ≡ true → All P (edges_among p places kinds) → P (edge a b k)

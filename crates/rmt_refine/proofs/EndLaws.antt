@@ -6,13 +6,10 @@ use Rattle.rmt_bits.specs.Bits.{bytes_of}
 use Rattle.rmt_bits.specs.declared.lane.Lane.{Lane}
 use Rattle.rmt_bits.specs.declared.answer.Answer.{Answer}
 use Rattle.rmt_bits.specs.declared.answer.Verdict.TheVariants as verdict
-use Rattle.rmt_ast.specs.declared.program.Program.{Program}
-use Rattle.rmt_ast.specs.declared.program.Header.{Header}
+use Rattle.rmt_refine.specs.Types.{Program, Header, Config, OutHeader}
 use Rattle.rmt_ast.specs.Answers as plain
 use Rattle.rmt_ast.specs.Control.{Run}
 use Rattle.rmt_ast.specs.State.{joined}
-use Rattle.rmt_config.specs.declared.config.Config.{Config}
-use Rattle.rmt_config.specs.declared.config.OutHeader.{OutHeader}
 use Rattle.rmt_config.specs.ChipRun.{Outcome, finished, header_bytes, latency_of, sent_bytes}
 use Rattle.rmt_config.specs.Life.{Life, Words, key_of, lane_of}
 use Rattle.rmt_refine.specs.Code.{Hold, held_by}

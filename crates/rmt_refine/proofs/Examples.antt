@@ -5,14 +5,13 @@ use Rattle.std.proofs.lemmas.List.Elements.{All-nil, All-cons}
 use Rattle.std.proofs.lemmas.Option.{none-some, same_Some}
 use Rattle.rmt_bits.specs.Bits.{slice}
 use Rattle.rmt_bits.specs.declared.lane.Lane.{Lane}
-use Rattle.rmt_ast.specs.declared.program.Program.{Program}
+use Rattle.rmt_refine.specs.Types.{Program, Operation}
 use Rattle.rmt_ast.specs.declared.program.Kind.TheVariants.{Ternary}
 use Rattle.rmt_ast.specs.declared.program.What.TheVariants as what
 use Rattle.rmt_ast.specs.declared.deps.EdgeKind.TheVariants as edges
 use Rattle.rmt_ast.specs.Lookup.{hit_of}
 use Rattle.rmt_ast.specs.State.{IsState, joined}
 use Rattle.rmt_ast.proofs.Programs.{apply_in_arm, apply_table}
-use Rattle.rmt_config.specs.declared.config.Operation.{Operation}
 use Rattle.rmt_config.specs.Cells.{Content, Found}
 use Rattle.rmt_refine.specs.View.{View, look_in, own_content, own_view}
 use Rattle.rmt_refine.specs.Places.{high_first}

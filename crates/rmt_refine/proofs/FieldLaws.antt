@@ -4,20 +4,13 @@ use Rattle.std.specs.Prelude.{Contains, option_map, slice_get, slice_index, slic
 use Rattle.std.specs.List.{AllZip, flat_map}
 use Rattle.std.proofs.Math.ListN.{length-set}
 use Rattle.std.proofs.lemmas.Bool.{cases_lt}
-use Rattle.std.proofs.lemmas.List.Elements.{Contains-append_left, Contains-append_right, Contains-get_or}
+use Rattle.std.proofs.lemmas.List.Elements.{Contains-append_left, Contains-append_right, Contains-get_or, All-contains}
 use Rattle.std.proofs.lemmas.List.{get_or-set_other, get_or-set_same, length-map}
 use Rattle.std.proofs.lemmas.Option.{same_Some, slice_get_within}
 use Rattle.rmt_bits.proofs.ListLaws.{slice_get-item}
-use Rattle.rmt_ast.specs.declared.program.Program.{Program}
-use Rattle.rmt_ast.specs.declared.program.Action.{Action}
-use Rattle.rmt_ast.specs.declared.program.Assign.{Assign}
-use Rattle.rmt_ast.specs.declared.program.Expr.{Expr}
+use Rattle.rmt_refine.specs.Types.{Program, Action, Assign, Expr, Leaf, Table, Node, What}
 use Rattle.rmt_ast.specs.declared.program.Expr.TheVariants.{One, Two}
-use Rattle.rmt_ast.specs.declared.program.Leaf.{Leaf}
 use Rattle.rmt_ast.specs.declared.program.Leaf.TheVariants as leaf
-use Rattle.rmt_ast.specs.declared.program.Table.{Table}
-use Rattle.rmt_ast.specs.declared.program.Node.{Node}
-use Rattle.rmt_ast.specs.declared.program.What.{What}
 use Rattle.rmt_ast.specs.declared.program.What.TheVariants.{Apply, Gate}
 use Rattle.rmt_ast.specs.declared.entry.Entry.{Entry}
 use Rattle.rmt_ast.specs.Actions.{acted, applied as computed, assigned, operand, value_of}
@@ -29,13 +22,13 @@ use Rattle.rmt_ast.specs.WellFormed.{Fits, IsProgram}
 use Rattle.rmt_phv.specs.Places.{written_by}
 use Rattle.rmt_deps.specs.Edges.{expr_fields, leaf_fields, of_action, of_node, of_table, of_what, read_by, writes_of}
 use Rattle.rmt_refine.specs.Outcomes.{entries_at, run_before}
-use Rattle.rmt_refine.proofs.FindLaws.{All-contains, Contains-first, Contains-later, Contains-split}
 use Rattle.rmt_refine.proofs.LookUpLaws.{hit_some}
 use Rattle.rmt_refine.proofs.MemberLaws.{Contains-flat_map}
 use Rattle.rmt_refine.proofs.OutcomeLaws.{list_at}
 use Rattle.rmt_refine.proofs.PartLaws.{some_and}
 use Rattle.rmt_refine.proofs.RankLaws.{compare}
 use Rattle.rmt_refine.proofs.RunLaws.{guard_at, run_next, through_node}
+use Rattle.rmt_bits.proofs.MemberLaws.{Contains-first, Contains-later, Contains-split}
 
 -- ---- what an action leaves alone
 

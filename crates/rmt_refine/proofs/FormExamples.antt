@@ -4,11 +4,7 @@ use Rattle.std.specs.Prelude.{All, bit_and, codes}
 use Rattle.std.proofs.lemmas.List.Elements.{All-cons, All-from_recursion, All-nil}
 use Rattle.std.proofs.lemmas.List.Kept.{AllPairs-cons}
 use Rattle.rmt_bits.specs.Bits.{number_of}
-use Rattle.rmt_ast.specs.declared.program.Field.{Field}
-use Rattle.rmt_ast.specs.declared.program.Header.{Header}
-use Rattle.rmt_ast.specs.declared.program.Action.{Action}
-use Rattle.rmt_ast.specs.declared.program.Assign.{Assign}
-use Rattle.rmt_ast.specs.declared.program.Table.{Table}
+use Rattle.rmt_refine.specs.Types.{Field, Header, Action, Assign, Table}
 use Rattle.rmt_ast.specs.declared.entry.Entry.{Entry}
 use Rattle.rmt_ast.specs.EntryLists.{AreEntries, AreTableEntries, IsEntry, terms_of}
 use Rattle.rmt_ast.specs.WellFormed.{AllNumbered, AreAppliedOnce, BeginsWith, HasFields, HasHeaderNames, HasNames, IsAction, IsAssign, IsHeader, IsNode, IsProgram, IsTable, IsTest, IsWidth, Takes, name_of}

@@ -7,8 +7,7 @@ use Rattle.std.proofs.lemmas.Bool.{and_parts, eqb-true, eq-eqb}
 use Rattle.std.proofs.lemmas.List.Elements.{All-head, All-tail}
 use Rattle.std.proofs.lemmas.List.Sums.{sum_by-cons}
 use Rattle.std.proofs.lemmas.Nat.{and_block, and_le_l, and_mask, div-mul-add, mod-mul-add, mul-add-lt, pow-add}
-use Rattle.rmt_ast.specs.declared.program.Program.{Program}
-use Rattle.rmt_ast.specs.declared.program.Test.{Test}
+use Rattle.rmt_refine.specs.Types.{Program, Test}
 use Rattle.rmt_ast.specs.State.{joined, passes, width_of}
 use Rattle.rmt_ast.specs.Walk.{all_pass}
 use Rattle.rmt_ast.specs.WellFormed.{IsTest}

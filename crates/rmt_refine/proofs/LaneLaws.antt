@@ -2,20 +2,21 @@
 use Rattle.std.proofs.Common.{◌≡◌, ℕ, zero, suc, ◌+◌, ◌*◌, ◌/◌, ◌%◌, ◌^◌, ◌<◌, ◌≤◌, List, [], ◌∷◌, ◌++◌, refl, sym, ap, ◌∙◌, subst, ◌⊎◌, inl, inr, arith}
 use Rattle.std.specs.Prelude.{All, AllPairs, Contains}
 use Rattle.std.specs.List.{flat_map}
-use Rattle.std.proofs.lemmas.List.Elements.{All-cons, All-head, All-nil, All-tail, Contains-append_left, Contains-append_right}
+use Rattle.std.proofs.lemmas.List.Elements.{All-cons, All-head, All-nil, All-tail, Contains-append_left, Contains-append_right, All-contains}
 use Rattle.std.proofs.Math.Nat.{mod-one}
 use Rattle.std.proofs.lemmas.Nat.{div-mul-add, mod-mul-add}
 use Rattle.rmt_bits.proofs.BitLaws.{slice-add, slice-lt}
 use Rattle.rmt_bits.specs.Bits.{slice}
 use Rattle.rmt_bits.specs.declared.lane.Lane.{Lane}
 use Rattle.rmt_ast.specs.Places.{lanes_of}
-use Rattle.rmt_config.specs.declared.config.Operation.{Operation}
+use Rattle.rmt_refine.specs.Types.{Operation}
 use Rattle.rmt_config.specs.Agreement.{IsFree}
 use Rattle.rmt_config.specs.Life.{Words, lane_of}
 use Rattle.rmt_phv.specs.Places.{AreApart}
 use Rattle.rmt_refine.specs.Code.{ChangesOnly, held_by, words_after}
-use Rattle.rmt_refine.proofs.FindLaws.{All-contains, Contains-split}
 use Rattle.rmt_refine.proofs.RankLaws.{compare}
+use Rattle.rmt_bits.proofs.PairLaws.{AllPairs-tail, AllPairs-head}
+use Rattle.rmt_bits.proofs.MemberLaws.{Contains-split}
 
 -- ---- what lanes hold together
 
@@ -81,22 +82,16 @@ lane_stays l ls ops held words apart only =
 
 -- ---- lanes of different fields
 
-pairs_head : {X : Type 0} (R : X → X → Type 0) (x : X) (xs : List X) → AllPairs R (x ∷ xs) → All (R x) xs
-pairs_head R x xs pairs = λ k d lt. pairs 0 (suc k) d (omega arith) (omega (arith, lt))
-
-pairs_tail : {X : Type 0} (R : X → X → Type 0) (x : X) (xs : List X) → AllPairs R (x ∷ xs) → AllPairs R xs
-pairs_tail R x xs pairs = λ i j d lt within. pairs (suc i) (suc j) d (omega (arith, lt)) (omega (arith, within))
-
 pairs_right : {X : Type 0} (R : X → X → Type 0) (xs ys : List X) → AllPairs R (xs ++ ys) → AllPairs R ys
 pairs_right R [] ys pairs = pairs
-pairs_right R (x ∷ xs) ys pairs = pairs_right R xs ys (pairs_tail R x (xs ++ ys) pairs)
+pairs_right R (x ∷ xs) ys pairs = pairs_right R xs ys (AllPairs-tail R x (xs ++ ys) pairs)
 
 pairs_across : {X : Type 0} (R : X → X → Type 0) (xs ys : List X) (x y : X) → AllPairs R (xs ++ ys) → Contains xs x → Contains ys y → R x y
 pairs_across R [] ys x y pairs in_x in_y = absurd (let lt = in_x.1 in omega (arith, lt))
 pairs_across R (z ∷ zs) ys x y pairs in_x in_y =
     elim (Contains-split z zs x in_x) [
-      | inl e ↦ subst (λ w. R w y) e (All-contains (R z) (zs ++ ys) y (pairs_head R z (zs ++ ys) pairs) (Contains-append_right zs ys y in_y))
-      | inr later ↦ pairs_across R zs ys x y (pairs_tail R z (zs ++ ys) pairs) later in_y
+      | inl e ↦ subst (λ w. R w y) e (All-contains (R z) (zs ++ ys) y (AllPairs-head R z (zs ++ ys) pairs) (Contains-append_right zs ys y in_y))
+      | inr later ↦ pairs_across R zs ys x y (AllPairs-tail R z (zs ++ ys) pairs) later in_y
     ]
 
 in_some : (places : List (List Lane)) (f : ℕ) (l : Lane) → Contains (lanes_of places f) l → Contains (flat_map (λ (ls : List Lane). ls) places) l

@@ -5,7 +5,7 @@ use Rattle.rmt_bits.specs.declared.answer.Count.{Count}
 use Rattle.rmt_bits.specs.declared.answer.Verdict.{Verdict}
 use Rattle.rmt_bits.specs.declared.answer.Verdict.TheVariants.{Sent}
 use Rattle.rmt_ast.specs.Answers.{answers_of, counts_of}
-use Rattle.rmt_config.specs.declared.config.Config.{Config}
+use Rattle.rmt_refine.specs.Types.{Config}
 use Rattle.rmt_config.specs.declared.config.Unit.TheVariants.{Slot}
 use Rattle.rmt_config.specs.ChipRun.{chip_counts_of, inputs_of, outcomes_of}
 use Rattle.rmt_refine.specs.RunsAs.{RunsAs, told_by_answer, told_by_outcome}

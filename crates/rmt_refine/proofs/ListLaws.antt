@@ -10,13 +10,11 @@ use Rattle.rmt_bits.specs.Packet.{IsPacket, Packet}
 use Rattle.rmt_bits.specs.Counts.{Hit, count_for, in_order}
 use Rattle.rmt_bits.specs.declared.answer.Answer.{Answer}
 use Rattle.rmt_bits.specs.declared.answer.Count.{Count}
-use Rattle.rmt_ast.specs.declared.program.Program.{Program}
+use Rattle.rmt_refine.specs.Types.{Program, Config, Stage}
 use Rattle.rmt_ast.specs.declared.entry.Entry.{Entry}
 use Rattle.rmt_ast.specs.Answers.{answer_of, counted_numbers, counts_of, hits_of}
 use Rattle.rmt_ast.specs.EntryLists.{AreEntries}
 use Rattle.rmt_ast.specs.WellFormed.{IsProgram}
-use Rattle.rmt_config.specs.declared.config.Config.{Config}
-use Rattle.rmt_config.specs.declared.config.Stage.{Stage}
 use Rattle.rmt_config.specs.CellForm.{StageHolds}
 use Rattle.rmt_config.specs.Life.{Counted}
 use Rattle.rmt_config.specs.ChipRun.{Outcome, chip_counts_of, inputs_of, outcome_of, own_look}
@@ -27,17 +25,14 @@ use Rattle.rmt_refine.specs.Carries.{Carries}
 use Rattle.rmt_refine.specs.Refined.{AnswersAs}
 use Rattle.rmt_refine.specs.RunsAs.{RunsAs, told_by_answer, told_by_outcome}
 use Rattle.rmt_refine.proofs.CellNumberLaws.{same_numbers}
-use Rattle.rmt_refine.proofs.FindLaws.{Contains-first, Contains-later}
 use Rattle.rmt_refine.proofs.MemberLaws.{any_passes}
 use Rattle.rmt_refine.proofs.RefinedLaws.{own_packet}
 use Rattle.rmt_refine.proofs.RisingLaws.{order_member}
 use Rattle.rmt_refine.proofs.StageLaws.{eqb_false}
+use Rattle.rmt_bits.proofs.ListLaws.{sum_by-map}
+use Rattle.rmt_bits.proofs.MemberLaws.{Contains-first, Contains-later}
 
 -- ---- sums
-
-sum_map : {X Y : Type 0} (g : Y → ℕ) (f : X → Y) (xs : List X) → sum_by g (map f xs) ≡ sum_by (λ x. g (f x)) xs
-sum_map g f [] = refl
-sum_map g f (x ∷ xs) = sum_by-cons g (f x) (map f xs) ∙ ap (λ n. g (f x) + n) (sum_map g f xs) ∙ sym (sum_by-cons (λ y. g (f y)) x xs)
 
 one_more : (b : Bool) (n y : ℕ) → cond b y 0 + n * y ≡ (cond b 1 0 + n) * y
 one_more true n y = omega arith
@@ -105,11 +100,11 @@ module _ (p : Program) (lists : List (List Entry)) (c : Config) where
   -- one packet's hits
   packet_same : (n : ℕ) (packet : Packet) → is_number n ≡ true → IsAnswered packet → SameFor n (hits_from c packet) (hits_of p lists packet)
   packet_same n packet is answered = record {
-    packets = sum_map (λ (h : Hit). cond (h.number == n) 1 0) (hit_from packet) made ∙ same ∙ sym (sum_map (λ (h : Hit). cond (h.number == n) 1 0) as_hit hits);
-    bytes = sum_map (λ (h : Hit). cond (h.number == n) h.bytes 0) (hit_from packet) made
+    packets = sum_by-map (λ (h : Hit). cond (h.number == n) 1 0) (hit_from packet) made ∙ same ∙ sym (sum_by-map (λ (h : Hit). cond (h.number == n) 1 0) as_hit hits);
+    bytes = sum_by-map (λ (h : Hit). cond (h.number == n) h.bytes 0) (hit_from packet) made
         ∙ scaled (λ (x : Counted). x.number == n) (length packet.frame) made
         ∙ ap (λ k. k * length packet.frame) same
-        ∙ sym (sum_map (λ (h : Hit). cond (h.number == n) h.bytes 0) as_hit hits ∙ scaled (λ m. m == n) (length packet.frame) hits);
+        ∙ sym (sum_by-map (λ (h : Hit). cond (h.number == n) h.bytes 0) as_hit hits ∙ scaled (λ m. m == n) (length packet.frame) hits);
   }
     where
       made : List Counted

@@ -5,19 +5,13 @@ use Rattle.std.specs.List.{AllZip, list_all}
 use Rattle.std.proofs.lemmas.Bool.{and_parts, both_ways, false_from_ne_true, not_from_false, not-true}
 use Rattle.std.proofs.lemmas.List.Sums.{AllPass-from_list_all}
 use Rattle.std.proofs.lemmas.Option.{none-some}
-use Rattle.rmt_ast.specs.declared.program.Program.{Program}
-use Rattle.rmt_ast.specs.declared.program.Table.{Table}
-use Rattle.rmt_ast.specs.declared.program.Kind.{Kind}
+use Rattle.rmt_refine.specs.Types.{Program, Table, Kind, Config, Stage, SlotUnit, Memory}
 use Rattle.rmt_ast.specs.declared.program.Kind.TheVariants as kind
 use Rattle.rmt_ast.specs.declared.entry.Entry.{Entry}
 use Rattle.rmt_ast.specs.EntryLists.{AreTableEntries, HasRank, IsEntry, terms_of}
 use Rattle.rmt_ast.specs.Lookup.{hit_of, hits, matches, precedes}
 use Rattle.rmt_ast.specs.State.{joined, width_of}
 use Rattle.rmt_ast.specs.WellFormed.{IsTest}
-use Rattle.rmt_config.specs.declared.config.Config.{Config}
-use Rattle.rmt_config.specs.declared.config.Stage.{Stage}
-use Rattle.rmt_config.specs.declared.config.SlotUnit.{SlotUnit}
-use Rattle.rmt_config.specs.declared.config.Memory.{Memory}
 use Rattle.rmt_config.specs.declared.config.Memory.TheVariants.{Without, Exact, Ternary}
 use Rattle.rmt_config.specs.LaneForm.{bits_of_lanes}
 use Rattle.rmt_config.specs.Cells.{Content, candidates, cells_in, has_key, is_seen}
@@ -26,10 +20,12 @@ use Rattle.rmt_refine.specs.View.{View, found_at, look_in, slot_at, slot_of}
 use Rattle.rmt_refine.specs.Units.{HasKind}
 use Rattle.rmt_refine.specs.Cells.{HoldsEntry, IsBefore, IsSpotOf, IsTold, Spot, TableCellsCarried, first_code, tests_as_one}
 use Rattle.rmt_refine.specs.LookUps.{FindsAs, FindsEntry}
-use Rattle.rmt_refine.proofs.FindLaws.{All-contains, Contains-first, Contains-later, best_there, find-least, find-passes, find-some, none_unless}
+use Rattle.rmt_refine.proofs.FindLaws.{best_there, find-least, find-passes, find-some, none_unless}
 use Rattle.rmt_refine.proofs.KeyLaws.{FieldsFit, key_agrees, whole_key}
 use Rattle.rmt_refine.proofs.RankLaws.{are_ordered, precedes_chain, precedes_never}
 use Rattle.rmt_refine.proofs.PartLaws.{IsPart, and_at, candidates_within, look_of_part, part_of_slot, part_of_spot, same_candidates, spot_of_part}
+use Rattle.rmt_bits.proofs.MemberLaws.{Contains-first, Contains-later}
+use Rattle.std.proofs.lemmas.List.Elements.{All-contains}
 
 -- ---- what a state hits
 

@@ -1,33 +1,17 @@
 -- Members of lists that other lists make.
-use Rattle.std.proofs.Common.{◌≡◌, ℕ, Bool, true, suc, List, [], ◌∷◌, Some, map, refl, sym, subst, inl, inr, arith}
+use Rattle.std.proofs.Common.{◌≡◌, ℕ, Bool, true, suc, List, [], ◌∷◌, Some, refl, sym, subst, inl, inr, arith}
 use Rattle.std.specs.Prelude.{Contains, slice_get}
 use Rattle.std.specs.List.{flat_map, list_any}
 use Rattle.std.proofs.lemmas.List.Elements.{Contains-append_cases, Contains-append_left, Contains-append_right}
 use Rattle.std.proofs.lemmas.List.Folds.{list_any_at}
 use Rattle.std.proofs.lemmas.Option.{get_or_from_slice_get, slice_get_within}
-use Rattle.rmt_refine.proofs.FindLaws.{Contains-first, Contains-later, Contains-split}
+use Rattle.rmt_bits.proofs.MemberLaws.{Contains-split}
 
 pub Contains-item : {X : Type 0} (xs : List X) (i : ℕ) (x : X) → slice_get xs i ≡ Some x → Contains xs x
 Contains-item xs i x e = (i, slice_get_within xs i x e, get_or_from_slice_get xs i x x e)
 
 pub any_passes : {X : Type 0} (test : X → Bool) (xs : List X) (x : X) → Contains xs x → test x ≡ true → list_any test xs ≡ true
 any_passes test xs x there pass = list_any_at test xs there.0 x there.1 (subst (λ y. test y ≡ true) (sym there.2) pass)
-
--- ---- of a map
-
-pub Contains-map : {X Y : Type 0} (f : X → Y) (xs : List X) (x : X) → Contains xs x → Contains (map f xs) (f x)
-Contains-map f [] x there = absurd (let lt = there.1 in omega (arith, lt))
-Contains-map f (y ∷ ys) x there = elim (Contains-split y ys x there) [
-  | inl e ↦ subst (λ z. Contains (f y ∷ map f ys) (f z)) e (Contains-first (f y) (map f ys))
-  | inr later ↦ Contains-later (f y) (map f ys) (f x) (Contains-map f ys x later)
-]
-
-pub mapped_from : {X Y : Type 0} (f : X → Y) (xs : List X) (y : Y) → Contains (map f xs) y → (x : X) × Contains xs x × (f x ≡ y)
-mapped_from f [] y there = absurd (let lt = there.1 in omega (arith, lt))
-mapped_from f (x ∷ xs) y there = elim (Contains-split (f x) (map f xs) y there) [
-  | inl e ↦ (x, Contains-first x xs, e)
-  | inr later ↦ let r = mapped_from f xs y later in (r.0, Contains-later x xs r.0 r.1, r.2)
-]
 
 -- ---- of lists one after another
 

@@ -1,9 +1,7 @@
 -- The program on two stages: the configuration keeps the rules of form, so the cells that are occupied are those that its slots list.
 use Rattle.std.proofs.Common.{ℕ, ◌/◌, ◌%◌, false, true, [], ◌∷◌, refl, arith}
 use Rattle.std.specs.Prelude.{All}
-use Rattle.rmt_config.specs.declared.config.Stage.{Stage}
-use Rattle.rmt_config.specs.declared.config.SramRow.{SramRow}
-use Rattle.rmt_config.specs.declared.config.TcamRow.{TcamRow}
+use Rattle.rmt_refine.specs.Types.{Stage, SramRow, TcamRow}
 use Rattle.rmt_config.specs.CellForm.{Coded, SlotHolds, StageHolds, none}
 use Rattle.rmt_config.specs.Form.{Formed}
 use Rattle.rmt_config.specs.Layouts.{ternary_keys, ternary_records}

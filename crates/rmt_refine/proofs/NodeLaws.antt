@@ -7,13 +7,15 @@ use Rattle.std.proofs.lemmas.Bool.{both_ways, cases_lt, eq-eqb, eqb-true}
 use Rattle.std.proofs.lemmas.List.Kept.{AllPairs-filter}
 use Rattle.std.proofs.lemmas.List.Sums.{sum_by-cons}
 use Rattle.std.proofs.lemmas.Option.{get_or_from_slice_get, slice_get_within}
-use Rattle.rmt_ast.specs.declared.program.Program.{Program}
+use Rattle.rmt_refine.specs.Types.{Program}
 use Rattle.rmt_pack.specs.declared.placement.Part.{Part}
 use Rattle.rmt_pack.specs.Placements.{quanta_in, quanta_of}
 use Rattle.rmt_pack.proofs.BlockLaws.{range-apart}
 use Rattle.rmt_refine.specs.Units.{last_stage, nodes_in}
-use Rattle.rmt_refine.proofs.FindLaws.{All-contains, Contains-first, Contains-later, Contains-split, filter_keeps, filtered_there}
+use Rattle.rmt_refine.proofs.FindLaws.{filter_keeps, filtered_there}
 use Rattle.rmt_refine.proofs.RankLaws.{compare}
+use Rattle.rmt_bits.proofs.MemberLaws.{Contains-first, Contains-later, Contains-split}
+use Rattle.std.proofs.lemmas.List.Elements.{All-contains}
 
 -- ---- none behind its last
 

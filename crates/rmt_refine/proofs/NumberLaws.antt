@@ -7,10 +7,7 @@ use Rattle.std.proofs.lemmas.Bool.{both_ways, eq-eqb, eqb-true, false_from_ne_tr
 use Rattle.std.proofs.lemmas.List.{get_or-append-add, length-append}
 use Rattle.std.proofs.lemmas.List.Elements.{Contains-append_cases, Contains-append_left, Contains-append_right}
 use Rattle.std.proofs.lemmas.Option.{none-some, same_Some}
-use Rattle.rmt_ast.specs.declared.program.Program.{Program}
-use Rattle.rmt_ast.specs.declared.program.Table.{Table}
-use Rattle.rmt_ast.specs.declared.program.Node.{Node}
-use Rattle.rmt_ast.specs.declared.program.What.{What}
+use Rattle.rmt_refine.specs.Types.{Program, Table, Node, What}
 use Rattle.rmt_ast.specs.declared.program.What.TheVariants.{Apply, Gate}
 use Rattle.rmt_ast.specs.declared.entry.Entry.{Entry}
 use Rattle.rmt_ast.specs.Answers.{counted_numbers, entry_numbers, is_counted}
@@ -18,9 +15,9 @@ use Rattle.rmt_ast.specs.EntryLists.{AreEntries}
 use Rattle.rmt_ast.specs.WellFormed.{AreDistinct}
 use Rattle.rmt_refine.specs.Units.{applied}
 use Rattle.rmt_refine.specs.Outcomes.{entries_at}
-use Rattle.rmt_refine.proofs.FindLaws.{Contains-first, Contains-later}
-use Rattle.rmt_refine.proofs.MemberLaws.{Contains-flat_map, Contains-item, Contains-map, any_passes}
+use Rattle.rmt_refine.proofs.MemberLaws.{Contains-flat_map, Contains-item, any_passes}
 use Rattle.rmt_refine.proofs.OutcomeLaws.{list_at}
+use Rattle.rmt_bits.proofs.MemberLaws.{Contains-map, Contains-first, Contains-later}
 
 -- ---- members
 

@@ -6,13 +6,12 @@ use Rattle.std.proofs.lemmas.List.Elements.{All-contains_itself}
 use Rattle.rmt_ast.specs.declared.deps.Edge.{Edge}
 use Rattle.rmt_ast.specs.declared.deps.EdgeKind.{EdgeKind}
 use Rattle.rmt_ast.specs.declared.deps.EdgeKind.TheVariants as kind
-use Rattle.rmt_ast.specs.declared.program.Program.{Program}
+use Rattle.rmt_refine.specs.Types.{Program, Config}
 use Rattle.rmt_ast.specs.declared.entry.Entry.{Entry}
 use Rattle.rmt_ast.specs.EntryLists.{AreEntries}
 use Rattle.rmt_ast.specs.State.{IsState}
 use Rattle.rmt_ast.specs.WellFormed.{IsProgram}
 use Rattle.rmt_deps.specs.Edges.{contains, depends, edge, keys_of, meet, on_different_arms, reads_of, words_of, writes_of}
-use Rattle.rmt_config.specs.declared.config.Config.{Config}
 use Rattle.rmt_pack.specs.declared.placement.Part.{Part}
 use Rattle.rmt_pack.specs.Placements.{is_strict, quanta_in}
 use Rattle.rmt_pack.specs.Starts.{distance, stages_of}
@@ -22,8 +21,9 @@ use Rattle.rmt_refine.specs.Carries.{CarriesIn, all_edges}
 use Rattle.rmt_refine.proofs.EdgeLaws.{field_edge, in_order, run_beside, word_edge}
 use Rattle.rmt_refine.proofs.FieldLaws.{Goes}
 use Rattle.rmt_refine.proofs.FindLaws.{filter_keeps}
-use Rattle.rmt_refine.proofs.MemberLaws.{Contains-map, any_passes}
+use Rattle.rmt_refine.proofs.MemberLaws.{any_passes}
 use Rattle.rmt_refine.proofs.NodeLaws.{part_there}
+use Rattle.rmt_bits.proofs.MemberLaws.{Contains-map}
 
 -- ---- members
 

@@ -3,17 +3,12 @@ use Rattle.std.proofs.Common.{◌≡◌, ℕ, zero, suc, ◌+◌, ◌<◌, ◌�
 use Rattle.std.specs.Prelude.{All, option_and_then, option_map, replicate, slice_get, slice_index, unwrap_or}
 use Rattle.std.specs.List.{AllZip}
 use Rattle.std.proofs.lemmas.List.{length-map}
-use Rattle.std.proofs.lemmas.List.Elements.{All-head, All-tail, All-weaker}
+use Rattle.std.proofs.lemmas.List.Elements.{All-head, All-tail, All-weaker, All-contains}
 use Rattle.std.proofs.lemmas.Option.{none-some, same_Some, slice_get-map, slice_get_within}
 use Rattle.rmt_bits.proofs.AllLaws.{All-slice_get}
 use Rattle.rmt_bits.proofs.ListLaws.{slice_get-alike, slice_get-item}
 use Rattle.rmt_bits.specs.declared.lane.Lane.{Lane}
-use Rattle.rmt_ast.specs.declared.program.Program.{Program}
-use Rattle.rmt_ast.specs.declared.program.Action.{Action}
-use Rattle.rmt_ast.specs.declared.program.Table.{Table}
-use Rattle.rmt_ast.specs.declared.program.Node.{Node}
-use Rattle.rmt_ast.specs.declared.program.Guard.{Guard}
-use Rattle.rmt_ast.specs.declared.program.What.{What}
+use Rattle.rmt_refine.specs.Types.{Program, Action, Table, Node, Guard, What, Config}
 use Rattle.rmt_ast.specs.declared.program.What.TheVariants.{Apply, Gate}
 use Rattle.rmt_ast.specs.declared.entry.Entry.{Entry}
 use Rattle.rmt_ast.specs.Control.{Run, applied_table, done_by, run, run_from, runs}
@@ -22,7 +17,6 @@ use Rattle.rmt_ast.specs.Lookup.{hit_of}
 use Rattle.rmt_ast.specs.State.{IsState, joined}
 use Rattle.rmt_ast.specs.WellFormed.{Fits, IsProgram, IsTable, IsWhat, Takes}
 use Rattle.rmt_ast.proofs.RunStateLaws.{act_of_keeps}
-use Rattle.rmt_config.specs.declared.config.Config.{Config}
 use Rattle.rmt_pack.specs.declared.placement.Part.{Part}
 use Rattle.rmt_pack.specs.Placements.{quanta_in}
 use Rattle.rmt_refine.specs.declared.map.CellOf.{CellOf}
@@ -31,7 +25,6 @@ use Rattle.rmt_refine.specs.Units.{UnitsCarried, applied, last_stage, table_at}
 use Rattle.rmt_refine.specs.Cells.{CellsCarried}
 use Rattle.rmt_refine.specs.LookUps.{FindsAs}
 use Rattle.rmt_refine.specs.Outcomes.{ChildrenFollow, IsSetIn, TableSetIn, entries_at, run_before}
-use Rattle.rmt_refine.proofs.FindLaws.{All-contains}
 use Rattle.rmt_refine.proofs.LookUpLaws.{hit_some}
 use Rattle.rmt_refine.proofs.NodeLaws.{stands_in_last}
 use Rattle.rmt_refine.proofs.PartLaws.{and_at, and_from, some_and, then_some}

@@ -2,7 +2,7 @@
 use Rattle.std.proofs.Common.{◌≡◌, ℕ, ◌<◌, ◌==◌, List, drop, map, refl, sym, ap, ◌∙◌, subst}
 use Rattle.std.specs.Prelude.{All, count_by}
 use Rattle.rmt_bits.specs.Packet.{Packet}
-use Rattle.rmt_ast.specs.declared.program.Program.{Program}
+use Rattle.rmt_refine.specs.Types.{Program, Config}
 use Rattle.rmt_ast.specs.declared.entry.Entry.{Entry}
 use Rattle.rmt_ast.specs.Answers as plain
 use Rattle.rmt_ast.specs.Answers.{answer_of, answered}
@@ -11,7 +11,6 @@ use Rattle.rmt_ast.specs.State.{IsState}
 use Rattle.rmt_ast.specs.Walk as walks
 use Rattle.rmt_ast.specs.Walk.{walk}
 use Rattle.rmt_ast.specs.WellFormed.{IsProgram}
-use Rattle.rmt_config.specs.declared.config.Config.{Config}
 use Rattle.rmt_config.specs.Agreement.{AgreesWith, EndsAs}
 use Rattle.rmt_config.specs.ChipRun.{finished, latency_of, outcome_from, outcome_of, tail_bytes}
 use Rattle.rmt_config.specs.Life.{Counted, Life, Look, life_of}

@@ -15,8 +15,8 @@ use Rattle.rmt_config.specs.Agreement.{AgreesWith, EndsAs, HasReached, IsFree, h
 use Rattle.rmt_config.specs.ChipRun.{tail_bytes}
 use Rattle.rmt_config.specs.Parser.{no_tail, put}
 use Rattle.rmt_config.specs.Parser as parsing
-use Rattle.rmt_refine.proofs.FindLaws.{All-contains}
 use Rattle.rmt_refine.proofs.TwoStages.{its_parser, lane, places, program}
+use Rattle.std.proofs.lemmas.List.Elements.{All-contains}
 
 -- ---- the parser
 

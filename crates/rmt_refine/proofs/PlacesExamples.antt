@@ -5,19 +5,17 @@ use Rattle.std.specs.List.{AllZip, flat_map, list_all}
 use Rattle.std.proofs.lemmas.Bool.{and_parts, ltb-true, or_cases}
 use Rattle.rmt_bits.specs.Words.{word_size}
 use Rattle.rmt_bits.specs.declared.lane.Lane.{Lane}
-use Rattle.rmt_ast.specs.declared.program.Action.{Action}
-use Rattle.rmt_ast.specs.declared.program.Assign.{Assign}
+use Rattle.rmt_refine.specs.Types.{Action, Assign, Stage}
 use Rattle.rmt_ast.specs.WellFormed.{AreDistinct}
 use Rattle.rmt_ast.proofs.WellFormedLemmas.{AreDistinct-from_apart, are_apart}
 use Rattle.rmt_phv.specs.Places.{AreApart, KeepsApart, LiesInWord, WritesApart}
-use Rattle.rmt_config.specs.declared.config.Stage.{Stage}
 use Rattle.rmt_pack.specs.declared.placement.Part.{Part}
 use Rattle.rmt_pack.specs.Placements.{quanta_of}
 use Rattle.rmt_refine.specs.Places.{PlacesCarried}
 use Rattle.rmt_refine.specs.Units.{UnitCarried, UnitsCarried, nodes_in}
-use Rattle.rmt_refine.proofs.FindLaws.{Contains-split}
 use Rattle.rmt_refine.proofs.TwoStages.{config, go, keep, parts, places, program, restore}
 use Rattle.rmt_refine.proofs.ListedLaws.{all_by, at_most, differ, pairs_by, three}
+use Rattle.rmt_bits.proofs.MemberLaws.{Contains-split}
 
 -- ---- places
 

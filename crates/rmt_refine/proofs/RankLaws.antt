@@ -4,18 +4,15 @@ use Rattle.std.specs.Prelude.{AllPairs, Contains, nat_lt}
 use Rattle.std.specs.List.{AllZip}
 use Rattle.std.proofs.lemmas.Bool.{and_parts, both_ways, cases_lt, eqb-true, eq-eqb, lt-ltb, ltb-true, or_cases, or_left, or_right}
 use Rattle.std.proofs.lemmas.List.{get_or_default}
-use Rattle.rmt_ast.specs.declared.program.Program.{Program}
-use Rattle.rmt_ast.specs.declared.program.Test.{Test}
-use Rattle.rmt_ast.specs.declared.program.Table.{Table}
-use Rattle.rmt_ast.specs.declared.program.Kind.{Kind}
+use Rattle.rmt_refine.specs.Types.{Program, Test, Table, Kind}
 use Rattle.rmt_ast.specs.declared.program.Kind.TheVariants.{Keyless, Exact, Prefix, Ternary}
 use Rattle.rmt_ast.specs.declared.entry.Entry.{Entry}
 use Rattle.rmt_ast.specs.EntryLists.{AreTableEntries, HasKeysOnce, HasRank, IsEntry, IsPrefix, IsWhole, terms_of}
 use Rattle.rmt_ast.specs.Lookup.{matches, precedes}
 use Rattle.rmt_ast.specs.State.{width_of}
 use Rattle.rmt_ast.specs.WellFormed.{IsTest}
-use Rattle.rmt_refine.proofs.FindLaws.{All-contains}
 use Rattle.rmt_refine.proofs.KeyLaws.{prefix_masks, same_tests, whole_masks}
+use Rattle.std.proofs.lemmas.List.Elements.{All-contains}
 
 -- ---- the order is strict
 

@@ -16,13 +16,10 @@ use Rattle.std.proofs.lemmas.Option.{slice_get-map, slice_get_past}
 use Rattle.rmt_bits.proofs.BitLaws.{slice-add, slice-lt}
 use Rattle.rmt_bits.specs.Bits.{slice}
 use Rattle.rmt_bits.specs.declared.lane.Lane.{Lane}
-use Rattle.rmt_ast.specs.declared.program.Program.{Program}
-use Rattle.rmt_ast.specs.declared.program.Field.{Field}
-use Rattle.rmt_ast.specs.declared.program.Test.{Test}
+use Rattle.rmt_refine.specs.Types.{Program, Field, Test, GateTest}
 use Rattle.rmt_ast.specs.Places.{lanes_of}
 use Rattle.rmt_ast.specs.State.{IsState, joined, passes, width_of}
 use Rattle.rmt_ast.specs.WellFormed.{IsTest}
-use Rattle.rmt_config.specs.declared.config.GateTest.{GateTest}
 use Rattle.rmt_config.specs.LaneForm.{bits_of_lanes}
 use Rattle.rmt_config.specs.Life.{Words, gate_passes, key_of, lane_of}
 use Rattle.rmt_phv.specs.Packing.{pieces}
@@ -30,8 +27,8 @@ use Rattle.rmt_phv.specs.Places.{lengths_of}
 use Rattle.rmt_refine.specs.Code.{Hold, held_by}
 use Rattle.rmt_refine.specs.Places.{high_first}
 use Rattle.rmt_refine.specs.Units.{tests_from, tests_of}
-use Rattle.rmt_refine.proofs.FindLaws.{Contains-first, Contains-later}
 use Rattle.rmt_refine.proofs.KeyLaws.{block_eq}
+use Rattle.rmt_bits.proofs.MemberLaws.{Contains-first, Contains-later}
 
 -- ---- the bits of a field's lanes
 

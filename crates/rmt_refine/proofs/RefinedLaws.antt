@@ -3,13 +3,12 @@ use Rattle.std.proofs.Common.{◌≡◌, ℕ, ◌<◌, ◌≤◌, List, [], leng
 use Rattle.std.specs.Prelude.{All, slice_index}
 use Rattle.std.proofs.lemmas.List.{get_or-replicate, length-replicate}
 use Rattle.rmt_bits.specs.Packet.{Packet}
-use Rattle.rmt_ast.specs.declared.program.Program.{Program}
+use Rattle.rmt_refine.specs.Types.{Program, Config}
 use Rattle.rmt_ast.specs.declared.entry.Entry.{Entry}
 use Rattle.rmt_ast.specs.Answers.{answer_of}
 use Rattle.rmt_ast.specs.EntryLists.{AreEntries}
 use Rattle.rmt_ast.specs.State.{IsState}
 use Rattle.rmt_ast.specs.WellFormed.{IsProgram}
-use Rattle.rmt_config.specs.declared.config.Config.{Config}
 use Rattle.rmt_config.specs.ChipRun.{outcome_of, own_look}
 use Rattle.rmt_config.specs.Life.{Life, life_of}
 use Rattle.rmt_refine.specs.declared.map.Map.{Map}

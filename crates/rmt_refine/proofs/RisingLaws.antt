@@ -3,7 +3,7 @@ use Rattle.std.proofs.Common.{◌≡◌, ℕ, ◌<◌, Bool, true, false, ◌==�
 use Rattle.std.specs.Prelude.{Contains, nat_lt, ⊤}
 use Rattle.std.proofs.lemmas.Bool.{ltb-true}
 use Rattle.rmt_bits.specs.Counts.{in_order, with_number}
-use Rattle.rmt_refine.proofs.FindLaws.{Contains-first, Contains-later, Contains-split}
+use Rattle.rmt_bits.proofs.MemberLaws.{Contains-first, Contains-later, Contains-split}
 
 none_there : {A : Type 0} (x : ℕ) → Contains [] x → A
 none_there x there = absurd (let lt = there.1 in omega (arith, lt))

@@ -4,11 +4,7 @@ use Rattle.std.specs.Prelude.{option_map, replicate, slice_get, slice_index, sli
 use Rattle.std.proofs.Math.ListN.{length-set}
 use Rattle.std.proofs.lemmas.List.{get_or-replicate, get_or-set_other, get_or-set_same, length-replicate, take_more}
 use Rattle.std.proofs.lemmas.Option.{get_or_from_slice_get, none-some, same_Some, slice_get_within}
-use Rattle.rmt_ast.specs.declared.program.Program.{Program}
-use Rattle.rmt_ast.specs.declared.program.Table.{Table}
-use Rattle.rmt_ast.specs.declared.program.Node.{Node}
-use Rattle.rmt_ast.specs.declared.program.Guard.{Guard}
-use Rattle.rmt_ast.specs.declared.program.What.{What}
+use Rattle.rmt_refine.specs.Types.{Program, Table, Node, Guard, What}
 use Rattle.rmt_ast.specs.declared.program.What.TheVariants.{Apply, Gate}
 use Rattle.rmt_ast.specs.declared.entry.Entry.{Entry}
 use Rattle.rmt_ast.specs.Control.{Run, applied_table, done_by, run, run_from, runs}

@@ -6,20 +6,13 @@ use Rattle.std.proofs.lemmas.Bool.{both_ways, cases_lt, eq-eqb, eqb-true, lt-ltb
 use Rattle.std.proofs.lemmas.Option.{none-some, same_Some, slice_get_within}
 use Rattle.rmt_bits.proofs.ListLaws.{slice_get-item}
 use Rattle.rmt_bits.specs.declared.lane.Lane.{Lane}
-use Rattle.rmt_ast.specs.declared.program.Program.{Program}
-use Rattle.rmt_ast.specs.declared.program.Table.{Table}
-use Rattle.rmt_ast.specs.declared.program.Node.{Node}
-use Rattle.rmt_ast.specs.declared.program.What.{What}
+use Rattle.rmt_refine.specs.Types.{Program, Table, Node, What, Config, Stage, Unit, SlotUnit}
 use Rattle.rmt_ast.specs.declared.program.What.TheVariants as what
 use Rattle.rmt_ast.specs.declared.entry.Entry.{Entry}
 use Rattle.rmt_ast.specs.Control.{runs}
 use Rattle.rmt_ast.specs.Lookup.{hit_of}
 use Rattle.rmt_ast.specs.State.{joined}
-use Rattle.rmt_config.specs.declared.config.Config.{Config}
-use Rattle.rmt_config.specs.declared.config.Stage.{Stage}
-use Rattle.rmt_config.specs.declared.config.Unit.{Unit}
 use Rattle.rmt_config.specs.declared.config.Unit.TheVariants.{Gate, Slot}
-use Rattle.rmt_config.specs.declared.config.SlotUnit.{SlotUnit}
 use Rattle.rmt_config.specs.Cells.{Found}
 use Rattle.rmt_config.specs.Life.{Acts, Words, acts_of, gate_passes, guarded, key_of, looked_up, slot_acts, unit_acts}
 use Rattle.rmt_config.specs.Life.{runs as chip_runs}

@@ -7,26 +7,16 @@ use Rattle.std.proofs.lemmas.Bool.{both_ways, cases_lt, eq-eqb, eqb-true, false_
 use Rattle.std.proofs.lemmas.List.{get_or-set_other, get_or-set_same, take_more}
 use Rattle.std.proofs.lemmas.List.Sums.{sum_by_push}
 use Rattle.std.proofs.lemmas.Option.{get_or_from_slice_get, same_Some, slice_get_within}
-use Rattle.std.proofs.lemmas.List.Elements.{All-weaker}
+use Rattle.std.proofs.lemmas.List.Elements.{All-weaker, All-contains}
 use Rattle.rmt_bits.proofs.ListLaws.{slice_get-item}
 use Rattle.rmt_bits.specs.declared.lane.Lane.{Lane}
-use Rattle.rmt_ast.specs.declared.program.Program.{Program}
-use Rattle.rmt_ast.specs.declared.program.Table.{Table}
-use Rattle.rmt_ast.specs.declared.program.Node.{Node}
-use Rattle.rmt_ast.specs.declared.program.Guard.{Guard}
-use Rattle.rmt_ast.specs.declared.program.What.{What}
+use Rattle.rmt_refine.specs.Types.{Program, Table, Node, Guard, What, Config, Stage, Unit, GateUnit, SlotUnit, Memory}
 use Rattle.rmt_ast.specs.declared.program.What.TheVariants as what
 use Rattle.rmt_ast.specs.declared.entry.Entry.{Entry}
 use Rattle.rmt_ast.specs.Control.{runs}
 use Rattle.rmt_ast.specs.Lookup.{hit_of}
 use Rattle.rmt_ast.specs.State.{joined, passes}
-use Rattle.rmt_config.specs.declared.config.Config.{Config}
-use Rattle.rmt_config.specs.declared.config.Stage.{Stage}
-use Rattle.rmt_config.specs.declared.config.Unit.{Unit}
 use Rattle.rmt_config.specs.declared.config.Unit.TheVariants.{Gate, Slot}
-use Rattle.rmt_config.specs.declared.config.GateUnit.{GateUnit}
-use Rattle.rmt_config.specs.declared.config.SlotUnit.{SlotUnit}
-use Rattle.rmt_config.specs.declared.config.Memory.{Memory}
 use Rattle.rmt_config.specs.declared.config.Memory.TheVariants.{Without, Exact, Ternary}
 use Rattle.rmt_config.specs.Cells.{Found}
 use Rattle.rmt_config.specs.Life.{Acts, Life, Words, acts_of, gate_passes, guarded, has_memory, key_of, looked_up, slot_acts, through, through_from, unit_acts}
@@ -40,7 +30,6 @@ use Rattle.rmt_refine.specs.Units.{DoesAs, TableCarried, UnitCarried, UnitsCarri
 use Rattle.rmt_refine.specs.Cells.{first_code}
 use Rattle.rmt_refine.specs.LookUps.{FindsAs}
 use Rattle.rmt_refine.specs.Outcomes.{IsSetIn, TableSetIn, hit_outcome, node_outcome}
-use Rattle.rmt_refine.proofs.FindLaws.{All-contains}
 use Rattle.rmt_refine.proofs.NodeLaws.{one_place, part_there, stands_in_last, within_last}
 use Rattle.rmt_refine.proofs.PartLaws.{IsPart, and_at, look_of_part, quanta_of_node, slot_of_part, some_and, unit_of_part}
 use Rattle.rmt_refine.proofs.RankLaws.{compare}

@@ -2,11 +2,8 @@
 use Rattle.std.proofs.Common.{◌≡◌, ℕ, Option, Some, None, refl, ap, ◌∙◌}
 use Rattle.std.specs.Prelude.{find, option_and_then, option_map, slice_get, unwrap_or}
 use Rattle.rmt_bits.proofs.FunctionLaws.{funext}
-use Rattle.rmt_config.specs.declared.config.Config.{Config}
-use Rattle.rmt_config.specs.declared.config.Stage.{Stage}
-use Rattle.rmt_config.specs.declared.config.Unit.{Unit}
+use Rattle.rmt_refine.specs.Types.{Config, Stage, Unit, SlotUnit}
 use Rattle.rmt_config.specs.declared.config.Unit.TheVariants.{Gate, Slot}
-use Rattle.rmt_config.specs.declared.config.SlotUnit.{SlotUnit}
 use Rattle.rmt_config.specs.LaneForm.{bits_of_lanes}
 use Rattle.rmt_config.specs.Cells.{Content, Found, candidates, code_of, content_of, found_in, has_key, look_up, number_of_cell}
 use Rattle.rmt_config.specs.ChipRun.{own_look, slot_look}

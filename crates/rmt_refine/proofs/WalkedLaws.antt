@@ -8,20 +8,13 @@ use Rattle.std.proofs.lemmas.List.Elements.{All-head, All-tail}
 use Rattle.std.proofs.lemmas.List.FromFn.{get_or-range_with_len, length-range_with_len}
 use Rattle.rmt_bits.specs.Bits.{slice, number_of, bits_of_bytes}
 use Rattle.rmt_bits.proofs.AllLaws.{All-parts, All-slice_get}
-use Rattle.rmt_ast.specs.declared.program.Program.{Program}
-use Rattle.rmt_ast.specs.declared.program.Header.{Header}
-use Rattle.rmt_ast.specs.declared.program.Tail.{Tail}
-use Rattle.rmt_ast.specs.declared.program.Target.{Target}
+use Rattle.rmt_refine.specs.Types.{Program, Header, Tail, Target, ParserConfig, ParserEntry, Next, TailOf}
 use Rattle.rmt_ast.specs.declared.program.Target.TheVariants as target
 use Rattle.rmt_ast.specs.State.{set_fields, width_of}
 use Rattle.rmt_ast.specs.Walk.{Walk, target_of, walk, walk_from}
 use Rattle.rmt_ast.specs.Walk as walks
 use Rattle.rmt_ast.specs.WellFormed.{HasFields, IsProgram, header_fields}
-use Rattle.rmt_config.specs.declared.config.Next.{Next}
 use Rattle.rmt_config.specs.declared.config.Next.TheVariants as next
-use Rattle.rmt_config.specs.declared.config.ParserConfig.{ParserConfig}
-use Rattle.rmt_config.specs.declared.config.ParserEntry.{ParserEntry}
-use Rattle.rmt_config.specs.declared.config.TailOf.{TailOf}
 use Rattle.rmt_config.specs.Parser.{Parse, Reached, Short, Reject, Accept, begin, behind, behind_tail, entry_of, follow, no_tail, parse, parse_from, past_length, past_tail, step, tail_length, tail_of, taken, value_at}
 
 -- ---- fields of headers

@@ -3,10 +3,7 @@ use Rattle.std.proofs.Common.{◌≡◌, ℕ, zero, suc, ◌+◌, ◌<◌, ◌�
 use Rattle.std.specs.Prelude.{Contains, IfSome, option_map, replicate, slice_get, slice_index, unwrap_or}
 use Rattle.std.proofs.Math.Seq.{take-length}
 use Rattle.std.proofs.lemmas.Option.{get_or_from_slice_get, same_Some, slice_get-map, slice_get_within}
-use Rattle.rmt_ast.specs.declared.program.Program.{Program}
-use Rattle.rmt_ast.specs.declared.program.Table.{Table}
-use Rattle.rmt_ast.specs.declared.program.Node.{Node}
-use Rattle.rmt_ast.specs.declared.program.What.{What}
+use Rattle.rmt_refine.specs.Types.{Program, Table, Node, What, Config, Stage}
 use Rattle.rmt_ast.specs.declared.program.What.TheVariants.{Apply, Gate}
 use Rattle.rmt_ast.specs.declared.entry.Entry.{Entry}
 use Rattle.rmt_ast.specs.Control.{run, run_from, runs}
@@ -15,8 +12,6 @@ use Rattle.rmt_ast.specs.Places.{lanes_of}
 use Rattle.rmt_ast.specs.State.{IsState, joined}
 use Rattle.rmt_ast.specs.WellFormed.{IsProgram, IsWhat}
 use Rattle.rmt_deps.specs.Edges.{keys_of, of_what}
-use Rattle.rmt_config.specs.declared.config.Config.{Config}
-use Rattle.rmt_config.specs.declared.config.Stage.{Stage}
 use Rattle.rmt_config.specs.ChipRun.{latency_of}
 use Rattle.rmt_config.specs.Life.{Ages, Life, acts_of, key_of, through, through_from}
 use Rattle.rmt_pack.specs.declared.placement.Part.{Part}
@@ -28,13 +23,14 @@ use Rattle.rmt_refine.specs.Outcomes.{entries_at, run_before}
 use Rattle.rmt_refine.specs.Places.{high_first}
 use Rattle.rmt_refine.proofs.CarriedLaws.{carried_run, set_in}
 use Rattle.rmt_refine.proofs.FieldLaws.{Goes, kept_over}
-use Rattle.rmt_refine.proofs.FindLaws.{All-contains, Contains-first}
 use Rattle.rmt_refine.proofs.NodeLaws.{part_there}
 use Rattle.rmt_refine.proofs.ReadLaws.{key_reads, test_reads}
 use Rattle.rmt_refine.proofs.RunningLaws.{running_law}
 use Rattle.rmt_refine.proofs.SeenLaws.{HoldAtCuts, IsCut, key_cut, stage_of, stands, start, writer_within}
 use Rattle.rmt_refine.proofs.StageLaws.{AllRead, AreSet, ReadsAs, StageReads, drop_head, none_set, stage_law}
 use Rattle.rmt_refine.proofs.WrittenLaws.{Ran, behind, holds_behind}
+use Rattle.rmt_bits.proofs.MemberLaws.{Contains-first}
+use Rattle.std.proofs.lemmas.List.Elements.{All-contains}
 
 -- ---- the age at which a packet leaves
 

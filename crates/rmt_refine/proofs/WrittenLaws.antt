@@ -2,12 +2,11 @@
 use Rattle.std.proofs.Common.{◌≡◌, ℕ, zero, suc, ◌+◌, ◌-◌, ◌<◌, ◌≤◌, cond, List, [], ◌∷◌, Option, Some, None, length, refl, sym, ap, ◌∙◌, subst, ◌⊎◌, inl, inr, arith}
 use Rattle.std.specs.Prelude.{All, Contains, nat_le, option_map, slice_index, unwrap_or}
 use Rattle.std.proofs.lemmas.Bool.{cases_eq, cases_lt, le-leb, lt-leb}
-use Rattle.std.proofs.lemmas.List.Elements.{All-contains_itself, All-weaker}
+use Rattle.std.proofs.lemmas.List.Elements.{All-contains_itself, All-weaker, All-contains}
 use Rattle.rmt_bits.proofs.AllLaws.{All-flat_map}
 use Rattle.rmt_bits.specs.Bits.{slice}
 use Rattle.rmt_bits.specs.declared.lane.Lane.{Lane}
-use Rattle.rmt_ast.specs.declared.program.Program.{Program}
-use Rattle.rmt_ast.specs.declared.program.Table.{Table}
+use Rattle.rmt_refine.specs.Types.{Program, Table, Config, Operation}
 use Rattle.rmt_ast.specs.declared.entry.Entry.{Entry}
 use Rattle.rmt_ast.specs.Control.{act_of, run}
 use Rattle.rmt_ast.specs.EntryLists.{AreEntries}
@@ -16,8 +15,6 @@ use Rattle.rmt_ast.specs.State.{IsState}
 use Rattle.rmt_ast.specs.WellFormed.{IsProgram}
 use Rattle.rmt_phv.specs.Places.{written_by}
 use Rattle.rmt_deps.specs.Edges.{of_action, read_by, reads_of, words_of, writes_of}
-use Rattle.rmt_config.specs.declared.config.Config.{Config}
-use Rattle.rmt_config.specs.declared.config.Operation.{Operation}
 use Rattle.rmt_config.specs.Life.{Ages, Running, Words, op_on, or_else, word_after, written}
 use Rattle.rmt_refine.specs.declared.map.Map.{Map}
 use Rattle.rmt_refine.specs.View.{View}
@@ -27,7 +24,6 @@ use Rattle.rmt_refine.specs.Outcomes.{entries_at, run_before}
 use Rattle.rmt_refine.proofs.CarriedLaws.{set_in}
 use Rattle.rmt_refine.proofs.DoneLaws.{Acts, Runs, does_for, hit_at, lane_touched, read_listed, state_after, touches, written_listed}
 use Rattle.rmt_refine.proofs.FieldLaws.{Agree, act_agree, act_other, action_run, args_run, kept_over}
-use Rattle.rmt_refine.proofs.FindLaws.{All-contains, Contains-first, Contains-later, Contains-split}
 use Rattle.rmt_refine.proofs.LaneLaws.{SameIn, StandApart, fields_apart, held_same, lane_stays, lanes_same}
 use Rattle.rmt_refine.proofs.OrderLaws.{word_order}
 use Rattle.rmt_refine.proofs.OutcomeLaws.{state_before}
@@ -35,6 +31,7 @@ use Rattle.rmt_refine.proofs.RankLaws.{compare}
 use Rattle.rmt_refine.proofs.ReadLaws.{state_of_words, words_hold, words_state}
 use Rattle.rmt_refine.proofs.RunningLaws.{Adds, RanBefore}
 use Rattle.rmt_refine.proofs.SeenLaws.{HoldAtCuts, IsCut, IsWriter, cut_before, none_between, operand_cut, own_before, own_cut, stage_of, stands, start, table_of_writer, table_within, writer_within}
+use Rattle.rmt_bits.proofs.MemberLaws.{Contains-first, Contains-later, Contains-split}
 
 -- ---- lists and options
 

@@ -2,17 +2,12 @@
 use Rattle.std.specs.Prelude.{◌≡◌, ◌<◌, ◌⊎◌, ℕ, ◌+◌, ◌*◌, ◌^◌, List, [], ◌∷◌, true, Some, All, IsSomeAnd, Contains, map, sum, take, slice_get, slice_index}
 use Rattle.std.specs.List.{sum_by}
 use Rattle.rmt_bits.specs.Bits.{slice}
-use Rattle.rmt_ast.specs.declared.program.Program.{Program}
-use Rattle.rmt_ast.specs.declared.program.Test.{Test}
-use Rattle.rmt_ast.specs.declared.program.Table.{Table}
+use Rattle.rmt_refine.specs.Types.{Program, Test, Table, Config, Stage, SlotUnit}
 use Rattle.rmt_ast.specs.declared.entry.Entry.{Entry}
 use Rattle.rmt_ast.specs.WellFormed.{AreDistinct}
 use Rattle.rmt_ast.specs.EntryLists.{params_of}
 use Rattle.rmt_ast.specs.Lookup.{precedes}
 use Rattle.rmt_ast.specs.State.{width_of}
-use Rattle.rmt_config.specs.declared.config.Config.{Config}
-use Rattle.rmt_config.specs.declared.config.Stage.{Stage}
-use Rattle.rmt_config.specs.declared.config.SlotUnit.{SlotUnit}
 use Rattle.rmt_config.specs.LaneForm.{bits_of_lanes}
 use Rattle.rmt_config.specs.Cells.{Content, candidates, cells_in, code_of, is_seen}
 use Rattle.rmt_config.specs.Resources.{unit_instructions}

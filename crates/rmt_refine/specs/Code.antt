@@ -3,8 +3,7 @@ use Rattle.std.specs.Prelude.{◌≡◌, ℕ, ◌+◌, ◌*◌, ◌^◌, List, [
 use Rattle.std.specs.List.{AllZip, flat_map}
 use Rattle.rmt_bits.specs.Bits.{slice}
 use Rattle.rmt_bits.specs.declared.lane.Lane.{Lane}
-use Rattle.rmt_ast.specs.declared.program.Program.{Program}
-use Rattle.rmt_ast.specs.declared.program.Table.{Table}
+use Rattle.rmt_refine.specs.Types.{Program, Table, Config, Stage, SlotUnit, Operation}
 use Rattle.rmt_ast.specs.State.{IsState}
 use Rattle.rmt_ast.specs.Places.{lanes_of}
 use Rattle.rmt_ast.specs.Control.{act_of}
@@ -12,10 +11,6 @@ use Rattle.rmt_ast.specs.EntryLists.{params_of}
 use Rattle.rmt_ast.specs.WellFormed.{Fits}
 use Rattle.rmt_phv.specs.Places.{written_by}
 use Rattle.rmt_deps.specs.Edges.{of_action}
-use Rattle.rmt_config.specs.declared.config.Config.{Config}
-use Rattle.rmt_config.specs.declared.config.Operation.{Operation}
-use Rattle.rmt_config.specs.declared.config.SlotUnit.{SlotUnit}
-use Rattle.rmt_config.specs.declared.config.Stage.{Stage}
 use Rattle.rmt_config.specs.Agreement.{IsFree}
 use Rattle.rmt_config.specs.Life.{Words, code_at, lane_of, op_on, written}
 use Rattle.rmt_refine.specs.View.{slot_of}

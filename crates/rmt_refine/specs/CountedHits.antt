@@ -1,7 +1,7 @@
 -- Which hits of a program's run are counted.
 use Rattle.std.specs.Prelude.{ℕ, List, ◌==◌, filter}
 use Rattle.std.specs.List.{list_any}
-use Rattle.rmt_ast.specs.declared.program.Program.{Program}
+use Rattle.rmt_refine.specs.Types.{Program}
 use Rattle.rmt_ast.specs.declared.entry.Entry.{Entry}
 use Rattle.rmt_ast.specs.Answers.{counted_numbers}
 

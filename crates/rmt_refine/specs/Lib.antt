@@ -1,3 +1,4 @@
+pub mod Types
 pub mod View
 pub mod Places
 pub mod Units

@@ -1,16 +1,11 @@
 -- In which stage the outcome of each node is set.
 use Rattle.std.specs.Prelude.{◌≡◌, ◌<◌, ◌≤◌, ℕ, ◌+◌, List, [], Option, Some, None, IsSomeAnd, if◌then◌else◌, length, option_map, replicate, slice_get, slice_index, take, unwrap_or}
-use Rattle.rmt_ast.specs.declared.program.Program.{Program}
-use Rattle.rmt_ast.specs.declared.program.Table.{Table}
-use Rattle.rmt_ast.specs.declared.program.Node.{Node}
-use Rattle.rmt_ast.specs.declared.program.Guard.{Guard}
-use Rattle.rmt_ast.specs.declared.program.What.{What}
+use Rattle.rmt_refine.specs.Types.{Program, Table, Node, Guard, What, Config}
 use Rattle.rmt_ast.specs.declared.program.What.TheVariants.{Apply, Gate}
 use Rattle.rmt_ast.specs.declared.entry.Entry.{Entry}
 use Rattle.rmt_ast.specs.Control.{Run, run_from}
 use Rattle.rmt_ast.specs.Lookup.{hit_of}
 use Rattle.rmt_ast.specs.State.{joined, passes}
-use Rattle.rmt_config.specs.declared.config.Config.{Config}
 use Rattle.rmt_pack.specs.declared.placement.Part.{Part}
 use Rattle.rmt_pack.specs.Placements.{quanta_in}
 use Rattle.rmt_refine.specs.View.{View}

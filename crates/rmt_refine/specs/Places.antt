@@ -2,11 +2,8 @@
 use Rattle.std.specs.Prelude.{◌≡◌, ℕ, List, [], ◌∷◌, reverse}
 use Rattle.std.specs.List.{AllZip, flat_map}
 use Rattle.rmt_bits.specs.declared.lane.Lane.{Lane}
-use Rattle.rmt_ast.specs.declared.program.Program.{Program}
-use Rattle.rmt_ast.specs.declared.program.Header.{Header}
+use Rattle.rmt_refine.specs.Types.{Program, Header, Config, OutHeader}
 use Rattle.rmt_ast.specs.Places.{lanes_of}
-use Rattle.rmt_config.specs.declared.config.Config.{Config}
-use Rattle.rmt_config.specs.declared.config.OutHeader.{OutHeader}
 use Rattle.rmt_phv.specs.Places.{KeepsApart}
 
 -- the lanes of some fields, highest bits first

@@ -1,6 +1,6 @@
 -- When what becomes of a packet on the chip is what a program answers.
 use Rattle.std.specs.Prelude.{◌≡◌, ◌==◌, ℕ, List, count_by}
-use Rattle.rmt_ast.specs.declared.program.Program.{Program}
+use Rattle.rmt_refine.specs.Types.{Program}
 use Rattle.rmt_ast.specs.declared.entry.Entry.{Entry}
 use Rattle.rmt_bits.specs.declared.answer.Answer.{Answer}
 use Rattle.rmt_config.specs.Life.{Counted}

@@ -3,10 +3,9 @@ use Rattle.std.specs.Prelude.{◌≡◌, ℕ, List, All, map}
 use Rattle.rmt_bits.specs.Packet.{Packet, IsPacket}
 use Rattle.rmt_bits.specs.declared.answer.Answer.{Answer}
 use Rattle.rmt_bits.specs.declared.answer.Verdict.{Verdict}
-use Rattle.rmt_ast.specs.declared.program.Program.{Program}
+use Rattle.rmt_refine.specs.Types.{Program, Config}
 use Rattle.rmt_ast.specs.declared.entry.Entry.{Entry}
 use Rattle.rmt_ast.specs.Answers.{answers_of, counts_of}
-use Rattle.rmt_config.specs.declared.config.Config.{Config}
 use Rattle.rmt_config.specs.ChipRun.{Outcome, chip_counts_of, inputs_of, outcomes_of}
 
 -- the verdict and the bytes of an answer

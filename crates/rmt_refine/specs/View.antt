@@ -1,10 +1,7 @@
 -- The cells that the look-ups of a packet see. A configuration has cells of its own; where entries change in flight, packets see others.
 use Rattle.std.specs.Prelude.{ℕ, Option, Some, None, find, option_map, option_and_then, slice_get, unwrap_or}
-use Rattle.rmt_config.specs.declared.config.Config.{Config}
-use Rattle.rmt_config.specs.declared.config.Stage.{Stage}
-use Rattle.rmt_config.specs.declared.config.Unit.{Unit}
+use Rattle.rmt_refine.specs.Types.{Config, Stage, Unit, SlotUnit}
 use Rattle.rmt_config.specs.declared.config.Unit.TheVariants.{Gate, Slot}
-use Rattle.rmt_config.specs.declared.config.SlotUnit.{SlotUnit}
 use Rattle.rmt_config.specs.LaneForm.{bits_of_lanes}
 use Rattle.rmt_config.specs.Cells.{Content, Found, candidates, code_of, content_of, has_key, number_of_cell}
 use Rattle.rmt_config.specs.Life.{Look}

@@ -7,8 +7,8 @@ use Rattle.rmt_bits.specs.declared.lane.Lane.{Lane}
 use Rattle.rmt_config.specs.declared.config.Config.{Config}
 use Rattle.rmt_config.specs.declared.config.Stage.{Stage}
 use Rattle.rmt_config.specs.declared.config.Unit.{Unit as ChipUnit}
-use Rattle.rmt_config.specs.declared.config.Unit.TheVariants.{Gate, Slot}
 use Rattle.rmt_config.specs.declared.config.Memory.{Memory}
+use Rattle.rmt_config.specs.declared.config.Unit.TheVariants.{Gate, Slot}
 use Rattle.rmt_config.specs.declared.config.Memory.TheVariants.{Without, Exact, Ternary}
 use Rattle.rmt_config.specs.declared.config.Source.TheVariants as source
 use Rattle.rmt_config.proofs.ExamplesParts.{lane, one_byte, plain_slot, plain_stage, instruction, copy}

@@ -7,14 +7,14 @@ use Rattle.rmt_config.specs.declared.config.Config.{Config}
 use Rattle.rmt_config.specs.declared.config.OutHeader.{OutHeader}
 use Rattle.rmt_config.specs.declared.config.ParserEntry.{ParserEntry}
 use Rattle.rmt_config.specs.declared.config.Extract.{Extract}
-use Rattle.rmt_config.specs.declared.config.Extract.TheVariants.{Bits, One}
 use Rattle.rmt_config.specs.declared.config.Stage.{Stage}
 use Rattle.rmt_config.specs.declared.config.Unit.{Unit}
-use Rattle.rmt_config.specs.declared.config.Unit.TheVariants.{Gate, Slot}
 use Rattle.rmt_config.specs.declared.config.GateTest.{GateTest}
 use Rattle.rmt_config.specs.declared.config.Vliw.{Vliw}
 use Rattle.rmt_config.specs.declared.config.Operation.{Operation}
 use Rattle.rmt_config.specs.declared.config.Source.{Source}
+use Rattle.rmt_config.specs.declared.config.Extract.TheVariants.{Bits, One}
+use Rattle.rmt_config.specs.declared.config.Unit.TheVariants.{Gate, Slot}
 use Rattle.rmt_config.specs.declared.config.Source.TheVariants as source
 use Rattle.rmt_config.specs.Resources.{distinct}
 

@@ -9,15 +9,13 @@ use Rattle.rmt_bits.proofs.AllLaws.{All-find, All-left, All-right, All-parts}
 use Rattle.rmt_bits.proofs.BitLaws.{slice-deposit_same, slice-deposit_above, slice-deposit_below}
 use Rattle.rmt_bits.specs.Bits.{slice, deposit}
 use Rattle.rmt_bits.specs.declared.lane.Lane.{Lane}
-use Rattle.rmt_ast.specs.declared.program.Program.{Program}
-use Rattle.rmt_ast.specs.declared.program.Assign.{Assign}
+use Rattle.rmt_vliw.specs.Types.{Program, Assign, Operation}
 use Rattle.rmt_ast.specs.State.{IsState, width_of}
 use Rattle.rmt_ast.specs.Actions.{value_of}
 use Rattle.rmt_ast.specs.Places.{lanes_of}
 use Rattle.rmt_ast.specs.WellFormed.{Fits}
 use Rattle.rmt_ast.proofs.StateLaws.{value_fits}
 use Rattle.rmt_phv.specs.Places.{AreApart, KeepsApart}
-use Rattle.rmt_config.specs.declared.config.Operation.{Operation}
 use Rattle.rmt_config.specs.Life.{Words, lane_of, source_of, computed, written, op_on}
 use Rattle.rmt_vliw.specs.Folding.{all_set}
 use Rattle.rmt_vliw.specs.Operations.{operations_of, IsInstruction}

@@ -5,13 +5,9 @@ use Rattle.std.specs.List.{list_any}
 use Rattle.std.proofs.lemmas.Bool.{eqb-true, eq-eqb, ne_eqb, or_parts, cases_Bool, false≢true}
 use Rattle.std.proofs.lemmas.List.{map_push, map_more, drop_more, length-map, length-take-le, get_or_at, set_at}
 use Rattle.std.proofs.lemmas.List.Folds.{list_any-append}
-use Rattle.rmt_ast.specs.declared.program.Assign.{Assign}
-use Rattle.rmt_ast.specs.declared.program.Expr.{Expr}
+use Rattle.rmt_vliw.specs.Types.{Action, Assign, Expr, Leaf, Op}
 use Rattle.rmt_ast.specs.declared.program.Expr.TheVariants.{One, Two}
-use Rattle.rmt_ast.specs.declared.program.Leaf.{Leaf}
 use Rattle.rmt_ast.specs.declared.program.Leaf.TheVariants as leaf
-use Rattle.rmt_ast.specs.declared.program.Op.{Op}
-use Rattle.rmt_ast.specs.declared.program.Action.{Action}
 use Rattle.rmt_phv.specs.Packing.{map_ok}
 use Rattle.rmt_vliw.specs.declared.value.Value.{Value}
 use Rattle.rmt_vliw.specs.declared.folded.Folded.{Folded}

@@ -16,25 +16,17 @@ use Rattle.rmt_bits.specs.Bits.{slice}
 use Rattle.rmt_bits.specs.Words.{word_size}
 use Rattle.rmt_bits.specs.declared.lane.Lane.{Lane}
 use Rattle.rmt_bits.proofs.BitLaws.{slice-lt}
-use Rattle.rmt_ast.specs.declared.program.Program.{Program}
-use Rattle.rmt_ast.specs.declared.program.Field.{Field}
-use Rattle.rmt_ast.specs.declared.program.Assign.{Assign}
-use Rattle.rmt_ast.specs.declared.program.Expr.{Expr}
+use Rattle.rmt_vliw.specs.Types.{Program, Field, Assign, Expr, Leaf, Op, Vliw, Operation, Source}
 use Rattle.rmt_ast.specs.declared.program.Expr.TheVariants.{One, Two}
-use Rattle.rmt_ast.specs.declared.program.Leaf.{Leaf}
 use Rattle.rmt_ast.specs.declared.program.Leaf.TheVariants as leaf
-use Rattle.rmt_ast.specs.declared.program.Op.{Op}
 use Rattle.rmt_ast.specs.declared.program.Op.TheVariants.{Add, Sub, And, Or, Xor}
 use Rattle.rmt_ast.specs.State.{width_of}
 use Rattle.rmt_ast.specs.Places.{lanes_of}
 use Rattle.rmt_ast.specs.WellFormed.{IsProgram, IsWidth, IsLeaf, IsExpr, AreDistinct}
 use Rattle.rmt_phv.specs.Packing.{pieces}
 use Rattle.rmt_phv.specs.Places.{LiesInWord, ShareNoWord, KeepsApart}
-use Rattle.rmt_config.specs.declared.config.Operation.{Operation}
 use Rattle.rmt_config.specs.declared.config.OpKind.TheVariants as kind
-use Rattle.rmt_config.specs.declared.config.Source.{Source}
 use Rattle.rmt_config.specs.declared.config.Source.TheVariants.{Constant}
-use Rattle.rmt_config.specs.declared.config.Vliw.{Vliw}
 use Rattle.rmt_config.specs.declared.form.code.Place.{Place}
 use Rattle.rmt_config.specs.Order.{rises_from}
 use Rattle.rmt_config.specs.LaneForm.{bits_of_lanes, lane_is_formed}

@@ -6,11 +6,8 @@ use Rattle.std.proofs.lemmas.Option.{none-some}
 use Rattle.std.proofs.lemmas.List.{length-map, get_or-map}
 use Rattle.std.proofs.lemmas.List.Elements.{All-map, All-weaker, Contains-get_or}
 use Rattle.rmt_bits.specs.declared.lane.Lane.{Lane}
-use Rattle.rmt_ast.specs.declared.program.Program.{Program}
-use Rattle.rmt_ast.specs.declared.program.Assign.{Assign}
-use Rattle.rmt_ast.specs.declared.program.Expr.{Expr}
+use Rattle.rmt_vliw.specs.Types.{Program, Assign, Expr, Leaf}
 use Rattle.rmt_ast.specs.declared.program.Expr.TheVariants.{One, Two}
-use Rattle.rmt_ast.specs.declared.program.Leaf.{Leaf}
 use Rattle.rmt_ast.specs.declared.program.Leaf.TheVariants as leaf
 use Rattle.rmt_ast.specs.State.{width_of}
 use Rattle.rmt_ast.specs.Actions.{operand, applied, value_of}

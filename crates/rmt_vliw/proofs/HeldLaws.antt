@@ -9,8 +9,7 @@ use Rattle.std.proofs.lemmas.List.FromFn.{length-range_with_len, get_or-map-rang
 use Rattle.std.proofs.lemmas.Option.{slice_get_past}
 use Rattle.rmt_bits.specs.declared.lane.Lane.{Lane}
 use Rattle.rmt_bits.proofs.BitLaws.{slice-lt}
-use Rattle.rmt_ast.specs.declared.program.Program.{Program}
-use Rattle.rmt_ast.specs.declared.program.Field.{Field}
+use Rattle.rmt_vliw.specs.Types.{Program, Field}
 use Rattle.rmt_ast.specs.State.{IsState, width_of}
 use Rattle.rmt_ast.specs.Places.{lanes_of}
 use Rattle.rmt_phv.specs.Packing.{pieces}

@@ -7,13 +7,9 @@ use Rattle.std.proofs.lemmas.Option.{none-some, slice_get_within}
 use Rattle.rmt_bits.specs.Bits.{slice}
 use Rattle.rmt_bits.specs.declared.lane.Lane.{Lane}
 use Rattle.rmt_bits.proofs.AllLaws.{All-slice_get}
-use Rattle.rmt_ast.specs.declared.program.Program.{Program}
-use Rattle.rmt_ast.specs.declared.program.Action.{Action}
-use Rattle.rmt_ast.specs.declared.program.Assign.{Assign}
+use Rattle.rmt_vliw.specs.Types.{Program, Action, Assign, Vliw, Operation}
 use Rattle.rmt_ast.specs.WellFormed.{IsProgram, IsAction, Fits, Takes}
 use Rattle.rmt_phv.specs.Places.{KeepsApart}
-use Rattle.rmt_config.specs.declared.config.Operation.{Operation}
-use Rattle.rmt_config.specs.declared.config.Vliw.{Vliw}
 use Rattle.rmt_config.specs.CodeForm.{vliw_is_formed}
 use Rattle.rmt_config.specs.Agreement.{held_in}
 use Rattle.rmt_vliw.specs.declared.folded.Folded.{Folded}

@@ -10,14 +10,11 @@ use Rattle.std.proofs.lemmas.List.Sorted.{All-permutation, Contains-permutation}
 use Rattle.rmt_bits.proofs.AllLaws.{All-flat_map}
 use Rattle.rmt_bits.specs.Bits.{deposit}
 use Rattle.rmt_bits.specs.declared.lane.Lane.{Lane}
-use Rattle.rmt_ast.specs.declared.program.Program.{Program}
-use Rattle.rmt_ast.specs.declared.program.Assign.{Assign}
-use Rattle.rmt_ast.specs.declared.program.Expr.{Expr}
+use Rattle.rmt_vliw.specs.Types.{Program, Assign, Expr, Operation}
 use Rattle.rmt_ast.specs.declared.program.Expr.TheVariants.{One, Two}
 use Rattle.rmt_ast.specs.Places.{lanes_of}
 use Rattle.rmt_ast.specs.WellFormed.{AreDistinct}
 use Rattle.rmt_phv.specs.Places.{KeepsApart}
-use Rattle.rmt_config.specs.declared.config.Operation.{Operation}
 use Rattle.rmt_config.specs.CodeForm.{lane_of_operation}
 use Rattle.rmt_config.specs.Life.{Words, source_of, computed, written, op_on}
 use Rattle.rmt_vliw.specs.declared.piece.Piece.{Piece}

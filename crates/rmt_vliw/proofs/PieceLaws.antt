@@ -13,13 +13,9 @@ use Rattle.std.proofs.lemmas.Option.{slice_get-get_or}
 use Rattle.rmt_bits.specs.Bits.{slice}
 use Rattle.rmt_bits.specs.declared.lane.Lane.{Lane}
 use Rattle.rmt_bits.proofs.BitLaws.{slice-lt, slice-add}
-use Rattle.rmt_ast.specs.declared.program.Program.{Program}
-use Rattle.rmt_ast.specs.declared.program.Field.{Field}
-use Rattle.rmt_ast.specs.declared.program.Expr.{Expr}
+use Rattle.rmt_vliw.specs.Types.{Program, Field, Expr, Leaf, Op}
 use Rattle.rmt_ast.specs.declared.program.Expr.TheVariants.{One, Two}
-use Rattle.rmt_ast.specs.declared.program.Leaf.{Leaf}
 use Rattle.rmt_ast.specs.declared.program.Leaf.TheVariants as leaf
-use Rattle.rmt_ast.specs.declared.program.Op.{Op}
 use Rattle.rmt_ast.specs.declared.program.Op.TheVariants.{Add, Sub, And, Or, Xor}
 use Rattle.rmt_ast.specs.State.{IsState, width_of}
 use Rattle.rmt_ast.specs.Actions.{operand, applied, value_of}

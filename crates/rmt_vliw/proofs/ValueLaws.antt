@@ -7,9 +7,7 @@ use Rattle.std.proofs.lemmas.List.Elements.{All-nil, All-cons, All-head, All-tai
 use Rattle.std.proofs.lemmas.List.Quantifiers.{all_pairs_push}
 use Rattle.std.proofs.lemmas.Option.{slice_get_within, get_or_from_slice_get}
 use Rattle.rmt_bits.proofs.AllLaws.{All-slice_get}
-use Rattle.rmt_ast.specs.declared.program.Program.{Program}
-use Rattle.rmt_ast.specs.declared.program.Action.{Action}
-use Rattle.rmt_ast.specs.declared.program.Assign.{Assign}
+use Rattle.rmt_vliw.specs.Types.{Program, Action, Assign}
 use Rattle.rmt_ast.specs.State.{width_of}
 use Rattle.rmt_ast.specs.Actions.{value_of}
 use Rattle.rmt_ast.specs.WellFormed.{IsProgram, IsAction, IsAssign, IsExpr, AreDistinct}

@@ -3,13 +3,11 @@ use Rattle.std.specs.Prelude.{◌≡◌, ℕ, ◌+◌, ◌*◌, ◌^◌, List, [
 use Rattle.std.specs.List.{AllZip, flat_map}
 use Rattle.rmt_bits.specs.Bits.{slice}
 use Rattle.rmt_bits.specs.declared.lane.Lane.{Lane}
-use Rattle.rmt_ast.specs.declared.program.Program.{Program}
-use Rattle.rmt_ast.specs.declared.program.Assign.{Assign}
+use Rattle.rmt_vliw.specs.Types.{Program, Assign, Operation}
 use Rattle.rmt_ast.specs.State.{IsState}
 use Rattle.rmt_ast.specs.Places.{lanes_of}
 use Rattle.rmt_ast.specs.Control.{act_of}
 use Rattle.rmt_ast.specs.WellFormed.{Fits}
-use Rattle.rmt_config.specs.declared.config.Operation.{Operation}
 use Rattle.rmt_config.specs.Life.{Words, lane_of, op_on, written}
 use Rattle.rmt_config.specs.Agreement.{IsFree}
 use Rattle.rmt_vliw.specs.declared.folded.Folded.{Folded}

@@ -1,14 +1,9 @@
 -- What an action folds to: one value for each field that it writes, over the fields as they are before it.
 use Rattle.std.specs.Prelude.{◌≡◌, ℕ, List, [], ◌∷◌, ◌++◌, Option, Some, None, Result, Ok, Err, IsSomeAnd, fold, if◌then◌else◌, ◌==◌, slice_get, slice_set}
 use Rattle.std.specs.List.{list_any}
-use Rattle.rmt_ast.specs.declared.program.Program.{Program}
-use Rattle.rmt_ast.specs.declared.program.Action.{Action}
-use Rattle.rmt_ast.specs.declared.program.Assign.{Assign}
-use Rattle.rmt_ast.specs.declared.program.Expr.{Expr}
+use Rattle.rmt_vliw.specs.Types.{Program, Action, Assign, Expr, Leaf, Op}
 use Rattle.rmt_ast.specs.declared.program.Expr.TheVariants.{One, Two}
-use Rattle.rmt_ast.specs.declared.program.Leaf.{Leaf}
 use Rattle.rmt_ast.specs.declared.program.Leaf.TheVariants as leaf
-use Rattle.rmt_ast.specs.declared.program.Op.{Op}
 use Rattle.rmt_ast.specs.State.{IsState, width_of}
 use Rattle.rmt_ast.specs.Actions.{value_of}
 use Rattle.rmt_ast.specs.Control.{act_of}

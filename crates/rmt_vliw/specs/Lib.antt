@@ -1,3 +1,4 @@
+pub mod Types
 pub mod Folding
 pub mod Known
 pub mod Operations

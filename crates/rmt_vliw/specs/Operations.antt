@@ -4,18 +4,12 @@ use Rattle.std.specs.List.{flat_map}
 use Rattle.std.specs.List.Sorted.{IsPermutation, IsNonDecreasingBy}
 use Rattle.rmt_bits.specs.Bits.{slice}
 use Rattle.rmt_bits.specs.declared.lane.Lane.{Lane}
-use Rattle.rmt_ast.specs.declared.program.Assign.{Assign}
-use Rattle.rmt_ast.specs.declared.program.Expr.{Expr}
+use Rattle.rmt_vliw.specs.Types.{Assign, Expr, Leaf, Op, Operation, OpKind, Source}
 use Rattle.rmt_ast.specs.declared.program.Expr.TheVariants.{One, Two}
-use Rattle.rmt_ast.specs.declared.program.Leaf.{Leaf}
 use Rattle.rmt_ast.specs.declared.program.Leaf.TheVariants as leaf
-use Rattle.rmt_ast.specs.declared.program.Op.{Op}
 use Rattle.rmt_ast.specs.declared.program.Op.TheVariants.{Add, Sub, And, Or, Xor}
 use Rattle.rmt_ast.specs.Places.{lanes_of}
-use Rattle.rmt_config.specs.declared.config.Operation.{Operation}
-use Rattle.rmt_config.specs.declared.config.OpKind.{OpKind}
 use Rattle.rmt_config.specs.declared.config.OpKind.TheVariants as kind
-use Rattle.rmt_config.specs.declared.config.Source.{Source}
 use Rattle.rmt_config.specs.declared.config.Source.TheVariants.{Word, Held, Constant}
 use Rattle.rmt_vliw.specs.declared.piece.Piece.{Piece}
 

@@ -1,37 +1,24 @@
 -- The actions of a text that breaks no rule.
-use Rattle.std.proofs.Common.{◌≡◌, ℕ, ◌^◌, List, [], ◌∷◌, true, false, not, ◌&&◌, nat_lt, None, Some, Option, option_map, unwrap_or, map, drop, slice_get, get_or, All, sym, ap, subst, ◌∙◌, append_assoc, arith}
+use Rattle.std.proofs.Common.{◌≡◌, ℕ, ◌^◌, List, [], ◌∷◌, false, ◌&&◌, nat_lt, None, Some, Option, option_map, unwrap_or, map, slice_get, get_or, All, sym, ap, subst, ◌∙◌, append_assoc, arith}
 use Rattle.std.specs.List.{flat_map}
-use Rattle.std.proofs.lemmas.Bool.{both_ways, ltb-true, ltb-false, leb-true, eqb-true, and_parts}
+use Rattle.std.proofs.lemmas.Bool.{both_ways, ltb-true, ltb-false, eqb-true}
 use Rattle.std.proofs.lemmas.List.{length-map}
 use Rattle.std.proofs.lemmas.List.Elements.{All-map}
 use Rattle.std.proofs.lemmas.Option.{slice_get-map, same_Some}
 use Rattle.rmt_ast.specs.WellFormed.{IsWidth, IsLeaf, IsOp, IsExpr, IsAssign, IsAction}
-use Rattle.rmt_ast.specs.declared.program.Op.{Op}
+use Rattle.rmt_check.specs.Parts.{Op, Declared, LeafText, Sign, ExprText, AssignText, ActionText, Source}
 use Rattle.rmt_ast.specs.declared.program.Op.TheVariants.{Add, Sub, And, Or, Xor}
-use Rattle.rmt_check.specs.declared.source.Ident.{Ident}
-use Rattle.rmt_check.specs.declared.source.Declared.{Declared}
-use Rattle.rmt_check.specs.declared.source.LeafText.{LeafText}
-use Rattle.rmt_check.specs.declared.source.Sign.{Sign}
-use Rattle.rmt_check.specs.declared.source.ExprText.{ExprText}
-use Rattle.rmt_check.specs.declared.source.AssignText.{AssignText}
-use Rattle.rmt_check.specs.declared.source.ActionText.{ActionText}
-use Rattle.rmt_check.specs.declared.source.Source.{Source}
 use Rattle.rmt_check.specs.Names.{in_port, Named, same_field, named_fields, named, width_of, param_names, param_width, operands}
-use Rattle.rmt_check.specs.Rules.{when, is_width, no_widths, is_sum, wide_sign, differs, unknown_field, unknown_leaf, unknown_assign, declared_names}
+use Rattle.rmt_check.specs.Rules.{when, is_sum, wide_sign, differs, unknown_field, unknown_leaf, unknown_assign}
 use Rattle.rmt_check.specs.Meaning.{index_of, leaf_of, expr_of, assign_of, action_of, program_of}
-use Rattle.rmt_bits.proofs.ListLaws.{append-nil_left, append-nil_right, drop-nil, flat_map-nil, map-nil}
+use Rattle.rmt_bits.proofs.ListLaws.{append-nil_left, append-nil_right, flat_map-nil}
 use Rattle.rmt_check.proofs.programs.ListLaws.{none_in}
 use Rattle.rmt_check.proofs.Finding.{stands_for}
 use Rattle.rmt_check.proofs.FieldCodes.{field_at}
-use Rattle.rmt_check.proofs.programs.RuleLaws.{no_when, no_when_not, one_known, field_known, KeepsRules, unknown_in_action, param_widths, operand_widths, wide_signs, written_ports, many_params, many_assigns}
+use Rattle.rmt_check.proofs.programs.RuleLaws.{no_when, no_when_not, one_known, field_known, KeepsRules}
+use Rattle.rmt_check.proofs.Bounds.{few, few_declared, widths_in_range}
 use Rattle.rmt_check.proofs.programs.FieldLaws.{field_within, field_width}
 use Rattle.rmt_check.specs.declared.source.LeafText.TheVariants as text
-
-pub width_in_range : (n : ℕ) → is_width n ≡ true → IsWidth n
-width_in_range n e = let parts = and_parts _ _ e in (leb-true 1 n parts.0, leb-true n 128 parts.1)
-
-pub widths_in_range : (ds : List Declared) → no_widths ds ≡ [] → All (λ (d : Declared). IsWidth d.width.value) ds
-widths_in_range ds e k d lt = width_in_range (get_or ds k d).width.value (no_when_not (is_width (get_or ds k d).width.value) (get_or ds k d).width.place (flat_map-nil (λ (x : Declared). when (not (is_width x.width.value)) x.width.place) ds e k d lt))
 
 abbrev widths_of : ActionText → List ℕ
 widths_of a = map (λ (d : Declared). d.width.value) a.params
@@ -84,26 +71,17 @@ module _ (s : Source) (a : ActionText) where
             (expr_law (width_of s (named s x.dest)) x.expr (append-nil_right (unknown_field s x.dest) (flat_map (unknown_leaf s a) (operands x.expr)) known) same sign);
       }
 
-module _ (s : Source) (h : KeepsRules s) where
-  one : (a : ActionText) → unknown_in_action s a ≡ [] → param_widths a ≡ [] → operand_widths s a ≡ [] → wide_signs s a ≡ [] → written_ports s a ≡ [] → many_params a ≡ [] → many_assigns a ≡ []
-      → IsAction (program_of s) (action_of s a)
-  one a known widths same signs other params assigns = record {
-    params = All-map IsWidth (λ (d : Declared). d.width.value) a.params (widths_in_range a.params widths);
-    few_params =
-        let l = drop-nil 16 (declared_names a.params) (map-nil (λ (x : Ident). x.place) (drop 16 (declared_names a.params)) params) in
-        let m = length-map a.params (λ (d : Declared). d.ident) in
-        let n = length-map a.params (λ (d : Declared). d.width.value) in omega arith;
-    assigns = All-map (IsAssign (program_of s) (widths_of a)) (assign_of s a) a.assigns
-        (λ k d lt. assign_law s a (get_or a.assigns k d)
-        (flat_map-nil (unknown_assign s a) a.assigns known k d lt)
-        (flat_map-nil (λ (x : AssignText). flat_map (differs s a (width_of s (named s x.dest))) (operands x.expr)) a.assigns same k d lt)
-        (flat_map-nil (λ (x : AssignText). wide_sign (width_of s (named s x.dest)) x.expr.right) a.assigns signs k d lt)
-        (flat_map-nil (λ (x : AssignText). when (same_field (named s x.dest) in_port) x.dest.place) a.assigns other k d lt));
-    few_assigns =
-        let l = drop-nil 64 a.assigns (map-nil (λ (x : AssignText). x.dest.place) (drop 64 a.assigns) assigns) in
-        let m = length-map a.assigns (assign_of s a) in omega arith;
-  }
-
-  pub actions_law : All (IsAction (program_of s)) (map (action_of s) s.actions)
-  actions_law = All-map (IsAction (program_of s)) (action_of s) s.actions (λ k d lt. one (get_or s.actions k d)
-      (h.assigns_known k d lt) (h.params_wide k d lt) (h.operands_fit k d lt) (h.signs_fit k d lt) (h.port_kept k d lt) (h.params_few k d lt) (h.assigns_few k d lt))
+pub actions_law : (s : Source) → KeepsRules s → All (IsAction (program_of s)) (map (action_of s) s.actions)
+actions_law s h = All-map (IsAction (program_of s)) (action_of s) s.actions (λ k d lt.
+    let a = get_or s.actions k d in
+    record {
+      params = All-map IsWidth (λ (x : Declared). x.width.value) a.params (widths_in_range a.params (h.params_wide k d lt));
+      few_params = omega (arith, few_declared 16 a.params (h.params_few k d lt), length-map a.params (λ (x : Declared). x.width.value));
+      assigns = All-map (IsAssign (program_of s) (widths_of a)) (assign_of s a) a.assigns
+          (λ i e within. assign_law s a (get_or a.assigns i e)
+          (flat_map-nil (unknown_assign s a) a.assigns (h.assigns_known k d lt) i e within)
+          (flat_map-nil (λ (x : AssignText). flat_map (differs s a (width_of s (named s x.dest))) (operands x.expr)) a.assigns (h.operands_fit k d lt) i e within)
+          (flat_map-nil (λ (x : AssignText). wide_sign (width_of s (named s x.dest)) x.expr.right) a.assigns (h.signs_fit k d lt) i e within)
+          (flat_map-nil (λ (x : AssignText). when (same_field (named s x.dest) in_port) x.dest.place) a.assigns (h.port_kept k d lt) i e within));
+      few_assigns = omega (arith, few 64 (λ (x : AssignText). x.dest.place) a.assigns (h.assigns_few k d lt), length-map a.assigns (assign_of s a));
+    })

@@ -1,66 +1,31 @@
 -- The fields of a text that breaks no rule: those of each header stand one after another, in the order of the text.
-use Rattle.std.proofs.Common.{◌≡◌, ℕ, zero, suc, ◌+◌, List, [], ◌∷◌, ◌++◌, Some, Option, option_map, unwrap_or, codes, length, slice_get, refl, sym, ap, ap₂, subst, ◌∙◌, append_assoc, length-append, arith, drop, get_or, All}
-use Rattle.std.specs.List.{flat_map, range_with_len}
+use Rattle.std.proofs.Common.{◌≡◌, ℕ, zero, suc, ◌+◌, ◌<◌, ◌≤◌, List, [], ◌∷◌, ◌++◌, Some, Option, option_map, unwrap_or, codes, length, slice_get, refl, sym, ap, ap₂, subst, ◌∙◌, append_assoc, length-append, zero-add, arith, drop}
+use Rattle.std.specs.List.{flat_map, range_with_len, enumerate_from}
 use Rattle.std.proofs.lemmas.List.{length-map}
 use Rattle.std.proofs.lemmas.List.Concat.{flat_map-append}
 use Rattle.std.proofs.lemmas.List.FromFn.{length-range_with_len}
+use Rattle.std.proofs.lemmas.List.Sums.{sum_by-append}
 use Rattle.std.proofs.lemmas.Option.{slice_get-map, slice_get_within}
-use Rattle.rmt_ast.specs.declared.program.Header.{Header}
+use Rattle.std.proofs.lemmas.List.Elements.{All-map}
 use Rattle.rmt_ast.proofs.WellFormedLemmas.{NumberedFrom}
-use Rattle.rmt_bits.proofs.ListLaws.{slice_get-front, slice_get-end, drop-nil, map-nil}
-use Rattle.rmt_check.specs.declared.source.Declared.{Declared}
-use Rattle.rmt_check.specs.declared.source.HeaderText.{HeaderText}
-use Rattle.rmt_check.specs.declared.source.Source.{Source}
-use Rattle.rmt_check.specs.Names.{Known, printed, known_fields, header_fields, metadata, fields_of}
-use Rattle.rmt_check.specs.Meaning.{field_of, header_from, headers_from, program_of}
-use Rattle.std.proofs.lemmas.List.Elements.{All-nil, All-cons, All-head, All-tail, All-append, All-map}
-use Rattle.rmt_ast.specs.declared.program.Field.{Field}
 use Rattle.rmt_ast.specs.WellFormed.{IsWidth, HasFields}
-use Rattle.rmt_check.specs.declared.source.Ident.{Ident}
-use Rattle.rmt_check.specs.Rules.{declared_names}
-use Rattle.rmt_check.proofs.programs.ActionLaws.{widths_in_range}
-use Rattle.rmt_check.proofs.programs.RuleLaws.{KeepsRules}
 use Rattle.rmt_ast.specs.State as state
 use Rattle.rmt_ast.specs.WellFormed as formed
+use Rattle.rmt_bits.proofs.ListLaws.{slice_get-front, slice_get-end, drop-nil, map-nil}
+use Rattle.rmt_check.specs.Parts.{Field, Header, Ident, Declared, HeaderText, Source}
+use Rattle.rmt_check.specs.Names.{Known, common_fields, of_metadata, of_header, owned, printed_name, declared_fields, header_fields, metadata, fields_of}
+use Rattle.rmt_check.specs.Sizes.{count_of}
+use Rattle.rmt_check.specs.Meaning.{field_of, header_from, headers_from, program_of}
+use Rattle.rmt_check.specs.Rules.{declared_names}
+use Rattle.rmt_check.proofs.Bounds.{wide_fields}
+use Rattle.rmt_check.proofs.FieldLists.{count_more, length-declared, length-header_fields, front, start_of, length-front, back}
+use Rattle.rmt_check.proofs.programs.RuleLaws.{KeepsRules}
 
 -- The fields of each header stand one after another, in the order of the text.
-
-length-header_fields : (h : HeaderText) → length (header_fields h) ≡ suc (length h.fields)
-length-header_fields h = ap suc (length-map h.fields (λ (d : Declared). (printed h.ident.name d.ident.name, d.width.value)))
 
 pub length-headers_from : (s : Source) (n : ℕ) (hs : List HeaderText) → length (headers_from s n hs) ≡ length hs
 length-headers_from s n [] = refl
 length-headers_from s n (h ∷ hs) = ap suc (length-headers_from s (n + 1 + length h.fields) hs)
-
--- the fields before those of a header, and its number: that of its valid
-abbrev pub front : List HeaderText → List Known
-front before = (codes "in_port", 9) ∷ (codes "out_port", 9) ∷ (codes "drop", 1) ∷ flat_map header_fields before
-
-abbrev pub start_of : List HeaderText → ℕ
-start_of before = 3 + length (flat_map header_fields before)
-
--- the fields behind those of a header
-abbrev pub back : Source → List HeaderText → List Known
-back s after = flat_map header_fields after ++ known_fields (codes "meta") (metadata s)
-
--- what holds of the valid and the fields of each header, and of the metadata's, holds of all of them
-module _ (P : Known → Type 0) where
-  all_known : (owner : List ℕ) (ds : List Declared) → All (λ (d : Declared). P (printed owner d.ident.name, d.width.value)) ds → All P (known_fields owner ds)
-  all_known owner ds h = All-map P (λ (d : Declared). (printed owner d.ident.name, d.width.value)) ds h
-
-  abbrev pub HoldsIn : HeaderText → Type 0
-  HoldsIn h = P (printed h.ident.name (codes "valid"), 1) × All (λ (d : Declared). P (printed h.ident.name d.ident.name, d.width.value)) h.fields
-
-  all_headers : (hs : List HeaderText) → All HoldsIn hs → All P (flat_map header_fields hs)
-  all_headers [] each = All-nil P
-  all_headers (h ∷ hs) each =
-      let here = All-head HoldsIn h hs each in
-      All-append P (header_fields h) (flat_map header_fields hs)
-      (All-cons P (printed h.ident.name (codes "valid"), 1) (known_fields h.ident.name h.fields) here.0 (all_known h.ident.name h.fields here.1))
-      (all_headers hs (All-tail HoldsIn h hs each))
-
-  pub all_back : (s : Source) (hs : List HeaderText) → All HoldsIn hs → All (λ (d : Declared). P (printed (codes "meta") d.ident.name, d.width.value)) (metadata s) → All P (back s hs)
-  all_back s hs each meta = All-append P (flat_map header_fields hs) (known_fields (codes "meta") (metadata s)) (all_headers hs each) (all_known (codes "meta") (metadata s) meta)
 
 range-append : (a m n : ℕ) → range_with_len a (m + n) ≡ range_with_len a m ++ range_with_len (a + m) n
 range-append a zero n = let e : a ≡ a + 0 = omega arith in let f : 0 + n ≡ n = omega arith in ap (range_with_len a) f ∙ ap (λ (b : ℕ). range_with_len b n) e
@@ -69,60 +34,63 @@ range-append a (suc m) n =
     let f : suc m + n ≡ suc (m + n) = omega arith in
     ap (range_with_len a) f ∙ ap (λ (xs : List ℕ). a ∷ xs) (range-append (a + 1) m n ∙ ap (λ (b : ℕ). range_with_len (a + 1) m ++ range_with_len b n) e)
 
-abbrev numbers_of : Header → List ℕ
-numbers_of h = h.valid ∷ h.fields
-
-pub numbers_in_order : (s : Source) (n : ℕ) (hs : List HeaderText) → flat_map (λ (h : Header). h.valid ∷ h.fields) (headers_from s n hs) ≡ range_with_len n (length (flat_map header_fields hs))
+pub numbers_in_order : (s : Source) (n : ℕ) (hs : List HeaderText) → flat_map (λ (h : Header). h.valid ∷ h.fields) (headers_from s n hs) ≡ range_with_len n (count_of hs)
 numbers_in_order s n [] = refl
 numbers_in_order s n (h ∷ hs) =
-    let rest = numbers_in_order s (n + 1 + length h.fields) hs in
-    let here = length-header_fields h in
-    let e : n + 1 + length h.fields ≡ n + suc (length h.fields) = omega arith in
-    let all : length (header_fields h ++ flat_map header_fields hs) ≡ suc (length h.fields) + length (flat_map header_fields hs) =
-    length-append (header_fields h) (flat_map header_fields hs) ∙ ap (λ (k : ℕ). k + length (flat_map header_fields hs)) here in
-    ap (λ (xs : List ℕ). range_with_len n (suc (length h.fields)) ++ xs) (rest ∙ ap (λ (b : ℕ). range_with_len b (length (flat_map header_fields hs))) e)
-    ∙ sym (range-append n (suc (length h.fields)) (length (flat_map header_fields hs)))
-    ∙ ap (range_with_len n) (sym all)
+    let next : n + 1 + length h.fields ≡ n + suc (length h.fields) = omega arith in
+    let all : suc (length h.fields) + count_of hs ≡ count_of (h ∷ hs) = omega (arith, count_more h hs) in
+    ap (λ (xs : List ℕ). range_with_len n (suc (length h.fields)) ++ xs) (numbers_in_order s (n + 1 + length h.fields) hs ∙ ap (λ (b : ℕ). range_with_len b (count_of hs)) next)
+    ∙ sym (range-append n (suc (length h.fields)) (count_of hs))
+    ∙ ap (range_with_len n) all
 
 -- how many numbers the headers' fields have
-pub header_numbers : (s : Source) → length (formed.header_fields (program_of s)) ≡ length (flat_map header_fields s.headers)
-header_numbers s = ap length (numbers_in_order s 3 s.headers) ∙ length-range_with_len 3 (length (flat_map header_fields s.headers))
+pub header_numbers : (s : Source) → length (formed.header_fields (program_of s)) ≡ count_of s.headers
+header_numbers s = ap length (numbers_in_order s 3 s.headers) ∙ length-range_with_len 3 (count_of s.headers)
+
+enumerate-append : {X : Type 0} (n m : ℕ) (xs ys : List X) → n + length xs ≡ m → enumerate_from n (xs ++ ys) ≡ enumerate_from n xs ++ enumerate_from m ys
+enumerate-append n m [] ys e = ap (λ (k : ℕ). enumerate_from k ys) (omega arith)
+enumerate-append n m (x ∷ xs) ys e = ap (λ (es : List _). (n, x) ∷ es) (enumerate-append (n + 1) m xs ys (omega arith))
 
 module _ (s : Source) (before : List HeaderText) (h : HeaderText) (after : List HeaderText) (here : s.headers ≡ before ++ h ∷ after) where
-  fields_split : fields_of s ≡ front before ++ (header_fields h ++ back s after)
-  fields_split =
-      let inside : flat_map header_fields s.headers ≡ flat_map header_fields before ++ (header_fields h ++ flat_map header_fields after) =
-      ap (flat_map header_fields) here ∙ flat_map-append header_fields before (h ∷ after) in
-      ap (λ (xs : List Known). (codes "in_port", 9) ∷ (codes "out_port", 9) ∷ (codes "drop", 1) ∷ (xs ++ known_fields (codes "meta") (metadata s))) inside
-      ∙ ap (λ (xs : List Known). (codes "in_port", 9) ∷ (codes "out_port", 9) ∷ (codes "drop", 1) ∷ xs)
-      (append_assoc (flat_map header_fields before) (header_fields h ++ flat_map header_fields after) (known_fields (codes "meta") (metadata s))
-      ∙ ap (λ (xs : List Known). flat_map header_fields before ++ xs) (append_assoc (header_fields h) (flat_map header_fields after) (known_fields (codes "meta") (metadata s))))
+  -- the fields of a header between those before it and those behind it
+  pub split : fields_of s ≡ front before ++ (header_fields (length before, h) ++ back s (length before + 1) after)
+  split =
+      let headers : flat_map header_fields (enumerate_from 0 s.headers) ≡ flat_map header_fields (enumerate_from 0 before) ++ (header_fields (length before, h) ++ flat_map header_fields (enumerate_from (length before + 1) after)) =
+      ap (λ hs. flat_map header_fields (enumerate_from 0 hs)) here
+      ∙ ap (flat_map header_fields) (enumerate-append 0 (length before) before (h ∷ after) (zero-add (length before)))
+      ∙ flat_map-append header_fields (enumerate_from 0 before) (enumerate_from (length before) (h ∷ after)) in
+      ap (λ (fs : List Known). common_fields ++ fs)
+      (rw headers (simp append_assoc))
 
-  -- what stands at a number of the header's
-  pub at_number : (i m : ℕ) (x : Known) → m ≡ start_of before + i → slice_get (header_fields h) i ≡ Some x → slice_get (fields_of s) m ≡ Some x
-  at_number i m x e there =
-      let here : m ≡ length (front before) + i = omega arith in
-      ap₂ (λ (l : List Known) (n : ℕ). slice_get l n) fields_split here
-      ∙ slice_get-end (front before) (header_fields h ++ back s after) i
-      ∙ slice_get-front (header_fields h) (back s after) i (slice_get_within (header_fields h) i x there)
-      ∙ there
+  module _ (i m : ℕ) (x : Known) (is : m ≡ start_of before + i) (there : slice_get (header_fields (length before, h)) i ≡ Some x) where
+    -- what stands at a number of the header's
+    at_number : slice_get (fields_of s) m ≡ Some x
+    at_number =
+        let here : m ≡ length (front before) + i = omega (arith, length-front before) in
+        ap₂ (λ (l : List Known) (n : ℕ). slice_get l n) split here
+        ∙ slice_get-end (front before) (header_fields (length before, h) ++ back s (length before + 1) after) i
+        ∙ slice_get-front (header_fields (length before, h)) (back s (length before + 1) after) i (slice_get_within (header_fields (length before, h)) i x there)
+        ∙ there
 
-  pub width_at : (i m : ℕ) (x : Known) → m ≡ start_of before + i → slice_get (header_fields h) i ≡ Some x → state.width_of (program_of s) m ≡ x.1
-  width_at i m x e there =
-      ap (λ (o : Option _). unwrap_or (option_map (λ f. f.width) o) 0) (slice_get-map field_of (fields_of s) m ∙ ap (option_map field_of) (at_number i m x e there))
+    at_field : slice_get (program_of s).fields m ≡ Some (field_of x)
+    at_field = slice_get-map field_of (fields_of s) m ∙ ap (option_map field_of) at_number
 
-  pub name_at : (i m : ℕ) (x : Known) → m ≡ start_of before + i → slice_get (header_fields h) i ≡ Some x → formed.name_of (program_of s) m ≡ x.0
-  name_at i m x e there =
-      ap (λ (o : Option _). unwrap_or (option_map (λ f. f.name) o) []) (slice_get-map field_of (fields_of s) m ∙ ap (option_map field_of) (at_number i m x e there))
+    pub width_at : state.width_of (program_of s) m ≡ x.width
+    width_at = ap (λ (o : Option Field). unwrap_or (option_map (λ (f : Field). f.width) o) 0) at_field
+
+    pub name_at : formed.name_of (program_of s) m ≡ printed_name x
+    name_at = ap (λ (o : Option Field). unwrap_or (option_map (λ (f : Field). f.name) o) []) at_field
+
+  -- one of its own fields
+  pub own_at : (i : ℕ) (d : Declared) → slice_get h.fields i ≡ Some d
+      → slice_get (header_fields (length before, h)) (suc i) ≡ Some (owned (of_header (length before)) h.ident.name d.ident.name d.width.value)
+  own_at i d at =
+      slice_get-map (λ (x : Declared). owned (of_header (length before)) h.ident.name x.ident.name x.width.value) h.fields i
+      ∙ ap (option_map (λ (x : Declared). owned (of_header (length before)) h.ident.name x.ident.name x.width.value)) at
 
   -- the number of the next header
   pub start_next : start_of before + 1 + length h.fields ≡ start_of (before ++ h ∷ [])
-  start_next =
-      let one = length-header_fields h in
-      let both = length-append (header_fields h) [] in
-      let all : length (flat_map header_fields (before ++ h ∷ [])) ≡ length (flat_map header_fields before) + length (header_fields h ++ []) =
-      ap length (flat_map-append header_fields before (h ∷ [])) ∙ length-append (flat_map header_fields before) (header_fields h ++ []) in
-      omega arith
+  start_next = omega (arith, sum_by-append (λ (x : HeaderText). 1 + length x.fields) before (h ∷ []), count_more h [])
 
 -- what holds of each header, by the headers before it and after it, holds of the headers in their order
 pub each_header : (s : Source) (P : ℕ → Header → Type 0)
@@ -142,21 +110,13 @@ each_header s P one = from [] s.headers refl
 
 -- The fields of a text that breaks no rule: how many they are, and how wide.
 
-abbrev IsWide : Known → Type 0
-IsWide f = IsWidth f.1
-
-one_bit : IsWidth 1
-one_bit = (omega arith, omega arith)
-
-nine_bits : IsWidth 9
-nine_bits = (omega arith, omega arith)
-
 pub fields_law : (s : Source) → KeepsRules s → HasFields (program_of s)
 fields_law s h =
     let numbers = header_numbers s in
     let all = length-map (fields_of s) field_of in
-    let parts = length-append (flat_map header_fields s.headers) (known_fields (codes "meta") (metadata s)) in
-    let meta : length (known_fields (codes "meta") (metadata s)) ≡ length (metadata s) = length-map (metadata s) (λ (d : Declared). (printed (codes "meta") d.ident.name, d.width.value)) in
+    let headers = length-header_fields 0 s.headers in
+    let parts = length-append (flat_map header_fields (enumerate_from 0 s.headers)) (declared_fields of_metadata (codes "meta") (metadata s)) in
+    let meta = length-declared of_metadata (codes "meta") (metadata s) in
     let names = length-map (metadata s) (λ (d : Declared). d.ident) in
     let few = drop-nil 256 (declared_names (metadata s)) (map-nil (λ (x : Ident). x.place) (drop 256 (declared_names (metadata s))) h.metadata_few) in
     record {
@@ -166,9 +126,5 @@ fields_law s h =
       in_order = numbers_in_order s 3 s.headers ∙ ap (range_with_len 3) (sym numbers);
       all_there = omega arith;
       few_metadata = omega arith;
-      widths = All-map (λ (f : Field). IsWidth f.width) field_of (fields_of s)
-          (All-cons IsWide (codes "in_port", 9) ((codes "out_port", 9) ∷ (codes "drop", 1) ∷ back s s.headers) nine_bits
-          (All-cons IsWide (codes "out_port", 9) ((codes "drop", 1) ∷ back s s.headers) nine_bits
-          (All-cons IsWide (codes "drop", 1) (back s s.headers) one_bit
-          (all_back IsWide s s.headers (λ k d lt. (one_bit, widths_in_range (get_or s.headers k d).fields (h.fields_wide k d lt))) (widths_in_range (metadata s) h.metadata_wide)))));
+      widths = All-map (λ (f : Field). IsWidth f.width) field_of (fields_of s) (wide_fields s h);
     }

@@ -1,151 +1,93 @@
 -- The headers of a text that breaks no rule.
-use Rattle.std.proofs.Common.{◌≡◌, ◌≢◌, ℕ, zero, suc, ◌+◌, ◌<◌, ◌≤◌, ◌⊎◌, inl, inr, List, [], ◌∷◌, ◌++◌, true, Some, Option, option_map, unwrap_or, codes, length, slice_get, All, Contains, refl, sym, ap, ◌∙◌, ⊎_elim, append_assoc, arith, ◌-◌, ◌*◌, ◌/◌, ◌%◌, ◌^◌, Bool, false, not, ◌&&◌, ◌==◌, if◌then◌else◌, nat_le, None, option_to_list, map, zip, sum, take, get_or, ap₂, subst, zero-add}
+use Rattle.std.proofs.Common.{◌≡◌, ◌≢◌, ℕ, zero, suc, ◌+◌, ◌<◌, ◌≤◌, ◌⊎◌, inl, inr, List, [], ◌∷◌, ◌++◌, true, Some, Option, option_map, unwrap_or, codes, length, slice_get, All, Contains, refl, sym, ap, ◌∙◌, ⊎_elim, arith, ◌-◌, ◌*◌, ◌/◌, ◌%◌, ◌^◌, Bool, false, not, ◌&&◌, ◌==◌, if◌then◌else◌, nat_le, None, option_to_list, map, zip, sum, take, get_or, ap₂, subst, zero-add}
+use Rattle.std.specs.Prelude.{⊤}
 use Rattle.std.specs.List.{range_with_len, flat_map, enumerate_from}
-use Rattle.std.proofs.lemmas.List.{length-map}
-use Rattle.std.proofs.lemmas.List.Elements.{All-nil, All-cons, All-head, All-tail, All-append, All-map}
-use Rattle.std.proofs.lemmas.List.FromFn.{length-range_with_len, get_or-range_with_len}
-use Rattle.std.proofs.lemmas.Option.{slice_get-map, slice_get_within, same_Some}
-use Rattle.rmt_check.specs.declared.source.Ident.{Ident}
-use Rattle.rmt_check.specs.declared.source.Declared.{Declared}
-use Rattle.rmt_check.specs.declared.source.HeaderText.{HeaderText}
-use Rattle.rmt_check.specs.declared.source.Source.{Source}
-use Rattle.rmt_check.specs.Names.{header_names, metadata, Owner, of_all, of_metadata, of_header, Named, own, in_port, named_declared, named_header, named_from, named_fields, is_field, header_owner, selected, number_of, is_known, printed, width_of}
-use Rattle.rmt_check.specs.Standing.{code_of, code}
-use Rattle.rmt_check.specs.Meaning.{field_number, index_of, test_of, target_of, tail_of, case_of, header_from, headers_from, program_of}
-use Rattle.rmt_check.proofs.Finding.{number_at, stands_within}
-use Rattle.rmt_check.proofs.FieldCodes.{field_at, headers_long}
-use Rattle.rmt_check.proofs.programs.NameLaws.{distinct_names, known_here, number_here, AreApart, names_of, are_apart, apart_made}
-use Rattle.rmt_bits.proofs.AllLaws.{All-slice_get}
-use Rattle.rmt_bits.proofs.ListLaws.{slice_get-end, append-nil_left, append-nil_right, flat_map-nil, map-nil}
-use Rattle.rmt_check.proofs.programs.BlockLaws.{start_of, length-headers_from, width_at, each_header}
-use Rattle.rmt_check.proofs.programs.PrintedLaws.{apart_headers}
-use Rattle.rmt_check.proofs.programs.RuleLaws.{KeepsRules, no_when, no_when_not, one_known, unknown_targets, bad_size, bad_tails, early_targets, case_widths, repeated_select, bad_cases}
 use Rattle.std.specs.Option.{IfSome}
 use Rattle.std.proofs.lemmas.Bool.{leb-true, leb-false, eqb-true, and_parts}
 use Rattle.std.proofs.lemmas.List.Concat.{flat_map-append}
-use Rattle.std.proofs.lemmas.Simd.{map-map}
+use Rattle.std.proofs.lemmas.List.Elements.{All-nil, All-cons, All-head, All-tail, All-append, All-from_recursion, All-map}
+use Rattle.std.proofs.lemmas.List.FromFn.{length-range_with_len, get_or-range_with_len}
+use Rattle.std.proofs.lemmas.Option.{slice_get-map, slice_get_within, same_Some}
+use Rattle.rmt_ast.specs.NameList.{number_of, is_known}
+use Rattle.rmt_ast.specs.State as state
 use Rattle.rmt_ast.specs.WellFormed.{AllNumbered, AreDistinct, IsTest, AreTests, IsTarget, IsTail, IsCase, IsHeader}
 use Rattle.rmt_ast.proofs.WellFormedLemmas.{AllNumbered-from_items}
-use Rattle.rmt_check.specs.declared.source.ValueText.{ValueText}
-use Rattle.rmt_check.specs.declared.source.TargetText.{TargetText}
-use Rattle.rmt_check.specs.declared.source.CaseText.{CaseText}
-use Rattle.rmt_check.specs.declared.source.TailText.{TailText}
-use Rattle.rmt_check.specs.Rules.{when, repeated, unknown, target_names, targets, unknown_own, unknown_select, unknown_tail, is_size, is_tail_range, bad_tail, bits_of, is_at_most, too_wide_value, too_wide_case, bad_case, value_place}
-use Rattle.rmt_check.specs.Naming.{IsHeaderText}
-use Rattle.rmt_check.proofs.programs.ListLaws.{none_in, All-mid, none_numbered}
-use Rattle.rmt_check.proofs.programs.FieldLaws.{test_law, field_width, distinct_fields}
-use Rattle.rmt_ast.specs.State as state
+use Rattle.rmt_bits.proofs.AllLaws.{All-slice_get}
+use Rattle.rmt_bits.proofs.ListLaws.{slice_get-end, append-nil_left, append-nil_right, flat_map-nil, map-nil}
+use Rattle.rmt_bits.proofs.PairLaws.{AllPairs-map}
+use Rattle.rmt_check.specs.Parts.{Ident, Declared, ValueText, TargetText, CaseText, TailText, HeaderText, Source}
 use Rattle.rmt_check.specs.declared.source.TargetText.TheVariants as target
+use Rattle.rmt_check.specs.Names.{header_names, metadata, of_metadata, of_header, Named, Known, owned, common_fields, declared_fields, header_fields, is_field, header_owner, selected, width_of}
+use Rattle.rmt_check.specs.Naming.{IsHeaderText}
+use Rattle.rmt_check.specs.Standing.{code_of}
+use Rattle.rmt_check.specs.Meaning.{field_number, index_of, test_of, target_of, tail_of, case_of, header_from, headers_from, program_of}
+use Rattle.rmt_check.specs.Rules.{when, repeated, unknown, target_names, targets, unknown_own, unknown_select, unknown_tail, is_size, is_tail_range, bad_tail, bits_of, is_at_most, too_wide_value, too_wide_case, bad_case, value_place}
+use Rattle.rmt_check.proofs.Finding.{number_at, stands_within}
+use Rattle.rmt_check.proofs.FieldCodes.{known_at}
+use Rattle.rmt_check.proofs.FieldLists.{front, back, start_of, length-front, length-declared, all_header, all_headers}
+use Rattle.rmt_check.proofs.programs.BlockLaws.{split, length-headers_from, own_at, width_at, each_header}
+use Rattle.rmt_check.proofs.programs.FieldLaws.{test_law, field_width, distinct_fields}
+use Rattle.rmt_check.proofs.programs.ListLaws.{none_in, All-mid, none_numbered}
+use Rattle.rmt_check.proofs.programs.NameLaws.{distinct_by, names_differ, known_here, number_here}
+use Rattle.rmt_check.proofs.programs.RuleLaws.{KeepsRules, no_when, no_when_not, one_known, unknown_targets, bad_size, bad_tails, early_targets, case_widths, repeated_select, bad_cases}
 
 -- A field of a header's own is one of its fields.
 
 -- what stands neither in front nor behind stands between
-module _ {X : Type 0} (q : X) where
-  not_behind : (mid post : List X) (f : ℕ) → slice_get (mid ++ post) f ≡ Some q → All (λ k. k ≢ q) post → slice_get mid f ≡ Some q
-  not_behind [] post f e none = absurd (All-slice_get (λ k. k ≢ q) post f q none e refl)
-  not_behind (m ∷ mid) post zero e none = e
-  not_behind (m ∷ mid) post (suc f) e none = not_behind mid post f e none
+module _ {X : Type 0} (P : X → Type 0) (x : X) (other : P x → ⊥) where
+  not_behind : (mid post : List X) (n : ℕ) → slice_get (mid ++ post) n ≡ Some x → All P post → slice_get mid n ≡ Some x
+  not_behind [] post n e all = absurd (other (All-slice_get P post n x all e))
+  not_behind (m ∷ mid) post zero e all = e
+  not_behind (m ∷ mid) post (suc n) e all = not_behind mid post n e all
 
-  between : (pre mid post : List X) (f : ℕ) → slice_get (pre ++ (mid ++ post)) f ≡ Some q → All (λ k. k ≢ q) pre → All (λ k. k ≢ q) post
-      → (i : ℕ) × (f ≡ length pre + i) × (slice_get mid i ≡ Some q)
-  between [] mid post f e none behind = (f, omega arith, not_behind mid post f e behind)
-  between (p ∷ pre) mid post zero e none behind = absurd (All-head (λ k. k ≢ q) p pre none (same_Some p q e))
-  between (p ∷ pre) mid post (suc f) e none behind =
-      let r = between pre mid post f e (All-tail (λ k. k ≢ q) p pre none) behind in let l = r.1 in (r.0, omega arith, r.2)
-
-same_number : (m n : ℕ) → of_header m ≡ of_header n → m ≡ n
-same_number m n e = let f = ap code_of e in omega (arith, f)
-
--- A field of one owner is none of another's.
-module _ (owner : Owner) (name : List ℕ) where
-  not_field : (o : Owner) (n : List ℕ) → o ≢ owner → own o n ≢ own owner name
-  not_field o n other same = other (ap (λ (x : Named). x.owner) same)
-
-  not_declared : (o : Owner) (ds : List Declared) → o ≢ owner → All (λ k. k ≢ own owner name) (named_declared o ds)
-  not_declared o ds other = All-map (λ k. k ≢ own owner name) (λ (d : Declared). own o d.ident.name) ds (λ k d lt. not_field o _ other)
-
--- nor is one of a header that of another
-module _ (m : ℕ) (name : List ℕ) where
-  abbrev Differs : Named → Type 0
-  Differs k = k ≢ own (of_header m) name
-
-  not_from : (n : ℕ) (hs : List HeaderText) → (m < n) ⊎ (n + length hs ≤ m) → All Differs (named_from n hs)
-  not_from n [] apart = All-nil Differs
-  not_from n (h ∷ hs) apart =
-      let other : of_header n ≢ of_header m = λ same. ⊎_elim (λ lt. let e = same_number n m same in absurd (omega arith)) (λ le. let e = same_number n m same in absurd (omega arith)) apart in
-      All-append Differs (named_header n h) (named_from (n + 1) hs)
-      (All-cons Differs (own (of_header n) (codes "valid")) (named_declared (of_header n) h.fields) (not_field (of_header m) name (of_header n) (codes "valid") other) (not_declared (of_header m) name (of_header n) h.fields other))
-      (not_from (n + 1) hs (⊎_elim (λ lt. inl (omega arith)) (λ le. inr (omega arith)) apart))
-
--- the fields of a header between those of the headers before it and after it
-named_split : (n : ℕ) (before : List HeaderText) (h : HeaderText) (after : List HeaderText)
-    → named_from n (before ++ h ∷ after) ≡ named_from n before ++ (named_header (n + length before) h ++ named_from (n + length before + 1) after)
-named_split n [] h after = ap (λ (k : ℕ). named_header k h ++ named_from (k + 1) after) (omega arith)
-named_split n (b ∷ before) h after =
-    let moved : n + 1 + length before ≡ n + length (b ∷ before) = omega arith in
-    ap (λ (ks : List Named). named_header n b ++ ks)
-    (named_split (n + 1) before h after ∙ ap (λ (k : ℕ). named_from (n + 1) before ++ (named_header k h ++ named_from (k + 1) after)) moved)
-    ∙ sym (append_assoc (named_header n b) (named_from (n + 1) before) (named_header (n + length (b ∷ before)) h ++ named_from (n + length (b ∷ before) + 1) after))
+  between : (pre mid post : List X) (n : ℕ) → slice_get (pre ++ (mid ++ post)) n ≡ Some x → All P pre → All P post → (i : ℕ) × (n ≡ length pre + i) × (slice_get mid i ≡ Some x)
+  between [] mid post n e before behind = (n, omega arith, not_behind mid post n e behind)
+  between (p ∷ pre) mid post zero e before behind = absurd (other (subst P (same_Some p x e) (All-head P p pre before)))
+  between (p ∷ pre) mid post (suc n) e before behind =
+      let r = between pre mid post n e (All-tail P p pre before) behind in let l = r.1 in (r.0, omega arith, r.2)
 
 module _ (s : Source) (keeps : KeepsRules s) (before : List HeaderText) (h : HeaderText) (after : List HeaderText) (e : s.headers ≡ before ++ h ∷ after) where
-  abbrev number : ℕ
-  number = 0 + length before
-
-  owner_here : header_owner s h.ident.name ≡ of_header number
+  owner_here : header_owner s h.ident.name ≡ of_header (length before)
   owner_here =
       let here : length before ≡ length before + 0 = omega arith in
       let there : slice_get s.headers (length before) ≡ Some h = ap (λ (hs : List HeaderText). slice_get hs (length before)) e ∙ ap (slice_get (before ++ h ∷ after)) here ∙ slice_get-end before (h ∷ after) 0 in
       let at : slice_get (header_names s) (length before) ≡ Some h.ident.name =
       slice_get-map (λ (x : HeaderText). x.ident.name) s.headers (length before) ∙ ap (option_map (λ (x : HeaderText). x.ident.name)) there in
-      let same : length before ≡ number = omega arith in
+      let once = AllPairs-map (λ x y. x ≢ y) (λ (x : HeaderText). x.ident.name) s.headers (distinct_by (λ (x : HeaderText). x.ident) s.headers keeps.headers_once) in
       ap (λ (o : Option ℕ). of_header (unwrap_or o (length s.headers))) (number_at (header_names s) h.ident.name (known_here (header_names s) (length before) h.ident.name at))
-      ∙ ap of_header (number_here (header_names s) (length before) h.ident.name at (distinct_names (header_names s) (apart_headers s keeps)) ∙ same)
+      ∙ ap of_header (number_here (header_names s) (length before) h.ident.name at once)
 
-  abbrev front : List Named
-  front = in_port ∷ own of_all (codes "out_port") ∷ own of_all (codes "drop") ∷ named_from 0 before
+  -- a field that is none of the header's
+  abbrev IsOther : Known → Type 0
+  IsOther f = f.named.owner ≢ of_header (length before)
 
-  abbrev behind : List Named
-  behind = named_from (number + 1) after ++ named_declared of_metadata (metadata s)
-
-  split : named_fields s ≡ front ++ (named_header number h ++ behind)
-  split =
-      ap (λ (ks : List Named). in_port ∷ own of_all (codes "out_port") ∷ own of_all (codes "drop") ∷ (ks ++ named_declared of_metadata (metadata s))) (ap (named_from 0) e ∙ named_split 0 before h after)
-      ∙ ap (λ (ks : List Named). in_port ∷ own of_all (codes "out_port") ∷ own of_all (codes "drop") ∷ ks)
-      (append_assoc (named_from 0 before) (named_header number h ++ named_from (number + 1) after) (named_declared of_metadata (metadata s))
-      ∙ ap (λ (ks : List Named). named_from 0 before ++ ks) (append_assoc (named_header number h) (named_from (number + 1) after) (named_declared of_metadata (metadata s))))
-
-  module _ (name : List ℕ) where
-    abbrev Other : Named → Type 0
-    Other k = k ≢ own (of_header number) name
-
-    not_before : All Other front
-    not_before =
-        let other : of_all ≢ of_header number = λ same. cc (same) in
-        All-cons Other in_port (own of_all (codes "out_port") ∷ own of_all (codes "drop") ∷ named_from 0 before) (not_field (of_header number) name of_all (codes "in_port") other)
-        (All-cons Other (own of_all (codes "out_port")) (own of_all (codes "drop") ∷ named_from 0 before) (not_field (of_header number) name of_all (codes "out_port") other)
-        (All-cons Other (own of_all (codes "drop")) (named_from 0 before) (not_field (of_header number) name of_all (codes "drop") other) (not_from number name 0 before (inr (omega arith)))))
-
-    not_after : All Other behind
-    not_after =
-        All-append Other (named_from (number + 1) after) (named_declared of_metadata (metadata s)) (not_from number name (number + 1) after (inl (omega arith)))
-        (not_declared (of_header number) name of_metadata (metadata s) (λ same. cc (same)))
+  others : (n : ℕ) (hs : List HeaderText) → (length before < n) ⊎ (n + length hs ≤ length before) → All IsOther (flat_map header_fields (enumerate_from n hs))
+  others n hs apart =
+      all_headers IsOther (λ x. ⊤) n hs (λ k d lt. tt)
+      (λ k x from to _. let other : of_header k ≢ of_header (length before) = λ same. let number = ap code_of same in ⊎_elim (λ lt. absurd (omega arith)) (λ le. absurd (omega arith)) apart in
+      all_header IsOther k x other (λ j d lt. other))
 
   -- a field that the header names as its own is one of its fields, where it is not its valid
   pub own_field : (i : Ident) → is_field s (selected s h i) ≡ true → i.name ≢ codes "valid" → Contains (range_with_len (start_of before + 1) (length h.fields)) (field_number s (selected s h i))
   own_field i known not_valid =
-      let at = ap (λ (ks : List Named). slice_get ks (field_number s (selected s h i))) (sym split) ∙ field_at s (selected s h i) known ∙ ap (λ (o : Owner). Some (own o i.name)) owner_here in
-      let place = between (own (of_header number) i.name) front (named_header number h) behind (field_number s (selected s h i)) at (not_before i.name) (not_after i.name) in
-      by place.0 place.1 place.2
+      let before_it : All IsOther (front before) = All-append IsOther common_fields (flat_map header_fields (enumerate_from 0 before)) (All-from_recursion IsOther common_fields (λ same. cc, (λ same. cc, (λ same. cc, tt)))) (others 0 before (inr (omega arith))) in
+      let metas = All-map IsOther (λ (d : Declared). owned of_metadata (codes "meta") d.ident.name d.width.value) (metadata s) (λ k d lt same. cc) in
+      let behind_it : All IsOther (back s (length before + 1) after) = All-append IsOther (flat_map header_fields (enumerate_from (length before + 1) after)) (declared_fields of_metadata (codes "meta") (metadata s)) (others (length before + 1) after (inl (omega arith))) metas in
+      let field = known_at s (selected s h i) known in
+      let at = ap (λ (fs : List Known). slice_get fs (field_number s (selected s h i))) (sym (split s before h after e)) ∙ field.1 in
+      let own : field.0.named.owner ≡ of_header (length before) = ap (λ (x : Named). x.owner) field.2 ∙ owner_here in
+      let place = between IsOther field.0 (λ other. other own) (front before) (header_fields (length before, h)) (back s (length before + 1) after) (field_number s (selected s h i)) at before_it behind_it in
+      by place.0 place.1 place.2 (ap (λ (x : Named). x.name) field.2)
     where
-      by : (k : ℕ) → field_number s (selected s h i) ≡ length front + k → slice_get (named_header number h) k ≡ Some (own (of_header number) i.name)
+      by : {f : Known} (k : ℕ) → field_number s (selected s h i) ≡ length (front before) + k → slice_get (header_fields (length before, h)) k ≡ Some f → f.named.name ≡ i.name
           → Contains (range_with_len (start_of before + 1) (length h.fields)) (field_number s (selected s h i))
-      by zero is at = absurd (not_valid (ap (λ (x : Named). x.name) (sym (same_Some (own (of_header number) (codes "valid")) (own (of_header number) i.name) at))))
-      by (suc k) is at =
-          let l = slice_get_within (named_header number h) (suc k) (own (of_header number) i.name) at in
-          let m = length-map h.fields (λ (d : Declared). own (of_header number) d.ident.name) in
+      by {f} zero is at name = absurd (not_valid (sym name ∙ ap (λ (x : Known). x.named.name) (sym (same_Some _ f at))))
+      by {f} (suc k) is at name =
+          let l = slice_get_within (header_fields (length before, h)) (suc k) f at in
+          let m = length-declared (of_header (length before)) h.ident.name h.fields in
           let within : k < length h.fields = omega arith in
           let long = length-range_with_len (start_of before + 1) (length h.fields) in
-          let first = headers_long 0 before in
+          let first = length-front before in
           let place : start_of before + 1 + k ≡ field_number s (selected s h i) = omega arith in
           (k, omega arith, get_or-range_with_len (start_of before + 1) (length h.fields) k (field_number s (selected s h i)) within ∙ place)
 
@@ -194,11 +136,8 @@ module _ (s : Source) (h : HeaderText) (known : All (λ (i : Ident). is_field s 
       )
 
   once : repeated h.select ≡ [] → AreDistinct (map (λ (i : Ident). field_number s (selected s h i)) h.select)
-  once e =
-      let owner = code_of (header_owner s h.ident.name) in
-      let apart : AreApart (map (λ (i : Ident). code (selected s h i)) h.select) =
-      subst AreApart (map-map (λ (n : List ℕ). owner ∷ n) (λ (i : Ident). i.name) h.select) (apart_made (λ (n : List ℕ). owner ∷ n) (λ a b same. cc) (names_of h.select) (are_apart h.select e)) in
-      distinct_fields s (selected s h) h.select known apart
+  once e = distinct_fields s (selected s h) h.select known
+      (λ i j d lt within same. names_differ h.select e i j d lt within (ap (λ (x : Named). x.name) same))
 
 -- a target that is known and later
 target_law : (s : Source) (n : ℕ) (t : TargetText) → unknown (header_names s) (target_names t) ≡ []
@@ -237,8 +176,7 @@ module _ (s : Source) (keeps : KeepsRules s) (text : All IsHeaderText s.headers)
   -- the widths of the header's fields by their numbers
   widths : map (state.width_of (program_of s)) (range_with_len (start_of before + 1) (length h.fields)) ≡ map (λ (d : Declared). d.width.value) h.fields
   widths = row (state.width_of (program_of s)) (λ (d : Declared). d.width.value) h.fields (start_of before + 1)
-      (λ i d at. width_at s before h after e (suc i) (start_of before + 1 + i) (printed h.ident.name d.ident.name, d.width.value) (omega arith)
-      (slice_get-map (λ (x : Declared). (printed h.ident.name x.ident.name, x.width.value)) h.fields i ∙ ap (option_map (λ (x : Declared). (printed h.ident.name x.ident.name, x.width.value))) at))
+      (λ i d at. width_at s before h after e (suc i) (start_of before + 1 + i) _ (omega arith) (own_at s before h after e i d at))
 
   -- the tail, if there is one
   tail_law : IfSome (option_map (tail_of s h) h.tail) (IsTail (program_of s) (range_with_len (start_of before + 1) (length h.fields)))
@@ -292,7 +230,7 @@ module _ (s : Source) (keeps : KeepsRules s) (text : All IsHeaderText s.headers)
       let good = flat_map-nil (bad_case h) h.cases (here (λ (x : HeaderText). bad_cases x ≡ []) keeps.case_length) in
       let fit = flat_map-nil (too_wide_case s h) h.cases (here (λ (x : HeaderText). case_widths s x ≡ []) keeps.cases_fit) in
       record {
-        valid = width_at s before h after e 0 (start_of before) (printed h.ident.name (codes "valid"), 1) (omega arith) refl;
+        valid = width_at s before h after e 0 (start_of before) _ (omega arith) refl;
         whole_bytes = ap sum widths ∙ size.0;
         is_not_empty = size.1;
         is_not_long = size.2;

@@ -1,22 +1,23 @@
 -- Names that do not repeat, and the numbers that they stand for.
-use Rattle.std.proofs.Common.{◌≡◌, ◌≢◌, ℕ, ◌<◌, List, [], ◌∷◌, ◌++◌, Bool, true, false, ◌||◌, if◌then◌else◌, Some, map, slice_get, All, refl, sym, ap, ap₂, subst, ◌∙◌, ⊎_elim}
+use Rattle.std.proofs.Common.{◌≡◌, ◌≢◌, ℕ, ◌+◌, ◌<◌, List, [], ◌∷◌, ◌++◌, Bool, true, false, Some, map, slice_get, get_or, take, length, All, refl, sym, ap, subst, ◌∙◌, ⊎_elim, arith}
+use Rattle.std.specs.Prelude.{AllPairs}
+use Rattle.std.specs.List.{enumerate_from, list_any}
 use Rattle.std.specs.Str.{bytes_eq}
-use Rattle.std.proofs.lemmas.Bool.{or_parts, or_from, or_right, both_ways, cases_order}
-use Rattle.std.proofs.lemmas.Bool.Decides.{same_from_decides, Decides-like}
-use Rattle.std.proofs.lemmas.List.Elements.{All-nil, All-cons, All-head, All-tail}
-use Rattle.std.proofs.lemmas.List.Folds.{list_any-append, list_any_at}
-use Rattle.std.proofs.lemmas.List.Kept.{AllPairs-cons}
+use Rattle.std.proofs.lemmas.Bool.{both_ways, cases_order, false_from_ne_true}
+use Rattle.std.proofs.lemmas.List.{get_or-map, get_or-take, length-map, length-take}
+use Rattle.std.proofs.lemmas.List.Folds.{list_any_at}
+use Rattle.std.proofs.lemmas.List.FromFn.{get_or-enumerate_from, length-enumerate_from}
 use Rattle.std.proofs.lemmas.Option.{same_Some, slice_get_within, get_or_from_slice_get}
 use Rattle.std.proofs.lemmas.Slice.Eq.{bytes_eq-Decides}
+use Rattle.rmt_ast.specs.NameList.{is_known}
 use Rattle.rmt_ast.specs.WellFormed.{AreDistinct}
-use Rattle.rmt_ast.proofs.WellFormedLemmas.{AllPairs-none}
-use Rattle.rmt_check.specs.declared.source.Ident.{Ident}
-use Rattle.rmt_check.specs.Names.{is_known}
-use Rattle.rmt_check.specs.Seen.{repeated_after}
-use Rattle.rmt_check.specs.Rules.{repeated}
+use Rattle.rmt_bits.proofs.ListLaws.{flat_map-nil}
+use Rattle.rmt_bits.proofs.PairLaws.{AllPairs-map}
+use Rattle.rmt_check.specs.Parts.{Place, Ident}
+use Rattle.rmt_check.specs.Rules.{repeated, repeated_by, when}
 use Rattle.rmt_check.specs.Meaning.{index_of}
 use Rattle.rmt_check.proofs.Finding.{known_at}
-use Rattle.rmt_check.proofs.SeenNames.{repeated-after}
+use Rattle.rmt_check.proofs.programs.RuleLaws.{no_when}
 
 abbrev pub names_of : List Ident → List (List ℕ)
 names_of xs = map (λ (x : Ident). x.name) xs
@@ -24,57 +25,40 @@ names_of xs = map (λ (x : Ident). x.name) xs
 pub bytes_eq-same : (q : List ℕ) → bytes_eq q q ≡ true
 bytes_eq-same q = (bytes_eq-Decides q q).1 refl
 
--- none of the names is a later one
-abbrev pub AreApart : List (List ℕ) → Type 0
-AreApart [] = Unit {0}
-AreApart (x ∷ xs) = (is_known xs x ≡ false) × AreApart xs
+-- items of which none repeats an earlier one
+pub differ_by : {X : Type 0} (same : X → X → Bool) (place : X → Place) (xs : List X) → repeated_by same place xs ≡ [] → AllPairs (λ x y. same y x ≡ false) xs
+differ_by same place xs e = λ i j d lt within.
+    let test = λ (x : ℕ × _). when (list_any (same x.1) (take x.0 xs)) (place x.1) in
+    let long = length-enumerate_from 0 xs in
+    let here = flat_map-nil test (enumerate_from 0 xs) e j (0, d) (omega arith) in
+    let none = no_when _ _ (subst (λ (x : ℕ × _). test x ≡ []) (get_or-enumerate_from 0 xs j (0, d) within) here) in
+    let kept = length-take (0 + j) xs in
+    false_from_ne_true (same (get_or xs j d) (get_or xs i d))
+    (λ t. both_ways _ none (list_any_at (same (get_or xs j d)) (take (0 + j) xs) i d (omega arith) (subst (λ y. same (get_or xs j d) y ≡ true) (sym (get_or-take (0 + j) xs i d (omega arith))) t)))
 
-known_after : (seen : List (List ℕ)) (n q : List ℕ) → is_known seen q ≡ true → is_known (seen ++ n ∷ []) q ≡ true
-known_after seen n q h = rw (list_any-append (bytes_eq q) seen (n ∷ [])) (rw h refl)
-
-known_last : (seen : List (List ℕ)) (n : List ℕ) → is_known (seen ++ n ∷ []) n ≡ true
-known_last seen n = rw (list_any-append (bytes_eq n) seen (n ∷ []), bytes_eq-same n) (or_right (is_known seen n) true refl)
-
-not_repeated : (seen : List (List ℕ)) (xs : List Ident) → repeated_after seen xs ≡ []
-    → AreApart (names_of xs) × ((q : List ℕ) → is_known seen q ≡ true → is_known (names_of xs) q ≡ false)
-not_repeated seen [] e = (tt, λ q h. refl)
-not_repeated seen (x ∷ xs) e = by (is_known seen x.name) refl e (not_repeated (seen ++ x.name ∷ []) xs)
-  where
-    by : (b : Bool) → is_known seen x.name ≡ b → (if b then x.place ∷ repeated_after seen xs else repeated_after (seen ++ x.name ∷ []) xs) ≡ []
-        → (repeated_after (seen ++ x.name ∷ []) xs ≡ [] → AreApart (names_of xs) × ((q : List ℕ) → is_known (seen ++ x.name ∷ []) q ≡ true → is_known (names_of xs) q ≡ false))
-        → AreApart (names_of (x ∷ xs)) × ((q : List ℕ) → is_known seen q ≡ true → is_known (names_of (x ∷ xs)) q ≡ false)
-    by true was h more = cc
-    by false was h more =
-        let rest = more h in
-        ((rest.1 x.name (known_last seen x.name), rest.0), λ q known. or_from (bytes_eq q x.name) (is_known (names_of xs) q) (other q known (bytes_eq q x.name) refl) (rest.1 q (known_after seen x.name q known)))
-      where
-        other : (q : List ℕ) → is_known seen q ≡ true → (b : Bool) → bytes_eq q x.name ≡ b → b ≡ false
-        other q known true same = absurd (both_ways (is_known seen x.name) was (subst (λ n. is_known seen n ≡ true) ((bytes_eq-Decides q x.name).0 same) known))
-        other q known false same = refl
-
-pub apart_after : (xs : List Ident) → repeated_after [] xs ≡ [] → AreApart (names_of xs)
-apart_after xs e = (not_repeated [] xs e).0
-
-pub are_apart : (xs : List Ident) → repeated xs ≡ [] → AreApart (names_of xs)
-are_apart xs e = apart_after xs (sym (repeated-after xs) ∙ e)
-
--- what is no name of a list differs from each of them
-pub differs_from : (names : List (List ℕ)) (q : List ℕ) → is_known names q ≡ false → All (λ n. q ≢ n) names
-differs_from [] q h = All-nil (λ n. q ≢ n)
-differs_from (n ∷ names) q h =
-    let parts = or_parts (bytes_eq q n) (is_known names q) h in
-    All-cons (λ m. q ≢ m) n names (λ same. both_ways (bytes_eq q n) parts.0 ((bytes_eq-Decides q n).1 same)) (differs_from names q parts.1)
-
-pub distinct_names : (names : List (List ℕ)) → AreApart names → AreDistinct names
-distinct_names [] h = AllPairs-none (λ x y. x ≢ y)
-distinct_names (n ∷ names) h = AllPairs-cons (λ x y. x ≢ y) n names (differs_from names n h.0) (distinct_names names h.1)
+pub names_differ : (xs : List Ident) → repeated xs ≡ [] → AllPairs (λ (x y : Ident). x.name ≢ y.name) xs
+names_differ xs e = λ i j d lt within same.
+    both_ways _ (differ_by (λ (x y : Ident). bytes_eq x.name y.name) (λ x. x.place) xs e i j d lt within) ((bytes_eq-Decides _ _).1 (sym same))
 
 pub distinct : (xs : List Ident) → repeated xs ≡ [] → AreDistinct (names_of xs)
-distinct xs e = distinct_names (names_of xs) (are_apart xs e)
+distinct xs e = AllPairs-map (λ x y. x ≢ y) (λ (x : Ident). x.name) xs (names_differ xs e)
+
+-- and parts that have names
+pub distinct_by : {X : Type 0} (ident : X → Ident) (xs : List X) → repeated (map ident xs) ≡ [] → AllPairs (λ x y. (ident x).name ≢ (ident y).name) xs
+distinct_by ident xs e = λ i j d lt within same.
+    let long = length-map xs ident in
+    let at = λ (k : ℕ) (l : k < length xs). ap (λ (x : Ident). x.name) (get_or-map ident xs k d (ident d) l) in
+    names_differ (map ident xs) e i j (ident d) lt (omega arith) (at i (omega arith) ∙ same ∙ sym (at j within))
 
 -- two names of one number are equal
 pub same_index : (names : List (List ℕ)) (p q : List ℕ) → is_known names p ≡ true → is_known names q ≡ true → index_of names p ≡ index_of names q → p ≡ q
 same_index names p q hp hq e = same_Some p q (sym (known_at names p hp) ∙ ap (slice_get names) e ∙ known_at names q hq)
+
+-- the numbers of known names that do not repeat
+pub distinct_numbers : (names : List (List ℕ)) (xs : List Ident) → All (λ (x : Ident). is_known names x.name ≡ true) xs → repeated xs ≡ []
+    → AreDistinct (map (λ (x : Ident). index_of names x.name) xs)
+distinct_numbers names xs known e = AllPairs-map (λ x y. x ≢ y) (λ (x : Ident). index_of names x.name) xs
+    (λ i j d lt within same. names_differ xs e i j d lt within (same_index names _ _ (known i d (omega arith)) (known j d within) same))
 
 -- a name of a list without repeats has the number at which it stands
 module _ (names : List (List ℕ)) (i : ℕ) (q : List ℕ) (at : slice_get names i ≡ Some q) where
@@ -90,37 +74,3 @@ module _ (names : List (List ℕ)) (i : ℕ) (q : List ℕ) (at : slice_get name
     where
       apart : (j k : ℕ) → slice_get names j ≡ Some q → slice_get names k ≡ Some q → j < k → ⊥
       apart j k ej ek lt = distinct j k [] lt (slice_get_within names k q ek) (get_or_from_slice_get names j q [] ej ∙ sym (get_or_from_slice_get names k q [] ek))
-
--- names that are made of names
-module _ (f : List ℕ → List ℕ) (one : (a b : List ℕ) → f a ≡ f b → a ≡ b) where
-  made_eq : (a b : List ℕ) → bytes_eq (f a) (f b) ≡ bytes_eq a b
-  made_eq a b =
-      same_from_decides (bytes_eq (f a) (f b)) (bytes_eq a b)
-      (Decides-like (bytes_eq (f a) (f b)) (one a b) (ap f) (bytes_eq-Decides (f a) (f b)))
-      (bytes_eq-Decides a b)
-
-  pub known_made : (ns : List (List ℕ)) (n : List ℕ) → is_known (map f ns) (f n) ≡ is_known ns n
-  known_made [] n = refl
-  known_made (m ∷ ns) n = ap₂ (λ (a b : Bool). a || b) (made_eq n m) (known_made ns n)
-
-  pub apart_made : (ns : List (List ℕ)) → AreApart ns → AreApart (map f ns)
-  apart_made [] h = tt
-  apart_made (n ∷ ns) h = (known_made ns n ∙ h.0, apart_made ns h.1)
-
--- the numbers of known names that do not repeat
-pub distinct_numbers : (names : List (List ℕ)) (xs : List Ident) → All (λ (x : Ident). is_known names x.name ≡ true) xs → AreApart (names_of xs)
-    → AreDistinct (map (λ (x : Ident). index_of names x.name) xs)
-distinct_numbers names [] known h = AllPairs-none (λ x y. x ≢ y)
-distinct_numbers names (x ∷ xs) known h =
-    AllPairs-cons (λ a b. a ≢ b) (index_of names x.name) (map (λ (y : Ident). index_of names y.name) xs)
-    (apart xs (All-tail (λ (y : Ident). is_known names y.name ≡ true) x xs known) h.0)
-    (distinct_numbers names xs (All-tail (λ (y : Ident). is_known names y.name ≡ true) x xs known) h.1)
-  where
-    apart : (ys : List Ident) → All (λ (y : Ident). is_known names y.name ≡ true) ys → is_known (names_of ys) x.name ≡ false → All (λ b. index_of names x.name ≢ b) (map (λ (y : Ident). index_of names y.name) ys)
-    apart [] k e = All-nil (λ b. index_of names x.name ≢ b)
-    apart (y ∷ ys) k e =
-        let parts = or_parts (bytes_eq x.name y.name) (is_known (names_of ys) x.name) e in
-        All-cons (λ b. index_of names x.name ≢ b) (index_of names y.name) (map (λ (z : Ident). index_of names z.name) ys)
-        (λ same. both_ways (bytes_eq x.name y.name) parts.0
-        ((bytes_eq-Decides x.name y.name).1 (same_index names x.name y.name (All-head (λ (z : Ident). is_known names z.name ≡ true) x xs known) (All-head (λ (z : Ident). is_known names z.name ≡ true) y ys k) same)))
-        (apart ys (All-tail (λ (z : Ident). is_known names z.name ≡ true) y ys k) parts.1)

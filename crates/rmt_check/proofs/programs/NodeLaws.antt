@@ -1,38 +1,32 @@
 -- The nodes of a text that breaks no rule, of which exactly one applies each table.
-use Rattle.std.proofs.Common.{◌≡◌, ℕ, zero, suc, ◌+◌, ◌-◌, ◌/◌, ◌^◌, ◌%◌, min, List, [], ◌∷◌, None, Some, Option, option_map, map, take, bit_and, slice_get, refl, sym, ap, subst, ◌∙◌, arith, ◌<◌, Bool, true, false, cond, ◌||◌, ◌==◌, filter_map, count_by, length, All, ap₂, zero-add}
+use Rattle.std.proofs.Common.{◌≡◌, ◌≢◌, ℕ, zero, suc, ◌+◌, ◌-◌, ◌/◌, ◌^◌, ◌%◌, min, List, [], ◌∷◌, None, Some, Option, option_map, map, take, bit_and, slice_get, refl, sym, ap, subst, ◌∙◌, arith, ◌<◌, Bool, true, false, cond, ◌||◌, ◌==◌, filter_map, count_by, All, ap₂, zero-add}
 use Rattle.std.specs.List.{flat_map, cons_option}
 use Rattle.std.specs.Option.{option_map_or}
 use Rattle.std.proofs.lemmas.List.{length-map}
 use Rattle.std.proofs.lemmas.Option.{slice_get-map, none-some, same_Some}
 use Rattle.std.proofs.lemmas.Nat.Bits.{bit_at_lowest, bit_at_and, bit_at-pow_other}
-use Rattle.rmt_ast.specs.WellFormed.{AllNumbered, IsGuard, IsTest, IsWhat, IsNode, AreDistinct, AreAppliedOnce, applies}
-use Rattle.rmt_check.specs.declared.source.Ident.{Ident}
-use Rattle.rmt_check.specs.declared.source.ValueText.{ValueText}
-use Rattle.rmt_check.specs.declared.source.TableText.{TableText}
-use Rattle.rmt_check.specs.declared.source.ArmText.{ArmText}
-use Rattle.rmt_check.specs.declared.source.Under.{Under}
-use Rattle.rmt_check.specs.declared.source.WhatText.{WhatText}
+use Rattle.rmt_ast.specs.WellFormed.{AllNumbered, AreDistinct, IsGuard, IsTest, IsWhat, IsNode, AreAppliedOnce, applies}
+use Rattle.rmt_check.specs.Parts.{Node, Ident, ValueText, TableText, ArmText, Under, WhatText, NodeText, Source}
 use Rattle.rmt_check.specs.declared.source.WhatText.TheVariants.{Apply, If}
-use Rattle.rmt_check.specs.declared.source.NodeText.{NodeText}
-use Rattle.rmt_check.specs.declared.source.Source.{Source}
-use Rattle.rmt_check.specs.Names.{nodes_of, table_names, listed_by, named, width_of, is_known, applied, applied_tables}
+use Rattle.rmt_ast.specs.NameList.{is_known}
+use Rattle.rmt_check.specs.Names.{nodes_of, table_names, listed_by, named, width_of, applied, applied_tables}
 use Rattle.rmt_check.specs.Rules.{unknown, unknown_in_node, too_wide_node, arm_names}
 use Rattle.rmt_check.specs.Meaning.{index_of, outcomes_of, all_outcomes, mask_in, guard_of, what_of, node_of, table_of, test_of, program_of}
 use Rattle.rmt_check.specs.Naming.{IsUnder}
 use Rattle.rmt_bits.proofs.AllLaws.{All-slice_get}
-use Rattle.rmt_bits.proofs.ListLaws.{append-nil_left}
+use Rattle.rmt_bits.proofs.ListLaws.{append-nil_left, slice_get-item}
+use Rattle.rmt_bits.proofs.PairLaws.{AllPairs-head, AllPairs-tail}
+use Rattle.rmt_check.proofs.Bounds.{distinct_tables}
 use Rattle.rmt_check.proofs.Finding.{stands_within}
-use Rattle.rmt_check.proofs.programs.RuleLaws.{one_known, field_known, KeepsRules, unknown_at_node, gate_widths, no_when_not, tables_of, not_applied}
+use Rattle.rmt_check.proofs.programs.RuleLaws.{one_known, field_known, KeepsRules, unknown_at_node, gate_widths, no_when_not, not_applied}
 use Rattle.rmt_check.proofs.programs.FieldLaws.{field_within, field_width, test_law}
 use Rattle.std.specs.Str.{bytes_eq}
-use Rattle.std.proofs.lemmas.Bool.{false≢true, or_parts}
+use Rattle.std.proofs.lemmas.Bool.{false≢true, false_from_ne_true}
 use Rattle.std.proofs.lemmas.Bool.Decides.{same_from_decides, Decides-eqb, Decides-like}
 use Rattle.std.proofs.lemmas.List.Elements.{All-head, All-tail}
 use Rattle.std.proofs.lemmas.List.Sums.{sum_by-cons}
-use Rattle.std.proofs.lemmas.Simd.{map-map}
 use Rattle.std.proofs.lemmas.Slice.Eq.{bytes_eq-Decides}
-use Rattle.rmt_ast.specs.declared.program.Node.{Node}
-use Rattle.rmt_check.proofs.programs.NameLaws.{AreApart, names_of, are_apart, distinct, same_index, known_here, number_here}
+use Rattle.rmt_check.proofs.programs.NameLaws.{names_of, distinct, same_index, known_here, number_here}
 use Rattle.rmt_check.specs.declared.source.ArmText.TheVariants as arm
 
 -- The nodes of a text that breaks no rule.
@@ -53,25 +47,21 @@ even_outcomes actions arm.Miss = refl
 even_outcomes actions (arm.Action a) =
     let k = 2 + index_of actions a.name in sym (bit_at_lowest (2 ^ k)) ∙ bit_at-pow_other k 0 (λ e. absurd (omega arith))
 
-even_arm : (actions : List (List ℕ)) (o : Option ArmText) → option_map_or (outcomes_of actions) o 0 % 2 ≡ 0
-even_arm actions None = refl
-even_arm actions (Some a) = even_outcomes actions a
+even_or_0 : {X : Type 0} (f : X → ℕ) (o : Option X) → ((x : X) → f x % 2 ≡ 0) → option_map_or f o 0 % 2 ≡ 0
+even_or_0 f None even = refl
+even_or_0 f (Some x) even = even x
 
 module _ (s : Source) where
   even_mask : (w : WhatText) (i : ℕ) → mask_in s w i % 2 ≡ 0
   even_mask (Apply table arms) i =
       let actions = map (λ (a : Ident). a.name) (listed_by s table.name) in
-      even_and (option_map_or (outcomes_of actions) (slice_get arms i) 0) (65535 - all_outcomes actions (take i arms)) (even_arm actions (slice_get arms i))
+      even_and (option_map_or (outcomes_of actions) (slice_get arms i) 0) (65535 - all_outcomes actions (take i arms)) (even_or_0 (outcomes_of actions) (slice_get arms i) (even_outcomes actions))
   even_mask (If field mask value) zero = refl
   even_mask (If field mask value) (suc i) = refl
 
-  even_guard : (i : ℕ) (o : Option NodeText) → option_map_or (λ (n : NodeText). mask_in s n.what i) o 0 % 2 ≡ 0
-  even_guard i None = refl
-  even_guard i (Some n) = even_mask n.what i
-
   guard_law : (n : ℕ) (under : Option Under) → IsUnder n under → IsGuard n (option_map (guard_of s) under)
   guard_law n None h = tt
-  guard_law n (Some u) h = (h, even_guard u.arm (slice_get (nodes_of s) u.parent))
+  guard_law n (Some u) h = (h, even_or_0 (λ (m : NodeText). mask_in s m.what u.arm) (slice_get (nodes_of s) u.parent) (λ m. even_mask m.what u.arm))
 
   what_law : (w : WhatText) → unknown_in_node s w ≡ [] → too_wide_node s w ≡ [] → IsWhat (program_of s) (what_of s w)
   what_law (Apply table arms) known fits =
@@ -92,24 +82,21 @@ module _ (s : Source) where
 -- Each table of a text that breaks no rule is applied by exactly one node.
 
 -- a name of a list whose names do not repeat is there once
-not_there : (ns : List (List ℕ)) (q : List ℕ) → is_known ns q ≡ false → count_by (bytes_eq q) ns ≡ 0
+not_there : (ns : List (List ℕ)) (q : List ℕ) → All (λ n. q ≢ n) ns → count_by (bytes_eq q) ns ≡ 0
 not_there [] q h = refl
 not_there (n ∷ ns) q h =
-    let parts = or_parts (bytes_eq q n) (is_known ns q) h in
-    sum_by-cons (λ x. cond (bytes_eq q x) 1 0) n ns ∙ ap (λ (b : Bool). cond b 1 0 + count_by (bytes_eq q) ns) parts.0 ∙ ap (λ (k : ℕ). 0 + k) (not_there ns q parts.1)
+    let other = false_from_ne_true (bytes_eq q n) (λ same. All-head (λ m. q ≢ m) n ns h ((bytes_eq-Decides q n).0 same)) in
+    sum_by-cons (λ x. cond (bytes_eq q x) 1 0) n ns ∙ ap (λ (b : Bool). cond b 1 0 + count_by (bytes_eq q) ns) other ∙ ap (λ (k : ℕ). 0 + k) (not_there ns q (All-tail (λ m. q ≢ m) n ns h))
 
-there_once : (ns : List (List ℕ)) (q : List ℕ) → AreApart ns → is_known ns q ≡ true → count_by (bytes_eq q) ns ≡ 1
+there_once : (ns : List (List ℕ)) (q : List ℕ) → AreDistinct ns → is_known ns q ≡ true → count_by (bytes_eq q) ns ≡ 1
 there_once [] q h known = absurd (false≢true known)
-there_once (n ∷ ns) q h known = sum_by-cons (λ x. cond (bytes_eq q x) 1 0) n ns ∙ by (bytes_eq q n) refl known (there_once ns q h.1)
+there_once (n ∷ ns) q h known = sum_by-cons (λ x. cond (bytes_eq q x) 1 0) n ns ∙ by (bytes_eq q n) refl known (there_once ns q (AllPairs-tail (λ x y. x ≢ y) n ns h))
   where
     by : (b : Bool) → bytes_eq q n ≡ b → (b || is_known ns q) ≡ true → (is_known ns q ≡ true → count_by (bytes_eq q) ns ≡ 1) → cond b 1 0 + count_by (bytes_eq q) ns ≡ 1
-    by true same k rest = ap (λ (m : ℕ). 1 + m) (not_there ns q (subst (λ x. is_known ns x ≡ false) (sym ((bytes_eq-Decides q n).0 same)) h.0))
+    by true same k rest = ap (λ (m : ℕ). 1 + m) (not_there ns q (subst (λ x. All (λ m. x ≢ m) ns) (sym ((bytes_eq-Decides q n).0 same)) (AllPairs-head (λ x y. x ≢ y) n ns h)))
     by false same k rest = ap (λ (m : ℕ). 0 + m) (rest k)
 
 module _ (s : Source) (h : KeepsRules s) (t : ℕ) (table : TableText) (at : slice_get s.tables t ≡ Some table) where
-  distinct_tables : AreDistinct (table_names s)
-  distinct_tables = subst AreDistinct (map-map (λ (i : Ident). i.name) (λ (x : TableText). x.ident) s.tables) (distinct (tables_of s) h.tables_once)
-
   name_at : slice_get (table_names s) t ≡ Some table.ident.name
   name_at = slice_get-map (λ (x : TableText). x.ident.name) s.tables t ∙ ap (option_map (λ (x : TableText). x.ident.name)) at
 
@@ -117,7 +104,7 @@ module _ (s : Source) (h : KeepsRules s) (t : ℕ) (table : TableText) (at : sli
   is_there = known_here (table_names s) t table.ident.name name_at
 
   number : index_of (table_names s) table.ident.name ≡ t
-  number = number_here (table_names s) t table.ident.name name_at distinct_tables
+  number = number_here (table_names s) t table.ident.name name_at (distinct_tables s h)
 
   -- a node applies the table where it names it
   agrees : (i : Ident) → is_known (table_names s) i.name ≡ true → (t == index_of (table_names s) i.name) ≡ bytes_eq table.ident.name i.name
@@ -147,17 +134,8 @@ module _ (s : Source) (h : KeepsRules s) (t : ℕ) (table : TableText) (at : sli
   pub applied_here : count_by (λ (node : Node). applies t node.what) (map (node_of s) (nodes_of s)) ≡ 1
   applied_here =
       counts (nodes_of s) h.nodes_known
-      ∙ there_once (names_of (applied_tables s)) table.ident.name (are_apart (applied_tables s) h.applied_once)
+      ∙ there_once (names_of (applied_tables s)) table.ident.name (distinct (applied_tables s) h.applied_once)
       (no_when_not (is_known (names_of (applied_tables s)) table.ident.name) table.ident.place (All-slice_get (λ (x : TableText). not_applied s x ≡ []) s.tables t table h.all_applied at))
 
 pub applied_law : (s : Source) → KeepsRules s → AreAppliedOnce (program_of s)
-applied_law s h t lt = by (slice_get s.tables t) refl
-  where
-    past : (ts : List TableText) (n : ℕ) → slice_get ts n ≡ None → n < length ts → ⊥
-    past [] n e l = absurd (omega arith)
-    past (x ∷ ts) zero e l = none-some x (sym e)
-    past (x ∷ ts) (suc n) e l = past ts n e (omega arith)
-
-    by : (o : Option TableText) → slice_get s.tables t ≡ o → count_by (λ (node : Node). applies t node.what) (map (node_of s) (nodes_of s)) ≡ 1
-    by None at = let m = length-map s.tables (table_of s) in absurd (past s.tables t at (omega arith))
-    by (Some table) at = applied_here s h t table at
+applied_law s h t lt = let found = slice_get-item s.tables t (omega (arith, lt, length-map s.tables (table_of s))) in applied_here s h t found.0 found.1

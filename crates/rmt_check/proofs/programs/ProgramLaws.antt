@@ -1,35 +1,24 @@
 -- The program of a text that breaks no rule is well-formed.
-use Rattle.std.proofs.Common.{◌≡◌, ℕ, suc, ◌+◌, List, [], ◌∷◌, ◌++◌, None, Some, Option, option_map, map, codes, length, drop, slice_get, get_or, All, refl, sym, ap, ap₂, subst, ◌∙◌, append_assoc, arith, ◌==◌}
+use Rattle.std.proofs.Common.{◌≡◌, ℕ, suc, ◌+◌, List, [], ◌∷◌, ◌++◌, None, Some, Option, map, codes, length, drop, slice_get, get_or, All, refl, sym, ap, ap₂, subst, ◌∙◌, append_assoc, arith, ◌==◌}
 use Rattle.std.specs.List.{range_with_len}
 use Rattle.std.specs.Str.{bytes_eq}
 use Rattle.std.proofs.lemmas.List.{length-map, map-append, take_at, drop_at}
 use Rattle.std.proofs.lemmas.List.Elements.{All-nil, All-cons, All-map}
-use Rattle.std.proofs.lemmas.Option.{slice_get-map}
 use Rattle.std.proofs.lemmas.Simd.{map-map}
-use Rattle.rmt_ast.specs.declared.program.Field.{Field}
-use Rattle.rmt_ast.specs.declared.program.Header.{Header}
-use Rattle.rmt_ast.specs.declared.program.Action.{Action}
-use Rattle.rmt_ast.specs.declared.program.Table.{Table}
+use Rattle.rmt_check.specs.Parts.{Field, Header, Action, Table, Ident, Declared, HeaderText, ActionText, KeyText, TableText, Source}
 use Rattle.rmt_ast.specs.WellFormed.{AreDistinct, BeginsWith, HasHeaderNames, HasNames, HasCounts, IsProgram}
 use Rattle.rmt_ast.proofs.WellFormedLemmas.{NumberedFrom}
-use Rattle.rmt_check.specs.declared.source.Ident.{Ident}
-use Rattle.rmt_check.specs.declared.source.Declared.{Declared}
-use Rattle.rmt_check.specs.declared.source.HeaderText.{HeaderText}
-use Rattle.rmt_check.specs.declared.source.ActionText.{ActionText}
-use Rattle.rmt_check.specs.declared.source.KeyText.{KeyText}
-use Rattle.rmt_check.specs.declared.source.TableText.{TableText}
-use Rattle.rmt_check.specs.declared.source.Source.{Source}
-use Rattle.rmt_check.specs.Names.{Known, printed, known_fields, metadata, fields_of, nodes_of}
+use Rattle.rmt_check.specs.Names.{Known, owned, of_metadata, declared_fields, metadata, fields_of, nodes_of, printed_name}
 use Rattle.rmt_check.specs.Meaning.{field_of, header_from, headers_from, action_of, table_with, table_of, program_of, node_of}
 use Rattle.rmt_check.specs.Naming.{IsHeaderText, IsOfText}
-use Rattle.rmt_check.proofs.programs.NameLaws.{bytes_eq-same, distinct, distinct_names}
-use Rattle.rmt_check.proofs.programs.RuleLaws.{KeepsRules, headers_of, actions_of, tables_of, no_when, keeps_rules}
-use Rattle.rmt_check.proofs.programs.BlockLaws.{front, start_of, header_numbers, name_at, each_header, length-headers_from, fields_law}
-use Rattle.rmt_check.proofs.programs.PrintedLaws.{field_names, printed_apart}
+use Rattle.rmt_check.proofs.programs.NameLaws.{bytes_eq-same, distinct}
+use Rattle.rmt_check.proofs.programs.RuleLaws.{KeepsRules, headers_of, actions_of, no_when, keeps_rules}
+use Rattle.rmt_check.proofs.FieldLists.{front, start_of, length-front}
+use Rattle.rmt_check.proofs.programs.BlockLaws.{header_numbers, own_at, name_at, each_header, length-headers_from, fields_law}
+use Rattle.rmt_check.proofs.programs.PrintedLaws.{printed_apart}
 use Rattle.std.proofs.lemmas.Bool.{eqb-false}
-use Rattle.rmt_check.specs.declared.source.NodeText.{NodeText}
 use Rattle.rmt_check.specs.Rules.{text_start, fault_of}
-use Rattle.rmt_bits.proofs.ListLaws.{drop-nil, map-nil}
+use Rattle.rmt_check.proofs.Bounds.{distinct_tables, sized}
 use Rattle.rmt_check.proofs.programs.HeaderLaws.{headers_law}
 use Rattle.rmt_check.proofs.programs.ActionLaws.{actions_law}
 use Rattle.rmt_check.proofs.programs.TableLaws.{tables_law}
@@ -51,11 +40,10 @@ row_all P (x ∷ xs) n h =
 module _ (s : Source) where
   header_names_law : (before : List HeaderText) (h : HeaderText) (after : List HeaderText) → s.headers ≡ before ++ h ∷ after → HasHeaderNames (program_of s) (header_from s (start_of before) h)
   header_names_law before h after e = record {
-    valid = name_at s before h after e 0 (start_of before) (printed h.ident.name (codes "valid"), 1) (omega arith) refl ∙ append_assoc h.ident.name (codes ".") (codes "valid");
+    valid = name_at s before h after e 0 (start_of before) _ (omega arith) refl ∙ append_assoc h.ident.name (codes ".") (codes "valid");
     fields = row_all (λ f. BeginsWith (h.ident.name ++ codes ".") (formed.name_of (program_of s) f)) h.fields (start_of before + 1)
         (λ i d at. subst (BeginsWith (h.ident.name ++ codes "."))
-        (sym (name_at s before h after e (suc i) (start_of before + 1 + i) (printed h.ident.name d.ident.name, d.width.value) (omega arith)
-        (slice_get-map (λ (x : Declared). (printed h.ident.name x.ident.name, x.width.value)) h.fields i ∙ ap (option_map (λ (x : Declared). (printed h.ident.name x.ident.name, x.width.value))) at)))
+        (sym (name_at s before h after e (suc i) (start_of before + 1 + i) _ (omega arith) (own_at s before h after e i d at)))
         (begins (h.ident.name ++ codes ".") d.ident.name));
   }
 
@@ -77,15 +65,14 @@ module _ (s : Source) where
 
   metadata_law : All (λ (f : Field). BeginsWith (codes "meta.") f.name) (drop (3 + length (formed.header_fields (program_of s))) (map field_of (fields_of s)))
   metadata_law =
-      let numbers = header_numbers s in
-      let long = length-map (front s.headers) field_of in
-      let split : map field_of (fields_of s) ≡ map field_of (front s.headers) ++ map field_of (known_fields (codes "meta") (metadata s)) = map-append field_of (front s.headers) (known_fields (codes "meta") (metadata s)) in
-      let behind : drop (3 + length (formed.header_fields (program_of s))) (map field_of (fields_of s)) ≡ map field_of (known_fields (codes "meta") (metadata s)) =
-      ap (drop (3 + length (formed.header_fields (program_of s)))) split
-      ∙ drop_at (map field_of (front s.headers)) (map field_of (known_fields (codes "meta") (metadata s))) (3 + length (formed.header_fields (program_of s))) (omega arith) in
+      let metas = declared_fields of_metadata (codes "meta") (metadata s) in
+      let behind : drop (3 + length (formed.header_fields (program_of s))) (map field_of (fields_of s)) ≡ map field_of metas =
+      ap (drop (3 + length (formed.header_fields (program_of s)))) (map-append field_of (front s.headers) metas)
+      ∙ drop_at (map field_of (front s.headers)) (map field_of metas) (3 + length (formed.header_fields (program_of s)))
+      (omega (arith, header_numbers s, length-front s.headers, length-map (front s.headers) field_of)) in
       subst (All (λ (f : Field). BeginsWith (codes "meta.") f.name)) (sym behind)
-      (All-map (λ (f : Field). BeginsWith (codes "meta.") f.name) field_of (known_fields (codes "meta") (metadata s))
-      (All-map (λ (f : Known). BeginsWith (codes "meta.") f.0) (λ (d : Declared). (printed (codes "meta") d.ident.name, d.width.value)) (metadata s) (λ k d lt. begins (codes "meta.") (get_or (metadata s) k d).ident.name)))
+      (All-map (λ (f : Field). BeginsWith (codes "meta.") f.name) field_of metas
+      (All-map (λ (f : Known). BeginsWith (codes "meta.") (printed_name f)) (λ (d : Declared). owned of_metadata (codes "meta") d.ident.name d.width.value) (metadata s) (λ k d lt. begins (codes "meta.") (get_or (metadata s) k d).ident.name)))
 
 pub names_law : (s : Source) → KeepsRules s → All IsHeaderText s.headers → HasNames (program_of s)
 names_law s h text = record {
@@ -94,24 +81,22 @@ names_law s h text = record {
   of_drop = refl;
   of_headers = all_numbered s (HasHeaderNames (program_of s)) 0 (headers_from s 3 s.headers) (each_header s (λ n. HasHeaderNames (program_of s)) (header_names_law s));
   of_metadata = metadata_law s;
-  fields_once = subst AreDistinct (sym (map-map (λ (f : Field). f.name) field_of (fields_of s))) (distinct_names (field_names s) (printed_apart s h text));
+  fields_once = subst AreDistinct (sym (map-map (λ (f : Field). f.name) field_of (fields_of s))) (printed_apart s h text);
   headers_once = subst AreDistinct (map-map (λ (i : Ident). i.name) (λ (x : HeaderText). x.ident) s.headers ∙ sym (names_from s 3 s.headers)) (distinct (headers_of s) h.headers_once);
   actions_once = subst AreDistinct (map-map (λ (i : Ident). i.name) (λ (x : ActionText). x.ident) s.actions ∙ sym (map-map (λ (a : Action). a.name) (action_of s) s.actions)) (distinct (actions_of s) h.actions_once);
-  tables_once = subst AreDistinct (map-map (λ (i : Ident). i.name) (λ (x : TableText). x.ident) s.tables ∙ sym (names_of_tables s s.tables)) (distinct (tables_of s) h.tables_once);
+  tables_once = subst AreDistinct (sym (names_of_tables s s.tables)) (distinct_tables s h);
 }
 
 -- How many headers, actions and nodes a text has that breaks no rule.
 
 pub counts_law : (s : Source) → KeepsRules s → HasCounts (program_of s)
 counts_law s h =
-    let headers = length-headers_from s 3 s.headers in
-    let actions = length-map s.actions (action_of s) in
-    let nodes = length-map (nodes_of s) (node_of s) in
+    let z = sized s h in
     record {
-      a_header = let some = eqb-false (length s.headers) 0 (no_when (length s.headers == 0) text_start h.a_header) in omega arith;
-      headers = let few = drop-nil 64 s.headers (map-nil (λ (x : HeaderText). x.ident.place) (drop 64 s.headers) h.headers_few) in omega arith;
-      actions = let few = drop-nil 256 s.actions (map-nil (λ (x : ActionText). x.ident.place) (drop 256 s.actions) h.actions_few) in omega arith;
-      nodes = let few = drop-nil 128 (nodes_of s) (map-nil (λ (x : NodeText). x.place) (drop 128 (nodes_of s)) h.nodes_few) in omega arith;
+      a_header = let some = eqb-false (length s.headers) 0 (no_when (length s.headers == 0) text_start h.a_header) in omega (arith, length-headers_from s 3 s.headers);
+      headers = omega (arith, z.few_headers, length-headers_from s 3 s.headers, length-map s.headers (λ (x : HeaderText). x.ident.name));
+      actions = omega (arith, z.few_actions, length-map s.actions (action_of s), length-map s.actions (λ (x : ActionText). x.ident.name));
+      nodes = omega (arith, z.few_nodes, length-map (nodes_of s) (node_of s));
     }
 
 -- The program of a text that breaks no rule is well formed.

@@ -1,35 +1,26 @@
 -- The tables of a text that breaks no rule.
-use Rattle.std.proofs.Common.{◌≡◌, ℕ, ◌<◌, ◌≤◌, List, [], ◌∷◌, true, not, ◌&&◌, ◌==◌, nat_lt, nat_le, None, Some, Option, option_map, unwrap_or, map, zip, sum, length, drop, slice_get, get_or, IsSomeAnd, All, refl, sym, ap, ap₂, subst, ◌∙◌, arith}
+use Rattle.std.proofs.Common.{◌≡◌, ℕ, ◌<◌, ◌≤◌, List, [], ◌∷◌, true, not, ◌==◌, nat_lt, None, Some, Option, option_map, unwrap_or, map, zip, sum, length, slice_get, get_or, IsSomeAnd, All, refl, sym, ap, ap₂, subst, ◌∙◌, arith}
 use Rattle.std.specs.List.{flat_map, AllZip}
-use Rattle.std.proofs.lemmas.Bool.{ltb-false, leb-true, eqb-true, and_parts}
+use Rattle.std.proofs.lemmas.Bool.{ltb-false, eqb-true, both_ways}
 use Rattle.std.proofs.lemmas.List.{length-map}
 use Rattle.std.proofs.lemmas.List.Elements.{All-head, All-tail, All-map}
-use Rattle.std.proofs.lemmas.Simd.{map-map}
 use Rattle.std.proofs.lemmas.Option.{slice_get-map}
-use Rattle.rmt_ast.specs.declared.program.Kind.{Kind}
+use Rattle.rmt_check.specs.Parts.{Kind, Action, Ident, Number, Declared, FieldText, ActionText, KeyText, TableText, Source}
 use Rattle.rmt_ast.specs.declared.program.Kind.TheVariants.{Keyless, Exact, Prefix, Ternary}
-use Rattle.rmt_ast.specs.declared.program.Action.{Action}
 use Rattle.rmt_ast.specs.WellFormed.{AreDistinct, Fits, Takes, IsKeyed, HasKey, IsTable}
-use Rattle.rmt_check.specs.declared.source.Ident.{Ident}
-use Rattle.rmt_check.specs.declared.source.Number.{Number}
-use Rattle.rmt_check.specs.declared.source.Declared.{Declared}
-use Rattle.rmt_check.specs.declared.source.FieldText.{FieldText}
-use Rattle.rmt_check.specs.declared.source.ActionText.{ActionText}
-use Rattle.rmt_check.specs.declared.source.KeyText.{KeyText}
-use Rattle.rmt_check.specs.declared.source.TableText.{TableText}
-use Rattle.rmt_check.specs.declared.source.Source.{Source}
-use Rattle.rmt_check.specs.Names.{is_known, is_field, named, action_names, width_of, params_of, listed, key_fields}
-use Rattle.rmt_check.specs.Rules.{when, too_wide, unknown, unknown_field, unknown_in_table, further_prefix, bad_key, key_bits, bad_default, bad_table_size, repeated_fields}
+use Rattle.rmt_ast.specs.NameList.{is_known}
+use Rattle.rmt_check.specs.Names.{is_field, named, same_field, action_names, width_of, params_of, listed, key_fields}
+use Rattle.rmt_check.specs.Rules.{when, too_wide, unknown, unknown_field, further_prefix, bad_key, key_bits, bad_default, bad_table_size, repeated_fields}
 use Rattle.rmt_check.specs.Meaning.{field_number, action_number, action_of, table_with, table_of, program_of}
 use Rattle.rmt_check.specs.Naming.{IsKeyText, HasKeyText}
-use Rattle.rmt_bits.proofs.ListLaws.{drop-nil, flat_map-nil, map-nil}
+use Rattle.rmt_bits.proofs.ListLaws.{flat_map-nil}
 use Rattle.rmt_check.proofs.programs.ListLaws.{none_in}
+use Rattle.rmt_check.proofs.Bounds.{few, size_in_range}
 use Rattle.rmt_check.proofs.Finding.{stands_for, stands_within}
-use Rattle.rmt_check.proofs.programs.RuleLaws.{no_when, no_when_not, one_known, all_known, field_known, KeepsRules, repeated_actions, bad_key_of, long_key, many_listed, bad_size_of}
-use Rattle.rmt_check.proofs.programs.NameLaws.{AreApart, are_apart, apart_after, distinct_numbers}
+use Rattle.rmt_check.proofs.programs.RuleLaws.{no_when, no_when_not, one_known, all_known, field_known, KeepsRules}
+use Rattle.rmt_check.proofs.programs.NameLaws.{differ_by, distinct_numbers}
 use Rattle.rmt_check.proofs.programs.FieldLaws.{number_fits, field_within, field_width, distinct_fields}
-use Rattle.rmt_check.specs.Seen.{stored_ident}
-use Rattle.rmt_check.proofs.SeenNames.{repeated_fields-after}
+use Rattle.rmt_check.proofs.FieldCodes.{field_same}
 use Rattle.rmt_ast.specs.State as state
 
 -- arguments that are as many as the parameters and fit them
@@ -71,20 +62,17 @@ module _ (s : Source) where
   is_keyed t k text known once short size =
       let numbers = length-map k.fields (λ (f : FieldText). field_number s (named s f)) in
       let actions = length-map k.actions (action_number s) in
-      let sizes = and_parts (nat_le 1 k.size.value) (nat_le k.size.value 1048576) (no_when_not (nat_le 1 k.size.value && nat_le k.size.value 1048576) k.size.place size) in
+      let sizes = size_in_range k size in
       record {
         has_key = let some = text.fields in omega arith;
         key_fields = All-map (λ f. f < length (program_of s).fields) (λ (f : FieldText). field_number s (named s f)) k.fields (λ i d lt. field_within s (named s (get_or k.fields i d)) (known i d lt));
         key_once = distinct_fields s (named s) k.fields known
-            (subst AreApart (map-map (λ (i : Ident). i.name) (stored_ident s) k.fields) (apart_after (map (stored_ident s) k.fields) (sym (repeated_fields-after s k.fields) ∙ once)));
+            (λ i j d lt within same. both_ways _ (differ_by (λ (f g : FieldText). same_field (named s f) (named s g)) (λ f. f.place) k.fields once i j d lt within) (field_same _ _ (sym same)));
         key_bits = subst (λ (l : List ℕ). sum l ≤ 640) (sym (key_widths k.fields known)) short;
         has_actions = let some = text.actions in omega arith;
-        has_size = leb-true 1 k.size.value sizes.0;
-        size = leb-true k.size.value 1048576 sizes.1;
+        has_size = sizes.0;
+        size = sizes.1;
       }
-
-  one_prefix : (fs : List FieldText) → further_prefix Prefix fs ≡ [] → length fs ≤ 1
-  one_prefix fs e = drop-nil 1 fs (map-nil (λ (f : FieldText). f.place) (drop 1 fs) e)
 
   has_key : (t : TableText) (key : Option KeyText) → HasKeyText key → flat_map (unknown_field s) (unwrap_or (option_map (λ (k : KeyText). k.fields) key) []) ≡ [] → bad_key s key ≡ []
       → sum (map (λ (f : FieldText). width_of s (named s f)) (unwrap_or (option_map (λ (k : KeyText). k.fields) key) [])) ≤ 640 → bad_table_size key ≡ []
@@ -98,7 +86,7 @@ module _ (s : Source) where
       by Keyless one other is = absurd (other refl)
       by Exact one other is = is
       by Prefix one other is =
-          let l = one_prefix k.fields one in
+          let l = few 1 (λ (f : FieldText). f.place) k.fields one in
           let m = text.fields in
           let n = length-map k.fields (λ (f : FieldText). field_number s (named s f)) in (is, omega arith)
       by Ternary one other is = is
@@ -112,26 +100,21 @@ module _ (s : Source) where
   falls_to t None takes = takes
   falls_to t (Some k) takes = takes
 
-module _ (s : Source) (h : KeepsRules s) where
-  one : (t : TableText) → HasKeyText t.key → unknown_in_table s t ≡ [] → repeated_actions t ≡ [] → bad_key_of s t ≡ [] → long_key s t ≡ [] → many_listed t ≡ [] → bad_default s t ≡ [] → bad_size_of t ≡ []
-      → IsTable (program_of s) (table_of s t)
-  one t text unknowns once form long many default size =
-      let known = none_in (flat_map (unknown_field s) (key_fields t)) (unknown (action_names s) (listed t) ∷ unknown (action_names s) (t.default ∷ []) ∷ []) unknowns in
-      let acts = all_known (action_names s) (listed t) known.1.0 in
-      let few = drop-nil 14 (listed t) (map-nil (λ (x : Ident). x.place) (drop 14 (listed t)) many) in
-      let same = lists s t t.key in
-      record {
-        key = has_key s t t.key text known.0 form (ltb-false 640 (key_bits s t) (no_when (nat_lt 640 (key_bits s t)) t.ident.place long)) size;
-        actions = subst (All (λ a. a < length (program_of s).actions)) (sym same)
-            (All-map (λ a. a < length (program_of s).actions) (action_number s) (listed t) (λ k d lt. within (get_or (listed t) k d) (acts k d lt)));
-        actions_once = subst (λ (l : List ℕ). AreDistinct l) (sym same) (distinct_numbers (action_names s) (listed t) acts (are_apart (listed t) once));
-        few_actions = let a = ap length same in let b = length-map (listed t) (action_number s) in omega arith;
-        default = falls_to s t t.key (takes s t (one_known (action_names s) t.default known.1.1.0) default);
-      }
-    where
-      within : (i : Ident) → is_known (action_names s) i.name ≡ true → action_number s i < length (map (action_of s) s.actions)
-      within i k = let l = stands_within (λ (a : ActionText). a.ident.name) i.name s.actions k in let m = length-map s.actions (action_of s) in omega arith
+  action_within : (i : Ident) → is_known (action_names s) i.name ≡ true → action_number s i < length (program_of s).actions
+  action_within i k = omega (arith, stands_within (λ (a : ActionText). a.ident.name) i.name s.actions k, length-map s.actions (action_of s))
 
-  pub tables_law : All (λ (t : TableText). HasKeyText t.key) s.tables → All (IsTable (program_of s)) (map (table_of s) s.tables)
-  tables_law text = All-map (IsTable (program_of s)) (table_of s) s.tables (λ k d lt. one (get_or s.tables k d) (text k d lt)
-      (h.tables_known k d lt) (h.listed_once k d lt) (h.key_form k d lt) (h.key_short k d lt) (h.listed_few k d lt) (h.default_fits k d lt) (h.table_size k d lt))
+  pub tables_law : KeepsRules s → All (λ (t : TableText). HasKeyText t.key) s.tables → All (IsTable (program_of s)) (map (table_of s) s.tables)
+  tables_law h text = All-map (IsTable (program_of s)) (table_of s) s.tables (λ k d lt.
+      let t = get_or s.tables k d in
+      let known = none_in (flat_map (unknown_field s) (key_fields t)) (unknown (action_names s) (listed t) ∷ unknown (action_names s) (t.default ∷ []) ∷ []) (h.tables_known k d lt) in
+      let acts = all_known (action_names s) (listed t) known.1.0 in
+      let short = ltb-false 640 (key_bits s t) (no_when (nat_lt 640 (key_bits s t)) t.ident.place (h.key_short k d lt)) in
+      let same = lists t t.key in
+      record {
+        key = has_key t t.key (text k d lt) known.0 (h.key_form k d lt) short (h.table_size k d lt);
+        actions = subst (All (λ a. a < length (program_of s).actions)) (sym same)
+            (All-map (λ a. a < length (program_of s).actions) (action_number s) (listed t) (λ i e within. action_within (get_or (listed t) i e) (acts i e within)));
+        actions_once = subst (λ (l : List ℕ). AreDistinct l) (sym same) (distinct_numbers (action_names s) (listed t) acts (h.listed_once k d lt));
+        few_actions = omega (arith, ap length same, length-map (listed t) (action_number s), few 14 (λ (i : Ident). i.place) (listed t) (h.listed_few k d lt));
+        default = falls_to t t.key (takes t (one_known (action_names s) t.default known.1.1.0) (h.default_fits k d lt));
+      })

@@ -1,18 +1,17 @@
 -- Trees of a rule, and what holds of each of some trees holds of what is read in them.
-use Rattle.std.proofs.Common.{◌≡◌, ◌∙◌, ℕ, Bool, true, false, if◌then◌else◌, List, [], ◌∷◌, Option, Some, None, slice_get, refl, sym, ap, ap₂, unwrap_or, filter_map, All}
-use Rattle.std.specs.Prelude.{◌==◌, option_map}
+use Rattle.std.proofs.Common.{◌≡◌, Bool, true, false, if◌then◌else◌, List, [], ◌∷◌, Option, Some, None, refl, sym, ap, ap₂, unwrap_or, All}
+use Rattle.std.specs.Prelude.{option_map}
 use Rattle.std.proofs.lemmas.Option.{none-some, same_Some}
 use Rattle.rmt_syntax.specs.declared.tree.Tree.{Tree, out-Tree}
 use Rattle.rmt_syntax.specs.declared.tree.Tree.TheOpen.{Tree-F}
-use Rattle.rmt_syntax.specs.declared.tree.Rule.{Rule}
+use Rattle.rmt_check.specs.Parts.{Rule}
 use denote.Enum.Bare.{same_true, true_same}
 use Rattle.rmt_syntax.specs.contracts.tree.Rule.{the_type}
-use Rattle.rmt_check.specs.Reading.{same_rule, parts_if, of_rule, first, each, first_at}
+use Rattle.rmt_check.specs.Reading.{same_rule, parts_if, of_rule, first, each}
 use Rattle.std.specs.List.{cons_option}
 use Rattle.std.specs.Option.{option_or, IfSome}
-use Rattle.std.proofs.lemmas.List.Elements.{All-nil, All-cons, All-head, All-tail}
+use Rattle.std.proofs.lemmas.List.Elements.{All-nil, All-cons, All-tail}
 use Rattle.rmt_syntax.specs.declared.tree.Tree.TheOpen as tree
-use Rattle.rmt_syntax.specs.declared.tree.Rule.TheVariants as rule
 
 pub rule_is : (a b : Rule) → same_rule a b ≡ true → a ≡ b
 rule_is a b h = same_true the_type tt a b h
@@ -31,8 +30,8 @@ is_text r (tree.Many s w) v e = by (same_rule r s) refl e
     by false same h = absurd (none-some v h)
 
 -- what is made of the text of a rule is made of its parts
-pub made_of : {A : Type 0} (r : Rule) (make : List Tree → A) (u : Tree) (a : A) → of_rule r make u ≡ Some a → (v : List Tree) × (out-Tree u ≡ tree.Many r v) × (make v ≡ a)
-made_of r make u a e = by (parts_if r (out-Tree u)) refl e
+pub made_of : {A : Type 0} (r : Rule) (make : List Tree → A) (u : Tree) (us : List Tree) (a : A) → of_rule r make (u ∷ us) ≡ Some a → (v : List Tree) × (out-Tree u ≡ tree.Many r v) × (make v ≡ a)
+made_of r make u us a e = by (parts_if r (out-Tree u)) refl e
   where
     by : (o : Option (List Tree)) → parts_if r (out-Tree u) ≡ o → option_map make o ≡ Some a → (v : List Tree) × (out-Tree u ≡ tree.Many r v) × (make v ≡ a)
     by None is h = absurd (none-some a h)
@@ -52,25 +51,14 @@ one_or : {Y : Type 0} (Q : Y → Type 0) (o p : Option Y) → ((y : Y) → o ≡
 one_or Q None p shows rest = rest
 one_or Q (Some y) p shows rest = shows y refl
 
-module _ {Y : Type 0} (P : Tree → Type 0) (Q : Y → Type 0) where
-  module _ (see : Tree → Option Y) (shows : (t : Tree) (y : Y) → P t → see t ≡ Some y → Q y) where
-    pub all_seen : (ts : List Tree) → All P ts → All Q (filter_map see ts)
-    all_seen [] h = All-nil Q
-    all_seen (t ∷ ts) h = one_more Q (see t) (filter_map see ts) (λ y. shows t y (All-head P t ts h)) (all_seen ts (All-tail P t ts h))
+module _ {Y : Type 0} (P : Tree → Type 0) (Q : Y → Type 0) (see : List Tree → Option Y) (shows : (ts : List Tree) (y : Y) → All P ts → see ts ≡ Some y → Q y) where
+  pub each_seen : (ts : List Tree) → All P ts → All Q (each see ts)
+  each_seen [] h = All-nil Q
+  each_seen (t ∷ ts) h = one_more Q (see (t ∷ ts)) (each see ts) (λ y. shows (t ∷ ts) y h) (each_seen ts (All-tail P t ts h))
 
-    pub first_seen : (ts : List Tree) → All P ts → IfSome (first see ts) Q
-    first_seen [] h = tt
-    first_seen (t ∷ ts) h = one_or Q (see t) (first see ts) (λ y. shows t y (All-head P t ts h)) (first_seen ts (All-tail P t ts h))
-
-  -- of what trees say together
-  module _ (see : List Tree → Option Y) (shows : (ts : List Tree) (y : Y) → All P ts → see ts ≡ Some y → Q y) where
-    pub each_seen : (ts : List Tree) → All P ts → All Q (each see ts)
-    each_seen [] h = All-nil Q
-    each_seen (t ∷ ts) h = one_more Q (see (t ∷ ts)) (each see ts) (λ y. shows (t ∷ ts) y h) (each_seen ts (All-tail P t ts h))
-
-    pub first_at_seen : (ts : List Tree) → All P ts → IfSome (first_at see ts) Q
-    first_at_seen [] h = tt
-    first_at_seen (t ∷ ts) h = one_or Q (see (t ∷ ts)) (first_at see ts) (λ y. shows (t ∷ ts) y h) (first_at_seen ts (All-tail P t ts h))
+  pub first_seen : (ts : List Tree) → All P ts → IfSome (first see ts) Q
+  first_seen [] h = tt
+  first_seen (t ∷ ts) h = one_or Q (see (t ∷ ts)) (first see ts) (λ y. shows (t ∷ ts) y h) (first_seen ts (All-tail P t ts h))
 
 pub or_default : {Y : Type 0} (Q : Y → Type 0) (o : Option Y) (default : Y) → IfSome o Q → Q default → Q (unwrap_or o default)
 or_default Q None default h d = d

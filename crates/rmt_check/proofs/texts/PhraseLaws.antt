@@ -1,22 +1,22 @@
--- What is among the parts of a phrase, in whatever form they stand.
-use Rattle.std.proofs.Common.{◌≡◌, ◌⊎◌, inl, inr, ⊎_elim, ℕ, zero, suc, ◌≤◌, Bool, true, false, List, [], ◌∷◌, ◌++◌, Option, None, Some, filter_map, length, refl, sym, ap, ap₂, subst, ◌∙◌, arith}
-use Rattle.std.specs.Prelude.{◌&&◌, ◌||◌, IsSome, slice_get}
+-- What is among the parts of a phrase, in whatever form they stand: found by computing over the grammar.
+use Rattle.std.proofs.Common.{◌≡◌, ◌∙◌, inl, inr, ℕ, zero, suc, ◌≤◌, Bool, true, false, List, [], ◌∷◌, ◌++◌, Option, None, Some, map, length, refl, sym, ap, ap₂, subst, append_assoc, arith}
+use Rattle.std.specs.Prelude.{◌&&◌, ◌||◌, IsSome, not}
 use Rattle.std.specs.List.{AllByRecursion, cons_option, list_any, list_all}
 use Rattle.std.specs.Option.{option_or}
-use Rattle.std.proofs.lemmas.Bool.{and_parts, or_right}
-use Rattle.std.proofs.lemmas.List.Folds.{list_any-append, list_all-append}
-use Rattle.std.proofs.lemmas.Option.{none-some, same_Some}
-use Rattle.rmt_syntax.specs.declared.terminal.Terminal.{Terminal}
-use Rattle.rmt_syntax.specs.declared.tree.Tree.{Tree}
-use Rattle.rmt_syntax.specs.declared.tree.Rule.{Rule}
+use Rattle.std.proofs.lemmas.Bool.{and_parts, or_cases, false≢true}
+use Rattle.rmt_check.specs.Parts.{Terminal, Rule, Tree}
 use Rattle.rmt_syntax.specs.declared.grammar.Part.{Part}
-use Rattle.rmt_syntax.specs.declared.grammar.Part.TheVariants.{One}
+use Rattle.rmt_syntax.specs.declared.grammar.Part.TheVariants.{One, Node}
 use Rattle.rmt_syntax.specs.declared.grammar.Phrase.{Phrase}
-use Rattle.rmt_syntax.specs.declared.grammar.Phrase.TheVariants.{Done}
+use Rattle.rmt_syntax.specs.declared.grammar.Phrase.TheVariants.{Whole}
 use Rattle.rmt_syntax.specs.Grammar.{Form, choices}
-use Rattle.rmt_syntax.specs.Lookahead.{is_done}
-use Rattle.rmt_check.specs.Reading.{first, first_at}
-use Rattle.rmt_syntax.specs.Trees.{marks, part, Reads, IsOf, IsNodeOf, IsTokenOf, AreParts, Follows, stop, onward}
+use Rattle.rmt_syntax.specs.declared.tree.Rule.TheVariants as rule
+use Rattle.rmt_syntax.specs.declared.grammar.Phrase.TheVariants as phrase
+use Rattle.rmt_syntax.specs.Lookahead.{is_done, same}
+use Rattle.rmt_syntax.specs.Trees.{marks, part, Reads, IsOf, IsNodeOf, IsTokenOf, AreParts, ArePartsOf, Follows, stop, onward}
+use Rattle.rmt_syntax.proofs.Sets.{same_is, all_at}
+use Rattle.rmt_check.specs.Reading.{same_rule, first, each}
+use Rattle.rmt_check.proofs.texts.PartLaws.{rule_is}
 
 -- what a text of the grammar is made of
 abbrev pub NodesHaveParts : Type 0
@@ -25,103 +25,62 @@ NodesHaveParts = (r : Rule) (t : Tree) → IsOf r t → IsNodeOf r t
 abbrev pub TokensStand : Type 0
 TokensStand = (c : Terminal) (t : Tree) → Reads (part (One c) ∷ []) (marks t) → IsTokenOf c t
 
--- one of some phrases
-abbrev pub Among : Phrase → List Phrase → Type 0
-Among x [] = ⊥
-Among x (y ∷ ys) = (x ≡ y) ⊎ Among x ys
+-- whether two parts are the same
+abbrev same_part : Part → Part → Bool
+same_part (One c) (One d) = same c d
+same_part (Node r) (Node s) = same_rule r s
+same_part _ _ = false
 
--- what holds of each of some forms, and of each of some phrases, holds of one of them
-form_has : (P : Form → Type 0) (fs : List Form) (i : ℕ) (f : Form) → AllByRecursion P fs → slice_get fs i ≡ Some f → P f
-form_has P [] i f h e = absurd (none-some f e)
-form_has P (g ∷ fs) zero f h e = subst P (same_Some g f e) h.0
-form_has P (g ∷ fs) (suc i) f h e = form_has P fs i f h.1 e
+part_is : (p q : Part) → same_part p q ≡ true → p ≡ q
+part_is (One c) (One d) e = ap One (same_is c d e)
+part_is (Node r) (Node s) e = ap Node (rule_is r s e)
+part_is (One c) (Node s) e = absurd (false≢true e)
+part_is (Node r) (One d) e = absurd (false≢true e)
 
-phrase_has : (P : Phrase → Type 0) (ys : List Phrase) (x : Phrase) → AllByRecursion P ys → Among x ys → P x
-phrase_has P [] x h a = absurd a
-phrase_has P (y ∷ ys) x h (inl e) = subst P (sym e) h.0
-phrase_has P (y ∷ ys) x h (inr a) = phrase_has P ys x h.1 a
+-- a phrase that goes on with itself, of those that have a part to come
+abbrev again : Phrase → Phrase → Bool
+again (Whole rule.Program) (Whole rule.Program) = true
+again phrase.HeaderFields phrase.HeaderFields = true
+again phrase.SelectNames phrase.SelectNames = true
+again phrase.Cases phrase.Cases = true
+again phrase.MoreValues phrase.MoreValues = true
+again phrase.KeyFields phrase.KeyFields = true
+again phrase.KeyActions phrase.KeyActions = true
+again phrase.Arms phrase.Arms = true
+again _ _ = false
 
--- parts that keep what they have beside others
-pub record Stays (Q : List Part → Type 0) : Type 0 where
-  pub front : (ps qs : List Part) → Q ps → Q (ps ++ qs)
-  pub back : (ps qs : List Part) → Q qs → Q (ps ++ qs)
+again_is : (x y : Phrase) → again x y ≡ true → x ≡ y
+again_is (Whole rule.Program) (Whole rule.Program) e = refl
+again_is phrase.HeaderFields phrase.HeaderFields e = refl
+again_is phrase.SelectNames phrase.SelectNames e = refl
+again_is phrase.Cases phrase.Cases e = refl
+again_is phrase.MoreValues phrase.MoreValues e = refl
+again_is phrase.KeyFields phrase.KeyFields e = refl
+again_is phrase.KeyActions phrase.KeyActions e = refl
+again_is phrase.Arms phrase.Arms e = refl
+again_is _ _ e = absurd (false≢true e)
 
-module _ (Q : List Part → Type 0) (xs : List Phrase) where
-  -- a form that has it, or that goes on with one of the phrases
-  abbrev pub Leads : Form → Type 0
-  Leads f = Q f.0 ⊎ Among f.1 xs
+-- some parts begin with a run of parts
+abbrev begins : List Part → List Part → Bool
+begins [] ps = true
+begins (q ∷ run) [] = false
+begins (q ∷ run) (p ∷ ps) = same_part q p && begins run ps
 
-  -- of some phrases, each form
-  abbrev pub LeadsIn : Phrase → Type 0
-  LeadsIn y = (is_done y ≡ false) × AllByRecursion Leads (choices y)
+-- one of the runs stands among some parts
+abbrev pub has : List (List Part) → List Part → Bool
+has runs [] = false
+has runs (p ∷ ps) = list_any (λ run. begins run (p ∷ ps)) runs || has runs ps
 
-  abbrev pub AllLead : List Phrase → Type 0
-  AllLead ys = AllByRecursion LeadsIn ys
+-- It stands in each form of a phrase, or of the phrase that goes on: in one of so many phrases.
+abbrev pub always : List (List Part) → ℕ → Phrase → Bool
+always runs zero x = false
+always runs (suc n) x = not (is_done x) && list_all (λ (f : Form). has runs f.0 || (again x f.1 || always runs n f.1)) (choices x)
 
-  -- it comes in the parts of each of the phrases
-  pub comes : Stays Q → AllLead xs → {x : Phrase} {ps : List Part} → Follows x ps → Among x xs → Q ps
-  comes stays h stop a = let no = (phrase_has LeadsIn xs Done h a).0 in cc
-  comes stays h (onward {x = x} {qs = qs} i parts next is f) a =
-      ⊎_elim (λ q. stays.front parts qs q) (λ b. stays.back parts qs (comes stays h f b)) (form_has Leads (choices x) i (parts, next) (phrase_has LeadsIn xs x h a).1 is)
+-- each part of a phrase of so many passes a test
+abbrev pub only : (Part → Bool) → ℕ → Phrase → Bool
+only test zero x = false
+only test (suc n) x = list_all (λ (f : Form). list_all test f.0 && (again x f.1 || only test n f.1)) (choices x)
 
--- one of the parts passes a test
-abbrev pub HasOne : (Part → Bool) → List Part → Type 0
-HasOne test ps = list_any test ps ≡ true
-
-any_front : (test : Part → Bool) (ps qs : List Part) → HasOne test ps → HasOne test (ps ++ qs)
-any_front test ps qs h = list_any-append test ps qs ∙ ap (λ (b : Bool). b || list_any test qs) h
-
-any_back : (test : Part → Bool) (ps qs : List Part) → HasOne test qs → HasOne test (ps ++ qs)
-any_back test ps qs h = list_any-append test ps qs ∙ or_right (list_any test ps) (list_any test qs) h
-
-pub one_stays : (test : Part → Bool) → Stays (HasOne test)
-one_stays test = record { front = any_front test; back = any_back test }
-
--- two tokens stand side by side
-abbrev pub HasPair : Terminal → Terminal → List Part → Type 0
-HasPair c d [] = ⊥
-HasPair c d (p ∷ []) = ⊥
-HasPair c d (p ∷ q ∷ ps) = ((p ≡ One c) × (q ≡ One d)) ⊎ HasPair c d (q ∷ ps)
-
-module _ (c d : Terminal) where
-  pair_front : (ps qs : List Part) → HasPair c d ps → HasPair c d (ps ++ qs)
-  pair_front [] qs h = absurd h
-  pair_front (p ∷ []) qs h = absurd h
-  pair_front (p ∷ q ∷ ps) qs (inl e) = inl e
-  pair_front (p ∷ q ∷ ps) qs (inr h) = inr (pair_front (q ∷ ps) qs h)
-
-  one_more : (p : Part) (ps : List Part) → HasPair c d ps → HasPair c d (p ∷ ps)
-  one_more p [] h = absurd h
-  one_more p (q ∷ ps) h = inr h
-
-  pair_back : (ps qs : List Part) → HasPair c d qs → HasPair c d (ps ++ qs)
-  pair_back [] qs h = h
-  pair_back (p ∷ ps) qs h = one_more p (ps ++ qs) (pair_back ps qs h)
-
-  pub pair_stays : Stays (HasPair c d)
-  pair_stays = record { front = pair_front; back = pair_back }
-
--- each part passes a test
-module _ (test : Part → Bool) (xs : List Phrase) where
-  abbrev pub Keeps : Form → Type 0
-  Keeps f = (list_all test f.0 ≡ true) × ((f.1 ≡ Done) ⊎ Among f.1 xs)
-
-  abbrev pub KeepsIn : Phrase → Type 0
-  KeepsIn y = AllByRecursion Keeps (choices y)
-
-  abbrev pub AllKeep : List Phrase → Type 0
-  AllKeep ys = AllByRecursion KeepsIn ys
-
-  both_pass : (ps qs : List Part) → list_all test ps ≡ true → list_all test qs ≡ true → list_all test (ps ++ qs) ≡ true
-  both_pass ps qs h g = list_all-append test ps qs ∙ ap₂ (λ (a b : Bool). a && b) h g
-
-  pub only : AllKeep xs → {x : Phrase} {ps : List Part} → Follows x ps → (x ≡ Done) ⊎ Among x xs → list_all test ps ≡ true
-  only h stop a = refl
-  only h (onward {x = x} {qs = qs} i parts next is f) (inl e) = absurd (none-some (parts, next) (subst (λ y. slice_get (choices y) i ≡ Some (parts, next)) e is))
-  only h (onward {x = x} {qs = qs} i parts next is f) (inr a) =
-      let k = form_has Keeps (choices x) i (parts, next) (phrase_has KeepsIn xs x h a) is in both_pass parts qs k.0 (only h f k.1)
-
--- What is seen at such a part is seen among the trees.
 pub some_either : {Y : Type 0} (a b : Option Y) → IsSome a → IsSome (option_or a b)
 some_either None b h = cc
 some_either (Some y) b h = refl
@@ -130,50 +89,110 @@ pub some_or : {Y : Type 0} (a b : Option Y) → IsSome b → IsSome (option_or a
 some_or None b h = h
 some_or (Some y) b h = refl
 
-one_more_seen : {Y : Type 0} (o : Option Y) (ys : List Y) → 1 ≤ length ys → 1 ≤ length (cons_option o ys)
-one_more_seen None ys h = h
-one_more_seen (Some y) ys h = omega arith
+-- something is seen where a run of parts begins
+abbrev pub Shows : {Y : Type 0} → (List Tree → Option Y) → List Part → Type 0
+Shows see run = (ps : List Part) (us : List Tree) → AreParts (run ++ ps) us → IsSome (see us)
 
-seen_here : {Y : Type 0} (o : Option Y) (ys : List Y) → IsSome o → 1 ≤ length (cons_option o ys)
-seen_here None ys h = cc
-seen_here (Some y) ys h = omega arith
+begun : (run ps : List Part) → begins run ps ≡ true → (rest : List Part) × (ps ≡ run ++ rest)
+begun [] ps e = (ps, refl)
+begun (q ∷ run) [] e = absurd (false≢true e)
+begun (q ∷ run) (p ∷ ps) e =
+    let both = and_parts (same_part q p) (begins run ps) e in
+    let rest = begun run ps both.1 in (rest.0, ap₂ (λ (x : Part) (xs : List Part). x ∷ xs) (sym (part_is q p both.0)) rest.1)
 
-module _ {Y : Type 0} (test : Part → Bool) (see : Tree → Option Y) (shows : (p : Part) (u : Tree) → test p ≡ true → Reads (part p ∷ []) (marks u) → IsSome (see u)) where
-  pub first_there : (ps : List Part) (us : List Tree) → AreParts ps us → HasOne test ps → IsSome (first see us)
-  first_there [] us h one = cc
-  first_there (p ∷ ps) [] h one = absurd h
-  first_there (p ∷ ps) (u ∷ us) h one = by (test p) refl (first_there ps us h.1) one
-    where
-      by : (b : Bool) → test p ≡ b → (HasOne test ps → IsSome (first see us)) → (b || list_any test ps) ≡ true → IsSome (option_or (see u) (first see us))
-      by true e more g = some_either (see u) (first see us) (shows p u e h.0)
-      by false e more g = some_or (see u) (first see us) (more g)
+shown : {Y : Type 0} (see : List Tree → Option Y) (runs : List (List Part)) → AllByRecursion (Shows see) runs → (ps qs : List Part) (us : List Tree)
+    → list_any (λ run. begins run ps) runs ≡ true → AreParts (ps ++ qs) us → IsSome (see us)
+shown see [] h ps qs us e parts = absurd (false≢true e)
+shown see (run ∷ runs) h ps qs us e parts = elim (or_cases (begins run ps) (list_any (λ other. begins other ps) runs) e) [
+  | inl k ↦ (let rest = begun run ps k in
+      h.0 (rest.0 ++ qs) us (subst (λ xs. AreParts xs us) (ap (λ xs. xs ++ qs) rest.1 ∙ append_assoc run rest.0 qs) parts))
+  | inr k ↦ shown see runs h.1 ps qs us k parts
+]
 
-  pub listed_there : (ps : List Part) (us : List Tree) → AreParts ps us → HasOne test ps → 1 ≤ length (filter_map see us)
-  listed_there [] us h one = cc
-  listed_there (p ∷ ps) [] h one = absurd h
-  listed_there (p ∷ ps) (u ∷ us) h one = by (test p) refl (listed_there ps us h.1) one
-    where
-      by : (b : Bool) → test p ≡ b → (HasOne test ps → 1 ≤ length (filter_map see us)) → (b || list_any test ps) ≡ true → 1 ≤ length (cons_option (see u) (filter_map see us))
-      by true e more g = seen_here (see u) (filter_map see us) (shows p u e h.0)
-      by false e more g = one_more_seen (see u) (filter_map see us) (more g)
+module _ {Y : Type 0} (see : List Tree → Option Y) (runs : List (List Part)) (shows : AllByRecursion (Shows see) runs) where
+  -- what stands among the first parts is seen
+  pub there : (ps qs : List Part) (us : List Tree) → has runs ps ≡ true → AreParts (ps ++ qs) us → IsSome (first see us)
+  there [] qs us e h = absurd (false≢true e)
+  there (p ∷ ps) qs [] e h = absurd h
+  there (p ∷ ps) qs (u ∷ us) e h = elim (or_cases (list_any (λ run. begins run (p ∷ ps)) runs) (has runs ps) e) [
+    | inl k ↦ some_either (see (u ∷ us)) (first see us) (shown see runs shows (p ∷ ps) qs (u ∷ us) k h)
+    | inr k ↦ some_or (see (u ∷ us)) (first see us) (there ps qs us k h.1)
+  ]
 
-module _ {Y : Type 0} (test : Part → Bool) (see : Tree → Option Y) (shows : (p : Part) (u : Tree) → test p ≡ true → Reads (part p ∷ []) (marks u) → see u ≡ None) where
-  pub none_there : (ps : List Part) (us : List Tree) → AreParts ps us → list_all test ps ≡ true → first see us ≡ None
-  none_there [] [] h all = refl
-  none_there [] (u ∷ us) h all = absurd h
-  none_there (p ∷ ps) [] h all = absurd h
-  none_there (p ∷ ps) (u ∷ us) h all =
-      let r = and_parts (test p) (list_all test ps) all in
-      ap (λ o. option_or o (first see us)) (shows p u r.0 h.0) ∙ none_there ps us h.1 r.1
+  -- and what is seen behind them
+  pub behind_them : (ps qs : List Part) (us : List Tree) → AreParts (ps ++ qs) us → ((vs : List Tree) → AreParts qs vs → IsSome (first see vs)) → IsSome (first see us)
+  behind_them [] qs us h more = more us h
+  behind_them (p ∷ ps) qs [] h more = absurd h
+  behind_them (p ∷ ps) qs (u ∷ us) h more = some_or (see (u ∷ us)) (first see us) (behind_them ps qs us h.1 more)
 
-module _ {Y : Type 0} (c d : Terminal) (see : List Tree → Option Y)
-    (shows : (a b : Tree) (us : List Tree) → Reads (part (One c) ∷ []) (marks a) → Reads (part (One d) ∷ []) (marks b) → IsSome (see (a ∷ b ∷ us))) where
-  pub pair_there : (ps : List Part) (us : List Tree) → AreParts ps us → HasPair c d ps → IsSome (first_at see us)
-  pair_there [] us h pair = absurd pair
-  pair_there (p ∷ []) us h pair = absurd pair
-  pair_there (p ∷ q ∷ ps) [] h pair = absurd h
-  pair_there (p ∷ q ∷ ps) (a ∷ []) h pair = absurd h.1
-  pair_there (p ∷ q ∷ ps) (a ∷ b ∷ us) h (inl e) =
-      some_either (see (a ∷ b ∷ us)) (first_at see (b ∷ us))
-      (shows a b us (subst (λ x. Reads (part x ∷ []) (marks a)) e.0 h.0) (subst (λ x. Reads (part x ∷ []) (marks b)) e.1 h.1.0))
-  pair_there (p ∷ q ∷ ps) (a ∷ b ∷ us) h (inr more) = some_or (see (a ∷ b ∷ us)) (first_at see (b ∷ us)) (pair_there (q ∷ ps) (b ∷ us) h.1 more)
+  pub comes : {x : Phrase} {ps : List Part} → Follows x ps → (n : ℕ) (us : List Tree) → always runs n x ≡ true → AreParts ps us → IsSome (first see us)
+  comes stop zero us e h = absurd (false≢true e)
+  comes stop (suc n) us e h = absurd (false≢true e)
+  comes (onward i parts next is f) zero us e h = absurd (false≢true e)
+  comes (onward {x = x} {qs = qs} i parts next is f) (suc n) us e h =
+      let test = λ (g : Form). has runs g.0 || (again x g.1 || always runs n g.1) in
+      let here = all_at test (choices x) i (parts, next) (and_parts (not (is_done x)) (list_all test (choices x)) e).1 is in
+      elim (or_cases (has runs parts) (again x next || always runs n next) here) [
+        | inl k ↦ there parts qs us k h
+        | inr k ↦ behind_them parts qs us h (λ vs g. elim (or_cases (again x next) (always runs n next) k) [
+          | inl loop ↦ comes f (suc n) vs (subst (λ y. always runs (suc n) y ≡ true) (again_is x next loop) e) g
+          | inr on ↦ comes f n vs on g
+        ])
+      ]
+
+  -- in a form, or in the phrase that goes on
+  pub comes_on : {qs : List Part} (n : ℕ) (ps : List Part) (next : Phrase) (us : List Tree) → Follows next qs → (has runs ps || always runs n next) ≡ true → AreParts (ps ++ qs) us
+      → IsSome (first see us)
+  comes_on {qs = qs} n ps next us f e h = elim (or_cases (has runs ps) (always runs n next) e) [
+    | inl k ↦ there ps qs us k h
+    | inr k ↦ behind_them ps qs us h (λ vs g. comes f n vs k g)
+  ]
+
+-- nothing is seen in parts that pass a test
+module _ {Y : Type 0} (see : List Tree → Option Y) (test : Part → Bool) (hides : (p : Part) (u : Tree) (us : List Tree) → test p ≡ true → Reads (part p ∷ []) (marks u) → see (u ∷ us) ≡ None) where
+  pub hidden : (ps qs : List Part) (us : List Tree) → list_all test ps ≡ true → AreParts (ps ++ qs) us → ((vs : List Tree) → AreParts qs vs → first see vs ≡ None) → first see us ≡ None
+  hidden [] qs us e h more = more us h
+  hidden (p ∷ ps) qs [] e h more = absurd h
+  hidden (p ∷ ps) qs (u ∷ us) e h more =
+      let both = and_parts (test p) (list_all test ps) e in ap (λ o. option_or o (first see us)) (hides p u us both.0 h.0) ∙ hidden ps qs us both.1 h.1 more
+
+  pub never : {x : Phrase} {ps : List Part} → Follows x ps → (n : ℕ) (us : List Tree) → only test n x ≡ true → AreParts ps us → first see us ≡ None
+  never stop n [] e h = refl
+  never stop n (u ∷ us) e h = absurd h
+  never (onward i parts next is f) zero us e h = absurd (false≢true e)
+  never (onward {x = x} {qs = qs} i parts next is f) (suc n) us e h =
+      let here = all_at (λ (g : Form). list_all test g.0 && (again x g.1 || only test n g.1)) (choices x) i (parts, next) e is in
+      let both = and_parts (list_all test parts) (again x next || only test n next) here in
+      hidden parts qs us both.0 h (λ vs g. elim (or_cases (again x next) (only test n next) both.1) [
+        | inl loop ↦ never f (suc n) vs (subst (λ y. only test (suc n) y ≡ true) (again_is x next loop) e) g
+        | inr on ↦ never f n vs on g
+      ])
+
+-- something is seen in a part
+abbrev pub Sees : {Y : Type 0} → (List Tree → Option Y) → Part → Type 0
+Sees see p = (u : Tree) (us : List Tree) → Reads (part p ∷ []) (marks u) → IsSome (see (u ∷ us))
+
+abbrev pub each_alone : List Part → List (List Part)
+each_alone ps = map (λ p. p ∷ []) ps
+
+pub all_show : {Y : Type 0} (see : List Tree → Option Y) (qs : List Part) → AllByRecursion (Sees see) qs → AllByRecursion (Shows see) (each_alone qs)
+all_show see [] h = tt
+all_show see (q ∷ qs) h = (here, all_show see qs h.1)
+  where
+    here : (ps : List Part) (us : List Tree) → AreParts (q ∷ ps) us → IsSome (see us)
+    here ps [] parts = absurd parts
+    here ps (u ∷ us) parts = h.0 u us parts.0
+
+-- one of some parts is seen, as it stands in each form of a rule's text
+pub found : {Y : Type 0} (see : List Tree → Option Y) (qs : List Part) → AllByRecursion (Sees see) qs → (r : Rule) → always (each_alone qs) 4 (Whole r) ≡ true
+    → (us : List Tree) → ArePartsOf (Whole r) us → IsSome (first see us)
+found see qs sees r e us h = comes see (each_alone qs) (all_show see qs sees) h.1 4 us e h.2
+
+-- where one is seen first, there is one
+pub listed : {Y : Type 0} (see : List Tree → Option Y) (us : List Tree) → IsSome (first see us) → 1 ≤ length (each see us)
+listed see [] h = cc
+listed see (u ∷ us) h = by (see (u ∷ us)) h (listed see us)
+  where
+    by : (o : Option _) → IsSome (option_or o (first see us)) → (IsSome (first see us) → 1 ≤ length (each see us)) → 1 ≤ length (cons_option o (each see us))
+    by None h rest = rest h
+    by (Some y) h rest = omega arith

@@ -4,26 +4,21 @@ use Rattle.std.specs.List.{take_while, flat_map}
 use Rattle.std.proofs.lemmas.Bool.{false≢true}
 use Rattle.std.proofs.lemmas.List.Elements.{All-nil, All-cons, All-head}
 use Rattle.std.proofs.lemmas.List.Sums.{take_while-cons}
-use Rattle.rmt_lexer.specs.declared.token.Token.{Token}
+use Rattle.rmt_check.specs.Parts.{Place, ProgramFault, Token, TokenKind, Terminal, Ident}
 use Rattle.rmt_lexer.specs.declared.token.TokenKind.TheVariants.{Number, End}
 use Rattle.rmt_lexer.specs.declared.item.Item.{Item}
-use Rattle.rmt_lexer.specs.declared.place.Place.{Place}
-use Rattle.rmt_lexer.specs.declared.fault.ProgramFault.{ProgramFault}
 use Rattle.rmt_lexer.specs.Text.{is_space, is_letter, is_digit, is_hex, is_name_byte, is_sign, number_of, is_hex_number, is_comment, is_equal, number_item, hex_item, item_of, behind, first_place, token_at, with_front, read_item, reading, tokens_of}
 use Rattle.rmt_check.specs.Reading.{word_of, parts, parts_of, first, ident_of, in_token, name_if, name_at, names, name_among, no_name}
 use Rattle.rmt_check.specs.Naming.{HasNoDot, IsPlainWord, WordsArePlain}
 use Rattle.std.proofs.lemmas.Option.{none-some, same_Some}
-use Rattle.rmt_lexer.specs.declared.token.TokenKind.{TokenKind}
-use Rattle.rmt_syntax.specs.declared.terminal.Terminal.{Terminal}
 use Rattle.rmt_syntax.specs.declared.tree.Tree.{Tree, roll-Tree, roll-out-Tree}
 use Rattle.rmt_syntax.specs.declared.tree.Tree.TheViews.{out-Tree}
 use Rattle.rmt_syntax.specs.declared.tree.Tree.TheOpen.{Tree-F}
 use Rattle.rmt_syntax.specs.declared.tree.Tree.TheFolds.{fold-roll-Tree}
 use Rattle.rmt_syntax.specs.Grammar.{terminal_of, word_terminal}
 use Rattle.rmt_syntax.specs.Trees.{Mark, leaf, opens, shuts, marks, marks_step, tokens_in}
-use Rattle.rmt_check.specs.declared.source.Ident.{Ident}
 use Rattle.rmt_bits.proofs.AllLaws.{All-left, All-right}
-use Rattle.rmt_check.proofs.texts.PartLaws.{all_seen, first_seen, or_default}
+use Rattle.rmt_check.proofs.texts.PartLaws.{each_seen, first_seen, or_default}
 use Rattle.rmt_lexer.specs.declared.item.Item.TheVariants as item
 use Rattle.rmt_lexer.specs.declared.token.TokenKind.TheVariants as token
 use Rattle.rmt_syntax.specs.declared.terminal.Terminal.TheVariants as terminal
@@ -144,19 +139,19 @@ name_law t i plain e =
       not_valid = not_reserved t.what (codes "valid") terminal.Valid r.0 refl (λ x. cc (x)) (λ x. cc (x));
     })
 
-pub name_at_law : (u : Tree) (i : Ident) → WordsArePlain u → name_at u ≡ Some i → IsName i.name
-name_at_law u i plain e = by (out-Tree u) refl e
+pub name_at_law : (ts : List Tree) (i : Ident) → All WordsArePlain ts → name_at ts ≡ Some i → IsName i.name
+name_at_law [] i plain e = absurd (none-some i e)
+name_at_law (u ∷ us) i plain e = by (out-Tree u) refl e
   where
     by : (x : Tree-F Tree) → out-Tree u ≡ x → in_token (λ t. name_if (terminal_of t.what) t) x ≡ Some i → IsName i.name
-    by (tree.One t) is h = name_law t i (token_plain u t is plain) h
+    by (tree.One t) is h = name_law t i (token_plain u t is (All-head WordsArePlain u us plain)) h
     by (tree.Many r parts) is h = absurd (none-some i h)
 
 no_name_law : IsName []
 no_name_law = record { no_dot = All-nil (λ b. b ≢ 46); not_meta = λ e. cc (e); not_valid = λ e. cc (e) }
 
 pub names_plain : (ts : List Tree) → All WordsArePlain ts → All (λ (i : Ident). IsName i.name) (names ts)
-names_plain ts h = all_seen WordsArePlain (λ (i : Ident). IsName i.name) name_at (λ u i plain e. name_at_law u i plain e) ts h
+names_plain = each_seen WordsArePlain (λ (i : Ident). IsName i.name) name_at name_at_law
 
 pub name_plain : (ts : List Tree) → All WordsArePlain ts → IsName (name_among ts).name
-name_plain ts h =
-    or_default (λ (i : Ident). IsName i.name) (first name_at ts) no_name (first_seen WordsArePlain (λ (i : Ident). IsName i.name) name_at (λ u i plain e. name_at_law u i plain e) ts h) no_name_law
+name_plain ts h = or_default (λ (i : Ident). IsName i.name) (first name_at ts) no_name (first_seen WordsArePlain (λ (i : Ident). IsName i.name) name_at name_at_law ts h) no_name_law

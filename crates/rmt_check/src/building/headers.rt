@@ -2,20 +2,19 @@
 
 ghost use Rattle.std.specs.Prelude.{◌≡◌, ◌≤◌, ◌<◌, ◌+◌, ◌^◌, IfOk, map, option_map, zip};
 ghost use Rattle.std.specs.List.{range_with_len};
-ghost use Rattle.rmt_check.specs.declared.source.Ident.{Ident};
-ghost use Rattle.rmt_check.specs.declared.source.ValueText.{ValueText};
+ghost use Rattle.rmt_check.specs.Parts.{Ident, ValueText};
 ghost use Rattle.rmt_check.specs.Names.{selected, width_of};
 ghost use Rattle.rmt_check.specs.Rules as rules;
-ghost use Rattle.rmt_check.specs.Meaning.{case_of, field_number, header_from, headers_from, tail_of, test_of};
+ghost use Rattle.rmt_check.specs.Meaning.{case_of, header_from, headers_from, tail_of, test_of};
 ghost use Rattle.rmt_check.specs.Sizes.{IsSized, IsSizedHeader, IsSizedTail};
 
 use crate::building::known::{number_at, target_of};
+use crate::building::mapped::mapped;
 use crate::building::values::test_at;
 use crate::names::Names;
 use crate::reading::words::copy_name;
 use crate::source::{CaseText, HeaderText, TailText, ValueText};
 use rmt_ast::program::{Case, Header, Tail, Test};
-use rmt_bits::answer::Numbers;
 use rmt_bits::sequence::Sequence;
 use std::alloc::{AllocError, Global};
 
@@ -33,32 +32,11 @@ fn bits_of(header: &HeaderText) -> u128
 }
 
 /// So many numbers, one after another.
-fn numbers_from(alloc: Global, first: u32, count: usize) -> Result<Numbers, AllocError>
+fn numbers_from(alloc: Global, first: u32, count: u32) -> Result<Vec<u32>, AllocError>
     requires { first + count < 2 ^ 32 }
-    ensures { IfOk result (λ numbers. numbers ≡ range_with_len first count) }
+    ensures { IfOk result (λ numbers. numbers.items ≡ range_with_len first count) }
 {
-    let mut numbers = Sequence::new(alloc);
-    for at in 0..count {
-        numbers.push(first + at as u32)?;
-    }
-    Ok(numbers)
-}
-
-/// The numbers of the fields of a header's select.
-fn select_numbers(
-    alloc: Global,
-    names: &Names<'_>,
-    header: &HeaderText,
-) -> Result<Numbers, AllocError>
-    requires { IsSized names.now }
-    ensures { IfOk result (λ numbers. numbers
-        ≡ map (λ (i : Ident). field_number names.now (selected names.now header.now i)) header.now.select) }
-{
-    let mut numbers = Sequence::new(alloc);
-    for one in header.select.as_slice() {
-        numbers.push(number_at(names, names.own_key(header, one)))?;
-    }
-    Ok(numbers)
+    (first..first + count).collect(alloc)
 }
 
 /// The tests of values for the fields of a header's select, as far as both go.
@@ -72,8 +50,9 @@ fn tests_of(
     ensures { IfOk result (λ tests. tests.items
         ≡ map (λ (x : Ident × ValueText). test_of (width_of names.now (selected names.now header.now x.0)) x.1) (zip header.now.select values.now)) }
 {
-    let idents = header.select.as_slice();
-    idents
+    header
+        .select
+        .as_slice()
         .iter()
         .zip(values)
         .map(|(ident, value)| test_at(names, names.own_key(header, ident), value))
@@ -93,21 +72,6 @@ fn case_of(
         tests: Sequence::from_vec(tests_of(alloc, names, header, case.values.as_slice())?),
         target: target_of(names, &case.target),
     })
-}
-
-fn cases_of(
-    alloc: Global,
-    names: &Names<'_>,
-    header: &HeaderText,
-) -> Result<Sequence<Case>, AllocError>
-    requires { IsSized names.now }
-    ensures { IfOk result (λ cases. cases ≡ map (case_of names.now header.now) header.now.cases) }
-{
-    let mut cases = Sequence::new(alloc);
-    for case in header.cases.as_slice() {
-        cases.push(case_of(alloc, names, header, case)?)?;
-    }
-    Ok(cases)
 }
 
 /// The tail of a header whose text is within the bounds of the rules.
@@ -147,14 +111,19 @@ fn header_from(
     requires valid { valid < 2 ^ 16 }
     ensures { IfOk result (λ built. built ≡ header_from names.now valid header.now) }
 {
+    let count = header.fields.len() as u32;
     Ok(Header {
         name: copy_name(alloc, &header.ident.name)?,
         valid,
-        fields: numbers_from(alloc, valid + 1, header.fields.len())?,
+        fields: Sequence::from_vec(numbers_from(alloc, valid + 1, count)?),
         bytes: (bits_of(header) / 8) as u8,
         tail: tail_in(names, header),
-        select: select_numbers(alloc, names, header)?,
-        cases: cases_of(alloc, names, header)?,
+        select: mapped(alloc, header.select.as_slice(), |ident| {
+            Ok(number_at(names, names.own_key(header, ident)))
+        })?,
+        cases: mapped(alloc, header.cases.as_slice(), |case| {
+            case_of(alloc, names, header, case)
+        })?,
         other: target_of(names, &header.other),
     })
 }

@@ -1,13 +1,15 @@
-//! The fields of a program, found by their keys.
+//! The fields of a program by number, and what they are found by.
 
-ghost use Rattle.std.specs.Prelude.{◌≡◌, [], ◌∷◌, OnOk, IfOk};
-ghost use Rattle.std.specs.List.{flat_map};
-ghost use Rattle.rmt_check.specs.Standing.{HasFields, Grows, stored, keyed_declared, keyed_header, keyed_from, keyed_intrinsic, keyed_fields, stored_number, stored_width};
-ghost use Rattle.rmt_check.specs.declared.source.MetaText.{MetaText};
+ghost use Rattle.std.specs.Prelude.{◌≡◌, ◌<◌, ◌+◌, ◌^◌, ◌++◌, ◌∷◌, [], OnOk, IfOk};
+ghost use Rattle.rmt_check.specs.Names.{common, declared_fields, fields_of, header_fields, printed_name};
+ghost use Rattle.rmt_check.specs.Standing.{all_codes, owner_at, stored};
+ghost use Rattle.rmt_ast.specs.NameList.{HasNumbers};
 
-use crate::source::{Declared, HeaderText, MetaText, Source};
+use crate::source::{Declared, HeaderText, Source};
 use indexmap::IndexMap;
+use rmt_bits::sequence::Sequence;
 use std::alloc::{AllocError, Global};
+use std::marker::Model;
 
 /// What a field is found by: the number of its owner, and its own name.
 pub type FieldKey<'a> = (usize, &'a [u8]);
@@ -19,107 +21,138 @@ pub const METADATA: usize = 1;
 /// The owner that the first header is; the others follow.
 pub const FIRST_HEADER: usize = 2;
 
-/// The numbers of the fields, each that of the first with its key, and their widths by number.
+/// A field of a program. Its names stand in the text.
 #[derive(Drop)]
-pub struct Fields<'a> {
-    numbers: IndexMap<FieldKey<'a>, usize>,
-    widths: Vec<u128>,
+pub struct KnownField<'a> {
+    key: FieldKey<'a>,
+    width: u128,
+    /// The name of its owner, where that is printed in front of its own.
+    owner_name: Option<&'a [u8]>,
 }
 
-impl<'a> Fields<'a> {
-    /// No fields yet.
-    fn new(alloc: Global) -> Fields<'a>
-        ensures { HasFields result [] }
+impl<'a> Model for KnownField<'a> {
+    ghost use Rattle.std.specs.Prelude.{List, ℕ, option_map};
+    ghost use Rattle.std.specs.Borrow.{Bor};
+    ghost use Rattle.rmt_check.specs.Names.{Known};
+    ghost use Rattle.rmt_check.specs.Standing.{named_at};
+
+    ghost Value = { Known };
+
+    ghost view = { λ f. record {
+      named = named_at f.key;
+      width = f.width;
+      owner_name = option_map (λ (name : Bor (List ℕ)). name.now) f.owner_name;
+    } };
+}
+
+impl<'a> KnownField<'a> {
+    pub fn width(&self) -> u128
+        ensures { result ≡ self.now.width }
     {
-        Fields {
-            numbers: IndexMap::new(alloc),
-            widths: Vec::new(alloc),
+        self.width
+    }
+
+    /// The name by which it is printed.
+    pub fn printed_name(&self, alloc: Global) -> Result<Vec<u8>, AllocError>
+        ensures { IfOk result (λ name. name.items ≡ printed_name self.now) }
+    {
+        let mut name = Vec::new(alloc);
+        if let Some(owner) = self.owner_name {
+            name.extend_from_slice(owner)?;
+            name.push(b'.')?;
+        }
+        name.extend_from_slice(self.key.1)?;
+        Ok(name)
+    }
+}
+
+/// Adds the fields of a header, or of the metadata.
+fn add_declared<'a>(
+    fields: &mut Sequence<KnownField<'a>>,
+    owner: usize,
+    owner_name: &'a [u8],
+    declared: &'a [Declared],
+) -> Result<(), AllocError>
+    ensures { OnOk result (fields.new ≡ fields.old ++ declared_fields (owner_at owner) owner_name.now declared.now) }
+{
+    for field in declared {
+        fields.push(KnownField {
+            key: (owner, field.ident.name.as_slice()),
+            width: field.width.value,
+            owner_name: Some(owner_name),
+        })?;
+    }
+    Ok(())
+}
+
+/// Adds the valid and the fields of the header with a number.
+#[tactic(auto, using(crate::proofs::FieldCodes::owner_header))]
+fn add_header<'a>(
+    fields: &mut Sequence<KnownField<'a>>,
+    number: usize,
+    header: &'a HeaderText,
+) -> Result<(), AllocError>
+    requires { number + 2 < 2 ^ 64 }
+    ensures { OnOk result (fields.new ≡ fields.old ++ header_fields (number, header.now)) }
+{
+    let owner = FIRST_HEADER + number;
+    let owner_name = header.ident.name.as_slice();
+    fields.push(KnownField {
+        key: (owner, b"valid"),
+        width: 1,
+        owner_name: Some(owner_name),
+    })?;
+    add_declared(fields, owner, owner_name, header.fields.as_slice())
+}
+
+/// Adds a field that every program has.
+fn add_common<'a>(
+    fields: &mut Sequence<KnownField<'a>>,
+    name: &'a [u8],
+    width: u128,
+) -> Result<(), AllocError>
+    ensures { OnOk result (fields.new ≡ fields.old ++ common name.now width ∷ []) }
+{
+    fields.push(KnownField {
+        key: (INTRINSIC, name),
+        width,
+        owner_name: None,
+    })?;
+    Ok(())
+}
+
+/// The fields of a program's text, by number. The only fault is want of memory.
+pub fn known_fields<'a>(
+    alloc: Global,
+    source: &'a Source,
+) -> Result<Sequence<KnownField<'a>>, AllocError>
+    ensures { IfOk result (λ fields. fields ≡ fields_of source.now) }
+{
+    let mut fields = Sequence::new(alloc);
+    add_common(&mut fields, b"in_port", 9)?;
+    add_common(&mut fields, b"out_port", 9)?;
+    add_common(&mut fields, b"drop", 1)?;
+    for (number, header) in source.headers.as_slice().iter().enumerate() {
+        add_header(&mut fields, number, header)?;
+    }
+    for meta in source.metas.as_slice() {
+        add_declared(&mut fields, METADATA, b"meta", meta.fields.as_slice())?;
+    }
+    Ok(fields)
+}
+
+/// The first place of each of the fields' keys.
+pub fn first_places<'a>(
+    alloc: Global,
+    fields: &[KnownField<'a>],
+) -> Result<IndexMap<FieldKey<'a>, usize>, AllocError>
+    ensures { IfOk result (λ m. HasNumbers stored m.entries (all_codes fields.now)) }
+{
+    let mut numbers = IndexMap::new(alloc);
+    for (place, field) in fields.iter().enumerate() {
+        if numbers.get(&field.key).is_none() {
+            numbers.insert(field.key, place)?;
         }
     }
-
-    /// Adds a field.
-    fn add(&mut self, key: FieldKey<'a>, width: u128) -> Result<(), AllocError>
-        ensures { OnOk result (Grows self.old self.new ((stored key.entry, width) ∷ [])) }
-    {
-        let number = self.widths.len();
-        if self.numbers.get(&key).is_none() {
-            self.numbers.insert(key, number)?;
-        }
-        self.widths.push(width)?;
-        Ok(())
-    }
-
-    /// Adds the fields that each program has.
-    fn add_intrinsic(&mut self) -> Result<(), AllocError>
-        ensures { OnOk result (Grows self.old self.new keyed_intrinsic) }
-    {
-        self.add((INTRINSIC, b"in_port"), 9)?;
-        self.add((INTRINSIC, b"out_port"), 9)?;
-        self.add((INTRINSIC, b"drop"), 1)?;
-        Ok(())
-    }
-
-    /// Adds the fields of a header, or of the metadata.
-    fn add_declared(&mut self, owner: usize, fields: &'a [Declared]) -> Result<(), AllocError>
-        ensures { OnOk result (Grows self.old self.new (keyed_declared owner fields.now)) }
-    {
-        for field in fields {
-            self.add((owner, field.ident.name.as_slice()), field.width.value)?;
-        }
-        Ok(())
-    }
-
-    /// Adds a header's valid and its fields.
-    fn add_header(&mut self, owner: usize, header: &'a HeaderText) -> Result<(), AllocError>
-        ensures { OnOk result (Grows self.old self.new (keyed_header owner header.now)) }
-    {
-        self.add((owner, b"valid"), 1)?;
-        self.add_declared(owner, header.fields.as_slice())
-    }
-
-    fn add_headers(&mut self, headers: &'a [HeaderText]) -> Result<(), AllocError>
-        ensures { OnOk result (Grows self.old self.new (keyed_from 2 headers.now)) }
-    {
-        for (number, header) in headers.iter().enumerate() {
-            self.add_header(FIRST_HEADER + number, header)?;
-        }
-        Ok(())
-    }
-
-    fn add_metas(&mut self, metas: &'a [MetaText]) -> Result<(), AllocError>
-        ensures { OnOk result (Grows self.old self.new (keyed_declared 1 (flat_map (λ (m : MetaText). m.fields) metas.now))) }
-    {
-        for meta in metas {
-            self.add_declared(METADATA, meta.fields.as_slice())?;
-        }
-        Ok(())
-    }
-
-    /// The fields of a program's text. The only fault is want of memory.
-    pub fn of(alloc: Global, source: &'a Source) -> Result<Fields<'a>, AllocError>
-        ensures { IfOk result (λ f. HasFields f (keyed_fields source.now)) }
-    {
-        let mut fields = Fields::new(alloc);
-        fields.add_intrinsic()?;
-        fields.add_headers(source.headers.as_slice())?;
-        fields.add_metas(source.metas.as_slice())?;
-        Ok(fields)
-    }
-
-    /// The number of a field.
-    pub fn number(&self, key: FieldKey<'_>) -> Option<usize>
-        ensures { result ≡ stored_number self.now (stored key.entry) }
-    {
-        self.numbers.get(&key).copied()
-    }
-
-    /// The width of a field, and 0 for a key that is none.
-    pub fn width(&self, key: FieldKey<'_>) -> u128
-        ensures { result ≡ stored_width self.now (stored key.entry) }
-    {
-        match self.number(key) {
-            Some(number) => self.widths.get(number).copied().unwrap_or(0),
-            None => 0,
-        }
-    }
+    Ok(numbers)
 }

@@ -1,7 +1,7 @@
 //! Parts of a text that have a name.
 
 ghost use Rattle.std.specs.Prelude.{◌≡◌};
-ghost use Rattle.rmt_check.specs.declared.source.Ident.{Ident as IdentValue};
+ghost use Rattle.rmt_check.specs.Parts.{Ident as IdentValue};
 
 use crate::source::{ActionText, Declared, HeaderText, Ident, TableText};
 use rmt_lexer::place::Place;

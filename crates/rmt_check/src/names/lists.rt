@@ -1,31 +1,47 @@
 //! What a text declares, by name.
 
-ghost use Rattle.std.specs.Prelude.{◌≡◌, map, IfOk};
+ghost use Rattle.std.specs.Prelude.{◌≡◌, find, map, option_copied, IfOk};
+ghost use Rattle.std.specs.Str.{bytes_eq};
 ghost use Rattle.rmt_check.specs.Standing.{list_names};
 
 use crate::names::labels::Labelled;
-use crate::names::numbers::Numbers;
-use crate::rules::counts::listed;
+use crate::rules::parts::listed;
 use crate::source::TableText;
+use rmt_ast::name_list::NameList;
 use rmt_bits::sequence::Sequence;
 use std::alloc::{AllocError, Global};
 
 /// The names of some parts.
-pub fn names_of<'a, T: Labelled>(alloc: Global, parts: &'a [T]) -> Result<Numbers<'a>, AllocError>
+pub fn names_of<'a, T: Labelled>(alloc: Global, parts: &'a [T]) -> Result<NameList<'a>, AllocError>
     ensures { IfOk result (λ n. n ≡ map (λ (x : T). (T.ident_of x).name) parts.now) }
 {
     let mut names = Vec::new(alloc);
     for part in parts {
         names.push(part.label().name)?;
     }
-    Numbers::of(alloc, names)
+    NameList::of(alloc, names)
+}
+
+/// The first part of a name; the names are those of all the parts.
+pub fn first_named<'a, T: Labelled>(
+    names: &NameList<'_>,
+    parts: &'a Sequence<T>,
+    name: &[u8],
+) -> Option<&'a T>
+    requires { names.now ≡ map (λ (x : T). (T.ident_of x).name) parts.now }
+    ensures { option_copied result ≡ find (λ (x : T). bytes_eq name.now (T.ident_of x).name) parts.now }
+{
+    match names.number(name) {
+        Some(number) => parts.get(number),
+        None => None,
+    }
 }
 
 /// Of each table, the names of the actions of its list.
 pub fn lists<'a>(
     alloc: Global,
     tables: &'a [TableText],
-) -> Result<Sequence<Numbers<'a>>, AllocError>
+) -> Result<Sequence<NameList<'a>>, AllocError>
     ensures { IfOk result (λ v. v ≡ list_names tables.now) }
 {
     let mut lists = Sequence::new(alloc);

@@ -2,12 +2,12 @@
 
 ghost use Rattle.std.specs.Prelude.{◌≡◌, find, IfOk, option_copied};
 ghost use Rattle.std.specs.Str.{bytes_eq};
-ghost use Rattle.rmt_check.specs.declared.source.Declared.{Declared};
+ghost use Rattle.rmt_check.specs.Parts.{Declared};
 ghost use Rattle.rmt_check.specs.Names.{param_names, param_width};
 
 use crate::names::lists;
-use crate::names::numbers::Numbers;
 use crate::source::{ActionText, Declared};
+use rmt_ast::name_list::NameList;
 use std::alloc::{AllocError, Global};
 use std::marker::Model;
 
@@ -15,12 +15,12 @@ use std::marker::Model;
 #[derive(Drop)]
 pub struct ActionNames<'a> {
     action: &'a ActionText,
-    params: Numbers<'a>,
+    params: NameList<'a>,
 }
 
 impl<'a> Model for ActionNames<'a> {
     ghost use Rattle.std.specs.Prelude.{◌≡◌};
-    ghost use Rattle.rmt_check.specs.declared.source.ActionText.{ActionText};
+    ghost use Rattle.rmt_check.specs.Parts.{ActionText};
     ghost use Rattle.rmt_check.specs.Names.{param_names};
 
     ghost Value = { ActionText };
@@ -47,7 +47,7 @@ impl<'a> ActionNames<'a> {
     }
 
     /// The parameters by name.
-    pub fn params(&self) -> &Numbers<'a>
+    pub fn params(&self) -> &NameList<'a>
         ensures { result.now ≡ param_names self.now }
     {
         &self.params
@@ -57,10 +57,7 @@ impl<'a> ActionNames<'a> {
     fn param(&self, name: &[u8]) -> Option<&'a Declared>
         ensures { option_copied result ≡ find (λ (d : Declared). bytes_eq name.now d.ident.name) self.now.params }
     {
-        match self.params.number(name) {
-            Some(number) => self.action.params.get(number),
-            None => None,
-        }
+        lists::first_named(&self.params, &self.action.params, name)
     }
 
     /// The width of a parameter, and 0 for a name that is none.

@@ -1,6 +1,6 @@
 //! Reads the control.
 
-ghost use Rattle.std.specs.Prelude.{◌≡◌, IfOk, OnOk, Some};
+ghost use Rattle.std.specs.Prelude.{◌≡◌, IfOk, OnOk};
 ghost use Rattle.rmt_syntax.specs.declared.tree.Tree.TheViews.{out-Tree};
 ghost use Rattle.rmt_check.specs.Reading.{arm_word, arm_at, what_text, node_text, is_arm, is_statement, added, control_text, control_at};
 
@@ -15,8 +15,8 @@ use std::alloc::{AllocError, Global};
 impl Choice for ArmText {
     ghost chosen = { arm_word };
 
-    fn choose(alloc: Global, tree: &Tree) -> Result<Option<ArmText>, AllocError> {
-        let Tree::One(token) = tree else {
+    fn choose(alloc: Global, trees: &[Tree]) -> Result<Option<ArmText>, AllocError> {
+        let [Tree::One(token), ..] = trees else {
             return Ok(None);
         };
         match terminal_of(token) {
@@ -31,24 +31,12 @@ impl Choice for ArmText {
 impl Part for ArmText {
     ghost seen = { arm_at };
 
-    fn read(alloc: Global, tree: &Tree) -> Result<Option<ArmText>, AllocError> {
-        match parts_of(Rule::Arm, tree) {
+    fn read(alloc: Global, trees: &[Tree]) -> Result<Option<ArmText>, AllocError> {
+        match parts_of(Rule::Arm, trees) {
             Some(parts) => first_choice(alloc, parts),
             None => Ok(None),
         }
     }
-}
-
-/// An `if` of these parts, on a field.
-fn if_of(alloc: Global, field: FieldText, trees: &[Tree]) -> Result<WhatText, AllocError>
-    ensures { IfOk result (λ what. what ≡ what_text (Some field) trees.now) }
-{
-    let value = first_behind(alloc, Terminal::Equal, trees)?;
-    Ok(WhatText::If {
-        field,
-        mask: first_behind(alloc, Terminal::Ampersand, trees)?,
-        value: value.unwrap_or(no_number()),
-    })
 }
 
 /// What a statement of these parts does: an `if` where it has a field.
@@ -59,24 +47,27 @@ fn what_text(
 ) -> Result<WhatText, AllocError>
     ensures { IfOk result (λ what. what ≡ what_text field trees.now) }
 {
-    match field {
-        Some(field) => if_of(alloc, field, trees),
-        None => Ok(WhatText::Apply {
+    let Some(field) = field else {
+        return Ok(WhatText::Apply {
             table: name_among(alloc, trees)?,
             arms: all(alloc, trees)?,
-        }),
-    }
+        });
+    };
+    Ok(WhatText::If {
+        field,
+        mask: first_behind(alloc, Terminal::Ampersand, trees)?,
+        value: first_behind(alloc, Terminal::Equal, trees)?.unwrap_or(no_number()),
+    })
 }
 
 /// The node of a statement of these parts.
 fn node_text(alloc: Global, under: Option<Under>, trees: &[Tree]) -> Result<NodeText, AllocError>
     ensures { IfOk result (λ node. node ≡ node_text under trees.now) }
 {
-    let field = first(alloc, trees)?;
     Ok(NodeText {
         place: place_among(alloc, trees)?,
         under,
-        what: what_text(alloc, field, trees)?,
+        what: what_text(alloc, first(alloc, trees)?, trees)?,
     })
 }
 
@@ -145,8 +136,8 @@ fn control_text(alloc: Global, parts: &[Tree]) -> Result<Sequence<NodeText>, All
 impl Part for Sequence<NodeText> {
     ghost seen = { control_at };
 
-    fn read(alloc: Global, tree: &Tree) -> Result<Option<Sequence<NodeText>>, AllocError> {
-        match parts_of(Rule::Control, tree) {
+    fn read(alloc: Global, trees: &[Tree]) -> Result<Option<Sequence<NodeText>>, AllocError> {
+        match parts_of(Rule::Control, trees) {
             Some(parts) => Ok(Some(control_text(alloc, parts)?)),
             None => Ok(None),
         }

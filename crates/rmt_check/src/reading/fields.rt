@@ -1,20 +1,22 @@
 //! Reads fields.
 
 ghost use Rattle.std.specs.Prelude.{◌≡◌, IfOk};
-ghost use Rattle.rmt_check.specs.Reading.{word_at, words, header_in, owner_text, field_text, field_at};
+ghost use Rattle.rmt_check.specs.Reading.{word_at, words, field_text, field_at};
 
 use crate::reading::lists::{Part, parts_of};
 use crate::reading::words::{copy_ident, ident_of, no_name, nowhere};
+use crate::rules::places::beyond;
 use crate::source::{FieldText, Ident, OwnerText};
+use rmt_bits::sequence::Sequence;
 use rmt_lexer::token::TokenKind;
 use rmt_syntax::tree::{Rule, Tree};
 use std::alloc::{AllocError, Global};
 
-/// The word that a tree is, a name or a reserved word.
-fn word_at(alloc: Global, tree: &Tree) -> Result<Option<Ident>, AllocError>
-    ensures { IfOk result (λ word. word ≡ word_at tree.now) }
+/// The word that the first tree is, a name or a reserved word.
+fn word_at(alloc: Global, trees: &[Tree]) -> Result<Option<Ident>, AllocError>
+    ensures { IfOk result (λ word. word ≡ word_at trees.now) }
 {
-    let Tree::One(token) = tree else {
+    let [Tree::One(token), ..] = trees else {
         return Ok(None);
     };
     match token.what {
@@ -24,36 +26,17 @@ fn word_at(alloc: Global, tree: &Tree) -> Result<Option<Ident>, AllocError>
 }
 
 /// The words among some trees.
-fn words(alloc: Global, trees: &[Tree]) -> Result<Vec<Ident>, AllocError>
-    ensures { IfOk result (λ found. found.items ≡ words trees.now) }
+#[tactic(auto, using(crate::proofs::ReadingLaws::places))]
+fn words(alloc: Global, trees: &[Tree]) -> Result<Sequence<Ident>, AllocError>
+    ensures { IfOk result (λ found. found ≡ words trees.now) }
 {
-    let mut found = Vec::new(alloc);
-    for tree in trees {
-        if let Some(word) = word_at(alloc, tree)? {
+    let mut found = Sequence::new(alloc);
+    for at in 0..trees.len() {
+        if let Some(word) = word_at(alloc, beyond(at, trees))? {
             found.push(word)?;
         }
     }
     Ok(found)
-}
-
-/// The header that the first of these parts of a field names.
-fn header_in(alloc: Global, trees: &[Tree]) -> Result<Option<Ident>, AllocError>
-    ensures { IfOk result (λ header. header ≡ header_in trees.now) }
-{
-    match trees.first() {
-        Some(tree) => Ident::read(alloc, tree),
-        None => Ok(None),
-    }
-}
-
-/// Whose a field of two words is.
-fn owner_text(header: Option<Ident>) -> OwnerText
-    ensures { result ≡ owner_text header }
-{
-    match header {
-        Some(header) => OwnerText::Header(header),
-        None => OwnerText::Metadata,
-    }
 }
 
 /// A field of these words.
@@ -77,7 +60,10 @@ fn field_text(
         }),
         [first, word, ..] => Ok(FieldText {
             place: first.place,
-            owner: owner_text(header),
+            owner: match header {
+                Some(header) => OwnerText::Header(header),
+                None => OwnerText::Metadata,
+            },
             ident: copy_ident(alloc, word)?,
         }),
     }
@@ -86,14 +72,12 @@ fn field_text(
 impl Part for FieldText {
     ghost seen = { field_at };
 
-    fn read(alloc: Global, tree: &Tree) -> Result<Option<FieldText>, AllocError> {
-        match parts_of(Rule::Field, tree) {
-            Some(parts) => {
-                let header = header_in(alloc, parts)?;
-                let words = words(alloc, parts)?;
-                Ok(Some(field_text(alloc, header, &words)?))
-            },
-            None => Ok(None),
-        }
+    fn read(alloc: Global, trees: &[Tree]) -> Result<Option<FieldText>, AllocError> {
+        let Some(parts) = parts_of(Rule::Field, trees) else {
+            return Ok(None);
+        };
+        let header = Ident::read(alloc, parts)?;
+        let words = words(alloc, parts)?;
+        Ok(Some(field_text(alloc, header, words.as_slice())?))
     }
 }

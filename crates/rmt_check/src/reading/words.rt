@@ -1,15 +1,16 @@
 //! Reads names, numbers and places.
 
 ghost use Rattle.std.specs.Prelude.{◌≡◌, IfOk};
-ghost use Rattle.rmt_check.specs.Reading.{name_at, number_at, place_at, place_of, token_place, ident_of, nowhere, no_name, no_number, name_among, number_among, place_among, param_at, declared_at};
+ghost use Rattle.rmt_check.specs.Reading.{name_at, number_at, place_at, place_of, token_place, ident_of, nowhere, no_name, no_number, name_among, number_among, place_among, declared_at};
 
-use crate::reading::lists::{Part, Run, first, parts_of};
+use crate::reading::lists::{Part, first};
+use crate::rules::places::beyond;
 use crate::source::{Declared, Ident, Number};
 use rmt_ast::name::Name;
 use rmt_lexer::place::Place;
 use rmt_lexer::token::{Token, TokenKind};
 use rmt_syntax::terminal::{Terminal, is_same, terminal_of};
-use rmt_syntax::tree::{Rule, Tree};
+use rmt_syntax::tree::Tree;
 use std::alloc::{AllocError, Global};
 
 /// The place of a token.
@@ -32,10 +33,10 @@ pub fn nowhere() -> Place
 impl Part for Place {
     ghost seen = { token_place };
 
-    fn read(_alloc: Global, tree: &Tree) -> Result<Option<Place>, AllocError> {
-        match tree {
-            Tree::One(token) => Ok(Some(place_of(token))),
-            Tree::Many { .. } => Ok(None),
+    fn read(_alloc: Global, trees: &[Tree]) -> Result<Option<Place>, AllocError> {
+        match trees {
+            [Tree::One(token), ..] => Ok(Some(place_of(token))),
+            _ => Ok(None),
         }
     }
 }
@@ -81,8 +82,8 @@ pub fn ident_of(alloc: Global, token: &Token) -> Result<Ident, AllocError>
 impl Part for Ident {
     ghost seen = { name_at };
 
-    fn read(alloc: Global, tree: &Tree) -> Result<Option<Ident>, AllocError> {
-        let Tree::One(token) = tree else {
+    fn read(alloc: Global, trees: &[Tree]) -> Result<Option<Ident>, AllocError> {
+        let [Tree::One(token), ..] = trees else {
             return Ok(None);
         };
         match terminal_of(token) {
@@ -95,8 +96,17 @@ impl Part for Ident {
 impl Part for Number {
     ghost seen = { number_at };
 
-    fn read(_alloc: Global, tree: &Tree) -> Result<Option<Number>, AllocError> {
-        Ok(number_of(tree))
+    fn read(_alloc: Global, trees: &[Tree]) -> Result<Option<Number>, AllocError> {
+        let [Tree::One(token), ..] = trees else {
+            return Ok(None);
+        };
+        match token.what {
+            TokenKind::Number(value) => Ok(Some(Number {
+                place: place_of(token),
+                value,
+            })),
+            _ => Ok(None),
+        }
     }
 }
 
@@ -134,11 +144,11 @@ pub fn number_among(alloc: Global, trees: &[Tree]) -> Result<Number, AllocError>
     Ok(first(alloc, trees)?.unwrap_or(no_number()))
 }
 
-/// The place of a tree that is a token of a kind.
-pub fn place_at(wanted: Terminal, tree: &Tree) -> Option<Place>
-    ensures { result ≡ place_at wanted tree.now }
+/// The place of the first tree, where it is a token of a kind.
+pub fn place_at(wanted: Terminal, trees: &[Tree]) -> Option<Place>
+    ensures { result ≡ place_at wanted trees.now }
 {
-    let Tree::One(token) = tree else {
+    let [Tree::One(token), ..] = trees else {
         return None;
     };
     if is_same(wanted, terminal_of(token)) {
@@ -148,52 +158,17 @@ pub fn place_at(wanted: Terminal, tree: &Tree) -> Option<Place>
     }
 }
 
-/// The number that a tree is, if it is one.
-pub fn number_of(tree: &Tree) -> Option<Number>
-    ensures { result ≡ number_at tree.now }
-{
-    let Tree::One(token) = tree else {
-        return None;
-    };
-    match token.what {
-        TokenKind::Number(value) => Some(Number {
-            place: place_of(token),
-            value,
-        }),
-        _ => None,
-    }
-}
-
-impl Run for Declared {
-    ghost seen_at = { declared_at };
-
-    fn read_at(alloc: Global, trees: &[Tree]) -> Result<Option<Declared>, AllocError> {
-        let [name, colon, width, ..] = trees else {
-            return Ok(None);
-        };
-        let Some(ident) = Ident::read(alloc, name)? else {
-            return Ok(None);
-        };
-        if place_at(Terminal::Colon, colon).is_none() {
-            return Ok(None);
-        }
-        match number_of(width) {
-            Some(width) => Ok(Some(Declared { ident, width })),
-            None => Ok(None),
-        }
-    }
-}
-
 impl Part for Declared {
-    ghost seen = { param_at };
+    ghost seen = { declared_at };
 
-    fn read(alloc: Global, tree: &Tree) -> Result<Option<Declared>, AllocError> {
-        match parts_of(Rule::Param, tree) {
-            Some(parts) => Ok(Some(Declared {
-                ident: name_among(alloc, parts)?,
-                width: number_among(alloc, parts)?,
-            })),
-            None => Ok(None),
+    fn read(alloc: Global, trees: &[Tree]) -> Result<Option<Declared>, AllocError> {
+        match (
+            Ident::read(alloc, trees)?,
+            place_at(Terminal::Colon, beyond(1, trees)),
+            Number::read(alloc, beyond(2, trees))?,
+        ) {
+            (Some(ident), Some(_), Some(width)) => Ok(Some(Declared { ident, width })),
+            _ => Ok(None),
         }
     }
 }

@@ -5,12 +5,12 @@ ghost use Rattle.rmt_check.specs.Names as names;
 ghost use Rattle.rmt_check.specs.Names.{ident_names};
 ghost use Rattle.rmt_check.specs.Rules.{broken_13, broken_20, earliest};
 
-use crate::names::numbers::Numbers;
-use crate::rules::control::nodes_of;
+use crate::rules::parts::nodes_of;
 use crate::rules::places::place_when;
 use crate::rules::repeats::repeated_names;
 use crate::rules::search::earliest_of;
 use crate::source::{Ident, NodeText, Source, WhatText};
+use rmt_ast::name_list::NameList;
 use rmt_lexer::place::Place;
 use std::alloc::{AllocError, Global};
 
@@ -38,14 +38,14 @@ fn applied_tables(alloc: Global, source: &Source) -> Result<Vec<&Ident>, AllocEr
 }
 
 /// The names of some tables, for look-ups.
-fn names_of<'a>(alloc: Global, tables: &[&'a Ident]) -> Result<Numbers<'a>, AllocError>
+fn names_of<'a>(alloc: Global, tables: &[&'a Ident]) -> Result<NameList<'a>, AllocError>
     ensures { IfOk result (λ names. names ≡ ident_names (map (λ t. t.now) tables.now)) }
 {
     let mut names = Vec::new(alloc);
     for table in tables {
         names.push(table.name.as_slice())?;
     }
-    Numbers::of(alloc, names)
+    NameList::of(alloc, names)
 }
 
 /// Where a table is applied again.

@@ -1,14 +1,13 @@
 //! Code 14, the fields of keys and of selects, and code 15, the widths of keys.
 
 ghost use Rattle.std.specs.Prelude.{◌≡◌, IfOk, nat_lt};
-ghost use Rattle.rmt_check.specs.Names as words;
 ghost use Rattle.rmt_check.specs.Rules as rules;
 ghost use Rattle.rmt_check.specs.Rules.{bad_key, broken_14, broken_15, earliest, key_bits, when};
 
 use crate::names::Names;
 use crate::rules::name_twice::repeated_idents;
-use crate::rules::placed::{beyond, earliest_place};
-use crate::rules::places::{earlier, place_when};
+use crate::rules::parts::key_fields;
+use crate::rules::places::{earlier, earliest_beyond, place_when};
 use crate::rules::repeats::repeated;
 use crate::rules::search::{earliest_of, try_earliest_of};
 use crate::rules::sums::sum_up_to;
@@ -17,22 +16,12 @@ use rmt_ast::program::Kind;
 use rmt_lexer::place::Place;
 use std::alloc::{AllocError, Global};
 
-/// The fields of a table's key, none for a table without one.
-pub fn key_fields(table: &TableText) -> &[FieldText]
-    ensures { result.now ≡ words.key_fields table.now }
-{
-    match &table.key {
-        Some(key) => key.fields.as_slice(),
-        None => &[],
-    }
-}
-
 /// Where a prefix key has a second field.
 fn further_prefix(kind: Kind, fields: &[FieldText]) -> Option<Place>
     ensures { result ≡ earliest (rules.further_prefix kind fields.now) }
 {
     match kind {
-        Kind::Prefix => earliest_place(beyond(1, fields), |field| field.place),
+        Kind::Prefix => earliest_beyond(1, fields, |field| field.place),
         Kind::Keyless => None,
         Kind::Exact => None,
         Kind::Ternary => None,

@@ -2,14 +2,14 @@
 
 ghost use Rattle.std.specs.Prelude.{◌≡◌};
 ghost use Rattle.std.specs.List.{flat_map};
-ghost use Rattle.rmt_check.specs.Checking.{not_later};
 ghost use Rattle.rmt_check.specs.Rules as rules;
-ghost use Rattle.rmt_check.specs.Rules.{broken_9, earliest, target_names, targets};
+ghost use Rattle.rmt_check.specs.Rules.{broken_9, earliest, targets};
 
 use crate::names::Names;
+use crate::rules::parts::target_names;
 use crate::rules::places::{earlier, place_when};
 use crate::rules::search::{earliest_numbered, earliest_of};
-use crate::source::{HeaderText, TargetText};
+use crate::source::{HeaderText, Ident};
 use rmt_lexer::place::Place;
 
 fn is_at_most(number: Option<usize>, limit: usize) -> bool
@@ -21,27 +21,24 @@ fn is_at_most(number: Option<usize>, limit: usize) -> bool
     }
 }
 
-/// Where a target of a header is declared at or before it.
-fn target_before(names: &Names<'_>, number: usize, target: &TargetText) -> Option<Place>
-    ensures { result ≡ earliest (flat_map (not_later names.now number) (target_names target.now)) }
+/// Where a header of some is declared at or before the header of a number.
+fn not_later(names: &Names<'_>, number: usize, idents: &[Ident]) -> Option<Place>
+    ensures { result ≡ earliest (flat_map (rules.not_later names.now number) idents.now) }
 {
-    match target {
-        TargetText::Header(header) => {
-            let found = names.header(header.name.as_slice());
-            place_when(is_at_most(found, number), header.place)
-        }
-        TargetText::Accept => None,
-        TargetText::Reject => None,
-    }
+    earliest_of(idents, |ident| {
+        let found = names.headers().number(ident.name.as_slice());
+        place_when(is_at_most(found, number), ident.place)
+    })
 }
 
-fn target_before_in(names: &Names<'_>, number: usize, header: &HeaderText) -> Option<Place>
-    ensures { result ≡ earliest (flat_map (not_later names.now number) (targets header.now)) }
+/// Where a target of a header is declared at or before it.
+fn early_target(names: &Names<'_>, number: usize, header: &HeaderText) -> Option<Place>
+    ensures { result ≡ earliest (flat_map (rules.not_later names.now number) (targets header.now)) }
 {
     let cases = earliest_of(header.cases.as_slice(), |case| {
-        target_before(names, number, &case.target)
+        not_later(names, number, target_names(&case.target))
     });
-    earlier(cases, target_before(names, number, &header.other))
+    earlier(cases, not_later(names, number, target_names(&header.other)))
 }
 
 /// Where a header goes on to itself or to one declared before.
@@ -50,6 +47,6 @@ pub fn target_not_later(names: &Names<'_>) -> Option<Place>
 {
     let source = names.source();
     earliest_numbered(source.headers.as_slice(), |number, header| {
-        target_before_in(names, number, header)
+        early_target(names, number, header)
     })
 }

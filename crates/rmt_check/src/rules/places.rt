@@ -1,7 +1,7 @@
-//! The earlier of two places in a text.
+//! The earlier of two places in a text, and the earliest place of the items beyond a limit.
 
-ghost use Rattle.std.specs.Prelude.{◌≡◌, ◌++◌, List};
-ghost use Rattle.rmt_lexer.specs.declared.place.Place.{Place as PlaceValue};
+ghost use Rattle.std.specs.Prelude.{◌≡◌, ◌++◌, List, drop, map};
+ghost use Rattle.rmt_check.specs.Parts.{Place as PlaceValue};
 ghost use Rattle.rmt_check.specs.Rules as rules;
 
 use rmt_lexer::place::Place;
@@ -31,4 +31,28 @@ pub fn place_when(broken: bool, place: Place) -> Option<Place>
     ensures { result ≡ rules.earliest (rules.when broken place) }
 {
     if broken { Some(place) } else { None }
+}
+
+/// The items beyond the first so many.
+pub fn beyond<T>(limit: usize, items: &[T]) -> &[T]
+    ensures { result.now ≡ drop limit items.now }
+{
+    if limit < items.len() {
+        &items[limit..]
+    } else {
+        &[]
+    }
+}
+
+/// The earliest place of the items beyond the first so many.
+pub fn earliest_beyond<T, F: Fn(&T) -> Place>(limit: usize, items: &[T], place: F) -> Option<Place>
+    requires { F.IsAlwaysCallable place }
+    ensures { (place_of : T → PlaceValue) (all : List T) → drop limit items.now ≡ all → ((x : _) (p : PlaceValue) → F.post place x p → p ≡ place_of x.now) → result ≡ rules.earliest (map place_of all) }
+{
+    let further = beyond(limit, items);
+    let mut first = None;
+    for item in further {
+        first = earlier(first, Some(place(item)));
+    }
+    first
 }

@@ -1,20 +1,15 @@
 //! Code 10: operands and numbers of the width that they need.
 
-ghost use Rattle.std.specs.Prelude.{◌≡◌, IfOk, option_map};
-ghost use Rattle.std.specs.List.{flat_map};
-ghost use Rattle.std.specs.Option.{option_to_list};
-ghost use Rattle.rmt_check.specs.Names.{named, operands, width_of};
+ghost use Rattle.std.specs.Prelude.{◌≡◌, IfOk};
 ghost use Rattle.rmt_check.specs.Rules as rules;
-ghost use Rattle.rmt_check.specs.Rules.{broken_10, earliest, too_wide_node};
+ghost use Rattle.rmt_check.specs.Rules.{broken_10, earliest, operand_widths, too_wide_node};
 
 use crate::names::Names;
 use crate::names::params::ActionNames;
-use crate::rules::control::nodes_of;
+use crate::rules::parts::{earliest_operand, nodes_of};
 use crate::rules::places::{earlier, place_when};
-use crate::rules::search::{earliest_beside, earliest_of, try_earliest_of};
-use crate::source::{
-    ActionText, CaseText, ExprText, HeaderText, LeafText, Number, Sign, ValueText, WhatText,
-};
+use crate::rules::search::{earliest_beside, earliest_of, place_in, try_earliest_of};
+use crate::source::{ActionText, CaseText, HeaderText, LeafText, Number, ValueText, WhatText};
 use rmt_lexer::place::Place;
 use std::alloc::{AllocError, Global};
 
@@ -54,58 +49,18 @@ fn differs(
     }
 }
 
-/// Where the second operand, if there is one, is of another width.
-fn differs_right(
-    names: &Names<'_>,
-    action: &ActionNames<'_>,
-    width: u128,
-    right: &Option<(Sign, LeafText)>,
-) -> Option<Place>
-    ensures { result ≡ earliest (flat_map (rules.differs names.now action.now width) (option_to_list (option_map (λ r. r.1) right.now))) }
-{
-    match right {
-        Some((_, leaf)) => differs(names, action, width, leaf),
-        None => None,
-    }
-}
-
-/// Where an operand of an expression is of another width.
-fn differs_operand(
-    names: &Names<'_>,
-    action: &ActionNames<'_>,
-    width: u128,
-    expr: &ExprText,
-) -> Option<Place>
-    ensures { result ≡ earliest (flat_map (rules.differs names.now action.now width) (operands expr.now)) }
-{
-    earlier(
-        differs(names, action, width, &expr.left),
-        differs_right(names, action, width, &expr.right),
-    )
-}
-
 fn wrong_in_action(
     alloc: Global,
     names: &Names<'_>,
     action: &ActionText,
 ) -> Result<Option<Place>, AllocError>
-    ensures { IfOk result (λ p. p ≡ earliest (flat_map (λ x. flat_map (rules.differs names.now action.now (width_of names.now (named names.now x.dest))) (operands x.expr)) action.now.assigns)) }
+    ensures { IfOk result (λ p. p ≡ earliest (operand_widths names.now action.now)) }
 {
     let own = ActionNames::of(alloc, action)?;
     Ok(earliest_of(action.assigns.as_slice(), |assign| {
         let width = names.width_of(&assign.dest);
-        differs_operand(names, &own, width, &assign.expr)
+        earliest_operand(&assign.expr, |leaf| differs(names, &own, width, leaf))
     }))
-}
-
-/// Where a mask, if there is one, does not fit a width.
-fn too_wide_mask(width: u128, mask: Option<Number>) -> Option<Place>
-    ensures { result ≡ earliest (flat_map (rules.too_wide width) (option_to_list mask)) }
-{
-    match mask {
-        Some(number) => too_wide(width, number),
-        None => None,
-    }
 }
 
 /// Where a value, or its mask, does not fit a width.
@@ -114,7 +69,7 @@ fn too_wide_value(width: u128, value: ValueText) -> Option<Place>
 {
     earlier(
         too_wide(width, value.value),
-        too_wide_mask(width, value.mask),
+        place_in(&value.mask, |mask| too_wide(width, *mask)),
     )
 }
 

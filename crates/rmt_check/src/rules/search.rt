@@ -2,7 +2,8 @@
 
 ghost use Rattle.std.specs.Prelude.{◌≡◌, ℕ, IfOk, List, Option, zip};
 ghost use Rattle.std.specs.List.{enumerate_from, flat_map};
-ghost use Rattle.rmt_lexer.specs.declared.place.Place.{Place as PlaceValue};
+ghost use Rattle.std.specs.Option.{option_to_list};
+ghost use Rattle.rmt_check.specs.Parts.{Place as PlaceValue};
 ghost use Rattle.rmt_check.specs.Rules.{earliest};
 
 use crate::rules::places::earlier;
@@ -37,6 +38,17 @@ where
         first = earlier(first, at(item)?);
     }
     Ok(first)
+}
+
+/// The place that is found at an item, if there is one.
+pub fn place_in<T, F: Fn(&T) -> Option<Place>>(item: &Option<T>, at: F) -> Option<Place>
+    requires { F.IsAlwaysCallable at }
+    ensures { (broken : T → List PlaceValue) → ((x : _) (p : Option PlaceValue) → F.post at x p → p ≡ earliest (broken x.now)) → result ≡ earliest (flat_map broken (option_to_list item.now)) }
+{
+    match item {
+        Some(item) => at(item),
+        None => None,
+    }
 }
 
 /// The same, where an item is looked at with its number, from 0 on.

@@ -1,37 +1,37 @@
 //! Code 6: names that are not declared where they are used.
 
-ghost use Rattle.std.specs.Prelude.{◌≡◌, ◌∷◌, ◌++◌, [], not, IfOk, option_map, option_to_list};
+ghost use Rattle.std.specs.Prelude.{◌≡◌, ◌∷◌, [], not, IfOk};
 ghost use Rattle.std.specs.List.{flat_map};
-ghost use Rattle.rmt_check.specs.Names.{header_names, is_field, operands, selected};
+ghost use Rattle.rmt_check.specs.Names.{is_field, selected};
 ghost use Rattle.rmt_check.specs.Rules as rules;
-ghost use Rattle.rmt_check.specs.Rules.{arm_names, broken_6, earliest, target_names, targets, unknown, when};
+ghost use Rattle.rmt_check.specs.Rules.{broken_6, earliest, unknown, unknown_targets, when};
 ghost use Rattle.rmt_check.specs.Standing.{named_at};
 
 use crate::names::Names;
 use crate::names::fields::FieldKey;
-use crate::names::numbers::Numbers;
 use crate::names::params::ActionNames;
-use crate::rules::control::nodes_of;
-use crate::rules::counts::listed;
-use crate::rules::keys::key_fields;
-use crate::rules::places::{earlier, place_when};
-use crate::rules::search::{earliest_of, try_earliest_of};
-use crate::source::{
-    ActionText, ArmText, AssignText, ExprText, FieldText, HeaderText, Ident, LeafText, OwnerText,
-    Sign, TableText, TargetText, WhatText,
+use crate::rules::parts::{
+    arm_names, earliest_operand, key_fields, listed, nodes_of, target_names,
 };
+use crate::rules::places::{earlier, place_when};
+use crate::rules::search::{earliest_of, place_in, try_earliest_of};
+use crate::source::{
+    ActionText, ArmText, AssignText, FieldText, HeaderText, Ident, LeafText, OwnerText, TableText,
+    WhatText,
+};
+use rmt_ast::name_list::NameList;
 use rmt_lexer::place::Place;
 use std::alloc::{AllocError, Global};
 
 /// Where a name is not among these.
-fn unknown_one(names: &Numbers<'_>, ident: &Ident) -> Option<Place>
+fn unknown_one(names: &NameList<'_>, ident: &Ident) -> Option<Place>
     ensures { result ≡ earliest (unknown names.now (ident.now ∷ [])) }
 {
     place_when(!names.knows(ident.name.as_slice()), ident.place)
 }
 
 /// The earliest place of a name that is not among these.
-fn unknown_among(names: &Numbers<'_>, idents: &[Ident]) -> Option<Place>
+fn unknown_among(names: &NameList<'_>, idents: &[Ident]) -> Option<Place>
     ensures { result ≡ earliest (unknown names.now idents.now) }
 {
     earliest_of(idents, |ident| {
@@ -67,25 +67,15 @@ fn unknown_field(names: &Names<'_>, field: &FieldText) -> Option<Place>
     )
 }
 
-/// Where a target is no header.
-fn unknown_target(names: &Names<'_>, target: &TargetText) -> Option<Place>
-    ensures { result ≡ earliest (unknown (header_names names.now) (target_names target.now)) }
-{
-    match target {
-        TargetText::Header(header) => unknown_one(names.headers(), header),
-        TargetText::Accept => None,
-        TargetText::Reject => None,
-    }
-}
-
 /// Where a header goes on to no header.
 fn unknown_in_targets(names: &Names<'_>, header: &HeaderText) -> Option<Place>
-    ensures { result ≡ earliest (unknown (header_names names.now) (targets header.now)) }
+    ensures { result ≡ earliest (unknown_targets names.now header.now) }
 {
+    let headers = names.headers();
     let cases = earliest_of(header.cases.as_slice(), |case| {
-        unknown_target(names, &case.target)
+        unknown_among(headers, target_names(&case.target))
     });
-    earlier(cases, unknown_target(names, &header.other))
+    earlier(cases, unknown_among(headers, target_names(&header.other)))
 }
 
 /// Where a name is no field of the header.
@@ -95,30 +85,17 @@ fn unknown_own_field(names: &Names<'_>, header: &HeaderText, ident: &Ident) -> O
     unknown_key(names, names.own_key(header, ident), ident.place)
 }
 
-/// Where a select names no field of its header.
-fn unknown_select(names: &Names<'_>, header: &HeaderText) -> Option<Place>
-    ensures { result ≡ earliest (rules.unknown_select names.now header.now) }
-{
-    earliest_of(header.select.as_slice(), |ident| {
-        unknown_own_field(names, header, ident)
-    })
-}
-
-/// Where a tail names no field of its header.
-fn unknown_tail(names: &Names<'_>, header: &HeaderText) -> Option<Place>
-    ensures { result ≡ earliest (rules.unknown_tail names.now header.now) }
-{
-    let Some(tail) = &header.tail else {
-        return None;
-    };
-    unknown_own_field(names, header, &tail.field)
-}
-
 /// Where a select or a tail names no field of its header.
 fn unknown_own(names: &Names<'_>, header: &HeaderText) -> Option<Place>
     ensures { result ≡ earliest (rules.unknown_own names.now header.now) }
 {
-    earlier(unknown_select(names, header), unknown_tail(names, header))
+    let select = earliest_of(header.select.as_slice(), |ident| {
+        unknown_own_field(names, header, ident)
+    });
+    let tail = place_in(&header.tail, |tail| {
+        unknown_own_field(names, header, &tail.field)
+    });
+    earlier(select, tail)
 }
 
 /// Where an operand is not declared.
@@ -132,30 +109,6 @@ fn unknown_leaf(names: &Names<'_>, action: &ActionNames<'_>, leaf: &LeafText) ->
     }
 }
 
-/// Where the second operand, if there is one, is not declared.
-fn unknown_right(
-    names: &Names<'_>,
-    action: &ActionNames<'_>,
-    right: &Option<(Sign, LeafText)>,
-) -> Option<Place>
-    ensures { result ≡ earliest (flat_map (rules.unknown_leaf names.now action.now) (option_to_list (option_map (λ r. r.1) right.now))) }
-{
-    match right {
-        Some((_, leaf)) => unknown_leaf(names, action, leaf),
-        None => None,
-    }
-}
-
-/// Where an operand of an expression is not declared.
-fn unknown_operand(names: &Names<'_>, action: &ActionNames<'_>, expr: &ExprText) -> Option<Place>
-    ensures { result ≡ earliest (flat_map (rules.unknown_leaf names.now action.now) (operands expr.now)) }
-{
-    earlier(
-        unknown_leaf(names, action, &expr.left),
-        unknown_right(names, action, &expr.right),
-    )
-}
-
 fn unknown_in_assign(
     names: &Names<'_>,
     action: &ActionNames<'_>,
@@ -163,10 +116,8 @@ fn unknown_in_assign(
 ) -> Option<Place>
     ensures { result ≡ earliest (rules.unknown_assign names.now action.now assign.now) }
 {
-    earlier(
-        unknown_field(names, &assign.dest),
-        unknown_operand(names, action, &assign.expr),
-    )
+    let operand = earliest_operand(&assign.expr, |leaf| unknown_leaf(names, action, leaf));
+    earlier(unknown_field(names, &assign.dest), operand)
 }
 
 fn unknown_in_action(
@@ -174,7 +125,7 @@ fn unknown_in_action(
     names: &Names<'_>,
     action: &ActionText,
 ) -> Result<Option<Place>, AllocError>
-    ensures { IfOk result (λ p. p ≡ earliest (flat_map (rules.unknown_assign names.now action.now) action.now.assigns)) }
+    ensures { IfOk result (λ p. p ≡ earliest (rules.unknown_in_action names.now action.now)) }
 {
     let own = ActionNames::of(alloc, action)?;
     Ok(earliest_of(action.assigns.as_slice(), |assign| {
@@ -194,20 +145,10 @@ fn unknown_in_table(names: &Names<'_>, table: &TableText) -> Option<Place>
 }
 
 /// Where an arm's action is not in the list.
-fn unknown_arm(list: &Numbers<'_>, arm: &ArmText) -> Option<Place>
-    ensures { result ≡ earliest (unknown list.now (arm_names arm.now)) }
+fn unknown_in_arms(list: &NameList<'_>, arms: &[ArmText]) -> Option<Place>
+    ensures { result ≡ earliest (unknown list.now (flat_map rules.arm_names arms.now)) }
 {
-    match arm {
-        ArmText::Action(action) => unknown_one(list, action),
-        ArmText::Hit => None,
-        ArmText::Miss => None,
-    }
-}
-
-fn unknown_in_arms(list: &Numbers<'_>, arms: &[ArmText]) -> Option<Place>
-    ensures { result ≡ earliest (unknown list.now (flat_map arm_names arms.now)) }
-{
-    earliest_of(arms, |arm| unknown_arm(list, arm))
+    earliest_of(arms, |arm| unknown_among(list, arm_names(arm)))
 }
 
 fn unknown_in_node(names: &Names<'_>, what: &WhatText) -> Option<Place>
@@ -225,16 +166,6 @@ fn unknown_in_node(names: &Names<'_>, what: &WhatText) -> Option<Place>
     }
 }
 
-/// Where a header names no field of its own, or goes on to no header.
-fn unknown_in_headers(names: &Names<'_>) -> Option<Place>
-    ensures { result ≡ earliest (flat_map (rules.unknown_own names.now) names.now.headers ++ flat_map (λ h. unknown (header_names names.now) (targets h)) names.now.headers) }
-{
-    let headers = names.source().headers.as_slice();
-    let own = earliest_of(headers, |header| unknown_own(names, header));
-    let targets = earliest_of(headers, |header| unknown_in_targets(names, header));
-    earlier(own, targets)
-}
-
 /// Where a name is not declared.
 ///
 /// # Errors
@@ -244,7 +175,9 @@ pub fn unknown_name(alloc: Global, names: &Names<'_>) -> Result<Option<Place>, A
     ensures { IfOk result (λ p. p ≡ earliest (broken_6 names.now)) }
 {
     let source = names.source();
-    let headers = unknown_in_headers(names);
+    let headers = source.headers.as_slice();
+    let own = earliest_of(headers, |header| unknown_own(names, header));
+    let targets = earliest_of(headers, |header| unknown_in_targets(names, header));
     let actions = try_earliest_of(source.actions.as_slice(), |action| {
         unknown_in_action(alloc, names, action)
     })?;
@@ -253,5 +186,8 @@ pub fn unknown_name(alloc: Global, names: &Names<'_>) -> Result<Option<Place>, A
         |table| unknown_in_table(names, table),
     );
     let nodes = earliest_of(nodes_of(source), |node| unknown_in_node(names, &node.what));
-    Ok(earlier(earlier(earlier(headers, actions), tables), nodes))
+    Ok(earlier(
+        earlier(earlier(earlier(own, targets), actions), tables),
+        nodes,
+    ))
 }

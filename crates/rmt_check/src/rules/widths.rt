@@ -1,13 +1,15 @@
-//! Code 7, widths of fields and parameters, and code 8, sizes of headers.
+//! Code 7, widths of fields and parameters, code 8, sizes of headers, and code 21, lengths of tails.
 
 ghost use Rattle.std.specs.Prelude.{◌≡◌, not};
 ghost use Rattle.std.specs.List.{flat_map};
-ghost use Rattle.rmt_check.specs.Rules.{bits_of, broken_7, broken_8, earliest, is_size, is_width, no_widths, when};
+ghost use Rattle.rmt_check.specs.Rules as rules;
+ghost use Rattle.rmt_check.specs.Rules.{bad_size, broken_7, broken_8, broken_21, earliest, is_width, no_widths, when};
 
+use crate::names::Names;
 use crate::rules::places::{earlier, place_when};
-use crate::rules::search::earliest_of;
+use crate::rules::search::{earliest_of, place_in};
 use crate::rules::sums::sum_up_to;
-use crate::source::{Declared, HeaderText, MetaText, Source};
+use crate::source::{Declared, HeaderText, MetaText, Source, TailText};
 use rmt_lexer::place::Place;
 
 /// Where a width is not from 1 to 128.
@@ -48,7 +50,7 @@ pub fn width_range(source: &Source) -> Option<Place>
 
 /// Where a header is not of 1 to 64 whole bytes.
 fn no_size(header: &HeaderText) -> Option<Place>
-    ensures { result ≡ earliest (when (not (is_size (bits_of header.now))) header.now.ident.place) }
+    ensures { result ≡ earliest (bad_size header.now) }
 {
     let bits = sum_up_to(513, header.fields.as_slice(), |field| field.width.value);
     let is_size = bits >= 1 && bits <= 512 && bits % 8 == 0;
@@ -60,4 +62,36 @@ pub fn header_size(source: &Source) -> Option<Place>
     ensures { result ≡ earliest (broken_8 source.now) }
 {
     earliest_of(source.headers.as_slice(), no_size)
+}
+
+/// Whether these numbers make a tail, of which the field has `width` bits.
+fn is_tail_range(width: u128, unit: u128, base: u128) -> bool
+    ensures { result ≡ rules.is_tail_range width unit base }
+{
+    if !(width <= 8 && unit >= 1 && unit <= 255 && base <= 255) {
+        return false;
+    }
+    let greatest = ((1 << width) - 1) * unit;
+    base <= greatest && greatest <= base + 64
+}
+
+/// The place of a tail of other lengths.
+fn bad_tail(names: &Names<'_>, header: &HeaderText, tail: &TailText) -> Option<Place>
+    ensures { result ≡ earliest (rules.bad_tail names.now header.now tail.now) }
+{
+    let width = names.width(names.own_key(header, &tail.field));
+    place_when(
+        !is_tail_range(width, tail.unit.value, tail.base.value),
+        tail.place,
+    )
+}
+
+/// Where the lengths of a tail are not as they have to be.
+pub fn tail_range(names: &Names<'_>) -> Option<Place>
+    ensures { result ≡ earliest (broken_21 names.now) }
+{
+    let source = names.source();
+    earliest_of(source.headers.as_slice(), |header| {
+        place_in(&header.tail, |tail| bad_tail(names, header, tail))
+    })
 }

@@ -5,8 +5,7 @@ use Rattle.std.specs.List.{flat_map, sum_by}
 use Rattle.std.proofs.lemmas.Bool.{and_parts}
 use Rattle.std.proofs.lemmas.List.Elements.{All-from_recursion, All-weaker}
 use Rattle.std.proofs.lemmas.List.Sums.{AllPass-from_list_all}
-use Rattle.rmt_config.specs.declared.config.Config.{Config}
-use Rattle.rmt_config.specs.declared.config.Stage.{Stage}
+use Rattle.rmt_core.specs.Types.{Config, Stage}
 use Rattle.rmt_config.specs.CellForm.{entry_numbers, numbers_of_stage}
 use Rattle.rmt_config.specs.Form.{Formed}
 use Rattle.rmt_config.specs.Limits.{IsWithinLimits}

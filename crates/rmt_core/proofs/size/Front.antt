@@ -2,13 +2,8 @@
 use Rattle.std.proofs.Common.{◌≤◌, ◌++◌, length, get_or, length-append, arith}
 use Rattle.std.specs.List.{flat_map}
 use Rattle.std.proofs.lemmas.List.Elements.{All-weaker}
-use Rattle.rmt_config.specs.declared.config.OutHeader.{OutHeader}
-use Rattle.rmt_config.specs.declared.config.ParserConfig.{ParserConfig}
-use Rattle.rmt_config.specs.declared.config.ParserState.{ParserState}
-use Rattle.rmt_config.specs.declared.config.ParserEntry.{ParserEntry}
-use Rattle.rmt_config.specs.declared.config.Next.{Next}
+use Rattle.rmt_core.specs.Types.{OutHeader, ParserConfig, ParserState, ParserEntry, Next, Extract}
 use Rattle.rmt_config.specs.declared.config.Next.TheVariants.{Accept, Reject, State}
-use Rattle.rmt_config.specs.declared.config.Extract.{Extract}
 use Rattle.rmt_config.specs.declared.config.Extract.TheVariants.{Bits, One}
 use Rattle.rmt_config.specs.Spelling.{CountsFitEntry, CountsFitHeader, CountsFitParser, CountsFitState, spelled_entry, spelled_extract, spelled_header, spelled_lane, spelled_list8, spelled_next, spelled_parser, spelled_state, two_bytes}
 use Rattle.rmt_core.proofs.size.Lists.{flat_map_short}

@@ -5,7 +5,7 @@ use Rattle.std.specs.List.{enumerate_from, slice_split, sum_by}
 use Rattle.std.proofs.lemmas.List.Elements.{All-nil, All-push, All-weaker}
 use Rattle.std.proofs.lemmas.List.Filters.{sum_by-filter_both}
 use Rattle.std.proofs.lemmas.List.Sums.{sum_by-cons}
-use Rattle.rmt_ast.specs.declared.program.Program.{Program}
+use Rattle.rmt_core.specs.Types.{Program}
 use Rattle.rmt_ast.specs.declared.entry.Entry.{Entry}
 use Rattle.rmt_entries.specs.Entries.{Read, entry_of, line_then, read_line, read_words, reading}
 use Rattle.rmt_entries.specs.Lines.{is_passed_over, is_printable, numbered_lines, words}

@@ -3,22 +3,14 @@ use Rattle.std.proofs.Common.{◌≡◌, ℕ, zero, suc, ◌+◌, ◌<◌, true,
 use Rattle.std.specs.Prelude.{All, Contains, map, option_and_then, option_map, slice_get, unwrap_or}
 use Rattle.std.proofs.lemmas.Bool.{cases_order, eq-eqb, eqb-true}
 use Rattle.std.proofs.lemmas.List.{get_or_default}
-use Rattle.std.proofs.lemmas.List.Elements.{All-contains_itself, All-head, All-map, All-nil, All-tail}
+use Rattle.std.proofs.lemmas.List.Elements.{All-contains_itself, All-head, All-map, All-nil, All-tail, All-contains}
 use Rattle.std.proofs.lemmas.Option.{none-some, same_Some, slice_get-get_or}
 use Rattle.rmt_bits.proofs.AllLaws.{All-flat_map, All-slice_get}
-use Rattle.rmt_ast.specs.declared.program.Program.{Program}
-use Rattle.rmt_ast.specs.declared.program.Table.{Table}
-use Rattle.rmt_ast.specs.declared.program.Node.{Node}
-use Rattle.rmt_ast.specs.declared.program.What.{What}
+use Rattle.rmt_core.specs.Types.{Program, Table, Node, What, Config, Stage, Unit, SlotUnit, CellNumber}
 use Rattle.rmt_ast.specs.declared.program.What.TheVariants as what
 use Rattle.rmt_ast.specs.declared.entry.Entry.{Entry}
 use Rattle.rmt_ast.specs.EntryLists.{AreEntries}
-use Rattle.rmt_config.specs.declared.config.Config.{Config}
-use Rattle.rmt_config.specs.declared.config.Stage.{Stage}
-use Rattle.rmt_config.specs.declared.config.Unit.{Unit}
 use Rattle.rmt_config.specs.declared.config.Unit.TheVariants.{Gate, Slot}
-use Rattle.rmt_config.specs.declared.config.SlotUnit.{SlotUnit}
-use Rattle.rmt_config.specs.declared.config.CellNumber.{CellNumber}
 use Rattle.rmt_config.specs.CellForm.{Coded, SlotHolds, StageHolds, coded_from, entry_numbers, numbers_of_stage, numbers_of_unit}
 use Rattle.rmt_config.specs.Cells.{Content, content_of, is_seen, number_of_cell}
 use Rattle.rmt_config.specs.Order.{rises_from}
@@ -30,7 +22,7 @@ use Rattle.rmt_refine.specs.Cells.{Spot}
 use Rattle.rmt_refine.specs.Carries.{Carries}
 use Rattle.rmt_refine.specs.Outcomes.{entries_at}
 use Rattle.rmt_refine.proofs.CellNumberLaws.{cells_listed}
-use Rattle.rmt_refine.proofs.FindLaws.{All-contains, find-passes, find-some}
+use Rattle.rmt_refine.proofs.FindLaws.{find-passes, find-some}
 use Rattle.rmt_refine.proofs.OutcomeLaws.{list_at}
 use Rattle.rmt_refine.proofs.PartLaws.{IsPart, slot_of_part, some_and, spot_of_part, unit_of_part}
 

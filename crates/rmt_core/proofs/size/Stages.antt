@@ -7,15 +7,9 @@ use Rattle.std.proofs.lemmas.List.{length-map, length-replicate}
 use Rattle.std.proofs.lemmas.List.Concat.{length-flat_map}
 use Rattle.std.proofs.lemmas.List.Elements.{All-map, All-weaker}
 use Rattle.std.proofs.lemmas.List.Sums.{AllPass-from_list_all, sum_by-le-sum_by}
-use Rattle.rmt_config.specs.declared.config.Stage.{Stage}
-use Rattle.rmt_config.specs.declared.config.SramRow.{SramRow}
-use Rattle.rmt_config.specs.declared.config.TcamRow.{TcamRow}
-use Rattle.rmt_config.specs.declared.config.Unit.{Unit as ChipUnit}
+use Rattle.rmt_core.specs.Types.{Stage, SramRow, TcamRow, Unit as ChipUnit, Vliw, Operation, Source}
 use Rattle.rmt_config.specs.declared.config.Unit.TheVariants.{Gate, Slot}
-use Rattle.rmt_config.specs.declared.config.Operation.{Operation}
-use Rattle.rmt_config.specs.declared.config.Source.{Source}
 use Rattle.rmt_config.specs.declared.config.Source.TheVariants.{Word, Held, Constant}
-use Rattle.rmt_config.specs.declared.config.Vliw.{Vliw}
 use Rattle.rmt_config.specs.declared.form.code.Place.{Place}
 use Rattle.rmt_config.specs.CellForm.{numbers_of_stage, numbers_of_unit}
 use Rattle.rmt_config.specs.CodeForm.{code_is_formed, places_of, unit_places, vliw_is_formed}

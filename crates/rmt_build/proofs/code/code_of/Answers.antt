@@ -1,7 +1,7 @@
 use Rattle.std.proofs.Common.{◌+◌, ◌++◌, sym, subst, take, get_or, length, refl}
 use Rattle.std.proofs.lemmas.List.{take_more}
 use Rattle.std.proofs.lemmas.Option.{slice_get_read}
-use Rattle.rmt_config.specs.declared.config.Unit.{Unit}
+use Rattle.rmt_build.specs.Types.{Unit}
 use Rattle.std.specs.Prelude.{List}
 use Rattle.rmt_refine.specs.Units.{UnitCarried, nodes_in}
 use Rattle.rmt_build.specs.UnitCode.{DoUnit, DoUnits}

@@ -3,7 +3,7 @@ use Rattle.std.proofs.lemmas.List.{get_or_default, take_all}
 use Rattle.std.proofs.lemmas.List.Elements.{All-push}
 use Rattle.rmt_config.specs.CodeForm.{vliw_is_formed}
 use Rattle.rmt_pack.specs.Placements.{data_bits}
-use Rattle.rmt_config.specs.declared.config.Vliw.{Vliw}
+use Rattle.rmt_build.specs.Types.{Vliw}
 use Rattle.rmt_vliw.specs.Folding.{IsFolding}
 use Rattle.rmt_vliw.proofs.InstructionLaws.{takes_folded, takes_within}
 use Rattle.rmt_refine.specs.Code.{DoesAction}

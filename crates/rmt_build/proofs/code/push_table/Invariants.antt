@@ -2,7 +2,7 @@ use Rattle.std.proofs.Common.{◌≡◌, ◌++◌, List, take, true, false}
 use Rattle.std.specs.Prelude.{All}
 use Rattle.rmt_config.specs.CodeForm.{vliw_is_formed}
 use Rattle.rmt_pack.specs.Placements.{data_bits}
-use Rattle.rmt_config.specs.declared.config.Vliw.{Vliw}
+use Rattle.rmt_build.specs.Types.{Vliw}
 use Rattle.rmt_build.specs.UnitCode.{DoActions}
 use Rattle.rmt_build.proofs.code.push_table.Given as goal
 

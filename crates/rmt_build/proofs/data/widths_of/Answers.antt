@@ -1,6 +1,6 @@
 use Rattle.std.proofs.Common.{◌≡◌, ◌∙◌, ◌++◌, [], ◌∷◌, ap, get_or, map, sym, take}
 use Rattle.std.proofs.lemmas.List.{map-append, take_more}
-use Rattle.rmt_ast.specs.declared.program.Field.{Field}
+use Rattle.rmt_build.specs.Types.{Field}
 use Rattle.rmt_ast.specs.State.{width_of}
 use Rattle.rmt_build.proofs.KeyLaws.{width_is}
 use Rattle.rmt_build.proofs.data.widths_of.Goals as goal

@@ -1,5 +1,5 @@
 use Rattle.std.proofs.Common.{◌≡◌, map, take}
-use Rattle.rmt_ast.specs.declared.program.Node.{Node}
+use Rattle.rmt_build.specs.Types.{Node}
 use Rattle.rmt_build.specs.Plans.{what_format}
 use Rattle.rmt_build.proofs.formats.formats_of.Given as goal
 

@@ -5,8 +5,8 @@ use Rattle.rmt_ast.specs.WellFormed.{AllNumbered}
 use Rattle.rmt_vliw.specs.Folding.{IsFolding, folded_of, told}
 use Rattle.rmt_vliw.specs.declared.fault.ActionDeep.TheVariants.{NoMemory}
 use Rattle.rmt_build.proofs.FoldLaws.{deep_next, err_same, folds_next}
-use Rattle.rmt_build.proofs.ListLaws.{numbered_push}
 use Rattle.rmt_build.proofs.front.fold_all.Goals as goal
+use Rattle.rmt_ast.proofs.WellFormedLemmas.{AllNumbered-push}
 
 pub returns-in-Err-clause-refused : goal.returns-in-Err-clause-refused
 returns-in-Err-clause-refused c = λ differ.
@@ -32,6 +32,6 @@ loop-action-preserved c =
     record {
       count = omega (arith, ap length pushed, length-append c.loop-action.folded (own ∷ []), inv.count);
       each = subst (AllNumbered (IsFolding p)) (sym pushed)
-          (numbered_push (IsFolding p) c.loop-action.folded own inv.each (subst (λ m. IsFolding p m own) (sym inv.count) c.in-Ok.ensures.is_folding));
+          (AllNumbered-push (IsFolding p) c.loop-action.folded own inv.each (subst (λ m. IsFolding p m own) (sym inv.count) c.in-Ok.ensures.is_folding));
       rest = folds_next actions i found.0 own within (ap (λ a. told i (folded_of a)) (get_or_from_slice_get actions i found.0 found.0 found.1) ∙ is) ∙ inv.rest;
     }

@@ -2,9 +2,7 @@ use Rattle.std.proofs.Common.{◌≡◌, ◌∙◌, List, length, ap, sym, subst
 use Rattle.std.specs.Prelude.{All}
 use Rattle.rmt_ast.specs.declared.deps.Deps.{Deps}
 use Rattle.rmt_ast.specs.declared.entry.Entry.{Entry}
-use Rattle.rmt_ast.specs.declared.program.Program.{Program}
-use Rattle.rmt_config.specs.declared.config.Config.{Config}
-use Rattle.rmt_config.specs.declared.config.Stage.{Stage}
+use Rattle.rmt_build.specs.Types.{Program, Config, Stage}
 use Rattle.rmt_config.specs.Agreement.{AgreesWith}
 use Rattle.rmt_deps.specs.Edges.{GoesForward}
 use Rattle.rmt_deps.proofs.EdgeLaws.{go_forward}

@@ -1,5 +1,5 @@
 use Rattle.std.proofs.Common.{◌≡◌, ℕ, [], ◌∷◌, sym, ap, ◌∙◌, refl}
-use Rattle.rmt_ast.specs.declared.program.Program.{Program}
+use Rattle.rmt_build.specs.Types.{Program}
 use Rattle.rmt_ast.specs.State.{width_of}
 use Rattle.rmt_phv.specs.Packing.{pieces}
 use Rattle.rmt_build.proofs.LaneLaws.{one_lane}

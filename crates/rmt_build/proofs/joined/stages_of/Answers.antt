@@ -1,8 +1,8 @@
 use Rattle.std.proofs.Common.{◌∷◌, [], length, length-append, ap, sym, subst, arith}
 use Rattle.rmt_ast.specs.WellFormed.{AllNumbered}
 use Rattle.rmt_build.specs.BuiltStage.{IsBuiltStage}
-use Rattle.rmt_build.proofs.ListLaws.{numbered_push}
 use Rattle.rmt_build.proofs.joined.stages_of.Goals as goal
+use Rattle.rmt_ast.proofs.WellFormedLemmas.{AllNumbered-push}
 
 pub loop-number-preserved : goal.loop-number-preserved
 loop-number-preserved c =
@@ -14,6 +14,6 @@ loop-number-preserved c =
     record {
       so_far = omega (arith, long, more, so_far);
       each = subst (AllNumbered (IsBuiltStage c.args.program.now c.args.entries.now c.args.plan.now)) (sym pushed)
-          (numbered_push (IsBuiltStage c.args.program.now c.args.entries.now c.args.plan.now) c.loop-number.stages stage c.loop-number.invariant.each
+          (AllNumbered-push (IsBuiltStage c.args.program.now c.args.entries.now c.args.plan.now) c.loop-number.stages stage c.loop-number.invariant.each
           (subst (λ n. IsBuiltStage c.args.program.now c.args.entries.now c.args.plan.now n stage) (sym so_far) c.in_ok-stage_of.ensures.stage));
     }

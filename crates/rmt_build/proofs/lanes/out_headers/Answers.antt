@@ -1,7 +1,7 @@
 use Rattle.std.proofs.Common.{◌≡◌, ◌<◌, ◌∙◌, ◌∷◌, [], Some, List, ap, sym, subst, get_or, length}
 use Rattle.std.specs.Prelude.{slice_get}
 use Rattle.std.proofs.lemmas.Option.{slice_get_read}
-use Rattle.rmt_ast.specs.declared.program.Header.{Header}
+use Rattle.rmt_build.specs.Types.{Header}
 use Rattle.rmt_ast.specs.State.{width_of}
 use Rattle.rmt_phv.specs.Packing.{pieces}
 use Rattle.rmt_refine.specs.Places.{HeaderCarried}

@@ -1,5 +1,5 @@
 use Rattle.std.proofs.Common.{◌≡◌, ℕ, ◌+◌, ◌*◌, List, ◌∷◌, ◌++◌, [], refl, sym, subst, ◌∙◌, arith}
-use Rattle.rmt_config.specs.declared.config.SramRow.{SramRow}
+use Rattle.rmt_build.specs.Types.{SramRow}
 use Rattle.rmt_pack.specs.Rows.{blocks_of}
 use Rattle.rmt_build.specs.Listing.{IsSramListed, IsSramRow}
 use Rattle.rmt_build.proofs.ListedLaws.{sram-push, sram-skip}

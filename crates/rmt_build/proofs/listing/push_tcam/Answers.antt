@@ -1,6 +1,6 @@
 use Rattle.std.proofs.Common.{◌≡◌, ℕ, ◌+◌, ◌*◌, List, ◌∷◌, ◌++◌, [], refl, sym, subst, ◌∙◌, arith}
 use Rattle.std.proofs.lemmas.Nat.{and_le_r}
-use Rattle.rmt_config.specs.declared.config.TcamRow.{TcamRow}
+use Rattle.rmt_build.specs.Types.{TcamRow}
 use Rattle.rmt_build.specs.Listing.{IsTcamListed, IsTcamRow, values_of, masks_of}
 use Rattle.rmt_build.proofs.ListedLaws.{tcam-push, tcam-skip}
 use Rattle.rmt_build.proofs.listing.push_tcam.Goals as goal

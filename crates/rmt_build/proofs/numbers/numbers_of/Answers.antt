@@ -2,7 +2,7 @@ use Rattle.std.proofs.Common.{ℕ, ◌<◌, ◌^◌, ◌∙◌, [], ◌∷◌, �
 use Rattle.std.specs.Prelude.{All}
 use Rattle.std.proofs.lemmas.List.Elements.{All-append, All-cons, All-nil}
 use Rattle.rmt_ast.specs.declared.entry.Entry.{Entry}
-use Rattle.rmt_config.specs.declared.config.CellNumber.{CellNumber}
+use Rattle.rmt_build.specs.Types.{CellNumber}
 use Rattle.rmt_build.proofs.NumberLaws.{number_step}
 use Rattle.rmt_build.proofs.numbers.numbers_of.Goals as goal
 

@@ -1,6 +1,6 @@
 use Rattle.std.proofs.Common.{◌≡◌, ◌<◌, ◌^◌, map, take}
 use Rattle.std.specs.Prelude.{All}
-use Rattle.rmt_config.specs.declared.config.CellNumber.{CellNumber}
+use Rattle.rmt_build.specs.Types.{CellNumber}
 use Rattle.rmt_build.specs.Numbers.{number_at}
 use Rattle.rmt_build.proofs.numbers.numbers_of.Given as goal
 

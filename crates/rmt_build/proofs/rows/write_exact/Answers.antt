@@ -1,6 +1,6 @@
 use Rattle.std.proofs.Common.{◌≡◌, ℕ, ◌+◌, ◌*◌, ◌^◌, ◌<◌, List, length, ap, sym, subst, ◌∙◌, arith}
 use Rattle.std.specs.Prelude.{sum}
-use Rattle.rmt_ast.specs.declared.program.Test.{Test}
+use Rattle.rmt_build.specs.Types.{Test}
 use Rattle.rmt_bits.specs.Bits.{bytes_of, number_of}
 use Rattle.rmt_config.specs.Shapes.{divided_up}
 use Rattle.rmt_pack.specs.Cells.{PutsEntry, PutsRecord}

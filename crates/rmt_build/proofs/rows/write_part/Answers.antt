@@ -1,6 +1,6 @@
 use Rattle.std.proofs.Common.{◌≡◌, ℕ, refl, subst, sym}
 use Rattle.std.specs.Prelude.{Contains}
-use Rattle.rmt_config.specs.declared.config.Memory.{Memory}
+use Rattle.rmt_build.specs.Types.{Memory}
 use Rattle.rmt_config.specs.StageForm.{memory_sram_blocks, memory_tcam_blocks}
 use Rattle.rmt_pack.specs.Placements.{data_bits, key_bits}
 use Rattle.rmt_pack.specs.Rows.{blocks_of}

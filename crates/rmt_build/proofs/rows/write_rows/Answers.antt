@@ -4,7 +4,7 @@ use Rattle.std.specs.List.{AllZip}
 use Rattle.std.proofs.lemmas.List.{take_more}
 use Rattle.std.proofs.lemmas.List.Elements.{All-take}
 use Rattle.std.proofs.lemmas.Nat.{div_below, mul-le}
-use Rattle.rmt_ast.specs.declared.program.Test.{Test}
+use Rattle.rmt_build.specs.Types.{Test}
 use Rattle.rmt_ast.specs.EntryLists.{params_of}
 use Rattle.rmt_ast.specs.State.{width_of}
 use Rattle.rmt_ast.specs.WellFormed.{Fits, IsTest}

@@ -3,11 +3,9 @@ use Rattle.std.specs.Prelude.{◌==◌, All, IfSome, slice_get}
 use Rattle.std.proofs.lemmas.List.{length-map}
 use Rattle.std.proofs.lemmas.Option.{get_or_from_slice_get, slice_get-get_or, slice_get_read}
 use Rattle.rmt_ast.specs.declared.entry.Entry.{Entry}
-use Rattle.rmt_ast.specs.declared.program.Guard.{Guard}
-use Rattle.rmt_ast.specs.declared.program.Node.{Node}
+use Rattle.rmt_build.specs.Types.{Node, Guard, Memory}
 use Rattle.rmt_ast.specs.declared.program.What.TheVariants.{Apply}
 use Rattle.rmt_ast.specs.EntryLists.{terms_at}
-use Rattle.rmt_config.specs.declared.config.Memory.{Memory}
 use Rattle.rmt_pack.specs.Placements.{quanta_in}
 use Rattle.rmt_pack.proofs.NeedLaws.{data_bits-few, params-small}
 use Rattle.rmt_refine.specs.Places.{high_first}

@@ -1,11 +1,10 @@
 use Rattle.std.proofs.Common.{◌≡◌, ℕ, ◌+◌, ◌∙◌, List, [], ◌∷◌, ap, Some, None, get_or, sym}
 use Rattle.std.specs.Prelude.{slice_get}
 use Rattle.std.proofs.lemmas.Option.{slice_get-get_or}
-use Rattle.rmt_ast.specs.declared.program.Node.{Node}
+use Rattle.rmt_build.specs.Types.{Node, Unit}
 use Rattle.rmt_ast.specs.declared.program.What.TheVariants.{Apply, Gate}
 use Rattle.rmt_build.specs.Plans.{taken_upto}
 use Rattle.rmt_ast.specs.declared.entry.Entry.{Entry}
-use Rattle.rmt_config.specs.declared.config.Unit.{Unit}
 use Rattle.rmt_build.specs.BuiltStage.{HaveParts}
 use Rattle.rmt_build.proofs.ListLaws.{if_ok, on_ok}
 use Rattle.rmt_build.proofs.PlanLaws.{gate_taken}

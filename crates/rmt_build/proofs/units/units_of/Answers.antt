@@ -4,7 +4,7 @@ use Rattle.std.specs.List.{AllZip, range_with_len}
 use Rattle.std.proofs.lemmas.Bool.{le-ltb, lt-ltb}
 use Rattle.std.proofs.lemmas.List.{append-nil}
 use Rattle.std.proofs.lemmas.List.Elements.{All-append, All-cons, All-nil}
-use Rattle.rmt_config.specs.declared.config.Unit.{Unit}
+use Rattle.rmt_build.specs.Types.{Unit}
 use Rattle.rmt_pack.specs.Placements.{quanta_in}
 use Rattle.rmt_refine.specs.Units.{UnitCarried}
 use Rattle.rmt_build.proofs.ListLaws.{zip_push, filter_range}

@@ -1,5 +1,5 @@
 use Rattle.std.proofs.Common.{sym, subst}
-use Rattle.rmt_check.specs.declared.source.Source.{Source}
+use Rattle.rmt_check.specs.Parts.{Source}
 use Rattle.rmt_check.specs.Sizes.{AreNested}
 use Rattle.rmt_check.proofs.Parents.{nested}
 use Rattle.rmt_check.proofs.answer.check.Goals as goal

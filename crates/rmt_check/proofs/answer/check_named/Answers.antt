@@ -1,5 +1,7 @@
 use Rattle.std.proofs.lemmas.Result.{err_from_is_err_and}
-use Rattle.rmt_check.proofs.CheckingLaws.{fault_answers, sized_where_kept}
+use Rattle.rmt_check.proofs.Bounds.{sized}
+use Rattle.rmt_check.proofs.CheckingLaws.{fault_answers}
+use Rattle.rmt_check.proofs.programs.RuleLaws.{keeps_rules}
 use Rattle.rmt_check.proofs.answer.check_named.Goals as goal
 
 pub returns-in_err-check_rules : goal.returns-in_err-check_rules
@@ -7,5 +9,5 @@ returns-in_err-check_rules c =
     let p = err_from_is_err_and c.from_residual.result c.from_residual.ensures.1 in
     rw (p.1, p.2) (fault_answers c.args.names.now _ c.in_err-check_rules.ensures)
 
-pub build-requires : goal.build-requires
-build-requires c = sized_where_kept c.args.names.now c.in_ok-check_rules.ensures c.requires
+pub build-requires-clause-sized : goal.build-requires-clause-sized
+build-requires-clause-sized c = sized c.args.names.now (keeps_rules c.args.names.now c.in_ok-check_rules.ensures)

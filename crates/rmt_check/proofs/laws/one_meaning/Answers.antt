@@ -1,12 +1,8 @@
 use Rattle.std.proofs.Common.{◌≡◌, ◌∙◌, ◌⊎◌, inl, inr, ℕ, List, Option, Some, None, Result, Ok, Err, refl, sym, ap, subst}
-use Rattle.rmt_ast.specs.declared.program.Program.{Program}
+use Rattle.rmt_check.specs.Parts.{Program, Place, ProgramFault, Token, Tree}
 use Rattle.rmt_ast.specs.WellFormed.{IsProgram}
-use Rattle.rmt_lexer.specs.declared.fault.ProgramFault.{ProgramFault}
 use Rattle.rmt_lexer.specs.declared.fault.ProgramFault.TheVariants.{NoMemory, At}
-use Rattle.rmt_lexer.specs.declared.place.Place.{Place}
-use Rattle.rmt_lexer.specs.declared.token.Token.{Token}
-use Rattle.rmt_lexer.specs.Text.{EndsOnce, tokens_of}
-use Rattle.rmt_syntax.specs.declared.tree.Tree.{Tree}
+use Rattle.rmt_lexer.specs.Text.{tokens_of}
 use Rattle.rmt_syntax.specs.Trees.{HasFault, HasTree, IsFault, IsTreeOf}
 use Rattle.rmt_check.specs.Reading.{source_of}
 use Rattle.rmt_check.specs.Rules.{fault_of}
@@ -14,16 +10,7 @@ use Rattle.rmt_check.specs.Meaning.{Answers, program_of}
 use Rattle.rmt_check.specs.Means.{Means, Outcome, fault_at, of_tokens, of_grammar, of_rules, of_program}
 use Rattle.rmt_check.proofs.laws.one_meaning.Goals as goal
 
--- what is known of tokens and trees
-record Known : Type 0 where
-  ends : (text : List ℕ) (tokens : List Token) → tokens_of text ≡ Ok tokens → EndsOnce tokens
-  fault : (text : List ℕ) → tokens_of text ≡ Err NoMemory → ⊥
-  some : (tokens : List Token) → EndsOnce tokens → HasTree tokens ⊎ HasFault tokens
-  apart : (tokens : List Token) → EndsOnce tokens → HasTree tokens → HasFault tokens → ⊥
-  one_tree : (tokens : List Token) (t u : Tree) → EndsOnce tokens → IsTreeOf tokens t → IsTreeOf tokens u → t ≡ u
-  one_fault : (tokens : List Token) (a b l m j k : ℕ) → EndsOnce tokens → IsFault tokens a l j → IsFault tokens b m k → (a ≡ b) × (l ≡ m) × (j ≡ k)
-
-module _ (k : Known) (text : List ℕ) where
+module _ (known : goal.After-answer_is_well_formed) (text : List ℕ) where
   by_rules : (tokens : List Token) (t : Tree) (o : Option (ℕ × Place)) → fault_of (source_of t) ≡ o → tokens_of text ≡ Ok tokens → IsTreeOf tokens t → (m : Outcome) × Means text m
   by_rules tokens t None e is tree = (Ok (program_of (source_of t)), of_program tokens t is tree e)
   by_rules tokens t (Some f) e is tree = (Err f, of_rules tokens t f is tree e)
@@ -33,8 +20,8 @@ module _ (k : Known) (text : List ℕ) where
   by_tree tokens is (inr f) = (fault_at f.0 f.1 f.2, of_grammar tokens f.0 f.1 f.2 is f.3)
 
   by_tokens : (r : Result (List Token) ProgramFault) → tokens_of text ≡ r → (m : Outcome) × Means text m
-  by_tokens (Ok tokens) is = by_tree tokens is (k.some tokens (k.ends text tokens is))
-  by_tokens (Err NoMemory) is = absurd (k.fault text is)
+  by_tokens (Ok tokens) is = by_tree tokens is (known.tree_or_fault.ensures.some tokens (known.tokens_or_fault.ensures.ends text tokens is))
+  by_tokens (Err NoMemory) is = absurd (known.tokens_or_fault.ensures.fault text is)
   by_tokens (Err (At code line column)) is = (fault_at code line column, of_tokens code line column is)
 
   meaning : (m : Outcome) × Means text m
@@ -44,10 +31,10 @@ module _ (k : Known) (text : List ℕ) where
   same_tokens a b ea eb = let e : ◌≡◌ {A = Result (List Token) ProgramFault} (Ok a) (Ok b) = sym ea ∙ eb in cc
 
   same_tree : (a b : List Token) (t u : Tree) → tokens_of text ≡ Ok a → tokens_of text ≡ Ok b → IsTreeOf a t → IsTreeOf b u → t ≡ u
-  same_tree a b t u ea eb ht hu = k.one_tree a t u (k.ends text a ea) ht (subst (λ ts. IsTreeOf ts u) (same_tokens b a eb ea) hu)
+  same_tree a b t u ea eb ht hu = known.tree_or_fault.ensures.one_tree a t u (known.tokens_or_fault.ensures.ends text a ea) ht (subst (λ ts. IsTreeOf ts u) (same_tokens b a eb ea) hu)
 
   no_tree : (a b : List Token) (t : Tree) (code line column : ℕ) → tokens_of text ≡ Ok a → tokens_of text ≡ Ok b → IsTreeOf a t → IsFault b code line column → ⊥
-  no_tree a b t code line column ea eb ht hf = k.apart a (k.ends text a ea) (t, ht) (code, line, column, subst (λ ts. IsFault ts code line column) (same_tokens b a eb ea) hf)
+  no_tree a b t code line column ea eb ht hf = known.tree_or_fault.ensures.apart a (known.tokens_or_fault.ensures.ends text a ea) (t, ht) (code, line, column, subst (λ ts. IsFault ts code line column) (same_tokens b a eb ea) hf)
 
   alone : {m n : Outcome} → Means text m → Means text n → m ≡ n
   alone (of_tokens a l c e) (of_tokens b m d f) =
@@ -58,7 +45,7 @@ module _ (k : Known) (text : List ℕ) where
   alone (of_tokens a l c e) (of_program ts t f h i) = cc
   alone (of_grammar ts a l c e f) (of_tokens b m d g) = cc
   alone (of_grammar ts a l c e f) (of_grammar us b m d g h) =
-      let r = k.one_fault ts a b l m c d (k.ends text ts e) f (subst (λ vs. IsFault vs b m d) (same_tokens us ts g e) h) in cc (r.0, r.1, r.2)
+      let r = known.tree_or_fault.ensures.one_fault ts a b l m c d (known.tokens_or_fault.ensures.ends text ts e) f (subst (λ vs. IsFault vs b m d) (same_tokens us ts g e) h) in cc (r.0, r.1, r.2)
   alone (of_grammar ts a l c e f) (of_rules us t g h i j) = absurd (no_tree us ts t a l c h e i f)
   alone (of_grammar ts a l c e f) (of_program us t g h i) = absurd (no_tree us ts t a l c g e h f)
   alone (of_rules ts t f e h i) (of_tokens b m d g) = cc
@@ -85,21 +72,11 @@ formed well text p (of_grammar ts a l c e f) is = cc
 formed well text p (of_rules ts t f e h i) is = cc
 formed well text p (of_program ts t e h i) is = let it : program_of (source_of t) ≡ p = cc in subst IsProgram it (well text ts t (program_of (source_of t)) e h (i, refl))
 
-known : (c : goal.After-answer_is_well_formed) → Known
-known c = record {
-  ends = c.tokens_or_fault.ensures.ends;
-  fault = c.tokens_or_fault.ensures.fault;
-  some = c.tree_or_fault.ensures.some;
-  apart = c.tree_or_fault.ensures.apart;
-  one_tree = c.tree_or_fault.ensures.one_tree;
-  one_fault = c.tree_or_fault.ensures.one_fault;
-}
-
 pub returns-clause-some : goal.returns-clause-some
-returns-clause-some c text = meaning (known c) text
+returns-clause-some c text = meaning c text
 
 pub returns-clause-alone : goal.returns-clause-alone
-returns-clause-alone c text m n h g = alone (known c) text h g
+returns-clause-alone c text m n h g = alone c text h g
 
 pub returns-clause-formed : goal.returns-clause-formed
 returns-clause-formed c text p h = formed c.answer_is_well_formed.ensures text p h refl

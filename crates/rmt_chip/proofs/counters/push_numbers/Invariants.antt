@@ -1,5 +1,5 @@
 use Rattle.std.proofs.Common.{◌≡◌, ◌++◌, take, map}
-use Rattle.rmt_config.specs.declared.config.CellNumber.{CellNumber}
+use Rattle.rmt_chip.specs.Types.{CellNumber}
 use Rattle.rmt_chip.proofs.counters.push_numbers.Given as goal
 
 abbrev pub invariant-loop-cell : goal.invariant-loop-cell

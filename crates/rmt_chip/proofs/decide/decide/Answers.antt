@@ -1,7 +1,7 @@
 use Rattle.std.proofs.Common.{◌≡◌, ◌<◌, ap, sym, ◌∙◌, subst, List, length, get_or, fold, arith}
 use Rattle.std.proofs.lemmas.List.{take_all}
 use Rattle.rmt_bits.proofs.ListLaws.{slice_get-item}
-use Rattle.rmt_config.specs.declared.config.Unit.{Unit}
+use Rattle.rmt_chip.specs.Types.{Unit}
 use Rattle.rmt_config.specs.Life.{unit_acts}
 use Rattle.rmt_chip.specs.Ran.{HaveDone}
 use Rattle.rmt_chip.proofs.DecidingLaws.{before_all, upto_more}

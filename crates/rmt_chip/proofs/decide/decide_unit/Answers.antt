@@ -1,5 +1,5 @@
 use Rattle.std.proofs.Common.{◌≡◌, ◌+◌, sym, subst, cond, get_or}
-use Rattle.rmt_config.specs.declared.config.Unit.{Unit}
+use Rattle.rmt_chip.specs.Types.{Unit}
 use Rattle.rmt_config.specs.declared.config.Unit.TheVariants.{Slot}
 use Rattle.rmt_config.specs.Life.{runs, slot_acts, looked_up, unit_acts}
 use Rattle.rmt_chip.specs.Looked.{LookedFor}

@@ -1,5 +1,5 @@
 use Rattle.std.proofs.Common.{◌≤◌, ◌<◌, ◌^◌, ap, sym, ◌∙◌, Option, ℕ, get_or, arith}
-use Rattle.rmt_config.specs.declared.config.UnitGuard.{UnitGuard}
+use Rattle.rmt_chip.specs.Types.{UnitGuard}
 use Rattle.rmt_config.specs.Life.{guarded}
 use Rattle.rmt_chip.proofs.DecidingLaws.{no_bit, high_test}
 use Rattle.rmt_chip.proofs.decide.is_guarded.Goals as goal

@@ -2,7 +2,7 @@ use Rattle.std.proofs.Common.{◌≡◌, ◌≤◌, ◌<◌, ◌+◌, ◌++◌, 
 use Rattle.std.specs.Prelude.{slice_index}
 use Rattle.std.proofs.lemmas.List.{length-append, length-map, get_or-map, take_all}
 use Rattle.std.proofs.lemmas.List.Sums.{sum_by_more}
-use Rattle.rmt_config.specs.declared.config.OutHeader.{OutHeader}
+use Rattle.rmt_chip.specs.Types.{OutHeader}
 use Rattle.rmt_config.specs.declared.tails.TailAt.{TailAt}
 use Rattle.rmt_config.specs.Parser.{no_tail}
 use Rattle.rmt_config.specs.ChipRun.{header_bytes, tail_bytes}

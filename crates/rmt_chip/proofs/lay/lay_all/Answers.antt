@@ -1,7 +1,7 @@
 use Rattle.std.proofs.Common.{◌≡◌, ◌<◌, ◌++◌, [], ◌∷◌, List, Some, Vec, Global, length, ap, sym, ◌∙◌, arith}
 use Rattle.std.specs.Prelude.{slice_get}
 use Rattle.std.proofs.lemmas.Option.{slice_get-get_or}
-use Rattle.rmt_config.specs.declared.config.Stage.{Stage}
+use Rattle.rmt_chip.specs.Types.{Stage}
 use Rattle.rmt_chip.specs.declared.memory.SlotMemory.{SlotMemory}
 use Rattle.rmt_chip.specs.Memory.{MemoriesFit, AllLaid}
 use Rattle.rmt_chip.proofs.StageMemoriesLaws.{pushed_each, place_below}

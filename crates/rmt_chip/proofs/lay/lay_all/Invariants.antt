@@ -1,6 +1,6 @@
 use Rattle.std.proofs.Common.{◌≡◌, ◌<◌, ℕ, length, Some, Vec, Global}
 use Rattle.std.specs.Prelude.{slice_get}
-use Rattle.rmt_config.specs.declared.config.Stage.{Stage}
+use Rattle.rmt_chip.specs.Types.{Stage}
 use Rattle.rmt_chip.specs.declared.memory.SlotMemory.{SlotMemory}
 use Rattle.rmt_chip.specs.Memory.{MemoriesFit, AllLaid}
 use Rattle.rmt_chip.proofs.lay.lay_all.Given as goal

@@ -1,7 +1,7 @@
 use Rattle.std.proofs.Common.{◌≡◌, ◌<◌, ◌++◌, [], ◌∷◌, ℕ, List, Some, length, get_or, ap, sym, ◌∙◌, subst, arith}
 use Rattle.std.proofs.lemmas.List.{get_or_default}
 use Rattle.std.proofs.lemmas.Option.{slice_get-get_or}
-use Rattle.rmt_config.specs.declared.config.Unit.{Unit}
+use Rattle.rmt_chip.specs.Types.{Unit}
 use Rattle.rmt_chip.specs.declared.memory.SlotMemory.{SlotMemory}
 use Rattle.rmt_chip.specs.Memory.{MemoryFits, IsLaid}
 use Rattle.rmt_chip.proofs.StageMemoriesLaws.{pushed_items}

@@ -1,6 +1,6 @@
 use Rattle.std.proofs.Common.{◌≡◌, ◌<◌, ap, sym, ◌∙◌, subst, ℕ, List, length, get_or, arith}
 use Rattle.std.specs.Prelude.{slice_index}
-use Rattle.rmt_config.specs.declared.config.Unit.{Unit}
+use Rattle.rmt_chip.specs.Types.{Unit}
 use Rattle.rmt_chip.specs.Looked.{HasRoom, LookedFor}
 use Rattle.rmt_chip.specs.Memory.{MemoryFits, IsLaid, LooksAt}
 use Rattle.rmt_chip.specs.declared.memory.SlotMemory.{SlotMemory}

@@ -1,6 +1,6 @@
 use Rattle.std.proofs.Common.{◌<◌, ℕ, get_or}
 use Rattle.std.specs.Prelude.{slice_index}
-use Rattle.rmt_config.specs.declared.config.Unit.{Unit}
+use Rattle.rmt_chip.specs.Types.{Unit}
 use Rattle.rmt_config.specs.Life.{Look}
 use Rattle.rmt_chip.specs.declared.looked.Looked.{Looked}
 use Rattle.rmt_chip.specs.Looked.{HaveRoom, LookedFor}

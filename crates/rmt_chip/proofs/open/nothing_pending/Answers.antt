@@ -1,7 +1,7 @@
 use Rattle.std.proofs.Common.{◌≡◌, ℕ, List, get_or, Some, sym, ap, subst, ◌∙◌, inl, inr, arith}
 use Rattle.std.specs.Prelude.{slice_get}
 use Rattle.std.proofs.lemmas.Option.{get_or_from_slice_get}
-use Rattle.rmt_config.specs.declared.config.Stage.{Stage}
+use Rattle.rmt_chip.specs.Types.{Stage}
 use Rattle.rmt_chip.specs.declared.pending.Pending.{Pending}
 use Rattle.rmt_chip.specs.Pending.{HasRoomFor}
 use Rattle.rmt_chip.proofs.PendingLaws.{push_slice}

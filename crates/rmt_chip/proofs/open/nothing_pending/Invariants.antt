@@ -1,6 +1,6 @@
 use Rattle.std.proofs.Common.{◌≡◌, ℕ, Some, vec_len}
 use Rattle.std.specs.Prelude.{slice_get}
-use Rattle.rmt_config.specs.declared.config.Stage.{Stage}
+use Rattle.rmt_chip.specs.Types.{Stage}
 use Rattle.rmt_chip.specs.declared.pending.Pending.{Pending}
 use Rattle.rmt_chip.specs.Pending.{HasRoomFor}
 use Rattle.rmt_chip.proofs.open.nothing_pending.Given as goal

@@ -2,7 +2,7 @@ use Rattle.std.proofs.Common.{◌≡◌, ◌<◌, ◌≤◌, ℕ, List, length, 
 use Rattle.std.specs.Prelude.{slice_get}
 use Rattle.std.proofs.lemmas.Option.{slice_get-get_or}
 use Rattle.std.proofs.lemmas.List.Elements.{All-set}
-use Rattle.rmt_config.specs.declared.config.Stage.{Stage}
+use Rattle.rmt_chip.specs.Types.{Stage}
 use Rattle.rmt_chip.specs.declared.place.Place.{Place}
 use Rattle.rmt_chip.specs.Pending.{HaveRoomFor}
 use Rattle.rmt_chip.specs.Runnable.{start_of}

@@ -1,7 +1,7 @@
 use Rattle.std.proofs.Common.{◌≡◌, ◌<◌, length, Some, refl, sym, ap, subst, ◌∙◌, arith}
 use Rattle.std.specs.Prelude.{slice_get, slice_index}
 use Rattle.std.proofs.lemmas.Option.{slice_get-get_or, get_or_from_slice_get}
-use Rattle.rmt_config.specs.declared.config.Stage.{Stage}
+use Rattle.rmt_chip.specs.Types.{Stage}
 use Rattle.rmt_chip.specs.Looked.{AllLooked}
 use Rattle.rmt_chip.specs.Memory.{AllLaid, LooksInto}
 use Rattle.rmt_chip.proofs.PendingLaws.{looked_by}

@@ -2,7 +2,7 @@ use Rattle.std.proofs.Common.{List, get_or, ap, ◌∙◌, arith}
 use Rattle.std.specs.Prelude.{slice_index, option_map}
 use Rattle.std.proofs.lemmas.List.{take_all}
 use Rattle.rmt_bits.specs.Bits.{number_of}
-use Rattle.rmt_config.specs.declared.config.Operation.{Operation}
+use Rattle.rmt_chip.specs.Types.{Operation}
 use Rattle.rmt_config.specs.Life.{written, op_on, or_else}
 use Rattle.rmt_chip.specs.Writes.{last_on}
 use Rattle.rmt_chip.proofs.WriteLaws.{push_step, no_op}

@@ -1,8 +1,7 @@
 use Rattle.std.proofs.Common.{◌≡◌, ℕ, List, [], Option, Some, None, sym, ap, subst, ◌∙◌, arith}
 use Rattle.std.specs.Prelude.{slice_get, slice_index, option_map, unwrap_or}
 use Rattle.std.proofs.lemmas.Option.{slice_get-get_or, slice_get_past}
-use Rattle.rmt_config.specs.declared.config.Vliw.{Vliw}
-use Rattle.rmt_config.specs.declared.config.Operation.{Operation}
+use Rattle.rmt_chip.specs.Types.{Vliw, Operation}
 use Rattle.rmt_config.specs.Life.{written, op_on, or_else}
 use Rattle.rmt_chip.specs.Ran.{running_of}
 use Rattle.rmt_chip.specs.Runnable.{InstructionFits}

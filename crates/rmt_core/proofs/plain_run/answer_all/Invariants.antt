@@ -1,7 +1,7 @@
 -- The packets so far are answered.
 use Rattle.std.proofs.Common.{◌≡◌, ◌≤◌, ◌-◌, ℕ, List, [], IsTrue}
 use Rattle.rmt_bits.specs.Packet.{Packet}
-use Rattle.rmt_ast.specs.declared.program.Program.{Program}
+use Rattle.rmt_core.specs.Types.{Program}
 use Rattle.rmt_ast.specs.declared.entry.Entry.{Entry}
 use Rattle.rmt_plain.specs.Stands.{Stands}
 use Rattle.rmt_core.specs.PlainRunning.{Goes}

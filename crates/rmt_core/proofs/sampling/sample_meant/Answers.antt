@@ -2,7 +2,7 @@
 use Rattle.std.proofs.Common.{List, ℕ, Err, Vec, inl, inr, refl, sym, ap, ◌∙◌, subst}
 use Rattle.std.specs.Global.{Global}
 use Rattle.rmt_bounds.specs.declared.bound.Bound.{Bound}
-use Rattle.rmt_config.specs.declared.config.Config.{Config}
+use Rattle.rmt_core.specs.Types.{Config}
 use Rattle.rmt_core.specs.declared.status.Status.TheVariants.{Done, NoFit}
 use Rattle.rmt_core.specs.Compiling.{Builds}
 use Rattle.rmt_core.specs.Given.{Given, told}

@@ -1,7 +1,7 @@
 -- The lines so far, and those of the ages that are left, are all.
 use Rattle.std.proofs.Common.{◌≡◌, ℕ, ◌+◌, ◌≤◌, ◌++◌, List, Option, length}
 use Rattle.rmt_bits.specs.Packet.{Packet}
-use Rattle.rmt_config.specs.declared.config.Config.{Config}
+use Rattle.rmt_core.specs.Types.{Config}
 use Rattle.rmt_config.specs.ChipRun.{latency_of}
 use Rattle.rmt_chip.specs.Stands.{Stands}
 use Rattle.rmt_core.specs.ProbeText.{lines_below}

@@ -1,5 +1,5 @@
 use Rattle.std.proofs.Common.{◌≡◌, ◌++◌, drop, map}
-use Rattle.rmt_entries.specs.Names.{seen}
+use Rattle.rmt_ast.specs.NameList.{seen}
 use Rattle.rmt_entries.specs.Tables.{action_name}
 use Rattle.rmt_entries.proofs.tables.action_names.Given as goal
 

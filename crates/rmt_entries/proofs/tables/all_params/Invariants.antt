@@ -1,6 +1,6 @@
 use Rattle.std.proofs.Common.{◌≡◌, ◌++◌, drop, map}
 use Rattle.rmt_ast.specs.EntryLists.{params_of}
-use Rattle.rmt_entries.specs.Names.{seen}
+use Rattle.rmt_ast.specs.NameList.{seen}
 use Rattle.rmt_entries.proofs.tables.all_params.Given as goal
 
 -- the widths so far, and then the others

@@ -1,6 +1,6 @@
 use Rattle.std.proofs.Common.{◌≡◌, ◌++◌, drop, map}
 use Rattle.rmt_entries.specs.NamedTables.{name_of_table, seen_tables}
-use Rattle.rmt_entries.specs.Names.{seen}
+use Rattle.rmt_ast.specs.NameList.{seen}
 use Rattle.rmt_entries.proofs.tables.table_names.Given as goal
 
 -- the names so far, and then the others

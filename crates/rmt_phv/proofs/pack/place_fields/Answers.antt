@@ -2,8 +2,8 @@ use Rattle.std.proofs.Common.{rules, Result, Ok, Err, ◌≡◌, ◌++◌, ◌�
 use Rattle.std.specs.Prelude.{All}
 use Rattle.std.proofs.lemmas.List.{drop_more, length-append}
 use Rattle.rmt_bits.specs.declared.lane.Lane.{Lane}
-use Rattle.rmt_ast.specs.declared.program.Field.{Field}
 use Rattle.rmt_ast.specs.declared.program.Program.{Program}
+use Rattle.rmt_ast.specs.declared.program.Field.{Field}
 use Rattle.rmt_phv.specs.declared.words.Word.{Word}
 use Rattle.rmt_phv.specs.declared.fault.PhvFull.{PhvFull}
 use Rattle.rmt_phv.specs.Packing.{Piece, packing, pieces_at, places_from}

@@ -3,7 +3,7 @@ use Rattle.std.specs.List.{zip}
 use Rattle.std.proofs.lemmas.Grind.{common_steps}
 use Rattle.std.proofs.lemmas.List.{length-replicate}
 use Rattle.rmt_bits.specs.Bits.{number_of}
-use Rattle.rmt_ast.specs.declared.program.Test.{Test}
+use Rattle.rmt_ptcam.specs.Types.{Test}
 use Rattle.rmt_ptcam.specs.Plain.{with_field}
 use Rattle.rmt_ptcam.proofs.PlainLaws.{looked_up_is}
 use Rattle.rmt_ptcam.proofs.cases.compared_in.Goals as goal

@@ -1,7 +1,7 @@
 use Rattle.std.proofs.Common.{◌≡◌, ◌<◌, ℕ, List, length, sym, subst, ap, ◌∙◌, arith}
 use Rattle.std.specs.Prelude.{Contains, slice_index, slice_index_or}
 use Rattle.rmt_bits.specs.Bits.{number_of}
-use Rattle.rmt_ast.specs.declared.program.Test.{Test}
+use Rattle.rmt_ptcam.specs.Types.{Test}
 use Rattle.rmt_ast.specs.State.{width_of}
 use Rattle.rmt_ast.specs.WellFormed.{IsTest}
 use Rattle.rmt_ptcam.specs.Plain.{with_field}

@@ -1,7 +1,7 @@
 use Rattle.std.proofs.Common.{◌≡◌, length, map, drop, fold}
 use Rattle.std.specs.List.{zip}
 use Rattle.rmt_bits.specs.Bits.{number_of}
-use Rattle.rmt_ast.specs.declared.program.Test.{Test}
+use Rattle.rmt_ptcam.specs.Types.{Test}
 use Rattle.rmt_ptcam.specs.Plain.{with_field}
 use Rattle.rmt_ptcam.proofs.cases.put_tests.Given as goal
 

@@ -1,6 +1,5 @@
 use Rattle.std.proofs.Common.{◌≡◌, List, ap, ◌∙◌, arith}
-use Rattle.rmt_config.specs.declared.config.ParserConfig.{ParserConfig}
-use Rattle.rmt_config.specs.declared.config.ParserEntry.{ParserEntry}
+use Rattle.rmt_ptcam.specs.Types.{ParserConfig, ParserEntry}
 use Rattle.rmt_ptcam.specs.Joining.{entries_in, number_of_entry}
 use Rattle.rmt_ptcam.specs.Clustering.{Clustering}
 use Rattle.std.specs.Prelude.{length}

@@ -1,5 +1,5 @@
 use Rattle.std.proofs.Common.{◌≡◌, ◌++◌, map, take}
-use Rattle.rmt_ast.specs.declared.program.Case.{Case}
+use Rattle.rmt_ptcam.specs.Types.{Case}
 use Rattle.rmt_ptcam.proofs.clustering.push_targets.Given as goal
 
 abbrev pub invariant-loop-case : goal.invariant-loop-case

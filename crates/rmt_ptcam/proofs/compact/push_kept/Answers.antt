@@ -2,8 +2,7 @@ use Rattle.std.proofs.Common.{◌≡◌, ◌<◌, ◌≤◌, Bool, List, length,
 use Rattle.std.specs.Prelude.{slice_get, slice_index_or}
 use Rattle.std.specs.List.{filter}
 use Rattle.std.proofs.lemmas.Option.{slice_get_read}
-use Rattle.rmt_config.specs.declared.config.ParserEntry.{ParserEntry}
-use Rattle.rmt_config.specs.declared.config.TailOf.{TailOf}
+use Rattle.rmt_ptcam.specs.Types.{ParserEntry, TailOf}
 use Rattle.rmt_config.specs.Parser.{tail_of}
 use Rattle.rmt_ptcam.specs.Joining.{Row, is_among, rows_of}
 use Rattle.rmt_ptcam.specs.Clustering.{renamed}

@@ -1,7 +1,6 @@
 use Rattle.std.proofs.Common.{◌≡◌, List, ap, ◌∙◌, arith}
-use Rattle.rmt_config.specs.declared.config.ParserEntry.{ParserEntry}
+use Rattle.rmt_ptcam.specs.Types.{ParserConfig, ParserEntry}
 use Rattle.rmt_ptcam.proofs.AddingLaws.{numbers_within}
-use Rattle.rmt_config.specs.declared.config.ParserConfig.{ParserConfig}
 use Rattle.std.proofs.lemmas.Option.{IfSome_then}
 use Rattle.rmt_ptcam.specs.Joining.{number_of_entry}
 use Rattle.rmt_ptcam.proofs.joining.join.Goals as goal

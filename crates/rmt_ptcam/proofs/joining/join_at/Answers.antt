@@ -2,10 +2,8 @@ use Rattle.std.proofs.Common.{◌≡◌, ◌≤◌, ◌+◌, List, length, Optio
 use Rattle.std.specs.Prelude.{IfSome, slice_get, slice_index_or}
 use Rattle.std.proofs.lemmas.Option.{slice_get_read}
 use Rattle.std.proofs.lemmas.Result.{IfOk-weaker}
-use Rattle.rmt_config.specs.declared.config.Next.{Next}
+use Rattle.rmt_ptcam.specs.Types.{ParserConfig, ParserEntry, Next}
 use Rattle.rmt_config.specs.declared.config.Next.TheVariants as next
-use Rattle.rmt_config.specs.declared.config.ParserConfig.{ParserConfig}
-use Rattle.rmt_config.specs.declared.config.ParserEntry.{ParserEntry}
 use Rattle.rmt_ptcam.specs.Joining.{IsGood, join_to}
 use Rattle.rmt_ptcam.proofs.JoinedKeeps.{join_counts, join_good}
 use Rattle.rmt_ptcam.proofs.joining.join_at.Goals as goal

@@ -1,9 +1,7 @@
 use Rattle.std.proofs.Common.{◌≡◌, List, ℕ, ap, ◌∙◌, arith}
 use Rattle.std.specs.Prelude.{slice_set}
 use Rattle.std.proofs.lemmas.Option.{slice_get_within}
-use Rattle.rmt_config.specs.declared.config.ParserConfig.{ParserConfig}
-use Rattle.rmt_config.specs.declared.config.ParserEntry.{ParserEntry}
-use Rattle.rmt_config.specs.declared.config.ParserState.{ParserState}
+use Rattle.rmt_ptcam.specs.Types.{ParserConfig, ParserState, ParserEntry}
 use Rattle.rmt_ptcam.specs.Joining.{lookups_at, parser_of, together}
 use Rattle.rmt_ptcam.proofs.AddingLaws.{few_first, few_parts, parts, parts_added}
 use Rattle.rmt_ptcam.proofs.JoinFacts.{may_join}

@@ -1,7 +1,7 @@
 use Rattle.std.proofs.Common.{◌≡◌, ◌≤◌, take, length}
 use Rattle.std.specs.Prelude.{nat_lt}
 use Rattle.std.specs.List.{filter}
-use Rattle.rmt_config.specs.declared.config.ParserEntry.{ParserEntry}
+use Rattle.rmt_ptcam.specs.Types.{ParserEntry}
 use Rattle.rmt_ptcam.proofs.joining.number_of_entry.Given as goal
 
 abbrev pub invariant-loop-other : goal.invariant-loop-other

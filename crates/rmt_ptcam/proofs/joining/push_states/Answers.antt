@@ -1,7 +1,7 @@
 use Rattle.std.proofs.Common.{◌≡◌, ◌-◌, ◌+◌, ◌<◌, ◌++◌, ◌∷◌, [], List, length, take, drop, Some, ap, sym, ◌∙◌, refl, append_assoc, arith}
 use Rattle.std.specs.Prelude.{slice_get}
 use Rattle.std.proofs.lemmas.Option.{slice_get_read}
-use Rattle.rmt_config.specs.declared.config.ParserState.{ParserState}
+use Rattle.rmt_ptcam.specs.Types.{ParserState}
 use Rattle.rmt_ptcam.proofs.AddingLaws.{get_drop, take_next}
 use Rattle.rmt_ptcam.proofs.joining.push_states.Goals as goal
 

@@ -1,6 +1,6 @@
 use Rattle.std.proofs.Common.{◌≡◌, ◌-◌, ◌+◌, ◌++◌, ◌∷◌, [], List, ℕ, suc, length, take, drop, ap, sym, ◌∙◌, append_assoc, arith}
 use Rattle.std.proofs.lemmas.List.{set_split, take_rest}
-use Rattle.rmt_config.specs.declared.config.ParserState.{ParserState}
+use Rattle.rmt_ptcam.specs.Types.{ParserState}
 use Rattle.rmt_ptcam.proofs.joining.with_lookups.Goals as goal
 
 pub returns : goal.returns

@@ -1,7 +1,6 @@
 use Rattle.std.proofs.Common.{◌≡◌, ℕ, ◌+◌, ◌*◌, ◌≤◌, List, Option, sym, ap, subst, ◌∙◌}
 use Rattle.std.specs.Prelude.{IfSome, slice_get, slice_index_or}
-use Rattle.rmt_config.specs.declared.config.ParserEntry.{ParserEntry}
-use Rattle.rmt_config.specs.declared.config.TailOf.{TailOf}
+use Rattle.rmt_ptcam.specs.Types.{ParserEntry, TailOf}
 use Rattle.rmt_config.specs.Parser.{entry_of, step, taken}
 use Rattle.rmt_ptcam.specs.Parsing.{standing, StepGives}
 use Rattle.rmt_ptcam.proofs.ParseLaws.{entry_there, tail_asks}

@@ -1,7 +1,7 @@
 use Rattle.std.proofs.Common.{◌≡◌, ◌<◌, ◌≤◌, List, length, None, refl, sym, subst, ap, ◌∙◌, arith}
 use Rattle.std.specs.Prelude.{slice_index_or}
 use Rattle.std.proofs.lemmas.Option.{slice_get_read}
-use Rattle.rmt_ast.specs.declared.program.Header.{Header}
+use Rattle.rmt_ptcam.specs.Types.{Header, ParserConfig}
 use Rattle.rmt_ptcam.specs.Needs.{refusal}
 use Rattle.rmt_ptcam.proofs.NeedLaws.{unless_ok, header_short}
 use Rattle.rmt_ptcam.specs.Fitting.{IsParser}
@@ -9,7 +9,6 @@ use Rattle.rmt_ptcam.proofs.PlainLaws.{few_entries, lanes_bits, built_all}
 use Rattle.rmt_ptcam.proofs.FormLaws.{plain_is_parser}
 use Rattle.rmt_ptcam.proofs.AgreementLaws.{plain_agrees}
 use Rattle.rmt_config.specs.Agreement.{AgreesWith}
-use Rattle.rmt_config.specs.declared.config.ParserConfig.{ParserConfig}
 use Rattle.rmt_ptcam.proofs.plain.plain_parser.Goals as goal
 
 pub push_tails-requires-clause-header : goal.push_tails-requires-clause-header

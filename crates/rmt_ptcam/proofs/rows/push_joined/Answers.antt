@@ -2,8 +2,7 @@ use Rattle.std.proofs.Common.{◌≡◌, eqb, ℕ, ◌<◌, ◌≤◌, ◌+◌, 
 use Rattle.std.specs.Prelude.{IfSome, nat_le, slice_get, slice_index_or}
 use Rattle.std.proofs.lemmas.Option.{slice_get_read}
 use Rattle.std.proofs.lemmas.Bool.{eq-eqb, ne_eqb, and_parts, leb-true}
-use Rattle.rmt_config.specs.declared.config.ParserEntry.{ParserEntry}
-use Rattle.rmt_config.specs.declared.config.TailOf.{TailOf}
+use Rattle.rmt_ptcam.specs.Types.{ParserEntry, TailOf}
 use Rattle.rmt_config.specs.Parser.{tail_of}
 use Rattle.rmt_ptcam.specs.Joining.{Row, is_light, joined_row, rows_in, rows_of}
 use Rattle.rmt_ptcam.proofs.AddingLaws.{adds_at, all_rows, added_own, added_not, few_own, filter_holds, length_added, row_of}

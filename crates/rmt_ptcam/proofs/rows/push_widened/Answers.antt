@@ -1,7 +1,7 @@
 use Rattle.std.proofs.Common.{◌≡◌, ◌-◌, ◌<◌, ◌+◌, List, length, map, take, drop, Some, ap, sym, ◌∙◌, refl, arith}
 use Rattle.std.specs.Prelude.{slice_get, slice_index_or}
 use Rattle.std.proofs.lemmas.Option.{slice_get_read}
-use Rattle.rmt_config.specs.declared.config.ParserEntry.{ParserEntry}
+use Rattle.rmt_ptcam.specs.Types.{ParserEntry}
 use Rattle.rmt_config.specs.Parser.{tail_of}
 use Rattle.rmt_ptcam.specs.Joining.{Row, rows_of, widened}
 use Rattle.rmt_ptcam.proofs.AddingLaws.{added_row, few_taken, length_added, row_of, widened_yes, widened_no}

@@ -1,6 +1,6 @@
 use Rattle.std.proofs.Common.{◌≡◌, ◌≤◌, ◌<◌, List, length, sym, subst, ap, ◌∙◌, arith}
 use Rattle.std.specs.Prelude.{slice_index_or}
-use Rattle.rmt_config.specs.declared.config.ParserEntry.{ParserEntry}
+use Rattle.rmt_ptcam.specs.Types.{ParserEntry}
 use Rattle.rmt_ptcam.proofs.SearchLaws.{entry_here, entry_nowhere, no_entry}
 use Rattle.rmt_ptcam.proofs.search.entry_number.Goals as goal
 

@@ -1,6 +1,6 @@
 use Rattle.std.proofs.Common.{◌≡◌, ◌<◌, ℕ, false}
 use Rattle.std.specs.Prelude.{◌&&◌, ◌==◌, bit_and, slice_index_or}
-use Rattle.rmt_config.specs.declared.config.ParserEntry.{ParserEntry}
+use Rattle.rmt_ptcam.specs.Types.{ParserEntry}
 use Rattle.rmt_ptcam.proofs.search.entry_number.Given as goal
 
 abbrev pub invariant-loop-number : goal.invariant-loop-number

@@ -1,6 +1,6 @@
 use Rattle.std.proofs.Common.{sym, refl, ◌∙◌, arith}
 use Rattle.std.specs.Prelude.{slice_index_or}
-use Rattle.rmt_config.specs.declared.config.TailOf.{TailOf}
+use Rattle.rmt_ptcam.specs.Types.{TailOf}
 use Rattle.rmt_ptcam.proofs.SearchLaws.{tail_read, tail_later, tail_nowhere}
 use Rattle.rmt_ptcam.proofs.search.entry_tail.Goals as goal
 

@@ -1,7 +1,7 @@
 use Rattle.std.proofs.Common.{ltb, arith, rules}
 use Rattle.std.proofs.lemmas.Bool.{ltb-true, ltb-false}
 use Rattle.std.proofs.lemmas.List.Sorted.{IsPartitionPoint-from_clause, IsPartitionedBy-ltb}
-use Rattle.rmt_config.specs.declared.config.TailOf.{TailOf}
+use Rattle.rmt_ptcam.specs.Types.{TailOf}
 use Rattle.rmt_ptcam.proofs.search.first_tail.Goals as goal
 
 pub returns-clause-before : goal.returns-clause-before

@@ -1,5 +1,5 @@
 use Rattle.std.proofs.Common.{◌≡◌, ◌+◌, ◌-◌, List, take, drop, fold, ap, ◌∙◌, arith}
-use Rattle.rmt_config.specs.declared.config.Extract.{Extract}
+use Rattle.rmt_ptcam.specs.Types.{Extract}
 use Rattle.rmt_config.specs.Parser.{extracted}
 use Rattle.rmt_ptcam.proofs.ParseLaws.{step_with_tail}
 use Rattle.rmt_ptcam.proofs.step.take_entry.Goals as goal

@@ -1,8 +1,8 @@
 use Rattle.std.proofs.Common.{◌<◌, List, length, sym, subst}
+use Rattle.rmt_ast.specs.declared.program.Program.{Program}
 use Rattle.rmt_ast.specs.declared.program.Table.{Table}
 use Rattle.rmt_ast.specs.WellFormed.{IsProgram, IsTable, Takes}
-use Rattle.rmt_ast.specs.declared.program.Program.{Program}
-use Rattle.std.specs.Prelude.{◌≡◌, ℕ, All, slice_index_or}
+use Rattle.std.specs.Prelude.{◌≡◌, ℕ, slice_index_or}
 use Rattle.rmt_phv.proofs.FieldCount.{few_fields}
 use Rattle.rmt_vliw.proofs.InstructionLaws.{takes_within, takes_folded}
 use Rattle.rmt_tests.proofs.actions.default_in.Goals as goal

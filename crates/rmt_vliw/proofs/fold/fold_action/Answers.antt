@@ -2,8 +2,7 @@ use Rattle.std.proofs.Common.{◌≡◌, ◌<◌, ◌∙◌, ℕ, List, [], Ok, 
 use Rattle.std.specs.Prelude.{slice_get, slice_index_or, fold, IsSomeAnd, Option, Result}
 use Rattle.std.proofs.lemmas.Option.{slice_get_read, same_Some}
 use Rattle.std.proofs.lemmas.Result.{err_from_is_err_and}
-use Rattle.rmt_ast.specs.declared.program.Action.{Action}
-use Rattle.rmt_ast.specs.declared.program.Assign.{Assign}
+use Rattle.rmt_vliw.specs.Types.{Action, Assign}
 use Rattle.rmt_vliw.specs.declared.value.Value.{Value}
 use Rattle.rmt_vliw.specs.declared.folded.Folded.{Folded}
 use Rattle.rmt_vliw.specs.declared.fault.ActionDeep.{ActionDeep}

@@ -1,7 +1,7 @@
 use Rattle.std.proofs.Common.{◌≡◌, drop}
 use Rattle.rmt_phv.specs.Packing.{map_ok}
 use Rattle.std.proofs.Common.{◌++◌}
-use Rattle.rmt_ast.specs.declared.program.Assign.{Assign}
+use Rattle.rmt_vliw.specs.Types.{Assign}
 use Rattle.std.specs.Prelude.{List}
 use Rattle.rmt_vliw.specs.Known.{told_values}
 use Rattle.rmt_vliw.proofs.fold.told.Given as goal

@@ -1,5 +1,5 @@
 use Rattle.std.proofs.Common.{List, [], map, refl}
-use Rattle.rmt_ast.specs.declared.program.Assign.{Assign}
+use Rattle.rmt_vliw.specs.Types.{Assign}
 use Rattle.rmt_vliw.specs.Operations.{operations_of, given}
 use Rattle.rmt_vliw.proofs.FormedLaws.{lanes_within, lanes_small}
 use Rattle.rmt_vliw.proofs.InstructionLaws.{does_with, is_formed_with, all_pushed}

@@ -1,6 +1,6 @@
 use Rattle.std.proofs.Common.{rules}
 use Rattle.std.proofs.lemmas.List.Sorted.{IsNonDecreasingBy-from_sort_by_key}
-use Rattle.rmt_config.specs.declared.config.Operation.{Operation}
+use Rattle.rmt_vliw.specs.Types.{Operation}
 use Rattle.rmt_vliw.specs.Operations.{IsInstruction}
 use Rattle.rmt_vliw.proofs.instructions.sorted.Goals as goal
 

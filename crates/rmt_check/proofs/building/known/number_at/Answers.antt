@@ -1,8 +1,7 @@
-use Rattle.std.proofs.Common.{ℕ, ◌<◌, ◌^◌, Option, unwrap_or, sym, subst}
+use Rattle.std.proofs.Common.{arith}
 use Rattle.rmt_check.specs.Standing.{named_at}
 use Rattle.rmt_check.proofs.Bounds.{field_small}
 use Rattle.rmt_check.proofs.building.known.number_at.Goals as goal
 
-pub number_or_0-requires : goal.number_or_0-requires
-number_or_0-requires c =
-    subst (λ (o : Option ℕ). unwrap_or o 0 < 2 ^ 32) (sym c.field.ensures) (field_small c.args.names.now c.requires (named_at c.args.key))
+pub overflow_cast-result : goal.overflow_cast-result
+overflow_cast-result c = grind (arith, field_small c.args.names.now (named_at c.args.key) c.requires)

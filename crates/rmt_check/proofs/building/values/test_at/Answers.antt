@@ -1,7 +1,7 @@
-use Rattle.std.proofs.Common.{ℕ, ◌≤◌, sym, subst}
+use Rattle.std.proofs.Common.{arith}
 use Rattle.rmt_check.specs.Standing.{named_at}
 use Rattle.rmt_check.proofs.Bounds.{width_narrow}
 use Rattle.rmt_check.proofs.building.values.test_at.Goals as goal
 
 pub test_of-requires : goal.test_of-requires
-test_of-requires c = subst (λ (w : ℕ). w ≤ 128) (sym c.width.ensures) (width_narrow c.args.names.now (named_at c.args.key) c.requires)
+test_of-requires c = grind (arith, width_narrow c.args.names.now (named_at c.args.key) c.requires)

@@ -1,5 +1,5 @@
 use Rattle.std.proofs.Common.{◌≡◌, map, take}
-use Rattle.rmt_check.specs.Numbering.{seen}
+use Rattle.rmt_ast.specs.NameList.{seen}
 use Rattle.rmt_check.proofs.names.lists.names_of.Given as goal
 
 abbrev pub invariant-loop-part : goal.invariant-loop-part

@@ -1,8 +1,7 @@
 use Rattle.std.proofs.Common.{◌≡◌, ◌++◌, ◌∷◌, [], List, fold, length, drop, sym, ap, ◌∙◌}
 use Rattle.std.specs.List.{enumerate_from}
 use Rattle.std.proofs.lemmas.List.{drop_all}
-use Rattle.rmt_syntax.specs.declared.tree.Tree.{Tree}
-use Rattle.rmt_check.specs.declared.source.NodeText.{NodeText}
+use Rattle.rmt_check.specs.Parts.{Tree, NodeText}
 use Rattle.rmt_check.specs.Reading.{all_added, with_arm, added, node_text}
 use Rattle.rmt_check.proofs.ReadingLaws.{arms, adds_of, added_other, added_statement}
 use Rattle.rmt_check.proofs.reading.control.+push_nodes.Goals as goal

@@ -2,5 +2,5 @@ use Rattle.std.proofs.Common.{◌≡◌, ◌++◌, drop}
 use Rattle.rmt_check.specs.Reading.{words}
 use Rattle.rmt_check.proofs.reading.fields.words.Given as goal
 
-abbrev pub invariant-loop-tree : goal.invariant-loop-tree
-invariant-loop-tree l = l.found.items ++ words (drop l.tree-index l.trees) ≡ words l.trees
+abbrev pub invariant-loop-at : goal.invariant-loop-at
+invariant-loop-at l = l.found ++ words (drop l.at l.trees) ≡ words l.trees

@@ -1,6 +1,6 @@
 use Rattle.std.proofs.Common.{◌≡◌, ◌++◌, map, drop}
 use Rattle.std.specs.Prelude.{filter_map}
-use Rattle.rmt_check.specs.declared.source.NodeText.{NodeText}
+use Rattle.rmt_check.specs.Parts.{NodeText}
 use Rattle.rmt_check.specs.Names.{applied}
 use Rattle.rmt_check.proofs.rules.applied.applied_tables.Given as goal
 

@@ -1,6 +1,6 @@
 use Rattle.std.proofs.Common.{◌≡◌, map, take}
 use Rattle.rmt_check.specs.Names.{ident_names}
-use Rattle.rmt_check.specs.Numbering.{seen}
+use Rattle.rmt_ast.specs.NameList.{seen}
 use Rattle.rmt_check.proofs.rules.applied.names_of.Given as goal
 
 abbrev pub invariant-loop-table : goal.invariant-loop-table

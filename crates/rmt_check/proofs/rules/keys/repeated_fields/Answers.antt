@@ -1,7 +1,6 @@
 use Rattle.std.proofs.Common.{map, ap, ◌∙◌}
 use Rattle.std.proofs.lemmas.List.{take_all}
-use Rattle.rmt_lexer.specs.declared.place.Place.{Place}
-use Rattle.rmt_check.specs.declared.source.FieldText.{FieldText}
+use Rattle.rmt_check.specs.Parts.{Place, FieldText}
 use Rattle.rmt_check.specs.Names.{Named, named}
 use Rattle.rmt_check.proofs.SeenNames.{repeated_keys}
 use Rattle.rmt_check.proofs.rules.keys.repeated_fields.Goals as goal

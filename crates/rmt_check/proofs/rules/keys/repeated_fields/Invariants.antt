@@ -1,6 +1,5 @@
 use Rattle.std.proofs.Common.{◌≡◌, map, take}
-use Rattle.rmt_lexer.specs.declared.place.Place.{Place}
-use Rattle.rmt_check.specs.declared.source.FieldText.{FieldText}
+use Rattle.rmt_check.specs.Parts.{Place, FieldText}
 use Rattle.rmt_check.specs.Names.{Named, named}
 use Rattle.rmt_check.specs.Standing.{named_at}
 use Rattle.rmt_check.proofs.rules.keys.repeated_fields.Given as goal

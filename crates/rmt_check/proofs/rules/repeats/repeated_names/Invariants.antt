@@ -1,5 +1,5 @@
 use Rattle.std.proofs.Common.{◌≡◌, map, take}
-use Rattle.rmt_check.specs.Seen.{told_ident}
+use Rattle.rmt_check.proofs.SeenNames.{told_ident}
 use Rattle.rmt_check.proofs.rules.repeats.repeated_names.Given as goal
 
 abbrev pub invariant-loop-item : goal.invariant-loop-item

@@ -1,6 +1,6 @@
 use Rattle.std.proofs.Common.{◌≡◌, List, Option, take, zip}
 use Rattle.std.specs.List.{flat_map}
-use Rattle.rmt_lexer.specs.declared.place.Place.{Place}
+use Rattle.rmt_check.specs.Parts.{Place}
 use Rattle.rmt_check.specs.Rules.{earliest}
 use Rattle.rmt_check.proofs.rules.search.earliest_beside.Given as goal
 

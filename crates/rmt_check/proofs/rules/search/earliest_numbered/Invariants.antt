@@ -1,6 +1,6 @@
 use Rattle.std.proofs.Common.{◌≡◌, ℕ, List, Option, take}
 use Rattle.std.specs.List.{enumerate_from, flat_map}
-use Rattle.rmt_lexer.specs.declared.place.Place.{Place}
+use Rattle.rmt_check.specs.Parts.{Place}
 use Rattle.rmt_check.specs.Rules.{earliest}
 use Rattle.rmt_check.proofs.rules.search.earliest_numbered.Given as goal
 

@@ -1,6 +1,6 @@
 use Rattle.std.proofs.Common.{List, [], ◌∷◌, ℕ, ap, ap₂, ◌∙◌}
 use Rattle.std.specs.List.{flat_map}
-use Rattle.rmt_check.specs.declared.source.ArmText.{ArmText}
+use Rattle.rmt_check.specs.Parts.{ArmText}
 use Rattle.rmt_check.specs.Names.{table_names, ident_names, listed_by}
 use Rattle.rmt_check.specs.Rules.{earliest, unknown, arm_names}
 use Rattle.rmt_check.proofs.rules.unknown.unknown_in_node.Goals as goal

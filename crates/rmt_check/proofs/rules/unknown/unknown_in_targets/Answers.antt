@@ -1,5 +1,5 @@
 use Rattle.std.proofs.Common.{rules}
-use Rattle.rmt_check.proofs.Targets.{at_targets}
+use Rattle.rmt_check.proofs.Earliest.{at_targets}
 use Rattle.rmt_check.proofs.rules.unknown.unknown_in_targets.Goals as goal
 
 pub returns : goal.returns

@@ -1,5 +1,5 @@
 use Rattle.std.proofs.Common.{ℕ, ◌+◌, ◌<◌, ◌≤◌, get_or, refl, sym, ap, ◌∙◌, subst, arith}
-use Rattle.rmt_config.specs.declared.config.Config.{Config}
+use Rattle.rmt_chip.specs.Types.{Config}
 use Rattle.rmt_config.specs.ChipRun.{own_look, latency_of}
 use Rattle.rmt_chip.specs.Held.{HoldsIf}
 use Rattle.rmt_chip.specs.Inputs.{entered_at}

@@ -1,10 +1,9 @@
 use Rattle.std.proofs.Common.{◌≡◌, List, ◌*◌, length, map, refl, ap, ◌∙◌, subst, arith}
-use Rattle.rmt_config.specs.declared.config.CellNumber.{CellNumber}
+use Rattle.rmt_chip.specs.Types.{SramRow, CellNumber}
 use Rattle.rmt_config.specs.declared.form.layout.Layout.{Layout}
 use Rattle.rmt_config.specs.LaneForm.{bits_of_lanes}
 use Rattle.rmt_config.specs.Shapes.{divided_up}
 use Rattle.rmt_config.specs.Cells.{sram_row, cell_of, data_at}
-use Rattle.rmt_config.specs.declared.config.SramRow.{SramRow}
 use Rattle.rmt_chip.specs.Laying.{runs_of, StartsByRow}
 use Rattle.rmt_chip.specs.Packings.{layout_of}
 use Rattle.rmt_chip.proofs.LayLaws.{cells-below, exact-heads, exact-keys}

@@ -3,7 +3,7 @@ use Rattle.std.proofs.lemmas.List.{take_all}
 use Rattle.rmt_bits.specs.Bits.{slice}
 use Rattle.rmt_config.specs.Shapes.{divided_up}
 use Rattle.rmt_config.specs.Cells.{sram_row}
-use Rattle.rmt_config.specs.declared.config.CellNumber.{CellNumber}
+use Rattle.rmt_chip.specs.Types.{CellNumber}
 use Rattle.rmt_chip.specs.Laying.{entry_of, runs_of}
 use Rattle.rmt_chip.specs.Packings.{layout_of}
 use Rattle.rmt_chip.proofs.RunLaws.{length-runs}

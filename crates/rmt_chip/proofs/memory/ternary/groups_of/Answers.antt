@@ -1,7 +1,6 @@
 use Rattle.std.proofs.Common.{◌≡◌, ◌<◌, ◌%◌, ◌++◌, ◌∷◌, [], ℕ, List, length, take, map, get_or, sym, ap, subst, ◌∙◌, arith}
 use Rattle.std.proofs.lemmas.List.{take_more, take_all, length-take-le, length-map, map_push}
-use Rattle.rmt_config.specs.declared.config.CellNumber.{CellNumber}
-use Rattle.rmt_config.specs.declared.config.TcamRow.{TcamRow}
+use Rattle.rmt_chip.specs.Types.{TcamRow, CellNumber}
 use Rattle.rmt_config.specs.Cells.{tcam_row}
 use Rattle.rmt_chip.specs.Grouping.{Compared, AreGrouped, AreIndexed}
 use Rattle.rmt_chip.specs.Comparing.{compared_at}

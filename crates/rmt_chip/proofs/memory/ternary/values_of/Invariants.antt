@@ -1,5 +1,5 @@
 use Rattle.std.proofs.Common.{◌≡◌, take, map}
-use Rattle.rmt_config.specs.declared.config.TcamRow.{TcamRow}
+use Rattle.rmt_chip.specs.Types.{TcamRow}
 use Rattle.rmt_config.specs.Cells.{tcam_row}
 use Rattle.rmt_chip.proofs.memory.ternary.values_of.Given as goal
 

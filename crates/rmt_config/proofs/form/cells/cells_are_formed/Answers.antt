@@ -2,7 +2,7 @@ use Rattle.std.proofs.Common.{◌≡◌, ℕ, ◌+◌, ◌*◌, ltb, sym, ap, �
 use Rattle.std.proofs.lemmas.Bool.{ltb-true}
 use Rattle.std.proofs.lemmas.List.Folds.{list_all-map}
 use Rattle.std.proofs.lemmas.List.Sums.{AllPass-from_list_all}
-use Rattle.rmt_config.specs.declared.config.CellNumber.{CellNumber}
+use Rattle.rmt_config.specs.Types.{CellNumber}
 use Rattle.rmt_config.proofs.form.cells.cells_are_formed.Goals as goal
 
 pub heads_fit-requires-clause-cells : goal.heads_fit-requires-clause-cells

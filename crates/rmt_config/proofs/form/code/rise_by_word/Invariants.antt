@@ -1,5 +1,5 @@
 use Rattle.std.proofs.Common.{◌≡◌, drop, map}
-use Rattle.rmt_config.specs.declared.config.Operation.{Operation}
+use Rattle.rmt_config.specs.Types.{Operation}
 use Rattle.rmt_config.specs.Order.{rises_from}
 use Rattle.rmt_config.proofs.form.code.rise_by_word.Given as goal
 

@@ -1,5 +1,5 @@
 use Rattle.std.proofs.Common.{◌≡◌, ◌++◌, take, map}
-use Rattle.rmt_config.specs.declared.config.CellNumber.{CellNumber}
+use Rattle.rmt_config.specs.Types.{CellNumber}
 use Rattle.rmt_config.proofs.form.numbers.put_numbers.Given as goal
 
 abbrev pub invariant-loop-cell : goal.invariant-loop-cell

@@ -1,5 +1,5 @@
 use Rattle.std.proofs.Common.{◌≡◌, drop, map}
-use Rattle.rmt_config.specs.declared.config.ParserEntry.{ParserEntry}
+use Rattle.rmt_config.specs.Types.{ParserEntry}
 use Rattle.rmt_config.specs.Order.{never_falls_from}
 use Rattle.rmt_config.proofs.form.parser.stand_by_state.Given as goal
 

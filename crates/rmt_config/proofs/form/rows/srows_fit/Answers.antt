@@ -1,5 +1,5 @@
 use Rattle.std.proofs.Common.{◌<◌, get_or, arith}
-use Rattle.rmt_config.specs.declared.config.SramRow.{SramRow}
+use Rattle.rmt_config.specs.Types.{SramRow}
 use Rattle.rmt_config.specs.StageForm.{srow_is_formed}
 use Rattle.rmt_config.proofs.RowForm.{all_step, srow_passes}
 use Rattle.rmt_config.proofs.form.rows.srows_fit.Goals as goal

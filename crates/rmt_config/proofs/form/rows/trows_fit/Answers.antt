@@ -1,5 +1,5 @@
 use Rattle.std.proofs.Common.{◌<◌, get_or, arith}
-use Rattle.rmt_config.specs.declared.config.TcamRow.{TcamRow}
+use Rattle.rmt_config.specs.Types.{TcamRow}
 use Rattle.rmt_config.specs.StageForm.{trow_is_formed}
 use Rattle.rmt_config.proofs.RowForm.{all_step, trow_passes}
 use Rattle.rmt_config.proofs.form.rows.trows_fit.Goals as goal

@@ -1,6 +1,6 @@
 use Rattle.std.proofs.Common.{◌∙◌}
 use Rattle.std.proofs.lemmas.Bool.{le-ltb}
-use Rattle.rmt_config.specs.declared.config.CellNumber.{CellNumber}
+use Rattle.rmt_config.specs.Types.{CellNumber}
 use Rattle.rmt_config.proofs.RiseLaws.{listed-by_search, listed-past}
 use Rattle.rmt_config.proofs.form.search.is_cell_listed.Goals as goal
 

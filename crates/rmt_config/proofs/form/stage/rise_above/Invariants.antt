@@ -1,5 +1,5 @@
 use Rattle.std.proofs.Common.{◌≡◌, drop, map}
-use Rattle.rmt_config.specs.declared.config.Stage.{Stage}
+use Rattle.rmt_config.specs.Types.{Stage}
 use Rattle.rmt_config.specs.Order.{rises_from}
 use Rattle.rmt_config.proofs.form.stage.rise_above.Given as goal
 

@@ -1,5 +1,5 @@
 use Rattle.std.proofs.Common.{◌≡◌, ℕ, List, ◌++◌, map, subst, ap, sym, ◌∙◌}
-use Rattle.rmt_config.specs.declared.config.GateTest.{GateTest}
+use Rattle.rmt_config.specs.Types.{GateTest}
 use Rattle.rmt_config.specs.Resources.{words_of, ternary_words, key_words_if_ternary}
 use Rattle.rmt_config.specs.LimitSteps.{Marks}
 use Rattle.rmt_config.proofs.limits.marks.mark_ternary.Goals as goal

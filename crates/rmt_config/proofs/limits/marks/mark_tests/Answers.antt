@@ -1,5 +1,5 @@
 use Rattle.std.proofs.Common.{ℕ, List, ◌++◌, take, map, subst, arith}
-use Rattle.rmt_config.specs.declared.config.GateTest.{GateTest}
+use Rattle.rmt_config.specs.Types.{GateTest}
 use Rattle.rmt_config.specs.LimitSteps.{Marks}
 use Rattle.rmt_config.proofs.LimitLemmas.{front_more, marks_of_all}
 use Rattle.rmt_config.proofs.limits.marks.mark_tests.Goals as goal

@@ -1,6 +1,6 @@
 use Rattle.std.proofs.Common.{◌≡◌, drop, max}
 use Rattle.std.specs.List.{fold}
-use Rattle.rmt_config.specs.declared.config.Unit.{Unit}
+use Rattle.rmt_config.specs.Types.{Unit}
 use Rattle.rmt_config.specs.Resources.{unit_width, greatest_by}
 use Rattle.rmt_config.proofs.limits.total.greatest_width.Given as goal
 

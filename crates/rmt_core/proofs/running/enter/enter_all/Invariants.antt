@@ -2,7 +2,7 @@
 use Rattle.std.proofs.Common.{◌≡◌, ◌≤◌, ◌-◌, ℕ, List, [], length, IsTrue, Some}
 use Rattle.std.specs.Prelude.{map}
 use Rattle.rmt_bits.specs.Packet.{Packet}
-use Rattle.rmt_config.specs.declared.config.Config.{Config}
+use Rattle.rmt_core.specs.Types.{Config}
 use Rattle.rmt_core.specs.declared.watch.Watch.{Watch}
 use Rattle.rmt_core.specs.ReadsOn.{ReadsOn}
 use Rattle.rmt_core.specs.Running.{Goes}

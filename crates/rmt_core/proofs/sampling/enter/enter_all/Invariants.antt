@@ -1,6 +1,6 @@
 -- The packets before the next line have entered.
 use Rattle.std.proofs.Common.{◌≤◌, ◌+◌, ◌-◌, [], length}
-use Rattle.rmt_config.specs.declared.config.Config.{Config}
+use Rattle.rmt_core.specs.Types.{Config}
 use Rattle.rmt_core.specs.Tallies.{IsBounded, StandsFor}
 use Rattle.rmt_core.proofs.TallyLaws.{Reached}
 use Rattle.rmt_core.proofs.sampling.enter.enter_all.Given as goal

@@ -2,7 +2,7 @@
 use Rattle.std.proofs.Common.{List, ◌++◌, Option, None}
 use Rattle.std.specs.Prelude.{replicate}
 use Rattle.rmt_bits.specs.Packet.{Packet}
-use Rattle.rmt_config.specs.declared.config.Config.{Config}
+use Rattle.rmt_core.specs.Types.{Config}
 use Rattle.rmt_core.specs.Tallies.{IsBounded, StandsFor}
 use Rattle.rmt_core.proofs.sampling.run.drain.Given as goal
 

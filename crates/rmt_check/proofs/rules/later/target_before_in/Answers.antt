@@ -1,6 +1,0 @@
-use Rattle.std.proofs.Common.{rules}
-use Rattle.rmt_check.proofs.Targets.{at_targets}
-use Rattle.rmt_check.proofs.rules.later.target_before_in.Goals as goal
-
-pub returns : goal.returns
-returns c = rw at_targets (search (rules, c.earlier.ensures.joined, c.earliest_of-cases.ensures))

@@ -1,0 +1,68 @@
+//! Code 11, sums of at most 32 bits, and code 12, the field that no action may assign.
+
+ghost use Rattle.std.specs.Prelude.{◌≡◌};
+ghost use Rattle.rmt_check.specs.Names.{in_port, named, same_field};
+ghost use Rattle.rmt_check.specs.Rules as rules;
+ghost use Rattle.rmt_check.specs.Rules.{broken_11, broken_12, earliest};
+
+use crate::names::Names;
+use crate::names::fields::INTRINSIC;
+use crate::rules::places::place_when;
+use crate::rules::search::earliest_of;
+use crate::source::{FieldText, LeafText, Sign};
+use rmt_ast::program::Op;
+use rmt_lexer::place::Place;
+
+fn is_sum(op: Op) -> bool
+    ensures { result ≡ rules.is_sum op }
+{
+    match op {
+        Op::Add => true,
+        Op::Sub => true,
+        Op::And => false,
+        Op::Or => false,
+        Op::Xor => false,
+    }
+}
+
+/// Where a sum goes into more than 32 bits.
+fn wide_sign(width: u128, right: &Option<(Sign, LeafText)>) -> Option<Place>
+    ensures { result ≡ earliest (rules.wide_sign width right.now) }
+{
+    match right {
+        Some((sign, _)) => place_when(is_sum(sign.op) && 32 < width, sign.place),
+        None => None,
+    }
+}
+
+/// Where `+` or `-` goes into a field of more than 32 bits.
+pub fn wide_arithmetic(names: &Names<'_>) -> Option<Place>
+    ensures { result ≡ earliest (broken_11 names.now) }
+{
+    let source = names.source();
+    earliest_of(source.actions.as_slice(), |action| {
+        earliest_of(action.assigns.as_slice(), |assign| {
+            wide_sign(names.width_of(&assign.dest), &assign.expr.right)
+        })
+    })
+}
+
+#[tactic(auto, using(crate::proofs::FieldCodes::owner_same))]
+fn is_in_port(names: &Names<'_>, field: &FieldText) -> bool
+    ensures { result ≡ same_field (named names.now field.now) in_port }
+{
+    let (owner, name) = names.key(field);
+    owner == INTRINSIC && name == b"in_port".as_slice()
+}
+
+/// Where `in_port` is assigned.
+pub fn read_only(names: &Names<'_>) -> Option<Place>
+    ensures { result ≡ earliest (broken_12 names.now) }
+{
+    let source = names.source();
+    earliest_of(source.actions.as_slice(), |action| {
+        earliest_of(action.assigns.as_slice(), |assign| {
+            place_when(is_in_port(names, &assign.dest), assign.dest.place)
+        })
+    })
+}

@@ -1,6 +1,0 @@
-use Rattle.std.proofs.Common.{take}
-use Rattle.rmt_entries.specs.Names.{HasNumbers, bytes_of, seen}
-use Rattle.rmt_entries.proofs.names.first_places.Given as goal
-
-abbrev pub invariant-loop-place : goal.invariant-loop-place
-invariant-loop-place l = HasNumbers bytes_of l.numbers.entries (seen (take l.place l.names))
