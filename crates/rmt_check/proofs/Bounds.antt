@@ -1,5 +1,5 @@
 -- The sizes of a text's parts, from the rules that it keeps.
-use Rattle.std.proofs.Common.{◌≡◌, ℕ, ◌+◌, ◌-◌, ◌*◌, ◌<◌, ◌≤◌, ◌%◌, ◌^◌, ◌==◌, ◌&&◌, List, [], ◌∷◌, ◌++◌, true, not, nat_le, None, Some, Option, unwrap_or, option_map, option_to_list, map, find, filter_map, length, drop, take, get_or, sum, codes, All, refl, inl, inr, sym, ap, subst, lit≤, lit<, arith}
+use Rattle.std.proofs.Common.{◌≡◌, ℕ, ◌+◌, ◌-◌, ◌*◌, ◌<◌, ◌≤◌, ◌%◌, ◌^◌, ◌==◌, ◌&&◌, List, [], ◌∷◌, true, not, nat_le, None, Some, Option, unwrap_or, option_map, option_to_list, map, find, filter_map, length, drop, take, get_or, sum, codes, All, refl, inl, inr, sym, ap, subst, lit≤, lit<, arith}
 use Rattle.std.specs.List.{flat_map, enumerate_from, cons_option}
 use Rattle.std.specs.Option.{IfSome, option_map_or}
 use Rattle.std.specs.Str.{bytes_eq}

@@ -5,7 +5,7 @@ use Rattle.std.proofs.lemmas.Bool.Decides.{nat_tests}
 use Rattle.std.proofs.lemmas.List.{take_more, map_more, take_all, append-nil}
 use Rattle.std.proofs.lemmas.List.Concat.{flat_map-append}
 use Rattle.std.proofs.lemmas.List.FromFn.{length-enumerate_from, get_or-enumerate_from}
-use Rattle.rmt_check.specs.Parts.{Place, Ident, CaseText, HeaderText}
+use Rattle.rmt_check.specs.Parts.{Place, Ident, CaseText, HeaderText, Source}
 use Rattle.rmt_check.specs.Rules.{is_before, earlier, earliest, target_names, targets}
 
 -- what is before a place that is before a third is before that
@@ -92,10 +92,18 @@ flat_map-flat_map f g [] = refl
 flat_map-flat_map f g (x ∷ xs) = flat_map-append f (g x) (flat_map g xs) ∙ ap (λ ys. flat_map f (g x) ++ ys) (flat_map-flat_map f g xs)
 
 -- what is broken at the targets of a header: by its cases and the last one
-pub at_targets : (f : Ident → List Place) (h : HeaderText) → flat_map f (targets h) ≡ flat_map (λ (c : CaseText). flat_map f (target_names c.target)) h.cases ++ flat_map f (target_names h.other)
+at_targets : (f : Ident → List Place) (h : HeaderText) → flat_map f (targets h) ≡ flat_map (λ (c : CaseText). flat_map f (target_names c.target)) h.cases ++ flat_map f (target_names h.other)
 at_targets f h =
     flat_map-append f (flat_map (λ (c : CaseText). target_names c.target) h.cases) (target_names h.other)
     ∙ ap (λ (ps : List Place). ps ++ flat_map f (target_names h.other)) (flat_map-flat_map f (λ (c : CaseText). target_names c.target) h.cases)
+
+pub targets_joined : (f : Ident → List Place) (h : HeaderText) (p : Option Place) → p ≡ earliest (flat_map (λ (c : CaseText). flat_map f (target_names c.target)) h.cases ++ flat_map f (target_names h.other))
+    → p ≡ earliest (flat_map f (targets h))
+targets_joined f h p e = e ∙ ap earliest (sym (at_targets f h))
+
+-- what is found beside names of the text
+pub shared_text : {N T : Type 0} (text : N → Source) (broken : Source → T → List Place) (shared names : N) (x : T) (p : Option Place) → names ≡ shared → p ≡ earliest (broken (text names) x) → p ≡ earliest (broken (text shared) x)
+shared_text text broken shared names x p same found = found ∙ ap (λ n. earliest (broken (text n) x)) same
 
 -- for the attribute of a function that joins what was found
 pub ruleset joins = (earliest-append)

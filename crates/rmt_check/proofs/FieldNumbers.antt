@@ -1,14 +1,13 @@
 -- The numbers of fields by their keys.
-use Rattle.std.proofs.Common.{◌≡◌, ℕ, ◌+◌, ◌<◌, List, ◌++◌, ◌∷◌, [], map, take, get_or, length, position, None, Some, sym, ap, ◌∙◌, arith}
+use Rattle.std.proofs.Common.{◌≡◌, ℕ, ◌+◌, ◌<◌, List, ◌++◌, ◌∷◌, [], take, get_or, length, None, Some, sym, ap, ◌∙◌, arith}
 use Rattle.std.specs.Borrow.{Bor}
 use Rattle.std.specs.Map.{lookup}
 use Rattle.std.specs.Str.{bytes_eq}
 use Rattle.std.proofs.lemmas.List.{take_more, map_push, length-map, length-take}
 use Rattle.indexmap.specs.IndexMap.{IndexMap, get, insert_entry}
-use Rattle.rmt_check.specs.Parts.{Source}
 use Rattle.rmt_ast.specs.NameList.{HasNumbers, number_of}
-use Rattle.rmt_check.specs.Names.{Known, fields_of, field_place, same_field}
-use Rattle.rmt_check.specs.Standing.{all_codes, code, stored, named_at}
+use Rattle.rmt_check.specs.Names.{Known}
+use Rattle.rmt_check.specs.Standing.{all_codes, code, stored, named_at, place_among}
 use Rattle.rmt_check.proofs.FieldCodes.{place-code, stored-code}
 use Rattle.rmt_ast.proofs.NameListLaws.{same, number_new, numbers_again}
 
@@ -27,8 +26,7 @@ module _ {S : Type 0} (m : IndexMap (ℕ × Bor (List ℕ)) ℕ S) (fs : List Kn
   field_again v some = rw more (numbers_again stored m.entries (all_codes (take i fs)) (stored k) v old some)
 
 -- the number of a field is found by its key
-pub number_found : (s : Source) (fs : List Known) (es : List ((ℕ × Bor (List ℕ)) × ℕ)) (k : ℕ × Bor (List ℕ)) → HasNumbers stored es (all_codes fs) → fs ≡ fields_of s
-    → lookup (λ x. bytes_eq (stored k) (stored x)) es ≡ field_place s (named_at k)
-number_found s fs es k h is =
+pub number_found : (fs : List Known) (es : List ((ℕ × Bor (List ℕ)) × ℕ)) (k : ℕ × Bor (List ℕ)) → HasNumbers stored es (all_codes fs)
+    → lookup (λ x. bytes_eq (stored k) (stored x)) es ≡ place_among fs (named_at k)
+number_found fs es k h =
     h.at (stored k) ∙ ap (number_of (all_codes fs)) (stored-code k) ∙ sym (place-code (λ (f : Known). f.named) (named_at k) fs)
-    ∙ ap (λ (xs : List Known). position (same_field (named_at k)) (map (λ (f : Known). f.named) xs)) is

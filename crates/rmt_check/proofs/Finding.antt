@@ -1,5 +1,5 @@
 -- What stands at the number of a name.
-use Rattle.std.proofs.Common.{◌≡◌, ℕ, zero, suc, get_or, ◌+◌, ◌<◌, ◌≤◌, List, [], ◌∷◌, Bool, true, false, not, cond, ◌||◌, Some, option_map, unwrap_or, map, find, slice_get, length, refl, sym, ap, subst, ◌∙◌, arith, Option, one-add}
+use Rattle.std.proofs.Common.{◌≡◌, ℕ, zero, suc, get_or, ◌+◌, ◌<◌, List, [], ◌∷◌, Bool, true, false, not, cond, ◌||◌, Some, option_map, unwrap_or, map, find, slice_get, length, refl, sym, ap, subst, ◌∙◌, arith, Option, one-add}
 use Rattle.std.specs.List.{position_or_len}
 use Rattle.std.specs.Str.{bytes_eq}
 use Rattle.std.proofs.lemmas.List.{length-map, map-id}

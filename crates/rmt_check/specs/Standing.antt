@@ -1,9 +1,9 @@
 -- How fields are stored for look-ups.
 -- A helper: no public contract cites it.
-use Rattle.std.specs.Prelude.{ℕ, zero, suc, List, ◌∷◌, map}
+use Rattle.std.specs.Prelude.{ℕ, zero, suc, List, ◌∷◌, Option, map, position}
 use Rattle.std.specs.Borrow.{Bor}
 use Rattle.rmt_check.specs.Parts.{TableText}
-use Rattle.rmt_check.specs.Names.{Known, Owner, of_all, of_metadata, of_header, Named, own, ident_names, listed}
+use Rattle.rmt_check.specs.Names.{Known, Owner, of_all, of_metadata, of_header, Named, own, same_field, ident_names, listed}
 
 -- A field is stored by a number for its owner in front of its own name: 0 for what every program has, 1 for the metadata,
 -- 2 and more for the headers.
@@ -31,6 +31,10 @@ stored k = k.0 ∷ k.1.now
 -- what some fields are stored by
 abbrev pub all_codes : List Known → List (List ℕ)
 all_codes fs = map (λ (f : Known). code f.named) fs
+
+-- the number of a field among some: the place of the first that is the same
+abbrev pub place_among : List Known → Named → Option ℕ
+place_among fs x = position (same_field x) (map (λ (f : Known). f.named) fs)
 
 -- of each table, the names of the actions of its list
 abbrev pub list_names : List TableText → List (List (List ℕ))

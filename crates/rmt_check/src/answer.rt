@@ -9,6 +9,7 @@ ghost use Rattle.rmt_check.specs.Checking.{broken_by, Checks};
 
 use crate::building::build;
 use crate::names::Names;
+use crate::names::lookup::Lookup;
 use crate::reading::read;
 use crate::rules::{
     applied, arguments, assigned, counts, keys, later, name_twice, same_width, unknown, widths,
@@ -21,10 +22,10 @@ use rmt_syntax::tree::Tree;
 use std::alloc::{AllocError, Global};
 
 /// The earliest place at which the rule of a code is broken.
-fn broken_at(alloc: Global, names: &Names<'_>, code: u8) -> Result<Option<Place>, AllocError>
+fn broken_at<N: Lookup>(alloc: Global, names: &N, code: u8) -> Result<Option<Place>, AllocError>
     requires first { 5 ≤ code }
     requires last { code < 22 }
-    ensures { IfOk result (λ p. p ≡ earliest (broken_by code names.now)) }
+    ensures { IfOk result (λ p. p ≡ earliest (broken_by code (N.text names.now))) }
 {
     let source = names.source();
     match code {
@@ -50,8 +51,8 @@ fn broken_at(alloc: Global, names: &Names<'_>, code: u8) -> Result<Option<Place>
 }
 
 /// Checks every rule, in the order of their codes.
-fn check_rules(alloc: Global, names: &Names<'_>) -> Result<(), ProgramFault>
-    ensures { Checks (broken names.now) result }
+fn check_rules<N: Lookup>(alloc: Global, names: &N) -> Result<(), ProgramFault>
+    ensures { Checks (broken (N.text names.now)) result }
 {
     for code in 5..22 {
         if let Some(place) = broken_at(alloc, names, code)? {
@@ -66,9 +67,9 @@ fn check_rules(alloc: Global, names: &Names<'_>) -> Result<(), ProgramFault>
 }
 
 /// The program of a text, given its names, whose nodes stand in arms of its nodes.
-fn check_named(alloc: Global, names: &Names<'_>) -> Result<Program, ProgramFault>
-    requires { AreNested names.now }
-    ensures { Answers names.now result }
+fn check_named<N: Lookup>(alloc: Global, names: &N) -> Result<Program, ProgramFault>
+    requires { AreNested (N.text names.now) }
+    ensures { Answers (N.text names.now) result }
 {
     check_rules(alloc, names)?;
     Ok(build(alloc, names)?)

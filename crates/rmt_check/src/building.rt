@@ -10,7 +10,7 @@ use crate::building::headers::headers_of;
 use crate::building::mapped::mapped;
 use crate::building::nodes::node_of;
 use crate::building::tables::table_of;
-use crate::names::Names;
+use crate::names::lookup::Lookup;
 use crate::rules::parts::nodes_of;
 use rmt_ast::program::Program;
 use std::alloc::{AllocError, Global};
@@ -26,14 +26,10 @@ mod tables;
 mod values;
 
 /// The program that a text means, of which each part is within the bounds of the rules.
-///
-/// # Errors
-///
-/// For want of memory.
-pub fn build(alloc: Global, names: &Names<'_>) -> Result<Program, AllocError>
-    requires sized { IsSized names.now }
-    requires nested { AreNested names.now }
-    ensures program { IfOk result (λ program. program ≡ program_of names.now) }
+pub fn build<N: Lookup>(alloc: Global, names: &N) -> Result<Program, AllocError>
+    requires sized { IsSized (N.text names.now) }
+    requires nested { AreNested (N.text names.now) }
+    ensures program { IfOk result (λ program. program ≡ program_of (N.text names.now)) }
 {
     let source = names.source();
     Ok(Program {

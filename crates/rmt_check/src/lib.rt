@@ -1,4 +1,5 @@
-//! Checks the rules of form of a packet program, and gives the program that its text means.
+//! Checks the rules of form of a packet program, and gives the program that its text means. Inside, what answers
+//! `AllocError` fails for want of memory alone.
 #![tactic(auto)]
 
 mod answer;

@@ -29,7 +29,6 @@ fn parts(tree: &Tree) -> &[Tree]
 }
 
 /// The parts of a program's text. Parts that the grammar asks for and that the tree lacks are nowhere and have no name.
-/// The only fault is want of memory.
 pub fn read(alloc: Global, tree: &Tree) -> Result<Source, AllocError>
     ensures source { IfOk result (λ source. source ≡ source_of tree.now) }
 {

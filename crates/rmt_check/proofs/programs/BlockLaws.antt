@@ -1,5 +1,5 @@
 -- The fields of a text that breaks no rule: those of each header stand one after another, in the order of the text.
-use Rattle.std.proofs.Common.{◌≡◌, ℕ, zero, suc, ◌+◌, ◌<◌, ◌≤◌, List, [], ◌∷◌, ◌++◌, Some, Option, option_map, unwrap_or, codes, length, slice_get, refl, sym, ap, ap₂, subst, ◌∙◌, append_assoc, length-append, zero-add, arith, drop}
+use Rattle.std.proofs.Common.{◌≡◌, ℕ, zero, suc, ◌+◌, List, [], ◌∷◌, ◌++◌, Some, Option, option_map, unwrap_or, codes, length, slice_get, refl, sym, ap, ap₂, subst, ◌∙◌, append_assoc, length-append, zero-add, arith, drop}
 use Rattle.std.specs.List.{flat_map, range_with_len, enumerate_from}
 use Rattle.std.proofs.lemmas.List.{length-map}
 use Rattle.std.proofs.lemmas.List.Concat.{flat_map-append}

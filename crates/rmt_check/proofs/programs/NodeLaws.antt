@@ -1,5 +1,5 @@
 -- The nodes of a text that breaks no rule, of which exactly one applies each table.
-use Rattle.std.proofs.Common.{◌≡◌, ◌≢◌, ℕ, zero, suc, ◌+◌, ◌-◌, ◌/◌, ◌^◌, ◌%◌, min, List, [], ◌∷◌, None, Some, Option, option_map, map, take, bit_and, slice_get, refl, sym, ap, subst, ◌∙◌, arith, ◌<◌, Bool, true, false, cond, ◌||◌, ◌==◌, filter_map, count_by, All, ap₂, zero-add}
+use Rattle.std.proofs.Common.{◌≡◌, ◌≢◌, ℕ, zero, suc, ◌+◌, ◌-◌, ◌/◌, ◌^◌, ◌%◌, min, List, [], ◌∷◌, None, Some, Option, option_map, map, take, bit_and, slice_get, refl, sym, ap, subst, ◌∙◌, arith, Bool, true, false, cond, ◌||◌, ◌==◌, filter_map, count_by, All, ap₂, zero-add}
 use Rattle.std.specs.List.{flat_map, cons_option}
 use Rattle.std.specs.Option.{option_map_or}
 use Rattle.std.proofs.lemmas.List.{length-map}

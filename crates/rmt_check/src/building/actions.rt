@@ -6,7 +6,7 @@ ghost use Rattle.rmt_check.specs.Sizes.{IsSized, IsSizedAction};
 
 use crate::building::known::{field_number, number_among};
 use crate::building::mapped::mapped;
-use crate::names::Names;
+use crate::names::lookup::Lookup;
 use crate::names::params::ActionNames;
 use crate::reading::words::copy_name;
 use crate::source::{ActionText, AssignText, ExprText, LeafText};
@@ -15,10 +15,10 @@ use rmt_bits::sequence::Sequence;
 use std::alloc::{AllocError, Global};
 
 /// An operand of an assignment of this action.
-fn leaf_of(names: &Names<'_>, action: &ActionNames<'_>, leaf: &LeafText) -> Leaf
-    requires sized { IsSized names.now }
+fn leaf_of<N: Lookup>(names: &N, action: &ActionNames<'_>, leaf: &LeafText) -> Leaf
+    requires sized { IsSized (N.text names.now) }
     requires action { IsSizedAction action.now }
-    ensures { result ≡ leaf_of names.now action.now leaf.now }
+    ensures { result ≡ leaf_of (N.text names.now) action.now leaf.now }
 {
     match leaf {
         LeafText::Field(field) => Leaf::Field(field_number(names, field)),
@@ -29,10 +29,10 @@ fn leaf_of(names: &Names<'_>, action: &ActionNames<'_>, leaf: &LeafText) -> Leaf
     }
 }
 
-fn expr_of(names: &Names<'_>, action: &ActionNames<'_>, expr: &ExprText) -> Expr
-    requires sized { IsSized names.now }
+fn expr_of<N: Lookup>(names: &N, action: &ActionNames<'_>, expr: &ExprText) -> Expr
+    requires sized { IsSized (N.text names.now) }
     requires action { IsSizedAction action.now }
-    ensures { result ≡ expr_of names.now action.now expr.now.left expr.now.right }
+    ensures { result ≡ expr_of (N.text names.now) action.now expr.now.left expr.now.right }
 {
     let left = leaf_of(names, action, &expr.left);
     match &expr.right {
@@ -41,10 +41,10 @@ fn expr_of(names: &Names<'_>, action: &ActionNames<'_>, expr: &ExprText) -> Expr
     }
 }
 
-fn assign_of(names: &Names<'_>, action: &ActionNames<'_>, assign: &AssignText) -> Assign
-    requires sized { IsSized names.now }
+fn assign_of<N: Lookup>(names: &N, action: &ActionNames<'_>, assign: &AssignText) -> Assign
+    requires sized { IsSized (N.text names.now) }
     requires action { IsSizedAction action.now }
-    ensures { result ≡ assign_of names.now action.now assign.now }
+    ensures { result ≡ assign_of (N.text names.now) action.now assign.now }
 {
     Assign {
         dest: field_number(names, &assign.dest),
@@ -52,28 +52,38 @@ fn assign_of(names: &Names<'_>, action: &ActionNames<'_>, assign: &AssignText) -
     }
 }
 
-/// An action with the widths of its parameters.
-///
-/// # Errors
-///
-/// For want of memory.
-pub fn action_of(
+/// The assignments of an action.
+fn assigns_of<N: Lookup>(
     alloc: Global,
-    names: &Names<'_>,
+    names: &N,
     action: &ActionText,
-) -> Result<Action, AllocError>
-    requires sized { IsSized names.now }
+) -> Result<Sequence<Assign>, AllocError>
+    requires sized { IsSized (N.text names.now) }
     requires action { IsSizedAction action.now }
-    ensures { IfOk result (λ built. built ≡ action_of names.now action.now) }
+    ensures { IfOk result (λ assigns. assigns ≡ map (assign_of (N.text names.now) action.now) action.now.assigns) }
 {
     let own = ActionNames::of(alloc, action)?;
+    let assigns = mapped(alloc, action.assigns.as_slice(), |assign| {
+        Ok(assign_of(names, &own, assign))
+    })?;
+    Ok(assigns)
+}
+
+/// An action with the widths of its parameters.
+pub fn action_of<N: Lookup>(
+    alloc: Global,
+    names: &N,
+    action: &ActionText,
+) -> Result<Action, AllocError>
+    requires sized { IsSized (N.text names.now) }
+    requires action { IsSizedAction action.now }
+    ensures { IfOk result (λ built. built ≡ action_of (N.text names.now) action.now) }
+{
     Ok(Action {
         name: copy_name(alloc, &action.ident.name)?,
         params: mapped(alloc, action.params.as_slice(), |param| {
             Ok(param.width.value as u8)
         })?,
-        assigns: mapped(alloc, action.assigns.as_slice(), |assign| {
-            Ok(assign_of(names, &own, assign))
-        })?,
+        assigns: assigns_of(alloc, names, action)?,
     })
 }

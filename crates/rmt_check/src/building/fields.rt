@@ -5,8 +5,8 @@ ghost use Rattle.rmt_check.specs.Names.{fields_of};
 ghost use Rattle.rmt_check.specs.Meaning.{field_of};
 ghost use Rattle.rmt_check.specs.Sizes.{IsSized};
 
-use crate::names::Names;
 use crate::names::fields::KnownField;
+use crate::names::lookup::Lookup;
 use rmt_ast::name::Name;
 use rmt_ast::program::Field;
 use rmt_bits::sequence::Sequence;
@@ -24,13 +24,9 @@ fn field_of(alloc: Global, field: &KnownField<'_>) -> Result<Field, AllocError>
 }
 
 /// The fields of a text.
-///
-/// # Errors
-///
-/// For want of memory.
-pub fn fields_of(alloc: Global, names: &Names<'_>) -> Result<Sequence<Field>, AllocError>
-    requires { IsSized names.now }
-    ensures { IfOk result (λ fields. fields ≡ map field_of (fields_of names.now)) }
+pub fn fields_of<N: Lookup>(alloc: Global, names: &N) -> Result<Sequence<Field>, AllocError>
+    requires { IsSized (N.text names.now) }
+    ensures { IfOk result (λ fields. fields ≡ map field_of (fields_of (N.text names.now))) }
 {
     let mut fields = Sequence::new(alloc);
     for field in names.fields() {

@@ -11,7 +11,7 @@ ghost use Rattle.rmt_check.specs.Sizes.{IsSized, IsSizedHeader, IsSizedTail};
 use crate::building::known::{number_at, target_of};
 use crate::building::mapped::mapped;
 use crate::building::values::test_at;
-use crate::names::Names;
+use crate::names::lookup::{Lookup, own_key};
 use crate::reading::words::copy_name;
 use crate::source::{CaseText, HeaderText, TailText, ValueText};
 use rmt_ast::program::{Case, Header, Tail, Test};
@@ -23,12 +23,8 @@ fn bits_of(header: &HeaderText) -> u128
     requires { rules.bits_of header.now ≤ 512 }
     ensures { result ≡ rules.bits_of header.now }
 {
-    header
-        .fields
-        .as_slice()
-        .iter()
-        .map(|field| field.width.value)
-        .sum()
+    let fields = header.fields.as_slice();
+    fields.iter().map(|field| field.width.value).sum()
 }
 
 /// So many numbers, one after another.
@@ -40,33 +36,34 @@ fn numbers_from(alloc: Global, first: u32, count: u32) -> Result<Vec<u32>, Alloc
 }
 
 /// The tests of values for the fields of a header's select, as far as both go.
-fn tests_of(
+fn tests_of<N: Lookup>(
     alloc: Global,
-    names: &Names<'_>,
+    names: &N,
     header: &HeaderText,
     values: &[ValueText],
 ) -> Result<Vec<Test>, AllocError>
-    requires { IsSized names.now }
+    requires { IsSized (N.text names.now) }
     ensures { IfOk result (λ tests. tests.items
-        ≡ map (λ (x : Ident × ValueText). test_of (width_of names.now (selected names.now header.now x.0)) x.1) (zip header.now.select values.now)) }
+        ≡ map (λ (x : Ident × ValueText). test_of (width_of (N.text names.now) (selected (N.text names.now) header.now x.0)) x.1) (zip header.now.select values.now)) }
 {
-    header
-        .select
-        .as_slice()
-        .iter()
-        .zip(values)
-        .map(|(ident, value)| test_at(names, names.own_key(header, ident), value))
+    let pairs = header.select.as_slice().iter().zip(values);
+    pairs
+        .map(
+            |(ident, value)|
+                requires { IsSized (N.text names.now) }
+            { test_at(names, own_key(names, header, ident), value) },
+        )
         .collect(alloc)
 }
 
-fn case_of(
+fn case_of<N: Lookup>(
     alloc: Global,
-    names: &Names<'_>,
+    names: &N,
     header: &HeaderText,
     case: &CaseText,
 ) -> Result<Case, AllocError>
-    requires { IsSized names.now }
-    ensures { IfOk result (λ built. built ≡ case_of names.now header.now case.now) }
+    requires { IsSized (N.text names.now) }
+    ensures { IfOk result (λ built. built ≡ case_of (N.text names.now) header.now case.now) }
 {
     Ok(Case {
         tests: Sequence::from_vec(tests_of(alloc, names, header, case.values.as_slice())?),
@@ -75,23 +72,23 @@ fn case_of(
 }
 
 /// The tail of a header whose text is within the bounds of the rules.
-fn tail_of(names: &Names<'_>, header: &HeaderText, tail: &TailText) -> Tail
-    requires sized { IsSized names.now }
+fn tail_of<N: Lookup>(names: &N, header: &HeaderText, tail: &TailText) -> Tail
+    requires sized { IsSized (N.text names.now) }
     requires tail { IsSizedTail tail.now }
-    ensures { result ≡ tail_of names.now header.now tail.now }
+    ensures { result ≡ tail_of (N.text names.now) header.now tail.now }
 {
     Tail {
-        field: number_at(names, names.own_key(header, &tail.field)),
+        field: number_at(names, own_key(names, header, &tail.field)),
         unit: tail.unit.value as u8,
         base: tail.base.value as u8,
     }
 }
 
 /// The tail of a header, if it has one.
-fn tail_in(names: &Names<'_>, header: &HeaderText) -> Option<Tail>
-    requires sized { IsSized names.now }
+fn tail_in<N: Lookup>(names: &N, header: &HeaderText) -> Option<Tail>
+    requires sized { IsSized (N.text names.now) }
     requires header { IsSizedHeader header.now }
-    ensures { result ≡ option_map (tail_of names.now header.now) header.now.tail }
+    ensures { result ≡ option_map (tail_of (N.text names.now) header.now) header.now.tail }
 {
     match &header.tail {
         Some(tail) => Some(tail_of(names, header, tail)),
@@ -100,16 +97,16 @@ fn tail_in(names: &Names<'_>, header: &HeaderText) -> Option<Tail>
 }
 
 /// A header whose valid has the number `valid`.
-fn header_from(
+fn header_from<N: Lookup>(
     alloc: Global,
-    names: &Names<'_>,
+    names: &N,
     valid: u32,
     header: &HeaderText,
 ) -> Result<Header, AllocError>
-    requires sized { IsSized names.now }
+    requires sized { IsSized (N.text names.now) }
     requires header { IsSizedHeader header.now }
     requires valid { valid < 2 ^ 16 }
-    ensures { IfOk result (λ built. built ≡ header_from names.now valid header.now) }
+    ensures { IfOk result (λ built. built ≡ header_from (N.text names.now) valid header.now) }
 {
     let count = header.fields.len() as u32;
     Ok(Header {
@@ -118,9 +115,13 @@ fn header_from(
         fields: Sequence::from_vec(numbers_from(alloc, valid + 1, count)?),
         bytes: (bits_of(header) / 8) as u8,
         tail: tail_in(names, header),
-        select: mapped(alloc, header.select.as_slice(), |ident| {
-            Ok(number_at(names, names.own_key(header, ident)))
-        })?,
+        select: mapped(
+            alloc,
+            header.select.as_slice(),
+            |ident|
+                requires { IsSized (N.text names.now) }
+            { Ok(number_at(names, own_key(names, header, ident))) },
+        )?,
         cases: mapped(alloc, header.cases.as_slice(), |case| {
             case_of(alloc, names, header, case)
         })?,
@@ -129,9 +130,9 @@ fn header_from(
 }
 
 /// The headers of a text.
-pub fn headers_of(alloc: Global, names: &Names<'_>) -> Result<Sequence<Header>, AllocError>
-    requires { IsSized names.now }
-    ensures { IfOk result (λ headers. headers ≡ headers_from names.now 3 names.now.headers) }
+pub fn headers_of<N: Lookup>(alloc: Global, names: &N) -> Result<Sequence<Header>, AllocError>
+    requires { IsSized (N.text names.now) }
+    ensures { IfOk result (λ headers. headers ≡ headers_from (N.text names.now) 3 (N.text names.now).headers) }
 {
     let mut headers = Sequence::new(alloc);
     let mut valid: u32 = 3;

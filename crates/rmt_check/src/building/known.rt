@@ -6,26 +6,26 @@ ghost use Rattle.rmt_check.specs.Meaning.{index_of, field_number, action_number,
 ghost use Rattle.rmt_check.specs.Sizes.{IsSized};
 ghost use Rattle.rmt_check.specs.Standing.{named_at};
 
-use crate::names::Names;
 use crate::names::fields::FieldKey;
+use crate::names::lookup::{Lookup, key};
 use crate::source::{FieldText, Ident, TargetText};
 use rmt_ast::name_list::NameList;
 use rmt_ast::program::Target;
 
 /// The number of the field with a key, and 0 for none.
-pub fn number_at(names: &Names<'_>, key: FieldKey<'_>) -> u32
-    requires { IsSized names.now }
-    ensures { result ≡ field_number names.now (named_at key.entry) }
+pub fn number_at<N: Lookup>(names: &N, key: FieldKey<'_>) -> u32
+    requires { IsSized (N.text names.now) }
+    ensures { result ≡ field_number (N.text names.now) (named_at key.entry) }
 {
     names.field(key).unwrap_or(0) as u32
 }
 
 /// The number of a field that is named.
-pub fn field_number(names: &Names<'_>, field: &FieldText) -> u32
-    requires { IsSized names.now }
-    ensures { result ≡ field_number names.now (named names.now field.now) }
+pub fn field_number<N: Lookup>(names: &N, field: &FieldText) -> u32
+    requires { IsSized (N.text names.now) }
+    ensures { result ≡ field_number (N.text names.now) (named (N.text names.now) field.now) }
 {
-    number_at(names, names.key(field))
+    number_at(names, key(names, field))
 }
 
 /// The number of a name in a list of at most 256, and 0 for none.
@@ -38,25 +38,25 @@ pub fn number_among(list: &NameList<'_>, name: &[u8]) -> u32
 }
 
 /// The number of a table.
-pub fn table_number(names: &Names<'_>, name: &[u8]) -> u32
-    requires { IsSized names.now }
-    ensures { result ≡ index_of (table_names names.now) name.now }
+pub fn table_number<N: Lookup>(names: &N, name: &[u8]) -> u32
+    requires { IsSized (N.text names.now) }
+    ensures { result ≡ index_of (table_names (N.text names.now)) name.now }
 {
     number_among(names.tables(), name)
 }
 
 /// The number of an action.
-pub fn action_number(names: &Names<'_>, action: &Ident) -> u32
-    requires { IsSized names.now }
-    ensures { result ≡ action_number names.now action.now }
+pub fn action_number<N: Lookup>(names: &N, action: &Ident) -> u32
+    requires { IsSized (N.text names.now) }
+    ensures { result ≡ action_number (N.text names.now) action.now }
 {
     number_among(names.actions(), action.name.as_slice())
 }
 
 /// Where a header goes on.
-pub fn target_of(names: &Names<'_>, target: &TargetText) -> Target
-    requires { IsSized names.now }
-    ensures { result ≡ target_of names.now target.now }
+pub fn target_of<N: Lookup>(names: &N, target: &TargetText) -> Target
+    requires { IsSized (N.text names.now) }
+    ensures { result ≡ target_of (N.text names.now) target.now }
 {
     match target {
         TargetText::Header(header) => {

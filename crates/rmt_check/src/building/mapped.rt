@@ -6,10 +6,6 @@ use rmt_bits::sequence::Sequence;
 use std::alloc::{AllocError, Global};
 
 /// What each of some items gives.
-///
-/// # Errors
-///
-/// For want of memory.
 pub fn mapped<T, U, F>(alloc: Global, items: &[T], make: F) -> Result<Sequence<U>, AllocError>
 where
     U: Drop,

@@ -9,15 +9,15 @@ ghost use Rattle.rmt_check.specs.Sizes.{IsSized};
 use crate::building::known::{field_number, table_number};
 use crate::building::outcomes::mask_in;
 use crate::building::values::test_at;
-use crate::names::Names;
+use crate::names::lookup::{Lookup, key};
 use crate::rules::parts;
 use crate::source::{NodeText, Under, ValueText, WhatText};
 use rmt_ast::program::{Guard, Node, What};
 
-fn guard_of(names: &Names<'_>, under: &Under) -> Guard
-    requires sized { IsSized names.now }
-    requires within { under.now.parent < length (nodes_of names.now) }
-    ensures { result ≡ guard_of names.now under.now }
+fn guard_of<N: Lookup>(names: &N, under: &Under) -> Guard
+    requires sized { IsSized (N.text names.now) }
+    requires within { under.now.parent < length (nodes_of (N.text names.now)) }
+    ensures { result ≡ guard_of (N.text names.now) under.now }
 {
     let mask = match parts::nodes_of(names.source()).get(under.parent) {
         Some(node) => mask_in(names, &node.what, under.arm),
@@ -29,9 +29,9 @@ fn guard_of(names: &Names<'_>, under: &Under) -> Guard
     }
 }
 
-fn what_of(names: &Names<'_>, what: &WhatText) -> What
-    requires { IsSized names.now }
-    ensures { result ≡ what_of names.now what.now }
+fn what_of<N: Lookup>(names: &N, what: &WhatText) -> What
+    requires { IsSized (N.text names.now) }
+    ensures { result ≡ what_of (N.text names.now) what.now }
 {
     match what {
         WhatText::Apply { table, .. } => What::Apply(table_number(names, table.name.as_slice())),
@@ -42,17 +42,17 @@ fn what_of(names: &Names<'_>, what: &WhatText) -> What
             };
             What::Gate {
                 field: field_number(names, field),
-                test: test_at(names, names.key(field), &value),
+                test: test_at(names, key(names, field), &value),
             }
         }
     }
 }
 
 /// A node, which stands in an arm of one of the nodes, if in any.
-pub fn node_of(names: &Names<'_>, node: &NodeText) -> Node
-    requires sized { IsSized names.now }
-    requires within { IsUnder (length (nodes_of names.now)) node.now.under }
-    ensures { result ≡ node_of names.now node.now }
+pub fn node_of<N: Lookup>(names: &N, node: &NodeText) -> Node
+    requires sized { IsSized (N.text names.now) }
+    requires within { IsUnder (length (nodes_of (N.text names.now))) node.now.under }
+    ensures { result ≡ node_of (N.text names.now) node.now }
 {
     let guard = match &node.under {
         Some(under) => Some(guard_of(names, under)),

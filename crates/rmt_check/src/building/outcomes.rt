@@ -5,7 +5,7 @@ ghost use Rattle.rmt_check.specs.Meaning.{all_outcomes, arm_mask, mask_in, outco
 ghost use Rattle.rmt_check.specs.Sizes.{IsSized};
 
 use crate::building::known::number_among;
-use crate::names::Names;
+use crate::names::lookup::Lookup;
 use crate::source::{ArmText, WhatText};
 use rmt_ast::name_list::NameList;
 
@@ -53,9 +53,9 @@ fn arm_mask(list: &NameList<'_>, arms: &[ArmText], at: usize) -> u16
 
 /// The outcomes of a node for which its arm with this number runs.
 #[tactic(auto, using(crate::proofs::Bounds::listed_few))]
-pub fn mask_in(names: &Names<'_>, node: &WhatText, arm: usize) -> u16
-    requires { IsSized names.now }
-    ensures { result ≡ mask_in names.now node.now arm }
+pub fn mask_in<N: Lookup>(names: &N, node: &WhatText, arm: usize) -> u16
+    requires { IsSized (N.text names.now) }
+    ensures { result ≡ mask_in (N.text names.now) node.now arm }
 {
     match node {
         WhatText::Apply { table, arms } => {

@@ -6,7 +6,7 @@ ghost use Rattle.rmt_check.specs.Sizes.{IsSized, IsSizedKey, IsSizedTable};
 
 use crate::building::known::{action_number, field_number};
 use crate::building::mapped::mapped;
-use crate::names::Names;
+use crate::names::lookup::Lookup;
 use crate::reading::words::copy_name;
 use crate::source::{KeyText, TableText};
 use rmt_ast::program::{Kind, Table};
@@ -14,9 +14,9 @@ use rmt_bits::sequence::Sequence;
 use std::alloc::{AllocError, Global};
 
 /// A table without a key.
-fn keyless(alloc: Global, names: &Names<'_>, table: &TableText) -> Result<Table, AllocError>
-    requires { IsSized names.now }
-    ensures { IfOk result (λ built. built ≡ table_with names.now table.now None) }
+fn keyless<N: Lookup>(alloc: Global, names: &N, table: &TableText) -> Result<Table, AllocError>
+    requires { IsSized (N.text names.now) }
+    ensures { IfOk result (λ built. built ≡ table_with (N.text names.now) table.now None) }
 {
     Ok(Table {
         name: copy_name(alloc, &table.ident.name)?,
@@ -31,15 +31,15 @@ fn keyless(alloc: Global, names: &Names<'_>, table: &TableText) -> Result<Table,
 }
 
 /// A table with this key, of a size of at most 1,048,576.
-fn keyed(
+fn keyed<N: Lookup>(
     alloc: Global,
-    names: &Names<'_>,
+    names: &N,
     table: &TableText,
     key: &KeyText,
 ) -> Result<Table, AllocError>
-    requires sized { IsSized names.now }
+    requires sized { IsSized (N.text names.now) }
     requires key { IsSizedKey (Some key.now) }
-    ensures { IfOk result (λ built. built ≡ table_with names.now table.now (Some key.now)) }
+    ensures { IfOk result (λ built. built ≡ table_with (N.text names.now) table.now (Some key.now)) }
 {
     Ok(Table {
         name: copy_name(alloc, &table.ident.name)?,
@@ -58,14 +58,10 @@ fn keyed(
 }
 
 /// A table with the numbers of what it names.
-///
-/// # Errors
-///
-/// For want of memory.
-pub fn table_of(alloc: Global, names: &Names<'_>, table: &TableText) -> Result<Table, AllocError>
-    requires sized { IsSized names.now }
+pub fn table_of<N: Lookup>(alloc: Global, names: &N, table: &TableText) -> Result<Table, AllocError>
+    requires sized { IsSized (N.text names.now) }
     requires table { IsSizedTable table.now }
-    ensures { IfOk result (λ built. built ≡ table_of names.now table.now) }
+    ensures { IfOk result (λ built. built ≡ table_of (N.text names.now) table.now) }
 {
     match &table.key {
         None => keyless(alloc, names, table),

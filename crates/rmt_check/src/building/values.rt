@@ -6,8 +6,8 @@ ghost use Rattle.rmt_check.specs.Meaning.{ones, test_of};
 ghost use Rattle.rmt_check.specs.Sizes.{IsSized};
 ghost use Rattle.rmt_check.specs.Standing.{named_at};
 
-use crate::names::Names;
 use crate::names::fields::FieldKey;
+use crate::names::lookup::{Lookup, width};
 use crate::source::ValueText;
 use rmt_ast::program::Test;
 
@@ -39,9 +39,9 @@ fn test_of(width: u128, value: &ValueText) -> Test
 }
 
 /// A test of the field with a key.
-pub fn test_at(names: &Names<'_>, key: FieldKey<'_>, value: &ValueText) -> Test
-    requires { IsSized names.now }
-    ensures { result ≡ test_of (width_of names.now (named_at key.entry)) value.now }
+pub fn test_at<N: Lookup>(names: &N, key: FieldKey<'_>, value: &ValueText) -> Test
+    requires { IsSized (N.text names.now) }
+    ensures { result ≡ test_of (width_of (N.text names.now) (named_at key.entry)) value.now }
 {
-    test_of(names.width(key), value)
+    test_of(width(names, key), value)
 }

@@ -2,7 +2,7 @@
 
 ghost use Rattle.std.specs.Prelude.{◌≡◌, ◌<◌, ◌+◌, ◌^◌, ◌++◌, ◌∷◌, [], OnOk, IfOk};
 ghost use Rattle.rmt_check.specs.Names.{common, declared_fields, fields_of, header_fields, printed_name};
-ghost use Rattle.rmt_check.specs.Standing.{all_codes, owner_at, stored};
+ghost use Rattle.rmt_check.specs.Standing.{all_codes, named_at, owner_at, place_among, stored};
 ghost use Rattle.rmt_ast.specs.NameList.{HasNumbers};
 
 use crate::source::{Declared, HeaderText, Source};
@@ -121,8 +121,8 @@ fn add_common<'a>(
     Ok(())
 }
 
-/// The fields of a program's text, by number. The only fault is want of memory.
-pub fn known_fields<'a>(
+/// The fields of a program's text, by number.
+fn known_fields<'a>(
     alloc: Global,
     source: &'a Source,
 ) -> Result<Sequence<KnownField<'a>>, AllocError>
@@ -142,7 +142,7 @@ pub fn known_fields<'a>(
 }
 
 /// The first place of each of the fields' keys.
-pub fn first_places<'a>(
+fn first_places<'a>(
     alloc: Global,
     fields: &[KnownField<'a>],
 ) -> Result<IndexMap<FieldKey<'a>, usize>, AllocError>
@@ -155,4 +155,49 @@ pub fn first_places<'a>(
         }
     }
     Ok(numbers)
+}
+
+/// The fields of a program's text, of which each is found by its key. Contracts see it as the fields by number.
+#[derive(Drop)]
+pub struct FieldList<'a> {
+    fields: Sequence<KnownField<'a>>,
+    numbers: IndexMap<FieldKey<'a>, usize>,
+}
+
+impl<'a> Model for FieldList<'a> {
+    ghost use Rattle.std.specs.Prelude.{List};
+    ghost use Rattle.rmt_ast.specs.NameList.{HasNumbers};
+    ghost use Rattle.rmt_check.specs.Names.{Known};
+    ghost use Rattle.rmt_check.specs.Standing.{all_codes, stored};
+
+    ghost Value = { List Known };
+
+    ghost view = { λ f. f.fields };
+
+    ghost invariant = { λ f. HasNumbers stored f.numbers.entries (all_codes f.fields) };
+}
+
+impl<'a> FieldList<'a> {
+    /// The fields of a text.
+    pub fn of(alloc: Global, source: &'a Source) -> Result<FieldList<'a>, AllocError>
+        ensures { IfOk result (λ fields. fields ≡ fields_of source.now) }
+    {
+        let fields = known_fields(alloc, source)?;
+        let numbers = first_places(alloc, fields.as_slice())?;
+        Ok(FieldList { fields, numbers })
+    }
+
+    /// The fields by number.
+    pub fn as_slice(&self) -> &[KnownField<'a>]
+        ensures { result.now ≡ self.now }
+    {
+        self.fields.as_slice()
+    }
+
+    /// The number of the first field with a key.
+    pub fn number(&self, key: FieldKey<'_>) -> Option<usize>
+        ensures { result ≡ place_among self.now (named_at key.entry) }
+    {
+        self.numbers.get(&key).copied()
+    }
 }

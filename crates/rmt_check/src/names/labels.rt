@@ -4,63 +4,59 @@ ghost use Rattle.std.specs.Prelude.{◌≡◌};
 ghost use Rattle.rmt_check.specs.Parts.{Ident as IdentValue};
 
 use crate::source::{ActionText, Declared, HeaderText, Ident, TableText};
-use rmt_lexer::place::Place;
 
-/// A name, and the place that is told where it is wrong.
-#[derive(Clone, Copy)]
-pub struct Label<'a> {
-    pub place: Place,
-    pub name: &'a [u8],
-}
-
-/// What has a name.
+/// What has a name, which stands at the place that is told where the name is wrong.
 pub trait Labelled {
     ghost ident_of: { Self → IdentValue };
 
-    fn label(&self) -> Label<'_>
-        ensures place { result.place ≡ (ident_of self.now).place }
-        ensures name { result.name.now ≡ (ident_of self.now).name };
+    fn ident(&self) -> &Ident
+        ensures { result.now ≡ ident_of self.now };
 }
 
 impl Labelled for Ident {
     ghost ident_of = { λ i. i };
 
-    fn label(&self) -> Label<'_> {
-        Label {
-            place: self.place,
-            name: self.name.as_slice(),
-        }
+    fn ident(&self) -> &Ident {
+        self
     }
 }
 
 impl Labelled for Declared {
     ghost ident_of = { λ d. d.ident };
 
-    fn label(&self) -> Label<'_> {
-        self.ident.label()
+    fn ident(&self) -> &Ident {
+        &self.ident
     }
 }
 
 impl Labelled for HeaderText {
     ghost ident_of = { λ h. h.ident };
 
-    fn label(&self) -> Label<'_> {
-        self.ident.label()
+    fn ident(&self) -> &Ident {
+        &self.ident
     }
 }
 
 impl Labelled for ActionText {
     ghost ident_of = { λ a. a.ident };
 
-    fn label(&self) -> Label<'_> {
-        self.ident.label()
+    fn ident(&self) -> &Ident {
+        &self.ident
     }
 }
 
 impl Labelled for TableText {
     ghost ident_of = { λ t. t.ident };
 
-    fn label(&self) -> Label<'_> {
-        self.ident.label()
+    fn ident(&self) -> &Ident {
+        &self.ident
+    }
+}
+
+impl<T: Labelled> Labelled for &T {
+    ghost ident_of = { λ r. T.ident_of r.now };
+
+    fn ident(&self) -> &Ident {
+        (*self).ident()
     }
 }

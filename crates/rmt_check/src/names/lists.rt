@@ -1,6 +1,6 @@
 //! What a text declares, by name.
 
-ghost use Rattle.std.specs.Prelude.{◌≡◌, find, map, option_copied, IfOk};
+ghost use Rattle.std.specs.Prelude.{◌≡◌, [], find, map, option_copied, IfOk};
 ghost use Rattle.std.specs.Str.{bytes_eq};
 ghost use Rattle.rmt_check.specs.Standing.{list_names};
 
@@ -17,7 +17,7 @@ pub fn names_of<'a, T: Labelled>(alloc: Global, parts: &'a [T]) -> Result<NameLi
 {
     let mut names = Vec::new(alloc);
     for part in parts {
-        names.push(part.label().name)?;
+        names.push(part.ident().name.as_slice())?;
     }
     NameList::of(alloc, names)
 }
@@ -38,10 +38,7 @@ pub fn first_named<'a, T: Labelled>(
 }
 
 /// Of each table, the names of the actions of its list.
-pub fn lists<'a>(
-    alloc: Global,
-    tables: &'a [TableText],
-) -> Result<Sequence<NameList<'a>>, AllocError>
+fn lists<'a>(alloc: Global, tables: &'a [TableText]) -> Result<Sequence<NameList<'a>>, AllocError>
     ensures { IfOk result (λ v. v ≡ list_names tables.now) }
 {
     let mut lists = Sequence::new(alloc);
@@ -49,4 +46,24 @@ pub fn lists<'a>(
         lists.push(names_of(alloc, listed(table))?)?;
     }
     Ok(lists)
+}
+
+/// The actions that tables list, by name.
+#[derive(Drop)]
+pub struct Listed<'a> {
+    /// Of each table.
+    pub lists: Sequence<NameList<'a>>,
+    /// The list of a table that is none.
+    pub nothing: NameList<'a>,
+}
+
+/// The lists of some tables.
+pub fn listed_by<'a>(alloc: Global, tables: &'a [TableText]) -> Result<Listed<'a>, AllocError>
+    ensures lists { IfOk result (λ l. l.lists ≡ list_names tables.now) }
+    ensures nothing { IfOk result (λ l. l.nothing ≡ []) }
+{
+    Ok(Listed {
+        lists: lists(alloc, tables)?,
+        nothing: NameList::of(alloc, Vec::new(alloc))?,
+    })
 }

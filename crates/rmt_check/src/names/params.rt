@@ -31,19 +31,12 @@ impl<'a> Model for ActionNames<'a> {
 }
 
 impl<'a> ActionNames<'a> {
-    /// The names of an action. The only fault is want of memory.
+    /// The names of an action.
     pub fn of(alloc: Global, action: &'a ActionText) -> Result<ActionNames<'a>, AllocError>
         ensures names { IfOk result (λ a. a ≡ action.now) }
     {
         let params = lists::names_of(alloc, action.params.as_slice())?;
         Ok(ActionNames { action, params })
-    }
-
-    /// The action.
-    pub fn action(&self) -> &'a ActionText
-        ensures { result.now ≡ self.now }
-    {
-        self.action
     }
 
     /// The parameters by name.

@@ -1,15 +1,16 @@
 //! Codes 13 and 20: tables that are applied again, and tables that are not applied.
 
-ghost use Rattle.std.specs.Prelude.{◌≡◌, IfOk, map, option_copied};
+ghost use Rattle.std.specs.Prelude.{◌≡◌, IfOk, map, not, option_copied};
+ghost use Rattle.rmt_ast.specs.NameList.{is_known};
 ghost use Rattle.rmt_check.specs.Names as names;
-ghost use Rattle.rmt_check.specs.Names.{ident_names};
-ghost use Rattle.rmt_check.specs.Rules.{broken_13, broken_20, earliest};
+ghost use Rattle.rmt_check.specs.Rules.{broken_13, broken_20, earliest, when};
 
+use crate::names::lists::names_of;
 use crate::rules::parts::nodes_of;
 use crate::rules::places::place_when;
 use crate::rules::repeats::repeated_names;
-use crate::rules::search::earliest_of;
-use crate::source::{Ident, NodeText, Source, WhatText};
+use crate::rules::search::earliest_with;
+use crate::source::{Ident, NodeText, Source, TableText, WhatText};
 use rmt_ast::name_list::NameList;
 use rmt_lexer::place::Place;
 use std::alloc::{AllocError, Global};
@@ -37,22 +38,7 @@ fn applied_tables(alloc: Global, source: &Source) -> Result<Vec<&Ident>, AllocEr
     Ok(tables)
 }
 
-/// The names of some tables, for look-ups.
-fn names_of<'a>(alloc: Global, tables: &[&'a Ident]) -> Result<NameList<'a>, AllocError>
-    ensures { IfOk result (λ names. names ≡ ident_names (map (λ t. t.now) tables.now)) }
-{
-    let mut names = Vec::new(alloc);
-    for table in tables {
-        names.push(table.name.as_slice())?;
-    }
-    NameList::of(alloc, names)
-}
-
 /// Where a table is applied again.
-///
-/// # Errors
-///
-/// For want of memory.
 pub fn applied_twice(alloc: Global, source: &Source) -> Result<Option<Place>, AllocError>
     ensures { IfOk result (λ p. p ≡ earliest (broken_13 source.now)) }
 {
@@ -60,18 +46,19 @@ pub fn applied_twice(alloc: Global, source: &Source) -> Result<Option<Place>, Al
     repeated_names(alloc, tables.as_slice())
 }
 
+/// Where a table is not among those that are applied.
+fn unapplied(applied: &NameList<'_>, table: &TableText) -> Option<Place>
+    ensures { result ≡ earliest (when (not (is_known applied.now table.now.ident.name)) table.now.ident.place) }
+{
+    let is_applied = applied.knows(table.ident.name.as_slice());
+    place_when(!is_applied, table.ident.place)
+}
+
 /// Where a table is declared that no node applies.
-///
-/// # Errors
-///
-/// For want of memory.
 pub fn not_applied(alloc: Global, source: &Source) -> Result<Option<Place>, AllocError>
     ensures { IfOk result (λ p. p ≡ earliest (broken_20 source.now)) }
 {
     let tables = applied_tables(alloc, source)?;
     let applied = names_of(alloc, tables.as_slice())?;
-    Ok(earliest_of(source.tables.as_slice(), |table| {
-        let is_applied = applied.knows(table.ident.name.as_slice());
-        place_when(!is_applied, table.ident.place)
-    }))
+    Ok(earliest_with(&applied, source.tables.as_slice(), unapplied))
 }

@@ -5,8 +5,8 @@ ghost use Rattle.rmt_check.specs.Names.{in_port, named, same_field};
 ghost use Rattle.rmt_check.specs.Rules as rules;
 ghost use Rattle.rmt_check.specs.Rules.{broken_11, broken_12, earliest};
 
-use crate::names::Names;
 use crate::names::fields::INTRINSIC;
+use crate::names::lookup::{Lookup, key, width_of};
 use crate::rules::places::place_when;
 use crate::rules::search::earliest_of;
 use crate::source::{FieldText, LeafText, Sign};
@@ -36,28 +36,28 @@ fn wide_sign(width: u128, right: &Option<(Sign, LeafText)>) -> Option<Place>
 }
 
 /// Where `+` or `-` goes into a field of more than 32 bits.
-pub fn wide_arithmetic(names: &Names<'_>) -> Option<Place>
-    ensures { result ≡ earliest (broken_11 names.now) }
+pub fn wide_arithmetic<N: Lookup>(names: &N) -> Option<Place>
+    ensures { result ≡ earliest (broken_11 (N.text names.now)) }
 {
     let source = names.source();
     earliest_of(source.actions.as_slice(), |action| {
         earliest_of(action.assigns.as_slice(), |assign| {
-            wide_sign(names.width_of(&assign.dest), &assign.expr.right)
+            wide_sign(width_of(names, &assign.dest), &assign.expr.right)
         })
     })
 }
 
 #[tactic(auto, using(crate::proofs::FieldCodes::owner_same))]
-fn is_in_port(names: &Names<'_>, field: &FieldText) -> bool
-    ensures { result ≡ same_field (named names.now field.now) in_port }
+fn is_in_port<N: Lookup>(names: &N, field: &FieldText) -> bool
+    ensures { result ≡ same_field (named (N.text names.now) field.now) in_port }
 {
-    let (owner, name) = names.key(field);
+    let (owner, name) = key(names, field);
     owner == INTRINSIC && name == b"in_port".as_slice()
 }
 
 /// Where `in_port` is assigned.
-pub fn read_only(names: &Names<'_>) -> Option<Place>
-    ensures { result ≡ earliest (broken_12 names.now) }
+pub fn read_only<N: Lookup>(names: &N) -> Option<Place>
+    ensures { result ≡ earliest (broken_12 (N.text names.now)) }
 {
     let source = names.source();
     earliest_of(source.actions.as_slice(), |action| {

@@ -3,12 +3,12 @@
 
 ghost use Rattle.std.specs.Prelude.{◌≡◌, IfOk, drop, map};
 ghost use Rattle.std.specs.List.{flat_map};
-ghost use Rattle.rmt_check.specs.Rules.{bad_table_size, broken_16, broken_18, broken_19, declared_names, earliest, many_assigns, many_listed, many_params, places};
+ghost use Rattle.rmt_check.specs.Rules.{bad_size_of, broken_16, broken_18, broken_19, declared_names, earliest, many_assigns, many_listed, many_params, places};
 
 use crate::rules::parts::{listed, metadata, nodes_of};
 use crate::rules::places::{earlier, earliest_beyond, place_when};
 use crate::rules::search::earliest_of;
-use crate::source::{ActionText, KeyText, MetaText, Source, TableText};
+use crate::source::{ActionText, MetaText, Source, TableText};
 use rmt_lexer::place::Place;
 use std::alloc::{AllocError, Global};
 
@@ -26,10 +26,10 @@ pub fn too_many_actions(source: &Source) -> Option<Place>
 }
 
 /// Where a table's size is 0 or above 1,048,576.
-fn table_size(key: &Option<KeyText>) -> Option<Place>
-    ensures { result ≡ earliest (bad_table_size key.now) }
+fn table_size(table: &TableText) -> Option<Place>
+    ensures { result ≡ earliest (bad_size_of table.now) }
 {
-    match key {
+    match &table.key {
         Some(key) => {
             let size = key.size.value;
             place_when(!(size >= 1 && size <= 1048576), key.size.place)
@@ -62,10 +62,6 @@ fn too_many_meta_fields(alloc: Global, metas: &[MetaText]) -> Result<Option<Plac
 
 /// Where a limit on a number is broken, be it of headers, actions, parameters, assignments, metadata fields, nodes
 /// or entries of a table.
-///
-/// # Errors
-///
-/// For want of memory.
 pub fn count_limit(alloc: Global, source: &Source) -> Result<Option<Place>, AllocError>
     ensures { IfOk result (λ p. p ≡ earliest (broken_18 source.now)) }
 {
@@ -79,7 +75,7 @@ pub fn count_limit(alloc: Global, source: &Source) -> Result<Option<Place>, Allo
     let assign = earliest_of(actions, too_many_assigns);
     let field = too_many_meta_fields(alloc, metas)?;
     let node = earliest_beyond(128, nodes_of(source), |node| node.place);
-    let size = earliest_of(source.tables.as_slice(), |table| table_size(&table.key));
+    let size = earliest_of(source.tables.as_slice(), table_size);
     let found = earlier(earlier(earlier(no_header, header), action), param);
     Ok(earlier(earlier(earlier(earlier(found, assign), field), node), size))
 }

@@ -5,7 +5,7 @@ ghost use Rattle.std.specs.List.{flat_map};
 ghost use Rattle.rmt_check.specs.Rules as rules;
 ghost use Rattle.rmt_check.specs.Rules.{broken_9, earliest, targets};
 
-use crate::names::Names;
+use crate::names::lookup::Lookup;
 use crate::rules::parts::target_names;
 use crate::rules::places::{earlier, place_when};
 use crate::rules::search::{earliest_numbered, earliest_of};
@@ -22,8 +22,8 @@ fn is_at_most(number: Option<usize>, limit: usize) -> bool
 }
 
 /// Where a header of some is declared at or before the header of a number.
-fn not_later(names: &Names<'_>, number: usize, idents: &[Ident]) -> Option<Place>
-    ensures { result ≡ earliest (flat_map (rules.not_later names.now number) idents.now) }
+fn not_later<N: Lookup>(names: &N, number: usize, idents: &[Ident]) -> Option<Place>
+    ensures { result ≡ earliest (flat_map (rules.not_later (N.text names.now) number) idents.now) }
 {
     earliest_of(idents, |ident| {
         let found = names.headers().number(ident.name.as_slice());
@@ -32,8 +32,8 @@ fn not_later(names: &Names<'_>, number: usize, idents: &[Ident]) -> Option<Place
 }
 
 /// Where a target of a header is declared at or before it.
-fn early_target(names: &Names<'_>, number: usize, header: &HeaderText) -> Option<Place>
-    ensures { result ≡ earliest (flat_map (rules.not_later names.now number) (targets header.now)) }
+fn early_target<N: Lookup>(names: &N, number: usize, header: &HeaderText) -> Option<Place>
+    ensures { result ≡ earliest (flat_map (rules.not_later (N.text names.now) number) (targets header.now)) }
 {
     let cases = earliest_of(header.cases.as_slice(), |case| {
         not_later(names, number, target_names(&case.target))
@@ -42,8 +42,8 @@ fn early_target(names: &Names<'_>, number: usize, header: &HeaderText) -> Option
 }
 
 /// Where a header goes on to itself or to one declared before.
-pub fn target_not_later(names: &Names<'_>) -> Option<Place>
-    ensures { result ≡ earliest (broken_9 names.now) }
+pub fn target_not_later<N: Lookup>(names: &N) -> Option<Place>
+    ensures { result ≡ earliest (broken_9 (N.text names.now)) }
 {
     let source = names.source();
     earliest_numbered(source.headers.as_slice(), |number, header| {

@@ -13,10 +13,6 @@ use rmt_lexer::place::Place;
 use std::alloc::{AllocError, Global};
 
 /// The earliest place of a name in a list that repeats an earlier one.
-///
-/// # Errors
-///
-/// For want of memory.
 pub fn repeated_idents(alloc: Global, idents: &[Ident]) -> Result<Option<Place>, AllocError>
     ensures { IfOk result (λ p. p ≡ earliest (repeated idents.now)) }
 {
@@ -39,10 +35,6 @@ fn meta_field_twice(alloc: Global, metas: &[MetaText]) -> Result<Option<Place>, 
 }
 
 /// Where a name is declared again in its space, `meta` stands again, or a table lists an action twice.
-///
-/// # Errors
-///
-/// For want of memory.
 pub fn name_twice(alloc: Global, source: &Source) -> Result<Option<Place>, AllocError>
     ensures { IfOk result (λ p. p ≡ earliest (broken_5 source.now)) }
 {
@@ -51,17 +43,15 @@ pub fn name_twice(alloc: Global, source: &Source) -> Result<Option<Place>, Alloc
     let actions = source.actions.as_slice();
     let tables = source.tables.as_slice();
     let header = repeated_names(alloc, headers)?;
-    let field = try_earliest_of(
-        headers,
-        |header| declared_twice(alloc, header.fields.as_slice()),
-    )?;
+    let field = try_earliest_of(headers, |header| {
+        declared_twice(alloc, header.fields.as_slice())
+    })?;
     let meta = earliest_beyond(1, metas, |meta| meta.place);
     let meta_field = meta_field_twice(alloc, metas)?;
     let action = repeated_names(alloc, actions)?;
-    let param = try_earliest_of(
-        actions,
-        |action| declared_twice(alloc, action.params.as_slice()),
-    )?;
+    let param = try_earliest_of(actions, |action| {
+        declared_twice(alloc, action.params.as_slice())
+    })?;
     let table = repeated_names(alloc, tables)?;
     let listed = try_earliest_of(tables, |table| repeated_idents(alloc, listed(table)))?;
     let found = earlier(earlier(earlier(header, field), meta), meta_field);

@@ -46,10 +46,6 @@ pub fn key_fields(table: &TableText) -> &[FieldText]
 }
 
 /// All metadata fields.
-///
-/// # Errors
-///
-/// For want of memory.
 pub fn metadata(alloc: Global, metas: &[MetaText]) -> Result<Vec<&Declared>, AllocError>
     ensures { IfOk result (λ fields. map (λ f. f.now) fields.items ≡ flat_map (λ m. m.fields) metas.now) }
 {

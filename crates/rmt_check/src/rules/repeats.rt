@@ -4,7 +4,7 @@ ghost use Rattle.std.specs.Prelude.{◌≡◌, map, IfOk, IfErr};
 ghost use Rattle.rmt_check.specs.Rules as rules;
 ghost use Rattle.rmt_check.specs.Rules.{earliest, repeated_by};
 
-use crate::names::labels::{Label, Labelled};
+use crate::names::labels::Labelled;
 use crate::rules::places::{earlier, place_when};
 use indexmap::IndexSet;
 use rmt_lexer::place::Place;
@@ -12,10 +12,6 @@ use std::alloc::{AllocError, Global};
 use std::hash::Hash;
 
 /// The earliest place of a key that repeats an earlier one.
-///
-/// # Errors
-///
-/// For want of memory.
 pub fn repeated<K: Eq + Hash + Copy>(
     alloc: Global,
     marks: &[(K, Place)],
@@ -31,26 +27,14 @@ pub fn repeated<K: Eq + Hash + Copy>(
     Ok(first)
 }
 
-impl<T: Labelled> Labelled for &T {
-    ghost ident_of = { λ r. T.ident_of r.now };
-
-    fn label(&self) -> Label<'_> {
-        (*self).label()
-    }
-}
-
 /// The earliest place of a name that repeats an earlier one.
-///
-/// # Errors
-///
-/// For want of memory.
 pub fn repeated_names<T: Labelled>(alloc: Global, items: &[T]) -> Result<Option<Place>, AllocError>
     ensures { IfOk result (λ p. p ≡ earliest (rules.repeated (map T.ident_of items.now))) }
 {
     let mut marks = Vec::new(alloc);
     for item in items {
-        let label = item.label();
-        marks.push((label.name, label.place))?;
+        let ident = item.ident();
+        marks.push((ident.name.as_slice(), ident.place))?;
     }
     repeated(alloc, marks.as_slice())
 }

@@ -2,14 +2,18 @@
 
 ghost use Rattle.std.specs.Prelude.{◌≡◌, IfOk};
 ghost use Rattle.rmt_check.specs.Rules as rules;
-ghost use Rattle.rmt_check.specs.Rules.{broken_10, earliest, operand_widths, too_wide_node};
+ghost use Rattle.rmt_check.specs.Rules.{broken_10, earliest, gate_widths, operand_widths};
 
-use crate::names::Names;
+use crate::names::lookup::{Lookup, own_key, width, width_of};
 use crate::names::params::ActionNames;
 use crate::rules::parts::{earliest_operand, nodes_of};
 use crate::rules::places::{earlier, place_when};
-use crate::rules::search::{earliest_beside, earliest_of, place_in, try_earliest_of};
-use crate::source::{ActionText, CaseText, HeaderText, LeafText, Number, ValueText, WhatText};
+use crate::rules::search::{
+    earliest_beside, earliest_of, earliest_with, place_in, try_earliest_of,
+};
+use crate::source::{
+    ActionText, CaseText, HeaderText, LeafText, NodeText, Number, ValueText, WhatText,
+};
 use rmt_lexer::place::Place;
 use std::alloc::{AllocError, Global};
 
@@ -28,17 +32,17 @@ pub fn too_wide(width: u128, number: Number) -> Option<Place>
 }
 
 /// Where an operand is of another width.
-fn differs(
-    names: &Names<'_>,
+fn differs<N: Lookup>(
+    names: &N,
     action: &ActionNames<'_>,
     width: u128,
     leaf: &LeafText,
 ) -> Option<Place>
-    ensures { result ≡ earliest (rules.differs names.now action.now width leaf.now) }
+    ensures { result ≡ earliest (rules.differs (N.text names.now) action.now width leaf.now) }
 {
     match leaf {
         LeafText::Field(field) => {
-            let own = names.width_of(field);
+            let own = width_of(names, field);
             place_when(own != width, field.place)
         }
         LeafText::Param(param) => {
@@ -49,16 +53,16 @@ fn differs(
     }
 }
 
-fn wrong_in_action(
+fn wrong_in_action<N: Lookup>(
     alloc: Global,
-    names: &Names<'_>,
+    names: &N,
     action: &ActionText,
 ) -> Result<Option<Place>, AllocError>
-    ensures { IfOk result (λ p. p ≡ earliest (operand_widths names.now action.now)) }
+    ensures { IfOk result (λ p. p ≡ earliest (operand_widths (N.text names.now) action.now)) }
 {
     let own = ActionNames::of(alloc, action)?;
     Ok(earliest_of(action.assigns.as_slice(), |assign| {
-        let width = names.width_of(&assign.dest);
+        let width = width_of(names, &assign.dest);
         earliest_operand(&assign.expr, |leaf| differs(names, &own, width, leaf))
     }))
 }
@@ -74,24 +78,24 @@ fn too_wide_value(width: u128, value: ValueText) -> Option<Place>
 }
 
 /// Where a value of a case does not fit the field of the select beside it.
-fn too_wide_case(names: &Names<'_>, header: &HeaderText, case: &CaseText) -> Option<Place>
-    ensures { result ≡ earliest (rules.too_wide_case names.now header.now case.now) }
+fn too_wide_case<N: Lookup>(names: &N, header: &HeaderText, case: &CaseText) -> Option<Place>
+    ensures { result ≡ earliest (rules.too_wide_case (N.text names.now) header.now case.now) }
 {
     earliest_beside(
         header.select.as_slice(),
         case.values.as_slice(),
-        |ident, value| too_wide_value(names.width(names.own_key(header, ident)), *value),
+        |ident, value| too_wide_value(width(names, own_key(names, header, ident)), *value),
     )
 }
 
 /// Where the number of a node's test does not fit the field.
-fn too_wide_in_node(names: &Names<'_>, what: &WhatText) -> Option<Place>
-    ensures { result ≡ earliest (too_wide_node names.now what.now) }
+fn too_wide_in_node<N: Lookup>(names: &N, node: &NodeText) -> Option<Place>
+    ensures { result ≡ earliest (gate_widths (N.text names.now) node.now) }
 {
-    match what {
+    match &node.what {
         WhatText::Apply { .. } => None,
         WhatText::If { field, mask, value } => {
-            let width = names.width_of(field);
+            let width = width_of(names, field);
             too_wide_value(
                 width,
                 ValueText {
@@ -104,12 +108,8 @@ fn too_wide_in_node(names: &Names<'_>, what: &WhatText) -> Option<Place>
 }
 
 /// Where an operand is not of the width of the assigned field, or a number does not fit its field.
-///
-/// # Errors
-///
-/// For want of memory.
-pub fn widths_differ(alloc: Global, names: &Names<'_>) -> Result<Option<Place>, AllocError>
-    ensures { IfOk result (λ p. p ≡ earliest (broken_10 names.now)) }
+pub fn widths_differ<N: Lookup>(alloc: Global, names: &N) -> Result<Option<Place>, AllocError>
+    ensures { IfOk result (λ p. p ≡ earliest (broken_10 (N.text names.now))) }
 {
     let source = names.source();
     let actions = try_earliest_of(source.actions.as_slice(), |action| {
@@ -121,6 +121,6 @@ pub fn widths_differ(alloc: Global, names: &Names<'_>) -> Result<Option<Place>, 
             |case| too_wide_case(names, header, case),
         )
     });
-    let nodes = earliest_of(nodes_of(source), |node| too_wide_in_node(names, &node.what));
+    let nodes = earliest_with(names, nodes_of(source), too_wide_in_node);
     Ok(earlier(earlier(actions, headers), nodes))
 }

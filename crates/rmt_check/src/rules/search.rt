@@ -22,11 +22,23 @@ pub fn earliest_of<T, F: Fn(&T) -> Option<Place>>(items: &[T], at: F) -> Option<
     first
 }
 
-/// The same, where looking at an item needs memory.
-///
-/// # Errors
-///
-/// For want of memory.
+/// The same, where all are looked at with one more thing.
+pub fn earliest_with<C, T, F: Fn(&C, &T) -> Option<Place>>(
+    shared: &C,
+    items: &[T],
+    at: F,
+) -> Option<Place>
+    requires { F.IsAlwaysCallable at }
+    ensures { (broken : T → List PlaceValue) → ((c : _) (x : _) (p : Option PlaceValue) → c.now ≡ shared.now → F.post at c x p → p ≡ earliest (broken x.now)) → result ≡ earliest (flat_map broken items.now) }
+{
+    let mut first = None;
+    for item in items {
+        first = earlier(first, at(shared, item));
+    }
+    first
+}
+
+/// The earliest place that is found at one of some items, where looking at one needs memory.
 pub fn try_earliest_of<T, F>(items: &[T], at: F) -> Result<Option<Place>, AllocError>
 where
     F: Fn(&T) -> Result<Option<Place>, AllocError>,
@@ -41,7 +53,7 @@ where
 }
 
 /// The place that is found at an item, if there is one.
-pub fn place_in<T, F: Fn(&T) -> Option<Place>>(item: &Option<T>, at: F) -> Option<Place>
+pub fn place_in<T, F: FnOnce(&T) -> Option<Place>>(item: &Option<T>, at: F) -> Option<Place>
     requires { F.IsAlwaysCallable at }
     ensures { (broken : T → List PlaceValue) → ((x : _) (p : Option PlaceValue) → F.post at x p → p ≡ earliest (broken x.now)) → result ≡ earliest (flat_map broken (option_to_list item.now)) }
 {

@@ -7,17 +7,17 @@ ghost use Rattle.rmt_check.specs.Rules as rules;
 ghost use Rattle.rmt_check.specs.Rules.{broken_6, earliest, unknown, unknown_targets, when};
 ghost use Rattle.rmt_check.specs.Standing.{named_at};
 
-use crate::names::Names;
 use crate::names::fields::FieldKey;
+use crate::names::lookup::{Lookup, key, own_key};
 use crate::names::params::ActionNames;
 use crate::rules::parts::{
     arm_names, earliest_operand, key_fields, listed, nodes_of, target_names,
 };
 use crate::rules::places::{earlier, place_when};
-use crate::rules::search::{earliest_of, place_in, try_earliest_of};
+use crate::rules::search::{earliest_of, earliest_with, place_in, try_earliest_of};
 use crate::source::{
-    ActionText, ArmText, AssignText, FieldText, HeaderText, Ident, LeafText, OwnerText, TableText,
-    WhatText,
+    ActionText, ArmText, AssignText, FieldText, HeaderText, Ident, LeafText, NodeText, OwnerText,
+    TableText, WhatText,
 };
 use rmt_ast::name_list::NameList;
 use rmt_lexer::place::Place;
@@ -34,14 +34,12 @@ fn unknown_one(names: &NameList<'_>, ident: &Ident) -> Option<Place>
 fn unknown_among(names: &NameList<'_>, idents: &[Ident]) -> Option<Place>
     ensures { result ≡ earliest (unknown names.now idents.now) }
 {
-    earliest_of(idents, |ident| {
-        place_when(!names.knows(ident.name.as_slice()), ident.place)
-    })
+    earliest_with(names, idents, unknown_one)
 }
 
 /// Where a field's header is not declared.
-fn unknown_owner(names: &Names<'_>, owner: &OwnerText) -> Option<Place>
-    ensures { result ≡ earliest (rules.unknown_owner names.now owner.now) }
+fn unknown_owner<N: Lookup>(names: &N, owner: &OwnerText) -> Option<Place>
+    ensures { result ≡ earliest (rules.unknown_owner (N.text names.now) owner.now) }
 {
     match owner {
         OwnerText::Header(header) => unknown_one(names.headers(), header),
@@ -51,25 +49,25 @@ fn unknown_owner(names: &Names<'_>, owner: &OwnerText) -> Option<Place>
 }
 
 /// The place, where no field has the key.
-fn unknown_key(names: &Names<'_>, key: FieldKey<'_>, place: Place) -> Option<Place>
-    ensures { result ≡ earliest (when (not (is_field names.now (named_at key.entry))) place) }
+fn unknown_key<N: Lookup>(names: &N, key: FieldKey<'_>, place: Place) -> Option<Place>
+    ensures { result ≡ earliest (when (not (is_field (N.text names.now) (named_at key.entry))) place) }
 {
-    place_when(!names.knows_field(key), place)
+    place_when(names.field(key).is_none(), place)
 }
 
 /// Where a field, or its header, is not declared.
-fn unknown_field(names: &Names<'_>, field: &FieldText) -> Option<Place>
-    ensures { result ≡ earliest (rules.unknown_field names.now field.now) }
+fn unknown_field<N: Lookup>(names: &N, field: &FieldText) -> Option<Place>
+    ensures { result ≡ earliest (rules.unknown_field (N.text names.now) field.now) }
 {
     earlier(
         unknown_owner(names, &field.owner),
-        unknown_key(names, names.key(field), field.ident.place),
+        unknown_key(names, key(names, field), field.ident.place),
     )
 }
 
 /// Where a header goes on to no header.
-fn unknown_in_targets(names: &Names<'_>, header: &HeaderText) -> Option<Place>
-    ensures { result ≡ earliest (unknown_targets names.now header.now) }
+fn unknown_in_targets<N: Lookup>(names: &N, header: &HeaderText) -> Option<Place>
+    ensures { result ≡ earliest (unknown_targets (N.text names.now) header.now) }
 {
     let headers = names.headers();
     let cases = earliest_of(header.cases.as_slice(), |case| {
@@ -79,15 +77,15 @@ fn unknown_in_targets(names: &Names<'_>, header: &HeaderText) -> Option<Place>
 }
 
 /// Where a name is no field of the header.
-fn unknown_own_field(names: &Names<'_>, header: &HeaderText, ident: &Ident) -> Option<Place>
-    ensures { result ≡ earliest (when (not (is_field names.now (selected names.now header.now ident.now))) ident.now.place) }
+fn unknown_own_field<N: Lookup>(names: &N, header: &HeaderText, ident: &Ident) -> Option<Place>
+    ensures { result ≡ earliest (when (not (is_field (N.text names.now) (selected (N.text names.now) header.now ident.now))) ident.now.place) }
 {
-    unknown_key(names, names.own_key(header, ident), ident.place)
+    unknown_key(names, own_key(names, header, ident), ident.place)
 }
 
 /// Where a select or a tail names no field of its header.
-fn unknown_own(names: &Names<'_>, header: &HeaderText) -> Option<Place>
-    ensures { result ≡ earliest (rules.unknown_own names.now header.now) }
+fn unknown_own<N: Lookup>(names: &N, header: &HeaderText) -> Option<Place>
+    ensures { result ≡ earliest (rules.unknown_own (N.text names.now) header.now) }
 {
     let select = earliest_of(header.select.as_slice(), |ident| {
         unknown_own_field(names, header, ident)
@@ -99,8 +97,8 @@ fn unknown_own(names: &Names<'_>, header: &HeaderText) -> Option<Place>
 }
 
 /// Where an operand is not declared.
-fn unknown_leaf(names: &Names<'_>, action: &ActionNames<'_>, leaf: &LeafText) -> Option<Place>
-    ensures { result ≡ earliest (rules.unknown_leaf names.now action.now leaf.now) }
+fn unknown_leaf<N: Lookup>(names: &N, action: &ActionNames<'_>, leaf: &LeafText) -> Option<Place>
+    ensures { result ≡ earliest (rules.unknown_leaf (N.text names.now) action.now leaf.now) }
 {
     match leaf {
         LeafText::Field(field) => unknown_field(names, field),
@@ -109,23 +107,23 @@ fn unknown_leaf(names: &Names<'_>, action: &ActionNames<'_>, leaf: &LeafText) ->
     }
 }
 
-fn unknown_in_assign(
-    names: &Names<'_>,
+fn unknown_in_assign<N: Lookup>(
+    names: &N,
     action: &ActionNames<'_>,
     assign: &AssignText,
 ) -> Option<Place>
-    ensures { result ≡ earliest (rules.unknown_assign names.now action.now assign.now) }
+    ensures { result ≡ earliest (rules.unknown_assign (N.text names.now) action.now assign.now) }
 {
     let operand = earliest_operand(&assign.expr, |leaf| unknown_leaf(names, action, leaf));
     earlier(unknown_field(names, &assign.dest), operand)
 }
 
-fn unknown_in_action(
+fn unknown_in_action<N: Lookup>(
     alloc: Global,
-    names: &Names<'_>,
+    names: &N,
     action: &ActionText,
 ) -> Result<Option<Place>, AllocError>
-    ensures { IfOk result (λ p. p ≡ earliest (rules.unknown_in_action names.now action.now)) }
+    ensures { IfOk result (λ p. p ≡ earliest (rules.unknown_in_action (N.text names.now) action.now)) }
 {
     let own = ActionNames::of(alloc, action)?;
     Ok(earliest_of(action.assigns.as_slice(), |assign| {
@@ -133,10 +131,10 @@ fn unknown_in_action(
     }))
 }
 
-fn unknown_in_table(names: &Names<'_>, table: &TableText) -> Option<Place>
-    ensures { result ≡ earliest (rules.unknown_in_table names.now table.now) }
+fn unknown_in_table<N: Lookup>(names: &N, table: &TableText) -> Option<Place>
+    ensures { result ≡ earliest (rules.unknown_in_table (N.text names.now) table.now) }
 {
-    let fields = earliest_of(key_fields(table), |field| unknown_field(names, field));
+    let fields = earliest_with(names, key_fields(table), unknown_field);
     let actions = unknown_among(names.actions(), listed(table));
     earlier(
         earlier(fields, actions),
@@ -151,10 +149,10 @@ fn unknown_in_arms(list: &NameList<'_>, arms: &[ArmText]) -> Option<Place>
     earliest_of(arms, |arm| unknown_among(list, arm_names(arm)))
 }
 
-fn unknown_in_node(names: &Names<'_>, what: &WhatText) -> Option<Place>
-    ensures { result ≡ earliest (rules.unknown_in_node names.now what.now) }
+fn unknown_in_node<N: Lookup>(names: &N, node: &NodeText) -> Option<Place>
+    ensures { result ≡ earliest (rules.unknown_at_node (N.text names.now) node.now) }
 {
-    match what {
+    match &node.what {
         WhatText::Apply { table, arms } => {
             let list = names.list(table.name.as_slice());
             earlier(
@@ -167,25 +165,18 @@ fn unknown_in_node(names: &Names<'_>, what: &WhatText) -> Option<Place>
 }
 
 /// Where a name is not declared.
-///
-/// # Errors
-///
-/// For want of memory.
-pub fn unknown_name(alloc: Global, names: &Names<'_>) -> Result<Option<Place>, AllocError>
-    ensures { IfOk result (λ p. p ≡ earliest (broken_6 names.now)) }
+pub fn unknown_name<N: Lookup>(alloc: Global, names: &N) -> Result<Option<Place>, AllocError>
+    ensures { IfOk result (λ p. p ≡ earliest (broken_6 (N.text names.now))) }
 {
     let source = names.source();
     let headers = source.headers.as_slice();
-    let own = earliest_of(headers, |header| unknown_own(names, header));
-    let targets = earliest_of(headers, |header| unknown_in_targets(names, header));
+    let own = earliest_with(names, headers, unknown_own);
+    let targets = earliest_with(names, headers, unknown_in_targets);
     let actions = try_earliest_of(source.actions.as_slice(), |action| {
         unknown_in_action(alloc, names, action)
     })?;
-    let tables = earliest_of(
-        source.tables.as_slice(),
-        |table| unknown_in_table(names, table),
-    );
-    let nodes = earliest_of(nodes_of(source), |node| unknown_in_node(names, &node.what));
+    let tables = earliest_with(names, source.tables.as_slice(), unknown_in_table);
+    let nodes = earliest_with(names, nodes_of(source), unknown_in_node);
     Ok(earlier(
         earlier(earlier(earlier(own, targets), actions), tables),
         nodes,

@@ -5,7 +5,7 @@ ghost use Rattle.std.specs.List.{flat_map};
 ghost use Rattle.rmt_check.specs.Rules as rules;
 ghost use Rattle.rmt_check.specs.Rules.{bad_size, broken_7, broken_8, broken_21, earliest, is_width, no_widths, when};
 
-use crate::names::Names;
+use crate::names::lookup::{Lookup, own_key, width};
 use crate::rules::places::{earlier, place_when};
 use crate::rules::search::{earliest_of, place_in};
 use crate::rules::sums::sum_up_to;
@@ -76,10 +76,10 @@ fn is_tail_range(width: u128, unit: u128, base: u128) -> bool
 }
 
 /// The place of a tail of other lengths.
-fn bad_tail(names: &Names<'_>, header: &HeaderText, tail: &TailText) -> Option<Place>
-    ensures { result ≡ earliest (rules.bad_tail names.now header.now tail.now) }
+fn bad_tail<N: Lookup>(names: &N, header: &HeaderText, tail: &TailText) -> Option<Place>
+    ensures { result ≡ earliest (rules.bad_tail (N.text names.now) header.now tail.now) }
 {
-    let width = names.width(names.own_key(header, &tail.field));
+    let width = width(names, own_key(names, header, &tail.field));
     place_when(
         !is_tail_range(width, tail.unit.value, tail.base.value),
         tail.place,
@@ -87,8 +87,8 @@ fn bad_tail(names: &Names<'_>, header: &HeaderText, tail: &TailText) -> Option<P
 }
 
 /// Where the lengths of a tail are not as they have to be.
-pub fn tail_range(names: &Names<'_>) -> Option<Place>
-    ensures { result ≡ earliest (broken_21 names.now) }
+pub fn tail_range<N: Lookup>(names: &N) -> Option<Place>
+    ensures { result ≡ earliest (broken_21 (N.text names.now)) }
 {
     let source = names.source();
     earliest_of(source.headers.as_slice(), |header| {

@@ -5,9 +5,9 @@ use Rattle.rmt_check.proofs.programs.RuleLaws.{keeps_rules}
 use Rattle.rmt_check.proofs.answer.check_named.Goals as goal
 
 pub returns-in_err-check_rules : goal.returns-in_err-check_rules
-returns-in_err-check_rules c =
+returns-in_err-check_rules g c =
     let p = err_from_is_err_and c.from_residual.result c.from_residual.ensures.1 in
-    rw (p.1, p.2) (fault_answers c.args.names.now _ c.in_err-check_rules.ensures)
+    rw (p.1, p.2) (fault_answers (g.N.Lookup.text c.args.names.now) _ c.in_err-check_rules.ensures)
 
 pub build-requires-clause-sized : goal.build-requires-clause-sized
-build-requires-clause-sized c = sized c.args.names.now (keeps_rules c.args.names.now c.in_ok-check_rules.ensures)
+build-requires-clause-sized g c = sized (g.N.Lookup.text c.args.names.now) (keeps_rules (g.N.Lookup.text c.args.names.now) c.in_ok-check_rules.ensures)

@@ -5,16 +5,16 @@ use Rattle.rmt_check.proofs.CheckingLaws.{kept_at, broken_there}
 use Rattle.rmt_check.proofs.answer.check_rules.Goals as goal
 
 pub returns-in-Some : goal.returns-in-Some
-returns-in-Some c =
+returns-in-Some g c =
     let found = sym c.in_ok-place.ensures ∙ c.in-Some.is in
-    ap (option_map told) (c.loop-code.invariant ∙ broken_there c.args.names.now c.loop-code.code c.loop-code.auto.code c.loop-code-test.true c.in-Some.place found)
+    ap (option_map told) (c.loop-code.invariant ∙ broken_there (g.N.Lookup.text c.args.names.now) c.loop-code.code c.loop-code.auto.code c.loop-code-test.true c.in-Some.place found)
 
 pub loop-code-preserved : goal.loop-code-preserved
-loop-code-preserved c =
+loop-code-preserved g c =
     let none = sym c.in_ok-place.ensures ∙ c.in_default.is in
-    c.loop-code.invariant ∙ kept_at c.args.names.now c.loop-code.code c.loop-code.auto.code c.loop-code-test.true none
+    c.loop-code.invariant ∙ kept_at (g.N.Lookup.text c.args.names.now) c.loop-code.code c.loop-code.auto.code c.loop-code-test.true none
 
 pub returns : goal.returns
-returns c =
+returns g c =
     let last : c.loop-code.code - 5 ≡ 17 = let most = c.loop-code.auto.code-end in let past = c.loop-code-test.false in grind arith in
-    c.loop-code.invariant ∙ ap (λ n. least_of (drop n (broken c.args.names.now))) last
+    c.loop-code.invariant ∙ ap (λ n. least_of (drop n (broken (g.N.Lookup.text c.args.names.now)))) last

@@ -3,4 +3,4 @@ use Rattle.rmt_check.specs.Meaning.{field_of}
 use Rattle.rmt_check.proofs.building.fields.fields_of.Given as goal
 
 abbrev pub invariant-loop-field : goal.invariant-loop-field
-invariant-loop-field l = l.fields ≡ map field_of (take l.field-index l.field-items)
+invariant-loop-field g l = l.fields ≡ map field_of (take l.field-index l.field-items)

@@ -5,4 +5,4 @@ use Rattle.rmt_check.specs.Standing.{named_at}
 use Rattle.rmt_check.proofs.rules.keys.repeated_fields.Given as goal
 
 abbrev pub invariant-loop-field : goal.invariant-loop-field
-invariant-loop-field l = map {B = Named × Place} (λ m. (named_at m.0, m.1)) l.marks.items ≡ map (λ (f : FieldText). (named l.names f, f.place)) (take l.field-index l.fields)
+invariant-loop-field g l = map {B = Named × Place} (λ m. (named_at m.0, m.1)) l.marks.items ≡ map (λ (f : FieldText). (named (g.N.Lookup.text l.names) f, f.place)) (take l.field-index l.fields)

@@ -6,8 +6,8 @@ use Rattle.rmt_check.specs.Rules.{earliest, unknown, arm_names}
 use Rattle.rmt_check.proofs.rules.unknown.unknown_in_node.Goals as goal
 
 pub returns-in-Apply : goal.returns-in-Apply
-returns-in-Apply c =
-    let s = c.args.names.now in
+returns-in-Apply g c =
+    let s = g.N.Lookup.text c.args.names.now in
     let t = c.in-Apply.table in
     let list = ident_names (listed_by s t.name) in
     let table = c.unknown_one.ensures ∙ ap (λ (ns : List (List ℕ)). earliest (unknown ns (t ∷ []))) c.tables.ensures in
