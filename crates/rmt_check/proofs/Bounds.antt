@@ -1,23 +1,22 @@
 -- The sizes of a text's parts, from the rules that it keeps.
-use Rattle.std.proofs.Common.{◌≡◌, ℕ, ◌+◌, ◌-◌, ◌*◌, ◌<◌, ◌≤◌, ◌%◌, ◌^◌, ◌==◌, ◌&&◌, List, [], ◌∷◌, true, not, nat_le, None, Some, Option, unwrap_or, option_map, option_to_list, map, find, filter_map, length, drop, take, get_or, sum, codes, All, refl, inl, inr, sym, ap, subst, lit≤, lit<, arith}
-use Rattle.std.specs.List.{flat_map, enumerate_from, cons_option}
+use Rattle.std.proofs.Common.{◌≡◌, ℕ, ◌+◌, ◌*◌, ◌<◌, ◌≤◌, ◌^◌, List, [], ◌∷◌, true, not, None, Some, Option, unwrap_or, option_map, option_to_list, map, filter_map, length, drop, take, slice_get, get_or, sum, codes, All, refl, sym, ap, subst, lit≤, arith}
+use Rattle.std.specs.List.{flat_map, enumerate_from}
 use Rattle.std.specs.Option.{IfSome, option_map_or}
 use Rattle.std.specs.Str.{bytes_eq}
-use Rattle.std.proofs.lemmas.Bool.{and_parts, leb-true}
+use Rattle.std.proofs.lemmas.Bool.Decides.{nat_tests}
 use Rattle.std.proofs.lemmas.Cmp.{nat_list_eq_equiv}
 use Rattle.std.proofs.lemmas.List.{length-append, length-map}
-use Rattle.std.proofs.lemmas.List.Elements.{All-head, All-tail, All-append, All-from_recursion, All-map, All-get_or}
+use Rattle.std.proofs.lemmas.List.Elements.{All-head, All-tail, All-append, All-from_recursion, All-map}
 use Rattle.std.proofs.lemmas.List.Quantifiers.{position-Some}
 use Rattle.std.proofs.lemmas.List.Sums.{sum_by-le, sum_by_more_le, sum-map, sum_by-cons}
 use Rattle.std.proofs.lemmas.Map.Made.{length-le_from_is_member, IsDistinct-from_AllPairs}
-use Rattle.std.proofs.lemmas.Option.{slice_get_cases}
 use Rattle.std.proofs.lemmas.Simd.{map-map}
 use Rattle.std.proofs.lemmas.Slice.Eq.{bytes_eq-Decides}
 use Rattle.rmt_ast.specs.NameList.{is_known}
 use Rattle.rmt_ast.specs.WellFormed.{AreDistinct, IsWidth}
 use Rattle.rmt_check.specs.Parts.{Place, Ident, Declared, TailText, HeaderText, ActionText, KeyText, TableText, NodeText, Source}
-use Rattle.rmt_check.specs.Names.{Known, Named, in_port, same_field, named_fields, field_place, table_names, selected, width_at, width_of, common_fields, owned, of_metadata, declared_fields, header_fields, metadata, fields_of, nodes_of, applied, applied_tables, ident_names, listed, listed_by}
-use Rattle.rmt_check.specs.Rules.{when, places, declared_names, is_width, no_widths, bits_of, is_size, bad_table_size, bad_tail, is_tail_range}
+use Rattle.rmt_check.specs.Names.{Known, Named, same_field, named_fields, field_place, table_names, width_at, width_of, common_fields, owned, of_metadata, declared_fields, header_fields, metadata, fields_of, nodes_of, applied, applied_tables, ident_names, listed, listed_by}
+use Rattle.rmt_check.specs.Rules.{when, places, declared_names, is_width, no_widths, bits_of, is_size, bad_table_size, bad_tail}
 use Rattle.rmt_check.specs.Meaning.{index_of}
 use Rattle.rmt_check.specs.Sizes.{AreNarrow, IsSized, IsSizedTable, IsSizedTail, IsSizedHeader, IsSizedKey, count_of}
 use Rattle.rmt_check.proofs.FieldLists.{all_header, all_headers, back, length-declared, length-header_fields}
@@ -30,7 +29,7 @@ use Rattle.rmt_bits.proofs.ListLaws.{append-nil_left, drop-nil, flat_map-nil, ma
 -- Widths.
 
 width_in_range : (n : ℕ) → is_width n ≡ true → IsWidth n
-width_in_range n e = let parts = and_parts _ _ e in (leb-true 1 n parts.0, leb-true n 128 parts.1)
+width_in_range n e = grind (arith, nat_tests)
 
 pub widths_in_range : (ds : List Declared) → no_widths ds ≡ [] → All (λ (d : Declared). IsWidth d.width.value) ds
 widths_in_range ds e k d lt =
@@ -59,20 +58,13 @@ few_declared n ds e = omega (arith, few n (λ (x : Ident). x.place) (declared_na
 
 length-filter_map : {X Y : Type 0} (f : X → Option Y) (xs : List X) → length (filter_map f xs) ≤ length xs
 length-filter_map f [] = omega arith
-length-filter_map {Y = Y} f (x ∷ xs) = by (f x) (length-filter_map f xs)
-  where
-    by : (o : Option Y) → length (filter_map f xs) ≤ length xs → length (cons_option o (filter_map f xs)) ≤ length (x ∷ xs)
-    by None h = omega arith
-    by (Some y) h = omega arith
+length-filter_map f (x ∷ xs) = grind (arith, length-filter_map f xs)
 
 pub size_in_range : (k : KeyText) → bad_table_size (Some k) ≡ [] → (1 ≤ k.size.value) × (k.size.value ≤ 1048576)
-size_in_range k e =
-    let parts = and_parts (nat_le 1 k.size.value) (nat_le k.size.value 1048576) (no_when_not (nat_le 1 k.size.value && nat_le k.size.value 1048576) k.size.place e) in
-    (leb-true 1 k.size.value parts.0, leb-true k.size.value 1048576 parts.1)
+size_in_range k e = grind (arith, nat_tests)
 
 key_sized : (k : Option KeyText) → bad_table_size k ≡ [] → IsSizedKey k
-key_sized None e = tt
-key_sized (Some k) e = (size_in_range k e).1
+key_sized k e = grind (arith, nat_tests)
 
 abbrev IsWide : Known → Type 0
 IsWide f = IsWidth f.width
@@ -83,21 +75,16 @@ one_bit = (lit≤ tt, lit≤ tt)
 nine_bits : IsWidth 9
 nine_bits = (lit≤ tt, lit≤ tt)
 
+size_bits : (bits : ℕ) (p : Place) → when (not (is_size bits)) p ≡ [] → bits ≤ 512
+size_bits bits p e = grind (arith, nat_tests)
+
 module _ (s : Source) where
   tail_sized : (h : HeaderText) (o : Option TailText) → flat_map (bad_tail s h) (option_to_list o) ≡ [] → IfSome o IsSizedTail
-  tail_sized h None e = tt
-  tail_sized h (Some t) e =
-      let width = width_of s (selected s h t.field) in
-      let n = (2 ^ width - 1) * t.unit.value in
-      let range = no_when_not (is_tail_range width t.unit.value t.base.value) t.place (append-nil_left (bad_tail s h t) [] e) in
-      let three = and_parts _ (nat_le t.base.value 255) (and_parts _ (nat_le t.base.value n) (and_parts _ (nat_le n (t.base.value + 64)) range).0).0 in
-      record { unit = leb-true t.unit.value 255 (and_parts _ (nat_le t.unit.value 255) three.0).1; base = leb-true t.base.value 255 three.1 }
+  tail_sized h o e = grind (arith, nat_tests, append-nil_left)
 
   header_sized : (h : HeaderText) → field_widths h ≡ [] → bad_size h ≡ [] → bad_tails s h ≡ [] → IsSizedHeader h
   header_sized h wide size tail =
-      let sized = no_when_not (is_size (bits_of h)) h.ident.place size in
-      let upper = and_parts (nat_le 1 (bits_of h)) (nat_le (bits_of h) 512) (and_parts (nat_le 1 (bits_of h) && nat_le (bits_of h) 512) (bits_of h % 8 == 0) sized).0 in
-      let bits : bits_of h ≤ 512 = leb-true (bits_of h) 512 upper.1 in
+      let bits : bits_of h ≤ 512 = size_bits (bits_of h) h.ident.place size in
       let count : length h.fields ≤ bits_of h = count_bits h.fields (widths_in_range h.fields wide) in
       record { widths = narrow h.fields wide; bits = bits; few = omega arith; tail = tail_sized h h.tail tail }
 
@@ -168,26 +155,18 @@ count_fields s =
     )
 
 pub field_small : (s : Source) (x : Named) → IsSized s → unwrap_or (field_place s x) 0 < 2 ^ 32
-field_small s x h = by (field_place s x) refl
-  where
-    by : (o : Option ℕ) → field_place s x ≡ o → unwrap_or o 0 < 2 ^ 32
-    by None e = lit< tt
-    by (Some n) e =
-        let lt = (position-Some (same_field x) (named_fields s) n in_port e).0 in omega (arith, h.few_fields, h.few_metadata, length-map (fields_of s) (λ (f : Known). f.named), count_fields s)
+field_small s x h = grind (arith, position-Some (same_field x) (named_fields s), length-map (fields_of s) (λ (f : Known). f.named), count_fields s)
 
 pub width_narrow : (s : Source) (x : Named) → IsSized s → width_of s x ≤ 128
 width_narrow s x h = by (field_place s x)
   where
-    at : (n : ℕ) → width_at s n ≤ 128
-    at n =
-        elim ((slice_get_cases (fields_of s) n).1) [
-          | inl (f, lt, found, is) ↦ rw found (subst (λ (g : Known). g.width ≤ 128) is (All-get_or (λ (g : Known). g.width ≤ 128) (fields_of s) n f lt h.widths))
-          | inr (past, none) ↦ rw none (lit≤ tt)
-        ]
+    at : (n : ℕ) (o : Option Known) → slice_get (fields_of s) n ≡ o → unwrap_or (option_map (λ (f : Known). f.width) o) 0 ≤ 128
+    at n None e = lit≤ tt
+    at n (Some f) e = All-slice_get (λ (g : Known). g.width ≤ 128) (fields_of s) n f h.widths e
 
     by : (o : Option ℕ) → option_map_or (width_at s) o 0 ≤ 128
     by None = lit≤ tt
-    by (Some n) = at n
+    by (Some n) = at n (slice_get (fields_of s) n) refl
 
 -- the numbers of the headers so far and of the next are few
 pub numbers_few : (s : Source) (hs : List HeaderText) (i : ℕ) (h : HeaderText) → IsSized s → hs ≡ s.headers → i < length hs → h ≡ get_or hs i h → count_of (take i hs) + (1 + length h.fields) ≤ 32832
@@ -198,8 +177,5 @@ numbers_few s hs i h sized same lt is =
 -- a table's list is short
 pub listed_few : (s : Source) (name : List ℕ) → IsSized s → length (ident_names (listed_by s name)) ≤ 14
 listed_few s name h =
-    omega (arith, length-map (listed_by s name) (λ (i : Ident). i.name), by (find (λ (t : TableText). bytes_eq name t.ident.name) s.tables) refl)
-  where
-    by : (o : Option TableText) → find (λ (t : TableText). bytes_eq name t.ident.name) s.tables ≡ o → length (unwrap_or (option_map listed o) []) ≤ 14
-    by None e = lit≤ tt
-    by (Some t) e = (All-find IsSizedTable (λ (u : TableText). bytes_eq name u.ident.name) s.tables t h.tables e).few
+    let each = All-find IsSizedTable (λ (t : TableText). bytes_eq name t.ident.name) s.tables in
+    grind (arith, length-map (listed_by s name) (λ (i : Ident). i.name), each)

@@ -1,46 +1,24 @@
 -- Laws of the earlier of two places, and of the earliest of a list.
-use Rattle.std.proofs.Common.{◌≡◌, ℕ, ◌<◌, ◌≤◌, ◌+◌, List, [], ◌∷◌, ◌++◌, Bool, true, false, if◌then◌else◌, None, Some, Option, map, take, length, get_or, refl, sym, ap, ◌∙◌, arith}
+use Rattle.std.proofs.Common.{◌≡◌, ℕ, ◌<◌, ◌≤◌, ◌+◌, List, [], ◌∷◌, ◌++◌, if◌then◌else◌, None, Some, Option, map, take, length, get_or, refl, sym, ap, ◌∙◌, arith}
 use Rattle.std.specs.List.{enumerate_from, flat_map}
 use Rattle.std.proofs.lemmas.Bool.Decides.{nat_tests}
 use Rattle.std.proofs.lemmas.List.{take_more, map_more, take_all, append-nil}
 use Rattle.std.proofs.lemmas.List.Concat.{flat_map-append}
 use Rattle.std.proofs.lemmas.List.FromFn.{length-enumerate_from, get_or-enumerate_from}
-use Rattle.rmt_check.specs.Parts.{Place, Ident, CaseText, HeaderText, Source}
+use Rattle.rmt_check.specs.Parts.{Place, Ident, CaseText, HeaderText}
 use Rattle.rmt_check.specs.Rules.{is_before, earlier, earliest, target_names, targets}
 
--- what is before a place that is before a third is before that
-before_before : (c b a : Place) → is_before c b ≡ true → is_before b a ≡ true → is_before c a ≡ true
-before_before c b a p q = grind (arith, nat_tests)
+abbrev choose : Place → Place → Place
+choose a b = if is_before b a then b else a
 
-before_neither : (c b a : Place) → is_before c b ≡ false → is_before b a ≡ false → is_before c a ≡ false
-before_neither c b a p q = grind (arith, nat_tests)
-
-abbrev choose : Place → Place → Bool → Place
-choose a b y = if y then b else a
-
-choose_assoc : (a b c : Place) (ba cb ca : Bool) → (cb ≡ true → ba ≡ true → ca ≡ true) → (cb ≡ false → ba ≡ false → ca ≡ false)
-    → (if ba then choose b c cb else choose a c ca) ≡ (if cb then choose a c ca else choose a b ba)
-choose_assoc a b c true true ca t f = rw (t refl refl) refl
-choose_assoc a b c true false ca t f = refl
-choose_assoc a b c false true ca t f = refl
-choose_assoc a b c false false ca t f = rw (f refl refl) refl
-
-left_choice : (a b c : Place) (ba : Bool) → choose (choose a b ba) c (is_before c (choose a b ba)) ≡ (if ba then choose b c (is_before c b) else choose a c (is_before c a))
-left_choice a b c true = refl
-left_choice a b c false = refl
-
-right_choice : (a b c : Place) (cb : Bool) → choose a (choose b c cb) (is_before (choose b c cb) a) ≡ (if cb then choose a c (is_before c a) else choose a b (is_before b a))
-right_choice a b c true = refl
-right_choice a b c false = refl
+choose_assoc : (a b c : Place) → choose (choose a b) c ≡ choose a (choose b c)
+choose_assoc a b c = grind (arith, nat_tests)
 
 pub earlier_assoc : (a b c : Option Place) → earlier (earlier a b) c ≡ earlier a (earlier b c)
 earlier_assoc None b c = refl
 earlier_assoc (Some a) None c = refl
 earlier_assoc (Some a) (Some b) None = refl
-earlier_assoc (Some a) (Some b) (Some c) =
-    ap Some (left_choice a b c (is_before b a)
-    ∙ choose_assoc a b c (is_before b a) (is_before c b) (is_before c a) (before_before c b a) (before_neither c b a)
-    ∙ sym (right_choice a b c (is_before c b)))
+earlier_assoc (Some a) (Some b) (Some c) = ap Some (choose_assoc a b c)
 
 -- the earliest of two lists
 pub earliest-append : (xs ys : List Place) → earliest (xs ++ ys) ≡ earlier (earliest xs) (earliest ys)
@@ -92,18 +70,20 @@ flat_map-flat_map f g [] = refl
 flat_map-flat_map f g (x ∷ xs) = flat_map-append f (g x) (flat_map g xs) ∙ ap (λ ys. flat_map f (g x) ++ ys) (flat_map-flat_map f g xs)
 
 -- what is broken at the targets of a header: by its cases and the last one
-at_targets : (f : Ident → List Place) (h : HeaderText) → flat_map f (targets h) ≡ flat_map (λ (c : CaseText). flat_map f (target_names c.target)) h.cases ++ flat_map f (target_names h.other)
-at_targets f h =
-    flat_map-append f (flat_map (λ (c : CaseText). target_names c.target) h.cases) (target_names h.other)
-    ∙ ap (λ (ps : List Place). ps ++ flat_map f (target_names h.other)) (flat_map-flat_map f (λ (c : CaseText). target_names c.target) h.cases)
-
 pub targets_joined : (f : Ident → List Place) (h : HeaderText) (p : Option Place) → p ≡ earliest (flat_map (λ (c : CaseText). flat_map f (target_names c.target)) h.cases ++ flat_map f (target_names h.other))
     → p ≡ earliest (flat_map f (targets h))
-targets_joined f h p e = e ∙ ap earliest (sym (at_targets f h))
+targets_joined f h p e = rw (flat_map-append f (flat_map (λ (c : CaseText). target_names c.target) h.cases) (target_names h.other), flat_map-flat_map f (λ (c : CaseText). target_names c.target) h.cases) e
 
--- what is found beside names of the text
-pub shared_text : {N T : Type 0} (text : N → Source) (broken : Source → T → List Place) (shared names : N) (x : T) (p : Option Place) → names ≡ shared → p ≡ earliest (broken (text names) x) → p ≡ earliest (broken (text shared) x)
-shared_text text broken shared names x p same found = found ∙ ap (λ n. earliest (broken (text n) x)) same
+-- A place that is the earliest of some, where the list can be read off.
+pub record Found (xs : List Place) (p : Option Place) : Type 0 where
+  pub is : p ≡ earliest xs
+
+-- what is found in a list is found in an equal one
+pub found_in : {X : Type 0} (f : List X → List Place) {p : Option Place} {xs ys : List X} → p ≡ earliest (f xs) → xs ≡ ys → Found (f ys) p
+found_in f e same = record { is = e ∙ ap (λ xs. earliest (f xs)) same }
+
+pub join : {xs ys : List Place} {a b both : Option Place} → both ≡ earlier a b → Found xs a → Found ys b → Found (xs ++ ys) both
+join {xs} {ys} {a} {b} {both} e p q = record { is = joined xs ys a b both e p.is q.is }
 
 -- for the attribute of a function that joins what was found
 pub ruleset joins = (earliest-append)

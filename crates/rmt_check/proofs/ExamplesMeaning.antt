@@ -18,25 +18,25 @@ abbrev test : ℕ → ℕ → Test
 test value mask = record { value = value; mask = mask }
 
 -- the fields 0 to 8, in the order of the text
-abbrev fields : List Field
-fields =
-    field (codes "in_port") 9 ∷ field (codes "out_port") 9 ∷ field (codes "drop") 1 ∷ field (codes "h.valid") 1 ∷ field (codes "h.a") 8 ∷ field (codes "h.b") 8
+fields_of_text : (program_of text).fields
+    ≡ field (codes "in_port") 9 ∷ field (codes "out_port") 9 ∷ field (codes "drop") 1 ∷ field (codes "h.valid") 1 ∷ field (codes "h.a") 8 ∷ field (codes "h.b") 8
     ∷ field (codes "g.valid") 1 ∷ field (codes "g.a") 16 ∷ field (codes "meta.m") 16 ∷ []
+fields_of_text = refl
 
-abbrev headers : List Header
-headers =
-    let to_g : Case = record { tests = test 7 255 ∷ []; target = to.Node 1 } in
+headers_of_text : (program_of text).headers
+    ≡ (let to_g : Case = record { tests = test 7 255 ∷ []; target = to.Node 1 } in
     let h : Header = record { name = codes "h"; valid = 3; fields = 4 ∷ 5 ∷ []; bytes = 2; tail = None; select = 4 ∷ []; cases = to_g ∷ []; other = to.Accept } in
     let g : Header = record { name = codes "g"; valid = 6; fields = 7 ∷ []; bytes = 2; tail = None; select = []; cases = []; other = to.Accept } in
-    h ∷ g ∷ []
+    h ∷ g ∷ [])
+headers_of_text = refl
 
-abbrev actions : List Action
-actions =
-    let b : Assign = record { dest = 5; expr = One (leaf.Param 0) } in
+actions_of_text : (program_of text).actions
+    ≡ (let b : Assign = record { dest = 5; expr = One (leaf.Param 0) } in
     let m : Assign = record { dest = 8; expr = Two Add (leaf.Field 7) (leaf.Number 1) } in
     let set : Action = record { name = codes "set"; params = 8 ∷ []; assigns = b ∷ [] } in
     let hop : Action = record { name = codes "hop"; params = []; assigns = m ∷ [] } in
-    set ∷ hop ∷ []
+    set ∷ hop ∷ [])
+actions_of_text = refl
 
 abbrev table : Table
 table = record {
@@ -51,32 +51,20 @@ table = record {
 }
 
 -- the first action of the list is outcome 2
-abbrev nodes : List Node
-nodes =
-    let first : Node = record { guard = None; what = Apply 0 } in
+nodes_of_text : (program_of text).nodes
+    ≡ (let first : Node = record { guard = None; what = Apply 0 } in
     let in_arm : Guard = record { parent = 0; mask = 4 } in
     let second : Node = record { guard = Some in_arm; what = Gate 4 (test 5 15) } in
-    first ∷ second ∷ []
+    first ∷ second ∷ [])
+nodes_of_text = refl
 
 breaks_no_rule : fault_of text ≡ None
 breaks_no_rule = refl
-
-fields_of_text : (program_of text).fields ≡ fields
-fields_of_text = refl
-
-headers_of_text : (program_of text).headers ≡ headers
-headers_of_text = refl
 
 -- a tail of the header's own field
 tail_of_text : map (λ (h : Header). h.tail) (program_of (record text { headers = header_g ∷ header_o 4 (codes "n") 4 4 ∷ [] })).headers
     ≡ None ∷ (let t : Tail = record { field = 6; unit = 4; base = 4 } in Some t) ∷ []
 tail_of_text = refl
 
-actions_of_text : (program_of text).actions ≡ actions
-actions_of_text = refl
-
 tables_of_text : (program_of text).tables ≡ table ∷ []
 tables_of_text = refl
-
-nodes_of_text : (program_of text).nodes ≡ nodes
-nodes_of_text = refl

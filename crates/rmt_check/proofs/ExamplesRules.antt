@@ -1,5 +1,5 @@
 -- The small text, changed so that it breaks a rule, and the places where it does.
-use Rattle.std.proofs.Common.{◌≡◌, ℕ, [], ◌∷◌, List, codes, None, Some, map, refl}
+use Rattle.std.proofs.Common.{◌≡◌, ℕ, [], ◌∷◌, List, codes, None, Some, map, replicate, refl}
 use Rattle.std.specs.List.{flat_map, range_with_len}
 use Rattle.rmt_ast.specs.declared.program.Kind.TheVariants.{Prefix}
 use Rattle.rmt_check.specs.Parts.{FieldText, CaseText, HeaderText, AssignText, KeyText, NodeText, Source}
@@ -54,11 +54,8 @@ no_tail_a : broken_6 (with_headers (header_h ∷ header_g ∷ header_o 4 (codes 
 no_tail_a = refl
 
 -- code 7: a width of 129, and of 0
-too_wide_field : broken_7 (with_headers (header_h ∷ record header_g { fields = declared 11 (codes "a") 129 ∷ [] } ∷ [])) ≡ at 12 ∷ []
-too_wide_field = refl
-
-no_width : broken_7 (with_headers (header_h ∷ record header_g { fields = declared 11 (codes "a") 0 ∷ [] } ∷ [])) ≡ at 12 ∷ []
-no_width = refl
+widths_beyond : map (λ width. broken_7 (with_headers (header_h ∷ record header_g { fields = declared 11 (codes "a") width ∷ [] } ∷ []))) (129 ∷ 0 ∷ []) ≡ replicate 2 (at 12 ∷ [])
+widths_beyond = refl
 
 -- code 8: 15 bits
 no_whole_bytes : broken_8 (with_headers (header_h ∷ record header_g { fields = declared 11 (codes "a") 15 ∷ [] } ∷ [])) ≡ at 10 ∷ []
@@ -139,23 +136,8 @@ abbrev with_tail : ℕ → ℕ → ℕ → Source
 with_tail width unit base = with_headers (header_h ∷ header_g ∷ header_o width (codes "n") unit base ∷ [])
 
 -- code 21: 15 * 5 - 4 bytes, a field of 9 bits, no unit, a unit and a base of 9 bits, and 15 * 4 - 61 bytes
-long_tail : broken_21 (with_tail 4 5 4) ≡ at 84 ∷ []
-long_tail = refl
-
-wide_tail_field : broken_21 (with_tail 9 1 255) ≡ at 84 ∷ []
-wide_tail_field = refl
-
-no_unit : broken_21 (with_tail 4 0 0) ≡ at 84 ∷ []
-no_unit = refl
-
-great_unit : broken_21 (with_tail 1 256 200) ≡ at 84 ∷ []
-great_unit = refl
-
-great_base : broken_21 (with_tail 8 1 256) ≡ at 84 ∷ []
-great_base = refl
-
-negative_tail : broken_21 (with_tail 4 4 61) ≡ at 84 ∷ []
-negative_tail = refl
+tails_beyond : map broken_21 (with_tail 4 5 4 ∷ with_tail 9 1 255 ∷ with_tail 4 0 0 ∷ with_tail 1 256 200 ∷ with_tail 8 1 256 ∷ with_tail 4 4 61 ∷ []) ≡ replicate 6 (at 84 ∷ [])
+tails_beyond = refl
 
 -- 56, 0 and 64 bytes
 tails_in_range : flat_map broken_21 (with_tail 4 4 4 ∷ with_tail 4 4 60 ∷ with_tail 4 5 11 ∷ []) ≡ []

@@ -1,30 +1,21 @@
 -- Fields as they are named, and as they are stored.
-use Rattle.std.proofs.Common.{◌≡◌, ◌∙◌, ℕ, zero, suc, ◌+◌, List, [], ◌∷◌, Bool, true, ◌&&◌, ◌==◌, not, cond, nat_lt, is_some, Option, Some, None, option_map, map, length, slice_get, position, unwrap_or, refl, sym, ap, ap₂, arith}
+use Rattle.std.proofs.Common.{◌≡◌, ◌∙◌, ℕ, suc, ◌+◌, List, [], ◌∷◌, Bool, true, ◌&&◌, ◌==◌, not, cond, nat_lt, is_some, Option, Some, None, option_map, map, length, slice_get, position, unwrap_or, refl, sym, ap, ap₂, arith}
 use Rattle.std.specs.Borrow.{Bor}
 use Rattle.std.specs.List.{position_or_len}
 use Rattle.std.specs.Str.{bytes_eq}
-use Rattle.std.proofs.Math.Dec.{eqb-suc-suc, eqb-suc-zero, eqb-zero-suc}
-use Rattle.std.proofs.lemmas.Bool.{false≢true}
+use Rattle.std.proofs.lemmas.Bool.Decides.{nat_tests}
 use Rattle.std.proofs.lemmas.List.{length-map}
 use Rattle.std.proofs.lemmas.List.Quantifiers.{position-Some}
 use Rattle.std.proofs.lemmas.Option.{none-some, same_Some, slice_get_read, slice_get-map}
 use Rattle.std.proofs.lemmas.Slice.Eq.{bytes_eq-Decides}
 use Rattle.rmt_check.specs.Parts.{Source}
 use Rattle.rmt_ast.specs.NameList.{number_of}
-use Rattle.rmt_check.specs.Names.{Known, fields_of, Owner, of_all, of_metadata, of_header, same_owner, Named, own, same_field, named_fields, field_place, is_field}
+use Rattle.rmt_check.specs.Names.{Known, fields_of, Owner, of_all, of_header, same_owner, Named, own, same_field, named_fields, field_place, is_field}
 use Rattle.rmt_check.specs.Meaning.{field_number}
 use Rattle.rmt_check.specs.Standing.{code_of, code, owner_at, named_at, stored}
 
 same_owner-code : (a b : Owner) → same_owner a b ≡ (code_of a == code_of b)
-same_owner-code of_all of_all = refl
-same_owner-code of_all of_metadata = refl
-same_owner-code of_all (of_header n) = sym (eqb-zero-suc (suc n))
-same_owner-code of_metadata of_all = refl
-same_owner-code of_metadata of_metadata = refl
-same_owner-code of_metadata (of_header n) = sym (eqb-suc-suc 0 (suc n) ∙ eqb-zero-suc n)
-same_owner-code (of_header m) of_all = sym (eqb-suc-zero (suc m))
-same_owner-code (of_header m) of_metadata = sym (eqb-suc-suc (suc m) 0 ∙ eqb-suc-zero m)
-same_owner-code (of_header m) (of_header n) = sym (eqb-suc-suc (suc m) (suc n) ∙ eqb-suc-suc m n)
+same_owner-code a b = grind (arith, nat_tests)
 
 pub same_field-code : (x y : Named) → same_field x y ≡ bytes_eq (code x) (code y)
 same_field-code x y = ap (λ (b : Bool). b && bytes_eq x.name y.name) (same_owner-code x.owner y.owner)
@@ -39,10 +30,7 @@ place-code f x xs = ap₂ (λ (k n : ℕ). cond (nat_lt k n) (Some k) None) (sam
 
 -- what is stored tells the field
 owner_is : (a b : Owner) → code_of a ≡ code_of b → a ≡ b
-owner_is of_all of_all e = refl
-owner_is of_metadata of_metadata e = refl
-owner_is (of_header m) (of_header n) e = ap of_header (omega arith)
-owner_is _ _ e = absurd (omega arith)
+owner_is a b e = grind arith
 
 pub field_is : (x y : Named) → same_field x y ≡ true → x ≡ y
 field_is x y same =
@@ -53,9 +41,7 @@ pub field_same : (x y : Named) → x ≡ y → same_field x y ≡ true
 field_same x y e = same_field-code x y ∙ (bytes_eq-Decides (code x) (code y)).1 (ap code e)
 
 code_owner : (n : ℕ) → code_of (owner_at n) ≡ n
-code_owner zero = refl
-code_owner (suc zero) = refl
-code_owner (suc (suc n)) = refl
+code_owner n = grind arith
 
 pub stored-code : (k : ℕ × Bor (List ℕ)) → stored k ≡ code (named_at k)
 stored-code k = ap (λ (n : ℕ). n ∷ k.1.now) (sym (code_owner k.0))
@@ -67,14 +53,17 @@ owner_header n = let e : 2 + n ≡ suc (suc n) = omega arith in ap owner_at e
 pub owner_same : (n : ℕ) → same_owner (owner_at n) of_all ≡ (n == 0)
 owner_same n = same_owner-code (owner_at n) of_all ∙ ap (λ (k : ℕ). k == 0) (code_owner n)
 
+is_there : (o : Option ℕ) → is_some o ≡ true → o ≡ Some (unwrap_or o 0)
+is_there o e = grind arith
+
+named_there : (o : Option Known) (x : Named) → option_map (λ (f : Known). f.named) o ≡ Some x → (f : Known) × (o ≡ Some f) × (f.named ≡ x)
+named_there (Some f) x e = (f, refl, same_Some f.named x e)
+named_there None x e = absurd (none-some x e)
+
 -- a field that is known has a number, and stands there
 module _ (s : Source) (x : Named) (known : is_field s x ≡ true) where
   pub place_at : field_place s x ≡ Some (field_number s x)
-  place_at = by (field_place s x) known
-    where
-      by : (o : Option ℕ) → is_some o ≡ true → o ≡ Some (unwrap_or o 0)
-      by None e = absurd (false≢true e)
-      by (Some n) e = refl
+  place_at = is_there (field_place s x) known
 
   pub field_at : slice_get (named_fields s) (field_number s x) ≡ Some x
   field_at =
@@ -82,8 +71,4 @@ module _ (s : Source) (x : Named) (known : is_field s x ≡ true) where
       slice_get_read (named_fields s) (length (named_fields s)) (field_number s x) x refl place.0 (field_is x _ place.1)
 
   pub known_at : (f : Known) × (slice_get (fields_of s) (field_number s x) ≡ Some f) × (f.named ≡ x)
-  known_at = by (slice_get (fields_of s) (field_number s x)) refl (sym (slice_get-map (λ (f : Known). f.named) (fields_of s) (field_number s x)) ∙ field_at)
-    where
-      by : (o : Option Known) → slice_get (fields_of s) (field_number s x) ≡ o → option_map (λ (f : Known). f.named) o ≡ Some x → (f : Known) × (slice_get (fields_of s) (field_number s x) ≡ Some f) × (f.named ≡ x)
-      by None at e = absurd (none-some x e)
-      by (Some f) at e = (f, at, same_Some f.named x e)
+  known_at = named_there (slice_get (fields_of s) (field_number s x)) x (sym (slice_get-map (λ (f : Known). f.named) (fields_of s) (field_number s x)) ∙ field_at)

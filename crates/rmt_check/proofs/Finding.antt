@@ -1,8 +1,8 @@
 -- What stands at the number of a name.
-use Rattle.std.proofs.Common.{◌≡◌, ℕ, zero, suc, get_or, ◌+◌, ◌<◌, List, [], ◌∷◌, Bool, true, false, not, cond, ◌||◌, Some, option_map, unwrap_or, map, find, slice_get, length, refl, sym, ap, subst, ◌∙◌, arith, Option, one-add}
+use Rattle.std.proofs.Common.{◌≡◌, ℕ, zero, suc, get_or, ◌+◌, ◌<◌, List, [], ◌∷◌, ◌++◌, take, ap₂, Bool, true, false, not, cond, ◌||◌, Some, option_map, unwrap_or, map, find, slice_get, length, refl, sym, ap, subst, ◌∙◌, arith, Option, one-add}
 use Rattle.std.specs.List.{position_or_len}
 use Rattle.std.specs.Str.{bytes_eq}
-use Rattle.std.proofs.lemmas.List.{length-map, map-id}
+use Rattle.std.proofs.lemmas.List.{length-map, map-id, map_push, take_more}
 use Rattle.std.proofs.lemmas.Option.{slice_get_within}
 use Rattle.rmt_check.specs.Parts.{TableText}
 use Rattle.rmt_ast.specs.NameList.{number_of, is_known}
@@ -11,6 +11,12 @@ use Rattle.rmt_check.specs.Standing.{list_names}
 use Rattle.std.proofs.lemmas.Bool.{false≢true, lt-ltb}
 use Rattle.std.proofs.lemmas.Slice.Eq.{bytes_eq-Decides}
 use Rattle.rmt_check.specs.Meaning.{index_of}
+
+-- one item more, where what is gathered so far is that of the items before
+pub gathered_more : {A B X : Type 0} (h : A → B) (f : X → B) (ys more : List A) (y : A) (xs : List X) (i : ℕ) (x : X) → more ≡ ys ++ y ∷ [] → h y ≡ f x → i < length xs → x ≡ get_or xs i x
+    → map h ys ≡ map f (take i xs) → map h more ≡ map f (take (i + 1) xs)
+gathered_more {B = B} h f ys more y xs i x put same lt is old =
+    ap (map h) put ∙ map_push h ys y ∙ ap₂ (λ (bs : List B) (b : B). bs ++ b ∷ []) old (same ∙ ap f is) ∙ sym (map_push f (take i xs) (get_or xs i x)) ∙ ap (map f) (sym (take_more xs i x lt))
 
 -- the list that stands at a table's number is that of the table
 pub list_at : (ts : List TableText) (n : ℕ) (l : List (List ℕ)) → n < length (list_names ts) → l ≡ get_or (list_names ts) n l

@@ -8,7 +8,6 @@ pub mod texts
 pub mod Earliest
 pub mod SeenNames
 pub mod Bounds
-pub mod CheckingLaws
 pub mod programs
 pub mod MeansLaws
 mod ExampleText

@@ -1,6 +1,7 @@
 -- Each node of a control stands in an arm of one of its nodes, an earlier one.
-use Rattle.std.proofs.Common.{◌≡◌, ℕ, ◌+◌, ◌<◌, ◌≤◌, List, [], ◌∷◌, ◌++◌, Bool, true, false, if◌then◌else◌, None, Some, Option, unwrap_or, map, filter_map, fold, length, get_or, All, sym, ap, subst, ◌∙◌, length-append, arith}
+use Rattle.std.proofs.Common.{◌≡◌, ℕ, ◌+◌, ◌<◌, ◌≤◌, List, [], ◌∷◌, ◌++◌, Bool, if◌then◌else◌, None, Some, Option, unwrap_or, map, filter_map, fold, length, get_or, All, sym, ap, subst, ◌∙◌, length-append, arith}
 use Rattle.std.specs.List.{cons_option, enumerate_from}
+use Rattle.std.proofs.lemmas.Bool.{cond_both}
 use Rattle.std.proofs.lemmas.List.Elements.{All-nil, All-cons, All-head, All-tail, All-map}
 use Rattle.std.proofs.lemmas.Option.{none-some, slice_get-get_or}
 use Rattle.rmt_syntax.specs.declared.tree.Tree.{Tree, roll-Tree, out-Tree, out-roll-Tree}
@@ -12,7 +13,7 @@ use Rattle.rmt_ast.specs.WellFormed.{AllNumbered}
 use Rattle.rmt_ast.proofs.WellFormedLemmas.{AllNumbered-none, AllNumbered-push}
 use Rattle.rmt_check.specs.Reading.{parts_of, node_text, Adds, Read, all_added, is_arm, arm_adds, with_arm, statement_added, is_statement, text_added, reads, layer_added, added, control_text, control_at, control_among, parts, source_of}
 use Rattle.rmt_check.specs.Naming.{IsUnder}
-use Rattle.rmt_check.proofs.texts.PartLaws.{made_of, first_seen, or_default}
+use Rattle.rmt_check.proofs.texts.PhraseLaws.{made_of, first_seen, or_default}
 use Rattle.rmt_check.proofs.ReadingLaws.{owns, reads_own, added_one}
 use Rattle.rmt_check.specs.Names.{nodes_of}
 use Rattle.rmt_check.specs.Sizes.{AreNested}
@@ -31,8 +32,7 @@ record Grows (least : ℕ) (ns : List NodeText) : Type 0 where
   long : least ≤ length ns
 
 pub later : (m n : ℕ) (under : Option Under) → m ≤ n → IsUnder m under → IsUnder n under
-later m n None le h = tt
-later m n (Some u) le h = let l = h in omega arith
+later m n under le h = grind arith
 
 -- what is added keeps the order
 abbrev Keeps : Adds → Type 0
@@ -57,13 +57,12 @@ arms_keep parent n (a ∷ adds) keeps ns order less =
 abbrev ReadsKeep : List Read → Type 0
 ReadsKeep rs = All (λ (r : Read). Keeps r.1) rs
 
+arm_keeps : (b : Bool) (add : Adds) (adds : List Adds) → Keeps add → All Keeps adds → All Keeps (cons_option (if b then Some add else None) adds)
+arm_keeps b add adds one rest = grind (arith, All-cons)
+
 arms_of : (rs : List Read) → ReadsKeep rs → All Keeps (filter_map arm_adds rs)
 arms_of [] h = All-nil Keeps
-arms_of (r ∷ rs) h = by (is_arm (out-Tree r.0)) (arms_of rs (All-tail (λ (x : Read). Keeps x.1) r rs h))
-  where
-    by : (b : Bool) → All Keeps (filter_map arm_adds rs) → All Keeps (cons_option (if b then Some r.1 else None) (filter_map arm_adds rs))
-    by true rest = All-cons Keeps r.1 (filter_map arm_adds rs) (All-head (λ (x : Read). Keeps x.1) r rs h) rest
-    by false rest = rest
+arms_of (r ∷ rs) h = arm_keeps (is_arm (out-Tree r.0)) r.1 (filter_map arm_adds rs) (All-head (λ (x : Read). Keeps x.1) r rs h) (arms_of rs (All-tail (λ (x : Read). Keeps x.1) r rs h))
 
 statement_keeps : (rs : List Read) → ReadsKeep rs → Keeps (statement_added rs)
 statement_keeps rs keeps ns under order stands =
@@ -73,11 +72,9 @@ statement_keeps rs keeps ns under order stands =
     record { order = arms.order; long = let l = arms.long in omega arith }
 
 text_keeps : (r : Rule) (rs : List Read) → ReadsKeep rs → Keeps (text_added r rs)
-text_keeps r rs keeps = by (is_statement r)
-  where
-    by : (b : Bool) → Keeps (if b then statement_added rs else all_added (map (λ (x : Read). x.1) rs))
-    by true = statement_keeps rs keeps
-    by false = all_keep (map (λ (x : Read). x.1) rs) (All-map Keeps (λ (x : Read). x.1) rs keeps)
+text_keeps r rs keeps =
+    let adds : List Adds = map (λ (x : Read). x.1) rs in
+    cond_both (is_statement r) (statement_added rs) (all_added adds) Keeps (λ e. statement_keeps rs keeps) (λ e. all_keep adds (All-map Keeps (λ (x : Read). x.1) rs keeps))
 
 -- a tree whose nodes keep the order
 abbrev TreeKeeps : Tree → Type 0

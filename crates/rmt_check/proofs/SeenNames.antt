@@ -1,5 +1,5 @@
 -- Names that repeat an earlier one.
-use Rattle.std.proofs.Common.{◌≡◌, ℕ, ◌+◌, ◌<◌, List, [], ◌∷◌, ◌++◌, Bool, true, false, ◌&&◌, ◌||◌, not, cond, nat_eq, Option, map, take, length, get_or, refl, sym, ap, ap₂, ◌∙◌}
+use Rattle.std.proofs.Common.{◌≡◌, ℕ, ◌+◌, ◌<◌, List, [], ◌∷◌, ◌++◌, Bool, true, ◌&&◌, ◌||◌, not, cond, nat_eq, Option, map, take, length, get_or, refl, sym, ap, ap₂, ◌∙◌, arith}
 use Rattle.std.specs.Borrow.{Bor}
 use Rattle.std.specs.Cmp.Lexicographic.{pointwise}
 use Rattle.std.specs.List.{list_any, enumerate_from, flat_map}
@@ -38,22 +38,11 @@ repeated_by-map {X} {Y} f same place all = each 0 all
 module _ {K : Type 0} (eq : K → K → Bool) (xs : List (K × Place)) (i : ℕ) (x : K × Place) (lt : i < length xs) (at : x ≡ get_or xs i x) where
   pub seen_again : (known fresh : Bool) (one : Option Place) → known ≡ list_any (λ y. eq x.0 y.0) (take i xs) → fresh ≡ not known → one ≡ earliest (when (not fresh) x.1)
       → one ≡ earliest (again (λ x y. eq x.0 y.0) (λ x. x.1) xs (i, x))
-  seen_again known fresh one k f o = o ∙ ap (λ (b : Bool). earliest (when b x.1)) (ap not f ∙ not-not known ∙ k)
-    where
-      not-not : (b : Bool) → not (not b) ≡ b
-      not-not true = refl
-      not-not false = refl
+  seen_again known fresh one k f o = grind (arith, o, f, k)
 
   pub keys_more : ((a b : K) → eq a b ≡ eq b a) → (was is : K → Bool) → ((k : K) → was k ≡ list_any (λ y. eq k y.0) (take i xs)) → ((k : K) → is k ≡ cond (eq x.0 k) true (was k))
       → (k : K) → is k ≡ list_any (λ y. eq k y.0) (take (i + 1) xs)
-  keys_more symm was is before after k =
-      after k ∙ either (eq x.0 k) (was k) ∙ ap₂ (λ (a b : Bool). a || b) (before k) (symm x.0 k ∙ ap (λ (y : K × Place). eq k y.0) at) ∙ sym (list_any_more (λ y. eq k y.0) xs i x lt)
-    where
-      either : (b a : Bool) → cond b true a ≡ (a || b)
-      either true true = refl
-      either true false = refl
-      either false true = refl
-      either false false = refl
+  keys_more symm was is before after k = grind (arith, list_any_more (λ y. eq k y.0) xs i x lt, after k, before k, symm x.0 k, ap (λ (y : K × Place). eq k y.0) at)
 
 -- a name that was marked with its place
 abbrev pub told_ident : Bor (List ℕ) × Place → Ident

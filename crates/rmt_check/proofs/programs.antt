@@ -1,10 +1,6 @@
-pub mod ListLaws
 pub mod NameLaws
 pub mod RuleLaws
-pub mod FieldLaws
-pub mod ActionLaws
 pub mod BlockLaws
-pub mod PrintedLaws
 pub mod HeaderLaws
 pub mod TableLaws
 pub mod NodeLaws

@@ -1,4 +1,3 @@
-pub mod PartLaws
 pub mod PhraseLaws
 pub mod FoundLaws
 pub mod WordLaws

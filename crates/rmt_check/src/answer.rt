@@ -67,12 +67,12 @@ fn check_rules<N: Lookup>(alloc: Global, names: &N) -> Result<(), ProgramFault>
 }
 
 /// The program of a text, given its names, whose nodes stand in arms of its nodes.
-fn check_named<N: Lookup>(alloc: Global, names: &N) -> Result<Program, ProgramFault>
-    requires { AreNested (N.text names.now) }
-    ensures { Answers (N.text names.now) result }
+fn check_named<N: Lookup + Drop>(alloc: Global, names: N) -> Result<Program, ProgramFault>
+    requires { AreNested (N.text names) }
+    ensures { Answers (N.text names) result }
 {
-    check_rules(alloc, names)?;
-    Ok(build(alloc, names)?)
+    check_rules(alloc, &names)?;
+    Ok(build(alloc, &names)?)
 }
 
 /// The program of a text whose nodes stand in arms of its nodes.
@@ -80,8 +80,7 @@ fn check_source(alloc: Global, source: &Source) -> Result<Program, ProgramFault>
     requires { AreNested source.now }
     ensures { Answers source.now result }
 {
-    let names = Names::of(alloc, source)?;
-    check_named(alloc, &names)
+    check_named(alloc, Names::of(alloc, source)?)
 }
 
 /// The program that a text means, given its parse tree, where it keeps every rule of form.

@@ -4,13 +4,11 @@ ghost use Rattle.std.specs.Prelude.{◌≡◌, IfOk};
 ghost use Rattle.rmt_check.specs.Meaning.{program_of};
 ghost use Rattle.rmt_check.specs.Sizes.{AreNested, IsSized};
 
-use crate::building::actions::action_of;
 use crate::building::fields::fields_of;
 use crate::building::headers::headers_of;
 use crate::building::mapped::mapped;
-use crate::building::nodes::node_of;
-use crate::building::tables::table_of;
 use crate::names::lookup::Lookup;
+use crate::pairs::both;
 use crate::rules::parts::nodes_of;
 use rmt_ast::program::Program;
 use std::alloc::{AllocError, Global};
@@ -32,15 +30,21 @@ pub fn build<N: Lookup>(alloc: Global, names: &N) -> Result<Program, AllocError>
     ensures program { IfOk result (λ program. program ≡ program_of (N.text names.now)) }
 {
     let source = names.source();
+    let (nodes, ((fields, headers), (actions, tables))) = both(
+        mapped(alloc, names, nodes_of(source)),
+        both(
+            both(fields_of(alloc, names), headers_of(alloc, names)),
+            both(
+                mapped(alloc, names, source.actions.as_slice()),
+                mapped(alloc, names, source.tables.as_slice()),
+            ),
+        ),
+    )?;
     Ok(Program {
-        fields: fields_of(alloc, names)?,
-        headers: headers_of(alloc, names)?,
-        actions: mapped(alloc, source.actions.as_slice(), |action| {
-            action_of(alloc, names, action)
-        })?,
-        tables: mapped(alloc, source.tables.as_slice(), |table| {
-            table_of(alloc, names, table)
-        })?,
-        nodes: mapped(alloc, nodes_of(source), |node| Ok(node_of(names, node)))?,
+        fields,
+        headers,
+        actions,
+        tables,
+        nodes,
     })
 }

@@ -6,6 +6,7 @@ mod answer;
 mod building;
 pub mod laws;
 mod names;
+mod pairs;
 mod reading;
 mod rules;
 mod source;

@@ -1,13 +1,15 @@
 //! What the names of a program's text stand for.
 
-ghost use Rattle.std.specs.Prelude.{◌≡◌, find, IfOk, option_copied, option_map};
+ghost use Rattle.std.specs.Prelude.{◌≡◌, [], find, IfOk, option_copied, option_map};
 ghost use Rattle.std.specs.Str.{bytes_eq};
 ghost use Rattle.rmt_check.specs.Parts.{Source as SourceValue, TableText as TableValue};
 ghost use Rattle.rmt_check.specs.Names.{action_names, header_names, ident_names, listed, table_names};
+ghost use Rattle.rmt_check.specs.Standing.{list_names};
 
 use crate::names::fields::{FieldKey, FieldList, KnownField};
-use crate::names::lists::{Listed, listed_by, names_of};
+use crate::names::lists::{TableNames, names_of, tables_of};
 use crate::names::lookup::Lookup;
+use crate::pairs::both;
 use crate::source::Source;
 use rmt_ast::name_list::NameList;
 use std::alloc::{AllocError, Global};
@@ -24,19 +26,25 @@ pub mod params;
 struct Declarations<'a> {
     headers: NameList<'a>,
     actions: NameList<'a>,
-    tables: NameList<'a>,
+    tables: TableNames<'a>,
 }
 
 /// The headers, actions and tables of a text by name.
 fn declared_in<'a>(alloc: Global, source: &'a Source) -> Result<Declarations<'a>, AllocError>
     ensures headers { IfOk result (λ d. d.headers ≡ header_names source.now) }
     ensures actions { IfOk result (λ d. d.actions ≡ action_names source.now) }
-    ensures tables { IfOk result (λ d. d.tables ≡ table_names source.now) }
+    ensures tables { IfOk result (λ d. d.tables.names ≡ table_names source.now) }
+    ensures lists { IfOk result (λ d. d.tables.lists ≡ list_names source.now.tables) }
+    ensures nothing { IfOk result (λ d. d.tables.nothing ≡ []) }
 {
+    let headers = names_of(alloc, source.headers.as_slice());
+    let actions = names_of(alloc, source.actions.as_slice());
+    let tables = tables_of(alloc, source.tables.as_slice());
+    let ((headers, actions), tables) = both(both(headers, actions), tables)?;
     Ok(Declarations {
-        headers: names_of(alloc, source.headers.as_slice())?,
-        actions: names_of(alloc, source.actions.as_slice())?,
-        tables: names_of(alloc, source.tables.as_slice())?,
+        headers,
+        actions,
+        tables,
     })
 }
 
@@ -46,8 +54,6 @@ pub struct Names<'a> {
     source: &'a Source,
     fields: FieldList<'a>,
     declared: Declarations<'a>,
-    /// Of each table, the actions of its list.
-    listed: Listed<'a>,
 }
 
 impl<'a> Model for Names<'a> {
@@ -64,9 +70,9 @@ impl<'a> Model for Names<'a> {
       fields : n.fields ≡ fields_of n.source.now;
       headers : n.declared.headers ≡ header_names n.source.now;
       actions : n.declared.actions ≡ action_names n.source.now;
-      tables : n.declared.tables ≡ table_names n.source.now;
-      lists : n.listed.lists ≡ list_names n.source.now.tables;
-      nothing : n.listed.nothing ≡ [];
+      tables : n.declared.tables.names ≡ table_names n.source.now;
+      lists : n.declared.tables.lists ≡ list_names n.source.now.tables;
+      nothing : n.declared.tables.nothing ≡ [];
     } };
 }
 
@@ -75,11 +81,13 @@ impl<'a> Names<'a> {
     pub fn of(alloc: Global, source: &'a Source) -> Result<Names<'a>, AllocError>
         ensures names { IfOk result (λ n. n ≡ source.now) }
     {
+        let fields = FieldList::of(alloc, source);
+        let declared = declared_in(alloc, source);
+        let (fields, declared) = both(fields, declared)?;
         Ok(Names {
             source,
-            listed: listed_by(alloc, source.tables.as_slice())?,
-            fields: FieldList::of(alloc, source)?,
-            declared: declared_in(alloc, source)?,
+            fields,
+            declared,
         })
     }
 
@@ -87,8 +95,8 @@ impl<'a> Names<'a> {
     fn found_list(&self, table: &[u8]) -> Option<&NameList<'a>>
         ensures { option_copied result ≡ option_map (λ (t : TableValue). ident_names (listed t)) (find (λ (t : TableValue). bytes_eq table.now t.ident.name) self.now.tables) }
     {
-        match self.declared.tables.number(table) {
-            Some(number) => self.listed.lists.get(number),
+        match self.declared.tables.names.number(table) {
+            Some(number) => self.declared.tables.lists.get(number),
             None => None,
         }
     }
@@ -118,10 +126,11 @@ impl<'a> Lookup for Names<'a> {
     }
 
     fn tables(&self) -> &NameList<'_> {
-        &self.declared.tables
+        &self.declared.tables.names
     }
 
     fn list(&self, table: &[u8]) -> &NameList<'_> {
-        self.found_list(table).unwrap_or(&self.listed.nothing)
+        self.found_list(table)
+            .unwrap_or(&self.declared.tables.nothing)
     }
 }

@@ -3,7 +3,7 @@
 ghost use Rattle.std.specs.Prelude.{◌≡◌, IfOk};
 ghost use Rattle.rmt_check.specs.Reading.{parts, source_of};
 
-use crate::reading::lists::{all, first, first_place};
+use crate::reading::lists::{Among, first_place};
 use crate::reading::words::nowhere;
 use crate::source::Source;
 use rmt_syntax::terminal::Terminal;
@@ -33,12 +33,13 @@ pub fn read(alloc: Global, tree: &Tree) -> Result<Source, AllocError>
     ensures source { IfOk result (λ source. source ≡ source_of tree.now) }
 {
     let parts = parts(tree);
+    let ((headers, metas), ((actions, tables), control)) = Among::among(alloc, parts)?;
     Ok(Source {
-        headers: all(alloc, parts)?,
-        metas: all(alloc, parts)?,
-        actions: all(alloc, parts)?,
-        tables: all(alloc, parts)?,
-        control: first(alloc, parts)?,
+        headers,
+        metas,
+        actions,
+        tables,
+        control,
         end: first_place(Terminal::End, parts).unwrap_or(nowhere()),
     })
 }

@@ -1,16 +1,12 @@
 -- What holds of each form of each phrase, found by computing.
-use Rattle.rmt_syntax.proofs.Words.{◌≡◌, ℕ, zero, suc, ◌+◌, Bool, true, false, refl, List, [], ◌∷◌, ◌&&◌, ◌||◌, not, nat_lt, list_all, list_any, Terminal, Rule, Part, One, Node, Phrase, Whole, Form, choices, same, member, first_of, first_form, first_phrase, is_empty, is_done, may_end, height, tails, is_operand_name}
+use Rattle.rmt_syntax.proofs.Words.{◌≡◌, ℕ, zero, suc, ◌+◌, Bool, true, false, refl, List, [], ◌∷◌, ◌&&◌, ◌||◌, not, nat_lt, list_all, list_any, Terminal, Part, One, Node, Phrase, Whole, Form, choices, same, member, first_of, first_form, first_phrase, is_empty, is_done, may_end, height, tails, is_operand_name}
 use Rattle.rmt_syntax.proofs.Words.terminal
 use Rattle.rmt_syntax.proofs.Words.rule
-use Rattle.rmt_syntax.proofs.Sets.{subset, disjoint, all_at}
+use Rattle.rmt_syntax.proofs.Sets.{subset, disjoint}
 
-abbrev pub is_program : Rule → Bool
-is_program rule.Program = true
+abbrev pub is_program : Phrase → Bool
+is_program (Whole rule.Program) = true
 is_program _ = false
-
-abbrev pub is_whole_program : Phrase → Bool
-is_whole_program (Whole r) = is_program r
-is_whole_program _ = false
 
 -- no terminal is in both, but for a name that begins an operand
 abbrev pub differ : Phrase → List Terminal → List Terminal → Bool
@@ -34,11 +30,11 @@ is_lower x (Node r ∷ ps, next) = nat_lt (1 + height (Whole r)) (height x) && n
 
 -- the parts, in the phrase x and before next, keep the order of what is to come
 abbrev pub in_order : Phrase → List Part → Phrase → Bool
-in_order x [] next = subset (tails next) (tails x) && (not (is_whole_program next) || is_whole_program x)
-in_order x (One c ∷ ps) next = (not (same c terminal.End) || (is_whole_program x && is_empty (ps, next) && is_done next)) && in_order x ps next
+in_order x [] next = subset (tails next) (tails x) && (not (is_program next) || is_program x)
+in_order x (One c ∷ ps) next = (not (same c terminal.End) || (is_program x && is_empty (ps, next) && is_done next)) && in_order x ps next
 in_order x (Node r ∷ []) next =
-    not (is_program r) && disjoint (tails (Whole r)) (first_phrase next) && (not (may_end next) || subset (tails (Whole r)) (tails x)) && in_order x [] next
-in_order x (Node r ∷ p ∷ ps) next = not (is_program r) && disjoint (tails (Whole r)) (first_form (p ∷ ps, next)) && in_order x (p ∷ ps) next
+    not (is_program (Whole r)) && disjoint (tails (Whole r)) (first_phrase next) && (not (may_end next) || subset (tails (Whole r)) (tails x)) && in_order x [] next
+in_order x (Node r ∷ p ∷ ps) next = not (is_program (Whole r)) && disjoint (tails (Whole r)) (first_form (p ∷ ps, next)) && in_order x (p ∷ ps) next
 
 -- what goes on with a phrase that may end is among its tails
 abbrev pub goes_on_well : Phrase → Bool
@@ -62,34 +58,17 @@ abbrev pub has_end : ℕ → Phrase → Bool
 has_end zero x = is_done x
 has_end (suc n) x = is_done x || list_any (form_ends (has_end n)) (choices x)
 
-abbrev pub tests : List (Phrase → Bool)
-tests =
-    (λ x. distinct x (choices x)) ∷ (λ x. list_all ends_well (choices x)) ∷ (λ x. list_all (λ f. in_order x f.0 f.1) (choices x)) ∷ goes_on_well
-    ∷ (λ x. list_all (is_lower x) (choices x)) ∷ begins_well ∷ has_end 4 ∷ []
+-- what holds of a phrase
+pub record Sound (x : Phrase) : Type 0 where
+  pub distinct_forms : distinct x (choices x) ≡ true
+  pub ends : list_all ends_well (choices x) ≡ true
+  pub order : list_all (λ f. in_order x f.0 f.1) (choices x) ≡ true
+  pub goes_on : goes_on_well x ≡ true
+  pub lower : list_all (is_lower x) (choices x) ≡ true
+  pub begins : begins_well x ≡ true
+  pub end : has_end 4 x ≡ true
 
--- each phrase passes each test
-passes : (x : Phrase) → list_all (λ test. test x) tests ≡ true
-passes (Whole rule.Program) = refl
-passes (Whole _) = refl
-passes _ = refl
-
-pub distinct_of : (x : Phrase) → distinct x (choices x) ≡ true
-distinct_of x = all_at (λ (test : Phrase → Bool). test x) tests 0 _ (passes x) refl
-
-pub ends_of : (x : Phrase) → list_all ends_well (choices x) ≡ true
-ends_of x = all_at (λ (test : Phrase → Bool). test x) tests 1 _ (passes x) refl
-
-pub order_of : (x : Phrase) → list_all (λ (f : Form). in_order x f.0 f.1) (choices x) ≡ true
-order_of x = all_at (λ (test : Phrase → Bool). test x) tests 2 _ (passes x) refl
-
-pub goes_of : (x : Phrase) → goes_on_well x ≡ true
-goes_of x = all_at (λ (test : Phrase → Bool). test x) tests 3 _ (passes x) refl
-
-pub lower_of : (x : Phrase) → list_all (is_lower x) (choices x) ≡ true
-lower_of x = all_at (λ (test : Phrase → Bool). test x) tests 4 _ (passes x) refl
-
-pub begins_of : (x : Phrase) → begins_well x ≡ true
-begins_of x = all_at (λ (test : Phrase → Bool). test x) tests 5 _ (passes x) refl
-
-pub end_of : (x : Phrase) → has_end 4 x ≡ true
-end_of x = all_at (λ (test : Phrase → Bool). test x) tests 6 _ (passes x) refl
+pub sound : (x : Phrase) → Sound x
+sound (Whole rule.Program) = record { distinct_forms = refl; ends = refl; order = refl; goes_on = refl; lower = refl; begins = refl; end = refl }
+sound (Whole _) = record { distinct_forms = refl; ends = refl; order = refl; goes_on = refl; lower = refl; begins = refl; end = refl }
+sound _ = record { distinct_forms = refl; ends = refl; order = refl; goes_on = refl; lower = refl; begins = refl; end = refl }

@@ -1,18 +1,15 @@
 -- Where a reader that stands before a token finds a fault.
-use Rattle.rmt_syntax.proofs.Words.{◌≡◌, ◌∙◌, ℕ, suc, ◌+◌, ◌≤◌, true, false, sym, ap, refl, subst, List, [], ◌∷◌, ◌++◌, Option, Some, None, take, drop, arith, append_assoc, slice_get, Token, Terminal, Rule, One, Node, Phrase, Done, Form, terminal_of, Mark, leaf, opens, tokens_in, Goal, part, phrase, shut, Reads, nothing, token, node, done, choose, IsText, IsNested, depth_of, is_done, front, tails, Apart, choice_of, is_operand_name, Stands, take-append-drop, Unexpected, TooDeep, HasNoTree, Statements, both_ways}
+use Rattle.rmt_syntax.proofs.Words.{◌≡◌, ◌∙◌, ℕ, suc, false, sym, ap, refl, subst, List, [], ◌∷◌, ◌++◌, Option, Some, None, take, append_assoc, slice_get, Token, Terminal, Rule, One, Node, Phrase, Done, Form, terminal_of, Mark, leaf, opens, tokens_in, Goal, part, phrase, shut, Reads, nothing, token, node, choose, IsText, is_done, choice_of, is_operand_name, Stands, Unexpected, TooDeep, Statements, or-false}
 use Rattle.rmt_syntax.proofs.Words.terminal
 use Rattle.rmt_syntax.proofs.Words.rule
 use Rattle.rmt_syntax.proofs.Fronts.{first_token, chosen}
-use Rattle.rmt_syntax.proofs.Machine.{tokens_append, goes_on, nested_front, depth_append, after_end, after_done, after_node, after_one}
-use Rattle.rmt_syntax.proofs.Sets.{member_one, same_is}
+use Rattle.rmt_syntax.proofs.Machine.{tokens_append, goes_on, after_end, after_done, after_one, choose_now}
+use Rattle.rmt_syntax.proofs.Sets.{same_is}
 use Rattle.rmt_syntax.proofs.Produce.{has_text}
 
 -- no text begins with the tokens up to one
 abbrev pub Fails : List Token → ℕ → Type 0
 Fails tokens at = (all : List Mark) (more : List Token) → IsText all → tokens_in all ≡ take (suc at) tokens ++ more → ⊥
-
-pub refutes : (tokens : List Token) (at : ℕ) → Fails tokens at → HasNoTree tokens
-refutes tokens at f all text e nested = f all (drop (suc at) tokens) text (e ∙ sym (take-append-drop (suc at) tokens))
 
 pub is_unexpected : {tokens : List Token} {at : ℕ} {goals : List Goal} {seen : List Mark} {depth : ℕ} → Stands tokens at goals seen depth → Fails tokens at → Unexpected tokens at
 is_unexpected {goals = goals} {seen = seen} s f =
@@ -46,19 +43,14 @@ module _ {tokens : List Token} {at : ℕ} {t : Token} (here : slice_get tokens a
   fails_block other s all more text e =
       let w = goes_on here s text e in
       let m = first_token t more w.2 w.3 in
-      other (sym (same_is terminal.OpenBrace (terminal_of t.what) (member_one (terminal_of t.what) terminal.OpenBrace m)))
+      other (sym (same_is terminal.OpenBrace (terminal_of t.what) (sym (or-false _) ∙ m)))
 
   -- no form of the phrase begins so
   pub fails_phrase : {x : Phrase} {gs : List Goal} {seen : List Mark} {depth : ℕ} → is_operand_name x (terminal_of t.what) ≡ false → is_done x ≡ false → choice_of x (terminal_of t.what) ≡ None → Stands tokens at (phrase x ∷ gs) seen depth → Fails tokens at
   fails_phrase {x = x} {gs = gs} name undone none s all more text e =
       let w = goes_on here s text e in
-      goes x w.0 w.2 w.3 name undone none s.orderly.1
-    where
-      goes : {more : List Token} (x : Phrase) (ms : List Mark) → Reads (phrase x ∷ gs) ms → tokens_in ms ≡ t ∷ more → is_operand_name x (terminal_of t.what) ≡ false
-          → is_done x ≡ false → choice_of x (terminal_of t.what) ≡ None → Apart (tails x) (front gs) → ⊥
-      goes x ms (done d) is name undone none a = both_ways true undone refl
-      goes {more} x ms (choose i ps next k d) is name undone none a =
-          let same : ◌≡◌ {A = Option Form} (Some (ps, next)) None = sym (chosen x t more i ps next gs ms k d is a name) ∙ none in cc
+      let n = choose_now undone w.2 in
+      let same : ◌≡◌ {A = Option Form} (Some (n.1, n.2)) None = sym (chosen x t more n.0 n.1 n.2 gs w.0 n.3 n.4 w.3 s.orderly.1 name) ∙ none in cc
 
   -- the text is at its end
   pub fails_end : {r : Rule} {seen : List Mark} {depth : ℕ} → Stands tokens at (phrase Done ∷ shut r ∷ []) seen depth → Fails tokens at
@@ -79,12 +71,3 @@ module _ {tokens : List Token} {at : ℕ} {t : Token} (here : slice_get tokens a
         nested = s.nested;
         depth = sym s.open_blocks ∙ deep;
       }
-
-pub refutes_deep : {tokens : List Token} {at : ℕ} {gs : List Goal} {seen : List Mark} {depth : ℕ} → depth ≡ 32 → Stands tokens at (part (Node rule.Block) ∷ gs) seen depth → HasNoTree tokens
-refutes_deep {tokens} {at} {seen = seen} deep s all text e nested =
-    let w = s.whole all (drop (suc at) tokens) text (e ∙ sym (take-append-drop (suc at) tokens)) in
-    let v = after_node w.2 in
-    let split : all ≡ (seen ++ opens rule.Block ∷ []) ++ v.0 = w.1 ∙ ap (λ ms. seen ++ ms) v.1 ∙ sym (append_assoc seen (opens rule.Block ∷ []) v.0) in
-    let most : depth_of (seen ++ opens rule.Block ∷ []) ≤ 32 = nested_front 0 (seen ++ opens rule.Block ∷ []) v.0 (subst IsNested split nested) in
-    let more : depth_of (seen ++ opens rule.Block ∷ []) ≡ depth_of seen + 1 = depth_append seen (opens rule.Block ∷ []) in
-    omega (arith, most, more, s.open_blocks, deep)

@@ -1,14 +1,13 @@
 -- The marks of a text of the grammar are those of a tree, and of that tree alone; a tree that the grammar reads as a rule is a
 -- node of that rule, and its parts, one after another, are those of the rule.
-use Rattle.rmt_syntax.proofs.Words.{append-nil, ◌≡◌, ◌∙◌, ◌⊎◌, inl, inr, sym, ap, ap₂, refl, subst, List, [], ◌∷◌, ◌++◌, map, append_assoc, flat_map, append_cancel_left, Token, Rule, Part, Phrase, Whole, Done, Mark, leaf, opens, shuts, marks, marks_step, Goal, part, phrase, shut, Reads, nothing, token, node, end, done, choose, ℕ, zero, suc, ◌<◌, length, arith, length-append, Some, slice_get, Terminal, choices, IsOf, AreParts, ArePartsOf, IsTokenOf, Follows, stop, onward}
-use Rattle.rmt_syntax.specs.declared.tree.Tree.{Tree, One, Many, out-Tree, roll-Tree, roll-out-Tree}
+use Rattle.rmt_syntax.proofs.Words.{append-nil, ◌≡◌, ◌∙◌, sym, ap, refl, subst, List, [], ◌∷◌, ◌++◌, map, append_assoc, flat_map, Token, Rule, Part, Phrase, Whole, Mark, leaf, opens, shuts, marks, marks_step, Goal, part, phrase, shut, Reads, nothing, token, node, end, done, choose, Terminal, IsOf, AreParts, ArePartsOf, IsTokenOf, Follows, stop, onward}
+use Rattle.rmt_syntax.specs.declared.tree.Tree.{Tree, One, Many, roll-Tree}
 use Rattle.rmt_syntax.specs.declared.tree.Tree.TheOpen.{Tree-F}
 use Rattle.rmt_syntax.specs.declared.tree.Tree.TheOpen as tree
 use Rattle.rmt_syntax.specs.declared.tree.Tree.TheFolds.{ind-Tree, map-Tree, fold-roll-Tree}
 use Rattle.rmt_syntax.specs.declared.tree.Tree.TheVariants.{rolls-One, rolls-Many}
 use Rattle.rmt_syntax.specs.declared.grammar.Part.TheVariants as parts
-use Rattle.rmt_syntax.proofs.Fronts.{done_is, empty_ends}
-use Rattle.rmt_syntax.proofs.Machine.{after_node, after_end, after_done, after_one}
+use Rattle.rmt_syntax.proofs.Machine.{after_node, after_one}
 
 marks_one : (t : Token) → marks (One t) ≡ leaf t ∷ []
 marks_one t = ap marks (sym (rolls-One t)) ∙ fold-roll-Tree (List Mark) marks_step (tree.One t)
@@ -23,151 +22,108 @@ marks_many r v = ap marks (sym (rolls-Many r v)) ∙ fold-roll-Tree (List Mark) 
 many_before : (r : Rule) (v : List Tree) (ms : List Mark) → marks (Many r v) ++ ms ≡ opens r ∷ (flat_map marks v ++ shuts r ∷ ms)
 many_before r v ms = ap (λ m. m ++ ms) (marks_many r v) ∙ ap (λ m. opens r ∷ m) (append_assoc (flat_map marks v) (shuts r ∷ []) ms)
 
--- a tree is a token or a node
-view : (u : Tree) → ((t : Token) × (u ≡ One t)) ⊎ ((r : Rule) × (v : List Tree) × (u ≡ Many r v))
-view u = layer (out-Tree u) (roll-out-Tree u)
-  where
-    layer : (x : Tree-F Tree) → roll-Tree x ≡ u → ((t : Token) × (u ≡ One t)) ⊎ ((r : Rule) × (v : List Tree) × (u ≡ Many r v))
-    layer (tree.One t) e = inl (t, sym e ∙ rolls-One t)
-    layer (tree.Many r v) e = inr (r, v, sym e ∙ rolls-Many r v)
-
 pub nothing_more : {ms : List Mark} → Reads [] ms → ms ≡ []
 nothing_more nothing = refl
 
--- no tree begins with the end of a node
-tree_first : (u : Tree) (b tail : List Mark) (r : Rule) → marks u ++ b ≡ shuts r ∷ tail → ⊥
-tree_first u b tail r e = elim (view u) [
-  | inl w ↦ (let k : leaf w.0 ∷ b ≡ shuts r ∷ tail = ap (λ v. v ++ b) (sym (ap marks w.1 ∙ marks_one w.0)) ∙ e in cc (k))
-  | inr w ↦ (let k : opens w.0 ∷ (flat_map marks w.1 ++ shuts w.0 ∷ b) ≡ shuts r ∷ tail = sym (ap (λ v. marks v ++ b) w.2 ∙ many_before w.0 w.1 b) ∙ e in cc (k))
-]
+-- the trees that marks are read as, behind those that a node has so far, within the nodes around it
+build : List Mark → List Tree → List (List Tree) → List Tree
+build [] now outer = now
+build (leaf t ∷ ms) now outer = build ms (now ++ One t ∷ []) outer
+build (opens r ∷ ms) now outer = build ms [] (now ∷ outer)
+build (shuts r ∷ ms) now [] = now
+build (shuts r ∷ ms) now (o ∷ outer) = build ms (o ++ Many r now ∷ []) outer
 
--- a tree is told by its marks, whatever stands behind them
-abbrev IsTold : Tree → Type 0
-IsTold t = (u : Tree) (a b : List Mark) → marks t ++ a ≡ marks u ++ b → t ≡ u
+-- the marks of a tree are read as that tree
+abbrev IsBuilt : Tree → Type 0
+IsBuilt t = (ms : List Mark) (now : List Tree) (outer : List (List Tree)) → build (marks t ++ ms) now outer ≡ build ms (now ++ t ∷ []) outer
 
-each_told : (es : List ((t : Tree) × IsTold t)) (us : List Tree) (r s : Rule) (a b : List Mark) → flat_map marks (map (λ e. e.0) es) ++ shuts r ∷ a ≡ flat_map marks us ++ shuts s ∷ b
-    → map (λ (e : (t : Tree) × IsTold t). e.0) es ≡ us
-each_told [] [] r s a b e = refl
-each_told [] (u ∷ us) r s a b e = absurd (tree_first u (flat_map marks us ++ shuts s ∷ b) a r (sym (append_assoc (marks u) (flat_map marks us) (shuts s ∷ b)) ∙ sym e))
-each_told (x ∷ es) [] r s a b e =
-    let others : List Mark = flat_map marks (map (λ (y : (t : Tree) × IsTold t). y.0) es) in
-    absurd (tree_first x.0 (others ++ shuts r ∷ a) b s (sym (append_assoc (marks x.0) others (shuts r ∷ a)) ∙ e))
-each_told (x ∷ es) (u ∷ us) r s a b e =
-    let mine : List Mark = flat_map marks (map (λ (y : (t : Tree) × IsTold t). y.0) es) ++ shuts r ∷ a in
-    let yours : List Mark = flat_map marks us ++ shuts s ∷ b in
-    let both : marks x.0 ++ mine ≡ marks u ++ yours =
-    sym (append_assoc (marks x.0) (flat_map marks (map (λ (y : (t : Tree) × IsTold t). y.0) es)) (shuts r ∷ a)) ∙ e ∙ append_assoc (marks u) (flat_map marks us) (shuts s ∷ b) in
-    let same : x.0 ≡ u = x.1 u mine yours both in
-    let rest : mine ≡ yours = append_cancel_left (marks u) mine yours (ap (λ t. marks t ++ mine) (sym same) ∙ both) in
-    ap₂ (λ (t : Tree) ts. t ∷ ts) same (each_told es us r s a b rest)
+each_built : (es : List ((t : Tree) × IsBuilt t)) (ms : List Mark) (now : List Tree) (outer : List (List Tree))
+    → build (flat_map marks (map (λ e. e.0) es) ++ ms) now outer ≡ build ms (now ++ map (λ e. e.0) es) outer
+each_built [] ms now outer = ap (λ v. build ms v outer) (sym (append-nil now))
+each_built (e ∷ es) ms now outer =
+    let others : List Tree = map (λ (x : (t : Tree) × IsBuilt t). x.0) es in
+    ap (λ v. build v now outer) (append_assoc (marks e.0) (flat_map marks others) ms) ∙ e.1 (flat_map marks others ++ ms) now outer
+    ∙ each_built es ms (now ++ e.0 ∷ []) outer ∙ ap (λ v. build ms v outer) (append_assoc now (e.0 ∷ []) others)
 
-one_told : (t : Token) → IsTold (One t)
-one_told t u a b e = elim (view u) [
-  | inl w ↦ (
-      let k : leaf t ∷ a ≡ leaf w.0 ∷ b = ap (λ m. m ++ a) (sym (marks_one t)) ∙ e ∙ ap (λ m. m ++ b) (ap marks w.1 ∙ marks_one w.0) in
-      let it : t ≡ w.0 = cc in
-      ap One it ∙ sym w.1)
-  | inr w ↦ (
-      let k : leaf t ∷ a ≡ opens w.0 ∷ (flat_map marks w.1 ++ shuts w.0 ∷ b) = ap (λ m. m ++ a) (sym (marks_one t)) ∙ e ∙ ap (λ v. marks v ++ b) w.2 ∙ many_before w.0 w.1 b in
-      cc (k))
-]
+layer_built : (y : Tree-F ((t : Tree) × IsBuilt t)) → IsBuilt (roll-Tree (map-Tree ((t : Tree) × IsBuilt t) Tree (λ e. e.0) y))
+unfolding build
+layer_built (tree.One t) = subst IsBuilt (sym (rolls-One t)) (λ ms now outer. ap (λ v. build (v ++ ms) now outer) (marks_one t))
+layer_built (tree.Many r es) =
+    let parts : List Tree = map (λ (x : (t : Tree) × IsBuilt t). x.0) es in
+    subst IsBuilt (sym (rolls-Many r parts)) (λ ms now outer. ap (λ v. build v now outer) (many_before r parts ms) ∙ each_built es (shuts r ∷ ms) [] (now ∷ outer))
 
-many_told : (r : Rule) (es : List ((t : Tree) × IsTold t)) → IsTold (Many r (map (λ e. e.0) es))
-many_told r es u a b e =
-    let mine : List Tree = map (λ (x : (t : Tree) × IsTold t). x.0) es in
-    elim (view u) [
-      | inl w ↦ (let k : opens r ∷ (flat_map marks mine ++ shuts r ∷ a) ≡ leaf w.0 ∷ b = sym (many_before r mine a) ∙ e ∙ ap (λ m. m ++ b) (ap marks w.1 ∙ marks_one w.0) in cc (k))
-      | inr w ↦ (
-          let k : opens r ∷ (flat_map marks mine ++ shuts r ∷ a) ≡ opens w.0 ∷ (flat_map marks w.1 ++ shuts w.0 ∷ b) =
-          sym (many_before r mine a) ∙ e ∙ ap (λ v. marks v ++ b) w.2 ∙ many_before w.0 w.1 b in
-          let rule : r ≡ w.0 = cc in
-          let tails : flat_map marks mine ++ shuts r ∷ a ≡ flat_map marks w.1 ++ shuts w.0 ∷ b = cc in
-          ap₂ Many rule (each_told es w.1 r w.0 a b tails) ∙ sym w.2)
-    ]
-
-layer_told : (y : Tree-F ((t : Tree) × IsTold t)) → IsTold (roll-Tree (map-Tree ((t : Tree) × IsTold t) Tree (λ e. e.0) y))
-layer_told (tree.One t) = subst IsTold (sym (rolls-One t)) (one_told t)
-layer_told (tree.Many r es) = subst IsTold (sym (rolls-Many r (map (λ (e : (t : Tree) × IsTold t). e.0) es))) (many_told r es)
-
-told : (t : Tree) → IsTold t
-told = ind-Tree IsTold (λ x y is. subst (λ z. IsTold (roll-Tree z)) is (layer_told y))
+built : (t : Tree) → IsBuilt t
+built = ind-Tree IsBuilt (λ x y is. subst (λ z. IsBuilt (roll-Tree z)) is (layer_built y))
 
 pub same_tree : (t u : Tree) → marks t ≡ marks u → t ≡ u
-same_tree t u e = told t u [] [] (ap (λ m. m ++ []) e)
+unfolding build
+same_tree t u e = let same : t ∷ [] ≡ u ∷ [] = sym (built t [] [] []) ∙ ap (λ ms. build (ms ++ []) [] []) e ∙ built u [] [] [] in cc
 
--- The trees of the parts, and then of a phrase up to the end of its rule: they read so before anything.
-record Parted (ps : List Part) (x : Phrase) (r : Rule) (gs : List Goal) (ms : List Mark) : Type 0 where
+-- The trees of these parts and then of a phrase, which marks begin with: they read so before anything.
+record Parted (ps : List Part) (x : Phrase) (ms : List Mark) : Type 0 where
   trees : List Tree
   parts : List Part
   rest : List Mark
-  all : ms ≡ flat_map marks trees ++ shuts r ∷ rest
+  all : ms ≡ flat_map marks trees ++ rest
   follows : Follows x parts
   each : AreParts (ps ++ parts) trees
-  alone : (hs : List Goal) (after : List Mark) → Reads hs after → Reads (map part ps ++ phrase x ∷ shut r ∷ hs) (flat_map marks trees ++ shuts r ∷ after)
-  behind : Reads gs rest
+  alone : (hs : List Goal) (after : List Mark) → Reads hs after → Reads (map part ps ++ phrase x ∷ hs) (flat_map marks trees ++ after)
 
--- marks that are fewer than n
-abbrev Below : ℕ → Type 0
-Below n = (ps : List Part) (x : Phrase) (r : Rule) (gs : List Goal) (ms : List Mark) → length ms < n → Reads (map part ps ++ phrase x ∷ shut r ∷ gs) ms → Parted ps x r gs ms
+-- marks are the trees of what is to come, one after another
+abbrev Grown : List Goal → List Mark → Type 0
+Grown [] ms = ms ≡ []
+Grown (part p ∷ gs) ms = (t : Tree) × (rest : List Mark) × (ms ≡ marks t ++ rest)
+    × ((hs : List Goal) (after : List Mark) → Reads hs after → Reads (part p ∷ hs) (marks t ++ after)) × Grown gs rest
+Grown (phrase x ∷ gs) ms = (k : Parted [] x ms) × Grown gs k.rest
+Grown (shut r ∷ gs) ms = (rest : List Mark) × (ms ≡ shuts r ∷ rest) × Grown gs rest
 
--- a tree that reads as a part, before the others
-with_tree : (p : Part) (ps : List Part) (x : Phrase) (r : Rule) (gs : List Goal) (t : Tree) (ms more : List Mark)
-    → ((hs : List Goal) (after : List Mark) → Reads hs after → Reads (part p ∷ hs) (marks t ++ after)) → ms ≡ marks t ++ more → Parted ps x r gs more → Parted (p ∷ ps) x r gs ms
-with_tree p ps x r gs t ms more reads e k = record {
-  trees = t ∷ k.trees;
-  parts = k.parts;
-  rest = k.rest;
-  all = e ∙ ap (λ v. marks t ++ v) k.all ∙ sym (append_assoc (marks t) (flat_map marks k.trees) (shuts r ∷ k.rest));
-  follows = k.follows;
-  each = (subst (Reads (part p ∷ [])) (append-nil (marks t)) (reads [] [] nothing), k.each);
-  alone = λ hs after w. subst (Reads (part p ∷ map part ps ++ phrase x ∷ shut r ∷ hs)) (sym (append_assoc (marks t) (flat_map marks k.trees) (shuts r ∷ after)))
-      (reads (map part ps ++ phrase x ∷ shut r ∷ hs) (flat_map marks k.trees ++ shuts r ∷ after) (k.alone hs after w));
-  behind = k.behind;
-}
+gather : (x : Phrase) (gs : List Goal) (ps : List Part) (ms : List Mark) → Grown (map part ps ++ phrase x ∷ gs) ms → (k : Parted ps x ms) × Grown gs k.rest
+gather x gs [] ms g = g
+gather x gs (p ∷ ps) ms g =
+    let t : Tree = g.0 in
+    let k = gather x gs ps g.1 g.4 in
+    let ts : List Tree = k.0.trees in
+    let now : Parted (p ∷ ps) x ms = record {
+      trees = t ∷ ts;
+      parts = k.0.parts;
+      rest = k.0.rest;
+      all = g.2 ∙ ap (λ v. marks t ++ v) k.0.all ∙ sym (append_assoc (marks t) (flat_map marks ts) k.0.rest);
+      follows = k.0.follows;
+      each = (subst (Reads (part p ∷ [])) (append-nil (marks t)) (g.3 [] [] nothing), k.0.each);
+      alone = λ hs after w. subst (Reads (part p ∷ map part ps ++ phrase x ∷ hs)) (sym (append_assoc (marks t) (flat_map marks ts) after)) (g.3 _ _ (k.0.alone hs after w));
+    } in (now, k.1)
 
-first_part : (n : ℕ) → Below n → (p : Part) (ps : List Part) (x : Phrase) (r : Rule) (gs : List Goal) (ms : List Mark) → length ms < suc n
-    → Reads (part p ∷ map part ps ++ phrase x ∷ shut r ∷ gs) ms → Parted (p ∷ ps) x r gs ms
-first_part n below (parts.One c) ps x r gs ms h d =
-    let a = after_one d in
-    with_tree (parts.One c) ps x r gs (One a.0) ms a.1 (λ hs after w. subst (λ v. Reads (part (parts.One c) ∷ hs) (v ++ after)) (sym (marks_one a.0)) (token a.3 w))
-    (a.2 ∙ ap (λ v. v ++ a.1) (sym (marks_one a.0))) (below ps x r gs a.1 (omega (arith, h, ap length a.2)) a.4)
-first_part n below (parts.Node s) ps x r gs ms h d =
-    let a = after_node d in
-    let b = below [] (Whole s) s (map part ps ++ phrase x ∷ shut r ∷ gs) a.0 (omega (arith, h, ap length a.1)) a.2 in
-    with_tree (parts.Node s) ps x r gs (Many s b.trees) ms b.rest (λ hs after w. subst (Reads (part (parts.Node s) ∷ hs)) (sym (many_before s b.trees after)) (node (b.alone hs after w)))
-    (a.1 ∙ ap (λ v. opens s ∷ v) b.all ∙ sym (many_before s b.trees b.rest))
-    (below ps x r gs b.rest (omega (arith, h, ap length a.1, ap length b.all, length-append (flat_map marks b.trees) (shuts s ∷ b.rest))) b.behind)
-
-ended : (r : Rule) (gs : List Goal) (ms : List Mark) → Reads (shut r ∷ gs) ms → Parted [] Done r gs ms
-ended r gs ms d = let f = after_end d in record { trees = []; parts = []; rest = f.0; all = f.1; follows = stop; each = tt; alone = λ hs after w. done (end w); behind = f.2 }
-
-by_form : (x : Phrase) (i : ℕ) (ps : List Part) (next : Phrase) (r : Rule) (gs : List Goal) (ms : List Mark) → slice_get (choices x) i ≡ Some (ps, next) → Parted ps next r gs ms → Parted [] x r gs ms
-by_form x i ps next r gs ms is k = record {
-  trees = k.trees;
-  parts = ps ++ k.parts;
-  rest = k.rest;
-  all = k.all;
-  follows = onward i ps next is k.follows;
-  each = k.each;
-  alone = λ hs after w. choose i ps next is (k.alone hs after w);
-  behind = k.behind;
-}
-
-parted : (n : ℕ) → Below n
-parted zero ps x r gs ms h d = absurd (omega arith)
-parted (suc n) (p ∷ ps) x r gs ms h d = first_part n (parted n) p ps x r gs ms h d
-parted (suc n) [] x r gs ms h (done d) = ended r gs ms d
-parted (suc n) [] x r gs ms h (choose i [] next is d) =
-    let last : next ≡ Done = done_is next (empty_ends x i next is).1 in
-    by_form x i [] next r gs ms is (subst (λ v. Parted [] v r gs ms) (sym last) (ended r gs ms (after_done (subst (λ v. Reads (phrase v ∷ shut r ∷ gs) ms) last d))))
-parted (suc n) [] x r gs ms h (choose i (p ∷ ps) next is d) = by_form x i (p ∷ ps) next r gs ms is (first_part n (parted n) p ps next r gs ms h d)
+grown : {gs : List Goal} {ms : List Mark} → Reads gs ms → Grown gs ms
+grown nothing = refl
+grown (token {c = c} {t = t} {ms = ms} is d) =
+    let e = sym (marks_one t) in (One t, ms, ap (λ v. v ++ ms) e, (λ hs after w. subst (λ v. Reads (part (parts.One c) ∷ hs) (v ++ after)) e (token is w)), grown d)
+grown (node {r = r} d) =
+    let g = grown d in
+    let ts : List Tree = g.0.trees in
+    let e = ap (λ v. opens r ∷ v) (g.0.all ∙ ap (λ v. flat_map marks ts ++ v) g.1.1) ∙ sym (many_before r ts g.1.0) in
+    (Many r ts, g.1.0, e, (λ hs after w. subst (Reads (part (parts.Node r) ∷ hs)) (sym (many_before r ts after)) (node (g.0.alone (shut r ∷ hs) (shuts r ∷ after) (end w)))), g.1.2)
+grown (end {ms = ms} d) = (ms, refl, grown d)
+grown (done {ms = ms} d) = (record { trees = []; parts = []; rest = ms; all = refl; follows = stop; each = tt; alone = λ hs after w. done w }, grown d)
+grown (choose {x = x} {gs = gs} {ms = ms} i ps next is d) =
+    let k = gather next gs ps ms (grown d) in
+    let now : Parted [] x ms = record {
+      trees = k.0.trees;
+      parts = ps ++ k.0.parts;
+      rest = k.0.rest;
+      all = k.0.all;
+      follows = onward i ps next is k.0.follows;
+      each = k.0.each;
+      alone = λ hs after w. choose i ps next is (k.0.alone hs after w);
+    } in (now, k.1)
 
 -- the marks of a rule's text are those of a node, and its parts are those of the rule
 node_of : (r : Rule) (ms : List Mark) → Reads (part (parts.Node r) ∷ []) ms → (v : List Tree) × (ms ≡ marks (Many r v)) × ArePartsOf (Whole r) v
 node_of r ms d =
     let a = after_node d in
-    let k = parted (suc (length a.0)) [] (Whole r) r [] a.0 (omega arith) a.2 in
-    (k.trees, a.1 ∙ ap (λ v. opens r ∷ v) (k.all ∙ ap (λ v. flat_map marks k.trees ++ shuts r ∷ v) (nothing_more k.behind)) ∙ sym (marks_many r k.trees), (k.parts, k.follows, k.each))
+    let g = grown a.2 in
+    let ts : List Tree = g.0.trees in
+    let ends : g.0.rest ≡ shuts r ∷ [] = g.1.1 ∙ ap (λ v. shuts r ∷ v) g.1.2 in
+    (ts, a.1 ∙ ap (λ v. opens r ∷ v) (g.0.all ∙ ap (λ v. flat_map marks ts ++ v) ends) ∙ sym (marks_many r ts), (g.0.parts, g.0.follows, g.0.each))
 
 pub tree_of : (r : Rule) (ms : List Mark) → Reads (part (parts.Node r) ∷ []) ms → (t : Tree) × (marks t ≡ ms)
 tree_of r ms d = let k = node_of r ms d in (Many r k.0, sym k.1)

@@ -1,5 +1,5 @@
 -- The steps of a reader keep what it stands for.
-use Rattle.rmt_syntax.proofs.Words.{◌≡◌, ◌∙◌, ℕ, zero, suc, ◌<◌, ◌≤◌, false, sym, ap, refl, subst, List, [], ◌∷◌, ◌++◌, Some, map, take, drop, length, fold, arith, append_assoc, append-nil, slice_get, Token, Terminal, Rule, Part, One, Node, Phrase, Whole, Done, choices, terminal_of, Mark, leaf, opens, shuts, tokens_in, Goal, part, phrase, shut, Reads, token, node, end, done, choose, IsText, IsNested, IsNestedFrom, depth_of, depth_after, is_done, Stands, append_cancel_left, slice_get_within, Orderly, fold-append}
+use Rattle.rmt_syntax.proofs.Words.{◌≡◌, ◌∙◌, ℕ, suc, ◌<◌, ◌≤◌, false, sym, ap, refl, subst, List, [], ◌∷◌, ◌++◌, Some, map, take, drop, length, fold, arith, append_assoc, append-nil, slice_get, Token, Terminal, Rule, Part, One, Node, Phrase, Whole, Done, choices, terminal_of, Mark, leaf, opens, shuts, tokens_in, Goal, part, phrase, shut, Reads, token, node, end, done, choose, IsText, IsNested, IsNestedFrom, depth_of, depth_after, is_done, Stands, append_cancel_left, slice_get_within, Orderly, fold-append, take-suc, take-append-drop, take-take, get_or_from_slice_get}
 use Rattle.rmt_syntax.proofs.Words.kind
 use Rattle.rmt_syntax.proofs.Words.rule
 
@@ -10,23 +10,22 @@ tokens_append (opens r ∷ a) b = tokens_append a b
 tokens_append (shuts r ∷ a) b = tokens_append a b
 
 pub take_next : {A : Type 0} (xs : List A) (n : ℕ) (x : A) → slice_get xs n ≡ Some x → take (suc n) xs ≡ take n xs ++ x ∷ []
-take_next [] n x h = cc
-take_next (y ∷ ys) zero x h = let e : y ≡ x = cc in ap (λ v. v ∷ []) e
-take_next (y ∷ ys) (suc n) x h = ap (λ v. y ∷ v) (take_next ys n x h)
+take_next xs n x h = take-suc xs n x (slice_get_within xs n x h) ∙ ap (λ v. take n xs ++ v ∷ []) (get_or_from_slice_get xs n x x h)
+
+-- so many items, and the further ones of more
+pub taken_further : {A : Type 0} (xs : List A) (m n : ℕ) → m ≤ n → take n xs ≡ take m xs ++ drop m (take n xs)
+taken_further xs m n h = sym (take-append-drop m (take n xs)) ∙ ap (λ v. v ++ drop m (take n xs)) (take-take m n xs h)
 
 -- a text that begins with the tokens goes on by what is to come, with the next token
 pub goes_on : {tokens : List Token} {at : ℕ} {t : Token} {goals : List Goal} {seen all : List Mark} {depth : ℕ} {more : List Token} → slice_get tokens at ≡ Some t
     → Stands tokens at goals seen depth → IsText all → tokens_in all ≡ take (suc at) tokens ++ more
     → (ms : List Mark) × (all ≡ seen ++ ms) × Reads goals ms × (tokens_in ms ≡ t ∷ more)
 goes_on {tokens} {at} {t} {seen = seen} {all = all} {more = more} here s text e =
-    let w = s.whole all more text e in (
-      w.0,
-      w.1,
-      w.2,
-      append_cancel_left (take at tokens) (tokens_in w.0) (t ∷ more)
-          (ap (λ v. v ++ tokens_in w.0) (sym s.read) ∙ sym (tokens_append seen w.0) ∙ ap tokens_in (sym w.1) ∙ e
-          ∙ ap (λ v. v ++ more) (take_next tokens at t here) ∙ append_assoc (take at tokens) (t ∷ []) more),
-    )
+    let w = s.whole all more text e in
+    let both : take at tokens ++ tokens_in w.0 ≡ take at tokens ++ t ∷ more =
+    ap (λ v. v ++ tokens_in w.0) (sym s.read) ∙ sym (tokens_append seen w.0) ∙ ap tokens_in (sym w.1) ∙ e
+    ∙ ap (λ v. v ++ more) (take_next tokens at t here) ∙ append_assoc (take at tokens) (t ∷ []) more in
+    (w.0, w.1, w.2, append_cancel_left (take at tokens) (tokens_in w.0) (t ∷ more) both)
 
 pub nested_append : (n : ℕ) (a b : List Mark) → IsNestedFrom n a → IsNestedFrom (fold depth_after n a) b → IsNestedFrom n (a ++ b)
 nested_append n [] b h k = k
@@ -47,13 +46,11 @@ depth_append a b = fold-append depth_after 0 a b
 pub room : {tokens : List Token} {at : ℕ} {goals : List Goal} {seen : List Mark} {depth : ℕ} → Stands tokens at goals seen depth → depth ≤ 32
 room {seen = seen} s = omega (arith, s.open_blocks, nested_now seen s.nested)
 
-shuts_less : (n : ℕ) (r : Rule) → depth_after n (shuts r) ≤ n
-shuts_less n rule.Block = omega arith
-shuts_less n _ = omega arith
-
-opens_fits : (n : ℕ) (r : Rule) → n ≤ 32 → (r ≡ rule.Block → n < 32) → depth_after n (opens r) ≤ 32
-opens_fits n rule.Block h k = let lt : n < 32 = k refl in omega arith
-opens_fits n _ h k = h
+-- a block may begin where fewer than 32 are open
+fits : (n : ℕ) (m : Mark) → n ≤ 32 → (m ≡ opens rule.Block → n < 32) → depth_after n m ≤ 32
+fits n (opens rule.Block) h k = let lt : n < 32 = k refl in omega arith
+fits n (shuts rule.Block) h k = omega arith
+fits n _ h k = h
 
 -- behind the end of a rule
 pub after_end : {r : Rule} {gs : List Goal} {ms : List Mark} → Reads (shut r ∷ gs) ms → (rest : List Mark) × (ms ≡ shuts r ∷ rest) × Reads gs rest
@@ -97,17 +94,17 @@ module _ {tokens : List Token} {at : ℕ} {t : Token} (here : slice_get tokens a
   -- a step over a mark that is no token
   silent : {goals gs : List Goal} {seen : List Mark} {depth : ℕ} (m : Mark) → tokens_in (m ∷ []) ≡ [] → Stands tokens at goals seen depth → ((rest : List Mark) → Reads gs rest → Reads goals (m ∷ rest))
       → ((rest : List Mark) → Reads goals rest → (behind : List Mark) × (rest ≡ m ∷ behind) × Reads gs behind)
-      → depth_after depth m ≤ 32 → Orderly gs → Stands tokens at gs (seen ++ m ∷ []) (depth_after depth m)
-  silent {seen = seen} m none s sound whole fits orderly =
+      → (m ≡ opens rule.Block → depth < 32) → Orderly gs → Stands tokens at gs (seen ++ m ∷ []) (depth_after depth m)
+  silent {seen = seen} {depth = depth} m none s sound whole few orderly =
       step (m ∷ []) [] s (sym (append-nil _)) (tokens_append seen (m ∷ []) ∙ ap (λ v. tokens_in seen ++ v) none ∙ append-nil (tokens_in seen) ∙ s.read)
-      sound (λ rest more d e. whole rest d) (room s, fits) orderly (λ h. absurd (omega (arith, h, slice_get_within tokens at t here)))
+      sound (λ rest more d e. whole rest d) (room s, fits depth m (room s) few) orderly (λ h. absurd (omega (arith, h, slice_get_within tokens at t here)))
 
   pub shut_stands : {r : Rule} {gs : List Goal} {seen : List Mark} {depth : ℕ} → Stands tokens at (shut r ∷ gs) seen depth → Stands tokens at gs (seen ++ shuts r ∷ []) (depth_after depth (shuts r))
-  shut_stands {r = r} {depth = depth} s = silent (shuts r) refl s (λ rest d. end d) (λ rest d. after_end d) (omega (arith, shuts_less depth r, room s)) s.orderly
+  shut_stands {r = r} s = silent (shuts r) refl s (λ rest d. end d) (λ rest d. after_end d) (λ e. cc) s.orderly
 
   pub enter_stands : {r : Rule} {gs : List Goal} {seen : List Mark} {depth : ℕ} → (r ≡ rule.Block → depth < 32) → Stands tokens at (part (Node r) ∷ gs) seen depth → Stands tokens at (phrase (Whole r) ∷ shut r ∷ gs) (seen ++ opens r ∷ []) (depth_after depth (opens r))
-  enter_stands {r = r} {depth = depth} fits s =
-      silent (opens r) refl s (λ rest d. node d) (λ rest d. after_node d) (opens_fits depth r (room s) fits) ((λ h. absurd (s.orderly.0 cc)), s.orderly.1, s.orderly.2)
+  enter_stands {r = r} few s =
+      silent (opens r) refl s (λ rest d. node d) (λ rest d. after_node d) (λ e. few cc) ((λ h. absurd (s.orderly.0 cc)), s.orderly.1, s.orderly.2)
 
   -- a step over no mark
   pub stay : {goals gs : List Goal} {seen : List Mark} {depth : ℕ} → Stands tokens at goals seen depth
@@ -126,12 +123,6 @@ module _ {tokens : List Token} {at : ℕ} {t : Token} (here : slice_get tokens a
   pub done_stands : {gs : List Goal} {seen : List Mark} {depth : ℕ} → Stands tokens at (phrase Done ∷ gs) seen depth → Stands tokens at gs seen depth
   done_stands s = stay s (λ ms d. done d) (λ ms more d e. after_done d) s.orderly.2
 
-take_split : {A : Type 0} (xs : List A) (n : ℕ) → take (suc n) xs ≡ take n xs ++ take 1 (drop n xs)
-take_split [] zero = refl
-take_split [] (suc n) = refl
-take_split (x ∷ xs) zero = refl
-take_split (x ∷ xs) (suc n) = ap (λ v. x ∷ v) (take_split xs n)
-
 pub read_next : {tokens : List Token} {at : ℕ} {t : Token} {goals : List Goal} {seen : List Mark} {depth : ℕ} (ms : List Mark) → tokens_in ms ≡ t ∷ [] → slice_get tokens at ≡ Some t
     → Stands tokens at goals seen depth → tokens_in (seen ++ ms) ≡ take (suc at) tokens
 read_next {tokens} {at} {t} {seen = seen} ms one here s = tokens_append seen ms ∙ ap (λ v. v ++ tokens_in ms) s.read ∙ ap (λ v. take at tokens ++ v) one ∙ sym (take_next tokens at t here)
@@ -139,12 +130,9 @@ read_next {tokens} {at} {t} {seen = seen} ms one here s = tokens_append seen ms 
 pub take_stands : {tokens : List Token} {at : ℕ} {t : Token} {c : Terminal} {gs : List Goal} {seen : List Mark} {depth : ℕ} → slice_get tokens at ≡ Some t
     → (length tokens ≤ suc at → t.what ≡ kind.End) → terminal_of t.what ≡ c → Stands tokens at (part (One c) ∷ gs) seen depth → Stands tokens (suc at) gs (seen ++ leaf t ∷ []) depth
 take_stands {tokens} {at} {t} here last is s =
-    step here (leaf t ∷ []) (take 1 (drop (suc at) tokens)) s (take_split tokens (suc at)) (read_next (leaf t ∷ []) refl here s) (λ rest d. token is d) (λ rest more d e. one_leaf (after_one d) e)
+    step here (leaf t ∷ []) (drop (suc at) (take (suc (suc at)) tokens)) s (taken_further tokens (suc at) (suc (suc at)) (omega arith)) (read_next (leaf t ∷ []) refl here s) (λ rest d. token is d) (λ rest more d e.
+    let v = after_one d in
+    let same : v.0 ∷ tokens_in v.1 ≡ t ∷ (drop (suc at) (take (suc (suc at)) tokens) ++ more) = sym (ap tokens_in v.2) ∙ e in
+    let it : v.0 ≡ t = cc in
+    (v.1, v.2 ∙ ap (λ u. leaf u ∷ v.1) it, v.4))
     (room s, room s) s.orderly.1 (λ h. s.orderly.0 (sym is ∙ ap terminal_of (last h)))
-  where
-    one_leaf : {c : Terminal} {gs : List Goal} {ms : List Mark} {ts : List Token} → (u : Token) × (rest : List Mark) × (ms ≡ leaf u ∷ rest) × (terminal_of u.what ≡ c) × Reads gs rest
-        → tokens_in ms ≡ t ∷ ts → (rest : List Mark) × (ms ≡ leaf t ∷ rest) × Reads gs rest
-    one_leaf {ts = ts} v e =
-        let same : v.0 ∷ tokens_in v.1 ≡ t ∷ ts = sym (ap tokens_in v.2) ∙ e in
-        let it : v.0 ≡ t = cc in
-        (v.1, v.2 ∙ ap (λ u. leaf u ∷ v.1) it, v.4)

@@ -1,15 +1,15 @@
 -- The steps of a reader at an operand that begins with a name.
-use Rattle.rmt_syntax.proofs.Words.{◌≡◌, ◌∙◌, inl, inr, ℕ, zero, suc, ◌<◌, ◌≤◌, true, sym, ap, refl, subst, List, [], ◌∷◌, ◌++◌, Some, map, length, arith, slice_get, Token, Part, One, Node, Phrase, Whole, Done, FieldEnd, choices, terminal_of, Mark, leaf, opens, tokens_in, Goal, part, phrase, shut, Reads, token, node, choose, member, front, tails, Apart, Stands, slice_get-item, leb_tells, both_ways, choice_of}
+use Rattle.rmt_syntax.proofs.Words.{◌≡◌, ◌∙◌, inl, inr, ℕ, zero, suc, ◌<◌, ◌≤◌, true, sym, ap, refl, subst, List, [], ◌∷◌, ◌++◌, Some, length, arith, slice_get, Token, One, Node, Whole, Done, FieldEnd, terminal_of, Mark, leaf, opens, tokens_in, Goal, part, phrase, shut, Reads, token, node, choose, member, front, tails, Apart, Stands, slice_get-item, leb_tells, both_ways, choice_of}
 use Rattle.rmt_syntax.proofs.Words.kind
 use Rattle.rmt_syntax.proofs.Words.terminal
 use Rattle.rmt_syntax.proofs.Words.rule
 use Rattle.rmt_syntax.proofs.Fronts.{first_token, chosen}
 use Rattle.rmt_syntax.proofs.Machine.{take_next, room, step, read_next, after_node, after_one, choose_now}
 use Rattle.rmt_syntax.proofs.Choosing.{as_form}
-use Rattle.rmt_syntax.proofs.Cuts.{Leads, at_once, within}
+use Rattle.rmt_syntax.proofs.Cuts.{Leads, at_once}
 
 -- the marks of an operand: of a field of a header, or of a name with no dot behind it
-data Operand (gs : List Goal) : List Mark → Type 0 where
+pub data Operand (gs : List Goal) : List Mark → Type 0 where
   field : {t u : Token} {ms : List Mark} → terminal_of u.what ≡ terminal.Dot → Reads (phrase FieldEnd ∷ shut rule.Field ∷ phrase Done ∷ gs) ms → Operand gs (opens rule.Field ∷ leaf t ∷ leaf u ∷ ms)
   lone : {t : Token} {ms : List Mark} → Reads (phrase Done ∷ gs) ms → Operand gs (leaf t ∷ ms)
 
@@ -23,35 +23,27 @@ field_by {gs} {t} {more} {ms} d is name =
     let b = after_one a.4 in
     subst (λ (v : List Mark). Operand gs (opens rule.Field ∷ v)) (sym (a.2 ∙ ap (λ (v : List Mark). leaf a.0 ∷ v) b.2)) (field b.3 b.4)
 
-leaf_by : (gs : List Goal) (t : Token) (more : List Token) (ms : List Mark) (i : ℕ) (ps : List Part) (next : Phrase)
-    → slice_get (choices (Whole rule.Leaf)) i ≡ Some (ps, next) → Reads (map part ps ++ phrase next ∷ gs) ms
+-- an operand that begins with a name
+pub operand_by : {gs : List Goal} {t : Token} {more : List Token} {ms : List Mark} → Reads (phrase (Whole rule.Leaf) ∷ gs) ms
     → tokens_in ms ≡ t ∷ more → terminal_of t.what ≡ terminal.Name → Operand gs ms
-leaf_by gs t more ms zero ps next e d is name =
+operand_by {gs = gs} (choose zero ps next e d) is name =
     let a = after_node (as_form {qs = Node rule.Field ∷ []} {y = Done} gs (sym e) d) in
     subst (Operand gs) (sym a.1) (field_by a.2 (sym (ap tokens_in a.1) ∙ is) name)
-leaf_by gs t more ms (suc zero) ps next e d is name =
+operand_by {gs = gs} (choose (suc zero) ps next e d) is name =
     let a = after_one (as_form {qs = One terminal.Name ∷ []} {y = Done} gs (sym e) d) in
     subst (Operand gs) (sym a.2) (lone a.4)
-leaf_by gs t more ms (suc (suc zero)) ps next e d is name =
+operand_by {gs = gs} {t = t} {more = more} (choose (suc (suc zero)) ps next e d) is name =
     let a = after_one (as_form {qs = One terminal.Number ∷ []} {y = Done} gs (sym e) d) in
     let both : a.0 ∷ tokens_in a.1 ≡ t ∷ more = sym (ap tokens_in a.2) ∙ is in
     let it : a.0 ≡ t = cc in
     let other : terminal.Number ≡ terminal.Name = sym a.3 ∙ ap (λ (v : Token). terminal_of v.what) it ∙ name in cc
-leaf_by gs t more ms (suc (suc (suc i))) ps next e d is name = cc
-
--- an operand that begins with a name
-operand_by : {gs : List Goal} {t : Token} {more : List Token} {ms : List Mark} → Reads (phrase (Whole rule.Leaf) ∷ gs) ms
-    → tokens_in ms ≡ t ∷ more → terminal_of t.what ≡ terminal.Name → Operand gs ms
-operand_by {gs = gs} {t = t} {more = more} {ms = ms} d is name = let n = choose_now refl d in leaf_by gs t more ms n.0 n.1 n.2 n.3 n.4 is name
+operand_by (choose (suc (suc (suc i))) ps next e d) is name = cc
 
 -- it begins with its name, but for the beginning of a field
-pub operand_first : {gs : List Goal} {t : Token} {more : List Token} {ms : List Mark} → Reads (phrase (Whole rule.Leaf) ∷ gs) ms
-    → tokens_in ms ≡ t ∷ more → terminal_of t.what ≡ terminal.Name → Leads ms
-operand_first {gs = gs} {t = t} {more = more} {ms = ms} d is name = first (operand_by d is name)
-  where
-    first : {ms : List Mark} → Operand gs ms → Leads ms
-    first (field {t = t} {u = u} {ms = ms} dot d) = within t (leaf u ∷ ms)
-    first (lone {t = t} {ms = ms} d) = at_once t ms
+pub name_leads : {gs : List Goal} {ms : List Mark} → Operand gs ms → Leads ms
+name_leads (field {t = t} {u = u} {ms = ms} dot d) =
+    record { front = opens rule.Field ∷ leaf t ∷ []; rest = leaf u ∷ ms; all = refl; one = refl; fits = λ n h. (h, (h, h)) }
+name_leads (lone {t = t} {ms = ms} d) = at_once t ms
 
 -- a name with no dot behind it
 lone_whole : {gs : List Goal} {t u : Token} {more : List Token} {ms : List Mark} → Operand gs ms → tokens_in ms ≡ t ∷ u ∷ more → (terminal_of u.what ≡ terminal.Dot → ⊥)

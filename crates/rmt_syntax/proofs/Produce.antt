@@ -1,29 +1,27 @@
 -- Each list of what is to come has a text.
-use Rattle.rmt_syntax.proofs.Words.{◌≡◌, inl, inr, ℕ, zero, suc, Bool, true, sym, refl, subst, List, [], ◌∷◌, ◌++◌, map, if◌then◌else◌, list_all, list_any, Token, TokenKind, Terminal, Part, One, Node, Phrase, Whole, choices, keywords, signs, terminal_of, Mark, leaf, opens, shuts, Goal, part, phrase, shut, Reads, nothing, token, node, end, done, choose, same, is_done, codes, and_parts, or_cases}
+use Rattle.rmt_syntax.proofs.Words.{◌≡◌, inl, inr, ℕ, zero, suc, Bool, true, sym, refl, subst, List, [], ◌∷◌, ◌++◌, map, Some, None, find, list_all, list_any, Token, TokenKind, Terminal, Part, One, Node, Phrase, Whole, choices, keywords, signs, terminal_of, Mark, leaf, opens, shuts, Goal, part, phrase, shut, Reads, nothing, token, node, end, done, choose, same, is_done, codes, and_parts, or_cases}
 use Rattle.rmt_syntax.proofs.Words.kind
 use Rattle.rmt_syntax.proofs.Words.terminal
-use Rattle.rmt_syntax.proofs.Checks.{has_end, form_ends, part_ends, end_of}
+use Rattle.rmt_syntax.proofs.Checks.{has_end, form_ends, part_ends, sound}
 use Rattle.rmt_syntax.proofs.Fronts.{done_is}
 use Rattle.rmt_syntax.proofs.Sets.{some_at}
 
 -- what a terminal may be: its reserved word or its sign, if it has one
-word_of : List (List ℕ × Terminal) → Terminal → List ℕ
-word_of [] c = codes "a"
-word_of (e ∷ es) c = if same e.1 c then e.0 else word_of es c
-
-kind_of : List (ℕ × Terminal) → Terminal → TokenKind
-kind_of [] terminal.Number = kind.Number 0
-kind_of [] terminal.Equal = kind.Equal
-kind_of [] terminal.End = kind.End
-kind_of [] terminal.Other = kind.Sign 0
-kind_of [] c = kind.Word (word_of keywords c)
-kind_of (e ∷ es) c = if same e.1 c then kind.Sign e.0 else kind_of es c
+kind_of : Terminal → TokenKind
+kind_of terminal.Number = kind.Number 0
+kind_of terminal.Equal = kind.Equal
+kind_of terminal.End = kind.End
+kind_of terminal.Other = kind.Sign 0
+kind_of c = elim (find (λ (e : ℕ × Terminal). same e.1 c) signs) [
+  | Some e ↦ kind.Sign e.0
+  | None ↦ kind.Word (elim (find (λ (e : List ℕ × Terminal). same e.1 c) keywords) [ Some e ↦ e.0 | None ↦ codes "a" ])
+]
 
 sample : Terminal → Token
-sample c = record { line = 0; column = 0; what = kind_of signs c }
+sample c = record { line = 0; column = 0; what = kind_of c }
 
 sample_is : (c : Terminal) → terminal_of (sample c).what ≡ c
-unfolding sample word_of kind_of
+unfolding sample kind_of
 sample_is terminal.Header = refl
 sample_is _ = refl
 
@@ -65,7 +63,7 @@ has_text [] = ([], nothing)
 has_text (part (One c) ∷ gs) = let rest = has_text gs in (leaf (sample c) ∷ rest.0, token (sample_is c) rest.1)
 has_text (part (Node r) ∷ gs) =
     let rest = has_text gs in
-    let inside = phrase_text 4 (Whole r) (shut r ∷ gs) (end_of (Whole r)) (shuts r ∷ rest.0, end rest.1) in
+    let inside = phrase_text 4 (Whole r) (shut r ∷ gs) (sound (Whole r)).end (shuts r ∷ rest.0, end rest.1) in
     (opens r ∷ inside.0, node inside.1)
-has_text (phrase x ∷ gs) = phrase_text 4 x gs (end_of x) (has_text gs)
+has_text (phrase x ∷ gs) = phrase_text 4 x gs (sound x).end (has_text gs)
 has_text (shut r ∷ gs) = let rest = has_text gs in (shuts r ∷ rest.0, end rest.1)

@@ -1,5 +1,5 @@
 -- Lists of terminals as sets.
-use Rattle.rmt_syntax.proofs.Words.{cases_Bool, ◌≡◌, ◌∙◌, ◌⊎◌, inl, inr, ℕ, zero, suc, Bool, true, false, sym, ap, refl, subst, List, [], ◌∷◌, ◌++◌, Some, not, slice_get, list_all, list_any, same_true, same_false, true_same, the_type, Terminal, same, member, Apart, and_parts, or_cases, or_left, or_right, not-true, both_ways, false_from_ne_true, list_any-append}
+use Rattle.rmt_syntax.proofs.Words.{cases_Bool, ◌≡◌, ◌∙◌, ◌⊎◌, inl, inr, ℕ, zero, suc, Bool, true, sym, ap, refl, subst, List, [], ◌∷◌, ◌++◌, Some, not, slice_get, list_all, list_any, same_true, same_false, true_same, the_type, Terminal, same, member, Apart, and_parts, or_cases, or_left, or_right, not-true, both_ways, false_from_ne_true, list_any-append}
 
 pub same_refl : (t : Terminal) → same t t ≡ true
 same_refl t = true_same the_type t t refl
@@ -31,9 +31,6 @@ some_at p (y ∷ ys) h = elim (or_cases (p y) (list_any p ys) h) [
 
 pub member_here : (t u : Terminal) (ts : List Terminal) → u ≡ t → member t (u ∷ ts) ≡ true
 member_here t u ts e = or_left (same u t) (member t ts) (ap (λ v. same v t) e ∙ same_refl t)
-
-pub member_one : (t u : Terminal) → member t (u ∷ []) ≡ true → same u t ≡ true
-member_one t u h = elim (or_cases (same u t) false h) [ inl e ↦ e | inr e ↦ cc ]
 
 pub member_left : (t : Terminal) (xs ys : List Terminal) → member t xs ≡ true → member t (xs ++ ys) ≡ true
 member_left t xs ys h = list_any-append (λ c. same c t) xs ys ∙ or_left (member t xs) (member t ys) h

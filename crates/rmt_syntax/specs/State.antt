@@ -1,16 +1,14 @@
 -- What a reader that stands in the middle of a text has read, and what it still has to read. It serves the code and its
 -- proofs: no public clause speaks of it.
-use Rattle.std.specs.Prelude.{◌≡◌, ℕ, suc, List, [], ◌∷◌, ◌++◌, map, fold, take, length, ◌≤◌, false, Some, slice_get}
+use Rattle.std.specs.Prelude.{◌≡◌, ℕ, suc, List, [], ◌∷◌, ◌++◌, map, fold, take, length, ◌≤◌}
 use Rattle.std.specs.List.{flat_map}
 use Rattle.rmt_lexer.specs.declared.token.Token.{Token}
 use Rattle.rmt_syntax.specs.declared.reader.Frame.{Frame}
 use Rattle.rmt_syntax.specs.declared.reader.Reader.{Reader}
-use Rattle.rmt_lexer.specs.declared.fault.ProgramFault.{ProgramFault}
-use Rattle.rmt_lexer.specs.declared.fault.ProgramFault.TheVariants.{NoMemory, At}
-use Rattle.rmt_syntax.specs.Lookahead.{Orderly, is_operand_name}
-use Rattle.rmt_syntax.specs.Grammar.{Phrase, Done, terminal_of}
+use Rattle.rmt_syntax.specs.Lookahead.{Orderly}
+use Rattle.rmt_syntax.specs.Grammar.{Done}
 use Rattle.rmt_syntax.specs.Grammar.rule
-use Rattle.rmt_syntax.specs.Trees.{Mark, opens, marks, tokens_in, Goal, part, phrase, shut, Reads, IsText, IsNested, depth_of, IsFault}
+use Rattle.rmt_syntax.specs.Trees.{Mark, opens, marks, tokens_in, Goal, part, phrase, shut, Reads, IsText, IsNested, depth_of}
 
 -- the marks of the parts that a node has so far
 abbrev pub frame_marks : Frame → List Mark
@@ -46,16 +44,3 @@ pub record Stands (tokens : List Token) (at : ℕ) (goals : List Goal) (seen : L
 -- the reader stands before the token at the place
 abbrev pub Before : List Token → ℕ → Reader → Type 0
 Before tokens at r = Stands tokens at (goals_of r) (marks_of r) r.depth
-
--- no tree has these tokens and blocks nested in one another at most 32 deep
-abbrev pub HasNoTree : List Token → Type 0
-HasNoTree tokens = (all : List Mark) → IsText all → tokens_in all ≡ tokens → IsNested all → ⊥
-
--- the tokens are refused: the fault is where it says, and they have no tree
-abbrev pub Refuses : List Token → ProgramFault → Type 0
-Refuses tokens NoMemory = Unit {0}
-Refuses tokens (At code line column) = IsFault tokens code line column × HasNoTree tokens
-
--- the token is no name that begins an operand
-abbrev pub IsNoOperandName : Phrase → List Token → ℕ → Type 0
-IsNoOperandName x tokens at = (t : Token) → slice_get tokens at ≡ Some t → is_operand_name x (terminal_of t.what) ≡ false

@@ -8,11 +8,13 @@ ghost use Rattle.rmt_syntax.specs.declared.terminal.Terminal.{Terminal};
 ghost use Rattle.std.specs.Prelude.{◌≡◌, ◌<◌, ◌^◌, ◌⊎◌, ℕ, List, [], ◌∷◌, length};
 
 /// A tree of a rule is a node of that rule, and its parts are those of the rule's text, each a token or a tree of its rule.
+#[tactic(auto, using(crate::proofs::Forests::node_shape))]
 pub fn node_parts()
     ensures { (r : Rule) (t : Tree) → IsOf r t → IsNodeOf r t }
 {}
 
 /// A tree that stands where a token is to stand is that token.
+#[tactic(auto, using(crate::proofs::Forests::token_shape))]
 pub fn token_part()
     ensures { (c : Terminal) (t : Tree) → Reads (part (One c) ∷ []) (marks t) → IsTokenOf c t }
 {}

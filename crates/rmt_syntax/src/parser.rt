@@ -1,4 +1,4 @@
-ghost use Rattle.std.specs.Prelude.{◌≡◌, ◌+◌, ◌<◌, [], ◌∷◌, Some, IfOk, IfErr, OnOk, Bool, true, false, length, slice_get};
+ghost use Rattle.std.specs.Prelude.{◌≡◌, ◌+◌, ◌<◌, [], ◌∷◌, Some, Err, IfOk, IfErr, OnOk, Bool, true, false, length, slice_get};
 ghost use Rattle.rmt_lexer.specs.declared.fault.ProgramFault.TheVariants.{At};
 ghost use Rattle.rmt_syntax.specs.declared.grammar.Part.TheVariants.{One, Node};
 ghost use Rattle.rmt_syntax.specs.declared.grammar.Phrase.TheVariants.{Done, Whole};
@@ -8,8 +8,8 @@ ghost use Rattle.rmt_syntax.specs.declared.tree.Rule.TheVariants.{Block};
 ghost use Rattle.rmt_syntax.specs.Grammar.{terminal_of};
 ghost use Rattle.rmt_syntax.specs.Trees.{Answers, Gives, IsTreeOf};
 ghost use Rattle.rmt_lexer.specs.Text.{EndsOnce};
-ghost use Rattle.rmt_syntax.specs.Lookahead.{is_done, weight};
-ghost use Rattle.rmt_syntax.specs.State.{Before, Refuses, IsNoOperandName, goals_of};
+ghost use Rattle.rmt_syntax.specs.Lookahead.{is_done, is_operand_name, weight};
+ghost use Rattle.rmt_syntax.specs.State.{Before, goals_of};
 
 use crate::grammar::{Part, Phrase};
 use crate::lookahead::{choice_of, is_done, is_operand_name};
@@ -43,6 +43,7 @@ fn token_at(tokens: &[Token], at: usize) -> &Token
 }
 
 /// Whether a token is of a kind.
+#[tactic(auto, using(crate::proofs::Sets::same_is, crate::proofs::Sets::same_refl))]
 fn is_kind(token: &Token, wanted: Terminal) -> bool
     ensures yes { result ≡ true → terminal_of token.now.what ≡ wanted }
     ensures no { result ≡ false → terminal_of token.now.what ≡ wanted → ⊥ }
@@ -62,7 +63,7 @@ fn take_part(
     requires next { slice_get reader.old.inner.todo.now 0 ≡ Some (One wanted) }
     requires stands { Before tokens.now at reader.old }
     ensures ok { OnOk result (Before tokens.now (at + 1) reader.new) }
-    ensures err { IfErr result (λ fault. Refuses tokens.now fault) }
+    ensures err { IfErr result (λ fault. Answers tokens.now (Err fault)) }
 {
     let token = token_at(tokens, at);
     if !is_kind(token, wanted) {
@@ -72,28 +73,17 @@ fn take_part(
     Ok(())
 }
 
-/// Whether a rule is that of blocks.
-fn is_block(rule: Rule) -> bool
-    ensures block { result ≡ true → rule ≡ Block }
-    ensures other { result ≡ false → rule ≡ Block → ⊥ }
-{
-    match rule {
-        Rule::Block => true,
-        _ => false,
-    }
-}
-
 /// Refuses a token where a block is to come and none begins, or a 33rd one does.
 fn check_block(reader: &Reader, tokens: &[Token], at: usize, rule: Rule) -> Result<(), ProgramFault>
     requires inside { at < length tokens.now }
     requires next { slice_get reader.now.inner.todo.now 0 ≡ Some (Node rule) }
     requires stands { Before tokens.now at reader.now }
     ensures ok { OnOk result (rule ≡ Block → reader.now.depth < 32) }
-    ensures err { IfErr result (λ fault. Refuses tokens.now fault) }
+    ensures err { IfErr result (λ fault. Answers tokens.now (Err fault)) }
 {
-    if !is_block(rule) {
+    let Rule::Block = rule else {
         return Ok(());
-    }
+    };
     let token = token_at(tokens, at);
     if !is_kind(token, Terminal::OpenBrace) {
         return Err(fault_at(3, token));
@@ -116,7 +106,7 @@ fn enter_node(
     requires stands { Before tokens.now at reader.old }
     ensures ok { OnOk result (Before tokens.now at reader.new) }
     ensures lower { OnOk result (weight (goals_of reader.new) < weight (goals_of reader.old)) }
-    ensures err { IfErr result (λ fault. Refuses tokens.now fault) }
+    ensures err { IfErr result (λ fault. Answers tokens.now (Err fault)) }
 {
     check_block(reader, tokens, at, rule)?;
     reader.enter(rule)?;
@@ -131,7 +121,7 @@ fn close_node(reader: &mut Reader, tokens: &[Token], at: usize) -> Result<(), Pr
     requires stands { Before tokens.now at reader.old }
     ensures ok { OnOk result (Before tokens.now at reader.new) }
     ensures lower { OnOk result (weight (goals_of reader.new) < weight (goals_of reader.old)) }
-    ensures err { IfErr result (λ fault. Refuses tokens.now fault) }
+    ensures err { IfErr result (λ fault. Answers tokens.now (Err fault)) }
 {
     if reader.close()? {
         Ok(())
@@ -145,11 +135,11 @@ fn choose_form(reader: &mut Reader, tokens: &[Token], at: usize) -> Result<(), P
     requires inside { at < length tokens.now }
     requires next { reader.old.inner.todo.now ≡ [] }
     requires then { is_done reader.old.inner.then ≡ false }
-    requires name { IsNoOperandName reader.old.inner.then tokens.now at }
+    requires name { (t : Token) → slice_get tokens.now at ≡ Some t → is_operand_name reader.old.inner.then (terminal_of t.what) ≡ false }
     requires stands { Before tokens.now at reader.old }
     ensures ok { OnOk result (Before tokens.now at reader.new) }
     ensures lower { OnOk result (weight (goals_of reader.new) < weight (goals_of reader.old)) }
-    ensures err { IfErr result (λ fault. Refuses tokens.now fault) }
+    ensures err { IfErr result (λ fault. Answers tokens.now (Err fault)) }
 {
     let token = token_at(tokens, at);
     match choice_of(reader.inner.then, terminal_of(token)) {
@@ -181,7 +171,7 @@ fn take_operand(reader: &mut Reader, tokens: &[Token], at: usize) -> Result<(), 
     requires name { (t : Token) → slice_get tokens.now at ≡ Some t → terminal_of t.what ≡ Name }
     requires stands { Before tokens.now at reader.old }
     ensures ok { OnOk result (Before tokens.now (at + 1) reader.new) }
-    ensures err { IfErr result (λ fault. Refuses tokens.now fault) }
+    ensures err { IfErr result (λ fault. Answers tokens.now (Err fault)) }
 {
     let token = token_at(tokens, at);
     let name = token.copy(reader.alloc)?;
@@ -203,7 +193,7 @@ fn pass_phrase(reader: &mut Reader, tokens: &[Token], at: usize) -> Result<bool,
     ensures taken { IfOk result (λ taken. taken ≡ true → Before tokens.now (at + 1) reader.new) }
     ensures stands { IfOk result (λ taken. taken ≡ false → Before tokens.now at reader.new) }
     ensures lower { IfOk result (λ taken. taken ≡ false → weight (goals_of reader.new) < weight (goals_of reader.old)) }
-    ensures err { IfErr result (λ fault. Refuses tokens.now fault) }
+    ensures err { IfErr result (λ fault. Answers tokens.now (Err fault)) }
 {
     let phrase = reader.inner.then;
     if is_done(phrase) {
@@ -224,7 +214,7 @@ fn read_token(reader: &mut Reader, tokens: &[Token], at: usize) -> Result<(), Pr
     requires ends { EndsOnce tokens.now }
     requires stands { Before tokens.now at reader.old }
     ensures ok { OnOk result (Before tokens.now (at + 1) reader.new) }
-    ensures err { IfErr result (λ fault. Refuses tokens.now fault) }
+    ensures err { IfErr result (λ fault. Answers tokens.now (Err fault)) }
 {
     loop {
         match reader.next() {

@@ -124,6 +124,7 @@ impl Reader {
     }
 
     /// Ends the node that is read, and tells whether there is one around it.
+    #[tactic(auto, using(crate::proofs::Frames::closing))]
     pub fn close(&mut self) -> Result<bool, AllocError>
         requires todo { self.old.inner.todo.now ≡ [] }
         requires then { self.old.inner.then ≡ Done }
@@ -144,6 +145,7 @@ impl Reader {
     }
 
     /// The tree of the text that is read.
+    #[tactic(auto, using(crate::proofs::Frames::finished))]
     pub fn finish(self) -> Tree
         ensures { goals_of self ≡ phrase Done ∷ shut rule.Program ∷ [] → marks result ≡ marks_of self ++ shuts rule.Program ∷ [] }
     {

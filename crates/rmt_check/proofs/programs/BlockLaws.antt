@@ -7,8 +7,8 @@ use Rattle.std.proofs.lemmas.List.FromFn.{length-range_with_len}
 use Rattle.std.proofs.lemmas.List.Sums.{sum_by-append}
 use Rattle.std.proofs.lemmas.Option.{slice_get-map, slice_get_within}
 use Rattle.std.proofs.lemmas.List.Elements.{All-map}
-use Rattle.rmt_ast.proofs.WellFormedLemmas.{NumberedFrom}
-use Rattle.rmt_ast.specs.WellFormed.{IsWidth, HasFields}
+use Rattle.rmt_ast.proofs.WellFormedLemmas.{NumberedFrom, AllNumbered-from_items}
+use Rattle.rmt_ast.specs.WellFormed.{AllNumbered, IsWidth, HasFields}
 use Rattle.rmt_ast.specs.State as state
 use Rattle.rmt_ast.specs.WellFormed as formed
 use Rattle.rmt_bits.proofs.ListLaws.{slice_get-front, slice_get-end, drop-nil, map-nil}
@@ -31,8 +31,7 @@ range-append : (a m n : ℕ) → range_with_len a (m + n) ≡ range_with_len a m
 range-append a zero n = let e : a ≡ a + 0 = omega arith in let f : 0 + n ≡ n = omega arith in ap (range_with_len a) f ∙ ap (λ (b : ℕ). range_with_len b n) e
 range-append a (suc m) n =
     let e : a + 1 + m ≡ a + suc m = omega arith in
-    let f : suc m + n ≡ suc (m + n) = omega arith in
-    ap (range_with_len a) f ∙ ap (λ (xs : List ℕ). a ∷ xs) (range-append (a + 1) m n ∙ ap (λ (b : ℕ). range_with_len (a + 1) m ++ range_with_len b n) e)
+    let f : suc m + n ≡ suc (m + n) = omega arith in rw (f, range-append (a + 1) m n, e) refl
 
 pub numbers_in_order : (s : Source) (n : ℕ) (hs : List HeaderText) → flat_map (λ (h : Header). h.valid ∷ h.fields) (headers_from s n hs) ≡ range_with_len n (count_of hs)
 numbers_in_order s n [] = refl
@@ -95,8 +94,8 @@ module _ (s : Source) (before : List HeaderText) (h : HeaderText) (after : List 
 -- what holds of each header, by the headers before it and after it, holds of the headers in their order
 pub each_header : (s : Source) (P : ℕ → Header → Type 0)
     → ((before : List HeaderText) (h : HeaderText) (after : List HeaderText) → s.headers ≡ before ++ h ∷ after → P (length before) (header_from s (start_of before) h))
-    → NumberedFrom P 0 (headers_from s 3 s.headers)
-each_header s P one = from [] s.headers refl
+    → AllNumbered P (headers_from s 3 s.headers)
+each_header s P one = AllNumbered-from_items P (headers_from s 3 s.headers) (from [] s.headers refl)
   where
     from : (before hs : List HeaderText) → s.headers ≡ before ++ hs → NumberedFrom P (length before) (headers_from s (start_of before) hs)
     from before [] e = tt

@@ -1,9 +1,10 @@
 -- The headers of a text that breaks no rule.
-use Rattle.std.proofs.Common.{◌≡◌, ◌≢◌, ℕ, zero, suc, ◌+◌, ◌<◌, ◌≤◌, ◌⊎◌, inl, inr, List, [], ◌∷◌, ◌++◌, true, Some, Option, option_map, unwrap_or, codes, length, slice_get, All, Contains, refl, sym, ap, ◌∙◌, ⊎_elim, arith, ◌-◌, ◌*◌, ◌/◌, ◌%◌, ◌^◌, Bool, false, not, ◌&&◌, ◌==◌, if◌then◌else◌, nat_le, None, option_to_list, map, zip, sum, take, get_or, ap₂, subst, zero-add}
+use Rattle.std.proofs.Common.{◌≡◌, ◌≢◌, ℕ, zero, suc, ◌+◌, ◌<◌, ◌≤◌, ◌⊎◌, inl, inr, List, [], ◌∷◌, ◌++◌, true, Some, Option, option_map, unwrap_or, codes, length, slice_get, All, Contains, refl, sym, ap, ◌∙◌, ⊎_elim, arith, ◌-◌, ◌*◌, ◌/◌, ◌^◌, false, not, None, option_to_list, map, zip, sum, get_or, ap₂, subst, zero-add}
 use Rattle.std.specs.Prelude.{⊤}
 use Rattle.std.specs.List.{range_with_len, flat_map, enumerate_from}
 use Rattle.std.specs.Option.{IfSome}
-use Rattle.std.proofs.lemmas.Bool.{leb-true, leb-false, eqb-true, and_parts}
+use Rattle.std.proofs.lemmas.Bool.Decides.{nat_tests}
+use Rattle.std.proofs.lemmas.Bool.{leb-false}
 use Rattle.std.proofs.lemmas.List.Concat.{flat_map-append}
 use Rattle.std.proofs.lemmas.List.Elements.{All-nil, All-cons, All-head, All-tail, All-append, All-from_recursion, All-map}
 use Rattle.std.proofs.lemmas.List.FromFn.{length-range_with_len, get_or-range_with_len}
@@ -11,7 +12,6 @@ use Rattle.std.proofs.lemmas.Option.{slice_get-map, slice_get_within, same_Some}
 use Rattle.rmt_ast.specs.NameList.{number_of, is_known}
 use Rattle.rmt_ast.specs.State as state
 use Rattle.rmt_ast.specs.WellFormed.{AllNumbered, AreDistinct, IsTest, AreTests, IsTarget, IsTail, IsCase, IsHeader}
-use Rattle.rmt_ast.proofs.WellFormedLemmas.{AllNumbered-from_items}
 use Rattle.rmt_bits.proofs.AllLaws.{All-slice_get}
 use Rattle.rmt_bits.proofs.ListLaws.{slice_get-end, append-nil_left, append-nil_right, flat_map-nil, map-nil}
 use Rattle.rmt_bits.proofs.PairLaws.{AllPairs-map}
@@ -21,15 +21,13 @@ use Rattle.rmt_check.specs.Names.{header_names, metadata, of_metadata, of_header
 use Rattle.rmt_check.specs.Naming.{IsHeaderText}
 use Rattle.rmt_check.specs.Standing.{code_of}
 use Rattle.rmt_check.specs.Meaning.{field_number, index_of, test_of, target_of, tail_of, case_of, header_from, headers_from, program_of}
-use Rattle.rmt_check.specs.Rules.{when, repeated, unknown, target_names, targets, unknown_own, unknown_select, unknown_tail, is_size, is_tail_range, bad_tail, bits_of, is_at_most, too_wide_value, too_wide_case, bad_case, value_place}
+use Rattle.rmt_check.specs.Rules.{when, repeated, unknown, target_names, targets, unknown_own, unknown_select, unknown_tail, is_size, is_tail_range, bad_tail, bits_of, is_at_most, too_wide_value, too_wide_case, bad_case}
 use Rattle.rmt_check.proofs.Finding.{number_at, stands_within}
 use Rattle.rmt_check.proofs.FieldCodes.{known_at}
 use Rattle.rmt_check.proofs.FieldLists.{front, back, start_of, length-front, length-declared, all_header, all_headers}
 use Rattle.rmt_check.proofs.programs.BlockLaws.{split, length-headers_from, own_at, width_at, each_header}
-use Rattle.rmt_check.proofs.programs.FieldLaws.{test_law, field_width, distinct_fields}
-use Rattle.rmt_check.proofs.programs.ListLaws.{none_in, All-mid, none_numbered}
-use Rattle.rmt_check.proofs.programs.NameLaws.{distinct_by, names_differ, known_here, number_here}
-use Rattle.rmt_check.proofs.programs.RuleLaws.{KeepsRules, no_when, no_when_not, one_known, unknown_targets, bad_size, bad_tails, early_targets, case_widths, repeated_select, bad_cases}
+use Rattle.rmt_check.proofs.programs.NameLaws.{test_law, field_width, distinct_fields, distinct_by, names_differ, known_here, number_here}
+use Rattle.rmt_check.proofs.programs.RuleLaws.{none_in, All-mid, none_numbered, KeepsRules, no_when, no_when_not, one_known, unknown_targets, bad_size, bad_tails, early_targets, case_widths, repeated_select, bad_cases}
 
 -- A field of a header's own is one of its fields.
 
@@ -101,25 +99,18 @@ row g f (x ∷ xs) n h =
 
 -- whole bytes
 whole : (b : ℕ) → is_size b ≡ true → (b ≡ 8 * (b / 8)) × (1 ≤ b / 8) × (b / 8 ≤ 64)
-whole b e =
-    let first = and_parts (nat_le 1 b && nat_le b 512) (b % 8 == 0) e in
-    let second = and_parts (nat_le 1 b) (nat_le b 512) first.0 in
-    let low = leb-true 1 b second.0 in
-    let high = leb-true b 512 second.1 in
-    let even = eqb-true (b % 8) 0 first.1 in
-    (omega arith, omega arith, omega arith)
+whole b e = grind (arith, nat_tests)
+
+-- the lengths of a tail
+abbrev InRange : ℕ → ℕ → ℕ → Type 0
+InRange width unit base = (width ≤ 8) × (1 ≤ unit) × (unit ≤ 255) × (base ≤ 255) × (base ≤ (2 ^ width - 1) * unit) × ((2 ^ width - 1) * unit ≤ base + 64)
+
+in_range : (width unit base : ℕ) → is_tail_range width unit base ≡ true → InRange width unit base
+in_range width unit base e = grind (arith, nat_tests)
 
 -- a case with as many values as there are names
 same_count : (h : HeaderText) (c : CaseText) → 1 ≤ length c.values → bad_case h c ≡ [] → length h.select ≡ length c.values
-same_count h c some e = by (length h.select == length c.values) refl e
-  where
-    by : (b : Bool) → (length h.select == length c.values) ≡ b → (if b then [] else map value_place (take 1 c.values)) ≡ [] → length h.select ≡ length c.values
-    by true same none = eqb-true (length h.select) (length c.values) same
-    by false same none = absurd (one c.values some (map-nil value_place (take 1 c.values) none))
-      where
-        one : (vs : List ValueText) → 1 ≤ length vs → take 1 vs ≡ [] → ⊥
-        one [] l e = absurd (omega arith)
-        one (v ∷ vs) l e = cc
+same_count h c some e = grind (arith, nat_tests)
 
 module _ (s : Source) (h : HeaderText) (known : All (λ (i : Ident). is_field s (selected s h i) ≡ true) h.select) where
   tests_of : (is : List Ident) (vs : List ValueText) → All (λ (i : Ident). is_field s (selected s h i) ≡ true) is → length is ≡ length vs
@@ -190,23 +181,16 @@ module _ (s : Source) (keeps : KeepsRules s) (text : All IsHeaderText s.headers)
       by (Some t) known fits plain =
           let field = selected s h t.field in
           let there = no_when_not (is_field s field) t.field.place (append-nil_left (when (not (is_field s field)) t.field.place) [] known) in
-          let wide = field_width s field there in
-          let n = (2 ^ width_of s field - 1) * t.unit.value in
-          let range = no_when_not (is_tail_range (width_of s field) t.unit.value t.base.value) t.place (append-nil_left (bad_tail s h t) [] fits) in
-          let five = and_parts _ (nat_le n (t.base.value + 64)) range in
-          let four = and_parts _ (nat_le t.base.value n) five.0 in
-          let three = and_parts _ (nat_le t.base.value 255) four.0 in
-          let two = and_parts _ (nat_le t.unit.value 255) three.0 in
-          let one = and_parts (nat_le (width_of s field) 8) (nat_le 1 t.unit.value) two.0 in
-          let greatest : (2 ^ state.width_of (program_of s) (field_number s field) - 1) * t.unit.value ≡ n = ap (λ w. (2 ^ w - 1) * t.unit.value) wide in
+          let range = subst (λ w. InRange w t.unit.value t.base.value) (sym (field_width s field there))
+          (in_range (width_of s field) t.unit.value t.base.value (no_when_not _ t.place (append-nil_left (bad_tail s h t) [] fits))) in
           record {
             own = own_field s keeps before h after e t.field there plain;
-            narrow = subst (λ w. w ≤ 8) (sym wide) (leb-true (width_of s field) 8 one.0);
-            has_unit = leb-true 1 t.unit.value one.1;
-            unit = leb-true t.unit.value 255 two.1;
-            base = leb-true t.base.value 255 three.1;
-            reaches = subst (λ m. t.base.value ≤ m) (sym greatest) (leb-true t.base.value n four.1);
-            is_not_long = subst (λ m. m ≤ t.base.value + 64) (sym greatest) (leb-true n (t.base.value + 64) five.1);
+            narrow = range.0;
+            has_unit = range.1;
+            unit = range.2;
+            base = range.3;
+            reaches = range.4;
+            is_not_long = range.5;
           }
 
   plain_law : map (λ (i : Ident). field_number s (selected s h i)) h.select ≡ [] → map (case_of s h) h.cases ≡ []
@@ -248,4 +232,4 @@ module _ (s : Source) (keeps : KeepsRules s) (text : All IsHeaderText s.headers)
       }
 
 pub headers_law : (s : Source) → KeepsRules s → All IsHeaderText s.headers → AllNumbered (IsHeader (program_of s)) (headers_from s 3 s.headers)
-headers_law s keeps text = AllNumbered-from_items (IsHeader (program_of s)) (headers_from s 3 s.headers) (each_header s (IsHeader (program_of s)) (λ before h after e. header_law s keeps text before h after e))
+headers_law s keeps text = each_header s (IsHeader (program_of s)) (λ before h after e. header_law s keeps text before h after e)

@@ -1,23 +1,29 @@
--- Names that do not repeat, and the numbers that they stand for.
-use Rattle.std.proofs.Common.{◌≡◌, ◌≢◌, ℕ, ◌+◌, ◌<◌, List, [], Bool, true, false, Some, map, slice_get, get_or, take, length, All, refl, sym, ap, subst, ◌∙◌, ⊎_elim, arith}
+-- Names that do not repeat, the numbers that names and fields stand for, and the numbers and tests that fit a field.
+use Rattle.std.proofs.Common.{◌≡◌, ◌≢◌, ℕ, ◌+◌, ◌<◌, List, [], Bool, true, false, Some, map, slice_get, get_or, take, length, All, refl, sym, ap, subst, ◌∙◌, ⊎_elim, arith, ◌^◌, Option, bit_and, pow_pos, option_map, unwrap_or}
 use Rattle.std.specs.Prelude.{AllPairs}
 use Rattle.std.specs.List.{enumerate_from, list_any}
 use Rattle.std.specs.Str.{bytes_eq}
-use Rattle.std.proofs.lemmas.Bool.{both_ways, cases_order, false_from_ne_true}
+use Rattle.std.proofs.lemmas.Bool.{both_ways, cases_order, false_from_ne_true, ltb-true}
 use Rattle.std.proofs.lemmas.List.{get_or-map, get_or-take, length-map, length-take}
 use Rattle.std.proofs.lemmas.List.Folds.{list_any_at}
 use Rattle.std.proofs.lemmas.List.FromFn.{get_or-enumerate_from, length-enumerate_from}
-use Rattle.std.proofs.lemmas.Option.{same_Some, slice_get_within, get_or_from_slice_get}
+use Rattle.std.proofs.lemmas.Option.{same_Some, slice_get_within, get_or_from_slice_get, slice_get-map}
 use Rattle.std.proofs.lemmas.Slice.Eq.{bytes_eq-Decides}
 use Rattle.rmt_ast.specs.NameList.{is_known}
-use Rattle.rmt_ast.specs.WellFormed.{AreDistinct}
-use Rattle.rmt_bits.proofs.ListLaws.{flat_map-nil}
+use Rattle.rmt_ast.specs.WellFormed.{AreDistinct, Fits, IsTest}
+use Rattle.rmt_bits.proofs.ListLaws.{flat_map-nil, append-nil_left, append-nil_right}
 use Rattle.rmt_bits.proofs.PairLaws.{AllPairs-map}
-use Rattle.rmt_check.specs.Parts.{Place, Ident}
-use Rattle.rmt_check.specs.Rules.{repeated, repeated_by, when}
-use Rattle.rmt_check.specs.Meaning.{index_of}
+use Rattle.rmt_check.specs.Parts.{Place, Ident, Field, Number, ValueText, Source}
+use Rattle.rmt_check.specs.Rules.{repeated, repeated_by, when, fits, too_wide, too_wide_value}
+use Rattle.rmt_check.specs.Meaning.{index_of, ones, test_of, field_number, field_of, program_of}
 use Rattle.rmt_check.proofs.Finding.{known_at}
-use Rattle.rmt_check.proofs.programs.RuleLaws.{no_when}
+use Rattle.rmt_check.proofs.programs.RuleLaws.{no_when, no_when_not}
+use Rattle.std.specs.Option.{option_map_or}
+use Rattle.std.specs.Int.Bits.{and_self}
+use Rattle.std.proofs.lemmas.Nat.{and_le_l, and_assoc}
+use Rattle.rmt_ast.specs.State as state
+use Rattle.rmt_check.specs.Names.{Known, fields_of, Named, named_fields, is_field, width_at, width_of}
+use Rattle.rmt_check.proofs.FieldCodes.{field_at, place_at}
 
 abbrev pub names_of : List Ident → List (List ℕ)
 names_of xs = map (λ (x : Ident). x.name) xs
@@ -74,3 +80,46 @@ module _ (names : List (List ℕ)) (i : ℕ) (q : List ℕ) (at : slice_get name
     where
       apart : (j k : ℕ) → slice_get names j ≡ Some q → slice_get names k ≡ Some q → j < k → ⊥
       apart j k ej ek lt = distinct j k [] lt (slice_get_within names k q ek) (get_or_from_slice_get names j q [] ej ∙ sym (get_or_from_slice_get names k q [] ek))
+
+-- Tests of fields, and numbers that fit.
+
+pub number_fits : (width : ℕ) (n : Number) → too_wide width n ≡ [] → Fits width n.value
+number_fits width n e = ltb-true n.value (2 ^ width) (no_when_not (fits width n.value) n.place e)
+
+ones_fit : (width : ℕ) → Fits width (ones width)
+ones_fit width = let l : 0 < 2 ^ width = pow_pos width in omega arith
+
+masked : (width value mask : ℕ) → value < 2 ^ width → mask < 2 ^ width → IsTest width (record { value = bit_and value mask; mask = mask })
+masked width value mask v m = record {
+  value_fits = let l = and_le_l value mask in omega arith;
+  mask_fits = m;
+  value_is_masked = and_assoc mask value mask ∙ ap (bit_and value) (and_self mask);
+}
+
+-- the test of a value whose numbers fit
+pub test_law : (width : ℕ) (v : ValueText) → too_wide_value width v ≡ [] → IsTest width (test_of width v)
+test_law width v e = grind (arith, masked, number_fits, ones_fit, append-nil_left, append-nil_right)
+
+-- The numbers of fields that are known.
+
+same_width : (o : Option Known) → unwrap_or (option_map (λ (f : Field). f.width) (option_map field_of o)) 0 ≡ unwrap_or (option_map (λ (f : Known). f.width) o) 0
+same_width o = grind arith
+
+module _ (s : Source) (x : Named) (known : is_field s x ≡ true) where
+  pub field_within : field_number s x < length (map field_of (fields_of s))
+  field_within =
+      let l = slice_get_within (named_fields s) (field_number s x) x (field_at s x known) in
+      let n = length-map (fields_of s) (λ (f : Known). f.named) in
+      let m = length-map (fields_of s) field_of in omega arith
+
+  pub field_width : state.width_of (program_of s) (field_number s x) ≡ width_of s x
+  field_width =
+      ap (λ (o : Option Field). unwrap_or (option_map (λ (f : Field). f.width) o) 0) (slice_get-map field_of (fields_of s) (field_number s x))
+      ∙ same_width (slice_get (fields_of s) (field_number s x))
+      ∙ ap (λ (o : Option ℕ). option_map_or (width_at s) o 0) (sym (place_at s x known))
+
+-- the numbers of known fields that do not repeat
+pub distinct_fields : (s : Source) {X : Type 0} (f : X → Named) (xs : List X) → All (λ x. is_field s (f x) ≡ true) xs → AllPairs (λ x y. f x ≢ f y) xs → AreDistinct (map (λ x. field_number s (f x)) xs)
+distinct_fields s f xs known differ = AllPairs-map (λ x y. x ≢ y) (λ x. field_number s (f x)) xs
+    (λ i j d lt within same. differ i j d lt within
+    (same_Some _ _ (sym (field_at s _ (known i d (omega arith))) ∙ ap (slice_get (named_fields s)) same ∙ field_at s _ (known j d within))))

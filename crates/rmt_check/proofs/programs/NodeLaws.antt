@@ -1,9 +1,9 @@
 -- The nodes of a text that breaks no rule, of which exactly one applies each table.
-use Rattle.std.proofs.Common.{◌≡◌, ◌≢◌, ℕ, zero, suc, ◌+◌, ◌-◌, ◌/◌, ◌^◌, ◌%◌, min, List, [], ◌∷◌, None, Some, Option, option_map, map, take, bit_and, slice_get, refl, sym, ap, subst, ◌∙◌, arith, Bool, true, false, cond, ◌||◌, ◌==◌, filter_map, count_by, All, ap₂, zero-add}
+use Rattle.std.proofs.Common.{◌≡◌, ◌≢◌, ℕ, ◌+◌, ◌-◌, ◌/◌, ◌^◌, ◌%◌, min, List, [], ◌∷◌, Some, Option, option_map, map, take, bit_and, slice_get, refl, sym, ap, subst, ◌∙◌, arith, Bool, true, false, cond, ◌||◌, ◌==◌, filter_map, count_by, All, ap₂, zero-add}
 use Rattle.std.specs.List.{flat_map, cons_option}
 use Rattle.std.specs.Option.{option_map_or}
 use Rattle.std.proofs.lemmas.List.{length-map}
-use Rattle.std.proofs.lemmas.Option.{slice_get-map, none-some, same_Some}
+use Rattle.std.proofs.lemmas.Option.{slice_get-map}
 use Rattle.std.proofs.lemmas.Nat.Bits.{bit_at_lowest, bit_at_and, bit_at-pow_other}
 use Rattle.rmt_ast.specs.WellFormed.{AllNumbered, AreDistinct, IsGuard, IsTest, IsWhat, IsNode, AreAppliedOnce, applies}
 use Rattle.rmt_check.specs.Parts.{Node, Ident, ValueText, TableText, ArmText, Under, WhatText, NodeText, Source}
@@ -19,24 +19,19 @@ use Rattle.rmt_bits.proofs.PairLaws.{AllPairs-head, AllPairs-tail}
 use Rattle.rmt_check.proofs.Bounds.{distinct_tables}
 use Rattle.rmt_check.proofs.Finding.{stands_within}
 use Rattle.rmt_check.proofs.programs.RuleLaws.{one_known, field_known, KeepsRules, unknown_at_node, gate_widths, no_when_not, not_applied}
-use Rattle.rmt_check.proofs.programs.FieldLaws.{field_within, field_width, test_law}
+use Rattle.rmt_check.proofs.programs.NameLaws.{field_within, field_width, test_law, names_of, distinct, same_index, known_here, number_here}
 use Rattle.std.specs.Str.{bytes_eq}
 use Rattle.std.proofs.lemmas.Bool.{false≢true, false_from_ne_true}
 use Rattle.std.proofs.lemmas.Bool.Decides.{same_from_decides, Decides-eqb, Decides-like}
 use Rattle.std.proofs.lemmas.List.Elements.{All-head, All-tail}
 use Rattle.std.proofs.lemmas.List.Sums.{sum_by-cons}
 use Rattle.std.proofs.lemmas.Slice.Eq.{bytes_eq-Decides}
-use Rattle.rmt_check.proofs.programs.NameLaws.{names_of, distinct, same_index, known_here, number_here}
 use Rattle.rmt_check.specs.declared.source.ArmText.TheVariants as arm
 
 -- The nodes of a text that breaks no rule.
 
 pub numbered_map : {X Y : Type 0} (P : ℕ → Y → Type 0) (f : X → Y) (xs : List X) → AllNumbered (λ n x. P n (f x)) xs → AllNumbered P (map f xs)
-numbered_map P f xs h n y e = by (slice_get xs n) refl (sym (slice_get-map f xs n) ∙ e)
-  where
-    by : (o : Option _) → slice_get xs n ≡ o → option_map f o ≡ Some y → P n y
-    by None at same = absurd (none-some y same)
-    by (Some x) at same = subst (P n) (same_Some (f x) y same) (h n x at)
+numbered_map P f xs h n y e = grind (arith, slice_get-map, h n, e)
 
 even_and : (a b : ℕ) → a % 2 ≡ 0 → bit_and a b % 2 ≡ 0
 even_and a b e = sym (bit_at_lowest (bit_and a b)) ∙ bit_at_and a b 0 ∙ ap (λ (x : ℕ). min x (b / 2 ^ 0 % 2)) (bit_at_lowest a ∙ e) ∙ omega arith
@@ -48,20 +43,17 @@ even_outcomes actions (arm.Action a) =
     let k = 2 + index_of actions a.name in sym (bit_at_lowest (2 ^ k)) ∙ bit_at-pow_other k 0 (λ e. absurd (omega arith))
 
 even_or_0 : {X : Type 0} (f : X → ℕ) (o : Option X) → ((x : X) → f x % 2 ≡ 0) → option_map_or f o 0 % 2 ≡ 0
-even_or_0 f None even = refl
-even_or_0 f (Some x) even = even x
+even_or_0 f o even = grind arith
 
 module _ (s : Source) where
   even_mask : (w : WhatText) (i : ℕ) → mask_in s w i % 2 ≡ 0
   even_mask (Apply table arms) i =
       let actions = map (λ (a : Ident). a.name) (listed_by s table.name) in
       even_and (option_map_or (outcomes_of actions) (slice_get arms i) 0) (65535 - all_outcomes actions (take i arms)) (even_or_0 (outcomes_of actions) (slice_get arms i) (even_outcomes actions))
-  even_mask (If field mask value) zero = refl
-  even_mask (If field mask value) (suc i) = refl
+  even_mask (If field mask value) i = grind arith
 
   guard_law : (n : ℕ) (under : Option Under) → IsUnder n under → IsGuard n (option_map (guard_of s) under)
-  guard_law n None h = tt
-  guard_law n (Some u) h = (h, even_or_0 (λ (m : NodeText). mask_in s m.what u.arm) (slice_get (nodes_of s) u.parent) (λ m. even_mask m.what u.arm))
+  guard_law n under h = grind (arith, even_or_0, even_mask)
 
   what_law : (w : WhatText) → unknown_in_node s w ≡ [] → too_wide_node s w ≡ [] → IsWhat (program_of s) (what_of s w)
   what_law (Apply table arms) known fits =

@@ -1,40 +1,44 @@
--- What a text without a fault keeps, part by part.
-use Rattle.std.proofs.Common.{◌≡◌, ℕ, List, [], ◌∷◌, Bool, true, false, not, None, Some, Option, option_map, All, refl, sym, rules}
+-- Lists that are made of others, and what a text without a fault keeps, part by part.
+use Rattle.std.proofs.Common.{◌≡◌, ℕ, List, [], ◌∷◌, Bool, true, false, not, None, All, refl, rules, arith, ◌+◌, ◌++◌, length, fold, subst}
 use Rattle.std.specs.List.{AllByRecursion, flat_map, enumerate_from}
-use Rattle.std.specs.Option.{option_or}
 use Rattle.std.proofs.lemmas.Bool.{not-false}
-use Rattle.std.proofs.lemmas.Option.{none-some}
 use Rattle.rmt_check.specs.Parts.{Place, Ident, FieldText, Source}
 use Rattle.rmt_ast.specs.NameList.{is_known}
 use Rattle.rmt_check.specs.Names.{is_field, named, metadata, nodes_of, applied_tables}
-use Rattle.rmt_check.specs.Rules.{when, earlier, earliest, least_of, unknown, unknown_owner, unknown_field, repeated, declared_names, further_metas, params_twice, unknown_own, unknown_in_table, no_widths, bad_default, no_header, many_headers, many_actions, many_metadata, many_nodes, broken, fault_of}
+use Rattle.rmt_check.specs.Rules.{when, earliest, least_of, unknown, unknown_owner, unknown_field, repeated, declared_names, further_metas, params_twice, unknown_own, unknown_in_table, no_widths, bad_default, no_header, many_headers, many_actions, many_metadata, many_nodes, broken, fault_of}
 pub use Rattle.rmt_check.specs.Rules.{headers_of, actions_of, tables_of, fields_twice, listed_twice, unknown_targets, unknown_in_action, unknown_at_node, field_widths, param_widths, bad_size, early_targets, operand_widths, case_widths, gate_widths, wide_signs, written_ports, repeated_select, bad_key_of, long_key, many_listed, bad_cases, many_params, many_assigns, bad_size_of, not_applied, bad_tails}
 use Rattle.rmt_bits.proofs.ListLaws.{append-nil_left, append-nil_right, flat_map-nil}
-use Rattle.rmt_check.proofs.programs.ListLaws.{none_in}
+use Rattle.std.proofs.lemmas.List.Elements.{All-tail}
+
+-- what holds of each item holds of one among them
+pub All-mid : {X : Type 0} (P : X → Type 0) (before : List X) (x : X) (after : List X) → All P (before ++ x ∷ after) → P x
+All-mid P [] x after h = h 0 x (omega arith)
+All-mid P (b ∷ before) x after h = All-mid P before x after (All-tail P b (before ++ x ∷ after) h)
+
+-- a list that is joined of lists, one for each item and its number
+pub none_numbered : {X A : Type 0} (f : ℕ × X → List A) (n : ℕ) (before : List X) (x : X) (after : List X) → flat_map f (enumerate_from n (before ++ x ∷ after)) ≡ [] → f (n + length before, x) ≡ []
+none_numbered f n [] x after e = subst (λ k. f (k, x) ≡ []) (omega arith) (append-nil_left (f (n, x)) (flat_map f (enumerate_from (n + 1) after)) e)
+none_numbered f n (b ∷ before) x after e =
+    subst (λ k. f (k, x) ≡ []) (omega arith) (none_numbered f (n + 1) before x after (append-nil_right (f (n, b)) (flat_map f (enumerate_from (n + 1) (before ++ x ∷ after))) e))
+
+-- the parts of a list that is empty, joined to the left
+pub none_in : {X : Type 0} (a : List X) (ls : List (List X)) → fold (λ (b c : List X). b ++ c) a ls ≡ [] → (a ≡ []) × AllByRecursion (λ (l : List X). l ≡ []) ls
+none_in a [] e = (e, tt)
+none_in a (b ∷ ls) e = let r = none_in (a ++ b) ls e in (append-nil_left a b r.0, (append-nil_right a b r.0, r.1))
 
 -- A text without a fault breaks no rule, and what that says of its names.
 
-some_earlier : (p : Place) (o : Option Place) → earlier (Some p) o ≡ None → ⊥
-some_earlier p None e = none-some p (sym e)
-some_earlier p (Some q) e = none-some _ (sym e)
-
 pub no_places : (ps : List Place) → earliest ps ≡ None → ps ≡ []
 no_places [] e = refl
-no_places (p ∷ ps) e = absurd (some_earlier p (earliest ps) e)
+no_places (p ∷ ps) e = grind arith
 
 pub none_broken : (rules : List (ℕ × List Place)) → least_of rules ≡ None → AllByRecursion (λ (r : ℕ × List Place). r.1 ≡ []) rules
 none_broken [] e = tt
-none_broken ((code, ps) ∷ rules) e = by (earliest ps) (no_places ps) (none_broken rules) e
-  where
-    by : (o : Option Place) → (o ≡ None → ps ≡ []) → (least_of rules ≡ None → AllByRecursion (λ (r : ℕ × List Place). r.1 ≡ []) rules)
-        → option_or (option_map (λ (p : Place). (code, p)) o) (least_of rules) ≡ None → (ps ≡ []) × AllByRecursion (λ (r : ℕ × List Place). r.1 ≡ []) rules
-    by None here rest h = (here refl, rest h)
-    by (Some p) here rest h = absurd (cc)
+none_broken ((code, ps) ∷ rules) e = grind (arith, no_places, none_broken rules)
 
 -- where nothing is broken the test has failed
 pub no_when : (b : Bool) (p : Place) → when b p ≡ [] → b ≡ false
-no_when true p e = cc
-no_when false p e = refl
+no_when b p e = grind arith
 
 pub no_when_not : (b : Bool) (p : Place) → when (not b) p ≡ [] → b ≡ true
 no_when_not b p e = not-false b (no_when (not b) p e)

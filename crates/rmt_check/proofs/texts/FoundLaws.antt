@@ -1,5 +1,5 @@
 -- What the reader looks for in the text of each rule is there.
-use Rattle.std.proofs.Common.{◌≡◌, ◌∙◌, ◌⊎◌, inl, inr, Bool, true, false, List, [], ◌∷◌, ◌++◌, Option, None, Some, map, refl, sym, ap, subst}
+use Rattle.std.proofs.Common.{◌≡◌, ◌∙◌, ◌⊎◌, inl, inr, Bool, true, false, List, [], ◌∷◌, ◌++◌, Option, None, Some, map, refl, sym, ap, subst, arith}
 use Rattle.std.specs.Prelude.{◌==◌, ◌||◌, ◌&&◌, IsSome, not, bytes_eq, if◌then◌else◌, option_map}
 use Rattle.std.specs.List.{list_all}
 use Rattle.std.specs.Option.{option_and_then}
@@ -18,8 +18,7 @@ use Rattle.rmt_check.specs.Reading.{parts, parts_of, parts_if, at_rule, of_rule,
 use Rattle.rmt_check.specs.Found.{IsFound, IsStatementFound}
 use Rattle.rmt_check.proofs.ReadingLaws.{one, many}
 use Rattle.rmt_syntax.proofs.Sets.{same_refl, all_at, member_here}
-use Rattle.rmt_check.proofs.texts.PartLaws.{parts_there}
-use Rattle.rmt_check.proofs.texts.PhraseLaws.{some_either, some_or, NodesHaveParts, TokensStand, has, always, only, Shows, there, comes, comes_on, hidden, never, Sees, all_show, found, listed}
+use Rattle.rmt_check.proofs.texts.PhraseLaws.{parts_there, some_either, some_or, NodesHaveParts, TokensStand, has, always, only, Shows, there, comes, comes_on, hidden, never, Sees, all_show, found, listed}
 use Rattle.rmt_lexer.specs.declared.token.TokenKind.TheVariants as token
 use Rattle.rmt_syntax.specs.declared.terminal.Terminal.TheVariants as terminal
 use Rattle.rmt_syntax.specs.declared.tree.Rule.TheVariants as rule
@@ -41,8 +40,7 @@ number_some : (k : TokenKind) (p : Place) → terminal_of k ≡ terminal.Number 
 number_some (token.Word w) p e = absurd (false≢true (given (λ x. bytes_eq x w) keywords terminal.Name terminal.Number e))
 number_some (token.Number n) p e = refl
 number_some (token.Sign b) p e = absurd (false≢true (given (λ x. x == b) signs terminal.Other terminal.Number e))
-number_some token.Equal p e = cc
-number_some token.End p e = cc
+number_some _ p e = cc
 
 -- what is no word
 abbrev no_words : List Terminal
@@ -50,12 +48,10 @@ no_words = terminal.Number ∷ terminal.Equal ∷ terminal.End ∷ terminals sig
 
 word_some : (k : TokenKind) (t : Token) (c : Terminal) → member c no_words ≡ false → terminal_of k ≡ c → IsSome (word_in k t)
 word_some (token.Word w) t c other e = refl
-word_some (token.Number n) t c other e = let k = subst (λ x. member x no_words ≡ false) (sym e) other in cc
 word_some (token.Sign b) t c other e =
     let sign = given (λ x. x == b) signs terminal.Other c e in
     let k = or_right (same terminal.Number c) _ (or_right (same terminal.Equal c) _ (or_right (same terminal.End c) (member c (terminals signs terminal.Other)) sign)) in cc
-word_some token.Equal t c other e = let k = subst (λ x. member x no_words ≡ false) (sym e) other in cc
-word_some token.End t c other e = let k = subst (λ x. member x no_words ≡ false) (sym e) other in cc
+word_some _ t c other e = let k = subst (λ x. member x no_words ≡ false) (sym e) other in cc
 
 -- no field
 abbrev is_other : Part → Bool
@@ -64,12 +60,10 @@ is_other (One c) = true
 is_other _ = false
 
 some_mapped : {X Y : Type 0} (f : X → Y) (o : Option X) → IsSome o → IsSome (option_map f o)
-some_mapped f None h = cc
-some_mapped f (Some x) h = refl
+some_mapped f o h = grind arith
 
 behind_some : {Y : Type 0} (a : Option Place) (b : Option Y) → IsSome a → IsSome b → IsSome (behind a b)
-behind_some None b h g = cc
-behind_some (Some p) b h g = g
+behind_some a b h g = grind arith
 
 -- the forms of a statement: an `apply` has a name and no field, an `if` a field and what it is compared with
 abbrev a_name : List (List Part)
@@ -91,10 +85,7 @@ abbrev is_statement : Phrase → Bool
 is_statement x = not (is_done x) && list_all (λ f. is_apply f || is_if f) (choices x)
 
 statement_by : (o : Option FieldText) (us : List Tree) → ((o ≡ None) × IsSome (first name_at us)) ⊎ (IsSome o × IsSome (first (number_behind terminal.Equal) us)) → IsStatementFound o us
-statement_by None us (inl h) = h.1
-statement_by None us (inr h) = let k = h.0 in cc
-statement_by (Some f) us (inl h) = let k = h.0 in cc
-statement_by (Some f) us (inr h) = h.1
+statement_by o us h = grind arith
 
 module _ (nodes : NodesHaveParts) (tokens : TokensStand) where
   -- what is seen in a token of a kind

@@ -1,8 +1,8 @@
--- What is among the parts of a phrase, in whatever form they stand: found by computing over the grammar.
-use Rattle.std.proofs.Common.{◌≡◌, ◌∙◌, inl, inr, ℕ, zero, suc, ◌≤◌, Bool, true, false, List, [], ◌∷◌, ◌++◌, Option, None, Some, map, length, refl, sym, ap, ap₂, subst, append_assoc, arith}
+-- What is read in the trees of a rule, and what is among the parts of a phrase, in whatever form they stand: by the grammar.
+use Rattle.std.proofs.Common.{◌≡◌, ◌∙◌, inl, inr, ℕ, zero, suc, ◌≤◌, Bool, true, false, List, [], ◌∷◌, ◌++◌, Option, None, map, length, refl, sym, ap, ap₂, subst, append_assoc, arith, if◌then◌else◌, Some, unwrap_or, All}
 use Rattle.std.specs.Prelude.{◌&&◌, ◌||◌, IsSome, not}
-use Rattle.std.specs.List.{AllByRecursion, cons_option, list_any, list_all}
-use Rattle.std.specs.Option.{option_or}
+use Rattle.std.specs.List.{AllByRecursion, list_any, list_all, cons_option}
+use Rattle.std.specs.Option.{option_or, IfSome}
 use Rattle.std.proofs.lemmas.Bool.{and_parts, or_cases, false≢true}
 use Rattle.rmt_check.specs.Parts.{Terminal, Rule, Tree}
 use Rattle.rmt_syntax.specs.declared.grammar.Part.{Part}
@@ -15,8 +15,53 @@ use Rattle.rmt_syntax.specs.declared.grammar.Phrase.TheVariants as phrase
 use Rattle.rmt_syntax.specs.Lookahead.{is_done, same}
 use Rattle.rmt_syntax.specs.Trees.{marks, part, Reads, IsOf, IsNodeOf, IsTokenOf, AreParts, ArePartsOf, Follows, stop, onward}
 use Rattle.rmt_syntax.proofs.Sets.{same_is, all_at}
-use Rattle.rmt_check.specs.Reading.{same_rule, first, each}
-use Rattle.rmt_check.proofs.texts.PartLaws.{rule_is}
+use Rattle.rmt_check.specs.Reading.{same_rule, first, each, parts_if, of_rule}
+use Rattle.std.proofs.lemmas.Option.{none-some}
+use Rattle.rmt_syntax.specs.declared.tree.Tree.{Tree, out-Tree}
+use Rattle.rmt_syntax.specs.declared.tree.Tree.TheOpen.{Tree-F}
+use denote.Enum.Bare.{same_true, true_same}
+use Rattle.rmt_syntax.specs.contracts.tree.Rule.{the_type}
+use Rattle.std.proofs.lemmas.List.Elements.{All-nil, All-cons, All-tail}
+use Rattle.rmt_syntax.specs.declared.tree.Tree.TheOpen as tree
+
+pub rule_is : (a b : Rule) → same_rule a b ≡ true → a ≡ b
+rule_is a b h = same_true the_type tt a b h
+
+-- the text of a rule has its parts
+pub parts_there : (r : Rule) (v : List Tree) → parts_if r (tree.Many r v) ≡ Some v
+parts_there r v = ap (λ (b : Bool). if b then Some v else None) (true_same the_type r r refl)
+
+-- what has parts of a rule is its text
+pub is_text : (r : Rule) (x : Tree-F Tree) (v : List Tree) → parts_if r x ≡ Some v → x ≡ tree.Many r v
+is_text r (tree.One t) v e = absurd (none-some v e)
+is_text r (tree.Many s w) v e = grind (arith, rule_is, e)
+
+-- what is made of the text of a rule is made of its parts
+pub made_of : {A : Type 0} (r : Rule) (make : List Tree → A) (u : Tree) (us : List Tree) (a : A) → of_rule r make (u ∷ us) ≡ Some a → (v : List Tree) × (out-Tree u ≡ tree.Many r v) × (make v ≡ a)
+made_of r make u us a e = grind (arith, is_text)
+
+-- What holds of each of some trees holds of what is read in them.
+
+-- what is seen holds, and so do the others
+one_more : {Y : Type 0} (Q : Y → Type 0) (o : Option Y) (ys : List Y) → ((y : Y) → o ≡ Some y → Q y) → All Q ys → All Q (cons_option o ys)
+one_more Q o ys shows rest = grind (arith, All-cons)
+
+one_or : {Y : Type 0} (Q : Y → Type 0) (o p : Option Y) → ((y : Y) → o ≡ Some y → Q y) → IfSome p Q → IfSome (option_or o p) Q
+one_or Q o p shows rest = grind arith
+
+module _ {Y : Type 0} (P : Tree → Type 0) (Q : Y → Type 0) (see : List Tree → Option Y) (shows : (ts : List Tree) (y : Y) → All P ts → see ts ≡ Some y → Q y) where
+  pub each_seen : (ts : List Tree) → All P ts → All Q (each see ts)
+  each_seen [] h = All-nil Q
+  each_seen (t ∷ ts) h = one_more Q (see (t ∷ ts)) (each see ts) (λ y. shows (t ∷ ts) y h) (each_seen ts (All-tail P t ts h))
+
+  pub first_seen : (ts : List Tree) → All P ts → IfSome (first see ts) Q
+  first_seen [] h = tt
+  first_seen (t ∷ ts) h = one_or Q (see (t ∷ ts)) (first see ts) (λ y. shows (t ∷ ts) y h) (first_seen ts (All-tail P t ts h))
+
+pub or_default : {Y : Type 0} (Q : Y → Type 0) (o : Option Y) (default : Y) → IfSome o Q → Q default → Q (unwrap_or o default)
+or_default Q o default h d = grind arith
+
+-- What is among the parts of a phrase: found by computing over the grammar.
 
 -- what a text of the grammar is made of
 abbrev pub NodesHaveParts : Type 0
@@ -32,10 +77,7 @@ same_part (Node r) (Node s) = same_rule r s
 same_part _ _ = false
 
 part_is : (p q : Part) → same_part p q ≡ true → p ≡ q
-part_is (One c) (One d) e = ap One (same_is c d e)
-part_is (Node r) (Node s) e = ap Node (rule_is r s e)
-part_is (One c) (Node s) e = absurd (false≢true e)
-part_is (Node r) (One d) e = absurd (false≢true e)
+part_is p q e = grind (arith, same_is, rule_is)
 
 -- a phrase that goes on with itself, of those that have a part to come
 abbrev again : Phrase → Phrase → Bool
@@ -50,15 +92,7 @@ again phrase.Arms phrase.Arms = true
 again _ _ = false
 
 again_is : (x y : Phrase) → again x y ≡ true → x ≡ y
-again_is (Whole rule.Program) (Whole rule.Program) e = refl
-again_is phrase.HeaderFields phrase.HeaderFields e = refl
-again_is phrase.SelectNames phrase.SelectNames e = refl
-again_is phrase.Cases phrase.Cases e = refl
-again_is phrase.MoreValues phrase.MoreValues e = refl
-again_is phrase.KeyFields phrase.KeyFields e = refl
-again_is phrase.KeyActions phrase.KeyActions e = refl
-again_is phrase.Arms phrase.Arms e = refl
-again_is _ _ e = absurd (false≢true e)
+again_is x y e = grind arith
 
 -- some parts begin with a run of parts
 abbrev begins : List Part → List Part → Bool
@@ -82,12 +116,10 @@ only test zero x = false
 only test (suc n) x = list_all (λ (f : Form). list_all test f.0 && (again x f.1 || only test n f.1)) (choices x)
 
 pub some_either : {Y : Type 0} (a b : Option Y) → IsSome a → IsSome (option_or a b)
-some_either None b h = cc
-some_either (Some y) b h = refl
+some_either a b h = grind arith
 
 pub some_or : {Y : Type 0} (a b : Option Y) → IsSome b → IsSome (option_or a b)
-some_or None b h = h
-some_or (Some y) b h = refl
+some_or a b h = grind arith
 
 -- something is seen where a run of parts begins
 abbrev pub Shows : {Y : Type 0} → (List Tree → Option Y) → List Part → Type 0
@@ -191,8 +223,4 @@ found see qs sees r e us h = comes see (each_alone qs) (all_show see qs sees) h.
 -- where one is seen first, there is one
 pub listed : {Y : Type 0} (see : List Tree → Option Y) (us : List Tree) → IsSome (first see us) → 1 ≤ length (each see us)
 listed see [] h = cc
-listed see (u ∷ us) h = by (see (u ∷ us)) h (listed see us)
-  where
-    by : (o : Option _) → IsSome (option_or o (first see us)) → (IsSome (first see us) → 1 ≤ length (each see us)) → 1 ≤ length (cons_option o (each see us))
-    by None h rest = rest h
-    by (Some y) h rest = omega arith
+listed see (u ∷ us) h = grind (arith, listed see us)

@@ -1,7 +1,7 @@
 -- A text of the grammar has the parts that its program needs.
-use Rattle.std.proofs.Common.{◌≡◌, ◌≤◌, List, [], ◌∷◌, Some, Option, unwrap_or, length, All, refl, sym, ap, subst, ◌∙◌, ◌≢◌, codes}
+use Rattle.std.proofs.Common.{◌≡◌, ◌≤◌, List, [], ◌∷◌, Some, Option, unwrap_or, length, All, refl, sym, ap, subst, ◌∙◌, ◌≢◌, codes, arith}
 use Rattle.std.specs.Option.{IfSome}
-use Rattle.std.specs.Prelude.{drop, option_map}
+use Rattle.std.specs.Prelude.{drop}
 use Rattle.std.proofs.lemmas.List.Elements.{All-nil, All-cons, All-head, All-tail}
 use Rattle.std.proofs.lemmas.Option.{none-some}
 use Rattle.rmt_bits.proofs.OptionLaws.{IsSome-value}
@@ -10,17 +10,15 @@ use Rattle.rmt_syntax.specs.declared.tree.Tree.{Tree, out-Tree}
 use Rattle.rmt_syntax.specs.declared.tree.Tree.TheOpen.{Tree-F}
 use Rattle.rmt_syntax.specs.declared.grammar.Part.{Part}
 use Rattle.rmt_syntax.specs.declared.grammar.Phrase.TheVariants.{Whole}
-use Rattle.rmt_syntax.specs.Grammar.{terminal_of}
 use Rattle.rmt_syntax.specs.Trees.{marks, part, Reads, IsOf, AreParts, ArePartsOf, IsText}
 use Rattle.rmt_ast.specs.declared.program.Kind.TheVariants.{Keyless}
-use Rattle.rmt_check.specs.Reading.{of_rule, parts_of, first, kind_at, in_token, name_at, field_at, value_at, value_text, case_text, kind_of, key_text, parts, number_at, place_at, joined, declared_at, tail_text, tail_at, next_at, next_among, case_at, header_text, header_at, key_at, table_text, table_at, source_of}
+use Rattle.rmt_check.specs.Reading.{of_rule, parts_of, first, kind_at, name_at, field_at, value_at, value_text, case_text, kind_of, key_text, parts, number_at, place_at, joined, declared_at, tail_text, tail_at, next_at, next_among, case_at, header_text, header_at, key_at, table_text, table_at, source_of}
 use Rattle.rmt_check.specs.Naming.{IsKeyText, HasKeyText, IsHeaderText, IsOfText, WordsArePlain}
 use Rattle.rmt_check.proofs.ReadingLaws.{one, many}
-use Rattle.rmt_check.proofs.texts.PhraseLaws.{NodesHaveParts, TokensStand, found, listed}
+use Rattle.rmt_check.proofs.texts.PhraseLaws.{NodesHaveParts, TokensStand, found, listed, is_text, made_of, first_seen, each_seen, or_default}
 use Rattle.rmt_check.proofs.texts.FoundLaws.{name_in, field_there, made_there, parts_found}
 use Rattle.rmt_syntax.specs.declared.tree.Tree.TheViews.{out-Tree}
 use Rattle.rmt_check.proofs.texts.WordLaws.{parts_plain, names_plain, name_plain, name_at_law}
-use Rattle.rmt_check.proofs.texts.PartLaws.{is_text, made_of, first_seen, each_seen, or_default}
 use Rattle.rmt_check.proofs.Parents.{nodes_in_order}
 use Rattle.rmt_syntax.specs.declared.terminal.Terminal.TheVariants as terminal
 use Rattle.rmt_syntax.specs.declared.tree.Tree.TheOpen as tree
@@ -41,18 +39,11 @@ all_parts (p ∷ ps) (u ∷ us) h = All-cons IsPart u us (p, h.0) (all_parts ps 
 
 -- no token says that a key is not compared
 kind_never : (c : Terminal) → kind_of c ≡ Some Keyless → ⊥
-kind_never terminal.Exact e = cc (e)
-kind_never terminal.Prefix e = cc (e)
-kind_never terminal.Ternary e = cc (e)
-kind_never _ e = none-some Keyless e
-
-token_keyed : (x : Tree-F Tree) → in_token (λ t. kind_of (terminal_of t.what)) x ≡ Some Keyless → ⊥
-token_keyed (tree.One t) e = kind_never (terminal_of t.what) e
-token_keyed (tree.Many r parts) e = none-some Keyless e
+kind_never c e = grind arith
 
 keyed : (ts : List Tree) (k : Kind) → All (λ t. Unit {0}) ts → kind_at ts ≡ Some k → k ≢ Keyless
 keyed [] k h e = absurd (none-some k e)
-keyed (u ∷ us) k h e = λ is. token_keyed (out-Tree u) (e ∙ ap (λ (x : Kind). Some x) is)
+keyed (u ∷ us) k h e = λ is. grind (arith, kind_never, e, is)
 
 module _ (nodes : NodesHaveParts) (tokens : TokensStand) where
   -- a part that is a node has the parts of its rule
@@ -94,15 +85,13 @@ abbrev NotValid : Ident → Type 0
 NotValid i = i.name ≢ codes "valid"
 
 declared_name : (i : Option Ident) (p : Option Place) (n : Option Number) (d : Declared) → joined i p n ≡ Some d → i ≡ Some d.ident
-declared_name (Some i) (Some p) (Some n) d e = ap (option_map (λ (x : Declared). x.ident)) e
-declared_name _ _ _ d e = absurd (none-some d e)
+declared_name i p n d e = grind arith
 
 declared_plain : (ts : List Tree) (d : Declared) → All WordsArePlain ts → declared_at ts ≡ Some d → NotValid d.ident
 declared_plain ts d h e = (name_at_law ts d.ident h (declared_name (name_at ts) (place_at terminal.Colon (drop 1 ts)) (number_at (drop 2 ts)) d e)).not_valid
 
 tail_name : (p : Option Place) (i : Option Ident) (m n : Option Number) (t : TailText) → tail_text p i m n ≡ Some t → i ≡ Some t.field
-tail_name (Some p) (Some i) (Some m) (Some n) t e = ap (option_map (λ (x : TailText). x.field)) e
-tail_name _ _ _ _ t e = absurd (none-some t e)
+tail_name p i m n t e = grind arith
 
 tail_plain : (ts : List Tree) (t : TailText) → All WordsArePlain ts → tail_at ts ≡ Some t → NotValid t.field
 tail_plain [] t h e = absurd (none-some t e)

@@ -1,7 +1,7 @@
 -- The names of a text are words of its tokens: none has a dot, and none is a reserved word.
-use Rattle.std.proofs.Common.{◌≡◌, ◌≢◌, ℕ, zero, suc, ◌+◌, ◌-◌, List, [], ◌∷◌, Bool, true, false, cond, if◌then◌else◌, ◌==◌, nat_lt, ◌^◌, length, drop, slice_index, Ok, Err, Result, All, refl, sym, ap, subst, ◌∙◌, ◌++◌, Some, map, codes, append_assoc}
+use Rattle.std.proofs.Common.{◌≡◌, ◌≢◌, ℕ, zero, suc, ◌-◌, List, [], ◌∷◌, Bool, cond, if◌then◌else◌, length, drop, slice_index, Ok, Err, Result, All, refl, sym, ap, subst, ◌∙◌, ◌++◌, Some, map, codes, append_assoc, arith}
 use Rattle.std.specs.List.{take_while, flat_map}
-use Rattle.std.proofs.lemmas.Bool.{false≢true}
+use Rattle.std.proofs.lemmas.Bool.Decides.{nat_tests}
 use Rattle.std.proofs.lemmas.List.Elements.{All-nil, All-cons, All-head}
 use Rattle.std.proofs.lemmas.List.Sums.{take_while-cons}
 use Rattle.rmt_check.specs.Parts.{Place, ProgramFault, Token, TokenKind, Terminal, Ident}
@@ -10,7 +10,7 @@ use Rattle.rmt_lexer.specs.declared.item.Item.{Item}
 use Rattle.rmt_lexer.specs.Text.{is_space, is_letter, is_digit, is_hex, is_name_byte, is_sign, number_of, is_hex_number, is_comment, is_equal, number_item, hex_item, item_of, behind, first_place, token_at, with_front, read_item, reading, tokens_of}
 use Rattle.rmt_check.specs.Reading.{word_of, parts, parts_of, first, ident_of, in_token, name_if, name_at, names, name_among, no_name}
 use Rattle.rmt_check.specs.Naming.{HasNoDot, IsPlainWord, WordsArePlain}
-use Rattle.std.proofs.lemmas.Option.{none-some, same_Some}
+use Rattle.std.proofs.lemmas.Option.{none-some}
 use Rattle.rmt_syntax.specs.declared.tree.Tree.{Tree, roll-Tree, roll-out-Tree}
 use Rattle.rmt_syntax.specs.declared.tree.Tree.TheViews.{out-Tree}
 use Rattle.rmt_syntax.specs.declared.tree.Tree.TheOpen.{Tree-F}
@@ -18,7 +18,7 @@ use Rattle.rmt_syntax.specs.declared.tree.Tree.TheFolds.{fold-roll-Tree}
 use Rattle.rmt_syntax.specs.Grammar.{terminal_of, word_terminal}
 use Rattle.rmt_syntax.specs.Trees.{Mark, leaf, opens, shuts, marks, marks_step, tokens_in}
 use Rattle.rmt_bits.proofs.AllLaws.{All-left, All-right}
-use Rattle.rmt_check.proofs.texts.PartLaws.{each_seen, first_seen, or_default}
+use Rattle.rmt_check.proofs.texts.PhraseLaws.{each_seen, first_seen, or_default}
 use Rattle.rmt_lexer.specs.declared.item.Item.TheVariants as item
 use Rattle.rmt_lexer.specs.declared.token.TokenKind.TheVariants as token
 use Rattle.rmt_syntax.specs.declared.terminal.Terminal.TheVariants as terminal
@@ -33,25 +33,23 @@ IsPlain (item.Token what len) = HasNoDot (word_of what)
 IsPlain (item.Fault code) = Unit {0}
 
 either : {X : Type 0} (P : X → Type 0) (b : Bool) (x y : X) → P x → P y → P (if b then x else y)
-either P true x y p q = p
-either P false x y p q = q
+either P b x y p q = grind arith
 
 no_word : HasNoDot []
 no_word = All-nil (λ b. b ≢ 46)
 
+byte_more : (bs : List ℕ) (b : ℕ) → HasNoDot bs → HasNoDot (cond (is_name_byte b) (b ∷ bs) [])
+byte_more bs b rest = grind (arith, nat_tests, All-cons, All-nil)
+
 name_bytes : (text : List ℕ) → HasNoDot (take_while is_name_byte text)
 name_bytes [] = no_word
-name_bytes (b ∷ bs) = subst HasNoDot (sym (take_while-cons is_name_byte b bs)) (by (is_name_byte b) refl (name_bytes bs))
-  where
-    by : (t : Bool) → is_name_byte b ≡ t → HasNoDot (take_while is_name_byte bs) → HasNoDot (cond t (b ∷ take_while is_name_byte bs) [])
-    by true e rest = All-cons (λ c. c ≢ 46) b (take_while is_name_byte bs) (λ dot. false≢true (sym (ap is_name_byte dot) ∙ e)) rest
-    by false e rest = no_word
+name_bytes (b ∷ bs) = rw (take_while-cons is_name_byte b bs) (byte_more (take_while is_name_byte bs) b (name_bytes bs))
 
 plain_number : (value len : ℕ) → IsPlain (number_item value len)
-plain_number value len = either IsPlain (nat_lt value (2 ^ 128)) (item.Token (Number value) len) (item.Fault 2) no_word tt
+plain_number value len = grind (arith, no_word)
 
 plain_hex : (digits : List ℕ) → IsPlain (hex_item digits)
-plain_hex digits = either IsPlain (length digits == 0) (item.Fault 2) (number_item (number_of 16 digits) (2 + length digits)) tt (plain_number (number_of 16 digits) (2 + length digits))
+plain_hex digits = grind (arith, plain_number)
 
 plain_item : (text : List ℕ) → IsPlain (item_of text)
 plain_item text =
@@ -69,13 +67,10 @@ IsPlainReading (Ok ts) = All IsPlainWord ts
 IsPlainReading (Err f) = Unit {0}
 
 plain_front : (t : Token) (r : Result (List Token) ProgramFault) → IsPlainWord t → IsPlainReading r → IsPlainReading (with_front t r)
-plain_front t (Ok ts) h rest = All-cons IsPlainWord t ts h rest
-plain_front t (Err f) h rest = tt
+plain_front t r h rest = grind (arith, All-cons)
 
 plain_read : (at : Place) (i : Item) (rest : ℕ → Result (List Token) ProgramFault) → IsPlain i → ((n : ℕ) → IsPlainReading (rest n)) → IsPlainReading (read_item at i rest)
-plain_read at (item.Gap len) rest h more = more len
-plain_read at (item.Token what len) rest h more = plain_front (token_at at what) (rest len) h (more len)
-plain_read at (item.Fault code) rest h more = tt
+plain_read at i rest h more = grind (arith, plain_front)
 
 plain_reading : (more : ℕ) (at : Place) (text : List ℕ) → IsPlainReading (reading more at text)
 plain_reading more at [] = All-cons IsPlainWord (token_at at End) [] no_word (All-nil IsPlainWord)
@@ -127,8 +122,7 @@ not_reserved (token.Word v) w c is reserved differs some e = differs (sym reserv
 not_reserved _ w c is reserved differs some e = some (sym e)
 
 name_only : (c : Terminal) (t : Token) (i : Ident) → name_if c t ≡ Some i → (c ≡ terminal.Name) × (ident_of t ≡ i)
-name_only terminal.Name t i e = (refl, same_Some (ident_of t) i e)
-name_only _ t i e = absurd (none-some i e)
+name_only c t i e = grind arith
 
 name_law : (t : Token) (i : Ident) → IsPlainWord t → name_if (terminal_of t.what) t ≡ Some i → IsName i.name
 name_law t i plain e =

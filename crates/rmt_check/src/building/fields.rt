@@ -5,6 +5,7 @@ ghost use Rattle.rmt_check.specs.Names.{fields_of};
 ghost use Rattle.rmt_check.specs.Meaning.{field_of};
 ghost use Rattle.rmt_check.specs.Sizes.{IsSized};
 
+use crate::building::mapped::{Build, mapped};
 use crate::names::fields::KnownField;
 use crate::names::lookup::Lookup;
 use rmt_ast::name::Name;
@@ -13,14 +14,17 @@ use rmt_bits::sequence::Sequence;
 use std::alloc::{AllocError, Global};
 
 /// A field of at most 128 bits.
-fn field_of(alloc: Global, field: &KnownField<'_>) -> Result<Field, AllocError>
-    requires { field.now.width ≤ 128 }
-    ensures { IfOk result (λ built. built ≡ field_of field.now) }
-{
-    Ok(Field {
-        name: Name::from_vec(field.printed_name(alloc)?),
-        width: field.width() as u8,
-    })
+impl<'a> Build<(), KnownField<'a>> for Field {
+    ghost fits = { λ _ field. field.width ≤ 128 };
+
+    ghost meant = { λ _ field. field_of field };
+
+    fn build(alloc: Global, _shared: &(), field: &KnownField<'a>) -> Result<Field, AllocError> {
+        Ok(Field {
+            name: Name::from_vec(field.printed_name(alloc)?),
+            width: field.width() as u8,
+        })
+    }
 }
 
 /// The fields of a text.
@@ -28,9 +32,5 @@ pub fn fields_of<N: Lookup>(alloc: Global, names: &N) -> Result<Sequence<Field>,
     requires { IsSized (N.text names.now) }
     ensures { IfOk result (λ fields. fields ≡ map field_of (fields_of (N.text names.now))) }
 {
-    let mut fields = Sequence::new(alloc);
-    for field in names.fields() {
-        fields.push(field_of(alloc, field)?)?;
-    }
-    Ok(fields)
+    mapped(alloc, &(), names.fields())
 }

@@ -5,15 +5,17 @@ ghost use Rattle.std.specs.List.{range_with_len};
 ghost use Rattle.rmt_check.specs.Parts.{Ident, ValueText};
 ghost use Rattle.rmt_check.specs.Names.{selected, width_of};
 ghost use Rattle.rmt_check.specs.Rules as rules;
-ghost use Rattle.rmt_check.specs.Meaning.{case_of, header_from, headers_from, tail_of, test_of};
+ghost use Rattle.rmt_check.specs.Meaning.{case_of, field_number, header_from, headers_from, tail_of, test_of};
 ghost use Rattle.rmt_check.specs.Sizes.{IsSized, IsSizedHeader, IsSizedTail};
 
 use crate::building::known::{number_at, target_of};
-use crate::building::mapped::mapped;
+use crate::building::mapped::{Build, add, mapped};
 use crate::building::values::test_at;
-use crate::names::lookup::{Lookup, own_key};
+use crate::names::lookup::{InHeader, Lookup, own_key};
+use crate::pairs::both;
 use crate::reading::words::copy_name;
-use crate::source::{CaseText, HeaderText, TailText, ValueText};
+use crate::rules::sums::sum_up_to;
+use crate::source::{CaseText, HeaderText, Ident, TailText, ValueText};
 use rmt_ast::program::{Case, Header, Tail, Test};
 use rmt_bits::sequence::Sequence;
 use std::alloc::{AllocError, Global};
@@ -23,8 +25,7 @@ fn bits_of(header: &HeaderText) -> u128
     requires { rules.bits_of header.now ≤ 512 }
     ensures { result ≡ rules.bits_of header.now }
 {
-    let fields = header.fields.as_slice();
-    fields.iter().map(|field| field.width.value).sum()
+    sum_up_to(512, &(), header.fields.as_slice())
 }
 
 /// So many numbers, one after another.
@@ -56,19 +57,29 @@ fn tests_of<N: Lookup>(
         .collect(alloc)
 }
 
-fn case_of<N: Lookup>(
-    alloc: Global,
-    names: &N,
-    header: &HeaderText,
-    case: &CaseText,
-) -> Result<Case, AllocError>
-    requires { IsSized (N.text names.now) }
-    ensures { IfOk result (λ built. built ≡ case_of (N.text names.now) header.now case.now) }
-{
-    Ok(Case {
-        tests: Sequence::from_vec(tests_of(alloc, names, header, case.values.as_slice())?),
-        target: target_of(names, &case.target),
-    })
+/// The number of a field that a header selects by.
+impl<'a, N: Lookup> Build<InHeader<'a, N>, Ident> for u32 {
+    ghost fits = { λ own ident. IsSized (N.text own.0.now) };
+
+    ghost meant = { λ own ident. field_number (N.text own.0.now) (selected (N.text own.0.now) own.1.now ident) };
+
+    fn build(_alloc: Global, own: &InHeader<'a, N>, ident: &Ident) -> Result<u32, AllocError> {
+        Ok(number_at(own.0, own_key(own.0, own.1, ident)))
+    }
+}
+
+/// A case of a header.
+impl<'a, N: Lookup> Build<InHeader<'a, N>, CaseText> for Case {
+    ghost fits = { λ own case. IsSized (N.text own.0.now) };
+
+    ghost meant = { λ own case. case_of (N.text own.0.now) own.1.now case };
+
+    fn build(alloc: Global, own: &InHeader<'a, N>, case: &CaseText) -> Result<Case, AllocError> {
+        Ok(Case {
+            tests: Sequence::from_vec(tests_of(alloc, own.0, own.1, case.values.as_slice())?),
+            target: target_of(own.0, &case.target),
+        })
+    }
 }
 
 /// The tail of a header whose text is within the bounds of the rules.
@@ -109,22 +120,25 @@ fn header_from<N: Lookup>(
     ensures { IfOk result (λ built. built ≡ header_from (N.text names.now) valid header.now) }
 {
     let count = header.fields.len() as u32;
+    let own = (names, header);
+    let ((name, fields), (select, cases)) = both(
+        both(
+            copy_name(alloc, &header.ident.name),
+            numbers_from(alloc, valid + 1, count),
+        ),
+        both(
+            mapped(alloc, &own, header.select.as_slice()),
+            mapped(alloc, &own, header.cases.as_slice()),
+        ),
+    )?;
     Ok(Header {
-        name: copy_name(alloc, &header.ident.name)?,
+        name,
         valid,
-        fields: Sequence::from_vec(numbers_from(alloc, valid + 1, count)?),
+        fields: Sequence::from_vec(fields),
         bytes: (bits_of(header) / 8) as u8,
         tail: tail_in(names, header),
-        select: mapped(
-            alloc,
-            header.select.as_slice(),
-            |ident|
-                requires { IsSized (N.text names.now) }
-            { Ok(number_at(names, own_key(names, header, ident))) },
-        )?,
-        cases: mapped(alloc, header.cases.as_slice(), |case| {
-            case_of(alloc, names, header, case)
-        })?,
+        select,
+        cases,
         other: target_of(names, &header.other),
     })
 }
@@ -137,7 +151,7 @@ pub fn headers_of<N: Lookup>(alloc: Global, names: &N) -> Result<Sequence<Header
     let mut headers = Sequence::new(alloc);
     let mut valid: u32 = 3;
     for header in names.source().headers.as_slice() {
-        headers.push(header_from(alloc, names, valid, header)?)?;
+        add(&mut headers, header_from(alloc, names, valid, header))?;
         valid += 1 + header.fields.len() as u32;
     }
     Ok(headers)

@@ -1,7 +1,7 @@
 //! Numbers of names that are known, as they stand in a program.
 
 ghost use Rattle.std.specs.Prelude.{◌≡◌, ◌≤◌, ◌-◌, length};
-ghost use Rattle.rmt_check.specs.Names.{named, table_names};
+ghost use Rattle.rmt_check.specs.Names.{named};
 ghost use Rattle.rmt_check.specs.Meaning.{index_of, field_number, action_number, target_of};
 ghost use Rattle.rmt_check.specs.Sizes.{IsSized};
 ghost use Rattle.rmt_check.specs.Standing.{named_at};
@@ -35,14 +35,6 @@ pub fn number_among(list: &NameList<'_>, name: &[u8]) -> u32
     ensures below { result ≤ length list.now - 1 }
 {
     list.number(name).unwrap_or(0) as u32
-}
-
-/// The number of a table.
-pub fn table_number<N: Lookup>(names: &N, name: &[u8]) -> u32
-    requires { IsSized (N.text names.now) }
-    ensures { result ≡ index_of (table_names (N.text names.now)) name.now }
-{
-    number_among(names.tables(), name)
 }
 
 /// The number of an action.

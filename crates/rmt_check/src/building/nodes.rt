@@ -6,13 +6,15 @@ ghost use Rattle.rmt_check.specs.Meaning.{guard_of, node_of, what_of};
 ghost use Rattle.rmt_check.specs.Naming.{IsUnder};
 ghost use Rattle.rmt_check.specs.Sizes.{IsSized};
 
-use crate::building::known::{field_number, table_number};
+use crate::building::known::{field_number, number_among};
+use crate::building::mapped::Build;
 use crate::building::outcomes::mask_in;
 use crate::building::values::test_at;
 use crate::names::lookup::{Lookup, key};
 use crate::rules::parts;
 use crate::source::{NodeText, Under, ValueText, WhatText};
 use rmt_ast::program::{Guard, Node, What};
+use std::alloc::{AllocError, Global};
 
 fn guard_of<N: Lookup>(names: &N, under: &Under) -> Guard
     requires sized { IsSized (N.text names.now) }
@@ -34,7 +36,10 @@ fn what_of<N: Lookup>(names: &N, what: &WhatText) -> What
     ensures { result ≡ what_of (N.text names.now) what.now }
 {
     match what {
-        WhatText::Apply { table, .. } => What::Apply(table_number(names, table.name.as_slice())),
+        WhatText::Apply { table, .. } => What::Apply(number_among(
+            names.tables(),
+            table.name.as_slice(),
+        )),
         WhatText::If { field, mask, value } => {
             let value = ValueText {
                 value: *value,
@@ -49,17 +54,19 @@ fn what_of<N: Lookup>(names: &N, what: &WhatText) -> What
 }
 
 /// A node, which stands in an arm of one of the nodes, if in any.
-pub fn node_of<N: Lookup>(names: &N, node: &NodeText) -> Node
-    requires sized { IsSized (N.text names.now) }
-    requires within { IsUnder (length (nodes_of (N.text names.now))) node.now.under }
-    ensures { result ≡ node_of (N.text names.now) node.now }
-{
-    let guard = match &node.under {
-        Some(under) => Some(guard_of(names, under)),
-        None => None,
-    };
-    Node {
-        guard,
-        what: what_of(names, &node.what),
+impl<N: Lookup> Build<N, NodeText> for Node {
+    ghost fits = { λ names node. IsSized (N.text names) × IsUnder (length (nodes_of (N.text names))) node.under };
+
+    ghost meant = { λ names node. node_of (N.text names) node };
+
+    fn build(_alloc: Global, names: &N, node: &NodeText) -> Result<Node, AllocError> {
+        let guard = match &node.under {
+            Some(under) => Some(guard_of(names, under)),
+            None => None,
+        };
+        Ok(Node {
+            guard,
+            what: what_of(names, &node.what),
+        })
     }
 }

@@ -1,70 +1,84 @@
 //! Tables.
 
-ghost use Rattle.std.specs.Prelude.{◌≡◌, IfOk};
-ghost use Rattle.rmt_check.specs.Meaning.{table_of, table_with};
-ghost use Rattle.rmt_check.specs.Sizes.{IsSized, IsSizedKey, IsSizedTable};
+ghost use Rattle.std.specs.Prelude.{⊤};
+ghost use Rattle.rmt_check.specs.Names.{named};
+ghost use Rattle.rmt_check.specs.Meaning.{action_number, field_number, table_of};
+ghost use Rattle.rmt_check.specs.Sizes.{IsSized, IsSizedTable};
 
 use crate::building::known::{action_number, field_number};
-use crate::building::mapped::mapped;
+use crate::building::mapped::{Build, mapped};
 use crate::names::lookup::Lookup;
+use crate::pairs::both;
 use crate::reading::words::copy_name;
-use crate::source::{KeyText, TableText};
+use crate::rules::parts::{key_fields, listed};
+use crate::source::{FieldText, Ident, Number, TableText};
 use rmt_ast::program::{Kind, Table};
-use rmt_bits::sequence::Sequence;
 use std::alloc::{AllocError, Global};
 
-/// A table without a key.
-fn keyless<N: Lookup>(alloc: Global, names: &N, table: &TableText) -> Result<Table, AllocError>
-    requires { IsSized (N.text names.now) }
-    ensures { IfOk result (λ built. built ≡ table_with (N.text names.now) table.now None) }
-{
-    Ok(Table {
-        name: copy_name(alloc, &table.ident.name)?,
-        kind: Kind::Keyless,
-        key: Sequence::new(alloc),
-        actions: Sequence::new(alloc),
-        default: action_number(names, &table.default),
-        args: mapped(alloc, table.args.as_slice(), |number| Ok(number.value))?,
-        size: 0,
-        counted: false,
-    })
+/// The number of a field of a key.
+impl<N: Lookup> Build<N, FieldText> for u32 {
+    ghost fits = { λ names field. IsSized (N.text names) };
+
+    ghost meant = { λ names field. field_number (N.text names) (named (N.text names) field) };
+
+    fn build(_alloc: Global, names: &N, field: &FieldText) -> Result<u32, AllocError> {
+        Ok(field_number(names, field))
+    }
 }
 
-/// A table with this key, of a size of at most 1,048,576.
-fn keyed<N: Lookup>(
-    alloc: Global,
-    names: &N,
-    table: &TableText,
-    key: &KeyText,
-) -> Result<Table, AllocError>
-    requires sized { IsSized (N.text names.now) }
-    requires key { IsSizedKey (Some key.now) }
-    ensures { IfOk result (λ built. built ≡ table_with (N.text names.now) table.now (Some key.now)) }
-{
-    Ok(Table {
-        name: copy_name(alloc, &table.ident.name)?,
-        kind: key.kind,
-        key: mapped(alloc, key.fields.as_slice(), |field| {
-            Ok(field_number(names, field))
-        })?,
-        actions: mapped(alloc, key.actions.as_slice(), |action| {
-            Ok(action_number(names, action))
-        })?,
-        default: action_number(names, &table.default),
-        args: mapped(alloc, table.args.as_slice(), |number| Ok(number.value))?,
-        size: key.size.value as u32,
-        counted: key.counted,
-    })
+/// The number of an action that a table lists.
+impl<N: Lookup> Build<N, Ident> for u32 {
+    ghost fits = { λ names action. IsSized (N.text names) };
+
+    ghost meant = { λ names action. action_number (N.text names) action };
+
+    fn build(_alloc: Global, names: &N, action: &Ident) -> Result<u32, AllocError> {
+        Ok(action_number(names, action))
+    }
+}
+
+/// An argument of a table's default.
+impl Build<(), Number> for u128 {
+    ghost fits = { λ _ number. ⊤ };
+
+    ghost meant = { λ _ number. number.value };
+
+    fn build(_alloc: Global, _shared: &(), number: &Number) -> Result<u128, AllocError> {
+        Ok(number.value)
+    }
 }
 
 /// A table with the numbers of what it names.
-pub fn table_of<N: Lookup>(alloc: Global, names: &N, table: &TableText) -> Result<Table, AllocError>
-    requires sized { IsSized (N.text names.now) }
-    requires table { IsSizedTable table.now }
-    ensures { IfOk result (λ built. built ≡ table_of (N.text names.now) table.now) }
-{
-    match &table.key {
-        None => keyless(alloc, names, table),
-        Some(key) => keyed(alloc, names, table, key),
+impl<N: Lookup> Build<N, TableText> for Table {
+    ghost fits = { λ names table. IsSized (N.text names) × IsSizedTable table };
+
+    ghost meant = { λ names table. table_of (N.text names) table };
+
+    fn build(alloc: Global, names: &N, table: &TableText) -> Result<Table, AllocError> {
+        let ((name, args), (key, actions)) = both(
+            both(
+                copy_name(alloc, &table.ident.name),
+                mapped(alloc, &(), table.args.as_slice()),
+            ),
+            both(
+                mapped(alloc, names, key_fields(table)),
+                mapped(alloc, names, listed(table)),
+            ),
+        )?;
+        let default = action_number(names, &table.default);
+        let (kind, size, counted) = match &table.key {
+            Some(key) => (key.kind, key.size.value as u32, key.counted),
+            None => (Kind::Keyless, 0, false),
+        };
+        Ok(Table {
+            name,
+            kind,
+            key,
+            actions,
+            default,
+            args,
+            size,
+            counted,
+        })
     }
 }

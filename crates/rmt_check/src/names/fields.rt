@@ -1,7 +1,8 @@
 //! The fields of a program by number, and what they are found by.
 
-ghost use Rattle.std.specs.Prelude.{◌≡◌, ◌<◌, ◌+◌, ◌^◌, ◌++◌, ◌∷◌, [], OnOk, IfOk};
-ghost use Rattle.rmt_check.specs.Names.{common, declared_fields, fields_of, header_fields, printed_name};
+ghost use Rattle.std.specs.Prelude.{◌≡◌, ◌<◌, ◌+◌, ◌^◌, ◌++◌, OnOk, IfOk};
+ghost use Rattle.rmt_check.specs.Names as words;
+ghost use Rattle.rmt_check.specs.Names.{declared_fields, fields_of, header_fields, printed_name};
 ghost use Rattle.rmt_check.specs.Standing.{all_codes, named_at, owner_at, place_among, stored};
 ghost use Rattle.rmt_ast.specs.NameList.{HasNumbers};
 
@@ -10,6 +11,7 @@ use indexmap::IndexMap;
 use rmt_bits::sequence::Sequence;
 use std::alloc::{AllocError, Global};
 use std::marker::Model;
+use std::vec;
 
 /// What a field is found by: the number of its owner, and its own name.
 pub type FieldKey<'a> = (usize, &'a [u8]);
@@ -56,13 +58,11 @@ impl<'a> KnownField<'a> {
     pub fn printed_name(&self, alloc: Global) -> Result<Vec<u8>, AllocError>
         ensures { IfOk result (λ name. name.items ≡ printed_name self.now) }
     {
-        let mut name = Vec::new(alloc);
-        if let Some(owner) = self.owner_name {
-            name.extend_from_slice(owner)?;
-            name.push(b'.')?;
+        let name = self.key.1;
+        match self.owner_name {
+            Some(owner) => [owner, b".", name].concat(alloc),
+            None => [name].concat(alloc),
         }
-        name.extend_from_slice(self.key.1)?;
-        Ok(name)
     }
 }
 
@@ -105,20 +105,25 @@ fn add_header<'a>(
     add_declared(fields, owner, owner_name, header.fields.as_slice())
 }
 
-/// Adds a field that every program has.
-fn add_common<'a>(
-    fields: &mut Sequence<KnownField<'a>>,
-    name: &'a [u8],
-    width: u128,
-) -> Result<(), AllocError>
-    ensures { OnOk result (fields.new ≡ fields.old ++ common name.now width ∷ []) }
+/// A field that every program has.
+fn common<'a>(name: &'a [u8], width: u128) -> KnownField<'a>
+    ensures { result ≡ words.common name.now width }
 {
-    fields.push(KnownField {
+    KnownField {
         key: (INTRINSIC, name),
         width,
         owner_name: None,
-    })?;
-    Ok(())
+    }
+}
+
+/// The fields that every program has.
+fn common_fields<'a>(alloc: Global) -> Result<Sequence<KnownField<'a>>, AllocError>
+    ensures { IfOk result (λ fields. fields ≡ words.common_fields) }
+{
+    let in_port = common(b"in_port", 9);
+    let out_port = common(b"out_port", 9);
+    let fields = vec![in alloc; in_port, out_port, common(b"drop", 1)]?;
+    Ok(Sequence::from_vec(fields))
 }
 
 /// The fields of a program's text, by number.
@@ -128,10 +133,7 @@ fn known_fields<'a>(
 ) -> Result<Sequence<KnownField<'a>>, AllocError>
     ensures { IfOk result (λ fields. fields ≡ fields_of source.now) }
 {
-    let mut fields = Sequence::new(alloc);
-    add_common(&mut fields, b"in_port", 9)?;
-    add_common(&mut fields, b"out_port", 9)?;
-    add_common(&mut fields, b"drop", 1)?;
+    let mut fields = common_fields(alloc)?;
     for (number, header) in source.headers.as_slice().iter().enumerate() {
         add_header(&mut fields, number, header)?;
     }

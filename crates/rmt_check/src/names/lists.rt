@@ -2,9 +2,11 @@
 
 ghost use Rattle.std.specs.Prelude.{◌≡◌, [], find, map, option_copied, IfOk};
 ghost use Rattle.std.specs.Str.{bytes_eq};
+ghost use Rattle.rmt_check.specs.Parts.{TableText as TableValue};
 ghost use Rattle.rmt_check.specs.Standing.{list_names};
 
 use crate::names::labels::Labelled;
+use crate::pairs::both;
 use crate::rules::parts::listed;
 use crate::source::TableText;
 use rmt_ast::name_list::NameList;
@@ -38,7 +40,10 @@ pub fn first_named<'a, T: Labelled>(
 }
 
 /// Of each table, the names of the actions of its list.
-fn lists<'a>(alloc: Global, tables: &'a [TableText]) -> Result<Sequence<NameList<'a>>, AllocError>
+fn lists_of<'a>(
+    alloc: Global,
+    tables: &'a [TableText],
+) -> Result<Sequence<NameList<'a>>, AllocError>
     ensures { IfOk result (λ v. v ≡ list_names tables.now) }
 {
     let mut lists = Sequence::new(alloc);
@@ -48,22 +53,28 @@ fn lists<'a>(alloc: Global, tables: &'a [TableText]) -> Result<Sequence<NameList
     Ok(lists)
 }
 
-/// The actions that tables list, by name.
+/// Tables by name, each with the actions of its list.
 #[derive(Drop)]
-pub struct Listed<'a> {
-    /// Of each table.
+pub struct TableNames<'a> {
+    pub names: NameList<'a>,
+    /// Of each table, the actions of its list.
     pub lists: Sequence<NameList<'a>>,
     /// The list of a table that is none.
     pub nothing: NameList<'a>,
 }
 
-/// The lists of some tables.
-pub fn listed_by<'a>(alloc: Global, tables: &'a [TableText]) -> Result<Listed<'a>, AllocError>
-    ensures lists { IfOk result (λ l. l.lists ≡ list_names tables.now) }
-    ensures nothing { IfOk result (λ l. l.nothing ≡ []) }
+/// The names of some tables.
+pub fn tables_of<'a>(alloc: Global, tables: &'a [TableText]) -> Result<TableNames<'a>, AllocError>
+    ensures names { IfOk result (λ t. t.names ≡ map (λ (t : TableValue). t.ident.name) tables.now) }
+    ensures lists { IfOk result (λ t. t.lists ≡ list_names tables.now) }
+    ensures nothing { IfOk result (λ t. t.nothing ≡ []) }
 {
-    Ok(Listed {
-        lists: lists(alloc, tables)?,
-        nothing: NameList::of(alloc, Vec::new(alloc))?,
+    let names = names_of(alloc, tables);
+    let nothing = NameList::of(alloc, Vec::new(alloc));
+    let ((names, lists), nothing) = both(both(names, lists_of(alloc, tables)), nothing)?;
+    Ok(TableNames {
+        names,
+        lists,
+        nothing,
     })
 }

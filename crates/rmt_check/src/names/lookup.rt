@@ -44,6 +44,9 @@ pub trait Lookup {
         ensures { result.now ≡ ident_names (listed_by (text self.now) table.now) };
 }
 
+/// The names of a text, and one of its headers.
+pub type InHeader<'a, N> = (&'a N, &'a HeaderText);
+
 /// The owner that a header is, by its name; for a name that is none, one that has no field.
 #[tactic(auto, using(crate::proofs::FieldCodes::owner_header))]
 fn header_owner<N: Lookup>(names: &N, name: &[u8]) -> usize

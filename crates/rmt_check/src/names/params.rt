@@ -63,3 +63,6 @@ impl<'a> ActionNames<'a> {
         }
     }
 }
+
+/// The names of a text, and those of one of its actions.
+pub type InAction<'a, N> = (&'a N, ActionNames<'a>);

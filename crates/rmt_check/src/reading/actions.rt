@@ -3,8 +3,8 @@
 ghost use Rattle.std.specs.Prelude.{◌≡◌, IfOk};
 ghost use Rattle.rmt_check.specs.Reading.{at_token, leaf_part, leaf_at, sign_of, operation_at, expr_at, assign_at, each, param_at, action_at};
 
-use crate::reading::lists::{Choice, Part, all, first, first_choice, parts_of};
-use crate::reading::words::{name_among, no_number, number_among, place_at, place_of};
+use crate::reading::lists::{Among, Choice, Part, first_choice, parts_of};
+use crate::reading::words::{no_number, place_at, place_of};
 use crate::rules::places::beyond;
 use crate::source::{
     ActionText, AssignText, Declared, ExprText, FieldText, Ident, LeafText, Number, Sign,
@@ -69,12 +69,12 @@ impl Part for (Sign, LeafText) {
     ghost seen = { operation_at };
 
     fn read(alloc: Global, trees: &[Tree]) -> Result<Option<(Sign, LeafText)>, AllocError> {
-        match (
-            Sign::read(alloc, trees)?,
-            LeafText::read(alloc, beyond(1, trees))?,
-        ) {
-            (Some(sign), Some(leaf)) => Ok(Some((sign, leaf))),
-            _ => Ok(None),
+        let Some(sign) = Sign::read(alloc, trees)? else {
+            return Ok(None);
+        };
+        match LeafText::read(alloc, beyond(1, trees))? {
+            Some(leaf) => Ok(Some((sign, leaf))),
+            None => Ok(None),
         }
     }
 }
@@ -86,9 +86,10 @@ impl Part for ExprText {
         let Some(parts) = parts_of(Rule::Expr, trees) else {
             return Ok(None);
         };
+        let (left, right): (Option<_>, _) = Among::among(alloc, parts)?;
         Ok(Some(ExprText {
-            left: first(alloc, parts)?.unwrap_or(LeafText::Number(no_number())),
-            right: first(alloc, parts)?,
+            left: left.unwrap_or(LeafText::Number(no_number())),
+            right,
         }))
     }
 }
@@ -97,13 +98,15 @@ impl Part for AssignText {
     ghost seen = { assign_at };
 
     fn read(alloc: Global, trees: &[Tree]) -> Result<Option<AssignText>, AllocError> {
-        match (
-            FieldText::read(alloc, trees)?,
-            place_at(Terminal::Assign, beyond(1, trees)),
-            ExprText::read(alloc, beyond(2, trees))?,
-        ) {
-            (Some(dest), Some(_), Some(expr)) => Ok(Some(AssignText { dest, expr })),
-            _ => Ok(None),
+        if place_at(Terminal::Assign, beyond(1, trees)).is_none() {
+            return Ok(None);
+        }
+        let Some(dest) = FieldText::read(alloc, trees)? else {
+            return Ok(None);
+        };
+        match ExprText::read(alloc, beyond(2, trees))? {
+            Some(expr) => Ok(Some(AssignText { dest, expr })),
+            None => Ok(None),
         }
     }
 }
@@ -116,10 +119,8 @@ fn params(alloc: Global, trees: &[Tree]) -> Result<Sequence<Declared>, AllocErro
     let mut params = Sequence::new(alloc);
     for at in 0..trees.len() {
         if let Some(parts) = parts_of(Rule::Param, beyond(at, trees)) {
-            params.push(Declared {
-                ident: name_among(alloc, parts)?,
-                width: number_among(alloc, parts)?,
-            })?;
+            let (ident, width) = Among::among(alloc, parts)?;
+            params.push(Declared { ident, width })?;
         }
     }
     Ok(params)
@@ -132,10 +133,12 @@ impl Part for ActionText {
         let Some(parts) = parts_of(Rule::Action, trees) else {
             return Ok(None);
         };
+        let params = params(alloc, parts)?;
+        let (ident, assigns) = Among::among(alloc, parts)?;
         Ok(Some(ActionText {
-            ident: name_among(alloc, parts)?,
-            params: params(alloc, parts)?,
-            assigns: all(alloc, parts)?,
+            ident,
+            params,
+            assigns,
         }))
     }
 }

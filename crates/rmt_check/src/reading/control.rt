@@ -1,13 +1,14 @@
 //! Reads the control.
 
-ghost use Rattle.std.specs.Prelude.{◌≡◌, IfOk, OnOk};
+ghost use Rattle.std.specs.Prelude.{◌≡◌, ◌++◌, ◌∷◌, [], IfOk, OnOk};
 ghost use Rattle.rmt_syntax.specs.declared.tree.Tree.TheViews.{out-Tree};
-ghost use Rattle.rmt_check.specs.Reading.{arm_word, arm_at, what_text, node_text, is_arm, is_statement, added, control_text, control_at};
+ghost use Rattle.rmt_check.specs.Reading.{arm_word, arm_at, first, field_at, what_text, node_text, is_arm, is_statement, added, control_text, control_at};
 
-use crate::reading::lists::{Choice, Part, all, first, first_behind, first_choice, parts_of};
-use crate::reading::words::{ident_of, name_among, no_number, place_among};
-use crate::source::{ArmText, FieldText, NodeText, Under, WhatText};
+use crate::reading::lists::{Among, Choice, Part, first_behind, first_choice, parts_of};
+use crate::reading::words::{ident_of, no_number};
+use crate::source::{ArmText, NodeText, Under, WhatText};
 use rmt_bits::sequence::Sequence;
+use rmt_lexer::place::Place;
 use rmt_syntax::terminal::{Terminal, terminal_of};
 use rmt_syntax::tree::{Rule, Tree};
 use std::alloc::{AllocError, Global};
@@ -40,34 +41,31 @@ impl Part for ArmText {
 }
 
 /// What a statement of these parts does: an `if` where it has a field.
-fn what_text(
-    alloc: Global,
-    field: Option<FieldText>,
-    trees: &[Tree],
-) -> Result<WhatText, AllocError>
-    ensures { IfOk result (λ what. what ≡ what_text field trees.now) }
+fn what_text(alloc: Global, trees: &[Tree]) -> Result<WhatText, AllocError>
+    ensures { IfOk result (λ what. what ≡ what_text (first field_at trees.now) trees.now) }
 {
-    let Some(field) = field else {
-        return Ok(WhatText::Apply {
-            table: name_among(alloc, trees)?,
-            arms: all(alloc, trees)?,
-        });
-    };
-    Ok(WhatText::If {
-        field,
-        mask: first_behind(alloc, Terminal::Ampersand, trees)?,
-        value: first_behind(alloc, Terminal::Equal, trees)?.unwrap_or(no_number()),
-    })
+    let mask = first_behind(alloc, Terminal::Ampersand, trees)?;
+    let value = first_behind(alloc, Terminal::Equal, trees)?.unwrap_or(no_number());
+    if let Some(field) = Option::among(alloc, trees)? {
+        return Ok(WhatText::If { field, mask, value });
+    }
+    let (table, arms) = Among::among(alloc, trees)?;
+    Ok(WhatText::Apply { table, arms })
 }
 
-/// The node of a statement of these parts.
-fn node_text(alloc: Global, under: Option<Under>, trees: &[Tree]) -> Result<NodeText, AllocError>
-    ensures { IfOk result (λ node. node ≡ node_text under trees.now) }
+/// Adds the node of a statement of these parts.
+fn push_node(
+    alloc: Global,
+    under: Option<Under>,
+    nodes: &mut Sequence<NodeText>,
+    trees: &[Tree],
+) -> Result<(), AllocError>
+    ensures { OnOk result (nodes.new ≡ nodes.old ++ node_text under trees.now ∷ []) }
 {
-    Ok(NodeText {
-        place: place_among(alloc, trees)?,
+    nodes.push(NodeText {
+        place: Place::among(alloc, trees)?,
         under,
-        what: what_text(alloc, first(alloc, trees)?, trees)?,
+        what: what_text(alloc, trees)?,
     })
 }
 
@@ -111,7 +109,7 @@ fn push_nodes(
         return Ok(());
     }
     let parent = nodes.len();
-    nodes.push(node_text(alloc, under, parts.as_slice())?)?;
+    push_node(alloc, under, nodes, parts.as_slice())?;
     let mut arm = 0;
     for part in parts.as_slice() {
         if is_arm(part) {

@@ -3,8 +3,8 @@
 ghost use Rattle.std.specs.Prelude.{◌≡◌, IfOk};
 ghost use Rattle.rmt_check.specs.Reading.{target_word, target_at, target_among, value_at, case_at, next_among, tail_at, header_at, meta_at};
 
-use crate::reading::lists::{Choice, Part, all, first, first_behind, first_choice, parts_of};
-use crate::reading::words::{ident_of, name_among, no_name, number_among, place_among, place_at};
+use crate::reading::lists::{Among, Choice, Part, first_behind, first_choice, parts_of};
+use crate::reading::words::{ident_of, no_name, place_at};
 use crate::rules::places::beyond;
 use crate::source::{
     CaseText, HeaderText, Ident, MetaText, Number, TailText, TargetText, ValueText,
@@ -40,11 +40,12 @@ impl Part for TargetText {
     }
 }
 
-/// The first target among some trees.
-fn target_among(alloc: Global, trees: &[Tree]) -> Result<TargetText, AllocError>
-    ensures { IfOk result (λ target. target ≡ target_among trees.now) }
-{
-    Ok(first(alloc, trees)?.unwrap_or(TargetText::Header(no_name(alloc))))
+impl Among for TargetText {
+    ghost among = { target_among };
+
+    fn among(alloc: Global, trees: &[Tree]) -> Result<TargetText, AllocError> {
+        Ok(Option::among(alloc, trees)?.unwrap_or(TargetText::Header(no_name(alloc))))
+    }
 }
 
 impl Part for ValueText {
@@ -55,7 +56,7 @@ impl Part for ValueText {
             return Ok(None);
         };
         Ok(Some(ValueText {
-            value: number_among(alloc, parts)?,
+            value: Number::among(alloc, parts)?,
             mask: first_behind(alloc, Terminal::Ampersand, parts)?,
         }))
     }
@@ -68,10 +69,8 @@ impl Part for CaseText {
         let Some(parts) = parts_of(Rule::Case, trees) else {
             return Ok(None);
         };
-        Ok(Some(CaseText {
-            values: all(alloc, parts)?,
-            target: target_among(alloc, parts)?,
-        }))
+        let (values, target) = Among::among(alloc, parts)?;
+        Ok(Some(CaseText { values, target }))
     }
 }
 
@@ -92,19 +91,21 @@ impl Part for TailText {
     ghost seen = { tail_at };
 
     fn read(alloc: Global, trees: &[Tree]) -> Result<Option<TailText>, AllocError> {
-        match (
+        let (Some(place), Some(unit), Some(base)) = (
             place_at(Terminal::Tail, trees),
-            Ident::read(alloc, beyond(1, trees))?,
             Number::read(alloc, beyond(3, trees))?,
             Number::read(alloc, beyond(5, trees))?,
-        ) {
-            (Some(place), Some(field), Some(unit), Some(base)) => Ok(Some(TailText {
+        ) else {
+            return Ok(None);
+        };
+        match Ident::read(alloc, beyond(1, trees))? {
+            Some(field) => Ok(Some(TailText {
                 place,
                 field,
                 unit,
                 base,
             })),
-            _ => Ok(None),
+            None => Ok(None),
         }
     }
 }
@@ -116,14 +117,15 @@ impl Part for HeaderText {
         let Some(parts) = parts_of(Rule::Header, trees) else {
             return Ok(None);
         };
-        let next = next_among(parts);
+        let ((ident, fields), tail) = Among::among(alloc, parts)?;
+        let ((select, cases), other) = Among::among(alloc, next_among(parts))?;
         Ok(Some(HeaderText {
-            ident: name_among(alloc, parts)?,
-            fields: all(alloc, parts)?,
-            tail: first(alloc, parts)?,
-            select: all(alloc, next)?,
-            cases: all(alloc, next)?,
-            other: target_among(alloc, next)?,
+            ident,
+            fields,
+            tail,
+            select,
+            cases,
+            other,
         }))
     }
 }
@@ -135,9 +137,7 @@ impl Part for MetaText {
         let Some(parts) = parts_of(Rule::Meta, trees) else {
             return Ok(None);
         };
-        Ok(Some(MetaText {
-            place: place_among(alloc, parts)?,
-            fields: all(alloc, parts)?,
-        }))
+        let (place, fields) = Among::among(alloc, parts)?;
+        Ok(Some(MetaText { place, fields }))
     }
 }

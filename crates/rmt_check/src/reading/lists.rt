@@ -21,31 +21,52 @@ pub trait Part: Drop {
         ensures { IfOk result (λ part. part ≡ seen trees.now) };
 }
 
-/// All parts of a kind among some trees.
-#[tactic(auto, using(crate::proofs::ReadingLaws::places))]
-pub fn all<T: Part>(alloc: Global, trees: &[Tree]) -> Result<Sequence<T>, AllocError>
-    ensures { IfOk result (λ parts. parts ≡ each T.seen trees.now) }
-{
-    let mut parts = Sequence::new(alloc);
-    for at in 0..trees.len() {
-        if let Some(part) = T::read(alloc, beyond(at, trees))? {
-            parts.push(part)?;
-        }
-    }
-    Ok(parts)
+/// What some trees say together.
+pub trait Among: Drop {
+    ghost among: { List Tree → Self };
+
+    /// What these trees say.
+    fn among(alloc: Global, trees: &[Tree]) -> Result<Self, AllocError>
+        ensures { IfOk result (λ said. said ≡ among trees.now) };
 }
 
-/// The first part of a kind among some trees.
-#[tactic(auto, using(crate::proofs::ReadingLaws::places))]
-pub fn first<T: Part>(alloc: Global, trees: &[Tree]) -> Result<Option<T>, AllocError>
-    ensures { IfOk result (λ part. part ≡ first T.seen trees.now) }
-{
-    for at in 0..trees.len() {
-        if let Some(part) = T::read(alloc, beyond(at, trees))? {
-            return Ok(Some(part));
+/// All parts of a kind.
+impl<T: Part> Among for Sequence<T> {
+    ghost among = { each T.seen };
+
+    #[tactic(auto, using(crate::proofs::ReadingLaws::places))]
+    fn among(alloc: Global, trees: &[Tree]) -> Result<Sequence<T>, AllocError> {
+        let mut parts = Sequence::new(alloc);
+        for at in 0..trees.len() {
+            if let Some(part) = T::read(alloc, beyond(at, trees))? {
+                parts.push(part)?;
+            }
         }
+        Ok(parts)
     }
-    Ok(None)
+}
+
+/// The first part of a kind.
+impl<T: Part> Among for Option<T> {
+    ghost among = { first T.seen };
+
+    #[tactic(auto, using(crate::proofs::ReadingLaws::places))]
+    fn among(alloc: Global, trees: &[Tree]) -> Result<Option<T>, AllocError> {
+        for at in 0..trees.len() {
+            if let Some(part) = T::read(alloc, beyond(at, trees))? {
+                return Ok(Some(part));
+            }
+        }
+        Ok(None)
+    }
+}
+
+impl<A: Among, B: Among> Among for (A, B) {
+    ghost among = { λ trees. (A.among trees, B.among trees) };
+
+    fn among(alloc: Global, trees: &[Tree]) -> Result<(A, B), AllocError> {
+        Ok((A::among(alloc, trees)?, B::among(alloc, trees)?))
+    }
 }
 
 /// What the text of a rule says by one of its own parts.

@@ -2,9 +2,9 @@
 
 ghost use Rattle.rmt_check.specs.Reading.{kind_at, key_at, table_at};
 
-use crate::reading::lists::{Part, all, first, first_behind, first_place, parts_of};
-use crate::reading::words::{name_among, no_name, number_among};
-use crate::source::{KeyText, TableText};
+use crate::reading::lists::{Among, Part, first_behind, first_place, parts_of};
+use crate::reading::words::no_name;
+use crate::source::{KeyText, Number, TableText};
 use rmt_ast::program::Kind;
 use rmt_syntax::terminal::{Terminal, terminal_of};
 use rmt_syntax::tree::{Rule, Tree};
@@ -34,11 +34,11 @@ impl Part for KeyText {
             return Ok(None);
         };
         Ok(Some(KeyText {
-            kind: first(alloc, parts)?.unwrap_or(Kind::Keyless),
-            fields: all(alloc, parts)?,
-            actions: all(alloc, parts)?,
-            size: number_among(alloc, parts)?,
+            kind: Option::among(alloc, parts)?.unwrap_or(Kind::Keyless),
+            size: Number::among(alloc, parts)?,
             counted: first_place(Terminal::Counted, parts).is_some(),
+            actions: Among::among(alloc, parts)?,
+            fields: Among::among(alloc, parts)?,
         }))
     }
 }
@@ -50,11 +50,13 @@ impl Part for TableText {
         let Some(parts) = parts_of(Rule::Table, trees) else {
             return Ok(None);
         };
+        let default = first_behind(alloc, Terminal::Default, parts)?.unwrap_or(no_name(alloc));
+        let ((ident, args), key) = Among::among(alloc, parts)?;
         Ok(Some(TableText {
-            ident: name_among(alloc, parts)?,
-            key: first(alloc, parts)?,
-            default: first_behind(alloc, Terminal::Default, parts)?.unwrap_or(no_name(alloc)),
-            args: all(alloc, parts)?,
+            ident,
+            key,
+            default,
+            args,
         }))
     }
 }

@@ -3,7 +3,7 @@
 ghost use Rattle.std.specs.Prelude.{◌≡◌, IfOk};
 ghost use Rattle.rmt_check.specs.Reading.{name_at, number_at, place_at, place_of, token_place, ident_of, nowhere, no_name, no_number, name_among, number_among, place_among, declared_at};
 
-use crate::reading::lists::{Part, first};
+use crate::reading::lists::{Among, Part};
 use crate::rules::places::beyond;
 use crate::source::{Declared, Ident, Number};
 use rmt_ast::name::Name;
@@ -41,11 +41,12 @@ impl Part for Place {
     }
 }
 
-/// The place of the first token among some trees.
-pub fn place_among(alloc: Global, trees: &[Tree]) -> Result<Place, AllocError>
-    ensures { IfOk result (λ place. place ≡ place_among trees.now) }
-{
-    Ok(first(alloc, trees)?.unwrap_or(nowhere()))
+impl Among for Place {
+    ghost among = { place_among };
+
+    fn among(alloc: Global, trees: &[Tree]) -> Result<Place, AllocError> {
+        Ok(Option::among(alloc, trees)?.unwrap_or(nowhere()))
+    }
 }
 
 /// An equal name.
@@ -130,18 +131,20 @@ pub fn no_number() -> Number
     }
 }
 
-/// The first name among some trees.
-pub fn name_among(alloc: Global, trees: &[Tree]) -> Result<Ident, AllocError>
-    ensures { IfOk result (λ ident. ident ≡ name_among trees.now) }
-{
-    Ok(first(alloc, trees)?.unwrap_or(no_name(alloc)))
+impl Among for Ident {
+    ghost among = { name_among };
+
+    fn among(alloc: Global, trees: &[Tree]) -> Result<Ident, AllocError> {
+        Ok(Option::among(alloc, trees)?.unwrap_or(no_name(alloc)))
+    }
 }
 
-/// The first number among some trees.
-pub fn number_among(alloc: Global, trees: &[Tree]) -> Result<Number, AllocError>
-    ensures { IfOk result (λ number. number ≡ number_among trees.now) }
-{
-    Ok(first(alloc, trees)?.unwrap_or(no_number()))
+impl Among for Number {
+    ghost among = { number_among };
+
+    fn among(alloc: Global, trees: &[Tree]) -> Result<Number, AllocError> {
+        Ok(Option::among(alloc, trees)?.unwrap_or(no_number()))
+    }
 }
 
 /// The place of the first tree, where it is a token of a kind.
@@ -163,11 +166,11 @@ impl Part for Declared {
 
     fn read(alloc: Global, trees: &[Tree]) -> Result<Option<Declared>, AllocError> {
         match (
-            Ident::read(alloc, trees)?,
             place_at(Terminal::Colon, beyond(1, trees)),
             Number::read(alloc, beyond(2, trees))?,
+            Ident::read(alloc, trees)?,
         ) {
-            (Some(ident), Some(_), Some(width)) => Ok(Some(Declared { ident, width })),
+            (Some(_), Some(width), Some(ident)) => Ok(Some(Declared { ident, width })),
             _ => Ok(None),
         }
     }

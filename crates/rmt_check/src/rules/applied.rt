@@ -9,7 +9,7 @@ use crate::names::lists::names_of;
 use crate::rules::parts::nodes_of;
 use crate::rules::places::place_when;
 use crate::rules::repeats::repeated_names;
-use crate::rules::search::earliest_with;
+use crate::rules::search::{Flaw, earliest_of};
 use crate::source::{Ident, NodeText, Source, TableText, WhatText};
 use rmt_ast::name_list::NameList;
 use rmt_lexer::place::Place;
@@ -46,12 +46,16 @@ pub fn applied_twice(alloc: Global, source: &Source) -> Result<Option<Place>, Al
     repeated_names(alloc, tables.as_slice())
 }
 
-/// Where a table is not among those that are applied.
-fn unapplied(applied: &NameList<'_>, table: &TableText) -> Option<Place>
-    ensures { result ≡ earliest (when (not (is_known applied.now table.now.ident.name)) table.now.ident.place) }
-{
-    let is_applied = applied.knows(table.ident.name.as_slice());
-    place_when(!is_applied, table.ident.place)
+/// A table that is not among those that are applied.
+struct Unapplied;
+
+impl<'a> Flaw<NameList<'a>, TableText> for Unapplied {
+    ghost places = { λ applied t. when (not (is_known applied t.ident.name)) t.ident.place };
+
+    fn at(applied: &NameList<'a>, table: &TableText) -> Option<Place> {
+        let is_applied = applied.knows(table.ident.name.as_slice());
+        place_when(!is_applied, table.ident.place)
+    }
 }
 
 /// Where a table is declared that no node applies.
@@ -60,5 +64,5 @@ pub fn not_applied(alloc: Global, source: &Source) -> Result<Option<Place>, Allo
 {
     let tables = applied_tables(alloc, source)?;
     let applied = names_of(alloc, tables.as_slice())?;
-    Ok(earliest_with(&applied, source.tables.as_slice(), unapplied))
+    Ok(earliest_of::<Unapplied, _, _>(&applied, source.tables.as_slice()))
 }

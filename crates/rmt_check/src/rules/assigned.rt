@@ -1,15 +1,15 @@
 //! Code 11, sums of at most 32 bits, and code 12, the field that no action may assign.
 
 ghost use Rattle.std.specs.Prelude.{◌≡◌};
-ghost use Rattle.rmt_check.specs.Names.{in_port, named, same_field};
+ghost use Rattle.rmt_check.specs.Names.{in_port, named, same_field, width_of};
 ghost use Rattle.rmt_check.specs.Rules as rules;
-ghost use Rattle.rmt_check.specs.Rules.{broken_11, broken_12, earliest};
+ghost use Rattle.rmt_check.specs.Rules.{broken_11, broken_12, earliest, when};
 
 use crate::names::fields::INTRINSIC;
 use crate::names::lookup::{Lookup, key, width_of};
 use crate::rules::places::place_when;
-use crate::rules::search::earliest_of;
-use crate::source::{FieldText, LeafText, Sign};
+use crate::rules::search::{Flaw, earliest_of};
+use crate::source::{ActionText, AssignText, FieldText, LeafText, Sign};
 use rmt_ast::program::Op;
 use rmt_lexer::place::Place;
 
@@ -35,16 +35,31 @@ fn wide_sign(width: u128, right: &Option<(Sign, LeafText)>) -> Option<Place>
     }
 }
 
+/// A sum that goes into more than 32 bits.
+struct WideSum;
+
+impl<N: Lookup> Flaw<N, AssignText> for WideSum {
+    ghost places = { λ n x. rules.wide_sign (width_of (N.text n) (named (N.text n) x.dest)) x.expr.right };
+
+    fn at(names: &N, assign: &AssignText) -> Option<Place> {
+        wide_sign(width_of(names, &assign.dest), &assign.expr.right)
+    }
+}
+
+impl<N: Lookup> Flaw<N, ActionText> for WideSum {
+    ghost places = { λ n a. rules.wide_signs (N.text n) a };
+
+    fn at(names: &N, action: &ActionText) -> Option<Place> {
+        earliest_of::<WideSum, _, _>(names, action.assigns.as_slice())
+    }
+}
+
 /// Where `+` or `-` goes into a field of more than 32 bits.
 pub fn wide_arithmetic<N: Lookup>(names: &N) -> Option<Place>
     ensures { result ≡ earliest (broken_11 (N.text names.now)) }
 {
     let source = names.source();
-    earliest_of(source.actions.as_slice(), |action| {
-        earliest_of(action.assigns.as_slice(), |assign| {
-            wide_sign(width_of(names, &assign.dest), &assign.expr.right)
-        })
-    })
+    earliest_of::<WideSum, _, _>(names, source.actions.as_slice())
 }
 
 #[tactic(auto, using(crate::proofs::FieldCodes::owner_same))]
@@ -55,14 +70,29 @@ fn is_in_port<N: Lookup>(names: &N, field: &FieldText) -> bool
     owner == INTRINSIC && name == b"in_port".as_slice()
 }
 
+/// A port that is assigned and may not be.
+struct WrittenPort;
+
+impl<N: Lookup> Flaw<N, AssignText> for WrittenPort {
+    ghost places = { λ n x. when (same_field (named (N.text n) x.dest) in_port) x.dest.place };
+
+    fn at(names: &N, assign: &AssignText) -> Option<Place> {
+        place_when(is_in_port(names, &assign.dest), assign.dest.place)
+    }
+}
+
+impl<N: Lookup> Flaw<N, ActionText> for WrittenPort {
+    ghost places = { λ n a. rules.written_ports (N.text n) a };
+
+    fn at(names: &N, action: &ActionText) -> Option<Place> {
+        earliest_of::<WrittenPort, _, _>(names, action.assigns.as_slice())
+    }
+}
+
 /// Where `in_port` is assigned.
 pub fn read_only<N: Lookup>(names: &N) -> Option<Place>
     ensures { result ≡ earliest (broken_12 (N.text names.now)) }
 {
     let source = names.source();
-    earliest_of(source.actions.as_slice(), |action| {
-        earliest_of(action.assigns.as_slice(), |assign| {
-            place_when(is_in_port(names, &assign.dest), assign.dest.place)
-        })
-    })
+    earliest_of::<WrittenPort, _, _>(names, source.actions.as_slice())
 }

@@ -8,8 +8,8 @@ ghost use Rattle.rmt_check.specs.Rules.{broken_9, earliest, targets};
 use crate::names::lookup::Lookup;
 use crate::rules::parts::target_names;
 use crate::rules::places::{earlier, place_when};
-use crate::rules::search::{earliest_numbered, earliest_of};
-use crate::source::{HeaderText, Ident};
+use crate::rules::search::{Flaw, earliest_of};
+use crate::source::{CaseText, HeaderText, Ident};
 use rmt_lexer::place::Place;
 
 fn is_at_most(number: Option<usize>, limit: usize) -> bool
@@ -21,32 +21,46 @@ fn is_at_most(number: Option<usize>, limit: usize) -> bool
     }
 }
 
-/// Where a header of some is declared at or before the header of a number.
-fn not_later<N: Lookup>(names: &N, number: usize, idents: &[Ident]) -> Option<Place>
-    ensures { result ≡ earliest (flat_map (rules.not_later (N.text names.now) number) idents.now) }
-{
-    earliest_of(idents, |ident| {
+/// A header that is declared at or before the header of a number.
+struct NotLater;
+
+impl<'a, N: Lookup> Flaw<(&'a N, usize), Ident> for NotLater {
+    ghost places = { λ c i. rules.not_later (N.text c.0.now) c.1 i };
+
+    fn at(shared: &(&'a N, usize), ident: &Ident) -> Option<Place> {
+        let (names, number) = *shared;
         let found = names.headers().number(ident.name.as_slice());
         place_when(is_at_most(found, number), ident.place)
-    })
+    }
+}
+
+impl<'a, N: Lookup> Flaw<(&'a N, usize), CaseText> for NotLater {
+    ghost places = { λ c x. flat_map (rules.not_later (N.text c.0.now) c.1) (rules.target_names x.target) };
+
+    fn at(shared: &(&'a N, usize), case: &CaseText) -> Option<Place> {
+        earliest_of::<NotLater, _, _>(shared, target_names(&case.target))
+    }
 }
 
 /// Where a target of a header is declared at or before it.
 fn early_target<N: Lookup>(names: &N, number: usize, header: &HeaderText) -> Option<Place>
     ensures { result ≡ earliest (flat_map (rules.not_later (N.text names.now) number) (targets header.now)) }
 {
-    let cases = earliest_of(header.cases.as_slice(), |case| {
-        not_later(names, number, target_names(&case.target))
-    });
-    earlier(cases, not_later(names, number, target_names(&header.other)))
+    let shared = (names, number);
+    earlier(
+        earliest_of::<NotLater, _, _>(&shared, header.cases.as_slice()),
+        earliest_of::<NotLater, _, _>(&shared, target_names(&header.other)),
+    )
 }
 
 /// Where a header goes on to itself or to one declared before.
 pub fn target_not_later<N: Lookup>(names: &N) -> Option<Place>
     ensures { result ≡ earliest (broken_9 (N.text names.now)) }
 {
-    let source = names.source();
-    earliest_numbered(source.headers.as_slice(), |number, header| {
-        early_target(names, number, header)
-    })
+    let headers = names.source().headers.as_slice();
+    let mut first = None;
+    for (number, header) in headers.iter().enumerate() {
+        first = earlier(first, early_target(names, number, header));
+    }
+    first
 }

@@ -2,13 +2,13 @@
 
 ghost use Rattle.std.specs.Prelude.{◌≡◌, IfOk};
 ghost use Rattle.std.specs.List.{flat_map};
-ghost use Rattle.rmt_check.specs.Rules.{broken_5, declared_names, earliest, repeated};
+ghost use Rattle.rmt_check.specs.Rules.{broken_5, declared_names, earliest, fields_twice, listed_twice, params_twice, repeated};
 
 use crate::rules::parts::{listed, metadata};
 use crate::rules::places::{earlier, earliest_beyond};
 use crate::rules::repeats::repeated_names;
-use crate::rules::search::try_earliest_of;
-use crate::source::{Declared, Ident, MetaText, Source};
+use crate::rules::search::{TryFlaw, try_earliest_of};
+use crate::source::{ActionText, HeaderText, Ident, MetaText, Source, TableText};
 use rmt_lexer::place::Place;
 use std::alloc::{AllocError, Global};
 
@@ -19,11 +19,31 @@ pub fn repeated_idents(alloc: Global, idents: &[Ident]) -> Result<Option<Place>,
     repeated_names(alloc, idents)
 }
 
-/// The same of what declares the names.
-fn declared_twice(alloc: Global, declared: &[Declared]) -> Result<Option<Place>, AllocError>
-    ensures { IfOk result (λ p. p ≡ earliest (repeated (declared_names declared.now))) }
-{
-    repeated_names(alloc, declared)
+/// A name that stands twice in a part of a text.
+struct NameTwice;
+
+impl TryFlaw<(), HeaderText> for NameTwice {
+    ghost places = { λ _ h. fields_twice h };
+
+    fn at(alloc: Global, _shared: &(), header: &HeaderText) -> Result<Option<Place>, AllocError> {
+        repeated_names(alloc, header.fields.as_slice())
+    }
+}
+
+impl TryFlaw<(), ActionText> for NameTwice {
+    ghost places = { λ _ a. params_twice a };
+
+    fn at(alloc: Global, _shared: &(), action: &ActionText) -> Result<Option<Place>, AllocError> {
+        repeated_names(alloc, action.params.as_slice())
+    }
+}
+
+impl TryFlaw<(), TableText> for NameTwice {
+    ghost places = { λ _ t. listed_twice t };
+
+    fn at(alloc: Global, _shared: &(), table: &TableText) -> Result<Option<Place>, AllocError> {
+        repeated_idents(alloc, listed(table))
+    }
 }
 
 /// Where a metadata field is declared again, be it in another `meta`.
@@ -43,17 +63,13 @@ pub fn name_twice(alloc: Global, source: &Source) -> Result<Option<Place>, Alloc
     let actions = source.actions.as_slice();
     let tables = source.tables.as_slice();
     let header = repeated_names(alloc, headers)?;
-    let field = try_earliest_of(headers, |header| {
-        declared_twice(alloc, header.fields.as_slice())
-    })?;
-    let meta = earliest_beyond(1, metas, |meta| meta.place);
+    let field = try_earliest_of::<NameTwice, _, _>(alloc, &(), headers)?;
+    let meta = earliest_beyond(1, metas);
     let meta_field = meta_field_twice(alloc, metas)?;
     let action = repeated_names(alloc, actions)?;
-    let param = try_earliest_of(actions, |action| {
-        declared_twice(alloc, action.params.as_slice())
-    })?;
+    let param = try_earliest_of::<NameTwice, _, _>(alloc, &(), actions)?;
     let table = repeated_names(alloc, tables)?;
-    let listed = try_earliest_of(tables, |table| repeated_idents(alloc, listed(table)))?;
+    let listed = try_earliest_of::<NameTwice, _, _>(alloc, &(), tables)?;
     let found = earlier(earlier(earlier(header, field), meta), meta_field);
     Ok(earlier(
         earlier(earlier(earlier(found, action), param), table),

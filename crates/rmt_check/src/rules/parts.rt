@@ -1,17 +1,13 @@
 //! Parts of a text that several rules look at.
 
-ghost use Rattle.std.specs.Prelude.{◌≡◌, IfOk, List, Option, map};
+ghost use Rattle.std.specs.Prelude.{◌≡◌, IfOk, map};
 ghost use Rattle.std.specs.List.{flat_map};
-ghost use Rattle.rmt_check.specs.Parts.{Place as PlaceValue, LeafText as LeafValue};
 ghost use Rattle.rmt_check.specs.Names as words;
 ghost use Rattle.rmt_check.specs.Rules as rules;
 
-use crate::rules::places::earlier;
 use crate::source::{
-    ArmText, Declared, ExprText, FieldText, Ident, LeafText, MetaText, NodeText, Source, TableText,
-    TargetText,
+    ArmText, Declared, FieldText, Ident, MetaText, NodeText, Source, TableText, TargetText,
 };
-use rmt_lexer::place::Place;
 use std::alloc::{AllocError, Global};
 use std::slice;
 
@@ -77,17 +73,5 @@ pub fn arm_names(arm: &ArmText) -> &[Ident]
         ArmText::Action(action) => slice::from_ref(action),
         ArmText::Hit => &[],
         ArmText::Miss => &[],
-    }
-}
-
-/// The earliest place that is found at an operand of an expression.
-pub fn earliest_operand<F: Fn(&LeafText) -> Option<Place>>(expr: &ExprText, at: F) -> Option<Place>
-    requires { F.IsAlwaysCallable at }
-    ensures { (broken : LeafValue → List PlaceValue) → ((x : _) (p : Option PlaceValue) → F.post at x p → p ≡ rules.earliest (broken x.now)) → result ≡ rules.earliest (flat_map broken (words.operands expr.now)) }
-{
-    let left = at(&expr.left);
-    match &expr.right {
-        Some((_, right)) => earlier(left, at(right)),
-        None => left,
     }
 }

@@ -4,7 +4,57 @@ ghost use Rattle.std.specs.Prelude.{◌≡◌, ◌++◌, List, drop, map};
 ghost use Rattle.rmt_check.specs.Parts.{Place as PlaceValue};
 ghost use Rattle.rmt_check.specs.Rules as rules;
 
+use crate::names::labels::Labelled;
+use crate::source::{AssignText, FieldText, MetaText, NodeText};
 use rmt_lexer::place::Place;
+
+/// What stands at a place, at which it is told that there is too much of it.
+pub trait Placed {
+    ghost place_of: { Self → PlaceValue };
+
+    fn place(&self) -> Place
+        ensures { result ≡ place_of self.now };
+}
+
+impl<T: Labelled> Placed for T {
+    ghost place_of = { λ x. (T.ident_of x).place };
+
+    fn place(&self) -> Place {
+        self.ident().place
+    }
+}
+
+impl Placed for MetaText {
+    ghost place_of = { λ m. m.place };
+
+    fn place(&self) -> Place {
+        self.place
+    }
+}
+
+impl Placed for AssignText {
+    ghost place_of = { λ x. x.dest.place };
+
+    fn place(&self) -> Place {
+        self.dest.place
+    }
+}
+
+impl Placed for FieldText {
+    ghost place_of = { λ f. f.place };
+
+    fn place(&self) -> Place {
+        self.place
+    }
+}
+
+impl Placed for NodeText {
+    ghost place_of = { λ n. n.place };
+
+    fn place(&self) -> Place {
+        self.place
+    }
+}
 
 /// Whether a place is before another.
 fn is_before(a: Place, b: Place) -> bool
@@ -45,14 +95,13 @@ pub fn beyond<T>(limit: usize, items: &[T]) -> &[T]
 }
 
 /// The earliest place of the items beyond the first so many.
-pub fn earliest_beyond<T, F: Fn(&T) -> Place>(limit: usize, items: &[T], place: F) -> Option<Place>
-    requires { F.IsAlwaysCallable place }
-    ensures { (place_of : T → PlaceValue) (all : List T) → drop limit items.now ≡ all → ((x : _) (p : PlaceValue) → F.post place x p → p ≡ place_of x.now) → result ≡ rules.earliest (map place_of all) }
+pub fn earliest_beyond<T: Placed>(limit: usize, items: &[T]) -> Option<Place>
+    ensures { result ≡ rules.earliest (map T.place_of (drop limit items.now)) }
 {
     let further = beyond(limit, items);
     let mut first = None;
     for item in further {
-        first = earlier(first, Some(place(item)));
+        first = earlier(first, Some(item.place()));
     }
     first
 }

@@ -1,18 +1,21 @@
 //! Code 10: operands and numbers of the width that they need.
 
 ghost use Rattle.std.specs.Prelude.{◌≡◌, IfOk};
+ghost use Rattle.std.specs.List.{flat_map};
+ghost use Rattle.rmt_check.specs.Names.{named, operands, selected, width_of};
 ghost use Rattle.rmt_check.specs.Rules as rules;
-ghost use Rattle.rmt_check.specs.Rules.{broken_10, earliest, gate_widths, operand_widths};
+ghost use Rattle.rmt_check.specs.Rules.{broken_10, earliest};
 
-use crate::names::lookup::{Lookup, own_key, width, width_of};
-use crate::names::params::ActionNames;
-use crate::rules::parts::{earliest_operand, nodes_of};
+use crate::names::lookup::{InHeader, Lookup, own_key, width, width_of};
+use crate::names::params::{ActionNames, InAction};
+use crate::rules::parts::nodes_of;
 use crate::rules::places::{earlier, place_when};
 use crate::rules::search::{
-    earliest_beside, earliest_of, earliest_with, place_in, try_earliest_of,
+    Flaw, PairFlaw, TryFlaw, earliest_beside, earliest_of, try_earliest_of,
 };
 use crate::source::{
-    ActionText, CaseText, HeaderText, LeafText, NodeText, Number, ValueText, WhatText,
+    ActionText, AssignText, CaseText, HeaderText, Ident, LeafText, NodeText, Number, ValueText,
+    WhatText,
 };
 use rmt_lexer::place::Place;
 use std::alloc::{AllocError, Global};
@@ -41,10 +44,7 @@ fn differs<N: Lookup>(
     ensures { result ≡ earliest (rules.differs (N.text names.now) action.now width leaf.now) }
 {
     match leaf {
-        LeafText::Field(field) => {
-            let own = width_of(names, field);
-            place_when(own != width, field.place)
-        }
+        LeafText::Field(field) => place_when(width_of(names, field) != width, field.place),
         LeafText::Param(param) => {
             let own = action.width(param.name.as_slice());
             place_when(own != width, param.place)
@@ -53,56 +53,92 @@ fn differs<N: Lookup>(
     }
 }
 
-fn wrong_in_action<N: Lookup>(
-    alloc: Global,
-    names: &N,
-    action: &ActionText,
-) -> Result<Option<Place>, AllocError>
-    ensures { IfOk result (λ p. p ≡ earliest (operand_widths (N.text names.now) action.now)) }
-{
-    let own = ActionNames::of(alloc, action)?;
-    Ok(earliest_of(action.assigns.as_slice(), |assign| {
-        let width = width_of(names, &assign.dest);
-        earliest_operand(&assign.expr, |leaf| differs(names, &own, width, leaf))
-    }))
+/// An operand of another width than the assigned field.
+struct OtherWidth;
+
+impl<'a, N: Lookup> Flaw<InAction<'a, N>, AssignText> for OtherWidth {
+    ghost places = { λ c x. flat_map (rules.differs (N.text c.0.now) c.1 (width_of (N.text c.0.now) (named (N.text c.0.now) x.dest))) (operands x.expr) };
+
+    fn at(shared: &InAction<'a, N>, assign: &AssignText) -> Option<Place> {
+        let (names, action) = shared;
+        let width = width_of(*names, &assign.dest);
+        let left = differs(*names, action, width, &assign.expr.left);
+        match &assign.expr.right {
+            Some((_, right)) => earlier(left, differs(*names, action, width, right)),
+            None => left,
+        }
+    }
+}
+
+impl<N: Lookup> TryFlaw<N, ActionText> for OtherWidth {
+    ghost places = { λ n a. rules.operand_widths (N.text n) a };
+
+    fn at(alloc: Global, names: &N, action: &ActionText) -> Result<Option<Place>, AllocError> {
+        let own = ActionNames::of(alloc, action)?;
+        Ok(earliest_of::<OtherWidth, _, _>(&(names, own), action.assigns.as_slice()))
+    }
 }
 
 /// Where a value, or its mask, does not fit a width.
 fn too_wide_value(width: u128, value: ValueText) -> Option<Place>
     ensures { result ≡ earliest (rules.too_wide_value width value) }
 {
-    earlier(
-        too_wide(width, value.value),
-        place_in(&value.mask, |mask| too_wide(width, *mask)),
-    )
+    let own = too_wide(width, value.value);
+    match value.mask {
+        Some(mask) => earlier(own, too_wide(width, mask)),
+        None => own,
+    }
 }
 
-/// Where a value of a case does not fit the field of the select beside it.
-fn too_wide_case<N: Lookup>(names: &N, header: &HeaderText, case: &CaseText) -> Option<Place>
-    ensures { result ≡ earliest (rules.too_wide_case (N.text names.now) header.now case.now) }
-{
-    earliest_beside(
-        header.select.as_slice(),
-        case.values.as_slice(),
-        |ident, value| too_wide_value(width(names, own_key(names, header, ident)), *value),
-    )
+/// A value that does not fit its field.
+struct TooWide;
+
+impl<'a, N: Lookup> PairFlaw<InHeader<'a, N>, Ident, ValueText> for TooWide {
+    ghost places = { λ c x. rules.too_wide_value (width_of (N.text c.0.now) (selected (N.text c.0.now) c.1.now x.0)) x.1 };
+
+    fn at(shared: &InHeader<'a, N>, ident: &Ident, value: &ValueText) -> Option<Place> {
+        let (names, header) = *shared;
+        too_wide_value(width(names, own_key(names, header, ident)), *value)
+    }
 }
 
-/// Where the number of a node's test does not fit the field.
-fn too_wide_in_node<N: Lookup>(names: &N, node: &NodeText) -> Option<Place>
-    ensures { result ≡ earliest (gate_widths (N.text names.now) node.now) }
-{
-    match &node.what {
-        WhatText::Apply { .. } => None,
-        WhatText::If { field, mask, value } => {
-            let width = width_of(names, field);
-            too_wide_value(
-                width,
-                ValueText {
-                    value: *value,
-                    mask: *mask,
-                },
-            )
+impl<'a, N: Lookup> Flaw<InHeader<'a, N>, CaseText> for TooWide {
+    ghost places = { λ c x. rules.too_wide_case (N.text c.0.now) c.1.now x };
+
+    fn at(shared: &InHeader<'a, N>, case: &CaseText) -> Option<Place> {
+        let (_, header) = *shared;
+        earliest_beside::<TooWide, _, _, _>(
+            shared,
+            header.select.as_slice(),
+            case.values.as_slice(),
+        )
+    }
+}
+
+impl<N: Lookup> Flaw<N, HeaderText> for TooWide {
+    ghost places = { λ n h. rules.case_widths (N.text n) h };
+
+    fn at(names: &N, header: &HeaderText) -> Option<Place> {
+        earliest_of::<TooWide, _, _>(&(names, header), header.cases.as_slice())
+    }
+}
+
+impl<N: Lookup> Flaw<N, NodeText> for TooWide {
+    ghost places = { λ n x. rules.gate_widths (N.text n) x };
+
+    fn at(names: &N, node: &NodeText) -> Option<Place> {
+        match &node.what {
+            WhatText::Apply { .. } => None,
+            WhatText::If { field, mask, value } => {
+                let width = width_of(names, field);
+                too_wide_value(
+                    width,
+                    ValueText {
+                        value: *value,
+                        mask: *mask,
+                    },
+                )
+            }
         }
     }
 }
@@ -112,15 +148,8 @@ pub fn widths_differ<N: Lookup>(alloc: Global, names: &N) -> Result<Option<Place
     ensures { IfOk result (λ p. p ≡ earliest (broken_10 (N.text names.now))) }
 {
     let source = names.source();
-    let actions = try_earliest_of(source.actions.as_slice(), |action| {
-        wrong_in_action(alloc, names, action)
-    })?;
-    let headers = earliest_of(source.headers.as_slice(), |header| {
-        earliest_of(
-            header.cases.as_slice(),
-            |case| too_wide_case(names, header, case),
-        )
-    });
-    let nodes = earliest_with(names, nodes_of(source), too_wide_in_node);
+    let actions = try_earliest_of::<OtherWidth, _, _>(alloc, names, source.actions.as_slice())?;
+    let headers = earliest_of::<TooWide, _, _>(names, source.headers.as_slice());
+    let nodes = earliest_of::<TooWide, _, _>(names, nodes_of(source));
     Ok(earlier(earlier(actions, headers), nodes))
 }

@@ -1,92 +1,80 @@
 //! A search of a list for the earliest place at which one of its items breaks a rule.
 
-ghost use Rattle.std.specs.Prelude.{◌≡◌, ℕ, IfOk, List, Option, zip};
-ghost use Rattle.std.specs.List.{enumerate_from, flat_map};
-ghost use Rattle.std.specs.Option.{option_to_list};
+ghost use Rattle.std.specs.Prelude.{◌≡◌, IfOk, List, zip};
+ghost use Rattle.std.specs.List.{flat_map};
 ghost use Rattle.rmt_check.specs.Parts.{Place as PlaceValue};
 ghost use Rattle.rmt_check.specs.Rules.{earliest};
 
 use crate::rules::places::earlier;
 use rmt_lexer::place::Place;
-use std::alloc::AllocError;
+use std::alloc::{AllocError, Global};
 
-/// The earliest place that is found at one of some items.
-pub fn earliest_of<T, F: Fn(&T) -> Option<Place>>(items: &[T], at: F) -> Option<Place>
-    requires { F.IsAlwaysCallable at }
-    ensures { (broken : T → List PlaceValue) → ((x : _) (p : Option PlaceValue) → F.post at x p → p ≡ earliest (broken x.now)) → result ≡ earliest (flat_map broken items.now) }
+/// What may be wrong with an item of a text, which is looked at with what all items share.
+pub trait Flaw<C, T> {
+    ghost places: { C → T → List PlaceValue };
+
+    /// The earliest place at which it is wrong.
+    fn at(shared: &C, item: &T) -> Option<Place>
+        ensures { result ≡ earliest (places shared.now item.now) };
+}
+
+/// The earliest place of a flaw in some items.
+pub fn earliest_of<F, C, T>(shared: &C, items: &[T]) -> Option<Place>
+where
+    F: Flaw<C, T>,
+    ensures { result ≡ earliest (flat_map (F.places shared.now) items.now) }
 {
     let mut first = None;
     for item in items {
-        first = earlier(first, at(item));
+        first = earlier(first, F::at(shared, item));
     }
     first
 }
 
-/// The same, where all are looked at with one more thing.
-pub fn earliest_with<C, T, F: Fn(&C, &T) -> Option<Place>>(
+/// A flaw that is found by means of memory.
+pub trait TryFlaw<C, T> {
+    ghost places: { C → T → List PlaceValue };
+
+    /// The earliest place at which an item is wrong.
+    fn at(alloc: Global, shared: &C, item: &T) -> Result<Option<Place>, AllocError>
+        ensures { IfOk result (λ p. p ≡ earliest (places shared.now item.now)) };
+}
+
+/// The earliest place of such a flaw in some items.
+pub fn try_earliest_of<F, C, T>(
+    alloc: Global,
     shared: &C,
     items: &[T],
-    at: F,
-) -> Option<Place>
-    requires { F.IsAlwaysCallable at }
-    ensures { (broken : T → List PlaceValue) → ((c : _) (x : _) (p : Option PlaceValue) → c.now ≡ shared.now → F.post at c x p → p ≡ earliest (broken x.now)) → result ≡ earliest (flat_map broken items.now) }
-{
-    let mut first = None;
-    for item in items {
-        first = earlier(first, at(shared, item));
-    }
-    first
-}
-
-/// The earliest place that is found at one of some items, where looking at one needs memory.
-pub fn try_earliest_of<T, F>(items: &[T], at: F) -> Result<Option<Place>, AllocError>
+) -> Result<Option<Place>, AllocError>
 where
-    F: Fn(&T) -> Result<Option<Place>, AllocError>,
-    requires { F.IsAlwaysCallable at }
-    ensures { (broken : T → List PlaceValue) → ((x : _) (r : _) → F.post at x r → IfOk r (λ p. p ≡ earliest (broken x.now))) → IfOk result (λ p. p ≡ earliest (flat_map broken items.now)) }
+    F: TryFlaw<C, T>,
+    ensures { IfOk result (λ p. p ≡ earliest (flat_map (F.places shared.now) items.now)) }
 {
     let mut first = None;
     for item in items {
-        first = earlier(first, at(item)?);
+        first = earlier(first, F::at(alloc, shared, item)?);
     }
     Ok(first)
 }
 
-/// The place that is found at an item, if there is one.
-pub fn place_in<T, F: FnOnce(&T) -> Option<Place>>(item: &Option<T>, at: F) -> Option<Place>
-    requires { F.IsAlwaysCallable at }
-    ensures { (broken : T → List PlaceValue) → ((x : _) (p : Option PlaceValue) → F.post at x p → p ≡ earliest (broken x.now)) → result ≡ earliest (flat_map broken (option_to_list item.now)) }
-{
-    match item {
-        Some(item) => at(item),
-        None => None,
-    }
+/// A flaw of an item with the one that stands beside it in another list.
+pub trait PairFlaw<C, T, U> {
+    ghost places: { C → T × U → List PlaceValue };
+
+    /// The earliest place at which the two are wrong.
+    fn at(shared: &C, item: &T, other: &U) -> Option<Place>
+        ensures { result ≡ earliest (places shared.now (item.now, other.now)) };
 }
 
-/// The same, where an item is looked at with its number, from 0 on.
-pub fn earliest_numbered<T, F: Fn(usize, &T) -> Option<Place>>(items: &[T], at: F) -> Option<Place>
-    requires { F.IsAlwaysCallable at }
-    ensures { (broken : ℕ × T → List PlaceValue) → ((n : ℕ) (x : _) (p : Option PlaceValue) → F.post at n x p → p ≡ earliest (broken (n, x.now))) → result ≡ earliest (flat_map broken (enumerate_from 0 items.now)) }
-{
-    let mut first = None;
-    for (number, item) in items.iter().enumerate() {
-        first = earlier(first, at(number, item));
-    }
-    first
-}
-
-/// The same, where an item is looked at with the one that stands beside it in another list.
-pub fn earliest_beside<T, U, F: Fn(&T, &U) -> Option<Place>>(
-    items: &[T],
-    others: &[U],
-    at: F,
-) -> Option<Place>
-    requires { F.IsAlwaysCallable at }
-    ensures { (broken : T × U → List PlaceValue) → ((x : _) (y : _) (p : Option PlaceValue) → F.post at x y p → p ≡ earliest (broken (x.now, y.now))) → result ≡ earliest (flat_map broken (zip items.now others.now)) }
+/// The earliest place of such a flaw in two lists, as far as both go.
+pub fn earliest_beside<F, C, T, U>(shared: &C, items: &[T], others: &[U]) -> Option<Place>
+where
+    F: PairFlaw<C, T, U>,
+    ensures { result ≡ earliest (flat_map (F.places shared.now) (zip items.now others.now)) }
 {
     let mut first = None;
     for number in 0..items.len().min(others.len()) {
-        first = earlier(first, at(&items[number], &others[number]));
+        first = earlier(first, F::at(shared, &items[number], &others[number]));
     }
     first
 }

@@ -1,40 +1,66 @@
 //! Code 6: names that are not declared where they are used.
 
 ghost use Rattle.std.specs.Prelude.{◌≡◌, ◌∷◌, [], not, IfOk};
-ghost use Rattle.std.specs.List.{flat_map};
+ghost use Rattle.rmt_ast.specs.NameList.{is_known};
 ghost use Rattle.rmt_check.specs.Names.{is_field, selected};
 ghost use Rattle.rmt_check.specs.Rules as rules;
-ghost use Rattle.rmt_check.specs.Rules.{broken_6, earliest, unknown, unknown_targets, when};
+ghost use Rattle.rmt_check.specs.Rules.{broken_6, earliest, unknown, when};
 ghost use Rattle.rmt_check.specs.Standing.{named_at};
 
 use crate::names::fields::FieldKey;
-use crate::names::lookup::{Lookup, key, own_key};
-use crate::names::params::ActionNames;
-use crate::rules::parts::{
-    arm_names, earliest_operand, key_fields, listed, nodes_of, target_names,
-};
+use crate::names::lookup::{InHeader, Lookup, key, own_key};
+use crate::names::params::{ActionNames, InAction};
+use crate::rules::parts::{arm_names, key_fields, listed, nodes_of, target_names};
 use crate::rules::places::{earlier, place_when};
-use crate::rules::search::{earliest_of, earliest_with, place_in, try_earliest_of};
+use crate::rules::search::{Flaw, TryFlaw, earliest_of, try_earliest_of};
 use crate::source::{
-    ActionText, ArmText, AssignText, FieldText, HeaderText, Ident, LeafText, NodeText, OwnerText,
-    TableText, WhatText,
+    ActionText, ArmText, AssignText, CaseText, FieldText, HeaderText, Ident, LeafText, NodeText,
+    OwnerText, TableText, WhatText,
 };
 use rmt_ast::name_list::NameList;
 use rmt_lexer::place::Place;
 use std::alloc::{AllocError, Global};
+use std::slice;
 
-/// Where a name is not among these.
-fn unknown_one(names: &NameList<'_>, ident: &Ident) -> Option<Place>
-    ensures { result ≡ earliest (unknown names.now (ident.now ∷ [])) }
-{
-    place_when(!names.knows(ident.name.as_slice()), ident.place)
+/// A name that is not among some.
+struct Unknown;
+
+impl<'a> Flaw<NameList<'a>, Ident> for Unknown {
+    ghost places = { λ names i. when (not (is_known names i.name)) i.place };
+
+    fn at(names: &NameList<'a>, ident: &Ident) -> Option<Place> {
+        place_when(!names.knows(ident.name.as_slice()), ident.place)
+    }
 }
 
 /// The earliest place of a name that is not among these.
 fn unknown_among(names: &NameList<'_>, idents: &[Ident]) -> Option<Place>
     ensures { result ≡ earliest (unknown names.now idents.now) }
 {
-    earliest_with(names, idents, unknown_one)
+    earliest_of::<Unknown, _, _>(names, idents)
+}
+
+/// Where a name is not among these.
+fn unknown_one(names: &NameList<'_>, ident: &Ident) -> Option<Place>
+    ensures { result ≡ earliest (unknown names.now (ident.now ∷ [])) }
+{
+    unknown_among(names, slice::from_ref(ident))
+}
+
+impl<'a> Flaw<NameList<'a>, CaseText> for Unknown {
+    ghost places = { λ names c. unknown names (rules.target_names c.target) };
+
+    fn at(names: &NameList<'a>, case: &CaseText) -> Option<Place> {
+        unknown_among(names, target_names(&case.target))
+    }
+}
+
+impl<'a> Flaw<NameList<'a>, ArmText> for Unknown {
+    ghost places = { λ names a. unknown names (rules.arm_names a) };
+
+    fn at(names: &NameList<'a>, arm: &ArmText) -> Option<Place> {
+        unknown_among(names, arm_names(arm))
+    }
 }
 
 /// Where a field's header is not declared.
@@ -65,35 +91,55 @@ fn unknown_field<N: Lookup>(names: &N, field: &FieldText) -> Option<Place>
     )
 }
 
-/// Where a header goes on to no header.
-fn unknown_in_targets<N: Lookup>(names: &N, header: &HeaderText) -> Option<Place>
-    ensures { result ≡ earliest (unknown_targets (N.text names.now) header.now) }
-{
-    let headers = names.headers();
-    let cases = earliest_of(header.cases.as_slice(), |case| {
-        unknown_among(headers, target_names(&case.target))
-    });
-    earlier(cases, unknown_among(headers, target_names(&header.other)))
+/// A field that is not declared, or whose header is not.
+struct UnknownField;
+
+impl<N: Lookup> Flaw<N, FieldText> for UnknownField {
+    ghost places = { λ n f. rules.unknown_field (N.text n) f };
+
+    fn at(names: &N, field: &FieldText) -> Option<Place> {
+        unknown_field(names, field)
+    }
 }
 
-/// Where a name is no field of the header.
-fn unknown_own_field<N: Lookup>(names: &N, header: &HeaderText, ident: &Ident) -> Option<Place>
-    ensures { result ≡ earliest (when (not (is_field (N.text names.now) (selected (N.text names.now) header.now ident.now))) ident.now.place) }
-{
-    unknown_key(names, own_key(names, header, ident), ident.place)
+/// A target that is no header.
+struct UnknownTarget;
+
+impl<N: Lookup> Flaw<N, HeaderText> for UnknownTarget {
+    ghost places = { λ n h. rules.unknown_targets (N.text n) h };
+
+    fn at(names: &N, header: &HeaderText) -> Option<Place> {
+        let headers = names.headers();
+        earlier(
+            earliest_of::<Unknown, _, _>(headers, header.cases.as_slice()),
+            unknown_among(headers, target_names(&header.other)),
+        )
+    }
 }
 
-/// Where a select or a tail names no field of its header.
-fn unknown_own<N: Lookup>(names: &N, header: &HeaderText) -> Option<Place>
-    ensures { result ≡ earliest (rules.unknown_own (N.text names.now) header.now) }
-{
-    let select = earliest_of(header.select.as_slice(), |ident| {
-        unknown_own_field(names, header, ident)
-    });
-    let tail = place_in(&header.tail, |tail| {
-        unknown_own_field(names, header, &tail.field)
-    });
-    earlier(select, tail)
+/// A name of a select or a tail that is no field of the header.
+struct UnknownOwn;
+
+impl<'a, N: Lookup> Flaw<InHeader<'a, N>, Ident> for UnknownOwn {
+    ghost places = { λ c i. when (not (is_field (N.text c.0.now) (selected (N.text c.0.now) c.1.now i))) i.place };
+
+    fn at(shared: &InHeader<'a, N>, ident: &Ident) -> Option<Place> {
+        let (names, header) = *shared;
+        unknown_key(names, own_key(names, header, ident), ident.place)
+    }
+}
+
+impl<N: Lookup> Flaw<N, HeaderText> for UnknownOwn {
+    ghost places = { λ n h. rules.unknown_own (N.text n) h };
+
+    fn at(names: &N, header: &HeaderText) -> Option<Place> {
+        let shared = (names, header);
+        let select = earliest_of::<UnknownOwn, _, _>(&shared, header.select.as_slice());
+        match &header.tail {
+            Some(tail) => earlier(select, UnknownOwn::at(&shared, &tail.field)),
+            None => select,
+        }
+    }
 }
 
 /// Where an operand is not declared.
@@ -107,60 +153,66 @@ fn unknown_leaf<N: Lookup>(names: &N, action: &ActionNames<'_>, leaf: &LeafText)
     }
 }
 
-fn unknown_in_assign<N: Lookup>(
-    names: &N,
-    action: &ActionNames<'_>,
-    assign: &AssignText,
-) -> Option<Place>
-    ensures { result ≡ earliest (rules.unknown_assign (N.text names.now) action.now assign.now) }
-{
-    let operand = earliest_operand(&assign.expr, |leaf| unknown_leaf(names, action, leaf));
-    earlier(unknown_field(names, &assign.dest), operand)
-}
+/// A name of an assignment that is not declared.
+struct UnknownInAssign;
 
-fn unknown_in_action<N: Lookup>(
-    alloc: Global,
-    names: &N,
-    action: &ActionText,
-) -> Result<Option<Place>, AllocError>
-    ensures { IfOk result (λ p. p ≡ earliest (rules.unknown_in_action (N.text names.now) action.now)) }
-{
-    let own = ActionNames::of(alloc, action)?;
-    Ok(earliest_of(action.assigns.as_slice(), |assign| {
-        unknown_in_assign(names, &own, assign)
-    }))
-}
+impl<'a, N: Lookup> Flaw<InAction<'a, N>, AssignText> for UnknownInAssign {
+    ghost places = { λ c x. rules.unknown_assign (N.text c.0.now) c.1 x };
 
-fn unknown_in_table<N: Lookup>(names: &N, table: &TableText) -> Option<Place>
-    ensures { result ≡ earliest (rules.unknown_in_table (N.text names.now) table.now) }
-{
-    let fields = earliest_with(names, key_fields(table), unknown_field);
-    let actions = unknown_among(names.actions(), listed(table));
-    earlier(
-        earlier(fields, actions),
-        unknown_one(names.actions(), &table.default),
-    )
-}
-
-/// Where an arm's action is not in the list.
-fn unknown_in_arms(list: &NameList<'_>, arms: &[ArmText]) -> Option<Place>
-    ensures { result ≡ earliest (unknown list.now (flat_map rules.arm_names arms.now)) }
-{
-    earliest_of(arms, |arm| unknown_among(list, arm_names(arm)))
-}
-
-fn unknown_in_node<N: Lookup>(names: &N, node: &NodeText) -> Option<Place>
-    ensures { result ≡ earliest (rules.unknown_at_node (N.text names.now) node.now) }
-{
-    match &node.what {
-        WhatText::Apply { table, arms } => {
-            let list = names.list(table.name.as_slice());
-            earlier(
-                unknown_one(names.tables(), table),
-                unknown_in_arms(list, arms.as_slice()),
-            )
+    fn at(shared: &InAction<'a, N>, assign: &AssignText) -> Option<Place> {
+        let (names, action) = shared;
+        let dest = unknown_field(*names, &assign.dest);
+        let left = unknown_leaf(*names, action, &assign.expr.left);
+        match &assign.expr.right {
+            Some((_, right)) => earlier(dest, earlier(left, unknown_leaf(*names, action, right))),
+            None => earlier(dest, left),
         }
-        WhatText::If { field, .. } => unknown_field(names, field),
+    }
+}
+
+impl<N: Lookup> TryFlaw<N, ActionText> for UnknownInAssign {
+    ghost places = { λ n a. rules.unknown_in_action (N.text n) a };
+
+    fn at(alloc: Global, names: &N, action: &ActionText) -> Result<Option<Place>, AllocError> {
+        let own = ActionNames::of(alloc, action)?;
+        let assigns = action.assigns.as_slice();
+        Ok(earliest_of::<UnknownInAssign, _, _>(&(names, own), assigns))
+    }
+}
+
+/// A name of a table that is not declared.
+struct UnknownInTable;
+
+impl<N: Lookup> Flaw<N, TableText> for UnknownInTable {
+    ghost places = { λ n t. rules.unknown_in_table (N.text n) t };
+
+    fn at(names: &N, table: &TableText) -> Option<Place> {
+        let fields = earliest_of::<UnknownField, _, _>(names, key_fields(table));
+        let actions = unknown_among(names.actions(), listed(table));
+        earlier(
+            earlier(fields, actions),
+            unknown_one(names.actions(), &table.default),
+        )
+    }
+}
+
+/// A name of a node that is not declared.
+struct UnknownInNode;
+
+impl<N: Lookup> Flaw<N, NodeText> for UnknownInNode {
+    ghost places = { λ n x. rules.unknown_at_node (N.text n) x };
+
+    fn at(names: &N, node: &NodeText) -> Option<Place> {
+        match &node.what {
+            WhatText::Apply { table, arms } => {
+                let list = names.list(table.name.as_slice());
+                earlier(
+                    unknown_one(names.tables(), table),
+                    earliest_of::<Unknown, _, _>(list, arms.as_slice()),
+                )
+            }
+            WhatText::If { field, .. } => unknown_field(names, field),
+        }
     }
 }
 
@@ -170,15 +222,12 @@ pub fn unknown_name<N: Lookup>(alloc: Global, names: &N) -> Result<Option<Place>
 {
     let source = names.source();
     let headers = source.headers.as_slice();
-    let own = earliest_with(names, headers, unknown_own);
-    let targets = earliest_with(names, headers, unknown_in_targets);
-    let actions = try_earliest_of(source.actions.as_slice(), |action| {
-        unknown_in_action(alloc, names, action)
-    })?;
-    let tables = earliest_with(names, source.tables.as_slice(), unknown_in_table);
-    let nodes = earliest_with(names, nodes_of(source), unknown_in_node);
-    Ok(earlier(
-        earlier(earlier(earlier(own, targets), actions), tables),
-        nodes,
-    ))
+    let own = earliest_of::<UnknownOwn, _, _>(names, headers);
+    let targets = earliest_of::<UnknownTarget, _, _>(names, headers);
+    let actions = source.actions.as_slice();
+    let actions = try_earliest_of::<UnknownInAssign, _, _>(alloc, names, actions)?;
+    let tables = earliest_of::<UnknownInTable, _, _>(names, source.tables.as_slice());
+    let nodes = earliest_of::<UnknownInNode, _, _>(names, nodes_of(source));
+    let found = earlier(earlier(own, targets), actions);
+    Ok(earlier(earlier(found, tables), nodes))
 }

@@ -1,7 +1,7 @@
 use Rattle.std.proofs.Common.{◌≡◌, ◌-◌, option_map, drop, ap, sym, ◌∙◌, arith}
 use Rattle.rmt_check.specs.Meaning.{told}
 use Rattle.rmt_check.specs.Rules.{broken, least_of}
-use Rattle.rmt_check.proofs.CheckingLaws.{kept_at, broken_there}
+use Rattle.rmt_check.proofs.MeansLaws.{kept_at, broken_there}
 use Rattle.rmt_check.proofs.answer.check_rules.Goals as goal
 
 pub returns-in-Some : goal.returns-in-Some

@@ -1,6 +1,6 @@
-use Rattle.rmt_syntax.proofs.Words.{◌∷◌, arith, phrase, shut, Whole, Node, slice_get-item, goals_of, part}
+use Rattle.rmt_syntax.proofs.Words.{ap, arith, Node, slice_get-item, weight}
 use Rattle.rmt_syntax.proofs.Machine.{room, enter_stands}
-use Rattle.rmt_syntax.proofs.Standing.{arrives, at_part, lowers}
+use Rattle.rmt_syntax.proofs.Standing.{arrives, at_part}
 use Rattle.rmt_syntax.proofs.Choosing.{enter_lowers}
 use Rattle.rmt_syntax.proofs.parser.enter_node.Goals as goal
 
@@ -17,5 +17,4 @@ returns-clause-ok c =
 pub returns-clause-lower : goal.returns-clause-lower
 returns-clause-lower c =
     let p = at_part c.args.reader.now (Node c.args.rule) c.requires.next c.requires.stands in
-    lowers (goals_of c.enter.new.self) (phrase (Whole c.args.rule) ∷ shut c.args.rule ∷ p.0) (goals_of c.args.reader.now) (part (Node c.args.rule) ∷ p.0)
-    (c.in_ok-enter.ensures.goals p.0 p.1) p.1 (enter_lowers c.args.rule p.0)
+    omega (arith, ap weight (c.in_ok-enter.ensures.goals p.0 p.1), ap weight p.1, enter_lowers c.args.rule p.0)

@@ -1,5 +1,6 @@
-use Rattle.rmt_syntax.proofs.Words.{◌≤◌, length, arith}
-use Rattle.rmt_syntax.proofs.Standing.{starts, tree_is, tree_alone, arrives}
+use Rattle.rmt_syntax.proofs.Words.{◌≤◌, length, arith, rules, Ok}
+use Rattle.rmt_syntax.proofs.Deciding.{gives}
+use Rattle.rmt_syntax.proofs.Standing.{starts, tree_is, arrives}
 use Rattle.rmt_syntax.proofs.parser.syntax.Goals as goal
 use Rattle.rmt_syntax.proofs.parser.syntax.Goals.{After-finish}
 
@@ -12,12 +13,11 @@ at_end c = omega (arith, c.len-at-end.ensures, c.loop-at-test.false, c.args.toke
 
 pub returns-clause-answer : goal.returns-clause-answer
 returns-clause-answer c =
-    let r = c.loop-at.reader in
     tree_is c.finish.result (at_end c) c.loop-at.invariant
     (c.finish.ensures (c.loop-at.invariant.ended (at_end c)))
 
 pub returns-clause-only : goal.returns-clause-only
-returns-clause-only c other o =
-    let r = c.loop-at.reader in
-    tree_alone c.finish.result (at_end c) c.loop-at.invariant
-    (c.finish.ensures (c.loop-at.invariant.ended (at_end c))) o
+returns-clause-only c other o = gives c.args.tokens.now.items (Ok c.finish.result) other c.requires (returns-clause-answer c) o
+
+pub returns-in_err-read_token-clause-only : goal.returns-in_err-read_token-clause-only
+returns-in_err-read_token-clause-only c other o = gives c.args.tokens.now.items c.from_residual.result other c.requires (search rules) o

@@ -24,8 +24,7 @@ returns t c =
     let parent = c.len-parent.result in
     let over : drop c.loop-part-2.part-index items ≡ [] = drop_all c.loop-part-2.part-index items c.loop-part-2-test.false in
     let kind = sym c.is_statement.ensures ∙ c.if-not-is_statement.false in
-    let node = c.in_ok-node_text.ensures ∙ ap (node_text under) c.as_slice.ensures in
-    let pushed = c.in_ok-push.ensures.ok ∙ ap (λ (n : NodeText). before ++ n ∷ []) node in
+    let pushed = c.in_ok-push_node.ensures ∙ ap (λ (ts : List Tree). before ++ node_text under ts ∷ []) c.as_slice.ensures in
     sym (ap (λ (ts : List Tree). fold (with_arm parent) c.loop-part-2.nodes (enumerate_from c.loop-part-2.arm (arms ts))) over) ∙ c.loop-part-2.invariant.1
     ∙ ap (λ (ns : List NodeText). fold (with_arm parent) ns (enumerate_from 0 (arms items))) pushed
     ∙ ap (λ n. fold (with_arm n) (before ++ node_text under c.in-Many.parts ∷ []) (enumerate_from 0 (arms items))) c.len-parent.ensures

@@ -5,7 +5,7 @@ use Rattle.rmt_check.proofs.Earliest.{earliest_more_at, earliest_all}
 use Rattle.rmt_check.proofs.rules.search.earliest_beside.Goals as goal
 
 pub loop-number-preserved : goal.loop-number-preserved
-loop-number-preserved g c = λ broken says.
+loop-number-preserved g c =
     let xs = c.args.items.now in
     let ys = c.args.others.now in
     let i = c.loop-number.number in
@@ -13,11 +13,11 @@ loop-number-preserved g c = λ broken says.
     let right : i < length ys = grind arith in
     let within : i < length (zip xs ys) = rw (length-zip xs ys) (grind arith) in
     let at = ap₂ (λ x y. (x, y)) c.index-items-number.is c.index-others-number.is ∙ sym (get_or-zip xs ys i (c.index-items-number.result, c.index-others-number.result) left right) in
-    earliest_more_at broken _ _ _ _ _ _ within at (c.loop-number.invariant broken says) (says _ _ _ c.at.ensures) c.earlier-first.ensures.value
+    earliest_more_at _ _ _ _ _ _ _ within at c.loop-number.invariant c.at.ensures c.earlier-first.ensures.value
 
 pub returns : goal.returns
-returns g c = λ broken says.
+returns g c =
     let xs = c.args.items.now in
     let ys = c.args.others.now in
     let past : length (zip xs ys) ≤ c.loop-number.number = rw (length-zip xs ys) (grind arith) in
-    earliest_all broken _ (zip xs ys) c.loop-number.number past (c.loop-number.invariant broken says)
+    earliest_all _ _ (zip xs ys) c.loop-number.number past c.loop-number.invariant

@@ -1,10 +1,7 @@
-use Rattle.std.proofs.Common.{◌≡◌, List, take}
-use Rattle.std.specs.Prelude.{IfOk}
+use Rattle.std.proofs.Common.{◌≡◌, take}
 use Rattle.std.specs.List.{flat_map}
-use Rattle.rmt_check.specs.Parts.{Place}
 use Rattle.rmt_check.specs.Rules.{earliest}
 use Rattle.rmt_check.proofs.rules.search.try_earliest_of.Given as goal
 
 abbrev pub invariant-loop-item : goal.invariant-loop-item
-invariant-loop-item g l =
-    (broken : _ → List Place) → ((x : _) (r : _) → goal.F-post g l.at x r → IfOk r (λ p. p ≡ earliest (broken x.now))) → l.first ≡ earliest (flat_map broken (take l.item-index l.items))
+invariant-loop-item g l = l.first ≡ earliest (flat_map (g.F.TryFlaw.places l.shared) (take l.item-index l.items))

@@ -1,0 +1,5 @@
+use Rattle.std.proofs.Common.{rules}
+use Rattle.rmt_check.proofs.reading.actions.SignPart.read.Goals as goal
+
+pub returns-in_default-terminal_of : goal.returns-in_default-terminal_of
+returns-in_default-terminal_of c = search rules
