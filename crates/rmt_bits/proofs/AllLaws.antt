@@ -1,7 +1,8 @@
 -- What holds of all items of a list, of its parts, and of an item that is found.
-use Rattle.std.proofs.Common.{◌≡◌, ℕ, zero, suc, ◌+◌, ◌<◌, Bool, true, false, cond, List, [], ◌∷◌, ◌++◌, Option, Some, ap, subst, arith}
-use Rattle.std.specs.Prelude.{All, filter, find, map, slice_get, unwrap_or}
+use Rattle.std.proofs.Common.{◌≡◌, ℕ, zero, suc, ◌+◌, ◌<◌, Bool, true, false, cond, List, [], ◌∷◌, ◌++◌, Option, Some, ap, sym, subst, arith}
+use Rattle.std.specs.Prelude.{All, filter, find, map, reverse, slice_get, unwrap_or}
 use Rattle.std.specs.List.{flat_map, list_all, range_with_len}
+use Rattle.std.proofs.lemmas.List.{reverse-append}
 use Rattle.std.proofs.lemmas.List.Elements.{All-nil, All-cons, All-head, All-tail, All-append, All-weaker}
 use Rattle.std.proofs.lemmas.List.Sums.{AllPass-from_list_all}
 use Rattle.std.proofs.lemmas.Option.{none-some}
@@ -66,3 +67,10 @@ All-unfilter {X} P test (x ∷ xs) h =
     All-cons (λ x. test x ≡ true → P x) x xs
     (λ passes. All-head P x (filter test xs) (let F : Bool → Type 0 = λ b. All P (cond b (x ∷ filter test xs) (filter test xs)) in subst F passes h))
     (All-unfilter P test xs (rest_of P (test x) x (filter test xs) h))
+
+-- of a list from its end
+pub All-reverse : {X : Type 0} (P : X → Type 0) (xs : List X) → All P xs → All P (reverse xs)
+All-reverse P [] h = All-nil P
+All-reverse P (x ∷ xs) h =
+    subst (All P) (sym (reverse-append (x ∷ []) xs))
+    (All-append P (reverse xs) (x ∷ []) (All-reverse P xs (All-tail P x xs h)) (All-cons P x [] (All-head P x xs h) (All-nil P)))

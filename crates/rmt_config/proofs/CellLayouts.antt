@@ -80,14 +80,16 @@ records-are n some most =
       fits = omega (arith, fit);
     }
 
-pub exact_records-is : (p d n : ℕ) → 0 < p → p < 65536 → 0 < d → d ≤ 106 → 0 < n → n < 65536 → IsLayout (exact_records p d n)
-exact_records-is p d n lp hp ld hd ln hn =
+-- records of n bits of t times 1,024 cells a quantum, in as many ways as these cells make
+records-is : (t way ways d n : ℕ) → ways * way ≡ 1024 * t → 0 < t → t < 2 ^ 18 → 0 < way → way < 2 ^ 26 → ways ≤ 4 → 0 < d → d ≤ 106 → 0 < n → n < 65544
+    → IsLayout (record { bits = 112; rows = 1024; side = record_width n; entry = n; per = records_a_row n; units = record_units t n; way = way; ways = ways; quanta = d })
+records-is t way ways d n cells lt ht lw hw hs ld hd ln hn =
     let r = records-are n ln (omega (arith, hn)) in
     let q = records_a_row n in
-    let units_some : 0 < record_units (4 * p) n = up-some (4 * p) q r.some_row (omega (arith, lp)) in
-    let units_most : record_units (4 * p) n ≤ 4 * p = up-most (4 * p) q r.some_row in
-    let units_enough : 4 * p ≤ record_units (4 * p) n * q = up-enough (4 * p) q r.some_row in
-    let spread : record_units (4 * p) n * (1024 * q) ≡ 1024 * (record_units (4 * p) n * q) = omega arith in
+    let units_some : 0 < record_units t n = up-some t q r.some_row lt in
+    let units_most : record_units t n ≤ t = up-most t q r.some_row in
+    let units_enough : t ≤ record_units t n * q = up-enough t q r.some_row in
+    let spread : record_units t n * (1024 * q) ≡ 1024 * (record_units t n * q) = omega arith in
     record {
       some_bits = omega arith;
       some_rows = omega arith;
@@ -95,20 +97,24 @@ exact_records-is p d n lp hp ld hd ln hn =
       some_entry = ln;
       some_per = r.some_row;
       some_units = units_some;
-      some_way = omega (arith, lp);
+      some_way = lw;
       some_quanta = ld;
       fits = r.fits;
-      enough = omega (arith, units_enough, spread);
+      enough = omega (arith, cells, units_enough, spread);
       most_bits = omega arith;
       most_rows = omega arith;
       most_side = r.most_width;
       most_entry = omega (arith, hn);
       most_per = r.most_row;
-      most_units = omega (arith, units_most, hp);
-      most_way = omega (arith, hp);
-      most_ways = omega arith;
+      most_units = omega (arith, units_most, ht);
+      most_way = hw;
+      most_ways = hs;
       most_quanta = hd;
     }
+
+pub exact_records-is : (p d n : ℕ) → 0 < p → p < 65536 → 0 < d → d ≤ 106 → 0 < n → n < 65536 → IsLayout (exact_records p d n)
+exact_records-is p d n lp hp ld hd ln hn =
+    records-is (4 * p) (1024 * p) 4 d n (omega arith) (omega (arith, lp)) (omega (arith, hp)) (omega (arith, lp)) (omega (arith, hp)) (omega arith) ld hd ln (omega (arith, hn))
 
 pub ternary_keys-is : (d bits : ℕ) → 0 < d → d ≤ 106 → 0 < bits → bits ≤ 640 → IsLayout (ternary_keys d bits)
 ternary_keys-is d bits ld hd lb hb =
@@ -138,34 +144,7 @@ ternary_keys-is d bits ld hd lb hb =
     }
 
 pub ternary_records-is : (d n : ℕ) → 0 < d → d ≤ 106 → 0 < n → n < 65544 → IsLayout (ternary_records d n)
-ternary_records-is d n ld hd ln hn =
-    let r = records-are n ln (omega (arith, hn)) in
-    let q = records_a_row n in
-    let units_some : 0 < record_units 2 n = up-some 2 q r.some_row (omega arith) in
-    let units_most : record_units 2 n ≤ 2 = up-most 2 q r.some_row in
-    let units_enough : 2 ≤ record_units 2 n * q = up-enough 2 q r.some_row in
-    let spread : record_units 2 n * (1024 * q) ≡ 1024 * (record_units 2 n * q) = omega arith in
-    record {
-      some_bits = omega arith;
-      some_rows = omega arith;
-      some_side = r.some_width;
-      some_entry = ln;
-      some_per = r.some_row;
-      some_units = units_some;
-      some_way = omega arith;
-      some_quanta = ld;
-      fits = r.fits;
-      enough = omega (arith, units_enough, spread);
-      most_bits = omega arith;
-      most_rows = omega arith;
-      most_side = r.most_width;
-      most_entry = omega (arith, hn);
-      most_per = r.most_row;
-      most_units = omega (arith, units_most);
-      most_way = omega arith;
-      most_ways = omega arith;
-      most_quanta = hd;
-    }
+ternary_records-is d n ld hd ln hn = records-is 2 2048 1 d n (omega arith) (omega arith) (omega arith) (omega arith) (omega arith) (omega arith) ld hd ln hn
 
 -- ---- the cells of an exact part
 

@@ -1,11 +1,12 @@
 -- What the chip counts in a whole run: each hit of each packet, since every hit is counted before its packet leaves.
-use Rattle.std.proofs.Common.{◌≡◌, ℕ, zero, suc, ◌+◌, ◌<◌, ◌≤◌, Bool, true, false, cond, List, [], ◌∷◌, ◌++◌, length, Option, Some, None, refl, sym, ap, subst, arith}
-use Rattle.std.specs.Prelude.{map, replicate, reverse, fold, All, slice_index}
+use Rattle.std.proofs.Common.{◌≡◌, ℕ, zero, suc, ◌+◌, ◌<◌, ◌≤◌, Bool, true, false, cond, List, [], ◌∷◌, ◌++◌, length, Option, Some, None, refl, ap, subst, arith}
+use Rattle.std.specs.Prelude.{map, replicate, fold, All, slice_index}
 use Rattle.std.specs.List.{flat_map}
 use Rattle.std.specs.List.Sorted.{IsStrictlyIncreasing}
-use Rattle.std.proofs.lemmas.List.{length-append, length-map, length-replicate, reverse-append}
+use Rattle.std.proofs.lemmas.List.{length-append, length-map, length-replicate}
 use Rattle.std.proofs.lemmas.List.Elements.{All-nil, All-cons, All-head, All-tail, All-append, All-weaker}
 use Rattle.std.proofs.lemmas.Bool.{lt-ltb}
+use Rattle.rmt_bits.proofs.AllLaws.{All-reverse}
 use Rattle.rmt_bits.specs.Packet.{Packet}
 use Rattle.rmt_bits.specs.Counts.{Hit, counts}
 use Rattle.rmt_config.specs.Types.{Config, Stage, Unit, SlotUnit}
@@ -22,12 +23,6 @@ AreBelow age counted = All (λ (x : Counted). x.age < age) counted
 either : {A : Type 0} (P : A → Type 0) (b : Bool) (x y : A) → P x → P y → P (cond b x y)
 either P true x y p q = p
 either P false x y p q = q
-
-All-reverse : {X : Type 0} (P : X → Type 0) (xs : List X) → All P xs → All P (reverse xs)
-All-reverse P [] h = All-nil P
-All-reverse P (x ∷ xs) h =
-    subst (All P) (sym (reverse-append (x ∷ []) xs))
-    (All-append P (reverse xs) (x ∷ []) (All-reverse P xs (All-tail P x xs h)) (All-cons P x [] (All-head P x xs h) (All-nil P)))
 
 module _ (age : ℕ) (stage : Stage) (early : stage.start + 8 < age) where
   slot_below : (slot : SlotUnit) (o : Option Found) (a : Acts) → AreBelow age a.counted → AreBelow age (slot_acts stage slot o a).counted

@@ -6,7 +6,6 @@ pub mod ExamplesSpelling
 pub mod ExamplesForm
 pub mod ExamplesTables
 pub mod ExamplesLimits
-pub mod ParseLaws
 pub mod RunLaws
 pub mod CountLaws
 pub mod CodeLaws

@@ -1,11 +1,10 @@
--- A configuration is within the limits exactly where each sum is at most its number.
-use Rattle.std.proofs.Common.{◌≡◌, ℕ, ◌+◌, ◌≤◌, List, [], ◌∷◌, length, Bool, true, false, Option, Some, None, refl, arith, inl, inr}
-use Rattle.std.specs.Prelude.{if◌then◌else◌}
+-- Where a configuration is within the limits, each sum is at most its number.
+use Rattle.std.proofs.Common.{◌≡◌, ℕ, ◌+◌, ◌≤◌, List, [], ◌∷◌, length, Option, Some, None, refl, inl, inr}
 use Rattle.std.specs.List.{flat_map, count_by, sum_by, AllByRecursion}
 use Rattle.std.proofs.lemmas.Bool.{cases_lt, lt-ltb, le-ltb}
 use Rattle.rmt_config.specs.declared.limits.LimitHit.{LimitHit}
 use Rattle.rmt_config.specs.Types.{Config, ParserState, ParserEntry, Stage}
-use Rattle.rmt_config.specs.Resources.{is_in, distinct, is_slot, is_gate, unit_instructions, unit_data, unit_sram, unit_tcam, unit_width, greatest_by, most_listed_in, exact_words, ternary_words, crossbar_bits, node_count}
+use Rattle.rmt_config.specs.Resources.{is_slot, is_gate, unit_instructions, unit_data, unit_sram, unit_tcam, unit_width, greatest_by, most_listed_in, exact_words, ternary_words, crossbar_bits, node_count}
 use Rattle.rmt_config.specs.Limits.{over, or_hit, first_passed, first_hit, stage_hit, stages_hit, entries_hit, states_hit, lookups_hit, entry_hit, sram_hit, tcam_hit, exact_words_hit, ternary_words_hit, slots_hit, code_hit, data_hit, gates_hit, width_hit, listed_hit, nodes_hit, crowded_stage, last_start_hit, parser_limit_hit, reading_limit_hit, unit_limit_hit, stage_limit_hit, IsWithinLimits}
 
 -- ---- single hits
@@ -36,17 +35,9 @@ pub each_none : (hits : List (Option LimitHit)) → first_passed hits ≡ None �
 each_none [] e = tt
 each_none (hit ∷ hits) e = let n = neither hit (first_passed hits) e in (n.0, each_none hits n.1)
 
-pub none_passed : (hits : List (Option LimitHit)) → AllByRecursion (λ hit. hit ≡ None) hits → first_passed hits ≡ None
-none_passed [] all = refl
-none_passed (hit ∷ hits) all = none_of hit (first_passed hits) all.0 (none_passed hits all.1)
-
 pub each_item : {A : Type 0} (item : A → Option LimitHit) (P : A → Type 0) → ((x : A) → item x ≡ None → P x) → (xs : List A) → first_hit item xs ≡ None → AllByRecursion P xs
 each_item item P gives [] e = tt
 each_item item P gives (x ∷ xs) e = let n = neither (item x) (first_hit item xs) e in (gives x n.0, each_item item P gives xs n.1)
-
-pub no_item : {A : Type 0} (item : A → Option LimitHit) (P : A → Type 0) → ((x : A) → P x → item x ≡ None) → (xs : List A) → AllByRecursion P xs → first_hit item xs ≡ None
-no_item item P gives [] all = refl
-no_item item P gives (x ∷ xs) all = none_of (item x) (first_hit item xs) (gives x all.0) (no_item item P gives xs all.1)
 
 -- each stage's sum is within its limit
 pub each_stage : (measure : Stage → ℕ) (most limit k : ℕ) (stages : List Stage) → stage_hit (λ n stage. over most limit n (measure stage)) k stages ≡ None
@@ -55,24 +46,6 @@ each_stage measure most limit k [] e = tt
 each_stage measure most limit k (stage ∷ stages) e =
     let n = neither (over most limit k (measure stage)) (stage_hit (λ n stage. over most limit n (measure stage)) (k + 1) stages) e in
     (within most limit k (measure stage) n.0, each_stage measure most limit (k + 1) stages n.1)
-
-pub no_stage : (measure : Stage → ℕ) (most limit k : ℕ) (stages : List Stage) → AllByRecursion (λ stage. measure stage ≤ most) stages
-    → stage_hit (λ n stage. over most limit n (measure stage)) k stages ≡ None
-no_stage measure most limit k [] all = refl
-no_stage measure most limit k (stage ∷ stages) all =
-    none_of (over most limit k (measure stage)) (stage_hit (λ n stage. over most limit n (measure stage)) (k + 1) stages)
-    (no_hit most limit k (measure stage) all.0) (no_stage measure most limit (k + 1) stages all.1)
-
--- ---- nodes
-
--- there are at most as many distinct numbers as numbers
-pub distinct_le : (ns : List ℕ) → length (distinct ns) ≤ length ns
-distinct_le [] = omega arith
-distinct_le (n ∷ ns) = by_cases (is_in ns n) (distinct_le ns)
-  where
-    by_cases : (stands : Bool) → length (distinct ns) ≤ length ns → length (if stands then distinct ns else n ∷ distinct ns) ≤ length (n ∷ ns)
-    by_cases true le = omega (arith, le)
-    by_cases false le = omega (arith, le)
 
 -- ---- all limits
 
@@ -101,9 +74,6 @@ entry_within e h =
     let n = neither (over 128 5 0 e.need) (over 64 5 0 (length e.extracts)) h in
     (within 128 5 0 e.need n.0, within 64 5 0 (length e.extracts) n.1)
 
-entry_no_hit : (e : ParserEntry) → (e.need ≤ 128) × (length e.extracts ≤ 64) → entry_hit e ≡ None
-entry_no_hit e fits = none_of (over 128 5 0 e.need) (over 64 5 0 (length e.extracts)) (no_hit 128 5 0 e.need fits.0) (no_hit 64 5 0 (length e.extracts) fits.1)
-
 pub limits_kept : (c : Config) → IsWithinLimits c → KeepsLimits c
 limits_kept c e =
     let all = each_none (stages_hit c ∷ parser_limit_hit c.parser ∷ stage_limit_hit c.stages ∷ []) e in
@@ -130,14 +100,3 @@ limits_kept c e =
       last_start = above.1.1.1.1.0;
       listed = each_stage (λ (s : Stage). most_listed_in s.units) 1 17 0 c.stages above.1.1.1.1.1.0;
     }
-
-pub limits_keep : (c : Config) → KeepsLimits c → IsWithinLimits c
-limits_keep c all =
-    let reading : reading_limit_hit c.stages ≡ None = none_passed (stage_hit sram_hit 0 c.stages ∷ stage_hit tcam_hit 0 c.stages ∷ stage_hit exact_words_hit 0 c.stages ∷ stage_hit ternary_words_hit 0 c.stages ∷ []) (no_stage (λ (s : Stage). length (flat_map unit_sram s.units)) 106 6 0 c.stages all.sram, (no_stage (λ (s : Stage). length (flat_map unit_tcam s.units)) 16 7 0 c.stages all.tcam, (no_stage (λ (s : Stage). crossbar_bits exact_words s.units) 640 8 0 c.stages all.exact, (no_stage (λ (s : Stage). crossbar_bits ternary_words s.units) 640 9 0 c.stages all.ternary, tt)))) in
-    let units : unit_limit_hit c.stages ≡ None = none_passed (stage_hit slots_hit 0 c.stages ∷ stage_hit code_hit 0 c.stages ∷ stage_hit data_hit 0 c.stages ∷ stage_hit gates_hit 0 c.stages ∷ []) (no_stage (λ (s : Stage). count_by is_slot s.units) 16 10 0 c.stages all.slots, (no_stage (λ (s : Stage). sum_by unit_instructions s.units) 32 11 0 c.stages all.code, (no_stage (λ (s : Stage). sum_by unit_data s.units) 1280 12 0 c.stages all.held, (no_stage (λ (s : Stage). count_by is_gate s.units) 16 13 0 c.stages all.gates, tt)))) in
-    let nodes : nodes_hit c.stages ≡ None = no_hit 128 14 (crowded_stage c.stages) (node_count c.stages) all.nodes in
-    let above : stage_limit_hit c.stages ≡ None = none_passed (reading_limit_hit c.stages ∷ unit_limit_hit c.stages ∷ nodes_hit c.stages ∷ stage_hit width_hit 0 c.stages ∷ last_start_hit c.stages ∷ stage_hit listed_hit 0 c.stages ∷ []) (reading, (units, (nodes, (no_stage (λ (s : Stage). greatest_by unit_width s.units) 8 15 0 c.stages all.width, (all.last_start, (no_stage (λ (s : Stage). most_listed_in s.units) 1 17 0 c.stages all.listed, tt)))))) in
-    let lookups : first_hit lookups_hit c.parser.states ≡ None = no_item lookups_hit (λ (s : ParserState). length s.lookups ≤ 4) (λ s fits. no_hit 4 4 0 (length s.lookups) fits) c.parser.states all.lookups in
-    let entries : first_hit entry_hit c.parser.entries ≡ None = no_item entry_hit (λ (x : ParserEntry). (x.need ≤ 128) × (length x.extracts ≤ 64)) entry_no_hit c.parser.entries all.each_entry in
-    let parser : parser_limit_hit c.parser ≡ None = none_passed (entries_hit c.parser ∷ states_hit c.parser ∷ first_hit lookups_hit c.parser.states ∷ first_hit entry_hit c.parser.entries ∷ []) (no_hit 256 3 0 (length c.parser.entries) all.entries, (no_hit 256 3 0 (length c.parser.states) all.states, (lookups, (entries, tt)))) in
-    none_passed (stages_hit c ∷ parser_limit_hit c.parser ∷ stage_limit_hit c.stages ∷ []) (no_hit 32 1 0 (length c.stages) all.stages, (parser, (above, tt)))

@@ -3,31 +3,20 @@ use Rattle.std.proofs.Common.{◌≡◌, ℕ, ◌*◌, ◌/◌, ◌%◌, List, l
 use Rattle.std.specs.Prelude.{◌↔◌, IsTrue}
 use Rattle.std.proofs.lemmas.Bool.{false≢true}
 use Rattle.rmt_config.specs.declared.form.layout.Layout.{Layout}
-use Rattle.rmt_config.specs.Types.{Stage, SramRow, TcamRow, SlotUnit, CellNumber}
-use Rattle.rmt_config.specs.StageForm.{srow_number, trow_number}
+use Rattle.rmt_config.specs.Types.{Stage, SramRow, SlotUnit, CellNumber}
 use Rattle.rmt_config.specs.Shapes.{record_width, record_units}
 use Rattle.rmt_config.specs.Cells.{sram_row}
 use Rattle.rmt_config.specs.Layouts.{BlocksTold, listed_cells, cells_hold, exact_records, SramTold}
 
-abbrev pub SramAnswer : Bool → Layout → List SramRow → List CellNumber → List ℕ → Type 0
-SramAnswer b l rows numbers blocks =
-    IsTrue b ↔ BlocksTold l (λ r. srow_number r / l.rows) (λ r. srow_number r % l.rows) (λ (r : SramRow). r.bits) (listed_cells numbers) rows blocks
+abbrev pub RowsAnswer : {X : Type 0} → (X → ℕ) → (X → ℕ) → Bool → Layout → List X → List CellNumber → List ℕ → Type 0
+RowsAnswer num bits b l rows numbers blocks =
+    IsTrue b ↔ BlocksTold l (λ r. num r / l.rows) (λ r. num r % l.rows) bits (listed_cells numbers) rows blocks
 
-pub sram-same : (b : Bool) (l l' : Layout) (rows rows' : List SramRow) (numbers numbers' : List CellNumber) (blocks : List ℕ) → l' ≡ l → rows' ≡ rows → numbers' ≡ numbers
-    → SramAnswer b l' rows' numbers' blocks → SramAnswer b l rows numbers blocks
-sram-same b l l' rows rows' numbers numbers' blocks el er en h =
-    subst (λ x. SramAnswer b x rows numbers blocks) el
-    (subst (λ x. SramAnswer b l' x numbers blocks) er (subst (λ x. SramAnswer b l' rows' x blocks) en h))
-
-abbrev pub TcamAnswer : Bool → Layout → List TcamRow → List CellNumber → List ℕ → Type 0
-TcamAnswer b l rows numbers blocks =
-    IsTrue b ↔ BlocksTold l (λ r. trow_number r / l.rows) (λ r. trow_number r % l.rows) (λ (r : TcamRow). r.mask) (listed_cells numbers) rows blocks
-
-pub tcam-same : (b : Bool) (l l' : Layout) (rows rows' : List TcamRow) (numbers numbers' : List CellNumber) (blocks : List ℕ) → l' ≡ l → rows' ≡ rows → numbers' ≡ numbers
-    → TcamAnswer b l' rows' numbers' blocks → TcamAnswer b l rows numbers blocks
-tcam-same b l l' rows rows' numbers numbers' blocks el er en h =
-    subst (λ x. TcamAnswer b x rows numbers blocks) el
-    (subst (λ x. TcamAnswer b l' x numbers blocks) er (subst (λ x. TcamAnswer b l' rows' x blocks) en h))
+pub rows-same : {X : Type 0} (num bits : X → ℕ) (b : Bool) (l l' : Layout) (rows rows' : List X) (numbers numbers' : List CellNumber) (blocks : List ℕ) → l' ≡ l → rows' ≡ rows → numbers' ≡ numbers
+    → RowsAnswer num bits b l' rows' numbers' blocks → RowsAnswer num bits b l rows numbers blocks
+rows-same num bits b l l' rows rows' numbers numbers' blocks el er en h =
+    subst (λ x. RowsAnswer num bits b x rows numbers blocks) el
+    (subst (λ x. RowsAnswer num bits b l' x numbers blocks) er (subst (λ x. RowsAnswer num bits b l' rows' x blocks) en h))
 
 pub cells-same : (l l' : Layout) (rows rows' : List SramRow) (numbers numbers' : List CellNumber) (blocks : List ℕ) (first actions : ℕ) → l' ≡ l → rows' ≡ rows → numbers' ≡ numbers
     → cells_hold l' (sram_row rows') blocks first actions numbers' ≡ cells_hold l (sram_row rows) blocks first actions numbers

@@ -1,13 +1,14 @@
 -- Numbers in order do not repeat exactly where the list from which they were sorted has no number twice.
-use Rattle.std.proofs.Common.{◌≡◌, ℕ, suc, ◌+◌, ◌<◌, ◌≤◌, List, [], ◌∷◌, length, get_or, true, false, not, eqb, leb, refl, sym, ◌∙◌, arith, add-one, inl, inr}
+use Rattle.std.proofs.Common.{◌≡◌, ℕ, ◌+◌, ◌≤◌, List, [], ◌∷◌, true, false, not, eqb, leb, refl, sym, ◌∙◌, arith, inl, inr}
 use Rattle.std.specs.List.{AllByRecursion, list_any, IsDistinct}
-use Rattle.std.specs.List.Sorted.{IsPermutation, IsSorted, IsStrictlyIncreasing}
+use Rattle.std.specs.List.Sorted.{IsPermutation, IsSorted}
 use Rattle.std.specs.Ordering.{nat_cmp}
-use Rattle.std.proofs.lemmas.Bool.{and_parts, cases_eq, and_from, not-true, not_from_false, or_from, or_parts, ne_eqb, le-leb, leb-true}
+use Rattle.std.proofs.lemmas.Bool.{and_parts, cases_eq, and_from, not-true, not_from_false, or_from, or_parts, ne_eqb, leb-true}
 use Rattle.std.proofs.lemmas.Bool.Decides.{same_from_decides}
 use Rattle.std.proofs.lemmas.List.Sorted.{IsNonDecreasingBy-from_sort, IsPermutation-sym}
 use Rattle.std.proofs.lemmas.Map.Keys.{IsDistinct-head, IsDistinct-tail, IsDistinct-cons, IsDistinct-IsPermutation, IsStrictlyIncreasing-from_distinct}
 use Rattle.rmt_config.specs.Order.{are_new, rises_from}
+use Rattle.rmt_config.proofs.RiseLaws.{increasing_rises}
 
 distinct_none : IsDistinct eqb []
 unfolding IsDistinct
@@ -66,17 +67,11 @@ rises_apart least (n ∷ ns) e =
     let low : least ≤ n = leb-true least n parts.0 in
     ((low, above_less least (n + 1) ns (omega arith) rest.0), IsDistinct-cons eqb n ns (apart_above n ns rest.0) rest.1)
 
-apart_rises : (least : ℕ) (ys : List ℕ) → (0 < length ys → least ≤ get_or ys 0 0) → IsStrictlyIncreasing ys → rises_from least ys ≡ true
-apart_rises least [] low up = refl
-apart_rises least (n ∷ ns) low up =
-    let tail : IsStrictlyIncreasing ns = λ k lt. rw (add-one k) (rw (add-one (suc k)) at (up (suc k) (omega (arith, lt)))) in
-    and_from (leb least n) (rises_from (n + 1) ns) (le-leb least n (low (omega arith))) (apart_rises (n + 1) ns (λ lt. omega (arith, up 0 (omega (arith, lt)))) tail)
-
 -- sorted numbers rise exactly where none stood twice
 pub rise_from_sort : (xs ys : List ℕ) → IsPermutation xs ys → IsSorted nat_cmp ys → rises_from 0 ys ≡ are_new [] xs
 rise_from_sort xs ys moved sorted =
     same_from_decides (rises_from 0 ys) (are_new [] xs) (
       (λ e. IsDistinct-IsPermutation eqb flips ys xs (IsPermutation-sym xs ys moved) (rises_apart 0 ys e).1),
-      (λ d. apart_rises 0 ys (λ lt. omega arith) (IsStrictlyIncreasing-from_distinct ys (IsNonDecreasingBy-from_sort (λ x. x) ys sorted) (IsDistinct-IsPermutation eqb flips xs ys moved d))),
+      (λ d. increasing_rises 0 ys (λ lt. omega arith) (IsStrictlyIncreasing-from_distinct ys (IsNonDecreasingBy-from_sort (λ x. x) ys sorted) (IsDistinct-IsPermutation eqb flips xs ys moved d))),
     )
     ((λ e. (distinct_from [] xs e).1), (λ d. new_from [] xs tt d))

@@ -1,7 +1,8 @@
 -- Lists of items whose numbers rise.
-use Rattle.std.proofs.Common.{◌≡◌, ℕ, zero, suc, ◌+◌, ◌-◌, ◌*◌, ◌/◌, ◌%◌, ◌<◌, ◌≤◌, List, [], ◌∷◌, length, get_or, take, drop, map, Bool, true, false, ◌&&◌, ◌||◌, eqb, leb, add-one, subst, sym, refl, ap, ◌∙◌, arith, inl, inr}
+use Rattle.std.proofs.Common.{◌≡◌, ℕ, zero, suc, ◌+◌, ◌-◌, ◌*◌, ◌/◌, ◌%◌, ◌<◌, ◌≤◌, List, [], ◌∷◌, length, get_or, take, drop, map, true, false, ◌||◌, eqb, leb, add-one, subst, sym, refl, ap, ◌∙◌, arith, inl, inr}
 use Rattle.std.specs.Prelude.{All}
-use Rattle.std.proofs.lemmas.Bool.{cases_lt, cases_eq, cases_order, and_parts, leb-true, le-leb, lt-leb, ne_eqb, eq-eqb}
+use Rattle.std.specs.List.Sorted.{IsStrictlyIncreasing}
+use Rattle.std.proofs.lemmas.Bool.{cases_lt, cases_eq, cases_order, and_from, and_parts, leb-true, le-leb, ne_eqb, eq-eqb}
 use Rattle.std.proofs.lemmas.List.Elements.{All-head, All-tail}
 use Rattle.std.proofs.Math.Seq.{drop-cons}
 use Rattle.std.proofs.lemmas.List.{get_or_default, get_or-take, get_or-drop, length-take, length-drop}
@@ -33,26 +34,17 @@ rise-below f least (x ∷ xs) h zero (suc j) d lt l =
 rise-below f least (x ∷ xs) h (suc i) (suc j) d lt l =
     rise-below f (f x + 1) xs (and_parts (leb least (f x)) (rises_from (f x + 1) (map f xs)) h).1 i j d (omega (arith, lt)) (omega (arith, l))
 
+-- numbers of which each is above the one before it rise
+pub increasing_rises : (least : ℕ) (ys : List ℕ) → (0 < length ys → least ≤ get_or ys 0 0) → IsStrictlyIncreasing ys → rises_from least ys ≡ true
+increasing_rises least [] low up = refl
+increasing_rises least (n ∷ ns) low up =
+    let tail : IsStrictlyIncreasing ns = λ k lt. rw (add-one k) (rw (add-one (suc k)) at (up (suc k) (omega (arith, lt)))) in
+    and_from (leb least n) (rises_from (n + 1) ns) (le-leb least n (low (omega arith))) (increasing_rises (n + 1) ns (λ lt. omega (arith, up 0 (omega (arith, lt)))) tail)
+
 -- ---- the steps of a loop
 
 pub one_off : {X : Type 0} (xs : List X) (i : ℕ) (d : X) → i < length xs → drop i xs ≡ get_or xs i d ∷ drop (i + 1) xs
 one_off xs i d lt = drop-cons xs i d lt ∙ ap (λ k. get_or xs i d ∷ drop k xs) (sym (add-one i))
-
-pub rise_step : {X : Type 0} (f : X → ℕ) (least : ℕ) (xs : List X) (i : ℕ) (d : X) (whole : Bool) → i < length xs → least ≤ f (get_or xs i d)
-    → rises_from least (map f (drop i xs)) ≡ whole → rises_from (f (get_or xs i d) + 1) (map f (drop (i + 1) xs)) ≡ whole
-rise_step f least xs i d whole lt le h =
-    let e = one_off xs i d lt in
-    let first : leb least (f (get_or xs i d)) ≡ true = le-leb least (f (get_or xs i d)) le in
-    sym (ap (λ (b : Bool). b && rises_from (f (get_or xs i d) + 1) (map f (drop (i + 1) xs))) first)
-    ∙ sym (ap (λ ys. rises_from least (map f ys)) e) ∙ h
-
-pub rise_stop : {X : Type 0} (f : X → ℕ) (least : ℕ) (xs : List X) (i : ℕ) (d : X) (whole : Bool) → i < length xs → f (get_or xs i d) < least
-    → rises_from least (map f (drop i xs)) ≡ whole → false ≡ whole
-rise_stop f least xs i d whole lt less h =
-    let e = one_off xs i d lt in
-    let first : leb least (f (get_or xs i d)) ≡ false = lt-leb least (f (get_or xs i d)) less in
-    sym (ap (λ (b : Bool). b && rises_from (f (get_or xs i d) + 1) (map f (drop (i + 1) xs))) first)
-    ∙ sym (ap (λ ys. rises_from least (map f ys)) e) ∙ h
 
 -- ---- the steps of a search
 

@@ -112,7 +112,8 @@ fold-least : (ns : List ℕ) (a : ℕ) → a ≤ fold ◌+◌ a ns
 fold-least [] a = omega arith
 fold-least (n ∷ ns) a = let rest = fold-least ns (a + n) in omega (arith, rest)
 
-lane-bit : (lane : Lane) → lane_is_formed lane ≡ true → 1 ≤ lane.len
+-- a lane has a bit
+pub lane-bit : (lane : Lane) → lane_is_formed lane ≡ true → 1 ≤ lane.len
 lane-bit lane h = leb-true 1 lane.len (and_parts _ _ (and_parts _ _ (and_parts _ _ h).0).0).1
 
 -- a key with a lane has a bit

@@ -96,9 +96,6 @@ pub guard_passed : (nodes : Nodes) (before behind : List Placed) (x : Placed) �
 guard_passed nodes before behind x k g lt other =
     rw (ne_eqb g.parent (node_of x.unit) other, among_before nodes before (x ∷ behind) k g.parent lt, none_other nodes before behind x k g.parent lt other) refl
 
-pub guard_own : (node : ℕ) (g : UnitGuard) (before behind : List Placed) → g.parent ≡ node → false ≡ guard_stands node (Some g) before behind
-guard_own node g before behind e = rw (eq-eqb g.parent node e) refl
-
 -- ---- units
 
 -- the answer for a unit is that of its rules, wherever the units around it are those that are known
@@ -146,12 +143,6 @@ pub reached_more : (nodes after : Nodes) (x : Placed) (rest : List Placed) (whol
 reached_more nodes after x rest whole r stands passes =
     let here : each_between unit_stands r.before (x ∷ rest) ≡ each_between unit_stands (x ∷ r.before) rest = rw (← stands r.before rest r.known) refl in
     record { before = x ∷ r.before; known = passes r.before rest r.known; holds = sym here ∙ r.holds }
-
-pub reached_ends : (nodes : Nodes) (x : Placed) (rest : List Placed) (whole : Bool) → Reached nodes (x ∷ rest) whole
-    → ((before behind : List Placed) → Knows nodes before (x ∷ behind) → false ≡ unit_stands before x behind) → false ≡ whole
-reached_ends nodes x rest whole r breaks =
-    let here : each_between unit_stands r.before (x ∷ rest) ≡ false = rw (← breaks r.before rest r.known) refl in
-    sym here ∙ r.holds
 
 -- before the first unit
 pub first_known : (left : List ℕ) (stages : List Stage) → ((n : ℕ) → n < 256 → get_or left n 0 ≡ count_by (has_node n) (placed_from 0 stages)) → ((n : ℕ) → n < 256 → get_or left n 0 < 2 ^ 128)

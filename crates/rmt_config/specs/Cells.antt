@@ -89,31 +89,34 @@ row_record sram records held r = record_at sram records 2 (held + 8) (r / 2048) 
 abbrev pub row_key : Blocks → List ℕ → ℕ → ℕ → ℕ
 row_key tcam keys bits r = unit_row 40 tcam (r % 2048) (blocks_at keys (divided_up bits 40) (r / 2048))
 
--- what cell n of a slot of a stage holds; all bits of an exact key count
+-- what a cell of an exact part holds; all bits of its key count
+abbrev pub exact_content : Blocks → SlotUnit → ℕ → ℕ → List ℕ → List ℕ → Cell → Content
+exact_content sram slot k per keys records c =
+    let bits = bits_of_lanes slot.keys in
+    let entry = entry_at sram keys k bits c in
+    record { head = entry % 256; key = entry / 256; mask = 2 ^ bits - 1; held = data_at sram records per slot.held c }
+
+-- what a row of a ternary part holds
+abbrev pub ternary_content : Stage → SlotUnit → List ℕ → List ℕ → ℕ → Content
+ternary_content stage slot keys records n =
+    let bits = bits_of_lanes slot.keys in
+    let r = row_record (sram_row stage.srows) records slot.held n in
+    record {
+      head = r % 256;
+      key = row_key (tcam_row (λ t. t.value) stage.trows) keys bits n;
+      mask = row_key (tcam_row (λ t. t.mask) stage.trows) keys bits n;
+      held = r / 256;
+    }
+
+-- what cell n of a slot of a stage holds
 abbrev pub content_of : Stage → SlotUnit → ℕ → Content
 content_of stage slot n = content slot.memory
   where
-    sram : Blocks
-    sram = sram_row stage.srows
-
-    bits : ℕ
-    bits = bits_of_lanes slot.keys
-
-    of_entry : ℕ → ℕ → Content
-    of_entry entry held = record { head = entry % 256; key = entry / 256; mask = 2 ^ bits - 1; held = held }
-
     content : Memory → Content
     content Without = record { head = 0; key = 0; mask = 0; held = 0 }
     content (Exact k per quanta first_way keys records counters) =
-        let c = cell_of (1024 * quanta) per n in of_entry (entry_at sram keys k bits c) (data_at sram records per slot.held c)
-    content (Ternary quanta keys records counters) =
-        let r = row_record sram records slot.held n in
-        record {
-          head = r % 256;
-          key = row_key (tcam_row (λ t. t.value) stage.trows) keys bits n;
-          mask = row_key (tcam_row (λ t. t.mask) stage.trows) keys bits n;
-          held = r / 256;
-        }
+        exact_content (sram_row stage.srows) slot k per keys records (cell_of (1024 * quanta) per n)
+    content (Ternary quanta keys records counters) = ternary_content stage slot keys records n
 
 -- what a head says: bit 0 that the cell is occupied, bits 1 and 2 when it is seen, and bits 3 to 7 the number of an instruction in the stage
 abbrev pub is_occupied : ℕ → Bool

@@ -6,6 +6,12 @@ use Rattle.rmt_config.specs.Order.{rises_from}
 use Rattle.rmt_config.specs.Shapes.{divided_up, record_width, record_units}
 use Rattle.rmt_config.specs.StageForm.{srow_number, trow_number}
 
+-- rows of SRAM in rising order, each within its block
+pub record SramRows (rows : List SramRow) : Type 0 where
+  pub rise : rises_from 0 (map srow_number rows) ≡ true
+  pub low : All (λ (r : SramRow). r.row < 1024) rows
+  pub small : All (λ (r : SramRow). r.bits < 2 ^ 112) rows
+
 -- the rows of a stage that keeps the rules
 pub record FormedRows (stage : Stage) : Type 0 where
   pub srise : rises_from 0 (map srow_number stage.srows) ≡ true

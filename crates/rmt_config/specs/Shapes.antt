@@ -10,7 +10,7 @@ divided_up a b = (a + b - 1) / b
 abbrev pub record_width : ℕ → ℕ
 record_width n = divided_up n 112
 
--- how many records of n bits such a row has
+-- how many records of n bits such a row has; none where n is 0, for what is divided by 0 is 0
 abbrev pub records_a_row : ℕ → ℕ
 records_a_row n = 112 * record_width n / n
 

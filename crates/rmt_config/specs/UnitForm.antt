@@ -44,11 +44,13 @@ abbrev pub has_shape : Shape → List ℕ → List ℕ → List ℕ → Bool
 has_shape shape keys records counters =
     (length keys == shape.keys) && (length records == shape.records) && (length counters == shape.counters)
 
--- what a slot with memory needs: a key of at most 640 bits, an action, and 1 to 106 quanta
+-- what a slot with memory has: a key of at most 640 bits, and an action
+abbrev pub takes_memory : SlotUnit → Bool
+takes_memory s = nat_le 1 (length s.keys) && nat_le (bits_of_lanes s.keys) 640 && nat_le 1 s.actions
+
+-- what a slot with memory needs: these, and 1 to 106 quanta
 abbrev pub may_have_memory : SlotUnit → ℕ → Bool
-may_have_memory s quanta =
-    nat_le 1 (length s.keys) && nat_le (bits_of_lanes s.keys) 640 && nat_le 1 s.actions
-    && nat_le 1 quanta && nat_le quanta 106
+may_have_memory s quanta = takes_memory s && nat_le 1 quanta && nat_le quanta 106
 
 -- the numbers of an exact part: the cells of a row, each a head of 8 bits and a key, fit its blocks
 abbrev pub format_is_formed : SlotUnit → ℕ → ℕ → ℕ → ℕ → Bool

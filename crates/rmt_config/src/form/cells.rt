@@ -1,19 +1,18 @@
 //! The heads of listed cells, read from the rows of their blocks.
 
-ghost use Rattle.std.specs.Prelude.{◌≡◌, ℕ, ◌+◌, ◌-◌, ◌*◌, ◌/◌, ◌%◌, ◌^◌, ◌<◌, ◌≤◌, ◌&&◌, length, map, IsTrue, All, nat_lt};
+ghost use Rattle.std.specs.Prelude.{◌≡◌, ℕ, ◌+◌, ◌-◌, ◌*◌, ◌/◌, ◌%◌, ◌^◌, ◌<◌, ◌≤◌, length, All, nat_lt};
 ghost use Rattle.std.specs.List.{list_all};
 ghost use Rattle.rmt_bits.specs.Bits.{slice as slice_of};
-ghost use Rattle.rmt_config.specs.Order.{rises_from};
-ghost use Rattle.rmt_config.specs.StageForm.{srow_number};
 ghost use Rattle.rmt_config.specs.Cells.{sram_row, unit_row, blocks_at};
 ghost use Rattle.rmt_config.specs.CellForm.{head_is_formed};
 ghost use Rattle.rmt_config.specs.Layouts.{IsLayout, listed_cells, quantum_of, local_of, unit_of, row_of, position_of, entry_in, heads_hold, cells_hold, HasHeads};
-ghost use Rattle.rmt_config.specs.declared.config.SramRow.{SramRow};
+ghost use Rattle.rmt_config.specs.MemoryRules.{SramRows};
 ghost use Rattle.rmt_config.specs.declared.config.CellNumber.{CellNumber};
 
 use crate::config::{CellNumber, SramRow};
 use crate::form::layout::Layout;
-use crate::form::search::{Numbered, first_near, items_rise};
+use crate::form::search::items_rise;
+use crate::form::sram::{byte_of_two, row_bits};
 use crate::form::told::joined;
 
 /// Where the last head was found among the rows: its first block's row, and that of the block beside it.
@@ -21,34 +20,6 @@ use crate::form::told::joined;
 struct Near {
     first: usize,
     second: usize,
-}
-
-/// What a row of an SRAM block holds; a row that isn't listed is 0.
-fn row_bits(rows: &[SramRow], block: u8, row: u64, near: &mut usize) -> u128
-    requires order { IsTrue (rises_from 0 (map srow_number rows.now)) }
-    requires low { All (λ (r : SramRow). r.row < 1024) rows.now }
-    requires row { row < 1024 }
-    ensures { result ≡ sram_row rows.now block row }
-{
-    let number = block as u64 * 1024 + row;
-    let at = first_near(rows, number, *near);
-    *near = at;
-    if at < rows.len() && rows[at].place() as u64 == number {
-        rows[at].bits
-    } else {
-        0
-    }
-}
-
-/// The 8 bits from one on of two rows side by side.
-fn head_of_two(first: u128, second: u128, at: u64) -> u8
-    requires first { first < 2 ^ 112 }
-    requires at { at < 112 }
-    ensures { result ≡ (second % 256 * 2 ^ (112 - at) + first / 2 ^ at) % 256 }
-{
-    let low = first >> at;
-    let high = (second % 256) << (112 - at);
-    ((high + low) % 256) as u8
 }
 
 /// The 8 bits from one on of a row of a unit.
@@ -65,9 +36,7 @@ fn head_at(
     requires unit { (unit + 1) * layout.now.side ≤ length blocks.now }
     requires bit { bit + 8 ≤ 112 * layout.now.side }
     requires row { row < 1024 }
-    requires order { IsTrue (rises_from 0 (map srow_number rows.now)) }
-    requires low { All (λ (r : SramRow). r.row < 1024) rows.now }
-    requires small { All (λ (r : SramRow). r.bits < 2 ^ 112) rows.now }
+    requires rows { SramRows rows.now }
     ensures { result ≡ slice_of (unit_row 112 (sram_row rows.now) row (blocks_at blocks.now layout.now.side unit)) bit 8 }
 {
     let block = bit / 112;
@@ -78,7 +47,7 @@ fn head_at(
     } else {
         0
     };
-    head_of_two(first, second, bit % 112)
+    byte_of_two(first, second, bit % 112)
 }
 
 /// The head of a cell.
@@ -86,9 +55,7 @@ fn head_of(layout: &Layout, blocks: &[u8], rows: &[SramRow], cell: u64, near: &m
     requires heads { HasHeads layout.now }
     requires blocks { length blocks.now ≡ layout.now.quanta * layout.now.units * layout.now.side }
     requires cell { cell < layout.now.ways * layout.now.quanta * layout.now.way }
-    requires order { IsTrue (rises_from 0 (map srow_number rows.now)) }
-    requires low { All (λ (r : SramRow). r.row < 1024) rows.now }
-    requires small { All (λ (r : SramRow). r.bits < 2 ^ 112) rows.now }
+    requires rows { SramRows rows.now }
     ensures { result ≡ entry_in layout.now (sram_row rows.now) blocks.now (quantum_of layout.now cell) (local_of layout.now cell) % 256 }
 {
     let quantum = cell / layout.way % layout.quanta;
@@ -125,9 +92,7 @@ fn heads_fit(
     requires heads { HasHeads layout.now }
     requires blocks { length blocks.now ≡ layout.now.quanta * layout.now.units * layout.now.side }
     requires cells { All (λ (n : CellNumber). n.cell < layout.now.ways * layout.now.quanta * layout.now.way) numbers.now }
-    requires order { IsTrue (rises_from 0 (map srow_number rows.now)) }
-    requires low { All (λ (r : SramRow). r.row < 1024) rows.now }
-    requires small { All (λ (r : SramRow). r.bits < 2 ^ 112) rows.now }
+    requires rows { SramRows rows.now }
     requires first { first < 65536 }
     ensures { result ≡ heads_hold layout.now (sram_row rows.now) blocks.now first actions (listed_cells numbers.now) }
 {
@@ -167,14 +132,12 @@ pub fn cells_are_formed(
 ) -> bool
     requires heads { HasHeads layout.now }
     requires blocks { length blocks.now ≡ layout.now.quanta * layout.now.units * layout.now.side }
-    requires order { IsTrue (rises_from 0 (map srow_number rows.now)) }
-    requires low { All (λ (r : SramRow). r.row < 1024) rows.now }
-    requires small { All (λ (r : SramRow). r.bits < 2 ^ 112) rows.now }
+    requires rows { SramRows rows.now }
     requires first { first < 65536 }
     ensures { result ≡ cells_hold layout.now (sram_row rows.now) blocks.now first actions numbers.now }
 {
     let count = joined(joined(layout.ways, layout.quanta, 0), layout.way, 0);
-    if !items_rise(numbers) || !cells_fit(numbers, count) {
+    if !items_rise(0, numbers) || !cells_fit(numbers, count) {
         return false;
     }
     heads_fit(layout, blocks, rows, numbers, first, actions)

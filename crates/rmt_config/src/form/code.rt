@@ -2,12 +2,11 @@
 
 ghost use Rattle.std.specs.Prelude.{◌≡◌, ◌≤◌, ◌+◌, map, length};
 ghost use Rattle.std.specs.List.{list_all};
-ghost use Rattle.rmt_config.specs.Order.{rises_from};
 ghost use Rattle.rmt_config.specs.CodeForm.{slot_places, unit_places, places_of, source_is_formed, kind_is_formed, lane_of_operation, operation_is_formed, vliw_is_formed, code_is_formed};
-ghost use Rattle.rmt_config.specs.declared.config.Operation.{Operation};
 
 use crate::config::{OpKind, Operation, SlotUnit, Source, Unit, Vliw};
 use crate::form::lane::lane_fits;
+use crate::form::search::items_rise;
 use rmt_bits::lane::{Lane, word_size};
 
 /// Where an instruction stands: the data bits of its slot, and whether it is the slot's default.
@@ -78,24 +77,11 @@ fn each_operation_fits(place: Place, ops: &[Operation]) -> bool
     ops.iter().all(|op| operation_fits(place, *op))
 }
 
-fn rise_by_word(ops: &[Operation]) -> bool
-    ensures { result ≡ rises_from 0 (map (λ (op : Operation). op.word) ops.now) }
-{
-    let mut least: u16 = 0;
-    for op in ops {
-        if (op.word as u16) < least {
-            return false;
-        }
-        least = op.word as u16 + 1;
-    }
-    true
-}
-
 fn vliw_fits(place: Place, vliw: &Vliw) -> bool
     ensures { result ≡ vliw_is_formed place vliw.now }
 {
     let ops = vliw.ops.as_slice();
-    ops.len() < 256 && each_operation_fits(place, ops) && rise_by_word(ops)
+    ops.len() < 256 && each_operation_fits(place, ops) && items_rise(0, ops)
 }
 
 fn each_vliw_fits(place: Place, code: &[Vliw]) -> bool

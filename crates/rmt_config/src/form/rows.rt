@@ -107,5 +107,8 @@ pub fn rows_fit(stage: &Stage) -> bool
     let units = stage.units.as_slice();
     let srows = stage.srows.as_slice();
     let trows = stage.trows.as_slice();
-    srows_fit(units, srows) && items_rise(srows) && trows_fit(units, trows) && items_rise(trows)
+    srows_fit(units, srows)
+        && items_rise(0, srows)
+        && trows_fit(units, trows)
+        && items_rise(0, trows)
 }

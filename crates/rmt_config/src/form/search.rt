@@ -1,4 +1,4 @@
-//! The rows of memory and the listed cells, each in rising order, and the search among them.
+//! Lists in rising order, as those of rows of memory and of listed cells, and the search in them.
 
 ghost use Rattle.std.specs.Prelude.{◌≡◌, ℕ, ◌+◌, ◌*◌, ◌<◌, ◌≤◌, length, map, IsTrue, slice_index_or};
 ghost use Rattle.rmt_config.specs.Order.{rises_from};
@@ -7,20 +7,25 @@ ghost use Rattle.rmt_config.specs.declared.config.SramRow.{SramRow};
 ghost use Rattle.rmt_config.specs.declared.config.TcamRow.{TcamRow};
 ghost use Rattle.rmt_config.specs.declared.config.CellNumber.{CellNumber};
 
-use crate::config::{CellNumber, SramRow, TcamRow};
+use crate::config::{CellNumber, Operation, SramRow, Stage, TcamRow};
 
-/// What stands in a list by rising numbers: a row, by its block and its row in it, or a listed cell.
+/// What stands in a list by rising numbers: a row, by its block and its row in it, a listed cell, an operation, by its
+/// word, or a stage, by its start.
 pub trait Numbered {
+    /// Its number.
     ghost place_of: { Self → ℕ };
 
+    /// Its number.
     fn place(&self) -> u32
         ensures { result ≡ place_of self.now };
 }
 
 /// A row of memory, and the bits that may be set only in entries of listed cells.
 pub trait MemoryRow: Numbered {
+    /// Those bits.
     ghost bits_of: { Self → ℕ };
 
+    /// Those bits.
     fn bits(&self) -> u128
         ensures { result ≡ bits_of self.now };
 }
@@ -65,6 +70,22 @@ impl Numbered for CellNumber {
     }
 }
 
+impl Numbered for Operation {
+    ghost place_of = { λ op. op.word };
+
+    fn place(&self) -> u32 {
+        self.word as u32
+    }
+}
+
+impl Numbered for Stage {
+    ghost place_of = { λ stage. stage.start };
+
+    fn place(&self) -> u32 {
+        self.start as u32
+    }
+}
+
 /// The index of the first item whose number is at least this one.
 pub fn first_from<T: Numbered>(items: &[T], place: u64) -> usize
     requires { IsTrue (rises_from 0 (map T.place_of items.now)) }
@@ -104,11 +125,11 @@ pub fn first_near<T: Numbered>(items: &[T], place: u64, near: usize) -> usize
     first_from(items, place)
 }
 
-/// Whether items rise by their numbers.
-pub fn items_rise<T: Numbered>(items: &[T]) -> bool
-    ensures { result ≡ rises_from 0 (map T.place_of items.now) }
+/// Whether items rise by their numbers, from that one on.
+pub fn items_rise<T: Numbered>(first: u32, items: &[T]) -> bool
+    ensures { result ≡ rises_from first (map T.place_of items.now) }
 {
-    let mut least: u64 = 0;
+    let mut least = first as u64;
     for item in items {
         let place = item.place() as u64;
         if place < least {

@@ -2,13 +2,13 @@
 
 ghost use Rattle.std.specs.Prelude.{◌≡◌, map};
 ghost use Rattle.std.specs.List.{list_all};
-ghost use Rattle.rmt_config.specs.Order.{rises_from};
 ghost use Rattle.rmt_config.specs.StageForm.{srow_fits as srow_is_small, trow_fits as trow_is_small, stage_is_formed, starts_are_formed, stages_are_formed};
 ghost use Rattle.rmt_config.specs.declared.config.Stage.{Stage};
 
 use crate::config::{SramRow, Stage, TcamRow};
 use crate::form::code::code_fits;
 use crate::form::number::fits_two_bytes;
+use crate::form::search::items_rise;
 use crate::form::unit::units_fit;
 
 fn srow_fits(row: SramRow) -> bool
@@ -54,25 +54,12 @@ fn each_stage_fits(stages: &[Stage]) -> bool
     stages.iter().all(stage_fits)
 }
 
-fn rise_above(stages: &[Stage]) -> bool
-    ensures { result ≡ rises_from 1 (map (λ (s : Stage). s.start) stages.now) }
-{
-    let mut least: u32 = 1;
-    for stage in stages {
-        if (stage.start as u32) < least {
-            return false;
-        }
-        least = stage.start as u32 + 1;
-    }
-    true
-}
-
 fn starts_rise(stages: &[Stage]) -> bool
     ensures { result ≡ starts_are_formed (map (λ (s : Stage). s.start) stages.now) }
 {
     match stages {
         [] => true,
-        [first, rest @ ..] => first.start == 0 && rise_above(rest),
+        [first, rest @ ..] => first.start == 0 && items_rise(1, rest),
     }
 }
 

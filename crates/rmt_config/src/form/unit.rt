@@ -4,7 +4,7 @@ ghost use Rattle.std.specs.Prelude.{◌≡◌, ◌<◌, ◌≤◌, ◌+◌, ◌*
 ghost use Rattle.std.specs.List.{list_all};
 ghost use Rattle.rmt_config.specs.LaneForm.{bits_of_lanes};
 ghost use Rattle.rmt_config.specs.Shapes.{exact_shape as shape_of_exact, ternary_shape as shape_of_ternary};
-ghost use Rattle.rmt_config.specs.UnitForm.{guard_is_formed, test_is_formed, gate_is_formed, number_is_formed, slot_head_is_formed, are_sram_blocks, are_tcam_blocks, has_shape, may_have_memory, format_is_formed, memory_is_formed, slot_is_formed, unit_is_formed};
+ghost use Rattle.rmt_config.specs.UnitForm.{guard_is_formed, test_is_formed, gate_is_formed, number_is_formed, slot_head_is_formed, are_sram_blocks, are_tcam_blocks, has_shape, takes_memory, may_have_memory, format_is_formed, memory_is_formed, slot_is_formed, unit_is_formed};
 ghost use Rattle.rmt_config.specs.declared.config.Memory.TheVariants.{Without};
 
 use crate::config::{CellNumber, GateTest, GateUnit, Memory, SlotUnit, Unit, UnitGuard};
@@ -86,12 +86,21 @@ fn tcam_blocks_fit(blocks: &Bytes) -> bool
     blocks.as_slice().iter().all(|block| *block < 16)
 }
 
-/// The bits of a slot's key.
-fn key_bits(slot: &SlotUnit) -> u32
+/// The bits of a slot's key, of fewer than 65,536 lanes.
+pub fn key_bits(slot: &SlotUnit) -> u32
     requires { length slot.now.keys < 65536 }
     ensures { result ≡ bits_of_lanes slot.now.keys }
 {
     count_bits(slot.keys.as_slice())
+}
+
+/// Whether a slot, whose key has fewer than 65,536 lanes, has a key of at most 640 bits and an action.
+pub fn can_take_memory(slot: &SlotUnit) -> bool
+    requires { length slot.now.keys < 65536 }
+    ensures value { result ≡ takes_memory slot.now }
+    ensures key { IsTrue result → bits_of_lanes slot.now.keys ≤ 640 }
+{
+    1 <= slot.keys.len() && key_bits(slot) <= 640 && 1 <= slot.actions
 }
 
 fn can_have_memory(slot: &SlotUnit, quanta: u8) -> bool
@@ -99,11 +108,7 @@ fn can_have_memory(slot: &SlotUnit, quanta: u8) -> bool
     ensures value { result ≡ may_have_memory slot.now quanta }
     ensures key { IsTrue result → bits_of_lanes slot.now.keys ≤ 640 }
 {
-    1 <= slot.keys.len()
-        && key_bits(slot) <= 640
-        && 1 <= slot.actions
-        && 1 <= quanta
-        && quanta <= 106
+    can_take_memory(slot) && 1 <= quanta && quanta <= 106
 }
 
 /// Whether the cells of a row, each a head of 8 bits and a key of that many, fit blocks side by side.
@@ -135,7 +140,9 @@ fn format_fits(slot: &SlotUnit, width: u8, per: u16, quanta: u8, first_way: u8) 
         && cells_fit(key_bits(slot), width, per)
 }
 
-fn needs_no_memory(slot: &SlotUnit) -> bool
+/// Whether a slot has nothing that needs a memory: no key, no action, no data, no count and no numbers, and is the last
+/// part of its table.
+pub fn needs_no_memory(slot: &SlotUnit) -> bool
     ensures { result ≡ memory_is_formed slot.now Without }
 {
     !slot.counted

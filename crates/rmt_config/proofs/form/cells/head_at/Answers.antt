@@ -5,8 +5,8 @@ use Rattle.rmt_config.proofs.HeadRows.{head-read}
 use Rattle.rmt_config.proofs.form.cells.head_at.Goals as goal
 use Rattle.rmt_config.proofs.form.cells.head_at.Goals.{then-block-layout, else-block-layout}
 
-pub head_of_two-requires-clause-first : goal.head_of_two-requires-clause-first
-head_of_two-requires-clause-first c = subst (λ n. n < 2 ^ 112) (sym c.row_bits-first.ensures) (sram-within c.args.rows.now c.requires.small _ c.args.row)
+pub byte_of_two-requires-clause-first : goal.byte_of_two-requires-clause-first
+byte_of_two-requires-clause-first c = subst (λ n. n < 2 ^ 112) (sym c.row_bits-first.ensures) (sram-within c.args.rows.now c.requires.rows.small _ c.args.row)
 
 pub returns : goal.returns
 returns c =
@@ -15,8 +15,8 @@ returns c =
     let side = c.args.layout.now.side in
     let at = c.joined-at.result in
     let e : at ≡ c.args.unit * side + c.args.bit / 112 = c.joined-at.ensures in
-    c.head_of_two.ensures
-    ∙ head-read rows blocks side c.args.unit c.args.row c.args.bit c.row_bits-first.result c.if-block-layout.second c.requires.small c.requires.unit c.requires.bit
+    c.byte_of_two.ensures
+    ∙ head-read rows blocks side c.args.unit c.args.row c.args.bit c.row_bits-first.result c.if-block-layout.second c.requires.rows.small c.requires.unit c.requires.bit
     (c.row_bits-first.ensures ∙ ap (λ n. sram_row rows (get_or blocks n 0) c.args.row) e)
     (λ lt. elim c.if-block-layout.branch [
       | then-block-layout w ↦ w.second-is ∙ w.row_bits-second.ensures ∙ ap (λ n. sram_row rows (get_or blocks (n + 1) 0) c.args.row) e

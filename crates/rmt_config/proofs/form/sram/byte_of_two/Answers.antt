@@ -1,7 +1,7 @@
 use Rattle.std.proofs.Common.{◌-◌, ◌%◌, arith}
 use Rattle.std.proofs.lemmas.Nat.{mod_below, pow_pos, shr_le}
 use Rattle.rmt_bits.proofs.BitLaws.{shl-lt}
-use Rattle.rmt_config.proofs.form.cells.head_of_two.Goals as goal
+use Rattle.rmt_config.proofs.form.sram.byte_of_two.Goals as goal
 
 pub overflow_add-result : goal.overflow_add-result
 overflow_add-result c =
