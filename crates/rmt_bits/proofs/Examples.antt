@@ -1,6 +1,7 @@
 -- Known values.
-use Rattle.std.specs.Prelude.{◌≡◌, [], ◌∷◌, refl}
+use Rattle.std.specs.Prelude.{◌≡◌, [], ◌∷◌, true, false, codes, map, refl}
 use Rattle.rmt_bits.specs.Bits.{slice, deposit, bits_of_bytes, bytes_of}
+use Rattle.rmt_bits.specs.Digits.{is_digit, is_hex, is_hex_number, number_of_digits}
 use Rattle.rmt_bits.specs.Hash.{fnv}
 use Rattle.rmt_bits.specs.Words.{word_size}
 
@@ -22,3 +23,21 @@ bytes_of_known = refl
 
 pub last_words : word_size 63 ∷ word_size 64 ∷ word_size 159 ∷ word_size 160 ∷ [] ≡ 8 ∷ 16 ∷ 16 ∷ 32 ∷ []
 last_words = refl
+
+pub decimal_number : number_of_digits 10 (codes "0120") ≡ 120
+decimal_number = refl
+
+pub either_case : number_of_digits 16 (codes "aF09") ≡ 0xaf09
+either_case = refl
+
+pub no_digits : number_of_digits 10 [] ≡ 0
+no_digits = refl
+
+pub beside_digits : map is_digit (codes "/09:") ≡ false ∷ true ∷ true ∷ false ∷ []
+beside_digits = refl
+
+pub beside_hex : map is_hex (codes "`afg@AFG") ≡ false ∷ true ∷ true ∷ false ∷ false ∷ true ∷ true ∷ false ∷ []
+beside_hex = refl
+
+pub small_x_alone : is_hex_number (codes "0x") ∷ is_hex_number (codes "0X1") ∷ is_hex_number (codes "0") ∷ [] ≡ true ∷ false ∷ false ∷ []
+small_x_alone = refl

@@ -1,6 +1,7 @@
 pub mod AllLaws
 pub mod BitLaws
 pub mod ByteLaws
+pub mod DigitLaws
 pub mod Examples
 pub mod FunctionLaws
 pub mod ListLaws

@@ -3,6 +3,7 @@
 
 pub mod answer;
 pub mod bits;
+pub mod digits;
 pub mod hash;
 pub mod lane;
 pub mod sequence;
