@@ -1,11 +1,12 @@
 -- An item takes at least one byte, and no more than there are.
 use Rattle.std.proofs.Common.{◌≡◌, ℕ, ◌+◌, ◌<◌, ◌≤◌, ◌^◌, List, [], ◌∷◌, length, drop, refl, arith, Bool, true, false, cond, ap, subst, length-drop}
-use Rattle.std.specs.Prelude.{◌==◌, ◌&&◌, ◌||◌, not, nat_lt, slice_index, if◌then◌else◌}
+use Rattle.std.specs.Prelude.{◌==◌, ◌&&◌, not, nat_lt, slice_index, if◌then◌else◌}
 use Rattle.std.specs.List.{take_while, prefix_len}
-use Rattle.std.proofs.lemmas.Bool.{eqb-true}
+use Rattle.std.proofs.lemmas.Bool.{and_parts, eqb-true, or_left}
 use Rattle.std.proofs.lemmas.List.Sums.{prefix_len-le-length}
 use Rattle.std.proofs.lemmas.List.Folds.{length-prefix_len}
-use Rattle.rmt_lexer.specs.Text.{item_of, number_item, hex_item, is_space, is_letter, is_digit, is_hex, is_name_byte, is_sign, is_comment, is_hex_number, is_equal}
+use Rattle.rmt_bits.specs.Digits.{is_digit, is_hex, is_hex_number}
+use Rattle.rmt_lexer.specs.Text.{item_of, number_item, hex_item, is_space, is_letter, is_name_byte, is_sign, is_comment, is_equal}
 use Rattle.rmt_lexer.specs.declared.item.Item.{Item}
 use Rattle.rmt_lexer.specs.declared.item.Item.TheVariants as item
 
@@ -22,14 +23,6 @@ choice : (b : Bool) (x y : Item) (n : ℕ) → (b ≡ true → Fits x n) → (b 
 choice true x y n f g = f refl
 choice false x y n f g = g refl
 
-and_right : (a b : Bool) → (a && b) ≡ true → b ≡ true
-and_right true b h = h
-and_right false b h = cc
-
-and_left : (a b : Bool) → (a && b) ≡ true → a ≡ true
-and_left true b h = refl
-and_left false b h = cc
-
 run_most : (p : ℕ → Bool) (text : List ℕ) → length (take_while p text) ≤ length text
 run_most p text = omega (arith, length-prefix_len p text, prefix_len-le-length p text)
 
@@ -42,7 +35,7 @@ run p b bs h = record { some = run_some p b bs h; most = run_most p (b ∷ bs) }
 
 -- a second byte other than 0 is there
 second : (a : Bool) (b c : ℕ) (bs : List ℕ) → 0 < c → (a && (slice_index (b ∷ bs) 1 == c)) ≡ true → 2 ≤ length (b ∷ bs)
-second a b c [] pos h = let e : 0 ≡ c = eqb-true 0 c (and_right a (0 == c) h) in absurd (omega arith)
+second a b c [] pos h = let e : 0 ≡ c = eqb-true 0 c (and_parts a (0 == c) h).1 in absurd (omega arith)
 second a b c (d ∷ bs) pos h = omega arith
 
 number_fits : (value len n : ℕ) → Within len n → Fits (number_item value len) n
@@ -52,13 +45,10 @@ hex_fits : (digits : List ℕ) (n : ℕ) → 2 + length digits ≤ n → Fits (h
 hex_fits digits n h = choice (length digits == 0) _ _ n (λ _. tt) (λ _. number_fits _ (2 + length digits) n (record { some = omega arith; most = h }))
 
 comment_first : (b : ℕ) (x : Bool) → ((b == 47) && x) ≡ true → not (b == 10) ≡ true
-comment_first b x h = let e : b ≡ 47 = eqb-true b 47 (and_left (b == 47) x h) in rw e refl
+comment_first b x h = let e : b ≡ 47 = eqb-true b 47 (and_parts (b == 47) x h).0 in rw e refl
 
 hex_within : (b : ℕ) (bs : List ℕ) → is_hex_number (b ∷ bs) ≡ true → 2 + length (take_while is_hex (drop 2 (b ∷ bs))) ≤ length (b ∷ bs)
 hex_within b bs h = omega (arith, second (b == 48) b 120 bs (omega arith) h, run_most is_hex (drop 2 (b ∷ bs)), length-drop 2 (b ∷ bs))
-
-name_first : (a b : Bool) → a ≡ true → (a || b) ≡ true
-name_first a b h = rw h refl
 
 pub all_fit : (text : List ℕ) → 0 < length text → Fits (item_of text) (length text)
 all_fit [] some = absurd (omega arith)
@@ -67,7 +57,7 @@ all_fit (b ∷ bs) some =
     let one : Within 1 n = record { some = omega arith; most = omega arith } in
     choice (is_space b) _ _ n (λ _. one) (λ _.
     choice (is_comment (b ∷ bs)) _ _ n (λ h. run (λ c. not (c == 10)) b bs (comment_first b _ h)) (λ _.
-    choice (is_letter b) _ _ n (λ h. run is_name_byte b bs (name_first _ _ h)) (λ _.
+    choice (is_letter b) _ _ n (λ h. run is_name_byte b bs (or_left _ _ h)) (λ _.
     choice (is_hex_number (b ∷ bs)) _ _ n (λ h. hex_fits _ n (hex_within b bs h)) (λ _.
     choice (is_digit b) _ _ n (λ h. number_fits _ _ n (run is_digit b bs h)) (λ _.
     choice (is_equal (b ∷ bs)) _ _ n (λ h. record { some = omega arith; most = second (b == 61) b 61 bs (omega arith) h }) (λ _.

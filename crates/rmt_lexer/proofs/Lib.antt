@@ -1,4 +1,3 @@
 mod Ends
 mod Items
-mod Numbers
-mod Reading
+pub mod Reading

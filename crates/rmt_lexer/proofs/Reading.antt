@@ -1,20 +1,30 @@
 -- How the reading of a text goes on behind an item.
-use Rattle.std.proofs.Common.{◌≡◌, ℕ, zero, suc, ◌-◌, ◌<◌, List, [], ◌∷◌, ◌++◌, length, take, drop, fold, refl, arith, sub-one, append_assoc, sym, ap, ◌∙◌, Result, Ok, Err}
+use Rattle.std.proofs.Common.{◌≡◌, ℕ, zero, suc, ◌-◌, ◌<◌, List, [], ◌∷◌, ◌++◌, length, take, drop, fold, refl, arith, sub-one, ap, ◌∙◌, Result, Ok, Err}
 use Rattle.rmt_lexer.specs.Text.{item_of, read_item, reading, behind, token_at, with_front}
 use Rattle.rmt_lexer.specs.declared.token.Token.{Token}
 use Rattle.rmt_lexer.specs.declared.token.TokenKind.{TokenKind}
 use Rattle.rmt_lexer.specs.declared.item.Item.TheVariants as item
 use Rattle.rmt_lexer.specs.declared.place.Place.{Place}
 use Rattle.rmt_lexer.specs.declared.fault.ProgramFault.{ProgramFault}
+use Rattle.rmt_lexer.specs.declared.fault.ProgramFault.TheVariants.{At}
+use Rattle.rmt_lexer.specs.declared.token.TokenKind.TheVariants.{End}
 
--- the tokens read so far before those that are still to come
-abbrev pub with_all : List Token → Result (List Token) ProgramFault → Result (List Token) ProgramFault
-with_all ts (Ok us) = Ok (ts ++ us)
-with_all ts (Err f) = Err f
+-- tokens before what is read behind them
+abbrev pub fronts : List Token → Result (List Token) ProgramFault → Result (List Token) ProgramFault
+fronts [] r = r
+fronts (t ∷ ts) r = with_front t (fronts ts r)
 
-pub with_one_more : (ts : List Token) (t : Token) (r : Result (List Token) ProgramFault) → with_all ts (with_front t r) ≡ with_all (ts ++ t ∷ []) r
-with_one_more ts t (Ok us) = ap Ok (sym (append_assoc ts (t ∷ []) us))
-with_one_more ts t (Err f) = refl
+pub fronts-push : (ts : List Token) (t : Token) (r : Result (List Token) ProgramFault) → fronts ts (with_front t r) ≡ fronts (ts ++ t ∷ []) r
+fronts-push [] t r = refl
+fronts-push (u ∷ us) t r = ap (with_front u) (fronts-push us t r)
+
+pub fronts-Ok : (ts us : List Token) → fronts ts (Ok us) ≡ Ok (ts ++ us)
+fronts-Ok [] us = refl
+fronts-Ok (t ∷ ts) us = ap (with_front t) (fronts-Ok ts us)
+
+pub fronts-Err : (ts : List Token) (f : ProgramFault) → fronts ts (Err f) ≡ Err f
+fronts-Err [] f = refl
+fronts-Err (t ∷ ts) f = ap (with_front t) (fronts-Err ts f)
 
 pub skip : (n : ℕ) (at : Place) (text : List ℕ) → reading n at text ≡ reading 0 (fold behind at (take n text)) (drop n text)
 skip zero at [] = refl
@@ -39,3 +49,15 @@ after_token at [] what n some pos is = absurd (omega arith)
 after_token at (b ∷ bs) what n some pos is =
     let rest : ℕ → Result (List Token) ProgramFault = λ len. reading (len - 1) (behind at b) bs in
     ap (λ i. read_item at i rest) is ∙ ap (with_front (token_at at what)) (begun at b bs n pos)
+
+-- behind the tokens so far stands a fault
+pub read_fault : (ts : List Token) (at : Place) (text : List ℕ) (code : ℕ) → 0 < length text → item_of text ≡ item.Fault code → fronts ts (reading 0 at text) ≡ Err (At code at.line at.column)
+read_fault ts at [] code some is = absurd (omega arith)
+read_fault ts at (b ∷ bs) code some is =
+    let rest : ℕ → Result (List Token) ProgramFault = λ len. reading (len - 1) (behind at b) bs in
+    ap (λ i. fronts ts (read_item at i rest)) is ∙ fronts-Err ts (At code at.line at.column)
+
+-- or the end
+pub read_end : (ts : List Token) (at : Place) (text : List ℕ) → length text ≡ 0 → fronts ts (reading 0 at text) ≡ Ok (ts ++ token_at at End ∷ [])
+read_end ts at [] none = fronts-Ok ts (token_at at End ∷ [])
+read_end ts at (b ∷ bs) none = absurd (omega arith)

@@ -1,6 +1,7 @@
 -- The tokens of a program's text.
-use Rattle.std.specs.Prelude.{◌≡◌, ℕ, zero, suc, ◌+◌, ◌-◌, ◌*◌, ◌^◌, List, [], ◌∷◌, Bool, ◌==◌, ◌&&◌, ◌||◌, nat_le, nat_lt, if◌then◌else◌, not, length, drop, fold, slice_index, Result, Ok, Err}
+use Rattle.std.specs.Prelude.{◌≡◌, ℕ, zero, suc, ◌+◌, ◌-◌, ◌^◌, List, [], ◌∷◌, Bool, ◌==◌, ◌&&◌, ◌||◌, nat_le, nat_lt, if◌then◌else◌, not, length, drop, slice_index, Result, Ok, Err}
 use Rattle.std.specs.List.{take_while, list_any}
+use Rattle.rmt_bits.specs.Digits.{is_digit, is_hex, is_hex_number, number_of_digits}
 use Rattle.rmt_lexer.specs.declared.token.Token.{Token}
 use Rattle.rmt_lexer.specs.declared.token.TokenKind.{TokenKind}
 use Rattle.rmt_lexer.specs.declared.token.TokenKind.TheVariants.{Word, Number, Sign, Equal, End}
@@ -18,13 +19,6 @@ is_space b = (b == 32) || (b == 9) || (b == 10) || (b == 13)
 abbrev pub is_letter : ℕ → Bool
 is_letter b = (nat_le 97 b && nat_le b 122) || (nat_le 65 b && nat_le b 90) || (b == 95)
 
-abbrev pub is_digit : ℕ → Bool
-is_digit b = nat_le 48 b && nat_le b 57
-
--- a hexadecimal digit of either case
-abbrev pub is_hex : ℕ → Bool
-is_hex b = is_digit b || (nat_le 97 b && nat_le b 102) || (nat_le 65 b && nat_le b 70)
-
 -- what a name may go on with
 abbrev pub is_name_byte : ℕ → Bool
 is_name_byte b = is_letter b || is_digit b
@@ -32,18 +26,6 @@ is_name_byte b = is_letter b || is_digit b
 -- { } ( ) : ; , . = + - * & | ^
 abbrev pub is_sign : ℕ → Bool
 is_sign b = list_any (λ sign. b == sign) (123 ∷ 125 ∷ 40 ∷ 41 ∷ 58 ∷ 59 ∷ 44 ∷ 46 ∷ 61 ∷ 43 ∷ 45 ∷ 42 ∷ 38 ∷ 124 ∷ 94 ∷ [])
-
--- the value of a digit of either case
-abbrev pub digit_value : ℕ → ℕ
-digit_value b = if nat_le 97 b then b - 87 else (if nat_le 65 b then b - 55 else b - 48)
-
--- the number that digits say, the first one highest
-abbrev pub number_of : ℕ → List ℕ → ℕ
-number_of base digits = fold (λ value digit. value * base + digit_value digit) 0 digits
-
--- the text begins with 0x; past its end a text has the byte 0
-abbrev pub is_hex_number : List ℕ → Bool
-is_hex_number text = (slice_index text 0 == 48) && (slice_index text 1 == 120)
 
 -- the text begins with //
 abbrev pub is_comment : List ℕ → Bool
@@ -59,7 +41,7 @@ number_item value len = if nat_lt value (2 ^ 128) then item.Token (Number value)
 
 -- behind 0x stands at least one digit
 abbrev pub hex_item : List ℕ → Item
-hex_item digits = if length digits == 0 then item.Fault 2 else number_item (number_of 16 digits) (2 + length digits)
+hex_item digits = if length digits == 0 then item.Fault 2 else number_item (number_of_digits 16 digits) (2 + length digits)
 
 -- What begins a text that is not empty, and of how many bytes: a byte of white space, a comment up to its line feed,
 -- the longest token that begins there, or a fault.
@@ -69,7 +51,7 @@ item_of text =
     else (if is_comment text then item.Gap (length (take_while (λ b. not (b == 10)) text))
     else (if is_letter (slice_index text 0) then item.Token (Word (take_while is_name_byte text)) (length (take_while is_name_byte text))
     else (if is_hex_number text then hex_item (take_while is_hex (drop 2 text))
-    else (if is_digit (slice_index text 0) then number_item (number_of 10 (take_while is_digit text)) (length (take_while is_digit text))
+    else (if is_digit (slice_index text 0) then number_item (number_of_digits 10 (take_while is_digit text)) (length (take_while is_digit text))
     else (if is_equal text then item.Token Equal 2
     else (if is_sign (slice_index text 0) then item.Token (Sign (slice_index text 0)) 1
     else item.Fault 1))))))

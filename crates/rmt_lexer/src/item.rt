@@ -1,11 +1,13 @@
-ghost use Rattle.std.specs.Prelude.{◌≡◌, ◌<◌, ◌≤◌, ◌^◌, length, drop, not, ◌==◌, ◌||◌, ℕ, IfOk, SomeIff};
+ghost use Rattle.std.specs.Prelude.{◌≡◌, ◌-◌, ◌<◌, ◌≤◌, ◌^◌, length, drop, not, ◌==◌, ◌||◌, ℕ, IfOk, SomeIff};
 ghost use Rattle.std.specs.List.{take_while};
-ghost use Rattle.rmt_lexer.specs.Text.{is_space, is_letter, is_digit, is_hex, is_name_byte, is_sign, is_hex_number, is_comment, is_equal, digit_value, number_of, number_item, hex_item, item_of};
+ghost use Rattle.rmt_bits.specs.Digits.{is_digit, is_hex, number_of_digits};
+ghost use Rattle.rmt_lexer.specs.Text.{is_space, is_letter, is_name_byte, is_sign, number_item, hex_item, item_of};
 ghost use Rattle.rmt_lexer.specs.declared.item.Item.TheVariants as item;
 ghost use Rattle.rmt_lexer.specs.declared.token.TokenKind.TheVariants.{Word};
 
 use crate::token::TokenKind;
 use rmt_ast::name::Name;
+use rmt_bits::digits::{digits_len, hex_len, is_digit, is_hex_number, number_up_to};
 use std::alloc::{AllocError, Global};
 
 /// What begins a text, with the number of its bytes.
@@ -29,18 +31,6 @@ fn is_letter(byte: u8) -> bool
     b'a' <= byte && byte <= b'z' || b'A' <= byte && byte <= b'Z' || byte == b'_'
 }
 
-fn is_digit(byte: u8) -> bool
-    ensures { result ≡ is_digit byte }
-{
-    b'0' <= byte && byte <= b'9'
-}
-
-fn is_hex(byte: u8) -> bool
-    ensures { result ≡ is_hex byte }
-{
-    is_digit(byte) || b'a' <= byte && byte <= b'f' || b'A' <= byte && byte <= b'F'
-}
-
 fn is_name_byte(byte: u8) -> bool
     ensures { result ≡ is_name_byte byte }
 {
@@ -53,38 +43,11 @@ fn is_sign(byte: u8) -> bool
     b"{}():;,.=+-*&|^".contains(&byte)
 }
 
-/// The value of a hexadecimal digit of either case.
-fn digit_value(digit: u8) -> u128
-    ensures { result ≡ digit_value digit }
-{
-    if digit >= b'a' {
-        (digit - 87) as u128
-    } else if digit >= b'A' {
-        (digit - 55) as u128
-    } else {
-        digit.saturating_sub(b'0') as u128
-    }
-}
-
 /// How many bytes at the front can go on a name.
 fn word_len(text: &[u8]) -> usize
     ensures { result ≡ length (take_while is_name_byte text.now) }
 {
     text.iter().take_while(|byte| is_name_byte(**byte)).count()
-}
-
-/// How many bytes at the front are decimal digits.
-fn digits_len(text: &[u8]) -> usize
-    ensures { result ≡ length (take_while is_digit text.now) }
-{
-    text.iter().take_while(|byte| is_digit(**byte)).count()
-}
-
-/// How many bytes at the front are hexadecimal digits.
-fn hex_len(text: &[u8]) -> usize
-    ensures { result ≡ length (take_while is_hex text.now) }
-{
-    text.iter().take_while(|byte| is_hex(**byte)).count()
 }
 
 /// How many bytes stand before the line feed, or before the end.
@@ -94,27 +57,9 @@ fn line_len(text: &[u8]) -> usize
     text.iter().take_while(|byte| **byte != b'\n').count()
 }
 
-/// The number that the digits say, or None where it has more than 128 bits.
-fn value_of(base: u128, digits: &[u8]) -> Option<u128>
-    requires { 0 < base }
-    ensures { SomeIff result (number_of base digits.now < 2 ^ 128) (number_of base digits.now) }
-{
-    let mut value: u128 = 0;
-    for digit in digits {
-        let Some(product) = value.checked_mul(base) else {
-            return None;
-        };
-        let Some(sum) = product.checked_add(digit_value(*digit)) else {
-            return None;
-        };
-        value = sum;
-    }
-    Some(value)
-}
-
 /// A number of `len` bytes.
 fn number_item(value: Option<u128>, len: usize) -> Item
-    ensures { (number : ℕ) → SomeIff value (number < 2 ^ 128) number → result ≡ number_item number len }
+    ensures { (number : ℕ) → SomeIff value (number ≤ 2 ^ 128 - 1) number → result ≡ number_item number len }
 {
     match value {
         Some(value) => Item::Token(TokenKind::Number(value), len),
@@ -132,16 +77,16 @@ fn hex_item(text: &[u8]) -> Item
     if len == 0 {
         Item::Fault(2)
     } else {
-        number_item(value_of(16, &behind[..len]), 2 + len)
+        number_item(number_up_to(u128::MAX, 16, &behind[..len]), 2 + len)
     }
 }
 
 /// The decimal number that begins the text.
 fn decimal_item(text: &[u8]) -> Item
-    ensures { result ≡ number_item (number_of 10 (take_while is_digit text.now)) (length (take_while is_digit text.now)) }
+    ensures { result ≡ number_item (number_of_digits 10 (take_while is_digit text.now)) (length (take_while is_digit text.now)) }
 {
     let len = digits_len(text);
-    number_item(value_of(10, &text[..len]), len)
+    number_item(number_up_to(u128::MAX, 10, &text[..len]), len)
 }
 
 /// The name or reserved word that begins the text.
@@ -166,7 +111,7 @@ pub fn item_of(alloc: Global, text: &[u8]) -> Result<Item, AllocError>
         Ok(Item::Gap(line_len(text)))
     } else if is_letter(first) {
         word_item(alloc, text)
-    } else if first == b'0' && second == b'x' {
+    } else if is_hex_number(text) {
         Ok(hex_item(text))
     } else if is_digit(first) {
         Ok(decimal_item(text))

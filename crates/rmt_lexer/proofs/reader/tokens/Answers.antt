@@ -1,12 +1,11 @@
 use Rattle.std.specs.Prelude.{Ok}
 use Rattle.rmt_lexer.specs.Text.{first_place, tokens_of}
 use Rattle.rmt_lexer.proofs.Ends.{Fine, fine}
-use Rattle.std.proofs.lemmas.Grind.{common_steps}
 use Rattle.std.proofs.Common.{rules, ◌≡◌, ◌<◌, length, arith, sym, subst, ◌∙◌, ap, fold, take, drop}
 use Rattle.rmt_lexer.specs.Text.{item_of, reading, behind, token_at}
 use Rattle.rmt_lexer.specs.declared.item.Item.TheVariants as item
 use Rattle.rmt_lexer.proofs.Items.{Within, gap_fits, token_fits}
-use Rattle.rmt_lexer.proofs.Reading.{with_all, with_one_more, after_gap, after_token}
+use Rattle.rmt_lexer.proofs.Reading.{fronts, fronts-push, after_gap, after_token, read_end, read_fault}
 use Rattle.rmt_lexer.proofs.reader.tokens.Goals as goal
 use Rattle.rmt_lexer.proofs.reader.tokens.Goals.{In-Gap, In-Token}
 
@@ -34,7 +33,7 @@ loop-rest-preserved-in-Gap c =
     let same : reading 0 (fold behind c.loop-rest.place (take c.in-Gap.len c.loop-rest.rest.now)) (drop c.in-Gap.len c.loop-rest.rest.now) ≡ reading 0 c.moved-place.result c.split_at.result.1.now =
     cc (c.moved-place.ensures.place, c.split_at.ensures.front, c.split_at.ensures.back) in
     record {
-      told = c.loop-rest.invariant.told ∙ ap (with_all c.loop-rest.tokens.items) (after_gap c.loop-rest.place c.loop-rest.rest.now c.in-Gap.len (gap_some w) within.some (gap_is w) ∙ same);
+      told = c.loop-rest.invariant.told ∙ ap (fronts c.loop-rest.tokens.items) (after_gap c.loop-rest.place c.loop-rest.rest.now c.in-Gap.len (gap_some w) within.some (gap_is w) ∙ same);
       line = omega (arith, c.moved-place.ensures.line, c.split_at.ensures.front_len, c.split_at.ensures.back_len, c.loop-rest.invariant.line);
       column = omega (arith, c.moved-place.ensures.column, c.split_at.ensures.front_len, c.split_at.ensures.back_len, c.loop-rest.invariant.column);
     }
@@ -64,15 +63,27 @@ loop-rest-preserved c =
     cc (c.moved-place-in-Token.ensures.place, c.split_at-in-Token.ensures.front, c.split_at-in-Token.ensures.back) in
     record {
       told = c.loop-rest.invariant.told
-          ∙ ap (with_all c.loop-rest.tokens.items) (after_token c.loop-rest.place c.loop-rest.rest.now c.in-Token.what c.in-Token.len (token_some w) within.some (token_is w))
-          ∙ with_one_more c.loop-rest.tokens.items (token_at c.loop-rest.place c.in-Token.what) _
+          ∙ ap (fronts c.loop-rest.tokens.items) (after_token c.loop-rest.place c.loop-rest.rest.now c.in-Token.what c.in-Token.len (token_some w) within.some (token_is w))
+          ∙ fronts-push c.loop-rest.tokens.items (token_at c.loop-rest.place c.in-Token.what) _
           ∙ cc (same, c.token_at.ensures, c.in_ok-push-in-Token.ensures.items);
       line = omega (arith, c.moved-place-in-Token.ensures.line, c.split_at-in-Token.ensures.front_len, c.split_at-in-Token.ensures.back_len, c.loop-rest.invariant.line);
       column = omega (arith, c.moved-place-in-Token.ensures.column, c.split_at-in-Token.ensures.front_len, c.split_at-in-Token.ensures.back_len, c.loop-rest.invariant.column);
     }
 
+pub returns-in-Fault-clause-exact : goal.returns-in-Fault-clause-exact
+returns-in-Fault-clause-exact c =
+    let some : 0 < length c.loop-rest.rest.now = search rules in
+    let all = c.loop-rest.invariant.told ∙ read_fault c.loop-rest.tokens.items c.loop-rest.place c.loop-rest.rest.now c.in-Fault.code some (sym c.in_ok-len.ensures ∙ c.in-Fault.is) in
+    rw c.fault_at.ensures all
+
 -- the last token is pushed behind the loop
+all_read : (c : goal.In_ok-push) → tokens_of c.args.text.now ≡ Ok c.push-2.new.self.items
+all_read c =
+    let none : length c.loop-rest.rest.now ≡ 0 = search rules in
+    c.loop-rest.invariant.told ∙ read_end c.loop-rest.tokens.items c.loop-rest.place c.loop-rest.rest.now none ∙ cc (c.token_at-2.ensures, c.in_ok-push.ensures.items)
+
+pub returns-clause-exact : goal.returns-clause-exact
+returns-clause-exact c = all_read c
+
 pub returns-clause-ends : goal.returns-clause-ends
-returns-clause-ends c =
-    let told : tokens_of c.args.text.now ≡ Ok c.push-2.new.self.items = first_of (search rules, grind (arith, common_steps)) in
-    (subst (Fine (length c.args.text.now)) told (fine 0 first_place c.args.text.now)).0
+returns-clause-ends c = (subst (Fine (length c.args.text.now)) (all_read c) (fine 0 first_place c.args.text.now)).0
