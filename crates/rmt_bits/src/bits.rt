@@ -4,7 +4,7 @@ ghost use Rattle.std.specs.Prelude.{◌≡◌, ℕ, ◌+◌, ◌-◌, ◌*◌, �
 ghost use Rattle.rmt_bits.specs.Bits.{slice as slice_of, deposit as deposit_of, number_of, bits_of_bytes as bits_of};
 
 /// A number whose lowest `len` bits are 1, for `len` up to 128.
-fn ones(len: u8) -> u128
+pub fn ones(len: u8) -> u128
     requires { len ≤ 128 }
     ensures { result ≡ 2 ^ len - 1 }
 {
