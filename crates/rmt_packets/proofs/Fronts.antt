@@ -5,7 +5,8 @@ use Rattle.std.proofs.lemmas.Bool.{and_parts, cases_Bool, cases_lt, eq-eqb, eqb-
 use Rattle.std.proofs.lemmas.List.{get_or-take, length-take-le, take-append-drop, take-take, take_all}
 use Rattle.std.proofs.lemmas.List.Folds.{length-prefix_len, prefix_len-append}
 use Rattle.std.proofs.lemmas.List.Sums.{prefix_len-le-length}
-use Rattle.rmt_packets.specs.PacketText.{begins_with_port, frame_digits, is_digit, number_of_digits, packet_of, port_digits}
+use Rattle.rmt_bits.specs.Digits.{is_digit, number_of_digits}
+use Rattle.rmt_packets.specs.PacketText.{begins_with_port, frame_digits, packet_of, port_digits}
 use Rattle.rmt_packets.specs.Pieces.{front_of, front_size}
 use Rattle.rmt_packets.proofs.Packet.{form_fault, length_fault, port_fault}
 use Rattle.rmt_packets.proofs.Standing.{front_size_is}
@@ -33,14 +34,14 @@ same_digits n line large longer digits inside =
     let b : begins_with_port front ≡ begins_with_port line =
     ap (λ k. leb 1 k && leb k 10 && eqb (get_or front k 0) 32) (ap length same)
     ∙ ap (λ x. leb 1 count && leb count 10 && eqb x 32) (get_or-take n line count 0 (omega arith)) in
-    let port : number_of_digits (port_digits front) ≡ number_of_digits (port_digits line) = ap number_of_digits same in
+    let port : number_of_digits 10 (port_digits front) ≡ number_of_digits 10 (port_digits line) = ap (number_of_digits 10) same in
     elim (cases_Bool (begins_with_port line)) [
       | inr other ↦ form_fault front (b ∙ other) ∙ sym (form_fault line other)
       | inl is ↦
           let ten = few_digits line is in
           let here : 18432 < length (frame_digits front) = omega (arith, length-drop (length (port_digits front) + 1) front, ap length same) in
           let there : 18432 < length (frame_digits line) = omega (arith, length-drop (count + 1) line) in
-          elim (cases_lt 511 (number_of_digits (port_digits line))) [
+          elim (cases_lt 511 (number_of_digits 10 (port_digits line))) [
             | inl above ↦ port_fault front (b ∙ is) (omega arith) ∙ sym (port_fault line is above)
             | inr within ↦ length_fault front (b ∙ is) (omega arith) here ∙ sym (length_fault line is within there)
           ]

@@ -3,10 +3,11 @@ use Rattle.std.proofs.Common.{◌≡◌, ℕ, ◌/◌, ◌%◌, ◌<◌, ◌≤�
 use Rattle.std.proofs.lemmas.Bool.{eq-eqb, lt-ltb, le-ltb, ne_eqb}
 use Rattle.hex.specs.Hex.{decode_of, decode_sized}
 use Rattle.hex.specs.declared.error.FromHexError.{FromHexError}
-use Rattle.rmt_packets.specs.PacketText.{begins_with_port, frame_digits, number_of_digits, packet_of, packet_or_code, port_digits}
+use Rattle.rmt_bits.specs.Digits.{number_of_digits}
+use Rattle.rmt_packets.specs.PacketText.{begins_with_port, frame_digits, packet_of, packet_or_code, port_digits}
 
 abbrev port : List ℕ → ℕ
-port line = number_of_digits (port_digits line)
+port line = number_of_digits 10 (port_digits line)
 
 pub form_fault : (line : List ℕ) → begins_with_port line ≡ false → packet_of line ≡ Err 1
 form_fault line b = rw b

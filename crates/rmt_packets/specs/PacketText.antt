@@ -1,22 +1,16 @@
 -- What a packet text says: a port, one space and a frame in hexadecimal digits on each line.
-use Rattle.std.specs.Prelude.{ℕ, Bool, List, [], ◌∷◌, ◌++◌, ◌+◌, ◌-◌, ◌*◌, ◌==◌, ◌&&◌, ◌||◌, nat_lt, nat_le, if◌then◌else◌, length, drop, slice_index, fold, codes, Option, Some, None, Result, Ok, Err}
+use Rattle.std.specs.Prelude.{ℕ, Bool, List, [], ◌∷◌, ◌++◌, ◌+◌, ◌==◌, ◌&&◌, ◌||◌, nat_lt, nat_le, if◌then◌else◌, length, drop, slice_index, codes, Option, Some, None, Result, Ok, Err}
 use Rattle.std.specs.List.{take_while}
 use Rattle.std.specs.Fmt.{decimal}
 use Rattle.hex.specs.Hex.{decode_of, encode_lower}
 use Rattle.hex.specs.declared.error.FromHexError.{FromHexError}
+use Rattle.rmt_bits.specs.Digits.{is_digit, number_of_digits}
 use Rattle.rmt_bits.specs.Packet.{Packet}
 use Rattle.rmt_packets.specs.Lines.{numbered_lines}
-
-abbrev pub is_digit : ℕ → Bool
-is_digit b = nat_le 48 b && nat_le b 57
 
 -- the decimal digits that a line begins with
 abbrev pub port_digits : List ℕ → List ℕ
 port_digits line = take_while is_digit line
-
--- decimal digits as a number
-abbrev pub number_of_digits : List ℕ → ℕ
-number_of_digits digits = fold (λ n d. 10 * n + (d - 48)) 0 digits
 
 -- a line that begins with 1 to 10 decimal digits and a space
 abbrev pub begins_with_port : List ℕ → Bool
@@ -35,9 +29,9 @@ packet_or_code port (Err e) = Err 1
 abbrev pub packet_of : List ℕ → Result Packet ℕ
 packet_of line =
     if begins_with_port line then
-    (if nat_lt 511 (number_of_digits (port_digits line)) then Err 2
+    (if nat_lt 511 (number_of_digits 10 (port_digits line)) then Err 2
     else (if length (frame_digits line) == 0 || nat_lt 18432 (length (frame_digits line)) then Err 3
-    else packet_or_code (number_of_digits (port_digits line)) (decode_of (frame_digits line))))
+    else packet_or_code (number_of_digits 10 (port_digits line)) (decode_of (frame_digits line))))
     else Err 1
 
 -- a line with a fault

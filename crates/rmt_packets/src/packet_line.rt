@@ -1,10 +1,10 @@
 ghost use Rattle.std.specs.Prelude.{◌≡◌, ℕ, ⊤, ◌+◌, ◌*◌, ◌<◌, ◌≤◌, [], length, take, IsTrue, IfOk, IfErr, OnOk, OnErr, IsErr};
-ghost use Rattle.std.specs.List.{AllPass, prefix_len};
 ghost use Rattle.hex.specs.Hex.{decode_of};
 ghost use Rattle.rmt_packets.specs.Fault.{MatchFault};
 ghost use Rattle.rmt_packets.specs.Pieces.{front_of};
-ghost use Rattle.rmt_packets.specs.PacketText.{begins_with_port, is_digit, number_of_digits, packet_of, port_digits};
+ghost use Rattle.rmt_packets.specs.PacketText.{begins_with_port, packet_of, port_digits};
 
+use rmt_bits::digits::{digits_len, number_up_to};
 use thiserror::Error;
 
 /// Why a packet line was not read, or an answer line not written.
@@ -21,7 +21,7 @@ pub enum PacketFault {
 const PORT_DIGITS: usize = 10;
 
 /// The greatest port.
-const LAST_PORT: u64 = 511;
+const LAST_PORT: u128 = 511;
 
 /// The most digits of a frame, two for each of its 9,216 bytes.
 const FRAME_DIGITS: usize = 18432;
@@ -42,14 +42,13 @@ pub fn read_packet(line: &[u8], into: &mut Vec<u8>) -> Result<u16, PacketFault>
     ensures frame { OnOk result ((1 ≤ length into.new.items) × (length into.new.items ≤ 9216)) }
 {
     into.clear();
-    let count = digit_count(line);
+    let count = digits_len(line);
     if !is_port(line, count) {
         return Err(PacketFault::Code(1));
     }
-    let port = number_of(&line[..count]);
-    if LAST_PORT < port {
+    let Some(port) = number_up_to(LAST_PORT, 10, &line[..count]) else {
         return Err(PacketFault::Code(2));
-    }
+    };
     let digits = &line[count + 1..];
     if digits.is_empty() || FRAME_DIGITS < digits.len() {
         return Err(PacketFault::Code(3));
@@ -58,56 +57,13 @@ pub fn read_packet(line: &[u8], into: &mut Vec<u8>) -> Result<u16, PacketFault>
     Ok(port as u16)
 }
 
-/// How many decimal digits a line begins with.
-fn digit_count(line: &[u8]) -> usize
-    ensures digits { port_digits line.now ≡ take result line.now }
-    ensures len { length (port_digits line.now) ≡ result }
-    ensures decimal { AllPass is_digit (take result line.now) }
-    ensures within { result ≤ length line.now }
-{
-    first_other(line)
-}
-
-/// The place of the first byte that is no decimal digit, or the line's length.
-fn first_other(line: &[u8]) -> usize
-    ensures { result ≡ prefix_len is_digit line.now }
-{
-    for (i, byte) in line.iter().enumerate() {
-        if !is_decimal(*byte) {
-            return i;
-        }
-    }
-    line.len()
-}
-
 /// Whether a line, which begins with so many decimal digits, begins with a port and a space.
 fn is_port(line: &[u8], count: usize) -> bool
     requires { length (port_digits line.now) ≡ count }
     ensures value { result ≡ begins_with_port line.now }
-    ensures few { IsTrue result → count ≤ 10 }
     ensures room { IsTrue result → count < length line.now }
 {
     1 <= count && count <= PORT_DIGITS && line.get(count) == Some(&b' ')
-}
-
-/// Whether a byte is a decimal digit.
-fn is_decimal(byte: u8) -> bool
-    ensures { result ≡ is_digit byte }
-{
-    b'0' <= byte && byte <= b'9'
-}
-
-/// At most ten decimal digits as a number.
-fn number_of(digits: &[u8]) -> u64
-    requires few { length digits.now ≤ 10 }
-    requires decimal { AllPass is_digit digits.now }
-    ensures { result ≡ number_of_digits digits.now }
-{
-    let mut number = 0u64;
-    for digit in digits {
-        number = 10 * number + u64::from(*digit - b'0');
-    }
-    number
 }
 
 /// Puts the bytes of hexadecimal digits into an empty `into`, which is empty after a refusal too.
