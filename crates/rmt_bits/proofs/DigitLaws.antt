@@ -1,7 +1,7 @@
 -- What digits are, what they say, and how a number's digits are written.
-use Rattle.std.proofs.Common.{◌≡◌, ◌∙◌, ℕ, ◌+◌, ◌-◌, ◌*◌, ◌/◌, ◌%◌, ◌^◌, ◌<◌, ◌≤◌, Bool, true, cond, leb, List, [], ◌∷◌, ◌++◌, length, get_or, drop, fold, refl, sym, ap, arith, add-one, drop-cons}
+use Rattle.std.proofs.Common.{◌≡◌, ◌∙◌, ℕ, ◌+◌, ◌-◌, ◌*◌, ◌/◌, ◌%◌, ◌^◌, ◌<◌, ◌≤◌, true, leb, List, [], ◌∷◌, ◌++◌, length, get_or, drop, fold, refl, sym, ap, arith, add-one, drop-cons}
 use Rattle.std.specs.Fmt.{decimal}
-use Rattle.std.specs.List.{list_all, prefix_len}
+use Rattle.std.specs.List.{list_all}
 use Rattle.std.proofs.Math.Nat.{mul-le-mul_left, mul-le-mul_right, mul_assoc, pow-succ'}
 use Rattle.std.proofs.lemmas.Bool.{and_from, and_parts, le-leb, leb-true, lt-leb}
 use Rattle.std.proofs.lemmas.Fmt.{decimal_by_steps}
@@ -76,6 +76,10 @@ pub record Says (n : ℕ) (ds : List ℕ) : Type 0 where
   pub digits : list_all is_digit ds ≡ true
   pub number : number_of_digits 10 ds ≡ n
 
+-- the first of them is a decimal digit
+pub Says-first : (n : ℕ) (ds : List ℕ) (s : Says n ds) → IsDigit s.first
+Says-first n ds s = IsDigit-from s.first (and_parts (is_digit s.first) (list_all is_digit s.rest) (ap (list_all is_digit) (sym s.is) ∙ s.digits)).0
+
 all_one : (d : ℕ) → d < 10 → list_all is_digit ((48 + d) ∷ []) ≡ true
 all_one d lt = and_from (is_digit (48 + d)) true (is_digit-shown d lt) refl
 
@@ -96,10 +100,3 @@ more_digits n ds ge s =
 -- a number's decimal digits say it
 pub Says-decimal : (n : ℕ) → n < 2 ^ 64 → Says n (decimal n)
 Says-decimal n lt = decimal_by_steps Says one_digit more_digits n lt
-
--- where all bytes pass, the front that passes is the whole
-pub prefix_len-all : {X : Type 0} (p : X → Bool) (xs : List X) → list_all p xs ≡ true → prefix_len p xs ≡ length xs
-prefix_len-all p [] all = refl
-prefix_len-all p (x ∷ xs) all =
-    let both = and_parts (p x) (list_all p xs) all in
-    ap (λ b. cond b (1 + prefix_len p xs) 0) both.0 ∙ omega (arith, prefix_len-all p xs both.1)

@@ -1,7 +1,9 @@
 -- Lists: where there is an item, lists without items, and one item more.
-use Rattle.std.proofs.Common.{◌≡◌, ◌≢◌, ℕ, zero, suc, ◌+◌, ◌<◌, ◌≤◌, Bool, false, cond, List, [], ◌∷◌, ◌++◌, length, drop, Option, None, Some, refl, ap, sym, subst, ◌∙◌, arith}
+use Rattle.std.proofs.Common.{◌≡◌, ◌≢◌, ℕ, zero, suc, ◌+◌, ◌<◌, ◌≤◌, Bool, true, false, cond, List, [], ◌∷◌, ◌++◌, length, take, drop, Option, None, Some, refl, ap, sym, subst, ◌∙◌, arith}
 use Rattle.std.specs.Prelude.{All, IsSome, IsSomeAnd, find, slice_get, slice_set, map}
-use Rattle.std.specs.List.{flat_map, range_with_len, sum_by}
+use Rattle.std.specs.List.{flat_map, list_all, prefix_len, range_with_len, sum_by, take_while}
+use Rattle.std.proofs.Math.Seq.{take-append_seam}
+use Rattle.std.proofs.lemmas.Bool.{and_parts}
 use Rattle.std.proofs.lemmas.List.{map-id, length-drop}
 use Rattle.std.proofs.lemmas.List.FromFn.{map-range_with_len_more}
 use Rattle.std.proofs.lemmas.List.Elements.{All-nil, All-cons, All-head, All-tail}
@@ -108,3 +110,13 @@ find-none test (x ∷ xs) h =
 pub sum_by-map : {X Y : Type 0} (g : Y → ℕ) (f : X → Y) (xs : List X) → sum_by g (map f xs) ≡ sum_by (λ x. g (f x)) xs
 sum_by-map g f [] = refl
 sum_by-map g f (x ∷ xs) = sum_by-cons g (f x) (map f xs) ∙ ap (λ n. g (f x) + n) (sum_by-map g f xs) ∙ sym (sum_by-cons (λ y. g (f y)) x xs)
+
+-- the items that pass a test, up to the first that does not
+pub prefix_len-until : {X : Type 0} (test : X → Bool) (xs : List X) (y : X) (ys : List X) → list_all test xs ≡ true → test y ≡ false → prefix_len test (xs ++ y ∷ ys) ≡ length xs
+prefix_len-until test [] y ys all stops = ap (λ b. cond b (1 + prefix_len test ys) 0) stops
+prefix_len-until test (x ∷ xs) y ys all stops =
+    let both = and_parts (test x) (list_all test xs) all in
+    ap (λ b. cond b (1 + prefix_len test (xs ++ y ∷ ys)) 0) both.0 ∙ omega (arith, prefix_len-until test xs y ys both.1 stops)
+
+pub take_while-until : {X : Type 0} (test : X → Bool) (xs : List X) (y : X) (ys : List X) → list_all test xs ≡ true → test y ≡ false → take_while test (xs ++ y ∷ ys) ≡ xs
+take_while-until test xs y ys all stops = ap (λ n. take n (xs ++ y ∷ ys)) (prefix_len-until test xs y ys all stops) ∙ take-append_seam xs (y ∷ ys)

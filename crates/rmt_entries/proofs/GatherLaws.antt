@@ -102,17 +102,6 @@ knows_more terms es keys new key e h own up q x qi once =
     ∙ ap (λ (b : Bool). cond b true (contains order keys q)) (is_eq-slice_cmp key.items q.items ∙ ap (λ k. bytes_eq k q.items) own ∙ ap (bytes_eq (identity e)) qi)
     ∙ ap (cond (bytes_eq (identity e) (identity x)) true) (h q x qi once) ∙ sym (is_repeated_push es e x)
 
--- an entry more of a table whose entries may share keys
-pub knows_other : (terms : List (Option Terms)) (es : List Entry) (keys : BTreeSet (Vec ℕ Global)) (e : Entry) → Knows terms es keys → is_once terms e.table ≡ false → Knows terms (es ++ e ∷ []) keys
-knows_other terms es keys e h not_once q x qi once =
-    h q x qi once ∙ sym (is_repeated_push es e x ∙ ap (λ (b : Bool). cond b true (is_repeated es x)) (apart (bytes_eq (identity e) (identity x)) refl))
-  where
-    apart : (b : Bool) → bytes_eq (identity e) (identity x) ≡ b → b ≡ false
-    apart false t = refl
-    apart true t =
-        let same : e.table ≡ x.table = ap (λ (k : List ℕ). get_or k 0 0) ((bytes_eq-Decides (identity e) (identity x)).0 t) in
-        absurd (false≢true (sym not_once ∙ ap (is_once terms) same ∙ once))
-
 -- whether a key was there
 pub key_again : (terms : List (Option Terms)) (es : List Entry) (keys : BTreeSet (Vec ℕ Global)) (key : Vec ℕ Global) (e : Entry) (kind : Kind) (is_new : Bool) → Knows terms es keys → key.items ≡ identity e
     → is_once terms e.table ≡ has_keys_once kind → has_keys_once kind ≡ true → is_new ≡ not (contains order keys key) → not is_new ≡ (has_keys_once kind && is_repeated es e)

@@ -22,13 +22,13 @@ passed : (b : Bool) → not b ≡ true → b ≡ false
 passed true h = sym h
 passed false h = refl
 
-none_cons : (x : ℕ) (xs : List ℕ) → is_feed x ≡ false → NoFeed xs → (k : ℕ) → k < length (x ∷ xs) → is_feed (get_or (x ∷ xs) k 0) ≡ false
-none_cons x xs e n zero lt = e
-none_cons x xs e n (suc k) lt = n k (omega arith)
+pub NoFeed-cons : (x : ℕ) (xs : List ℕ) → is_feed x ≡ false → NoFeed xs → NoFeed (x ∷ xs)
+NoFeed-cons x xs e n zero lt = e
+NoFeed-cons x xs e n (suc k) lt = n k (omega arith)
 
-none_append : (xs ys : List ℕ) → NoFeed xs → NoFeed ys → NoFeed (xs ++ ys)
-none_append [] ys n m = m
-none_append (x ∷ xs) ys n m = none_cons x (xs ++ ys) (n 0 (omega arith)) (none_append xs ys (λ k lt. n (suc k) (omega arith)) m)
+pub NoFeed-append : (xs ys : List ℕ) → NoFeed xs → NoFeed ys → NoFeed (xs ++ ys)
+NoFeed-append [] ys n m = m
+NoFeed-append (x ∷ xs) ys n m = NoFeed-cons x (xs ++ ys) (n 0 (omega arith)) (NoFeed-append xs ys (λ k lt. n (suc k) (omega arith)) m)
 
 feeds_none : (xs : List ℕ) → NoFeed xs → feeds xs ≡ 0
 feeds_none [] n = refl
@@ -55,7 +55,7 @@ cut_of (x ∷ xs) =
       | inl n ↦
           elim (cases_Bool (is_feed x)) [
             | inl e ↦ inr (record { front = []; last = xs; is = ap (λ y. y ∷ xs) (eqb-true x 10 e); free = n })
-            | inr e ↦ inl (none_cons x xs e n)
+            | inr e ↦ inl (NoFeed-cons x xs e n)
           ]
     ]
 
@@ -169,20 +169,20 @@ lines_go_on text more =
 pub open_grows : (text part : List ℕ) → NoFeed part → open_line (text ++ part) ≡ open_line text ++ part
 open_grows text part free =
     elim (cut_of text) [
-      | inl n ↦ open_none (text ++ part) (none_append text part n free) ∙ ap (λ l. l ++ part) (sym (open_none text n))
+      | inl n ↦ open_none (text ++ part) (NoFeed-append text part n free) ∙ ap (λ l. l ++ part) (sym (open_none text n))
       | inr c ↦
           ap (λ t. open_line (t ++ part)) c.is ∙ ap open_line (append_assoc c.front (10 ∷ c.last) part)
-          ∙ open_cut c.front (c.last ++ part) (none_append c.last part c.free free)
+          ∙ open_cut c.front (c.last ++ part) (NoFeed-append c.last part c.free free)
           ∙ ap (λ l. l ++ part) (sym (ap open_line c.is ∙ open_cut c.front c.last c.free))
     ]
 
 pub ended_grows : (text part : List ℕ) → NoFeed part → ended_lines (text ++ part) ≡ ended_lines text
 ended_grows text part free =
     elim (cut_of text) [
-      | inl n ↦ ended_none (text ++ part) (none_append text part n free) ∙ sym (ended_none text n)
+      | inl n ↦ ended_none (text ++ part) (NoFeed-append text part n free) ∙ sym (ended_none text n)
       | inr c ↦
           ap (λ t. ended_lines (t ++ part)) c.is ∙ ap ended_lines (append_assoc c.front (10 ∷ c.last) part)
-          ∙ ended_cut c.front (c.last ++ part) (none_append c.last part c.free free)
+          ∙ ended_cut c.front (c.last ++ part) (NoFeed-append c.last part c.free free)
           ∙ sym (ap ended_lines c.is ∙ ended_cut c.front c.last c.free)
     ]
 

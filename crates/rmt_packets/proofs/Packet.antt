@@ -1,7 +1,7 @@
 -- What each step of reading a packet line says of its packet.
-use Rattle.std.proofs.Common.{◌≡◌, ℕ, ◌/◌, ◌%◌, ◌<◌, ◌≤◌, true, false, eqb, ltb, List, length, Result, Err, arith}
-use Rattle.std.proofs.lemmas.Bool.{eq-eqb, lt-ltb, le-ltb, ne_eqb}
-use Rattle.hex.specs.Hex.{decode_of, decode_sized}
+use Rattle.std.proofs.Common.{◌≡◌, ℕ, ◌<◌, ◌≤◌, true, false, eqb, ltb, List, length, Result, Err, arith}
+use Rattle.std.proofs.lemmas.Bool.{lt-ltb, le-ltb, ne_eqb}
+use Rattle.hex.specs.Hex.{decode_of}
 use Rattle.hex.specs.declared.error.FromHexError.{FromHexError}
 use Rattle.rmt_bits.specs.Digits.{number_of_digits}
 use Rattle.rmt_packets.specs.PacketText.{begins_with_port, frame_digits, packet_of, packet_or_code, port_digits}
@@ -16,11 +16,6 @@ pub port_fault : (line : List ℕ) → begins_with_port line ≡ true → 511 < 
 port_fault line b p =
     let t : ltb 511 (port line) ≡ true = lt-ltb 511 (port line) p in
     rw (b, t)
-
-pub empty_fault : (line : List ℕ) → begins_with_port line ≡ true → port line ≤ 511 → length (frame_digits line) ≡ 0 → packet_of line ≡ Err 3
-empty_fault line b p e =
-    let t : ltb 511 (port line) ≡ false = le-ltb 511 (port line) p in
-    rw (b, t, e)
 
 pub length_fault : (line : List ℕ) → begins_with_port line ≡ true → port line ≤ 511 → 18432 < length (frame_digits line) → packet_of line ≡ Err 3
 length_fault line b p l =
@@ -37,9 +32,3 @@ decoded line r b p some few d =
     let z : eqb (length (frame_digits line)) 0 ≡ false = ne_eqb (length (frame_digits line)) 0 (λ e. omega arith) in
     let m : ltb 18432 (length (frame_digits line)) ≡ false = le-ltb 18432 (length (frame_digits line)) few in
     rw (b, t, z, m, d)
-
--- decoding into half as many bytes is decoding
-pub decode_sized-half : (text : List ℕ) (n : ℕ) → eqb (length text % 2) 1 ≡ false → length text / 2 ≡ n → decode_sized text n ≡ decode_of text
-decode_sized-half text n even half =
-    let h : eqb (length text / 2) n ≡ true = eq-eqb (length text / 2) n half in
-    rw (even, h)

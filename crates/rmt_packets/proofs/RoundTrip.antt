@@ -1,25 +1,17 @@
 -- A packet that was written as a line is read back.
-use Rattle.std.proofs.Common.{◌≡◌, ℕ, ◌+◌, ◌*◌, ◌^◌, ◌<◌, ◌≤◌, true, ◌&&◌, eqb, leb, List, ◌∷◌, ◌++◌, length, take, drop, get_or, Ok, ap, ◌∙◌, arith}
+use Rattle.std.proofs.Common.{◌≡◌, ◌+◌, ◌*◌, ◌^◌, ◌<◌, ◌≤◌, refl, true, ◌&&◌, eqb, leb, ◌∷◌, length, drop, get_or, Ok, ap, ◌∙◌, arith}
 use Rattle.std.specs.Fmt.{decimal}
-use Rattle.std.specs.List.{prefix_len}
-use Rattle.std.proofs.Math.Seq.{take-append_seam, drop-append-add, get_or-append_seam}
+use Rattle.std.proofs.Math.Seq.{drop-append-add, get_or-append_seam}
 use Rattle.std.proofs.lemmas.Bool.{and_from, eq-eqb, le-leb}
 use Rattle.std.proofs.lemmas.Fmt.{decimal_nonempty, length-decimal-le}
-use Rattle.std.proofs.lemmas.List.Folds.{prefix_len-append}
 use Rattle.hex.specs.Hex.{IsBytes, decode_of, encode_lower, lower_digits}
 use Rattle.hex.proofs.HexLemmas.{decode_of-encode_lower, length-encode_with}
 use Rattle.rmt_bits.specs.Packet.{Packet}
 use Rattle.rmt_bits.specs.Digits.{is_digit, number_of_digits}
-use Rattle.rmt_bits.proofs.DigitLaws.{Says-decimal, prefix_len-all}
+use Rattle.rmt_bits.proofs.DigitLaws.{Says-decimal}
+use Rattle.rmt_bits.proofs.ListLaws.{take_while-until}
 use Rattle.rmt_packets.specs.PacketText.{begins_with_port, frame_digits, packet_of, packet_or_code, packet_text, port_digits}
 use Rattle.rmt_packets.proofs.Packet.{decoded}
-
--- the digits of a port stand before its space
-port_digits-text : (n : ℕ) (rest : List ℕ) → n < 2 ^ 64 → prefix_len is_digit (decimal n ++ 32 ∷ rest) ≡ length (decimal n)
-port_digits-text n rest lt =
-    let all = prefix_len-all is_digit (decimal n) (Says-decimal n lt).digits in
-    let whole : eqb (prefix_len is_digit (decimal n)) (length (decimal n)) ≡ true = eq-eqb (prefix_len is_digit (decimal n)) (length (decimal n)) all in
-    prefix_len-append is_digit (decimal n) (32 ∷ rest) ∙ rw whole (omega arith)
 
 -- a packet that was written is read back
 pub packet_of-packet_text : (p : Packet) → p.port < 512 → 1 ≤ length p.frame → length p.frame ≤ 9216 → IsBytes p.frame → packet_of (packet_text p) ≡ Ok p
@@ -28,7 +20,7 @@ packet_of-packet_text p low some few bytes =
     let ds = decimal p.port in
     let hex = encode_lower p.frame in
     let small : p.port < 2 ^ 64 = omega arith in
-    let pd : port_digits (packet_text p) ≡ decimal p.port = ap (λ k. take k (packet_text p)) (port_digits-text n hex small) ∙ take-append_seam ds (32 ∷ hex) in
+    let pd : port_digits (packet_text p) ≡ decimal p.port = take_while-until is_digit ds 32 hex (Says-decimal n small).digits refl in
     let one = decimal_nonempty n small in
     let three = length-decimal-le 3 n (omega arith) (omega arith) small in
     let space = get_or-append_seam ds 32 hex 0 in

@@ -7,7 +7,7 @@ use Rattle.std.proofs.lemmas.List.{get_or-take, length-take, take-append-drop, t
 use Rattle.std.proofs.lemmas.Slice.{between_is}
 use Rattle.std.proofs.lemmas.List.Folds.{list_all-append}
 use Rattle.rmt_packets.specs.Lines.{is_passed_over, numbered_lines}
-use Rattle.rmt_packets.specs.LineSteps.{begun, fed, grown, passes_over}
+use Rattle.rmt_packets.specs.LineSteps.{fed, grown, passes_over}
 use Rattle.rmt_packets.specs.Pieces.{EndsLine, IsLast, LineState, Stands, ended_lines, feeds, front_of, front_size, open_line}
 use Rattle.rmt_packets.proofs.Steps.{feed_at}
 use Rattle.rmt_packets.proofs.Cuts.{NoFeed, free_to, is_feed, ended_fed, ended_grows, feeds_fed, feeds_grow, open_fed, open_grows, whole_lines}
@@ -28,33 +28,6 @@ front_size_is = refl
 
 front_nothing : front_of [] ≡ []
 front_nothing = take_all front_size [] (omega arith)
-
-pub stands_begun : (text : List ℕ) (s : LineState) → Stands text s → Stands text (begun s)
-stands_begun text s h =
-    elim (cases_Bool s.is_ended) [
-      | inl e ↦
-          let o : open_line text ≡ [] = h.behind e in
-          let n : s.number ≡ feeds text = rw e at h.number in
-          rw e (record {
-            taken = h.taken;
-            number = ap (λ k. k + 1) n;
-            front = λ _. rw o (sym front_nothing);
-            blank = λ _. rw o refl;
-            behind = λ t. absurd (true≢false (sym t));
-          })
-      | inr e ↦
-          let n : s.number ≡ feeds text + 1 = rw e at h.number in
-          rw e (record {
-            taken = h.taken;
-            number = n;
-            front = λ _. h.front e;
-            blank = λ _. h.blank e;
-            behind = λ t. absurd (true≢false (sym t));
-          })
-    ]
-
-pub open_begun : (s : LineState) → (begun s).is_ended ≡ false
-open_begun s = elim (cases_Bool s.is_ended) [ inl e ↦ rw e refl | inr e ↦ rw e refl ]
 
 pub stands_grown : (text part : List ℕ) (s : LineState) → Stands text s → s.is_ended ≡ false → NoFeed part → Stands (text ++ part) (grown s part)
 stands_grown text part s h going free =

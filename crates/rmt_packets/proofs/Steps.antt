@@ -50,16 +50,6 @@ line_at text n from to next e rest =
     let d : drop next text ≡ drop (position_or_len is_feed (drop from text) + 1) (drop from text) = rest ∙ ap (λ i. drop i text) m ∙ sym (drop-drop (position_or_len is_feed (drop from text) + 1) from text) in
     rw (w, d) (first_line n (drop from text))
 
--- a packet line has a byte
-pub line_has_byte : (text : List ℕ) (from to : ℕ) → is_passed_over (slice_range text from to) ≡ false → from < to
-line_has_byte text from to h =
-    elim (cases_lt from to) [
-      | inl lt ↦ lt
-      | inr le ↦
-          let z : to - from ≡ 0 = omega arith in
-          absurd (true≢false (rw z at h))
-    ]
-
 fed : (b : ℕ) → not (is_feed b) ≡ false → is_feed b ≡ true
 fed b h = elim (cases_Bool (is_feed b)) [ inl e ↦ e | inr e ↦ let g = rw e at h in absurd (true≢false g) ]
 
