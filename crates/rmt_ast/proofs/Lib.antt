@@ -5,3 +5,7 @@ pub mod WellFormedLemmas
 pub mod StateLaws
 pub mod RunStateLaws
 mod ExampleForm
+pub mod EventLaws
+pub mod RankLaws
+pub mod NamingExamples
+pub mod EventExamples

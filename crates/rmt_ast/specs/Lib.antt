@@ -9,3 +9,9 @@ pub mod WellFormed
 pub mod EntryLists
 pub mod Places
 pub mod NameList
+pub mod Naming
+pub mod NameForm
+pub mod Changes
+pub mod Events
+pub mod RankPairs
+pub mod NameRules
