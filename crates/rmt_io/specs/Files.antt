@@ -1,11 +1,12 @@
 -- A shelf of files in memory.
-use Rattle.std.specs.Prelude.{ℕ, ◌+◌, List, [], Option, Some, None, drop, map, refl, string_bytes, String, Vec}
+use Rattle.std.specs.Prelude.{ℕ, ◌+◌, true, List, [], Option, Some, None, drop, map, refl, string_bytes, String, Vec}
 use Rattle.std.specs.Global.{Global}
 use Rattle.std.specs.Coded.{Coded, code_by, coded×, coded_list, coded_option, coded_ℕ}
 use Rattle.std.specs.Ordering.{nat_cmp}
 use Rattle.std.specs.Cmp.Lexicographic.{slice_cmp}
 use Rattle.std.specs.FinMap as fin
-use Rattle.rmt_io.specs.Calls.{raised}
+use Rattle.rmt_io.specs.Calls.{fails_no_more, raised}
+use Rattle.rmt_io.specs.Outside.{ShelfState}
 
 -- files by the bytes of their names
 abbrev pub Files : Type 0
@@ -66,3 +67,14 @@ text_entries entries = map (λ e. (string_bytes e.0, e.1.items)) entries
 -- the shelf after one more numbered call
 abbrev pub shelf_called : MemoryFiles → MemoryFiles
 shelf_called s = record s { calls = raised s.calls }
+
+-- what contracts see of it
+abbrev pub shelf_state : MemoryFiles → ShelfState
+shelf_state s = record {
+  tells = true;
+  files = λ name. fin.get s.files name;
+  rest = rest_of s;
+  reading_faults = s.reading;
+  writing_faults = s.writing;
+  steady = fails_no_more s.fails s.calls;
+}

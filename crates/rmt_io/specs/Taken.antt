@@ -1,7 +1,8 @@
 -- A sink that keeps its bytes in memory.
-use Rattle.std.specs.Prelude.{ℕ, List, refl}
+use Rattle.std.specs.Prelude.{ℕ, true, List, refl}
 use Rattle.std.specs.Coded.{Coded, code_by, coded×, coded_list, coded_ℕ}
 use Rattle.rmt_io.specs.Calls.{raised}
+use Rattle.rmt_io.specs.Outside.{SinkState}
 
 -- its bytes, the numbers of the calls that are to fail, the most bytes that one call takes, how many calls were made, and the count of faults
 pub record MemoryBytes : Type 0 where
@@ -23,3 +24,7 @@ memory_bytes_code =
 -- the sink after one more numbered call
 abbrev pub sink_called : MemoryBytes → MemoryBytes
 sink_called s = record s { calls = raised s.calls }
+
+-- what contracts see of it
+abbrev pub sink_state : MemoryBytes → SinkState
+sink_state s = record { tells = true; bytes = s.bytes; faults = s.faults }

@@ -1,8 +1,9 @@
-ghost use Rattle.std.specs.Prelude.{◌≡◌, ◌≢◌, ◌↔◌, ℕ, Bool, true, false, List, Option, Some, None, ◌+◌, ◌-◌, ◌^◌, ◌<◌, ◌≤◌, ◌++◌, [], length, take, drop, min, option_map, IsTrue, IfOk, IfSome, OnOk, OnErr, IsOk, IsErrOf, string_bytes};
+ghost use Rattle.std.specs.Prelude.{◌≡◌, ◌≢◌, ◌↔◌, ℕ, false, List, Option, Some, None, ◌+◌, ◌-◌, ◌^◌, ◌<◌, ◌≤◌, [], length, take, drop, min, option_map, IsTrue, IfOk, IfSome, OnOk, OnErr, IsOk, IsErrOf, string_bytes};
 ghost use Rattle.std.specs.FinMap as map;
 ghost use Rattle.rmt_io.specs.Calls.{fails_next, fails_no_more, raised};
 ghost use Rattle.rmt_io.specs.Faults.{Rose};
-ghost use Rattle.rmt_io.specs.Files.{MemoryFiles, Opened as OpenFile, moved, rest_of, shelf_called};
+ghost use Rattle.rmt_io.specs.Files.{MemoryFiles, moved, rest_of, shelf_called, shelf_state};
+ghost use Rattle.rmt_io.specs.Outside.{OnlyRead, OnlyWrote};
 
 use crate::calls::{is_failing, raise};
 use crate::shelf::{Shelf, ShelfFault};
@@ -231,17 +232,7 @@ fn bytes_from(bytes: &[u8], position: usize) -> &[u8]
 }
 
 impl Shelf for MemShelf {
-    ghost told = { λ _. true };
-
-    ghost file = { λ s name. map.get s.files name };
-
-    ghost rest = { rest_of };
-
-    ghost reading_faults = { λ s. s.reading };
-
-    ghost writing_faults = { λ s. s.writing };
-
-    ghost steady = { λ s. fails_no_more s.fails s.calls };
+    ghost state = { shelf_state };
 
     fn read(
         &mut self,
@@ -264,8 +255,7 @@ impl Shelf for MemShelf {
         // What is counted, and nothing else changes.
         ensures counted { self.new ≡ record (shelf_called self.old) { opened = None; reading = self.new.reading } }
         ensures failed { IsErrOf result ShelfFault.Failed → Rose self.old.reading self.new.reading }
-        ensures reading { self.old.reading ≤ self.new.reading }
-        ensures stays_steady { IsTrue (fails_no_more self.old.fails self.old.calls) → IsTrue (fails_no_more self.new.fails self.new.calls) }
+        ensures only_read { OnlyRead (shelf_state self.old) (shelf_state self.new) }
     {
         into.clear();
         self.close();
@@ -292,8 +282,7 @@ impl Shelf for MemShelf {
         // What is counted, and nothing else changes.
         ensures counted { self.new ≡ record (shelf_called self.old) { files = self.new.files; opened = None; writing = self.new.writing } }
         ensures failed { IsErrOf result ShelfFault.Failed → Rose self.old.writing self.new.writing }
-        ensures writing { self.old.writing ≤ self.new.writing }
-        ensures stays_steady { IsTrue (fails_no_more self.old.fails self.old.calls) → IsTrue (fails_no_more self.new.fails self.new.calls) }
+        ensures only_wrote { OnlyWrote (string_bytes name.now) (shelf_state self.old) (shelf_state self.new) }
     {
         self.close();
         if self.call() {
@@ -315,8 +304,7 @@ impl Shelf for MemShelf {
         // What is counted, and nothing else changes.
         ensures counted { self.new ≡ record (shelf_called self.old) { opened = self.new.opened; reading = self.new.reading } }
         ensures failed { IsErrOf result ShelfFault.Failed → Rose self.old.reading self.new.reading }
-        ensures reading { self.old.reading ≤ self.new.reading }
-        ensures stays_steady { IsTrue (fails_no_more self.old.fails self.old.calls) → IsTrue (fails_no_more self.new.fails self.new.calls) }
+        ensures only_read { OnlyRead (shelf_state self.old) (shelf_state self.new) }
     {
         self.close();
         if self.call() {
@@ -344,8 +332,7 @@ impl Shelf for MemShelf {
         // What is counted, and nothing else changes.
         ensures counted { self.new ≡ record (shelf_called self.old) { opened = self.new.opened; reading = self.new.reading } }
         ensures failed { OnErr result (Rose self.old.reading self.new.reading) }
-        ensures reading { self.old.reading ≤ self.new.reading }
-        ensures stays_steady { IsTrue (fails_no_more self.old.fails self.old.calls) → IsTrue (fails_no_more self.new.fails self.new.calls) }
+        ensures only_read { OnlyRead (shelf_state self.old) (shelf_state self.new) }
     {
         if self.call() {
             return Err(self.reading_fault());

@@ -1,7 +1,8 @@
-ghost use Rattle.std.specs.Prelude.{◌≡◌, ℕ, Bool, true, List, [], ◌+◌, ◌-◌, ◌^◌, ◌<◌, ◌≤◌, ◌++◌, length, min, take, IsTrue, IfOk, IsErr, OnOk, OnErr};
+ghost use Rattle.std.specs.Prelude.{◌≡◌, [], ◌+◌, ◌-◌, ◌<◌, ◌≤◌, ◌++◌, length, min, take, IsTrue, IfOk, IsErr, OnErr};
 ghost use Rattle.rmt_io.specs.Calls.{fails_next, raised};
 ghost use Rattle.rmt_io.specs.Faults.{Rose};
-ghost use Rattle.rmt_io.specs.Taken.{MemoryBytes, sink_called};
+ghost use Rattle.rmt_io.specs.Outside.{OnlyPrinted};
+ghost use Rattle.rmt_io.specs.Taken.{MemoryBytes, sink_called, sink_state};
 
 use crate::calls::{is_failing, raise};
 use crate::sink::{Sink, SinkFault};
@@ -93,11 +94,7 @@ impl MemSink {
 }
 
 impl Sink for MemSink {
-    ghost told = { λ _. true };
-
-    ghost bytes = { λ s. s.bytes };
-
-    ghost faults = { λ s. s.faults };
+    ghost state = { sink_state };
 
     fn write(&mut self, piece: &[u8]) -> Result<usize, SinkFault>
         requires { 0 < length piece.now }
@@ -110,7 +107,7 @@ impl Sink for MemSink {
         // What is counted, and nothing else changes.
         ensures counted { self.new ≡ record (sink_called self.old) { bytes = self.new.bytes; faults = self.new.faults } }
         ensures failed { OnErr result (Rose self.old.faults self.new.faults) }
-        ensures counts { self.old.faults ≤ self.new.faults }
+        ensures only_printed { OnlyPrinted (sink_state self.old) (sink_state self.new) }
     {
         if self.call() {
             return Err(self.fault());

@@ -1,5 +1,5 @@
-ghost use Rattle.std.specs.Prelude.{◌≡◌, ℕ, Bool, List, ◌<◌, ◌≤◌, ◌++◌, length, take, IsTrue, IfOk, OnErr};
-ghost use Rattle.rmt_io.specs.Faults.{Rose};
+ghost use Rattle.std.specs.Prelude.{◌<◌, ◌≤◌, length, take, IfOk, OnErr};
+ghost use Rattle.rmt_io.specs.Outside.{SinkState, Gained, GainedNone, PrintingFailed, OnlyPrinted};
 
 use thiserror::Error;
 
@@ -12,22 +12,15 @@ pub enum SinkFault {
 
 /// What takes bytes, one piece after another.
 pub trait Sink {
-    /// Whether it tells its bytes, which no call changes.
-    ghost told: { Self → Bool };
-
-    /// The bytes taken so far; they are of use where they are told.
-    ghost bytes: { Self → List ℕ };
-
-    /// How many faults there were, up to the last number.
-    ghost faults: { Self → ℕ };
+    /// What contracts see of it.
+    ghost state: { Self → SinkState };
 
     /// Takes bytes from the front of a piece, at least one, and answers how many.
     fn write(&mut self, piece: &[u8]) -> Result<usize, SinkFault>
         requires { 0 < length piece.now }
         ensures some { IfOk result (λ n. (0 < n) × (n ≤ length piece.now)) }
-        ensures appended { IfOk result (λ n. IsTrue (told self.old) → bytes self.new ≡ bytes self.old ++ take n piece.now) }
-        ensures failed { OnErr result (Rose (faults self.old) (faults self.new)) }
-        ensures unchanged { OnErr result (IsTrue (told self.old) → bytes self.new ≡ bytes self.old) }
-        ensures tells { told self.new ≡ told self.old }
-        ensures counts { faults self.old ≤ faults self.new };
+        ensures appended { IfOk result (λ n. Gained (state self.old) (state self.new) (take n piece.now)) }
+        ensures unchanged { OnErr result (GainedNone (state self.old) (state self.new)) }
+        ensures failed { OnErr result (PrintingFailed (state self.old) (state self.new)) }
+        ensures only_printed { OnlyPrinted (state self.old) (state self.new) };
 }

@@ -118,17 +118,14 @@ fn write_through<F: Write + OpenFile>(file: &mut F, bytes: &[u8]) -> io::Result<
 }
 
 impl<R: Files> Shelf for TrueShelf<'_, R> {
-    ghost told = { λ _. false };
-
-    ghost file = { λ _ _. None };
-
-    ghost rest = { λ _. [] };
-
-    ghost reading_faults = { λ s. s.reading };
-
-    ghost writing_faults = { λ s. s.writing };
-
-    ghost steady = { λ _. false };
+    ghost state = { λ s. record {
+      tells = false;
+      files = λ _. None;
+      rest = [];
+      reading_faults = s.reading;
+      writing_faults = s.writing;
+      steady = false;
+    } };
 
     fn read(
         &mut self,

@@ -25,11 +25,7 @@ impl<'a, R: Print> TrueSink<'a, R> {
 }
 
 impl<R: Print> Sink for TrueSink<'_, R> {
-    ghost told = { λ _. false };
-
-    ghost bytes = { λ _. [] };
-
-    ghost faults = { λ s. s.faults };
+    ghost state = { λ s. record { tells = false; bytes = []; faults = s.faults } };
 
     fn write(&mut self, piece: &[u8]) -> Result<usize, SinkFault> {
         for _ in 0..u64::MAX {

@@ -1,6 +1,6 @@
 //! No answer is written before the packets behind it, as many as are in flight, were read.
 
-ghost use Rattle.std.specs.Prelude.{ℕ, List, Option, None, [], false};
+ghost use Rattle.std.specs.Prelude.{None, [], false};
 
 use rmt_core::rmt;
 use rmt_core::status::Status;
@@ -30,17 +30,14 @@ struct LineShelf<'a> {
 }
 
 impl Shelf for LineShelf<'_> {
-    ghost told = { λ _. false };
-
-    ghost file = { λ _ _. None };
-
-    ghost rest = { λ _. [] };
-
-    ghost reading_faults = { λ _. 0 };
-
-    ghost writing_faults = { λ _. 0 };
-
-    ghost steady = { λ _. false };
+    ghost state = { λ _. record {
+      tells = false;
+      files = λ _. None;
+      rest = [];
+      reading_faults = 0;
+      writing_faults = 0;
+      steady = false;
+    } };
 
     /// Each name is that of the image.
     fn read(
@@ -104,11 +101,7 @@ struct FirstCall<'a> {
 }
 
 impl Sink for FirstCall<'_> {
-    ghost told = { λ _. false };
-
-    ghost bytes = { λ _. [] };
-
-    ghost faults = { λ _. 0 };
+    ghost state = { λ _. record { tells = false; bytes = []; faults = 0 } };
 
     fn write(&mut self, piece: &[u8]) -> Result<usize, SinkFault> {
         if self.first.is_none() {
