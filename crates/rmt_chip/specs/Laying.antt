@@ -1,21 +1,15 @@
 -- How the cells of a slot are laid out for reading: rows of memory, the entries in them, and runs of bytes by listed cell.
-use Rattle.std.specs.Prelude.{◌≡◌, ℕ, ◌+◌, ◌*◌, ◌^◌, ◌<◌, ◌≤◌, List, length, map, true, All, slice_index, slice_index_or}
+use Rattle.std.specs.Prelude.{◌≡◌, ℕ, ◌+◌, ◌*◌, ◌<◌, ◌≤◌, List, length, map, true, All, slice_index, slice_index_or}
 use Rattle.std.specs.List.{flat_map}
 use Rattle.rmt_bits.specs.Bits.{bytes_of}
-use Rattle.rmt_chip.specs.Types.{SramRow, TcamRow, CellNumber}
+use Rattle.rmt_chip.specs.Types.{TcamRow, CellNumber}
 use Rattle.rmt_config.specs.declared.form.layout.Layout.{Layout}
 use Rattle.rmt_config.specs.Order.{rises_from}
-use Rattle.rmt_config.specs.StageForm.{srow_number, trow_number}
+use Rattle.rmt_config.specs.StageForm.{trow_number}
 use Rattle.rmt_config.specs.Cells.{Blocks}
 use Rattle.rmt_config.specs.Layouts.{quantum_of, local_of, entry_in}
 
--- rows of SRAM in rising order, each within its block
-pub record SramRows (rows : List SramRow) : Type 0 where
-  pub rise : rises_from 0 (map srow_number rows) ≡ true
-  pub low : All (λ (r : SramRow). r.row < 1024) rows
-  pub small : All (λ (r : SramRow). r.bits < 2 ^ 112) rows
-
--- rows of TCAM likewise
+-- rows of TCAM in rising order, each within its block
 pub record TcamRows (rows : List TcamRow) : Type 0 where
   pub rise : rises_from 0 (map trow_number rows) ≡ true
   pub low : All (λ (r : TcamRow). r.row < 2048) rows

@@ -14,7 +14,7 @@ use Rattle.rmt_config.specs.LaneForm.{lane_is_formed, bits_of_lanes}
 use Rattle.rmt_config.specs.ParserForm.{lookups_of}
 use Rattle.rmt_config.specs.Shapes.{exact_shape, ternary_shape}
 use Rattle.rmt_config.specs.declared.form.shape.Shape.{Shape}
-use Rattle.rmt_config.specs.UnitForm.{memory_is_formed}
+use Rattle.rmt_config.specs.UnitForm.{memory_is_formed, takes_memory}
 use Rattle.rmt_config.specs.CodeForm.{places_of, kind_is_formed}
 use Rattle.rmt_config.specs.declared.form.code.Place.{Place}
 use Rattle.rmt_config.specs.Form.{Formed}
@@ -249,10 +249,6 @@ blocks_of_parts x = record { keys = x.0; records = x.1.0; counters = x.1.1 }
 unfoldable pub blocks_at : ℕ → Shape → Reader Blocks
 blocks_at most shape bytes =
     made blocks_of_parts (list_at (block_at most) shape.keys ⊗ list_at (block_at 106) shape.records ⊗ list_at (block_at 106) shape.counters) bytes
-
--- what a slot with memory has: a key of at most 640 bits, and an action
-abbrev pub takes_memory : SlotUnit → Bool
-takes_memory s = nat_le 1 (length s.keys) && nat_le (bits_of_lanes s.keys) 640 && nat_le 1 s.actions
 
 abbrev pub quanta_fit : ℕ → Bool
 quanta_fit quanta = nat_le 1 quanta && nat_le quanta 106

@@ -7,11 +7,11 @@ ghost use Rattle.rmt_config.specs.declared.config.CellNumber.{CellNumber};
 ghost use Rattle.rmt_chip.specs.Laying.{StartsByRow};
 ghost use Rattle.rmt_chip.specs.Searching.{FirstIn, HasRun, FirstByWays};
 
-use crate::memory::rows::first_from;
 use crate::memory::runs::{Runs, run_at};
 use crate::memory::ways::ExactMemory;
 use rmt_bits::hash::hash_row;
 use rmt_config::config::CellNumber;
+use rmt_config::form::search::first_from;
 use std::alloc::{AllocError, Global};
 
 /// By row where the listed cells of the row begin, where a row has `per` cells.

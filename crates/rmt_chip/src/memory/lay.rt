@@ -7,8 +7,8 @@ ghost use Rattle.rmt_config.specs.declared.config.Memory.TheVariants.{Exact, Ter
 ghost use Rattle.rmt_config.specs.LaneForm.{bits_of_lanes};
 ghost use Rattle.rmt_config.specs.Shapes.{divided_up, record_width, record_units};
 ghost use Rattle.rmt_config.specs.Cells.{sram_row, cell_of, data_at};
-ghost use Rattle.rmt_config.specs.MemoryRules.{FormedRows, ExactFits, TernaryFits};
-ghost use Rattle.rmt_chip.specs.Laying.{SramRows, runs_of as runs_of_cells};
+ghost use Rattle.rmt_config.specs.MemoryRules.{SramRows, FormedRows, ExactFits, TernaryFits};
+ghost use Rattle.rmt_chip.specs.Laying.{runs_of as runs_of_cells};
 ghost use Rattle.rmt_chip.specs.Memories.{Laid, NumbersFit, key_size, held_size};
 
 use crate::memory::exact::starts_of;

@@ -6,7 +6,8 @@ ghost use Rattle.rmt_config.specs.Cells.{sram_row, unit_row, blocks_at};
 ghost use Rattle.rmt_config.specs.Layouts.{IsLayout};
 ghost use Rattle.rmt_config.specs.Shapes.{divided_up};
 ghost use Rattle.rmt_config.specs.declared.config.CellNumber.{CellNumber};
-ghost use Rattle.rmt_chip.specs.Laying.{SramRows, entry_of, runs_of as runs_of_cells};
+ghost use Rattle.rmt_config.specs.MemoryRules.{SramRows};
+ghost use Rattle.rmt_chip.specs.Laying.{entry_of, runs_of as runs_of_cells};
 ghost use Rattle.rmt_chip.specs.Packings.{layout_of};
 
 use crate::memory::packing::{Packing, spot_of};

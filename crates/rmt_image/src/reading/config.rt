@@ -11,7 +11,6 @@ use crate::reading::number::byte_of;
 use crate::reading::parser::parser_of;
 use crate::reading::stage::stages_of;
 use rmt_bits::lane::Lane;
-use rmt_bits::sequence::Sequence;
 use rmt_config::config::Config;
 use std::alloc::Global;
 
@@ -55,9 +54,9 @@ pub fn config_of(alloc: Global, bytes: &[u8]) -> Result<(Config, &[u8]), ReadErr
         in_port: ports.in_port,
         out_port: ports.out_port,
         drop: ports.drop,
-        headers: Sequence::from_vec(headers),
+        headers,
         parser,
-        stages: Sequence::from_vec(stages),
+        stages,
     };
     Ok((config, rest))
 }

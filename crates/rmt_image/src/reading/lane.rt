@@ -1,12 +1,12 @@
 //! Lanes.
 
-ghost use Rattle.rmt_image.specs.Readers.{Reader, Gives};
+ghost use Rattle.rmt_image.specs.Readers.{Gives};
 ghost use Rattle.rmt_image.specs.Reading.{word_at, lane_from_at, lane_at, lane_of_at};
 ghost use Rattle.std.specs.Prelude.{◌≡◌, ◌≤◌, ◌<◌, IfOk};
 
-use crate::fault::{ReadError, ReadFault};
-use crate::reading::items::Items;
-use crate::reading::number::byte_of;
+use crate::fault::ReadError;
+use crate::reading::items::Item;
+use crate::reading::number::{byte_of, kept};
 use rmt_bits::lane::Lane;
 use rmt_config::form::lane::lane_fits;
 use std::alloc::Global;
@@ -18,10 +18,7 @@ pub fn word_of(least: u32, bytes: &[u8]) -> Result<(u8, &[u8]), ReadError>
     ensures read { Gives (λ x. (x.0, x.1.now)) result (word_at least bytes.now) }
 {
     let (word, rest) = byte_of(bytes)?;
-    if word >= 224 || (word as u32) < least {
-        return Err(ReadError::Fault(ReadFault::Form));
-    }
-    Ok((word, rest))
+    kept(word < 224 && least <= word as u32, word, rest)
 }
 
 /// A lane whose word is at least that one.
@@ -34,10 +31,7 @@ pub fn lane_from(least: u32, bytes: &[u8]) -> Result<(Lane, &[u8]), ReadError>
     let (low, rest) = byte_of(rest)?;
     let (len, rest) = byte_of(rest)?;
     let lane = Lane { word, low, len };
-    if !lane_fits(lane) {
-        return Err(ReadError::Fault(ReadFault::Form));
-    }
-    Ok((lane, rest))
+    kept(lane_fits(lane), lane, rest)
 }
 
 /// A lane.
@@ -55,37 +49,15 @@ pub fn lane_of_bits(len: u8, bytes: &[u8]) -> Result<(Lane, &[u8]), ReadError>
     ensures { Gives (λ x. (x.0, x.1.now)) result (lane_of_at len bytes.now) }
 {
     let (lane, rest) = lane_of(bytes)?;
-    if lane.len != len {
-        return Err(ReadError::Fault(ReadFault::Form));
-    }
-    Ok((lane, rest))
+    kept(lane.len == len, lane, rest)
 }
 
-/// Lanes, in any order.
-#[derive(Drop)]
-pub struct Lanes;
+impl Item<()> for Lane {
+    const LEAST_SIZE: usize = 3;
 
-impl Items for Lanes {
-    type Item = Lane;
+    ghost item_at = { λ _. lane_at };
 
-    ghost item_at = { λ _ _. lane_at };
-
-    ghost after = { λ _ _. 0 };
-
-    fn item<'a>(
-        &self,
-        _alloc: Global,
-        _least: u32,
-        bytes: &'a [u8],
-    ) -> Result<(Lane, &'a [u8]), ReadError> {
+    fn read(_alloc: Global, _given: (), bytes: &[u8]) -> Result<(Lane, &[u8]), ReadError> {
         lane_of(bytes)
-    }
-
-    fn least_size(&self) -> usize {
-        3
-    }
-
-    fn least_after(&self, _item: &Lane) -> u32 {
-        0
     }
 }

@@ -1,54 +1,19 @@
 //! The memory of a slot, with its lists of blocks, whose lengths follow from the numbers before them.
 
-ghost use Rattle.std.specs.Prelude.{◌≡◌, ◌<◌, ◌≤◌, length, IsTrue};
-ghost use Rattle.rmt_config.specs.LaneForm.{bits_of_lanes};
-ghost use Rattle.rmt_config.specs.UnitForm.{memory_is_formed};
-ghost use Rattle.rmt_config.specs.declared.config.Memory.TheVariants.{Without};
+ghost use Rattle.std.specs.Prelude.{◌≡◌, ◌<◌, length};
 ghost use Rattle.rmt_image.specs.Readers.{Gives, where_, kept, list_at, byte_at, number_at};
-ghost use Rattle.rmt_image.specs.Reading.{at_least, block_at, blocks_at, takes_memory, quanta_fit, cells_fit, format_at, format_shape, exact_at, ternary_at, exact_of_parts, ternary_of_parts, memory_at};
+ghost use Rattle.rmt_image.specs.Reading.{at_least, block_at, blocks_at, quanta_fit, cells_fit, format_at, format_shape, exact_at, ternary_at, exact_of_parts, ternary_of_parts, memory_at};
 
 use crate::fault::{ReadError, ReadFault};
-use crate::reading::items::{Items, items_of};
-use crate::reading::number::{byte_of, two_of};
+use crate::reading::items::{Item, list_of};
+use crate::reading::number::{byte_of, kept, two_of};
 use rmt_bits::answer::Bytes;
-use rmt_bits::sequence::Sequence;
 use rmt_config::config::{Memory, SlotUnit};
-use rmt_config::form::lane::count_bits;
 use rmt_config::form::shape::{Shape, exact_shape, ternary_shape};
+use rmt_config::form::unit::{can_take_memory, key_bits, needs_no_memory};
 use std::alloc::Global;
 
 // ---- lists of blocks
-
-/// Blocks below a number.
-#[derive(Drop)]
-struct BlocksBelow {
-    most: u8,
-}
-
-impl Items for BlocksBelow {
-    type Item = u8;
-
-    ghost item_at = { λ list _. block_at list.most };
-
-    ghost after = { λ _ _. 0 };
-
-    fn item<'a>(
-        &self,
-        _alloc: Global,
-        _least: u32,
-        bytes: &'a [u8],
-    ) -> Result<(u8, &'a [u8]), ReadError> {
-        block_of(self.most, bytes)
-    }
-
-    fn least_size(&self) -> usize {
-        1
-    }
-
-    fn least_after(&self, _block: &u8) -> u32 {
-        0
-    }
-}
 
 /// A block below that number.
 #[tactic(auto, unfolding(crate::specs::Reading::block_at))]
@@ -56,22 +21,21 @@ pub fn block_of(most: u8, bytes: &[u8]) -> Result<(u8, &[u8]), ReadError>
     ensures { Gives (λ x. (x.0, x.1.now)) result (block_at most bytes.now) }
 {
     let (block, rest) = byte_of(bytes)?;
-    if block >= most {
-        return Err(ReadError::Fault(ReadFault::Form));
-    }
-    Ok((block, rest))
+    kept(block < most, block, rest)
 }
 
-fn block_list(
-    alloc: Global,
-    most: u8,
-    count: u64,
-    bytes: &[u8],
-) -> Result<(Bytes, &[u8]), ReadError>
-    ensures { Gives (λ x. (x.0, x.1.now)) result (list_at (block_at most) count bytes.now) }
-{
-    let (blocks, rest) = items_of(alloc, &BlocksBelow { most }, count, bytes)?;
-    Ok((Sequence::from_vec(blocks), rest))
+/// What a block is below.
+#[derive(Clone, Copy)]
+struct Below(u8);
+
+impl Item<Below> for u8 {
+    const LEAST_SIZE: usize = 1;
+
+    ghost item_at = { λ most. block_at most.0 };
+
+    fn read(_alloc: Global, most: Below, bytes: &[u8]) -> Result<(u8, &[u8]), ReadError> {
+        block_of(most.0, bytes)
+    }
 }
 
 /// The lists of blocks of a memory.
@@ -91,9 +55,9 @@ fn blocks_of(
 ) -> Result<(Blocks, &[u8]), ReadError>
     ensures { Gives (λ x. (x.0, x.1.now)) result (blocks_at most shape bytes.now) }
 {
-    let (keys, rest) = block_list(alloc, most, shape.keys, bytes)?;
-    let (records, rest) = block_list(alloc, 106, shape.records, rest)?;
-    let (counters, rest) = block_list(alloc, 106, shape.counters, rest)?;
+    let (keys, rest) = list_of(alloc, Below(most), shape.keys, bytes)?;
+    let (records, rest) = list_of(alloc, Below(106), shape.records, rest)?;
+    let (counters, rest) = list_of(alloc, Below(106), shape.counters, rest)?;
     let blocks = Blocks {
         keys,
         records,
@@ -104,61 +68,26 @@ fn blocks_of(
 
 // ---- the numbers before them
 
-/// The bits of a slot's key.
-fn key_bits(slot: &SlotUnit) -> u32
-    requires { length slot.now.keys < 65536 }
-    ensures { result ≡ bits_of_lanes slot.now.keys }
-{
-    count_bits(slot.keys.as_slice())
-}
-
-fn is_memory_allowed(slot: &SlotUnit) -> bool
-    requires { length slot.now.keys < 65536 }
-    ensures value { result ≡ takes_memory slot.now }
-    ensures narrow { IsTrue result → bits_of_lanes slot.now.keys ≤ 640 }
-{
-    1 <= slot.keys.len() && key_bits(slot) <= 640 && 1 <= slot.actions
-}
-
-fn is_memory_needless(slot: &SlotUnit) -> bool
-    ensures { result ≡ memory_is_formed slot.now Without }
-{
-    !slot.counted
-        && slot.actions == 0
-        && slot.last
-        && slot.held == 0
-        && slot.keys.len() == 0
-        && slot.numbers.len() == 0
-}
-
 fn quanta_of(bytes: &[u8]) -> Result<(u8, &[u8]), ReadError>
     ensures { Gives (λ x. (x.0, x.1.now)) result (kept quanta_fit byte_at bytes.now) }
 {
     let (quanta, rest) = byte_of(bytes)?;
-    if quanta < 1 || quanta > 106 {
-        return Err(ReadError::Fault(ReadFault::Form));
-    }
-    Ok((quanta, rest))
+    kept(1 <= quanta && quanta <= 106, quanta, rest)
 }
 
 fn width_of(bytes: &[u8]) -> Result<(u8, &[u8]), ReadError>
     ensures { Gives (λ x. (x.0, x.1.now)) result (kept (at_least 1) byte_at bytes.now) }
 {
     let (width, rest) = byte_of(bytes)?;
-    if width < 1 {
-        return Err(ReadError::Fault(ReadFault::Form));
-    }
-    Ok((width, rest))
+    kept(1 <= width, width, rest)
 }
 
 fn per_of(bits: u32, width: u8, bytes: &[u8]) -> Result<(u16, &[u8]), ReadError>
     ensures { Gives (λ x. (x.0, x.1.now)) result (kept (cells_fit bits width) (number_at 2) bytes.now) }
 {
     let (per, rest) = two_of(bytes)?;
-    if per < 1 || per as u64 * (bits as u64 + 8) > 112 * width as u64 {
-        return Err(ReadError::Fault(ReadFault::Form));
-    }
-    Ok((per, rest))
+    let fits = 1 <= per && per as u64 * (bits as u64 + 8) <= 112 * width as u64;
+    kept(fits, per, rest)
 }
 
 /// The numbers of exact memory before its lists.
@@ -199,7 +128,7 @@ fn exact_of<'a>(
     requires { length slot.now.keys < 65536 }
     ensures { Gives (λ x. (x.0, x.1.now)) result (exact_at slot.now bytes.now) }
 {
-    if !is_memory_allowed(slot) {
+    if !can_take_memory(slot) {
         return Err(ReadError::Fault(ReadFault::Form));
     }
     let (format, rest) = format_of(slot, bytes)?;
@@ -223,7 +152,7 @@ fn ternary_of<'a>(
     requires { length slot.now.keys < 65536 }
     ensures { Gives (λ x. (x.0, x.1.now)) result (ternary_at slot.now bytes.now) }
 {
-    if !is_memory_allowed(slot) {
+    if !can_take_memory(slot) {
         return Err(ReadError::Fault(ReadFault::Form));
     }
     let (quanta, rest) = quanta_of(bytes)?;
@@ -280,7 +209,7 @@ pub fn memory_of<'a>(
     match bytes {
         [] => Err(ReadError::Fault(ReadFault::Short)),
         [0, rest @ ..] => {
-            if !is_memory_needless(slot) {
+            if !needs_no_memory(slot) {
                 return Err(ReadError::Fault(ReadFault::Form));
             }
             Ok((Memory::Without, rest))

@@ -2,9 +2,20 @@
 
 ghost use Rattle.std.specs.Prelude.{◌≡◌, ◌≤◌, ◌<◌, ◌*◌, ◌^◌, length, IfOk};
 ghost use Rattle.rmt_bits.specs.Bits.{number_of};
-ghost use Rattle.rmt_image.specs.Readers.{Gives, byte_at, number_at, flag_at};
+ghost use Rattle.rmt_image.specs.Readers.{Gives, give, where_, byte_at, number_at, flag_at};
 
 use crate::fault::{ReadError, ReadFault};
+
+/// What was read, where it passes a test; else the form is broken.
+pub fn kept<T: Drop>(passes: bool, item: T, rest: &[u8]) -> Result<(T, &[u8]), ReadError>
+    ensures { Gives (λ x. (x.0, x.1.now)) result (where_ passes (give item) rest.now) }
+{
+    if passes {
+        Ok((item, rest))
+    } else {
+        Err(ReadError::Fault(ReadFault::Form))
+    }
+}
 
 /// A byte.
 #[tactic(auto, unfolding(crate::specs::Readers::byte_at))]

@@ -6,9 +6,9 @@ ghost use Rattle.rmt_image.specs.Reading.{offset_at, one_more, state_at, states_
 ghost use Rattle.rmt_config.specs.ParserForm.{lookups_of};
 
 use crate::fault::{ReadError, ReadFault};
-use crate::reading::items::{Items, items_of};
+use crate::reading::items::{InOrder, Item, items_of, list_of, list8_of};
 use crate::reading::lane::{lane_of, lane_of_bits};
-use crate::reading::number::{byte_of, four_of, two_of};
+use crate::reading::number::{byte_of, four_of, kept, two_of};
 use rmt_bits::lane::Lane;
 use rmt_bits::sequence::Sequence;
 use rmt_config::config::{Extract, Next, ParserConfig, ParserEntry, ParserState};
@@ -21,17 +21,16 @@ fn offset_of(least: u32, bytes: &[u8]) -> Result<(u8, &[u8]), ReadError>
     ensures { Gives (λ x. (x.0, x.1.now)) result (offset_at least bytes.now) }
 {
     let (offset, rest) = byte_of(bytes)?;
-    if offset >= 128 || (offset as u32) < least {
-        return Err(ReadError::Fault(ReadFault::Form));
-    }
-    Ok((offset, rest))
+    kept(offset < 128 && least <= offset as u32, offset, rest)
 }
 
 #[derive(Drop)]
 struct Offsets;
 
-impl Items for Offsets {
+impl InOrder for Offsets {
     type Item = u8;
+
+    const LEAST_SIZE: usize = 1;
 
     ghost item_at = { λ _. offset_at };
 
@@ -46,62 +45,31 @@ impl Items for Offsets {
         offset_of(least, bytes)
     }
 
-    fn least_size(&self) -> usize {
-        1
-    }
-
     fn least_after(&self, offset: &u8) -> u32 {
         *offset as u32 + 1
     }
 }
 
-#[tactic(auto, unfolding(crate::specs::Reading::state_at))]
-fn state_from(alloc: Global, bytes: &[u8]) -> Result<(ParserState, &[u8]), ReadError>
-    ensures { Gives (λ x. (x.0, x.1.now)) result (state_at bytes.now) }
-{
-    let (count, rest) = byte_of(bytes)?;
-    let (lookups, rest) = items_of(alloc, &Offsets, count as u64, rest)?;
-    let lookups = Sequence::from_vec(lookups);
-    Ok((ParserState { lookups }, rest))
-}
+impl Item<()> for ParserState {
+    const LEAST_SIZE: usize = 1;
 
-#[derive(Drop)]
-struct States;
+    ghost item_at = { λ _. state_at };
 
-impl Items for States {
-    type Item = ParserState;
-
-    ghost item_at = { λ _ _. state_at };
-
-    ghost after = { λ _ _. 0 };
-
-    fn item<'a>(
-        &self,
-        alloc: Global,
-        _least: u32,
-        bytes: &'a [u8],
-    ) -> Result<(ParserState, &'a [u8]), ReadError> {
-        state_from(alloc, bytes)
-    }
-
-    fn least_size(&self) -> usize {
-        1
-    }
-
-    fn least_after(&self, _state: &ParserState) -> u32 {
-        0
+    #[tactic(auto, unfolding(crate::specs::Reading::state_at))]
+    fn read(alloc: Global, _given: (), bytes: &[u8]) -> Result<(ParserState, &[u8]), ReadError> {
+        let (count, rest) = byte_of(bytes)?;
+        let (lookups, rest) = items_of(alloc, &Offsets, count as u64, rest)?;
+        Ok((ParserState { lookups }, rest))
     }
 }
 
 #[tactic(auto, unfolding(crate::specs::Reading::states_at))]
-fn states_of(alloc: Global, bytes: &[u8]) -> Result<(Vec<ParserState>, &[u8]), ReadError>
-    ensures { Gives (λ x. (x.0.items, x.1.now)) result (states_at bytes.now) }
+fn states_of(alloc: Global, bytes: &[u8]) -> Result<(Sequence<ParserState>, &[u8]), ReadError>
+    ensures { Gives (λ x. (x.0, x.1.now)) result (states_at bytes.now) }
 {
     let (count, rest) = two_of(bytes)?;
-    if count < 1 {
-        return Err(ReadError::Fault(ReadFault::Form));
-    }
-    items_of(alloc, &States, count as u64, rest)
+    let (count, rest) = kept(1 <= count, count, rest)?;
+    list_of(alloc, (), count as u64, rest)
 }
 
 // ---- when an entry is taken
@@ -111,10 +79,11 @@ fn entry_state_of(states: usize, least: u32, bytes: &[u8]) -> Result<(u8, &[u8])
     ensures { Gives (λ x. (x.0, x.1.now)) result (entry_state_at states least bytes.now) }
 {
     let (state, rest) = byte_of(bytes)?;
-    if state as usize >= states || (state as u32) < least {
-        return Err(ReadError::Fault(ReadFault::Form));
-    }
-    Ok((state, rest))
+    kept(
+        (state as usize) < states && least <= state as u32,
+        state,
+        rest,
+    )
 }
 
 /// How many lookups a state has.
@@ -154,10 +123,7 @@ fn match_of(lookups: usize, bytes: &[u8]) -> Result<((u32, u32), &[u8]), ReadErr
 {
     let (value, rest) = four_of(bytes)?;
     let (mask, rest) = four_of(rest)?;
-    if !is_match(lookups, value, mask) {
-        return Err(ReadError::Fault(ReadFault::Form));
-    }
-    Ok(((value, mask), rest))
+    kept(is_match(lookups, value, mask), (value, mask), rest)
 }
 
 #[tactic(auto, unfolding(crate::specs::Reading::need_at))]
@@ -166,10 +132,7 @@ fn need_of(bytes: &[u8]) -> Result<((u8, u8), &[u8]), ReadError>
 {
     let (need, rest) = byte_of(bytes)?;
     let (advance, rest) = byte_of(rest)?;
-    if advance > need {
-        return Err(ReadError::Fault(ReadFault::Form));
-    }
-    Ok(((need, advance), rest))
+    kept(advance <= need, (need, advance), rest)
 }
 
 /// When an entry is taken, and how far it goes.
@@ -210,10 +173,7 @@ fn later_state_of(states: usize, state: u8, bytes: &[u8]) -> Result<(u8, &[u8]),
     ensures { Gives (λ x. (x.0, x.1.now)) result (later_state_at states state bytes.now) }
 {
     let (to, rest) = byte_of(bytes)?;
-    if to as usize >= states || to <= state {
-        return Err(ReadError::Fault(ReadFault::Form));
-    }
-    Ok((to, rest))
+    kept((to as usize) < states && state < to, to, rest)
 }
 
 #[tactic(auto, unfolding(crate::specs::Reading::next_at))]
@@ -238,65 +198,34 @@ fn bits_of(need: u8, bytes: &[u8]) -> Result<((u16, Lane), &[u8]), ReadError>
 {
     let (from, rest) = two_of(bytes)?;
     let (lane, rest) = lane_of(rest)?;
-    if from as u32 + lane.len as u32 > 8 * need as u32 {
-        return Err(ReadError::Fault(ReadFault::Form));
-    }
-    Ok(((from, lane), rest))
+    kept(
+        from as u32 + lane.len as u32 <= 8 * need as u32,
+        (from, lane),
+        rest,
+    )
 }
 
-#[tactic(auto, unfolding(crate::specs::Reading::extract_at))]
-fn extract_of(need: u8, bytes: &[u8]) -> Result<(Extract, &[u8]), ReadError>
-    ensures { Gives (λ x. (x.0, x.1.now)) result (extract_at need bytes.now) }
-{
-    match bytes {
-        [] => Err(ReadError::Fault(ReadFault::Short)),
-        [0, rest @ ..] => {
-            let ((from, lane), rest) = bits_of(need, rest)?;
-            Ok((Extract::Bits { from, lane }, rest))
+/// Within the bytes that an entry needs.
+impl Item<u8> for Extract {
+    const LEAST_SIZE: usize = 4;
+
+    ghost item_at = { extract_at };
+
+    #[tactic(auto, unfolding(crate::specs::Reading::extract_at))]
+    fn read(_alloc: Global, need: u8, bytes: &[u8]) -> Result<(Extract, &[u8]), ReadError> {
+        match bytes {
+            [] => Err(ReadError::Fault(ReadFault::Short)),
+            [0, rest @ ..] => {
+                let ((from, lane), rest) = bits_of(need, rest)?;
+                Ok((Extract::Bits { from, lane }, rest))
+            }
+            [1, rest @ ..] => {
+                let (lane, rest) = lane_of_bits(1, rest)?;
+                Ok((Extract::One { lane }, rest))
+            }
+            _ => Err(ReadError::Fault(ReadFault::Form)),
         }
-        [1, rest @ ..] => {
-            let (lane, rest) = lane_of_bits(1, rest)?;
-            Ok((Extract::One { lane }, rest))
-        }
-        _ => Err(ReadError::Fault(ReadFault::Form)),
     }
-}
-
-#[derive(Drop)]
-struct Extracts {
-    need: u8,
-}
-
-impl Items for Extracts {
-    type Item = Extract;
-
-    ghost item_at = { λ list _. extract_at list.need };
-
-    ghost after = { λ _ _. 0 };
-
-    fn item<'a>(
-        &self,
-        _alloc: Global,
-        _least: u32,
-        bytes: &'a [u8],
-    ) -> Result<(Extract, &'a [u8]), ReadError> {
-        extract_of(self.need, bytes)
-    }
-
-    fn least_size(&self) -> usize {
-        4
-    }
-
-    fn least_after(&self, _extract: &Extract) -> u32 {
-        0
-    }
-}
-
-fn extracts_of(alloc: Global, need: u8, bytes: &[u8]) -> Result<(Vec<Extract>, &[u8]), ReadError>
-    ensures { Gives (λ x. (x.0.items, x.1.now)) result (listed byte_at (list_at (extract_at need)) bytes.now) }
-{
-    let (count, rest) = byte_of(bytes)?;
-    items_of(alloc, &Extracts { need }, count as u64, rest)
 }
 
 // ---- entries
@@ -312,7 +241,7 @@ fn entry_of<'a>(
 {
     let (head, rest) = entry_head_of(states, least, bytes)?;
     let (next, rest) = next_of(states.len(), head.state, rest)?;
-    let (extracts, rest) = extracts_of(alloc, head.need, rest)?;
+    let (extracts, rest) = list8_of(alloc, head.need, rest)?;
     let entry = ParserEntry {
         state: head.state,
         value: head.value,
@@ -320,7 +249,7 @@ fn entry_of<'a>(
         need: head.need,
         advance: head.advance,
         next,
-        extracts: Sequence::from_vec(extracts),
+        extracts,
     };
     Ok((entry, rest))
 }
@@ -330,8 +259,10 @@ struct Entries<'s> {
     states: &'s [ParserState],
 }
 
-impl<'s> Items for Entries<'s> {
+impl<'s> InOrder for Entries<'s> {
     type Item = ParserEntry;
+
+    const LEAST_SIZE: usize = 13;
 
     ghost item_at = { λ list. entry_at list.states.now };
 
@@ -346,10 +277,6 @@ impl<'s> Items for Entries<'s> {
         entry_of(alloc, self.states, least, bytes)
     }
 
-    fn least_size(&self) -> usize {
-        13
-    }
-
     fn least_after(&self, entry: &ParserEntry) -> u32 {
         entry.state as u32
     }
@@ -359,8 +286,8 @@ fn entries_of<'a>(
     alloc: Global,
     states: &[ParserState],
     bytes: &'a [u8],
-) -> Result<(Vec<ParserEntry>, &'a [u8]), ReadError>
-    ensures { Gives (λ x. (x.0.items, x.1.now)) result (listed (number_at 2) (items_at (entry_at states.now) state_of 0) bytes.now) }
+) -> Result<(Sequence<ParserEntry>, &'a [u8]), ReadError>
+    ensures { Gives (λ x. (x.0, x.1.now)) result (listed (number_at 2) (items_at (entry_at states.now) state_of 0) bytes.now) }
 {
     let (count, rest) = two_of(bytes)?;
     items_of(alloc, &Entries { states }, count as u64, rest)
@@ -372,9 +299,7 @@ pub fn parser_of(alloc: Global, bytes: &[u8]) -> Result<(ParserConfig, &[u8]), R
     ensures { Gives (λ x. (x.0, x.1.now)) result (parser_at bytes.now) }
 {
     let (states, rest) = states_of(alloc, bytes)?;
-    let (entries, rest) = entries_of(alloc, &states, rest)?;
-    let states = Sequence::from_vec(states);
-    let entries = Sequence::from_vec(entries);
+    let (entries, rest) = entries_of(alloc, states.as_slice(), rest)?;
     let tails = Sequence::new(alloc);
     Ok((
         ParserConfig {

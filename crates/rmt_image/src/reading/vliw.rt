@@ -6,9 +6,9 @@ ghost use Rattle.rmt_image.specs.Readers.{Gives, kept, where_, each, items_at, b
 ghost use Rattle.rmt_image.specs.Reading.{below, fits_word, fits_held, source_at, kind_at, operation_at, next_word, vliw_at};
 
 use crate::fault::{ReadError, ReadFault};
-use crate::reading::items::{Items, items_of};
+use crate::reading::items::{InOrder, items_of};
 use crate::reading::lane::{lane_from, word_of};
-use crate::reading::number::{byte_of, four_of, two_of};
+use crate::reading::number::{byte_of, four_of, kept, two_of};
 use rmt_bits::lane::word_size;
 use rmt_bits::sequence::Sequence;
 use rmt_config::config::{OpKind, Operation, SlotUnit, Source, Unit, Vliw};
@@ -22,20 +22,14 @@ fn low_of(len: u8, word: u8, bytes: &[u8]) -> Result<(u8, &[u8]), ReadError>
     ensures { Gives (λ x. (x.0, x.1.now)) result (kept (fits_word len word) byte_at bytes.now) }
 {
     let (low, rest) = byte_of(bytes)?;
-    if low as u16 + len as u16 > word_size(word) as u16 {
-        return Err(ReadError::Fault(ReadFault::Form));
-    }
-    Ok((low, rest))
+    kept(low as u16 + len as u16 <= word_size(word) as u16, low, rest)
 }
 
 fn held_of(place: Place, len: u8, bytes: &[u8]) -> Result<(u16, &[u8]), ReadError>
     ensures { Gives (λ x. (x.0, x.1.now)) result (kept (fits_held place len) (number_at 2) bytes.now) }
 {
     let (low, rest) = two_of(bytes)?;
-    if low as u32 + len as u32 > place.held as u32 {
-        return Err(ReadError::Fault(ReadFault::Form));
-    }
-    Ok((low, rest))
+    kept(low as u32 + len as u32 <= place.held as u32, low, rest)
 }
 
 fn constant_of(len: u8, bytes: &[u8]) -> Result<(u32, &[u8]), ReadError>
@@ -43,10 +37,7 @@ fn constant_of(len: u8, bytes: &[u8]) -> Result<(u32, &[u8]), ReadError>
     ensures { Gives (λ x. (x.0, x.1.now)) result (kept (below (2 ^ len)) (number_at 4) bytes.now) }
 {
     let (value, rest) = four_of(bytes)?;
-    if value as u64 >= 1u64 << len {
-        return Err(ReadError::Fault(ReadFault::Form));
-    }
-    Ok((value, rest))
+    kept((value as u64) < 1u64 << len, value, rest)
 }
 
 /// A source of `len` bits, at most 32, of an instruction at a place.
@@ -102,20 +93,15 @@ fn operation_of(place: Place, least: u32, bytes: &[u8]) -> Result<(Operation, &[
     let (kind, rest) = kind_of(rest)?;
     let (left, rest) = source_of(place, lane.len, rest)?;
     let (right, rest) = source_of(place, lane.len, rest)?;
-    if !kind_fits(kind, right) {
-        return Err(ReadError::Fault(ReadFault::Form));
-    }
-    Ok((
-        Operation {
-            word: lane.word,
-            low: lane.low,
-            len: lane.len,
-            kind,
-            left,
-            right,
-        },
-        rest,
-    ))
+    let op = Operation {
+        word: lane.word,
+        low: lane.low,
+        len: lane.len,
+        kind,
+        left,
+        right,
+    };
+    kept(kind_fits(kind, right), op, rest)
 }
 
 /// The operations of an instruction at a place.
@@ -124,8 +110,10 @@ struct Operations {
     place: Place,
 }
 
-impl Items for Operations {
+impl InOrder for Operations {
     type Item = Operation;
+
+    const LEAST_SIZE: usize = 10;
 
     ghost item_at = { λ list. operation_at list.place };
 
@@ -140,10 +128,6 @@ impl Items for Operations {
         operation_of(self.place, least, bytes)
     }
 
-    fn least_size(&self) -> usize {
-        10
-    }
-
     fn least_after(&self, op: &Operation) -> u32 {
         op.word as u32 + 1
     }
@@ -155,7 +139,6 @@ fn vliw_of(alloc: Global, place: Place, bytes: &[u8]) -> Result<(Vliw, &[u8]), R
 {
     let (count, rest) = byte_of(bytes)?;
     let (ops, rest) = items_of(alloc, &Operations { place }, count as u64, rest)?;
-    let ops = Sequence::from_vec(ops);
     Ok((Vliw { ops }, rest))
 }
 
@@ -195,8 +178,8 @@ fn code_at<'a>(
     alloc: Global,
     places: &[Place],
     bytes: &'a [u8],
-) -> Result<(Vec<Vliw>, &'a [u8]), ReadError>
-    ensures { Gives (λ x. (x.0.items, x.1.now)) result (each vliw_at places.now bytes.now) }
+) -> Result<(Sequence<Vliw>, &'a [u8]), ReadError>
+    ensures { Gives (λ x. (x.0, x.1.now)) result (each vliw_at places.now bytes.now) }
 {
     let mut code = Vec::new(alloc);
     let mut rest = bytes;
@@ -205,7 +188,7 @@ fn code_at<'a>(
         code.push(vliw)?;
         rest = after;
     }
-    Ok((code, rest))
+    Ok((Sequence::from_vec(code), rest))
 }
 
 /// An instruction for each place of the units of a stage.
@@ -213,8 +196,8 @@ pub fn code_of<'a>(
     alloc: Global,
     units: &[Unit],
     bytes: &'a [u8],
-) -> Result<(Vec<Vliw>, &'a [u8]), ReadError>
-    ensures { Gives (λ x. (x.0.items, x.1.now)) result (each vliw_at (places_of units.now) bytes.now) }
+) -> Result<(Sequence<Vliw>, &'a [u8]), ReadError>
+    ensures { Gives (λ x. (x.0, x.1.now)) result (each vliw_at (places_of units.now) bytes.now) }
 {
     let places = place_list(alloc, units)?;
     code_at(alloc, &places, bytes)

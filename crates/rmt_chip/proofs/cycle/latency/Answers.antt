@@ -1,7 +1,8 @@
 use Rattle.std.proofs.Common.{◌+◌, ◌-◌, length, ap, sym, ◌∙◌, arith}
 use Rattle.std.proofs.lemmas.Option.{get_or_from_slice_get, slice_get_within}
 use Rattle.rmt_chip.specs.Types.{Stage}
-use Rattle.rmt_chip.proofs.LatencyLaws.{latency_last, latency-le}
+use Rattle.rmt_config.proofs.RunLaws.{latency_last}
+use Rattle.rmt_chip.proofs.LatencyLaws.{latency-le}
 use Rattle.rmt_chip.proofs.cycle.latency.Goals as goal
 
 pub returns-in-Some-clause-value : goal.returns-in-Some-clause-value

@@ -6,7 +6,7 @@ use Rattle.rmt_image.proofs.reading.items.items_of.Goals as goal
 
 pub returns-in_err-item-clause-read : goal.returns-in_err-item-clause-read
 returns-in_err-item-clause-read g c =
-    let list = g.L.Items in
+    let list = g.L.InOrder in
     let read = list.item_at c.args.list.now in
     let after = list.after c.args.list.now in
     let p = err_from_is_err_and c.from_residual-in_err-item.result c.from_residual-in_err-item.ensures.1 in
@@ -15,7 +15,7 @@ returns-in_err-item-clause-read g c =
 
 pub loop-preserved : goal.loop-preserved
 loop-preserved g c =
-    let list = g.L.Items in
+    let list = g.L.InOrder in
     let read = list.item_at c.args.list.now in
     let after = list.after c.args.list.now in
     record {
@@ -26,7 +26,7 @@ loop-preserved g c =
 
 pub returns-clause-read : goal.returns-clause-read
 returns-clause-read g c =
-    let list = g.L.Items in
+    let list = g.L.InOrder in
     let read = list.item_at c.args.list.now in
     let after = list.after c.args.list.now in
-    is_done read after c.loop.items.items c.args.count c.loop.counter c.loop.least c.loop.rest.now (items_at read after 0 c.args.count c.args.bytes.now) c.loop-test.false c.loop.invariant.read
+    rw c.from_vec.ensures (is_done read after c.loop.items.items c.args.count c.loop.counter c.loop.least c.loop.rest.now (items_at read after 0 c.args.count c.args.bytes.now) c.loop-test.false c.loop.invariant.read)

@@ -22,5 +22,5 @@ loop-place-preserved c =
 
 pub returns : goal.returns
 returns c =
-    each_is_done vliw_at c.loop-place.code.items c.args.places.now c.loop-place.place-index c.loop-place.rest.now
-    (each vliw_at c.args.places.now c.args.bytes.now) c.loop-place-test.false c.loop-place.invariant
+    rw c.from_vec.ensures (each_is_done vliw_at c.loop-place.code.items c.args.places.now c.loop-place.place-index c.loop-place.rest.now
+    (each vliw_at c.args.places.now c.args.bytes.now) c.loop-place-test.false c.loop-place.invariant)
