@@ -1,12 +1,12 @@
 -- What digits are, what they say, and how a number's digits are written.
 use Rattle.std.proofs.Common.{◌≡◌, ◌∙◌, ℕ, ◌+◌, ◌-◌, ◌*◌, ◌/◌, ◌%◌, ◌^◌, ◌<◌, ◌≤◌, true, leb, List, [], ◌∷◌, ◌++◌, length, get_or, drop, fold, refl, sym, ap, arith, add-one, drop-cons}
 use Rattle.std.specs.Fmt.{decimal}
-use Rattle.std.specs.List.{list_all}
+use Rattle.std.specs.List.{All, list_all}
 use Rattle.std.proofs.Math.Nat.{mul-le-mul_left, mul-le-mul_right, mul_assoc, pow-succ'}
 use Rattle.std.proofs.lemmas.Bool.{and_from, and_parts, le-leb, leb-true, lt-leb}
 use Rattle.std.proofs.lemmas.Fmt.{decimal_by_steps}
 use Rattle.std.proofs.lemmas.List.Folds.{list_all-append}
-use Rattle.std.proofs.lemmas.List.Sums.{fold-append}
+use Rattle.std.proofs.lemmas.List.Sums.{AllPass-from_list_all, fold-append}
 use Rattle.rmt_bits.specs.Digits.{appended, digit_value, is_digit, number_of_digits}
 
 -- ---- one digit
@@ -20,6 +20,9 @@ pub IsDigit-from : (b : ℕ) → is_digit b ≡ true → IsDigit b
 IsDigit-from b e =
     let both = and_parts (leb 48 b) (leb b 57) e in
     record { low = leb-true 48 b both.0; high = leb-true b 57 both.1 }
+
+pub IsDigit-at : (ds : List ℕ) → list_all is_digit ds ≡ true → All IsDigit ds
+IsDigit-at ds all k d lt = IsDigit-from (get_or ds k d) (AllPass-from_list_all is_digit ds all k d lt)
 
 pub is_digit-shown : (d : ℕ) → d < 10 → is_digit (48 + d) ≡ true
 is_digit-shown d lt = and_from (leb 48 (48 + d)) (leb (48 + d) 57) (le-leb 48 (48 + d) (omega arith)) (le-leb (48 + d) 57 (omega arith))

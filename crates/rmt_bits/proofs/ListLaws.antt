@@ -120,3 +120,7 @@ prefix_len-until test (x ∷ xs) y ys all stops =
 
 pub take_while-until : {X : Type 0} (test : X → Bool) (xs : List X) (y : X) (ys : List X) → list_all test xs ≡ true → test y ≡ false → take_while test (xs ++ y ∷ ys) ≡ xs
 take_while-until test xs y ys all stops = ap (λ n. take n (xs ++ y ∷ ys)) (prefix_len-until test xs y ys all stops) ∙ take-append_seam xs (y ∷ ys)
+
+pub flat_map-map : {X Y A : Type 0} (g : Y → List A) (f : X → Y) (xs : List X) → flat_map g (map f xs) ≡ flat_map (λ x. g (f x)) xs
+flat_map-map g f [] = refl
+flat_map-map g f (x ∷ xs) = ap (λ l. g (f x) ++ l) (flat_map-map g f xs)

@@ -1,23 +1,14 @@
 -- The marks of a text of the grammar are those of a tree, and of that tree alone; a tree that the grammar reads as a rule is a
 -- node of that rule, and its parts, one after another, are those of the rule.
-use Rattle.rmt_syntax.proofs.Words.{append-nil, ◌≡◌, ◌∙◌, sym, ap, refl, subst, List, [], ◌∷◌, ◌++◌, map, append_assoc, flat_map, Token, Rule, Part, Phrase, Whole, Mark, leaf, opens, shuts, marks, marks_step, Goal, part, phrase, shut, Reads, nothing, token, node, end, done, choose, Terminal, IsOf, AreParts, ArePartsOf, IsTokenOf, Follows, stop, onward}
+use Rattle.rmt_syntax.proofs.Words.{append-nil, ◌≡◌, ◌∙◌, sym, ap, refl, subst, List, [], ◌∷◌, ◌++◌, map, append_assoc, flat_map, Rule, Part, Phrase, Whole, Mark, leaf, opens, shuts, marks, Goal, part, phrase, shut, Reads, nothing, token, node, end, done, choose, Terminal, IsOf, AreParts, ArePartsOf, IsTokenOf, Follows, stop, onward}
 use Rattle.rmt_syntax.specs.declared.tree.Tree.{Tree, One, Many, roll-Tree}
 use Rattle.rmt_syntax.specs.declared.tree.Tree.TheOpen.{Tree-F}
 use Rattle.rmt_syntax.specs.declared.tree.Tree.TheOpen as tree
-use Rattle.rmt_syntax.specs.declared.tree.Tree.TheFolds.{ind-Tree, map-Tree, fold-roll-Tree}
+use Rattle.rmt_syntax.specs.declared.tree.Tree.TheFolds.{ind-Tree, map-Tree}
 use Rattle.rmt_syntax.specs.declared.tree.Tree.TheVariants.{rolls-One, rolls-Many}
 use Rattle.rmt_syntax.specs.declared.grammar.Part.TheVariants as parts
 use Rattle.rmt_syntax.proofs.Machine.{after_node, after_one}
-
-marks_one : (t : Token) → marks (One t) ≡ leaf t ∷ []
-marks_one t = ap marks (sym (rolls-One t)) ∙ fold-roll-Tree (List Mark) marks_step (tree.One t)
-
-joined : {A : Type 0} (f : A → List Mark) (xs : List A) → flat_map (λ m. m) (map f xs) ≡ flat_map f xs
-joined f [] = refl
-joined f (x ∷ xs) = ap (λ ms. f x ++ ms) (joined f xs)
-
-pub marks_many : (r : Rule) (v : List Tree) → marks (Many r v) ≡ opens r ∷ (flat_map marks v ++ shuts r ∷ [])
-marks_many r v = ap marks (sym (rolls-Many r v)) ∙ fold-roll-Tree (List Mark) marks_step (tree.Many r v) ∙ ap (λ ms. opens r ∷ (ms ++ shuts r ∷ [])) (joined marks v)
+use Rattle.rmt_syntax.proofs.MarkLaws.{marks_one, marks_many}
 
 many_before : (r : Rule) (v : List Tree) (ms : List Mark) → marks (Many r v) ++ ms ≡ opens r ∷ (flat_map marks v ++ shuts r ∷ ms)
 many_before r v ms = ap (λ m. m ++ ms) (marks_many r v) ∙ ap (λ m. opens r ∷ m) (append_assoc (flat_map marks v) (shuts r ∷ []) ms)

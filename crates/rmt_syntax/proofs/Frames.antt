@@ -2,7 +2,7 @@
 use Rattle.rmt_syntax.proofs.Words.{◌≡◌, ◌∙◌, sym, ap, refl, List, [], ◌∷◌, ◌++◌, append_assoc, append-nil, append-nil_left, append-nil_right, map, flat_map, fold, flat_map-append, Rule, Part, Phrase, Done, Mark, opens, shuts, marks, Goal, part, phrase, shut, frame_marks, frame_goals, outer_goals}
 use Rattle.rmt_syntax.specs.declared.tree.Tree.{Tree, Many}
 use Rattle.rmt_syntax.specs.declared.reader.Frame.{Frame}
-use Rattle.rmt_syntax.proofs.Forests.{marks_many}
+use Rattle.rmt_syntax.proofs.MarkLaws.{marks_many}
 
 -- a node that is read to its end stands in the one around it
 pub closing : (fs gs : List Frame) (o b inner : Frame) (ps : List Tree) → gs ≡ fs ++ o ∷ [] → ps ≡ o.parts ++ Many b.rule b.parts ∷ [] → b ≡ inner

@@ -7,6 +7,7 @@ mod Forests
 mod Frames
 mod Fronts
 mod Machine
+pub mod MarkLaws
 mod Operands
 mod Produce
 pub mod Sets
