@@ -1,5 +1,5 @@
 -- The names of a text are words of its tokens: none has a dot, and none is a reserved word.
-use Rattle.std.proofs.Common.{◌≡◌, ◌≢◌, ℕ, zero, suc, ◌-◌, List, [], ◌∷◌, Bool, cond, if◌then◌else◌, length, drop, slice_index, Ok, Err, Result, All, refl, sym, ap, subst, ◌∙◌, ◌++◌, Some, map, codes, append_assoc, arith}
+use Rattle.std.proofs.Common.{◌≡◌, ◌≢◌, ℕ, zero, suc, ◌-◌, List, [], ◌∷◌, Bool, cond, if◌then◌else◌, length, drop, slice_index, Ok, Err, Result, All, refl, sym, ap, subst, ◌∙◌, ◌++◌, Some, codes, append_assoc, arith}
 use Rattle.std.specs.List.{take_while, flat_map}
 use Rattle.std.proofs.lemmas.Bool.Decides.{nat_tests}
 use Rattle.std.proofs.lemmas.List.Elements.{All-nil, All-cons, All-head}
@@ -7,16 +7,18 @@ use Rattle.std.proofs.lemmas.List.Sums.{take_while-cons}
 use Rattle.rmt_check.specs.Parts.{Place, ProgramFault, Token, TokenKind, Terminal, Ident}
 use Rattle.rmt_lexer.specs.declared.token.TokenKind.TheVariants.{Number, End}
 use Rattle.rmt_lexer.specs.declared.item.Item.{Item}
-use Rattle.rmt_lexer.specs.Text.{is_space, is_letter, is_digit, is_hex, is_name_byte, is_sign, number_of, is_hex_number, is_comment, is_equal, number_item, hex_item, item_of, behind, first_place, token_at, with_front, read_item, reading, tokens_of}
+use Rattle.rmt_bits.specs.Digits.{is_digit, is_hex, is_hex_number, number_of_digits}
+use Rattle.rmt_lexer.specs.Text.{is_space, is_letter, is_name_byte, is_sign, is_comment, is_equal, number_item, hex_item, item_of, behind, first_place, token_at, with_front, read_item, reading, tokens_of}
 use Rattle.rmt_check.specs.Reading.{word_of, parts, parts_of, first, ident_of, in_token, name_if, name_at, names, name_among, no_name}
 use Rattle.rmt_check.specs.Naming.{HasNoDot, IsPlainWord, WordsArePlain}
 use Rattle.std.proofs.lemmas.Option.{none-some}
 use Rattle.rmt_syntax.specs.declared.tree.Tree.{Tree, roll-Tree, roll-out-Tree}
 use Rattle.rmt_syntax.specs.declared.tree.Tree.TheViews.{out-Tree}
 use Rattle.rmt_syntax.specs.declared.tree.Tree.TheOpen.{Tree-F}
-use Rattle.rmt_syntax.specs.declared.tree.Tree.TheFolds.{fold-roll-Tree}
+use Rattle.rmt_syntax.specs.declared.tree.Tree.TheVariants.{rolls-One, rolls-Many}
+use Rattle.rmt_syntax.proofs.MarkLaws.{marks_one, marks_many}
 use Rattle.rmt_syntax.specs.Grammar.{terminal_of, word_terminal}
-use Rattle.rmt_syntax.specs.Trees.{Mark, leaf, opens, shuts, marks, marks_step, tokens_in}
+use Rattle.rmt_syntax.specs.Trees.{Mark, leaf, opens, shuts, marks, tokens_in}
 use Rattle.rmt_bits.proofs.AllLaws.{All-left, All-right}
 use Rattle.rmt_check.proofs.texts.PhraseLaws.{each_seen, first_seen, or_default}
 use Rattle.rmt_lexer.specs.declared.item.Item.TheVariants as item
@@ -57,7 +59,7 @@ plain_item text =
     (either IsPlain (is_comment text) _ _ tt
     (either IsPlain (is_letter (slice_index text 0)) _ _ (name_bytes text)
     (either IsPlain (is_hex_number text) _ _ (plain_hex (take_while is_hex (drop 2 text)))
-    (either IsPlain (is_digit (slice_index text 0)) _ _ (plain_number (number_of 10 (take_while is_digit text)) (length (take_while is_digit text)))
+    (either IsPlain (is_digit (slice_index text 0)) _ _ (plain_number (number_of_digits 10 (take_while is_digit text)) (length (take_while is_digit text)))
     (either IsPlain (is_equal text) _ _ no_word
     (either IsPlain (is_sign (slice_index text 0)) _ _ no_word tt))))))
 
@@ -89,26 +91,25 @@ tokens-append (opens r ∷ xs) ys = tokens-append xs ys
 tokens-append (shuts r ∷ xs) ys = tokens-append xs ys
 
 -- the words of each of some trees
-each_plain : (us : List Tree) (last : List Mark) → All IsPlainWord (tokens_in (flat_map (λ m. m) (map marks us) ++ last)) → All WordsArePlain us
+each_plain : (us : List Tree) (last : List Mark) → All IsPlainWord (tokens_in (flat_map marks us ++ last)) → All WordsArePlain us
 each_plain [] last h = All-nil WordsArePlain
 each_plain (u ∷ us) last h =
-    let split : tokens_in ((marks u ++ flat_map (λ m. m) (map marks us)) ++ last) ≡ tokens_in (marks u) ++ tokens_in (flat_map (λ m. m) (map marks us) ++ last) =
-    ap tokens_in (append_assoc (marks u) (flat_map (λ m. m) (map marks us)) last) ∙ tokens-append (marks u) (flat_map (λ m. m) (map marks us) ++ last) in
+    let split : tokens_in ((marks u ++ flat_map marks us) ++ last) ≡ tokens_in (marks u) ++ tokens_in (flat_map marks us ++ last) =
+    ap tokens_in (append_assoc (marks u) (flat_map marks us) last) ∙ tokens-append (marks u) (flat_map marks us ++ last) in
     let both = subst (All IsPlainWord) split h in
-    All-cons WordsArePlain u us (All-left IsPlainWord (tokens_in (marks u)) (tokens_in (flat_map (λ m. m) (map marks us) ++ last)) both)
-    (each_plain us last (All-right IsPlainWord (tokens_in (marks u)) (tokens_in (flat_map (λ m. m) (map marks us) ++ last)) both))
+    All-cons WordsArePlain u us (All-left IsPlainWord (tokens_in (marks u)) (tokens_in (flat_map marks us ++ last)) both)
+    (each_plain us last (All-right IsPlainWord (tokens_in (marks u)) (tokens_in (flat_map marks us ++ last)) both))
 
 -- the words of the parts are words of the tree
 pub parts_plain : (u : Tree) (x : Tree-F Tree) → out-Tree u ≡ x → WordsArePlain u → All WordsArePlain (parts_of x)
 parts_plain u (tree.One t) e h = All-nil WordsArePlain
 parts_plain u (tree.Many r parts) e h =
-    let is : marks u ≡ opens r ∷ (flat_map (λ m. m) (map marks parts) ++ shuts r ∷ []) =
-    ap marks (sym (roll-out-Tree u) ∙ ap roll-Tree e) ∙ fold-roll-Tree (List Mark) marks_step (tree.Many r parts) in
+    let is : marks u ≡ opens r ∷ (flat_map marks parts ++ shuts r ∷ []) = ap marks (sym (roll-out-Tree u) ∙ ap roll-Tree e ∙ rolls-Many r parts) ∙ marks_many r parts in
     each_plain parts (shuts r ∷ []) (subst (λ ms. All IsPlainWord (tokens_in ms)) is h)
 
 pub token_plain : (u : Tree) (t : Token) → out-Tree u ≡ tree.One t → WordsArePlain u → IsPlainWord t
 token_plain u t e h =
-    let is : marks u ≡ leaf t ∷ [] = ap marks (sym (roll-out-Tree u) ∙ ap roll-Tree e) ∙ fold-roll-Tree (List Mark) marks_step (tree.One t) in
+    let is : marks u ≡ leaf t ∷ [] = ap marks (sym (roll-out-Tree u) ∙ ap roll-Tree e ∙ rolls-One t) ∙ marks_one t in
     All-head IsPlainWord t [] (subst (λ ms. All IsPlainWord (tokens_in ms)) is h)
 
 -- a name as a text can have it
