@@ -29,3 +29,5 @@ pub mod MemoryHolds
 pub mod SlotLaws
 pub mod ToldTests
 pub mod ExamplesCells
+pub mod RunCellLaws
+pub mod ExamplesRunCells

@@ -22,3 +22,5 @@ pub mod Spells
 pub mod Layouts
 pub mod MemoryRules
 pub mod Agreement
+pub mod RunCells
+pub mod RunInputs
