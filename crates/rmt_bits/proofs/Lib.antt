@@ -2,10 +2,13 @@ pub mod AllLaws
 pub mod BitLaws
 pub mod ByteLaws
 pub mod DigitLaws
+pub mod CountLaws
 pub mod Examples
 pub mod FunctionLaws
 pub mod ListLaws
 pub mod MemberLaws
 pub mod OptionLaws
+pub mod OrderLaws
 pub mod PairLaws
+pub mod RunLaws
 pub mod WordLaws

@@ -1,6 +1,6 @@
 -- Lists: where there is an item, lists without items, and one item more.
 use Rattle.std.proofs.Common.{◌≡◌, ◌≢◌, ℕ, zero, suc, ◌+◌, ◌<◌, ◌≤◌, Bool, true, false, cond, List, [], ◌∷◌, ◌++◌, length, take, drop, Option, None, Some, refl, ap, sym, subst, ◌∙◌, arith}
-use Rattle.std.specs.Prelude.{All, IsSome, IsSomeAnd, find, slice_get, slice_set, map}
+use Rattle.std.specs.Prelude.{All, IsSome, IsSomeAnd, find, slice_get, slice_set, map, filter}
 use Rattle.std.specs.List.{flat_map, list_all, prefix_len, range_with_len, sum_by, take_while}
 use Rattle.std.proofs.Math.Seq.{take-append_seam}
 use Rattle.std.proofs.lemmas.Bool.{and_parts}
@@ -124,3 +124,21 @@ take_while-until test xs y ys all stops = ap (λ n. take n (xs ++ y ∷ ys)) (pr
 pub flat_map-map : {X Y A : Type 0} (g : Y → List A) (f : X → Y) (xs : List X) → flat_map g (map f xs) ≡ flat_map (λ x. g (f x)) xs
 flat_map-map g f [] = refl
 flat_map-map g f (x ∷ xs) = ap (λ l. g (f x) ++ l) (flat_map-map g f xs)
+
+-- a sum over the items that pass a test, where the others add nothing, or where those add nothing
+pub sum_by-filter : {X : Type 0} (f : X → ℕ) (test : X → Bool) (xs : List X) → ((x : X) → test x ≡ false → f x ≡ 0) → sum_by f (filter test xs) ≡ sum_by f xs
+sum_by-filter f test [] none = refl
+sum_by-filter f test (x ∷ xs) none = by (sum_by-filter f test xs none) (test x) refl
+  where
+    by : sum_by f (filter test xs) ≡ sum_by f xs → (b : Bool) → test x ≡ b → sum_by f (cond b (x ∷ filter test xs) (filter test xs)) ≡ sum_by f (x ∷ xs)
+    by rest true e = sum_by-cons f x (filter test xs) ∙ ap (λ n. f x + n) rest ∙ sym (sum_by-cons f x xs)
+    by rest false e =
+        rest ∙ (let zero_more : sum_by f xs ≡ f x + sum_by f xs = omega (arith, none x e) in zero_more) ∙ sym (sum_by-cons f x xs)
+
+pub sum_by-filter_none : {X : Type 0} (f : X → ℕ) (test : X → Bool) (xs : List X) → ((x : X) → test x ≡ true → f x ≡ 0) → sum_by f (filter test xs) ≡ 0
+sum_by-filter_none f test [] none = refl
+sum_by-filter_none f test (x ∷ xs) none = by (sum_by-filter_none f test xs none) (test x) refl
+  where
+    by : sum_by f (filter test xs) ≡ 0 → (b : Bool) → test x ≡ b → sum_by f (cond b (x ∷ filter test xs) (filter test xs)) ≡ 0
+    by rest true e = sum_by-cons f x (filter test xs) ∙ (let none_more : f x + sum_by f (filter test xs) ≡ 0 = omega (arith, none x e, rest) in none_more)
+    by rest false e = rest

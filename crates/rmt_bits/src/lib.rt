@@ -3,6 +3,7 @@
 
 pub mod answer;
 pub mod bits;
+pub mod counts;
 pub mod digits;
 pub mod hash;
 pub mod lane;
