@@ -1,3 +1,4 @@
 pub mod Numbered
 pub mod ByName
 pub mod OutsideLaws
+pub mod Fronts

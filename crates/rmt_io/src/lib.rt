@@ -6,5 +6,6 @@ pub mod mem_shelf;
 pub mod mem_sink;
 pub mod shelf;
 pub mod sink;
+mod transfer;
 pub mod true_shelf;
 pub mod true_sink;

@@ -1,0 +1,7 @@
+use Rattle.std.proofs.Common.{◌≡◌, length}
+use Rattle.std.specs.Io.KnownBytes.{Keeps}
+use Rattle.rmt_io.proofs.transfer.read_some.Given as goal
+
+-- an interrupted read took no byte
+abbrev pub invariant-loop : goal.invariant-loop
+invariant-loop g l = (length l.into ≡ length l.initial.into) × Keeps (g.R.Read.remaining l.initial.reader) (g.R.Read.remaining l.reader)

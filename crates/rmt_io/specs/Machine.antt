@@ -1,0 +1,14 @@
+-- The faults that a shelf of the machine keeps.
+use Rattle.std.specs.Prelude.{◌≡◌, ℕ, List, Option, Some, None, IfSome, option_map, string_bytes, String}
+use Rattle.std.specs.Global.{Global}
+use Rattle.std.specs.declared.io.ErrorKind.{ErrorKind}
+use Rattle.rmt_io.specs.declared.true_shelf.MachineFault.{MachineFault}
+
+-- the fault that is kept, if any, has this name and kind
+abbrev pub IsFaultOf : List ℕ → ErrorKind → Option MachineFault → Type 0
+IsFaultOf name kind last = IfSome last (λ fault. (string_bytes fault.name ≡ name) × (fault.kind ≡ kind))
+
+-- the name that a fault of the open file is kept under: the one kept with the file, or else that of the fault before it
+abbrev pub name_kept : Option (String Global) → Option MachineFault → Option (List ℕ)
+name_kept (Some name) last = Some (string_bytes name)
+name_kept None last = option_map (λ fault. string_bytes fault.name) last
