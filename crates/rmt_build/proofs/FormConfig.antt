@@ -135,15 +135,15 @@ module _ (p : Program) (lists : List (List Entry)) (plan : Plan) (c : Config) (p
     starts_are : map (λ (s : Stage). s.start) c.stages ≡ plan.starts
     starts_are = units.starts_are
 
-    pub formed_by_plan : refusal p ≡ None → c.seed < 256 → parser_is_formed c.parser ≡ true → entries_are_numbered c ≡ true → Formed c
-    formed_by_plan fits seed parser numbers =
+    pub formed_by_plan : refusal p ≡ None → c.names ≡ None → c.seed < 256 → parser_is_formed c.parser ≡ true → entries_are_numbered c ≡ true → Formed c
+    formed_by_plan fits names seed parser numbers =
         let ports = ports_formed p plan.places is_plan.places program c carried seed in
         let headers = headers_formed p plan.places is_plan.places program c carried fits in
         let starts : starts_are_formed (map (λ (s : Stage). s.start) c.stages) ≡ true =
         ap starts_are_formed starts_are ∙ starts_formed plan.starts edges.distances.first edges.distances.rise in
         let stages = stages_formed p program lists entries plan is_plan.parts is_plan.places is_plan.stands keyless_alone c.stages built few long early starts in
         record {
-          items = rw (ports, headers, parser, stages) refl;
+          items = rw (ports, headers, parser, stages, names) refl;
           whole = record {
             rows = list_all-from_AllPass rows_are_formed c.stages (λ k d lt. (built k (get_or c.stages k d) (slice_get-get_or c.stages k d lt)).rows);
             tables = tables_formed p program plan.places parts c are_placed stages_built;
@@ -153,6 +153,6 @@ module _ (p : Program) (lists : List (List Entry)) (plan : Plan) (c : Config) (p
         }
 
     -- with the clustered parser of a program without tails
-    pub formed_with_clustered : refusal p ≡ None → All (λ (h : Header). h.tail ≡ None) p.headers → c.parser ≡ clustered p plan.places → c.seed < 256 → entries_are_numbered c ≡ true → Formed c
-    formed_with_clustered fits tails parser seed numbers =
-        formed_by_plan fits seed (ap parser_is_formed parser ∙ clustered_formed p plan.places program is_plan.places fits tails) numbers
+    pub formed_with_clustered : refusal p ≡ None → All (λ (h : Header). h.tail ≡ None) p.headers → c.parser ≡ clustered p plan.places → c.names ≡ None → c.seed < 256 → entries_are_numbered c ≡ true → Formed c
+    formed_with_clustered fits tails parser names seed numbers =
+        formed_by_plan fits names seed (ap parser_is_formed parser ∙ clustered_formed p plan.places program is_plan.places fits tails) numbers

@@ -182,9 +182,9 @@ module _ (p : Program) (lists : List (List Entry)) (plan : Plan) (c : Config) (p
   pub joined_limits : refusal p ≡ None → c.parser ≡ clustered p plan.places → IsWithinLimits c
   joined_limits fits parser = limits_by_plan p lists plan c program entries is.is_plan built few long is.early fits parser is.limits
 
-  pub joined_formed : PlacesCarried p plan.places c → refusal p ≡ None → All (λ (h : Header). h.tail ≡ None) p.headers → c.parser ≡ clustered p plan.places → plan.seed < 8 → Formed c
-  joined_formed places fits tails parser small =
-      formed_with_clustered p lists plan c program entries is.is_plan built few long is.early places units_are is.edges is.exact fits tails parser (omega (arith, small, seed))
+  pub joined_formed : PlacesCarried p plan.places c → refusal p ≡ None → All (λ (h : Header). h.tail ≡ None) p.headers → c.parser ≡ clustered p plan.places → c.names ≡ None → plan.seed < 8 → Formed c
+  joined_formed places fits tails parser names small =
+      formed_with_clustered p lists plan c program entries is.is_plan built few long is.early places units_are is.edges is.exact fits tails parser names (omega (arith, small, seed))
       (entries_numbered p lists plan c entries units_are is.is_plan.stands built)
 
 -- ---- its map

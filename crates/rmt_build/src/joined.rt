@@ -269,6 +269,7 @@ fn config_of(
     ensures seed { IfOk result (λ config. config.seed ≡ plan.now.seed) }
     ensures parser { IfOk result (λ config. config.parser ≡ parser) }
     ensures stages { IfOk result (λ config. config.stages ≡ stages) }
+    ensures names { IfOk result (λ config. config.names ≡ None) }
 {
     let headers = out_headers(alloc, program, &plan.places)?;
     Ok(Config {
@@ -279,6 +280,7 @@ fn config_of(
         headers,
         parser,
         stages,
+        names: None,
     })
 }
 

@@ -20,7 +20,7 @@ use Rattle.rmt_config.specs.ParserForm.{next_is_formed, extract_is_formed, looku
 use Rattle.rmt_config.specs.UnitForm.{guard_is_formed, number_is_formed, slot_head_is_formed, memory_is_formed, unit_is_formed}
 use Rattle.rmt_config.specs.CodeForm.{places_of, source_is_formed, kind_is_formed, lane_of_operation, operation_is_formed, vliw_is_formed, code_is_formed}
 use Rattle.rmt_config.specs.StageForm.{srow_fits, trow_fits, stage_is_formed, starts_are_formed, stages_are_formed}
-use Rattle.rmt_config.specs.Form.{items_are_formed}
+use Rattle.rmt_config.specs.Form.{items_are_formed, has_no_names}
 use Rattle.rmt_config.specs.Resources.{is_slot, is_gate}
 use Rattle.rmt_config.specs.Limits.{last_start_hit, IsWithinLimits}
 use Rattle.rmt_config.proofs.LimitLaws.{within, KeepsLimits, limits_kept}
@@ -276,7 +276,8 @@ runnable c formed limits =
     let ports = ports_are_formed c in
     let headers = headers_are_formed c.headers in
     let parser = parser_is_formed c.parser in
-    let a = and_parts (ports && headers && parser) (stages_are_formed c.stages) formed in
+    let named = and_parts (ports && headers && parser && stages_are_formed c.stages) (has_no_names c) formed in
+    let a = and_parts (ports && headers && parser) (stages_are_formed c.stages) named.0 in
     let b = and_parts (ports && headers) parser a.0 in
     let d = and_parts ports headers b.0 in
     let drops = and_parts (ltb c.seed 256 && in_port && out_port) drop d.0 in

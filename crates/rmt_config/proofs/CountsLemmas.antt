@@ -86,7 +86,7 @@ at_most_64 n le = omega (arith, le)
 
 pub counts_fit : (c : Config) → IsTrue (items_are_formed c) → CountsFit c
 counts_fit c e =
-    let front = and_parts _ _ e in
+    let front = and_parts _ _ (and_parts _ _ e).0 in
     let parser = and_parts _ _ front.0 in
     let headers = and_parts _ _ (and_parts _ _ parser.0).1 in
     let stages = and_parts _ _ (and_parts _ _ front.1).0 in
@@ -97,3 +97,9 @@ counts_fit c e =
       stages = ltb-true _ _ stages.0;
       each_stage = All-from_test CountsFitStage stage_is_formed stage_counts c.stages stages.1;
     }
+
+-- each stage of a configuration whose items keep their rules keeps its own
+pub stages_of_items : (c : Config) → IsTrue (items_are_formed c) → IsTrue (list_all stage_is_formed c.stages)
+stages_of_items c e =
+    let front = and_parts _ _ (and_parts _ _ e).0 in
+    (and_parts _ _ (and_parts _ _ front.1).0).1

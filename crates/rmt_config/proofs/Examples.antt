@@ -159,6 +159,7 @@ two_headers = record {
     tails = [];
   };
   stages = [];
+  names = None;
 }
 
 -- both headers and a byte of payload; a cut second header; a reject; the first header alone

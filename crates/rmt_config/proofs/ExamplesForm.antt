@@ -56,6 +56,7 @@ accepts_all = record {
   headers = [];
   parser = record { states = record { lookups = [] } ∷ []; entries = record { state = 0; value = 0; mask = 0; need = 0; advance = 0; next = Accept; extracts = [] } ∷ []; tails = [] };
   stages = [];
+  names = None;
 }
 
 pub accepts_all-formed : items_are_formed accepts_all ≡ true

@@ -1,5 +1,5 @@
 -- Parts from which the examples' configurations are put together.
-use Rattle.std.specs.Prelude.{ℕ, List, [], ◌∷◌, Option, true, false}
+use Rattle.std.specs.Prelude.{ℕ, List, [], ◌∷◌, Option, None, true, false}
 use Rattle.rmt_bits.specs.Packet.{Packet}
 use Rattle.rmt_bits.specs.declared.lane.Lane.{Lane}
 use Rattle.rmt_bits.specs.declared.answer.Verdict.TheVariants as verdict
@@ -51,6 +51,7 @@ one_header bytes extracts pieces stages = record {
     tails = [];
   };
   stages = stages;
+  names = None;
 }
 
 -- the header h { f : 8; } in word 1

@@ -32,6 +32,7 @@ sends_to_one valid piece = record {
     srows = [];
     trows = [];
   } ∷ [];
+  names = None;
 }
 
 -- the valid bit shares a word with the drop bit

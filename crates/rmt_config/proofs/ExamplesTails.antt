@@ -79,6 +79,7 @@ two_tails tails = record {
     tails = tails;
   };
   stages = [];
+  names = None;
 }
 
 -- the second entry is the first that matches, and its number finds its tail

@@ -3,6 +3,9 @@ pub mod Examples
 pub mod ExamplesLookup
 pub mod ExamplesTails
 pub mod ExamplesSpelling
+pub mod ExamplesNames
+pub mod ExamplesImages
+pub mod ImageLaws
 pub mod ExamplesForm
 pub mod ExamplesTables
 pub mod ExamplesLimits

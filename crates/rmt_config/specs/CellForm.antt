@@ -11,10 +11,14 @@ use Rattle.rmt_config.specs.Cells.{Blocks, sram_row, tcam_row, unit_row, blocks_
 
 -- ---- occupied cells
 
--- the head of an occupied cell that is visible and runs one of that many instructions, of which the first has this number
+-- the head of an occupied cell that has these visible bits and runs one of that many instructions, of which the first has this number
+abbrev pub seen_head_is_formed : ℕ → ℕ → ℕ → ℕ → Bool
+seen_head_is_formed visible first actions head =
+    is_occupied head && (visible_bits head == visible) && nat_le first (code_of head) && nat_lt (code_of head) (first + actions)
+
+-- such a head without visible bits
 abbrev pub head_is_formed : ℕ → ℕ → ℕ → Bool
-head_is_formed first actions head =
-    is_occupied head && (visible_bits head == 0) && nat_le first (code_of head) && nat_lt (code_of head) (first + actions)
+head_is_formed first actions head = seen_head_is_formed 0 first actions head
 
 -- such a cell, where a slot's own instructions are meant, and not its default
 abbrev pub content_is_formed : ℕ → SlotUnit → Content → Bool
@@ -30,10 +34,13 @@ abbrev pub cells_of : SlotUnit → List ℕ
 cells_of s = map (λ (n : CellNumber). n.cell) s.numbers
 
 -- the numbers of a slot tell cells of it, rising, each of them occupied
-abbrev pub numbers_are_formed : ℕ → Stage → SlotUnit → Bool
-numbers_are_formed first stage s =
+abbrev pub seen_numbers_are_formed : ℕ → ℕ → Stage → SlotUnit → Bool
+seen_numbers_are_formed visible first stage s =
     rises_from 0 (cells_of s) && list_all (λ n. nat_lt n (cells_in s.memory)) (cells_of s)
-    && list_all (λ n. content_is_formed first s (content_of stage s n)) (cells_of s)
+    && list_all (λ n. seen_head_is_formed visible first s.actions (content_of stage s n).head) (cells_of s)
+
+abbrev pub numbers_are_formed : ℕ → Stage → SlotUnit → Bool
+numbers_are_formed first stage s = seen_numbers_are_formed 0 first stage s
 
 -- ---- all else is zero
 
@@ -58,11 +65,15 @@ pub data MemoryEnds (stage : Stage) (s : SlotUnit) : Memory → Type 0 where
       → RecordsEnd (sram_row stage.srows) rs d 2 (s.held + 8)
       → MemoryEnds stage s (Ternary d ks rs cs)
 
--- a slot whose first instruction has this number
-pub record SlotHolds (stage : Stage) (first : ℕ) (s : SlotUnit) : Type 0 where
-  pub numbers : IsTrue (numbers_are_formed first stage s)
+-- a slot whose first instruction has this number, and whose occupied cells have these visible bits
+pub record SlotHoldsSeen (visible : ℕ) (stage : Stage) (first : ℕ) (s : SlotUnit) : Type 0 where
+  pub numbers : IsTrue (seen_numbers_are_formed visible first stage s)
   pub others : (n : ℕ) → n < cells_in s.memory → IsTrue (not (list_any (λ m. m == n) (cells_of s))) → IsTrue (is_clear s.memory (content_of stage s n))
   pub ends : MemoryEnds stage s s.memory
+
+-- the same where no cell has visible bits
+abbrev pub SlotHolds : Stage → ℕ → SlotUnit → Type 0
+SlotHolds stage first s = SlotHoldsSeen 0 stage first s
 
 -- a slot and the number of its first instruction in the stage
 pub record Coded : Type 0 where
@@ -75,8 +86,11 @@ coded_from first [] = []
 coded_from first ((Gate g) ∷ units) = coded_from first units
 coded_from first ((Slot s) ∷ units) = record { first = first; slot = s } ∷ coded_from (first + s.actions + 1) units
 
+abbrev pub StageHoldsSeen : ℕ → Stage → Type 0
+StageHoldsSeen visible stage = All (λ (c : Coded). SlotHoldsSeen visible stage c.first c.slot) (coded_from 0 stage.units)
+
 abbrev pub StageHolds : Stage → Type 0
-StageHolds stage = All (λ (c : Coded). SlotHolds stage c.first c.slot) (coded_from 0 stage.units)
+StageHolds stage = StageHoldsSeen 0 stage
 
 -- the entry numbers of a configuration, as they stand
 abbrev pub numbers_of_unit : Unit → List ℕ

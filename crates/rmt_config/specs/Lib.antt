@@ -14,11 +14,15 @@ pub mod StageForm
 pub mod TableForm
 pub mod CellForm
 pub mod Form
+pub mod NamesForm
+pub mod TailForm
+pub mod ImageSpelling
 pub mod NodesKnown
 pub mod Resources
 pub mod Limits
 pub mod LimitSteps
 pub mod Spells
+pub mod ImageForm
 pub mod Layouts
 pub mod MemoryRules
 pub mod Agreement

@@ -244,6 +244,7 @@ strict_and_weak = record {
         trows = [];
       }
       ∷ [];
+  names = None;
 }
 
 -- its bytes behind the version

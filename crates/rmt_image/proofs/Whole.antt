@@ -1,16 +1,18 @@
 -- The whole image, and its laws: what is read is spelled so, and what is spelled so is read.
 use Rattle.std.proofs.Common.{◌≡◌, ℕ, Bool, true, false, ltb, List, [], ◌∷◌, ◌++◌, length, take, drop, Option, Some, None, Result, Ok, Err, refl, sym, ap, subst, ◌∙◌, append_assoc}
-use Rattle.std.specs.Prelude.{codes, nat_eq, ◌≢◌, IfOk}
+use Rattle.std.specs.Prelude.{codes, nat_eq, not, is_some, ◌&&◌, ◌≢◌, IfOk}
 use Rattle.std.specs.List.{starts_with}
 use Rattle.std.specs.Cmp.Lexicographic.{same_text}
+use Rattle.std.proofs.lemmas.Bool.{and_parts}
 use Rattle.std.proofs.lemmas.List.{append-nil, take-append-drop}
 use Rattle.rmt_bits.proofs.ByteLaws.{AreBytes}
+use Rattle.rmt_ast.specs.declared.names.Names.{Names}
 use Rattle.rmt_image.specs.Types.{Config, OutHeader, ParserConfig, Stage}
 use Rattle.rmt_config.specs.declared.limits.LimitHit.{LimitHit}
 use Rattle.rmt_config.specs.LaneForm.{is_lane_of, ports_are_formed, headers_are_formed}
 use Rattle.rmt_config.specs.ParserForm.{parser_is_formed}
 use Rattle.rmt_config.specs.StageForm.{stages_are_formed}
-use Rattle.rmt_config.specs.Form.{items_are_formed, Formed}
+use Rattle.rmt_config.specs.Form.{items_are_formed, has_no_names, Formed}
 use Rattle.rmt_config.specs.Limits.{IsWithinLimits}
 use Rattle.rmt_config.specs.Spelling.{spelled_list8, spelled_lane, spelled_header, spelled_parser, spelled_stage, spelled_ports, spelled_config, spelled}
 use Rattle.rmt_config.specs.Spells.{Spells}
@@ -40,6 +42,9 @@ ports_codec =
     codec_made ports_of_parts (codec_behind byte_codec (λ _. codec_behind (lane_of_codec 9) (λ _. codec_behind (lane_of_codec 9) (λ _. lane_of_codec 1))))
     ports_text PortsKeep (λ a r. refl) (λ p q. ((p.seed, (p.in_port, (p.out_port, p.drop))), refl, refl, q))
 
+abbrev no_names : Option Names
+no_names = None
+
 abbrev Parts : Type 0
 Parts = Ports × (List OutHeader × (ParserConfig × List Stage))
 
@@ -54,9 +59,22 @@ config_text a =
     let stages = spelled_list8 spelled_stage a.1.1.1 in
     sym (append_assoc ports headers (parser ++ stages)) ∙ sym (append_assoc (ports ++ headers) parser stages)
 
+without_names : (c : Config) → items_are_formed c ≡ true → (ports_are_formed c && headers_are_formed c.headers && parser_is_formed c.parser && stages_are_formed c.stages) ≡ true
+without_names c formed = (and_parts (ports_are_formed c && headers_are_formed c.headers && parser_is_formed c.parser && stages_are_formed c.stages) (has_no_names c) formed).0
+
+named_none : (names : Option Names) → not (is_some names) ≡ true → no_names ≡ names
+named_none None e = refl
+named_none (Some names) e = absurd cc
+
+-- a configuration without names is its parts
+config_whole : (c : Config) → items_are_formed c ≡ true → config_of_parts (config_parts c) ≡ c
+config_whole c formed =
+    let test = and_parts (ports_are_formed c && headers_are_formed c.headers && parser_is_formed c.parser && stages_are_formed c.stages) (has_no_names c) formed in
+    ap (λ names. record c { names = names }) (named_none c.names test.1)
+
 config_back : (c : Config) → items_are_formed c ≡ true → PortsKeep (config_parts c).0 × ((headers_are_formed c.headers ≡ true) × ((parser_is_formed c.parser ≡ true) × (stages_are_formed c.stages ≡ true)))
 config_back c formed =
-    let p : (ports_are_formed c ≡ true) × (headers_are_formed c.headers ≡ true) × (parser_is_formed c.parser ≡ true) × (stages_are_formed c.stages ≡ true) = split4 formed in
+    let p : (ports_are_formed c ≡ true) × (headers_are_formed c.headers ≡ true) × (parser_is_formed c.parser ≡ true) × (stages_are_formed c.stages ≡ true) = split4 (without_names c formed) in
     let q : (ltb c.seed 256 ≡ true) × (is_lane_of 9 c.in_port ≡ true) × (is_lane_of 9 c.out_port ≡ true) × (is_lane_of 1 c.drop ≡ true) = split4 p.0 in
     ((tt, (q.1, (q.2, q.3))), (p.1, (p.2, p.3)))
 
@@ -65,7 +83,7 @@ unfolding config_at
 config_codec =
     codec_made config_of_parts (codec_behind ports_codec (λ _. codec_behind headers_codec (λ _. codec_behind parser_codec (λ _. stages_codec))))
     spelled_config (λ c. items_are_formed c ≡ true) (λ a r. config_text a)
-    (λ c formed. (config_parts c, refl, config_text (config_parts c), config_back c formed))
+    (λ c formed. (config_parts c, config_whole c formed, config_text (config_parts c), config_back c formed))
 
 -- a configuration that keeps the rules of form is read from its spelling
 pub config_again : (c : Config) → Formed c → config_at (spelled_config c) ≡ Ok (c, [])

@@ -436,6 +436,7 @@ config_of_parts x = record {
   headers = x.1.0;
   parser = x.1.1.0;
   stages = x.1.1.1;
+  names = None;
 }
 
 unfoldable pub config_at : Reader Config

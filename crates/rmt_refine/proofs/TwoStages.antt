@@ -171,4 +171,5 @@ config = record {
   headers = record { valid = lane 0 1 1; bytes = 1; pieces = lane 1 0 8 ∷ [] } ∷ [];
   parser = its_parser;
   stages = first_stage ∷ second_stage ∷ [];
+  names = None;
 }

@@ -17,4 +17,5 @@ pub fn items_fit(config: &Config) -> bool
         && headers_fit(config.headers.as_slice())
         && parser_fits(&config.parser)
         && stages_fit(config.stages.as_slice())
+        && config.names.is_none()
 }

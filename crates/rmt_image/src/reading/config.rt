@@ -57,6 +57,7 @@ pub fn config_of(alloc: Global, bytes: &[u8]) -> Result<(Config, &[u8]), ReadErr
         headers,
         parser,
         stages,
+        names: None,
     };
     Ok((config, rest))
 }

@@ -59,7 +59,7 @@ returns-clause-formed c =
     let made = c.in_ok-config.ensures in
     let are = are_stages p lists plan config c.in_ok-stages.stages made.stages c.in_ok-stages.ensures.stages in
     joined_formed p lists plan config c.requires.program c.requires.entries c.requires.plan are.all_there are.each made.seed made.places c.requires.fits c.requires.no_tails
-    (made.parser ∙ c.requires.parser) c.requires.seed.few
+    (made.parser ∙ c.requires.parser) made.names c.requires.seed.few
 
 pub returns-clause-limits : goal.returns-clause-limits
 returns-clause-limits c =
