@@ -11,4 +11,5 @@ pub mod OptionLaws
 pub mod OrderLaws
 pub mod PairLaws
 pub mod RunLaws
+pub mod TestLaws
 pub mod WordLaws

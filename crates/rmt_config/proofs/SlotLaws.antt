@@ -5,6 +5,7 @@ use Rattle.std.specs.List.{list_all, flat_map, fold}
 use Rattle.std.proofs.lemmas.Bool.{and_parts, ltb-true, leb-true, eqb-true, eq-eqb, both_ways, not-true}
 use Rattle.std.proofs.lemmas.List.Sums.{AllPass-from_list_all}
 use Rattle.rmt_bits.proofs.FunctionLaws.{funext}
+use Rattle.rmt_bits.proofs.TestLaws.{split3, split5, split11}
 use Rattle.rmt_bits.specs.declared.lane.Lane.{Lane}
 use Rattle.rmt_config.specs.Types.{Stage, Unit, GateUnit, SlotUnit, Memory}
 use Rattle.rmt_config.specs.declared.config.Unit.TheVariants.{Gate, Slot}
@@ -149,37 +150,24 @@ record MemoryFacts (s : SlotUnit) (d : ℕ) : Type 0 where
 
 memory-facts : (s : SlotUnit) (d : ℕ) → may_have_memory s d ≡ true → MemoryFacts s d
 memory-facts s d h =
-    let m4 = and_parts _ _ h in
-    let m3 = and_parts _ _ m4.0 in
-    let m2 = and_parts _ _ m3.0 in
-    let m1 = and_parts _ _ m2.0 in
-    record { keys = leb-true 1 (length s.keys) m1.0; bits = leb-true (bits_of_lanes s.keys) 640 m1.1; some_d = leb-true 1 d m3.1; most_d = leb-true d 106 m4.1 }
+    let f = split5 h in
+    record { keys = leb-true 1 (length s.keys) f.0; bits = leb-true (bits_of_lanes s.keys) 640 f.1; some_d = leb-true 1 d f.3; most_d = leb-true d 106 f.4 }
 
 pub exact-fits : (s : SlotUnit) (k p d w : ℕ) (ks rs cs : List ℕ) → slot_head_is_formed s ≡ true → memory_is_formed s (Exact k p d w ks rs cs) ≡ true → ExactFits s k p d ks rs
 exact-fits s k p d w ks rs cs head h =
-    let p10 = and_parts _ _ h in
-    let p9 = and_parts _ _ p10.0 in
-    let p8 = and_parts _ _ p9.0 in
-    let p7 = and_parts _ _ p8.0 in
-    let p6 = and_parts _ _ p7.0 in
-    let p5 = and_parts _ _ p6.0 in
-    let p4 = and_parts _ _ p5.0 in
-    let p3 = and_parts _ _ p4.0 in
-    let p2 = and_parts _ _ p3.0 in
-    let p1 = and_parts _ _ p2.0 in
-    let shapes = and_parts _ _ p7.1 in
-    let lengths = and_parts _ _ shapes.0 in
-    let facts = memory-facts s d p1.0 in
+    let f = split11 h in
+    let lengths = split3 f.7 in
+    let facts = memory-facts s d f.0 in
     let top = head-facts s head in
     record {
-      some_k = leb-true 1 k p1.1;
-      most_k = ltb-true k 256 p2.1;
-      some_p = leb-true 1 p p3.1;
-      most_p = ltb-true p 65536 p4.1;
+      some_k = leb-true 1 k f.1;
+      most_k = ltb-true k 256 f.2;
+      some_p = leb-true 1 p f.3;
+      most_p = ltb-true p 65536 f.4;
       some_d = facts.some_d;
       most_d = facts.most_d;
       most_bits = facts.bits;
-      fits = leb-true (p * (bits_of_lanes s.keys + 8)) (112 * k) p6.1;
+      fits = leb-true (p * (bits_of_lanes s.keys + 8)) (112 * k) f.6;
       most_held = top.held;
       keys = eqb-true (length ks) (d * (4 * k)) lengths.0;
       records = eqb-true (length rs) (d * (record_units (4 * p) s.held * record_width s.held)) lengths.1;
@@ -187,13 +175,9 @@ exact-fits s k p d w ks rs cs head h =
 
 pub ternary-fits : (s : SlotUnit) (d : ℕ) (ks rs cs : List ℕ) → slot_head_is_formed s ≡ true → memory_is_formed s (Ternary d ks rs cs) ≡ true → TernaryFits s d ks rs
 ternary-fits s d ks rs cs head h =
-    let p4 = and_parts _ _ h in
-    let p3 = and_parts _ _ p4.0 in
-    let p2 = and_parts _ _ p3.0 in
-    let p1 = and_parts _ _ p2.0 in
-    let shapes = and_parts _ _ p1.1 in
-    let lengths = and_parts _ _ shapes.0 in
-    let facts = memory-facts s d p1.0 in
+    let f = split5 h in
+    let lengths = split3 f.1 in
+    let facts = memory-facts s d f.0 in
     let top = head-facts s head in
     record {
       some_d = facts.some_d;

@@ -18,7 +18,7 @@ use Rattle.rmt_config.specs.Spelling.{two_bytes, four_bytes, spelled_list8, spel
 use Rattle.rmt_image.specs.declared.reading.parser.EntryHead.{EntryHead}
 use Rattle.rmt_image.specs.Readers.{kept, byte_at, is_flag, is_one, flag_at}
 use Rattle.rmt_image.specs.Reading.{word_at, lane_of_parts, lane_from_at, lane_at, has_bits, lane_of_at, header_of_parts, header_size_fits, is_covered, at_most, at_least, header_at, headers_at, offset_at, one_more, state_of_parts, state_at, states_at, entry_state_at, match_fits, match_at, need_fits, need_at, later_state_at, accepts, rejects, next_at, bits_of_parts, lies_in, bits_at, extract_at, head_of_parts, entry_head_at, entry_of_parts, entry_at, state_of, parser_of_parts, parser_at}
-use Rattle.rmt_image.proofs.Splits.{split2, split3, split4, split6, split8}
+use Rattle.rmt_bits.proofs.TestLaws.{split2, split3, split4, split6, split8}
 use Rattle.rmt_image.proofs.Codec.{Codec, codec_for, codec_kept, codec_behind, codec_made, codec_give, choices_none, choices_when, codec_chosen, AllAlong, codec_items, codec_listed, byte_codec, two_codec, four_codec, codec_list, alone}
 
 -- ---- numbers

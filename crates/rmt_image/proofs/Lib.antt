@@ -2,7 +2,6 @@ mod Appending
 mod NumberLaws
 mod Codec
 mod ItemLoops
-mod Splits
 mod Items
 mod Units
 mod Stages

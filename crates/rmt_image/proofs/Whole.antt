@@ -23,7 +23,7 @@ use Rattle.rmt_image.specs.declared.fault.ReadFault.TheVariants.{Short, Form}
 use Rattle.rmt_image.specs.declared.reading.config.Ports.{Ports}
 use Rattle.rmt_image.specs.Reading.{ports_of_parts, ports_at, config_of_parts, config_at, WholeAnswers, EndAnswers, ConfigAnswers, VersionAnswers, MagicAnswers, Answers}
 use Rattle.rmt_image.proofs.NumberLaws.{AreBytes-drop}
-use Rattle.rmt_image.proofs.Splits.{split4}
+use Rattle.rmt_bits.proofs.TestLaws.{split4}
 use Rattle.rmt_image.proofs.Codec.{Codec, ok_is, codec_behind, codec_made, byte_codec}
 use Rattle.rmt_image.proofs.Items.{lane_of_codec, headers_codec, parser_codec}
 use Rattle.rmt_image.proofs.Stages.{stages_codec}

@@ -58,9 +58,3 @@ split11 {a1} {a2} {a3} {a4} {a5} {a6} {a7} {a8} {a9} {a10} {a11} e =
     let p = and_parts (a1 && a2 && a3 && a4 && a5 && a6 && a7 && a8 && a9 && a10) a11 e in
     let q = split10 p.0 in
     (q.0, q.1, q.2, q.3, q.4, q.5, q.6, q.7, q.8, q.9, p.1)
-
-pub split12 : {a1 a2 a3 a4 a5 a6 a7 a8 a9 a10 a11 a12 : Bool} → (a1 && a2 && a3 && a4 && a5 && a6 && a7 && a8 && a9 && a10 && a11 && a12) ≡ true → (a1 ≡ true) × (a2 ≡ true) × (a3 ≡ true) × (a4 ≡ true) × (a5 ≡ true) × (a6 ≡ true) × (a7 ≡ true) × (a8 ≡ true) × (a9 ≡ true) × (a10 ≡ true) × (a11 ≡ true) × (a12 ≡ true)
-split12 {a1} {a2} {a3} {a4} {a5} {a6} {a7} {a8} {a9} {a10} {a11} {a12} e =
-    let p = and_parts (a1 && a2 && a3 && a4 && a5 && a6 && a7 && a8 && a9 && a10 && a11) a12 e in
-    let q = split11 p.0 in
-    (q.0, q.1, q.2, q.3, q.4, q.5, q.6, q.7, q.8, q.9, q.10, p.1)
