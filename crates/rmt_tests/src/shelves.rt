@@ -5,6 +5,7 @@ use rmt_io::shelf::{Shelf, ShelfFault};
 use rmt_io::true_shelf::TrueShelf;
 use std::alloc::{AllocError, Global};
 use std::fs;
+use std::io::ErrorKind;
 use std::process::Abort;
 use std::test::*;
 
@@ -357,17 +358,62 @@ fn a_file_of_the_machine(rt: HostRuntime) -> Result<(), Fail> {
     Ok(())
 }
 
-/// A file that is read in more than one call of the system, and the limits below its size.
+/// The name of a file, and why the machine refused it.
+type Refusal = (&'static str, ErrorKind);
+
+const ABSENT: Refusal = ("rmt_io_absent_test", ErrorKind::NotFound);
+
+const FOLDER: Refusal = (".", ErrorKind::IsADirectory);
+
+const FULL: Refusal = ("/dev/full", ErrorKind::StorageFull);
+
+const CANNOT: Result<(), ShelfFault> = Err(ShelfFault::Failed);
+
+const TOO_LONG: Result<(), ShelfFault> = Err(ShelfFault::TooLong);
+
+/// The name of a file, what is asked, the answer, and the last refusal then. `/dev/null` cannot keep
+/// bytes, which is no fault.
+const REFUSALS: [(&str, Step, Result<(), ShelfFault>, Refusal); 8] = [
+    ("rmt_io_absent_test", Step::Open, CANNOT, ABSENT),
+    (".", Step::Open, Ok(()), ABSENT),
+    (".", Step::Next(2), CANNOT, FOLDER),
+    (".", Step::Next(2), CANNOT, FOLDER),
+    ("/dev/full", Step::Write(b"x"), CANNOT, FULL),
+    ("/dev/null", Step::Write(b"x"), Ok(()), FULL),
+    ("/dev/zero", Step::Read(9), TOO_LONG, FULL),
+    (".", Step::Read(9), CANNOT, FOLDER),
+];
+
+#[test]
+fn what_the_machine_refuses(rt: HostRuntime) -> Result<(), Fail> {
+    let mut shelf = TrueShelf::new(&rt);
+    let mut read = Vec::new(rt.alloc());
+    assert!(rt; shelf.last_fault().is_none());
+    for (name, step, answer, refusal) in REFUSALS {
+        assert_eq!(rt; act(rt.alloc(), &mut shelf, name, step, &mut read)?, answer);
+        let fault = shelf.last_fault().ok_or("no fault is kept")?;
+        assert_eq!(rt; fault.name.as_str(), refusal.0);
+        assert_eq!(rt; fault.kind, refusal.1);
+    }
+    Ok(())
+}
+
+/// How many bytes a file has that is read in many calls of the system.
+const LONG: usize = 3 << 20;
+
 #[test]
 fn a_long_file_of_the_machine(rt: HostRuntime) -> Result<(), Fail> {
     let mut shelf = TrueShelf::new(&rt);
     let name = String::from_str(rt.alloc(), LONG_NAME)?;
-    let bytes = vec![in rt.alloc(); 5u8; 10000]?;
+    let mut bytes = vec![in rt.alloc(); 0u8; LONG]?;
+    for (place, byte) in bytes.iter_mut().enumerate() {
+        *byte = (place % 251) as u8;
+    }
     let mut into = Vec::new(rt.alloc());
     shelf.write(rt.alloc(), &name, &bytes)?;
-    shelf.read(rt.alloc(), &name, 10000, &mut into)?;
-    assert_eq!(rt; into.as_slice(), bytes.as_slice());
-    for limit in [9999, 0] {
+    shelf.read(rt.alloc(), &name, LONG as u64, &mut into)?;
+    assert!(rt; into.as_slice() == bytes.as_slice());
+    for limit in [LONG as u64 - 1, 0] {
         let answer = shelf.read(rt.alloc(), &name, limit, &mut into);
         assert_eq!(rt; answer, Err(ShelfFault::TooLong));
         assert_eq!(rt; into.len(), 0);
