@@ -3,6 +3,7 @@ use Rattle.std.specs.Prelude.{◌≡◌, [], ◌∷◌, true, false, codes, map,
 use Rattle.rmt_bits.specs.Bits.{slice, deposit, bits_of_bytes, bytes_of}
 use Rattle.rmt_bits.specs.Digits.{is_digit, is_hex, is_hex_number, number_of_digits}
 use Rattle.rmt_bits.specs.Hash.{fnv}
+use Rattle.rmt_bits.specs.Lines.{numbered_lines}
 use Rattle.rmt_bits.specs.Words.{word_size}
 
 -- of the byte 61
@@ -41,3 +42,10 @@ beside_hex = refl
 
 pub small_x_alone : is_hex_number (codes "0x") ∷ is_hex_number (codes "0X1") ∷ is_hex_number (codes "0") ∷ [] ≡ true ∷ false ∷ false ∷ []
 small_x_alone = refl
+
+-- blank lines and comments are counted and passed over
+pub numbered_known : numbered_lines 1 (codes "# a\nb\n  \n c") ≡ (2, codes "b") ∷ (4, codes " c") ∷ []
+numbered_known = refl
+
+pub no_lines : numbered_lines 1 [] ≡ []
+no_lines = refl

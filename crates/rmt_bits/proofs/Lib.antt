@@ -5,6 +5,7 @@ pub mod DigitLaws
 pub mod CountLaws
 pub mod Examples
 pub mod FunctionLaws
+pub mod LineLaws
 pub mod ListLaws
 pub mod MemberLaws
 pub mod OptionLaws

@@ -7,4 +7,5 @@ pub mod counts;
 pub mod digits;
 pub mod hash;
 pub mod lane;
+pub mod lines;
 pub mod sequence;

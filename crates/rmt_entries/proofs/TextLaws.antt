@@ -1,6 +1,6 @@
 -- Texts, read line by line.
-use Rattle.std.proofs.Common.{◌≡◌, ℕ, ◌+◌, ◌<◌, ◌==◌, Bool, true, false, not, cond, List, [], ◌∷◌, ◌++◌, Result, Ok, Err, length, refl, sym, ap, subst, ◌∙◌, length-append, arith}
-use Rattle.std.specs.List.{before_first, after_first, enumerate_from, filter}
+use Rattle.std.proofs.Common.{◌≡◌, ℕ, ◌+◌, ◌<◌, ◌==◌, true, false, List, [], ◌∷◌, ◌++◌, Result, Ok, Err, length, refl, sym, ap, subst, ◌∙◌, length-append, arith}
+use Rattle.std.specs.List.{before_first, after_first}
 use Rattle.std.specs.Result.{IsErrAnd}
 use Rattle.std.proofs.lemmas.Bool.{eqb-true, true≢false}
 use Rattle.std.proofs.lemmas.List.{length-map}
@@ -13,24 +13,12 @@ use Rattle.rmt_entries.specs.declared.fault.EntryFault.TheVariants.{At, NoMemory
 use Rattle.rmt_entries.specs.declared.gathered.Gathered.{Gathered}
 use Rattle.rmt_entries.specs.Entries.{by_node, entries_of, entry_of, reading}
 use Rattle.rmt_entries.specs.Fault.{Gives}
-use Rattle.rmt_entries.specs.Lines.{is_passed_over, numbered_lines}
+use Rattle.rmt_bits.specs.Lines.{is_passed_over, numbered_lines}
 use Rattle.rmt_entries.specs.Reads.{Reads, node_terms}
 use Rattle.rmt_entries.specs.Standing.{Gathers, IsFault, Took}
 use Rattle.rmt_entries.specs.Tables.{applied_tables}
 use Rattle.rmt_entries.proofs.GatherLaws.{length-by_node}
-use Rattle.rmt_entries.proofs.WordLaws.{first_part}
-
-abbrev is_feed : ℕ → Bool
-is_feed b = b == 10
-
--- the lines of a text: its first line, and then those behind it
-pub lines_cut : (n : ℕ) (text : List ℕ) → numbered_lines n text
-    ≡ cond (not (is_passed_over (before_first is_feed text))) ((n, before_first is_feed text) ∷ numbered_lines (n + 1) (after_first is_feed text)) (numbered_lines (n + 1) (after_first is_feed text))
-lines_cut n text =
-    first_part is_feed (kept n) (kept (n + 1)) (λ line ls. cond (not (is_passed_over line)) ((n, line) ∷ ls) ls) (λ line ls. refl) refl text
-  where
-    kept : ℕ → List (List ℕ) → List (ℕ × List ℕ)
-    kept n ls = filter (λ l. not (is_passed_over l.1)) (enumerate_from n ls)
+use Rattle.rmt_bits.proofs.LineLaws.{is_feed, numbered_lines-first}
 
 -- nothing is read yet
 pub reads_first : (p : Program) (text : List ℕ) (g : Gathered) → Gathers (node_terms p) [] g → Reads p text text 1 g
@@ -39,7 +27,7 @@ reads_first p text g h = record { entries = []; gathered = h; same = refl; few =
 module _ (p : Program) (text rest : List ℕ) (n : ℕ) (g : Gathered) (r : Reads p text rest n g) (line behind : List ℕ) (front : line ≡ before_first is_feed rest) (back : behind ≡ after_first is_feed rest) where
   -- a line is passed over
   skipped : is_passed_over line ≡ true → numbered_lines n rest ≡ numbered_lines (n + 1) behind
-  skipped h = lines_cut n rest ∙ rw (← front, ← back, h) refl
+  skipped h = numbered_lines-first n rest ∙ rw (← front, ← back, h) refl
 
   pub reads_passed : is_passed_over line ≡ true → Reads p text behind (n + 1) g
   reads_passed h = record {
@@ -50,7 +38,7 @@ module _ (p : Program) (text rest : List ℕ) (n : ℕ) (g : Gathered) (r : Read
   }
 
   here : is_passed_over line ≡ false → numbered_lines n rest ≡ (n, line) ∷ numbered_lines (n + 1) behind
-  here h = lines_cut n rest ∙ rw (← front, ← back, h) refl
+  here h = numbered_lines-first n rest ∙ rw (← front, ← back, h) refl
 
   -- a line said its entry
   pub reads_took : (next : Gathered) → is_passed_over line ≡ false → Took (applied_tables p) (node_terms p) r.entries line next → Reads p text behind (n + 1) next

@@ -9,7 +9,8 @@ use Rattle.rmt_ast.specs.declared.program.Kind.TheVariants.{Keyless, Exact, Pref
 use Rattle.rmt_ast.specs.declared.entry.Entry.{Entry}
 use Rattle.rmt_entries.specs.declared.fault.EntryFault.{EntryFault}
 use Rattle.rmt_entries.specs.declared.fault.EntryFault.TheVariants.{At}
-use Rattle.rmt_entries.specs.Lines.{is_printable, numbered_lines, words}
+use Rattle.rmt_bits.specs.Lines.{numbered_lines}
+use Rattle.rmt_entries.specs.Lines.{is_printable, words}
 use Rattle.rmt_entries.specs.Numbers.{number_of_width}
 use Rattle.rmt_entries.specs.declared.keys.Key.{Key}
 use Rattle.rmt_entries.specs.Keys.{key_of, read_each}

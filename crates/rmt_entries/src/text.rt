@@ -1,13 +1,11 @@
 //! Whole entry texts.
 
-ghost use Rattle.std.specs.Prelude.{◌≡◌, ◌==◌, ◌<◌, List, Option, All, Err, length, IfErr, IfOk, OnOk};
-ghost use Rattle.std.specs.List.{list_all};
+ghost use Rattle.std.specs.Prelude.{◌≡◌, ◌<◌, List, Option, All, Err, length, IfErr, IfOk, OnOk};
 ghost use Rattle.rmt_ast.specs.declared.entry.Entry.{Entry};
 ghost use Rattle.rmt_ast.specs.EntryLists.{AreEntries, Terms};
 ghost use Rattle.rmt_ast.specs.WellFormed.{IsProgram};
 ghost use Rattle.rmt_entries.specs.Entries.{entries_of, entry_of};
 ghost use Rattle.rmt_entries.specs.Fault.{Gives};
-ghost use Rattle.rmt_entries.specs.Lines.{is_passed_over};
 ghost use Rattle.rmt_entries.specs.Standing.{Gathers, IsAppliedBy, IsBelow, IsFault, IsReadable, Took};
 
 use crate::cuts::cut;
@@ -18,6 +16,7 @@ use crate::tables::Tables;
 use crate::words::Words;
 use rmt_ast::entry::EntryLists;
 use rmt_ast::program::Program;
+use rmt_bits::lines::is_passed_over;
 use std::alloc::Global;
 
 /// The entries that the lines of a text say, for a well-formed program and a text of at most 4,294,967,294 bytes. It
@@ -52,20 +51,6 @@ pub fn entries(alloc: Global, program: &Program, text: &[u8]) -> Result<EntryLis
         number += 1;
     }
     Ok(EntryLists::from_vec(gathered.lists))
-}
-
-/// Whether a line is passed over.
-fn is_passed_over(line: &[u8]) -> bool
-    ensures { result ≡ is_passed_over line.now }
-{
-    is_blank(line) || line.first() == Some(&b'#')
-}
-
-/// Whether a line has only spaces.
-fn is_blank(line: &[u8]) -> bool
-    ensures { result ≡ list_all (λ b. b == 32) line.now }
-{
-    line.iter().all(|byte| *byte == b' ')
 }
 
 /// Adds the entry that a line says. After a fault nothing is known of the entries.

@@ -1,40 +1,25 @@
 -- The lines of a text that is cut anywhere.
-use Rattle.std.proofs.Common.{◌≡◌, ℕ, suc, zero, ◌+◌, ◌-◌, ◌<◌, ◌≤◌, ◌==◌, ◌⊎◌, Bool, true, false, not, cond, List, [], ◌∷◌, ◌++◌, length, take, drop, get_or, slice_range, refl, sym, ap, ◌∙◌, inl, inr, arith, length-append, append_assoc, append-nil}
-use Rattle.std.specs.List.{enumerate_from, filter, onto_first, position_or_len, suffix_len}
+use Rattle.std.proofs.Common.{◌≡◌, ℕ, ◌+◌, ◌-◌, ◌<◌, ◌≤◌, ◌⊎◌, true, false, not, cond, List, [], ◌∷◌, ◌++◌, length, take, drop, get_or, slice_range, refl, sym, ap, ◌∙◌, inl, inr, arith, length-append, append_assoc, append-nil}
+use Rattle.std.specs.List.{All, enumerate_from, filter, onto_first, position_or_len, suffix_len}
 use Rattle.std.proofs.Math.Seq.{drop-append-add, get_or-append_seam, take-append_seam}
-use Rattle.std.proofs.lemmas.Bool.{cases_Bool, eqb-true}
+use Rattle.std.proofs.lemmas.Bool.{cases_Bool, eqb-true, not-true}
 use Rattle.std.proofs.lemmas.List.{get_or-append_right, get_or-take, length-take}
-use Rattle.std.proofs.lemmas.List.Elements.{filter-append}
-use Rattle.std.proofs.lemmas.List.Splits.{length-slice_split, slice_split-cons_no, slice_split-cons_yes}
+use Rattle.std.proofs.lemmas.List.Elements.{All-append, All-cons, All-head, All-nil, All-tail, filter-append}
+use Rattle.std.proofs.lemmas.List.Splits.{length-slice_split, slice_split-cons_no, slice_split-cons_yes, slice_split_none}
 use Rattle.std.proofs.lemmas.List.Sums.{prefix_len_passes, sum_by-append, suffix_len_is}
-use Rattle.rmt_packets.specs.Lines.{is_passed_over, lines, numbered_lines}
+use Rattle.rmt_bits.specs.Lines.{is_passed_over, lines, numbered_lines}
 use Rattle.rmt_packets.specs.Pieces.{ended_lines, feeds, open_line}
-use Rattle.rmt_packets.proofs.Steps.{turned}
-
-abbrev pub is_feed : ℕ → Bool
-is_feed b = b == 10
+use Rattle.rmt_bits.proofs.LineLaws.{cond-not, is_feed}
 
 -- bytes without a line feed
 abbrev pub NoFeed : List ℕ → Type 0
-NoFeed xs = (k : ℕ) → k < length xs → is_feed (get_or xs k 0) ≡ false
-
-passed : (b : Bool) → not b ≡ true → b ≡ false
-passed true h = sym h
-passed false h = refl
-
-pub NoFeed-cons : (x : ℕ) (xs : List ℕ) → is_feed x ≡ false → NoFeed xs → NoFeed (x ∷ xs)
-NoFeed-cons x xs e n zero lt = e
-NoFeed-cons x xs e n (suc k) lt = n k (omega arith)
-
-pub NoFeed-append : (xs ys : List ℕ) → NoFeed xs → NoFeed ys → NoFeed (xs ++ ys)
-NoFeed-append [] ys n m = m
-NoFeed-append (x ∷ xs) ys n m = NoFeed-cons x (xs ++ ys) (n 0 (omega arith)) (NoFeed-append xs ys (λ k lt. n (suc k) (omega arith)) m)
+NoFeed xs = All (λ b. is_feed b ≡ false) xs
 
 feeds_none : (xs : List ℕ) → NoFeed xs → feeds xs ≡ 0
 feeds_none [] n = refl
 feeds_none (x ∷ xs) n =
-    let e : is_feed x ≡ false = n 0 (omega arith) in
-    let r : feeds xs ≡ 0 = feeds_none xs (λ k lt. n (suc k) (omega arith)) in
+    let e = All-head (λ b. is_feed b ≡ false) x xs n in
+    let r = feeds_none xs (All-tail (λ b. is_feed b ≡ false) x xs n) in
     rw (e, r)
 
 pub feeds_append : (xs ys : List ℕ) → feeds (xs ++ ys) ≡ feeds xs + feeds ys
@@ -48,14 +33,14 @@ record Cut (text : List ℕ) : Type 0 where
   free : NoFeed last
 
 cut_of : (text : List ℕ) → NoFeed text ⊎ Cut text
-cut_of [] = inl (λ k lt. absurd (omega arith))
+cut_of [] = inl (All-nil (λ b. is_feed b ≡ false))
 cut_of (x ∷ xs) =
     elim (cut_of xs) [
       | inr c ↦ inr (record { front = x ∷ c.front; last = c.last; is = ap (λ ys. x ∷ ys) c.is; free = c.free })
       | inl n ↦
           elim (cases_Bool (is_feed x)) [
             | inl e ↦ inr (record { front = []; last = xs; is = ap (λ y. y ∷ xs) (eqb-true x 10 e); free = n })
-            | inr e ↦ inl (NoFeed-cons x xs e n)
+            | inr e ↦ inl (All-cons (λ b. is_feed b ≡ false) x xs e n)
           ]
     ]
 
@@ -66,14 +51,14 @@ suffix_cut a b n =
     λ k ge lt.
     let e : get_or (a ++ 10 ∷ b) k 0 ≡ get_or b (k - (length a + 1)) 0 =
     ap (λ xs. get_or xs k 0) (sym (append_assoc a (10 ∷ []) b)) ∙ get_or-append_right (a ++ 10 ∷ []) b (length a + 1) k 0 (length-append a (10 ∷ [])) ge in
-    ap (λ x. not (is_feed x)) e ∙ ap not (n (k - (length a + 1)) (omega (arith, l))) in
+    ap (λ x. not (is_feed x)) e ∙ ap not (n (k - (length a + 1)) 0 (omega (arith, l))) in
     let seam : length a + 1 - 1 ≡ length a = omega arith in
     let here : not (is_feed (get_or (a ++ 10 ∷ b) (length a + 1 - 1) 0)) ≡ false =
     ap (λ i. not (is_feed (get_or (a ++ 10 ∷ b) i 0))) seam ∙ ap (λ x. not (is_feed x)) (get_or-append_seam a 10 b 0) in
     omega (arith, l, suffix_len_is (λ x. not (is_feed x)) (a ++ 10 ∷ b) (length a + 1) 0 (omega (arith, l)) behind (λ _. here))
 
 suffix_none : (b : List ℕ) → NoFeed b → suffix_len (λ x. not (is_feed x)) b ≡ length b
-suffix_none b n = omega (arith, suffix_len_is (λ x. not (is_feed x)) b 0 0 (omega arith) (λ k ge lt. ap not (n k lt)) (λ lt. absurd (omega arith)))
+suffix_none b n = omega (arith, suffix_len_is (λ x. not (is_feed x)) b 0 0 (omega arith) (λ k ge lt. ap not (n k 0 lt)) (λ lt. absurd (omega arith)))
 
 pub open_cut : (a b : List ℕ) → NoFeed b → open_line (a ++ 10 ∷ b) ≡ b
 open_cut a b n =
@@ -128,14 +113,10 @@ numbered_append n a b =
     ∙ filter-append (λ l. not (is_passed_over l.1)) (enumerate_from n (lines a)) (enumerate_from (n + length (lines a)) (lines b))
     ∙ ap (λ k. numbered_lines n a ++ numbered_lines (n + k) b) (length-slice_split is_feed a)
 
-lines_none : (xs : List ℕ) → NoFeed xs → lines xs ≡ xs ∷ []
-lines_none [] n = refl
-lines_none (x ∷ xs) n = slice_split-cons_no is_feed x xs (n 0 (omega arith)) ∙ ap (onto_first x) (lines_none xs (λ k lt. n (suc k) (omega arith)))
-
 -- a line, numbered, where it is not passed over
 pub numbered_line : (n : ℕ) (xs : List ℕ) → NoFeed xs → numbered_lines n xs ≡ cond (is_passed_over xs) [] ((n, xs) ∷ [])
 numbered_line n xs free =
-    ap (λ ls. filter (λ l. not (is_passed_over l.1)) (enumerate_from n ls)) (lines_none xs free) ∙ turned (is_passed_over xs) ((n, xs) ∷ []) []
+    ap (λ ls. filter (λ l. not (is_passed_over l.1)) (enumerate_from n ls)) (slice_split_none is_feed xs free) ∙ cond-not (is_passed_over xs) ((n, xs) ∷ []) []
 
 -- the line that is not ended has no line feed
 pub open_free : (text : List ℕ) → NoFeed (open_line text)
@@ -169,20 +150,20 @@ lines_go_on text more =
 pub open_grows : (text part : List ℕ) → NoFeed part → open_line (text ++ part) ≡ open_line text ++ part
 open_grows text part free =
     elim (cut_of text) [
-      | inl n ↦ open_none (text ++ part) (NoFeed-append text part n free) ∙ ap (λ l. l ++ part) (sym (open_none text n))
+      | inl n ↦ open_none (text ++ part) (All-append (λ b. is_feed b ≡ false) text part n free) ∙ ap (λ l. l ++ part) (sym (open_none text n))
       | inr c ↦
           ap (λ t. open_line (t ++ part)) c.is ∙ ap open_line (append_assoc c.front (10 ∷ c.last) part)
-          ∙ open_cut c.front (c.last ++ part) (NoFeed-append c.last part c.free free)
+          ∙ open_cut c.front (c.last ++ part) (All-append (λ b. is_feed b ≡ false) c.last part c.free free)
           ∙ ap (λ l. l ++ part) (sym (ap open_line c.is ∙ open_cut c.front c.last c.free))
     ]
 
 pub ended_grows : (text part : List ℕ) → NoFeed part → ended_lines (text ++ part) ≡ ended_lines text
 ended_grows text part free =
     elim (cut_of text) [
-      | inl n ↦ ended_none (text ++ part) (NoFeed-append text part n free) ∙ sym (ended_none text n)
+      | inl n ↦ ended_none (text ++ part) (All-append (λ b. is_feed b ≡ false) text part n free) ∙ sym (ended_none text n)
       | inr c ↦
           ap (λ t. ended_lines (t ++ part)) c.is ∙ ap ended_lines (append_assoc c.front (10 ∷ c.last) part)
-          ∙ ended_cut c.front (c.last ++ part) (NoFeed-append c.last part c.free free)
+          ∙ ended_cut c.front (c.last ++ part) (All-append (λ b. is_feed b ≡ false) c.last part c.free free)
           ∙ sym (ap ended_lines c.is ∙ ended_cut c.front c.last c.free)
     ]
 
@@ -191,7 +172,7 @@ feeds_grow text part free = omega (arith, feeds_append text part, feeds_none par
 
 -- a line feed ends the open line
 pub open_fed : (text : List ℕ) → open_line (text ++ 10 ∷ []) ≡ []
-open_fed text = open_cut text [] (λ k lt. absurd (omega arith))
+open_fed text = open_cut text [] (All-nil (λ b. is_feed b ≡ false))
 
 pub feeds_fed : (text : List ℕ) → feeds (text ++ 10 ∷ []) ≡ feeds text + 1
 feeds_fed text = feeds_append text (10 ∷ [])
@@ -205,13 +186,13 @@ whole_lines text =
 
 -- a line feed makes the open line one of those that are ended
 pub ended_fed : (text : List ℕ) → ended_lines (text ++ 10 ∷ []) ≡ ended_lines text ++ cond (is_passed_over (open_line text)) [] ((feeds text + 1, open_line text) ∷ [])
-ended_fed text = ended_cut text [] (λ k lt. absurd (omega arith)) ∙ whole_lines text
+ended_fed text = ended_cut text [] (All-nil (λ b. is_feed b ≡ false)) ∙ whole_lines text
 
 -- the bytes from a place to the first line feed have none
 pub free_to : (text : List ℕ) (from to : ℕ) → to ≡ from + position_or_len is_feed (drop from text) → NoFeed (slice_range text from to)
-free_to text from to e k lt =
+free_to text from to e k d lt =
     let rest = drop from text in
     let w : to - from ≡ position_or_len is_feed rest = omega arith in
     let below : k < position_or_len is_feed rest = omega (arith, length-take (to - from) rest) in
-    let same : get_or (take (to - from) rest) k 0 ≡ get_or rest k 0 = get_or-take (to - from) rest k 0 (omega arith) in
-    ap is_feed same ∙ passed (is_feed (get_or rest k 0)) (prefix_len_passes (λ b. not (is_feed b)) rest k 0 below)
+    let same : get_or (take (to - from) rest) k d ≡ get_or rest k d = get_or-take (to - from) rest k d (omega arith) in
+    ap is_feed same ∙ not-true (is_feed (get_or rest k d)) (prefix_len_passes (λ b. not (is_feed b)) rest k d below)

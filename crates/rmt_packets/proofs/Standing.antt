@@ -6,11 +6,12 @@ use Rattle.std.proofs.Math.Seq.{take-append-add}
 use Rattle.std.proofs.lemmas.List.{get_or-take, length-take, take-append-drop, take-append-le, take-take, take_all, take_more}
 use Rattle.std.proofs.lemmas.Slice.{between_is}
 use Rattle.std.proofs.lemmas.List.Folds.{list_all-append}
-use Rattle.rmt_packets.specs.Lines.{is_passed_over, numbered_lines}
+use Rattle.rmt_bits.specs.Lines.{is_passed_over, numbered_lines}
+use Rattle.rmt_bits.proofs.LineLaws.{is_feed}
 use Rattle.rmt_packets.specs.LineSteps.{fed, grown, passes_over}
 use Rattle.rmt_packets.specs.Pieces.{EndsLine, IsLast, LineState, Stands, ended_lines, feeds, front_of, front_size, open_line}
 use Rattle.rmt_packets.proofs.Steps.{feed_at}
-use Rattle.rmt_packets.proofs.Cuts.{NoFeed, free_to, is_feed, ended_fed, ended_grows, feeds_fed, feeds_grow, open_fed, open_grows, whole_lines}
+use Rattle.rmt_packets.proofs.Cuts.{NoFeed, free_to, ended_fed, ended_grows, feeds_fed, feeds_grow, open_fed, open_grows, whole_lines}
 
 -- the front of a front that goes on is the front of the whole
 front-front : (n : ℕ) (xs ys : List ℕ) → take n (take n xs ++ ys) ≡ take n (xs ++ ys)

@@ -1,6 +1,5 @@
 pub mod AnswerLine
 pub mod Fault
 pub mod LineSteps
-pub mod Lines
 pub mod PacketText
 pub mod Pieces

@@ -6,7 +6,7 @@ use Rattle.hex.specs.Hex.{decode_of, encode_lower}
 use Rattle.hex.specs.declared.error.FromHexError.{FromHexError}
 use Rattle.rmt_bits.specs.Digits.{is_digit, number_of_digits}
 use Rattle.rmt_bits.specs.Packet.{Packet}
-use Rattle.rmt_packets.specs.Lines.{numbered_lines}
+use Rattle.rmt_bits.specs.Lines.{numbered_lines}
 
 -- the decimal digits that a line begins with
 abbrev pub port_digits : List ℕ → List ℕ

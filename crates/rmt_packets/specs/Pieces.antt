@@ -1,7 +1,7 @@
 -- A packet text that comes in pieces: which of its lines are ended so far, and what a reader of its lines holds.
 use Rattle.std.specs.Prelude.{◌≡◌, ℕ, Bool, false, List, [], ◌∷◌, ◌++◌, ◌+◌, ◌-◌, ◌==◌, if◌then◌else◌, length, take, IsTrue}
 use Rattle.std.specs.List.{after_last, before_last, count_by, list_all}
-use Rattle.rmt_packets.specs.Lines.{numbered_lines}
+use Rattle.rmt_bits.specs.Lines.{numbered_lines}
 
 -- how many lines of a text are ended
 abbrev pub feeds : List ℕ → ℕ

@@ -1,6 +1,8 @@
 ghost use Rattle.std.specs.Prelude.{◌≡◌, ℕ, ◌+◌, ◌-◌, ◌<◌, ◌≤◌, ◌==◌, ◌⊎◌, [], ◌∷◌, length, drop, min, slice_index, slice_range, IfSome, IfNone};
-ghost use Rattle.std.specs.List.{list_all, position, position_or_len};
-ghost use Rattle.rmt_packets.specs.Lines.{is_passed_over, numbered_lines};
+ghost use Rattle.std.specs.List.{position, position_or_len};
+ghost use Rattle.rmt_bits.specs.Lines.{numbered_lines};
+
+use rmt_bits::lines::is_passed_over;
 
 /// A line of a text that is not passed over.
 #[derive(Clone, Copy, Debug, PartialEq, Eq)]
@@ -40,7 +42,7 @@ pub fn next_line(text: &[u8], at: usize, number: u64) -> Option<Line>
     while from < text.len() {
         let to = line_end(text, from);
         let next = behind(text, to);
-        if !is_blank_or_comment(&text[from..to]) {
+        if !is_passed_over(&text[from..to]) {
             return Some(Line {
                 number: line,
                 from,
@@ -82,18 +84,4 @@ fn behind(text: &[u8], to: usize) -> usize
     ensures rest { drop result text.now ≡ drop (to + 1) text.now }
 {
     if to < text.len() { to + 1 } else { to }
-}
-
-/// Whether a line is passed over.
-fn is_blank_or_comment(line: &[u8]) -> bool
-    ensures { result ≡ is_passed_over line.now }
-{
-    is_blank(line) || line.first() == Some(&b'#')
-}
-
-/// Whether a line has only spaces.
-pub(crate) fn is_blank(line: &[u8]) -> bool
-    ensures { result ≡ list_all (λ b. b == 32) line.now }
-{
-    line.iter().all(|b| *b == b' ')
 }

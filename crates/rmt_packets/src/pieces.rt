@@ -1,11 +1,12 @@
 ghost use Rattle.std.specs.Prelude.{◌≡◌, ℕ, true, false, List, [], ◌∷◌, ◌++◌, ◌+◌, ◌^◌, ◌<◌, ◌≤◌, ◌==◌, ◌&&◌, length, take, IsTrue, IfOk, OnErr, IsErrOf};
 ghost use Rattle.std.specs.List.{list_all};
 ghost use Rattle.rmt_packets.specs.LineSteps.{begun, fed, grown, passes_over};
-ghost use Rattle.rmt_packets.specs.Lines.{numbered_lines};
+ghost use Rattle.rmt_bits.specs.Lines.{numbered_lines};
 ghost use Rattle.rmt_packets.specs.Pieces.{EndsLine, IsLast, Stands, ended_lines};
 
-use crate::lines::{is_blank, line_end};
+use crate::lines::line_end;
 use crate::packet_line::PacketFault;
+use rmt_bits::lines::is_blank;
 use std::alloc::Global;
 use std::marker::Model;
 

@@ -1,25 +1,25 @@
 use Rattle.std.proofs.Common.{◌≡◌, ◌-◌, ◌<◌, ◌≤◌, ◌⊎◌, true, false, length, get_or, slice_range, sym, ap, ◌∙◌, inl, inr, arith}
 use Rattle.std.proofs.lemmas.Bool.{cases_lt}
-use Rattle.rmt_packets.specs.Lines.{is_passed_over}
+use Rattle.rmt_bits.specs.Lines.{is_passed_over}
 use Rattle.rmt_packets.proofs.Steps.{feed_at, line_at}
 use Rattle.rmt_packets.proofs.lines.next_line.Goals as goal
 
-pub returns-then-not-is_blank_or_comment-clause-some : goal.returns-then-not-is_blank_or_comment-clause-some
-returns-then-not-is_blank_or_comment-clause-some c =
+pub returns-then-not-is_passed_over-clause-some : goal.returns-then-not-is_passed_over-clause-some
+returns-then-not-is_passed_over-clause-some c =
     let l = c.loop-from in
     let text = c.args.text.now in
-    let p : is_passed_over (slice_range text l.from c.line_end-to.result) ≡ false = sym c.is_blank_or_comment.ensures ∙ c.if-not-is_blank_or_comment.true in
+    let p : is_passed_over (slice_range text l.from c.line_end-to.result) ≡ false = sym c.is_passed_over.ensures ∙ c.if-not-is_passed_over.true in
     l.invariant.same ∙ rw p at (line_at text l.line l.from c.line_end-to.result c.behind-next.result c.line_end-to.ensures.place c.behind-next.ensures.rest)
 
-pub returns-then-not-is_blank_or_comment-clause-starts : goal.returns-then-not-is_blank_or_comment-clause-starts
-returns-then-not-is_blank_or_comment-clause-starts c =
+pub returns-then-not-is_passed_over-clause-starts : goal.returns-then-not-is_passed_over-clause-starts
+returns-then-not-is_passed_over-clause-starts c =
     elim c.loop-from.invariant.starts [
       | inl e ↦ inl e
       | inr r ↦ elim r [ inl e ↦ inr e | inr e ↦ absurd (omega arith) ]
     ]
 
-pub returns-then-not-is_blank_or_comment-clause-ends : goal.returns-then-not-is_blank_or_comment-clause-ends
-returns-then-not-is_blank_or_comment-clause-ends c =
+pub returns-then-not-is_passed_over-clause-ends : goal.returns-then-not-is_passed_over-clause-ends
+returns-then-not-is_passed_over-clause-ends c =
     let l = c.loop-from in
     let text = c.args.text.now in
     let to = c.line_end-to.result in
@@ -29,7 +29,7 @@ pub loop-from-preserved : goal.loop-from-preserved
 loop-from-preserved c =
     let l = c.loop-from in
     let text = c.args.text.now in
-    let p : is_passed_over (slice_range text l.from c.line_end-to.result) ≡ true = sym c.is_blank_or_comment.ensures ∙ c.if-not-is_blank_or_comment.false in
+    let p : is_passed_over (slice_range text l.from c.line_end-to.result) ≡ true = sym c.is_passed_over.ensures ∙ c.if-not-is_passed_over.false in
     let moves : l.from < c.behind-next.result =
     elim (cases_lt c.line_end-to.result (length text)) [ inl lt ↦ omega (arith, c.behind-next.ensures.past lt) | inr ge ↦ omega arith ] in
     let to = c.line_end-to.result in

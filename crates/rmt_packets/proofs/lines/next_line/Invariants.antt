@@ -1,5 +1,5 @@
 use Rattle.std.proofs.Common.{◌≡◌, ◌+◌, ◌-◌, ◌<◌, ◌≤◌, ◌⊎◌, length, drop, get_or}
-use Rattle.rmt_packets.specs.Lines.{numbered_lines}
+use Rattle.rmt_bits.specs.Lines.{numbered_lines}
 use Rattle.rmt_packets.proofs.lines.next_line.Given as goal
 
 -- no line before the one at `from` is a packet line

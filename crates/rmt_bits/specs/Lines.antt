@@ -1,4 +1,4 @@
--- The lines of a packet text.
+-- The lines of a text.
 use Rattle.std.specs.Prelude.{ℕ, Bool, List, ◌==◌, ◌||◌, not, slice_index}
 use Rattle.std.specs.List.{enumerate_from, filter, list_all, slice_split}
 
