@@ -3,9 +3,9 @@
 ghost use Rattle.std.specs.Prelude.{◌≡◌, ◌<◌, ◌++◌, ◌∷◌, [], length, slice_get, OnOk, OnErr, IfOk, option_copied, IsSome};
 
 use rmt_bits::answer::Bytes;
+use rmt_bits::fault::OutOfMemory;
 use std::alloc::{AllocError, Global};
 use std::marker::Model;
-use thiserror::Error;
 
 /// A name or a word of a text, as its bytes.
 #[derive(Drop, Debug)]
@@ -13,13 +13,8 @@ pub struct Name {
     bytes: Bytes,
 }
 
-/// Why a name could not be copied.
-#[derive(Debug, Drop, Error)]
-pub enum NamesFault {
-    /// There is not enough memory.
-    #[error("out of memory")]
-    NoMemory,
-}
+/// Why a name could not be copied: for want of memory alone.
+pub type NamesFault = OutOfMemory;
 
 impl Model for Name {
     ghost use Rattle.std.specs.Prelude.{List, ℕ};
@@ -82,9 +77,7 @@ impl Name {
     pub fn copy(&self, alloc: Global) -> Result<Name, NamesFault>
         ensures { IfOk result (λ name. name ≡ self.now) }
     {
-        match Vec::from_slice(alloc, self.bytes.as_slice()) {
-            Ok(bytes) => Ok(Name::from_vec(bytes)),
-            Err(_) => Err(NamesFault::NoMemory),
-        }
+        let bytes = Vec::from_slice(alloc, self.bytes.as_slice())?;
+        Ok(Name::from_vec(bytes))
     }
 }

@@ -3,15 +3,13 @@
 ghost use Rattle.std.specs.Prelude.{◌≡◌};
 ghost use Rattle.rmt_build.specs.declared.fault.NoFit.TheVariants.{NoMemory};
 
+use rmt_bits::fault::OutOfMemory;
 use rmt_bits::sequence::Sequence;
-use rmt_bounds::fault::BoundFault;
 use rmt_config::limits::LimitHit;
-use rmt_deps::fault::DepsFault;
-use rmt_pack::fault::PackFault;
 use rmt_phv::fault::PhvFull;
-use rmt_place::fault::{PlaceFault, StageFull};
+use rmt_place::fault::StageFull;
 use rmt_ptcam::fault::ParserFault;
-use rmt_vliw::fault::{ActionDeep, VliwFault};
+use rmt_vliw::fault::ActionDeep;
 use std::alloc::{AllocError, AllocFailed};
 use thiserror::Error;
 
@@ -95,42 +93,10 @@ impl<T: Drop> From<AllocFailed<T>> for NoFit {
     }
 }
 
-impl From<DepsFault> for NoFit {
+impl From<OutOfMemory> for NoFit {
     ghost from_gives = { λ _ e. e ≡ NoMemory };
 
-    fn from(_error: DepsFault) -> NoFit {
-        NoFit::NoMemory
-    }
-}
-
-impl From<PackFault> for NoFit {
-    ghost from_gives = { λ _ e. e ≡ NoMemory };
-
-    fn from(_error: PackFault) -> NoFit {
-        NoFit::NoMemory
-    }
-}
-
-impl From<PlaceFault> for NoFit {
-    ghost from_gives = { λ _ e. e ≡ NoMemory };
-
-    fn from(_error: PlaceFault) -> NoFit {
-        NoFit::NoMemory
-    }
-}
-
-impl From<BoundFault> for NoFit {
-    ghost from_gives = { λ _ e. e ≡ NoMemory };
-
-    fn from(_error: BoundFault) -> NoFit {
-        NoFit::NoMemory
-    }
-}
-
-impl From<VliwFault> for NoFit {
-    ghost from_gives = { λ _ e. e ≡ NoMemory };
-
-    fn from(_error: VliwFault) -> NoFit {
+    fn from(_error: OutOfMemory) -> NoFit {
         NoFit::NoMemory
     }
 }

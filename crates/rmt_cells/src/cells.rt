@@ -9,6 +9,7 @@ ghost use Rattle.rmt_cells.specs.Stands.{Held, Stands, cells_held};
 use crate::fault::{CellsFault, Full};
 use crate::links::{after, in_a_row};
 use crate::pieces::{Block, CELL, cell_count, read, write};
+use rmt_bits::fault::OutOfMemory;
 use std::alloc::Global;
 
 /// A chain of cells that holds bytes: what `put` gives, and `give_back` takes.
@@ -44,7 +45,7 @@ impl Cells {
         requires some { 1 ≤ count }
         requires few { count ≤ 65536 }
         ensures free { IfOk result (λ cells. Stands count [] cells) }
-        ensures no_memory { OnErr result (IsErrOf result CellsFault.NoMemory) }
+        ensures no_memory { OnErr result (IsErrOf result OutOfMemory.NoMemory) }
     {
         let links = in_a_row(alloc, count)?;
         let blocks = vec![in alloc; [0; CELL]; count as usize]?;

@@ -5,7 +5,6 @@ ghost use Rattle.std.specs.List.{list_all};
 ghost use Rattle.rmt_config.specs.StageForm.{stage_is_formed, rows_are_formed};
 ghost use Rattle.rmt_config.specs.CellForm.{StageHolds};
 ghost use Rattle.rmt_config.specs.Form.{items_are_formed, WholeIsFormed, Formed};
-ghost use Rattle.rmt_config.specs.declared.form.FormFault.TheVariants.{NoMemory};
 
 mod cells;
 pub mod code;
@@ -33,23 +32,11 @@ use crate::form::memory::stage_holds;
 use crate::form::numbers::numbers_are_distinct;
 use crate::form::rows::rows_fit;
 use crate::form::tables::tables_fit;
+use rmt_bits::fault::OutOfMemory;
 use std::alloc::{AllocError, Global};
-use thiserror::Error;
 
-/// Why it was not found out whether a configuration keeps the rules of form.
-#[derive(Clone, Copy, Debug, Drop, PartialEq, Eq, Error)]
-pub enum FormFault {
-    #[error("out of memory")]
-    NoMemory,
-}
-
-impl From<AllocError> for FormFault {
-    ghost from_gives = { λ _ e. e ≡ NoMemory };
-
-    fn from(_e: AllocError) -> FormFault {
-        FormFault::NoMemory
-    }
-}
+/// Why it was not found out whether a configuration keeps the rules of form: for want of memory alone.
+pub type FormFault = OutOfMemory;
 
 /// Whether the rows of each stage keep the rules of form.
 fn all_rows_fit(stages: &[Stage]) -> bool
@@ -100,7 +87,7 @@ impl Config {
     /// The time is that of the items, but for a factor of their logarithm; memory is taken for the entry numbers alone.
     pub fn formed(&self, alloc: Global) -> Result<bool, FormFault>
         ensures exact { IfOk result (λ formed. IsTrue formed ↔ Formed self.now) }
-        ensures only_memory { IsOkUnless result FormFault.NoMemory }
+        ensures only_memory { IsOkUnless result OutOfMemory.NoMemory }
     {
         Ok(is_in_form(alloc, self)?)
     }

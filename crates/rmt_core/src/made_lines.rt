@@ -9,6 +9,7 @@ ghost use Rattle.rmt_core.specs.NoFitText.{AreNodesOf};
 use crate::names::{add_node_name, add_number};
 use rmt_ast::program::Program;
 use rmt_bits::answer::Bytes;
+use rmt_bits::fault::OutOfMemory;
 use rmt_bounds::bound::{Bound, Proof};
 use rmt_build::built::Built;
 use rmt_config::config::{Config, Stage};
@@ -20,12 +21,10 @@ use std::alloc::{AllocError, Global};
 pub fn compile_lines(alloc: Global, program: &Program, built: &Built) -> Result<Bytes, ReportFault>
     requires { AreNodesOf program.now built.now.bound.proof }
     ensures lines { IfOk result (λ text. text ≡ compile_text program.now built.now.config built.now.bound) }
-    ensures only_memory { IsOkUnless result ReportFault.NoMemory }
+    ensures only_memory { IsOkUnless result OutOfMemory.NoMemory }
 {
-    match lines_of(alloc, program, &built.config, &built.bound) {
-        Ok(text) => Ok(Bytes::from_vec(text)),
-        Err(_) => Err(ReportFault::NoMemory),
-    }
+    let text = lines_of(alloc, program, &built.config, &built.bound)?;
+    Ok(Bytes::from_vec(text))
 }
 
 /// The three lines of a configuration and a bound.

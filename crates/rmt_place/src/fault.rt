@@ -1,39 +1,17 @@
 //! Why nodes are not placed, or stages not started.
 
 ghost use Rattle.std.specs.Prelude.{◌≡◌};
-ghost use Rattle.rmt_place.specs.declared.fault.PlaceFault.TheVariants as place_fault;
-ghost use Rattle.rmt_place.specs.declared.fault.StageFull.TheVariants as stage_full;
+ghost use Rattle.rmt_place.specs.declared.fault.StageFull.TheVariants.{NoMemory};
 
+use rmt_bits::fault::OutOfMemory;
 use rmt_bits::sequence::Sequence;
 use rmt_config::limits::LimitHit;
-use rmt_deps::fault::DepsFault;
 use rmt_pack::placement::Placement;
 use std::alloc::{AllocError, AllocFailed};
 use thiserror::Error;
 
-/// Why stages are not started.
-#[derive(Debug, Drop, Error)]
-pub enum PlaceFault {
-    /// There is not enough memory.
-    #[error("out of memory")]
-    NoMemory,
-}
-
-impl From<AllocError> for PlaceFault {
-    ghost from_gives = { λ _ e. e ≡ place_fault.NoMemory };
-
-    fn from(_error: AllocError) -> PlaceFault {
-        PlaceFault::NoMemory
-    }
-}
-
-impl<T: Drop> From<AllocFailed<T>> for PlaceFault {
-    ghost from_gives = { λ _ e. e ≡ place_fault.NoMemory };
-
-    fn from(_error: AllocFailed<T>) -> PlaceFault {
-        PlaceFault::NoMemory
-    }
-}
+/// Why stages are not started: for want of memory alone.
+pub type PlaceFault = OutOfMemory;
 
 /// Why nodes are not placed.
 #[derive(Debug, Drop, Error)]
@@ -54,7 +32,7 @@ pub enum StageFull {
 }
 
 impl From<AllocError> for StageFull {
-    ghost from_gives = { λ _ e. e ≡ stage_full.NoMemory };
+    ghost from_gives = { λ _ e. e ≡ NoMemory };
 
     fn from(_error: AllocError) -> StageFull {
         StageFull::NoMemory
@@ -62,17 +40,17 @@ impl From<AllocError> for StageFull {
 }
 
 impl<T: Drop> From<AllocFailed<T>> for StageFull {
-    ghost from_gives = { λ _ e. e ≡ stage_full.NoMemory };
+    ghost from_gives = { λ _ e. e ≡ NoMemory };
 
     fn from(_error: AllocFailed<T>) -> StageFull {
         StageFull::NoMemory
     }
 }
 
-impl From<DepsFault> for StageFull {
-    ghost from_gives = { λ _ e. e ≡ stage_full.NoMemory };
+impl From<OutOfMemory> for StageFull {
+    ghost from_gives = { λ _ e. e ≡ NoMemory };
 
-    fn from(_error: DepsFault) -> StageFull {
+    fn from(_error: OutOfMemory) -> StageFull {
         StageFull::NoMemory
     }
 }

@@ -1,18 +1,6 @@
 //! Why a call was refused.
 
-use std::alloc::AllocError;
-use thiserror::Error;
+use rmt_bits::fault::OutOfMemory;
 
-/// The only refusal.
-#[derive(Debug, Drop, Error)]
-pub enum PlainFault {
-    /// There is not enough memory.
-    #[error("out of memory for the plain run")]
-    NoMemory,
-}
-
-impl From<AllocError> for PlainFault {
-    fn from(_: AllocError) -> PlainFault {
-        PlainFault::NoMemory
-    }
-}
+/// Why a call was refused: for want of memory alone.
+pub type PlainFault = OutOfMemory;

@@ -2,8 +2,8 @@
 
 ghost use Rattle.std.specs.Prelude.{◌≡◌};
 ghost use Rattle.rmt_ptcam.specs.declared.fault.ParserFault.TheVariants.{NoMemory};
-ghost use Rattle.rmt_ptcam.specs.declared.fault.JoinFault.TheVariants.{NoMemory as NoRoom};
 
+use rmt_bits::fault::OutOfMemory;
 use std::alloc::{AllocError, AllocFailed};
 use thiserror::Error;
 
@@ -53,18 +53,5 @@ impl<T: Drop> From<AllocFailed<T>> for ParserFault {
     }
 }
 
-/// Why an entry isn't joined.
-#[derive(Debug, Drop, Error)]
-pub enum JoinFault {
-    /// There is not enough memory.
-    #[error("out of memory")]
-    NoMemory,
-}
-
-impl From<AllocError> for JoinFault {
-    ghost from_gives = { λ _ e. e ≡ NoRoom };
-
-    fn from(_error: AllocError) -> JoinFault {
-        JoinFault::NoMemory
-    }
-}
+/// Why an entry isn't joined: for want of memory alone.
+pub type JoinFault = OutOfMemory;

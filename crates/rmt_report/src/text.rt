@@ -12,6 +12,7 @@ use crate::fault::ReportFault;
 use crate::named::{WordCounts, word_counts};
 use crate::stages::stage_objects;
 use rmt_bits::answer::Bytes;
+use rmt_bits::fault::OutOfMemory;
 use rmt_bits::sequence::Sequence;
 use rmt_config::config::{Config, ParserConfig, Stage};
 use serde_json::{Value, json};
@@ -78,7 +79,7 @@ pub fn report(alloc: Global, config: &Config) -> Result<Bytes, ReportFault>
     requires { IsWithinLimits config.now }
     ensures bytes { IfOk result (λ text. text ≡ compact_text (report_of config.now)) }
     ensures reads_back { IfOk result (λ text. read text ≡ Some (report_of config.now)) }
-    ensures only_memory { IsOkUnless result ReportFault.NoMemory }
+    ensures only_memory { IsOkUnless result OutOfMemory.NoMemory }
 {
     Ok(report_text(alloc, config)?)
 }

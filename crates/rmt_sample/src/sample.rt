@@ -1,8 +1,7 @@
 //! What is made from a number.
 
 use rmt_bits::answer::Bytes;
-use std::alloc::{AllocError, AllocFailed};
-use thiserror::Error;
+use rmt_bits::fault::OutOfMemory;
 
 /// A program, its entries, and packets for them.
 #[derive(Drop, Debug)]
@@ -15,22 +14,5 @@ pub struct Sample {
     pub packets: Bytes,
 }
 
-/// Why the texts were not made.
-#[derive(Debug, Drop, Error)]
-pub enum SampleFault {
-    /// There is not enough memory.
-    #[error("out of memory")]
-    NoMemory,
-}
-
-impl From<AllocError> for SampleFault {
-    fn from(_error: AllocError) -> SampleFault {
-        SampleFault::NoMemory
-    }
-}
-
-impl<T: Drop> From<AllocFailed<T>> for SampleFault {
-    fn from(_error: AllocFailed<T>) -> SampleFault {
-        SampleFault::NoMemory
-    }
-}
+/// Why the texts were not made: for want of memory alone.
+pub type SampleFault = OutOfMemory;

@@ -2,6 +2,7 @@
 
 ghost use Rattle.std.specs.Prelude.{◌≡◌};
 
+use rmt_bits::fault::OutOfMemory;
 use std::alloc::{AllocError, AllocFailed};
 use thiserror::Error;
 
@@ -41,20 +42,5 @@ impl<T: Drop> From<AllocFailed<T>> for ActionDeep {
     }
 }
 
-/// Why an instruction is not made.
-#[derive(Debug, Drop, Error)]
-pub enum VliwFault {
-    /// There is not enough memory.
-    #[error("out of memory")]
-    NoMemory,
-}
-
-impl From<AllocError> for VliwFault {
-    ghost use Rattle.rmt_vliw.specs.declared.fault.VliwFault.TheVariants as fault;
-
-    ghost from_gives = { λ _ e. e ≡ fault.NoMemory };
-
-    fn from(_error: AllocError) -> VliwFault {
-        VliwFault::NoMemory
-    }
-}
+/// Why an instruction is not made: for want of memory alone.
+pub type VliwFault = OutOfMemory;
