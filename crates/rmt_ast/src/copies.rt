@@ -6,6 +6,7 @@ use crate::entry::{Entry, EntryLists};
 use crate::name::{Name, NamesFault};
 use crate::names::{ActionName, Names, RankOf, TableName};
 use crate::program::Test;
+use rmt_bits::fault::OutOfMemory;
 use rmt_bits::sequence::Sequence;
 use std::alloc::{AllocError, Global};
 
@@ -109,7 +110,7 @@ impl EntryLists {
     {
         match copied_each(alloc, self.as_slice()) {
             Ok(lists) => Ok(EntryLists::from_vec(lists.into_vec())),
-            Err(_) => Err(NamesFault::NoMemory),
+            Err(_) => Err(OutOfMemory::NoMemory),
         }
     }
 }
@@ -121,7 +122,7 @@ impl Names {
     {
         match self.tables.copied(alloc) {
             Ok(tables) => Ok(Names { tables }),
-            Err(_) => Err(NamesFault::NoMemory),
+            Err(_) => Err(OutOfMemory::NoMemory),
         }
     }
 }

@@ -11,6 +11,7 @@ use crate::name::{Name, NamesFault};
 use crate::names::{ActionName, ActionNames, Names, RankOf, Ranks, TableName};
 use crate::program::{Kind, Program, Table, What};
 use rmt_bits::answer::Bytes;
+use rmt_bits::fault::OutOfMemory;
 use rmt_bits::sequence::Sequence;
 use std::alloc::{AllocError, Global};
 use std::collections::BTreeSet;
@@ -238,6 +239,6 @@ pub fn names_of(alloc: Global, program: &Program, entries: &EntryLists) -> Resul
 {
     match all_named(alloc, program, entries) {
         Ok(tables) => Ok(Names { tables }),
-        Err(_) => Err(NamesFault::NoMemory),
+        Err(_) => Err(OutOfMemory::NoMemory),
     }
 }

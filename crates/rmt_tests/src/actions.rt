@@ -43,10 +43,10 @@ fn instruction_in(alloc: Global, program: &Program, action: u32) -> Result<Vliw,
     requires action { action < length program.now.actions }
 {
     let Ok(folded) = fold_action(alloc, program, action) else {
-        return Err(VliwFault::NoMemory);
+        return Err(OutOfMemory::NoMemory);
     };
     let Ok(places) = pack_fields(alloc, program) else {
-        return Err(VliwFault::NoMemory);
+        return Err(OutOfMemory::NoMemory);
     };
     instruction(alloc, program, &folded, &places)
 }
@@ -58,10 +58,10 @@ fn default_in(alloc: Global, program: &Program, table: usize) -> Result<Vliw, Vl
 {
     let table = &program.tables.as_slice()[table];
     let Ok(folded) = fold_action(alloc, program, table.default) else {
-        return Err(VliwFault::NoMemory);
+        return Err(OutOfMemory::NoMemory);
     };
     let Ok(places) = pack_fields(alloc, program) else {
-        return Err(VliwFault::NoMemory);
+        return Err(OutOfMemory::NoMemory);
     };
     default_instruction(alloc, program, &folded, &table.args, &places)
 }
@@ -71,10 +71,10 @@ fn first_instruction(alloc: Global, text: &[u8]) -> Result<Vliw, VliwFault>
     requires { length text.now < 4294967295 }
 {
     let Ok(program) = program_of(alloc, text) else {
-        return Err(VliwFault::NoMemory);
+        return Err(OutOfMemory::NoMemory);
     };
     if program.actions.is_empty() {
-        return Err(VliwFault::NoMemory);
+        return Err(OutOfMemory::NoMemory);
     }
     instruction_in(alloc, &program, 0)
 }
@@ -84,10 +84,10 @@ fn first_default(alloc: Global, text: &[u8]) -> Result<Vliw, VliwFault>
     requires { length text.now < 4294967295 }
 {
     let Ok(program) = program_of(alloc, text) else {
-        return Err(VliwFault::NoMemory);
+        return Err(OutOfMemory::NoMemory);
     };
     if program.tables.is_empty() {
-        return Err(VliwFault::NoMemory);
+        return Err(OutOfMemory::NoMemory);
     }
     default_in(alloc, &program, 0)
 }
