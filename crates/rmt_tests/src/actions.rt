@@ -7,6 +7,7 @@ use crate::check::program_of;
 use crate::check::shown::push_assigns;
 use rmt_ast::program::Program;
 use rmt_config::config::{OpKind, Operation, Source, Vliw};
+use rmt_bits::fault::OutOfMemory;
 use rmt_phv::pack_fields;
 use rmt_vliw::fault::{ActionDeep, VliwFault};
 use rmt_vliw::{default_instruction, fold_action, instruction};
