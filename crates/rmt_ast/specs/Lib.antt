@@ -15,3 +15,4 @@ pub mod Changes
 pub mod Events
 pub mod RankPairs
 pub mod NameRules
+pub mod RowOrder

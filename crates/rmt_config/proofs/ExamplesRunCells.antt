@@ -6,7 +6,7 @@ use Rattle.rmt_config.specs.declared.config.Memory.TheVariants.{Exact, Ternary}
 use Rattle.rmt_config.specs.declared.config.Source.TheVariants.{Word, Held, Constant}
 use Rattle.rmt_config.specs.Cells.{Content}
 use Rattle.rmt_config.specs.RunCells.{CellWrite, RunCells, look_in, own_cells, sees, with_version, with_write}
-use Rattle.rmt_config.specs.RunInputs.{Enters, Idle, Input, Turns, Writes, answer_in, cells_at, counts_in}
+use Rattle.rmt_config.specs.RunInputs.{Enters, Idle, Input, Turns, Writes, answer_in, cells_at, counts_in, flight_in, in_flight}
 use Rattle.rmt_config.proofs.ExamplesParts.{packet, lane, sent, copy, instruction, plain_slot, plain_stage, one_byte}
 
 -- ---- which cells are seen
@@ -24,7 +24,7 @@ seen_where_occupied = (refl, refl, refl, refl, refl)
 
 -- table a does meta.x = h.f in the first stage; in the second one b is exact on meta.x, is counted where that is said, and has the entry `7 go 5` in cell 2376
 -- with both visible bits; c does meta.x = 0
-abbrev strict_and_weak : Bool → Config
+abbrev pub strict_and_weak : Bool → Config
 strict_and_weak counted =
     one_byte
     (plain_stage 0 (plain_slot 0 None ∷ []) (instruction (copy 2 0 8 (Word 1 0) ∷ []) ∷ [])
@@ -49,20 +49,20 @@ strict_and_weak counted =
     } ∷ [])
 
 -- cell n of b with the entry `7 go PORT` of a number
-abbrev seven : ℕ → ℕ → ℕ → ℕ → CellWrite
+abbrev pub seven : ℕ → ℕ → ℕ → ℕ → CellWrite
 seven n visible port number = record { stage = 1; unit = 0; cell = n; visible = visible; code = 0; key = 7 ∷ []; mask = []; held = 0 ∷ port ∷ []; number = number }
 
-abbrev at_first : RunCells
+abbrev pub at_first : RunCells
 at_first = own_cells (strict_and_weak false)
 
-abbrev seven_holds : ℕ → ℕ → Content
+abbrev pub seven_holds : ℕ → ℕ → Content
 seven_holds head port = record { head = head; key = 7; mask = 255; held = port }
 
 pub own_cell : (at_first.content 1 0 2376 ≡ seven_holds 7 5) × (at_first.number 1 0 2376 ≡ 0) × (at_first.version ≡ 0)
 own_cell = (refl, refl, refl)
 
 -- a changed cell holds what is written, and the others stay
-abbrev changed : RunCells
+abbrev pub changed : RunCells
 changed = with_write (strict_and_weak false) (with_write (strict_and_weak false) at_first (seven 2376 1 5 0)) (seven 2377 2 6 1)
 
 pub changed_cells : (changed.content 1 0 2376 ≡ seven_holds 3 5) × (changed.content 1 0 2377 ≡ seven_holds 5 6) × (changed.number 1 0 2377 ≡ 1)
@@ -84,11 +84,11 @@ pub looked_up : (look_in (strict_and_weak false) true 0 changed 1 0 7 ≡ Some (
 looked_up = (refl, refl, refl, refl)
 
 -- a packet of 7, two changed cells, a new version, and a packet of 7, which has the first one before it in the stages
-abbrev replaced : List Input
+abbrev pub replaced : List Input
 replaced = Enters (packet 0 (7 ∷ [])) ∷ Writes (seven 2376 1 5 0) ∷ Writes (seven 2377 2 6 1) ∷ Turns 0 ∷ Enters (packet 0 (7 ∷ [])) ∷ []
 
 -- `0 07;- b 7;+ b 7 go 6;commit;0 07`: the packet behind the commit enters in cycle 4, and 29 cycles are made
-abbrev replaced_in_flight : List Input
+abbrev pub replaced_in_flight : List Input
 replaced_in_flight = replaced ++ replicate 24 Idle
 
 pub replaced_in_flight_answers : (answer_in (strict_and_weak false) true replaced_in_flight 24 ≡ Some (sent 5 (7 ∷ []) []))
@@ -98,13 +98,16 @@ replaced_in_flight_answers = (refl, refl, refl)
 pub replaced_in_flight_counts : counts_in (strict_and_weak true) true replaced_in_flight ≡ record { entry = 0; packets = 1; bytes = 1 } ∷ record { entry = 1; packets = 1; bytes = 1 } ∷ []
 replaced_in_flight_counts = refl
 
+pub replaced_in_flight_flight : (flight_in (strict_and_weak false) replaced_in_flight ≡ 2) × (in_flight (strict_and_weak false) replaced_in_flight 3 ≡ 1) × (in_flight (strict_and_weak false) replaced_in_flight 25 ≡ 1)
+replaced_in_flight_flight = (refl, refl, refl)
+
 -- without the two cycles in which cells change, the second packet finds nothing
 pub not_replaced : answer_in (strict_and_weak false) true (Enters (packet 0 (7 ∷ [])) ∷ Writes (seven 2376 1 5 0) ∷ Turns 0 ∷ Enters (packet 0 (7 ∷ [])) ∷ replicate 24 Idle) 27 ≡ Some (sent 0 (7 ∷ []) [])
 not_replaced = refl
 
 -- `- b 7;commit;0 07` behind it: the commit waits until the first packet has left in cycle 24, and empties the cell that the commit before gave up;
 -- the third packet enters in cycle 27, and 52 cycles are made
-abbrev then_removed : List Input
+abbrev pub then_removed : List Input
 then_removed = replaced ++ replicate 20 Idle ++ (Writes (seven 2376 0 5 0) ∷ Turns 0 ∷ Enters (packet 0 (7 ∷ [])) ∷ replicate 24 Idle)
 
 pub then_removed_answers : (answer_in (strict_and_weak false) true then_removed 24 ≡ Some (sent 5 (7 ∷ []) [])) × (answer_in (strict_and_weak false) true then_removed 28 ≡ Some (sent 6 (7 ∷ []) []))
@@ -132,7 +135,7 @@ read_after_written = refl
 -- ---- a ternary table
 
 -- one table on f, with rows of both visible bits: row 1 is 0x1_ and gives the port 1, row 2 is anything and gives 2; each record is a head of 8 bits and 9 of data
-abbrev ternary : Config
+abbrev pub ternary : Config
 ternary =
     one_byte
     (record {

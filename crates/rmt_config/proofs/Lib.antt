@@ -34,3 +34,5 @@ pub mod ToldTests
 pub mod ExamplesCells
 pub mod RunCellLaws
 pub mod ExamplesRunCells
+pub mod RunInputLaws
+pub mod ExamplesCommits

@@ -28,3 +28,5 @@ pub mod MemoryRules
 pub mod Agreement
 pub mod RunCells
 pub mod RunInputs
+pub mod Rooms
+pub mod Commits

@@ -46,10 +46,14 @@ own_cells c = record {
 
 -- ---- what a packet sees
 
+-- the visible bit of a version's parity is set in a head
+abbrev pub has_bit : ℕ → ℕ → Bool
+has_bit version head = head / 2 ^ (1 + version % 2) % 2 == 1
+
 -- A packet of a version sees a cell that is occupied and has the visible bit of the version's parity, bit 1 of the head for an even
 -- version and bit 2 for an odd one; of a configuration without names it sees each occupied cell.
 abbrev pub sees : Bool → ℕ → ℕ → Bool
-sees named version head = is_occupied head && (not named || (head / 2 ^ (1 + version % 2) % 2 == 1))
+sees named version head = is_occupied head && (not named || has_bit version head)
 
 -- a cell that is seen and agrees with a key on its mask
 abbrev pub is_hit : Bool → ℕ → ℕ → Content → Bool
@@ -91,11 +95,15 @@ written_mask bits Without mask = 0
 written_mask bits (Exact k per quanta first_way keys records counters) mask = 2 ^ bits - 1
 written_mask bits (Ternary quanta keys records counters) mask = number_of mask
 
+-- a cell of a slot without an entry
+abbrev pub emptied : SlotUnit → Content
+emptied slot = record { head = 0; key = 0; mask = written_mask (bits_of_lanes slot.keys) slot.memory []; held = 0 }
+
 -- what a changed cell of a slot holds
 abbrev pub written_content : CellWrite → SlotUnit → Content
 written_content w slot =
     if w.visible == 0
-    then record { head = 0; key = 0; mask = written_mask (bits_of_lanes slot.keys) slot.memory []; held = 0 }
+    then emptied slot
     else record {
       head = 1 + 2 * w.visible + 8 * w.code;
       key = number_of w.key;

@@ -1,12 +1,13 @@
 -- What the clocked chip answers where cells change in flight: each packet looks up in the cells as they stand in the cycle of the look-up.
-use Rattle.std.specs.Prelude.{ℕ, ◌+◌, ◌-◌, List, [], ◌∷◌, ◌++◌, Bool, false, ◌&&◌, ◌==◌, not, nat_lt, length, if◌then◌else◌, Option, Some, None, fold, slice_get, option_map, option_and_then, unwrap_or, take}
-use Rattle.std.specs.List.{flat_map}
+use Rattle.std.specs.Prelude.{ℕ, ◌+◌, ◌-◌, List, [], ◌∷◌, ◌++◌, Bool, false, ◌&&◌, ◌==◌, not, nat_le, nat_lt, length, if◌then◌else◌, Option, Some, None, fold, slice_get, option_map, option_and_then, unwrap_or, take, count_by, is_some}
+use Rattle.std.specs.List.{flat_map, range_with_len}
 use Rattle.rmt_bits.specs.Packet.{Packet}
 use Rattle.rmt_bits.specs.Counts.{Hit, counts}
 use Rattle.rmt_bits.specs.declared.answer.Count.{Count}
 use Rattle.rmt_config.specs.Types.{Config, Stage, SlotUnit}
 use Rattle.rmt_config.specs.Life.{Look}
 use Rattle.rmt_config.specs.ChipRun.{Outcome, counted_numbers, hits_before, latency_of, outcome_of}
+use Rattle.rmt_config.specs.Resources.{greatest_by}
 use Rattle.rmt_config.specs.RunCells.{CellWrite, RunCells, look_in, own_cells, slot_at, with_version, with_write}
 
 -- the input of a cycle: nothing, a packet, a changed cell, or a new version with a seed
@@ -15,6 +16,11 @@ pub data Input : Type 0 where
   Enters : (packet : Packet) → Input
   Writes : (write : CellWrite) → Input
   Turns : (seed : ℕ) → Input
+
+-- the input of a cycle in which a packet enters or nothing does
+abbrev pub input_of : Option Packet → Input
+input_of None = Idle
+input_of (Some packet) = Enters packet
 
 -- the cells after a cycle
 abbrev pub after_input : Config → RunCells → Input → RunCells
@@ -70,3 +76,11 @@ hits_from c named inputs cycle (input ∷ rest) =
 -- the counters after a run of inputs: one for each number that an occupied cell of a counted slot of the configuration has, or that a changed cell brought
 abbrev pub counts_in : Config → Bool → List Input → List Count
 counts_in c named inputs = counts (counted_numbers c ++ flat_map (numbers_brought c) inputs) (hits_from c named inputs 0 inputs)
+
+-- how many packets are in flight in a cycle, each from age 0 to the age at which it leaves
+abbrev pub in_flight : Config → List Input → ℕ → ℕ
+in_flight c inputs cycle = count_by (λ age. nat_le age cycle && is_some (option_and_then packet_of (slice_get inputs (cycle - age)))) (range_with_len 0 (latency_of c.stages + 1))
+
+-- the greatest number of packets that are in flight in one cycle of a run
+abbrev pub flight_in : Config → List Input → ℕ
+flight_in c inputs = greatest_by (in_flight c inputs) (range_with_len 0 (length inputs))
