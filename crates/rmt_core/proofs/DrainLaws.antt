@@ -3,6 +3,7 @@ use Rattle.std.proofs.Common.{◌≡◌, ◌⊎◌, inl, inr, ℕ, zero, suc, �
 use Rattle.std.specs.Prelude.{map, replicate}
 use Rattle.std.specs.Fmt.{decimal}
 use Rattle.rmt_bits.specs.Packet.{Packet}
+use Rattle.rmt_io.specs.Outside.{SinkState}
 use Rattle.rmt_core.specs.Types.{Config}
 use Rattle.rmt_config.specs.ChipRun.{inputs_of}
 use Rattle.rmt_chip.specs.declared.chip.Chip.{Chip}
@@ -15,7 +16,7 @@ use Rattle.rmt_core.specs.declared.status.Status.TheVariants as status
 use Rattle.rmt_core.specs.declared.running.state.Run.{Run}
 use Rattle.rmt_core.specs.declared.watch.Watch.{Watch}
 use Rattle.rmt_core.specs.declared.watch.Watch.TheVariants as watch
-use Rattle.rmt_core.specs.RunEnd.{Cut, bad_line, status_of_end, status_of_fault}
+use Rattle.rmt_core.specs.RunEnd.{bad_line, status_of_end, status_of_fault}
 use Rattle.rmt_core.specs.Running.{Goes}
 use Rattle.rmt_core.specs.SimText.{cycles_line, flight_line}
 use Rattle.rmt_core.specs.Waiting.{Written}
@@ -53,33 +54,26 @@ pad_length (suc a) = ap (λ n. suc n) (pad_length a)
 pub padded_length : (inputs : List (Option Packet)) (a : ℕ) → length (inputs ++ replicate a None) ≡ length inputs + a
 padded_length inputs a = length-append inputs (pad a) ∙ ap (λ n. length inputs + n) (pad_length a)
 
--- a sink that tells as much as before
-pub goes_told : {w : Watch} {c : Config} {inputs : List (Option Packet)} {run : Run} {chip : Chip} {told still : Bool} {before now : List ℕ} → still ≡ told → Goes w c inputs run chip told before now → Goes w c inputs run chip still before now
-goes_told {w} {c} {inputs} {run} {chip} {told} {still} {before} {now} e g = subst (λ t. Goes w c inputs run chip t before now) (sym e) g
-
-pub cut_told : {lines : List ℕ} {told still : Bool} {before now : List ℕ} {fault : RunFault} → still ≡ told → Cut lines still before now fault → Cut lines told before now fault
-cut_told {lines} {told} {still} {before} {now} {fault} e cut = subst (λ t. Cut lines t before now fault) e cut
-
 -- two lines in one text
 pub cycle_text : (n f : ℕ) → codes "cycles " ++ (decimal n ++ (codes "\nflight " ++ (decimal f ++ codes "\n"))) ≡ cycles_line n ++ flight_line f
 cycle_text n f = ap (λ l. codes "cycles " ++ l) (sym (append_assoc (decimal n) (codes "\n") (flight_line f)))
 
 -- the cycles of a run, where those of the watch that it has are known
-pub ran_as : (w : Watch) (c : Config) (done : List Packet) (bad : Option BadLine) (run : Run) (chip : Chip) (told : Bool) (before now : List ℕ) (b : Bool) (more : List (Option Packet))
-    → (run.cycles ≡ length done → ran run.watch c done bad ≡ cond b more (map Some done)) → Goes w c (map Some done) run chip told before now → ran w c done bad ≡ cond b more (map Some done)
-ran_as w c done bad run chip told before now b more f g = subst (λ v. ran v c done bad ≡ cond b more (map Some done)) g.watches (f (g.clocked ∙ length_somes done))
+pub ran_as : (w : Watch) (c : Config) (done : List Packet) (bad : Option BadLine) (run : Run) (chip : Chip) (before now : SinkState) (b : Bool) (more : List (Option Packet))
+    → (run.cycles ≡ length done → ran run.watch c done bad ≡ cond b more (map Some done)) → Goes w c (map Some done) run chip before now → ran w c done bad ≡ cond b more (map Some done)
+ran_as w c done bad run chip before now b more f g = subst (λ v. ran v c done bad ≡ cond b more (map Some done)) g.watches (f (g.clocked ∙ length_somes done))
 
 -- of all that a run prints what waits and the last lines are left
-pub all_written : (w : Watch) (c : Config) (done : List Packet) (first run : Run) (opened chip : Chip) (told : Bool) (before mid start last : List ℕ) (bad : Option BadLine)
-    → Goes w c (map Some done) first opened told before start → Goes w c (ran w c done bad) run chip told before mid
+pub all_written : (w : Watch) (c : Config) (done : List Packet) (first run : Run) (opened chip : Chip) (before mid start : SinkState) (last : List ℕ) (bad : Option BadLine)
+    → Goes w c (map Some done) first opened before start → Goes w c (ran w c done bad) run chip before mid
     → last ≡ last_of run.watch c (ran w c done bad) run.cycles first.cycles bad
-    → Written (text_of w c (record { packets = done; bad = bad })) (run.waiting.lines.items ++ last) told before mid
-all_written w c done first run opened chip told before mid start last bad g h l =
+    → Written (text_of w c (record { packets = done; bad = bad })) (run.waiting.lines.items ++ last) before mid
+all_written w c done first run opened chip before mid start last bad g h l =
     let ends : last ≡ last_of w c (ran w c done bad) (length (ran w c done bad)) (length done) bad =
     l ∙ ap (λ v. last_of v c (ran w c done bad) run.cycles first.cycles bad) h.watches
     ∙ ap (λ n. last_of w c (ran w c done bad) n first.cycles bad) h.clocked
     ∙ ap (λ n. last_of w c (ran w c done bad) (length (ran w c done bad)) n bad) (g.clocked ∙ length_somes done) in
-    subst (λ (x : List ℕ). Written x (run.waiting.lines.items ++ last) told before mid) (sym (whole_text w c done bad ∙ ap (λ x. shown w c (ran w c done bad) ++ x) (sym ends)))
+    subst (λ (x : List ℕ). Written x (run.waiting.lines.items ++ last) before mid) (sym (whole_text w c done bad ∙ ap (λ x. shown w c (ran w c done bad) ++ x) (sym ends)))
     (written_more h.written last)
 
 -- the lines of a run stand at the front of its text

@@ -1,21 +1,22 @@
 -- How calls of commands end.
-use Rattle.std.proofs.Common.{◌≡◌, ◌≢◌, ◌⊎◌, inl, inr, ⊎_elim, ℕ, ◌≤◌, Bool, List, [], ◌++◌, Some, sym, refl, ap, ◌∙◌, subst, append_assoc, append-nil, arith}
+use Rattle.std.proofs.Common.{◌≡◌, ◌≢◌, ◌⊎◌, inl, inr, ⊎_elim, ℕ, List, [], ◌++◌, Some, sym, refl, ap, ◌∙◌, subst, append_assoc, append-nil, arith}
 use Rattle.std.specs.Prelude.{IsTrue}
 use Rattle.rmt_bits.proofs.FunctionLaws.{funext}
-use Rattle.rmt_io.specs.Faults.{Rose}
+use Rattle.rmt_io.specs.Outside.{ShelfState, SinkState, HasFile, Gained, GainedNone, OnlyRead, PrintingFailed, WritingFailed}
+use Rattle.rmt_io.proofs.OutsideLaws.{tells_later, writing_failed_later}
 use Rattle.rmt_core.specs.declared.status.Status.{Status}
 use Rattle.rmt_core.specs.declared.status.Status.TheVariants.{Done, Usage, ReadFault, WriteFault, BadProgram, BadEntries, NoFit, BadImage, BadPackets, TooLong, NoMemory}
 use Rattle.rmt_core.specs.Files.{Files, Long, Holds, found}
 use Rattle.rmt_core.specs.Given.{Given, OfFound, OfOpened, Opens, Reads, told}
-use Rattle.rmt_core.specs.Ends.{Answered, AreSame, EndsWith, Outside, PrintsAll, Stops}
-use Rattle.rmt_core.specs.Loading.{NotRead, NotOpened}
-use Rattle.rmt_core.specs.Printing.{GainsFront}
+use Rattle.rmt_core.specs.Ends.{Answered, AreSame, EndsWith, Outside, PrintsAll, Stops, outside}
+use Rattle.rmt_core.specs.Loading.{IsFound, NotRead, NotOpened}
+use Rattle.rmt_core.specs.Printing.{GainedFront, GainsFront}
 
 -- ---- fronts
 
 -- nothing is a front of each text
-pub gains_none : (old new text : List ℕ) → new ≡ old → GainsFront old new text
-gains_none old new text is = record { gained = []; rest = text; text_is = refl; new_is = is ∙ sym (append-nil old) }
+pub gained_none : (before after : SinkState) (text : List ℕ) → GainedNone before after → GainedFront before after text
+gained_none before after text none tells = record { gained = []; rest = text; text_is = refl; new_is = none tells ∙ sym (append-nil before.bytes) }
 
 -- a text is a front of itself
 pub gains_all : (old new text : List ℕ) → new ≡ old ++ text → GainsFront old new text
@@ -41,85 +42,101 @@ gains_behind old mid new first text is p = record {
 abbrev pub IsEnding : Status → Type 0
 IsEnding status = PrintsAll status ⊎ (status ≡ TooLong)
 
-ends_by : (o : Outside) (gives : Given → Type 0) (status : Status) → IsEnding status ⊎ (status ≡ WriteFault) → EndsWith o gives status → Answered o gives status
-ends_by o gives Done is e = e
-ends_by o gives WriteFault is e = e
-ends_by o gives BadProgram is e = e
-ends_by o gives BadEntries is e = e
-ends_by o gives NoFit is e = e
-ends_by o gives BadImage is e = e
-ends_by o gives BadPackets is e = e
-ends_by o gives TooLong is e = e
-ends_by o gives Usage is e = absurd (grind arith)
-ends_by o gives ReadFault is e = absurd (grind arith)
-ends_by o gives NoMemory is e = absurd (grind arith)
+-- two ways to say what a command gives
+pub answered_as : (before after : Outside) (gives other : Given → Type 0) (status : Status) → ((g : Given) → gives g → other g) → ((g : Given) → other g → gives g)
+    → Answered before after gives status → Answered before after other status
+answered_as before after gives other result to back = by result
+  where
+    ends : (status : Status) → EndsWith before after gives status → EndsWith before after other status
+    ends status e = (e.0, to e.0 e.1, e.2)
 
--- a call that ends with its command's status
-pub ends_answered : (o : Outside) (gives : Given → Type 0) (status : Status) → IsEnding status → EndsWith o gives status → Answered o gives status
-ends_answered o gives status is e = ends_by o gives status (inl is) e
+    stop : (status : Status) → Stops before after gives status → Stops before after other status
+    stop status s = record { files = s.files; front = λ g h. s.front g (back g h); steady = λ steady e g h. s.steady steady e g (back g h) }
 
--- a call that printed, with this status, a front of a text, or all of it where the status wants it, and wrote no file
-pub run_answered : (o : Outside) (gives : Given → Type 0) (status result : Status) (text : List ℕ) → gives (told o.files status text) → AreSame o.after o.files → IsEnding status
-    → (result ≡ WriteFault → text ≢ []) → (result ≡ status) ⊎ (result ≡ WriteFault)
-    → (result ≡ status → PrintsAll status → IsTrue o.tells → o.new ≡ o.old ++ text) → (IsTrue o.tells → GainsFront o.old o.new text) → (result ≡ WriteFault → Rose o.faults o.faults_after)
-    → Answered o gives result
-run_answered o gives status result text is same ending some how whole front failed =
-    ends_by o gives result (⊎_elim (λ e. inl (rw e ending)) (λ e. inr e) how) (
-      told o.files status text,
-      is,
-      record {
-        status_is = how;
-        front = front;
-        whole = λ e all. whole e (subst PrintsAll e all);
-        files = λ _. same;
-        others = λ name _. same name;
-        fault = λ e. inr (failed e, same);
-        some = some;
-      },
-    )
+    by : (status : Status) → Answered before after gives status → Answered before after other status
+    by Done h = ends Done h
+    by Usage h = h
+    by ReadFault h = stop ReadFault h
+    by WriteFault h = ends WriteFault h
+    by BadProgram h = ends BadProgram h
+    by BadEntries h = ends BadEntries h
+    by NoFit h = ends NoFit h
+    by BadImage h = ends BadImage h
+    by BadPackets h = ends BadPackets h
+    by TooLong h = ends TooLong h
+    by NoMemory h = stop NoMemory h
 
--- a call that printed a text with this status, and wrote no file
-pub told_answered : (o : Outside) (gives : Given → Type 0) (status result : Status) (text : List ℕ) → gives (told o.files status text) → AreSame o.after o.files → PrintsAll status
-    → (result ≡ WriteFault → text ≢ []) → (result ≡ status) ⊎ (result ≡ WriteFault)
-    → (result ≡ status → IsTrue o.tells → o.new ≡ o.old ++ text) → (IsTrue o.tells → GainsFront o.old o.new text) → (result ≡ WriteFault → Rose o.faults o.faults_after)
-    → Answered o gives result
-told_answered o gives status result text is same all some how whole front failed =
-    run_answered o gives status result text is same (inl all) some how (λ e _. whole e) front failed
+ends_by : (before after : Outside) (gives : Given → Type 0) (status : Status) → IsEnding status ⊎ (status ≡ WriteFault) → EndsWith before after gives status → Answered before after gives status
+ends_by before after gives Done is e = e
+ends_by before after gives WriteFault is e = e
+ends_by before after gives BadProgram is e = e
+ends_by before after gives BadEntries is e = e
+ends_by before after gives NoFit is e = e
+ends_by before after gives BadImage is e = e
+ends_by before after gives BadPackets is e = e
+ends_by before after gives TooLong is e = e
+ends_by before after gives Usage is e = absurd (grind arith)
+ends_by before after gives ReadFault is e = absurd (grind arith)
+ends_by before after gives NoMemory is e = absurd (grind arith)
 
--- a call that stopped
-pub stops : (o : Outside) (gives : Given → Type 0) (status : Status) → (status ≡ ReadFault) ⊎ (status ≡ NoMemory) → Stops o gives status → Answered o gives status
-stops o gives status is s = ⊎_elim (λ e. rw e (subst (λ x. Stops o gives x) e s)) (λ e. rw e (subst (λ x. Stops o gives x) e s)) is
+module _ (before after : Outside) (gives : Given → Type 0) where
+  -- a call that printed, with this status, a front of a text, or all of it where the status wants it, and wrote no file
+  pub run_answered : (status result : Status) (text : List ℕ) → gives (told before.shelf.files status text) → AreSame after.shelf.files before.shelf.files → IsEnding status
+      → (result ≡ WriteFault → text ≢ []) → (result ≡ status) ⊎ (result ≡ WriteFault)
+      → (result ≡ status → PrintsAll status → Gained before.sink after.sink text) → GainedFront before.sink after.sink text → (result ≡ WriteFault → PrintingFailed before.sink after.sink)
+      → Answered before after gives result
+  run_answered status result text is same ending some how whole front failed =
+      ends_by before after gives result (⊎_elim (λ e. inl (rw e ending)) (λ e. inr e) how) (
+        told before.shelf.files status text,
+        is,
+        record {
+          status_is = how;
+          front = front;
+          whole = λ e all. whole e (subst PrintsAll e all);
+          files = λ _. same;
+          others = λ name _. same name;
+          fault = λ e. inr (failed e, same);
+          some = some;
+        },
+      )
 
--- a call that stopped before it printed anything
-pub stopped : (o : Outside) (gives : Given → Type 0) (status : Status) → (status ≡ ReadFault) ⊎ (status ≡ NoMemory) → AreSame o.after o.files → (IsTrue o.tells → o.new ≡ o.old)
-    → (IsTrue o.steady → status ≡ ReadFault → (g : Given) → gives g → g.status ≡ ReadFault) → Answered o gives status
-stopped o gives status is same quiet steady =
-    stops o gives status is (record { files = same; front = λ g _ tells. gains_none o.old o.new g.text (quiet tells); steady = steady })
+  -- a call that printed a text with this status, and wrote no file
+  pub told_answered : (status result : Status) (text : List ℕ) → gives (told before.shelf.files status text) → AreSame after.shelf.files before.shelf.files → PrintsAll status
+      → (result ≡ WriteFault → text ≢ []) → (result ≡ status) ⊎ (result ≡ WriteFault)
+      → (result ≡ status → Gained before.sink after.sink text) → GainedFront before.sink after.sink text → (result ≡ WriteFault → PrintingFailed before.sink after.sink)
+      → Answered before after gives result
+  told_answered status result text is same all some how whole front failed =
+      run_answered status result text is same (inl all) some how (λ e _. whole e) front failed
 
--- a call for want of memory, before it printed anything
-pub no_memory : (o : Outside) (gives : Given → Type 0) → AreSame o.after o.files → (IsTrue o.tells → o.new ≡ o.old) → Answered o gives NoMemory
-no_memory o gives same quiet = stopped o gives NoMemory (inr refl) same quiet (λ _ e. absurd (cc))
+  -- a call that stopped
+  pub stops : (status : Status) → (status ≡ ReadFault) ⊎ (status ≡ NoMemory) → Stops before after gives status → Answered before after gives status
+  stops status is s = ⊎_elim (λ e. rw e (subst (λ x. Stops before after gives x) e s)) (λ e. rw e (subst (λ x. Stops before after gives x) e s)) is
 
--- a call that ends with TooLong, and told nothing
-pub silent : (o : Outside) (gives : Given → Type 0) → gives (told o.files TooLong []) → AreSame o.after o.files → (IsTrue o.tells → o.new ≡ o.old) → Answered o gives TooLong
-silent o gives is same quiet =
-    run_answered o gives TooLong TooLong [] is same (inr refl) (λ e. absurd (cc)) (inl refl) (λ e _ tells. quiet tells ∙ sym (append-nil o.old)) (λ tells. gains_none o.old o.new [] (quiet tells)) (λ e. absurd (cc))
+  -- a call that stopped before it printed anything
+  pub stopped : (status : Status) → (status ≡ ReadFault) ⊎ (status ≡ NoMemory) → AreSame after.shelf.files before.shelf.files → GainedNone before.sink after.sink
+      → (IsTrue before.shelf.steady → status ≡ ReadFault → (g : Given) → gives g → g.status ≡ ReadFault) → Answered before after gives status
+  stopped status is same quiet steady =
+      stops status is (record { files = same; front = λ g _. gained_none before.sink after.sink g.text quiet; steady = steady })
+
+  -- a call for want of memory, before it printed anything
+  pub no_memory : AreSame after.shelf.files before.shelf.files → GainedNone before.sink after.sink → Answered before after gives NoMemory
+  no_memory same quiet = stopped NoMemory (inr refl) same quiet (λ _ e. absurd (cc))
+
+  -- a call that ends with TooLong, and told nothing
+  pub silent : gives (told before.shelf.files TooLong []) → AreSame after.shelf.files before.shelf.files → GainedNone before.sink after.sink → Answered before after gives TooLong
+  silent is same quiet =
+      run_answered TooLong TooLong [] is same (inr refl) (λ e. absurd (cc)) (inl refl) (λ e _ tells. quiet tells ∙ sym (append-nil before.sink.bytes)) (gained_none before.sink after.sink [] quiet) (λ e. absurd (cc))
 
 -- ---- files that are read first
 
--- a fault that is counted after others is one since before them
-pub rose_later : (before mid after : ℕ) → before ≤ mid → Rose mid after → Rose before after
-rose_later before mid after le rose = ⊎_elim (λ less. inl (omega arith)) (λ last. inr last) rose
-
--- what is said of a shelf that left its files holds of it as it was before
-pub moved : (o : Outside) (files : Files) (steady : Bool) (writing : ℕ) (gives : Files → Given → Type 0) (status : Status) → AreSame files o.files → (IsTrue o.steady → IsTrue steady) → writing ≡ o.writing
-    → Answered (record o { files = files; steady = steady; writing = writing }) (gives files) status → Answered o (gives o.files) status
-moved o files steady writing gives status same keeps counts h =
-    steadier o steady (gives o.files) status keeps (subst (λ n. Answered (record o { steady = steady; writing = n }) (gives o.files) status) counts
-    (subst (λ f. Answered (record o { files = f; steady = steady; writing = writing }) (gives f) status) (funext files o.files same) h))
+-- what is said of a shelf behind a reading is said of it as it was before
+pub later : (before after : Outside) (mid : ShelfState) (gives : Files → Given → Type 0) (status : Status) → OnlyRead before.shelf mid
+    → Answered (outside mid before.sink) after (gives mid.files) status → Answered before after (gives before.shelf.files) status
+later before after mid gives result r h =
+    subst (λ files. Answered before after (gives files) result) (funext mid.files before.shelf.files r.files) (by (gives mid.files) result h)
   where
-    ends : (o : Outside) (steady : Bool) (gives : Given → Type 0) (status : Status) → EndsWith (record o { steady = steady }) gives status → EndsWith o gives status
-    ends o steady gives status e = (
+    ends : (gives : Given → Type 0) (status : Status) → EndsWith (outside mid before.sink) after gives status → EndsWith before after gives status
+    ends gives status e = (
       e.0,
       e.1,
       record {
@@ -127,70 +144,66 @@ moved o files steady writing gives status same keeps counts h =
         front = e.2.front;
         whole = e.2.whole;
         files = e.2.files;
-        others = e.2.others;
-        fault = e.2.fault;
+        others = λ name other. e.2.others name other ∙ r.files name;
+        fault = λ w. ⊎_elim (λ failed. inl (writing_failed_later after.shelf r failed)) (λ printed. inr printed) (e.2.fault w);
         some = e.2.some;
       },
     )
 
-    stop : (o : Outside) (steady : Bool) (gives : Given → Type 0) (status : Status) → (IsTrue o.steady → IsTrue steady) → Stops (record o { steady = steady }) gives status → Stops o gives status
-    stop o steady gives status keeps s = record { files = s.files; front = s.front; steady = λ is. s.steady (keeps is) }
+    stop : (gives : Given → Type 0) (status : Status) → Stops (outside mid before.sink) after gives status → Stops before after gives status
+    stop gives status s = record { files = λ name. s.files name ∙ r.files name; front = s.front; steady = λ is. s.steady (r.stays_steady is) }
 
-    steadier : (o : Outside) (steady : Bool) (gives : Given → Type 0) (status : Status) → (IsTrue o.steady → IsTrue steady) → Answered (record o { steady = steady }) gives status → Answered o gives status
-    steadier o steady gives Done keeps h = ends o steady gives Done h
-    steadier o steady gives Usage keeps h = h
-    steadier o steady gives ReadFault keeps h = stop o steady gives ReadFault keeps h
-    steadier o steady gives WriteFault keeps h = ends o steady gives WriteFault h
-    steadier o steady gives BadProgram keeps h = ends o steady gives BadProgram h
-    steadier o steady gives BadEntries keeps h = ends o steady gives BadEntries h
-    steadier o steady gives NoFit keeps h = ends o steady gives NoFit h
-    steadier o steady gives BadImage keeps h = ends o steady gives BadImage h
-    steadier o steady gives BadPackets keeps h = ends o steady gives BadPackets h
-    steadier o steady gives TooLong keeps h = ends o steady gives TooLong h
-    steadier o steady gives NoMemory keeps h = stop o steady gives NoMemory keeps h
+    by : (gives : Given → Type 0) (status : Status) → Answered (outside mid before.sink) after gives status → Answered before after gives status
+    by gives Done h = ends gives Done h
+    by gives Usage h = h
+    by gives ReadFault h = stop gives ReadFault h
+    by gives WriteFault h = ends gives WriteFault h
+    by gives BadProgram h = ends gives BadProgram h
+    by gives BadEntries h = ends gives BadEntries h
+    by gives NoFit h = ends gives NoFit h
+    by gives BadImage h = ends gives BadImage h
+    by gives BadPackets h = ends gives BadPackets h
+    by gives TooLong h = ends gives TooLong h
+    by gives NoMemory h = stop gives NoMemory h
 
--- a command that read a file went on with its bytes
-pub reads : (o : Outside) (name : List ℕ) (limit : ℕ) (next : List ℕ → Given → Type 0) (bytes : List ℕ) (status : Status) → found limit (o.files name) ≡ Holds bytes
-    → Answered o (next bytes) status → Answered o (Reads o.files name limit next) status
-reads o name limit next bytes status is h = subst (λ f. Answered o (λ g. OfFound o.files next g f) status) (sym is) h
+module _ (before after : Outside) (mid : ShelfState) (name : List ℕ) (next : Files → List ℕ → Given → Type 0) where
+  -- a command that read a file goes on with its bytes, over the shelf as reading left it
+  pub reads_on : (limit : ℕ) (bytes : List ℕ) (status : Status) → OnlyRead before.shelf mid → IsFound before.shelf name limit bytes
+      → (IsTrue mid.tells → Answered (outside mid before.sink) after (next mid.files bytes) status)
+      → IsTrue before.shelf.tells → Answered before after (Reads before.shelf.files name limit (next before.shelf.files)) status
+  reads_on limit bytes status r is h tells =
+      subst (λ f. Answered before after (λ g. OfFound before.shelf.files (next before.shelf.files) g f) status) (sym (is tells))
+      (later before after mid (λ f. next f bytes) status r (h (tells_later r tells)))
 
--- and over the shelf as reading left it
-pub reads_on : (o : Outside) (files : Files) (steady : Bool) (writing : ℕ) (name : List ℕ) (limit : ℕ) (next : Files → List ℕ → Given → Type 0) (bytes : List ℕ) (status : Status)
-    → found limit (o.files name) ≡ Holds bytes → AreSame files o.files → (IsTrue o.steady → IsTrue steady) → writing ≡ o.writing
-    → Answered (record o { files = files; steady = steady; writing = writing }) (next files bytes) status → Answered o (Reads o.files name limit (next o.files)) status
-reads_on o files steady writing name limit next bytes status is same keeps counts h =
-    reads o name limit (next o.files) bytes status is (moved o files steady writing (λ f. next f bytes) status same keeps counts h)
+  -- and so does one that opened a file
+  pub opens_on : (status : Status) → OnlyRead before.shelf mid → HasFile before.shelf name mid.rest
+      → (IsTrue mid.tells → Answered (outside mid before.sink) after (next mid.files mid.rest) status)
+      → IsTrue before.shelf.tells → Answered before after (Opens before.shelf.files name (next before.shelf.files)) status
+  opens_on status r is h tells =
+      subst (λ f. Answered before after (λ g. OfOpened before.shelf.files (next before.shelf.files) g f) status) (sym (is tells))
+      (later before after mid (λ f. next f mid.rest) status r (h (tells_later r tells)))
 
--- a command that opened a file went on with its bytes
-pub opens : (o : Outside) (name : List ℕ) (next : List ℕ → Given → Type 0) (bytes : List ℕ) (status : Status) → o.files name ≡ Some bytes
-    → Answered o (next bytes) status → Answered o (Opens o.files name next) status
-opens o name next bytes status is h = subst (λ f. Answered o (λ g. OfOpened o.files next g f) status) (sym is) h
+module _ (before : ShelfState) (sink : SinkState) (after : ShelfState) (name : List ℕ) (next : List ℕ → Given → Type 0) where
+  abbrev reading : ℕ → Given → Type 0
+  reading limit = Reads before.files name limit next
 
--- and over the shelf as opening left it
-pub opens_on : (o : Outside) (files : Files) (steady : Bool) (writing : ℕ) (name : List ℕ) (next : Files → List ℕ → Given → Type 0) (bytes : List ℕ) (status : Status)
-    → o.files name ≡ Some bytes → AreSame files o.files → (IsTrue o.steady → IsTrue steady) → writing ≡ o.writing
-    → Answered (record o { files = files; steady = steady; writing = writing }) (next files bytes) status → Answered o (Opens o.files name (next o.files)) status
-opens_on o files steady writing name next bytes status is same keeps counts h =
-    opens o name (next o.files) bytes status is (moved o files steady writing (λ f. next f bytes) status same keeps counts h)
+  -- a command ends where a file isn't read
+  pub not_read : (limit : ℕ) (status : Status) → OnlyRead before after → NotRead before name limit status
+      → IsTrue before.tells → Answered (outside before sink) (outside after sink) (Reads before.files name limit next) status
+  not_read limit status r why tells =
+      ⊎_elim (λ e. ended (inl e)) (λ h. ⊎_elim (λ e. rw e (silent _ _ (reading limit) (long (why.long e tells)) r.files (λ _. refl))) (λ e. ended (inr e)) h) why.kind
+    where
+      long : found limit (before.files name) ≡ Long → reading limit (told before.files TooLong [])
+      long e = subst (λ f. OfFound before.files next (told before.files TooLong []) f) (sym e) refl
 
--- a command ends where a file isn't read
-pub not_read : (o : Outside) (name : List ℕ) (limit : ℕ) (next : List ℕ → Given → Type 0) (tells : Bool) (status : Status) → IsTrue tells → NotRead tells o.steady (found limit (o.files name)) status
-    → AreSame o.after o.files → (IsTrue o.tells → o.new ≡ o.old) → Answered o (Reads o.files name limit next) status
-not_read o name limit next tells status is r same quiet =
-    ⊎_elim (λ e. stopped o (Reads o.files name limit next) status (inl e) same quiet absent)
-    (λ h. ⊎_elim (λ e. rw e (silent o (Reads o.files name limit next) (long (r.long e is)) same quiet))
-    (λ e. stopped o (Reads o.files name limit next) status (inr e) same quiet absent) h) r.kind
-  where
-    long : found limit (o.files name) ≡ Long → Reads o.files name limit next (told o.files TooLong [])
-    long e = subst (λ f. OfFound o.files next (told o.files TooLong []) f) (sym e) refl
+      ended : (status ≡ ReadFault) ⊎ (status ≡ NoMemory) → Answered (outside before sink) (outside after sink) (reading limit) status
+      ended is =
+          stopped _ _ (reading limit) status is r.files (λ _. refl)
+          (λ steady e g h. ap (λ (x : Given). x.status) (subst (λ f. OfFound before.files next g f) (why.absent e steady) h))
 
-    absent : IsTrue o.steady → status ≡ ReadFault → (g : Given) → Reads o.files name limit next g → g.status ≡ ReadFault
-    absent steady e g h = ap (λ (x : Given). x.status) (subst (λ f. OfFound o.files next g f) (r.absent e steady) h)
-
--- a command ends where a file isn't opened
-pub not_opened : (o : Outside) (name : List ℕ) (next : List ℕ → Given → Type 0) (status : Status) → NotOpened o.steady (o.files name) status
-    → AreSame o.after o.files → (IsTrue o.tells → o.new ≡ o.old) → Answered o (Opens o.files name next) status
-not_opened o name next status r same quiet = stopped o (Opens o.files name next) status r.kind same quiet absent
-  where
-    absent : IsTrue o.steady → status ≡ ReadFault → (g : Given) → Opens o.files name next g → g.status ≡ ReadFault
-    absent steady e g h = ap (λ (x : Given). x.status) (subst (λ f. OfOpened o.files next g f) (r.absent e steady) h)
+  -- or opened
+  pub not_opened : (status : Status) → OnlyRead before after → NotOpened before name status
+      → Answered (outside before sink) (outside after sink) (Opens before.files name next) status
+  not_opened status r why =
+      stopped _ _ (Opens before.files name next) status why.kind r.files (λ _. refl)
+      (λ steady e g h. ap (λ (x : Given). x.status) (subst (λ f. OfOpened before.files next g f) (why.absent e steady) h))

@@ -5,6 +5,7 @@ use Rattle.std.proofs.lemmas.List.{map-append}
 use Rattle.rmt_bits.specs.Packet.{Packet}
 use Rattle.rmt_chip.specs.declared.frame.Frame.{Frame}
 use Rattle.rmt_chip.specs.Inputs.{MayEnter}
+use Rattle.rmt_io.specs.Outside.{SinkState}
 use Rattle.rmt_core.specs.Types.{Config}
 use Rattle.rmt_config.specs.ChipRun.{inputs_of, latency_of}
 use Rattle.rmt_packets.specs.PacketText.{BadLine, Reading, packets_of, reading_of}
@@ -52,10 +53,10 @@ reading_begins w c done more reading e =
     (text_begins w c reading.packets reading.bad)
 
 -- a run that is cut off while its text is read
-pub breaks : (w : Watch) (c : Config) (limit : ℕ) (text : List ℕ) (done : List Packet) (reader : ReaderState) (rest : List ℕ) (told : Bool) (before now : List ℕ) (fault : RunFault)
-    → ReadsOn limit text done reader rest → Cut (shown w c (map Some done)) told before now fault → (fault ≡ TooLong → GoesTooFar limit text done)
-    → Breaks (text_of w c) limit text told before now fault
-breaks w c limit text done reader rest told before now fault reads cut far =
+pub breaks : (w : Watch) (c : Config) (limit : ℕ) (text : List ℕ) (done : List Packet) (reader : ReaderState) (rest : List ℕ) (before now : SinkState) (fault : RunFault)
+    → ReadsOn limit text done reader rest → Cut (shown w c (map Some done)) before now fault → (fault ≡ TooLong → GoesTooFar limit text done)
+    → Breaks (text_of w c) limit text before now fault
+breaks w c limit text done reader rest before now fault reads cut far =
     let front = done_is_front limit text done reader rest reads in
     let whole = cut_begins (reading_begins w c done front.0 (told_of limit text) front.1) cut in
     record {

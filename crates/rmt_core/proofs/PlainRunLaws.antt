@@ -1,8 +1,9 @@
 -- The lines of a plain run, one packet after another.
-use Rattle.std.proofs.Common.{◌≡◌, ℕ, ◌+◌, Bool, List, [], ◌∷◌, ◌++◌, length, sym, refl, ap, ◌∙◌, arith, append_assoc, append-nil, length-append}
+use Rattle.std.proofs.Common.{◌≡◌, ℕ, ◌+◌, List, [], ◌∷◌, ◌++◌, length, sym, refl, ap, ◌∙◌, arith, append_assoc, append-nil, length-append}
 use Rattle.std.proofs.lemmas.List.{map-append, length-map}
 use Rattle.rmt_bits.specs.Packet.{Packet}
 use Rattle.rmt_bits.specs.declared.answer.Answer.{Answer}
+use Rattle.rmt_io.specs.Outside.{SinkState}
 use Rattle.rmt_core.specs.Types.{Program}
 use Rattle.rmt_ast.specs.declared.entry.Entry.{Entry}
 use Rattle.rmt_ast.specs.Answers.{answer_of, answers_of}
@@ -39,14 +40,14 @@ module _ (p : Program) (lists : List (List Entry)) where
       ∙ ap (λ n. answer_lines_of p lists done ++ plain_lines n (answers_of p lists more)) many
 
   -- before the first packet
-  pub goes_first : (plain : Plain) (told : Bool) (now : List ℕ) → Stands p lists [] plain → Goes p lists [] plain 0 [] told now now
-  goes_first plain told now stands = record { stands = stands; numbered = refl; written = written_none told now }
+  pub goes_first : (plain : Plain) (now : SinkState) → Stands p lists [] plain → Goes p lists [] plain 0 [] now now
+  goes_first plain now stands = record { stands = stands; numbered = refl; written = written_none now }
 
   -- a packet is answered, and its line waits
-  pub goes_more : {done : List Packet} {old new : Plain} {number : ℕ} {waiting : List ℕ} {told : Bool} {before now : List ℕ} (packet : Packet) (later : List ℕ)
-      → Goes p lists done old number waiting told before now → Stands p lists (done ++ packet ∷ []) new → later ≡ waiting ++ answer_line number (answer_of p lists packet)
-      → Goes p lists (done ++ packet ∷ []) new (number + 1) later told before now
-  goes_more {done} {old} {new} {number} {waiting} {told} {before} {now} packet later g stands waits = record {
+  pub goes_more : {done : List Packet} {old new : Plain} {number : ℕ} {waiting : List ℕ} {before now : SinkState} (packet : Packet) (later : List ℕ)
+      → Goes p lists done old number waiting before now → Stands p lists (done ++ packet ∷ []) new → later ≡ waiting ++ answer_line number (answer_of p lists packet)
+      → Goes p lists (done ++ packet ∷ []) new (number + 1) later before now
+  goes_more {done} {old} {new} {number} {waiting} {before} {now} packet later g stands waits = record {
     stands = stands;
     numbered = ap (λ n. n + 1) g.numbered ∙ sym (length-append done (packet ∷ []));
     written =
@@ -58,8 +59,8 @@ module _ (p : Program) (lists : List (List Entry)) where
   }
 
   -- a run is cut off before a packet is answered
-  pub cut_before : {done : List Packet} {plain : Plain} {number : ℕ} {waiting : List ℕ} {told : Bool} {before now : List ℕ} (packet : Packet) (fault : RunFault)
-      → Goes p lists done plain number waiting told before now → (fault ≡ Write → ⊥) → Cut (answer_lines_of p lists (done ++ packet ∷ [])) told before now fault
+  pub cut_before : {done : List Packet} {plain : Plain} {number : ℕ} {waiting : List ℕ} {before now : SinkState} (packet : Packet) (fault : RunFault)
+      → Goes p lists done plain number waiting before now → (fault ≡ Write → ⊥) → Cut (answer_lines_of p lists (done ++ packet ∷ [])) before now fault
   cut_before {done} packet fault g other = record {
     front = λ t. rw (lines_more done (packet ∷ [])) (gains_more _ _ _ _ (written_front g.written t));
     some = λ e. absurd (other e);
@@ -73,9 +74,9 @@ module _ (p : Program) (lists : List (List Entry)) where
       (rest ++ last, ap (λ l. answer_lines_of p lists l ++ last) e ∙ ap (λ l. l ++ last) (lines_more done more) ∙ append_assoc (answer_lines_of p lists done) rest last)
 
   -- a run that is cut off while its text is read
-  pub breaks : (limit : ℕ) (text : List ℕ) (done : List Packet) (reader : ReaderState) (rest : List ℕ) (told : Bool) (before now : List ℕ) (fault : RunFault) → ReadsOn limit text done reader rest
-      → Cut (answer_lines_of p lists done) told before now fault → (fault ≡ TooLong → GoesTooFar limit text done) → Breaks (plain_text p lists) limit text told before now fault
-  breaks limit text done reader rest told before now fault reads cut far =
+  pub breaks : (limit : ℕ) (text : List ℕ) (done : List Packet) (reader : ReaderState) (rest : List ℕ) (before now : SinkState) (fault : RunFault) → ReadsOn limit text done reader rest
+      → Cut (answer_lines_of p lists done) before now fault → (fault ≡ TooLong → GoesTooFar limit text done) → Breaks (plain_text p lists) limit text before now fault
+  breaks limit text done reader rest before now fault reads cut far =
       let front = done_is_front limit text done reader rest reads in
       let more = text_more done front.0 (told_of limit text) front.1 in
       record {

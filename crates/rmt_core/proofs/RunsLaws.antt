@@ -1,7 +1,7 @@
 -- How a run over a packet text ends.
 use Rattle.std.proofs.Common.{◌≡◌, ◌≢◌, ◌⊎◌, ⊎_elim, inl, inr, ◌≤◌, ◌<◌, ℕ, Bool, true, false, cond, IsTrue, List, [], ◌++◌, length, take, Option, Some, None, sym, refl, ap, ◌∙◌, subst, arith, ltb}
 use Rattle.rmt_bits.specs.Packet.{Packet}
-use Rattle.rmt_io.specs.Faults.{Rose}
+use Rattle.rmt_io.specs.Outside.{Gained, PrintingFailed}
 use Rattle.rmt_packets.specs.PacketText.{BadLine, Reading, packets_of, reading_of}
 use Rattle.rmt_packets.specs.Pieces.{ended_lines}
 use Rattle.rmt_core.specs.declared.run_end.Bad.{Bad}
@@ -11,7 +11,7 @@ use Rattle.rmt_core.specs.declared.status.Status.{Status}
 use Rattle.rmt_core.specs.declared.status.Status.TheVariants as status
 use Rattle.rmt_core.specs.Ends.{Answered, AreSame, Outside, PrintsAll}
 use Rattle.rmt_core.specs.Given.{Given, told}
-use Rattle.rmt_core.specs.Printing.{GainsFront}
+use Rattle.rmt_core.specs.Printing.{GainedFront}
 use Rattle.rmt_core.specs.RunEnd.{Breaks, ReadsAll, bad_line, status_of_end, status_of_fault}
 use Rattle.rmt_core.specs.Runs.{Runs, reading_within, run_status, told_reading}
 use Rattle.rmt_core.proofs.EndLaws.{IsEnding, run_answered, stops}
@@ -57,65 +57,65 @@ not_written long (Some b) e = cc
 not_written true None e = cc
 not_written false None e = cc
 
-module _ (o : Outside) (printed : Reading → List ℕ) (limit : ℕ) (text : List ℕ) where
+module _ (before after : Outside) (printed : Reading → List ℕ) (limit : ℕ) (text : List ℕ) where
   -- the status and the text that a run over this text gives
   abbrev wanted : Status
   wanted = run_status (ltb limit (length text)) (reading_within limit text).bad
 
   -- a run that came to the end of its text or to a bad line, and printed what is to be printed, or a front of it
-  pub ended_answered : (done : List Packet) (bad : Option Bad) (result : Status) → ReadsAll limit text done (bad_line bad) → AreSame o.after o.files
+  pub ended_answered : (done : List Packet) (bad : Option Bad) (result : Status) → ReadsAll limit text done (bad_line bad) → AreSame after.shelf.files before.shelf.files
       → (result ≡ status.WriteFault → printed (record { packets = done; bad = bad_line bad }) ≢ []) → (result ≡ status_of_end bad) ⊎ (result ≡ status.WriteFault)
-      → (result ≡ status_of_end bad → IsTrue o.tells → o.new ≡ o.old ++ printed (record { packets = done; bad = bad_line bad }))
-      → (IsTrue o.tells → GainsFront o.old o.new (printed (record { packets = done; bad = bad_line bad })))
-      → (result ≡ status.WriteFault → Rose o.faults o.faults_after) → Answered o (Runs o.files printed limit text) result
+      → (result ≡ status_of_end bad → Gained before.sink after.sink (printed (record { packets = done; bad = bad_line bad })))
+      → GainedFront before.sink after.sink (printed (record { packets = done; bad = bad_line bad }))
+      → (result ≡ status.WriteFault → PrintingFailed before.sink after.sink) → Answered before after (Runs before.shelf.files printed limit text) result
   ended_answered done bad result r same some how whole front failed =
       let reading : Reading = record { packets = done; bad = bad_line bad } in
-      let gives : told o.files (status_of_end bad) (printed reading) ≡ told o.files wanted (printed (told_of limit text)) =
-      ap (λ s. told o.files s (printed reading)) (sym (status_all limit text done bad r)) ∙ ap (λ x. told o.files wanted (printed x)) (sym (told_all limit text done (bad_line bad) r)) in
-      run_answered o (Runs o.files printed limit text) (status_of_end bad) result (printed reading) gives same
+      let gives : told before.shelf.files (status_of_end bad) (printed reading) ≡ told before.shelf.files wanted (printed (told_of limit text)) =
+      ap (λ s. told before.shelf.files s (printed reading)) (sym (status_all limit text done bad r)) ∙ ap (λ x. told before.shelf.files wanted (printed x)) (sym (told_all limit text done (bad_line bad) r)) in
+      run_answered before after (Runs before.shelf.files printed limit text) (status_of_end bad) result (printed reading) gives same
       (subst IsEnding (status_all limit text done bad r) (is_ending (ltb limit (length text)) (reading_within limit text).bad)) some how (λ e _. whole e) front failed
 
-  stops_so : (s : Status) → (s ≡ status.ReadFault) ⊎ (s ≡ status.NoMemory) → AreSame o.after o.files → (IsTrue o.tells → GainsFront o.old o.new (printed (told_of limit text)))
-      → (s ≡ status.ReadFault → IsTrue o.steady → ⊥) → Answered o (Runs o.files printed limit text) s
+  stops_so : (s : Status) → (s ≡ status.ReadFault) ⊎ (s ≡ status.NoMemory) → AreSame after.shelf.files before.shelf.files → GainedFront before.sink after.sink (printed (told_of limit text))
+      → (s ≡ status.ReadFault → IsTrue before.shelf.steady → ⊥) → Answered before after (Runs before.shelf.files printed limit text) s
   stops_so s is same front never =
-      stops o (Runs o.files printed limit text) s is
+      stops before after (Runs before.shelf.files printed limit text) s is
       (record {
         files = same;
-        front = λ g e tells. subst (λ (x : Given). GainsFront o.old o.new x.text) (sym e) (front tells);
+        front = λ g e. subst (λ (x : Given). GainedFront before.sink after.sink x.text) (sym e) front;
         steady = λ steady e g _. absurd (never e steady);
       })
 
   -- a run that ended early
-  pub broken_answered : (fault : RunFault) → Breaks printed limit text o.tells o.old o.new fault → AreSame o.after o.files → (fault ≡ Write → Rose o.faults o.faults_after)
-      → (fault ≡ Read → IsTrue o.steady → ⊥) → Answered o (Runs o.files printed limit text) (status_of_fault fault)
+  pub broken_answered : (fault : RunFault) → Breaks printed limit text before.sink after.sink fault → AreSame after.shelf.files before.shelf.files → (fault ≡ Write → PrintingFailed before.sink after.sink)
+      → (fault ≡ Read → IsTrue before.shelf.steady → ⊥) → Answered before after (Runs before.shelf.files printed limit text) (status_of_fault fault)
   broken_answered NoMemory b same failed never = stops_so status.NoMemory (inr refl) same b.front (λ e. absurd (cc))
   broken_answered Read b same failed never = stops_so status.ReadFault (inl refl) same b.front (λ e. never refl)
   broken_answered Write b same failed never =
-      run_answered o (Runs o.files printed limit text) wanted status.WriteFault (printed (told_of limit text)) refl same (is_ending (ltb limit (length text)) (reading_within limit text).bad)
+      run_answered before after (Runs before.shelf.files printed limit text) wanted status.WriteFault (printed (told_of limit text)) refl same (is_ending (ltb limit (length text)) (reading_within limit text).bad)
       (λ _. b.some refl) (inr refl) (λ e. absurd (not_written (ltb limit (length text)) (reading_within limit text).bad e)) b.front (λ _. failed refl)
   broken_answered TooLong b same failed never =
       let is : wanted ≡ status.TooLong =
       ap (λ x. run_status x (reading_within limit text).bad) (longer limit (length text) (b.long refl)) ∙ ap (λ x. run_status true x) (b.within refl) in
-      run_answered o (Runs o.files printed limit text) status.TooLong status.TooLong (printed (told_of limit text))
-      (ap (λ s. told o.files s (printed (told_of limit text))) (sym is)) same (inr refl) (λ e. absurd (cc)) (inl refl) (λ e all. absurd (never_all all)) b.front (λ e. absurd (cc))
+      run_answered before after (Runs before.shelf.files printed limit text) status.TooLong status.TooLong (printed (told_of limit text))
+      (ap (λ s. told before.shelf.files s (printed (told_of limit text))) (sym is)) same (inr refl) (λ e. absurd (cc)) (inl refl) (λ e all. absurd (never_all all)) b.front (λ e. absurd (cc))
     where
       never_all : PrintsAll status.TooLong → ⊥
       never_all all = grind arith
 
   -- and one that ended for want of memory behind its packets
-  pub ended_without_memory : (done : List Packet) (bad : Option BadLine) → ReadsAll limit text done bad → AreSame o.after o.files
-      → (IsTrue o.tells → GainsFront o.old o.new (printed (record { packets = done; bad = bad }))) → Answered o (Runs o.files printed limit text) status.NoMemory
+  pub ended_without_memory : (done : List Packet) (bad : Option BadLine) → ReadsAll limit text done bad → AreSame after.shelf.files before.shelf.files
+      → GainedFront before.sink after.sink (printed (record { packets = done; bad = bad })) → Answered before after (Runs before.shelf.files printed limit text) status.NoMemory
   ended_without_memory done bad r same front =
-      stops_so status.NoMemory (inr refl) same (λ tells. subst (λ x. GainsFront o.old o.new (printed x)) (sym (told_all limit text done bad r)) (front tells)) (λ e. absurd (cc))
+      stops_so status.NoMemory (inr refl) same (subst (λ x. GainedFront before.sink after.sink (printed x)) (sym (told_all limit text done bad r)) front) (λ e. absurd (cc))
 
   -- a run that came to the end of its text or to a bad line, and had the memory for what is printed then, or not
-  pub finished_answered : (done : List Packet) (bad : Option Bad) (result : Status) → ReadsAll limit text done (bad_line bad) → AreSame o.after o.files
+  pub finished_answered : (done : List Packet) (bad : Option Bad) (result : Status) → ReadsAll limit text done (bad_line bad) → AreSame after.shelf.files before.shelf.files
       → (result ≡ status_of_end bad) ⊎ (result ≡ status.WriteFault) ⊎ (result ≡ status.NoMemory)
       → (result ≡ status.WriteFault → printed (record { packets = done; bad = bad_line bad }) ≢ [])
-      → (result ≡ status_of_end bad → IsTrue o.tells → o.new ≡ o.old ++ printed (record { packets = done; bad = bad_line bad }))
-      → (IsTrue o.tells → GainsFront o.old o.new (printed (record { packets = done; bad = bad_line bad })))
-      → (result ≡ status.WriteFault → Rose o.faults o.faults_after) → Answered o (Runs o.files printed limit text) result
+      → (result ≡ status_of_end bad → Gained before.sink after.sink (printed (record { packets = done; bad = bad_line bad })))
+      → GainedFront before.sink after.sink (printed (record { packets = done; bad = bad_line bad }))
+      → (result ≡ status.WriteFault → PrintingFailed before.sink after.sink) → Answered before after (Runs before.shelf.files printed limit text) result
   finished_answered done bad result r same possible some whole front failed =
       ⊎_elim (λ e. ended_answered done bad result r same some (inl e) whole front failed)
       (λ h. ⊎_elim (λ e. ended_answered done bad result r same some (inr e) whole front failed)
-      (λ e. subst (λ s. Answered o (Runs o.files printed limit text) s) (sym e) (ended_without_memory done (bad_line bad) r same front)) h) possible
+      (λ e. subst (λ s. Answered before after (Runs before.shelf.files printed limit text) s) (sym e) (ended_without_memory done (bad_line bad) r same front)) h) possible

@@ -1,5 +1,6 @@
 -- What a call of `sample` told.
-use Rattle.std.proofs.Common.{◌≡◌, ◌≢◌, ◌⊎◌, ◌≤◌, inl, inr, ⊎_elim, ℕ, Bool, Result, Err, Ok, List, map, length, refl, sym, ap, subst, ◌∙◌}
+use Rattle.std.proofs.Common.{◌≡◌, ◌≢◌, ◌⊎◌, ◌≤◌, inl, inr, ⊎_elim, ℕ, Result, Err, Ok, List, map, length, refl, sym, ap, subst, ◌∙◌}
+use Rattle.rmt_io.specs.Outside.{ShelfState, SinkState}
 use Rattle.rmt_core.specs.Types.{Program, Config}
 use Rattle.rmt_ast.specs.declared.entry.Entry.{Entry}
 use Rattle.rmt_build.specs.declared.built.Built.{Built}
@@ -18,8 +19,7 @@ use Rattle.rmt_core.specs.declared.status.Status.{Status}
 use Rattle.rmt_core.specs.declared.status.Status.TheVariants.{Done, NoMemory, ReadFault, WriteFault}
 use Rattle.rmt_core.specs.Commands.{IsPossible, Sample}
 use Rattle.rmt_core.specs.Compiling.{Builds}
-use Rattle.rmt_core.specs.Ends.{Answered}
-use Rattle.rmt_core.specs.Files.{Files}
+use Rattle.rmt_core.specs.Ends.{Answered, outside}
 use Rattle.rmt_core.specs.Given.{told}
 use Rattle.rmt_core.specs.Making.{IsBuilt}
 use Rattle.rmt_core.specs.Sampling.{answers_line, sample_line, sample_packets}
@@ -44,20 +44,19 @@ chip_line_of n c text found line text_is found_is line_is =
     found_is ∙ ap (λ t. answers_line n (map told_by_outcome (outcomes_of c (packets_of t).packets)) (length c.stages) (cycles_of c (packets_of t).packets)) text_is ∙ sym line_is
 
 -- the line was told
-pub sample_answered : (files : Files) (steady tells : Bool) (writing faults after : ℕ) (old new : List ℕ) (n : ℕ) (p : Program) (lists : List (List Entry)) (built : Built) (result : Status)
-    → IsBuilt p lists built → Tells tells old new faults after (sample_line n p lists built.config) Done result
-    → Answered (record { files = files; after = files; steady = steady; writing = writing; writing_after = writing; tells = tells; old = old; new = new; faults = faults; faults_after = after })
-    (Builds files (λ image c b. told files Done (sample_line n p lists c)) p lists) result
-sample_answered files steady tells writing faults after old new n p lists built result is t =
-    line_answered _ (Builds files (λ image c b. told files Done (sample_line n p lists c)) p lists) Done result (sample_line n p lists built.config)
-    (builds files (λ image c b. told files Done (sample_line n p lists c)) p lists built is) (λ _. refl) (inl refl) t
+pub sample_answered : (shelf : ShelfState) (before after : SinkState) (n : ℕ) (p : Program) (lists : List (List Entry)) (built : Built) (result : Status)
+    → IsBuilt p lists built → Tells before after (sample_line n p lists built.config) Done result
+    → Answered (outside shelf before) (outside shelf after) (Builds shelf.files (λ image c b. told shelf.files Done (sample_line n p lists c)) p lists) result
+sample_answered shelf before after n p lists built result is t =
+    line_answered _ _ (Builds shelf.files (λ image c b. told shelf.files Done (sample_line n p lists c)) p lists) Done result (sample_line n p lists built.config)
+    (builds shelf.files (λ image c b. told shelf.files Done (sample_line n p lists c)) p lists built is) (λ _. refl) (inl refl) t
 
 -- what may come of telling it
-pub told_possible : (n : ℕ) {tells : Bool} {old new line : List ℕ} {faults after : ℕ} {result : Status} → Tells tells old new faults after line Done result → IsPossible (Sample n) result
+pub told_possible : (n : ℕ) {before after : SinkState} {line : List ℕ} {result : Status} → Tells before after line Done result → IsPossible (Sample n) result
 told_possible n t = ⊎_elim (λ e. inl (inl e)) (λ rest. ⊎_elim (λ e. inr (inr e)) (λ e. inr (inl e)) rest) t.kind
 
-pub told_no_reading : {tells : Bool} {old new line : List ℕ} {faults after : ℕ} {result : Status} → Tells tells old new faults after line Done result → result ≢ ReadFault
-told_no_reading {tells} {old} {new} {line} {faults} {after} {result} t e = by result e t.kind
+pub told_no_reading : {before after : SinkState} {line : List ℕ} {result : Status} → Tells before after line Done result → result ≢ ReadFault
+told_no_reading {before} {after} {line} {result} t e = by result e t.kind
   where
     by : (r : Status) → r ≡ ReadFault → (r ≡ Done) ⊎ ((r ≡ WriteFault) ⊎ (r ≡ NoMemory)) → ⊥
     by r e (inl d) = cc

@@ -1,6 +1,7 @@
 -- A plain run over the packets of a text.
-use Rattle.std.specs.Prelude.{◌≡◌, ℕ, Bool, List, length}
+use Rattle.std.specs.Prelude.{◌≡◌, ℕ, List, length}
 use Rattle.rmt_bits.specs.Packet.{Packet}
+use Rattle.rmt_io.specs.Outside.{SinkState}
 use Rattle.rmt_core.specs.Types.{Program}
 use Rattle.rmt_ast.specs.declared.entry.Entry.{Entry}
 use Rattle.rmt_ast.specs.Answers.{answers_of}
@@ -18,10 +19,10 @@ abbrev pub answer_lines_of : Program → List (List Entry) → List Packet → L
 answer_lines_of p lists packets = plain_lines 0 (answers_of p lists packets)
 
 -- a run of a program with its entries that has answered these packets: the lines of its answers were written but for those that wait
-pub record Goes (p : Program) (lists : List (List Entry)) (done : List Packet) (plain : Plain) (number : ℕ) (waiting : List ℕ) (told : Bool) (before now : List ℕ) : Type 0 where
+pub record Goes (p : Program) (lists : List (List Entry)) (done : List Packet) (plain : Plain) (number : ℕ) (waiting : List ℕ) (before now : SinkState) : Type 0 where
   pub stands : Stands p lists done plain
   pub numbered : number ≡ length done
-  pub written : Written (answer_lines_of p lists done) waiting told before now
+  pub written : Written (answer_lines_of p lists done) waiting before now
 
 -- ---- the steps of the command
 

@@ -1,13 +1,14 @@
 -- How a run over a packet text ends.
-use Rattle.std.specs.Prelude.{◌≡◌, ◌≢◌, ◌≤◌, ◌<◌, ℕ, Bool, IsTrue, List, [], Option, Some, None, option_map, length}
+use Rattle.std.specs.Prelude.{◌≡◌, ◌≢◌, ◌≤◌, ◌<◌, ℕ, List, [], Option, Some, None, option_map, length}
 use Rattle.rmt_bits.specs.Packet.{Packet}
+use Rattle.rmt_io.specs.Outside.{SinkState}
 use Rattle.rmt_packets.specs.PacketText.{BadLine, Reading}
 use Rattle.rmt_core.specs.declared.run_end.Bad.{Bad}
 use Rattle.rmt_core.specs.declared.run_end.RunFault.{RunFault}
 use Rattle.rmt_core.specs.declared.run_end.RunFault.TheVariants.{NoMemory, Write, Read, TooLong}
 use Rattle.rmt_core.specs.declared.status.Status.{Status}
 use Rattle.rmt_core.specs.declared.status.Status.TheVariants as status
-use Rattle.rmt_core.specs.Printing.{GainsFront}
+use Rattle.rmt_core.specs.Printing.{GainedFront}
 use Rattle.rmt_core.specs.Runs.{reading_within, told_reading}
 
 -- a bad line, as the definition of packet texts has it
@@ -30,14 +31,14 @@ pub record ReadsAll (limit : ℕ) (text : List ℕ) (done : List Packet) (bad : 
   pub ends : bad ≡ None → length text ≤ limit
 
 -- A run was cut off: a front of these lines was printed, and a fault of the sink comes only where there are lines.
-pub record Cut (lines : List ℕ) (told : Bool) (before now : List ℕ) (fault : RunFault) : Type 0 where
-  pub front : IsTrue told → GainsFront before now lines
+pub record Cut (lines : List ℕ) (before now : SinkState) (fault : RunFault) : Type 0 where
+  pub front : GainedFront before now lines
   pub some : fault ≡ Write → lines ≢ []
 
 -- A run over a text ended early: a front of what the text gives was printed, a fault of the sink comes only where that is something, and TooLong only of a text that goes
 -- on behind its limit and has no bad line within it.
-pub record Breaks (printed : Reading → List ℕ) (limit : ℕ) (text : List ℕ) (told : Bool) (before now : List ℕ) (fault : RunFault) : Type 0 where
-  pub front : IsTrue told → GainsFront before now (printed (told_reading limit text (reading_within limit text).bad))
+pub record Breaks (printed : Reading → List ℕ) (limit : ℕ) (text : List ℕ) (before now : SinkState) (fault : RunFault) : Type 0 where
+  pub front : GainedFront before now (printed (told_reading limit text (reading_within limit text).bad))
   pub some : fault ≡ Write → printed (told_reading limit text (reading_within limit text).bad) ≢ []
   pub long : fault ≡ TooLong → limit < length text
   pub within : fault ≡ TooLong → (reading_within limit text).bad ≡ None

@@ -1,7 +1,8 @@
 -- A run of the chip over the packets of a text.
-use Rattle.std.specs.Prelude.{◌≡◌, ◌≤◌, ℕ, Bool, IsTrue, List, [], length, map, Option, Some, None}
+use Rattle.std.specs.Prelude.{◌≡◌, ◌≤◌, ℕ, IsTrue, List, [], length, map, Option, Some, None}
 use Rattle.rmt_bits.specs.Packet.{Packet}
 use Rattle.rmt_bits.specs.declared.answer.Verdict.{Verdict}
+use Rattle.rmt_io.specs.Outside.{ShelfState, SinkState}
 use Rattle.rmt_core.specs.Types.{Config}
 use Rattle.rmt_chip.specs.declared.chip.Chip.{Chip}
 use Rattle.rmt_chip.specs.Stands.{Stands}
@@ -18,18 +19,18 @@ use Rattle.rmt_core.specs.Waiting.{Written}
 use Rattle.rmt_core.specs.Watching.{emitted, shown, text_of}
 
 -- a run with its chip stands for the inputs so far: of the lines of their cycles some were written, and the rest waits
-pub record Goes (watch : Watch) (c : Config) (inputs : List (Option Packet)) (run : Run) (chip : Chip) (told : Bool) (before now : List ℕ) : Type 0 where
+pub record Goes (watch : Watch) (c : Config) (inputs : List (Option Packet)) (run : Run) (chip : Chip) (before now : SinkState) : Type 0 where
   pub watches : run.watch ≡ watch
   pub stands : Stands c inputs chip
   pub clocked : run.cycles ≡ length inputs
   pub numbered : run.answered ≡ length (emitted c inputs)
-  pub written : Written (shown watch c inputs) run.waiting.lines.items told before now
+  pub written : Written (shown watch c inputs) run.waiting.lines.items before now
 
--- the packets of a text entered, up to its end or its first bad line; what they are is known where the shelf tells its files
-pub record Entered (watch : Watch) (c : Config) (limit : ℕ) (text : List ℕ) (tells : Bool) (bad : Option BadLine) (run : Run) (chip : Chip) (told : Bool) (before now : List ℕ) : Type 0 where
+-- the packets of the open file entered, up to its end or its first bad line; what they are is known where the shelf tells its files
+pub record Entered (watch : Watch) (c : Config) (limit : ℕ) (shelf : ShelfState) (bad : Option BadLine) (run : Run) (chip : Chip) (before now : SinkState) : Type 0 where
   pub done : List Packet
-  pub goes : Goes watch c (map Some done) run chip told before now
-  pub reads : IsTrue tells → ReadsAll limit text done bad
+  pub goes : Goes watch c (map Some done) run chip before now
+  pub reads : IsTrue shelf.tells → ReadsAll limit shelf.rest done bad
   pub few : length done ≤ 1099511627776
 
 -- the line of what left, if anything did

@@ -1,6 +1,7 @@
 //! The last line of a bad image.
 
 ghost use Rattle.std.specs.Prelude.{◌≡◌, IfOk};
+ghost use Rattle.rmt_io.specs.Outside.{OnlyPrinted};
 ghost use Rattle.rmt_core.specs.SimText.{bad_image_line};
 ghost use Rattle.rmt_core.specs.Telling.{Tells};
 
@@ -13,9 +14,9 @@ use std::alloc::{AllocError, Global};
 /// Prints the last line of bytes that are no image, and answers `BadImage`; `NoMemory` where there is no memory, and then
 /// nothing is printed.
 pub fn tell_bad_image<O: Sink>(alloc: Global, fault: ImageFault, out: &mut O) -> Status
-    ensures line { Tells (O.told out.old) (O.bytes out.old) (O.bytes out.new) (O.faults out.old) (O.faults out.new) (bad_image_line fault) Status.BadImage result }
+    ensures line { Tells (O.state out.old) (O.state out.new) (bad_image_line fault) Status.BadImage result }
     ensures no_memory { fault ≡ ImageFault.NoMemory → result ≡ Status.NoMemory }
-    ensures tells { O.told out.new ≡ O.told out.old }
+    ensures only_printed { OnlyPrinted (O.state out.old) (O.state out.new) }
 {
     if let ImageFault::NoMemory = fault {
         return Status::NoMemory;

@@ -3,10 +3,10 @@
 ghost use Rattle.std.specs.Prelude.{◌≡◌, ◌≢◌, ◌≤◌, ◌⊎◌, [], Some, Ok, IsTrue, length, string_bytes};
 ghost use Rattle.rmt_ast.specs.EntryLists.{AreEntries};
 ghost use Rattle.rmt_ast.specs.WellFormed.{IsProgram};
-ghost use Rattle.rmt_io.specs.Faults.{Rose};
+ghost use Rattle.rmt_io.specs.Outside.{KeepsFiles, ReadingFailed, WritingFailed, GainedNone, PrintingFailed, OnlyPrinted};
 ghost use Rattle.rmt_core.specs.Commands.{IsPossible, Compile};
 ghost use Rattle.rmt_core.specs.Compiling.{Compiles, GivesCompile};
-ghost use Rattle.rmt_core.specs.Ends.{Answered, AreSame, Ends};
+ghost use Rattle.rmt_core.specs.Ends.{Answered, Ends, outside};
 ghost use Rattle.rmt_core.specs.Files.{entries_limit, program_limit, updated};
 ghost use Rattle.rmt_core.specs.Given.{Reads};
 ghost use Rattle.rmt_core.specs.Making.{AreOfText};
@@ -33,13 +33,16 @@ pub fn compile<F: Shelf, O: Sink>(
     out: &mut O,
 ) -> Status
     ensures possible { IsPossible (Compile (string_bytes program.now) (string_bytes entries.now) (string_bytes image.now)) result }
-    ensures answered { IsTrue (F.told shelf.old) → Answered (record { files = F.file shelf.old; after = F.file shelf.new; steady = F.steady shelf.old; writing = F.writing_faults shelf.old; writing_after = F.writing_faults shelf.new; tells = O.told out.old; old = O.bytes out.old; new = O.bytes out.new; faults = O.faults out.old; faults_after = O.faults out.new }) (GivesCompile (F.file shelf.old) (string_bytes program.now) (string_bytes entries.now) (string_bytes image.now)) result }
-    ensures quiet { (result ≡ Status.NoMemory) ⊎ (result ≡ Status.ReadFault) ⊎ (result ≡ Status.TooLong) → IsTrue (O.told out.old) → O.bytes out.new ≡ O.bytes out.old }
-    ensures read_fault { result ≡ Status.ReadFault → Rose (F.reading_faults shelf.old) (F.reading_faults shelf.new) }
-    ensures write_fault { result ≡ Status.WriteFault → Rose (F.writing_faults shelf.old) (F.writing_faults shelf.new) ⊎ Rose (O.faults out.old) (O.faults out.new) }
-    ensures steady_write { result ≡ Status.WriteFault → IsTrue (F.steady shelf.old) → Rose (O.faults out.old) (O.faults out.new) }
-    ensures tells { F.told shelf.new ≡ F.told shelf.old }
-    ensures sink_tells { O.told out.new ≡ O.told out.old }
+    ensures answered { IsTrue (F.state shelf.old).tells →
+        let before = outside (F.state shelf.old) (O.state out.old) in
+        let after = outside (F.state shelf.new) (O.state out.new) in
+        Answered before after (GivesCompile before.shelf.files (string_bytes program.now) (string_bytes entries.now) (string_bytes image.now)) result }
+    ensures quiet { (result ≡ Status.NoMemory) ⊎ (result ≡ Status.ReadFault) ⊎ (result ≡ Status.TooLong) → GainedNone (O.state out.old) (O.state out.new) }
+    ensures read_fault { result ≡ Status.ReadFault → ReadingFailed (F.state shelf.old) (F.state shelf.new) }
+    ensures write_fault { result ≡ Status.WriteFault → WritingFailed (F.state shelf.old) (F.state shelf.new) ⊎ PrintingFailed (O.state out.old) (O.state out.new) }
+    ensures steady_write { result ≡ Status.WriteFault → IsTrue (F.state shelf.old).steady → PrintingFailed (O.state out.old) (O.state out.new) }
+    ensures tells { (F.state shelf.new).tells ≡ (F.state shelf.old).tells }
+    ensures only_printed { OnlyPrinted (O.state out.old) (O.state out.new) }
 {
     match read_file(alloc, program, PROGRAM_LIMIT, shelf) {
         Ok(text) => compile_text(alloc, &text, entries, image, shelf, out),
@@ -58,13 +61,16 @@ fn compile_text<F: Shelf, O: Sink>(
 ) -> Status
     requires { length text.now.items ≤ program_limit }
     ensures possible { IsPossible (Compile [] (string_bytes entries.now) (string_bytes image.now)) result }
-    ensures answered { IsTrue (F.told shelf.old) → Answered (record { files = F.file shelf.old; after = F.file shelf.new; steady = F.steady shelf.old; writing = F.writing_faults shelf.old; writing_after = F.writing_faults shelf.new; tells = O.told out.old; old = O.bytes out.old; new = O.bytes out.new; faults = O.faults out.old; faults_after = O.faults out.new }) (Reads (F.file shelf.old) (string_bytes entries.now) entries_limit (λ entry_text. Understands (F.file shelf.old) text.now.items entry_text (Compiles (F.file shelf.old) (string_bytes image.now)))) result }
-    ensures quiet { (result ≡ Status.NoMemory) ⊎ (result ≡ Status.ReadFault) ⊎ (result ≡ Status.TooLong) → IsTrue (O.told out.old) → O.bytes out.new ≡ O.bytes out.old }
-    ensures read_fault { result ≡ Status.ReadFault → Rose (F.reading_faults shelf.old) (F.reading_faults shelf.new) }
-    ensures write_fault { result ≡ Status.WriteFault → Rose (F.writing_faults shelf.old) (F.writing_faults shelf.new) ⊎ Rose (O.faults out.old) (O.faults out.new) }
-    ensures steady_write { result ≡ Status.WriteFault → IsTrue (F.steady shelf.old) → Rose (O.faults out.old) (O.faults out.new) }
-    ensures tells { F.told shelf.new ≡ F.told shelf.old }
-    ensures sink_tells { O.told out.new ≡ O.told out.old }
+    ensures answered { IsTrue (F.state shelf.old).tells →
+        let before = outside (F.state shelf.old) (O.state out.old) in
+        let after = outside (F.state shelf.new) (O.state out.new) in
+        Answered before after (Reads before.shelf.files (string_bytes entries.now) entries_limit (λ entry_text. Understands before.shelf.files text.now.items entry_text (Compiles before.shelf.files (string_bytes image.now)))) result }
+    ensures quiet { (result ≡ Status.NoMemory) ⊎ (result ≡ Status.ReadFault) ⊎ (result ≡ Status.TooLong) → GainedNone (O.state out.old) (O.state out.new) }
+    ensures read_fault { result ≡ Status.ReadFault → ReadingFailed (F.state shelf.old) (F.state shelf.new) }
+    ensures write_fault { result ≡ Status.WriteFault → WritingFailed (F.state shelf.old) (F.state shelf.new) ⊎ PrintingFailed (O.state out.old) (O.state out.new) }
+    ensures steady_write { result ≡ Status.WriteFault → IsTrue (F.state shelf.old).steady → PrintingFailed (O.state out.old) (O.state out.new) }
+    ensures tells { (F.state shelf.new).tells ≡ (F.state shelf.old).tells }
+    ensures only_printed { OnlyPrinted (O.state out.old) (O.state out.new) }
 {
     match read_file(alloc, entries, ENTRIES_LIMIT, shelf) {
         Ok(entry_text) => compile_texts(alloc, text, &entry_text, image, shelf, out),
@@ -86,12 +92,15 @@ fn compile_texts<F: Shelf, O: Sink>(
     ensures possible { IsPossible (Compile [] [] (string_bytes image.now)) result }
     ensures no_reading { result ≢ Status.ReadFault }
     ensures not_long { result ≢ Status.TooLong }
-    ensures answered { IsTrue (F.told shelf.old) → Answered (record { files = F.file shelf.old; after = F.file shelf.new; steady = F.steady shelf.old; writing = F.writing_faults shelf.old; writing_after = F.writing_faults shelf.new; tells = O.told out.old; old = O.bytes out.old; new = O.bytes out.new; faults = O.faults out.old; faults_after = O.faults out.new }) (Understands (F.file shelf.old) text.now.items entry_text.now.items (Compiles (F.file shelf.old) (string_bytes image.now))) result }
-    ensures quiet { result ≡ Status.NoMemory → IsTrue (O.told out.old) → O.bytes out.new ≡ O.bytes out.old }
-    ensures write_fault { result ≡ Status.WriteFault → Rose (F.writing_faults shelf.old) (F.writing_faults shelf.new) ⊎ Rose (O.faults out.old) (O.faults out.new) }
-    ensures steady_write { result ≡ Status.WriteFault → IsTrue (F.steady shelf.old) → Rose (O.faults out.old) (O.faults out.new) }
-    ensures tells { F.told shelf.new ≡ F.told shelf.old }
-    ensures sink_tells { O.told out.new ≡ O.told out.old }
+    ensures answered { IsTrue (F.state shelf.old).tells →
+        let before = outside (F.state shelf.old) (O.state out.old) in
+        let after = outside (F.state shelf.new) (O.state out.new) in
+        Answered before after (Understands before.shelf.files text.now.items entry_text.now.items (Compiles before.shelf.files (string_bytes image.now))) result }
+    ensures quiet { result ≡ Status.NoMemory → GainedNone (O.state out.old) (O.state out.new) }
+    ensures write_fault { result ≡ Status.WriteFault → WritingFailed (F.state shelf.old) (F.state shelf.new) ⊎ PrintingFailed (O.state out.old) (O.state out.new) }
+    ensures steady_write { result ≡ Status.WriteFault → IsTrue (F.state shelf.old).steady → PrintingFailed (O.state out.old) (O.state out.new) }
+    ensures tells { (F.state shelf.new).tells ≡ (F.state shelf.old).tells }
+    ensures only_printed { OnlyPrinted (O.state out.old) (O.state out.new) }
 {
     one_meaning();
     match understand(alloc, text.as_slice(), entry_text.as_slice()) {
@@ -114,12 +123,15 @@ fn compile_meant<F: Shelf, O: Sink>(
     ensures possible { IsPossible (Compile [] [] (string_bytes image.now)) result }
     ensures no_reading { result ≢ Status.ReadFault }
     ensures not_long { result ≢ Status.TooLong }
-    ensures answered { IsTrue (F.told shelf.old) → Answered (record { files = F.file shelf.old; after = F.file shelf.new; steady = F.steady shelf.old; writing = F.writing_faults shelf.old; writing_after = F.writing_faults shelf.new; tells = O.told out.old; old = O.bytes out.old; new = O.bytes out.new; faults = O.faults out.old; faults_after = O.faults out.new }) (Compiles (F.file shelf.old) (string_bytes image.now) meant.now.program meant.now.entries) result }
-    ensures quiet { result ≡ Status.NoMemory → IsTrue (O.told out.old) → O.bytes out.new ≡ O.bytes out.old }
-    ensures write_fault { result ≡ Status.WriteFault → Rose (F.writing_faults shelf.old) (F.writing_faults shelf.new) ⊎ Rose (O.faults out.old) (O.faults out.new) }
-    ensures steady_write { result ≡ Status.WriteFault → IsTrue (F.steady shelf.old) → Rose (O.faults out.old) (O.faults out.new) }
-    ensures tells { F.told shelf.new ≡ F.told shelf.old }
-    ensures sink_tells { O.told out.new ≡ O.told out.old }
+    ensures answered { IsTrue (F.state shelf.old).tells →
+        let before = outside (F.state shelf.old) (O.state out.old) in
+        let after = outside (F.state shelf.new) (O.state out.new) in
+        Answered before after (Compiles before.shelf.files (string_bytes image.now) meant.now.program meant.now.entries) result }
+    ensures quiet { result ≡ Status.NoMemory → GainedNone (O.state out.old) (O.state out.new) }
+    ensures write_fault { result ≡ Status.WriteFault → WritingFailed (F.state shelf.old) (F.state shelf.new) ⊎ PrintingFailed (O.state out.old) (O.state out.new) }
+    ensures steady_write { result ≡ Status.WriteFault → IsTrue (F.state shelf.old).steady → PrintingFailed (O.state out.old) (O.state out.new) }
+    ensures tells { (F.state shelf.new).tells ≡ (F.state shelf.old).tells }
+    ensures only_printed { OnlyPrinted (O.state out.old) (O.state out.new) }
 {
     match make(alloc, &meant.program, &meant.entries) {
         Ok(made) => deliver(alloc, &made, image, shelf, out),
@@ -138,13 +150,16 @@ fn deliver<F: Shelf, O: Sink>(
 ) -> Status
     requires { made.now.lines ≢ [] }
     ensures kind { (result ≡ Status.Done) ⊎ (result ≡ Status.WriteFault) ⊎ (result ≡ Status.NoMemory) }
-    ensures ends { result ≢ Status.NoMemory → IsTrue (F.told shelf.old) → Ends (record { files = F.file shelf.old; after = F.file shelf.new; steady = F.steady shelf.old; writing = F.writing_faults shelf.old; writing_after = F.writing_faults shelf.new; tells = O.told out.old; old = O.bytes out.old; new = O.bytes out.new; faults = O.faults out.old; faults_after = O.faults out.new }) (record { status = Status.Done; text = made.now.lines; files = updated (F.file shelf.old) (string_bytes name.now) made.now.image.items; writes = Some (string_bytes name.now) }) result }
-    ensures files { result ≡ Status.NoMemory → IsTrue (F.told shelf.old) → AreSame (F.file shelf.new) (F.file shelf.old) }
-    ensures quiet { result ≡ Status.NoMemory → IsTrue (O.told out.old) → O.bytes out.new ≡ O.bytes out.old }
-    ensures write_fault { result ≡ Status.WriteFault → Rose (F.writing_faults shelf.old) (F.writing_faults shelf.new) ⊎ Rose (O.faults out.old) (O.faults out.new) }
-    ensures steady_write { result ≡ Status.WriteFault → IsTrue (F.steady shelf.old) → Rose (O.faults out.old) (O.faults out.new) }
-    ensures tells { F.told shelf.new ≡ F.told shelf.old }
-    ensures sink_tells { O.told out.new ≡ O.told out.old }
+    ensures ends { result ≢ Status.NoMemory → IsTrue (F.state shelf.old).tells →
+        let before = outside (F.state shelf.old) (O.state out.old) in
+        let after = outside (F.state shelf.new) (O.state out.new) in
+        Ends before after (record { status = Status.Done; text = made.now.lines; files = updated before.shelf.files (string_bytes name.now) made.now.image.items; writes = Some (string_bytes name.now) }) result }
+    ensures files { result ≡ Status.NoMemory → KeepsFiles (F.state shelf.old) (F.state shelf.new) }
+    ensures quiet { result ≡ Status.NoMemory → GainedNone (O.state out.old) (O.state out.new) }
+    ensures write_fault { result ≡ Status.WriteFault → WritingFailed (F.state shelf.old) (F.state shelf.new) ⊎ PrintingFailed (O.state out.old) (O.state out.new) }
+    ensures steady_write { result ≡ Status.WriteFault → IsTrue (F.state shelf.old).steady → PrintingFailed (O.state out.old) (O.state out.new) }
+    ensures tells { (F.state shelf.new).tells ≡ (F.state shelf.old).tells }
+    ensures only_printed { OnlyPrinted (O.state out.old) (O.state out.new) }
 {
     match shelf.write(alloc, name, &made.image) {
         Ok(()) => end_with(out, made.lines.as_slice(), Status::Done),

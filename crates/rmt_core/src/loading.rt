@@ -1,9 +1,8 @@
 //! Reading the files of a command.
 
-ghost use Rattle.std.specs.Prelude.{◌≡◌, ℕ, List, ◌≤◌, Some, None, Err, length, IsTrue, IfOk, IfErr, OnOk, string_bytes};
-ghost use Rattle.rmt_io.specs.Faults.{Rose};
-ghost use Rattle.rmt_core.specs.Files.{Holds, found};
-ghost use Rattle.rmt_core.specs.Loading.{NotOpened, NotRead};
+ghost use Rattle.std.specs.Prelude.{◌≡◌, ◌≤◌, Err, length, IfOk, IfErr, OnOk, string_bytes};
+ghost use Rattle.rmt_io.specs.Outside.{HasFile, ReadingFailed, OnlyRead};
+ghost use Rattle.rmt_core.specs.Loading.{IsFound, NotOpened, NotRead};
 
 use crate::status::Status;
 use rmt_io::shelf::{Shelf, ShelfFault};
@@ -25,16 +24,12 @@ pub fn read_file<F: Shelf>(
     limit: u64,
     shelf: &mut F,
 ) -> Result<Vec<u8>, Status>
-    ensures found { IfOk result (λ bytes. IsTrue (F.told shelf.old) → found limit (F.file shelf.old (string_bytes name.now)) ≡ Holds bytes.items) }
+    ensures found { IfOk result (λ bytes. IsFound (F.state shelf.old) (string_bytes name.now) limit bytes.items) }
     ensures short { IfOk result (λ bytes. length bytes.items ≤ limit) }
-    ensures refused { IfErr result (λ status. NotRead (F.told shelf.old) (F.steady shelf.old) (found limit (F.file shelf.old (string_bytes name.now))) status) }
-    ensures fault { result ≡ Err Status.ReadFault → Rose (F.reading_faults shelf.old) (F.reading_faults shelf.new) }
+    ensures refused { IfErr result (λ status. NotRead (F.state shelf.old) (string_bytes name.now) limit status) }
+    ensures fault { result ≡ Err Status.ReadFault → ReadingFailed (F.state shelf.old) (F.state shelf.new) }
     // The shelf is as before, but for its count of faults of reading.
-    ensures files { (other : List ℕ) → F.file shelf.new other ≡ F.file shelf.old other }
-    ensures tells { F.told shelf.new ≡ F.told shelf.old }
-    ensures steady { IsTrue (F.steady shelf.old) → IsTrue (F.steady shelf.new) }
-    ensures reading { F.reading_faults shelf.old ≤ F.reading_faults shelf.new }
-    ensures writing { F.writing_faults shelf.new ≡ F.writing_faults shelf.old }
+    ensures only_read { OnlyRead (F.state shelf.old) (F.state shelf.new) }
 {
     let mut bytes = Vec::new(alloc);
     match shelf.read(alloc, name, limit, &mut bytes) {
@@ -45,15 +40,11 @@ pub fn read_file<F: Shelf>(
 
 /// Opens a file at its first byte, or gives the status of a command that cannot open it.
 pub fn open_file<F: Shelf>(alloc: Global, name: &String, shelf: &mut F) -> Result<(), Status>
-    ensures opened { OnOk result (IsTrue (F.told shelf.old) → F.file shelf.old (string_bytes name.now) ≡ Some (F.rest shelf.new)) }
-    ensures refused { IfErr result (λ status. NotOpened (F.steady shelf.old) (F.file shelf.old (string_bytes name.now)) status) }
-    ensures fault { result ≡ Err Status.ReadFault → Rose (F.reading_faults shelf.old) (F.reading_faults shelf.new) }
+    ensures opened { OnOk result (HasFile (F.state shelf.old) (string_bytes name.now) (F.state shelf.new).rest) }
+    ensures refused { IfErr result (λ status. NotOpened (F.state shelf.old) (string_bytes name.now) status) }
+    ensures fault { result ≡ Err Status.ReadFault → ReadingFailed (F.state shelf.old) (F.state shelf.new) }
     // The shelf is as before, but for its count of faults of reading.
-    ensures files { (other : List ℕ) → F.file shelf.new other ≡ F.file shelf.old other }
-    ensures tells { F.told shelf.new ≡ F.told shelf.old }
-    ensures steady { IsTrue (F.steady shelf.old) → IsTrue (F.steady shelf.new) }
-    ensures reading { F.reading_faults shelf.old ≤ F.reading_faults shelf.new }
-    ensures writing { F.writing_faults shelf.new ≡ F.writing_faults shelf.old }
+    ensures only_read { OnlyRead (F.state shelf.old) (F.state shelf.new) }
 {
     match shelf.open(alloc, name) {
         Ok(()) => Ok(()),

@@ -1,11 +1,11 @@
 //! The command `plain`.
 
-ghost use Rattle.std.specs.Prelude.{◌≡◌, ◌≤◌, ◌⊎◌, ℕ, List, [], IsTrue, length, string_bytes};
+ghost use Rattle.std.specs.Prelude.{◌≡◌, ◌≤◌, [], IsTrue, length, string_bytes};
 ghost use Rattle.rmt_ast.specs.EntryLists.{AreEntries};
 ghost use Rattle.rmt_ast.specs.WellFormed.{IsProgram};
-ghost use Rattle.rmt_io.specs.Faults.{Rose};
+ghost use Rattle.rmt_io.specs.Outside.{ReadingFailed, OnlyRead, PrintingFailed, OnlyPrinted};
 ghost use Rattle.rmt_core.specs.Commands.{IsPossible, Plain as Command};
-ghost use Rattle.rmt_core.specs.Ends.{Answered};
+ghost use Rattle.rmt_core.specs.Ends.{Answered, outside};
 ghost use Rattle.rmt_core.specs.Files.{entries_limit, packets_limit, program_limit};
 ghost use Rattle.rmt_core.specs.PlainRunning.{OfOpen, OfText, OfTexts};
 ghost use Rattle.rmt_core.specs.PlainText.{GivesPlain, plain_text};
@@ -31,11 +31,14 @@ pub fn plain<F: Shelf, O: Sink>(
     out: &mut O,
 ) -> Status
     ensures possible { IsPossible (Command (string_bytes program.now) (string_bytes entries.now) (string_bytes packets.now)) result }
-    ensures answered { IsTrue (F.told shelf.old) → Answered (record { files = F.file shelf.old; after = F.file shelf.new; steady = F.steady shelf.old; writing = F.writing_faults shelf.old; writing_after = F.writing_faults shelf.new; tells = O.told out.old; old = O.bytes out.old; new = O.bytes out.new; faults = O.faults out.old; faults_after = O.faults out.new }) (GivesPlain (F.file shelf.old) (string_bytes program.now) (string_bytes entries.now) (string_bytes packets.now)) result }
-    ensures read_fault { result ≡ Status.ReadFault → Rose (F.reading_faults shelf.old) (F.reading_faults shelf.new) }
-    ensures write_fault { result ≡ Status.WriteFault → Rose (O.faults out.old) (O.faults out.new) }
-    ensures tells { F.told shelf.new ≡ F.told shelf.old }
-    ensures sink_tells { O.told out.new ≡ O.told out.old }
+    ensures answered { IsTrue (F.state shelf.old).tells →
+        let before = outside (F.state shelf.old) (O.state out.old) in
+        let after = outside (F.state shelf.new) (O.state out.new) in
+        Answered before after (GivesPlain before.shelf.files (string_bytes program.now) (string_bytes entries.now) (string_bytes packets.now)) result }
+    ensures read_fault { result ≡ Status.ReadFault → ReadingFailed (F.state shelf.old) (F.state shelf.new) }
+    ensures write_fault { result ≡ Status.WriteFault → PrintingFailed (O.state out.old) (O.state out.new) }
+    ensures only_read { OnlyRead (F.state shelf.old) (F.state shelf.new) }
+    ensures only_printed { OnlyPrinted (O.state out.old) (O.state out.new) }
 {
     match read_file(alloc, program, PROGRAM_LIMIT, shelf) {
         Ok(text) => plain_of_text(alloc, &text, entries, packets, shelf, out),
@@ -54,11 +57,14 @@ fn plain_of_text<F: Shelf, O: Sink>(
 ) -> Status
     requires { length text.now.items ≤ program_limit }
     ensures possible { IsPossible (Command [] (string_bytes entries.now) (string_bytes packets.now)) result }
-    ensures answered { IsTrue (F.told shelf.old) → Answered (record { files = F.file shelf.old; after = F.file shelf.new; steady = F.steady shelf.old; writing = F.writing_faults shelf.old; writing_after = F.writing_faults shelf.new; tells = O.told out.old; old = O.bytes out.old; new = O.bytes out.new; faults = O.faults out.old; faults_after = O.faults out.new }) (OfText (F.file shelf.old) (string_bytes entries.now) (string_bytes packets.now) text.now.items) result }
-    ensures read_fault { result ≡ Status.ReadFault → Rose (F.reading_faults shelf.old) (F.reading_faults shelf.new) }
-    ensures write_fault { result ≡ Status.WriteFault → Rose (O.faults out.old) (O.faults out.new) }
-    ensures tells { F.told shelf.new ≡ F.told shelf.old }
-    ensures sink_tells { O.told out.new ≡ O.told out.old }
+    ensures answered { IsTrue (F.state shelf.old).tells →
+        let before = outside (F.state shelf.old) (O.state out.old) in
+        let after = outside (F.state shelf.new) (O.state out.new) in
+        Answered before after (OfText before.shelf.files (string_bytes entries.now) (string_bytes packets.now) text.now.items) result }
+    ensures read_fault { result ≡ Status.ReadFault → ReadingFailed (F.state shelf.old) (F.state shelf.new) }
+    ensures write_fault { result ≡ Status.WriteFault → PrintingFailed (O.state out.old) (O.state out.new) }
+    ensures only_read { OnlyRead (F.state shelf.old) (F.state shelf.new) }
+    ensures only_printed { OnlyPrinted (O.state out.old) (O.state out.new) }
 {
     match read_file(alloc, entries, ENTRIES_LIMIT, shelf) {
         Ok(entry_text) => plain_of_texts(alloc, text, &entry_text, packets, shelf, out),
@@ -78,11 +84,14 @@ fn plain_of_texts<F: Shelf, O: Sink>(
     requires text { length text.now.items ≤ program_limit }
     requires entries { length entry_text.now.items ≤ entries_limit }
     ensures possible { IsPossible (Command [] [] (string_bytes packets.now)) result }
-    ensures answered { IsTrue (F.told shelf.old) → Answered (record { files = F.file shelf.old; after = F.file shelf.new; steady = F.steady shelf.old; writing = F.writing_faults shelf.old; writing_after = F.writing_faults shelf.new; tells = O.told out.old; old = O.bytes out.old; new = O.bytes out.new; faults = O.faults out.old; faults_after = O.faults out.new }) (OfTexts (F.file shelf.old) (string_bytes packets.now) text.now.items entry_text.now.items) result }
-    ensures read_fault { result ≡ Status.ReadFault → Rose (F.reading_faults shelf.old) (F.reading_faults shelf.new) }
-    ensures write_fault { result ≡ Status.WriteFault → Rose (O.faults out.old) (O.faults out.new) }
-    ensures tells { F.told shelf.new ≡ F.told shelf.old }
-    ensures sink_tells { O.told out.new ≡ O.told out.old }
+    ensures answered { IsTrue (F.state shelf.old).tells →
+        let before = outside (F.state shelf.old) (O.state out.old) in
+        let after = outside (F.state shelf.new) (O.state out.new) in
+        Answered before after (OfTexts before.shelf.files (string_bytes packets.now) text.now.items entry_text.now.items) result }
+    ensures read_fault { result ≡ Status.ReadFault → ReadingFailed (F.state shelf.old) (F.state shelf.new) }
+    ensures write_fault { result ≡ Status.WriteFault → PrintingFailed (O.state out.old) (O.state out.new) }
+    ensures only_read { OnlyRead (F.state shelf.old) (F.state shelf.new) }
+    ensures only_printed { OnlyPrinted (O.state out.old) (O.state out.new) }
 {
     match open_file(alloc, packets, shelf) {
         Ok(()) => plain_of_open(alloc, text, entry_text, shelf, out),
@@ -101,11 +110,14 @@ fn plain_of_open<F: Shelf, O: Sink>(
     requires text { length text.now.items ≤ program_limit }
     requires entries { length entry_text.now.items ≤ entries_limit }
     ensures possible { IsPossible (Command [] [] []) result }
-    ensures answered { IsTrue (F.told shelf.old) → Answered (record { files = F.file shelf.old; after = F.file shelf.new; steady = F.steady shelf.old; writing = F.writing_faults shelf.old; writing_after = F.writing_faults shelf.new; tells = O.told out.old; old = O.bytes out.old; new = O.bytes out.new; faults = O.faults out.old; faults_after = O.faults out.new }) (OfOpen (F.file shelf.old) text.now.items entry_text.now.items (F.rest shelf.old)) result }
-    ensures read_fault { result ≡ Status.ReadFault → Rose (F.reading_faults shelf.old) (F.reading_faults shelf.new) }
-    ensures write_fault { result ≡ Status.WriteFault → Rose (O.faults out.old) (O.faults out.new) }
-    ensures tells { F.told shelf.new ≡ F.told shelf.old }
-    ensures sink_tells { O.told out.new ≡ O.told out.old }
+    ensures answered { IsTrue (F.state shelf.old).tells →
+        let before = outside (F.state shelf.old) (O.state out.old) in
+        let after = outside (F.state shelf.new) (O.state out.new) in
+        Answered before after (OfOpen before.shelf.files text.now.items entry_text.now.items before.shelf.rest) result }
+    ensures read_fault { result ≡ Status.ReadFault → ReadingFailed (F.state shelf.old) (F.state shelf.new) }
+    ensures write_fault { result ≡ Status.WriteFault → PrintingFailed (O.state out.old) (O.state out.new) }
+    ensures only_read { OnlyRead (F.state shelf.old) (F.state shelf.new) }
+    ensures only_printed { OnlyPrinted (O.state out.old) (O.state out.new) }
 {
     one_meaning();
     match understand(alloc, text.as_slice(), entry_text.as_slice()) {
@@ -124,11 +136,14 @@ fn plain_of_meant<F: Shelf, O: Sink>(
     requires program { IsProgram meant.program }
     requires entries { AreEntries meant.program meant.entries }
     ensures possible { IsPossible (Command [] [] []) result }
-    ensures answered { IsTrue (F.told shelf.old) → Answered (record { files = F.file shelf.old; after = F.file shelf.new; steady = F.steady shelf.old; writing = F.writing_faults shelf.old; writing_after = F.writing_faults shelf.new; tells = O.told out.old; old = O.bytes out.old; new = O.bytes out.new; faults = O.faults out.old; faults_after = O.faults out.new }) (Runs (F.file shelf.old) (plain_text meant.program meant.entries) packets_limit (F.rest shelf.old)) result }
-    ensures read_fault { result ≡ Status.ReadFault → Rose (F.reading_faults shelf.old) (F.reading_faults shelf.new) }
-    ensures write_fault { result ≡ Status.WriteFault → Rose (O.faults out.old) (O.faults out.new) }
-    ensures tells { F.told shelf.new ≡ F.told shelf.old }
-    ensures sink_tells { O.told out.new ≡ O.told out.old }
+    ensures answered { IsTrue (F.state shelf.old).tells →
+        let before = outside (F.state shelf.old) (O.state out.old) in
+        let after = outside (F.state shelf.new) (O.state out.new) in
+        Answered before after (Runs before.shelf.files (plain_text meant.program meant.entries) packets_limit before.shelf.rest) result }
+    ensures read_fault { result ≡ Status.ReadFault → ReadingFailed (F.state shelf.old) (F.state shelf.new) }
+    ensures write_fault { result ≡ Status.WriteFault → PrintingFailed (O.state out.old) (O.state out.new) }
+    ensures only_read { OnlyRead (F.state shelf.old) (F.state shelf.new) }
+    ensures only_printed { OnlyPrinted (O.state out.old) (O.state out.new) }
 {
     let Meant { program, entries } = meant;
     match Plain::new(alloc, program, entries) {

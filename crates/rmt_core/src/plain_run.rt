@@ -1,16 +1,16 @@
 //! Running a program table by table over the packets of a text.
 
-ghost use Rattle.std.specs.Prelude.{◌≡◌, ◌≢◌, ◌+◌, ◌<◌, ◌≤◌, ◌⊎◌, ◌∷◌, ◌++◌, ℕ, Bool, List, [], length, IsTrue, IfOk, IfErr, IsErrOf, OnOk};
+ghost use Rattle.std.specs.Prelude.{◌≡◌, ◌≢◌, ◌+◌, ◌<◌, ◌≤◌, ◌⊎◌, ◌∷◌, ◌++◌, List, [], length, IsTrue, IfOk, IfErr, IsErrOf, OnOk};
 ghost use Rattle.rmt_bits.specs.Packet.{Packet};
 ghost use Rattle.rmt_ast.specs.declared.program.Program.{Program};
 ghost use Rattle.rmt_ast.specs.declared.entry.Entry.{Entry};
-ghost use Rattle.rmt_io.specs.Faults.{Rose};
 ghost use Rattle.rmt_plain.specs.Stands.{Stands};
+ghost use Rattle.rmt_io.specs.Outside.{SinkState, ReadingFailed, OnlyRead, Gained, PrintingFailed, OnlyPrinted};
 ghost use Rattle.rmt_core.specs.Commands.{IsRunStatus};
-ghost use Rattle.rmt_core.specs.Ends.{Answered};
+ghost use Rattle.rmt_core.specs.Ends.{Answered, outside};
 ghost use Rattle.rmt_core.specs.PlainRunning.{Goes, answer_lines_of};
 ghost use Rattle.rmt_core.specs.PlainText.{plain_end, plain_text};
-ghost use Rattle.rmt_core.specs.Printing.{GainsFront};
+ghost use Rattle.rmt_core.specs.Printing.{GainedFront};
 ghost use Rattle.rmt_core.specs.RunEnd.{Breaks, Cut, ReadsAll, bad_line, status_of_end};
 ghost use Rattle.rmt_core.specs.Runs.{Runs};
 
@@ -37,9 +37,9 @@ fn add_answer(
     requires port { port < 512 }
     requires some { 1 ≤ length frame.now }
     requires short { length frame.now ≤ 9216 }
-    ensures ok { OnOk result ((p : Program) (lists : List (List Entry)) (done : List Packet) (told : Bool) (before now : List ℕ) →
-        Goes p lists done plain.old number waiting.old.lines.items told before now →
-        Goes p lists (done ++ record { port = port; frame = frame.now } ∷ []) plain.new (number + 1) waiting.new.lines.items told before now) }
+    ensures ok { OnOk result ((p : Program) (lists : List (List Entry)) (done : List Packet) (before now : SinkState) →
+        Goes p lists done plain.old number waiting.old.lines.items before now →
+        Goes p lists (done ++ record { port = port; frame = frame.now } ∷ []) plain.new (number + 1) waiting.new.lines.items before now) }
 {
     let Ok(answer) = plain.packet(alloc, port, frame) else {
         return Err(AllocError);
@@ -63,16 +63,15 @@ fn answer_packet<O: Sink>(
     requires port { port < 512 }
     requires some { 1 ≤ length frame.now }
     requires short { length frame.now ≤ 9216 }
-    ensures ok { OnOk result ((p : Program) (lists : List (List Entry)) (done : List Packet) (before : List ℕ) →
-        Goes p lists done plain.old number waiting.old.lines.items (O.told out.old) before (O.bytes out.old) →
-        Goes p lists (done ++ record { port = port; frame = frame.now } ∷ []) plain.new (number + 1) waiting.new.lines.items (O.told out.old) before (O.bytes out.new)) }
-    ensures cut { IfErr result (λ fault. (p : Program) (lists : List (List Entry)) (done : List Packet) (before : List ℕ) →
-        Goes p lists done plain.old number waiting.old.lines.items (O.told out.old) before (O.bytes out.old) →
-        Cut (answer_lines_of p lists (done ++ record { port = port; frame = frame.now } ∷ [])) (O.told out.old) before (O.bytes out.new) fault) }
-    ensures failed { IsErrOf result RunFault.Write → Rose (O.faults out.old) (O.faults out.new) }
+    ensures ok { OnOk result ((p : Program) (lists : List (List Entry)) (done : List Packet) (before : SinkState) →
+        Goes p lists done plain.old number waiting.old.lines.items before (O.state out.old) →
+        Goes p lists (done ++ record { port = port; frame = frame.now } ∷ []) plain.new (number + 1) waiting.new.lines.items before (O.state out.new)) }
+    ensures cut { IfErr result (λ fault. (p : Program) (lists : List (List Entry)) (done : List Packet) (before : SinkState) →
+        Goes p lists done plain.old number waiting.old.lines.items before (O.state out.old) →
+        Cut (answer_lines_of p lists (done ++ record { port = port; frame = frame.now } ∷ [])) before (O.state out.new) fault) }
+    ensures failed { IsErrOf result RunFault.Write → PrintingFailed (O.state out.old) (O.state out.new) }
     ensures either { IfErr result (λ fault. (fault ≡ RunFault.NoMemory) ⊎ (fault ≡ RunFault.Write)) }
-    ensures tells { O.told out.new ≡ O.told out.old }
-    ensures counts { O.faults out.old ≤ O.faults out.new }
+    ensures only_printed { OnlyPrinted (O.state out.old) (O.state out.new) }
 {
     let Ok(()) = add_answer(alloc, plain, number, port, frame, waiting) else {
         return Err(RunFault::NoMemory);
@@ -94,20 +93,16 @@ fn answer_all<F: Shelf, O: Sink>(
 ) -> Result<Option<Bad>, RunFault>
     requires limit { limit ≤ 1099511627776 }
     requires empty { waiting.old.lines.items ≡ [] }
-    ensures ok { IfOk result (λ bad. IsTrue (F.told shelf.old) → (p : Program) (lists : List (List Entry)) → Stands p lists [] plain.old →
-        (done : List Packet) × ReadsAll limit (F.rest shelf.old) done (bad_line bad)
-        × Goes p lists done plain.new (length done) waiting.new.lines.items (O.told out.old) (O.bytes out.old) (O.bytes out.new)) }
-    ensures broken { IfErr result (λ fault. IsTrue (F.told shelf.old) → (p : Program) (lists : List (List Entry)) → Stands p lists [] plain.old →
-        Breaks (plain_text p lists) limit (F.rest shelf.old) (O.told out.old) (O.bytes out.old) (O.bytes out.new) fault) }
-    ensures write_fault { IsErrOf result RunFault.Write → Rose (O.faults out.old) (O.faults out.new) }
-    ensures read_fault { IsErrOf result RunFault.Read → Rose (F.reading_faults shelf.old) (F.reading_faults shelf.new) }
-    ensures never_fails { IsErrOf result RunFault.Read → IsTrue (F.steady shelf.old) → ⊥ }
-    ensures files { (name : List ℕ) → F.file shelf.new name ≡ F.file shelf.old name }
-    ensures tells { F.told shelf.new ≡ F.told shelf.old }
-    ensures sink_tells { O.told out.new ≡ O.told out.old }
-    ensures counts { O.faults out.old ≤ O.faults out.new }
-    ensures reading { F.reading_faults shelf.old ≤ F.reading_faults shelf.new }
-    ensures writing { F.writing_faults shelf.new ≡ F.writing_faults shelf.old }
+    ensures ok { IfOk result (λ bad. IsTrue (F.state shelf.old).tells → (p : Program) (lists : List (List Entry)) → Stands p lists [] plain.old →
+        (done : List Packet) × ReadsAll limit (F.state shelf.old).rest done (bad_line bad)
+        × Goes p lists done plain.new (length done) waiting.new.lines.items (O.state out.old) (O.state out.new)) }
+    ensures broken { IfErr result (λ fault. IsTrue (F.state shelf.old).tells → (p : Program) (lists : List (List Entry)) → Stands p lists [] plain.old →
+        Breaks (plain_text p lists) limit (F.state shelf.old).rest (O.state out.old) (O.state out.new) fault) }
+    ensures write_fault { IsErrOf result RunFault.Write → PrintingFailed (O.state out.old) (O.state out.new) }
+    ensures read_fault { IsErrOf result RunFault.Read → ReadingFailed (F.state shelf.old) (F.state shelf.new) }
+    ensures never_fails { IsErrOf result RunFault.Read → IsTrue (F.state shelf.old).steady → ⊥ }
+    ensures only_read { OnlyRead (F.state shelf.old) (F.state shelf.new) }
+    ensures only_printed { OnlyPrinted (O.state out.old) (O.state out.new) }
 {
     let Ok(mut reader) = PacketReader::new(alloc, limit) else {
         return Err(RunFault::NoMemory);
@@ -154,18 +149,17 @@ fn finish<O: Sink>(
     out: &mut O,
 ) -> Status
     ensures possible { (result ≡ status_of_end bad) ⊎ (result ≡ Status.WriteFault) ⊎ (result ≡ Status.NoMemory) }
-    ensures printed { result ≡ status_of_end bad → (p : Program) (lists : List (List Entry)) (done : List Packet) (before : List ℕ) →
-        Goes p lists done plain.now (length done) waiting.now.lines.items (O.told out.old) before (O.bytes out.old) → IsTrue (O.told out.old) →
-        O.bytes out.new ≡ before ++ plain_text p lists (record { packets = done; bad = bad_line bad }) }
-    ensures front { (p : Program) (lists : List (List Entry)) (done : List Packet) (before : List ℕ) →
-        Goes p lists done plain.now (length done) waiting.now.lines.items (O.told out.old) before (O.bytes out.old) → IsTrue (O.told out.old) →
-        GainsFront before (O.bytes out.new) (plain_text p lists (record { packets = done; bad = bad_line bad })) }
-    ensures some { result ≡ Status.WriteFault → (p : Program) (lists : List (List Entry)) (done : List Packet) (before : List ℕ) →
-        Goes p lists done plain.now (length done) waiting.now.lines.items (O.told out.old) before (O.bytes out.old) →
+    ensures printed { result ≡ status_of_end bad → (p : Program) (lists : List (List Entry)) (done : List Packet) (before : SinkState) →
+        Goes p lists done plain.now (length done) waiting.now.lines.items before (O.state out.old) →
+        Gained before (O.state out.new) (plain_text p lists (record { packets = done; bad = bad_line bad })) }
+    ensures front { (p : Program) (lists : List (List Entry)) (done : List Packet) (before : SinkState) →
+        Goes p lists done plain.now (length done) waiting.now.lines.items before (O.state out.old) →
+        GainedFront before (O.state out.new) (plain_text p lists (record { packets = done; bad = bad_line bad })) }
+    ensures some { result ≡ Status.WriteFault → (p : Program) (lists : List (List Entry)) (done : List Packet) (before : SinkState) →
+        Goes p lists done plain.now (length done) waiting.now.lines.items before (O.state out.old) →
         plain_text p lists (record { packets = done; bad = bad_line bad }) ≢ [] }
-    ensures failed { result ≡ Status.WriteFault → Rose (O.faults out.old) (O.faults out.new) }
-    ensures tells { O.told out.new ≡ O.told out.old }
-    ensures counts { O.faults out.old ≤ O.faults out.new }
+    ensures failed { result ≡ Status.WriteFault → PrintingFailed (O.state out.old) (O.state out.new) }
+    ensures only_printed { OnlyPrinted (O.state out.old) (O.state out.new) }
 {
     match last_text(alloc, plain, bad) {
         Ok(last) => waiting.end(last.as_slice(), end_status(bad), out),
@@ -184,17 +178,15 @@ pub fn run_plain<F: Shelf, O: Sink>(
     requires limit { limit ≤ 1099511627776 }
     requires stands { (p : Program) × (lists : List (List Entry)) × Stands p lists [] plain.old }
     ensures possible { IsRunStatus result }
-    ensures answered { IsTrue (F.told shelf.old) → (p : Program) (lists : List (List Entry)) → Stands p lists [] plain.old →
-        Answered (record { files = F.file shelf.old; after = F.file shelf.new; steady = F.steady shelf.old; writing = F.writing_faults shelf.old; writing_after = F.writing_faults shelf.new; tells = O.told out.old; old = O.bytes out.old; new = O.bytes out.new; faults = O.faults out.old; faults_after = O.faults out.new }) (Runs (F.file shelf.old) (plain_text p lists) limit (F.rest shelf.old)) result }
-    ensures read_fault { result ≡ Status.ReadFault → Rose (F.reading_faults shelf.old) (F.reading_faults shelf.new) }
-    ensures never_fails { result ≡ Status.ReadFault → IsTrue (F.steady shelf.old) → ⊥ }
-    ensures write_fault { result ≡ Status.WriteFault → Rose (O.faults out.old) (O.faults out.new) }
-    ensures files { (name : List ℕ) → F.file shelf.new name ≡ F.file shelf.old name }
-    ensures tells { F.told shelf.new ≡ F.told shelf.old }
-    ensures sink_tells { O.told out.new ≡ O.told out.old }
-    ensures counts { O.faults out.old ≤ O.faults out.new }
-    ensures reading { F.reading_faults shelf.old ≤ F.reading_faults shelf.new }
-    ensures writing { F.writing_faults shelf.new ≡ F.writing_faults shelf.old }
+    ensures answered { IsTrue (F.state shelf.old).tells → (p : Program) (lists : List (List Entry)) → Stands p lists [] plain.old →
+        let before = outside (F.state shelf.old) (O.state out.old) in
+        let after = outside (F.state shelf.new) (O.state out.new) in
+        Answered before after (Runs before.shelf.files (plain_text p lists) limit before.shelf.rest) result }
+    ensures read_fault { result ≡ Status.ReadFault → ReadingFailed (F.state shelf.old) (F.state shelf.new) }
+    ensures never_fails { result ≡ Status.ReadFault → IsTrue (F.state shelf.old).steady → ⊥ }
+    ensures write_fault { result ≡ Status.WriteFault → PrintingFailed (O.state out.old) (O.state out.new) }
+    ensures only_read { OnlyRead (F.state shelf.old) (F.state shelf.new) }
+    ensures only_printed { OnlyPrinted (O.state out.old) (O.state out.new) }
 {
     let mut waiting = Waiting::new(alloc);
     match answer_all(alloc, shelf, limit, plain, &mut waiting, out) {

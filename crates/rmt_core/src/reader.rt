@@ -2,8 +2,8 @@
 
 ghost use Rattle.std.specs.Prelude.{◌≡◌, ◌+◌, ◌<◌, ◌≤◌, ℕ, false, List, [], None, length, IfOk, IsTrue, IsErrOf, OnErr};
 ghost use Rattle.rmt_bits.specs.Packet.{Packet};
-ghost use Rattle.rmt_io.specs.Faults.{Rose};
 ghost use Rattle.rmt_packets.specs.PacketText.{packets_of};
+ghost use Rattle.rmt_io.specs.Outside.{ReadingFailed, OnlyRead};
 ghost use Rattle.rmt_core.specs.Pieces.{Comes, GoesTooFar};
 ghost use Rattle.rmt_core.specs.ReadsOn.{AtLine, HasLines, ReadsOn};
 
@@ -86,9 +86,9 @@ impl PacketReader {
     /// what a further call answers is of no use.
     pub fn next<F: Shelf>(&mut self, shelf: &mut F, frame: &mut Vec<u8>) -> Result<Step, StepFault>
         // What comes next, over a shelf that tells its files; a text that goes on behind the limit ends with `TooLong`.
-        ensures comes { IfOk result (λ step. IsTrue (F.told shelf.old) → (limit : ℕ) (text : List ℕ) (done : List Packet) → ReadsOn limit text done self.old (F.rest shelf.old)
-            → Comes (λ packets. ReadsOn limit text packets self.new (F.rest shelf.new)) limit text done frame.new.items step) }
-        ensures too_long { IsErrOf result StepFault.TooLong → IsTrue (F.told shelf.old) → (limit : ℕ) (text : List ℕ) (done : List Packet) → ReadsOn limit text done self.old (F.rest shelf.old)
+        ensures comes { IfOk result (λ step. IsTrue (F.state shelf.old).tells → (limit : ℕ) (text : List ℕ) (done : List Packet) → ReadsOn limit text done self.old (F.state shelf.old).rest
+            → Comes (λ packets. ReadsOn limit text packets self.new (F.state shelf.new).rest) limit text done frame.new.items step) }
+        ensures too_long { IsErrOf result StepFault.TooLong → IsTrue (F.state shelf.old).tells → (limit : ℕ) (text : List ℕ) (done : List Packet) → ReadsOn limit text done self.old (F.state shelf.old).rest
             → GoesTooFar limit text done }
         // Which packets may come, and how many.
         ensures port { IfOk result (λ step. (port : ℕ) → step ≡ Step.Packet port → port < 512) }
@@ -96,14 +96,10 @@ impl PacketReader {
         ensures given { IfOk result (λ step. (port : ℕ) → step ≡ Step.Packet port → self.new.given ≡ self.old.given + 1) }
         ensures few { self.new.given ≤ 1099511627776 }
         // A fault of the shelf is counted; a steady one has none.
-        ensures failed { IsErrOf result StepFault.Read → Rose (F.reading_faults shelf.old) (F.reading_faults shelf.new) }
-        ensures never_fails { IsErrOf result StepFault.Read → IsTrue (F.steady shelf.old) → ⊥ }
+        ensures failed { IsErrOf result StepFault.Read → ReadingFailed (F.state shelf.old) (F.state shelf.new) }
+        ensures never_fails { IsErrOf result StepFault.Read → IsTrue (F.state shelf.old).steady → ⊥ }
         // What stays the same.
-        ensures files { (name : List ℕ) → F.file shelf.new name ≡ F.file shelf.old name }
-        ensures tells { F.told shelf.new ≡ F.told shelf.old }
-        ensures stays_steady { IsTrue (F.steady shelf.old) → IsTrue (F.steady shelf.new) }
-        ensures reading { F.reading_faults shelf.old ≤ F.reading_faults shelf.new }
-        ensures writing { F.writing_faults shelf.new ≡ F.writing_faults shelf.old }
+        ensures only_read { OnlyRead (F.state shelf.old) (F.state shelf.new) }
     {
         if self.find(shelf)? {
             self.packet(frame)
@@ -114,23 +110,19 @@ impl PacketReader {
 
     /// Goes on to the next packet line, and answers whether there is one.
     fn find<F: Shelf>(&mut self, shelf: &mut F) -> Result<bool, StepFault>
-        ensures line { IfOk result (λ is_line. IsTrue is_line → IsTrue (F.told shelf.old) → (limit : ℕ) (text : List ℕ) (done : List Packet) → ReadsOn limit text done self.old (F.rest shelf.old)
-            → AtLine limit text done self.new (F.rest shelf.new)) }
-        ensures end { IfOk result (λ is_line. is_line ≡ false → IsTrue (F.told shelf.old) → (limit : ℕ) (text : List ℕ) (done : List Packet) → ReadsOn limit text done self.old (F.rest shelf.old)
+        ensures line { IfOk result (λ is_line. IsTrue is_line → IsTrue (F.state shelf.old).tells → (limit : ℕ) (text : List ℕ) (done : List Packet) → ReadsOn limit text done self.old (F.state shelf.old).rest
+            → AtLine limit text done self.new (F.state shelf.new).rest) }
+        ensures end { IfOk result (λ is_line. is_line ≡ false → IsTrue (F.state shelf.old).tells → (limit : ℕ) (text : List ℕ) (done : List Packet) → ReadsOn limit text done self.old (F.state shelf.old).rest
             → (length text ≤ limit) × (packets_of text ≡ record { packets = done; bad = None })) }
-        ensures too_long { IsErrOf result StepFault.TooLong → IsTrue (F.told shelf.old) → (limit : ℕ) (text : List ℕ) (done : List Packet) → ReadsOn limit text done self.old (F.rest shelf.old)
+        ensures too_long { IsErrOf result StepFault.TooLong → IsTrue (F.state shelf.old).tells → (limit : ℕ) (text : List ℕ) (done : List Packet) → ReadsOn limit text done self.old (F.state shelf.old).rest
             → GoesTooFar limit text done }
         ensures ready { IfOk result (λ is_line. IsTrue is_line → IsTrue self.new.lines.is_ready) }
         ensures one_more { IfOk result (λ is_line. IsTrue is_line → HasLines (self.new.given + 1) self.new.is_finished self.new.lines) }
         ensures given { self.new.given ≡ self.old.given }
         ensures few { self.old.given ≤ 1099511627776 }
-        ensures failed { IsErrOf result StepFault.Read → Rose (F.reading_faults shelf.old) (F.reading_faults shelf.new) }
-        ensures never_fails { IsErrOf result StepFault.Read → IsTrue (F.steady shelf.old) → ⊥ }
-        ensures files { (name : List ℕ) → F.file shelf.new name ≡ F.file shelf.old name }
-        ensures tells { F.told shelf.new ≡ F.told shelf.old }
-        ensures stays_steady { IsTrue (F.steady shelf.old) → IsTrue (F.steady shelf.new) }
-        ensures reading { F.reading_faults shelf.old ≤ F.reading_faults shelf.new }
-        ensures writing { F.writing_faults shelf.new ≡ F.writing_faults shelf.old }
+        ensures failed { IsErrOf result StepFault.Read → ReadingFailed (F.state shelf.old) (F.state shelf.new) }
+        ensures never_fails { IsErrOf result StepFault.Read → IsTrue (F.state shelf.old).steady → ⊥ }
+        ensures only_read { OnlyRead (F.state shelf.old) (F.state shelf.new) }
     {
         if self.is_finished {
             return Ok(false);
@@ -166,22 +158,18 @@ impl PacketReader {
     fn fill<F: Shelf>(&mut self, shelf: &mut F) -> Result<bool, StepFault>
         requires empty { self.old.waiting ≡ [] }
         requires going_on { self.old.is_finished ≡ false }
-        ensures reads { IfOk result (λ _. IsTrue (F.told shelf.old) → (limit : ℕ) (text : List ℕ) (done : List Packet) → ReadsOn limit text done self.old (F.rest shelf.old)
-            → ReadsOn limit text done self.new (F.rest shelf.new)) }
+        ensures reads { IfOk result (λ _. IsTrue (F.state shelf.old).tells → (limit : ℕ) (text : List ℕ) (done : List Packet) → ReadsOn limit text done self.old (F.state shelf.old).rest
+            → ReadsOn limit text done self.new (F.state shelf.new).rest) }
         ensures less { IfOk result (λ is_more. IsTrue is_more → self.new.left < self.old.left) }
-        ensures ended { IfOk result (λ is_more. is_more ≡ false → IsTrue (F.told shelf.old) → F.rest shelf.new ≡ []) }
+        ensures ended { IfOk result (λ is_more. is_more ≡ false → IsTrue (F.state shelf.old).tells → (F.state shelf.new).rest ≡ []) }
         ensures empty { IfOk result (λ is_more. is_more ≡ false → self.new.waiting ≡ []) }
-        ensures too_long { IsErrOf result StepFault.TooLong → IsTrue (F.told shelf.old) → (limit : ℕ) (text : List ℕ) (done : List Packet) → ReadsOn limit text done self.old (F.rest shelf.old)
+        ensures too_long { IsErrOf result StepFault.TooLong → IsTrue (F.state shelf.old).tells → (limit : ℕ) (text : List ℕ) (done : List Packet) → ReadsOn limit text done self.old (F.state shelf.old).rest
             → GoesTooFar limit text done }
         ensures going_on { self.new.is_finished ≡ false }
         ensures given { self.new.given ≡ self.old.given }
-        ensures failed { IsErrOf result StepFault.Read → Rose (F.reading_faults shelf.old) (F.reading_faults shelf.new) }
-        ensures never_fails { IsErrOf result StepFault.Read → IsTrue (F.steady shelf.old) → ⊥ }
-        ensures files { (name : List ℕ) → F.file shelf.new name ≡ F.file shelf.old name }
-        ensures tells { F.told shelf.new ≡ F.told shelf.old }
-        ensures stays_steady { IsTrue (F.steady shelf.old) → IsTrue (F.steady shelf.new) }
-        ensures reading { F.reading_faults shelf.old ≤ F.reading_faults shelf.new }
-        ensures writing { F.writing_faults shelf.new ≡ F.writing_faults shelf.old }
+        ensures failed { IsErrOf result StepFault.Read → ReadingFailed (F.state shelf.old) (F.state shelf.new) }
+        ensures never_fails { IsErrOf result StepFault.Read → IsTrue (F.state shelf.old).steady → ⊥ }
+        ensures only_read { OnlyRead (F.state shelf.old) (F.state shelf.new) }
     {
         let most = self.left.min(PIECE as u64).max(1);
         let Ok(count) = self.piece.fill(shelf, most as usize) else {

@@ -1,14 +1,13 @@
 //! The command `report`.
 
-ghost use Rattle.std.specs.Prelude.{◌≡◌, ◌⊎◌, ℕ, List, IfOk, IsTrue, string_bytes};
+ghost use Rattle.std.specs.Prelude.{◌≡◌, ◌⊎◌, IfOk, IsTrue, string_bytes};
 ghost use Rattle.rmt_config.specs.Limits.{IsWithinLimits};
-ghost use Rattle.rmt_io.specs.Faults.{Rose};
+ghost use Rattle.rmt_io.specs.Outside.{ShelfState, ReadingFailed, OnlyRead, PrintingFailed, OnlyPrinted};
 ghost use Rattle.rmt_core.specs.Commands.{IsPossible, Report};
-ghost use Rattle.rmt_core.specs.Ends.{Answered, AreSame, Outside};
+ghost use Rattle.rmt_core.specs.Ends.{Answered, outside};
 ghost use Rattle.rmt_core.specs.Given.{told};
 ghost use Rattle.rmt_core.specs.Reporting.{GivesReport, report_line};
 ghost use Rattle.rmt_core.specs.Simulating.{Spelled};
-ghost use Rattle.rmt_core.specs.Telling.{Tells};
 
 use crate::bad_image::tell_bad_image;
 use crate::loading::{IMAGE_LIMIT, read_file};
@@ -29,11 +28,14 @@ pub fn report<F: Shelf, O: Sink>(
     out: &mut O,
 ) -> Status
     ensures possible { IsPossible (Report (string_bytes image.now)) result }
-    ensures answered { IsTrue (F.told shelf.old) → Answered (record { files = F.file shelf.old; after = F.file shelf.new; steady = F.steady shelf.old; writing = F.writing_faults shelf.old; writing_after = F.writing_faults shelf.new; tells = O.told out.old; old = O.bytes out.old; new = O.bytes out.new; faults = O.faults out.old; faults_after = O.faults out.new }) (GivesReport (F.file shelf.old) (string_bytes image.now)) result }
-    ensures read_fault { result ≡ Status.ReadFault → Rose (F.reading_faults shelf.old) (F.reading_faults shelf.new) }
-    ensures write_fault { result ≡ Status.WriteFault → Rose (O.faults out.old) (O.faults out.new) }
-    ensures tells { F.told shelf.new ≡ F.told shelf.old }
-    ensures sink_tells { O.told out.new ≡ O.told out.old }
+    ensures answered { IsTrue (F.state shelf.old).tells →
+        let before = outside (F.state shelf.old) (O.state out.old) in
+        let after = outside (F.state shelf.new) (O.state out.new) in
+        Answered before after (GivesReport before.shelf.files (string_bytes image.now)) result }
+    ensures read_fault { result ≡ Status.ReadFault → ReadingFailed (F.state shelf.old) (F.state shelf.new) }
+    ensures write_fault { result ≡ Status.WriteFault → PrintingFailed (O.state out.old) (O.state out.new) }
+    ensures only_read { OnlyRead (F.state shelf.old) (F.state shelf.new) }
+    ensures only_printed { OnlyPrinted (O.state out.old) (O.state out.new) }
 {
     match read_file(alloc, image, IMAGE_LIMIT, shelf) {
         Ok(bytes) => report_bytes(alloc, bytes.as_slice(), out),
@@ -44,9 +46,11 @@ pub fn report<F: Shelf, O: Sink>(
 /// Prints the use of the image that bytes are, or how they are none.
 fn report_bytes<O: Sink>(alloc: Global, bytes: &[u8], out: &mut O) -> Status
     ensures possible { (result ≡ Status.Done) ⊎ (result ≡ Status.BadImage) ⊎ (result ≡ Status.WriteFault) ⊎ (result ≡ Status.NoMemory) }
-    ensures answered { (o : Outside) → AreSame o.after o.files → Answered (record o { tells = O.told out.old; old = O.bytes out.old; new = O.bytes out.new; faults = O.faults out.old; faults_after = O.faults out.new }) (Spelled o.files bytes.now (λ c g. g ≡ told o.files Status.Done (report_line c))) result }
-    ensures write_fault { result ≡ Status.WriteFault → Rose (O.faults out.old) (O.faults out.new) }
-    ensures tells { O.told out.new ≡ O.told out.old }
+    ensures answered { (shelf : ShelfState) →
+        Answered (outside shelf (O.state out.old)) (outside shelf (O.state out.new))
+        (Spelled shelf.files bytes.now (λ c g. g ≡ told shelf.files Status.Done (report_line c))) result }
+    ensures write_fault { result ≡ Status.WriteFault → PrintingFailed (O.state out.old) (O.state out.new) }
+    ensures only_printed { OnlyPrinted (O.state out.old) (O.state out.new) }
 {
     match read_image(alloc, bytes) {
         Ok(config) => tell(use_line(alloc, &config), Status::Done, out),

@@ -1,16 +1,16 @@
 //! Running the chip over the packets of a text.
 
-ghost use Rattle.std.specs.Prelude.{◌≡◌, ◌≤◌, ℕ, List, [], IsTrue};
-ghost use Rattle.rmt_io.specs.Faults.{Rose};
+ghost use Rattle.std.specs.Prelude.{◌≡◌, ◌≤◌, [], IsTrue};
 ghost use Rattle.rmt_packets.specs.PacketText.{packets_of};
 ghost use Rattle.rmt_config.specs.declared.config.Config.{Config};
 ghost use Rattle.rmt_config.specs.ChipRun.{inputs_of};
 ghost use Rattle.rmt_chip.specs.Stands.{Stands};
+ghost use Rattle.rmt_io.specs.Outside.{ReadingFailed, OnlyRead, PrintingFailed, OnlyPrinted};
 ghost use Rattle.rmt_core.specs.Commands.{IsRunStatus};
 ghost use Rattle.rmt_core.specs.Runs.{Runs};
 ghost use Rattle.rmt_core.specs.SimText.{printed_of};
 ghost use Rattle.rmt_core.specs.Watching.{text_of};
-ghost use Rattle.rmt_core.specs.Ends.{Answered};
+ghost use Rattle.rmt_core.specs.Ends.{Answered, outside};
 
 mod enter;
 mod finish;
@@ -43,15 +43,16 @@ pub fn run_chip<F: Shelf, O: Sink>(
     requires stands { (c : Config) × Stands c [] chip.old }
     ensures possible { IsRunStatus result }
     // With Done the chip stands for all cycles of the run of the packets that were read.
-    ensures clocked { result ≡ Status.Done → IsTrue (F.told shelf.old) → (c : Config) → Stands c [] chip.old →
-        Stands c (inputs_of c (packets_of (F.rest shelf.old)).packets) chip.new }
-    ensures answered { IsTrue (F.told shelf.old) → (c : Config) → Stands c [] chip.old →
-        Answered (record { files = F.file shelf.old; after = F.file shelf.new; steady = F.steady shelf.old; writing = F.writing_faults shelf.old; writing_after = F.writing_faults shelf.new; tells = O.told out.old; old = O.bytes out.old; new = O.bytes out.new; faults = O.faults out.old; faults_after = O.faults out.new }) (Runs (F.file shelf.old) (printed_of c) limit (F.rest shelf.old)) result }
-    ensures read_fault { result ≡ Status.ReadFault → Rose (F.reading_faults shelf.old) (F.reading_faults shelf.new) }
-    ensures write_fault { result ≡ Status.WriteFault → Rose (O.faults out.old) (O.faults out.new) }
-    ensures files { (name : List ℕ) → F.file shelf.new name ≡ F.file shelf.old name }
-    ensures tells { F.told shelf.new ≡ F.told shelf.old }
-    ensures sink_tells { O.told out.new ≡ O.told out.old }
+    ensures clocked { result ≡ Status.Done → IsTrue (F.state shelf.old).tells → (c : Config) → Stands c [] chip.old →
+        Stands c (inputs_of c (packets_of (F.state shelf.old).rest).packets) chip.new }
+    ensures answered { IsTrue (F.state shelf.old).tells → (c : Config) → Stands c [] chip.old →
+        let before = outside (F.state shelf.old) (O.state out.old) in
+        let after = outside (F.state shelf.new) (O.state out.new) in
+        Answered before after (Runs before.shelf.files (printed_of c) limit before.shelf.rest) result }
+    ensures read_fault { result ≡ Status.ReadFault → ReadingFailed (F.state shelf.old) (F.state shelf.new) }
+    ensures write_fault { result ≡ Status.WriteFault → PrintingFailed (O.state out.old) (O.state out.new) }
+    ensures only_read { OnlyRead (F.state shelf.old) (F.state shelf.new) }
+    ensures only_printed { OnlyPrinted (O.state out.old) (O.state out.new) }
 {
     run_watched(alloc, shelf, limit, chip, Watch::Answers, out)
 }
@@ -68,19 +69,17 @@ pub fn run_watched<F: Shelf, O: Sink>(
     requires limit { limit ≤ 1099511627776 }
     requires stands { (c : Config) × Stands c [] chip.old }
     ensures possible { IsRunStatus result }
-    ensures clocked { result ≡ Status.Done → IsTrue (F.told shelf.old) → (c : Config) → Stands c [] chip.old →
-        Stands c (inputs_of c (packets_of (F.rest shelf.old)).packets) chip.new }
-    ensures answered { IsTrue (F.told shelf.old) → (c : Config) → Stands c [] chip.old →
-        Answered (record { files = F.file shelf.old; after = F.file shelf.new; steady = F.steady shelf.old; writing = F.writing_faults shelf.old; writing_after = F.writing_faults shelf.new; tells = O.told out.old; old = O.bytes out.old; new = O.bytes out.new; faults = O.faults out.old; faults_after = O.faults out.new }) (Runs (F.file shelf.old) (text_of watch c) limit (F.rest shelf.old)) result }
-    ensures read_fault { result ≡ Status.ReadFault → Rose (F.reading_faults shelf.old) (F.reading_faults shelf.new) }
-    ensures never_fails { result ≡ Status.ReadFault → IsTrue (F.steady shelf.old) → ⊥ }
-    ensures write_fault { result ≡ Status.WriteFault → Rose (O.faults out.old) (O.faults out.new) }
-    ensures files { (name : List ℕ) → F.file shelf.new name ≡ F.file shelf.old name }
-    ensures tells { F.told shelf.new ≡ F.told shelf.old }
-    ensures sink_tells { O.told out.new ≡ O.told out.old }
-    ensures counts { O.faults out.old ≤ O.faults out.new }
-    ensures reading { F.reading_faults shelf.old ≤ F.reading_faults shelf.new }
-    ensures writing { F.writing_faults shelf.new ≡ F.writing_faults shelf.old }
+    ensures clocked { result ≡ Status.Done → IsTrue (F.state shelf.old).tells → (c : Config) → Stands c [] chip.old →
+        Stands c (inputs_of c (packets_of (F.state shelf.old).rest).packets) chip.new }
+    ensures answered { IsTrue (F.state shelf.old).tells → (c : Config) → Stands c [] chip.old →
+        let before = outside (F.state shelf.old) (O.state out.old) in
+        let after = outside (F.state shelf.new) (O.state out.new) in
+        Answered before after (Runs before.shelf.files (text_of watch c) limit before.shelf.rest) result }
+    ensures read_fault { result ≡ Status.ReadFault → ReadingFailed (F.state shelf.old) (F.state shelf.new) }
+    ensures never_fails { result ≡ Status.ReadFault → IsTrue (F.state shelf.old).steady → ⊥ }
+    ensures write_fault { result ≡ Status.WriteFault → PrintingFailed (O.state out.old) (O.state out.new) }
+    ensures only_read { OnlyRead (F.state shelf.old) (F.state shelf.new) }
+    ensures only_printed { OnlyPrinted (O.state out.old) (O.state out.new) }
 {
     let Ok(mut run) = start(alloc, watch) else {
         return Status::NoMemory;

@@ -1,16 +1,15 @@
 //! The command `sample`.
 
-ghost use Rattle.std.specs.Prelude.{◌≡◌, ◌≢◌, ◌≤◌, ◌⊎◌, ◌++◌, ℕ, Bool, List, None, length};
+ghost use Rattle.std.specs.Prelude.{◌≡◌, ◌≢◌, ◌≤◌, ℕ, List};
 ghost use Rattle.rmt_ast.specs.EntryLists.{AreEntries};
 ghost use Rattle.rmt_ast.specs.WellFormed.{IsProgram};
 ghost use Rattle.rmt_config.specs.Form.{Formed};
 ghost use Rattle.rmt_config.specs.Limits.{IsWithinLimits};
-ghost use Rattle.rmt_io.specs.Faults.{Rose};
 ghost use Rattle.rmt_sample.specs.Texts.{entries_text, packets_text, program_text};
+ghost use Rattle.rmt_io.specs.Outside.{ShelfState, PrintingFailed, OnlyPrinted};
 ghost use Rattle.rmt_core.specs.Commands.{IsPossible, Sample as SampleOf};
 ghost use Rattle.rmt_core.specs.Compiling.{Builds};
-ghost use Rattle.rmt_core.specs.Ends.{Answered};
-ghost use Rattle.rmt_core.specs.Files.{Files};
+ghost use Rattle.rmt_core.specs.Ends.{Answered, outside};
 ghost use Rattle.rmt_core.specs.Given.{told};
 ghost use Rattle.rmt_core.specs.Making.{AreOfText};
 ghost use Rattle.rmt_core.specs.Sampling.{GivesSample, sample_line};
@@ -42,9 +41,11 @@ pub fn sample<O: Sink>(alloc: Global, number: u32, out: &mut O) -> Status
     requires most { number ≤ 100000 }
     ensures possible { IsPossible (SampleOf number) result }
     ensures no_reading { result ≢ Status.ReadFault }
-    ensures answered { (files : Files) (steady : Bool) (writing : ℕ) → Answered (record { files = files; after = files; steady = steady; writing = writing; writing_after = writing; tells = O.told out.old; old = O.bytes out.old; new = O.bytes out.new; faults = O.faults out.old; faults_after = O.faults out.new }) (GivesSample files number) result }
-    ensures write_fault { result ≡ Status.WriteFault → Rose (O.faults out.old) (O.faults out.new) }
-    ensures sink_tells { O.told out.new ≡ O.told out.old }
+    ensures answered { (shelf : ShelfState) →
+        Answered (outside shelf (O.state out.old)) (outside shelf (O.state out.new))
+        (GivesSample shelf.files number) result }
+    ensures write_fault { result ≡ Status.WriteFault → PrintingFailed (O.state out.old) (O.state out.new) }
+    ensures only_printed { OnlyPrinted (O.state out.old) (O.state out.new) }
 {
     match make_texts(alloc, number) {
         Ok(texts) => sample_texts(alloc, number, &texts, out),
@@ -61,9 +62,11 @@ fn sample_texts<O: Sink>(alloc: Global, number: u32, texts: &Sample, out: &mut O
     requires packets { texts.now.packets ≡ packets_text number }
     ensures possible { IsPossible (SampleOf number) result }
     ensures no_reading { result ≢ Status.ReadFault }
-    ensures answered { (files : Files) (steady : Bool) (writing : ℕ) → Answered (record { files = files; after = files; steady = steady; writing = writing; writing_after = writing; tells = O.told out.old; old = O.bytes out.old; new = O.bytes out.new; faults = O.faults out.old; faults_after = O.faults out.new }) (GivesSample files number) result }
-    ensures write_fault { result ≡ Status.WriteFault → Rose (O.faults out.old) (O.faults out.new) }
-    ensures sink_tells { O.told out.new ≡ O.told out.old }
+    ensures answered { (shelf : ShelfState) →
+        Answered (outside shelf (O.state out.old)) (outside shelf (O.state out.new))
+        (GivesSample shelf.files number) result }
+    ensures write_fault { result ≡ Status.WriteFault → PrintingFailed (O.state out.old) (O.state out.new) }
+    ensures only_printed { OnlyPrinted (O.state out.old) (O.state out.new) }
 {
     one_meaning();
     match understand(alloc, texts.program.as_slice(), texts.entries.as_slice()) {
@@ -88,9 +91,11 @@ fn sample_meant<O: Sink>(
     requires packets { packets.now ≡ packets_text number }
     ensures possible { IsPossible (SampleOf number) result }
     ensures no_reading { result ≢ Status.ReadFault }
-    ensures answered { (files : Files) (steady : Bool) (writing : ℕ) → Answered (record { files = files; after = files; steady = steady; writing = writing; writing_after = writing; tells = O.told out.old; old = O.bytes out.old; new = O.bytes out.new; faults = O.faults out.old; faults_after = O.faults out.new }) (Builds files (λ image c b. told files Status.Done (sample_line number meant.now.program meant.now.entries c)) meant.now.program meant.now.entries) result }
-    ensures write_fault { result ≡ Status.WriteFault → Rose (O.faults out.old) (O.faults out.new) }
-    ensures sink_tells { O.told out.new ≡ O.told out.old }
+    ensures answered { (shelf : ShelfState) →
+        Answered (outside shelf (O.state out.old)) (outside shelf (O.state out.new))
+        (Builds shelf.files (λ image c b. told shelf.files Status.Done (sample_line number meant.now.program meant.now.entries c)) meant.now.program meant.now.entries) result }
+    ensures write_fault { result ≡ Status.WriteFault → PrintingFailed (O.state out.old) (O.state out.new) }
+    ensures only_printed { OnlyPrinted (O.state out.old) (O.state out.new) }
 {
     match fit(alloc, &meant.program, &meant.entries) {
         Ok(built) => tell_built(alloc, number, built, packets, out),
@@ -110,8 +115,8 @@ fn tell_built<O: Sink>(
     requires form { Formed built.config }
     requires limits { IsWithinLimits built.config }
     requires packets { packets.now ≡ packets_text number }
-    ensures line { (line : List ℕ) → line ≡ chip_line number built.config → Tells (O.told out.old) (O.bytes out.old) (O.bytes out.new) (O.faults out.old) (O.faults out.new) line Status.Done result }
-    ensures sink_tells { O.told out.new ≡ O.told out.old }
+    ensures line { (line : List ℕ) → line ≡ chip_line number built.config → Tells (O.state out.old) (O.state out.new) line Status.Done result }
+    ensures only_printed { OnlyPrinted (O.state out.old) (O.state out.new) }
 {
     tell(
         run_line(alloc, number, built.config, packets),

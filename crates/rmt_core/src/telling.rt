@@ -1,6 +1,7 @@
 //! Last lines.
 
 ghost use Rattle.std.specs.Prelude.{◌≡◌, ◌≢◌, ℕ, List, IfOk};
+ghost use Rattle.rmt_io.specs.Outside.{OnlyPrinted};
 ghost use Rattle.rmt_core.specs.Telling.{Tells};
 
 use crate::printing::end_with;
@@ -14,8 +15,8 @@ pub fn tell<O: Sink>(line: Result<Vec<u8>, AllocError>, status: Status, out: &mu
     requires no_fault { status ≢ Status.WriteFault }
     requires no_want { status ≢ Status.NoMemory }
     ensures line { (text : List ℕ) → IfOk line (λ l. l.items ≡ text) →
-        Tells (O.told out.old) (O.bytes out.old) (O.bytes out.new) (O.faults out.old) (O.faults out.new) text status result }
-    ensures tells { O.told out.new ≡ O.told out.old }
+        Tells (O.state out.old) (O.state out.new) text status result }
+    ensures only_printed { OnlyPrinted (O.state out.old) (O.state out.new) }
 {
     match line {
         Ok(line) => end_with(out, line.as_slice(), status),

@@ -7,6 +7,7 @@ ghost use Rattle.rmt_ast.specs.WellFormed.{IsProgram};
 ghost use Rattle.rmt_check.specs.Means.{Means, fault_at};
 ghost use Rattle.rmt_entries.specs.Entries.{entries_of};
 ghost use Rattle.rmt_entries.specs.declared.fault.EntryFault.TheVariants.{At};
+ghost use Rattle.rmt_io.specs.Outside.{OnlyPrinted};
 ghost use Rattle.rmt_core.specs.Telling.{Tells};
 ghost use Rattle.rmt_core.specs.TextFaults.{text_fault_line, text_fault_status};
 
@@ -84,8 +85,8 @@ fn text_fault_line(alloc: Global, fault: TextFault) -> Result<Vec<u8>, AllocErro
 /// Prints the last line that tells a fault of a text, and answers its status; `NoMemory` where there is no memory, and then
 /// nothing is printed.
 pub fn tell_text_fault<O: Sink>(alloc: Global, fault: TextFault, out: &mut O) -> Status
-    ensures line { Tells (O.told out.old) (O.bytes out.old) (O.bytes out.new) (O.faults out.old) (O.faults out.new) (text_fault_line fault) (text_fault_status fault) result }
-    ensures tells { O.told out.new ≡ O.told out.old }
+    ensures line { Tells (O.state out.old) (O.state out.new) (text_fault_line fault) (text_fault_status fault) result }
+    ensures only_printed { OnlyPrinted (O.state out.old) (O.state out.new) }
 {
     let line = text_fault_line(alloc, fault);
     match fault {

@@ -1,9 +1,9 @@
 //! The top call.
 
-ghost use Rattle.std.specs.Prelude.{◌≡◌, ◌≢◌, ◌⊎◌, ◌↔◌, ◌++◌, ℕ, List, Some, None, IsTrue};
-ghost use Rattle.rmt_io.specs.Faults.{Rose};
+ghost use Rattle.std.specs.Prelude.{◌≡◌, ◌⊎◌, ◌↔◌, None, IsTrue};
+ghost use Rattle.rmt_io.specs.Outside.{ReadingFailed, WritingFailed, GainedNone, PrintingFailed, OnlyPrinted};
 ghost use Rattle.rmt_core.specs.Commands.{IfCommand, IsCompile, IsPossible, command_of, words_of};
-ghost use Rattle.rmt_core.specs.Ends.{Answered};
+ghost use Rattle.rmt_core.specs.Ends.{Answered, outside};
 ghost use Rattle.rmt_core.specs.Gives.{Gives};
 
 use crate::commands::{Command, command_from};
@@ -34,19 +34,21 @@ pub fn rmt<F: Shelf, O: Sink>(
     // Only some answers are a command's.
     ensures possible { IfCommand (command_of (words_of words.now.items)) (λ command. IsPossible command result) }
     // A call ends as what the command gives over these files, or it is stopped by the outside or by want of memory.
-    ensures answered { IsTrue (F.told shelf.old) → IfCommand (command_of (words_of words.now.items)) (λ command.
-        Answered (record { files = F.file shelf.old; after = F.file shelf.new; steady = F.steady shelf.old; writing = F.writing_faults shelf.old; writing_after = F.writing_faults shelf.new; tells = O.told out.old; old = O.bytes out.old; new = O.bytes out.new; faults = O.faults out.old; faults_after = O.faults out.new }) (Gives (F.file shelf.old) command) result) }
+    ensures answered { IsTrue (F.state shelf.old).tells → IfCommand (command_of (words_of words.now.items)) (λ command.
+        let before = outside (F.state shelf.old) (O.state out.old) in
+        let after = outside (F.state shelf.new) (O.state out.new) in
+        Answered before after (Gives before.shelf.files command) result) }
     // `compile` has read its files, and has its image and its lines, before it writes or prints anything.
-    ensures compile_quiet { (result ≡ Status.NoMemory) ⊎ (result ≡ Status.ReadFault) ⊎ (result ≡ Status.TooLong) → IfCommand (command_of (words_of words.now.items)) IsCompile → IsTrue (O.told out.old) → O.bytes out.new ≡ O.bytes out.old }
+    ensures compile_quiet { (result ≡ Status.NoMemory) ⊎ (result ≡ Status.ReadFault) ⊎ (result ≡ Status.TooLong) → IfCommand (command_of (words_of words.now.items)) IsCompile → GainedNone (O.state out.old) (O.state out.new) }
     // Faults of the outside come only where a count rose in this call; a steady shelf has none of writing.
-    ensures read_fault { result ≡ Status.ReadFault → Rose (F.reading_faults shelf.old) (F.reading_faults shelf.new) }
-    ensures write_fault { result ≡ Status.WriteFault → Rose (F.writing_faults shelf.old) (F.writing_faults shelf.new) ⊎ Rose (O.faults out.old) (O.faults out.new) }
+    ensures read_fault { result ≡ Status.ReadFault → ReadingFailed (F.state shelf.old) (F.state shelf.new) }
+    ensures write_fault { result ≡ Status.WriteFault → WritingFailed (F.state shelf.old) (F.state shelf.new) ⊎ PrintingFailed (O.state out.old) (O.state out.new) }
     // Only `compile` writes a file, so with any other command the sink failed.
-    ensures sink_fault { result ≡ Status.WriteFault → (IfCommand (command_of (words_of words.now.items)) IsCompile → ⊥) → Rose (O.faults out.old) (O.faults out.new) }
-    ensures steady_write { result ≡ Status.WriteFault → IsTrue (F.steady shelf.old) → Rose (O.faults out.old) (O.faults out.new) }
+    ensures sink_fault { result ≡ Status.WriteFault → (IfCommand (command_of (words_of words.now.items)) IsCompile → ⊥) → PrintingFailed (O.state out.old) (O.state out.new) }
+    ensures steady_write { result ≡ Status.WriteFault → IsTrue (F.state shelf.old).steady → PrintingFailed (O.state out.old) (O.state out.new) }
     // What tells its content goes on doing so.
-    ensures tells { F.told shelf.new ≡ F.told shelf.old }
-    ensures sink_tells { O.told out.new ≡ O.told out.old }
+    ensures tells { (F.state shelf.new).tells ≡ (F.state shelf.old).tells }
+    ensures only_printed { OnlyPrinted (O.state out.old) (O.state out.new) }
 {
     match command_from(words) {
         Command::Compile {

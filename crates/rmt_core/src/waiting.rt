@@ -1,9 +1,9 @@
 //! The lines of a run that are not written yet.
 
-ghost use Rattle.std.specs.Prelude.{◌≡◌, ◌≢◌, ◌≤◌, ◌⊎◌, ◌++◌, [], length, IsTrue, OnOk, OnErr};
-ghost use Rattle.rmt_io.specs.Faults.{Rose};
+ghost use Rattle.std.specs.Prelude.{◌≡◌, ◌≢◌, ◌≤◌, ◌⊎◌, ◌++◌, [], length, OnOk, OnErr};
+ghost use Rattle.rmt_io.specs.Outside.{Gained, PrintingFailed, OnlyPrinted};
 ghost use Rattle.rmt_core.specs.Ends.{PrintsAll};
-ghost use Rattle.rmt_core.specs.Printing.{GainsFront};
+ghost use Rattle.rmt_core.specs.Printing.{GainedFront};
 ghost use Rattle.rmt_core.specs.Waiting.{Written};
 
 use crate::printing::print;
@@ -33,12 +33,11 @@ impl Waiting {
     /// Writes the lines where they have more than 65,536 bytes. After a fault a front of them was written.
     pub fn write_many<O: Sink>(&mut self, out: &mut O) -> Result<(), SinkFault>
         ensures few { OnOk result (length self.new.lines.items ≤ 65536) }
-        ensures written { OnOk result (Written self.old.lines.items self.new.lines.items (O.told out.old) (O.bytes out.old) (O.bytes out.new)) }
-        ensures front { OnErr result (IsTrue (O.told out.old) → GainsFront (O.bytes out.old) (O.bytes out.new) self.old.lines.items) }
+        ensures written { OnOk result (Written self.old.lines.items self.new.lines.items (O.state out.old) (O.state out.new)) }
+        ensures front { OnErr result (GainedFront (O.state out.old) (O.state out.new) self.old.lines.items) }
         ensures some { OnErr result (self.old.lines.items ≢ []) }
-        ensures failed { OnErr result (Rose (O.faults out.old) (O.faults out.new)) }
-        ensures tells { O.told out.new ≡ O.told out.old }
-        ensures counts { O.faults out.old ≤ O.faults out.new }
+        ensures failed { OnErr result (PrintingFailed (O.state out.old) (O.state out.new)) }
+        ensures only_printed { OnlyPrinted (O.state out.old) (O.state out.new) }
     {
         if self.lines.len() <= MOST {
             return Ok(());
@@ -56,12 +55,11 @@ impl Waiting {
     pub fn end<O: Sink>(&self, last: &[u8], status: Status, out: &mut O) -> Status
         requires { PrintsAll status }
         ensures status { (result ≡ status) ⊎ (result ≡ Status.WriteFault) }
-        ensures printed { result ≡ status → IsTrue (O.told out.old) → O.bytes out.new ≡ O.bytes out.old ++ (self.now.lines.items ++ last.now) }
-        ensures front { IsTrue (O.told out.old) → GainsFront (O.bytes out.old) (O.bytes out.new) (self.now.lines.items ++ last.now) }
+        ensures printed { result ≡ status → Gained (O.state out.old) (O.state out.new) (self.now.lines.items ++ last.now) }
+        ensures front { GainedFront (O.state out.old) (O.state out.new) (self.now.lines.items ++ last.now) }
         ensures some { result ≡ Status.WriteFault → self.now.lines.items ++ last.now ≢ [] }
-        ensures failed { result ≡ Status.WriteFault → Rose (O.faults out.old) (O.faults out.new) }
-        ensures tells { O.told out.new ≡ O.told out.old }
-        ensures counts { O.faults out.old ≤ O.faults out.new }
+        ensures failed { result ≡ Status.WriteFault → PrintingFailed (O.state out.old) (O.state out.new) }
+        ensures only_printed { OnlyPrinted (O.state out.old) (O.state out.new) }
     {
         let Ok(()) = print(out, self.lines.as_slice()) else {
             return Status::WriteFault;

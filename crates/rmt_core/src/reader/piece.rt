@@ -1,5 +1,5 @@
-ghost use Rattle.std.specs.Prelude.{◌≡◌, ℕ, ◌++◌, ◌<◌, ◌≤◌, List, [], length, take, IsTrue, IfOk, IsOk, IsErrOf, OnErr};
-ghost use Rattle.rmt_io.specs.Faults.{Rose};
+ghost use Rattle.std.specs.Prelude.{◌≡◌, ℕ, ◌++◌, ◌<◌, ◌≤◌, List, [], length, take, IsTrue, IfOk, IsOk, OnErr};
+ghost use Rattle.rmt_io.specs.Outside.{GaveBytes, ReadingFailed, OnlyRead};
 
 use rmt_io::shelf::{Shelf, ShelfFault};
 use std::alloc::{AllocError, Global};
@@ -64,16 +64,14 @@ impl Piece {
         requires fits { most ≤ 65536 }
         ensures count { IfOk result (λ n. length self.new ≡ n) }
         ensures within { IfOk result (λ n. n ≤ most) }
-        ensures given { IfOk result (λ n. IsTrue (F.told shelf.old) → F.rest shelf.old ≡ self.new ++ F.rest shelf.new) }
-        ensures end { IfOk result (λ n. IsTrue (F.told shelf.old) → n ≡ 0 → F.rest shelf.old ≡ []) }
+        ensures given { IfOk result
+            (λ n. GaveBytes (F.state shelf.old) (F.state shelf.new) self.new) }
+        ensures end { IfOk result
+            (λ n. IsTrue (F.state shelf.old).tells → n ≡ 0 → (F.state shelf.old).rest ≡ []) }
         ensures emptied { OnErr result (self.new ≡ []) }
-        ensures failed { OnErr result (Rose (F.reading_faults shelf.old) (F.reading_faults shelf.new)) }
-        ensures never_fails { IsTrue (F.steady shelf.old) → IsOk result }
-        ensures files { (name : List ℕ) → F.file shelf.new name ≡ F.file shelf.old name }
-        ensures tells { F.told shelf.new ≡ F.told shelf.old }
-        ensures stays_steady { IsTrue (F.steady shelf.old) → IsTrue (F.steady shelf.new) }
-        ensures reading { F.reading_faults shelf.old ≤ F.reading_faults shelf.new }
-        ensures writing { F.writing_faults shelf.new ≡ F.writing_faults shelf.old }
+        ensures failed { OnErr result (ReadingFailed (F.state shelf.old) (F.state shelf.new)) }
+        ensures never_fails { IsTrue (F.state shelf.old).steady → IsOk result }
+        ensures only_read { OnlyRead (F.state shelf.old) (F.state shelf.new) }
     {
         self.from = 0;
         self.to = 0;
@@ -88,15 +86,13 @@ fn ask<F: Shelf>(shelf: &mut F, into: &mut [u8], most: usize) -> Result<usize, S
     requires some { 0 < most }
     requires fits { most ≤ length into.old }
     ensures within { IfOk result (λ n. n ≤ most) }
-    ensures given { IfOk result (λ n. IsTrue (F.told shelf.old) → F.rest shelf.old ≡ take n into.new ++ F.rest shelf.new) }
-    ensures end { IfOk result (λ n. IsTrue (F.told shelf.old) → n ≡ 0 → F.rest shelf.old ≡ []) }
-    ensures failed { OnErr result (Rose (F.reading_faults shelf.old) (F.reading_faults shelf.new)) }
-    ensures never_fails { IsTrue (F.steady shelf.old) → IsOk result }
-    ensures files { (name : List ℕ) → F.file shelf.new name ≡ F.file shelf.old name }
-    ensures tells { F.told shelf.new ≡ F.told shelf.old }
-    ensures stays_steady { IsTrue (F.steady shelf.old) → IsTrue (F.steady shelf.new) }
-    ensures reading { F.reading_faults shelf.old ≤ F.reading_faults shelf.new }
-    ensures writing { F.writing_faults shelf.new ≡ F.writing_faults shelf.old }
+    ensures given { IfOk result
+        (λ n. GaveBytes (F.state shelf.old) (F.state shelf.new) (take n into.new)) }
+    ensures end { IfOk result
+        (λ n. IsTrue (F.state shelf.old).tells → n ≡ 0 → (F.state shelf.old).rest ≡ []) }
+    ensures failed { OnErr result (ReadingFailed (F.state shelf.old) (F.state shelf.new)) }
+    ensures never_fails { IsTrue (F.state shelf.old).steady → IsOk result }
+    ensures only_read { OnlyRead (F.state shelf.old) (F.state shelf.new) }
 {
     shelf.next(&mut into[..most])
 }

@@ -1,8 +1,8 @@
 //! Entering the packets of a text.
 
-ghost use Rattle.std.specs.Prelude.{◌≡◌, ◌≤◌, [], ℕ, List, IsTrue, IsErrOf, IfErr, IfOk};
+ghost use Rattle.std.specs.Prelude.{◌≤◌, [], IsTrue, IsErrOf, IfErr, IfOk};
 ghost use Rattle.rmt_config.specs.declared.config.Config.{Config};
-ghost use Rattle.rmt_io.specs.Faults.{Rose};
+ghost use Rattle.rmt_io.specs.Outside.{ReadingFailed, OnlyRead, PrintingFailed, OnlyPrinted};
 ghost use Rattle.rmt_core.specs.declared.watch.Watch.{Watch};
 ghost use Rattle.rmt_core.specs.RunEnd.{Breaks, bad_line};
 ghost use Rattle.rmt_core.specs.Running.{Entered, Goes};
@@ -28,20 +28,16 @@ pub fn enter_all<F: Shelf, O: Sink>(
     out: &mut O,
 ) -> Result<Option<Bad>, RunFault>
     requires limit { limit ≤ 1099511627776 }
-    requires starts { (w : Watch) × (c : Config) × Goes w c [] run.old chip.old (O.told out.old) (O.bytes out.old) (O.bytes out.old) }
-    ensures ok { IfOk result (λ bad. (w : Watch) (c : Config) → Goes w c [] run.old chip.old (O.told out.old) (O.bytes out.old) (O.bytes out.old) →
-        Entered w c limit (F.rest shelf.old) (F.told shelf.old) (bad_line bad) run.new chip.new (O.told out.old) (O.bytes out.old) (O.bytes out.new)) }
-    ensures broken { IfErr result (λ fault. IsTrue (F.told shelf.old) → (w : Watch) (c : Config) → Goes w c [] run.old chip.old (O.told out.old) (O.bytes out.old) (O.bytes out.old) →
-        Breaks (text_of w c) limit (F.rest shelf.old) (O.told out.old) (O.bytes out.old) (O.bytes out.new) fault) }
-    ensures write_fault { IsErrOf result RunFault.Write → Rose (O.faults out.old) (O.faults out.new) }
-    ensures read_fault { IsErrOf result RunFault.Read → Rose (F.reading_faults shelf.old) (F.reading_faults shelf.new) }
-    ensures never_fails { IsErrOf result RunFault.Read → IsTrue (F.steady shelf.old) → ⊥ }
-    ensures files { (name : List ℕ) → F.file shelf.new name ≡ F.file shelf.old name }
-    ensures tells { F.told shelf.new ≡ F.told shelf.old }
-    ensures reading { F.reading_faults shelf.old ≤ F.reading_faults shelf.new }
-    ensures writing { F.writing_faults shelf.new ≡ F.writing_faults shelf.old }
-    ensures sink_tells { O.told out.new ≡ O.told out.old }
-    ensures counts { O.faults out.old ≤ O.faults out.new }
+    requires starts { (w : Watch) × (c : Config) × Goes w c [] run.old chip.old (O.state out.old) (O.state out.old) }
+    ensures ok { IfOk result (λ bad. (w : Watch) (c : Config) → Goes w c [] run.old chip.old (O.state out.old) (O.state out.old) →
+        Entered w c limit (F.state shelf.old) (bad_line bad) run.new chip.new (O.state out.old) (O.state out.new)) }
+    ensures broken { IfErr result (λ fault. IsTrue (F.state shelf.old).tells → (w : Watch) (c : Config) → Goes w c [] run.old chip.old (O.state out.old) (O.state out.old) →
+        Breaks (text_of w c) limit (F.state shelf.old).rest (O.state out.old) (O.state out.new) fault) }
+    ensures write_fault { IsErrOf result RunFault.Write → PrintingFailed (O.state out.old) (O.state out.new) }
+    ensures read_fault { IsErrOf result RunFault.Read → ReadingFailed (F.state shelf.old) (F.state shelf.new) }
+    ensures never_fails { IsErrOf result RunFault.Read → IsTrue (F.state shelf.old).steady → ⊥ }
+    ensures only_read { OnlyRead (F.state shelf.old) (F.state shelf.new) }
+    ensures only_printed { OnlyPrinted (O.state out.old) (O.state out.new) }
 {
     let Ok(mut reader) = PacketReader::new(alloc, limit) else {
         return Err(RunFault::NoMemory);

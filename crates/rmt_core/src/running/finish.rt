@@ -1,14 +1,14 @@
 //! The end of a run.
 
-ghost use Rattle.std.specs.Prelude.{◌≡◌, ◌≢◌, ◌≤◌, ◌⊎◌, ◌+◌, ◌++◌, [], ℕ, List, Option, None, length, map, min, replicate, string_bytes, Some, IsTrue, IsErrOf, IfErr, IfOk, OnOk, if◌then◌else◌};
+ghost use Rattle.std.specs.Prelude.{◌≡◌, ◌≢◌, ◌≤◌, ◌⊎◌, ◌+◌, ◌++◌, [], List, Option, None, length, map, min, replicate, string_bytes, Some, IsErrOf, IfErr, IfOk, OnOk, if◌then◌else◌};
 ghost use Rattle.std.specs.List.{flat_map};
 ghost use Rattle.rmt_bits.specs.Packet.{Packet};
 ghost use Rattle.rmt_chip.specs.Stands.{Stands};
 ghost use Rattle.rmt_config.specs.declared.config.Config.{Config};
 ghost use Rattle.rmt_config.specs.ChipRun.{chip_counts_of, inputs_of, latency_of};
-ghost use Rattle.rmt_io.specs.Faults.{Rose};
+ghost use Rattle.rmt_io.specs.Outside.{SinkState, Gained, PrintingFailed, OnlyPrinted};
 ghost use Rattle.rmt_core.specs.declared.watch.Watch.{Watch};
-ghost use Rattle.rmt_core.specs.Printing.{GainsFront};
+ghost use Rattle.rmt_core.specs.Printing.{GainedFront};
 ghost use Rattle.rmt_core.specs.RunEnd.{Cut, bad_line, status_of_end};
 ghost use Rattle.rmt_core.specs.Running.{Goes};
 ghost use Rattle.rmt_core.specs.SimText.{count_line, cycles_line, flight_line};
@@ -32,19 +32,18 @@ pub fn finish<O: Sink>(
     bad: Option<Bad>,
     out: &mut O,
 ) -> Status
-    requires { (w : Watch) × (c : Config) × (done : List Packet) × (before : List ℕ) × Goes w c (map Some done) run.old chip.old (O.told out.old) before (O.bytes out.old) × (length done ≤ 1099511627776) }
+    requires { (w : Watch) × (c : Config) × (done : List Packet) × (before : SinkState) × Goes w c (map Some done) run.old chip.old before (O.state out.old) × (length done ≤ 1099511627776) }
     ensures possible { (result ≡ status_of_end bad) ⊎ (result ≡ Status.WriteFault) ⊎ (result ≡ Status.NoMemory) }
-    ensures printed { result ≡ status_of_end bad → (w : Watch) (c : Config) (done : List Packet) (before : List ℕ) → Goes w c (map Some done) run.old chip.old (O.told out.old) before (O.bytes out.old) → IsTrue (O.told out.old) →
-        O.bytes out.new ≡ before ++ text_of w c (record { packets = done; bad = bad_line bad }) }
-    ensures front { (w : Watch) (c : Config) (done : List Packet) (before : List ℕ) → Goes w c (map Some done) run.old chip.old (O.told out.old) before (O.bytes out.old) → IsTrue (O.told out.old) →
-        GainsFront before (O.bytes out.new) (text_of w c (record { packets = done; bad = bad_line bad })) }
-    ensures some { result ≡ Status.WriteFault → (w : Watch) (c : Config) (done : List Packet) (before : List ℕ) → Goes w c (map Some done) run.old chip.old (O.told out.old) before (O.bytes out.old) →
+    ensures printed { result ≡ status_of_end bad → (w : Watch) (c : Config) (done : List Packet) (before : SinkState) → Goes w c (map Some done) run.old chip.old before (O.state out.old) →
+        Gained before (O.state out.new) (text_of w c (record { packets = done; bad = bad_line bad })) }
+    ensures front { (w : Watch) (c : Config) (done : List Packet) (before : SinkState) → Goes w c (map Some done) run.old chip.old before (O.state out.old) →
+        GainedFront before (O.state out.new) (text_of w c (record { packets = done; bad = bad_line bad })) }
+    ensures some { result ≡ Status.WriteFault → (w : Watch) (c : Config) (done : List Packet) (before : SinkState) → Goes w c (map Some done) run.old chip.old before (O.state out.old) →
         text_of w c (record { packets = done; bad = bad_line bad }) ≢ [] }
-    ensures clocked { result ≡ Status.Done → (w : Watch) (c : Config) (done : List Packet) (before : List ℕ) → Goes w c (map Some done) run.old chip.old (O.told out.old) before (O.bytes out.old) →
+    ensures clocked { result ≡ Status.Done → (w : Watch) (c : Config) (done : List Packet) (before : SinkState) → Goes w c (map Some done) run.old chip.old before (O.state out.old) →
         Stands c (inputs_of c done) chip.new }
-    ensures failed { result ≡ Status.WriteFault → Rose (O.faults out.old) (O.faults out.new) }
-    ensures tells { O.told out.new ≡ O.told out.old }
-    ensures counts { O.faults out.old ≤ O.faults out.new }
+    ensures failed { result ≡ Status.WriteFault → PrintingFailed (O.state out.old) (O.state out.new) }
+    ensures only_printed { OnlyPrinted (O.state out.old) (O.state out.new) }
 {
     let packets = run.cycles;
     match run_out(alloc, chip, run, bad, out) {
@@ -65,15 +64,14 @@ fn run_out<O: Sink>(
     bad: Option<Bad>,
     out: &mut O,
 ) -> Result<(), RunFault>
-    requires { (w : Watch) × (c : Config) × (done : List Packet) × (before : List ℕ) × Goes w c (map Some done) run.old chip.old (O.told out.old) before (O.bytes out.old) × (length done ≤ 1099511627776) }
-    ensures ok { OnOk result ((w : Watch) (c : Config) (done : List Packet) (before : List ℕ) → Goes w c (map Some done) run.old chip.old (O.told out.old) before (O.bytes out.old) →
-        Goes w c (ran w c done (bad_line bad)) run.new chip.new (O.told out.old) before (O.bytes out.new)) }
-    ensures cut { IfErr result (λ fault. (w : Watch) (c : Config) (done : List Packet) (before : List ℕ) → Goes w c (map Some done) run.old chip.old (O.told out.old) before (O.bytes out.old) →
-        Cut (shown w c (ran w c done (bad_line bad))) (O.told out.old) before (O.bytes out.new) fault) }
+    requires { (w : Watch) × (c : Config) × (done : List Packet) × (before : SinkState) × Goes w c (map Some done) run.old chip.old before (O.state out.old) × (length done ≤ 1099511627776) }
+    ensures ok { OnOk result ((w : Watch) (c : Config) (done : List Packet) (before : SinkState) → Goes w c (map Some done) run.old chip.old before (O.state out.old) →
+        Goes w c (ran w c done (bad_line bad)) run.new chip.new before (O.state out.new)) }
+    ensures cut { IfErr result (λ fault. (w : Watch) (c : Config) (done : List Packet) (before : SinkState) → Goes w c (map Some done) run.old chip.old before (O.state out.old) →
+        Cut (shown w c (ran w c done (bad_line bad))) before (O.state out.new) fault) }
     ensures either { IfErr result (λ fault. (fault ≡ RunFault.NoMemory) ⊎ (fault ≡ RunFault.Write)) }
-    ensures failed { IsErrOf result RunFault.Write → Rose (O.faults out.old) (O.faults out.new) }
-    ensures tells { O.told out.new ≡ O.told out.old }
-    ensures counts { O.faults out.old ≤ O.faults out.new }
+    ensures failed { IsErrOf result RunFault.Write → PrintingFailed (O.state out.old) (O.state out.new) }
+    ensures only_printed { OnlyPrinted (O.state out.old) (O.state out.new) }
 {
     if !runs_on(run, bad) {
         return Ok(());
@@ -105,15 +103,14 @@ fn drain<O: Sink>(
     run: &mut Run,
     out: &mut O,
 ) -> Result<(), RunFault>
-    requires { (w : Watch) × (c : Config) × (inputs : List (Option Packet)) × (before : List ℕ) × Goes w c inputs run.old chip.old (O.told out.old) before (O.bytes out.old) × (length inputs ≤ 1099511627776) }
-    ensures ok { OnOk result ((w : Watch) (c : Config) (inputs : List (Option Packet)) (before : List ℕ) → Goes w c inputs run.old chip.old (O.told out.old) before (O.bytes out.old) →
-        Goes w c (inputs ++ replicate (latency_of c.stages) None) run.new chip.new (O.told out.old) before (O.bytes out.new)) }
-    ensures cut { IfErr result (λ fault. (w : Watch) (c : Config) (inputs : List (Option Packet)) (before : List ℕ) → Goes w c inputs run.old chip.old (O.told out.old) before (O.bytes out.old) →
-        Cut (shown w c (inputs ++ replicate (latency_of c.stages) None)) (O.told out.old) before (O.bytes out.new) fault) }
+    requires { (w : Watch) × (c : Config) × (inputs : List (Option Packet)) × (before : SinkState) × Goes w c inputs run.old chip.old before (O.state out.old) × (length inputs ≤ 1099511627776) }
+    ensures ok { OnOk result ((w : Watch) (c : Config) (inputs : List (Option Packet)) (before : SinkState) → Goes w c inputs run.old chip.old before (O.state out.old) →
+        Goes w c (inputs ++ replicate (latency_of c.stages) None) run.new chip.new before (O.state out.new)) }
+    ensures cut { IfErr result (λ fault. (w : Watch) (c : Config) (inputs : List (Option Packet)) (before : SinkState) → Goes w c inputs run.old chip.old before (O.state out.old) →
+        Cut (shown w c (inputs ++ replicate (latency_of c.stages) None)) before (O.state out.new) fault) }
     ensures either { IfErr result (λ fault. (fault ≡ RunFault.NoMemory) ⊎ (fault ≡ RunFault.Write)) }
-    ensures failed { IsErrOf result RunFault.Write → Rose (O.faults out.old) (O.faults out.new) }
-    ensures tells { O.told out.new ≡ O.told out.old }
-    ensures counts { O.faults out.old ≤ O.faults out.new }
+    ensures failed { IsErrOf result RunFault.Write → PrintingFailed (O.state out.old) (O.state out.new) }
+    ensures only_printed { OnlyPrinted (O.state out.old) (O.state out.new) }
 {
     let latency = chip.latency();
     for _age in 0..latency {

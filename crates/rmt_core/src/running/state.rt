@@ -1,9 +1,10 @@
 //! What there is of a run beside its chip.
 
-ghost use Rattle.std.specs.Prelude.{ℕ, Bool, List, [], IfOk};
+ghost use Rattle.std.specs.Prelude.{[], IfOk};
 ghost use Rattle.rmt_config.specs.declared.config.Config.{Config};
 ghost use Rattle.rmt_chip.specs.declared.chip.Chip.{Chip};
 ghost use Rattle.rmt_chip.specs.Stands.{Stands};
+ghost use Rattle.rmt_io.specs.Outside.{SinkState};
 ghost use Rattle.rmt_core.specs.Running.{Goes};
 
 use crate::waiting::Waiting;
@@ -25,7 +26,7 @@ pub struct Run {
 
 /// A run in which nothing entered.
 pub fn start(alloc: Global, watch: Watch) -> Result<Run, ChipFault>
-    ensures { IfOk result (λ run. (c : Config) (chip : Chip) (told : Bool) (before : List ℕ) → Stands c [] chip → Goes watch c [] run chip told before before) }
+    ensures { IfOk result (λ run. (c : Config) (chip : Chip) (before : SinkState) → Stands c [] chip → Goes watch c [] run chip before before) }
 {
     match Out::new(alloc) {
         Ok(leaving) => Ok(Run {

@@ -1,12 +1,12 @@
 //! One cycle of a run.
 
-ghost use Rattle.std.specs.Prelude.{◌≡◌, ◌≤◌, ◌<◌, ◌⊎◌, ◌^◌, ◌+◌, ◌++◌, ◌∷◌, [], ℕ, Bool, List, Option, length, IsErrOf, IfErr, OnOk};
+ghost use Rattle.std.specs.Prelude.{◌≡◌, ◌<◌, ◌⊎◌, ◌^◌, ◌+◌, ◌++◌, ◌∷◌, [], ℕ, List, Option, length, IsErrOf, IfErr, OnOk};
 ghost use Rattle.rmt_bits.specs.Packet.{Packet};
 ghost use Rattle.rmt_chip.specs.Inputs.{input_of, MayEnter};
 ghost use Rattle.rmt_chip.specs.Stands.{entered_of, Stands};
 ghost use Rattle.rmt_config.specs.declared.config.Config.{Config};
 ghost use Rattle.rmt_config.specs.ChipRun.{latency_of};
-ghost use Rattle.rmt_io.specs.Faults.{Rose};
+ghost use Rattle.rmt_io.specs.Outside.{SinkState, PrintingFailed, OnlyPrinted};
 ghost use Rattle.rmt_core.specs.declared.watch.Watch.{Watch};
 ghost use Rattle.rmt_core.specs.ProbeText.{lines_below};
 ghost use Rattle.rmt_core.specs.RunEnd.{Cut};
@@ -36,14 +36,13 @@ pub fn turn<O: Sink>(
     requires entered { entered_of chip.old < 2 ^ 63 }
     requires cycles { run.old.cycles < 2 ^ 63 }
     requires answered { run.old.answered < 2 ^ 63 }
-    ensures ok { OnOk result ((w : Watch) (c : Config) (inputs : List (Option Packet)) (before : List ℕ) → Goes w c inputs run.old chip.old (O.told out.old) before (O.bytes out.old) →
-        Goes w c (inputs ++ input_of frame.entry ∷ []) run.new chip.new (O.told out.old) before (O.bytes out.new)) }
-    ensures cut { IfErr result (λ fault. (w : Watch) (c : Config) (inputs : List (Option Packet)) (before : List ℕ) → Goes w c inputs run.old chip.old (O.told out.old) before (O.bytes out.old) →
-        Cut (shown w c (inputs ++ input_of frame.entry ∷ [])) (O.told out.old) before (O.bytes out.new) fault) }
+    ensures ok { OnOk result ((w : Watch) (c : Config) (inputs : List (Option Packet)) (before : SinkState) → Goes w c inputs run.old chip.old before (O.state out.old) →
+        Goes w c (inputs ++ input_of frame.entry ∷ []) run.new chip.new before (O.state out.new)) }
+    ensures cut { IfErr result (λ fault. (w : Watch) (c : Config) (inputs : List (Option Packet)) (before : SinkState) → Goes w c inputs run.old chip.old before (O.state out.old) →
+        Cut (shown w c (inputs ++ input_of frame.entry ∷ [])) before (O.state out.new) fault) }
     ensures either { IfErr result (λ fault. (fault ≡ RunFault.NoMemory) ⊎ (fault ≡ RunFault.Write)) }
-    ensures failed { IsErrOf result RunFault.Write → Rose (O.faults out.old) (O.faults out.new) }
-    ensures tells { O.told out.new ≡ O.told out.old }
-    ensures counts { O.faults out.old ≤ O.faults out.new }
+    ensures failed { IsErrOf result RunFault.Write → PrintingFailed (O.state out.old) (O.state out.new) }
+    ensures only_printed { OnlyPrinted (O.state out.old) (O.state out.new) }
 {
     let Ok(()) = cycle(alloc, chip, run, frame) else {
         return Err(RunFault::NoMemory);
@@ -65,8 +64,8 @@ fn cycle(
     requires entered { entered_of chip.old < 2 ^ 63 }
     requires cycles { run.old.cycles < 2 ^ 63 }
     requires answered { run.old.answered < 2 ^ 63 }
-    ensures { OnOk result ((w : Watch) (c : Config) (inputs : List (Option Packet)) (told : Bool) (before now : List ℕ) → Goes w c inputs run.old chip.old told before now →
-        Goes w c (inputs ++ input_of frame.entry ∷ []) run.new chip.new told before now) }
+    ensures { OnOk result ((w : Watch) (c : Config) (inputs : List (Option Packet)) (before now : SinkState) → Goes w c inputs run.old chip.old before now →
+        Goes w c (inputs ++ input_of frame.entry ∷ []) run.new chip.new before now) }
 {
     let left = chip.clock(frame, &mut run.leaving);
     let number = run.answered;

@@ -6,5 +6,5 @@ pub returns : goal.returns
 returns g c = record {
   line = c.tell.ensures.line (bad_image_line c.args.fault) c.bad_image_text.ensures;
   no_memory = λ e. absurd (c.in_default.not-NoMemory e);
-  tells = c.tell.ensures.tells;
+  only_printed = c.tell.ensures.only_printed;
 }

@@ -7,5 +7,6 @@ use Rattle.rmt_core.proofs.EndLaws.{no_memory}
 use Rattle.rmt_core.proofs.plain.plain_of_meant.Goals as goal
 
 pub returns-in-Err-clause-answered : goal.returns-in-Err-clause-answered
-returns-in-Err-clause-answered g c = λ t.
-    no_memory _ (Runs (g.F.Shelf.file c.args.shelf.now) (plain_text c.args.meant.program c.args.meant.entries) packets_limit (g.F.Shelf.rest c.args.shelf.now)) (λ name. refl) (λ tells. refl)
+returns-in-Err-clause-answered g c = λ _.
+    let shelf = g.F.Shelf.state c.args.shelf.now in
+    no_memory _ _ (Runs shelf.files (plain_text c.args.meant.program c.args.meant.entries) packets_limit shelf.rest) (λ _. refl) (λ _. refl)

@@ -1,21 +1,21 @@
 -- The packets' file is opened, or not.
-use Rattle.std.proofs.Common.{IsTrue, refl, subst, sym}
 use Rattle.std.specs.Prelude.{string_bytes}
+use Rattle.rmt_io.proofs.OutsideLaws.{only_read_trans, reading_failed_later}
 use Rattle.rmt_core.specs.PlainRunning.{OfOpen}
-use Rattle.rmt_core.proofs.EndLaws.{not_opened, opens_on, rose_later}
+use Rattle.rmt_core.proofs.EndLaws.{not_opened, opens_on}
 use Rattle.rmt_core.proofs.plain.plain_of_texts.Goals as goal
 
 pub returns-in-Ok-clause-answered : goal.returns-in-Ok-clause-answered
 returns-in-Ok-clause-answered g c = λ t.
-    let mid = c.open_file.new.shelf in
-    opens_on _ (g.F.Shelf.file mid) (g.F.Shelf.steady mid) (g.F.Shelf.writing_faults mid) (string_bytes c.args.packets.now)
-    (λ files. OfOpen files c.args.text.now.items c.args.entry_text.now.items) (g.F.Shelf.rest mid) c.plain_of_open.result (c.in-Ok.ensures.opened t) c.open_file.ensures.files
-    c.open_file.ensures.steady c.open_file.ensures.writing (c.plain_of_open.ensures.answered (subst (λ b. IsTrue b) (sym c.open_file.ensures.tells) t))
+    opens_on _ _ (g.F.Shelf.state c.open_file.new.shelf) (string_bytes c.args.packets.now) (λ files. OfOpen files c.args.text.now.items c.args.entry_text.now.items) c.plain_of_open.result
+    c.open_file.ensures.only_read c.in-Ok.ensures.opened c.plain_of_open.ensures.answered t
 
 pub returns-in-Err-clause-answered : goal.returns-in-Err-clause-answered
-returns-in-Err-clause-answered g c = λ t.
-    not_opened _ (string_bytes c.args.packets.now) (OfOpen (g.F.Shelf.file c.args.shelf.now) c.args.text.now.items c.args.entry_text.now.items) c.in-Err.status
-    c.in-Err.ensures.refused c.open_file.ensures.files (λ tells. refl)
+returns-in-Err-clause-answered g c = λ _.
+    not_opened _ _ _ (string_bytes c.args.packets.now) (OfOpen (g.F.Shelf.state c.args.shelf.now).files c.args.text.now.items c.args.entry_text.now.items) c.in-Err.status c.open_file.ensures.only_read c.in-Err.ensures.refused
 
 pub returns-in-Ok-clause-read_fault : goal.returns-in-Ok-clause-read_fault
-returns-in-Ok-clause-read_fault g c = λ e. rose_later _ _ _ c.open_file.ensures.reading (c.plain_of_open.ensures.read_fault e)
+returns-in-Ok-clause-read_fault g c = λ e. reading_failed_later (g.F.Shelf.state c.plain_of_open.new.shelf) c.open_file.ensures.only_read (c.plain_of_open.ensures.read_fault e)
+
+pub returns-in-Ok-clause-only_read : goal.returns-in-Ok-clause-only_read
+returns-in-Ok-clause-only_read g c = only_read_trans c.open_file.ensures.only_read c.plain_of_open.ensures.only_read

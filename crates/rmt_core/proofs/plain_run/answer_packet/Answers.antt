@@ -8,10 +8,10 @@ returns-in_default-clause-cut g c = λ p lists done before h. cut_before p lists
 
 pub returns-in-Ok-write_many-clause-ok : goal.returns-in-Ok-write_many-clause-ok
 returns-in-Ok-write_many-clause-ok g c = λ p lists done before h.
-    let w = c.in-Ok.ensures.ok p lists done (g.O.Sink.told c.args.out.now) before (g.O.Sink.bytes c.args.out.now) h in
+    let w = c.in-Ok.ensures.ok p lists done before (g.O.Sink.state c.args.out.now) h in
     record { stands = w.stands; numbered = w.numbered; written = written_on w.written c.in-Ok-write_many.ensures.written }
 
 pub returns-in-Err-clause-cut : goal.returns-in-Err-clause-cut
 returns-in-Err-clause-cut g c = λ p lists done before h.
-    let w = c.in-Ok.ensures.ok p lists done (g.O.Sink.told c.args.out.now) before (g.O.Sink.bytes c.args.out.now) h in
-    record { front = front_on w.written c.in-Err.ensures.front; some = λ e. some_lines w.written c.in-Err.ensures.some }
+    let w = c.in-Ok.ensures.ok p lists done before (g.O.Sink.state c.args.out.now) h in
+    record { front = front_on w.written (g.O.Sink.state c.write_many.new.out) c.in-Err.ensures.front; some = λ e. some_lines w.written c.in-Err.ensures.some }

@@ -1,14 +1,20 @@
 -- What waits, and what stands behind the answers.
-use Rattle.std.proofs.Common.{◌≢◌, ◌++◌, List, ℕ, [], ◌∙◌, subst}
+use Rattle.std.proofs.Common.{◌≢◌, ◌++◌, List, ℕ, [], ◌∙◌, subst, sym}
+use Rattle.rmt_io.specs.Outside.{Gained}
 use Rattle.rmt_core.specs.PlainRunning.{answer_lines_of}
-use Rattle.rmt_core.specs.Printing.{GainsFront}
-use Rattle.rmt_core.proofs.WaitingLaws.{front_on, some_lines, written_more}
+use Rattle.rmt_core.specs.Printing.{GainedFront}
+use Rattle.rmt_core.proofs.WaitingLaws.{all_on, front_on, some_lines, written_more}
 use Rattle.rmt_core.proofs.plain_run.finish.Goals as goal
 
+pub returns-in-Ok-clause-printed : goal.returns-in-Ok-clause-printed
+returns-in-Ok-clause-printed g c = λ e p lists done before h.
+    subst (λ (l : List ℕ). Gained before (g.O.Sink.state c.end.new.out) (answer_lines_of p lists done ++ l)) (c.as_slice.ensures.value ∙ c.in-Ok.ensures p lists done h.stands)
+    (all_on (written_more h.written c.as_slice.result.now) (g.O.Sink.state c.end.new.out) (c.end.ensures.printed (e ∙ sym c.end_status.ensures)))
+
 pub returns-in-Ok-clause-front : goal.returns-in-Ok-clause-front
-returns-in-Ok-clause-front g c = λ p lists done before h t.
-    subst (λ (l : List ℕ). GainsFront before (g.O.Sink.bytes c.end.new.out) (answer_lines_of p lists done ++ l)) (c.as_slice.ensures.value ∙ c.in-Ok.ensures p lists done h.stands)
-    (front_on (written_more h.written c.as_slice.result.now) c.end.ensures.front t)
+returns-in-Ok-clause-front g c = λ p lists done before h.
+    subst (λ (l : List ℕ). GainedFront before (g.O.Sink.state c.end.new.out) (answer_lines_of p lists done ++ l)) (c.as_slice.ensures.value ∙ c.in-Ok.ensures p lists done h.stands)
+    (front_on (written_more h.written c.as_slice.result.now) (g.O.Sink.state c.end.new.out) c.end.ensures.front)
 
 pub returns-in-Ok-clause-some : goal.returns-in-Ok-clause-some
 returns-in-Ok-clause-some g c = λ e p lists done before h.

@@ -12,14 +12,14 @@ pub returns-in-Ok-clause-possible : goal.returns-in-Ok-clause-possible
 returns-in-Ok-clause-possible g c = ⊎_elim (λ e. inl e) (λ e. inr (inr e)) (c.tell.ensures.line (report_line c.in-Ok.config) c.use_line.ensures).kind
 
 pub returns-in-Ok-clause-answered : goal.returns-in-Ok-clause-answered
-returns-in-Ok-clause-answered g c = λ o same.
-    line_answered _ (Spelled o.files c.args.bytes.now (λ k given. given ≡ told o.files Done (report_line k))) Done c.tell.result (report_line c.in-Ok.config)
-    (Ok c.in-Ok.config, c.in-Ok.ensures.exact (λ e. cc), refl) same (inl refl) (c.tell.ensures.line (report_line c.in-Ok.config) c.use_line.ensures)
+returns-in-Ok-clause-answered g c = λ shelf.
+    line_answered _ _ (Spelled shelf.files c.args.bytes.now (λ k given. given ≡ told shelf.files Done (report_line k))) Done c.tell.result (report_line c.in-Ok.config)
+    (Ok c.in-Ok.config, c.in-Ok.ensures.exact (λ e. cc), refl) (λ _. refl) (inl refl) (c.tell.ensures.line (report_line c.in-Ok.config) c.use_line.ensures)
 
 pub returns-in-Ok-clause-write_fault : goal.returns-in-Ok-clause-write_fault
 returns-in-Ok-clause-write_fault g c = (c.tell.ensures.line (report_line c.in-Ok.config) c.use_line.ensures).failed
 
 pub returns-in-Err-clause-answered : goal.returns-in-Err-clause-answered
-returns-in-Err-clause-answered g c = λ o same.
-    bad_image_answered _ c.args.bytes.now (λ k given. given ≡ told o.files Done (report_line k)) c.in-Err.fault c.tell_bad_image.result c.in-Err.ensures.exact c.tell_bad_image.ensures.no_memory same
+returns-in-Err-clause-answered g c = λ shelf.
+    bad_image_answered _ _ c.args.bytes.now (λ k given. given ≡ told shelf.files Done (report_line k)) c.in-Err.fault c.tell_bad_image.result c.in-Err.ensures.exact c.tell_bad_image.ensures.no_memory (λ _. refl)
     c.tell_bad_image.ensures.line

@@ -21,20 +21,20 @@ pub returns-in-Ok-clause-write_fault : goal.returns-in-Ok-clause-write_fault
 returns-in-Ok-clause-write_fault g c = (c.tell_built.ensures.line _ refl).failed
 
 pub returns-in-Ok-clause-answered : goal.returns-in-Ok-clause-answered
-returns-in-Ok-clause-answered g c = λ files steady writing.
+returns-in-Ok-clause-answered g c = λ shelf.
     let p = c.args.meant.now.program in
     let lists = c.args.meant.now.entries in
     let built = c.in-Ok.built in
     let is = c.in-Ok.ensures.built in
-    sample_answered files steady _ writing _ _ _ _ c.args.number p lists built c.tell_built.result is (c.tell_built.ensures.line (sample_line c.args.number p lists built.config) (line_of_plain c.args.number p lists built is))
+    sample_answered shelf _ _ c.args.number p lists built c.tell_built.result is (c.tell_built.ensures.line (sample_line c.args.number p lists built.config) (line_of_plain c.args.number p lists built is))
 
 pub returns-in-Err-NoFit-clause-answered : goal.returns-in-Err-NoFit-clause-answered
-returns-in-Err-NoFit-clause-answered g c = λ files steady writing.
+returns-in-Err-NoFit-clause-answered g c = λ shelf.
     let p = c.args.meant.now.program in
     let lists = c.args.meant.now.entries in
-    let finish : List ℕ → Config → Bound → Given = λ image k b. told files Done (sample_line c.args.number p lists k) in
-    let gives : Given → Type 0 = Builds files finish p lists in
-    let line_why = c.fit.ensures.refused c.in-Err-NoFit.line (c.in-Err-NoFit.is ∙ ap Err c.in-Err-NoFit.field-0-is) files finish in
-    let why = subst (λ (line : List ℕ). gives (told files NoFit line)) (ap (λ (line : Vec ℕ Global). line.items) (sym c.in-Err-NoFit.line-is) ∙ sym c.as_slice.ensures.value) line_why in
+    let finish : List ℕ → Config → Bound → Given = λ image k b. told shelf.files Done (sample_line c.args.number p lists k) in
+    let gives : Given → Type 0 = Builds shelf.files finish p lists in
+    let line_why = c.fit.ensures.refused c.in-Err-NoFit.line (c.in-Err-NoFit.is ∙ ap Err c.in-Err-NoFit.field-0-is) shelf.files finish in
+    let why = subst (λ (line : List ℕ). gives (told shelf.files NoFit line)) (ap (λ (line : Vec ℕ Global). line.items) (sym c.in-Err-NoFit.line-is) ∙ sym c.as_slice.ensures.value) line_why in
     let e = c.end_with.ensures in
-    told_answered _ gives NoFit c.end_with.result c.as_slice.result.now why (λ _. refl) (inr (inr (inr (inl refl)))) e.some e.status e.printed e.front e.failed
+    told_answered _ _ gives NoFit c.end_with.result c.as_slice.result.now why (λ _. refl) (inr (inr (inr (inl refl)))) e.some e.status e.printed e.front e.failed

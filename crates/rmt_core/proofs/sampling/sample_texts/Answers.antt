@@ -8,9 +8,8 @@ use Rattle.rmt_core.specs.Given.{told}
 use Rattle.rmt_core.specs.Sampling.{AreOfSample, GivesSample, sample_line}
 use Rattle.rmt_core.proofs.SampleLaws.{no_fault}
 use Rattle.rmt_core.proofs.SampleTexts.{entries_short, program_short}
-use Rattle.rmt_core.proofs.EndLaws.{no_memory}
+use Rattle.rmt_core.proofs.EndLaws.{answered_as, no_memory}
 use Rattle.rmt_core.proofs.GivenDone.{sample_built}
-use Rattle.rmt_core.proofs.TextLaws.{answered_as}
 use Rattle.rmt_core.proofs.sampling.sample_texts.Goals as goal
 
 pub understand-requires-clause-text : goal.understand-requires-clause-text
@@ -24,7 +23,7 @@ sample_meant-requires-clause-said g c =
     (c.as_slice-2.result.now, c.in-Ok.ensures.says, omega (arith, ap length (c.as_slice-2.ensures ∙ c.requires.entries), entries_short c.args.number c.requires.most))
 
 pub returns-in-Ok-clause-answered : goal.returns-in-Ok-clause-answered
-returns-in-Ok-clause-answered g c = λ files steady writing.
+returns-in-Ok-clause-answered g c = λ shelf.
     let n = c.args.number in
     let p = c.in-Ok.meant.program in
     let lists = c.in-Ok.meant.entries in
@@ -32,11 +31,11 @@ returns-in-Ok-clause-answered g c = λ files steady writing.
       means = subst (λ t. Means t (Ok p)) (c.as_slice.ensures ∙ c.requires.program) c.in-Ok.ensures.means;
       says = subst (λ t. entries_of p t ≡ Ok lists) (c.as_slice-2.ensures ∙ c.requires.entries) c.in-Ok.ensures.says;
     } in
-    answered_as _ (Builds files (λ image k b. told files Done (sample_line n p lists k)) p lists) (GivesSample files n) c.sample_meant.result
-    (λ k h. (p, lists, of, h)) (λ k h. sample_built c.one_meaning.ensures.alone files n k p lists of h) (c.sample_meant.ensures.answered files steady writing)
+    answered_as _ _ (Builds shelf.files (λ image k b. told shelf.files Done (sample_line n p lists k)) p lists) (GivesSample shelf.files n) c.sample_meant.result
+    (λ k h. (p, lists, of, h)) (λ k h. sample_built c.one_meaning.ensures.alone shelf.files n k p lists of h) (c.sample_meant.ensures.answered shelf)
 
 pub returns-in-Err-NoMemory-clause-answered : goal.returns-in-Err-NoMemory-clause-answered
-returns-in-Err-NoMemory-clause-answered g c = λ files steady writing. no_memory _ (GivesSample files c.args.number) (λ _. refl) (λ _. refl)
+returns-in-Err-NoMemory-clause-answered g c = λ shelf. no_memory _ _ (GivesSample shelf.files c.args.number) (λ _. refl) (λ _. refl)
 
 pub unreachable-requires : goal.unreachable-requires
 unreachable-requires g c =

@@ -12,10 +12,10 @@ returns-in_err-find-clause-too_long g c =
 
 pub returns-then-branch-clause-comes : goal.returns-then-branch-clause-comes
 returns-then-branch-clause-comes g c =
-    let rest = g.F.Shelf.rest c.find.new.shelf in
+    let rest = (g.F.Shelf.state c.find.new.shelf).rest in
     IfOk-weaker c.packet.result
     (λ step. (limit : ℕ) (text rest : List ℕ) (done : List Packet) → AtLine limit text done c.find.new.self rest → Comes (λ packets. ReadsOn limit text packets c.packet.new.self rest) limit text done c.packet.new.frame.items step)
-    (λ step. IsTrue (g.F.Shelf.told c.args.shelf.now) → (limit : ℕ) (text : List ℕ) (done : List Packet) → ReadsOn limit text done c.args.self.now (g.F.Shelf.rest c.args.shelf.now)
+    (λ step. IsTrue (g.F.Shelf.state c.args.shelf.now).tells → (limit : ℕ) (text : List ℕ) (done : List Packet) → ReadsOn limit text done c.args.self.now (g.F.Shelf.state c.args.shelf.now).rest
     → Comes (λ packets. ReadsOn limit text packets c.packet.new.self rest) limit text done c.packet.new.frame.items step)
     (λ step p told limit text done h. p limit text rest done (c.in_ok-find.ensures.line c.if-branch.true told limit text done h))
     c.packet.ensures.comes

@@ -1,13 +1,13 @@
 -- One packet after another.
-use Rattle.std.proofs.Common.{◌++◌, ◌∷◌, [], Some, Err, IsTrue, arith, refl, sym, ap, subst, ◌∙◌, length-append}
+use Rattle.std.proofs.Common.{◌++◌, ◌∷◌, [], Some, Err, arith, sym, ap, subst, length-append}
 use Rattle.std.specs.Prelude.{map}
 use Rattle.rmt_bits.specs.Packet.{Packet}
+use Rattle.rmt_io.proofs.OutsideLaws.{only_printed_refl, only_printed_trans, only_read_refl, only_read_trans, tells_later}
 use Rattle.rmt_core.specs.Pieces.{Comes}
 use Rattle.rmt_core.specs.ReadsOn.{ReadsOn}
 use Rattle.rmt_core.specs.Running.{Goes}
 use Rattle.rmt_core.specs.RunEnd.{Cut}
 use Rattle.rmt_core.specs.Watching.{shown}
-use Rattle.rmt_core.proofs.DrainLaws.{cut_told, goes_told}
 use Rattle.rmt_core.proofs.EnterLaws.{breaks, ends_whole, inputs_more, may_enter}
 use Rattle.rmt_core.proofs.RunsLaws.{not_too_long}
 use Rattle.rmt_core.proofs.RunLaws.{few_entered, few_numbered}
@@ -19,24 +19,19 @@ pub loop-step-init : goal.loop-step-init
 loop-step-init g c = record {
   done = [];
   goes = λ w k h. h;
-  reads = λ t. c.in-Ok.ensures.reads (g.F.Shelf.rest c.args.shelf.now);
+  reads = λ t. c.in-Ok.ensures.reads (g.F.Shelf.state c.args.shelf.now).rest;
   given = sym c.in-Ok.ensures.given;
   few = omega (arith, c.in-Ok.ensures.given);
-  files = λ name. refl;
-  tells = refl;
-  steady = λ s. s;
-  reading = omega arith;
-  writing = refl;
-  sink_tells = refl;
-  counts = omega arith;
+  only_read = only_read_refl (g.F.Shelf.state c.args.shelf.now);
+  only_printed = only_printed_refl (g.O.Sink.state c.args.out.now);
 }
 
 pub returns-in-Err-clause-broken : goal.returns-in-Err-clause-broken
 returns-in-Err-clause-broken g c = λ t w k h.
     let i = c.loop-step.invariant in
-    let text = g.F.Shelf.rest c.args.shelf.now in
-    let still : IsTrue (g.F.Shelf.told c.loop-step.shelf) = subst (λ b. IsTrue b) (sym i.tells) t in
-    breaks w k c.args.limit text i.done c.loop-step.reader (g.F.Shelf.rest c.loop-step.shelf) (g.O.Sink.told c.args.out.now) (g.O.Sink.bytes c.args.out.now) (g.O.Sink.bytes c.loop-step.out) c.fault_of_step.result
+    let text = (g.F.Shelf.state c.args.shelf.now).rest in
+    let still = tells_later i.only_read t in
+    breaks w k c.args.limit text i.done c.loop-step.reader (g.F.Shelf.state c.loop-step.shelf).rest (g.O.Sink.state c.args.out.now) (g.O.Sink.state c.loop-step.out) c.fault_of_step.result
     (i.reads t)
     (record { front = written_front (i.goes w k h).written; some = λ e. absurd (c.fault_of_step.ensures.never_write e) })
     (λ e. c.in-Err.ensures.too_long (ap Err (c.fault_of_step.ensures.too_long.0 e)) still c.args.limit text i.done (i.reads t))
@@ -44,14 +39,14 @@ returns-in-Err-clause-broken g c = λ t w k h.
 pub returns-in-Bad-clause-ok : goal.returns-in-Bad-clause-ok
 returns-in-Bad-clause-ok g c = λ w k h.
     let i = c.loop-step.invariant in
-    let text = g.F.Shelf.rest c.args.shelf.now in
+    let text = (g.F.Shelf.state c.args.shelf.now).rest in
     record {
       done = i.done;
       goes = i.goes w k h;
       reads = λ t.
-          let still : IsTrue (g.F.Shelf.told c.loop-step.shelf) = subst (λ b. IsTrue b) (sym i.tells) t in
+          let still = tells_later i.only_read t in
           record {
-            says = subst (λ s. Comes (λ packets. ReadsOn c.args.limit text packets c.next.new.self (g.F.Shelf.rest c.next.new.shelf)) c.args.limit text i.done c.next.new.frame.items s) c.in-Bad.is
+            says = subst (λ s. Comes (λ packets. ReadsOn c.args.limit text packets c.next.new.self (g.F.Shelf.state c.next.new.shelf).rest) c.args.limit text i.done c.next.new.frame.items s) c.in-Bad.is
                 (c.in-Ok-next.ensures.comes still c.args.limit text i.done (i.reads t));
             ends = λ e. absurd (cc);
           };
@@ -61,13 +56,13 @@ returns-in-Bad-clause-ok g c = λ w k h.
 pub returns-in-End-clause-ok : goal.returns-in-End-clause-ok
 returns-in-End-clause-ok g c = λ w k h.
     let i = c.loop-step.invariant in
-    let text = g.F.Shelf.rest c.args.shelf.now in
+    let text = (g.F.Shelf.state c.args.shelf.now).rest in
     record {
       done = i.done;
       goes = i.goes w k h;
       reads = λ t.
-          let still : IsTrue (g.F.Shelf.told c.loop-step.shelf) = subst (λ b. IsTrue b) (sym i.tells) t in
-          let whole = subst (λ s. Comes (λ packets. ReadsOn c.args.limit text packets c.next.new.self (g.F.Shelf.rest c.next.new.shelf)) c.args.limit text i.done c.next.new.frame.items s) c.in-End.is
+          let still = tells_later i.only_read t in
+          let whole = subst (λ s. Comes (λ packets. ReadsOn c.args.limit text packets c.next.new.self (g.F.Shelf.state c.next.new.shelf).rest) c.args.limit text i.done c.next.new.frame.items s) c.in-End.is
           (c.in-Ok-next.ensures.comes still c.args.limit text i.done (i.reads t)) in
           ends_whole c.args.limit text i.done whole.0 whole.1;
       few = omega (arith, i.given, i.few);
@@ -102,46 +97,46 @@ loop-step-smaller g c = omega (arith, c.in-Ok-next.ensures.given c.in-Packet.por
 pub loop-step-preserved : goal.loop-step-preserved
 loop-step-preserved g c =
     let i = c.loop-step.invariant in
-    let text = g.F.Shelf.rest c.args.shelf.now in
-    let before = g.O.Sink.bytes c.args.out.now in
+    let text = (g.F.Shelf.state c.args.shelf.now).rest in
+    let before = g.O.Sink.state c.args.out.now in
     let packet : Packet = record { port = c.in-Packet.port; frame = c.as_slice.result.now } in
     let next = c.in-Ok-next.ensures in
     record {
       done = i.done ++ packet ∷ [];
       goes = λ w k h.
-          subst (λ l. Goes w k l c.turn.new.run c.turn.new.chip (g.O.Sink.told c.args.out.now) before (g.O.Sink.bytes c.turn.new.out)) (inputs_more i.done packet)
-          (goes_told (sym i.sink_tells) (c.in-Ok-turn.ensures.ok w k (map Some i.done) before (goes_told i.sink_tells (i.goes w k h))));
+          subst (λ l. Goes w k l c.turn.new.run c.turn.new.chip before (g.O.Sink.state c.turn.new.out)) (inputs_more i.done packet)
+          (c.in-Ok-turn.ensures.ok w k (map Some i.done) before (i.goes w k h));
       reads = λ t.
-          let still : IsTrue (g.F.Shelf.told c.loop-step.shelf) = subst (λ b. IsTrue b) (sym i.tells) t in
-          let comes : ReadsOn c.args.limit text (i.done ++ record { port = c.in-Packet.port; frame = c.next.new.frame.items } ∷ []) c.next.new.self (g.F.Shelf.rest c.next.new.shelf) =
-          subst (λ s. Comes (λ packets. ReadsOn c.args.limit text packets c.next.new.self (g.F.Shelf.rest c.next.new.shelf)) c.args.limit text i.done c.next.new.frame.items s) c.in-Packet.is
+          let still = tells_later i.only_read t in
+          let comes : ReadsOn c.args.limit text (i.done ++ record { port = c.in-Packet.port; frame = c.next.new.frame.items } ∷ []) c.next.new.self (g.F.Shelf.state c.next.new.shelf).rest =
+          subst (λ s. Comes (λ packets. ReadsOn c.args.limit text packets c.next.new.self (g.F.Shelf.state c.next.new.shelf).rest) c.args.limit text i.done c.next.new.frame.items s) c.in-Packet.is
           (next.comes still c.args.limit text i.done (i.reads t)) in
           rw c.as_slice.ensures.value comes;
       given = omega (arith, length-append i.done (packet ∷ []), i.given, next.given c.in-Packet.port c.in-Packet.is);
       few = c.next.ensures.few;
-      files = λ name. c.next.ensures.files name ∙ i.files name;
-      tells = c.next.ensures.tells ∙ i.tells;
-      steady = λ s. c.next.ensures.stays_steady (i.steady s);
-      reading = omega (arith, c.next.ensures.reading, i.reading);
-      writing = c.next.ensures.writing ∙ i.writing;
-      sink_tells = c.turn.ensures.tells ∙ i.sink_tells;
-      counts = omega (arith, c.turn.ensures.counts, i.counts);
+      only_read = only_read_trans i.only_read c.next.ensures.only_read;
+      only_printed = only_printed_trans i.only_printed c.turn.ensures.only_printed;
     }
 
 pub returns-in-Err-turn-clause-broken : goal.returns-in-Err-turn-clause-broken
 returns-in-Err-turn-clause-broken g c = λ t w k h.
     let i = c.loop-step.invariant in
-    let text = g.F.Shelf.rest c.args.shelf.now in
-    let told = g.O.Sink.told c.args.out.now in
-    let before = g.O.Sink.bytes c.args.out.now in
-    let now = g.O.Sink.bytes c.turn.new.out in
+    let text = (g.F.Shelf.state c.args.shelf.now).rest in
+    let before = g.O.Sink.state c.args.out.now in
+    let now = g.O.Sink.state c.turn.new.out in
     let packet : Packet = record { port = c.in-Packet.port; frame = c.as_slice.result.now } in
-    let still : IsTrue (g.F.Shelf.told c.loop-step.shelf) = subst (λ b. IsTrue b) (sym i.tells) t in
-    let comes : ReadsOn c.args.limit text (i.done ++ record { port = c.in-Packet.port; frame = c.next.new.frame.items } ∷ []) c.next.new.self (g.F.Shelf.rest c.next.new.shelf) =
-    subst (λ s. Comes (λ packets. ReadsOn c.args.limit text packets c.next.new.self (g.F.Shelf.rest c.next.new.shelf)) c.args.limit text i.done c.next.new.frame.items s) c.in-Packet.is
+    let still = tells_later i.only_read t in
+    let comes : ReadsOn c.args.limit text (i.done ++ record { port = c.in-Packet.port; frame = c.next.new.frame.items } ∷ []) c.next.new.self (g.F.Shelf.state c.next.new.shelf).rest =
+    subst (λ s. Comes (λ packets. ReadsOn c.args.limit text packets c.next.new.self (g.F.Shelf.state c.next.new.shelf).rest) c.args.limit text i.done c.next.new.frame.items s) c.in-Packet.is
     (c.in-Ok-next.ensures.comes still c.args.limit text i.done (i.reads t)) in
-    breaks w k c.args.limit text (i.done ++ packet ∷ []) c.next.new.self (g.F.Shelf.rest c.next.new.shelf) told before now c.in-Err-turn.fault
+    breaks w k c.args.limit text (i.done ++ packet ∷ []) c.next.new.self (g.F.Shelf.state c.next.new.shelf).rest before now c.in-Err-turn.fault
     (rw c.as_slice.ensures.value comes)
-    (subst (λ l. Cut (shown w k l) told before now c.in-Err-turn.fault) (inputs_more i.done packet)
-    (cut_told i.sink_tells (c.in-Err-turn.ensures.cut w k (map Some i.done) before (goes_told i.sink_tells (i.goes w k h)))))
+    (subst (λ l. Cut (shown w k l) before now c.in-Err-turn.fault) (inputs_more i.done packet)
+    (c.in-Err-turn.ensures.cut w k (map Some i.done) before (i.goes w k h)))
     (λ e. absurd (not_too_long c.in-Err-turn.fault c.in-Err-turn.ensures.either e))
+
+pub returns-in-Err-turn-clause-only_read : goal.returns-in-Err-turn-clause-only_read
+returns-in-Err-turn-clause-only_read g c = only_read_trans c.loop-step.invariant.only_read c.next.ensures.only_read
+
+pub returns-in-Err-turn-clause-only_printed : goal.returns-in-Err-turn-clause-only_printed
+returns-in-Err-turn-clause-only_printed g c = only_printed_trans c.loop-step.invariant.only_printed c.turn.ensures.only_printed

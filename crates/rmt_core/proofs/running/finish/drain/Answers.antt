@@ -1,9 +1,10 @@
 -- One empty cycle after another.
-use Rattle.std.proofs.Common.{◌≡◌, ◌++◌, None, arith, sym, subst, ◌∙◌}
+use Rattle.std.proofs.Common.{◌≡◌, ◌++◌, None, arith, subst}
 use Rattle.std.specs.Prelude.{replicate}
+use Rattle.rmt_io.proofs.OutsideLaws.{only_printed_trans}
 use Rattle.rmt_config.specs.ChipRun.{latency_of}
 use Rattle.rmt_core.specs.Running.{Goes}
-use Rattle.rmt_core.proofs.DrainLaws.{cut_told, goes_told, padded, padded_begins, padded_length}
+use Rattle.rmt_core.proofs.DrainLaws.{padded, padded_begins, padded_length}
 use Rattle.rmt_core.proofs.RunLaws.{cut_begins, few_entered, few_numbered}
 use Rattle.rmt_core.proofs.running.finish.drain.Goals as goal
 
@@ -25,20 +26,20 @@ turn-requires-clause-answered g c =
 pub returns-clause-ok : goal.returns-clause-ok
 returns-clause-ok g c = λ w k inputs before h.
     let e : c.loop-age._age ≡ latency_of k.stages = omega (arith, c.latency-latency.ensures k inputs h.stands) in
-    subst (λ n. Goes w k (inputs ++ replicate n None) c.loop-age.run c.loop-age.chip (g.O.Sink.told c.args.out.now) before (g.O.Sink.bytes c.loop-age.out)) e (c.loop-age.invariant.goes w k inputs before h)
+    subst (λ n. Goes w k (inputs ++ replicate n None) c.loop-age.run c.loop-age.chip before (g.O.Sink.state c.loop-age.out)) e (c.loop-age.invariant.goes w k inputs before h)
 
 pub returns-in-Err-clause-cut : goal.returns-in-Err-clause-cut
 returns-in-Err-clause-cut g c = λ w k inputs before h.
-    let tells = c.loop-age.invariant.tells in
     cut_begins (padded_begins w k inputs c.loop-age._age (latency_of k.stages) (omega (arith, c.latency-latency.ensures k inputs h.stands)))
-    (cut_told tells (c.in-Err.ensures.cut w k (inputs ++ replicate c.loop-age._age None) before (goes_told tells (c.loop-age.invariant.goes w k inputs before h))))
+    (c.in-Err.ensures.cut w k (inputs ++ replicate c.loop-age._age None) before (c.loop-age.invariant.goes w k inputs before h))
 
 pub loop-age-preserved : goal.loop-age-preserved
 loop-age-preserved g c = record {
   goes = λ w k inputs before h.
-      let tells = c.loop-age.invariant.tells in
-      subst (λ l. Goes w k l c.turn.new.run c.turn.new.chip (g.O.Sink.told c.args.out.now) before (g.O.Sink.bytes c.turn.new.out)) (padded inputs c.loop-age._age)
-      (goes_told (sym tells) (c.in-Ok.ensures.ok w k (inputs ++ replicate c.loop-age._age None) before (goes_told tells (c.loop-age.invariant.goes w k inputs before h))));
-  tells = c.turn.ensures.tells ∙ c.loop-age.invariant.tells;
-  counts = omega (arith, c.turn.ensures.counts, c.loop-age.invariant.counts);
+      subst (λ l. Goes w k l c.turn.new.run c.turn.new.chip before (g.O.Sink.state c.turn.new.out)) (padded inputs c.loop-age._age)
+      (c.in-Ok.ensures.ok w k (inputs ++ replicate c.loop-age._age None) before (c.loop-age.invariant.goes w k inputs before h));
+  only_printed = only_printed_trans c.loop-age.invariant.only_printed c.turn.ensures.only_printed;
 }
+
+pub returns-in-Err-clause-only_printed : goal.returns-in-Err-clause-only_printed
+returns-in-Err-clause-only_printed g c = only_printed_trans c.loop-age.invariant.only_printed c.turn.ensures.only_printed

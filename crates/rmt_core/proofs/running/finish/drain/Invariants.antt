@@ -1,7 +1,8 @@
 -- One empty cycle after another.
-use Rattle.std.proofs.Common.{◌≡◌, ◌≤◌, ℕ, List, ◌++◌, Option, None}
+use Rattle.std.proofs.Common.{List, ◌++◌, Option, None}
 use Rattle.std.specs.Prelude.{replicate}
 use Rattle.rmt_bits.specs.Packet.{Packet}
+use Rattle.rmt_io.specs.Outside.{OnlyPrinted, SinkState}
 use Rattle.rmt_core.specs.Types.{Config}
 use Rattle.rmt_core.specs.declared.watch.Watch.{Watch}
 use Rattle.rmt_core.specs.Running.{Goes}
@@ -9,8 +10,7 @@ use Rattle.rmt_core.proofs.running.finish.drain.Given as goal
 
 abbrev pub invariant-loop-age : goal.invariant-loop-age
 invariant-loop-age g l = record {
-  goes : (w : Watch) (c : Config) (inputs : List (Option Packet)) (before : List ℕ) → Goes w c inputs l.fn.run l.fn.chip (g.O.Sink.told l.fn.out) before (g.O.Sink.bytes l.fn.out) →
-      Goes w c (inputs ++ replicate l._age None) l.run l.chip (g.O.Sink.told l.fn.out) before (g.O.Sink.bytes l.out);
-  tells : g.O.Sink.told l.out ≡ g.O.Sink.told l.fn.out;
-  counts : g.O.Sink.faults l.fn.out ≤ g.O.Sink.faults l.out;
+  goes : (w : Watch) (c : Config) (inputs : List (Option Packet)) (before : SinkState) → Goes w c inputs l.fn.run l.fn.chip before (g.O.Sink.state l.fn.out) →
+      Goes w c (inputs ++ replicate l._age None) l.run l.chip before (g.O.Sink.state l.out);
+  only_printed : OnlyPrinted (g.O.Sink.state l.fn.out) (g.O.Sink.state l.out);
 }

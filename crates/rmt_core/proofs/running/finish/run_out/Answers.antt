@@ -14,22 +14,19 @@ drain-requires g c = (c.requires.0, c.requires.1, map Some c.requires.2, c.requi
 
 pub returns-then-not-runs_on-clause-ok : goal.returns-then-not-runs_on-clause-ok
 returns-then-not-runs_on-clause-ok g c = λ w k done before h.
-    let told = g.O.Sink.told c.args.out.now in
-    let now = g.O.Sink.bytes c.args.out.now in
+    let now = g.O.Sink.state c.args.out.now in
     let all = map Some done ++ replicate (latency_of k.stages) None in
-    let same = ran_as w k done (bad_line c.args.bad) c.args.run.now c.args.chip.now told before now c.runs_on.result all (c.runs_on.ensures k done) h in
-    subst (λ l. Goes w k l c.args.run.now c.args.chip.now told before now) (sym (same ∙ ap (λ b. cond b all (map Some done)) c.if-not-runs_on.true)) h
+    let same = ran_as w k done (bad_line c.args.bad) c.args.run.now c.args.chip.now before now c.runs_on.result all (c.runs_on.ensures k done) h in
+    subst (λ l. Goes w k l c.args.run.now c.args.chip.now before now) (sym (same ∙ ap (λ b. cond b all (map Some done)) c.if-not-runs_on.true)) h
 
 pub returns-in-Ok-clause-ok : goal.returns-in-Ok-clause-ok
 returns-in-Ok-clause-ok g c = λ w k done before h.
-    let told = g.O.Sink.told c.args.out.now in
     let all = map Some done ++ replicate (latency_of k.stages) None in
-    let same = ran_as w k done (bad_line c.args.bad) c.args.run.now c.args.chip.now told before (g.O.Sink.bytes c.args.out.now) c.runs_on.result all (c.runs_on.ensures k done) h in
-    subst (λ l. Goes w k l c.drain.new.run c.drain.new.chip told before (g.O.Sink.bytes c.drain.new.out)) (sym (same ∙ ap (λ b. cond b all (map Some done)) c.if-not-runs_on.false)) (c.in-Ok.ensures.ok w k (map Some done) before h)
+    let same = ran_as w k done (bad_line c.args.bad) c.args.run.now c.args.chip.now before (g.O.Sink.state c.args.out.now) c.runs_on.result all (c.runs_on.ensures k done) h in
+    subst (λ l. Goes w k l c.drain.new.run c.drain.new.chip before (g.O.Sink.state c.drain.new.out)) (sym (same ∙ ap (λ b. cond b all (map Some done)) c.if-not-runs_on.false)) (c.in-Ok.ensures.ok w k (map Some done) before h)
 
 pub returns-in-Err-clause-cut : goal.returns-in-Err-clause-cut
 returns-in-Err-clause-cut g c = λ w k done before h.
-    let told = g.O.Sink.told c.args.out.now in
     let all = map Some done ++ replicate (latency_of k.stages) None in
-    let same = ran_as w k done (bad_line c.args.bad) c.args.run.now c.args.chip.now told before (g.O.Sink.bytes c.args.out.now) c.runs_on.result all (c.runs_on.ensures k done) h in
-    subst (λ l. Cut (shown w k l) told before (g.O.Sink.bytes c.drain.new.out) c.in-Err.fault) (sym (same ∙ ap (λ b. cond b all (map Some done)) c.if-not-runs_on.false)) (c.in-Err.ensures.cut w k (map Some done) before h)
+    let same = ran_as w k done (bad_line c.args.bad) c.args.run.now c.args.chip.now before (g.O.Sink.state c.args.out.now) c.runs_on.result all (c.runs_on.ensures k done) h in
+    subst (λ l. Cut (shown w k l) before (g.O.Sink.state c.drain.new.out) c.in-Err.fault) (sym (same ∙ ap (λ b. cond b all (map Some done)) c.if-not-runs_on.false)) (c.in-Err.ensures.cut w k (map Some done) before h)

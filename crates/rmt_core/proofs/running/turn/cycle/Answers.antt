@@ -17,8 +17,8 @@ returns-in-Answers c =
     let left = c.clock-left.result in
     let one : c.from.result ≡ cond (is_some left) 1 0 = c.from.ensures ∙ ap bool_byte c.is_some.ensures ∙ byte_of (is_some left) in
     ok_then c.add_answer.result
-    (λ line w k inputs told before now g.
-    goes_answer w k inputs (input_of c.args.frame) old _ c.args.chip.now _ told before now left c.clock-left.new.out c.bytes.result.now c.in-Answers.is c.bytes.ensures
+    (λ line w k inputs before now g.
+    goes_answer w k inputs (input_of c.args.frame) old _ c.args.chip.now _ before now left c.clock-left.new.out c.bytes.result.now c.in-Answers.is c.bytes.ensures
     (clocked_so k inputs (input_of c.args.frame) old _ _ left c.clock-left.new.out c.from.result (c.clock-left.ensures k inputs g.stands) refl refl refl one) line g)
     c.add_answer.ensures
 
@@ -29,17 +29,17 @@ returns-then-run-from c =
     let one : c.from.result ≡ cond (is_some left) 1 0 = c.from.ensures ∙ ap bool_byte c.is_some.ensures ∙ byte_of (is_some left) in
     let reached : old.cycles + 1 ≡ c.in-Vectors.cycle + 1 = omega (arith, c.if-run-from.true, c.from-in-Vectors.ensures) in
     ok_then c.add_vectors.result
-    (λ lines w k inputs told before now g.
-    goes_vectors w k inputs (input_of c.args.frame) old _ c.args.chip.now _ told before now left c.clock-left.new.out c.in-Vectors.cycle c.in-Vectors.is reached
+    (λ lines w k inputs before now g.
+    goes_vectors w k inputs (input_of c.args.frame) old _ c.args.chip.now _ before now left c.clock-left.new.out c.in-Vectors.cycle c.in-Vectors.is reached
     (clocked_so k inputs (input_of c.args.frame) old _ _ left c.clock-left.new.out c.from.result (c.clock-left.ensures k inputs g.stands) refl refl refl one)
     (λ all stands long. lines k all c.in-Vectors.cycle stands long) g)
     c.add_vectors.ensures
 
 pub returns-else-run-from : goal.returns-else-run-from
-returns-else-run-from c = λ w k inputs told before now g.
+returns-else-run-from c = λ w k inputs before now g.
     let old = c.args.run.now in
     let left = c.clock-left.result in
     let one : c.from.result ≡ cond (is_some left) 1 0 = c.from.ensures ∙ ap bool_byte c.is_some.ensures ∙ byte_of (is_some left) in
     let other : old.cycles + 1 ≡ c.in-Vectors.cycle + 1 → ⊥ = λ e. absurd (omega (arith, c.if-run-from.false, c.from-in-Vectors.ensures, e)) in
-    goes_past w k inputs (input_of c.args.frame) old _ c.args.chip.now _ told before now left c.clock-left.new.out c.in-Vectors.cycle c.in-Vectors.is other
+    goes_past w k inputs (input_of c.args.frame) old _ c.args.chip.now _ before now left c.clock-left.new.out c.in-Vectors.cycle c.in-Vectors.is other
     (clocked_so k inputs (input_of c.args.frame) old _ _ left c.clock-left.new.out c.from.result (c.clock-left.ensures k inputs g.stands) refl refl refl one) refl g

@@ -1,7 +1,7 @@
 -- A front of the lines, and of both texts.
 use Rattle.std.proofs.Common.{sym, subst}
 use Rattle.std.specs.Prelude.{IsTrue}
-use Rattle.rmt_core.proofs.EndLaws.{gains_more, gains_behind}
+use Rattle.rmt_core.proofs.EndLaws.{gains_all, gains_more, gains_behind}
 use Rattle.rmt_core.proofs.WaitingLaws.{some_more, some_behind}
 use Rattle.rmt_core.proofs.waiting.Waiting.end.Goals as goal
 
@@ -13,7 +13,12 @@ returns-in_default-clause-some g c = λ e. rw (← c.as_slice.ensures.value) (so
 
 pub returns-in-Err-clause-front : goal.returns-in-Err-clause-front
 returns-in-Err-clause-front g c = λ t.
-    rw (← c.as_slice.ensures.value) (gains_behind _ (g.O.Sink.bytes c.print.new.out) _ _ _ (c.in-Ok.ensures.printed t) (c.in-Err.ensures.front (subst IsTrue (sym c.print.ensures.tells) t)))
+    rw (← c.as_slice.ensures.value) (gains_behind _ (g.O.Sink.state c.print.new.out).bytes _ _ _ (c.in-Ok.ensures.printed t) (c.in-Err.ensures.front (subst IsTrue (sym c.print.ensures.only_printed.tells) t)))
 
 pub returns-in-Err-clause-some : goal.returns-in-Err-clause-some
 returns-in-Err-clause-some g c = λ e. some_behind _ _ c.in-Err.ensures.some
+
+pub returns-in-Ok-print-clause-front : goal.returns-in-Ok-print-clause-front
+returns-in-Ok-print-clause-front g c = λ t.
+    rw (← c.as_slice.ensures.value)
+    (gains_behind _ (g.O.Sink.state c.print.new.out).bytes _ _ _ (c.in-Ok.ensures.printed t) (gains_all _ _ _ (c.in-Ok-print.ensures.printed (subst IsTrue (sym c.print.ensures.only_printed.tells) t))))

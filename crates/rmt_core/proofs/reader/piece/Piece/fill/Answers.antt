@@ -11,4 +11,4 @@ returns-clause-given g c told =
     let same : (with_items room now).items ≡ now = with_items_is room now (omega (arith, c.ask.auto.into, c.as_mut_slice.ensures.len)) in
     let all : n - 0 ≡ n = omega arith in
     let waits : take (n - 0) (with_items room now).items ≡ take n now = ap (λ k. take k (with_items room now).items) all ∙ ap (take n) same in
-    c.in_ok-count.ensures.given told ∙ ap (λ xs. xs ++ g.F.Shelf.rest c.ask.new.shelf) (sym waits)
+    c.in_ok-count.ensures.given told ∙ ap (λ xs. xs ++ (g.F.Shelf.state c.ask.new.shelf).rest) (sym waits)
