@@ -8,7 +8,8 @@ use Rattle.rmt_config.specs.Types.{Config}
 use Rattle.rmt_config.specs.RunCells.{RunCells, own_cells, with_version}
 use Rattle.rmt_config.specs.Rooms.{Room, rooms_for}
 use Rattle.rmt_config.specs.Commits.{Placed, placed_after, settled}
-use Rattle.rmt_config.proofs.ExamplesRunCells.{strict_and_weak, seven_holds, ternary}
+use Rattle.rmt_config.proofs.ExamplesNames.{its_names}
+use Rattle.rmt_config.proofs.ExamplesRunCells.{strict_and_weak, seven_holds, ternary, ternary_names}
 
 -- the cells of entries, by their numbers
 abbrev told : Placed → ℕ × ℕ
@@ -20,7 +21,7 @@ abbrev config : Config
 config = strict_and_weak false
 
 abbrev names : Names
-names = record { tables = record { node = 1; name = codes "b"; kind = kind.Exact; size = 16; keys = 8 ∷ []; actions = record { name = codes "go"; params = 9 ∷ [] } ∷ []; ranks = [] } ∷ [] }
+names = its_names
 
 -- `b KEY go PORT` of a number
 abbrev entry : ℕ → ℕ → ℕ → Entry
@@ -67,20 +68,6 @@ pub taken_again : (option_map (map told) (placed_after config names once (lists 
 taken_again = (refl, refl, refl)
 
 -- ---- a ternary table
-
-abbrev ternary_names : Names
-ternary_names = record {
-  tables =
-      record {
-        node = 0;
-        name = codes "t";
-        kind = kind.Ternary;
-        size = 2048;
-        keys = 8 ∷ [];
-        actions = record { name = codes "go"; params = 9 ∷ [] } ∷ [];
-        ranks = record { number = 0; rank = 20 } ∷ record { number = 1; rank = 30 } ∷ [];
-      } ∷ [];
-}
 
 abbrev row : ℕ → ℕ → ℕ → ℕ → Entry
 row number rank value mask = record { table = 0; number = number; tests = record { value = value; mask = mask } ∷ []; rank = rank; action = 0; args = 1 ∷ [] }

@@ -13,7 +13,7 @@ use Rattle.rmt_config.specs.RunCells.{RunCells, look_in, own_cells}
 use Rattle.rmt_config.specs.RunInputs.{Input, after_input, answer_in, cells_at, counts_in, hits_from, input_of, look_from, numbers_brought, packet_of, start_of}
 use Rattle.rmt_config.proofs.RunCellLaws.{look_in-own}
 
-module _ (c : Config) where
+module _ (c : Config) (none : c.names ≡ None) where
   -- packets change no cell
   stays : (cells : RunCells) (n : ℕ) (inputs : List (Option Packet)) → fold (after_input c) cells (take n (map input_of inputs)) ≡ cells
   stays cells zero inputs = refl
@@ -22,15 +22,15 @@ module _ (c : Config) where
   stays cells (suc n) ((Some packet) ∷ inputs) = stays cells n inputs
 
   module _ (inputs : List (Option Packet)) where
-    look_at : (cycle k place key : ℕ) → look_from c false (map input_of inputs) cycle k place key ≡ own_look c k place key
+    look_at : (cycle k place key : ℕ) → look_from c (map input_of inputs) cycle k place key ≡ own_look c k place key
     look_at cycle k place key =
         let version = (cells_at c (map input_of inputs) cycle).version in
-        ap (λ cells. look_in c false version cells k place key) (stays (own_cells c) (cycle + start_of c k) inputs) ∙ look_in-own c version k place key
+        ap (λ cells. look_in c version cells k place key) (stays (own_cells c) (cycle + start_of c k) inputs) ∙ look_in-own c none version k place key
 
-    look_is : (cycle : ℕ) → look_from c false (map input_of inputs) cycle ≡ own_look c
+    look_is : (cycle : ℕ) → look_from c (map input_of inputs) cycle ≡ own_look c
     look_is cycle = λ i k place key. look_at cycle k place key i
 
-    outcome_is : (cycle : ℕ) (packet : Packet) → outcome_of (look_from c false (map input_of inputs) cycle) c packet ≡ outcome_of (own_look c) c packet
+    outcome_is : (cycle : ℕ) (packet : Packet) → outcome_of (look_from c (map input_of inputs) cycle) c packet ≡ outcome_of (own_look c) c packet
     outcome_is cycle packet = ap (λ (look : Look). outcome_of look c packet) (look_is cycle)
 
     -- an answer, by what enters
@@ -39,20 +39,20 @@ module _ (c : Config) where
     answered look (Some None) = refl
     answered look (Some (Some packet)) = refl
 
-    pub answers-unchanged : (cycle : ℕ) → answer_in c false (map input_of inputs) cycle ≡ answer_at c inputs cycle
+    pub answers-unchanged : (cycle : ℕ) → answer_in c (map input_of inputs) cycle ≡ answer_at c inputs cycle
     answers-unchanged cycle =
         let entered = cycle - latency_of c.stages in
         ap (λ (o : Option Outcome). cond (nat_lt cycle (latency_of c.stages)) None o)
-        (ap (λ (o : Option Input). option_map (outcome_of (look_from c false (map input_of inputs) entered) c) (option_and_then packet_of o)) (slice_get-map input_of inputs entered)
-        ∙ answered (look_from c false (map input_of inputs) entered) (slice_get inputs entered)
+        (ap (λ (o : Option Input). option_map (outcome_of (look_from c (map input_of inputs) entered) c) (option_and_then packet_of o)) (slice_get-map input_of inputs entered)
+        ∙ answered (look_from c (map input_of inputs) entered) (slice_get inputs entered)
         ∙ ap (λ (look : Look). option_and_then (option_map (outcome_of look c)) (slice_get inputs entered)) (look_is entered))
 
-    hits_unchanged : (cycle : ℕ) (rest : List (Option Packet)) → hits_from c false (map input_of inputs) cycle (map input_of rest) ≡ hits_in c rest
+    hits_unchanged : (cycle : ℕ) (rest : List (Option Packet)) → hits_from c (map input_of inputs) cycle (map input_of rest) ≡ hits_in c rest
     hits_unchanged cycle [] = refl
     hits_unchanged cycle (None ∷ rest) = hits_unchanged (cycle + 1) rest
     hits_unchanged cycle ((Some packet) ∷ rest) =
-        ap (λ n. hits_before (n + 1) packet (outcome_of (look_from c false (map input_of inputs) cycle) c packet).counted ++ hits_from c false (map input_of inputs) (cycle + 1) (map input_of rest)) (length-map rest input_of)
-        ∙ ap (λ (o : Outcome). hits_before (length rest + 1) packet o.counted ++ hits_from c false (map input_of inputs) (cycle + 1) (map input_of rest)) (outcome_is cycle packet)
+        ap (λ n. hits_before (n + 1) packet (outcome_of (look_from c (map input_of inputs) cycle) c packet).counted ++ hits_from c (map input_of inputs) (cycle + 1) (map input_of rest)) (length-map rest input_of)
+        ∙ ap (λ (o : Outcome). hits_before (length rest + 1) packet o.counted ++ hits_from c (map input_of inputs) (cycle + 1) (map input_of rest)) (outcome_is cycle packet)
         ∙ ap (λ hits. hits_before (length rest + 1) packet (outcome_of (own_look c) c packet).counted ++ hits) (hits_unchanged (cycle + 1) rest)
 
   none_brought : (inputs : List (Option Packet)) → flat_map (numbers_brought c) (map input_of inputs) ≡ []
@@ -60,8 +60,8 @@ module _ (c : Config) where
   none_brought (None ∷ inputs) = none_brought inputs
   none_brought ((Some packet) ∷ inputs) = none_brought inputs
 
-  pub counts-unchanged : (inputs : List (Option Packet)) → counts_in c false (map input_of inputs) ≡ chip_counts_of c inputs
+  pub counts-unchanged : (inputs : List (Option Packet)) → counts_in c (map input_of inputs) ≡ chip_counts_of c inputs
   counts-unchanged inputs =
-      ap (λ numbers. counts (counted_numbers c ++ numbers) (hits_from c false (map input_of inputs) 0 (map input_of inputs))) (none_brought inputs)
-      ∙ ap (λ numbers. counts numbers (hits_from c false (map input_of inputs) 0 (map input_of inputs))) (append-nil (counted_numbers c))
+      ap (λ numbers. counts (counted_numbers c ++ numbers) (hits_from c (map input_of inputs) 0 (map input_of inputs))) (none_brought inputs)
+      ∙ ap (λ numbers. counts numbers (hits_from c (map input_of inputs) 0 (map input_of inputs))) (append-nil (counted_numbers c))
       ∙ ap (counts (counted_numbers c)) (hits_unchanged inputs 0 inputs)

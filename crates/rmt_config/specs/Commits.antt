@@ -14,7 +14,8 @@ use Rattle.rmt_ast.specs.Events.{Arrives, Commits, Event}
 use Rattle.rmt_config.specs.Types.{Config, SlotUnit}
 use Rattle.rmt_config.specs.Cells.{Content, cells_in, is_occupied, visible_bits}
 use Rattle.rmt_config.specs.ChipRun.{latency_of}
-use Rattle.rmt_config.specs.RunCells.{CellWrite, RunCells, emptied, has_bit, no_content, own_cells, sees, slot_at, with_version, with_write}
+use Rattle.rmt_config.specs.declared.cell_write.CellWrite.{CellWrite}
+use Rattle.rmt_config.specs.RunCells.{RunCells, emptied, has_bit, no_content, own_cells, sees, slot_at, with_version, with_write}
 use Rattle.rmt_config.specs.Rooms.{Room, content_in, entry_content, is_at, is_before, is_same, key_number, number_in, rooms_for}
 use Rattle.rmt_config.specs.RunInputs.{Enters, Idle, Input, Turns, Writes}
 

@@ -1,5 +1,5 @@
 -- The rules of form on names, each by itself: the tables of a configuration by name, and the entries that cells and ranks spell.
-use Rattle.std.specs.Prelude.{ℕ, ◌+◌, ◌*◌, ◌-◌, ◌^◌, ◌%◌, ◌/◌, List, [], ◌∷◌, Bool, true, false, not, ◌&&◌, ◌||◌, ◌==◌, nat_lt, nat_le, if◌then◌else◌, Option, Some, None, is_some, option_map, unwrap_or, find, filter, fold, length, map, max, sum}
+use Rattle.std.specs.Prelude.{ℕ, ◌+◌, ◌*◌, ◌-◌, ◌^◌, ◌%◌, ◌/◌, List, [], ◌∷◌, Bool, true, false, not, ◌&&◌, ◌||◌, ◌==◌, nat_lt, nat_le, if◌then◌else◌, Option, Some, None, is_some, option_map, unwrap_or, find, fold, length, map, max, sum}
 use Rattle.std.specs.List.{enumerate_from, flat_map, list_all, list_any, range_with_len}
 use Rattle.std.specs.Str.{bytes_eq}
 use Rattle.rmt_bits.specs.Bits.{slice}
@@ -12,32 +12,18 @@ use Rattle.rmt_ast.specs.declared.names.TableName.{TableName}
 use Rattle.rmt_ast.specs.declared.names.ActionName.{ActionName}
 use Rattle.rmt_ast.specs.declared.names.RankOf.{RankOf}
 use Rattle.rmt_ast.specs.Changes.{are_same}
-use Rattle.rmt_ast.specs.Lookup.{precedes}
 use Rattle.rmt_ast.specs.NameRules.{names_are_formed}
-use Rattle.rmt_config.specs.Types.{Config, Stage, Unit, SlotUnit, CellNumber, Memory}
+use Rattle.rmt_ast.specs.RowOrder.{goes_first}
+use Rattle.rmt_config.specs.Types.{Config, Unit, CellNumber, Memory}
 use Rattle.rmt_config.specs.declared.config.Unit.TheVariants.{Gate, Slot}
 use Rattle.rmt_config.specs.declared.config.Memory.TheVariants.{Without, Exact, Ternary}
 use Rattle.rmt_config.specs.LaneForm.{bits_of_lanes}
 use Rattle.rmt_config.specs.Life.{has_memory}
-use Rattle.rmt_config.specs.Cells.{Content, candidates, code_of, content_of}
-use Rattle.rmt_config.specs.CellForm.{Coded, coded_from, entry_numbers}
+use Rattle.rmt_config.specs.Cells.{Content, candidates, code_of}
+use Rattle.rmt_config.specs.CellForm.{entry_numbers}
+use Rattle.rmt_config.specs.RunCells.{own_content}
+use Rattle.rmt_config.specs.Rooms.{PartAt, parts_of}
 use Rattle.rmt_config.specs.TableForm.{Placed, node_of, placed_units}
-
--- ---- the parts of a table
-
--- a part of a table: the stage in which it stands, its slot, and the number of the slot's first instruction in the stage
-pub record TablePart : Type 0 where
-  pub stage : Stage
-  pub first : ℕ
-  pub slot : SlotUnit
-
-abbrev pub parts_in : ℕ → Stage → List TablePart
-parts_in node stage =
-    map (λ (c : Coded). record { stage = stage; first = c.first; slot = c.slot }) (filter (λ (c : Coded). c.slot.node == node) (coded_from 0 stage.units))
-
--- the parts of the table of a node, from the earliest stage on
-abbrev pub parts_of : Config → ℕ → List TablePart
-parts_of c node = flat_map (parts_in node) c.stages
 
 -- ---- the entry that a cell spells
 
@@ -71,13 +57,13 @@ abbrev pub params_in : TableName → ℕ → List ℕ
 params_in t action = unwrap_or (option_map (λ (x : ℕ × ActionName). x.1.params) (find (λ (x : ℕ × ActionName). x.0 == action) (enumerate_from 0 t.actions))) []
 
 -- what a part's cell holds
-abbrev pub held_by : TablePart → CellNumber → Content
-held_by part n = content_of part.stage part.slot n.cell
+abbrev pub held_by : Config → PartAt → CellNumber → Content
+held_by c part n = own_content c part.stage part.place n.cell
 
 -- the entry that an occupied cell spells
-abbrev pub entry_in : TableName → TablePart → CellNumber → Entry
-entry_in t part n =
-    let content = held_by part n in
+abbrev pub entry_in : Config → TableName → PartAt → CellNumber → Entry
+entry_in c t part n =
+    let content = held_by c part n in
     let action = code_of content.head - part.first in
     record {
       table = t.node;
@@ -92,7 +78,7 @@ entry_in t part n =
 
 -- the entries of a table, by part and cell
 abbrev pub entries_by_cell : Config → TableName → List Entry
-entries_by_cell c t = flat_map (λ (part : TablePart). map (entry_in t part) part.slot.numbers) (parts_of c t.node)
+entries_by_cell c t = flat_map (λ (part : PartAt). map (entry_in c t part) part.slot.numbers) (parts_of c t.node)
 
 -- entries by rising number, with one more
 abbrev pub with_entry : Entry → List Entry → List Entry
@@ -130,12 +116,12 @@ is_of_kind kind.Ternary (Exact k p d w ks rs cs) = false
 is_of_kind kind.Ternary (Ternary d ks rs cs) = true
 
 -- a rule holds of each part of a table
-abbrev pub each_part : Config → (TablePart → Bool) → TableName → Bool
+abbrev pub each_part : Config → (PartAt → Bool) → TableName → Bool
 each_part c rule t = list_all rule (parts_of c t.node)
 
 -- a table has a part, and its parts have memory of its kind
 abbrev pub has_parts : Config → TableName → Bool
-has_parts c t = nat_le 1 (length (parts_of c t.node)) && each_part c (λ (part : TablePart). is_of_kind t.kind part.slot.memory) t
+has_parts c t = nat_le 1 (length (parts_of c t.node)) && each_part c (λ (part : PartAt). is_of_kind t.kind part.slot.memory) t
 
 -- a slot with memory is of a node whose table has names
 abbrev pub is_named : Names → Unit → Bool
@@ -148,11 +134,11 @@ tables_are_those c names = list_all (has_parts c) names.tables && list_all (λ (
 
 -- the widths of a key's fields sum to its bits
 abbrev pub has_key_bits : Config → TableName → Bool
-has_key_bits c t = each_part c (λ (part : TablePart). sum t.keys == bits_of_lanes part.slot.keys) t
+has_key_bits c t = each_part c (λ (part : PartAt). sum t.keys == bits_of_lanes part.slot.keys) t
 
 -- the mask of each row of a prefix table is some of the highest bits, or none
 abbrev pub has_prefixes : Config → TableName → Bool
-has_prefixes c t = each_part c (λ (part : TablePart). list_all (λ n. is_some (prefix_length (sum t.keys) (held_by part n).mask)) part.slot.numbers) t
+has_prefixes c t = each_part c (λ (part : PartAt). list_all (λ n. is_some (prefix_length (sum t.keys) (held_by c part n).mask)) part.slot.numbers) t
 
 abbrev pub has_masks : Config → Kind → TableName → Bool
 has_masks c kind.Keyless t = true
@@ -162,7 +148,7 @@ has_masks c kind.Ternary t = true
 
 -- the actions are as many as the slot says, and the parameters of each fit the slot's data
 abbrev pub has_actions : Config → TableName → Bool
-has_actions c t = each_part c (λ (part : TablePart). (length t.actions == part.slot.actions) && list_all (λ (a : ActionName). nat_le (sum a.params) part.slot.held) t.actions) t
+has_actions c t = each_part c (λ (part : PartAt). (length t.actions == part.slot.actions) && list_all (λ (a : ActionName). nat_le (sum a.params) part.slot.held) t.actions) t
 
 abbrev pub quanta_of : Memory → ℕ
 quanta_of Without = 0
@@ -173,15 +159,15 @@ quanta_of (Ternary d ks rs cs) = d
 abbrev pub has_rows : Config → Kind → TableName → Bool
 has_rows c kind.Keyless t = true
 has_rows c kind.Exact t = true
-has_rows c kind.Prefix t = nat_le t.size (2048 * sum (map (λ (part : TablePart). quanta_of part.slot.memory) (parts_of c t.node)))
-has_rows c kind.Ternary t = nat_le t.size (2048 * sum (map (λ (part : TablePart). quanta_of part.slot.memory) (parts_of c t.node)))
+has_rows c kind.Prefix t = nat_le t.size (2048 * sum (map (λ (part : PartAt). quanta_of part.slot.memory) (parts_of c t.node)))
+has_rows c kind.Ternary t = nat_le t.size (2048 * sum (map (λ (part : PartAt). quanta_of part.slot.memory) (parts_of c t.node)))
 
 -- ranks list the numbers of the entries of a ternary table by part and cell
 abbrev pub has_ranks : Config → Kind → TableName → Bool
 has_ranks c kind.Keyless t = true
 has_ranks c kind.Exact t = true
 has_ranks c kind.Prefix t = true
-has_ranks c kind.Ternary t = bytes_eq (map (λ (r : RankOf). r.number) t.ranks) (flat_map (λ (part : TablePart). map (λ (n : CellNumber). n.number) part.slot.numbers) (parts_of c t.node))
+has_ranks c kind.Ternary t = bytes_eq (map (λ (r : RankOf). r.number) t.ranks) (flat_map (λ (part : PartAt). map (λ (n : CellNumber). n.number) part.slot.numbers) (parts_of c t.node))
 
 -- 1,048,576 additions find numbers behind those of the configuration
 abbrev pub numbers_leave_room : Config → Bool
@@ -201,21 +187,17 @@ has_keys_once kind.Exact es = each_later (λ (a b : Entry). not (are_same a.test
 has_keys_once kind.Prefix es = each_later (λ (a b : Entry). not (are_same a.tests b.tests)) es
 has_keys_once kind.Ternary es = true
 
--- an entry goes before another: the longer prefix, the less priority number, and of equal ones the less number
-abbrev pub goes_before : Kind → Entry → Entry → Bool
-goes_before k a b = precedes k a b || (not (precedes k b a) && nat_lt a.number b.number)
-
--- the rows of prefix and ternary entries stand in this order, over parts and rows
+-- the rows of prefix and ternary entries stand in the order of their precedence, over parts and rows
 abbrev pub has_order : Kind → List Entry → Bool
 has_order kind.Keyless es = true
 has_order kind.Exact es = true
-has_order kind.Prefix es = each_later (goes_before kind.Prefix) es
-has_order kind.Ternary es = each_later (goes_before kind.Ternary) es
+has_order kind.Prefix es = each_later (goes_first kind.Prefix) es
+has_order kind.Ternary es = each_later (goes_first kind.Ternary) es
 
 -- each occupied cell of a part is one in which its key may stand under the seed
-abbrev pub stands_in_candidates : Config → TablePart → Bool
+abbrev pub stands_in_candidates : Config → PartAt → Bool
 stands_in_candidates c part =
-    list_all (λ (n : CellNumber). list_any (λ m. m == n.cell) (candidates c.seed (bits_of_lanes part.slot.keys) part.slot.memory (held_by part n).key)) part.slot.numbers
+    list_all (λ (n : CellNumber). list_any (λ m. m == n.cell) (candidates c.seed (bits_of_lanes part.slot.keys) part.slot.memory (held_by c part n).key)) part.slot.numbers
 
 -- the entries that cells and ranks spell are well formed for the table
 abbrev pub has_entries : Config → TableName → Bool

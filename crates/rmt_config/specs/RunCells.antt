@@ -1,7 +1,8 @@
 -- The cells of a run: what they hold, which of them a packet sees, what it finds there, and what a change leaves of them.
-use Rattle.std.specs.Prelude.{ℕ, ◌+◌, ◌*◌, ◌-◌, ◌/◌, ◌%◌, ◌^◌, List, [], Bool, not, ◌&&◌, ◌||◌, ◌==◌, bit_and, if◌then◌else◌, Option, Some, None, find, option_map, option_and_then, slice_get, unwrap_or}
+use Rattle.std.specs.Prelude.{ℕ, ◌+◌, ◌*◌, ◌-◌, ◌/◌, ◌%◌, ◌^◌, List, [], Bool, not, ◌&&◌, ◌||◌, ◌==◌, bit_and, if◌then◌else◌, Option, Some, None, find, is_some, option_map, option_and_then, slice_get, unwrap_or}
 use Rattle.rmt_bits.specs.Bits.{number_of}
 use Rattle.rmt_config.specs.Types.{Config, Stage, Unit, SlotUnit, Memory}
+use Rattle.rmt_config.specs.declared.cell_write.CellWrite.{CellWrite}
 use Rattle.rmt_config.specs.declared.config.Unit.TheVariants.{Gate, Slot}
 use Rattle.rmt_config.specs.declared.config.Memory.TheVariants.{Without, Exact, Ternary}
 use Rattle.rmt_config.specs.LaneForm.{bits_of_lanes}
@@ -70,24 +71,10 @@ found_in_slot named version cells k place key slot =
     (find (λ n. is_hit named version key (cells.content k place n)) (candidates cells.seed (bits_of_lanes slot.keys) slot.memory key))
 
 -- the look-ups of a packet of a version in cells
-abbrev pub look_in : Config → Bool → ℕ → RunCells → Look
-look_in c named version cells k place key = option_and_then (found_in_slot named version cells k place key) (slot_at c k place)
+abbrev pub look_in : Config → ℕ → RunCells → Look
+look_in c version cells k place key = option_and_then (found_in_slot (is_some c.names) version cells k place key) (slot_at c k place)
 
 -- ---- a changed cell
-
--- a cell that is changed: where it is, by stage, place of the slot in the stage and number in the slot; the two visible bits of its head;
--- the number of an instruction in the stage; the bytes of its key, of its mask in a ternary part, and of its data, highest first; and the
--- number of its entry. A cell without a visible bit is emptied.
-pub record CellWrite : Type 0 where
-  pub stage : ℕ
-  pub unit : ℕ
-  pub cell : ℕ
-  pub visible : ℕ
-  pub code : ℕ
-  pub key : List ℕ
-  pub mask : List ℕ
-  pub held : List ℕ
-  pub number : ℕ
 
 -- the mask of a cell of a slot; all bits of an exact key count
 abbrev pub written_mask : ℕ → Memory → List ℕ → ℕ

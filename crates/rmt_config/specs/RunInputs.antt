@@ -8,7 +8,8 @@ use Rattle.rmt_config.specs.Types.{Config, Stage, SlotUnit}
 use Rattle.rmt_config.specs.Life.{Look}
 use Rattle.rmt_config.specs.ChipRun.{Outcome, counted_numbers, hits_before, latency_of, outcome_of}
 use Rattle.rmt_config.specs.Resources.{greatest_by}
-use Rattle.rmt_config.specs.RunCells.{CellWrite, RunCells, look_in, own_cells, slot_at, with_version, with_write}
+use Rattle.rmt_config.specs.declared.cell_write.CellWrite.{CellWrite}
+use Rattle.rmt_config.specs.RunCells.{RunCells, look_in, own_cells, slot_at, with_version, with_write}
 
 -- the input of a cycle: nothing, a packet, a changed cell, or a new version with a seed
 pub data Input : Type 0 where
@@ -39,8 +40,8 @@ start_of c k = unwrap_or (option_map (λ (stage : Stage). stage.start) (slice_ge
 
 -- the look-ups of the packet that enters in a cycle: under the version that is current then, and in each stage in the cells of the cycle in which it
 -- begins with the packet
-abbrev pub look_from : Config → Bool → List Input → ℕ → Look
-look_from c named inputs cycle k = look_in c named (cells_at c inputs cycle).version (cells_at c inputs (cycle + start_of c k)) k
+abbrev pub look_from : Config → List Input → ℕ → Look
+look_from c inputs cycle k = look_in c (cells_at c inputs cycle).version (cells_at c inputs (cycle + start_of c k)) k
 
 -- the packet that enters with an input
 abbrev pub packet_of : Input → Option Packet
@@ -50,13 +51,13 @@ packet_of (Writes write) = None
 packet_of (Turns seed) = None
 
 -- what becomes of the packet that enters in a cycle
-abbrev pub outcome_from_cycle : Config → Bool → List Input → ℕ → Option Outcome
-outcome_from_cycle c named inputs cycle =
-    option_map (outcome_of (look_from c named inputs cycle) c) (option_and_then packet_of (slice_get inputs cycle))
+abbrev pub outcome_from_cycle : Config → List Input → ℕ → Option Outcome
+outcome_from_cycle c inputs cycle =
+    option_map (outcome_of (look_from c inputs cycle) c) (option_and_then packet_of (slice_get inputs cycle))
 
 -- the answer of a cycle: that to the packet that entered the latency before, if one did
-abbrev pub answer_in : Config → Bool → List Input → ℕ → Option Outcome
-answer_in c named inputs cycle = if nat_lt cycle (latency_of c.stages) then None else outcome_from_cycle c named inputs (cycle - latency_of c.stages)
+abbrev pub answer_in : Config → List Input → ℕ → Option Outcome
+answer_in c inputs cycle = if nat_lt cycle (latency_of c.stages) then None else outcome_from_cycle c inputs (cycle - latency_of c.stages)
 
 -- the number that a changed cell with a visible bit brings into a counted slot
 abbrev pub numbers_brought : Config → Input → List ℕ
@@ -67,15 +68,15 @@ numbers_brought c (Writes w) =
     if not (w.visible == 0) && unwrap_or (option_map (λ (slot : SlotUnit). slot.counted) (slot_at c w.stage w.unit)) false then w.number ∷ [] else []
 
 -- the hits that are counted in the cycles from one on: what enters with n cycles to come has ages below n in them
-abbrev pub hits_from : Config → Bool → List Input → ℕ → List Input → List Hit
-hits_from c named inputs cycle [] = []
-hits_from c named inputs cycle (input ∷ rest) =
-    unwrap_or (option_map (λ packet. hits_before (length rest + 1) packet (outcome_of (look_from c named inputs cycle) c packet).counted) (packet_of input)) []
-    ++ hits_from c named inputs (cycle + 1) rest
+abbrev pub hits_from : Config → List Input → ℕ → List Input → List Hit
+hits_from c inputs cycle [] = []
+hits_from c inputs cycle (input ∷ rest) =
+    unwrap_or (option_map (λ packet. hits_before (length rest + 1) packet (outcome_of (look_from c inputs cycle) c packet).counted) (packet_of input)) []
+    ++ hits_from c inputs (cycle + 1) rest
 
 -- the counters after a run of inputs: one for each number that an occupied cell of a counted slot of the configuration has, or that a changed cell brought
-abbrev pub counts_in : Config → Bool → List Input → List Count
-counts_in c named inputs = counts (counted_numbers c ++ flat_map (numbers_brought c) inputs) (hits_from c named inputs 0 inputs)
+abbrev pub counts_in : Config → List Input → List Count
+counts_in c inputs = counts (counted_numbers c ++ flat_map (numbers_brought c) inputs) (hits_from c inputs 0 inputs)
 
 -- how many packets are in flight in a cycle, each from age 0 to the age at which it leaves
 abbrev pub in_flight : Config → List Input → ℕ → ℕ
