@@ -4,6 +4,10 @@ use Rattle.std.specs.Global.{Global}
 use Rattle.std.specs.declared.io.ErrorKind.{ErrorKind}
 use Rattle.rmt_io.specs.declared.true_shelf.MachineFault.{MachineFault}
 
+-- the fault that is kept, if any, is of the file of this name
+abbrev pub IsFaultNamed : List ℕ → Option MachineFault → Type 0
+IsFaultNamed name last = IfSome last (λ fault. string_bytes fault.name ≡ name)
+
 -- the fault that is kept, if any, has this name and kind
 abbrev pub IsFaultOf : List ℕ → ErrorKind → Option MachineFault → Type 0
 IsFaultOf name kind last = IfSome last (λ fault. (string_bytes fault.name ≡ name) × (fault.kind ≡ kind))

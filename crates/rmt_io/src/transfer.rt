@@ -42,7 +42,8 @@ pub(crate) fn read_some<R: Read>(reader: &mut R, into: &mut [u8]) -> io::Result<
 /// Reads on in the open file, and gives no byte where none is open.
 pub(crate) fn read_next<R: Read>(opened: &mut Option<R>, into: &mut [u8]) -> io::Result<usize>
     ensures within { ReadsAtMost result into.new }
-    ensures bytes { ReadConsumes (left_in R.remaining opened.old) (left_in R.remaining opened.new) result into.new }
+    ensures bytes { ReadConsumes (left_in R.remaining opened.old) (left_in R.remaining opened.new)
+        result into.new }
 {
     match opened {
         Some(reader) => read_some(reader, into),
@@ -54,7 +55,8 @@ pub(crate) fn read_next<R: Read>(opened: &mut Option<R>, into: &mut [u8]) -> io:
 fn read_whole<R: Read + Drop>(reader: R, limit: u64, into: &mut Vec<u8>) -> Result<(), ReadFault>
     ensures content { OnOk result (IfSome (R.remaining reader) (λ bytes. into.new.items ≡ bytes)) }
     ensures within { OnOk result (length into.new.items ≤ limit) }
-    ensures too_long { IsErrOf result ReadFault.TooLong → IfSome (R.remaining reader) (λ bytes. limit < length bytes) }
+    ensures too_long { IsErrOf result ReadFault.TooLong →
+        IfSome (R.remaining reader) (λ bytes. limit < length bytes) }
     ensures emptied { OnErr result (into.new.items ≡ []) }
 {
     into.clear();
@@ -79,7 +81,8 @@ pub(crate) fn read_opened<R: Read + Drop>(
     limit: u64,
     into: &mut Vec<u8>,
 ) -> Result<(), ReadFault>
-    ensures content { OnOk result (IsOkAnd opened (λ reader. IfSome (R.remaining reader) (λ bytes. into.new.items ≡ bytes))) }
+    ensures content { OnOk result
+        (IsOkAnd opened (λ reader. IfSome (R.remaining reader) (λ bytes. into.new.items ≡ bytes))) }
     ensures within { OnOk result (length into.new.items ≤ limit) }
     ensures too_long { IsErrOf result ReadFault.TooLong →
         IsOkAnd opened (λ reader. IfSome (R.remaining reader) (λ bytes. limit < length bytes)) }
@@ -116,7 +119,8 @@ impl<F: OpenFile> Syncs for F {
 
 /// Has the system keep what was written, where the place of the file can keep bytes.
 fn keep<F: Syncs>(file: &F) -> io::Result<()>
-    ensures { OnOk result ((answer : Result (Unit {0}) Error) × F.answers file.now answer × IsKept answer) }
+    ensures { OnOk result
+        ((answer : Result (Unit {0}) Error) × F.answers file.now answer × IsKept answer) }
 {
     match file.sync() {
         // a place that cannot keep bytes, as a pipe, has nothing to be kept
@@ -132,7 +136,8 @@ fn keep<F: Syncs>(file: &F) -> io::Result<()>
 /// Writes all bytes into an opened file, and has the system keep them.
 pub(crate) fn write_through<F: Write + Syncs>(file: &mut F, bytes: &[u8]) -> io::Result<()>
     ensures appended { OnOk result (Appends (F.contents file.old) (F.contents file.new) bytes.now) }
-    ensures kept { OnOk result ((answer : Result (Unit {0}) Error) × F.answers file.new answer × IsKept answer) }
+    ensures kept { OnOk result
+        ((answer : Result (Unit {0}) Error) × F.answers file.new answer × IsKept answer) }
 {
     file.write_all(bytes)?;
     file.flush()?;

@@ -4,7 +4,7 @@ ghost use Rattle.std.specs.Io.KnownBytes.{Appends, ReadConsumes};
 ghost use Rattle.rmt_io.specs.Calls.{raised};
 ghost use Rattle.rmt_io.specs.Faults.{Rose};
 ghost use Rattle.rmt_io.specs.Transfer.{left_in};
-ghost use Rattle.rmt_io.specs.Machine.{IsFaultOf, name_kept};
+ghost use Rattle.rmt_io.specs.Machine.{IsFaultNamed, IsFaultOf, name_kept};
 
 use crate::calls::raise;
 use crate::shelf::{Shelf, ShelfFault};
@@ -75,7 +75,8 @@ impl<'a, R: Files> TrueShelf<'a, R> {
     fn keep_opened_fault(&mut self, kind: ErrorKind)
         ensures kind { IfSome self.new.last (λ fault. fault.kind ≡ kind) }
         ensures named { name_kept None self.new.last ≡ name_kept self.old.opened_name self.old.last }
-        ensures named_next { name_kept self.new.opened_name self.new.last ≡ name_kept self.old.opened_name self.old.last }
+        ensures named_next { name_kept self.new.opened_name self.new.last
+            ≡ name_kept self.old.opened_name self.old.last }
         ensures reading { self.new.reading ≡ self.old.reading }
         ensures writing { self.new.writing ≡ self.old.writing }
         ensures opened { self.new.opened ≡ self.old.opened }
@@ -93,7 +94,8 @@ impl<'a, R: Files> TrueShelf<'a, R> {
 
     /// Keeps the name of the file that was opened, for its faults.
     fn name_opened(&mut self, name: &String)
-        ensures named { IfSome (name_kept self.new.opened_name self.new.last) (λ kept. kept ≡ string_bytes name.now) }
+        ensures named { IfSome (name_kept self.new.opened_name self.new.last)
+            (λ kept. kept ≡ string_bytes name.now) }
         ensures reading { self.new.reading ≡ self.old.reading }
         ensures writing { self.new.writing ≡ self.old.writing }
         ensures opened { self.new.opened ≡ self.old.opened }
@@ -113,7 +115,8 @@ impl<'a, R: Files> TrueShelf<'a, R> {
         ensures no_memory { result ≡ ShelfFault.NoMemory ↔ kind ≡ ErrorKind.OutOfMemory }
         ensures never_too_long { result ≢ ShelfFault.TooLong }
         ensures counted { result ≡ ShelfFault.Failed → Rose self.old.reading self.new.reading }
-        ensures kept { result ≡ ShelfFault.Failed → IsFaultOf (string_bytes name.now) kind self.new.last }
+        ensures kept { result ≡ ShelfFault.Failed →
+            IsFaultOf (string_bytes name.now) kind self.new.last }
         ensures reading { self.old.reading ≤ self.new.reading }
         ensures writing { self.new.writing ≡ self.old.writing }
         ensures opened { self.new.opened ≡ self.old.opened }
@@ -142,7 +145,8 @@ impl<'a, R: Files> TrueShelf<'a, R> {
 
     /// Replaces what `into` held by the bytes of the named file, as the machine gives them when it is opened.
     fn read_file(&mut self, name: &String, limit: u64, into: &mut Vec<u8>) -> Result<(), ShelfFault>
-        ensures content { OnOk result ((file : R.File) × IfSome (R.File.remaining file) (λ bytes. into.new.items ≡ bytes)) }
+        ensures content { OnOk result
+            ((file : R.File) × IfSome (R.File.remaining file) (λ bytes. into.new.items ≡ bytes)) }
         ensures too_long { IsErrOf result ShelfFault.TooLong →
             (file : R.File) × IfSome (R.File.remaining file) (λ bytes. limit < length bytes) }
         ensures within { OnOk result (length into.new.items ≤ limit) }
@@ -150,7 +154,7 @@ impl<'a, R: Files> TrueShelf<'a, R> {
 
         // A fault is counted, and its name is kept.
         ensures counted { IsErrOf result ShelfFault.Failed → Rose self.old.reading self.new.reading }
-        ensures kept { IsErrOf result ShelfFault.Failed → IfSome self.new.last (λ fault. string_bytes fault.name ≡ string_bytes name.now) }
+        ensures kept { IsErrOf result ShelfFault.Failed → IsFaultNamed (string_bytes name.now) self.new.last }
         ensures reading { self.old.reading ≤ self.new.reading }
         ensures writing { self.new.writing ≡ self.old.writing }
         ensures closed { self.new.opened ≡ None }
@@ -171,7 +175,7 @@ impl<'a, R: Files> TrueShelf<'a, R> {
 
         // A fault is counted, and its name is kept.
         ensures counted { IsErrOf result ShelfFault.Failed → Rose self.old.writing self.new.writing }
-        ensures kept { IsErrOf result ShelfFault.Failed → IfSome self.new.last (λ fault. string_bytes fault.name ≡ string_bytes name.now) }
+        ensures kept { IsErrOf result ShelfFault.Failed → IsFaultNamed (string_bytes name.now) self.new.last }
         ensures writing { self.old.writing ≤ self.new.writing }
         ensures reading { self.new.reading ≡ self.old.reading }
         ensures closed { self.new.opened ≡ None }
@@ -191,13 +195,14 @@ impl<'a, R: Files> TrueShelf<'a, R> {
     /// Opens the named file in place of the one that was open.
     fn open_file(&mut self, name: &String) -> Result<(), ShelfFault>
         ensures opened { OnOk result (IsSome self.new.opened) }
-        ensures named { OnOk result (IfSome (name_kept self.new.opened_name self.new.last) (λ kept. kept ≡ string_bytes name.now)) }
+        ensures named { OnOk result (IfSome (name_kept self.new.opened_name self.new.last)
+            (λ kept. kept ≡ string_bytes name.now)) }
         ensures closed { OnErr result (self.new.opened ≡ None) }
         ensures never_too_long { IsErrOf result ShelfFault.TooLong → ⊥ }
 
         // A fault is counted, and its name is kept.
         ensures counted { IsErrOf result ShelfFault.Failed → Rose self.old.reading self.new.reading }
-        ensures kept { IsErrOf result ShelfFault.Failed → IfSome self.new.last (λ fault. string_bytes fault.name ≡ string_bytes name.now) }
+        ensures kept { IsErrOf result ShelfFault.Failed → IsFaultNamed (string_bytes name.now) self.new.last }
         ensures reading { self.old.reading ≤ self.new.reading }
         ensures writing { self.new.writing ≡ self.old.writing }
     {
@@ -215,13 +220,16 @@ impl<'a, R: Files> TrueShelf<'a, R> {
     /// Puts the next bytes of the open file at the front of `into`, and answers how many they are.
     fn next_bytes(&mut self, into: &mut [u8]) -> Result<usize, ShelfFault>
         ensures within { ReadsAtMost result into.new }
-        ensures bytes { ReadConsumes (left_in R.File.remaining self.old.opened) (left_in R.File.remaining self.new.opened) result into.new }
+        ensures bytes { ReadConsumes (left_in R.File.remaining self.old.opened)
+            (left_in R.File.remaining self.new.opened) result into.new }
 
         // A fault is counted, and kept under the name of the open file.
         ensures fault { OnErr result (IsErrOf result ShelfFault.Failed) }
         ensures counted { OnErr result (Rose self.old.reading self.new.reading) }
-        ensures kept { OnErr result (name_kept None self.new.last ≡ name_kept self.old.opened_name self.old.last) }
-        ensures named { name_kept self.new.opened_name self.new.last ≡ name_kept self.old.opened_name self.old.last }
+        ensures kept { OnErr result
+            (name_kept None self.new.last ≡ name_kept self.old.opened_name self.old.last) }
+        ensures named { name_kept self.new.opened_name self.new.last
+            ≡ name_kept self.old.opened_name self.old.last }
         ensures reading { self.old.reading ≤ self.new.reading }
         ensures writing { self.new.writing ≡ self.old.writing }
     {
