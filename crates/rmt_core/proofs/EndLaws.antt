@@ -1,12 +1,12 @@
 -- How calls of commands end.
-use Rattle.std.proofs.Common.{◌≡◌, ◌≢◌, ◌⊎◌, inl, inr, ⊎_elim, ℕ, List, [], ◌++◌, Some, sym, refl, ap, ◌∙◌, subst, append_assoc, append-nil, arith}
+use Rattle.std.proofs.Common.{◌≡◌, ◌≢◌, ◌⊎◌, inl, inr, ⊎_elim, ℕ, List, [], ◌++◌, sym, refl, ap, ◌∙◌, subst, append_assoc, append-nil, arith}
 use Rattle.std.specs.Prelude.{IsTrue}
 use Rattle.rmt_bits.proofs.FunctionLaws.{funext}
-use Rattle.rmt_io.specs.Outside.{ShelfState, SinkState, HasFile, Gained, GainedNone, OnlyRead, PrintingFailed, WritingFailed}
+use Rattle.rmt_io.specs.Outside.{ShelfState, SinkState, HasFile, Gained, GainedNone, OnlyRead, PrintingFailed}
 use Rattle.rmt_io.proofs.OutsideLaws.{tells_later, writing_failed_later}
 use Rattle.rmt_core.specs.declared.status.Status.{Status}
 use Rattle.rmt_core.specs.declared.status.Status.TheVariants.{Done, Usage, ReadFault, WriteFault, BadProgram, BadEntries, NoFit, BadImage, BadPackets, TooLong, NoMemory}
-use Rattle.rmt_core.specs.Files.{Files, Long, Holds, found}
+use Rattle.rmt_core.specs.Files.{Files, Long, found}
 use Rattle.rmt_core.specs.Given.{Given, OfFound, OfOpened, Opens, Reads, told}
 use Rattle.rmt_core.specs.Ends.{Answered, AreSame, EndsWith, Outside, PrintsAll, Stops, outside}
 use Rattle.rmt_core.specs.Loading.{IsFound, NotRead, NotOpened}

@@ -25,9 +25,8 @@ use Rattle.rmt_build.specs.declared.built.Built.{Built}
 use Rattle.rmt_build.specs.declared.fault.NoFit.{NoFit}
 use Rattle.rmt_build.specs.declared.fault.NoFit.TheVariants as no_fit
 use Rattle.rmt_build.specs.Refusals.{first_refusal}
-use Rattle.rmt_core.specs.declared.status.Status.TheVariants as status
-use Rattle.rmt_core.specs.Files.{Files, updated}
-use Rattle.rmt_core.specs.Given.{Given}
+use Rattle.rmt_core.specs.Files.{Files}
+use Rattle.rmt_core.specs.Given.{Given, stored}
 use Rattle.rmt_core.specs.Compiling.{Builds, Compiles, Fitted, IsByRule, Makes, Untailed, written}
 use Rattle.rmt_core.specs.CompileText.{compile_text}
 use Rattle.rmt_core.specs.Making.{AreOfText, IsBuilt, MakesImage}
@@ -97,7 +96,7 @@ built_image p lists built image lines is image_is lines_are files name =
     subst (λ g. Compiles files name p lists g) (same image lines image_is lines_are) (builds files (written files name p) p lists built is)
   where
     same : (i l : List ℕ) → i ≡ spelled built.config → l ≡ compile_text p built.config built.bound
-        → written files name p (spelled built.config) built.config built.bound ≡ record { status = status.Done; text = l; files = updated files name i; writes = Some name }
+        → written files name p (spelled built.config) built.config built.bound ≡ stored files name i l
     same i l e f = rw (e, f) refl
 
 -- ---- the lines

@@ -29,7 +29,7 @@ use Rattle.rmt_core.specs.declared.status.Status.TheVariants as status
 use Rattle.rmt_core.specs.Given.{told}
 use Rattle.rmt_core.specs.Compiling.{Fitted, IsFull, Untailed, first_tail}
 use Rattle.rmt_core.specs.Making.{TellsWhy}
-use Rattle.rmt_core.specs.NoFitText.{no_fit_line, tail_line}
+use Rattle.rmt_core.specs.NoFitText.{no_fit_line}
 
 -- ---- tails
 
@@ -115,11 +115,7 @@ never_load p node members cells is = parsed (refusal p) (subst IsOfLoadIf (sym i
 
 -- ---- what is told
 
--- the line of a header with a tail
-pub tells_tail : (p : Program) (lists : List (List Entry)) (h : Header) → first_tail p ≡ Some h → TellsWhy p lists (tail_line h)
-tells_tail p lists h is files name = subst (λ o. Untailed files name p lists (told files status.NoFit (tail_line h)) o) (sym is) refl
-
--- that of the first refusal
+-- the line of the first refusal
 tells_first : (p : Program) (lists : List (List Entry)) (fault : NoFit) → first_tail p ≡ None → first_refusal p ≡ Some fault → TellsWhy p lists (no_fit_line p fault)
 tells_first p lists fault tail is files name =
     let g = told files status.NoFit (no_fit_line p fault) in

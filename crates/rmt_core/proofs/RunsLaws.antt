@@ -1,5 +1,5 @@
 -- How a run over a packet text ends.
-use Rattle.std.proofs.Common.{◌≡◌, ◌≢◌, ◌⊎◌, ⊎_elim, inl, inr, ◌≤◌, ◌<◌, ℕ, Bool, true, false, cond, IsTrue, List, [], ◌++◌, length, take, Option, Some, None, sym, refl, ap, ◌∙◌, subst, arith, ltb}
+use Rattle.std.proofs.Common.{◌≡◌, ◌≢◌, ◌⊎◌, ⊎_elim, inl, inr, ◌≤◌, ◌<◌, ℕ, Bool, true, false, cond, IsTrue, List, [], length, take, Option, Some, None, sym, refl, ap, ◌∙◌, subst, arith, ltb}
 use Rattle.rmt_bits.specs.Packet.{Packet}
 use Rattle.rmt_io.specs.Outside.{Gained, PrintingFailed}
 use Rattle.rmt_packets.specs.PacketText.{BadLine, Reading, packets_of, reading_of}

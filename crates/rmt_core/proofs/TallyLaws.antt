@@ -1,10 +1,8 @@
 -- Runs of which only counts are kept, one cycle after another.
-use Rattle.std.proofs.Common.{◌≡◌, ℕ, zero, suc, ◌+◌, ◌-◌, ◌<◌, ◌≤◌, true, false, List, [], ◌∷◌, ◌++◌, length, reverse, drop, Option, Some, None, Result, Ok, Err, sym, refl, ap, ◌∙◌, subst, arith, append-nil, length-append}
+use Rattle.std.proofs.Common.{◌≡◌, ℕ, zero, suc, ◌+◌, ◌-◌, ◌<◌, ◌≤◌, List, [], ◌∷◌, ◌++◌, length, reverse, drop, Option, Some, None, Result, Ok, Err, sym, refl, ap, ◌∙◌, subst, arith, length-append}
 use Rattle.std.specs.Prelude.{map, replicate}
 use Rattle.std.specs.Option.{option_to_list}
 use Rattle.std.proofs.lemmas.List.{length-map, length-reverse, map-append, reverse-append}
-use Rattle.std.proofs.lemmas.List.Elements.{filter-append}
-use Rattle.std.proofs.lemmas.List.Sums.{sum_by-append}
 use Rattle.rmt_bits.specs.Packet.{Packet}
 use Rattle.rmt_bits.specs.declared.answer.Verdict.{Verdict}
 use Rattle.rmt_core.specs.Types.{Config}
@@ -17,45 +15,13 @@ use Rattle.rmt_packets.specs.Lines.{numbered_lines}
 use Rattle.rmt_packets.proofs.Readings.{behind_packet, behind_fault, behind_end, behind_none}
 use Rattle.rmt_refine.specs.RunsAs.{told_by_outcome}
 use Rattle.rmt_core.specs.declared.sampling.run.CountedRun.{CountedRun}
-use Rattle.rmt_core.specs.declared.sampling.tally.Tally.{Tally}
-use Rattle.rmt_core.specs.Sampling.{answers_line, bytes_in, counts_line, is_sent, sent_of}
+use Rattle.rmt_core.specs.Sampling.{answers_line, counts_line}
 use Rattle.rmt_core.specs.Tallies.{Counts, StandsFor, left_of, told_of}
 use Rattle.rmt_core.specs.Watching.{emitted}
 use Rattle.rmt_core.proofs.EmitLaws.{emitted-more}
 use Rattle.rmt_core.proofs.EnterLaws.{inputs_more}
 use Rattle.rmt_core.proofs.RunLaws.{few_left, few_packets}
 use Rattle.rmt_core.proofs.VectorLaws.{length_somes}
-
--- ---- counts
-
--- counts of more answers
-pub counts_behind : (answers more : List (Verdict × List ℕ)) (old new : Tally) → Counts answers old → new.answered ≡ old.answered + length more → new.sent ≡ old.sent + length (sent_of more)
-    → new.bytes ≡ old.bytes + bytes_in (sent_of more) → Counts (answers ++ more) new
-counts_behind answers more old new counts answered sent bytes =
-    let both : sent_of (answers ++ more) ≡ sent_of answers ++ sent_of more = filter-append (λ (a : Verdict × List ℕ). is_sent a.0) answers more in
-    record {
-      answered = omega (arith, answered, counts.answered, length-append answers more);
-      sent = omega (arith, sent, counts.sent, ap length both, length-append (sent_of answers) (sent_of more));
-      bytes = omega (arith, bytes, counts.bytes, ap bytes_in both, sum_by-append (λ (a : Verdict × List ℕ). length a.1) (sent_of answers) (sent_of more));
-    }
-
--- nothing left
-pub counts_none : (answers : List (Verdict × List ℕ)) (old : Tally) → Counts answers old → Counts (answers ++ []) old
-counts_none answers old counts = subst (λ l. Counts l old) (sym (append-nil answers)) counts
-
--- a packet left, and was sent
-pub counts_sent : (answers : List (Verdict × List ℕ)) (v : Verdict) (bytes : List ℕ) (old new : Tally) → is_sent v ≡ true → new.answered ≡ old.answered + 1 → new.sent ≡ old.sent + 1
-    → new.bytes ≡ old.bytes + length bytes → Counts answers old → Counts (answers ++ left_of (Some v) bytes) new
-counts_sent answers v bytes old new is answered sent more counts =
-    let one : sent_of (left_of (Some v) bytes) ≡ (v, bytes) ∷ [] = rw is refl in
-    counts_behind answers (left_of (Some v) bytes) old new counts answered (omega (arith, sent, ap length one)) (omega (arith, more, ap bytes_in one))
-
--- a packet left that was not sent
-pub counts_other : (answers : List (Verdict × List ℕ)) (v : Verdict) (bytes : List ℕ) (old new : Tally) → is_sent v ≡ false → new.answered ≡ old.answered + 1 → new.sent ≡ old.sent
-    → new.bytes ≡ old.bytes → Counts answers old → Counts (answers ++ left_of (Some v) bytes) new
-counts_other answers v bytes old new is answered sent more counts =
-    let none : sent_of (left_of (Some v) bytes) ≡ [] = rw is refl in
-    counts_behind answers (left_of (Some v) bytes) old new counts answered (omega (arith, sent, ap length none)) (omega (arith, more, ap bytes_in none))
 
 -- ---- one cycle
 

@@ -2,7 +2,7 @@
 use Rattle.std.specs.Prelude.{◌≡◌, ◌∷◌, [], true, false, codes, refl, Some, None}
 use Rattle.std.specs.Fmt.{digits}
 use Rattle.rmt_core.specs.declared.status.Status.TheVariants.{BadPackets, Done, TooLong}
-use Rattle.rmt_core.specs.Commands.{Report, Sample, Sim, command_of, sample_number_of}
+use Rattle.rmt_core.specs.Commands.{Report, Sample, command_of, sample_number_of}
 use Rattle.rmt_core.specs.CompileText.{minimal_line}
 use Rattle.rmt_core.specs.Files.{Absent, Holds, Long, found}
 use Rattle.rmt_core.specs.NoFitText.{hit_text}

@@ -1,5 +1,5 @@
 -- Lines of which some were written and the rest waits.
-use Rattle.std.proofs.Common.{◌≡◌, ◌≢◌, ℕ, IsTrue, List, [], ◌∷◌, ◌++◌, sym, refl, ap, ◌∙◌, subst, append_assoc, append-nil}
+use Rattle.std.proofs.Common.{◌≢◌, ℕ, IsTrue, List, [], ◌∷◌, ◌++◌, sym, refl, ap, ◌∙◌, subst, append_assoc, append-nil}
 use Rattle.rmt_io.specs.Outside.{SinkState, Gained}
 use Rattle.rmt_core.specs.Printing.{GainedFront}
 use Rattle.rmt_core.specs.Waiting.{Written}

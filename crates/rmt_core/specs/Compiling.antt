@@ -20,8 +20,8 @@ use Rattle.rmt_build.specs.declared.fault.NoFit.TheVariants.{Load}
 use Rattle.rmt_build.specs.Loads.{AreNotLoaded, IsFirstSeed}
 use Rattle.rmt_build.specs.Refusals.{first_refusal}
 use Rattle.rmt_core.specs.declared.status.Status.TheVariants as status
-use Rattle.rmt_core.specs.Files.{Files, entries_limit, image_limit, program_limit, updated}
-use Rattle.rmt_core.specs.Given.{Given, Reads, told}
+use Rattle.rmt_core.specs.Files.{Files, entries_limit, image_limit, program_limit}
+use Rattle.rmt_core.specs.Given.{Given, Reads, stored, told}
 use Rattle.rmt_core.specs.Texts.{Understands}
 use Rattle.rmt_core.specs.NoFitText.{no_fit_line, tail_line}
 use Rattle.rmt_core.specs.CompileText.{compile_text}
@@ -82,7 +82,7 @@ Builds files finish p lists g = Untailed files finish p lists g (first_tail p)
 
 -- the image stands under a name, and its lines are printed
 abbrev pub written : Files → List ℕ → Program → List ℕ → Config → Bound → Given
-written files name p image c b = record { status = status.Done; text = compile_text p c b; files = updated files name image; writes = Some name }
+written files name p image c b = stored files name image (compile_text p c b)
 
 abbrev pub Compiles : Files → List ℕ → Program → List (List Entry) → Given → Type 0
 Compiles files name p lists g = Builds files (written files name p) p lists g

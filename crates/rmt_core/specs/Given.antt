@@ -1,8 +1,8 @@
 -- What a command gives where nothing fails outside, and how reading files begins it.
 use Rattle.std.specs.Prelude.{◌≡◌, ℕ, List, [], Option, Some, None}
 use Rattle.rmt_core.specs.declared.status.Status.{Status}
-use Rattle.rmt_core.specs.declared.status.Status.TheVariants.{ReadFault, TooLong}
-use Rattle.rmt_core.specs.Files.{Files, Found, Absent, Long, Holds, found}
+use Rattle.rmt_core.specs.declared.status.Status.TheVariants.{Done, ReadFault, TooLong}
+use Rattle.rmt_core.specs.Files.{Files, Found, Absent, Long, Holds, found, updated}
 
 -- a status, the whole text that is printed, the files as they stand afterwards, and the name of the one that is written, if any
 pub record Given : Type 0 where
@@ -14,6 +14,10 @@ pub record Given : Type 0 where
 -- a status with this text, and the files as they are
 abbrev pub told : Files → Status → List ℕ → Given
 told files status text = record { status = status; text = text; files = files; writes = None }
+
+-- Done with these lines, and one file more, or another one of its name
+abbrev pub stored : Files → List ℕ → List ℕ → List ℕ → Given
+stored files name bytes lines = record { status = Done; text = lines; files = updated files name bytes; writes = Some name }
 
 -- a command that reads a file of which so many bytes may be read, and then goes on with them
 abbrev pub OfFound : Files → (List ℕ → Given → Type 0) → Given → Found → Type 0

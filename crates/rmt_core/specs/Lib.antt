@@ -24,7 +24,6 @@ pub mod Sampling
 pub mod Tallies
 pub mod Gives
 pub mod Headline
-pub mod ImageSize
 pub mod Running
 pub mod Pieces
 pub mod ReadsOn

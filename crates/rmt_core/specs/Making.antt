@@ -1,5 +1,5 @@
 -- What is made of a program with its entries, whatever the files are and the name of the image.
-use Rattle.std.specs.Prelude.{◌≡◌, ◌≤◌, ℕ, List, Some, None, Ok, length}
+use Rattle.std.specs.Prelude.{◌≡◌, ◌≤◌, ℕ, List, None, Ok, length}
 use Rattle.rmt_core.specs.Types.{Program, Config}
 use Rattle.rmt_ast.specs.declared.entry.Entry.{Entry}
 use Rattle.rmt_bounds.specs.declared.bound.Bound.{Bound}
@@ -7,9 +7,9 @@ use Rattle.rmt_build.specs.declared.built.Built.{Built}
 use Rattle.rmt_build.specs.Refusals.{first_refusal}
 use Rattle.rmt_config.specs.Spelling.{spelled}
 use Rattle.rmt_entries.specs.Entries.{entries_of}
-use Rattle.rmt_core.specs.declared.status.Status.TheVariants.{Done, NoFit}
-use Rattle.rmt_core.specs.Files.{Files, entries_limit, updated}
-use Rattle.rmt_core.specs.Given.{Given, told}
+use Rattle.rmt_core.specs.declared.status.Status.TheVariants.{NoFit}
+use Rattle.rmt_core.specs.Files.{Files, entries_limit}
+use Rattle.rmt_core.specs.Given.{Given, stored, told}
 use Rattle.rmt_core.specs.Compiling.{Builds, Compiles, Makes, first_tail}
 
 -- a text within its limit says these entries
@@ -19,7 +19,7 @@ AreOfText p lists = (text : List ℕ) × (entries_of p text ≡ Ok lists) × (le
 -- an image is made, with these lines
 abbrev pub MakesImage : Program → List (List Entry) → List ℕ → List ℕ → Type 0
 MakesImage p lists image lines =
-    (files : Files) (name : List ℕ) → Compiles files name p lists (record { status = Done; text = lines; files = updated files name image; writes = Some name })
+    (files : Files) (name : List ℕ) → Compiles files name p lists (stored files name image lines)
 
 -- a program with its entries became this, since nothing refuses it
 pub record IsBuilt (p : Program) (lists : List (List Entry)) (built : Built) : Type 0 where

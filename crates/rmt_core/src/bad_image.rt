@@ -14,7 +14,8 @@ use std::alloc::{AllocError, Global};
 /// Prints the last line of bytes that are no image, and answers `BadImage`; `NoMemory` where there is no memory, and then
 /// nothing is printed.
 pub fn tell_bad_image<O: Sink>(alloc: Global, fault: ImageFault, out: &mut O) -> Status
-    ensures line { Tells (O.state out.old) (O.state out.new) (bad_image_line fault) Status.BadImage result }
+    ensures line { Tells (O.state out.old) (O.state out.new)
+        (bad_image_line fault) Status.BadImage result }
     ensures no_memory { fault ≡ ImageFault.NoMemory → result ≡ Status.NoMemory }
     ensures only_printed { OnlyPrinted (O.state out.old) (O.state out.new) }
 {

@@ -1,14 +1,14 @@
 //! The command `compile`.
 
-ghost use Rattle.std.specs.Prelude.{◌≡◌, ◌≢◌, ◌≤◌, ◌⊎◌, [], Some, Ok, IsTrue, length, string_bytes};
+ghost use Rattle.std.specs.Prelude.{◌≡◌, ◌≢◌, ◌≤◌, ◌⊎◌, [], Ok, IsTrue, length, string_bytes};
 ghost use Rattle.rmt_ast.specs.EntryLists.{AreEntries};
 ghost use Rattle.rmt_ast.specs.WellFormed.{IsProgram};
 ghost use Rattle.rmt_io.specs.Outside.{KeepsFiles, ReadingFailed, WritingFailed, GainedNone, PrintingFailed, OnlyPrinted};
 ghost use Rattle.rmt_core.specs.Commands.{IsPossible, Compile};
 ghost use Rattle.rmt_core.specs.Compiling.{Compiles, GivesCompile};
 ghost use Rattle.rmt_core.specs.Ends.{Answered, Ends, outside};
-ghost use Rattle.rmt_core.specs.Files.{entries_limit, program_limit, updated};
-ghost use Rattle.rmt_core.specs.Given.{Reads};
+ghost use Rattle.rmt_core.specs.Files.{entries_limit, program_limit};
+ghost use Rattle.rmt_core.specs.Given.{Reads, stored};
 ghost use Rattle.rmt_core.specs.Making.{AreOfText};
 ghost use Rattle.rmt_core.specs.Texts.{Understands};
 
@@ -32,15 +32,24 @@ pub fn compile<F: Shelf, O: Sink>(
     shelf: &mut F,
     out: &mut O,
 ) -> Status
-    ensures possible { IsPossible (Compile (string_bytes program.now) (string_bytes entries.now) (string_bytes image.now)) result }
+    ensures possible { IsPossible
+        (Compile (string_bytes program.now) (string_bytes entries.now)
+        (string_bytes image.now)) result }
     ensures answered { IsTrue (F.state shelf.old).tells →
         let before = outside (F.state shelf.old) (O.state out.old) in
         let after = outside (F.state shelf.new) (O.state out.new) in
-        Answered before after (GivesCompile before.shelf.files (string_bytes program.now) (string_bytes entries.now) (string_bytes image.now)) result }
-    ensures quiet { (result ≡ Status.NoMemory) ⊎ (result ≡ Status.ReadFault) ⊎ (result ≡ Status.TooLong) → GainedNone (O.state out.old) (O.state out.new) }
-    ensures read_fault { result ≡ Status.ReadFault → ReadingFailed (F.state shelf.old) (F.state shelf.new) }
-    ensures write_fault { result ≡ Status.WriteFault → WritingFailed (F.state shelf.old) (F.state shelf.new) ⊎ PrintingFailed (O.state out.old) (O.state out.new) }
-    ensures steady_write { result ≡ Status.WriteFault → IsTrue (F.state shelf.old).steady → PrintingFailed (O.state out.old) (O.state out.new) }
+        Answered before after
+        (GivesCompile before.shelf.files (string_bytes program.now) (string_bytes entries.now)
+        (string_bytes image.now)) result }
+    ensures quiet { (result ≡ Status.NoMemory) ⊎ (result ≡ Status.ReadFault)
+        ⊎ (result ≡ Status.TooLong) → GainedNone (O.state out.old) (O.state out.new) }
+    ensures read_fault { result ≡ Status.ReadFault →
+        ReadingFailed (F.state shelf.old) (F.state shelf.new) }
+    ensures write_fault { result ≡ Status.WriteFault →
+        WritingFailed (F.state shelf.old) (F.state shelf.new)
+        ⊎ PrintingFailed (O.state out.old) (O.state out.new) }
+    ensures steady_write { result ≡ Status.WriteFault → IsTrue (F.state shelf.old).steady →
+        PrintingFailed (O.state out.old) (O.state out.new) }
     ensures tells { (F.state shelf.new).tells ≡ (F.state shelf.old).tells }
     ensures only_printed { OnlyPrinted (O.state out.old) (O.state out.new) }
 {
@@ -60,15 +69,24 @@ fn compile_text<F: Shelf, O: Sink>(
     out: &mut O,
 ) -> Status
     requires { length text.now.items ≤ program_limit }
-    ensures possible { IsPossible (Compile [] (string_bytes entries.now) (string_bytes image.now)) result }
+    ensures possible { IsPossible
+        (Compile [] (string_bytes entries.now) (string_bytes image.now)) result }
     ensures answered { IsTrue (F.state shelf.old).tells →
         let before = outside (F.state shelf.old) (O.state out.old) in
         let after = outside (F.state shelf.new) (O.state out.new) in
-        Answered before after (Reads before.shelf.files (string_bytes entries.now) entries_limit (λ entry_text. Understands before.shelf.files text.now.items entry_text (Compiles before.shelf.files (string_bytes image.now)))) result }
-    ensures quiet { (result ≡ Status.NoMemory) ⊎ (result ≡ Status.ReadFault) ⊎ (result ≡ Status.TooLong) → GainedNone (O.state out.old) (O.state out.new) }
-    ensures read_fault { result ≡ Status.ReadFault → ReadingFailed (F.state shelf.old) (F.state shelf.new) }
-    ensures write_fault { result ≡ Status.WriteFault → WritingFailed (F.state shelf.old) (F.state shelf.new) ⊎ PrintingFailed (O.state out.old) (O.state out.new) }
-    ensures steady_write { result ≡ Status.WriteFault → IsTrue (F.state shelf.old).steady → PrintingFailed (O.state out.old) (O.state out.new) }
+        Answered before after
+        (Reads before.shelf.files (string_bytes entries.now) entries_limit
+        (λ entry_text. Understands before.shelf.files text.now.items entry_text
+        (Compiles before.shelf.files (string_bytes image.now)))) result }
+    ensures quiet { (result ≡ Status.NoMemory) ⊎ (result ≡ Status.ReadFault)
+        ⊎ (result ≡ Status.TooLong) → GainedNone (O.state out.old) (O.state out.new) }
+    ensures read_fault { result ≡ Status.ReadFault →
+        ReadingFailed (F.state shelf.old) (F.state shelf.new) }
+    ensures write_fault { result ≡ Status.WriteFault →
+        WritingFailed (F.state shelf.old) (F.state shelf.new)
+        ⊎ PrintingFailed (O.state out.old) (O.state out.new) }
+    ensures steady_write { result ≡ Status.WriteFault → IsTrue (F.state shelf.old).steady →
+        PrintingFailed (O.state out.old) (O.state out.new) }
     ensures tells { (F.state shelf.new).tells ≡ (F.state shelf.old).tells }
     ensures only_printed { OnlyPrinted (O.state out.old) (O.state out.new) }
 {
@@ -95,10 +113,15 @@ fn compile_texts<F: Shelf, O: Sink>(
     ensures answered { IsTrue (F.state shelf.old).tells →
         let before = outside (F.state shelf.old) (O.state out.old) in
         let after = outside (F.state shelf.new) (O.state out.new) in
-        Answered before after (Understands before.shelf.files text.now.items entry_text.now.items (Compiles before.shelf.files (string_bytes image.now))) result }
+        Answered before after
+        (Understands before.shelf.files text.now.items entry_text.now.items
+        (Compiles before.shelf.files (string_bytes image.now))) result }
     ensures quiet { result ≡ Status.NoMemory → GainedNone (O.state out.old) (O.state out.new) }
-    ensures write_fault { result ≡ Status.WriteFault → WritingFailed (F.state shelf.old) (F.state shelf.new) ⊎ PrintingFailed (O.state out.old) (O.state out.new) }
-    ensures steady_write { result ≡ Status.WriteFault → IsTrue (F.state shelf.old).steady → PrintingFailed (O.state out.old) (O.state out.new) }
+    ensures write_fault { result ≡ Status.WriteFault →
+        WritingFailed (F.state shelf.old) (F.state shelf.new)
+        ⊎ PrintingFailed (O.state out.old) (O.state out.new) }
+    ensures steady_write { result ≡ Status.WriteFault → IsTrue (F.state shelf.old).steady →
+        PrintingFailed (O.state out.old) (O.state out.new) }
     ensures tells { (F.state shelf.new).tells ≡ (F.state shelf.old).tells }
     ensures only_printed { OnlyPrinted (O.state out.old) (O.state out.new) }
 {
@@ -126,10 +149,15 @@ fn compile_meant<F: Shelf, O: Sink>(
     ensures answered { IsTrue (F.state shelf.old).tells →
         let before = outside (F.state shelf.old) (O.state out.old) in
         let after = outside (F.state shelf.new) (O.state out.new) in
-        Answered before after (Compiles before.shelf.files (string_bytes image.now) meant.now.program meant.now.entries) result }
+        Answered before after
+        (Compiles before.shelf.files
+        (string_bytes image.now) meant.now.program meant.now.entries) result }
     ensures quiet { result ≡ Status.NoMemory → GainedNone (O.state out.old) (O.state out.new) }
-    ensures write_fault { result ≡ Status.WriteFault → WritingFailed (F.state shelf.old) (F.state shelf.new) ⊎ PrintingFailed (O.state out.old) (O.state out.new) }
-    ensures steady_write { result ≡ Status.WriteFault → IsTrue (F.state shelf.old).steady → PrintingFailed (O.state out.old) (O.state out.new) }
+    ensures write_fault { result ≡ Status.WriteFault →
+        WritingFailed (F.state shelf.old) (F.state shelf.new)
+        ⊎ PrintingFailed (O.state out.old) (O.state out.new) }
+    ensures steady_write { result ≡ Status.WriteFault → IsTrue (F.state shelf.old).steady →
+        PrintingFailed (O.state out.old) (O.state out.new) }
     ensures tells { (F.state shelf.new).tells ≡ (F.state shelf.old).tells }
     ensures only_printed { OnlyPrinted (O.state out.old) (O.state out.new) }
 {
@@ -149,15 +177,20 @@ fn deliver<F: Shelf, O: Sink>(
     out: &mut O,
 ) -> Status
     requires { made.now.lines ≢ [] }
-    ensures kind { (result ≡ Status.Done) ⊎ (result ≡ Status.WriteFault) ⊎ (result ≡ Status.NoMemory) }
+    ensures kind { (result ≡ Status.Done) ⊎ (result ≡ Status.WriteFault)
+        ⊎ (result ≡ Status.NoMemory) }
     ensures ends { result ≢ Status.NoMemory → IsTrue (F.state shelf.old).tells →
         let before = outside (F.state shelf.old) (O.state out.old) in
         let after = outside (F.state shelf.new) (O.state out.new) in
-        Ends before after (record { status = Status.Done; text = made.now.lines; files = updated before.shelf.files (string_bytes name.now) made.now.image.items; writes = Some (string_bytes name.now) }) result }
+        Ends before after
+        (stored before.shelf.files (string_bytes name.now) made.now.image.items made.now.lines) result }
     ensures files { result ≡ Status.NoMemory → KeepsFiles (F.state shelf.old) (F.state shelf.new) }
     ensures quiet { result ≡ Status.NoMemory → GainedNone (O.state out.old) (O.state out.new) }
-    ensures write_fault { result ≡ Status.WriteFault → WritingFailed (F.state shelf.old) (F.state shelf.new) ⊎ PrintingFailed (O.state out.old) (O.state out.new) }
-    ensures steady_write { result ≡ Status.WriteFault → IsTrue (F.state shelf.old).steady → PrintingFailed (O.state out.old) (O.state out.new) }
+    ensures write_fault { result ≡ Status.WriteFault →
+        WritingFailed (F.state shelf.old) (F.state shelf.new)
+        ⊎ PrintingFailed (O.state out.old) (O.state out.new) }
+    ensures steady_write { result ≡ Status.WriteFault → IsTrue (F.state shelf.old).steady →
+        PrintingFailed (O.state out.old) (O.state out.new) }
     ensures tells { (F.state shelf.new).tells ≡ (F.state shelf.old).tells }
     ensures only_printed { OnlyPrinted (O.state out.old) (O.state out.new) }
 {

@@ -24,10 +24,13 @@ pub fn read_file<F: Shelf>(
     limit: u64,
     shelf: &mut F,
 ) -> Result<Vec<u8>, Status>
-    ensures found { IfOk result (λ bytes. IsFound (F.state shelf.old) (string_bytes name.now) limit bytes.items) }
+    ensures found { IfOk result
+        (λ bytes. IsFound (F.state shelf.old) (string_bytes name.now) limit bytes.items) }
     ensures short { IfOk result (λ bytes. length bytes.items ≤ limit) }
-    ensures refused { IfErr result (λ status. NotRead (F.state shelf.old) (string_bytes name.now) limit status) }
-    ensures fault { result ≡ Err Status.ReadFault → ReadingFailed (F.state shelf.old) (F.state shelf.new) }
+    ensures refused { IfErr result
+        (λ status. NotRead (F.state shelf.old) (string_bytes name.now) limit status) }
+    ensures fault { result ≡ Err Status.ReadFault →
+        ReadingFailed (F.state shelf.old) (F.state shelf.new) }
     // The shelf is as before, but for its count of faults of reading.
     ensures only_read { OnlyRead (F.state shelf.old) (F.state shelf.new) }
 {
@@ -40,9 +43,12 @@ pub fn read_file<F: Shelf>(
 
 /// Opens a file at its first byte, or gives the status of a command that cannot open it.
 pub fn open_file<F: Shelf>(alloc: Global, name: &String, shelf: &mut F) -> Result<(), Status>
-    ensures opened { OnOk result (HasFile (F.state shelf.old) (string_bytes name.now) (F.state shelf.new).rest) }
-    ensures refused { IfErr result (λ status. NotOpened (F.state shelf.old) (string_bytes name.now) status) }
-    ensures fault { result ≡ Err Status.ReadFault → ReadingFailed (F.state shelf.old) (F.state shelf.new) }
+    ensures opened { OnOk result
+        (HasFile (F.state shelf.old) (string_bytes name.now) (F.state shelf.new).rest) }
+    ensures refused { IfErr result
+        (λ status. NotOpened (F.state shelf.old) (string_bytes name.now) status) }
+    ensures fault { result ≡ Err Status.ReadFault →
+        ReadingFailed (F.state shelf.old) (F.state shelf.new) }
     // The shelf is as before, but for its count of faults of reading.
     ensures only_read { OnlyRead (F.state shelf.old) (F.state shelf.new) }
 {

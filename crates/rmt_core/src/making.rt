@@ -44,7 +44,8 @@ pub fn make(alloc: Global, program: &Program, entries: &EntryLists) -> Result<Ma
     requires said { AreOfText program.now entries.now }
     ensures made { IfOk result (λ m. MakesImage program.now entries.now m.image.items m.lines) }
     ensures some { IfOk result (λ m. m.lines ≢ []) }
-    ensures refused { (line : Vec ℕ Global) → result ≡ Err (Refusal.NoFit line) → TellsWhy program.now entries.now line.items }
+    ensures refused { (line : Vec ℕ Global) → result ≡ Err (Refusal.NoFit line) →
+        TellsWhy program.now entries.now line.items }
 {
     match fit(alloc, program, entries) {
         Ok(built) => made_of(alloc, program, &built),
@@ -58,7 +59,8 @@ pub fn fit(alloc: Global, program: &Program, entries: &EntryLists) -> Result<Bui
     requires entries { AreEntries program.now entries.now }
     requires said { AreOfText program.now entries.now }
     ensures built { IfOk result (λ b. IsBuilt program.now entries.now b) }
-    ensures refused { (line : Vec ℕ Global) → result ≡ Err (Refusal.NoFit line) → TellsWhy program.now entries.now line.items }
+    ensures refused { (line : Vec ℕ Global) → result ≡ Err (Refusal.NoFit line) →
+        TellsWhy program.now entries.now line.items }
 {
     match first_tail(program) {
         Some(header) => Err(tail_refusal(alloc, header)),
@@ -79,7 +81,8 @@ fn first_tail(program: &Program) -> Option<&Header>
 
 /// The refusal of a header with a tail.
 fn tail_refusal(alloc: Global, header: &Header) -> Refusal
-    ensures { (line : Vec ℕ Global) → result ≡ Refusal.NoFit line → line.items ≡ tail_line header.now }
+    ensures { (line : Vec ℕ Global) → result ≡ Refusal.NoFit line →
+        line.items ≡ tail_line header.now }
 {
     match tail_text(alloc, header) {
         Ok(line) => Refusal::NoFit { line },
@@ -94,7 +97,8 @@ fn fit_untailed(alloc: Global, program: &Program, entries: &EntryLists) -> Resul
     requires said { AreOfText program.now entries.now }
     requires no_tail { first_tail program.now ≡ None }
     ensures built { IfOk result (λ b. IsBuilt program.now entries.now b) }
-    ensures refused { (line : Vec ℕ Global) → result ≡ Err (Refusal.NoFit line) → TellsWhy program.now entries.now line.items }
+    ensures refused { (line : Vec ℕ Global) → result ≡ Err (Refusal.NoFit line) →
+        TellsWhy program.now entries.now line.items }
 {
     packet_lists();
     match build(alloc, program, entries) {
@@ -108,7 +112,8 @@ fn made_of(alloc: Global, program: &Program, built: &Built) -> Result<Made, Refu
     requires counts { CountsFit built.now.config }
     requires nodes { AreNodesOf program.now built.now.bound.proof }
     ensures image { IfOk result (λ m. m.image.items ≡ spelled built.now.config) }
-    ensures lines { IfOk result (λ m. m.lines ≡ compile_text program.now built.now.config built.now.bound) }
+    ensures lines { IfOk result
+        (λ m. m.lines ≡ compile_text program.now built.now.config built.now.bound) }
     ensures only_memory { IsOkUnless result Refusal.NoMemory }
 {
     let Ok(image) = write_image(alloc, &built.config) else {
@@ -122,8 +127,10 @@ fn made_of(alloc: Global, program: &Program, built: &Built) -> Result<Made, Refu
 
 /// The refusal of a program that doesn't fit.
 fn refusal_of(alloc: Global, program: &Program, fault: &NoFit) -> Refusal
-    ensures line { (line : Vec ℕ Global) → result ≡ Refusal.NoFit line → line.items ≡ no_fit_line program.now fault.now }
-    ensures no_memory { (line : Vec ℕ Global) → result ≡ Refusal.NoFit line → fault.now ≢ NoFit.NoMemory }
+    ensures line { (line : Vec ℕ Global) → result ≡ Refusal.NoFit line →
+        line.items ≡ no_fit_line program.now fault.now }
+    ensures no_memory { (line : Vec ℕ Global) → result ≡ Refusal.NoFit line →
+        fault.now ≢ NoFit.NoMemory }
 {
     if let NoFit::NoMemory = fault {
         return Refusal::NoMemory;

@@ -30,13 +30,19 @@ pub fn plain<F: Shelf, O: Sink>(
     shelf: &mut F,
     out: &mut O,
 ) -> Status
-    ensures possible { IsPossible (Command (string_bytes program.now) (string_bytes entries.now) (string_bytes packets.now)) result }
+    ensures possible { IsPossible
+        (Command (string_bytes program.now) (string_bytes entries.now)
+        (string_bytes packets.now)) result }
     ensures answered { IsTrue (F.state shelf.old).tells →
         let before = outside (F.state shelf.old) (O.state out.old) in
         let after = outside (F.state shelf.new) (O.state out.new) in
-        Answered before after (GivesPlain before.shelf.files (string_bytes program.now) (string_bytes entries.now) (string_bytes packets.now)) result }
-    ensures read_fault { result ≡ Status.ReadFault → ReadingFailed (F.state shelf.old) (F.state shelf.new) }
-    ensures write_fault { result ≡ Status.WriteFault → PrintingFailed (O.state out.old) (O.state out.new) }
+        Answered before after
+        (GivesPlain before.shelf.files (string_bytes program.now) (string_bytes entries.now)
+        (string_bytes packets.now)) result }
+    ensures read_fault { result ≡ Status.ReadFault →
+        ReadingFailed (F.state shelf.old) (F.state shelf.new) }
+    ensures write_fault { result ≡ Status.WriteFault →
+        PrintingFailed (O.state out.old) (O.state out.new) }
     ensures only_read { OnlyRead (F.state shelf.old) (F.state shelf.new) }
     ensures only_printed { OnlyPrinted (O.state out.old) (O.state out.new) }
 {
@@ -56,13 +62,18 @@ fn plain_of_text<F: Shelf, O: Sink>(
     out: &mut O,
 ) -> Status
     requires { length text.now.items ≤ program_limit }
-    ensures possible { IsPossible (Command [] (string_bytes entries.now) (string_bytes packets.now)) result }
+    ensures possible { IsPossible
+        (Command [] (string_bytes entries.now) (string_bytes packets.now)) result }
     ensures answered { IsTrue (F.state shelf.old).tells →
         let before = outside (F.state shelf.old) (O.state out.old) in
         let after = outside (F.state shelf.new) (O.state out.new) in
-        Answered before after (OfText before.shelf.files (string_bytes entries.now) (string_bytes packets.now) text.now.items) result }
-    ensures read_fault { result ≡ Status.ReadFault → ReadingFailed (F.state shelf.old) (F.state shelf.new) }
-    ensures write_fault { result ≡ Status.WriteFault → PrintingFailed (O.state out.old) (O.state out.new) }
+        Answered before after
+        (OfText before.shelf.files (string_bytes entries.now)
+        (string_bytes packets.now) text.now.items) result }
+    ensures read_fault { result ≡ Status.ReadFault →
+        ReadingFailed (F.state shelf.old) (F.state shelf.new) }
+    ensures write_fault { result ≡ Status.WriteFault →
+        PrintingFailed (O.state out.old) (O.state out.new) }
     ensures only_read { OnlyRead (F.state shelf.old) (F.state shelf.new) }
     ensures only_printed { OnlyPrinted (O.state out.old) (O.state out.new) }
 {
@@ -87,9 +98,13 @@ fn plain_of_texts<F: Shelf, O: Sink>(
     ensures answered { IsTrue (F.state shelf.old).tells →
         let before = outside (F.state shelf.old) (O.state out.old) in
         let after = outside (F.state shelf.new) (O.state out.new) in
-        Answered before after (OfTexts before.shelf.files (string_bytes packets.now) text.now.items entry_text.now.items) result }
-    ensures read_fault { result ≡ Status.ReadFault → ReadingFailed (F.state shelf.old) (F.state shelf.new) }
-    ensures write_fault { result ≡ Status.WriteFault → PrintingFailed (O.state out.old) (O.state out.new) }
+        Answered before after
+        (OfTexts before.shelf.files
+        (string_bytes packets.now) text.now.items entry_text.now.items) result }
+    ensures read_fault { result ≡ Status.ReadFault →
+        ReadingFailed (F.state shelf.old) (F.state shelf.new) }
+    ensures write_fault { result ≡ Status.WriteFault →
+        PrintingFailed (O.state out.old) (O.state out.new) }
     ensures only_read { OnlyRead (F.state shelf.old) (F.state shelf.new) }
     ensures only_printed { OnlyPrinted (O.state out.old) (O.state out.new) }
 {
@@ -113,9 +128,12 @@ fn plain_of_open<F: Shelf, O: Sink>(
     ensures answered { IsTrue (F.state shelf.old).tells →
         let before = outside (F.state shelf.old) (O.state out.old) in
         let after = outside (F.state shelf.new) (O.state out.new) in
-        Answered before after (OfOpen before.shelf.files text.now.items entry_text.now.items before.shelf.rest) result }
-    ensures read_fault { result ≡ Status.ReadFault → ReadingFailed (F.state shelf.old) (F.state shelf.new) }
-    ensures write_fault { result ≡ Status.WriteFault → PrintingFailed (O.state out.old) (O.state out.new) }
+        Answered before after
+        (OfOpen before.shelf.files text.now.items entry_text.now.items before.shelf.rest) result }
+    ensures read_fault { result ≡ Status.ReadFault →
+        ReadingFailed (F.state shelf.old) (F.state shelf.new) }
+    ensures write_fault { result ≡ Status.WriteFault →
+        PrintingFailed (O.state out.old) (O.state out.new) }
     ensures only_read { OnlyRead (F.state shelf.old) (F.state shelf.new) }
     ensures only_printed { OnlyPrinted (O.state out.old) (O.state out.new) }
 {
@@ -139,9 +157,13 @@ fn plain_of_meant<F: Shelf, O: Sink>(
     ensures answered { IsTrue (F.state shelf.old).tells →
         let before = outside (F.state shelf.old) (O.state out.old) in
         let after = outside (F.state shelf.new) (O.state out.new) in
-        Answered before after (Runs before.shelf.files (plain_text meant.program meant.entries) packets_limit before.shelf.rest) result }
-    ensures read_fault { result ≡ Status.ReadFault → ReadingFailed (F.state shelf.old) (F.state shelf.new) }
-    ensures write_fault { result ≡ Status.WriteFault → PrintingFailed (O.state out.old) (O.state out.new) }
+        Answered before after
+        (Runs before.shelf.files
+        (plain_text meant.program meant.entries) packets_limit before.shelf.rest) result }
+    ensures read_fault { result ≡ Status.ReadFault →
+        ReadingFailed (F.state shelf.old) (F.state shelf.new) }
+    ensures write_fault { result ≡ Status.WriteFault →
+        PrintingFailed (O.state out.old) (O.state out.new) }
     ensures only_read { OnlyRead (F.state shelf.old) (F.state shelf.new) }
     ensures only_printed { OnlyPrinted (O.state out.old) (O.state out.new) }
 {

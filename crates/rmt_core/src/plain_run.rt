@@ -37,9 +37,11 @@ fn add_answer(
     requires port { port < 512 }
     requires some { 1 ≤ length frame.now }
     requires short { length frame.now ≤ 9216 }
-    ensures ok { OnOk result ((p : Program) (lists : List (List Entry)) (done : List Packet) (before now : SinkState) →
+    ensures ok { OnOk result
+        ((p : Program) (lists : List (List Entry)) (done : List Packet) (before now : SinkState) →
         Goes p lists done plain.old number waiting.old.lines.items before now →
-        Goes p lists (done ++ record { port = port; frame = frame.now } ∷ []) plain.new (number + 1) waiting.new.lines.items before now) }
+        Goes p lists (done ++ record { port = port; frame = frame.now } ∷ []) plain.new
+        (number + 1) waiting.new.lines.items before now) }
 {
     let Ok(answer) = plain.packet(alloc, port, frame) else {
         return Err(AllocError);
@@ -63,14 +65,21 @@ fn answer_packet<O: Sink>(
     requires port { port < 512 }
     requires some { 1 ≤ length frame.now }
     requires short { length frame.now ≤ 9216 }
-    ensures ok { OnOk result ((p : Program) (lists : List (List Entry)) (done : List Packet) (before : SinkState) →
+    ensures ok { OnOk result
+        ((p : Program) (lists : List (List Entry)) (done : List Packet) (before : SinkState) →
         Goes p lists done plain.old number waiting.old.lines.items before (O.state out.old) →
-        Goes p lists (done ++ record { port = port; frame = frame.now } ∷ []) plain.new (number + 1) waiting.new.lines.items before (O.state out.new)) }
-    ensures cut { IfErr result (λ fault. (p : Program) (lists : List (List Entry)) (done : List Packet) (before : SinkState) →
+        Goes p lists (done ++ record { port = port; frame = frame.now } ∷ []) plain.new
+        (number + 1) waiting.new.lines.items before (O.state out.new)) }
+    ensures cut { IfErr result
+        (λ fault. (p : Program) (lists : List (List Entry)) (done : List Packet)
+        (before : SinkState) →
         Goes p lists done plain.old number waiting.old.lines.items before (O.state out.old) →
-        Cut (answer_lines_of p lists (done ++ record { port = port; frame = frame.now } ∷ [])) before (O.state out.new) fault) }
-    ensures failed { IsErrOf result RunFault.Write → PrintingFailed (O.state out.old) (O.state out.new) }
-    ensures either { IfErr result (λ fault. (fault ≡ RunFault.NoMemory) ⊎ (fault ≡ RunFault.Write)) }
+        Cut (answer_lines_of p lists
+        (done ++ record { port = port; frame = frame.now } ∷ [])) before (O.state out.new) fault) }
+    ensures failed { IsErrOf result RunFault.Write →
+        PrintingFailed (O.state out.old) (O.state out.new) }
+    ensures either { IfErr result
+        (λ fault. (fault ≡ RunFault.NoMemory) ⊎ (fault ≡ RunFault.Write)) }
     ensures only_printed { OnlyPrinted (O.state out.old) (O.state out.new) }
 {
     let Ok(()) = add_answer(alloc, plain, number, port, frame, waiting) else {
@@ -93,13 +102,21 @@ fn answer_all<F: Shelf, O: Sink>(
 ) -> Result<Option<Bad>, RunFault>
     requires limit { limit ≤ 1099511627776 }
     requires empty { waiting.old.lines.items ≡ [] }
-    ensures ok { IfOk result (λ bad. IsTrue (F.state shelf.old).tells → (p : Program) (lists : List (List Entry)) → Stands p lists [] plain.old →
+    ensures ok { IfOk result
+        (λ bad. IsTrue (F.state shelf.old).tells → (p : Program) (lists : List (List Entry)) →
+        Stands p lists [] plain.old →
         (done : List Packet) × ReadsAll limit (F.state shelf.old).rest done (bad_line bad)
-        × Goes p lists done plain.new (length done) waiting.new.lines.items (O.state out.old) (O.state out.new)) }
-    ensures broken { IfErr result (λ fault. IsTrue (F.state shelf.old).tells → (p : Program) (lists : List (List Entry)) → Stands p lists [] plain.old →
-        Breaks (plain_text p lists) limit (F.state shelf.old).rest (O.state out.old) (O.state out.new) fault) }
-    ensures write_fault { IsErrOf result RunFault.Write → PrintingFailed (O.state out.old) (O.state out.new) }
-    ensures read_fault { IsErrOf result RunFault.Read → ReadingFailed (F.state shelf.old) (F.state shelf.new) }
+        × Goes p lists done plain.new (length done) waiting.new.lines.items (O.state out.old)
+        (O.state out.new)) }
+    ensures broken { IfErr result
+        (λ fault. IsTrue (F.state shelf.old).tells → (p : Program) (lists : List (List Entry)) →
+        Stands p lists [] plain.old →
+        Breaks (plain_text p lists) limit (F.state shelf.old).rest (O.state out.old)
+        (O.state out.new) fault) }
+    ensures write_fault { IsErrOf result RunFault.Write →
+        PrintingFailed (O.state out.old) (O.state out.new) }
+    ensures read_fault { IsErrOf result RunFault.Read →
+        ReadingFailed (F.state shelf.old) (F.state shelf.new) }
     ensures never_fails { IsErrOf result RunFault.Read → IsTrue (F.state shelf.old).steady → ⊥ }
     ensures only_read { OnlyRead (F.state shelf.old) (F.state shelf.new) }
     ensures only_printed { OnlyPrinted (O.state out.old) (O.state out.new) }
@@ -128,8 +145,11 @@ fn answer_all<F: Shelf, O: Sink>(
 
 /// What stands behind the answers: the counters, or the last line for a bad line.
 fn last_text(alloc: Global, plain: &Plain, bad: Option<Bad>) -> Result<Vec<u8>, AllocError>
-    ensures { IfOk result (λ text. (p : Program) (lists : List (List Entry)) (done : List Packet) → Stands p lists done plain.now →
-        text.items ≡ plain_end p lists (record { packets = done; bad = bad_line bad }) (bad_line bad)) }
+    ensures { IfOk result
+        (λ text. (p : Program) (lists : List (List Entry)) (done : List Packet) →
+        Stands p lists done plain.now →
+        text.items
+        ≡ plain_end p lists (record { packets = done; bad = bad_line bad }) (bad_line bad)) }
 {
     match bad {
         None => count_lines(alloc, plain.counters().as_slice()),
@@ -148,17 +168,24 @@ fn finish<O: Sink>(
     bad: Option<Bad>,
     out: &mut O,
 ) -> Status
-    ensures possible { (result ≡ status_of_end bad) ⊎ (result ≡ Status.WriteFault) ⊎ (result ≡ Status.NoMemory) }
-    ensures printed { result ≡ status_of_end bad → (p : Program) (lists : List (List Entry)) (done : List Packet) (before : SinkState) →
+    ensures possible { (result ≡ status_of_end bad) ⊎ (result ≡ Status.WriteFault)
+        ⊎ (result ≡ Status.NoMemory) }
+    ensures printed { result ≡ status_of_end bad →
+        (p : Program) (lists : List (List Entry)) (done : List Packet) (before : SinkState) →
         Goes p lists done plain.now (length done) waiting.now.lines.items before (O.state out.old) →
-        Gained before (O.state out.new) (plain_text p lists (record { packets = done; bad = bad_line bad })) }
-    ensures front { (p : Program) (lists : List (List Entry)) (done : List Packet) (before : SinkState) →
+        Gained before (O.state out.new)
+        (plain_text p lists (record { packets = done; bad = bad_line bad })) }
+    ensures front { (p : Program) (lists : List (List Entry)) (done : List Packet)
+        (before : SinkState) →
         Goes p lists done plain.now (length done) waiting.now.lines.items before (O.state out.old) →
-        GainedFront before (O.state out.new) (plain_text p lists (record { packets = done; bad = bad_line bad })) }
-    ensures some { result ≡ Status.WriteFault → (p : Program) (lists : List (List Entry)) (done : List Packet) (before : SinkState) →
+        GainedFront before (O.state out.new)
+        (plain_text p lists (record { packets = done; bad = bad_line bad })) }
+    ensures some { result ≡ Status.WriteFault →
+        (p : Program) (lists : List (List Entry)) (done : List Packet) (before : SinkState) →
         Goes p lists done plain.now (length done) waiting.now.lines.items before (O.state out.old) →
         plain_text p lists (record { packets = done; bad = bad_line bad }) ≢ [] }
-    ensures failed { result ≡ Status.WriteFault → PrintingFailed (O.state out.old) (O.state out.new) }
+    ensures failed { result ≡ Status.WriteFault →
+        PrintingFailed (O.state out.old) (O.state out.new) }
     ensures only_printed { OnlyPrinted (O.state out.old) (O.state out.new) }
 {
     match last_text(alloc, plain, bad) {
@@ -178,13 +205,17 @@ pub fn run_plain<F: Shelf, O: Sink>(
     requires limit { limit ≤ 1099511627776 }
     requires stands { (p : Program) × (lists : List (List Entry)) × Stands p lists [] plain.old }
     ensures possible { IsRunStatus result }
-    ensures answered { IsTrue (F.state shelf.old).tells → (p : Program) (lists : List (List Entry)) → Stands p lists [] plain.old →
+    ensures answered { IsTrue (F.state shelf.old).tells →
+        (p : Program) (lists : List (List Entry)) → Stands p lists [] plain.old →
         let before = outside (F.state shelf.old) (O.state out.old) in
         let after = outside (F.state shelf.new) (O.state out.new) in
-        Answered before after (Runs before.shelf.files (plain_text p lists) limit before.shelf.rest) result }
-    ensures read_fault { result ≡ Status.ReadFault → ReadingFailed (F.state shelf.old) (F.state shelf.new) }
+        Answered before after
+        (Runs before.shelf.files (plain_text p lists) limit before.shelf.rest) result }
+    ensures read_fault { result ≡ Status.ReadFault →
+        ReadingFailed (F.state shelf.old) (F.state shelf.new) }
     ensures never_fails { result ≡ Status.ReadFault → IsTrue (F.state shelf.old).steady → ⊥ }
-    ensures write_fault { result ≡ Status.WriteFault → PrintingFailed (O.state out.old) (O.state out.new) }
+    ensures write_fault { result ≡ Status.WriteFault →
+        PrintingFailed (O.state out.old) (O.state out.new) }
     ensures only_read { OnlyRead (F.state shelf.old) (F.state shelf.new) }
     ensures only_printed { OnlyPrinted (O.state out.old) (O.state out.new) }
 {

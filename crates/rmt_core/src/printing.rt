@@ -32,7 +32,8 @@ pub fn end_with<O: Sink>(out: &mut O, text: &[u8], status: Status) -> Status
     ensures status { (result ≡ status) ⊎ (result ≡ Status.WriteFault) }
     ensures printed { result ≡ status → Gained (O.state out.old) (O.state out.new) text.now }
     ensures front { GainedFront (O.state out.old) (O.state out.new) text.now }
-    ensures failed { result ≡ Status.WriteFault → PrintingFailed (O.state out.old) (O.state out.new) }
+    ensures failed { result ≡ Status.WriteFault →
+        PrintingFailed (O.state out.old) (O.state out.new) }
     ensures only_printed { OnlyPrinted (O.state out.old) (O.state out.new) }
 {
     match print(out, text) {

@@ -67,7 +67,8 @@ impl PacketReader {
     /// for the frame.
     pub fn new(alloc: Global, limit: u64) -> Result<PacketReader, AllocError>
         requires { limit ≤ 1099511627776 }
-        ensures reads { IfOk result (λ reader. (text : List ℕ) → ReadsOn limit text [] reader text) }
+        ensures reads { IfOk result
+            (λ reader. (text : List ℕ) → ReadsOn limit text [] reader text) }
         ensures given { IfOk result (λ reader. reader.given ≡ 0) }
     {
         let Ok(lines) = Lines::new(alloc) else {
@@ -86,18 +87,28 @@ impl PacketReader {
     /// what a further call answers is of no use.
     pub fn next<F: Shelf>(&mut self, shelf: &mut F, frame: &mut Vec<u8>) -> Result<Step, StepFault>
         // What comes next, over a shelf that tells its files; a text that goes on behind the limit ends with `TooLong`.
-        ensures comes { IfOk result (λ step. IsTrue (F.state shelf.old).tells → (limit : ℕ) (text : List ℕ) (done : List Packet) → ReadsOn limit text done self.old (F.state shelf.old).rest
-            → Comes (λ packets. ReadsOn limit text packets self.new (F.state shelf.new).rest) limit text done frame.new.items step) }
-        ensures too_long { IsErrOf result StepFault.TooLong → IsTrue (F.state shelf.old).tells → (limit : ℕ) (text : List ℕ) (done : List Packet) → ReadsOn limit text done self.old (F.state shelf.old).rest
-            → GoesTooFar limit text done }
+        ensures comes { IfOk result
+            (λ step. IsTrue (F.state shelf.old).tells →
+            (limit : ℕ) (text : List ℕ) (done : List Packet) →
+            ReadsOn limit text done self.old (F.state shelf.old).rest →
+            Comes (λ packets. ReadsOn limit text packets self.new
+            (F.state shelf.new).rest) limit text done frame.new.items step) }
+        ensures too_long { IsErrOf result StepFault.TooLong → IsTrue (F.state shelf.old).tells →
+            (limit : ℕ) (text : List ℕ) (done : List Packet) →
+            ReadsOn limit text done self.old (F.state shelf.old).rest → GoesTooFar limit text done }
         // Which packets may come, and how many.
         ensures port { IfOk result (λ step. (port : ℕ) → step ≡ Step.Packet port → port < 512) }
-        ensures frame { IfOk result (λ step. (port : ℕ) → step ≡ Step.Packet port → (1 ≤ length frame.new.items) × (length frame.new.items ≤ 9216)) }
-        ensures given { IfOk result (λ step. (port : ℕ) → step ≡ Step.Packet port → self.new.given ≡ self.old.given + 1) }
+        ensures frame { IfOk result
+            (λ step. (port : ℕ) → step ≡ Step.Packet port →
+            (1 ≤ length frame.new.items) × (length frame.new.items ≤ 9216)) }
+        ensures given { IfOk result
+            (λ step. (port : ℕ) → step ≡ Step.Packet port → self.new.given ≡ self.old.given + 1) }
         ensures few { self.new.given ≤ 1099511627776 }
         // A fault of the shelf is counted; a steady one has none.
-        ensures failed { IsErrOf result StepFault.Read → ReadingFailed (F.state shelf.old) (F.state shelf.new) }
-        ensures never_fails { IsErrOf result StepFault.Read → IsTrue (F.state shelf.old).steady → ⊥ }
+        ensures failed { IsErrOf result StepFault.Read →
+            ReadingFailed (F.state shelf.old) (F.state shelf.new) }
+        ensures never_fails { IsErrOf result StepFault.Read → IsTrue (F.state shelf.old).steady →
+            ⊥ }
         // What stays the same.
         ensures only_read { OnlyRead (F.state shelf.old) (F.state shelf.new) }
     {
@@ -110,18 +121,29 @@ impl PacketReader {
 
     /// Goes on to the next packet line, and answers whether there is one.
     fn find<F: Shelf>(&mut self, shelf: &mut F) -> Result<bool, StepFault>
-        ensures line { IfOk result (λ is_line. IsTrue is_line → IsTrue (F.state shelf.old).tells → (limit : ℕ) (text : List ℕ) (done : List Packet) → ReadsOn limit text done self.old (F.state shelf.old).rest
-            → AtLine limit text done self.new (F.state shelf.new).rest) }
-        ensures end { IfOk result (λ is_line. is_line ≡ false → IsTrue (F.state shelf.old).tells → (limit : ℕ) (text : List ℕ) (done : List Packet) → ReadsOn limit text done self.old (F.state shelf.old).rest
-            → (length text ≤ limit) × (packets_of text ≡ record { packets = done; bad = None })) }
-        ensures too_long { IsErrOf result StepFault.TooLong → IsTrue (F.state shelf.old).tells → (limit : ℕ) (text : List ℕ) (done : List Packet) → ReadsOn limit text done self.old (F.state shelf.old).rest
-            → GoesTooFar limit text done }
+        ensures line { IfOk result
+            (λ is_line. IsTrue is_line → IsTrue (F.state shelf.old).tells →
+            (limit : ℕ) (text : List ℕ) (done : List Packet) →
+            ReadsOn limit text done self.old (F.state shelf.old).rest →
+            AtLine limit text done self.new (F.state shelf.new).rest) }
+        ensures end { IfOk result
+            (λ is_line. is_line ≡ false → IsTrue (F.state shelf.old).tells →
+            (limit : ℕ) (text : List ℕ) (done : List Packet) →
+            ReadsOn limit text done self.old (F.state shelf.old).rest →
+            (length text ≤ limit) × (packets_of text ≡ record { packets = done; bad = None })) }
+        ensures too_long { IsErrOf result StepFault.TooLong → IsTrue (F.state shelf.old).tells →
+            (limit : ℕ) (text : List ℕ) (done : List Packet) →
+            ReadsOn limit text done self.old (F.state shelf.old).rest → GoesTooFar limit text done }
         ensures ready { IfOk result (λ is_line. IsTrue is_line → IsTrue self.new.lines.is_ready) }
-        ensures one_more { IfOk result (λ is_line. IsTrue is_line → HasLines (self.new.given + 1) self.new.is_finished self.new.lines) }
+        ensures one_more { IfOk result
+            (λ is_line. IsTrue is_line →
+            HasLines (self.new.given + 1) self.new.is_finished self.new.lines) }
         ensures given { self.new.given ≡ self.old.given }
         ensures few { self.old.given ≤ 1099511627776 }
-        ensures failed { IsErrOf result StepFault.Read → ReadingFailed (F.state shelf.old) (F.state shelf.new) }
-        ensures never_fails { IsErrOf result StepFault.Read → IsTrue (F.state shelf.old).steady → ⊥ }
+        ensures failed { IsErrOf result StepFault.Read →
+            ReadingFailed (F.state shelf.old) (F.state shelf.new) }
+        ensures never_fails { IsErrOf result StepFault.Read → IsTrue (F.state shelf.old).steady →
+            ⊥ }
         ensures only_read { OnlyRead (F.state shelf.old) (F.state shelf.new) }
     {
         if self.is_finished {
@@ -140,11 +162,14 @@ impl PacketReader {
     /// Takes the waiting bytes up to the end of the next packet line, and all where they end none.
     fn take_line(&mut self) -> bool
         requires { self.old.is_finished ≡ false }
-        ensures line { IsTrue result → (limit : ℕ) (text rest : List ℕ) (done : List Packet) → ReadsOn limit text done self.old rest → AtLine limit text done self.new rest }
-        ensures none { result ≡ false → (limit : ℕ) (text rest : List ℕ) (done : List Packet) → ReadsOn limit text done self.old rest → ReadsOn limit text done self.new rest }
+        ensures line { IsTrue result → (limit : ℕ) (text rest : List ℕ) (done : List Packet) →
+            ReadsOn limit text done self.old rest → AtLine limit text done self.new rest }
+        ensures none { result ≡ false → (limit : ℕ) (text rest : List ℕ) (done : List Packet) →
+            ReadsOn limit text done self.old rest → ReadsOn limit text done self.new rest }
         ensures empty { result ≡ false → self.new.waiting ≡ [] }
         ensures ready { self.new.lines.is_ready ≡ result }
-        ensures one_more { IsTrue result → HasLines (self.new.given + 1) self.new.is_finished self.new.lines }
+        ensures one_more { IsTrue result →
+            HasLines (self.new.given + 1) self.new.is_finished self.new.lines }
         ensures given { self.new.given ≡ self.old.given }
         ensures left { self.new.left ≡ self.old.left }
         ensures going_on { self.new.is_finished ≡ false }
@@ -158,17 +183,25 @@ impl PacketReader {
     fn fill<F: Shelf>(&mut self, shelf: &mut F) -> Result<bool, StepFault>
         requires empty { self.old.waiting ≡ [] }
         requires going_on { self.old.is_finished ≡ false }
-        ensures reads { IfOk result (λ _. IsTrue (F.state shelf.old).tells → (limit : ℕ) (text : List ℕ) (done : List Packet) → ReadsOn limit text done self.old (F.state shelf.old).rest
-            → ReadsOn limit text done self.new (F.state shelf.new).rest) }
+        ensures reads { IfOk result
+            (λ _. IsTrue (F.state shelf.old).tells →
+            (limit : ℕ) (text : List ℕ) (done : List Packet) →
+            ReadsOn limit text done self.old (F.state shelf.old).rest →
+            ReadsOn limit text done self.new (F.state shelf.new).rest) }
         ensures less { IfOk result (λ is_more. IsTrue is_more → self.new.left < self.old.left) }
-        ensures ended { IfOk result (λ is_more. is_more ≡ false → IsTrue (F.state shelf.old).tells → (F.state shelf.new).rest ≡ []) }
+        ensures ended { IfOk result
+            (λ is_more. is_more ≡ false → IsTrue (F.state shelf.old).tells →
+            (F.state shelf.new).rest ≡ []) }
         ensures empty { IfOk result (λ is_more. is_more ≡ false → self.new.waiting ≡ []) }
-        ensures too_long { IsErrOf result StepFault.TooLong → IsTrue (F.state shelf.old).tells → (limit : ℕ) (text : List ℕ) (done : List Packet) → ReadsOn limit text done self.old (F.state shelf.old).rest
-            → GoesTooFar limit text done }
+        ensures too_long { IsErrOf result StepFault.TooLong → IsTrue (F.state shelf.old).tells →
+            (limit : ℕ) (text : List ℕ) (done : List Packet) →
+            ReadsOn limit text done self.old (F.state shelf.old).rest → GoesTooFar limit text done }
         ensures going_on { self.new.is_finished ≡ false }
         ensures given { self.new.given ≡ self.old.given }
-        ensures failed { IsErrOf result StepFault.Read → ReadingFailed (F.state shelf.old) (F.state shelf.new) }
-        ensures never_fails { IsErrOf result StepFault.Read → IsTrue (F.state shelf.old).steady → ⊥ }
+        ensures failed { IsErrOf result StepFault.Read →
+            ReadingFailed (F.state shelf.old) (F.state shelf.new) }
+        ensures never_fails { IsErrOf result StepFault.Read → IsTrue (F.state shelf.old).steady →
+            ⊥ }
         ensures only_read { OnlyRead (F.state shelf.old) (F.state shelf.new) }
     {
         let most = self.left.min(PIECE as u64).max(1);
@@ -187,11 +220,15 @@ impl PacketReader {
     fn finish(&mut self) -> bool
         requires empty { self.old.waiting ≡ [] }
         requires going_on { self.old.is_finished ≡ false }
-        ensures line { IsTrue result → (limit : ℕ) (text rest : List ℕ) (done : List Packet) → rest ≡ [] → ReadsOn limit text done self.old rest → AtLine limit text done self.new rest }
-        ensures end { result ≡ false → (limit : ℕ) (text rest : List ℕ) (done : List Packet) → rest ≡ [] → ReadsOn limit text done self.old rest
-            → (length text ≤ limit) × (packets_of text ≡ record { packets = done; bad = None }) }
+        ensures line { IsTrue result → (limit : ℕ) (text rest : List ℕ) (done : List Packet) →
+            rest ≡ [] → ReadsOn limit text done self.old rest →
+            AtLine limit text done self.new rest }
+        ensures end { result ≡ false → (limit : ℕ) (text rest : List ℕ) (done : List Packet) →
+            rest ≡ [] → ReadsOn limit text done self.old rest →
+            (length text ≤ limit) × (packets_of text ≡ record { packets = done; bad = None }) }
         ensures ready { self.new.lines.is_ready ≡ result }
-        ensures one_more { IsTrue result → HasLines (self.new.given + 1) self.new.is_finished self.new.lines }
+        ensures one_more { IsTrue result →
+            HasLines (self.new.given + 1) self.new.is_finished self.new.lines }
         ensures given { self.new.given ≡ self.old.given }
     {
         self.is_finished = true;
@@ -202,11 +239,16 @@ impl PacketReader {
     fn packet(&mut self, frame: &mut Vec<u8>) -> Result<Step, StepFault>
         requires ready { IsTrue self.old.lines.is_ready }
         requires one_more { HasLines (self.old.given + 1) self.old.is_finished self.old.lines }
-        ensures comes { IfOk result (λ step. (limit : ℕ) (text rest : List ℕ) (done : List Packet) → AtLine limit text done self.old rest
-            → Comes (λ packets. ReadsOn limit text packets self.new rest) limit text done frame.new.items step) }
+        ensures comes { IfOk result
+            (λ step. (limit : ℕ) (text rest : List ℕ) (done : List Packet) →
+            AtLine limit text done self.old rest →
+            Comes (λ packets. ReadsOn limit text packets self.new rest) limit text done frame.new.items step) }
         ensures port { IfOk result (λ step. (port : ℕ) → step ≡ Step.Packet port → port < 512) }
-        ensures frame { IfOk result (λ step. (port : ℕ) → step ≡ Step.Packet port → (1 ≤ length frame.new.items) × (length frame.new.items ≤ 9216)) }
-        ensures given { IfOk result (λ step. (port : ℕ) → step ≡ Step.Packet port → self.new.given ≡ self.old.given + 1) }
+        ensures frame { IfOk result
+            (λ step. (port : ℕ) → step ≡ Step.Packet port →
+            (1 ≤ length frame.new.items) × (length frame.new.items ≤ 9216)) }
+        ensures given { IfOk result
+            (λ step. (port : ℕ) → step ≡ Step.Packet port → self.new.given ≡ self.old.given + 1) }
         ensures few { self.new.given ≤ 1099511627776 }
         ensures no_memory { OnErr result (IsErrOf result StepFault.NoMemory) }
     {

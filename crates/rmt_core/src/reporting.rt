@@ -32,8 +32,10 @@ pub fn report<F: Shelf, O: Sink>(
         let before = outside (F.state shelf.old) (O.state out.old) in
         let after = outside (F.state shelf.new) (O.state out.new) in
         Answered before after (GivesReport before.shelf.files (string_bytes image.now)) result }
-    ensures read_fault { result ≡ Status.ReadFault → ReadingFailed (F.state shelf.old) (F.state shelf.new) }
-    ensures write_fault { result ≡ Status.WriteFault → PrintingFailed (O.state out.old) (O.state out.new) }
+    ensures read_fault { result ≡ Status.ReadFault →
+        ReadingFailed (F.state shelf.old) (F.state shelf.new) }
+    ensures write_fault { result ≡ Status.WriteFault →
+        PrintingFailed (O.state out.old) (O.state out.new) }
     ensures only_read { OnlyRead (F.state shelf.old) (F.state shelf.new) }
     ensures only_printed { OnlyPrinted (O.state out.old) (O.state out.new) }
 {
@@ -45,11 +47,14 @@ pub fn report<F: Shelf, O: Sink>(
 
 /// Prints the use of the image that bytes are, or how they are none.
 fn report_bytes<O: Sink>(alloc: Global, bytes: &[u8], out: &mut O) -> Status
-    ensures possible { (result ≡ Status.Done) ⊎ (result ≡ Status.BadImage) ⊎ (result ≡ Status.WriteFault) ⊎ (result ≡ Status.NoMemory) }
+    ensures possible { (result ≡ Status.Done) ⊎ (result ≡ Status.BadImage)
+        ⊎ (result ≡ Status.WriteFault) ⊎ (result ≡ Status.NoMemory) }
     ensures answered { (shelf : ShelfState) →
         Answered (outside shelf (O.state out.old)) (outside shelf (O.state out.new))
-        (Spelled shelf.files bytes.now (λ c g. g ≡ told shelf.files Status.Done (report_line c))) result }
-    ensures write_fault { result ≡ Status.WriteFault → PrintingFailed (O.state out.old) (O.state out.new) }
+        (Spelled shelf.files bytes.now
+        (λ c g. g ≡ told shelf.files Status.Done (report_line c))) result }
+    ensures write_fault { result ≡ Status.WriteFault →
+        PrintingFailed (O.state out.old) (O.state out.new) }
     ensures only_printed { OnlyPrinted (O.state out.old) (O.state out.new) }
 {
     match read_image(alloc, bytes) {

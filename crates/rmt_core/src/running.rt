@@ -43,14 +43,18 @@ pub fn run_chip<F: Shelf, O: Sink>(
     requires stands { (c : Config) × Stands c [] chip.old }
     ensures possible { IsRunStatus result }
     // With Done the chip stands for all cycles of the run of the packets that were read.
-    ensures clocked { result ≡ Status.Done → IsTrue (F.state shelf.old).tells → (c : Config) → Stands c [] chip.old →
+    ensures clocked { result ≡ Status.Done → IsTrue (F.state shelf.old).tells → (c : Config) →
+        Stands c [] chip.old →
         Stands c (inputs_of c (packets_of (F.state shelf.old).rest).packets) chip.new }
     ensures answered { IsTrue (F.state shelf.old).tells → (c : Config) → Stands c [] chip.old →
         let before = outside (F.state shelf.old) (O.state out.old) in
         let after = outside (F.state shelf.new) (O.state out.new) in
-        Answered before after (Runs before.shelf.files (printed_of c) limit before.shelf.rest) result }
-    ensures read_fault { result ≡ Status.ReadFault → ReadingFailed (F.state shelf.old) (F.state shelf.new) }
-    ensures write_fault { result ≡ Status.WriteFault → PrintingFailed (O.state out.old) (O.state out.new) }
+        Answered before after
+        (Runs before.shelf.files (printed_of c) limit before.shelf.rest) result }
+    ensures read_fault { result ≡ Status.ReadFault →
+        ReadingFailed (F.state shelf.old) (F.state shelf.new) }
+    ensures write_fault { result ≡ Status.WriteFault →
+        PrintingFailed (O.state out.old) (O.state out.new) }
     ensures only_read { OnlyRead (F.state shelf.old) (F.state shelf.new) }
     ensures only_printed { OnlyPrinted (O.state out.old) (O.state out.new) }
 {
@@ -69,15 +73,19 @@ pub fn run_watched<F: Shelf, O: Sink>(
     requires limit { limit ≤ 1099511627776 }
     requires stands { (c : Config) × Stands c [] chip.old }
     ensures possible { IsRunStatus result }
-    ensures clocked { result ≡ Status.Done → IsTrue (F.state shelf.old).tells → (c : Config) → Stands c [] chip.old →
+    ensures clocked { result ≡ Status.Done → IsTrue (F.state shelf.old).tells → (c : Config) →
+        Stands c [] chip.old →
         Stands c (inputs_of c (packets_of (F.state shelf.old).rest).packets) chip.new }
     ensures answered { IsTrue (F.state shelf.old).tells → (c : Config) → Stands c [] chip.old →
         let before = outside (F.state shelf.old) (O.state out.old) in
         let after = outside (F.state shelf.new) (O.state out.new) in
-        Answered before after (Runs before.shelf.files (text_of watch c) limit before.shelf.rest) result }
-    ensures read_fault { result ≡ Status.ReadFault → ReadingFailed (F.state shelf.old) (F.state shelf.new) }
+        Answered before after
+        (Runs before.shelf.files (text_of watch c) limit before.shelf.rest) result }
+    ensures read_fault { result ≡ Status.ReadFault →
+        ReadingFailed (F.state shelf.old) (F.state shelf.new) }
     ensures never_fails { result ≡ Status.ReadFault → IsTrue (F.state shelf.old).steady → ⊥ }
-    ensures write_fault { result ≡ Status.WriteFault → PrintingFailed (O.state out.old) (O.state out.new) }
+    ensures write_fault { result ≡ Status.WriteFault →
+        PrintingFailed (O.state out.old) (O.state out.new) }
     ensures only_read { OnlyRead (F.state shelf.old) (F.state shelf.new) }
     ensures only_printed { OnlyPrinted (O.state out.old) (O.state out.new) }
 {

@@ -44,7 +44,8 @@ pub fn sample<O: Sink>(alloc: Global, number: u32, out: &mut O) -> Status
     ensures answered { (shelf : ShelfState) →
         Answered (outside shelf (O.state out.old)) (outside shelf (O.state out.new))
         (GivesSample shelf.files number) result }
-    ensures write_fault { result ≡ Status.WriteFault → PrintingFailed (O.state out.old) (O.state out.new) }
+    ensures write_fault { result ≡ Status.WriteFault →
+        PrintingFailed (O.state out.old) (O.state out.new) }
     ensures only_printed { OnlyPrinted (O.state out.old) (O.state out.new) }
 {
     match make_texts(alloc, number) {
@@ -65,7 +66,8 @@ fn sample_texts<O: Sink>(alloc: Global, number: u32, texts: &Sample, out: &mut O
     ensures answered { (shelf : ShelfState) →
         Answered (outside shelf (O.state out.old)) (outside shelf (O.state out.new))
         (GivesSample shelf.files number) result }
-    ensures write_fault { result ≡ Status.WriteFault → PrintingFailed (O.state out.old) (O.state out.new) }
+    ensures write_fault { result ≡ Status.WriteFault →
+        PrintingFailed (O.state out.old) (O.state out.new) }
     ensures only_printed { OnlyPrinted (O.state out.old) (O.state out.new) }
 {
     one_meaning();
@@ -93,8 +95,11 @@ fn sample_meant<O: Sink>(
     ensures no_reading { result ≢ Status.ReadFault }
     ensures answered { (shelf : ShelfState) →
         Answered (outside shelf (O.state out.old)) (outside shelf (O.state out.new))
-        (Builds shelf.files (λ image c b. told shelf.files Status.Done (sample_line number meant.now.program meant.now.entries c)) meant.now.program meant.now.entries) result }
-    ensures write_fault { result ≡ Status.WriteFault → PrintingFailed (O.state out.old) (O.state out.new) }
+        (Builds shelf.files
+        (λ image c b. told shelf.files Status.Done
+        (sample_line number meant.now.program meant.now.entries c)) meant.now.program meant.now.entries) result }
+    ensures write_fault { result ≡ Status.WriteFault →
+        PrintingFailed (O.state out.old) (O.state out.new) }
     ensures only_printed { OnlyPrinted (O.state out.old) (O.state out.new) }
 {
     match fit(alloc, &meant.program, &meant.entries) {
@@ -115,7 +120,8 @@ fn tell_built<O: Sink>(
     requires form { Formed built.config }
     requires limits { IsWithinLimits built.config }
     requires packets { packets.now ≡ packets_text number }
-    ensures line { (line : List ℕ) → line ≡ chip_line number built.config → Tells (O.state out.old) (O.state out.new) line Status.Done result }
+    ensures line { (line : List ℕ) → line ≡ chip_line number built.config →
+        Tells (O.state out.old) (O.state out.new) line Status.Done result }
     ensures only_printed { OnlyPrinted (O.state out.old) (O.state out.new) }
 {
     tell(

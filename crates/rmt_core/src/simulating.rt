@@ -37,9 +37,13 @@ pub fn simulate<F: Shelf, O: Sink>(
     ensures answered { IsTrue (F.state shelf.old).tells →
         let before = outside (F.state shelf.old) (O.state out.old) in
         let after = outside (F.state shelf.new) (O.state out.new) in
-        Answered before after (GivesRun watch before.shelf.files (string_bytes image.now) (string_bytes packets.now)) result }
-    ensures read_fault { result ≡ Status.ReadFault → ReadingFailed (F.state shelf.old) (F.state shelf.new) }
-    ensures write_fault { result ≡ Status.WriteFault → PrintingFailed (O.state out.old) (O.state out.new) }
+        Answered before after
+        (GivesRun watch before.shelf.files (string_bytes image.now)
+        (string_bytes packets.now)) result }
+    ensures read_fault { result ≡ Status.ReadFault →
+        ReadingFailed (F.state shelf.old) (F.state shelf.new) }
+    ensures write_fault { result ≡ Status.WriteFault →
+        PrintingFailed (O.state out.old) (O.state out.new) }
     ensures only_read { OnlyRead (F.state shelf.old) (F.state shelf.new) }
     ensures only_printed { OnlyPrinted (O.state out.old) (O.state out.new) }
 {
@@ -62,9 +66,12 @@ fn simulate_image<F: Shelf, O: Sink>(
     ensures answered { IsTrue (F.state shelf.old).tells →
         let before = outside (F.state shelf.old) (O.state out.old) in
         let after = outside (F.state shelf.new) (O.state out.new) in
-        Answered before after (OfImage watch before.shelf.files (string_bytes packets.now) bytes.now.items) result }
-    ensures read_fault { result ≡ Status.ReadFault → ReadingFailed (F.state shelf.old) (F.state shelf.new) }
-    ensures write_fault { result ≡ Status.WriteFault → PrintingFailed (O.state out.old) (O.state out.new) }
+        Answered before after
+        (OfImage watch before.shelf.files (string_bytes packets.now) bytes.now.items) result }
+    ensures read_fault { result ≡ Status.ReadFault →
+        ReadingFailed (F.state shelf.old) (F.state shelf.new) }
+    ensures write_fault { result ≡ Status.WriteFault →
+        PrintingFailed (O.state out.old) (O.state out.new) }
     ensures only_read { OnlyRead (F.state shelf.old) (F.state shelf.new) }
     ensures only_printed { OnlyPrinted (O.state out.old) (O.state out.new) }
 {
@@ -86,9 +93,12 @@ fn simulate_open<F: Shelf, O: Sink>(
     ensures answered { IsTrue (F.state shelf.old).tells →
         let before = outside (F.state shelf.old) (O.state out.old) in
         let after = outside (F.state shelf.new) (O.state out.new) in
-        Answered before after (OfOpen watch before.shelf.files bytes.now.items before.shelf.rest) result }
-    ensures read_fault { result ≡ Status.ReadFault → ReadingFailed (F.state shelf.old) (F.state shelf.new) }
-    ensures write_fault { result ≡ Status.WriteFault → PrintingFailed (O.state out.old) (O.state out.new) }
+        Answered before after
+        (OfOpen watch before.shelf.files bytes.now.items before.shelf.rest) result }
+    ensures read_fault { result ≡ Status.ReadFault →
+        ReadingFailed (F.state shelf.old) (F.state shelf.new) }
+    ensures write_fault { result ≡ Status.WriteFault →
+        PrintingFailed (O.state out.old) (O.state out.new) }
     ensures only_read { OnlyRead (F.state shelf.old) (F.state shelf.new) }
     ensures only_printed { OnlyPrinted (O.state out.old) (O.state out.new) }
 {
@@ -112,9 +122,13 @@ fn simulate_config<F: Shelf, O: Sink>(
     ensures answered { IsTrue (F.state shelf.old).tells →
         let before = outside (F.state shelf.old) (O.state out.old) in
         let after = outside (F.state shelf.new) (O.state out.new) in
-        Answered before after (Runs before.shelf.files (text_of watch config) packets_limit before.shelf.rest) result }
-    ensures read_fault { result ≡ Status.ReadFault → ReadingFailed (F.state shelf.old) (F.state shelf.new) }
-    ensures write_fault { result ≡ Status.WriteFault → PrintingFailed (O.state out.old) (O.state out.new) }
+        Answered before after
+        (Runs before.shelf.files
+        (text_of watch config) packets_limit before.shelf.rest) result }
+    ensures read_fault { result ≡ Status.ReadFault →
+        ReadingFailed (F.state shelf.old) (F.state shelf.new) }
+    ensures write_fault { result ≡ Status.WriteFault →
+        PrintingFailed (O.state out.old) (O.state out.new) }
     ensures only_read { OnlyRead (F.state shelf.old) (F.state shelf.new) }
     ensures only_printed { OnlyPrinted (O.state out.old) (O.state out.new) }
 {

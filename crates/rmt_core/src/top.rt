@@ -32,20 +32,30 @@ pub fn rmt<F: Shelf, O: Sink>(
     ensures usage { (result ≡ Status.Usage) ↔ (command_of (words_of words.now.items) ≡ None) }
     ensures untouched { result ≡ Status.Usage → (shelf.new ≡ shelf.old) × (out.new ≡ out.old) }
     // Only some answers are a command's.
-    ensures possible { IfCommand (command_of (words_of words.now.items)) (λ command. IsPossible command result) }
+    ensures possible { IfCommand (command_of (words_of words.now.items))
+        (λ command. IsPossible command result) }
     // A call ends as what the command gives over these files, or it is stopped by the outside or by want of memory.
-    ensures answered { IsTrue (F.state shelf.old).tells → IfCommand (command_of (words_of words.now.items)) (λ command.
+    ensures answered { IsTrue (F.state shelf.old).tells →
+        IfCommand (command_of (words_of words.now.items)) (λ command.
         let before = outside (F.state shelf.old) (O.state out.old) in
         let after = outside (F.state shelf.new) (O.state out.new) in
         Answered before after (Gives before.shelf.files command) result) }
     // `compile` has read its files, and has its image and its lines, before it writes or prints anything.
-    ensures compile_quiet { (result ≡ Status.NoMemory) ⊎ (result ≡ Status.ReadFault) ⊎ (result ≡ Status.TooLong) → IfCommand (command_of (words_of words.now.items)) IsCompile → GainedNone (O.state out.old) (O.state out.new) }
+    ensures compile_quiet { (result ≡ Status.NoMemory) ⊎ (result ≡ Status.ReadFault)
+        ⊎ (result ≡ Status.TooLong) → IfCommand (command_of (words_of words.now.items)) IsCompile →
+        GainedNone (O.state out.old) (O.state out.new) }
     // Faults of the outside come only where a count rose in this call; a steady shelf has none of writing.
-    ensures read_fault { result ≡ Status.ReadFault → ReadingFailed (F.state shelf.old) (F.state shelf.new) }
-    ensures write_fault { result ≡ Status.WriteFault → WritingFailed (F.state shelf.old) (F.state shelf.new) ⊎ PrintingFailed (O.state out.old) (O.state out.new) }
+    ensures read_fault { result ≡ Status.ReadFault →
+        ReadingFailed (F.state shelf.old) (F.state shelf.new) }
+    ensures write_fault { result ≡ Status.WriteFault →
+        WritingFailed (F.state shelf.old) (F.state shelf.new)
+        ⊎ PrintingFailed (O.state out.old) (O.state out.new) }
     // Only `compile` writes a file, so with any other command the sink failed.
-    ensures sink_fault { result ≡ Status.WriteFault → (IfCommand (command_of (words_of words.now.items)) IsCompile → ⊥) → PrintingFailed (O.state out.old) (O.state out.new) }
-    ensures steady_write { result ≡ Status.WriteFault → IsTrue (F.state shelf.old).steady → PrintingFailed (O.state out.old) (O.state out.new) }
+    ensures sink_fault { result ≡ Status.WriteFault →
+        (IfCommand (command_of (words_of words.now.items)) IsCompile → ⊥) →
+        PrintingFailed (O.state out.old) (O.state out.new) }
+    ensures steady_write { result ≡ Status.WriteFault → IsTrue (F.state shelf.old).steady →
+        PrintingFailed (O.state out.old) (O.state out.new) }
     // What tells its content goes on doing so.
     ensures tells { (F.state shelf.new).tells ≡ (F.state shelf.old).tells }
     ensures only_printed { OnlyPrinted (O.state out.old) (O.state out.new) }

@@ -33,8 +33,11 @@ impl Waiting {
     /// Writes the lines where they have more than 65,536 bytes. After a fault a front of them was written.
     pub fn write_many<O: Sink>(&mut self, out: &mut O) -> Result<(), SinkFault>
         ensures few { OnOk result (length self.new.lines.items ≤ 65536) }
-        ensures written { OnOk result (Written self.old.lines.items self.new.lines.items (O.state out.old) (O.state out.new)) }
-        ensures front { OnErr result (GainedFront (O.state out.old) (O.state out.new) self.old.lines.items) }
+        ensures written { OnOk result
+            (Written self.old.lines.items self.new.lines.items (O.state out.old)
+            (O.state out.new)) }
+        ensures front { OnErr result
+            (GainedFront (O.state out.old) (O.state out.new) self.old.lines.items) }
         ensures some { OnErr result (self.old.lines.items ≢ []) }
         ensures failed { OnErr result (PrintingFailed (O.state out.old) (O.state out.new)) }
         ensures only_printed { OnlyPrinted (O.state out.old) (O.state out.new) }
@@ -55,10 +58,13 @@ impl Waiting {
     pub fn end<O: Sink>(&self, last: &[u8], status: Status, out: &mut O) -> Status
         requires { PrintsAll status }
         ensures status { (result ≡ status) ⊎ (result ≡ Status.WriteFault) }
-        ensures printed { result ≡ status → Gained (O.state out.old) (O.state out.new) (self.now.lines.items ++ last.now) }
-        ensures front { GainedFront (O.state out.old) (O.state out.new) (self.now.lines.items ++ last.now) }
+        ensures printed { result ≡ status →
+            Gained (O.state out.old) (O.state out.new) (self.now.lines.items ++ last.now) }
+        ensures front { GainedFront (O.state out.old) (O.state out.new)
+            (self.now.lines.items ++ last.now) }
         ensures some { result ≡ Status.WriteFault → self.now.lines.items ++ last.now ≢ [] }
-        ensures failed { result ≡ Status.WriteFault → PrintingFailed (O.state out.old) (O.state out.new) }
+        ensures failed { result ≡ Status.WriteFault →
+            PrintingFailed (O.state out.old) (O.state out.new) }
         ensures only_printed { OnlyPrinted (O.state out.old) (O.state out.new) }
     {
         let Ok(()) = print(out, self.lines.as_slice()) else {

@@ -28,13 +28,22 @@ pub fn enter_all<F: Shelf, O: Sink>(
     out: &mut O,
 ) -> Result<Option<Bad>, RunFault>
     requires limit { limit ≤ 1099511627776 }
-    requires starts { (w : Watch) × (c : Config) × Goes w c [] run.old chip.old (O.state out.old) (O.state out.old) }
-    ensures ok { IfOk result (λ bad. (w : Watch) (c : Config) → Goes w c [] run.old chip.old (O.state out.old) (O.state out.old) →
-        Entered w c limit (F.state shelf.old) (bad_line bad) run.new chip.new (O.state out.old) (O.state out.new)) }
-    ensures broken { IfErr result (λ fault. IsTrue (F.state shelf.old).tells → (w : Watch) (c : Config) → Goes w c [] run.old chip.old (O.state out.old) (O.state out.old) →
-        Breaks (text_of w c) limit (F.state shelf.old).rest (O.state out.old) (O.state out.new) fault) }
-    ensures write_fault { IsErrOf result RunFault.Write → PrintingFailed (O.state out.old) (O.state out.new) }
-    ensures read_fault { IsErrOf result RunFault.Read → ReadingFailed (F.state shelf.old) (F.state shelf.new) }
+    requires starts { (w : Watch) × (c : Config)
+        × Goes w c [] run.old chip.old (O.state out.old) (O.state out.old) }
+    ensures ok { IfOk result
+        (λ bad. (w : Watch) (c : Config) →
+        Goes w c [] run.old chip.old (O.state out.old) (O.state out.old) →
+        Entered w c limit (F.state shelf.old) (bad_line bad) run.new chip.new (O.state out.old)
+        (O.state out.new)) }
+    ensures broken { IfErr result
+        (λ fault. IsTrue (F.state shelf.old).tells → (w : Watch) (c : Config) →
+        Goes w c [] run.old chip.old (O.state out.old) (O.state out.old) →
+        Breaks (text_of w c) limit (F.state shelf.old).rest (O.state out.old)
+        (O.state out.new) fault) }
+    ensures write_fault { IsErrOf result RunFault.Write →
+        PrintingFailed (O.state out.old) (O.state out.new) }
+    ensures read_fault { IsErrOf result RunFault.Read →
+        ReadingFailed (F.state shelf.old) (F.state shelf.new) }
     ensures never_fails { IsErrOf result RunFault.Read → IsTrue (F.state shelf.old).steady → ⊥ }
     ensures only_read { OnlyRead (F.state shelf.old) (F.state shelf.new) }
     ensures only_printed { OnlyPrinted (O.state out.old) (O.state out.new) }

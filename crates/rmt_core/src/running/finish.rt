@@ -32,17 +32,30 @@ pub fn finish<O: Sink>(
     bad: Option<Bad>,
     out: &mut O,
 ) -> Status
-    requires { (w : Watch) × (c : Config) × (done : List Packet) × (before : SinkState) × Goes w c (map Some done) run.old chip.old before (O.state out.old) × (length done ≤ 1099511627776) }
-    ensures possible { (result ≡ status_of_end bad) ⊎ (result ≡ Status.WriteFault) ⊎ (result ≡ Status.NoMemory) }
-    ensures printed { result ≡ status_of_end bad → (w : Watch) (c : Config) (done : List Packet) (before : SinkState) → Goes w c (map Some done) run.old chip.old before (O.state out.old) →
-        Gained before (O.state out.new) (text_of w c (record { packets = done; bad = bad_line bad })) }
-    ensures front { (w : Watch) (c : Config) (done : List Packet) (before : SinkState) → Goes w c (map Some done) run.old chip.old before (O.state out.old) →
-        GainedFront before (O.state out.new) (text_of w c (record { packets = done; bad = bad_line bad })) }
-    ensures some { result ≡ Status.WriteFault → (w : Watch) (c : Config) (done : List Packet) (before : SinkState) → Goes w c (map Some done) run.old chip.old before (O.state out.old) →
+    requires { (w : Watch) × (c : Config) × (done : List Packet) × (before : SinkState)
+        × Goes w c (map Some done) run.old chip.old before (O.state out.old)
+        × (length done ≤ 1099511627776) }
+    ensures possible { (result ≡ status_of_end bad) ⊎ (result ≡ Status.WriteFault)
+        ⊎ (result ≡ Status.NoMemory) }
+    ensures printed { result ≡ status_of_end bad →
+        (w : Watch) (c : Config) (done : List Packet) (before : SinkState) →
+        Goes w c (map Some done) run.old chip.old before (O.state out.old) →
+        Gained before (O.state out.new)
+        (text_of w c (record { packets = done; bad = bad_line bad })) }
+    ensures front { (w : Watch) (c : Config) (done : List Packet) (before : SinkState) →
+        Goes w c (map Some done) run.old chip.old before (O.state out.old) →
+        GainedFront before (O.state out.new)
+        (text_of w c (record { packets = done; bad = bad_line bad })) }
+    ensures some { result ≡ Status.WriteFault →
+        (w : Watch) (c : Config) (done : List Packet) (before : SinkState) →
+        Goes w c (map Some done) run.old chip.old before (O.state out.old) →
         text_of w c (record { packets = done; bad = bad_line bad }) ≢ [] }
-    ensures clocked { result ≡ Status.Done → (w : Watch) (c : Config) (done : List Packet) (before : SinkState) → Goes w c (map Some done) run.old chip.old before (O.state out.old) →
+    ensures clocked { result ≡ Status.Done →
+        (w : Watch) (c : Config) (done : List Packet) (before : SinkState) →
+        Goes w c (map Some done) run.old chip.old before (O.state out.old) →
         Stands c (inputs_of c done) chip.new }
-    ensures failed { result ≡ Status.WriteFault → PrintingFailed (O.state out.old) (O.state out.new) }
+    ensures failed { result ≡ Status.WriteFault →
+        PrintingFailed (O.state out.old) (O.state out.new) }
     ensures only_printed { OnlyPrinted (O.state out.old) (O.state out.new) }
 {
     let packets = run.cycles;
@@ -64,13 +77,21 @@ fn run_out<O: Sink>(
     bad: Option<Bad>,
     out: &mut O,
 ) -> Result<(), RunFault>
-    requires { (w : Watch) × (c : Config) × (done : List Packet) × (before : SinkState) × Goes w c (map Some done) run.old chip.old before (O.state out.old) × (length done ≤ 1099511627776) }
-    ensures ok { OnOk result ((w : Watch) (c : Config) (done : List Packet) (before : SinkState) → Goes w c (map Some done) run.old chip.old before (O.state out.old) →
+    requires { (w : Watch) × (c : Config) × (done : List Packet) × (before : SinkState)
+        × Goes w c (map Some done) run.old chip.old before (O.state out.old)
+        × (length done ≤ 1099511627776) }
+    ensures ok { OnOk result
+        ((w : Watch) (c : Config) (done : List Packet) (before : SinkState) →
+        Goes w c (map Some done) run.old chip.old before (O.state out.old) →
         Goes w c (ran w c done (bad_line bad)) run.new chip.new before (O.state out.new)) }
-    ensures cut { IfErr result (λ fault. (w : Watch) (c : Config) (done : List Packet) (before : SinkState) → Goes w c (map Some done) run.old chip.old before (O.state out.old) →
+    ensures cut { IfErr result
+        (λ fault. (w : Watch) (c : Config) (done : List Packet) (before : SinkState) →
+        Goes w c (map Some done) run.old chip.old before (O.state out.old) →
         Cut (shown w c (ran w c done (bad_line bad))) before (O.state out.new) fault) }
-    ensures either { IfErr result (λ fault. (fault ≡ RunFault.NoMemory) ⊎ (fault ≡ RunFault.Write)) }
-    ensures failed { IsErrOf result RunFault.Write → PrintingFailed (O.state out.old) (O.state out.new) }
+    ensures either { IfErr result
+        (λ fault. (fault ≡ RunFault.NoMemory) ⊎ (fault ≡ RunFault.Write)) }
+    ensures failed { IsErrOf result RunFault.Write →
+        PrintingFailed (O.state out.old) (O.state out.new) }
     ensures only_printed { OnlyPrinted (O.state out.old) (O.state out.new) }
 {
     if !runs_on(run, bad) {
@@ -85,7 +106,9 @@ fn run_out<O: Sink>(
 /// Whether a chip runs on behind its last packet. Where only vectors are printed a bad line ends the run.
 fn runs_on(run: &Run, bad: Option<Bad>) -> bool
     ensures { (c : Config) (done : List Packet) → run.now.cycles ≡ length done →
-        ran run.now.watch c done (bad_line bad) ≡ (if result then map Some done ++ replicate (latency_of c.stages) None else map Some done) }
+        ran run.now.watch c done (bad_line bad)
+        ≡ (if result then map Some done
+        ++ replicate (latency_of c.stages) None else map Some done) }
 {
     if run.cycles == 0 {
         return false;
@@ -103,13 +126,23 @@ fn drain<O: Sink>(
     run: &mut Run,
     out: &mut O,
 ) -> Result<(), RunFault>
-    requires { (w : Watch) × (c : Config) × (inputs : List (Option Packet)) × (before : SinkState) × Goes w c inputs run.old chip.old before (O.state out.old) × (length inputs ≤ 1099511627776) }
-    ensures ok { OnOk result ((w : Watch) (c : Config) (inputs : List (Option Packet)) (before : SinkState) → Goes w c inputs run.old chip.old before (O.state out.old) →
-        Goes w c (inputs ++ replicate (latency_of c.stages) None) run.new chip.new before (O.state out.new)) }
-    ensures cut { IfErr result (λ fault. (w : Watch) (c : Config) (inputs : List (Option Packet)) (before : SinkState) → Goes w c inputs run.old chip.old before (O.state out.old) →
-        Cut (shown w c (inputs ++ replicate (latency_of c.stages) None)) before (O.state out.new) fault) }
-    ensures either { IfErr result (λ fault. (fault ≡ RunFault.NoMemory) ⊎ (fault ≡ RunFault.Write)) }
-    ensures failed { IsErrOf result RunFault.Write → PrintingFailed (O.state out.old) (O.state out.new) }
+    requires { (w : Watch) × (c : Config) × (inputs : List (Option Packet)) × (before : SinkState)
+        × Goes w c inputs run.old chip.old before (O.state out.old)
+        × (length inputs ≤ 1099511627776) }
+    ensures ok { OnOk result
+        ((w : Watch) (c : Config) (inputs : List (Option Packet)) (before : SinkState) →
+        Goes w c inputs run.old chip.old before (O.state out.old) →
+        Goes w c (inputs ++ replicate (latency_of c.stages) None) run.new chip.new before
+        (O.state out.new)) }
+    ensures cut { IfErr result
+        (λ fault. (w : Watch) (c : Config) (inputs : List (Option Packet)) (before : SinkState) →
+        Goes w c inputs run.old chip.old before (O.state out.old) →
+        Cut (shown w c (inputs ++ replicate (latency_of c.stages) None)) before
+        (O.state out.new) fault) }
+    ensures either { IfErr result
+        (λ fault. (fault ≡ RunFault.NoMemory) ⊎ (fault ≡ RunFault.Write)) }
+    ensures failed { IsErrOf result RunFault.Write →
+        PrintingFailed (O.state out.old) (O.state out.new) }
     ensures only_printed { OnlyPrinted (O.state out.old) (O.state out.new) }
 {
     let latency = chip.latency();
@@ -130,7 +163,8 @@ fn last_text(
     packets: u64,
     bad: Option<Bad>,
 ) -> Result<Vec<u8>, AllocError>
-    ensures { IfOk result (λ text. (c : Config) (inputs : List (Option Packet)) → Stands c inputs chip.now →
+    ensures { IfOk result
+        (λ text. (c : Config) (inputs : List (Option Packet)) → Stands c inputs chip.now →
         text.items ≡ last_of run.now.watch c inputs run.now.cycles packets (bad_line bad)) }
 {
     match bad {
@@ -147,8 +181,11 @@ fn last_text(
 
 /// What stands behind the answers of a run of so many cycles and packets.
 fn last_lines(alloc: Global, chip: &Chip, cycles: u64, packets: u64) -> Result<Vec<u8>, AllocError>
-    ensures { IfOk result (λ text. (c : Config) (inputs : List (Option Packet)) → Stands c inputs chip.now →
-        text.items ≡ flat_map count_line (chip_counts_of c inputs) ++ (cycles_line cycles ++ flight_line (min packets (latency_of c.stages + 1)))) }
+    ensures { IfOk result
+        (λ text. (c : Config) (inputs : List (Option Packet)) → Stands c inputs chip.now →
+        text.items
+        ≡ flat_map count_line (chip_counts_of c inputs)
+        ++ (cycles_line cycles ++ flight_line (min packets (latency_of c.stages + 1)))) }
 {
     let mut text = count_lines(alloc, chip.counters().as_slice())?;
     let flight = packets.min(u64::from(chip.latency()) + 1);

@@ -26,7 +26,9 @@ pub struct Run {
 
 /// A run in which nothing entered.
 pub fn start(alloc: Global, watch: Watch) -> Result<Run, ChipFault>
-    ensures { IfOk result (λ run. (c : Config) (chip : Chip) (before : SinkState) → Stands c [] chip → Goes watch c [] run chip before before) }
+    ensures { IfOk result
+        (λ run. (c : Config) (chip : Chip) (before : SinkState) → Stands c [] chip →
+        Goes watch c [] run chip before before) }
 {
     match Out::new(alloc) {
         Ok(leaving) => Ok(Run {

@@ -36,12 +36,18 @@ pub fn turn<O: Sink>(
     requires entered { entered_of chip.old < 2 ^ 63 }
     requires cycles { run.old.cycles < 2 ^ 63 }
     requires answered { run.old.answered < 2 ^ 63 }
-    ensures ok { OnOk result ((w : Watch) (c : Config) (inputs : List (Option Packet)) (before : SinkState) → Goes w c inputs run.old chip.old before (O.state out.old) →
+    ensures ok { OnOk result
+        ((w : Watch) (c : Config) (inputs : List (Option Packet)) (before : SinkState) →
+        Goes w c inputs run.old chip.old before (O.state out.old) →
         Goes w c (inputs ++ input_of frame.entry ∷ []) run.new chip.new before (O.state out.new)) }
-    ensures cut { IfErr result (λ fault. (w : Watch) (c : Config) (inputs : List (Option Packet)) (before : SinkState) → Goes w c inputs run.old chip.old before (O.state out.old) →
+    ensures cut { IfErr result
+        (λ fault. (w : Watch) (c : Config) (inputs : List (Option Packet)) (before : SinkState) →
+        Goes w c inputs run.old chip.old before (O.state out.old) →
         Cut (shown w c (inputs ++ input_of frame.entry ∷ [])) before (O.state out.new) fault) }
-    ensures either { IfErr result (λ fault. (fault ≡ RunFault.NoMemory) ⊎ (fault ≡ RunFault.Write)) }
-    ensures failed { IsErrOf result RunFault.Write → PrintingFailed (O.state out.old) (O.state out.new) }
+    ensures either { IfErr result
+        (λ fault. (fault ≡ RunFault.NoMemory) ⊎ (fault ≡ RunFault.Write)) }
+    ensures failed { IsErrOf result RunFault.Write →
+        PrintingFailed (O.state out.old) (O.state out.new) }
     ensures only_printed { OnlyPrinted (O.state out.old) (O.state out.new) }
 {
     let Ok(()) = cycle(alloc, chip, run, frame) else {
@@ -64,7 +70,9 @@ fn cycle(
     requires entered { entered_of chip.old < 2 ^ 63 }
     requires cycles { run.old.cycles < 2 ^ 63 }
     requires answered { run.old.answered < 2 ^ 63 }
-    ensures { OnOk result ((w : Watch) (c : Config) (inputs : List (Option Packet)) (before now : SinkState) → Goes w c inputs run.old chip.old before now →
+    ensures { OnOk result
+        ((w : Watch) (c : Config) (inputs : List (Option Packet)) (before now : SinkState) →
+        Goes w c inputs run.old chip.old before now →
         Goes w c (inputs ++ input_of frame.entry ∷ []) run.new chip.new before now) }
 {
     let left = chip.clock(frame, &mut run.leaving);
@@ -104,7 +112,9 @@ fn add_answer(
 
 /// Appends the lines of the vectors in flight.
 fn add_vectors(alloc: Global, chip: &Chip, lines: &mut Vec<u8>) -> Result<(), AllocError>
-    ensures { OnOk result ((c : Config) (inputs : List (Option Packet)) (cycle : ℕ) → Stands c inputs chip.now → length inputs ≡ cycle + 1 →
+    ensures { OnOk result
+        ((c : Config) (inputs : List (Option Packet)) (cycle : ℕ) → Stands c inputs chip.now →
+        length inputs ≡ cycle + 1 →
         lines.new.items ≡ lines.old.items ++ lines_below c inputs cycle (latency_of c.stages + 1)) }
 {
     let vectors = vectors_text(alloc, chip)?;

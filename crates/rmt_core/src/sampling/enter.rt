@@ -19,7 +19,9 @@ pub fn run_packets(alloc: Global, text: &[u8], run: &mut CountedRun) -> Result<(
     requires good { (packets_of text.now).bad ≡ None }
     requires stands { (c : Config) × StandsFor c [] run.old }
     requires bounded { IsBounded run.old.tally }
-    ensures stands { OnOk result ((c : Config) → StandsFor c [] run.old → StandsFor c (inputs_of c (packets_of text.now).packets) run.new) }
+    ensures stands { OnOk result
+        ((c : Config) → StandsFor c [] run.old →
+        StandsFor c (inputs_of c (packets_of text.now).packets) run.new) }
     ensures bounded { OnOk result (IsBounded run.new.tally) }
 {
     enter_all(alloc, text, run)?;
@@ -34,7 +36,9 @@ fn enter_all(alloc: Global, text: &[u8], run: &mut CountedRun) -> Result<(), All
     requires good { (packets_of text.now).bad ≡ None }
     requires stands { (c : Config) × StandsFor c [] run.old }
     requires bounded { IsBounded run.old.tally }
-    ensures stands { OnOk result ((c : Config) → StandsFor c [] run.old → StandsFor c (map Some (packets_of text.now).packets) run.new) }
+    ensures stands { OnOk result
+        ((c : Config) → StandsFor c [] run.old →
+        StandsFor c (map Some (packets_of text.now).packets) run.new) }
     ensures few { OnOk result (length (packets_of text.now).packets < 2 ^ 63) }
     ensures bounded { OnOk result (IsBounded run.new.tally) }
 {
@@ -56,7 +60,9 @@ fn enter(line: &[u8], frame: &mut Vec<u8>, run: &mut CountedRun) -> Result<(), A
     requires cycles { run.old.cycles < 2 ^ 63 }
     requires answered { run.old.tally.answered < 2 ^ 63 }
     requires bounded { IsBounded run.old.tally }
-    ensures stands { OnOk result ((p : Packet) → packet_of line.now ≡ Ok p → (c : Config) (inputs : List (Option Packet)) → StandsFor c inputs run.old → StandsFor c (inputs ++ Some p ∷ []) run.new) }
+    ensures stands { OnOk result
+        ((p : Packet) → packet_of line.now ≡ Ok p → (c : Config) (inputs : List (Option Packet)) →
+        StandsFor c inputs run.old → StandsFor c (inputs ++ Some p ∷ []) run.new) }
     ensures bounded { OnOk result (IsBounded run.new.tally) }
 {
     let port = match read_packet(line, frame) {

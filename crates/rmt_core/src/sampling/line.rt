@@ -26,7 +26,11 @@ pub fn run_line(
     requires form { Formed config }
     requires limits { IsWithinLimits config }
     requires good { (packets_of packets.now).bad ≡ None }
-    ensures { IfOk result (λ line. line.items ≡ answers_line number (map told_by_outcome (outcomes_of config (packets_of packets.now).packets)) (length config.stages) (cycles_of config (packets_of packets.now).packets)) }
+    ensures { IfOk result
+        (λ line. line.items
+        ≡ answers_line number
+        (map told_by_outcome (outcomes_of config (packets_of packets.now).packets))
+        (length config.stages) (cycles_of config (packets_of packets.now).packets)) }
 {
     let stages = config.stages.len();
     let Ok(chip) = Chip::open(alloc, config) else {
@@ -48,7 +52,10 @@ fn counts_line(
     cycles: u64,
 ) -> Result<Vec<u8>, AllocError>
     requires { IsBounded tally.now }
-    ensures { IfOk result (λ line. line.items ≡ counts_line number tally.now.answered tally.now.sent (tally.now.answered - tally.now.sent) tally.now.bytes stages cycles) }
+    ensures { IfOk result
+        (λ line. line.items
+        ≡ counts_line number tally.now.answered tally.now.sent
+        (tally.now.answered - tally.now.sent) tally.now.bytes stages cycles) }
 {
     let packets = packets_part(alloc, number, tally)?;
     let bytes = bytes_part(alloc, tally, stages, cycles)?;
@@ -60,7 +67,10 @@ fn counts_line(
 /// What a line says of the packets.
 fn packets_part(alloc: Global, number: u32, tally: &Tally) -> Result<String, AllocError>
     requires { IsBounded tally.now }
-    ensures { IfOk result (λ text. string_bytes text ≡ packets_part number tally.now.answered tally.now.sent (tally.now.answered - tally.now.sent)) }
+    ensures { IfOk result
+        (λ text. string_bytes text
+        ≡ packets_part number tally.now.answered tally.now.sent
+        (tally.now.answered - tally.now.sent)) }
 {
     let packets = tally.answered;
     let out = tally.sent;

@@ -47,7 +47,8 @@ pub fn turn(run: &mut CountedRun, frame: Option<Frame<'_>>)
     requires cycles { run.old.cycles + 1 < 2 ^ 64 }
     requires answered { run.old.tally.answered + 1 < 2 ^ 64 }
     requires bounded { IsBounded run.old.tally }
-    ensures stands { (c : Config) (inputs : List (Option Packet)) → StandsFor c inputs run.old → StandsFor c (inputs ++ input_of frame.entry ∷ []) run.new }
+    ensures stands { (c : Config) (inputs : List (Option Packet)) → StandsFor c inputs run.old →
+        StandsFor c (inputs ++ input_of frame.entry ∷ []) run.new }
     ensures bounded { IsBounded run.new.tally }
 {
     let left = run.chip.clock(frame, &mut run.leaving);
@@ -57,9 +58,11 @@ pub fn turn(run: &mut CountedRun, frame: Option<Frame<'_>>)
 
 /// Clocks the chip until the last packet has left.
 pub fn drain(run: &mut CountedRun)
-    requires stands { (c : Config) × (inputs : List (Option Packet)) × StandsFor c inputs run.old × (length inputs < 2 ^ 63) }
+    requires stands { (c : Config) × (inputs : List (Option Packet)) × StandsFor c inputs run.old
+        × (length inputs < 2 ^ 63) }
     requires bounded { IsBounded run.old.tally }
-    ensures stands { (c : Config) (inputs : List (Option Packet)) → StandsFor c inputs run.old → StandsFor c (inputs ++ replicate (latency_of c.stages) None) run.new }
+    ensures stands { (c : Config) (inputs : List (Option Packet)) → StandsFor c inputs run.old →
+        StandsFor c (inputs ++ replicate (latency_of c.stages) None) run.new }
     ensures bounded { IsBounded run.new.tally }
 {
     let latency = run.chip.latency();

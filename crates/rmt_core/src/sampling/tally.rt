@@ -32,7 +32,8 @@ pub fn no_answers() -> Tally
 pub fn count(tally: &mut Tally, left: Option<Verdict>, bytes: &[u8])
     requires bounded { IsBounded tally.old }
     requires room { tally.old.answered + 1 < 2 ^ 64 }
-    ensures counts { (answers : List (Of × List ℕ)) → Counts answers tally.old → Counts (answers ++ left_of left bytes.now) tally.new }
+    ensures counts { (answers : List (Of × List ℕ)) → Counts answers tally.old →
+        Counts (answers ++ left_of left bytes.now) tally.new }
     ensures bounded { IsBounded tally.new }
 {
     let Some(verdict) = left else {

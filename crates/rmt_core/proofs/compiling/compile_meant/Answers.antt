@@ -1,9 +1,9 @@
-use Rattle.std.proofs.Common.{List, ℕ, Some, Err, Vec, ap, ◌∙◌, inl, inr, refl, string_bytes, subst, sym}
+use Rattle.std.proofs.Common.{List, ℕ, Err, Vec, ap, ◌∙◌, inl, inr, refl, string_bytes, subst, sym}
 use Rattle.std.specs.Global.{Global}
-use Rattle.rmt_core.specs.declared.status.Status.TheVariants.{Done, NoFit}
+use Rattle.rmt_core.specs.declared.status.Status.TheVariants.{NoFit}
 use Rattle.rmt_core.specs.Compiling.{Compiles, written}
-use Rattle.rmt_core.specs.Files.{Files, updated}
-use Rattle.rmt_core.specs.Given.{Given, told}
+use Rattle.rmt_core.specs.Files.{Files}
+use Rattle.rmt_core.specs.Given.{Given, stored, told}
 use Rattle.rmt_core.proofs.DeliverLaws.{delivered}
 use Rattle.rmt_core.proofs.EndLaws.{told_answered}
 use Rattle.rmt_core.proofs.compiling.compile_meant.Goals as goal
@@ -12,7 +12,7 @@ pub returns-in-Ok-clause-answered : goal.returns-in-Ok-clause-answered
 returns-in-Ok-clause-answered g c = λ tells.
     let files : Files = (g.F.Shelf.state c.args.shelf.now).files in
     let name : List ℕ = string_bytes c.args.image.now in
-    let given : Given = record { status = Done; text = c.in-Ok.made.lines; files = updated files name c.in-Ok.made.image.items; writes = Some name } in
+    let given = stored files name c.in-Ok.made.image.items c.in-Ok.made.lines in
     let d = c.deliver.ensures in
     delivered _ _ (Compiles files name c.args.meant.now.program c.args.meant.now.entries) given c.deliver.result (c.in-Ok.ensures.made files name) d.kind
     (λ some. d.ends some tells) (λ e. d.files e tells) d.quiet

@@ -1,5 +1,5 @@
 -- One packet after another.
-use Rattle.std.proofs.Common.{◌+◌, ◌++◌, ◌∷◌, [], List, ℕ, Err, arith, sym, ap, subst}
+use Rattle.std.proofs.Common.{◌++◌, ◌∷◌, [], List, ℕ, Err, arith, sym, ap, subst}
 use Rattle.rmt_bits.specs.Packet.{Packet}
 use Rattle.rmt_io.proofs.OutsideLaws.{only_printed_refl, only_printed_trans, only_read_refl, only_read_trans, tells_later}
 use Rattle.rmt_core.specs.Pieces.{Comes}

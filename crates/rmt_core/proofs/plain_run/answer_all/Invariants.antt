@@ -1,5 +1,5 @@
 -- The packets so far are answered.
-use Rattle.std.proofs.Common.{◌≡◌, ◌≤◌, ◌-◌, ℕ, List, [], IsTrue}
+use Rattle.std.proofs.Common.{◌≡◌, ◌≤◌, ◌-◌, List, [], IsTrue}
 use Rattle.rmt_bits.specs.Packet.{Packet}
 use Rattle.rmt_io.specs.Outside.{OnlyPrinted, OnlyRead}
 use Rattle.rmt_core.specs.Types.{Program}

@@ -1,5 +1,5 @@
 -- The packets so far entered.
-use Rattle.std.proofs.Common.{◌≡◌, ◌≤◌, ◌-◌, ℕ, List, [], length, IsTrue, Some}
+use Rattle.std.proofs.Common.{◌≡◌, ◌≤◌, ◌-◌, List, [], length, IsTrue, Some}
 use Rattle.std.specs.Prelude.{map}
 use Rattle.rmt_bits.specs.Packet.{Packet}
 use Rattle.rmt_io.specs.Outside.{OnlyPrinted, OnlyRead}
