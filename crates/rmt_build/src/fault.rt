@@ -10,7 +10,7 @@ use rmt_phv::fault::PhvFull;
 use rmt_place::fault::StageFull;
 use rmt_ptcam::fault::ParserFault;
 use rmt_vliw::fault::ActionDeep;
-use std::alloc::{AllocError, AllocFailed};
+use std::alloc::AllocError;
 use thiserror::Error;
 
 /// Why a program with its entries doesn't fit the chip.
@@ -81,14 +81,6 @@ impl From<AllocError> for NoFit {
     ghost from_gives = { λ _ e. e ≡ NoMemory };
 
     fn from(_error: AllocError) -> NoFit {
-        NoFit::NoMemory
-    }
-}
-
-impl<T: Drop> From<AllocFailed<T>> for NoFit {
-    ghost from_gives = { λ _ e. e ≡ NoMemory };
-
-    fn from(_error: AllocFailed<T>) -> NoFit {
         NoFit::NoMemory
     }
 }

@@ -4,7 +4,7 @@ ghost use Rattle.std.specs.Prelude.{◌≡◌};
 ghost use Rattle.rmt_cuckoo.specs.declared.fault.LoadFault.TheVariants.{NoMemory};
 
 use rmt_bits::answer::Numbers;
-use std::alloc::{AllocError, AllocFailed};
+use std::alloc::AllocError;
 use thiserror::Error;
 
 /// Why the keys of a table are not loaded.
@@ -22,14 +22,6 @@ impl From<AllocError> for LoadFault {
     ghost from_gives = { λ _ e. e ≡ NoMemory };
 
     fn from(_error: AllocError) -> LoadFault {
-        LoadFault::NoMemory
-    }
-}
-
-impl<T: Drop> From<AllocFailed<T>> for LoadFault {
-    ghost from_gives = { λ _ e. e ≡ NoMemory };
-
-    fn from(_error: AllocFailed<T>) -> LoadFault {
         LoadFault::NoMemory
     }
 }

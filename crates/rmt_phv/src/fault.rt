@@ -3,7 +3,7 @@
 ghost use Rattle.std.specs.Prelude.{◌≡◌};
 ghost use Rattle.rmt_phv.specs.declared.fault.PhvFull.TheVariants.{NoMemory};
 
-use std::alloc::{AllocError, AllocFailed};
+use std::alloc::AllocError;
 use thiserror::Error;
 
 /// Why the fields of a program are not packed.
@@ -26,14 +26,6 @@ impl From<AllocError> for PhvFull {
     ghost from_gives = { λ _ e. e ≡ NoMemory };
 
     fn from(_error: AllocError) -> PhvFull {
-        PhvFull::NoMemory
-    }
-}
-
-impl<T: Drop> From<AllocFailed<T>> for PhvFull {
-    ghost from_gives = { λ _ e. e ≡ NoMemory };
-
-    fn from(_error: AllocFailed<T>) -> PhvFull {
         PhvFull::NoMemory
     }
 }

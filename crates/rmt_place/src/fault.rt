@@ -7,7 +7,7 @@ use rmt_bits::fault::OutOfMemory;
 use rmt_bits::sequence::Sequence;
 use rmt_config::limits::LimitHit;
 use rmt_pack::placement::Placement;
-use std::alloc::{AllocError, AllocFailed};
+use std::alloc::AllocError;
 use thiserror::Error;
 
 /// Why stages are not started: for want of memory alone.
@@ -35,14 +35,6 @@ impl From<AllocError> for StageFull {
     ghost from_gives = { λ _ e. e ≡ NoMemory };
 
     fn from(_error: AllocError) -> StageFull {
-        StageFull::NoMemory
-    }
-}
-
-impl<T: Drop> From<AllocFailed<T>> for StageFull {
-    ghost from_gives = { λ _ e. e ≡ NoMemory };
-
-    fn from(_error: AllocFailed<T>) -> StageFull {
         StageFull::NoMemory
     }
 }

@@ -4,7 +4,7 @@ ghost use Rattle.std.specs.Prelude.{◌≡◌};
 ghost use Rattle.rmt_ptcam.specs.declared.fault.ParserFault.TheVariants.{NoMemory};
 
 use rmt_bits::fault::OutOfMemory;
-use std::alloc::{AllocError, AllocFailed};
+use std::alloc::AllocError;
 use thiserror::Error;
 
 /// Why a program has no parser.
@@ -41,14 +41,6 @@ impl From<AllocError> for ParserFault {
     ghost from_gives = { λ _ e. e ≡ NoMemory };
 
     fn from(_error: AllocError) -> ParserFault {
-        ParserFault::NoMemory
-    }
-}
-
-impl<T: Drop> From<AllocFailed<T>> for ParserFault {
-    ghost from_gives = { λ _ e. e ≡ NoMemory };
-
-    fn from(_error: AllocFailed<T>) -> ParserFault {
         ParserFault::NoMemory
     }
 }

@@ -3,7 +3,7 @@
 ghost use Rattle.std.specs.Prelude.{◌≡◌};
 
 use rmt_bits::fault::OutOfMemory;
-use std::alloc::{AllocError, AllocFailed};
+use std::alloc::AllocError;
 use thiserror::Error;
 
 /// Why an action is not folded.
@@ -28,16 +28,6 @@ impl From<AllocError> for ActionDeep {
     ghost from_gives = { λ _ e. e ≡ NoMemory };
 
     fn from(_error: AllocError) -> ActionDeep {
-        ActionDeep::NoMemory
-    }
-}
-
-impl<T: Drop> From<AllocFailed<T>> for ActionDeep {
-    ghost use Rattle.rmt_vliw.specs.declared.fault.ActionDeep.TheVariants.{NoMemory};
-
-    ghost from_gives = { λ _ e. e ≡ NoMemory };
-
-    fn from(_error: AllocFailed<T>) -> ActionDeep {
         ActionDeep::NoMemory
     }
 }
