@@ -10,7 +10,8 @@ use Rattle.rmt_ast.specs.declared.entry.Entry.{Entry}
 use Rattle.rmt_ast.specs.WellFormed.{IsProgram, IsTail, HasFields, IsWidth, IsHeader, IsAction, IsAssign, IsTable, IsNode, HasNames, HasHeaderNames, AreAppliedOnce, AllNumbered, BeginsWith, Takes, name_of}
 use Rattle.rmt_ast.specs.EntryLists.{AreEntries, AreTableEntries, IsEntry, terms_of}
 use Rattle.rmt_ast.proofs.Programs.{with_tail, strict_and_weak, one_entry, action, keyless, field}
-use Rattle.rmt_ast.proofs.WellFormedLemmas.{AllNumbered-from_items, AreDistinct-from_apart, AllPairs-none}
+use Rattle.rmt_bits.proofs.PairLaws.{AllPairs-none}
+use Rattle.rmt_ast.proofs.WellFormedLemmas.{AllNumbered-from_items, AreDistinct-from_apart}
 
 one_width : All IsWidth (9 ∷ [])
 one_width = All-from_recursion IsWidth (9 ∷ []) ((omega arith, omega arith), tt)

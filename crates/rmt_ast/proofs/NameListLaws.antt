@@ -1,12 +1,12 @@
 -- The numbers of names, and maps that have them.
-use Rattle.std.proofs.Common.{◌≤◌, ◌||◌, map, find, slice_get, nat_lt, subst}
+use Rattle.std.proofs.Common.{[], ◌≤◌, ◌||◌, map, find, slice_get, nat_lt, subst}
 use Rattle.std.specs.List.{list_any, position_or_len}
 use Rattle.std.specs.Option.{IfSome}
 use Rattle.std.proofs.lemmas.List.Quantifiers.{position-Some}
 use Rattle.std.proofs.lemmas.List.Folds.{find_at}
 use Rattle.std.proofs.lemmas.Option.{slice_get_past}
 use Rattle.std.proofs.lemmas.Bool.Decides.{nat_tests}
-use Rattle.std.proofs.Common.{◌≡◌, ℕ, ◌+◌, ◌<◌, List, [], ◌∷◌, ◌++◌, Bool, true, false, not, cond, None, Some, Option, is_some, length, take, get_or, option_copied, refl, sym, ap, ◌∙◌, add-zero, arith}
+use Rattle.std.proofs.Common.{◌≡◌, ℕ, ◌+◌, ◌<◌, List, ◌∷◌, ◌++◌, Bool, true, false, not, cond, None, Some, Option, is_some, length, take, get_or, option_copied, refl, sym, ap, ◌∙◌, add-zero, arith}
 use Rattle.indexmap.specs.IndexMap.{IndexMap, get, insert_entry}
 use Rattle.indexmap.proofs.CallerLemmas.{insert_entry-new}
 use Rattle.std.specs.Borrow.{Bor}

@@ -1,11 +1,12 @@
 -- What holds of each item and its number, and what holds of each item and each later one, shown item by item.
 use Rattle.std.proofs.Common.{◌≡◌, ◌≢◌, ℕ, zero, suc, ◌+◌, Bool, true, not, ◌&&◌, List, [], ◌∷◌, ◌++◌, length, Some, ap, subst, arith}
-use Rattle.std.specs.Prelude.{⊤, slice_get, AllPairs, ◌==◌, unwrap_or}
+use Rattle.std.specs.Prelude.{⊤, slice_get, ◌==◌, unwrap_or}
 use Rattle.std.specs.List.{list_all}
 use Rattle.std.proofs.lemmas.Bool.{and_parts, not-true, eqb-false}
 use Rattle.std.proofs.lemmas.Option.{none-some, same_Some}
 use Rattle.std.proofs.lemmas.List.Kept.{AllPairs-cons}
 use Rattle.rmt_bits.proofs.AllLaws.{All-from_test}
+use Rattle.rmt_bits.proofs.PairLaws.{AllPairs-none}
 use Rattle.rmt_ast.specs.WellFormed.{AllNumbered, AreDistinct}
 
 -- P of each item of a list whose first item has number k
@@ -30,9 +31,6 @@ AllNumbered-push P [] y h p zero x e = subst (P 0) (same_Some y x e) p
 AllNumbered-push P [] y h p (suc n) x e = absurd (none-some x e)
 AllNumbered-push P (z ∷ xs) y h p zero x e = h zero x e
 AllNumbered-push P (z ∷ xs) y h p (suc n) x e = AllNumbered-push (λ k. P (suc k)) xs y (λ k v at. h (suc k) v at) p n x e
-
-pub AllPairs-none : {X : Type 0} (R : X → X → Type 0) → AllPairs R []
-AllPairs-none R i j d below within = absurd (omega (arith, within))
 
 -- items whose numbers differ are distinct
 abbrev pub are_apart : {X : Type 0} → (X → ℕ) → List X → Bool

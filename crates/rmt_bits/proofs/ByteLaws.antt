@@ -1,11 +1,11 @@
 -- Laws of runs of bytes as numbers.
-use Rattle.std.proofs.Common.{◌≡◌, ℕ, zero, suc, refl, ◌+◌, ◌-◌, ◌*◌, ◌/◌, ◌%◌, ◌^◌, ◌<◌, ◌≤◌, List, [], ◌∷◌, ◌++◌, length, get_or, set, take, drop, fold, sym, ap, ◌∙◌, subst, arith, ◌⊎◌, inl, inr}
+use Rattle.std.proofs.Common.{◌≡◌, ℕ, zero, suc, refl, ◌+◌, ◌-◌, ◌*◌, ◌/◌, ◌%◌, ◌^◌, ◌<◌, ◌≤◌, List, [], ◌∷◌, ◌++◌, length, get_or, set, take, drop, fold, sym, ap, ◌∙◌, subst, arith}
 use Rattle.std.proofs.lemmas.Nat.{pow-add, mul-add-lt, shr_split, shr-shr, shr_high, mod_low, mod-pow-add}
 use Rattle.std.proofs.lemmas.List.Sums.{fold-append, fold_push}
 use Rattle.std.proofs.lemmas.List.{take_all, take_more, take-append-drop, length-drop, get_or-drop, length-set, take-set, get_or-set_same, drop-set-lt}
 use Rattle.std.proofs.Math.Pow.{pow_mono}
 use Rattle.rmt_bits.specs.Bits.{slice, deposit, number_of, bytes_of, bits_of_bytes}
-use Rattle.rmt_bits.proofs.BitLaws.{slice-lt, slice-add, slice-from_low, mod-from_low, high_part-lt, deposit-add, deposit-lt, slice-deposit_same, slice-deposit_above, slice-deposit_below}
+use Rattle.rmt_bits.proofs.BitLaws.{slice-lt, slice-add, slice-from_low, mod-from_low, high_part-lt, deposit-add, deposit-lt}
 
 -- the number that a run of bytes continues
 pub number_from : (a : ℕ) (bytes : List ℕ) → fold (λ n b. 256 * n + b) a bytes ≡ a * 2 ^ (8 * length bytes) + number_of bytes
@@ -146,11 +146,6 @@ number_of-set-deposit bytes k r t x h hk within =
 pub bits_of_bytes_none : (bytes : List ℕ) (from : ℕ) → bits_of_bytes bytes from 0 ≡ 0
 bits_of_bytes_none bytes from = omega arith
 
-pub deposit_none : (v low : ℕ) → deposit v low 0 0 ≡ v
-deposit_none v low =
-    let e : low + 0 ≡ low = omega arith in
-    rw e (omega (arith, shr_split v low))
-
 pub bits_of_bytes-lt : (bytes : List ℕ) (from len : ℕ) → bits_of_bytes bytes from len < 2 ^ len
 bits_of_bytes-lt bytes from len = slice-lt (number_of bytes) (8 * length bytes - (from + len)) len
 
@@ -235,27 +230,6 @@ wrote_more bytes old value from len left p low byte was bits next h same hv with
     put ∙ ap (λ n. deposit n low p bits) here ∙ ap (λ n. deposit (get_or bytes ((from + (len - left)) / 8) 0) low p n) cut in
     let small = deposit-lt (get_or bytes ((from + (len - left)) / 8) 0) low p (slice value (left - p) p) 8 (omega arith) (h ((from + (len - left)) / 8)) (slice-lt value (left - p) p) in
     (ap (λ k. number_of (set bytes k next)) at ∙ ap (λ n. number_of (set bytes ((from + (len - left)) / 8) n)) into ∙ more, rw into small)
-
--- bits that were put into bytes are read back
-pub bits_of_bytes_same : (new old : List ℕ) (from len value : ℕ) → length new ≡ length old → value < 2 ^ len
-    → number_of new ≡ deposit (number_of old) (8 * length old - (from + len)) len value → bits_of_bytes new from len ≡ value
-bits_of_bytes_same new old from len value same small put =
-    ap (λ n. slice (number_of new) (8 * n - (from + len)) len) same
-    ∙ ap (λ n. slice n (8 * length old - (from + len)) len) put
-    ∙ slice-deposit_same (number_of old) (8 * length old - (from + len)) len value small
-
--- the other bits are as before
-pub bits_of_bytes_apart : (new old : List ℕ) (from len value at size : ℕ) → length new ≡ length old → value < 2 ^ len → from + len ≤ 8 * length old → at + size ≤ 8 * length old
-    → number_of new ≡ deposit (number_of old) (8 * length old - (from + len)) len value → (at + size ≤ from) ⊎ (from + len ≤ at)
-    → bits_of_bytes new at size ≡ bits_of_bytes old at size
-bits_of_bytes_apart new old from len value at size same small within inside put (inl before) =
-    ap (λ n. slice (number_of new) (8 * n - (at + size)) size) same
-    ∙ ap (λ n. slice n (8 * length old - (at + size)) size) put
-    ∙ slice-deposit_above (number_of old) (8 * length old - (from + len)) len value (8 * length old - (at + size)) size small (omega arith)
-bits_of_bytes_apart new old from len value at size same small within inside put (inr after) =
-    ap (λ n. slice (number_of new) (8 * n - (at + size)) size) same
-    ∙ ap (λ n. slice n (8 * length old - (at + size)) size) put
-    ∙ slice-deposit_below (number_of old) (8 * length old - (from + len)) len value (8 * length old - (at + size)) size small (omega arith)
 
 bytes_of_front : (bytes : List ℕ) → AreBytes bytes → (n : ℕ) → n ≤ length bytes → bytes_of n (number_of (take n bytes)) ≡ take n bytes
 bytes_of_front bytes h zero within = refl

@@ -8,6 +8,7 @@ pub mod FunctionLaws
 pub mod LineLaws
 pub mod ListLaws
 pub mod MemberLaws
+pub mod MostLaws
 pub mod OptionLaws
 pub mod OrderLaws
 pub mod PairLaws

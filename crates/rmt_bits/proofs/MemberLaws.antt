@@ -1,6 +1,8 @@
 -- The items of a list, and of a list that is made of another.
-use Rattle.std.proofs.Common.{◌≡◌, ℕ, zero, suc, ◌+◌, ◌<◌, ◌⊎◌, inl, inr, List, [], ◌∷◌, length, get_or, map, refl, subst, arith}
-use Rattle.std.specs.Prelude.{Contains}
+use Rattle.std.proofs.Common.{◌≡◌, ℕ, zero, suc, ◌<◌, ◌⊎◌, inl, inr, List, [], ◌∷◌, length, get_or, map, refl, subst, arith, Bool, true}
+use Rattle.std.specs.Prelude.{Contains, filter}
+use Rattle.std.proofs.lemmas.List.Elements.{All-contains, All-contains_itself, All-filter, filter_passes}
+use Rattle.rmt_bits.proofs.AllLaws.{All-unfilter}
 
 pub Contains-first : {X : Type 0} (x : X) (xs : List X) → Contains (x ∷ xs) x
 Contains-first x xs = (0, omega arith, refl)
@@ -30,3 +32,15 @@ Contains-unmap f (x ∷ xs) y there = elim (Contains-split (f x) (map f xs) y th
   | inl e ↦ (x, Contains-first x xs, e)
   | inr later ↦ let r = Contains-unmap f xs y later in (r.0, Contains-later x xs r.0 r.1, r.2)
 ]
+
+-- what a filter keeps: the items that pass its test
+pub Contains-filter : {X : Type 0} (test : X → Bool) (xs : List X) (x : X) → Contains xs x → test x ≡ true → Contains (filter test xs) x
+Contains-filter test xs x there passes =
+    All-contains (λ y. test y ≡ true → Contains (filter test xs) y) xs x
+    (All-unfilter (Contains (filter test xs)) test xs (All-contains_itself (filter test xs))) there passes
+
+pub Contains-unfilter : {X : Type 0} (test : X → Bool) (xs : List X) (x : X) → Contains (filter test xs) x → Contains xs x × (test x ≡ true)
+Contains-unfilter test xs x there = (
+  All-contains (Contains xs) (filter test xs) x (All-filter test (Contains xs) xs (All-contains_itself xs)) there,
+  All-contains (λ y. test y ≡ true) (filter test xs) x (filter_passes test xs) there,
+)

@@ -1,10 +1,13 @@
 -- What holds of each item of a list and each later one.
-use Rattle.std.proofs.Common.{◌≡◌, ℕ, suc, ◌+◌, ◌<◌, List, [], ◌∷◌, ◌++◌, map, length, get_or, sym, subst, arith}
+use Rattle.std.proofs.Common.{◌≡◌, ℕ, suc, ◌+◌, ◌<◌, List, [], ◌∷◌, ◌++◌, map, length, get_or, sym, subst, arith, zero, refl, ◌∙◌}
 use Rattle.std.specs.Prelude.{All, AllPairs}
 use Rattle.std.proofs.lemmas.List.{get_or-map, length-map}
 use Rattle.std.proofs.lemmas.List.Elements.{All-append, All-cons, All-head, All-nil, All-tail}
 use Rattle.std.proofs.lemmas.List.Kept.{AllPairs-cons}
 use Rattle.rmt_bits.proofs.AllLaws.{All-left, All-right}
+
+pub AllPairs-none : {X : Type 0} (R : X → X → Type 0) → AllPairs R []
+AllPairs-none R i j d below within = absurd (omega (arith, within))
 
 pub AllPairs-head : {X : Type 0} (R : X → X → Type 0) (x : X) (xs : List X) → AllPairs R (x ∷ xs) → All (R x) xs
 AllPairs-head R x xs pairs k d lt = pairs 0 (suc k) d (omega arith) (omega (arith, lt))
@@ -40,3 +43,7 @@ pub AllPairs-across : {X : Type 0} (R : X → X → Type 0) (xs ys : List X) →
 AllPairs-across R [] ys h = All-nil (λ x. All (R x) ys)
 AllPairs-across R (x ∷ xs) ys h =
     All-cons (λ x. All (R x) ys) x xs (All-right (R x) xs ys (AllPairs-head R x (xs ++ ys) h)) (AllPairs-across R xs ys (AllPairs-tail R x (xs ++ ys) h))
+
+-- what follows holds too
+pub AllPairs-weaker : {X : Type 0} (R S : X → X → Type 0) → ((x y : X) → R x y → S x y) → (xs : List X) → AllPairs R xs → AllPairs S xs
+AllPairs-weaker R S weak xs h i j d lt below = weak (get_or xs i d) (get_or xs j d) (h i j d lt below)

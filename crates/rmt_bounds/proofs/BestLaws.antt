@@ -1,9 +1,8 @@
 -- The bests of nodes, and how far nodes reach by them.
-use Rattle.std.proofs.Common.{◌≡◌, ℕ, zero, suc, ◌+◌, ◌-◌, ◌*◌, ◌<◌, ◌≤◌, List, [], ◌∷◌, ◌++◌, Bool, inl, inr, map, length, max, get_or, Option, unwrap_or, refl, ap, sym, ◌∙◌, subst, arith, length-append}
+use Rattle.std.proofs.Common.{◌≡◌, ℕ, zero, suc, ◌+◌, ◌-◌, ◌<◌, ◌≤◌, List, [], ◌∷◌, ◌++◌, Bool, inl, inr, map, length, max, get_or, Option, unwrap_or, refl, ap, sym, ◌∙◌, subst, arith, length-append}
 use Rattle.std.specs.Prelude.{All, Contains, fold, ◌==◌, slice_index, option_map, position, if◌then◌else◌}
 use Rattle.std.proofs.lemmas.List.{get_or_append_left}
 use Rattle.std.proofs.Math.Seq.{get_or-append_seam}
-use Rattle.std.proofs.lemmas.List.{get_or_past}
 use Rattle.std.proofs.Math.Nat.{max-eq_left, max-eq_right}
 use Rattle.std.proofs.lemmas.Bool.{eqb-true, eq-eqb, ne_eqb, cases_lt}
 use Rattle.std.proofs.lemmas.List.Elements.{All-nil, All-cons, All-head, All-tail, All-map, All-from_get_or, Contains-get_or}
@@ -15,9 +14,8 @@ use Rattle.rmt_pack.specs.declared.placement.Part.{Part}
 use Rattle.rmt_pack.specs.declared.placement.Placement.{Placement}
 use Rattle.rmt_pack.specs.Placements.{IsLegal, IsLegalWith, stage_count}
 use Rattle.rmt_pack.proofs.FormatLaws.{filtered, divided_up-least}
-use Rattle.rmt_pack.proofs.NeedLaws.{fold-max-le}
+use Rattle.rmt_bits.proofs.MostLaws.{greatest-le as most-le}
 use Rattle.rmt_bounds.specs.Bounds.{EdgesRise, node_stages, through, edges_into, best_of_node, bests, all_bests, greatest, node_before, chain_to, longest_chain, four_bounds, stage_bound, sram_sum, tcam_sum, table_count}
-use Rattle.rmt_bounds.specs.Fits.{AreSmall}
 use Rattle.rmt_bounds.proofs.StageSums.{Reaches}
 use Rattle.rmt_bounds.proofs.ChainLaws.{reaches_own, reaches_through, reaches-le, stages, sram-le, tcam-le, tables-le}
 
@@ -26,14 +24,6 @@ length-bests p edges zero = refl
 length-bests p edges (suc n) =
     omega (arith, length-append (bests p edges n) (best_of_node p edges (bests p edges n) n ∷ []), length-bests p edges n)
 
--- one more node
-pub bests-next : (p : Program) (edges : List Edge) (n : ℕ) (front : List ℕ) (best : ℕ) → front ≡ bests p edges n → length front ≡ n → best ≡ best_of_node p edges front (length front)
-    → front ++ best ∷ [] ≡ bests p edges (n + 1)
-bests-next p edges n front best is count best_is =
-    let here : best ≡ best_of_node p edges (bests p edges n) n =
-    best_is ∙ (ap (best_of_node p edges front) count ∙ ap (λ (xs : List ℕ). best_of_node p edges xs n) is) in
-    ap (λ (xs : List ℕ). xs ++ best ∷ []) is ∙ (ap (λ (b : ℕ). bests p edges n ++ b ∷ []) here ∙ (let more : suc n ≡ n + 1 = omega arith in ap (bests p edges) more))
-
 -- ---- items of a list with one more
 
 pub index-front : (xs ys : List ℕ) (k : ℕ) → k < length xs → slice_index (xs ++ ys) k ≡ slice_index xs k
@@ -41,19 +31,6 @@ index-front xs ys k below = get_or_append_left xs ys 0 k below
 
 pub index-last : (xs : List ℕ) (x k : ℕ) → k ≡ length xs → slice_index (xs ++ x ∷ []) k ≡ x
 index-last xs x k is = ap (λ (i : ℕ). slice_index (xs ++ x ∷ []) i) is ∙ get_or-append_seam xs x [] 0
-
-index-past : (xs : List ℕ) (k : ℕ) → length xs ≤ k → slice_index xs k ≡ 0
-index-past xs k past = get_or_past xs k 0 past
-
-pub small-push : (xs : List ℕ) (x : ℕ) → AreSmall xs → x ≤ 512 * (length xs + 1) → AreSmall (xs ++ x ∷ [])
-small-push xs x small last n = elim (cases_lt n (length xs)) [
-  | inl front ↦ omega (arith, index-front xs (x ∷ []) n front, small n)
-  | inr more ↦ elim (cases_lt (length xs) n) [
-    | inl past ↦
-        (let gone : length (xs ++ x ∷ []) ≤ n = omega (arith, length-append xs (x ∷ [])) in omega (arith, index-past (xs ++ x ∷ []) n gone))
-    | inr at ↦ (let here : n ≡ length xs = omega arith in omega (arith, index-last xs x n here))
-  ]
-]
 
 -- ---- how far nodes reach
 
@@ -105,7 +82,7 @@ module _ (p : Program) (is : IsProgram p) (edges : List Edge) (rise : EdgesRise 
   greatest-le =
       let n = length p.nodes in
       let bound = stages p is edges formats parts legal in
-      fold-max-le bound 0 (bests p edges n) (omega arith)
+      most-le (λ x. x) 0 bound (bests p edges n) (omega arith)
       (All-from_get_or (λ x. x ≤ bound) (bests p edges n) 0 (λ k below.
       (let there : k < n = omega (arith, length-bests p edges n) in
       reaches-le p is edges formats parts legal k (slice_index (bests p edges n) k) (reaches_best n k (omega arith) there))))
@@ -114,7 +91,7 @@ module _ (p : Program) (is : IsProgram p) (edges : List Edge) (rise : EdgesRise 
   four-le : greatest (four_bounds p edges) ≤ stages p is edges formats parts legal
   four-le =
       let bound = stages p is edges formats parts legal in
-      fold-max-le bound 0 (four_bounds p edges) (omega arith)
+      most-le (λ x. x) 0 bound (four_bounds p edges) (omega arith)
       (all_four (λ x. x ≤ bound) _ _ _ _ greatest-le
       (divided_up-least (sram_sum p) 106 bound (omega arith) (sram-le p is edges formats parts legal))
       (divided_up-least (tcam_sum p) 16 bound (omega arith) (tcam-le p is edges formats parts legal))

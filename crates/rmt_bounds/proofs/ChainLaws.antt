@@ -2,10 +2,11 @@
 use Rattle.std.proofs.Common.{◌≡◌, ℕ, zero, suc, ◌+◌, ◌-◌, ◌*◌, ◌<◌, ◌≤◌, List, [], ◌∷◌, Bool, true, false, inl, inr, cond, Option, Some, map, length, max, refl, ap, sym, ◌∙◌, subst, arith, unwrap_or, get_or}
 use Rattle.std.specs.Prelude.{All, Contains, IsTrue, MatchBool, fold, nat_lt, ◌==◌, ◌&&◌, slice_get, sum_by, option_map}
 use Rattle.std.specs.List.{range_with_len, list_any}
-use Rattle.std.proofs.Math.Nat.{le-max_left, le-max_right, mul-le-mul_right}
+use Rattle.std.proofs.Math.Nat.{mul-le-mul_right}
 use Rattle.std.proofs.lemmas.Option.{slice_get_within}
-use Rattle.std.proofs.lemmas.Bool.{eqb-true, and_parts, or_cases, cases_lt, false≢true}
-use Rattle.std.proofs.lemmas.List.Elements.{All-nil, All-cons, All-contains, Contains-append_right}
+use Rattle.std.proofs.lemmas.Bool.{eqb-true, and_parts, cases_lt}
+use Rattle.std.proofs.lemmas.List.Elements.{All-contains}
+use Rattle.std.proofs.lemmas.List.Folds.{Any-from_list_any}
 use Rattle.std.proofs.lemmas.List.Sums.{sum_by-cons}
 use Rattle.rmt_bits.proofs.ListLaws.{slice_get-item, slice_get-end}
 use Rattle.rmt_pack.proofs.FormatLaws.{divided_up-least}
@@ -25,6 +26,7 @@ use Rattle.rmt_bounds.specs.Proofs.{joins, shared_by, IsChain, chain_stages, Giv
 use Rattle.rmt_bounds.proofs.StageSums.{total, total-le, total-swap, total-times, total-same, total-some, quanta_of-le-total, Within, NotBefore, Reaches, reaches, reaches-less}
 use Rattle.rmt_bounds.proofs.NodeLaws.{IsLeast, of_what, fits_alone, blocks-le, sram-le_of_kind, tcam-le_of_kind, whole_tcam}
 use Rattle.rmt_bits.proofs.AllLaws.{All-unmap}
+use Rattle.rmt_bits.proofs.MostLaws.{items-le}
 
 -- ---- one node in a legal placement
 
@@ -47,11 +49,7 @@ own-le-taken p parts blocks n stage there = one-le-sum (λ node. quanta_in parts
 
 -- an item that passes, where some does
 pub any_item : {X : Type 0} (t : X → Bool) (xs : List X) → list_any t xs ≡ true → (x : X) × Contains xs x × (t x ≡ true)
-any_item t [] some = absurd (false≢true some)
-any_item t (x ∷ xs) some = elim (or_cases (t x) (list_any t xs) some) [
-  | inl here ↦ (x, (0, omega arith, refl), here)
-  | inr later ↦ (let item = any_item t xs later in (item.0, Contains-append_right (x ∷ []) xs item.0 item.1, item.2))
-]
+any_item t xs some = let (place, item, lt, at, passes) = Any-from_list_any t xs some in (item, (place, lt, at), passes)
 
 -- a sum over the items of a list is within one over their numbers
 sum-le-numbered : {X : Type 0} (f : X → ℕ) (g : ℕ → ℕ) (a : ℕ) (xs : List X) → ((n : ℕ) (x : X) → slice_get xs n ≡ Some x → f x ≤ g (a + n))
@@ -67,18 +65,9 @@ sum-le-numbered f g a (x ∷ xs) each =
 
 -- ---- the stages of a placement
 
-max-le-first : (a : ℕ) (xs : List ℕ) → a ≤ fold max a xs
-max-le-first a [] = omega arith
-max-le-first a (x ∷ xs) = omega (arith, max-le-first (max a x) xs, le-max_left a x)
-
-pub max-le-rest : (a : ℕ) (xs : List ℕ) → All (λ x. x ≤ fold max a xs) xs
-max-le-rest a [] = All-nil (λ x. x ≤ a)
-max-le-rest a (x ∷ xs) =
-    All-cons (λ y. y ≤ fold max (max a x) xs) x xs (omega (arith, max-le-first (max a x) xs, le-max_right a x)) (max-le-rest (max a x) xs)
-
 -- each part stands in one of the stages
 part_within : (parts : List Part) → All (λ (x : Part). x.stage + 1 ≤ fold max 0 (map (λ (y : Part). y.stage + 1) parts)) parts
-part_within parts = All-unmap (λ s. s ≤ fold max 0 (map (λ (y : Part). y.stage + 1) parts)) (λ (y : Part). y.stage + 1) parts (max-le-rest 0 (map (λ (y : Part). y.stage + 1) parts))
+part_within parts = All-unmap (λ s. s ≤ fold max 0 (map (λ (y : Part). y.stage + 1) parts)) (λ (y : Part). y.stage + 1) parts (items-le (λ s. s) 0 (map (λ (y : Part). y.stage + 1) parts))
 
 cond-le : (t : Bool) → cond t 0 1 ≤ 1
 cond-le true = omega arith

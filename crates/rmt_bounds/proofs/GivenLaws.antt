@@ -1,84 +1,52 @@
 -- The proof that is told gives the stage bound.
 use Rattle.std.proofs.Common.{◌≡◌, ℕ, zero, suc, ◌+◌, ◌-◌, ◌<◌, ◌≤◌, List, [], ◌∷◌, ◌++◌, Bool, true, false, ◌⊎◌, inl, inr, cond, Some, None, map, filter, length, max, min, get_or, refl, ap, sym, ◌∙◌, subst, arith, unwrap_or}
-use Rattle.std.specs.Prelude.{All, Contains, IsTrue, fold, ◌==◌, ◌&&◌, ◌||◌, nat_lt, slice_index, option_map}
+use Rattle.std.specs.Prelude.{Contains, IsTrue, fold, ◌==◌, ◌&&◌, nat_lt, slice_index, option_map}
 use Rattle.std.specs.List.{list_any, position_or_len}
-use Rattle.std.proofs.Math.Nat.{max-eq_left, max-eq_right, min-eq_left, min-eq_right}
+use Rattle.std.proofs.Math.Nat.{min-eq_left, min-eq_right}
 use Rattle.std.proofs.lemmas.List.Sums.{passes_at_first, fails_before_first}
 use Rattle.std.proofs.lemmas.Bool.{ltb-true, ltb-false, eqb-true, eqb-false, eq-eqb, ne_eqb, and_parts, and_from, cases_lt, cases_eq, false≢true}
-use Rattle.std.proofs.lemmas.List.Elements.{All-nil, All-cons, All-weaker, All-contains, All-contains_itself, Contains-append_right}
+use Rattle.std.proofs.lemmas.List.Elements.{All-contains}
+use Rattle.std.proofs.lemmas.List.Folds.{list_any_at}
 use Rattle.rmt_ast.specs.declared.deps.Edge.{Edge}
 use Rattle.rmt_ast.specs.declared.program.Program.{Program}
 use Rattle.rmt_ast.specs.WellFormed.{IsProgram}
 use Rattle.rmt_pack.specs.Formats.{divided_up}
 use Rattle.rmt_pack.specs.Placements.{is_strict}
-use Rattle.rmt_pack.proofs.FormatLaws.{filtered}
 use Rattle.rmt_bounds.specs.Bounds.{EdgesRise, node_stages, through, shared, edges_into, best_of_node, bests, all_bests, greatest, least, node_before, chain_to, longest_chain, sram_sum, tcam_sum, table_count, four_bounds, proof_of, stage_bound}
 use Rattle.rmt_bounds.specs.declared.bound.Proof.{Proof}
 use Rattle.rmt_bounds.specs.declared.bound.Proof.TheVariants.{Chain, Sram, Tcam, Slots}
 use Rattle.rmt_bounds.specs.Proofs.{joins, shared_by, IsChain, chain_stages, Gives}
 use Rattle.rmt_bounds.proofs.BestLaws.{length-bests, index-front, index-last}
-use Rattle.rmt_bounds.proofs.ChainLaws.{any_item, max-le-rest}
+use Rattle.rmt_bounds.proofs.ChainLaws.{any_item}
 use Rattle.rmt_bounds.proofs.NodeLaws.{node-some}
-use Rattle.rmt_bits.proofs.MemberLaws.{Contains-map, Contains-unmap}
-use Rattle.rmt_bits.proofs.AllLaws.{All-unmap, All-unfilter}
+use Rattle.rmt_bits.proofs.MemberLaws.{Contains-filter, Contains-first, Contains-later, Contains-map, Contains-unfilter, Contains-unmap}
+use Rattle.rmt_bits.proofs.AllLaws.{All-unmap}
+use Rattle.rmt_bits.proofs.MostLaws.{items-le, max-either, picked}
 
 -- ---- the greatest and the least are reached
 
-max-reached : (a : ℕ) (xs : List ℕ) → (fold max a xs ≡ a) ⊎ Contains xs (fold max a xs)
-max-reached a [] = inl refl
-max-reached a (x ∷ xs) = elim (max-reached (max a x) xs) [
-  | inl first ↦
-      elim (cases_lt a x) [
-        | inl less ↦ (let is : max a x ≡ x = max-eq_right (omega arith) in inr (subst (Contains (x ∷ xs)) (sym (first ∙ is)) (0, omega arith, refl)))
-        | inr more ↦ (let is : max a x ≡ a = max-eq_left more in inl (first ∙ is))
-      ]
-  | inr later ↦ inr (Contains-append_right (x ∷ []) xs (fold max (max a x) xs) later)
+reached : (pick : ℕ → ℕ → ℕ) → ((a b : ℕ) → (pick a b ≡ a) ⊎ (pick a b ≡ b)) → (a : ℕ) (xs : List ℕ) → (fold pick a xs ≡ a) ⊎ Contains xs (fold pick a xs)
+reached pick one a xs = elim (picked pick one (λ x. x) a xs) [
+  | inl same ↦ inl same
+  | inr some ↦ inr (subst (Contains xs) (sym some.2) some.1)
 ]
 
+max-reached : (a : ℕ) (xs : List ℕ) → (fold max a xs ≡ a) ⊎ Contains xs (fold max a xs)
+max-reached a xs = reached max max-either a xs
+
 min-reached : (a : ℕ) (xs : List ℕ) → (fold min a xs ≡ a) ⊎ Contains xs (fold min a xs)
-min-reached a [] = inl refl
-min-reached a (x ∷ xs) = elim (min-reached (min a x) xs) [
-  | inl first ↦
-      elim (cases_lt x a) [
-        | inl less ↦ (let is : min a x ≡ x = min-eq_right (omega arith) in inr (subst (Contains (x ∷ xs)) (sym (first ∙ is)) (0, omega arith, refl)))
-        | inr more ↦ (let is : min a x ≡ a = min-eq_left more in inl (first ∙ is))
-      ]
-  | inr later ↦ inr (Contains-append_right (x ∷ []) xs (fold min (min a x) xs) later)
-]
+min-reached a xs = reached min (λ m n. elim (cases_lt n m) [ inl less ↦ inr (min-eq_right (omega arith)) | inr more ↦ inl (min-eq_left more) ]) a xs
 
 least-reached : (xs : List ℕ) (y : ℕ) → Contains xs y → Contains xs (least xs)
 least-reached [] y there = absurd (omega arith)
 least-reached (x ∷ xs) y there = elim (min-reached x xs) [
-  | inl first ↦ subst (Contains (x ∷ xs)) (sym first) (0, omega arith, refl)
-  | inr later ↦ Contains-append_right (x ∷ []) xs (fold min x xs) later
+  | inl first ↦ subst (Contains (x ∷ xs)) (sym first) (Contains-first x xs)
+  | inr later ↦ Contains-later x xs (fold min x xs) later
 ]
 
--- ---- items of lists
-
-from_filter : {X : Type 0} (t : X → Bool) (xs : List X) (x : X) → Contains (filter t xs) x → Contains xs x × (t x ≡ true)
-from_filter t xs x there =
-    All-contains (λ z. Contains xs z × (t z ≡ true)) (filter t xs) x
-    (filtered (λ z. Contains xs z × (t z ≡ true)) t xs (All-weaker (Contains xs) (λ z. t z ≡ true → Contains xs z × (t z ≡ true)) (λ z found pass. (found, pass)) xs (All-contains_itself xs))) there
-
-in_filter : {X : Type 0} (t : X → Bool) (xs : List X) (x : X) → Contains xs x → t x ≡ true → Contains (filter t xs) x
-in_filter t xs x there pass = All-contains (λ z. t z ≡ true → Contains (filter t xs) z) xs x (All-unfilter (Contains (filter t xs)) t xs (All-contains_itself (filter t xs))) there pass
-
-or-first : (a b : Bool) → a ≡ true → (a || b) ≡ true
-or-first true b is = refl
-or-first false b is = absurd (false≢true is)
-
-or-second : (a b : Bool) → b ≡ true → (a || b) ≡ true
-or-second true b is = refl
-or-second false b is = is
-
-any_from : {X : Type 0} (t : X → Bool) (xs : List X) → All (λ x. t x ≡ true → list_any t xs ≡ true) xs
-any_from t [] = All-nil (λ x. t x ≡ true → list_any t [] ≡ true)
-any_from t (x ∷ xs) =
-    All-cons (λ z. t z ≡ true → list_any t (x ∷ xs) ≡ true) x xs (or-first (t x) (list_any t xs))
-    (All-weaker (λ z. t z ≡ true → list_any t xs ≡ true) (λ z. t z ≡ true → list_any t (x ∷ xs) ≡ true) (λ z found pass. or-second (t x) (list_any t xs) (found pass)) xs (any_from t xs))
-
+-- a test that an item passes is passed by some
 any_here : {X : Type 0} (t : X → Bool) (xs : List X) (x : X) → Contains xs x → t x ≡ true → list_any t xs ≡ true
-any_here t xs x there pass = All-contains (λ z. t z ≡ true → list_any t xs ≡ true) xs x (any_from t xs) there pass
+any_here t xs x there pass = list_any_at t xs there.0 x there.1 (ap t there.2 ∙ pass)
 
 -- ---- chains with a node more at their end
 
@@ -141,7 +109,7 @@ module _ (p : Program) (is : IsProgram p) (edges : List Edge) (rise : EdgesRise 
     | inl own ↦ inl (best-at n there ∙ own)
     | inr later ↦ inr
         (let item = Contains-unmap (through p (bests p edges n)) (edges_into edges n) (best_of_node p edges (bests p edges n) n) later in
-        let found = from_filter (λ (e : Edge). e.to == n) edges item.0 item.1 in
+        let found = Contains-unfilter (λ (e : Edge). e.to == n) edges item.0 item.1 in
         let to : item.0.to ≡ n = eqb-true item.0.to n found.1 in
         let r = rises item.0 found.0 in
         (item.0, found.0, to, sym (through-all n item.0 (omega arith) (omega (arith, r.0))) ∙ (item.2 ∙ sym (best-at n there))))
@@ -153,8 +121,8 @@ module _ (p : Program) (is : IsProgram p) (edges : List Edge) (rise : EdgesRise 
       let r = rises e found in
       let f = through p (bests p edges n) in
       let top = best_of_node p edges (bests p edges n) n in
-      let within = All-unmap (λ x. x ≤ top) f (edges_into edges n) (max-le-rest (node_stages p n) (map f (edges_into edges n))) in
-      let here = All-contains (λ g. f g ≤ top) (edges_into edges n) e within (in_filter (λ (g : Edge). g.to == n) edges e found (eq-eqb e.to n to)) in
+      let within = All-unmap (λ x. x ≤ top) f (edges_into edges n) (items-le (λ x. x) (node_stages p n) (map f (edges_into edges n))) in
+      let here = All-contains (λ g. f g ≤ top) (edges_into edges n) e within (Contains-filter (λ (g : Edge). g.to == n) edges e found (eq-eqb e.to n to)) in
       omega (arith, here, best-at n there, through-all n e (omega arith) (omega (arith, r.0, to)))
 
   -- what two nodes share, one of which gives the other's best
@@ -193,13 +161,13 @@ module _ (p : Program) (is : IsProgram p) (edges : List Edge) (rise : EdgesRise 
       let is_into : Edge → Bool = λ e. e.to == n in
       let is_best : Edge → Bool = λ e. through p all e == best n in
       let from_of : Edge → ℕ = λ e. e.from in
-      let into = in_filter is_into edges one.0 one.1 (eq-eqb one.0.to n one.2) in
-      let good = in_filter is_best (edges_into edges n) one.0 into (eq-eqb (through p all one.0) (best n) one.3) in
+      let into = Contains-filter is_into edges one.0 one.1 (eq-eqb one.0.to n one.2) in
+      let good = Contains-filter is_best (edges_into edges n) one.0 into (eq-eqb (through p all one.0) (best n) one.3) in
       let m = node_before p edges all n in
       let item = Contains-unmap from_of (filter is_best (edges_into edges n)) m
       (least-reached (map from_of (filter is_best (edges_into edges n))) one.0.from (Contains-map from_of (filter is_best (edges_into edges n)) one.0 good)) in
-      let first = from_filter is_best (edges_into edges n) item.0 item.1 in
-      let then = from_filter is_into edges item.0 first.0 in
+      let first = Contains-unfilter is_best (edges_into edges n) item.0 item.1 in
+      let then = Contains-unfilter is_into edges item.0 first.0 in
       let to : item.0.to ≡ n = eqb-true item.0.to n then.1 in
       let r = rises item.0 then.0 in
       let before : m < n = omega (arith, r.0, item.2, to) in

@@ -11,7 +11,7 @@ ghost use Rattle.rmt_bounds.specs.Proofs.{joins as joins_nodes, shared_by as sha
 
 use crate::bound::{Bound, Proof};
 use crate::stages::node_stages;
-use crate::sums::{sram_sum, table_count, tcam_sum};
+use crate::sums::{block_sums, table_count};
 use rmt_ast::deps::{Deps, Edge};
 use rmt_ast::program::Program;
 use rmt_pack::format::divide_up;
@@ -101,8 +101,10 @@ fn gives(program: &Program, edges: &[Edge], proof: &Proof, stages: u32) -> bool
 {
     match proof {
         Proof::Chain(chain) => chain_gives(program, edges, chain.as_slice(), stages),
-        Proof::Sram(blocks) => *blocks == sram_sum(program) && stages == divide_up(*blocks, 106),
-        Proof::Tcam(blocks) => *blocks == tcam_sum(program) && stages == divide_up(*blocks, 16),
+        Proof::Sram(blocks) => *blocks == block_sums(program).sram
+            && stages == divide_up(*blocks, 106),
+        Proof::Tcam(blocks) => *blocks == block_sums(program).tcam
+            && stages == divide_up(*blocks, 16),
         Proof::Slots(tables) => *tables == table_count(program) && stages == divide_up(*tables, 16),
     }
 }

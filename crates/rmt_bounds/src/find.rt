@@ -12,7 +12,7 @@ ghost use Rattle.rmt_bounds.specs.Proofs.{Gives};
 use crate::best::{all_bests, greatest, longest_chain};
 use crate::bound::{Bound, Proof};
 use crate::fault::BoundFault;
-use crate::sums::{sram_sum, table_count, tcam_sum};
+use crate::sums::{block_sums, table_count};
 use rmt_ast::deps::{Deps, Edge};
 use rmt_ast::program::Program;
 use rmt_pack::format::divide_up;
@@ -98,9 +98,10 @@ pub fn bound(alloc: Global, program: &Program, deps: &Deps) -> Result<Bound, Bou
 {
     let edges = deps.field.as_slice();
     let bests = all_bests(alloc, program, edges)?;
+    let blocks = block_sums(program);
     let taken = Taken {
-        sram: sram_sum(program),
-        tcam: tcam_sum(program),
+        sram: blocks.sram,
+        tcam: blocks.tcam,
         tables: table_count(program),
     };
     let stages = greatest_of_four(bests.as_slice(), &taken);

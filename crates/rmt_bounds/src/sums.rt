@@ -18,34 +18,32 @@ fn times(quanta: u32, blocks: u32) -> u32
     quanta * blocks
 }
 
-/// The SRAM blocks that all nodes take at least.
-pub fn sram_sum(program: &Program) -> u32
-    requires { IsProgram program.now }
-    ensures value { result ≡ sram_of program.now }
-    ensures small { result ≤ 6946816 }
-{
-    let nodes = program.nodes.as_slice();
-    let mut sum = 0;
-    for node in nodes {
-        let format = node_format(program, node);
-        sum += times(format.quanta, format.sram);
-    }
-    sum
+/// The blocks that all nodes take together.
+#[derive(Clone, Copy)]
+pub struct Blocks {
+    /// SRAM blocks, at least.
+    pub sram: u32,
+    /// TCAM blocks.
+    pub tcam: u32,
 }
 
-/// The TCAM blocks that all nodes take.
-pub fn tcam_sum(program: &Program) -> u32
+/// The blocks that all nodes take.
+pub fn block_sums(program: &Program) -> Blocks
     requires { IsProgram program.now }
-    ensures value { result ≡ tcam_of program.now }
-    ensures small { result ≤ 6946816 }
+    ensures sram { result.sram ≡ sram_of program.now }
+    ensures tcam { result.tcam ≡ tcam_of program.now }
+    ensures few_sram { result.sram ≤ 6946816 }
+    ensures few_tcam { result.tcam ≤ 6946816 }
 {
     let nodes = program.nodes.as_slice();
-    let mut sum = 0;
+    let mut sram = 0;
+    let mut tcam = 0;
     for node in nodes {
         let format = node_format(program, node);
-        sum += times(format.quanta, format.tcam);
+        sram += times(format.quanta, format.sram);
+        tcam += times(format.quanta, format.tcam);
     }
-    sum
+    Blocks { sram, tcam }
 }
 
 /// Whether a node applies a table.

@@ -17,7 +17,8 @@ use Rattle.rmt_config.specs.LaneForm.{bits_of_lanes}
 use Rattle.rmt_config.specs.Resources.{memory_sram, memory_tcam, unit_instructions, unit_sram, unit_tcam}
 use Rattle.rmt_config.specs.StageForm.{memory_sram_blocks, memory_tcam_blocks, sram_blocks, tcam_blocks}
 use Rattle.rmt_pack.specs.Placements.{key_bits, quanta_in}
-use Rattle.rmt_pack.proofs.BlockLaws.{apart-both, apart-right, range-apart}
+use Rattle.rmt_pack.proofs.BlockLaws.{apart-both, range-apart}
+use Rattle.rmt_bits.proofs.PairLaws.{AllPairs-right}
 use Rattle.rmt_place.specs.Needs.{demands_of, keeps_limits}
 use Rattle.rmt_place.specs.Placing.{standing_in}
 use Rattle.rmt_ptcam.proofs.PlainLaws.{lanes_bits}
@@ -57,7 +58,7 @@ parts_apart blocks (x ∷ xs) apart zero (suc j) u v lt at_u at_v b in_u in_v =
     (Contains-flat_map blocks xs v b (Contains-item xs j v at_v) in_v)
 parts_apart blocks (x ∷ xs) apart (suc i) zero u v lt at_u at_v b in_u in_v = omega (arith, lt)
 parts_apart blocks (x ∷ xs) apart (suc i) (suc j) u v lt at_u at_v b in_u in_v =
-    parts_apart blocks xs (apart-right (blocks x) (flat_map blocks xs) apart) i j u v (omega (arith, lt)) at_u at_v b in_u in_v
+    parts_apart blocks xs (AllPairs-right ◌≢◌ (blocks x) (flat_map blocks xs) apart) i j u v (omega (arith, lt)) at_u at_v b in_u in_v
 
 -- rows stand in some of the blocks that a unit lists
 rows_sram : (u : Unit) (b : ℕ) → Contains (sram_blocks u) b → Contains (unit_sram u) b

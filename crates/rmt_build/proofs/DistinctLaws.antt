@@ -12,7 +12,6 @@ use Rattle.rmt_ast.specs.declared.entry.Entry.{Entry}
 use Rattle.rmt_ast.specs.EntryLists.{AreEntries}
 use Rattle.rmt_ast.specs.WellFormed.{AreDistinct}
 use Rattle.rmt_config.specs.declared.config.Unit.TheVariants.{Gate, Slot}
-use Rattle.rmt_place.proofs.OrderLaws.{pairs_nil}
 use Rattle.rmt_refine.specs.declared.map.CellOf.{CellOf}
 use Rattle.rmt_refine.specs.Units.{UnitsCarried}
 use Rattle.rmt_refine.specs.View.{as_slot}
@@ -30,7 +29,7 @@ use Rattle.rmt_build.specs.Told.{cell_told, cells_told, stages_told, unit_told}
 use Rattle.rmt_build.proofs.SpotLaws.{listed_stands, part_stands, slot_built, table_of_part}
 use Rattle.rmt_build.proofs.ToldLaws.{stages_listed, unit_listed}
 use Rattle.rmt_refine.proofs.MemberLaws.{flat_from}
-use Rattle.rmt_bits.proofs.PairLaws.{AllPairs-map, AllPairs-append}
+use Rattle.rmt_bits.proofs.PairLaws.{AllPairs-map, AllPairs-append, AllPairs-none}
 use Rattle.rmt_bits.proofs.MemberLaws.{Contains-map}
 
 -- ---- pairs of joined lists
@@ -40,7 +39,7 @@ across R xs ys all = λ k d lt. λ j e less. all (get_or xs k d) (get_or ys j e)
 
 pub flat_pairs : {X Y : Type 0} (R : Y → Y → Type 0) (f : X → List Y) (xs : List X) → ((i : ℕ) (x : X) → slice_get xs i ≡ Some x → AllPairs R (f x))
     → ((i j : ℕ) (x y : X) (a b : Y) → i < j → slice_get xs i ≡ Some x → slice_get xs j ≡ Some y → Contains (f x) a → Contains (f y) b → R a b) → AllPairs R (flat_map f xs)
-flat_pairs R f [] each apart = pairs_nil R
+flat_pairs R f [] each apart = AllPairs-none R
 flat_pairs R f (x ∷ xs) each apart =
     AllPairs-append R (f x) (flat_map f xs) (each 0 x refl)
     (flat_pairs R f xs (λ i y at. each (suc i) y at) (λ i j y z a b lt at_y at_z in_a in_b. apart (suc i) (suc j) y z a b (omega (arith, lt)) at_y at_z in_a in_b))
@@ -74,11 +73,11 @@ module _ (p : Program) (lists : List (List Entry)) (plan : Plan) (c : Config) (e
       subst (λ xs. AllPairs ◌≢◌ (map (cell_told k) xs)) (sym numbers) (part_apart has.entries has.own _ _ _ k (stands.each n has.entries has.own has.entries_are has.own_is))
 
   unit_apart : (n k place : ℕ) (stage : Stage) (u : Unit) → slice_get c.stages k ≡ Some stage → slice_get stage.units place ≡ Some u → AllPairs ◌≢◌ (unit_told n k u)
-  unit_apart n k place stage (Gate g) at unit_is = pairs_nil ◌≢◌
+  unit_apart n k place stage (Gate g) at unit_is = AllPairs-none ◌≢◌
   unit_apart n k place stage (Slot s) at unit_is = by (s.node == n) refl
     where
       by : (b : Bool) → (s.node == n) ≡ b → AllPairs ◌≢◌ (cond b (map (cell_told k) s.numbers) [])
-      by false e = pairs_nil ◌≢◌
+      by false e = AllPairs-none ◌≢◌
       by true e = slot_apart n k place stage s (record { stage_is = at; slot_is = ap (option_and_then as_slot) unit_is; node_is = eqb-true s.node n e })
 
   -- in a stage one unit alone lists cells of a node
@@ -94,7 +93,7 @@ module _ (p : Program) (lists : List (List Entry)) (plan : Plan) (c : Config) (e
       omega (arith, place, lt)))
 
   stages_apart : (n first : ℕ) (stages : List Stage) → ((at : ℕ) (stage : Stage) → slice_get stages at ≡ Some stage → slice_get c.stages (first + at) ≡ Some stage) → AllPairs ◌≢◌ (stages_told n first stages)
-  stages_apart n first [] known = pairs_nil ◌≢◌
+  stages_apart n first [] known = AllPairs-none ◌≢◌
   stages_apart n first (stage ∷ stages) known =
       let none : first + 0 ≡ first = omega arith in
       AllPairs-append ◌≢◌ (flat_map (unit_told n first) stage.units) (stages_told n (first + 1) stages)

@@ -11,7 +11,7 @@ use Rattle.rmt_bits.specs.declared.lane.Lane.{Lane}
 use Rattle.rmt_build.specs.Types.{Program, Header, ParserConfig, ParserState, ParserEntry, Next, TailOf}
 use Rattle.rmt_ast.specs.WellFormed.{IsProgram}
 use Rattle.rmt_phv.specs.Places.{KeepsApart}
-use Rattle.rmt_phv.proofs.PairLaws.{All-from_map}
+use Rattle.rmt_bits.proofs.AllLaws.{All-unmap}
 use Rattle.rmt_config.specs.declared.config.Next.TheVariants as next
 use Rattle.rmt_config.specs.Order.{never_falls_from}
 use Rattle.rmt_config.specs.Parser.{tail_of}
@@ -169,7 +169,7 @@ joined_small : (parser : ParserConfig) (at : ℕ) (e : ParserEntry) (m : ℕ) �
 joined_small parser at e m may here there =
     let Light : ParserEntry → Type 0 = λ f. (e.need + f.need ≤ 128) × (length e.extracts + length f.extracts ≤ 64) in
     let light : All (λ (x : Row). Light x.entry) (rows_in m (rows_of parser)) =
-    All-from_map Light (λ (x : Row). x.entry) (rows_in m (rows_of parser)) (subst (All Light) (sym (rows_in_entries parser m 0 parser.entries)) may.light) in
+    All-unmap Light (λ (x : Row). x.entry) (rows_in m (rows_of parser)) (subst (All Light) (sym (rows_in_entries parser m 0 parser.entries)) may.light) in
     All-map IsSmallRow (joined_row here there e) (rows_in m (rows_of parser)) (λ k d lt.
     (let f : ParserEntry = (get_or (rows_in m (rows_of parser)) k d).entry in
     let own = light k d lt in

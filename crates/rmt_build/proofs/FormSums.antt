@@ -8,7 +8,7 @@ use Rattle.std.proofs.lemmas.List.Elements.{All-cons, All-head, All-nil, All-tai
 use Rattle.std.proofs.lemmas.List.Folds.{list_any_at}
 use Rattle.std.proofs.lemmas.List.Kept.{AllPairs-cons}
 use Rattle.std.proofs.lemmas.List.Sums.{sum_by-cons}
-use Rattle.rmt_ast.proofs.WellFormedLemmas.{AllPairs-none}
+use Rattle.rmt_bits.proofs.PairLaws.{AllPairs-none}
 use Rattle.rmt_config.specs.Resources.{distinct, is_in}
 use Rattle.rmt_bits.proofs.MemberLaws.{Contains-first, Contains-later, Contains-split}
 

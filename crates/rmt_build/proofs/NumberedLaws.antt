@@ -11,7 +11,7 @@ use Rattle.rmt_ast.specs.EntryLists.{AreEntries}
 use Rattle.rmt_config.specs.declared.config.Unit.TheVariants.{Gate, Slot}
 use Rattle.rmt_config.specs.CellForm.{entries_are_numbered, entry_numbers, numbers_of_stage, numbers_of_unit}
 use Rattle.rmt_config.specs.Order.{are_new}
-use Rattle.rmt_place.proofs.OrderLaws.{pairs_nil}
+use Rattle.rmt_bits.proofs.PairLaws.{AllPairs-none}
 use Rattle.rmt_refine.specs.Units.{UnitsCarried}
 use Rattle.rmt_refine.specs.View.{as_slot}
 use Rattle.rmt_refine.proofs.MemberLaws.{flat_from}
@@ -108,7 +108,7 @@ module _ (p : Program) (lists : List (List Entry)) (plan : Plan) (c : Config) (e
       both m a b number cell = ap (λ x. cell_told m (record { cell = a.cell; number = x })) number ∙ ap (λ x. cell_told m (record { cell = x; number = b.number })) cell
 
   unit_numbers : (k place : ℕ) (stage : Stage) (u : Unit) → slice_get c.stages k ≡ Some stage → slice_get stage.units place ≡ Some u → AllPairs ◌≢◌ (numbers_of_unit u)
-  unit_numbers k place stage (Gate g) at unit_is = pairs_nil ◌≢◌
+  unit_numbers k place stage (Gate g) at unit_is = AllPairs-none ◌≢◌
   unit_numbers k place stage (Slot s) at unit_is = slot_numbers k place stage s at unit_is
 
   stage_numbers : (k : ℕ) (stage : Stage) → slice_get c.stages k ≡ Some stage → AllPairs ◌≢◌ (numbers_of_stage stage)

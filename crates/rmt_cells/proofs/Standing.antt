@@ -1,11 +1,12 @@
 -- What cells hold after a chain is put or given back.
-use Rattle.std.proofs.Common.{◌≡◌, ℕ, zero, suc, ◌+◌, ◌-◌, ◌<◌, ◌≤◌, List, [], ◌∷◌, ◌++◌, length, take, get_or, set, Contains, refl, ap, sym, ◌∙◌, subst, ⊎_elim, inl, inr, ◌⊎◌, arith}
+use Rattle.std.proofs.Common.{◌≡◌, ℕ, ◌+◌, ◌-◌, ◌<◌, ◌≤◌, List, [], ◌∷◌, ◌++◌, length, take, get_or, set, Contains, refl, ap, sym, ◌∙◌, subst, ⊎_elim, ◌⊎◌, arith}
 use Rattle.std.proofs.lemmas.Bool.{cases_lt}
 use Rattle.std.proofs.lemmas.List.{length-set}
 use Rattle.std.proofs.lemmas.List.Elements.{Contains-append_left, Contains-append_right, Contains-append_cases}
 use Rattle.std.proofs.lemmas.List.Concat.{flat_map-cons}
 use Rattle.std.proofs.lemmas.Grind.{flat_map-append}
 use Rattle.std.proofs.lemmas.List.Sums.{sum_by-append, sum_by-cons}
+use Rattle.rmt_bits.proofs.MemberLaws.{Contains-later, Contains-split}
 use Rattle.rmt_cells.specs.declared.cells.Cells.{Cells}
 use Rattle.rmt_cells.specs.Links.{after, walk, times}
 use Rattle.rmt_cells.specs.Pieces.{IsRun, Spell, cells_for, piece}
@@ -18,14 +19,6 @@ held_cons links h hs cell = ap (times cell) (flat_map-cons (chain_cells links) h
 held_append : (links : List ℕ) (xs ys : List Held) (cell : ℕ) → times cell (held_cells links (xs ++ ys)) ≡ times cell (held_cells links xs) + times cell (held_cells links ys)
 held_append links xs ys cell = ap (times cell) (flat_map-append (chain_cells links) xs ys) ∙ times_append cell (held_cells links xs) (held_cells links ys)
 
--- a chain that is held or not
-contains_cons : (h : Held) (hs : List Held) (x : Held) → Contains (h ∷ hs) x → (h ≡ x) ⊎ Contains hs x
-contains_cons h hs x (zero, lt, is) = inl is
-contains_cons h hs x (suc k, lt, is) = inr (k, omega arith, is)
-
-contains_later : (h : Held) (hs : List Held) (x : Held) → Contains hs x → Contains (h ∷ hs) x
-contains_later h hs x (k, lt, is) = (suc k, omega arith, is)
-
 -- a chain that is held has no cell more often than all chains
 chain_part : (links : List ℕ) (hs : List Held) (x : Held) (cell : ℕ) → Contains hs x → times cell (chain_cells links x) ≤ times cell (held_cells links hs)
 chain_part links [] x cell (k, lt, is) = absurd (omega arith)
@@ -37,7 +30,7 @@ chain_part links (h ∷ hs) x cell there =
     (λ (later : Contains hs x).
     let rest = chain_part links hs x cell later in
     omega (arith, held_cons links h hs cell, rest))
-    (contains_cons h hs x there)
+    (Contains-split h hs x there)
 
 -- each cell stands at most once
 module _ (count : ℕ) (held : List Held) (s : Cells) (stands : Stands count held s) where
@@ -122,7 +115,7 @@ module _ (count : ℕ) (held : List Held) (s new : Cells) (bytes : List ℕ) (st
       let shorter = times_shorter cell s.links.items s.first need s.free enough in
       ap (take (length (piece x.bytes number))) (others cell (omega (arith, none, shorter))) ∙ was.bytes number lt in
       record { len = was.len; some = was.some; bytes = subst (λ (ls : List ℕ). Spell new.blocks.items ls x.chain.first x.bytes) (sym links) spelt })
-      (contains_cons put held x there)
+      (Contains-split put held x there)
 
   pub put_stands : Stands count (put ∷ held) new
   put_stands = record {
@@ -211,7 +204,7 @@ module _ (count : ℕ) (front back : List Held) (h : Held) (s new : Cells) (stan
   still_there : (x : Held) → Contains (front ++ back) x → Contains (front ++ h ∷ back) x
   still_there x is =
       ⊎_elim (λ (before : Contains front x). Contains-append_left front (h ∷ back) x before)
-      (λ (later : Contains back x). Contains-append_right front (h ∷ back) x (contains_later h back x later))
+      (λ (later : Contains back x). Contains-append_right front (h ∷ back) x (Contains-later h back x later))
       (Contains-append_cases front back x is)
 
   still_holds : (x : Held) → Contains (front ++ back) x → Holds new x

@@ -1,10 +1,8 @@
 -- Walks over linked cells: how they go on, and what a changed link leaves.
 use Rattle.std.proofs.Common.{◌≡◌, ◌≢◌, ℕ, zero, suc, ◌+◌, ◌-◌, ◌<◌, ◌≤◌, List, [], ◌∷◌, ◌++◌, Bool, cond, eqb, length, get_or, set, refl, ap, sym, ◌∙◌, subst, ⊎_elim, arith}
 use Rattle.std.proofs.lemmas.Bool.{cases_lt, eq-eqb}
-use Rattle.std.proofs.lemmas.List.{get_or-set_other, get_or-set_same, map-id}
+use Rattle.std.proofs.lemmas.List.{get_or-set_other, get_or-set_same}
 use Rattle.std.proofs.lemmas.List.Sums.{sum_by-append, sum_by-cons}
-use Rattle.std.proofs.lemmas.List.FromFn.{map-range_with_len_more}
-use Rattle.std.specs.List.{range_with_len}
 use Rattle.rmt_cells.specs.Links.{after, walk, times}
 use Rattle.rmt_cells.specs.Pieces.{IsRun}
 
@@ -126,7 +124,3 @@ module _ (count : ℕ) (links : List ℕ) (first n head free : ℕ) (some : 0 < 
       ∙ ap (λ (cells : List ℕ). cells ++ walk joined (after joined first n) free) first_part
       ∙ ap (λ (cell : ℕ). walk links first n ++ walk joined cell free) then_head
       ∙ ap (λ (cells : List ℕ). walk links first n ++ cells) (walk_kept links last head head free other)
-
--- a longer row of numbers
-pub range_more : (a n : ℕ) → range_with_len a (n + 1) ≡ range_with_len a n ++ (a + n) ∷ []
-range_more a n = simp map-id at (map-range_with_len_more (λ (x : ℕ). x) a n (a + n) refl)

@@ -1,5 +1,5 @@
 -- Moving a key to a free cell, and loading one key more.
-use Rattle.std.proofs.Common.{◌≡◌, ℕ, zero, suc, ◌+◌, ◌-◌, ◌<◌, ◌≤◌, List, [], ◌∷◌, ◌++◌, length, get_or, set, Contains, refl, ap, sym, ◌∙◌, subst, ⊎_elim, arith}
+use Rattle.std.proofs.Common.{◌≡◌, ℕ, zero, suc, ◌+◌, ◌-◌, ◌<◌, ◌≤◌, List, [], ◌∷◌, ◌++◌, length, get_or, set, Contains, refl, ap, sym, ◌∙◌, subst, ⊎_elim, ◌⊎◌, inl, inr, arith}
 use Rattle.std.proofs.lemmas.List.{get_or-set_same, get_or-set_other, length-set, length_push, get_or_append_left, get_or_push}
 use Rattle.std.proofs.lemmas.Bool.{cases_eq}
 use Rattle.rmt_cuckoo.specs.declared.search.Step.{Step}
@@ -28,6 +28,21 @@ after_else holders c f x not_c not_f =
 apart : (holders : List ℕ) (x f : ℕ) → 0 < get_or holders x 0 → get_or holders f 0 ≡ 0 → x ≡ f → ⊥
 apart holders x f taken free same =
     let none : get_or holders x 0 ≡ 0 = ap (λ (y : ℕ). get_or holders y 0) same ∙ free in omega (arith, taken, none)
+
+-- a cell with a holder after the move is the one moved to, or had its holder before
+holder_after : (holders : List ℕ) (c f x : ℕ) → c < length holders → f < length holders → (f ≡ c → ⊥) → 0 < get_or (after holders c f) x 0
+    → ((x ≡ f) × (get_or (after holders c f) x 0 ≡ get_or holders c 0)) ⊎ ((x ≡ c → ⊥) × (get_or (after holders c f) x 0 ≡ get_or holders x 0))
+holder_after holders c f x c_lt f_lt apart some =
+    ⊎_elim
+    (λ (same : x ≡ c).
+    let none : get_or (after holders c f) x 0 ≡ 0 = ap (λ (y : ℕ). get_or (after holders c f) y 0) same ∙ after_left holders c f c_lt in
+    absurd (omega (arith, some, none)))
+    (λ (not_c : x ≡ c → ⊥).
+    ⊎_elim
+    (λ (same : x ≡ f). inl (same, ap (λ (y : ℕ). get_or (after holders c f) y 0) same ∙ after_reached holders c f f_lt apart))
+    (λ (not_f : x ≡ f → ⊥). inr (not_c, after_else holders c f x not_c not_f))
+    (cases_eq x f))
+    (cases_eq x c)
 
 -- a move keeps a loading
 pub moved : (choices : ℕ → List ℕ) (n : ℕ) (l m : Loading) (c f : ℕ) → IsLoaded choices n l → 0 < get_or l.holders.items c 0
@@ -71,39 +86,22 @@ moved choices n l m c f old taken inside free chosen holders cells =
           (cases_eq k key);
       known = λ x some.
           ⊎_elim
-          (λ (same : x ≡ c).
-          let none : get_or m.holders.items x 0 ≡ 0 = at_holder x ∙ ap (λ (y : ℕ). get_or (after hs c f) y 0) same ∙ after_left hs c f c_lt in
-          absurd (omega (arith, some, none)))
-          (λ (not_c : x ≡ c → ⊥).
-          ⊎_elim
-          (λ (same : x ≡ f).
-          let has_h : get_or m.holders.items x 0 ≡ h = at_holder x ∙ ap (λ (y : ℕ). get_or (after hs c f) y 0) same ∙ after_reached hs c f inside f_not_c in
-          subst (λ (v : ℕ). v ≤ n) (sym has_h) known)
-          (λ (not_f : x ≡ f → ⊥).
-          let same : get_or m.holders.items x 0 ≡ get_or hs x 0 = at_holder x ∙ after_else hs c f x not_c not_f in
+          (λ here. subst (λ (v : ℕ). v ≤ n) (sym (at_holder x ∙ here.1)) known)
+          (λ there.
+          let same = at_holder x ∙ there.1 in
           subst (λ (v : ℕ). v ≤ n) (sym same) (old.known x (subst (λ (v : ℕ). 0 < v) same some)))
-          (cases_eq x f))
-          (cases_eq x c);
+          (holder_after hs c f x c_lt inside f_not_c (subst (λ (v : ℕ). 0 < v) (at_holder x) some));
       cell = λ x some.
           ⊎_elim
-          (λ (same : x ≡ c).
-          let none : get_or m.holders.items x 0 ≡ 0 = at_holder x ∙ ap (λ (y : ℕ). get_or (after hs c f) y 0) same ∙ after_left hs c f c_lt in
-          absurd (omega (arith, some, none)))
-          (λ (not_c : x ≡ c → ⊥).
-          ⊎_elim
-          (λ (same : x ≡ f).
-          let has_h : get_or m.holders.items x 0 ≡ h = at_holder x ∙ ap (λ (y : ℕ). get_or (after hs c f) y 0) same ∙ after_reached hs c f inside f_not_c in
-          ap (λ (v : ℕ). get_or m.cells.items (v - 1) 0) has_h ∙ at_cell key ∙ get_or-set_same cs key f 0 key_lt ∙ sym same)
-          (λ (not_f : x ≡ f → ⊥).
-          let same : get_or m.holders.items x 0 ≡ get_or hs x 0 = at_holder x ∙ after_else hs c f x not_c not_f in
+          (λ here. ap (λ (v : ℕ). get_or m.cells.items (v - 1) 0) (at_holder x ∙ here.1) ∙ at_cell key ∙ get_or-set_same cs key f 0 key_lt ∙ sym here.0)
+          (λ there.
+          let same = at_holder x ∙ there.1 in
           let v = get_or hs x 0 in
-          let there : 0 < v = subst (λ (y : ℕ). 0 < y) same some in
-          let cell_x : get_or cs (v - 1) 0 ≡ x = old.cell x there in
+          let cell_x : get_or cs (v - 1) 0 ≡ x = old.cell x (subst (λ (y : ℕ). 0 < y) same some) in
           let cell_c : get_or cs key 0 ≡ c = old.cell c taken in
-          let other : v - 1 ≡ key → ⊥ = λ both. not_c (sym cell_x ∙ ap (λ (j : ℕ). get_or cs j 0) both ∙ cell_c) in
+          let other : v - 1 ≡ key → ⊥ = λ both. there.0 (sym cell_x ∙ ap (λ (j : ℕ). get_or cs j 0) both ∙ cell_c) in
           ap (λ (y : ℕ). get_or m.cells.items (y - 1) 0) same ∙ at_cell (v - 1) ∙ get_or-set_other cs key (v - 1) f 0 other ∙ cell_x)
-          (cases_eq x f))
-          (cases_eq x c);
+          (holder_after hs c f x c_lt inside f_not_c (subst (λ (v : ℕ). 0 < v) (at_holder x) some));
     }
 
 -- the keys at earlier places stay

@@ -44,11 +44,6 @@ rows_more ways starts at d in_ways in_starts =
     ap (λ (ws : List Way). cells_from ws (drop at starts)) (drop_more ways at d in_ways)
     ∙ ap (λ (ss : List ℕ). cells_from (get_or ways at d ∷ drop (at + 1) ways) ss) (drop_more starts at 0 in_starts)
 
--- what lies behind the last way
-pub no_rows : (ways : List Way) (starts : List ℕ) → length ways ≡ 0 → cells_from ways starts ≡ []
-no_rows [] starts none = refl
-no_rows (w ∷ ws) starts none = absurd (omega arith)
-
 -- numbers of a range are below its end
 pub range_below : (a n end : ℕ) → a + n ≤ end → All (λ c. c < end) (range_with_len a n)
 range_below a n end le =

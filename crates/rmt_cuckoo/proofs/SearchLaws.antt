@@ -2,7 +2,7 @@
 use Rattle.std.proofs.Common.{◌≡◌, ◌≢◌, ℕ, zero, suc, ◌+◌, ◌-◌, ◌<◌, ◌≤◌, List, [], ◌∷◌, ◌++◌, Bool, true, false, length, map, eqb, get_or, set, All, Contains, refl, ap, sym, ◌∙◌, subst, ◌⊎◌, ⊎_elim, inl, inr, arith}
 use Rattle.std.proofs.lemmas.List.{get_or_past, get_or-set_same, get_or-set_other, length-set, length_push, length-map, get_or_append_left, get_or_push, get_or-map, get_or_default}
 use Rattle.std.proofs.lemmas.List.Elements.{All-contains, All-weaker}
-use Rattle.std.proofs.lemmas.Bool.{cases_lt, cases_eq, false≢true}
+use Rattle.std.proofs.lemmas.Bool.{cases_lt, cases_eq}
 use Rattle.std.proofs.lemmas.Bool.Decides.{Decides-eqb}
 use Rattle.std.proofs.lemmas.Map.Made.{IsDistinct-from_AllPairs, is_member-Decides}
 use Rattle.std.proofs.lemmas.Map.Steps.{length-le_from_distinct_below}
@@ -12,22 +12,10 @@ use Rattle.rmt_cuckoo.specs.declared.search.Step.{Step}
 use Rattle.rmt_cuckoo.specs.declared.loading.Loading.{Loading}
 use Rattle.rmt_cuckoo.specs.Search.{no_step, cell_at, from_at, key_at, IsSeen, IsMarked, IsLoaded, IsTree, Grows, IsSearching}
 
--- a cell that is seen is one of the table
-pub seen_within : (seen : List Bool) (c : ℕ) → IsSeen seen c → c < length seen
-seen_within seen c is =
-    ⊎_elim (λ lt. lt) (λ past. absurd (false≢true (sym (get_or_past seen c false past) ∙ is))) (cases_lt c (length seen))
-
 -- a cell that is taken is one of the table
 pub taken_within : (holders : List ℕ) (c : ℕ) → 0 < get_or holders c 0 → c < length holders
 taken_within holders c taken =
     ⊎_elim (λ lt. lt) (λ past. let none = get_or_past holders c 0 past in absurd (omega (arith, none, taken))) (cases_lt c (length holders))
-
--- a mark that is taken back
-pub unmarked : (seen : List Bool) (cell c : ℕ) → cell < length seen → IsSeen (set seen cell false) c → (c ≡ cell → ⊥) × IsSeen seen c
-unmarked seen cell c lt is =
-    let other : c ≡ cell → ⊥ =
-    λ same. false≢true (sym (get_or-set_same seen cell false false lt) ∙ subst (IsSeen (set seen cell false)) same is) in
-    (other, sym (get_or-set_other seen cell c false false other) ∙ is)
 
 -- one more mark
 seen_more : (seen : List Bool) (cell c : ℕ) → cell < length seen → IsSeen seen c → IsSeen (set seen cell true) c
@@ -64,19 +52,6 @@ marked_more steps seen s lt m = record {
       let old = m.stepped c (sym (get_or-set_other seen s.cell c true false other) ∙ is) in
       (old.0, let len = length_push steps s in omega (arith, len, old.1), ap (λ (x : Step). x.cell) (old_step steps s old.0 old.1) ∙ old.2))
       (cases_eq c s.cell);
-}
-
--- a search that has not grown
-pub grows_none : (place : ℕ) (row : List ℕ) (steps : List Step) (seen : List Bool) → IsMarked steps seen → Grows place row steps seen steps seen
-grows_none place row steps seen m = record {
-  size = refl;
-  longer = omega arith;
-  kept = λ i lt. refl;
-  from = λ i le lt. absurd (omega arith);
-  chosen = λ i le lt. absurd (omega arith);
-  fresh = λ i j below le lt. absurd (omega arith);
-  marked = m;
-  still = λ c is. is;
 }
 
 -- one step more, to a cell of the row that was not seen

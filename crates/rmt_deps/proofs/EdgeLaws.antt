@@ -1,5 +1,5 @@
 -- Edges, one after another.
-use Rattle.std.proofs.Common.{◌≡◌, ◌↔◌, ℕ, zero, suc, ◌+◌, ◌-◌, ◌<◌, ◌≤◌, List, [], ◌∷◌, ◌++◌, length, get_or, take, map, Bool, true, false, cond, eqb, Option, Some, None, refl, sym, ap, subst, ◌∙◌, inl, inr, arith}
+use Rattle.std.proofs.Common.{◌≡◌, ◌↔◌, ℕ, zero, suc, ◌+◌, ◌-◌, ◌<◌, ◌≤◌, List, [], ◌∷◌, ◌++◌, length, get_or, take, map, Bool, true, false, cond, eqb, Option, Some, sym, ap, subst, ◌∙◌, inl, inr, arith}
 use Rattle.std.specs.Prelude.{All, IsTrue, filter}
 use Rattle.std.specs.List.{list_any, flat_map, range_with_len}
 use Rattle.std.proofs.lemmas.Bool.{false≢true, cases_Bool, eqb-true, eq-eqb, cases_lt, false_from_ne_true}
@@ -73,10 +73,6 @@ pub up_more : (p : Program) (steps at : ℕ) (g : Guard) → 0 < steps → Some 
 up_more p steps at g pos is =
     let some : steps ≡ suc (steps - 1) = omega arith in
     ap (λ k. guards_up p k at) some ∙ ap (λ (o : Option Guard). guard_then o (λ h. guards_up p (steps - 1) h.parent)) (sym is)
-
-pub up_end : (p : Program) (steps at : ℕ) → None ≡ guard_of p at → guards_up p steps at ≡ []
-up_end p zero at is = refl
-up_end p (suc steps) at is = ap (λ (o : Option Guard). guard_then o (λ h. guards_up p steps h.parent)) (sym is)
 
 -- edges go from a node to a later one
 range_forward : (p : Program) (places : List (List Lane)) (kinds : List EdgeKind) (a : ℕ) (first n : ℕ) → a < first → first + n ≤ length p.nodes

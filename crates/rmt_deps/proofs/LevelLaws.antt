@@ -1,10 +1,12 @@
 -- A level is the greatest number of strict edges on a path.
-use Rattle.std.proofs.Common.{◌≡◌, ◌⊎◌, ℕ, zero, suc, ◌+◌, ◌<◌, ◌≤◌, List, [], ◌∷◌, ◌++◌, length, get_or, Bool, true, false, cond, eqb, max, refl, sym, ap, subst, ◌∙◌, inl, inr, arith}
-use Rattle.std.specs.Prelude.{All, Contains, filter, fold}
-use Rattle.std.proofs.lemmas.Bool.{eq-eqb, eqb-true, cases_lt, cases_eq}
+use Rattle.std.proofs.Common.{◌≡◌, ℕ, zero, suc, ◌+◌, ◌<◌, ◌≤◌, List, [], ◌∷◌, ◌++◌, length, get_or, Bool, true, false, cond, eqb, max, refl, sym, ap, subst, ◌∙◌, inl, inr, arith}
+use Rattle.std.specs.Prelude.{All, Contains, filter}
+use Rattle.std.proofs.lemmas.Bool.{eq-eqb, eqb-true, cases_eq}
 use Rattle.std.proofs.lemmas.List.{length-append, get_or_append_left, get_or-append-add}
 use Rattle.std.proofs.lemmas.List.Elements.{All-contains, All-append, Contains-get_or}
 use Rattle.std.proofs.lemmas.List.Sums.{sum_by-cons}
+use Rattle.rmt_bits.proofs.MemberLaws.{Contains-filter, Contains-unfilter}
+use Rattle.rmt_bits.proofs.MostLaws.{greatest-le, items-le, max-either, picked}
 use Rattle.rmt_ast.specs.declared.deps.Edge.{Edge}
 use Rattle.rmt_ast.specs.declared.deps.Deps.{Deps}
 use Rattle.rmt_deps.specs.Edges.{GoesForward, GoForward}
@@ -20,73 +22,6 @@ weight_small e = by (is_strict e.kind)
     by : (b : Bool) → cond b 1 0 ≤ 1
     by true = omega arith
     by false = omega arith
-
-abbrev greatest_from : List ℕ → ℕ → List Edge → ℕ
-greatest_from levels a edges = fold (λ level e. max level (level_behind levels e)) a edges
-
-contains_head : {X : Type 0} (x : X) (xs : List X) → Contains (x ∷ xs) x
-contains_head x xs = (0, omega arith, refl)
-
-contains_tail : {X : Type 0} (y x : X) (xs : List X) → Contains xs x → Contains (y ∷ xs) x
-contains_tail y x xs (k, lt, is) = (suc k, omega (arith, lt), is)
-
--- what is found at first stays below
-start-le : (levels : List ℕ) (a : ℕ) (edges : List Edge) → a ≤ greatest_from levels a edges
-start-le levels a [] = omega arith
-start-le levels a (e ∷ edges) = let rest = start-le levels (max a (level_behind levels e)) edges in omega (arith, rest)
-
--- each level behind an edge is at most the greatest
-behind-le : (levels : List ℕ) (a : ℕ) (edges : List Edge) (k : ℕ) (d : Edge) → k < length edges → level_behind levels (get_or edges k d) ≤ greatest_from levels a edges
-behind-le levels a [] k d lt = absurd (omega (arith, lt))
-behind-le levels a (e ∷ edges) zero d lt = let rest = start-le levels (max a (level_behind levels e)) edges in omega (arith, rest)
-behind-le levels a (e ∷ edges) (suc k) d lt = behind-le levels (max a (level_behind levels e)) edges k d (omega (arith, lt))
-
--- the greatest is that behind one of them, or what it began with
-greatest_is : (levels : List ℕ) (a : ℕ) (edges : List Edge) → (greatest_from levels a edges ≡ a) ⊎ ((e : Edge) × (Contains edges e) × (greatest_from levels a edges ≡ level_behind levels e))
-greatest_is levels a [] = inl refl
-greatest_is levels a (e ∷ edges) =
-    elim (greatest_is levels (max a (level_behind levels e)) edges) [
-      | inl same ↦
-          elim (cases_lt a (level_behind levels e)) [
-            | inl lt ↦ let most : max a (level_behind levels e) ≡ level_behind levels e = omega arith in inr (e, contains_head e edges, same ∙ most)
-            | inr le ↦ let most : max a (level_behind levels e) ≡ a = omega arith in inl (same ∙ most)
-          ]
-      | inr some ↦ inr (some.0, contains_tail e some.0 edges some.1, some.2)
-    ]
-
--- no level passes a bound that none of them passes
-greatest-le : (levels : List ℕ) (a bound : ℕ) (edges : List Edge) → a ≤ bound → All (λ e. level_behind levels e ≤ bound) edges → greatest_from levels a edges ≤ bound
-greatest-le levels a bound edges le all =
-    elim (greatest_is levels a edges) [
-      | inl same ↦ omega (arith, same, le)
-      | inr some ↦ omega (arith, some.2, All-contains (λ e. level_behind levels e ≤ bound) edges some.0 all some.1)
-    ]
-
--- ---- filters
-
-filter_keeps : (t : Edge → Bool) (edges : List Edge) (e : Edge) → Contains edges e → t e ≡ true → Contains (filter t edges) e
-filter_keeps t [] e (k, lt, is) pass = absurd (omega (arith, lt))
-filter_keeps t (x ∷ edges) e (zero, lt, is) pass =
-    let here : t x ≡ true = ap t is ∙ pass in
-    rw here (subst (λ y. Contains (x ∷ filter t edges) y) is (contains_head x (filter t edges)))
-filter_keeps t (x ∷ edges) e (suc k, lt, is) pass = by (filter_keeps t edges e (k, omega (arith, lt), is) pass) (t x)
-  where
-    by : Contains (filter t edges) e → (b : Bool) → Contains (cond b (x ∷ filter t edges) (filter t edges)) e
-    by inside true = contains_tail x e (filter t edges) inside
-    by inside false = inside
-
-filter_is : (t : Edge → Bool) (edges : List Edge) (e : Edge) → Contains (filter t edges) e → Contains edges e × (t e ≡ true)
-filter_is t [] e inside = absurd (omega (arith, inside.1))
-filter_is t (x ∷ edges) e inside = by (filter_is t edges e) (t x) refl inside
-  where
-    shifted : Contains edges e × (t e ≡ true) → Contains (x ∷ edges) e × (t e ≡ true)
-    shifted h = (contains_tail x e edges h.0, h.1)
-
-    by : (Contains (filter t edges) e → Contains edges e × (t e ≡ true)) → (b : Bool) → t x ≡ b
-        → Contains (cond b (x ∷ filter t edges) (filter t edges)) e → Contains (x ∷ edges) e × (t e ≡ true)
-    by rest true pass (zero, lt, is) = (subst (λ y. Contains (x ∷ edges) y) is (contains_head x edges), ap t (sym is) ∙ pass)
-    by rest true pass (suc k, lt, is) = shifted (rest (k, omega (arith, lt), is))
-    by rest false pass inside = shifted (rest inside)
 
 -- ---- the levels of the first nodes
 
@@ -121,15 +56,16 @@ behind_is deps nodes n e lt below =
 
 -- ---- paths
 
-forward : (deps : Deps) (nodes : ℕ) → GoForward nodes deps → All (GoesForward nodes) (all_edges deps)
-forward deps nodes h = All-append (GoesForward nodes) deps.field deps.word h.field h.word
+-- every edge goes forward
+pub edges_forward : (deps : Deps) (nodes : ℕ) → GoForward nodes deps → All (GoesForward nodes) (all_edges deps)
+edges_forward deps nodes h = All-append (GoesForward nodes) deps.field deps.word h.field h.word
 
 edge-le : (deps : Deps) (nodes : ℕ) → GoForward nodes deps → (e : Edge) → Contains (all_edges deps) e → level_behind (levels_of deps nodes) e ≤ get_or (levels_of deps nodes) e.to 0
 edge-le deps nodes h e inside =
-    let goes = All-contains (GoesForward nodes) (all_edges deps) e (forward deps nodes h) inside in
+    let goes = All-contains (GoesForward nodes) (all_edges deps) e (edges_forward deps nodes h) inside in
     let edges : List Edge = filter (λ (x : Edge). eqb x.to e.to) (all_edges deps) in
-    let kept = filter_keeps (λ (x : Edge). eqb x.to e.to) (all_edges deps) e inside (eq-eqb e.to e.to refl) in
-    let le = behind-le (levels_of deps e.to) 0 edges kept.0 e kept.1 in
+    let kept = Contains-filter (λ (x : Edge). eqb x.to e.to) (all_edges deps) e inside (eq-eqb e.to e.to refl) in
+    let le = items-le (level_behind (levels_of deps e.to)) 0 edges kept.0 e kept.1 in
     let le_e : level_behind (levels_of deps e.to) e ≤ own_level deps e.to = subst (λ (x : Edge). level_behind (levels_of deps e.to) x ≤ own_level deps e.to) kept.2 le in
     omega (arith, le_e, behind_is deps nodes e.to e goes.later goes.is_node, level_is deps nodes e.to goes.is_node)
 
@@ -150,7 +86,7 @@ pub path_there : (deps : Deps) (nodes : ℕ) → GoForward nodes deps → (steps
     → (path : List Edge) × (IsPathTo deps n path) × (strict_edges path ≡ get_or (levels_of deps nodes) n 0)
 path_there deps nodes h zero n lt below = absurd (omega (arith, lt))
 path_there deps nodes h (suc steps) n lt below =
-    elim (greatest_is (levels_of deps n) 0 (filter (λ (x : Edge). eqb x.to n) (all_edges deps))) [
+    elim (picked max max-either (level_behind (levels_of deps n)) 0 (filter (λ (x : Edge). eqb x.to n) (all_edges deps))) [
       | inl none ↦ ([], tt, sym (level_is deps nodes n below ∙ none))
       | inr some ↦ longer (λ m m_lt m_below. path_there deps nodes h steps m m_lt m_below) some.0 some.1 some.2
     ]
@@ -159,9 +95,9 @@ path_there deps nodes h (suc steps) n lt below =
         → (e : Edge) → Contains (filter (λ (x : Edge). eqb x.to n) (all_edges deps)) e → own_level deps n ≡ level_behind (levels_of deps n) e
         → (path : List Edge) × (IsPathTo deps n path) × (strict_edges path ≡ get_or (levels_of deps nodes) n 0)
     longer earlier e inside is =
-        let there = filter_is (λ (x : Edge). eqb x.to n) (all_edges deps) e inside in
+        let there = Contains-unfilter (λ (x : Edge). eqb x.to n) (all_edges deps) e inside in
         let ends : e.to ≡ n = eqb-true e.to n there.1 in
-        let goes = All-contains (GoesForward nodes) (all_edges deps) e (forward deps nodes h) there.0 in
+        let goes = All-contains (GoesForward nodes) (all_edges deps) e (edges_forward deps nodes h) there.0 in
         let rest = earlier e.from (omega (arith, goes.later, ends)) (omega (arith, goes.later, ends)) in
         (e ∷ rest.0, (there.0, ends, rest.1), omega (arith, strict_edges-cons e rest.0, rest.2, is, level_is deps nodes n below, behind_is deps nodes n e (omega (arith, goes.later, ends)) below))
 
@@ -173,8 +109,8 @@ starts_before deps nodes n h k d lt = of_edge (get_or (filter (λ (e : Edge). eq
   where
     of_edge : (e : Edge) → Contains (filter (λ (x : Edge). eqb x.to n) (all_edges deps)) e → e.from < n
     of_edge e inside =
-        let there = filter_is (λ (x : Edge). eqb x.to n) (all_edges deps) e inside in
-        let goes = All-contains (GoesForward nodes) (all_edges deps) e (forward deps nodes h) there.0 in
+        let there = Contains-unfilter (λ (x : Edge). eqb x.to n) (all_edges deps) e inside in
+        let goes = All-contains (GoesForward nodes) (all_edges deps) e (edges_forward deps nodes h) there.0 in
         omega (arith, goes.later, eqb-true e.to n there.1)
 
 -- a level is at most the node's number
@@ -183,7 +119,7 @@ IsSmall-levels_of deps nodes h zero le k lt = absurd (omega (arith, lt))
 IsSmall-levels_of deps nodes h (suc n) le k lt =
     elim (cases_eq k n) [
       | inl same ↦
-          let small = greatest-le (levels_of deps n) 0 n (filter (λ (e : Edge). eqb e.to n) (all_edges deps)) (omega arith) (each (λ m m_lt. IsSmall-levels_of deps nodes h n (omega arith) m m_lt)) in
+          let small = greatest-le (level_behind (levels_of deps n)) 0 n (filter (λ (e : Edge). eqb e.to n) (all_edges deps)) (omega arith) (each (λ m m_lt. IsSmall-levels_of deps nodes h n (omega arith) m m_lt)) in
           omega (arith, level_is deps (suc n) k lt, ap (own_level deps) same, small)
       | inr other ↦
           let small = IsSmall-levels_of deps nodes h n (omega arith) k (omega arith) in
@@ -195,9 +131,9 @@ IsSmall-levels_of deps nodes h (suc n) le k lt =
       where
         of_edge : (e : Edge) → Contains (filter (λ (x : Edge). eqb x.to n) (all_edges deps)) e → level_behind (levels_of deps n) e ≤ n
         of_edge e inside =
-            let there = filter_is (λ (x : Edge). eqb x.to n) (all_edges deps) e inside in
+            let there = Contains-unfilter (λ (x : Edge). eqb x.to n) (all_edges deps) e inside in
             let ends : e.to ≡ n = eqb-true e.to n there.1 in
-            let goes = All-contains (GoesForward nodes) (all_edges deps) e (forward deps nodes h) there.0 in
+            let goes = All-contains (GoesForward nodes) (all_edges deps) e (edges_forward deps nodes h) there.0 in
             let small = earlier e.from (omega (arith, goes.later, ends)) in
             let one = weight_small e in
             omega (arith, small, one, goes.later, ends)

@@ -9,7 +9,7 @@ use Rattle.std.proofs.lemmas.List.Quantifiers.{all_pairs_push}
 use Rattle.std.proofs.lemmas.Option.{same_Some}
 use Rattle.std.proofs.lemmas.Slice.Eq.{bytes_eq-Decides}
 use Rattle.rmt_bits.proofs.AllLaws.{All-find}
-use Rattle.rmt_ast.proofs.WellFormedLemmas.{AllPairs-none}
+use Rattle.rmt_bits.proofs.PairLaws.{AllPairs-none}
 use Rattle.rmt_ast.specs.declared.entry.Entry.{Entry}
 use Rattle.rmt_ast.specs.EntryLists.{IsEntry, Terms}
 use Rattle.rmt_entries.specs.Entries.{Read, admitted, entries_at, entry_of, has_keys_once, identity, is_repeated, of_table, read_line, read_words}

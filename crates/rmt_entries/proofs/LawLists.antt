@@ -11,7 +11,6 @@ use Rattle.std.proofs.lemmas.List.Kept.{AllPairs-filter}
 use Rattle.std.proofs.lemmas.Option.{get_or_from_slice_get, same_Some, slice_get-get_or, slice_get-map, slice_get_within}
 use Rattle.rmt_bits.proofs.AllLaws.{All-slice_get}
 use Rattle.rmt_bits.proofs.ListLaws.{slice_get-item}
-use Rattle.rmt_ast.proofs.WellFormedLemmas.{AllPairs-none}
 use Rattle.rmt_ast.specs.declared.program.Program.{Program}
 use Rattle.rmt_ast.specs.declared.program.Test.{Test}
 use Rattle.rmt_ast.specs.declared.program.Table.{Table}
@@ -36,7 +35,7 @@ use Rattle.rmt_entries.proofs.GatherLaws.{by_node_at, by_node_more, length-by_no
 use Rattle.rmt_entries.proofs.LawKeys.{same_Ok}
 use Rattle.rmt_entries.proofs.LawLines.{AreRead, Fit, IsOwn, none_read, read_push}
 use Rattle.rmt_entries.proofs.ProgramLaws.{are_applied, have_params}
-use Rattle.rmt_bits.proofs.PairLaws.{AllPairs-append, AllPairs-map}
+use Rattle.rmt_bits.proofs.PairLaws.{AllPairs-append, AllPairs-map, AllPairs-none}
 
 -- all lines
 reading_law : (terms : List (Option Terms)) (tables : List AppliedTable) (es out : List Entry) (ls : List (ℕ × List ℕ)) → All (Fit terms) tables → AreRead terms es → reading tables es ls ≡ Ok out → AreRead terms out

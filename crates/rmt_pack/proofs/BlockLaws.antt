@@ -1,16 +1,14 @@
 -- Lists of blocks that differ, and entries in the rows of their units.
-use Rattle.std.proofs.Common.{◌≡◌, ◌≢◌, ℕ, ◌∷◌, suc, zero, ◌+◌, ◌*◌, ◌^◌, ◌<◌, ◌≤◌, List, ◌++◌, length, get_or, take, drop, map, true, sym, ap, ◌∙◌, subst, arith, inl, inr, [], refl, ◌/◌, ◌%◌}
+use Rattle.std.proofs.Common.{◌≡◌, ◌≢◌, ℕ, ◌∷◌, suc, zero, ◌+◌, ◌*◌, ◌^◌, ◌<◌, ◌≤◌, List, ◌++◌, length, get_or, take, drop, sym, ap, ◌∙◌, subst, arith, inl, inr, [], refl, ◌/◌, ◌%◌}
 use Rattle.std.specs.Prelude.{All, AllPairs}
 use Rattle.std.specs.List.{range_with_len}
 use Rattle.std.proofs.lemmas.Bool.{cases_eq, cases_order}
-use Rattle.std.proofs.lemmas.List.{get_or_default, get_or-take, get_or-drop, length-take, length-drop, get_or_append_left, get_or-append-add, length-append, map-id}
+use Rattle.std.proofs.lemmas.List.{get_or_default, get_or-take, get_or-drop, length-take, length-drop, get_or_append_left, get_or-append-add, length-append}
 use Rattle.std.proofs.lemmas.List.FromFn.{length-range_with_len, get_or-range_with_len}
 use Rattle.std.proofs.lemmas.Nat.{mul-le, same_from_place, pow_pos, div_below}
 use Rattle.rmt_bits.specs.Bits.{slice, deposit}
 use Rattle.rmt_bits.proofs.BitLaws.{slice-deposit_same, slice-deposit_above, slice-deposit_below, deposit-add, deposit-lt}
 use Rattle.rmt_config.specs.Cells.{Blocks, unit_row, blocks_at}
-use Rattle.rmt_config.specs.Order.{rises_from}
-use Rattle.rmt_config.proofs.RiseLaws.{rise-below}
 use Rattle.rmt_pack.specs.Cells.{PutsBits}
 use Rattle.rmt_pack.proofs.RunLaws.{unit_row-same}
 use Rattle.std.proofs.Math.Nat.{mod-eq_of_lt}
@@ -27,28 +25,11 @@ place-same xs i j apart li lj e =
       | inr (inr more) ↦ absurd (apart j i 0 more li (sym e))
     ]
 
-pub apart-left : (xs ys : List ℕ) → AllPairs ◌≢◌ (xs ++ ys) → AllPairs ◌≢◌ xs
-apart-left xs ys apart i j d less lj e =
-    let long : j < length (xs ++ ys) = omega (arith, length-append xs ys) in
-    apart i j d less long (get_or_append_left xs ys d i (omega arith) ∙ e ∙ sym (get_or_append_left xs ys d j lj))
-
-pub apart-right : (xs ys : List ℕ) → AllPairs ◌≢◌ (xs ++ ys) → AllPairs ◌≢◌ ys
-apart-right xs ys apart i j d less lj e =
-    let long : length xs + j < length (xs ++ ys) = omega (arith, length-append xs ys) in
-    let more : length xs + i < length xs + j = omega arith in
-    apart (length xs + i) (length xs + j) d more long (get_or-append-add xs ys i d ∙ e ∙ sym (get_or-append-add xs ys j d))
-
 -- an item of one list isn't one of the other
 pub apart-both : (xs ys : List ℕ) (i j : ℕ) → AllPairs ◌≢◌ (xs ++ ys) → i < length xs → j < length ys → get_or xs i 0 ≡ get_or ys j 0 → ⊥
 apart-both xs ys i j apart li lj e =
     let long : length xs + j < length (xs ++ ys) = omega (arith, length-append xs ys) in
     apart i (length xs + j) 0 (omega arith) long (get_or_append_left xs ys 0 i li ∙ e ∙ sym (get_or-append-add xs ys j 0))
-
-pub All-front : (P : ℕ → Type 0) (xs ys : List ℕ) → All P (xs ++ ys) → All P xs
-All-front P xs ys all i d li = subst P (get_or_append_left xs ys d i li) (all i d (omega (arith, length-append xs ys)))
-
-pub All-back : (P : ℕ → Type 0) (xs ys : List ℕ) → All P (xs ++ ys) → All P ys
-All-back P xs ys all i d li = subst P (get_or-append-add xs ys i d) (all (length xs + i) d (omega (arith, length-append xs ys)))
 
 -- ---- some of a list
 
@@ -212,15 +193,6 @@ puts-both old mid new row blocks low a b y z hy hz p q = record {
   here = q.here ∙ ap (λ n. deposit n low b z) p.here ∙ deposit-add (unit_row 112 old row blocks) low a b y z hy hz;
   elsewhere = λ block r out. q.elsewhere block r out ∙ p.elsewhere block r out;
 }
-
--- ---- lists of blocks that rise
-
--- numbers that rise differ
-pub apart-from_rise : (xs : List ℕ) → rises_from 0 xs ≡ true → AllPairs ◌≢◌ xs
-apart-from_rise xs rise i j d less lj e =
-    let mapped : rises_from 0 (map (λ n. n) xs) ≡ true = ap (rises_from 0) (map-id xs) ∙ rise in
-    let lt = rise-below (λ n. n) 0 xs mapped i j d less lj in
-    omega (arith, lt, e)
 
 -- ---- blocks numbered one after another
 

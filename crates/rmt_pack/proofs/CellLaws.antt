@@ -1,10 +1,11 @@
 -- Cells that are written and read.
-use Rattle.std.proofs.Common.{◌≡◌, ℕ, ◌+◌, ◌-◌, ◌*◌, ◌/◌, ◌%◌, ◌^◌, ◌<◌, List, length, get_or, take, drop, Bool, true, false, cond, eqb, sym, refl, ap, ◌∙◌, subst, arith, inl, inr}
+use Rattle.std.proofs.Common.{◌≡◌, ◌≢◌, ℕ, ◌+◌, ◌-◌, ◌*◌, ◌/◌, ◌%◌, ◌^◌, ◌<◌, List, length, get_or, take, drop, Bool, true, false, cond, eqb, sym, refl, ap, ◌∙◌, subst, arith}
 use Rattle.std.proofs.lemmas.Nat.{pow-add, mul-add-lt, shr_high, mod_low, mod_below}
 use Rattle.std.proofs.Math.Nat.{mod-eq_of_lt}
 use Rattle.rmt_bits.specs.Bits.{slice, number_of, bytes_of}
 use Rattle.rmt_bits.proofs.BitLaws.{slice-lt, slice-add}
 use Rattle.rmt_bits.proofs.ByteLaws.{AreBytes, bytes_of-number_of}
+use Rattle.rmt_bits.proofs.PairLaws.{AllPairs-left}
 use Rattle.rmt_config.specs.Shapes.{divided_up, record_width, records_a_row, record_units}
 use Rattle.rmt_config.specs.Cells.{Blocks, unit_row, blocks_at, local_index, record_at, data_at, row_record, is_occupied, visible_bits, code_of}
 use Rattle.rmt_config.proofs.HeadBits.{slice-head}
@@ -13,10 +14,9 @@ use Rattle.rmt_pack.specs.declared.shape.Shape.{Shape}
 use Rattle.rmt_pack.specs.Head.{number_of_head, head_of}
 use Rattle.rmt_pack.specs.Shape.{is_exact, cells_in, IsShape}
 use Rattle.rmt_pack.specs.Cells.{place_of, entry_of, record_of, HoldsCell, PutsBits, PutsEntry, OtherEntriesStay, RecordsStay}
-use Rattle.rmt_pack.proofs.BlockLaws.{apart-left, apart-both, entry-put, entry-stays, row-behind, puts-both, ends-stay, entry-zero}
+use Rattle.rmt_pack.proofs.BlockLaws.{apart-both, entry-put, entry-stays, row-behind, puts-both, ends-stay, entry-zero}
 use Rattle.rmt_pack.proofs.ShapeLaws.{exact-of, exact-cells, cell-same, entry-room}
 use Rattle.rmt_config.specs.CellForm.{EndsAt}
-use Rattle.rmt_pack.proofs.RunLaws.{unit_row-same}
 
 -- ---- heads
 
@@ -116,7 +116,7 @@ cell-others old new s n x is exact ln small p m lm ne =
     let d = place_of s m in
     let below : (k : ℕ) → k < cells_in s → k < 4096 * s.quanta * s.per = λ k lk. subst (λ (z : ℕ). k < z) (exact-cells s exact) lk in
     entry-stays old new s.keys s.width (c.row / 1024 * 4 + c.way) (c.row % 1024) c.position (s.key + 8) x (d.row / 1024 * 4 + d.way) (d.row % 1024) d.position
-    (apart-left s.keys s.records is.apart) small p
+    (AllPairs-left ◌≢◌ s.keys s.records is.apart) small p
     (λ eu er ea. ne (cell-same m n s.per s.quanta has.some_per is.some_quanta (below m lm) (below n ln) eu er ea))
 
 -- records stay where the rows of their blocks do
@@ -175,7 +175,7 @@ cell-ends old new s n x is exact small p ends =
     let c = place_of s n in
     let has = exact-of s is exact in
     ends-stay old new s.keys s.width (c.row / 1024 * 4 + c.way) (c.row % 1024) (c.position * (s.key + 8)) (s.key + 8) x (s.per * (s.key + 8))
-    (apart-left s.keys s.records is.apart) (entry-room c.position s.per (s.key + 8) (s.per * (s.key + 8)) (mod_below n s.per has.some_per) (omega arith)) small p ends
+    (AllPairs-left ◌≢◌ s.keys s.records is.apart) (entry-room c.position s.per (s.key + 8) (s.per * (s.key + 8)) (mod_below n s.per has.some_per) (omega arith)) small p ends
 
 -- ---- rows that are all 0, and rows that are the same
 
@@ -183,15 +183,3 @@ pub cell-zero : (sram : Blocks) (s : Shape) (n : ℕ) → ((b r : ℕ) → sram 
 cell-zero sram s n none =
     let c = place_of s n in
     entry-zero 112 sram (c.row % 1024) (blocks_at s.keys s.width (c.row / 1024 * 4 + c.way)) (c.position * (s.key + 8)) (s.key + 8) none
-
-pub cell-same_rows : (old new : Blocks) (s : Shape) (n : ℕ) → ((b r : ℕ) → new b r ≡ old b r) → entry_of new s n ≡ entry_of old s n
-cell-same_rows old new s n same =
-    let c = place_of s n in
-    let bs = blocks_at s.keys s.width (c.row / 1024 * 4 + c.way) in
-    ap (λ v. slice v (c.position * (s.key + 8)) (s.key + 8)) (unit_row-same 112 new old (c.row % 1024) bs (λ i lt. same (get_or bs i 0) (c.row % 1024)))
-
-pub record-same_rows : (old new : Blocks) (s : Shape) (n : ℕ) → ((b r : ℕ) → new b r ≡ old b r) → record_of new s n ≡ record_of old s n
-record-same_rows old new s n same =
-    records-stay old new s (λ row each unit.
-    let bs = blocks_at s.records each unit in
-    unit_row-same 112 new old row bs (λ i lt. same (get_or bs i 0) row)) n

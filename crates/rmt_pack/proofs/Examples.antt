@@ -1,14 +1,12 @@
 -- Cells and records of small parts, computed.
-use Rattle.std.proofs.Common.{◌≡◌, ℕ, ◌*◌, ◌-◌, ◌^◌, ◌<◌, [], ◌++◌, true, cond, eqb, ltb, ◌&&◌, refl, arith}
+use Rattle.std.proofs.Common.{◌≡◌, ℕ, ◌*◌, ◌-◌, ◌^◌, [], true, cond, eqb, ltb, ◌&&◌, refl, arith}
 use Rattle.std.specs.List.{range_with_len}
-use Rattle.std.proofs.lemmas.Bool.{ltb-true}
-use Rattle.rmt_bits.proofs.AllLaws.{All-from_test}
 use Rattle.rmt_config.specs.Cells.{Blocks}
 use Rattle.rmt_pack.specs.declared.shape.Shape.{Shape}
 use Rattle.rmt_pack.specs.Head.{number_of_head, head_of}
 use Rattle.rmt_pack.specs.Shape.{cells_in, IsShape}
 use Rattle.rmt_pack.specs.Cells.{entry_of, record_of}
-use Rattle.rmt_pack.proofs.BlockLaws.{apart-from_rise}
+use Rattle.rmt_pack.proofs.ShapeLaws.{exact-is, ternary-is}
 
 -- ---- heads
 
@@ -31,16 +29,9 @@ one block row x b r = cond (eqb b block && eqb r row) x 0
 abbrev small : Shape
 small = record { memory = 1; key = 48; width = 1; per = 2; quanta = 2; held = 16; keys = range_with_len 0 8; records = range_with_len 8 4 }
 
-small-is : IsShape small
-small-is = record {
-  some_key = omega arith;
-  most_key = omega arith;
-  some_quanta = omega arith;
-  most_quanta = omega arith;
-  memory = record { some_width = omega arith; some_per = omega arith; fits = omega arith; keys = refl; records = refl };
-  in_sram = All-from_test (λ (b : ℕ). b < 106) (λ b. ltb b 106) (λ b e. ltb-true b 106 e) (range_with_len 0 8 ++ range_with_len 8 4) refl;
-  apart = apart-from_rise (range_with_len 0 8 ++ range_with_len 8 4) refl;
-}
+small-part : IsShape small
+small-part =
+    exact-is small 0 8 4 refl (omega arith) (omega arith) (omega arith) (omega arith) (omega arith) (omega arith) (omega arith) refl refl refl refl (omega arith)
 
 small-cells : cells_in small ≡ 16384
 small-cells = refl
@@ -130,16 +121,8 @@ record_of_none = refl
 abbrev ternary : Shape
 ternary = record { memory = 2; key = 40; width = 0; per = 0; quanta = 2; held = 24; keys = []; records = range_with_len 0 2 }
 
-ternary-is : IsShape ternary
-ternary-is = record {
-  some_key = omega arith;
-  most_key = omega arith;
-  some_quanta = omega arith;
-  most_quanta = omega arith;
-  memory = record { kind = refl; no_width = refl; no_per = refl; head = omega arith; keys = refl; records = refl };
-  in_sram = All-from_test (λ (b : ℕ). b < 106) (λ b. ltb b 106) (λ b e. ltb-true b 106 e) (range_with_len 0 2) refl;
-  apart = apart-from_rise (range_with_len 0 2) refl;
-}
+ternary-part : IsShape ternary
+ternary-part = ternary-is ternary 0 2 refl (omega arith) (omega arith) (omega arith) (omega arith) refl refl (omega arith) refl refl refl (omega arith)
 
 ternary-rows : cells_in ternary ≡ 4096
 ternary-rows = refl

@@ -26,13 +26,20 @@ abbrev pub narrower : Need → ℕ → List Format
 narrower n k = flat_map (layouts_of_width n) (range_with_len 1 (k - 1))
 
 -- those and the first cells of the next width, with one more
-pub layouts_more : (n : Need) (front : List Format) (k p : ℕ) → 0 < p
+layouts_more : (n : Need) (front : List Format) (k p : ℕ) → 0 < p
     → (front ++ map (exact_layout n k) (range_with_len 1 (p - 1))) ++ exact_layout n k p ∷ [] ≡ front ++ map (exact_layout n k) (range_with_len 1 (p + 1 - 1))
 layouts_more n front k p pos =
     let before : (p - 1) + 1 ≡ p + 1 - 1 = omega arith in
     let at : 1 + (p - 1) ≡ p = omega arith in
     append_assoc front _ _ ∙ ap (λ (fs : List Format). front ++ fs)
     (sym (map-range_with_len_more (exact_layout n k) 1 (p - 1) p at) ∙ ap (λ (m : ℕ). map (exact_layout n k) (range_with_len 1 m)) before)
+
+-- the layouts before one of a width and so many cells, and with it
+abbrev pub seen_before : Need → ℕ → ℕ → List Format
+seen_before n k p = narrower n k ++ map (exact_layout n k) (range_with_len 1 (p - 1))
+
+pub seen_more : (n : Need) (k p : ℕ) (f : Format) → 0 < p → f ≡ exact_layout n k p → seen_before n k p ++ f ∷ [] ≡ seen_before n k (p + 1)
+seen_more n k p f pos is = ap (λ (g : Format). seen_before n k p ++ g ∷ []) is ∙ layouts_more n (narrower n k) k p pos
 
 -- all layouts of a width stand behind those of the narrower ones
 pub narrower_more : (n : Need) (k m : ℕ) → 0 < k → m ≡ most_cells n k
@@ -100,11 +107,6 @@ has_format n need = record {
 }
 
 -- ---- what holds of all formats
-
--- of all that pass a test
-of_rest : {X : Type 0} (P : X → Type 0) (b : Bool) (x : X) (xs : List X) → All P (cond b (x ∷ xs) xs) → All P xs
-of_rest P true x xs all = All-tail P x xs all
-of_rest P false x xs all = all
 
 filtered_by : {X : Type 0} (P : X → Type 0) (b : Bool) (x : X) (xs : List X) → (b ≡ true → P x) → All P xs → All P (cond b (x ∷ xs) xs)
 filtered_by P true x xs here rest = All-cons P x xs (here refl) rest

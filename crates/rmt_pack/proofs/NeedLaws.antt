@@ -1,11 +1,11 @@
 -- What the tables of a well-formed program need.
-use Rattle.std.proofs.Common.{◌≡◌, ℕ, ◌*◌, ◌^◌, ◌<◌, ◌≤◌, List, [], ◌∷◌, Option, Some, None, map, length, max, refl, ap, sym, subst, arith, unwrap_or}
-use Rattle.std.specs.Prelude.{All, fold, sum, slice_get, option_map}
-use Rattle.std.proofs.Math.Nat.{max-le}
-use Rattle.std.proofs.lemmas.List.Elements.{All-nil, All-cons, All-head, All-tail, All-map, All-weaker}
+use Rattle.std.proofs.Common.{◌≡◌, ℕ, ◌*◌, ◌^◌, ◌<◌, ◌≤◌, List, [], ◌∷◌, Option, Some, None, map, length, refl, ap, sym, subst, arith, unwrap_or}
+use Rattle.std.specs.Prelude.{All, sum, slice_get, option_map}
+use Rattle.std.proofs.lemmas.List.Elements.{All-nil, All-cons, All-head, All-map, All-weaker}
 use Rattle.std.proofs.lemmas.List.Sums.{sum_by-cons, sum_by-le}
 use Rattle.rmt_bits.proofs.AllLaws.{All-slice_get}
 use Rattle.rmt_bits.proofs.ListLaws.{slice_get-item}
+use Rattle.rmt_bits.proofs.MostLaws.{greatest-le}
 use Rattle.rmt_ast.specs.declared.program.Program.{Program}
 use Rattle.rmt_ast.specs.declared.program.Field.{Field}
 use Rattle.rmt_ast.specs.declared.program.Action.{Action}
@@ -16,12 +16,6 @@ use Rattle.rmt_ast.specs.State.{width_of}
 use Rattle.rmt_ast.specs.WellFormed.{IsProgram, IsTable, IsKeyed, HasKey, IsAction, IsWidth, bits_of}
 use Rattle.rmt_pack.specs.Formats.{IsNeed, HasNeed}
 use Rattle.rmt_pack.specs.Placements.{key_bits, data_bits, param_bits, table_need}
-
--- the greatest of numbers that are all within a bound is within it
-pub fold-max-le : (bound a : ℕ) (xs : List ℕ) → a ≤ bound → All (λ x. x ≤ bound) xs → fold max a xs ≤ bound
-fold-max-le bound a [] first rest = first
-fold-max-le bound a (x ∷ xs) first rest =
-    fold-max-le bound (max a x) xs (max-le first (All-head (λ y. y ≤ bound) x xs rest)) (All-tail (λ y. y ≤ bound) x xs rest)
 
 -- the parameters of an action have at most 2,048 bits
 params-few : (params : List ℕ) → All IsWidth params → length params ≤ 16 → sum params ≤ 2048
@@ -44,7 +38,7 @@ every P each (x ∷ xs) = All-cons P x xs (each x) (every P each xs)
 
 pub data_bits-few : (p : Program) → IsProgram p → (t : Table) → data_bits p t ≤ 2048
 data_bits-few p is t =
-    fold-max-le 2048 0 (map (param_bits p) t.actions) (omega arith)
+    greatest-le (λ x. x) 0 2048 (map (param_bits p) t.actions) (omega arith)
     (All-map (λ x. x ≤ 2048) (param_bits p) t.actions (every (λ a. param_bits p a ≤ 2048) (param_bits-few p is) t.actions))
 
 -- a field has at least one bit

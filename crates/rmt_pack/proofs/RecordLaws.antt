@@ -2,8 +2,9 @@
 use Rattle.std.proofs.Common.{◌≡◌, ◌≢◌, ℕ, ◌+◌, ◌-◌, ◌*◌, ◌/◌, ◌%◌, ◌^◌, ◌<◌, ◌≤◌, List, length, take, drop, cond, sym, refl, ap, ◌∙◌, subst, arith, inl, inr}
 use Rattle.std.proofs.lemmas.Bool.{cases_eq, cases_lt}
 use Rattle.std.proofs.lemmas.Nat.{mul-le, mul-add-lt, div_below, mod_below, div-add-mod', same_from_place}
-use Rattle.rmt_bits.specs.Bits.{slice, deposit, number_of, bytes_of}
-use Rattle.rmt_bits.proofs.ByteLaws.{AreBytes, bytes_of-number_of, deposit_none}
+use Rattle.rmt_bits.specs.Bits.{slice, number_of, bytes_of}
+use Rattle.rmt_bits.proofs.ByteLaws.{AreBytes, bytes_of-number_of}
+use Rattle.rmt_bits.proofs.PairLaws.{AllPairs-right}
 use Rattle.rmt_config.specs.Shapes.{divided_up, record_width, records_a_row, record_units}
 use Rattle.rmt_config.specs.Cells.{Blocks, unit_row, blocks_at, local_index, record_at, data_at, row_record}
 use Rattle.rmt_config.proofs.CellPlaces.{three-of}
@@ -11,7 +12,7 @@ use Rattle.rmt_config.proofs.CellLayouts.{up-enough, records-are}
 use Rattle.rmt_pack.specs.declared.shape.Shape.{Shape}
 use Rattle.rmt_pack.specs.Shape.{is_exact, cells_in, IsShape}
 use Rattle.rmt_pack.specs.Cells.{place_of, record_of, HoldsRecord, PutsBits, PutsRecord, OtherRecordsStay, EntriesStay, quantum_in, index_in, thousands_in}
-use Rattle.rmt_pack.proofs.BlockLaws.{apart-right, apart-both, entry-put, entry-stays, row-behind, ends-stay, ends-zero, entry-zero}
+use Rattle.rmt_pack.proofs.BlockLaws.{apart-both, entry-put, entry-stays, row-behind, ends-stay, ends-zero, entry-zero}
 use Rattle.rmt_pack.proofs.ShapeLaws.{exact-true, exact-false, exact-of, ternary-of, exact-cells, ternary-cells, way-below, entry-room, cell-same}
 use Rattle.rmt_pack.proofs.CellLaws.{puts-at}
 use Rattle.rmt_config.specs.CellForm.{RecordsEnd}
@@ -119,9 +120,6 @@ record-there quantum unit units width quanta len lq lu e =
     let turned : units * quanta * width ≡ quanta * (units * width) = omega arith in
     omega (arith, le, next, turned, e)
 
-pub record-row : (i q : ℕ) → 0 < q → i % (1024 * q) / q < 1024
-record-row i q some = div_below (i % (1024 * q)) q 1024 some (mod_below i (1024 * q) (omega (arith, some)))
-
 pub record-room : (i n : ℕ) → 0 < n → n < 66000 → i % records_a_row n * n + n ≤ 112 * record_width n
 record-room i n some most =
     let r = records-are n some most in
@@ -151,19 +149,6 @@ record-put old new s n x first row low blocks ef er el eb p =
     let i = index_in s n in
     puts-at old new row (i % (1024 * q) / q) blocks (blocks_at s.records (record_width s.held) (quantum_in s n * record_units (thousands_in s) s.held + i / (1024 * q)))
     low (i % q * s.held) s.held s.held x x p er (eb ∙ ap (λ f. take (record_width s.held) (drop f s.records)) ef) el refl refl
-
--- a record of no bits
-pub record-put_none : (old : Blocks) (s : Shape) (n x : ℕ) → s.held ≡ 0 → x < 2 ^ s.held → PutsRecord old old s n x
-record-put_none old s n x none small =
-    let q = records_a_row s.held in
-    let i = index_in s n in
-    let v = unit_row 112 old (i % (1024 * q) / q) (blocks_at s.records (record_width s.held) (quantum_in s n * record_units (thousands_in s) s.held + i / (1024 * q))) in
-    let below : x < 2 ^ 0 = subst (λ m. x < 2 ^ m) none small in
-    let gone : x ≡ 0 = omega (arith, below) in
-    record {
-      here = sym (ap (λ m. deposit v (i % q * s.held) m x) none ∙ ap (deposit v (i % q * s.held) 0) gone ∙ deposit_none v (i % q * s.held));
-      elsewhere = λ b r out. refl;
-    }
 
 pub record-entry : (old new : Blocks) (s : Shape) (n x : ℕ) → IsShape s → x < 2 ^ s.held → PutsRecord old new s n x → record_of new s n ≡ x
 record-entry old new s n x is small p =
@@ -217,7 +202,7 @@ record-others old new s n x is most ln small p m lm ne =
     ∙ elim (cases_lt 0 s.held) as (λ _. record_at new s.records (thousands_in s) s.held (quantum_in s m) (index_in s m) ≡ record_at old s.records (thousands_in s) s.held (quantum_in s m) (index_in s m)) [
       | inl some ↦
           entry-stays old new s.records (record_width s.held) (unit n) (index_in s n % (1024 * q) / q) (index_in s n % q) s.held x (unit m) (index_in s m % (1024 * q) / q) (index_in s m % q)
-          (apart-right s.keys s.records is.apart) small p (apart some)
+          (AllPairs-right ◌≢◌ s.keys s.records is.apart) small p (apart some)
       | inr none ↦
           none-slice (row_of new) (index_in s m % q * s.held) s.held (omega (arith, none))
           ∙ sym (none-slice (row_of old) (index_in s m % q * s.held) s.held (omega (arith, none)))
@@ -266,10 +251,10 @@ record-ends old new s n x is some most ln small p ends =
     let here = (quantum-below s n is ln).1 in
     record {
       rows = ends-stay old new s.records (record_width s.held) (quantum_in s n * units + i / (1024 * q)) (i % (1024 * q) / q) (i % q * s.held) s.held x (q * s.held)
-          (apart-right s.keys s.records is.apart) room small p ends.rows;
+          (AllPairs-right ◌≢◌ s.keys s.records is.apart) room small p ends.rows;
       quantum = λ u j lu from below.
           entry-stays old new s.records (record_width s.held) (quantum_in s n * units + i / (1024 * q)) (i % (1024 * q) / q) (i % q) s.held x (u * units + j / (1024 * q)) (j % (1024 * q) / q) (j % q)
-          (apart-right s.keys s.records is.apart) small p
+          (AllPairs-right ◌≢◌ s.keys s.records is.apart) small p
           (λ eu er ea.
           let inside = div_below j (1024 * q) units (let some_row = r.some_row in omega (arith, some_row)) below in
           let same = spot-same q units (quantum_in s n) i u j r.some_row (unit-below i (thousands_in s) q r.some_row here) inside eu er ea in

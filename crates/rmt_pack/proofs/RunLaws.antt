@@ -9,7 +9,7 @@ use Rattle.std.proofs.lemmas.Nat.Bits.{same_from_bits_below}
 use Rattle.std.proofs.Math.Nat.{mod-eq_of_lt}
 use Rattle.rmt_bits.specs.Bits.{slice, deposit, number_of}
 use Rattle.rmt_bits.proofs.BitLaws.{slice-lt, mod-from_low, deposit-add}
-use Rattle.rmt_bits.proofs.ByteLaws.{deposit-raised, deposit_none}
+use Rattle.rmt_bits.proofs.ByteLaws.{deposit-raised}
 use Rattle.rmt_config.specs.Cells.{Blocks, unit_row}
 use Rattle.rmt_config.proofs.UnitBits.{Within, unit_bit, slice-bit}
 use Rattle.rmt_pack.specs.Cells.{PutsBits}
@@ -97,19 +97,6 @@ unit_row-slice size held row blocks o t l w lo fits =
 
 -- ---- a run is written from its highest bits on
 
--- before the first piece
-pub puts-none : (old : Blocks) (row : ℕ) (blocks : List ℕ) (low len x : ℕ) → x < 2 ^ len → PutsBits old old row blocks (low + len) (len - len) (x / 2 ^ len)
-puts-none old row blocks low len x small =
-    let none : len - len ≡ 0 = omega arith in
-    let whole : 0 + len ≡ len = omega arith in
-    let below : x / 2 ^ len < 2 ^ 0 = shr_below x 0 len (subst (λ n. x < 2 ^ n) (sym whole) small) in
-    let gone : x / 2 ^ len ≡ 0 = omega (arith, below) in
-    let v = unit_row 112 old row blocks in
-    record {
-      here = sym (ap (λ n. deposit v (low + len) n (x / 2 ^ len)) none ∙ ap (deposit v (low + len) 0) gone ∙ deposit_none v (low + len));
-      elsewhere = λ b r out. refl;
-    }
-
 put-more : (v x low len left l : ℕ) → l ≤ left → left ≤ len → x < 2 ^ len
     → deposit (deposit v (low + left) (len - left) (x / 2 ^ left)) (low + (left - l)) l (slice x (left - l) l) ≡ deposit v (low + (left - l)) (len - (left - l)) (x / 2 ^ (left - l))
 put-more v x low len left l le within small =
@@ -147,22 +134,6 @@ puts-more old mid new row blocks low len left o t l x w apart lo fits place le w
           | inr (inl less) ↦ apart i o 0 less lo eb
           | inr (inr more) ↦ apart o i 0 more li (sym eb)
         ])
-
--- behind the last piece
-pub puts-all : (old new : Blocks) (row : ℕ) (blocks : List ℕ) (low len left x : ℕ) → left ≡ 0
-    → PutsBits old new row blocks (low + left) (len - left) (x / 2 ^ left) → PutsBits old new row blocks low len x
-puts-all old new row blocks low len left x none p =
-    let v = unit_row 112 old row blocks in
-    let e1 : low + left ≡ low = omega arith in
-    let e2 : len - left ≡ len = omega arith in
-    let e3 : x / 2 ^ left ≡ x = ap (λ n. x / 2 ^ n) none ∙ whole x in
-    record {
-      here = p.here ∙ ap (λ n. deposit v n (len - left) (x / 2 ^ left)) e1 ∙ ap (λ n. deposit v low n (x / 2 ^ left)) e2 ∙ ap (deposit v low len) e3;
-      elsewhere = p.elsewhere;
-    }
-  where
-    whole : (n : ℕ) → n / 2 ^ 0 ≡ n
-    whole n = omega arith
 
 -- ---- a run is read from its highest bits on
 

@@ -31,18 +31,23 @@ ternary-cells s ne = ap (λ b. cond b (4096 * s.quanta * s.per) (2048 * s.quanta
 
 -- ---- parts whose blocks are numbered one after another, keys first
 
-pub exact-is : (s : Shape) (a n m : ℕ) → s.memory ≡ 1 → 0 < s.key → s.key ≤ 640 → 0 < s.quanta → s.quanta ≤ 106 → 0 < s.width → 0 < s.per
-    → s.per * (s.key + 8) ≤ 112 * s.width → s.keys ≡ range_with_len a n → s.records ≡ range_with_len (a + n) m
-    → n ≡ (exact_shape s.width s.per s.quanta s.held false).keys → m ≡ (exact_shape s.width s.per s.quanta s.held false).records → a + (n + m) ≤ 106 → IsShape s
-exact-is s a n m kind lk hk ld hd lw lp fits ks rs en em within = record {
+numbered-is : (s : Shape) (a n : ℕ) → 0 < s.key → s.key ≤ 640 → 0 < s.quanta → s.quanta ≤ 106 → MatchBool (is_exact s) (IsExact s) (IsTernary s)
+    → s.keys ++ s.records ≡ range_with_len a n → a + n ≤ 106 → IsShape s
+numbered-is s a n lk hk ld hd memory joined within = record {
   some_key = lk;
   most_key = hk;
   some_quanta = ld;
   most_quanta = hd;
-  memory = subst (λ b. MatchBool b (IsExact s) (IsTernary s)) (sym (exact-true s kind)) exact;
-  in_sram = subst (All (λ block. block < 106)) (sym joined) (All-range (λ block. block < 106) a (n + m) (λ w lt. omega (arith, lt, within)));
-  apart = subst (AllPairs ◌≢◌) (sym joined) (range-apart a (n + m));
+  memory = memory;
+  in_sram = subst (All (λ block. block < 106)) (sym joined) (All-range (λ block. block < 106) a n (λ w lt. omega (arith, lt, within)));
+  apart = subst (AllPairs ◌≢◌) (sym joined) (range-apart a n);
 }
+
+pub exact-is : (s : Shape) (a n m : ℕ) → s.memory ≡ 1 → 0 < s.key → s.key ≤ 640 → 0 < s.quanta → s.quanta ≤ 106 → 0 < s.width → 0 < s.per
+    → s.per * (s.key + 8) ≤ 112 * s.width → s.keys ≡ range_with_len a n → s.records ≡ range_with_len (a + n) m
+    → n ≡ (exact_shape s.width s.per s.quanta s.held false).keys → m ≡ (exact_shape s.width s.per s.quanta s.held false).records → a + (n + m) ≤ 106 → IsShape s
+exact-is s a n m kind lk hk ld hd lw lp fits ks rs en em within =
+    numbered-is s a (n + m) lk hk ld hd (subst (λ b. MatchBool b (IsExact s) (IsTernary s)) (sym (exact-true s kind)) exact) joined within
   where
     joined : s.keys ++ s.records ≡ range_with_len a (n + m)
     joined = ap (λ (xs : List ℕ). xs ++ s.records) ks ∙ ap (λ (ys : List ℕ). range_with_len a n ++ ys) rs ∙ range-joined a n m
@@ -58,15 +63,8 @@ exact-is s a n m kind lk hk ld hd lw lp fits ks rs en em within = record {
 
 pub ternary-is : (s : Shape) (a m : ℕ) → s.memory ≡ 2 → 0 < s.key → s.key ≤ 640 → 0 < s.quanta → s.quanta ≤ 106 → s.width ≡ 0 → s.per ≡ 0
     → 8 ≤ s.held → s.keys ≡ [] → s.records ≡ range_with_len a m → m ≡ (ternary_shape s.key s.quanta (s.held - 8) false).records → a + m ≤ 106 → IsShape s
-ternary-is s a m kind lk hk ld hd no_width no_per head ks rs em within = record {
-  some_key = lk;
-  most_key = hk;
-  some_quanta = ld;
-  most_quanta = hd;
-  memory = subst (λ b. MatchBool b (IsExact s) (IsTernary s)) (sym (exact-false s (not_one s.memory kind))) ternary;
-  in_sram = subst (All (λ block. block < 106)) (sym joined) (All-range (λ block. block < 106) a m (λ w lt. omega (arith, lt, within)));
-  apart = subst (AllPairs ◌≢◌) (sym joined) (range-apart a m);
-}
+ternary-is s a m kind lk hk ld hd no_width no_per head ks rs em within =
+    numbered-is s a m lk hk ld hd (subst (λ b. MatchBool b (IsExact s) (IsTernary s)) (sym (exact-false s (not_one s.memory kind))) ternary) joined within
   where
     not_one : (kind : ℕ) → kind ≡ 2 → kind ≡ 1 → ⊥
     not_one kind e f = omega (arith, e, f)
@@ -91,15 +89,6 @@ pub way-below : (n p d : ℕ) → 0 < p → 0 < d → n < 4096 * d * p → n / p
 way-below n p d some_p some_d lt =
     let line : n / p < 4096 * d = div_below n p (4096 * d) some_p lt in
     div_below (n / p) (1024 * d) 4 (omega arith) (omega (arith, line))
-
--- the blocks of a unit of entries stand in their list
-pub unit-there : (row way d k len : ℕ) → row < 1024 * d → way < 4 → len ≡ d * (4 * k) → (row / 1024 * 4 + way) * k + k ≤ len
-unit-there row way d k len lr lw e =
-    let high : row / 1024 < d = div_below row 1024 d (omega arith) (omega (arith, lr)) in
-    let le = mul-le (row / 1024 * 4 + way + 1) k (d * 4) k (omega (arith, high, lw)) (omega arith) in
-    let next : (row / 1024 * 4 + way + 1) * k ≡ (row / 1024 * 4 + way) * k + k = omega arith in
-    let turned : d * (4 * k) ≡ d * 4 * k = omega arith in
-    omega (arith, le, next, turned, e)
 
 -- an entry lies in its row
 pub entry-room : (at p e size : ℕ) → at < p → p * e ≤ size → at * e + e ≤ size

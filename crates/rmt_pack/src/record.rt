@@ -1,6 +1,6 @@
 //! The records of cells of exact parts and of rows of ternary parts.
 
-ghost use Rattle.std.specs.Prelude.{◌≡◌, ◌+◌, ◌*◌, ◌-◌, ◌/◌, ◌%◌, ◌^◌, ◌<◌, ◌≤◌, length};
+ghost use Rattle.std.specs.Prelude.{◌≡◌, ◌≢◌, ◌+◌, ◌*◌, ◌-◌, ◌/◌, ◌%◌, ◌^◌, ◌<◌, ◌≤◌, length, take, drop, All, AllPairs};
 ghost use Rattle.rmt_bits.specs.Bits.{number_of};
 ghost use Rattle.rmt_config.specs.Shapes.{divided_up as divided_up_of, record_width as record_width_of, records_a_row as records_a_row_of, record_units as record_units_of};
 ghost use Rattle.rmt_pack.specs.Rows.{blocks_of};
@@ -103,6 +103,22 @@ fn spot_of(shape: &Shape, cell: u32) -> Spot
     }
 }
 
+/// The blocks side by side of a record, from one on.
+fn record_blocks(shape: &Shape, first: usize) -> &[u8]
+    requires shape { IsShape shape.now }
+    requires there { first + record_width_of shape.now.held ≤ length shape.now.records }
+    ensures part { result.now ≡ take (record_width_of shape.now.held) (drop first shape.now.records) }
+    ensures many { length result.now ≡ record_width_of shape.now.held }
+    ensures in_sram { All (λ block. block < 106) result.now }
+    ensures apart { AllPairs ◌≢◌ result.now }
+{
+    blocks_from(
+        shape.records.as_slice(),
+        first,
+        record_width(shape.held) as usize,
+    )
+}
+
 /// Puts bytes into the record of a cell or row; a record of no bits has no place.
 fn put_record(rows: &mut Rows, shape: &Shape, cell: u32, held: &[u8])
     requires shape { IsShape shape.now }
@@ -116,8 +132,7 @@ fn put_record(rows: &mut Rows, shape: &Shape, cell: u32, held: &[u8])
         return;
     }
     let spot = spot_of(shape, cell);
-    let width = record_width(shape.held) as usize;
-    let blocks = blocks_from(shape.records.as_slice(), spot.first, width);
+    let blocks = record_blocks(shape, spot.first);
     write_run(rows, blocks, spot.row, spot.low, shape.held as u32, held);
 }
 
@@ -151,7 +166,6 @@ pub fn read_record(rows: &Rows, shape: &Shape, cell: u32, held: &mut [u8])
         return;
     }
     let spot = spot_of(shape, cell);
-    let width = record_width(shape.held) as usize;
-    let blocks = blocks_from(shape.records.as_slice(), spot.first, width);
+    let blocks = record_blocks(shape, spot.first);
     read_run(rows, blocks, spot.row, spot.low, shape.held as u32, held);
 }

@@ -3,6 +3,5 @@ pub mod SetLaws
 pub mod WriterLaws
 pub mod StandingLaws
 pub mod Packed
-pub mod PairLaws
 pub mod PackingLaws
 pub mod FieldCount

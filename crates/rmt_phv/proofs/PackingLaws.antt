@@ -11,6 +11,8 @@ use Rattle.std.proofs.lemmas.List.Quantifiers.{all_pairs_push}
 use Rattle.std.proofs.lemmas.List.Sums.{sum_by_push}
 use Rattle.rmt_bits.specs.Words.{word_size}
 use Rattle.rmt_bits.specs.declared.lane.Lane.{Lane}
+use Rattle.rmt_bits.proofs.AllLaws.{All-unmap}
+use Rattle.rmt_bits.proofs.PairLaws.{AllPairs-left, AllPairs-right, AllPairs-across, AllPairs-map, AllPairs-weaker}
 use Rattle.rmt_ast.specs.declared.program.Program.{Program}
 use Rattle.rmt_ast.specs.declared.program.Field.{Field}
 use Rattle.rmt_ast.specs.declared.program.Action.{Action}
@@ -22,7 +24,6 @@ use Rattle.rmt_ast.specs.WellFormed.{AreDistinct}
 use Rattle.rmt_phv.specs.declared.fault.PhvFull.{PhvFull}
 use Rattle.rmt_phv.specs.Packing.{Piece, map_ok, pieces, pieces_at, first_word, words_for, writes, holds, free_bit, serves, lane_for, lane_then, lanes_for, field_then, places_from, packing}
 use Rattle.rmt_phv.specs.Places.{LiesInWord, AreApart, WritesApart, KeepsApart, written_by, lengths_of}
-use Rattle.rmt_phv.proofs.PairLaws.{AllPairs-left, AllPairs-right, AllPairs-across, AllPairs-map, AllPairs-weaker, All-from_map}
 use Rattle.rmt_phv.proofs.Packed.{pieces_of}
 
 abbrev IsPiece : ℕ → Type 0
@@ -261,7 +262,7 @@ of_field : (P : Piece → Type 0) (n : ℕ) (places : List (List Lane)) (g k : �
 of_field P n [] g k e h = λ i d lt. absurd (omega (arith, lt))
 of_field P n (own ∷ places) zero k e h =
     let same : n ≡ k = omega (arith, e) in
-    subst (λ (m : ℕ). All (λ b. P (at m b)) own) same (All-from_map P (at n) own (front (pieces_at n own) (pieces_of (n + 1) places) h))
+    subst (λ (m : ℕ). All (λ b. P (at m b)) own) same (All-unmap P (at n) own (front (pieces_at n own) (pieces_of (n + 1) places) h))
   where
     front : (xs ys : List Piece) → All P (xs ++ ys) → All P xs
     front [] ys h = All-nil P
@@ -279,7 +280,7 @@ fields_agree p n [] f g i j i_is j_is lt h = λ k d below. absurd (omega (arith,
 fields_agree p n (own ∷ places) f zero i j i_is j_is lt h = absurd (omega (arith, lt))
 fields_agree p n (own ∷ places) zero (suc g) i j i_is j_is lt h =
     let same : n ≡ i = omega (arith, i_is) in
-    let across = All-from_map (λ (x : Piece). All (λ y. Agree p x y) (pieces_of (n + 1) places)) (at n) own (AllPairs-across (Agree p) (pieces_at n own) (pieces_of (n + 1) places) h) in
+    let across = All-unmap (λ (x : Piece). All (λ y. Agree p x y) (pieces_of (n + 1) places)) (at n) own (AllPairs-across (Agree p) (pieces_at n own) (pieces_of (n + 1) places) h) in
     subst (λ (m : ℕ). All (λ a. All (λ b. Agree p (at m a) (at j b)) (lanes_of places g)) own) same
     (λ k d below. of_field (λ y. Agree p (at n (get_or own k d)) y) (n + 1) places g j (omega (arith, j_is)) (across k d below))
 fields_agree p n (own ∷ places) (suc f) (suc g) i j i_is j_is lt h =

@@ -2,9 +2,8 @@
 use Rattle.std.proofs.Common.{◌≡◌, ℕ, suc, ◌+◌, ◌-◌, ◌<◌, ◌≤◌, List, [], ◌∷◌, ◌++◌, length, get_or, Bool, true, false, ◌||◌, ◌&&◌, cond, eqb, Some, None, find, replicate, refl, sym, ap, ◌∙◌, inl, inr, arith}
 use Rattle.std.specs.Prelude.{slice_get, IsTrue, ◌↔◌}
 use Rattle.std.specs.List.{list_any, range_with_len}
-use Rattle.std.proofs.Math.ListN.{set}
-use Rattle.std.proofs.lemmas.Bool.{false≢true, eq-eqb, ne_eqb, cases_Bool, cases_eq, and_parts, and_from, false_from_ne_true}
-use Rattle.std.proofs.lemmas.List.{get_or-replicate, get_or-set_same, get_or-set_other, length-set}
+use Rattle.std.proofs.lemmas.Bool.{false≢true, eq-eqb, ne_eqb, cases_Bool, and_parts, and_from, false_from_ne_true}
+use Rattle.std.proofs.lemmas.List.{get_or-replicate}
 use Rattle.std.proofs.lemmas.List.Folds.{list_any-append, list_any_none, list_any_at, Any-from_list_any}
 use Rattle.std.proofs.lemmas.List.Sums.{sum_by_push}
 use Rattle.std.proofs.lemmas.Option.{slice_get_cases, slice_get-get_or}
@@ -15,7 +14,7 @@ use Rattle.rmt_ast.specs.declared.program.Action.{Action}
 use Rattle.rmt_phv.specs.declared.words.Word.{Word}
 use Rattle.rmt_phv.specs.Packing.{Piece, pieces_at, writes, holds, free_bit}
 use Rattle.rmt_phv.specs.Sets.{has, Meet}
-use Rattle.rmt_phv.specs.Writers.{assigns, IsWriters}
+use Rattle.rmt_phv.specs.Writers.{assigns}
 use Rattle.rmt_phv.specs.Standing.{Stands, Packs, IsNext}
 use Rattle.rmt_phv.proofs.WriterLaws.{has-zeros, assigns_at, assigns_past}
 
@@ -43,33 +42,6 @@ holds_more test taken f lane v = list_any-append (λ (x : Piece). eqb x.lane.wor
 or_none : (b : Bool) → (b || false) ≡ b
 or_none true = refl
 or_none false = refl
-
-pub stands_more : (p : Program) (f : ℕ) (taken : List Piece) (words : List Word) (writers : List ℕ) (lane : Lane) (d word : Word)
-    → Stands p taken words → IsWriters p f writers → lane.word < 224 → word.used ≡ (get_or words lane.word d).used + lane.len
-    → ((n : ℕ) → has word.writers n ≡ (has (get_or words lane.word d).writers n || has writers n)) → Stands p (more taken f lane) (set words lane.word word)
-stands_more p f taken words writers lane d word stands writes below used united = record {
-  size = length-set words lane.word word ∙ stands.size;
-  used = λ w e lt. elim (cases_eq w lane.word) [
-    | inl same ↦
-        let read : get_or (set words lane.word word) w e ≡ word = ap (λ k. get_or (set words lane.word word) k e) same ∙ get_or-set_same words lane.word word e (omega (arith, stands.size, below)) in
-        ap (λ (x : Word). x.used) read ∙ used ∙ ap (λ k. k + lane.len) (stands.used lane.word d below)
-        ∙ sym (free_bit_more taken f lane w ∙ rw (eq-eqb lane.word w (sym same)) (ap (λ k. free_bit taken k + lane.len) same))
-    | inr other ↦
-        ap (λ (x : Word). x.used) (get_or-set_other words lane.word w word e other) ∙ stands.used w e lt
-        ∙ sym (free_bit_more taken f lane w ∙ rw (ne_eqb lane.word w (λ e. other (sym e))) (omega arith))
-  ];
-  writers = λ w n e lt. elim (cases_eq w lane.word) [
-    | inl same ↦
-        let read : get_or (set words lane.word word) w e ≡ word = ap (λ k. get_or (set words lane.word word) k e) same ∙ get_or-set_same words lane.word word e (omega (arith, stands.size, below)) in
-        ap (λ (x : Word). has x.writers n) read ∙ united n
-        ∙ ap (λ b. b || has writers n) (stands.writers lane.word n d below)
-        ∙ ap (λ b. holds (assigns p n) taken lane.word || b) (writes n ∙ sym (or_none (assigns p n f)))
-        ∙ sym (holds_more (assigns p n) taken f lane w ∙ rw (eq-eqb lane.word w (sym same)) (ap (λ k. holds (assigns p n) taken k || (assigns p n f || false)) same))
-    | inr other ↦
-        ap (λ (x : Word). has x.writers n) (get_or-set_other words lane.word w word e other) ∙ stands.writers w n e lt
-        ∙ sym (holds_more (assigns p n) taken f lane w ∙ rw (ne_eqb lane.word w (λ e. other (sym e))) (or_none (holds (assigns p n) taken w)))
-  ];
-}
 
 -- the sets of a word and of a field meet where some action assigns the field and one with a piece in the word
 pub clash_is : (p : Program) (f : ℕ) (taken : List Piece) (own : List Lane) (writers : List ℕ) (words : List Word) (w : ℕ) (d : Word) (m : Bool)

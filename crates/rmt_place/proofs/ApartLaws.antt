@@ -9,18 +9,18 @@ use Rattle.rmt_place.specs.declared.demand.Demand.{Demand}
 use Rattle.rmt_place.specs.Needs.{demand_at}
 use Rattle.rmt_place.specs.Placing.{AreTwo, earliest_stage, fitting, order_of, placed_all, placed_node, spread, stages_from, standing_in, taken_part}
 use Rattle.rmt_place.proofs.KeepLaws.{placed_induction, placed_is, spread_own}
-use Rattle.rmt_place.proofs.OrderLaws.{order_goes, pairs_nil}
-use Rattle.rmt_bits.proofs.PairLaws.{AllPairs-tail, AllPairs-head, AllPairs-append}
+use Rattle.rmt_place.proofs.OrderLaws.{order_goes}
+use Rattle.rmt_bits.proofs.PairLaws.{AllPairs-tail, AllPairs-head, AllPairs-append, AllPairs-none}
 
 -- the parts of a node stand in rising stages
 taken_rises : (n k taken : ℕ) → AllPairs (λ (x y : Part). x.stage < y.stage) (taken_part n k taken)
 taken_rises n k taken = by_cases (eqb taken 0)
   where
     by_cases : (b : Bool) → AllPairs (λ (x y : Part). x.stage < y.stage) (cond b [] (record { node = n; stage = k; quanta = taken } ∷ []))
-    by_cases true = pairs_nil (λ (x y : Part). x.stage < y.stage)
+    by_cases true = AllPairs-none (λ (x y : Part). x.stage < y.stage)
     by_cases false =
         AllPairs-cons (λ (x y : Part). x.stage < y.stage) (record { node = n; stage = k; quanta = taken }) []
-        (All-nil (λ (y : Part). k < y.stage)) (pairs_nil (λ (x y : Part). x.stage < y.stage))
+        (All-nil (λ (y : Part). k < y.stage)) (AllPairs-none (λ (x y : Part). x.stage < y.stage))
 
 taken_at : (n k taken : ℕ) → All (λ (x : Part). x.stage ≡ k) (taken_part n k taken)
 taken_at n k taken = by_cases (eqb taken 0)
@@ -30,7 +30,7 @@ taken_at n k taken = by_cases (eqb taken 0)
     by_cases false = All-cons (λ (x : Part). x.stage ≡ k) (record { node = n; stage = k; quanta = taken }) [] refl (All-nil (λ (x : Part). x.stage ≡ k))
 
 spread_rises : (demands : List Demand) (parts : List Part) (n a m left : ℕ) → AllPairs (λ (x y : Part). x.stage < y.stage) (spread demands parts n (range_with_len a m) left).parts
-spread_rises demands parts n a zero left = pairs_nil (λ (x y : Part). x.stage < y.stage)
+spread_rises demands parts n a zero left = AllPairs-none (λ (x y : Part). x.stage < y.stage)
 spread_rises demands parts n a (suc m) left =
     let taken = fitting (standing_in demands parts a) (demand_at demands n) left in
     let rest = (spread demands parts n (range_with_len (a + 1) m) (left - taken)).parts in
@@ -46,7 +46,7 @@ pub parts_apart : (demands : List Demand) (edges : List Edge) (nodes : List ℕ)
     → placed_all demands edges nodes [] ≡ Ok final → AllPairs AreTwo final
 parts_apart demands edges nodes final distinct is =
     (placed_induction demands edges (λ rest parts. AllPairs AreTwo parts × AllPairs (λ m n. m ≡ n → ⊥) rest × All (λ n. All (λ (x : Part). x.node ≡ n → ⊥) parts) rest) step
-    nodes [] final (pairs_nil AreTwo, distinct, λ i d lt. All-nil (λ (x : Part). x.node ≡ get_or nodes i d → ⊥)) is).0
+    nodes [] final (AllPairs-none AreTwo, distinct, λ i d lt. All-nil (λ (x : Part). x.node ≡ get_or nodes i d → ⊥)) is).0
   where
     step : (n : ℕ) (rest : List ℕ) (parts more : List Part)
         → AllPairs AreTwo parts × AllPairs (λ a b. a ≡ b → ⊥) (n ∷ rest) × All (λ m. All (λ (x : Part). x.node ≡ m → ⊥) parts) (n ∷ rest)

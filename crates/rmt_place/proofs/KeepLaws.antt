@@ -16,8 +16,8 @@ use Rattle.rmt_pack.specs.Placements.{is_strict, Keeps}
 use Rattle.rmt_place.specs.declared.demand.Demand.{Demand}
 use Rattle.rmt_place.specs.Needs.{demand_at}
 use Rattle.rmt_place.specs.Placing.{allowed_by, earliest_stage, fitting, hits_from, IsPart, last_stage, order_of, placed_all, placed_node, placed_then, settled, Spread, spread, stages_from, standing_in, Stuck, taken_part}
-use Rattle.rmt_place.proofs.LeastLaws.{items-le}
-use Rattle.rmt_deps.proofs.LevelLaws.{path-le, path_there}
+use Rattle.rmt_bits.proofs.MostLaws.{items-le}
+use Rattle.rmt_deps.proofs.LevelLaws.{edges_forward, path-le, path_there}
 use Rattle.rmt_place.proofs.OrderLaws.{Goes, order_goes}
 use Rattle.rmt_bits.proofs.AllLaws.{All-unfilter}
 use Rattle.rmt_bits.proofs.PairLaws.{AllPairs-tail, AllPairs-head}
@@ -193,9 +193,6 @@ level-le deps nodes e forward there within =
     omega (arith, longer, path.2, longer-strict e path.0)
 
 -- every edge of a placement is kept
-pub edges_forward : (deps : Deps) (nodes : ℕ) → GoForward nodes deps → All (GoesForward nodes) (all_edges deps)
-edges_forward deps nodes forward = All-append (GoesForward nodes) deps.field deps.word forward.field forward.word
-
 in_order : (deps : Deps) (nodes : ℕ) (e : Edge) → GoForward nodes deps → Contains (all_edges deps) e → InOrder e (order_of (levels_of deps nodes))
 in_order deps nodes e forward there i j d lt below to from =
     let levels = levels_of deps nodes in

@@ -5,9 +5,10 @@ use Rattle.std.specs.Prelude.{slice_index}
 use Rattle.std.proofs.Math.ListN.{get_or-append}
 use Rattle.std.proofs.Math.Seq.{get_or-append_seam}
 use Rattle.std.proofs.lemmas.Bool.{cases_lt, eqb-true, eq-eqb, or_cases, false≢true}
-use Rattle.std.proofs.lemmas.List.Elements.{All-nil, All-cons, All-head, All-tail, All-map, All-contains, All-from_get_or, Contains-get_or, Contains-append_right}
+use Rattle.std.proofs.lemmas.List.Elements.{All-nil, All-map, All-contains, All-from_get_or, Contains-get_or, Contains-append_right}
 use Rattle.rmt_bits.proofs.AllLaws.{All-flat_map, All-parts, All-unfilter, All-unmap}
 use Rattle.rmt_bits.proofs.ListLaws.{flat_map-none}
+pub use Rattle.rmt_bits.proofs.MostLaws.{greatest-le, items-le, start-le}
 use Rattle.rmt_ast.specs.declared.deps.Edge.{Edge}
 use Rattle.rmt_config.specs.Resources.{greatest_by, is_in}
 use Rattle.rmt_pack.specs.declared.placement.Part.{Part}
@@ -15,23 +16,6 @@ use Rattle.rmt_pack.specs.Starts.{distance, stages_of, KeepDistances}
 use Rattle.rmt_pack.proofs.FormatLaws.{filtered, of_range, in_range}
 use Rattle.rmt_place.specs.Starting.{asked_by, next_start, stages_in, starts_behind, starts_of}
 use Rattle.rmt_place.proofs.StartLaws.{starts_until, starts_more}
-
--- ---- the greatest of some
-
-pub start-le : {X : Type 0} (f : X → ℕ) (a : ℕ) (xs : List X) → a ≤ fold (λ most x. max most (f x)) a xs
-start-le f a [] = omega arith
-start-le f a (x ∷ xs) = omega (arith, start-le f (max a (f x)) xs)
-
-pub items-le : {X : Type 0} (f : X → ℕ) (a : ℕ) (xs : List X) → All (λ x. f x ≤ fold (λ most x. max most (f x)) a xs) xs
-items-le f a [] = All-nil (λ x. f x ≤ a)
-items-le f a (x ∷ xs) =
-    All-cons (λ y. f y ≤ fold (λ most x. max most (f x)) (max a (f x)) xs) x xs (omega (arith, start-le f (max a (f x)) xs)) (items-le f (max a (f x)) xs)
-
-pub greatest-le : {X : Type 0} (f : X → ℕ) (a most : ℕ) (xs : List X) → a ≤ most → All (λ x. f x ≤ most) xs → fold (λ m x. max m (f x)) a xs ≤ most
-greatest-le f a most [] first rest = first
-greatest-le f a most (x ∷ xs) first rest =
-    let head : f x ≤ most = All-head (λ x. f x ≤ most) x xs rest in
-    greatest-le f (max a (f x)) most xs (omega arith) (All-tail (λ x. f x ≤ most) x xs rest)
 
 -- ---- numbers in lists
 
@@ -117,7 +101,7 @@ next-asked edges parts starts e j there from to lt =
 -- ---- all stages
 
 -- each part stands before the end
-stage-lt : (parts : List Part) (n k : ℕ) → Contains (stages_of parts n) k → k < stages_in parts
+pub stage-lt : (parts : List Part) (n k : ℕ) → Contains (stages_of parts n) k → k < stages_in parts
 stage-lt parts n k there =
     let all : All (λ (x : Part). x.stage + 1 ≤ stages_in parts) parts = items-le (λ (x : Part). x.stage + 1) 0 parts in
     let own : All (λ (x : Part). x.stage < stages_in parts) (filter (λ (x : Part). eqb x.node n) parts) =

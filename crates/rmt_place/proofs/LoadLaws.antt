@@ -92,9 +92,6 @@ numbers_with xs d q =
     let j = sum_more (λ x. x.demand.gates) xs y in
     cc
 
-pub kept_numbers : (xs : List Standing) → are_kept MOST (numbers_of xs) ≡ keeps_limits xs
-kept_numbers xs = refl
-
 -- whether the sums that don't grow keep their limits
 abbrev others_kept : List Standing → Demand → Bool
 others_kept xs d = are_kept (drop 2 MOST) (other_numbers xs d)

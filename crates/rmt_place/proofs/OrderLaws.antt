@@ -1,5 +1,5 @@
 -- The order of nodes: by level, and those of one level by number.
-use Rattle.std.proofs.Common.{◌≡◌, ℕ, zero, suc, ◌+◌, ◌<◌, ◌≤◌, List, [], ◌∷◌, ◌++◌, length, get_or, filter, true, eqb, sym, subst, ap, ◌∙◌, arith}
+use Rattle.std.proofs.Common.{◌≡◌, ℕ, zero, suc, ◌+◌, ◌<◌, ◌≤◌, List, ◌++◌, length, get_or, filter, true, eqb, sym, subst, ap, ◌∙◌, arith}
 use Rattle.std.specs.List.{All, AllPairs, flat_map, range_with_len}
 use Rattle.std.proofs.lemmas.Bool.{eqb-true}
 use Rattle.std.proofs.lemmas.List.Elements.{All-nil, All-append}
@@ -7,15 +7,12 @@ use Rattle.std.proofs.lemmas.List.Kept.{AllPairs-cons, AllPairs-filter}
 use Rattle.rmt_deps.proofs.EdgeLaws.{numbers_more}
 use Rattle.rmt_pack.proofs.FormatLaws.{filtered, in_range}
 use Rattle.rmt_place.specs.Placing.{order_of}
-use Rattle.rmt_bits.proofs.PairLaws.{AllPairs-append}
+use Rattle.rmt_bits.proofs.PairLaws.{AllPairs-append, AllPairs-none}
 
 -- ---- pairs of a list
 
-pub pairs_nil : {X : Type 0} (R : X → X → Type 0) → AllPairs R []
-pairs_nil R = λ i j d lt below. absurd (omega arith)
-
 range_rises : (a m : ℕ) → AllPairs (λ x y. x < y) (range_with_len a m)
-range_rises a zero = pairs_nil (λ x y. x < y)
+range_rises a zero = AllPairs-none (λ x y. x < y)
 range_rises a (suc m) =
     AllPairs-cons (λ x y. x < y) a (range_with_len (a + 1) m) (in_range (λ k. a < k) (a + 1) m (λ k low high. omega arith)) (range_rises (a + 1) m)
 
@@ -57,7 +54,7 @@ levels_below levels (suc k) =
     (λ i d lt. (let is = level_is levels (0 + k) i d lt in omega (arith, is))))
 
 first_goes : (levels : List ℕ) (k : ℕ) → AllPairs (Goes levels) (first_levels levels k)
-first_goes levels zero = pairs_nil (Goes levels)
+first_goes levels zero = AllPairs-none (Goes levels)
 first_goes levels (suc k) =
     let more : suc k ≡ k + 1 = omega arith in
     let e : first_levels levels (suc k) ≡ first_levels levels k ++ of_level levels (0 + k) = ap (first_levels levels) more ∙ numbers_more (of_level levels) 0 k in

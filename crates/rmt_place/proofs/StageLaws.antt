@@ -10,10 +10,9 @@ use Rattle.rmt_config.specs.declared.limits.LimitHit.{LimitHit}
 use Rattle.rmt_pack.specs.declared.placement.Part.{Part}
 use Rattle.rmt_place.specs.declared.demand.Demand.{Demand}
 use Rattle.rmt_place.specs.declared.load.Load.{Load}
-use Rattle.rmt_place.specs.declared.load.TheConstants.{MOST}
 use Rattle.rmt_place.specs.Needs.{Standing, demand_at, keeps_limits}
 use Rattle.rmt_place.specs.Placing.{fitting, hit_beside, hit_list, hits_in, last_stage, Spread, spread, standing_in, taken_part}
-use Rattle.rmt_place.specs.Steps.{Holds, IsWithin, HoldStages, AreLast, numbers_of, are_kept}
+use Rattle.rmt_place.specs.Steps.{Holds, HoldStages, AreLast, are_kept}
 use Rattle.rmt_place.proofs.LoadLaws.{with_one}
 
 -- ---- the order of nodes
@@ -123,16 +122,6 @@ kept_at [] sums i kept below inside = absurd (omega arith)
 kept_at (most ∷ mosts) [] i kept below inside = absurd (omega arith)
 kept_at (most ∷ mosts) (sum ∷ sums) zero kept below inside = leb-true sum most (and_parts _ (are_kept mosts sums) kept).0
 kept_at (most ∷ mosts) (sum ∷ sums) (suc i) kept below inside = kept_at mosts sums i (and_parts _ (are_kept mosts sums) kept).1 (omega arith) (omega arith)
-
-pub holds_within : (xs : List Standing) (load : Load) → Holds xs load → keeps_limits xs ≡ true → IsWithin load
-holds_within xs load h kept = record {
-  sram = omega (arith, h.sram, kept_at MOST (numbers_of xs) 0 kept (omega arith) (omega arith));
-  tcam = omega (arith, h.tcam, kept_at MOST (numbers_of xs) 1 kept (omega arith) (omega arith));
-  slots = omega (arith, h.slots, kept_at MOST (numbers_of xs) 4 kept (omega arith) (omega arith));
-  instructions = omega (arith, h.instructions, kept_at MOST (numbers_of xs) 5 kept (omega arith) (omega arith));
-  held = omega (arith, h.held, kept_at MOST (numbers_of xs) 6 kept (omega arith) (omega arith));
-  gates = omega (arith, h.gates, kept_at MOST (numbers_of xs) 7 kept (omega arith) (omega arith));
-}
 
 -- ---- one stage more
 

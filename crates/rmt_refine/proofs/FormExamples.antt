@@ -9,7 +9,8 @@ use Rattle.rmt_ast.specs.declared.entry.Entry.{Entry}
 use Rattle.rmt_ast.specs.EntryLists.{AreEntries, AreTableEntries, IsEntry, terms_of}
 use Rattle.rmt_ast.specs.WellFormed.{AllNumbered, AreAppliedOnce, BeginsWith, HasFields, HasHeaderNames, HasNames, IsAction, IsAssign, IsHeader, IsNode, IsProgram, IsTable, IsTest, IsWidth, Takes, name_of}
 use Rattle.rmt_ast.proofs.Programs.{action, field, keyless}
-use Rattle.rmt_ast.proofs.WellFormedLemmas.{AllNumbered-from_items, AllPairs-none, AreDistinct-from_apart}
+use Rattle.rmt_bits.proofs.PairLaws.{AllPairs-none}
+use Rattle.rmt_ast.proofs.WellFormedLemmas.{AllNumbered-from_items, AreDistinct-from_apart}
 use Rattle.rmt_refine.proofs.ListedLaws.{three, two}
 use Rattle.rmt_refine.proofs.TwoStages.{back, entries, first_line, go, keep, lists, lowest_last, note, ports, program, restore, second_line, test}
 

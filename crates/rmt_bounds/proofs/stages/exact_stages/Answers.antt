@@ -1,38 +1,30 @@
-use Rattle.std.proofs.Common.{◌≡◌, ℕ, ◌-◌, ◌<◌, List, [], ◌∷◌, ◌++◌, Option, map, filter, ap, ◌∙◌, arith, unwrap_or}
+use Rattle.std.proofs.Common.{◌≡◌, ℕ, ◌-◌, List, Option, map, filter, ap, ◌∙◌, arith, unwrap_or}
 use Rattle.std.specs.List.{flat_map, range_with_len}
 use Rattle.rmt_pack.specs.declared.format.Format.{Format}
-use Rattle.rmt_pack.specs.Formats.{is_in_stage, layouts_of_width, exact_layout, most_cells}
-use Rattle.rmt_pack.proofs.FormatLaws.{narrower, layouts_more, narrower_more}
+use Rattle.rmt_pack.specs.Formats.{is_in_stage, layouts_of_width}
+use Rattle.rmt_pack.proofs.FormatLaws.{narrower_more, seen_before, seen_more}
 use Rattle.rmt_bounds.specs.Bounds.{least_of, stages_for}
 use Rattle.rmt_bounds.proofs.stages.exact_stages.Goals as goal
 
 pub loop-per-preserved : goal.loop-per-preserved
 loop-per-preserved c =
-    let need = c.args.need in
     let k = c.loop-width.width in
     let per = c.loop-per.per in
-    let seen : List Format = narrower need k ++ map (exact_layout need k) (range_with_len 1 (per - 1)) in
-    let pos : 0 < per = omega arith in
     record {
       value =
-          c.with_stages-least.ensures.value seen c.loop-per.invariant.value
-          ∙ ap (λ (fs : List Format). least_of (map stages_for (filter is_in_stage fs)))
-          (ap (λ (f : Format). seen ++ f ∷ []) c.exact_layout.ensures ∙ layouts_more need (narrower need k) k per pos);
+          c.with_stages-least.ensures.value (seen_before c.args.need k per) c.loop-per.invariant.value
+          ∙ ap (λ (fs : List Format). least_of (map stages_for (filter is_in_stage fs))) (seen_more c.args.need k per _ (omega arith) c.exact_layout.ensures);
       small = c.with_stages-least.ensures.small c.loop-per.invariant.small;
     }
 
 pub loop-width-preserved : goal.loop-width-preserved
-loop-width-preserved c =
-    let need = c.args.need in
-    let k = c.loop-width.width in
-    let pos : 0 < k = omega arith in
-    let all : c.loop-per.per - 1 ≡ most_cells need k = omega (arith, c.most_cells-per-end.ensures.value) in
-    record {
-      value =
-          c.loop-per.invariant.value
-          ∙ ap (λ (fs : List Format). least_of (map stages_for (filter is_in_stage fs))) (narrower_more need k (c.loop-per.per - 1) pos all);
-      small = c.loop-per.invariant.small;
-    }
+loop-width-preserved c = record {
+  value =
+      c.loop-per.invariant.value
+      ∙ ap (λ (fs : List Format). least_of (map stages_for (filter is_in_stage fs)))
+      (narrower_more c.args.need c.loop-width.width (c.loop-per.per - 1) (omega arith) (omega (arith, c.most_cells-per-end.ensures.value)));
+  small = c.loop-per.invariant.small;
+}
 
 pub returns-clause-value : goal.returns-clause-value
 returns-clause-value c =

@@ -1,6 +1,6 @@
 use Rattle.std.proofs.Common.{◌≡◌, ℕ, ◌+◌, ◌∷◌, ◌++◌, [], List, ap, sym, ◌∙◌, arith}
 use Rattle.std.specs.List.{range_with_len}
-use Rattle.rmt_cells.proofs.Walks.{range_more}
+use Rattle.rmt_bits.proofs.ListLaws.{range_more}
 use Rattle.rmt_cells.proofs.links.in_a_row.Goals as goal
 
 pub loop-cell-preserved : goal.loop-cell-preserved

@@ -9,15 +9,13 @@ use Rattle.rmt_cells.proofs.pieces.write.Goals as goal
 pub index_mut-requires : goal.index_mut-requires
 index_mut-requires c =
     let l = c.loop-number in
-    let k = cells_for (length c.args.bytes.now) in
-    let lt = inside c.args.links.now c.args.first k l.number (omega arith) (length c.args.blocks.now.items) c.requires.run in
+    let lt = inside c.args.links.now c.args.first (cells_for (length c.args.bytes.now)) l.number (omega arith) (length c.args.blocks.now.items) c.requires.run in
     omega (arith, lt, l.invariant.cell, l.invariant.size)
 
 pub bounds-links-cell : goal.bounds-links-cell
 bounds-links-cell c =
     let l = c.loop-number in
-    let k = cells_for (length c.args.bytes.now) in
-    let lt = inside c.args.links.now c.args.first k l.number (omega arith) (length c.args.blocks.now.items) c.requires.run in
+    let lt = inside c.args.links.now c.args.first (cells_for (length c.args.bytes.now)) l.number (omega arith) (length c.args.blocks.now.items) c.requires.run in
     omega (arith, lt, l.invariant.cell, c.requires.links)
 
 pub loop-number-preserved : goal.loop-number-preserved

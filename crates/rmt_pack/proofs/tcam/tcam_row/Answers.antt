@@ -5,6 +5,7 @@ use Rattle.rmt_pack.specs.declared.tcam.TcamWord.{TcamWord}
 use Rattle.rmt_pack.specs.Tcam.{side_by_side, joined_words, IsWords}
 use Rattle.rmt_pack.proofs.TcamLaws.{values_of, masks_of, values-fit, masks-fit, fills, row-matches}
 use Rattle.rmt_pack.proofs.tcam.tcam_row.Goals as goal
+use Rattle.rmt_pack.proofs.tcam.tcam_row.Goals.{In_ok-row}
 
 -- numbers that fit their widths, by equal lists
 fit_at : (widths ws vs vals : List ℕ) → ws ≡ widths → vs ≡ vals → AllZip Fits widths vals → AllZip Fits ws vs
@@ -29,30 +30,26 @@ side_words-requires-2-clause-fit c =
     fit_at widths c.as_slice-4.result.now c.as_slice-3.result.now (masks_of tests) c.as_slice-4.ensures
     (c.as_slice-3.ensures.value ∙ (c.in_ok-masks.ensures ∙ ap masks_of c.as_slice-tests.ensures)) (masks-fit widths tests c.requires.tests)
 
+-- the values of the row together, and its masks
+valued : (c : In_ok-row) → joined_words (map (λ (w : TcamWord). w.value) c.in_ok-row.row) ≡ side_by_side c.args.widths.now (values_of c.args.tests.now)
+valued c =
+    joined_at c.args.widths.now c.as_slice-2.result.now c.as_slice.result.now (values_of c.args.tests.now) (map (λ (w : TcamWord). w.value) c.in_ok-row.row) c.in_ok-values-2.values _
+    c.as_slice-2.ensures (c.as_slice.ensures.value ∙ (c.in_ok-values.ensures ∙ ap values_of c.as_slice-tests.ensures))
+    (c.in_ok-row.ensures.values ∙ c.as_slice-5.ensures) c.in_ok-values-2.ensures
+
+masked : (c : In_ok-row) → joined_words (map (λ (w : TcamWord). w.mask) c.in_ok-row.row) ≡ side_by_side c.args.widths.now (masks_of c.args.tests.now)
+masked c =
+    joined_at c.args.widths.now c.as_slice-4.result.now c.as_slice-3.result.now (masks_of c.args.tests.now) (map (λ (w : TcamWord). w.mask) c.in_ok-row.row) c.in_ok-masks-2.masks _
+    c.as_slice-4.ensures (c.as_slice-3.ensures.value ∙ (c.in_ok-masks.ensures ∙ ap masks_of c.as_slice-tests.ensures))
+    (c.in_ok-row.ensures.masks ∙ c.as_slice-6.ensures) c.in_ok-masks-2.ensures
+
 pub returns-clause-value_row : goal.returns-clause-value_row
-returns-clause-value_row c =
-    let tests = c.args.tests.now in
-    let widths = c.args.widths.now in
-    let row = map (λ (w : TcamWord). w.value) c.in_ok-row.row in
-    fills row (side_by_side widths (values_of tests))
-    (joined_at widths c.as_slice-2.result.now c.as_slice.result.now (values_of tests) row c.in_ok-values-2.values _ c.as_slice-2.ensures
-    (c.as_slice.ensures.value ∙ (c.in_ok-values.ensures ∙ ap values_of c.as_slice-tests.ensures)) (c.in_ok-row.ensures.values ∙ c.as_slice-5.ensures) c.in_ok-values-2.ensures)
+returns-clause-value_row c = fills (map (λ (w : TcamWord). w.value) c.in_ok-row.row) (side_by_side c.args.widths.now (values_of c.args.tests.now)) (valued (goal.at.returns-clause-value_row c).In_ok-row)
 
 pub returns-clause-mask_row : goal.returns-clause-mask_row
-returns-clause-mask_row c =
-    let tests = c.args.tests.now in
-    let widths = c.args.widths.now in
-    let row = map (λ (w : TcamWord). w.mask) c.in_ok-row.row in
-    fills row (side_by_side widths (masks_of tests))
-    (joined_at widths c.as_slice-4.result.now c.as_slice-3.result.now (masks_of tests) row c.in_ok-masks-2.masks _ c.as_slice-4.ensures
-    (c.as_slice-3.ensures.value ∙ (c.in_ok-masks.ensures ∙ ap masks_of c.as_slice-tests.ensures)) (c.in_ok-row.ensures.masks ∙ c.as_slice-6.ensures) c.in_ok-masks-2.ensures)
+returns-clause-mask_row c = fills (map (λ (w : TcamWord). w.mask) c.in_ok-row.row) (side_by_side c.args.widths.now (masks_of c.args.tests.now)) (masked (goal.at.returns-clause-mask_row c).In_ok-row)
 
 pub returns-clause-matches : goal.returns-clause-matches
 returns-clause-matches c =
-    let tests = c.args.tests.now in
-    let widths = c.args.widths.now in
-    row-matches widths tests c.in_ok-row.row c.requires.tests
-    (joined_at widths c.as_slice-2.result.now c.as_slice.result.now (values_of tests) (map (λ (w : TcamWord). w.value) c.in_ok-row.row) c.in_ok-values-2.values _ c.as_slice-2.ensures
-    (c.as_slice.ensures.value ∙ (c.in_ok-values.ensures ∙ ap values_of c.as_slice-tests.ensures)) (c.in_ok-row.ensures.values ∙ c.as_slice-5.ensures) c.in_ok-values-2.ensures)
-    (joined_at widths c.as_slice-4.result.now c.as_slice-3.result.now (masks_of tests) (map (λ (w : TcamWord). w.mask) c.in_ok-row.row) c.in_ok-masks-2.masks _ c.as_slice-4.ensures
-    (c.as_slice-3.ensures.value ∙ (c.in_ok-masks.ensures ∙ ap masks_of c.as_slice-tests.ensures)) (c.in_ok-row.ensures.masks ∙ c.as_slice-6.ensures) c.in_ok-masks-2.ensures)
+    let k = (goal.at.returns-clause-matches c).In_ok-row in
+    row-matches c.args.widths.now c.args.tests.now c.in_ok-row.row c.requires.tests (valued k) (masked k)
