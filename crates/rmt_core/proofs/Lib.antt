@@ -1,3 +1,4 @@
+pub mod CallLaws
 pub mod Complete
 pub mod CycleWords
 pub mod Decided

@@ -1,5 +1,5 @@
 -- A last line for two texts that mean no program with entries is what a command gives that understands them.
-use Rattle.std.proofs.Common.{◌≡◌, ◌⊎◌, inl, inr, ⊎_elim, ℕ, List, Result, Ok, Err, refl, sym, subst}
+use Rattle.std.proofs.Common.{◌≡◌, ◌≢◌, ◌⊎◌, inl, inr, ⊎_elim, ℕ, List, Result, Ok, Err, refl, sym, subst}
 use Rattle.std.specs.Prelude.{⊤}
 use Rattle.rmt_io.specs.Outside.{SinkState}
 use Rattle.rmt_core.specs.Types.{Program}
@@ -43,6 +43,12 @@ pub is_fault_of : (text entry_text : List ℕ) (r : Result Meant TextFault) (fau
 is_fault_of text entry_text r NoMemory is program entries = tt
 is_fault_of text entry_text r (BadProgram code line column) is program entries = program code line column is
 is_fault_of text entry_text r (BadEntries code line) is program entries = entries code line is
+
+-- its status is no fault of reading
+pub text_fault_unread : (fault : TextFault) → text_fault_status fault ≢ status.ReadFault
+text_fault_unread NoMemory e = cc
+text_fault_unread (BadProgram code line column) e = cc
+text_fault_unread (BadEntries code line) e = cc
 
 -- a call that told a fault of two texts
 pub text_fault_answered : (before after : Outside) (text entry_text : List ℕ) (next : Program → List (List Entry) → Given → Type 0) (fault : TextFault) (result : Status)

@@ -1,6 +1,6 @@
 -- How a call of a command ends, by what the command gives and what befell outside.
 use Rattle.std.specs.Prelude.{◌≡◌, ◌≢◌, ◌⊎◌, ℕ, IsTrue, List, [], Some}
-use Rattle.rmt_io.specs.Outside.{ShelfState, SinkState, Gained, PrintingFailed, WritingFailed}
+use Rattle.rmt_io.specs.Outside.{ShelfState, SinkState, Gained, OnlyPrinted, OnlyRead, PrintingFailed, ReadingFailed, WritingFailed}
 use Rattle.rmt_core.specs.declared.status.Status.{Status}
 use Rattle.rmt_core.specs.declared.status.Status.TheVariants.{Done, Usage, ReadFault, WriteFault, BadProgram, BadEntries, NoFit, BadImage, BadPackets, TooLong, NoMemory}
 use Rattle.rmt_core.specs.Files.{Files}
@@ -58,6 +58,15 @@ Answered before after gives BadImage = EndsWith before after gives BadImage
 Answered before after gives BadPackets = EndsWith before after gives BadPackets
 Answered before after gives TooLong = EndsWith before after gives TooLong
 Answered before after gives NoMemory = Stops before after gives NoMemory
+
+-- A call of a command that writes no file: over a shelf that tells its files it ends as the command gives it; a fault of the outside comes only where a count
+-- rose; and all else outside stays.
+pub record ReadsAndPrints (before after : Outside) (gives : Files → Given → Type 0) (status : Status) : Type 0 where
+  pub answered : IsTrue before.shelf.tells → Answered before after (gives before.shelf.files) status
+  pub read_fault : status ≡ ReadFault → ReadingFailed before.shelf after.shelf
+  pub write_fault : status ≡ WriteFault → PrintingFailed before.sink after.sink
+  pub only_read : OnlyRead before.shelf after.shelf
+  pub only_printed : OnlyPrinted before.sink after.sink
 
 -- the answers that come of the outside or of want of memory
 abbrev pub IsOfOutside : Status → Type 0

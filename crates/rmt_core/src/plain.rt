@@ -1,11 +1,10 @@
 //! The command `plain`.
 
-ghost use Rattle.std.specs.Prelude.{◌≡◌, ◌≤◌, [], IsTrue, length, string_bytes};
+ghost use Rattle.std.specs.Prelude.{◌≤◌, [], length, string_bytes};
 ghost use Rattle.rmt_ast.specs.EntryLists.{AreEntries};
 ghost use Rattle.rmt_ast.specs.WellFormed.{IsProgram};
-ghost use Rattle.rmt_io.specs.Outside.{ReadingFailed, OnlyRead, PrintingFailed, OnlyPrinted};
 ghost use Rattle.rmt_core.specs.Commands.{IsPossible, Plain as Command};
-ghost use Rattle.rmt_core.specs.Ends.{Answered, outside};
+ghost use Rattle.rmt_core.specs.Ends.{ReadsAndPrints, outside};
 ghost use Rattle.rmt_core.specs.Files.{entries_limit, packets_limit, program_limit};
 ghost use Rattle.rmt_core.specs.PlainRunning.{OfOpen, OfText, OfTexts};
 ghost use Rattle.rmt_core.specs.PlainText.{GivesPlain, plain_text};
@@ -33,18 +32,10 @@ pub fn plain<F: Shelf, O: Sink>(
     ensures possible { IsPossible
         (Command (string_bytes program.now) (string_bytes entries.now)
         (string_bytes packets.now)) result }
-    ensures answered { IsTrue (F.state shelf.old).tells →
-        let before = outside (F.state shelf.old) (O.state out.old) in
-        let after = outside (F.state shelf.new) (O.state out.new) in
-        Answered before after
-        (GivesPlain before.shelf.files (string_bytes program.now) (string_bytes entries.now)
+    ensures call { ReadsAndPrints (outside (F.state shelf.old) (O.state out.old))
+        (outside (F.state shelf.new) (O.state out.new))
+        (λ files. GivesPlain files (string_bytes program.now) (string_bytes entries.now)
         (string_bytes packets.now)) result }
-    ensures read_fault { result ≡ Status.ReadFault →
-        ReadingFailed (F.state shelf.old) (F.state shelf.new) }
-    ensures write_fault { result ≡ Status.WriteFault →
-        PrintingFailed (O.state out.old) (O.state out.new) }
-    ensures only_read { OnlyRead (F.state shelf.old) (F.state shelf.new) }
-    ensures only_printed { OnlyPrinted (O.state out.old) (O.state out.new) }
 {
     match read_file(alloc, program, PROGRAM_LIMIT, shelf) {
         Ok(text) => plain_of_text(alloc, &text, entries, packets, shelf, out),
@@ -64,18 +55,10 @@ fn plain_of_text<F: Shelf, O: Sink>(
     requires { length text.now.items ≤ program_limit }
     ensures possible { IsPossible
         (Command [] (string_bytes entries.now) (string_bytes packets.now)) result }
-    ensures answered { IsTrue (F.state shelf.old).tells →
-        let before = outside (F.state shelf.old) (O.state out.old) in
-        let after = outside (F.state shelf.new) (O.state out.new) in
-        Answered before after
-        (OfText before.shelf.files (string_bytes entries.now)
+    ensures call { ReadsAndPrints (outside (F.state shelf.old) (O.state out.old))
+        (outside (F.state shelf.new) (O.state out.new))
+        (λ files. OfText files (string_bytes entries.now)
         (string_bytes packets.now) text.now.items) result }
-    ensures read_fault { result ≡ Status.ReadFault →
-        ReadingFailed (F.state shelf.old) (F.state shelf.new) }
-    ensures write_fault { result ≡ Status.WriteFault →
-        PrintingFailed (O.state out.old) (O.state out.new) }
-    ensures only_read { OnlyRead (F.state shelf.old) (F.state shelf.new) }
-    ensures only_printed { OnlyPrinted (O.state out.old) (O.state out.new) }
 {
     match read_file(alloc, entries, ENTRIES_LIMIT, shelf) {
         Ok(entry_text) => plain_of_texts(alloc, text, &entry_text, packets, shelf, out),
@@ -95,18 +78,10 @@ fn plain_of_texts<F: Shelf, O: Sink>(
     requires text { length text.now.items ≤ program_limit }
     requires entries { length entry_text.now.items ≤ entries_limit }
     ensures possible { IsPossible (Command [] [] (string_bytes packets.now)) result }
-    ensures answered { IsTrue (F.state shelf.old).tells →
-        let before = outside (F.state shelf.old) (O.state out.old) in
-        let after = outside (F.state shelf.new) (O.state out.new) in
-        Answered before after
-        (OfTexts before.shelf.files
+    ensures call { ReadsAndPrints (outside (F.state shelf.old) (O.state out.old))
+        (outside (F.state shelf.new) (O.state out.new))
+        (λ files. OfTexts files
         (string_bytes packets.now) text.now.items entry_text.now.items) result }
-    ensures read_fault { result ≡ Status.ReadFault →
-        ReadingFailed (F.state shelf.old) (F.state shelf.new) }
-    ensures write_fault { result ≡ Status.WriteFault →
-        PrintingFailed (O.state out.old) (O.state out.new) }
-    ensures only_read { OnlyRead (F.state shelf.old) (F.state shelf.new) }
-    ensures only_printed { OnlyPrinted (O.state out.old) (O.state out.new) }
 {
     match open_file(alloc, packets, shelf) {
         Ok(()) => plain_of_open(alloc, text, entry_text, shelf, out),
@@ -125,17 +100,10 @@ fn plain_of_open<F: Shelf, O: Sink>(
     requires text { length text.now.items ≤ program_limit }
     requires entries { length entry_text.now.items ≤ entries_limit }
     ensures possible { IsPossible (Command [] [] []) result }
-    ensures answered { IsTrue (F.state shelf.old).tells →
-        let before = outside (F.state shelf.old) (O.state out.old) in
-        let after = outside (F.state shelf.new) (O.state out.new) in
-        Answered before after
-        (OfOpen before.shelf.files text.now.items entry_text.now.items before.shelf.rest) result }
-    ensures read_fault { result ≡ Status.ReadFault →
-        ReadingFailed (F.state shelf.old) (F.state shelf.new) }
-    ensures write_fault { result ≡ Status.WriteFault →
-        PrintingFailed (O.state out.old) (O.state out.new) }
-    ensures only_read { OnlyRead (F.state shelf.old) (F.state shelf.new) }
-    ensures only_printed { OnlyPrinted (O.state out.old) (O.state out.new) }
+    ensures call { ReadsAndPrints (outside (F.state shelf.old) (O.state out.old))
+        (outside (F.state shelf.new) (O.state out.new))
+        (λ files. OfOpen files text.now.items entry_text.now.items
+        (F.state shelf.old).rest) result }
 {
     one_meaning();
     match understand(alloc, text.as_slice(), entry_text.as_slice()) {
@@ -154,18 +122,10 @@ fn plain_of_meant<F: Shelf, O: Sink>(
     requires program { IsProgram meant.program }
     requires entries { AreEntries meant.program meant.entries }
     ensures possible { IsPossible (Command [] [] []) result }
-    ensures answered { IsTrue (F.state shelf.old).tells →
-        let before = outside (F.state shelf.old) (O.state out.old) in
-        let after = outside (F.state shelf.new) (O.state out.new) in
-        Answered before after
-        (Runs before.shelf.files
-        (plain_text meant.program meant.entries) packets_limit before.shelf.rest) result }
-    ensures read_fault { result ≡ Status.ReadFault →
-        ReadingFailed (F.state shelf.old) (F.state shelf.new) }
-    ensures write_fault { result ≡ Status.WriteFault →
-        PrintingFailed (O.state out.old) (O.state out.new) }
-    ensures only_read { OnlyRead (F.state shelf.old) (F.state shelf.new) }
-    ensures only_printed { OnlyPrinted (O.state out.old) (O.state out.new) }
+    ensures call { ReadsAndPrints (outside (F.state shelf.old) (O.state out.old))
+        (outside (F.state shelf.new) (O.state out.new))
+        (λ files. Runs files (plain_text meant.program meant.entries) packets_limit
+        (F.state shelf.old).rest) result }
 {
     let Meant { program, entries } = meant;
     match Plain::new(alloc, program, entries) {

@@ -1,10 +1,10 @@
 //! The command `report`.
 
-ghost use Rattle.std.specs.Prelude.{◌≡◌, ◌⊎◌, IfOk, IsTrue, string_bytes};
+ghost use Rattle.std.specs.Prelude.{◌≡◌, ◌⊎◌, IfOk, string_bytes};
 ghost use Rattle.rmt_config.specs.Limits.{IsWithinLimits};
-ghost use Rattle.rmt_io.specs.Outside.{ShelfState, ReadingFailed, OnlyRead, PrintingFailed, OnlyPrinted};
+ghost use Rattle.rmt_io.specs.Outside.{ShelfState};
 ghost use Rattle.rmt_core.specs.Commands.{IsPossible, Report};
-ghost use Rattle.rmt_core.specs.Ends.{Answered, outside};
+ghost use Rattle.rmt_core.specs.Ends.{ReadsAndPrints, outside};
 ghost use Rattle.rmt_core.specs.Given.{told};
 ghost use Rattle.rmt_core.specs.Reporting.{GivesReport, report_line};
 ghost use Rattle.rmt_core.specs.Simulating.{Spelled};
@@ -28,16 +28,9 @@ pub fn report<F: Shelf, O: Sink>(
     out: &mut O,
 ) -> Status
     ensures possible { IsPossible (Report (string_bytes image.now)) result }
-    ensures answered { IsTrue (F.state shelf.old).tells →
-        let before = outside (F.state shelf.old) (O.state out.old) in
-        let after = outside (F.state shelf.new) (O.state out.new) in
-        Answered before after (GivesReport before.shelf.files (string_bytes image.now)) result }
-    ensures read_fault { result ≡ Status.ReadFault →
-        ReadingFailed (F.state shelf.old) (F.state shelf.new) }
-    ensures write_fault { result ≡ Status.WriteFault →
-        PrintingFailed (O.state out.old) (O.state out.new) }
-    ensures only_read { OnlyRead (F.state shelf.old) (F.state shelf.new) }
-    ensures only_printed { OnlyPrinted (O.state out.old) (O.state out.new) }
+    ensures call { ReadsAndPrints (outside (F.state shelf.old) (O.state out.old))
+        (outside (F.state shelf.new) (O.state out.new))
+        (λ files. GivesReport files (string_bytes image.now)) result }
 {
     match read_file(alloc, image, IMAGE_LIMIT, shelf) {
         Ok(bytes) => report_bytes(alloc, bytes.as_slice(), out),
@@ -49,13 +42,10 @@ pub fn report<F: Shelf, O: Sink>(
 fn report_bytes<O: Sink>(alloc: Global, bytes: &[u8], out: &mut O) -> Status
     ensures possible { (result ≡ Status.Done) ⊎ (result ≡ Status.BadImage)
         ⊎ (result ≡ Status.WriteFault) ⊎ (result ≡ Status.NoMemory) }
-    ensures answered { (shelf : ShelfState) →
-        Answered (outside shelf (O.state out.old)) (outside shelf (O.state out.new))
-        (Spelled shelf.files bytes.now
-        (λ c g. g ≡ told shelf.files Status.Done (report_line c))) result }
-    ensures write_fault { result ≡ Status.WriteFault →
-        PrintingFailed (O.state out.old) (O.state out.new) }
-    ensures only_printed { OnlyPrinted (O.state out.old) (O.state out.new) }
+    ensures call { (shelf : ShelfState) →
+        ReadsAndPrints (outside shelf (O.state out.old)) (outside shelf (O.state out.new))
+        (λ files. Spelled files bytes.now
+        (λ c g. g ≡ told files Status.Done (report_line c))) result }
 {
     match read_image(alloc, bytes) {
         Ok(config) => tell(use_line(alloc, &config), Status::Done, out),

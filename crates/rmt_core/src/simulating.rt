@@ -1,11 +1,10 @@
 //! The commands `sim` and `probe`.
 
-ghost use Rattle.std.specs.Prelude.{◌≡◌, [], IsTrue, string_bytes};
+ghost use Rattle.std.specs.Prelude.{[], string_bytes};
 ghost use Rattle.rmt_config.specs.Form.{Formed};
 ghost use Rattle.rmt_config.specs.Limits.{IsWithinLimits};
-ghost use Rattle.rmt_io.specs.Outside.{ReadingFailed, OnlyRead, PrintingFailed, OnlyPrinted};
 ghost use Rattle.rmt_core.specs.Commands.{IsPossible, Sim};
-ghost use Rattle.rmt_core.specs.Ends.{Answered, outside};
+ghost use Rattle.rmt_core.specs.Ends.{ReadsAndPrints, outside};
 ghost use Rattle.rmt_core.specs.Files.{packets_limit};
 ghost use Rattle.rmt_core.specs.Running.{OfImage, OfOpen};
 ghost use Rattle.rmt_core.specs.Runs.{Runs};
@@ -34,18 +33,9 @@ pub fn simulate<F: Shelf, O: Sink>(
     out: &mut O,
 ) -> Status
     ensures possible { IsPossible (Sim (string_bytes image.now) (string_bytes packets.now)) result }
-    ensures answered { IsTrue (F.state shelf.old).tells →
-        let before = outside (F.state shelf.old) (O.state out.old) in
-        let after = outside (F.state shelf.new) (O.state out.new) in
-        Answered before after
-        (GivesRun watch before.shelf.files (string_bytes image.now)
-        (string_bytes packets.now)) result }
-    ensures read_fault { result ≡ Status.ReadFault →
-        ReadingFailed (F.state shelf.old) (F.state shelf.new) }
-    ensures write_fault { result ≡ Status.WriteFault →
-        PrintingFailed (O.state out.old) (O.state out.new) }
-    ensures only_read { OnlyRead (F.state shelf.old) (F.state shelf.new) }
-    ensures only_printed { OnlyPrinted (O.state out.old) (O.state out.new) }
+    ensures call { ReadsAndPrints (outside (F.state shelf.old) (O.state out.old))
+        (outside (F.state shelf.new) (O.state out.new))
+        (λ files. GivesRun watch files (string_bytes image.now) (string_bytes packets.now)) result }
 {
     match read_file(alloc, image, IMAGE_LIMIT, shelf) {
         Ok(bytes) => simulate_image(alloc, &bytes, packets, watch, shelf, out),
@@ -63,17 +53,9 @@ fn simulate_image<F: Shelf, O: Sink>(
     out: &mut O,
 ) -> Status
     ensures possible { IsPossible (Sim [] (string_bytes packets.now)) result }
-    ensures answered { IsTrue (F.state shelf.old).tells →
-        let before = outside (F.state shelf.old) (O.state out.old) in
-        let after = outside (F.state shelf.new) (O.state out.new) in
-        Answered before after
-        (OfImage watch before.shelf.files (string_bytes packets.now) bytes.now.items) result }
-    ensures read_fault { result ≡ Status.ReadFault →
-        ReadingFailed (F.state shelf.old) (F.state shelf.new) }
-    ensures write_fault { result ≡ Status.WriteFault →
-        PrintingFailed (O.state out.old) (O.state out.new) }
-    ensures only_read { OnlyRead (F.state shelf.old) (F.state shelf.new) }
-    ensures only_printed { OnlyPrinted (O.state out.old) (O.state out.new) }
+    ensures call { ReadsAndPrints (outside (F.state shelf.old) (O.state out.old))
+        (outside (F.state shelf.new) (O.state out.new))
+        (λ files. OfImage watch files (string_bytes packets.now) bytes.now.items) result }
 {
     match open_file(alloc, packets, shelf) {
         Ok(()) => simulate_open(alloc, bytes, watch, shelf, out),
@@ -90,17 +72,9 @@ fn simulate_open<F: Shelf, O: Sink>(
     out: &mut O,
 ) -> Status
     ensures possible { IsPossible (Sim [] []) result }
-    ensures answered { IsTrue (F.state shelf.old).tells →
-        let before = outside (F.state shelf.old) (O.state out.old) in
-        let after = outside (F.state shelf.new) (O.state out.new) in
-        Answered before after
-        (OfOpen watch before.shelf.files bytes.now.items before.shelf.rest) result }
-    ensures read_fault { result ≡ Status.ReadFault →
-        ReadingFailed (F.state shelf.old) (F.state shelf.new) }
-    ensures write_fault { result ≡ Status.WriteFault →
-        PrintingFailed (O.state out.old) (O.state out.new) }
-    ensures only_read { OnlyRead (F.state shelf.old) (F.state shelf.new) }
-    ensures only_printed { OnlyPrinted (O.state out.old) (O.state out.new) }
+    ensures call { ReadsAndPrints (outside (F.state shelf.old) (O.state out.old))
+        (outside (F.state shelf.new) (O.state out.new))
+        (λ files. OfOpen watch files bytes.now.items (F.state shelf.old).rest) result }
 {
     match read_image(alloc, bytes.as_slice()) {
         Ok(config) => simulate_config(alloc, config, watch, shelf, out),
@@ -119,18 +93,9 @@ fn simulate_config<F: Shelf, O: Sink>(
     requires form { Formed config }
     requires limits { IsWithinLimits config }
     ensures possible { IsPossible (Sim [] []) result }
-    ensures answered { IsTrue (F.state shelf.old).tells →
-        let before = outside (F.state shelf.old) (O.state out.old) in
-        let after = outside (F.state shelf.new) (O.state out.new) in
-        Answered before after
-        (Runs before.shelf.files
-        (text_of watch config) packets_limit before.shelf.rest) result }
-    ensures read_fault { result ≡ Status.ReadFault →
-        ReadingFailed (F.state shelf.old) (F.state shelf.new) }
-    ensures write_fault { result ≡ Status.WriteFault →
-        PrintingFailed (O.state out.old) (O.state out.new) }
-    ensures only_read { OnlyRead (F.state shelf.old) (F.state shelf.new) }
-    ensures only_printed { OnlyPrinted (O.state out.old) (O.state out.new) }
+    ensures call { ReadsAndPrints (outside (F.state shelf.old) (O.state out.old))
+        (outside (F.state shelf.new) (O.state out.new))
+        (λ files. Runs files (text_of watch config) packets_limit (F.state shelf.old).rest) result }
 {
     match Chip::open(alloc, config) {
         Ok(mut chip) => run_watched(alloc, shelf, PACKETS_LIMIT, &mut chip, watch, out),

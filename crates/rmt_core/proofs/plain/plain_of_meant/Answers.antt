@@ -1,12 +1,15 @@
--- Without memory nothing is printed.
-use Rattle.std.proofs.Common.{refl}
-use Rattle.rmt_core.specs.Files.{packets_limit}
-use Rattle.rmt_core.specs.PlainText.{plain_text}
-use Rattle.rmt_core.specs.Runs.{Runs}
-use Rattle.rmt_core.proofs.EndLaws.{no_memory}
+-- The program runs, or there is no memory for it.
+use Rattle.rmt_core.proofs.CallLaws.{ends_at_once}
 use Rattle.rmt_core.proofs.plain.plain_of_meant.Goals as goal
 
-pub returns-in-Err-clause-answered : goal.returns-in-Err-clause-answered
-returns-in-Err-clause-answered g c = λ _.
-    let shelf = g.F.Shelf.state c.args.shelf.now in
-    no_memory _ _ (Runs shelf.files (plain_text c.args.meant.program c.args.meant.entries) packets_limit shelf.rest) (λ _. refl) (λ _. refl)
+pub returns-in-Ok-clause-call : goal.returns-in-Ok-clause-call
+returns-in-Ok-clause-call g c = let e = c.run_plain.ensures in record {
+  answered = λ tells. e.answered tells c.args.meant.program c.args.meant.entries c.in-Ok.ensures;
+  read_fault = e.read_fault;
+  write_fault = e.write_fault;
+  only_read = e.only_read;
+  only_printed = e.only_printed;
+}
+
+pub returns-in-Err-clause-call : goal.returns-in-Err-clause-call
+returns-in-Err-clause-call g c = ends_at_once _ _

@@ -1,21 +1,16 @@
 -- The packets' file is opened, or not.
+use Rattle.std.proofs.Common.{Err, ap, ◌∙◌}
 use Rattle.std.specs.Prelude.{string_bytes}
-use Rattle.rmt_io.proofs.OutsideLaws.{only_read_trans, reading_failed_later}
 use Rattle.rmt_core.specs.Running.{OfOpen}
-use Rattle.rmt_core.proofs.EndLaws.{not_opened, opens_on}
+use Rattle.rmt_core.proofs.CallLaws.{ends_unopened, opens_then}
 use Rattle.rmt_core.proofs.simulating.simulate_image.Goals as goal
 
-pub returns-in-Ok-clause-answered : goal.returns-in-Ok-clause-answered
-returns-in-Ok-clause-answered g c = λ t.
-    opens_on _ _ (g.F.Shelf.state c.open_file.new.shelf) (string_bytes c.args.packets.now) (λ files. OfOpen c.args.watch files c.args.bytes.now.items) c.simulate_open.result
-    c.open_file.ensures.only_read c.in-Ok.ensures.opened c.simulate_open.ensures.answered t
+pub returns-in-Ok-clause-call : goal.returns-in-Ok-clause-call
+returns-in-Ok-clause-call g c =
+    opens_then _ _ (g.F.Shelf.state c.open_file.new.shelf) (string_bytes c.args.packets.now) (λ files. OfOpen c.args.watch files c.args.bytes.now.items) c.simulate_open.result
+    c.open_file.ensures.only_read c.in-Ok.ensures.opened c.simulate_open.ensures.call
 
-pub returns-in-Err-clause-answered : goal.returns-in-Err-clause-answered
-returns-in-Err-clause-answered g c = λ _.
-    not_opened _ _ _ (string_bytes c.args.packets.now) (OfOpen c.args.watch (g.F.Shelf.state c.args.shelf.now).files c.args.bytes.now.items) c.in-Err.status c.open_file.ensures.only_read c.in-Err.ensures.refused
-
-pub returns-in-Ok-clause-read_fault : goal.returns-in-Ok-clause-read_fault
-returns-in-Ok-clause-read_fault g c = λ e. reading_failed_later (g.F.Shelf.state c.simulate_open.new.shelf) c.open_file.ensures.only_read (c.simulate_open.ensures.read_fault e)
-
-pub returns-in-Ok-clause-only_read : goal.returns-in-Ok-clause-only_read
-returns-in-Ok-clause-only_read g c = only_read_trans c.open_file.ensures.only_read c.simulate_open.ensures.only_read
+pub returns-in-Err-clause-call : goal.returns-in-Err-clause-call
+returns-in-Err-clause-call g c =
+    ends_unopened _ _ _ (string_bytes c.args.packets.now) (λ files. OfOpen c.args.watch files c.args.bytes.now.items) c.in-Err.status c.open_file.ensures.only_read c.in-Err.ensures.refused
+    (λ e. c.open_file.ensures.fault (c.in-Err.is ∙ ap Err e))

@@ -1,0 +1,106 @@
+-- Calls of commands that write no file.
+use Rattle.std.proofs.Common.{◌≡◌, ◌≢◌, ◌⊎◌, inl, inr, ℕ, List, refl, sym, ◌∙◌}
+use Rattle.rmt_io.specs.Outside.{ShelfState, SinkState, HasFile, OnlyPrinted, OnlyRead, ReadingFailed}
+use Rattle.rmt_io.proofs.OutsideLaws.{only_printed_refl, only_read_refl, only_read_trans, reading_failed_later}
+use Rattle.rmt_core.specs.declared.status.Status.{Status}
+use Rattle.rmt_core.specs.declared.status.Status.TheVariants.{ReadFault, WriteFault, TooLong, NoMemory}
+use Rattle.rmt_core.specs.Files.{Files}
+use Rattle.rmt_core.specs.Given.{Given, Opens, Reads}
+use Rattle.rmt_core.specs.Ends.{Answered, Outside, ReadsAndPrints, outside}
+use Rattle.rmt_core.specs.Loading.{IsFound, NotOpened, NotRead}
+use Rattle.rmt_core.specs.Telling.{Tells}
+use Rattle.rmt_core.proofs.EndLaws.{no_memory, not_opened, not_read, opens_on, reads_on}
+
+-- what is no fault of writing proves anything of one
+unread_unwritten : {P : Type 0} (s : Status) → (s ≡ ReadFault) ⊎ (s ≡ TooLong) ⊎ (s ≡ NoMemory) → s ≡ WriteFault → P
+unread_unwritten s (inl h) e = absurd (cc)
+unread_unwritten s (inr (inl h)) e = absurd (cc)
+unread_unwritten s (inr (inr h)) e = absurd (cc)
+
+unopened_unwritten : {P : Type 0} (s : Status) → (s ≡ ReadFault) ⊎ (s ≡ NoMemory) → s ≡ WriteFault → P
+unopened_unwritten s (inl h) e = absurd (cc)
+unopened_unwritten s (inr h) e = absurd (cc)
+
+told_unread : {P : Type 0} (wanted s : Status) → wanted ≢ ReadFault → (s ≡ wanted) ⊎ (s ≡ WriteFault) ⊎ (s ≡ NoMemory) → s ≡ ReadFault → P
+told_unread wanted s other (inl h) e = absurd (other (sym h ∙ e))
+told_unread wanted s other (inr (inl h)) e = absurd (cc)
+told_unread wanted s other (inr (inr h)) e = absurd (cc)
+
+module _ (before after : Outside) (mid : ShelfState) (name : List ℕ) (next : Files → List ℕ → Given → Type 0) where
+  -- a command that read a file goes on with its bytes
+  pub reads_then : (limit : ℕ) (bytes : List ℕ) (status : Status) → OnlyRead before.shelf mid → IsFound before.shelf name limit bytes
+      → ReadsAndPrints (outside mid before.sink) after (λ files. next files bytes) status → ReadsAndPrints before after (λ files. Reads files name limit (next files)) status
+  reads_then limit bytes status r is h = record {
+    answered = reads_on before after mid name next limit bytes status r is h.answered;
+    read_fault = λ e. reading_failed_later after.shelf r (h.read_fault e);
+    write_fault = h.write_fault;
+    only_read = only_read_trans r h.only_read;
+    only_printed = h.only_printed;
+  }
+
+  -- and so does one that opened a file
+  pub opens_then : (status : Status) → OnlyRead before.shelf mid → HasFile before.shelf name mid.rest
+      → ReadsAndPrints (outside mid before.sink) after (λ files. next files mid.rest) status → ReadsAndPrints before after (λ files. Opens files name (next files)) status
+  opens_then status r is h = record {
+    answered = opens_on before after mid name next status r is h.answered;
+    read_fault = λ e. reading_failed_later after.shelf r (h.read_fault e);
+    write_fault = h.write_fault;
+    only_read = only_read_trans r h.only_read;
+    only_printed = h.only_printed;
+  }
+
+module _ (before : ShelfState) (sink : SinkState) (after : ShelfState) (name : List ℕ) (next : Files → List ℕ → Given → Type 0) where
+  -- a command ends where a file isn't read
+  pub ends_unread : (limit : ℕ) (status : Status) → OnlyRead before after → NotRead before name limit status → (status ≡ ReadFault → ReadingFailed before after)
+      → ReadsAndPrints (outside before sink) (outside after sink) (λ files. Reads files name limit (next files)) status
+  ends_unread limit status r why failed = record {
+    answered = not_read before sink after name (next before.files) limit status r why;
+    read_fault = failed;
+    write_fault = unread_unwritten status why.kind;
+    only_read = r;
+    only_printed = only_printed_refl sink;
+  }
+
+  -- or opened
+  pub ends_unopened : (status : Status) → OnlyRead before after → NotOpened before name status → (status ≡ ReadFault → ReadingFailed before after)
+      → ReadsAndPrints (outside before sink) (outside after sink) (λ files. Opens files name (next files)) status
+  ends_unopened status r why failed = record {
+    answered = λ _. not_opened before sink after name (next before.files) status r why;
+    read_fault = failed;
+    write_fault = unopened_unwritten status why.kind;
+    only_read = r;
+    only_printed = only_printed_refl sink;
+  }
+
+-- a command told a last line, with a status that is no fault of the outside
+pub ends_told : (shelf : ShelfState) (before after : SinkState) (gives : Files → Given → Type 0) (wanted status : Status) (line : List ℕ) → wanted ≢ ReadFault
+    → Tells before after line wanted status → OnlyPrinted before after → Answered (outside shelf before) (outside shelf after) (gives shelf.files) status
+    → ReadsAndPrints (outside shelf before) (outside shelf after) gives status
+ends_told shelf before after gives wanted status line other t printed answered = record {
+  answered = λ _. answered;
+  read_fault = told_unread wanted status other t.kind;
+  write_fault = t.failed;
+  only_read = only_read_refl shelf;
+  only_printed = printed;
+}
+
+-- a command had no memory to begin with
+pub ends_at_once : (o : Outside) (gives : Files → Given → Type 0) → ReadsAndPrints o o gives NoMemory
+ends_at_once o gives = record {
+  answered = λ _. no_memory o o (gives o.shelf.files) (λ _. refl) (λ _. refl);
+  read_fault = λ e. absurd (cc);
+  write_fault = λ e. absurd (cc);
+  only_read = only_read_refl o.shelf;
+  only_printed = only_printed_refl o.sink;
+}
+
+-- what is said of a command is said of one that goes on as it
+pub goes_on_as : (before after : Outside) (gives other : Files → Given → Type 0) (status : Status)
+    → (Answered before after (gives before.shelf.files) status → Answered before after (other before.shelf.files) status) → ReadsAndPrints before after gives status → ReadsAndPrints before after other status
+goes_on_as before after gives other status turn h = record {
+  answered = λ tells. turn (h.answered tells);
+  read_fault = h.read_fault;
+  write_fault = h.write_fault;
+  only_read = h.only_read;
+  only_printed = h.only_printed;
+}
