@@ -15,7 +15,7 @@ use Rattle.rmt_entries.specs.Entries.{by_node, entries_of, entry_of, reading}
 use Rattle.rmt_entries.specs.Fault.{Gives}
 use Rattle.rmt_bits.specs.Lines.{is_passed_over, numbered_lines}
 use Rattle.rmt_entries.specs.Reads.{Reads, node_terms}
-use Rattle.rmt_entries.specs.Standing.{Gathers, IsFault, Took}
+use Rattle.rmt_entries.specs.Standing.{Addition, Gathers, IsFault}
 use Rattle.rmt_entries.specs.Tables.{applied_tables}
 use Rattle.rmt_entries.proofs.GatherLaws.{length-by_node}
 use Rattle.rmt_bits.proofs.LineLaws.{is_feed, numbered_lines-first}
@@ -41,12 +41,12 @@ module _ (p : Program) (text rest : List ℕ) (n : ℕ) (g : Gathered) (r : Read
   here h = numbered_lines-first n rest ∙ rw (← front, ← back, h) refl
 
   -- a line said its entry
-  pub reads_took : (next : Gathered) → is_passed_over line ≡ false → Took (applied_tables p) (node_terms p) r.entries line next → Reads p text behind (n + 1) next
-  reads_took next h took = record {
-    entries = r.entries ++ took.entry ∷ [];
-    gathered = took.gathered;
-    same = r.same ∙ ap (reading (applied_tables p) r.entries) (here h) ∙ rw took.said refl;
-    few = omega (arith, r.few, length-append r.entries (took.entry ∷ []));
+  pub reads_added : (next : Gathered) → is_passed_over line ≡ false → Addition (applied_tables p) (node_terms p) r.entries line next → Reads p text behind (n + 1) next
+  reads_added next h addition = record {
+    entries = r.entries ++ addition.entry ∷ [];
+    gathered = addition.gathered;
+    same = r.same ∙ ap (reading (applied_tables p) r.entries) (here h) ∙ rw addition.said refl;
+    few = omega (arith, r.few, length-append r.entries (addition.entry ∷ []));
   }
 
   -- a line is bad

@@ -52,7 +52,7 @@ pub record Gathers (terms : List (Option Terms)) (es : List Entry) (g : Gathered
   pub keys : Knows terms es g.keys
 
 -- a line added its entry to these
-pub record Took (tables : List AppliedTable) (terms : List (Option Terms)) (es : List Entry) (line : List ℕ) (g : Gathered) : Type 0 where
+pub record Addition (tables : List AppliedTable) (terms : List (Option Terms)) (es : List Entry) (line : List ℕ) (g : Gathered) : Type 0 where
   pub entry : Entry
   pub said : entry_of tables es line ≡ Ok entry
   pub gathered : Gathers terms (es ++ entry ∷ []) g

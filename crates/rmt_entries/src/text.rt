@@ -6,7 +6,7 @@ ghost use Rattle.rmt_ast.specs.EntryLists.{AreEntries, Terms};
 ghost use Rattle.rmt_ast.specs.WellFormed.{IsProgram};
 ghost use Rattle.rmt_entries.specs.Entries.{entries_of, entry_of};
 ghost use Rattle.rmt_entries.specs.Fault.{Gives};
-ghost use Rattle.rmt_entries.specs.Standing.{Gathers, IsAppliedBy, IsBelow, IsFault, IsReadable, Took};
+ghost use Rattle.rmt_entries.specs.Standing.{Addition, Gathers, IsAppliedBy, IsBelow, IsFault, IsReadable};
 
 use crate::cuts::cut;
 use crate::fault::EntryFault;
@@ -64,8 +64,8 @@ fn take_line(
     requires readable { All IsReadable tables.now }
     requires within { All (IsBelow (length gathered.old.lists.items)) tables.now }
     requires few { gathered.old.number < 4294967295 }
-    ensures took { OnOk result ((terms : List (Option Terms)) (es : List Entry) → Gathers terms es gathered.old →
-        All (IsAppliedBy terms) tables.now → Took tables.now terms es line.now gathered.new) }
+    ensures addition { OnOk result ((terms : List (Option Terms)) (es : List Entry) → Gathers terms es gathered.old →
+        All (IsAppliedBy terms) tables.now → Addition tables.now terms es line.now gathered.new) }
     ensures fault { IfErr result (λ fault. IsFault fault number (λ code. (terms : List (Option Terms)) (es : List Entry) →
         Gathers terms es gathered.old → All (IsAppliedBy terms) tables.now → entry_of tables.now es line.now ≡ Err code)) }
 {

@@ -7,11 +7,11 @@ use Rattle.rmt_ast.specs.declared.program.Node.{Node}
 use Rattle.rmt_ast.specs.EntryLists.{terms_at}
 use Rattle.rmt_entries.specs.Entries.{entries_of, entry_of}
 use Rattle.rmt_entries.specs.Reads.{Reads, node_terms}
-use Rattle.rmt_entries.specs.Standing.{IsAppliedBy, IsBelow, IsReadable, Took}
+use Rattle.rmt_entries.specs.Standing.{Addition, IsAppliedBy, IsBelow, IsReadable}
 use Rattle.rmt_entries.specs.Tables.{AppliedTable, applied_tables}
 use Rattle.rmt_entries.proofs.LawLists.{entries_law}
 use Rattle.rmt_entries.proofs.ProgramLaws.{are_applied, are_below, are_readable}
-use Rattle.rmt_entries.proofs.TextLaws.{gives_fault, gives_handed, has_bytes, has_none, lists_of_nodes, reads_first, reads_passed, reads_took, reads_bad, reads_end}
+use Rattle.rmt_entries.proofs.TextLaws.{gives_fault, gives_handed, has_bytes, has_none, lists_of_nodes, reads_first, reads_passed, reads_added, reads_bad, reads_end}
 use Rattle.rmt_entries.proofs.text.entries.Goals as goal
 use Rattle.rmt_entries.proofs.text.entries.Goals.{then-not-is_passed_over+in_ok-take_line, else-not-is_passed_over}
 
@@ -62,10 +62,10 @@ loop-rest-preserved c =
       reads =
           elim c.if-not-is_passed_over.branch [
             | then-not-is_passed_over+in_ok-take_line w ↦
-                let took = w.in_ok-take_line.ensures.took (node_terms p) l.invariant.reads.entries l.invariant.reads.gathered applied in
+                let addition = w.in_ok-take_line.ensures.addition (node_terms p) l.invariant.reads.entries l.invariant.reads.gathered applied in
                 rw w.gathered-is
-                (reads_took p text l.rest.now l.number l.gathered l.invariant.reads c.cut.result.0.now c.cut.result.1.now c.cut.ensures.front c.cut.ensures.back w.take_line.new.gathered
-                (sym c.is_passed_over.ensures ∙ w.if-not-is_passed_over.true) (subst (λ (ts : List AppliedTable). Took ts (node_terms p) l.invariant.reads.entries c.cut.result.0.now w.take_line.new.gathered) c.in_ok-tables.ensures took))
+                (reads_added p text l.rest.now l.number l.gathered l.invariant.reads c.cut.result.0.now c.cut.result.1.now c.cut.ensures.front c.cut.ensures.back w.take_line.new.gathered
+                (sym c.is_passed_over.ensures ∙ w.if-not-is_passed_over.true) (subst (λ (ts : List AppliedTable). Addition ts (node_terms p) l.invariant.reads.entries c.cut.result.0.now w.take_line.new.gathered) c.in_ok-tables.ensures addition))
             | else-not-is_passed_over w ↦
                 rw w.gathered-is
                 (reads_passed p text l.rest.now l.number l.gathered l.invariant.reads c.cut.result.0.now c.cut.result.1.now c.cut.ensures.front c.cut.ensures.back
