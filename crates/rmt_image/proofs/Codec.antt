@@ -61,6 +61,9 @@ codec_kept {A} test {read} {spell} {P} {R} c = record {
 }
 
 -- one behind the other
+text_behind : (bytes first second mid rest : List ℕ) → bytes ≡ first ++ mid → mid ≡ second ++ rest → bytes ≡ (first ++ second) ++ rest
+text_behind bytes first second mid rest e f = e ∙ ap (λ (t : List ℕ). first ++ t) f ∙ sym (append_assoc first second rest)
+
 pub codec_behind : {A B : Type 0} {first : Reader A} {second : A → Reader B} {s1 : A → List ℕ} {s2 : A → B → List ℕ} {Pa Ra : A → Type 0} {Pb Rb : A → B → Type 0}
     → Codec first s1 Pa Ra → ((a : A) → Codec (second a) (s2 a) (Pb a) (Rb a))
     → Codec (behind first second) (λ x. s1 x.0 ++ s2 x.0 x.1) (λ x. Pa x.0 × Pb x.0 x.1) (λ x. Ra x.0 × Rb x.0 x.1)
@@ -73,7 +76,7 @@ codec_behind {A} {B} {first} {second} {s1} {s2} {Pa} {Ra} {Pb} {Rb} c d = record
       let made_pair : (A × B) × List ℕ = ((a.0.0, b.0.0), b.0.1) in
       subst (λ (y : (A × B) × List ℕ). Took bytes (s1 y.0.0 ++ s2 y.0.0 y.0.1) y.1 (Ra y.0.0 × Rb y.0.0 y.0.1)) (ok_is made_pair (x, rest) b.2)
       (record {
-        parts = t1.parts ∙ ap (λ (t : List ℕ). s1 a.0.0 ++ t) t2.parts ∙ sym (append_assoc (s1 a.0.0) (s2 a.0.0 b.0.0) b.0.1);
+        parts = text_behind bytes (s1 a.0.0) (s2 a.0.0 b.0.0) a.0.1 b.0.1 t1.parts t2.parts;
         rest_fits = t2.rest_fits;
         fact = (t1.fact, t2.fact);
       });
