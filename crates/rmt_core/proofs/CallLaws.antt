@@ -1,12 +1,12 @@
--- Calls of commands that write no file.
-use Rattle.std.proofs.Common.{◌≡◌, ◌≢◌, ◌⊎◌, inl, inr, ℕ, List, refl, sym, ◌∙◌}
-use Rattle.rmt_io.specs.Outside.{ShelfState, SinkState, HasFile, OnlyPrinted, OnlyRead, ReadingFailed}
-use Rattle.rmt_io.proofs.OutsideLaws.{only_printed_refl, only_read_refl, only_read_trans, reading_failed_later}
+-- What calls of commands leave, one step after another.
+use Rattle.std.proofs.Common.{◌≡◌, ◌≢◌, ◌⊎◌, inl, inr, ⊎_elim, ℕ, List, refl, sym, ◌∙◌}
+use Rattle.rmt_io.specs.Outside.{ShelfState, SinkState, GainedNone, HasFile, OnlyPrinted, OnlyRead, ReadingFailed}
+use Rattle.rmt_io.proofs.OutsideLaws.{only_printed_refl, only_read_refl, only_read_trans, reading_failed_later, writing_failed_later}
 use Rattle.rmt_core.specs.declared.status.Status.{Status}
 use Rattle.rmt_core.specs.declared.status.Status.TheVariants.{ReadFault, WriteFault, TooLong, NoMemory}
 use Rattle.rmt_core.specs.Files.{Files}
 use Rattle.rmt_core.specs.Given.{Given, Opens, Reads}
-use Rattle.rmt_core.specs.Ends.{Answered, Outside, ReadsAndPrints, outside}
+use Rattle.rmt_core.specs.Ends.{Answered, Outside, ReadsAndPrints, WritesAndPrints, outside}
 use Rattle.rmt_core.specs.Loading.{IsFound, NotOpened, NotRead}
 use Rattle.rmt_core.specs.Telling.{Tells}
 use Rattle.rmt_core.proofs.EndLaws.{no_memory, not_opened, not_read, opens_on, reads_on}
@@ -21,10 +21,21 @@ unopened_unwritten : {P : Type 0} (s : Status) → (s ≡ ReadFault) ⊎ (s ≡ 
 unopened_unwritten s (inl h) e = absurd (cc)
 unopened_unwritten s (inr h) e = absurd (cc)
 
-told_unread : {P : Type 0} (wanted s : Status) → wanted ≢ ReadFault → (s ≡ wanted) ⊎ (s ≡ WriteFault) ⊎ (s ≡ NoMemory) → s ≡ ReadFault → P
+pub told_unread : {P : Type 0} (wanted s : Status) → wanted ≢ ReadFault → (s ≡ wanted) ⊎ (s ≡ WriteFault) ⊎ (s ≡ NoMemory) → s ≡ ReadFault → P
 told_unread wanted s other (inl h) e = absurd (other (sym h ∙ e))
 told_unread wanted s other (inr (inl h)) e = absurd (cc)
 told_unread wanted s other (inr (inr h)) e = absurd (cc)
+
+-- what was told, with a status that is neither, did not end by a fault of reading or with a file that is too long
+pub told_quiet : {P : Type 0} (wanted s : Status) → wanted ≢ ReadFault → wanted ≢ TooLong → (s ≡ NoMemory → P) → (s ≡ wanted) ⊎ (s ≡ WriteFault) ⊎ (s ≡ NoMemory)
+    → (s ≡ NoMemory) ⊎ (s ≡ ReadFault) ⊎ (s ≡ TooLong) → P
+told_quiet wanted s unread short quiet kind (inl e) = quiet e
+told_quiet wanted s unread short quiet (inl h) (inr (inl e)) = absurd (unread (sym h ∙ e))
+told_quiet wanted s unread short quiet (inl h) (inr (inr e)) = absurd (short (sym h ∙ e))
+told_quiet wanted s unread short quiet (inr (inl h)) (inr (inl e)) = absurd (cc)
+told_quiet wanted s unread short quiet (inr (inl h)) (inr (inr e)) = absurd (cc)
+told_quiet wanted s unread short quiet (inr (inr h)) (inr (inl e)) = absurd (cc)
+told_quiet wanted s unread short quiet (inr (inr h)) (inr (inr e)) = absurd (cc)
 
 module _ (before after : Outside) (mid : ShelfState) (name : List ℕ) (next : Files → List ℕ → Given → Type 0) where
   -- a command that read a file goes on with its bytes
@@ -102,5 +113,47 @@ goes_on_as before after gives other status turn h = record {
   read_fault = h.read_fault;
   write_fault = h.write_fault;
   only_read = h.only_read;
+  only_printed = h.only_printed;
+}
+
+-- ---- commands that may write a file
+
+-- one that reads and prints nothing but a last line
+pub writes_none : (before after : Outside) (gives : Files → Given → Type 0) (status : Status) → ReadsAndPrints before after gives status
+    → ((status ≡ NoMemory) ⊎ (status ≡ ReadFault) ⊎ (status ≡ TooLong) → GainedNone before.sink after.sink) → WritesAndPrints before after gives status
+writes_none before after gives status h quiet = record {
+  answered = h.answered;
+  quiet = quiet;
+  read_fault = h.read_fault;
+  write_fault = λ e. inr (h.write_fault e);
+  steady_write = λ e _. h.write_fault e;
+  tells = h.only_read.tells;
+  only_printed = h.only_printed;
+}
+
+-- one that read a file goes on with its bytes
+pub writes_then : (before after : Outside) (mid : ShelfState) (name : List ℕ) (next : Files → List ℕ → Given → Type 0) (limit : ℕ) (bytes : List ℕ) (status : Status)
+    → OnlyRead before.shelf mid → IsFound before.shelf name limit bytes
+    → WritesAndPrints (outside mid before.sink) after (λ files. next files bytes) status → WritesAndPrints before after (λ files. Reads files name limit (next files)) status
+writes_then before after mid name next limit bytes status r is h = record {
+  answered = reads_on before after mid name next limit bytes status r is h.answered;
+  quiet = h.quiet;
+  read_fault = λ e. reading_failed_later after.shelf r (h.read_fault e);
+  write_fault = λ e. ⊎_elim (λ failed. inl (writing_failed_later after.shelf r failed)) (λ failed. inr failed) (h.write_fault e);
+  steady_write = λ e steady. h.steady_write e (r.stays_steady steady);
+  tells = h.tells ∙ r.tells;
+  only_printed = h.only_printed;
+}
+
+-- what is said of a command is said of one that goes on as it
+pub writes_as : (before after : Outside) (gives other : Files → Given → Type 0) (status : Status)
+    → (Answered before after (gives before.shelf.files) status → Answered before after (other before.shelf.files) status) → WritesAndPrints before after gives status → WritesAndPrints before after other status
+writes_as before after gives other status turn h = record {
+  answered = λ tells. turn (h.answered tells);
+  quiet = h.quiet;
+  read_fault = h.read_fault;
+  write_fault = h.write_fault;
+  steady_write = h.steady_write;
+  tells = h.tells;
   only_printed = h.only_printed;
 }

@@ -1,7 +1,7 @@
 -- A last line for two texts that mean no program with entries is what a command gives that understands them.
-use Rattle.std.proofs.Common.{◌≡◌, ◌≢◌, ◌⊎◌, inl, inr, ⊎_elim, ℕ, List, Result, Ok, Err, refl, sym, subst}
+use Rattle.std.proofs.Common.{◌≡◌, ◌≢◌, ◌⊎◌, inl, inr, ⊎_elim, ℕ, List, [], Result, Ok, Err, refl, sym, subst, ◌∙◌}
 use Rattle.std.specs.Prelude.{⊤}
-use Rattle.rmt_io.specs.Outside.{SinkState}
+use Rattle.rmt_io.specs.Outside.{SinkState, Gained, PrintingFailed}
 use Rattle.rmt_core.specs.Types.{Program}
 use Rattle.rmt_ast.specs.declared.entry.Entry.{Entry}
 use Rattle.rmt_check.specs.Means.{Means, fault_at}
@@ -15,6 +15,7 @@ use Rattle.rmt_core.specs.declared.texts.TextFault.{TextFault}
 use Rattle.rmt_core.specs.declared.texts.TextFault.TheVariants.{NoMemory, BadProgram, BadEntries}
 use Rattle.rmt_core.specs.Given.{Given, told}
 use Rattle.rmt_core.specs.Ends.{Answered, AreSame, Outside, PrintsAll}
+use Rattle.rmt_core.specs.Printing.{GainedFront}
 use Rattle.rmt_core.specs.Telling.{Tells}
 use Rattle.rmt_core.specs.Texts.{OfEntries, Understands, bad_entries_line, bad_program_line}
 use Rattle.rmt_core.specs.TextFaults.{text_fault_line, text_fault_status}
@@ -29,6 +30,23 @@ line_answered before after gives wanted result line is same all t =
   where
     printed : (result ≡ wanted) ⊎ (result ≡ status.WriteFault) → Answered before after gives result
     printed how = told_answered before after gives wanted result line is same all t.some how t.whole t.front t.failed
+
+-- a call that printed a line with a status told it
+pub printed_tells : {before after : SinkState} {line : List ℕ} {wanted result : Status} → wanted ≢ status.NoMemory → (result ≡ wanted) ⊎ (result ≡ status.WriteFault)
+    → (result ≡ wanted → Gained before after line) → GainedFront before after line → (result ≡ status.WriteFault → PrintingFailed before after) → (result ≡ status.WriteFault → line ≢ [])
+    → Tells before after line wanted result
+printed_tells {wanted = wanted} {result = result} other how whole front failed some = record {
+  kind = ⊎_elim (λ e. inl e) (λ e. inr (inl e)) how;
+  whole = whole;
+  front = front;
+  quiet = λ m. never result m how;
+  failed = failed;
+  some = some;
+}
+  where
+    never : {P : Type 0} (r : Status) → r ≡ status.NoMemory → (r ≡ wanted) ⊎ (r ≡ status.WriteFault) → P
+    never r m (inl e) = absurd (other (sym e ∙ m))
+    never r m (inr e) = absurd (cc)
 
 -- what a fault of two texts says of them
 abbrev pub IsFaultOf : List ℕ → List ℕ → TextFault → Type 0
@@ -49,6 +67,12 @@ pub text_fault_unread : (fault : TextFault) → text_fault_status fault ≢ stat
 text_fault_unread NoMemory e = cc
 text_fault_unread (BadProgram code line column) e = cc
 text_fault_unread (BadEntries code line) e = cc
+
+-- nor that of a file that is too long
+pub text_fault_short : (fault : TextFault) → text_fault_status fault ≢ status.TooLong
+text_fault_short NoMemory e = cc
+text_fault_short (BadProgram code line column) e = cc
+text_fault_short (BadEntries code line) e = cc
 
 -- a call that told a fault of two texts
 pub text_fault_answered : (before after : Outside) (text entry_text : List ℕ) (next : Program → List (List Entry) → Given → Type 0) (fault : TextFault) (result : Status)

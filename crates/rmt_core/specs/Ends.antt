@@ -1,6 +1,6 @@
 -- How a call of a command ends, by what the command gives and what befell outside.
 use Rattle.std.specs.Prelude.{◌≡◌, ◌≢◌, ◌⊎◌, ℕ, IsTrue, List, [], Some}
-use Rattle.rmt_io.specs.Outside.{ShelfState, SinkState, Gained, OnlyPrinted, OnlyRead, PrintingFailed, ReadingFailed, WritingFailed}
+use Rattle.rmt_io.specs.Outside.{ShelfState, SinkState, Gained, GainedNone, OnlyPrinted, OnlyRead, PrintingFailed, ReadingFailed, WritingFailed}
 use Rattle.rmt_core.specs.declared.status.Status.{Status}
 use Rattle.rmt_core.specs.declared.status.Status.TheVariants.{Done, Usage, ReadFault, WriteFault, BadProgram, BadEntries, NoFit, BadImage, BadPackets, TooLong, NoMemory}
 use Rattle.rmt_core.specs.Files.{Files}
@@ -66,6 +66,17 @@ pub record ReadsAndPrints (before after : Outside) (gives : Files → Given → 
   pub read_fault : status ≡ ReadFault → ReadingFailed before.shelf after.shelf
   pub write_fault : status ≡ WriteFault → PrintingFailed before.sink after.sink
   pub only_read : OnlyRead before.shelf after.shelf
+  pub only_printed : OnlyPrinted before.sink after.sink
+
+-- A call of a command that may write a file, and prints behind that: the same, and it printed nothing where it ends for want of memory, by a fault of reading or
+-- with a file that is too long. A steady shelf has no fault of writing.
+pub record WritesAndPrints (before after : Outside) (gives : Files → Given → Type 0) (status : Status) : Type 0 where
+  pub answered : IsTrue before.shelf.tells → Answered before after (gives before.shelf.files) status
+  pub quiet : (status ≡ NoMemory) ⊎ (status ≡ ReadFault) ⊎ (status ≡ TooLong) → GainedNone before.sink after.sink
+  pub read_fault : status ≡ ReadFault → ReadingFailed before.shelf after.shelf
+  pub write_fault : status ≡ WriteFault → WritingFailed before.shelf after.shelf ⊎ PrintingFailed before.sink after.sink
+  pub steady_write : status ≡ WriteFault → IsTrue before.shelf.steady → PrintingFailed before.sink after.sink
+  pub tells : after.shelf.tells ≡ before.shelf.tells
   pub only_printed : OnlyPrinted before.sink after.sink
 
 -- the answers that come of the outside or of want of memory

@@ -3,10 +3,10 @@
 ghost use Rattle.std.specs.Prelude.{◌≡◌, ◌≢◌, ◌≤◌, ◌⊎◌, [], Ok, IsTrue, length, string_bytes};
 ghost use Rattle.rmt_ast.specs.EntryLists.{AreEntries};
 ghost use Rattle.rmt_ast.specs.WellFormed.{IsProgram};
-ghost use Rattle.rmt_io.specs.Outside.{KeepsFiles, ReadingFailed, WritingFailed, GainedNone, PrintingFailed, OnlyPrinted};
+ghost use Rattle.rmt_io.specs.Outside.{KeepsFiles, WritingFailed, GainedNone, PrintingFailed, OnlyPrinted};
 ghost use Rattle.rmt_core.specs.Commands.{IsPossible, Compile};
 ghost use Rattle.rmt_core.specs.Compiling.{Compiles, GivesCompile};
-ghost use Rattle.rmt_core.specs.Ends.{Answered, Ends, outside};
+ghost use Rattle.rmt_core.specs.Ends.{Ends, WritesAndPrints, outside};
 ghost use Rattle.rmt_core.specs.Files.{entries_limit, program_limit};
 ghost use Rattle.rmt_core.specs.Given.{Reads, stored};
 ghost use Rattle.rmt_core.specs.Making.{AreOfText};
@@ -35,23 +35,10 @@ pub fn compile<F: Shelf, O: Sink>(
     ensures possible { IsPossible
         (Compile (string_bytes program.now) (string_bytes entries.now)
         (string_bytes image.now)) result }
-    ensures answered { IsTrue (F.state shelf.old).tells →
-        let before = outside (F.state shelf.old) (O.state out.old) in
-        let after = outside (F.state shelf.new) (O.state out.new) in
-        Answered before after
-        (GivesCompile before.shelf.files (string_bytes program.now) (string_bytes entries.now)
+    ensures call { WritesAndPrints (outside (F.state shelf.old) (O.state out.old))
+        (outside (F.state shelf.new) (O.state out.new))
+        (λ files. GivesCompile files (string_bytes program.now) (string_bytes entries.now)
         (string_bytes image.now)) result }
-    ensures quiet { (result ≡ Status.NoMemory) ⊎ (result ≡ Status.ReadFault)
-        ⊎ (result ≡ Status.TooLong) → GainedNone (O.state out.old) (O.state out.new) }
-    ensures read_fault { result ≡ Status.ReadFault →
-        ReadingFailed (F.state shelf.old) (F.state shelf.new) }
-    ensures write_fault { result ≡ Status.WriteFault →
-        WritingFailed (F.state shelf.old) (F.state shelf.new)
-        ⊎ PrintingFailed (O.state out.old) (O.state out.new) }
-    ensures steady_write { result ≡ Status.WriteFault → IsTrue (F.state shelf.old).steady →
-        PrintingFailed (O.state out.old) (O.state out.new) }
-    ensures tells { (F.state shelf.new).tells ≡ (F.state shelf.old).tells }
-    ensures only_printed { OnlyPrinted (O.state out.old) (O.state out.new) }
 {
     match read_file(alloc, program, PROGRAM_LIMIT, shelf) {
         Ok(text) => compile_text(alloc, &text, entries, image, shelf, out),
@@ -71,24 +58,11 @@ fn compile_text<F: Shelf, O: Sink>(
     requires { length text.now.items ≤ program_limit }
     ensures possible { IsPossible
         (Compile [] (string_bytes entries.now) (string_bytes image.now)) result }
-    ensures answered { IsTrue (F.state shelf.old).tells →
-        let before = outside (F.state shelf.old) (O.state out.old) in
-        let after = outside (F.state shelf.new) (O.state out.new) in
-        Answered before after
-        (Reads before.shelf.files (string_bytes entries.now) entries_limit
-        (λ entry_text. Understands before.shelf.files text.now.items entry_text
-        (Compiles before.shelf.files (string_bytes image.now)))) result }
-    ensures quiet { (result ≡ Status.NoMemory) ⊎ (result ≡ Status.ReadFault)
-        ⊎ (result ≡ Status.TooLong) → GainedNone (O.state out.old) (O.state out.new) }
-    ensures read_fault { result ≡ Status.ReadFault →
-        ReadingFailed (F.state shelf.old) (F.state shelf.new) }
-    ensures write_fault { result ≡ Status.WriteFault →
-        WritingFailed (F.state shelf.old) (F.state shelf.new)
-        ⊎ PrintingFailed (O.state out.old) (O.state out.new) }
-    ensures steady_write { result ≡ Status.WriteFault → IsTrue (F.state shelf.old).steady →
-        PrintingFailed (O.state out.old) (O.state out.new) }
-    ensures tells { (F.state shelf.new).tells ≡ (F.state shelf.old).tells }
-    ensures only_printed { OnlyPrinted (O.state out.old) (O.state out.new) }
+    ensures call { WritesAndPrints (outside (F.state shelf.old) (O.state out.old))
+        (outside (F.state shelf.new) (O.state out.new))
+        (λ files. Reads files (string_bytes entries.now) entries_limit
+        (λ entry_text. Understands files text.now.items entry_text
+        (Compiles files (string_bytes image.now)))) result }
 {
     match read_file(alloc, entries, ENTRIES_LIMIT, shelf) {
         Ok(entry_text) => compile_texts(alloc, text, &entry_text, image, shelf, out),
@@ -110,20 +84,10 @@ fn compile_texts<F: Shelf, O: Sink>(
     ensures possible { IsPossible (Compile [] [] (string_bytes image.now)) result }
     ensures no_reading { result ≢ Status.ReadFault }
     ensures not_long { result ≢ Status.TooLong }
-    ensures answered { IsTrue (F.state shelf.old).tells →
-        let before = outside (F.state shelf.old) (O.state out.old) in
-        let after = outside (F.state shelf.new) (O.state out.new) in
-        Answered before after
-        (Understands before.shelf.files text.now.items entry_text.now.items
-        (Compiles before.shelf.files (string_bytes image.now))) result }
-    ensures quiet { result ≡ Status.NoMemory → GainedNone (O.state out.old) (O.state out.new) }
-    ensures write_fault { result ≡ Status.WriteFault →
-        WritingFailed (F.state shelf.old) (F.state shelf.new)
-        ⊎ PrintingFailed (O.state out.old) (O.state out.new) }
-    ensures steady_write { result ≡ Status.WriteFault → IsTrue (F.state shelf.old).steady →
-        PrintingFailed (O.state out.old) (O.state out.new) }
-    ensures tells { (F.state shelf.new).tells ≡ (F.state shelf.old).tells }
-    ensures only_printed { OnlyPrinted (O.state out.old) (O.state out.new) }
+    ensures call { WritesAndPrints (outside (F.state shelf.old) (O.state out.old))
+        (outside (F.state shelf.new) (O.state out.new))
+        (λ files. Understands files text.now.items entry_text.now.items
+        (Compiles files (string_bytes image.now))) result }
 {
     one_meaning();
     match understand(alloc, text.as_slice(), entry_text.as_slice()) {
@@ -146,20 +110,10 @@ fn compile_meant<F: Shelf, O: Sink>(
     ensures possible { IsPossible (Compile [] [] (string_bytes image.now)) result }
     ensures no_reading { result ≢ Status.ReadFault }
     ensures not_long { result ≢ Status.TooLong }
-    ensures answered { IsTrue (F.state shelf.old).tells →
-        let before = outside (F.state shelf.old) (O.state out.old) in
-        let after = outside (F.state shelf.new) (O.state out.new) in
-        Answered before after
-        (Compiles before.shelf.files
+    ensures call { WritesAndPrints (outside (F.state shelf.old) (O.state out.old))
+        (outside (F.state shelf.new) (O.state out.new))
+        (λ files. Compiles files
         (string_bytes image.now) meant.now.program meant.now.entries) result }
-    ensures quiet { result ≡ Status.NoMemory → GainedNone (O.state out.old) (O.state out.new) }
-    ensures write_fault { result ≡ Status.WriteFault →
-        WritingFailed (F.state shelf.old) (F.state shelf.new)
-        ⊎ PrintingFailed (O.state out.old) (O.state out.new) }
-    ensures steady_write { result ≡ Status.WriteFault → IsTrue (F.state shelf.old).steady →
-        PrintingFailed (O.state out.old) (O.state out.new) }
-    ensures tells { (F.state shelf.new).tells ≡ (F.state shelf.old).tells }
-    ensures only_printed { OnlyPrinted (O.state out.old) (O.state out.new) }
 {
     match make(alloc, &meant.program, &meant.entries) {
         Ok(made) => deliver(alloc, &made, image, shelf, out),
@@ -183,7 +137,8 @@ fn deliver<F: Shelf, O: Sink>(
         let before = outside (F.state shelf.old) (O.state out.old) in
         let after = outside (F.state shelf.new) (O.state out.new) in
         Ends before after
-        (stored before.shelf.files (string_bytes name.now) made.now.image.items made.now.lines) result }
+        (stored before.shelf.files
+        (string_bytes name.now) made.now.image.items made.now.lines) result }
     ensures files { result ≡ Status.NoMemory → KeepsFiles (F.state shelf.old) (F.state shelf.new) }
     ensures quiet { result ≡ Status.NoMemory → GainedNone (O.state out.old) (O.state out.new) }
     ensures write_fault { result ≡ Status.WriteFault →

@@ -1,28 +1,46 @@
-use Rattle.std.proofs.Common.{List, ℕ, Err, Vec, ap, ◌∙◌, inl, inr, refl, string_bytes, subst, sym}
+use Rattle.std.proofs.Common.{List, ℕ, Err, Vec, ap, ◌∙◌, inr, inl, refl, string_bytes, subst, sym}
 use Rattle.std.specs.Global.{Global}
-use Rattle.rmt_core.specs.declared.status.Status.TheVariants.{NoFit}
+use Rattle.rmt_core.specs.declared.status.Status.TheVariants.{Done, NoFit}
 use Rattle.rmt_core.specs.Compiling.{Compiles, written}
-use Rattle.rmt_core.specs.Files.{Files}
 use Rattle.rmt_core.specs.Given.{Given, stored, told}
+use Rattle.rmt_core.proofs.CallLaws.{ends_at_once, ends_told, told_quiet, told_unread, writes_none}
 use Rattle.rmt_core.proofs.DeliverLaws.{delivered}
-use Rattle.rmt_core.proofs.EndLaws.{told_answered}
+use Rattle.rmt_core.proofs.TextLaws.{line_answered, printed_tells}
 use Rattle.rmt_core.proofs.compiling.compile_meant.Goals as goal
 
-pub returns-in-Ok-clause-answered : goal.returns-in-Ok-clause-answered
-returns-in-Ok-clause-answered g c = λ tells.
-    let files : Files = (g.F.Shelf.state c.args.shelf.now).files in
-    let name : List ℕ = string_bytes c.args.image.now in
-    let given = stored files name c.in-Ok.made.image.items c.in-Ok.made.lines in
+pub returns-in-Ok-clause-call : goal.returns-in-Ok-clause-call
+returns-in-Ok-clause-call g c =
+    let files = (g.F.Shelf.state c.args.shelf.now).files in
+    let name = string_bytes c.args.image.now in
     let d = c.deliver.ensures in
-    delivered _ _ (Compiles files name c.args.meant.now.program c.args.meant.now.entries) given c.deliver.result (c.in-Ok.ensures.made files name) d.kind
-    (λ some. d.ends some tells) (λ e. d.files e tells) d.quiet
+    record {
+      answered = λ tells.
+          delivered _ _ (Compiles files name c.args.meant.now.program c.args.meant.now.entries) (stored files name c.in-Ok.made.image.items c.in-Ok.made.lines) c.deliver.result
+          (c.in-Ok.ensures.made files name) d.kind (λ some. d.ends some tells) (λ e. d.files e tells) d.quiet;
+      quiet = told_quiet Done c.deliver.result (λ e. cc) (λ e. cc) d.quiet d.kind;
+      read_fault = told_unread Done c.deliver.result (λ e. cc) d.kind;
+      write_fault = d.write_fault;
+      steady_write = d.steady_write;
+      tells = d.tells;
+      only_printed = d.only_printed;
+    }
 
-pub returns-in-Err-NoFit-clause-answered : goal.returns-in-Err-NoFit-clause-answered
-returns-in-Err-NoFit-clause-answered g c = λ _.
-    let files : Files = (g.F.Shelf.state c.args.shelf.now).files in
-    let name : List ℕ = string_bytes c.args.image.now in
-    let gives : Given → Type 0 = Compiles files name c.args.meant.now.program c.args.meant.now.entries in
-    let line_why = c.make.ensures.refused c.in-Err-NoFit.line (c.in-Err-NoFit.is ∙ ap Err c.in-Err-NoFit.field-0-is) files (written files name c.args.meant.now.program) in
-    let why = subst (λ (line : List ℕ). gives (told files NoFit line)) (ap (λ (line : Vec ℕ Global). line.items) (sym c.in-Err-NoFit.line-is) ∙ sym c.as_slice.ensures.value) line_why in
+pub returns-in-Err-NoMemory-clause-call : goal.returns-in-Err-NoMemory-clause-call
+returns-in-Err-NoMemory-clause-call g c = writes_none _ _ _ _ (ends_at_once _ _) (λ _ _. refl)
+
+pub returns-in-Err-NoFit-clause-call : goal.returns-in-Err-NoFit-clause-call
+returns-in-Err-NoFit-clause-call g c =
+    let shelf = g.F.Shelf.state c.args.shelf.now in
+    let name = string_bytes c.args.image.now in
+    let p = c.args.meant.now.program in
+    let lists = c.args.meant.now.entries in
+    let gives : Given → Type 0 = Compiles shelf.files name p lists in
+    let line_why = c.make.ensures.refused c.in-Err-NoFit.line (c.in-Err-NoFit.is ∙ ap Err c.in-Err-NoFit.field-0-is) shelf.files (written shelf.files name p) in
+    let why = subst (λ (line : List ℕ). gives (told shelf.files NoFit line)) (ap (λ (line : Vec ℕ Global). line.items) (sym c.in-Err-NoFit.line-is) ∙ sym c.as_slice.ensures.value) line_why in
     let e = c.end_with.ensures in
-    told_answered _ _ gives NoFit c.end_with.result c.as_slice.result.now why (λ _. refl) (inr (inr (inr (inl refl)))) e.some e.status e.printed e.front e.failed
+    let line = printed_tells {before = g.O.Sink.state c.args.out.now} {after = g.O.Sink.state c.end_with.new.out} {line = c.as_slice.result.now} {wanted = NoFit} {result = c.end_with.result}
+    (λ m. cc) e.status e.printed e.front e.failed e.some in
+    writes_none _ _ _ _
+    (ends_told shelf _ _ (λ files. Compiles files name p lists) NoFit c.end_with.result c.as_slice.result.now (λ m. cc) line e.only_printed
+    (line_answered _ _ gives NoFit c.end_with.result c.as_slice.result.now why (λ _. refl) (inr (inr (inr (inl refl)))) line))
+    (told_quiet NoFit c.end_with.result (λ m. cc) (λ m. cc) line.quiet line.kind)
