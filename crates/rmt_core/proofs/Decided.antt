@@ -1,6 +1,6 @@
 -- A configuration keeps the rules of form, or it doesn't.
 use Rattle.std.proofs.Common.{◌≡◌, ◌⊎◌, inl, inr, ⊎_elim, ℕ, zero, suc, ◌+◌, ◌*◌, ◌^◌, ◌<◌, ◌≤◌, Bool, true, false, ◌&&◌, eqb, List, [], ◌∷◌, length, sym, refl, subst, arith}
-use Rattle.std.specs.Prelude.{All, IsTrue, ◌==◌, find, not, option_map, unwrap_or}
+use Rattle.std.specs.Prelude.{All, IsTrue, ◌==◌, not}
 use Rattle.std.proofs.lemmas.Bool.{cases_eq, cases_lt, ne_eqb}
 use Rattle.std.proofs.Math.Nat.{le-mul_of_pos_right}
 use Rattle.std.proofs.lemmas.Nat.{pow_pos}
@@ -11,6 +11,7 @@ use Rattle.rmt_config.specs.declared.config.Memory.TheVariants.{Without, Exact, 
 use Rattle.rmt_config.specs.CellForm.{Coded, EndsAt, MemoryEnds, RecordsEnd, SlotHolds, StageHolds, cells_of, coded_from, entries_are_numbered, is_clear, none, exact, ternary, numbers_are_formed}
 use Rattle.rmt_config.specs.Cells.{Blocks, blocks_at, cells_in, content_of, record_at, sram_row, tcam_row, unit_row}
 use Rattle.rmt_config.specs.Form.{Formed, items_are_formed}
+use Rattle.rmt_config.proofs.HeldRows.{held_of}
 use Rattle.rmt_config.specs.LaneForm.{bits_of_lanes}
 use Rattle.rmt_config.specs.Shapes.{divided_up, record_units, record_width, records_a_row}
 use Rattle.rmt_config.specs.StageForm.{rows_are_formed}
@@ -66,17 +67,13 @@ never_and : (a : Bool) → (a && false) ≡ false
 never_and true = refl
 never_and false = refl
 
--- a part of a row that is listed by block and row, and 0 of another
-abbrev held_in : {X : Type 0} → (X → ℕ) → (X → ℕ) → (X → ℕ) → List X → Blocks
-held_in block_of row_of part rows block row = unwrap_or (option_map part (find (λ r. (eqb (block_of r) block) && (eqb (row_of r) row)) rows)) 0
-
-clear_from : {X : Type 0} (block_of row_of part : X → ℕ) (rows : List X) → (m : ℕ) × IsClearFrom m (held_in block_of row_of part rows)
+clear_from : {X : Type 0} (block_of row_of part : X → ℕ) (rows : List X) → (m : ℕ) × IsClearFrom m (held_of block_of row_of part rows)
 clear_from block_of row_of part [] = (0, λ block row le. refl)
 clear_from {X} block_of row_of part (r ∷ rows) =
     let rest = clear_from block_of row_of part rows in
     (row_of r + 1 + rest.0, λ block row le. one block row (omega arith) (rest.1 block row (omega arith)))
   where
-    one : (block row : ℕ) → row_of r < row → held_in block_of row_of part rows block row ≡ 0 → held_in block_of row_of part (r ∷ rows) block row ≡ 0
+    one : (block row : ℕ) → row_of r < row → held_of block_of row_of part rows block row ≡ 0 → held_of block_of row_of part (r ∷ rows) block row ≡ 0
     one block row less e =
         let other : eqb (row_of r) row ≡ false = ne_eqb (row_of r) row (λ same. omega arith) in
         rw (other, never_and (eqb (block_of r) block)) e

@@ -2,7 +2,7 @@
 use Rattle.std.proofs.Common.{◌≡◌, ℕ, ◌+◌, ◌*◌, ◌^◌, ◌<◌, ◌≤◌, true, List, [], ◌∷◌, ◌++◌, length, map, length-append, arith}
 use Rattle.std.specs.Prelude.{Option, Some, None}
 use Rattle.std.specs.List.{fold, list_all}
-use Rattle.std.proofs.lemmas.Bool.{and_parts, eqb-true, leb-true, ltb-true}
+use Rattle.std.proofs.lemmas.Bool.{and_parts, eqb-true, ltb-true}
 use Rattle.std.proofs.lemmas.List.{length-map}
 use Rattle.rmt_bits.specs.declared.lane.Lane.{Lane}
 use Rattle.rmt_core.specs.Types.{Unit as ChipUnit, GateUnit, UnitGuard, SlotUnit, CellNumber, Memory}
@@ -13,20 +13,17 @@ use Rattle.rmt_config.specs.LaneForm.{bits_of_lanes, lane_is_formed}
 use Rattle.rmt_config.specs.Resources.{memory_sram, memory_tcam, unit_sram, unit_tcam}
 use Rattle.rmt_config.specs.Spelling.{spelled_flag, spelled_gate, spelled_guard, spelled_lane, spelled_list16, spelled_list32, spelled_list8, spelled_memory, spelled_number, spelled_slot, spelled_slot_head, spelled_test, spelled_unit, two_bytes}
 use Rattle.rmt_config.specs.UnitForm.{gate_is_formed, memory_is_formed, slot_head_is_formed, unit_is_formed}
-use Rattle.rmt_config.proofs.SlotLaws.{exact-fits, ternary-fits}
+use Rattle.rmt_config.proofs.SlotLaws.{exact-fits, lane-bit, ternary-fits}
 use Rattle.rmt_core.proofs.size.Lists.{flat_map_short}
 
 -- ---- keys
-
-lane_some : (lane : Lane) → lane_is_formed lane ≡ true → 1 ≤ lane.len
-lane_some lane h = leb-true 1 lane.len (and_parts _ _ (and_parts _ _ (and_parts _ _ h).0).0).1
 
 -- lanes have at least one bit each
 lanes_within : (lanes : List Lane) (bits : ℕ) → list_all lane_is_formed lanes ≡ true → bits + length lanes ≤ fold ◌+◌ bits (map (λ (lane : Lane). lane.len) lanes)
 lanes_within [] bits formed = omega arith
 lanes_within (lane ∷ lanes) bits formed =
     let parts = and_parts (lane_is_formed lane) (list_all lane_is_formed lanes) formed in
-    omega (arith, lane_some lane parts.0, lanes_within lanes (bits + lane.len) parts.1)
+    omega (arith, lane-bit lane parts.0, lanes_within lanes (bits + lane.len) parts.1)
 
 keys_within : (s : SlotUnit) → slot_head_is_formed s ≡ true → bits_of_lanes s.keys ≤ 640 → length s.keys ≤ 640
 keys_within s head bits = omega (arith, bits, lanes_within s.keys 0 (and_parts _ _ (and_parts _ _ (and_parts _ _ head).0).0).1)

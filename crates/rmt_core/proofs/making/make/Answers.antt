@@ -1,11 +1,10 @@
 use Rattle.std.proofs.Common.{Err, ap}
-use Rattle.rmt_config.proofs.CountsLemmas.{counts_fit}
 use Rattle.rmt_core.proofs.MakeLaws.{are_nodes, both_ok, built_image, lines_some}
 use Rattle.rmt_core.proofs.NoFitLaws.{same_Err}
 use Rattle.rmt_core.proofs.making.make.Goals as goal
 
-pub made_of-requires-clause-counts : goal.made_of-requires-clause-counts
-made_of-requires-clause-counts c = counts_fit c.in-Ok.built.config c.in-Ok.ensures.built.makes.spells.formed.items
+pub made_of-requires-clause-formed : goal.made_of-requires-clause-formed
+made_of-requires-clause-formed c = c.in-Ok.ensures.built.makes.spells.formed
 
 pub made_of-requires-clause-nodes : goal.made_of-requires-clause-nodes
 made_of-requires-clause-nodes c = are_nodes c.args.program.now c.in-Ok.built.map.places c.in-Ok.built.bound c.requires.program c.in-Ok.ensures.built.makes.bound
