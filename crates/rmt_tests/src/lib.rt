@@ -28,6 +28,8 @@ mod loading;
 #[cfg(test)]
 mod memories;
 #[cfg(test)]
+mod names;
+#[cfg(test)]
 mod outside;
 #[cfg(test)]
 mod packets;
