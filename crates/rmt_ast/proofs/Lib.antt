@@ -9,3 +9,4 @@ pub mod EventLaws
 pub mod RankLaws
 pub mod NamingExamples
 pub mod EventExamples
+pub mod NamingLaws

@@ -1,7 +1,7 @@
 -- The rules of form on names that speak of names alone, each by itself; and which entries are well formed for names.
-use Rattle.std.specs.Prelude.{ℕ, ◌<◌, List, [], ◌∷◌, Bool, true, not, ◌&&◌, ◌==◌, nat_lt, nat_le, Option, option_map, find, length, map, All}
-use Rattle.std.specs.List.{list_all, range_with_len}
-use Rattle.rmt_ast.specs.Types.{Kind}
+use Rattle.std.specs.Prelude.{ℕ, ◌<◌, List, [], ◌∷◌, Bool, true, not, ◌&&◌, ◌==◌, nat_lt, nat_le, Option, option_map, find, length, map, All, IsTrue}
+use Rattle.std.specs.List.{flat_map, list_all, range_with_len}
+use Rattle.rmt_ast.specs.Types.{Action, Kind, Program, Table}
 use Rattle.rmt_ast.specs.declared.program.Kind.TheVariants.{Keyless, Exact, Prefix, Ternary}
 use Rattle.rmt_ast.specs.declared.entry.Entry.{Entry}
 use Rattle.rmt_ast.specs.declared.names.Names.{Names}
@@ -11,6 +11,7 @@ use Rattle.rmt_ast.specs.declared.names.RankOf.{RankOf}
 use Rattle.rmt_ast.specs.NameList.{is_known}
 use Rattle.rmt_ast.specs.NameForm.{is_name}
 use Rattle.rmt_ast.specs.Naming.{has_key}
+use Rattle.rmt_ast.specs.Answers.{entry_numbers}
 use Rattle.rmt_ast.specs.EntryLists.{Terms, AreEntriesFor}
 
 -- each number is below the later ones
@@ -87,3 +88,9 @@ terms_named names node = option_map terms_of_name (find (λ (t : TableName). t.n
 pub record AreEntriesOf (names : Names) (lists : List (List Entry)) : Type 0 where
   pub tables : All (λ (t : TableName). t.node < length lists) names.tables
   pub entries : AreEntriesFor (map (terms_named names) (range_with_len 0 (length lists))) lists
+
+-- a program that an image can name, with its entries: its names are ones that an image may have, and 1,048,576 more entries find numbers
+pub record CanBeNamed (p : Program) (lists : List (List Entry)) : Type 0 where
+  pub tables : All (λ (t : Table). IsTrue (is_name t.name)) p.tables
+  pub actions : All (λ (a : Action). IsTrue (is_name a.name)) p.actions
+  pub numbers : All (λ n. n < 4293918720) (flat_map entry_numbers lists)
