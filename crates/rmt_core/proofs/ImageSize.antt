@@ -8,7 +8,7 @@ use Rattle.rmt_ast.specs.declared.entry.Entry.{Entry}
 use Rattle.rmt_ast.specs.WellFormed.{IsProgram}
 use Rattle.rmt_entries.specs.declared.fault.EntryFault.{EntryFault}
 use Rattle.rmt_entries.specs.Entries.{by_node, entries_at, entries_of, lists_or_fault, reading}
-use Rattle.rmt_entries.specs.Lines.{numbered_lines}
+use Rattle.rmt_bits.specs.Lines.{numbered_lines}
 use Rattle.rmt_entries.specs.Tables.{applied_tables}
 use Rattle.rmt_entries.proofs.LawKeys.{same_Ok}
 use Rattle.rmt_entries.proofs.LawLists.{entries_law}

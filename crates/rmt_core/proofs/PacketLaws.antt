@@ -7,8 +7,9 @@ use Rattle.hex.specs.Hex.{decode_of}
 use Rattle.hex.specs.declared.error.FromHexError.{FromHexError}
 use Rattle.hex.proofs.HexLemmas.{decode_of-ok}
 use Rattle.rmt_bits.specs.Packet.{IsPacket, Packet}
-use Rattle.rmt_packets.specs.Lines.{numbered_lines}
-use Rattle.rmt_packets.specs.PacketText.{Reading, before, begins_with_port, frame_digits, number_of_digits, packet_of, packet_or_code, packets_of, port_digits, reading_of}
+use Rattle.rmt_bits.specs.Digits.{number_of_digits}
+use Rattle.rmt_bits.specs.Lines.{numbered_lines}
+use Rattle.rmt_packets.specs.PacketText.{Reading, before, begins_with_port, frame_digits, packet_of, packet_or_code, packets_of, port_digits, reading_of}
 
 -- a packet of a port and of what digits decode to
 decoded : (port : ℕ) (digits : List ℕ) (r : Result (List ℕ) FromHexError) (p : Packet) → decode_of digits ≡ r → port ≤ 511 → length digits ≤ 18432 → (length digits ≡ 0 → ⊥)
@@ -42,8 +43,8 @@ sized n e =
 
 line_says : (line : List ℕ) (p : Packet) → packet_of line ≡ Ok p → IsPacket p
 line_says line p told =
-    passed (begins_with_port line) (ltb 511 (number_of_digits (port_digits line))) (eqb (length (frame_digits line)) 0 || ltb 18432 (length (frame_digits line)))
-    (number_of_digits (port_digits line)) (frame_digits line) p (λ e. ltb-false 511 (number_of_digits (port_digits line)) e) (sized (length (frame_digits line))) told
+    passed (begins_with_port line) (ltb 511 (number_of_digits 10 (port_digits line))) (eqb (length (frame_digits line)) 0 || ltb 18432 (length (frame_digits line)))
+    (number_of_digits 10 (port_digits line)) (frame_digits line) p (λ e. ltb-false 511 (number_of_digits 10 (port_digits line)) e) (sized (length (frame_digits line))) told
 
 line_before : (number : ℕ) (line : List ℕ) (rest : Reading) (r : Result Packet ℕ) → packet_of line ≡ r → All IsPacket rest.packets → All IsPacket (before number r rest).packets
 line_before number line rest (Ok packet) e all = All-cons IsPacket packet rest.packets (line_says line packet e) all

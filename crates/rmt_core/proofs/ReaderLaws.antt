@@ -1,15 +1,17 @@
 -- What a reader of packets in pieces stands for, step by step.
-use Rattle.std.proofs.Common.{◌≡◌, ℕ, suc, zero, ◌+◌, ◌-◌, ◌<◌, ◌≤◌, Bool, true, false, not, cond, List, [], ◌∷◌, ◌++◌, length, take, get_or, Option, Some, None, Ok, Err, IsTrue, refl, sym, ap, ◌∙◌, inl, inr, arith, length-append, append_assoc, append-nil}
+use Rattle.std.proofs.Common.{◌≡◌, ℕ, ◌+◌, ◌-◌, ◌<◌, ◌≤◌, Bool, true, false, not, cond, List, [], ◌∷◌, ◌++◌, length, take, Option, Some, None, Ok, Err, IsTrue, refl, sym, ap, ◌∙◌, inl, inr, arith, length-append, append_assoc, append-nil}
 use Rattle.std.specs.List.{enumerate_from, filter, onto_first}
 use Rattle.std.proofs.Math.Seq.{take-append-add, take-append_seam}
 use Rattle.std.proofs.lemmas.Bool.{cases_Bool, cases_lt, eqb-true, le-ltb, lt-ltb, true≢false}
 use Rattle.std.proofs.lemmas.List.{length-take, nil_from_length}
+use Rattle.std.proofs.lemmas.List.Elements.{All-cons, All-nil}
 use Rattle.std.proofs.lemmas.List.Splits.{slice_split-cons_no, slice_split-cons_yes}
 use Rattle.rmt_bits.specs.Packet.{Packet}
-use Rattle.rmt_packets.specs.Lines.{is_passed_over, lines, numbered_lines}
+use Rattle.rmt_bits.specs.Lines.{is_passed_over, lines, numbered_lines}
+use Rattle.rmt_bits.proofs.LineLaws.{is_feed}
 use Rattle.rmt_packets.specs.PacketText.{BadLine, Reading, packet_of, packets_of, reading_of}
 use Rattle.rmt_packets.specs.Pieces.{EndsLine, IsLast, LineState, Stands, ended_lines, feeds, open_line}
-use Rattle.rmt_packets.proofs.Cuts.{ended_fed, ended_grows, is_feed, lines_go_on, whole_lines}
+use Rattle.rmt_packets.proofs.Cuts.{ended_fed, ended_grows, lines_go_on, whole_lines}
 use Rattle.rmt_packets.proofs.Fronts.{packet_of_front}
 use Rattle.rmt_packets.proofs.Readings.{behind_end, behind_fault, behind_packet, reading_append, then}
 use Rattle.rmt_core.specs.Pieces.{GoesTooFar}
@@ -42,15 +44,11 @@ few_taken false text =
     let last : List (ℕ × List ℕ) = cond (is_passed_over (open_line text)) [] ((feeds text + 1, open_line text) ∷ []) in
     omega (arith, few_lines 1 text, ap length (whole_lines text), length-append (ended_lines text) last)
 
-none_one : (b : ℕ) → is_feed b ≡ false → (k : ℕ) → k < length (b ∷ []) → is_feed (get_or (b ∷ []) k 0) ≡ false
-none_one b e zero lt = e
-none_one b e (suc k) lt = absurd (omega arith)
-
 ended_one : (text : List ℕ) (b : ℕ) → (more : List (ℕ × List ℕ)) × (ended_lines (text ++ b ∷ []) ≡ ended_lines text ++ more)
 ended_one text b =
     elim (cases_Bool (is_feed b)) [
       | inl e ↦ (_, ap (λ x. ended_lines (text ++ x ∷ [])) (eqb-true b 10 e) ∙ ended_fed text)
-      | inr e ↦ ([], ended_grows text (b ∷ []) (none_one b e) ∙ sym (append-nil (ended_lines text)))
+      | inr e ↦ ([], ended_grows text (b ∷ []) (All-cons (λ x. is_feed x ≡ false) b [] e (All-nil (λ x. is_feed x ≡ false))) ∙ sym (append-nil (ended_lines text)))
     ]
 
 -- a text that goes on keeps the packet lines that are ended

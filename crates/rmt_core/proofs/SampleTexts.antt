@@ -1,19 +1,22 @@
 -- The texts of a sample are short, and no line of its packets is bad.
-use Rattle.std.proofs.Common.{◌≡◌, ℕ, zero, suc, ◌+◌, ◌*◌, ◌/◌, ◌%◌, ◌^◌, ◌<◌, ◌≤◌, Bool, true, false, cond, eqb, List, [], ◌∷◌, ◌++◌, length, None, refl, sym, ap, ◌∙◌, arith, append_assoc, length-append}
+use Rattle.std.proofs.Common.{◌≡◌, ℕ, zero, suc, ◌+◌, ◌*◌, ◌/◌, ◌%◌, ◌^◌, ◌<◌, ◌≤◌, Bool, true, false, cond, eqb, List, [], ◌∷◌, ◌++◌, length, get_or, None, refl, sym, ap, ◌∙◌, arith, append_assoc, length-append}
 use Rattle.std.specs.Prelude.{codes, replicate, slice_index}
 use Rattle.std.specs.Fmt.{decimal}
 use Rattle.std.specs.Int.{bytes_high_first, byte_at}
 use Rattle.std.specs.List.{flat_map, range_with_len}
 use Rattle.std.proofs.lemmas.Bool.{ne_eqb}
-use Rattle.std.proofs.lemmas.Fmt.{decimal_by_steps, length-decimal-le}
+use Rattle.std.proofs.lemmas.Fmt.{length-decimal-le}
+use Rattle.std.proofs.lemmas.List.Elements.{All-append, All-cons, All-nil}
 use Rattle.std.proofs.lemmas.Option.{none-some}
 use Rattle.hex.specs.Hex.{IsBytes, encode_lower, encode_with, hex_digit_value, lower_digits}
 use Rattle.hex.proofs.HexLemmas.{IsDigits-lower_digits}
 use Rattle.rmt_bits.specs.Packet.{Packet}
-use Rattle.rmt_packets.specs.Lines.{is_passed_over, numbered_lines}
+use Rattle.rmt_bits.proofs.LineLaws.{is_feed}
+use Rattle.rmt_bits.proofs.DigitLaws.{IsDigit-at, Says-decimal, Says-first}
+use Rattle.rmt_bits.specs.Lines.{is_passed_over, numbered_lines}
 use Rattle.rmt_packets.specs.PacketText.{before, packet_text, packets_of, reading_of}
 use Rattle.rmt_packets.specs.Pieces.{feeds}
-use Rattle.rmt_packets.proofs.Cuts.{NoFeed, is_feed, numbered_append, numbered_line}
+use Rattle.rmt_packets.proofs.Cuts.{NoFeed, numbered_append, numbered_line}
 use Rattle.rmt_packets.proofs.RoundTrip.{packet_of-packet_text}
 use Rattle.rmt_sample.specs.Texts.{before_size, behind_sizes, between_sizes, entries_text, entry_line, ethernet, frame, host, host_line, internet, packet_line, packets_text, program_text, station, station_line}
 
@@ -103,45 +106,26 @@ is_frame j = by (eqb (j % 2) 0)
 
 -- ---- lines
 
-pub free_cons : (x : ℕ) (xs : List ℕ) → is_feed x ≡ false → NoFeed xs → NoFeed (x ∷ xs)
-free_cons x xs e n zero lt = e
-free_cons x xs e n (suc k) lt = n k (omega arith)
-
-free_append : (xs ys : List ℕ) → NoFeed xs → NoFeed ys → NoFeed (xs ++ ys)
-free_append [] ys n m = m
-free_append (x ∷ xs) ys n m = free_cons x (xs ++ ys) (n 0 (omega arith)) (free_append xs ys (λ k lt. n (suc k) (omega arith)) m)
-
-digit_free : (d : ℕ) → d < 10 → NoFeed ((48 + d) ∷ [])
-digit_free d lt = free_cons (48 + d) [] (ne_eqb (48 + d) 10 (λ e. omega arith)) (λ k less. absurd (omega arith))
-
 decimal_free : (n : ℕ) → n < 2 ^ 64 → NoFeed (decimal n)
-decimal_free n lt = decimal_by_steps (λ m ds. NoFeed ds) digit_free (λ m ds ge free. free_append ds ((48 + m % 10) ∷ []) free (digit_free (m % 10) (omega arith))) n lt
+decimal_free n lt k d less =
+    let is = IsDigit-at (decimal n) (Says-decimal n lt).digits k d less in
+    ne_eqb (get_or (decimal n) k d) 10 (λ e. omega (arith, is.low))
 
 hex_digit_free : (d : ℕ) → d < 16 → is_feed (slice_index lower_digits d) ≡ false
 hex_digit_free d lt = ne_eqb (slice_index lower_digits d) 10 (λ e. none-some d (sym (ap hex_digit_value e) ∙ IsDigits-lower_digits d lt))
 
 hex_free : (xs : List ℕ) → IsBytes xs → NoFeed (encode_lower xs)
 unfolding encode_with
-hex_free [] b = λ k less. absurd (omega arith)
+hex_free [] b = All-nil (λ x. is_feed x ≡ false)
 hex_free (x ∷ xs) b =
-    free_cons (slice_index lower_digits (x / 16)) (slice_index lower_digits (x % 16) ∷ encode_with lower_digits xs) (hex_digit_free (x / 16) (omega (arith, b 0)))
-    (free_cons (slice_index lower_digits (x % 16)) (encode_with lower_digits xs) (hex_digit_free (x % 16) (omega arith)) (hex_free xs (λ i. b (suc i))))
+    All-cons (λ b. is_feed b ≡ false) (slice_index lower_digits (x / 16)) (slice_index lower_digits (x % 16) ∷ encode_with lower_digits xs) (hex_digit_free (x / 16) (omega (arith, b 0)))
+    (All-cons (λ b. is_feed b ≡ false) (slice_index lower_digits (x % 16)) (encode_with lower_digits xs) (hex_digit_free (x % 16) (omega arith)) (hex_free xs (λ i. b (suc i))))
 
--- digits begin with one
-record Begins (ds : List ℕ) : Type 0 where
-  first : ℕ
-  rest : List ℕ
-  is : ds ≡ first ∷ rest
-  low : 48 ≤ first
-
-decimal_begins : (n : ℕ) → n < 2 ^ 64 → Begins (decimal n)
-decimal_begins n lt =
-    decimal_by_steps (λ m ds. Begins ds) (λ m less. record { first = 48 + m; rest = []; is = refl; low = omega arith })
-    (λ m ds ge b. record { first = b.first; rest = b.rest ++ (48 + m % 10) ∷ []; is = ap (λ l. l ++ (48 + m % 10) ∷ []) b.is; low = b.low }) n lt
-
-not_passed : (ds more : List ℕ) → Begins ds → is_passed_over (ds ++ more) ≡ false
-not_passed ds more b =
-    ap (λ l. is_passed_over (l ++ more)) b.is ∙ rw (ne_eqb b.first 32 (λ e. omega (arith, b.low)), ne_eqb b.first 35 (λ e. omega (arith, b.low))) refl
+not_passed : (n : ℕ) (more : List ℕ) → n < 2 ^ 64 → is_passed_over (decimal n ++ more) ≡ false
+not_passed n more lt =
+    let s = Says-decimal n lt in
+    let low = (Says-first n (decimal n) s).low in
+    ap (λ l. is_passed_over (l ++ more)) s.is ∙ rw (ne_eqb s.first 32 (λ e. omega (arith, low)), ne_eqb s.first 35 (λ e. omega (arith, low))) refl
 
 -- one line, and then the others
 pub line_behind : (k : ℕ) (line rest : List ℕ) → NoFeed line → is_passed_over line ≡ false → numbered_lines k ((line ++ 10 ∷ []) ++ rest) ≡ (k, line) ∷ numbered_lines (k + (feeds line + 1)) rest
@@ -153,14 +137,14 @@ abbrev packet_at : ℕ → Packet
 packet_at j = record { port = j % 512; frame = frame j }
 
 no_bad_line : (a n k : ℕ) → (reading_of (numbered_lines k (flat_map packet_line (range_with_len a n)))).bad ≡ None
-no_bad_line a zero k = ap (λ l. (reading_of l).bad) (numbered_line k [] (λ i less. absurd (omega arith)))
+no_bad_line a zero k = ap (λ l. (reading_of l).bad) (numbered_line k [] (All-nil (λ b. is_feed b ≡ false)))
 no_bad_line a (suc n) k =
     let f = is_frame a in
     let rest = flat_map packet_line (range_with_len (a + 1) n) in
     let text = packet_text (packet_at a) in
     let hex = encode_lower (frame a) in
-    let free = free_append (decimal (a % 512)) (32 ∷ hex) (decimal_free (a % 512) (omega arith)) (free_cons 32 hex refl (hex_free (frame a) f.bytes)) in
-    let passed = not_passed (decimal (a % 512)) (32 ∷ hex) (decimal_begins (a % 512) (omega arith)) in
+    let free = All-append (λ b. is_feed b ≡ false) (decimal (a % 512)) (32 ∷ hex) (decimal_free (a % 512) (omega arith)) (All-cons (λ b. is_feed b ≡ false) 32 hex refl (hex_free (frame a) f.bytes)) in
+    let passed = not_passed (a % 512) (32 ∷ hex) (omega arith) in
     let line : packet_line a ≡ text ++ 10 ∷ [] = sym (append_assoc (decimal (a % 512)) (32 ∷ hex) (10 ∷ [])) in
     let says = packet_of-packet_text (packet_at a) (omega arith) f.some f.few f.bytes in
     let later = k + (feeds text + 1) in

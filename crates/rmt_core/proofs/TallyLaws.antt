@@ -11,7 +11,7 @@ use Rattle.rmt_chip.specs.Stands.{Stands, entered_of}
 use Rattle.rmt_chip.specs.Inputs.{packets_of as many_of}
 use Rattle.rmt_chip.specs.Leaving.{AnswersIf}
 use Rattle.rmt_packets.specs.PacketText.{BadLine, Reading, behind, packet_of, packets_of, reading_of}
-use Rattle.rmt_packets.specs.Lines.{numbered_lines}
+use Rattle.rmt_bits.specs.Lines.{numbered_lines}
 use Rattle.rmt_packets.proofs.Readings.{behind_packet, behind_fault, behind_end, behind_none}
 use Rattle.rmt_refine.specs.RunsAs.{told_by_outcome}
 use Rattle.rmt_core.specs.declared.sampling.run.CountedRun.{CountedRun}

@@ -1,7 +1,6 @@
 pub mod Forests
 pub mod ShapeLaws
 pub mod ProgramForest
-pub mod DecimalLaws
 pub mod TokenLaws
 pub mod ProgramSource
 pub mod SourceLaws

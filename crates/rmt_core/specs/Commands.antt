@@ -4,7 +4,7 @@ use Rattle.std.specs.List.{list_all}
 use Rattle.std.specs.Str.{bytes_eq}
 use Rattle.std.specs.Prelude.{String}
 use Rattle.std.specs.Global.{Global}
-use Rattle.rmt_packets.specs.PacketText.{is_digit, number_of_digits}
+use Rattle.rmt_bits.specs.Digits.{is_digit, number_of_digits}
 use Rattle.rmt_core.specs.declared.status.Status.{Status}
 use Rattle.rmt_core.specs.declared.status.Status.TheVariants.{Done, WriteFault, BadProgram, BadEntries, NoFit, BadImage, BadPackets, TooLong, NoMemory}
 use Rattle.rmt_core.specs.Ends.{IsOfOutside}
@@ -18,13 +18,13 @@ pub data Command : Type 0 where
   Report : (image : List ℕ) → Command
   Sample : (number : ℕ) → Command
 
+-- decimal digits, at least one and at most so many
+abbrev pub is_number : ℕ → List ℕ → Bool
+is_number most word = nat_le 1 (length word) && nat_le (length word) most && list_all is_digit word
+
 -- the cycle that 1 to 9 decimal digits say
 abbrev pub cycle_of : List ℕ → Option ℕ
-cycle_of word = if nat_le 1 (length word) && nat_le (length word) 9 && list_all is_digit word then Some (number_of_digits word) else None
-
--- 1 to 6 decimal digits
-abbrev pub is_short_number : List ℕ → Bool
-is_short_number word = nat_le 1 (length word) && nat_le (length word) 6 && list_all is_digit word
+cycle_of word = if is_number 9 word then Some (number_of_digits 10 word) else None
 
 -- a number from 1 to 100,000
 abbrev pub is_sample_number : ℕ → Bool
@@ -32,7 +32,7 @@ is_sample_number n = nat_le 1 n && nat_le n 100000
 
 -- the number that 1 to 6 decimal digits say, from 1 to 100,000
 abbrev pub sample_number_of : List ℕ → Option ℕ
-sample_number_of word = if is_short_number word && is_sample_number (number_of_digits word) then Some (number_of_digits word) else None
+sample_number_of word = if is_number 6 word && is_sample_number (number_of_digits 10 word) then Some (number_of_digits 10 word) else None
 
 -- a probe command, where its last word is a cycle
 abbrev pub probe_of : List ℕ → List ℕ → Option ℕ → Option Command

@@ -1,7 +1,7 @@
 -- What a reader of packets in pieces stands for.
 use Rattle.std.specs.Prelude.{◌≡◌, ◌≤◌, ℕ, ◌+◌, Bool, List, [], ◌∷◌, ◌++◌, None, length, IsTrue, if◌then◌else◌}
 use Rattle.rmt_bits.specs.Packet.{Packet}
-use Rattle.rmt_packets.specs.Lines.{numbered_lines}
+use Rattle.rmt_bits.specs.Lines.{numbered_lines}
 use Rattle.rmt_packets.specs.PacketText.{reading_of}
 use Rattle.rmt_packets.specs.Pieces.{LineState, Stands, ended_lines, front_of}
 

@@ -1,13 +1,17 @@
 //! The words of a command line.
 
-ghost use Rattle.std.specs.Prelude.{◌≡◌, ◌≤◌, length, string_bytes};
-ghost use Rattle.std.specs.List.{AllPass, list_all};
-ghost use Rattle.rmt_packets.specs.PacketText.{is_digit, number_of_digits};
-ghost use Rattle.rmt_core.specs.Commands.{command_of, cycle_of, is_short_number, probe_of, sample_number_of, with_one, with_three, words_of};
+ghost use Rattle.std.specs.Prelude.{◌≡◌, ◌≤◌, SomeIff, string_bytes};
+ghost use Rattle.rmt_bits.specs.Digits.{number_of_digits};
+ghost use Rattle.rmt_core.specs.Commands.{command_of, cycle_of, is_number, probe_of, sample_number_of, with_one, with_three, words_of};
 ghost use Rattle.rmt_core.specs.CommandReading.{seen};
+
+use rmt_bits::digits::{are_digits, number_up_to};
 
 /// The most digits of a cycle.
 const CYCLE_DIGITS: usize = 9;
+
+/// The greatest number of so many digits.
+const LAST_CYCLE: u32 = 999_999_999;
 
 /// The most digits of the number of a sample.
 const SAMPLE_DIGITS: usize = 6;
@@ -83,29 +87,20 @@ fn with_one<'a>(word: &String, first: &'a String) -> Command<'a>
 fn sample_number_from(word: &[u8]) -> Option<u32>
     ensures { result ≡ sample_number_of word.now }
 {
-    if !is_short_number(word) {
+    if !is_number(SAMPLE_DIGITS, word) {
         return None;
     }
-    let number = number_of(word);
-    if 1 <= number && number <= SAMPLE_MOST {
-        Some(number)
-    } else {
-        None
+    match number_from(SAMPLE_MOST, word) {
+        Some(number) if 1 <= number => Some(number),
+        _ => None,
     }
 }
 
-/// Whether a word is 1 to 6 decimal digits.
-fn is_short_number(word: &[u8]) -> bool
-    ensures { result ≡ is_short_number word.now }
+/// Whether a word is decimal digits, at least one and at most so many.
+fn is_number(most: usize, word: &[u8]) -> bool
+    ensures { result ≡ is_number most word.now }
 {
-    1 <= word.len() && word.len() <= SAMPLE_DIGITS && are_digits(word)
-}
-
-/// Whether the bytes are all decimal digits.
-fn are_digits(word: &[u8]) -> bool
-    ensures { result ≡ list_all is_digit word.now }
-{
-    word.iter().all(|byte| is_decimal(*byte))
+    1 <= word.len() && word.len() <= most && are_digits(word)
 }
 
 /// The command of a word with three words behind it.
@@ -148,31 +143,22 @@ fn probe_from<'a>(image: &'a String, packets: &'a String, cycle: &String) -> Com
 }
 
 /// The cycle that a word says, if it is 1 to 9 decimal digits.
+#[tactic(auto, using(crate::proofs::CycleWords::says_cycle))]
 fn cycle_from(word: &[u8]) -> Option<u32>
     ensures { result ≡ cycle_of word.now }
 {
-    if word.is_empty() || CYCLE_DIGITS < word.len() || !word.iter().all(|byte| is_decimal(*byte)) {
+    if !is_number(CYCLE_DIGITS, word) {
         return None;
     }
-    Some(number_of(word))
+    number_from(LAST_CYCLE, word)
 }
 
-/// Whether a byte is a decimal digit.
-fn is_decimal(byte: u8) -> bool
-    ensures { result ≡ is_digit byte }
+/// The number that decimal digits say, or None where it is above `last`.
+fn number_from(last: u32, digits: &[u8]) -> Option<u32>
+    ensures { SomeIff result (number_of_digits 10 digits.now ≤ last) (number_of_digits 10 digits.now) }
 {
-    b'0' <= byte && byte <= b'9'
-}
-
-/// At most nine decimal digits as a number.
-fn number_of(digits: &[u8]) -> u32
-    requires few { length digits.now ≤ 9 }
-    requires decimal { AllPass is_digit digits.now }
-    ensures { result ≡ number_of_digits digits.now }
-{
-    let mut number = 0u32;
-    for digit in digits {
-        number = 10 * number + u32::from(*digit - b'0');
+    match number_up_to(u128::from(last), 10, digits) {
+        Some(number) => Some(number as u32),
+        None => None,
     }
-    number
 }

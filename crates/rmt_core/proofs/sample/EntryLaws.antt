@@ -1,5 +1,5 @@
 -- The entries that a sample's text says: no line of it is bad.
-use Rattle.std.proofs.Common.{◌≡◌, ◌≢◌, ◌∙◌, refl, sym, ap, arith, ℕ, zero, suc, ◌+◌, ◌%◌, ◌<◌, ◌≤◌, ◌||◌, true, false, cond, eqb, leb, List, [], ◌∷◌, ◌++◌, length, map, Result, Ok, Err, append-nil, append_assoc, length-append}
+use Rattle.std.proofs.Common.{◌≡◌, ◌≢◌, ◌∙◌, refl, sym, ap, arith, ℕ, zero, suc, ◌+◌, ◌%◌, ◌<◌, ◌≤◌, ◌||◌, true, false, cond, eqb, leb, List, [], ◌∷◌, ◌++◌, length, get_or, map, Result, Ok, Err, append-nil, append_assoc, length-append}
 use Rattle.std.specs.Prelude.{◌&&◌, codes}
 use Rattle.std.specs.List.{flat_map, range_with_len}
 use Rattle.std.specs.Str.{bytes_eq}
@@ -7,19 +7,20 @@ use Rattle.std.proofs.lemmas.Bool.{and_parts, cond-false, false_from_ne_true, le
 use Rattle.std.proofs.lemmas.List.Elements.{filter-append}
 use Rattle.std.proofs.lemmas.List.Folds.{list_any-append}
 use Rattle.std.proofs.lemmas.List.FromFn.{length-map-range_with_len, map-range_with_len_more}
-use Rattle.std.proofs.lemmas.List.Sums.{count_by-le-length, length-filter}
+use Rattle.std.proofs.lemmas.List.Sums.{AllPass-from_list_all, count_by-le-length, length-filter}
 use Rattle.std.proofs.lemmas.Slice.Eq.{bytes_eq-Decides}
 use Rattle.rmt_ast.specs.declared.entry.Entry.{Entry}
 use Rattle.rmt_entries.specs.declared.fault.EntryFault.{EntryFault}
 use Rattle.rmt_entries.specs.Entries.{admitted, by_node, entries_at, entry_of, identity, is_repeated, line_then, reading}
-use Rattle.rmt_entries.specs.Lines.{is_passed_over, is_printable, numbered_lines}
+use Rattle.rmt_bits.specs.Lines.{is_passed_over, numbered_lines}
+use Rattle.rmt_entries.specs.Lines.{is_printable}
 use Rattle.rmt_entries.specs.Tables.{AppliedTable}
 use Rattle.rmt_packets.specs.Pieces.{feeds}
 use Rattle.rmt_packets.proofs.Cuts.{NoFeed}
 use Rattle.rmt_sample.specs.Texts.{entries_text, entry_line, host, host_line, station, station_line}
 use Rattle.rmt_core.specs.SampleProgram.{entry, host_entry, hosts, sample_entries, station_entry, stations}
 use Rattle.rmt_core.proofs.sample.AddressLaws.{same_host, same_station}
-use Rattle.rmt_core.proofs.SampleTexts.{free_cons, line_behind}
+use Rattle.rmt_core.proofs.SampleTexts.{line_behind}
 use Rattle.rmt_core.proofs.sample.EntryLineLaws.{bare, host_said, hosts as hosts_word, hosts_table, is_printable-bare, macs, said, station_said, stations_table, table, tables}
 
 -- all entries, in the order of their lines
@@ -53,11 +54,10 @@ admits es node name width n e new room = cond-false (is_repeated es e) (Err 6) _
 
 -- no line feed is printed
 unbroken : (line : List ℕ) → is_printable line ≡ true → NoFeed line
-unbroken [] shown = λ k less. absurd (omega arith)
-unbroken (b ∷ line) shown =
-    let both = and_parts (leb 32 b && leb b 126) (is_printable line) shown in
-    let low = leb-true 32 b (and_parts (leb 32 b) (leb b 126) both.0).0 in
-    free_cons b line (ne_eqb b 10 (λ e. omega (arith, low))) (unbroken line both.1)
+unbroken line shown k d lt =
+    let b = get_or line k d in
+    let low = leb-true 32 b (and_parts (leb 32 b) (leb b 126) (AllPass-from_list_all (λ x. leb 32 x && leb x 126) line shown k d lt)).0 in
+    ne_eqb b 10 (λ e. omega (arith, low))
 
 line_is : (name : List ℕ) (address i : ℕ) → entry_line name address i ≡ bare name address (i % 512) ++ 10 ∷ []
 line_is name address i = sym (simp append_assoc)

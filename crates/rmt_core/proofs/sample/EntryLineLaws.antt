@@ -1,10 +1,10 @@
 -- What the lines of a sample's entries say.
-use Rattle.std.proofs.Common.{◌≡◌, ◌∙◌, refl, ap, arith, ℕ, suc, ◌%◌, ◌^◌, ◌<◌, Bool, true, false, leb, List, [], ◌∷◌, ◌++◌, length, Some, None, Ok, Err}
+use Rattle.std.proofs.Common.{◌≡◌, ◌∙◌, refl, ap, arith, ℕ, suc, ◌%◌, ◌^◌, ◌<◌, Bool, true, false, leb, List, [], ◌∷◌, ◌++◌, length, get_or, Some, None, Ok, Err}
 use Rattle.std.specs.Prelude.{◌==◌, ◌&&◌, not, nat_le, slice_index, codes, option_map}
 use Rattle.std.specs.Fmt.{decimal}
 use Rattle.std.specs.List.{All, filter, list_all, slice_split}
 use Rattle.std.proofs.lemmas.Bool.{and_from, and_parts, and_right, cond-false, cond-true, le-leb, lt-ltb, ne_eqb}
-use Rattle.std.proofs.lemmas.List.Elements.{All-cons, All-nil}
+use Rattle.std.proofs.lemmas.List.Sums.{list_all-from_AllPass}
 use Rattle.std.proofs.lemmas.List.Folds.{list_all-append}
 use Rattle.std.proofs.lemmas.List.Splits.{slice_split_at, slice_split_none}
 use Rattle.rmt_ast.specs.EntryLists.{Terms}
@@ -14,11 +14,12 @@ use Rattle.rmt_entries.specs.Entries.{Read, of_table, read_line, read_words, wit
 use Rattle.rmt_entries.specs.declared.keys.Key.{Key}
 use Rattle.rmt_entries.specs.Keys.{both, onto, ranked, whole}
 use Rattle.rmt_entries.specs.Lines.{is_printable, words}
-use Rattle.rmt_entries.specs.Numbers.{below, is_digit, number, number_of_width}
+use Rattle.rmt_entries.specs.Numbers.{below, number, number_of_width}
 use Rattle.rmt_entries.specs.Tables.{AppliedTable, table_named}
 use Rattle.rmt_sample.specs.Texts.{host, station}
 use Rattle.rmt_core.specs.SampleProgram.{entry}
-use Rattle.rmt_core.proofs.sample.DecimalLaws.{Says, digit_of, says}
+use Rattle.rmt_bits.specs.Digits.{is_digit}
+use Rattle.rmt_bits.proofs.DigitLaws.{IsDigit-at, IsDigit-from, Says, Says-decimal}
 
 -- a table that node `node` applies, of n entries with an exact key of one field
 abbrev pub table : (node : ℕ) (name : List ℕ) (width n : ℕ) → AppliedTable
@@ -47,7 +48,7 @@ no_hex [] all = refl
 no_hex (d ∷ []) all = and_right (d == 48) (0 == 120) refl
 no_hex (d ∷ e ∷ ds) all =
     let both = and_parts (is_digit d) (list_all is_digit (e ∷ ds)) all in
-    let is = digit_of e (and_parts (is_digit e) (list_all is_digit ds) both.1).0 in
+    let is = IsDigit-from e (and_parts (is_digit e) (list_all is_digit ds) both.1).0 in
     and_right (d == 48) (e == 120) (ne_eqb e 120 (λ h. omega (arith, is.high)))
 
 some : (n : ℕ) (ds : List ℕ) → Says n ds → not (length ds == 0) ≡ true
@@ -66,22 +67,17 @@ abbrev is_space : ℕ → Bool
 is_space b = b == 32
 
 no_space : (ds : List ℕ) → list_all is_digit ds ≡ true → All (λ b. is_space b ≡ false) ds
-no_space [] all = All-nil (λ b. is_space b ≡ false)
-no_space (d ∷ ds) all =
-    let both = and_parts (is_digit d) (list_all is_digit ds) all in
-    let is = digit_of d both.0 in
-    All-cons (λ b. is_space b ≡ false) d ds (ne_eqb d 32 (λ e. omega (arith, is.low))) (no_space ds both.1)
+no_space ds all k d lt = let is = IsDigit-at ds all k d lt in ne_eqb (get_or ds k d) 32 (λ e. omega (arith, is.low))
 
 abbrev is_shown : ℕ → Bool
 is_shown b = nat_le 32 b && nat_le b 126
 
 shown : (ds : List ℕ) → list_all is_digit ds ≡ true → list_all is_shown ds ≡ true
-shown [] all = refl
-shown (d ∷ ds) all =
-    let both = and_parts (is_digit d) (list_all is_digit ds) all in
-    let is = digit_of d both.0 in
-    and_from (is_shown d) (list_all is_shown ds)
-    (and_from (leb 32 d) (leb d 126) (le-leb 32 d (omega (arith, is.low))) (le-leb d 126 (omega (arith, is.high)))) (shown ds both.1)
+shown ds all =
+    list_all-from_AllPass is_shown ds (λ k d lt.
+    let b = get_or ds k d in
+    let is = IsDigit-at ds all k d lt in
+    and_from (leb 32 b) (leb b 126) (le-leb 32 b (omega (arith, is.low))) (le-leb b 126 (omega (arith, is.high))))
 
 -- a line without its end
 abbrev pub bare : List ℕ → ℕ → ℕ → List ℕ
@@ -95,13 +91,13 @@ pub record IsWord (name : List ℕ) : Type 0 where
 
 words_behind : (address port : ℕ) → address < 2 ^ 64 → port < 2 ^ 64 → slice_split is_space (decimal address ++ (codes " forward " ++ decimal port)) ≡ decimal address ∷ codes "forward" ∷ decimal port ∷ []
 words_behind address port small low =
-    slice_split_at is_space (decimal address) 32 (codes "forward " ++ decimal port) (no_space (decimal address) (says address small).digits) refl
-    ∙ ap (λ (ws : List (List ℕ)). decimal address ∷ codes "forward" ∷ ws) (slice_split_none is_space (decimal port) (no_space (decimal port) (says port low).digits))
+    slice_split_at is_space (decimal address) 32 (codes "forward " ++ decimal port) (no_space (decimal address) (Says-decimal address small).digits) refl
+    ∙ ap (λ (ws : List (List ℕ)). decimal address ∷ codes "forward" ∷ ws) (slice_split_none is_space (decimal port) (no_space (decimal port) (Says-decimal port low).digits))
 
 words_are : (name : List ℕ) (address port : ℕ) → IsWord name → address < 2 ^ 64 → port < 2 ^ 64 → words (bare name address port) ≡ name ∷ decimal address ∷ codes "forward" ∷ decimal port ∷ []
 words_are name address port w small low =
     ap (filter (λ word. not (length word == 0))) (w.alone (decimal address ++ (codes " forward " ++ decimal port)) ∙ ap (λ ws. name ∷ ws) (words_behind address port small low))
-    ∙ rw (w.some, some address (decimal address) (says address small), some port (decimal port) (says port low)) refl
+    ∙ rw (w.some, some address (decimal address) (Says-decimal address small), some port (decimal port) (Says-decimal port low)) refl
 
 pub is_printable-bare : (name : List ℕ) (address port : ℕ) → IsWord name → address < 2 ^ 64 → port < 2 ^ 64 → is_printable (bare name address port) ≡ true
 is_printable-bare name address port w small low =
@@ -111,7 +107,7 @@ is_printable-bare name address port w small low =
     list_all-append is_shown name (codes " " ++ first)
     ∙ and_from (list_all is_shown name) (list_all is_shown first) w.shown
     (list_all-append is_shown (decimal address) second
-    ∙ and_from (list_all is_shown (decimal address)) (list_all is_shown last) (shown (decimal address) (says address small).digits) (shown last (says port low).digits))
+    ∙ and_from (list_all is_shown (decimal address)) (list_all is_shown last) (shown (decimal address) (Says-decimal address small).digits) (shown last (Says-decimal port low).digits))
 
 -- a line says its entry
 said_by : (ts : List AppliedTable) (node : ℕ) (name : List ℕ) (width n number address port : ℕ) → table_named ts name ≡ Some (table node name width n) → IsWord name
@@ -122,8 +118,8 @@ said_by ts node name width n number address port named w fits small low =
     let key : Key = record { tests = whole width address ∷ []; rank = 0 } in
     cond-true (is_printable (bare name address port)) _ (Err 1) (is_printable-bare name address port w small (omega arith))
     ∙ ap (read_words ts number) (words_are name address port w small (omega arith)) ∙ ap (of_table number (decimal address ∷ xs)) named
-    ∙ ap (λ o. with_key t number (option_map (ranked 0) (both onto (option_map (whole width) o) (Some ([], xs))))) (number_is address width (decimal address) (says address small) fits)
-    ∙ ap (λ o. with_arguments t number key 0 (whole_line (both onto o (Some ([], []))))) (number_is port 9 (decimal port) (says port (omega arith)) (omega arith))
+    ∙ ap (λ o. with_key t number (option_map (ranked 0) (both onto (option_map (whole width) o) (Some ([], xs))))) (number_is address width (decimal address) (Says-decimal address small) fits)
+    ∙ ap (λ o. with_arguments t number key 0 (whole_line (both onto o (Some ([], []))))) (number_is port 9 (decimal port) (Says-decimal port (omega arith)) (omega arith))
 
 pub macs : IsWord (codes "macs")
 macs = record { some = refl; alone = λ rest. refl; shown = refl }

@@ -1,13 +1,11 @@
 -- Forests: trees one after another, of which the tokens and the marks are computed.
-use Rattle.std.proofs.Common.{◌≡◌, ◌∙◌, sym, ap, refl, List, [], ◌∷◌, ◌++◌, map, append_assoc}
+use Rattle.std.proofs.Common.{◌≡◌, ◌∙◌, ap, refl, List, [], ◌∷◌, ◌++◌, append_assoc}
 use Rattle.std.specs.List.{flat_map}
 use Rattle.rmt_lexer.specs.declared.token.Token.{Token}
 use Rattle.rmt_syntax.specs.declared.tree.Rule.{Rule}
 use Rattle.rmt_syntax.specs.declared.tree.Tree.{Tree, One, Many}
-use Rattle.rmt_syntax.specs.declared.tree.Tree.TheVariants.{rolls-One, rolls-Many}
-use Rattle.rmt_syntax.specs.declared.tree.Tree.TheOpen as tree
-use Rattle.rmt_syntax.specs.declared.tree.Tree.TheFolds.{fold-roll-Tree}
-use Rattle.rmt_syntax.specs.Trees.{Mark, leaf, opens, shuts, marks, marks_step}
+use Rattle.rmt_syntax.specs.Trees.{Mark, leaf, opens, shuts, marks}
+use Rattle.rmt_syntax.proofs.MarkLaws.{marks_one, marks_many}
 
 -- no tree, or one and what stands behind it
 pub data Forest : Type 0 where
@@ -29,16 +27,6 @@ abbrev pub marks_of : Forest → List Mark
 marks_of nil = []
 marks_of (one t f) = leaf t ∷ marks_of f
 marks_of (many r inner f) = opens r ∷ (marks_of inner ++ shuts r ∷ marks_of f)
-
-marks_one : (t : Token) → marks (One t) ≡ leaf t ∷ []
-marks_one t = ap marks (sym (rolls-One t)) ∙ fold-roll-Tree (List Mark) marks_step (tree.One t)
-
-each_marks : (v : List Tree) → flat_map (λ m. m) (map marks v) ≡ flat_map marks v
-each_marks [] = refl
-each_marks (t ∷ v) = ap (λ ms. marks t ++ ms) (each_marks v)
-
-marks_many : (r : Rule) (v : List Tree) → marks (Many r v) ≡ opens r ∷ (flat_map marks v ++ shuts r ∷ [])
-marks_many r v = ap marks (sym (rolls-Many r v)) ∙ fold-roll-Tree (List Mark) marks_step (tree.Many r v) ∙ ap (λ ms. opens r ∷ (ms ++ shuts r ∷ [])) (each_marks v)
 
 pub marks_trees : (f : Forest) → flat_map marks (trees f) ≡ marks_of f
 marks_trees nil = refl

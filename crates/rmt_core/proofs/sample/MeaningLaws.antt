@@ -5,7 +5,7 @@ use Rattle.rmt_check.specs.Meaning.{program_of}
 use Rattle.rmt_check.specs.Means.{Means, of_program}
 use Rattle.rmt_check.specs.Rules.{fault_of}
 use Rattle.rmt_entries.specs.Entries.{entries_of, lists_or_fault, reading}
-use Rattle.rmt_entries.specs.Lines.{numbered_lines}
+use Rattle.rmt_bits.specs.Lines.{numbered_lines}
 use Rattle.rmt_sample.specs.Texts.{entries_text, program_text}
 use Rattle.rmt_core.specs.SampleProgram.{sample_entries, sample_program}
 use Rattle.rmt_core.specs.Sampling.{SampleIsMeant}

@@ -1,24 +1,20 @@
 -- The tokens of the program of a sample: its text is read piece by piece, and the two sizes by their digits.
-use Rattle.std.proofs.Common.{◌≡◌, ◌∙◌, refl, sym, ap, arith, ℕ, ◌+◌, ◌-◌, ◌^◌, ◌<◌, true, false, cond, eqb, leb, List, [], ◌∷◌, ◌++◌, length, take, drop, Result, Ok}
+use Rattle.std.proofs.Common.{◌≡◌, ◌∙◌, refl, sym, ap, arith, ℕ, ◌+◌, ◌-◌, ◌^◌, ◌<◌, true, false, eqb, leb, List, [], ◌∷◌, ◌++◌, length, take, drop, Ok}
 use Rattle.std.specs.Prelude.{◌==◌, ◌&&◌, ◌||◌, nat_lt, slice_index, if◌then◌else◌}
 use Rattle.std.specs.Fmt.{decimal}
 use Rattle.std.specs.List.{list_all, take_while}
 use Rattle.std.proofs.lemmas.Bool.{and_left, and_parts, and_right, cond-false, cond-true, lt-leb, lt-ltb, ne_eqb, or_from}
-use Rattle.std.proofs.lemmas.List.Sums.{take_while-cons}
 use Rattle.rmt_lexer.specs.declared.item.Item.TheVariants as item
-use Rattle.rmt_lexer.specs.declared.fault.ProgramFault.{ProgramFault}
 use Rattle.rmt_lexer.specs.declared.place.Place.{Place}
 use Rattle.rmt_lexer.specs.declared.token.Token.{Token}
 use Rattle.rmt_lexer.specs.declared.token.TokenKind.TheVariants as kind
-use Rattle.rmt_lexer.specs.Text.{behind, first_place, is_comment, is_digit, is_hex_number, is_letter, is_space, item_of, is_name_byte, number_item, number_of, read_item, reading, tokens_of, with_front}
+use Rattle.rmt_lexer.specs.Text.{behind, first_place, is_comment, is_letter, is_space, item_of, is_name_byte, number_item, read_item, reading, tokens_of, with_front}
 use Rattle.rmt_sample.specs.Texts.{before_size, behind_sizes, between_sizes, program_text}
-use Rattle.rmt_core.proofs.sample.DecimalLaws.{Says, digit_of, says}
+use Rattle.rmt_bits.specs.Digits.{is_digit, is_hex_number, number_of_digits}
+use Rattle.rmt_bits.proofs.DigitLaws.{IsDigit-from, Says, Says-decimal}
+use Rattle.rmt_bits.proofs.ListLaws.{take_while-until}
+use Rattle.rmt_lexer.proofs.Reading.{fronts}
 use Rattle.rmt_core.proofs.sample.ProgramForest.{number, tokens}
-
--- tokens before what is read behind them
-abbrev fronts : List Token → Result (List Token) ProgramFault → Result (List Token) ProgramFault
-fronts [] r = r
-fronts (t ∷ ts) r = with_front t (fronts ts r)
 
 abbrev at : ℕ → ℕ → Place
 at line column = record { line = line; column = column }
@@ -38,22 +34,16 @@ behind_is n first second = refl
 abbrev ended : List ℕ → List ℕ → List ℕ
 ended ds more = ds ++ 59 ∷ more
 
-taken : (ds more : List ℕ) → list_all is_digit ds ≡ true → take_while is_digit (ended ds more) ≡ ds
-taken [] more all = refl
-taken (d ∷ ds) more all =
-    let both = and_parts (is_digit d) (list_all is_digit ds) all in
-    take_while-cons is_digit d (ended ds more) ∙ ap (λ b. cond b (d ∷ take_while is_digit (ended ds more)) []) both.0 ∙ ap (λ l. d ∷ l) (taken ds more both.1)
-
 no_x : (ds more : List ℕ) → list_all is_digit ds ≡ true → eqb (slice_index (ended ds more) 0) 120 ≡ false
 no_x [] more all = refl
 no_x (d ∷ ds) more all =
-    let is = digit_of d (and_parts (is_digit d) (list_all is_digit ds) all).0 in
+    let is = IsDigit-from d (and_parts (is_digit d) (list_all is_digit ds) all).0 in
     ne_eqb d 120 (λ e. omega (arith, is.high))
 
-item_is : (n d : ℕ) (ds more : List ℕ) → n < 2 ^ 64 → list_all is_digit (d ∷ ds) ≡ true → number_of 10 (d ∷ ds) ≡ n → item_of (ended (d ∷ ds) more) ≡ item.Token (kind.Number n) (length (d ∷ ds))
+item_is : (n d : ℕ) (ds more : List ℕ) → n < 2 ^ 64 → list_all is_digit (d ∷ ds) ≡ true → number_of_digits 10 (d ∷ ds) ≡ n → item_of (ended (d ∷ ds) more) ≡ item.Token (kind.Number n) (length (d ∷ ds))
 item_is n d ds more lt all value =
     let both = and_parts (is_digit d) (list_all is_digit ds) all in
-    let is = digit_of d both.0 in
+    let is = IsDigit-from d both.0 in
     let text = ended (d ∷ ds) more in
     let named = take_while is_name_byte text in
     let digits = take_while is_digit text in
@@ -67,9 +57,9 @@ item_is n d ds more lt all value =
     let letter : is_letter d ≡ false =
     or_from (leb 97 d && leb d 122 || leb 65 d && leb d 90) (d == 95) (or_from (leb 97 d && leb d 122) (leb 65 d && leb d 90) small great) (ne_eqb d 95 (λ e. omega (arith, is.high))) in
     let hex : is_hex_number text ≡ false = and_right (d == 48) _ (no_x ds more both.1) in
-    let whole : digits ≡ d ∷ ds = taken (d ∷ ds) more all in
+    let whole : digits ≡ d ∷ ds = take_while-until is_digit (d ∷ ds) 59 more all refl in
     cond-false (is_space d) _ _ space ∙ cond-false (is_comment text) _ _ comment ∙ cond-false (is_letter d) _ _ letter ∙ cond-false (is_hex_number text) _ _ hex
-    ∙ cond-true (is_digit d) (number_item (number_of 10 digits) (length digits)) _ both.0 ∙ ap (λ l. number_item (number_of 10 l) (length l)) whole
+    ∙ cond-true (is_digit d) (number_item (number_of_digits 10 digits) (length digits)) _ both.0 ∙ ap (λ l. number_item (number_of_digits 10 l) (length l)) whole
     ∙ ap (λ v. number_item v (length (d ∷ ds))) value ∙ cond-true (nat_lt n (2 ^ 128)) _ _ (lt-ltb n (2 ^ 128) (omega arith))
 
 -- behind digits the line goes on
@@ -77,7 +67,7 @@ further : (ds more : List ℕ) (line column : ℕ) → list_all is_digit ds ≡ 
 further [] more line column all = ap (λ c. reading 0 (at line c) (59 ∷ more)) (omega arith)
 further (d ∷ ds) more line column all =
     let both = and_parts (is_digit d) (list_all is_digit ds) all in
-    let is = digit_of d both.0 in
+    let is = IsDigit-from d both.0 in
     let goes : behind (at line column) d ≡ at line (column + 1) = ap (λ b. if b then at (line + 1) 1 else at line (column + 1)) (ne_eqb d 10 (λ e. omega (arith, is.low))) in
     ap (λ p. reading (length ds) p (ended ds more)) goes ∙ further ds more line (column + 1) both.1 ∙ ap (λ c. reading 0 (at line c) (59 ∷ more)) (omega arith)
 
@@ -86,10 +76,10 @@ number_is n line column ds more lt s =
     let d = s.first in
     let rest = s.rest in
     let all : list_all is_digit (d ∷ rest) ≡ true = ap (list_all is_digit) (sym s.is) ∙ s.digits in
-    let value : number_of 10 (d ∷ rest) ≡ n = ap (number_of 10) (sym s.is) ∙ s.number in
+    let value : number_of_digits 10 (d ∷ rest) ≡ n = ap (number_of_digits 10) (sym s.is) ∙ s.number in
     let one : length (d ∷ rest) - 1 ≡ length rest = omega arith in
     let both = and_parts (is_digit d) (list_all is_digit rest) all in
-    let is = digit_of d both.0 in
+    let is = IsDigit-from d both.0 in
     let goes : behind (at line column) d ≡ at line (column + 1) = ap (λ b. if b then at (line + 1) 1 else at line (column + 1)) (ne_eqb d 10 (λ e. omega (arith, is.low))) in
     let then_on : reading (length rest) (at line (column + 1)) (ended rest more) ≡ reading 0 (at line (column + length ds)) (59 ∷ more) =
     further rest more line (column + 1) both.1 ∙ ap (λ c. reading 0 (at line c) (59 ∷ more)) (omega (arith, ap length s.is)) in
@@ -103,7 +93,7 @@ pub tokens_are : (n : ℕ) → n < 2 ^ 64 → tokens_of (program_text n) ≡ Ok 
 tokens_are n lt =
     let first = 51 + length (decimal n) in
     let second = 53 + length (decimal n) in
-    let s = says n lt in
+    let s = Says-decimal n lt in
     let behind = fronts (take 21 (drop 97 (tokens n first second))) in
     before_is n first second (decimal n ++ (between_sizes ++ (decimal n ++ behind_sizes)))
     ∙ ap (fronts (take 96 (tokens n first second)))

@@ -8,7 +8,8 @@ use Rattle.std.proofs.lemmas.List.Sums.{sum_by-cons}
 use Rattle.rmt_core.specs.Types.{Program}
 use Rattle.rmt_ast.specs.declared.entry.Entry.{Entry}
 use Rattle.rmt_entries.specs.Entries.{Read, entry_of, line_then, read_line, read_words, reading}
-use Rattle.rmt_entries.specs.Lines.{is_passed_over, is_printable, numbered_lines, words}
+use Rattle.rmt_bits.specs.Lines.{is_passed_over, numbered_lines}
+use Rattle.rmt_entries.specs.Lines.{is_printable, words}
 use Rattle.rmt_entries.specs.Tables.{AppliedTable, applied_tables}
 use Rattle.rmt_entries.proofs.LawKeys.{HasParams, same_Ok}
 use Rattle.rmt_entries.proofs.LawLines.{admitted_law, read_line_law}
