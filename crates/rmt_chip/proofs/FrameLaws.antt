@@ -5,6 +5,7 @@ use Rattle.std.proofs.Math.Seq.{take-add}
 use Rattle.std.proofs.lemmas.Bool.{cases_eq}
 use Rattle.std.proofs.lemmas.List.{take_all, length-map, length-set, get_or-set_same, get_or-set_other}
 use Rattle.std.proofs.lemmas.List.Sums.{sum_by-append, sum_by-cons}
+use Rattle.rmt_bits.proofs.MemberLaws.{Contains-later}
 use Rattle.rmt_cells.specs.declared.cells.Cells.{Cells}
 use Rattle.rmt_cells.specs.declared.cells.Chain.{Chain}
 use Rattle.rmt_cells.specs.Links.{after}
@@ -35,9 +36,6 @@ told cells chain bytes holds =
     ∙ spelt_front cells (record { chain = chain; bytes = bytes }) holds n (omega arith)
     ∙ take_all (n * 64) bytes whole
 
-later : (h : Held) (hs : List Held) (x : Held) → Contains hs x → Contains (h ∷ hs) x
-later h hs x (k, lt, is) = (suc k, omega arith, is)
-
 all_told : (cells : Cells) (chains : List (Option Chain)) (frames : List (List ℕ)) → length frames ≡ length chains
     → ((i : ℕ) → slice_get chains i ≡ Some None → get_or frames i [] ≡ []) → ((h : Held) → Contains (held_frames chains frames) h → Holds cells h)
     → frames ≡ frames_in cells chains
@@ -51,7 +49,7 @@ all_told cells (Some c ∷ cs) (f ∷ fs) size absent holds =
     let here : Held = record { chain = c; bytes = f } in
     ap (λ (x : List ℕ). x ∷ fs) (sym (told cells c f (holds here (0, omega arith, refl))))
     ∙ ap (λ (rest : List (List ℕ)). bytes_in cells (Some c) ∷ rest)
-    (all_told cells cs fs (omega (arith, size)) (λ i e. absent (suc i) e) (λ h there. holds h (later here (held_frames cs fs) h there)))
+    (all_told cells cs fs (omega (arith, size)) (λ i e. absent (suc i) e) (λ h there. holds h (Contains-later here (held_frames cs fs) h there)))
 
 pub frames_told : (cells : Cells) (chains : List (Option Chain)) (frames : List (List ℕ)) → AreFrames cells chains frames → frames ≡ frames_in cells chains
 frames_told cells chains frames are = all_told cells chains frames are.as_many are.absent are.stands.holds
@@ -89,7 +87,7 @@ there (x ∷ cs) [] i c lt size is = absurd (omega (arith, size))
 there (x ∷ cs) (y ∷ fs) zero c lt size is = subst (λ (o : Option Chain). Contains (held_if o y ++ held_frames cs fs) (record { chain = c; bytes = y })) (sym is) (0, omega arith, refl)
 there (None ∷ cs) (y ∷ fs) (suc i) c lt size is = there cs fs i c (omega (arith, lt)) (omega (arith, size)) is
 there (Some x ∷ cs) (y ∷ fs) (suc i) c lt size is =
-    later (record { chain = x; bytes = y }) (held_frames cs fs) (record { chain = c; bytes = get_or fs i [] }) (there cs fs i c (omega (arith, lt)) (omega (arith, size)) is)
+    Contains-later (record { chain = x; bytes = y }) (held_frames cs fs) (record { chain = c; bytes = get_or fs i [] }) (there cs fs i c (omega (arith, lt)) (omega (arith, size)) is)
 
 -- ---- room for all
 

@@ -2,6 +2,7 @@
 use Rattle.std.proofs.Common.{◌-◌, ◌<◌, ◌≤◌, List, [], ◌∷◌, length, arith}
 use Rattle.rmt_chip.specs.Types.{Stage}
 use Rattle.rmt_config.specs.ChipRun.{latency_of}
+use Rattle.rmt_config.proofs.RunLaws.{latency_last}
 use Rattle.rmt_chip.specs.Runnable.{start_of, StagesFit}
 use Rattle.rmt_config.proofs.RunLaws.{latency_last}
 use Rattle.rmt_chip.proofs.LifeLaws.{start_of-get}

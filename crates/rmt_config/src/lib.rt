@@ -4,6 +4,7 @@
 pub mod cell_write;
 pub mod config;
 pub mod form;
+pub mod latency;
 pub mod limits;
 pub mod tails;
 pub mod vector;

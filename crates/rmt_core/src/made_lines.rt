@@ -2,7 +2,6 @@
 
 ghost use Rattle.std.specs.Prelude.{◌≡◌, ◌==◌, ◌++◌, IfOk, IsOkUnless, OnOk};
 ghost use Rattle.std.specs.List.{flat_map};
-ghost use Rattle.rmt_config.specs.ChipRun.{latency_of};
 ghost use Rattle.rmt_core.specs.CompileText.{bound_line, chain_part, compile_text, minimal_line, proof_text, stages_line};
 ghost use Rattle.rmt_core.specs.NoFitText.{AreNodesOf};
 
@@ -12,7 +11,8 @@ use rmt_bits::answer::Bytes;
 use rmt_bits::fault::OutOfMemory;
 use rmt_bounds::bound::{Bound, Proof};
 use rmt_build::built::Built;
-use rmt_config::config::{Config, Stage};
+use rmt_config::config::Config;
+use rmt_config::latency::latency;
 use rmt_report::ReportFault;
 use std::alloc::{AllocError, Global};
 
@@ -42,16 +42,6 @@ fn lines_of(
     let minimal = config.stages.len() == bound.stages as usize;
     add_minimal_line(minimal, &mut text)?;
     Ok(text)
-}
-
-/// How many cycles a packet takes through stages.
-fn latency(stages: &[Stage]) -> u32
-    ensures { result ≡ latency_of stages.now }
-{
-    match stages.last() {
-        Some(stage) => stage.start as u32 + 12,
-        None => 0,
-    }
 }
 
 /// Appends the stages and the latency.

@@ -1,5 +1,5 @@
 -- A report has no float, and the sums of stages within the limits are told exactly.
-use Rattle.std.proofs.Common.{◌≡◌, ℕ, suc, ◌+◌, ◌-◌, ◌<◌, ◌≤◌, List, [], ◌∷◌, ◌++◌, length, get_or, take, false, map, refl, ap, sym, ◌∙◌, arith}
+use Rattle.std.proofs.Common.{◌≡◌, ℕ, ◌+◌, ◌-◌, ◌<◌, ◌≤◌, List, [], ◌∷◌, ◌++◌, length, get_or, take, false, map, refl, ap, sym, ◌∙◌, arith}
 use Rattle.std.specs.Prelude.{All}
 use Rattle.std.specs.List.{flat_map, count_by, sum_by, AllByRecursion}
 use Rattle.std.proofs.lemmas.List.Elements.{All-nil, All-cons}
@@ -13,7 +13,6 @@ use Rattle.rmt_config.specs.declared.config.Stage.{Stage}
 use Rattle.rmt_config.specs.declared.config.Unit.{Unit as ChipUnit}
 use Rattle.rmt_config.specs.declared.limits.total.Resource.{Resource}
 use Rattle.rmt_config.specs.LimitSteps.{taken_by}
-use Rattle.rmt_config.specs.ChipRun.{latency_of}
 use Rattle.rmt_config.specs.Resources.{is_slot, is_gate, unit_instructions, unit_data, unit_sram, unit_tcam}
 use Rattle.rmt_config.specs.Limits.{told, IsWithinLimits}
 use Rattle.rmt_config.proofs.LimitLaws.{KeepsLimits, limits_kept}
@@ -59,15 +58,6 @@ pub objects_more : {X Y Z : Type 0} (g : Y → Z) (f : X → Z) (xs : List X) (i
 objects_more g f xs i x before after object lt is grown made done =
     ap (map g) grown ∙ map-append g before (object ∷ []) ∙ ap (λ zs. zs ++ g object ∷ []) done
     ∙ ap (λ z. map f (take i xs) ++ z ∷ []) (made ∙ ap f is) ∙ sym (map_more f xs i x lt)
-
--- ---- the last stage
-
-pub latency_last : (stages : List Stage) (d : Stage) → 0 < length stages → latency_of stages ≡ (get_or stages (length stages - 1) d).start + 12
-latency_last [] d h = absurd (omega (arith, h))
-latency_last (s ∷ []) d h = refl
-latency_last (s ∷ t ∷ rest) d h =
-    let place : length (s ∷ t ∷ rest) - 1 ≡ suc (length (t ∷ rest) - 1) = omega arith in
-    latency_last (t ∷ rest) d (omega arith) ∙ ap (λ n. (get_or (s ∷ t ∷ rest) n d).start + 12) (sym place)
 
 -- ---- numbers
 

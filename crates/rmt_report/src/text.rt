@@ -5,7 +5,6 @@ ghost use Rattle.serde_json.specs.View.{view};
 ghost use Rattle.serde_json.specs.Read.{read};
 ghost use Rattle.serde_json.specs.Written.{compact_text};
 ghost use Rattle.rmt_config.specs.Limits.{IsWithinLimits};
-ghost use Rattle.rmt_config.specs.ChipRun.{latency_of};
 ghost use Rattle.rmt_report.specs.Report.{report_of, report_from, words_report, parser_report};
 
 use crate::fault::ReportFault;
@@ -14,18 +13,10 @@ use crate::stages::stage_objects;
 use rmt_bits::answer::Bytes;
 use rmt_bits::fault::OutOfMemory;
 use rmt_bits::sequence::Sequence;
-use rmt_config::config::{Config, ParserConfig, Stage};
+use rmt_config::config::{Config, ParserConfig};
+use rmt_config::latency::latency;
 use serde_json::{Value, json};
 use std::alloc::{AllocError, Global};
-
-fn latency(stages: &[Stage]) -> u32
-    ensures { result ≡ latency_of stages.now }
-{
-    match stages.last() {
-        Some(stage) => stage.start as u32 + 12,
-        None => 0,
-    }
-}
 
 fn parser_object(alloc: Global, parser: &ParserConfig) -> Result<Value, AllocError>
     ensures { IfOk result (λ v. view v ≡ parser_report parser.now) }
