@@ -7,7 +7,7 @@ use Rattle.rmt_ast.specs.RowOrder.{goes_first}
 use Rattle.rmt_config.specs.Types.{Config}
 use Rattle.rmt_config.specs.RunCells.{RunCells, own_cells, with_version}
 use Rattle.rmt_config.specs.Rooms.{Room, rooms_for}
-use Rattle.rmt_config.specs.Commits.{Placed, placed_after, settled}
+use Rattle.rmt_config.specs.Commits.{Placed, placed_after, settled, RunState, waits}
 use Rattle.rmt_config.proofs.ExamplesNames.{its_names}
 use Rattle.rmt_config.proofs.ExamplesRunCells.{strict_and_weak, seven_holds, ternary, ternary_names}
 
@@ -17,17 +17,17 @@ told p = (p.entry.number, p.room.cell)
 
 -- ---- an exact table
 
-abbrev config : Config
+abbrev pub config : Config
 config = strict_and_weak false
 
-abbrev names : Names
+abbrev pub names : Names
 names = its_names
 
 -- `b KEY go PORT` of a number
-abbrev entry : ℕ → ℕ → ℕ → Entry
+abbrev pub entry : ℕ → ℕ → ℕ → Entry
 entry number key port = record { table = 1; number = number; tests = record { value = key; mask = 255 } ∷ []; rank = 0; action = 0; args = port ∷ [] }
 
-abbrev lists : List Entry → List (List Entry)
+abbrev pub lists : List Entry → List (List Entry)
 lists es = [] ∷ es ∷ [] ∷ []
 
 -- 7 may stand in three cells of each way; the entry that comes takes the next one beside that which goes
@@ -101,3 +101,12 @@ filled_rows = (refl, refl)
 pub prefix_order : (goes_first kind.Prefix (row 1 8 0 0) (row 0 0 0 0) ≡ true) × (goes_first kind.Prefix (row 0 8 0 0) (row 1 8 0 0) ≡ true) × (goes_first kind.Prefix (row 1 8 0 0) (row 0 8 0 0) ≡ false)
     × (goes_first kind.Exact (row 0 0 0 0) (row 1 0 0 0) ≡ false)
 prefix_order = (refl, refl, refl, refl)
+
+-- ---- waiting
+
+-- the chip is clocked until the packets of older versions have left, and where cells move until all have
+abbrev two_versions : RunState
+two_versions = record { cells = once; entries = record { lists = lists (entry 1 7 6 ∷ []); next = 2 }; cycle = 5; older_gone = 25; all_gone = 29 }
+
+pub waited : (waits two_versions false ≡ 20) × (waits two_versions true ≡ 24) × (waits (record two_versions { cycle = 40 }) true ≡ 0)
+waited = (refl, refl, refl)

@@ -36,3 +36,4 @@ pub mod RunCellLaws
 pub mod ExamplesRunCells
 pub mod RunInputLaws
 pub mod ExamplesCommits
+pub mod ExamplesCommitRuns

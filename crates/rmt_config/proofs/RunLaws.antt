@@ -1,8 +1,5 @@
 -- What the runs of the chip come to: the answers leave in the order of the packets, behind the last stage.
 use Rattle.std.proofs.Common.{◌≡◌, ℕ, zero, suc, ◌+◌, ◌-◌, ◌<◌, List, [], ◌∷◌, ◌++◌, length, get_or, Option, Some, None, refl, sym, ap, ◌∙◌, subst, arith}
-
--- What the runs of the chip come to: the answers leave in the order of the packets, and without counted slots nothing is counted.
-use Rattle.std.proofs.Common.{◌≡◌, ℕ, zero, suc, ◌+◌, ◌-◌, ◌<◌, Bool, true, false, cond, not, ◌&&◌, List, [], ◌∷◌, ◌++◌, length, get_or, Option, Some, None, refl, sym, ap, ◌∙◌, subst, arith}
 use Rattle.std.specs.Prelude.{nat_lt, if◌then◌else◌, map, replicate, slice_get, option_map, option_and_then, filter_map}
 use Rattle.std.specs.List.{range_with_len}
 use Rattle.std.proofs.lemmas.List.{length-append, length-map, length-replicate}
@@ -68,42 +65,6 @@ outcomes_of-map c [] = refl
 outcomes_of-map c (packet ∷ packets) = all_leave (outcome_of (own_look c) c) (latency_of c.stages) (packet ∷ packets)
 
 -- a packet leaves 12 cycles behind the start of the last stage
-
--- a run of a configuration without counted entries counts nothing
-pub chip_counts_of-none : (c : Config) (inputs : List (Option Packet)) → counted_numbers c ≡ [] → chip_counts_of c inputs ≡ []
-chip_counts_of-none c inputs h = rw h refl
-
--- a unit that counts no hit
-pub is_uncounted : Unit → Bool
-is_uncounted (Gate g) = true
-is_uncounted (Slot slot) = not slot.counted
-
-none_if_not : {A : Type 0} (b : Bool) (xs : List A) → not b ≡ true → cond b xs [] ≡ []
-none_if_not true xs h = absurd (false≢true h)
-none_if_not false xs h = refl
-
-unit_numbers-none : (u : Unit) → is_uncounted u ≡ true → unit_numbers u ≡ []
-unfolding is_uncounted
-unit_numbers-none (Gate g) h = refl
-unit_numbers-none (Slot slot) h = none_if_not slot.counted _ h
-
-both_true : (a b : Bool) → (a && b) ≡ true → (a ≡ true) × (b ≡ true)
-both_true true b h = (refl, h)
-both_true false b h = absurd (false≢true h)
-
--- lists that are all empty, one behind the other
-all_empty : {X A : Type 0} (f : X → List A) (p : X → Bool) → ((x : X) → p x ≡ true → f x ≡ []) → (xs : List X) → list_all p xs ≡ true → flat_map f xs ≡ []
-all_empty f p e [] h = refl
-all_empty f p e (x ∷ xs) h =
-    let parts : (p x ≡ true) × (list_all p xs ≡ true) = both_true (p x) (list_all p xs) h in
-    rw (e x parts.0, all_empty f p e xs parts.1) refl
-
--- a configuration without a counted slot counts nothing
-pub chip_counts_of-uncounted : (c : Config) (inputs : List (Option Packet)) → list_all (λ (stage : Stage). list_all is_uncounted stage.units) c.stages ≡ true → chip_counts_of c inputs ≡ []
-chip_counts_of-uncounted c inputs h =
-    chip_counts_of-none c inputs (all_empty (λ (stage : Stage). flat_map unit_numbers stage.units) (λ (stage : Stage). list_all is_uncounted stage.units) (λ stage e. all_empty unit_numbers is_uncounted unit_numbers-none stage.units e) c.stages h)
-
--- packets leave 12 cycles behind the start of the last stage
 pub latency_last : (stages : List Stage) (d : Stage) → 0 < length stages → latency_of stages ≡ (get_or stages (length stages - 1) d).start + 12
 latency_last [] d h = absurd (omega (arith, h))
 latency_last (s ∷ []) d h = refl

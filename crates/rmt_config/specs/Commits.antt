@@ -173,7 +173,7 @@ pub record AreWrites (c : Config) (cells next : RunCells) (writes : List CellWri
 
 -- how far a run has come: its cells, the entries as the commits leave them, the next cycle, and the first cycles in which no packet of an older
 -- version, and none at all, is in flight, if no further one enters
-pub record Reached : Type 0 where
+pub record RunState : Type 0 where
   pub cells : RunCells
   pub entries : Standing
   pub cycle : ℕ
@@ -181,15 +181,15 @@ pub record Reached : Type 0 where
   pub all_gone : ℕ
 
 -- a packet enters, and is in flight until the age at which it leaves
-abbrev pub behind_packet : Config → Reached → Reached
+abbrev pub behind_packet : Config → RunState → RunState
 behind_packet c r = record r { cycle = r.cycle + 1; all_gone = r.cycle + latency_of c.stages + 1 }
 
 -- the cycles in which a commit waits: until no packet of an older version is in flight, and where cells move until none is
-abbrev pub waits : Reached → Bool → ℕ
+abbrev pub waits : RunState → Bool → ℕ
 waits r moved = (if moved then max r.older_gone r.all_gone else r.older_gone) - r.cycle
 
 -- behind the cycles of a commit: it waits, changes cells one a cycle, and makes the next version the current one
-abbrev pub behind_commit : Reached → List Change → Bool → ℕ → List CellWrite → RunCells → Reached
+abbrev pub behind_commit : RunState → List Change → Bool → ℕ → List CellWrite → RunCells → RunState
 behind_commit r changes moved seed writes next = record {
   cells = with_version next seed;
   entries = committed r.entries changes;
@@ -200,11 +200,11 @@ behind_commit r changes moved seed writes next = record {
 
 -- the inputs of the cycles that a list of packets and commits may have: each packet has one, each commit its own, and then nothing enters until no packet
 -- is in flight; the only choice is the loading where a commit moves cells
-pub data RunsFrom (c : Config) (names : Names) : Reached → List Event → List Input → Type 0 where
-  ends : (r : Reached) → RunsFrom c names r [] (replicate (r.all_gone - r.cycle) Idle)
-  arrives : (r : Reached) (packet : Packet) (events : List Event) (inputs : List Input)
+pub data RunsFrom (c : Config) (names : Names) : RunState → List Event → List Input → Type 0 where
+  ends : (r : RunState) → RunsFrom c names r [] (replicate (r.all_gone - r.cycle) Idle)
+  arrives : (r : RunState) (packet : Packet) (events : List Event) (inputs : List Input)
       → RunsFrom c names (behind_packet c r) events inputs → RunsFrom c names r (Arrives packet ∷ events) (Enters packet ∷ inputs)
-  commits : (r : Reached) (changes : List Change) (events : List Event) (inputs : List Input) (moved : Bool) (seed : ℕ) (next : RunCells) (writes : List CellWrite)
+  commits : (r : RunState) (changes : List Change) (events : List Event) (inputs : List Input) (moved : Bool) (seed : ℕ) (next : RunCells) (writes : List CellWrite)
       → Makes c names r.cells r.entries.lists (committed r.entries changes).lists moved seed next → AreWrites c r.cells next writes
       → RunsFrom c names (behind_commit r changes moved seed writes next) events inputs
       → RunsFrom c names r (Commits changes ∷ events) (replicate (waits r moved) Idle ++ map Writes writes ++ Turns seed ∷ inputs)

@@ -1,9 +1,7 @@
 use Rattle.std.proofs.Common.{◌+◌, ◌-◌, length, ap, sym, ◌∙◌, arith}
 use Rattle.std.proofs.lemmas.Option.{get_or_from_slice_get, slice_get_within}
-use Rattle.rmt_core.specs.Types.{Stage}
-use Rattle.rmt_config.proofs.RunLaws.{latency_last}
-use Rattle.rmt_core.proofs.made_lines.latency.Goals as goal
 use Rattle.rmt_config.specs.declared.config.Stage.{Stage}
+use Rattle.rmt_config.proofs.RunLaws.{latency_last}
 use Rattle.rmt_config.proofs.latency.latency.Goals as goal
 
 pub returns-in-Some : goal.returns-in-Some
