@@ -19,7 +19,6 @@ pub mod Leaving
 pub mod Standing
 pub mod Stands
 pub mod Laying
-pub mod Packings
 pub mod Searching
 pub mod Grouping
 pub mod Comparing

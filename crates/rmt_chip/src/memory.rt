@@ -4,9 +4,9 @@ mod exact;
 mod group;
 mod grouping;
 mod lay;
-mod packing;
 mod rows;
 mod runs;
+mod spot;
 mod ternary;
 mod ways;
 

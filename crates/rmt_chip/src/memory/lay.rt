@@ -12,13 +12,13 @@ ghost use Rattle.rmt_chip.specs.Laying.{runs_of as runs_of_cells};
 ghost use Rattle.rmt_chip.specs.Memories.{Laid, NumbersFit, key_size, held_size};
 
 use crate::memory::exact::starts_of;
-use crate::memory::packing::{exact_keys, exact_records, ternary_records};
 use crate::memory::runs::{Runs, no_runs, runs_of};
 use crate::memory::ternary::groups_of;
 use crate::memory::ways::ExactMemory;
 use crate::memory::{Keys, SlotMemory};
 use rmt_bits::lane::Lane;
 use rmt_config::config::{CellNumber, SlotUnit, SramRow, Stage};
+use rmt_config::form::parts::{exact_keys, exact_records, ternary_records};
 use std::alloc::{AllocError, Global};
 
 /// How many bits lanes have together, at most 640.
@@ -82,8 +82,8 @@ fn exact_data(
     if held == 0 {
         return Ok(no_runs(alloc, numbers.len()));
     }
-    let packing = exact_records(per, quanta, held);
-    runs_of(alloc, &packing, records, rows, numbers, 0, held as u64)
+    let layout = exact_records(per, quanta, held);
+    runs_of(alloc, &layout, records, rows, numbers, 0, held as u64)
 }
 
 /// The memory of an exact part.
@@ -111,9 +111,9 @@ pub fn lay_exact(
     let rows = stage.srows.as_slice();
     let numbers = slot.numbers.as_slice();
     let bits = key_bits(slot.keys.as_slice());
-    let packing = exact_keys(width, per, quanta, bits);
-    let heads = runs_of(alloc, &packing, keys, rows, numbers, 0, 8)?;
-    let found = runs_of(alloc, &packing, keys, rows, numbers, 8, bits)?;
+    let layout = exact_keys(width, per, quanta, bits);
+    let heads = runs_of(alloc, &layout, keys, rows, numbers, 0, 8)?;
+    let found = runs_of(alloc, &layout, keys, rows, numbers, 8, bits)?;
     let held = exact_data(alloc, rows, numbers, per, quanta, slot.held, records)?;
     let starts = starts_of(alloc, numbers, 4096 * quanta as u32, per)?;
     let entries = entry_numbers(alloc, numbers)?;
@@ -155,9 +155,9 @@ pub fn lay_ternary(
     let rows = stage.srows.as_slice();
     let numbers = slot.numbers.as_slice();
     let bits = key_bits(slot.keys.as_slice());
-    let packing = ternary_records(quanta, slot.held);
-    let heads = runs_of(alloc, &packing, records, rows, numbers, 0, 8)?;
-    let held = runs_of(alloc, &packing, records, rows, numbers, 8, slot.held as u64)?;
+    let layout = ternary_records(quanta, slot.held);
+    let heads = runs_of(alloc, &layout, records, rows, numbers, 0, 8)?;
+    let held = runs_of(alloc, &layout, records, rows, numbers, 8, slot.held as u64)?;
     let groups = groups_of(
         alloc,
         stage.trows.as_slice(),

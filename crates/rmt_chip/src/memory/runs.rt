@@ -3,16 +3,16 @@
 ghost use Rattle.std.specs.Prelude.{◌≡◌, ℕ, ◌+◌, ◌*◌, ◌/◌, ◌%◌, ◌^◌, ◌<◌, ◌≤◌, ◌++◌, [], length, All, IsTrue, IfOk, OnOk, take, drop, vec_len};
 ghost use Rattle.rmt_bits.specs.Bits.{slice as slice_of, bytes_of};
 ghost use Rattle.rmt_config.specs.Cells.{sram_row, unit_row, blocks_at};
-ghost use Rattle.rmt_config.specs.Layouts.{IsLayout};
+ghost use Rattle.rmt_config.specs.Layouts.{IsInSram};
 ghost use Rattle.rmt_config.specs.Shapes.{divided_up};
 ghost use Rattle.rmt_config.specs.declared.config.CellNumber.{CellNumber};
 ghost use Rattle.rmt_config.specs.MemoryRules.{SramRows};
 ghost use Rattle.rmt_chip.specs.Laying.{entry_of, runs_of as runs_of_cells};
-ghost use Rattle.rmt_chip.specs.Packings.{layout_of};
 
-use crate::memory::packing::{Packing, spot_of};
 use crate::memory::rows::byte_at;
+use crate::memory::spot::spot_of;
 use rmt_config::config::{CellNumber, SramRow};
+use rmt_config::form::layout::Layout;
 use std::alloc::{AllocError, Global};
 
 /// One run of bytes for each listed cell, in their order.
@@ -80,7 +80,7 @@ pub fn unit_blocks(blocks: &[u8], side: u64, unit: u64) -> &[u8]
 /// Adds `len` bits of the entry of a cell, from the bit `from` on, as bytes, the highest first.
 fn push_entry(
     into: &mut Vec<u8>,
-    packing: &Packing,
+    layout: &Layout,
     blocks: &[u8],
     rows: &[SramRow],
     cell: u64,
@@ -88,22 +88,22 @@ fn push_entry(
     len: u64,
 ) -> Result<(), AllocError>
     requires rows { SramRows rows.now }
-    requires layout { IsLayout (layout_of packing.now) }
-    requires blocks { length blocks.now ≡ packing.now.quanta * packing.now.units * packing.now.side }
-    requires cell { cell < packing.now.ways * packing.now.quanta * packing.now.way }
-    requires bits { from + len ≤ packing.now.entry }
+    requires layout { IsInSram layout.now }
+    requires blocks { length blocks.now ≡ layout.now.quanta * layout.now.units * layout.now.side }
+    requires cell { cell < layout.now.ways * layout.now.quanta * layout.now.way }
+    requires bits { from + len ≤ layout.now.entry }
     ensures { OnOk result (into.new.items ≡ into.old.items ++ bytes_of (divided_up len 8)
-        (slice_of (entry_of (layout_of packing.now) (sram_row rows.now) blocks.now cell) from len)) }
+        (slice_of (entry_of layout.now (sram_row rows.now) blocks.now cell) from len)) }
 {
-    let spot = spot_of(packing, cell);
-    let unit = unit_blocks(blocks, packing.side, spot.unit);
+    let spot = spot_of(layout, cell);
+    let unit = unit_blocks(blocks, layout.side, spot.unit);
     push_bits(into, rows, unit, spot.row, spot.low + from, len)
 }
 
 /// For each listed cell `len` bits of its entry, from the bit `from` on.
 pub fn runs_of(
     alloc: Global,
-    packing: &Packing,
+    layout: &Layout,
     blocks: &[u8],
     rows: &[SramRow],
     numbers: &[CellNumber],
@@ -111,21 +111,21 @@ pub fn runs_of(
     len: u64,
 ) -> Result<Runs, AllocError>
     requires rows { SramRows rows.now }
-    requires layout { IsLayout (layout_of packing.now) }
-    requires blocks { length blocks.now ≡ packing.now.quanta * packing.now.units * packing.now.side }
-    requires cells { All (λ (n : CellNumber). n.cell < packing.now.ways * packing.now.quanta * packing.now.way) numbers.now }
-    requires bits { from + len ≤ packing.now.entry }
+    requires layout { IsInSram layout.now }
+    requires blocks { length blocks.now ≡ layout.now.quanta * layout.now.units * layout.now.side }
+    requires cells { All (λ (n : CellNumber). n.cell < layout.now.ways * layout.now.quanta * layout.now.way) numbers.now }
+    requires bits { from + len ≤ layout.now.entry }
     ensures size { IfOk result (λ r. r.size ≡ divided_up len 8) }
     ensures count { IfOk result (λ r. r.count ≡ length numbers.now) }
     ensures bytes { IfOk result (λ r. r.bytes.items ≡ runs_of_cells (divided_up len 8)
-        (λ n. slice_of (entry_of (layout_of packing.now) (sram_row rows.now) blocks.now n) from len) numbers.now) }
+        (λ n. slice_of (entry_of layout.now (sram_row rows.now) blocks.now n) from len) numbers.now) }
 {
     let size = ((len + 7) / 8) as usize;
     let mut bytes = Vec::with_capacity(alloc, numbers.len().saturating_mul(size))?;
     for number in numbers {
         push_entry(
             &mut bytes,
-            packing,
+            layout,
             blocks,
             rows,
             number.cell as u64,

@@ -10,10 +10,9 @@ ghost use Rattle.rmt_config.specs.MemoryRules.{SramRows};
 ghost use Rattle.rmt_config.specs.declared.config.CellNumber.{CellNumber};
 
 use crate::config::{CellNumber, SramRow};
-use crate::form::layout::Layout;
+use crate::form::layout::{Layout, joined};
 use crate::form::search::items_rise;
 use crate::form::sram::{byte_of_two, row_bits};
-use crate::form::told::joined;
 
 /// Where the last head was found among the rows: its first block's row, and that of the block beside it.
 #[derive(Clone, Copy)]

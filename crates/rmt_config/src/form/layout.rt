@@ -43,3 +43,11 @@ pub fn records_a_row(n: u64) -> u64
 {
     112 * record_width(n) / n
 }
+
+/// A number of two digits, of which the lower is below the width.
+pub fn joined(high: u64, width: u64, low: u64) -> u64
+    requires { high * width + low < 2 ^ 64 }
+    ensures { result ≡ high * width + low }
+{
+    high * width + low
+}

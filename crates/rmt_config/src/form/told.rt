@@ -6,17 +6,9 @@ ghost use Rattle.rmt_config.specs.Order.{rises_from};
 ghost use Rattle.rmt_config.specs.Layouts.{IsLayout, listed_cells, is_told as is_told_of, RowTold, BlocksTold};
 
 use crate::config::CellNumber;
-use crate::form::layout::Layout;
+use crate::form::layout::{Layout, joined};
 use crate::form::search::{MemoryRow, first_from, is_cell_listed};
 use rmt_bits::bits::slice;
-
-/// A number of two digits, of which the lower is below the width.
-pub fn joined(high: u64, width: u64, low: u64) -> u64
-    requires { high * width + low < 2 ^ 64 }
-    ensures { result ≡ high * width + low }
-{
-    high * width + low
-}
 
 /// Whether what stands at a position of a row of a unit is an entry of a listed cell.
 fn is_told(

@@ -8,7 +8,6 @@ use Rattle.rmt_config.specs.Layouts.{exact_records}
 use Rattle.rmt_config.proofs.CellLayouts.{exact-data}
 use Rattle.rmt_chip.specs.declared.memory.runs.Runs.{Runs}
 use Rattle.rmt_chip.specs.Laying.{entry_of, runs_of}
-use Rattle.rmt_chip.specs.Packings.{layout_of}
 use Rattle.rmt_chip.proofs.RowLaws.{slice-whole}
 use Rattle.rmt_chip.proofs.RunLaws.{runs-none, runs-same}
 use Rattle.rmt_chip.proofs.memory.lay.exact_data.Goals as goal
@@ -22,8 +21,8 @@ returns-then-held-eq0-clause-bytes c =
 pub runs_of-requires-clause-cells : goal.runs_of-requires-clause-cells
 runs_of-requires-clause-cells c =
     λ k d lt.
-    let e : c.exact_records-packing.result.ways * c.exact_records-packing.result.quanta * c.exact_records-packing.result.way ≡ 4 * c.args.quanta * (1024 * c.args.per) =
-    ap (λ (l : Layout). l.ways * l.quanta * l.way) c.exact_records-packing.ensures in
+    let e : c.exact_records-layout.result.ways * c.exact_records-layout.result.quanta * c.exact_records-layout.result.way ≡ 4 * c.args.quanta * (1024 * c.args.per) =
+    ap (λ (l : Layout). l.ways * l.quanta * l.way) c.exact_records-layout.ensures in
     let same : 4 * c.args.quanta * (1024 * c.args.per) ≡ 4096 * c.args.quanta * c.args.per = omega arith in
     let below = c.requires.cells k d lt in
     omega (arith, e, same, below)
@@ -35,11 +34,11 @@ returns-clause-bytes c =
     let held = c.args.held in
     let size = divided_up held 8 in
     let numbers = c.args.numbers.now in
-    let l = layout_of c.exact_records-packing.result in
+    let l = c.exact_records-layout.result in
     let l' = exact_records c.args.per c.args.quanta held in
     let read = λ (n : ℕ). slice (entry_of l sram records n) 0 held in
     let value = λ (n : ℕ). data_at sram records c.args.per held (cell_of (1024 * c.args.quanta) c.args.per n) in
     let same : (n : ℕ) → read n ≡ value n = λ n.
-    ap (λ (m : Layout). slice (entry_of m sram records n) 0 held) c.exact_records-packing.ensures
+    ap (λ (m : Layout). slice (entry_of m sram records n) 0 held) c.exact_records-layout.ensures
     ∙ slice-whole _ _ held ∙ sym (exact-data sram records c.args.per c.args.quanta held n c.requires.per c.requires.quanta) in
     subst (λ (bs : List ℕ). IfOk c.runs_of.result (λ (r : Runs). r.bytes.items ≡ bs)) (runs-same size read value numbers (λ k d lt. same _)) c.runs_of.ensures.bytes

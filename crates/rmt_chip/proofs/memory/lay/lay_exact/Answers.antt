@@ -5,21 +5,20 @@ use Rattle.rmt_config.specs.LaneForm.{bits_of_lanes}
 use Rattle.rmt_config.specs.Shapes.{divided_up}
 use Rattle.rmt_config.specs.Cells.{sram_row, cell_of, data_at}
 use Rattle.rmt_chip.specs.Laying.{runs_of, StartsByRow}
-use Rattle.rmt_chip.specs.Packings.{layout_of}
 use Rattle.rmt_chip.proofs.LayLaws.{cells-below, exact-heads, exact-keys}
 use Rattle.rmt_chip.proofs.memory.lay.lay_exact.Goals as goal
 
 pub runs_of-requires-clause-cells : goal.runs_of-requires-clause-cells
 runs_of-requires-clause-cells c =
-    let e : c.exact_keys-packing.result.ways * c.exact_keys-packing.result.quanta * c.exact_keys-packing.result.way ≡ 4 * c.args.quanta * (1024 * c.args.per) =
-    ap (λ (l : Layout). l.ways * l.quanta * l.way) c.exact_keys-packing.ensures in
+    let e : c.exact_keys-layout.result.ways * c.exact_keys-layout.result.quanta * c.exact_keys-layout.result.way ≡ 4 * c.args.quanta * (1024 * c.args.per) =
+    ap (λ (l : Layout). l.ways * l.quanta * l.way) c.exact_keys-layout.ensures in
     let same : 4 * c.args.quanta * (1024 * c.args.per) ≡ 4096 * c.args.quanta * c.args.per = omega arith in
     cells-below c.args.slot.now.numbers c.as_slice-numbers.result.now _ _ c.as_slice-numbers.ensures (e ∙ same) c.requires.numbers.below
 
 pub runs_of-requires-2-clause-cells : goal.runs_of-requires-2-clause-cells
 runs_of-requires-2-clause-cells c =
-    let e : c.exact_keys-packing.result.ways * c.exact_keys-packing.result.quanta * c.exact_keys-packing.result.way ≡ 4 * c.args.quanta * (1024 * c.args.per) =
-    ap (λ (l : Layout). l.ways * l.quanta * l.way) c.exact_keys-packing.ensures in
+    let e : c.exact_keys-layout.result.ways * c.exact_keys-layout.result.quanta * c.exact_keys-layout.result.way ≡ 4 * c.args.quanta * (1024 * c.args.per) =
+    ap (λ (l : Layout). l.ways * l.quanta * l.way) c.exact_keys-layout.ensures in
     let same : 4 * c.args.quanta * (1024 * c.args.per) ≡ 4096 * c.args.quanta * c.args.per = omega arith in
     cells-below c.args.slot.now.numbers c.as_slice-numbers.result.now _ _ c.as_slice-numbers.ensures (e ∙ same) c.requires.numbers.below
 
@@ -31,7 +30,7 @@ returns-clause-laid c = λ cs.
     let d = c.args.quanta in
     let ks = c.args.keys.now in
     let bits : c.key_bits-bits.result ≡ bits_of_lanes slot.keys = c.key_bits-bits.ensures ∙ ap bits_of_lanes c.as_slice.ensures in
-    let l = layout_of c.exact_keys-packing.result in
+    let l = c.exact_keys-layout.result in
     let rows = c.args.stage.now.srows in
     let rows' = c.as_slice-rows.result.now in
     let numbers' = c.as_slice-numbers.result.now in
@@ -48,11 +47,11 @@ returns-clause-laid c = λ cs.
         size = size;
         count = c.in_ok-found.ensures.count ∙ ap (λ (ns : List CellNumber). length ns) c.as_slice-numbers.ensures;
         keys = c.in_ok-found.ensures.bytes
-            ∙ exact-keys rows rows' slot.numbers numbers' l ks k p d (bits_of_lanes slot.keys) c.key_bits-bits.result c.exact_keys-packing.ensures bits c.as_slice-rows.ensures c.as_slice-numbers.ensures fits.some_p fits.some_d;
+            ∙ exact-keys rows rows' slot.numbers numbers' l ks k p d (bits_of_lanes slot.keys) c.key_bits-bits.result c.exact_keys-layout.ensures bits c.as_slice-rows.ensures c.as_slice-numbers.ensures fits.some_p fits.some_d;
       };
       key_bytes = size;
       heads = c.in_ok-heads.ensures.bytes
-          ∙ exact-heads rows rows' slot.numbers numbers' l ks k p d (bits_of_lanes slot.keys) c.key_bits-bits.result c.exact_keys-packing.ensures bits c.as_slice-rows.ensures c.as_slice-numbers.ensures fits.some_p fits.some_d;
+          ∙ exact-heads rows rows' slot.numbers numbers' l ks k p d (bits_of_lanes slot.keys) c.key_bits-bits.result c.exact_keys-layout.ensures bits c.as_slice-rows.ensures c.as_slice-numbers.ensures fits.some_p fits.some_d;
       held_size = c.in_ok-held.ensures.size;
       held = c.in_ok-held.ensures.bytes
           ∙ ap (λ (rs : List SramRow). runs_of (divided_up slot.held 8) (λ n. data_at (sram_row rs) c.args.records.now p slot.held (cell_of (1024 * d) p n)) numbers') c.as_slice-rows.ensures

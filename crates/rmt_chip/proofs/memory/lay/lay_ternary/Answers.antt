@@ -4,7 +4,6 @@ use Rattle.rmt_config.specs.LaneForm.{bits_of_lanes}
 use Rattle.rmt_config.specs.Shapes.{divided_up}
 use Rattle.rmt_config.specs.Cells.{content_of}
 use Rattle.rmt_config.specs.declared.config.Memory.TheVariants.{Ternary}
-use Rattle.rmt_chip.specs.Packings.{layout_of}
 use Rattle.rmt_chip.specs.Grouping.{Compared, AreGrouped}
 use Rattle.rmt_chip.specs.Comparing.{compared_at}
 use Rattle.rmt_chip.proofs.LayLaws.{ternary-heads, ternary-data, compared-same, blocks-there}
@@ -36,7 +35,7 @@ returns-clause-laid c = λ seed cs.
     let bits : c.key_bits-bits.result ≡ bits_of_lanes slot.keys = c.key_bits-bits.ensures ∙ ap bits_of_lanes c.as_slice.ensures in
     let count = divided_up (bits_of_lanes slot.keys) 40 in
     let width = width-is (bits_of_lanes slot.keys) c.key_bits-bits.result bits in
-    let l = layout_of c.ternary_records-packing.result in
+    let l = c.ternary_records-layout.result in
     let numbers' = c.as_slice-numbers.result.now in
     let below = c.requires.numbers.below in
     let content = content_of stage (record slot { memory = Ternary d ks rs cs }) in
@@ -51,9 +50,9 @@ returns-clause-laid c = λ seed cs.
           c.in_ok-groups.ensures;
       key_bytes = seven;
       heads = c.in_ok-heads.ensures.bytes
-          ∙ ternary-heads stage.srows c.as_slice-rows.result.now slot.numbers numbers' l rs d slot.held c.ternary_records-packing.ensures c.as_slice-rows.ensures c.as_slice-numbers.ensures below;
+          ∙ ternary-heads stage.srows c.as_slice-rows.result.now slot.numbers numbers' l rs d slot.held c.ternary_records-layout.ensures c.as_slice-rows.ensures c.as_slice-numbers.ensures below;
       held_size = c.in_ok-held.ensures.size;
       held = c.in_ok-held.ensures.bytes
-          ∙ ternary-data stage.srows c.as_slice-rows.result.now slot.numbers numbers' l rs d slot.held c.ternary_records-packing.ensures c.as_slice-rows.ensures c.as_slice-numbers.ensures below;
+          ∙ ternary-data stage.srows c.as_slice-rows.result.now slot.numbers numbers' l rs d slot.held c.ternary_records-layout.ensures c.as_slice-rows.ensures c.as_slice-numbers.ensures below;
       numbers = c.in_ok-entries.ensures ∙ ap (λ (ns : List CellNumber). map (λ (x : CellNumber). x.number) ns) c.as_slice-numbers.ensures;
     }

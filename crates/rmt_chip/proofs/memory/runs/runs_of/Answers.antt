@@ -5,7 +5,6 @@ use Rattle.rmt_config.specs.Shapes.{divided_up}
 use Rattle.rmt_config.specs.Cells.{sram_row}
 use Rattle.rmt_chip.specs.Types.{CellNumber}
 use Rattle.rmt_chip.specs.Laying.{entry_of, runs_of}
-use Rattle.rmt_chip.specs.Packings.{layout_of}
 use Rattle.rmt_chip.proofs.RunLaws.{length-runs}
 use Rattle.rmt_chip.proofs.memory.runs.runs_of.Goals as goal
 
@@ -13,7 +12,7 @@ pub invariant_of-result : goal.invariant_of-result
 invariant_of-result c =
     let numbers = c.args.numbers.now in
     let size = divided_up c.args.len 8 in
-    let value = λ (n : ℕ). slice (entry_of (layout_of c.args.packing.now) (sram_row c.args.rows.now) c.args.blocks.now n) c.args.from c.args.len in
+    let value = λ (n : ℕ). slice (entry_of c.args.layout.now (sram_row c.args.rows.now) c.args.blocks.now n) c.args.from c.args.len in
     let e : length c.loop-number.bytes.items ≡ length numbers * size =
     ap (λ (bs : List ℕ). length bs) c.loop-number.invariant
     ∙ ap (λ (cs : List CellNumber). length (runs_of size value cs)) (take_all c.loop-number.number-index numbers (omega arith))
