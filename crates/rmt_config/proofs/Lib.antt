@@ -37,3 +37,4 @@ pub mod ExamplesRunCells
 pub mod RunInputLaws
 pub mod ExamplesCommits
 pub mod ExamplesCommitRuns
+pub mod CommitLaws
