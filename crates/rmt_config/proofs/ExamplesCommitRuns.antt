@@ -1,20 +1,24 @@
 -- Runs of packets and commits whose inputs are known, each shown to be one that the list may have.
 use Rattle.std.proofs.Common.{◌≡◌, ◌≢◌, ℕ, Bool, true, false, cond, ◌&&◌, ◌==◌, List, [], ◌∷◌, Option, Some, None, ◌⊎◌, inl, refl, ap, ◌∙◌, sym, arith}
-use Rattle.std.specs.Prelude.{AllPairs, option_map, replicate, unwrap_or}
+use Rattle.std.specs.Prelude.{AllPairs, IsSomeAnd, option_map, replicate, unwrap_or}
 use Rattle.std.proofs.lemmas.Bool.{and_parts, eqb-true}
 use Rattle.std.proofs.lemmas.List.Elements.{All-nil, All-from_recursion}
 use Rattle.std.proofs.lemmas.List.Kept.{AllPairs-cons}
-use Rattle.rmt_ast.specs.Changes.{Adds, Change, Removes}
+use Rattle.rmt_ast.specs.declared.entry.Entry.{Entry}
+use Rattle.rmt_ast.specs.NameRules.{terms_named}
+use Rattle.rmt_ast.specs.Changes.{Adds, Change, Removes, list_of}
 use Rattle.rmt_ast.specs.Events.{Arrives, Commits}
 use Rattle.rmt_config.specs.Types.{SlotUnit}
 use Rattle.rmt_config.specs.declared.config.Memory.TheVariants.{Without}
 use Rattle.rmt_config.specs.Cells.{Content, is_occupied, visible_bits}
-use Rattle.rmt_config.specs.RunCells.{CellWrite, RunCells, is_changed, no_content, slot_at, with_write, written_content}
+use Rattle.rmt_config.specs.declared.cell_write.CellWrite.{CellWrite}
+use Rattle.rmt_config.specs.RunCells.{RunCells, is_changed, no_content, own_cells, slot_at, with_write, written_content}
+use Rattle.rmt_config.specs.Rooms.{PartAt, is_same}
 use Rattle.rmt_config.specs.RunInputs.{Enters, Idle, Turns}
-use Rattle.rmt_config.specs.Commits.{AreWrites, IsCell, Placed, RunState, RunsFrom, behind_commit, behind_packet, ends, arrives, commits, leaving_content, placed_after, settled, settled_content, settled_number, stays, without_bit, writes_before}
+use Rattle.rmt_config.specs.Commits.{AreFilled, AreWrites, IsCell, IsFilled, Makes, Placed, RunState, RunsFrom, behind_commit, behind_packet, ends, arrives, commits, filled, leaving_content, moves, placed_after, settled, settled_content, settled_number, stays, without_bit, writes_before}
 use Rattle.rmt_config.proofs.ExamplesParts.{packet}
-use Rattle.rmt_config.proofs.ExamplesRunCells.{replaced_in_flight, seven, seven_holds}
-use Rattle.rmt_config.proofs.ExamplesCommits.{config, entry, lists, names}
+use Rattle.rmt_config.proofs.ExamplesRunCells.{replaced_in_flight, seven, seven_holds, ternary, ternary_names}
+use Rattle.rmt_config.proofs.ExamplesCommits.{config, entry, lists, names, row, rows}
 
 -- the cells of a configuration in which b has the entry `7 go 5` alone
 abbrev cells : RunCells
@@ -154,3 +158,39 @@ pub empty_commit_runs : RunsFrom config names begin (Arrives (packet 0 (7 ∷ []
 empty_commit_runs =
     arrives begin (packet 0 (7 ∷ [])) _ _
     (commits (behind_packet config begin) [] [] (replicate 23 Idle) false 0 same [] (stays kept refl) nothing_written (ends (behind_commit (behind_packet config begin) [] false 0 [] same)))
+
+-- ---- rows that move
+
+abbrev part_t : PartAt
+part_t = record { stage = 0; place = 0; first = 0; slot = unwrap_or (slot_at ternary 0 0) (record { node = 0; guard = None; counted = false; actions = 0; last = false; held = 0; keys = []; memory = Without; numbers = [] }) }
+
+abbrev in_row : Entry → ℕ → Placed
+in_row e n = record { entry = e; room = record { part = part_t; cell = n } }
+
+-- with an entry of priority 25 between them the three fill the rows 0 to 2
+abbrev three : List Entry
+three = row 0 20 0x10 0xf0 ∷ row 1 30 0 0 ∷ row 2 25 7 255 ∷ []
+
+abbrev in_rows : List Placed
+in_rows = in_row (row 0 20 0x10 0xf0) 0 ∷ in_row (row 1 30 0 0) 2 ∷ in_row (row 2 25 7 255) 1 ∷ []
+
+rows_are_filled : AreFilled ternary ternary_names 0 (three ∷ []) in_rows
+rows_are_filled = record {
+  each = refl;
+  apart = AllPairs-cons apart (in_row (row 0 20 0x10 0xf0) 0) (in_row (row 1 30 0 0) 2 ∷ in_row (row 2 25 7 255) 1 ∷ []) (All-from_recursion (apart (in_row (row 0 20 0x10 0xf0) 0)) (in_row (row 1 30 0 0) 2 ∷ in_row (row 2 25 7 255) 1 ∷ []) (refl, (refl, tt)))
+      (AllPairs-cons apart (in_row (row 1 30 0 0) 2) (in_row (row 2 25 7 255) 1 ∷ []) (All-from_recursion (apart (in_row (row 1 30 0 0) 2)) (in_row (row 2 25 7 255) 1 ∷ []) (refl, tt))
+      (AllPairs-cons apart (in_row (row 2 25 7 255) 1) [] (All-nil (apart (in_row (row 2 25 7 255) 1))) (λ i j d below within. absurd (omega (arith, within)))));
+  rooms = All-from_recursion (λ (p : Placed). IsSomeAnd (terms_named ternary_names p.entry.table) (λ t. IsFilled ternary 0 t t.kind (list_of (three ∷ []) p.entry.table) p.entry p.room)) in_rows (refl, (refl, (refl, tt)));
+}
+  where
+    apart : Placed → Placed → Type 0
+    apart p q = is_same p.room q.room ≡ false
+
+-- no row between them is free, so they move, and the seed stays the first
+pub rows_move : Makes ternary ternary_names (own_cells ternary) (rows ∷ []) (three ∷ []) true 0 (filled ternary ternary_names (own_cells ternary) in_rows)
+rows_move = moves 0 in_rows refl (record { in_range = omega arith; first = λ s placed lt are. absurd (omega (arith, lt)) }) rows_are_filled
+
+-- each has both visible bits, and the row behind them is empty
+pub rows_moved : ((filled ternary ternary_names (own_cells ternary) in_rows).content 0 0 1 ≡ record { head = 7; key = 7; mask = 255; held = 1 })
+    × ((filled ternary ternary_names (own_cells ternary) in_rows).number 0 0 1 ≡ 2) × ((filled ternary ternary_names (own_cells ternary) in_rows).content 0 0 3 ≡ record { head = 0; key = 0; mask = 0; held = 0 })
+rows_moved = (refl, refl, refl)

@@ -69,11 +69,11 @@ taken_again = (refl, refl, refl)
 
 -- ---- a ternary table
 
-abbrev row : ℕ → ℕ → ℕ → ℕ → Entry
+abbrev pub row : ℕ → ℕ → ℕ → ℕ → Entry
 row number rank value mask = record { table = 0; number = number; tests = record { value = value; mask = mask } ∷ []; rank = rank; action = 0; args = 1 ∷ [] }
 
 -- row 1 has priority 20, and row 2 priority 30
-abbrev rows : List Entry
+abbrev pub rows : List Entry
 rows = row 0 20 0x10 0xf0 ∷ row 1 30 0 0 ∷ []
 
 abbrev placed_rows : List Entry → List Entry → Option (List (ℕ × ℕ))
