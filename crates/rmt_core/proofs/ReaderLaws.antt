@@ -1,5 +1,5 @@
 -- What a reader of packets in pieces stands for, step by step.
-use Rattle.std.proofs.Common.{◌≡◌, ℕ, ◌+◌, ◌-◌, ◌<◌, ◌≤◌, Bool, true, false, not, cond, List, [], ◌∷◌, ◌++◌, length, take, Option, Some, None, Ok, Err, IsTrue, refl, sym, ap, ◌∙◌, inl, inr, arith, length-append, append_assoc, append-nil}
+use Rattle.std.proofs.Common.{◌≡◌, ℕ, ◌+◌, ◌-◌, ◌<◌, ◌≤◌, Bool, true, false, not, cond, List, [], ◌∷◌, ◌++◌, length, take, Option, Some, None, Ok, Err, IsTrue, refl, sym, ap, ◌∙◌, inl, inr, arith, length-append, append_assoc, append-nil, suc, zero, get_or, subst}
 use Rattle.std.specs.List.{enumerate_from, filter, onto_first}
 use Rattle.std.proofs.Math.Seq.{take-append-add, take-append_seam}
 use Rattle.std.proofs.lemmas.Bool.{cases_Bool, cases_lt, eqb-true, le-ltb, lt-ltb, true≢false}
@@ -14,7 +14,9 @@ use Rattle.rmt_packets.specs.Pieces.{EndsLine, IsLast, LineState, Stands, ended_
 use Rattle.rmt_packets.proofs.Cuts.{ended_fed, ended_grows, lines_go_on, whole_lines}
 use Rattle.rmt_packets.proofs.Fronts.{packet_of_front}
 use Rattle.rmt_packets.proofs.Readings.{behind_end, behind_fault, behind_packet, reading_append, then}
-use Rattle.rmt_core.specs.Pieces.{GoesTooFar}
+use Rattle.rmt_core.specs.declared.reader.Step.{Step}
+use Rattle.rmt_core.specs.declared.reader.Step.TheVariants.{Packet as Next}
+use Rattle.rmt_core.specs.Pieces.{Comes, GoesTooFar}
 use Rattle.rmt_core.specs.Runs.{reading_within, told_reading}
 use Rattle.rmt_core.specs.ReadsOn.{AtLine, HasLines, ReaderState, ReadsOn, Took, lines_taken}
 
@@ -308,3 +310,10 @@ bad_read limit text rest done code reader h says =
     let n = reader.lines.number in
     w.1 ∙ ap (λ ls. reading_of (ls ++ w.0)) h.lines ∙ ap reading_of (append_assoc h.earlier ((n, h.line) ∷ []) w.0) ∙ reading_append h.earlier ((n, h.line) ∷ w.0)
     ∙ ap (λ r. then r.bad r.packets (reading_of ((n, h.line) ∷ w.0))) h.packets ∙ behind_fault done n h.line code w.0 line
+
+-- a packet came, with these bytes of its frame
+pub reads_packet : (limit : ℕ) (text : List ℕ) (done : List Packet) (reader : ReaderState) (rest : List ℕ) (step : Step) (port : ℕ) (held frame : List ℕ) → step ≡ Next port → frame ≡ held
+    → Comes (λ packets. ReadsOn limit text packets reader rest) limit text done held step → ReadsOn limit text (done ++ record { port = port; frame = frame } ∷ []) reader rest
+reads_packet limit text done reader rest step port held frame is same h =
+    subst (λ bytes. ReadsOn limit text (done ++ record { port = port; frame = bytes } ∷ []) reader rest) (sym same)
+    (subst (λ s. Comes (λ packets. ReadsOn limit text packets reader rest) limit text done held s) is h)

@@ -2,10 +2,9 @@
 use Rattle.std.proofs.Common.{◌++◌, ◌∷◌, [], List, ℕ, Err, arith, sym, ap, subst}
 use Rattle.rmt_bits.specs.Packet.{Packet}
 use Rattle.rmt_io.proofs.OutsideLaws.{only_printed_refl, only_printed_trans, only_read_refl, only_read_trans, tells_later}
-use Rattle.rmt_core.specs.Pieces.{Comes}
 use Rattle.rmt_core.specs.PlainRunning.{Goes}
-use Rattle.rmt_core.specs.ReadsOn.{ReadsOn}
 use Rattle.rmt_core.proofs.PlainRunLaws.{breaks, goes_first}
+use Rattle.rmt_core.proofs.ReaderLaws.{reads_packet}
 use Rattle.rmt_core.proofs.RunsLaws.{not_too_long}
 use Rattle.rmt_core.proofs.WaitingLaws.{written_front}
 use Rattle.rmt_core.proofs.plain_run.answer_all.Goals as goal
@@ -39,12 +38,9 @@ returns-in-Err-answer_packet-clause-broken g c = λ t p lists stands.
     let text = (g.F.Shelf.state c.args.shelf.now).rest in
     let before = g.O.Sink.state c.args.out.now in
     let packet : Packet = record { port = c.in-Packet.port; frame = c.as_slice.result.now } in
-    let still = tells_later i.only_read t in
-    let comes : ReadsOn c.args.limit text (i.done ++ record { port = c.in-Packet.port; frame = c.next.new.frame.items } ∷ []) c.next.new.self (g.F.Shelf.state c.next.new.shelf).rest =
-    subst (λ s. Comes (λ packets. ReadsOn c.args.limit text packets c.next.new.self (g.F.Shelf.state c.next.new.shelf).rest) c.args.limit text i.done c.next.new.frame.items s) c.in-Packet.is
-    (c.in-Ok-next.ensures.comes still c.args.limit text i.done (i.reads t)) in
     breaks p lists c.args.limit text (i.done ++ packet ∷ []) c.next.new.self (g.F.Shelf.state c.next.new.shelf).rest before (g.O.Sink.state c.answer_packet.new.out) c.in-Err-answer_packet.fault
-    (rw c.as_slice.ensures.value comes)
+    (reads_packet c.args.limit text i.done c.next.new.self (g.F.Shelf.state c.next.new.shelf).rest c.in-Ok-next.step c.in-Packet.port c.next.new.frame.items c.as_slice.result.now
+    c.in-Packet.is c.as_slice.ensures.value (c.in-Ok-next.ensures.comes (tells_later i.only_read t) c.args.limit text i.done (i.reads t)))
     (c.in-Err-answer_packet.ensures.cut p lists i.done before (i.goes p lists stands))
     (λ e. absurd (not_too_long c.in-Err-answer_packet.fault c.in-Err-answer_packet.ensures.either e))
 
@@ -59,11 +55,8 @@ loop-step-preserved g c =
       done = i.done ++ packet ∷ [];
       goes = λ p lists stands. c.in-Ok-answer_packet.ensures.ok p lists i.done before (i.goes p lists stands);
       reads = λ t.
-          let still = tells_later i.only_read t in
-          let comes : ReadsOn c.args.limit text (i.done ++ record { port = c.in-Packet.port; frame = c.next.new.frame.items } ∷ []) c.next.new.self (g.F.Shelf.state c.next.new.shelf).rest =
-          subst (λ s. Comes (λ packets. ReadsOn c.args.limit text packets c.next.new.self (g.F.Shelf.state c.next.new.shelf).rest) c.args.limit text i.done c.next.new.frame.items s) c.in-Packet.is
-          (next.comes still c.args.limit text i.done (i.reads t)) in
-          rw c.as_slice.ensures.value comes;
+          reads_packet c.args.limit text i.done c.next.new.self (g.F.Shelf.state c.next.new.shelf).rest c.in-Ok-next.step c.in-Packet.port c.next.new.frame.items c.as_slice.result.now
+          c.in-Packet.is c.as_slice.ensures.value (c.in-Ok-next.ensures.comes (tells_later i.only_read t) c.args.limit text i.done (i.reads t));
       given = omega (arith, i.given, next.given c.in-Packet.port c.in-Packet.is);
       few = omega (arith, i.given, next.given c.in-Packet.port c.in-Packet.is, c.next.ensures.few);
       only_read = only_read_trans i.only_read c.next.ensures.only_read;

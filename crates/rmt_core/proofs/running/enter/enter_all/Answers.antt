@@ -9,6 +9,7 @@ use Rattle.rmt_core.specs.Running.{Goes}
 use Rattle.rmt_core.specs.RunEnd.{Cut}
 use Rattle.rmt_core.specs.Watching.{shown}
 use Rattle.rmt_core.proofs.EnterLaws.{breaks, ends_whole, inputs_more, may_enter}
+use Rattle.rmt_core.proofs.ReaderLaws.{reads_packet}
 use Rattle.rmt_core.proofs.RunsLaws.{not_too_long}
 use Rattle.rmt_core.proofs.RunLaws.{few_entered, few_numbered}
 use Rattle.rmt_core.proofs.VectorLaws.{length_somes}
@@ -107,11 +108,8 @@ loop-step-preserved g c =
           subst (λ l. Goes w k l c.turn.new.run c.turn.new.chip before (g.O.Sink.state c.turn.new.out)) (inputs_more i.done packet)
           (c.in-Ok-turn.ensures.ok w k (map Some i.done) before (i.goes w k h));
       reads = λ t.
-          let still = tells_later i.only_read t in
-          let comes : ReadsOn c.args.limit text (i.done ++ record { port = c.in-Packet.port; frame = c.next.new.frame.items } ∷ []) c.next.new.self (g.F.Shelf.state c.next.new.shelf).rest =
-          subst (λ s. Comes (λ packets. ReadsOn c.args.limit text packets c.next.new.self (g.F.Shelf.state c.next.new.shelf).rest) c.args.limit text i.done c.next.new.frame.items s) c.in-Packet.is
-          (next.comes still c.args.limit text i.done (i.reads t)) in
-          rw c.as_slice.ensures.value comes;
+          reads_packet c.args.limit text i.done c.next.new.self (g.F.Shelf.state c.next.new.shelf).rest c.in-Ok-next.step c.in-Packet.port c.next.new.frame.items c.as_slice.result.now
+          c.in-Packet.is c.as_slice.ensures.value (c.in-Ok-next.ensures.comes (tells_later i.only_read t) c.args.limit text i.done (i.reads t));
       given = omega (arith, length-append i.done (packet ∷ []), i.given, next.given c.in-Packet.port c.in-Packet.is);
       few = c.next.ensures.few;
       only_read = only_read_trans i.only_read c.next.ensures.only_read;
@@ -125,12 +123,9 @@ returns-in-Err-turn-clause-broken g c = λ t w k h.
     let before = g.O.Sink.state c.args.out.now in
     let now = g.O.Sink.state c.turn.new.out in
     let packet : Packet = record { port = c.in-Packet.port; frame = c.as_slice.result.now } in
-    let still = tells_later i.only_read t in
-    let comes : ReadsOn c.args.limit text (i.done ++ record { port = c.in-Packet.port; frame = c.next.new.frame.items } ∷ []) c.next.new.self (g.F.Shelf.state c.next.new.shelf).rest =
-    subst (λ s. Comes (λ packets. ReadsOn c.args.limit text packets c.next.new.self (g.F.Shelf.state c.next.new.shelf).rest) c.args.limit text i.done c.next.new.frame.items s) c.in-Packet.is
-    (c.in-Ok-next.ensures.comes still c.args.limit text i.done (i.reads t)) in
     breaks w k c.args.limit text (i.done ++ packet ∷ []) c.next.new.self (g.F.Shelf.state c.next.new.shelf).rest before now c.in-Err-turn.fault
-    (rw c.as_slice.ensures.value comes)
+    (reads_packet c.args.limit text i.done c.next.new.self (g.F.Shelf.state c.next.new.shelf).rest c.in-Ok-next.step c.in-Packet.port c.next.new.frame.items c.as_slice.result.now
+    c.in-Packet.is c.as_slice.ensures.value (c.in-Ok-next.ensures.comes (tells_later i.only_read t) c.args.limit text i.done (i.reads t)))
     (subst (λ l. Cut (shown w k l) before now c.in-Err-turn.fault) (inputs_more i.done packet)
     (c.in-Err-turn.ensures.cut w k (map Some i.done) before (i.goes w k h)))
     (λ e. absurd (not_too_long c.in-Err-turn.fault c.in-Err-turn.ensures.either e))
