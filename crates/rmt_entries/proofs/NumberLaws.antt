@@ -1,10 +1,9 @@
 -- Numbers that are told where they are below a limit.
-use Rattle.std.proofs.Common.{◌≡◌, ℕ, ◌+◌, ◌≤◌, ◌^◌, ◌==◌, ◌&&◌, Bool, true, false, not, List, Option, Some, None, length, refl, arith}
+use Rattle.std.proofs.Common.{◌≡◌, ℕ, ◌+◌, ◌≤◌, ◌==◌, ◌&&◌, Bool, true, false, not, List, Option, Some, None, length, refl, arith}
 use Rattle.std.specs.Prelude.{SomeIff, nat_lt}
 use Rattle.std.specs.List.{list_all}
 use Rattle.std.proofs.Common.{ap, inl, inr}
 use Rattle.std.proofs.lemmas.Bool.{cases_Bool, ltb-true, lt-ltb}
-use Rattle.std.proofs.lemmas.Nat.{pow_pos}
 use Rattle.rmt_bits.specs.Digits.{number_of_digits}
 use Rattle.rmt_entries.specs.Numbers.{number_in, below}
 
@@ -19,7 +18,3 @@ number_below base last is_one digits o b h e t = rw (← e, t) (some_below o las
 
 pub number_none : (base limit : ℕ) (is_one : ℕ → Bool) (digits : List ℕ) (b : Bool) → b ≡ (not (length digits == 0) && list_all is_one digits) → b ≡ false → None ≡ below limit (number_in base is_one digits)
 number_none base limit is_one digits b e f = rw (← e, f) refl
-
--- a power of two is at least 1
-pub pow_room : (n : ℕ) → 1 ≤ 2 ^ n
-pow_room n = omega (arith, pow_pos n)

@@ -1,6 +1,6 @@
 use Rattle.std.proofs.Common.{◌≤◌, ◌-◌, ◌^◌, arith}
 use Rattle.std.proofs.Math.Pow.{pow_mono}
-use Rattle.rmt_entries.proofs.NumberLaws.{pow_room}
+use Rattle.std.proofs.lemmas.Nat.{pow_pos}
 use Rattle.rmt_entries.proofs.keys.prefix_mask.Goals as goal
 
 pub overflow_sub-result : goal.overflow_sub-result
@@ -10,4 +10,4 @@ overflow_sub-result c =
     omega (arith, c.ones-all.ensures, c.ones-low.ensures, powers)
 
 pub returns : goal.returns
-returns c = omega (arith, c.ones-all.ensures, c.ones-low.ensures, pow_room (c.args.width - c.args.len))
+returns c = omega (arith, c.ones-all.ensures, c.ones-low.ensures, pow_pos (c.args.width - c.args.len))
