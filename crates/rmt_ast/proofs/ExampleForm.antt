@@ -4,7 +4,7 @@ use Rattle.std.specs.Prelude.{map, false, codes, All}
 use Rattle.std.proofs.lemmas.List.Elements.{All-from_recursion, All-nil}
 use Rattle.std.proofs.lemmas.List.Kept.{AllPairs-cons}
 use Rattle.rmt_bits.specs.Bits.{number_of}
-use Rattle.rmt_ast.specs.Types.{Field, Header, Tail, Action, Assign, Table}
+use Rattle.rmt_ast.specs.Types.{Field, Header, Tail, Action, Assign, Table, Program}
 use Rattle.rmt_ast.specs.declared.program.Kind.TheVariants.{Exact}
 use Rattle.rmt_ast.specs.declared.entry.Entry.{Entry}
 use Rattle.rmt_ast.specs.WellFormed.{IsProgram, IsTail, HasFields, IsWidth, IsHeader, IsAction, IsAssign, IsTable, IsNode, HasNames, HasHeaderNames, AreAppliedOnce, AllNumbered, BeginsWith, Takes, name_of}
@@ -47,29 +47,17 @@ headers = AllNumbered-from_items (IsHeader strict_and_weak) strict_and_weak.head
 )
 
 -- an action that makes one assignment
-one_assign : (name params : List ℕ) (a : Assign) → All IsWidth params → length params ≤ 16 → IsAssign strict_and_weak params a → IsAction strict_and_weak (action name params (a ∷ []))
-one_assign name params a widths few h = record {
+pub one_assign : (p : Program) (name params : List ℕ) (a : Assign) → All IsWidth params → length params ≤ 16 → IsAssign p params a → IsAction p (action name params (a ∷ []))
+one_assign p name params a widths few h = record {
   params = widths;
   few_params = few;
-  assigns = All-from_recursion (IsAssign strict_and_weak params) (a ∷ []) (h, tt);
+  assigns = All-from_recursion (IsAssign p params) (a ∷ []) (h, tt);
   few_assigns = omega arith;
 }
 
-actions : All (IsAction strict_and_weak) strict_and_weak.actions
-actions = All-from_recursion (IsAction strict_and_weak) strict_and_weak.actions (
-  one_assign _ [] _ (All-nil _) (omega arith) (record { is_field = omega arith; is_not_in_port = λ e. omega (arith, e); expr = (omega arith, refl) }),
-  (
-    one_assign _ [] _ (All-nil _) (omega arith) (record { is_field = omega arith; is_not_in_port = λ e. omega (arith, e); expr = omega arith }),
-    (
-      one_assign _ (9 ∷ []) _ one_width (omega arith) (record { is_field = omega arith; is_not_in_port = λ e. omega (arith, e); expr = refl }),
-      (record { params = All-nil _; few_params = omega arith; assigns = All-nil _; few_assigns = omega arith }, tt),
-    ),
-  ),
-)
-
 -- a table without a key, whose default has no argument
-keyless_table : (name : List ℕ) (default : ℕ) → Takes strict_and_weak default [] → IsTable strict_and_weak (keyless name default)
-keyless_table name default h = record {
+pub keyless_table : (p : Program) (name : List ℕ) (default : ℕ) → Takes p default [] → IsTable p (keyless name default)
+keyless_table p name default h = record {
   key = record { key = refl; actions = refl; size = refl; counted = refl };
   actions = All-nil _;
   actions_once = AreDistinct-from_apart (λ a. a) [] refl;
@@ -77,9 +65,21 @@ keyless_table name default h = record {
   default = h;
 }
 
+actions : All (IsAction strict_and_weak) strict_and_weak.actions
+actions = All-from_recursion (IsAction strict_and_weak) strict_and_weak.actions (
+  one_assign strict_and_weak _ [] _ (All-nil _) (omega arith) (record { is_field = omega arith; is_not_in_port = λ e. omega (arith, e); expr = (omega arith, refl) }),
+  (
+    one_assign strict_and_weak _ [] _ (All-nil _) (omega arith) (record { is_field = omega arith; is_not_in_port = λ e. omega (arith, e); expr = omega arith }),
+    (
+      one_assign strict_and_weak _ (9 ∷ []) _ one_width (omega arith) (record { is_field = omega arith; is_not_in_port = λ e. omega (arith, e); expr = refl }),
+      (record { params = All-nil _; few_params = omega arith; assigns = All-nil _; few_assigns = omega arith }, tt),
+    ),
+  ),
+)
+
 tables : All (IsTable strict_and_weak) strict_and_weak.tables
 tables = All-from_recursion (IsTable strict_and_weak) strict_and_weak.tables (
-  keyless_table _ 0 tt,
+  keyless_table strict_and_weak _ 0 tt,
   (
     record {
       key = record {
@@ -96,7 +96,7 @@ tables = All-from_recursion (IsTable strict_and_weak) strict_and_weak.tables (
       few_actions = omega arith;
       default = tt;
     },
-    (keyless_table _ 1 tt, tt),
+    (keyless_table strict_and_weak _ 1 tt, tt),
   ),
 )
 

@@ -10,3 +10,4 @@ pub mod RankLaws
 pub mod NamingExamples
 pub mod EventExamples
 pub mod NamingLaws
+pub mod ExampleForm

@@ -111,7 +111,7 @@ done_by_keeps p n es (Apply t) r good entries state =
     table_keeps p n es (slice_get p.tables t) r good.actions (λ u e. All-slice_get (IsTable p) p.tables t u good.tables e) entries state
 done_by_keeps p n es (Gate f test) r good entries state = state
 
-run_from_keeps : (p : Program) (lists : List (List Entry)) → IsProgram p → (n : ℕ) (nodes : List Node) (r : Run) → ((k : ℕ) (node : Node) → slice_get nodes k ≡ Some node → AreEntriesAt (n + k) (unwrap_or (slice_get lists (n + k)) []) (terms_at p node.what)) → IsState p r.state → IsState p (run_from p lists n nodes r).state
+pub run_from_keeps : (p : Program) (lists : List (List Entry)) → IsProgram p → (n : ℕ) (nodes : List Node) (r : Run) → ((k : ℕ) (node : Node) → slice_get nodes k ≡ Some node → AreEntriesAt (n + k) (unwrap_or (slice_get lists (n + k)) []) (terms_at p node.what)) → IsState p r.state → IsState p (run_from p lists n nodes r).state
 run_from_keeps p lists good n [] r entries state = state
 run_from_keeps p lists good n (node ∷ nodes) r entries state =
     let here : AreEntriesAt n (unwrap_or (slice_get lists n) []) (terms_at p node.what) =

@@ -36,7 +36,7 @@ start_is_state p port fields below =
     (subst (λ w. port < 2 ^ w) (sym fields.in_port) below)
 
 -- an argument that fits its parameter
-argument_fits : (params args : List ℕ) (i width : ℕ) → AllZip Fits params args → slice_get params i ≡ Some width → slice_index args i < 2 ^ width
+pub argument_fits : (params args : List ℕ) (i width : ℕ) → AllZip Fits params args → slice_get params i ≡ Some width → slice_index args i < 2 ^ width
 argument_fits [] args i width h e = absurd (none-some width e)
 argument_fits (w ∷ params) [] i width h e = absurd h
 argument_fits (w ∷ params) (x ∷ args) zero width h e = subst (λ v. x < 2 ^ v) (ap (λ o. unwrap_or o w) e) h.0

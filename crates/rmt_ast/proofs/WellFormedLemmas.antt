@@ -1,13 +1,17 @@
 -- What holds of each item and its number, and what holds of each item and each later one, shown item by item.
-use Rattle.std.proofs.Common.{◌≡◌, ◌≢◌, ℕ, zero, suc, ◌+◌, Bool, true, not, ◌&&◌, List, [], ◌∷◌, ◌++◌, length, Some, ap, subst, arith}
-use Rattle.std.specs.Prelude.{⊤, slice_get, ◌==◌, unwrap_or}
+use Rattle.std.proofs.Common.{◌≡◌, ◌≢◌, ℕ, zero, suc, ◌+◌, Bool, true, not, ◌&&◌, List, [], ◌∷◌, ◌++◌, length, Some, ap, subst, arith, drop, map, ◌<◌, ◌∙◌}
+use Rattle.std.specs.Prelude.{⊤, slice_get, ◌==◌, unwrap_or, AllPairs, slice_index}
 use Rattle.std.specs.List.{list_all}
 use Rattle.std.proofs.lemmas.Bool.{and_parts, not-true, eqb-false}
 use Rattle.std.proofs.lemmas.Option.{none-some, same_Some}
 use Rattle.std.proofs.lemmas.List.Kept.{AllPairs-cons}
 use Rattle.rmt_bits.proofs.AllLaws.{All-from_test}
 use Rattle.rmt_bits.proofs.PairLaws.{AllPairs-none}
-use Rattle.rmt_ast.specs.WellFormed.{AllNumbered, AreDistinct}
+use Rattle.rmt_ast.specs.WellFormed.{AllNumbered, AreDistinct, bits_of}
+use Rattle.std.proofs.lemmas.List.{at_drop_more}
+use Rattle.std.proofs.lemmas.List.Sums.{sum_by-cons}
+use Rattle.rmt_ast.specs.Types.{Program}
+use Rattle.rmt_ast.specs.State.{width_of}
 
 -- P of each item of a list whose first item has number k
 abbrev pub NumberedFrom : {X : Type 0} → (ℕ → X → Type 0) → ℕ → List X → Type 0
@@ -44,3 +48,8 @@ AreDistinct-from_apart number (x ∷ xs) h =
     AllPairs-cons (λ x y. x ≢ y) x xs
     (All-from_test (λ y. x ≢ y) (λ y. not (number x == number y)) (λ y t e. eqb-false (number x) (number y) (not-true _ t) (ap number e)) xs parts.0)
     (AreDistinct-from_apart number xs parts.1)
+
+-- the bits of the fields from one on are its own and those of the others
+pub bits_of-drop : (p : Program) (fields : List ℕ) (i : ℕ) → i < length fields → bits_of p (drop i fields) ≡ width_of p (slice_index fields i) + bits_of p (drop (i + 1) fields)
+bits_of-drop p fields i h =
+    at_drop_more (bits_of p) fields i 0 h ∙ sum_by-cons (λ (n : ℕ). n) (width_of p (slice_index fields i)) (map (width_of p) (drop (i + 1) fields))

@@ -1,5 +1,5 @@
 -- What holds of all items of a list, of its parts, and of an item that is found.
-use Rattle.std.proofs.Common.{◌≡◌, ℕ, zero, suc, ◌+◌, ◌<◌, Bool, true, false, cond, List, [], ◌∷◌, ◌++◌, Option, Some, ap, sym, subst, arith}
+use Rattle.std.proofs.Common.{◌≡◌, ℕ, zero, suc, ◌+◌, ◌<◌, Bool, true, false, cond, List, [], ◌∷◌, ◌++◌, Option, Some, ap, sym, subst, arith, ◌≤◌}
 use Rattle.std.specs.Prelude.{All, filter, find, map, reverse, slice_get, unwrap_or}
 use Rattle.std.specs.List.{flat_map, list_all, range_with_len}
 use Rattle.std.proofs.lemmas.List.{reverse-append}
@@ -32,9 +32,13 @@ pub All-from_test : {X : Type 0} (P : X → Type 0) (test : X → Bool) → ((x 
 All-from_test P test shows xs h = All-weaker (λ x. test x ≡ true) P shows xs (AllPass-from_list_all test xs h)
 
 -- of numbers in a row
+pub All-between : (P : ℕ → Type 0) (a n : ℕ) → ((w : ℕ) → a ≤ w → w < a + n → P w) → All P (range_with_len a n)
+All-between P a zero h = All-nil P
+All-between P a (suc n) h =
+    All-cons P a (range_with_len (a + 1) n) (h a (omega arith) (omega arith)) (All-between P (a + 1) n (λ w from lt. h w (omega arith) (omega arith)))
+
 pub All-range : (P : ℕ → Type 0) (a n : ℕ) → ((w : ℕ) → w < a + n → P w) → All P (range_with_len a n)
-All-range P a zero h = All-nil P
-All-range P a (suc n) h = All-cons P a (range_with_len (a + 1) n) (h a (omega arith)) (All-range P (a + 1) n (λ w lt. h w (omega arith)))
+All-range P a n h = All-between P a n (λ w _ lt. h w lt)
 
 -- of the item at a place
 pub All-slice_get : {X : Type 0} (P : X → Type 0) (xs : List X) (i : ℕ) (x : X) → All P xs → slice_get xs i ≡ Some x → P x

@@ -2,6 +2,7 @@
 use Rattle.std.proofs.Common.{◌≡◌, ℕ, ◌+◌, ◌-◌, ◌*◌, ◌/◌, ◌%◌, ◌^◌, ◌<◌, ◌≤◌, sym, ap, ◌∙◌, arith}
 use Rattle.std.proofs.lemmas.Nat.{pow_pos, pow-add, shr_below, mod_below, mul-add-lt, shr_split, shr-shr, shr_high, mod_low, field_of, mod-pow-add}
 use Rattle.std.proofs.Math.Pow.{mod-mod-pow}
+use Rattle.std.proofs.Math.Nat.{div-one, mod-eq_of_lt}
 use Rattle.rmt_bits.specs.Bits.{slice, deposit}
 
 -- a slice has no more bits than its length
@@ -117,3 +118,23 @@ deposit-add v low a b y z hy hz =
     let least : inner % 2 ^ low ≡ v % 2 ^ low = sym (mod-low inner low b) ∙ ap (λ n. n % 2 ^ low) r ∙ mod-low v low b in
     let mid : y * 2 ^ (low + b) ≡ y * 2 ^ b * 2 ^ low = rw (pow-add 2 low b) (omega arith) in
     omega (arith, split, whole, least, r, mid)
+
+-- a slice of a slice, and one of all bits
+pub slice-slice : (v low len from n : ℕ) → from + n ≤ len → slice (slice v low len) from n ≡ slice v (low + from) n
+slice-slice v low len from n within =
+    let x = v / 2 ^ low in
+    let split : len ≡ len - (n + from) + (n + from) = omega arith in
+    let short : x % 2 ^ len % 2 ^ (n + from) ≡ x % 2 ^ (n + from) = ap (λ k. x % 2 ^ k % 2 ^ (n + from)) split ∙ mod-mod-pow x (len - (n + from)) (n + from) in
+    sym (field_of (x % 2 ^ len) n from) ∙ ap (λ k. k / 2 ^ from) short ∙ field_of x n from ∙ ap (λ k. k % 2 ^ n) (shr-shr v low from)
+
+pub slice-whole : (x w : ℕ) → x < 2 ^ w → slice x 0 w ≡ x
+slice-whole x w lt = ap (λ n. n % 2 ^ w) (div-one x) ∙ mod-eq_of_lt lt
+
+-- a deposit right behind the bits of a number that was moved up
+pub deposit-multiple : (n low len x : ℕ) → deposit (n * 2 ^ (low + len)) low len x ≡ (n * 2 ^ len + x) * 2 ^ low
+deposit-multiple n low len x =
+    let whole : n * 2 ^ (low + len) ≡ n * 2 ^ (low + len) + 0 = omega arith in
+    let turned : n * 2 ^ (low + len) ≡ n * 2 ^ len * 2 ^ low + 0 = rw (pow-add 2 low len) (omega arith) in
+    let high : n * 2 ^ (low + len) / 2 ^ (low + len) ≡ n = ap (λ m. m / 2 ^ (low + len)) whole ∙ shr_high n (low + len) 0 (pow_pos (low + len)) in
+    let below : n * 2 ^ (low + len) % 2 ^ low ≡ 0 = ap (λ m. m % 2 ^ low) turned ∙ mod_low (n * 2 ^ len) low 0 (pow_pos low) in
+    rw (high, below) (omega (arith, turned))

@@ -1,8 +1,8 @@
 -- Laws of runs of bytes as numbers.
-use Rattle.std.proofs.Common.{◌≡◌, ℕ, zero, suc, refl, ◌+◌, ◌-◌, ◌*◌, ◌/◌, ◌%◌, ◌^◌, ◌<◌, ◌≤◌, List, [], ◌∷◌, ◌++◌, length, get_or, set, take, drop, fold, sym, ap, ◌∙◌, subst, arith}
-use Rattle.std.proofs.lemmas.Nat.{pow-add, mul-add-lt, shr_split, shr-shr, shr_high, mod_low, mod-pow-add}
+use Rattle.std.proofs.Common.{◌≡◌, ℕ, zero, suc, refl, ◌+◌, ◌-◌, ◌*◌, ◌/◌, ◌%◌, ◌^◌, ◌<◌, ◌≤◌, List, [], ◌∷◌, ◌++◌, length, get_or, set, take, drop, fold, sym, ap, ◌∙◌, subst, arith, replicate, ◌⊎◌, inl, inr}
+use Rattle.std.proofs.lemmas.Nat.{pow-add, mul-add-lt, shr_split, shr-shr, shr_high, mod_low, mod-pow-add, div_below}
 use Rattle.std.proofs.lemmas.List.Sums.{fold-append, fold_push}
-use Rattle.std.proofs.lemmas.List.{take_all, take_more, take-append-drop, length-drop, get_or-drop, length-set, take-set, get_or-set_same, drop-set-lt}
+use Rattle.std.proofs.lemmas.List.{length-append, take_all, take_more, take-append-drop, length-drop, get_or-drop, length-set, take-set, get_or-set_same, drop-set-lt}
 use Rattle.std.proofs.Math.Pow.{pow_mono}
 use Rattle.rmt_bits.specs.Bits.{slice, deposit, number_of, bytes_of, bits_of_bytes}
 use Rattle.rmt_bits.proofs.BitLaws.{slice-lt, slice-add, slice-from_low, mod-from_low, high_part-lt, deposit-add, deposit-lt}
@@ -253,3 +253,20 @@ pub bytes_of-number_of : (bytes : List ℕ) → AreBytes bytes → bytes_of (len
 bytes_of-number_of bytes h =
     let all : take (length bytes) bytes ≡ bytes = take_all (length bytes) bytes (omega arith) in
     ap (λ (xs : List ℕ). bytes_of (length bytes) (number_of xs)) (sym all) ∙ bytes_of_front bytes h (length bytes) (omega arith) ∙ all
+
+-- a number is that of its bytes
+pub length-bytes_of : (count n : ℕ) → length (bytes_of count n) ≡ count
+length-bytes_of zero n = refl
+length-bytes_of (suc count) n = length-append (bytes_of count (n / 256)) (n % 256 ∷ []) ∙ (let e = length-bytes_of count (n / 256) in omega (arith, e))
+
+pub number_of-bytes_of : (count n : ℕ) → n < 2 ^ (8 * count) → number_of (bytes_of count n) ≡ n
+number_of-bytes_of zero n lt = omega (arith, lt)
+number_of-bytes_of (suc count) n lt =
+    let more : 8 * suc count ≡ 8 * count + 8 = omega arith in
+    let size : 2 ^ (8 * suc count) ≡ 2 ^ (8 * count) * 2 ^ 8 = ap (λ k. 2 ^ k) more ∙ pow-add 2 (8 * count) 8 in
+    let less : n / 256 < 2 ^ (8 * count) = div_below n 256 (2 ^ (8 * count)) (omega arith) (omega (arith, lt, size)) in
+    number_of_push (bytes_of count (n / 256)) (n % 256) ∙ ap (λ k. 256 * k + n % 256) (number_of-bytes_of count (n / 256) less) ∙ (let e : 256 * (n / 256) + n % 256 ≡ n = omega arith in e)
+
+pub number_of-zeros : (n : ℕ) → number_of (replicate n 0) ≡ 0
+number_of-zeros zero = refl
+number_of-zeros (suc n) = number_of-zeros n

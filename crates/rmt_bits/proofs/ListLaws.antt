@@ -1,14 +1,14 @@
 -- Lists: where there is an item, lists without items, and one item more.
-use Rattle.std.proofs.Common.{◌≡◌, ◌≢◌, ℕ, zero, suc, ◌+◌, ◌<◌, ◌≤◌, Bool, true, false, cond, List, [], ◌∷◌, ◌++◌, length, take, drop, Option, None, Some, refl, ap, sym, subst, ◌∙◌, arith}
-use Rattle.std.specs.Prelude.{All, IsSome, IsSomeAnd, find, slice_get, slice_set, map, filter}
-use Rattle.std.specs.List.{flat_map, list_all, prefix_len, range_with_len, sum_by, take_while}
+use Rattle.std.proofs.Common.{◌≡◌, ◌≢◌, ℕ, zero, suc, ◌+◌, ◌<◌, ◌≤◌, Bool, true, false, cond, List, [], ◌∷◌, ◌++◌, length, take, drop, Option, None, Some, refl, ap, sym, subst, ◌∙◌, arith, max, get_or}
+use Rattle.std.specs.Prelude.{All, IsSome, IsSomeAnd, find, slice_get, slice_set, map, filter, fold}
+use Rattle.std.specs.List.{flat_map, list_all, prefix_len, range_with_len, sum_by, take_while, AllZip}
 use Rattle.std.proofs.Math.Seq.{take-append_seam}
 use Rattle.std.proofs.lemmas.Bool.{and_parts}
-use Rattle.std.proofs.lemmas.List.{map-id, length-drop}
+use Rattle.std.proofs.lemmas.List.{map-id, length-drop, length-take, take_more}
 use Rattle.std.proofs.lemmas.List.FromFn.{map-range_with_len_more}
-use Rattle.std.proofs.lemmas.List.Elements.{All-nil, All-cons, All-head, All-tail}
+use Rattle.std.proofs.lemmas.List.Elements.{All-nil, All-cons, All-head, All-tail, filter-append}
 use Rattle.std.proofs.lemmas.List.Sums.{sum_by-cons}
-use Rattle.std.proofs.lemmas.Option.{none-some, slice_get_within}
+use Rattle.std.proofs.lemmas.Option.{none-some, same_Some, get_or_from_slice_get, slice_get_within, slice_get_read}
 
 -- a list has an item at each place below its length
 pub slice_get-below : {X : Type 0} (xs : List X) (i : ℕ) → i < length xs → IsSome (slice_get xs i)
@@ -142,3 +142,40 @@ sum_by-filter_none f test (x ∷ xs) none = by (sum_by-filter_none f test xs non
     by : sum_by f (filter test xs) ≡ 0 → (b : Bool) → test x ≡ b → sum_by f (cond b (x ∷ filter test xs) (filter test xs)) ≡ 0
     by rest true e = sum_by-cons f x (filter test xs) ∙ (let none_more : f x + sum_by f (filter test xs) ≡ 0 = omega (arith, none x e, rest) in none_more)
     by rest false e = rest
+
+-- what passes a test, over one number more
+pub filter-range_more : (test : ℕ → Bool) (n : ℕ) → filter test (range_with_len 0 (n + 1)) ≡ filter test (range_with_len 0 n) ++ cond (test n) (n ∷ []) []
+filter-range_more test n =
+    let there : 0 + n ≡ n = omega arith in
+    ap (filter test) (range_more 0 n ∙ ap (λ m. range_with_len 0 n ++ m ∷ []) there) ∙ filter-append test (range_with_len 0 n) (n ∷ [])
+
+-- a front with the item behind it
+pub take-slice_get : {X : Type 0} (xs : List X) (n : ℕ) (x : X) → slice_get xs n ≡ Some x → take (n + 1) xs ≡ take n xs ++ x ∷ []
+take-slice_get xs n x e = take_more xs n x (slice_get_within xs n x e) ∙ ap (λ y. take n xs ++ y ∷ []) (get_or_from_slice_get xs n x x e)
+
+-- a place in a part of a list is one of the list
+pub part-below : {X : Type 0} (many first i : ℕ) (xs : List X) → i < length (take many (drop first xs)) → (i < many) × (first + i < length xs)
+part-below many first i xs lt =
+    let taken = length-take many (drop first xs) in
+    let behind = length-drop first xs in
+    (omega (arith, lt, taken, behind), omega (arith, lt, taken, behind))
+
+-- items at one place of two lists that go together
+pub AllZip-slice_get : {X Y : Type 0} (R : X → Y → Type 0) (xs : List X) (ys : List Y) (i : ℕ) (x : X) (y : Y) → AllZip R xs ys → slice_get xs i ≡ Some x → slice_get ys i ≡ Some y → R x y
+AllZip-slice_get R [] ys i x y zip at_x at_y = absurd (none-some x at_x)
+AllZip-slice_get R (a ∷ xs) [] i x y zip at_x at_y = absurd zip
+AllZip-slice_get R (a ∷ xs) (b ∷ ys) zero x y zip at_x at_y = subst (λ z. R z y) (same_Some a x at_x) (subst (R a) (same_Some b y at_y) zip.0)
+AllZip-slice_get R (a ∷ xs) (b ∷ ys) (suc i) x y zip at_x at_y = AllZip-slice_get R xs ys i x y zip.1 at_x at_y
+
+-- what is found passes the test
+passes_first : {X : Type 0} (test : X → Bool) (b : Bool) (y : X) (rest : Option X) (x : X) → test y ≡ b → (rest ≡ Some x → test x ≡ true) → cond b (Some y) rest ≡ Some x → test x ≡ true
+passes_first test true y rest x is later e = subst (λ z. test z ≡ true) (same_Some y x e) is
+passes_first test false y rest x is later e = later e
+
+pub find-passes : {X : Type 0} (test : X → Bool) (xs : List X) (x : X) → find test xs ≡ Some x → test x ≡ true
+find-passes test [] x e = absurd (none-some x e)
+find-passes test (y ∷ ys) x e = passes_first test (test y) y (find test ys) x refl (find-passes test ys x) e
+
+-- the item at a place of what is seen of a list
+pub slice_get-seen : {X : Type 0} (xs seen : List X) (i : ℕ) (x : X) → seen ≡ xs → i < length seen → x ≡ get_or seen i x → slice_get xs i ≡ Some x
+slice_get-seen xs seen i x same lt is = slice_get_read xs (length seen) i x (ap length same) lt (is ∙ ap (λ ys. get_or ys i x) same)

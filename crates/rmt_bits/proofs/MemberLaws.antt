@@ -1,8 +1,12 @@
 -- The items of a list, and of a list that is made of another.
-use Rattle.std.proofs.Common.{◌≡◌, ℕ, zero, suc, ◌<◌, ◌⊎◌, inl, inr, List, [], ◌∷◌, length, get_or, map, refl, subst, arith, Bool, true}
-use Rattle.std.specs.Prelude.{Contains, filter}
-use Rattle.std.proofs.lemmas.List.Elements.{All-contains, All-contains_itself, All-filter, filter_passes}
+use Rattle.std.proofs.Common.{◌≡◌, ℕ, zero, suc, ◌<◌, ◌⊎◌, inl, inr, List, [], ◌∷◌, length, get_or, map, refl, subst, arith, Bool, true, sym, Some, ◌||◌, false}
+use Rattle.std.specs.Prelude.{Contains, filter, slice_get, ◌==◌}
+use Rattle.std.proofs.lemmas.List.Elements.{All-contains, All-contains_itself, All-filter, filter_passes, Contains-append_cases, Contains-append_left, Contains-append_right}
 use Rattle.rmt_bits.proofs.AllLaws.{All-unfilter}
+use Rattle.std.specs.List.{list_any, flat_map}
+use Rattle.std.proofs.lemmas.List.Folds.{list_any_at}
+use Rattle.std.proofs.lemmas.Option.{get_or_from_slice_get, slice_get_within}
+use Rattle.std.proofs.lemmas.Bool.{both_ways, eqb-true}
 
 pub Contains-first : {X : Type 0} (x : X) (xs : List X) → Contains (x ∷ xs) x
 Contains-first x xs = (0, omega arith, refl)
@@ -39,8 +43,44 @@ Contains-filter test xs x there passes =
     All-contains (λ y. test y ≡ true → Contains (filter test xs) y) xs x
     (All-unfilter (Contains (filter test xs)) test xs (All-contains_itself (filter test xs))) there passes
 
+-- an item that passes a test
+pub list_any-Contains : {X : Type 0} (test : X → Bool) (xs : List X) (x : X) → Contains xs x → test x ≡ true → list_any test xs ≡ true
+list_any-Contains test xs x there passes = list_any_at test xs there.0 x there.1 (subst (λ y. test y ≡ true) (sym there.2) passes)
+
 pub Contains-unfilter : {X : Type 0} (test : X → Bool) (xs : List X) (x : X) → Contains (filter test xs) x → Contains xs x × (test x ≡ true)
 Contains-unfilter test xs x there = (
   All-contains (Contains xs) (filter test xs) x (All-filter test (Contains xs) xs (All-contains_itself xs)) there,
   All-contains (λ y. test y ≡ true) (filter test xs) x (filter_passes test xs) there,
 )
+
+-- the item at a place
+pub Contains-item : {X : Type 0} (xs : List X) (i : ℕ) (x : X) → slice_get xs i ≡ Some x → Contains xs x
+Contains-item xs i x e = (i, slice_get_within xs i x e, get_or_from_slice_get xs i x x e)
+
+-- an item of one of several lists
+pub Contains-flat_map : {X Y : Type 0} (f : X → List Y) (xs : List X) (x : X) (y : Y) → Contains xs x → Contains (f x) y → Contains (flat_map f xs) y
+Contains-flat_map f [] x y there in_x = absurd (let lt = there.1 in omega (arith, lt))
+Contains-flat_map f (z ∷ zs) x y there in_x = elim (Contains-split z zs x there) [
+  | inl e ↦ Contains-append_left (f z) (flat_map f zs) y (subst (λ w. Contains (f w) y) (sym e) in_x)
+  | inr later ↦ Contains-append_right (f z) (flat_map f zs) y (Contains-flat_map f zs x y later in_x)
+]
+
+-- the item that a member is from, and its place
+pub flat_from : {X Y : Type 0} (f : X → List Y) (xs : List X) (y : Y) → Contains (flat_map f xs) y → (i : ℕ) × (x : X) × (slice_get xs i ≡ Some x) × Contains (f x) y
+flat_from f [] y there = absurd (let lt = there.1 in omega (arith, lt))
+flat_from f (x ∷ xs) y there = elim (Contains-append_cases (f x) (flat_map f xs) y there) [
+  | inl here ↦ (0, x, refl, here)
+  | inr later ↦ let r = flat_from f xs y later in (suc r.0, r.1, r.2, r.3)
+]
+
+pub from_flat_map : {X Y : Type 0} (f : X → List Y) (xs : List X) (y : Y) → Contains (flat_map f xs) y → (x : X) × Contains xs x × Contains (f x) y
+from_flat_map f xs y there = let r = flat_from f xs y there in (r.1, Contains-item xs r.0 r.1 r.2, r.3)
+
+-- a number that is among others by a test
+pub Contains-from_any : (xs : List ℕ) (x : ℕ) → list_any (λ m. m == x) xs ≡ true → Contains xs x
+Contains-from_any [] x e = absurd (both_ways false refl e)
+Contains-from_any (y ∷ ys) x e = by (y == x) refl e (Contains-from_any ys x)
+  where
+    by : (b : Bool) → (y == x) ≡ b → (b || list_any (λ m. m == x) ys) ≡ true → (list_any (λ m. m == x) ys ≡ true → Contains ys x) → Contains (y ∷ ys) x
+    by true is h rest = subst (Contains (y ∷ ys)) (eqb-true y x is) (Contains-first y ys)
+    by false is h rest = Contains-later y ys x (rest h)

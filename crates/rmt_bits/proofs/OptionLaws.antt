@@ -1,8 +1,9 @@
--- Values that are there, and values behind references.
-use Rattle.std.proofs.Common.{◌≡◌, Option, Some, None, option_copied, option_map, refl}
+-- Values that are there, values behind references, and truth values.
+use Rattle.std.proofs.Common.{◌≡◌, ℕ, Bool, true, false, eqb, inl, inr, Option, Some, None, option_copied, option_map, refl, sym, ◌∙◌}
 use Rattle.std.specs.Borrow.{Bor}
-use Rattle.std.specs.Prelude.{IsSome}
-use Rattle.std.proofs.lemmas.Bool.{false≢true}
+use Rattle.std.specs.Prelude.{IsSome, is_none}
+use Rattle.std.specs.Option.{option_or}
+use Rattle.std.proofs.lemmas.Bool.{cases_eq, eq-eqb, false≢true, ne_eqb}
 
 -- where there is a value, this is it
 pub IsSome-value : {X : Type 0} (o : Option X) → IsSome o → (x : X) × (o ≡ Some x)
@@ -13,3 +14,28 @@ IsSome-value (Some x) some = (x, refl)
 pub copied-map : {A B : Type 0} (f : A → B) (o : Option (Bor A)) → option_map (λ (x : Bor A). f x.now) o ≡ option_map f (option_copied o)
 copied-map f None = refl
 copied-map f (Some x) = refl
+
+-- where one of two values is to be taken and there is none, neither is there
+pub option_or-none_left : {X : Type 0} (a b : Option X) → option_or a b ≡ None → a ≡ None
+option_or-none_left None b e = refl
+option_or-none_left (Some x) b e = absurd cc
+
+pub option_or-none_right : {X : Type 0} (a b : Option X) → option_or a b ≡ None → b ≡ None
+option_or-none_right None b e = e
+option_or-none_right (Some x) b e = absurd cc
+
+pub None-from_is_none : {X : Type 0} (o : Option X) → is_none o ≡ true → o ≡ None
+None-from_is_none None e = refl
+None-from_is_none (Some x) e = absurd cc
+
+-- truth values of which each gives the other
+pub same_Bool : (a b : Bool) → (a ≡ true → b ≡ true) → (b ≡ true → a ≡ true) → a ≡ b
+same_Bool true b there back = sym (there refl)
+same_Bool false true there back = back refl
+same_Bool false false there back = refl
+
+pub eqb-sym : (a b : ℕ) → eqb a b ≡ eqb b a
+eqb-sym a b = elim (cases_eq a b) [
+  | inl e ↦ eq-eqb a b e ∙ sym (eq-eqb b a (sym e))
+  | inr ne ↦ ne_eqb a b ne ∙ sym (ne_eqb b a (λ e. ne (sym e)))
+]

@@ -13,7 +13,7 @@ use Rattle.rmt_config.specs.Resources.{unit_instructions}
 use Rattle.rmt_refine.specs.Code.{CodeCarried, DoesAction, DoesDefault}
 use Rattle.rmt_refine.specs.Units.{table_at}
 use Rattle.rmt_refine.specs.View.{as_slot}
-use Rattle.rmt_refine.proofs.PartLaws.{and_at, some_and, then_some}
+use Rattle.rmt_refine.proofs.PartLaws.{and_at, some_and, then_some, slot_is_unit}
 use Rattle.rmt_build.specs.UnitCode.{DoActions, DoTable, DoUnit, DoUnits}
 
 -- an instruction of a list, by its number
@@ -100,15 +100,11 @@ module _ (p : Program) (places : List (List Lane)) where
       (subst (DoFrom p places t (own ++ rest)) sums
       (behind t own rest first (unit_instructions u) (count_of u own here) (units_found units rest later place s t at is)))
 
-  slot_is : (u : Unit) (s : SlotUnit) → as_slot u ≡ Some s → u ≡ Slot s
-  slot_is (Gate g) s at = absurd (none-some s at)
-  slot_is (Slot r) s at = ap Slot (same_Some r s at)
-
   -- so the code of the stages does what the actions say
   pub code_carried : (c : Config) → ((k : ℕ) (stage : Stage) → slice_get c.stages k ≡ Some stage → DoUnits p places stage.units stage.code) → CodeCarried p places c
   code_carried c each = λ n k place t stage slot is at_stage at_slot node.
       (let found = then_some as_slot (slice_get stage.units place) slot at_slot in
-      let there : slice_get stage.units place ≡ Some (Slot slot) = found.1 ∙ ap Some (slot_is found.0 slot found.2) in
+      let there : slice_get stage.units place ≡ Some (Slot slot) = found.1 ∙ ap Some (slot_is_unit found.0 slot found.2) in
       let table : table_at p slot.node ≡ Some t = ap (table_at p) node ∙ is in
       let does = units_found stage.units stage.code (each k stage at_stage) place slot t there table in
       record { actions = does.actions; default = does.default })

@@ -1,12 +1,12 @@
 -- From the units of a stage to the stage: its entries can be written, and what is written is what a plan asks.
-use Rattle.std.proofs.Common.{◌≡◌, ◌≢◌, ℕ, zero, suc, ◌<◌, ◌≤◌, true, List, [], ◌∷◌, ◌++◌, Some, length, get_or, sym, ap, ◌∙◌, subst, inl, inr, arith}
+use Rattle.std.proofs.Common.{◌≡◌, ℕ, zero, suc, ◌<◌, ◌≤◌, true, List, [], ◌∷◌, ◌++◌, Some, length, get_or, sym, ap, ◌∙◌, subst, inl, inr, arith, ◌≢◌}
 use Rattle.std.specs.Prelude.{All, AllPairs, Contains, option_and_then, slice_get, slice_index, sum_by}
 use Rattle.std.specs.List.{AllZip, flat_map}
 use Rattle.std.proofs.lemmas.List.{get_or_default, length-map}
 use Rattle.std.proofs.lemmas.List.Elements.{Contains-append_left}
 use Rattle.std.proofs.lemmas.Option.{get_or_from_slice_get, none-some, same_Some, slice_get_within}
 use Rattle.std.proofs.lemmas.Slice.Zip.{AllZip-long}
-use Rattle.rmt_bits.proofs.ListLaws.{slice_get-item}
+use Rattle.rmt_bits.proofs.ListLaws.{slice_get-item, AllZip-slice_get}
 use Rattle.rmt_build.specs.Types.{Program, Table, Node, Stage, Unit, GateUnit, SlotUnit, Memory}
 use Rattle.rmt_ast.specs.declared.entry.Entry.{Entry}
 use Rattle.rmt_ast.specs.EntryLists.{AreEntries, terms_at}
@@ -22,9 +22,10 @@ use Rattle.rmt_bits.proofs.PairLaws.{AllPairs-right}
 use Rattle.rmt_place.specs.Needs.{demands_of, keeps_limits}
 use Rattle.rmt_place.specs.Placing.{standing_in}
 use Rattle.rmt_ptcam.proofs.PlainLaws.{lanes_bits}
-use Rattle.rmt_refine.specs.Units.{UnitCarried, applied, node_in, nodes_in, table_at}
+use Rattle.rmt_refine.specs.Units.{UnitCarried, applied, nodes_in, table_at}
+use Rattle.rmt_config.specs.TableForm.{node_of}
 use Rattle.rmt_refine.specs.View.{as_slot, slot_of}
-use Rattle.rmt_refine.proofs.MemberLaws.{Contains-flat_map, Contains-item}
+use Rattle.rmt_bits.proofs.MemberLaws.{Contains-item, Contains-flat_map}
 use Rattle.rmt_refine.proofs.PartLaws.{quanta_of_node, slot_is_unit, then_some}
 use Rattle.rmt_build.specs.declared.plan.Plan.{Plan}
 use Rattle.rmt_build.specs.BuiltStage.{HasPart, HaveParts, IsBuiltStage, SmallUnit}
@@ -36,7 +37,7 @@ use Rattle.rmt_build.specs.UnitCode.{DoUnits}
 use Rattle.rmt_build.specs.Written.{UnitFits, UnitsApart, UnitsWritten}
 use Rattle.rmt_build.proofs.FitLaws.{slot-fits}
 use Rattle.rmt_build.proofs.FormBlocks.{AreBlocks, HasMemory, are_blocks}
-use Rattle.rmt_build.proofs.FormFits.{zip_at, zip_get}
+use Rattle.rmt_build.proofs.FormFits.{zip_at}
 use Rattle.rmt_build.proofs.FormStage.{HoldsData, keep_limits, kinds}
 use Rattle.rmt_build.proofs.StageLaws.{rows-formed, slot-built}
 
@@ -97,13 +98,13 @@ module _ (p : Program) (lists : List (List Entry)) (plan : Plan) (k : ℕ) (prog
   memories : AllZip (HasMemory p program plan.places plan.placement.parts k) (nodes_in p plan.placement.parts k) units
   memories = zip_at (UnitCarried p plan.places plan.placement.parts k) (HasMemory p program plan.places plan.placement.parts k) (nodes_in p plan.placement.parts k) units
       (λ i n u at_n at_u carried s t is_u table.
-      (let number : s.node ≡ n = ap node_in (sym is_u) ∙ carried.number in
+      (let number : s.node ≡ n = ap node_of (sym is_u) ∙ carried.number in
       (part_at i n s t (at_u ∙ ap Some is_u) number table).2.memory ∙ ap (λ m. memory_for t.kind (need_in p plan.placement.parts t m k) (taken_upto p plan.placement.parts k m)) number)) zip
 
   data_held : AllZip (λ n u. UnitCarried p plan.places plan.placement.parts k n u × HoldsData p plan.places plan.placement.parts k n u) (nodes_in p plan.placement.parts k) units
   data_held = zip_at (UnitCarried p plan.places plan.placement.parts k) (λ n u. UnitCarried p plan.places plan.placement.parts k n u × HoldsData p plan.places plan.placement.parts k n u)
       (nodes_in p plan.placement.parts k) units
-      (λ i n u at_n at_u carried. (carried, λ s t is_u table. (part_at i n s t (at_u ∙ ap Some is_u) (ap node_in (sym is_u) ∙ carried.number) table).2.held)) zip
+      (λ i n u at_n at_u carried. (carried, λ s t is_u table. (part_at i n s t (at_u ∙ ap Some is_u) (ap node_of (sym is_u) ∙ carried.number) table).2.held)) zip
 
   blocks : AreBlocks p program plan.places plan.placement.parts k units
   blocks = are_blocks p program plan.places plan.placement.parts k units zip memories
@@ -154,7 +155,7 @@ module _ (p : Program) (lists : List (List Entry)) (plan : Plan) (k : ℕ) (prog
       let long = AllZip-long (UnitCarried p plan.places plan.placement.parts k) (nodes_in p plan.placement.parts k) units zip in
       let n = slice_get-item (nodes_in p plan.placement.parts k) i (omega (arith, lt, long)) in
       subst (UnitFits p lists plan k) (sym u_is)
-      (fits_at i n.0 u.0 n.1 u.1 (zip_get (UnitCarried p plan.places plan.placement.parts k) (nodes_in p plan.placement.parts k) units i n.0 u.0 zip n.1 u.1))
+      (fits_at i n.0 u.0 n.1 u.1 (AllZip-slice_get (UnitCarried p plan.places plan.placement.parts k) (nodes_in p plan.placement.parts k) units i n.0 u.0 zip n.1 u.1))
 
 -- ---- the stage
 
@@ -169,7 +170,7 @@ module _ (p : Program) (lists : List (List Entry)) (plan : Plan) (k : ℕ) (prog
       let long = AllZip-long (UnitCarried p plan.places plan.placement.parts k) (nodes_in p plan.placement.parts k) stage.units zip in
       let lt = slice_get_within stage.units place (Slot slot) unit_is in
       let n = slice_get-item (nodes_in p plan.placement.parts k) place (omega (arith, lt, long)) in
-      let carried = zip_get (UnitCarried p plan.places plan.placement.parts k) (nodes_in p plan.placement.parts k) stage.units place n.0 (Slot slot) zip n.1 unit_is in
+      let carried = AllZip-slice_get (UnitCarried p plan.places plan.placement.parts k) (nodes_in p plan.placement.parts k) stage.units place n.0 (Slot slot) zip n.1 unit_is in
       elim (kinds p plan.places plan.placement.parts k n.0 (Slot slot) carried) [
         | inl own ↦
             let slot_same : own.slot ≡ slot = same_Some own.slot slot (sym (ap as_slot own.is)) in

@@ -1,17 +1,17 @@
 -- The cells of a configuration that is built by a plan hold the entries, as the map tells.
-use Rattle.std.proofs.Common.{◌≡◌, ℕ, zero, suc, ◌+◌, ◌-◌, ◌*◌, ◌<◌, ◌≤◌, List, Option, Some, length, map, refl, sym, ap, ◌∙◌, subst, ◌⊎◌, inl, inr, arith}
-use Rattle.std.specs.Prelude.{All, AllPairs, Contains, IsSomeAnd, MatchOption, nat_lt, option_and_then, option_map, slice_get, sum_by, ⊤}
+use Rattle.std.proofs.Common.{◌≡◌, ℕ, zero, suc, ◌+◌, ◌-◌, ◌*◌, ◌<◌, ◌≤◌, List, Option, Some, length, map, refl, sym, ap, ◌∙◌, subst, inl, inr, arith}
+use Rattle.std.specs.Prelude.{All, AllPairs, Contains, IsSomeAnd, MatchOption, nat_lt, option_and_then, slice_get, sum_by, ⊤}
 use Rattle.std.specs.List.{AllZip, range_with_len}
 use Rattle.std.proofs.lemmas.Bool.{lt-ltb}
 use Rattle.std.proofs.lemmas.List.Elements.{All-weaker, All-contains}
-use Rattle.std.proofs.lemmas.Option.{get_or_from_slice_get, none-some, same_Some, slice_get-map, slice_get_within}
+use Rattle.std.proofs.lemmas.Option.{get_or_from_slice_get, none-some, same_Some, slice_get_within}
 use Rattle.std.proofs.lemmas.Slice.Zip.{AllZip-left}
 use Rattle.rmt_bits.proofs.ListLaws.{slice_get-item}
 use Rattle.rmt_build.specs.Types.{Program, Table, Kind, Node, What, Config, Stage, Unit, SlotUnit}
 use Rattle.rmt_ast.specs.declared.program.Kind.TheVariants.{Keyless, Exact, Prefix, Ternary}
 use Rattle.rmt_ast.specs.declared.program.What.TheVariants as what
 use Rattle.rmt_ast.specs.declared.entry.Entry.{Entry}
-use Rattle.rmt_ast.specs.EntryLists.{AreEntries, AreEntriesAt, AreTableEntries, terms_at, terms_of}
+use Rattle.rmt_ast.specs.EntryLists.{AreEntries}
 use Rattle.rmt_config.specs.declared.config.Unit.TheVariants.{Gate, Slot}
 use Rattle.rmt_pack.specs.declared.placement.Part.{Part}
 use Rattle.rmt_pack.specs.Placements.{quanta_in, quanta_of}
@@ -20,10 +20,10 @@ use Rattle.rmt_refine.specs.declared.map.CellOf.{CellOf}
 use Rattle.rmt_refine.specs.Cells.{IsTold, Spot}
 use Rattle.rmt_refine.specs.Units.{DoesAs, UnitCarried, UnitsCarried, applied, nodes_in, table_at}
 use Rattle.rmt_refine.specs.View.{as_slot}
-use Rattle.rmt_refine.proofs.FindLaws.{Contains-range, filter_keeps}
+use Rattle.rmt_refine.proofs.FindLaws.{Contains-range}
 use Rattle.rmt_refine.proofs.NumberLaws.{one_list}
 use Rattle.rmt_refine.proofs.PartLaws.{IsPart, and_at, some_and, then_some}
-use Rattle.rmt_refine.proofs.TheLaw.{its_terms}
+use Rattle.rmt_refine.proofs.TheLaw.{table_entries}
 use Rattle.rmt_build.specs.declared.plan.Plan.{Plan}
 use Rattle.rmt_build.specs.declared.stands.Stand.{Stand}
 use Rattle.rmt_build.specs.BuiltStage.{IsBuiltStage}
@@ -34,7 +34,8 @@ use Rattle.rmt_build.proofs.PartLaws.{sum_more}
 use Rattle.rmt_build.proofs.SpotLaws.{StandsAt, listed_stands, rising_place, stands_listed, table_of_part}
 use Rattle.rmt_build.proofs.StandLaws.{behind_parts, entry_there, first_cell, one_stand, some_part}
 use Rattle.rmt_build.proofs.ToldLaws.{listed_told, told_listed}
-use Rattle.rmt_bits.proofs.MemberLaws.{Contains-map}
+use Rattle.rmt_bits.proofs.MemberLaws.{Contains-map, Contains-filter}
+use Rattle.rmt_refine.proofs.RankLaws.{compare}
 
 -- ---- members of lists of entries
 
@@ -95,7 +96,7 @@ module _ (p : Program) (lists : List (List Entry)) (plan : Plan) (c : Config) (c
       let parts = plan.placement.parts in
       let nodes = nodes_in p parts k in
       let stage = some_and (slice_get c.stages k) (λ (s : Stage). AllZip (UnitCarried p plan.places parts k) nodes s.units) (units.units k within) in
-      let there = filter_keeps (λ m. nat_lt 0 (quanta_in parts m k)) (range_with_len 0 (length p.nodes)) n (Contains-range (length p.nodes) n lt) (lt-ltb 0 (quanta_in parts n k) some) in
+      let there = Contains-filter (λ m. nat_lt 0 (quanta_in parts m k)) (range_with_len 0 (length p.nodes)) n (Contains-range (length p.nodes) n lt) (lt-ltb 0 (quanta_in parts n k) some) in
       let item = slice_get-item nodes there.0 there.1 in
       let at : slice_get nodes there.0 ≡ Some n = item.1 ∙ ap Some (sym (get_or_from_slice_get nodes there.0 item.0 n item.1) ∙ there.2) in
       let zip = subst (λ (o : Option ℕ). MatchOption o ⊤ (λ x. IsSomeAnd (slice_get stage.0.units there.0) (UnitCarried p plan.places parts k x))) at
@@ -122,14 +123,6 @@ module _ (p : Program) (lists : List (List Entry)) (plan : Plan) (c : Config) (c
     is_node : n < length p.nodes
     is_node = let node = then_some (λ (x : Node). applied p x.what) (slice_get p.nodes n) t table_is in slice_get_within p.nodes n node.0 node.1
 
-    pub table_entries : AreTableEntries n es (terms_of p t)
-    table_entries =
-        let node = then_some (λ (x : Node). applied p x.what) (slice_get p.nodes n) t table_is in
-        let terms : slice_get (map (λ (x : Node). terms_at p x.what) p.nodes) n ≡ Some (Some (terms_of p t)) =
-        slice_get-map (λ (x : Node). terms_at p x.what) p.nodes n
-        ∙ ap (option_map (λ (x : Node). terms_at p x.what)) node.1 ∙ ap Some (its_terms p node.0.what t node.2) in
-        and_at (slice_get (map (λ (x : Node). terms_at p x.what) p.nodes) n) (AreEntriesAt n es) (Some (terms_of p t)) terms (entries.each n es es_are)
-
     -- where the map tells that an entry stands it stands
     pub told_stands : (e : Entry) (at : Spot) → Contains es e → IsTold cells e at → StandsAt p plan n t es own e at.stage at.cell
     told_stands e at there told =
@@ -146,7 +139,7 @@ module _ (p : Program) (lists : List (List Entry)) (plan : Plan) (c : Config) (c
         (Contains-map (λ (y : Entry). y.number) es e there) in
         let own_part : IsPart c n q.at q.place q.stage q.slot = record { stage_is = q.stage_is; slot_is = q.slot_is; node_is = q.node_is ∙ node } in
         let s = listed_stands p lists plan c entries units stands built n q.at q.place q.stage q.slot own_part t es own table_is es_are own_is q.number q.there in
-        let same : s.0 ≡ e = same_entry es s.0 e table_entries.rising s.1 there (s.2 ∙ number) in
+        let same : s.0 ≡ e = same_entry es s.0 e (table_entries p lists n t es entries table_is es_are).rising s.1 there (s.2 ∙ number) in
         let stage : q.at ≡ at.stage = (let none : q.at ≡ 0 + q.at = omega arith in none) ∙ ap (λ (y : CellOf). y.stage) q.told in
         let cell : q.number.cell ≡ at.cell = ap (λ (y : CellOf). y.cell) q.told in
         subst (λ (y : Entry). StandsAt p plan n t es own y at.stage at.cell) same
@@ -184,19 +177,16 @@ module _ (p : Program) (lists : List (List Entry)) (plan : Plan) (c : Config) (c
     one_spot e j k a b one two =
         let parts = plan.placement.parts in
         let per = (format_at p n).per in
-        let entry = rising_place es one.stand.entry two.stand.entry e e table_entries.rising one.entry_is two.entry_is refl in
+        let entry = rising_place es one.stand.entry two.stand.entry e e (table_entries p lists n t es entries table_is es_are).rising one.entry_is two.entry_is refl in
         let same = ap (λ (x : Stand). x.cell) (one_stand (length es) own (stands.each n es own es_are own_is) one.stand two.stand one.there two.there entry) in
         let cell_a = one.cell_is in
         let cell_b = two.cell_is in
         let lt_a = one.within in
         let lt_b = two.within in
-        elim (order j k) [
+        elim (compare j k) [
           | inl lt ↦ absurd (let behind = behind_parts t.kind per parts n j k lt in omega (arith, behind, same, cell_a, cell_b, lt_a, lt_b))
           | inr more ↦ elim more [
             | inl gt ↦ absurd (let behind = behind_parts t.kind per parts n k j gt in omega (arith, behind, same, cell_a, cell_b, lt_a, lt_b))
             | inr e_jk ↦ (e_jk, (let first = ap (first_cell t.kind per parts n) e_jk in omega (arith, same, cell_a, cell_b, first)))
           ]
         ]
-      where
-        order : (x y : ℕ) → (x < y) ⊎ ((y < x) ⊎ (x ≡ y))
-        order x y = grind arith

@@ -1,5 +1,5 @@
 -- Instructions of foldings do what a configuration that carries a program asks of them.
-use Rattle.std.proofs.Common.{◌≡◌, ◌≢◌, ◌⊎◌, ◌+◌, ◌*◌, ◌^◌, ◌<◌, ◌≤◌, ◌∙◌, ℕ, List, [], ◌∷◌, map, get_or, refl, sym, ap, subst}
+use Rattle.std.proofs.Common.{◌≡◌, ◌≢◌, ◌⊎◌, ◌+◌, ◌<◌, ◌≤◌, ◌∙◌, ℕ, List, [], map, get_or, sym, ap, subst}
 use Rattle.std.specs.Prelude.{All, Contains, Option, option_map, unwrap_or}
 use Rattle.std.specs.List.{AllZip}
 use Rattle.std.specs.List.Sorted.{IsPermutation}
@@ -8,11 +8,9 @@ use Rattle.std.proofs.lemmas.List.Sorted.{All-permutation}
 use Rattle.rmt_bits.specs.declared.lane.Lane.{Lane}
 use Rattle.rmt_bits.proofs.AllLaws.{All-flat_map, All-unmap}
 use Rattle.rmt_build.specs.Types.{Program, Action, Assign, Operation}
-use Rattle.rmt_ast.specs.Control.{act_of}
 use Rattle.rmt_ast.specs.EntryLists.{params_of}
 use Rattle.rmt_ast.specs.Places.{lanes_of}
 use Rattle.rmt_ast.specs.WellFormed.{Fits}
-use Rattle.rmt_config.specs.Life.{Words, lane_of}
 use Rattle.rmt_deps.specs.Edges.{of_action}
 use Rattle.rmt_phv.specs.Places.{written_by}
 use Rattle.rmt_vliw.specs.declared.folded.Folded.{Folded}
@@ -23,23 +21,9 @@ use Rattle.rmt_vliw.proofs.MeaningLaws.{action_of, folded_is}
 use Rattle.rmt_vliw.proofs.OperationLaws.{IsOpOf, operation_word, ops_all}
 use Rattle.rmt_vliw.proofs.PieceLaws.{piece_of}
 use Rattle.rmt_vliw.proofs.ValueLaws.{dests_known}
-use Rattle.rmt_refine.specs.Cells.{HasArguments}
-use Rattle.rmt_refine.specs.Code.{held_by, Hold, words_after, assigned_lanes, ChangesOnly, WritesWordsOf, DoesAction, DoesDefault}
-use Rattle.rmt_refine.proofs.MemberLaws.{Contains-flat_map}
-use Rattle.rmt_bits.proofs.MemberLaws.{Contains-map}
-
--- ---- the words that hold a state
-
--- what lanes hold together
-held_same : (words : Words) (lanes : List Lane) → effects.held_by words lanes ≡ held_by words lanes
-held_same words [] = refl
-held_same words (l ∷ ls) = ap (λ n. lane_of words l + 2 ^ l.len * n) (held_same words ls)
-
-hold_here : (places : List (List Lane)) (words : Words) (s : List ℕ) → effects.Hold places words s → Hold places words s
-hold_here places words s hold f = sym (held_same words (lanes_of places f)) ∙ hold f
-
-hold_there : (places : List (List Lane)) (words : Words) (s : List ℕ) → Hold places words s → effects.Hold places words s
-hold_there places words s hold f = held_same words (lanes_of places f) ∙ hold f
+use Rattle.rmt_refine.specs.Code.{assigned_lanes, WritesWordsOf, DoesAction, DoesDefault}
+use Rattle.rmt_config.specs.Effects.{ChangesOnly, HasArguments}
+use Rattle.rmt_bits.proofs.MemberLaws.{Contains-map, Contains-flat_map}
 
 -- ---- the lanes that an action assigns
 
@@ -54,7 +38,7 @@ module _ (p : Program) (places : List (List Lane)) (n : ℕ) where
       (dests i d lt) (Contains-get_or (lanes_of places (get_or values i d).dest) j e below)
 
   -- what changes only bits of the values' lanes changes only bits of those that the action assigns
-  changes_assigned : (values : List Assign) (ops : List Operation) → All IsAssigned values → effects.ChangesOnly (effects.written_lanes places values) ops → ChangesOnly (assigned_lanes p places n) ops
+  changes_assigned : (values : List Assign) (ops : List Operation) → All IsAssigned values → ChangesOnly (effects.written_lanes places values) ops → ChangesOnly (assigned_lanes p places n) ops
   changes_assigned values ops dests changes words held word bit free =
       changes words held word bit (λ i d lt. All-contains (λ (l : Lane). (l.word ≢ word) ⊎ ((bit < l.low) ⊎ (l.low + l.len ≤ bit))) (assigned_lanes p places n) (get_or (effects.written_lanes places values) i d) free
       (All-flat_map (Contains (assigned_lanes p places n)) (λ (v : Assign). lanes_of places v.dest) values (lanes_assigned values dests) i d lt))
@@ -96,8 +80,7 @@ module _ (p : Program) (places : List (List Lane)) (n : ℕ) where
     pub does_action : (ops : List Operation) → IsPermutation (operations_of places folded.params folded.values) ops → effects.Does p places n folded ops → DoesAction p places n ops
     does_action ops same does = record {
       acts = λ s args words held state fit has hold.
-          hold_here places (words_after ops held words) (act_of p n args s)
-          (does.acts s args words held state (subst (λ ps. AllZip Fits ps args) params_same fit) (subst (λ ps. HasArguments ps args held) params_same has) (hold_there places words s hold));
+          does.acts s args words held state (subst (λ ps. AllZip Fits ps args) params_same fit) (subst (λ ps. HasArguments ps args held) params_same has) hold;
       others = changes_assigned folded.values ops values_assigned does.others;
       words = words_assigned folded.params folded.values ops values_assigned same;
     }
@@ -107,7 +90,7 @@ module _ (p : Program) (places : List (List Lane)) (n : ℕ) where
 
     pub does_default : (args : List ℕ) (ops : List Operation) → IsPermutation (operations_of places [] (map (given args) folded.values)) ops → effects.DoesWith p places n args folded ops → DoesDefault p places n args ops
     does_default args ops same does = record {
-      acts = λ s words held state hold. hold_here places (words_after ops held words) (act_of p n args s) (does.acts s words held state (hold_there places words s hold));
+      acts = does.acts;
       others = changes_assigned folded.values ops values_assigned does.others;
       words = words_assigned [] (map (given args) folded.values) ops (given_assigned args) same;
     }

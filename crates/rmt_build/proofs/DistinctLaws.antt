@@ -15,7 +15,6 @@ use Rattle.rmt_config.specs.declared.config.Unit.TheVariants.{Gate, Slot}
 use Rattle.rmt_refine.specs.declared.map.CellOf.{CellOf}
 use Rattle.rmt_refine.specs.Units.{UnitsCarried}
 use Rattle.rmt_refine.specs.View.{as_slot}
-use Rattle.rmt_refine.proofs.FindLaws.{filtered_there}
 use Rattle.rmt_refine.proofs.NodeLaws.{one_place}
 use Rattle.rmt_refine.proofs.NumberLaws.{one_list}
 use Rattle.rmt_refine.proofs.PartLaws.{IsPart, unit_of_part}
@@ -28,9 +27,8 @@ use Rattle.rmt_build.specs.Standing.{StandOnce, counted_from, stands_there, stan
 use Rattle.rmt_build.specs.Told.{cell_told, cells_told, stages_told, unit_told}
 use Rattle.rmt_build.proofs.SpotLaws.{listed_stands, part_stands, slot_built, table_of_part}
 use Rattle.rmt_build.proofs.ToldLaws.{stages_listed, unit_listed}
-use Rattle.rmt_refine.proofs.MemberLaws.{flat_from}
 use Rattle.rmt_bits.proofs.PairLaws.{AllPairs-map, AllPairs-append, AllPairs-none}
-use Rattle.rmt_bits.proofs.MemberLaws.{Contains-map}
+use Rattle.rmt_bits.proofs.MemberLaws.{Contains-map, flat_from, Contains-unfilter}
 
 -- ---- pairs of joined lists
 
@@ -57,7 +55,7 @@ part_apart es own count first cells k once =
     (λ i j d lt inside same.
     (let kept = filter (stands_there first cells) own in
     let less = AllPairs-filter (λ (a b : Stand). a.cell < b.cell) (stands_there first cells) own once.rise i j d lt inside in
-    let there = filtered_there (stands_there first cells) own (get_or kept i d) (Contains-get_or kept i d (omega (arith, lt, inside))) in
+    let there = Contains-unfilter (stands_there first cells) own (get_or kept i d) (Contains-get_or kept i d (omega (arith, lt, inside))) in
     let low = leb-true first (get_or kept i d).cell (and_parts (nat_le first (get_or kept i d).cell) (nat_lt (get_or kept i d).cell (first + cells)) there.1).0 in
     let e : (get_or kept i d).cell - first ≡ (get_or kept j d).cell - first = ap (λ (x : CellOf). x.cell) same in
     omega (arith, less, low, e)))))

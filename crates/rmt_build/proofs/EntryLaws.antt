@@ -1,20 +1,19 @@
 -- The numbers of entries of a table of a well-formed program.
-use Rattle.std.proofs.Common.{◌≡◌, ◌≢◌, ℕ, zero, suc, ◌+◌, ◌*◌, ◌/◌, ◌%◌, ◌^◌, ◌<◌, ◌≤◌, List, [], ◌∷◌, Some, None, length, get_or, take, map, max, refl, sym, ap, ◌∙◌, subst, arith}
-use Rattle.std.specs.Prelude.{All, AllPairs, Option, fold, option_map, slice_get, slice_index, sum, unwrap_or}
+use Rattle.std.proofs.Common.{◌≡◌, ℕ, zero, suc, ◌+◌, ◌*◌, ◌^◌, ◌<◌, ◌≤◌, List, [], ◌∷◌, Some, None, length, get_or, take, map, refl, sym, ap, subst, arith}
+use Rattle.std.specs.Prelude.{All, AllPairs, Option, option_map, slice_get, slice_index, sum, unwrap_or}
 use Rattle.std.specs.List.{AllZip}
-use Rattle.std.proofs.lemmas.List.{get_or-take, length-take, length-append, length-map, get_or-map, get_or_default}
+use Rattle.std.proofs.lemmas.List.{get_or-take, length-take, length-map, get_or-map, get_or_default}
 use Rattle.std.proofs.lemmas.List.Elements.{All-nil, All-cons}
-use Rattle.std.proofs.lemmas.Nat.{pow-add, div_below}
+use Rattle.std.proofs.lemmas.Nat.{pow-add}
 use Rattle.std.proofs.Math.Nat.{pow-le-pow_right}
 use Rattle.rmt_bits.specs.Bits.{bytes_of, number_of}
 use Rattle.rmt_bits.proofs.AllLaws.{All-slice_get}
-use Rattle.rmt_bits.proofs.ByteLaws.{number_of_push}
-use Rattle.rmt_build.specs.Types.{Program, Field, Test, Action, Table, Kind}
-use Rattle.rmt_ast.specs.declared.program.Kind.TheVariants.{Keyless, Exact, Prefix, Ternary}
+use Rattle.rmt_bits.proofs.ByteLaws.{number_of-bytes_of}
+use Rattle.rmt_build.specs.Types.{Program, Field, Test, Action, Table}
 use Rattle.rmt_ast.specs.declared.entry.Entry.{Entry}
 use Rattle.rmt_ast.specs.EntryLists.{IsEntry, params_of, terms_of}
 use Rattle.rmt_ast.specs.State.{width_of}
-use Rattle.rmt_ast.specs.WellFormed.{Fits, HasKey, IsProgram, IsTable, IsTest, IsWidth}
+use Rattle.rmt_ast.specs.WellFormed.{Fits, IsProgram, IsTest, IsWidth}
 use Rattle.rmt_config.specs.Shapes.{divided_up}
 use Rattle.rmt_pack.specs.Placements.{data_bits, param_bits}
 use Rattle.rmt_pack.proofs.FormatLaws.{divided_up-covers}
@@ -24,29 +23,15 @@ use Rattle.rmt_build.specs.Data.{data_of}
 use Rattle.rmt_build.specs.Holding.{head_for}
 use Rattle.rmt_build.specs.Rooms.{AreOf}
 use Rattle.rmt_build.proofs.RecordLaws.{data-lt}
-use Rattle.rmt_build.proofs.WordLaws.{side-tests}
-
--- ---- numbers as bytes
-
-pub length-bytes_of : (count n : ℕ) → length (bytes_of count n) ≡ count
-length-bytes_of zero n = refl
-length-bytes_of (suc count) n = length-append (bytes_of count (n / 256)) (n % 256 ∷ []) ∙ (let e = length-bytes_of count (n / 256) in omega (arith, e))
-
-pub number_of-bytes_of : (count n : ℕ) → n < 2 ^ (8 * count) → number_of (bytes_of count n) ≡ n
-number_of-bytes_of zero n lt = omega (arith, lt)
-number_of-bytes_of (suc count) n lt =
-    let more : 8 * suc count ≡ 8 * count + 8 = omega arith in
-    let size : 2 ^ (8 * suc count) ≡ 2 ^ (8 * count) * 2 ^ 8 = ap (λ k. 2 ^ k) more ∙ pow-add 2 (8 * count) 8 in
-    let less : n / 256 < 2 ^ (8 * count) = div_below n 256 (2 ^ (8 * count)) (omega arith) (omega (arith, lt, size)) in
-    number_of_push (bytes_of count (n / 256)) (n % 256) ∙ ap (λ k. 256 * k + n % 256) (number_of-bytes_of count (n / 256) less) ∙ (let e : 256 * (n / 256) + n % 256 ≡ n = omega arith in e)
+use Rattle.rmt_bits.proofs.MostLaws.{items-le}
 
 -- ---- tests
 
 pub tests_value-lt : (ws : List ℕ) (ts : List Test) → AllZip IsTest ws ts → tests_as_one (λ t. t.value) ws ts < 2 ^ sum ws
-tests_value-lt ws ts all = subst (λ n. n < 2 ^ sum ws) (side-tests (λ t. t.value) ws ts) (side_by_side-lt ws (map (λ (t : Test). t.value) ts) (values-fit ws ts all))
+tests_value-lt ws ts all = side_by_side-lt ws (map (λ (t : Test). t.value) ts) (values-fit ws ts all)
 
 pub tests_mask-lt : (ws : List ℕ) (ts : List Test) → AllZip IsTest ws ts → tests_as_one (λ t. t.mask) ws ts < 2 ^ sum ws
-tests_mask-lt ws ts all = subst (λ n. n < 2 ^ sum ws) (side-tests (λ t. t.mask) ws ts) (side_by_side-lt ws (map (λ (t : Test). t.mask) ts) (masks-fit ws ts all))
+tests_mask-lt ws ts all = side_by_side-lt ws (map (λ (t : Test). t.mask) ts) (masks-fit ws ts all)
 
 -- a head and what stands above it
 pub above-lt : (code rest bits : ℕ) → code < 32 → rest < 2 ^ bits → head_for code + 256 * rest < 2 ^ (bits + 8)
@@ -69,21 +54,12 @@ module _ (p : Program) (is : IsProgram p) where
 
 -- ---- data
 
-fold-max-from : (a : ℕ) (xs : List ℕ) → a ≤ fold max a xs
-fold-max-from a [] = omega arith
-fold-max-from a (x ∷ xs) = let le = fold-max-from (max a x) xs in omega (arith, le)
-
-fold-max-at : (a : ℕ) (xs : List ℕ) (i : ℕ) → i < length xs → get_or xs i 0 ≤ fold max a xs
-fold-max-at a [] i lt = absurd (omega (arith, lt))
-fold-max-at a (x ∷ xs) zero lt = let le = fold-max-from (max a x) xs in omega (arith, le)
-fold-max-at a (x ∷ xs) (suc i) lt = fold-max-at (max a x) xs i (omega (arith, lt))
-
 -- the parameters of an action of a table have no more bits than its data
 pub data-fits : (p : Program) (t : Table) (action : ℕ) → action < length t.actions → sum (params_of p (slice_index t.actions action)) ≤ data_bits p t
 data-fits p t action lt =
     let xs = map (param_bits p) t.actions in
     let there : action < length xs = let e = length-map t.actions (param_bits p) in omega (arith, e, lt) in
-    let le = fold-max-at 0 xs action there in
+    let le = items-le (λ x. x) 0 xs action 0 there in
     let at : get_or xs action 0 ≡ param_bits p (slice_index t.actions action) = get_or-map (param_bits p) t.actions action 0 0 lt in
     let same : sum (params_of p (slice_index t.actions action)) ≡ param_bits p (slice_index t.actions action) = bits (slice_get p.actions (slice_index t.actions action)) in
     omega (arith, le, at, same)
@@ -122,14 +98,3 @@ slice_get-at (y ∷ ys) (suc i) x lt is = slice_get-at ys i x (omega (arith, lt)
 
 pub entry-of : (p : Program) (t : Table) (es : List Entry) (entries : AreOf p t es) (i : ℕ) (e : Entry) → slice_get es i ≡ Some e → IsEntry entries.0 (terms_of p t) e
 entry-of p t es entries i e at = All-slice_get (IsEntry entries.0 (terms_of p t)) es i e entries.1 at
-
--- ---- keys
-
-pub key-fields : (p : Program) (t : Table) → IsTable p t → t.kind ≢ Keyless → All (λ f. f < length p.fields) t.key
-key-fields p t is keyed = by_kind t.kind is.key keyed
-  where
-    by_kind : (kind : Kind) → HasKey p kind t → kind ≢ Keyless → All (λ f. f < length p.fields) t.key
-    by_kind Keyless key keyed = absurd (keyed refl)
-    by_kind Exact key keyed = key.key_fields
-    by_kind Prefix key keyed = key.0.key_fields
-    by_kind Ternary key keyed = key.key_fields

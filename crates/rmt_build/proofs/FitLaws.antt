@@ -3,8 +3,7 @@ use Rattle.std.proofs.Common.{◌≡◌, ℕ, ◌<◌, List, [], Some, length, r
 use Rattle.std.specs.Prelude.{Option, option_map, slice_get, slice_index_or}
 use Rattle.std.proofs.lemmas.Option.{get_or_from_slice_get, slice_get-map}
 use Rattle.rmt_bits.proofs.ListLaws.{slice_get-alike}
-use Rattle.rmt_build.specs.Types.{Program, Table, Kind, Node, What, SlotUnit}
-use Rattle.rmt_ast.specs.declared.program.Kind.TheVariants.{Keyless, Exact, Prefix, Ternary}
+use Rattle.rmt_build.specs.Types.{Program, Table, Node, What, SlotUnit}
 use Rattle.rmt_ast.specs.declared.entry.Entry.{Entry}
 use Rattle.rmt_ast.specs.EntryLists.{AreEntries, AreEntriesAt, terms_at, terms_of}
 use Rattle.rmt_ast.specs.WellFormed.{IsProgram}
@@ -13,8 +12,6 @@ use Rattle.rmt_pack.specs.Placements.{quanta_in}
 use Rattle.rmt_refine.specs.Units.{table_at}
 use Rattle.rmt_refine.proofs.PartLaws.{and_at}
 use Rattle.rmt_build.specs.declared.plan.Plan.{Plan}
-use Rattle.rmt_build.specs.declared.memory.Need.{Need}
-use Rattle.rmt_build.specs.declared.memory.Taken.{Taken}
 use Rattle.rmt_build.specs.declared.stands.Stand.{Stand}
 use Rattle.rmt_build.specs.Memories.{memory_for}
 use Rattle.rmt_build.specs.Plans.{IsPlan, format_at, need_in, quanta_before, stands_of_part, taken_upto}
@@ -25,13 +22,7 @@ use Rattle.rmt_build.proofs.ApartLaws.{part-apart}
 use Rattle.rmt_build.proofs.PlanLaws.{has_need, has_room, is_format}
 use Rattle.rmt_build.proofs.RoomLaws.{room-blocks}
 use Rattle.rmt_build.proofs.UnitLaws.{node_applies}
-
--- a memory for a part has as many cells as its quanta
-cells-are : (kind : Kind) (need : Need) (taken : Taken) → cells_in (memory_for kind need taken) ≡ cells_for kind need.format.per need.quanta
-cells-are Keyless need taken = refl
-cells-are Exact need taken = refl
-cells-are Prefix need taken = refl
-cells-are Ternary need taken = refl
+use Rattle.rmt_build.proofs.MemoryLaws.{memory_cells}
 
 module _ (p : Program) (lists : List (List Entry)) (plan : Plan) (k : ℕ) (good : IsProgram p) (entries : AreEntries p lists) (is : IsPlan p lists plan) (few : k < 32) where
   pub of-table : (n : ℕ) (t : Table) (es : List Entry) → table_at p n ≡ Some t → slice_get lists n ≡ Some es → AreOf p t es
@@ -59,7 +50,7 @@ module _ (p : Program) (lists : List (List Entry)) (plan : Plan) (k : ℕ) (good
         blocks = subst (HasBlocks p t) (sym memory)
             (room-blocks p t need taken refl refl (omega (arith, some)) (has_need p good n t table) (is_format p good n t table) (λ keyed. has_room p good n t table plan.placement.parts k is.parts keyed few));
         stands = subst (λ m. StandApart (length es) (cells_in m) (stands_of_part p plan t n k)) (sym memory)
-            (subst (λ many. StandApart (length es) many (stands_of_part p plan t n k)) (sym (cells-are t.kind need taken)) (stands_apart n t es own));
+            (subst (λ many. StandApart (length es) many (stands_of_part p plan t n k)) (sym (memory_cells t.kind need taken)) (stands_apart n t es own));
       }
     where
       stands_apart : (n : ℕ) (t : Table) (es : List Entry) → slice_get lists n ≡ Some es → StandApart (length es) (cells_for t.kind (format_at p n).per (quanta_in plan.placement.parts n k)) (stands_of_part p plan t n k)

@@ -2,8 +2,8 @@
 use Rattle.std.proofs.Common.{◌≡◌, ℕ, zero, suc, ◌+◌, ◌*◌, ◌<◌, ◌≤◌, Bool, true, false, ◌==◌, cond, nat_lt, List, [], ◌∷◌, ◌++◌, Some, length, map, get_or, refl, sym, ap, ◌∙◌, subst, inl, inr, arith}
 use Rattle.std.specs.Prelude.{All, count_by, filter, fold, max, option_map, slice_get, sum_by}
 use Rattle.std.specs.List.{AllZip, flat_map, range_with_len}
-use Rattle.std.proofs.Math.Nat.{max-eq_left, max-eq_right}
-use Rattle.std.proofs.lemmas.Bool.{cases_eq, cases_lt, eq-eqb, ltb-false, ne_eqb}
+use Rattle.std.proofs.Math.Nat.{max-le}
+use Rattle.std.proofs.lemmas.Bool.{cases_eq, eq-eqb, ltb-false, ne_eqb}
 use Rattle.std.proofs.lemmas.List.Elements.{All-head, All-tail}
 use Rattle.std.proofs.lemmas.List.FromFn.{length-range_with_len}
 use Rattle.std.proofs.lemmas.List.Sums.{sum_by-cons}
@@ -142,16 +142,10 @@ at_most_once m a (suc n) =
           omega (arith, first, rest, own)
     ]
 
-max_le : (a b c : ℕ) → a ≤ c → b ≤ c → max a b ≤ c
-max_le a b c ha hb = elim (cases_lt a b) [
-  | inl lt ↦ let e = max-eq_right (omega (arith, lt)) in subst (λ m. m ≤ c) (sym e) hb
-  | inr le ↦ let e = max-eq_left le in subst (λ m. m ≤ c) (sym e) ha
-]
-
 greatest_from : {X : Type 0} (measure : X → ℕ) (most a : ℕ) (xs : List X) → a ≤ most → All (λ x. measure x ≤ most) xs → fold (λ m x. max m (measure x)) a xs ≤ most
 greatest_from measure most a [] le all = le
 greatest_from measure most a (x ∷ xs) le all =
-    greatest_from measure most (max a (measure x)) xs (max_le a (measure x) most le (All-head (λ y. measure y ≤ most) x xs all)) (All-tail (λ y. measure y ≤ most) x xs all)
+    greatest_from measure most (max a (measure x)) xs (max-le le (All-head (λ y. measure y ≤ most) x xs all)) (All-tail (λ y. measure y ≤ most) x xs all)
 
 pub greatest_le : {X : Type 0} (measure : X → ℕ) (most : ℕ) (xs : List X) → All (λ x. measure x ≤ most) xs → greatest_by measure xs ≤ most
 greatest_le measure most xs all = greatest_from measure most 0 xs (omega arith) all
@@ -248,6 +242,6 @@ module _ (p : Program) (program : IsProgram p) (places : List (List Lane)) (part
         omega (arith, count, most)
 
     pub none_twice : most_listed_in stage.units ≤ 1
-    none_twice = max_le (most_listed (flat_map unit_sram stage.units)) (most_listed (flat_map unit_tcam stage.units)) 1
+    none_twice = max-le
         (listed_once (flat_map unit_sram stage.units) (taken_upto p parts k (length p.nodes)).sram are.sram)
         (listed_once (flat_map unit_tcam stage.units) (taken_upto p parts k (length p.nodes)).tcam are.tcam)

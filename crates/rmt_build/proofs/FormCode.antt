@@ -10,9 +10,11 @@ use Rattle.rmt_config.specs.CodeForm.{code_is_formed, places_of, slot_places, un
 use Rattle.rmt_pack.specs.Placements.{data_bits}
 use Rattle.rmt_refine.specs.Units.{table_at}
 use Rattle.rmt_refine.proofs.PartLaws.{some_and}
-use Rattle.rmt_build.specs.UnitCode.{DoActions, DoTable, DoUnit, DoUnits}
+use Rattle.rmt_build.specs.UnitCode.{DoTable, DoUnit, DoUnits}
 use Rattle.std.proofs.lemmas.List.{append-nil}
 use Rattle.std.proofs.lemmas.Bool.{and_parts, both_ways}
+use Rattle.std.proofs.lemmas.Slice.Zip.{AllZip-long}
+use Rattle.rmt_refine.specs.Code.{DoesAction}
 
 both_formed : (firsts seconds : List Place) (xs ys : List Vliw) → code_is_formed firsts xs ≡ true → code_is_formed seconds ys ≡ true → code_is_formed (firsts ++ seconds) (xs ++ ys) ≡ true
 both_formed [] seconds [] ys one two = two
@@ -30,19 +32,13 @@ listed_formed place (suc n) (x ∷ xs) long all =
     rw (All-head (λ v. vliw_is_formed place v ≡ true) x xs all, listed_formed place n xs (omega (arith, long)) (All-tail (λ v. vliw_is_formed place v ≡ true) x xs all)) refl
 
 module _ (p : Program) (places : List (List Lane)) where
-  as_many : (actions : List ℕ) (listed : List Vliw) → DoActions p places actions listed → length listed ≡ length actions
-  as_many [] [] all = refl
-  as_many [] (v ∷ listed) all = absurd all
-  as_many (a ∷ actions) [] all = absurd all
-  as_many (a ∷ actions) (v ∷ listed) all = ap suc (as_many actions listed all.1)
-
   -- the data of a slot are those of its node's table
   abbrev pub HasData : Unit → Type 0
   HasData u = (s : SlotUnit) (t : Table) → u ≡ Slot s → table_at p s.node ≡ Some t → s.held ≡ data_bits p t
 
   slot_code : (s : SlotUnit) (t : Table) (own : List Vliw) → s.actions ≡ length t.actions → s.held ≡ data_bits p t → DoTable p places t own → code_is_formed (slot_places s) own ≡ true
   slot_code s t own actions held does =
-      let count = as_many t.actions does.listed does.actions in
+      let count = AllZip-long (λ a (v : Vliw). DoesAction p places a v.ops) t.actions does.listed does.actions in
       let listed = listed_formed (record { held = s.held; is_default = false }) s.actions does.listed (omega (arith, count, actions))
       (subst (λ h. All (λ v. vliw_is_formed (record { held = h; is_default = false }) v ≡ true) does.listed) (sym held) does.formed) in
       let last : code_is_formed (record { held = s.held; is_default = true } ∷ []) (does.last ∷ []) ≡ true =

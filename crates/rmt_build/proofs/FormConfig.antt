@@ -34,7 +34,8 @@ use Rattle.rmt_build.specs.declared.plan.Plan.{Plan}
 use Rattle.rmt_build.specs.BuiltStage.{IsBuiltStage}
 use Rattle.rmt_build.specs.Plans.{IsPlan, format_at, what_format}
 use Rattle.rmt_build.proofs.FormClustered.{clustered_formed, clustered_parts}
-use Rattle.rmt_build.proofs.FormFits.{data_held, limits_kept, memories, zip_at, zip_get}
+use Rattle.rmt_build.proofs.FormFits.{data_held, limits_kept, memories, zip_at}
+use Rattle.rmt_bits.proofs.ListLaws.{AllZip-slice_get}
 use Rattle.rmt_build.proofs.FormHolds.{all_hold, starts_formed}
 use Rattle.rmt_build.proofs.FormLanes.{headers_formed, ports_formed}
 use Rattle.rmt_build.proofs.FormBlocks.{HasMemory}
@@ -128,7 +129,7 @@ module _ (p : Program) (lists : List (List Entry)) (plan : Plan) (c : Config) (p
         let held = data_held p lists plan program entries is_plan.parts i s own in
         let memory = memories p lists plan program entries is_plan.parts i s own in
         let all = zip_at (λ n u. UnitCarried p plan.places parts i n u × HoldsData p plan.places parts i n u) (Built p program plan.places parts i) (nodes_in p parts i) s.units
-        (λ j n u at_n at_u both. (both.0, both.1, zip_get (HasMemory p program plan.places parts i) (nodes_in p parts i) s.units j n u memory at_n at_u)) held in
+        (λ j n u at_n at_u both. (both.0, both.1, AllZip-slice_get (HasMemory p program plan.places parts i) (nodes_in p parts i) s.units j n u memory at_n at_u)) held in
         let from_zero : i ≡ 0 + i = omega arith in
         subst (λ k. AllZip (Built p program plan.places parts k) (nodes_in p parts k) s.units) from_zero all
 

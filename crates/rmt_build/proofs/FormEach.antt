@@ -14,7 +14,7 @@ use Rattle.rmt_build.specs.Types.{Program, Table, Kind, Node, SlotUnit, CellNumb
 use Rattle.rmt_ast.specs.declared.program.Kind.TheVariants as kind
 use Rattle.rmt_ast.specs.EntryLists.{AreEntries, AreTableEntries, terms_of}
 use Rattle.rmt_ast.specs.WellFormed.{HasKey, IsProgram, IsTable}
-use Rattle.rmt_phv.specs.Places.{KeepsApart, LiesInWord}
+use Rattle.rmt_phv.specs.Places.{KeepsApart, LiesInWord, high_first}
 use Rattle.rmt_config.specs.declared.config.Unit.TheVariants.{Slot}
 use Rattle.rmt_config.specs.LaneForm.{bits_of_lanes, lane_is_formed}
 use Rattle.rmt_config.specs.UnitForm.{guard_is_formed, memory_is_formed, number_is_formed, slot_head_is_formed, slot_is_formed}
@@ -23,7 +23,6 @@ use Rattle.rmt_pack.specs.Formats.{HasNeed, IsFormat}
 use Rattle.rmt_pack.specs.Placements.{data_bits, key_bits, param_bits, quanta_in, table_need}
 use Rattle.rmt_ptcam.proofs.FormLaws.{in_order_lie}
 use Rattle.rmt_ptcam.proofs.PlainLaws.{lanes_bits}
-use Rattle.rmt_refine.specs.Places.{high_first}
 use Rattle.rmt_refine.specs.Units.{TableCarried, UnitCarried, guard_of, last_stage, table_at}
 use Rattle.rmt_refine.proofs.PartLaws.{and_at}
 use Rattle.rmt_build.specs.declared.plan.Plan.{Plan}
@@ -35,10 +34,11 @@ use Rattle.rmt_build.specs.Plans.{AreParts, AreStands, format_at, need_in, parts
 use Rattle.rmt_build.specs.Standing.{cells_for, counted_from, stands_there}
 use Rattle.rmt_build.proofs.FormLanes.{lanes_formed}
 use Rattle.rmt_build.proofs.FormMemory.{cells_within}
-use Rattle.rmt_build.proofs.FormSlots.{AreSmall, HasKeyed, are_small, as_few, exact_formed, few_quanta_cells, ternary_formed}
+use Rattle.rmt_build.proofs.FormSlots.{AreSmall, HasKeyed, are_small, exact_formed, few_quanta_cells, ternary_formed}
 use Rattle.rmt_build.proofs.FormUnits.{few_lanes, guard_formed, small_mask, some_lanes}
 use Rattle.rmt_build.proofs.PlanLaws.{has_need, is_format, is_table, sram_fits, tcam_fits}
 use Rattle.rmt_config.specs.Shapes.{divided_up}
+use Rattle.rmt_build.proofs.MemoryLaws.{few_quanta}
 
 none_below : (xs : List Stand) → All (λ (s : Stand). s.cell < 0) xs → length xs ≡ 0
 none_below [] all = refl
@@ -152,15 +152,15 @@ module _ (p : Program) (program : IsProgram p) (lists : List (List Entry)) (entr
     ternary_small : (kd : Kind) → (taken_upto p parts k n).tcam + quanta_in parts n k * divided_up (key_bits p t) 40 ≤ 16 → 1 ≤ key_bits p t → 2048 * quanta_in parts n k ≤ 2 ^ 32
     ternary_small kd room key =
         let row : 1 ≤ divided_up (key_bits p t) 40 = omega (arith, key) in
-        let few_quanta = as_few (quanta_in parts n k) (divided_up (key_bits p t) 40) 16 row (omega (arith, room)) in
-        omega (arith, few_quanta)
+        let few = few_quanta (quanta_in parts n k) (divided_up (key_bits p t) 40) 16 row (omega (arith, room)) in
+        omega (arith, few)
 
     cells_small : (kd : Kind) → t.kind ≡ kd → HasNeed kd (table_need p t) → IsFormat kd (table_need p t) (format_at p n) → cells_for kd (format_at p n).per (quanta_in parts n k) ≤ 2 ^ 32
     cells_small kind.Keyless is need f = omega arith
     cells_small kind.Exact is need f =
         let room = subst (λ x. (taken_upto p parts k n).sram + sram_for x (blocks_for x (need_in p parts t n k)) ≤ 106) is (sram_fits p program n t table parts k are) in
         let wide = f.has_width in
-        few_quanta_cells (table_need p t) (format_at p n) (quanta_in parts n k) f (as_few (quanta_in parts n k) (4 * (format_at p n).width) 106 (omega (arith, wide)) (omega (arith, room)))
+        few_quanta_cells (table_need p t) (format_at p n) (quanta_in parts n k) f (few_quanta (quanta_in parts n k) (4 * (format_at p n).width) 106 (omega (arith, wide)) (omega (arith, room)))
     cells_small kind.Prefix is need f = ternary_small kind.Prefix (subst (λ x. (taken_upto p parts k n).tcam + tcam_for x (blocks_for x (need_in p parts t n k)) ≤ 16) is (tcam_fits p program n t table parts k are)) need.has_key
     cells_small kind.Ternary is need f = ternary_small kind.Ternary (subst (λ x. (taken_upto p parts k n).tcam + tcam_for x (blocks_for x (need_in p parts t n k)) ≤ 16) is (tcam_fits p program n t table parts k are)) need.has_key
 

@@ -1,18 +1,18 @@
 -- The stages of a plan fit the chip, so a configuration that has them is within the limits.
-use Rattle.std.proofs.Common.{List, Some, [], ap, arith, get_or, inl, inr, length, map, nat_lt, refl, subst, suc, sym, true, zero, ℕ, ◌*◌, ◌<◌, ◌∙◌, ◌∷◌, ◌≡◌, ◌≤◌}
+use Rattle.std.proofs.Common.{List, Some, [], ap, arith, get_or, inl, inr, length, map, nat_lt, refl, subst, suc, sym, true, ℕ, ◌*◌, ◌<◌, ◌∙◌, ◌∷◌, ◌≡◌, ◌≤◌}
 use Rattle.std.specs.Prelude.{All, option_and_then, slice_get, slice_index, sum_by}
 use Rattle.std.specs.List.{AllZip, range_with_len}
 use Rattle.std.proofs.lemmas.List.{get_or_default, length-map}
 use Rattle.std.proofs.lemmas.List.Elements.{All-cons, All-map, All-nil, All-contains}
-use Rattle.std.proofs.lemmas.Option.{get_or_from_slice_get, none-some, same_Some, slice_get-get_or, slice_get_within}
+use Rattle.std.proofs.lemmas.Option.{get_or_from_slice_get, slice_get-get_or, slice_get_within}
 use Rattle.rmt_bits.proofs.AllLaws.{All-flat_map, All-range}
-use Rattle.rmt_bits.proofs.ListLaws.{slice_get-item}
+use Rattle.rmt_bits.proofs.ListLaws.{slice_get-item, AllZip-slice_get}
 use Rattle.rmt_ast.specs.declared.entry.Entry.{Entry}
 use Rattle.rmt_build.specs.Types.{Program, Table, Kind, Node, Config, Stage, Unit, SlotUnit}
 use Rattle.rmt_ast.specs.declared.program.Kind.TheVariants as kind
 use Rattle.rmt_ast.specs.EntryLists.{AreEntries, terms_at}
 use Rattle.rmt_ast.specs.WellFormed.{AllNumbered, IsProgram}
-use Rattle.rmt_config.specs.declared.config.Unit.TheVariants.{Gate, Slot}
+use Rattle.rmt_config.specs.declared.config.Unit.TheVariants.{Slot}
 use Rattle.rmt_config.specs.Resources.{distinct, memory_width, node_count, node_numbers, unit_width}
 use Rattle.rmt_config.specs.TableForm.{node_of}
 use Rattle.rmt_pack.specs.declared.format.Need.{Need as TableNeed}
@@ -21,9 +21,10 @@ use Rattle.rmt_pack.specs.Formats.{IsFormat}
 use Rattle.rmt_pack.specs.Placements.{quanta_in, table_need}
 use Rattle.rmt_place.specs.Needs.{demands_of, keeps_limits}
 use Rattle.rmt_place.specs.Placing.{standing_in}
-use Rattle.rmt_refine.specs.Units.{UnitCarried, applied, node_in, nodes_in, table_at}
+use Rattle.rmt_refine.specs.Units.{UnitCarried, applied, nodes_in, table_at}
 use Rattle.rmt_refine.specs.View.{as_slot}
-use Rattle.rmt_refine.proofs.FindLaws.{Contains-range, filtered_there}
+use Rattle.rmt_refine.proofs.FindLaws.{Contains-range}
+use Rattle.rmt_bits.proofs.MemberLaws.{Contains-unfilter}
 use Rattle.rmt_refine.proofs.PartLaws.{then_some}
 use Rattle.rmt_build.specs.declared.memory.Need.{Need}
 use Rattle.rmt_build.specs.declared.memory.Taken.{Taken}
@@ -54,13 +55,6 @@ zip_right P Q [] [] h zip = All-nil Q
 zip_right P Q [] (y ∷ ys) h zip = absurd zip
 zip_right P Q (x ∷ xs) [] h zip = absurd zip
 zip_right P Q (x ∷ xs) (y ∷ ys) h zip = All-cons Q y ys (h x y zip.0) (zip_right P Q xs ys h zip.1)
-
-pub zip_get : {X Y : Type 0} (P : X → Y → Type 0) (xs : List X) (ys : List Y) (i : ℕ) (x : X) (y : Y) → AllZip P xs ys → slice_get xs i ≡ Some x → slice_get ys i ≡ Some y → P x y
-zip_get P [] [] i x y zip at_x at_y = absurd (none-some x at_x)
-zip_get P [] (b ∷ ys) i x y zip at_x at_y = absurd zip
-zip_get P (a ∷ xs) [] i x y zip at_x at_y = absurd zip
-zip_get P (a ∷ xs) (b ∷ ys) zero x y zip at_x at_y = subst (λ z. P z y) (same_Some a x at_x) (subst (P a) (same_Some b y at_y) zip.0)
-zip_get P (a ∷ xs) (b ∷ ys) (suc i) x y zip at_x at_y = zip_get P xs ys i x y zip.1 at_x at_y
 
 ones : (xs : List ℕ) → sum_by (λ n. 1) xs ≡ length xs
 ones [] = refl
@@ -94,13 +88,13 @@ module _ (p : Program) (lists : List (List Entry)) (plan : Plan) (program : IsPr
     data_held = zip_at (UnitCarried p plan.places parts k) (λ n u. UnitCarried p plan.places parts k n u × HoldsData p plan.places parts k n u) (nodes_in p parts k) stage.units
         (λ i n u at_n at_u carried. (
           carried,
-          λ s t is table. (slot_built i n s t (at_u ∙ ap Some is) (ap node_in (sym is) ∙ carried.number) table).1.held,
+          λ s t is table. (slot_built i n s t (at_u ∙ ap Some is) (ap node_of (sym is) ∙ carried.number) table).1.held,
         )) built.units
 
     pub memories : AllZip (HasMemory p program plan.places parts k) (nodes_in p parts k) stage.units
     memories = zip_at (UnitCarried p plan.places parts k) (HasMemory p program plan.places parts k) (nodes_in p parts k) stage.units
         (λ i n u at_n at_u carried s t is table.
-        (let number : s.node ≡ n = ap node_in (sym is) ∙ carried.number in
+        (let number : s.node ≡ n = ap node_of (sym is) ∙ carried.number in
         let own = (slot_built i n s t (at_u ∙ ap Some is) number table).1.memory in
         own ∙ ap (λ m. memory_for t.kind (need_in p parts t m k) (taken_upto p parts k m)) number)) built.units
 
@@ -122,7 +116,7 @@ module _ (p : Program) (lists : List (List Entry)) (plan : Plan) (program : IsPr
         (λ i n u at_n at_u memory. (carried_at i n u at_n at_u, memory)) memories
       where
         carried_at : (i n : ℕ) (u : Unit) → slice_get (nodes_in p parts k) i ≡ Some n → slice_get stage.units i ≡ Some u → UnitCarried p plan.places parts k n u
-        carried_at i n u at_n at_u = zip_get (UnitCarried p plan.places parts k) (nodes_in p parts k) stage.units i n u built.units at_n at_u
+        carried_at i n u at_n at_u = AllZip-slice_get (UnitCarried p plan.places parts k) (nodes_in p parts k) stage.units i n u built.units at_n at_u
 
     -- it fits, where the placement keeps the limits and it starts early
     pub stage_fits : keeps_limits (standing_in (demands_of p plan.places) parts k) ≡ true → stage.start ≤ 372 → FitsStage stage
@@ -148,17 +142,13 @@ module _ (p : Program) (lists : List (List Entry)) (plan : Plan) (program : IsPr
     own_nodes =
         All-map (λ n. n < length p.nodes) node_of stage.units
         (zip_right (λ n u. n < length p.nodes × UnitCarried p plan.places parts k n u) (λ u. node_of u < length p.nodes) (nodes_in p parts k) stage.units
-        (λ n u both. subst (λ m. m < length p.nodes) (sym (same_node u ∙ both.1.number)) both.0)
+        (λ n u both. subst (λ m. m < length p.nodes) (sym (both.1.number)) both.0)
         (zip_at (UnitCarried p plan.places parts k) (λ n u. n < length p.nodes × UnitCarried p plan.places parts k n u) (nodes_in p parts k) stage.units
         (λ i n u at_n at_u carried. (node_within n i at_n, carried)) built.units))
       where
-        same_node : (u : Unit) → node_of u ≡ node_in u
-        same_node (Gate g) = refl
-        same_node (Slot s) = refl
-
         node_within : (n i : ℕ) → slice_get (nodes_in p parts k) i ≡ Some n → n < length p.nodes
         node_within n i at =
-            let there = (filtered_there (λ m. nat_lt 0 (quanta_in parts m k)) (range_with_len 0 (length p.nodes)) n (i, slice_get_within (nodes_in p parts k) i n at, get_or_from_slice_get (nodes_in p parts k) i n n at)).0 in
+            let there = (Contains-unfilter (λ m. nat_lt 0 (quanta_in parts m k)) (range_with_len 0 (length p.nodes)) n (i, slice_get_within (nodes_in p parts k) i n at, get_or_from_slice_get (nodes_in p parts k) i n n at)).0 in
             All-contains (λ m. m < length p.nodes) (range_with_len 0 (length p.nodes)) n (All-range (λ m. m < length p.nodes) 0 (length p.nodes) (λ m lt. omega (arith, lt))) there
 
   -- ---- all stages

@@ -1,21 +1,20 @@
 -- Each memory of a built configuration holds what its slot lists, and stages start in order.
-use Rattle.std.proofs.Common.{◌≡◌, ℕ, zero, suc, ◌+◌, ◌<◌, ◌≤◌, true, List, [], ◌∷◌, Some, length, map, get_or, refl, sym, ap, ◌∙◌, subst, inl, inr, arith}
-use Rattle.std.specs.Prelude.{All, AllPairs, option_map, slice_get, slice_index, slice_index_or}
+use Rattle.std.proofs.Common.{◌≡◌, ℕ, zero, suc, ◌+◌, ◌<◌, ◌≤◌, true, List, [], ◌∷◌, Some, length, get_or, refl, sym, ap, ◌∙◌, subst, inl, inr, arith}
+use Rattle.std.specs.Prelude.{All, AllPairs, slice_get, slice_index, slice_index_or}
 use Rattle.std.specs.List.{AllZip}
 use Rattle.std.proofs.lemmas.Bool.{eq-eqb, le-leb}
-use Rattle.std.proofs.lemmas.Option.{none-some, same_Some, slice_get-get_or, slice_get-map, slice_get_within}
+use Rattle.std.proofs.lemmas.Option.{none-some, same_Some, slice_get-get_or, slice_get_within}
 use Rattle.rmt_ast.specs.declared.entry.Entry.{Entry}
-use Rattle.rmt_build.specs.Types.{Program, Table, Node, Stage, Unit, GateUnit, SlotUnit}
-use Rattle.rmt_ast.specs.EntryLists.{AreEntries, AreEntriesAt, AreTableEntries, terms_at, terms_of}
+use Rattle.rmt_build.specs.Types.{Program, Stage, Unit, GateUnit, SlotUnit}
+use Rattle.rmt_ast.specs.EntryLists.{AreEntries}
 use Rattle.rmt_ast.specs.WellFormed.{AllNumbered, IsProgram}
 use Rattle.rmt_config.specs.declared.config.Unit.TheVariants.{Gate, Slot}
 use Rattle.rmt_config.specs.CellForm.{SlotHolds, StageHolds}
 use Rattle.rmt_config.specs.Order.{rises_from}
 use Rattle.rmt_config.specs.StageForm.{starts_are_formed}
 use Rattle.rmt_refine.specs.Cells.{first_code}
-use Rattle.rmt_refine.specs.Units.{UnitCarried, applied, nodes_in, table_at}
-use Rattle.rmt_refine.proofs.PartLaws.{and_at, then_some}
-use Rattle.rmt_refine.proofs.TheLaw.{its_terms}
+use Rattle.rmt_refine.specs.Units.{UnitCarried, nodes_in}
+use Rattle.rmt_refine.proofs.TheLaw.{table_entries}
 use Rattle.rmt_build.specs.declared.plan.Plan.{Plan}
 use Rattle.rmt_build.specs.declared.stands.Stand.{Stand}
 use Rattle.rmt_build.specs.BuiltStage.{IsBuiltStage}
@@ -49,15 +48,6 @@ starts_formed (x ∷ xs) first rise =
 
 module _ (p : Program) (lists : List (List Entry)) (plan : Plan) (program : IsProgram p) (entries : AreEntries p lists) (are : AreParts p plan.placement.parts)
     (stands : AreStands p lists plan.placement.parts plan.stands) where
-  -- the entries of the table of a node
-  pub table_entries : (n : ℕ) (t : Table) (es : List Entry) → table_at p n ≡ Some t → slice_get lists n ≡ Some es → AreTableEntries n es (terms_of p t)
-  table_entries n t es at list =
-      let node = then_some (λ (x : Node). applied p x.what) (slice_get p.nodes n) t at in
-      let terms : slice_get (map (λ (x : Node). terms_at p x.what) p.nodes) n ≡ Some (Some (terms_of p t)) =
-      slice_get-map (λ (x : Node). terms_at p x.what) p.nodes n
-      ∙ ap (option_map (λ (x : Node). terms_at p x.what)) node.1 ∙ ap Some (its_terms p node.0.what t node.2) in
-      and_at (slice_get (map (λ (x : Node). terms_at p x.what) p.nodes) n) (AreEntriesAt n es) (Some (terms_of p t)) terms (entries.each n es list)
-
   own_rise : (n : ℕ) (es : List Entry) → slice_get lists n ≡ Some es → AllPairs (λ (a b : Stand). a.cell < b.cell) (slice_index_or plan.stands n [])
   own_rise n es list =
       let within = slice_get_within lists n es list in
@@ -86,7 +76,7 @@ module _ (p : Program) (lists : List (List Entry)) (plan : Plan) (program : IsPr
               let number : s.node ≡ n = unit.1.number in
               let b = slot_built p lists plan program entries are k stage built i n s x.table at number x.at in
               let actions : s.actions ≡ length x.table.actions = ap (λ (y : SlotUnit). y.actions) same ∙ x.carried.actions in
-              slot_holds p plan k i stage s x.table b.0 n number b.1 (table_entries n x.table b.0 x.at b.2) actions
+              slot_holds p plan k i stage s x.table b.0 n number b.1 (table_entries p lists n x.table b.0 entries x.at b.2) actions
               (subst (λ m. AllPairs (λ (c d : Stand). c.cell < d.cell) (slice_index_or plan.stands m [])) (sym number) (own_rise n b.0 b.2))
           | inr g ↦ absurd (never_gate s g.gate g.is)
         ]

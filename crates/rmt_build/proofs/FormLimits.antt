@@ -1,35 +1,29 @@
 -- A configuration whose stages and parser keep the sums is within the limits.
-use Rattle.std.proofs.Common.{◌≡◌, ℕ, ◌+◌, ◌-◌, ◌≤◌, cond, List, [], ◌∷◌, Option, Some, None, length, get_or, refl, ap, ◌∙◌}
+use Rattle.std.proofs.Common.{◌≡◌, ℕ, ◌+◌, ◌-◌, ◌≤◌, List, [], ◌∷◌, Option, Some, None, length, get_or, refl}
 use Rattle.std.specs.Prelude.{All, count_by, slice_get, sum_by}
 use Rattle.std.specs.List.{flat_map}
-use Rattle.std.proofs.lemmas.Bool.{le-ltb}
 use Rattle.std.proofs.lemmas.List.Elements.{All-head, All-tail}
 use Rattle.rmt_bits.proofs.AllLaws.{All-slice_get}
 use Rattle.rmt_build.specs.Types.{Config, ParserConfig, ParserState, ParserEntry, Stage}
 use Rattle.rmt_config.specs.declared.limits.LimitHit.{LimitHit}
-use Rattle.rmt_config.specs.Limits.{IsWithinLimits, code_hit, crowded_stage, data_hit, entries_hit, entry_hit, exact_words_hit, first_hit, first_passed, gates_hit, last_start_hit, listed_hit, lookups_hit, nodes_hit, or_hit, over, parser_limit_hit, reading_limit_hit, slots_hit, sram_hit, stage_hit, stage_limit_hit, stages_hit, states_hit, tcam_hit, ternary_words_hit, told, unit_limit_hit, width_hit}
+use Rattle.rmt_config.specs.Limits.{IsWithinLimits, code_hit, crowded_stage, data_hit, entries_hit, entry_hit, exact_words_hit, first_hit, first_passed, gates_hit, last_start_hit, listed_hit, lookups_hit, nodes_hit, over, parser_limit_hit, reading_limit_hit, slots_hit, sram_hit, stage_hit, stage_limit_hit, stages_hit, states_hit, tcam_hit, ternary_words_hit, unit_limit_hit, width_hit}
 use Rattle.rmt_config.specs.Resources.{crossbar_bits, exact_words, greatest_by, is_gate, is_slot, most_listed_in, node_count, ternary_words, unit_data, unit_instructions, unit_sram, unit_tcam, unit_width}
+use Rattle.rmt_config.proofs.LimitLaws.{no_hit, none_of}
 
 -- ---- one limit
 
-not_over : (most limit stage sum : ℕ) → sum ≤ most → over most limit stage sum ≡ None
-not_over most limit stage sum le = ap (λ b. cond b (Some (record { limit = limit; stage = stage; sum = told sum; need = 0 })) None) (le-ltb most sum le)
-
-neither : (a b : Option LimitHit) → a ≡ None → b ≡ None → or_hit a b ≡ None
-neither a b ea eb = ap (λ o. or_hit o b) ea ∙ eb
-
 -- some limits one after another
 after : (a : Option LimitHit) (hits : List (Option LimitHit)) → a ≡ None → first_passed hits ≡ None → first_passed (a ∷ hits) ≡ None
-after a hits ea rest = neither a (first_passed hits) ea rest
+after a hits ea rest = none_of a (first_passed hits) ea rest
 
 none_item : {X : Type 0} (item : X → Option LimitHit) (xs : List X) → All (λ x. item x ≡ None) xs → first_hit item xs ≡ None
 none_item item [] all = refl
-none_item item (x ∷ xs) all = neither (item x) (first_hit item xs) (All-head (λ y. item y ≡ None) x xs all) (none_item item xs (All-tail (λ y. item y ≡ None) x xs all))
+none_item item (x ∷ xs) all = none_of (item x) (first_hit item xs) (All-head (λ y. item y ≡ None) x xs all) (none_item item xs (All-tail (λ y. item y ≡ None) x xs all))
 
 none_stage : (item : ℕ → Stage → Option LimitHit) (k : ℕ) (stages : List Stage) → All (λ s. (j : ℕ) → item j s ≡ None) stages → stage_hit item k stages ≡ None
 none_stage item k [] all = refl
 none_stage item k (s ∷ stages) all =
-    neither (item k s) (stage_hit item (k + 1) stages) (All-head (λ x. (j : ℕ) → item j x ≡ None) s stages all k)
+    none_of (item k s) (stage_hit item (k + 1) stages) (All-head (λ x. (j : ℕ) → item j x ≡ None) s stages all k)
     (none_stage item (k + 1) stages (All-tail (λ x. (j : ℕ) → item j x ≡ None) s stages all))
 
 -- ---- what is asked of the parser and of each stage
@@ -59,11 +53,11 @@ parser_within parser few =
     let states = first_hit lookups_hit parser.states in
     let entries = first_hit entry_hit parser.entries in
     let need : All (λ e. entry_hit e ≡ None) parser.entries = λ k d lt.
-    neither (over 128 5 0 (get_or parser.entries k d).need) (over 64 5 0 (length (get_or parser.entries k d).extracts)) (not_over 128 5 0 (get_or parser.entries k d).need (few.need k d lt))
-    (not_over 64 5 0 (length (get_or parser.entries k d).extracts) (few.extracts k d lt)) in
-    after (entries_hit parser) (states_hit parser ∷ states ∷ entries ∷ []) (not_over 256 3 0 (length parser.entries) few.entries)
-    (after (states_hit parser) (states ∷ entries ∷ []) (not_over 256 3 0 (length parser.states) few.states)
-    (after states (entries ∷ []) (none_item lookups_hit parser.states (λ k d lt. not_over 4 4 0 (length (get_or parser.states k d).lookups) (few.lookups k d lt)))
+    none_of (over 128 5 0 (get_or parser.entries k d).need) (over 64 5 0 (length (get_or parser.entries k d).extracts)) (no_hit 128 5 0 (get_or parser.entries k d).need (few.need k d lt))
+    (no_hit 64 5 0 (length (get_or parser.entries k d).extracts) (few.extracts k d lt)) in
+    after (entries_hit parser) (states_hit parser ∷ states ∷ entries ∷ []) (no_hit 256 3 0 (length parser.entries) few.entries)
+    (after (states_hit parser) (states ∷ entries ∷ []) (no_hit 256 3 0 (length parser.states) few.states)
+    (after states (entries ∷ []) (none_item lookups_hit parser.states (λ k d lt. no_hit 4 4 0 (length (get_or parser.states k d).lookups) (few.lookups k d lt)))
     (after entries [] (none_item entry_hit parser.entries need) refl)))
 
 last_within : (stages : List Stage) (o : Option Stage) → slice_get stages (length stages - 1) ≡ o → All FitsStage stages → last_start_hit stages ≡ None
@@ -74,12 +68,12 @@ last_within stages None e all = by_none stages e
 last_within stages (Some s) e all = by_some stages s e (All-slice_get FitsStage stages (length stages - 1) s all e)
   where
     by_some : (xs : List Stage) (x : Stage) → slice_get xs (length xs - 1) ≡ Some x → FitsStage x → last_start_hit xs ≡ None
-    by_some xs x is fits = rw is (not_over 372 16 (length xs - 1) x.start fits.start)
+    by_some xs x is fits = rw is (no_hit 372 16 (length xs - 1) x.start fits.start)
 
 -- a limit of each stage
 each_stage : (most limit : ℕ) (sum : Stage → ℕ) (stages : List Stage) → All (λ s. sum s ≤ most) stages → stage_hit (λ k s. over most limit k (sum s)) 0 stages ≡ None
 each_stage most limit sum stages all =
-    none_stage (λ k s. over most limit k (sum s)) 0 stages (λ k d lt j. not_over most limit j (sum (get_or stages k d)) (all k d lt))
+    none_stage (λ k s. over most limit k (sum s)) 0 stages (λ k d lt j. no_hit most limit j (sum (get_or stages k d)) (all k d lt))
 
 reading_within : (stages : List Stage) → All FitsStage stages → reading_limit_hit stages ≡ None
 reading_within stages all =
@@ -109,7 +103,7 @@ stages_within stages all nodes =
     let listed = stage_hit listed_hit 0 stages in
     after (reading_limit_hit stages) (units ∷ nodes_hit stages ∷ width ∷ last ∷ listed ∷ []) (reading_within stages all)
     (after units (nodes_hit stages ∷ width ∷ last ∷ listed ∷ []) (units_within stages all)
-    (after (nodes_hit stages) (width ∷ last ∷ listed ∷ []) (not_over 128 14 (crowded_stage stages) (node_count stages) nodes)
+    (after (nodes_hit stages) (width ∷ last ∷ listed ∷ []) (no_hit 128 14 (crowded_stage stages) (node_count stages) nodes)
     (after width (last ∷ listed ∷ []) (each_stage 8 15 (λ s. greatest_by unit_width s.units) stages (λ k d lt. (all k d lt).width))
     (after last (listed ∷ []) (last_within stages (slice_get stages (length stages - 1)) refl all)
     (after listed [] (each_stage 1 17 (λ s. most_listed_in s.units) stages (λ k d lt. (all k d lt).listed)) refl)))))
@@ -117,6 +111,6 @@ stages_within stages all nodes =
 -- a configuration that keeps them
 pub within_limits : (c : Config) → length c.stages ≤ 32 → FewParts c.parser → All FitsStage c.stages → node_count c.stages ≤ 128 → IsWithinLimits c
 within_limits c few parser stages nodes =
-    after (stages_hit c) (parser_limit_hit c.parser ∷ stage_limit_hit c.stages ∷ []) (not_over 32 1 0 (length c.stages) few)
+    after (stages_hit c) (parser_limit_hit c.parser ∷ stage_limit_hit c.stages ∷ []) (no_hit 32 1 0 (length c.stages) few)
     (after (parser_limit_hit c.parser) (stage_limit_hit c.stages ∷ []) (parser_within c.parser parser)
     (after (stage_limit_hit c.stages) [] (stages_within c.stages stages nodes) refl))

@@ -11,26 +11,23 @@ use Rattle.std.proofs.lemmas.List.Sums.{list_all-from_AllPass, sum_by-cons}
 use Rattle.std.proofs.lemmas.Option.{get_or_from_slice_get, slice_get-get_or, slice_get-map, slice_get_within}
 use Rattle.rmt_bits.proofs.AllLaws.{All-slice_get}
 use Rattle.rmt_ast.specs.declared.entry.Entry.{Entry}
-use Rattle.rmt_build.specs.Types.{Program, Table, Kind, Stage, Unit, SlotUnit, CellNumber}
-use Rattle.rmt_ast.specs.declared.program.Kind.TheVariants as kind
+use Rattle.rmt_build.specs.Types.{Program, Table, Stage, Unit, SlotUnit, CellNumber}
 use Rattle.rmt_ast.specs.EntryLists.{AreTableEntries, IsEntry, params_of, terms_of}
 use Rattle.rmt_config.specs.declared.config.Unit.TheVariants.{Gate, Slot}
 use Rattle.rmt_config.specs.CellForm.{Coded, SlotHolds, cells_of, coded_from, content_is_formed, numbers_are_formed}
 use Rattle.rmt_config.specs.Cells.{cells_in, code_of, content_of, visible_bits}
 use Rattle.rmt_config.specs.Order.{rises_from}
 use Rattle.rmt_config.specs.Resources.{unit_instructions}
-use Rattle.rmt_build.specs.declared.memory.Need.{Need}
-use Rattle.rmt_build.specs.declared.memory.Taken.{Taken}
 use Rattle.rmt_build.specs.declared.plan.Plan.{Plan}
 use Rattle.rmt_build.specs.declared.stands.Stand.{Stand}
 use Rattle.rmt_build.specs.BuiltStage.{HoldsStand, IsBuiltSlot}
-use Rattle.rmt_build.specs.Memories.{memory_for}
 use Rattle.rmt_build.specs.Numbers.{number_at}
 use Rattle.rmt_build.specs.Plans.{format_at, need_in, quanta_before, stands_of_part, taken_upto}
 use Rattle.rmt_build.specs.Standing.{cells_for, counted_from, stands_there, stands_within}
 use Rattle.rmt_pack.specs.Placements.{quanta_in}
 use Rattle.rmt_refine.specs.Cells.{first_code}
 use Rattle.rmt_refine.proofs.PartLaws.{some_and}
+use Rattle.rmt_build.proofs.MemoryLaws.{memory_cells}
 
 -- ---- the slots of a stage, with their first instructions
 
@@ -90,12 +87,6 @@ cells_within first count xs =
     let high = ltb-true x.cell (first + count) there.1 in
     omega (arith, low, high))) (filter (stands_there first count) xs) (filter_passes (stands_there first count) xs))
 
-cells_of_kind : (kd : Kind) (n : Need) (taken : Taken) → cells_in (memory_for kd n taken) ≡ cells_for kd n.format.per n.quanta
-cells_of_kind kind.Keyless n taken = refl
-cells_of_kind kind.Exact n taken = refl
-cells_of_kind kind.Prefix n taken = refl
-cells_of_kind kind.Ternary n taken = refl
-
 -- ---- one slot
 
 module _ (p : Program) (plan : Plan) (k i : ℕ) (stage : Stage) (slot : SlotUnit) (t : Table) (es : List Entry) (n : ℕ) (number : slot.node ≡ n) (built : IsBuiltSlot p plan k i stage slot t es)
@@ -108,7 +99,7 @@ module _ (p : Program) (plan : Plan) (k i : ℕ) (stage : Stage) (slot : SlotUni
   cells = ap (map (λ (x : CellNumber). x.cell)) built.numbers ∙ map-map (λ (x : CellNumber). x.cell) (number_at es) stands
 
   room : cells_in slot.memory ≡ cells_for t.kind (format_at p slot.node).per (quanta_in plan.placement.parts slot.node k)
-  room = ap cells_in built.memory ∙ cells_of_kind t.kind (need_in p plan.placement.parts t slot.node k) (taken_upto p plan.placement.parts k slot.node)
+  room = ap cells_in built.memory ∙ memory_cells t.kind (need_in p plan.placement.parts t slot.node k) (taken_upto p plan.placement.parts k slot.node)
 
   its_content : (s : Stand) → HoldsStand p t es (first_code stage i) stage slot s → content_is_formed (first_code stage i) slot (content_of stage slot s.cell) ≡ true
   its_content s h =

@@ -1,25 +1,19 @@
 -- The plain parser of a program that isn't refused has few states, entries and extracts.
-use Rattle.std.proofs.Common.{◌≡◌, ℕ, suc, ◌+◌, ◌≤◌, List, [], ◌∷◌, None, length, map, refl, ap, ◌∙◌, arith}
+use Rattle.std.proofs.Common.{◌≡◌, ℕ, ◌+◌, ◌≤◌, List, [], ◌∷◌, None, length, map, arith}
 use Rattle.std.specs.Prelude.{All}
-use Rattle.std.proofs.lemmas.List.{length-append, length-map}
+use Rattle.std.proofs.lemmas.List.{length-map}
 use Rattle.std.proofs.lemmas.List.Elements.{All-append, All-cons, All-head, All-map, All-nil, All-tail}
 use Rattle.rmt_bits.specs.declared.lane.Lane.{Lane}
-use Rattle.rmt_build.specs.Types.{Program, Header, ParserState, ParserEntry, Extract}
-use Rattle.rmt_ast.specs.Places.{lanes_of}
+use Rattle.rmt_build.specs.Types.{Program, Header, ParserState, ParserEntry}
 use Rattle.rmt_ast.specs.WellFormed.{IsHeader, IsProgram}
-use Rattle.rmt_phv.specs.Packing.{pieces}
 use Rattle.rmt_phv.specs.Places.{KeepsApart}
-use Rattle.rmt_config.specs.declared.config.Extract.TheVariants.{One}
 use Rattle.rmt_ptcam.specs.Needs.{refusal}
-use Rattle.rmt_ptcam.specs.Plain.{bits_from, entries_from, entries_of, entry_of_case, entry_to, extracts_of, lanes_in_order, plain, state_of}
+use Rattle.rmt_ptcam.specs.Plain.{entries_from, entries_of, entry_of_case, entry_to, extracts_of, plain, state_of}
 use Rattle.rmt_ptcam.proofs.NeedLaws.{fits_in}
 use Rattle.rmt_ptcam.proofs.PlainLaws.{length-entries_from}
-use Rattle.rmt_build.proofs.FormLanes.{IsNarrow, each_item, is_narrow, lane_count, lanes_count}
+use Rattle.rmt_build.proofs.FormLanes.{IsNarrow, each_item, is_narrow}
 use Rattle.rmt_build.proofs.FormLimits.{FewParts}
-
-bits_count : (from : ℕ) (lanes : List Lane) → length (bits_from from lanes) ≡ length lanes
-bits_count from [] = refl
-bits_count from (l ∷ lanes) = ap suc (bits_count (from + l.len) lanes)
+use Rattle.rmt_ptcam.proofs.PlainForm.{extracts_count}
 
 -- an entry that needs at most 128 bytes and has at most 64 extracts
 abbrev pub IsSmall : ParserEntry → Type 0
@@ -28,13 +22,9 @@ IsSmall e = (e.need ≤ 128) × (length e.extracts ≤ 64)
 module _ (p : Program) (places : List (List Lane)) (keeps : KeepsApart p places) where
   pub few_extracts : (n : ℕ) (h : Header) → IsHeader p n h → IsNarrow p h → length (extracts_of places h) ≤ 64
   few_extracts n h is few =
-      let ones : List Extract = map One (lanes_of places h.valid) in
-      let bits = bits_from 0 (lanes_in_order places h.fields) in
-      let all = length-append ones bits in
-      let one = length-map (lanes_of places h.valid) One ∙ lane_count p places keeps h.valid ∙ ap (λ w. length (pieces w)) is.valid in
-      let rest = bits_count 0 (lanes_in_order places h.fields) ∙ lanes_count p places keeps h.fields in
+      let all = extracts_count p places n h keeps is in
       let most = few.1 in
-      omega (arith, all, one, rest, most)
+      omega (arith, all, most)
 
   of_header : (n : ℕ) (h : Header) → IsHeader p n h → IsNarrow p h → (h.bytes ≤ 128) × (length (extracts_of places h) ≤ 64)
   of_header n h is few = let most = is.is_not_long in (omega (arith, most), few_extracts n h is few)

@@ -21,6 +21,7 @@ use Rattle.rmt_build.specs.declared.memory.Need.{Need}
 use Rattle.rmt_build.specs.declared.memory.Taken.{Taken}
 use Rattle.rmt_build.specs.Memories.{blocks_for, memory_for, sram_for, tcam_for}
 use Rattle.rmt_pack.specs.declared.format.Format.{Format}
+use Rattle.rmt_build.proofs.MemoryLaws.{few_quanta}
 
 -- ---- sizes of a table
 
@@ -57,10 +58,6 @@ few_cells n k per few le =
     let split : per * (n.key + 8) ≡ per * n.key + per * 8 = omega arith in
     omega (arith, split, few, le)
 
--- a quantum takes a block, so there are no more of them than blocks
-pub as_few : (d x most : ℕ) → 1 ≤ x → d * x ≤ most → d ≤ most
-as_few d x most some le = let one = mul-le d 1 d x (omega arith) some in omega (arith, one, le)
-
 five : (a b c d e : Bool) → a ≡ true → b ≡ true → c ≡ true → d ≡ true → e ≡ true → (a && b && c && d && e) ≡ true
 five a b c d e ea eb ec ed ee = rw (ea, eb, ec, ed, ee) refl
 
@@ -93,7 +90,7 @@ module _ (p : Program) (t : Table) (s : SlotUnit) (n : Need) (taken : Taken) whe
       let few_per = few_cells need k per f.width fits in
       let own : per * (bits_of_lanes s.keys + 8) ≤ 112 * k = subst (λ b. per * (b + 8) ≤ 112 * k) (same ∙ sym has.bits) fits in
       let wide = f.has_width in
-      let few_d = as_few d (4 * k) 106 (omega (arith, wide)) (omega (arith, room)) in
+      let few_d = few_quanta d (4 * k) 106 (omega (arith, wide)) (omega (arith, room)) in
       let shapes : exact_shape k per d s.held s.counted ≡ shape = ap (λ h. exact_shape k per d h s.counted) has.held ∙ ap (exact_shape k per d n.held) has.counted in
       let few_k = f.width in
       let before = has.before in
@@ -133,7 +130,7 @@ module _ (p : Program) (t : Table) (s : SlotUnit) (n : Need) (taken : Taken) whe
       let bits = has.bits in
       let few_bits = has.few_bits in
       let row : 1 ≤ divided_up n.key 40 = omega (arith, some) in
-      let few_d = as_few d (divided_up n.key 40) 16 row (omega (arith, tcam)) in
+      let few_d = few_quanta d (divided_up n.key 40) 16 row (omega (arith, tcam)) in
       let shapes : ternary_shape (bits_of_lanes s.keys) d s.held s.counted ≡ shape =
       ap (λ b. ternary_shape b d s.held s.counted) (sym key) ∙ ap (λ h. ternary_shape n.key d h s.counted) has.held ∙ ap (ternary_shape n.key d n.held) has.counted in
       let ks = range_with_len taken.tcam shape.keys in

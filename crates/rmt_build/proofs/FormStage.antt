@@ -1,5 +1,5 @@
 -- What the units of a stage take is what its parts demand, so the limits that the placement keeps are kept.
-use Rattle.std.proofs.Common.{◌≡◌, ◌≢◌, ℕ, ◌+◌, ◌≤◌, true, ◌==◌, cond, List, [], ◌∷◌, ◌++◌, Some, length, map, reverse, get_or, refl, sym, ap, ◌∙◌, subst, ◌⊎◌, inl, inr, arith}
+use Rattle.std.proofs.Common.{◌≡◌, ℕ, ◌+◌, ◌≤◌, true, ◌==◌, cond, List, [], ◌∷◌, ◌++◌, Some, length, map, reverse, get_or, refl, sym, ap, ◌∙◌, subst, ◌⊎◌, inl, inr, arith, ◌≢◌}
 use Rattle.std.specs.Prelude.{All, AllPairs, Contains, count_by, filter, nat_le, nat_lt, option_and_then, option_map, slice_get, sum_by, unwrap_or}
 use Rattle.std.specs.List.{AllZip, flat_map, range_with_len}
 use Rattle.std.proofs.lemmas.Bool.{eq-eqb, leb-true, ltb-true}
@@ -23,15 +23,13 @@ use Rattle.rmt_pack.proofs.BlockLaws.{range-apart}
 use Rattle.rmt_place.specs.declared.demand.Demand.{Demand}
 use Rattle.rmt_place.specs.Needs.{Standing, Sum, demand_at, demands_of, gate_demand, if_exact, if_ternary, keeps_limits, nothing, sums_of, table_demand, what_demands, words_of_fields}
 use Rattle.rmt_place.specs.Placing.{standing_in}
-use Rattle.rmt_ptcam.proofs.FormLaws.{All-reverse}
-use Rattle.rmt_refine.specs.Places.{high_first}
+use Rattle.rmt_bits.proofs.AllLaws.{All-reverse}
+use Rattle.rmt_phv.specs.Places.{high_first}
 use Rattle.rmt_refine.specs.Units.{DoesAs, HasKind, TableCarried, UnitCarried, applied, nodes_in, table_at, tests_from, tests_of}
-use Rattle.rmt_refine.proofs.FindLaws.{filter_keeps, filtered_there}
 use Rattle.rmt_refine.proofs.NodeLaws.{part_there}
 use Rattle.rmt_refine.proofs.PartLaws.{some_and}
 use Rattle.rmt_build.proofs.FormSums.{distinct_within, sum_within, zip_sum}
-use Rattle.rmt_refine.proofs.MemberLaws.{Contains-flat_map}
-use Rattle.rmt_bits.proofs.MemberLaws.{Contains-map}
+use Rattle.rmt_bits.proofs.MemberLaws.{Contains-map, Contains-flat_map, Contains-filter, Contains-unfilter}
 
 -- ---- members
 
@@ -71,9 +69,9 @@ module _ (p : Program) (places : List (List Lane)) (parts : List Part) (k : ℕ)
   -- a part of the node stands in the stage
   its_part : (n : ℕ) → Contains (nodes_in p parts k) n → (x : Part) × Contains in_stage x × (x.node ≡ n)
   its_part n there =
-      let own = filtered_there (λ m. nat_lt 0 (quanta_in parts m k)) (range_with_len 0 (length p.nodes)) n there in
+      let own = Contains-unfilter (λ m. nat_lt 0 (quanta_in parts m k)) (range_with_len 0 (length p.nodes)) n there in
       let x = part_there parts n k (ltb-true 0 (quanta_in parts n k) own.1) in
-      (x.0, filter_keeps (λ (y : Part). y.stage == k) parts x.0 x.1 (eq-eqb _ k x.3), x.2)
+      (x.0, Contains-filter (λ (y : Part). y.stage == k) parts x.0 x.1 (eq-eqb _ k x.3), x.2)
 
   nodes_there : All (Contains part_nodes) (nodes_in p parts k)
   nodes_there i d lt =

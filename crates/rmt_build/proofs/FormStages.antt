@@ -7,7 +7,7 @@ use Rattle.std.proofs.lemmas.List.FromFn.{length-range_with_len}
 use Rattle.std.proofs.lemmas.List.Sums.{count_by-le-length, length-filter, list_all-from_AllPass}
 use Rattle.std.proofs.lemmas.Option.{slice_get-get_or}
 use Rattle.rmt_bits.proofs.AllLaws.{All-slice_get}
-use Rattle.rmt_bits.proofs.ListLaws.{slice_get-item}
+use Rattle.rmt_bits.proofs.ListLaws.{slice_get-item, AllZip-slice_get}
 use Rattle.rmt_ast.specs.declared.entry.Entry.{Entry}
 use Rattle.rmt_build.specs.Types.{Program, Field, Table, Node, Stage, Unit}
 use Rattle.rmt_ast.specs.declared.program.Kind.TheVariants as kind
@@ -27,11 +27,11 @@ use Rattle.rmt_build.specs.BuiltStage.{IsBuiltStage, SmallUnit}
 use Rattle.rmt_build.specs.Plans.{AreParts, AreStands, stands_of_part}
 use Rattle.rmt_build.proofs.FormCode.{HasData, code_formed}
 use Rattle.rmt_build.proofs.FormEach.{slot_formed}
-use Rattle.rmt_build.proofs.FormFits.{memories, slot_built, zip_at, zip_get, zip_right}
-use Rattle.rmt_build.proofs.FormHolds.{table_entries}
+use Rattle.rmt_build.proofs.FormFits.{memories, slot_built, zip_at, zip_right}
 use Rattle.rmt_build.proofs.FormStage.{kinds}
 use Rattle.rmt_build.proofs.FormUnits.{gate_formed}
 use Rattle.rmt_build.specs.Numbers.{number_at}
+use Rattle.rmt_refine.proofs.TheLaw.{table_entries}
 
 -- a table without a key stands in one stage
 abbrev pub StandAlone : Program → List Part → Type 0
@@ -56,11 +56,11 @@ module _ (p : Program) (program : IsProgram p) (lists : List (List Entry)) (entr
               let at = at_u ∙ ap Some s.is in
               let own : UnitCarried p plan.places parts k n (Slot s.slot) = subst (UnitCarried p plan.places parts k n) s.is carried in
               let b = slot_built p lists plan program entries are k stage built i n s.slot s.table at own.number s.at in
-              let memory = zip_get _ (nodes_in p parts k) stage.units i n u (memories p lists plan program entries are k stage built) at_n at_u s.slot s.table s.is s.at in
+              let memory = AllZip-slice_get _ (nodes_in p parts k) stage.units i n u (memories p lists plan program entries are k stage built) at_n at_u s.slot s.table s.is s.at in
               let numbers = b.1.numbers ∙ ap (λ m. map (number_at b.0) (stands_of_part p plan s.table m k)) own.number in
               ap unit_is_formed s.is
               ∙ slot_formed p program lists entries plan are keeps stands k n few (quanta_of_node p parts k i n at_n) s.node s.node_is s.slot s.table s.at own s.carried b.0 b.2
-              (table_entries p lists plan program entries are stands n s.table b.0 s.at b.2) b.1.held memory numbers (subst SmallUnit s.is here).0 (subst SmallUnit s.is here).1
+              (table_entries p lists n s.table b.0 entries s.at b.2) b.1.held memory numbers (subst SmallUnit s.is here).0 (subst SmallUnit s.is here).1
               (λ keyless. alone n k s.table s.at keyless (quanta_of_node p parts k i n at_n))
           | inr g ↦
               let own : UnitCarried p plan.places parts k n (Gate g.gate) = subst (UnitCarried p plan.places parts k n) g.is carried in

@@ -2,15 +2,14 @@
 use Rattle.std.proofs.Common.{◌≡◌, ◌≢◌, ℕ, suc, ◌+◌, ◌≤◌, Bool, true, false, ◌==◌, cond, List, [], ◌∷◌, refl, sym, ap, ◌∙◌, subst, ◌⊎◌, inl, inr, arith}
 use Rattle.std.specs.Prelude.{All, AllPairs, Contains, sum_by}
 use Rattle.std.specs.List.{AllZip}
-use Rattle.std.proofs.lemmas.Bool.{both_ways, eq-eqb, eqb-true, or_cases}
+use Rattle.std.proofs.lemmas.Bool.{both_ways, eq-eqb}
 use Rattle.std.proofs.lemmas.List.{get_or_default}
 use Rattle.std.proofs.lemmas.List.Elements.{All-cons, All-head, All-nil, All-tail, All-weaker}
-use Rattle.std.proofs.lemmas.List.Folds.{list_any_at}
 use Rattle.std.proofs.lemmas.List.Kept.{AllPairs-cons}
 use Rattle.std.proofs.lemmas.List.Sums.{sum_by-cons}
 use Rattle.rmt_bits.proofs.PairLaws.{AllPairs-none}
 use Rattle.rmt_config.specs.Resources.{distinct, is_in}
-use Rattle.rmt_bits.proofs.MemberLaws.{Contains-first, Contains-later, Contains-split}
+use Rattle.rmt_bits.proofs.MemberLaws.{Contains-first, Contains-later, Contains-split, Contains-from_any, list_any-Contains}
 
 -- a list without one of its numbers
 record Without (g : ℕ → ℕ) (ms : List ℕ) (n : ℕ) : Type 0 where
@@ -66,16 +65,6 @@ sum_within g (n ∷ ns) ms apart all =
 
 -- ---- each number once
 
-is_in_there : (ns : List ℕ) (n : ℕ) → is_in ns n ≡ true → Contains ns n
-is_in_there [] n e = absurd (both_ways false refl e)
-is_in_there (m ∷ ns) n e = elim (or_cases (m == n) (is_in ns n) e) [
-  | inl here ↦ subst (Contains (m ∷ ns)) (eqb-true m n here) (Contains-first m ns)
-  | inr later ↦ Contains-later m ns n (is_in_there ns n later)
-]
-
-pub there_is_in : (ns : List ℕ) (n : ℕ) → Contains ns n → is_in ns n ≡ true
-there_is_in ns n there = list_any_at (λ m. m == n) ns there.0 n there.1 (eq-eqb _ n there.2)
-
 from_cases : (b : Bool) (m n : ℕ) (ns : List ℕ) → Contains (cond b (distinct ns) (m ∷ distinct ns)) n → (Contains (distinct ns) n → Contains ns n) → Contains (m ∷ ns) n
 from_cases true m n ns is rest = Contains-later m ns n (rest is)
 from_cases false m n ns is rest = elim (Contains-split m (distinct ns) n is) [
@@ -89,7 +78,7 @@ distinct_from (m ∷ ns) n there = from_cases (is_in ns m) m n ns there (distinc
 
 there_cases : (b : Bool) (m n : ℕ) (ns : List ℕ) → is_in ns m ≡ b → (m ≡ n) ⊎ Contains ns n → (Contains ns n → Contains (distinct ns) n)
     → Contains (cond b (distinct ns) (m ∷ distinct ns)) n
-there_cases true m n ns e (inl same) rest = rest (subst (Contains ns) same (is_in_there ns m e))
+there_cases true m n ns e (inl same) rest = rest (subst (Contains ns) same (Contains-from_any ns m e))
 there_cases true m n ns e (inr later) rest = rest later
 there_cases false m n ns e (inl same) rest = subst (Contains (m ∷ distinct ns)) same (Contains-first m (distinct ns))
 there_cases false m n ns e (inr later) rest = Contains-later m (distinct ns) n (rest later)
@@ -101,7 +90,7 @@ distinct_there (m ∷ ns) n there = there_cases (is_in ns m) m n ns refl (Contai
 apart_cases : (b : Bool) (m : ℕ) (ns : List ℕ) → is_in ns m ≡ b → AllPairs ◌≢◌ (distinct ns) → AllPairs ◌≢◌ (cond b (distinct ns) (m ∷ distinct ns))
 apart_cases true m ns e rest = rest
 apart_cases false m ns e rest =
-    AllPairs-cons ◌≢◌ m (distinct ns) (λ k d lt same. both_ways (is_in ns m) e (there_is_in ns m (distinct_from ns m (k, lt, get_or_default (distinct ns) k m d lt ∙ sym same)))) rest
+    AllPairs-cons ◌≢◌ m (distinct ns) (λ k d lt same. both_ways (is_in ns m) e (list_any-Contains (λ x. x == m) ns m (distinct_from ns m (k, lt, get_or_default (distinct ns) k m d lt ∙ sym same)) (eq-eqb m m refl))) rest
 
 pub distinct_apart : (ns : List ℕ) → AllPairs ◌≢◌ (distinct ns)
 distinct_apart [] = AllPairs-none ◌≢◌

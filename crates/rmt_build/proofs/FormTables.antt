@@ -13,8 +13,8 @@ use Rattle.rmt_ast.specs.declared.program.What.TheVariants as what
 use Rattle.rmt_config.specs.TableForm.{Placed, tables_are_formed, follows_part, is_part_of, same_flag, same_guard, same_kind, same_lanes, unit_stands, ways_follow, guard_of, guard_stands, has_node, is_among, node_of, placed_from}
 use Rattle.rmt_pack.specs.declared.placement.Part.{Part}
 use Rattle.rmt_pack.specs.Placements.{data_bits, quanta_in}
-use Rattle.rmt_refine.specs.Units.{UnitCarried, applied, table_at, guard_in, guard_of as guard_of_node, last_stage, node_in, nodes_in}
-use Rattle.rmt_refine.proofs.FindLaws.{Contains-range, Contains-range_from, filter_keeps, filtered_there, find-passes}
+use Rattle.rmt_refine.specs.Units.{UnitCarried, applied, table_at, guard_in, guard_of as guard_of_node, last_stage, nodes_in}
+use Rattle.rmt_refine.proofs.FindLaws.{Contains-range, Contains-range_from, found_passes}
 use Rattle.rmt_build.specs.Plans.{need_in, parts_before, taken_upto}
 use Rattle.rmt_build.proofs.PartLaws.{parts_more}
 use Rattle.rmt_config.specs.declared.config.Unit.TheVariants.{Gate, Slot}
@@ -29,11 +29,11 @@ use Rattle.rmt_build.specs.declared.memory.Taken.{Taken}
 use Rattle.rmt_build.specs.Memories.{memory_for}
 use Rattle.rmt_pack.specs.declared.format.Format.{Format}
 use Rattle.std.proofs.lemmas.Option.{none-some, same_Some}
-use Rattle.rmt_refine.specs.Places.{high_first}
+use Rattle.rmt_phv.specs.Places.{high_first}
 use Rattle.rmt_refine.proofs.NodeLaws.{within_last}
 use Rattle.rmt_config.specs.Order.{each_between}
 use Rattle.std.proofs.lemmas.List.FromFn.{get_or-range_with_len, length-range_with_len}
-use Rattle.rmt_bits.proofs.MemberLaws.{Contains-first, Contains-later, Contains-split}
+use Rattle.rmt_bits.proofs.MemberLaws.{Contains-first, Contains-later, Contains-split, Contains-filter, Contains-unfilter}
 
 -- ---- units of a node among others
 
@@ -83,10 +83,6 @@ module _ (p : Program) (program : IsProgram p) (places : List (List Lane)) (part
     pub units : All IsUnit xs
     pub there : (j q : ℕ) → j < last → 0 < quanta_in parts q j → IsLater k m j q → is_among q xs ≡ true
 
-  same_node : (u : Unit) → node_of u ≡ node_in u
-  same_node (Gate g) = refl
-  same_node (Slot s) = refl
-
   abbrev place : ℕ → Unit → Placed
   place k u = record { stage = k; unit = u }
 
@@ -116,7 +112,7 @@ module _ (p : Program) (program : IsProgram p) (places : List (List Lane)) (part
 
   unit_of : (k n : ℕ) (u : Unit) → Built k n u → 0 < quanta_in parts n k → IsUnit (place k u)
   unit_of k n u built some =
-      let e : n ≡ node_of u = sym built.0.number ∙ sym (same_node u) in
+      let e : n ≡ node_of u = sym built.0.number in
       record { built = subst (λ m. Built k m u) e built; stands = subst (λ m. 0 < quanta_in parts m k) e some }
 
   -- units of nodes of a list, in stage k
@@ -132,7 +128,7 @@ module _ (p : Program) (program : IsProgram p) (places : List (List Lane)) (part
   unit_among k q [] us zip there = absurd (let lt = there.1 in omega (arith, lt))
   unit_among k q (n ∷ ns) [] zip there = absurd zip
   unit_among k q (n ∷ ns) (u ∷ us) zip there = elim (Contains-split n ns q there) [
-    | inl e ↦ among_first q (place k u) (map (place k) us) (same_node u ∙ zip.0.0.number ∙ e)
+    | inl e ↦ among_first q (place k u) (map (place k) us) (zip.0.0.number ∙ e)
     | inr later ↦ among_later q (place k u) (map (place k) us) (unit_among k q ns us zip.1 later)
   ]
 
@@ -143,10 +139,10 @@ module _ (p : Program) (program : IsProgram p) (places : List (List Lane)) (part
   among_right q xs ys e = list_any-append (has_node q) xs ys ∙ or_right (is_among q xs) (is_among q ys) e
 
   in_nodes : (k n : ℕ) → n < length p.nodes → 0 < quanta_in parts n k → Contains (nodes_in p parts k) n
-  in_nodes k n lt some = filter_keeps (λ m. nat_lt 0 (quanta_in parts m k)) (range_with_len 0 (length p.nodes)) n (Contains-range (length p.nodes) n lt) (lt-ltb 0 (quanta_in parts n k) some)
+  in_nodes k n lt some = Contains-filter (λ m. nat_lt 0 (quanta_in parts m k)) (range_with_len 0 (length p.nodes)) n (Contains-range (length p.nodes) n lt) (lt-ltb 0 (quanta_in parts n k) some)
 
   of_nodes : (k n : ℕ) → Contains (nodes_in p parts k) n → 0 < quanta_in parts n k
-  of_nodes k n there = ltb-true 0 (quanta_in parts n k) (filtered_there (λ m. nat_lt 0 (quanta_in parts m k)) (range_with_len 0 (length p.nodes)) n there).1
+  of_nodes k n there = ltb-true 0 (quanta_in parts n k) (Contains-unfilter (λ m. nat_lt 0 (quanta_in parts m k)) (range_with_len 0 (length p.nodes)) n there).1
 
   next_from : (k : ℕ) (x : Stage) (xs : List Stage) → StagesFrom k (x ∷ xs) → StagesFrom (k + 1) xs
   next_from k x xs h j y at =
@@ -180,7 +176,7 @@ module _ (p : Program) (program : IsProgram p) (places : List (List Lane)) (part
 
   add_unit : (k m : ℕ) (u : Unit) (xs : List Placed) → Before k m xs → Built k m u → 0 < quanta_in parts m k → Before k (m + 1) (place k u ∷ xs)
   add_unit k m u xs before built some =
-      let number : node_of u ≡ m = same_node u ∙ built.0.number in
+      let number : node_of u ≡ m = built.0.number in
       record {
         units = All-cons IsUnit (place k u) xs (unit_of k m u built some) before.units;
         earlier = All-cons (λ (x : Placed). IsEarlier k (m + 1) x.stage (node_of x.unit)) (place k u) xs (inr (refl, omega (arith, number)))
@@ -270,7 +266,7 @@ module _ (p : Program) (program : IsProgram p) (places : List (List Lane)) (part
   module _ (last : ℕ) (placed : ArePlaced last) (k m : ℕ) (u : Unit) (built : Built k m u) (stands_here : 0 < quanta_in parts m k) (before behind : List Placed) (first : Before k m before)
       (later : Behind last k (m + 1) behind) where
     own : node_of u ≡ m
-    own = same_node u ∙ built.0.number
+    own = built.0.number
 
     within : m < length p.nodes
     within = (placed.stage m k stands_here).0
@@ -407,7 +403,7 @@ module _ (p : Program) (program : IsProgram p) (places : List (List Lane)) (part
       follows : (o : Option Placed) → find (has_node m) before ≡ o → follows_part k s.slot o ≡ true
       follows None e = refl
       follows (Some b) e =
-          let found = find-passes (has_node m) before b e in
+          let found = found_passes (has_node m) before b e in
           let is_m : node_of b.unit ≡ m = eqb-true (node_of b.unit) m found.1 in
           let unit = All-contains IsUnit before b first.units found.0 in
           let early = All-contains (λ (x : Placed). IsEarlier k m x.stage (node_of x.unit)) before b first.earlier found.0 in
@@ -459,13 +455,13 @@ module _ (p : Program) (program : IsProgram p) (places : List (List Lane)) (part
 
   from_low : (k m count q : ℕ) → Contains (filter (stands_in k) (range_with_len m count)) q → m ≤ q
   from_low k m count q there =
-      let own = (filtered_there (stands_in k) (range_with_len m count) q there).0 in
+      let own = (Contains-unfilter (stands_in k) (range_with_len m count) q there).0 in
       subst (λ n. m ≤ n) (sym (get_or-range_with_len m count own.0 q (subst (λ l. own.0 < l) (length-range_with_len m count) own.1)) ∙ own.2) (omega arith)
 
   to_low : (k m count q : ℕ) → m ≤ q → q < m + count → 0 < quanta_in parts q k → Contains (filter (stands_in k) (range_with_len m count)) q
   to_low k m count q le lt some =
       let e : m + (q - m) ≡ q = omega (arith, le) in
-      filter_keeps (stands_in k) (range_with_len m count) q (subst (Contains (range_with_len m count)) e (Contains-range_from m count (q - m) (omega (arith, le, lt)))) (lt-ltb 0 (quanta_in parts q k) some)
+      Contains-filter (stands_in k) (range_with_len m count) q (subst (Contains (range_with_len m count)) e (Contains-range_from m count (q - m) (omega (arith, le, lt)))) (lt-ltb 0 (quanta_in parts q k) some)
 
   -- what comes behind a unit: those of its stage from node m on, and the stages behind
   behind_of : (last k m count : ℕ) (us : List Unit) (stages : List Stage) → last ≡ k + 1 + length stages → m + count ≡ length p.nodes → ArePlaced last
@@ -476,10 +472,10 @@ module _ (p : Program) (program : IsProgram p) (places : List (List Lane)) (part
       record {
         later = All-append (λ (x : Placed). IsLater k m x.stage (node_of x.unit)) here rest
             (units_known (λ (x : Placed). IsLater k m x.stage (node_of x.unit)) k (filter (stands_in k) (range_with_len m count)) us zip
-            (λ n u there built. inr (refl, (let low = from_low k m count n there in let number = same_node u ∙ built.0.number in omega (arith, low, number)))))
+            (λ n u there built. inr (refl, (let low = from_low k m count n there in let number = built.0.number in omega (arith, low, number)))))
             (stages_known (λ (x : Placed). IsLater k m x.stage (node_of x.unit)) (k + 1) stages from (λ j n u le some built. inl (omega (arith, le))));
         units = All-append IsUnit here rest
-            (units_known IsUnit k (filter (stands_in k) (range_with_len m count)) us zip (λ n u there built. unit_of k n u built (ltb-true 0 (quanta_in parts n k) (filtered_there (stands_in k) (range_with_len m count) n there).1)))
+            (units_known IsUnit k (filter (stands_in k) (range_with_len m count)) us zip (λ n u there built. unit_of k n u built (ltb-true 0 (quanta_in parts n k) (Contains-unfilter (stands_in k) (range_with_len m count) n there).1)))
             (stages_known IsUnit (k + 1) stages from (λ j n u le some built. unit_of j n u built some));
         there = λ j q lt some late. elim late [
           | inl less ↦ among_right q here rest (stage_among (k + 1) j q stages from (placed.stage q j some).0 (omega (arith, less)) (omega (arith, lt, is)) some)

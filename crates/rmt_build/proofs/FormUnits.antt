@@ -18,10 +18,11 @@ use Rattle.rmt_ast.specs.WellFormed.{IsGuard, IsProgram, IsTest}
 use Rattle.rmt_phv.specs.Places.{KeepsApart, LiesInWord}
 use Rattle.rmt_config.specs.LaneForm.{bits_of_lanes}
 use Rattle.rmt_config.specs.UnitForm.{gate_is_formed, guard_is_formed, test_is_formed}
-use Rattle.rmt_ptcam.proofs.FormLaws.{All-reverse, lane_formed, lanes_lie}
-use Rattle.rmt_ptcam.proofs.PlainLaws.{lane_bits}
+use Rattle.rmt_ptcam.proofs.FormLaws.{lane_formed}
 use Rattle.rmt_refine.specs.Units.{guard_of, tests_from, tests_of}
 use Rattle.rmt_build.specs.BuiltStage.{SmallGuard}
+use Rattle.rmt_phv.proofs.LaneLaws.{lanes_lie, lanes_width}
+use Rattle.rmt_bits.proofs.AllLaws.{All-reverse}
 
 -- ---- guards
 
@@ -76,7 +77,7 @@ module _ (p : Program) (program : IsProgram p) (places : List (List Lane)) (keep
       let within = slice_get_within p.nodes n node at in
       let nodes = program.counts.nodes in
       let lanes = lanes_of places field in
-      let bits = lane_bits p places field keeps in
+      let bits = lanes_width p places field keeps.cut in
       let lie = lanes_lie p places field keeps in
       let most = few_lanes lanes lie in
       let one = some_lanes lanes (omega (arith, bits, some)) in

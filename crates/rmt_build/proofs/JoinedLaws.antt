@@ -6,7 +6,7 @@ use Rattle.std.proofs.lemmas.Nat.{le-div}
 use Rattle.std.proofs.lemmas.Option.{get_or_from_slice_get, none-some, same_Some, slice_get-get_or, slice_get-map, slice_get_within}
 use Rattle.std.proofs.lemmas.Slice.Zip.{AllZip-long}
 use Rattle.rmt_bits.proofs.AllLaws.{All-slice_get}
-use Rattle.rmt_bits.proofs.ListLaws.{slice_get-item}
+use Rattle.rmt_bits.proofs.ListLaws.{slice_get-item, AllZip-slice_get}
 use Rattle.rmt_bits.specs.declared.lane.Lane.{Lane}
 use Rattle.rmt_build.specs.Types.{Program, Header, Test, Table, Kind, Node, What, Config, Stage, Unit, SlotUnit, Memory}
 use Rattle.rmt_ast.specs.declared.program.Kind.TheVariants.{Keyless, Exact, Prefix, Ternary}
@@ -43,13 +43,13 @@ use Rattle.rmt_build.specs.BuiltStage.{IsBuiltStage}
 use Rattle.rmt_build.specs.Memories.{blocks_for, memory_for}
 use Rattle.rmt_build.specs.Plans.{format_at, need_in, quanta_before, taken_upto, what_format}
 use Rattle.rmt_build.specs.Promises.{HasBlocksInOrder, HasFormat, HasFormatOfRule, StandInRows}
-use Rattle.rmt_build.specs.Stages.{IsPlanByRule}
+use Rattle.rmt_build.specs.Stages.{IsPlanByRule, AreStagesOf}
 use Rattle.rmt_build.specs.Standing.{cells_for}
 use Rattle.rmt_build.specs.Told.{cells_told}
 use Rattle.rmt_build.proofs.CarriedLaws.{built_carries, units_carried}
 use Rattle.rmt_build.proofs.FormBlocks.{HasMemory, are_blocks, blocks_in_order}
 use Rattle.rmt_build.proofs.FormConfig.{formed_with_clustered, limits_by_plan}
-use Rattle.rmt_build.proofs.FormFits.{memories, zip_get}
+use Rattle.rmt_build.proofs.FormFits.{memories}
 use Rattle.rmt_build.proofs.FormStage.{kinds}
 use Rattle.rmt_build.proofs.LoadedLaws.{loaded_there, rows_in_order}
 use Rattle.rmt_build.proofs.MemoryLaws.{format_of_kind}
@@ -89,7 +89,16 @@ node_some p program n lt =
 -- ---- a configuration
 
 module _ (p : Program) (lists : List (List Entry)) (plan : Plan) (c : Config) (program : IsProgram p) (entries : AreEntries p lists) (is : IsPlanByRule p lists plan)
-    (long : length c.stages ≡ length plan.starts) (built : AllNumbered (IsBuiltStage p lists plan) c.stages) (seed : c.seed ≡ plan.seed) where
+    (stages : List Stage) (same : c.stages ≡ stages) (are : AreStagesOf p lists plan stages) (seed : c.seed ≡ plan.seed) where
+  own : AreStagesOf p lists plan c.stages
+  own = subst (AreStagesOf p lists plan) (sym same) are
+
+  long : length c.stages ≡ length plan.starts
+  long = own.all_there
+
+  built : AllNumbered (IsBuiltStage p lists plan) c.stages
+  built = own.each
+
   abbrev parts : List Part
   parts = plan.placement.parts
 
@@ -110,7 +119,7 @@ module _ (p : Program) (lists : List (List Entry)) (plan : Plan) (c : Config) (p
       let all = AllZip-long (UnitCarried p plan.places parts k) (nodes_in p parts k) stage.units b.units in
       let lt = slice_get_within stage.units place (unit.Slot slot) unit_is in
       let n = slice_get-item (nodes_in p parts k) place (omega (arith, lt, all)) in
-      let carried = zip_get (UnitCarried p plan.places parts k) (nodes_in p parts k) stage.units place n.0 (unit.Slot slot) b.units n.1 unit_is in
+      let carried = AllZip-slice_get (UnitCarried p plan.places parts k) (nodes_in p parts k) stage.units place n.0 (unit.Slot slot) b.units n.1 unit_is in
       elim (kinds p plan.places parts k n.0 (unit.Slot slot) carried) [
         | inl own ↦
             let slot_same : own.slot ≡ slot = same_Some own.slot slot (sym (ap as_slot own.is)) in
@@ -172,8 +181,8 @@ module _ (p : Program) (lists : List (List Entry)) (plan : Plan) (c : Config) (p
       let u = slice_get-item stage.units i inside in
       let all = AllZip-long (UnitCarried p plan.places parts k) (nodes_in p parts k) stage.units b.units in
       let n = slice_get-item (nodes_in p parts k) i (omega (arith, inside, all)) in
-      let carried = zip_get (UnitCarried p plan.places parts k) (nodes_in p parts k) stage.units i n.0 u.0 b.units n.1 u.1 in
-      let memory = zip_get (HasMemory p program plan.places parts k) (nodes_in p parts k) stage.units i n.0 u.0 (memories p lists plan program entries is.is_plan.parts k stage b) n.1 u.1 in
+      let carried = AllZip-slice_get (UnitCarried p plan.places parts k) (nodes_in p parts k) stage.units i n.0 u.0 b.units n.1 u.1 in
+      let memory = AllZip-slice_get (HasMemory p program plan.places parts k) (nodes_in p parts k) stage.units i n.0 u.0 (memories p lists plan program entries is.is_plan.parts k stage b) n.1 u.1 in
       subst (HasFormatOfRule p) (sym (get_or_from_slice_get stage.units i u.0 e u.1)) (has_format k n.0 u.0 carried memory)
 
   few : length c.stages ≤ 32

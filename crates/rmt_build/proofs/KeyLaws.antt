@@ -1,11 +1,11 @@
 -- Keys of entries as bytes.
-use Rattle.std.proofs.Common.{◌≡◌, ℕ, zero, suc, ◌+◌, ◌-◌, ◌*◌, ◌/◌, ◌%◌, ◌^◌, ◌<◌, ◌≤◌, List, [], ◌∷◌, ◌++◌, length, map, get_or, take, drop, refl, sym, ap, ◌∙◌, arith}
+use Rattle.std.proofs.Common.{◌≡◌, ℕ, zero, suc, ◌+◌, ◌-◌, ◌*◌, ◌^◌, ◌<◌, ◌≤◌, List, [], ◌∷◌, ◌++◌, length, map, get_or, take, drop, refl, sym, ap, ◌∙◌, arith}
 use Rattle.std.specs.Prelude.{All, option_map, sum, unwrap_or}
 use Rattle.std.specs.List.{AllZip}
 use Rattle.std.proofs.lemmas.List.{append-nil, drop_all, length-take-le, take_all, take_more}
 use Rattle.std.proofs.lemmas.List.Elements.{All-cons, All-head, All-nil, All-tail}
 use Rattle.std.proofs.lemmas.List.Sums.{sum_by-take-le, sum_by_more, sum_by_push}
-use Rattle.std.proofs.lemmas.Nat.{mod_low, pow-add, pow_pos, shr_high}
+use Rattle.std.proofs.lemmas.Nat.{pow-add}
 use Rattle.std.proofs.lemmas.Option.{get_or_from_slice_get}
 use Rattle.rmt_bits.proofs.AllLaws.{All-slice_get}
 use Rattle.rmt_bits.proofs.ByteLaws.{bytes_of-number_of}
@@ -16,6 +16,7 @@ use Rattle.rmt_ast.specs.State.{width_of}
 use Rattle.rmt_ast.specs.WellFormed.{IsProgram, IsTest, IsWidth}
 use Rattle.rmt_refine.specs.Cells.{tests_as_one}
 use Rattle.rmt_build.proofs.LoadedLaws.{zip_length}
+use Rattle.rmt_bits.proofs.BitLaws.{deposit-multiple}
 
 pub width_is : (p : Program) (xs : List Field) (f : ℕ) (x : Field) → xs ≡ p.fields → f < length p.fields → x ≡ get_or xs f x → x.width ≡ width_of p f
 width_is p xs f x same within is =
@@ -50,21 +51,6 @@ values_more ws ts i w t in_ws in_ts =
     ap (λ xs. values xs (take (i + 1) ts)) (take_more ws i w in_ws) ∙ ap (values (take i ws ++ get_or ws i w ∷ [])) (take_more ts i t in_ts)
     ∙ values_push (take i ws) (take i ts) (get_or ws i w) (get_or ts i t) (omega (arith, one, two))
 
--- a value put behind others, where only zeros stand
-pub put_behind : (n pos w a : ℕ) → deposit (n * 2 ^ (pos + w)) pos w a ≡ (n * 2 ^ w + a) * 2 ^ pos
-put_behind n pos w a =
-    let power : 2 ^ (pos + w) ≡ 2 ^ pos * 2 ^ w = pow-add 2 pos w in
-    let some : 0 < 2 ^ (pos + w) = pow_pos (pos + w) in
-    let small : 0 < 2 ^ pos = pow_pos pos in
-    let whole : n * 2 ^ (pos + w) + 0 ≡ n * 2 ^ (pos + w) = omega arith in
-    let high : n * 2 ^ (pos + w) / 2 ^ (pos + w) ≡ n = ap (λ x. x / 2 ^ (pos + w)) (sym whole) ∙ shr_high n (pos + w) 0 some in
-    let turned : n * 2 ^ (pos + w) ≡ n * 2 ^ w * 2 ^ pos + 0 = ap (λ x. n * x) power ∙ omega arith in
-    let low : n * 2 ^ (pos + w) % 2 ^ pos ≡ 0 = ap (λ x. x % 2 ^ pos) turned ∙ mod_low (n * 2 ^ w) pos 0 small in
-    joined (n * 2 ^ (pos + w) / 2 ^ (pos + w)) n (2 ^ (pos + w)) (2 ^ pos) (2 ^ w) a (n * 2 ^ (pos + w) % 2 ^ pos) high power low
-  where
-    joined : (h k s b m x l : ℕ) → h ≡ k → s ≡ b * m → l ≡ 0 → h * s + x * b + l ≡ (k * m + x) * b
-    joined h k s b m x l e f g = rw (e, f, g) (omega arith)
-
 -- ---- the step of the loop
 
 pub test_fits : (ws : List ℕ) (ts : List Test) (i w : ℕ) (t : Test) → AllZip IsTest ws ts → i < length ts → (i < length ws) × ((get_or ts i t).value < 2 ^ get_or ws i w)
@@ -93,7 +79,7 @@ key_step ws ts i w t n n' from whole in_ws in_ts room was is =
     let pos = whole - (from + v) in
     let size : whole - from ≡ pos + v = omega (arith, room) in
     let old : n ≡ values (take i ws) (take i ts) * 2 ^ (pos + v) = was ∙ ap (λ k. values (take i ws) (take i ts) * 2 ^ k) size in
-    is ∙ ap (λ k. deposit k pos v a) old ∙ put_behind (values (take i ws) (take i ts)) pos v a ∙ ap (λ k. k * 2 ^ pos) (sym (values_more ws ts i w t in_ws in_ts))
+    is ∙ ap (λ k. deposit k pos v a) old ∙ deposit-multiple (values (take i ws) (take i ts)) pos v a ∙ ap (λ k. k * 2 ^ pos) (sym (values_more ws ts i w t in_ws in_ts))
 
 -- at the end all tests stand
 pub key_end : (ws : List ℕ) (ts : List Test) (i n first from whole : ℕ) → AllZip IsTest ws ts → length ts ≤ i → from ≡ first + sum (take i ws) → first + sum ws ≡ whole

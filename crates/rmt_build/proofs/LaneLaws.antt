@@ -1,40 +1,21 @@
 -- The lanes of fields that stand by the packing rule, or by any that keeps them apart.
-use Rattle.std.proofs.Common.{◌≡◌, ℕ, ◌+◌, ◌<◌, List, [], ◌∷◌, ◌++◌, length, map, get_or, drop, inl, inr, refl, sym, ap, ◌∙◌, arith}
+use Rattle.std.proofs.Common.{◌≡◌, ℕ, ◌<◌, List, [], ◌∷◌, length, get_or, inl, inr, refl, sym, ap, ◌∙◌, arith}
 use Rattle.std.specs.Prelude.{Option, unwrap_or}
 use Rattle.std.proofs.lemmas.Bool.{cases_lt}
-use Rattle.std.proofs.lemmas.List.{length-map, drop_more, append_assoc, get_or_default}
+use Rattle.std.proofs.lemmas.List.{get_or_default}
 use Rattle.std.proofs.lemmas.Option.{slice_get_past, unwrap_or-slice_get}
 use Rattle.rmt_bits.specs.declared.lane.Lane.{Lane}
-use Rattle.rmt_build.specs.Types.{Program, Test, GateTest}
+use Rattle.rmt_build.specs.Types.{Program}
 use Rattle.rmt_ast.specs.Places.{lanes_of}
 use Rattle.rmt_ast.specs.State.{width_of}
-use Rattle.rmt_bits.specs.Bits.{slice}
-use Rattle.rmt_config.specs.LaneForm.{bits_of_lanes}
 use Rattle.rmt_phv.specs.Packing.{pieces}
 use Rattle.rmt_phv.specs.Places.{KeepsApart}
-use Rattle.rmt_vliw.proofs.PieceLaws.{bits_of_lanes-cons, cut_at}
-use Rattle.rmt_refine.specs.Units.{tests_from}
+use Rattle.rmt_phv.proofs.LaneLaws.{lanes_count}
 
 -- a field of 1 to 32 bits has one lane
 pub one_lane : (p : Program) (places : List (List Lane)) (f : ℕ) → KeepsApart p places → pieces (width_of p f) ≡ width_of p f ∷ [] → length (lanes_of places f) ≡ 1
 one_lane p places f keeps one =
-    let cut : map (λ (l : Lane). l.len) (lanes_of places f) ≡ width_of p f ∷ [] = cut_at p places keeps f ∙ one in
-    let long = length-map (lanes_of places f) (λ (l : Lane). l.len) in
-    omega (arith, long, ap length cut)
-
--- one test more
-pub tests_step : (lanes : List Lane) (t : Test) (i low : ℕ) (d : Lane) (tests more : List GateTest) (all : List GateTest) → i < length lanes
-    → more ≡ tests ++ (record { lane = get_or lanes i d; value = slice t.value low (get_or lanes i d).len; mask = slice t.mask low (get_or lanes i d).len }) ∷ []
-    → tests ++ tests_from low t (drop i lanes) ≡ all
-    → more ++ tests_from (low + (get_or lanes i d).len) t (drop (i + 1) lanes) ≡ all
-tests_step lanes t i low d tests more all lt is so_far =
-    let lane = get_or lanes i d in
-    let x : GateTest = record { lane = lane; value = slice t.value low lane.len; mask = slice t.mask low lane.len } in
-    let rest = tests_from (low + lane.len) t (drop (i + 1) lanes) in
-    ap (λ ys. ys ++ rest) is ∙ (append_assoc tests (x ∷ []) rest ∙ (sym (ap (λ ls. tests ++ tests_from low t ls) (drop_more lanes i d lt)) ∙ so_far))
-
-pub bits_step : (lanes : List Lane) (i : ℕ) (d : Lane) → i < length lanes → bits_of_lanes (drop i lanes) ≡ (get_or lanes i d).len + bits_of_lanes (drop (i + 1) lanes)
-bits_step lanes i d lt = ap bits_of_lanes (drop_more lanes i d lt) ∙ bits_of_lanes-cons (get_or lanes i d) (drop (i + 1) lanes)
+    lanes_count p places f keeps.cut ∙ ap length one
 
 -- ---- the only lane of a field
 

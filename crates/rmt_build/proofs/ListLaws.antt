@@ -1,11 +1,10 @@
 -- Lists that grow at their end.
-use Rattle.std.proofs.Common.{◌≡◌, ℕ, zero, suc, ◌+◌, ◌<◌, List, [], ◌∷◌, ◌++◌, Some, Bool, cond, filter, length, get_or, drop, take, ap, sym, subst, ◌∙◌, append_assoc, arith}
-use Rattle.std.specs.Prelude.{IfOk, OnOk, Result, Ok, Err, reverse, slice_get}
+use Rattle.std.proofs.Common.{◌≡◌, ℕ, zero, suc, ◌+◌, ◌<◌, List, [], ◌∷◌, ◌++◌, Some, length, get_or, take, ap, sym, subst, ◌∙◌, arith}
+use Rattle.std.specs.Prelude.{IfOk, OnOk, Result, Ok, Err, slice_get}
 use Rattle.std.specs.List.{AllZip, flat_map, range_with_len}
 use Rattle.std.proofs.lemmas.Grind.{flat_map-append}
-use Rattle.std.proofs.lemmas.List.Elements.{filter-append}
 use Rattle.rmt_bits.proofs.ListLaws.{range_more}
-use Rattle.std.proofs.lemmas.List.{append-nil, drop_more, take_more, reverse-append}
+use Rattle.std.proofs.lemmas.List.{append-nil, take_more}
 use Rattle.std.proofs.lemmas.Option.{none-some, same_Some}
 
 pub zip_push : {X Y : Type 0} (R : X → Y → Type 0) (xs : List X) (ys : List Y) (x : X) (y : Y) → AllZip R xs ys → R x y → AllZip R (xs ++ x ∷ []) (ys ++ y ∷ [])
@@ -19,14 +18,6 @@ pub zip_more : {X Y : Type 0} (R : X → Y → Type 0) (xs : List X) (ys zs : Li
 zip_more R xs ys zs i d y lt is h r =
     subst (λ ws. AllZip R (take (i + 1) xs) ws) (sym is)
     (subst (λ ws. AllZip R ws (ys ++ y ∷ [])) (sym (take_more xs i d lt)) (zip_push R (take i xs) ys (get_or xs i d) y h r))
-
--- one more item, from the last one on
-pub reversed_step : {X : Type 0} (xs front into : List X) (i : ℕ) (d : X) → i < length xs → into ≡ front ++ reverse (drop (i + 1) xs) → into ++ get_or xs i d ∷ [] ≡ front ++ reverse (drop i xs)
-reversed_step xs front into i d lt is =
-    let x = get_or xs i d in
-    ap (λ ys. ys ++ x ∷ []) is
-    ∙ (append_assoc front (reverse (drop (i + 1) xs)) (x ∷ [])
-    ∙ ap (λ ys. front ++ ys) (sym (ap reverse (drop_more xs i d lt) ∙ reverse-append (x ∷ []) (drop (i + 1) xs))))
 
 -- over one number more
 pub flat_range_more : {X : Type 0} (f : ℕ → List X) (n : ℕ) → flat_map f (range_with_len 0 (n + 1)) ≡ flat_map f (range_with_len 0 n) ++ f n
@@ -42,12 +33,6 @@ zip_item R [] (b ∷ ys) all i y at = absurd all
 zip_item R (a ∷ xs) [] all i y at = absurd all
 zip_item R (a ∷ xs) (b ∷ ys) all zero y at = (a, subst (R a) (same_Some b y at) all.0)
 zip_item R (a ∷ xs) (b ∷ ys) all (suc i) y at = zip_item R xs ys all.1 i y at
-
--- what passes a test, up to one number more
-pub filter_range : (test : ℕ → Bool) (n : ℕ) → filter test (range_with_len 0 (n + 1)) ≡ filter test (range_with_len 0 n) ++ cond (test n) (n ∷ []) []
-filter_range test n =
-    let there : 0 + n ≡ n = omega arith in
-    ap (filter test) (range_more 0 n) ∙ (filter-append test (range_with_len 0 n) ((0 + n) ∷ []) ∙ ap (λ m. filter test (range_with_len 0 n) ++ filter test (m ∷ [])) there)
 
 -- what holds holds where a call answers Ok
 pub on_ok : {X E : Type 0} (r : Result X E) (P : Type 0) → P → OnOk r P

@@ -2,7 +2,7 @@
 use Rattle.std.proofs.Common.{◌≡◌, ℕ, zero, suc, ◌+◌, ◌*◌, ◌<◌, ◌≤◌, List, [], ◌∷◌, ◌++◌, Some, None, map, Bool, true, false, ◌&&◌, leb, sym, refl, ap, ◌∙◌, subst, arith, inl, inr}
 use Rattle.std.specs.Prelude.{All, Option, ◌==◌, find, option_map, unwrap_or}
 use Rattle.std.specs.Option.{option_or}
-use Rattle.std.proofs.lemmas.Bool.{cases_eq, cases_lt, le-leb, ne_eqb, eq-eqb}
+use Rattle.std.proofs.lemmas.Bool.{cases_eq, cases_lt, le-leb, ne_eqb, eq-eqb, and_parts}
 use Rattle.std.proofs.lemmas.List.{length_push}
 use Rattle.std.proofs.lemmas.List.Elements.{All-head, All-tail, All-push, All-weaker}
 use Rattle.std.proofs.lemmas.List.Folds.{find-append}
@@ -12,6 +12,7 @@ use Rattle.rmt_config.specs.Cells.{Blocks, sram_row, tcam_row}
 use Rattle.rmt_config.specs.Order.{rises_from}
 use Rattle.rmt_config.specs.StageForm.{srow_number, trow_number}
 use Rattle.rmt_build.specs.Listing.{IsSramRow, IsTcamRow, IsSramListed, IsTcamListed, ListsSram, ListsTcam}
+use Rattle.rmt_bits.proofs.ListLaws.{find-none}
 
 -- ---- lists in general
 
@@ -20,18 +21,10 @@ pub rise-push : {X : Type 0} (f : X → ℕ) (least : ℕ) (xs : List X) (y : X)
     → rises_from least (map f (xs ++ y ∷ [])) ≡ true
 rise-push f least [] y le below rise = ap (λ (b : Bool). b && true) (le-leb least (f y) le)
 rise-push f least (x ∷ xs) y le below rise =
-    let parts = both (leb least (f x)) (rises_from (f x + 1) (map f xs)) rise in
+    let parts = and_parts (leb least (f x)) (rises_from (f x + 1) (map f xs)) rise in
     let above : f x + 1 ≤ f y = let lt = All-head (λ z. f z < f y) x xs below in omega (arith, lt) in
     ap (λ (b : Bool). b && rises_from (f x + 1) (map f (xs ++ y ∷ []))) parts.0
     ∙ rise-push f (f x + 1) xs y above (All-tail (λ z. f z < f y) x xs below) parts.1
-  where
-    both : (a b : Bool) → (a && b) ≡ true → (a ≡ true) × (b ≡ true)
-    both true b e = (refl, e)
-    both false b e = absurd cc
-
-find-none : {X : Type 0} (test : X → Bool) (xs : List X) → All (λ x. test x ≡ false) xs → find test xs ≡ None
-find-none test [] none = refl
-find-none test (x ∷ xs) none = rw (All-head (λ y. test y ≡ false) x xs none) (find-none test xs (All-tail (λ y. test y ≡ false) x xs none))
 
 module _ {X : Type 0} (block_of row_of : X → ℕ) (size : ℕ) where
   abbrev number : X → ℕ
@@ -140,15 +133,6 @@ sram_block r = r.block
 abbrev sram_number : SramRow → ℕ
 sram_number r = r.row
 
-pub sram-none : (held : Blocks) → IsSramListed held 0 []
-sram-none held = record {
-  each = λ k d lt. absurd (omega (arith, lt));
-  before = λ k d lt. absurd (omega (arith, lt));
-  rise = refl;
-  few = omega arith;
-  found = λ b r lt upto. absurd (omega (arith, upto));
-}
-
 pub sram-push : (held : Blocks) (upto : ℕ) (rows : List SramRow) (y : SramRow) → IsSramListed held upto rows → IsSramRow held y → srow_number y ≡ upto → IsSramListed held (upto + 1) (rows ++ y ∷ [])
 sram-push held upto rows y was is e =
     let before : All (λ (r : SramRow). srow_number r < srow_number y) rows = subst (λ n. All (λ (r : SramRow). srow_number r < n) rows) (sym e) was.before in
@@ -193,16 +177,6 @@ tcam_block r = r.block
 
 abbrev tcam_number : TcamRow → ℕ
 tcam_number r = r.row
-
-pub tcam-none : (values masks : Blocks) → IsTcamListed values masks 0 []
-tcam-none values masks = record {
-  each = λ k d lt. absurd (omega (arith, lt));
-  before = λ k d lt. absurd (omega (arith, lt));
-  rise = refl;
-  few = omega arith;
-  value = λ b r lt upto. absurd (omega (arith, upto));
-  mask = λ b r lt upto. absurd (omega (arith, upto));
-}
 
 pub tcam-push : (values masks : Blocks) (upto : ℕ) (rows : List TcamRow) (y : TcamRow) → IsTcamListed values masks upto rows → IsTcamRow values masks y
     → y.value ≡ values y.block y.row → trow_number y ≡ upto → IsTcamListed values masks (upto + 1) (rows ++ y ∷ [])

@@ -13,7 +13,7 @@ use Rattle.std.proofs.lemmas.Map.Made.{IsDistinct-from_AllPairs}
 use Rattle.std.proofs.lemmas.Map.Steps.{length-le_from_distinct_below}
 use Rattle.std.proofs.lemmas.Nat.{mul-le}
 use Rattle.std.proofs.lemmas.Option.{same_Some, slice_get-map, slice_get_within}
-use Rattle.std.proofs.lemmas.Slice.Zip.{AllZip-right}
+use Rattle.std.proofs.lemmas.Slice.Zip.{AllZip-right, AllZip-long}
 use Rattle.rmt_bits.specs.Bits.{bytes_of}
 use Rattle.rmt_build.specs.Types.{Program, Table, Kind, Node, What}
 use Rattle.rmt_ast.specs.declared.program.Kind.TheVariants.{Keyless, Exact, Prefix, Ternary}
@@ -36,8 +36,8 @@ use Rattle.rmt_refine.specs.Outcomes.{entries_at}
 use Rattle.rmt_refine.specs.Units.{applied, table_at}
 use Rattle.rmt_refine.proofs.CountLaws.{below_next}
 use Rattle.rmt_refine.proofs.OutcomeLaws.{list_at}
-use Rattle.rmt_refine.proofs.PartLaws.{and_at, some_and, then_some}
-use Rattle.rmt_refine.proofs.TheLaw.{its_terms}
+use Rattle.rmt_refine.proofs.PartLaws.{some_and, then_some}
+use Rattle.rmt_refine.proofs.TheLaw.{table_entries}
 use Rattle.rmt_build.specs.declared.stands.Stand.{Stand}
 use Rattle.rmt_build.specs.Loads.{AreAllLoaded, StandAt, StandBy, keys_of, layout_of}
 use Rattle.rmt_build.specs.Plans.{AreParts, AreStands, format_at, parts_before, quanta_before}
@@ -46,15 +46,10 @@ use Rattle.rmt_build.specs.Standing.{IsLoadedAt, StandInOrder, StandOnce, cells_
 use Rattle.rmt_build.proofs.CandidateLaws.{below_all, looked_for}
 use Rattle.rmt_build.proofs.PartLaws.{quanta_more}
 use Rattle.rmt_build.proofs.PlanLaws.{is_format, is_table, node_there}
-use Rattle.rmt_bits.proofs.ListLaws.{slice_get-item}
+use Rattle.rmt_bits.proofs.ListLaws.{slice_get-item, AllZip-slice_get}
 use Rattle.rmt_bits.proofs.MemberLaws.{Contains-first, Contains-later}
 
 -- ---- one list beside another
-
-pub zip_at : {X Y : Type 0} (R : X → Y → Type 0) (xs : List X) (ys : List Y) (i : ℕ) (x : X) (y : Y) → AllZip R xs ys → slice_get xs i ≡ Some x → slice_get ys i ≡ Some y → R x y
-zip_at R xs ys i x y zip at_x at_y =
-    let there = subst (λ o. MatchOption o ⊤ (λ b. IsSomeAnd (slice_get xs i) (λ a. R a b))) at_y (AllZip-right R xs ys zip i) in
-    and_at (slice_get xs i) (λ a. R a y) x at_x there
 
 pub zip_other : {X Y : Type 0} (R : X → Y → Type 0) (xs : List X) (ys : List Y) (i : ℕ) (y : Y) → AllZip R xs ys → slice_get ys i ≡ Some y → (x : X) × R x y
 zip_other R xs ys i y zip at_y =
@@ -63,10 +58,7 @@ zip_other R xs ys i y zip at_y =
     (x.0, x.2)
 
 pub zip_length : {X Y : Type 0} (R : X → Y → Type 0) (xs : List X) (ys : List Y) → AllZip R xs ys → length xs ≡ length ys
-zip_length R [] [] zip = refl
-zip_length R [] (y ∷ ys) zip = absurd zip
-zip_length R (x ∷ xs) [] zip = absurd zip
-zip_length R (x ∷ xs) (y ∷ ys) zip = ap suc (zip_length R xs ys zip.1)
+zip_length R xs ys zip = sym (AllZip-long R xs ys zip)
 
 -- the keys that have too few cells are no more than all
 pub members_few : (layout : List Ways) (seed : ℕ) (keys : List (List ℕ)) (members : List ℕ) (cells : ℕ) → IsOverfull layout seed keys members cells → length members ≤ length keys
@@ -189,7 +181,7 @@ module _ (p : Program) (lists : List (List Entry)) (parts : List Part) (seed : �
       slice_get-map (λ (x : Entry). bytes_of (divided_up (key_bits p t) 8) (key_of p t x)) es s.entry
       ∙ ap (option_map (λ (x : Entry). bytes_of (divided_up (key_bits p t) 8) (key_of p t x))) entry in
       let at_cell : slice_get by.0 s.entry ≡ Some s.cell = All-contains (IsLoadedAt by.0) own s by.3 there in
-      let chosen = zip_at (λ x y. Contains (candidates (layout_of p parts n) seed x) y) (keys_of p t es) by.0 s.entry _ s.cell by.1.stand key at_cell in
+      let chosen = AllZip-slice_get (λ x y. Contains (candidates (layout_of p parts n) seed x) y) (keys_of p t es) by.0 s.entry _ s.cell by.1.stand key at_cell in
       let first = 4096 * quanta_before parts n k * (format_at p n).per in
       let r = looked_for (quanta_in parts n) (format_at p n).per seed width (key_bits p t) (key_of p t e) k s.cell ks rs cs chosen (omega (arith, cell_is)) (omega (arith, cell_is, within)) in
       let back : s.cell - first ≡ cell = omega (arith, cell_is) in
@@ -212,14 +204,6 @@ module _ (p : Program) (lists : List (List Entry)) (parts : List Part) (seed : �
     (loaded : AreAllLoaded p lists parts seed stands) where
   abbrev By : ℕ → Table → List Entry → Kind → List Stand → Type 0
   By n t es kind own = StandBy p parts seed n t es kind own
-
-  -- the entries of a table
-  their_entries : (n : ℕ) (t : Table) (es : List Entry) → table_at p n ≡ Some t → slice_get lists n ≡ Some es → AreTableEntries n es (terms_of p t)
-  their_entries n t es at list =
-      let node = then_some (λ (x : Node). applied p x.what) (slice_get p.nodes n) t at in
-      let known = list_at p lists n node.0 entries node.1 in
-      let same : entries_at lists n ≡ es = same_Some (entries_at lists n) es (sym known.0 ∙ list) in
-      subst (λ xs. AreTableEntries n xs (terms_of p t)) same (subst (AreEntriesAt n (entries_at lists n)) (its_terms p node.0.what t node.2) known.1)
 
   no_entries : (es : List Entry) → length es ≤ 0 → es ≡ []
   no_entries [] le = refl
@@ -257,7 +241,7 @@ module _ (p : Program) (lists : List (List Entry)) (parts : List Part) (seed : �
       by_table : (o : Option Table) → table_at p n ≡ o → StandAt p parts seed n es (table_at p n) own → StandOnce (length es) own
       by_table (Some t) at h =
           let node = then_some (λ (x : Node). applied p x.what) (slice_get p.nodes n) t at in
-          by_once n t es own (is_table p good n t at) (their_entries n t es at list) t.kind refl (subst (λ o. StandAt p parts seed n es o own) at h)
+          by_once n t es own (is_table p good n t at) (table_entries p lists n t es entries at list) t.kind refl (subst (λ o. StandAt p parts seed n es o own) at h)
       by_table None at h =
           let within = slice_get_within lists n es list in
           let count = entries.for_each_node in
@@ -286,7 +270,7 @@ module _ (p : Program) (lists : List (List Entry)) (parts : List Part) (seed : �
   all_within n t own at own_is =
       let node = then_some (λ (x : Node). applied p x.what) (slice_get p.nodes n) t at in
       let list = (list_at p lists n node.0 entries node.1).0 in
-      by_within n t (entries_at lists n) own at (their_entries n t (entries_at lists n) at list) t.kind refl (stand_by p lists parts seed stands loaded n t (entries_at lists n) own at list own_is)
+      by_within n t (entries_at lists n) own at (table_entries p lists n t (entries_at lists n) entries at list) t.kind refl (stand_by p lists parts seed stands loaded n t (entries_at lists n) own at list own_is)
 
   -- So the entries stand as a plan has to have them.
   pub they_stand : AreStands p lists parts stands

@@ -10,7 +10,10 @@ use Rattle.rmt_pack.specs.Formats.{HasNeed, IsNeed, IsFormat, memory_format, ter
 use Rattle.rmt_pack.proofs.FormatLaws.{exact_format-taken}
 use Rattle.rmt_bounds.proofs.FormatBounds.{ternary_fits_stage}
 use Rattle.rmt_build.specs.declared.memory.Need.{Need}
-use Rattle.rmt_build.specs.Memories.{blocks_for, sram_for, tcam_for}
+use Rattle.rmt_build.specs.Memories.{blocks_for, sram_for, tcam_for, memory_for}
+use Rattle.rmt_config.specs.Cells.{cells_in}
+use Rattle.rmt_build.specs.declared.memory.Taken.{Taken}
+use Rattle.rmt_build.specs.Standing.{cells_for}
 
 -- what a part has to hold is what its table needs
 pub record IsNeedOf (n : Need) (t : TableNeed) : Type 0 where
@@ -94,3 +97,10 @@ quantum_of Exact t f need is keyed = record {
 }
 quantum_of Prefix t f need is keyed = ternary_quantum_of t f need is
 quantum_of Ternary t f need is keyed = ternary_quantum_of t f need is
+
+-- a memory for a part has as many cells as its quanta
+pub memory_cells : (kind : Kind) (need : Need) (taken : Taken) → cells_in (memory_for kind need taken) ≡ cells_for kind need.format.per need.quanta
+memory_cells Keyless need taken = refl
+memory_cells Exact need taken = refl
+memory_cells Prefix need taken = refl
+memory_cells Ternary need taken = refl

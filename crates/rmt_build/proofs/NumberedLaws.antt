@@ -1,5 +1,5 @@
 -- No entry's number stands twice in a configuration that is put together.
-use Rattle.std.proofs.Common.{◌≡◌, ◌≢◌, ℕ, suc, ◌<◌, ◌==◌, true, not, List, [], ◌∷◌, Some, length, map, get_or, refl, sym, ap, ◌∙◌, subst, inl, inr, arith}
+use Rattle.std.proofs.Common.{◌≡◌, ℕ, suc, ◌<◌, ◌==◌, true, not, List, [], ◌∷◌, Some, length, map, get_or, refl, sym, ap, ◌∙◌, subst, inl, inr, arith, ◌≢◌}
 use Rattle.std.specs.Prelude.{AllPairs, Contains, option_and_then, slice_get}
 use Rattle.std.specs.List.{list_any}
 use Rattle.std.proofs.lemmas.Bool.{and_from, false_from_ne_true}
@@ -14,18 +14,18 @@ use Rattle.rmt_config.specs.Order.{are_new}
 use Rattle.rmt_bits.proofs.PairLaws.{AllPairs-none}
 use Rattle.rmt_refine.specs.Units.{UnitsCarried}
 use Rattle.rmt_refine.specs.View.{as_slot}
-use Rattle.rmt_refine.proofs.MemberLaws.{flat_from}
 use Rattle.rmt_refine.proofs.NodeLaws.{one_place}
-use Rattle.rmt_refine.proofs.NumberLaws.{any_from, one_list}
+use Rattle.rmt_refine.proofs.NumberLaws.{one_list}
 use Rattle.rmt_refine.proofs.PartLaws.{IsPart, unit_of_part}
 use Rattle.rmt_build.specs.declared.plan.Plan.{Plan}
 use Rattle.rmt_build.specs.BuiltStage.{IsBuiltStage}
 use Rattle.rmt_build.specs.Plans.{AreStands}
 use Rattle.rmt_build.specs.Told.{cell_told, cells_told}
-use Rattle.rmt_build.proofs.CellsLaws.{one_spot, same_entry, table_entries}
+use Rattle.rmt_build.proofs.CellsLaws.{one_spot, same_entry}
 use Rattle.rmt_build.proofs.DistinctLaws.{flat_pairs, slot_apart}
 use Rattle.rmt_build.proofs.SpotLaws.{StandsAt, listed_stands, table_of_part}
-use Rattle.rmt_bits.proofs.MemberLaws.{Contains-unmap, Contains-map, Contains-first, Contains-later, Contains-split}
+use Rattle.rmt_bits.proofs.MemberLaws.{Contains-unmap, Contains-map, Contains-first, Contains-later, Contains-split, flat_from, Contains-from_any}
+use Rattle.rmt_refine.proofs.TheLaw.{table_entries}
 
 -- ---- numbers that differ are new
 
@@ -33,7 +33,7 @@ new_of : (seen xs : List ℕ) → AllPairs ◌≢◌ xs → ((m : ℕ) → Conta
 new_of seen [] apart clear = refl
 new_of seen (n ∷ ns) apart clear =
     and_from (not (list_any (λ m. m == n) seen)) (are_new (n ∷ seen) ns)
-    (ap not (false_from_ne_true (list_any (λ m. m == n) seen) (λ any. clear n (any_from seen n any) (Contains-first n ns))))
+    (ap not (false_from_ne_true (list_any (λ m. m == n) seen) (λ any. clear n (Contains-from_any seen n any) (Contains-first n ns))))
     (new_of (n ∷ seen) ns (λ i j d lt inside. apart (suc i) (suc j) d (omega (arith, lt)) (omega (arith, inside))) (λ m in_seen in_ns.
     elim (Contains-split n seen m in_seen) [
       | inl same ↦ (let lt = in_ns.1 in apart 0 (suc in_ns.0) m (omega arith) (omega (arith, lt)) (same ∙ sym in_ns.2))
@@ -78,7 +78,7 @@ module _ (p : Program) (lists : List (List Entry)) (plan : Plan) (c : Config) (e
       let part : IsPart c n k r other two.slot = record { stage_is = two.part.stage_is; slot_is = two.part.slot_is; node_is = two.part.node_is ∙ sym node } in
       let that = listed_stands p lists plan c entries units stands built n k r other two.slot part has.table has.entries has.own has.table_is has.entries_are has.own_is two.number two.there in
       let cells = cells_told (length p.nodes) c.stages in
-      let rising = (table_entries p lists plan c cells entries units stands built refl n has.table has.entries has.own has.table_is has.entries_are has.own_is).rising in
+      let rising = (table_entries p lists n has.table has.entries entries has.table_is has.entries_are).rising in
       let entry : that.0 ≡ its.0 = same_entry has.entries that.0 its.0 rising that.1 its.1 (that.2 ∙ two.is ∙ sym (its.2 ∙ one.is)) in
       let spot = one_spot p lists plan c cells entries units stands built refl n has.table has.entries has.own has.table_is has.entries_are has.own_is its.0 j k one.number.cell two.number.cell its.3
       (subst (λ e. StandsAt p plan n has.table has.entries has.own e k two.number.cell) entry that.3) in

@@ -1,9 +1,6 @@
 -- A placement by the rule, and its starts.
-use Rattle.std.proofs.Common.{◌≡◌, ℕ, zero, suc, ◌+◌, ◌<◌, ◌≤◌, List, [], ◌∷◌, Ok, true, filter, get_or, length, map, refl, ap, subst, arith}
-use Rattle.std.specs.Prelude.{◌==◌, All, AllPairs, Contains}
-use Rattle.std.proofs.lemmas.List.Elements.{All-contains, All-map}
-use Rattle.rmt_pack.proofs.FormatLaws.{filtered}
-use Rattle.rmt_pack.specs.Starts.{stages_of}
+use Rattle.std.proofs.Common.{◌≡◌, ℕ, zero, suc, ◌+◌, ◌<◌, ◌≤◌, List, [], ◌∷◌, Ok, true, get_or, length, map, refl, ap, subst, arith}
+use Rattle.std.specs.Prelude.{All, AllPairs}
 use Rattle.rmt_bits.specs.declared.lane.Lane.{Lane}
 use Rattle.rmt_bits.proofs.FunctionLaws.{funext}
 use Rattle.rmt_ast.specs.declared.deps.Deps.{Deps}
@@ -66,10 +63,3 @@ stages_few parts few = greatest-le (λ (x : Part). x.stage + 1) 0 32 parts (omeg
 
 pub in_stages : (parts : List Part) → All (λ (x : Part). x.stage < stages_in parts) parts
 in_stages parts i d lt = let one = items-le (λ (x : Part). x.stage + 1) 0 parts i d lt in omega (arith, one)
-
--- a stage of a node is one of these
-pub to_stages : (parts : List Part) (n k : ℕ) → Contains (stages_of parts n) k → k < stages_in parts
-to_stages parts n k there =
-    let own : All (λ (x : Part). x.stage < stages_in parts) (filter (λ (x : Part). x.node == n) parts) =
-    filtered (λ (x : Part). x.stage < stages_in parts) (λ (x : Part). x.node == n) parts (λ i d lt passes. in_stages parts i d lt) in
-    All-contains (λ j. j < stages_in parts) (stages_of parts n) k (All-map (λ j. j < stages_in parts) (λ (x : Part). x.stage) (filter (λ (x : Part). x.node == n) parts) own) there

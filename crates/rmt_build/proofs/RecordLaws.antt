@@ -11,7 +11,7 @@ use Rattle.rmt_bits.proofs.BitLaws.{parts-lt}
 use Rattle.rmt_pack.proofs.TcamLaws.{sum-drop}
 use Rattle.rmt_bits.specs.Bits.{slice, deposit}
 use Rattle.rmt_ast.specs.WellFormed.{Fits}
-use Rattle.rmt_refine.specs.Cells.{HasArguments}
+use Rattle.rmt_config.specs.Effects.{HasArguments}
 use Rattle.rmt_build.specs.Data.{data_of}
 
 -- values that fit have no more bits together

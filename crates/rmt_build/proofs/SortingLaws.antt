@@ -3,7 +3,7 @@ use Rattle.std.proofs.Common.{◌≡◌, ◌≢◌, ℕ, zero, suc, ◌+◌, ◌
 use Rattle.std.specs.Prelude.{All, AllPairs, option_map, slice_get, eqb}
 use Rattle.std.specs.List.{range_with_len}
 use Rattle.std.specs.List.Sorted.{IsPermutation}
-use Rattle.std.proofs.lemmas.Bool.{cases_eq, cases_lt, ne_eqb}
+use Rattle.std.proofs.lemmas.Bool.{cases_lt}
 use Rattle.std.proofs.lemmas.Bool.Decides.{Decides-eqb}
 use Rattle.std.proofs.lemmas.List.{get_or-map, length-map, length-take-le, take_more}
 use Rattle.std.proofs.lemmas.List.Elements.{All-cons, All-nil}
@@ -18,6 +18,7 @@ use Rattle.rmt_ast.specs.declared.program.Kind.TheVariants.{Prefix, Ternary}
 use Rattle.rmt_build.specs.declared.stands.Stand.{Stand}
 use Rattle.rmt_build.specs.Sorting.{AreSorted, placed_from, rank_in, rows_from}
 use Rattle.rmt_build.specs.Standing.{GoesFirst, IsLoadedAt, StandInOrder, StandOnce}
+use Rattle.rmt_bits.proofs.OptionLaws.{eqb-sym}
 
 -- ---- one more item
 
@@ -64,11 +65,8 @@ placed_there zs n (x ∷ xs) same =
     All-cons (IsLoadedAt zs) (record { cell = x; entry = n }) (placed_from (n + 1) xs) (ap (slice_get zs) (sym here) ∙ same 0)
     (placed_there zs (n + 1) xs (λ i. let next : n + 1 + i ≡ n + suc i = omega arith in ap (slice_get zs) next ∙ same (suc i)))
 
-flips : (x y : ℕ) → eqb x y ≡ eqb y x
-flips x y = elim (cases_eq x y) [ inl e ↦ rw (e) refl | inr ne ↦ ne_eqb x y ne ∙ sym (ne_eqb y x (λ e. ne (sym e))) ]
-
 distinct_moved : (xs ys : List ℕ) → IsPermutation xs ys → AllPairs ◌≢◌ xs → AllPairs ◌≢◌ ys
-distinct_moved xs ys moved distinct = AllPairs-from_IsDistinct Decides-eqb ys (IsDistinct-IsPermutation eqb flips xs ys moved (IsDistinct-from_AllPairs Decides-eqb xs distinct))
+distinct_moved xs ys moved distinct = AllPairs-from_IsDistinct Decides-eqb ys (IsDistinct-IsPermutation eqb eqb-sym xs ys moved (IsDistinct-from_AllPairs Decides-eqb xs distinct))
 
 range_distinct : (n : ℕ) → AllPairs ◌≢◌ (range_with_len 0 n)
 range_distinct n i j d lt inside e =

@@ -1,11 +1,10 @@
 -- In a configuration that is built by a plan, the cells in which the map tells that an entry stands are those in which it stands by the plan.
-use Rattle.std.proofs.Common.{◌≡◌, ℕ, ◌+◌, ◌<◌, List, [], Option, Some, length, map, get_or, refl, sym, ap, ◌∙◌, subst, ◌⊎◌, inl, inr, arith}
+use Rattle.std.proofs.Common.{◌≡◌, ℕ, ◌+◌, ◌<◌, List, [], Option, Some, length, map, get_or, sym, ap, ◌∙◌, subst, inl, inr, arith}
 use Rattle.std.specs.Prelude.{AllPairs, Contains, option_and_then, option_map, slice_get, unwrap_or}
 use Rattle.std.proofs.lemmas.List.{length-map}
 use Rattle.std.proofs.lemmas.Option.{get_or_from_slice_get, slice_get_within}
 use Rattle.rmt_bits.proofs.ListLaws.{slice_get-alike, slice_get-item}
-use Rattle.rmt_build.specs.Types.{Program, Table, Kind, Node, What, Config, Stage, SlotUnit, CellNumber}
-use Rattle.rmt_ast.specs.declared.program.Kind.TheVariants.{Keyless, Exact, Prefix, Ternary}
+use Rattle.rmt_build.specs.Types.{Program, Table, Node, What, Config, Stage, SlotUnit, CellNumber}
 use Rattle.rmt_ast.specs.declared.program.What.TheVariants as what
 use Rattle.rmt_ast.specs.declared.entry.Entry.{Entry}
 use Rattle.rmt_ast.specs.EntryLists.{AreEntries}
@@ -13,18 +12,16 @@ use Rattle.rmt_config.specs.declared.config.Unit.TheVariants.{Slot}
 use Rattle.rmt_config.specs.Cells.{cells_in}
 use Rattle.rmt_refine.specs.Units.{DoesAs, TableCarried, UnitsCarried, applied, table_at}
 use Rattle.rmt_refine.proofs.PartLaws.{IsPart, some_and, unit_of_part}
-use Rattle.rmt_build.specs.declared.memory.Need.{Need}
-use Rattle.rmt_build.specs.declared.memory.Taken.{Taken}
 use Rattle.rmt_build.specs.declared.plan.Plan.{Plan}
 use Rattle.rmt_build.specs.declared.stands.Stand.{Stand}
 use Rattle.rmt_build.specs.BuiltStage.{IsBuiltSlot, IsBuiltStage}
-use Rattle.rmt_build.specs.Memories.{memory_for}
 use Rattle.rmt_build.specs.Numbers.{number_at}
 use Rattle.rmt_build.specs.Plans.{AreStands, format_at, need_in, stands_of_part, taken_upto}
-use Rattle.rmt_build.specs.Standing.{cells_for, stands_within}
+use Rattle.rmt_build.specs.Standing.{stands_within}
 use Rattle.rmt_build.proofs.StandLaws.{entry_within, first_cell, part_cells, within_from, within_to}
-use Rattle.rmt_refine.proofs.MemberLaws.{Contains-item}
-use Rattle.rmt_bits.proofs.MemberLaws.{Contains-unmap, Contains-map}
+use Rattle.rmt_bits.proofs.MemberLaws.{Contains-unmap, Contains-map, Contains-item}
+use Rattle.rmt_build.proofs.MemoryLaws.{memory_cells}
+use Rattle.rmt_refine.proofs.RankLaws.{compare}
 
 -- ---- entries by rising number
 
@@ -37,21 +34,12 @@ rising_place es i j e f rise at_i at_j same = elim (compare i j) [
   ]
 ]
   where
-    compare : (a b : ℕ) → (a < b) ⊎ ((b < a) ⊎ (a ≡ b))
-    compare a b = grind arith
-
     before : (a b : ℕ) (x y : Entry) → a < b → slice_get es a ≡ Some x → slice_get es b ≡ Some y → x.number < y.number
     before a b x y lt at_a at_b =
         let r = rise a b x lt (slice_get_within es b y at_b) in
         let x_is = get_or_from_slice_get es a x x at_a in
         let y_is = get_or_from_slice_get es b y x at_b in
         subst (λ (z : Entry). z.number < y.number) x_is (subst (λ (z : Entry). (get_or es a x).number < z.number) y_is r)
-
-memory_size : (kind : Kind) (need : Need) (taken : Taken) → cells_in (memory_for kind need taken) ≡ cells_for kind need.format.per need.quanta
-memory_size Keyless need taken = refl
-memory_size Exact need taken = refl
-memory_size Prefix need taken = refl
-memory_size Ternary need taken = refl
 
 -- ---- what stands where
 
@@ -110,7 +98,7 @@ module _ (p : Program) (lists : List (List Entry)) (plan : Plan) (c : Config) (e
 
       pub part_size : cells_in slot.memory ≡ part_cells t.kind (format_at p n).per plan.placement.parts n k
       part_size =
-          ap cells_in slot_built.memory ∙ memory_size t.kind (need_in p plan.placement.parts t slot.node k) (taken_upto p plan.placement.parts k slot.node)
+          ap cells_in slot_built.memory ∙ memory_cells t.kind (need_in p plan.placement.parts t slot.node k) (taken_upto p plan.placement.parts k slot.node)
           ∙ ap (λ m. part_cells t.kind (format_at p m).per plan.placement.parts m k) part.node_is
 
       -- a stand of the part

@@ -2,8 +2,8 @@
 use Rattle.std.proofs.Common.{◌≡◌, ◌≢◌, ℕ, zero, suc, ◌<◌, List, [], ◌∷◌, Some, None, Bool, true, false, ◌&&◌, ◌||◌, length, get_or, map, refl, sym, ap, subst, ◌∙◌, arith}
 use Rattle.std.specs.Prelude.{All, Contains, Option, ◌==◌, not, nat_lt, bit_and, option_and_then, slice_get}
 use Rattle.std.specs.List.{flat_map, list_all}
-use Rattle.std.proofs.lemmas.Bool.{lt-ltb, eq-eqb, ne_eqb}
-use Rattle.std.proofs.lemmas.List.Elements.{All-head, All-tail, Contains-append_left, Contains-append_right}
+use Rattle.std.proofs.lemmas.Bool.{lt-ltb, eq-eqb, ne_eqb, and_from}
+use Rattle.std.proofs.lemmas.List.Elements.{Contains-append_left, Contains-append_right}
 use Rattle.std.proofs.lemmas.Option.{none-some, same_Some}
 use Rattle.rmt_build.specs.Types.{Program, Table, Stage, SramRow, TcamRow, Unit, SlotUnit, Memory}
 use Rattle.rmt_ast.specs.declared.entry.Entry.{Entry}
@@ -27,6 +27,7 @@ use Rattle.rmt_build.specs.Listing.{IsSramRow, IsTcamRow, ListsSram, ListsTcam}
 use Rattle.rmt_build.specs.Plans.{stands_of_part}
 use Rattle.rmt_build.specs.Written.{IsOutside, UnitsWritten}
 use Rattle.rmt_build.proofs.KeptLaws.{part-same}
+use Rattle.std.proofs.lemmas.List.Sums.{list_all-from_AllPass}
 
 -- what the rows of a stage hold
 abbrev pub own_held : Stage → Held
@@ -128,36 +129,29 @@ module _ (p : Program) (lists : List (List Entry)) (plan : Plan) (k : ℕ) (stag
       look true e = refl
       look false e = absurd (some (none (λ place u lt at has. not-listed b (flat_map blocks stage.units) e (in-flat blocks stage.units place u b at has))))
 
-  all-true : {X : Type 0} (test : X → Bool) (xs : List X) → All (λ x. test x ≡ true) xs → list_all test xs ≡ true
-  all-true test [] all = refl
-  all-true test (x ∷ xs) all = rw (All-head (λ y. test y ≡ true) x xs all) (all-true test xs (All-tail (λ y. test y ≡ true) x xs all))
-
-  and-true : (a b : Bool) → a ≡ true → b ≡ true → (a && b) ≡ true
-  and-true a b e f = ap (λ (x : Bool). x && b) e ∙ f
-
   not-zero : (x : ℕ) → x ≢ 0 → not (x == 0) ≡ true
   not-zero x ne = ap not (ne_eqb x 0 ne)
 
   srow-formed : (r : SramRow) → IsSramRow h.sram r → srow_is_formed stage.units r ≡ true
   srow-formed r is =
-      and-true (nat_lt r.row 1024 && is_listed r.block (flat_map sram_blocks stage.units)) (not (r.bits == 0))
-      (and-true (nat_lt r.row 1024) (is_listed r.block (flat_map sram_blocks stage.units)) (lt-ltb r.row 1024 is.row)
+      and_from (nat_lt r.row 1024 && is_listed r.block (flat_map sram_blocks stage.units)) (not (r.bits == 0))
+      (and_from (nat_lt r.row 1024) (is_listed r.block (flat_map sram_blocks stage.units)) (lt-ltb r.row 1024 is.row)
       (listed sram_blocks r.block r.bits is.some (λ out. is.there ∙ written.sram r.block r.row out)))
       (not-zero r.bits is.some)
 
   trow-formed : (r : TcamRow) → IsTcamRow h.values h.masks r → trow_is_formed stage.units r ≡ true
   trow-formed r is =
-      and-true (nat_lt r.row 2048 && is_listed r.block (flat_map tcam_blocks stage.units) && not (r.mask == 0)) (bit_and r.value r.mask == r.value)
-      (and-true (nat_lt r.row 2048 && is_listed r.block (flat_map tcam_blocks stage.units)) (not (r.mask == 0))
-      (and-true (nat_lt r.row 2048) (is_listed r.block (flat_map tcam_blocks stage.units)) (lt-ltb r.row 2048 is.row)
+      and_from (nat_lt r.row 2048 && is_listed r.block (flat_map tcam_blocks stage.units) && not (r.mask == 0)) (bit_and r.value r.mask == r.value)
+      (and_from (nat_lt r.row 2048 && is_listed r.block (flat_map tcam_blocks stage.units)) (not (r.mask == 0))
+      (and_from (nat_lt r.row 2048) (is_listed r.block (flat_map tcam_blocks stage.units)) (lt-ltb r.row 2048 is.row)
       (listed tcam_blocks r.block r.mask is.some (λ out. is.there ∙ written.masks r.block r.row out)))
       (not-zero r.mask is.some))
       (eq-eqb (bit_and r.value r.mask) r.value is.masked)
 
   pub rows-formed : rows_are_formed stage ≡ true
   rows-formed =
-      let srows = all-true (srow_is_formed stage.units) stage.srows (λ i d lt. srow-formed (get_or stage.srows i d) (sram.each i d lt)) in
-      let trows = all-true (trow_is_formed stage.units) stage.trows (λ i d lt. trow-formed (get_or stage.trows i d) (tcam.each i d lt)) in
-      and-true (list_all (srow_is_formed stage.units) stage.srows && rises_from 0 (map srow_number stage.srows) && list_all (trow_is_formed stage.units) stage.trows) (rises_from 0 (map trow_number stage.trows))
-      (and-true (list_all (srow_is_formed stage.units) stage.srows && rises_from 0 (map srow_number stage.srows)) (list_all (trow_is_formed stage.units) stage.trows)
-      (and-true (list_all (srow_is_formed stage.units) stage.srows) (rises_from 0 (map srow_number stage.srows)) srows sram.rise) trows) tcam.rise
+      let srows = list_all-from_AllPass (srow_is_formed stage.units) stage.srows (λ i d lt. srow-formed (get_or stage.srows i d) (sram.each i d lt)) in
+      let trows = list_all-from_AllPass (trow_is_formed stage.units) stage.trows (λ i d lt. trow-formed (get_or stage.trows i d) (tcam.each i d lt)) in
+      and_from (list_all (srow_is_formed stage.units) stage.srows && rises_from 0 (map srow_number stage.srows) && list_all (trow_is_formed stage.units) stage.trows) (rises_from 0 (map trow_number stage.trows))
+      (and_from (list_all (srow_is_formed stage.units) stage.srows && rises_from 0 (map srow_number stage.srows)) (list_all (trow_is_formed stage.units) stage.trows)
+      (and_from (list_all (srow_is_formed stage.units) stage.srows) (rises_from 0 (map srow_number stage.srows)) srows sram.rise) trows) tcam.rise

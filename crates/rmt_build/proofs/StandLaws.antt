@@ -2,7 +2,7 @@
 use Rattle.std.proofs.Common.{◌≡◌, ℕ, zero, suc, ◌+◌, ◌-◌, ◌<◌, ◌≤◌, ◌&&◌, ◌==◌, true, false, List, [], ◌∷◌, map, refl, sym, ap, ◌∙◌, subst, inl, inr, arith}
 use Rattle.std.specs.Prelude.{AllPairs, Contains, filter, nat_le, nat_lt}
 use Rattle.std.specs.List.{IsDistinct, range_with_len}
-use Rattle.std.proofs.lemmas.Bool.{and_parts, both_ways, cases_eq, cases_lt, eq-eqb, le-leb, leb-true, lt-ltb, ltb-true, ne_eqb}
+use Rattle.std.proofs.lemmas.Bool.{and_parts, both_ways, cases_lt, eq-eqb, le-leb, leb-true, lt-ltb, ltb-true, ne_eqb}
 use Rattle.std.proofs.lemmas.List.Elements.{All-from_recursion, All-contains}
 use Rattle.std.proofs.lemmas.List.Sorted.{All-permutation, Contains-permutation}
 use Rattle.std.proofs.lemmas.Map.Keys.{IsDistinct-IsPermutation, IsDistinct-from_apart, IsDistinct-head, IsDistinct-tail}
@@ -12,20 +12,15 @@ use Rattle.rmt_ast.specs.declared.program.Kind.TheVariants.{Keyless, Exact, Pref
 use Rattle.rmt_pack.specs.declared.placement.Part.{Part}
 use Rattle.rmt_pack.specs.Placements.{quanta_in}
 use Rattle.rmt_pack.proofs.BlockLaws.{range-apart}
-use Rattle.rmt_refine.proofs.FindLaws.{Contains-range, filter_keeps, filtered_there}
+use Rattle.rmt_refine.proofs.FindLaws.{Contains-range}
 use Rattle.rmt_build.specs.declared.stands.Stand.{Stand}
 use Rattle.rmt_build.specs.Plans.{quanta_before}
 use Rattle.rmt_build.specs.Standing.{StandOnce, cells_for, counted_from, stands_there, stands_within}
 use Rattle.rmt_build.proofs.PartLaws.{quanta_more}
-use Rattle.rmt_bits.proofs.MemberLaws.{Contains-unmap, Contains-map, Contains-split}
+use Rattle.rmt_bits.proofs.MemberLaws.{Contains-unmap, Contains-map, Contains-split, Contains-filter, Contains-unfilter}
+use Rattle.rmt_bits.proofs.OptionLaws.{eqb-sym}
 
 -- ---- each entry once
-
-flips : (x y : ℕ) → (x == y) ≡ (y == x)
-flips x y = elim (cases_eq x y) [
-  | inl e ↦ eq-eqb x y e ∙ sym (eq-eqb y x (sym e))
-  | inr ne ↦ ne_eqb x y ne ∙ sym (ne_eqb y x (λ e. ne (sym e)))
-]
 
 range_distinct : (n : ℕ) → IsDistinct (λ x y. x == y) (range_with_len 0 n)
 range_distinct n = IsDistinct-from_apart (λ x y. x == y) (range_with_len 0 n) (λ i j d lt inside. ne_eqb _ _ (range-apart 0 n i j d lt inside))
@@ -65,7 +60,7 @@ module _ (count : ℕ) (own : List Stand) (once : StandOnce count own) where
   pub one_stand : (a b : Stand) → Contains own a → Contains own b → a.entry ≡ b.entry → a ≡ b
   one_stand a b in_a in_b e =
       same_stand own a b
-      (IsDistinct-IsPermutation (λ x y. x == y) flips (range_with_len 0 count) (map (λ (s : Stand). s.entry) own) once.each (range_distinct count)) in_a in_b e
+      (IsDistinct-IsPermutation (λ x y. x == y) eqb-sym (range_with_len 0 count) (map (λ (s : Stand). s.entry) own) once.each (range_distinct count)) in_a in_b e
 
   -- two that stand in one cell are one
   pub one_cell : (a b : Stand) → Contains own a → Contains own b → a.cell ≡ b.cell → a ≡ b
@@ -101,7 +96,7 @@ pub within_from : (first cells : ℕ) (own : List Stand) (y : Stand) → Contain
 within_from first cells own y there =
     let found = Contains-unmap (counted_from first) (filter (stands_there first cells) own) y there in
     let s = found.0 in
-    let kept = filtered_there (stands_there first cells) own s found.1 in
+    let kept = Contains-unfilter (stands_there first cells) own s found.1 in
     let both = and_parts (nat_le first s.cell) (nat_lt s.cell (first + cells)) kept.1 in
     let low = leb-true first s.cell both.0 in
     let high = ltb-true s.cell (first + cells) both.1 in
@@ -114,7 +109,7 @@ within_to first cells own s cell there is lt =
     let low : nat_le first s.cell ≡ true = le-leb first s.cell (omega (arith, is)) in
     let high : nat_lt s.cell (first + cells) ≡ true = lt-ltb s.cell (first + cells) (omega (arith, is, lt)) in
     let both : stands_there first cells s ≡ true = ap (λ b. b && nat_lt s.cell (first + cells)) low ∙ high in
-    let own_there = Contains-map (counted_from first) (filter (stands_there first cells) own) s (filter_keeps (stands_there first cells) own s there both) in
+    let own_there = Contains-map (counted_from first) (filter (stands_there first cells) own) s (Contains-filter (stands_there first cells) own s there both) in
     let moved : s.cell - first ≡ cell = omega (arith, is) in
     subst (λ c. Contains (stands_within first cells own) (record { cell = c; entry = s.entry })) moved own_there
 

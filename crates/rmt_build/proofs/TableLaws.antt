@@ -20,7 +20,7 @@ use Rattle.rmt_refine.specs.declared.map.CellOf.{CellOf}
 use Rattle.rmt_refine.specs.Cells.{HoldsEntry, IsBefore, IsCandidate, IsSpotOf, IsTold, Spot, TableCellsCarried, first_code, tests_as_one}
 use Rattle.rmt_refine.specs.Units.{UnitsCarried, applied, nodes_in, table_at}
 use Rattle.rmt_refine.specs.View.{own_content, own_number, own_view, slot_of}
-use Rattle.rmt_refine.proofs.FindLaws.{Contains-range, find-passes, find-some}
+use Rattle.rmt_refine.proofs.FindLaws.{Contains-range, find-some, found_passes}
 use Rattle.rmt_refine.proofs.NodeLaws.{one_place}
 use Rattle.rmt_refine.proofs.PartLaws.{IsPart, and_from, part_of_spot, slot_of_part, spot_of_part, then_some, unit_of_part}
 use Rattle.rmt_build.specs.declared.memory.Need.{Need}
@@ -36,7 +36,8 @@ use Rattle.rmt_build.specs.Told.{cells_told}
 use Rattle.rmt_build.proofs.CellsLaws.{each_stands, no_cells, one_spot, part_in, stands_told, told_stands}
 use Rattle.rmt_build.proofs.SpotLaws.{StandsAt, listed_stands, part_size, slot_built, stand_there, stands_listed, there_stands}
 use Rattle.rmt_build.proofs.StandLaws.{behind_parts, first_cell, one_cell, part_cells}
-use Rattle.rmt_refine.proofs.MemberLaws.{Contains-item}
+use Rattle.rmt_bits.proofs.MemberLaws.{Contains-item}
+use Rattle.rmt_refine.proofs.RankLaws.{precedes_never, compare}
 
 -- ---- kinds and orders
 
@@ -49,9 +50,6 @@ IsExact Ternary = ⊥
 
 kinds_apart : (kind : Kind) → kind ≡ Exact → IsExact kind
 kinds_apart kind e = subst IsExact (sym e) tt
-
-compare : (x y : ℕ) → (x < y) ⊎ ((y < x) ⊎ (x ≡ y))
-compare x y = grind arith
 
 -- ---- contents
 
@@ -83,7 +81,7 @@ some_stand : (xs : List Stand) (cell : ℕ) → ((y : Stand) × Contains xs y ×
 some_stand xs cell = by (find (λ (y : Stand). y.cell == cell) xs) refl
   where
     by : (o : Option Stand) → find (λ (y : Stand). y.cell == cell) xs ≡ o → ((y : Stand) × Contains xs y × (y.cell ≡ cell)) ⊎ All (λ (y : Stand). y.cell ≢ cell) xs
-    by (Some y) e = let r = find-passes (λ (z : Stand). z.cell == cell) xs y e in inl (y, r.0, eqb-true y.cell cell r.1)
+    by (Some y) e = let r = found_passes (λ (z : Stand). z.cell == cell) xs y e in inl (y, r.0, eqb-true y.cell cell r.1)
     by None e =
         inr (λ k d lt same.
         (let there : Contains xs (get_or xs k d) = Contains-get_or xs k d lt in
@@ -104,15 +102,6 @@ never_behind Ternary e f first goes = elim (or_cases (nat_lt e.rank f.rank) ((e.
       let same = eqb-true e.rank f.rank q.0 in
       let lt = ltb-true e.number f.number q.1 in
       elim goes [ inl more ↦ omega (arith, same, more) | inr r ↦ (let n = r.1 in omega (arith, lt, n)) ])
-]
-
-never_itself : (kind : Kind) (e : Entry) → precedes kind e e ≡ true → ⊥
-never_itself Keyless e first = both_ways false refl first
-never_itself Exact e first = both_ways false refl first
-never_itself Prefix e first = let less = ltb-true e.rank e.rank first in omega (arith, less)
-never_itself Ternary e first = elim (or_cases (nat_lt e.rank e.rank) ((e.rank == e.rank) && nat_lt e.number e.number) first) [
-  | inl less ↦ (let lt = ltb-true e.rank e.rank less in omega (arith, lt))
-  | inr both ↦ (let lt = ltb-true e.number e.number (and_parts (e.rank == e.rank) (nat_lt e.number e.number) both).1 in omega (arith, lt))
 ]
 
 has_rows : (kind : Kind) (e f : Entry) → precedes kind e f ≡ true → HasRows kind
@@ -138,7 +127,7 @@ in_front kind es own e f s r order once in_s in_r at_s at_r first = elim (compar
         let r_is : get_or own in_r.0 s ≡ r = get_or_default own in_r.0 s r in_r.1 ∙ in_r.2 in
         let both : s ≡ r = sym in_s.2 ∙ ap (λ i. get_or own i s) same ∙ r_is in
         let entry : e ≡ f = same_Some e f (sym at_s ∙ ap (λ (x : Stand). slice_get es x.entry) both ∙ at_r) in
-        absurd (never_itself kind e (subst (λ (x : Entry). precedes kind e x ≡ true) (sym entry) first))
+        absurd (precedes_never kind e (subst (λ (x : Entry). precedes kind e x ≡ true) (sym entry) first))
   ]
 ]
 
@@ -235,7 +224,7 @@ module _ (p : Program) (lists : List (List Entry)) (plan : Plan) (c : Config) (c
     number_there e k place cell stage slot part s =
         let listed = stands_listed p lists plan c entries units stands built n k place stage slot part t es own table_is es_are own_is e cell s in
         let z = find-some (λ (x : CellNumber). x.cell == cell) slot.numbers (record { cell = cell; number = e.number }) listed (eq-eqb cell cell refl) in
-        let q = find-passes (λ (x : CellNumber). x.cell == cell) slot.numbers z.0 z.1 in
+        let q = found_passes (λ (x : CellNumber). x.cell == cell) slot.numbers z.0 z.1 in
         let at : z.0.cell ≡ cell = eqb-true z.0.cell cell q.1 in
         let r = listed_stands p lists plan c entries units stands built n k place stage slot part t es own table_is es_are own_is z.0 q.0 in
         let same = same_in_cell r.0 e k cell (subst (At r.0 k) at r.3) s in

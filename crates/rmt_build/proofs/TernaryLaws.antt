@@ -1,8 +1,8 @@
 -- Entries that are written into the rows of a ternary part, one after another.
-use Rattle.std.proofs.Common.{◌≡◌, ◌≢◌, ℕ, ◌+◌, ◌*◌, ◌/◌, ◌%◌, ◌^◌, ◌<◌, List, [], ◌∷◌, ◌++◌, Some, length, get_or, take, drop, refl, sym, ap, ◌∙◌, subst, arith, inl, inr}
+use Rattle.std.proofs.Common.{◌≡◌, ◌≢◌, ℕ, ◌+◌, ◌*◌, ◌/◌, ◌%◌, ◌^◌, ◌<◌, List, [], ◌∷◌, ◌++◌, Some, get_or, refl, sym, ap, ◌∙◌, subst, inl, inr}
 use Rattle.std.specs.Prelude.{All, AllPairs, Contains, slice_get}
 use Rattle.std.proofs.lemmas.Bool.{cases_eq}
-use Rattle.std.proofs.lemmas.List.{length-take, length-drop, get_or_default}
+use Rattle.std.proofs.lemmas.List.{get_or_default}
 use Rattle.std.proofs.lemmas.List.Elements.{All-nil, All-push, All-contains, Contains-push}
 use Rattle.std.proofs.lemmas.Nat.{div-add-mod', same_from_place}
 use Rattle.rmt_bits.proofs.AllLaws.{All-left}
@@ -21,12 +21,7 @@ use Rattle.rmt_pack.proofs.RunLaws.{unit_row-same}
 use Rattle.rmt_build.specs.declared.stands.Stand.{Stand}
 use Rattle.rmt_build.specs.Holding.{Held, PutsRow, TernaryHolds, TernarySo, data_for, head_for, mask_for, value_for}
 use Rattle.rmt_build.proofs.ExactLaws.{UnitsStay, record_ends-so, records_end-same, units-same}
-
-part-below : (many first i : ℕ) (xs : List ℕ) → i < length (take many (drop first xs)) → (i < many) × (first + i < length xs)
-part-below many first i xs li =
-    let e = length-take many (drop first xs) in
-    let f = length-drop first xs in
-    (omega (arith, li, e, f), omega (arith, li, e, f))
+use Rattle.rmt_bits.proofs.ListLaws.{part-below}
 
 -- another unit, or another row
 pub unit-other : (size : ℕ) (old new : Blocks) (bs : List ℕ) (each u row u' row' : ℕ) → AllPairs ◌≢◌ bs → ((b r : ℕ) → (r ≡ row → Contains (blocks_at bs each u) b → ⊥) → new b r ≡ old b r)

@@ -13,8 +13,7 @@ use Rattle.rmt_refine.specs.View.{as_slot, slot_of}
 use Rattle.rmt_refine.proofs.FindLaws.{Contains-range}
 use Rattle.rmt_refine.proofs.PartLaws.{slot_is_unit, then_some}
 use Rattle.rmt_build.specs.Told.{cell_told, cells_told, stages_told, unit_told}
-use Rattle.rmt_refine.proofs.MemberLaws.{Contains-flat_map, Contains-item, flat_from}
-use Rattle.rmt_bits.proofs.MemberLaws.{Contains-unmap, Contains-map}
+use Rattle.rmt_bits.proofs.MemberLaws.{Contains-unmap, Contains-map, Contains-item, Contains-flat_map, flat_from}
 
 -- a slot of node n lists a cell
 pub record IsListed (n first : ℕ) (stages : List Stage) (x : CellOf) : Type 0 where

@@ -1,5 +1,5 @@
 -- What is known of the entries of the nodes so far, under one seed.
-use Rattle.std.proofs.Common.{◌≡◌, ℕ, ◌+◌, ◌<◌, List, [], ◌∷◌, ◌++◌, Some, length, map, get_or, refl, sym, ap, ◌∙◌, subst, inl, inr, arith}
+use Rattle.std.proofs.Common.{◌≡◌, ℕ, ◌+◌, ◌<◌, List, [], ◌∷◌, ◌++◌, Some, length, map, get_or, sym, ap, ◌∙◌, subst, inl, inr, arith}
 use Rattle.std.specs.Prelude.{slice_get, unwrap_or}
 use Rattle.std.proofs.lemmas.Bool.{cases_lt}
 use Rattle.std.proofs.lemmas.List.{length-append, length-map}
@@ -9,7 +9,7 @@ use Rattle.rmt_bits.specs.Bits.{bytes_of}
 use Rattle.rmt_build.specs.Types.{Program, Table, Node}
 use Rattle.rmt_ast.specs.declared.program.Kind.TheVariants.{Exact}
 use Rattle.rmt_ast.specs.declared.entry.Entry.{Entry}
-use Rattle.rmt_ast.specs.EntryLists.{AreEntries, AreEntriesAt, AreTableEntries, terms_of}
+use Rattle.rmt_ast.specs.EntryLists.{AreEntries}
 use Rattle.rmt_ast.specs.State.{width_of}
 use Rattle.rmt_config.specs.Shapes.{divided_up}
 use Rattle.rmt_cuckoo.specs.Loading.{IsOverfull}
@@ -20,7 +20,6 @@ use Rattle.rmt_refine.specs.Outcomes.{entries_at}
 use Rattle.rmt_refine.specs.Units.{applied, table_at}
 use Rattle.rmt_refine.proofs.OutcomeLaws.{list_at}
 use Rattle.rmt_refine.proofs.PartLaws.{some_and, then_some}
-use Rattle.rmt_refine.proofs.TheLaw.{its_terms}
 use Rattle.rmt_build.specs.declared.stands.Stand.{Stand}
 use Rattle.rmt_build.specs.declared.loading.TableTried.{TableTried}
 use Rattle.rmt_build.specs.declared.loading.TableTried.TheVariants.{Overfull, Stand as Standing}
@@ -37,12 +36,6 @@ list_is p lists n xs es entries within same is =
     let list = list_at p lists n node.0 entries node.1 in
     is ∙ ap (λ ys. get_or ys n es) same ∙ get_or_from_slice_get lists n (entries_at lists n) es list.0
 
-pub own_entries : (p : Program) (lists : List (List Entry)) (n : ℕ) (t : Table) → AreEntries p lists → table_at p n ≡ Some t → AreTableEntries n (entries_at lists n) (terms_of p t)
-own_entries p lists n t entries at =
-    let node = then_some (λ (x : Node). applied p x.what) (slice_get p.nodes n) t at in
-    let list = list_at p lists n node.0 entries node.1 in
-    subst (AreEntriesAt n (entries_at lists n)) (its_terms p node.0.what t node.2) list.1
-
 pub tried_stands : (p : Program) (parts : List Part) (seed n : ℕ) (t : Table) (es : List Entry) → t.kind ≡ Exact → (tried : TableTried) → IsTried (layout_of p parts n) seed (keys_of p t es) tried
     → StandOrFull p parts seed n es (Some t) tried
 tried_stands p parts seed n t es exact (Standing own) h =
@@ -58,9 +51,6 @@ pub record LoadedUpto (p : Program) (lists : List (List Entry)) (parts : List Pa
   pub each : (n : ℕ) (es : List Entry) (own : List Stand) → slice_get lists n ≡ Some es → slice_get stands n ≡ Some own → StandAt p parts seed n es (table_at p n) own
 
 module _ (p : Program) (lists : List (List Entry)) (parts : List Part) (seed : ℕ) where
-  pub loaded_none : (stands : List (List Stand)) → stands ≡ [] → LoadedUpto p lists parts seed 0 stands
-  loaded_none stands none = subst (LoadedUpto p lists parts seed 0) (sym none) (record { count = refl; each = λ n es own at own_at. absurd (let lt = slice_get_within [] n own own_at in omega (arith, lt)) })
-
   entries_are : (n : ℕ) (es : List Entry) → slice_get lists n ≡ Some es → entries_at lists n ≡ es
   entries_are n es at = ap (λ o. unwrap_or o []) at
 
@@ -82,9 +72,6 @@ module _ (p : Program) (lists : List (List Entry)) (parts : List Part) (seed : �
           (subst (λ k. StandAt p parts seed k (entries_at lists k) (table_at p k) own) number here))
     ];
   }
-
-  pub all_loaded_at : (stands : List (List Stand)) → LoadedUpto p lists parts seed (length p.nodes) stands → AreAllLoaded p lists parts seed stands
-  all_loaded_at stands upto = record { all_there = upto.count; each = upto.each }
 
   -- every exact table before is loaded
   pub loaded_before : (m : ℕ) (stands : List (List Stand)) → LoadedUpto p lists parts seed m stands → AreLoadedBefore p lists parts seed m

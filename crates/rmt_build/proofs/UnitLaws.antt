@@ -1,9 +1,9 @@
 -- A unit that is made for a node is that of the node.
-use Rattle.std.proofs.Common.{◌≡◌, ℕ, ◌<◌, ◌≤◌, List, Some, None, refl, subst, sym, ap, ◌∙◌, arith}
+use Rattle.std.proofs.Common.{◌≡◌, ℕ, ◌<◌, ◌≤◌, List, Some, None, refl, sym, ap, ◌∙◌, arith}
 use Rattle.std.specs.Prelude.{IfSome, Option, slice_get, option_and_then}
 use Rattle.std.proofs.lemmas.Option.{none-some}
 use Rattle.rmt_bits.specs.declared.lane.Lane.{Lane}
-use Rattle.rmt_build.specs.Types.{Program, Test, Table, Kind, Node, Guard, What, GateUnit, SlotUnit}
+use Rattle.rmt_build.specs.Types.{Program, Table, Kind, Node, Guard, What, SlotUnit}
 use Rattle.rmt_ast.specs.WellFormed.{IsGuard}
 use Rattle.rmt_ast.specs.declared.program.What.TheVariants as what
 use Rattle.rmt_config.specs.declared.config.Unit.TheVariants as unit
@@ -12,7 +12,7 @@ use Rattle.rmt_ast.specs.declared.program.Kind.TheVariants.{Keyless, Exact, Pref
 use Rattle.rmt_build.specs.declared.memory.Need.{Need}
 use Rattle.rmt_build.specs.declared.memory.Taken.{Taken}
 use Rattle.rmt_build.specs.Memories.{memory_for}
-use Rattle.rmt_refine.specs.Units.{HasKind, TableCarried, UnitCarried, DoesAs, applied, guard_in, guard_of, table_at, tests_of}
+use Rattle.rmt_refine.specs.Units.{HasKind, TableCarried, UnitCarried, DoesAs, applied, guard_in, guard_of, table_at}
 use Rattle.rmt_refine.proofs.PartLaws.{and_from, then_some}
 
 -- the node that applies a table
@@ -32,10 +32,6 @@ node_applies p n t is =
     by_what node at (what.Apply i) does table = record { node = node; number = i; at = at; does = does; table = table }
     by_what node at (what.Gate field test) does table = absurd (none-some t table)
 
-pub applied_at : (p : Program) (n i : ℕ) (node : Node) (t : Table) → slice_get p.nodes n ≡ Some node → node.what ≡ what.Apply i → slice_get p.tables i ≡ Some t → table_at p n ≡ Some t
-applied_at p n i node t at does table =
-    ap (option_and_then (λ (x : Node). applied p x.what)) at ∙ (ap (applied p) does ∙ table)
-
 module _ (p : Program) (places : List (List Lane)) (parts : List Part) (k n : ℕ) where
   pub slot_carried : (t : Table) (s : SlotUnit) (node : Node) → table_at p n ≡ Some t → slice_get p.nodes n ≡ Some node → s.node ≡ n → s.guard ≡ guard_of node.guard
       → TableCarried places parts n k t s → UnitCarried p places parts k n (unit.Slot s)
@@ -49,15 +45,6 @@ module _ (p : Program) (places : List (List Lane)) (parts : List Part) (k n : �
       by_what : (w : What) → applied p w ≡ Some t → DoesAs p places parts k n w (unit.Slot s)
       by_what (what.Apply i) table = and_from (slice_get p.tables i) (λ (x : Table). TableCarried places parts n k x s) t table carried
       by_what (what.Gate field test) table = absurd (none-some t table)
-
-  pub gate_carried : (g : GateUnit) (node : Node) (field : ℕ) (test : Test) → slice_get p.nodes n ≡ Some node → node.what ≡ what.Gate field test → g.node ≡ n → g.guard ≡ guard_of node.guard
-      → g.tests ≡ tests_of places field test → UnitCarried p places parts k n (unit.Gate g)
-  gate_carried g node field test at does number guard tests = record {
-    number = number;
-    guard = and_from (slice_get p.nodes n) (λ (x : Node). guard_in (unit.Gate g) ≡ guard_of x.guard) node at guard;
-    does = and_from (slice_get p.nodes n) (λ (x : Node). DoesAs p places parts k n x.what (unit.Gate g)) node at
-        (subst (λ w. DoesAs p places parts k n w (unit.Gate g)) (sym does) tests);
-  }
 
 -- the parent of a node has a number of 8 bits
 pub guard_small : (n : ℕ) (g : Option Guard) → IsGuard n g → n ≤ 256 → IfSome g (λ (x : Guard). x.parent < 256)

@@ -25,14 +25,6 @@ below (y ∷ ys) zero x at = (omega arith, λ d. same_Some y x at)
 below (y ∷ ys) (suc i) x at = let more = below ys i x at in (let lt = more.0 in omega (arith, lt), more.1)
 
 module _ (p : Program) (lists : List (List Entry)) (plan : Plan) (k : ℕ) (units : List Unit) where
-  pub units-none : (h : Held) → ((b r : ℕ) → h.sram b r ≡ 0) → ((b r : ℕ) → h.values b r ≡ 0) → ((b r : ℕ) → h.masks b r ≡ 0) → UnitsWritten p lists plan k units 0 h
-  units-none h sram values masks = record {
-    slots = λ place slot lt at. absurd (omega (arith, lt));
-    sram = λ b r out. sram b r;
-    values = λ b r out. values b r;
-    masks = λ b r out. masks b r;
-  }
-
   -- a gate has no memory
   pub units-gate : (h : Held) (i : ℕ) (g : GateUnit) → slice_get units i ≡ Some (Gate g) → UnitsWritten p lists plan k units i h → UnitsWritten p lists plan k units (i + 1) h
   units-gate h i g at so = record {
@@ -47,6 +39,13 @@ module _ (p : Program) (lists : List (List Entry)) (plan : Plan) (k : ℕ) (unit
     where
       other : {g : GateUnit} {s : SlotUnit} → Gate g ≡ Slot s → ⊥
       other e = cc
+
+  -- a unit before a slot has no block of it
+  two_apart : (i : ℕ) (s : SlotUnit) → AllPairs UnitsApart units → slice_get units i ≡ Some (Slot s) → (place : ℕ) (u : Unit) → place < i → slice_get units place ≡ Some u → UnitsApart u (Slot s)
+  two_apart i s apart at place u less own =
+      let mine = below units i (Slot s) at in
+      let its = below units place u own in
+      subst (UnitsApart u) (mine.1 u) (subst (λ v. UnitsApart v (get_or units i u)) (its.1 u) (apart place i u less mine.0))
 
   -- one more slot
   pub units-slot : (old new : Held) (i : ℕ) (s : SlotUnit) → AllPairs UnitsApart units → slice_get units i ≡ Some (Slot s)
@@ -65,7 +64,7 @@ module _ (p : Program) (lists : List (List Entry)) (plan : Plan) (k : ℕ) (unit
       | inr ne ↦
           let less : place < i = omega (arith, lt, ne) in
           let was = so.slots place slot less own in
-          let two = two_apart place (Slot slot) less own in
+          let two = two_apart i s apart at place (Slot slot) less own in
           record {
             table = was.table;
             entries = was.entries;
@@ -79,12 +78,6 @@ module _ (p : Program) (lists : List (List Entry)) (plan : Plan) (k : ℕ) (unit
     values = λ b r out. values b r (out i (Slot s) (omega arith) at) ∙ so.values b r (λ place u lt own. out place u (omega (arith, lt)) own);
     masks = λ b r out. masks b r (out i (Slot s) (omega arith) at) ∙ so.masks b r (λ place u lt own. out place u (omega (arith, lt)) own);
   }
-    where
-      two_apart : (place : ℕ) (u : Unit) → place < i → slice_get units place ≡ Some u → UnitsApart u (Slot s)
-      two_apart place u less own =
-          let mine = below units i (Slot s) at in
-          let its = below units place u own in
-          subst (UnitsApart u) (mine.1 u) (subst (λ v. UnitsApart v (get_or units i u)) (its.1 u) (apart place i u less mine.0))
 
   -- the blocks of the next slot are 0
   pub units-zero : (h : Held) (i : ℕ) (s : SlotUnit) → AllPairs UnitsApart units → slice_get units i ≡ Some (Slot s) → UnitsWritten p lists plan k units i h
@@ -92,16 +85,10 @@ module _ (p : Program) (lists : List (List Entry)) (plan : Plan) (k : ℕ) (unit
       × ((b r : ℕ) → Contains (memory_tcam_blocks s.memory) b → h.values b r ≡ 0)
       × ((b r : ℕ) → Contains (memory_tcam_blocks s.memory) b → h.masks b r ≡ 0)
   units-zero h i s apart at so = (
-    λ b r has. so.sram b r (λ place u less own other. (two_apart place u less own).sram b other has),
-    λ b r has. so.values b r (λ place u less own other. (two_apart place u less own).tcam b other has),
-    λ b r has. so.masks b r (λ place u less own other. (two_apart place u less own).tcam b other has),
+    λ b r has. so.sram b r (λ place u less own other. (two_apart i s apart at place u less own).sram b other has),
+    λ b r has. so.values b r (λ place u less own other. (two_apart i s apart at place u less own).tcam b other has),
+    λ b r has. so.masks b r (λ place u less own other. (two_apart i s apart at place u less own).tcam b other has),
   )
-    where
-      two_apart : (place : ℕ) (u : Unit) → place < i → slice_get units place ≡ Some u → UnitsApart u (Slot s)
-      two_apart place u less own =
-          let mine = below units i (Slot s) at in
-          let its = below units place u own in
-          subst (UnitsApart u) (mine.1 u) (subst (λ v. UnitsApart v (get_or units i u)) (its.1 u) (apart place i u less mine.0))
 
 -- one unit more
 pub instructions-more : (units : List Unit) (i : ℕ) (u : Unit) → slice_get units i ≡ Some u → sum_by unit_instructions (take (i + 1) units) ≡ sum_by unit_instructions (take i units) + unit_instructions u

@@ -1,5 +1,5 @@
 -- Words that are written into a row of TCAM blocks.
-use Rattle.std.proofs.Common.{◌≡◌, ◌≢◌, ℕ, ◌+◌, ◌*◌, ◌/◌, ◌%◌, ◌^◌, ◌<◌, ◌≤◌, List, [], ◌∷◌, length, get_or, take, drop, map, refl, sym, ap, ◌∙◌, subst, arith, inl, inr}
+use Rattle.std.proofs.Common.{◌≡◌, ℕ, ◌+◌, ◌*◌, ◌/◌, ◌%◌, ◌^◌, ◌<◌, ◌≤◌, List, [], ◌∷◌, length, get_or, take, drop, map, refl, sym, ap, ◌∙◌, subst, arith, inl, inr, ◌≢◌}
 use Rattle.std.specs.Prelude.{All, AllPairs, bit_and, sum}
 use Rattle.std.specs.List.{AllZip}
 use Rattle.std.proofs.lemmas.Bool.{cases_eq, eq-eqb}
@@ -18,9 +18,6 @@ use Rattle.rmt_build.specs.Holding.{PutsRow}
 use Rattle.rmt_build.specs.Words.{IsMaskedWord, WordsSo}
 
 -- ---- one word after another
-
-pub words-none : (old : Blocks) (row : ℕ) (blocks : List ℕ) (first : ℕ) (words : List ℕ) → WordsSo old old row blocks first 0 words
-words-none old row blocks first words = record { written = λ k lt. absurd (omega (arith, lt)); others = λ b r out. refl }
 
 pub words-step : (old mid new : Blocks) (row : ℕ) (blocks : List ℕ) (first at : ℕ) (words : List ℕ) (x : ℕ) → AllPairs ◌≢◌ blocks → first + at < length blocks → get_or words at 0 ≡ x
     → new (get_or blocks (first + at) 0) row ≡ x → ((b r : ℕ) → (b ≡ get_or blocks (first + at) 0 → r ≡ row → ⊥) → new b r ≡ mid b r)
@@ -62,11 +59,6 @@ words-row old new row blocks first n words room fills so = record {
     long = part-length (length words) first blocks room
 
 -- ---- words of tests
-
-pub side-tests : (part : Test → ℕ) (ws : List ℕ) (ts : List Test) → side_by_side ws (map part ts) ≡ tests_as_one part ws ts
-side-tests part [] ts = refl
-side-tests part (w ∷ ws) [] = refl
-side-tests part (w ∷ ws) (t ∷ ts) = ap (λ n. part t * 2 ^ sum ws + n) (side-tests part ws ts)
 
 -- each word is masked where all are together
 pub words-masked : (words : List TcamWord) → All (λ w. w < 2 ^ 40) (map (λ (w : TcamWord). w.value) words) → All (λ w. w < 2 ^ 40) (map (λ (w : TcamWord). w.mask) words)
@@ -121,6 +113,5 @@ tests-row part side old new cell each blocks widths tests row long room fills so
     subst (λ k. WordsSo old new (cell % 2048) blocks first k words) (sym (length-map row side))
     (subst (λ k. WordsSo old new (cell % 2048) blocks (cell / 2048 * k) (length row) words) long so) in
     let fits : first + length words ≤ length blocks = omega (arith, as_many, room) in
-    let filled : FillsRow words (tests_as_one part widths tests) = subst (FillsRow words) (side-tests part widths tests) fills in
     subst (λ k. PutsRow old new (cell % 2048) (take k (drop first blocks)) (tests_as_one part widths tests)) as_many
-    (words-row old new (cell % 2048) blocks first (tests_as_one part widths tests) words fits filled here)
+    (words-row old new (cell % 2048) blocks first (tests_as_one part widths tests) words fits fills here)

@@ -8,8 +8,8 @@ ghost use Rattle.rmt_ast.specs.Places.{lanes_of};
 ghost use Rattle.rmt_ast.specs.State.{width_of};
 ghost use Rattle.rmt_ast.specs.WellFormed.{IsProgram};
 ghost use Rattle.rmt_config.specs.LaneForm.{bits_of_lanes};
-ghost use Rattle.rmt_phv.specs.Places.{KeepsApart};
-ghost use Rattle.rmt_refine.specs.Places.{high_first as high_first_of, StandsIn, HeaderCarried};
+ghost use Rattle.rmt_phv.specs.Places.{KeepsApart, high_first as high_first_of};
+ghost use Rattle.rmt_refine.specs.Places.{StandsIn, HeaderCarried};
 ghost use Rattle.rmt_refine.specs.Units.{tests_from, tests_of};
 
 use rmt_ast::program::{Header, Program, Test};

@@ -2,7 +2,7 @@
 use Rattle.std.proofs.Common.{◌≡◌, ℕ, zero, suc, ◌+◌, ◌<◌, ◌≤◌, Bool, true, false, cond, eqb, List, [], ◌∷◌, ◌++◌, length, get_or, take, refl, sym, ap, ◌∙◌, append_assoc, arith}
 use Rattle.std.proofs.lemmas.List.{length-append, length-take, append-nil}
 use Rattle.rmt_bits.specs.Bits.{bytes_of}
-use Rattle.rmt_chip.proofs.RunLaws.{length-bytes_of}
+use Rattle.rmt_bits.proofs.ByteLaws.{length-bytes_of}
 use Rattle.rmt_chip.specs.Types.{OutHeader}
 use Rattle.rmt_config.specs.Life.{Words, lane_of, key_of}
 use Rattle.rmt_config.specs.ChipRun.{header_bytes}

@@ -9,7 +9,7 @@ use Rattle.std.proofs.lemmas.Option.{slice_get-get_or, slice_get-map}
 use Rattle.rmt_bits.specs.Bits.{bytes_of, number_of}
 use Rattle.rmt_bits.specs.Hash.{hash_row}
 use Rattle.rmt_bits.proofs.BitLaws.{slice-lt}
-use Rattle.rmt_bits.proofs.ByteLaws.{AreBytes, bytes_of-number_of}
+use Rattle.rmt_bits.proofs.ByteLaws.{AreBytes, bytes_of-number_of, number_of-bytes_of}
 use Rattle.rmt_chip.specs.Types.{Stage, TcamRow, SlotUnit, CellNumber, Memory}
 use Rattle.rmt_config.specs.declared.config.Memory.TheVariants.{Without, Exact, Ternary}
 use Rattle.rmt_config.specs.LaneForm.{bits_of_lanes}
@@ -35,7 +35,7 @@ use Rattle.rmt_chip.specs.Memories.{SlotFormed, Lays, ExactLays, KeysLay, Places
 use Rattle.rmt_chip.proofs.WordLaws.{key-words, wider, masked-words, same-words}
 use Rattle.rmt_chip.proofs.BestLaws.{HasAt, best-first}
 use Rattle.rmt_chip.proofs.RowLaws.{mul-more}
-use Rattle.rmt_chip.proofs.RunLaws.{run-is, number_of-bytes_of}
+use Rattle.rmt_chip.proofs.RunLaws.{run-is}
 use Rattle.rmt_chip.proofs.RangeLaws.{cell_at, nowhere, range-find, find-parts_none, find-parts_some}
 use Rattle.rmt_chip.proofs.CellLaws.{cells-rise, cell-below, cell-seen, found-listed, has-same, same-has}
 

@@ -1,29 +1,14 @@
 -- Runs of bytes by listed cell.
-use Rattle.std.proofs.Common.{◌≡◌, ℕ, zero, suc, ◌+◌, ◌*◌, ◌/◌, ◌%◌, ◌^◌, ◌<◌, List, [], ◌∷◌, ◌++◌, length, get_or, take, drop, sym, refl, ap, ◌∙◌, subst, append-nil, add-one, arith}
+use Rattle.std.proofs.Common.{◌≡◌, ℕ, zero, suc, ◌+◌, ◌*◌, ◌<◌, List, [], ◌∷◌, ◌++◌, length, get_or, take, drop, sym, refl, ap, ◌∙◌, append-nil, arith}
 use Rattle.std.specs.Prelude.{All}
 use Rattle.std.proofs.lemmas.List.Elements.{All-head, All-tail}
-use Rattle.std.proofs.lemmas.List.{length-append, length_push, take_more}
+use Rattle.std.proofs.lemmas.List.{length-append, take_more}
 use Rattle.std.proofs.lemmas.Grind.{flat_map-append}
 use Rattle.std.proofs.Math.Seq.{take-append_seam, drop-append-add}
-use Rattle.std.proofs.lemmas.Nat.{div-add-mod', div_below, pow-add}
-use Rattle.rmt_bits.specs.Bits.{bytes_of, number_of}
-use Rattle.rmt_bits.proofs.ByteLaws.{number_of_push}
+use Rattle.rmt_bits.specs.Bits.{bytes_of}
+use Rattle.rmt_bits.proofs.ByteLaws.{length-bytes_of}
 use Rattle.rmt_chip.specs.Types.{CellNumber}
 use Rattle.rmt_chip.specs.Laying.{runs_of}
-
-pub length-bytes_of : (count n : ℕ) → length (bytes_of count n) ≡ count
-length-bytes_of zero n = refl
-length-bytes_of (suc count) n = length_push (bytes_of count (n / 256)) (n % 256) ∙ ap (λ m. m + 1) (length-bytes_of count (n / 256)) ∙ add-one count
-
--- a number is that of its bytes
-pub number_of-bytes_of : (count n : ℕ) → n < 2 ^ (8 * count) → number_of (bytes_of count n) ≡ n
-number_of-bytes_of zero n lt = let e : 8 * 0 ≡ 0 = omega arith in let one : n < 1 = subst (λ m. n < 2 ^ m) e lt in omega (arith, one)
-number_of-bytes_of (suc count) n lt =
-    let e : 8 * suc count ≡ 8 * count + 8 = omega arith in
-    let wide : n < 2 ^ (8 * count) * 256 = subst (λ m. n < m) (ap (λ m. 2 ^ m) e ∙ pow-add 2 (8 * count) 8) lt in
-    let high : n / 256 < 2 ^ (8 * count) = div_below n 256 (2 ^ (8 * count)) (omega arith) wide in
-    let whole : n / 256 * 256 + n % 256 ≡ n = div-add-mod' n 256 in
-    number_of_push (bytes_of count (n / 256)) (n % 256) ∙ ap (λ m. 256 * m + n % 256) (number_of-bytes_of count (n / 256) high) ∙ omega (arith, whole)
 
 module _ (size : ℕ) (value : ℕ → ℕ) where
   pub length-runs : (numbers : List CellNumber) → length (runs_of size value numbers) ≡ length numbers * size

@@ -1,12 +1,12 @@
 -- The layouts of exact and ternary parts, and their cells.
 use Rattle.std.proofs.Common.{◌≡◌, ℕ, ◌+◌, ◌-◌, ◌*◌, ◌/◌, ◌%◌, ◌^◌, ◌<◌, ◌≤◌, List, sym, ap, ◌∙◌, subst, arith}
 use Rattle.std.proofs.lemmas.Nat.{div-add-mod', mul-le, div-mul-add, mod-mul-add, mod_below, div_below, le-div}
-use Rattle.std.proofs.Math.Nat.{div-one, mod-eq_of_lt}
 use Rattle.rmt_bits.specs.Bits.{slice}
 use Rattle.rmt_config.specs.Shapes.{divided_up, record_width, records_a_row, record_units}
 use Rattle.rmt_config.specs.Cells.{Blocks, unit_row, blocks_at, Cell, cell_of, local_index, entry_at, data_at, row_record, row_key}
 use Rattle.rmt_config.specs.Layouts.{quantum_of, local_of, entry_in, IsLayout, exact_keys, exact_records, ternary_keys, ternary_records}
 use Rattle.rmt_config.proofs.CellPlaces.{mod-rows, div-rows, mod-div_rows, mod-mod_rows, three-high, three-middle}
+use Rattle.rmt_bits.proofs.BitLaws.{slice-whole}
 
 -- ---- quotients rounded up
 
@@ -232,7 +232,7 @@ ternary-key tcam ks d bits n lt ends =
     let x = row_key tcam ks bits n in
     let one : 1 * bits ≡ bits = omega arith in
     let within : x < 2 ^ bits = subst (λ m. x < 2 ^ m) one (ends (n / 2048) (n % 2048)) in
-    let whole : slice x 0 bits ≡ x = all-bits x bits within in
+    let whole : slice x 0 bits ≡ x = slice-whole x bits within in
     let small : n % 2048 < 2048 = mod_below n 2048 (omega arith) in
     let e1 : n % 2048 ≡ n % 2048 % (2048 * 1) / 1 = plain (n % 2048) small in
     let e2 : n / 2048 ≡ n / 2048 * 1 + n % 2048 / (2048 * 1) = omega (arith, small) in
@@ -243,9 +243,6 @@ ternary-key tcam ks d bits n lt ends =
     ∙ ap (λ s. slice (unit_row 40 tcam (n % 2048 % (2048 * 1) / 1) (blocks_at ks (divided_up bits 40) (n / 2048 * 1 + n % 2048 / (2048 * 1)))) s bits) e3
     ∙ ap (λ u. entry_in l tcam ks u (n % 2048)) (sym (quotient-low d n lt)) ∙ ap (entry_in l tcam ks (quantum_of l n)) (sym (local-low d n lt))
   where
-    all-bits : (x m : ℕ) → x < 2 ^ m → slice x 0 m ≡ x
-    all-bits x m h = ap (λ n. n % 2 ^ m) (div-one x) ∙ mod-eq_of_lt h
-
     plain : (m : ℕ) → m < 2048 → m ≡ m % (2048 * 1) / 1
     plain m h = omega (arith, h)
 

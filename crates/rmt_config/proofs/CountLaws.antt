@@ -15,6 +15,7 @@ use Rattle.rmt_config.specs.Cells.{Found}
 use Rattle.rmt_config.specs.Parser.{Parse, Short, Reject, Accept, parse, put}
 use Rattle.rmt_config.specs.Life.{Look, Words, Life, Acts, Counted, slot_acts, looked_up, unit_acts, through, through_from, life_of, runs}
 use Rattle.rmt_config.specs.ChipRun.{Outcome, outcome_from, outcome_of, own_look, latency_of, inputs_of, hits_before, hits_in, counted_numbers, chip_counts_of}
+use Rattle.rmt_bits.proofs.AllLaws.{All-reverse}
 
 -- all counts are made below an age
 abbrev pub AreBelow : ℕ → List Counted → Type 0

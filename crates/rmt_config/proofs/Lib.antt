@@ -38,3 +38,4 @@ pub mod RunInputLaws
 pub mod ExamplesCommits
 pub mod ExamplesCommitRuns
 pub mod CommitLaws
+pub mod HeldLaws

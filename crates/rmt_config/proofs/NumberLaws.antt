@@ -1,21 +1,19 @@
 -- Numbers in order do not repeat exactly where the list from which they were sorted has no number twice.
-use Rattle.std.proofs.Common.{◌≡◌, ℕ, ◌+◌, ◌≤◌, List, [], ◌∷◌, true, false, not, eqb, leb, refl, sym, ◌∙◌, arith, inl, inr}
+use Rattle.std.proofs.Common.{◌≡◌, ℕ, ◌+◌, ◌≤◌, List, [], ◌∷◌, true, false, not, eqb, leb, refl, arith}
 use Rattle.std.specs.List.{AllByRecursion, list_any, IsDistinct}
 use Rattle.std.specs.List.Sorted.{IsPermutation, IsSorted}
 use Rattle.std.specs.Ordering.{nat_cmp}
-use Rattle.std.proofs.lemmas.Bool.{and_parts, cases_eq, and_from, not-true, not_from_false, or_from, or_parts, ne_eqb, leb-true}
+use Rattle.std.proofs.lemmas.Bool.{and_parts, and_from, not-true, not_from_false, or_from, or_parts, ne_eqb, leb-true}
 use Rattle.std.proofs.lemmas.Bool.Decides.{same_from_decides}
 use Rattle.std.proofs.lemmas.List.Sorted.{IsNonDecreasingBy-from_sort, IsPermutation-sym}
 use Rattle.std.proofs.lemmas.Map.Keys.{IsDistinct-head, IsDistinct-tail, IsDistinct-cons, IsDistinct-IsPermutation, IsStrictlyIncreasing-from_distinct}
 use Rattle.rmt_config.specs.Order.{are_new, rises_from}
 use Rattle.rmt_config.proofs.RiseLaws.{increasing_rises}
+use Rattle.rmt_bits.proofs.OptionLaws.{eqb-sym}
 
 distinct_none : IsDistinct eqb []
 unfolding IsDistinct
 distinct_none = tt
-
-flips : (x y : ℕ) → eqb x y ≡ eqb y x
-flips x y = elim (cases_eq x y) [ inl e ↦ rw (e) refl | inr ne ↦ ne_eqb x y ne ∙ sym (ne_eqb y x (λ e. ne (sym e))) ]
 
 -- none of the numbers seen is among these
 abbrev IsClear : List ℕ → List ℕ → Type 0
@@ -71,7 +69,7 @@ rises_apart least (n ∷ ns) e =
 pub rise_from_sort : (xs ys : List ℕ) → IsPermutation xs ys → IsSorted nat_cmp ys → rises_from 0 ys ≡ are_new [] xs
 rise_from_sort xs ys moved sorted =
     same_from_decides (rises_from 0 ys) (are_new [] xs) (
-      (λ e. IsDistinct-IsPermutation eqb flips ys xs (IsPermutation-sym xs ys moved) (rises_apart 0 ys e).1),
-      (λ d. increasing_rises 0 ys (λ lt. omega arith) (IsStrictlyIncreasing-from_distinct ys (IsNonDecreasingBy-from_sort (λ x. x) ys sorted) (IsDistinct-IsPermutation eqb flips xs ys moved d))),
+      (λ e. IsDistinct-IsPermutation eqb eqb-sym ys xs (IsPermutation-sym xs ys moved) (rises_apart 0 ys e).1),
+      (λ d. increasing_rises 0 ys (λ lt. omega arith) (IsStrictlyIncreasing-from_distinct ys (IsNonDecreasingBy-from_sort (λ x. x) ys sorted) (IsDistinct-IsPermutation eqb eqb-sym xs ys moved d))),
     )
     ((λ e. (distinct_from [] xs e).1), (λ d. new_from [] xs tt d))

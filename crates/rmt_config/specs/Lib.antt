@@ -30,3 +30,4 @@ pub mod RunCells
 pub mod RunInputs
 pub mod Rooms
 pub mod Commits
+pub mod Effects

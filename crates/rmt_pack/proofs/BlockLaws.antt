@@ -1,5 +1,5 @@
 -- Lists of blocks that differ, and entries in the rows of their units.
-use Rattle.std.proofs.Common.{◌≡◌, ◌≢◌, ℕ, ◌∷◌, suc, zero, ◌+◌, ◌*◌, ◌^◌, ◌<◌, ◌≤◌, List, ◌++◌, length, get_or, take, drop, sym, ap, ◌∙◌, subst, arith, inl, inr, [], refl, ◌/◌, ◌%◌}
+use Rattle.std.proofs.Common.{◌≡◌, ◌≢◌, ℕ, ◌∷◌, suc, zero, ◌+◌, ◌*◌, ◌^◌, ◌<◌, ◌≤◌, List, ◌++◌, length, get_or, take, drop, sym, ap, ◌∙◌, subst, arith, inl, inr, [], refl, ◌/◌, ◌%◌, map, true}
 use Rattle.std.specs.Prelude.{All, AllPairs}
 use Rattle.std.specs.List.{range_with_len}
 use Rattle.std.proofs.lemmas.Bool.{cases_eq, cases_order}
@@ -13,6 +13,7 @@ use Rattle.rmt_pack.specs.Cells.{PutsBits}
 use Rattle.rmt_pack.proofs.RunLaws.{unit_row-same}
 use Rattle.std.proofs.Math.Nat.{mod-eq_of_lt}
 use Rattle.rmt_config.specs.CellForm.{EndsAt}
+use Rattle.rmt_bits.proofs.ListLaws.{part-below}
 
 -- ---- items of a list that differ
 
@@ -35,12 +36,6 @@ apart-both xs ys i j apart li lj e =
 
 pub part-length : (many first : ℕ) (xs : List ℕ) → first + many ≤ length xs → length (take many (drop first xs)) ≡ many
 part-length many first xs within = omega (arith, length-take many (drop first xs), length-drop first xs)
-
-part-below : (many first i : ℕ) (xs : List ℕ) → i < length (take many (drop first xs)) → (i < many) × (first + i < length xs)
-part-below many first i xs li =
-    let e = length-take many (drop first xs) in
-    let f = length-drop first xs in
-    (omega (arith, li, e, f), omega (arith, li, e, f))
 
 pub part-item : (many first i d : ℕ) (xs : List ℕ) → i < length (take many (drop first xs)) → get_or (take many (drop first xs)) i d ≡ get_or xs (first + i) d
 part-item many first i d xs li = get_or-take many (drop first xs) i d (part-below many first i xs li).0 ∙ get_or-drop first xs i d

@@ -4,12 +4,12 @@ use Rattle.std.specs.Prelude.{AllPairs}
 use Rattle.std.specs.Int.{bit_at}
 use Rattle.std.proofs.lemmas.Bool.{cases_order}
 use Rattle.std.proofs.lemmas.List.{get_or_default}
-use Rattle.std.proofs.lemmas.Nat.{pow_pos, pow-add, shr-shr, shr_split, shr_below, shr_high, mod_low}
+use Rattle.std.proofs.lemmas.Nat.{shr-shr, shr_split, shr_below, mod_low}
 use Rattle.std.proofs.lemmas.Nat.Bits.{same_from_bits_below}
 use Rattle.std.proofs.Math.Nat.{mod-eq_of_lt}
 use Rattle.rmt_bits.specs.Bits.{slice, deposit, number_of}
-use Rattle.rmt_bits.proofs.BitLaws.{slice-lt, mod-from_low, deposit-add}
-use Rattle.rmt_bits.proofs.ByteLaws.{deposit-raised}
+use Rattle.rmt_bits.proofs.BitLaws.{slice-lt, mod-from_low, deposit-add, slice-slice, deposit-multiple}
+use Rattle.rmt_bits.proofs.ByteLaws.{deposit-raised, deposit_none}
 use Rattle.rmt_config.specs.Cells.{Blocks, unit_row}
 use Rattle.rmt_config.proofs.UnitBits.{Within, unit_bit, slice-bit}
 use Rattle.rmt_pack.specs.Cells.{PutsBits}
@@ -27,14 +27,6 @@ deposit-low_part f b m s t x hb within =
     let whole_n = shr_split n (s + t) in
     let whole_b = shr_split b (s + t) in
     omega (arith, one, least, whole_n, whole_b)
-
--- a slice of a slice
-pub slice-slice : (x low len a b : ℕ) → a + b ≤ len → slice (slice x low len) a b ≡ slice x (low + a) b
-slice-slice x low len a b within =
-    same_from_bits_below b (slice (slice x low len) a b) (slice x (low + a) b) (slice-lt (slice x low len) a b) (slice-lt x (low + a) b)
-    (λ i li.
-    let at : low + (a + i) ≡ low + a + i = omega arith in
-    slice-bit (slice x low len) a b i li ∙ slice-bit x low len (a + i) (omega (arith, li, within)) ∙ ap (bit_at x) at ∙ sym (slice-bit x (low + a) b i li))
 
 -- the highest bits of a number and those below them
 pub number-more : (x left l : ℕ) → l ≤ left → x / 2 ^ left * 2 ^ l + slice x (left - l) l ≡ x / 2 ^ (left - l)
@@ -136,19 +128,6 @@ puts-more old mid new row blocks low len left o t l x w apart lo fits place le w
         ])
 
 -- ---- a run is read from its highest bits on
-
-deposit-multiple : (q m l v : ℕ) → deposit (q * 2 ^ (m + l)) m l v ≡ (q * 2 ^ l + v) * 2 ^ m
-deposit-multiple q m l v =
-    let high : (q * 2 ^ (m + l) + 0) / 2 ^ (m + l) ≡ q = shr_high q (m + l) 0 (pow_pos (m + l)) in
-    let split : q * 2 ^ (m + l) + 0 ≡ q * 2 ^ l * 2 ^ m + 0 = rw (pow-add 2 m l) (omega arith) in
-    let low : (q * 2 ^ (m + l) + 0) % 2 ^ m ≡ 0 = ap (λ n. n % 2 ^ m) split ∙ mod_low (q * 2 ^ l) m 0 (pow_pos m) in
-    let none : q * 2 ^ (m + l) + 0 ≡ q * 2 ^ (m + l) = omega arith in
-    let high' : q * 2 ^ (m + l) / 2 ^ (m + l) ≡ q = ap (λ n. n / 2 ^ (m + l)) (sym none) ∙ high in
-    let low' : q * 2 ^ (m + l) % 2 ^ m ≡ 0 = ap (λ n. n % 2 ^ m) (sym none) ∙ low in
-    rw (high', low') (let e : q * 2 ^ (m + l) ≡ q * 2 ^ l * 2 ^ m = sym none ∙ split ∙ plain (q * 2 ^ l * 2 ^ m) in omega (arith, e))
-  where
-    plain : (n : ℕ) → n + 0 ≡ n
-    plain n = omega arith
 
 -- the number that bytes hold whose lowest left bits are not read yet
 pub read-more : (held : Blocks) (row : ℕ) (blocks : List ℕ) (low len left o t l v was new : ℕ) → Within 112 held → o < length blocks

@@ -5,3 +5,4 @@ pub mod StandingLaws
 pub mod Packed
 pub mod PackingLaws
 pub mod FieldCount
+pub mod LaneLaws

@@ -1,5 +1,5 @@
 -- What places keep.
-use Rattle.std.specs.Prelude.{◌≡◌, ◌≢◌, ◌⊎◌, ℕ, ◌+◌, ◌<◌, ◌≤◌, List, map, All, AllPairs, Contains}
+use Rattle.std.specs.Prelude.{◌≡◌, ◌≢◌, ◌⊎◌, ℕ, ◌+◌, ◌<◌, ◌≤◌, List, map, All, AllPairs, Contains, reverse}
 use Rattle.std.specs.List.{flat_map}
 use Rattle.rmt_bits.specs.Words.{word_size}
 use Rattle.rmt_bits.specs.declared.lane.Lane.{Lane}
@@ -20,6 +20,10 @@ pub record LiesInWord (l : Lane) : Type 0 where
 -- the lengths of each field's lanes
 abbrev pub lengths_of : List (List Lane) → List (List ℕ)
 lengths_of places = map (λ (ls : List Lane). map (λ (l : Lane). l.len) ls) places
+
+-- the lanes of some fields, highest bits first
+abbrev pub high_first : List (List Lane) → List ℕ → List Lane
+high_first places fields = flat_map (λ f. reverse (lanes_of places f)) fields
 
 -- two lanes have no bit in common
 abbrev pub AreApart : Lane → Lane → Type 0

@@ -1,22 +1,16 @@
 -- Fields one after another.
-use Rattle.std.proofs.Common.{◌≡◌, ℕ, ◌+◌, ◌*◌, ◌/◌, ◌%◌, ◌^◌, ◌<◌, ◌≤◌, nat_lt, true, false, List, length, map, drop, ◌⊎◌, inl, inr, ⊎_elim, Option, Some, None, refl, ap, ◌∙◌, arith}
+use Rattle.std.proofs.Common.{◌≡◌, ℕ, ◌+◌, ◌*◌, ◌/◌, ◌%◌, ◌^◌, ◌<◌, ◌≤◌, nat_lt, true, false, List, length, drop, ◌⊎◌, inl, inr, ⊎_elim, Option, Some, None, refl, ap, ◌∙◌, arith}
 use Rattle.std.specs.Prelude.{slice_get, slice_index, option_map, unwrap_or}
 use Rattle.std.proofs.lemmas.List.{at_drop_more, get_or_past}
 use Rattle.std.proofs.lemmas.Bool.{ltb-true, ltb-false}
 use Rattle.std.proofs.lemmas.Nat.{pow_pos}
 use Rattle.std.proofs.Math.Nat.{div-one, mod-eq_of_lt}
-use Rattle.std.proofs.lemmas.List.Sums.{sum_by-cons}
 use Rattle.rmt_bits.proofs.AllLaws.{All-slice_get}
 use Rattle.rmt_ast.specs.declared.program.Program.{Program}
 use Rattle.rmt_ast.specs.declared.program.Field.{Field}
 use Rattle.rmt_ast.specs.State.{IsState, width_of, joined}
 use Rattle.rmt_ast.specs.WellFormed.{bits_of}
 use Rattle.rmt_plain.specs.Runnable.{IsRunnable}
-
--- the bits of the fields from one on are its own and those of the others
-pub bits_of-drop : (p : Program) (fields : List ℕ) (i : ℕ) → i < length fields → bits_of p (drop i fields) ≡ width_of p (slice_index fields i) + bits_of p (drop (i + 1) fields)
-bits_of-drop p fields i h =
-    at_drop_more (bits_of p) fields i 0 h ∙ sum_by-cons (λ (n : ℕ). n) (width_of p (slice_index fields i)) (map (width_of p) (drop (i + 1) fields))
 
 -- the first of the fields from one on is highest
 pub joined-drop : (p : Program) (fields s : List ℕ) (i : ℕ) → i < length fields

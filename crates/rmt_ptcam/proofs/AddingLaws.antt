@@ -12,6 +12,7 @@ use Rattle.rmt_ptcam.specs.Adding.{Adds}
 use Rattle.rmt_ptcam.proofs.JoinFacts.{rows_in_entries}
 use Rattle.rmt_ptcam.specs.Joining.{Row, entries_in, joined_row, numbered, parser_of, rows_in, rows_of, tails_in, widened, widened_entry}
 use Rattle.rmt_ptcam.proofs.FormedRows.{entries_of_rows, row_at}
+use Rattle.rmt_bits.proofs.ListLaws.{take-slice_get}
 
 pub tails_in-append : (n : ℕ) (xs ys : List Row) → tails_in n (xs ++ ys) ≡ tails_in n xs ++ tails_in (n + length xs) ys
 tails_in-append n [] ys = let e : n ≡ n + 0 = omega arith in ap (λ k. tails_in k ys) e
@@ -23,9 +24,6 @@ tails_in-append n (x ∷ xs) ys =
 
 abbrev entry_of_row : Row → ParserEntry
 entry_of_row x = x.entry
-
-pub adds_none : (es : List ParserEntry) (ts : List TailOf) → Adds [] es es ts ts
-adds_none es ts = record { entries = sym (append-nil es); tails = sym (append-nil ts) }
 
 -- rows behind rows
 pub adds_more : (xs ys : List Row) (es fs gs : List ParserEntry) (ts us vs : List TailOf) → Adds xs es fs ts us → Adds ys fs gs us vs → Adds (xs ++ ys) es gs ts vs
@@ -39,11 +37,6 @@ adds_more xs ys es fs gs ts us vs one two = record {
 
 pub length_added : (xs : List Row) (es fs : List ParserEntry) (ts us : List TailOf) → Adds xs es fs ts us → length fs ≡ length es + length xs
 length_added xs es fs ts us one = ap length one.entries ∙ length-append es (map entry_of_row xs) ∙ ap (λ k. length es + k) (length-map xs entry_of_row)
-
-pub take_next : {X : Type 0} (xs : List X) (i : ℕ) (x : X) → slice_get xs i ≡ Some x → take (i + 1) xs ≡ take i xs ++ x ∷ []
-take_next [] i x is = absurd cc
-take_next (y ∷ ys) zero x is = ap (λ z. z ∷ []) (same_Some y x is)
-take_next (y ∷ ys) (suc i) x is = let e : suc i + 1 ≡ suc (i + 1) = omega arith in ap (λ n. take n (y ∷ ys)) e ∙ ap (λ zs. y ∷ zs) (take_next ys i x is)
 
 pub get_drop : {X : Type 0} (xs : List X) (i j k : ℕ) → i + j ≡ k → slice_get (drop i xs) j ≡ slice_get xs k
 get_drop xs zero j k e = let same : j ≡ k = omega (arith, e) in ap (slice_get xs) same
@@ -66,14 +59,14 @@ module _ (es fs gs : List ParserEntry) (ts us vs : List TailOf) where
       let one : next ≡ number - start + 1 = omega (arith, order, is_next) in
       let more : map change (take next (drop start rows)) ≡ map change (take (number - start) (drop start rows)) ++ y ∷ [] =
       ap (λ n. map change (take n (drop start rows))) one
-      ∙ ap (map change) (take_next (drop start rows) (number - start) x (get_drop rows start (number - start) number at ∙ there))
+      ∙ ap (map change) (take-slice_get (drop start rows) (number - start) x (get_drop rows start (number - start) number at ∙ there))
       ∙ map-append change (take (number - start) (drop start rows)) (x ∷ [])
       ∙ ap (λ z. map change (take (number - start) (drop start rows)) ++ z ∷ []) changed in
       subst (λ (l : List Row). Adds l es gs ts vs) (sym more) (adds_more (map change (take (number - start) (drop start rows))) (y ∷ []) es fs gs ts us vs so_far added)
 
   rows_next : (p : Row → Bool) (number : ℕ) (rows : List Row) (x : Row) (b : Bool) → slice_get rows number ≡ Some x → p x ≡ b → filter p (take (number + 1) rows) ≡ filter p (take number rows) ++ cond b (x ∷ []) []
   rows_next p number rows x b there is =
-      ap (filter p) (take_next rows number x there) ∙ filter-append p (take number rows) (x ∷ []) ∙ ap (λ (t : Bool). filter p (take number rows) ++ cond t (x ∷ []) []) is
+      ap (filter p) (take-slice_get rows number x there) ∙ filter-append p (take number rows) (x ∷ []) ∙ ap (λ (t : Bool). filter p (take number rows) ++ cond t (x ∷ []) []) is
 
   -- a changed row that passes
   pub added_own : (change : Row → Row) (p : Row → Bool) (rows : List Row) (number : ℕ) (x y : Row) → slice_get rows number ≡ Some x → p x ≡ true → change x ≡ y

@@ -1,7 +1,6 @@
 -- The plain parser agrees with the walk of the parse graph.
 use Rattle.std.proofs.Common.{◌≡◌, ◌≢◌, ◌&&◌, cond, eqb, nat_lt, Bool, true, false, ℕ, zero, suc, ◌+◌, ◌-◌, ◌*◌, ◌^◌, ◌<◌, ◌≤◌, List, [], ◌∷◌, get_or, length, map, reverse, fold, find, take, drop, replicate, Option, Some, None, refl, sym, ap, subst, ◌∙◌, inl, inr, arith}
 use Rattle.std.specs.Prelude.{All, Contains, bit_and, option_map, slice_get, slice_index, slice_index_or, slice_set, unwrap_or}
-use Rattle.std.specs.Option.{option_or}
 use Rattle.std.proofs.lemmas.Bool.{cases_eq, cases_lt, eq-eqb, lt-ltb, le-ltb, ltb-false}
 use Rattle.std.proofs.lemmas.List.{length-drop, length-map, length-replicate, length-set, length-take-le, get_or-take, get_or-drop, get_or_past, get_or-set_same, get_or-set_other, set-set, set_comm}
 use Rattle.std.proofs.lemmas.List.Sums.{fold-append}
@@ -13,8 +12,8 @@ use Rattle.rmt_bits.specs.declared.lane.Lane.{Lane}
 use Rattle.rmt_bits.proofs.AllLaws.{All-find}
 use Rattle.rmt_bits.proofs.ByteLaws.{AreBytes}
 use Rattle.rmt_bits.proofs.ListLaws.{slice_get-item}
-use Rattle.rmt_bits.proofs.WordLaws.{get_or-zeros}
-use Rattle.rmt_ptcam.specs.Types.{Program, Field, Header, Tail, Case, Test, Target, ParserConfig, ParserState, ParserEntry, TailOf}
+use Rattle.rmt_bits.proofs.WordLaws.{get_or-zeros, get_or-same}
+use Rattle.rmt_ptcam.specs.Types.{Program, Header, Tail, Case, Test, Target, ParserConfig, ParserState, ParserEntry, TailOf}
 use Rattle.rmt_ast.specs.declared.program.Target.TheVariants as target
 use Rattle.rmt_ast.specs.Places.{lanes_of}
 use Rattle.rmt_ast.specs.State.{width_of, set_fields, start}
@@ -22,32 +21,28 @@ use Rattle.rmt_ast.specs.Walk.{Walk, walk, walk_from, with_header, target_of, al
 use Rattle.rmt_ast.specs.Walk as walks
 use Rattle.rmt_ast.specs.WellFormed.{IsProgram, IsHeader, IsCase, IsTail, IsTarget, bits_of}
 use Rattle.rmt_phv.specs.Packing.{pieces}
-use Rattle.rmt_phv.specs.Places.{KeepsApart}
+use Rattle.rmt_phv.specs.Places.{KeepsApart, high_first}
 use Rattle.rmt_config.specs.Agreement.{held_in, Holds, HasReached, EndsAs, AgreesWith}
 use Rattle.rmt_config.specs.ChipRun.{tail_bytes}
 use Rattle.rmt_config.specs.declared.config.Extract.TheVariants.{One}
 use Rattle.rmt_config.specs.declared.tails.TailAt.{TailAt}
 use Rattle.rmt_config.specs.LaneForm.{bits_of_lanes}
 use Rattle.rmt_config.specs.Parser.{Parse, Reached, Short, Reject, parse, parse_from, begin, behind, behind_tail, extracted, follow, lookup_value, no_tail, past_length, past_tail, step, tail_length, taken, value_at, entry_of}
-use Rattle.rmt_ptcam.specs.declared.fault.ParserFault.{ParserFault}
 use Rattle.rmt_ptcam.specs.declared.fault.ParserFault.TheVariants.{LookupWide, StepWide}
 use Rattle.rmt_ptcam.specs.Steps.{parse_within, walk_within}
 use Rattle.rmt_ptcam.specs.Needs.{place_in, lookups_of, extract_count, header_fault, first_fault, full_fault, refusal}
-use Rattle.rmt_ptcam.specs.Plain.{bits_from, lanes_in_order, extracts_of, state_of, next_of, entry_to, entry_of_case, tail_at, looked_up, plain}
-use Rattle.rmt_ptcam.proofs.NeedLaws.{either_none}
-use Rattle.rmt_ptcam.proofs.PlainLaws.{bits_of-cons, bits_of_lanes-reverse, lane_bits}
-use Rattle.rmt_ptcam.proofs.FormLaws.{lanes_lie, lens_at, tail_of_header}
+use Rattle.rmt_ptcam.specs.Plain.{bits_from, extracts_of, state_of, next_of, entry_to, entry_of_case, tail_at, looked_up, plain}
+use Rattle.rmt_ptcam.proofs.PlainLaws.{bits_of-cons, bits_of_lanes-reverse}
+use Rattle.rmt_ptcam.proofs.FormLaws.{tail_of_header}
 use Rattle.rmt_ptcam.proofs.ByteRunLaws.{byte_at}
 use Rattle.rmt_ptcam.proofs.CaseLaws.{low_of, shown, shown_from, HasSelected, case_passes}
 use Rattle.rmt_ptcam.proofs.HoldLaws.{IsPut, put_one, put_bits, after_lanes, holds_put, lanes_apart}
 use Rattle.rmt_ptcam.proofs.EntryLaws.{agrees, taken_target, find_same, IsMet, met}
 use Rattle.rmt_ptcam.proofs.FieldLaws.{OwnsFields, owns_fields, length-set_fields, set_fields_after, set_fields_reads}
+use Rattle.rmt_bits.proofs.OptionLaws.{option_or-none_left, option_or-none_right}
+use Rattle.rmt_phv.proofs.LaneLaws.{lanes_cut, lanes_lie, lanes_width}
 
 -- ---- a program that is not refused
-
-pub none_first : (a b : Option ParserFault) → option_or a b ≡ None → a ≡ None
-none_first None b e = refl
-none_first (Some f) b e = absurd cc
 
 few_of_header : (p : Program) (n : ℕ) (h : Header) → header_fault p n h ≡ None → length (lookups_of p h) ≤ 4
 few_of_header p n h e = by (nat_lt 4 (length (lookups_of p h))) refl e
@@ -59,30 +54,23 @@ few_of_header p n h e = by (nat_lt 4 (length (lookups_of p h))) refl e
 few_of_headers : (p : Program) (n i : ℕ) (hs : List Header) (h : Header) → first_fault p n hs ≡ None → slice_get hs i ≡ Some h → length (lookups_of p h) ≤ 4
 few_of_headers p n i [] h none is = absurd cc
 few_of_headers p n zero (g ∷ hs) h none is =
-    subst (λ (x : Header). length (lookups_of p x) ≤ 4) (same_Some g h is) (few_of_header p n g (none_first (header_fault p n g) (first_fault p (n + 1) hs) none))
-few_of_headers p n (suc i) (g ∷ hs) h none is = few_of_headers p (n + 1) i hs h (either_none (header_fault p n g) (first_fault p (n + 1) hs) none) is
+    subst (λ (x : Header). length (lookups_of p x) ≤ 4) (same_Some g h is) (few_of_header p n g (option_or-none_left (header_fault p n g) (first_fault p (n + 1) hs) none))
+few_of_headers p n (suc i) (g ∷ hs) h none is = few_of_headers p (n + 1) i hs h (option_or-none_right (header_fault p n g) (first_fault p (n + 1) hs) none) is
 
 -- no header of such a program looks at more than four bytes
 pub few_lookups : (p : Program) (n : ℕ) (h : Header) → refusal p ≡ None → slice_get p.headers n ≡ Some h → length (lookups_of p h) ≤ 4
-few_lookups p n h fits is = few_of_headers p 0 n p.headers h (none_first (first_fault p 0 p.headers) (full_fault p) fits) is
+few_lookups p n h fits is = few_of_headers p 0 n p.headers h (option_or-none_left (first_fault p 0 p.headers) (full_fault p) fits) is
 
 -- ---- the vector behind a header
-
-pub valid_lens : (p : Program) (places : List (List Lane)) (f : ℕ) → KeepsApart p places → width_of p f ≡ 1 → map (λ (l : Lane). l.len) (lanes_of places f) ≡ 1 ∷ []
-valid_lens p places f keeps one = by (slice_get p.fields f) refl one
-  where
-    by : (o : Option Field) → slice_get p.fields f ≡ o → unwrap_or (option_map (λ (x : Field). x.width) o) 0 ≡ 1 → map (λ (l : Lane). l.len) (lanes_of places f) ≡ 1 ∷ []
-    by None is w = absurd (omega (arith, w))
-    by (Some x) is w = lens_at places p.fields f x keeps.cut is ∙ ap pieces w
 
 module _ (p : Program) (places : List (List Lane)) (keeps : KeepsApart p places) (window : List ℕ) where
   -- the fields, one after another
   fields_held : (fs : List ℕ) (s v : List ℕ) (from : ℕ) → All (λ f. f < length s) fs → from + bits_of p fs ≡ 8 * length window → Holds places s v
-      → Holds places (set_fields p fs (number_of window) s) (fold (extracted window) v (bits_from from (lanes_in_order places fs)))
+      → Holds places (set_fields p fs (number_of window) s) (fold (extracted window) v (bits_from from (high_first places fs)))
   fields_held [] s v from there total holds = holds
   fields_held (f ∷ fs) s v from there total holds =
       let lanes : List Lane = lanes_of places f in
-      let bits : bits_of_lanes lanes ≡ width_of p f = lane_bits p places f keeps in
+      let bits : bits_of_lanes lanes ≡ width_of p f = lanes_width p places f keeps.cut in
       let turned : bits_of_lanes (reverse lanes) ≡ width_of p f = bits_of_lanes-reverse lanes ∙ bits in
       let all = bits_of-cons p f fs in
       let low : 8 * length window - (from + width_of p f) ≡ bits_of p fs = omega (arith, all, total) in
@@ -93,11 +81,11 @@ module _ (p : Program) (places : List (List Lane)) (keeps : KeepsApart p places)
       subst (λ x. IsPut lanes x v w) is_value
       (put_bits lanes v window from holds.whole (lanes_lie p places f keeps) (lanes_apart places f keeps.no_overlap) (omega (arith, bits, all, total))) in
       let here : Holds places (slice_set s f value) w = holds_put places s v w f value keeps.no_overlap (All-head (λ g. g < length s) f fs there) holds is_put in
-      let rest : Holds places (set_fields p fs (number_of window) (slice_set s f value)) (fold (extracted window) w (bits_from (from + width_of p f) (lanes_in_order places fs))) =
+      let rest : Holds places (set_fields p fs (number_of window) (slice_set s f value)) (fold (extracted window) w (bits_from (from + width_of p f) (high_first places fs))) =
       fields_held fs (slice_set s f value) w (from + width_of p f)
       (subst (λ k. All (λ g. g < k) fs) (sym (length-set s f value)) (All-tail (λ g. g < length s) f fs there)) (omega (arith, all, total)) here in
-      let order : fold (extracted window) v (bits_from from (lanes_in_order places (f ∷ fs))) ≡ fold (extracted window) w (bits_from (from + width_of p f) (lanes_in_order places fs)) =
-      after_lanes window v from (reverse lanes) (lanes_in_order places fs) ∙ ap (λ k. fold (extracted window) w (bits_from (from + k) (lanes_in_order places fs))) turned in
+      let order : fold (extracted window) v (bits_from from (high_first places (f ∷ fs))) ≡ fold (extracted window) w (bits_from (from + width_of p f) (high_first places fs)) =
+      after_lanes window v from (reverse lanes) (high_first places fs) ∙ ap (λ k. fold (extracted window) w (bits_from (from + k) (high_first places fs))) turned in
       subst (Holds places (set_fields p fs (number_of window) (slice_set s f value))) (sym order) rest
 
   -- valid, and then the fields
@@ -110,7 +98,7 @@ module _ (p : Program) (places : List (List Lane)) (keeps : KeepsApart p places)
       let s1 : List ℕ = slice_set s0 h.valid 1 in
       let long1 : length s1 ≡ length p.fields = length-set s0 h.valid 1 ∙ long0 in
       let v1 : List ℕ = fold (extracted window) v (map One lanes) in
-      let set_one : IsPut lanes 1 v v1 = put_one lanes v window holds.whole (lanes_lie p places h.valid keeps) (valid_lens p places h.valid keeps is.valid) in
+      let set_one : IsPut lanes 1 v v1 = put_one lanes v window holds.whole (lanes_lie p places h.valid keeps) (lanes_cut p places h.valid keeps.cut ∙ ap pieces is.valid) in
       let here : Holds places s1 v1 = holds_put places s0 v v1 h.valid 1 keeps.no_overlap (subst (λ k. h.valid < k) (sym long0) owns.valid_in) holds set_one in
       let total : 0 + bits_of p h.fields ≡ 8 * length window = omega (arith, is.whole_bytes, long) in
       let fields = fields_held h.fields s1 v1 0 (subst (λ k. All (λ f. f < k) h.fields) (sym long1) owns.there) total here in
@@ -124,10 +112,10 @@ module _ (p : Program) (places : List (List Lane)) (keeps : KeepsApart p places)
       ∙ ap (λ (x : List ℕ). slice_set x h.valid 1) (set_fields_after p h.fields n0 s 0 0 not_port)
       ∙ set_comm (set_fields p h.fields n0 s) 0 h.valid 0 1 apart
       ∙ ap (λ (x : List ℕ). slice_set (slice_set (set_fields p h.fields (number_of x) s) h.valid 1) 0 0) cut in
-      let order : fold (extracted window) v (extracts_of places h) ≡ fold (extracted window) v1 (bits_from 0 (lanes_in_order places h.fields)) =
-      fold-append (extracted window) v (map One lanes) (bits_from 0 (lanes_in_order places h.fields)) in
+      let order : fold (extracted window) v (extracts_of places h) ≡ fold (extracted window) v1 (bits_from 0 (high_first places h.fields)) =
+      fold-append (extracted window) v (map One lanes) (bits_from 0 (high_first places h.fields)) in
       subst (Holds places (slice_set (with_header p h frame at s) 0 0)) (sym order)
-      (subst (λ (x : List ℕ). Holds places x (fold (extracted window) v1 (bits_from 0 (lanes_in_order places h.fields)))) states fields)
+      (subst (λ (x : List ℕ). Holds places x (fold (extracted window) v1 (bits_from 0 (high_first places h.fields)))) states fields)
 
 -- ---- one header
 
@@ -381,17 +369,12 @@ held_zero v (l ∷ ls) zeros =
     none : (low len : ℕ) → slice 0 low len + 2 ^ len * 0 ≡ 0
     none low len = let pos = pow_pos len in omega arith
 
-all_alike : {X : Type 0} (n i : ℕ) (x : X) → get_or (replicate n x) i x ≡ x
-all_alike zero i x = refl
-all_alike (suc n) zero x = refl
-all_alike (suc n) (suc i) x = all_alike n i x
-
 -- nothing is read but the port, to which no word stands yet
 start_zero : (p : Program) (port f : ℕ) → slice_index (slice_set (start p port) 0 0) f ≡ 0
 start_zero p port f =
     ap (λ (s : List ℕ). slice_index s f) (set-set (replicate (length p.fields) 0) 0 port 0) ∙ elim (cases_eq f 0) [
       | inl same ↦ subst (λ k. slice_index (slice_set (replicate (length p.fields) 0) 0 0) k ≡ 0) (sym same) (first (length p.fields))
-      | inr other ↦ get_or-set_other (replicate (length p.fields) 0) 0 f 0 0 other ∙ all_alike (length p.fields) f 0
+      | inr other ↦ get_or-set_other (replicate (length p.fields) 0) 0 f 0 0 other ∙ get_or-same (length p.fields) f 0
     ]
   where
     first : (n : ℕ) → slice_index (slice_set (replicate n 0) 0 0) 0 ≡ 0
@@ -413,7 +396,7 @@ start_step p places frame port = record {
   reached = record {
     at = refl;
     state = start_holds p places port (replicate 224 0) (length-replicate {A = ℕ} 224 0) (λ w. get_or-zeros 224 w 0);
-    tails = λ n. ap (tail_bytes frame) (all_alike 64 n no_tail) ∙ sym (all_alike (length p.headers) n []);
+    tails = λ n. ap (tail_bytes frame) (get_or-same 64 n no_tail) ∙ sym (get_or-same (length p.headers) n []);
   };
   fields = length-set (replicate (length p.fields) 0) 0 port ∙ length-replicate {A = ℕ} (length p.fields) 0;
   room = length-replicate {A = TailAt} 64 no_tail;

@@ -4,11 +4,12 @@ use Rattle.std.specs.Prelude.{All, AllPairs, Contains, bit_and}
 use Rattle.std.specs.List.{AllZip, zip}
 use Rattle.std.specs.Int.{bit_at}
 use Rattle.std.proofs.lemmas.Bool.{cases_lt}
-use Rattle.std.proofs.lemmas.Nat.{shr-shr, shr_split, and_shr, and_mod}
-use Rattle.std.proofs.lemmas.Nat.Bits.{bit_at_and, bit_at_cat_low, same_from_bits}
+use Rattle.std.proofs.lemmas.Nat.{and_shr, and_mod}
+use Rattle.std.proofs.lemmas.Nat.Bits.{bit_at_and, same_from_bits}
 use Rattle.std.proofs.lemmas.List.Elements.{All-nil, All-cons, All-head, All-tail}
 use Rattle.rmt_bits.specs.Bits.{slice, deposit}
 use Rattle.rmt_bits.proofs.BitLaws.{slice-deposit_same, slice-deposit_above, slice-deposit_below}
+use Rattle.rmt_config.proofs.UnitBits.{slice-bit}
 
 -- ---- runs of bits
 
@@ -16,18 +17,12 @@ use Rattle.rmt_bits.proofs.BitLaws.{slice-deposit_same, slice-deposit_above, sli
 pub slice-and : (a b low len : ℕ) → slice (bit_and a b) low len ≡ bit_and (slice a low len) (slice b low len)
 slice-and a b low len = ap (λ n. n % 2 ^ len) (and_shr a b low) ∙ and_mod (a / 2 ^ low) (b / 2 ^ low) len
 
--- a bit of a run
-pub bit_of_slice : (v low len i : ℕ) → i < len → bit_at (slice v low len) i ≡ bit_at v (low + i)
-bit_of_slice v low len i lt =
-    let x = v / 2 ^ low in
-    sym (bit_at_cat_low (x / 2 ^ len) len (x % 2 ^ len) i lt) ∙ ap (λ n. bit_at n i) (shr_split x len) ∙ ap (λ n. n % 2) (shr-shr v low i)
-
 -- numbers that agree on a run agree on its bits
 pub bit_from_slice : (v w low len i : ℕ) → slice v low len ≡ slice w low len → low ≤ i → i < low + len → bit_at v i ≡ bit_at w i
 bit_from_slice v w low len i same from lt =
     let at : low + (i - low) ≡ i = omega arith in
     let inside : i - low < len = omega arith in
-    let by : (n : ℕ) → bit_at n i ≡ bit_at (slice n low len) (i - low) = λ n. ap (bit_at n) (sym at) ∙ sym (bit_of_slice n low len (i - low) inside) in
+    let by : (n : ℕ) → bit_at n i ≡ bit_at (slice n low len) (i - low) = λ n. ap (bit_at n) (sym at) ∙ sym (slice-bit n low len (i - low) inside) in
     by v ∙ ap (λ n. bit_at n (i - low)) same ∙ sym (by w)
 
 -- ---- runs of some fields

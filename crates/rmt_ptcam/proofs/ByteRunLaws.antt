@@ -3,20 +3,13 @@ use Rattle.std.proofs.Common.{◌≡◌, ℕ, zero, suc, ◌+◌, ◌-◌, ◌*�
 use Rattle.std.specs.Prelude.{All, bit_and, slice_index}
 use Rattle.std.proofs.lemmas.Bool.{cases_lt}
 use Rattle.std.proofs.lemmas.Nat.{shr-shr, shl-shr, and_block, pow_pos}
-use Rattle.std.proofs.lemmas.List.{length-append, get_or_append_left, get_or_at}
+use Rattle.std.proofs.lemmas.List.{get_or_append_left, get_or_at}
 use Rattle.std.proofs.lemmas.List.Elements.{All-nil, All-cons, All-head, All-tail}
 use Rattle.rmt_bits.specs.Bits.{slice, bytes_of, number_of}
-use Rattle.rmt_bits.proofs.ByteLaws.{AreBytes, bytes_of-number_of}
+use Rattle.rmt_bits.proofs.ByteLaws.{AreBytes, bytes_of-number_of, length-bytes_of}
 use Rattle.rmt_config.specs.Parser.{high_bytes}
 
 -- ---- bytes of a number
-
-pub length-bytes_of : (count n : ℕ) → length (bytes_of count n) ≡ count
-length-bytes_of zero n = refl
-length-bytes_of (suc count) n =
-    let rest = length-bytes_of count (n / 256) in
-    let all = length-append (bytes_of count (n / 256)) (n % 256 ∷ []) in
-    omega (arith, rest, all)
 
 -- a byte is eight bits
 pub bytes_of-at : (count n o : ℕ) → o < count → slice_index (bytes_of count n) o ≡ slice n (8 * (count - 1 - o)) 8

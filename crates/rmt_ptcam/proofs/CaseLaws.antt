@@ -1,7 +1,7 @@
 -- The lookup bytes of a header agree with a case exactly where its tests pass.
-use Rattle.std.proofs.Common.{◌≡◌, ◌≢◌, ◌⊎◌, Bool, true, false, cond, eqb, ℕ, zero, suc, ◌+◌, ◌-◌, ◌*◌, ◌/◌, ◌^◌, ◌<◌, ◌≤◌, List, [], ◌∷◌, get_or, length, map, refl, sym, ap, subst, ◌∙◌, inl, inr, arith}
+use Rattle.std.proofs.Common.{◌≡◌, ◌≢◌, ◌⊎◌, true, eqb, ℕ, ◌+◌, ◌-◌, ◌*◌, ◌/◌, ◌^◌, ◌<◌, ◌≤◌, List, [], ◌∷◌, get_or, length, map, refl, sym, ap, ◌∙◌, inl, inr, arith}
 use Rattle.std.specs.Prelude.{All, Contains, bit_and, slice_index}
-use Rattle.std.specs.List.{AllZip, filter, range_with_len}
+use Rattle.std.specs.List.{AllZip, range_with_len}
 use Rattle.std.proofs.lemmas.Bool.{eq-eqb, eqb-true, lt-ltb, and_parts, and_from}
 use Rattle.std.proofs.lemmas.Bool.Decides.{eqb_tells}
 use Rattle.std.proofs.lemmas.List.{length-map}
@@ -21,6 +21,8 @@ use Rattle.rmt_ptcam.specs.Plain.{looked_up}
 use Rattle.rmt_ptcam.proofs.PlainLaws.{place_within, contains_tail}
 use Rattle.rmt_ptcam.proofs.BitRunLaws.{slice-and, bit_from_slice, filled, AreRuns, AllFit, HasBit, filled_reads, same_on_runs}
 use Rattle.rmt_ptcam.proofs.ByteRunLaws.{bytes_of-at, map_same, high_and, high_apart}
+use Rattle.rmt_bits.proofs.OptionLaws.{same_Bool}
+use Rattle.rmt_bits.proofs.MemberLaws.{Contains-filter}
 
 -- ---- the fields of a header among its bits
 
@@ -88,18 +90,6 @@ looked_up_shown p h xs =
     shown_from p h (number_with p h xs) (λ o. slice_index (bytes_of h.bytes (number_with p h xs)) (0 + o))
     (λ o lt. let at : 0 + o ≡ o = omega arith in ap (slice_index (bytes_of h.bytes (number_with p h xs))) at ∙ bytes_of-at h.bytes (number_with p h xs) o lt)
 
-kept : (b : Bool) (y : ℕ) (zs : List ℕ) (x : ℕ) → Contains zs x → Contains (cond b (y ∷ zs) zs) x
-kept true y zs x c = (suc c.0, omega (arith, c.1), c.2)
-kept false y zs x c = c
-
--- an item that passes is among those that do
-pub contains_filter : (t : ℕ → Bool) (xs : List ℕ) (x k : ℕ) → k < length xs → get_or xs k x ≡ x → t x ≡ true → Contains (filter t xs) x
-contains_filter t [] x k lt at passes = absurd (omega (arith, lt))
-contains_filter t (y ∷ ys) x zero lt at passes =
-    let here : t y ≡ true = ap t at ∙ passes in
-    subst (λ (zs : List ℕ). Contains zs x) (sym (ap (λ (b : Bool). cond b (y ∷ filter t ys) (filter t ys)) here)) (0, omega arith, at)
-contains_filter t (y ∷ ys) x (suc k) lt at passes = kept (t y) y (filter t ys) x (contains_filter t ys x k (omega (arith, lt)) at passes)
-
 -- a byte in which a selected field has a bit is looked up
 bit_looked_up : (p : Program) (n : ℕ) (h : Header) (i f : ℕ) → IsHeader p n h → HasBit (low_of p h) (width_of p) h.select i f
     → Contains (lookups_of p h) (h.bytes - 1 - i / 8)
@@ -116,15 +106,10 @@ bit_looked_up p n h i f is bit =
     let touched : touches p h o f ≡ true = and_from _ _ (lt-ltb _ _ left) (lt-ltb _ _ right) in
     let some : is_looked_up p h o ≡ true = list_any-from_Any (touches p h o) h.select (bit.own.0, f, bit.own.1, bit.own.2, touched) in
     let long = length-range_with_len 0 h.bytes in
-    contains_filter (is_looked_up p h) (range_with_len 0 h.bytes) o o (omega (arith, long, inside))
-    (get_or-range_with_len 0 h.bytes o o inside ∙ (let e : 0 + o ≡ o = omega arith in e)) some
+    Contains-filter (is_looked_up p h) (range_with_len 0 h.bytes) o
+    (o, omega (arith, long, inside), get_or-range_with_len 0 h.bytes o o inside ∙ (let e : 0 + o ≡ o = omega arith in e)) some
 
 -- ---- cases
-
-pub both_or_neither : (a b : Bool) → (a ≡ true → b ≡ true) → (b ≡ true → a ≡ true) → a ≡ b
-both_or_neither true b f g = sym (f refl)
-both_or_neither false true f g = g refl
-both_or_neither false false f g = refl
 
 pub masks_fit : (p : Program) (fs : List ℕ) (ts : List Test) → AreTests p fs ts → AllZip (λ f x. x < 2 ^ width_of p f) fs (map (λ (t : Test). t.mask) ts)
 masks_fit p [] [] h = tt
@@ -250,6 +235,6 @@ module _ (p : Program) (m : ℕ) (h : Header) (is : IsHeader p m h) (few : lengt
       let left : bit_and (shown p h n) (looked_up p h masks) ≡ shown p h (bit_and n mask) = ap (bit_and (shown p h n)) (looked_up_shown p h masks) ∙ shown_and in
       let right : looked_up p h values ≡ shown p h value = looked_up_shown p h values in
       ap (λ x. eqb x (looked_up p h values)) left ∙ ap (eqb (shown p h (bit_and n mask))) right
-      ∙ both_or_neither (eqb (shown p h (bit_and n mask)) (shown p h value)) (all_pass ts h.select s)
+      ∙ same_Bool (eqb (shown p h (bit_and n mask)) (shown p h value)) (all_pass ts h.select s)
       (λ e. all_pass_from p low n mask value s h.select ts tests holds read_masks read_values (same_from_shown (eqb-true (shown p h (bit_and n mask)) (shown p h value) e)))
       (λ e. eq-eqb (shown p h (bit_and n mask)) (shown p h value) (ap (shown p h) (same_from_pass e)))

@@ -2,7 +2,7 @@
 use Rattle.std.proofs.Common.{◌≡◌, cond, Bool, true, false, ℕ, ◌+◌, List, [], ◌∷◌, length, fold, reverse, Option, Some, None, refl, sym, ap, ◌∙◌, arith}
 use Rattle.std.specs.Prelude.{IfSome, Ok, slice_get}
 use Rattle.std.specs.List.{range_with_len}
-use Rattle.std.proofs.lemmas.List.{length-set, reverse-append}
+use Rattle.std.proofs.lemmas.List.{length-set, reverse-append, length-map}
 use Rattle.std.proofs.lemmas.List.Sums.{fold-append}
 use Rattle.rmt_bits.proofs.ListLaws.{range_more}
 use Rattle.rmt_ptcam.specs.Types.{Program, ParserConfig, ParserEntry, Next}
@@ -10,9 +10,9 @@ use Rattle.rmt_bits.specs.declared.lane.Lane.{Lane}
 use Rattle.rmt_config.specs.declared.config.Next.TheVariants as next
 use Rattle.rmt_ptcam.specs.declared.fault.ParserFault.{ParserFault}
 use Rattle.rmt_ptcam.specs.Needs.{refusal, unless}
-use Rattle.rmt_ptcam.specs.Plain.{plain, planned}
+use Rattle.rmt_ptcam.specs.Plain.{plain, planned, state_of}
 use Rattle.rmt_ptcam.specs.Joining.{IsGood, KeepsForm, can_join, entries_in, join_at, join_to, joined, lookups_at, number_of_entry, together}
-use Rattle.rmt_ptcam.specs.Clustering.{Clustering, all_joined, behind_join, is_wanted, one_entry, one_header, some_entries}
+use Rattle.rmt_ptcam.specs.Clustering.{Clustering, all_joined, behind_join, is_wanted, one_entry, one_header, some_entries, clustered, compact}
 
 pub good_same : (parser : ParserConfig) → KeepsForm parser → IsGood parser parser
 good_same parser keeps = record { alike = λ frame small. refl; keeps = keeps }
@@ -85,3 +85,12 @@ planned_ok p places parser is = by (refusal p) refl is
     by : (o : Option ParserFault) → refusal p ≡ o → Ok parser ≡ unless o (plain p places) → (refusal p ≡ None) × (parser ≡ plain p places)
     by None none e = (none, (let same : parser ≡ plain p places = cc in same))
     by (Some f) some e = absurd cc
+
+-- the parser behind all joins has as many states as the program has headers, and what is left of it is the clustered parser
+module _ (p : Program) (places : List (List Lane)) (parser new : ParserConfig) (made : parser ≡ plain p places) (joined : new ≡ all_joined p parser) where
+  pub joined_states : length new.states ≡ length p.headers
+  joined_states =
+      ap (λ (q : ParserConfig). length q.states) joined ∙ states_all p parser ∙ ap (λ (q : ParserConfig). length q.states) made ∙ length-map p.headers (state_of p)
+
+  pub is_clustered : compact new ≡ clustered p places
+  is_clustered = ap compact (joined ∙ ap (all_joined p) made)

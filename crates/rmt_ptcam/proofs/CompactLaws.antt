@@ -13,7 +13,7 @@ use Rattle.std.proofs.lemmas.List.Sums.{fold-append}
 use Rattle.std.proofs.lemmas.Option.{get_or_from_slice_get, slice_get-get_or, slice_get-map, slice_get_within}
 use Rattle.rmt_bits.proofs.AllLaws.{All-find}
 use Rattle.rmt_bits.proofs.FunctionLaws.{funext}
-use Rattle.rmt_bits.proofs.ListLaws.{range_more}
+use Rattle.rmt_bits.proofs.ListLaws.{range_more, find-passes}
 use Rattle.rmt_ptcam.specs.Types.{ParserConfig, ParserState, ParserEntry, Next, TailOf}
 use Rattle.rmt_config.specs.declared.config.Next.TheVariants as next
 use Rattle.rmt_config.specs.Parser.{Parse, Reached, Short, begin, behind, follow, parse_from, past_tail, value_at}
@@ -24,7 +24,6 @@ use Rattle.rmt_ptcam.specs.Steps.{parse_within}
 use Rattle.rmt_ptcam.specs.Clustering.{compact, is_met, met_states, number_in, renamed, renamed_next, state_behind, states_kept}
 use Rattle.rmt_ptcam.proofs.AddingLaws.{filter_short, length_rows}
 use Rattle.rmt_ptcam.proofs.FormedRows.{IsFormed, IsRow, IsRowTail, entries_of_rows, formed_parts, rows_are, split_at}
-use Rattle.rmt_ptcam.proofs.SearchLaws.{find_passes}
 use Rattle.rmt_ptcam.proofs.JoinedForm.{made_keeps}
 use Rattle.rmt_ptcam.proofs.JoinedKeeps.{sorted_rows}
 use Rattle.rmt_ptcam.proofs.JoinedParse.{find_map, one_more_state}
@@ -348,7 +347,7 @@ module _ (parser : ParserConfig) (keeps : KeepsForm parser) where
     row_renamed goes others s value r None is found same = refl
     row_renamed goes others s value r (Some x) is found same =
         let e : ParserEntry = x.entry in
-        let passes : hits s value x ≡ true = find_passes (hits s value) (rows_of parser) x found in
+        let passes : hits s value x ≡ true = find-passes (hits s value) (rows_of parser) x found in
         let at : e.state ≡ s = eqb-true e.state s (and_parts (eqb e.state s) (eqb (bit_and value e.mask) e.value) passes).0 in
         let on : (t : ℕ) → met e.state ≡ true → e.next ≡ next.State t → met t ≡ true =
         All-find (λ (y : Row). (t : ℕ) → met y.entry.state ≡ true → y.entry.next ≡ next.State t → met t ≡ true) (hits s value) (rows_of parser) x row_next found in

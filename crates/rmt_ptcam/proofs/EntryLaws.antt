@@ -4,7 +4,7 @@ use Rattle.std.specs.Prelude.{All, bit_and, option_map, position, slice_get, unw
 use Rattle.std.specs.List.{range_with_len}
 use Rattle.std.specs.Option.{option_or}
 use Rattle.std.specs.Int.Bits.{and_zero_r}
-use Rattle.std.proofs.lemmas.Bool.{eq-eqb, and_from, and_left}
+use Rattle.std.proofs.lemmas.Bool.{eq-eqb, and_from, and_left, ne_eqb}
 use Rattle.std.proofs.lemmas.Bool.Decides.{eqb_tells}
 use Rattle.std.proofs.lemmas.List.{length-append, get_or_append_left}
 use Rattle.std.proofs.lemmas.List.Elements.{All-nil, All-head, All-tail, All-append, All-weaker}
@@ -15,8 +15,9 @@ use Rattle.rmt_ptcam.specs.Types.{Program, Header, Tail, Case, Target, ParserEnt
 use Rattle.rmt_config.specs.Parser.{entry_of, tail_of}
 use Rattle.rmt_ptcam.specs.Needs.{entry_count}
 use Rattle.rmt_ptcam.specs.Plain.{entry_to, entry_of_case, entries_of, entries_from, tail_at, tails_for, tails_from, plain}
-use Rattle.rmt_ptcam.proofs.SearchLaws.{position_here, find_nowhere, apart}
+use Rattle.rmt_ptcam.proofs.SearchLaws.{position_here}
 use Rattle.rmt_ptcam.proofs.FormLaws.{of_header, length-entries_of, tails_least}
+use Rattle.rmt_bits.proofs.ListLaws.{find-none}
 
 -- ---- the first item that passes
 
@@ -140,7 +141,7 @@ module _ (p : Program) (n : ℕ) (h : Header) (t : Tail) where
   range_misses : (a c w : ℕ) → a + c ≤ w → find (λ (x : TailOf). eqb x.entry w) (map (tail_at p n h t) (range_with_len a c)) ≡ None
   range_misses a zero w le = refl
   range_misses a (suc c) w le =
-      ap (λ (b : Bool). cond b (Some (tail_at p n h t a)) (find (λ (x : TailOf). eqb x.entry w) (map (tail_at p n h t) (range_with_len (a + 1) c)))) (apart a w (λ e. omega (arith, le, e)))
+      ap (λ (b : Bool). cond b (Some (tail_at p n h t a)) (find (λ (x : TailOf). eqb x.entry w) (map (tail_at p n h t) (range_with_len (a + 1) c)))) (ne_eqb a w (λ e. omega (arith, le, e)))
       ∙ range_misses (a + 1) c w (omega (arith, le))
 
 -- the tail of one of a header's entries, before which there are none of its number
@@ -176,8 +177,8 @@ module _ (p : Program) (places : List (List Lane)) where
     split = refl;
     earlier = All-nil (λ (e : ParserEntry). e.state < n);
     tails = λ w from lt. tails_here p n a w h h.tail (tails_from p (n + 1) (a + entry_count h) hs) (omega (arith, from)) (omega (arith, lt))
-        (find_nowhere (λ (x : TailOf). eqb x.entry w) (tails_from p (n + 1) (a + entry_count h) hs)
-        (λ k d below. let least = tails_least p (n + 1) (a + entry_count h) hs k d below in apart _ w (λ e. omega (arith, least, lt, e))));
+        (find-none (λ (x : TailOf). eqb x.entry w) (tails_from p (n + 1) (a + entry_count h) hs)
+        (λ k d below. let least = tails_least p (n + 1) (a + entry_count h) hs k d below in ne_eqb _ w (λ e. omega (arith, least, lt, e))));
   }
 
   block_later : (n a m : ℕ) (g h : Header) (hs : List Header) → n < m → IsBlock p places (a + entry_count g) (entries_from p places (n + 1) hs) (tails_from p (n + 1) (a + entry_count g) hs) m h
@@ -224,7 +225,7 @@ module _ (p : Program) (places : List (List Lane)) where
       let inner : IsFirst (agrees n looked) (entries_of p places n h ++ block.rest) t.number e = first_in_front (agrees n looked) (entries_of p places n h) block.rest t.number e t.first in
       let outer : IsFirst (agrees n looked) (block.front ++ (entries_of p places n h ++ block.rest)) w e =
       first_behind (agrees n looked) block.front (entries_of p places n h ++ block.rest) t.number w e refl
-      (All-weaker (λ (x : ParserEntry). x.state < n) (λ (x : ParserEntry). agrees n looked x ≡ false) (λ (x : ParserEntry) lt. and_left _ _ (apart x.state n (λ same. omega (arith, lt, same)))) block.front block.earlier) inner in
+      (All-weaker (λ (x : ParserEntry). x.state < n) (λ (x : ParserEntry). agrees n looked x ≡ false) (λ (x : ParserEntry) lt. and_left _ _ (ne_eqb x.state n (λ same. omega (arith, lt, same)))) block.front block.earlier) inner in
       let whole : IsFirst (agrees n looked) (entries_from p places 0 p.headers) w e = subst (λ (es : List ParserEntry). IsFirst (agrees n looked) es w e) (sym block.split) outer in
       record {
         number = w;

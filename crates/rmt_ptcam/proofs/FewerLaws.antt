@@ -2,7 +2,7 @@
 use Rattle.std.proofs.Common.{◌≡◌, ◌⊎◌, ◌&&◌, not, cond, eqb, nat_lt, Bool, true, false, ℕ, zero, suc, ◌+◌, ◌<◌, ◌≤◌, List, [], ◌∷◌, ◌++◌, length, map, take, drop, fold, reverse, Option, Some, None, refl, sym, ap, subst, ◌∙◌, append_assoc, inl, inr, arith}
 use Rattle.std.specs.Prelude.{◌||◌, ◌==◌, All, option_map, slice_get}
 use Rattle.std.specs.List.{filter, flat_map, range_with_len}
-use Rattle.std.proofs.lemmas.Bool.{cases_eq, and_from, and_parts, eqb-true, eq-eqb, lt-ltb, ltb-true, ne_eqb, or_cases, or_left, or_right, le-ltb}
+use Rattle.std.proofs.lemmas.Bool.{cases_eq, and_from, and_parts, eqb-true, eq-eqb, lt-ltb, ltb-true, ne_eqb, or_cases, or_left, or_right, le-ltb, not-true}
 use Rattle.std.proofs.lemmas.List.{append-nil, length-append, length-map, length-take-le, reverse-append, take_all, map-append, take-map, drop-map, take_at, drop_at}
 use Rattle.std.proofs.lemmas.List.Elements.{All-nil, All-cons, All-append, All-head, All-map, All-tail, All-weaker, filter-append}
 use Rattle.std.proofs.lemmas.Option.{slice_get-map, slice_get_within}
@@ -12,16 +12,17 @@ use Rattle.rmt_config.specs.declared.config.Next.TheVariants as next
 use Rattle.std.proofs.lemmas.Option.{same_Some}
 use Rattle.rmt_bits.specs.declared.lane.Lane.{Lane}
 use Rattle.std.proofs.lemmas.List.Folds.{list_any-append}
-use Rattle.rmt_bits.proofs.ListLaws.{range_more, slice_get-end, slice_get-item}
+use Rattle.rmt_bits.proofs.ListLaws.{range_more, slice_get-end, slice_get-item, take-slice_get}
 use Rattle.rmt_ptcam.specs.Joining.{KeepsForm, Row, can_join, entries_in, is_among, join_at, join_to, joined, joined_row, lookups_at, number_of_entry, rows_in, rows_of, together, widened, widened_entry}
 use Rattle.rmt_ptcam.specs.Clustering.{Clustering, all_joined, arrivals, behind_join, clustered, compact, is_met, is_wanted, one_entry, one_header, renamed, some_entries, state_behind, targets_of}
 use Rattle.rmt_ptcam.proofs.FormedRows.{entries_of_rows, split_at}
-use Rattle.rmt_ptcam.proofs.AddingLaws.{filter_short, take_next}
+use Rattle.rmt_ptcam.proofs.AddingLaws.{filter_short}
 use Rattle.rmt_ptcam.proofs.JoinFacts.{MayJoin, may_join}
 use Rattle.rmt_ptcam.proofs.JoinedKeeps.{joined_keeps}
 use Rattle.rmt_ptcam.proofs.JoinedParse.{next_there}
 use Rattle.rmt_ptcam.specs.Clustering.{goes_to}
 use Rattle.rmt_ptcam.specs.Plain.{entries_from, entries_of, entry_of_case, entry_to, next_of, plain}
+use Rattle.std.proofs.lemmas.Simd.{map-map}
 
 -- ---- how many items pass
 
@@ -239,11 +240,7 @@ module _ (front back : List (ℕ × Next)) (n m : ℕ) (lt : n < m) where
       both : (xs : List (ℕ × Next)) → count q xs + count mine xs ≤ count a xs
       both xs = count_two a q mine xs (λ x is. (and_parts (a x) (not (mine x)) is).0)
           (λ x is. (let same : x.0 ≡ m = eqb-true x.0 m is in subst (λ s. arrived old s ≡ true) (sym same) arrived_m))
-          (λ x is. (let other : not (mine x) ≡ true = (and_parts (a x) (not (mine x)) is).1 in turned (mine x) other))
-        where
-          turned : (b : Bool) → not b ≡ true → b ≡ false
-          turned true e = absurd cc
-          turned false e = refl
+          (λ x is. (let other : not (mine x) ≡ true = (and_parts (a x) (not (mine x)) is).1 in not-true (mine x) other))
 
       by : (t : Bool) → busy new ≤ count q new → count q new ≡ count q front + (count q (map from_own second) + count q back) → busy old ≡ count a front + (tally t + count a back)
           → count a (map from_own second) ≡ cond t (length second) 0 → count q (map from_own second) ≤ count a (map from_own second) → count q front + count mine front ≤ count a front → count q back + count mine back ≤ count a back
@@ -255,10 +252,6 @@ module _ (front back : List (ℕ × Next)) (n m : ℕ) (lt : n < m) where
 
 abbrev pub shapes : ParserConfig → List (ℕ × Next)
 shapes parser = map shape parser.entries
-
-map-map : {X Y Z : Type 0} (f : Y → Z) (g : X → Y) (xs : List X) → map f (map g xs) ≡ map (λ x. f (g x)) xs
-map-map f g [] = refl
-map-map f g (x ∷ xs) = ap (λ l. f (g x) ∷ l) (map-map f g xs)
 
 map_same : {X Y : Type 0} (f g : X → Y) (xs : List X) → ((x : X) → f x ≡ g x) → map f xs ≡ map g xs
 map_same f g [] same = refl
@@ -613,7 +606,7 @@ module _ (p : Program) (limit n : ℕ) (h : Header) (found : slice_get p.headers
   split_h : shapes parser ≡ front ++ (map (own_shape n) ts ++ is.back)
   split_h =
       let one : 0 + length (take n p.headers) ≡ n = let a = long_take in omega (arith, a) in
-      is.split ∙ ap (λ l. shapes_from 0 l ++ is.back) (take_next p.headers n h found)
+      is.split ∙ ap (λ l. shapes_from 0 l ++ is.back) (take-slice_get p.headers n h found)
       ∙ ap (λ l. l ++ is.back) (shapes_from-append 0 (take n p.headers) (h ∷ []) ∙ ap (λ k. front ++ shapes_from k (h ∷ [])) one ∙ ap (λ l. front ++ l) (append-nil (map (own_shape n) ts)))
       ∙ append_assoc front (map (own_shape n) ts) is.back
 

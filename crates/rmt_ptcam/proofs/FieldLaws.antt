@@ -13,7 +13,7 @@ use Rattle.rmt_ast.specs.State.{width_of, set_fields}
 use Rattle.rmt_ast.specs.WellFormed.{HasFields, AreDistinct, bits_of, header_fields}
 use Rattle.rmt_ptcam.specs.Needs.{place_in}
 use Rattle.rmt_ptcam.proofs.PlainLaws.{bits_of-cons, contains_tail, place_within}
-use Rattle.rmt_ptcam.proofs.FormLaws.{All-between}
+use Rattle.rmt_bits.proofs.AllLaws.{All-between}
 
 -- ---- the numbers of a header's fields
 

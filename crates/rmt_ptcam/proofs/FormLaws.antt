@@ -1,21 +1,21 @@
 -- The plain parser keeps the rules of form of entries and tails.
 use Rattle.std.proofs.Common.{◌≡◌, ℕ, zero, suc, ◌+◌, ◌*◌, ◌-◌, ◌<◌, ◌≤◌, true, List, [], ◌∷◌, ◌++◌, get_or, length, map, reverse, Option, Some, None, refl, sym, ap, subst, ◌∙◌, append_assoc, inl, inr, arith}
-use Rattle.std.specs.Prelude.{All, IfSome, slice_get, option_map, unwrap_or}
+use Rattle.std.specs.Prelude.{All, IfSome, slice_get}
 use Rattle.std.specs.List.{range_with_len}
 use Rattle.std.specs.List.Sorted.{IsNonDecreasingBy}
 use Rattle.std.proofs.lemmas.Bool.{cases_lt, lt-ltb, le-leb}
-use Rattle.std.proofs.lemmas.List.{length-append, length-map, get_or_append_left, get_or-append_right, reverse-append}
+use Rattle.std.proofs.lemmas.List.{length-append, length-map, get_or_append_left, get_or-append_right}
 use Rattle.std.proofs.lemmas.List.Elements.{All-nil, All-cons, All-head, All-tail, All-append, All-map, All-weaker}
 use Rattle.std.proofs.lemmas.Option.{slice_get-get_or}
 use Rattle.rmt_bits.specs.Words.{word_size}
 use Rattle.rmt_bits.specs.declared.lane.Lane.{Lane}
-use Rattle.rmt_bits.proofs.AllLaws.{All-slice_get, All-flat_map}
+use Rattle.rmt_bits.proofs.AllLaws.{All-slice_get, All-flat_map, All-reverse, All-between}
 use Rattle.rmt_bits.proofs.ListLaws.{slice_get-front, slice_get-end}
-use Rattle.rmt_ptcam.specs.Types.{Program, Field, Header, Tail, Target, ParserConfig, ParserEntry, TailOf}
+use Rattle.rmt_ptcam.specs.Types.{Program, Header, Tail, Target, ParserConfig, ParserEntry, TailOf}
 use Rattle.rmt_ast.specs.State.{width_of}
 use Rattle.rmt_ast.specs.WellFormed.{IsProgram, IsHeader, IsTail, bits_of}
 use Rattle.rmt_phv.specs.Packing.{pieces}
-use Rattle.rmt_phv.specs.Places.{LiesInWord, lengths_of}
+use Rattle.rmt_phv.specs.Places.{LiesInWord, high_first}
 use Rattle.rmt_config.specs.declared.config.Extract.TheVariants.{Bits, One}
 use Rattle.rmt_config.specs.ParserForm.{extract_is_formed}
 use Rattle.rmt_config.specs.LaneForm.{lane_is_formed, bits_of_lanes}
@@ -23,9 +23,10 @@ use Rattle.rmt_ast.specs.Places.{lanes_of}
 use Rattle.rmt_ptcam.specs.Fitting.{IsEntry, IsTailOf, IsParser}
 use Rattle.rmt_phv.specs.Places.{KeepsApart}
 use Rattle.rmt_ptcam.specs.Needs.{place_in, entry_count}
-use Rattle.rmt_ptcam.specs.Plain.{bits_from, lanes_in_order, extracts_of, entry_to, entry_of_case, entries_of, entries_from, tail_at, tails_for, tails_from, plain}
+use Rattle.rmt_ptcam.specs.Plain.{bits_from, extracts_of, entry_to, entry_of_case, entries_of, entries_from, tail_at, tails_for, tails_from, plain}
 use Rattle.rmt_ptcam.proofs.PlainLaws.{bits_of_lanes-append, lanes_bits, place_within}
-use Rattle.rmt_ptcam.proofs.VectorLaws.{word_size-le}
+use Rattle.rmt_bits.proofs.WordLaws.{word_size-le}
+use Rattle.rmt_phv.proofs.LaneLaws.{lanes_cut, lanes_lie}
 
 -- ---- lists that stand by a number
 
@@ -62,20 +63,7 @@ if_some P (Some x) h = h x refl
 
 -- ---- extracts
 
-pub All-reverse : {X : Type 0} (P : X → Type 0) (xs : List X) → All P xs → All P (reverse xs)
-All-reverse P [] h = All-nil P
-All-reverse P (x ∷ xs) h =
-    subst (All P) (sym (reverse-append (x ∷ []) xs)) (All-append P (reverse xs) (x ∷ []) (All-reverse P xs (All-tail P x xs h)) (All-cons P x [] (All-head P x xs h) (All-nil P)))
-
--- the lanes of a field lie in their words
-pub lanes_lie : (p : Program) (places : List (List Lane)) (f : ℕ) → KeepsApart p places → All LiesInWord (lanes_of places f)
-lanes_lie p places f keeps = by (slice_get places f) refl
-  where
-    by : (o : Option (List Lane)) → slice_get places f ≡ o → All LiesInWord (unwrap_or o [])
-    by None is = All-nil LiesInWord
-    by (Some ls) is = All-slice_get (λ (xs : List Lane). All LiesInWord xs) places f ls keeps.within is
-
-pub in_order_lie : (p : Program) (places : List (List Lane)) (fs : List ℕ) → KeepsApart p places → All LiesInWord (lanes_in_order places fs)
+pub in_order_lie : (p : Program) (places : List (List Lane)) (fs : List ℕ) → KeepsApart p places → All LiesInWord (high_first places fs)
 in_order_lie p places fs keeps =
     All-flat_map LiesInWord (λ f. reverse (lanes_of places f)) fs (λ k d lt. All-reverse LiesInWord (lanes_of places (get_or fs k d)) (lanes_lie p places (get_or fs k d) keeps))
 
@@ -93,27 +81,10 @@ bits_formed need from (l ∷ ls) few lie within =
     (rw (lt-ltb from 65536 (omega (arith, all, one, within, few)), lane_formed l (All-head LiesInWord l ls lie), le-leb (from + l.len) (8 * need) (omega (arith, all, one, within))) refl)
     (bits_formed need (from + l.len) ls few (All-tail LiesInWord l ls lie) (omega (arith, all, one, within)))
 
--- a field of one bit has lanes of one bit
-pub lens_at : (places : List (List Lane)) (fs : List Field) (f : ℕ) (x : Field) → lengths_of places ≡ map (λ (y : Field). pieces y.width) fs → slice_get fs f ≡ Some x → map (λ (l : Lane). l.len) (lanes_of places f) ≡ pieces x.width
-lens_at places [] f x cut is = absurd cc
-lens_at [] (y ∷ fs) f x cut is = absurd cc
-lens_at (ls ∷ places) (y ∷ fs) zero x cut is =
-    let here : map (λ (l : Lane). l.len) ls ≡ pieces y.width = cc in
-    let same : y ≡ x = cc in
-    here ∙ ap (λ (z : Field). pieces z.width) same
-lens_at (ls ∷ places) (y ∷ fs) (suc f) x cut is = lens_at places fs f x (let rest : lengths_of places ≡ map (λ (z : Field). pieces z.width) fs = cc in rest) is
-
 all_ones : (ls : List Lane) → map (λ (l : Lane). l.len) ls ≡ 1 ∷ [] → All (λ (l : Lane). l.len ≡ 1) ls
 all_ones [] e = All-nil (λ (l : Lane). l.len ≡ 1)
 all_ones (l ∷ []) e = All-cons (λ (m : Lane). m.len ≡ 1) l [] (let one : l.len ≡ 1 = cc in one) (All-nil (λ (m : Lane). m.len ≡ 1))
 all_ones (l ∷ m ∷ ls) e = absurd cc
-
-bit_lanes : (p : Program) (places : List (List Lane)) (f : ℕ) → KeepsApart p places → width_of p f ≡ 1 → All (λ (l : Lane). l.len ≡ 1) (lanes_of places f)
-bit_lanes p places f keeps one = by (slice_get p.fields f) refl one
-  where
-    by : (o : Option Field) → slice_get p.fields f ≡ o → unwrap_or (option_map (λ (x : Field). x.width) o) 0 ≡ 1 → All (λ (l : Lane). l.len ≡ 1) (lanes_of places f)
-    by None is w = absurd (omega (arith, w))
-    by (Some x) is w = all_ones (lanes_of places f) (lens_at places p.fields f x keeps.cut is ∙ ap pieces w)
 
 ones_formed : (need : ℕ) (lanes : List Lane) → All LiesInWord lanes → All (λ (l : Lane). l.len ≡ 1) lanes → All (λ x. extract_is_formed need x ≡ true) (map One lanes)
 ones_formed need lanes lie one =
@@ -122,9 +93,9 @@ ones_formed need lanes lie one =
 -- the extracts of a header find their bits in its bytes
 pub header_formed : (p : Program) (places : List (List Lane)) (n : ℕ) (h : Header) → KeepsApart p places → IsHeader p n h → All (λ x. extract_is_formed h.bytes x ≡ true) (extracts_of places h)
 header_formed p places n h keeps good =
-    All-append (λ x. extract_is_formed h.bytes x ≡ true) (map One (lanes_of places h.valid)) (bits_from 0 (lanes_in_order places h.fields))
-    (ones_formed h.bytes (lanes_of places h.valid) (lanes_lie p places h.valid keeps) (bit_lanes p places h.valid keeps good.valid))
-    (bits_formed h.bytes 0 (lanes_in_order places h.fields) good.is_not_long (in_order_lie p places h.fields keeps)
+    All-append (λ x. extract_is_formed h.bytes x ≡ true) (map One (lanes_of places h.valid)) (bits_from 0 (high_first places h.fields))
+    (ones_formed h.bytes (lanes_of places h.valid) (lanes_lie p places h.valid keeps) (all_ones (lanes_of places h.valid) (lanes_cut p places h.valid keeps.cut ∙ ap pieces good.valid)))
+    (bits_formed h.bytes 0 (high_first places h.fields) good.is_not_long (in_order_lie p places h.fields keeps)
     (let bits = lanes_bits p places h.fields keeps in omega (arith, bits, good.whole_bytes)))
 
 -- ---- entries
@@ -207,11 +178,6 @@ module _ (p : Program) where
       sorted-append (λ (x : TailOf). x.entry) (tails_for p n h a h.tail) (tails_from p (n + 1) (a + entry_count h) hs) (a + entry_count h)
       (tails_for_all (λ (x : TailOf). x.entry ≤ a + entry_count h) n h a h.tail (λ t is. range_most n h t a (entry_count h) (a + entry_count h) (omega arith)))
       (tails_least (n + 1) (a + entry_count h) hs) (tails_for_sorted n h a h.tail) (by_entry (n + 1) (a + entry_count h) hs)
-
-pub All-between : (P : ℕ → Type 0) (a c : ℕ) → ((w : ℕ) → a ≤ w → w < a + c → P w) → All P (range_with_len a c)
-All-between P a zero h = All-nil P
-All-between P a (suc c) h =
-    All-cons P a (range_with_len (a + 1) c) (h a (omega arith) (omega arith)) (All-between P (a + 1) c (λ w from lt. h w (omega (arith, from)) (omega (arith, lt))))
 
 -- a header whose tail is told by a field of its own
 pub record HasTail (p : Program) (h : Header) : Type 0 where

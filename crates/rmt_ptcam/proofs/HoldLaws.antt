@@ -1,14 +1,13 @@
 -- The extracts of a header put its fields into their lanes, and leave all else.
-use Rattle.std.proofs.Common.{◌≡◌, ◌≢◌, ◌⊎◌, ℕ, zero, suc, ◌+◌, ◌*◌, ◌^◌, ◌<◌, ◌≤◌, List, [], ◌∷◌, ◌++◌, get_or, length, map, reverse, fold, Option, Some, None, refl, sym, ap, subst, ◌∙◌, inl, inr, arith}
-use Rattle.std.specs.Prelude.{All, AllPairs, slice_get, slice_index, slice_set, unwrap_or}
+use Rattle.std.proofs.Common.{◌≡◌, ◌≢◌, ◌⊎◌, ℕ, zero, suc, ◌+◌, ◌*◌, ◌^◌, ◌<◌, ◌≤◌, List, [], ◌∷◌, ◌++◌, get_or, length, map, reverse, fold, refl, sym, ap, subst, ◌∙◌, inl, inr, arith}
+use Rattle.std.specs.Prelude.{All, AllPairs, slice_index, slice_set}
 use Rattle.std.specs.List.{flat_map}
 use Rattle.std.proofs.lemmas.Bool.{cases_eq}
-use Rattle.std.proofs.lemmas.List.{length-append, length-set, get_or-set_same, get_or-set_other, get_or_append_left, get_or-append-add, reverse-append}
+use Rattle.std.proofs.lemmas.List.{length-set, get_or-set_same, get_or-set_other, reverse-append}
 use Rattle.std.proofs.lemmas.List.Sums.{fold-append}
-use Rattle.std.proofs.lemmas.List.Elements.{All-nil, All-cons, All-head, All-tail, All-weaker}
+use Rattle.std.proofs.lemmas.List.Elements.{All-head, All-tail, All-weaker}
 use Rattle.rmt_bits.specs.Bits.{slice, deposit, bits_of_bytes}
 use Rattle.rmt_bits.specs.declared.lane.Lane.{Lane}
-use Rattle.rmt_bits.proofs.AllLaws.{All-right, All-parts, All-slice_get}
 use Rattle.rmt_bits.proofs.BitLaws.{slice-deposit_same, slice-deposit_above, slice-deposit_below}
 use Rattle.rmt_bits.proofs.ByteLaws.{bits_of_bytes-add, bits_of_bytes-lt, bits_of_bytes_none}
 use Rattle.rmt_ast.specs.Places.{lanes_of}
@@ -20,6 +19,9 @@ use Rattle.rmt_config.specs.LaneForm.{bits_of_lanes}
 use Rattle.rmt_config.specs.Parser.{put, extracted}
 use Rattle.rmt_ptcam.specs.Plain.{bits_from}
 use Rattle.rmt_ptcam.proofs.PlainLaws.{bits_of_lanes-append, bits_of_lanes-reverse}
+use Rattle.rmt_phv.proofs.LaneLaws.{fields_apart, lanes_all}
+use Rattle.rmt_phv.proofs.PairLaws.{AllPairs-left}
+use Rattle.rmt_bits.proofs.PairLaws.{AllPairs-head, AllPairs-right, AllPairs-tail}
 
 -- ---- one lane
 
@@ -99,12 +101,6 @@ pub after_lanes : (window v : List ℕ) (from : ℕ) (xs ys : List Lane)
 after_lanes window v from xs ys =
     ap (fold (extracted window) v) (bits_from-append from xs ys) ∙ fold-append (extracted window) v (bits_from from xs) (bits_from (from + bits_of_lanes xs) ys)
 
-first_of_pairs : (l : Lane) (ls : List Lane) → AllPairs AreApart (l ∷ ls) → All (AreApart l) ls
-first_of_pairs l ls apart k d lt = apart 0 (suc k) d (omega arith) (omega (arith, lt))
-
-rest_of_pairs : (l : Lane) (ls : List Lane) → AllPairs AreApart (l ∷ ls) → AllPairs AreApart ls
-rest_of_pairs l ls apart i j d lt below = apart (suc i) (suc j) d (omega (arith, lt)) (omega (arith, below))
-
 -- two lanes apart, as runs
 pub aside_from : (a b : Lane) → AreApart a b → IsAside b.word b.low b.len a
 aside_from a b apart = elim apart [
@@ -122,7 +118,7 @@ put_bits (l ∷ ls) v window from long lie apart within =
     let one : bits_of_lanes (l ∷ []) ≡ l.len = omega arith in
     let all : bits_of_lanes (l ∷ ls) ≡ bits_of_lanes ls + l.len = omega (arith, some, one) in
     let high : IsPut ls (bits_of_bytes window from (bits_of_lanes ls)) v (fold (extracted window) v (bits_from from (reverse ls))) =
-    put_bits ls v window from long (All-tail LiesInWord l ls lie) (rest_of_pairs l ls apart) (omega (arith, within, all)) in
+    put_bits ls v window from long (All-tail LiesInWord l ls lie) (AllPairs-tail AreApart l ls apart) (omega (arith, within, all)) in
     let w : List ℕ = fold (extracted window) v (bits_from from (reverse ls)) in
     let x : ℕ = bits_of_bytes window (from + bits_of_lanes ls) l.len in
     let fits : x < 2 ^ l.len = bits_of_bytes-lt window (from + bits_of_lanes ls) l.len in
@@ -131,7 +127,7 @@ put_bits (l ∷ ls) v window from long lie apart within =
     ∙ ap (λ n. put w l (bits_of_bytes window (from + n) l.len)) (bits_of_lanes-reverse ls) in
     let kept : held_in (put w l x) ls ≡ held_in w ls =
     held_same w (put w l x) ls (All-weaker (AreApart l) (λ (m : Lane). slice (slice_index (put w l x) m.word) m.low m.len ≡ slice (slice_index w m.word) m.low m.len)
-    (λ (m : Lane) aside. put_aside w l x high.whole lies fits m.word m.low m.len (aside_from l m aside)) ls (first_of_pairs l ls apart)) in
+    (λ (m : Lane) aside. put_aside w l x high.whole lies fits m.word m.low m.len (aside_from l m aside)) ls (AllPairs-head AreApart l ls apart)) in
     let value : held_in (put w l x) (l ∷ ls) ≡ bits_of_bytes window from (bits_of_lanes (l ∷ ls)) =
     ap (λ n. n + 2 ^ l.len * held_in (put w l x) ls) (put_reads w l x high.whole lies fits) ∙ ap (λ n. x + 2 ^ l.len * n) (kept ∙ high.held)
     ∙ (let e : x + 2 ^ l.len * bits_of_bytes window from (bits_of_lanes ls) ≡ bits_of_bytes window from (bits_of_lanes ls) * 2 ^ l.len + x = omega arith in e)
@@ -148,58 +144,10 @@ put_bits (l ∷ ls) v window from long lie apart within =
 abbrev flat : List (List Lane) → List Lane
 flat places = flat_map (λ (ls : List Lane). ls) places
 
--- what holds of all lanes holds of a field's
-pub of_field : (P : Lane → Type 0) (places : List (List Lane)) (f : ℕ) → All P (flat places) → All P (lanes_of places f)
-of_field P places f each = by (slice_get places f) refl
-  where
-    by : (o : Option (List Lane)) → slice_get places f ≡ o → All P (unwrap_or o [])
-    by None is = All-nil P
-    by (Some ls) is = All-slice_get (λ (xs : List Lane). All P xs) places f ls (All-parts P (λ (xs : List Lane). xs) places each) is
-
-apart_left : (xs ys : List Lane) → AllPairs AreApart (xs ++ ys) → AllPairs AreApart xs
-apart_left xs ys apart i j d lt below =
-    let long = length-append xs ys in
-    subst (λ (l : Lane). AreApart l (get_or xs j d)) (get_or_append_left xs ys d i (omega (arith, lt, below)))
-    (subst (AreApart (get_or (xs ++ ys) i d)) (get_or_append_left xs ys d j below) (apart i j d lt (omega (arith, long, below))))
-
-apart_right : (xs ys : List Lane) → AllPairs AreApart (xs ++ ys) → AllPairs AreApart ys
-apart_right xs ys apart i j d lt below =
-    let long = length-append xs ys in
-    subst (λ (l : Lane). AreApart l (get_or ys j d)) (get_or-append-add xs ys i d)
-    (subst (AreApart (get_or (xs ++ ys) (length xs + i) d)) (get_or-append-add xs ys j d) (apart (length xs + i) (length xs + j) d (omega (arith, lt)) (omega (arith, long, below))))
-
--- the lanes of two lists, each apart from each
-abbrev pub StandApart : List Lane → List Lane → Type 0
-StandApart xs ys = All (λ (b : Lane). All (AreApart b) ys) xs
-
-apart_across : (xs ys : List Lane) → AllPairs AreApart (xs ++ ys) → StandApart xs ys
-apart_across [] ys apart = All-nil (λ (b : Lane). All (AreApart b) ys)
-apart_across (x ∷ xs) ys apart =
-    All-cons (λ (b : Lane). All (AreApart b) ys) x xs (All-right (AreApart x) xs ys (first_of_pairs x (xs ++ ys) apart)) (apart_across xs ys (rest_of_pairs x (xs ++ ys) apart))
-
-turned_pair : (a b : Lane) → AreApart a b → AreApart b a
-turned_pair a b apart = elim apart [
-  | inl words ↦ inl (λ e. words (sym e))
-  | inr places ↦ elim places [ inl before ↦ inr (inr before) | inr behind ↦ inr (inl behind) ]
-]
-
-turned : (xs ys : List Lane) → StandApart xs ys → StandApart ys xs
-turned xs ys apart j e below i d lt = turned_pair (get_or xs i d) (get_or ys j e) (apart i d lt j e below)
-
--- the lanes of two fields stand apart, and so do those of one
-fields_apart : (places : List (List Lane)) (f g : ℕ) → AllPairs AreApart (flat places) → f ≢ g → StandApart (lanes_of places f) (lanes_of places g)
-fields_apart [] f g apart other = All-nil (λ (b : Lane). All (AreApart b) [])
-fields_apart (ls ∷ places) zero zero apart other = absurd (other refl)
-fields_apart (ls ∷ places) zero (suc g) apart other =
-    All-weaker (λ (b : Lane). All (AreApart b) (flat places)) (λ (b : Lane). All (AreApart b) (lanes_of places g)) (λ b each. of_field (AreApart b) places g each) ls (apart_across ls (flat places) apart)
-fields_apart (ls ∷ places) (suc f) zero apart other =
-    of_field (λ (b : Lane). All (AreApart b) ls) places f (turned ls (flat places) (apart_across ls (flat places) apart))
-fields_apart (ls ∷ places) (suc f) (suc g) apart other = fields_apart places f g (apart_right ls (flat places) apart) (λ e. other (ap suc e))
-
 pub lanes_apart : (places : List (List Lane)) (f : ℕ) → AllPairs AreApart (flat places) → AllPairs AreApart (lanes_of places f)
 lanes_apart [] f apart = λ i j d lt below. absurd (omega (arith, below))
-lanes_apart (ls ∷ places) zero apart = apart_left ls (flat places) apart
-lanes_apart (ls ∷ places) (suc f) apart = lanes_apart places f (apart_right ls (flat places) apart)
+lanes_apart (ls ∷ places) zero apart = AllPairs-left AreApart ls (flat places) apart
+lanes_apart (ls ∷ places) (suc f) apart = lanes_apart places f (AllPairs-right AreApart ls (flat places) apart)
 
 aside_bit : (word bit : ℕ) (l : Lane) → (l.word ≢ word) ⊎ ((bit < l.low) ⊎ (l.low + l.len ≤ bit)) → IsAside word bit 1 l
 aside_bit word bit l out = elim out [
@@ -222,7 +170,7 @@ holds_put places s v w f value apart lt holds is = record {
   ];
   others = λ word bit free.
       is.others word bit 1
-      (of_field (IsAside word bit 1) places f
+      (lanes_all (IsAside word bit 1) places f
       (All-weaker (λ (l : Lane). (l.word ≢ word) ⊎ ((bit < l.low) ⊎ (l.low + l.len ≤ bit))) (IsAside word bit 1) (λ (l : Lane) out. aside_bit word bit l out) (flat places) free))
       ∙ holds.others word bit free;
 }

@@ -17,6 +17,7 @@ use Rattle.rmt_ptcam.proofs.FormedRows.{IsFormed, IsRow}
 use Rattle.rmt_ptcam.proofs.LookupLaws.{Compares, compares_of, looked_at}
 use Rattle.rmt_ptcam.proofs.RowLaws.{hits}
 use Rattle.rmt_ptcam.proofs.TogetherLaws.{AreJoined, few_here, few_there}
+use Rattle.rmt_bits.proofs.OptionLaws.{None-from_is_none}
 
 -- ---- lookups of a state
 
@@ -69,10 +70,6 @@ pub record MayJoin (parser : ParserConfig) (at : ℕ) (e : ParserEntry) (state :
   pub lights : All (λ (f : ParserEntry). is_light e f ≡ true) (entries_in state parser.entries)
   pub room : length parser.entries + length (entries_in state parser.entries) ≤ 16385
 
-none_from : {X : Type 0} (o : Option X) → is_none o ≡ true → o ≡ None
-none_from None is = refl
-none_from (Some x) is = absurd cc
-
 pub may_join : (parser : ParserConfig) (at : ℕ) (e : ParserEntry) (state : ℕ) → can_join parser at e state ≡ true → MayJoin parser at e state
 may_join parser at e state can =
     let here : List ℕ = lookups_at parser.states e.state in
@@ -89,7 +86,7 @@ may_join parser at e state can =
     let g = and_parts (is_none (tail_of parser at)) (e.need == e.advance) f.0 in
     let h = and_parts low count c.1 in
     record {
-      untailed = none_from (tail_of parser at) g.0;
+      untailed = None-from_is_none (tail_of parser at) g.0;
       whole = eqb-true e.need e.advance g.1;
       before = All-from_test (λ o. (o < e.advance) ⊎ (byte_at here e.mask o ≡ 0)) (λ o. nat_lt o e.advance || (byte_at here e.mask o == 0))
           (λ o is. elim (or_cases (nat_lt o e.advance) (byte_at here e.mask o == 0) is) [ inl lt ↦ inl (ltb-true o e.advance lt) | inr none ↦ inr (eqb-true (byte_at here e.mask o) 0 none) ]) here f.1;

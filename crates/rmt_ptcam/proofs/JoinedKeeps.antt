@@ -21,9 +21,10 @@ use Rattle.rmt_ptcam.proofs.FormLaws.{sorted-append, sorted-same}
 use Rattle.rmt_ptcam.proofs.FormedRows.{IsFormed, IsRow, IsRowTail, entries_of_rows, rows_are}
 use Rattle.rmt_ptcam.proofs.JoinFacts.{MayJoin, RiseLow, are_joined, entry_compares, lookups_formed, may_join, rows_in_entries}
 use Rattle.rmt_ptcam.proofs.JoinedForm.{made_keeps}
-use Rattle.rmt_ptcam.proofs.JoinedParse.{formed_e, get_set_other, get_set_same, joined_alike, next_there, second_formed, second_own}
+use Rattle.rmt_ptcam.proofs.JoinedParse.{formed_e, get_set_same, joined_alike, next_there, second_formed, second_own}
 use Rattle.rmt_ptcam.proofs.LookupLaws.{Compares, byte_small, compares_at, compares_by}
 use Rattle.rmt_ptcam.proofs.TogetherLaws.{both_compares, few_here, list_all_below, together_low, together_rises}
+use Rattle.rmt_bits.proofs.ListLaws.{slice_get-set_other}
 
 -- ---- extracts of a joined entry
 
@@ -113,7 +114,7 @@ module _ (parser : ParserConfig) (keeps : KeepsForm parser) (at : ℕ) (e : Pars
   own_lookups = ap (λ (o : Option ParserState). unwrap_or (option_map (λ (s : ParserState). length s.lookups) o) 0) (get_set_same parser.states n (record { lookups = to }) first.state_there)
 
   other_lookups : (s : ℕ) → s ≢ n → lookups_of states s ≡ lookups_of parser.states s
-  other_lookups s other = ap (λ (o : Option ParserState). unwrap_or (option_map (λ (x : ParserState). length x.lookups) o) 0) (get_set_other parser.states n s (record { lookups = to }) other)
+  other_lookups s other = ap (λ (o : Option ParserState). unwrap_or (option_map (λ (x : ParserState). length x.lookups) o) 0) (slice_get-set_other parser.states n s (record { lookups = to }) other)
 
   -- a row of another state
   kept_row : (x : Row) → x.entry.state ≢ n → IsRow parser.states x → IsRow states x

@@ -2,7 +2,7 @@
 use Rattle.std.proofs.Common.{◌≡◌, ◌≢◌, ◌&&◌, cond, eqb, nat_lt, Bool, true, false, ℕ, zero, suc, ◌+◌, ◌<◌, ◌≤◌, List, [], ◌∷◌, ◌++◌, get_or, length, map, find, take, drop, Option, Some, None, refl, sym, ap, subst, ◌∙◌, inl, inr, arith}
 use Rattle.std.specs.Prelude.{All, bit_and, option_map, slice_get, slice_index, slice_set}
 use Rattle.std.specs.Option.{option_or}
-use Rattle.std.proofs.lemmas.Bool.{cases_lt, cases_eq, eq-eqb, eqb-true, and_parts, and_left, ltb-true}
+use Rattle.std.proofs.lemmas.Bool.{cases_lt, cases_eq, eq-eqb, eqb-true, and_parts, and_left, ltb-true, ne_eqb}
 use Rattle.std.proofs.lemmas.List.{length-set, get_or_past}
 use Rattle.std.proofs.lemmas.List.Folds.{find-append}
 use Rattle.std.proofs.lemmas.List.Elements.{All-head, All-tail, All-take, All-drop, All-filter, All-weaker, All-map}
@@ -13,14 +13,13 @@ use Rattle.rmt_config.specs.declared.config.Next.TheVariants as next
 use Rattle.rmt_config.specs.Parser.{Parse, Reached, Short, begin, behind, follow, lookup_value, parse_from, tail_of, value_at}
 use Rattle.rmt_config.specs.ParserForm.{next_is_formed}
 use Rattle.rmt_ptcam.specs.Joining.{Row, KeepsForm, ParsesAlike, both, ends_open, joined, joined_row, lookups_at, rows_in, rows_of, spread, together, widened, widened_entry}
-use Rattle.rmt_ptcam.proofs.SearchLaws.{apart, find_passes}
 use Rattle.rmt_ptcam.proofs.FormedRows.{IsFormed, IsRow, row_at, rows_are, split_at}
 use Rattle.rmt_ptcam.proofs.JoinFacts.{MayJoin, are_joined, entry_compares, find_in, found_open, lookups_formed, rows_in_entries, value_is}
 use Rattle.rmt_ptcam.proofs.JoinLaws.{two_steps}
 use Rattle.rmt_ptcam.proofs.LookupLaws.{looked_at, test_widened}
 use Rattle.rmt_ptcam.proofs.RowLaws.{follow_later, hits, row_step, step_same, taken_made, taken_row}
 use Rattle.rmt_ptcam.proofs.TogetherLaws.{own_here, few_here, test_joined}
-use Rattle.rmt_bits.proofs.ListLaws.{find-none}
+use Rattle.rmt_bits.proofs.ListLaws.{find-none, slice_get-set_other, find-passes}
 
 -- ---- lists
 
@@ -28,13 +27,6 @@ pub get_set_same : {X : Type 0} (xs : List X) (i : ℕ) (x : X) → i < length x
 get_set_same [] i x lt = absurd (omega (arith, lt))
 get_set_same (y ∷ ys) zero x lt = refl
 get_set_same (y ∷ ys) (suc i) x lt = get_set_same ys i x (omega (arith, lt))
-
-pub get_set_other : {X : Type 0} (xs : List X) (i j : ℕ) (x : X) → j ≢ i → slice_get (slice_set xs i x) j ≡ slice_get xs j
-get_set_other [] i j x other = refl
-get_set_other (y ∷ ys) zero zero x other = absurd (other refl)
-get_set_other (y ∷ ys) zero (suc j) x other = refl
-get_set_other (y ∷ ys) (suc i) zero x other = refl
-get_set_other (y ∷ ys) (suc i) (suc j) x other = get_set_other ys i j x (λ e. other (ap suc e))
 
 -- a search in changed items
 pub find_map : {X Y : Type 0} (p : Y → Bool) (q : X → Bool) (f : X → Y) (xs : List X) → All (λ x. p (f x) ≡ q x) xs → find p (map f xs) ≡ option_map f (find q xs)
@@ -61,7 +53,7 @@ module _ (parser : ParserConfig) (keeps : KeepsForm parser) (frame : List ℕ) w
   pub found_row : (state value : ℕ) (x : Row) → find (hits state value) (rows_of parser) ≡ Some x → (next_is_formed (length parser.states) state x.entry.next ≡ true)
   found_row state value x found =
       let is : IsRow parser.states x = All-find (IsRow parser.states) (hits state value) (rows_of parser) x (rows_are parser keeps) found in
-      let own : x.entry.state ≡ state = eqb-true x.entry.state state (and_parts (eqb x.entry.state state) (eqb (bit_and value x.entry.mask) x.entry.value) (find_passes (hits state value) (rows_of parser) x found)).0 in
+      let own : x.entry.state ≡ state = eqb-true x.entry.state state (and_parts (eqb x.entry.state state) (eqb (bit_and value x.entry.mask) x.entry.value) (find-passes (hits state value) (rows_of parser) x found)).0 in
       subst (λ s. next_is_formed (length parser.states) s x.entry.next ≡ true) own is.entry.next
 
   -- the row that is found, where what is behind it goes on alike
@@ -141,9 +133,6 @@ module _ (parser : ParserConfig) (keeps : KeepsForm parser) (at : ℕ) (e : Pars
 
   -- ---- the rows at a state of a frame
 
-  abbrev has_entry : Row → ParserEntry
-  has_entry x = x.entry
-
   -- of a row only what it compares changes
   widen_step : (goes : ℕ → Reached → Parse) (frame : List ℕ) (r : Reached) (o : Option Row) → row_step goes frame (option_map widen o) r ≡ row_step goes frame o r
   widen_step goes frame r None = refl
@@ -164,7 +153,7 @@ module _ (parser : ParserConfig) (keeps : KeepsForm parser) (at : ℕ) (e : Pars
   -- rows of another state
   module _ (state value : ℕ) (other : state ≢ n) where
     not_own : eqb n state ≡ false
-    not_own = apart n state (λ same. other (sym same))
+    not_own = ne_eqb n state (λ same. other (sym same))
 
     widen_other : (x : Row) → hits state value (widen x) ≡ hits state value x
     widen_other x = by (eqb x.entry.state n) refl
@@ -172,7 +161,7 @@ module _ (parser : ParserConfig) (keeps : KeepsForm parser) (at : ℕ) (e : Pars
         by : (b : Bool) → eqb x.entry.state n ≡ b → hits state value (cond b (record x { entry = widened_entry here to x.entry }) x) ≡ hits state value x
         by true is =
             let own : x.entry.state ≡ n = eqb-true x.entry.state n is in
-            let not : eqb x.entry.state state ≡ false = apart x.entry.state state (λ same. other (sym same ∙ own)) in
+            let not : eqb x.entry.state state ≡ false = ne_eqb x.entry.state state (λ same. other (sym same ∙ own)) in
             and_left (eqb x.entry.state state) (eqb (bit_and value (spread here to x.entry.mask)) (spread here to x.entry.value)) not
             ∙ sym (and_left (eqb x.entry.state state) (eqb (bit_and value x.entry.mask) x.entry.value) not)
         by false is = refl
@@ -369,7 +358,7 @@ module _ (parser : ParserConfig) (keeps : KeepsForm parser) (at : ℕ) (e : Pars
             ∙ step_own frame small r k goes there room on_later)
             lt enough later
         | inr other ↦
-            ap (λ (o : Option ParserState). row_step goes frame (find (hits state (value_at frame r.at o)) new_rows) r) (get_set_other parser.states n state (record { lookups = to }) other)
+            ap (λ (o : Option ParserState). row_step goes frame (find (hits state (value_at frame r.at o)) new_rows) r) (slice_get-set_other parser.states n state (record { lookups = to }) other)
             ∙ step_other state value_here other goes frame r
             ∙ row_later parser keeps frame goes (parse_from k parser frame) state value_here r (find (hits state value_here) (rows_of parser)) refl later
       ]

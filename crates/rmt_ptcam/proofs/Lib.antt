@@ -1,6 +1,5 @@
 pub mod SearchLaws
 pub mod ParseLaws
-pub mod VectorLaws
 pub mod NeedLaws
 pub mod PlainLaws
 pub mod FormLaws

@@ -11,7 +11,7 @@ use Rattle.rmt_config.specs.Order.{rises_from}
 use Rattle.rmt_config.specs.Parser.{high_bytes}
 use Rattle.rmt_ptcam.specs.Joining.{byte_at, is_among, spread}
 use Rattle.rmt_ptcam.proofs.ByteRunLaws.{map_same, high_and, high_apart}
-use Rattle.rmt_ptcam.proofs.CaseLaws.{both_or_neither}
+use Rattle.rmt_bits.proofs.OptionLaws.{same_Bool}
 
 -- ---- up to four bytes, one after another
 
@@ -183,7 +183,7 @@ pub test_widened : (read : ℕ → ℕ) → ((o : ℕ) → read o < 256) → (le
 test_widened read small least ls to m v rises few few_to own over_m over_v =
     let mask : ℕ → ℕ = byte_at ls m in
     let value : ℕ → ℕ = byte_at ls v in
-    both_or_neither (eqb (bit_and (looked_at read to) (spread ls to m)) (spread ls to v)) (eqb (bit_and (looked_at read ls) m) v)
+    same_Bool (eqb (bit_and (looked_at read to) (spread ls to m)) (spread ls to v)) (eqb (bit_and (looked_at read ls) m) v)
     (λ wide.
     let each : All (Agrees read mask value) to =
     agrees_at read mask value small (byte_small ls m) (byte_small ls v) to few_to (eqb-true (bit_and (looked_at read to) (spread ls to m)) (spread ls to v) wide) in

@@ -1,27 +1,20 @@
 -- Fields of headers one behind another, and what is counted of them.
-use Rattle.std.proofs.Common.{◌||◌, ◌≡◌, ◌≢◌, ℕ, ◌+◌, ◌/◌, ◌%◌, ◌<◌, ◌≤◌, Bool, true, false, cond, eqb, nat_lt, min, List, [], ◌∷◌, ◌++◌, get_or, length, drop, map, replicate, Option, Some, None, Ok, Err, refl, sym, ap, subst, ◌∙◌, inl, inr, arith}
+use Rattle.std.proofs.Common.{◌||◌, ◌≡◌, ◌≢◌, ℕ, ◌+◌, ◌/◌, ◌%◌, ◌<◌, ◌≤◌, Bool, true, false, cond, eqb, nat_lt, min, List, [], ◌∷◌, ◌++◌, length, drop, replicate, Option, Some, None, Ok, refl, sym, ap, subst, ◌∙◌, inl, inr, arith}
 use Rattle.std.specs.Prelude.{sum_by, slice_get, slice_index}
-use Rattle.std.specs.Option.{option_or}
 use Rattle.std.specs.List.{filter, list_any, range_with_len}
 use Rattle.std.proofs.lemmas.List.{at_drop_more, at_drop_all, length-append, length-replicate, append-nil}
-use Rattle.std.proofs.lemmas.List.Elements.{filter-append}
-use Rattle.std.proofs.lemmas.List.Sums.{sum_by-cons, sum-map, sum_by-le-sum_by}
-use Rattle.std.proofs.lemmas.Bool.{eq-eqb, lt-ltb, le-ltb, ltb-false}
+use Rattle.std.proofs.lemmas.List.Sums.{sum-map, sum_by-le-sum_by}
+use Rattle.std.proofs.lemmas.Bool.{eq-eqb, ltb-false, ne_eqb}
 use Rattle.std.proofs.lemmas.Bool.Decides.{eqb_tells}
-use Rattle.rmt_bits.proofs.ListLaws.{range_more}
+use Rattle.rmt_bits.proofs.ListLaws.{filter-range_more}
 use Rattle.rmt_ptcam.specs.Types.{Program, Header}
 use Rattle.rmt_ast.specs.State.{width_of}
 use Rattle.rmt_ast.specs.WellFormed.{IsProgram, bits_of}
 use Rattle.rmt_phv.specs.Packing.{pieces}
 use Rattle.rmt_ptcam.specs.declared.fault.ParserFault.{ParserFault}
 use Rattle.rmt_ptcam.specs.declared.fault.ParserFault.TheVariants.{ParserFull}
-use Rattle.rmt_ptcam.proofs.SearchLaws.{apart}
-use Rattle.rmt_ptcam.specs.Needs.{place_in, entries_in, header_fault, first_fault, full_fault, refusal, unless}
-
--- the bits of the fields from one on are its own and those of the others
-pub bits_of-drop : (p : Program) (fields : List ℕ) (i : ℕ) → i < length fields → bits_of p (drop i fields) ≡ width_of p (slice_index fields i) + bits_of p (drop (i + 1) fields)
-bits_of-drop p fields i h =
-    at_drop_more (bits_of p) fields i 0 h ∙ sum_by-cons (λ (n : ℕ). n) (width_of p (slice_index fields i)) (map (width_of p) (drop (i + 1) fields))
+use Rattle.rmt_ptcam.specs.Needs.{place_in, entries_in, first_fault, full_fault, refusal, unless}
+use Rattle.rmt_bits.proofs.OptionLaws.{option_or-none_right}
 
 -- a header of the program has at most 512 bits
 pub header_short : (p : Program) (n : ℕ) (h : Header) → IsProgram p → slice_get p.headers n ≡ Some h → bits_of p h.fields ≤ 512
@@ -36,7 +29,7 @@ place_found p fs f i lt is =
 pub place_further : (p : Program) (fs : List ℕ) (f i : ℕ) → i < length fs → slice_index fs i ≢ f → place_in p (drop i fs) f ≡ width_of p (slice_index fs i) + place_in p (drop (i + 1) fs) f
 place_further p fs f i lt other =
     at_drop_more (λ (gs : List ℕ). place_in p gs f) fs i 0 lt
-    ∙ ap (λ (b : Bool). cond b 0 (width_of p (slice_index fs i) + place_in p (drop (i + 1) fs) f)) (apart (slice_index fs i) f other)
+    ∙ ap (λ (b : Bool). cond b 0 (width_of p (slice_index fs i) + place_in p (drop (i + 1) fs) f)) (ne_eqb (slice_index fs i) f other)
 
 pub place_past : (p : Program) (fs : List ℕ) (f i : ℕ) → length fs ≤ i → place_in p (drop i fs) f ≡ 0
 place_past p fs f i le = at_drop_all (λ (gs : List ℕ). place_in p gs f) fs i le
@@ -51,20 +44,14 @@ any_later t xs i lt fails = at_drop_more (list_any t) xs i 0 lt ∙ ap (λ (b : 
 pub any_end : (t : ℕ → Bool) (xs : List ℕ) (i : ℕ) → length xs ≤ i → list_any t (drop i xs) ≡ false
 any_end t xs i le = at_drop_all (list_any t) xs i le
 
--- the numbers below the next one that pass a test
-pub filter_range_more : (t : ℕ → Bool) (n : ℕ) → filter t (range_with_len 0 (n + 1)) ≡ filter t (range_with_len 0 n) ++ cond (t n) (n ∷ []) []
-filter_range_more t n =
-    let none : 0 + n ≡ n = omega arith in
-    ap (filter t) (range_more 0 n ∙ ap (λ m. range_with_len 0 n ++ m ∷ []) none) ∙ filter-append t (range_with_len 0 n) (n ∷ [])
-
 -- how many these are
 pub counted_here : (t : ℕ → Bool) (n count : ℕ) → count ≡ length (filter t (range_with_len 0 n)) → t n ≡ true → count + 1 ≡ length (filter t (range_with_len 0 (n + 1)))
 counted_here t n count is passes =
-    ap (λ k. k + 1) is ∙ sym (ap length (filter_range_more t n ∙ ap (λ (b : Bool). filter t (range_with_len 0 n) ++ cond b (n ∷ []) []) passes) ∙ length-append (filter t (range_with_len 0 n)) (n ∷ []))
+    ap (λ k. k + 1) is ∙ sym (ap length (filter-range_more t n ∙ ap (λ (b : Bool). filter t (range_with_len 0 n) ++ cond b (n ∷ []) []) passes) ∙ length-append (filter t (range_with_len 0 n)) (n ∷ []))
 
 pub counted_not : (t : ℕ → Bool) (n count : ℕ) → count ≡ length (filter t (range_with_len 0 n)) → t n ≡ false → count ≡ length (filter t (range_with_len 0 (n + 1)))
 counted_not t n count is fails =
-    is ∙ sym (ap length (filter_range_more t n ∙ ap (λ (b : Bool). filter t (range_with_len 0 n) ++ cond b (n ∷ []) []) fails ∙ append-nil (filter t (range_with_len 0 n))))
+    is ∙ sym (ap length (filter-range_more t n ∙ ap (λ (b : Bool). filter t (range_with_len 0 n) ++ cond b (n ∷ []) []) fails ∙ append-nil (filter t (range_with_len 0 n))))
 
 -- how many pieces a width has
 pub pieces_count : (w : ℕ) → length (pieces w) ≡ (w + 31) / 32
@@ -79,64 +66,12 @@ few_pieces p fs =
     let each : (f : ℕ) → length (pieces (width_of p f)) ≤ width_of p f = λ f. let n = pieces_count (width_of p f) in omega (arith, n) in
     subst (λ n. sum_by (λ f. length (pieces (width_of p f))) fs ≤ n) (sym (sum-map (width_of p) fs)) (sum_by-le-sum_by (λ f. length (pieces (width_of p f))) (width_of p) fs each)
 
--- what is refused is told
-pub unless_err : {X : Type 0} (o : Option ParserFault) (x : X) (fault : ParserFault) → unless o x ≡ Err fault → o ≡ Some fault
-unless_err None x fault e = absurd cc
-unless_err (Some f) x fault e = cc
-
 pub unless_ok : {X : Type 0} (o : Option ParserFault) (x y : X) → unless o x ≡ Ok y → o ≡ None
 unless_ok None x y e = refl
 unless_ok (Some f) x y e = absurd cc
 
--- the first of the headers from one on that is refused
-pub first_step : (p : Program) (hs : List Header) (n : ℕ) (h : Header) → n < length hs → h ≡ get_or hs n h → first_fault p n (drop n hs) ≡ option_or (header_fault p n h) (first_fault p (n + 1) (drop (n + 1) hs))
-first_step p hs n h lt is =
-    at_drop_more (first_fault p n) hs n h lt ∙ ap (λ (x : Header). option_or (header_fault p n x) (first_fault p (n + 1) (drop (n + 1) hs))) (sym is)
-
-pub first_end : (p : Program) (hs : List Header) (n : ℕ) → length hs ≤ n → first_fault p n (drop n hs) ≡ None
-first_end p hs n le = at_drop_all (first_fault p n) hs n le
-
--- a header that is refused, before which none is
-pub refused_here : (p : Program) (n : ℕ) (h : Header) (fault : ParserFault) → n < length p.headers → h ≡ get_or p.headers n h → first_fault p 0 p.headers ≡ first_fault p n (drop n p.headers)
-    → unless (header_fault p n h) (tt {0}) ≡ Err fault → refusal p ≡ Some fault
-refused_here p n h fault lt is so_far told =
-    let here : header_fault p n h ≡ Some fault = unless_err (header_fault p n h) (tt {0}) fault told in
-    let first : first_fault p 0 p.headers ≡ Some fault =
-    so_far ∙ first_step p p.headers n h lt is ∙ ap (λ (o : Option ParserFault). option_or o (first_fault p (n + 1) (drop (n + 1) p.headers))) here in
-    ap (λ (o : Option ParserFault). option_or o (full_fault p)) first
-
--- one that is not
-pub refused_later : (p : Program) (n : ℕ) (h : Header) → n < length p.headers → h ≡ get_or p.headers n h → first_fault p 0 p.headers ≡ first_fault p n (drop n p.headers)
-    → unless (header_fault p n h) (tt {0}) ≡ Ok (tt {0}) → first_fault p 0 p.headers ≡ first_fault p (n + 1) (drop (n + 1) p.headers)
-refused_later p n h lt is so_far told =
-    let here : header_fault p n h ≡ None = unless_ok (header_fault p n h) (tt {0}) (tt {0}) told in
-    so_far ∙ first_step p p.headers n h lt is ∙ ap (λ (o : Option ParserFault). option_or o (first_fault p (n + 1) (drop (n + 1) p.headers))) here
-
--- no header is refused
-pub refused_full : (p : Program) (n entries : ℕ) → length p.headers ≤ n → first_fault p 0 p.headers ≡ first_fault p n (drop n p.headers) → entries ≡ min (entries_in p.headers) 4294967295
-    → 256 < entries → refusal p ≡ Some (ParserFull entries)
-refused_full p n entries le so_far counted many =
-    let none : first_fault p 0 p.headers ≡ None = so_far ∙ first_end p p.headers n le in
-    let over : nat_lt 256 (entries_in p.headers) ≡ true = lt-ltb 256 (entries_in p.headers) (omega arith) in
-    ap (λ (o : Option ParserFault). option_or o (full_fault p)) none
-    ∙ ap (λ (b : Bool). cond b (Some (ParserFull (min (entries_in p.headers) 4294967295))) None) over
-    ∙ ap (λ (k : ℕ). Some (ParserFull k)) (sym counted)
-
-pub refused_none : (p : Program) (n entries : ℕ) → length p.headers ≤ n → first_fault p 0 p.headers ≡ first_fault p n (drop n p.headers) → entries ≡ min (entries_in p.headers) 4294967295
-    → entries ≤ 256 → refusal p ≡ None
-refused_none p n entries le so_far counted few =
-    let none : first_fault p 0 p.headers ≡ None = so_far ∙ first_end p p.headers n le in
-    let under : nat_lt 256 (entries_in p.headers) ≡ false = le-ltb 256 (entries_in p.headers) (omega arith) in
-    ap (λ (o : Option ParserFault). option_or o (full_fault p)) none
-    ∙ ap (λ (b : Bool). cond b (Some (ParserFull (min (entries_in p.headers) 4294967295))) None) under
-
--- a program that is not refused has few entries
-pub either_none : (a b : Option ParserFault) → option_or a b ≡ None → b ≡ None
-either_none None b e = e
-either_none (Some f) b e = absurd cc
-
 pub fits_in : (p : Program) → refusal p ≡ None → entries_in p.headers ≤ 256
-fits_in p e = by (nat_lt 256 (entries_in p.headers)) refl (either_none (first_fault p 0 p.headers) (full_fault p) e)
+fits_in p e = by (nat_lt 256 (entries_in p.headers)) refl (option_or-none_right (first_fault p 0 p.headers) (full_fault p) e)
   where
     by : (b : Bool) → nat_lt 256 (entries_in p.headers) ≡ b → cond b (Some (ParserFull (min (entries_in p.headers) 4294967295))) None ≡ None → entries_in p.headers ≤ 256
     by true is e = absurd cc

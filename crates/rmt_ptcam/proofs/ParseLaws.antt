@@ -12,7 +12,7 @@ use Rattle.rmt_config.specs.declared.tails.TailAt.{TailAt}
 use Rattle.rmt_ptcam.specs.declared.step.Step.{Step}
 use Rattle.rmt_ptcam.specs.Parsing.{standing, StepGives}
 use Rattle.rmt_ptcam.specs.Fitting.{IsTailOf}
-use Rattle.rmt_ptcam.proofs.SearchLaws.{find_passes}
+use Rattle.rmt_bits.proofs.ListLaws.{find-passes}
 
 pub map_at_some : (f : ℕ → ℕ) (xs : List ℕ) (i x : ℕ) → slice_get xs i ≡ Some x → slice_index (map f xs) i ≡ f x
 map_at_some f xs i x h = get_or-map f xs i x 0 (slice_get_within xs i x h) ∙ ap f (get_or_from_slice_get xs i x x h)
@@ -47,7 +47,7 @@ run_end parser frame state k r h was =
 -- the tail of an entry is one of the parser's, and of that entry
 pub tail_fits : (parser : ParserConfig) (n : ℕ) (t : TailOf) → All (IsTailOf parser) parser.tails → tail_of parser n ≡ Some t → IsTailOf parser t × (t.entry ≡ n)
 tail_fits parser n t fit found =
-    (All-find (IsTailOf parser) (λ (x : TailOf). eqb x.entry n) parser.tails t fit found, eqb-true t.entry n (find_passes (λ (x : TailOf). eqb x.entry n) parser.tails t found))
+    (All-find (IsTailOf parser) (λ (x : TailOf). eqb x.entry n) parser.tails t fit found, eqb-true t.entry n (find-passes (λ (x : TailOf). eqb x.entry n) parser.tails t found))
 
 -- what such a tail asks, where there is one
 pub tail_asks : (P : TailOf → Type 0) (parser : ParserConfig) (n : ℕ) (o : Option TailOf) → All (IsTailOf parser) parser.tails → o ≡ tail_of parser n

@@ -1,40 +1,41 @@
 -- The plain parser keeps the rules of form.
 use Rattle.std.proofs.Common.{◌≡◌, ◌&&◌, cond, nat_lt, Bool, true, false, ℕ, zero, suc, ◌+◌, ◌-◌, ◌*◌, ◌%◌, ◌^◌, ◌<◌, ◌≤◌, List, [], ◌∷◌, get_or, length, map, reverse, Option, Some, None, refl, sym, ap, subst, ◌∙◌, arith}
-use Rattle.std.specs.Prelude.{All, bit_and, min, option_map, slice_get, unwrap_or}
+use Rattle.std.specs.Prelude.{All, bit_and, option_map, slice_get, unwrap_or}
 use Rattle.std.specs.List.{AllZip, list_all, range_with_len, sum_by}
 use Rattle.std.proofs.lemmas.Bool.{and_from, lt-ltb, ltb-false}
 use Rattle.std.proofs.lemmas.List.{length-append, length-map, length-reverse}
-use Rattle.std.proofs.lemmas.List.Elements.{All-nil, All-cons, All-append, All-contains, All-filter, All-head, All-map, All-tail}
-use Rattle.std.proofs.lemmas.List.Sums.{sum_by-cons}
+use Rattle.std.proofs.lemmas.List.Elements.{All-nil, All-cons, All-append, All-contains, All-filter, All-map}
+use Rattle.std.proofs.lemmas.List.Sums.{sum_by-cons, list_all-from_AllPass}
 use Rattle.std.proofs.lemmas.Option.{same_Some, slice_get-get_or, slice_get-map, slice_get_within}
 use Rattle.rmt_bits.specs.Bits.{slice}
 use Rattle.rmt_bits.specs.declared.lane.Lane.{Lane}
 use Rattle.rmt_bits.proofs.AllLaws.{All-range}
 use Rattle.rmt_bits.proofs.BitLaws.{slice-lt}
-use Rattle.rmt_ptcam.specs.Types.{Program, Field, Header, Case, Test, Target, ParserState}
+use Rattle.rmt_ptcam.specs.Types.{Program, Header, Case, Test, Target, ParserState}
 use Rattle.rmt_ast.specs.declared.program.Target.TheVariants as target
 use Rattle.rmt_ast.specs.Places.{lanes_of}
 use Rattle.rmt_ast.specs.State.{width_of}
 use Rattle.rmt_ast.specs.WellFormed.{AreTests, IsCase, IsHeader, IsProgram, IsTarget}
 use Rattle.rmt_phv.specs.Packing.{pieces}
-use Rattle.rmt_phv.specs.Places.{KeepsApart}
+use Rattle.rmt_phv.specs.Places.{KeepsApart, high_first}
 use Rattle.rmt_config.specs.declared.config.Extract.TheVariants.{One}
 use Rattle.rmt_config.specs.Order.{rises_from}
 use Rattle.rmt_config.specs.ParserForm.{entry_is_formed, extract_is_formed, lookups_of as lookups_in_state, next_is_formed, state_is_formed}
-use Rattle.rmt_ptcam.specs.declared.fault.ParserFault.TheVariants.{LookupWide, ParserFull, StepWide}
+use Rattle.rmt_ptcam.specs.declared.fault.ParserFault.TheVariants.{LookupWide, StepWide}
 use Rattle.rmt_ptcam.specs.Joining.{KeepsForm}
-use Rattle.rmt_ptcam.specs.Needs.{entries_in, extract_count, first_fault, full_fault, header_fault, is_looked_up, lookups_of, refusal}
-use Rattle.rmt_ptcam.specs.Plain.{bits_from, entries_from, entries_of, entry_of_case, entry_to, extracts_of, lanes_in_order, looked_up, next_of, plain, state_of}
-use Rattle.rmt_ptcam.proofs.AgreementLaws.{few_lookups, none_first, valid_lens}
+use Rattle.rmt_ptcam.specs.Needs.{extract_count, first_fault, full_fault, header_fault, is_looked_up, lookups_of, refusal}
+use Rattle.rmt_ptcam.specs.Plain.{bits_from, entries_from, entries_of, entry_of_case, entry_to, extracts_of, looked_up, next_of, plain, state_of}
+use Rattle.rmt_ptcam.proofs.AgreementLaws.{few_lookups}
 use Rattle.rmt_ptcam.proofs.BitRunLaws.{bit_from_slice, same_on_runs, slice-and}
 use Rattle.rmt_ptcam.proofs.CaseLaws.{byte_of, case_reads, looked_up_shown, low_of, masks_fit, number_with, shown, values_fit}
-use Rattle.rmt_ptcam.proofs.FieldLaws.{OwnsFields, owns_fields}
 use Rattle.rmt_ptcam.proofs.FormedRows.{formed_from}
-use Rattle.rmt_ptcam.proofs.FormLaws.{header_formed, lens_at, plain_is_parser}
+use Rattle.rmt_ptcam.proofs.FormLaws.{header_formed, plain_is_parser}
 use Rattle.rmt_ptcam.proofs.LookupLaws.{Compares, IsOver, agrees_from, word_over}
-use Rattle.rmt_ptcam.proofs.NeedLaws.{either_none}
+use Rattle.rmt_ptcam.proofs.NeedLaws.{fits_in}
 use Rattle.rmt_ptcam.proofs.PlainLaws.{length-entries_from}
 use Rattle.rmt_ptcam.proofs.TogetherLaws.{list_all_below, rises_filtered}
+use Rattle.rmt_bits.proofs.OptionLaws.{option_or-none_left, option_or-none_right}
+use Rattle.rmt_phv.proofs.LaneLaws.{lanes_count}
 
 -- ---- what a case compares
 
@@ -94,30 +95,24 @@ length-bits_from : (from : ℕ) (ls : List Lane) → length (bits_from from ls) 
 length-bits_from from [] = refl
 length-bits_from from (l ∷ ls) = ap suc (length-bits_from (from + l.len) ls)
 
-lanes_count : (p : Program) (places : List (List Lane)) (f : ℕ) → KeepsApart p places → f < length p.fields → length (lanes_of places f) ≡ length (pieces (width_of p f))
-lanes_count p places f keeps inside =
-    let x : Field = get_or p.fields f (record { name = []; width = 0 }) in
-    let found : slice_get p.fields f ≡ Some x = slice_get-get_or p.fields f (record { name = []; width = 0 }) inside in
-    sym (length-map (lanes_of places f) (λ (l : Lane). l.len)) ∙ ap length (lens_at places p.fields f x keeps.cut found)
-    ∙ sym (ap (λ (o : Option Field). length (pieces (unwrap_or (option_map (λ (y : Field). y.width) o) 0))) found)
-
-fields_count : (p : Program) (places : List (List Lane)) (fs : List ℕ) → KeepsApart p places → All (λ f. f < length p.fields) fs → length (lanes_in_order places fs) ≡ sum_by (λ f. length (pieces (width_of p f))) fs
-fields_count p places [] keeps there = refl
-fields_count p places (f ∷ fs) keeps there =
-    let here = lanes_count p places f keeps (All-head (λ g. g < length p.fields) f fs there) in
-    let rest = fields_count p places fs keeps (All-tail (λ g. g < length p.fields) f fs there) in
-    let long = length-append (reverse (lanes_of places f)) (lanes_in_order places fs) in
+-- as many lanes as pieces
+pub fields_count : (p : Program) (places : List (List Lane)) (fs : List ℕ) → KeepsApart p places → length (high_first places fs) ≡ sum_by (λ f. length (pieces (width_of p f))) fs
+fields_count p places [] keeps = refl
+fields_count p places (f ∷ fs) keeps =
+    let here = lanes_count p places f keeps.cut in
+    let rest = fields_count p places fs keeps in
+    let long = length-append (reverse (lanes_of places f)) (high_first places fs) in
     let turned = length-reverse (lanes_of places f) in
     let all = sum_by-cons (λ g. length (pieces (width_of p g))) f fs in
     omega (arith, here, rest, long, turned, all)
 
-extracts_count : (p : Program) (places : List (List Lane)) (n : ℕ) (h : Header) → KeepsApart p places → IsHeader p n h → OwnsFields p h → length (extracts_of places h) ≡ extract_count p h
-extracts_count p places n h keeps is owns =
-    let a = length-append (map One (lanes_of places h.valid)) (bits_from 0 (lanes_in_order places h.fields)) in
+pub extracts_count : (p : Program) (places : List (List Lane)) (n : ℕ) (h : Header) → KeepsApart p places → IsHeader p n h → length (extracts_of places h) ≡ extract_count p h
+extracts_count p places n h keeps is =
+    let a = length-append (map One (lanes_of places h.valid)) (bits_from 0 (high_first places h.fields)) in
     let b = length-map (lanes_of places h.valid) One in
-    let c : length (lanes_of places h.valid) ≡ 1 = sym (length-map (lanes_of places h.valid) (λ (l : Lane). l.len)) ∙ ap length (valid_lens p places h.valid keeps is.valid) in
-    let d = length-bits_from 0 (lanes_in_order places h.fields) in
-    let f = fields_count p places h.fields keeps owns.there in
+    let c : length (lanes_of places h.valid) ≡ 1 = lanes_count p places h.valid keeps.cut ∙ ap (λ w. length (pieces w)) is.valid in
+    let d = length-bits_from 0 (high_first places h.fields) in
+    let f = fields_count p places h.fields keeps in
     omega (arith, a, b, c, d, f)
 
 few_of_one : (p : Program) (n : ℕ) (h : Header) → header_fault p n h ≡ None → extract_count p h ≤ 64
@@ -130,24 +125,13 @@ few_of_one p n h e = by (nat_lt 4 (length (lookups_of p h))) (nat_lt 64 (extract
 
 few_of_all : (p : Program) (n i : ℕ) (hs : List Header) (h : Header) → first_fault p n hs ≡ None → slice_get hs i ≡ Some h → extract_count p h ≤ 64
 few_of_all p n i [] h none is = absurd cc
-few_of_all p n zero (g ∷ hs) h none is = subst (λ (x : Header). extract_count p x ≤ 64) (same_Some g h is) (few_of_one p n g (none_first (header_fault p n g) (first_fault p (n + 1) hs) none))
-few_of_all p n (suc i) (g ∷ hs) h none is = few_of_all p (n + 1) i hs h (either_none (header_fault p n g) (first_fault p (n + 1) hs) none) is
+few_of_all p n zero (g ∷ hs) h none is = subst (λ (x : Header). extract_count p x ≤ 64) (same_Some g h is) (few_of_one p n g (option_or-none_left (header_fault p n g) (first_fault p (n + 1) hs) none))
+few_of_all p n (suc i) (g ∷ hs) h none is = few_of_all p (n + 1) i hs h (option_or-none_right (header_fault p n g) (first_fault p (n + 1) hs) none) is
 
-few_extracts : (p : Program) (n : ℕ) (h : Header) → refusal p ≡ None → slice_get p.headers n ≡ Some h → extract_count p h ≤ 64
-few_extracts p n h fits is = few_of_all p 0 n p.headers h (none_first (first_fault p 0 p.headers) (full_fault p) fits) is
-
-pub few_in_all : (p : Program) → refusal p ≡ None → entries_in p.headers ≤ 256
-few_in_all p fits = by (nat_lt 256 (entries_in p.headers)) refl (either_none (first_fault p 0 p.headers) (full_fault p) fits)
-  where
-    by : (b : Bool) → nat_lt 256 (entries_in p.headers) ≡ b → full_fault p ≡ None → entries_in p.headers ≤ 256
-    by true is e = (let none : cond true (Some (ParserFull (min (entries_in p.headers) 4294967295))) None ≡ None = sym (ap (λ (c : Bool). cond c (Some (ParserFull (min (entries_in p.headers) 4294967295))) None) is) ∙ e in absurd cc)
-    by false is e = ltb-false 256 (entries_in p.headers) is
+pub few_extracts : (p : Program) (n : ℕ) (h : Header) → refusal p ≡ None → slice_get p.headers n ≡ Some h → extract_count p h ≤ 64
+few_extracts p n h fits is = few_of_all p 0 n p.headers h (option_or-none_left (first_fault p 0 p.headers) (full_fault p) fits) is
 
 -- ---- entries
-
-list_all_true : {X : Type 0} (t : X → Bool) (xs : List X) → All (λ x. t x ≡ true) xs → list_all t xs ≡ true
-list_all_true t [] each = refl
-list_all_true t (x ∷ xs) each = and_from (t x) (list_all t xs) (All-head (λ y. t y ≡ true) x xs each) (list_all_true t xs (All-tail (λ y. t y ≡ true) x xs each))
 
 next_formed : (p : Program) (n : ℕ) (t : Target) → length p.headers ≤ 64 → IsTarget p n t → next_is_formed (length p.headers) n (next_of t) ≡ true
 next_formed p n target.Accept few is = refl
@@ -172,7 +156,7 @@ module _ (p : Program) (places : List (List Lane)) (good : IsProgram p) (keeps :
       let bytes = is.is_not_long in
       let looks : lookups_in_state states n ≡ length (lookups_of p h) =
       ap (λ (o : Option ParserState). unwrap_or (option_map (λ (s : ParserState). length s.lookups) o) 0) (slice_get-map (state_of p) p.headers n ∙ ap (option_map (state_of p)) found) in
-      let count = extracts_count p places n h keeps is (owns_fields p n h good.fields found) in
+      let count = extracts_count p places n h keeps is in
       let light = few_extracts p n h fits found in
       formed_from states (entry_to places n h value mask t) (record {
         state_there = omega (arith, inside, as_many);
@@ -184,7 +168,7 @@ module _ (p : Program) (places : List (List Lane)) (good : IsProgram p) (keeps :
         advance = omega arith;
         next = subst (λ k. next_is_formed k n (next_of t) ≡ true) (sym as_many) (next_formed p n t few to);
         few = omega (arith, count, light);
-        extracts = list_all_true (extract_is_formed h.bytes) (extracts_of places h) (header_formed p places n h keeps is);
+        extracts = list_all-from_AllPass (extract_is_formed h.bytes) (extracts_of places h) (header_formed p places n h keeps is);
       })
 
   header_entries : (n : ℕ) (h : Header) → slice_get p.headers n ≡ Some h → All (λ e. entry_is_formed states e ≡ true) (entries_of p places n h)
@@ -225,7 +209,7 @@ module _ (p : Program) (places : List (List Lane)) (good : IsProgram p) (keeps :
 
   pub plain_keeps : KeepsForm (plain p places)
   plain_keeps = record {
-    few = let long = length-entries_from p places 0 p.headers in let all = few_in_all p fits in omega (arith, long, all);
+    few = let long = length-entries_from p places 0 p.headers in let all = fits_in p fits in omega (arith, long, all);
     states = states_formed;
     entries = all_entries 0 p.headers (λ k h is. let same : 0 + k ≡ k = omega arith in subst (λ m. All (λ e. entry_is_formed states e ≡ true) (entries_of p places m h)) (sym same) (header_entries k h is));
     fits = plain_is_parser p places good keeps;

@@ -1,28 +1,28 @@
 -- The plain parser, part by part.
-use Rattle.std.proofs.Common.{◌≡◌, ◌≢◌, ℕ, zero, suc, ◌+◌, ◌*◌, ◌-◌, ◌<◌, ◌≤◌, Bool, true, false, cond, eqb, List, [], ◌∷◌, ◌++◌, get_or, length, take, drop, map, reverse, replicate, fold, None, refl, sym, ap, subst, ◌∙◌, append_assoc, inl, inr, arith}
-use Rattle.std.specs.Prelude.{◌/◌, ◌%◌, option_map, sum, slice_get, slice_index, slice_index_or, Contains, unwrap_or}
+use Rattle.std.proofs.Common.{◌≡◌, ◌≢◌, ℕ, zero, suc, ◌+◌, ◌-◌, ◌<◌, ◌≤◌, Bool, true, false, cond, List, [], ◌∷◌, ◌++◌, get_or, length, take, drop, map, reverse, replicate, fold, None, refl, sym, ap, subst, ◌∙◌, append_assoc, inl, inr, arith}
+use Rattle.std.specs.Prelude.{slice_index, slice_index_or, Contains}
 use Rattle.std.specs.List.{range_with_len, zip, filter}
-use Rattle.std.proofs.lemmas.List.{at_drop_more, at_drop_all, take_all, take_more, drop_more, drop_all, reverse-append, length-append, length-map, map-append, append-nil}
+use Rattle.std.proofs.lemmas.List.{at_drop_more, at_drop_all, take_all, take_more, drop_all, reverse-append, length-append, length-map, map-append, append-nil}
 use Rattle.std.proofs.lemmas.List.Concat.{flat_map-cons}
 use Rattle.std.proofs.lemmas.List.Sums.{sum_by-cons, sum_by-append, sum_by-drop_more, sum-map}
 use Rattle.std.proofs.lemmas.Bool.Decides.{eqb_tells}
 use Rattle.rmt_bits.specs.Bits.{number_of, bytes_of}
 use Rattle.rmt_bits.specs.declared.lane.Lane.{Lane}
-use Rattle.rmt_bits.proofs.ListLaws.{range_more}
-use Rattle.rmt_ptcam.specs.Types.{Program, Field, Header, Tail, Test, Target, ParserConfig, ParserState, ParserEntry, Extract, TailOf}
-use Rattle.rmt_ast.specs.declared.program.Target.TheVariants as target
+use Rattle.rmt_bits.proofs.ListLaws.{range_more, filter-range_more}
+use Rattle.rmt_ptcam.specs.Types.{Program, Header, Tail, Test, ParserConfig, ParserState, ParserEntry, Extract, TailOf}
 use Rattle.rmt_ast.specs.State.{width_of}
-use Rattle.rmt_ast.specs.WellFormed.{IsProgram, IsTarget, IsTest, AreTests, bits_of}
-use Rattle.rmt_phv.specs.Packing.{pieces}
-use Rattle.rmt_phv.specs.Places.{lengths_of}
+use Rattle.rmt_ast.specs.WellFormed.{IsTest, AreTests, bits_of}
+use Rattle.rmt_phv.specs.Places.{high_first}
 use Rattle.rmt_config.specs.declared.config.Extract.TheVariants.{Bits}
 use Rattle.rmt_config.specs.LaneForm.{bits_of_lanes}
 use Rattle.rmt_config.specs.Parser.{lookup_value}
 use Rattle.rmt_ptcam.specs.Needs.{place_in, entry_count, entries_in, refusal}
 use Rattle.rmt_phv.specs.Places.{KeepsApart}
 use Rattle.rmt_ast.specs.Places.{lanes_of}
-use Rattle.rmt_ptcam.specs.Plain.{lanes_in_order, bits_from, with_field, state_of, looked_up, IsNear, tail_at, tails_for, tails_from, entry_of_case, entries_of, entries_from, plain}
-use Rattle.rmt_ptcam.proofs.NeedLaws.{filter_range_more, fits_in}
+use Rattle.rmt_ptcam.specs.Plain.{bits_from, with_field, state_of, looked_up, tail_at, tails_from, entries_of, entries_from, plain}
+use Rattle.rmt_ptcam.proofs.NeedLaws.{fits_in}
+use Rattle.rmt_phv.proofs.LaneLaws.{lanes_width}
+use Rattle.rmt_bits.proofs.ByteLaws.{number_of-zeros}
 
 -- ---- places in headers
 
@@ -76,15 +76,11 @@ module _ (F : ℕ → ℕ × ℕ → ℕ) (g : Test → ℕ) (fs : List ℕ) (ts
   pub fold_end : (n : ℕ) → length fs ≤ i → fold F n (zip (drop i fs) (map g (drop i ts))) ≡ n
   fold_end n le = at_drop_all (λ (xs : List ℕ). fold F n (zip xs (map g (drop i ts)))) fs i le
 
-pub no_bytes : (n : ℕ) → number_of (replicate n 0) ≡ 0
-no_bytes zero = refl
-no_bytes (suc n) = no_bytes n
-
 -- the lookup bytes of a header that was written into bytes
 pub looked_up_is : (p : Program) (h : Header) (xs bytes : List ℕ) (state : ParserState) (result : ℕ) → length bytes ≡ h.bytes → state ≡ state_of p h
     → number_of bytes ≡ fold (with_field p h) (number_of (replicate h.bytes 0)) (zip h.select xs) → result ≡ lookup_value (bytes_of (length bytes) (number_of bytes)) 0 state → result ≡ looked_up p h xs
 looked_up_is p h xs bytes state result long is_state number is =
-    let from_zero : number_of bytes ≡ fold (with_field p h) 0 (zip h.select xs) = number ∙ ap (λ n. fold (with_field p h) n (zip h.select xs)) (no_bytes h.bytes) in
+    let from_zero : number_of bytes ≡ fold (with_field p h) 0 (zip h.select xs) = number ∙ ap (λ n. fold (with_field p h) n (zip h.select xs)) (number_of-zeros h.bytes) in
     is ∙ ap (λ n. lookup_value (bytes_of n (number_of bytes)) 0 state) long ∙ ap (λ n. lookup_value (bytes_of h.bytes n) 0 state) from_zero
     ∙ ap (λ (s : ParserState). lookup_value (bytes_of h.bytes (fold (with_field p h) 0 (zip h.select xs))) 0 s) is_state
 
@@ -151,15 +147,15 @@ piece_step lanes left d extracts more start next from len total some within is_m
 
 -- the lanes of the fields from one on
 pub lanes_in_order-drop : (places : List (List Lane)) (fs : List ℕ) (i : ℕ) → i < length fs
-    → lanes_in_order places (drop i fs) ≡ reverse (lanes_of places (slice_index fs i)) ++ lanes_in_order places (drop (i + 1) fs)
-lanes_in_order-drop places fs i lt = at_drop_more (lanes_in_order places) fs i 0 lt ∙ flat_map-cons (λ f. reverse (lanes_of places f)) (slice_index fs i) (drop (i + 1) fs)
+    → high_first places (drop i fs) ≡ reverse (lanes_of places (slice_index fs i)) ++ high_first places (drop (i + 1) fs)
+lanes_in_order-drop places fs i lt = at_drop_more (high_first places) fs i 0 lt ∙ flat_map-cons (λ f. reverse (lanes_of places f)) (slice_index fs i) (drop (i + 1) fs)
 
 pub lane_bits-drop : (places : List (List Lane)) (fs : List ℕ) (i : ℕ) → i < length fs
-    → bits_of_lanes (lanes_in_order places (drop i fs)) ≡ bits_of_lanes (lanes_of places (slice_index fs i)) + bits_of_lanes (lanes_in_order places (drop (i + 1) fs))
+    → bits_of_lanes (high_first places (drop i fs)) ≡ bits_of_lanes (lanes_of places (slice_index fs i)) + bits_of_lanes (high_first places (drop (i + 1) fs))
 lane_bits-drop places fs i lt =
     ap bits_of_lanes (lanes_in_order-drop places fs i lt)
-    ∙ bits_of_lanes-append (reverse (lanes_of places (slice_index fs i))) (lanes_in_order places (drop (i + 1) fs))
-    ∙ ap (λ n. n + bits_of_lanes (lanes_in_order places (drop (i + 1) fs))) (bits_of_lanes-reverse (lanes_of places (slice_index fs i)))
+    ∙ bits_of_lanes-append (reverse (lanes_of places (slice_index fs i))) (high_first places (drop (i + 1) fs))
+    ∙ ap (λ n. n + bits_of_lanes (high_first places (drop (i + 1) fs))) (bits_of_lanes-reverse (lanes_of places (slice_index fs i)))
 
 -- ---- tails and states
 
@@ -172,11 +168,11 @@ range_to first entry le =
 
 pub filter_here : (t : ℕ → Bool) (n : ℕ) (so_far next : List ℕ) → so_far ≡ filter t (range_with_len 0 n) → t n ≡ true → next ≡ so_far ++ n ∷ [] → next ≡ filter t (range_with_len 0 (n + 1))
 filter_here t n so_far next is passes pushed =
-    pushed ∙ ap (λ (xs : List ℕ). xs ++ n ∷ []) is ∙ sym (filter_range_more t n ∙ ap (λ (b : Bool). filter t (range_with_len 0 n) ++ cond b (n ∷ []) []) passes)
+    pushed ∙ ap (λ (xs : List ℕ). xs ++ n ∷ []) is ∙ sym (filter-range_more t n ∙ ap (λ (b : Bool). filter t (range_with_len 0 n) ++ cond b (n ∷ []) []) passes)
 
 pub filter_not : (t : ℕ → Bool) (n : ℕ) (so_far : List ℕ) → so_far ≡ filter t (range_with_len 0 n) → t n ≡ false → so_far ≡ filter t (range_with_len 0 (n + 1))
 filter_not t n so_far is fails =
-    is ∙ sym (filter_range_more t n ∙ ap (λ (b : Bool). filter t (range_with_len 0 n) ++ cond b (n ∷ []) []) fails ∙ append-nil (filter t (range_with_len 0 n)))
+    is ∙ sym (filter-range_more t n ∙ ap (λ (b : Bool). filter t (range_with_len 0 n) ++ cond b (n ∷ []) []) fails ∙ append-nil (filter t (range_with_len 0 n)))
 
 -- how many entries there are
 pub length-entries_from : (p : Program) (places : List (List Lane)) (n : ℕ) (hs : List Header) → length (entries_from p places n hs) ≡ entries_in hs
@@ -222,30 +218,6 @@ few_entries p places n h entries lt is fits so_far =
     let few = fits_in p fits in
     omega (arith, all, parts, left, next, few)
 
--- one more header
-pub built_more : (p : Program) (places : List (List Lane)) (n : ℕ) (h : Header) (states states' : List ParserState) (entries entries' : List ParserEntry) (tails tails' : List TailOf) (s : ParserState) → n < length p.headers → h ≡ get_or p.headers n h
-    → AreBuilt p places n states entries tails → s ≡ state_of p h → states' ≡ states ++ s ∷ [] → entries' ≡ entries ++ entries_of p places n h → tails' ≡ tails ++ tails_for p n h (length entries) h.tail
-    → AreBuilt p places (n + 1) states' entries' tails'
-built_more p places n h states states' entries entries' tails tails' s lt is before state more_states more_entries more_tails =
-    let left : drop n p.headers ≡ h ∷ drop (n + 1) p.headers = drop_more p.headers n h lt ∙ ap (λ (x : Header). x ∷ drop (n + 1) p.headers) (sym is) in
-    let long : length entries' ≡ length entries + entry_count h =
-    ap length more_entries ∙ length-append entries (entries_of p places n h) ∙ ap (λ k. length entries + k) (length-append (map (entry_of_case p places n h) h.cases) _ ∙ ap (λ k. k + 1) (length-map h.cases _)) in
-    record {
-      states_so_far =
-          ap (λ (xs : List ParserState). xs ++ map (state_of p) (drop (n + 1) p.headers)) (more_states ∙ ap (λ (x : ParserState). states ++ x ∷ []) state)
-          ∙ append_assoc states (state_of p h ∷ []) (map (state_of p) (drop (n + 1) p.headers))
-          ∙ sym (ap (λ (hs : List Header). states ++ map (state_of p) hs) left) ∙ before.states_so_far;
-      entries_so_far =
-          ap (λ (xs : List ParserEntry). xs ++ entries_from p places (n + 1) (drop (n + 1) p.headers)) more_entries
-          ∙ append_assoc entries (entries_of p places n h) (entries_from p places (n + 1) (drop (n + 1) p.headers))
-          ∙ sym (ap (λ (hs : List Header). entries ++ entries_from p places n hs) left) ∙ before.entries_so_far;
-      tails_so_far =
-          ap (λ k. tails' ++ tails_from p (n + 1) k (drop (n + 1) p.headers)) long
-          ∙ ap (λ (xs : List TailOf). xs ++ tails_from p (n + 1) (length entries + entry_count h) (drop (n + 1) p.headers)) more_tails
-          ∙ append_assoc tails (tails_for p n h (length entries) h.tail) (tails_from p (n + 1) (length entries + entry_count h) (drop (n + 1) p.headers))
-          ∙ sym (ap (λ (hs : List Header). tails ++ tails_from p n (length entries) hs) left) ∙ before.tails_so_far;
-    }
-
 -- no header is left
 pub built_all : (p : Program) (places : List (List Lane)) (n : ℕ) (states : List ParserState) (entries : List ParserEntry) (tails : List TailOf) → length p.headers ≤ n
     → AreBuilt p places n states entries tails → (let made : ParserConfig = record { states = states; entries = entries; tails = tails } in made) ≡ plain p places
@@ -258,49 +230,16 @@ built_all p places n states entries tails le built =
 
 -- ---- lanes as wide as fields
 
--- the pieces of a width have its bits
-pub pieces_bits : (w : ℕ) → sum (pieces w) ≡ w
-pieces_bits w =
-    sum-append' (replicate (w / 32) 32) _ ∙ ap (λ n. n + sum (cond (eqb (w % 32) 0) [] (w % 32 ∷ []))) (sum-same (w / 32)) ∙ elim (eqb_tells (w % 32) 0) [
-      | inl (is, e) ↦ rw is (omega arith)
-      | inr (is, e) ↦ rw is (omega arith)
-    ]
-  where
-    sum-append' : (xs ys : List ℕ) → sum (xs ++ ys) ≡ sum xs + sum ys
-    sum-append' xs ys = sum_by-append (λ n. n) xs ys
-
-    sum-same : (n : ℕ) → sum (replicate n 32) ≡ 32 * n
-    sum-same zero = refl
-    sum-same (suc n) = let rest = sum-same n in let step = sum_by-cons (λ (k : ℕ). k) 32 (replicate n 32) in omega (arith, rest, step)
-
--- lists of lanes that are cut as widths say
-widths_same : (places : List (List Lane)) (fs : List Field) (f : ℕ) → lengths_of places ≡ map (λ (x : Field). pieces x.width) fs
-    → bits_of_lanes (lanes_of places f) ≡ unwrap_or (option_map (λ (x : Field). x.width) (slice_get fs f)) 0
-widths_same [] [] f cut = refl
-widths_same [] (x ∷ fs) f cut = absurd cc
-widths_same (ls ∷ places) [] f cut = absurd cc
-widths_same (ls ∷ places) (x ∷ fs) zero cut = let here : map (λ (l : Lane). l.len) ls ≡ pieces x.width = cc in ap sum here ∙ pieces_bits x.width
-widths_same (ls ∷ places) (x ∷ fs) (suc f) cut = widths_same places fs f (let rest : lengths_of places ≡ map (λ (y : Field). pieces y.width) fs = cc in rest)
-
-pub lane_bits : (p : Program) (places : List (List Lane)) (f : ℕ) → KeepsApart p places → bits_of_lanes (lanes_of places f) ≡ width_of p f
-lane_bits p places f keeps = widths_same places p.fields f keeps.cut
-
 -- so the lanes of fields have their bits
-pub lanes_bits : (p : Program) (places : List (List Lane)) (fs : List ℕ) → KeepsApart p places → bits_of_lanes (lanes_in_order places fs) ≡ bits_of p fs
+pub lanes_bits : (p : Program) (places : List (List Lane)) (fs : List ℕ) → KeepsApart p places → bits_of_lanes (high_first places fs) ≡ bits_of p fs
 lanes_bits p places [] keeps = refl
 lanes_bits p places (f ∷ fs) keeps =
-    let parts = ap bits_of_lanes (flat_map-cons (λ g. reverse (lanes_of places g)) f fs) ∙ bits_of_lanes-append (reverse (lanes_of places f)) (lanes_in_order places fs) in
+    let parts = ap bits_of_lanes (flat_map-cons (λ g. reverse (lanes_of places g)) f fs) ∙ bits_of_lanes-append (reverse (lanes_of places f)) (high_first places fs) in
     let turned = bits_of_lanes-reverse (lanes_of places f) in
-    let here = lane_bits p places f keeps in
+    let here = lanes_width p places f keeps.cut in
     let rest = lanes_bits p places fs keeps in
     let all = bits_of-cons p f fs in
     omega (arith, parts, turned, here, rest, all)
-
--- targets are among 64 headers
-pub near_target : (p : Program) (n : ℕ) (t : Target) → IsProgram p → IsTarget p n t → IsNear t
-near_target p n target.Accept good is = tt
-near_target p n target.Reject good is = tt
-near_target p n (target.Node m) good is = omega (arith, is.1, good.counts.headers)
 
 -- ---- pieces as a loop sees them
 

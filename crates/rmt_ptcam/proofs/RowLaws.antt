@@ -2,7 +2,7 @@
 use Rattle.std.proofs.Common.{◌≡◌, ◌&&◌, not, cond, eqb, nat_lt, Bool, true, false, ℕ, suc, ◌+◌, ◌-◌, ◌<◌, List, [], ◌∷◌, ◌++◌, length, map, find, take, drop, Option, Some, None, refl, sym, ap, subst, ◌∙◌, append_assoc, inl, inr, arith}
 use Rattle.std.specs.Prelude.{option_map, position, slice_get}
 use Rattle.std.specs.List.{position_or_len}
-use Rattle.std.proofs.lemmas.Bool.{cases_lt, eq-eqb, lt-ltb, le-ltb, ltb-true, and_parts}
+use Rattle.std.proofs.lemmas.Bool.{cases_lt, eq-eqb, lt-ltb, le-ltb, ltb-true, and_parts, ne_eqb}
 use Rattle.std.proofs.lemmas.List.{length-append}
 use Rattle.rmt_bits.proofs.FunctionLaws.{funext}
 use Rattle.rmt_bits.proofs.ListLaws.{slice_get-end}
@@ -11,7 +11,6 @@ use Rattle.rmt_config.specs.Parser.{Parse, Reached, Reject, Short, behind, entry
 use Rattle.rmt_ptcam.specs.Joining.{Row, rows_from, rows_of, parser_of, tails_in, numbered}
 use Rattle.rmt_config.specs.declared.config.Next.TheVariants as next
 use Rattle.rmt_config.specs.ParserForm.{next_is_formed}
-use Rattle.rmt_ptcam.proofs.SearchLaws.{apart}
 use Rattle.rmt_ptcam.proofs.EntryLaws.{agrees}
 
 -- a row is of the state, and agrees with what is looked up
@@ -102,7 +101,7 @@ no_tail_before (x ∷ xs) n m lt = by x.tail (no_tail_before xs (n + 1) m (omega
   where
     by : (o : Option TailOf) → find (of_entry m) (tails_in (n + 1) xs) ≡ None → find (of_entry m) (numbered n o ++ tails_in (n + 1) xs) ≡ None
     by None rest = rest
-    by (Some t) rest = ap (λ (b : Bool). cond b (Some (record t { entry = n })) (find (of_entry m) (tails_in (n + 1) xs))) (apart n m (λ e. omega (arith, lt, e))) ∙ rest
+    by (Some t) rest = ap (λ (b : Bool). cond b (Some (record t { entry = n })) (find (of_entry m) (tails_in (n + 1) xs))) (ne_eqb n m (λ e. omega (arith, lt, e))) ∙ rest
 
 abbrev with_number : ℕ → Option TailOf → Option TailOf
 with_number n o = option_map (λ (t : TailOf). record t { entry = n }) o
@@ -113,7 +112,7 @@ tail_here n (Some t) xs = ap (λ (b : Bool). cond b (Some (record t { entry = n 
 
 tail_past : (n m : ℕ) (o : Option TailOf) (xs : List Row) → n < m → find (of_entry m) (numbered n o ++ tails_in (n + 1) xs) ≡ find (of_entry m) (tails_in (n + 1) xs)
 tail_past n m None xs lt = refl
-tail_past n m (Some t) xs lt = ap (λ (b : Bool). cond b (Some (record t { entry = n })) (find (of_entry m) (tails_in (n + 1) xs))) (apart n m (λ e. omega (arith, lt, e)))
+tail_past n m (Some t) xs lt = ap (λ (b : Bool). cond b (Some (record t { entry = n })) (find (of_entry m) (tails_in (n + 1) xs))) (ne_eqb n m (λ e. omega (arith, lt, e)))
 
 -- the tail of each row, by its number
 tail_found : (front back : List Row) (x : Row) (n m : ℕ) → n + length front ≡ m → find (of_entry m) (tails_in n (front ++ x ∷ back)) ≡ with_number m x.tail

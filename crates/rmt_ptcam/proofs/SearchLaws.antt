@@ -1,14 +1,14 @@
 -- The first item that passes a test, among items that stand by a number.
-use Rattle.std.proofs.Common.{◌≡◌, ◌≢◌, Bool, true, false, cond, ℕ, zero, suc, ◌<◌, ◌≤◌, List, [], ◌∷◌, ◌&&◌, eqb, get_or, length, Option, Some, None, find, refl, sym, ap, subst, ◌∙◌, inl, inr, arith}
+use Rattle.std.proofs.Common.{◌≡◌, ◌≢◌, Bool, true, false, cond, ℕ, zero, suc, ◌<◌, ◌≤◌, List, [], ◌∷◌, ◌&&◌, eqb, get_or, length, Some, None, find, refl, sym, ap, subst, ◌∙◌, inl, inr, arith}
 use Rattle.std.specs.Prelude.{position, bit_and}
 use Rattle.std.specs.List.{position_or_len}
 use Rattle.std.specs.List.Sorted.{IsNonDecreasingBy}
-use Rattle.std.proofs.lemmas.Bool.{cases_eq, cases_lt, eq-eqb, lt-ltb, le-ltb, and_left, and_from}
-use Rattle.std.proofs.lemmas.Bool.Decides.{eqb_tells}
+use Rattle.std.proofs.lemmas.Bool.{cases_eq, cases_lt, eq-eqb, lt-ltb, le-ltb, and_left, and_from, ne_eqb}
 use Rattle.std.proofs.lemmas.Option.{slice_get-get_or, same_Some}
 use Rattle.std.proofs.lemmas.List.Sums.{position_or_len_is}
 use Rattle.rmt_ptcam.specs.Types.{ParserEntry, TailOf}
 use Rattle.rmt_config.specs.declared.config.Next.TheVariants as next
+use Rattle.rmt_bits.proofs.ListLaws.{find-none}
 
 module _ {X : Type 0} (p : X → Bool) where
   -- an item that passes, all before which fail
@@ -31,27 +31,6 @@ module _ {X : Type 0} (p : X → Bool) where
       ap (λ (b : Bool). cond b (Some y) (find p ys)) (fails 0 x (omega arith))
       ∙ find_here ys i x (omega (arith, lt)) (λ k d l. fails (suc k) d (omega (arith, l))) is passes
 
-  pub find_nowhere : (xs : List X) → ((k : ℕ) (d : X) → k < length xs → p (get_or xs k d) ≡ false) → find p xs ≡ None
-  find_nowhere [] fails = refl
-  find_nowhere (y ∷ ys) fails =
-      ap (λ (b : Bool). cond b (Some y) (find p ys)) (fails 0 y (omega arith)) ∙ find_nowhere ys (λ k d l. fails (suc k) d (omega (arith, l)))
-
-  found_passes : (y : X) (rest : Option X) (x : X) (b : Bool) → p y ≡ b → (rest ≡ Some x → p x ≡ true) → cond b (Some y) rest ≡ Some x → p x ≡ true
-  found_passes y rest x true is later e = let same : y ≡ x = cc in subst (λ z. p z ≡ true) same is
-  found_passes y rest x false is later e = later e
-
-  -- what is found passes
-  pub find_passes : (xs : List X) (x : X) → find p xs ≡ Some x → p x ≡ true
-  find_passes [] x e = absurd (cc)
-  find_passes (y ∷ ys) x e = found_passes y (find p ys) x (p y) refl (find_passes ys x) e
-
--- other numbers are not equal
-pub apart : (a b : ℕ) → a ≢ b → eqb a b ≡ false
-apart a b h = elim (eqb_tells a b) [
-  | inl (is, e) ↦ absurd (h e)
-  | inr (is, e) ↦ is
-]
-
 -- an entry of the state that agrees, all before which fail
 module _ (es : List ParserEntry) (state value number : ℕ) (e : ParserEntry) (at : e ≡ get_or es number e)
     (fails : (k : ℕ) (d : ParserEntry) → k < number → (eqb (get_or es k d).state state && eqb (bit_and value (get_or es k d).mask) (get_or es k d).value) ≡ false) where
@@ -70,7 +49,7 @@ module _ (es : List ParserEntry) (state value number : ℕ) (e : ParserEntry) (a
     | inr behind ↦
         let later : (get_or es number e).state ≤ (get_or es k e).state = by_state number k e behind l in
         let mine : e.state ≤ (get_or es k e).state = subst (λ (x : ParserEntry). x.state ≤ (get_or es k e).state) (sym at) later in
-        and_left _ _ (apart (get_or es k e).state state (λ same. other (omega (arith, mine, least, same))))
+        and_left _ _ (ne_eqb (get_or es k e).state state (λ same. other (omega (arith, mine, least, same))))
   ])
 
 -- no entry agrees
@@ -84,11 +63,11 @@ no_entry es state value fails =
 module _ (ts : List TailOf) (entry at : ℕ) (before : (k : ℕ) (d : TailOf) → k < at → (get_or ts k d).entry < entry) where
   pub tail_here : (t : TailOf) → at < length ts → t ≡ get_or ts at t → t.entry ≡ entry → find (λ (x : TailOf). eqb x.entry entry) ts ≡ Some t
   tail_here t lt is same =
-      find_here (λ (x : TailOf). eqb x.entry entry) ts at t lt (λ k d l. apart _ entry (λ e. let h = before k d l in omega (arith, h, e))) is (eq-eqb t.entry entry same)
+      find_here (λ (x : TailOf). eqb x.entry entry) ts at t lt (λ k d l. ne_eqb _ entry (λ e. let h = before k d l in omega (arith, h, e))) is (eq-eqb t.entry entry same)
 
   -- none where the next is of a later one
   pub tail_nowhere : ((k : ℕ) (d : TailOf) → at ≤ k → k < length ts → entry < (get_or ts k d).entry) → find (λ (x : TailOf). eqb x.entry entry) ts ≡ None
-  tail_nowhere behind = find_nowhere (λ (x : TailOf). eqb x.entry entry) ts (λ k d l. apart _ entry (λ e. elim (cases_lt k at) [
+  tail_nowhere behind = find-none (λ (x : TailOf). eqb x.entry entry) ts (λ k d l. ne_eqb _ entry (λ e. elim (cases_lt k at) [
     | inl earlier ↦ let h = before k d earlier in omega (arith, h, e)
     | inr later ↦ let h = behind k d later l in omega (arith, h, e)
   ]))

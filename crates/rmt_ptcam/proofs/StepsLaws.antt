@@ -26,8 +26,9 @@ use Rattle.rmt_config.specs.ParserForm.{next_is_formed}
 use Rattle.rmt_ptcam.specs.Joining.{KeepsForm, Row, joined, lookups_at, rows_in, rows_of, together}
 use Rattle.rmt_ptcam.specs.Steps.{MeetsNoMore, ParsesWithin, parse_within, walk_within}
 use Rattle.rmt_ptcam.proofs.JoinFacts.{MayJoin, find_in}
-use Rattle.rmt_ptcam.proofs.JoinedParse.{found_row, get_set_other, get_set_same, new_rows, own_rows, step_other}
+use Rattle.rmt_ptcam.proofs.JoinedParse.{found_row, get_set_same, new_rows, own_rows, step_other}
 use Rattle.rmt_ptcam.proofs.RowLaws.{hits, row_step, taken_made, taken_row}
+use Rattle.rmt_bits.proofs.ListLaws.{slice_get-set_other}
 
 -- ---- a step ends, or goes on at one state
 
@@ -216,7 +217,7 @@ module _ (parser : ParserConfig) (keeps : KeepsForm parser) (at : ℕ) (e : Pars
             ∙ own_rows parser keeps at e m there goes_to may frame small r goes (parse_within rest k parser frame) (same_row k n r rest d later) (λ hit. own_joined r hit k rest d later))
             done
         | inr other ↦
-            ap (λ (o : Option ParserState). row_step goes frame (find (hits s (value_at frame r.at o)) (new_rows parser keeps at e m there goes_to may)) r) (get_set_other parser.states n s (record { lookups = together (lookups_at parser.states n) e.advance (lookups_at parser.states m) }) other)
+            ap (λ (o : Option ParserState). row_step goes frame (find (hits s (value_at frame r.at o)) (new_rows parser keeps at e m there goes_to may)) r) (slice_get-set_other parser.states n s (record { lookups = together (lookups_at parser.states n) e.advance (lookups_at parser.states m) }) other)
             ∙ step_other parser keeps at e m there goes_to may s (value_of parser keeps frame s r) other goes frame r ∙ same_row k s r rest done later
       ]
       ∙ sym (by_row parser keeps frame rest k s r)

@@ -9,8 +9,9 @@ use Rattle.std.proofs.lemmas.List.FromFn.{length-range_with_len, get_or-range_wi
 use Rattle.rmt_bits.proofs.AllLaws.{All-range}
 use Rattle.rmt_config.specs.Order.{rises_from}
 use Rattle.rmt_ptcam.specs.Joining.{byte_at, byte_of_both, both, is_among, together}
-use Rattle.rmt_ptcam.proofs.CaseLaws.{both_or_neither, contains_filter}
 use Rattle.rmt_ptcam.proofs.LookupLaws.{Agrees, Compares, compares_at, compares_by, agrees_all, agrees_at, agrees_from, contains_among, byte_small, looked_at, test_at, test_from}
+use Rattle.rmt_bits.proofs.OptionLaws.{same_Bool}
+use Rattle.rmt_bits.proofs.MemberLaws.{Contains-filter}
 
 abbrev test : List ℕ → ℕ → List ℕ → ℕ → Bool
 test here bytes there o = is_among here o || (nat_le bytes o && is_among there (o - bytes))
@@ -20,8 +21,8 @@ own_by : (here there : List ℕ) (bytes o : ℕ) → o < 128 → test here bytes
 unfolding together
 own_by here there bytes o lt passes =
     let long = length-range_with_len 0 128 in
-    contains_filter (test here bytes there) (range_with_len 0 128) o o (omega (arith, long, lt))
-    (get_or-range_with_len 0 128 o o lt ∙ (let e : 0 + o ≡ o = omega arith in e)) passes
+    Contains-filter (test here bytes there) (range_with_len 0 128) o
+    (o, omega (arith, long, lt), get_or-range_with_len 0 128 o o lt ∙ (let e : 0 + o ≡ o = omega arith in e)) passes
 
 pub own_here : (here there : List ℕ) (bytes : ℕ) → All (λ o. o < 128) here → All (Contains (together here bytes there)) here
 own_here here there bytes low k d lt =
@@ -130,7 +131,7 @@ module _ (here : List ℕ) (bytes : ℕ) (there : List ℕ) (m v n w : ℕ) (is 
     test_joined =
         let one : Bool = eqb (bit_and (looked_at read here) m) v in
         let two : Bool = eqb (bit_and (looked_at behind there) n) w in
-        both_or_neither (eqb (bit_and (looked_at read to) (both here bytes there m n)) (both here bytes there v w)) (one && two)
+        same_Bool (eqb (bit_and (looked_at read to) (both here bytes there m n)) (both here bytes there v w)) (one && two)
         (λ passes.
         let each : All (Agrees read mask value) to =
         agrees_at read mask value small (both_small here bytes there m n) (both_small here bytes there v w) to is.few (eqb-true (bit_and (looked_at read to) (both here bytes there m n)) (both here bytes there v w) passes) in

@@ -1,6 +1,6 @@
 -- The plain parser of a program: one state for each header.
-use Rattle.std.specs.Prelude.{◌<◌, ⊤, ℕ, ◌+◌, ◌*◌, ◌-◌, List, [], ◌∷◌, ◌++◌, Option, Some, None, map, reverse, fold, Result}
-use Rattle.std.specs.List.{flat_map, range_with_len, zip}
+use Rattle.std.specs.Prelude.{◌<◌, ⊤, ℕ, ◌+◌, ◌*◌, ◌-◌, List, [], ◌∷◌, ◌++◌, Option, Some, None, map, fold, Result}
+use Rattle.std.specs.List.{range_with_len, zip}
 use Rattle.rmt_bits.specs.Bits.{deposit, bytes_of}
 use Rattle.rmt_bits.specs.declared.lane.Lane.{Lane}
 use Rattle.rmt_ptcam.specs.Types.{Program, Header, Tail, Case, Test, Target, ParserConfig, ParserState, ParserEntry, Next, Extract, TailOf}
@@ -12,19 +12,16 @@ use Rattle.rmt_config.specs.Parser.{lookup_value}
 use Rattle.rmt_ast.specs.Places.{lanes_of}
 use Rattle.rmt_ptcam.specs.declared.fault.ParserFault.{ParserFault}
 use Rattle.rmt_ptcam.specs.Needs.{place_in, lookups_of, entry_count, refusal, unless}
+use Rattle.rmt_phv.specs.Places.{high_first}
 
 -- extracts of bits that stand one behind another, from a bit on
 abbrev pub bits_from : ℕ → List Lane → List Extract
 bits_from from [] = []
 bits_from from (lane ∷ lanes) = Bits from lane ∷ bits_from (from + lane.len) lanes
 
--- the lanes of some fields in their order, the high piece of each first
-abbrev pub lanes_in_order : List (List Lane) → List ℕ → List Lane
-lanes_in_order places fields = flat_map (λ f. reverse (lanes_of places f)) fields
-
 -- the extracts of a header: valid is set, and then each field gets its bits
 abbrev pub extracts_of : List (List Lane) → Header → List Extract
-extracts_of places h = map One (lanes_of places h.valid) ++ bits_from 0 (lanes_in_order places h.fields)
+extracts_of places h = map One (lanes_of places h.valid) ++ bits_from 0 (high_first places h.fields)
 
 -- a number of so many bytes with the value of a field at the field's place
 abbrev pub with_field : Program → Header → ℕ → ℕ × ℕ → ℕ

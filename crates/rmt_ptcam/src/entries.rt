@@ -4,7 +4,8 @@ ghost use Rattle.std.specs.Prelude.{◌≡◌, ◌≤◌, ◌+◌, ◌++◌, Som
 ghost use Rattle.rmt_ast.specs.WellFormed.{IsProgram, IsHeader};
 ghost use Rattle.rmt_config.specs.LaneForm.{bits_of_lanes};
 ghost use Rattle.rmt_ptcam.specs.Needs.{entry_count};
-ghost use Rattle.rmt_ptcam.specs.Plain.{IsNear, lanes_in_order, state_of, next_of as next_of_target, entry_to, entry_of_case, entries_of, tails_for};
+ghost use Rattle.rmt_ptcam.specs.Plain.{IsNear, state_of, next_of as next_of_target, entry_to, entry_of_case, entries_of, tails_for};
+ghost use Rattle.rmt_phv.specs.Places.{high_first};
 
 use crate::cases::{Compared, compared_in};
 use crate::headers::{place_of, width_of};
@@ -36,7 +37,7 @@ fn entry_for(
     compared: Compared,
     target: Target,
 ) -> Result<ParserEntry, AllocError>
-    requires short { bits_of_lanes (lanes_in_order places.now header.now.fields) ≤ 512 }
+    requires short { bits_of_lanes (high_first places.now header.now.fields) ≤ 512 }
     requires near { IsNear target }
     ensures { IfOk result (λ entry. entry ≡ entry_to places.now number header.now compared.value compared.mask target) }
 {
@@ -64,7 +65,7 @@ fn push_cases(
 ) -> Result<(), AllocError>
     requires program { IsProgram program.now }
     requires header { IsHeader program.now number header.now }
-    requires short { bits_of_lanes (lanes_in_order places.now header.now.fields) ≤ 512 }
+    requires short { bits_of_lanes (high_first places.now header.now.fields) ≤ 512 }
     requires state { state.now ≡ state_of program.now header.now }
     ensures { OnOk result (entries.new ≡ entries.old ++ map (entry_of_case program.now places.now number header.now) header.now.cases) }
 {
@@ -87,7 +88,7 @@ pub fn push_entries(
 ) -> Result<(), AllocError>
     requires program { IsProgram program.now }
     requires header { IsHeader program.now number header.now }
-    requires short { bits_of_lanes (lanes_in_order places.now header.now.fields) ≤ 512 }
+    requires short { bits_of_lanes (high_first places.now header.now.fields) ≤ 512 }
     requires state { state.now ≡ state_of program.now header.now }
     ensures { OnOk result (entries.new ≡ entries.old ++ entries_of program.now places.now number header.now) }
 {

@@ -6,7 +6,8 @@ ghost use Rattle.rmt_config.specs.declared.config.Extract.{Extract};
 ghost use Rattle.rmt_config.specs.declared.config.Extract.TheVariants.{One};
 ghost use Rattle.rmt_config.specs.LaneForm.{bits_of_lanes};
 ghost use Rattle.rmt_ast.specs.Places.{lanes_of};
-ghost use Rattle.rmt_ptcam.specs.Plain.{lanes_in_order, bits_from, extracts_of};
+ghost use Rattle.rmt_ptcam.specs.Plain.{bits_from, extracts_of};
+ghost use Rattle.rmt_phv.specs.Places.{high_first};
 
 use rmt_ast::program::Header;
 use rmt_bits::lane::Lane;
@@ -85,8 +86,8 @@ fn push_fields(
     places: &Places,
     fields: &[u32],
 ) -> Result<(), AllocError>
-    requires { bits_of_lanes (lanes_in_order places.now fields.now) ≤ 512 }
-    ensures { OnOk result (extracts.new ≡ extracts.old ++ bits_from 0 (lanes_in_order places.now fields.now)) }
+    requires { bits_of_lanes (high_first places.now fields.now) ≤ 512 }
+    ensures { OnOk result (extracts.new ≡ extracts.old ++ bits_from 0 (high_first places.now fields.now)) }
 {
     let mut from: u16 = 0;
     for field in fields {
@@ -101,7 +102,7 @@ pub fn extracts_for(
     places: &Places,
     header: &Header,
 ) -> Result<Sequence<Extract>, AllocError>
-    requires { bits_of_lanes (lanes_in_order places.now header.now.fields) ≤ 512 }
+    requires { bits_of_lanes (high_first places.now header.now.fields) ≤ 512 }
     ensures { IfOk result (λ extracts. extracts ≡ extracts_of places.now header.now) }
 {
     let mut extracts = Sequence::new(alloc);

@@ -1,10 +1,10 @@
 -- Where the parser agrees with a program's walk, a packet that it accepts begins with words that hold the walk's state, and with the walk's tails.
-use Rattle.std.proofs.Common.{◌≡◌, ℕ, zero, suc, ◌+◌, ◌*◌, ◌^◌, ◌<◌, ◌≤◌, List, [], ◌∷◌, length, map, get_or, refl, sym, ap, ◌∙◌, subst, ◌⊎◌, inl, inr, arith}
+use Rattle.std.proofs.Common.{◌≡◌, ℕ, ◌+◌, ◌*◌, ◌^◌, ◌<◌, ◌≤◌, List, [], ◌∷◌, length, map, get_or, refl, sym, ap, ◌∙◌, subst, ◌⊎◌, inl, inr, arith}
 use Rattle.std.specs.Prelude.{All, Contains, slice_index, slice_index_or, slice_set}
 use Rattle.std.proofs.Math.ListN.{get_or-map}
 use Rattle.std.proofs.lemmas.Bool.{cases_eq}
 use Rattle.std.proofs.lemmas.List.{get_or-set_other, get_or-set_same, length-map}
-use Rattle.std.proofs.lemmas.List.Elements.{All-head, All-nil, All-tail, Contains-get_or}
+use Rattle.std.proofs.lemmas.List.Elements.{All-head, Contains-get_or}
 use Rattle.rmt_bits.specs.Bits.{deposit, slice}
 use Rattle.rmt_bits.specs.declared.lane.Lane.{Lane}
 use Rattle.rmt_bits.proofs.BitLaws.{slice-deposit_above, slice-deposit_below, slice-deposit_same}
@@ -15,16 +15,17 @@ use Rattle.rmt_ast.specs.Walk as walks
 use Rattle.rmt_ast.specs.Walk.{walk}
 use Rattle.rmt_ast.specs.WellFormed.{IsProgram}
 use Rattle.rmt_ast.proofs.RunStateLaws.{LeavesState, walk_leaves}
-use Rattle.rmt_phv.specs.Places.{KeepsApart, LiesInWord}
+use Rattle.rmt_phv.specs.Places.{KeepsApart, LiesInWord, AreApart}
 use Rattle.rmt_config.specs.Agreement.{HasReached, Holds, held_in}
 use Rattle.rmt_config.specs.ChipRun.{tail_bytes}
 use Rattle.rmt_config.specs.LaneForm.{bits_of_lanes}
 use Rattle.rmt_config.specs.Life.{Words, lane_of}
 use Rattle.rmt_config.specs.Parser.{Reached, Accept, no_tail, parse, put}
-use Rattle.rmt_refine.specs.Code.{Hold, held_by}
+use Rattle.rmt_config.specs.Effects.{held_by, Hold}
 use Rattle.rmt_refine.specs.Places.{PlacesCarried, StandsIn}
-use Rattle.rmt_refine.proofs.LaneLaws.{SameIn, StandApart, fields_apart, held_same}
-use Rattle.rmt_refine.proofs.ReadLaws.{lanes_width}
+use Rattle.rmt_refine.proofs.LaneLaws.{fields_apart}
+use Rattle.rmt_config.proofs.HeldLaws.{SameIn, held_same}
+use Rattle.rmt_phv.proofs.LaneLaws.{lanes_width, lanes_lie}
 use Rattle.rmt_refine.proofs.WalkedLaws.{KeepsPort, KeepsTails, WalkLeaves, parse_keeps_tails, walk_keeps_port}
 use Rattle.rmt_bits.proofs.MemberLaws.{Contains-first}
 
@@ -43,13 +44,10 @@ held_in_words vector (l ∷ ls) = ap (λ n. slice (slice_index vector l.word) l.
 abbrev IsBeside : Lane → Lane → Type 0
 IsBeside l m = ((m.word ≡ l.word) → ⊥) ⊎ ((m.low + m.len ≤ l.low) ⊎ (l.low + l.len ≤ m.low))
 
-beside : (l m : Lane) → StandApart l m → IsBeside l m
-beside l m (inl (inl other)) = inl (λ e. other (sym e))
-beside l m (inl (inr (inl below))) = inr (inr below)
-beside l m (inl (inr (inr above))) = inr (inl above)
-beside l m (inr (inl other)) = inl other
-beside l m (inr (inr (inl below))) = inr (inl below)
-beside l m (inr (inr (inr above))) = inr (inr above)
+beside : (l m : Lane) → AreApart l m → IsBeside l m
+beside l m (inl other) = inl (λ e. other (sym e))
+beside l m (inr (inl below)) = inr (inr below)
+beside l m (inr (inr above)) = inr (inl above)
 
 module _ (v : List ℕ) (l : Lane) (x : ℕ) (inside : l.word < length v) (fits : x < 2 ^ l.len) where
   put_same : lane_of (words_of_vector (put v l x)) l ≡ x
@@ -70,7 +68,7 @@ module _ (v : List ℕ) (l : Lane) (x : ℕ) (inside : l.word < length v) (fits 
       ]
       ∙ ap (λ w. slice (slice_index v w) m.low m.len) (sym same)
 
-  put_apart : (m : Lane) → StandApart l m → SameIn (words_of_vector (put v l x)) (words_of_vector v) m
+  put_apart : (m : Lane) → AreApart l m → SameIn (words_of_vector (put v l x)) (words_of_vector v) m
   put_apart m apart = elim (beside l m apart) [
     | inl other ↦ other_word m other
     | inr side ↦ elim (cases_eq m.word l.word) [ inl same ↦ same_word m same side | inr other ↦ other_word m other ]
@@ -78,16 +76,11 @@ module _ (v : List ℕ) (l : Lane) (x : ℕ) (inside : l.word < length v) (fits 
 
 -- ---- the port is put
 
-lies_at : (places : List (List Lane)) (f : ℕ) → All (λ (ls : List Lane). All LiesInWord ls) places → All LiesInWord (lanes_of places f)
-lies_at [] f h = All-nil LiesInWord
-lies_at (ls ∷ places) zero h = All-head (λ (xs : List Lane). All LiesInWord xs) ls places h
-lies_at (ls ∷ places) (suc f) h = lies_at places f (All-tail (λ (xs : List Lane). All LiesInWord xs) ls places h)
-
 module _ (p : Program) (places : List (List Lane)) (l : Lane) (s v : List ℕ) (port : ℕ) (apart : KeepsApart p places) (wide : width_of p 0 ≡ 9) (stands : StandsIn places 0 l)
     (holds : Holds places (slice_set s 0 0) v) (is : slice_index s 0 ≡ port) (below : port < 512) where
   lane_inside : l.word < length v
   lane_inside =
-      let lies = All-head LiesInWord l [] (subst (All LiesInWord) stands (lies_at places 0 apart.within)) in
+      let lies = All-head LiesInWord l [] (subst (All LiesInWord) stands (lanes_lie p places 0 apart)) in
       let whole = holds.whole in
       let exists = lies.exists in
       omega (arith, whole, exists)

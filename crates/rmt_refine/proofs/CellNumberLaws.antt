@@ -27,17 +27,16 @@ use Rattle.rmt_refine.specs.Units.{DoesAs, TableCarried, applied, table_at}
 use Rattle.rmt_refine.specs.Cells.{IsSpotOf, IsTold, Spot, TableCellsCarried}
 use Rattle.rmt_refine.specs.Carries.{Carries}
 use Rattle.rmt_refine.specs.Outcomes.{entries_at}
-use Rattle.rmt_refine.proofs.MemberLaws.{Contains-flat_map, Contains-item, flat_from}
-use Rattle.rmt_refine.proofs.NumberLaws.{any_from, counted_is, from_counted, in_counted}
+use Rattle.rmt_refine.proofs.NumberLaws.{counted_is, from_counted, in_counted}
 use Rattle.rmt_refine.proofs.OutcomeLaws.{list_at}
 use Rattle.rmt_refine.proofs.PartLaws.{IsPart, part_of_spot, slot_is_unit, slot_of_part, some_and, spot_of_part, then_some, unit_of_part}
 use Rattle.rmt_refine.proofs.RisingLaws.{same_order}
-use Rattle.rmt_bits.proofs.MemberLaws.{Contains-map, Contains-unmap, Contains-split}
+use Rattle.rmt_bits.proofs.MemberLaws.{Contains-map, Contains-unmap, Contains-split, Contains-item, Contains-flat_map, flat_from, Contains-from_any}
 
 -- ---- what a slot's memory holds
 
 -- the rules of form of a slot
-coded_slot : (P : Coded → Type 0) (units : List Unit) (first place : ℕ) (slot : SlotUnit) → option_and_then as_slot (slice_get units place) ≡ Some slot → All P (coded_from first units)
+pub coded_slot : (P : Coded → Type 0) (units : List Unit) (first place : ℕ) (slot : SlotUnit) → option_and_then as_slot (slice_get units place) ≡ Some slot → All P (coded_from first units)
     → (f : ℕ) × P (record { first = f; slot = slot })
 coded_slot P [] first place slot e all = absurd (none-some slot e)
 coded_slot P ((Gate g) ∷ units) first zero slot e all = absurd (none-some slot e)
@@ -133,7 +132,7 @@ cells_listed stage first slot holds = record {
         (and_parts two (nat_le first (code_of x.head)) (and_parts three (nat_lt (code_of x.head) (first + slot.actions)) e).0).0).0
 
     by : (n : ℕ) → n < cells_in slot.memory → is_seen (content_of stage slot n).head ≡ true → (b : Bool) → list_any (λ m. m == n) (cells_of slot) ≡ b → Contains (cells_of slot) n
-    by n lt seen true e = any_from (cells_of slot) n e
+    by n lt seen true e = Contains-from_any (cells_of slot) n e
     by n lt seen false e =
         let clear = holds.others n lt (ap not e) in
         absurd (both_ways (is_seen (content_of stage slot n).head) (clear_unseen slot.memory (content_of stage slot n) n lt clear) seen)

@@ -1,4 +1,5 @@
 -- The program on two stages: the instructions of the configuration do what its actions say.
+use Rattle.rmt_refine.proofs.PlacesExamples.{places_apart}
 use Rattle.std.proofs.Common.{◌≡◌, ◌≢◌, ℕ, zero, suc, ◌+◌, ◌*◌, ◌^◌, ◌<◌, ◌≤◌, true, false, cond, List, [], ◌∷◌, Some, None, length, refl, sym, ap, ◌∙◌, subst, ◌⊎◌, inl, inr, arith}
 use Rattle.std.specs.Prelude.{Contains, option_map, slice_get, slice_index, slice_set, unwrap_or}
 use Rattle.std.proofs.lemmas.Bool.{cases_eq, eq-eqb}
@@ -15,12 +16,14 @@ use Rattle.rmt_config.specs.declared.config.Source.TheVariants.{Word, Held, Cons
 use Rattle.rmt_config.specs.Life.{Words, code_at, lane_of, source_of, written}
 use Rattle.rmt_refine.specs.View.{slot_of}
 use Rattle.rmt_refine.specs.Cells.{first_code}
-use Rattle.rmt_refine.specs.Code.{ChangesOnly, CodeCarried, DoesAction, DoesDefault, Hold, TableCode, held_by, words_after}
+use Rattle.rmt_refine.specs.Code.{CodeCarried, DoesAction, DoesDefault, TableCode}
+use Rattle.rmt_config.specs.Effects.{held_by, Hold, words_after, ChangesOnly}
 use Rattle.rmt_refine.specs.Units.{table_at}
-use Rattle.rmt_refine.proofs.LaneLaws.{SameIn, StandApart, fields_apart, held_same, lane_stays}
+use Rattle.rmt_refine.proofs.LaneLaws.{fields_apart, lane_stays}
+use Rattle.rmt_phv.specs.Places.{AreApart}
+use Rattle.rmt_config.proofs.HeldLaws.{SameIn, held_same}
 use Rattle.rmt_refine.proofs.StageLaws.{eqb_false}
 use Rattle.rmt_refine.proofs.TwoStages.{back, config, copy, first_stage, from_x, keyless_unit, lane, note, number_at, places, ports, ports_unit, program, second_stage, send, send_zero, to_x}
-use Rattle.rmt_refine.proofs.PlacesExamples.{places_apart}
 
 -- ---- instructions
 
@@ -57,8 +60,8 @@ module _ (l : Lane) (x : Source) (fits : (words : Words) (held : ℕ) → source
         held_same after words (lanes_of places g)
         (All-weaker (Contains (lanes_of places g)) (SameIn after words)
         (λ lane there. lane_stays lane (l ∷ []) (copy l x ∷ []) held words
-        (All-cons (StandApart lane) l [] (fields_apart places g f lane l places_apart.no_overlap ne there (subst (λ ls. Contains ls l) (sym at) (0, omega arith, refl)))
-        (All-nil (StandApart lane))) copies_only) (lanes_of places g) (All-contains_itself (lanes_of places g)))
+        (All-cons (AreApart lane) l [] (fields_apart places g f lane l places_apart.no_overlap ne there (subst (λ ls. Contains ls l) (sym at) (0, omega arith, refl)))
+        (All-nil (AreApart lane))) copies_only) (lanes_of places g) (All-contains_itself (lanes_of places g)))
         ∙ hold g ∙ sym (get_or-set_other s f g value 0 ne)
   ]
     where

@@ -1,7 +1,7 @@
 -- What a packet's life counts: each hit of its program's run in a counted table, once.
-use Rattle.std.proofs.Common.{◌≡◌, ℕ, zero, suc, ◌+◌, ◌<◌, ◌≤◌, Bool, true, false, ◌==◌, cond, List, [], ◌∷◌, Some, length, drop, reverse, refl, sym, ap, ◌∙◌, subst, inl, inr, arith}
+use Rattle.std.proofs.Common.{◌≡◌, ℕ, zero, suc, ◌+◌, ◌<◌, ◌≤◌, Bool, true, false, ◌==◌, cond, List, [], ◌∷◌, Some, length, drop, reverse, refl, sym, ap, ◌∙◌, subst, arith}
 use Rattle.std.specs.Prelude.{nat_lt, count_by, slice_get, slice_index, sum_by}
-use Rattle.std.proofs.lemmas.Bool.{eq-eqb, le-ltb, lt-ltb}
+use Rattle.std.proofs.lemmas.Bool.{le-ltb, lt-ltb}
 use Rattle.std.proofs.lemmas.List.Sorted.{IsPermutation-reverse, sum_by-IsPermutation}
 use Rattle.std.proofs.lemmas.List.Sums.{sum_by-append, sum_by-cons}
 use Rattle.rmt_bits.proofs.ListLaws.{slice_get-item}
@@ -23,10 +23,10 @@ use Rattle.rmt_refine.specs.Units.{table_at}
 use Rattle.rmt_refine.proofs.CarriedLaws.{carried_run, set_in as carried_set_in}
 use Rattle.rmt_refine.proofs.HitLaws.{hits_sum, own_sum}
 use Rattle.rmt_refine.proofs.NodeLaws.{part_there}
-use Rattle.rmt_refine.proofs.RankLaws.{compare}
 use Rattle.rmt_refine.proofs.RunningLaws.{count_of, counted_before, counts_in, goes_at, own_numbers, stage_counts, table_counts}
-use Rattle.rmt_refine.proofs.StageLaws.{AllRead, AreSet, IsRun, drop_head, eqb_false, none_set, stage_law, stands_where_set}
+use Rattle.rmt_refine.proofs.StageLaws.{AllRead, AreSet, IsRun, drop_head, none_set, stage_law, stands_where_set}
 use Rattle.std.proofs.lemmas.List.Elements.{All-contains}
+use Rattle.std.proofs.lemmas.Bool.Decides.{nat_tests}
 
 -- ---- sums of counts
 
@@ -50,13 +50,7 @@ zero_either false = refl
 
 -- what stands below the next number stands below this one, or is it
 pub below_next : (a k x : ℕ) → cond (nat_lt a (k + 1)) x 0 ≡ cond (nat_lt a k) x 0 + cond (a == k) x 0
-below_next a k x = elim (compare a k) [
-  | inl lt ↦ rw (lt-ltb a (k + 1) (omega (arith, lt)), lt-ltb a k lt, eqb_false a k (λ e. omega (arith, e, lt))) (omega arith)
-  | inr more ↦ elim more [
-    | inl gt ↦ rw (le-ltb a (k + 1) (omega (arith, gt)), le-ltb a k (omega (arith, gt)), eqb_false a k (λ e. omega (arith, e, gt))) (omega arith)
-    | inr e ↦ rw (lt-ltb a (k + 1) (omega (arith, e)), le-ltb a k (omega (arith, e)), eq-eqb a k e) (omega arith)
-  ]
-]
+below_next a k x = grind (arith, nat_tests)
 
 module _ (p : Program) (places : List (List Lane)) (parts : List Part) (starts : List ℕ) (c : Config) (v : View) (entries : ℕ → List Entry) (state : ℕ → List ℕ) (outcomes : List ℕ) (set_in : ℕ → ℕ) where
   abbrev own : ℕ → List ℕ

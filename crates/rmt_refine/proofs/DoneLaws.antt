@@ -10,7 +10,7 @@ use Rattle.rmt_refine.specs.Types.{Program, Action, Table, Node, What, Config, S
 use Rattle.rmt_ast.specs.declared.program.What.TheVariants.{Apply, Gate}
 use Rattle.rmt_ast.specs.declared.entry.Entry.{Entry}
 use Rattle.rmt_ast.specs.Control.{Run, act_of, applied_table, done_by, run}
-use Rattle.rmt_ast.specs.EntryLists.{AreEntries, AreEntriesAt, AreTableEntries, IsEntry, params_of, terms_of}
+use Rattle.rmt_ast.specs.EntryLists.{AreEntries, AreTableEntries, IsEntry, params_of, terms_of}
 use Rattle.rmt_ast.specs.Lookup.{hit_of}
 use Rattle.rmt_ast.specs.Places.{lanes_of}
 use Rattle.rmt_ast.specs.State.{IsState}
@@ -22,20 +22,19 @@ use Rattle.rmt_refine.specs.declared.map.Map.{Map}
 use Rattle.rmt_refine.specs.View.{View}
 use Rattle.rmt_refine.specs.Carries.{CarriesIn}
 use Rattle.rmt_refine.specs.Cells.{first_code}
-use Rattle.rmt_refine.specs.Code.{ChangesOnly, DoesAction, DoesDefault, Hold, TableCode, WritesWordsOf, assigned_lanes, words_after}
+use Rattle.rmt_refine.specs.Code.{DoesAction, DoesDefault, TableCode, WritesWordsOf, assigned_lanes}
+use Rattle.rmt_config.specs.Effects.{Hold, words_after, ChangesOnly}
 use Rattle.rmt_refine.specs.Outcomes.{entries_at, run_before}
 use Rattle.rmt_refine.specs.Units.{applied, table_at}
 use Rattle.rmt_refine.proofs.CarriedLaws.{set_in}
 use Rattle.rmt_refine.proofs.FieldLaws.{action_run, applied_state, args_run, fields_listed}
-use Rattle.rmt_refine.proofs.FindLaws.{find-passes}
-use Rattle.rmt_refine.proofs.MemberLaws.{Contains-flat_map, from_flat_map}
+use Rattle.rmt_refine.proofs.FindLaws.{found_passes}
 use Rattle.rmt_refine.proofs.LookUpLaws.{hit_some}
-use Rattle.rmt_refine.proofs.OutcomeLaws.{list_at}
+use Rattle.rmt_refine.proofs.OutcomeLaws.{own_entries}
 use Rattle.rmt_refine.proofs.PartLaws.{some_and, then_some}
 use Rattle.rmt_refine.proofs.RunLaws.{guard_at, run_next}
 use Rattle.rmt_refine.proofs.RunningLaws.{ActsIn, RunsFor, RunsInstruction}
-use Rattle.rmt_refine.proofs.TheLaw.{its_terms}
-use Rattle.rmt_bits.proofs.MemberLaws.{Contains-map, Contains-unmap}
+use Rattle.rmt_bits.proofs.MemberLaws.{Contains-map, Contains-unmap, Contains-flat_map, from_flat_map}
 use Rattle.std.proofs.lemmas.List.Elements.{All-contains}
 
 -- ---- members
@@ -97,11 +96,6 @@ module _ (p : Program) (lists : List (List Entry)) (m : Map) (c : Config) (v : V
   abbrev pub DoesFor : ℕ → Table → Running → Type 0
   DoesFor n t r = DoesWith t (hit_at n t) r
 
-  its_entries : (n : ℕ) (t : Table) → table_at p n ≡ Some t → AreTableEntries n (entries_at lists n) (terms_of p t)
-  its_entries n t e =
-      let r = then_some (λ (x : Node). applied p x.what) (slice_get p.nodes n) t e in
-      subst (AreEntriesAt n (entries_at lists n)) (its_terms p r.0.what t r.2) (list_at p lists n r.0 entries r.1).1
-
   does_with : (n first : ℕ) (t : Table) (r : Running) (stage : Stage) (o : Option Entry) → TableCode p m.places t first stage → AreTableEntries n (entries_at lists n) (terms_of p t)
       → hit_at n t ≡ o → RunsBy t first stage o r → DoesWith t o r
   does_with n first t r stage None code are hit runs =
@@ -126,7 +120,7 @@ module _ (p : Program) (lists : List (List Entry)) (m : Map) (c : Config) (v : V
       let part = ran.part in
       let table = ran.acts.table_is in
       does_with n (first_code ran.stage ran.place) ran.table r ran.stage (hit_at n ran.table)
-      (carries.code n k ran.place ran.table ran.stage ran.slot table part.stage_is part.slot_is part.node_is) (its_entries n ran.table table) refl ran.runs_it
+      (carries.code n k ran.place ran.table ran.stage ran.slot table part.stage_is part.slot_is part.node_is) (own_entries p lists n ran.table entries table) refl ran.runs_it
 
   -- the state behind a node that acts
   pub state_after : (k n : ℕ) (t : Table) → Acts k n t → state_at (n + 1) ≡ act_of p (action_run t (hit_at n t)) (args_run t (hit_at n t)) (state_at n)
@@ -145,7 +139,7 @@ module _ (p : Program) (lists : List (List Entry)) (m : Map) (c : Config) (v : V
       → Contains (of_node p (of_table p fields) (λ field. []) n) f
   fields_at fields n t f e there =
       let is = is_applied p n t e in
-      fields_listed p fields n is.number is.node t (entries_at lists n) (state_at n) f is.at is.what_is is.table (its_entries n t e) there
+      fields_listed p fields n is.number is.node t (entries_at lists n) (state_at n) f is.at is.what_is is.table (own_entries p lists n t entries e) there
 
   pub written_listed : (n : ℕ) (t : Table) (f : ℕ) → table_at p n ≡ Some t → Contains (of_action p written_by (action_run t (hit_at n t))) f → Contains (writes_of p n) f
   written_listed n t f e there = fields_at written_by n t f e there
@@ -157,7 +151,7 @@ module _ (p : Program) (lists : List (List Entry)) (m : Map) (c : Config) (v : V
   pub touches : (n : ℕ) (t : Table) (r : Running) → DoesFor n t r → table_at p n ≡ Some t → (w : ℕ) (op : Operation) → op_on w r.ops ≡ Some op
       → Contains (words_of m.places (writes_of p n)) w
   touches n t r does e w op on =
-      let found = find-passes (λ (x : Operation). x.word == w) r.ops op on in
+      let found = found_passes (λ (x : Operation). x.word == w) r.ops op on in
       let lanes = assigned_lanes p m.places (action_run t (hit_at n t)) in
       let own = All-contains (λ (x : Operation). Contains (map (λ (l : Lane). l.word) lanes) x.word) r.ops op does.words found.0 in
       let lane = Contains-unmap (λ (l : Lane). l.word) lanes op.word own in

@@ -22,12 +22,13 @@ use Rattle.rmt_pack.specs.Placements.{Keeps, is_strict, quanta_in}
 use Rattle.rmt_refine.specs.Carries.{EdgesKept, all_edges}
 use Rattle.rmt_refine.specs.Outcomes.{ChildrenFollow, entries_at, node_outcome, run_before}
 use Rattle.rmt_refine.specs.Units.{UnitsCarried}
-use Rattle.rmt_refine.proofs.FindLaws.{Contains-range, Contains-range_from, filter_keeps}
+use Rattle.rmt_refine.proofs.FindLaws.{Contains-range, Contains-range_from}
 use Rattle.rmt_refine.proofs.NodeLaws.{part_there}
 use Rattle.rmt_refine.proofs.RankLaws.{compare}
 use Rattle.rmt_refine.proofs.FieldLaws.{Goes}
 use Rattle.rmt_refine.proofs.RunLaws.{is_earlier, outcome_at}
-use Rattle.rmt_bits.proofs.MemberLaws.{Contains-first, Contains-later, Contains-split}
+use Rattle.rmt_bits.proofs.MemberLaws.{Contains-first, Contains-later, Contains-split, Contains-filter}
+use Rattle.std.proofs.Math.Bool.{and-false}
 
 -- ---- a node and its parent are not on different arms
 
@@ -176,7 +177,7 @@ edge_among p places P kinds a b k lt within beside there is all =
     let between = All-contains (λ y. All P (edges_between p places kinds a y)) later b (All-parts P (edges_between p places kinds a) later from) one in
     let edges = filter (λ x. depends p places x a b) kinds in
     let own = subst (λ c. All P (cond c [] (map (edge a b) edges))) beside between in
-    All-contains (λ x. P (edge a b x)) edges k (All-unmap P (edge a b) edges own) (filter_keeps (λ x. depends p places x a b) kinds k there is)
+    All-contains (λ x. P (edge a b x)) edges k (All-unmap P (edge a b) edges own) (Contains-filter (λ x. depends p places x a b) kinds k there is)
 
 -- a field edge between two nodes, and a word edge
 pub field_edge : (p : Program) (places : List (List Lane)) (P : Edge → Type 0) (a b : ℕ) (k : EdgeKind) → a < b → b < length p.nodes → on_different_arms p a b ≡ false
@@ -234,13 +235,9 @@ other_arm o g h pass_g pass_h = elim (eqb_cases g.parent h.parent) [
       let there : h.mask / 2 ^ slice_index o g.parent % 2 ≡ 1 = ap (λ q. h.mask / 2 ^ slice_index o q % 2) same ∙ pass_h in
       let none : (bit_and g.mask h.mask == 0) ≡ false =
       false_from_ne_true (bit_and g.mask h.mask == 0) (λ e. masks_meet g.mask h.mask (slice_index o g.parent) pass_g there (eqb-true (bit_and g.mask h.mask) 0 e)) in
-      ap (λ b. (g.parent == h.parent) && not (g.mask == h.mask) && b) none ∙ and_false ((g.parent == h.parent) && not (g.mask == h.mask))
+      ap (λ b. (g.parent == h.parent) && not (g.mask == h.mask) && b) none ∙ and-false ((g.parent == h.parent) && not (g.mask == h.mask))
   | inr ne ↦ other_parent g h ne
 ]
-  where
-    and_false : (b : Bool) → (b && false) ≡ false
-    and_false true = refl
-    and_false false = refl
 
 even_mask : (mask o : ℕ) → mask % 2 ≡ 0 → o ≡ 0 → mask / 2 ^ o % 2 ≡ 1 → ⊥
 even_mask mask o even none pass =

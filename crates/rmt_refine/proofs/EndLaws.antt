@@ -12,7 +12,7 @@ use Rattle.rmt_ast.specs.Control.{Run}
 use Rattle.rmt_ast.specs.State.{joined}
 use Rattle.rmt_config.specs.ChipRun.{Outcome, finished, header_bytes, latency_of, sent_bytes}
 use Rattle.rmt_config.specs.Life.{Life, Words, key_of, lane_of}
-use Rattle.rmt_refine.specs.Code.{Hold, held_by}
+use Rattle.rmt_config.specs.Effects.{held_by, Hold}
 use Rattle.rmt_refine.specs.Places.{HeaderCarried, PlacesCarried, StandsIn}
 use Rattle.rmt_refine.proofs.ReadLaws.{key_reads}
 

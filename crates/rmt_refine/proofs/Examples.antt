@@ -14,12 +14,13 @@ use Rattle.rmt_ast.specs.State.{IsState, joined}
 use Rattle.rmt_ast.proofs.Programs.{apply_in_arm, apply_table}
 use Rattle.rmt_config.specs.Cells.{Content, Found}
 use Rattle.rmt_refine.specs.View.{View, look_in, own_content, own_view}
-use Rattle.rmt_refine.specs.Places.{high_first}
+use Rattle.rmt_phv.specs.Places.{high_first}
 use Rattle.rmt_refine.specs.Units.{last_stage, nodes_in, table_at, tests_of}
-use Rattle.rmt_refine.specs.Cells.{HasArguments, tests_as_one}
+use Rattle.rmt_refine.specs.Cells.{tests_as_one}
 use Rattle.rmt_refine.specs.LookUps.{FindsAs}
 use Rattle.rmt_refine.specs.Outcomes.{IsSetIn, node_outcome, run_before}
-use Rattle.rmt_refine.specs.Code.{WritesWordsOf, assigned_lanes, held_by, words_after}
+use Rattle.rmt_refine.specs.Code.{WritesWordsOf, assigned_lanes}
+use Rattle.rmt_config.specs.Effects.{held_by, words_after, HasArguments}
 use Rattle.rmt_refine.specs.Carries.{all_edges}
 use Rattle.rmt_refine.proofs.CellsExamples.{ports_cells}
 use Rattle.rmt_refine.proofs.FormExamples.{are_entries, is_program}

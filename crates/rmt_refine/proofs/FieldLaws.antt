@@ -23,12 +23,11 @@ use Rattle.rmt_phv.specs.Places.{written_by}
 use Rattle.rmt_deps.specs.Edges.{expr_fields, leaf_fields, of_action, of_node, of_table, of_what, read_by, writes_of}
 use Rattle.rmt_refine.specs.Outcomes.{entries_at, run_before}
 use Rattle.rmt_refine.proofs.LookUpLaws.{hit_some}
-use Rattle.rmt_refine.proofs.MemberLaws.{Contains-flat_map}
 use Rattle.rmt_refine.proofs.OutcomeLaws.{list_at}
 use Rattle.rmt_refine.proofs.PartLaws.{some_and}
 use Rattle.rmt_refine.proofs.RankLaws.{compare}
 use Rattle.rmt_refine.proofs.RunLaws.{guard_at, run_next, through_node}
-use Rattle.rmt_bits.proofs.MemberLaws.{Contains-first, Contains-later, Contains-split}
+use Rattle.rmt_bits.proofs.MemberLaws.{Contains-first, Contains-later, Contains-split, Contains-flat_map}
 
 -- ---- what an action leaves alone
 

@@ -1,11 +1,14 @@
 -- What `find` gives: an item that passes, the least of a range, and the best by an order.
 use Rattle.std.proofs.Common.{◌≡◌, ℕ, zero, suc, ◌+◌, ◌<◌, ◌≤◌, ◌≢◌, Bool, true, false, ◌&&◌, cond, List, [], ◌∷◌, Option, Some, None, get_or, refl, sym, subst, ◌⊎◌, inl, inr, arith}
-use Rattle.std.specs.Prelude.{Contains, filter, find}
+use Rattle.std.specs.Prelude.{Contains, find}
 use Rattle.std.specs.List.{range_with_len}
-use Rattle.std.proofs.lemmas.Bool.{and_parts, both_ways}
+use Rattle.std.proofs.lemmas.Bool.{and_parts, both_ways, and_from}
 use Rattle.std.proofs.lemmas.List.FromFn.{length-range_with_len, get_or-range_with_len}
 use Rattle.std.proofs.lemmas.Option.{none-some, same_Some}
 use Rattle.rmt_bits.proofs.MemberLaws.{Contains-first, Contains-later, Contains-split}
+use Rattle.rmt_bits.proofs.ListLaws.{find-passes}
+use Rattle.rmt_bits.proofs.AllLaws.{All-find}
+use Rattle.std.proofs.lemmas.List.Elements.{All-contains_itself}
 
 -- ---- members
 
@@ -17,50 +20,14 @@ Contains-range n i lt =
 pub Contains-range_from : (a n i : ℕ) → i < n → Contains (range_with_len a n) (a + i)
 Contains-range_from a n i lt = (i, subst (λ m. i < m) (sym (length-range_with_len a n)) lt, get_or-range_with_len a n i (a + i) lt)
 
-kept : {X : Type 0} (b : Bool) (test : X → Bool) (x : X) (xs : List X) (y : X) → test x ≡ b → test y ≡ true → Contains (x ∷ xs) y
-    → (Contains xs y → Contains (filter test xs) y) → Contains (cond b (x ∷ filter test xs) (filter test xs)) y
-kept true test x xs y e pass there rest =
-    elim (Contains-split x xs y there) [
-      | inl same ↦ subst (λ z. Contains (z ∷ filter test xs) y) (sym same) (Contains-first y (filter test xs))
-      | inr later ↦ Contains-later x (filter test xs) y (rest later)
-    ]
-kept false test x xs y e pass there rest =
-    elim (Contains-split x xs y there) [
-      | inl same ↦ absurd (both_ways (test x) e (subst (λ z. test z ≡ true) (sym same) pass))
-      | inr later ↦ rest later
-    ]
-
--- a member that passes is kept by a filter, and what is kept was there and passes
-pub filter_keeps : {X : Type 0} (test : X → Bool) (xs : List X) (y : X) → Contains xs y → test y ≡ true → Contains (filter test xs) y
-filter_keeps test [] y there pass = absurd (let lt = there.1 in omega (arith, lt))
-filter_keeps test (x ∷ xs) y there pass = kept (test x) test x xs y refl pass there (λ later. filter_keeps test xs y later pass)
-
-was : {X : Type 0} (b : Bool) (test : X → Bool) (x : X) (xs : List X) (y : X) → test x ≡ b → Contains (cond b (x ∷ filter test xs) (filter test xs)) y
-    → (Contains (filter test xs) y → Contains xs y × (test y ≡ true)) → Contains (x ∷ xs) y × (test y ≡ true)
-was true test x xs y e h rest =
-    elim (Contains-split x (filter test xs) y h) [
-      | inl same ↦ (subst (λ z. Contains (x ∷ xs) z) same (Contains-first x xs), subst (λ z. test z ≡ true) same e)
-      | inr later ↦ let r = rest later in (Contains-later x xs y r.0, r.1)
-    ]
-was false test x xs y e h rest = let r = rest h in (Contains-later x xs y r.0, r.1)
-
-pub filtered_there : {X : Type 0} (test : X → Bool) (xs : List X) (y : X) → Contains (filter test xs) y → Contains xs y × (test y ≡ true)
-filtered_there test [] y there = absurd (let lt = there.1 in omega (arith, lt))
-filtered_there test (x ∷ xs) y there = was (test x) test x xs y refl there (λ later. filtered_there test xs y later)
-
 -- ---- an item that passes
 
 cond_cases : {X : Type 0} (b : Bool) (y x : X) (rest : Option X) → cond b (Some y) rest ≡ Some x → ((b ≡ true) × (y ≡ x)) ⊎ ((b ≡ false) × (rest ≡ Some x))
 cond_cases true y x rest e = inl (refl, same_Some y x e)
 cond_cases false y x rest e = inr (refl, e)
 
-pub find-passes : {X : Type 0} (test : X → Bool) (xs : List X) (x : X) → find test xs ≡ Some x → Contains xs x × (test x ≡ true)
-find-passes test [] x e = absurd (none-some x e)
-find-passes test (y ∷ ys) x e =
-    elim (cond_cases (test y) y x (find test ys) e) [
-      | inl h ↦ (subst (λ z. Contains (y ∷ ys) z) h.1 (Contains-first y ys), subst (λ z. test z ≡ true) h.1 h.0)
-      | inr h ↦ let r = find-passes test ys x h.1 in (Contains-later y ys x r.0, r.1)
-    ]
+pub found_passes : {X : Type 0} (test : X → Bool) (xs : List X) (x : X) → find test xs ≡ Some x → Contains xs x × (test x ≡ true)
+found_passes test xs x e = (All-find (Contains xs) test xs x (All-contains_itself xs) e, find-passes test xs x e)
 
 cond_some : {X : Type 0} (b : Bool) (y : X) (rest : Option X) → (b ≡ false → (z : X) × (rest ≡ Some z)) → (z : X) × (cond b (Some y) rest ≡ Some z)
 cond_some true y rest h = (y, refl)
@@ -103,11 +70,7 @@ pub record IsBest {X : Type 0} (test : X → Bool) (before : X → X → Bool) (
 tells : {X : Type 0} (test : X → Bool) (xs : List X) (o : Option X) → find test xs ≡ o
     → ((x : X) → Contains xs x → test x ≡ true → ⊥) ⊎ ((z : X) × Contains xs z × (test z ≡ true))
 tells test xs None e = inl (λ x h pass. let r = find-some test xs x h pass in none-some r.0 (subst (λ q. q ≡ Some r.0) e r.1))
-tells test xs (Some z) e = let r = find-passes test xs z e in inr (z, r.0, r.1)
-
-and_from : (a b : Bool) → a ≡ true → b ≡ true → (a && b) ≡ true
-and_from true b ha hb = hb
-and_from false b ha hb = ha
+tells test xs (Some z) e = let r = found_passes test xs z e in inr (z, r.0, r.1)
 
 better : {X : Type 0} (test : X → Bool) (before : X → X → Bool) → ((x : X) → before x x ≡ true → ⊥)
     → ((x y z : X) → before x y ≡ true → before y z ≡ true → before x z ≡ true)

@@ -1,18 +1,19 @@
 -- The program on two stages and its entries are well formed.
-use Rattle.std.proofs.Common.{◌≡◌, ◌^◌, ◌<◌, ◌≤◌, ℕ, zero, suc, List, [], ◌∷◌, length, map, refl, arith}
+use Rattle.std.proofs.Common.{◌≡◌, ◌^◌, ◌<◌, ℕ, zero, suc, [], ◌∷◌, map, refl, arith}
 use Rattle.std.specs.Prelude.{All, bit_and, codes}
 use Rattle.std.proofs.lemmas.List.Elements.{All-cons, All-from_recursion, All-nil}
 use Rattle.std.proofs.lemmas.List.Kept.{AllPairs-cons}
 use Rattle.rmt_bits.specs.Bits.{number_of}
-use Rattle.rmt_refine.specs.Types.{Field, Header, Action, Assign, Table}
+use Rattle.rmt_refine.specs.Types.{Field, Header, Action, Table}
 use Rattle.rmt_ast.specs.declared.entry.Entry.{Entry}
 use Rattle.rmt_ast.specs.EntryLists.{AreEntries, AreTableEntries, IsEntry, terms_of}
-use Rattle.rmt_ast.specs.WellFormed.{AllNumbered, AreAppliedOnce, BeginsWith, HasFields, HasHeaderNames, HasNames, IsAction, IsAssign, IsHeader, IsNode, IsProgram, IsTable, IsTest, IsWidth, Takes, name_of}
+use Rattle.rmt_ast.specs.WellFormed.{AllNumbered, AreAppliedOnce, BeginsWith, HasFields, HasHeaderNames, HasNames, IsAction, IsHeader, IsNode, IsProgram, IsTable, IsTest, IsWidth, name_of}
 use Rattle.rmt_ast.proofs.Programs.{action, field, keyless}
 use Rattle.rmt_bits.proofs.PairLaws.{AllPairs-none}
 use Rattle.rmt_ast.proofs.WellFormedLemmas.{AllNumbered-from_items, AreDistinct-from_apart}
 use Rattle.rmt_refine.proofs.ListedLaws.{three, two}
 use Rattle.rmt_refine.proofs.TwoStages.{back, entries, first_line, go, keep, lists, lowest_last, note, ports, program, restore, second_line, test}
+use Rattle.rmt_ast.proofs.ExampleForm.{keyless_table, one_assign}
 
 -- ---- the program
 
@@ -46,31 +47,12 @@ headers = AllNumbered-from_items (IsHeader program) program.headers (
   tt,
 )
 
--- an action that makes one assignment
-one_assign : (name params : List ℕ) (a : Assign) → All IsWidth params → length params ≤ 16 → IsAssign program params a → IsAction program (action name params (a ∷ []))
-one_assign name params a widths few h = record {
-  params = widths;
-  few_params = few;
-  assigns = All-cons (IsAssign program params) a [] h (All-nil (IsAssign program params));
-  few_assigns = omega arith;
-}
-
 actions : All (IsAction program) program.actions
 actions = three (IsAction program) go keep restore
-    (one_assign _ (9 ∷ []) _ (All-cons IsWidth 9 [] (omega arith, omega arith) (All-nil IsWidth)) (omega arith)
+    (one_assign program _ (9 ∷ []) _ (All-cons IsWidth 9 [] (omega arith, omega arith) (All-nil IsWidth)) (omega arith)
     (record { is_field = omega arith; is_not_in_port = λ e. omega (arith, e); expr = refl }))
-    (one_assign _ [] _ (All-nil _) (omega arith) (record { is_field = omega arith; is_not_in_port = λ e. omega (arith, e); expr = (omega arith, refl) }))
-    (one_assign _ [] _ (All-nil _) (omega arith) (record { is_field = omega arith; is_not_in_port = λ e. omega (arith, e); expr = (omega arith, refl) }))
-
--- a table without a key, whose default has no argument
-keyless_table : (name : List ℕ) (default : ℕ) → Takes program default [] → IsTable program (keyless name default)
-keyless_table name default h = record {
-  key = record { key = refl; actions = refl; size = refl; counted = refl };
-  actions = All-nil _;
-  actions_once = AreDistinct-from_apart (λ a. a) [] refl;
-  few_actions = omega arith;
-  default = h;
-}
+    (one_assign program _ [] _ (All-nil _) (omega arith) (record { is_field = omega arith; is_not_in_port = λ e. omega (arith, e); expr = (omega arith, refl) }))
+    (one_assign program _ [] _ (All-nil _) (omega arith) (record { is_field = omega arith; is_not_in_port = λ e. omega (arith, e); expr = (omega arith, refl) }))
 
 ports_table : IsTable program ports
 ports_table = record {
@@ -118,7 +100,7 @@ is_program = record {
   fields = fields;
   headers = headers;
   actions = actions;
-  tables = three (IsTable program) note ports back (keyless_table _ 1 tt) ports_table (keyless_table _ 2 tt);
+  tables = three (IsTable program) note ports back (keyless_table program _ 1 tt) ports_table (keyless_table program _ 2 tt);
   nodes = nodes;
   applied = applied;
   counts = record { a_header = omega arith; headers = omega arith; actions = omega arith; nodes = omega arith };

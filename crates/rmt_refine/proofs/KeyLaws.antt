@@ -1,5 +1,5 @@
 -- An entry matches a state exactly where the state's key, as one number, agrees with the entry's tests as one on their mask.
-use Rattle.std.proofs.Common.{◌≡◌, ℕ, ◌+◌, ◌*◌, ◌^◌, ◌%◌, ◌/◌, ◌<◌, Bool, true, false, ◌&&◌, ◌==◌, List, [], ◌∷◌, sum, map, refl, sym, ap, ◌∙◌, arith}
+use Rattle.std.proofs.Common.{◌≡◌, ℕ, ◌+◌, ◌*◌, ◌^◌, ◌%◌, ◌/◌, ◌<◌, true, ◌&&◌, ◌==◌, List, [], ◌∷◌, sum, map, refl, sym, ap, ◌∙◌, arith}
 use Rattle.std.specs.Prelude.{All, bit_and, slice_index}
 use Rattle.std.specs.List.{AllZip}
 use Rattle.std.proofs.Math.Nat.{mod-eq_of_lt}
@@ -13,6 +13,7 @@ use Rattle.rmt_ast.specs.Walk.{all_pass}
 use Rattle.rmt_ast.specs.WellFormed.{IsTest}
 use Rattle.rmt_ast.specs.EntryLists.{IsWhole, IsPrefix}
 use Rattle.rmt_refine.specs.Cells.{tests_as_one}
+use Rattle.rmt_bits.proofs.OptionLaws.{same_Bool}
 
 -- ---- sizes
 
@@ -39,14 +40,9 @@ tests-lt part fits (w ∷ ws) (t ∷ ts) h =
 
 -- ---- two numbers put together from parts are equal where the parts are
 
-same_bool : (x y : Bool) → (x ≡ true → y ≡ true) → (y ≡ true → x ≡ true) → x ≡ y
-same_bool true y there back = sym (there refl)
-same_bool false true there back = back refl
-same_bool false false there back = refl
-
 pub block_eq : (a b r s k : ℕ) → r < 2 ^ k → s < 2 ^ k → (a * 2 ^ k + r == b * 2 ^ k + s) ≡ ((a == b) && (r == s))
 block_eq a b r s k hr hs =
-    same_bool (a * 2 ^ k + r == b * 2 ^ k + s) ((a == b) && (r == s))
+    same_Bool (a * 2 ^ k + r == b * 2 ^ k + s) ((a == b) && (r == s))
     (λ h.
     let e = eqb-true (a * 2 ^ k + r) (b * 2 ^ k + s) h in
     let high : a ≡ b = sym (div-mul-add a (2 ^ k) r hr) ∙ ap (λ n. n / 2 ^ k) e ∙ div-mul-add b (2 ^ k) s hs in

@@ -1,5 +1,4 @@
 pub mod FindLaws
-pub mod MemberLaws
 pub mod KeyLaws
 pub mod RankLaws
 pub mod PartLaws

@@ -25,12 +25,11 @@ use Rattle.rmt_refine.specs.Carries.{Carries}
 use Rattle.rmt_refine.specs.Refined.{AnswersAs}
 use Rattle.rmt_refine.specs.RunsAs.{RunsAs, told_by_answer, told_by_outcome}
 use Rattle.rmt_refine.proofs.CellNumberLaws.{same_numbers}
-use Rattle.rmt_refine.proofs.MemberLaws.{any_passes}
 use Rattle.rmt_refine.proofs.RefinedLaws.{own_packet}
 use Rattle.rmt_refine.proofs.RisingLaws.{order_member}
 use Rattle.rmt_refine.proofs.StageLaws.{eqb_false}
 use Rattle.rmt_bits.proofs.ListLaws.{sum_by-map}
-use Rattle.rmt_bits.proofs.MemberLaws.{Contains-first, Contains-later}
+use Rattle.rmt_bits.proofs.MemberLaws.{Contains-first, Contains-later, list_any-Contains}
 
 -- ---- sums
 
@@ -139,7 +138,7 @@ module _ (p : Program) (lists : List (List Entry)) (c : Config) where
       chip_counts_of-all c packets (EndBefore-rising c.stages rising)
       ∙ ap (map (count_for ours)) (same_numbers p lists m c entries carries memory)
       ∙ map_same (count_for ours) (count_for theirs) (in_order numbers)
-      (λ n there. same_count n ours theirs (packets_same n packets (any_passes (λ m. m == n) numbers n (order_member numbers n there) (eq-eqb n n refl)) all))
+      (λ n there. same_count n ours theirs (packets_same n packets (list_any-Contains (λ m. m == n) numbers n (order_member numbers n there) (eq-eqb n n refl)) all))
 
   told_same : (o : Outcome) (a : Answer) → o.verdict ≡ a.verdict → o.bytes ≡ a.bytes → told_by_outcome o ≡ told_by_answer a
   told_same o a verdict bytes = ap (λ x. (x, o.bytes)) verdict ∙ ap (λ x. (a.verdict, x)) bytes

@@ -2,7 +2,7 @@
 use Rattle.std.proofs.Common.{◌≡◌, ℕ, ◌*◌, ◌<◌, ◌≤◌, Bool, true, false, not, ◌&&◌, ◌==◌, List, [], ◌∷◌, Option, Some, None, map, refl, sym, ap, ◌∙◌, subst, ◌⊎◌, inl, inr, arith}
 use Rattle.std.specs.Prelude.{Contains, IsSomeAnd, bit_and, find, option_map, slice_get}
 use Rattle.std.specs.List.{AllZip, list_all}
-use Rattle.std.proofs.lemmas.Bool.{and_parts, both_ways, false_from_ne_true, not_from_false, not-true}
+use Rattle.std.proofs.lemmas.Bool.{and_parts, both_ways, false_from_ne_true, not_from_false, not-true, and_from}
 use Rattle.std.proofs.lemmas.List.Sums.{AllPass-from_list_all}
 use Rattle.std.proofs.lemmas.Option.{none-some}
 use Rattle.rmt_refine.specs.Types.{Program, Table, Kind, Config, Stage, SlotUnit, Memory}
@@ -20,7 +20,7 @@ use Rattle.rmt_refine.specs.View.{View, found_at, look_in, slot_at, slot_of}
 use Rattle.rmt_refine.specs.Units.{HasKind}
 use Rattle.rmt_refine.specs.Cells.{HoldsEntry, IsBefore, IsSpotOf, IsTold, Spot, TableCellsCarried, first_code, tests_as_one}
 use Rattle.rmt_refine.specs.LookUps.{FindsAs, FindsEntry}
-use Rattle.rmt_refine.proofs.FindLaws.{best_there, find-least, find-passes, find-some, none_unless}
+use Rattle.rmt_refine.proofs.FindLaws.{best_there, find-least, find-some, none_unless, found_passes}
 use Rattle.rmt_refine.proofs.KeyLaws.{FieldsFit, key_agrees, whole_key}
 use Rattle.rmt_refine.proofs.RankLaws.{are_ordered, precedes_chain, precedes_never}
 use Rattle.rmt_refine.proofs.PartLaws.{IsPart, and_at, candidates_within, look_of_part, part_of_slot, part_of_spot, same_candidates, spot_of_part}
@@ -35,21 +35,17 @@ pub record IsHit (kd : Kind) (key s : List ℕ) (es : List Entry) (e : Entry) : 
   pub matching : matches key s e ≡ true
   pub first : (o : Entry) → Contains es o → matches key s o ≡ true → precedes kd o e ≡ true → ⊥
 
-and_both : (a b : Bool) → a ≡ true → b ≡ true → (a && b) ≡ true
-and_both true b ha hb = hb
-and_both false b ha hb = ha
-
 passes_each : {X : Type 0} (test : X → Bool) (xs : List X) → list_all test xs ≡ true → (x : X) → Contains xs x → test x ≡ true
 passes_each test xs h x there = All-contains (λ z. test z ≡ true) xs x (AllPass-from_list_all test xs h) there
 
 each_passes : {X : Type 0} (test : X → Bool) (xs : List X) → ((x : X) → Contains xs x → test x ≡ true) → list_all test xs ≡ true
 each_passes test [] h = refl
 each_passes test (y ∷ ys) h =
-    and_both (test y) (list_all test ys) (h y (Contains-first y ys)) (each_passes test ys (λ x there. h x (Contains-later y ys x there)))
+    and_from (test y) (list_all test ys) (h y (Contains-first y ys)) (each_passes test ys (λ x there. h x (Contains-later y ys x there)))
 
 found_hit : (kd : Kind) (key s : List ℕ) (es : List Entry) (e : Entry) → find (hits kd key es s) es ≡ Some e → IsHit kd key s es e
 found_hit kd key s es e found =
-    let r = find-passes (hits kd key es s) es e found in
+    let r = found_passes (hits kd key es s) es e found in
     let both = and_parts (matches key s e) (list_all (λ o. not (matches key s o && precedes kd o e)) es) r.1 in
     record {
       there = r.0;
@@ -57,14 +53,14 @@ found_hit kd key s es e found =
       first = λ o there pass before.
           both_ways (matches key s o && precedes kd o e)
           (not-true _ (passes_each (λ o. not (matches key s o && precedes kd o e)) es both.1 o there))
-          (and_both (matches key s o) (precedes kd o e) pass before);
+          (and_from (matches key s o) (precedes kd o e) pass before);
     }
 
 hit_found : (kd : Kind) (key s : List ℕ) (es : List Entry) (o : Entry) → Contains es o → matches key s o ≡ true → find (hits kd key es s) es ≡ None → ⊥
 hit_found kd key s es o there pass none =
     let b = best_there (matches key s) (precedes kd) (precedes_never kd) (precedes_chain kd) es o there pass in
     let is = b.1 in
-    let hit = and_both (matches key s b.0) (list_all (λ x. not (matches key s x && precedes kd x b.0)) es) is.passes
+    let hit = and_from (matches key s b.0) (list_all (λ x. not (matches key s x && precedes kd x b.0)) es) is.passes
     (each_passes (λ x. not (matches key s x && precedes kd x b.0)) es
     (λ x there. not_from_false _ (false_from_ne_true (matches key s x && precedes kd x b.0)
     (λ both. let r = and_parts (matches key s x) (precedes kd x b.0) both in is.best x there r.0 r.1)))) in
@@ -167,7 +163,7 @@ misses p c v cells n t es s l why k place slot at node =
       | inl keyless ↦
           keyless_none kd.0 slot.memory v.seed (bits_of_lanes slot.keys) key test (let P : Kind → Type 0 = λ x. HasKind x kd.0 slot.memory in subst P keyless kd.2)
       | inr misses_all ↦ none_unless (find test there) (λ j found.
-          let f = find-passes test there j found in
+          let f = found_passes test there j found in
           let e = cell_entry p c v cells n t es s k place j part.0 slot l part.1 f.0 f.1 in
           let stands = e.1 in
           misses_all e.0 stands.there e.2)
@@ -228,7 +224,7 @@ finds p c v cells n t es s e a l hit keyed sa =
     let can = same_candidates t.kind kd.0 slot.memory kd.2 v.seed (bits_of_lanes slot.keys) key own a.cell
     (λ exact. exact_key t.kind p s t.key e l.fit exact is.tests is.rank hit.matching) could in
     let f = find-some test there a.cell can pass in
-    let g = find-passes test there f.0 f.1 in
+    let g = found_passes test there f.0 f.1 in
     let o = cell_entry p c v cells n t es s a.stage a.place f.0 stage slot l part g.0 g.1 in
     let same : f.0 ≡ a.cell = elim (behind p c v cells n t es s e o.0 a (at_cell a.stage a.place f.0) l hit keyed sa o.1 o.2) [
       | inl at ↦ ap (λ (x : Spot). x.cell) at
@@ -257,7 +253,7 @@ finds p c v cells n t es s e a l hit keyed sa =
           let test_there : ℕ → Bool = λ m. has_key key (v.content j i m) in
           let cands = candidates v.seed (bits_of_lanes other.keys) other.memory key in
           let none : find test_there cands ≡ None = none_unless (find test_there cands) (λ m found.
-          let h = find-passes test_there cands m found in
+          let h = found_passes test_there cands m found in
           let x = cell_entry p c v cells n t es s j i m before.0 other l before.1 h.0 h.1 in
           elim (behind p c v cells n t es s e x.0 a (at_cell j i m) l hit keyed sa x.1 x.2) [
             | inl at_a ↦ let eq = ap (λ (y : Spot). y.stage) at_a in omega (arith, lt, eq)

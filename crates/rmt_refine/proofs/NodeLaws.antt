@@ -1,5 +1,5 @@
 -- In which stages a node stands.
-use Rattle.std.proofs.Common.{◌≡◌, ◌≢◌, ℕ, ◌+◌, ◌<◌, ◌≤◌, Bool, true, false, ◌&&◌, ◌==◌, cond, List, [], ◌∷◌, Some, length, map, refl, sym, ap, ◌∙◌, subst, ◌⊎◌, inl, inr, arith}
+use Rattle.std.proofs.Common.{◌≡◌, ℕ, ◌+◌, ◌<◌, ◌≤◌, Bool, true, false, ◌&&◌, ◌==◌, cond, List, [], ◌∷◌, Some, length, map, refl, sym, ap, ◌∙◌, subst, ◌⊎◌, inl, inr, arith, ◌≢◌}
 use Rattle.std.specs.Prelude.{All, AllPairs, Contains, filter, fold, max, nat_lt, slice_get}
 use Rattle.std.specs.List.{range_with_len}
 use Rattle.std.proofs.Math.Nat.{le-max_left, le-max_right, max-eq_left, max-eq_right}
@@ -12,9 +12,8 @@ use Rattle.rmt_pack.specs.declared.placement.Part.{Part}
 use Rattle.rmt_pack.specs.Placements.{quanta_in, quanta_of}
 use Rattle.rmt_pack.proofs.BlockLaws.{range-apart}
 use Rattle.rmt_refine.specs.Units.{last_stage, nodes_in}
-use Rattle.rmt_refine.proofs.FindLaws.{filter_keeps, filtered_there}
 use Rattle.rmt_refine.proofs.RankLaws.{compare}
-use Rattle.rmt_bits.proofs.MemberLaws.{Contains-first, Contains-later, Contains-split}
+use Rattle.rmt_bits.proofs.MemberLaws.{Contains-first, Contains-later, Contains-split, Contains-filter, Contains-unfilter}
 use Rattle.std.proofs.lemmas.List.Elements.{All-contains}
 
 -- ---- none behind its last
@@ -106,8 +105,8 @@ pub stands_in_last : (parts : List Part) (n : ℕ) → All (λ (x : Part). 0 < x
 stands_in_last parts n all some =
     let y = some_part n parts some in
     let own = filter (λ (x : Part). x.node == n) parts in
-    let z = last_of own y.0 (filter_keeps (λ (x : Part). x.node == n) parts y.0 y.1 (eq-eqb _ n y.2)) in
-    let f = filtered_there (λ (x : Part). x.node == n) parts z.0 z.1 in
+    let z = last_of own y.0 (Contains-filter (λ (x : Part). x.node == n) parts y.0 y.1 (eq-eqb _ n y.2)) in
+    let f = Contains-unfilter (λ (x : Part). x.node == n) parts z.0 z.1 in
     stands_by_part parts n (last_stage parts n) z.0 f.0 (eqb-true _ n f.1) z.2 (All-contains (λ (x : Part). 0 < x.quanta) parts z.0 all f.0)
 
 picked_in : (b d : Bool) (n k : ℕ) (x : Part) (xs : List Part) → (x.node == n) ≡ b → (x.stage == k) ≡ d → 0 < cond (b && d) x.quanta 0 + quanta_in xs n k

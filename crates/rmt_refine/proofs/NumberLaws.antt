@@ -1,9 +1,9 @@
 -- The numbers of entries in counted tables.
-use Rattle.std.proofs.Common.{◌≡◌, ℕ, zero, suc, ◌+◌, Bool, true, false, ◌||◌, ◌==◌, cond, List, [], ◌∷◌, ◌++◌, Some, length, refl, sym, ap, ◌∙◌, subst, inl, inr, arith}
+use Rattle.std.proofs.Common.{◌≡◌, ℕ, zero, suc, ◌+◌, Bool, true, false, ◌==◌, cond, List, [], ◌∷◌, ◌++◌, Some, length, refl, sym, ap, ◌∙◌, subst, inl, inr, arith}
 use Rattle.std.specs.Prelude.{Contains, option_map, slice_get, unwrap_or}
 use Rattle.std.specs.List.{flat_map, list_any}
 use Rattle.std.proofs.Math.ListN.{get_or-append}
-use Rattle.std.proofs.lemmas.Bool.{both_ways, eq-eqb, eqb-true, false_from_ne_true}
+use Rattle.std.proofs.lemmas.Bool.{both_ways, eq-eqb, false_from_ne_true}
 use Rattle.std.proofs.lemmas.List.{get_or-append-add, length-append}
 use Rattle.std.proofs.lemmas.List.Elements.{Contains-append_cases, Contains-append_left, Contains-append_right}
 use Rattle.std.proofs.lemmas.Option.{none-some, same_Some}
@@ -15,19 +15,8 @@ use Rattle.rmt_ast.specs.EntryLists.{AreEntries}
 use Rattle.rmt_ast.specs.WellFormed.{AreDistinct}
 use Rattle.rmt_refine.specs.Units.{applied}
 use Rattle.rmt_refine.specs.Outcomes.{entries_at}
-use Rattle.rmt_refine.proofs.MemberLaws.{Contains-flat_map, Contains-item, any_passes}
 use Rattle.rmt_refine.proofs.OutcomeLaws.{list_at}
-use Rattle.rmt_bits.proofs.MemberLaws.{Contains-map, Contains-first, Contains-later}
-
--- ---- members
-
-pub any_from : (xs : List ℕ) (x : ℕ) → list_any (λ m. m == x) xs ≡ true → Contains xs x
-any_from [] x e = absurd (both_ways false refl e)
-any_from (y ∷ ys) x e = by (y == x) refl e (any_from ys x)
-  where
-    by : (b : Bool) → (y == x) ≡ b → (b || list_any (λ m. m == x) ys) ≡ true → (list_any (λ m. m == x) ys ≡ true → Contains ys x) → Contains (y ∷ ys) x
-    by true is h rest = subst (Contains (y ∷ ys)) (eqb-true y x is) (Contains-first y ys)
-    by false is h rest = Contains-later y ys x (rest h)
+use Rattle.rmt_bits.proofs.MemberLaws.{Contains-map, Contains-item, Contains-flat_map, list_any-Contains, Contains-from_any}
 
 -- ---- which numbers are counted
 
@@ -118,12 +107,12 @@ number_counted p lists n node t e entries at table there = by t.counted refl
 
     by : (b : Bool) → t.counted ≡ b → list_any (λ m. m == e.number) (counted_numbers p p.nodes lists) ≡ t.counted
     by true is =
-        any_passes (λ m. m == e.number) (counted_numbers p p.nodes lists) e.number
+        list_any-Contains (λ m. m == e.number) (counted_numbers p p.nodes lists) e.number
         (in_counted p p.nodes lists n node (entries_at lists n) e.number at list (counted_is p node.what t table ∙ is) own)
         (eq-eqb e.number e.number refl) ∙ sym is
     by false is =
         false_from_ne_true (list_any (λ m. m == e.number) (counted_numbers p p.nodes lists)) (λ any.
-        let r = from_counted p p.nodes lists e.number (any_from (counted_numbers p p.nodes lists) e.number any) in
+        let r = from_counted p p.nodes lists e.number (Contains-from_any (counted_numbers p p.nodes lists) e.number any) in
         let same = one_list lists n r.n (entries_at lists n) r.es e.number entries.numbers_once list r.list_is own r.there in
         let same_node : node ≡ r.node = same_Some node r.node (sym at ∙ ap (slice_get p.nodes) same ∙ r.node_is) in
         both_ways (is_counted p node.what) (counted_is p node.what t table ∙ is) (ap (λ (m : Node). is_counted p m.what) same_node ∙ r.counted))

@@ -20,15 +20,13 @@ use Rattle.rmt_refine.specs.View.{View}
 use Rattle.rmt_refine.specs.Carries.{CarriesIn, all_edges}
 use Rattle.rmt_refine.proofs.EdgeLaws.{field_edge, in_order, run_beside, word_edge}
 use Rattle.rmt_refine.proofs.FieldLaws.{Goes}
-use Rattle.rmt_refine.proofs.FindLaws.{filter_keeps}
-use Rattle.rmt_refine.proofs.MemberLaws.{any_passes}
 use Rattle.rmt_refine.proofs.NodeLaws.{part_there}
-use Rattle.rmt_bits.proofs.MemberLaws.{Contains-map}
+use Rattle.rmt_bits.proofs.MemberLaws.{Contains-map, list_any-Contains, Contains-filter}
 
 -- ---- members
 
 they_meet : (xs ys : List ℕ) (n : ℕ) → Contains xs n → Contains ys n → meet xs ys ≡ true
-they_meet xs ys n in_xs in_ys = any_passes (contains ys) xs n in_xs (any_passes (λ y. y == n) ys n in_ys (eq-eqb n n refl))
+they_meet xs ys n in_xs in_ys = list_any-Contains (contains ys) xs n in_xs (list_any-Contains (λ y. y == n) ys n in_ys (eq-eqb n n refl))
 
 -- a stage with quanta of a node is one of its stages
 stands_there : (parts : List Part) (n k : ℕ) → 0 < quanta_in parts n k → Contains (stages_of parts n) k
@@ -36,7 +34,7 @@ stands_there parts n k some =
     let y = part_there parts n k some in
     let own = filter (λ (x : Part). x.node == n) parts in
     subst (Contains (stages_of parts n)) y.3
-    (Contains-map (λ (x : Part). x.stage) own y.0 (filter_keeps (λ (x : Part). x.node == n) parts y.0 y.1 (eq-eqb _ n y.2)))
+    (Contains-map (λ (x : Part). x.stage) own y.0 (Contains-filter (λ (x : Part). x.node == n) parts y.0 y.1 (eq-eqb _ n y.2)))
 
 -- ---- two nodes that run
 

@@ -1,22 +1,20 @@
 -- What the law of outcomes rests on holds where a configuration's units are those of a program and its cells hold the entries.
-use Rattle.std.proofs.Common.{◌≡◌, ℕ, zero, suc, ◌+◌, ◌<◌, ◌≤◌, Bool, true, false, cond, List, [], ◌∷◌, Option, Some, None, length, map, take, refl, sym, ap, ◌∙◌, subst, ◌⊎◌, inr, arith, below_more}
-use Rattle.std.specs.Prelude.{All, option_and_then, option_map, replicate, slice_get, slice_index, unwrap_or}
-use Rattle.std.specs.List.{AllZip}
+use Rattle.std.proofs.Common.{◌≡◌, ℕ, zero, suc, ◌+◌, ◌<◌, ◌≤◌, List, [], ◌∷◌, Option, Some, None, length, map, take, refl, sym, ap, ◌∙◌, subst, ◌⊎◌, inr, arith, below_more}
+use Rattle.std.specs.Prelude.{option_and_then, option_map, replicate, slice_get, slice_index, unwrap_or}
 use Rattle.std.proofs.lemmas.List.{length-map}
-use Rattle.std.proofs.lemmas.List.Elements.{All-head, All-tail, All-weaker, All-contains}
+use Rattle.std.proofs.lemmas.List.Elements.{All-weaker}
 use Rattle.std.proofs.lemmas.Option.{none-some, same_Some, slice_get-map, slice_get_within}
-use Rattle.rmt_bits.proofs.AllLaws.{All-slice_get}
 use Rattle.rmt_bits.proofs.ListLaws.{slice_get-alike, slice_get-item}
 use Rattle.rmt_bits.specs.declared.lane.Lane.{Lane}
-use Rattle.rmt_refine.specs.Types.{Program, Action, Table, Node, Guard, What, Config}
+use Rattle.rmt_refine.specs.Types.{Program, Table, Node, Guard, What, Config}
 use Rattle.rmt_ast.specs.declared.program.What.TheVariants.{Apply, Gate}
 use Rattle.rmt_ast.specs.declared.entry.Entry.{Entry}
-use Rattle.rmt_ast.specs.Control.{Run, applied_table, done_by, run, run_from, runs}
-use Rattle.rmt_ast.specs.EntryLists.{AreEntries, AreEntriesAt, AreTableEntries, IsEntry, params_of, terms_at, terms_of}
+use Rattle.rmt_ast.specs.Control.{run}
+use Rattle.rmt_ast.specs.EntryLists.{AreEntries, AreEntriesAt, AreTableEntries, terms_at, terms_of}
 use Rattle.rmt_ast.specs.Lookup.{hit_of}
 use Rattle.rmt_ast.specs.State.{IsState, joined}
-use Rattle.rmt_ast.specs.WellFormed.{Fits, IsProgram, IsTable, IsWhat, Takes}
-use Rattle.rmt_ast.proofs.RunStateLaws.{act_of_keeps}
+use Rattle.rmt_ast.specs.WellFormed.{IsProgram, IsWhat}
+use Rattle.rmt_ast.proofs.RunStateLaws.{run_from_keeps}
 use Rattle.rmt_pack.specs.declared.placement.Part.{Part}
 use Rattle.rmt_pack.specs.Placements.{quanta_in}
 use Rattle.rmt_refine.specs.declared.map.CellOf.{CellOf}
@@ -25,62 +23,13 @@ use Rattle.rmt_refine.specs.Units.{UnitsCarried, applied, last_stage, table_at}
 use Rattle.rmt_refine.specs.Cells.{CellsCarried}
 use Rattle.rmt_refine.specs.LookUps.{FindsAs}
 use Rattle.rmt_refine.specs.Outcomes.{ChildrenFollow, IsSetIn, TableSetIn, entries_at, run_before}
-use Rattle.rmt_refine.proofs.LookUpLaws.{hit_some}
 use Rattle.rmt_refine.proofs.NodeLaws.{stands_in_last}
-use Rattle.rmt_refine.proofs.PartLaws.{and_at, and_from, some_and, then_some}
-use Rattle.rmt_refine.proofs.RunLaws.{is_earlier, outcome_at, through_node}
+use Rattle.rmt_refine.proofs.PartLaws.{and_at, and_from, then_some}
+use Rattle.rmt_refine.proofs.RunLaws.{is_earlier, outcome_at}
 use Rattle.rmt_refine.proofs.StageLaws.{IsRun, stands_where_set}
-use Rattle.rmt_refine.proofs.TheLaw.{look_up_law}
+use Rattle.rmt_refine.proofs.TheLaw.{look_up_law, table_entries}
 
 -- ---- the state before each node is one
-
-known_action : (p : Program) (ns : List ℕ) (i : ℕ) (params : List ℕ) → All (λ a. a < length p.actions) ns → slice_get (map (params_of p) ns) i ≡ Some params
-    → (a : Action) × (slice_get p.actions (slice_index ns i) ≡ Some a) × (a.params ≡ params)
-known_action p [] i params known e = absurd (none-some params e)
-known_action p (n ∷ ns) zero params known e =
-    let a = slice_get-item p.actions n (All-head (λ a. a < length p.actions) n ns known) in
-    (a.0, a.1, sym (ap (λ o. unwrap_or (option_map (λ (x : Action). x.params) o) []) a.1) ∙ same_Some (params_of p n) params e)
-known_action p (n ∷ ns) (suc i) params known e = known_action p ns i params (All-tail (λ a. a < length p.actions) n ns known) e
-
-entry_takes : (p : Program) (n : ℕ) (t : Table) (e : Entry) → IsTable p t → IsEntry n (terms_of p t) e → Takes p (slice_index t.actions e.action) e.args
-entry_takes p n t e table is =
-    let params = some_and (slice_get (map (params_of p) t.actions) e.action) (λ ps. AllZip Fits ps e.args) is.action in
-    let a = known_action p t.actions e.action params.0 table.actions params.1 in
-    and_from (slice_get p.actions (slice_index t.actions e.action)) (λ (x : Action). AllZip Fits x.params e.args) a.0 a.1
-    (subst (λ ps. AllZip Fits ps e.args) (sym a.2) params.2)
-
-applied_keeps : (p : Program) (n : ℕ) (t : Table) (es : List Entry) (s : List ℕ) (r : Run) (o : Option Entry) → IsProgram p → IsTable p t → AreTableEntries n es (terms_of p t)
-    → hit_of t.kind t.key es s ≡ o → IsState p r.state → IsState p (applied_table p n t o r).state
-applied_keeps p n t es s r None program table are hit state = act_of_keeps p t.default t.args r.state program.actions table.default state
-applied_keeps p n t es s r (Some e) program table are hit state =
-    let there = hit_some t.kind t.key s es e hit in
-    act_of_keeps p (slice_index t.actions e.action) e.args r.state program.actions
-    (entry_takes p n t e table (All-contains (IsEntry n (terms_of p t)) es e are.each there.0.there)) state
-
-table_keeps : (p : Program) (n : ℕ) (es : List Entry) (r : Run) (o : Option Table) → IsProgram p → ((t : Table) → o ≡ Some t → IsTable p t) → AreEntriesAt n es (option_map (terms_of p) o)
-    → IsState p r.state → IsState p (unwrap_or (option_map (λ (t : Table). applied_table p n t (hit_of t.kind t.key es r.state) r) o) r).state
-table_keeps p n es r None program tables are state = state
-table_keeps p n es r (Some t) program tables are state =
-    applied_keeps p n t es r.state r (hit_of t.kind t.key es r.state) program (tables t refl) are refl state
-
-done_keeps : (p : Program) (n : ℕ) (es : List Entry) (w : What) (r : Run) → IsProgram p → AreEntriesAt n es (terms_at p w) → IsState p r.state → IsState p (done_by p es n w r).state
-done_keeps p n es (Apply i) r program are state =
-    table_keeps p n es r (slice_get p.tables i) program (λ t e. All-slice_get (IsTable p) p.tables i t program.tables e) are state
-done_keeps p n es (Gate field test) r program are state = state
-
-either_keeps : (p : Program) (b : Bool) (q r : Run) → IsState p q.state → IsState p r.state → IsState p (cond b q r).state
-either_keeps p true q r hq hr = hq
-either_keeps p false q r hq hr = hr
-
-nodes_keep : (p : Program) (lists : List (List Entry)) (n : ℕ) (nodes : List Node) (r : Run) → IsProgram p
-    → ((i : ℕ) (node : Node) → slice_get nodes i ≡ Some node → AreEntriesAt (n + i) (entries_at lists (n + i)) (terms_at p node.what)) → IsState p r.state → IsState p (run_from p lists n nodes r).state
-nodes_keep p lists n [] r program are state = state
-nodes_keep p lists n (node ∷ nodes) r program are state =
-    let zero_more : n + 0 ≡ n = omega arith in
-    let here = subst (λ m. AreEntriesAt m (entries_at lists m) (terms_at p node.what)) zero_more (are 0 node refl) in
-    nodes_keep p lists (n + 1) nodes (through_node p lists n node r) program
-    (λ i x e. let one_more : n + suc i ≡ n + 1 + i = omega arith in subst (λ m. AreEntriesAt m (entries_at lists m) (terms_at p x.what)) one_more (are (suc i) x e))
-    (either_keeps p (runs node.guard r.outcomes) (done_by p (entries_at lists n) n node.what r) r (done_keeps p n (entries_at lists n) node.what r program here state) state)
 
 -- the list of each node
 pub list_at : (p : Program) (lists : List (List Entry)) (n : ℕ) (node : Node) → AreEntries p lists → slice_get p.nodes n ≡ Some node
@@ -96,6 +45,11 @@ list_at p lists n node entries at =
           (and_at (slice_get terms n) (AreEntriesAt n there.0) (terms_at p node.what) known (entries.each n there.0 there.1)),
     )
 
+pub own_entries : (p : Program) (lists : List (List Entry)) (n : ℕ) (t : Table) → AreEntries p lists → table_at p n ≡ Some t → AreTableEntries n (entries_at lists n) (terms_of p t)
+own_entries p lists n t entries at =
+    let node = then_some (λ (x : Node). applied p x.what) (slice_get p.nodes n) t at in
+    table_entries p lists n t (entries_at lists n) entries at (list_at p lists n node.0 entries node.1).0
+
 take_get : {X : Type 0} (xs : List X) (n i : ℕ) (x : X) → slice_get (take n xs) i ≡ Some x → slice_get xs i ≡ Some x
 take_get [] zero i x e = absurd (none-some x e)
 take_get [] (suc n) i x e = absurd (none-some x e)
@@ -105,7 +59,7 @@ take_get (y ∷ ys) (suc n) (suc i) x e = take_get ys n i x e
 
 pub state_before : (p : Program) (lists : List (List Entry)) (s : List ℕ) (n : ℕ) → IsProgram p → AreEntries p lists → IsState p s → IsState p (run_before p lists s n).state
 state_before p lists s n program entries state =
-    nodes_keep p lists 0 (take n p.nodes) (record { state = s; outcomes = replicate (length p.nodes) 0; hits = [] }) program
+    run_from_keeps p lists program 0 (take n p.nodes) (record { state = s; outcomes = replicate (length p.nodes) 0; hits = [] })
     (λ i node e.
     let none_more : i ≡ 0 + i = omega arith in
     subst (λ m. AreEntriesAt m (entries_at lists m) (terms_at p node.what)) none_more (list_at p lists i node entries (take_get p.nodes n i node e)).1) state

@@ -16,7 +16,7 @@ use Rattle.rmt_config.specs.ChipRun.{finished, latency_of, outcome_from, outcome
 use Rattle.rmt_config.specs.Life.{Counted, Life, Look, life_of}
 use Rattle.rmt_config.specs.Parser.{Parse, Reached, Short, Reject, Accept, parse, put}
 use Rattle.rmt_bits.specs.declared.lane.Lane.{Lane}
-use Rattle.rmt_refine.specs.Code.{Hold}
+use Rattle.rmt_config.specs.Effects.{Hold}
 use Rattle.rmt_refine.specs.CountedHits.{counted_hits}
 use Rattle.rmt_refine.specs.Places.{PlacesCarried}
 use Rattle.rmt_refine.specs.Refined.{AnswersAs}

@@ -1,5 +1,5 @@
 -- The program on two stages: the parser of the configuration ends as the walk does, on every frame.
-use Rattle.std.proofs.Common.{◌≡◌, ◌≢◌, ℕ, zero, suc, ◌+◌, ◌*◌, ◌%◌, ◌^◌, ◌<◌, ◌≤◌, false, cond, List, [], ◌∷◌, length, replicate, get_or, refl, sym, ap, ◌∙◌, subst, ◌⊎◌, inl, inr, arith}
+use Rattle.std.proofs.Common.{◌≡◌, ◌≢◌, ℕ, zero, suc, ◌+◌, ◌*◌, ◌%◌, ◌^◌, ◌<◌, ◌≤◌, false, cond, List, [], ◌∷◌, length, replicate, refl, sym, ap, ◌∙◌, subst, ◌⊎◌, inl, inr, arith}
 use Rattle.std.specs.Prelude.{nat_lt, slice_index, slice_index_or}
 use Rattle.std.specs.List.{flat_map}
 use Rattle.std.proofs.lemmas.Bool.{cases_eq, le-ltb}
@@ -8,7 +8,7 @@ use Rattle.std.proofs.Math.Nat.{zero-div}
 use Rattle.rmt_bits.specs.Bits.{bits_of_bytes, deposit, number_of, slice}
 use Rattle.rmt_bits.specs.declared.lane.Lane.{Lane}
 use Rattle.rmt_bits.proofs.BitLaws.{slice-deposit_above, slice-deposit_below, slice-deposit_same, slice-lt}
-use Rattle.rmt_bits.proofs.WordLaws.{get_or-zeros}
+use Rattle.rmt_bits.proofs.WordLaws.{get_or-zeros, get_or-same}
 use Rattle.rmt_ast.specs.Places.{lanes_of}
 use Rattle.rmt_ast.specs.Walk as walks
 use Rattle.rmt_config.specs.Agreement.{AgreesWith, EndsAs, HasReached, IsFree, held_in}
@@ -69,11 +69,6 @@ field_there x (suc (suc (suc (suc zero)))) fits =
 field_there x (suc (suc (suc (suc (suc zero))))) fits = refl
 field_there x (suc (suc (suc (suc (suc (suc f)))))) fits = refl
 
-same_all : {X : Type 0} (n i : ℕ) (d : X) → get_or (replicate n d) i d ≡ d
-same_all zero i d = refl
-same_all (suc n) zero d = refl
-same_all (suc n) (suc i) d = same_all n i d
-
 -- how a frame with a first byte is parsed, and how it is walked
 abbrev parsed : ℕ → parsing.Reached
 parsed b = record { vector = vector_of (bits_of_bytes (b ∷ []) 0 8); tails = replicate 64 no_tail; at = 1 }
@@ -83,7 +78,7 @@ walked port b = record { state = port ∷ 0 ∷ 0 ∷ 1 ∷ slice (number_of (b 
 
 no_tails : (b : ℕ) (rest : List ℕ) (port n : ℕ) → tail_bytes (b ∷ rest) (slice_index_or (parsed b).tails n no_tail) ≡ slice_index_or (walked port b).tails n []
 no_tails b rest port zero = refl
-no_tails b rest port (suc n) = ap (tail_bytes (b ∷ rest)) (same_all 63 n no_tail)
+no_tails b rest port (suc n) = ap (tail_bytes (b ∷ rest)) (get_or-same 63 n no_tail)
 
 reached : (b : ℕ) (rest : List ℕ) (port : ℕ) → HasReached places (b ∷ rest) (parsed b) (walked port b)
 reached b rest port =

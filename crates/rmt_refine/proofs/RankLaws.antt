@@ -1,8 +1,8 @@
 -- Which of two entries that match comes first.
-use Rattle.std.proofs.Common.{◌≡◌, ◌≢◌, ℕ, ◌<◌, Bool, true, false, ◌&&◌, ◌==◌, List, length, map, get_or, refl, sym, ap, ◌∙◌, subst, ◌⊎◌, inl, inr, arith}
+use Rattle.std.proofs.Common.{◌≡◌, ◌≢◌, ℕ, ◌<◌, true, false, ◌&&◌, ◌==◌, List, length, map, get_or, refl, sym, ap, ◌∙◌, subst, ◌⊎◌, inl, inr, arith}
 use Rattle.std.specs.Prelude.{AllPairs, Contains, nat_lt}
 use Rattle.std.specs.List.{AllZip}
-use Rattle.std.proofs.lemmas.Bool.{and_parts, both_ways, cases_lt, eqb-true, eq-eqb, lt-ltb, ltb-true, or_cases, or_left, or_right}
+use Rattle.std.proofs.lemmas.Bool.{and_parts, both_ways, eqb-true, eq-eqb, lt-ltb, ltb-true, or_cases, or_left, or_right, and_from}
 use Rattle.std.proofs.lemmas.List.{get_or_default}
 use Rattle.rmt_refine.specs.Types.{Program, Test, Table, Kind}
 use Rattle.rmt_ast.specs.declared.program.Kind.TheVariants.{Keyless, Exact, Prefix, Ternary}
@@ -34,10 +34,6 @@ earlier a b h =
           let r = and_parts (a.rank == b.rank) (nat_lt a.number b.number) both in
           inr (eqb-true a.rank b.rank r.0, ltb-true a.number b.number r.1)
     ]
-
-and_from : (a b : Bool) → a ≡ true → b ≡ true → (a && b) ≡ true
-and_from true b ha hb = hb
-and_from false b ha hb = ha
 
 from_earlier : (a b : Entry) → IsEarlier a b → precedes Ternary a b ≡ true
 from_earlier a b (inl lt) = or_left (nat_lt a.rank b.rank) ((a.rank == b.rank) && nat_lt a.number b.number) (lt-ltb a.rank b.rank lt)
@@ -79,14 +75,7 @@ pairs_at R xs a b pairs i j li lj ea eb not_ab not_ba (inr (inr e)) =
     sym ea ∙ ap (λ k. get_or xs k a) e ∙ get_or_default xs j a b lj ∙ eb
 
 pub compare : (i j : ℕ) → (i < j) ⊎ ((j < i) ⊎ (i ≡ j))
-compare i j =
-    elim (cases_lt i j) [
-      | inl lt ↦ inl lt
-      | inr le ↦ elim (cases_lt j i) [
-        | inl lt ↦ inr (inl lt)
-        | inr back ↦ inr (inr (omega (arith, le, back)))
-      ]
-    ]
+compare i j = grind arith
 
 -- two members of a list in which no two stand so to each other
 pub pairs_same : {X : Type 0} (R : X → X → Type 0) (xs : List X) (a b : X) → AllPairs R xs → Contains xs a → Contains xs b → (R a b → ⊥) → (R b a → ⊥) → a ≡ b

@@ -1,19 +1,19 @@
 -- What is read from words that hold the fields of a state: keys and tests are those of the state.
-use Rattle.std.proofs.Common.{◌≡◌, ℕ, ◌+◌, ◌*◌, ◌/◌, ◌%◌, ◌^◌, ◌==◌, ◌<◌, Bool, true, false, ◌&&◌, cond, List, [], ◌∷◌, Option, Some, None, length, map, reverse, sum, refl, sym, ap, ◌∙◌, subst, inl, inr, arith}
-use Rattle.std.specs.Prelude.{Contains, bit_and, fold, option_map, replicate, slice_get, slice_index, unwrap_or}
+use Rattle.std.proofs.Common.{◌≡◌, ℕ, ◌+◌, ◌*◌, ◌/◌, ◌^◌, ◌==◌, ◌<◌, Bool, ◌&&◌, List, [], ◌∷◌, length, map, reverse, sum, refl, sym, ap, ◌∙◌, subst, inl, inr, arith}
+use Rattle.std.specs.Prelude.{Contains, bit_and, fold, option_map, slice_index, unwrap_or}
 use Rattle.std.specs.List.{list_all, range_with_len}
 use Rattle.std.specs.Int.Bits.{and_zero_l}
-use Rattle.std.proofs.Math.Bool.{and_comm}
-use Rattle.std.proofs.Math.Nat.{div-one, mod-eq_of_lt, mod-one}
+use Rattle.std.proofs.Math.Bool.{and_comm, and-true}
+use Rattle.std.proofs.Math.Nat.{mod-one}
 use Rattle.std.proofs.Math.ListN.{get_or-eq_default}
-use Rattle.std.proofs.lemmas.Bool.{cases_lt, eqb-true}
+use Rattle.std.proofs.lemmas.Bool.{cases_lt}
 use Rattle.std.proofs.lemmas.List.{reverse-append}
 use Rattle.std.proofs.lemmas.List.FromFn.{get_or-map-range_with_len, length-map-range_with_len}
-use Rattle.std.proofs.lemmas.List.Folds.{list_all-append, sum_by-replicate}
-use Rattle.std.proofs.lemmas.List.Sums.{fold-append, sum_by-append, sum_by-cons}
+use Rattle.std.proofs.lemmas.List.Folds.{list_all-append}
+use Rattle.std.proofs.lemmas.List.Sums.{fold-append, sum_by-cons}
 use Rattle.std.proofs.lemmas.Nat.{and_block, and_le_l, mul-add-lt, pow-add}
-use Rattle.std.proofs.lemmas.Option.{slice_get-map, slice_get_past}
-use Rattle.rmt_bits.proofs.BitLaws.{slice-add, slice-lt}
+use Rattle.std.proofs.lemmas.Option.{slice_get_past}
+use Rattle.rmt_bits.proofs.BitLaws.{slice-add, slice-lt, slice-whole}
 use Rattle.rmt_bits.specs.Bits.{slice}
 use Rattle.rmt_bits.specs.declared.lane.Lane.{Lane}
 use Rattle.rmt_refine.specs.Types.{Program, Field, Test, GateTest}
@@ -23,49 +23,15 @@ use Rattle.rmt_ast.specs.WellFormed.{IsTest}
 use Rattle.rmt_config.specs.LaneForm.{bits_of_lanes}
 use Rattle.rmt_config.specs.Life.{Words, gate_passes, key_of, lane_of}
 use Rattle.rmt_phv.specs.Packing.{pieces}
-use Rattle.rmt_phv.specs.Places.{lengths_of}
-use Rattle.rmt_refine.specs.Code.{Hold, held_by}
-use Rattle.rmt_refine.specs.Places.{high_first}
+use Rattle.rmt_phv.specs.Places.{lengths_of, high_first}
+use Rattle.rmt_config.specs.Effects.{held_by, Hold}
 use Rattle.rmt_refine.specs.Units.{tests_from, tests_of}
 use Rattle.rmt_refine.proofs.KeyLaws.{block_eq}
 use Rattle.rmt_bits.proofs.MemberLaws.{Contains-first, Contains-later}
-
--- ---- the bits of a field's lanes
-
-sum_same : (n : ℕ) → sum (replicate n 32) ≡ n * 32
-sum_same n = sum_by-replicate (λ (x : ℕ). x) n 32
-
-rest_bits : (b : Bool) (r : ℕ) → (r == 0) ≡ b → sum (cond b [] (r ∷ [])) ≡ r
-rest_bits true r e = let none = eqb-true r 0 e in omega (arith, none)
-rest_bits false r e = omega arith
-
-pieces_bits : (w : ℕ) → sum (pieces w) ≡ w
-pieces_bits w =
-    let parts = sum_by-append (λ (n : ℕ). n) (replicate (w / 32) 32) (cond (w % 32 == 0) [] ((w % 32) ∷ [])) in
-    let front = sum_same (w / 32) in
-    let rest = rest_bits (w % 32 == 0) (w % 32) refl in
-    omega (arith, parts, front, rest)
-
-lens_at : (o : Option (List Lane)) → map (λ (l : Lane). l.len) (unwrap_or o []) ≡ unwrap_or (option_map (λ (ls : List Lane). map (λ (l : Lane). l.len) ls) o) []
-lens_at None = refl
-lens_at (Some ls) = refl
-
-widths_at : (o : Option Field) → sum (unwrap_or (option_map (λ (x : Field). pieces x.width) o) []) ≡ unwrap_or (option_map (λ (x : Field). x.width) o) 0
-widths_at None = refl
-widths_at (Some x) = pieces_bits x.width
-
--- the lanes of a field have its bits
-pub lanes_width : (p : Program) (places : List (List Lane)) (f : ℕ) → lengths_of places ≡ map (λ (x : Field). pieces x.width) p.fields → bits_of_lanes (lanes_of places f) ≡ width_of p f
-lanes_width p places f cut =
-    ap sum (lens_at (slice_get places f) ∙ ap (λ o. unwrap_or o []) (sym (slice_get-map (λ (ls : List Lane). map (λ (l : Lane). l.len) ls) places f)))
-    ∙ ap (λ (xs : List (List ℕ)). sum (unwrap_or (slice_get xs f) [])) cut
-    ∙ ap (λ o. sum (unwrap_or o [])) (slice_get-map (λ (x : Field). pieces x.width) p.fields f)
-    ∙ widths_at (slice_get p.fields f)
+use Rattle.rmt_phv.proofs.LaneLaws.{lanes_width}
+use Rattle.rmt_config.proofs.HeldLaws.{bits_of_lanes-cons}
 
 -- ---- keys
-
-bits_cons : (l : Lane) (ls : List Lane) → bits_of_lanes (l ∷ ls) ≡ l.len + bits_of_lanes ls
-bits_cons l ls = sum_by-cons (λ (n : ℕ). n) l.len (map (λ (x : Lane). x.len) ls)
 
 abbrev read_more : Words → ℕ → Lane → ℕ
 read_more words n lane = 2 ^ lane.len * n + lane_of words lane
@@ -79,7 +45,7 @@ read_lanes words (l ∷ ls) n =
     ap (fold (read_more words) n) (reverse-append (l ∷ []) ls)
     ∙ fold-append (read_more words) n (reverse ls) (l ∷ [])
     ∙ ap (λ m. read_more words m l) (read_lanes words ls n)
-    ∙ joined_up n (lane_of words l) (held_by words ls) l.len (bits_of_lanes ls) (bits_of_lanes (l ∷ ls)) (bits_cons l ls)
+    ∙ joined_up n (lane_of words l) (held_by words ls) l.len (bits_of_lanes ls) (bits_of_lanes (l ∷ ls)) (bits_of_lanes-cons l ls)
 
 joined_next : (n x j a b d : ℕ) → d ≡ a + b → (n * 2 ^ a + x) * 2 ^ b + j ≡ n * 2 ^ d + (x * 2 ^ b + j)
 joined_next n x j a b d e = rw (e, pow-add 2 a b) (omega arith)
@@ -113,11 +79,7 @@ all_reversed : {X : Type 0} (test : X → Bool) (xs : List X) → list_all test 
 all_reversed test [] = refl
 all_reversed test (x ∷ xs) =
     ap (list_all test) (reverse-append (x ∷ []) xs) ∙ list_all-append test (reverse xs) (x ∷ []) ∙ ap (λ b. b && list_all test (x ∷ [])) (all_reversed test xs)
-    ∙ and_comm (list_all test xs) (list_all test (x ∷ [])) ∙ ap (λ b. b && list_all test xs) (alone (test x))
-  where
-    alone : (b : Bool) → (b && true) ≡ b
-    alone true = refl
-    alone false = refl
+    ∙ and_comm (list_all test xs) (list_all test (x ∷ [])) ∙ ap (λ b. b && list_all test xs) (and-true (test x))
 
 and_less : (x m k : ℕ) → x < 2 ^ k → bit_and x m < 2 ^ k
 and_less x m k lt = let less = and_le_l x m in omega (arith, less, lt)
@@ -136,7 +98,7 @@ lanes_pass words t (l ∷ ls) low =
     let v = slice t.value low k in
     let high_m = slice t.mask (low + k) rest in
     let high_v = slice t.value (low + k) rest in
-    let bits : bits_of_lanes (l ∷ ls) ≡ rest + k = let e = bits_cons l ls in omega (arith, e) in
+    let bits : bits_of_lanes (l ∷ ls) ≡ rest + k = let e = bits_of_lanes-cons l ls in omega (arith, e) in
     let held : h * 2 ^ k + x ≡ held_by words (l ∷ ls) = omega arith in
     let mask : high_m * 2 ^ k + m ≡ slice t.mask low (bits_of_lanes (l ∷ ls)) = sym (ap (slice t.mask low) bits ∙ slice-add t.mask low rest k) in
     let value : high_v * 2 ^ k + v ≡ slice t.value low (bits_of_lanes (l ∷ ls)) = sym (ap (slice t.value low) bits ∙ slice-add t.value low rest k) in
@@ -149,17 +111,14 @@ lanes_pass words t (l ∷ ls) low =
     ∙ ap (λ n. bit_and (held_by words (l ∷ ls)) n == high_v * 2 ^ k + v) mask
     ∙ ap (λ n. bit_and (held_by words (l ∷ ls)) (slice t.mask low (bits_of_lanes (l ∷ ls))) == n) value
 
-whole : (v w : ℕ) → v < 2 ^ w → slice v 0 w ≡ v
-whole v w lt = ap (λ n. n % 2 ^ w) (div-one v) ∙ mod-eq_of_lt lt
-
 -- a test of a field that its lanes hold
 pub test_reads : (p : Program) (places : List (List Lane)) (words : Words) (s : List ℕ) (field : ℕ) (t : Test) → lengths_of places ≡ map (λ (x : Field). pieces x.width) p.fields
     → IsTest (width_of p field) t → held_by words (lanes_of places field) ≡ slice_index s field → gate_passes words (tests_of places field t) ≡ passes t (slice_index s field)
 test_reads p places words s field t cut is holds =
     let ls = lanes_of places field in
     let wide = lanes_width p places field cut in
-    let mask : slice t.mask 0 (bits_of_lanes ls) ≡ t.mask = ap (slice t.mask 0) wide ∙ whole t.mask (width_of p field) is.mask_fits in
-    let value : slice t.value 0 (bits_of_lanes ls) ≡ bit_and t.value t.mask = ap (slice t.value 0) wide ∙ whole t.value (width_of p field) is.value_fits ∙ sym is.value_is_masked in
+    let mask : slice t.mask 0 (bits_of_lanes ls) ≡ t.mask = ap (slice t.mask 0) wide ∙ slice-whole t.mask (width_of p field) is.mask_fits in
+    let value : slice t.value 0 (bits_of_lanes ls) ≡ bit_and t.value t.mask = ap (slice t.value 0) wide ∙ slice-whole t.value (width_of p field) is.value_fits ∙ sym is.value_is_masked in
     all_reversed (passes_one words) (tests_from 0 t ls)
     ∙ lanes_pass words t ls 0
     ∙ ap (λ n. bit_and n (slice t.mask 0 (bits_of_lanes ls)) == slice t.value 0 (bits_of_lanes ls)) holds
@@ -175,7 +134,7 @@ held-lt words (l ∷ ls) =
     let low = slice-lt (words l.word) l.low l.len in
     let lt = mul-add-lt (held_by words ls) (2 ^ l.len) (lane_of words l) (2 ^ bits_of_lanes ls) high low in
     let e : held_by words ls * 2 ^ l.len + lane_of words l ≡ held_by words (l ∷ ls) = omega arith in
-    subst (λ n. held_by words (l ∷ ls) < n) (sym (pow-add 2 l.len (bits_of_lanes ls)) ∙ ap (λ b. 2 ^ b) (sym (bits_cons l ls)))
+    subst (λ n. held_by words (l ∷ ls) < n) (sym (pow-add 2 l.len (bits_of_lanes ls)) ∙ ap (λ b. 2 ^ b) (sym (bits_of_lanes-cons l ls)))
     (subst (λ n. n < 2 ^ l.len * 2 ^ bits_of_lanes ls) e lt)
 
 -- what the lanes of each field hold

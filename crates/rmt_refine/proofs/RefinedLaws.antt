@@ -14,7 +14,7 @@ use Rattle.rmt_config.specs.Life.{Life, life_of}
 use Rattle.rmt_refine.specs.declared.map.Map.{Map}
 use Rattle.rmt_refine.specs.View.{View, look_in, own_view}
 use Rattle.rmt_refine.specs.Carries.{Carries, CarriesIn}
-use Rattle.rmt_refine.specs.Code.{Hold}
+use Rattle.rmt_config.specs.Effects.{Hold}
 use Rattle.rmt_refine.specs.Refined.{AnswersAs}
 use Rattle.rmt_refine.proofs.BeginLaws.{words_of_vector}
 use Rattle.rmt_refine.proofs.CountLaws.{counted_law}

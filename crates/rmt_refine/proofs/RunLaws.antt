@@ -2,8 +2,8 @@
 use Rattle.std.proofs.Common.{◌≡◌, ℕ, zero, suc, ◌+◌, ◌/◌, ◌%◌, ◌^◌, ◌==◌, ◌<◌, ◌≤◌, Bool, true, false, cond, List, [], ◌∷◌, ◌++◌, Option, Some, None, length, take, drop, refl, sym, ap, ◌∙◌, subst, arith}
 use Rattle.std.specs.Prelude.{option_map, replicate, slice_get, slice_index, slice_set, unwrap_or}
 use Rattle.std.proofs.Math.ListN.{length-set}
-use Rattle.std.proofs.lemmas.List.{get_or-replicate, get_or-set_other, get_or-set_same, length-replicate, take_more}
-use Rattle.std.proofs.lemmas.Option.{get_or_from_slice_get, none-some, same_Some, slice_get_within}
+use Rattle.std.proofs.lemmas.List.{get_or-replicate, get_or-set_other, get_or-set_same, length-replicate}
+use Rattle.std.proofs.lemmas.Option.{none-some, same_Some, slice_get_within}
 use Rattle.rmt_refine.specs.Types.{Program, Table, Node, Guard, What}
 use Rattle.rmt_ast.specs.declared.program.What.TheVariants.{Apply, Gate}
 use Rattle.rmt_ast.specs.declared.entry.Entry.{Entry}
@@ -12,6 +12,7 @@ use Rattle.rmt_ast.specs.Lookup.{hit_of}
 use Rattle.rmt_ast.specs.State.{passes}
 use Rattle.rmt_ast.specs.WellFormed.{IsGuard, IsProgram}
 use Rattle.rmt_refine.specs.Outcomes.{entries_at, hit_outcome, node_outcome, run_before}
+use Rattle.rmt_bits.proofs.ListLaws.{take-slice_get}
 
 -- ---- what a node leaves of the outcomes
 
@@ -122,9 +123,6 @@ guard_at p lists s n node program at =
     ∙ sym (run_earlier p lists (n + 1) (drop (n + 1) p.nodes) after x.parent (omega (arith, lt)))
     ∙ sym (ap (λ (r : Run). slice_index r.outcomes x.parent) (run_at p lists s n node at)))
 
-taken_more : {X : Type 0} (xs : List X) (n : ℕ) (x : X) → slice_get xs n ≡ Some x → take (n + 1) xs ≡ take n xs ++ x ∷ []
-taken_more xs n x e = take_more xs n x (slice_get_within xs n x e) ∙ ap (λ y. take n xs ++ y ∷ []) (get_or_from_slice_get xs n x x e)
-
 -- the run up to the next node goes through this one
 pub run_next : (p : Program) (lists : List (List Entry)) (s : List ℕ) (n : ℕ) (node : Node) → slice_get p.nodes n ≡ Some node
     → run_before p lists s (n + 1) ≡ through_node p lists n node (run_before p lists s n)
@@ -132,7 +130,7 @@ run_next p lists s n node at =
     let first : Run = record { state = s; outcomes = replicate (length p.nodes) 0; hits = [] } in
     let long = (parts_at p.nodes n node at).1 in
     let e : 0 + length (take n p.nodes) ≡ n = omega (arith, long) in
-    ap (λ nodes. run_from p lists 0 nodes first) (taken_more p.nodes n node at)
+    ap (λ nodes. run_from p lists 0 nodes first) (take-slice_get p.nodes n node at)
     ∙ run_append p lists 0 (take n p.nodes) (node ∷ []) first
     ∙ ap (λ m. run_from p lists m (node ∷ []) (run_before p lists s n)) e
 

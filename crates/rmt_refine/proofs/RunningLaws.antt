@@ -1,10 +1,8 @@
 -- Which instructions run in a stage and what is counted in it: those of the tables whose outcome is set there, and their hits.
-use Rattle.std.proofs.Common.{◌≡◌, ℕ, zero, suc, ◌+◌, ◌<◌, ◌≤◌, Bool, true, false, ◌&&◌, ◌==◌, cond, List, [], ◌∷◌, ◌++◌, Option, Some, None, length, map, drop, refl, sym, ap, ◌∙◌, subst, ◌⊎◌, inl, inr, arith}
-use Rattle.std.specs.Prelude.{IfSome, filter, fold, nat_lt, option_and_then, option_map, slice_get, slice_index, slice_set, unwrap_or}
-use Rattle.std.specs.List.{AllZip, range_with_len}
-use Rattle.std.proofs.lemmas.Bool.{both_ways, cases_lt, eq-eqb, eqb-true, lt-ltb, ltb-true}
+use Rattle.std.proofs.Common.{◌≡◌, ℕ, zero, suc, ◌+◌, ◌<◌, ◌≤◌, Bool, true, false, ◌&&◌, ◌==◌, cond, List, [], ◌∷◌, ◌++◌, Option, Some, None, length, map, refl, sym, ap, ◌∙◌, subst, ◌⊎◌, inl, inr, arith}
+use Rattle.std.specs.Prelude.{IfSome, nat_lt, option_and_then, option_map, slice_get, slice_index, slice_set, unwrap_or}
+use Rattle.std.proofs.lemmas.Bool.{both_ways, cases_lt, eq-eqb, eqb-true, lt-ltb}
 use Rattle.std.proofs.lemmas.Option.{none-some, same_Some, slice_get_within}
-use Rattle.rmt_bits.proofs.ListLaws.{slice_get-item}
 use Rattle.rmt_bits.specs.declared.lane.Lane.{Lane}
 use Rattle.rmt_refine.specs.Types.{Program, Table, Node, What, Config, Stage, Unit, SlotUnit}
 use Rattle.rmt_ast.specs.declared.program.What.TheVariants as what
@@ -16,12 +14,12 @@ use Rattle.rmt_config.specs.declared.config.Unit.TheVariants.{Gate, Slot}
 use Rattle.rmt_config.specs.Cells.{Found}
 use Rattle.rmt_config.specs.Life.{Acts, Words, acts_of, gate_passes, guarded, key_of, looked_up, slot_acts, unit_acts}
 use Rattle.rmt_config.specs.Life.{runs as chip_runs}
-use Rattle.rmt_config.specs.Resources.{unit_instructions}
 use Rattle.rmt_pack.specs.declared.placement.Part.{Part}
 use Rattle.rmt_pack.specs.Placements.{quanta_in}
 use Rattle.rmt_refine.specs.View.{View, as_slot, look_in}
-use Rattle.rmt_refine.specs.Places.{high_first}
-use Rattle.rmt_refine.specs.Units.{DoesAs, TableCarried, UnitCarried, applied, guard_in, last_stage, node_in, nodes_in, table_at}
+use Rattle.rmt_phv.specs.Places.{high_first}
+use Rattle.rmt_refine.specs.Units.{DoesAs, TableCarried, applied, guard_in, last_stage, nodes_in, table_at}
+use Rattle.rmt_config.specs.TableForm.{node_of}
 use Rattle.rmt_refine.specs.Cells.{first_code}
 use Rattle.rmt_refine.specs.LookUps.{FindsAs}
 use Rattle.rmt_refine.specs.Outcomes.{IsSetIn, TableSetIn}
@@ -30,8 +28,8 @@ use Rattle.rmt_refine.proofs.PartLaws.{IsPart, and_at, quanta_of_node, slot_of_p
 use Rattle.rmt_refine.proofs.RankLaws.{compare}
 use Rattle.rmt_config.specs.Life.{Counted, Running, code_at}
 use Rattle.rmt_ast.specs.EntryLists.{params_of}
-use Rattle.rmt_refine.specs.Cells.{HasArguments}
-use Rattle.rmt_refine.proofs.StageLaws.{AreSet, IsAt, is_set, stands_where_set, IsRun, ReadsAs, StageReads, base_after, drop_head, eqb_false, first_code_next, guard_right, looks, not_there, own_before, own_unset, place_after, run_outcome, some_outcome, unit_law}
+use Rattle.rmt_config.specs.Effects.{HasArguments}
+use Rattle.rmt_refine.proofs.StageLaws.{AreSet, IsAt, is_set, stands_where_set, IsRun, ReadsAs, StageReads, eqb_false, guard_right, looks, not_there, own_before, own_unset, run_outcome, some_outcome, unit_law, kept_through}
 
 -- ---- what one unit adds
 
@@ -43,7 +41,7 @@ gate_adds : (b : Bool) (a : Acts) (x : List ℕ) → made (cond b (record a { ou
 gate_adds true a x = refl
 gate_adds false a x = refl
 
-unit_stops : (c : Config) (v : View) (k : ℕ) (stage : Stage) (words : Words) (a : Acts) (u : Unit) → chip_runs (node_in u) (guard_in u) a.outcomes ≡ false
+unit_stops : (c : Config) (v : View) (k : ℕ) (stage : Stage) (words : Words) (a : Acts) (u : Unit) → chip_runs (node_of u) (guard_in u) a.outcomes ≡ false
     → made (unit_acts (look_in c v) k stage words a u) ≡ made a
 unit_stops c v k stage words a (Gate g) e = gate_adds (chip_runs g.node g.guard a.outcomes) a (slice_set a.outcomes g.node (cond (gate_passes words g.tests) 2 1))
 unit_stops c v k stage words a (Slot s) e = ap (λ (b : Bool). made (cond b (slot_acts stage s (looked_up (look_in c v) k a.place words s) a) a)) e
@@ -286,7 +284,7 @@ module _ (p : Program) (places : List (List Lane)) (parts : List Part) (starts :
 
   -- a unit that runs
   acting_makes : (k n place : ℕ) (stage : Stage) (u : Unit) (node : Node) (words : Words) (a : Acts) (w : What) → TheRun → UnitAt k n place stage u node → node.what ≡ w
-      → a.place ≡ place → a.base ≡ first_code stage place → k ≤ set_in n → runs node.guard outcomes ≡ true → chip_runs (node_in u) (guard_in u) a.outcomes ≡ true → Reads words n w
+      → a.place ≡ place → a.base ≡ first_code stage place → k ≤ set_in n → runs node.guard outcomes ≡ true → chip_runs (node_of u) (guard_in u) a.outcomes ≡ true → Reads words n w
       → Makes k n stage a (unit_acts (look_in c v) k stage words a u)
   acting_makes k n place stage (Gate g) node words a w run at is here base le goes acts reads =
       inl (gate_adds (chip_runs g.node g.guard a.outcomes) a (slice_set a.outcomes g.node (cond (gate_passes words g.tests) 2 1)), (λ t h. no_table w is t h.table_is))
@@ -331,12 +329,12 @@ module _ (p : Program) (places : List (List Lane)) (parts : List Part) (starts :
       guard : guarded (guard_in u) a.outcomes ≡ runs node.guard outcomes
       guard = guard_right p places parts starts c v entries state outcomes set_in k n place stage u node a.outcomes run at set
 
-      own_value : (x : ℕ) → slice_index a.outcomes n ≡ x → (slice_index a.outcomes (node_in u) == 0) ≡ (x == 0)
+      own_value : (x : ℕ) → slice_index a.outcomes n ≡ x → (slice_index a.outcomes (node_of u) == 0) ≡ (x == 0)
       own_value x e = ap (λ m. slice_index a.outcomes m == 0) at.carried.number ∙ ap (λ y. y == 0) e
 
       by_run : (r : Bool) → runs node.guard outcomes ≡ r → Makes k n stage a (unit_acts (look_in c v) k stage words a u)
       by_run false off =
-          let stopped : chip_runs (node_in u) (guard_in u) a.outcomes ≡ false = ap (λ b. b && (slice_index a.outcomes (node_in u) == 0)) (guard ∙ off) in
+          let stopped : chip_runs (node_of u) (guard_in u) a.outcomes ≡ false = ap (λ b. b && (slice_index a.outcomes (node_of u) == 0)) (guard ∙ off) in
           inl (unit_stops c v k stage words a u stopped, (λ t h. both_ways (runs node.guard outcomes) off (h.goes node at.node_is)))
       by_run true goes =
           elim (cases_lt (set_in n) k) [
@@ -346,84 +344,53 @@ module _ (p : Program) (places : List (List Lane)) (parts : List Part) (starts :
                 let some : (slice_index outcomes n ≡ 0) → ⊥ =
                 λ e. some_outcome p places parts starts c v entries state outcomes set_in n (set_in n) node.what (run.sets n node at.node_is goes)
                 (sym (run_outcome p places parts starts c v entries state outcomes set_in n node run at.node_is goes) ∙ e) in
-                let stopped : chip_runs (node_in u) (guard_in u) a.outcomes ≡ false =
-                ap (λ b. b && (slice_index a.outcomes (node_in u) == 0)) (guard ∙ goes) ∙ own_value (slice_index outcomes n) value ∙ eqb_false (slice_index outcomes n) 0 some in
+                let stopped : chip_runs (node_of u) (guard_in u) a.outcomes ≡ false =
+                ap (λ b. b && (slice_index a.outcomes (node_of u) == 0)) (guard ∙ goes) ∙ own_value (slice_index outcomes n) value ∙ eqb_false (slice_index outcomes n) 0 some in
                 inl (unit_stops c v k stage words a u stopped, (λ t h. let e = h.set_here in omega (arith, e, lt)))
             | inr le ↦
                 let value : slice_index a.outcomes n ≡ 0 =
                 own ∙ ap (λ b. cond b (slice_index outcomes n) 0) (own_unset p places parts starts c v entries state outcomes set_in k n le) in
-                let acts : chip_runs (node_in u) (guard_in u) a.outcomes ≡ true =
-                ap (λ b. b && (slice_index a.outcomes (node_in u) == 0)) (guard ∙ goes) ∙ own_value 0 value in
+                let acts : chip_runs (node_of u) (guard_in u) a.outcomes ≡ true =
+                ap (λ b. b && (slice_index a.outcomes (node_of u) == 0)) (guard ∙ goes) ∙ own_value 0 value in
                 acting_makes k n place stage u node words a node.what run at refl here base le goes acts (reads goes le)
           ]
 
   -- ---- all units of a stage
 
-  -- the units of the nodes from number m on
-  abbrev FromNode : ℕ → Stage → Words → ℕ → ℕ → List ℕ → Type 0
-  FromNode k stage words m last ns =
-      (us : List Unit) (a : Acts) → AllZip (UnitCarried p places parts k) ns us → drop a.place stage.units ≡ us → drop a.place (nodes_in p parts k) ≡ ns
-      → a.base ≡ first_code stage a.place → SetBefore k m a.outcomes → HaveMade k stage m a → HaveMade k stage last (fold (unit_acts (look_in c v) k stage words) a us)
-
   made_next : (k m : ℕ) (stage : Stage) (a b : Acts) → HaveMade k stage m a → Makes k m stage a b → HaveMade k stage (m + 1) b
   made_next k m stage a b have makes = let e : suc m ≡ m + 1 = omega arith in let P : ℕ → Type 0 = λ j. HaveMade k stage j b in subst P e (makes_next k m stage a b have makes)
 
-  by_node : (k : ℕ) (stage : Stage) (words : Words) (m last : ℕ) (node : Node) (ns : List ℕ) (b : Bool) → TheRun → slice_get c.stages k ≡ Some stage
-      → StageReads p places parts starts c v entries state outcomes set_in k words → slice_get p.nodes m ≡ Some node → nat_lt 0 (quanta_in parts m k) ≡ b
-      → FromNode k stage words (m + 1) last ns → FromNode k stage words m last (cond b (m ∷ ns) ns)
-  by_node k stage words m last node ns false run stage_is reads is_node e rest us a zip units nodes base set have =
-      rest us a zip units nodes base
-      (not_there p places parts starts c v entries state outcomes set_in k m node a.outcomes run is_node (slice_get_within p.nodes m node is_node) e set)
-      (made_next k m stage a a have (inl (
+  -- what is made before node m, where the outcomes are set
+  abbrev MadeBefore : ℕ → Stage → ℕ → Acts → Type 0
+  MadeBefore k stage m a = SetBefore k m a.outcomes × HaveMade k stage m a
+
+  none_made : (k m : ℕ) (stage : Stage) (node : Node) (a : Acts) → TheRun → slice_get p.nodes m ≡ Some node → nat_lt 0 (quanta_in parts m k) ≡ false → Makes k m stage a a
+  none_made k m stage node a run is_node off =
+      inl (
         refl,
         λ t h.
             let within = slice_get_within p.nodes m node is_node in
             let here = h.set_here in
             let stands = stands_where_set p places parts starts c v entries state outcomes set_in m (set_in m) node.what run.units within (run.sets m node is_node (h.goes node is_node)) in
-            both_ways (nat_lt 0 (quanta_in parts m k)) e (lt-ltb 0 (quanta_in parts m k) (subst (λ j. 0 < quanta_in parts m j) here stands)),
-      )))
-  by_node k stage words m last node ns true run stage_is reads is_node e rest [] a zip units nodes base set have = absurd zip
-  by_node k stage words m last node ns true run stage_is reads is_node e rest (u ∷ us) a zip units nodes base set have =
-      let unit = drop_head stage.units a.place u us units in
-      let number = drop_head (nodes_in p parts k) a.place m ns nodes in
-      let at : UnitAt k m a.place stage u node = record {
-        within = slice_get_within p.nodes m node is_node;
-        stage_is = stage_is;
-        unit_is = unit.0;
-        number = number.0;
-        carried = zip.0;
-        node_is = is_node;
-      } in
-      let after = unit_acts (look_in c v) k stage words a u in
-      let next : after.place ≡ a.place + 1 = place_after c v k stage words a u in
-      let stands = ltb-true 0 (quanta_in parts m k) e in
-      let done = unit_law p places parts starts c v entries state outcomes set_in k m a.place stage u node words a run at refl base set (reads m node is_node stands) in
-      let makes = unit_makes k m a.place stage u node words a run at refl base set (reads m node is_node stands) in
-      rest us after zip.1 (ap (λ i. drop i stage.units) next ∙ unit.1) (ap (λ i. drop i (nodes_in p parts k)) next ∙ number.1)
-      (base_after c v k stage words a u ∙ ap (λ n. n + unit_instructions u) base ∙ sym (first_code_next stage a.place u unit.0) ∙ sym (ap (first_code stage) next)) done
-      (made_next k m stage a after have makes)
-
-  from_node : (k : ℕ) (stage : Stage) (words : Words) (count m : ℕ) → m + count ≡ length p.nodes → TheRun → slice_get c.stages k ≡ Some stage
-      → StageReads p places parts starts c v entries state outcomes set_in k words
-      → FromNode k stage words m (length p.nodes) (filter (λ n. nat_lt 0 (quanta_in parts n k)) (range_with_len m count))
-  from_node k stage words zero m sum run stage_is reads [] a zip units nodes base set have =
-      let e : m ≡ length p.nodes = omega (arith, sum) in
-      let P : ℕ → Type 0 = λ j. HaveMade k stage j a in
-      subst P e have
-  from_node k stage words zero m sum run stage_is reads (u ∷ us) a zip units nodes base set have = absurd zip
-  from_node k stage words (suc count) m sum run stage_is reads us a zip units nodes base set have =
-      let node = slice_get-item p.nodes m (omega (arith, sum)) in
-      by_node k stage words m (length p.nodes) node.0 (filter (λ n. nat_lt 0 (quanta_in parts n k)) (range_with_len (m + 1) count)) (nat_lt 0 (quanta_in parts m k)) run stage_is reads node.1 refl
-      (from_node k stage words count (m + 1) (omega (arith, sum)) run stage_is reads) us a zip units nodes base set have
+            both_ways (nat_lt 0 (quanta_in parts m k)) off (lt-ltb 0 (quanta_in parts m k) (subst (λ j. 0 < quanta_in parts m j) here stands)),
+      )
 
   stage_makes : (k : ℕ) (stage : Stage) (words : Words) (now : List ℕ) → TheRun → slice_get c.stages k ≡ Some stage
       → StageReads p places parts starts c v entries state outcomes set_in k words → SetBefore k 0 now
       → HaveMade k stage (length p.nodes) (acts_of (look_in c v) k stage words now)
   stage_makes k stage words now run stage_is reads set =
-      let zip = and_at (slice_get c.stages k) (λ (s : Stage). AllZip (UnitCarried p places parts k) (nodes_in p parts k) s.units) stage stage_is
-      (run.units.units k (slice_get_within c.stages k stage stage_is)) in
-      from_node k stage words (length p.nodes) 0 (omega arith) run stage_is reads stage.units
-      (record { outcomes = now; running = []; counted = []; base = 0; place = 0 }) zip refl refl refl set (refl, refl)
+      (kept_through p places parts starts c v entries state outcomes set_in k stage words (MadeBefore k stage) stage_is
+      (record {
+        absent = λ m node a is_node off before. (
+          not_there p places parts starts c v entries state outcomes set_in k m node a.outcomes run is_node (slice_get_within p.nodes m node is_node) off before.0,
+          made_next k m stage a a before.1 (none_made k m stage node a run is_node off),
+        );
+        acts = λ m u node a at base stands before. (
+          unit_law p places parts starts c v entries state outcomes set_in k m a.place stage u node words a run at refl base before.0 (reads m node at.node_is stands),
+          made_next k m stage a (unit_acts (look_in c v) k stage words a u) before.1
+              (unit_makes k m a.place stage u node words a run at refl base before.0 (reads m node at.node_is stands)),
+        );
+      }) now run.units (set, (refl, refl))).1
 
   -- In a stage the instructions of its acting tables run, each once.
   pub running_law : (k : ℕ) (stage : Stage) (words : Words) (now : List ℕ) → TheRun → slice_get c.stages k ≡ Some stage

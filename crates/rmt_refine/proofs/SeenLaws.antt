@@ -19,7 +19,7 @@ use Rattle.rmt_pack.specs.Placements.{quanta_in}
 use Rattle.rmt_refine.specs.declared.map.Map.{Map}
 use Rattle.rmt_refine.specs.View.{View}
 use Rattle.rmt_refine.specs.Carries.{CarriesIn}
-use Rattle.rmt_refine.specs.Code.{held_by}
+use Rattle.rmt_config.specs.Effects.{held_by}
 use Rattle.rmt_refine.specs.Outcomes.{entries_at, run_before}
 use Rattle.rmt_refine.specs.Units.{applied, table_at}
 use Rattle.rmt_refine.proofs.CarriedLaws.{carried_run, set_in}

@@ -19,20 +19,22 @@ use Rattle.rmt_ast.specs.State.{joined, passes}
 use Rattle.rmt_config.specs.declared.config.Unit.TheVariants.{Gate, Slot}
 use Rattle.rmt_config.specs.declared.config.Memory.TheVariants.{Without, Exact, Ternary}
 use Rattle.rmt_config.specs.Cells.{Found}
-use Rattle.rmt_config.specs.Life.{Acts, Life, Words, acts_of, gate_passes, guarded, has_memory, key_of, looked_up, slot_acts, through, through_from, unit_acts}
+use Rattle.rmt_config.specs.Life.{Acts, Life, Words, acts_of, gate_passes, guarded, has_memory, key_of, looked_up, slot_acts, through, unit_acts}
 use Rattle.rmt_config.specs.Life.{runs as chip_runs}
 use Rattle.rmt_config.specs.Resources.{unit_instructions}
 use Rattle.rmt_pack.specs.declared.placement.Part.{Part}
 use Rattle.rmt_pack.specs.Placements.{quanta_in}
 use Rattle.rmt_refine.specs.View.{View, as_slot, look_in}
-use Rattle.rmt_refine.specs.Places.{high_first}
-use Rattle.rmt_refine.specs.Units.{DoesAs, TableCarried, UnitCarried, UnitsCarried, applied, guard_in, guard_of, last_stage, node_in, nodes_in, table_at, tests_of}
+use Rattle.rmt_phv.specs.Places.{high_first}
+use Rattle.rmt_refine.specs.Units.{DoesAs, TableCarried, UnitCarried, UnitsCarried, applied, guard_in, guard_of, last_stage, nodes_in, table_at, tests_of}
+use Rattle.rmt_config.specs.TableForm.{node_of}
 use Rattle.rmt_refine.specs.Cells.{first_code}
 use Rattle.rmt_refine.specs.LookUps.{FindsAs}
 use Rattle.rmt_refine.specs.Outcomes.{IsSetIn, TableSetIn, hit_outcome, node_outcome}
 use Rattle.rmt_refine.proofs.NodeLaws.{one_place, part_there, stands_in_last, within_last}
 use Rattle.rmt_refine.proofs.PartLaws.{IsPart, and_at, look_of_part, quanta_of_node, slot_of_part, some_and, unit_of_part}
 use Rattle.rmt_refine.proofs.RankLaws.{compare}
+use Rattle.std.proofs.Math.Bool.{and-false}
 
 -- ---- what one unit does to the outcomes
 
@@ -75,13 +77,6 @@ looks c v n k place stage words s key part reads (Ternary d ks rs cs) e =
 same_guard : (g : Option Guard) (now outcomes : List ℕ) → ((x : Guard) → g ≡ Some x → slice_index now x.parent ≡ slice_index outcomes x.parent) → guarded (guard_of g) now ≡ runs g outcomes
 same_guard None now outcomes same = refl
 same_guard (Some x) now outcomes same = ap (λ o. x.mask / 2 ^ o % 2 == 1) (same x refl)
-
-ltb_false : (a b : ℕ) → b ≤ a → nat_lt a b ≡ false
-ltb_false a b le = le-ltb a b le
-
-and_false : (b : Bool) → (b && false) ≡ false
-and_false true = refl
-and_false false = refl
 
 pub eqb_false : (a b : ℕ) → (a ≡ b → ⊥) → (a == b) ≡ false
 eqb_false a b ne = false_from_ne_true (a == b) (λ e. ne (eqb-true a b e))
@@ -151,7 +146,7 @@ module _ (p : Program) (places : List (List Lane)) (parts : List Part) (starts :
       let same : nat_lt j n ≡ nat_lt j (n + 1) = elim (compare j n) [
         | inl lt ↦ lt-ltb j n lt ∙ sym (lt-ltb j (n + 1) (omega (arith, lt)))
         | inr more ↦ elim more [
-          | inl gt ↦ ltb_false j n (omega (arith, gt)) ∙ sym (ltb_false j (n + 1) (omega (arith, gt)))
+          | inl gt ↦ le-ltb j n (omega (arith, gt)) ∙ sym (le-ltb j (n + 1) (omega (arith, gt)))
           | inr e ↦ absurd (ne e)
         ]
       ] in
@@ -162,18 +157,18 @@ module _ (p : Program) (places : List (List Lane)) (parts : List Part) (starts :
 
   pub own_unset : (k n : ℕ) → k ≤ set_in n → is_set k n n ≡ false
   own_unset k n le =
-      ap (λ b. b || ((set_in n == k) && nat_lt n n)) (ltb_false (set_in n) k le)
-      ∙ ap (λ b. (set_in n == k) && b) (ltb_false n n (omega arith)) ∙ and_false (set_in n == k)
+      ap (λ b. b || ((set_in n == k) && nat_lt n n)) (le-ltb (set_in n) k le)
+      ∙ ap (λ b. (set_in n == k) && b) (le-ltb n n (omega arith)) ∙ and-false (set_in n == k)
 
   own_now : (k n : ℕ) → set_in n ≡ k → is_set k (n + 1) n ≡ true
   own_now k n e =
       let here : nat_lt n (n + 1) ≡ true = lt-ltb n (n + 1) (omega arith) in
-      ap (λ b. b || ((set_in n == k) && nat_lt n (n + 1))) (ltb_false (set_in n) k (omega (arith, e)))
+      ap (λ b. b || ((set_in n == k) && nat_lt n (n + 1))) (le-ltb (set_in n) k (omega (arith, e)))
       ∙ ap (λ b. b && nat_lt n (n + 1)) (eq-eqb (set_in n) k e) ∙ here
 
   own_later : (k n m : ℕ) → k < set_in n → is_set k m n ≡ false
   own_later k n m lt =
-      ap (λ b. b || ((set_in n == k) && nat_lt n m)) (ltb_false (set_in n) k (omega (arith, lt)))
+      ap (λ b. b || ((set_in n == k) && nat_lt n m)) (le-ltb (set_in n) k (omega (arith, lt)))
       ∙ ap (λ b. b && nat_lt n m) (eqb_false (set_in n) k (λ e. omega (arith, e, lt)))
 
   stays : (k n : ℕ) (now : List ℕ) → AreSet k n now → slice_index now n ≡ cond (is_set k (n + 1) n) (slice_index outcomes n) 0 → AreSet k (n + 1) now
@@ -218,7 +213,7 @@ module _ (p : Program) (places : List (List Lane)) (parts : List Part) (starts :
         | inr more ↦ elim more [
           | inl gt ↦ absurd (omega (arith, gt, le))
           | inr e ↦
-              ap (λ b. b || ((set_in q == k) && nat_lt q n)) (ltb_false (set_in q) k (omega (arith, e)))
+              ap (λ b. b || ((set_in q == k) && nat_lt q n)) (le-ltb (set_in q) k (omega (arith, e)))
               ∙ ap (λ b. b && nat_lt q n) (eq-eqb (set_in q) k e) ∙ lt-ltb q n less
         ]
       ]
@@ -251,7 +246,7 @@ module _ (p : Program) (places : List (List Lane)) (parts : List Part) (starts :
         | inr le ↦ value ∙ ap (λ b. cond b (slice_index outcomes g.parent) 0) (parent_set k n g.parent less le)
       ])
 
-  unit_off : (k : ℕ) (stage : Stage) (words : Words) (a : Acts) (u : Unit) → chip_runs (node_in u) (guard_in u) a.outcomes ≡ false
+  unit_off : (k : ℕ) (stage : Stage) (words : Words) (a : Acts) (u : Unit) → chip_runs (node_of u) (guard_in u) a.outcomes ≡ false
       → (unit_acts (look_in c v) k stage words a u).outcomes ≡ a.outcomes
   unit_off k stage words a (Gate g) e = gate_off c v k stage words a g e
   unit_off k stage words a (Slot s) e = slot_off c v k stage words a s e
@@ -412,21 +407,21 @@ module _ (p : Program) (places : List (List Lane)) (parts : List Part) (starts :
       unset_too : (m : ℕ) → m ≡ n → slice_index a.outcomes m ≡ slice_index a.outcomes n
       unset_too m e = ap (slice_index a.outcomes) e
 
-      acting : (u' : Unit) → u ≡ u' → runs node.guard outcomes ≡ true → k ≤ set_in n → chip_runs (node_in u) (guard_in u) a.outcomes ≡ true → AreSet k (n + 1) (unit_acts (look_in c v) k stage words a u).outcomes
+      acting : (u' : Unit) → u ≡ u' → runs node.guard outcomes ≡ true → k ≤ set_in n → chip_runs (node_of u) (guard_in u) a.outcomes ≡ true → AreSet k (n + 1) (unit_acts (look_in c v) k stage words a u).outcomes
       acting (Gate g) e goes le acts =
           let P : Unit → Type 0 = λ x. IsAt k n place stage x node in
           let Q : Unit → Type 0 = λ x. AreSet k (n + 1) (unit_acts (look_in c v) k stage words a x).outcomes in
           subst Q (sym e) (gate_law k n place stage g node words a node.what run (subst P e at) refl set le goes
-          (subst (λ x. chip_runs (node_in x) (guard_in x) a.outcomes ≡ true) e acts) (reads goes le))
+          (subst (λ x. chip_runs (node_of x) (guard_in x) a.outcomes ≡ true) e acts) (reads goes le))
       acting (Slot s) e goes le acts =
           let P : Unit → Type 0 = λ x. IsAt k n place stage x node in
           let Q : Unit → Type 0 = λ x. AreSet k (n + 1) (unit_acts (look_in c v) k stage words a x).outcomes in
           subst Q (sym e) (slot_law k n place stage s node words a node.what run (subst P e at) refl here base set le goes
-          (subst (λ x. chip_runs (node_in x) (guard_in x) a.outcomes ≡ true) e acts) (reads goes le))
+          (subst (λ x. chip_runs (node_of x) (guard_in x) a.outcomes ≡ true) e acts) (reads goes le))
 
       by_run : (r : Bool) → runs node.guard outcomes ≡ r → AreSet k (n + 1) (unit_acts (look_in c v) k stage words a u).outcomes
       by_run false off =
-          let stopped : chip_runs (node_in u) (guard_in u) a.outcomes ≡ false = ap (λ b. b && (slice_index a.outcomes (node_in u) == 0)) (guard ∙ off) in
+          let stopped : chip_runs (node_of u) (guard_in u) a.outcomes ≡ false = ap (λ b. b && (slice_index a.outcomes (node_of u) == 0)) (guard ∙ off) in
           let none : slice_index outcomes n ≡ 0 = run.given n node at.node_is ∙ ap (λ b. cond b (node_outcome p (entries n) (state n) node.what) 0) off in
           let value : slice_index a.outcomes n ≡ cond (is_set k (n + 1) n) (slice_index outcomes n) 0 =
           own ∙ ap (λ x. cond (is_set k n n) x 0) none ∙ either_same (is_set k n n) 0
@@ -438,16 +433,16 @@ module _ (p : Program) (places : List (List Lane)) (parts : List Part) (starts :
                 let value : slice_index a.outcomes n ≡ slice_index outcomes n = own ∙ ap (λ b. cond b (slice_index outcomes n) 0) (own_before k n lt n) in
                 let some : (slice_index outcomes n ≡ 0) → ⊥ =
                 λ e. some_outcome n (set_in n) node.what (run.sets n node at.node_is goes) (sym (run_outcome n node run at.node_is goes) ∙ e) in
-                let stopped : chip_runs (node_in u) (guard_in u) a.outcomes ≡ false =
-                ap (λ b. b && (slice_index a.outcomes (node_in u) == 0)) (guard ∙ goes)
-                ∙ ap (λ x. x == 0) (unset_too (node_in u) at.carried.number ∙ value) ∙ eqb_false (slice_index outcomes n) 0 some in
+                let stopped : chip_runs (node_of u) (guard_in u) a.outcomes ≡ false =
+                ap (λ b. b && (slice_index a.outcomes (node_of u) == 0)) (guard ∙ goes)
+                ∙ ap (λ x. x == 0) (unset_too (node_of u) at.carried.number ∙ value) ∙ eqb_false (slice_index outcomes n) 0 some in
                 subst (AreSet k (n + 1)) (sym (unit_off k stage words a u stopped))
                 (stays k n a.outcomes set (value ∙ sym (ap (λ b. cond b (slice_index outcomes n) 0) (own_before k n lt (n + 1)))))
             | inr le ↦
                 let value : slice_index a.outcomes n ≡ 0 = own ∙ ap (λ b. cond b (slice_index outcomes n) 0) (own_unset k n le) in
-                let acts : chip_runs (node_in u) (guard_in u) a.outcomes ≡ true =
-                ap (λ b. b && (slice_index a.outcomes (node_in u) == 0)) (guard ∙ goes)
-                ∙ ap (λ x. x == 0) (unset_too (node_in u) at.carried.number ∙ value) in
+                let acts : chip_runs (node_of u) (guard_in u) a.outcomes ≡ true =
+                ap (λ b. b && (slice_index a.outcomes (node_of u) == 0)) (guard ∙ goes)
+                ∙ ap (λ x. x == 0) (unset_too (node_of u) at.carried.number ∙ value) in
                 acting u refl goes le acts
           ]
 
@@ -494,44 +489,54 @@ module _ (p : Program) (places : List (List Lane)) (parts : List Part) (starts :
   abbrev stands_in : ℕ → ℕ → Bool
   stands_in k n = nat_lt 0 (quanta_in parts n k)
 
-  -- the units of the nodes from number m on
-  abbrev FromNode : ℕ → Stage → Words → ℕ → ℕ → List ℕ → Type 0
-  FromNode k stage words m last ns =
-      (us : List Unit) (a : Acts) → AllZip (UnitCarried p places parts k) ns us → drop a.place stage.units ≡ us → drop a.place (nodes_in p parts k) ≡ ns
-      → a.base ≡ first_code stage a.place → AreSet k m a.outcomes → AreSet k last (fold (unit_acts (look_in c v) k stage words) a us).outcomes
+  -- ---- what holds before each node of a stage, and is kept by its unit, or by the node where it doesn't stand there
 
-  by_node : (k : ℕ) (stage : Stage) (words : Words) (m last : ℕ) (node : Node) (ns : List ℕ) (b : Bool) → IsRun → slice_get c.stages k ≡ Some stage → StageReads k words → slice_get p.nodes m ≡ Some node
-      → stands_in k m ≡ b → FromNode k stage words (m + 1) last ns → FromNode k stage words m last (cond b (m ∷ ns) ns)
-  by_node k stage words m last node ns false run stage_is reads is_node e rest us a zip units nodes base set =
-      rest us a zip units nodes base (not_there k m node a.outcomes run is_node (slice_get_within p.nodes m node is_node) e set)
-  by_node k stage words m last node ns true run stage_is reads is_node e rest [] a zip units nodes base set = absurd zip
-  by_node k stage words m last node ns true run stage_is reads is_node e rest (u ∷ us) a zip units nodes base set =
-      let unit = drop_head stage.units a.place u us units in
-      let number = drop_head (nodes_in p parts k) a.place m ns nodes in
-      let at : IsAt k m a.place stage u node = record {
-        within = slice_get_within p.nodes m node is_node;
-        stage_is = stage_is;
-        unit_is = unit.0;
-        number = number.0;
-        carried = zip.0;
-        node_is = is_node;
-      } in
-      let after = unit_acts (look_in c v) k stage words a u in
-      let next : after.place ≡ a.place + 1 = place_after c v k stage words a u in
-      let done = unit_law k m a.place stage u node words a run at refl base set (reads m node is_node (ltb-true 0 (quanta_in parts m k) e)) in
-      rest us after zip.1 (ap (λ i. drop i stage.units) next ∙ unit.1) (ap (λ i. drop i (nodes_in p parts k)) next ∙ number.1)
-      (base_after c v k stage words a u ∙ ap (λ n. n + unit_instructions u) base ∙ sym (first_code_next stage a.place u unit.0) ∙ sym (ap (first_code stage) next)) done
+  pub record IsKept (k : ℕ) (stage : Stage) (words : Words) (Q : ℕ → Acts → Type 0) : Type 0 where
+    pub absent : (m : ℕ) (node : Node) (a : Acts) → slice_get p.nodes m ≡ Some node → nat_lt 0 (quanta_in parts m k) ≡ false → Q m a → Q (m + 1) a
+    pub acts : (m : ℕ) (u : Unit) (node : Node) (a : Acts) → IsAt k m a.place stage u node → a.base ≡ first_code stage a.place → 0 < quanta_in parts m k → Q m a
+        → Q (m + 1) (unit_acts (look_in c v) k stage words a u)
 
-  from_node : (k : ℕ) (stage : Stage) (words : Words) (count m : ℕ) → m + count ≡ length p.nodes → IsRun → slice_get c.stages k ≡ Some stage → StageReads k words
-      → FromNode k stage words m (length p.nodes) (filter (stands_in k) (range_with_len m count))
-  from_node k stage words zero m sum run stage_is reads [] a zip units nodes base set =
-      let e : m ≡ length p.nodes = omega (arith, sum) in
-      subst (λ n. AreSet k n a.outcomes) e set
-  from_node k stage words zero m sum run stage_is reads (u ∷ us) a zip units nodes base set = absurd zip
-  from_node k stage words (suc count) m sum run stage_is reads us a zip units nodes base set =
-      let node = slice_get-item p.nodes m (omega (arith, sum)) in
-      by_node k stage words m (length p.nodes) node.0 (filter (stands_in k) (range_with_len (m + 1) count)) (stands_in k m) run stage_is reads node.1 refl
-      (from_node k stage words count (m + 1) (omega (arith, sum)) run stage_is reads) us a zip units nodes base set
+  module _ (k : ℕ) (stage : Stage) (words : Words) (Q : ℕ → Acts → Type 0) (stage_is : slice_get c.stages k ≡ Some stage) (kept : IsKept k stage words Q) where
+    -- the units of the nodes from number m on
+    abbrev FromNode : ℕ → List ℕ → Type 0
+    FromNode m ns =
+        (us : List Unit) (a : Acts) → AllZip (UnitCarried p places parts k) ns us → drop a.place stage.units ≡ us → drop a.place (nodes_in p parts k) ≡ ns
+        → a.base ≡ first_code stage a.place → Q m a → Q (length p.nodes) (fold (unit_acts (look_in c v) k stage words) a us)
+
+    by_node : (m : ℕ) (node : Node) (ns : List ℕ) (b : Bool) → slice_get p.nodes m ≡ Some node → stands_in k m ≡ b → FromNode (m + 1) ns → FromNode m (cond b (m ∷ ns) ns)
+    by_node m node ns false is_node e rest us a zip units nodes base holds = rest us a zip units nodes base (kept.absent m node a is_node e holds)
+    by_node m node ns true is_node e rest [] a zip units nodes base holds = absurd zip
+    by_node m node ns true is_node e rest (u ∷ us) a zip units nodes base holds =
+        let unit = drop_head stage.units a.place u us units in
+        let number = drop_head (nodes_in p parts k) a.place m ns nodes in
+        let at : IsAt k m a.place stage u node = record {
+          within = slice_get_within p.nodes m node is_node;
+          stage_is = stage_is;
+          unit_is = unit.0;
+          number = number.0;
+          carried = zip.0;
+          node_is = is_node;
+        } in
+        let after = unit_acts (look_in c v) k stage words a u in
+        let next : after.place ≡ a.place + 1 = place_after c v k stage words a u in
+        rest us after zip.1 (ap (λ i. drop i stage.units) next ∙ unit.1) (ap (λ i. drop i (nodes_in p parts k)) next ∙ number.1)
+        (base_after c v k stage words a u ∙ ap (λ n. n + unit_instructions u) base ∙ sym (first_code_next stage a.place u unit.0) ∙ sym (ap (first_code stage) next))
+        (kept.acts m u node a at base (ltb-true 0 (quanta_in parts m k) e) holds)
+
+    from_node : (count m : ℕ) → m + count ≡ length p.nodes → FromNode m (filter (stands_in k) (range_with_len m count))
+    from_node zero m sum [] a zip units nodes base holds = let e : m ≡ length p.nodes = omega (arith, sum) in subst (λ n. Q n a) e holds
+    from_node zero m sum (u ∷ us) a zip units nodes base holds = absurd zip
+    from_node (suc count) m sum us a zip units nodes base holds =
+        let node = slice_get-item p.nodes m (omega (arith, sum)) in
+        by_node m node.0 (filter (stands_in k) (range_with_len (m + 1) count)) (stands_in k m) node.1 refl (from_node count (m + 1) (omega (arith, sum))) us a zip units nodes base holds
+
+    -- it holds of what the units of the stage make
+    pub kept_through : (now : List ℕ) → UnitsCarried p places parts starts c → Q 0 (record { outcomes = now; running = []; counted = []; base = 0; place = 0 })
+        → Q (length p.nodes) (acts_of (look_in c v) k stage words now)
+    kept_through now units holds =
+        let zip = and_at (slice_get c.stages k) (λ (s : Stage). AllZip (UnitCarried p places parts k) (nodes_in p parts k) s.units) stage stage_is
+        (units.units k (slice_get_within c.stages k stage stage_is)) in
+        from_node (length p.nodes) 0 (omega arith) stage.units (record { outcomes = now; running = []; counted = []; base = 0; place = 0 }) zip refl refl refl holds
 
   stage_end : (k : ℕ) (now : List ℕ) → AreSet k (length p.nodes) now → AreSet (k + 1) 0 now
   stage_end k now set = record {
@@ -546,8 +551,8 @@ module _ (p : Program) (places : List (List Lane)) (parts : List Part) (starts :
             | inr more ↦ elim more [
               | inl gt ↦
                   own_later k n (length p.nodes) gt
-                  ∙ sym (ap (λ b. b || ((set_in n == k + 1) && nat_lt n 0)) (ltb_false (set_in n) (k + 1) (omega (arith, gt)))
-                  ∙ ap (λ b. (set_in n == k + 1) && b) (ltb_false n 0 (omega arith)) ∙ and_false (set_in n == k + 1))
+                  ∙ sym (ap (λ b. b || ((set_in n == k + 1) && nat_lt n 0)) (le-ltb (set_in n) (k + 1) (omega (arith, gt)))
+                  ∙ ap (λ b. (set_in n == k + 1) && b) (le-ltb n 0 (omega arith)) ∙ and-false (set_in n == k + 1))
               | inr e ↦ parent_set k (length p.nodes) n lt (omega (arith, e)) ∙ sym (own_before (k + 1) n (omega (arith, e)) 0)
             ]
           ]
@@ -556,11 +561,12 @@ module _ (p : Program) (places : List (List Lane)) (parts : List Part) (starts :
   pub stage_law : (k : ℕ) (stage : Stage) (words : Words) (now : List ℕ) → IsRun → slice_get c.stages k ≡ Some stage → StageReads k words → AreSet k 0 now
       → AreSet (k + 1) 0 (acts_of (look_in c v) k stage words now).outcomes
   stage_law k stage words now run stage_is reads set =
-      let zip = and_at (slice_get c.stages k) (λ (s : Stage). AllZip (UnitCarried p places parts k) (nodes_in p parts k) s.units) stage stage_is
-      (run.units.units k (slice_get_within c.stages k stage stage_is)) in
       stage_end k _
-      (from_node k stage words (length p.nodes) 0 (omega arith) run stage_is reads stage.units
-      (record { outcomes = now; running = []; counted = []; base = 0; place = 0 }) zip refl refl refl set)
+      (kept_through k stage words (λ m a. AreSet k m a.outcomes) stage_is
+      (record {
+        absent = λ m node a is_node off before. not_there k m node a.outcomes run is_node (slice_get_within p.nodes m node is_node) off before;
+        acts = λ m u node a at base stands before. unit_law k m a.place stage u node words a run at refl base before (reads m node at.node_is stands);
+      }) now run.units set)
 
   -- ---- all stages
 
@@ -568,18 +574,6 @@ module _ (p : Program) (places : List (List Lane)) (parts : List Part) (starts :
   abbrev pub AllRead : ℕ → List Stage → Life → Type 0
   AllRead k [] life = ⊤
   AllRead k (stage ∷ stages) life = StageReads k (life.word stage.start) × AllRead (k + 1) stages (through (look_in c v) k stage life)
-
-  pub stages_law : (k : ℕ) (stages : List Stage) (life : Life) → IsRun → drop k c.stages ≡ stages → AllRead k stages life → AreSet k 0 life.outcomes
-      → AreSet (k + length stages) 0 (through_from (look_in c v) k stages life).outcomes
-  stages_law k [] life run there reads set =
-      let e : k ≡ k + 0 = omega arith in
-      subst (λ j. AreSet j 0 life.outcomes) e set
-  stages_law k (stage ∷ stages) life run there reads set =
-      let here = drop_head c.stages k stage stages there in
-      let next = through (look_in c v) k stage life in
-      let e : k + 1 + length stages ≡ k + length (stage ∷ stages) = omega arith in
-      subst (λ j. AreSet j 0 (through_from (look_in c v) (k + 1) stages next).outcomes) e
-      (stages_law (k + 1) stages next run here.1 reads.1 (stage_law k stage (life.word stage.start) life.outcomes run here.0 reads.0 set))
 
   -- behind the last stage every outcome is set
   pub all_set : (now : List ℕ) → IsRun → AreSet (length c.stages) 0 now → (n : ℕ) → n < length p.nodes → slice_index now n ≡ slice_index outcomes n
@@ -608,5 +602,5 @@ module _ (p : Program) (places : List (List Lane)) (parts : List Part) (starts :
     where
       unset : (n : ℕ) → is_set 0 0 n ≡ false
       unset n =
-          ap (λ b. b || ((set_in n == 0) && nat_lt n 0)) (ltb_false (set_in n) 0 (omega arith))
-          ∙ ap (λ b. (set_in n == 0) && b) (ltb_false n 0 (omega arith)) ∙ and_false (set_in n == 0)
+          ap (λ b. b || ((set_in n == 0) && nat_lt n 0)) (le-ltb (set_in n) 0 (omega arith))
+          ∙ ap (λ b. (set_in n == 0) && b) (le-ltb n 0 (omega arith)) ∙ and-false (set_in n == 0)

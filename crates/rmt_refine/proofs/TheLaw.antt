@@ -9,7 +9,7 @@ use Rattle.rmt_refine.specs.Types.{Program, Table, Kind, Node, What, Config}
 use Rattle.rmt_ast.specs.declared.program.What.TheVariants as what
 use Rattle.rmt_ast.specs.declared.program.Kind.TheVariants as kind
 use Rattle.rmt_ast.specs.declared.entry.Entry.{Entry}
-use Rattle.rmt_ast.specs.EntryLists.{AreEntries, AreEntriesAt, terms_at, terms_of}
+use Rattle.rmt_ast.specs.EntryLists.{AreEntries, AreEntriesAt, terms_at, terms_of, AreTableEntries}
 use Rattle.rmt_ast.specs.Lookup.{hit_of}
 use Rattle.rmt_ast.specs.State.{IsState, joined, width_of}
 use Rattle.rmt_ast.specs.WellFormed.{HasKey, IsProgram, IsTable}
@@ -31,6 +31,16 @@ pub its_terms : (p : Program) (w : What) (t : Table) → applied p w ≡ Some t 
 its_terms p (what.Apply i) t e = ap (option_map (terms_of p)) e
 its_terms p (what.Gate field test) t e = absurd (none-some t e)
 
+-- the entries of the table of a node
+pub table_entries : (p : Program) (lists : List (List Entry)) (n : ℕ) (t : Table) (es : List Entry) → AreEntries p lists → table_at p n ≡ Some t → slice_get lists n ≡ Some es
+    → AreTableEntries n es (terms_of p t)
+table_entries p lists n t es entries at list =
+    let node = then_some (λ (x : Node). applied p x.what) (slice_get p.nodes n) t at in
+    let terms : slice_get (map (λ (x : Node). terms_at p x.what) p.nodes) n ≡ Some (Some (terms_of p t)) =
+    slice_get-map (λ (x : Node). terms_at p x.what) p.nodes n
+    ∙ ap (option_map (λ (x : Node). terms_at p x.what)) node.1 ∙ ap Some (its_terms p node.0.what t node.2) in
+    and_at (slice_get (map (λ (x : Node). terms_at p x.what) p.nodes) n) (AreEntriesAt n es) (Some (terms_of p t)) terms (entries.each n es list)
+
 key_fields : (p : Program) (kd : Kind) (t : Table) → HasKey p kd t → All (λ f. f < length p.fields) t.key
 key_fields p kind.Keyless t has = subst (All (λ f. f < length p.fields)) (sym has.key) (All-nil (λ f. f < length p.fields))
 key_fields p kind.Exact t has = has.key_fields
@@ -46,13 +56,9 @@ look_up_law p lists places parts starts c v cells n t es s program entries state
     let node = then_some (λ (x : Node). applied p x.what) (slice_get p.nodes n) t at in
     let table = its_table p node.0.what t node.2 program.tables in
     let fit = All-weaker (λ f. f < length p.fields) (λ f. slice_index s f < 2 ^ width_of p f) state.fits t.key (key_fields p t.kind t table.key) in
-    let terms : slice_get (map (λ (x : Node). terms_at p x.what) p.nodes) n ≡ Some (Some (terms_of p t)) =
-    slice_get-map (λ (x : Node). terms_at p x.what) p.nodes n
-    ∙ ap (option_map (λ (x : Node). terms_at p x.what)) node.1 ∙ ap Some (its_terms p node.0.what t node.2) in
-    let are = and_at (slice_get (map (λ (x : Node). terms_at p x.what) p.nodes) n) (AreEntriesAt n es) (Some (terms_of p t)) terms (entries.each n es list) in
     let loaded : Loaded p c v cells n t es s = record {
       fit = fit;
-      are = are;
+      are = table_entries p lists n t es entries at list;
       carried = carried;
       kind_of = λ k place stage slot part. kind_of_part p places parts starts c n t k place stage slot units at part;
     } in

@@ -18,9 +18,9 @@ use Rattle.rmt_pack.specs.declared.placement.Part.{Part}
 use Rattle.rmt_refine.specs.declared.map.Map.{Map}
 use Rattle.rmt_refine.specs.View.{View, look_in}
 use Rattle.rmt_refine.specs.Carries.{CarriesIn}
-use Rattle.rmt_refine.specs.Code.{Hold, held_by}
+use Rattle.rmt_config.specs.Effects.{held_by, Hold}
 use Rattle.rmt_refine.specs.Outcomes.{entries_at, run_before}
-use Rattle.rmt_refine.specs.Places.{high_first}
+use Rattle.rmt_phv.specs.Places.{high_first}
 use Rattle.rmt_refine.proofs.CarriedLaws.{carried_run, set_in}
 use Rattle.rmt_refine.proofs.FieldLaws.{Goes, kept_over}
 use Rattle.rmt_refine.proofs.NodeLaws.{part_there}

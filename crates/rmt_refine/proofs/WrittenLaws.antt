@@ -13,18 +13,20 @@ use Rattle.rmt_ast.specs.EntryLists.{AreEntries}
 use Rattle.rmt_ast.specs.Places.{lanes_of}
 use Rattle.rmt_ast.specs.State.{IsState}
 use Rattle.rmt_ast.specs.WellFormed.{IsProgram}
-use Rattle.rmt_phv.specs.Places.{written_by}
+use Rattle.rmt_phv.specs.Places.{written_by, AreApart}
 use Rattle.rmt_deps.specs.Edges.{of_action, read_by, reads_of, words_of, writes_of}
 use Rattle.rmt_config.specs.Life.{Ages, Running, Words, op_on, or_else, word_after, written}
 use Rattle.rmt_refine.specs.declared.map.Map.{Map}
 use Rattle.rmt_refine.specs.View.{View}
 use Rattle.rmt_refine.specs.Carries.{CarriesIn}
-use Rattle.rmt_refine.specs.Code.{assigned_lanes, held_by, words_after}
+use Rattle.rmt_refine.specs.Code.{assigned_lanes}
+use Rattle.rmt_config.specs.Effects.{held_by, words_after}
 use Rattle.rmt_refine.specs.Outcomes.{entries_at, run_before}
 use Rattle.rmt_refine.proofs.CarriedLaws.{set_in}
 use Rattle.rmt_refine.proofs.DoneLaws.{Acts, Runs, does_for, hit_at, lane_touched, read_listed, state_after, touches, written_listed}
 use Rattle.rmt_refine.proofs.FieldLaws.{Agree, act_agree, act_other, action_run, args_run, kept_over}
-use Rattle.rmt_refine.proofs.LaneLaws.{SameIn, StandApart, fields_apart, held_same, lane_stays, lanes_same}
+use Rattle.rmt_refine.proofs.LaneLaws.{fields_apart, lane_stays, lanes_same}
+use Rattle.rmt_config.proofs.HeldLaws.{SameIn, held_same}
 use Rattle.rmt_refine.proofs.OrderLaws.{word_order}
 use Rattle.rmt_refine.proofs.OutcomeLaws.{state_before}
 use Rattle.rmt_refine.proofs.RankLaws.{compare}
@@ -362,15 +364,15 @@ module _ (p : Program) (lists : List (List Entry)) (m : Map) (c : Config) (v : V
 
   -- the lanes that an instruction changes stand apart from those of a field that its node doesn't write
   apart_from : (k f i : ℕ) (r : Running) (l : Lane) (runs : RunsAt k i r) → NoWriter k f (length p.nodes) → Contains (lanes_of m.places f) l
-      → All (StandApart l) (assigned_lanes p m.places (action_run runs.table (hit_at p lists m c v s program entries state carries i runs.table)))
+      → All (AreApart l) (assigned_lanes p m.places (action_run runs.table (hit_at p lists m c v s program entries state carries i runs.table)))
   apart_from k f i r l runs none in_l =
       let t = runs.table in
       let fields = of_action p written_by (action_run t (hit_at p lists m c v s program entries state carries i t)) in
-      All-flat_map (StandApart l) (lanes_of m.places) fields
-      (all_at (λ g. All (StandApart l) (lanes_of m.places g)) fields (λ g in_g.
+      All-flat_map (AreApart l) (lanes_of m.places) fields
+      (all_at (λ g. All (AreApart l) (lanes_of m.places g)) fields (λ g in_g.
       let listed = written_listed p lists m c v s program entries state carries i t g runs.acts.table_is in_g in
       let ne : f ≡ g → ⊥ = λ e. none i t (table_within p i t runs.acts.table_is) runs.acts (subst (Contains (writes_of p i)) (sym e) listed) in
-      all_at (StandApart l) (lanes_of m.places g) (λ x in_x. fields_apart m.places f g l x carries.places.apart.no_overlap ne in_l in_x)))
+      all_at (AreApart l) (lanes_of m.places g) (λ x in_x. fields_apart m.places f g l x carries.places.apart.no_overlap ne in_l in_x)))
 
   -- so an instruction on a word with a lane of the field writes that lane as it stands
   lane_other : (k t f n : ℕ) (l : Lane) (word : Ages) (running : List Running) → HoldBefore k word → start_at k + 12 ≤ t → n ≤ length p.nodes → Cut k t f n

@@ -1,7 +1,6 @@
 -- Fourth part of a configuration's carrying a program: the cells hold its entries.
-use Rattle.std.specs.Prelude.{◌≡◌, ◌<◌, ◌⊎◌, ℕ, ◌+◌, ◌*◌, ◌^◌, List, [], ◌∷◌, true, Some, All, IsSomeAnd, Contains, map, sum, take, slice_get, slice_index}
+use Rattle.std.specs.Prelude.{◌≡◌, ◌<◌, ◌⊎◌, ℕ, ◌+◌, List, true, Some, All, IsSomeAnd, Contains, map, take, slice_get, slice_index}
 use Rattle.std.specs.List.{sum_by}
-use Rattle.rmt_bits.specs.Bits.{slice}
 use Rattle.rmt_refine.specs.Types.{Program, Test, Table, Config, Stage, SlotUnit}
 use Rattle.rmt_ast.specs.declared.entry.Entry.{Entry}
 use Rattle.rmt_ast.specs.WellFormed.{AreDistinct}
@@ -14,18 +13,14 @@ use Rattle.rmt_config.specs.Resources.{unit_instructions}
 use Rattle.rmt_refine.specs.declared.map.CellOf.{CellOf}
 use Rattle.rmt_refine.specs.View.{View, slot_of}
 use Rattle.rmt_refine.specs.Units.{table_at}
+use Rattle.rmt_config.specs.Effects.{HasArguments}
+use Rattle.rmt_pack.specs.Tcam.{side_by_side}
 
 -- ---- an entry in a cell
 
 -- the numbers of an entry's tests as one, those of the first field highest
 abbrev pub tests_as_one : (Test → ℕ) → List ℕ → List Test → ℕ
-tests_as_one part [] ts = 0
-tests_as_one part (w ∷ ws) [] = 0
-tests_as_one part (w ∷ ws) (t ∷ ts) = part t * 2 ^ sum ws + tests_as_one part ws ts
-
--- the data of an entry has its arguments, each at the place of its parameter, from bit 0 upward
-abbrev pub HasArguments : List ℕ → List ℕ → ℕ → Type 0
-HasArguments params args held = (i width : ℕ) → slice_get params i ≡ Some width → slice held (sum (take i params)) width ≡ slice_index args i
+tests_as_one part widths tests = side_by_side widths (map part tests)
 
 -- a cell holds an entry of a table, whose key fields have these widths, and whose first instruction in the stage has this number
 pub record HoldsEntry (p : Program) (t : Table) (widths : List ℕ) (first : ℕ) (e : Entry) (number : ℕ) (content : Content) : Type 0 where

@@ -1,7 +1,6 @@
 -- Fifth part of a configuration's carrying a program: its instructions do what the actions say.
-use Rattle.std.specs.Prelude.{◌≡◌, ℕ, ◌+◌, ◌*◌, ◌^◌, List, [], ◌∷◌, Some, All, Contains, length, map, option_map, unwrap_or, slice_get, slice_index}
+use Rattle.std.specs.Prelude.{◌≡◌, ℕ, ◌+◌, List, Some, All, Contains, length, map, slice_get}
 use Rattle.std.specs.List.{AllZip, flat_map}
-use Rattle.rmt_bits.specs.Bits.{slice}
 use Rattle.rmt_bits.specs.declared.lane.Lane.{Lane}
 use Rattle.rmt_refine.specs.Types.{Program, Table, Config, Stage, SlotUnit, Operation}
 use Rattle.rmt_ast.specs.State.{IsState}
@@ -11,35 +10,17 @@ use Rattle.rmt_ast.specs.EntryLists.{params_of}
 use Rattle.rmt_ast.specs.WellFormed.{Fits}
 use Rattle.rmt_phv.specs.Places.{written_by}
 use Rattle.rmt_deps.specs.Edges.{of_action}
-use Rattle.rmt_config.specs.Agreement.{IsFree}
-use Rattle.rmt_config.specs.Life.{Words, code_at, lane_of, op_on, written}
+use Rattle.rmt_config.specs.Life.{Words, code_at}
 use Rattle.rmt_refine.specs.View.{slot_of}
 use Rattle.rmt_refine.specs.Units.{table_at}
-use Rattle.rmt_refine.specs.Cells.{HasArguments, first_code}
+use Rattle.rmt_refine.specs.Cells.{first_code}
+use Rattle.rmt_config.specs.Effects.{HasArguments, Hold, words_after, ChangesOnly}
 
 -- ---- words and instructions
-
--- the number that lanes hold together, the first one lowest
-abbrev pub held_by : Words → List Lane → ℕ
-held_by words [] = 0
-held_by words (l ∷ ls) = lane_of words l + 2 ^ l.len * held_by words ls
-
--- the lanes of each field hold its value
-abbrev pub Hold : List (List Lane) → Words → List ℕ → Type 0
-Hold places words s = (f : ℕ) → held_by words (lanes_of places f) ≡ slice_index s f
-
--- the words after an instruction that reads this record; a word without an operation stays
-abbrev pub words_after : List Operation → ℕ → Words → Words
-words_after ops held words w = unwrap_or (option_map (written words held) (op_on w ops)) (words w)
 
 -- the lanes of the fields that an action assigns
 abbrev pub assigned_lanes : Program → List (List Lane) → ℕ → List Lane
 assigned_lanes p places action = flat_map (lanes_of places) (of_action p written_by action)
-
--- only bits of those lanes change, whatever the record is
-abbrev pub ChangesOnly : List Lane → List Operation → Type 0
-ChangesOnly lanes ops =
-    (words : Words) (held word bit : ℕ) → IsFree lanes word bit → slice (words_after ops held words word) bit 1 ≡ slice (words word) bit 1
 
 -- it has operations on the words of those lanes alone, for an operation writes its whole word, with old bits in it
 abbrev pub WritesWordsOf : List Lane → List Operation → Type 0

@@ -5,7 +5,8 @@ use Rattle.rmt_ast.specs.declared.entry.Entry.{Entry}
 use Rattle.rmt_ast.specs.EntryLists.{params_of}
 use Rattle.rmt_config.specs.Cells.{Found}
 use Rattle.rmt_refine.specs.View.{View, look_in, slot_at, slot_of}
-use Rattle.rmt_refine.specs.Cells.{HasArguments, first_code}
+use Rattle.rmt_refine.specs.Cells.{first_code}
+use Rattle.rmt_config.specs.Effects.{HasArguments}
 
 -- what was found is an entry: its action, its arguments and its number
 pub record IsEntryFound (p : Program) (t : Table) (first : ℕ) (e : Entry) (f : Found) : Type 0 where

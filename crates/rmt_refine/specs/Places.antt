@@ -1,14 +1,10 @@
 -- First part of a configuration's carrying a program: where its fields stand.
-use Rattle.std.specs.Prelude.{◌≡◌, ℕ, List, [], ◌∷◌, reverse}
-use Rattle.std.specs.List.{AllZip, flat_map}
+use Rattle.std.specs.Prelude.{◌≡◌, ℕ, List, [], ◌∷◌}
+use Rattle.std.specs.List.{AllZip}
 use Rattle.rmt_bits.specs.declared.lane.Lane.{Lane}
 use Rattle.rmt_refine.specs.Types.{Program, Header, Config, OutHeader}
 use Rattle.rmt_ast.specs.Places.{lanes_of}
-use Rattle.rmt_phv.specs.Places.{KeepsApart}
-
--- the lanes of some fields, highest bits first
-abbrev pub high_first : List (List Lane) → List ℕ → List Lane
-high_first places fields = flat_map (λ f. reverse (lanes_of places f)) fields
+use Rattle.rmt_phv.specs.Places.{KeepsApart, high_first}
 
 -- a field of one piece stands in that lane
 abbrev pub StandsIn : List (List Lane) → ℕ → Lane → Type 0

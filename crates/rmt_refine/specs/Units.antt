@@ -13,7 +13,8 @@ use Rattle.rmt_config.specs.Resources.{greatest_by}
 use Rattle.rmt_pack.specs.declared.placement.Part.{Part}
 use Rattle.rmt_pack.specs.Placements.{quanta_in, quanta_of}
 use Rattle.rmt_pack.specs.Starts.{stages_of}
-use Rattle.rmt_refine.specs.Places.{high_first}
+use Rattle.rmt_phv.specs.Places.{high_first}
+use Rattle.rmt_config.specs.TableForm.{node_of}
 
 -- ---- which node stands where
 
@@ -83,13 +84,9 @@ abbrev pub guard_in : Unit → Option UnitGuard
 guard_in (unit.Gate g) = g.guard
 guard_in (unit.Slot s) = s.guard
 
-abbrev pub node_in : Unit → ℕ
-node_in (unit.Gate g) = g.node
-node_in (unit.Slot s) = s.node
-
 -- a unit is that of node n in stage k
 pub record UnitCarried (p : Program) (places : List (List Lane)) (parts : List Part) (k n : ℕ) (u : Unit) : Type 0 where
-  pub number : node_in u ≡ n
+  pub number : node_of u ≡ n
   pub guard : IsSomeAnd (slice_get p.nodes n) (λ (node : Node). guard_in u ≡ guard_of node.guard)
   pub does : IsSomeAnd (slice_get p.nodes n) (λ (node : Node). DoesAs p places parts k n node.what u)
 

@@ -1,12 +1,11 @@
 -- What an instruction does to words.
-use Rattle.std.proofs.Common.{◌≡◌, ◌≢◌, ℕ, zero, suc, ◌+◌, ◌^◌, ◌<◌, ◌≤◌, ◌⊎◌, List, [], ◌∷◌, ◌++◌, get_or, length, Option, Some, None, refl, sym, ap, ◌∙◌, subst, inl, inr, arith}
-use Rattle.std.specs.Prelude.{◌==◌, All, AllPairs, Contains, slice_index, option_map, unwrap_or}
-use Rattle.std.specs.List.{AllZip, flat_map}
+use Rattle.std.proofs.Common.{◌≡◌, ◌≢◌, ℕ, suc, ◌+◌, ◌^◌, ◌<◌, ◌≤◌, ◌⊎◌, List, [], ◌∷◌, get_or, length, Option, Some, None, refl, sym, ap, ◌∙◌, subst, inl, inr, arith}
+use Rattle.std.specs.Prelude.{◌==◌, All, Contains, slice_index, option_map, unwrap_or}
+use Rattle.std.specs.List.{AllZip}
 use Rattle.std.proofs.lemmas.Bool.{cases_eq, eqb-true}
-use Rattle.std.proofs.lemmas.List.{length-append, get_or_append_left, get_or-append-add, get_or_default}
-use Rattle.std.proofs.lemmas.List.Elements.{All-nil, All-cons, All-weaker, All-contains}
-use Rattle.rmt_bits.proofs.AllLaws.{All-find, All-left, All-right, All-parts}
-use Rattle.rmt_bits.proofs.BitLaws.{slice-deposit_same, slice-deposit_above, slice-deposit_below}
+use Rattle.std.proofs.lemmas.List.Elements.{All-nil, All-cons, All-contains}
+use Rattle.rmt_bits.proofs.AllLaws.{All-find, All-parts}
+use Rattle.rmt_bits.proofs.BitLaws.{slice-deposit_same, slice-deposit_above, slice-deposit_below, slice-whole}
 use Rattle.rmt_bits.specs.Bits.{slice, deposit}
 use Rattle.rmt_bits.specs.declared.lane.Lane.{Lane}
 use Rattle.rmt_vliw.specs.Types.{Program, Assign, Operation}
@@ -15,58 +14,18 @@ use Rattle.rmt_ast.specs.Actions.{value_of}
 use Rattle.rmt_ast.specs.Places.{lanes_of}
 use Rattle.rmt_ast.specs.WellFormed.{Fits}
 use Rattle.rmt_ast.proofs.StateLaws.{value_fits}
-use Rattle.rmt_phv.specs.Places.{AreApart, KeepsApart}
+use Rattle.rmt_phv.specs.Places.{KeepsApart}
 use Rattle.rmt_config.specs.Life.{Words, lane_of, source_of, computed, written, op_on}
 use Rattle.rmt_vliw.specs.Folding.{all_set}
 use Rattle.rmt_vliw.specs.Operations.{operations_of, IsInstruction}
-use Rattle.rmt_vliw.specs.Effects.{held_by, Hold, words_after, HasArguments, written_lanes, ChangesOnly}
-use Rattle.rmt_vliw.proofs.PieceLaws.{begins, piece_of, slice-whole, held_from, held_same, lane_bits, operation_piece, operation_fits}
+use Rattle.rmt_vliw.specs.Effects.{written_lanes}
+use Rattle.rmt_config.specs.Effects.{held_by, Hold, words_after, HasArguments, ChangesOnly}
+use Rattle.rmt_vliw.proofs.PieceLaws.{begins, piece_of, held_from, operation_piece, operation_fits}
 use Rattle.rmt_vliw.proofs.ValueLaws.{AreFolded, IsValue, set_values, set_others}
-use Rattle.rmt_vliw.proofs.OperationLaws.{op_at, IsOpOf, sorted_all, op_on-piece, operation_word, written-operation, find_passes}
-
-abbrev flat : List (List Lane) → List Lane
-flat places = flat_map (λ (ls : List Lane). ls) places
-
--- ---- lanes apart
-
-AreApart-sym : (a b : Lane) → AreApart a b → AreApart b a
-AreApart-sym a b (inl words) = inl (λ e. words (sym e))
-AreApart-sym a b (inr (inl below)) = inr (inr below)
-AreApart-sym a b (inr (inr above)) = inr (inl above)
-
-pairs_right : (xs ys : List Lane) → AllPairs AreApart (xs ++ ys) → AllPairs AreApart ys
-pairs_right xs ys apart i j d lt below =
-    let long = length-append xs ys in
-    let both = apart (length xs + i) (length xs + j) d (omega (arith, lt)) (omega (arith, long, below)) in
-    subst (λ (l : Lane). AreApart l (get_or ys j d)) (get_or-append-add xs ys i d) (subst (AreApart (get_or (xs ++ ys) (length xs + i) d)) (get_or-append-add xs ys j d) both)
-
-pairs_across : (xs ys : List Lane) → AllPairs AreApart (xs ++ ys) → All (λ (a : Lane). All (λ (b : Lane). AreApart a b) ys) xs
-pairs_across xs ys apart i d lt j e below =
-    let long = length-append xs ys in
-    let both = apart i (length xs + j) d (omega (arith, lt)) (omega (arith, long, below)) in
-    let last : get_or (xs ++ ys) (length xs + j) d ≡ get_or ys j e = get_or-append-add xs ys j d ∙ get_or_default ys j d e below in
-    subst (λ (l : Lane). AreApart l (get_or ys j e)) (get_or_append_left xs ys d i lt) (subst (AreApart (get_or (xs ++ ys) i d)) last both)
-
-lanes_all : (P : Lane → Type 0) (places : List (List Lane)) (g : ℕ) → All P (flat places) → All P (lanes_of places g)
-lanes_all P [] g h = All-nil P
-lanes_all P (ls ∷ places) zero h = All-left P ls (flat places) h
-lanes_all P (ls ∷ places) (suc g) h = lanes_all P places g (All-right P ls (flat places) h)
-
-turned : (xs ys : List Lane) → All (λ (a : Lane). All (λ (b : Lane). AreApart a b) ys) xs → All (λ (b : Lane). All (λ (a : Lane). AreApart b a) xs) ys
-turned xs ys h j e below i d lt = AreApart-sym (get_or xs i d) (get_or ys j e) (h i d lt j e below)
-
--- lanes of two fields have no bit in common
-fields_apart : (places : List (List Lane)) (f g : ℕ) → AllPairs AreApart (flat places) → f ≢ g → All (λ (a : Lane). All (λ (b : Lane). AreApart a b) (lanes_of places g)) (lanes_of places f)
-fields_apart [] f g apart other = All-nil (λ (a : Lane). All (λ (b : Lane). AreApart a b) [])
-fields_apart (ls ∷ places) zero zero apart other = absurd (other refl)
-fields_apart (ls ∷ places) zero (suc g) apart other =
-    All-weaker (λ (a : Lane). All (λ (b : Lane). AreApart a b) (flat places)) (λ (a : Lane). All (λ (b : Lane). AreApart a b) (lanes_of places g))
-    (λ a h. lanes_all (λ (b : Lane). AreApart a b) places g h) ls (pairs_across ls (flat places) apart)
-fields_apart (ls ∷ places) (suc f) zero apart other =
-    turned ls (lanes_of places f)
-    (All-weaker (λ (a : Lane). All (λ (b : Lane). AreApart a b) (flat places)) (λ (a : Lane). All (λ (b : Lane). AreApart a b) (lanes_of places f))
-    (λ a h. lanes_all (λ (b : Lane). AreApart a b) places f h) ls (pairs_across ls (flat places) apart))
-fields_apart (ls ∷ places) (suc f) (suc g) apart other = fields_apart places f g (pairs_right ls (flat places) apart) (λ e. other (ap suc e))
+use Rattle.rmt_vliw.proofs.OperationLaws.{op_at, IsOpOf, sorted_all, op_on-piece, operation_word, written-operation}
+use Rattle.rmt_phv.proofs.LaneLaws.{fields_apart, lanes_width}
+use Rattle.rmt_bits.proofs.ListLaws.{find-passes}
+use Rattle.rmt_config.proofs.HeldLaws.{held_same}
 
 -- a field has a value or none
 value_or_none : (values : List Assign) (f : ℕ) → ((v : Assign) × (Contains values v) × (v.dest ≡ f)) ⊎ All (λ (v : Assign). f ≢ v.dest) values
@@ -89,9 +48,7 @@ module _ (p : Program) (places : List (List Lane)) (params : List ℕ) (values :
   LieBeside word at size = (v : Assign) (k : ℕ) (d : Lane) → Contains values v → k < length (lanes_of places v.dest) → (get_or (lanes_of places v.dest) k d).word ≡ word
       → (at + size ≤ (get_or (lanes_of places v.dest) k d).low) ⊎ ((get_or (lanes_of places v.dest) k d).low + (get_or (lanes_of places v.dest) k d).len ≤ at)
 
-  written_beside : (word at size : ℕ) (y : Operation) → IsOpOf places params values y → y.word ≡ word
-      → ((v : Assign) (k : ℕ) (d : Lane) → Contains values v → k < length (lanes_of places v.dest) → (get_or (lanes_of places v.dest) k d).word ≡ word
-      → (at + size ≤ (get_or (lanes_of places v.dest) k d).low) ⊎ ((get_or (lanes_of places v.dest) k d).low + (get_or (lanes_of places v.dest) k d).len ≤ at))
+  written_beside : (word at size : ℕ) (y : Operation) → IsOpOf places params values y → y.word ≡ word → LieBeside word at size
       → slice (written words held y) at size ≡ slice (words word) at size
   written_beside word at size y op is beside =
       let v = op.value in
@@ -110,19 +67,15 @@ module _ (p : Program) (places : List (List Lane)) (params : List ℕ) (values :
         | inr above ↦ slice-deposit_above (words word) lane.low lane.len x at size small above
       ]
 
-  found_beside : (word at size : ℕ) (o : Option Operation) → op_on word ops ≡ o
-      → ((v : Assign) (k : ℕ) (d : Lane) → Contains values v → k < length (lanes_of places v.dest) → (get_or (lanes_of places v.dest) k d).word ≡ word
-      → (at + size ≤ (get_or (lanes_of places v.dest) k d).low) ⊎ ((get_or (lanes_of places v.dest) k d).low + (get_or (lanes_of places v.dest) k d).len ≤ at))
+  found_beside : (word at size : ℕ) (o : Option Operation) → op_on word ops ≡ o → LieBeside word at size
       → slice (unwrap_or (option_map (written words held) o) (words word)) at size ≡ slice (words word) at size
   found_beside word at size None is beside = refl
   found_beside word at size (Some y) is beside =
       written_beside word at size y
       (All-find (IsOpOf places params values) (λ (x : Operation). x.word == word) ops y (sorted_all p places params values keeps folded ops sorted) is)
-      (eqb-true y.word word (find_passes (λ (x : Operation). x.word == word) ops y is)) beside
+      (eqb-true y.word word (find-passes (λ (x : Operation). x.word == word) ops y is)) beside
 
-  pub stays : (word at size : ℕ)
-      → ((v : Assign) (k : ℕ) (d : Lane) → Contains values v → k < length (lanes_of places v.dest) → (get_or (lanes_of places v.dest) k d).word ≡ word
-      → (at + size ≤ (get_or (lanes_of places v.dest) k d).low) ⊎ ((get_or (lanes_of places v.dest) k d).low + (get_or (lanes_of places v.dest) k d).len ≤ at))
+  pub stays : (word at size : ℕ) → LieBeside word at size
       → slice (words_after ops held words word) at size ≡ slice (words word) at size
   stays word at size beside = found_beside word at size (op_on word ops) refl beside
 
@@ -164,7 +117,7 @@ module _ (p : Program) (places : List (List Lane)) (params : List ℕ) (values :
         let lanes = lanes_of places v.dest in
         let x = value_of (width_of p v.dest) v.expr s args in
         let good : IsValue p params v = All-contains (IsValue p params) values v folded.each there in
-        let bits = lane_bits p places keeps v.dest in
+        let bits = lanes_width p places v.dest keeps.cut in
         let inside : v.dest < length s = (let within = good.is_field in let long = state.one_each in omega (arith, within, long)) in
         held_from (words_after ops held words) x 0 lanes
         (λ k d lt. (let none : begins lanes k ≡ 0 + begins lanes k = omega arith in written_lane v k d there lt ∙ ap (λ n. slice x n (get_or lanes k d).len) none))

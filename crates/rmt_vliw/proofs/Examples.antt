@@ -12,7 +12,7 @@ use Rattle.rmt_config.specs.Life.{Words}
 use Rattle.rmt_vliw.specs.Folding.{folded_of, told}
 use Rattle.rmt_vliw.specs.declared.fault.ActionDeep.TheVariants.{At}
 use Rattle.rmt_vliw.specs.Operations.{operations_of, given}
-use Rattle.rmt_vliw.specs.Effects.{held_by, words_after}
+use Rattle.rmt_config.specs.Effects.{held_by, words_after}
 
 abbrev to : ℕ → Expr → Assign
 to f e = record { dest = f; expr = e }

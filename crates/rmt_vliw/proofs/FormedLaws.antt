@@ -1,10 +1,8 @@
 -- Instructions keep the rules of form.
-use Rattle.std.proofs.Common.{◌≡◌, ◌≢◌, ℕ, zero, suc, ◌+◌, ◌*◌, ◌^◌, ◌<◌, ◌≤◌, true, false, not, List, [], ◌∷◌, ◌++◌, get_or, take, length, map, Some, add-one, eqb, leb, refl, sym, ap, ◌∙◌, subst, inl, inr, arith}
+use Rattle.std.proofs.Common.{◌≡◌, ◌≢◌, ℕ, zero, suc, ◌+◌, ◌*◌, ◌^◌, ◌<◌, ◌≤◌, true, false, not, List, [], ◌∷◌, ◌++◌, get_or, take, length, map, Some, eqb, leb, refl, sym, ap, ◌∙◌, subst, arith}
 use Rattle.std.specs.Prelude.{◌&&◌, nat_lt, nat_le, All, Contains, sum, slice_get, option_map, unwrap_or}
 use Rattle.std.specs.List.{IsDistinct, list_all}
-use Rattle.std.specs.List.Sorted.{IsStrictlyIncreasing}
-use Rattle.std.proofs.lemmas.Bool.{cases_eq, and_from, and_parts, le-leb, leb-true, lt-ltb, ne_eqb, eq-eqb}
-use Rattle.std.proofs.lemmas.Bool.Decides.{nat_tests}
+use Rattle.std.proofs.lemmas.Bool.{and_from, and_parts, le-leb, leb-true, lt-ltb, ne_eqb}
 use Rattle.std.proofs.lemmas.Nat.{pow_pos}
 use Rattle.std.proofs.lemmas.Option.{none-some, same_Some, slice_get-get_or}
 use Rattle.std.proofs.lemmas.List.{length-map, map-append, get_or-map}
@@ -31,19 +29,22 @@ use Rattle.rmt_config.specs.declared.form.code.Place.{Place}
 use Rattle.rmt_config.specs.Order.{rises_from}
 use Rattle.rmt_config.specs.LaneForm.{bits_of_lanes, lane_is_formed}
 use Rattle.rmt_config.specs.CodeForm.{source_is_formed, kind_is_formed, operation_is_formed, vliw_is_formed}
-use Rattle.rmt_vliw.specs.Operations.{begin_of, lane_source, source_for, kind_for, operation_for, operations_from, operations_for, operations_of, IsInstruction}
-use Rattle.rmt_vliw.proofs.PieceLaws.{begins, piece_of, begins-le, alike-long, alike-len, cut_at, lane_bits, lanes_lie}
+use Rattle.rmt_vliw.specs.Operations.{lane_source, source_for, kind_for, operation_for, operations_from, operations_for, operations_of, IsInstruction}
+use Rattle.rmt_config.specs.Effects.{begin_of}
+use Rattle.rmt_vliw.proofs.PieceLaws.{begins, piece_of, begins-le, alike-long, alike-len}
 use Rattle.rmt_vliw.proofs.ValueLaws.{IsValue, AreFolded}
-use Rattle.rmt_vliw.proofs.OperationLaws.{IsOpOf, ops_all, sorted_all, operation_word, contains_cons, one_of_field_at}
+use Rattle.rmt_vliw.proofs.OperationLaws.{IsOpOf, ops_all, sorted_all, operation_word, one_of_field_at}
+use Rattle.rmt_phv.proofs.LaneLaws.{lanes_cut, lanes_lie, lanes_width}
+use Rattle.rmt_bits.proofs.WordLaws.{word_size-le}
+use Rattle.rmt_bits.proofs.OptionLaws.{eqb-sym}
+use Rattle.rmt_config.proofs.RiseLaws.{increasing_rises}
+use Rattle.rmt_bits.proofs.MemberLaws.{Contains-later}
 
 -- ---- lanes and parameters are small
 
-pub word_size-le : (w : ℕ) → word_size w ≤ 32
-word_size-le w = grind (arith, nat_tests)
-
 pub lanes_small : (p : Program) (places : List (List Lane)) (f : ℕ) → KeepsApart p places → All (λ (l : Lane). l.len ≤ 32) (lanes_of places f)
 lanes_small p places f keeps =
-    All-weaker LiesInWord (λ (l : Lane). l.len ≤ 32) (λ l lies. (let within = lies.within in let size = word_size-le l.word in omega (arith, within, size))) (lanes_of places f) (lanes_lie p places keeps f)
+    All-weaker LiesInWord (λ (l : Lane). l.len ≤ 32) (λ l lies. (let within = lies.within in let size = word_size-le l.word in omega (arith, within, size))) (lanes_of places f) (lanes_lie p places f keeps)
 
 width_in : (fs : List Field) (f : ℕ) → All (λ (x : Field). IsWidth x.width) fs → unwrap_or (option_map (λ (x : Field). x.width) (slice_get fs f)) 0 ≤ 128
 width_in [] f h = omega arith
@@ -52,7 +53,7 @@ width_in (x ∷ fs) (suc f) h = width_in fs f (All-tail (λ (y : Field). IsWidth
 
 pub lanes_within : (p : Program) (places : List (List Lane)) (f : ℕ) → IsProgram p → KeepsApart p places → bits_of_lanes (lanes_of places f) ≤ 128
 lanes_within p places f good keeps =
-    let bits = lane_bits p places keeps f in
+    let bits = lanes_width p places f keeps.cut in
     let width : width_of p f ≤ 128 = width_in p.fields f good.fields.widths in
     omega (arith, bits, width)
 
@@ -106,11 +107,11 @@ module _ (p : Program) (places : List (List Lane)) (params : List ℕ) (place : 
       let xs = lanes_of places f in
       let ys = lanes_of places g in
       let len = (get_or xs k d).len in
-      let cut : map (λ (l : Lane). l.len) ys ≡ map (λ (l : Lane). l.len) xs = cut_at p places keeps g ∙ ap pieces is.1 ∙ sym (cut_at p places keeps f) in
+      let cut : map (λ (l : Lane). l.len) ys ≡ map (λ (l : Lane). l.len) xs = lanes_cut p places g keeps.cut ∙ ap pieces is.1 ∙ sym (lanes_cut p places f keeps.cut) in
       let inside : k < length ys = (let long = alike-long ys xs cut in omega (arith, lt, long)) in
       let same : (get_or ys k d).len ≡ len = alike-len ys xs cut k d inside in
       let y = get_or ys k d in
-      let lies : LiesInWord y = lanes_lie p places keeps g k d inside in
+      let lies : LiesInWord y = lanes_lie p places g keeps k d inside in
       let ends = lies.within in
       ap (λ o. source_is_formed place len (lane_source o)) (slice_get-get_or ys k d inside)
       ∙ and_from (nat_lt y.word 224) (nat_le (y.low + len) (word_size y.word)) (lt-ltb y.word 224 lies.exists) (le-leb (y.low + len) (word_size y.word) (omega (arith, ends, same)))
@@ -120,7 +121,7 @@ module _ (p : Program) (places : List (List Lane)) (params : List ℕ) (place : 
       let there = room i (width_of p f) is in
       let fits = there.1 in
       let ends = begins-le xs k d lt in
-      let bits = lane_bits p places keeps f in
+      let bits = lanes_width p places f keeps.cut in
       and_from (not place.is_default) (nat_le (begin_of params i + begins xs k + len) place.held)
       (ap not there.0) (le-leb (begin_of params i + begins xs k + len) place.held (omega (arith, fits, ends, bits)))
   source_formed f k d lt (leaf.Number n) is =
@@ -135,7 +136,7 @@ module _ (p : Program) (places : List (List Lane)) (params : List ℕ) (place : 
       let left = source_for places params (piece_of xs k lane.len) x in
       and_from (lane_is_formed lane && source_is_formed place lane.len left && source_is_formed place lane.len (Constant 0)) true
       (and_from (lane_is_formed lane && source_is_formed place lane.len left) (source_is_formed place lane.len (Constant 0))
-      (and_from (lane_is_formed lane) (source_is_formed place lane.len left) (lane_formed lane (lanes_lie p places keeps f k d lt) (lanes_small p places f keeps k d lt)) (source_formed f k d lt x is))
+      (and_from (lane_is_formed lane) (source_is_formed place lane.len left) (lane_formed lane (lanes_lie p places f keeps k d lt) (lanes_small p places f keeps k d lt)) (source_formed f k d lt x is))
       (lt-ltb 0 (2 ^ lane.len) (pow_pos lane.len)))
       refl
   operation_formed f k d lt (Two op x y) is =
@@ -145,14 +146,11 @@ module _ (p : Program) (places : List (List Lane)) (params : List ℕ) (place : 
       let right = source_for places params (piece_of xs k lane.len) y in
       and_from (lane_is_formed lane && source_is_formed place lane.len left && source_is_formed place lane.len right) (kind_is_formed (kind_for op) right)
       (and_from (lane_is_formed lane && source_is_formed place lane.len left) (source_is_formed place lane.len right)
-      (and_from (lane_is_formed lane) (source_is_formed place lane.len left) (lane_formed lane (lanes_lie p places keeps f k d lt) (lanes_small p places f keeps k d lt)) (source_formed f k d lt x is.1))
+      (and_from (lane_is_formed lane) (source_is_formed place lane.len left) (lane_formed lane (lanes_lie p places f keeps k d lt) (lanes_small p places f keeps k d lt)) (source_formed f k d lt x is.1))
       (source_formed f k d lt y is.2))
       (kind_formed op right)
 
 -- ---- rising words
-
-flips : (x y : ℕ) → eqb x y ≡ eqb y x
-flips x y = elim (cases_eq x y) [ inl e ↦ eq-eqb x y e ∙ sym (eq-eqb y x (sym e)) | inr ne ↦ ne_eqb x y ne ∙ sym (ne_eqb y x (λ e. ne (sym e))) ]
 
 distinct_append : (xs ys : List ℕ) → IsDistinct eqb xs → IsDistinct eqb ys → All (λ x. All (λ y. x ≢ y) ys) xs → IsDistinct eqb (xs ++ ys)
 distinct_append [] ys one two apart = two
@@ -196,21 +194,15 @@ words_distinct places params (v ∷ vs) own once apart =
     let word : Operation → ℕ = λ (op : Operation). op.word in
     let here : map word (operations_for places params v) ≡ map (λ (l : Lane). l.word) (lanes_of places v.dest) = words_from places params v.expr 0 0 (lanes_of places v.dest) in
     let rest = words_distinct places params vs own (λ i j d lt below. once (suc i) (suc j) d (omega (arith, lt)) (omega (arith, below)))
-    (λ x w in_x in_w. apart x w (contains_cons v vs x in_x) (contains_cons v vs w in_w)) in
+    (λ x w in_x in_w. apart x w (Contains-later v vs x in_x) (Contains-later v vs w in_w)) in
     let differ : All (λ (w : Assign). v.dest ≢ w.dest) vs = λ k d lt same.
     (let long = length-map vs (λ (w : Assign). w.dest) in
     once 0 (suc k) 0 (omega arith) (omega (arith, long, lt)) (same ∙ sym (get_or-map (λ (w : Assign). w.dest) vs k d 0 lt))) in
     let both : IsDistinct eqb (map (λ (l : Lane). l.word) (lanes_of places v.dest) ++ map word (operations_of places params vs)) =
     distinct_append (map (λ (l : Lane). l.word) (lanes_of places v.dest)) (map word (operations_of places params vs))
     (distinct_from_pairs (map (λ (l : Lane). l.word) (lanes_of places v.dest)) (one_of_field_at places v.dest own)) rest
-    (other_words places params v vs differ (λ w in_w. apart v w (0, omega arith, refl) (contains_cons v vs w in_w))) in
+    (other_words places params v vs differ (λ w in_w. apart v w (0, omega arith, refl) (Contains-later v vs w in_w))) in
     subst (IsDistinct eqb) (sym (map-append word (operations_for places params v) (operations_of places params vs) ∙ ap (λ ws. ws ++ map word (operations_of places params vs)) here)) both
-
-increasing_rises : (least : ℕ) (ys : List ℕ) → (0 < length ys → least ≤ get_or ys 0 0) → IsStrictlyIncreasing ys → rises_from least ys ≡ true
-increasing_rises least [] low up = refl
-increasing_rises least (n ∷ ns) low up =
-    let tail : IsStrictlyIncreasing ns = λ k lt. rw (add-one k) (rw (add-one (suc k)) at (up (suc k) (omega (arith, lt)))) in
-    and_from (leb least n) (rises_from (n + 1) ns) (le-leb least n (low (omega arith))) (increasing_rises (n + 1) ns (λ lt. omega (arith, up 0 (omega (arith, lt)))) tail)
 
 -- rising numbers below a bound are few
 rise_few : (least m : ℕ) (ns : List ℕ) → least ≤ m → rises_from least ns ≡ true → All (λ n. n < m) ns → least + length ns ≤ m
@@ -241,11 +233,11 @@ formed p places params values keeps folded v sorted place room =
     (let lanes = lanes_of places of.value.dest in
     let lane = get_or lanes of.place d in
     let is : op.word ≡ lane.word = ap word (of.is d) ∙ operation_word places params of.value.expr (piece_of lanes of.place lane.len) lane in
-    let exists = (lanes_lie p places keeps of.value.dest of.place d of.inside).exists in
+    let exists = (lanes_lie p places of.value.dest keeps of.place d of.inside).exists in
     omega (arith, is, exists)))
     v.ops all) in
     let distinct : IsDistinct eqb (map word v.ops) =
-    IsDistinct-IsPermutation eqb flips (map word (operations_of places params values)) (map word v.ops) (IsPermutation-map word (operations_of places params values) v.ops sorted.same)
+    IsDistinct-IsPermutation eqb eqb-sym (map word (operations_of places params values)) (map word v.ops) (IsPermutation-map word (operations_of places params values) v.ops sorted.same)
     (words_distinct places params values keeps.one_of_field folded.once folded.apart) in
     let rising : rises_from 0 (map word v.ops) ≡ true =
     increasing_rises 0 (map word v.ops) (λ lt. omega arith)

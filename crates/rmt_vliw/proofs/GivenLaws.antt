@@ -1,8 +1,7 @@
 -- Values with arguments in the place of parameters.
-use Rattle.std.proofs.Common.{◌≡◌, ℕ, zero, suc, ◌^◌, ◌<◌, List, [], ◌∷◌, ◌++◌, get_or, length, map, Some, refl, sym, ap, ◌∙◌, subst, arith}
-use Rattle.std.specs.Prelude.{fold, Contains, slice_get, slice_index, slice_set, unwrap_or}
+use Rattle.std.proofs.Common.{◌≡◌, ℕ, ◌<◌, List, [], ◌∷◌, ◌++◌, get_or, length, map, refl, sym, ap, ◌∙◌, subst, arith}
+use Rattle.std.specs.Prelude.{fold, Contains, slice_set}
 use Rattle.std.specs.List.{AllZip}
-use Rattle.std.proofs.lemmas.Option.{none-some}
 use Rattle.std.proofs.lemmas.List.{length-map, get_or-map}
 use Rattle.std.proofs.lemmas.List.Elements.{All-map, All-weaker, Contains-get_or}
 use Rattle.rmt_bits.specs.declared.lane.Lane.{Lane}
@@ -18,13 +17,7 @@ use Rattle.rmt_vliw.specs.Folding.{all_set}
 use Rattle.rmt_vliw.specs.Operations.{given_operand, given_expr, given}
 use Rattle.rmt_vliw.specs.Effects.{written_lanes}
 use Rattle.rmt_vliw.proofs.ValueLaws.{IsValue, AreFolded}
-
--- an argument fits its parameter
-argument_fits : (params args : List ℕ) (i width : ℕ) → AllZip Fits params args → slice_get params i ≡ Some width → slice_index args i < 2 ^ width
-argument_fits [] args i width h e = absurd (none-some width e)
-argument_fits (w ∷ params) [] i width h e = absurd h
-argument_fits (w ∷ params) (x ∷ args) zero width h e = subst (λ v. x < 2 ^ v) (ap (λ o. unwrap_or o w) e) h.0
-argument_fits (w ∷ params) (x ∷ args) (suc i) width h e = argument_fits params args i width h.1 e
+use Rattle.rmt_ast.proofs.StateLaws.{argument_fits}
 
 module _ (p : Program) (params args : List ℕ) (taken : AllZip Fits params args) where
   given_leaf_is : (width : ℕ) (x : Leaf) → IsLeaf p params width x → IsLeaf p [] width (given_operand args x)

@@ -1,31 +1,25 @@
 -- The instructions of actions and of defaults.
-use Rattle.std.proofs.Common.{◌≡◌, ℕ, ◌+◌, ◌*◌, ◌^◌, ◌<◌, ◌≤◌, true, false, List, [], ◌∷◌, ◌++◌, Some, map, drop, refl, sym, ap, ◌∙◌, subst, arith}
-use Rattle.std.specs.Prelude.{Option, None, IsSomeAnd, sum, length, slice_get, slice_index}
+use Rattle.std.proofs.Common.{◌≡◌, ℕ, ◌<◌, ◌≤◌, true, false, List, [], ◌++◌, Some, map, drop, refl, sym, ap, ◌∙◌, subst, arith}
+use Rattle.std.specs.Prelude.{Option, None, IsSomeAnd, sum, length, slice_get}
 use Rattle.std.specs.List.{AllZip}
 use Rattle.std.proofs.lemmas.List.{append-nil, at_drop_all}
 use Rattle.std.proofs.lemmas.Option.{none-some, slice_get_within}
-use Rattle.rmt_bits.specs.Bits.{slice}
 use Rattle.rmt_bits.specs.declared.lane.Lane.{Lane}
 use Rattle.rmt_bits.proofs.AllLaws.{All-slice_get}
 use Rattle.rmt_vliw.specs.Types.{Program, Action, Assign, Vliw, Operation}
 use Rattle.rmt_ast.specs.WellFormed.{IsProgram, IsAction, Fits, Takes}
 use Rattle.rmt_phv.specs.Places.{KeepsApart}
 use Rattle.rmt_config.specs.CodeForm.{vliw_is_formed}
-use Rattle.rmt_config.specs.Agreement.{held_in}
 use Rattle.rmt_vliw.specs.declared.folded.Folded.{Folded}
 use Rattle.rmt_vliw.specs.Folding.{IsFolding}
 use Rattle.rmt_vliw.specs.Operations.{operations_of, given, IsInstruction}
-use Rattle.rmt_vliw.specs.Effects.{held_by, Hold, words_after, ChangesOnly, Does, DoesWith}
+use Rattle.rmt_vliw.specs.Effects.{Does, DoesWith}
+use Rattle.rmt_config.specs.Effects.{Hold, words_after, ChangesOnly}
 use Rattle.rmt_vliw.proofs.MeaningLaws.{means, action_of, folded_is}
 use Rattle.rmt_vliw.proofs.ValueLaws.{are_folded}
 use Rattle.rmt_vliw.proofs.EffectLaws.{holds_after, changes_only}
 use Rattle.rmt_vliw.proofs.FormedLaws.{formed, param_ends, params_few}
 use Rattle.rmt_vliw.proofs.GivenLaws.{given_folded, given_lanes, given_all_set}
-
--- words by their numbers are those of a vector
-pub held_by-vector : (vector : List ℕ) (lanes : List Lane) → held_by (λ w. slice_index vector w) lanes ≡ held_in vector lanes
-held_by-vector vector [] = refl
-held_by-vector vector (l ∷ ls) = ap (λ n. slice (slice_index vector l.word) l.low l.len + 2 ^ l.len * n) (held_by-vector vector ls)
 
 module _ (p : Program) (places : List (List Lane)) (folded : Folded) (good : IsProgram p) (keeps : KeepsApart p places) where
   -- the parameters of an action are few

@@ -7,5 +7,4 @@ pub mod EffectLaws
 pub mod FormedLaws
 pub mod GivenLaws
 pub mod InstructionLaws
-pub mod HeldLaws
 mod Examples

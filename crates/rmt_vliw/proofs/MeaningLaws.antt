@@ -67,10 +67,6 @@ is_expr p params width (Joined op a b) e is h = is_two p params width op a b (le
 -- ---- assignments, one after another
 
 module _ (p : Program) (params : List ℕ) where
-  -- each field's term has its width
-  AreTerms : Terms → Type 0
-  AreTerms terms = (f : ℕ) → f < length p.fields → IsTerm p params (width_of p f) (terms f)
-
   in_place_is : (terms : Terms) → ((f : ℕ) → f < length p.fields → IsTerm p params (width_of p f) (terms f)) → (width : ℕ) (x : Leaf) → IsLeaf p params width x → IsTerm p params width (in_place terms x)
   in_place_is terms are width (leaf.Field f) h = subst (λ w. IsTerm p params w (terms f)) h.1 (are f h.0)
   in_place_is terms are width (leaf.Param i) h = h

@@ -1,11 +1,9 @@
 -- The operations of an instruction, each by its value and its piece.
 use Rattle.std.proofs.Common.{◌≡◌, ℕ, zero, suc, ◌+◌, ◌<◌, Bool, true, false, cond, List, [], ◌∷◌, get_or, take, length, map, Some, refl, sym, ap, ◌∙◌, subst, inl, inr, ⊎_elim, arith}
 use Rattle.std.specs.Prelude.{◌==◌, All, Contains, find}
-use Rattle.std.specs.List.{flat_map}
 use Rattle.std.proofs.lemmas.Bool.{cases_Bool, cases_eq, cases_order, both_ways, eq-eqb, eqb-true}
-use Rattle.std.proofs.lemmas.Option.{none-some}
 use Rattle.std.proofs.lemmas.List.{length-map, get_or-map}
-use Rattle.std.proofs.lemmas.List.Elements.{All-head, All-tail, All-weaker, Contains-get_or, Contains-append_left, Contains-append_right}
+use Rattle.std.proofs.lemmas.List.Elements.{All-head, All-tail, All-weaker, Contains-get_or}
 use Rattle.std.proofs.lemmas.List.Sorted.{All-permutation, Contains-permutation}
 use Rattle.rmt_bits.proofs.AllLaws.{All-flat_map}
 use Rattle.rmt_bits.specs.Bits.{deposit}
@@ -19,8 +17,10 @@ use Rattle.rmt_config.specs.CodeForm.{lane_of_operation}
 use Rattle.rmt_config.specs.Life.{Words, source_of, computed, written, op_on}
 use Rattle.rmt_vliw.specs.declared.piece.Piece.{Piece}
 use Rattle.rmt_vliw.specs.Operations.{operation_for, operations_from, operations_for, operations_of, IsInstruction}
-use Rattle.rmt_vliw.proofs.PieceLaws.{begins, piece_of, bits_of_lanes-cons}
+use Rattle.rmt_vliw.proofs.PieceLaws.{begins, piece_of}
 use Rattle.rmt_vliw.proofs.ValueLaws.{AreFolded, one_value}
+use Rattle.rmt_config.proofs.HeldLaws.{bits_of_lanes-cons}
+use Rattle.rmt_bits.proofs.MemberLaws.{Contains-later, Contains-flat_map}
 
 -- ---- look-ups
 
@@ -38,26 +38,6 @@ find_one {X} test (y ∷ ys) x there passes only =
     ap (λ (b : Bool). cond b (Some y) (find test ys)) fails
     ∙ find_one test ys x (contains_later test y ys x there.0 there.1 there.2 fails passes) passes (All-tail (λ (z : X). test z ≡ true → z ≡ x) y ys only))
     (cases_Bool (test y))
-
--- and what is found passes
-pub find_passes : {X : Type 0} (test : X → Bool) (xs : List X) (x : X) → find test xs ≡ Some x → test x ≡ true
-find_passes test [] x is = absurd (none-some x is)
-find_passes test (y ∷ ys) x is =
-    ⊎_elim
-    (λ (here : test y ≡ true).
-    (let same : Some y ≡ Some x = sym (ap (λ (b : Bool). cond b (Some y) (find test ys)) here) ∙ is in
-    let e : y ≡ x = cc in
-    sym (ap test e) ∙ here))
-    (λ (fails : test y ≡ false). find_passes test ys x (sym (ap (λ (b : Bool). cond b (Some y) (find test ys)) fails) ∙ is))
-    (cases_Bool (test y))
-
-pub contains_cons : {X : Type 0} (y : X) (ys : List X) (x : X) → Contains ys x → Contains (y ∷ ys) x
-contains_cons y ys x h = (suc h.0, (let lt = h.1 in omega (arith, lt)), h.2)
-
-contains_flat : {X Y : Type 0} (f : X → List Y) (xs : List X) (x : X) (y : Y) (k : ℕ) → k < length xs → get_or xs k x ≡ x → Contains (f x) y → Contains (flat_map f xs) y
-contains_flat f [] x y k lt is h = absurd (omega (arith, lt))
-contains_flat f (z ∷ zs) x y zero lt is h = Contains-append_left (f z) (flat_map f zs) y (subst (λ w. Contains (f w) y) (sym is) h)
-contains_flat f (z ∷ zs) x y (suc k) lt is h = Contains-append_right (f z) (flat_map f zs) y (contains_flat f zs x y k (omega (arith, lt)) is h)
 
 -- ---- the operations
 
@@ -125,7 +105,7 @@ module _ (places : List (List Lane)) (params : List ℕ) where
   from_has e number low [] k d lt = absurd (omega (arith, lt))
   from_has e number low (l ∷ ls) zero d lt = (0, omega arith, first_at e number low l ls d)
   from_has e number low (l ∷ ls) (suc k) d lt =
-      contains_cons (operation_for places params e (record { number = number; low = low; len = l.len }) l) (operations_from places params e (number + 1) (low + l.len) ls)
+      Contains-later (operation_for places params e (record { number = number; low = low; len = l.len }) l) (operations_from places params e (number + 1) (low + l.len) ls)
       (operation_for places params e (record { number = number + suc k; low = low + begins (l ∷ ls) (suc k); len = (get_or ls k d).len }) (get_or ls k d))
       (subst (Contains (operations_from places params e (number + 1) (low + l.len) ls)) (next_at e number low l ls k (get_or ls k d)) (from_has e (number + 1) (low + l.len) ls k d (omega (arith, lt))))
 
@@ -152,7 +132,7 @@ module _ (places : List (List Lane)) (params : List ℕ) where
 
   pub ops_has : (values : List Assign) (v : Assign) (k : ℕ) (d : Lane) → Contains values v → k < length (lanes_of places v.dest) → Contains (operations_of places params values) (op_at places params v k d)
   ops_has values v k d there lt =
-      contains_flat (operations_for places params) values v (op_at places params v k d) there.0 there.1 there.2
+      Contains-flat_map (operations_for places params) values v (op_at places params v k d) there
       (subst (Contains (operations_for places params v)) (at_zero v k d) (from_has v.expr 0 0 (lanes_of places v.dest) k d lt))
 
 -- ---- the operation on a word

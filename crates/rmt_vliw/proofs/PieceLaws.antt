@@ -1,18 +1,14 @@
 -- Pieces of numbers that lanes hold.
 use Rattle.std.proofs.Common.{◌≡◌, ℕ, zero, suc, ◌+◌, ◌-◌, ◌*◌, ◌^◌, ◌<◌, ◌≤◌, ◌⊎◌, Bool, true, false, cond, List, [], ◌∷◌, ◌++◌, get_or, take, length, map, replicate, Option, Some, None, refl, sym, ap, ◌∙◌, inl, inr, ⊎_elim, arith}
-use Rattle.std.specs.Prelude.{◌/◌, ◌%◌, ◌==◌, All, bit_and, bit_or, bit_xor, sum, slice_get, slice_index, option_map, unwrap_or}
+use Rattle.std.specs.Prelude.{◌/◌, ◌%◌, ◌==◌, bit_and, bit_or, bit_xor, sum, slice_get, slice_index}
 use Rattle.std.specs.List.{AllZip}
-use Rattle.std.proofs.lemmas.Nat.{pow_pos, shr_high, mod_low, mod_below, shr-shr, field_of, and_shr, or_shr, xor_shr, and_mod, or_mod, xor_mod, and_le_l, or_lt, xor_lt}
-use Rattle.std.proofs.Math.Pow.{mod-mod-pow}
+use Rattle.std.proofs.lemmas.Nat.{pow_pos, shr_high, mod_low, mod_below, and_shr, or_shr, xor_shr, and_mod, or_mod, xor_mod}
 use Rattle.std.proofs.lemmas.Bool.{cases_Bool, cases_lt}
-use Rattle.std.proofs.lemmas.Bool.Decides.{eqb_tells}
 use Rattle.std.proofs.lemmas.List.{length-map, get_or-map, take-map}
-use Rattle.std.proofs.lemmas.List.Elements.{All-nil}
-use Rattle.std.proofs.lemmas.List.Sums.{sum_by-cons, sum_by-append}
 use Rattle.std.proofs.lemmas.Option.{slice_get-get_or}
 use Rattle.rmt_bits.specs.Bits.{slice}
 use Rattle.rmt_bits.specs.declared.lane.Lane.{Lane}
-use Rattle.rmt_bits.proofs.BitLaws.{slice-lt, slice-add}
+use Rattle.rmt_bits.proofs.BitLaws.{slice-lt, slice-add, slice-slice, slice-whole}
 use Rattle.rmt_vliw.specs.Types.{Program, Field, Expr, Leaf, Op}
 use Rattle.rmt_ast.specs.declared.program.Expr.TheVariants.{One, Two}
 use Rattle.rmt_ast.specs.declared.program.Leaf.TheVariants as leaf
@@ -23,30 +19,16 @@ use Rattle.rmt_ast.specs.Places.{lanes_of}
 use Rattle.rmt_ast.specs.WellFormed.{Fits, IsLeaf, IsOp, IsExpr}
 use Rattle.rmt_ast.proofs.StateLaws.{value_fits}
 use Rattle.rmt_phv.specs.Packing.{pieces}
-use Rattle.rmt_phv.specs.Places.{LiesInWord, lengths_of, KeepsApart}
+use Rattle.rmt_phv.specs.Places.{KeepsApart}
 use Rattle.rmt_config.specs.LaneForm.{bits_of_lanes}
 use Rattle.rmt_config.specs.Life.{Words, lane_of, source_of, computed}
 use Rattle.rmt_vliw.specs.declared.piece.Piece.{Piece}
-use Rattle.rmt_vliw.specs.Operations.{begin_of, lane_source, source_for, kind_for, operation_for}
-use Rattle.rmt_vliw.specs.Effects.{held_by, Hold, HasArguments}
+use Rattle.rmt_vliw.specs.Operations.{lane_source, source_for, kind_for, operation_for}
+use Rattle.rmt_config.specs.Effects.{held_by, Hold, HasArguments, begin_of}
+use Rattle.rmt_config.proofs.HeldLaws.{bits_of_lanes-cons, computed-lt}
+use Rattle.rmt_phv.proofs.LaneLaws.{lanes_cut, lanes_width}
 
 -- ---- numbers
-
--- all bits of a number
-pub slice-whole : (x w : ℕ) → x < 2 ^ w → slice x 0 w ≡ x
-slice-whole x w h =
-    let none : x / 2 ^ 0 ≡ x = omega arith in
-    let small : x % 2 ^ w ≡ x = (let at : 0 * 2 ^ w + x ≡ x = omega arith in sym (ap (λ n. n % 2 ^ w) at) ∙ mod_low 0 w x h) in
-    ap (λ n. n % 2 ^ w) none ∙ small
-
--- bits of bits
-pub slice-slice : (v a w low len : ℕ) → low + len ≤ w → slice (slice v a w) low len ≡ slice v (a + low) len
-slice-slice v a w low len within =
-    let x = v / 2 ^ a in
-    let short : x % 2 ^ w % 2 ^ (len + low) ≡ x % 2 ^ (len + low) =
-    (let split : w ≡ w - (len + low) + (len + low) = omega (arith, within) in
-    ap (λ k. x % 2 ^ k % 2 ^ (len + low)) split ∙ mod-mod-pow x (w - (len + low)) (len + low)) in
-    sym (field_of (x % 2 ^ w) len low) ∙ ap (λ n. n / 2 ^ low) short ∙ field_of x len low ∙ ap (λ n. n % 2 ^ len) (shr-shr v a low)
 
 two_parts : (a b c d len : ℕ) → a < 2 ^ len → d < 2 ^ len → a + 2 ^ len * b ≡ c * 2 ^ len + d → (a ≡ d) × (b ≡ c)
 two_parts a b c d len ha hd e =
@@ -63,9 +45,6 @@ slice-xor : (a b low len : ℕ) → bit_xor (slice a low len) (slice b low len) 
 slice-xor a b low len = sym (ap (λ n. n % 2 ^ len) (xor_shr a b low) ∙ xor_mod (a / 2 ^ low) (b / 2 ^ low) len)
 
 -- ---- lanes one behind another
-
-pub bits_of_lanes-cons : (l : Lane) (ls : List Lane) → bits_of_lanes (l ∷ ls) ≡ l.len + bits_of_lanes ls
-bits_of_lanes-cons l ls = sum_by-cons (λ (n : ℕ). n) l.len (map (λ (x : Lane). x.len) ls)
 
 -- the bit at which a lane's piece begins
 abbrev pub begins : List Lane → ℕ → ℕ
@@ -107,13 +86,6 @@ held_from words v low (l ∷ ls) r =
     let whole : slice v low (bits_of_lanes (l ∷ ls)) ≡ slice v (low + l.len) (bits_of_lanes ls) * 2 ^ l.len + slice v low l.len = ap (slice v low) bits ∙ slice-add v low (bits_of_lanes ls) l.len in
     ap (λ n. n + 2 ^ l.len * held_by words ls) here ∙ ap (λ n. slice v low l.len + 2 ^ l.len * n) rest ∙ (let turned : slice v low l.len + 2 ^ l.len * slice v (low + l.len) (bits_of_lanes ls) ≡ slice v (low + l.len) (bits_of_lanes ls) * 2 ^ l.len + slice v low l.len = omega arith in turned) ∙ sym whole
 
--- lanes that read the same hold the same
-pub held_same : (one two : Words) (lanes : List Lane) → ((k : ℕ) (d : Lane) → k < length lanes → lane_of one (get_or lanes k d) ≡ lane_of two (get_or lanes k d)) → held_by one lanes ≡ held_by two lanes
-held_same one two [] same = refl
-held_same one two (l ∷ ls) same =
-    ap (λ n. n + 2 ^ l.len * held_by one ls) (same 0 l (omega arith))
-    ∙ ap (λ n. lane_of two l + 2 ^ l.len * n) (held_same one two ls (λ k d lt. same (suc k) d (omega (arith, lt))))
-
 -- a piece ends within all bits
 pub begins-le : (lanes : List Lane) (k : ℕ) (d : Lane) → k < length lanes → begins lanes k + (get_or lanes k d).len ≤ bits_of_lanes lanes
 begins-le [] k d lt = absurd (omega (arith, lt))
@@ -139,23 +111,6 @@ module _ (xs ys : List Lane) (cut : map (λ (l : Lane). l.len) xs ≡ map (λ (l
   alike-begins k = sym (ap sum (take-map (λ (l : Lane). l.len) k xs)) ∙ ap (λ ns. sum (take k ns)) cut ∙ ap sum (take-map (λ (l : Lane). l.len) k ys)
 
 -- ---- the pieces of a width
-
-pub pieces_bits : (w : ℕ) → sum (pieces w) ≡ w
-pieces_bits w =
-    let front = sum-same (w / 32) in
-    let parts = sum_by-append (λ (n : ℕ). n) (replicate (w / 32) 32) (cond (w % 32 == 0) [] ((w % 32) ∷ [])) in
-    elim (eqb_tells (w % 32) 0) [
-      | inl (is, e) ↦
-          let none : sum (cond (w % 32 == 0) [] ((w % 32) ∷ [])) ≡ 0 = ap (λ (b : Bool). sum (cond b [] ((w % 32) ∷ []))) is in
-          omega (arith, front, parts, none, e)
-      | inr (is, e) ↦
-          let one : sum (cond (w % 32 == 0) [] ((w % 32) ∷ [])) ≡ w % 32 = ap (λ (b : Bool). sum (cond b [] ((w % 32) ∷ []))) is ∙ (let alone : sum ((w % 32) ∷ []) ≡ w % 32 = omega arith in alone) in
-          omega (arith, front, parts, one)
-    ]
-  where
-    sum-same : (n : ℕ) → sum (replicate n 32) ≡ 32 * n
-    sum-same zero = refl
-    sum-same (suc n) = let rest = sum-same n in let step = sum_by-cons (λ (k : ℕ). k) 32 (replicate n 32) in omega (arith, rest, step)
 
 pieces_few : (w : ℕ) → w ≤ 32 → (pieces w ≡ []) ⊎ (pieces w ≡ w ∷ [])
 pieces_few w le =
@@ -185,31 +140,6 @@ one_piece lanes w k d cut le lt =
       | inl none ↦ let short : length lanes ≡ 0 = sym (length-map lanes (λ (l : Lane). l.len)) ∙ ap length (cut ∙ none) in absurd (omega (arith, short, lt))
       | inr one ↦ lanes_few lanes w k d (cut ∙ one) lt
     ]
-
--- ---- places
-
-cut_in : (places : List (List Lane)) (fs : List Field) (f : ℕ) → lengths_of places ≡ map (λ (x : Field). pieces x.width) fs
-    → map (λ (l : Lane). l.len) (lanes_of places f) ≡ pieces (unwrap_or (option_map (λ (x : Field). x.width) (slice_get fs f)) 0)
-cut_in [] [] f cut = refl
-cut_in [] (x ∷ fs) f cut = absurd cc
-cut_in (ls ∷ places) [] f cut = absurd cc
-cut_in (ls ∷ places) (x ∷ fs) zero cut = let here : map (λ (l : Lane). l.len) ls ≡ pieces x.width = cc in here
-cut_in (ls ∷ places) (x ∷ fs) (suc f) cut = cut_in places fs f (let rest : lengths_of places ≡ map (λ (y : Field). pieces y.width) fs = cc in rest)
-
-within_in : (places : List (List Lane)) (f : ℕ) → All (λ (ls : List Lane). All LiesInWord ls) places → All LiesInWord (lanes_of places f)
-within_in [] f h = All-nil LiesInWord
-within_in (ls ∷ places) zero h = h 0 ls (omega arith)
-within_in (ls ∷ places) (suc f) h = within_in places f (λ k d lt. h (suc k) d (omega (arith, lt)))
-
-module _ (p : Program) (places : List (List Lane)) (keeps : KeepsApart p places) where
-  pub cut_at : (f : ℕ) → map (λ (l : Lane). l.len) (lanes_of places f) ≡ pieces (width_of p f)
-  cut_at f = cut_in places p.fields f keeps.cut
-
-  pub lane_bits : (f : ℕ) → bits_of_lanes (lanes_of places f) ≡ width_of p f
-  lane_bits f = ap sum (cut_at f) ∙ pieces_bits (width_of p f)
-
-  pub lanes_lie : (f : ℕ) → All LiesInWord (lanes_of places f)
-  lanes_lie f = within_in places f keeps.within
 
 -- ---- operations on pieces
 
@@ -241,7 +171,7 @@ module _ (p : Program) (places : List (List Lane)) (params args s : List ℕ) (w
     (state : IsState p s) (taken : AllZip Fits params args) (has : HasArguments params args held) (hold : Hold places words s) where
   field_reads : (f : ℕ) → f < length p.fields → Reads words (slice_index s f) 0 (lanes_of places f)
   field_reads f within =
-      let bits = lane_bits p places keeps f in
+      let bits = lanes_width p places f keeps.cut in
       reads words (slice_index s f) 0 (lanes_of places f) (hold f ∙ sym (slice-whole (slice_index s f) (width_of p f) (state.fits f within)) ∙ ap (slice (slice_index s f) 0) (sym bits))
 
   -- what a source reads is the piece of the operand
@@ -252,7 +182,7 @@ module _ (p : Program) (places : List (List Lane)) (params args s : List ℕ) (w
       let xs = lanes_of places f in
       let ys = lanes_of places g in
       let len = (get_or xs k d).len in
-      let cut : map (λ (l : Lane). l.len) ys ≡ map (λ (l : Lane). l.len) xs = cut_at p places keeps g ∙ ap pieces is.1 ∙ sym (cut_at p places keeps f) in
+      let cut : map (λ (l : Lane). l.len) ys ≡ map (λ (l : Lane). l.len) xs = lanes_cut p places g keeps.cut ∙ ap pieces is.1 ∙ sym (lanes_cut p places f keeps.cut) in
       let inside : k < length ys = (let long = alike-long ys xs cut in omega (arith, lt, long)) in
       let same : (get_or ys k d).len ≡ len = alike-len ys xs cut k d inside in
       let none : 0 + begins ys k ≡ begins ys k = omega arith in
@@ -266,7 +196,7 @@ module _ (p : Program) (places : List (List Lane)) (params args s : List ℕ) (w
       let xs = lanes_of places f in
       let len = (get_or xs k d).len in
       let ends = begins-le xs k d lt in
-      let bits = lane_bits p places keeps f in
+      let bits = lanes_width p places f keeps.cut in
       sym (slice-slice held (begin_of params i) (width_of p f) (begins xs k) len (omega (arith, ends, bits)))
       ∙ ap (λ n. slice n (begins xs k) len) (has i (width_of p f) is)
   source_piece f k d lt (leaf.Number n) is = refl
@@ -287,7 +217,7 @@ module _ (p : Program) (places : List (List Lane)) (params args s : List ℕ) (w
       ap (λ n. computed (kind_for op) len n (source_of words held len (source_for places params piece y))) (source_piece f k d lt x is.1)
       ∙ ap (λ n. computed (kind_for op) len (slice (operand s args x) (begins xs k) len) n) (source_piece f k d lt y is.2)
       ∙ applied_piece op (width_of p f) (operand s args x) (operand s args y) (begins xs k) len (leaf_fits (width_of p f) x is.1) (leaf_fits (width_of p f) y is.2) is.0
-      (λ few. one_piece xs (width_of p f) k d (cut_at p places keeps f) few lt)
+      (λ few. one_piece xs (width_of p f) k d (lanes_cut p places f keeps.cut) few lt)
 
 -- ---- what is written fits its lane
 
@@ -300,15 +230,8 @@ source_fits places params words held piece (leaf.Field f) = lane_fits (slice_get
 source_fits places params words held piece (leaf.Param i) = slice-lt held (begin_of params i + piece.low) piece.len
 source_fits places params words held piece (leaf.Number n) = slice-lt n piece.low piece.len
 
-computed_fits : (op : Op) (len a b : ℕ) → a < 2 ^ len → b < 2 ^ len → computed (kind_for op) len a b < 2 ^ len
-computed_fits Add len a b ha hb = mod_below (a + b) (2 ^ len) (pow_pos len)
-computed_fits Sub len a b ha hb = mod_below (a + 2 ^ len - b) (2 ^ len) (pow_pos len)
-computed_fits And len a b ha hb = let le : bit_and a b ≤ a = and_le_l a b in omega (arith, le, ha)
-computed_fits Or len a b ha hb = or_lt len a b ha hb
-computed_fits Xor len a b ha hb = xor_lt len a b ha hb
-
 pub operation_fits : (places : List (List Lane)) (params : List ℕ) (words : Words) (held : ℕ) (e : Expr) (piece : Piece) (lane : Lane) → (let op = operation_for places params e piece lane in
     computed op.kind piece.len (source_of words held piece.len op.left) (source_of words held piece.len op.right)) < 2 ^ piece.len
 operation_fits places params words held (One x) piece lane = source_fits places params words held piece x
 operation_fits places params words held (Two op x y) piece lane =
-    computed_fits op piece.len _ _ (source_fits places params words held piece x) (source_fits places params words held piece y)
+    computed-lt (kind_for op) piece.len _ _ (source_fits places params words held piece x) (source_fits places params words held piece y)

@@ -124,9 +124,6 @@ are_folded p places n folded good keeps h =
 -- ---- a state with all values set
 
 module _ (p : Program) (args s : List ℕ) where
-  abbrev one_set : List ℕ → Assign → List ℕ
-  one_set t v = slice_set t v.dest (value_of (width_of p v.dest) v.expr s args)
-
   unset : (values : List Assign) (t : List ℕ) (f : ℕ) → All (λ (v : Assign). f ≢ v.dest) values → slice_index (fold (λ t v. slice_set t v.dest (value_of (width_of p v.dest) v.expr s args)) t values) f ≡ slice_index t f
   unset [] t f other = refl
   unset (v ∷ vs) t f other =

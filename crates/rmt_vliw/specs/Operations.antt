@@ -1,5 +1,5 @@
 -- The operations of an instruction: one for each piece of each field that is written.
-use Rattle.std.specs.Prelude.{ℕ, ◌+◌, List, [], ◌∷◌, Option, Some, None, slice_get, slice_index, sum, take}
+use Rattle.std.specs.Prelude.{ℕ, ◌+◌, List, [], ◌∷◌, Option, Some, None, slice_get, slice_index}
 use Rattle.std.specs.List.{flat_map}
 use Rattle.std.specs.List.Sorted.{IsPermutation, IsNonDecreasingBy}
 use Rattle.rmt_bits.specs.Bits.{slice}
@@ -12,10 +12,7 @@ use Rattle.rmt_ast.specs.Places.{lanes_of}
 use Rattle.rmt_config.specs.declared.config.OpKind.TheVariants as kind
 use Rattle.rmt_config.specs.declared.config.Source.TheVariants.{Word, Held, Constant}
 use Rattle.rmt_vliw.specs.declared.piece.Piece.{Piece}
-
--- the bit of an entry's data at which a parameter begins: they lie in order, the first from bit 0 upward
-abbrev pub begin_of : List ℕ → ℕ → ℕ
-begin_of params i = sum (take i params)
+use Rattle.rmt_config.specs.Effects.{begin_of}
 
 -- the bits of a lane; a piece that isn't there has none
 abbrev pub lane_source : Option Lane → Source

@@ -4,7 +4,8 @@ ghost use Rattle.std.specs.Prelude.{◌≡◌, ◌+◌, ◌≤◌, ◌++◌, OnO
 ghost use Rattle.rmt_bits.specs.declared.lane.Lane.{Lane};
 ghost use Rattle.rmt_config.specs.LaneForm.{bits_of_lanes};
 ghost use Rattle.rmt_ast.specs.Places.{lanes_of};
-ghost use Rattle.rmt_vliw.specs.Operations.{begin_of as begin_of_param, source_for as source_of, lane_source as source_of_lane, kind_for as kind_of, operation_for as operation_of, operations_for, operations_from};
+ghost use Rattle.rmt_vliw.specs.Operations.{source_for as source_of, lane_source as source_of_lane, kind_for as kind_of, operation_for as operation_of, operations_for, operations_from};
+ghost use Rattle.rmt_config.specs.Effects.{begin_of as begin_of_param};
 
 use crate::piece::Piece;
 use rmt_ast::program::{Assign, Expr, Leaf, Op};

@@ -1,17 +1,17 @@
 -- Where a configuration carries entries, each number that its slots list is that of an entry.
-use Rattle.std.proofs.Common.{◌≡◌, ℕ, zero, suc, ◌+◌, ◌<◌, true, ◌==◌, List, [], ◌∷◌, Some, get_or, refl, sym, ap, ◌∙◌, subst, inl, inr, arith}
+use Rattle.std.proofs.Common.{◌≡◌, ℕ, ◌<◌, true, ◌==◌, List, Some, get_or, refl, sym, ap, ◌∙◌, subst, inl, inr, arith}
 use Rattle.std.specs.Prelude.{All, Contains, map, option_and_then, option_map, slice_get, unwrap_or}
 use Rattle.std.proofs.lemmas.Bool.{cases_order, eq-eqb, eqb-true}
 use Rattle.std.proofs.lemmas.List.{get_or_default}
-use Rattle.std.proofs.lemmas.List.Elements.{All-contains_itself, All-head, All-map, All-nil, All-tail, All-contains}
-use Rattle.std.proofs.lemmas.Option.{none-some, same_Some, slice_get-get_or}
+use Rattle.std.proofs.lemmas.List.Elements.{All-contains_itself, All-map, All-nil, All-contains}
+use Rattle.std.proofs.lemmas.Option.{slice_get-get_or}
 use Rattle.rmt_bits.proofs.AllLaws.{All-flat_map, All-slice_get}
 use Rattle.rmt_core.specs.Types.{Program, Table, Node, What, Config, Stage, Unit, SlotUnit, CellNumber}
 use Rattle.rmt_ast.specs.declared.program.What.TheVariants as what
 use Rattle.rmt_ast.specs.declared.entry.Entry.{Entry}
 use Rattle.rmt_ast.specs.EntryLists.{AreEntries}
 use Rattle.rmt_config.specs.declared.config.Unit.TheVariants.{Gate, Slot}
-use Rattle.rmt_config.specs.CellForm.{Coded, SlotHolds, StageHolds, coded_from, entry_numbers, numbers_of_stage, numbers_of_unit}
+use Rattle.rmt_config.specs.CellForm.{Coded, SlotHolds, StageHolds, entry_numbers, numbers_of_stage, numbers_of_unit}
 use Rattle.rmt_config.specs.Cells.{Content, content_of, is_seen, number_of_cell}
 use Rattle.rmt_config.specs.Order.{rises_from}
 use Rattle.rmt_config.proofs.RiseLaws.{rise-below}
@@ -21,23 +21,12 @@ use Rattle.rmt_refine.specs.Units.{DoesAs, TableCarried, applied, table_at}
 use Rattle.rmt_refine.specs.Cells.{Spot}
 use Rattle.rmt_refine.specs.Carries.{Carries}
 use Rattle.rmt_refine.specs.Outcomes.{entries_at}
-use Rattle.rmt_refine.proofs.CellNumberLaws.{cells_listed}
-use Rattle.rmt_refine.proofs.FindLaws.{find-passes, find-some}
+use Rattle.rmt_refine.proofs.CellNumberLaws.{cells_listed, coded_slot}
+use Rattle.rmt_refine.proofs.FindLaws.{find-some, found_passes}
 use Rattle.rmt_refine.proofs.OutcomeLaws.{list_at}
 use Rattle.rmt_refine.proofs.PartLaws.{IsPart, slot_of_part, some_and, spot_of_part, unit_of_part}
 
 -- ---- what a slot lists
-
--- the rules of form of a slot
-coded_slot : (P : Coded → Type 0) (units : List Unit) (first place : ℕ) (slot : SlotUnit) → option_and_then as_slot (slice_get units place) ≡ Some slot → All P (coded_from first units)
-    → (f : ℕ) × P (record { first = f; slot = slot })
-coded_slot P [] first place slot e all = absurd (none-some slot e)
-coded_slot P ((Gate g) ∷ units) first zero slot e all = absurd (none-some slot e)
-coded_slot P ((Gate g) ∷ units) first (suc place) slot e all = coded_slot P units first place slot e all
-coded_slot P ((Slot s) ∷ units) first zero slot e all =
-    (first, subst (λ x. P (record { first = first; slot = x })) (same_Some s slot e) (All-head P (record { first = first; slot = s }) (coded_from (first + s.actions + 1) units) all))
-coded_slot P ((Slot s) ∷ units) first (suc place) slot e all =
-    coded_slot P units (first + s.actions + 1) place slot e (All-tail P (record { first = first; slot = s }) (coded_from (first + s.actions + 1) units) all)
 
 -- items that rise are the same where their numbers are
 one_cell : (numbers : List CellNumber) (x y : CellNumber) → rises_from 0 (map (λ (n : CellNumber). n.cell) numbers) ≡ true → Contains numbers x → Contains numbers y → x.cell ≡ y.cell → x ≡ y
@@ -56,7 +45,7 @@ one_cell numbers x y rises in_x in_y same =
 number_listed : (numbers : List CellNumber) (x : CellNumber) → rises_from 0 (map (λ (n : CellNumber). n.cell) numbers) ≡ true → Contains numbers x → number_of_cell numbers x.cell ≡ x.number
 number_listed numbers x rises there =
     let first = find-some (λ (n : CellNumber). n.cell == x.cell) numbers x there (eq-eqb x.cell x.cell refl) in
-    let passes = find-passes (λ (n : CellNumber). n.cell == x.cell) numbers first.0 first.1 in
+    let passes = found_passes (λ (n : CellNumber). n.cell == x.cell) numbers first.0 first.1 in
     let same : first.0 ≡ x = one_cell numbers first.0 x rises passes.0 there (eqb-true first.0.cell x.cell passes.1) in
     ap (λ o. unwrap_or (option_map (λ (n : CellNumber). n.number) o) 0) first.1 ∙ ap (λ (n : CellNumber). n.number) same
 

@@ -14,7 +14,8 @@ use Rattle.rmt_build.specs.Loads.{AreAllLoaded, IsFirstSeed}
 use Rattle.rmt_build.specs.Plans.{AreParts}
 use Rattle.rmt_build.proofs.QuantaLaws.{exact_quanta}
 use Rattle.rmt_build.proofs.LoadedLaws.{they_stand}
-use Rattle.rmt_build.proofs.PlacedLaws.{in_stages, parts_are, stages_few, starts_long, to_stages}
+use Rattle.rmt_build.proofs.PlacedLaws.{in_stages, parts_are, stages_few, starts_long}
+use Rattle.rmt_place.proofs.LeastLaws.{stage-lt}
 use Rattle.rmt_build.proofs.StartedLaws.{early}
 use Rattle.rmt_build.proofs.joined.plan_of.Goals as goal
 
@@ -65,7 +66,7 @@ returns-clause-plan c =
         distances = subst (λ (es : List Edge). KeepDistances es parts starts) edges begun.kept;
       };
       limits = done.limits;
-      early = early (levels.all_edges deps) parts (length starts) (λ k e there in_k. (let within = to_stages parts e.to k in_k in omega (arith, within, long))) starts refl begun.least;
+      early = early (levels.all_edges deps) parts (length starts) (λ k e there in_k. (let within = stage-lt parts e.to k in_k in omega (arith, within, long))) starts refl begun.least;
       loaded = loaded;
       exact = exact_quanta p places deps parts c.requires.program done.placed are;
       few_stages = let few = stages_few parts done.stages in omega (arith, few, long);

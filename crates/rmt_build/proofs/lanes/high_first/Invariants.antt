@@ -1,5 +1,5 @@
 use Rattle.std.proofs.Common.{◌≡◌, take}
-use Rattle.rmt_refine.specs.Places.{high_first}
+use Rattle.rmt_phv.specs.Places.{high_first}
 use Rattle.rmt_build.proofs.lanes.high_first.Given as goal
 
 -- the lanes of the fields so far

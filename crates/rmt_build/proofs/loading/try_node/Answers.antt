@@ -3,7 +3,8 @@ use Rattle.rmt_ast.specs.EntryLists.{AreTableEntries, terms_of}
 use Rattle.rmt_refine.specs.Outcomes.{entries_at}
 use Rattle.rmt_refine.specs.Units.{table_at}
 use Rattle.rmt_build.specs.Tries.{StandOrFull}
-use Rattle.rmt_build.proofs.TriedLaws.{list_is, own_entries}
+use Rattle.rmt_build.proofs.TriedLaws.{list_is}
+use Rattle.rmt_refine.proofs.OutcomeLaws.{own_entries}
 use Rattle.rmt_build.proofs.loading.try_node.Goals as goal
 
 pub try_table-requires-clause-entries : goal.try_table-requires-clause-entries

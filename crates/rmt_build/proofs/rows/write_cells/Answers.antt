@@ -24,13 +24,11 @@ pub write_exact-requires : goal.write_exact-requires
 write_exact-requires c =
     let p = c.args.part.now.program.now in
     let t = c.args.part.now.table.now in
-    let es = c.args.part.now.entries.now in
     let none : Stand = record { cell = 0; entry = 0 } in
     let x = get_or c.args.part.now.stands.now c.loop-stand.stand-index none in
     let e = c.placed_entry-placed.result.entry.now in
-    let at : slice_get es x.entry ≡ Some e = c.placed_entry-placed.ensures.entry in
     let n = c.requires.entries.0 in
-    let is = entry-of p t es c.requires.entries x.entry e at in
+    let is = entry-of p t c.args.part.now.entries.now c.requires.entries x.entry e c.placed_entry-placed.ensures.entry in
     let acts = entry-action p t n e is in
     let params = c.placed_entry-placed.ensures.params in
     record {

@@ -8,8 +8,9 @@ use Rattle.rmt_pack.specs.Rows.{blocks_of}
 use Rattle.rmt_refine.specs.Cells.{tests_as_one}
 use Rattle.rmt_build.specs.Data.{data_of}
 use Rattle.rmt_build.specs.Holding.{head_for}
-use Rattle.rmt_build.proofs.EntryLaws.{data-small, key-number, length-bytes_of, tests_value-lt}
+use Rattle.rmt_build.proofs.EntryLaws.{data-small, key-number, tests_value-lt}
 use Rattle.rmt_build.proofs.rows.write_exact.Goals as goal
+use Rattle.rmt_bits.proofs.ByteLaws.{length-bytes_of}
 
 pub write_cell-requires-clause-key : goal.write_cell-requires-clause-key
 write_cell-requires-clause-key c =

@@ -27,6 +27,9 @@ use Rattle.rmt_build.proofs.HoldLaws.{entry-action, entry-fits}
 use Rattle.rmt_build.proofs.TernaryLaws.{ternary-start, ternary-step}
 use Rattle.rmt_build.proofs.rows.write_rows.Goals as goal
 
+abbrev no_stand : Stand
+no_stand = record { cell = 0; entry = 0 }
+
 -- the blocks of a row are there
 room : (cell quanta each long : ℕ) → cell < 2048 * quanta → long ≡ quanta * each → cell / 2048 * each + each ≤ long
 room cell quanta each long lt is =
@@ -39,18 +42,13 @@ pub write_tests-requires : goal.write_tests-requires
 write_tests-requires c =
     let p = c.args.part.now.program.now in
     let t = c.args.part.now.table.now in
-    let es = c.args.part.now.entries.now in
-    let none : Stand = record { cell = 0; entry = 0 } in
     let i = c.loop-stand.stand-index in
-    let lt = c.loop-stand-test.true in
-    let x = get_or c.args.part.now.stands.now i none in
+    let x = get_or c.args.part.now.stands.now i no_stand in
     let e = c.placed_entry-placed.result.entry.now in
-    let at : slice_get es x.entry ≡ Some e = c.placed_entry-placed.ensures.entry in
-    let n = c.requires.entries.0 in
-    let is = entry-of p t es c.requires.entries x.entry e at in
+    let is = entry-of p t c.args.part.now.entries.now c.requires.entries x.entry e c.placed_entry-placed.ensures.entry in
     let blocks = c.requires.blocks in
     let bits : key_bits p t ≡ sum c.args.widths.now = ap sum (sym c.requires.widths) in
-    let below : x.cell < 2048 * c.args.shape.now.quanta = subst (λ k. x.cell < k) (ternary-cells c.args.shape.now (λ one. let two = c.requires.ternary in omega (arith, one, two))) (c.requires.stands.cells i none lt) in
+    let below : x.cell < 2048 * c.args.shape.now.quanta = subst (λ k. x.cell < k) (ternary-cells c.args.shape.now (λ one. let two = c.requires.ternary in omega (arith, one, two))) (c.requires.stands.cells i no_stand c.loop-stand-test.true) in
     record {
       blocks = blocks.few;
       apart = blocks.apart;
@@ -64,21 +62,16 @@ pub write_head-requires : goal.write_head-requires
 write_head-requires c =
     let p = c.args.part.now.program.now in
     let t = c.args.part.now.table.now in
-    let es = c.args.part.now.entries.now in
-    let none : Stand = record { cell = 0; entry = 0 } in
-    let i = c.loop-stand.stand-index in
-    let lt = c.loop-stand-test.true in
-    let x = get_or c.args.part.now.stands.now i none in
-    let e = c.placed_entry-placed.result.entry.now in
-    let at : slice_get es x.entry ≡ Some e = c.placed_entry-placed.ensures.entry in
     let n = c.requires.entries.0 in
-    let is = entry-of p t es c.requires.entries x.entry e at in
+    let x = get_or c.args.part.now.stands.now c.loop-stand.stand-index no_stand in
+    let e = c.placed_entry-placed.result.entry.now in
+    let is = entry-of p t c.args.part.now.entries.now c.requires.entries x.entry e c.placed_entry-placed.ensures.entry in
     let acts = entry-action p t n e is in
     let params = c.placed_entry-placed.ensures.params in
     let fits : sum c.placed_entry-placed.result.params.now ≤ data_bits p t = subst (λ (ps : List ℕ). sum ps ≤ data_bits p t) (sym params) (data-fits p t e.action acts) in
     record {
       shape = c.requires.shape;
-      cell = c.requires.stands.cells i none lt;
+      cell = c.requires.stands.cells c.loop-stand.stand-index no_stand c.loop-stand-test.true;
       code = let few = c.requires.few in let code = c.placed_entry-placed.ensures.code in omega (arith, acts, few, code);
       held = let held = c.requires.held in omega (arith, fits, held);
       params = c.placed_entry-placed.ensures.widths;
@@ -100,10 +93,9 @@ loop-stand-preserved c =
     let p = c.args.part.now.program.now in
     let t = c.args.part.now.table.now in
     let es = c.args.part.now.entries.now in
-    let none : Stand = record { cell = 0; entry = 0 } in
     let i = c.loop-stand.stand-index in
     let lt = c.loop-stand-test.true in
-    let x = get_or c.args.part.now.stands.now i none in
+    let x = get_or c.args.part.now.stands.now i no_stand in
     let e = c.placed_entry-placed.result.entry.now in
     let at : slice_get es x.entry ≡ Some e = c.placed_entry-placed.ensures.entry in
     let n = c.requires.entries.0 in
@@ -134,10 +126,10 @@ loop-stand-preserved c =
     (subst (λ (ws : List ℕ). PutsRow old.masks new.masks (x.cell % 2048) (blocks_at blocks (divided_up (sum c.args.widths.now) 40) (x.cell / 2048)) (tests_as_one (λ (u : Test). u.mask) ws e.tests)) c.requires.widths c.in_ok-write_tests.ensures.masks) in
     let each = divided_up s.key 40 in
     record {
-      holds = subst (TernarySo p t es c.args.part.now.first new s blocks) (sym (take_more stands i none lt))
-          (ternary-step p t es c.args.part.now.first old new s blocks (take i stands) x e c.requires.shape held c.requires.blocks.apart (c.requires.stands.cells i none lt)
+      holds = subst (TernarySo p t es c.args.part.now.first new s blocks) (sym (take_more stands i no_stand lt))
+          (ternary-step p t es c.args.part.now.first old new s blocks (take i stands) x e c.requires.shape held c.requires.blocks.apart (c.requires.stands.cells i no_stand lt)
           (All-take (λ (y : Stand). y.cell < cells_in s) i stands c.requires.stands.cells)
-          (before-one (λ (a b : Stand). a.cell ≢ b.cell) stands i none c.requires.stands.apart lt) at whole mask puts values masks c.loop-stand.invariant.holds);
+          (before-one (λ (a b : Stand). a.cell ≢ b.cell) stands i no_stand c.requires.stands.apart lt) at whole mask puts values masks c.loop-stand.invariant.holds);
       others = λ b r out. record-elsewhere old.sram new.sram s x.cell (head_for code + 256 * data_for p t e) puts b r out ∙ c.loop-stand.invariant.others b r out;
       other_values = λ b r out. values.elsewhere b r (λ same has. out (unit-listed blocks each (x.cell / 2048 * each) b has)) ∙ c.loop-stand.invariant.other_values b r out;
       other_masks = λ b r out. masks.elsewhere b r (λ same has. out (unit-listed blocks each (x.cell / 2048 * each) b has)) ∙ c.loop-stand.invariant.other_masks b r out;

@@ -8,7 +8,7 @@ use Rattle.rmt_ast.specs.declared.program.What.TheVariants.{Apply}
 use Rattle.rmt_ast.specs.EntryLists.{terms_at}
 use Rattle.rmt_pack.specs.Placements.{quanta_in}
 use Rattle.rmt_pack.proofs.NeedLaws.{data_bits-few, params-small}
-use Rattle.rmt_refine.specs.Places.{high_first}
+use Rattle.rmt_phv.specs.Places.{high_first}
 use Rattle.rmt_refine.specs.Units.{HasKind, guard_of, last_stage}
 use Rattle.rmt_build.specs.declared.stands.Stand.{Stand}
 use Rattle.rmt_build.specs.Plans.{format_at, need_in, quanta_before, stands_of_part}

@@ -7,7 +7,8 @@ use Rattle.std.proofs.lemmas.List.Elements.{All-append, All-cons, All-nil}
 use Rattle.rmt_build.specs.Types.{Unit}
 use Rattle.rmt_pack.specs.Placements.{quanta_in}
 use Rattle.rmt_refine.specs.Units.{UnitCarried}
-use Rattle.rmt_build.proofs.ListLaws.{zip_push, filter_range}
+use Rattle.rmt_build.proofs.ListLaws.{zip_push}
+use Rattle.rmt_bits.proofs.ListLaws.{filter-range_more}
 use Rattle.rmt_build.specs.BuiltStage.{HaveParts, SmallUnit}
 use Rattle.rmt_build.proofs.PlanLaws.{absent_taken}
 use Rattle.rmt_build.proofs.UnitPartLaws.{parts_push}
@@ -31,7 +32,7 @@ loop-node-preserved c =
           let u = w.in_ok-unit_of.field-0 in
           record {
             units = subst (λ us. AllZip R (filter test (range_with_len 0 (n + 1))) us) (sym (w.units-is ∙ w.in_ok-push.ensures.ok))
-                (subst (λ ns. AllZip R ns (c.loop-node.units ++ u ∷ [])) (sym (filter_range test n ∙ ap (λ b. so_far ++ cond b (n ∷ []) []) yes))
+                (subst (λ ns. AllZip R ns (c.loop-node.units ++ u ∷ [])) (sym (filter-range_more test n ∙ ap (λ b. so_far ++ cond b (n ∷ []) []) yes))
                 (zip_push R so_far c.loop-node.units n u c.loop-node.invariant.units w.in_ok-unit_of.ensures.unit));
             parts = subst (HaveParts p c.args.planned.now.entries.now c.args.planned.now.plan.now k) (sym (w.units-is ∙ w.in_ok-push.ensures.ok))
                 (parts_push p c.args.planned.now.entries.now c.args.planned.now.plan.now k c.loop-node.units u c.loop-node.invariant.parts w.in_ok-unit_of.ensures.parts);
@@ -44,7 +45,7 @@ loop-node-preserved c =
           let no_unit : test n ≡ false = le-ltb 0 (quanta_in parts n k) (omega (arith, none)) in
           record {
             units = subst (λ us. AllZip R (filter test (range_with_len 0 (n + 1))) us) (sym w.units-is)
-                (subst (λ ns. AllZip R ns c.loop-node.units) (sym (filter_range test n ∙ (ap (λ b. so_far ++ cond b (n ∷ []) []) no_unit ∙ append-nil so_far))) c.loop-node.invariant.units);
+                (subst (λ ns. AllZip R ns c.loop-node.units) (sym (filter-range_more test n ∙ (ap (λ b. so_far ++ cond b (n ∷ []) []) no_unit ∙ append-nil so_far))) c.loop-node.invariant.units);
             parts = subst (HaveParts p c.args.planned.now.entries.now c.args.planned.now.plan.now k) (sym w.units-is) c.loop-node.invariant.parts;
             small = subst (All SmallUnit) (sym w.units-is) c.loop-node.invariant.small;
             taken = w.taken-is ∙ (c.loop-node.invariant.taken ∙ absent_taken p parts k n none);

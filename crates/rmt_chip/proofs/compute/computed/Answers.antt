@@ -1,5 +1,5 @@
 use Rattle.std.proofs.Common.{◌^◌, ◌<◌, ℕ, sym, subst, rules}
-use Rattle.rmt_chip.proofs.ComputeLaws.{computed-lt}
+use Rattle.rmt_config.proofs.HeldLaws.{computed-lt}
 use Rattle.rmt_chip.proofs.compute.computed.Goals as goal
 
 pub returns-clause-value : goal.returns-clause-value

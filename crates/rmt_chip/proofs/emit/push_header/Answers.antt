@@ -2,7 +2,7 @@ use Rattle.std.proofs.Common.{ℕ, length, ap, ◌∙◌, arith}
 use Rattle.std.specs.Prelude.{slice_index}
 use Rattle.std.proofs.lemmas.List.{length-append}
 use Rattle.rmt_bits.specs.Bits.{bytes_of}
-use Rattle.rmt_chip.proofs.RunLaws.{length-bytes_of}
+use Rattle.rmt_bits.proofs.ByteLaws.{length-bytes_of}
 use Rattle.rmt_config.specs.Life.{key_of}
 use Rattle.rmt_chip.proofs.emit.push_header.Goals as goal
 

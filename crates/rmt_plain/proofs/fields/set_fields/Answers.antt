@@ -4,7 +4,7 @@ use Rattle.std.proofs.lemmas.List.{at_drop_more, at_drop_all}
 use Rattle.rmt_bits.specs.Bits.{number_of, slice}
 use Rattle.rmt_ast.specs.State.{set_fields, width_of}
 use Rattle.rmt_ast.specs.WellFormed.{bits_of}
-use Rattle.rmt_plain.proofs.FieldLaws.{bits_of-drop}
+use Rattle.rmt_ast.proofs.WellFormedLemmas.{bits_of-drop}
 use Rattle.rmt_plain.proofs.fields.set_fields.Goals as goal
 
 pub bits_of_bytes-requires-clause-within : goal.bits_of_bytes-requires-clause-within

@@ -4,7 +4,8 @@ use Rattle.std.proofs.lemmas.List.{at_drop_all}
 use Rattle.rmt_bits.specs.Bits.{number_of, deposit}
 use Rattle.rmt_ast.specs.State.{joined}
 use Rattle.rmt_ast.specs.WellFormed.{bits_of}
-use Rattle.rmt_plain.proofs.FieldLaws.{bits_of-drop, joined-drop, value_held}
+use Rattle.rmt_plain.proofs.FieldLaws.{joined-drop, value_held}
+use Rattle.rmt_ast.proofs.WellFormedLemmas.{bits_of-drop}
 use Rattle.rmt_plain.proofs.WidthLaws.{deposit_onto, high_more, number_of-zero}
 use Rattle.rmt_plain.proofs.sent.fill.Goals as goal
 

@@ -1,12 +1,10 @@
-use Rattle.std.proofs.Common.{◌≡◌, ◌≤◌, None, ap, sym, subst, ◌∙◌, arith}
+use Rattle.std.proofs.Common.{◌≡◌, ◌≤◌, None, sym, subst, ◌∙◌, arith}
 use Rattle.std.specs.Prelude.{length}
-use Rattle.std.proofs.lemmas.List.{length-map}
 use Rattle.rmt_ptcam.specs.Types.{ParserConfig}
 use Rattle.rmt_ptcam.specs.Joining.{KeepsForm}
 use Rattle.rmt_ptcam.specs.Needs.{refusal}
-use Rattle.rmt_ptcam.specs.Clustering.{all_joined, clustered, compact}
-use Rattle.rmt_ptcam.specs.Plain.{plain, state_of}
-use Rattle.rmt_ptcam.proofs.ClusteringLaws.{planned_ok, states_all}
+use Rattle.rmt_ptcam.specs.Plain.{plain}
+use Rattle.rmt_ptcam.proofs.ClusteringLaws.{is_clustered, joined_states, planned_ok}
 use Rattle.rmt_ptcam.proofs.PlainForm.{plain_keeps}
 use Rattle.rmt_ptcam.proofs.FewerLaws.{clustered_few}
 use Rattle.rmt_ptcam.specs.Steps.{MeetsNoMore}
@@ -25,28 +23,26 @@ compact-requires-clause-some c =
     let p = c.args.program.now in
     let places = c.args.places.now in
     let made : (refusal p ≡ None) × (c.in_ok-parser.parser ≡ plain p places) = planned_ok p places c.in_ok-parser.parser (c.in_ok-parser.ensures.made (λ e. cc)) in
-    let a : length c.all_joined.new.parser.states ≡ length c.in_ok-parser.parser.states = ap (λ (q : ParserConfig). length q.states) c.in_ok-all_joined.ensures.joined ∙ states_all p c.in_ok-parser.parser in
-    let b : length c.in_ok-parser.parser.states ≡ length p.headers = ap (λ (q : ParserConfig). length q.states) made.1 ∙ length-map p.headers (state_of p) in
+    let count = joined_states p places c.in_ok-parser.parser c.all_joined.new.parser made.1 c.in_ok-all_joined.ensures.joined in
     let some = c.requires.program.counts.a_header in
-    omega (arith, a, b, some)
+    omega (arith, count, some)
 
 pub compact-requires-clause-few : goal.compact-requires-clause-few
 compact-requires-clause-few c =
     let p = c.args.program.now in
     let places = c.args.places.now in
     let made : (refusal p ≡ None) × (c.in_ok-parser.parser ≡ plain p places) = planned_ok p places c.in_ok-parser.parser (c.in_ok-parser.ensures.made (λ e. cc)) in
-    let a : length c.all_joined.new.parser.states ≡ length c.in_ok-parser.parser.states = ap (λ (q : ParserConfig). length q.states) c.in_ok-all_joined.ensures.joined ∙ states_all p c.in_ok-parser.parser in
-    let b : length c.in_ok-parser.parser.states ≡ length p.headers = ap (λ (q : ParserConfig). length q.states) made.1 ∙ length-map p.headers (state_of p) in
+    let count = joined_states p places c.in_ok-parser.parser c.all_joined.new.parser made.1 c.in_ok-all_joined.ensures.joined in
     let few = c.requires.program.counts.headers in
-    omega (arith, a, b, few)
+    omega (arith, count, few)
 
 pub returns-clause-few : goal.returns-clause-few
 returns-clause-few c =
     let p = c.args.program.now in
     let places = c.args.places.now in
     let made : (refusal p ≡ None) × (c.in_ok-parser.parser ≡ plain p places) = planned_ok p places c.in_ok-parser.parser (c.in_ok-parser.ensures.made (λ e. cc)) in
-    let keeps : KeepsForm (plain p places) = plain_keeps p places c.requires.program c.requires.places made.0 in
-    let is : c.in_ok-compact.field-0 ≡ clustered p places = c.in_ok-compact.ensures.given ∙ ap compact (c.in_ok-all_joined.ensures.joined ∙ ap (all_joined p) made.1) in
+    let keeps = plain_keeps p places c.requires.program c.requires.places made.0 in
+    let is = c.in_ok-compact.ensures.given ∙ is_clustered p places c.in_ok-parser.parser c.all_joined.new.parser made.1 c.in_ok-all_joined.ensures.joined in
     subst (λ (q : ParserConfig). length q.entries ≤ length (plain p places).entries) (sym is) (clustered_few p places keeps)
 
 pub returns-clause-pace : goal.returns-clause-pace
@@ -54,6 +50,6 @@ returns-clause-pace c =
     let p = c.args.program.now in
     let places = c.args.places.now in
     let made : (refusal p ≡ None) × (c.in_ok-parser.parser ≡ plain p places) = planned_ok p places c.in_ok-parser.parser (c.in_ok-parser.ensures.made (λ e. cc)) in
-    let keeps : KeepsForm (plain p places) = plain_keeps p places c.requires.program c.requires.places made.0 in
-    let is : c.in_ok-compact.field-0 ≡ clustered p places = c.in_ok-compact.ensures.given ∙ ap compact (c.in_ok-all_joined.ensures.joined ∙ ap (all_joined p) made.1) in
+    let keeps = plain_keeps p places c.requires.program c.requires.places made.0 in
+    let is = c.in_ok-compact.ensures.given ∙ is_clustered p places c.in_ok-parser.parser c.all_joined.new.parser made.1 c.in_ok-all_joined.ensures.joined in
     subst (λ (q : ParserConfig). MeetsNoMore q p) (sym is) (clustered_pace p places c.requires.program c.requires.places made.0 keeps)

@@ -1,7 +1,6 @@
 use Rattle.std.proofs.Common.{◌≡◌, ◌<◌, ◌≤◌, Bool, List, length, map, take, Option, Some, ap, sym, subst, ◌∙◌, refl, arith}
-use Rattle.std.specs.Prelude.{slice_get, slice_index_or}
+use Rattle.std.specs.Prelude.{slice_get}
 use Rattle.std.specs.List.{filter}
-use Rattle.std.proofs.lemmas.Option.{slice_get_read}
 use Rattle.rmt_ptcam.specs.Types.{ParserEntry, TailOf}
 use Rattle.rmt_config.specs.Parser.{tail_of}
 use Rattle.rmt_ptcam.specs.Joining.{Row, is_among, rows_of}
@@ -9,6 +8,7 @@ use Rattle.rmt_ptcam.specs.Clustering.{renamed}
 use Rattle.rmt_ptcam.proofs.AddingLaws.{adds_at, all_rows, added_own, added_not, few_own, length_added, row_of}
 use Rattle.rmt_ptcam.proofs.compact.push_kept.Goals.{then-is_among+in_ok-entry+in_ok-push_row, else-is_among}
 use Rattle.rmt_ptcam.proofs.compact.push_kept.Goals as goal
+use Rattle.rmt_bits.proofs.ListLaws.{slice_get-seen}
 
 pub push_row-requires : goal.push_row-requires
 push_row-requires c =
@@ -26,9 +26,7 @@ loop-number-preserved c =
     let es = parser.entries in
     let n = c.loop-number.number in
     let e : ParserEntry = c.index-others-number.result in
-    let read : e ≡ slice_index_or es n e = c.index-others-number.is ∙ ap (λ (xs : List ParserEntry). slice_index_or xs n e) c.as_slice-others.ensures in
-    let inside : n < length es = subst (λ (xs : List ParserEntry). n < length xs) c.as_slice-others.ensures c.loop-number-test.true in
-    let there : slice_get es n ≡ Some e = slice_get_read es (length es) n e refl inside read in
+    let there : slice_get es n ≡ Some e = slice_get-seen es _ n e c.as_slice-others.ensures c.loop-number-test.true c.index-others-number.is in
     let rename = renamed (is_among c.args.met.now) in
     let kept : Row → Bool = λ x. is_among c.args.met.now x.entry.state in
     let old : Row = record { entry = e; tail = tail_of parser n } in

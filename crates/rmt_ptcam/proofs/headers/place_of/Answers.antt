@@ -1,6 +1,7 @@
 use Rattle.std.proofs.Common.{arith}
-use Rattle.rmt_ptcam.proofs.NeedLaws.{bits_of-drop, place_found, place_further, place_past}
+use Rattle.rmt_ptcam.proofs.NeedLaws.{place_found, place_further, place_past}
 use Rattle.rmt_ptcam.proofs.headers.place_of.Goals as goal
+use Rattle.rmt_ast.proofs.WellFormedLemmas.{bits_of-drop}
 
 pub returns-then-other-field-clause-place : goal.returns-then-other-field-clause-place
 returns-then-other-field-clause-place c =

@@ -2,8 +2,9 @@ use Rattle.std.proofs.Common.{◌≡◌, ◌-◌, ◌+◌, ◌<◌, ◌++◌, �
 use Rattle.std.specs.Prelude.{slice_get}
 use Rattle.std.proofs.lemmas.Option.{slice_get_read}
 use Rattle.rmt_ptcam.specs.Types.{ParserState}
-use Rattle.rmt_ptcam.proofs.AddingLaws.{get_drop, take_next}
+use Rattle.rmt_ptcam.proofs.AddingLaws.{get_drop}
 use Rattle.rmt_ptcam.proofs.joining.push_states.Goals as goal
+use Rattle.rmt_bits.proofs.ListLaws.{take-slice_get}
 
 pub loop-number-preserved : goal.loop-number-preserved
 loop-number-preserved c =
@@ -19,4 +20,4 @@ loop-number-preserved c =
     c.in_ok-push.ensures.ok ∙ ap (λ (l : List ParserState). l ++ (record { lookups = c.in_ok-lookups.lookups }) ∷ []) c.loop-number.invariant
     ∙ ap (λ (x : ParserState). (c.args.states.now ++ take k (drop c.args.start xs)) ++ x ∷ []) copy
     ∙ append_assoc c.args.states.now (take k (drop c.args.start xs)) (s ∷ [])
-    ∙ ap (λ (l : List ParserState). c.args.states.now ++ l) (sym (ap (λ m. take m (drop c.args.start xs)) one ∙ take_next (drop c.args.start xs) k s (get_drop xs c.args.start k n at ∙ there)))
+    ∙ ap (λ (l : List ParserState). c.args.states.now ++ l) (sym (ap (λ m. take m (drop c.args.start xs)) one ∙ take-slice_get (drop c.args.start xs) k s (get_drop xs c.args.start k n at ∙ there)))

@@ -1,6 +1,5 @@
-use Rattle.std.proofs.Common.{◌≡◌, ◌<◌, ◌≤◌, List, length, None, refl, sym, subst, ap, ◌∙◌, arith}
+use Rattle.std.proofs.Common.{◌≡◌, ◌<◌, ◌≤◌, List, length, None, sym, subst, ap, ◌∙◌, arith}
 use Rattle.std.specs.Prelude.{slice_index_or}
-use Rattle.std.proofs.lemmas.Option.{slice_get_read}
 use Rattle.rmt_ptcam.specs.Types.{Header, ParserConfig}
 use Rattle.rmt_ptcam.specs.Needs.{refusal}
 use Rattle.rmt_ptcam.proofs.NeedLaws.{unless_ok, header_short}
@@ -10,15 +9,12 @@ use Rattle.rmt_ptcam.proofs.FormLaws.{plain_is_parser}
 use Rattle.rmt_ptcam.proofs.AgreementLaws.{plain_agrees}
 use Rattle.rmt_config.specs.Agreement.{AgreesWith}
 use Rattle.rmt_ptcam.proofs.plain.plain_parser.Goals as goal
+use Rattle.rmt_bits.proofs.ListLaws.{slice_get-seen}
 
 pub push_tails-requires-clause-header : goal.push_tails-requires-clause-header
 push_tails-requires-clause-header c =
-    let hs = c.args.program.now.headers in
-    let n = c.loop-number.number in
-    let h = c.header-item.result in
-    let read : h ≡ slice_index_or hs n h = c.header-item.is ∙ ap (λ (xs : List Header). slice_index_or xs n h) c.as_slice-header-items.ensures in
-    let inside : n < length hs = subst (λ (xs : List Header). n < length xs) c.as_slice-header-items.ensures c.loop-number-test.true in
-    c.requires.program.headers n h (slice_get_read hs (length hs) n h refl inside read)
+    c.requires.program.headers c.loop-number.number c.header-item.result
+    (slice_get-seen c.args.program.now.headers _ c.loop-number.number c.header-item.result c.as_slice-header-items.ensures c.loop-number-test.true c.header-item.is)
 
 pub push_tails-requires-clause-few : goal.push_tails-requires-clause-few
 push_tails-requires-clause-few c =
@@ -34,23 +30,15 @@ push_tails-requires-clause-few c =
 
 pub push_entries-requires-clause-header : goal.push_entries-requires-clause-header
 push_entries-requires-clause-header c =
-    let hs = c.args.program.now.headers in
-    let n = c.loop-number.number in
-    let h = c.header-item.result in
-    let read : h ≡ slice_index_or hs n h = c.header-item.is ∙ ap (λ (xs : List Header). slice_index_or xs n h) c.as_slice-header-items.ensures in
-    let inside : n < length hs = subst (λ (xs : List Header). n < length xs) c.as_slice-header-items.ensures c.loop-number-test.true in
-    c.requires.program.headers n h (slice_get_read hs (length hs) n h refl inside read)
+    c.requires.program.headers c.loop-number.number c.header-item.result
+    (slice_get-seen c.args.program.now.headers _ c.loop-number.number c.header-item.result c.as_slice-header-items.ensures c.loop-number-test.true c.header-item.is)
 
 pub push_entries-requires-clause-short : goal.push_entries-requires-clause-short
 push_entries-requires-clause-short c =
     let p = c.args.program.now in
-    let hs = p.headers in
-    let n = c.loop-number.number in
     let h = c.header-item.result in
-    let read : h ≡ slice_index_or hs n h = c.header-item.is ∙ ap (λ (xs : List Header). slice_index_or xs n h) c.as_slice-header-items.ensures in
-    let inside : n < length hs = subst (λ (xs : List Header). n < length xs) c.as_slice-header-items.ensures c.loop-number-test.true in
-    let short = header_short p n h c.requires.program (slice_get_read hs (length hs) n h refl inside read) in
-    omega (arith, short, lanes_bits p c.args.places.now h.fields c.requires.places)
+    let there = slice_get-seen p.headers _ c.loop-number.number h c.as_slice-header-items.ensures c.loop-number-test.true c.header-item.is in
+    omega (arith, header_short p c.loop-number.number h c.requires.program there, lanes_bits p c.args.places.now h.fields c.requires.places)
 
 pub returns-clause-runs : goal.returns-clause-runs
 returns-clause-runs c =

@@ -1,6 +1,5 @@
 use Rattle.std.proofs.Common.{◌≡◌, eqb, ℕ, ◌<◌, ◌≤◌, ◌+◌, ◌*◌, List, length, map, take, Option, Some, None, true, ap, sym, subst, ◌∙◌, refl, arith}
-use Rattle.std.specs.Prelude.{IfSome, nat_le, slice_get, slice_index_or}
-use Rattle.std.proofs.lemmas.Option.{slice_get_read}
+use Rattle.std.specs.Prelude.{IfSome, nat_le, slice_get}
 use Rattle.std.proofs.lemmas.Bool.{eq-eqb, ne_eqb, and_parts, leb-true}
 use Rattle.rmt_ptcam.specs.Types.{ParserEntry, TailOf}
 use Rattle.rmt_config.specs.Parser.{tail_of}
@@ -9,6 +8,7 @@ use Rattle.rmt_ptcam.proofs.AddingLaws.{adds_at, all_rows, added_own, added_not,
 use Rattle.rmt_ptcam.proofs.FormedRows.{IsRowTail, row_tail}
 use Rattle.rmt_ptcam.proofs.rows.push_joined.Goals.{then-second-state+in_ok-entry+in_ok-push_row, else-second-state}
 use Rattle.rmt_ptcam.proofs.rows.push_joined.Goals as goal
+use Rattle.rmt_bits.proofs.ListLaws.{slice_get-seen}
 
 pub loop-number-preserved : goal.loop-number-preserved
 loop-number-preserved c =
@@ -16,9 +16,7 @@ loop-number-preserved c =
     let es = parser.entries in
     let n = c.loop-number.number in
     let e : ParserEntry = c.index-others-number.result in
-    let read : e ≡ slice_index_or es n e = c.index-others-number.is ∙ ap (λ (xs : List ParserEntry). slice_index_or xs n e) c.as_slice-others.ensures in
-    let inside : n < length es = subst (λ (xs : List ParserEntry). n < length xs) c.as_slice-others.ensures c.loop-number-test.true in
-    let there : slice_get es n ≡ Some e = slice_get_read es (length es) n e refl inside read in
+    let there : slice_get es n ≡ Some e = slice_get-seen es _ n e c.as_slice-others.ensures c.loop-number-test.true c.index-others-number.is in
     let join = joined_row c.args.here.now c.args.there.now c.args.first.now in
     let old : Row = record { entry = e; tail = tail_of parser n } in
     let row : slice_get (rows_of parser) n ≡ Some old = row_of parser n e there in
@@ -51,9 +49,7 @@ joined_entry-requires-clause-light c =
     let es = c.args.parser.now.entries in
     let n = c.loop-number.number in
     let e : ParserEntry = c.index-others-number.result in
-    let read : e ≡ slice_index_or es n e = c.index-others-number.is ∙ ap (λ (xs : List ParserEntry). slice_index_or xs n e) c.as_slice-others.ensures in
-    let inside : n < length es = subst (λ (xs : List ParserEntry). n < length xs) c.as_slice-others.ensures c.loop-number-test.true in
-    let there : slice_get es n ≡ Some e = slice_get_read es (length es) n e refl inside read in
+    let there : slice_get es n ≡ Some e = slice_get-seen es _ n e c.as_slice-others.ensures c.loop-number-test.true c.index-others-number.is in
     filter_holds (λ (f : ParserEntry). is_light c.args.first.now f ≡ true) (λ (f : ParserEntry). eqb f.state c.args.state) es n e c.requires.light there (eq-eqb e.state c.args.state c.if-second-state.true)
 
 pub moved_tail-tail-requires : goal.moved_tail-tail-requires
@@ -63,9 +59,7 @@ moved_tail-tail-requires c =
     let n = c.loop-number.number in
     let e : ParserEntry = c.index-others-number.result in
     let first : ParserEntry = c.args.first.now in
-    let read : e ≡ slice_index_or es n e = c.index-others-number.is ∙ ap (λ (xs : List ParserEntry). slice_index_or xs n e) c.as_slice-others.ensures in
-    let inside : n < length es = subst (λ (xs : List ParserEntry). n < length xs) c.as_slice-others.ensures c.loop-number-test.true in
-    let there : slice_get es n ≡ Some e = slice_get_read es (length es) n e refl inside read in
+    let there : slice_get es n ≡ Some e = slice_get-seen es _ n e c.as_slice-others.ensures c.loop-number-test.true c.index-others-number.is in
     let light : is_light first e ≡ true = filter_holds (λ (f : ParserEntry). is_light first f ≡ true) (λ (f : ParserEntry). eqb f.state c.args.state) es n e c.requires.light there (eq-eqb e.state c.args.state c.if-second-state.true) in
     let need : first.need + e.need ≤ 128 = leb-true (first.need + e.need) 128 (and_parts (nat_le (first.need + e.need) 128) (nat_le (length first.extracts + length e.extracts) 64) light).0 in
     near c.entry_tail.result e first.need first.advance need c.requires.first (row_tail parser c.requires.keeps n e c.entry_tail.result there (sym c.entry_tail.ensures))

@@ -6,7 +6,8 @@ use Rattle.rmt_config.specs.Shapes.{divided_up}
 use Rattle.rmt_config.specs.Cells.{Found, content_of, found_in, number_of_cell}
 use Rattle.rmt_chip.specs.declared.looked.Looked.{Looked}
 use Rattle.rmt_chip.specs.Looked.{Finds}
-use Rattle.rmt_chip.proofs.RunLaws.{run-is, number_of-bytes_of}
+use Rattle.rmt_chip.proofs.RunLaws.{run-is}
+use Rattle.rmt_bits.proofs.ByteLaws.{number_of-bytes_of}
 use Rattle.rmt_chip.proofs.RangeLaws.{cell_at, nowhere, number-at}
 use Rattle.rmt_chip.proofs.CellLaws.{cells-rise}
 use Rattle.rmt_chip.proofs.FoundLaws.{place-found, held-small, held-room, look_up-is}
