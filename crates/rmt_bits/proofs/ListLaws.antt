@@ -1,6 +1,6 @@
 -- Lists: where there is an item, lists without items, and one item more.
-use Rattle.std.proofs.Common.{◌≡◌, ◌≢◌, ℕ, zero, suc, ◌+◌, ◌<◌, ◌≤◌, Bool, true, false, cond, List, [], ◌∷◌, ◌++◌, length, take, drop, Option, None, Some, refl, ap, sym, subst, ◌∙◌, arith, max, get_or}
-use Rattle.std.specs.Prelude.{All, IsSome, IsSomeAnd, find, slice_get, slice_set, map, filter, fold}
+use Rattle.std.proofs.Common.{◌≡◌, ◌≢◌, ℕ, zero, suc, ◌+◌, ◌<◌, ◌≤◌, Bool, true, false, cond, List, [], ◌∷◌, ◌++◌, length, take, drop, Option, None, Some, refl, ap, sym, subst, ◌∙◌, arith, get_or}
+use Rattle.std.specs.Prelude.{All, IsSome, IsSomeAnd, find, slice_get, slice_set, map, filter}
 use Rattle.std.specs.List.{flat_map, list_all, prefix_len, range_with_len, sum_by, take_while, AllZip}
 use Rattle.std.proofs.Math.Seq.{take-append_seam}
 use Rattle.std.proofs.lemmas.Bool.{and_parts}
