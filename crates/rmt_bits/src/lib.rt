@@ -1,4 +1,5 @@
-//! Bits of numbers, lanes of words, the hash of exact look-ups, and the types that every layer shares.
+//! Bits of numbers, digits and lines of texts, lanes of words, the hash of exact look-ups, and the types that every layer
+//! shares.
 #![tactic(auto)]
 
 pub mod answer;
