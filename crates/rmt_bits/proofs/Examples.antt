@@ -1,5 +1,7 @@
 -- Known values.
 use Rattle.std.specs.Prelude.{◌≡◌, [], ◌∷◌, true, false, codes, map, refl}
+use Rattle.rmt_bits.specs.Counts.{counts, in_order}
+use Rattle.rmt_bits.specs.Counting.{counted, with_count, hits_among}
 use Rattle.rmt_bits.specs.Bits.{slice, deposit, bits_of_bytes, bytes_of}
 use Rattle.rmt_bits.specs.Digits.{is_digit, is_hex, is_hex_number, number_of_digits}
 use Rattle.rmt_bits.specs.Hash.{fnv}
@@ -49,3 +51,20 @@ numbered_known = refl
 
 pub no_lines : numbered_lines 1 [] ≡ []
 no_lines = refl
+
+-- both counters wrap, and the other stays
+pub counted_wraps : counted 14 (record { entry = 3; packets = 1; bytes = 60 } ∷ record { entry = 5; packets = 281474976710655; bytes = 18446744073709551612 } ∷ []) 5
+    ≡ record { entry = 3; packets = 1; bytes = 60 } ∷ record { entry = 5; packets = 0; bytes = 10 } ∷ []
+counted_wraps = refl
+
+-- numbers put in order, each once
+pub in_their_order : in_order (4 ∷ 1 ∷ 4 ∷ 0 ∷ []) ≡ 0 ∷ 1 ∷ 4 ∷ []
+in_their_order = refl
+
+-- a number between two others, whose earlier hit doesn't count
+pub between_two : with_count 4 (counts (9 ∷ 3 ∷ []) (record { number = 4; bytes = 60 } ∷ record { number = 9; bytes = 70 } ∷ []))
+    ≡ record { entry = 3; packets = 0; bytes = 0 } ∷ record { entry = 4; packets = 0; bytes = 0 } ∷ record { entry = 9; packets = 1; bytes = 70 } ∷ []
+between_two = refl
+
+pub hits_before_it : hits_among (9 ∷ 3 ∷ []) (record { number = 4; bytes = 60 } ∷ record { number = 9; bytes = 70 } ∷ []) ≡ record { number = 9; bytes = 70 } ∷ []
+hits_before_it = refl

@@ -1,4 +1,5 @@
 pub mod AllLaws
+pub mod BestLaws
 pub mod BitLaws
 pub mod ByteLaws
 pub mod DigitLaws
@@ -6,12 +7,14 @@ pub mod CountLaws
 pub mod Examples
 pub mod FunctionLaws
 pub mod LineLaws
+pub mod GroupLaws
 pub mod ListLaws
 pub mod MemberLaws
 pub mod MostLaws
 pub mod OptionLaws
 pub mod OrderLaws
 pub mod PairLaws
+pub mod PlaceLaws
 pub mod RunLaws
 pub mod TestLaws
 pub mod WordLaws

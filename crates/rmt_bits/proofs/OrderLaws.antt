@@ -1,8 +1,8 @@
 -- Numbers in order, each once, and counters of them.
-use Rattle.std.proofs.Common.{◌≡◌, ℕ, suc, ◌%◌, ◌^◌, ◌<◌, ◌++◌, ◌||◌, Bool, true, false, ◌==◌, cond, List, [], ◌∷◌, length, map, get_or, inl, inr, true≢false, refl, sym, ap, subst, ◌∙◌, tests, arith}
+use Rattle.std.proofs.Common.{◌≡◌, ℕ, suc, ◌%◌, ◌^◌, ◌<◌, ◌++◌, ◌⊎◌, ◌||◌, Bool, true, false, ◌==◌, cond, List, [], ◌∷◌, length, map, get_or, inl, inr, true≢false, refl, sym, ap, subst, ◌∙◌, tests, arith}
 use Rattle.std.specs.Prelude.{All, AllPairs, Contains, nat_lt}
 use Rattle.std.specs.List.{list_any}
-use Rattle.std.proofs.lemmas.Bool.{ltb-true}
+use Rattle.std.proofs.lemmas.Bool.{cases_order, ltb-true}
 use Rattle.std.proofs.lemmas.List.{get_or-map, length-map}
 use Rattle.std.proofs.lemmas.List.Elements.{All-head, All-tail, All-nil, All-cons, All-weaker, All-contains}
 use Rattle.std.proofs.lemmas.List.Kept.{AllPairs-cons}
@@ -218,3 +218,61 @@ counts-with_count numbers hits n = by (list_any (λ k. k == n) numbers) refl
         ∙ ap (λ (ms : List ℕ). map (count_for (hits_among numbers hits)) ms) (sym (with_number-there n (in_order numbers) (in_order-rises numbers) at))
     by false none =
         ap (with_count n) others ∙ with_count-with_number (hits_among numbers hits) n (in_order numbers) (among-none numbers hits n none)
+
+-- the order in which numbers come is nothing to their order
+with_number-higher : (n m : ℕ) (ms : List ℕ) → n < m → with_number n (m ∷ ms) ≡ n ∷ m ∷ ms
+with_number-higher n m ms lt =
+    let is_less : nat_lt n m ≡ true = grind (arith, tests) in
+    ap (λ b. cond b (n ∷ m ∷ ms) (cond (n == m) (m ∷ ms) (m ∷ with_number n ms))) is_less
+
+with_number-lower : (n m : ℕ) (ms : List ℕ) → m < n → with_number n (m ∷ ms) ≡ m ∷ with_number n ms
+with_number-lower n m ms lt =
+    let not_less : nat_lt n m ≡ false = grind (arith, tests) in
+    let apart : (n == m) ≡ false = grind (arith, tests) in
+    ap (λ b. cond b (n ∷ m ∷ ms) (cond (n == m) (m ∷ ms) (m ∷ with_number n ms))) not_less ∙ ap (λ b. cond b (m ∷ ms) (m ∷ with_number n ms)) apart
+
+with_number-same : (n m : ℕ) (ms : List ℕ) → n ≡ m → with_number n (m ∷ ms) ≡ m ∷ ms
+with_number-same n m ms e =
+    let not_less : nat_lt n m ≡ false = grind (arith, tests) in
+    let same : (n == m) ≡ true = grind (arith, tests) in
+    ap (λ b. cond b (n ∷ m ∷ ms) (cond (n == m) (m ∷ ms) (m ∷ with_number n ms))) not_less ∙ ap (λ b. cond b (m ∷ ms) (m ∷ with_number n ms)) same
+
+lower_first : (a b m : ℕ) (ms : List ℕ) → a < b → a < m → with_number a (with_number b (m ∷ ms)) ≡ a ∷ with_number b (m ∷ ms)
+lower_first a b m ms ab am = elim (cases_order b m) [
+  | inl e ↦ let is = with_number-same b m ms e in ap (with_number a) is ∙ with_number-higher a m ms am ∙ ap (λ (ns : List ℕ). a ∷ ns) (sym is)
+  | inr o ↦ elim o [
+    | inl lt ↦ let is = with_number-higher b m ms lt in ap (with_number a) is ∙ with_number-higher a b (m ∷ ms) ab ∙ ap (λ (ns : List ℕ). a ∷ ns) (sym is)
+    | inr gt ↦ let is = with_number-lower b m ms gt in ap (with_number a) is ∙ with_number-higher a m (with_number b ms) am ∙ ap (λ (ns : List ℕ). a ∷ ns) (sym is)
+  ]
+]
+
+with_number-apart : (a b : ℕ) (ms : List ℕ) → a < b → with_number a (with_number b ms) ≡ with_number b (with_number a ms)
+with_number-apart a b [] lt = with_number-higher a b [] lt ∙ sym (with_number-lower b a [] lt)
+with_number-apart a b (m ∷ ms) lt = by (with_number-apart a b ms lt) (cases_order a m)
+  where
+    by : with_number a (with_number b ms) ≡ with_number b (with_number a ms) → (a ≡ m) ⊎ ((a < m) ⊎ (m < a)) → with_number a (with_number b (m ∷ ms)) ≡ with_number b (with_number a (m ∷ ms))
+    by rest (inl e) =
+        let low : m < b = omega (arith, e, lt) in
+        ap (with_number a) (with_number-lower b m ms low) ∙ with_number-same a m (with_number b ms) e ∙ sym (ap (with_number b) (with_number-same a m ms e) ∙ with_number-lower b m ms low)
+    by rest (inr (inl am)) = lower_first a b m ms lt am ∙ sym (ap (with_number b) (with_number-higher a m ms am) ∙ with_number-lower b a (m ∷ ms) lt)
+    by rest (inr (inr ma)) =
+        let low : m < b = omega (arith, ma, lt) in
+        ap (with_number a) (with_number-lower b m ms low) ∙ with_number-lower a m (with_number b ms) ma ∙ ap (λ (ns : List ℕ). m ∷ ns) rest
+        ∙ sym (ap (with_number b) (with_number-lower a m ms ma) ∙ with_number-lower b m (with_number a ms) low)
+
+with_number-swap : (a b : ℕ) (ms : List ℕ) → with_number a (with_number b ms) ≡ with_number b (with_number a ms)
+with_number-swap a b ms = elim (cases_order a b) [
+  | inl e ↦ ap (λ n. with_number n (with_number b ms)) e ∙ ap (λ n. with_number b (with_number n ms)) (sym e)
+  | inr o ↦ elim o [
+    | inl lt ↦ with_number-apart a b ms lt
+    | inr gt ↦ sym (with_number-apart b a ms gt)
+  ]
+]
+
+in_order_push : (ns : List ℕ) (n : ℕ) → in_order (ns ++ n ∷ []) ≡ with_number n (in_order ns)
+in_order_push [] n = refl
+in_order_push (m ∷ ns) n = ap (with_number m) (in_order_push ns n) ∙ with_number-swap m n (in_order ns)
+
+-- counters that are all 0 take one number more
+pub zeros_push : (ns : List ℕ) (n : ℕ) → with_count n (counts ns []) ≡ counts (ns ++ n ∷ []) []
+zeros_push ns n = with_count-with_number [] n (in_order ns) refl ∙ ap (λ (ms : List ℕ). map (count_for []) ms) (sym (in_order_push ns n))

@@ -74,10 +74,8 @@ impl Counts {
         requires room { length numbers.now ≤ self.old.room }
         ensures { self.new.counts ≡ counts_of numbers.now [] }
     {
-        let mut at = numbers.len();
-        while at > 0 {
-            at -= 1;
-            self.add(numbers[at]);
+        for number in numbers {
+            self.add(*number);
         }
     }
 

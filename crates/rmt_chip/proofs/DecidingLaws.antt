@@ -138,13 +138,6 @@ pub moved : (stage : Stage) (looked : List Looked) (bytes : ℕ) (first counters
     → HaveDone stage looked bytes first acts outcomes running counters → HaveDone stage looked bytes first (record acts { base = base; place = place }) outcomes running counters
 moved stage looked bytes first counters acts outcomes running base place was = record { outcomes_are = was.outcomes_are; running_are = was.running_are; counted = was.counted }
 
--- a gate
-pub gate_done : (stage : Stage) (looked : List Looked) (bytes : ℕ) (first counters : List Count) (acts : Acts) (outcomes set_to after : List ℕ) (running : List Ran) (test : Bool) (place : ℕ)
-    → after ≡ cond test set_to acts.outcomes → HaveDone stage looked bytes first acts outcomes running counters
-    → HaveDone stage looked bytes first (record (cond test (record acts { outcomes = set_to }) acts) { place = place }) after running counters
-gate_done stage looked bytes first counters acts outcomes set_to after running true place are was = record { outcomes_are = are; running_are = was.running_are; counted = was.counted }
-gate_done stage looked bytes first counters acts outcomes set_to after running false place are was = record { outcomes_are = are; running_are = was.running_are; counted = was.counted }
-
 -- where the next unit stands
 pub place_after : (look : Look) (k : ℕ) (stage : Stage) (words : Words) (a : Acts) (u : Unit) → (unit_acts look k stage words a u).place ≡ a.place + 1
 place_after look k stage words a (Gate g) = refl
@@ -173,15 +166,6 @@ pub record DoneUpto (look : Look) (k : ℕ) (words : Words) (stage : Stage) (loo
   pub done : HaveDone stage looked bytes first (acts_upto look k words stage before n) outcomes running counters
   pub base_is : base ≡ (acts_upto look k words stage before n).base
   pub place_is : (acts_upto look k words stage before n).place ≡ n
-
--- before the first unit
-pub upto_none : (look : Look) (k : ℕ) (words : Words) (stage : Stage) (looked : List Looked) (bytes : ℕ) (counters : List Count) (outcomes : List ℕ) (running : List Ran) → running ≡ []
-    → DoneUpto look k words stage looked bytes counters 0 outcomes outcomes running counters 0
-upto_none look k words stage looked bytes counters outcomes running none = record {
-  done = record { outcomes_are = refl; running_are = ap (λ (rs : List Ran). all_running stage.code looked rs) none; counted = also_none bytes counters };
-  base_is = refl;
-  place_is = refl;
-}
 
 -- one more
 pub upto_more : (look : Look) (k : ℕ) (words : Words) (stage : Stage) (looked : List Looked) (bytes : ℕ) (first : List Count) (n : ℕ) (before outcomes : List ℕ) (running : List Ran) (counters : List Count) (base : ℕ)

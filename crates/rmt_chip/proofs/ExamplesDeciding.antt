@@ -9,7 +9,8 @@ use Rattle.rmt_config.specs.LaneForm.{bits_of_lanes}
 use Rattle.rmt_config.specs.Shapes.{divided_up}
 use Rattle.rmt_config.specs.Life.{guarded, runs, key_of}
 use Rattle.rmt_chip.specs.declared.looked.Looked.{Looked}
-use Rattle.rmt_chip.specs.Counting.{counted, hits_made}
+use Rattle.rmt_bits.specs.Counting.{counted}
+use Rattle.rmt_chip.specs.Counting.{hits_made}
 use Rattle.rmt_chip.specs.Ran.{held_of, running_of, all_running}
 
 -- ---- guards: node 5 has hit its second action, and node 6 has missed

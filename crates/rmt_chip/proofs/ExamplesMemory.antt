@@ -1,7 +1,8 @@
 -- Worked rows of the definitions of memory laid out for reading.
 use Rattle.std.proofs.Common.{◌≡◌, ◌+◌, ◌*◌, [], ◌∷◌, Some, None, refl}
 use Rattle.rmt_chip.specs.Laying.{runs_of}
-use Rattle.rmt_chip.specs.Grouping.{words_of, masked, earlier}
+use Rattle.rmt_bits.specs.Grouping.{earlier}
+use Rattle.rmt_chip.specs.Grouping.{words_of, masked}
 
 -- cells 3 and 5, with 300 and 500 in them, two bytes each
 pub runs_known : runs_of 2 (λ n. 100 * n) (record { cell = 3; number = 7 } ∷ record { cell = 5; number = 9 } ∷ []) ≡ 1 ∷ 44 ∷ 1 ∷ 244 ∷ []

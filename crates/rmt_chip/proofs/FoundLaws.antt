@@ -29,8 +29,9 @@ use Rattle.rmt_chip.specs.declared.memory.Keys.TheVariants.{Nothing, ByRow, ByMa
 use Rattle.rmt_chip.specs.declared.memory.ways.ExactMemory.{ExactMemory}
 use Rattle.rmt_chip.specs.Laying.{SplitsAt}
 use Rattle.rmt_chip.specs.Searching.{FirstIn, HasRun, run_of, row_among, FirstInWay, FirstByWays}
-use Rattle.rmt_chip.specs.declared.memory.group.Group.{Group}
-use Rattle.rmt_chip.specs.Grouping.{Has, words_of, words_of_key, masked, best_of, AreGrouped}
+use Rattle.rmt_bits.specs.declared.groups.Group.{Group}
+use Rattle.rmt_bits.specs.Grouping.{best_of, AreGrouped}
+use Rattle.rmt_chip.specs.Grouping.{Has, words_of, words_of_key, masked, place_for}
 use Rattle.rmt_chip.specs.Memories.{SlotFormed, Lays, ExactLays, KeysLay, Places, PlacesIn, compared_of, compared_in}
 use Rattle.rmt_chip.proofs.WordLaws.{key-words, wider, masked-words, same-words}
 use Rattle.rmt_chip.proofs.BestLaws.{HasAt, best-first}
@@ -235,10 +236,10 @@ module _ (seed : ℕ) (stage : Stage) (s0 : SlotUnit) (d : ℕ) (ks rs cs : List
   t-rows : length (compared_in stage t) ≡ length t.numbers
   t-rows = length-map t.numbers (λ (c : CellNumber). compared_of width (held c.cell))
 
-  t-first : (found : Option ℕ) → found ≡ best_of groups words None → FirstIn (HasAt words (compared_in stage t) groups grouped) 0 (length t.numbers) found
+  t-first : (found : Option ℕ) → found ≡ best_of (place_for words) groups None → FirstIn (HasAt words (compared_in stage t) groups grouped) 0 (length t.numbers) found
   t-first found is = subst (λ e. FirstIn (HasAt words (compared_in stage t) groups grouped) 0 e found) t-rows (best-first words (compared_in stage t) groups grouped found is)
 
-  pub ternary-found : (found : Option ℕ) → found ≡ best_of groups words None → FindsPlace seed stage t (number_of key) found
+  pub ternary-found : (found : Option ℕ) → found ≡ best_of (place_for words) groups None → FindsPlace seed stage t (number_of key) found
   ternary-found found is =
       range-find t.numbers (cells-rise stage formed.first t formed.holds) has (HasAt words (compared_in stage t) groups grouped) (2048 * d)
       (λ c lc at. found-listed stage formed.first t formed.holds (number_of key) c lc at) t-holds t-passes
@@ -247,7 +248,7 @@ module _ (seed : ℕ) (stage : Stage) (s0 : SlotUnit) (d : ℕ) (ks rs cs : List
       (record { within = omega arith; below = λ j z lt. (let low = cell-below stage formed.first t formed.holds j z lt in omega (arith, low)); above = λ j z le lt. absurd (omega (arith, le, lt)) })
       found (t-first found is)
 
-  pub ternary-within : (found : Option ℕ) → found ≡ best_of groups words None → IfSome found (λ i. i < length t.numbers)
+  pub ternary-within : (found : Option ℕ) → found ≡ best_of (place_for words) groups None → IfSome found (λ i. i < length t.numbers)
   ternary-within None is = tt
   ternary-within (Some i) is = (t-first (Some i) is).1
 

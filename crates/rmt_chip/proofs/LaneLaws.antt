@@ -8,9 +8,6 @@ use Rattle.rmt_bits.specs.declared.lane.Lane.{Lane}
 use Rattle.rmt_config.specs.LaneForm.{bits_of_lanes}
 use Rattle.rmt_config.specs.Life.{Words, lane_of, key_of}
 
-lane_len : Lane → ℕ
-lane_len lane = lane.len
-
 bits_sum : (lanes : List Lane) → bits_of_lanes lanes ≡ sum_by (λ (l : Lane). l.len) lanes
 bits_sum lanes = sum-map (λ (l : Lane). l.len) lanes
 

@@ -19,7 +19,8 @@ use Rattle.rmt_config.proofs.UnitBits.{Within}
 use Rattle.rmt_config.proofs.HeldRows.{rows-agree}
 use Rattle.rmt_config.proofs.CellLayouts.{exact-entry, ternary-record}
 use Rattle.rmt_chip.specs.Laying.{entry_of, runs_of}
-use Rattle.rmt_chip.specs.Grouping.{Compared, words_of}
+use Rattle.rmt_bits.specs.Grouping.{Compared}
+use Rattle.rmt_chip.specs.Grouping.{words_of}
 use Rattle.rmt_chip.specs.Comparing.{compared_at}
 use Rattle.rmt_chip.specs.Memories.{compared_of}
 use Rattle.rmt_chip.proofs.RunLaws.{runs-same}

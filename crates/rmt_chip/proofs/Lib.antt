@@ -27,10 +27,6 @@ mod LayLaws
 mod ExamplesMemory
 pub mod FormedMemory
 pub mod FormedSlots
-pub mod PlaceLaws
-pub mod GroupLaws
-pub mod CountersLaws
-pub mod NumbersLaws
 pub mod DecidingLaws
 pub mod LookLaws
 pub mod ReadingLaws

@@ -14,16 +14,6 @@ use Rattle.rmt_config.specs.Life.{Look, Words, lane_of, key_of}
 use Rattle.rmt_chip.specs.declared.looked.Looked.{Looked}
 use Rattle.rmt_chip.specs.Looked.{HasRoom, HaveRoom, LookedFor}
 
--- one item that fails fails all
-and_no : (a b : Bool) → b ≡ false → (a && b) ≡ false
-and_no true b e = e
-and_no false b e = refl
-
-pub fails_all : {X : Type 0} (p : X → Bool) (xs : List X) (i : ℕ) (d : X) → i < length xs → p (get_or xs i d) ≡ false → list_all p xs ≡ false
-fails_all p [] i d lt e = absurd (omega (arith, lt))
-fails_all p (x ∷ xs) zero d lt e = rw e refl
-fails_all p (x ∷ xs) (suc i) d lt e = and_no (p x) (list_all p xs) (fails_all p xs i d (omega (arith, lt)) e)
-
 -- a key has no more bits than its lanes
 joined : (n x b len : ℕ) → n < 2 ^ b → x < 2 ^ len → 2 ^ len * n + x < 2 ^ (b + len)
 joined n x b len low small =

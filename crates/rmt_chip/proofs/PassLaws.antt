@@ -81,10 +81,6 @@ pub write_done : (look : Look) (c : Config) (item : ℕ → Option Entered) (new
 write_done look c item newest k places rise e was =
     pass_end (Writing look c item) c.stages 12 newest places rise (writing_rests look c item) (subst (λ n. AllHold look c item (partly (done_before c.stages 12 n)) past past now newest places) e was)
 
-pub write_begin : (look : Look) (c : Config) (item : ℕ → Option Entered) (newest : ℕ) (places : List Place)
-    → AllHold look c item past past past now newest places → AllHold look c item (partly (done_before c.stages 12 0)) past past now newest places
-write_begin look c item newest places was = pass_start (Writing look c item) newest places was
-
 -- ---- operands are read
 
 pub read_turn : (look : Look) (c : Config) (item : ℕ → Option Entered) (newest k at : ℕ) (places : List Place) (stage : Stage) (old new : Place) → Rise c.stages → k < length c.stages → stage ≡ get_or c.stages k stage → start_of c.stages k ≤ 372 → newest < 385 → length places ≡ 385
@@ -110,10 +106,6 @@ pub read_done : (look : Look) (c : Config) (item : ℕ → Option Entered) (newe
     → AllHold look c item now (partly (done_before c.stages 9 k)) past now newest places → AllHold look c item now now past now newest places
 read_done look c item newest k places rise e was =
     pass_end (Reading look c item) c.stages 9 newest places rise (reading_rests look c item) (subst (λ n. AllHold look c item now (partly (done_before c.stages 9 n)) past now newest places) e was)
-
-pub read_begin : (look : Look) (c : Config) (item : ℕ → Option Entered) (newest : ℕ) (places : List Place)
-    → AllHold look c item now past past now newest places → AllHold look c item now (partly (done_before c.stages 9 0)) past now newest places
-read_begin look c item newest places was = pass_start (Reading look c item) newest places was
 
 -- ---- outcomes are set
 
@@ -149,10 +141,6 @@ pub act_done : (look : Look) (c : Config) (item : ℕ → Option Entered) (newes
     → AllHold look c item now now (partly (done_before c.stages 8 k)) now newest places → AllHold look c item now now now now newest places
 act_done look c item newest k places rise e was =
     pass_end (Acting look c item) c.stages 8 newest places rise (acting_rests look c item) (subst (λ n. AllHold look c item now now (partly (done_before c.stages 8 n)) now newest places) e was)
-
-pub act_begin : (look : Look) (c : Config) (item : ℕ → Option Entered) (newest : ℕ) (places : List Place)
-    → AllHold look c item now now past now newest places → AllHold look c item now now (partly (done_before c.stages 8 0)) now newest places
-act_begin look c item newest places was = pass_start (Acting look c item) newest places was
 
 -- ---- hits are counted
 
@@ -227,10 +215,6 @@ pub look_done : (look : Look) (c : Config) (item : ℕ → Option Entered) (newe
     → AllHold look c item now now now (partly_next (done_before c.stages 0 k)) newest places → AllHold look c item now now now next newest places
 look_done look c item newest k places rise e was =
     next_end (Looking look c item) c.stages 0 newest places rise (looking_rests look c item) (subst (λ n. AllHold look c item now now now (partly_next (done_before c.stages 0 n)) newest places) e was)
-
-pub look_begin : (look : Look) (c : Config) (item : ℕ → Option Entered) (newest : ℕ) (places : List Place)
-    → AllHold look c item now now now now newest places → AllHold look c item now now now (partly_next (done_before c.stages 0 0)) newest places
-look_begin look c item newest places was = next_start (Looking look c item) newest places was
 
 -- a start that was read
 pub start_read : (stages slice : List Stage) (k from : ℕ) (stage : Stage) → slice ≡ stages → k < length stages → from ≡ stage.start → stage ≡ get_or slice k stage → from ≡ start_of stages k

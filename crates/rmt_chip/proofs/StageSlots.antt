@@ -19,7 +19,3 @@ slots_formed c formed k stage at i s is =
     let all = formed-slots c formed k stage (place_below c.stages k stage at) in
     let units = subst (λ (t : Stage). All (UnitFormed t) t.units) here all in
     subst (λ (u : ChipUnit). UnitFormed stage u) (get_or_from_slice_get stage.units i (Slot s) (Slot s) is) (units i (Slot s) (place_below stage.units i (Slot s) is))
-
-pub looks_into_own : (c : Config) (k : ℕ) (stage : Stage) → slice_get c.stages k ≡ Some stage → LooksInto c.seed stage (own_look c) k
-looks_into_own c k stage at =
-    subst (λ (t : Stage). LooksInto c.seed t (own_look c) k) (get_or_from_slice_get c.stages k stage stage at) (own_looks c k stage (place_below c.stages k stage at))

@@ -37,19 +37,19 @@ CycleGives c newest frame number old new frames frames' counters counters' answe
 pub clock_right : (c : Config) (inputs : List (Option Packet)) (frame : Option Frame) (old new : Chip) (answer : Option Verdict) (bytes : List ℕ)
     → old.newest < 385 → new.config ≡ old.config → new.memories ≡ old.memories → new.entered ≡ old.entered + cond (is_some frame) 1 0 → new.newest ≡ (old.newest + 1) % 385
     → (LaidOut old.config.seed old.config.stages old.memories.items →
-    CycleGives old.config new.newest frame old.entered old.places.items new.places.items (frames_of old.frames) (frames_of new.frames) old.counters new.counters answer bytes)
+    CycleGives old.config new.newest frame old.entered old.places.items new.places.items (frames_of old.frames) (frames_of new.frames) old.counters.counts new.counters.counts answer bytes)
     → Stands c inputs old → Stands c (inputs ++ input_of frame ∷ []) new × AnswersIf (answer_at c (inputs ++ input_of frame ∷ []) (length inputs)) answer bytes
 clock_right c inputs frame old new answer bytes ring same_config same_memories grown turned cycle s =
     let cfg = old.config in
-    let flies : InFlight cfg inputs old.newest old.places.items (frames_of old.frames) old.counters =
-    subst (λ (k : Config). InFlight k inputs old.newest old.places.items (frames_of old.frames) old.counters) (sym s.config_is) s.in_flight in
+    let flies : InFlight cfg inputs old.newest old.places.items (frames_of old.frames) old.counters.counts =
+    subst (λ (k : Config). InFlight k inputs old.newest old.places.items (frames_of old.frames) old.counters.counts) (sym s.config_is) s.in_flight in
     let r = cycle s.memories_are inputs old.newest ring turned s.entered_is flies in (
       record {
         config_is = same_config ∙ s.config_is;
         memories_are = subst (λ (k : Config). LaidOut k.seed k.stages new.memories.items) (sym same_config)
             (subst (λ (m : Vec (Vec SlotMemory Global) Global). LaidOut cfg.seed cfg.stages m.items) (sym same_memories) s.memories_are);
         entered_is = grown ∙ ap (λ n. n + cond (is_some frame) 1 0) s.entered_is ∙ sym (packets_push inputs frame);
-        in_flight = subst (λ (k : Config). InFlight k (inputs ++ input_of frame ∷ []) new.newest new.places.items (frames_of new.frames) new.counters) s.config_is r.0;
+        in_flight = subst (λ (k : Config). InFlight k (inputs ++ input_of frame ∷ []) new.newest new.places.items (frames_of new.frames) new.counters.counts) s.config_is r.0;
       },
       subst (λ (k : Config). AnswersIf (answer_at k (inputs ++ input_of frame ∷ []) (length inputs)) answer bytes) s.config_is r.1,
     )

@@ -67,9 +67,6 @@ pub key-words : (n : ℕ) → words_of_key n ≡ words_of 16 n
 unfolding words_of_key
 key-words n = refl
 
-pub length-key_words : (n : ℕ) → length (words_of_key n) ≡ 16
-length-key_words n = ap (λ (ws : List ℕ). length ws) (key-words n) ∙ length-words 16 n
-
 length-masked : (masks words : List ℕ) → length (masked masks words) ≡ min (length masks) (length words)
 length-masked [] words = omega arith
 length-masked (m ∷ ms) [] = omega arith

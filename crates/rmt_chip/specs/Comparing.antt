@@ -2,7 +2,7 @@
 use Rattle.std.specs.Prelude.{ℕ, ◌/◌, ◌%◌, List, map}
 use Rattle.rmt_chip.specs.Types.{TcamRow}
 use Rattle.rmt_config.specs.Cells.{tcam_row, blocks_at}
-use Rattle.rmt_chip.specs.Grouping.{Compared}
+use Rattle.rmt_bits.specs.Grouping.{Compared}
 
 -- a row by its number in the part, where a key takes that many blocks
 abbrev pub compared_at : List TcamRow → List ℕ → ℕ → ℕ → Compared

@@ -1,16 +1,7 @@
--- Rows of a ternary part in groups that compare the same bits of the key.
-use Rattle.std.specs.Prelude.{◌≡◌, ℕ, ◌/◌, ◌%◌, ◌^◌, ◌≤◌, zero, suc, Bool, false, List, [], ◌∷◌, length, map, All, AllPairs, Option, Some, None, IsSomeAnd, if◌then◌else◌, bit_and, min, nat_lt, slice_get, unwrap_or, Vec}
-use Rattle.std.specs.Ordering.{nat_cmp, is_eq}
-use Rattle.std.specs.Cmp.Lexicographic.{slice_cmp}
-use Rattle.std.specs.BTreeMap.{BTreeMap, get_by}
-use Rattle.std.specs.Global.{Global}
-use Rattle.rmt_chip.specs.declared.memory.group.Group.{Group}
-use Rattle.rmt_chip.specs.declared.memory.grouping.Grouping.{Grouping}
-
--- what a row compares, word by word: the bits that count, and what they must be
-pub record Compared : Type 0 where
-  pub masks : List ℕ
-  pub values : List ℕ
+-- What the rows of a ternary part compare, word by word.
+use Rattle.std.specs.Prelude.{◌≡◌, ℕ, ◌/◌, ◌%◌, ◌^◌, zero, suc, List, [], ◌∷◌, Option, bit_and}
+use Rattle.rmt_bits.specs.declared.groups.Group.{Group}
+use Rattle.rmt_bits.specs.Grouping.{Compared, place_in}
 
 -- a number in that many words of 40 bits, the lowest first
 abbrev pub words_of : ℕ → ℕ → List ℕ
@@ -31,74 +22,6 @@ masked (m ∷ ms) (k ∷ ks) = bit_and k m ∷ masked ms ks
 abbrev pub Has : List ℕ → Compared → Type 0
 Has key r = masked r.masks key ≡ r.values
 
--- whether two lists of bits are the same
-abbrev pub are_same : List ℕ → List ℕ → Bool
-are_same xs ys = is_eq (slice_cmp nat_cmp xs ys)
-
--- the place of the first row of a group that wants these bits
-abbrev pub place_in : Group → List ℕ → Option ℕ
-place_in g values = get_by (λ k. slice_cmp nat_cmp values k.items) g.places
-
--- a row that wants these bits was added at a place behind the others
-pub record PutAt (values : List ℕ) (at : ℕ) (old new : Group) : Type 0 where
-  pub masks : new.masks.items ≡ old.masks.items
-  pub first : new.first ≡ old.first
-  pub places : (vs : List ℕ) → place_in new vs ≡ (if are_same vs values then Some (unwrap_or (place_in old values) at) else place_in old vs)
-
--- the earlier of two places
-abbrev pub earlier : Option ℕ → Option ℕ → Option ℕ
-earlier None o = o
-earlier (Some a) None = Some a
-earlier (Some a) (Some b) = Some (min a b)
-
--- a place that was found comes before this one
-abbrev pub is_before : Option ℕ → ℕ → Bool
-is_before None n = false
-is_before (Some a) n = nat_lt a n
-
--- the earliest place that some groups have for a key, or one that was found before; groups behind it are not looked at
-abbrev pub best_of : List Group → List ℕ → Option ℕ → Option ℕ
-best_of [] key best = best
-best_of (g ∷ gs) key best =
-    if is_before best g.first then best else best_of gs key (earlier best (place_in g (masked g.masks.items key)))
-
--- the places of the groups' first rows
-abbrev pub firsts : List Group → List ℕ
-firsts groups = map (λ (g : Group). g.first) groups
-
--- what a group finds are the rows of its masks, none of them before its first
-abbrev pub HasPlaces : List Compared → Group → Type 0
-HasPlaces es g =
-    (vs : List ℕ) (i : ℕ) → place_in g vs ≡ Some i → (g.first ≤ i) × IsSomeAnd (slice_get es i) (λ (e : Compared). (e.masks ≡ g.masks.items) × (e.values ≡ vs))
-
--- a group finds a row, or an earlier one that wants the same
-pub record Holds (g : Group) (j : ℕ) (e : Compared) : Type 0 where
-  pub same : g.masks.items ≡ e.masks
-  pub place : ℕ
-  pub found : place_in g e.values ≡ Some place
-  pub early : place ≤ j
-
--- some group finds row j
-abbrev pub IsFound : List Group → ℕ → Compared → Type 0
-IsFound groups j e = (k : ℕ) × (g : Group) × (slice_get groups k ≡ Some g) × Holds g j e
-
--- the groups of rows, by rising first place
-pub record AreGrouped (es : List Compared) (groups : List Group) : Type 0 where
-  pub sound : All (HasPlaces es) groups
-  pub rising : AllPairs (λ m n. m ≤ n) (firsts groups)
-  pub early : All (λ n. n ≤ length es) (firsts groups)
-  pub complete : (j : ℕ) (e : Compared) → slice_get es j ≡ Some e → IsFound groups j e
-
--- the number that an index has for masks
-abbrev pub index_at : BTreeMap (Vec ℕ Global) ℕ → List ℕ → Option ℕ
-index_at index masks = get_by (λ k. slice_cmp nat_cmp masks k.items) index
-
--- the groups of the first rows, with an index whose numbers are those of groups of the masks
-pub record AreIndexed (es : List Compared) (g : Grouping) : Type 0 where
-  pub grouped : AreGrouped es g.groups.items
-  pub index : (masks : List ℕ) (k : ℕ) → index_at g.index masks ≡ Some k → IsSomeAnd (slice_get g.groups.items k) (λ (x : Group). x.masks.items ≡ masks)
-
--- a group of the masks was chosen, for a row behind those that are grouped
-abbrev pub Chosen : List ℕ → ℕ → Grouping → Grouping → ℕ → Type 0
-Chosen masks at old new k =
-    (es : List Compared) → length es ≡ at → AreIndexed es old → AreIndexed es new × IsSomeAnd (slice_get new.groups.items k) (λ (x : Group). x.masks.items ≡ masks)
+-- the place that a group has for a key
+abbrev pub place_for : List ℕ → Group → Option ℕ
+place_for key g = place_in g (masked g.masks.items key)

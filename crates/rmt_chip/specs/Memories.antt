@@ -17,7 +17,8 @@ use Rattle.rmt_chip.specs.declared.memory.Keys.TheVariants.{Nothing, ByRow, ByMa
 use Rattle.rmt_chip.specs.declared.memory.ways.ExactMemory.{ExactMemory}
 use Rattle.rmt_chip.specs.Laying.{runs_of, StartsByRow}
 use Rattle.rmt_chip.specs.Searching.{FirstByWays}
-use Rattle.rmt_chip.specs.Grouping.{Compared, words_of, words_of_key, best_of, AreGrouped}
+use Rattle.rmt_bits.specs.Grouping.{Compared, best_of, AreGrouped}
+use Rattle.rmt_chip.specs.Grouping.{words_of, words_of_key, place_for}
 
 -- ---- what is asked of a slot
 
@@ -104,7 +105,7 @@ held_size m = m.held.size
 abbrev pub PlacesIn : Keys → List ℕ → Option ℕ → Type 0
 PlacesIn Nothing key found = found ≡ None
 PlacesIn (ByRow m) key found = FirstByWays m key found
-PlacesIn (ByMask groups) key found = found ≡ best_of groups.items (words_of_key (number_of key)) None
+PlacesIn (ByMask groups) key found = found ≡ best_of (place_for (words_of_key (number_of key))) groups.items None
 
 abbrev pub Places : SlotMemory → List ℕ → Option ℕ → Type 0
 Places m key found = PlacesIn m.keys key found

@@ -16,7 +16,7 @@ pub record Stands (c : Config) (inputs : List (Option Packet)) (chip : Chip) : T
   pub config_is : chip.config ≡ c
   pub memories_are : LaidOut chip.config.seed chip.config.stages chip.memories.items
   pub entered_is : chip.entered ≡ packets_of (reverse inputs)
-  pub in_flight : InFlight c inputs chip.newest chip.places.items (frames_of chip.frames) chip.counters
+  pub in_flight : InFlight c inputs chip.newest chip.places.items (frames_of chip.frames) chip.counters.counts
 
 -- how many packets entered
 abbrev pub entered_of : Chip → ℕ

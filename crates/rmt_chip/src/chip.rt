@@ -9,7 +9,7 @@ ghost use Rattle.rmt_chip.specs.declared.place.Place.{Place as PlaceOf};
 ghost use Rattle.rmt_chip.specs.Pending.{HaveRoomFor};
 ghost use Rattle.rmt_chip.specs.StageMemories.{MemoriesOf};
 
-use crate::counters::Counters;
+use crate::counters::first_counters;
 use crate::cycle::{cycle, latency};
 use crate::fault::ChipFault;
 use crate::frame::Frame;
@@ -21,7 +21,8 @@ use crate::out::Out;
 use crate::place::Place;
 use crate::ring::{PLACES, place_of};
 use crate::seen::Seen;
-use rmt_bits::answer::{Counts, Verdict};
+use rmt_bits::answer::Verdict;
+use rmt_bits::counts::Counts;
 use rmt_config::config::Config;
 use std::alloc::Global;
 
@@ -32,7 +33,7 @@ pub struct Chip {
     memories: Vec<Vec<SlotMemory>>,
     places: Vec<Place>,
     frames: Frames,
-    counters: Counters,
+    counters: Counts,
     newest: usize,
     entered: u64,
     latency: u16,
@@ -66,7 +67,7 @@ impl Chip {
         let stages = config.stages.as_slice();
         let places = all_places(alloc, stages)?;
         let memories = lay_all(alloc, config.seed, stages)?;
-        let counters = Counters::open(alloc, &config)?;
+        let counters = first_counters(alloc, &config)?;
         let frames = Frames::new(alloc)?;
         let latency = latency(config.stages.as_slice());
         Ok(Chip {
@@ -140,9 +141,9 @@ impl Chip {
     /// How often each counted entry was hit, by rising number.
     pub fn counters(&self) -> &Counts
         ensures { (c : Config) (inputs : List (Option Packet)) → Stands c inputs self.now →
-            result.now ≡ chip_counts_of c inputs }
+            result.now.counts ≡ chip_counts_of c inputs }
     {
-        self.counters.counts()
+        &self.counters
     }
 
     /// The age at which a packet leaves: 12 cycles behind the last start, or 0 without a stage.

@@ -12,7 +12,6 @@ ghost use Rattle.rmt_chip.specs.Pending.{HaveRoomFor};
 ghost use Rattle.rmt_chip.specs.Runnable.{IsRunnable, StagesFit};
 ghost use Rattle.rmt_chip.specs.StageMemories.{MemoriesOf, LaidOut};
 
-use crate::counters::Counters;
 use crate::emit::leave;
 use crate::enter::enter_if;
 use crate::frame::Frame;
@@ -22,6 +21,7 @@ use crate::out::Out;
 use crate::place::Place;
 use crate::ring::{act_all, look_all, place_of, read_all, write_all};
 use rmt_bits::answer::Verdict;
+use rmt_bits::counts::Counts;
 use rmt_config::config::{Config, Stage};
 
 /// The age at which a packet leaves: 12 cycles behind the last start, or 0 where there is no stage.
@@ -43,7 +43,7 @@ pub fn cycle(
     memories: &[Vec<SlotMemory>],
     places: &mut [Place],
     frames: &mut Frames,
-    counters: &mut Counters,
+    counters: &mut Counts,
     newest: usize,
     frame: Option<Frame<'_>>,
     number: u64,
@@ -60,8 +60,8 @@ pub fn cycle(
     ensures room { All (λ (p : PlaceOf). HaveRoomFor config.now.stages p.pending.items) places.new }
     ensures gives { (inputs : List (Option Packet)) (before : ℕ) → before < 385 → newest ≡ (before + 1) % 385 →
         number ≡ packets_of (reverse inputs) → LaidOut config.now.seed config.now.stages memories.now →
-        InFlight config.now inputs before places.old (frames_of frames.old) counters.old →
-        InFlight config.now (inputs ++ input_of frame.entry ∷ []) newest places.new (frames_of frames.new) counters.new
+        InFlight config.now inputs before places.old (frames_of frames.old) counters.old.counts →
+        InFlight config.now (inputs ++ input_of frame.entry ∷ []) newest places.new (frames_of frames.new) counters.new.counts
         × AnswersIf (answer_at config.now (inputs ++ input_of frame.entry ∷ []) (length inputs)) result out.new }
 {
     enter_if(&mut places[newest], frames, newest, config, frame, number);

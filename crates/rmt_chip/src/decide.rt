@@ -10,9 +10,9 @@ ghost use Rattle.rmt_chip.specs.declared.looked.Looked.{Looked};
 ghost use Rattle.rmt_chip.specs.Looked.{Finds, LookedFor, AllLooked};
 ghost use Rattle.rmt_chip.specs.Ran.{HaveDone, CountsAlso, base_after};
 
-use crate::counters::Counters;
 use crate::looked::Looked;
 use crate::ran::Ran;
+use rmt_bits::counts::Counts;
 use rmt_config::config::{GateUnit, SlotUnit, Stage, Unit, UnitGuard};
 
 /// Where a unit stands in its stage: its number there, and that of its first instruction.
@@ -58,8 +58,8 @@ fn run(running: &mut Vec<Ran>, ran: Ran)
 }
 
 /// Counts a hit by a packet of so many bytes, where hits are counted.
-fn count(counted: bool, counters: &mut Counters, number: u32, bytes: u64)
-    ensures { CountsAlso counters.old counters.new (if counted then record { number = number; bytes = bytes } ∷ [] else []) }
+fn count(counted: bool, counters: &mut Counts, number: u32, bytes: u64)
+    ensures { CountsAlso counters.old.counts counters.new.counts (if counted then record { number = number; bytes = bytes } ∷ [] else []) }
 {
     if counted {
         counters.hit(number, bytes);
@@ -93,7 +93,7 @@ fn act(
     looked: &[Looked],
     outcomes: &mut [u8],
     running: &mut Vec<Ran>,
-    counters: &mut Counters,
+    counters: &mut Counts,
     bytes: u64,
 )
     requires inside { at.unit < length looked.now }
@@ -104,8 +104,8 @@ fn act(
     ensures room { vec_capacity running.old ≤ vec_capacity running.new }
     ensures done { (stage : Stage) (found : Option Found) (d : Looked) (first : List Count) (acts : Acts) →
         Finds found (slice_index_or looked.now at.unit d) → at.base ≡ acts.base →
-        HaveDone stage looked.now bytes first acts outcomes.old running.old.items counters.old →
-        HaveDone stage looked.now bytes first (slot_acts stage slot.now found acts) outcomes.new running.new.items counters.new }
+        HaveDone stage looked.now bytes first acts outcomes.old running.old.items counters.old.counts →
+        HaveDone stage looked.now bytes first (slot_acts stage slot.now found acts) outcomes.new running.new.items counters.new.counts }
 {
     let node = usize::from(slot.node);
     let one = &looked[usize::from(at.unit)];
@@ -144,7 +144,7 @@ fn decide_slot(
     looked: &[Looked],
     outcomes: &mut [u8],
     running: &mut Vec<Ran>,
-    counters: &mut Counters,
+    counters: &mut Counts,
     bytes: u64,
 )
     requires inside { at.unit < length looked.now }
@@ -155,9 +155,9 @@ fn decide_slot(
     ensures room { vec_capacity running.old ≤ vec_capacity running.new }
     ensures done { (stage : Stage) (found : Option Found) (d : Looked) (first : List Count) (acts : Acts) →
         Finds found (slice_index_or looked.now at.unit d) → at.base ≡ acts.base →
-        HaveDone stage looked.now bytes first acts outcomes.old running.old.items counters.old →
+        HaveDone stage looked.now bytes first acts outcomes.old running.old.items counters.old.counts →
         HaveDone stage looked.now bytes first (if runs slot.now.node slot.now.guard acts.outcomes then slot_acts stage slot.now found acts else acts)
-        outcomes.new running.new.items counters.new }
+        outcomes.new running.new.items counters.new.counts }
 {
     if runs_now(slot.node, slot.guard, outcomes) {
         act(slot, at, looked, outcomes, running, counters, bytes);
@@ -171,7 +171,7 @@ fn decide_unit(
     looked: &[Looked],
     outcomes: &mut [u8],
     running: &mut Vec<Ran>,
-    counters: &mut Counters,
+    counters: &mut Counts,
     bytes: u64,
 ) -> u16
     requires inside { at.unit < length looked.now }
@@ -184,8 +184,8 @@ fn decide_unit(
     ensures near { result ≤ at.base + 256 }
     ensures done { (look : Look) (k : ℕ) (stage : Stage) (words : Words) (d : Looked) (first : List Count) (acts : Acts) →
         LookedFor look k acts.place words what.now (slice_index_or looked.now at.unit d) → at.base ≡ acts.base →
-        HaveDone stage looked.now bytes first acts outcomes.old running.old.items counters.old →
-        HaveDone stage looked.now bytes first (unit_acts look k stage words acts what.now) outcomes.new running.new.items counters.new }
+        HaveDone stage looked.now bytes first acts outcomes.old running.old.items counters.old.counts →
+        HaveDone stage looked.now bytes first (unit_acts look k stage words acts what.now) outcomes.new running.new.items counters.new.counts }
 {
     match what {
         Unit::Gate(gate) => {
@@ -206,7 +206,7 @@ pub fn decide(
     looked: &[Looked],
     outcomes: &mut [u8],
     running: &mut Vec<Ran>,
-    counters: &mut Counters,
+    counters: &mut Counts,
     bytes: u64,
 )
     requires few_units { length stage.now.units ≤ 32 }
@@ -216,7 +216,7 @@ pub fn decide(
     ensures few { vec_len running.new ≤ length stage.now.units }
     ensures room { vec_capacity running.old ≤ vec_capacity running.new }
     ensures done { (look : Look) (k : ℕ) (words : Words) → AllLooked look k words stage.now looked.now →
-        HaveDone stage.now looked.now bytes counters.old (acts_of look k stage.now words outcomes.old) outcomes.new running.new.items counters.new }
+        HaveDone stage.now looked.now bytes counters.old.counts (acts_of look k stage.now words outcomes.old) outcomes.new running.new.items counters.new.counts }
 {
     running.clear();
     let mut base: u16 = 0;

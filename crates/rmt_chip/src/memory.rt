@@ -1,8 +1,6 @@
 //! The memory of a slot laid out for reading, and look-ups in it.
 
 mod exact;
-mod group;
-mod grouping;
 mod lay;
 mod rows;
 mod runs;
@@ -14,11 +12,11 @@ ghost use Rattle.std.specs.Prelude.{◌≡◌, ◌≤◌, vec_len};
 
 use crate::looked::Looked;
 use crate::memory::exact::place_of;
-use crate::memory::group::Group;
 use crate::memory::lay::{lay_exact, lay_ternary, without};
 use crate::memory::runs::{Runs, run_at};
 use crate::memory::ternary::best_place;
 use crate::memory::ways::ExactMemory;
+use rmt_bits::groups::Group;
 use rmt_config::config::{Memory, SlotUnit, Stage};
 use std::alloc::{AllocError, Global};
 

@@ -9,7 +9,6 @@ ghost use Rattle.rmt_chip.specs.Ran.{all_running, HaveDone};
 ghost use Rattle.rmt_chip.specs.Runnable.{StageFits};
 ghost use Rattle.rmt_chip.specs.Writes.{last_on};
 
-use crate::counters::Counters;
 use crate::decide::decide;
 use crate::look::look;
 use crate::looked::Looked;
@@ -17,6 +16,7 @@ use crate::memory::SlotMemory;
 use crate::ran::Ran;
 use crate::write::Write;
 use crate::writes::compute;
+use rmt_bits::counts::Counts;
 use rmt_config::config::Stage;
 use rmt_config::vector::Vector;
 
@@ -50,7 +50,7 @@ pub fn set_outcomes(
     pending: &mut Pending,
     stage: &Stage,
     outcomes: &mut [u8],
-    counters: &mut Counters,
+    counters: &mut Counts,
     bytes: u64,
 )
     requires fits { StageFits stage.now }
@@ -60,7 +60,7 @@ pub fn set_outcomes(
     ensures looked { pending.new.looked ≡ pending.old.looked }
     ensures due { pending.new.due ≡ pending.old.due }
     ensures done { (look : Look) (k : ℕ) (words : Words) → AllLooked look k words stage.now pending.old.looked.items →
-        HaveDone stage.now pending.old.looked.items bytes counters.old (acts_of look k stage.now words outcomes.old) outcomes.new pending.new.running.items counters.new }
+        HaveDone stage.now pending.old.looked.items bytes counters.old.counts (acts_of look k stage.now words outcomes.old) outcomes.new pending.new.running.items counters.new.counts }
 {
     decide(
         stage,

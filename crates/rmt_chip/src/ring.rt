@@ -13,10 +13,10 @@ ghost use Rattle.rmt_chip.specs.Ring.{ring_at, now, past, next, AllHold};
 ghost use Rattle.rmt_chip.specs.Runnable.{StagesFit};
 ghost use Rattle.rmt_chip.specs.StageMemories.{MemoriesOf, LaidOut};
 
-use crate::counters::Counters;
 use crate::memory::SlotMemory;
 use crate::place::Place;
 use crate::steps;
+use rmt_bits::counts::Counts;
 use rmt_config::config::Config;
 
 /// The number of packet slots: ages 0 to 384.
@@ -71,7 +71,7 @@ pub fn read_all(places: &mut [Place], newest: usize, config: &Config)
 }
 
 /// Each stage sets the outcomes of the packet that is 8 cycles behind its start, and counts its hits.
-pub fn act_all(places: &mut [Place], newest: usize, config: &Config, counters: &mut Counters)
+pub fn act_all(places: &mut [Place], newest: usize, config: &Config, counters: &mut Counts)
     requires full { length places.old ≡ 385 }
     requires newest { newest < 385 }
     requires fits { StagesFit config.now.stages }
@@ -80,7 +80,7 @@ pub fn act_all(places: &mut [Place], newest: usize, config: &Config, counters: &
     ensures holds { (look : Look) (item : ℕ → Option Entered) →
         AllHold look config.now item now now past now newest places.old →
         AllHold look config.now item now now now now newest places.new
-        × CountsAlso counters.old counters.new (hits_upto look config.now item (length config.now.stages)) }
+        × CountsAlso counters.old.counts counters.new.counts (hits_upto look config.now item (length config.now.stages)) }
 {
     for k in 0..config.stages.len() {
         let stages = config.stages.as_slice();

@@ -11,11 +11,11 @@ ghost use Rattle.rmt_chip.specs.Pending.{HaveRoomFor, looked_at};
 ghost use Rattle.rmt_chip.specs.Ran.{CountsAlso};
 ghost use Rattle.rmt_chip.specs.Runnable.{StageFits};
 
-use crate::counters::Counters;
 use crate::memory::SlotMemory;
 use crate::pending;
 use crate::place::Place;
 use crate::writes::apply;
+use rmt_bits::counts::Counts;
 use rmt_config::config::Stage;
 use rmt_ptcam::parse::Parsed;
 
@@ -50,16 +50,16 @@ pub fn read(place: &mut Place, k: usize, stages: &[Stage])
 }
 
 /// The outcomes of stage k's units are set, and its hits counted.
-pub fn act(place: &mut Place, k: usize, stages: &[Stage], counters: &mut Counters)
+pub fn act(place: &mut Place, k: usize, stages: &[Stage], counters: &mut Counts)
     requires exists { k < length stages.now }
     requires fit { All StageFits stages.now }
     requires room { HaveRoomFor stages.now place.old.pending.items }
     ensures room { HaveRoomFor stages.now place.new.pending.items }
     ensures decided { (stage : StageOf) → slice_get stages.now k ≡ Some stage → DecidedBy k stage place.old place.new }
-    ensures rests { is_accepted_of place.old.parsed ≡ false → counters.new ≡ counters.old }
+    ensures rests { is_accepted_of place.old.parsed ≡ false → counters.new.counts ≡ counters.old.counts }
     ensures counted { is_accepted_of place.old.parsed ≡ true → (stage : StageOf) → slice_get stages.now k ≡ Some stage →
         (look : Look) (number : ℕ) (words : Words) → AllLooked look number words stage (looked_at place.old.pending.items k) →
-        CountsAlso counters.old counters.new (hits_made place.old.size (acts_of look number stage words place.old.outcomes).counted) }
+        CountsAlso counters.old.counts counters.new.counts (hits_made place.old.size (acts_of look number stage words place.old.outcomes).counted) }
 {
     if is_accepted(place.parsed) {
         pending::set_outcomes(

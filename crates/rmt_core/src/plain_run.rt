@@ -152,7 +152,7 @@ fn last_text(alloc: Global, plain: &Plain, bad: Option<Bad>) -> Result<Vec<u8>, 
         ≡ plain_end p lists (record { packets = done; bad = bad_line bad }) (bad_line bad)) }
 {
     match bad {
-        None => count_lines(alloc, plain.counters().as_slice()),
+        None => count_lines(alloc, plain.counters()),
         Some(bad) => {
             let line = bad_text(alloc, bad)?;
             Vec::from_slice(alloc, line.as_bytes())

@@ -1,10 +1,9 @@
 -- Worked rows of the definitions.
 use Rattle.std.proofs.Common.{◌≡◌, [], ◌∷◌, Some, None, refl}
 use Rattle.rmt_ast.specs.declared.program.Kind.TheVariants.{Prefix, Ternary}
-use Rattle.rmt_plain.specs.Counting.{counted}
-use Rattle.rmt_plain.specs.Grouping.{earlier, masked}
+use Rattle.rmt_bits.specs.Grouping.{earlier}
+use Rattle.rmt_plain.specs.Grouping.{masked}
 use Rattle.rmt_plain.specs.Ranking.{weight_of}
-use Rattle.rmt_plain.proofs.OrderLaws.{onto}
 
 -- the longer prefix is lighter, and the lower priority number
 long_prefix : weight_of Prefix 24 ≡ 4294967271
@@ -25,12 +24,3 @@ earlier_of_two = refl
 
 earlier_of_one : earlier None (Some 3) ≡ Some 3
 earlier_of_one = refl
-
--- both counters wrap, and the other stays
-counted_once : counted 14 (record { entry = 3; packets = 1; bytes = 60 } ∷ record { entry = 5; packets = 281474976710655; bytes = 18446744073709551612 } ∷ []) 5
-    ≡ record { entry = 3; packets = 1; bytes = 60 } ∷ record { entry = 5; packets = 0; bytes = 10 } ∷ []
-counted_once = refl
-
--- numbers put in order, each once
-in_their_order : onto (4 ∷ 1 ∷ 4 ∷ 0 ∷ []) [] ≡ 0 ∷ 1 ∷ 4 ∷ []
-in_their_order = refl

@@ -1,15 +1,11 @@
 pub mod AnswerLaws
 pub mod BestLaws
-pub mod CountingLaws
 pub mod Examples
 pub mod FieldLaws
 pub mod FindLaws
 pub mod FirstLaws
-pub mod GroupLaws
 pub mod KeyLaws
 pub mod MarkLaws
-pub mod OrderLaws
-pub mod PlaceLaws
 pub mod RankingLaws
 pub mod RunLaws
 pub mod SentLaws

@@ -1,8 +1,5 @@
-pub mod Counting
 pub mod Grouping
-pub mod Indexing
 pub mod Marks
-pub mod Places
 pub mod Ranking
 pub mod Runnable
 pub mod Running

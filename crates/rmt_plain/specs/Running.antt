@@ -1,5 +1,5 @@
 -- A control run over tables that are ready to be looked up, against one over lists of entries.
-use Rattle.std.specs.Prelude.{◌≡◌, ⊤, ℕ, ◌+◌, List, [], ◌∷◌, Option, Some, None, if◌then◌else◌, slice_get, slice_index, slice_set, option_map, option_and_then, unwrap_or, length, replicate}
+use Rattle.std.specs.Prelude.{◌≡◌, ⊤, ℕ, ◌+◌, List, [], ◌∷◌, Option, Some, None, if◌then◌else◌, map, slice_get, slice_index, slice_set, option_map, option_and_then, unwrap_or, length, replicate}
 use Rattle.rmt_ast.specs.declared.program.Program.{Program}
 use Rattle.rmt_ast.specs.declared.program.Table.{Table}
 use Rattle.rmt_ast.specs.declared.program.Kind.{Kind}
@@ -13,7 +13,8 @@ use Rattle.rmt_ast.specs.Control as control
 use Rattle.rmt_plain.specs.declared.lookup.Lookup.{Lookup}
 use Rattle.rmt_plain.specs.declared.run.Run.{Run}
 use Rattle.rmt_plain.specs.Ranking.{IsRanked}
-use Rattle.rmt_plain.specs.Grouping.{AreGrouped, AreMarks, best_of}
+use Rattle.rmt_bits.specs.Grouping.{AreGrouped, best_of}
+use Rattle.rmt_plain.specs.Grouping.{AreMarks, place_for, row_of}
 use Rattle.rmt_plain.specs.Marks.{slots_for}
 
 -- what the nodes so far have left
@@ -26,7 +27,7 @@ at_start p s = record { state = s; outcomes = replicate (length p.nodes) 0; hits
 
 -- the entry that a look-up finds for a key
 abbrev pub entry_for : List ℕ → List ℕ → Lookup → Option Entry
-entry_for key s l = option_and_then (slice_get l.entries.items) (best_of l.marks.items l.groups.items key s None)
+entry_for key s l = option_and_then (slice_get l.entries.items) (best_of (place_for l.marks.items key s) l.groups.items None)
 
 -- the entry that is looked up; a node without a table to look up has none
 abbrev pub first_of : List ℕ → List ℕ → Option Lookup → Option Entry
@@ -61,7 +62,7 @@ kind_of_node p n = unwrap_or (option_map (λ (node : Node). kind_of p node.what)
 -- the entries of a list are ready to be looked up: ranked, in groups, and marked
 pub record IsReady (kind : Kind) (es : List Entry) (l : Lookup) : Type 0 where
   pub ranked : IsRanked kind es l.entries.items
-  pub grouped : AreGrouped l.entries.items l.groups.items
+  pub grouped : AreGrouped (map row_of l.entries.items) l.groups.items
   pub marks : AreMarks (slots_for (length l.entries.items)) l.entries.items l.marks.items
 
 -- the lists of the nodes from number n on, each ready for its node's table

@@ -16,4 +16,4 @@ pub record Stands (p : Program) (lists : List (List Entry)) (packets : List Pack
   pub well_formed : IsProgram p
   pub entries : AreEntries p lists
   pub lookups_find : AreLookups p lists plain.lookups.items
-  pub counters_are : plain.counters ≡ counts_of p lists packets
+  pub counters_are : plain.counters.counts ≡ counts_of p lists packets

@@ -1,78 +1,46 @@
-//! Entries are put into groups, one after another.
+//! Entries are put into groups that test the same bits of the key.
 
-ghost use Rattle.std.specs.Prelude.{◌≡◌, ◌++◌, ◌∷◌, [], List, length, IfOk, OnOk};
-ghost use Rattle.rmt_ast.specs.declared.entry.Entry.{Entry};
-ghost use Rattle.rmt_plain.specs.Grouping.{AreGrouped};
-ghost use Rattle.rmt_plain.specs.Indexing.{AreIndexed, Chosen};
+ghost use Rattle.std.specs.Prelude.{◌≡◌, map, IfOk};
+ghost use Rattle.rmt_bits.specs.Grouping.{AreGrouped};
+ghost use Rattle.rmt_plain.specs.Grouping.{masks_of, values_of, row_of};
 
-use crate::group::{Group, group_of, masks, put, values};
-use crate::places::{Places, no_places, place_of, put_place};
 use rmt_ast::entry::Entry;
+use rmt_ast::program::Test;
+use rmt_bits::groups::{Group, Grouping, add, no_groups};
 use std::alloc::{AllocError, Global};
 
-/// Groups, and their numbers by their masks.
-#[derive(Drop)]
-pub struct Grouping {
-    pub groups: Vec<Group>,
-    pub index: Places,
-}
-
-/// The number of a new group of some masks, whose first entry stands at a place.
-fn begin(
-    alloc: Global,
-    grouping: &mut Grouping,
-    masks: Vec<u128>,
-    at: usize,
-) -> Result<usize, AllocError>
-    ensures { IfOk result (Chosen masks.items at grouping.old grouping.new) }
+/// The masks of tests.
+fn masks(alloc: Global, tests: &[Test]) -> Result<Vec<u128>, AllocError>
+    ensures { IfOk result (λ masks. masks.items ≡ masks_of tests.now) }
 {
-    let number = grouping.groups.len();
-    let name = Vec::from_slice(alloc, &masks)?;
-    put_place(&mut grouping.index, name, number)?;
-    grouping.groups.push(group_of(alloc, masks, at))?;
-    Ok(number)
-}
-
-/// The number of the group of some masks; where there is none, of a new one.
-fn choose(
-    alloc: Global,
-    grouping: &mut Grouping,
-    masks: Vec<u128>,
-    at: usize,
-) -> Result<usize, AllocError>
-    ensures { IfOk result (Chosen masks.items at grouping.old grouping.new) }
-{
-    match place_of(&grouping.index, &masks) {
-        Some(number) => Ok(number),
-        None => begin(alloc, grouping, masks, at),
+    let mut masks = Vec::with_capacity(alloc, tests.len())?;
+    for test in tests {
+        masks.push(test.mask)?;
     }
+    Ok(masks)
 }
 
-/// Adds an entry at a place behind those of all others.
-fn add(alloc: Global, grouping: &mut Grouping, entry: &Entry, at: usize) -> Result<(), AllocError>
-    ensures { OnOk result ((es : List Entry) → length es ≡ at → AreIndexed es grouping.old →
-        AreIndexed (es ++ entry.now ∷ []) grouping.new) }
+/// The values of tests.
+pub fn values(alloc: Global, tests: &[Test]) -> Result<Vec<u128>, AllocError>
+    ensures { IfOk result (λ values. values.items ≡ values_of tests.now) }
 {
-    let tests = entry.tests.as_slice();
-    let masks = masks(alloc, tests)?;
-    let values = values(alloc, tests)?;
-    let number = choose(alloc, grouping, masks, at)?;
-    if number < grouping.groups.len() {
-        put(&mut grouping.groups[number], values, at)?;
+    let mut values = Vec::with_capacity(alloc, tests.len())?;
+    for test in tests {
+        values.push(test.value)?;
     }
-    Ok(())
+    Ok(values)
 }
 
 /// The groups of entries.
 pub fn groups_of(alloc: Global, entries: &[Entry]) -> Result<Vec<Group>, AllocError>
-    ensures { IfOk result (λ groups. AreGrouped entries.now groups.items) }
+    ensures { IfOk result (λ groups. AreGrouped (map row_of entries.now) groups.items) }
 {
-    let mut grouping = Grouping {
-        groups: Vec::new(alloc),
-        index: no_places(alloc),
-    };
+    let mut grouping = no_groups(alloc);
     for at in 0..entries.len() {
-        add(alloc, &mut grouping, &entries[at], at)?;
+        let tests = entries[at].tests.as_slice();
+        let masks = masks(alloc, tests)?;
+        let values = values(alloc, tests)?;
+        add(alloc, &mut grouping, masks, values, at)?;
     }
     let Grouping { groups, .. } = grouping;
     Ok(groups)

@@ -4,11 +4,11 @@ ghost use Rattle.std.specs.Prelude.{◌≡◌, IfOk};
 ghost use Rattle.rmt_plain.specs.Ranking.{weight_of, IsRanked};
 ghost use Rattle.rmt_plain.specs.Running.{kind_of, kind_of_node, IsReady, AreReady};
 
-use crate::group::Group;
 use crate::grouping::groups_of;
 use crate::marks::marks_of;
 use rmt_ast::entry::{Entry, EntryLists};
 use rmt_ast::program::{Kind, Program, What};
+use rmt_bits::groups::Group;
 use rmt_bits::sequence::Sequence;
 use std::alloc::{AllocError, Global};
 

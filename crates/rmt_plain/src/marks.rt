@@ -5,7 +5,7 @@ ghost use Rattle.std.specs.Prelude.{◌≡◌, length, true, slice_set, IfOk};
 ghost use Rattle.rmt_plain.specs.Grouping.{AreMarks};
 ghost use Rattle.rmt_plain.specs.Marks.{total_of, slot_of, slots_for, is_marked as is_marked_of};
 
-use crate::group::values;
+use crate::grouping::values;
 use crate::numbers::put_at;
 use rmt_ast::entry::Entry;
 use std::alloc::{AllocError, Global};

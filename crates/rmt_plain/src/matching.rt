@@ -1,15 +1,16 @@
 //! The first entry of a table that matches a state.
 
 ghost use Rattle.std.specs.Prelude.{◌≡◌, ◌∷◌, [], IfOk, OnOk, None, option_copied, option_and_then, slice_get};
-ghost use Rattle.rmt_plain.specs.Grouping.{masked, marked_place, is_before as is_before_of, earlier as earlier_of, best_of};
+ghost use Rattle.rmt_bits.specs.Grouping.{best_of};
+ghost use Rattle.rmt_plain.specs.Grouping.{masked, marked_place, place_for as place_for_key};
 ghost use Rattle.rmt_plain.specs.Running.{entry_for};
 
-use crate::group::{Group, place};
 use crate::lookup::Lookup;
 use crate::marks::{is_marked, total};
 use crate::numbers::number_at;
-use crate::places::place_of_one;
 use rmt_ast::entry::Entry;
+use rmt_bits::groups::{Group, earlier, is_before, place};
+use rmt_bits::places::place_of_one;
 use std::alloc::{AllocError, Global};
 
 /// The bits of a key that masks leave.
@@ -66,8 +67,7 @@ fn place_for(
     key: &[u32],
     state: &[u128],
 ) -> Result<Option<usize>, AllocError>
-    ensures { IfOk result (λ place. place
-        ≡ marked_place marks.now group.now (masked group.now.masks.items key.now state.now)) }
+    ensures { IfOk result (λ place. place ≡ place_for_key marks.now key.now state.now group.now) }
 {
     if group.masks.len() == 1 && key.len() == 1 {
         let value = number_at(state, key[0] as usize) & group.masks[0];
@@ -75,27 +75,6 @@ fn place_for(
     }
     mask_key(wanted, &group.masks, key, state)?;
     Ok(place_of_bits(marks, group, wanted))
-}
-
-/// Whether a place that was found comes before another.
-fn is_before(found: Option<usize>, place: usize) -> bool
-    ensures { result ≡ is_before_of found place }
-{
-    match found {
-        Some(found) => found < place,
-        None => false,
-    }
-}
-
-/// The earlier of two places.
-fn earlier(first: Option<usize>, second: Option<usize>) -> Option<usize>
-    ensures { result ≡ earlier_of first second }
-{
-    match (first, second) {
-        (Some(a), Some(b)) => Some(a.min(b)),
-        (Some(a), None) => Some(a),
-        (None, other) => other,
-    }
 }
 
 /// The earliest place that the groups have for a key. Groups whose first entry stands behind it are
@@ -107,7 +86,7 @@ fn best_place(
     key: &[u32],
     state: &[u128],
 ) -> Result<Option<usize>, AllocError>
-    ensures { IfOk result (λ best. best ≡ best_of marks.now groups.now key.now state.now None) }
+    ensures { IfOk result (λ best. best ≡ best_of (place_for_key marks.now key.now state.now) groups.now None) }
 {
     let mut best = None;
     for group in groups {

@@ -10,7 +10,8 @@ use crate::fault::PlainFault;
 use crate::lookup::{Lookup, lookups_of};
 use rmt_ast::entry::EntryLists;
 use rmt_ast::program::Program;
-use rmt_bits::answer::{Answer, Counts};
+use rmt_bits::answer::Answer;
+use rmt_bits::counts::Counts;
 use std::alloc::Global;
 
 /// A program with its entries, and what it has counted so far.
@@ -62,7 +63,6 @@ impl Plain {
     {
         let answer = answer(alloc, &self.program, &self.lookups, port, frame)?;
         count(
-            alloc,
             &mut self.counters,
             answer.hits.as_slice(),
             frame.len() as u64,
@@ -74,7 +74,7 @@ impl Plain {
     pub fn counters(&self) -> &Counts
         ensures { (p : Program) (lists : List (List Entry)) (packets : List Packet) →
             Stands p lists packets self.now →
-            result.now ≡ counts_of p lists packets }
+            result.now.counts ≡ counts_of p lists packets }
     {
         &self.counters
     }

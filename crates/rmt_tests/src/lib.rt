@@ -14,6 +14,8 @@ mod check;
 #[cfg(test)]
 mod chip;
 #[cfg(test)]
+mod counts;
+#[cfg(test)]
 mod entries;
 #[cfg(test)]
 mod formats;

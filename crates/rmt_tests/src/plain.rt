@@ -40,7 +40,11 @@ fn started(alloc: Global, program: &[u8], text: &[u8]) -> Option<Plain>
 /// The lines of a run's counters, without those of no packet.
 fn counted(alloc: Global, plain: &Plain) -> Result<String, AllocError> {
     let mut out = String::new(alloc);
-    for count in plain.counters().as_slice() {
+    let counters = plain.counters();
+    for at in 0..counters.len() {
+        let Some(count) = counters.get(at) else {
+            continue;
+        };
         if count.packets > 0 {
             let entry = count.entry;
             let packets = count.packets;

@@ -6,17 +6,16 @@ ghost use Rattle.rmt_config.specs.Cells.{tcam_row, blocks_at};
 ghost use Rattle.rmt_config.specs.declared.config.TcamRow.{TcamRow};
 ghost use Rattle.rmt_config.specs.declared.config.CellNumber.{CellNumber};
 ghost use Rattle.rmt_chip.specs.Laying.{TcamRows};
-ghost use Rattle.rmt_chip.specs.Grouping.{words_of_key, masked, place_in, is_before as is_before_of, earlier as earlier_of, best_of, AreGrouped};
+ghost use Rattle.rmt_bits.specs.Grouping.{best_of, AreGrouped};
+ghost use Rattle.rmt_chip.specs.Grouping.{words_of_key, place_for as place_for_key};
 ghost use Rattle.rmt_chip.specs.Comparing.{compared_at};
 
-use crate::memory::group::{Group, place};
-use crate::memory::grouping::{Grouping, add};
 use crate::memory::rows::tcam_bits;
 use crate::memory::runs::unit_blocks;
 use rmt_bits::bits::bits_of_bytes;
+use rmt_bits::groups::{Group, Grouping, add, earlier, is_before, no_groups, place};
 use rmt_config::config::{CellNumber, TcamRow};
 use std::alloc::{AllocError, Global};
-use std::collections::BTreeMap;
 
 /// The bits that each of some blocks compares in a row.
 fn masks_of(
@@ -24,14 +23,14 @@ fn masks_of(
     rows: &[TcamRow],
     blocks: &[u8],
     row: u64,
-) -> Result<Vec<u64>, AllocError>
+) -> Result<Vec<u128>, AllocError>
     requires rows { TcamRows rows.now }
     requires row { row < 2048 }
     ensures { IfOk result (λ masks. masks.items ≡ map (λ b. tcam_row (λ (t : TcamRow). t.mask) rows.now b row) blocks.now) }
 {
     let mut masks = Vec::with_capacity(alloc, blocks.len())?;
     for block in blocks {
-        masks.push(tcam_bits(rows, *block, row).mask)?;
+        masks.push(u128::from(tcam_bits(rows, *block, row).mask))?;
     }
     Ok(masks)
 }
@@ -42,14 +41,14 @@ fn values_of(
     rows: &[TcamRow],
     blocks: &[u8],
     row: u64,
-) -> Result<Vec<u64>, AllocError>
+) -> Result<Vec<u128>, AllocError>
     requires rows { TcamRows rows.now }
     requires row { row < 2048 }
     ensures { IfOk result (λ values. values.items ≡ map (λ b. tcam_row (λ (t : TcamRow). t.value) rows.now b row) blocks.now) }
 {
     let mut values = Vec::with_capacity(alloc, blocks.len())?;
     for block in blocks {
-        values.push(tcam_bits(rows, *block, row).value)?;
+        values.push(u128::from(tcam_bits(rows, *block, row).value))?;
     }
     Ok(values)
 }
@@ -66,10 +65,7 @@ pub fn groups_of(
     requires cells { All (λ (n : CellNumber). (n.cell / 2048 + 1) * side ≤ length blocks.now) numbers.now }
     ensures { IfOk result (λ groups. AreGrouped (map (λ (n : CellNumber). compared_at rows.now blocks.now side n.cell) numbers.now) groups.items) }
 {
-    let mut grouping = Grouping {
-        groups: Vec::new(alloc),
-        index: BTreeMap::new(alloc),
-    };
+    let mut grouping = no_groups(alloc);
     for at in 0..numbers.len() {
         let cell = numbers[at].cell as u64;
         let unit = unit_blocks(blocks, side, cell / 2048);
@@ -82,7 +78,7 @@ pub fn groups_of(
 }
 
 /// The 40 bits of a key from one on.
-fn word_at(key: &[u8], low: u32) -> u64
+fn word_at(key: &[u8], low: u32) -> u128
     requires short { length key.now ≤ 80 }
     requires low { low < 640 }
     ensures { result ≡ slice_of (number_of key.now) low 40 }
@@ -92,11 +88,11 @@ fn word_at(key: &[u8], low: u32) -> u64
         return 0;
     }
     let len = (bits - low).min(40);
-    bits_of_bytes(key, bits - low - len, len as u8) as u64
+    bits_of_bytes(key, bits - low - len, len as u8)
 }
 
 /// A key in 16 words of 40 bits, the lowest first.
-fn key_words(key: &[u8]) -> [u64; 16]
+fn key_words(key: &[u8]) -> [u128; 16]
     requires { length key.now ≤ 80 }
     ensures { result ≡ words_of_key (number_of key.now) }
 {
@@ -108,9 +104,9 @@ fn key_words(key: &[u8]) -> [u64; 16]
 }
 
 /// The place of the first row of a group that has a key.
-fn place_for(group: &Group, words: &[u64]) -> Option<usize>
+fn place_for(group: &Group, words: &[u128]) -> Option<usize>
     requires { length words.now ≡ 16 }
-    ensures { result ≡ place_in group.now (masked group.now.masks.items words.now) }
+    ensures { result ≡ place_for_key words.now group.now }
 {
     let mut wanted = [0; 16];
     let count = group.masks.len().min(16);
@@ -120,31 +116,10 @@ fn place_for(group: &Group, words: &[u64]) -> Option<usize>
     place(group, &wanted[..count])
 }
 
-/// Whether a place that was found comes before another.
-fn is_before(found: Option<usize>, place: usize) -> bool
-    ensures { result ≡ is_before_of found place }
-{
-    match found {
-        Some(found) => found < place,
-        None => false,
-    }
-}
-
-/// The earlier of two places.
-fn earlier(first: Option<usize>, second: Option<usize>) -> Option<usize>
-    ensures { result ≡ earlier_of first second }
-{
-    match (first, second) {
-        (Some(a), Some(b)) => Some(a.min(b)),
-        (Some(a), None) => Some(a),
-        (None, other) => other,
-    }
-}
-
 /// The earliest place that the groups have for a key. Groups whose first row stands behind it are not looked at.
 pub fn best_place(groups: &[Group], key: &[u8]) -> Option<usize>
     requires { length key.now ≤ 80 }
-    ensures { result ≡ best_of groups.now (words_of_key (number_of key.now)) None }
+    ensures { result ≡ best_of (place_for_key (words_of_key (number_of key.now))) groups.now None }
 {
     let words = key_words(key);
     let mut best = None;

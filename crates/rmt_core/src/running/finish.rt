@@ -187,7 +187,7 @@ fn last_lines(alloc: Global, chip: &Chip, cycles: u64, packets: u64) -> Result<V
         ≡ flat_map count_line (chip_counts_of c inputs)
         ++ (cycles_line cycles ++ flight_line (min packets (latency_of c.stages + 1)))) }
 {
-    let mut text = count_lines(alloc, chip.counters().as_slice())?;
+    let mut text = count_lines(alloc, chip.counters())?;
     let flight = packets.min(u64::from(chip.latency()) + 1);
     let last = cycle_lines(alloc, cycles, flight)?;
     text.extend_from_slice(last.as_bytes())?;

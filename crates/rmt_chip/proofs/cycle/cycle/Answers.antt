@@ -37,7 +37,7 @@ returns-clause-gives c = λ inputs before ring turn count laid flight.
     let ok = frames.chains.ok.0 in
     let as_many = frames.stand.as_many in
     let all_frames : length (frames_of frames) ≡ 385 = omega arith in
-    let passes : Passes config (set c.args.places.now c.args.newest c.enter_if.new.place) c.write_all.new.places c.read_all.new.places c.act_all.new.places four c.args.newest c.args.counters.now c.act_all.new.counters = record {
+    let passes : Passes config (set c.args.places.now c.args.newest c.enter_if.new.place) c.write_all.new.places c.read_all.new.places c.act_all.new.places four c.args.newest c.args.counters.now.counts c.act_all.new.counters.counts = record {
       write = c.write_all.ensures.holds;
       read = c.read_all.ensures.holds;
       act = c.act_all.ensures.holds;
@@ -47,6 +47,6 @@ returns-clause-gives c = λ inputs before ring turn count laid flight.
     let left : AnswersIf (leaving_if config place (get_or (frames_after c.args.frame c.args.newest (frames_of frames)) at []) place.taken) c.leave.result c.leave.new.out =
     subst (λ (fs : List (List ℕ)). AnswersIf (leaving_if config place (get_or fs at []) place.taken) c.leave.result c.leave.new.out) entered c.leave.ensures in
     let given = cycle_right config c.requires.fits.stages.rise inputs c.args.frame before c.args.newest c.args.number c.args.latency at
-    c.args.places.now c.write_all.new.places c.read_all.new.places c.act_all.new.places four (frames_of frames) c.args.counters.now c.act_all.new.counters
+    c.args.places.now c.write_all.new.places c.read_all.new.places c.act_all.new.places four (frames_of frames) c.args.counters.now.counts c.act_all.new.counters.counts
     c.enter_if.new.place place c.leave.result c.leave.new.out ring c.requires.full all_frames turn count c.enter_if.ensures.entered passes c.requires.leaves small last place_is left flight in
-    (subst (λ (fs : List (List ℕ)). InFlight config (inputs ++ input_of c.args.frame ∷ []) c.args.newest four fs c.act_all.new.counters) (sym entered) given.0, given.1)
+    (subst (λ (fs : List (List ℕ)). InFlight config (inputs ++ input_of c.args.frame ∷ []) c.args.newest four fs c.act_all.new.counters.counts) (sym entered) given.0, given.1)

@@ -14,7 +14,7 @@ returns-then-one-clause-done c = λ stage found d first acts finds low was.
     let unit = c.args.at.unit in
     let bytes = c.args.bytes in
     let base = c.args.at.base in
-    let counters = c.count.new.counters in
+    let counters = c.count.new.counters.counts in
     let read = c.index-looked-from.result in
     let one = get_or looked unit d in
     let same : read ≡ one = c.index-looked-from.is ∙ ap (λ (i : ℕ). get_or looked i read) c.from.ensures ∙ get_or_default looked unit read d c.requires.inside in
@@ -24,9 +24,9 @@ returns-then-one-clause-done c = λ stage found d first acts finds low was.
     ap (λ (n : ℕ). set c.args.outcomes.now n (2 + c.saturating_sub.result)) c.from-node.ensures ∙ ap (λ (n : ℕ). set c.args.outcomes.now slot.node (2 + n)) value in
     let running : c.run.new.running.items ≡ c.args.running.now.items ++ record { code = one.code; unit = unit; found = true } ∷ [] =
     c.run.ensures.items ∙ ap (λ (n : ℕ). c.args.running.now.items ++ record { code = n; unit = unit; found = true } ∷ []) code in
-    let counts : CountsAlso c.args.counters.now counters (one_if slot.counted one.number bytes) =
-    subst (λ (l : Looked). CountsAlso c.args.counters.now counters (one_if slot.counted l.number bytes)) same c.count.ensures in
-    let done = slot_found stage slot found looked unit d bytes base first c.args.counters.now counters acts c.args.outcomes.now c.args.running.now.items
+    let counts : CountsAlso c.args.counters.now.counts counters (one_if slot.counted one.number bytes) =
+    subst (λ (l : Looked). CountsAlso c.args.counters.now.counts counters (one_if slot.counted l.number bytes)) same c.count.ensures in
+    let done = slot_found stage slot found looked unit d bytes base first c.args.counters.now.counts counters acts c.args.outcomes.now c.args.running.now.items
     c.requires.inside finds (ap (λ (l : Looked). l.hit) (sym same) ∙ c.if-one.true) low counts was in
     subst (λ (os : List ℕ). HaveDone stage looked bytes first (slot_acts stage slot found acts) os c.run.new.running.items counters) (sym outcomes)
     (subst (λ (rs : List Ran). HaveDone stage looked bytes first (slot_acts stage slot found acts) (set c.args.outcomes.now slot.node (2 + (one.code - base))) rs counters) (sym running) done)
@@ -38,7 +38,7 @@ returns-then-slot-clause-done c = λ stage found d first acts finds low was.
     let unit = c.args.at.unit in
     let bytes = c.args.bytes in
     let base = c.args.at.base in
-    let counters = c.args.counters.now in
+    let counters = c.args.counters.now.counts in
     let read = c.index-looked-from.result in
     let one = get_or looked unit d in
     let same : read ≡ one = c.index-looked-from.is ∙ ap (λ (i : ℕ). get_or looked i read) c.from.ensures ∙ get_or_default looked unit read d c.requires.inside in
@@ -57,5 +57,5 @@ returns-else-slot-clause-done c = λ stage found d first acts finds low was.
     let read = c.index-looked-from.result in
     let one = get_or looked unit d in
     let same : read ≡ one = c.index-looked-from.is ∙ ap (λ (i : ℕ). get_or looked i read) c.from.ensures ∙ get_or_default looked unit read d c.requires.inside in
-    slot_rests stage c.args.slot.now found looked one c.args.bytes first c.args.counters.now acts c.args.outcomes.now c.args.running.now.items
+    slot_rests stage c.args.slot.now found looked one c.args.bytes first c.args.counters.now.counts acts c.args.outcomes.now c.args.running.now.items
     finds (ap (λ (l : Looked). l.hit) (sym same) ∙ c.if-one.false) c.if-slot.false was

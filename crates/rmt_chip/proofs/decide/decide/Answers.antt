@@ -24,13 +24,13 @@ loop-i-preserved c =
       room = omega arith;
       few = omega arith;
       small = omega arith;
-      so_far = λ look k words read. upto_more look k words c.args.stage.now c.args.looked.now c.args.bytes c.args.counters.now i c.args.outcomes.now
-          c.loop-i.outcomes c.loop-i.running.items c.loop-i.counters c.loop-i.base unit one d.new.outcomes d.new.running.items d.new.counters d.result
-          read inside at (λ acts here low done. d.ensures.done look k c.args.stage.now words one c.args.counters.now acts here low done) d.ensures.next (was.so_far look k words read);
+      so_far = λ look k words read. upto_more look k words c.args.stage.now c.args.looked.now c.args.bytes c.args.counters.now.counts i c.args.outcomes.now
+          c.loop-i.outcomes c.loop-i.running.items c.loop-i.counters.counts c.loop-i.base unit one d.new.outcomes d.new.running.items d.new.counters.counts d.result
+          read inside at (λ acts here low done. d.ensures.done look k c.args.stage.now words one c.args.counters.now.counts acts here low done) d.ensures.next (was.so_far look k words read);
     }
 
 pub returns-clause-done : goal.returns-clause-done
 returns-clause-done c = λ look k words read.
     let all = take_all c.loop-i.i c.args.stage.now.units (let end = ap (λ (us : List Unit). length us) c.as_slice-units.ensures in omega arith) in
-    subst (λ (us : List Unit). HaveDone c.args.stage.now c.args.looked.now c.args.bytes c.args.counters.now (fold (unit_acts look k c.args.stage.now words) (before_all c.args.outcomes.now) us) c.loop-i.outcomes c.loop-i.running.items c.loop-i.counters) all
+    subst (λ (us : List Unit). HaveDone c.args.stage.now c.args.looked.now c.args.bytes c.args.counters.now.counts (fold (unit_acts look k c.args.stage.now words) (before_all c.args.outcomes.now) us) c.loop-i.outcomes c.loop-i.running.items c.loop-i.counters.counts) all
     (c.loop-i.invariant.so_far look k words read).done

@@ -11,5 +11,5 @@ invariant-loop-i l = record {
   few : vec_len l.running ≤ l.i;
   small : l.base ≤ 256 * l.i;
   so_far : (look : Look) (k : ℕ) (words : Words) → AllLooked look k words l.stage l.looked →
-      DoneUpto look k words l.stage l.looked l.bytes l.initial.counters l.i l.initial.outcomes l.outcomes l.running.items l.counters l.base;
+      DoneUpto look k words l.stage l.looked l.bytes l.initial.counters.counts l.i l.initial.outcomes l.outcomes l.running.items l.counters.counts l.base;
 }

@@ -43,14 +43,14 @@ loop-k-preserved c =
           c.loop-k.invariant.room;
       holds = λ look item held.
           let was = c.loop-k.invariant.holds look item held in
-          let counts : ActCounts k stage (get_or places at old) c.loop-k.counters c.act.new.counters = record {
+          let counts : ActCounts k stage (get_or places at old) c.loop-k.counters.counts c.act.new.counters.counts = record {
             rests = c.act.ensures.rests;
             counted = λ yes l number words looked. c.act.ensures.counted yes stage found l number words looked;
           } in (
             act_turn look c.args.config.now item c.args.newest k at places stage old new c.requires.fits.rise inside is (c.requires.fits.last k inside) c.requires.newest many place_is c.index-places-at.is
                 (subst (λ (p : Place). DecidedBy k stage p new) (sym c.index-places-at.is) (c.act.ensures.decided stage found)) was.0,
-            count_turn look c.args.config.now item c.args.newest k at places stage old c.args.counters.now c.loop-k.counters c.act.new.counters c.requires.fits.rise inside is (c.requires.fits.last k inside) place_is c.index-places-at.is
-                (subst (λ (p : Place). ActCounts k stage p c.loop-k.counters c.act.new.counters) (sym c.index-places-at.is) counts) was.0 was.1,
+            count_turn look c.args.config.now item c.args.newest k at places stage old c.args.counters.now.counts c.loop-k.counters.counts c.act.new.counters.counts c.requires.fits.rise inside is (c.requires.fits.last k inside) place_is c.index-places-at.is
+                (subst (λ (p : Place). ActCounts k stage p c.loop-k.counters.counts c.act.new.counters.counts) (sym c.index-places-at.is) counts) was.0 was.1,
           );
     }
 
@@ -59,5 +59,5 @@ returns-clause-holds c = λ look item held.
     let was = c.loop-k.invariant.holds look item held in
     let all : c.loop-k.k ≡ length c.args.config.now.stages = omega arith in (
       act_done look c.args.config.now item c.args.newest c.loop-k.k c.loop-k.places c.requires.fits.rise all was.0,
-      subst (λ (n : ℕ). CountsAlso c.args.counters.now c.loop-k.counters (hits_upto look c.args.config.now item n)) all was.1,
+      subst (λ (n : ℕ). CountsAlso c.args.counters.now.counts c.loop-k.counters.counts (hits_upto look c.args.config.now item n)) all was.1,
     )

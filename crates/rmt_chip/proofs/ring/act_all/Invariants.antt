@@ -14,5 +14,5 @@ invariant-loop-k l = record {
   holds : (look : Look) (item : ℕ → Option Entered) →
       AllHold look l.config item now now past now l.newest l.initial.places →
       AllHold look l.config item now now (partly (done_before l.config.stages 8 l.k)) now l.newest l.places
-      × CountsAlso l.initial.counters l.counters (hits_upto look l.config item l.k);
+      × CountsAlso l.initial.counters.counts l.counters.counts (hits_upto look l.config item l.k);
 }

@@ -1,13 +1,9 @@
-use Rattle.std.proofs.Common.{◌≡◌, ◌≤◌, [], drop, length}
+use Rattle.std.proofs.Common.{◌≡◌, ◌+◌, ◌≤◌, [], take, length}
 use Rattle.rmt_bits.specs.Counts.{counts}
 use Rattle.rmt_bits.proofs.counts.Counts.add_all.Given as goal
 
-abbrev pub invariant-loop-at : goal.invariant-loop-at
-invariant-loop-at l = record {
-  inside : l.at ≤ length l.numbers;
-  room : l.at ≤ l.self.room;
-  counts_are : l.self.counts ≡ counts (drop l.at l.numbers) [];
+abbrev pub invariant-loop-number : goal.invariant-loop-number
+invariant-loop-number l = record {
+  room : length l.numbers ≤ l.self.room + l.number-index;
+  counts_are : l.self.counts ≡ counts (take l.number-index l.numbers) [];
 }
-
-abbrev pub decreases-loop-at : goal.decreases-loop-at
-decreases-loop-at l = l.at

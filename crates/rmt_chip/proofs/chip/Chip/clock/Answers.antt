@@ -39,13 +39,13 @@ returns c = λ config inputs stands.
     let items = with_items_is old.places c.cycle-answer.new.places (omega arith) in
     let grown : c.from.result ≡ cond (is_some c.args.frame) 1 0 = c.from.ensures ∙ ap bool_byte c.is_some.ensures ∙ byte_of (is_some c.args.frame) in
     let fact : LaidOut old.config.seed old.config.stages old.memories.items
-    → CycleGives old.config ((old.newest + 1) % 385) c.args.frame old.entered old.places.items c.cycle-answer.new.places (frames_of old.frames) (frames_of c.cycle-answer.new.frames) old.counters c.cycle-answer.new.counters c.cycle-answer.result c.cycle-answer.new.out =
+    → CycleGives old.config ((old.newest + 1) % 385) c.args.frame old.entered old.places.items c.cycle-answer.new.places (frames_of old.frames) (frames_of c.cycle-answer.new.frames) old.counters.counts c.cycle-answer.new.counters.counts c.cycle-answer.result c.cycle-answer.new.out =
     λ laid inputs before ring turn count.
-    subst (λ (ps : List Place). CycleGives old.config ((old.newest + 1) % 385) c.args.frame old.entered ps c.cycle-answer.new.places (frames_of old.frames) (frames_of c.cycle-answer.new.frames) old.counters c.cycle-answer.new.counters c.cycle-answer.result c.cycle-answer.new.out)
+    subst (λ (ps : List Place). CycleGives old.config ((old.newest + 1) % 385) c.args.frame old.entered ps c.cycle-answer.new.places (frames_of old.frames) (frames_of c.cycle-answer.new.frames) old.counters.counts c.cycle-answer.new.counters.counts c.cycle-answer.result c.cycle-answer.new.out)
     c.deref_mut.ensures.value
     (λ i b r t n. c.cycle-answer.ensures.gives i b r t n (subst (λ (m : List (Vec SlotMemory Global)). LaidOut old.config.seed old.config.stages m) (sym c.deref.ensures.value) laid))
     inputs before ring turn count in
     clock_right config inputs c.args.frame old _ c.cycle-answer.result c.cycle-answer.new.out old.in_ring refl refl
     (ap (λ (n : ℕ). old.entered + n) grown) refl
-    (λ laid. subst (λ (ps : List Place). CycleGives old.config ((old.newest + 1) % 385) c.args.frame old.entered old.places.items ps (frames_of old.frames) (frames_of c.cycle-answer.new.frames) old.counters c.cycle-answer.new.counters c.cycle-answer.result c.cycle-answer.new.out) (sym items) (fact laid))
+    (λ laid. subst (λ (ps : List Place). CycleGives old.config ((old.newest + 1) % 385) c.args.frame old.entered old.places.items ps (frames_of old.frames) (frames_of c.cycle-answer.new.frames) old.counters.counts c.cycle-answer.new.counters.counts c.cycle-answer.result c.cycle-answer.new.out) (sym items) (fact laid))
     stands

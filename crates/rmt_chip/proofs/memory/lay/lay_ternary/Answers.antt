@@ -4,7 +4,7 @@ use Rattle.rmt_config.specs.LaneForm.{bits_of_lanes}
 use Rattle.rmt_config.specs.Shapes.{divided_up}
 use Rattle.rmt_config.specs.Cells.{content_of}
 use Rattle.rmt_config.specs.declared.config.Memory.TheVariants.{Ternary}
-use Rattle.rmt_chip.specs.Grouping.{Compared, AreGrouped}
+use Rattle.rmt_bits.specs.Grouping.{Compared, AreGrouped}
 use Rattle.rmt_chip.specs.Comparing.{compared_at}
 use Rattle.rmt_chip.proofs.LayLaws.{ternary-heads, ternary-data, compared-same, blocks-there}
 use Rattle.rmt_chip.proofs.memory.lay.lay_ternary.Goals as goal

@@ -2,17 +2,13 @@ use Rattle.std.proofs.Common.{◌≡◌, ◌<◌, ◌%◌, ◌++◌, ◌∷◌, 
 use Rattle.std.proofs.lemmas.List.{take_more, take_all, length-take-le, length-map, map_push}
 use Rattle.rmt_chip.specs.Types.{TcamRow, CellNumber}
 use Rattle.rmt_config.specs.Cells.{tcam_row}
-use Rattle.rmt_chip.specs.Grouping.{Compared, AreGrouped, AreIndexed}
+use Rattle.rmt_bits.specs.Grouping.{Compared, AreGrouped, AreIndexed}
 use Rattle.rmt_chip.specs.Comparing.{compared_at}
 use Rattle.rmt_chip.proofs.RangeLaws.{nowhere}
-use Rattle.rmt_chip.proofs.GroupLaws.{no_groups}
 use Rattle.rmt_chip.proofs.memory.ternary.groups_of.Goals as goal
 
 abbrev compared : List ℕ → List ℕ → Compared
 compared ms vs = record { masks = ms; values = vs }
-
-pub loop-at-init : goal.loop-at-init
-loop-at-init c = no_groups _ c.new.ensures.items c.new-2.ensures.empty
 
 pub loop-at-preserved : goal.loop-at-preserved
 loop-at-preserved c =

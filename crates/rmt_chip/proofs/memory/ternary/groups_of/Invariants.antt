@@ -1,6 +1,6 @@
 use Rattle.std.proofs.Common.{take, map}
 use Rattle.rmt_chip.specs.Types.{CellNumber}
-use Rattle.rmt_chip.specs.Grouping.{AreIndexed}
+use Rattle.rmt_bits.specs.Grouping.{AreIndexed}
 use Rattle.rmt_chip.specs.Comparing.{compared_at}
 use Rattle.rmt_chip.proofs.memory.ternary.groups_of.Given as goal
 

@@ -1,7 +1,8 @@
 use Rattle.std.proofs.Common.{◌≡◌, ◌<◌, ◌≢◌, ◌∙◌, take, get_or, length, ap, arith, get_or-set_other, get_or-set_same, below_more}
 use Rattle.std.specs.Prelude.{bit_and}
 use Rattle.std.proofs.lemmas.List.{length-set, get_or_default}
-use Rattle.rmt_chip.specs.Grouping.{place_in, masked}
+use Rattle.rmt_bits.specs.Grouping.{place_in}
+use Rattle.rmt_chip.specs.Grouping.{masked}
 use Rattle.rmt_chip.proofs.WordLaws.{masked-from_each}
 use Rattle.rmt_chip.proofs.memory.ternary.place_for.Goals as goal
 

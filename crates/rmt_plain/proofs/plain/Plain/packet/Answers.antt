@@ -25,7 +25,7 @@ returns-clause-ok c = λ p lists packets stands.
         well_formed = stands.well_formed;
         entries = stands.entries;
         lookups_find = stands.lookups_find;
-        counters_are = counts_more p lists packets packet c.as_slice.result.now self.counters c.count.new.counters stands.counters_are (c.as_slice.ensures ∙ ap (λ (a : Answer). a.hits) answers) c.count.ensures;
+        counters_are = counts_more p lists packets packet c.as_slice.result.now self.counters.counts c.count.new.counters.counts stands.counters_are (c.as_slice.ensures ∙ ap (λ (a : Answer). a.hits) answers) c.count.ensures;
       },
       answers,
     )
