@@ -9,7 +9,7 @@ use Rattle.std.proofs.lemmas.Nat.Bits.{same_from_bits_below}
 use Rattle.std.proofs.Math.Nat.{mod-eq_of_lt}
 use Rattle.rmt_bits.specs.Bits.{slice, deposit, number_of}
 use Rattle.rmt_bits.proofs.BitLaws.{slice-lt, mod-from_low, deposit-add, slice-slice, deposit-multiple}
-use Rattle.rmt_bits.proofs.ByteLaws.{deposit-raised, deposit_none}
+use Rattle.rmt_bits.proofs.ByteLaws.{deposit-raised}
 use Rattle.rmt_config.specs.Cells.{Blocks, unit_row}
 use Rattle.rmt_config.proofs.UnitBits.{Within, unit_bit, slice-bit}
 use Rattle.rmt_pack.specs.Cells.{PutsBits}

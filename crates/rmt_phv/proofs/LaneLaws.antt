@@ -9,14 +9,13 @@ use Rattle.std.proofs.lemmas.List.Folds.{sum_by-replicate}
 use Rattle.std.proofs.lemmas.List.Sums.{sum_by-append}
 use Rattle.rmt_bits.specs.declared.lane.Lane.{Lane}
 use Rattle.rmt_bits.proofs.AllLaws.{All-left, All-right}
-use Rattle.rmt_bits.proofs.PairLaws.{AllPairs-right}
+use Rattle.rmt_bits.proofs.PairLaws.{AllPairs-right, AllPairs-across}
 use Rattle.rmt_ast.specs.declared.program.Program.{Program}
 use Rattle.rmt_ast.specs.declared.program.Field.{Field}
 use Rattle.rmt_ast.specs.Places.{lanes_of}
 use Rattle.rmt_ast.specs.State.{width_of}
 use Rattle.rmt_phv.specs.Packing.{pieces}
 use Rattle.rmt_phv.specs.Places.{AreApart, KeepsApart, LiesInWord, lengths_of}
-use Rattle.rmt_phv.proofs.PairLaws.{AllPairs-across}
 
 -- ---- bits
 

@@ -20,8 +20,7 @@ use Rattle.rmt_config.specs.Parser.{put, extracted}
 use Rattle.rmt_ptcam.specs.Plain.{bits_from}
 use Rattle.rmt_ptcam.proofs.PlainLaws.{bits_of_lanes-append, bits_of_lanes-reverse}
 use Rattle.rmt_phv.proofs.LaneLaws.{fields_apart, lanes_all}
-use Rattle.rmt_phv.proofs.PairLaws.{AllPairs-left}
-use Rattle.rmt_bits.proofs.PairLaws.{AllPairs-head, AllPairs-right, AllPairs-tail}
+use Rattle.rmt_bits.proofs.PairLaws.{AllPairs-head, AllPairs-right, AllPairs-tail, AllPairs-left}
 
 -- ---- one lane
 
