@@ -17,7 +17,7 @@ pub data Change : Type 0 where
   Removes : (node : ℕ) (key : EntryKey) → Change
 
 -- the entries of a run, a list for each node, and the number that the next entry gets
-pub record Standing : Type 0 where
+pub record Installed : Type 0 where
   pub lists : List (List Entry)
   pub next : ℕ
 
@@ -26,7 +26,7 @@ abbrev pub next_number : List (List Entry) → ℕ
 next_number lists = fold (λ next n. max next (n + 1)) 0 (flat_map entry_numbers lists)
 
 -- entries that no change was made to
-abbrev pub at_first : List (List Entry) → Standing
+abbrev pub at_first : List (List Entry) → Installed
 at_first lists = record { lists = lists; next = next_number lists }
 
 -- the entries of the table that a node applies
@@ -54,10 +54,10 @@ abbrev pub removed : List (List Entry) → ℕ → EntryKey → List (List Entry
 removed lists node key = slice_set lists node (without key (list_of lists node))
 
 -- what a change leaves; an entry that is added gets the next number
-abbrev pub changed : Standing → Change → Standing
+abbrev pub changed : Installed → Change → Installed
 changed s (Adds e) = record { lists = added s.lists (record e { number = s.next }); next = s.next + 1 }
 changed s (Removes node key) = record { lists = removed s.lists node key; next = s.next }
 
 -- what the changes of a commit leave, in their order
-abbrev pub committed : Standing → List Change → Standing
+abbrev pub committed : Installed → List Change → Installed
 committed s changes = fold changed s changes

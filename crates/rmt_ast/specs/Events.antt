@@ -8,7 +8,7 @@ use Rattle.rmt_bits.specs.declared.answer.Answer.{Answer}
 use Rattle.rmt_ast.specs.Types.{Program}
 use Rattle.rmt_ast.specs.declared.entry.Entry.{Entry}
 use Rattle.rmt_ast.specs.Answers.{answer_of, hits_of, counted_numbers}
-use Rattle.rmt_ast.specs.Changes.{Change, Standing, at_first, committed}
+use Rattle.rmt_ast.specs.Changes.{Change, Installed, at_first, committed}
 
 -- what comes to a run: a packet, or a commit, by which the changes since the last one take effect
 pub data Event : Type 0 where
@@ -21,13 +21,13 @@ pub record Met : Type 0 where
   pub packet : Packet
 
 -- each packet with the entries that the commits before it leave
-abbrev pub met_from : Standing → List Event → List Met
+abbrev pub met_from : Installed → List Event → List Met
 met_from s [] = []
 met_from s ((Arrives packet) ∷ events) = record { lists = s.lists; packet = packet } ∷ met_from s events
 met_from s ((Commits changes) ∷ events) = met_from (committed s changes) events
 
 -- the entries as each commit leaves them, after those that stood before
-abbrev pub lists_from : Standing → List Event → List (List (List Entry))
+abbrev pub lists_from : Installed → List Event → List (List (List Entry))
 lists_from s [] = s.lists ∷ []
 lists_from s ((Arrives packet) ∷ events) = lists_from s events
 lists_from s ((Commits changes) ∷ events) = s.lists ∷ lists_from (committed s changes) events

@@ -8,7 +8,7 @@ use Rattle.std.proofs.lemmas.List.Sorted.{All-permutation}
 use Rattle.rmt_bits.proofs.AllLaws.{All-range, All-unmap}
 use Rattle.rmt_build.specs.declared.stands.Stand.{Stand}
 use Rattle.rmt_build.specs.Rooms.{StandApart}
-use Rattle.rmt_build.specs.Standing.{StandOnce, counted_from, stands_there, stands_within}
+use Rattle.rmt_build.specs.EntryCells.{StandOnce, counted_from, stands_there, stands_within}
 use Rattle.rmt_bits.proofs.PairLaws.{AllPairs-tail, AllPairs-head, AllPairs-map}
 
 pairs-cons : {X : Type 0} (R : X → X → Type 0) (x : X) (xs : List X) → All (R x) xs → AllPairs R xs → AllPairs R (x ∷ xs)

@@ -23,7 +23,7 @@ use Rattle.rmt_build.specs.declared.stands.Stand.{Stand}
 use Rattle.rmt_build.specs.BuiltStage.{IsBuiltStage}
 use Rattle.rmt_build.specs.Numbers.{number_at}
 use Rattle.rmt_build.specs.Plans.{AreStands}
-use Rattle.rmt_build.specs.Standing.{StandOnce, counted_from, stands_there, stands_within}
+use Rattle.rmt_build.specs.EntryCells.{StandOnce, counted_from, stands_there, stands_within}
 use Rattle.rmt_build.specs.Told.{cell_told, cells_told, stages_told, unit_told}
 use Rattle.rmt_build.proofs.SpotLaws.{listed_stands, part_stands, slot_built, table_of_part}
 use Rattle.rmt_build.proofs.ToldLaws.{stages_listed, unit_listed}

@@ -16,7 +16,7 @@ use Rattle.rmt_build.specs.declared.stands.Stand.{Stand}
 use Rattle.rmt_build.specs.Memories.{memory_for}
 use Rattle.rmt_build.specs.Plans.{IsPlan, format_at, need_in, quanta_before, stands_of_part, taken_upto}
 use Rattle.rmt_build.specs.Rooms.{AreOf, HasBlocks, StandApart}
-use Rattle.rmt_build.specs.Standing.{cells_for, stands_within}
+use Rattle.rmt_build.specs.EntryCells.{cells_for, stands_within}
 use Rattle.rmt_build.specs.Written.{SlotFits}
 use Rattle.rmt_build.proofs.ApartLaws.{part-apart}
 use Rattle.rmt_build.proofs.PlanLaws.{has_need, has_room, is_format}

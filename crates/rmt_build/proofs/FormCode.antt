@@ -5,7 +5,7 @@ use Rattle.std.proofs.lemmas.List.Elements.{All-head, All-tail}
 use Rattle.rmt_bits.specs.declared.lane.Lane.{Lane}
 use Rattle.rmt_build.specs.Types.{Program, Table, Unit, SlotUnit, Vliw}
 use Rattle.rmt_config.specs.declared.config.Unit.TheVariants.{Gate, Slot}
-use Rattle.rmt_config.specs.declared.form.code.Place.{Place}
+use Rattle.rmt_config.specs.declared.form.code.InstructionRole.{InstructionRole}
 use Rattle.rmt_config.specs.CodeForm.{code_is_formed, places_of, slot_places, unit_places, vliw_is_formed}
 use Rattle.rmt_pack.specs.Placements.{data_bits}
 use Rattle.rmt_refine.specs.Units.{table_at}
@@ -16,7 +16,7 @@ use Rattle.std.proofs.lemmas.Bool.{and_parts, both_ways}
 use Rattle.std.proofs.lemmas.Slice.Zip.{AllZip-long}
 use Rattle.rmt_refine.specs.Code.{DoesAction}
 
-both_formed : (firsts seconds : List Place) (xs ys : List Vliw) → code_is_formed firsts xs ≡ true → code_is_formed seconds ys ≡ true → code_is_formed (firsts ++ seconds) (xs ++ ys) ≡ true
+both_formed : (firsts seconds : List InstructionRole) (xs ys : List Vliw) → code_is_formed firsts xs ≡ true → code_is_formed seconds ys ≡ true → code_is_formed (firsts ++ seconds) (xs ++ ys) ≡ true
 both_formed [] seconds [] ys one two = two
 both_formed [] seconds (x ∷ xs) ys one two = absurd (both_ways false refl one)
 both_formed (a ∷ firsts) seconds [] ys one two = absurd (both_ways false refl one)
@@ -24,7 +24,7 @@ both_formed (a ∷ firsts) seconds (x ∷ xs) ys one two =
     let r = and_parts (vliw_is_formed a x) (code_is_formed firsts xs) one in
     rw (r.0, both_formed firsts seconds xs ys r.1 two) refl
 
-listed_formed : (place : Place) (n : ℕ) (xs : List Vliw) → length xs ≡ n → All (λ v. vliw_is_formed place v ≡ true) xs → code_is_formed (replicate n place) xs ≡ true
+listed_formed : (place : InstructionRole) (n : ℕ) (xs : List Vliw) → length xs ≡ n → All (λ v. vliw_is_formed place v ≡ true) xs → code_is_formed (replicate n place) xs ≡ true
 listed_formed place zero [] long all = refl
 listed_formed place zero (x ∷ xs) long all = absurd (omega (arith, long))
 listed_formed place (suc n) [] long all = absurd (omega (arith, long))

@@ -23,7 +23,7 @@ use Rattle.rmt_build.specs.declared.stands.Stand.{Stand}
 use Rattle.rmt_build.specs.BuiltStage.{HoldsStand, IsBuiltSlot}
 use Rattle.rmt_build.specs.Numbers.{number_at}
 use Rattle.rmt_build.specs.Plans.{format_at, need_in, quanta_before, stands_of_part, taken_upto}
-use Rattle.rmt_build.specs.Standing.{cells_for, counted_from, stands_there, stands_within}
+use Rattle.rmt_build.specs.EntryCells.{cells_for, counted_from, stands_there, stands_within}
 use Rattle.rmt_pack.specs.Placements.{quanta_in}
 use Rattle.rmt_refine.specs.Cells.{first_code}
 use Rattle.rmt_refine.proofs.PartLaws.{some_and}

@@ -44,7 +44,7 @@ use Rattle.rmt_build.specs.Memories.{blocks_for, memory_for}
 use Rattle.rmt_build.specs.Plans.{format_at, need_in, quanta_before, taken_upto, what_format}
 use Rattle.rmt_build.specs.Promises.{HasBlocksInOrder, HasFormat, HasFormatOfRule, StandInRows}
 use Rattle.rmt_build.specs.Stages.{IsPlanByRule, AreStagesOf}
-use Rattle.rmt_build.specs.Standing.{cells_for}
+use Rattle.rmt_build.specs.EntryCells.{cells_for}
 use Rattle.rmt_build.specs.Told.{cells_told}
 use Rattle.rmt_build.proofs.CarriedLaws.{built_carries, units_carried}
 use Rattle.rmt_build.proofs.FormBlocks.{HasMemory, are_blocks, blocks_in_order}

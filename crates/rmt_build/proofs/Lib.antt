@@ -54,7 +54,7 @@ mod SortingLaws
 mod SpotLaws
 mod StageLaws
 mod StandLaws
-mod StandingLaws
+mod EntryCellLaws
 mod StartedLaws
 mod TableLaws
 mod TernaryLaws

@@ -42,7 +42,7 @@ use Rattle.rmt_build.specs.declared.stands.Stand.{Stand}
 use Rattle.rmt_build.specs.Loads.{AreAllLoaded, StandAt, StandBy, keys_of, layout_of}
 use Rattle.rmt_build.specs.Plans.{AreParts, AreStands, format_at, parts_before, quanta_before}
 use Rattle.rmt_build.specs.Promises.{HasRows}
-use Rattle.rmt_build.specs.Standing.{IsLoadedAt, StandInOrder, StandOnce, cells_for}
+use Rattle.rmt_build.specs.EntryCells.{IsLoadedAt, StandInOrder, StandOnce, cells_for}
 use Rattle.rmt_build.proofs.CandidateLaws.{below_all, looked_for}
 use Rattle.rmt_build.proofs.PartLaws.{quanta_more}
 use Rattle.rmt_build.proofs.PlanLaws.{is_format, is_table, node_there}

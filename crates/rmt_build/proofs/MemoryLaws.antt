@@ -13,7 +13,7 @@ use Rattle.rmt_build.specs.declared.memory.Need.{Need}
 use Rattle.rmt_build.specs.Memories.{blocks_for, sram_for, tcam_for, memory_for}
 use Rattle.rmt_config.specs.Cells.{cells_in}
 use Rattle.rmt_build.specs.declared.memory.Taken.{Taken}
-use Rattle.rmt_build.specs.Standing.{cells_for}
+use Rattle.rmt_build.specs.EntryCells.{cells_for}
 
 -- what a part has to hold is what its table needs
 pub record IsNeedOf (n : Need) (t : TableNeed) : Type 0 where

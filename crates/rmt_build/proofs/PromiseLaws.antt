@@ -26,7 +26,7 @@ use Rattle.rmt_build.specs.BuiltStage.{IsBuiltStage}
 use Rattle.rmt_build.specs.Memories.{memory_for}
 use Rattle.rmt_build.specs.Plans.{AreStands, format_at, quanta_before}
 use Rattle.rmt_build.specs.Promises.{HasFormat, HasRows, StandInRows, goes_first}
-use Rattle.rmt_build.specs.Standing.{GoesFirst, StandInOrder, cells_for}
+use Rattle.rmt_build.specs.EntryCells.{GoesFirst, StandInOrder, cells_for}
 use Rattle.rmt_build.specs.Told.{cells_told}
 use Rattle.rmt_build.proofs.CellsLaws.{told_stands}
 use Rattle.rmt_build.proofs.TableLaws.{AreInRows}

@@ -17,7 +17,7 @@ use Rattle.rmt_build.specs.Types.{Kind}
 use Rattle.rmt_ast.specs.declared.program.Kind.TheVariants.{Prefix, Ternary}
 use Rattle.rmt_build.specs.declared.stands.Stand.{Stand}
 use Rattle.rmt_build.specs.Sorting.{AreSorted, placed_from, rank_in, rows_from}
-use Rattle.rmt_build.specs.Standing.{GoesFirst, IsLoadedAt, StandInOrder, StandOnce}
+use Rattle.rmt_build.specs.EntryCells.{GoesFirst, IsLoadedAt, StandInOrder, StandOnce}
 use Rattle.rmt_bits.proofs.OptionLaws.{eqb-sym}
 
 -- ---- one more item

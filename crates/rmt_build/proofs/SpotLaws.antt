@@ -17,7 +17,7 @@ use Rattle.rmt_build.specs.declared.stands.Stand.{Stand}
 use Rattle.rmt_build.specs.BuiltStage.{IsBuiltSlot, IsBuiltStage}
 use Rattle.rmt_build.specs.Numbers.{number_at}
 use Rattle.rmt_build.specs.Plans.{AreStands, format_at, need_in, stands_of_part, taken_upto}
-use Rattle.rmt_build.specs.Standing.{stands_within}
+use Rattle.rmt_build.specs.EntryCells.{stands_within}
 use Rattle.rmt_build.proofs.StandLaws.{entry_within, first_cell, part_cells, within_from, within_to}
 use Rattle.rmt_bits.proofs.MemberLaws.{Contains-unmap, Contains-map, Contains-item}
 use Rattle.rmt_build.proofs.MemoryLaws.{memory_cells}

@@ -31,7 +31,7 @@ use Rattle.rmt_build.specs.BuiltStage.{HoldsStand, IsBuiltStage}
 use Rattle.rmt_build.specs.Memories.{memory_for}
 use Rattle.rmt_build.specs.Plans.{AreStands, format_at, need_in, stands_of_part, taken_upto}
 use Rattle.rmt_build.specs.Promises.{HasRows}
-use Rattle.rmt_build.specs.Standing.{GoesFirst, StandInOrder, StandOnce, cells_for}
+use Rattle.rmt_build.specs.EntryCells.{GoesFirst, StandInOrder, StandOnce, cells_for}
 use Rattle.rmt_build.specs.Told.{cells_told}
 use Rattle.rmt_build.proofs.CellsLaws.{each_stands, no_cells, one_spot, part_in, stands_told, told_stands}
 use Rattle.rmt_build.proofs.SpotLaws.{StandsAt, listed_stands, part_size, slot_built, stand_there, stands_listed, there_stands}

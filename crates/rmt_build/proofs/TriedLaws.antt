@@ -24,7 +24,7 @@ use Rattle.rmt_build.specs.declared.stands.Stand.{Stand}
 use Rattle.rmt_build.specs.declared.loading.TableTried.{TableTried}
 use Rattle.rmt_build.specs.declared.loading.TableTried.TheVariants.{Overfull, Stand as Standing}
 use Rattle.rmt_build.specs.Loads.{AreAllLoaded, AreLoaded, AreLoadedBefore, IsFull, StandAt, StandBy, keys_of, layout_of}
-use Rattle.rmt_build.specs.Standing.{StandOnce}
+use Rattle.rmt_build.specs.EntryCells.{StandOnce}
 use Rattle.rmt_build.specs.Tries.{IsTried, StandOrFull}
 
 -- ---- one node

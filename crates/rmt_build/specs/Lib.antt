@@ -13,7 +13,7 @@ pub mod Refusals
 pub mod Rooms
 pub mod Sorting
 pub mod Stages
-pub mod Standing
+pub mod EntryCells
 pub mod Told
 pub mod Tries
 pub mod UnitCode

@@ -17,7 +17,7 @@ use Rattle.rmt_build.specs.declared.fault.NoFit.{NoFit}
 use Rattle.rmt_build.specs.declared.fault.NoFit.TheVariants.{NoMemory, Lookup, Step, Parser, Action, Phv, Stage, Load}
 use Rattle.rmt_build.specs.declared.stands.Stand.{Stand}
 use Rattle.rmt_build.specs.Plans.{format_at}
-use Rattle.rmt_build.specs.Standing.{IsLoadedAt, StandInOrder, StandOnce}
+use Rattle.rmt_build.specs.EntryCells.{IsLoadedAt, StandInOrder, StandOnce}
 
 -- the part of so many quanta, if there are any
 abbrev pub ways_for : ℕ → ℕ → List Ways

@@ -16,7 +16,7 @@ use Rattle.rmt_build.specs.declared.memory.Taken.{Taken}
 use Rattle.rmt_build.specs.declared.plan.Plan.{Plan}
 use Rattle.rmt_build.specs.declared.stands.Stand.{Stand}
 use Rattle.rmt_build.specs.Folds.{AreFoldings}
-use Rattle.rmt_build.specs.Standing.{StandOnce, cells_for, stands_within}
+use Rattle.rmt_build.specs.EntryCells.{StandOnce, cells_for, stands_within}
 
 -- ---- formats
 

@@ -11,7 +11,7 @@ use Rattle.rmt_build.specs.declared.loading.TableTried.TheVariants as table
 use Rattle.rmt_build.specs.declared.loading.Tried.{Tried}
 use Rattle.rmt_build.specs.declared.loading.Tried.TheVariants as tried
 use Rattle.rmt_build.specs.Loads.{AreAllLoaded, AreLoadedBefore, IsFull, StandAt, keys_of, layout_of}
-use Rattle.rmt_build.specs.Standing.{IsLoadedAt, StandOnce}
+use Rattle.rmt_build.specs.EntryCells.{IsLoadedAt, StandOnce}
 
 -- of the keys of an exact table: each stands in the cell into which it is loaded, or some have fewer cells than they are
 abbrev pub IsTried : List Ways → ℕ → List (List ℕ) → TableTried → Type 0

@@ -1,7 +1,7 @@
 //! How many cells a table has.
 
 ghost use Rattle.std.specs.Prelude.{◌≡◌, ◌*◌, ◌<◌, ◌≤◌, ◌^◌};
-ghost use Rattle.rmt_build.specs.Standing.{cells_for};
+ghost use Rattle.rmt_build.specs.EntryCells.{cells_for};
 
 use rmt_ast::program::Kind;
 

@@ -41,7 +41,7 @@ use crate::listing::{sram_rows, tcam_rows};
 use crate::loading::load_all;
 use crate::numbers::cells_of;
 use crate::plan::{Plan, PlannedStage};
-use crate::rows::write_units;
+use crate::filling::write_units;
 use crate::tcam::TcamRows;
 use crate::units::units_of;
 use rmt_ast::deps::Deps;

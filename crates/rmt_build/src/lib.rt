@@ -16,7 +16,7 @@ mod memory;
 mod numbers;
 mod parts;
 mod plan;
-mod rows;
+mod filling;
 mod stands;
 mod tcam;
 mod units;

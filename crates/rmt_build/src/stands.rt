@@ -2,7 +2,7 @@
 
 ghost use Rattle.std.specs.Prelude.{◌≡◌, ◌≢◌, ◌⊎◌, ◌<◌, ◌^◌, All, AllPairs, IfOk, length, map};
 ghost use Rattle.rmt_build.specs.Sorting.{AreSorted, order_by, rank_in, rows_from};
-ghost use Rattle.rmt_build.specs.Standing.{stands_within, StandInOrder, StandOnce, IsLoadedAt};
+ghost use Rattle.rmt_build.specs.EntryCells.{stands_within, StandInOrder, StandOnce, IsLoadedAt};
 ghost use Rattle.rmt_ast.specs.declared.entry.Entry.{Entry};
 ghost use Rattle.rmt_ast.specs.declared.program.Kind.TheVariants.{Prefix, Ternary};
 

@@ -1,6 +1,6 @@
 pub mod Walks
 pub mod Spelling
-pub mod Standing
+pub mod StandsLaws
 pub mod Fresh
 pub mod Examples
 pub mod Orders

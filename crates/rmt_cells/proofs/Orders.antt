@@ -8,7 +8,7 @@ use Rattle.rmt_cells.specs.declared.cells.Cells.{Cells}
 use Rattle.rmt_cells.specs.Links.{times}
 use Rattle.rmt_cells.specs.Pieces.{cells_for}
 use Rattle.rmt_cells.specs.Stands.{Held, Stands, chain_cells, free_cells, held_cells}
-use Rattle.rmt_cells.proofs.Standing.{held_cons}
+use Rattle.rmt_cells.proofs.StandsLaws.{held_cons}
 use Rattle.rmt_cells.proofs.Walks.{times_append}
 
 -- a cell stands in all chains as often as in each of them together

@@ -14,7 +14,7 @@ use Rattle.std.proofs.lemmas.Simd.{map-map}
 use Rattle.std.proofs.lemmas.Slice.Eq.{bytes_eq-Decides}
 use Rattle.rmt_ast.specs.NameList.{is_known}
 use Rattle.rmt_ast.specs.WellFormed.{AreDistinct, IsWidth}
-use Rattle.rmt_check.specs.Parts.{Place, Ident, Declared, TailText, HeaderText, ActionText, KeyText, TableText, NodeText, Source}
+use Rattle.rmt_check.specs.Parts.{Position, Ident, Declared, TailText, HeaderText, ActionText, KeyText, TableText, NodeText, Source}
 use Rattle.rmt_check.specs.Names.{Known, Named, same_field, named_fields, field_place, table_names, width_at, width_of, common_fields, owned, of_metadata, declared_fields, header_fields, metadata, fields_of, nodes_of, applied, applied_tables, ident_names, listed, listed_by}
 use Rattle.rmt_check.specs.Rules.{when, places, declared_names, is_width, no_widths, bits_of, is_size, bad_table_size, bad_tail}
 use Rattle.rmt_check.specs.Meaning.{index_of}
@@ -50,7 +50,7 @@ count_bits (d ∷ ds) h =
 -- Counts.
 
 -- where nothing stands behind the first n
-pub few : {X : Type 0} (n : ℕ) (place : X → Place) (xs : List X) → map place (drop n xs) ≡ [] → length xs ≤ n
+pub few : {X : Type 0} (n : ℕ) (place : X → Position) (xs : List X) → map place (drop n xs) ≡ [] → length xs ≤ n
 few n place xs e = drop-nil n xs (map-nil place (drop n xs) e)
 
 pub few_declared : (n : ℕ) (ds : List Declared) → places (drop n (declared_names ds)) ≡ [] → length ds ≤ n
@@ -75,7 +75,7 @@ one_bit = (lit≤ tt, lit≤ tt)
 nine_bits : IsWidth 9
 nine_bits = (lit≤ tt, lit≤ tt)
 
-size_bits : (bits : ℕ) (p : Place) → when (not (is_size bits)) p ≡ [] → bits ≤ 512
+size_bits : (bits : ℕ) (p : Position) → when (not (is_size bits)) p ≡ [] → bits ≤ 512
 size_bits bits p e = grind (arith, nat_tests)
 
 module _ (s : Source) where

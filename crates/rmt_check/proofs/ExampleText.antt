@@ -2,14 +2,14 @@
 use Rattle.std.proofs.Common.{ℕ, ◌+◌, List, [], ◌∷◌, codes, false, None, Some, Option}
 use Rattle.rmt_ast.specs.declared.program.Kind.TheVariants.{Exact}
 use Rattle.rmt_ast.specs.declared.program.Op.TheVariants.{Add}
-use Rattle.rmt_check.specs.Parts.{Place, Ident, Number, Declared, OwnerText, FieldText, ValueText, CaseText, TailText, HeaderText, MetaText, LeafText, Sign, ExprText, AssignText, ActionText, KeyText, TableText, Under, NodeText, Source}
+use Rattle.rmt_check.specs.Parts.{Position, Ident, Number, Declared, OwnerText, FieldText, ValueText, CaseText, TailText, HeaderText, MetaText, LeafText, Sign, ExprText, AssignText, ActionText, KeyText, TableText, Under, NodeText, Source}
 use Rattle.rmt_check.specs.declared.source.OwnerText.TheVariants as owner
 use Rattle.rmt_check.specs.declared.source.TargetText.TheVariants as target
 use Rattle.rmt_check.specs.declared.source.LeafText.TheVariants as leaf
 use Rattle.rmt_check.specs.declared.source.ArmText.TheVariants as arm
 use Rattle.rmt_check.specs.declared.source.WhatText.TheVariants.{Apply, If}
 
-abbrev pub at : ℕ → Place
+abbrev pub at : ℕ → Position
 at column = record { line = 1; column = column }
 
 abbrev pub ident : ℕ → List ℕ → Ident

@@ -12,7 +12,7 @@ use Rattle.rmt_check.specs.Parts.{Source}
 use Rattle.rmt_ast.specs.NameList.{number_of}
 use Rattle.rmt_check.specs.Names.{Known, fields_of, Owner, of_all, of_header, same_owner, Named, own, same_field, named_fields, field_place, is_field}
 use Rattle.rmt_check.specs.Meaning.{field_number}
-use Rattle.rmt_check.specs.Standing.{code_of, code, owner_at, named_at, stored}
+use Rattle.rmt_check.specs.StoredFields.{code_of, code, owner_at, named_at, stored}
 
 same_owner-code : (a b : Owner) → same_owner a b ≡ (code_of a == code_of b)
 same_owner-code a b = grind (arith, nat_tests)

@@ -7,7 +7,7 @@ use Rattle.std.proofs.lemmas.List.{take_more, map_push, length-map, length-take}
 use Rattle.indexmap.specs.IndexMap.{IndexMap, get, insert_entry}
 use Rattle.rmt_ast.specs.NameList.{HasNumbers, number_of}
 use Rattle.rmt_check.specs.Names.{Known}
-use Rattle.rmt_check.specs.Standing.{all_codes, code, stored, named_at, place_among}
+use Rattle.rmt_check.specs.StoredFields.{all_codes, code, stored, named_at, place_among}
 use Rattle.rmt_check.proofs.FieldCodes.{place-code, stored-code}
 use Rattle.rmt_ast.proofs.NameListLaws.{same, number_new, numbers_again}
 

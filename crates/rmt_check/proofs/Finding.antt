@@ -7,7 +7,7 @@ use Rattle.std.proofs.lemmas.Option.{slice_get_within}
 use Rattle.rmt_check.specs.Parts.{TableText}
 use Rattle.rmt_ast.specs.NameList.{number_of, is_known}
 use Rattle.rmt_check.specs.Names.{ident_names, listed}
-use Rattle.rmt_check.specs.Standing.{list_names}
+use Rattle.rmt_check.specs.StoredFields.{list_names}
 use Rattle.std.proofs.lemmas.Bool.{false≢true, lt-ltb}
 use Rattle.std.proofs.lemmas.Slice.Eq.{bytes_eq-Decides}
 use Rattle.rmt_check.specs.Meaning.{index_of}

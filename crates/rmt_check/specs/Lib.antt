@@ -5,7 +5,7 @@ pub mod Rules
 pub mod Meaning
 pub mod Means
 pub mod Sizes
-pub mod Standing
+pub mod StoredFields
 pub mod Found
 pub mod Naming
 pub mod Checking

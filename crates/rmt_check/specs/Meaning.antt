@@ -3,7 +3,7 @@
 use Rattle.std.specs.Prelude.{◌≡◌, ⊤, ℕ, zero, suc, ◌+◌, ◌-◌, ◌/◌, ◌^◌, List, [], ◌∷◌, false, Option, Some, None, length, take, fold, map, zip, option_map, unwrap_or, slice_get, bit_and, bit_or, Result, Ok, Err}
 use Rattle.std.specs.List.{range_with_len}
 use Rattle.std.specs.Option.{option_map_or}
-use Rattle.rmt_check.specs.Parts.{Program, Field, Header, Tail, Case, Test, Target, Action, Assign, Expr, Leaf, Table, Node, Guard, What, Place, ProgramFault, Ident, Number, Declared, FieldText, ValueText, TargetText, CaseText, TailText, HeaderText, LeafText, Sign, AssignText, ActionText, KeyText, TableText, ArmText, Under, WhatText, NodeText, Source}
+use Rattle.rmt_check.specs.Parts.{Program, Field, Header, Tail, Case, Test, Target, Action, Assign, Expr, Leaf, Table, Node, Guard, What, Position, ProgramFault, Ident, Number, Declared, FieldText, ValueText, TargetText, CaseText, TailText, HeaderText, LeafText, Sign, AssignText, ActionText, KeyText, TableText, ArmText, Under, WhatText, NodeText, Source}
 use Rattle.rmt_ast.specs.declared.program.Target.TheVariants as to
 use Rattle.rmt_ast.specs.declared.program.Expr.TheVariants.{One, Two}
 use Rattle.rmt_ast.specs.declared.program.Leaf.TheVariants as leaf
@@ -161,11 +161,11 @@ program_of s = record {
 }
 
 -- a fault of a rule, at a place
-abbrev pub told : ℕ × Place → ProgramFault
-told f = At f.0 f.1.line f.1.column
+abbrev pub fault_at : ℕ × Position → ProgramFault
+fault_at f = At f.0 f.1.line f.1.column
 
 -- Ok with the program of the text exactly where no rule is broken; else the fault, or want of memory.
 abbrev pub Answers : Source → Result Program ProgramFault → Type 0
 Answers s (Ok p) = (fault_of s ≡ None) × (p ≡ program_of s)
 Answers s (Err NoMemory) = ⊤
-Answers s (Err (At code line column)) = option_map told (fault_of s) ≡ Some (At code line column)
+Answers s (Err (At code line column)) = option_map fault_at (fault_of s) ≡ Some (At code line column)

@@ -1,7 +1,7 @@
 -- What a text means: its program, or its one fault.
 -- The public contracts rest on it: a reader has to believe it.
 use Rattle.std.specs.Prelude.{◌≡◌, ⊤, ℕ, List, None, Some, Result, Ok, Err}
-use Rattle.rmt_check.specs.Parts.{Program, Place, ProgramFault, Token, Tree}
+use Rattle.rmt_check.specs.Parts.{Program, Position, ProgramFault, Token, Tree}
 use Rattle.rmt_lexer.specs.declared.fault.ProgramFault.TheVariants.{NoMemory, At}
 use Rattle.rmt_lexer.specs.Text.{tokens_of}
 use Rattle.rmt_syntax.specs.Trees.{IsFault, IsTreeOf}
@@ -11,7 +11,7 @@ use Rattle.rmt_check.specs.Meaning.{program_of}
 
 -- a program, or the number of a broken rule and where
 abbrev pub Outcome : Type 0
-Outcome = Result Program (ℕ × Place)
+Outcome = Result Program (ℕ × Position)
 
 -- a fault at a line and a column
 abbrev pub fault_at : ℕ → ℕ → ℕ → Outcome
@@ -22,7 +22,7 @@ fault_at code line column = Err (code, record { line = line; column = column })
 pub data Means (text : List ℕ) : Outcome → Type 0 where
   of_tokens : (code line column : ℕ) → tokens_of text ≡ Err (At code line column) → Means text (fault_at code line column)
   of_grammar : (tokens : List Token) (code line column : ℕ) → tokens_of text ≡ Ok tokens → IsFault tokens code line column → Means text (fault_at code line column)
-  of_rules : (tokens : List Token) (t : Tree) (fault : ℕ × Place) → tokens_of text ≡ Ok tokens → IsTreeOf tokens t → fault_of (source_of t) ≡ Some fault → Means text (Err fault)
+  of_rules : (tokens : List Token) (t : Tree) (fault : ℕ × Position) → tokens_of text ≡ Ok tokens → IsTreeOf tokens t → fault_of (source_of t) ≡ Some fault → Means text (Err fault)
   of_program : (tokens : List Token) (t : Tree) → tokens_of text ≡ Ok tokens → IsTreeOf tokens t → fault_of (source_of t) ≡ None → Means text (Ok (program_of (source_of t)))
 
 -- an answer to a text says what it means, but for want of memory

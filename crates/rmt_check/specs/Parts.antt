@@ -16,7 +16,7 @@ pub use Rattle.rmt_ast.specs.declared.program.Table.{Table}
 pub use Rattle.rmt_ast.specs.declared.program.Node.{Node}
 pub use Rattle.rmt_ast.specs.declared.program.Guard.{Guard}
 pub use Rattle.rmt_ast.specs.declared.program.What.{What}
-pub use Rattle.rmt_lexer.specs.declared.place.Place.{Place}
+pub use Rattle.rmt_lexer.specs.declared.position.Position.{Position}
 pub use Rattle.rmt_lexer.specs.declared.fault.ProgramFault.{ProgramFault}
 pub use Rattle.rmt_lexer.specs.declared.token.Token.{Token}
 pub use Rattle.rmt_lexer.specs.declared.token.TokenKind.{TokenKind}

@@ -3,7 +3,7 @@
 use Rattle.std.specs.Prelude.{ℕ, List, [], ◌∷◌, ◌++◌, Bool, true, false, if◌then◌else◌, Option, Some, None, length, fold, map, filter_map, option_map, is_some, unwrap_or, drop}
 use Rattle.std.specs.List.{cons_option, enumerate_from}
 use Rattle.std.specs.Option.{option_or, option_and_then}
-use Rattle.rmt_check.specs.Parts.{Kind, Op, Place, Token, TokenKind, Terminal, Rule, Tree, Ident, Number, Declared, OwnerText, FieldText, ValueText, TargetText, CaseText, TailText, HeaderText, MetaText, LeafText, Sign, ExprText, AssignText, ActionText, KeyText, TableText, ArmText, Under, WhatText, NodeText, Source}
+use Rattle.rmt_check.specs.Parts.{Kind, Op, Position, Token, TokenKind, Terminal, Rule, Tree, Ident, Number, Declared, OwnerText, FieldText, ValueText, TargetText, CaseText, TailText, HeaderText, MetaText, LeafText, Sign, ExprText, AssignText, ActionText, KeyText, TableText, ArmText, Under, WhatText, NodeText, Source}
 use Rattle.rmt_lexer.specs.declared.token.TokenKind.TheVariants as token
 use Rattle.rmt_syntax.specs.declared.terminal.Terminal.TheVariants as terminal
 use Rattle.rmt_syntax.specs.declared.tree.Tree.TheViews.{out-Tree}
@@ -73,18 +73,18 @@ abbrev pub at_token : {A : Type 0} → (Token → Option A) → List Tree → Op
 at_token see [] = None
 at_token see (t ∷ ts) = in_token see (out-Tree t)
 
-abbrev pub place_of : Token → Place
+abbrev pub place_of : Token → Position
 place_of t = record { line = t.line; column = t.column }
 
 -- the place of a token, where it is of a kind
-abbrev pub place_if : Terminal → Token → Option Place
+abbrev pub place_if : Terminal → Token → Option Position
 place_if c t = if same c (terminal_of t.what) then Some (place_of t) else None
 
-abbrev pub place_at : Terminal → List Tree → Option Place
+abbrev pub place_at : Terminal → List Tree → Option Position
 place_at c = at_token (place_if c)
 
 -- nowhere, in place of what a text of the grammar always has (specs/Found.antt)
-abbrev pub nowhere : Place
+abbrev pub nowhere : Position
 nowhere = record { line = 0; column = 0 }
 
 -- the bytes of a word
@@ -107,7 +107,7 @@ name_if _ t = None
 abbrev pub name_at : List Tree → Option Ident
 name_at = at_token (λ t. name_if (terminal_of t.what) t)
 
-abbrev pub number_in : TokenKind → Place → Option Number
+abbrev pub number_in : TokenKind → Position → Option Number
 number_in (token.Number n) place = Some (record { place = place; value = n })
 number_in _ place = None
 
@@ -134,14 +134,14 @@ abbrev pub number_among : List Tree → Number
 number_among ts = unwrap_or (first number_at ts) no_number
 
 -- the place of the first token among some parts
-abbrev pub token_place : List Tree → Option Place
+abbrev pub token_place : List Tree → Option Position
 token_place = at_token (λ t. Some (place_of t))
 
-abbrev pub place_among : List Tree → Place
+abbrev pub place_among : List Tree → Position
 place_among ts = unwrap_or (first token_place ts) nowhere
 
 -- what stands behind a token of a kind
-abbrev pub behind : {A : Type 0} → Option Place → Option A → Option A
+abbrev pub behind : {A : Type 0} → Option Position → Option A → Option A
 behind None x = None
 behind (Some p) x = x
 
@@ -155,7 +155,7 @@ abbrev pub number_behind : Terminal → List Tree → Option Number
 number_behind c = seen_behind c number_at
 
 -- a name and a number with a token between them
-abbrev pub joined : Option Ident → Option Place → Option Number → Option Declared
+abbrev pub joined : Option Ident → Option Position → Option Number → Option Declared
 joined (Some i) (Some p) (Some n) = Some (record { ident = i; width = n })
 joined _ _ _ = None
 
@@ -237,7 +237,7 @@ abbrev pub next_among : List Tree → List Tree
 next_among ts = unwrap_or (first next_at ts) []
 
 -- a tail of what stands at its word, its name and its numbers
-abbrev pub tail_text : Option Place → Option Ident → Option Number → Option Number → Option TailText
+abbrev pub tail_text : Option Position → Option Ident → Option Number → Option Number → Option TailText
 tail_text (Some p) (Some i) (Some m) (Some n) = Some (record { place = p; field = i; unit = m; base = n })
 tail_text _ _ _ _ = None
 
@@ -304,7 +304,7 @@ abbrev pub expr_at : List Tree → Option ExprText
 expr_at = of_rule rule.Expr expr_text
 
 -- a field and what is assigned to it
-abbrev pub assigned : Option FieldText → Option Place → Option ExprText → Option AssignText
+abbrev pub assigned : Option FieldText → Option Position → Option ExprText → Option AssignText
 assigned (Some f) (Some p) (Some e) = Some (record { dest = f; expr = e })
 assigned _ _ _ = None
 

@@ -17,12 +17,12 @@ use crate::rules::{
 use crate::source::Source;
 use rmt_ast::program::Program;
 use rmt_lexer::fault::ProgramFault;
-use rmt_lexer::place::Place;
+use rmt_lexer::position::Position;
 use rmt_syntax::tree::Tree;
 use std::alloc::{AllocError, Global};
 
 /// The earliest place at which the rule of a code is broken.
-fn broken_at<N: Lookup>(alloc: Global, names: &N, code: u8) -> Result<Option<Place>, AllocError>
+fn broken_at<N: Lookup>(alloc: Global, names: &N, code: u8) -> Result<Option<Position>, AllocError>
     requires first { 5 ≤ code }
     requires last { code < 22 }
     ensures { IfOk result (λ p. p ≡ earliest (broken_by code (N.text names.now))) }

@@ -4,7 +4,7 @@ ghost use Rattle.std.specs.Prelude.{◌≡◌, [], find, IfOk, option_copied, op
 ghost use Rattle.std.specs.Str.{bytes_eq};
 ghost use Rattle.rmt_check.specs.Parts.{Source as SourceValue, TableText as TableValue};
 ghost use Rattle.rmt_check.specs.Names.{action_names, header_names, ident_names, listed, table_names};
-ghost use Rattle.rmt_check.specs.Standing.{list_names};
+ghost use Rattle.rmt_check.specs.StoredFields.{list_names};
 
 use crate::names::fields::{FieldKey, FieldList, KnownField};
 use crate::names::lists::{TableNames, names_of, tables_of};
@@ -60,7 +60,7 @@ impl<'a> Model for Names<'a> {
     ghost use Rattle.rmt_check.specs.Parts.{Source};
     ghost use Rattle.std.specs.Prelude.{◌≡◌, []};
     ghost use Rattle.rmt_check.specs.Names.{fields_of, header_names, action_names, table_names};
-    ghost use Rattle.rmt_check.specs.Standing.{list_names};
+    ghost use Rattle.rmt_check.specs.StoredFields.{list_names};
 
     ghost Value = { Source };
 

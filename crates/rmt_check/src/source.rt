@@ -3,19 +3,19 @@
 use rmt_ast::name::Name;
 use rmt_ast::program::{Kind, Op};
 use rmt_bits::sequence::Sequence;
-use rmt_lexer::place::Place;
+use rmt_lexer::position::Position;
 
 /// A name and its place.
 #[derive(Drop)]
 pub struct Ident {
-    pub place: Place,
+    pub place: Position,
     pub name: Name,
 }
 
 /// A number and its place.
 #[derive(Clone, Copy)]
 pub struct Number {
-    pub place: Place,
+    pub place: Position,
     pub value: u128,
 }
 
@@ -39,7 +39,7 @@ pub enum OwnerText {
 #[derive(Drop)]
 pub struct FieldText {
     /// Of its first token.
-    pub place: Place,
+    pub place: Position,
     pub owner: OwnerText,
     /// Its own name, as `dst` of `eth.dst`, with the place of its last token.
     pub ident: Ident,
@@ -70,7 +70,7 @@ pub struct CaseText {
 #[derive(Drop)]
 pub struct TailText {
     /// Of the word `tail`.
-    pub place: Place,
+    pub place: Position,
     /// The field of the header that tells the length.
     pub field: Ident,
     /// How many bytes the value counts.
@@ -93,7 +93,7 @@ pub struct HeaderText {
 #[derive(Drop)]
 pub struct MetaText {
     /// Of the word `meta`.
-    pub place: Place,
+    pub place: Position,
     pub fields: Sequence<Declared>,
 }
 
@@ -108,7 +108,7 @@ pub enum LeafText {
 /// An operator and its place.
 #[derive(Clone, Copy)]
 pub struct Sign {
-    pub place: Place,
+    pub place: Position,
     pub op: Op,
 }
 
@@ -183,7 +183,7 @@ pub enum WhatText {
 #[derive(Drop)]
 pub struct NodeText {
     /// Of its word.
-    pub place: Place,
+    pub place: Position,
     pub under: Option<Under>,
     pub what: WhatText,
 }
@@ -198,5 +198,5 @@ pub struct Source {
     /// The nodes of the control, where there is one.
     pub control: Option<Sequence<NodeText>>,
     /// The end of the text.
-    pub end: Place,
+    pub end: Position,
 }

@@ -12,7 +12,7 @@ use Rattle.rmt_config.specs.Life.{Look, Life, Words, Counted, lane_of, life_of}
 use Rattle.rmt_config.specs.declared.tails.TailAt.{TailAt}
 use Rattle.rmt_config.specs.Parser.{Parse, Short, Reject, Accept, parse, put}
 use Rattle.rmt_config.specs.ChipRun.{Outcome, tail_bytes, finished, outcome_from, outcome_of, own_look, answer_at, latency_of}
-use Rattle.rmt_chip.specs.declared.place.Place.{Place}
+use Rattle.rmt_chip.specs.declared.packet_slot.PacketSlot.{PacketSlot}
 use Rattle.rmt_ptcam.specs.declared.parse.Parsed.{Parsed}
 use Rattle.rmt_chip.specs.Held.{CarriedFor, Entered, HoldsIf, EntersIf, FrameIs}
 use Rattle.rmt_chip.specs.Inputs.{entered_in, entered_at, packets_of}
@@ -20,7 +20,7 @@ use Rattle.rmt_chip.specs.Leaving.{Answers, AnswersIf, leaving, leaving_if, stil
 use Rattle.rmt_chip.proofs.LifeLaws.{Rise}
 use Rattle.rmt_chip.proofs.EnterLaws.{holds_entered}
 
-pub holds_enters : (look : Look) (c : Config) → Rise c.stages → (e : Option Entered) (place : Place) → EntersIf c e place → HoldsIf look c e 0 0 0 0 place
+pub holds_enters : (look : Look) (c : Config) → Rise c.stages → (e : Option Entered) (place : PacketSlot) → EntersIf c e place → HoldsIf look c e 0 0 0 0 place
 holds_enters look c rise None place h = h
 holds_enters look c rise (Some e) place h = holds_entered look c rise e place h
 
@@ -36,7 +36,7 @@ one_of false v w x y m n = record { verdicts = refl; bytes = refl }
 finished_same : (c : Config) (tails : List (List ℕ)) (payload : List ℕ) (words : Words) (life life' : Life) → life.word (latency_of c.stages) ≡ words → life'.word (latency_of c.stages) ≡ words → SameAnswer (finished c tails payload life) (finished c tails payload life')
 finished_same c tails payload words life life' e e' = rw (e, e') (one_of (eqb (lane_of words c.drop) 1) _ _ _ _ life.counted life'.counted)
 
-leaving_for : (look : Look) (c : Config) (packet : Packet) (l : ℕ) (place : Place) (frame : List ℕ) → frame ≡ packet.frame → (p : Parse)
+leaving_for : (look : Look) (c : Config) (packet : Packet) (l : ℕ) (place : PacketSlot) (frame : List ℕ) → frame ≡ packet.frame → (p : Parse)
     → CarriedFor look c packet (latency_of c.stages) (latency_of c.stages) (latency_of c.stages) l place p → SameAnswer (leaving c place frame place.parsed) (outcome_from look c packet p)
 leaving_for look c packet l place frame f Short held = subst (λ (x : Parsed). SameAnswer (leaving c place frame x) (outcome_from look c packet Short)) (sym held.0) (record { verdicts = refl; bytes = refl })
 leaving_for look c packet l place frame f Reject held = subst (λ (x : Parsed). SameAnswer (leaving c place frame x) (outcome_from look c packet Reject)) (sym held.0) (record { verdicts = refl; bytes = refl })
@@ -53,7 +53,7 @@ same_answers : (a b : Outcome) (answer : Verdict) (bytes : List ℕ) → SameAns
 same_answers a b answer bytes s h = record { verdict_is = h.verdict_is ∙ s.verdicts; bytes_are = h.bytes_are ∙ s.bytes }
 
 -- what leaves a packet slot is the outcome of the packet that it holds
-pub leaves_right : (c : Config) (look : Look) (l : ℕ) (item : Option Entered) (place : Place) (frame : List ℕ) (answer : Option Verdict) (bytes : List ℕ)
+pub leaves_right : (c : Config) (look : Look) (l : ℕ) (item : Option Entered) (place : PacketSlot) (frame : List ℕ) (answer : Option Verdict) (bytes : List ℕ)
     → HoldsIf look c item (latency_of c.stages) (latency_of c.stages) (latency_of c.stages) l place → FrameIs item frame → AnswersIf (leaving_if c place frame place.taken) answer bytes
     → AnswersIf (option_map (λ (e : Entered). outcome_of look c e.packet) item) answer bytes
 leaves_right c look l None place frame answer bytes held is left = subst (λ (b : Bool). AnswersIf (leaving_if c place frame b) answer bytes) held.taken left

@@ -8,7 +8,7 @@ use Rattle.rmt_bits.specs.Packet.{Packet}
 use Rattle.rmt_chip.specs.Types.{Config, Stage}
 use Rattle.rmt_config.specs.Life.{Look, life_of}
 use Rattle.rmt_config.specs.Parser.{Parse, Short, Reject, Accept, parse, put}
-use Rattle.rmt_chip.specs.declared.place.Place.{Place}
+use Rattle.rmt_chip.specs.declared.packet_slot.PacketSlot.{PacketSlot}
 use Rattle.rmt_chip.specs.Runnable.{start_of}
 use Rattle.rmt_chip.specs.Held.{Carried, CarriedFor, Entered, Holds, HoldsIf, EnteredBy, Begins, FrameIs}
 use Rattle.rmt_chip.specs.Ring.{ring_at, now, past, next, AllHold, FramesAre}
@@ -16,7 +16,7 @@ use Rattle.rmt_chip.specs.declared.frame.Frame.{Frame}
 use Rattle.rmt_chip.specs.Inputs.{entered_in, entered_at, numbered, numbered_as, input_of, frames_after}
 use Rattle.rmt_chip.proofs.LifeLaws.{Rise, word_first}
 
-carried_first : (look : Look) (stages : List Stage) (vector : List ℕ) → Rise stages → (place : Place) → length place.vector ≡ 224 → place.vector ≡ vector → place.outcomes ≡ replicate 256 0
+carried_first : (look : Look) (stages : List Stage) (vector : List ℕ) → Rise stages → (place : PacketSlot) → length place.vector ≡ 224 → place.vector ≡ vector → place.outcomes ≡ replicate 256 0
     → Carried look stages vector 0 0 0 0 place
 carried_first look stages vector rise place whole v o = record {
   all_words = whole;
@@ -31,12 +31,12 @@ carried_first look stages vector rise place whole v o = record {
     by_stage zero before = o
     by_stage (suc k) before = absurd (let e : start_of stages 0 + 8 ≤ 0 = before 0 (omega arith) in omega arith)
 
-begins_carried : (look : Look) (c : Config) (packet : Packet) → Rise c.stages → (place : Place) → place.outcomes ≡ replicate 256 0 → (p : Parse) → Begins c packet place p → CarriedFor look c packet 0 0 0 0 place p
+begins_carried : (look : Look) (c : Config) (packet : Packet) → Rise c.stages → (place : PacketSlot) → place.outcomes ≡ replicate 256 0 → (p : Parse) → Begins c packet place p → CarriedFor look c packet 0 0 0 0 place p
 begins_carried look c packet rise place o Short b = (b.0, λ w. ap (λ (ws : List ℕ). slice_index ws w) b.1 ∙ get_or-zeros 224 w 0)
 begins_carried look c packet rise place o Reject b = (b.0, λ w. ap (λ (ws : List ℕ). slice_index ws w) b.1 ∙ get_or-zeros 224 w 0)
 begins_carried look c packet rise place o (Accept r) b = (b.0, b.1, carried_first look c.stages (put r.vector c.in_port packet.port) rise place b.3 b.2 o)
 
-pub holds_entered : (look : Look) (c : Config) → Rise c.stages → (e : Entered) (place : Place) → EnteredBy c e place → Holds look c e 0 0 0 0 place
+pub holds_entered : (look : Look) (c : Config) → Rise c.stages → (e : Entered) (place : PacketSlot) → EnteredBy c e place → Holds look c e 0 0 0 0 place
 holds_entered look c rise e place h = record {
   taken = h.taken;
   number = h.number;
@@ -45,7 +45,7 @@ holds_entered look c rise e place h = record {
 }
 
 -- one cycle later each packet is one cycle older
-pub ring_turns : (look : Look) (c : Config) (item item' : ℕ → Option Entered) (newest newest' : ℕ) (places : List Place) (new : Place) → newest < 385 → length places ≡ 385 → newest' ≡ (newest + 1) % 385
+pub ring_turns : (look : Look) (c : Config) (item item' : ℕ → Option Entered) (newest newest' : ℕ) (places : List PacketSlot) (new : PacketSlot) → newest < 385 → length places ≡ 385 → newest' ≡ (newest + 1) % 385
     → ((t : ℕ) → item' (t + 1) ≡ item t) → HoldsIf look c (item' 0) 0 0 0 0 new
     → AllHold look c item now now now next newest places → AllHold look c item' past past past now newest' (set places newest' new)
 ring_turns look c item item' newest newest' places new ring full turned older first was t d h =
@@ -55,7 +55,7 @@ ring_turns look c item item' newest newest' places new ring full turned older fi
     let inside : newest' < length places = omega arith in
     let place : get_or (set places newest' new) (ring_at newest' t) d ≡ new = ap (λ n. get_or (set places newest' new) n d) at ∙ get_or-set_same places newest' new d inside in
     let age : past t ≡ 0 = omega arith in
-    subst (λ (p : Place). HoldsIf look c (item' t) (past t) (past t) (past t) t p) (sym place)
+    subst (λ (p : PacketSlot). HoldsIf look c (item' t) (past t) (past t) (past t) t p) (sym place)
     (subst (λ n. HoldsIf look c (item' t) n n n t new) (sym age) (subst (λ n. HoldsIf look c (item' n) 0 0 0 n new) (sym e) first)))
     (λ (apart : t ≢ 0).
     let back : t ≡ t - 1 + 1 = omega arith in
@@ -64,7 +64,7 @@ ring_turns look c item item' newest newest' places new ring full turned older fi
     let place : get_or (set places newest' new) (ring_at newest' t) d ≡ get_or places (ring_at newest (t - 1)) d =
     get_or-set_other places newest' (ring_at newest' t) new d other ∙ ap (λ n. get_or places n d) at in
     let same : item' t ≡ item (t - 1) = ap item' back ∙ older (t - 1) in
-    subst (λ (p : Place). HoldsIf look c (item' t) (past t) (past t) (past t) t p) (sym place)
+    subst (λ (p : PacketSlot). HoldsIf look c (item' t) (past t) (past t) (past t) t p) (sym place)
     (subst (λ (o : Option Entered). HoldsIf look c o (t - 1) (t - 1) (t - 1) t (get_or places (ring_at newest (t - 1)) d)) (sym same)
     (subst (λ n. HoldsIf look c (item (t - 1)) (t - 1) (t - 1) (t - 1) n (get_or places (ring_at newest (t - 1)) d)) (sym back) (was (t - 1) d (omega arith)))))
     (cases_eq t 0)

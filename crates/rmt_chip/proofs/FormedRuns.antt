@@ -13,7 +13,7 @@ use Rattle.rmt_chip.specs.Types.{Config, OutHeader, ParserConfig, ParserState, P
 use Rattle.rmt_config.specs.declared.config.Unit.TheVariants.{Gate, Slot}
 use Rattle.rmt_config.specs.declared.config.Source.TheVariants.{Word, Held, Constant}
 use Rattle.rmt_config.specs.Parser.{has_no_tail}
-use Rattle.rmt_config.specs.declared.form.code.Place.{Place}
+use Rattle.rmt_config.specs.declared.form.code.InstructionRole.{InstructionRole}
 use Rattle.rmt_config.specs.Order.{rises_from, never_falls_from}
 use Rattle.rmt_config.specs.LaneForm.{is_lane_of, lane_is_formed, bits_of_lanes, header_is_formed, headers_are_formed, ports_are_formed}
 use Rattle.rmt_config.specs.ParserForm.{next_is_formed, extract_is_formed, lookups_of, match_is_formed, entry_is_formed, states_are_formed, entries_are_formed, parser_is_formed}
@@ -147,12 +147,12 @@ rises_at least (n ∷ ns) e (suc i) (suc j) less lt =
     let p = and_parts (leb least n) (rises_from (n + 1) ns) e in
     rises_at (n + 1) ns p.1 i j (omega (arith, less)) (omega (arith, lt))
 
-source_is_fit : (place : Place) (len : ℕ) (s : Source) → source_is_formed place len s ≡ true → source_fits len s ≡ true
+source_is_fit : (place : InstructionRole) (len : ℕ) (s : Source) → source_is_formed place len s ≡ true → source_fits len s ≡ true
 source_is_fit place len (Word word low) e = e
 source_is_fit place len (Held low) e = refl
 source_is_fit place len (Constant value) e = e
 
-operation_fits : (place : Place) (op : Operation) → operation_is_formed place op ≡ true → OperationFits op
+operation_fits : (place : InstructionRole) (op : Operation) → operation_is_formed place op ≡ true → OperationFits op
 operation_fits place op e =
     let lane = lane_is_formed (lane_of_operation op) in
     let left = source_is_formed place op.len op.left in
@@ -168,7 +168,7 @@ operation_fits place op e =
       right_fits = source_is_fit place op.len op.right q.1;
     }
 
-vliw_fits : (place : Place) (v : Vliw) → vliw_is_formed place v ≡ true → InstructionFits v
+vliw_fits : (place : InstructionRole) (v : Vliw) → vliw_is_formed place v ≡ true → InstructionFits v
 vliw_fits place v e =
     let few = ltb (length v.ops) 256 in
     let each = list_all (operation_is_formed place) v.ops in
@@ -179,7 +179,7 @@ vliw_fits place v e =
       rises = λ i j less lt. rises_at 0 words p.1 i j less (rw (length-map v.ops (λ (op : Operation). op.word)) lt);
     }
 
-code_fits : (places : List Place) (code : List Vliw) → code_is_formed places code ≡ true → AllByRecursion InstructionFits code
+code_fits : (places : List InstructionRole) (code : List Vliw) → code_is_formed places code ≡ true → AllByRecursion InstructionFits code
 code_fits [] [] e = tt
 code_fits [] (v ∷ code) e = absurd cc
 code_fits (place ∷ places) [] e = absurd cc

@@ -7,7 +7,7 @@ use Rattle.std.proofs.lemmas.List.{get_or_default}
 use Rattle.std.proofs.lemmas.Bool.{cases_lt, cases_eq}
 use Rattle.rmt_chip.specs.Types.{Stage}
 use Rattle.rmt_config.specs.Life.{Look, Words, Acts, Running, life_of, acts_of, word_after}
-use Rattle.rmt_chip.specs.declared.place.Place.{Place}
+use Rattle.rmt_chip.specs.declared.packet_slot.PacketSlot.{PacketSlot}
 use Rattle.rmt_chip.specs.declared.pending.Pending.{Pending}
 use Rattle.rmt_chip.specs.declared.looked.Looked.{Looked}
 use Rattle.rmt_chip.specs.declared.ran.Ran.{Ran}
@@ -27,7 +27,7 @@ abbrev pub NoneAt : List Stage → ℕ → ℕ → Type 0
 NoneAt stages after age = (j : ℕ) → j < length stages → start_of stages j + after ≢ age
 
 -- the four ages of a packet slot: words, operands, outcomes, and the bound of look-ups
-pub carried_write : (look : Look) (stages : List Stage) (vector : List ℕ) → Rise stages → (k t l : ℕ) (old new : Place) → k < length stages → start_of stages k + 12 ≡ t + 1
+pub carried_write : (look : Look) (stages : List Stage) (vector : List ℕ) → Rise stages → (k t l : ℕ) (old new : PacketSlot) → k < length stages → start_of stages k + 12 ≡ t + 1
     → new.vector ≡ applied (due_at old.pending.items k) old.vector → new.outcomes ≡ old.outcomes → new.pending ≡ old.pending
     → Carried look stages vector t t t l old → Carried look stages vector (t + 1) t t l new
 carried_write look stages vector rise k t l old new inside at v o p held =
@@ -56,7 +56,7 @@ carried_write look stages vector rise k t l old new inside at v o p held =
     first [] h = absurd (omega (arith, h))
     first (x ∷ xs) h = x
 
-pub carried_write_none : (look : Look) (stages : List Stage) (vector : List ℕ) (t l : ℕ) (place : Place) → NoneAt stages 12 (t + 1)
+pub carried_write_none : (look : Look) (stages : List Stage) (vector : List ℕ) (t l : ℕ) (place : PacketSlot) → NoneAt stages 12 (t + 1)
     → Carried look stages vector t t t l place → Carried look stages vector (t + 1) t t l place
 carried_write_none look stages vector t l place none held = record {
   all_words = held.all_words;
@@ -74,7 +74,7 @@ starts_differ stages rise j k hj hk apart e =
     (λ (h : k ≤ j). let less : start_of stages k < start_of stages j = rise k j (omega arith) hj in absurd (omega arith))
     (cases_lt j k)
 
-pub carried_read : (look : Look) (stages : List Stage) (vector : List ℕ) → Rise stages → (k t l : ℕ) (stage : Stage) (old new : Place) → k < length stages → get_or stages k stage ≡ stage → start_of stages k + 9 ≡ t + 1
+pub carried_read : (look : Look) (stages : List Stage) (vector : List ℕ) → Rise stages → (k t l : ℕ) (stage : Stage) (old new : PacketSlot) → k < length stages → get_or stages k stage ≡ stage → start_of stages k + 9 ≡ t + 1
     → ReadBy k stage old new → is_accepted old.parsed ≡ true
     → Carried look stages vector (t + 1) t t l old → Carried look stages vector (t + 1) (t + 1) t l new
 carried_read look stages vector rise k t l stage old new inside is at reads accepted held =
@@ -109,7 +109,7 @@ carried_read look stages vector rise k t l stage old new inside is at reads acce
       outcomes = λ j b before after. reads.outcomes ∙ held.outcomes j b before after;
     }
 
-pub carried_read_none : (look : Look) (stages : List Stage) (vector : List ℕ) (t l : ℕ) (place : Place) → NoneAt stages 9 (t + 1)
+pub carried_read_none : (look : Look) (stages : List Stage) (vector : List ℕ) (t l : ℕ) (place : PacketSlot) → NoneAt stages 9 (t + 1)
     → Carried look stages vector (t + 1) t t l place → Carried look stages vector (t + 1) (t + 1) t l place
 carried_read_none look stages vector t l place none held = record {
   all_words = held.all_words;
@@ -121,11 +121,11 @@ carried_read_none look stages vector t l place none held = record {
 }
 
 -- where a stage is about to set outcomes: what its units read, and what they make of it
-pub record Ready (look : Look) (k : ℕ) (stage : Stage) (words : Words) (acts : Acts) (place : Place) : Type 0 where
+pub record Ready (look : Look) (k : ℕ) (stage : Stage) (words : Words) (acts : Acts) (place : PacketSlot) : Type 0 where
   pub looked : AllLooked look k words stage (looked_at place.pending.items k)
   pub acts_are : acts_of look k stage words place.outcomes ≡ acts
 
-pub ready : (look : Look) (stages : List Stage) (vector : List ℕ) → Rise stages → (k t : ℕ) (stage : Stage) (place : Place) → k < length stages → get_or stages k stage ≡ stage → start_of stages k + 8 ≡ t + 1
+pub ready : (look : Look) (stages : List Stage) (vector : List ℕ) → Rise stages → (k t : ℕ) (stage : Stage) (place : PacketSlot) → k < length stages → get_or stages k stage ≡ stage → start_of stages k + 8 ≡ t + 1
     → Carried look stages vector (t + 1) (t + 1) t (t + 1) place → Ready look k stage ((upto look stages vector k).word stage.start) (acts_at look stages vector k stage) place
 unfolding acts_at
 ready look stages vector rise k t stage place inside is at held =
@@ -143,7 +143,7 @@ ready look stages vector rise k t stage place inside is at held =
       acts_are = ap (λ (os : List ℕ). acts_of look k stage ((lives k).word stage.start) os) before;
     }
 
-pub carried_act : (look : Look) (stages : List Stage) (vector : List ℕ) → Rise stages → (k t : ℕ) (stage : Stage) (old new : Place) → k < length stages → get_or stages k stage ≡ stage → start_of stages k + 8 ≡ t + 1
+pub carried_act : (look : Look) (stages : List Stage) (vector : List ℕ) → Rise stages → (k t : ℕ) (stage : Stage) (old new : PacketSlot) → k < length stages → get_or stages k stage ≡ stage → start_of stages k + 8 ≡ t + 1
     → DecidedBy k stage old new → is_accepted old.parsed ≡ true
     → Carried look stages vector (t + 1) (t + 1) t (t + 1) old → Carried look stages vector (t + 1) (t + 1) (t + 1) (t + 1) new
 carried_act look stages vector rise k t stage old new inside is at acts accepted held =
@@ -181,7 +181,7 @@ carried_act look stages vector rise k t stage old new inside is at acts accepted
         (λ (e : b ≤ a). let same : a ≡ b = omega arith in subst (λ n. start_of xs a ≤ start_of xs n) same (omega arith))
         (cases_lt a b)
 
-pub carried_act_none : (look : Look) (stages : List Stage) (vector : List ℕ) (t : ℕ) (place : Place) → NoneAt stages 8 (t + 1)
+pub carried_act_none : (look : Look) (stages : List Stage) (vector : List ℕ) (t : ℕ) (place : PacketSlot) → NoneAt stages 8 (t + 1)
     → Carried look stages vector (t + 1) (t + 1) t (t + 1) place → Carried look stages vector (t + 1) (t + 1) (t + 1) (t + 1) place
 carried_act_none look stages vector t place none held = record {
   all_words = held.all_words;
@@ -195,7 +195,7 @@ carried_act_none look stages vector t place none held = record {
 }
 
 -- the look-ups of a stage at its start
-pub carried_look : (look : Look) (stages : List Stage) (vector : List ℕ) → Rise stages → (k t : ℕ) (stage : Stage) (old new : Place) → k < length stages → get_or stages k stage ≡ stage → start_of stages k ≡ t
+pub carried_look : (look : Look) (stages : List Stage) (vector : List ℕ) → Rise stages → (k t : ℕ) (stage : Stage) (old new : PacketSlot) → k < length stages → get_or stages k stage ≡ stage → start_of stages k ≡ t
     → LookedBy look k stage old new → is_accepted old.parsed ≡ true
     → Carried look stages vector t t t t old → Carried look stages vector t t t (t + 1) new
 carried_look look stages vector rise k t stage old new inside is at looks accepted held =
@@ -227,7 +227,7 @@ carried_look look stages vector rise k t stage old new inside is at looks accept
       outcomes = λ j b before after. looks.outcomes ∙ held.outcomes j b before after;
     }
 
-pub carried_look_none : (look : Look) (stages : List Stage) (vector : List ℕ) (t : ℕ) (place : Place) → NoneAt stages 0 t
+pub carried_look_none : (look : Look) (stages : List Stage) (vector : List ℕ) (t : ℕ) (place : PacketSlot) → NoneAt stages 0 t
     → Carried look stages vector t t t t place → Carried look stages vector t t t (t + 1) place
 carried_look_none look stages vector t place none held = record {
   all_words = held.all_words;

@@ -5,7 +5,7 @@ use Rattle.rmt_bits.specs.Packet.{Packet}
 use Rattle.rmt_chip.specs.Types.{Config, Stage}
 use Rattle.rmt_config.specs.Life.{Look}
 use Rattle.rmt_config.specs.Parser.{Parse, Short, Reject, Accept, parse, put}
-use Rattle.rmt_chip.specs.declared.place.Place.{Place}
+use Rattle.rmt_chip.specs.declared.packet_slot.PacketSlot.{PacketSlot}
 use Rattle.rmt_chip.specs.Runnable.{start_of}
 use Rattle.rmt_chip.specs.Writes.{applied}
 use Rattle.rmt_chip.specs.Pending.{due_at}
@@ -14,11 +14,11 @@ use Rattle.rmt_chip.proofs.LifeLaws.{Rise}
 use Rattle.rmt_chip.proofs.HeldLaws.{NoneAt, carried_write, carried_write_none, carried_read, carried_read_none, carried_act, carried_act_none, carried_look, carried_look_none}
 
 -- a packet that was not accepted keeps its words
-words_stay : (old new : Place) → new.vector ≡ old.vector → ((w : ℕ) → slice_index old.vector w ≡ 0) → (w : ℕ) → slice_index new.vector w ≡ 0
+words_stay : (old new : PacketSlot) → new.vector ≡ old.vector → ((w : ℕ) → slice_index old.vector w ≡ 0) → (w : ℕ) → slice_index new.vector w ≡ 0
 words_stay old new e zeros w = ap (λ (ws : List ℕ). slice_index ws w) e ∙ zeros w
 
 -- a step that keeps the packet, and the words where it was not accepted, and takes what is carried from some ages to others
-module _ (look : Look) (c : Config) (packet : Packet) (a b d l a' b' d' l' : ℕ) (old new : Place) (same : SamePacket old new)
+module _ (look : Look) (c : Config) (packet : Packet) (a b d l a' b' d' l' : ℕ) (old new : PacketSlot) (same : SamePacket old new)
     (rests : is_accepted old.parsed ≡ false → new.vector ≡ old.vector)
     (goes : (vector : List ℕ) → is_accepted old.parsed ≡ true → Carried look c.stages vector a b d l old → Carried look c.stages vector a' b' d' l' new) where
   step_for : (p : Parse) → CarriedFor look c packet a b d l old p → CarriedFor look c packet a' b' d' l' new p
@@ -27,7 +27,7 @@ module _ (look : Look) (c : Config) (packet : Packet) (a b d l a' b' d' l' : ℕ
   step_for (Accept r) held = (same.parsed ∙ held.0, same.tails ∙ held.1, goes (put r.vector c.in_port packet.port) (ap is_accepted held.0) held.2)
 
 -- the same of a packet slot that holds a packet or none
-step_if : (look : Look) (c : Config) (e : Option Entered) (a b d l a' b' d' l' : ℕ) (old new : Place) → SamePacket old new → (is_accepted old.parsed ≡ false → new.vector ≡ old.vector)
+step_if : (look : Look) (c : Config) (e : Option Entered) (a b d l a' b' d' l' : ℕ) (old new : PacketSlot) → SamePacket old new → (is_accepted old.parsed ≡ false → new.vector ≡ old.vector)
     → ((vector : List ℕ) → is_accepted old.parsed ≡ true → Carried look c.stages vector a b d l old → Carried look c.stages vector a' b' d' l' new)
     → HoldsIf look c e a b d l old → HoldsIf look c e a' b' d' l' new
 step_if look c None a b d l a' b' d' l' old new same rests goes held = record { taken = same.taken ∙ held.taken; rests = ap is_accepted same.parsed ∙ held.rests }
@@ -38,10 +38,10 @@ step_if look c (Some e) a b d l a' b' d' l' old new same rests goes held = recor
   carried = step_for look c e.packet a b d l a' b' d' l' old new same rests goes (parse c.parser e.packet.frame) held.carried;
 }
 
-unchanged : (place : Place) → SamePacket place place
+unchanged : (place : PacketSlot) → SamePacket place place
 unchanged place = record { taken = refl; number = refl; size = refl; parsed = refl; tails = refl }
 
-pub holds_write : (look : Look) (c : Config) → Rise c.stages → (e : Option Entered) (k t l : ℕ) (old new : Place) → k < length c.stages → start_of c.stages k + 12 ≡ t + 1
+pub holds_write : (look : Look) (c : Config) → Rise c.stages → (e : Option Entered) (k t l : ℕ) (old new : PacketSlot) → k < length c.stages → start_of c.stages k + 12 ≡ t + 1
     → WrittenBy k old new → HoldsIf look c e t t t l old → HoldsIf look c e (t + 1) t t l new
 holds_write look c rise e k t l old new inside at w held =
     step_if look c e t t t l (t + 1) t t l old new w.same
@@ -49,36 +49,36 @@ holds_write look c rise e k t l old new inside at w held =
     (λ vector yes. carried_write look c.stages vector rise k t l old new inside at (w.vector ∙ ap (λ (b : Bool). cond b (applied (due_at old.pending.items k) old.vector) old.vector) yes) w.outcomes w.pending)
     held
 
-pub holds_write_none : (look : Look) (c : Config) (e : Option Entered) (t l : ℕ) (place : Place) → NoneAt c.stages 12 (t + 1) → HoldsIf look c e t t t l place → HoldsIf look c e (t + 1) t t l place
+pub holds_write_none : (look : Look) (c : Config) (e : Option Entered) (t l : ℕ) (place : PacketSlot) → NoneAt c.stages 12 (t + 1) → HoldsIf look c e t t t l place → HoldsIf look c e (t + 1) t t l place
 holds_write_none look c e t l place none held =
     step_if look c e t t t l (t + 1) t t l place place (unchanged place) (λ no. refl) (λ vector yes. carried_write_none look c.stages vector t l place none) held
 
-pub holds_read : (look : Look) (c : Config) → Rise c.stages → (e : Option Entered) (k t l : ℕ) (stage : Stage) (old new : Place) → k < length c.stages → get_or c.stages k stage ≡ stage → start_of c.stages k + 9 ≡ t + 1
+pub holds_read : (look : Look) (c : Config) → Rise c.stages → (e : Option Entered) (k t l : ℕ) (stage : Stage) (old new : PacketSlot) → k < length c.stages → get_or c.stages k stage ≡ stage → start_of c.stages k + 9 ≡ t + 1
     → ReadBy k stage old new → HoldsIf look c e (t + 1) t t l old → HoldsIf look c e (t + 1) (t + 1) t l new
 holds_read look c rise e k t l stage old new inside is at r held =
     step_if look c e (t + 1) t t l (t + 1) (t + 1) t l old new r.same (λ no. r.vector)
     (λ vector yes. carried_read look c.stages vector rise k t l stage old new inside is at r yes) held
 
-pub holds_read_none : (look : Look) (c : Config) (e : Option Entered) (t l : ℕ) (place : Place) → NoneAt c.stages 9 (t + 1) → HoldsIf look c e (t + 1) t t l place → HoldsIf look c e (t + 1) (t + 1) t l place
+pub holds_read_none : (look : Look) (c : Config) (e : Option Entered) (t l : ℕ) (place : PacketSlot) → NoneAt c.stages 9 (t + 1) → HoldsIf look c e (t + 1) t t l place → HoldsIf look c e (t + 1) (t + 1) t l place
 holds_read_none look c e t l place none held =
     step_if look c e (t + 1) t t l (t + 1) (t + 1) t l place place (unchanged place) (λ no. refl) (λ vector yes. carried_read_none look c.stages vector t l place none) held
 
-pub holds_act : (look : Look) (c : Config) → Rise c.stages → (e : Option Entered) (k t : ℕ) (stage : Stage) (old new : Place) → k < length c.stages → get_or c.stages k stage ≡ stage → start_of c.stages k + 8 ≡ t + 1
+pub holds_act : (look : Look) (c : Config) → Rise c.stages → (e : Option Entered) (k t : ℕ) (stage : Stage) (old new : PacketSlot) → k < length c.stages → get_or c.stages k stage ≡ stage → start_of c.stages k + 8 ≡ t + 1
     → DecidedBy k stage old new → HoldsIf look c e (t + 1) (t + 1) t (t + 1) old → HoldsIf look c e (t + 1) (t + 1) (t + 1) (t + 1) new
 holds_act look c rise e k t stage old new inside is at d held =
     step_if look c e (t + 1) (t + 1) t (t + 1) (t + 1) (t + 1) (t + 1) (t + 1) old new d.same (λ no. d.vector)
     (λ vector yes. carried_act look c.stages vector rise k t stage old new inside is at d yes) held
 
-pub holds_act_none : (look : Look) (c : Config) (e : Option Entered) (t : ℕ) (place : Place) → NoneAt c.stages 8 (t + 1) → HoldsIf look c e (t + 1) (t + 1) t (t + 1) place → HoldsIf look c e (t + 1) (t + 1) (t + 1) (t + 1) place
+pub holds_act_none : (look : Look) (c : Config) (e : Option Entered) (t : ℕ) (place : PacketSlot) → NoneAt c.stages 8 (t + 1) → HoldsIf look c e (t + 1) (t + 1) t (t + 1) place → HoldsIf look c e (t + 1) (t + 1) (t + 1) (t + 1) place
 holds_act_none look c e t place none held =
     step_if look c e (t + 1) (t + 1) t (t + 1) (t + 1) (t + 1) (t + 1) (t + 1) place place (unchanged place) (λ no. refl) (λ vector yes. carried_act_none look c.stages vector t place none) held
 
-pub holds_look : (look : Look) (c : Config) → Rise c.stages → (e : Option Entered) (k t : ℕ) (stage : Stage) (old new : Place) → k < length c.stages → get_or c.stages k stage ≡ stage → start_of c.stages k ≡ t
+pub holds_look : (look : Look) (c : Config) → Rise c.stages → (e : Option Entered) (k t : ℕ) (stage : Stage) (old new : PacketSlot) → k < length c.stages → get_or c.stages k stage ≡ stage → start_of c.stages k ≡ t
     → LookedBy look k stage old new → HoldsIf look c e t t t t old → HoldsIf look c e t t t (t + 1) new
 holds_look look c rise e k t stage old new inside is at l held =
     step_if look c e t t t t t t t (t + 1) old new l.same (λ no. l.vector)
     (λ vector yes. carried_look look c.stages vector rise k t stage old new inside is at l yes) held
 
-pub holds_look_none : (look : Look) (c : Config) (e : Option Entered) (t : ℕ) (place : Place) → NoneAt c.stages 0 t → HoldsIf look c e t t t t place → HoldsIf look c e t t t (t + 1) place
+pub holds_look_none : (look : Look) (c : Config) (e : Option Entered) (t : ℕ) (place : PacketSlot) → NoneAt c.stages 0 t → HoldsIf look c e t t t t place → HoldsIf look c e t t t (t + 1) place
 holds_look_none look c e t place none held =
     step_if look c e t t t t t t t (t + 1) place place (unchanged place) (λ no. refl) (λ vector yes. carried_look_none look c.stages vector t place none) held

@@ -9,7 +9,7 @@ use Rattle.rmt_bits.specs.declared.answer.Count.{Count}
 use Rattle.rmt_chip.specs.Types.{Config, Stage}
 use Rattle.rmt_config.specs.Life.{Look, Words, Acts, acts_of}
 use Rattle.rmt_config.specs.Parser.{Parse, Short, Reject, Accept, parse, put}
-use Rattle.rmt_chip.specs.declared.place.Place.{Place}
+use Rattle.rmt_chip.specs.declared.packet_slot.PacketSlot.{PacketSlot}
 use Rattle.rmt_chip.specs.Counting.{hits_made}
 use Rattle.rmt_chip.specs.Held.{is_accepted, CarriedFor, Entered, HoldsIf, WrittenBy, ReadBy, DecidedBy, LookedBy}
 use Rattle.rmt_chip.specs.Hits.{hits_from, hits_of, hits_at, hits_upto}
@@ -28,37 +28,37 @@ back : (t : ℕ) → t ≡ t + 1 - 1
 back t = omega arith
 
 -- the facts of the four passes
-abbrev Writing : Look → Config → (ℕ → Option Entered) → ℕ → ℕ → Place → Type 0
+abbrev Writing : Look → Config → (ℕ → Option Entered) → ℕ → ℕ → PacketSlot → Type 0
 Writing look c item t u place = HoldsIf look c (item t) u (t - 1) (t - 1) t place
 
-abbrev Reading : Look → Config → (ℕ → Option Entered) → ℕ → ℕ → Place → Type 0
+abbrev Reading : Look → Config → (ℕ → Option Entered) → ℕ → ℕ → PacketSlot → Type 0
 Reading look c item t u place = HoldsIf look c (item t) t u (t - 1) t place
 
-abbrev Acting : Look → Config → (ℕ → Option Entered) → ℕ → ℕ → Place → Type 0
+abbrev Acting : Look → Config → (ℕ → Option Entered) → ℕ → ℕ → PacketSlot → Type 0
 Acting look c item t u place = HoldsIf look c (item t) t t u t place
 
-abbrev Looking : Look → Config → (ℕ → Option Entered) → ℕ → ℕ → Place → Type 0
+abbrev Looking : Look → Config → (ℕ → Option Entered) → ℕ → ℕ → PacketSlot → Type 0
 Looking look c item t u place = HoldsIf look c (item t) t t t u place
 
-writing_rests : (look : Look) (c : Config) (item : ℕ → Option Entered) (t : ℕ) (place : Place) → NoneAt c.stages 12 (t + 1) → Writing look c item (t + 1) t place → Writing look c item (t + 1) (t + 1) place
+writing_rests : (look : Look) (c : Config) (item : ℕ → Option Entered) (t : ℕ) (place : PacketSlot) → NoneAt c.stages 12 (t + 1) → Writing look c item (t + 1) t place → Writing look c item (t + 1) (t + 1) place
 writing_rests look c item t place none q =
     subst (λ n. HoldsIf look c (item (t + 1)) (t + 1) n n (t + 1) place) (back t)
     (holds_write_none look c (item (t + 1)) t (t + 1) place none (subst (λ n. HoldsIf look c (item (t + 1)) t n n (t + 1) place) (sym (back t)) q))
 
-reading_rests : (look : Look) (c : Config) (item : ℕ → Option Entered) (t : ℕ) (place : Place) → NoneAt c.stages 9 (t + 1) → Reading look c item (t + 1) t place → Reading look c item (t + 1) (t + 1) place
+reading_rests : (look : Look) (c : Config) (item : ℕ → Option Entered) (t : ℕ) (place : PacketSlot) → NoneAt c.stages 9 (t + 1) → Reading look c item (t + 1) t place → Reading look c item (t + 1) (t + 1) place
 reading_rests look c item t place none q =
     subst (λ n. HoldsIf look c (item (t + 1)) (t + 1) (t + 1) n (t + 1) place) (back t)
     (holds_read_none look c (item (t + 1)) t (t + 1) place none (subst (λ n. HoldsIf look c (item (t + 1)) (t + 1) t n (t + 1) place) (sym (back t)) q))
 
-acting_rests : (look : Look) (c : Config) (item : ℕ → Option Entered) (t : ℕ) (place : Place) → NoneAt c.stages 8 (t + 1) → Acting look c item (t + 1) t place → Acting look c item (t + 1) (t + 1) place
+acting_rests : (look : Look) (c : Config) (item : ℕ → Option Entered) (t : ℕ) (place : PacketSlot) → NoneAt c.stages 8 (t + 1) → Acting look c item (t + 1) t place → Acting look c item (t + 1) (t + 1) place
 acting_rests look c item t place none q = holds_act_none look c (item (t + 1)) t place none q
 
-looking_rests : (look : Look) (c : Config) (item : ℕ → Option Entered) (t : ℕ) (place : Place) → NoneAt c.stages 0 t → Looking look c item t t place → Looking look c item t (t + 1) place
+looking_rests : (look : Look) (c : Config) (item : ℕ → Option Entered) (t : ℕ) (place : PacketSlot) → NoneAt c.stages 0 t → Looking look c item t t place → Looking look c item t (t + 1) place
 looking_rests look c item t place none q = holds_look_none look c (item t) t place none q
 
 -- ---- words are written
 
-pub write_turn : (look : Look) (c : Config) (item : ℕ → Option Entered) (newest k at : ℕ) (places : List Place) (old new : Place) → Rise c.stages → k < length c.stages → start_of c.stages k ≤ 372 → newest < 385 → length places ≡ 385
+pub write_turn : (look : Look) (c : Config) (item : ℕ → Option Entered) (newest k at : ℕ) (places : List PacketSlot) (old new : PacketSlot) → Rise c.stages → k < length c.stages → start_of c.stages k ≤ 372 → newest < 385 → length places ≡ 385
     → at ≡ ring_at newest (start_of c.stages k + 12) → old ≡ get_or places at old → WrittenBy k old new
     → AllHold look c item (partly (done_before c.stages 12 k)) past past now newest places
     → AllHold look c item (partly (done_before c.stages 12 (k + 1))) past past now newest (set places at new)
@@ -76,14 +76,14 @@ write_turn look c item newest k at places old new rise inside last ring full pla
     subst (λ n. AllHold look c item (partly (done_before c.stages 12 (k + 1))) past past now newest (set places n new)) (sym place_is)
     (subst (λ n. AllHold look c item (partly n) past past now newest (set places (ring_at newest a) new)) (sym (done_more c.stages 12 k)) all)
 
-pub write_done : (look : Look) (c : Config) (item : ℕ → Option Entered) (newest k : ℕ) (places : List Place) → Rise c.stages → k ≡ length c.stages
+pub write_done : (look : Look) (c : Config) (item : ℕ → Option Entered) (newest k : ℕ) (places : List PacketSlot) → Rise c.stages → k ≡ length c.stages
     → AllHold look c item (partly (done_before c.stages 12 k)) past past now newest places → AllHold look c item now past past now newest places
 write_done look c item newest k places rise e was =
     pass_end (Writing look c item) c.stages 12 newest places rise (writing_rests look c item) (subst (λ n. AllHold look c item (partly (done_before c.stages 12 n)) past past now newest places) e was)
 
 -- ---- operands are read
 
-pub read_turn : (look : Look) (c : Config) (item : ℕ → Option Entered) (newest k at : ℕ) (places : List Place) (stage : Stage) (old new : Place) → Rise c.stages → k < length c.stages → stage ≡ get_or c.stages k stage → start_of c.stages k ≤ 372 → newest < 385 → length places ≡ 385
+pub read_turn : (look : Look) (c : Config) (item : ℕ → Option Entered) (newest k at : ℕ) (places : List PacketSlot) (stage : Stage) (old new : PacketSlot) → Rise c.stages → k < length c.stages → stage ≡ get_or c.stages k stage → start_of c.stages k ≤ 372 → newest < 385 → length places ≡ 385
     → at ≡ ring_at newest (start_of c.stages k + 9) → old ≡ get_or places at old → ReadBy k stage old new
     → AllHold look c item now (partly (done_before c.stages 9 k)) past now newest places
     → AllHold look c item now (partly (done_before c.stages 9 (k + 1))) past now newest (set places at new)
@@ -102,7 +102,7 @@ read_turn look c item newest k at places stage old new rise inside is last ring 
     subst (λ n. AllHold look c item now (partly (done_before c.stages 9 (k + 1))) past now newest (set places n new)) (sym place_is)
     (subst (λ n. AllHold look c item now (partly n) past now newest (set places (ring_at newest a) new)) (sym (done_more c.stages 9 k)) all)
 
-pub read_done : (look : Look) (c : Config) (item : ℕ → Option Entered) (newest k : ℕ) (places : List Place) → Rise c.stages → k ≡ length c.stages
+pub read_done : (look : Look) (c : Config) (item : ℕ → Option Entered) (newest k : ℕ) (places : List PacketSlot) → Rise c.stages → k ≡ length c.stages
     → AllHold look c item now (partly (done_before c.stages 9 k)) past now newest places → AllHold look c item now now past now newest places
 read_done look c item newest k places rise e was =
     pass_end (Reading look c item) c.stages 9 newest places rise (reading_rests look c item) (subst (λ n. AllHold look c item now (partly (done_before c.stages 9 n)) past now newest places) e was)
@@ -110,7 +110,7 @@ read_done look c item newest k places rise e was =
 -- ---- outcomes are set
 
 -- the packet that a stage is about to act on
-pub acting_at : (look : Look) (c : Config) (item : ℕ → Option Entered) (newest k at : ℕ) (places : List Place) (old : Place) → Rise c.stages → k < length c.stages → start_of c.stages k ≤ 372
+pub acting_at : (look : Look) (c : Config) (item : ℕ → Option Entered) (newest k at : ℕ) (places : List PacketSlot) (old : PacketSlot) → Rise c.stages → k < length c.stages → start_of c.stages k ≤ 372
     → at ≡ ring_at newest (start_of c.stages k + 8) → old ≡ get_or places at old
     → AllHold look c item now now (partly (done_before c.stages 8 k)) now newest places
     → let a = start_of c.stages k + 8 in HoldsIf look c (item a) (a - 1 + 1) (a - 1 + 1) (a - 1) (a - 1 + 1) old
@@ -123,7 +123,7 @@ acting_at look c item newest k at places old rise inside last place_is old_is wa
     (subst (HoldsIf look c (item a) a a (a - 1) a) here
     (subst (λ u. HoldsIf look c (item a) a a u a (get_or places (ring_at newest a) old)) prior (was a old (omega arith))))
 
-pub act_turn : (look : Look) (c : Config) (item : ℕ → Option Entered) (newest k at : ℕ) (places : List Place) (stage : Stage) (old new : Place) → Rise c.stages → k < length c.stages → stage ≡ get_or c.stages k stage → start_of c.stages k ≤ 372 → newest < 385 → length places ≡ 385
+pub act_turn : (look : Look) (c : Config) (item : ℕ → Option Entered) (newest k at : ℕ) (places : List PacketSlot) (stage : Stage) (old new : PacketSlot) → Rise c.stages → k < length c.stages → stage ≡ get_or c.stages k stage → start_of c.stages k ≤ 372 → newest < 385 → length places ≡ 385
     → at ≡ ring_at newest (start_of c.stages k + 8) → old ≡ get_or places at old → DecidedBy k stage old new
     → AllHold look c item now now (partly (done_before c.stages 8 k)) now newest places
     → AllHold look c item now now (partly (done_before c.stages 8 (k + 1))) now newest (set places at new)
@@ -137,7 +137,7 @@ act_turn look c item newest k at places stage old new rise inside is last ring f
     subst (λ n. AllHold look c item now now (partly (done_before c.stages 8 (k + 1))) now newest (set places n new)) (sym place_is)
     (subst (λ n. AllHold look c item now now (partly n) now newest (set places (ring_at newest a) new)) (sym (done_more c.stages 8 k)) all)
 
-pub act_done : (look : Look) (c : Config) (item : ℕ → Option Entered) (newest k : ℕ) (places : List Place) → Rise c.stages → k ≡ length c.stages
+pub act_done : (look : Look) (c : Config) (item : ℕ → Option Entered) (newest k : ℕ) (places : List PacketSlot) → Rise c.stages → k ≡ length c.stages
     → AllHold look c item now now (partly (done_before c.stages 8 k)) now newest places → AllHold look c item now now now now newest places
 act_done look c item newest k places rise e was =
     pass_end (Acting look c item) c.stages 8 newest places rise (acting_rests look c item) (subst (λ n. AllHold look c item now now (partly (done_before c.stages 8 n)) now newest places) e was)
@@ -151,12 +151,12 @@ pub counts_more : (a b d : List Count) (xs ys : List Hit) → CountsAlso a b xs 
 counts_more a b d xs ys f g numbers hits is = g numbers (hits ++ xs) (f numbers hits is) ∙ ap (counts numbers) (append_assoc hits xs ys)
 
 -- what a step of a stage counts
-pub record ActCounts (k : ℕ) (stage : Stage) (place : Place) (old new : List Count) : Type 0 where
+pub record ActCounts (k : ℕ) (stage : Stage) (place : PacketSlot) (old new : List Count) : Type 0 where
   pub rests : is_accepted place.parsed ≡ false → new ≡ old
   pub counted : is_accepted place.parsed ≡ true → (look : Look) (number : ℕ) (words : Words) → AllLooked look number words stage (looked_at place.pending.items k) →
       CountsAlso old new (hits_made place.size (acts_of look number stage words place.outcomes).counted)
 
-for_counts : (look : Look) (c : Config) (packet : Packet) → Rise c.stages → (k t : ℕ) (stage : Stage) (place : Place) (old new : List Count) → k < length c.stages → get_or c.stages k stage ≡ stage → start_of c.stages k + 8 ≡ t + 1
+for_counts : (look : Look) (c : Config) (packet : Packet) → Rise c.stages → (k t : ℕ) (stage : Stage) (place : PacketSlot) (old new : List Count) → k < length c.stages → get_or c.stages k stage ≡ stage → start_of c.stages k + 8 ≡ t + 1
     → place.size ≡ length packet.frame → ActCounts k stage place old new → (p : Parse) → CarriedFor look c packet (t + 1) (t + 1) t (t + 1) place p → CountsAlso old new (hits_from look c k stage packet p)
 for_counts look c packet rise k t stage place old new inside is at size a Short held = counts_none old new (a.rests (ap is_accepted held.0))
 for_counts look c packet rise k t stage place old new inside is at size a Reject held = counts_none old new (a.rests (ap is_accepted held.0))
@@ -167,13 +167,13 @@ for_counts look c packet rise k t stage place old new inside is at size a (Accep
     (subst (λ n. CountsAlso old new (hits_made n (acts_of look k stage ((upto look c.stages vector k).word stage.start) place.outcomes).counted)) size
     (a.counted (ap is_accepted held.0) look k ((upto look c.stages vector k).word stage.start) set.looked))
 
-holds_counts : (look : Look) (c : Config) → Rise c.stages → (e : Option Entered) (k t : ℕ) (stage : Stage) (place : Place) (old new : List Count) → k < length c.stages → get_or c.stages k stage ≡ stage → start_of c.stages k + 8 ≡ t + 1
+holds_counts : (look : Look) (c : Config) → Rise c.stages → (e : Option Entered) (k t : ℕ) (stage : Stage) (place : PacketSlot) (old new : List Count) → k < length c.stages → get_or c.stages k stage ≡ stage → start_of c.stages k + 8 ≡ t + 1
     → ActCounts k stage place old new → HoldsIf look c e (t + 1) (t + 1) t (t + 1) place → CountsAlso old new (hits_of look c k stage e)
 holds_counts look c rise None k t stage place old new inside is at a held = counts_none old new (a.rests held.rests)
 holds_counts look c rise (Some e) k t stage place old new inside is at a held =
     for_counts look c e.packet rise k t stage place old new inside is at held.size a (parse c.parser e.packet.frame) held.carried
 
-pub count_turn : (look : Look) (c : Config) (item : ℕ → Option Entered) (newest k at : ℕ) (places : List Place) (stage : Stage) (place : Place) (first old new : List Count) → Rise c.stages → k < length c.stages → stage ≡ get_or c.stages k stage → start_of c.stages k ≤ 372
+pub count_turn : (look : Look) (c : Config) (item : ℕ → Option Entered) (newest k at : ℕ) (places : List PacketSlot) (stage : Stage) (place : PacketSlot) (first old new : List Count) → Rise c.stages → k < length c.stages → stage ≡ get_or c.stages k stage → start_of c.stages k ≤ 372
     → at ≡ ring_at newest (start_of c.stages k + 8) → place ≡ get_or places at place → ActCounts k stage place old new
     → AllHold look c item now now (partly (done_before c.stages 8 k)) now newest places
     → CountsAlso first old (hits_upto look c item k) → CountsAlso first new (hits_upto look c item (k + 1))
@@ -192,7 +192,7 @@ count_turn look c item newest k at places stage place first old new rise inside 
 
 -- ---- keys and tests are read
 
-pub look_turn : (look : Look) (c : Config) (item : ℕ → Option Entered) (newest k at : ℕ) (places : List Place) (stage : Stage) (old new : Place) → Rise c.stages → k < length c.stages → stage ≡ get_or c.stages k stage → start_of c.stages k ≤ 372 → newest < 385 → length places ≡ 385
+pub look_turn : (look : Look) (c : Config) (item : ℕ → Option Entered) (newest k at : ℕ) (places : List PacketSlot) (stage : Stage) (old new : PacketSlot) → Rise c.stages → k < length c.stages → stage ≡ get_or c.stages k stage → start_of c.stages k ≤ 372 → newest < 385 → length places ≡ 385
     → at ≡ ring_at newest (start_of c.stages k) → old ≡ get_or places at old → LookedBy look k stage old new
     → AllHold look c item now now now (partly_next (done_before c.stages 0 k)) newest places
     → AllHold look c item now now now (partly_next (done_before c.stages 0 (k + 1))) newest (set places at new)
@@ -211,7 +211,7 @@ look_turn look c item newest k at places stage old new rise inside is last ring 
     (subst (λ m. AllHold look c item now now now (partly_next (done_before c.stages 0 (k + 1))) newest (set places (ring_at newest m) new)) (sym same)
     (subst (λ n. AllHold look c item now now now (partly_next n) newest (set places (ring_at newest (a + 0)) new)) (sym (done_more c.stages 0 k)) all))
 
-pub look_done : (look : Look) (c : Config) (item : ℕ → Option Entered) (newest k : ℕ) (places : List Place) → Rise c.stages → k ≡ length c.stages
+pub look_done : (look : Look) (c : Config) (item : ℕ → Option Entered) (newest k : ℕ) (places : List PacketSlot) → Rise c.stages → k ≡ length c.stages
     → AllHold look c item now now now (partly_next (done_before c.stages 0 k)) newest places → AllHold look c item now now now next newest places
 look_done look c item newest k places rise e was =
     next_end (Looking look c item) c.stages 0 newest places rise (looking_rests look c item) (subst (λ n. AllHold look c item now now now (partly_next (done_before c.stages 0 n)) newest places) e was)

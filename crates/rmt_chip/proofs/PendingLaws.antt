@@ -7,7 +7,7 @@ use Rattle.rmt_config.specs.Life.{Look}
 use Rattle.std.proofs.lemmas.Bool.{cases_eq}
 use Rattle.rmt_chip.specs.declared.looked.Looked.{Looked}
 use Rattle.rmt_chip.specs.declared.pending.Pending.{Pending}
-use Rattle.rmt_chip.specs.declared.place.Place.{Place}
+use Rattle.rmt_chip.specs.declared.packet_slot.PacketSlot.{PacketSlot}
 use Rattle.rmt_chip.specs.declared.ran.Ran.{Ran}
 use Rattle.rmt_chip.specs.declared.write.Write.{Write}
 use Rattle.rmt_chip.specs.Held.{SamePacket, LookedBy}
@@ -60,7 +60,7 @@ kept {A} part ps k p q lt is same j =
     (λ (apart : j ≢ k). ap found (set_there ps k j p apart))
     (cases_eq j k)
 
-pub looked_by : (look : Look) (k : ℕ) (stage : Stage) (old new : Place) (p q : Pending) → k < length old.pending.items → slice_get old.pending.items k ≡ Some q → new.pending.items ≡ set old.pending.items k p
+pub looked_by : (look : Look) (k : ℕ) (stage : Stage) (old new : PacketSlot) (p q : Pending) → k < length old.pending.items → slice_get old.pending.items k ≡ Some q → new.pending.items ≡ set old.pending.items k p
     → SamePacket old new → new.vector ≡ old.vector → new.outcomes ≡ old.outcomes → p.running ≡ q.running → p.due ≡ q.due
     → AllLooked look k (λ v. slice_index old.vector v) stage p.looked.items → LookedBy look k stage old new
 looked_by look k stage old new p q lt is put same v o r d looked =

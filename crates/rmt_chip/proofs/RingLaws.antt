@@ -4,7 +4,7 @@ use Rattle.std.proofs.lemmas.List.{get_or-set_same, get_or-set_other}
 use Rattle.std.proofs.lemmas.Bool.{cases_lt, cases_eq}
 use Rattle.std.proofs.lemmas.Bool.Decides.{nat_tests}
 use Rattle.rmt_chip.specs.Types.{Stage}
-use Rattle.rmt_chip.specs.declared.place.Place.{Place}
+use Rattle.rmt_chip.specs.declared.packet_slot.PacketSlot.{PacketSlot}
 use Rattle.rmt_chip.specs.Runnable.{start_of}
 use Rattle.rmt_chip.specs.Ring.{ring_at, partly, partly_next, done_before}
 use Rattle.rmt_chip.proofs.LifeLaws.{Rise}
@@ -67,12 +67,12 @@ quiet stages after k t rise within from until j hj e =
         omega arith
 
 -- each place keeps a fact of its age
-abbrev pub AllPlaces : (ℕ → ℕ → Place → Type 0) → ℕ → ℕ → List Place → Type 0
-AllPlaces Q bound newest places = (t : ℕ) (d : Place) → t < 385 → Q t (partly bound t) (get_or places (ring_at newest t) d)
+abbrev pub AllPlaces : (ℕ → ℕ → PacketSlot → Type 0) → ℕ → ℕ → List PacketSlot → Type 0
+AllPlaces Q bound newest places = (t : ℕ) (d : PacketSlot) → t < 385 → Q t (partly bound t) (get_or places (ring_at newest t) d)
 
-pub pass_step : (Q : ℕ → ℕ → Place → Type 0) (stages : List Stage) (after k newest : ℕ) (places : List Place) (new : Place) → Rise stages → k < length stages
+pub pass_step : (Q : ℕ → ℕ → PacketSlot → Type 0) (stages : List Stage) (after k newest : ℕ) (places : List PacketSlot) (new : PacketSlot) → Rise stages → k < length stages
     → start_of stages k + after < 385 → newest < 385 → length places ≡ 385
-    → ((t : ℕ) (place : Place) → NoneAt stages after (t + 1) → Q (t + 1) t place → Q (t + 1) (t + 1) place)
+    → ((t : ℕ) (place : PacketSlot) → NoneAt stages after (t + 1) → Q (t + 1) t place → Q (t + 1) (t + 1) place)
     → AllPlaces Q (done_before stages after k) newest places
     → Q (start_of stages k + after) (start_of stages k + after) new
     → AllPlaces Q (start_of stages k + after + 1) newest (set places (ring_at newest (start_of stages k + after)) new)
@@ -106,17 +106,17 @@ pass_step Q stages after k newest places new rise inside small ring full none wa
     (cases_lt t a)))
     (cases_eq t a)
   where
-    at_rest : (u : ℕ) (place : Place) → NoneAt stages after u → Q u (u - 1) place → Q u u place
+    at_rest : (u : ℕ) (place : PacketSlot) → NoneAt stages after u → Q u (u - 1) place → Q u u place
     at_rest zero place n q = subst (λ v. Q 0 v place) (let e : 0 - 1 ≡ 0 = omega arith in e) q
     at_rest (suc u) place n q =
         let next : suc u ≡ u + 1 = omega arith in
         let back : suc u - 1 ≡ u = omega arith in
         subst (λ v. Q v v place) (sym next) (none u place (subst (NoneAt stages after) next n) (subst (λ v. Q v u place) next (subst (λ v. Q (suc u) v place) back q)))
 
-pub pass_end : (Q : ℕ → ℕ → Place → Type 0) (stages : List Stage) (after newest : ℕ) (places : List Place) → Rise stages
-    → ((t : ℕ) (place : Place) → NoneAt stages after (t + 1) → Q (t + 1) t place → Q (t + 1) (t + 1) place)
+pub pass_end : (Q : ℕ → ℕ → PacketSlot → Type 0) (stages : List Stage) (after newest : ℕ) (places : List PacketSlot) → Rise stages
+    → ((t : ℕ) (place : PacketSlot) → NoneAt stages after (t + 1) → Q (t + 1) t place → Q (t + 1) (t + 1) place)
     → AllPlaces Q (done_before stages after (length stages)) newest places
-    → (t : ℕ) (d : Place) → t < 385 → Q t t (get_or places (ring_at newest t) d)
+    → (t : ℕ) (d : PacketSlot) → t < 385 → Q t t (get_or places (ring_at newest t) d)
 pass_end Q stages after newest places rise none was t d h =
     let b = done_before stages after (length stages) in
     let old = get_or places (ring_at newest t) d in
@@ -125,14 +125,14 @@ pass_end Q stages after newest places rise none was t d h =
     (λ (f : b ≤ t). at_rest t old (quiet stages after (length stages) t rise (omega arith) f (λ l. absurd (omega arith))) (subst (λ u. Q t u old) (partly-from b t f) (was t d h)))
     (cases_lt t b)
   where
-    at_rest : (u : ℕ) (place : Place) → NoneAt stages after u → Q u (u - 1) place → Q u u place
+    at_rest : (u : ℕ) (place : PacketSlot) → NoneAt stages after u → Q u (u - 1) place → Q u u place
     at_rest zero place n q = subst (λ v. Q 0 v place) (let e : 0 - 1 ≡ 0 = omega arith in e) q
     at_rest (suc u) place n q =
         let next : suc u ≡ u + 1 = omega arith in
         let back : suc u - 1 ≡ u = omega arith in
         subst (λ v. Q v v place) (sym next) (none u place (subst (NoneAt stages after) next n) (subst (λ v. Q v u place) next (subst (λ v. Q (suc u) v place) back q)))
 
-pub pass_start : (Q : ℕ → ℕ → Place → Type 0) (newest : ℕ) (places : List Place) → ((t : ℕ) (d : Place) → t < 385 → Q t (t - 1) (get_or places (ring_at newest t) d)) → AllPlaces Q 0 newest places
+pub pass_start : (Q : ℕ → ℕ → PacketSlot → Type 0) (newest : ℕ) (places : List PacketSlot) → ((t : ℕ) (d : PacketSlot) → t < 385 → Q t (t - 1) (get_or places (ring_at newest t) d)) → AllPlaces Q 0 newest places
 pass_start Q newest places was t d h = subst (λ u. Q t u (get_or places (ring_at newest t) d)) (sym (partly-from 0 t (omega arith))) (was t d h)
 
 -- ---- a pass that may begin at age 0: what it has done at ages below a bound, and not yet from there on
@@ -142,12 +142,12 @@ next-below bound t h = grind (arith, nat_tests)
 pub next-from : (bound t : ℕ) → bound ≤ t → partly_next bound t ≡ t
 next-from bound t h = grind (arith, nat_tests)
 
-abbrev pub AllNext : (ℕ → ℕ → Place → Type 0) → ℕ → ℕ → List Place → Type 0
-AllNext Q bound newest places = (t : ℕ) (d : Place) → t < 385 → Q t (partly_next bound t) (get_or places (ring_at newest t) d)
+abbrev pub AllNext : (ℕ → ℕ → PacketSlot → Type 0) → ℕ → ℕ → List PacketSlot → Type 0
+AllNext Q bound newest places = (t : ℕ) (d : PacketSlot) → t < 385 → Q t (partly_next bound t) (get_or places (ring_at newest t) d)
 
-pub next_step : (Q : ℕ → ℕ → Place → Type 0) (stages : List Stage) (after k newest : ℕ) (places : List Place) (new : Place) → Rise stages → k < length stages
+pub next_step : (Q : ℕ → ℕ → PacketSlot → Type 0) (stages : List Stage) (after k newest : ℕ) (places : List PacketSlot) (new : PacketSlot) → Rise stages → k < length stages
     → start_of stages k + after < 385 → newest < 385 → length places ≡ 385
-    → ((t : ℕ) (place : Place) → NoneAt stages after t → Q t t place → Q t (t + 1) place)
+    → ((t : ℕ) (place : PacketSlot) → NoneAt stages after t → Q t t place → Q t (t + 1) place)
     → AllNext Q (done_before stages after k) newest places
     → Q (start_of stages k + after) (start_of stages k + after + 1) new
     → AllNext Q (start_of stages k + after + 1) newest (set places (ring_at newest (start_of stages k + after)) new)
@@ -180,10 +180,10 @@ next_step Q stages after k newest places new rise inside small ring full none wa
     (cases_lt t a)))
     (cases_eq t a)
 
-pub next_end : (Q : ℕ → ℕ → Place → Type 0) (stages : List Stage) (after newest : ℕ) (places : List Place) → Rise stages
-    → ((t : ℕ) (place : Place) → NoneAt stages after t → Q t t place → Q t (t + 1) place)
+pub next_end : (Q : ℕ → ℕ → PacketSlot → Type 0) (stages : List Stage) (after newest : ℕ) (places : List PacketSlot) → Rise stages
+    → ((t : ℕ) (place : PacketSlot) → NoneAt stages after t → Q t t place → Q t (t + 1) place)
     → AllNext Q (done_before stages after (length stages)) newest places
-    → (t : ℕ) (d : Place) → t < 385 → Q t (t + 1) (get_or places (ring_at newest t) d)
+    → (t : ℕ) (d : PacketSlot) → t < 385 → Q t (t + 1) (get_or places (ring_at newest t) d)
 next_end Q stages after newest places rise none was t d h =
     let b = done_before stages after (length stages) in
     let old = get_or places (ring_at newest t) d in
@@ -192,5 +192,5 @@ next_end Q stages after newest places rise none was t d h =
     (λ (f : b ≤ t). none t old (quiet stages after (length stages) t rise (omega arith) f (λ l. absurd (omega arith))) (subst (λ u. Q t u old) (next-from b t f) (was t d h)))
     (cases_lt t b)
 
-pub next_start : (Q : ℕ → ℕ → Place → Type 0) (newest : ℕ) (places : List Place) → ((t : ℕ) (d : Place) → t < 385 → Q t t (get_or places (ring_at newest t) d)) → AllNext Q 0 newest places
+pub next_start : (Q : ℕ → ℕ → PacketSlot → Type 0) (newest : ℕ) (places : List PacketSlot) → ((t : ℕ) (d : PacketSlot) → t < 385 → Q t t (get_or places (ring_at newest t) d)) → AllNext Q 0 newest places
 next_start Q newest places was t d h = subst (λ u. Q t u (get_or places (ring_at newest t) d)) (sym (next-from 0 t (omega arith))) (was t d h)

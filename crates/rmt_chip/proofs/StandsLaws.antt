@@ -13,8 +13,8 @@ use Rattle.std.proofs.Common.{Vec, Global}
 use Rattle.rmt_chip.specs.declared.memory.SlotMemory.{SlotMemory}
 use Rattle.rmt_chip.specs.FrameList.{frames_of}
 use Rattle.rmt_chip.specs.StageMemories.{LaidOut}
-use Rattle.rmt_chip.specs.Standing.{InFlight}
-use Rattle.rmt_chip.specs.declared.place.Place.{Place}
+use Rattle.rmt_chip.specs.PacketsInFlight.{InFlight}
+use Rattle.rmt_chip.specs.declared.packet_slot.PacketSlot.{PacketSlot}
 use Rattle.rmt_chip.specs.declared.chip.Chip.{Chip}
 use Rattle.rmt_chip.specs.declared.frame.Frame.{Frame}
 use Rattle.rmt_chip.specs.declared.seen.Seen.{Seen}
@@ -29,7 +29,7 @@ packets_push inputs None = ap packets_of (reverse_push inputs None) ∙ (let e :
 packets_push inputs (Some f) = ap packets_of (reverse_push inputs (input_of (Some f)))
 
 -- what one cycle of the parts gives
-abbrev pub CycleGives : Config → ℕ → Option Frame → ℕ → List Place → List Place → List (List ℕ) → List (List ℕ) → List Count → List Count → Option Verdict → List ℕ → Type 0
+abbrev pub CycleGives : Config → ℕ → Option Frame → ℕ → List PacketSlot → List PacketSlot → List (List ℕ) → List (List ℕ) → List Count → List Count → Option Verdict → List ℕ → Type 0
 CycleGives c newest frame number old new frames frames' counters counters' answer bytes = (inputs : List (Option Packet)) (before : ℕ) → before < 385 → newest ≡ (before + 1) % 385 →
     number ≡ packets_of (reverse inputs) → InFlight c inputs before old frames counters
     → InFlight c (inputs ++ input_of frame ∷ []) newest new frames' counters' × AnswersIf (answer_at c (inputs ++ input_of frame ∷ []) (length inputs)) answer bytes
@@ -55,17 +55,17 @@ clock_right c inputs frame old new answer bytes ring same_config same_memories g
     )
 
 -- the words of a packet in its place are those of its life
-words_held : (look : Look) (c : Config) (packet : Packet) (age l : ℕ) (place : Place) (p : Parse) → CarriedFor look c packet age age age l place p → (w : ℕ) → slice_index place.vector w ≡ words_from look c packet p age w
+words_held : (look : Look) (c : Config) (packet : Packet) (age l : ℕ) (place : PacketSlot) (p : Parse) → CarriedFor look c packet age age age l place p → (w : ℕ) → slice_index place.vector w ≡ words_from look c packet p age w
 words_held look c packet age l place Short held w = held.1 w
 words_held look c packet age l place Reject held w = held.1 w
 words_held look c packet age l place (Accept r) held w = held.2.words w
 
-pub shows_entered : (c : Config) (age : ℕ) (item : Option Entered) (place : Place) (seen : Seen) → HoldsIf (own_look c) c item age age age (age + 1) place → place.taken ≡ true → seen.number ≡ place.number → seen.words.now ≡ place.vector → Shows c age item (Some seen)
+pub shows_entered : (c : Config) (age : ℕ) (item : Option Entered) (place : PacketSlot) (seen : Seen) → HoldsIf (own_look c) c item age age age (age + 1) place → place.taken ≡ true → seen.number ≡ place.number → seen.words.now ≡ place.vector → Shows c age item (Some seen)
 shows_entered c age None place seen held taken number words = let free : place.taken ≡ false = held.taken in cc
 shows_entered c age (Some e) place seen held taken number words =
     (number ∙ held.number, λ w. ap (λ (ws : List ℕ). slice_index ws w) words ∙ words_held (own_look c) c e.packet age (age + 1) place (parse c.parser e.packet.frame) held.carried w)
 
-pub shows_none : (c : Config) (age : ℕ) (item : Option Entered) (place : Place) → HoldsIf (own_look c) c item age age age (age + 1) place → place.taken ≡ false → Shows c age item None
+pub shows_none : (c : Config) (age : ℕ) (item : Option Entered) (place : PacketSlot) → HoldsIf (own_look c) c item age age age (age + 1) place → place.taken ≡ false → Shows c age item None
 shows_none c age None place held taken = tt
 shows_none c age (Some e) place held taken = let h : place.taken ≡ true = held.taken in cc
 

@@ -7,35 +7,35 @@ use Rattle.rmt_chip.specs.Types.{Config}
 use Rattle.rmt_config.specs.Life.{Look}
 use Rattle.rmt_config.specs.ChipRun.{Outcome, own_look, answer_at, latency_of}
 use Rattle.rmt_chip.specs.declared.frame.Frame.{Frame}
-use Rattle.rmt_chip.specs.declared.place.Place.{Place}
+use Rattle.rmt_chip.specs.declared.packet_slot.PacketSlot.{PacketSlot}
 use Rattle.rmt_chip.specs.Held.{Entered, HoldsIf, EntersIf, FrameIs}
 use Rattle.rmt_chip.specs.Hits.{hits_upto}
 use Rattle.rmt_chip.specs.Inputs.{entered_at, input_of, numbered_as, packets_of, frames_after}
 use Rattle.rmt_chip.specs.Leaving.{AnswersIf, leaving_if}
 use Rattle.rmt_chip.specs.Ran.{CountsAlso}
 use Rattle.rmt_chip.specs.Ring.{ring_at, now, past, next, AllHold}
-use Rattle.rmt_chip.specs.Standing.{InFlight}
+use Rattle.rmt_chip.specs.PacketsInFlight.{InFlight}
 use Rattle.rmt_chip.proofs.LifeLaws.{Rise}
 use Rattle.rmt_chip.proofs.EnterLaws.{ring_turns, frames_turn, entered_older, entered_first}
 use Rattle.rmt_chip.proofs.CycleLaws.{holds_enters, leaves_right, answer_entered}
 use Rattle.rmt_chip.proofs.TurnLaws.{counted_turn}
 
 -- what the packet slot of an age holds, by its place in the list
-held_at : (look : Look) (c : Config) (item : ℕ → Option Entered) (newest age at : ℕ) (places : List Place) (place : Place) → age < 385 → at ≡ ring_at newest age → place ≡ get_or places at place
+held_at : (look : Look) (c : Config) (item : ℕ → Option Entered) (newest age at : ℕ) (places : List PacketSlot) (place : PacketSlot) → age < 385 → at ≡ ring_at newest age → place ≡ get_or places at place
     → AllHold look c item now now now next newest places → HoldsIf look c (item age) age age age (age + 1) place
 held_at look c item newest age at places place h e is all =
     subst (HoldsIf look c (item age) age age age (age + 1)) (ap (λ n. get_or places n place) (sym e) ∙ sym is) (all age place h)
 
 -- what the four passes make of the packet slots and the counters
-pub record Passes (c : Config) (old one two three four : List Place) (newest : ℕ) (before after : List Count) : Type 0 where
+pub record Passes (c : Config) (old one two three four : List PacketSlot) (newest : ℕ) (before after : List Count) : Type 0 where
   pub write : (look : Look) (item : ℕ → Option Entered) → AllHold look c item past past past now newest old → AllHold look c item now past past now newest one
   pub read : (look : Look) (item : ℕ → Option Entered) → AllHold look c item now past past now newest one → AllHold look c item now now past now newest two
   pub act : (look : Look) (item : ℕ → Option Entered) → AllHold look c item now now past now newest two
       → AllHold look c item now now now now newest three × CountsAlso before after (hits_upto look c item (length c.stages))
   pub look : (item : ℕ → Option Entered) → AllHold (own_look c) c item now now now now newest three → AllHold (own_look c) c item now now now next newest four
 
-pub cycle_right : (c : Config) → Rise c.stages → (inputs : List (Option Packet)) (frame : Option Frame) (before newest number latency last : ℕ) (places one two three four : List Place) (frames : List (List ℕ)) (counters counters' : List Count)
-    (new place : Place) (answer : Option Verdict) (bytes : List ℕ)
+pub cycle_right : (c : Config) → Rise c.stages → (inputs : List (Option Packet)) (frame : Option Frame) (before newest number latency last : ℕ) (places one two three four : List PacketSlot) (frames : List (List ℕ)) (counters counters' : List Count)
+    (new place : PacketSlot) (answer : Option Verdict) (bytes : List ℕ)
     → before < 385 → length places ≡ 385 → length frames ≡ 385 → newest ≡ (before + 1) % 385 → number ≡ packets_of (reverse inputs) → EntersIf c (numbered_as (input_of frame) number) new
     → Passes c (set places newest new) one two three four newest counters counters'
     → latency ≡ latency_of c.stages → latency ≤ 384 → last ≡ ring_at newest latency → place ≡ get_or four last place → AnswersIf (leaving_if c place (get_or (frames_after frame newest frames) last []) place.taken) answer bytes

@@ -6,7 +6,7 @@ use Rattle.rmt_config.specs.Parser.{Parse, Short, Reject, Accept, parse, put}
 use Rattle.rmt_config.specs.Life.{Look, Words, Acts, life_of, word_after, acts_of}
 use Rattle.rmt_ptcam.specs.declared.parse.Parsed.{Parsed}
 use Rattle.rmt_ptcam.specs.declared.parse.Parsed.TheVariants as parsed
-use Rattle.rmt_chip.specs.declared.place.Place.{Place}
+use Rattle.rmt_chip.specs.declared.packet_slot.PacketSlot.{PacketSlot}
 use Rattle.rmt_chip.specs.Looked.{AllLooked}
 use Rattle.rmt_chip.specs.Ran.{all_running}
 use Rattle.rmt_chip.specs.Runnable.{start_of}
@@ -21,7 +21,7 @@ is_accepted (parsed.Accept used) = true
 
 -- what a packet slot holds for an accepted packet: its words as they are at one age, what the stages have read of
 -- operands up to another, the outcomes and instructions up to a third, and what they have looked up below a fourth
-pub record Carried (look : Look) (stages : List Stage) (vector : List ℕ) (words_age read_age acts_age looks_age : ℕ) (place : Place) : Type 0 where
+pub record Carried (look : Look) (stages : List Stage) (vector : List ℕ) (words_age read_age acts_age looks_age : ℕ) (place : PacketSlot) : Type 0 where
   pub all_words : length place.vector ≡ 224
   pub words : (w : ℕ) → slice_index place.vector w ≡ (life_of look stages vector).word words_age w
   pub looked : (k : ℕ) (d : Stage) → k < length stages → start_of stages k < looks_age → read_age < start_of stages k + 9
@@ -34,7 +34,7 @@ pub record Carried (look : Look) (stages : List Stage) (vector : List ℕ) (word
       → place.outcomes ≡ (upto look stages vector k).outcomes
 
 -- the same for any packet: one that was not accepted has all words 0
-abbrev pub CarriedFor : Look → Config → Packet → ℕ → ℕ → ℕ → ℕ → Place → Parse → Type 0
+abbrev pub CarriedFor : Look → Config → Packet → ℕ → ℕ → ℕ → ℕ → PacketSlot → Parse → Type 0
 CarriedFor look c packet words_age read_age acts_age looks_age place Short = (place.parsed ≡ parsed.Short) × ((w : ℕ) → slice_index place.vector w ≡ 0)
 CarriedFor look c packet words_age read_age acts_age looks_age place Reject = (place.parsed ≡ parsed.Reject) × ((w : ℕ) → slice_index place.vector w ≡ 0)
 CarriedFor look c packet words_age read_age acts_age looks_age place (Accept r) =
@@ -46,24 +46,24 @@ pub record Entered : Type 0 where
   pub packet : Packet
   pub number : ℕ
 
-pub record Holds (look : Look) (c : Config) (entered : Entered) (words_age read_age acts_age looks_age : ℕ) (place : Place) : Type 0 where
+pub record Holds (look : Look) (c : Config) (entered : Entered) (words_age read_age acts_age looks_age : ℕ) (place : PacketSlot) : Type 0 where
   pub taken : place.taken ≡ true
   pub number : place.number ≡ entered.number
   pub size : place.size ≡ length entered.packet.frame
   pub carried : CarriedFor look c entered.packet words_age read_age acts_age looks_age place (parse c.parser entered.packet.frame)
 
 -- no unit runs without a packet
-pub record IsFree (place : Place) : Type 0 where
+pub record IsFree (place : PacketSlot) : Type 0 where
   pub taken : place.taken ≡ false
   pub rests : is_accepted place.parsed ≡ false
 
 -- a packet slot holds a packet, or none
-abbrev pub HoldsIf : Look → Config → Option Entered → ℕ → ℕ → ℕ → ℕ → Place → Type 0
+abbrev pub HoldsIf : Look → Config → Option Entered → ℕ → ℕ → ℕ → ℕ → PacketSlot → Type 0
 HoldsIf look c None words_age read_age acts_age looks_age place = IsFree place
 HoldsIf look c (Some entered) words_age read_age acts_age looks_age place = Holds look c entered words_age read_age acts_age looks_age place
 
 -- the packet itself is as before
-pub record SamePacket (old new : Place) : Type 0 where
+pub record SamePacket (old new : PacketSlot) : Type 0 where
   pub taken : new.taken ≡ old.taken
   pub number : new.number ≡ old.number
   pub size : new.size ≡ old.size
@@ -71,13 +71,13 @@ pub record SamePacket (old new : Place) : Type 0 where
   pub tails : new.tails ≡ old.tails
 
 -- what the four steps of a stage make of a packet slot
-pub record WrittenBy (k : ℕ) (old new : Place) : Type 0 where
+pub record WrittenBy (k : ℕ) (old new : PacketSlot) : Type 0 where
   pub same : SamePacket old new
   pub vector : new.vector ≡ (if is_accepted old.parsed then applied (due_at old.pending.items k) old.vector else old.vector)
   pub outcomes : new.outcomes ≡ old.outcomes
   pub pending : new.pending ≡ old.pending
 
-pub record ReadBy (k : ℕ) (stage : Stage) (old new : Place) : Type 0 where
+pub record ReadBy (k : ℕ) (stage : Stage) (old new : PacketSlot) : Type 0 where
   pub same : SamePacket old new
   pub vector : new.vector ≡ old.vector
   pub outcomes : new.outcomes ≡ old.outcomes
@@ -88,11 +88,11 @@ pub record ReadBy (k : ℕ) (stage : Stage) (old new : Place) : Type 0 where
       ≡ word_after (all_running stage.code (looked_at old.pending.items k) (running_at old.pending.items k)) (λ v. slice_index old.vector v) w
 
 -- the outcomes and the instructions that run are those of the units' acts
-pub record Decides (k : ℕ) (stage : Stage) (acts : Acts) (new : Place) : Type 0 where
+pub record Decides (k : ℕ) (stage : Stage) (acts : Acts) (new : PacketSlot) : Type 0 where
   pub outcomes_are : new.outcomes ≡ acts.outcomes
   pub running_are : all_running stage.code (looked_at new.pending.items k) (running_at new.pending.items k) ≡ acts.running
 
-pub record DecidedBy (k : ℕ) (stage : Stage) (old new : Place) : Type 0 where
+pub record DecidedBy (k : ℕ) (stage : Stage) (old new : PacketSlot) : Type 0 where
   pub same : SamePacket old new
   pub vector : new.vector ≡ old.vector
   pub looked : (j : ℕ) → looked_at new.pending.items j ≡ looked_at old.pending.items j
@@ -100,7 +100,7 @@ pub record DecidedBy (k : ℕ) (stage : Stage) (old new : Place) : Type 0 where
   pub decided : is_accepted old.parsed ≡ true → (look : Look) (number : ℕ) (words : Words) → AllLooked look number words stage (looked_at old.pending.items k)
       → Decides k stage (acts_of look number stage words old.outcomes) new
 
-pub record LookedBy (look : Look) (k : ℕ) (stage : Stage) (old new : Place) : Type 0 where
+pub record LookedBy (look : Look) (k : ℕ) (stage : Stage) (old new : PacketSlot) : Type 0 where
   pub same : SamePacket old new
   pub vector : new.vector ≡ old.vector
   pub outcomes : new.outcomes ≡ old.outcomes
@@ -110,13 +110,13 @@ pub record LookedBy (look : Look) (k : ℕ) (stage : Stage) (old new : Place) : 
   pub looked : is_accepted old.parsed ≡ true → AllLooked look k (λ v. slice_index old.vector v) stage (looked_at new.pending.items k)
 
 -- the vector of a packet as it enters
-abbrev pub Begins : Config → Packet → Place → Parse → Type 0
+abbrev pub Begins : Config → Packet → PacketSlot → Parse → Type 0
 Begins c packet place Short = (place.parsed ≡ parsed.Short) × (place.vector ≡ replicate 224 0)
 Begins c packet place Reject = (place.parsed ≡ parsed.Reject) × (place.vector ≡ replicate 224 0)
 Begins c packet place (Accept r) = (place.parsed ≡ parsed.Accept r.at) × (place.tails ≡ r.tails) × (place.vector ≡ put r.vector c.in_port packet.port) × (length place.vector ≡ 224)
 
 -- a packet slot with a packet that enters
-pub record EnteredBy (c : Config) (entered : Entered) (place : Place) : Type 0 where
+pub record EnteredBy (c : Config) (entered : Entered) (place : PacketSlot) : Type 0 where
   pub taken : place.taken ≡ true
   pub number : place.number ≡ entered.number
   pub size : place.size ≡ length entered.packet.frame
@@ -124,7 +124,7 @@ pub record EnteredBy (c : Config) (entered : Entered) (place : Place) : Type 0 w
   pub begins : Begins c entered.packet place (parse c.parser entered.packet.frame)
 
 -- all but the vector and how the parser ended
-pub record Keeps (old new : Place) : Type 0 where
+pub record Keeps (old new : PacketSlot) : Type 0 where
   pub taken : new.taken ≡ old.taken
   pub number : new.number ≡ old.number
   pub size : new.size ≡ old.size
@@ -132,7 +132,7 @@ pub record Keeps (old new : Place) : Type 0 where
   pub pending : new.pending ≡ old.pending
 
 -- a packet slot after a cycle's input
-abbrev pub EntersIf : Config → Option Entered → Place → Type 0
+abbrev pub EntersIf : Config → Option Entered → PacketSlot → Type 0
 EntersIf c None place = IsFree place
 EntersIf c (Some entered) place = EnteredBy c entered place
 

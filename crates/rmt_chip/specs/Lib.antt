@@ -16,7 +16,7 @@ pub mod Ring
 pub mod Hits
 pub mod Inputs
 pub mod Leaving
-pub mod Standing
+pub mod PacketsInFlight
 pub mod Stands
 pub mod Laying
 pub mod Searching

@@ -2,7 +2,7 @@
 use Rattle.std.specs.Prelude.{ℕ, ◌+◌, ◌-◌, ◌%◌, ◌<◌, ◌==◌, nat_lt, if◌then◌else◌, List, [], Option, slice_index_or}
 use Rattle.rmt_chip.specs.Types.{Config, Stage}
 use Rattle.rmt_config.specs.Life.{Look}
-use Rattle.rmt_chip.specs.declared.place.Place.{Place}
+use Rattle.rmt_chip.specs.declared.packet_slot.PacketSlot.{PacketSlot}
 use Rattle.rmt_chip.specs.Runnable.{start_of}
 use Rattle.rmt_chip.specs.Held.{Entered, HoldsIf, FrameIs}
 
@@ -32,9 +32,9 @@ abbrev pub done_before : List Stage → ℕ → ℕ → ℕ
 done_before stages after k = if k == 0 then 0 else start_of stages (k - 1) + after + 1
 
 -- each packet slot holds what entered so many cycles ago: its words, reads and acts as of these ages, and its look-ups below one
-abbrev pub AllHold : Look → Config → (ℕ → Option Entered) → (ℕ → ℕ) → (ℕ → ℕ) → (ℕ → ℕ) → (ℕ → ℕ) → ℕ → List Place → Type 0
+abbrev pub AllHold : Look → Config → (ℕ → Option Entered) → (ℕ → ℕ) → (ℕ → ℕ) → (ℕ → ℕ) → (ℕ → ℕ) → ℕ → List PacketSlot → Type 0
 AllHold look c item words reads acts looks newest places =
-    (age : ℕ) (d : Place) → age < 385 → HoldsIf look c (item age) (words age) (reads age) (acts age) (looks age) (slice_index_or places (ring_at newest age) d)
+    (age : ℕ) (d : PacketSlot) → age < 385 → HoldsIf look c (item age) (words age) (reads age) (acts age) (looks age) (slice_index_or places (ring_at newest age) d)
 
 -- each frame is that of the packet that entered so many cycles ago
 abbrev pub FramesAre : (ℕ → Option Entered) → ℕ → List (List ℕ) → Type 0

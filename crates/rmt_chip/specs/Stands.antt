@@ -9,7 +9,7 @@ use Rattle.rmt_chip.specs.FrameList.{frames_of}
 use Rattle.rmt_chip.specs.Held.{Entered}
 use Rattle.rmt_chip.specs.Inputs.{entered_at, packets_of}
 use Rattle.rmt_chip.specs.StageMemories.{LaidOut}
-use Rattle.rmt_chip.specs.Standing.{InFlight}
+use Rattle.rmt_chip.specs.PacketsInFlight.{InFlight}
 
 -- a chip with this configuration stands for the inputs of the cycles so far
 pub record Stands (c : Config) (inputs : List (Option Packet)) (chip : Chip) : Type 0 where

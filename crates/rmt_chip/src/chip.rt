@@ -5,7 +5,7 @@ ghost use Rattle.std.proofs.Props.{props};
 ghost use Rattle.rmt_config.specs.ChipRun.{latency_of};
 ghost use Rattle.rmt_config.specs.Form.{items_are_formed};
 ghost use Rattle.rmt_config.specs.Limits.{limit_hit};
-ghost use Rattle.rmt_chip.specs.declared.place.Place.{Place as PlaceOf};
+ghost use Rattle.rmt_chip.specs.declared.packet_slot.PacketSlot.{PacketSlot as PlaceOf};
 ghost use Rattle.rmt_chip.specs.Pending.{HaveRoomFor};
 ghost use Rattle.rmt_chip.specs.StageMemories.{MemoriesOf};
 
@@ -18,7 +18,7 @@ use crate::lay::lay_all;
 use crate::memory::SlotMemory;
 use crate::open::all_places;
 use crate::out::Out;
-use crate::place::Place;
+use crate::packet_slot::PacketSlot;
 use crate::ring::{PLACES, place_of};
 use crate::seen::Seen;
 use rmt_bits::answer::Verdict;
@@ -31,7 +31,7 @@ use std::alloc::Global;
 pub struct Chip {
     config: Config,
     memories: Vec<Vec<SlotMemory>>,
-    places: Vec<Place>,
+    places: Vec<PacketSlot>,
     frames: Frames,
     counters: Counts,
     newest: usize,

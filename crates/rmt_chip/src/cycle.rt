@@ -3,8 +3,8 @@
 ghost use Rattle.std.specs.Prelude.{◌≡◌, ◌+◌, ◌%◌, ◌<◌, ◌≤◌, ◌++◌, ◌∷◌, [], ℕ, List, Option, length, reverse, All};
 ghost use Rattle.rmt_bits.specs.Packet.{Packet};
 ghost use Rattle.rmt_config.specs.ChipRun.{answer_at, latency_of};
-ghost use Rattle.rmt_chip.specs.declared.place.Place.{Place as PlaceOf};
-ghost use Rattle.rmt_chip.specs.Standing.{InFlight};
+ghost use Rattle.rmt_chip.specs.declared.packet_slot.PacketSlot.{PacketSlot as PlaceOf};
+ghost use Rattle.rmt_chip.specs.PacketsInFlight.{InFlight};
 ghost use Rattle.rmt_chip.specs.FrameList.{frames_of};
 ghost use Rattle.rmt_chip.specs.Inputs.{input_of, packets_of, MayEnter};
 ghost use Rattle.rmt_chip.specs.Leaving.{AnswersIf};
@@ -18,7 +18,7 @@ use crate::frame::Frame;
 use crate::frames::Frames;
 use crate::memory::SlotMemory;
 use crate::out::Out;
-use crate::place::Place;
+use crate::packet_slot::PacketSlot;
 use crate::ring::{act_all, look_all, place_of, read_all, write_all};
 use rmt_bits::answer::Verdict;
 use rmt_bits::counts::Counts;
@@ -41,7 +41,7 @@ pub fn latency(stages: &[Stage]) -> u16
 pub fn cycle(
     config: &Config,
     memories: &[Vec<SlotMemory>],
-    places: &mut [Place],
+    places: &mut [PacketSlot],
     frames: &mut Frames,
     counters: &mut Counts,
     newest: usize,

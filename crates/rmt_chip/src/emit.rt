@@ -13,7 +13,7 @@ ghost use Rattle.rmt_chip.specs.Tails.{tails_len};
 use crate::frames::Frames;
 use crate::lanes::lane;
 use crate::out::Out;
-use crate::place::Place;
+use crate::packet_slot::PacketSlot;
 use rmt_bits::answer::Verdict;
 use rmt_config::config::{Config, OutHeader};
 use rmt_config::tails::Tails;
@@ -77,7 +77,7 @@ fn push_headers(
 /// The answer to an accepted packet whose payload begins at a byte.
 fn finish(
     config: &Config,
-    place: &Place,
+    place: &PacketSlot,
     used: u32,
     frames: &Frames,
     at: usize,
@@ -103,7 +103,7 @@ fn finish(
 /// The answer to the packet in slot `at`, and the bytes that it is sent with; None where no packet is there.
 pub fn leave(
     config: &Config,
-    place: &Place,
+    place: &PacketSlot,
     frames: &Frames,
     at: usize,
     out: &mut Out,

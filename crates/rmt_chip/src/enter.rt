@@ -10,7 +10,7 @@ ghost use Rattle.rmt_chip.specs.Runnable.{IsRunnable};
 use crate::frame::Frame;
 use crate::frames::Frames;
 use crate::lanes::put;
-use crate::place::Place;
+use crate::packet_slot::PacketSlot;
 use crate::steps::is_accepted;
 use rmt_config::config::Config;
 use rmt_config::tails::Tails;
@@ -18,7 +18,7 @@ use rmt_ptcam::parse::Parsed;
 use rmt_ptcam::parse_chip;
 
 /// Parses the packet in this slot, and puts its port where the configuration wants it.
-fn begin(place: &mut Place, config: &Config, port: u16, bytes: &[u8])
+fn begin(place: &mut PacketSlot, config: &Config, port: u16, bytes: &[u8])
     requires fits { IsRunnable config.now }
     requires port { port < 512 }
     requires short { length bytes.now ≤ 9216 }
@@ -33,7 +33,7 @@ fn begin(place: &mut Place, config: &Config, port: u16, bytes: &[u8])
 }
 
 /// The packet enters: it is parsed, and nothing has been read for it.
-pub fn enter(place: &mut Place, config: &Config, port: u16, bytes: &[u8], number: u64)
+pub fn enter(place: &mut PacketSlot, config: &Config, port: u16, bytes: &[u8], number: u64)
     requires fits { IsRunnable config.now }
     requires port { port < 512 }
     requires short { length bytes.now ≤ 9216 }
@@ -49,7 +49,7 @@ pub fn enter(place: &mut Place, config: &Config, port: u16, bytes: &[u8], number
 
 /// A cycle's input enters packet slot `at`: a frame as packet number `number`, or nothing.
 pub fn enter_if(
-    place: &mut Place,
+    place: &mut PacketSlot,
     frames: &mut Frames,
     at: usize,
     config: &Config,

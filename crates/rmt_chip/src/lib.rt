@@ -21,7 +21,7 @@ mod memory;
 mod open;
 pub mod out;
 mod pending;
-mod place;
+mod packet_slot;
 mod ran;
 mod ring;
 mod room;

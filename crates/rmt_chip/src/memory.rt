@@ -2,7 +2,7 @@
 
 mod exact;
 mod lay;
-mod rows;
+mod block_bits;
 mod runs;
 mod spot;
 mod ternary;

@@ -1,13 +1,13 @@
 //! What a chip has before the first cycle: empty packet slots with all room, and the memories laid out.
 
 ghost use Rattle.std.specs.Prelude.{◌≡◌, All, IfOk, vec_len};
-ghost use Rattle.rmt_chip.specs.declared.place.Place.{Place as PlaceOf};
+ghost use Rattle.rmt_chip.specs.declared.packet_slot.PacketSlot.{PacketSlot as PlaceOf};
 ghost use Rattle.rmt_chip.specs.Held.{IsFree};
 ghost use Rattle.rmt_chip.specs.Pending.{HasRoomFor, HaveRoomFor};
 ghost use Rattle.rmt_chip.specs.Writes.{most_ops};
 
 use crate::pending::Pending;
-use crate::place::Place;
+use crate::packet_slot::PacketSlot;
 use crate::ring::PLACES;
 use crate::room::room;
 use rmt_config::config::{Stage, Vliw};
@@ -54,11 +54,11 @@ fn nothing_pending(alloc: Global, stages: &[Stage]) -> Result<Vec<Pending>, Allo
 }
 
 /// A packet slot without a packet.
-fn empty_place(alloc: Global, stages: &[Stage]) -> Result<Place, AllocError>
+fn empty_place(alloc: Global, stages: &[Stage]) -> Result<PacketSlot, AllocError>
     ensures free { IfOk result (λ place. IsFree place) }
     ensures room { IfOk result (λ place. HaveRoomFor stages.now place.pending.items) }
 {
-    Ok(Place {
+    Ok(PacketSlot {
         taken: false,
         number: 0,
         size: 0,
@@ -71,7 +71,7 @@ fn empty_place(alloc: Global, stages: &[Stage]) -> Result<Place, AllocError>
 }
 
 /// The 385 packet slots of a chip, all without a packet.
-pub fn all_places(alloc: Global, stages: &[Stage]) -> Result<Vec<Place>, AllocError>
+pub fn all_places(alloc: Global, stages: &[Stage]) -> Result<Vec<PacketSlot>, AllocError>
     ensures full { IfOk result (λ places. vec_len places ≡ 385) }
     ensures free { IfOk result (λ places. All IsFree places.items) }
     ensures room { IfOk result (λ places. All (λ (p : PlaceOf). HaveRoomFor stages.now p.pending.items) places.items) }

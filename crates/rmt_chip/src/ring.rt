@@ -4,7 +4,7 @@
 ghost use Rattle.std.specs.Prelude.{◌≡◌, ◌<◌, ℕ, Option, length, All, Some, slice_get};
 ghost use Rattle.rmt_config.specs.Life.{Look};
 ghost use Rattle.rmt_config.specs.ChipRun.{own_look};
-ghost use Rattle.rmt_chip.specs.declared.place.Place.{Place as PlaceOf};
+ghost use Rattle.rmt_chip.specs.declared.packet_slot.PacketSlot.{PacketSlot as PlaceOf};
 ghost use Rattle.rmt_chip.specs.Held.{Entered};
 ghost use Rattle.rmt_chip.specs.Hits.{hits_upto};
 ghost use Rattle.rmt_chip.specs.Pending.{HaveRoomFor};
@@ -14,7 +14,7 @@ ghost use Rattle.rmt_chip.specs.Runnable.{StagesFit};
 ghost use Rattle.rmt_chip.specs.StageMemories.{MemoriesOf, LaidOut};
 
 use crate::memory::SlotMemory;
-use crate::place::Place;
+use crate::packet_slot::PacketSlot;
 use crate::steps;
 use rmt_bits::counts::Counts;
 use rmt_config::config::Config;
@@ -33,7 +33,7 @@ pub fn place_of(newest: usize, age: usize) -> usize
 }
 
 /// Each stage writes the words of the packet that is 12 cycles behind its start.
-pub fn write_all(places: &mut [Place], newest: usize, config: &Config)
+pub fn write_all(places: &mut [PacketSlot], newest: usize, config: &Config)
     requires full { length places.old ≡ 385 }
     requires newest { newest < 385 }
     requires fits { StagesFit config.now.stages }
@@ -52,7 +52,7 @@ pub fn write_all(places: &mut [Place], newest: usize, config: &Config)
 }
 
 /// Each stage reads the operands and old words of the packet that is 9 cycles behind its start.
-pub fn read_all(places: &mut [Place], newest: usize, config: &Config)
+pub fn read_all(places: &mut [PacketSlot], newest: usize, config: &Config)
     requires full { length places.old ≡ 385 }
     requires newest { newest < 385 }
     requires fits { StagesFit config.now.stages }
@@ -71,7 +71,7 @@ pub fn read_all(places: &mut [Place], newest: usize, config: &Config)
 }
 
 /// Each stage sets the outcomes of the packet that is 8 cycles behind its start, and counts its hits.
-pub fn act_all(places: &mut [Place], newest: usize, config: &Config, counters: &mut Counts)
+pub fn act_all(places: &mut [PacketSlot], newest: usize, config: &Config, counters: &mut Counts)
     requires full { length places.old ≡ 385 }
     requires newest { newest < 385 }
     requires fits { StagesFit config.now.stages }
@@ -91,7 +91,7 @@ pub fn act_all(places: &mut [Place], newest: usize, config: &Config, counters: &
 }
 
 /// Each stage reads the keys and tests of the packet that is at its start.
-pub fn look_all(places: &mut [Place], newest: usize, config: &Config, memories: &[Vec<SlotMemory>])
+pub fn look_all(places: &mut [PacketSlot], newest: usize, config: &Config, memories: &[Vec<SlotMemory>])
     requires full { length places.old ≡ 385 }
     requires newest { newest < 385 }
     requires fits { StagesFit config.now.stages }

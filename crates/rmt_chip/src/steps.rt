@@ -13,7 +13,7 @@ ghost use Rattle.rmt_chip.specs.Runnable.{StageFits};
 
 use crate::memory::SlotMemory;
 use crate::pending;
-use crate::place::Place;
+use crate::packet_slot::PacketSlot;
 use crate::writes::apply;
 use rmt_bits::counts::Counts;
 use rmt_config::config::Stage;
@@ -27,7 +27,7 @@ pub fn is_accepted(parsed: Parsed) -> bool
 }
 
 /// Stage k writes its whole words.
-pub fn write(place: &mut Place, k: usize)
+pub fn write(place: &mut PacketSlot, k: usize)
     requires { k < vec_len place.old.pending }
     ensures { WrittenBy k place.old place.new }
 {
@@ -37,7 +37,7 @@ pub fn write(place: &mut Place, k: usize)
 }
 
 /// Stage k reads operands and old words, and what the running instructions make of them is kept.
-pub fn read(place: &mut Place, k: usize, stages: &[Stage])
+pub fn read(place: &mut PacketSlot, k: usize, stages: &[Stage])
     requires exists { k < length stages.now }
     requires fit { All StageFits stages.now }
     requires room { HaveRoomFor stages.now place.old.pending.items }
@@ -50,7 +50,7 @@ pub fn read(place: &mut Place, k: usize, stages: &[Stage])
 }
 
 /// The outcomes of stage k's units are set, and its hits counted.
-pub fn act(place: &mut Place, k: usize, stages: &[Stage], counters: &mut Counts)
+pub fn act(place: &mut PacketSlot, k: usize, stages: &[Stage], counters: &mut Counts)
     requires exists { k < length stages.now }
     requires fit { All StageFits stages.now }
     requires room { HaveRoomFor stages.now place.old.pending.items }
@@ -73,7 +73,7 @@ pub fn act(place: &mut Place, k: usize, stages: &[Stage], counters: &mut Counts)
 }
 
 /// Stage k reads keys and tests.
-pub fn look(place: &mut Place, k: usize, stages: &[Stage], memories: &[SlotMemory])
+pub fn look(place: &mut PacketSlot, k: usize, stages: &[Stage], memories: &[SlotMemory])
     requires exists { k < length stages.now }
     requires fit { All StageFits stages.now }
     requires memories { (stage : StageOf) → slice_get stages.now k ≡ Some stage → MemoriesFit stage memories.now }

@@ -5,11 +5,11 @@ use Rattle.std.specs.List.{list_all}
 use Rattle.std.proofs.Math.Bool.{and_assoc, and-true}
 use Rattle.std.proofs.Math.Seq.{drop-cons}
 use Rattle.rmt_config.specs.Types.{Unit, Vliw}
-use Rattle.rmt_config.specs.declared.form.code.Place.{Place}
+use Rattle.rmt_config.specs.declared.form.code.InstructionRole.{InstructionRole}
 use Rattle.rmt_config.specs.CodeForm.{unit_places, places_of, vliw_is_formed, code_is_formed}
 
 -- the same place for all but the last of some instructions
-pub code_before_last : (own default : Place) (n : ℕ) (code : List Vliw) (v : Vliw) → length code ≡ n + 1 → v ≡ get_or code n v
+pub code_before_last : (own default : InstructionRole) (n : ℕ) (code : List Vliw) (v : Vliw) → length code ≡ n + 1 → v ≡ get_or code n v
     → code_is_formed (replicate n own ++ default ∷ []) code ≡ (list_all (vliw_is_formed own) (take n code) && vliw_is_formed default v)
 code_before_last own default n [] v len e = absurd (omega (arith, len))
 code_before_last own default zero (w ∷ []) v len e = and-true (vliw_is_formed default w) ∙ ap (vliw_is_formed default) (sym e)
@@ -23,7 +23,7 @@ never : (b c : Bool) → c ≡ false → (b && c) ≡ false
 never true c e = e
 never false c e = refl
 
-pub code_breaks_early : (own default : Place) (n : ℕ) (code : List Vliw) → list_all (vliw_is_formed own) (take n code) ≡ false
+pub code_breaks_early : (own default : InstructionRole) (n : ℕ) (code : List Vliw) → list_all (vliw_is_formed own) (take n code) ≡ false
     → code_is_formed (replicate n own ++ default ∷ []) code ≡ false
 code_breaks_early own default zero code e = absurd cc
 code_breaks_early own default (suc n) [] e = refl
@@ -35,7 +35,7 @@ code_breaks_early own default (suc n) (v ∷ code) e = breaks (vliw_is_formed ow
     breaks false later e = refl
 
 -- instructions for some places and then for others
-code_append : (ps qs : List Place) (code : List Vliw) → length ps ≤ length code
+code_append : (ps qs : List InstructionRole) (code : List Vliw) → length ps ≤ length code
     → code_is_formed (ps ++ qs) code ≡ (code_is_formed ps (take (length ps) code) && code_is_formed qs (drop (length ps) code))
 code_append [] qs code enough = refl
 code_append (p ∷ ps) qs [] enough = absurd (omega (arith, enough))
@@ -44,7 +44,7 @@ code_append (p ∷ ps) qs (v ∷ code) enough =
     ∙ sym (and_assoc (vliw_is_formed p v) (code_is_formed ps (take (length ps) code)) (code_is_formed qs (drop (length ps) code)))
 
 -- fewer instructions than places
-code_short : (ps qs : List Place) (code : List Vliw) → length code < length ps → code_is_formed (ps ++ qs) code ≡ false
+code_short : (ps qs : List InstructionRole) (code : List Vliw) → length code < length ps → code_is_formed (ps ++ qs) code ≡ false
 code_short [] qs code few = absurd (omega (arith, few))
 code_short (p ∷ ps) qs [] few = refl
 code_short (p ∷ ps) qs (v ∷ code) few = never (vliw_is_formed p v) (code_is_formed (ps ++ qs) code) (code_short ps qs code (omega (arith, few)))

@@ -7,7 +7,7 @@ use Rattle.std.proofs.lemmas.List.Elements.{All-nil, All-cons}
 use Rattle.rmt_bits.proofs.AllLaws.{All-from_test}
 use Rattle.rmt_config.specs.Types.{Config, OutHeader, ParserConfig, ParserState, ParserEntry, Stage, Unit as ChipUnit, Vliw}
 use Rattle.rmt_config.specs.declared.config.Unit.TheVariants.{Gate, Slot}
-use Rattle.rmt_config.specs.declared.form.code.Place.{Place}
+use Rattle.rmt_config.specs.declared.form.code.InstructionRole.{InstructionRole}
 use Rattle.rmt_config.specs.Order.{rises_from}
 use Rattle.rmt_config.specs.LaneForm.{header_is_formed}
 use Rattle.rmt_config.specs.ParserForm.{state_is_formed, states_are_formed, entry_is_formed, entries_are_formed, parser_is_formed}
@@ -57,10 +57,10 @@ unit_counts (Slot s) e =
     let numbers = and_parts _ _ (and_parts _ _ (and_parts _ _ e).0).0 in
     record { keys = ltb-true _ _ (and_parts _ _ (and_parts _ _ numbers.0).0).1; numbers = ltb-true _ _ numbers.1 }
 
-vliw_counts : (place : Place) (v : Vliw) → vliw_is_formed place v ≡ true → CountsFitVliw v
+vliw_counts : (place : InstructionRole) (v : Vliw) → vliw_is_formed place v ≡ true → CountsFitVliw v
 vliw_counts place v e = grind (arith, e)
 
-code_counts : (places : List Place) (code : List Vliw) → code_is_formed places code ≡ true → All CountsFitVliw code
+code_counts : (places : List InstructionRole) (code : List Vliw) → code_is_formed places code ≡ true → All CountsFitVliw code
 code_counts [] [] e = All-nil CountsFitVliw
 code_counts [] (v ∷ code) e = absurd cc
 code_counts (place ∷ places) [] e = All-nil CountsFitVliw

@@ -8,7 +8,7 @@ use Rattle.rmt_config.specs.declared.config.Unit.TheVariants.{Gate, Slot}
 use Rattle.rmt_config.specs.declared.config.Memory.TheVariants.{Without, Exact, Ternary}
 use Rattle.rmt_config.specs.declared.config.OpKind.TheVariants as kind
 use Rattle.rmt_config.specs.declared.config.Source.TheVariants.{Word, Held, Constant}
-use Rattle.rmt_config.specs.declared.form.code.Place.{Place}
+use Rattle.rmt_config.specs.declared.form.code.InstructionRole.{InstructionRole}
 use Rattle.rmt_config.specs.declared.form.shape.Shape.{Shape}
 use Rattle.rmt_config.specs.LaneForm.{lane_is_formed, ports_are_formed, header_is_formed, headers_are_formed}
 use Rattle.rmt_config.specs.ParserForm.{state_is_formed, states_are_formed, extract_is_formed, next_is_formed, match_is_formed, entry_is_formed, parser_is_formed}
@@ -443,10 +443,10 @@ cell_number_wide = refl
 -- ---- instructions
 
 -- an instruction of a slot with 9 bits of data, and its default
-abbrev own : Place
+abbrev own : InstructionRole
 own = record { held = 9; is_default = false }
 
-abbrev default : Place
+abbrev default : InstructionRole
 default = record { held = 9; is_default = true }
 
 abbrev operation : Operation

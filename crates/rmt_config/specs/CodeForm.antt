@@ -7,23 +7,23 @@ use Rattle.rmt_config.specs.Types.{Unit, SlotUnit, Vliw, Operation, OpKind, Sour
 use Rattle.rmt_config.specs.declared.config.Unit.TheVariants.{Gate, Slot}
 use Rattle.rmt_config.specs.declared.config.OpKind.TheVariants as kind
 use Rattle.rmt_config.specs.declared.config.Source.TheVariants.{Word, Held, Constant}
-use Rattle.rmt_config.specs.declared.form.code.Place.{Place}
+use Rattle.rmt_config.specs.declared.form.code.InstructionRole.{InstructionRole}
 use Rattle.rmt_config.specs.Order.{rises_from}
 use Rattle.rmt_config.specs.LaneForm.{lane_is_formed}
 
 -- those of a slot's actions, and then its default's
-abbrev pub slot_places : SlotUnit → List Place
+abbrev pub slot_places : SlotUnit → List InstructionRole
 slot_places s = replicate s.actions (record { held = s.held; is_default = false }) ++ record { held = s.held; is_default = true } ∷ []
 
-abbrev pub unit_places : Unit → List Place
+abbrev pub unit_places : Unit → List InstructionRole
 unit_places (Gate g) = []
 unit_places (Slot s) = slot_places s
 
-abbrev pub places_of : List Unit → List Place
+abbrev pub places_of : List Unit → List InstructionRole
 places_of units = flat_map unit_places units
 
 -- a source of that many bits lies in its word or in the slot's data; a default has no data, and a constant fits
-abbrev pub source_is_formed : Place → ℕ → Source → Bool
+abbrev pub source_is_formed : InstructionRole → ℕ → Source → Bool
 source_is_formed place len (Word word low) = nat_lt word 224 && nat_le (low + len) (word_size word)
 source_is_formed place len (Held low) = not place.is_default && nat_le (low + len) place.held
 source_is_formed place len (Constant value) = nat_lt value (2 ^ len)
@@ -42,19 +42,19 @@ kind_is_formed kind.Xor right = true
 abbrev pub lane_of_operation : Operation → Lane
 lane_of_operation op = record { word = op.word; low = op.low; len = op.len }
 
-abbrev pub operation_is_formed : Place → Operation → Bool
+abbrev pub operation_is_formed : InstructionRole → Operation → Bool
 operation_is_formed place op =
     lane_is_formed (lane_of_operation op) && source_is_formed place op.len op.left
     && source_is_formed place op.len op.right && kind_is_formed op.kind op.right
 
 -- the operations of an instruction rise by word
-abbrev pub vliw_is_formed : Place → Vliw → Bool
+abbrev pub vliw_is_formed : InstructionRole → Vliw → Bool
 vliw_is_formed place v =
     nat_lt (length v.ops) 256 && list_all (operation_is_formed place) v.ops
     && rises_from 0 (map (λ (op : Operation). op.word) v.ops)
 
 -- one instruction for each place
-abbrev pub code_is_formed : List Place → List Vliw → Bool
+abbrev pub code_is_formed : List InstructionRole → List Vliw → Bool
 code_is_formed [] [] = true
 code_is_formed [] (v ∷ code) = false
 code_is_formed (place ∷ places) [] = false

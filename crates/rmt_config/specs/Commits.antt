@@ -9,7 +9,7 @@ use Rattle.rmt_ast.specs.declared.program.Kind.TheVariants as kind
 use Rattle.rmt_ast.specs.EntryLists.{Terms}
 use Rattle.rmt_ast.specs.NameRules.{terms_named}
 use Rattle.rmt_ast.specs.RowOrder.{goes_first}
-use Rattle.rmt_ast.specs.Changes.{Change, Standing, at_first, committed, list_of}
+use Rattle.rmt_ast.specs.Changes.{Change, Installed, at_first, committed, list_of}
 use Rattle.rmt_ast.specs.Events.{Arrives, Commits, Event}
 use Rattle.rmt_config.specs.Types.{Config, SlotUnit}
 use Rattle.rmt_config.specs.Cells.{Content, cells_in, is_occupied, visible_bits}
@@ -175,7 +175,7 @@ pub record AreWrites (c : Config) (cells next : RunCells) (writes : List CellWri
 -- version, and none at all, is in flight, if no further one enters
 pub record RunState : Type 0 where
   pub cells : RunCells
-  pub entries : Standing
+  pub entries : Installed
   pub cycle : ℕ
   pub older_gone : ℕ
   pub all_gone : ℕ

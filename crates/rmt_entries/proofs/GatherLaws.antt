@@ -20,7 +20,7 @@ use Rattle.rmt_ast.specs.declared.entry.Entry.{Entry}
 use Rattle.rmt_ast.specs.declared.program.Kind.{Kind}
 use Rattle.rmt_ast.specs.EntryLists.{Terms}
 use Rattle.rmt_entries.specs.Entries.{by_node, entries_at, has_keys_once, identity, is_repeated}
-use Rattle.rmt_entries.specs.Standing.{IsAppliedBy, Knows, is_once}
+use Rattle.rmt_entries.specs.LinesSoFar.{IsAppliedBy, Knows, is_once}
 use Rattle.rmt_entries.specs.Tables.{AppliedTable}
 
 not-not : (b : Bool) → not (not b) ≡ b

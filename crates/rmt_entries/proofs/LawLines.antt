@@ -14,7 +14,7 @@ use Rattle.rmt_ast.specs.declared.entry.Entry.{Entry}
 use Rattle.rmt_ast.specs.EntryLists.{IsEntry, Terms}
 use Rattle.rmt_entries.specs.Entries.{Read, admitted, entries_at, entry_of, has_keys_once, identity, is_repeated, of_table, read_line, read_words}
 use Rattle.rmt_entries.specs.Lines.{is_printable, words}
-use Rattle.rmt_entries.specs.Standing.{IsAppliedBy, is_once}
+use Rattle.rmt_entries.specs.LinesSoFar.{IsAppliedBy, is_once}
 use Rattle.rmt_entries.specs.Tables.{AppliedTable, table_named}
 use Rattle.rmt_entries.proofs.GatherLaws.{entries_at_own, entries_at_other, once_own}
 use Rattle.rmt_entries.proofs.LawKeys.{HasParams, ReadOf, same_Ok, with_key_law}

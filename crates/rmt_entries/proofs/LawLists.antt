@@ -29,7 +29,7 @@ use Rattle.rmt_entries.specs.declared.fault.EntryFault.TheVariants.{NoMemory, At
 use Rattle.rmt_entries.specs.Entries.{by_node, entries_at, entries_of, entry_of, has_keys_once, identity, line_then, lists_or_fault, reading}
 use Rattle.rmt_bits.specs.Lines.{numbered_lines}
 use Rattle.rmt_entries.specs.Reads.{node_terms}
-use Rattle.rmt_entries.specs.Standing.{is_once}
+use Rattle.rmt_entries.specs.LinesSoFar.{is_once}
 use Rattle.rmt_entries.specs.Tables.{AppliedTable, applied_tables}
 use Rattle.rmt_entries.proofs.GatherLaws.{by_node_at, by_node_more, length-by_node}
 use Rattle.rmt_entries.proofs.LawKeys.{same_Ok}

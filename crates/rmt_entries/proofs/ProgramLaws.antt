@@ -18,7 +18,7 @@ use Rattle.rmt_ast.specs.EntryLists.{Terms, params_of, terms_at, terms_of}
 use Rattle.rmt_ast.specs.State.{width_of}
 use Rattle.rmt_ast.specs.WellFormed.{IsProgram, IsTable, IsAction, IsWidth}
 use Rattle.rmt_entries.specs.Reads.{node_terms}
-use Rattle.rmt_entries.specs.Standing.{IsAppliedBy, IsBelow, IsReadable}
+use Rattle.rmt_entries.specs.LinesSoFar.{IsAppliedBy, IsBelow, IsReadable}
 use Rattle.rmt_entries.specs.Tables.{AppliedTable, action_name, applied_table, applied_tables, table_at, table_of, tables_from}
 use Rattle.rmt_entries.proofs.LawKeys.{HasParams}
 use Rattle.rmt_entries.specs.Taken.{AreNarrow}

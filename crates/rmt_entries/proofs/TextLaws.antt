@@ -15,7 +15,7 @@ use Rattle.rmt_entries.specs.Entries.{by_node, entries_of, entry_of, reading}
 use Rattle.rmt_entries.specs.Fault.{Gives}
 use Rattle.rmt_bits.specs.Lines.{is_passed_over, numbered_lines}
 use Rattle.rmt_entries.specs.Reads.{Reads, node_terms}
-use Rattle.rmt_entries.specs.Standing.{Addition, Gathers, IsFault}
+use Rattle.rmt_entries.specs.LinesSoFar.{Addition, Gathers, IsFault}
 use Rattle.rmt_entries.specs.Tables.{applied_tables}
 use Rattle.rmt_entries.proofs.GatherLaws.{length-by_node}
 use Rattle.rmt_bits.proofs.LineLaws.{is_feed, numbered_lines-first}

@@ -5,6 +5,6 @@ pub mod Lines
 pub mod NamedTables
 pub mod Numbers
 pub mod Reads
-pub mod Standing
+pub mod LinesSoFar
 pub mod Tables
 pub mod Taken

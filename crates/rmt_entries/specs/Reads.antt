@@ -7,7 +7,7 @@ use Rattle.rmt_ast.specs.EntryLists.{Terms, terms_at}
 use Rattle.rmt_entries.specs.declared.gathered.Gathered.{Gathered}
 use Rattle.rmt_entries.specs.Entries.{reading}
 use Rattle.rmt_bits.specs.Lines.{numbered_lines}
-use Rattle.rmt_entries.specs.Standing.{Gathers}
+use Rattle.rmt_entries.specs.LinesSoFar.{Gathers}
 use Rattle.rmt_entries.specs.Tables.{applied_tables}
 
 -- what each node's table asks of its entries

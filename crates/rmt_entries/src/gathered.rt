@@ -6,7 +6,7 @@ ghost use Rattle.rmt_ast.specs.declared.entry.Entry.{Entry};
 ghost use Rattle.rmt_ast.specs.EntryLists.{Terms};
 ghost use Rattle.rmt_entries.specs.Entries.{admitted, has_keys_once, identity, is_repeated};
 ghost use Rattle.rmt_entries.specs.NamedTables.{seen_table};
-ghost use Rattle.rmt_entries.specs.Standing.{Gathers, IsAppliedBy, IsFault, Knows, is_once};
+ghost use Rattle.rmt_entries.specs.LinesSoFar.{Gathers, IsAppliedBy, IsFault, Knows, is_once};
 
 use crate::fault::EntryFault;
 use crate::tables::NamedTable;

@@ -8,7 +8,7 @@ ghost use Rattle.rmt_entries.specs.Entries.{arguments, behind_key, of_table, rea
 ghost use Rattle.rmt_entries.specs.Lines.{is_printable};
 ghost use Rattle.rmt_entries.specs.NamedTables.{seen_table};
 ghost use Rattle.rmt_ast.specs.NameList.{seen};
-ghost use Rattle.rmt_entries.specs.Standing.{IsAppliedBy, IsBelow, IsFault, IsReadable};
+ghost use Rattle.rmt_entries.specs.LinesSoFar.{IsAppliedBy, IsBelow, IsFault, IsReadable};
 
 use crate::arguments::arguments;
 use crate::fault::EntryFault;

@@ -6,7 +6,7 @@ ghost use Rattle.rmt_ast.specs.EntryLists.{AreEntries, Terms};
 ghost use Rattle.rmt_ast.specs.WellFormed.{IsProgram};
 ghost use Rattle.rmt_entries.specs.Entries.{entries_of, entry_of};
 ghost use Rattle.rmt_entries.specs.Fault.{Gives};
-ghost use Rattle.rmt_entries.specs.Standing.{Addition, Gathers, IsAppliedBy, IsBelow, IsFault, IsReadable};
+ghost use Rattle.rmt_entries.specs.LinesSoFar.{Addition, Gathers, IsAppliedBy, IsBelow, IsFault, IsReadable};
 
 use crate::cuts::cut;
 use crate::fault::EntryFault;

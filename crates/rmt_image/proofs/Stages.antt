@@ -14,7 +14,7 @@ use Rattle.rmt_config.specs.LaneForm.{lane_is_formed}
 use Rattle.rmt_config.specs.UnitForm.{unit_is_formed}
 use Rattle.rmt_config.specs.StageForm.{srow_fits, trow_fits, stage_is_formed, starts_are_formed, stages_are_formed}
 use Rattle.rmt_config.specs.CodeForm.{places_of, source_is_formed, kind_is_formed, lane_of_operation, operation_is_formed, vliw_is_formed, code_is_formed}
-use Rattle.rmt_config.specs.declared.form.code.Place.{Place}
+use Rattle.rmt_config.specs.declared.form.code.InstructionRole.{InstructionRole}
 use Rattle.rmt_config.specs.Spelling.{two_bytes, spelled_list8, spelled_list32, spelled_unit, spelled_kind, spelled_source, spelled_operation, spelled_vliw, spelled_srow, spelled_trow, spelled_stage}
 use Rattle.rmt_image.specs.Readers.{listed, items_at, each, byte_at, number_at}
 use Rattle.rmt_image.specs.Reading.{at_most, below, word_of_parts, fits_word, fits_held, source_at, kind_of, kind_at, operation_of_parts, kind_fits, operation_at, next_word, vliw_of_parts, vliw_at, block_at, srow_of_parts, srow_at, trow_of_parts, trow_at, start_fits, StageHead, stage_head_at, StageTail, stage_tail_at, stage_of_parts, stage_at, next_start}
@@ -26,15 +26,15 @@ use Rattle.rmt_image.proofs.Items.{codec_byte, word_codec, lane_from_codec, lane
 -- ---- sources
 
 -- what a source of at most 32 bits keeps, that a choice byte from k on can tell, at a place whose data has fewer than 65,536 bits
-abbrev SourceTest : Place → ℕ → ℕ → Source → Type 0
+abbrev SourceTest : InstructionRole → ℕ → ℕ → Source → Type 0
 SourceTest place len k (Word word low) = (k ≡ 0) × ((ltb word 224 && leb (low + len) (word_size word)) ≡ true)
 SourceTest place len k (Held low) = (k ≤ 1) × ((not place.is_default && leb (low + len) place.held) ≡ true)
 SourceTest place len k (Constant value) = ltb value (2 ^ len) ≡ true
 
-abbrev SourceFrom : Place → ℕ → ℕ → Source → Type 0
+abbrev SourceFrom : InstructionRole → ℕ → ℕ → Source → Type 0
 SourceFrom place len k x = (place.held < 2 ^ 16) × (len ≤ 32) × SourceTest place len k x
 
-source_0 : (place : Place) (len : ℕ) (x : Source) → SourceFrom place len 0 x
+source_0 : (place : InstructionRole) (len : ℕ) (x : Source) → SourceFrom place len 0 x
     → ((a : ℕ × ℕ) × (word_of_parts a ≡ x) × (((ltb a.0 224 && leb 0 a.0) ≡ true) × (Unit {0} × (fits_word len a.0 a.1 ≡ true)))) ⊎ SourceFrom place len 1 x
 source_0 place len (Word word low) p =
     let q = and_parts (ltb word 224) (leb (low + len) (word_size word)) p.2.1 in
@@ -42,7 +42,7 @@ source_0 place len (Word word low) p =
 source_0 place len (Held low) p = inr (p.0, p.1, (omega arith, p.2.1))
 source_0 place len (Constant value) p = inr p
 
-source_1 : (place : Place) (len : ℕ) (x : Source) → SourceFrom place len 1 x
+source_1 : (place : InstructionRole) (len : ℕ) (x : Source) → SourceFrom place len 1 x
     → ((a : ℕ) × (Held a ≡ x) × ((not place.is_default ≡ true) × ((a < 2 ^ 16) × (fits_held place len a ≡ true)))) ⊎ SourceFrom place len 2 x
 source_1 place len (Word word low) p = absurd (omega (arith, p.2.0))
 source_1 place len (Held low) p =
@@ -51,7 +51,7 @@ source_1 place len (Held low) p =
     inl (low, refl, (q.0, (within, q.1)))
 source_1 place len (Constant value) p = inr p
 
-source_2 : (place : Place) (len : ℕ) (x : Source) → SourceFrom place len 2 x → ((a : ℕ) × (Constant a ≡ x) × ((a < 2 ^ 32) × (below (2 ^ len) a ≡ true))) ⊎ ⊥
+source_2 : (place : InstructionRole) (len : ℕ) (x : Source) → SourceFrom place len 2 x → ((a : ℕ) × (Constant a ≡ x) × ((a < 2 ^ 32) × (below (2 ^ len) a ≡ true))) ⊎ ⊥
 source_2 place len (Word word low) p = absurd (omega (arith, p.2.0))
 source_2 place len (Held low) p = absurd (omega (arith, p.2.0))
 source_2 place len (Constant value) p =
@@ -59,7 +59,7 @@ source_2 place len (Constant value) p =
     let within : value < 2 ^ 32 = omega (arith, top, ltb-true value (2 ^ len) p.2) in
     inl (value, refl, (within, p.2))
 
-source_codec : (place : Place) (len : ℕ) → Codec (source_at place len) spelled_source (SourceFrom place len 0) (λ _. Unit {0})
+source_codec : (place : InstructionRole) (len : ℕ) → Codec (source_at place len) spelled_source (SourceFrom place len 0) (λ _. Unit {0})
 unfolding source_at
 source_codec place len =
     codec_chosen
@@ -69,7 +69,7 @@ source_codec place len =
     (λ a. refl) (SourceFrom place len 1) (source_1 place len))
     (λ a. refl) (SourceFrom place len 0) (source_0 place len))
 
-source_from : (place : Place) (len : ℕ) (x : Source) → source_is_formed place len x ≡ true → SourceTest place len 0 x
+source_from : (place : InstructionRole) (len : ℕ) (x : Source) → source_is_formed place len x ≡ true → SourceTest place len 0 x
 source_from place len (Word word low) p = (refl, p)
 source_from place len (Held low) p = (omega arith, p)
 source_from place len (Constant value) p = p
@@ -102,7 +102,7 @@ kind_codec = codec_made kind_of (codec_byte (at_most 5)) (λ k. spelled_kind k �
 abbrev OperationParts : Type 0
 OperationParts = Lane × (OpKind × (Source × Source))
 
-abbrev PartsKeep : Place → ℕ → OperationParts → Type 0
+abbrev PartsKeep : InstructionRole → ℕ → OperationParts → Type 0
 PartsKeep place least a =
     ((lane_is_formed a.0 ≡ true) × (leb least a.0.word ≡ true)) × (Unit {0} × (SourceFrom place a.0.len 0 a.1.1.0 × SourceFrom place a.0.len 0 a.1.1.1))
 
@@ -110,17 +110,17 @@ abbrev operation_parts : Operation → OperationParts
 operation_parts op = (lane_of_operation op, (op.kind, (op.left, op.right)))
 
 -- an operation on a word that is at least that one
-abbrev OperationKeeps : Place → ℕ → Operation → Type 0
+abbrev OperationKeeps : InstructionRole → ℕ → Operation → Type 0
 OperationKeeps place least op = (place.held < 2 ^ 16) × ((operation_is_formed place op ≡ true) × (leb least op.word ≡ true))
 
-operation_back : (place : Place) (least : ℕ) (op : Operation) → OperationKeeps place least op → PartsKeep place least (operation_parts op) × (kind_fits op ≡ true)
+operation_back : (place : InstructionRole) (least : ℕ) (op : Operation) → OperationKeeps place least op → PartsKeep place least (operation_parts op) × (kind_fits op ≡ true)
 operation_back place least op keeps =
     let p : (lane_is_formed (lane_of_operation op) ≡ true) × (source_is_formed place op.len op.left ≡ true) × (source_is_formed place op.len op.right ≡ true) × (kind_is_formed op.kind op.right ≡ true) =
     split4 keeps.1.0 in
     let narrow : op.len ≤ 32 = leb-true op.len 32 (lane_tests (lane_of_operation op) p.0).2 in
     (((p.0, keeps.1.1), (tt, ((keeps.0, narrow, source_from place op.len op.left p.1), (keeps.0, narrow, source_from place op.len op.right p.2)))), p.3)
 
-operation_codec : (place : Place) (least : ℕ) → Codec (operation_at place least) spelled_operation (OperationKeeps place least) (λ _. Unit {0})
+operation_codec : (place : InstructionRole) (least : ℕ) → Codec (operation_at place least) spelled_operation (OperationKeeps place least) (λ _. Unit {0})
 unfolding operation_at
 operation_codec place least =
     codec_for (codec_kept kind_fits
@@ -137,15 +137,15 @@ along_with P Q q after least (x ∷ xs) p = ((q, p.0), along_with P Q q after (a
 abbrev word_of : Operation → ℕ
 word_of op = op.word
 
-abbrev VliwKeeps : Place → Vliw → Type 0
+abbrev VliwKeeps : InstructionRole → Vliw → Type 0
 VliwKeeps place v = (place.held < 2 ^ 16) × (vliw_is_formed place v ≡ true)
 
-vliw_back : (place : Place) (v : Vliw) → VliwKeeps place v → AllAlong (OperationKeeps place) next_word 0 v.ops
+vliw_back : (place : InstructionRole) (v : Vliw) → VliwKeeps place v → AllAlong (OperationKeeps place) next_word 0 v.ops
 vliw_back place v keeps =
     let p : (ltb (length v.ops) 256 ≡ true) × (list_all (operation_is_formed place) v.ops ≡ true) × (rises_from 0 (map word_of v.ops) ≡ true) = split3 keeps.1 in
     along_with _ (place.held < 2 ^ 16) keeps.0 next_word 0 v.ops (rising_along (operation_is_formed place) word_of 0 v.ops p.1 p.2)
 
-vliw_codec : (place : Place) → Codec (vliw_at place) spelled_vliw (VliwKeeps place) (λ _. Unit {0})
+vliw_codec : (place : InstructionRole) → Codec (vliw_at place) spelled_vliw (VliwKeeps place) (λ _. Unit {0})
 unfolding vliw_at
 vliw_codec place =
     codec_made vliw_of_parts (codec_listed byte_codec (codec_items next_word 0 (operation_codec place))) spelled_vliw (VliwKeeps place) (λ a r. refl)
@@ -153,10 +153,10 @@ vliw_codec place =
 
 -- ---- the code of a stage
 
-pub code_codec : (places : List Place) → Codec (each vliw_at places) (flat_map spelled_vliw) (AllZip VliwKeeps places) (λ _. Unit {0})
+pub code_codec : (places : List InstructionRole) → Codec (each vliw_at places) (flat_map spelled_vliw) (AllZip VliwKeeps places) (λ _. Unit {0})
 code_codec places = codec_each vliw_codec places
 
-pub code_zip : (places : List Place) (code : List Vliw) → AreSmall places → code_is_formed places code ≡ true → AllZip VliwKeeps places code
+pub code_zip : (places : List InstructionRole) (code : List Vliw) → AreSmall places → code_is_formed places code ≡ true → AllZip VliwKeeps places code
 code_zip [] [] small e = tt
 code_zip [] (v ∷ code) small e = absurd cc
 code_zip (place ∷ places) [] small e = absurd cc
@@ -217,12 +217,12 @@ head_codec least =
 abbrev tail_text : StageTail → List ℕ
 tail_text t = flat_map spelled_vliw t.0 ++ (spelled_list32 spelled_srow t.1.0 ++ spelled_list32 spelled_trow t.1.1)
 
-abbrev TailKeeps : List Place → StageTail → Type 0
+abbrev TailKeeps : List InstructionRole → StageTail → Type 0
 TailKeeps places t =
     AllZip VliwKeeps places t.0
     × (((length t.1.0 < 2 ^ 32) × (list_all srow_fits t.1.0 ≡ true)) × ((length t.1.1 < 2 ^ 32) × (list_all trow_fits t.1.1 ≡ true)))
 
-tail_codec : (places : List Place) → Codec (stage_tail_at places) tail_text (TailKeeps places) (λ _. Unit {0})
+tail_codec : (places : List InstructionRole) → Codec (stage_tail_at places) tail_text (TailKeeps places) (λ _. Unit {0})
 unfolding stage_tail_at
 tail_codec places =
     codec_for

@@ -13,7 +13,7 @@ use Rattle.rmt_config.specs.Shapes.{ternary_shape}
 use Rattle.rmt_config.specs.declared.form.shape.Shape.{Shape}
 use Rattle.rmt_config.specs.UnitForm.{guard_is_formed, test_is_formed, gate_is_formed, number_is_formed, slot_head_is_formed, takes_memory, are_sram_blocks, has_shape, may_have_memory, memory_is_formed, slot_is_formed, unit_is_formed}
 use Rattle.rmt_config.specs.CodeForm.{unit_places, places_of}
-use Rattle.rmt_config.specs.declared.form.code.Place.{Place}
+use Rattle.rmt_config.specs.declared.form.code.InstructionRole.{InstructionRole}
 use Rattle.rmt_config.specs.Spelling.{two_bytes, spelled_list16, spelled_list32, spelled_flag, spelled_lane, spelled_guard, spelled_test, spelled_gate, spelled_memory, spelled_number, spelled_slot_head, spelled_slot, spelled_unit}
 use Rattle.rmt_image.specs.declared.reading.memory.Blocks.{Blocks}
 use Rattle.rmt_image.specs.declared.reading.memory.Format.{Format}
@@ -325,15 +325,15 @@ slot_held s e =
     ltb-true s.held 65536 h.3
 
 -- places whose data has fewer than 65,536 bits
-abbrev pub AreSmall : List Place → Type 0
+abbrev pub AreSmall : List InstructionRole → Type 0
 AreSmall [] = Unit {0}
 AreSmall (p ∷ ps) = (p.held < 2 ^ 16) × AreSmall ps
 
-small_own : (held n : ℕ) (more : List Place) → held < 2 ^ 16 → AreSmall more → AreSmall (replicate n (record { held = held; is_default = false }) ++ more)
+small_own : (held n : ℕ) (more : List InstructionRole) → held < 2 ^ 16 → AreSmall more → AreSmall (replicate n (record { held = held; is_default = false }) ++ more)
 small_own held zero more lt rest = rest
 small_own held (suc n) more lt rest = (lt, small_own held n more lt rest)
 
-small_append : (ps qs : List Place) → AreSmall ps → AreSmall qs → AreSmall (ps ++ qs)
+small_append : (ps qs : List InstructionRole) → AreSmall ps → AreSmall qs → AreSmall (ps ++ qs)
 small_append [] qs p q = q
 small_append (x ∷ ps) qs p q = (p.0, small_append ps qs p.1 q)
 

@@ -16,7 +16,7 @@ use Rattle.rmt_config.specs.Shapes.{exact_shape, ternary_shape}
 use Rattle.rmt_config.specs.declared.form.shape.Shape.{Shape}
 use Rattle.rmt_config.specs.UnitForm.{memory_is_formed, takes_memory}
 use Rattle.rmt_config.specs.CodeForm.{places_of, kind_is_formed}
-use Rattle.rmt_config.specs.declared.form.code.Place.{Place}
+use Rattle.rmt_config.specs.declared.form.code.InstructionRole.{InstructionRole}
 use Rattle.rmt_config.specs.Form.{Formed}
 use Rattle.rmt_config.specs.Limits.{limit_hit}
 use Rattle.rmt_image.specs.declared.fault.ImageFault.{ImageFault}
@@ -333,11 +333,11 @@ word_of_parts x = Word x.0 x.1
 abbrev pub fits_word : ℕ → ℕ → ℕ → Bool
 fits_word len word low = nat_le (low + len) (word_size word)
 
-abbrev pub fits_held : Place → ℕ → ℕ → Bool
+abbrev pub fits_held : InstructionRole → ℕ → ℕ → Bool
 fits_held place len low = nat_le (low + len) place.held
 
 -- a source of that many bits; a default has no data
-unfoldable pub source_at : Place → ℕ → Reader Source
+unfoldable pub source_at : InstructionRole → ℕ → Reader Source
 source_at place len bytes =
     chosen (when 0 (made word_of_parts (behind (word_at 0) (λ word. kept (fits_word len word) byte_at)))
     (when 1 (made Held (where_ (not place.is_default) (kept (fits_held place len) (number_at 2))))
@@ -365,7 +365,7 @@ abbrev pub kind_fits : Operation → Bool
 kind_fits op = kind_is_formed op.kind op.right
 
 -- an operation on a word that is at least that one
-unfoldable pub operation_at : Place → ℕ → Reader Operation
+unfoldable pub operation_at : InstructionRole → ℕ → Reader Operation
 operation_at place least bytes =
     kept kind_fits
     (made operation_of_parts (behind (lane_from_at least) (λ (lane : Lane). kind_at ⊗ source_at place lane.len ⊗ source_at place lane.len))) bytes
@@ -376,7 +376,7 @@ next_word op = op.word + 1
 abbrev pub vliw_of_parts : List Operation → Vliw
 vliw_of_parts ops = record { ops = ops }
 
-unfoldable pub vliw_at : Place → Reader Vliw
+unfoldable pub vliw_at : InstructionRole → Reader Vliw
 vliw_at place bytes = made vliw_of_parts (listed byte_at (items_at (operation_at place) next_word 0)) bytes
 
 -- ---- rows and stages
@@ -406,7 +406,7 @@ stage_head_at least bytes = (kept (start_fits least) (number_at 2) ⊗ listed by
 abbrev pub StageTail : Type 0
 StageTail = List Vliw × (List SramRow × List TcamRow)
 
-unfoldable pub stage_tail_at : List Place → Reader StageTail
+unfoldable pub stage_tail_at : List InstructionRole → Reader StageTail
 stage_tail_at places bytes = (each vliw_at places ⊗ listed (number_at 4) (list_at srow_at) ⊗ listed (number_at 4) (list_at trow_at)) bytes
 
 abbrev pub stage_of_parts : StageHead × StageTail → Stage

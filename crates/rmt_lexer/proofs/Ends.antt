@@ -8,7 +8,7 @@ use Rattle.rmt_lexer.specs.declared.token.Token.{Token}
 use Rattle.rmt_lexer.specs.declared.token.TokenKind.TheVariants.{End}
 use Rattle.rmt_lexer.specs.declared.item.Item.{Item}
 use Rattle.rmt_lexer.specs.declared.item.Item.TheVariants as item
-use Rattle.rmt_lexer.specs.declared.place.Place.{Place}
+use Rattle.rmt_lexer.specs.declared.position.Position.{Position}
 use Rattle.rmt_lexer.specs.declared.fault.ProgramFault.{ProgramFault}
 use Rattle.rmt_lexer.specs.declared.fault.ProgramFault.TheVariants.{NoMemory, At}
 
@@ -58,12 +58,12 @@ with_token t n (Ok us) h f = (in_front t us h f.0, omega (arith, f.1))
 with_token t n (Err NoMemory) h f = f
 with_token t n (Err (At code line column)) h f = tt
 
-with_item : (at : Place) (i : Item) (n : ℕ) (rest : ℕ → Result (List Token) ProgramFault) → NotEnd i → ((len : ℕ) → Fine n (rest len)) → Fine (suc n) (read_item at i rest)
+with_item : (at : Position) (i : Item) (n : ℕ) (rest : ℕ → Result (List Token) ProgramFault) → NotEnd i → ((len : ℕ) → Fine n (rest len)) → Fine (suc n) (read_item at i rest)
 with_item at (item.Gap len) n rest h f = one_more n (rest len) (f len)
 with_item at (item.Token what len) n rest h f = with_token (token_at at what) n (rest len) h (f len)
 with_item at (item.Fault code) n rest h f = tt
 
-pub fine : (more : ℕ) (at : Place) (text : List ℕ) → Fine (length text) (reading more at text)
+pub fine : (more : ℕ) (at : Position) (text : List ℕ) → Fine (length text) (reading more at text)
 fine zero at [] = (refl, omega arith)
 fine (suc more) at [] = (refl, omega arith)
 fine (suc more) at (b ∷ bs) = one_more (length bs) _ (fine more (behind at b) bs)

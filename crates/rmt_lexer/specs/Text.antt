@@ -7,7 +7,7 @@ use Rattle.rmt_lexer.specs.declared.token.TokenKind.{TokenKind}
 use Rattle.rmt_lexer.specs.declared.token.TokenKind.TheVariants.{Word, Number, Sign, Equal, End}
 use Rattle.rmt_lexer.specs.declared.item.Item.{Item}
 use Rattle.rmt_lexer.specs.declared.item.Item.TheVariants as item
-use Rattle.rmt_lexer.specs.declared.place.Place.{Place}
+use Rattle.rmt_lexer.specs.declared.position.Position.{Position}
 use Rattle.rmt_lexer.specs.declared.fault.ProgramFault.{ProgramFault}
 use Rattle.rmt_lexer.specs.declared.fault.ProgramFault.TheVariants.{NoMemory, At}
 
@@ -57,13 +57,13 @@ item_of text =
     else item.Fault 1))))))
 
 -- the place behind a byte: only a line feed ends a line
-abbrev pub behind : Place → ℕ → Place
+abbrev pub behind : Position → ℕ → Position
 behind at b = if b == 10 then record { line = at.line + 1; column = 1 } else record { line = at.line; column = at.column + 1 }
 
-abbrev pub first_place : Place
+abbrev pub first_place : Position
 first_place = record { line = 1; column = 1 }
 
-abbrev pub token_at : Place → TokenKind → Token
+abbrev pub token_at : Position → TokenKind → Token
 token_at at what = record { line = at.line; column = at.column; what = what }
 
 abbrev pub with_front : Token → Result (List Token) ProgramFault → Result (List Token) ProgramFault
@@ -71,13 +71,13 @@ with_front t (Ok ts) = Ok (t ∷ ts)
 with_front t (Err f) = Err f
 
 -- an item's part of the reading; rest n is the reading of what stands n bytes further
-abbrev pub read_item : Place → Item → (ℕ → Result (List Token) ProgramFault) → Result (List Token) ProgramFault
+abbrev pub read_item : Position → Item → (ℕ → Result (List Token) ProgramFault) → Result (List Token) ProgramFault
 read_item at (item.Gap len) rest = rest len
 read_item at (item.Token what len) rest = with_front (token_at at what) (rest len)
 read_item at (item.Fault code) rest = Err (At code at.line at.column)
 
 -- The tokens of a text that begins at a place, or its earliest fault. Of its first bytes `more` belong to what was read before.
-abbrev pub reading : ℕ → Place → List ℕ → Result (List Token) ProgramFault
+abbrev pub reading : ℕ → Position → List ℕ → Result (List Token) ProgramFault
 reading more at [] = Ok (token_at at End ∷ [])
 reading (suc more) at (b ∷ bs) = reading more (behind at b) bs
 reading zero at (b ∷ bs) = read_item at (item_of (b ∷ bs)) (λ len. reading (len - 1) (behind at b) bs)

@@ -4,7 +4,7 @@
 pub mod fault;
 mod item;
 pub mod laws;
-pub mod place;
+pub mod position;
 mod reader;
 pub mod token;
 

@@ -4,7 +4,7 @@ ghost use Rattle.rmt_lexer.specs.declared.fault.ProgramFault.TheVariants.{At};
 
 use crate::fault::ProgramFault;
 use crate::item::{Item, item_of};
-use crate::place::{Place, moved};
+use crate::position::{Position, moved};
 use crate::token::{Token, TokenKind};
 use std::alloc::Global;
 
@@ -17,7 +17,7 @@ pub fn tokens(alloc: Global, text: &[u8]) -> Result<Vec<Token>, ProgramFault>
     ensures ends { IfOk result (λ tokens. EndsOnce tokens.items) }
 {
     let mut tokens = Vec::new(alloc);
-    let mut place = Place { line: 1, column: 1 };
+    let mut place = Position { line: 1, column: 1 };
     let mut rest = text;
     while !rest.is_empty() {
         match item_of(alloc, rest)? {
@@ -39,7 +39,7 @@ pub fn tokens(alloc: Global, text: &[u8]) -> Result<Vec<Token>, ProgramFault>
     Ok(tokens)
 }
 
-fn token_at(place: Place, what: TokenKind) -> Token
+fn token_at(place: Position, what: TokenKind) -> Token
     ensures { result ≡ token_at place what }
 {
     Token {
@@ -49,7 +49,7 @@ fn token_at(place: Place, what: TokenKind) -> Token
     }
 }
 
-fn fault_at(place: Place, code: u8) -> ProgramFault
+fn fault_at(place: Position, code: u8) -> ProgramFault
     ensures { result ≡ At code place.line place.column }
 {
     ProgramFault::At {

@@ -6,7 +6,7 @@ pub mod fault;
 pub mod format;
 pub mod head;
 pub mod need;
-mod place;
+mod spots;
 pub mod placement;
 pub mod record;
 pub mod rows;

@@ -9,7 +9,7 @@ use Rattle.rmt_bits.specs.Digits.{is_digit, number_of_digits}
 use Rattle.rmt_packets.specs.PacketText.{begins_with_port, frame_digits, packet_of, port_digits}
 use Rattle.rmt_packets.specs.Pieces.{front_of, front_size}
 use Rattle.rmt_packets.proofs.Packet.{form_fault, length_fault, port_fault}
-use Rattle.rmt_packets.proofs.Standing.{front_size_is}
+use Rattle.rmt_packets.proofs.StandsLaws.{front_size_is}
 
 -- a port has at most ten digits
 few_digits : (line : List ℕ) → begins_with_port line ≡ true → length (port_digits line) ≤ 10

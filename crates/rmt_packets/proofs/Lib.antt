@@ -4,5 +4,5 @@ pub mod Fronts
 pub mod Packet
 pub mod Readings
 pub mod RoundTrip
-pub mod Standing
+pub mod StandsLaws
 pub mod Steps

@@ -1,7 +1,7 @@
 pub mod Examples
 pub mod SetLaws
 pub mod WriterLaws
-pub mod StandingLaws
+pub mod WordLaws
 pub mod Packed
 pub mod PackingLaws
 pub mod FieldCount

@@ -10,7 +10,7 @@ use Rattle.rmt_ast.specs.declared.program.Program.{Program}
 use Rattle.rmt_ast.specs.declared.program.Field.{Field}
 use Rattle.rmt_phv.specs.declared.fault.PhvFull.{PhvFull}
 use Rattle.rmt_phv.specs.Packing.{Piece, map_ok, pieces, pieces_at, lane_for, lanes_for, lane_then, field_then, places_from}
-use Rattle.rmt_phv.specs.Standing.{told}
+use Rattle.rmt_phv.specs.WordsSoFar.{lanes_or_fault}
 
 -- what stands, and then the rest
 abbrev pub then : {A E : Type 0} → List A → Result (List A) E → Result (List A) E
@@ -68,24 +68,24 @@ module _ (p : Program) (f : ℕ) (taken : List Piece) (own : List Lane) (len : �
 pub pieces_end : (p : Program) (f : ℕ) (own : List Lane) (stand : List Piece) (total : Result (List Lane) ℕ) → total ≡ then own (lanes_for p f stand []) → total ≡ Ok own
 pieces_end p f own stand total so_far = so_far ∙ ap Ok (append-nil own)
 
-told_ok : (n : ℕ) (r : Result (List Lane) ℕ) (own : List Lane) → Ok own ≡ told n r → r ≡ Ok own
+told_ok : (n : ℕ) (r : Result (List Lane) ℕ) (own : List Lane) → Ok own ≡ lanes_or_fault n r → r ≡ Ok own
 told_ok n (Ok x) own e = cc
 told_ok n (Err x) own e = absurd cc
 
 module _ (p : Program) (n : ℕ) (taken : List Piece) (places : List (List Lane)) (x : Field) (xs : List Field) (total : Result (List (List Lane)) PhvFull) (so_far : total ≡ then places (places_from p n taken (x ∷ xs))) where
   -- a field whose pieces find words
-  pub field_more : (own : List Lane) → Ok own ≡ told n (lanes_for p n taken (pieces x.width)) → total ≡ then (places ++ own ∷ []) (places_from p (n + 1) (taken ++ pieces_at n own) xs)
+  pub field_more : (own : List Lane) → Ok own ≡ lanes_or_fault n (lanes_for p n taken (pieces x.width)) → total ≡ then (places ++ own ∷ []) (places_from p (n + 1) (taken ++ pieces_at n own) xs)
   field_more own is =
       let step : places_from p n taken (x ∷ xs) ≡ map_ok (λ rest. own ∷ rest) (places_from p (n + 1) (taken ++ pieces_at n own) xs) =
       ap (λ (r : Result (List Lane) ℕ). field_then n r (λ o. places_from p (n + 1) (taken ++ pieces_at n o) xs)) (told_ok n (lanes_for p n taken (pieces x.width)) own is) in
       so_far ∙ ap (then places) step ∙ then_push places own (places_from p (n + 1) (taken ++ pieces_at n own) xs)
 
   -- one with a piece that finds none
-  pub field_none : (fault : PhvFull) → Err fault ≡ told n (lanes_for p n taken (pieces x.width)) → total ≡ Err fault
+  pub field_none : (fault : PhvFull) → Err fault ≡ lanes_or_fault n (lanes_for p n taken (pieces x.width)) → total ≡ Err fault
   field_none fault is =
       so_far ∙ ap (then places) (stops (lanes_for p n taken (pieces x.width)) (λ o. places_from p (n + 1) (taken ++ pieces_at n o) xs) is)
     where
-      stops : (r : Result (List Lane) ℕ) (rest : List Lane → Result (List (List Lane)) PhvFull) → Err fault ≡ told n r → field_then n r rest ≡ Err fault
+      stops : (r : Result (List Lane) ℕ) (rest : List Lane → Result (List (List Lane)) PhvFull) → Err fault ≡ lanes_or_fault n r → field_then n r rest ≡ Err fault
       stops (Ok own) rest e = absurd cc
       stops (Err piece) rest e = cc
 

@@ -1,5 +1,5 @@
 pub mod Packing
 pub mod Sets
 pub mod Places
-pub mod Standing
+pub mod WordsSoFar
 pub mod Writers

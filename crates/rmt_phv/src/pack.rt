@@ -5,7 +5,7 @@ ghost use Rattle.rmt_bits.specs.declared.lane.Lane.{Lane};
 ghost use Rattle.rmt_ast.specs.declared.program.Program.{Program};
 ghost use Rattle.rmt_phv.specs.Packing.{Piece, packing, lanes_for, pieces, pieces_at};
 ghost use Rattle.rmt_phv.specs.Places.{KeepsApart};
-ghost use Rattle.rmt_phv.specs.Standing.{Stands, IsNext, told};
+ghost use Rattle.rmt_phv.specs.WordsSoFar.{AreFilled, IsNext, lanes_or_fault};
 ghost use Rattle.rmt_phv.specs.Writers.{AreWriters};
 
 use crate::fault::PhvFull;
@@ -71,9 +71,9 @@ fn place_field(
     width: u8,
 ) -> Result<Lanes, PhvFull>
     ensures placed { result ≢ Err PhvFull.NoMemory → (p : Program) (taken : List Piece) → IsNext p field taken writers.now words.old.words →
-        result ≡ told field (lanes_for p field taken (pieces width)) }
+        result ≡ lanes_or_fault field (lanes_for p field taken (pieces width)) }
     ensures taken { IfOk result (λ own. (p : Program) (taken : List Piece) → IsNext p field taken writers.now words.old.words →
-        Stands p (taken ++ pieces_at field own) words.new.words) }
+        AreFilled p (taken ++ pieces_at field own) words.new.words) }
 {
     let mut own = Sequence::new(alloc);
     let mut left = width;

@@ -6,7 +6,7 @@ ghost use Rattle.rmt_bits.specs.Words.{word_size as word_size_of};
 ghost use Rattle.rmt_bits.specs.declared.lane.Lane.{Lane};
 ghost use Rattle.rmt_ast.specs.declared.program.Program.{Program};
 ghost use Rattle.rmt_phv.specs.Packing.{Piece, lane_for, pieces_at, words_for, serves as word_serves};
-ghost use Rattle.rmt_phv.specs.Standing.{Stands, Packs};
+ghost use Rattle.rmt_phv.specs.WordsSoFar.{AreFilled, Packs};
 
 use crate::piece::first_word;
 use crate::sets::{insert_all, meets};
@@ -31,7 +31,7 @@ pub struct Words {
 impl Words {
     /// No bit is taken.
     pub fn new() -> Words
-        ensures { (p : Program) → Stands p [] result.words }
+        ensures { (p : Program) → AreFilled p [] result.words }
     {
         Words {
             words: [Word {
@@ -47,7 +47,7 @@ impl Words {
         ensures lane { (p : Program) (f : ℕ) (taken : List Piece) → Packs p f taken own.now writers.now self.old.words →
             result ≡ lane_for p f taken len }
         ensures taken { IfSome result (λ lane. (p : Program) (f : ℕ) (taken : List Piece) → Packs p f taken own.now writers.now self.old.words →
-            Stands p (taken ++ pieces_at f (lane ∷ [])) self.new.words) }
+            AreFilled p (taken ++ pieces_at f (lane ∷ [])) self.new.words) }
         ensures kept { result ≡ None → self.new ≡ self.old }
     {
         let word = self.first_that_serves(len, own, writers)?;

@@ -2,4 +2,4 @@ pub mod Needs
 pub mod Placing
 pub mod Starting
 pub mod Steps
-pub mod Standings
+pub mod StagesSoFar

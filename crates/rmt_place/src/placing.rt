@@ -10,7 +10,7 @@ ghost use Rattle.rmt_pack.specs.declared.placement.Part.{Part};
 ghost use Rattle.rmt_place.specs.Placing.{allowed_by, earliest_stage as earliest, placed_node, placed_all, placement, standing_in, AreTwo, IsPart, IsStuck, TellWhy, TellsWhy};
 ghost use Rattle.rmt_place.specs.Needs.{demands_of, keeps_limits};
 ghost use Rattle.rmt_place.specs.Steps.{AreLast};
-ghost use Rattle.rmt_place.specs.Standings.{Stands};
+ghost use Rattle.rmt_place.specs.StagesSoFar.{AreFilled};
 
 use crate::demand::{Demand, demands};
 use crate::fault::StageFull;
@@ -109,12 +109,12 @@ fn place_node(
     deps: &Deps,
     node: u32,
 ) -> Result<Option<Sequence<LimitHit>>, AllocError>
-    requires stands { Stands demands.now stages.old }
+    requires stands { AreFilled demands.now stages.old }
     requires node { node < length demands.now }
     ensures placed { IfOk result (λ stuck. MatchOption stuck
         (placed_node demands.now (all_edges deps.now) stages.old.parts.items node ≡ Ok stages.new.parts.items)
         (λ hits. placed_node demands.now (all_edges deps.now) stages.old.parts.items node ≡ Err (record { node = node; placed = stages.new.parts.items; hits = hits }))) }
-    ensures stands { OnOk result (Stands demands.now stages.new) }
+    ensures stands { OnOk result (AreFilled demands.now stages.new) }
     ensures hits { IfOk result (λ stuck. IfSome stuck TellWhy) }
 {
     let earliest = earliest_stage(stages.last.as_slice(), deps, node);

@@ -26,12 +26,12 @@ pub struct Stages {
 }
 
 impl Stages {
-    ghost use Rattle.rmt_place.specs.Standings.{Stands};
+    ghost use Rattle.rmt_place.specs.StagesSoFar.{AreFilled};
 
     /// The stages in which none of so many nodes stands.
     pub fn new(alloc: Global, nodes: usize) -> Result<Stages, AllocError>
         ensures parts { IfOk result (λ stages. stages.parts.items ≡ []) }
-        ensures stands { IfOk result (λ stages. (demands : List Demand) → length demands ≡ nodes → Stands demands stages) }
+        ensures stands { IfOk result (λ stages. (demands : List Demand) → length demands ≡ nodes → AreFilled demands stages) }
     {
         Ok(Stages {
             parts: Vec::new(alloc),
@@ -48,13 +48,13 @@ impl Stages {
         stage: u32,
         left: u32,
     ) -> Result<u32, AllocError>
-        requires stands { Stands demands.now self.old }
+        requires stands { AreFilled demands.now self.old }
         requires node { node < length demands.now }
         requires stage { stage < 32 }
         ensures taken { IfOk result (λ taken. taken ≡ fitting (standing_in demands.now self.old.parts.items stage) (demand_at demands.now node) left) }
         ensures few { IfOk result (λ taken. taken ≤ left) }
         ensures parts { IfOk result (λ taken. self.new.parts.items ≡ self.old.parts.items ++ taken_part node stage taken) }
-        ensures stands { OnOk result (Stands demands.now self.new) }
+        ensures stands { OnOk result (AreFilled demands.now self.new) }
     {
         let demand = &demands[node as usize];
         let load = self.loads[stage as usize];
@@ -79,11 +79,11 @@ impl Stages {
         node: u32,
         earliest: u32,
     ) -> Result<u32, AllocError>
-        requires stands { Stands demands.now self.old }
+        requires stands { AreFilled demands.now self.old }
         requires node { node < length demands.now }
         ensures left { IfOk result (λ left. left ≡ (spread_of demands.now self.old.parts.items node (stages_from earliest) (demand_at demands.now node).quanta).left) }
         ensures parts { OnOk result (self.new.parts.items ≡ self.old.parts.items ++ (spread_of demands.now self.old.parts.items node (stages_from earliest) (demand_at demands.now node).quanta).parts) }
-        ensures stands { OnOk result (Stands demands.now self.new) }
+        ensures stands { OnOk result (AreFilled demands.now self.new) }
     {
         let mut left = demands[node as usize].quanta;
         for stage in earliest..32 {

@@ -8,7 +8,7 @@ ghost use Rattle.rmt_ptcam.specs.Clustering.{state_behind, met_states as met_sta
 
 use crate::joining::copied;
 use crate::lookups::is_among;
-use crate::rows::{copied_extracts, push_row};
+use crate::entry_rows::{copied_extracts, push_row};
 use crate::search::entry_tail;
 use rmt_bits::answer::Bytes;
 use rmt_bits::sequence::Sequence;

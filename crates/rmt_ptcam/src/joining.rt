@@ -8,7 +8,7 @@ ghost use Rattle.rmt_ptcam.specs.Joining.{IsGood, KeepsForm, ParsesAlike, lookup
 
 use crate::fault::JoinFault;
 use crate::lookups::{byte_at, together};
-use crate::rows::{push_joined, push_widened};
+use crate::entry_rows::{push_joined, push_widened};
 use crate::search::entry_tail;
 use rmt_bits::answer::Bytes;
 use rmt_bits::sequence::Sequence;

@@ -16,7 +16,7 @@ pub mod need;
 pub mod parse;
 mod pieces;
 pub mod plain;
-mod rows;
+mod entry_rows;
 mod search;
 mod step;
 

@@ -1,5 +1,5 @@
 -- The steps of a reader at a phrase. Each step before a token is taken lowers the weight of what is to come.
-use Rattle.rmt_syntax.proofs.Words.{◌≡◌, ◌∙◌, inl, inr, ℕ, suc, Bool, true, false, sym, ap, refl, subst, List, [], ◌∷◌, ◌++◌, Option, Some, map, arith, ◌&&◌, ◌||◌, not, slice_get, find, Token, Terminal, Rule, Part, One, Node, Phrase, Whole, Done, Form, choices, terminal_of, Mark, Goal, part, phrase, shut, Reads, choose, same, may_begin, is_done, front, tails, Apart, Orderly, choice_of, is_operand_name, Stands, first_form, first_phrase, is_empty, may_end, if◌then◌else◌, and_parts, or_cases, not-true, both_ways, cases_Bool, cond-true, cond-false, ◌+◌, ◌<◌, first_of, nat_lt, ltb-true, weight, height}
+use Rattle.rmt_syntax.proofs.Words.{◌≡◌, ◌∙◌, inl, inr, ℕ, suc, Bool, true, false, sym, ap, refl, subst, List, [], ◌∷◌, ◌++◌, Option, Some, map, arith, ◌&&◌, ◌||◌, not, slice_get, find, Token, Terminal, Rule, Part, One, Node, Phrase, Whole, Done, Form, choices, terminal_of, Mark, Goal, part, phrase, shut, Reads, choose, same, may_begin, is_done, front, tails, Apart, Orderly, choice_of, is_operand_name, IsBefore, first_form, first_phrase, is_empty, may_end, if◌then◌else◌, and_parts, or_cases, not-true, both_ways, cases_Bool, cond-true, cond-false, ◌+◌, ◌<◌, first_of, nat_lt, ltb-true, weight, height}
 use Rattle.rmt_syntax.proofs.Words.terminal
 use Rattle.rmt_syntax.proofs.Words.rule
 use Rattle.rmt_syntax.proofs.Fronts.{chosen, done_is, empty_ends, front_part}
@@ -71,7 +71,7 @@ found_at p (g ∷ gs) f h = elim (cases_Bool (p g)) [
 
 pub choose_stands : {tokens : List Token} {at : ℕ} {t : Token} {x : Phrase} {ps : List Part} {next : Phrase} {gs : List Goal} {seen : List Mark} {depth : ℕ} → slice_get tokens at ≡ Some t
     → is_operand_name x (terminal_of t.what) ≡ false → is_done x ≡ false → choice_of x (terminal_of t.what) ≡ Some (ps, next)
-    → Stands tokens at (phrase x ∷ gs) seen depth → Stands tokens at (map part ps ++ phrase next ∷ gs) seen depth
+    → IsBefore tokens at (phrase x ∷ gs) seen depth → IsBefore tokens at (map part ps ++ phrase next ∷ gs) seen depth
 choose_stands {t = t} {x = x} {ps = ps} {next = next} {gs = gs} here name undone found s =
     let at = found_at (λ (form : Form). may_begin form (terminal_of t.what)) (choices x) (ps, next) found in
     stay here s (λ ms d. choose at.0 ps next at.1 d)

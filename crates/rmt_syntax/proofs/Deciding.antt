@@ -1,5 +1,5 @@
 -- Each list of tokens has a tree or a fault, and not both; and it has one fault alone.
-use Rattle.rmt_syntax.proofs.Words.{cases_Bool, Part, ◌≡◌, ◌∙◌, ◌⊎◌, inl, inr, ℕ, zero, suc, ◌+◌, ◌<◌, ◌≤◌, sym, ap, refl, subst, List, [], ◌∷◌, ◌++◌, Option, Some, None, take, drop, length, arith, append_assoc, append-nil, slice_get, slice_get_within, same_Some, length-take-le, eqb_tells, leb_tells, EndsOnce, Token, Terminal, Rule, One, Node, Phrase, Whole, Done, Form, terminal_of, Mark, leaf, opens, shuts, tokens_in, Goal, part, phrase, shut, Reads, IsText, IsNested, IsFront, depth_of, depth_after, TooDeep, IsFaultAt, IsTreeOf, HasTree, HasFault, Answers, Gives, ProgramFault, NoMemory, At, Result, Ok, Err, marks, take-append-drop, take_all, length-append, same, is_done, is_operand_name, choice_of, weight, Stands, slice_get-item}
+use Rattle.rmt_syntax.proofs.Words.{cases_Bool, Part, ◌≡◌, ◌∙◌, ◌⊎◌, inl, inr, ℕ, zero, suc, ◌+◌, ◌<◌, ◌≤◌, sym, ap, refl, subst, List, [], ◌∷◌, ◌++◌, Option, Some, None, take, drop, length, arith, append_assoc, append-nil, slice_get, slice_get_within, same_Some, length-take-le, eqb_tells, leb_tells, EndsOnce, Token, Terminal, Rule, One, Node, Phrase, Whole, Done, Form, terminal_of, Mark, leaf, opens, shuts, tokens_in, Goal, part, phrase, shut, Reads, IsText, IsNested, IsFront, depth_of, depth_after, TooDeep, IsFaultAt, IsTreeOf, HasTree, HasFault, Answers, Gives, ProgramFault, NoMemory, At, Result, Ok, Err, marks, take-append-drop, take_all, length-append, same, is_done, is_operand_name, choice_of, weight, IsBefore, slice_get-item}
 use Rattle.rmt_syntax.proofs.Words.kind
 use Rattle.rmt_syntax.proofs.Words.terminal
 use Rattle.rmt_syntax.proofs.Words.rule
@@ -7,7 +7,7 @@ use Rattle.rmt_syntax.proofs.Machine.{tokens_append, goes_on, take_next, taken_f
 use Rattle.rmt_syntax.proofs.Choosing.{choose_stands, enter_lowers, choose_lowers}
 use Rattle.rmt_syntax.proofs.Fronts.{done_is}
 use Rattle.rmt_syntax.proofs.Cuts.{Leads, at_once, too_many}
-use Rattle.rmt_syntax.proofs.Standing.{starts, text_is, tree_is, tree_alone, ends_at, operand_is}
+use Rattle.rmt_syntax.proofs.BeforeLaws.{starts, text_is, tree_is, tree_alone, ends_at, operand_is}
 use Rattle.rmt_syntax.proofs.Faults.{Fails, is_unexpected, is_too_deep, fails_none, fails_one, fails_block, fails_phrase}
 use Rattle.rmt_syntax.proofs.Operands.{not_last, operand_by, name_leads, lone_stands, field_stands}
 use Rattle.rmt_syntax.specs.declared.tree.Tree.{Tree}
@@ -47,7 +47,7 @@ only_here tokens at f other j le lt (inr (is, d)) = absurd (fails_on tokens at (
 
 -- a text that begins with more tokens than one before a 33rd block has that block
 deeper_front : {tokens : List Token} {at : ℕ} (j : ℕ) {gs : List Goal} {seen : List Mark} (front rest : List Mark) {depth : ℕ} → at < j → j ≤ length tokens → depth ≡ 32
-    → Stands tokens at (part (Node rule.Block) ∷ gs) seen depth → IsText (front ++ rest) → tokens_in front ≡ take j tokens → IsNested front → ⊥
+    → IsBefore tokens at (part (Node rule.Block) ∷ gs) seen depth → IsText (front ++ rest) → tokens_in front ≡ take j tokens → IsNested front → ⊥
 deeper_front {tokens} {at} j {gs} {seen} front rest lt le deep s text e nested =
     let all : tokens_in (front ++ rest) ≡ take (suc at) tokens ++ (drop (suc at) (take j tokens) ++ tokens_in rest) =
     tokens_append front rest ∙ ap (λ v. v ++ tokens_in rest) (e ∙ taken_further tokens (suc at) j (omega arith)) ∙ append_assoc (take (suc at) tokens) (drop (suc at) (take j tokens)) (tokens_in rest) in
@@ -58,7 +58,7 @@ deeper_front {tokens} {at} j {gs} {seen} front rest lt le deep s text e nested =
     too_many front rest seen v.0 (w.1 ∙ ap (λ ms. seen ++ ms) v.1) (omega (arith, few, many)) (sym s.open_blocks ∙ deep) nested
 
 only_deep : {tokens : List Token} {at : ℕ} {t : Token} {gs : List Goal} {seen : List Mark} {depth : ℕ} → slice_get tokens at ≡ Some t → terminal_of t.what ≡ terminal.OpenBrace
-    → depth ≡ 32 → Stands tokens at (part (Node rule.Block) ∷ gs) seen depth → OnlyFrom tokens at 4 at
+    → depth ≡ 32 → IsBefore tokens at (part (Node rule.Block) ∷ gs) seen depth → OnlyFrom tokens at 4 at
 only_deep {tokens} {at} {t} here brace deep s other j le lt (inl (is, u)) = elim (leb_tells j at) [
   | inl e ↦ (
       let same : j ≡ at = omega (arith, le, e.1) in
@@ -79,7 +79,7 @@ abbrev Begins : Token → List Goal → Type 0
 Begins t goals = (ms : List Mark) (more : List Token) → Reads goals ms → tokens_in ms ≡ t ∷ more → Leads ms
 
 no_deep : {tokens : List Token} {at : ℕ} {t : Token} {goals : List Goal} {seen : List Mark} {depth : ℕ} → slice_get tokens at ≡ Some t
-    → Begins t goals → Stands tokens at goals seen depth → TooDeep tokens at → ⊥
+    → Begins t goals → IsBefore tokens at goals seen depth → TooDeep tokens at → ⊥
 no_deep {tokens} {at} {seen = seen} here begins s d =
     let front : List Mark = d.outside ++ opens rule.Block ∷ leaf d.brace ∷ [] in
     let all : tokens_in (front ++ d.front.0) ≡ take (suc at) tokens ++ tokens_in d.front.0 = tokens_append front d.front.0 ∙ ap (λ v. v ++ tokens_in d.front.0) (deep_front tokens at d) in
@@ -92,7 +92,7 @@ no_deep {tokens} {at} {seen = seen} here begins s d =
     (omega (arith, few, many, l.one)) d.depth (nested_append 0 seen l.front s.nested (l.fits (depth_of seen) (nested_now seen s.nested)))
 
 -- a token that is taken has no fault
-none_here : {tokens : List Token} {at : ℕ} {goals : List Goal} {seen : List Mark} {depth : ℕ} → Stands tokens (suc at) goals seen depth → (TooDeep tokens at → ⊥)
+none_here : {tokens : List Token} {at : ℕ} {goals : List Goal} {seen : List Mark} {depth : ℕ} → IsBefore tokens (suc at) goals seen depth → (TooDeep tokens at → ⊥)
     → (code : ℕ) → IsFaultAt tokens code at → ⊥
 none_here {goals = goals} {seen = seen} s shallow code (inl (is, u)) = let text = has_text goals in u.none seen (text.0, s.sound text.0 text.1) s.read
 none_here s shallow code (inr (is, d)) = shallow d
@@ -109,11 +109,11 @@ later tokens at none (bad code k t here f tree only) = bad code k t here f tree 
 
 -- a reader before the next token comes to a verdict
 abbrev Next : List Token → ℕ → Type 0
-Next tokens at = (goals : List Goal) (seen : List Mark) (depth : ℕ) → Stands tokens at goals seen depth → Verdict tokens at
+Next tokens at = (goals : List Goal) (seen : List Mark) (depth : ℕ) → IsBefore tokens at goals seen depth → Verdict tokens at
 
 -- a reader before a token, with less to come, comes to a verdict
 abbrev Lighter : List Token → ℕ → ℕ → Type 0
-Lighter tokens at w = (goals : List Goal) (seen : List Mark) (depth : ℕ) → weight goals < w → Stands tokens at goals seen depth → Verdict tokens at
+Lighter tokens at w = (goals : List Goal) (seen : List Mark) (depth : ℕ) → weight goals < w → IsBefore tokens at goals seen depth → Verdict tokens at
 
 block_or : (r : Rule) → (r ≡ rule.Block) ⊎ (r ≡ rule.Block → ⊥)
 block_or rule.Block = inl refl
@@ -125,20 +125,20 @@ which (Some (ps, next)) = inr (ps, next, refl)
 
 -- a reader before the token t, where one before the next token comes to a verdict
 module _ (tokens : List Token) (at : ℕ) (t : Token) (here : slice_get tokens at ≡ Some t) (last : length tokens ≤ suc at → t.what ≡ kind.End) (next : Next tokens (suc at)) where
-  taken : {goals new : List Goal} {seen read : List Mark} {depth deep : ℕ} → Begins t goals → Stands tokens at goals seen depth → Stands tokens (suc at) new read deep → Verdict tokens at
+  taken : {goals new : List Goal} {seen read : List Mark} {depth deep : ℕ} → Begins t goals → IsBefore tokens at goals seen depth → IsBefore tokens (suc at) new read deep → Verdict tokens at
   taken {new = new} {read = read} {deep = deep} begins s n = later tokens at (none_here n (no_deep here begins s)) (next new read deep n)
 
-  fails_verdict : {goals : List Goal} {seen : List Mark} {depth : ℕ} → Stands tokens at goals seen depth → Fails tokens at → Verdict tokens at
+  fails_verdict : {goals : List Goal} {seen : List Mark} {depth : ℕ} → IsBefore tokens at goals seen depth → Fails tokens at → Verdict tokens at
   fails_verdict s f = bad 3 at t here (inl (refl, is_unexpected s f)) (λ u is. f (marks u) (drop (suc at) tokens) is.grammar (is.yield ∙ sym (take-append-drop (suc at) tokens))) (only_here tokens at f)
 
-  by_one : {c : Terminal} {gs : List Goal} {seen : List Mark} {depth : ℕ} → Stands tokens at (part (One c) ∷ gs) seen depth → Verdict tokens at
+  by_one : {c : Terminal} {gs : List Goal} {seen : List Mark} {depth : ℕ} → IsBefore tokens at (part (One c) ∷ gs) seen depth → Verdict tokens at
   by_one {c} s = elim (same_or c (terminal_of t.what)) [
     | inl e ↦ taken (λ ms more d is. let a = after_one d in subst Leads (sym a.2) (at_once a.0 a.1)) s (take_stands here last e s)
     | inr e ↦ fails_verdict s (fails_one here e s)
   ]
 
   -- the name of an operand
-  operand : {gs : List Goal} {seen : List Mark} {depth : ℕ} → terminal_of t.what ≡ terminal.Name → Stands tokens at (phrase (Whole rule.Leaf) ∷ gs) seen depth → Verdict tokens at
+  operand : {gs : List Goal} {seen : List Mark} {depth : ℕ} → terminal_of t.what ≡ terminal.Name → IsBefore tokens at (phrase (Whole rule.Leaf) ∷ gs) seen depth → Verdict tokens at
   operand name s =
       let u = slice_get-item tokens (suc at) (not_last tokens at t last name) in
       elim (same_or terminal.Dot (terminal_of u.0.what)) [
@@ -147,7 +147,7 @@ module _ (tokens : List Token) (at : ℕ) (t : Token) (here : slice_get tokens a
             (lone_stands here last name (λ v k is. other (ap (λ (w : Token). terminal_of w.what) (same_Some u.0 v (sym u.1 ∙ k)) ∙ is)) s)
       ]
 
-  by_block : {gs : List Goal} {seen : List Mark} {depth : ℕ} → (depth < 32 → Verdict tokens at) → Stands tokens at (part (Node rule.Block) ∷ gs) seen depth → Verdict tokens at
+  by_block : {gs : List Goal} {seen : List Mark} {depth : ℕ} → (depth < 32 → Verdict tokens at) → IsBefore tokens at (part (Node rule.Block) ∷ gs) seen depth → Verdict tokens at
   by_block {depth = depth} enter s = elim (same_or terminal.OpenBrace (terminal_of t.what)) [
     | inl brace ↦ elim (eqb_tells depth 32) [
       | inl deep ↦
@@ -159,22 +159,22 @@ module _ (tokens : List Token) (at : ℕ) (t : Token) (here : slice_get tokens a
     | inr other ↦ fails_verdict s (fails_block here other s)
   ]
 
-  by_node : {w : ℕ} {r : Rule} {gs : List Goal} {seen : List Mark} {depth : ℕ} → Lighter tokens at w → weight (part (Node r) ∷ gs) < suc w → Stands tokens at (part (Node r) ∷ gs) seen depth → Verdict tokens at
+  by_node : {w : ℕ} {r : Rule} {gs : List Goal} {seen : List Mark} {depth : ℕ} → Lighter tokens at w → weight (part (Node r) ∷ gs) < suc w → IsBefore tokens at (part (Node r) ∷ gs) seen depth → Verdict tokens at
   by_node {r = r} {gs = gs} {seen = seen} {depth = depth} lighter lt s =
       let enter : (r ≡ rule.Block → depth < 32) → Verdict tokens at = λ few. lighter _ _ _ (omega (arith, lt, enter_lowers r gs)) (enter_stands here few s) in
       elim (block_or r) [
-        | inl e ↦ by_block (λ few. enter (λ k. few)) (subst (λ v. Stands tokens at (part (Node v) ∷ gs) seen depth) e s)
+        | inl e ↦ by_block (λ few. enter (λ k. few)) (subst (λ v. IsBefore tokens at (part (Node v) ∷ gs) seen depth) e s)
         | inr e ↦ enter (λ k. absurd (e k))
       ]
 
-  by_phrase : {w : ℕ} {x : Phrase} {gs : List Goal} {seen : List Mark} {depth : ℕ} → Lighter tokens at w → weight (phrase x ∷ gs) < suc w → Stands tokens at (phrase x ∷ gs) seen depth → Verdict tokens at
+  by_phrase : {w : ℕ} {x : Phrase} {gs : List Goal} {seen : List Mark} {depth : ℕ} → Lighter tokens at w → weight (phrase x ∷ gs) < suc w → IsBefore tokens at (phrase x ∷ gs) seen depth → Verdict tokens at
   by_phrase {x = x} {gs = gs} {seen = seen} {depth = depth} lighter lt s = elim (cases_Bool (is_done x)) [
     | inl e ↦ (
         let is : x ≡ Done = done_is x e in
         let same : weight (phrase Done ∷ gs) ≡ weight (phrase x ∷ gs) = ap (λ v. weight (phrase v ∷ gs)) (sym is) in
-        lighter gs seen depth (omega (arith, lt, same)) (done_stands here (subst (λ v. Stands tokens at (phrase v ∷ gs) seen depth) is s)))
+        lighter gs seen depth (omega (arith, lt, same)) (done_stands here (subst (λ v. IsBefore tokens at (phrase v ∷ gs) seen depth) is s)))
     | inr undone ↦ elim (cases_Bool (is_operand_name x (terminal_of t.what))) [
-      | inl e ↦ (let is = operand_is x (terminal_of t.what) e in operand is.1 (subst (λ v. Stands tokens at (phrase v ∷ gs) seen depth) is.0 s))
+      | inl e ↦ (let is = operand_is x (terminal_of t.what) e in operand is.1 (subst (λ v. IsBefore tokens at (phrase v ∷ gs) seen depth) is.0 s))
       | inr name ↦ elim (which (choice_of x (terminal_of t.what))) [
         | inl none ↦ fails_verdict s (fails_phrase here name undone none s)
         | inr f ↦ lighter _ _ _ (omega (arith, lt, choose_lowers x (terminal_of t.what) f.0 f.1 gs f.2 undone)) (choose_stands here name undone f.2 s)
@@ -191,7 +191,7 @@ module _ (tokens : List Token) (at : ℕ) (t : Token) (here : slice_get tokens a
   steps (suc w) (shut r ∷ gs) seen depth lt s = steps w gs (seen ++ shuts r ∷ []) (depth_after depth (shuts r)) (omega arith) (shut_stands here s)
   steps (suc w) (phrase x ∷ gs) seen depth lt s = by_phrase (steps w) lt s
 
-by_end : {tokens : List Token} {at : ℕ} {goals : List Goal} {seen : List Mark} {depth : ℕ} → length tokens ≤ at → Stands tokens at goals seen depth → Verdict tokens at
+by_end : {tokens : List Token} {at : ℕ} {goals : List Goal} {seen : List Mark} {depth : ℕ} → length tokens ≤ at → IsBefore tokens at goals seen depth → Verdict tokens at
 by_end h s =
     let t = tree_of rule.Program _ (text_is h s) in
     good t.0 (tree_is t.0 h s t.1) (λ u is. tree_alone t.0 h s t.1 is) (λ code k le lt f. absurd (omega arith))

@@ -11,5 +11,5 @@ pub mod MarkLaws
 mod Operands
 mod Produce
 pub mod Sets
-mod Standing
+mod BeforeLaws
 mod Words

@@ -1,5 +1,5 @@
 -- The steps of a reader keep what it stands for.
-use Rattle.rmt_syntax.proofs.Words.{◌≡◌, ◌∙◌, ℕ, suc, ◌<◌, ◌≤◌, false, sym, ap, refl, subst, List, [], ◌∷◌, ◌++◌, Some, map, take, drop, length, fold, arith, append_assoc, append-nil, slice_get, Token, Terminal, Rule, Part, One, Node, Phrase, Whole, Done, choices, terminal_of, Mark, leaf, opens, shuts, tokens_in, Goal, part, phrase, shut, Reads, token, node, end, done, choose, IsText, IsNested, IsNestedFrom, depth_of, depth_after, is_done, Stands, append_cancel_left, slice_get_within, Orderly, fold-append, take-suc, take-append-drop, take-take, get_or_from_slice_get}
+use Rattle.rmt_syntax.proofs.Words.{◌≡◌, ◌∙◌, ℕ, suc, ◌<◌, ◌≤◌, false, sym, ap, refl, subst, List, [], ◌∷◌, ◌++◌, Some, map, take, drop, length, fold, arith, append_assoc, append-nil, slice_get, Token, Terminal, Rule, Part, One, Node, Phrase, Whole, Done, choices, terminal_of, Mark, leaf, opens, shuts, tokens_in, Goal, part, phrase, shut, Reads, token, node, end, done, choose, IsText, IsNested, IsNestedFrom, depth_of, depth_after, is_done, IsBefore, append_cancel_left, slice_get_within, Orderly, fold-append, take-suc, take-append-drop, take-take, get_or_from_slice_get}
 use Rattle.rmt_syntax.proofs.Words.kind
 use Rattle.rmt_syntax.proofs.Words.rule
 
@@ -18,7 +18,7 @@ taken_further xs m n h = sym (take-append-drop m (take n xs)) ∙ ap (λ v. v ++
 
 -- a text that begins with the tokens goes on by what is to come, with the next token
 pub goes_on : {tokens : List Token} {at : ℕ} {t : Token} {goals : List Goal} {seen all : List Mark} {depth : ℕ} {more : List Token} → slice_get tokens at ≡ Some t
-    → Stands tokens at goals seen depth → IsText all → tokens_in all ≡ take (suc at) tokens ++ more
+    → IsBefore tokens at goals seen depth → IsText all → tokens_in all ≡ take (suc at) tokens ++ more
     → (ms : List Mark) × (all ≡ seen ++ ms) × Reads goals ms × (tokens_in ms ≡ t ∷ more)
 goes_on {tokens} {at} {t} {seen = seen} {all = all} {more = more} here s text e =
     let w = s.whole all more text e in
@@ -43,7 +43,7 @@ pub depth_append : (a b : List Mark) → depth_of (a ++ b) ≡ fold depth_after 
 depth_append a b = fold-append depth_after 0 a b
 
 -- few blocks are open
-pub room : {tokens : List Token} {at : ℕ} {goals : List Goal} {seen : List Mark} {depth : ℕ} → Stands tokens at goals seen depth → depth ≤ 32
+pub room : {tokens : List Token} {at : ℕ} {goals : List Goal} {seen : List Mark} {depth : ℕ} → IsBefore tokens at goals seen depth → depth ≤ 32
 room {seen = seen} s = omega (arith, s.open_blocks, nested_now seen s.nested)
 
 -- a block may begin where fewer than 32 are open
@@ -74,10 +74,10 @@ after_one (token {t = t} {ms = ms} is d) = (t, ms, refl, is, d)
 
 module _ {tokens : List Token} {at : ℕ} {t : Token} (here : slice_get tokens at ≡ Some t) where
   -- A step over marks: what is to come behind them reads on, and all that was to come, with the token, begins with them.
-  pub step : {next : ℕ} {goals gs : List Goal} {seen : List Mark} {depth : ℕ} (ms : List Mark) (further : List Token) → Stands tokens at goals seen depth → take (suc next) tokens ≡ take (suc at) tokens ++ further → tokens_in (seen ++ ms) ≡ take next tokens
+  pub step : {next : ℕ} {goals gs : List Goal} {seen : List Mark} {depth : ℕ} (ms : List Mark) (further : List Token) → IsBefore tokens at goals seen depth → take (suc next) tokens ≡ take (suc at) tokens ++ further → tokens_in (seen ++ ms) ≡ take next tokens
       → ((rest : List Mark) → Reads gs rest → Reads goals (ms ++ rest))
       → ((rest : List Mark) (more : List Token) → Reads goals rest → tokens_in rest ≡ t ∷ (further ++ more) → (behind : List Mark) × (rest ≡ ms ++ behind) × Reads gs behind)
-      → IsNestedFrom depth ms → Orderly gs → (length tokens ≤ next → gs ≡ phrase Done ∷ shut rule.Program ∷ []) → Stands tokens next gs (seen ++ ms) (fold depth_after depth ms)
+      → IsNestedFrom depth ms → Orderly gs → (length tokens ≤ next → gs ≡ phrase Done ∷ shut rule.Program ∷ []) → IsBefore tokens next gs (seen ++ ms) (fold depth_after depth ms)
   step {seen = seen} ms further s far read sound whole nested orderly ended = record {
     read = read;
     sound = λ rest d. subst IsText (sym (append_assoc seen ms rest)) (s.sound (ms ++ rest) (sound rest d));
@@ -92,24 +92,24 @@ module _ {tokens : List Token} {at : ℕ} {t : Token} (here : slice_get tokens a
   }
 
   -- a step over a mark that is no token
-  silent : {goals gs : List Goal} {seen : List Mark} {depth : ℕ} (m : Mark) → tokens_in (m ∷ []) ≡ [] → Stands tokens at goals seen depth → ((rest : List Mark) → Reads gs rest → Reads goals (m ∷ rest))
+  silent : {goals gs : List Goal} {seen : List Mark} {depth : ℕ} (m : Mark) → tokens_in (m ∷ []) ≡ [] → IsBefore tokens at goals seen depth → ((rest : List Mark) → Reads gs rest → Reads goals (m ∷ rest))
       → ((rest : List Mark) → Reads goals rest → (behind : List Mark) × (rest ≡ m ∷ behind) × Reads gs behind)
-      → (m ≡ opens rule.Block → depth < 32) → Orderly gs → Stands tokens at gs (seen ++ m ∷ []) (depth_after depth m)
+      → (m ≡ opens rule.Block → depth < 32) → Orderly gs → IsBefore tokens at gs (seen ++ m ∷ []) (depth_after depth m)
   silent {seen = seen} {depth = depth} m none s sound whole few orderly =
       step (m ∷ []) [] s (sym (append-nil _)) (tokens_append seen (m ∷ []) ∙ ap (λ v. tokens_in seen ++ v) none ∙ append-nil (tokens_in seen) ∙ s.read)
       sound (λ rest more d e. whole rest d) (room s, fits depth m (room s) few) orderly (λ h. absurd (omega (arith, h, slice_get_within tokens at t here)))
 
-  pub shut_stands : {r : Rule} {gs : List Goal} {seen : List Mark} {depth : ℕ} → Stands tokens at (shut r ∷ gs) seen depth → Stands tokens at gs (seen ++ shuts r ∷ []) (depth_after depth (shuts r))
+  pub shut_stands : {r : Rule} {gs : List Goal} {seen : List Mark} {depth : ℕ} → IsBefore tokens at (shut r ∷ gs) seen depth → IsBefore tokens at gs (seen ++ shuts r ∷ []) (depth_after depth (shuts r))
   shut_stands {r = r} s = silent (shuts r) refl s (λ rest d. end d) (λ rest d. after_end d) (λ e. cc) s.orderly
 
-  pub enter_stands : {r : Rule} {gs : List Goal} {seen : List Mark} {depth : ℕ} → (r ≡ rule.Block → depth < 32) → Stands tokens at (part (Node r) ∷ gs) seen depth → Stands tokens at (phrase (Whole r) ∷ shut r ∷ gs) (seen ++ opens r ∷ []) (depth_after depth (opens r))
+  pub enter_stands : {r : Rule} {gs : List Goal} {seen : List Mark} {depth : ℕ} → (r ≡ rule.Block → depth < 32) → IsBefore tokens at (part (Node r) ∷ gs) seen depth → IsBefore tokens at (phrase (Whole r) ∷ shut r ∷ gs) (seen ++ opens r ∷ []) (depth_after depth (opens r))
   enter_stands {r = r} few s =
       silent (opens r) refl s (λ rest d. node d) (λ rest d. after_node d) (λ e. few cc) ((λ h. absurd (s.orderly.0 cc)), s.orderly.1, s.orderly.2)
 
   -- a step over no mark
-  pub stay : {goals gs : List Goal} {seen : List Mark} {depth : ℕ} → Stands tokens at goals seen depth
+  pub stay : {goals gs : List Goal} {seen : List Mark} {depth : ℕ} → IsBefore tokens at goals seen depth
       → ((ms : List Mark) → Reads gs ms → Reads goals ms) → ((ms : List Mark) (more : List Token) → Reads goals ms → tokens_in ms ≡ t ∷ more → Reads gs ms)
-      → Orderly gs → Stands tokens at gs seen depth
+      → Orderly gs → IsBefore tokens at gs seen depth
   stay s sound whole orderly = record {
     read = s.read;
     sound = λ ms d. s.sound ms (sound ms d);
@@ -120,15 +120,15 @@ module _ {tokens : List Token} {at : ℕ} {t : Token} (here : slice_get tokens a
     ended = λ h. absurd (omega (arith, h, slice_get_within tokens at t here));
   }
 
-  pub done_stands : {gs : List Goal} {seen : List Mark} {depth : ℕ} → Stands tokens at (phrase Done ∷ gs) seen depth → Stands tokens at gs seen depth
+  pub done_stands : {gs : List Goal} {seen : List Mark} {depth : ℕ} → IsBefore tokens at (phrase Done ∷ gs) seen depth → IsBefore tokens at gs seen depth
   done_stands s = stay s (λ ms d. done d) (λ ms more d e. after_done d) s.orderly.2
 
 pub read_next : {tokens : List Token} {at : ℕ} {t : Token} {goals : List Goal} {seen : List Mark} {depth : ℕ} (ms : List Mark) → tokens_in ms ≡ t ∷ [] → slice_get tokens at ≡ Some t
-    → Stands tokens at goals seen depth → tokens_in (seen ++ ms) ≡ take (suc at) tokens
+    → IsBefore tokens at goals seen depth → tokens_in (seen ++ ms) ≡ take (suc at) tokens
 read_next {tokens} {at} {t} {seen = seen} ms one here s = tokens_append seen ms ∙ ap (λ v. v ++ tokens_in ms) s.read ∙ ap (λ v. take at tokens ++ v) one ∙ sym (take_next tokens at t here)
 
 pub take_stands : {tokens : List Token} {at : ℕ} {t : Token} {c : Terminal} {gs : List Goal} {seen : List Mark} {depth : ℕ} → slice_get tokens at ≡ Some t
-    → (length tokens ≤ suc at → t.what ≡ kind.End) → terminal_of t.what ≡ c → Stands tokens at (part (One c) ∷ gs) seen depth → Stands tokens (suc at) gs (seen ++ leaf t ∷ []) depth
+    → (length tokens ≤ suc at → t.what ≡ kind.End) → terminal_of t.what ≡ c → IsBefore tokens at (part (One c) ∷ gs) seen depth → IsBefore tokens (suc at) gs (seen ++ leaf t ∷ []) depth
 take_stands {tokens} {at} {t} here last is s =
     step here (leaf t ∷ []) (drop (suc at) (take (suc (suc at)) tokens)) s (taken_further tokens (suc at) (suc (suc at)) (omega arith)) (read_next (leaf t ∷ []) refl here s) (λ rest d. token is d) (λ rest more d e.
     let v = after_one d in

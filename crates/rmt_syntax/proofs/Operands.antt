@@ -1,5 +1,5 @@
 -- The steps of a reader at an operand that begins with a name.
-use Rattle.rmt_syntax.proofs.Words.{◌≡◌, ◌∙◌, inl, inr, ℕ, zero, suc, ◌<◌, ◌≤◌, true, sym, ap, refl, subst, List, [], ◌∷◌, ◌++◌, Some, length, arith, slice_get, Token, One, Node, Whole, Done, FieldEnd, terminal_of, Mark, leaf, opens, tokens_in, Goal, part, phrase, shut, Reads, token, node, choose, member, front, tails, Apart, Stands, slice_get-item, leb_tells, both_ways, choice_of}
+use Rattle.rmt_syntax.proofs.Words.{◌≡◌, ◌∙◌, inl, inr, ℕ, zero, suc, ◌<◌, ◌≤◌, true, sym, ap, refl, subst, List, [], ◌∷◌, ◌++◌, Some, length, arith, slice_get, Token, One, Node, Whole, Done, FieldEnd, terminal_of, Mark, leaf, opens, tokens_in, Goal, part, phrase, shut, Reads, token, node, choose, member, front, tails, Apart, IsBefore, slice_get-item, leb_tells, both_ways, choice_of}
 use Rattle.rmt_syntax.proofs.Words.kind
 use Rattle.rmt_syntax.proofs.Words.terminal
 use Rattle.rmt_syntax.proofs.Words.rule
@@ -70,7 +70,7 @@ not_last tokens at t last name = elim (leb_tells (length tokens) (suc at)) [
 -- an operand that is a name
 pub lone_stands : {tokens : List Token} {at : ℕ} {t : Token} {gs : List Goal} {seen : List Mark} {depth : ℕ} → slice_get tokens at ≡ Some t
     → (length tokens ≤ suc at → t.what ≡ kind.End) → terminal_of t.what ≡ terminal.Name → ((u : Token) → slice_get tokens (suc at) ≡ Some u → terminal_of u.what ≡ terminal.Dot → ⊥)
-    → Stands tokens at (phrase (Whole rule.Leaf) ∷ gs) seen depth → Stands tokens (suc at) (phrase Done ∷ gs) (seen ++ leaf t ∷ []) depth
+    → IsBefore tokens at (phrase (Whole rule.Leaf) ∷ gs) seen depth → IsBefore tokens (suc at) (phrase Done ∷ gs) (seen ++ leaf t ∷ []) depth
 lone_stands {tokens} {at} {t} {gs} here last name undotted s =
     let inside : suc at < length tokens = not_last tokens at t last name in
     let next = slice_get-item tokens (suc at) inside in
@@ -82,8 +82,8 @@ lone_stands {tokens} {at} {t} {gs} here last name undotted s =
 -- an operand that is a field of a header
 pub field_stands : {tokens : List Token} {at : ℕ} {t u : Token} {gs : List Goal} {seen : List Mark} {depth : ℕ} → slice_get tokens at ≡ Some t
     → (length tokens ≤ suc at → t.what ≡ kind.End) → terminal_of t.what ≡ terminal.Name → slice_get tokens (suc at) ≡ Some u → terminal_of u.what ≡ terminal.Dot
-    → Stands tokens at (phrase (Whole rule.Leaf) ∷ gs) seen depth
-    → Stands tokens (suc at) (part (One terminal.Dot) ∷ phrase FieldEnd ∷ shut rule.Field ∷ phrase Done ∷ gs) (seen ++ opens rule.Field ∷ leaf t ∷ []) depth
+    → IsBefore tokens at (phrase (Whole rule.Leaf) ∷ gs) seen depth
+    → IsBefore tokens (suc at) (part (One terminal.Dot) ∷ phrase FieldEnd ∷ shut rule.Field ∷ phrase Done ∷ gs) (seen ++ opens rule.Field ∷ leaf t ∷ []) depth
 field_stands {tokens} {at} {t} {u} {gs} here last name there dot s =
     step here (opens rule.Field ∷ leaf t ∷ []) (u ∷ []) s (take_next tokens (suc at) u there) (read_next (opens rule.Field ∷ leaf t ∷ []) refl here s)
     (λ rest d. choose 0 (Node rule.Field ∷ []) Done refl (node (choose 0 (One terminal.Name ∷ One terminal.Dot ∷ []) FieldEnd refl (token name d))))

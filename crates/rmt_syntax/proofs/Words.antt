@@ -20,7 +20,7 @@ pub use Rattle.rmt_lexer.specs.declared.token.Token.{Token}
 pub use Rattle.rmt_lexer.specs.declared.token.TokenKind.{TokenKind}
 pub use Rattle.rmt_syntax.specs.Grammar.{Part, One, Node, Phrase, Whole, Done, Terminal, Rule, Form, choices, keywords, signs, terminal_of, entry, word_terminal}
 pub use Rattle.rmt_syntax.specs.Lookahead.{same, is_done, member, Apart, first_of, first_form, first_phrase, is_empty, may_end, height, tails, is_operand_name, may_begin, choice_of, weight, front, Orderly}
-pub use Rattle.rmt_syntax.specs.State.{Stands, Before, goals_of, outer_goals, frame_marks, frame_goals, marks_of}
+pub use Rattle.rmt_syntax.specs.State.{IsBefore, Before, goals_of, outer_goals, frame_marks, frame_goals, marks_of}
 pub use Rattle.rmt_syntax.specs.Trees.{Mark, leaf, opens, shuts, Goal, part, phrase, shut, Reads, nothing, token, node, end, done, choose, tokens_in, IsNested, depth_of, marks, marks_step, TooDeep, IsText, IsFront, depth_after, IsFaultAt, IsTreeOf, IsNestedFrom, IsOf, Follows, AreParts, ArePartsOf, IsTokenOf, stop, onward, Unexpected, HasFault, HasTree, IsFault, Answers, Gives}
 pub use Rattle.rmt_syntax.specs.contracts.terminal.Terminal.{the_type}
 pub use Rattle.rmt_syntax.specs.declared.grammar.Phrase.TheVariants.{FieldEnd, Statements}

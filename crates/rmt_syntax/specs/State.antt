@@ -30,7 +30,7 @@ abbrev pub goals_of : Reader → List Goal
 goals_of r = frame_goals r.inner ++ outer_goals r.outer.items
 
 -- A reader that stands before a token: what it read, what is to come, and how many blocks are open.
-pub record Stands (tokens : List Token) (at : ℕ) (goals : List Goal) (seen : List Mark) (depth : ℕ) : Type 0 where
+pub record IsBefore (tokens : List Token) (at : ℕ) (goals : List Goal) (seen : List Mark) (depth : ℕ) : Type 0 where
   pub read : tokens_in seen ≡ take at tokens
   -- what comes by the goals makes a text
   pub sound : (ms : List Mark) → Reads goals ms → IsText (seen ++ ms)
@@ -43,4 +43,4 @@ pub record Stands (tokens : List Token) (at : ℕ) (goals : List Goal) (seen : L
 
 -- the reader stands before the token at the place
 abbrev pub Before : List Token → ℕ → Reader → Type 0
-Before tokens at r = Stands tokens at (goals_of r) (marks_of r) r.depth
+Before tokens at r = IsBefore tokens at (goals_of r) (marks_of r) r.depth

@@ -9,7 +9,7 @@ use Rattle.rmt_ast.proofs.Programs.{action}
 use Rattle.rmt_config.specs.declared.config.OpKind.TheVariants as kind
 use Rattle.rmt_config.specs.declared.config.Source.TheVariants.{Word, Held, Constant}
 use Rattle.rmt_config.specs.Life.{Words}
-use Rattle.rmt_vliw.specs.Folding.{folded_of, told}
+use Rattle.rmt_vliw.specs.Folding.{folded_of, folded_or_fault}
 use Rattle.rmt_vliw.specs.declared.fault.ActionDeep.TheVariants.{At}
 use Rattle.rmt_vliw.specs.Operations.{operations_of, given}
 use Rattle.rmt_config.specs.Effects.{held_by, words_after}
@@ -21,7 +21,7 @@ abbrev lane : ℕ → ℕ → ℕ → Lane
 lane word low len = record { word = word; low = low; len = len }
 
 -- h.a = h.a + h.b; h.b = h.a + h.c: the value of field 5 is h.a + h.b + h.c
-too_deep : told 7 (folded_of (action [] [] (to 4 (Two Add (leaf.Field 4) (leaf.Field 5)) ∷ to 5 (Two Add (leaf.Field 4) (leaf.Field 6)) ∷ []))) ≡ Err (At 7 5)
+too_deep : folded_or_fault 7 (folded_of (action [] [] (to 4 (Two Add (leaf.Field 4) (leaf.Field 5)) ∷ to 5 (Two Add (leaf.Field 4) (leaf.Field 6)) ∷ []))) ≡ Err (At 7 5)
 too_deep = refl
 
 -- h.a = h.b; h.b = h.a: both are the old h.b

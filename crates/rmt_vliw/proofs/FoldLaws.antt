@@ -13,7 +13,7 @@ use Rattle.rmt_vliw.specs.declared.value.Value.{Value}
 use Rattle.rmt_vliw.specs.declared.folded.Folded.{Folded}
 use Rattle.rmt_vliw.specs.declared.fault.ActionDeep.{ActionDeep}
 use Rattle.rmt_vliw.specs.declared.fault.ActionDeep.TheVariants.{At}
-use Rattle.rmt_vliw.specs.Folding.{Term, Atom, Joined, Terms, unassigned, in_place, term_of, and_then, terms_of, with_dest, dests_of, leaf_of, two_of, expr_of, value_then, values_of, folded_of, told}
+use Rattle.rmt_vliw.specs.Folding.{Term, Atom, Joined, Terms, unassigned, in_place, term_of, and_then, terms_of, with_dest, dests_of, leaf_of, two_of, expr_of, value_then, values_of, folded_of, folded_or_fault}
 use Rattle.rmt_vliw.specs.Known.{known, known_operand, as_leaf, known_expr, replaced, with_value, known_after, told_values, told_of}
 
 -- a field's value, as its term says
@@ -204,7 +204,7 @@ module _ (f : ℕ) (e : Option Expr) where
       stays ∙ ap (set vs i) (sym old) ∙ replaced_more xs vs i d lt is
 
 told_err : (action : ℕ) (params : List ℕ) (r : Result (List Assign) ℕ) (x : ActionDeep) → told_of action r ≡ Err x
-    → told action (map_ok {B = Folded} (λ values. record { params = params; values = values }) r) ≡ Err x
+    → folded_or_fault action (map_ok {B = Folded} (λ values. record { params = params; values = values }) r) ≡ Err x
 told_err action params (Ok values) x is = absurd cc
 told_err action params (Err f) x is = let same : At action f ≡ x = cc in ap Err same
 
@@ -214,7 +214,7 @@ told_ok action params (Err f) values is = absurd cc
 told_ok action params (Ok vs) values is = let same : vs ≡ values = cc in ap (λ (ws : List Assign). Ok (record { params = params; values = ws })) same
 
 -- what the code tells of an action is its folding
-pub folded_err : (action : ℕ) (a : Action) (x : ActionDeep) → told_of action (told_values (fold known_after [] a.assigns)) ≡ Err x → told action (folded_of a) ≡ Err x
+pub folded_err : (action : ℕ) (a : Action) (x : ActionDeep) → told_of action (told_values (fold known_after [] a.assigns)) ≡ Err x → folded_or_fault action (folded_of a) ≡ Err x
 folded_err action a x is = told_err action a.params (values_of (terms_of a.assigns) (dests_of a.assigns)) x (ap (told_of action) (sym (told-known a.assigns)) ∙ is)
 
 pub folded_ok : (action : ℕ) (a : Action) (values : List Assign) → told_of action (told_values (fold known_after [] a.assigns)) ≡ Ok values

@@ -25,7 +25,7 @@ use Rattle.rmt_phv.specs.Packing.{pieces}
 use Rattle.rmt_phv.specs.Places.{LiesInWord, ShareNoWord, KeepsApart}
 use Rattle.rmt_config.specs.declared.config.OpKind.TheVariants as kind
 use Rattle.rmt_config.specs.declared.config.Source.TheVariants.{Constant}
-use Rattle.rmt_config.specs.declared.form.code.Place.{Place}
+use Rattle.rmt_config.specs.declared.form.code.InstructionRole.{InstructionRole}
 use Rattle.rmt_config.specs.Order.{rises_from}
 use Rattle.rmt_config.specs.LaneForm.{bits_of_lanes, lane_is_formed}
 use Rattle.rmt_config.specs.CodeForm.{source_is_formed, kind_is_formed, operation_is_formed, vliw_is_formed}
@@ -82,7 +82,7 @@ param_ends (w ∷ ws) (suc i) width is =
 -- ---- operations
 
 -- a slot has room for the parameters
-abbrev pub HasRoom : Place → List ℕ → Type 0
+abbrev pub HasRoom : InstructionRole → List ℕ → Type 0
 HasRoom place params = (i width : ℕ) → slice_get params i ≡ Some width → (place.is_default ≡ false) × (begin_of params i + width ≤ place.held)
 
 kind_formed : (op : Op) (right : Source) → kind_is_formed (kind_for op) right ≡ true
@@ -100,7 +100,7 @@ lane_formed l lies small =
     (le-leb l.len 32 small))
     (le-leb (l.low + l.len) (word_size l.word) lies.within)
 
-module _ (p : Program) (places : List (List Lane)) (params : List ℕ) (place : Place) (keeps : KeepsApart p places) (room : HasRoom place params) where
+module _ (p : Program) (places : List (List Lane)) (params : List ℕ) (place : InstructionRole) (keeps : KeepsApart p places) (room : HasRoom place params) where
   source_formed : (f k : ℕ) (d : Lane) → k < length (lanes_of places f) → (x : Leaf) → IsLeaf p params (width_of p f) x
       → source_is_formed place (get_or (lanes_of places f) k d).len (source_for places params (piece_of (lanes_of places f) k (get_or (lanes_of places f) k d).len) x) ≡ true
   source_formed f k d lt (leaf.Field g) is =
@@ -217,7 +217,7 @@ rise_few least m (n ∷ ns) le up below =
 -- ---- the instruction
 
 pub formed : (p : Program) (places : List (List Lane)) (params : List ℕ) (values : List Assign) → KeepsApart p places → AreFolded p places params values
-    → (v : Vliw) → IsInstruction (operations_of places params values) v.ops → (place : Place) → HasRoom place params → vliw_is_formed place v ≡ true
+    → (v : Vliw) → IsInstruction (operations_of places params values) v.ops → (place : InstructionRole) → HasRoom place params → vliw_is_formed place v ≡ true
 formed p places params values keeps folded v sorted place room =
     let word : Operation → ℕ = λ (op : Operation). op.word in
     let d : Lane = record { word = 0; low = 0; len = 0 } in

@@ -81,9 +81,9 @@ folded_of a =
     map_ok (λ values. record { params = a.params; values = values }) (values_of (terms_of a.assigns) (dests_of a.assigns))
 
 -- the same with the action's number
-abbrev pub told : ℕ → Result Folded ℕ → Result Folded ActionDeep
-told action (Ok folded) = Ok folded
-told action (Err field) = Err (At action field)
+abbrev pub folded_or_fault : ℕ → Result Folded ℕ → Result Folded ActionDeep
+folded_or_fault action (Ok folded) = Ok folded
+folded_or_fault action (Err field) = Err (At action field)
 
 -- the folding of the action of that number
 abbrev pub IsFolding : Program → ℕ → Folded → Type 0

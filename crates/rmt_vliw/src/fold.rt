@@ -3,7 +3,7 @@
 ghost use Rattle.std.specs.Prelude.{◌≡◌, ◌≢◌, ◌<◌, [], length, fold, IfOk, Err, Some, slice_get};
 ghost use Rattle.rmt_ast.specs.declared.program.Action.{Action};
 ghost use Rattle.rmt_ast.specs.WellFormed.{IsProgram};
-ghost use Rattle.rmt_vliw.specs.Folding.{folded_of, told, IsFolding, Means};
+ghost use Rattle.rmt_vliw.specs.Folding.{folded_of, folded_or_fault, IsFolding, Means};
 ghost use Rattle.rmt_vliw.specs.Known.{known_after, told_values, told_of};
 
 use crate::fault::ActionDeep;
@@ -33,7 +33,7 @@ fn values_after(alloc: Global, assigns: &[Assign]) -> Result<Vec<Value>, AllocEr
 }
 
 /// The values as assignments, where each takes at most one operation.
-fn told(alloc: Global, action: u32, values: &[Value]) -> Result<Sequence<Assign>, ActionDeep>
+fn folded_or_fault(alloc: Global, action: u32, values: &[Value]) -> Result<Sequence<Assign>, ActionDeep>
     ensures { result ≢ Err ActionDeep.NoMemory → result ≡ told_of action (told_values values.now) }
 {
     let mut assigns = Sequence::new(alloc);
@@ -66,14 +66,14 @@ pub fn fold_action(alloc: Global, program: &Program, action: u32) -> Result<Fold
     requires action { action < length program.now.actions }
     // Which values, or which refusal, unless memory runs out.
     ensures folded { (a : Action) → slice_get program.now.actions action ≡ Some a →
-        result ≢ Err ActionDeep.NoMemory → result ≡ told action (folded_of a) }
+        result ≢ Err ActionDeep.NoMemory → result ≡ folded_or_fault action (folded_of a) }
     ensures is_folding { IfOk result (λ folded. IsFolding program.now action folded) }
     // They are what the assignments leave, one after another, for every state and all arguments.
     ensures means { IfOk result (λ folded. Means program.now action folded.values) }
 {
     let acts = &program.actions.as_slice()[action as usize];
     let values = values_after(alloc, acts.assigns.as_slice())?;
-    let values = told(alloc, action, &values)?;
+    let values = folded_or_fault(alloc, action, &values)?;
     let params = copied(alloc, &acts.params)?;
     Ok(Folded { params, values })
 }

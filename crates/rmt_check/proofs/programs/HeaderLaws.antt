@@ -19,7 +19,7 @@ use Rattle.rmt_check.specs.Parts.{Ident, Declared, ValueText, TargetText, CaseTe
 use Rattle.rmt_check.specs.declared.source.TargetText.TheVariants as target
 use Rattle.rmt_check.specs.Names.{header_names, metadata, of_metadata, of_header, Named, Known, owned, common_fields, declared_fields, header_fields, is_field, header_owner, selected, width_of}
 use Rattle.rmt_check.specs.Naming.{IsHeaderText}
-use Rattle.rmt_check.specs.Standing.{code_of}
+use Rattle.rmt_check.specs.StoredFields.{code_of}
 use Rattle.rmt_check.specs.Meaning.{field_number, index_of, test_of, target_of, tail_of, case_of, header_from, headers_from, program_of}
 use Rattle.rmt_check.specs.Rules.{when, repeated, unknown, target_names, targets, unknown_own, unknown_select, unknown_tail, is_size, is_tail_range, bad_tail, bits_of, is_at_most, too_wide_value, too_wide_case, bad_case}
 use Rattle.rmt_check.proofs.Finding.{number_at, stands_within}

@@ -13,7 +13,7 @@ use Rattle.rmt_ast.specs.NameList.{is_known}
 use Rattle.rmt_ast.specs.WellFormed.{AreDistinct, Fits, IsTest}
 use Rattle.rmt_bits.proofs.ListLaws.{flat_map-nil, append-nil_left, append-nil_right}
 use Rattle.rmt_bits.proofs.PairLaws.{AllPairs-map}
-use Rattle.rmt_check.specs.Parts.{Place, Ident, Field, Number, ValueText, Source}
+use Rattle.rmt_check.specs.Parts.{Position, Ident, Field, Number, ValueText, Source}
 use Rattle.rmt_check.specs.Rules.{repeated, repeated_by, when, fits, too_wide, too_wide_value}
 use Rattle.rmt_check.specs.Meaning.{index_of, ones, test_of, field_number, field_of, program_of}
 use Rattle.rmt_check.proofs.Finding.{known_at}
@@ -32,7 +32,7 @@ pub bytes_eq-same : (q : List ℕ) → bytes_eq q q ≡ true
 bytes_eq-same q = (bytes_eq-Decides q q).1 refl
 
 -- items of which none repeats an earlier one
-pub differ_by : {X : Type 0} (same : X → X → Bool) (place : X → Place) (xs : List X) → repeated_by same place xs ≡ [] → AllPairs (λ x y. same y x ≡ false) xs
+pub differ_by : {X : Type 0} (same : X → X → Bool) (place : X → Position) (xs : List X) → repeated_by same place xs ≡ [] → AllPairs (λ x y. same y x ≡ false) xs
 differ_by same place xs e = λ i j d lt within.
     let test = λ (x : ℕ × _). when (list_any (same x.1) (take x.0 xs)) (place x.1) in
     let long = length-enumerate_from 0 xs in

@@ -2,7 +2,7 @@
 use Rattle.std.proofs.Common.{◌≡◌, ℕ, List, [], ◌∷◌, Bool, true, false, not, None, All, refl, rules, arith, ◌+◌, ◌++◌, length, fold, subst}
 use Rattle.std.specs.List.{AllByRecursion, flat_map, enumerate_from}
 use Rattle.std.proofs.lemmas.Bool.{not-false}
-use Rattle.rmt_check.specs.Parts.{Place, Ident, FieldText, Source}
+use Rattle.rmt_check.specs.Parts.{Position, Ident, FieldText, Source}
 use Rattle.rmt_ast.specs.NameList.{is_known}
 use Rattle.rmt_check.specs.Names.{is_field, named, metadata, nodes_of, applied_tables}
 use Rattle.rmt_check.specs.Rules.{when, earliest, least_of, unknown, unknown_owner, unknown_field, repeated, declared_names, further_metas, params_twice, unknown_own, unknown_in_table, no_widths, bad_default, no_header, many_headers, many_actions, many_metadata, many_nodes, broken, fault_of}
@@ -28,19 +28,19 @@ none_in a (b ∷ ls) e = let r = none_in (a ++ b) ls e in (append-nil_left a b r
 
 -- A text without a fault breaks no rule, and what that says of its names.
 
-pub no_places : (ps : List Place) → earliest ps ≡ None → ps ≡ []
+pub no_places : (ps : List Position) → earliest ps ≡ None → ps ≡ []
 no_places [] e = refl
 no_places (p ∷ ps) e = grind arith
 
-pub none_broken : (rules : List (ℕ × List Place)) → least_of rules ≡ None → AllByRecursion (λ (r : ℕ × List Place). r.1 ≡ []) rules
+pub none_broken : (rules : List (ℕ × List Position)) → least_of rules ≡ None → AllByRecursion (λ (r : ℕ × List Position). r.1 ≡ []) rules
 none_broken [] e = tt
 none_broken ((code, ps) ∷ rules) e = grind (arith, no_places, none_broken rules)
 
 -- where nothing is broken the test has failed
-pub no_when : (b : Bool) (p : Place) → when b p ≡ [] → b ≡ false
+pub no_when : (b : Bool) (p : Position) → when b p ≡ [] → b ≡ false
 no_when b p e = grind arith
 
-pub no_when_not : (b : Bool) (p : Place) → when (not b) p ≡ [] → b ≡ true
+pub no_when_not : (b : Bool) (p : Position) → when (not b) p ≡ [] → b ≡ true
 no_when_not b p e = not-false b (no_when (not b) p e)
 
 -- names that are known
@@ -56,7 +56,7 @@ field_known s f e = no_when_not (is_field s (named s f)) f.ident.place (append-n
 -- What a text that breaks no rule keeps, part by part.
 
 -- f finds nothing at each item
-abbrev pub FindsNone : {X : Type 0} → (X → List Place) → List X → Type 0
+abbrev pub FindsNone : {X : Type 0} → (X → List Position) → List X → Type 0
 FindsNone f xs = All (λ x. f x ≡ []) xs
 
 pub record KeepsRules (s : Source) : Type 0 where
@@ -99,7 +99,7 @@ pub record KeepsRules (s : Source) : Type 0 where
   pub all_applied : FindsNone (not_applied s) s.tables
   pub tails_fit : FindsNone (bad_tails s) s.headers
 
-keeps : (s : Source) → AllByRecursion (λ (r : ℕ × List Place). r.1 ≡ []) (broken s) → KeepsRules s
+keeps : (s : Source) → AllByRecursion (λ (r : ℕ × List Position). r.1 ≡ []) (broken s) → KeepsRules s
 keeps s (five, (six, (seven, (eight, (nine, (ten, (eleven, (twelve, (thirteen, (fourteen, (fifteen, (sixteen, (seventeen, (eighteen, (nineteen, (twenty, (last, all))))))))))))))))) =
     let once = none_in (repeated (headers_of s)) (flat_map fields_twice s.headers ∷ further_metas s ∷ repeated (declared_names (metadata s))
     ∷ repeated (actions_of s) ∷ flat_map params_twice s.actions ∷ repeated (tables_of s) ∷ flat_map listed_twice s.tables ∷ []) five in

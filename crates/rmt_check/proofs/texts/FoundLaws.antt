@@ -4,7 +4,7 @@ use Rattle.std.specs.Prelude.{◌==◌, ◌||◌, ◌&&◌, IsSome, not, bytes_e
 use Rattle.std.specs.List.{list_all}
 use Rattle.std.specs.Option.{option_and_then}
 use Rattle.std.proofs.lemmas.Bool.{and_parts, or_cases, or_right, false≢true}
-use Rattle.rmt_check.specs.Parts.{Place, Token, TokenKind, Terminal, Rule, FieldText}
+use Rattle.rmt_check.specs.Parts.{Position, Token, TokenKind, Terminal, Rule, FieldText}
 use Rattle.rmt_syntax.specs.declared.tree.Tree.{Tree, out-Tree}
 use Rattle.rmt_syntax.specs.declared.tree.Tree.TheOpen.{Tree-F}
 use Rattle.rmt_syntax.specs.declared.grammar.Part.{Part}
@@ -36,7 +36,7 @@ given is (x ∷ es) last c e = by (is x.0) e (given is es last c)
     by true k rest = member_here c x.1 (terminals es last) k
     by false k rest = or_right (same x.1 c) (member c (terminals es last)) (rest k)
 
-number_some : (k : TokenKind) (p : Place) → terminal_of k ≡ terminal.Number → IsSome (number_in k p)
+number_some : (k : TokenKind) (p : Position) → terminal_of k ≡ terminal.Number → IsSome (number_in k p)
 number_some (token.Word w) p e = absurd (false≢true (given (λ x. bytes_eq x w) keywords terminal.Name terminal.Number e))
 number_some (token.Number n) p e = refl
 number_some (token.Sign b) p e = absurd (false≢true (given (λ x. x == b) signs terminal.Other terminal.Number e))
@@ -62,7 +62,7 @@ is_other _ = false
 some_mapped : {X Y : Type 0} (f : X → Y) (o : Option X) → IsSome o → IsSome (option_map f o)
 some_mapped f o h = grind arith
 
-behind_some : {Y : Type 0} (a : Option Place) (b : Option Y) → IsSome a → IsSome b → IsSome (behind a b)
+behind_some : {Y : Type 0} (a : Option Position) (b : Option Y) → IsSome a → IsSome b → IsSome (behind a b)
 behind_some a b h g = grind arith
 
 -- the forms of a statement: an `apply` has a name and no field, an `if` a field and what it is compared with

@@ -5,7 +5,7 @@ use Rattle.std.specs.Prelude.{drop}
 use Rattle.std.proofs.lemmas.List.Elements.{All-nil, All-cons, All-head, All-tail}
 use Rattle.std.proofs.lemmas.Option.{none-some}
 use Rattle.rmt_bits.proofs.OptionLaws.{IsSome-value}
-use Rattle.rmt_check.specs.Parts.{Kind, Place, Terminal, Rule, Ident, Number, Declared, CaseText, TailText, TableText}
+use Rattle.rmt_check.specs.Parts.{Kind, Position, Terminal, Rule, Ident, Number, Declared, CaseText, TailText, TableText}
 use Rattle.rmt_syntax.specs.declared.tree.Tree.{Tree, out-Tree}
 use Rattle.rmt_syntax.specs.declared.tree.Tree.TheOpen.{Tree-F}
 use Rattle.rmt_syntax.specs.declared.grammar.Part.{Part}
@@ -84,13 +84,13 @@ IsSound u = WordsArePlain u × IsPart u
 abbrev NotValid : Ident → Type 0
 NotValid i = i.name ≢ codes "valid"
 
-declared_name : (i : Option Ident) (p : Option Place) (n : Option Number) (d : Declared) → joined i p n ≡ Some d → i ≡ Some d.ident
+declared_name : (i : Option Ident) (p : Option Position) (n : Option Number) (d : Declared) → joined i p n ≡ Some d → i ≡ Some d.ident
 declared_name i p n d e = grind arith
 
 declared_plain : (ts : List Tree) (d : Declared) → All WordsArePlain ts → declared_at ts ≡ Some d → NotValid d.ident
 declared_plain ts d h e = (name_at_law ts d.ident h (declared_name (name_at ts) (place_at terminal.Colon (drop 1 ts)) (number_at (drop 2 ts)) d e)).not_valid
 
-tail_name : (p : Option Place) (i : Option Ident) (m n : Option Number) (t : TailText) → tail_text p i m n ≡ Some t → i ≡ Some t.field
+tail_name : (p : Option Position) (i : Option Ident) (m n : Option Number) (t : TailText) → tail_text p i m n ≡ Some t → i ≡ Some t.field
 tail_name p i m n t e = grind arith
 
 tail_plain : (ts : List Tree) (t : TailText) → All WordsArePlain ts → tail_at ts ≡ Some t → NotValid t.field

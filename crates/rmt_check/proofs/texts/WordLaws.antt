@@ -4,7 +4,7 @@ use Rattle.std.specs.List.{take_while, flat_map}
 use Rattle.std.proofs.lemmas.Bool.Decides.{nat_tests}
 use Rattle.std.proofs.lemmas.List.Elements.{All-nil, All-cons, All-head}
 use Rattle.std.proofs.lemmas.List.Sums.{take_while-cons}
-use Rattle.rmt_check.specs.Parts.{Place, ProgramFault, Token, TokenKind, Terminal, Ident}
+use Rattle.rmt_check.specs.Parts.{Position, ProgramFault, Token, TokenKind, Terminal, Ident}
 use Rattle.rmt_lexer.specs.declared.token.TokenKind.TheVariants.{Number, End}
 use Rattle.rmt_lexer.specs.declared.item.Item.{Item}
 use Rattle.rmt_bits.specs.Digits.{is_digit, is_hex, is_hex_number, number_of_digits}
@@ -71,10 +71,10 @@ IsPlainReading (Err f) = Unit {0}
 plain_front : (t : Token) (r : Result (List Token) ProgramFault) → IsPlainWord t → IsPlainReading r → IsPlainReading (with_front t r)
 plain_front t r h rest = grind (arith, All-cons)
 
-plain_read : (at : Place) (i : Item) (rest : ℕ → Result (List Token) ProgramFault) → IsPlain i → ((n : ℕ) → IsPlainReading (rest n)) → IsPlainReading (read_item at i rest)
+plain_read : (at : Position) (i : Item) (rest : ℕ → Result (List Token) ProgramFault) → IsPlain i → ((n : ℕ) → IsPlainReading (rest n)) → IsPlainReading (read_item at i rest)
 plain_read at i rest h more = grind (arith, plain_front)
 
-plain_reading : (more : ℕ) (at : Place) (text : List ℕ) → IsPlainReading (reading more at text)
+plain_reading : (more : ℕ) (at : Position) (text : List ℕ) → IsPlainReading (reading more at text)
 plain_reading more at [] = All-cons IsPlainWord (token_at at End) [] no_word (All-nil IsPlainWord)
 plain_reading (suc more) at (b ∷ bs) = plain_reading more (behind at b) bs
 plain_reading zero at (b ∷ bs) = plain_read at (item_of (b ∷ bs)) (λ len. reading (len - 1) (behind at b) bs) (plain_item (b ∷ bs)) (λ len. plain_reading (len - 1) (behind at b) bs)

@@ -4,7 +4,7 @@ ghost use Rattle.std.specs.Prelude.{◌≡◌, ◌≤◌, ◌-◌, length};
 ghost use Rattle.rmt_check.specs.Names.{named};
 ghost use Rattle.rmt_check.specs.Meaning.{index_of, field_number, action_number, target_of};
 ghost use Rattle.rmt_check.specs.Sizes.{IsSized};
-ghost use Rattle.rmt_check.specs.Standing.{named_at};
+ghost use Rattle.rmt_check.specs.StoredFields.{named_at};
 
 use crate::names::fields::FieldKey;
 use crate::names::lookup::{Lookup, key};

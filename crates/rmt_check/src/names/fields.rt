@@ -3,7 +3,7 @@
 ghost use Rattle.std.specs.Prelude.{◌≡◌, ◌<◌, ◌+◌, ◌^◌, ◌++◌, OnOk, IfOk};
 ghost use Rattle.rmt_check.specs.Names as words;
 ghost use Rattle.rmt_check.specs.Names.{declared_fields, fields_of, header_fields, printed_name};
-ghost use Rattle.rmt_check.specs.Standing.{all_codes, named_at, owner_at, place_among, stored};
+ghost use Rattle.rmt_check.specs.StoredFields.{all_codes, named_at, owner_at, place_among, stored};
 ghost use Rattle.rmt_ast.specs.NameList.{HasNumbers};
 
 use crate::source::{Declared, HeaderText, Source};
@@ -36,7 +36,7 @@ impl<'a> Model for KnownField<'a> {
     ghost use Rattle.std.specs.Prelude.{List, ℕ, option_map};
     ghost use Rattle.std.specs.Borrow.{Bor};
     ghost use Rattle.rmt_check.specs.Names.{Known};
-    ghost use Rattle.rmt_check.specs.Standing.{named_at};
+    ghost use Rattle.rmt_check.specs.StoredFields.{named_at};
 
     ghost Value = { Known };
 
@@ -170,7 +170,7 @@ impl<'a> Model for FieldList<'a> {
     ghost use Rattle.std.specs.Prelude.{List};
     ghost use Rattle.rmt_ast.specs.NameList.{HasNumbers};
     ghost use Rattle.rmt_check.specs.Names.{Known};
-    ghost use Rattle.rmt_check.specs.Standing.{all_codes, stored};
+    ghost use Rattle.rmt_check.specs.StoredFields.{all_codes, stored};
 
     ghost Value = { List Known };
 

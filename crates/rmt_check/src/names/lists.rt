@@ -3,7 +3,7 @@
 ghost use Rattle.std.specs.Prelude.{◌≡◌, [], find, map, option_copied, IfOk};
 ghost use Rattle.std.specs.Str.{bytes_eq};
 ghost use Rattle.rmt_check.specs.Parts.{TableText as TableValue};
-ghost use Rattle.rmt_check.specs.Standing.{list_names};
+ghost use Rattle.rmt_check.specs.StoredFields.{list_names};
 
 use crate::names::labels::Labelled;
 use crate::pairs::both;

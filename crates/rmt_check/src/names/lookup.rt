@@ -4,7 +4,7 @@ ghost use Rattle.std.specs.Prelude.{◌≡◌};
 ghost use Rattle.rmt_check.specs.Parts.{Source as SourceValue};
 ghost use Rattle.rmt_check.specs.Names as words;
 ghost use Rattle.rmt_check.specs.Names.{action_names, fields_of, field_place, header_names, ident_names, listed_by, named, owner_of, params_of, selected, table_names, width_of};
-ghost use Rattle.rmt_check.specs.Standing.{named_at, owner_at};
+ghost use Rattle.rmt_check.specs.StoredFields.{named_at, owner_at};
 
 use crate::names::fields::{FIRST_HEADER, FieldKey, INTRINSIC, KnownField, METADATA};
 use crate::names::lists;

@@ -8,7 +8,7 @@ use crate::reading::lists::{Among, Choice, Part, first_behind, first_choice, par
 use crate::reading::words::{ident_of, no_number};
 use crate::source::{ArmText, NodeText, Under, WhatText};
 use rmt_bits::sequence::Sequence;
-use rmt_lexer::place::Place;
+use rmt_lexer::position::Position;
 use rmt_syntax::terminal::{Terminal, terminal_of};
 use rmt_syntax::tree::{Rule, Tree};
 use std::alloc::{AllocError, Global};
@@ -63,7 +63,7 @@ fn push_node(
     ensures { OnOk result (nodes.new ≡ nodes.old ++ node_text under trees.now ∷ []) }
 {
     nodes.push(NodeText {
-        place: Place::among(alloc, trees)?,
+        place: Position::among(alloc, trees)?,
         under,
         what: what_text(alloc, trees)?,
     })

@@ -7,7 +7,7 @@ ghost use Rattle.rmt_check.specs.Reading.{parts_at, each, first, place_at, seen_
 use crate::reading::words::place_at;
 use crate::rules::places::beyond;
 use rmt_bits::sequence::Sequence;
-use rmt_lexer::place::Place;
+use rmt_lexer::position::Position;
 use rmt_syntax::terminal::Terminal;
 use rmt_syntax::tree::{Rule, Tree};
 use std::alloc::{AllocError, Global};
@@ -113,7 +113,7 @@ pub fn first_behind<T: Part>(
 
 /// The place of the first token of a kind among some trees.
 #[tactic(auto, using(crate::proofs::ReadingLaws::places))]
-pub fn first_place(wanted: Terminal, trees: &[Tree]) -> Option<Place>
+pub fn first_place(wanted: Terminal, trees: &[Tree]) -> Option<Position>
     ensures { result ≡ first (place_at wanted) trees.now }
 {
     for at in 0..trees.len() {

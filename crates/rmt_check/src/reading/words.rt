@@ -7,33 +7,33 @@ use crate::reading::lists::{Among, Part};
 use crate::rules::places::beyond;
 use crate::source::{Declared, Ident, Number};
 use rmt_ast::name::Name;
-use rmt_lexer::place::Place;
+use rmt_lexer::position::Position;
 use rmt_lexer::token::{Token, TokenKind};
 use rmt_syntax::terminal::{Terminal, is_same, terminal_of};
 use rmt_syntax::tree::Tree;
 use std::alloc::{AllocError, Global};
 
 /// The place of a token.
-pub fn place_of(token: &Token) -> Place
+pub fn place_of(token: &Token) -> Position
     ensures { result ≡ place_of token.now }
 {
-    Place {
+    Position {
         line: token.line,
         column: token.column,
     }
 }
 
 /// The place of what is nowhere in a text.
-pub fn nowhere() -> Place
+pub fn nowhere() -> Position
     ensures { result ≡ nowhere }
 {
-    Place { line: 0, column: 0 }
+    Position { line: 0, column: 0 }
 }
 
-impl Part for Place {
+impl Part for Position {
     ghost seen = { token_place };
 
-    fn read(_alloc: Global, trees: &[Tree]) -> Result<Option<Place>, AllocError> {
+    fn read(_alloc: Global, trees: &[Tree]) -> Result<Option<Position>, AllocError> {
         match trees {
             [Tree::One(token), ..] => Ok(Some(place_of(token))),
             _ => Ok(None),
@@ -41,10 +41,10 @@ impl Part for Place {
     }
 }
 
-impl Among for Place {
+impl Among for Position {
     ghost among = { place_among };
 
-    fn among(alloc: Global, trees: &[Tree]) -> Result<Place, AllocError> {
+    fn among(alloc: Global, trees: &[Tree]) -> Result<Position, AllocError> {
         Ok(Option::among(alloc, trees)?.unwrap_or(nowhere()))
     }
 }
@@ -148,7 +148,7 @@ impl Among for Number {
 }
 
 /// The place of the first tree, where it is a token of a kind.
-pub fn place_at(wanted: Terminal, trees: &[Tree]) -> Option<Place>
+pub fn place_at(wanted: Terminal, trees: &[Tree]) -> Option<Position>
     ensures { result ≡ place_at wanted trees.now }
 {
     let [Tree::One(token), ..] = trees else {

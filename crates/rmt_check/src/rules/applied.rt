@@ -12,7 +12,7 @@ use crate::rules::repeats::repeated_names;
 use crate::rules::search::{Flaw, earliest_of};
 use crate::source::{Ident, NodeText, Source, TableText, WhatText};
 use rmt_ast::name_list::NameList;
-use rmt_lexer::place::Place;
+use rmt_lexer::position::Position;
 use std::alloc::{AllocError, Global};
 
 /// The table that a node applies.
@@ -39,7 +39,7 @@ fn applied_tables(alloc: Global, source: &Source) -> Result<Vec<&Ident>, AllocEr
 }
 
 /// Where a table is applied again.
-pub fn applied_twice(alloc: Global, source: &Source) -> Result<Option<Place>, AllocError>
+pub fn applied_twice(alloc: Global, source: &Source) -> Result<Option<Position>, AllocError>
     ensures { IfOk result (λ p. p ≡ earliest (broken_13 source.now)) }
 {
     let tables = applied_tables(alloc, source)?;
@@ -52,14 +52,14 @@ struct Unapplied;
 impl<'a> Flaw<NameList<'a>, TableText> for Unapplied {
     ghost places = { λ applied t. when (not (is_known applied t.ident.name)) t.ident.place };
 
-    fn at(applied: &NameList<'a>, table: &TableText) -> Option<Place> {
+    fn at(applied: &NameList<'a>, table: &TableText) -> Option<Position> {
         let is_applied = applied.knows(table.ident.name.as_slice());
         place_when(!is_applied, table.ident.place)
     }
 }
 
 /// Where a table is declared that no node applies.
-pub fn not_applied(alloc: Global, source: &Source) -> Result<Option<Place>, AllocError>
+pub fn not_applied(alloc: Global, source: &Source) -> Result<Option<Position>, AllocError>
     ensures { IfOk result (λ p. p ≡ earliest (broken_20 source.now)) }
 {
     let tables = applied_tables(alloc, source)?;

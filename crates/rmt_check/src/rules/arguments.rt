@@ -9,7 +9,7 @@ use crate::rules::places::{earlier, place_when};
 use crate::rules::same_width::too_wide;
 use crate::rules::search::{Flaw, PairFlaw, earliest_beside, earliest_of};
 use crate::source::{CaseText, Declared, HeaderText, Number, TableText};
-use rmt_lexer::place::Place;
+use rmt_lexer::position::Position;
 
 /// A case with another number of values than the select has names.
 struct BadCase;
@@ -17,7 +17,7 @@ struct BadCase;
 impl Flaw<HeaderText, CaseText> for BadCase {
     ghost places = { rules.bad_case };
 
-    fn at(header: &HeaderText, case: &CaseText) -> Option<Place> {
+    fn at(header: &HeaderText, case: &CaseText) -> Option<Position> {
         if header.select.len() == case.values.len() {
             return None;
         }
@@ -31,7 +31,7 @@ impl Flaw<HeaderText, CaseText> for BadCase {
 impl Flaw<(), HeaderText> for BadCase {
     ghost places = { λ _ h. rules.bad_cases h };
 
-    fn at(_shared: &(), header: &HeaderText) -> Option<Place> {
+    fn at(_shared: &(), header: &HeaderText) -> Option<Position> {
         earliest_of::<BadCase, _, _>(header, header.cases.as_slice())
     }
 }
@@ -42,7 +42,7 @@ struct WideArgument;
 impl PairFlaw<(), Declared, Number> for WideArgument {
     ghost places = { λ _ x. rules.too_wide x.0.width.value x.1 };
 
-    fn at(_shared: &(), param: &Declared, argument: &Number) -> Option<Place> {
+    fn at(_shared: &(), param: &Declared, argument: &Number) -> Option<Position> {
         too_wide(param.width.value, *argument)
     }
 }
@@ -53,7 +53,7 @@ struct BadDefault;
 impl<N: Lookup> Flaw<N, TableText> for BadDefault {
     ghost places = { λ n t. rules.bad_default (N.text n) t };
 
-    fn at(names: &N, table: &TableText) -> Option<Place> {
+    fn at(names: &N, table: &TableText) -> Option<Position> {
         let params = params(names, table.default.name.as_slice());
         let args = table.args.as_slice();
         earlier(
@@ -64,7 +64,7 @@ impl<N: Lookup> Flaw<N, TableText> for BadDefault {
 }
 
 /// Where the values of a case, or the arguments of a default, are not as they have to be.
-pub fn bad_arguments<N: Lookup>(names: &N) -> Option<Place>
+pub fn bad_arguments<N: Lookup>(names: &N) -> Option<Position>
     ensures { result ≡ earliest (broken_17 (N.text names.now)) }
 {
     let source = names.source();

@@ -11,7 +11,7 @@ use crate::rules::places::place_when;
 use crate::rules::search::{Flaw, earliest_of};
 use crate::source::{ActionText, AssignText, FieldText, LeafText, Sign};
 use rmt_ast::program::Op;
-use rmt_lexer::place::Place;
+use rmt_lexer::position::Position;
 
 fn is_sum(op: Op) -> bool
     ensures { result ≡ rules.is_sum op }
@@ -26,7 +26,7 @@ fn is_sum(op: Op) -> bool
 }
 
 /// Where a sum goes into more than 32 bits.
-fn wide_sign(width: u128, right: &Option<(Sign, LeafText)>) -> Option<Place>
+fn wide_sign(width: u128, right: &Option<(Sign, LeafText)>) -> Option<Position>
     ensures { result ≡ earliest (rules.wide_sign width right.now) }
 {
     match right {
@@ -41,7 +41,7 @@ struct WideSum;
 impl<N: Lookup> Flaw<N, AssignText> for WideSum {
     ghost places = { λ n x. rules.wide_sign (width_of (N.text n) (named (N.text n) x.dest)) x.expr.right };
 
-    fn at(names: &N, assign: &AssignText) -> Option<Place> {
+    fn at(names: &N, assign: &AssignText) -> Option<Position> {
         wide_sign(width_of(names, &assign.dest), &assign.expr.right)
     }
 }
@@ -49,13 +49,13 @@ impl<N: Lookup> Flaw<N, AssignText> for WideSum {
 impl<N: Lookup> Flaw<N, ActionText> for WideSum {
     ghost places = { λ n a. rules.wide_signs (N.text n) a };
 
-    fn at(names: &N, action: &ActionText) -> Option<Place> {
+    fn at(names: &N, action: &ActionText) -> Option<Position> {
         earliest_of::<WideSum, _, _>(names, action.assigns.as_slice())
     }
 }
 
 /// Where `+` or `-` goes into a field of more than 32 bits.
-pub fn wide_arithmetic<N: Lookup>(names: &N) -> Option<Place>
+pub fn wide_arithmetic<N: Lookup>(names: &N) -> Option<Position>
     ensures { result ≡ earliest (broken_11 (N.text names.now)) }
 {
     let source = names.source();
@@ -76,7 +76,7 @@ struct WrittenPort;
 impl<N: Lookup> Flaw<N, AssignText> for WrittenPort {
     ghost places = { λ n x. when (same_field (named (N.text n) x.dest) in_port) x.dest.place };
 
-    fn at(names: &N, assign: &AssignText) -> Option<Place> {
+    fn at(names: &N, assign: &AssignText) -> Option<Position> {
         place_when(is_in_port(names, &assign.dest), assign.dest.place)
     }
 }
@@ -84,13 +84,13 @@ impl<N: Lookup> Flaw<N, AssignText> for WrittenPort {
 impl<N: Lookup> Flaw<N, ActionText> for WrittenPort {
     ghost places = { λ n a. rules.written_ports (N.text n) a };
 
-    fn at(names: &N, action: &ActionText) -> Option<Place> {
+    fn at(names: &N, action: &ActionText) -> Option<Position> {
         earliest_of::<WrittenPort, _, _>(names, action.assigns.as_slice())
     }
 }
 
 /// Where `in_port` is assigned.
-pub fn read_only<N: Lookup>(names: &N) -> Option<Place>
+pub fn read_only<N: Lookup>(names: &N) -> Option<Position>
     ensures { result ≡ earliest (broken_12 (N.text names.now)) }
 {
     let source = names.source();

@@ -9,7 +9,7 @@ use crate::rules::parts::{listed, metadata, nodes_of};
 use crate::rules::places::{earlier, earliest_beyond, place_when};
 use crate::rules::search::{Flaw, earliest_of};
 use crate::source::{ActionText, MetaText, Source, TableText};
-use rmt_lexer::place::Place;
+use rmt_lexer::position::Position;
 use std::alloc::{AllocError, Global};
 
 /// A list of more than 14 actions.
@@ -18,13 +18,13 @@ struct TooManyListed;
 impl Flaw<(), TableText> for TooManyListed {
     ghost places = { λ _ t. many_listed t };
 
-    fn at(_shared: &(), table: &TableText) -> Option<Place> {
+    fn at(_shared: &(), table: &TableText) -> Option<Position> {
         earliest_beyond(14, listed(table))
     }
 }
 
 /// Where a table lists more than 14 actions.
-pub fn too_many_actions(source: &Source) -> Option<Place>
+pub fn too_many_actions(source: &Source) -> Option<Position>
     ensures { result ≡ earliest (broken_16 source.now) }
 {
     earliest_of::<TooManyListed, _, _>(&(), source.tables.as_slice())
@@ -36,7 +36,7 @@ struct BadSize;
 impl Flaw<(), TableText> for BadSize {
     ghost places = { λ _ t. bad_size_of t };
 
-    fn at(_shared: &(), table: &TableText) -> Option<Place> {
+    fn at(_shared: &(), table: &TableText) -> Option<Position> {
         match &table.key {
             Some(key) => {
                 let size = key.size.value;
@@ -53,7 +53,7 @@ struct TooManyParams;
 impl Flaw<(), ActionText> for TooManyParams {
     ghost places = { λ _ a. many_params a };
 
-    fn at(_shared: &(), action: &ActionText) -> Option<Place> {
+    fn at(_shared: &(), action: &ActionText) -> Option<Position> {
         earliest_beyond(16, action.params.as_slice())
     }
 }
@@ -64,13 +64,13 @@ struct TooManyAssigns;
 impl Flaw<(), ActionText> for TooManyAssigns {
     ghost places = { λ _ a. many_assigns a };
 
-    fn at(_shared: &(), action: &ActionText) -> Option<Place> {
+    fn at(_shared: &(), action: &ActionText) -> Option<Position> {
         earliest_beyond(64, action.assigns.as_slice())
     }
 }
 
 /// Where there are more than 256 metadata fields.
-fn too_many_meta_fields(alloc: Global, metas: &[MetaText]) -> Result<Option<Place>, AllocError>
+fn too_many_meta_fields(alloc: Global, metas: &[MetaText]) -> Result<Option<Position>, AllocError>
     ensures { IfOk result (λ p. p ≡ earliest (places (drop 256 (declared_names (flat_map (λ m. m.fields) metas.now))))) }
 {
     let fields = metadata(alloc, metas)?;
@@ -79,13 +79,13 @@ fn too_many_meta_fields(alloc: Global, metas: &[MetaText]) -> Result<Option<Plac
 
 /// Where a limit on a number is broken, be it of headers, actions, parameters, assignments, metadata fields, nodes
 /// or entries of a table.
-pub fn count_limit(alloc: Global, source: &Source) -> Result<Option<Place>, AllocError>
+pub fn count_limit(alloc: Global, source: &Source) -> Result<Option<Position>, AllocError>
     ensures { IfOk result (λ p. p ≡ earliest (broken_18 source.now)) }
 {
     let headers = source.headers.as_slice();
     let metas = source.metas.as_slice();
     let actions = source.actions.as_slice();
-    let no_header = place_when(headers.len() == 0, Place { line: 1, column: 1 });
+    let no_header = place_when(headers.len() == 0, Position { line: 1, column: 1 });
     let header = earliest_beyond(64, headers);
     let action = earliest_beyond(256, actions);
     let param = earliest_of::<TooManyParams, _, _>(&(), actions);
@@ -98,7 +98,7 @@ pub fn count_limit(alloc: Global, source: &Source) -> Result<Option<Place>, Allo
 }
 
 /// The end of the text, where there is no control.
-pub fn no_control(source: &Source) -> Option<Place>
+pub fn no_control(source: &Source) -> Option<Position>
     ensures { result ≡ earliest (broken_19 source.now) }
 {
     place_when(source.control.is_none(), source.end)

@@ -14,11 +14,11 @@ use crate::rules::search::{Flaw, TryFlaw, earliest_of, try_earliest_of};
 use crate::rules::sums::{Wide, sum_up_to};
 use crate::source::{FieldText, HeaderText, TableText};
 use rmt_ast::program::Kind;
-use rmt_lexer::place::Place;
+use rmt_lexer::position::Position;
 use std::alloc::{AllocError, Global};
 
 /// Where a prefix key has a second field.
-fn further_prefix(kind: Kind, fields: &[FieldText]) -> Option<Place>
+fn further_prefix(kind: Kind, fields: &[FieldText]) -> Option<Position>
     ensures { result ≡ earliest (rules.further_prefix kind fields.now) }
 {
     match kind {
@@ -34,7 +34,7 @@ fn repeated_fields<N: Lookup>(
     alloc: Global,
     names: &N,
     fields: &[FieldText],
-) -> Result<Option<Place>, AllocError>
+) -> Result<Option<Position>, AllocError>
     ensures { IfOk result (λ p. p ≡ earliest (rules.repeated_fields (N.text names.now) fields.now)) }
 {
     let mut marks = Vec::new(alloc);
@@ -50,7 +50,7 @@ struct BadKey;
 impl<N: Lookup> TryFlaw<N, TableText> for BadKey {
     ghost places = { λ n t. rules.bad_key_of (N.text n) t };
 
-    fn at(alloc: Global, names: &N, table: &TableText) -> Result<Option<Place>, AllocError> {
+    fn at(alloc: Global, names: &N, table: &TableText) -> Result<Option<Position>, AllocError> {
         match &table.key {
             Some(key) => {
                 let fields = key.fields.as_slice();
@@ -69,13 +69,13 @@ struct RepeatedSelect;
 impl TryFlaw<(), HeaderText> for RepeatedSelect {
     ghost places = { λ _ h. rules.repeated_select h };
 
-    fn at(alloc: Global, _shared: &(), header: &HeaderText) -> Result<Option<Place>, AllocError> {
+    fn at(alloc: Global, _shared: &(), header: &HeaderText) -> Result<Option<Position>, AllocError> {
         repeated_idents(alloc, header.select.as_slice())
     }
 }
 
 /// Where a prefix key has a second field, or a key or a select has a field twice.
-pub fn key_kinds<N: Lookup>(alloc: Global, names: &N) -> Result<Option<Place>, AllocError>
+pub fn key_kinds<N: Lookup>(alloc: Global, names: &N) -> Result<Option<Position>, AllocError>
     ensures { IfOk result (λ p. p ≡ earliest (broken_14 (N.text names.now))) }
 {
     let source = names.source();
@@ -100,14 +100,14 @@ struct LongKey;
 impl<N: Lookup> Flaw<N, TableText> for LongKey {
     ghost places = { λ n t. rules.long_key (N.text n) t };
 
-    fn at(names: &N, table: &TableText) -> Option<Place> {
+    fn at(names: &N, table: &TableText) -> Option<Position> {
         let bits = sum_up_to(641, names, key_fields(table));
         place_when(bits > 640, table.ident.place)
     }
 }
 
 /// Where a table's key is of more than 640 bits.
-pub fn key_too_wide<N: Lookup>(names: &N) -> Option<Place>
+pub fn key_too_wide<N: Lookup>(names: &N) -> Option<Position>
     ensures { result ≡ earliest (broken_15 (N.text names.now)) }
 {
     let source = names.source();

@@ -10,7 +10,7 @@ use crate::rules::parts::target_names;
 use crate::rules::places::{earlier, place_when};
 use crate::rules::search::{Flaw, earliest_of};
 use crate::source::{CaseText, HeaderText, Ident};
-use rmt_lexer::place::Place;
+use rmt_lexer::position::Position;
 
 fn is_at_most(number: Option<usize>, limit: usize) -> bool
     ensures { result ≡ rules.is_at_most number limit }
@@ -27,7 +27,7 @@ struct NotLater;
 impl<'a, N: Lookup> Flaw<(&'a N, usize), Ident> for NotLater {
     ghost places = { λ c i. rules.not_later (N.text c.0.now) c.1 i };
 
-    fn at(shared: &(&'a N, usize), ident: &Ident) -> Option<Place> {
+    fn at(shared: &(&'a N, usize), ident: &Ident) -> Option<Position> {
         let (names, number) = *shared;
         let found = names.headers().number(ident.name.as_slice());
         place_when(is_at_most(found, number), ident.place)
@@ -37,13 +37,13 @@ impl<'a, N: Lookup> Flaw<(&'a N, usize), Ident> for NotLater {
 impl<'a, N: Lookup> Flaw<(&'a N, usize), CaseText> for NotLater {
     ghost places = { λ c x. flat_map (rules.not_later (N.text c.0.now) c.1) (rules.target_names x.target) };
 
-    fn at(shared: &(&'a N, usize), case: &CaseText) -> Option<Place> {
+    fn at(shared: &(&'a N, usize), case: &CaseText) -> Option<Position> {
         earliest_of::<NotLater, _, _>(shared, target_names(&case.target))
     }
 }
 
 /// Where a target of a header is declared at or before it.
-fn early_target<N: Lookup>(names: &N, number: usize, header: &HeaderText) -> Option<Place>
+fn early_target<N: Lookup>(names: &N, number: usize, header: &HeaderText) -> Option<Position>
     ensures { result ≡ earliest (flat_map (rules.not_later (N.text names.now) number) (targets header.now)) }
 {
     let shared = (names, number);
@@ -54,7 +54,7 @@ fn early_target<N: Lookup>(names: &N, number: usize, header: &HeaderText) -> Opt
 }
 
 /// Where a header goes on to itself or to one declared before.
-pub fn target_not_later<N: Lookup>(names: &N) -> Option<Place>
+pub fn target_not_later<N: Lookup>(names: &N) -> Option<Position>
     ensures { result ≡ earliest (broken_9 (N.text names.now)) }
 {
     let headers = names.source().headers.as_slice();

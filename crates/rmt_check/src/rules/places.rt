@@ -1,25 +1,25 @@
 //! The earlier of two places in a text, and the earliest place of the items beyond a limit.
 
 ghost use Rattle.std.specs.Prelude.{◌≡◌, ◌++◌, List, drop, map};
-ghost use Rattle.rmt_check.specs.Parts.{Place as PlaceValue};
+ghost use Rattle.rmt_check.specs.Parts.{Position as PlaceValue};
 ghost use Rattle.rmt_check.specs.Rules as rules;
 
 use crate::names::labels::Labelled;
 use crate::source::{AssignText, FieldText, MetaText, NodeText};
-use rmt_lexer::place::Place;
+use rmt_lexer::position::Position;
 
 /// What stands at a place, at which it is told that there is too much of it.
 pub trait Placed {
     ghost place_of: { Self → PlaceValue };
 
-    fn place(&self) -> Place
+    fn place(&self) -> Position
         ensures { result ≡ place_of self.now };
 }
 
 impl<T: Labelled> Placed for T {
     ghost place_of = { λ x. (T.ident_of x).place };
 
-    fn place(&self) -> Place {
+    fn place(&self) -> Position {
         self.ident().place
     }
 }
@@ -27,7 +27,7 @@ impl<T: Labelled> Placed for T {
 impl Placed for MetaText {
     ghost place_of = { λ m. m.place };
 
-    fn place(&self) -> Place {
+    fn place(&self) -> Position {
         self.place
     }
 }
@@ -35,7 +35,7 @@ impl Placed for MetaText {
 impl Placed for AssignText {
     ghost place_of = { λ x. x.dest.place };
 
-    fn place(&self) -> Place {
+    fn place(&self) -> Position {
         self.dest.place
     }
 }
@@ -43,7 +43,7 @@ impl Placed for AssignText {
 impl Placed for FieldText {
     ghost place_of = { λ f. f.place };
 
-    fn place(&self) -> Place {
+    fn place(&self) -> Position {
         self.place
     }
 }
@@ -51,13 +51,13 @@ impl Placed for FieldText {
 impl Placed for NodeText {
     ghost place_of = { λ n. n.place };
 
-    fn place(&self) -> Place {
+    fn place(&self) -> Position {
         self.place
     }
 }
 
 /// Whether a place is before another.
-fn is_before(a: Place, b: Place) -> bool
+fn is_before(a: Position, b: Position) -> bool
     ensures { result ≡ rules.is_before a b }
 {
     a.line < b.line || (a.line == b.line && a.column < b.column)
@@ -65,7 +65,7 @@ fn is_before(a: Place, b: Place) -> bool
 
 /// The earlier of two places, where there are two.
 #[tactic(auto, using(crate::proofs::Earliest::joins))]
-pub fn earlier(a: Option<Place>, b: Option<Place>) -> Option<Place>
+pub fn earlier(a: Option<Position>, b: Option<Position>) -> Option<Position>
     ensures value { result ≡ rules.earlier a b }
     ensures joined { (xs ys : List PlaceValue) → a ≡ rules.earliest xs → b ≡ rules.earliest ys → result ≡ rules.earliest (xs ++ ys) }
 {
@@ -77,7 +77,7 @@ pub fn earlier(a: Option<Place>, b: Option<Place>) -> Option<Place>
 }
 
 /// The place, where something is broken there.
-pub fn place_when(broken: bool, place: Place) -> Option<Place>
+pub fn place_when(broken: bool, place: Position) -> Option<Position>
     ensures { result ≡ rules.earliest (rules.when broken place) }
 {
     if broken { Some(place) } else { None }
@@ -95,7 +95,7 @@ pub fn beyond<T>(limit: usize, items: &[T]) -> &[T]
 }
 
 /// The earliest place of the items beyond the first so many.
-pub fn earliest_beyond<T: Placed>(limit: usize, items: &[T]) -> Option<Place>
+pub fn earliest_beyond<T: Placed>(limit: usize, items: &[T]) -> Option<Position>
     ensures { result ≡ rules.earliest (map T.place_of (drop limit items.now)) }
 {
     let further = beyond(limit, items);

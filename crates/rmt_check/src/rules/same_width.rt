@@ -17,7 +17,7 @@ use crate::source::{
     ActionText, AssignText, CaseText, HeaderText, Ident, LeafText, NodeText, Number, ValueText,
     WhatText,
 };
-use rmt_lexer::place::Place;
+use rmt_lexer::position::Position;
 use std::alloc::{AllocError, Global};
 
 /// Whether a number is of at most so many bits.
@@ -28,7 +28,7 @@ fn fits(width: u128, number: u128) -> bool
 }
 
 /// Where a number does not fit a width.
-pub fn too_wide(width: u128, number: Number) -> Option<Place>
+pub fn too_wide(width: u128, number: Number) -> Option<Position>
     ensures { result ≡ earliest (rules.too_wide width number) }
 {
     place_when(!fits(width, number.value), number.place)
@@ -40,7 +40,7 @@ fn differs<N: Lookup>(
     action: &ActionNames<'_>,
     width: u128,
     leaf: &LeafText,
-) -> Option<Place>
+) -> Option<Position>
     ensures { result ≡ earliest (rules.differs (N.text names.now) action.now width leaf.now) }
 {
     match leaf {
@@ -59,7 +59,7 @@ struct OtherWidth;
 impl<'a, N: Lookup> Flaw<InAction<'a, N>, AssignText> for OtherWidth {
     ghost places = { λ c x. flat_map (rules.differs (N.text c.0.now) c.1 (width_of (N.text c.0.now) (named (N.text c.0.now) x.dest))) (operands x.expr) };
 
-    fn at(shared: &InAction<'a, N>, assign: &AssignText) -> Option<Place> {
+    fn at(shared: &InAction<'a, N>, assign: &AssignText) -> Option<Position> {
         let (names, action) = shared;
         let width = width_of(*names, &assign.dest);
         let left = differs(*names, action, width, &assign.expr.left);
@@ -73,14 +73,14 @@ impl<'a, N: Lookup> Flaw<InAction<'a, N>, AssignText> for OtherWidth {
 impl<N: Lookup> TryFlaw<N, ActionText> for OtherWidth {
     ghost places = { λ n a. rules.operand_widths (N.text n) a };
 
-    fn at(alloc: Global, names: &N, action: &ActionText) -> Result<Option<Place>, AllocError> {
+    fn at(alloc: Global, names: &N, action: &ActionText) -> Result<Option<Position>, AllocError> {
         let own = ActionNames::of(alloc, action)?;
         Ok(earliest_of::<OtherWidth, _, _>(&(names, own), action.assigns.as_slice()))
     }
 }
 
 /// Where a value, or its mask, does not fit a width.
-fn too_wide_value(width: u128, value: ValueText) -> Option<Place>
+fn too_wide_value(width: u128, value: ValueText) -> Option<Position>
     ensures { result ≡ earliest (rules.too_wide_value width value) }
 {
     let own = too_wide(width, value.value);
@@ -96,7 +96,7 @@ struct TooWide;
 impl<'a, N: Lookup> PairFlaw<InHeader<'a, N>, Ident, ValueText> for TooWide {
     ghost places = { λ c x. rules.too_wide_value (width_of (N.text c.0.now) (selected (N.text c.0.now) c.1.now x.0)) x.1 };
 
-    fn at(shared: &InHeader<'a, N>, ident: &Ident, value: &ValueText) -> Option<Place> {
+    fn at(shared: &InHeader<'a, N>, ident: &Ident, value: &ValueText) -> Option<Position> {
         let (names, header) = *shared;
         too_wide_value(width(names, own_key(names, header, ident)), *value)
     }
@@ -105,7 +105,7 @@ impl<'a, N: Lookup> PairFlaw<InHeader<'a, N>, Ident, ValueText> for TooWide {
 impl<'a, N: Lookup> Flaw<InHeader<'a, N>, CaseText> for TooWide {
     ghost places = { λ c x. rules.too_wide_case (N.text c.0.now) c.1.now x };
 
-    fn at(shared: &InHeader<'a, N>, case: &CaseText) -> Option<Place> {
+    fn at(shared: &InHeader<'a, N>, case: &CaseText) -> Option<Position> {
         let (_, header) = *shared;
         earliest_beside::<TooWide, _, _, _>(
             shared,
@@ -118,7 +118,7 @@ impl<'a, N: Lookup> Flaw<InHeader<'a, N>, CaseText> for TooWide {
 impl<N: Lookup> Flaw<N, HeaderText> for TooWide {
     ghost places = { λ n h. rules.case_widths (N.text n) h };
 
-    fn at(names: &N, header: &HeaderText) -> Option<Place> {
+    fn at(names: &N, header: &HeaderText) -> Option<Position> {
         earliest_of::<TooWide, _, _>(&(names, header), header.cases.as_slice())
     }
 }
@@ -126,7 +126,7 @@ impl<N: Lookup> Flaw<N, HeaderText> for TooWide {
 impl<N: Lookup> Flaw<N, NodeText> for TooWide {
     ghost places = { λ n x. rules.gate_widths (N.text n) x };
 
-    fn at(names: &N, node: &NodeText) -> Option<Place> {
+    fn at(names: &N, node: &NodeText) -> Option<Position> {
         match &node.what {
             WhatText::Apply { .. } => None,
             WhatText::If { field, mask, value } => {
@@ -144,7 +144,7 @@ impl<N: Lookup> Flaw<N, NodeText> for TooWide {
 }
 
 /// Where an operand is not of the width of the assigned field, or a number does not fit its field.
-pub fn widths_differ<N: Lookup>(alloc: Global, names: &N) -> Result<Option<Place>, AllocError>
+pub fn widths_differ<N: Lookup>(alloc: Global, names: &N) -> Result<Option<Position>, AllocError>
     ensures { IfOk result (λ p. p ≡ earliest (broken_10 (N.text names.now))) }
 {
     let source = names.source();

@@ -2,11 +2,11 @@
 
 ghost use Rattle.std.specs.Prelude.{◌≡◌, IfOk, List, zip};
 ghost use Rattle.std.specs.List.{flat_map};
-ghost use Rattle.rmt_check.specs.Parts.{Place as PlaceValue};
+ghost use Rattle.rmt_check.specs.Parts.{Position as PlaceValue};
 ghost use Rattle.rmt_check.specs.Rules.{earliest};
 
 use crate::rules::places::earlier;
-use rmt_lexer::place::Place;
+use rmt_lexer::position::Position;
 use std::alloc::{AllocError, Global};
 
 /// What may be wrong with an item of a text, which is looked at with what all items share.
@@ -14,12 +14,12 @@ pub trait Flaw<C, T> {
     ghost places: { C → T → List PlaceValue };
 
     /// The earliest place at which it is wrong.
-    fn at(shared: &C, item: &T) -> Option<Place>
+    fn at(shared: &C, item: &T) -> Option<Position>
         ensures { result ≡ earliest (places shared.now item.now) };
 }
 
 /// The earliest place of a flaw in some items.
-pub fn earliest_of<F, C, T>(shared: &C, items: &[T]) -> Option<Place>
+pub fn earliest_of<F, C, T>(shared: &C, items: &[T]) -> Option<Position>
 where
     F: Flaw<C, T>,
     ensures { result ≡ earliest (flat_map (F.places shared.now) items.now) }
@@ -36,7 +36,7 @@ pub trait TryFlaw<C, T> {
     ghost places: { C → T → List PlaceValue };
 
     /// The earliest place at which an item is wrong.
-    fn at(alloc: Global, shared: &C, item: &T) -> Result<Option<Place>, AllocError>
+    fn at(alloc: Global, shared: &C, item: &T) -> Result<Option<Position>, AllocError>
         ensures { IfOk result (λ p. p ≡ earliest (places shared.now item.now)) };
 }
 
@@ -45,7 +45,7 @@ pub fn try_earliest_of<F, C, T>(
     alloc: Global,
     shared: &C,
     items: &[T],
-) -> Result<Option<Place>, AllocError>
+) -> Result<Option<Position>, AllocError>
 where
     F: TryFlaw<C, T>,
     ensures { IfOk result (λ p. p ≡ earliest (flat_map (F.places shared.now) items.now)) }
@@ -62,12 +62,12 @@ pub trait PairFlaw<C, T, U> {
     ghost places: { C → T × U → List PlaceValue };
 
     /// The earliest place at which the two are wrong.
-    fn at(shared: &C, item: &T, other: &U) -> Option<Place>
+    fn at(shared: &C, item: &T, other: &U) -> Option<Position>
         ensures { result ≡ earliest (places shared.now (item.now, other.now)) };
 }
 
 /// The earliest place of such a flaw in two lists, as far as both go.
-pub fn earliest_beside<F, C, T, U>(shared: &C, items: &[T], others: &[U]) -> Option<Place>
+pub fn earliest_beside<F, C, T, U>(shared: &C, items: &[T], others: &[U]) -> Option<Position>
 where
     F: PairFlaw<C, T, U>,
     ensures { result ≡ earliest (flat_map (F.places shared.now) (zip items.now others.now)) }

@@ -5,7 +5,7 @@ ghost use Rattle.rmt_ast.specs.NameList.{is_known};
 ghost use Rattle.rmt_check.specs.Names.{is_field, selected};
 ghost use Rattle.rmt_check.specs.Rules as rules;
 ghost use Rattle.rmt_check.specs.Rules.{broken_6, earliest, unknown, when};
-ghost use Rattle.rmt_check.specs.Standing.{named_at};
+ghost use Rattle.rmt_check.specs.StoredFields.{named_at};
 
 use crate::names::fields::FieldKey;
 use crate::names::lookup::{InHeader, Lookup, key, own_key};
@@ -18,7 +18,7 @@ use crate::source::{
     OwnerText, TableText, WhatText,
 };
 use rmt_ast::name_list::NameList;
-use rmt_lexer::place::Place;
+use rmt_lexer::position::Position;
 use std::alloc::{AllocError, Global};
 use std::slice;
 
@@ -28,20 +28,20 @@ struct Unknown;
 impl<'a> Flaw<NameList<'a>, Ident> for Unknown {
     ghost places = { λ names i. when (not (is_known names i.name)) i.place };
 
-    fn at(names: &NameList<'a>, ident: &Ident) -> Option<Place> {
+    fn at(names: &NameList<'a>, ident: &Ident) -> Option<Position> {
         place_when(!names.knows(ident.name.as_slice()), ident.place)
     }
 }
 
 /// The earliest place of a name that is not among these.
-fn unknown_among(names: &NameList<'_>, idents: &[Ident]) -> Option<Place>
+fn unknown_among(names: &NameList<'_>, idents: &[Ident]) -> Option<Position>
     ensures { result ≡ earliest (unknown names.now idents.now) }
 {
     earliest_of::<Unknown, _, _>(names, idents)
 }
 
 /// Where a name is not among these.
-fn unknown_one(names: &NameList<'_>, ident: &Ident) -> Option<Place>
+fn unknown_one(names: &NameList<'_>, ident: &Ident) -> Option<Position>
     ensures { result ≡ earliest (unknown names.now (ident.now ∷ [])) }
 {
     unknown_among(names, slice::from_ref(ident))
@@ -50,7 +50,7 @@ fn unknown_one(names: &NameList<'_>, ident: &Ident) -> Option<Place>
 impl<'a> Flaw<NameList<'a>, CaseText> for Unknown {
     ghost places = { λ names c. unknown names (rules.target_names c.target) };
 
-    fn at(names: &NameList<'a>, case: &CaseText) -> Option<Place> {
+    fn at(names: &NameList<'a>, case: &CaseText) -> Option<Position> {
         unknown_among(names, target_names(&case.target))
     }
 }
@@ -58,13 +58,13 @@ impl<'a> Flaw<NameList<'a>, CaseText> for Unknown {
 impl<'a> Flaw<NameList<'a>, ArmText> for Unknown {
     ghost places = { λ names a. unknown names (rules.arm_names a) };
 
-    fn at(names: &NameList<'a>, arm: &ArmText) -> Option<Place> {
+    fn at(names: &NameList<'a>, arm: &ArmText) -> Option<Position> {
         unknown_among(names, arm_names(arm))
     }
 }
 
 /// Where a field's header is not declared.
-fn unknown_owner<N: Lookup>(names: &N, owner: &OwnerText) -> Option<Place>
+fn unknown_owner<N: Lookup>(names: &N, owner: &OwnerText) -> Option<Position>
     ensures { result ≡ earliest (rules.unknown_owner (N.text names.now) owner.now) }
 {
     match owner {
@@ -75,14 +75,14 @@ fn unknown_owner<N: Lookup>(names: &N, owner: &OwnerText) -> Option<Place>
 }
 
 /// The place, where no field has the key.
-fn unknown_key<N: Lookup>(names: &N, key: FieldKey<'_>, place: Place) -> Option<Place>
+fn unknown_key<N: Lookup>(names: &N, key: FieldKey<'_>, place: Position) -> Option<Position>
     ensures { result ≡ earliest (when (not (is_field (N.text names.now) (named_at key.entry))) place) }
 {
     place_when(names.field(key).is_none(), place)
 }
 
 /// Where a field, or its header, is not declared.
-fn unknown_field<N: Lookup>(names: &N, field: &FieldText) -> Option<Place>
+fn unknown_field<N: Lookup>(names: &N, field: &FieldText) -> Option<Position>
     ensures { result ≡ earliest (rules.unknown_field (N.text names.now) field.now) }
 {
     earlier(
@@ -97,7 +97,7 @@ struct UnknownField;
 impl<N: Lookup> Flaw<N, FieldText> for UnknownField {
     ghost places = { λ n f. rules.unknown_field (N.text n) f };
 
-    fn at(names: &N, field: &FieldText) -> Option<Place> {
+    fn at(names: &N, field: &FieldText) -> Option<Position> {
         unknown_field(names, field)
     }
 }
@@ -108,7 +108,7 @@ struct UnknownTarget;
 impl<N: Lookup> Flaw<N, HeaderText> for UnknownTarget {
     ghost places = { λ n h. rules.unknown_targets (N.text n) h };
 
-    fn at(names: &N, header: &HeaderText) -> Option<Place> {
+    fn at(names: &N, header: &HeaderText) -> Option<Position> {
         let headers = names.headers();
         earlier(
             earliest_of::<Unknown, _, _>(headers, header.cases.as_slice()),
@@ -123,7 +123,7 @@ struct UnknownOwn;
 impl<'a, N: Lookup> Flaw<InHeader<'a, N>, Ident> for UnknownOwn {
     ghost places = { λ c i. when (not (is_field (N.text c.0.now) (selected (N.text c.0.now) c.1.now i))) i.place };
 
-    fn at(shared: &InHeader<'a, N>, ident: &Ident) -> Option<Place> {
+    fn at(shared: &InHeader<'a, N>, ident: &Ident) -> Option<Position> {
         let (names, header) = *shared;
         unknown_key(names, own_key(names, header, ident), ident.place)
     }
@@ -132,7 +132,7 @@ impl<'a, N: Lookup> Flaw<InHeader<'a, N>, Ident> for UnknownOwn {
 impl<N: Lookup> Flaw<N, HeaderText> for UnknownOwn {
     ghost places = { λ n h. rules.unknown_own (N.text n) h };
 
-    fn at(names: &N, header: &HeaderText) -> Option<Place> {
+    fn at(names: &N, header: &HeaderText) -> Option<Position> {
         let shared = (names, header);
         let select = earliest_of::<UnknownOwn, _, _>(&shared, header.select.as_slice());
         match &header.tail {
@@ -143,7 +143,7 @@ impl<N: Lookup> Flaw<N, HeaderText> for UnknownOwn {
 }
 
 /// Where an operand is not declared.
-fn unknown_leaf<N: Lookup>(names: &N, action: &ActionNames<'_>, leaf: &LeafText) -> Option<Place>
+fn unknown_leaf<N: Lookup>(names: &N, action: &ActionNames<'_>, leaf: &LeafText) -> Option<Position>
     ensures { result ≡ earliest (rules.unknown_leaf (N.text names.now) action.now leaf.now) }
 {
     match leaf {
@@ -159,7 +159,7 @@ struct UnknownInAssign;
 impl<'a, N: Lookup> Flaw<InAction<'a, N>, AssignText> for UnknownInAssign {
     ghost places = { λ c x. rules.unknown_assign (N.text c.0.now) c.1 x };
 
-    fn at(shared: &InAction<'a, N>, assign: &AssignText) -> Option<Place> {
+    fn at(shared: &InAction<'a, N>, assign: &AssignText) -> Option<Position> {
         let (names, action) = shared;
         let dest = unknown_field(*names, &assign.dest);
         let left = unknown_leaf(*names, action, &assign.expr.left);
@@ -173,7 +173,7 @@ impl<'a, N: Lookup> Flaw<InAction<'a, N>, AssignText> for UnknownInAssign {
 impl<N: Lookup> TryFlaw<N, ActionText> for UnknownInAssign {
     ghost places = { λ n a. rules.unknown_in_action (N.text n) a };
 
-    fn at(alloc: Global, names: &N, action: &ActionText) -> Result<Option<Place>, AllocError> {
+    fn at(alloc: Global, names: &N, action: &ActionText) -> Result<Option<Position>, AllocError> {
         let own = ActionNames::of(alloc, action)?;
         let assigns = action.assigns.as_slice();
         Ok(earliest_of::<UnknownInAssign, _, _>(&(names, own), assigns))
@@ -186,7 +186,7 @@ struct UnknownInTable;
 impl<N: Lookup> Flaw<N, TableText> for UnknownInTable {
     ghost places = { λ n t. rules.unknown_in_table (N.text n) t };
 
-    fn at(names: &N, table: &TableText) -> Option<Place> {
+    fn at(names: &N, table: &TableText) -> Option<Position> {
         let fields = earliest_of::<UnknownField, _, _>(names, key_fields(table));
         let actions = unknown_among(names.actions(), listed(table));
         earlier(
@@ -202,7 +202,7 @@ struct UnknownInNode;
 impl<N: Lookup> Flaw<N, NodeText> for UnknownInNode {
     ghost places = { λ n x. rules.unknown_at_node (N.text n) x };
 
-    fn at(names: &N, node: &NodeText) -> Option<Place> {
+    fn at(names: &N, node: &NodeText) -> Option<Position> {
         match &node.what {
             WhatText::Apply { table, arms } => {
                 let list = names.list(table.name.as_slice());
@@ -217,7 +217,7 @@ impl<N: Lookup> Flaw<N, NodeText> for UnknownInNode {
 }
 
 /// Where a name is not declared.
-pub fn unknown_name<N: Lookup>(alloc: Global, names: &N) -> Result<Option<Place>, AllocError>
+pub fn unknown_name<N: Lookup>(alloc: Global, names: &N) -> Result<Option<Position>, AllocError>
     ensures { IfOk result (λ p. p ≡ earliest (broken_6 (N.text names.now))) }
 {
     let source = names.source();

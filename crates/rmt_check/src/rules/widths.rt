@@ -9,7 +9,7 @@ use crate::rules::places::{earlier, place_when};
 use crate::rules::search::{Flaw, earliest_of};
 use crate::rules::sums::{Wide, sum_up_to};
 use crate::source::{ActionText, Declared, HeaderText, MetaText, Source};
-use rmt_lexer::place::Place;
+use rmt_lexer::position::Position;
 
 /// A width that is not from 1 to 128.
 struct NoWidth;
@@ -17,7 +17,7 @@ struct NoWidth;
 impl Flaw<(), Declared> for NoWidth {
     ghost places = { λ _ d. when (not (is_width d.width.value)) d.width.place };
 
-    fn at(_shared: &(), declared: &Declared) -> Option<Place> {
+    fn at(_shared: &(), declared: &Declared) -> Option<Position> {
         let width = declared.width.value;
         place_when(!(width >= 1 && width <= 128), declared.width.place)
     }
@@ -26,7 +26,7 @@ impl Flaw<(), Declared> for NoWidth {
 impl Flaw<(), HeaderText> for NoWidth {
     ghost places = { λ _ h. field_widths h };
 
-    fn at(_shared: &(), header: &HeaderText) -> Option<Place> {
+    fn at(_shared: &(), header: &HeaderText) -> Option<Position> {
         earliest_of::<NoWidth, _, _>(&(), header.fields.as_slice())
     }
 }
@@ -34,7 +34,7 @@ impl Flaw<(), HeaderText> for NoWidth {
 impl Flaw<(), MetaText> for NoWidth {
     ghost places = { λ _ m. no_widths m.fields };
 
-    fn at(_shared: &(), meta: &MetaText) -> Option<Place> {
+    fn at(_shared: &(), meta: &MetaText) -> Option<Position> {
         earliest_of::<NoWidth, _, _>(&(), meta.fields.as_slice())
     }
 }
@@ -42,13 +42,13 @@ impl Flaw<(), MetaText> for NoWidth {
 impl Flaw<(), ActionText> for NoWidth {
     ghost places = { λ _ a. param_widths a };
 
-    fn at(_shared: &(), action: &ActionText) -> Option<Place> {
+    fn at(_shared: &(), action: &ActionText) -> Option<Position> {
         earliest_of::<NoWidth, _, _>(&(), action.params.as_slice())
     }
 }
 
 /// Where a width is 0 or above 128.
-pub fn width_range(source: &Source) -> Option<Place>
+pub fn width_range(source: &Source) -> Option<Position>
     ensures { result ≡ earliest (broken_7 source.now) }
 {
     let headers = earliest_of::<NoWidth, _, _>(&(), source.headers.as_slice());
@@ -71,7 +71,7 @@ struct NoSize;
 impl Flaw<(), HeaderText> for NoSize {
     ghost places = { λ _ h. bad_size h };
 
-    fn at(_shared: &(), header: &HeaderText) -> Option<Place> {
+    fn at(_shared: &(), header: &HeaderText) -> Option<Position> {
         let bits = sum_up_to(513, &(), header.fields.as_slice());
         let is_size = bits >= 1 && bits <= 512 && bits % 8 == 0;
         place_when(!is_size, header.ident.place)
@@ -79,7 +79,7 @@ impl Flaw<(), HeaderText> for NoSize {
 }
 
 /// Where a header is of 0 bits, of more than 512, or not of whole bytes.
-pub fn header_size(source: &Source) -> Option<Place>
+pub fn header_size(source: &Source) -> Option<Position>
     ensures { result ≡ earliest (broken_8 source.now) }
 {
     earliest_of::<NoSize, _, _>(&(), source.headers.as_slice())
@@ -102,7 +102,7 @@ struct BadTail;
 impl<N: Lookup> Flaw<N, HeaderText> for BadTail {
     ghost places = { λ n h. rules.bad_tails (N.text n) h };
 
-    fn at(names: &N, header: &HeaderText) -> Option<Place> {
+    fn at(names: &N, header: &HeaderText) -> Option<Position> {
         match &header.tail {
             Some(tail) => {
                 let width = width(names, own_key(names, header, &tail.field));
@@ -117,7 +117,7 @@ impl<N: Lookup> Flaw<N, HeaderText> for BadTail {
 }
 
 /// Where the lengths of a tail are not as they have to be.
-pub fn tail_range<N: Lookup>(names: &N) -> Option<Place>
+pub fn tail_range<N: Lookup>(names: &N) -> Option<Position>
     ensures { result ≡ earliest (broken_21 (N.text names.now)) }
 {
     let source = names.source();

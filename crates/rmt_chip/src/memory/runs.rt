@@ -9,7 +9,7 @@ ghost use Rattle.rmt_config.specs.declared.config.CellNumber.{CellNumber};
 ghost use Rattle.rmt_config.specs.MemoryRules.{SramRows};
 ghost use Rattle.rmt_chip.specs.Laying.{entry_of, runs_of as runs_of_cells};
 
-use crate::memory::rows::byte_at;
+use crate::memory::block_bits::byte_at;
 use crate::memory::spot::spot_of;
 use rmt_config::config::{CellNumber, SramRow};
 use rmt_config::form::layout::Layout;

@@ -10,7 +10,7 @@ ghost use Rattle.rmt_bits.specs.Grouping.{best_of, AreGrouped};
 ghost use Rattle.rmt_chip.specs.Grouping.{words_of_key, place_for as place_for_key};
 ghost use Rattle.rmt_chip.specs.Comparing.{compared_at};
 
-use crate::memory::rows::tcam_bits;
+use crate::memory::block_bits::tcam_bits;
 use crate::memory::runs::unit_blocks;
 use rmt_bits::bits::bits_of_bytes;
 use rmt_bits::groups::{Group, Grouping, add, earlier, is_before, no_groups, place};

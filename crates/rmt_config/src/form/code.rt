@@ -11,7 +11,7 @@ use rmt_bits::lane::{Lane, word_size};
 
 /// Where an instruction stands: the data bits of its slot, and whether it is the slot's default.
 #[derive(Clone, Copy, Debug, PartialEq, Eq)]
-pub struct Place {
+pub struct InstructionRole {
     /// How many bits of data an entry of the slot holds.
     pub held: u16,
     /// Whether the instruction runs where the slot's table misses; it has no data then.
@@ -19,7 +19,7 @@ pub struct Place {
 }
 
 /// Whether a source of `len` bits, at most 32, lies where it says.
-fn source_fits(place: Place, len: u8, source: Source) -> bool
+fn source_fits(place: InstructionRole, len: u8, source: Source) -> bool
     requires { len ≤ 32 }
     ensures { result ≡ source_is_formed place len source }
 {
@@ -62,7 +62,7 @@ fn operation_lane(op: Operation) -> Lane
     }
 }
 
-fn operation_fits(place: Place, op: Operation) -> bool
+fn operation_fits(place: InstructionRole, op: Operation) -> bool
     ensures { result ≡ operation_is_formed place op }
 {
     lane_fits(operation_lane(op))
@@ -71,20 +71,20 @@ fn operation_fits(place: Place, op: Operation) -> bool
         && kind_fits(op.kind, op.right)
 }
 
-fn each_operation_fits(place: Place, ops: &[Operation]) -> bool
+fn each_operation_fits(place: InstructionRole, ops: &[Operation]) -> bool
     ensures { result ≡ list_all (operation_is_formed place) ops.now }
 {
     ops.iter().all(|op| operation_fits(place, *op))
 }
 
-fn vliw_fits(place: Place, vliw: &Vliw) -> bool
+fn vliw_fits(place: InstructionRole, vliw: &Vliw) -> bool
     ensures { result ≡ vliw_is_formed place vliw.now }
 {
     let ops = vliw.ops.as_slice();
     ops.len() < 256 && each_operation_fits(place, ops) && items_rise(0, ops)
 }
 
-fn each_vliw_fits(place: Place, code: &[Vliw]) -> bool
+fn each_vliw_fits(place: InstructionRole, code: &[Vliw]) -> bool
     ensures { result ≡ list_all (vliw_is_formed place) code.now }
 {
     code.iter().all(|vliw| vliw_fits(place, vliw))
@@ -105,11 +105,11 @@ fn slot_code_fits(slot: &SlotUnit, code: &[Vliw]) -> bool
     requires { length code.now ≡ slot.now.actions + 1 }
     ensures { result ≡ code_is_formed (slot_places slot.now) code.now }
 {
-    let own = Place {
+    let own = InstructionRole {
         held: slot.held,
         is_default: false,
     };
-    let default = Place {
+    let default = InstructionRole {
         held: slot.held,
         is_default: true,
     };

@@ -13,7 +13,7 @@ ghost use Rattle.rmt_config.specs.Layouts.{exact_keys as exact_keys_of, exact_re
 use crate::config::{Memory, SlotUnit, Stage, Unit};
 use crate::form::cells::cells_are_formed;
 use crate::form::parts::{exact_keys, exact_records, ternary_keys, ternary_records};
-use crate::form::told::blocks_are_told;
+use crate::form::set_bits::blocks_are_told;
 use rmt_bits::lane::Lane;
 
 /// How many bits lanes have together, at most 640.

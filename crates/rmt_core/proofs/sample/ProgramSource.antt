@@ -1,7 +1,7 @@
 -- The program of a sample as it is read from its trees.
 use Rattle.std.proofs.Common.{ℕ, List, [], ◌∷◌, codes, true, false, None, Some}
 use Rattle.rmt_ast.specs.declared.program.Kind.TheVariants.{Exact}
-use Rattle.rmt_lexer.specs.declared.place.Place.{Place}
+use Rattle.rmt_lexer.specs.declared.position.Position.{Position}
 use Rattle.rmt_check.specs.declared.source.ActionText.{ActionText}
 use Rattle.rmt_check.specs.declared.source.AssignText.{AssignText}
 use Rattle.rmt_check.specs.declared.source.CaseText.{CaseText}
@@ -24,7 +24,7 @@ use Rattle.rmt_check.specs.declared.source.ValueText.{ValueText}
 use Rattle.rmt_check.specs.declared.source.WhatText.TheVariants.{Apply, If}
 use Rattle.rmt_core.proofs.sample.ProgramForest.{step}
 
-abbrev pub at : ℕ → ℕ → Place
+abbrev pub at : ℕ → ℕ → Position
 at line column = record { line = line; column = column }
 
 abbrev ident : ℕ → ℕ → List ℕ → Ident

@@ -5,7 +5,7 @@ use Rattle.std.specs.Fmt.{decimal}
 use Rattle.std.specs.List.{list_all, take_while}
 use Rattle.std.proofs.lemmas.Bool.{and_left, and_parts, and_right, cond-false, cond-true, lt-leb, lt-ltb, ne_eqb, or_from}
 use Rattle.rmt_lexer.specs.declared.item.Item.TheVariants as item
-use Rattle.rmt_lexer.specs.declared.place.Place.{Place}
+use Rattle.rmt_lexer.specs.declared.position.Position.{Position}
 use Rattle.rmt_lexer.specs.declared.token.TokenKind.TheVariants as kind
 use Rattle.rmt_lexer.specs.Text.{behind, first_place, is_comment, is_letter, is_space, item_of, is_name_byte, number_item, read_item, reading, tokens_of, with_front}
 use Rattle.rmt_sample.specs.Texts.{before_size, behind_sizes, between_sizes, program_text}
@@ -15,7 +15,7 @@ use Rattle.rmt_bits.proofs.ListLaws.{take_while-until}
 use Rattle.rmt_lexer.proofs.Reading.{fronts}
 use Rattle.rmt_core.proofs.sample.ProgramForest.{number, tokens}
 
-abbrev at : ℕ → ℕ → Place
+abbrev at : ℕ → ℕ → Position
 at line column = record { line = line; column = column }
 
 before_is : (n first second : ℕ) (more : List ℕ) → reading 0 first_place (before_size ++ more) ≡ fronts (take 96 (tokens n first second)) (reading 0 (at 5 51) more)

@@ -10,7 +10,7 @@ use Rattle.std.proofs.lemmas.List.Sums.{AllPass-from_list_all, sum_by-le-sum_by}
 use Rattle.rmt_core.specs.Types.{Stage, SramRow, TcamRow, Unit as ChipUnit, Vliw, Operation, Source}
 use Rattle.rmt_config.specs.declared.config.Unit.TheVariants.{Gate, Slot}
 use Rattle.rmt_config.specs.declared.config.Source.TheVariants.{Word, Held, Constant}
-use Rattle.rmt_config.specs.declared.form.code.Place.{Place}
+use Rattle.rmt_config.specs.declared.form.code.InstructionRole.{InstructionRole}
 use Rattle.rmt_config.specs.CellForm.{numbers_of_stage, numbers_of_unit}
 use Rattle.rmt_config.specs.CodeForm.{code_is_formed, places_of, unit_places, vliw_is_formed}
 use Rattle.rmt_config.specs.MemoryRules.{FormedRows}
@@ -52,7 +52,7 @@ vliw_short v few =
     omega (arith, ops)
 
 -- one instruction for each place, and places as many as instructions are counted
-code_long : (places : List Place) (code : List Vliw) → code_is_formed places code ≡ true → length code ≡ length places
+code_long : (places : List InstructionRole) (code : List Vliw) → code_is_formed places code ≡ true → length code ≡ length places
 code_long [] [] h = omega arith
 code_long [] (v ∷ code) h = absurd cc
 code_long (place ∷ places) [] h = absurd cc
@@ -62,8 +62,8 @@ code_long (place ∷ places) (v ∷ code) h =
 unit_places_few : (u : ChipUnit) → length (unit_places u) ≤ unit_instructions u
 unit_places_few (Gate g) = omega arith
 unit_places_few (Slot s) =
-    let own : Place = record { held = s.held; is_default = false } in
-    let default : Place = record { held = s.held; is_default = true } in
+    let own : InstructionRole = record { held = s.held; is_default = false } in
+    let default : InstructionRole = record { held = s.held; is_default = true } in
     omega (arith, length-append (replicate s.actions own) (default ∷ []), length-replicate s.actions own)
 
 code_few : (s : Stage) → stage_is_formed s ≡ true → sum_by unit_instructions s.units ≤ 32 → length s.code ≤ 32

@@ -12,7 +12,7 @@ use crate::reading::number::{byte_of, four_of, kept, two_of};
 use rmt_bits::lane::word_size;
 use rmt_bits::sequence::Sequence;
 use rmt_config::config::{OpKind, Operation, SlotUnit, Source, Unit, Vliw};
-use rmt_config::form::code::{Place, kind_fits};
+use rmt_config::form::code::{InstructionRole, kind_fits};
 use std::alloc::{AllocError, Global};
 
 // ---- operations
@@ -25,7 +25,7 @@ fn low_of(len: u8, word: u8, bytes: &[u8]) -> Result<(u8, &[u8]), ReadError>
     kept(low as u16 + len as u16 <= word_size(word) as u16, low, rest)
 }
 
-fn held_of(place: Place, len: u8, bytes: &[u8]) -> Result<(u16, &[u8]), ReadError>
+fn held_of(place: InstructionRole, len: u8, bytes: &[u8]) -> Result<(u16, &[u8]), ReadError>
     ensures { Gives (λ x. (x.0, x.1.now)) result (kept (fits_held place len) (number_at 2) bytes.now) }
 {
     let (low, rest) = two_of(bytes)?;
@@ -42,7 +42,7 @@ fn constant_of(len: u8, bytes: &[u8]) -> Result<(u32, &[u8]), ReadError>
 
 /// A source of `len` bits, at most 32, of an instruction at a place.
 #[tactic(auto, unfolding(crate::specs::Reading::source_at))]
-fn source_of(place: Place, len: u8, bytes: &[u8]) -> Result<(Source, &[u8]), ReadError>
+fn source_of(place: InstructionRole, len: u8, bytes: &[u8]) -> Result<(Source, &[u8]), ReadError>
     requires { len ≤ 32 }
     ensures { Gives (λ x. (x.0, x.1.now)) result (source_at place len bytes.now) }
 {
@@ -86,7 +86,7 @@ fn kind_of(bytes: &[u8]) -> Result<(OpKind, &[u8]), ReadError>
 }
 
 #[tactic(auto, unfolding(crate::specs::Reading::operation_at))]
-fn operation_of(place: Place, least: u32, bytes: &[u8]) -> Result<(Operation, &[u8]), ReadError>
+fn operation_of(place: InstructionRole, least: u32, bytes: &[u8]) -> Result<(Operation, &[u8]), ReadError>
     ensures { Gives (λ x. (x.0, x.1.now)) result (operation_at place least bytes.now) }
 {
     let (lane, rest) = lane_from(least, bytes)?;
@@ -107,7 +107,7 @@ fn operation_of(place: Place, least: u32, bytes: &[u8]) -> Result<(Operation, &[
 /// The operations of an instruction at a place.
 #[derive(Drop)]
 struct Operations {
-    place: Place,
+    place: InstructionRole,
 }
 
 impl InOrder for Operations {
@@ -134,7 +134,7 @@ impl InOrder for Operations {
 }
 
 #[tactic(auto, unfolding(crate::specs::Reading::vliw_at))]
-fn vliw_of(alloc: Global, place: Place, bytes: &[u8]) -> Result<(Vliw, &[u8]), ReadError>
+fn vliw_of(alloc: Global, place: InstructionRole, bytes: &[u8]) -> Result<(Vliw, &[u8]), ReadError>
     ensures { Gives (λ x. (x.0, x.1.now)) result (vliw_at place bytes.now) }
 {
     let (count, rest) = byte_of(bytes)?;
@@ -144,17 +144,17 @@ fn vliw_of(alloc: Global, place: Place, bytes: &[u8]) -> Result<(Vliw, &[u8]), R
 
 // ---- the code of a stage
 
-fn put_slot_places(places: &mut Vec<Place>, slot: &SlotUnit) -> Result<(), AllocError>
+fn put_slot_places(places: &mut Vec<InstructionRole>, slot: &SlotUnit) -> Result<(), AllocError>
     ensures { OnOk result (places.new.items ≡ places.old.items ++ slot_places slot.now) }
 {
     let held = slot.held;
     for _ in 0..slot.actions {
-        places.push(Place {
+        places.push(InstructionRole {
             held,
             is_default: false,
         })?;
     }
-    places.push(Place {
+    places.push(InstructionRole {
         held,
         is_default: true,
     })?;
@@ -162,7 +162,7 @@ fn put_slot_places(places: &mut Vec<Place>, slot: &SlotUnit) -> Result<(), Alloc
 }
 
 /// Where the instructions of a stage stand, in their order.
-fn place_list(alloc: Global, units: &[Unit]) -> Result<Vec<Place>, AllocError>
+fn place_list(alloc: Global, units: &[Unit]) -> Result<Vec<InstructionRole>, AllocError>
     ensures { IfOk result (λ places. places.items ≡ places_of units.now) }
 {
     let mut places = Vec::new(alloc);
@@ -176,7 +176,7 @@ fn place_list(alloc: Global, units: &[Unit]) -> Result<Vec<Place>, AllocError>
 
 fn code_at<'a>(
     alloc: Global,
-    places: &[Place],
+    places: &[InstructionRole],
     bytes: &'a [u8],
 ) -> Result<(Sequence<Vliw>, &'a [u8]), ReadError>
     ensures { Gives (λ x. (x.0, x.1.now)) result (each vliw_at places.now bytes.now) }

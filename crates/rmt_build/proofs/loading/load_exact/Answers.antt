@@ -2,7 +2,7 @@ use Rattle.std.proofs.Common.{All, ap, arith, length, subst, sym, ◌∙◌}
 use Rattle.std.specs.Prelude.{Contains}
 use Rattle.rmt_cuckoo.specs.Loading.{candidates}
 use Rattle.rmt_cuckoo.specs.Told.{Explains}
-use Rattle.rmt_build.specs.Standing.{IsLoadedAt, StandOnce}
+use Rattle.rmt_build.specs.EntryCells.{IsLoadedAt, StandOnce}
 use Rattle.rmt_build.proofs.LoadedLaws.{members_few, zip_length}
 use Rattle.rmt_build.proofs.loading.load_exact.Goals as goal
 

@@ -1,5 +1,5 @@
 use Rattle.std.proofs.Common.{All, length, sym, subst}
-use Rattle.rmt_build.specs.Standing.{IsLoadedAt, StandOnce}
+use Rattle.rmt_build.specs.EntryCells.{IsLoadedAt, StandOnce}
 use Rattle.rmt_build.proofs.SortingLaws.{all_loaded, stand_once}
 use Rattle.rmt_build.proofs.stands.as_loaded.Goals as goal
 

@@ -1,7 +1,7 @@
 use Rattle.std.proofs.Common.{◌∙◌, ap, arith, length, map, subst, sym}
 use Rattle.std.proofs.lemmas.List.{length-map}
 use Rattle.rmt_build.specs.Sorting.{AreSorted, rank_in, rows_from}
-use Rattle.rmt_build.specs.Standing.{StandInOrder}
+use Rattle.rmt_build.specs.EntryCells.{StandInOrder}
 use Rattle.rmt_build.proofs.SortingLaws.{long_as, stand_in_order}
 use Rattle.rmt_build.proofs.stands.in_order.Goals as goal
 

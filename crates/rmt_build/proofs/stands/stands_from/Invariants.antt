@@ -1,5 +1,5 @@
 use Rattle.std.proofs.Common.{◌≡◌, take}
-use Rattle.rmt_build.specs.Standing.{stands_within}
+use Rattle.rmt_build.specs.EntryCells.{stands_within}
 use Rattle.rmt_build.proofs.stands.stands_from.Given as goal
 
 -- those of the entries so far

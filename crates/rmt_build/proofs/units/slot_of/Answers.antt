@@ -12,12 +12,12 @@ use Rattle.rmt_phv.specs.Places.{high_first}
 use Rattle.rmt_refine.specs.Units.{HasKind, guard_of, last_stage}
 use Rattle.rmt_build.specs.declared.stands.Stand.{Stand}
 use Rattle.rmt_build.specs.Plans.{format_at, need_in, quanta_before, stands_of_part}
-use Rattle.rmt_build.specs.Standing.{cells_for}
+use Rattle.rmt_build.specs.EntryCells.{cells_for}
 use Rattle.rmt_build.specs.Memories.{memory_for}
 use Rattle.rmt_build.specs.Numbers.{number_at}
 use Rattle.rmt_build.proofs.PlanLaws.{is_table}
 use Rattle.rmt_build.proofs.UnitPartLaws.{slot_part}
-use Rattle.rmt_build.proofs.StandingLaws.{part_entries}
+use Rattle.rmt_build.proofs.EntryCellLaws.{part_entries}
 use Rattle.rmt_build.proofs.UnitLaws.{guard_small, kind_of_memory, node_applies, slot_carried}
 use Rattle.rmt_build.proofs.units.slot_of.Goals as goal
 

@@ -7,9 +7,9 @@ use Rattle.rmt_pack.specs.declared.placement.Part.{Part}
 use Rattle.rmt_pack.specs.Placements.{quanta_in}
 use Rattle.rmt_build.specs.declared.stands.Stand.{Stand}
 use Rattle.rmt_build.specs.Plans.{format_at, quanta_before, stands_of_part}
-use Rattle.rmt_build.specs.Standing.{cells_for, stands_within}
+use Rattle.rmt_build.specs.EntryCells.{cells_for, stands_within}
 use Rattle.rmt_build.proofs.PlanLaws.{few_in, few_per, format_seen, formats_long}
-use Rattle.rmt_build.proofs.StandingLaws.{within_none}
+use Rattle.rmt_build.proofs.EntryCellLaws.{within_none}
 use Rattle.rmt_build.proofs.units.stands_in.Goals as goal
 
 abbrev zero_format : Format

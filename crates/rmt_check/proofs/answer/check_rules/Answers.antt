@@ -1,5 +1,5 @@
 use Rattle.std.proofs.Common.{◌≡◌, ◌-◌, option_map, drop, ap, sym, ◌∙◌, arith}
-use Rattle.rmt_check.specs.Meaning.{told}
+use Rattle.rmt_check.specs.Meaning.{fault_at}
 use Rattle.rmt_check.specs.Rules.{broken, least_of}
 use Rattle.rmt_check.proofs.MeansLaws.{kept_at, broken_there}
 use Rattle.rmt_check.proofs.answer.check_rules.Goals as goal
@@ -7,7 +7,7 @@ use Rattle.rmt_check.proofs.answer.check_rules.Goals as goal
 pub returns-in-Some : goal.returns-in-Some
 returns-in-Some g c =
     let found = sym c.in_ok-place.ensures ∙ c.in-Some.is in
-    ap (option_map told) (c.loop-code.invariant ∙ broken_there (g.N.Lookup.text c.args.names.now) c.loop-code.code c.loop-code.auto.code c.loop-code-test.true c.in-Some.place found)
+    ap (option_map fault_at) (c.loop-code.invariant ∙ broken_there (g.N.Lookup.text c.args.names.now) c.loop-code.code c.loop-code.auto.code c.loop-code-test.true c.in-Some.place found)
 
 pub loop-code-preserved : goal.loop-code-preserved
 loop-code-preserved g c =

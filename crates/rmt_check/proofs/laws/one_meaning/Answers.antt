@@ -1,5 +1,5 @@
 use Rattle.std.proofs.Common.{◌≡◌, ◌∙◌, ◌⊎◌, inl, inr, ℕ, List, Option, Some, None, Result, Ok, Err, refl, sym, ap, subst}
-use Rattle.rmt_check.specs.Parts.{Program, Place, ProgramFault, Token, Tree}
+use Rattle.rmt_check.specs.Parts.{Program, Position, ProgramFault, Token, Tree}
 use Rattle.rmt_ast.specs.WellFormed.{IsProgram}
 use Rattle.rmt_lexer.specs.declared.fault.ProgramFault.TheVariants.{NoMemory, At}
 use Rattle.rmt_lexer.specs.Text.{tokens_of}
@@ -11,7 +11,7 @@ use Rattle.rmt_check.specs.Means.{Means, Outcome, fault_at, of_tokens, of_gramma
 use Rattle.rmt_check.proofs.laws.one_meaning.Goals as goal
 
 module _ (known : goal.After-answer_is_well_formed) (text : List ℕ) where
-  by_rules : (tokens : List Token) (t : Tree) (o : Option (ℕ × Place)) → fault_of (source_of t) ≡ o → tokens_of text ≡ Ok tokens → IsTreeOf tokens t → (m : Outcome) × Means text m
+  by_rules : (tokens : List Token) (t : Tree) (o : Option (ℕ × Position)) → fault_of (source_of t) ≡ o → tokens_of text ≡ Ok tokens → IsTreeOf tokens t → (m : Outcome) × Means text m
   by_rules tokens t None e is tree = (Ok (program_of (source_of t)), of_program tokens t is tree e)
   by_rules tokens t (Some f) e is tree = (Err f, of_rules tokens t f is tree e)
 
@@ -52,17 +52,17 @@ module _ (known : goal.After-answer_is_well_formed) (text : List ℕ) where
   alone (of_rules ts t f e h i) (of_grammar us b m d g j) = absurd (no_tree ts us t b m d e g h j)
   alone (of_rules ts t f e h i) (of_rules us u g d j l) =
       let same = same_tree ts us t u e d h j in
-      let told : ◌≡◌ {A = Option (ℕ × Place)} (Some f) (Some g) = sym i ∙ ap (λ v. fault_of (source_of v)) same ∙ l in
+      let told : ◌≡◌ {A = Option (ℕ × Position)} (Some f) (Some g) = sym i ∙ ap (λ v. fault_of (source_of v)) same ∙ l in
       let it : f ≡ g = cc in
-      ap (λ (x : ℕ × Place). Err x) it
+      ap (λ (x : ℕ × Position). Err x) it
   alone (of_rules ts t f e h i) (of_program us u d j l) =
       let same = same_tree ts us t u e d h j in
-      let told : ◌≡◌ {A = Option (ℕ × Place)} (Some f) None = sym i ∙ ap (λ v. fault_of (source_of v)) same ∙ l in cc
+      let told : ◌≡◌ {A = Option (ℕ × Position)} (Some f) None = sym i ∙ ap (λ v. fault_of (source_of v)) same ∙ l in cc
   alone (of_program ts t e h i) (of_tokens b m d g) = cc
   alone (of_program ts t e h i) (of_grammar us b m d g j) = absurd (no_tree ts us t b m d e g h j)
   alone (of_program ts t e h i) (of_rules us u g d j l) =
       let same = same_tree ts us t u e d h j in
-      let told : ◌≡◌ {A = Option (ℕ × Place)} None (Some g) = sym i ∙ ap (λ v. fault_of (source_of v)) same ∙ l in cc
+      let told : ◌≡◌ {A = Option (ℕ × Position)} None (Some g) = sym i ∙ ap (λ v. fault_of (source_of v)) same ∙ l in cc
   alone (of_program ts t e h i) (of_program us u d j l) = ap (λ v. Ok (program_of (source_of v))) (same_tree ts us t u e d h j)
 
 formed : (well : (text : List ℕ) (tokens : List Token) (t : Tree) (p : Program) → tokens_of text ≡ Ok tokens → IsTreeOf tokens t → Answers (source_of t) (Ok p) → IsProgram p)

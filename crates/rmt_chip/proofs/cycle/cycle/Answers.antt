@@ -1,13 +1,13 @@
 use Rattle.std.proofs.Common.{◌≡◌, ◌≤◌, ◌++◌, ◌∷◌, [], ℕ, List, length, get_or, set, Vec, Global, sym, ap, subst, ◌∙◌, arith}
 use Rattle.std.proofs.lemmas.List.Elements.{All-set}
-use Rattle.rmt_chip.specs.declared.place.Place.{Place}
+use Rattle.rmt_chip.specs.declared.packet_slot.PacketSlot.{PacketSlot}
 use Rattle.rmt_chip.specs.declared.pending.Pending.{Pending}
 use Rattle.rmt_chip.specs.FrameList.{frames_of}
 use Rattle.rmt_chip.specs.Inputs.{input_of, frames_after}
 use Rattle.rmt_chip.specs.Leaving.{AnswersIf, leaving_if}
 use Rattle.rmt_chip.specs.Pending.{HaveRoomFor}
 use Rattle.rmt_chip.specs.Ring.{ring_at}
-use Rattle.rmt_chip.specs.Standing.{InFlight}
+use Rattle.rmt_chip.specs.PacketsInFlight.{InFlight}
 use Rattle.rmt_chip.proofs.LatencyLaws.{latency-le}
 use Rattle.rmt_chip.proofs.WholeCycle.{Passes, cycle_right}
 use Rattle.rmt_chip.proofs.cycle.cycle.Goals as goal
@@ -15,7 +15,7 @@ use Rattle.rmt_chip.proofs.cycle.cycle.Goals as goal
 pub write_all-requires-clause-room : goal.write_all-requires-clause-room
 write_all-requires-clause-room c =
     let stages = c.args.config.now.stages in
-    All-set (λ (p : Place). HaveRoomFor stages p.pending.items) c.args.places.now c.args.newest c.enter_if.new.place
+    All-set (λ (p : PacketSlot). HaveRoomFor stages p.pending.items) c.args.places.now c.args.newest c.enter_if.new.place
     (subst (λ (x : Vec Pending Global). HaveRoomFor stages x.items) (sym c.enter_if.ensures.room) (c.requires.room c.args.newest c.index-places-newest.result (omega arith)))
     c.requires.room
 
@@ -31,7 +31,7 @@ returns-clause-gives c = λ inputs before ring turn count laid flight.
     let last = c.place_of-last.ensures.place ∙ ap (ring_at c.args.newest) c.from.ensures in
     let four = c.look_all.new.places in
     let place = get_or four at c.index-places-last.result in
-    let place_is : place ≡ get_or four at place = ap (λ (p : Place). get_or four at p) c.index-places-last.is in
+    let place_is : place ≡ get_or four at place = ap (λ (p : PacketSlot). get_or four at p) c.index-places-last.is in
     let frames = c.args.frames.now in
     let many = frames.all in
     let ok = frames.chains.ok.0 in

@@ -3,7 +3,7 @@ use Rattle.std.specs.Prelude.{slice_get}
 use Rattle.std.proofs.lemmas.Option.{slice_get-get_or}
 use Rattle.std.proofs.lemmas.List.Elements.{All-set}
 use Rattle.rmt_chip.specs.Types.{Stage}
-use Rattle.rmt_chip.specs.declared.place.Place.{Place}
+use Rattle.rmt_chip.specs.declared.packet_slot.PacketSlot.{PacketSlot}
 use Rattle.rmt_chip.specs.Pending.{HaveRoomFor}
 use Rattle.rmt_chip.specs.Runnable.{start_of}
 use Rattle.rmt_chip.specs.Ring.{ring_at}
@@ -38,7 +38,7 @@ loop-k-preserved c =
     let place_is : at ≡ ring_at c.args.newest (start_of stages k + 8) = c.place_of-at.ensures.place ∙ ap (λ (n : ℕ). ring_at c.args.newest (n + 8)) from in
     let found : slice_get slice k ≡ Some stage = slice_get-get_or slice k stage (let same = ap length c.as_slice-stages.ensures in omega arith) ∙ ap Some (sym c.index-stages-k.is) in
     record {
-      room = All-set (λ (p : Place). HaveRoomFor stages p.pending.items) places at new
+      room = All-set (λ (p : PacketSlot). HaveRoomFor stages p.pending.items) places at new
           (subst (λ (ss : List Stage). HaveRoomFor ss new.pending.items) c.as_slice-stages.ensures c.act.ensures.room)
           c.loop-k.invariant.room;
       holds = λ look item held.
@@ -48,9 +48,9 @@ loop-k-preserved c =
             counted = λ yes l number words looked. c.act.ensures.counted yes stage found l number words looked;
           } in (
             act_turn look c.args.config.now item c.args.newest k at places stage old new c.requires.fits.rise inside is (c.requires.fits.last k inside) c.requires.newest many place_is c.index-places-at.is
-                (subst (λ (p : Place). DecidedBy k stage p new) (sym c.index-places-at.is) (c.act.ensures.decided stage found)) was.0,
+                (subst (λ (p : PacketSlot). DecidedBy k stage p new) (sym c.index-places-at.is) (c.act.ensures.decided stage found)) was.0,
             count_turn look c.args.config.now item c.args.newest k at places stage old c.args.counters.now.counts c.loop-k.counters.counts c.act.new.counters.counts c.requires.fits.rise inside is (c.requires.fits.last k inside) place_is c.index-places-at.is
-                (subst (λ (p : Place). ActCounts k stage p c.loop-k.counters.counts c.act.new.counters.counts) (sym c.index-places-at.is) counts) was.0 was.1,
+                (subst (λ (p : PacketSlot). ActCounts k stage p c.loop-k.counters.counts c.act.new.counters.counts) (sym c.index-places-at.is) counts) was.0 was.1,
           );
     }
 

@@ -1,6 +1,6 @@
 use Rattle.std.proofs.Common.{ℕ, Option, All}
 use Rattle.rmt_config.specs.Life.{Look}
-use Rattle.rmt_chip.specs.declared.place.Place.{Place}
+use Rattle.rmt_chip.specs.declared.packet_slot.PacketSlot.{PacketSlot}
 use Rattle.rmt_chip.specs.Held.{Entered}
 use Rattle.rmt_chip.specs.Hits.{hits_upto}
 use Rattle.rmt_chip.specs.Pending.{HaveRoomFor}
@@ -10,7 +10,7 @@ use Rattle.rmt_chip.proofs.ring.act_all.Given as goal
 
 abbrev pub invariant-loop-k : goal.invariant-loop-k
 invariant-loop-k l = record {
-  room : All (λ (p : Place). HaveRoomFor l.config.stages p.pending.items) l.places;
+  room : All (λ (p : PacketSlot). HaveRoomFor l.config.stages p.pending.items) l.places;
   holds : (look : Look) (item : ℕ → Option Entered) →
       AllHold look l.config item now now past now l.newest l.initial.places →
       AllHold look l.config item now now (partly (done_before l.config.stages 8 l.k)) now l.newest l.places

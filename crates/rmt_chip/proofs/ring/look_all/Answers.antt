@@ -3,7 +3,7 @@ use Rattle.std.specs.Prelude.{slice_get}
 use Rattle.std.proofs.lemmas.Option.{slice_get-get_or}
 use Rattle.std.proofs.lemmas.List.Elements.{All-set}
 use Rattle.rmt_chip.specs.Types.{Stage}
-use Rattle.rmt_chip.specs.declared.place.Place.{Place}
+use Rattle.rmt_chip.specs.declared.packet_slot.PacketSlot.{PacketSlot}
 use Rattle.rmt_chip.specs.Pending.{HaveRoomFor}
 use Rattle.rmt_chip.specs.Runnable.{start_of}
 use Rattle.rmt_chip.specs.Ring.{ring_at}
@@ -39,7 +39,7 @@ loop-k-preserved c =
     let place_is : at ≡ ring_at c.args.newest (start_of stages k) = c.place_of-at.ensures.place ∙ ap (λ (n : ℕ). ring_at c.args.newest (n)) from in
     let found : slice_get slice k ≡ Some stage = slice_get-get_or slice k stage (let same = ap length c.as_slice-stages.ensures in omega arith) ∙ ap Some (sym c.index-stages-k.is) in
     record {
-      room = All-set (λ (p : Place). HaveRoomFor stages p.pending.items) places at new
+      room = All-set (λ (p : PacketSlot). HaveRoomFor stages p.pending.items) places at new
           (subst (λ (ss : List Stage). HaveRoomFor ss new.pending.items) c.as_slice-stages.ensures c.look.ensures.room)
           c.loop-k.invariant.room;
       holds = λ item laid held.
@@ -52,7 +52,7 @@ loop-k-preserved c =
           let lies : AllLaid config.seed stage c.deref.result.now = subst (AllLaid config.seed stage) (sym c.deref.ensures.value) (laid k stage m there mine) in
           let looks : LooksInto config.seed stage (own_look config) k = subst (λ (x : Stage). LooksInto config.seed x (own_look config) k) (sym is) (own_looks config k stage inside) in
           look_turn (own_look config) config item c.args.newest k at places stage old new c.requires.fits.rise inside is (c.requires.fits.last k inside) c.requires.newest many place_is c.index-places-at.is
-          (subst (λ (p : Place). LookedBy (own_look config) k stage p new) (sym c.index-places-at.is) (c.look.ensures.looked stage found config.seed (own_look config) lies looks)) (c.loop-k.invariant.holds item laid held);
+          (subst (λ (p : PacketSlot). LookedBy (own_look config) k stage p new) (sym c.index-places-at.is) (c.look.ensures.looked stage found config.seed (own_look config) lies looks)) (c.loop-k.invariant.holds item laid held);
     }
 
 pub returns-clause-holds : goal.returns-clause-holds

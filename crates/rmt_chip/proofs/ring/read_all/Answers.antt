@@ -3,7 +3,7 @@ use Rattle.std.specs.Prelude.{slice_get}
 use Rattle.std.proofs.lemmas.Option.{slice_get-get_or}
 use Rattle.std.proofs.lemmas.List.Elements.{All-set}
 use Rattle.rmt_chip.specs.Types.{Stage}
-use Rattle.rmt_chip.specs.declared.place.Place.{Place}
+use Rattle.rmt_chip.specs.declared.packet_slot.PacketSlot.{PacketSlot}
 use Rattle.rmt_chip.specs.Pending.{HaveRoomFor}
 use Rattle.rmt_chip.specs.Runnable.{start_of}
 use Rattle.rmt_chip.specs.Ring.{ring_at}
@@ -36,12 +36,12 @@ loop-k-preserved c =
     let place_is : at ≡ ring_at c.args.newest (start_of stages k + 9) = c.place_of-at.ensures.place ∙ ap (λ (n : ℕ). ring_at c.args.newest (n + 9)) from in
     let found : slice_get slice k ≡ Some stage = slice_get-get_or slice k stage (let same = ap length c.as_slice-stages.ensures in omega arith) ∙ ap Some (sym c.index-stages-k.is) in
     record {
-      room = All-set (λ (p : Place). HaveRoomFor stages p.pending.items) places at new
+      room = All-set (λ (p : PacketSlot). HaveRoomFor stages p.pending.items) places at new
           (subst (λ (ss : List Stage). HaveRoomFor ss new.pending.items) c.as_slice-stages.ensures c.read.ensures.room)
           c.loop-k.invariant.room;
       holds = λ look item held.
           read_turn look c.args.config.now item c.args.newest k at places stage old new c.requires.fits.rise inside is (c.requires.fits.last k inside) c.requires.newest many place_is c.index-places-at.is
-          (subst (λ (p : Place). ReadBy k stage p new) (sym c.index-places-at.is) (c.read.ensures.read stage found)) (c.loop-k.invariant.holds look item held);
+          (subst (λ (p : PacketSlot). ReadBy k stage p new) (sym c.index-places-at.is) (c.read.ensures.read stage found)) (c.loop-k.invariant.holds look item held);
     }
 
 pub returns-clause-holds : goal.returns-clause-holds

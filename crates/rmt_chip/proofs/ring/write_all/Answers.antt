@@ -1,6 +1,6 @@
 use Rattle.std.proofs.Common.{◌≡◌, ◌+◌, ◌<◌, ◌≤◌, ℕ, length, Vec, Global, sym, subst, ap, ◌∙◌, arith}
 use Rattle.std.proofs.lemmas.List.Elements.{All-set}
-use Rattle.rmt_chip.specs.declared.place.Place.{Place}
+use Rattle.rmt_chip.specs.declared.packet_slot.PacketSlot.{PacketSlot}
 use Rattle.rmt_chip.specs.declared.pending.Pending.{Pending}
 use Rattle.rmt_chip.specs.Pending.{HaveRoomFor}
 use Rattle.rmt_chip.specs.Runnable.{start_of}
@@ -33,12 +33,12 @@ loop-k-preserved c =
     let from = start_read stages slice k c.from.result stage c.as_slice-stages.ensures inside c.from.ensures c.index-stages-k.is in
     let place_is : at ≡ ring_at c.args.newest (start_of stages k + 12) = c.place_of-at.ensures.place ∙ ap (λ (n : ℕ). ring_at c.args.newest (n + 12)) from in
     record {
-      room = All-set (λ (p : Place). HaveRoomFor stages p.pending.items) places at new
+      room = All-set (λ (p : PacketSlot). HaveRoomFor stages p.pending.items) places at new
           (subst (λ (x : Vec Pending Global). HaveRoomFor stages x.items) (sym c.write.ensures.pending) (c.loop-k.invariant.room at old (omega arith)))
           c.loop-k.invariant.room;
       holds = λ look item held.
           write_turn look c.args.config.now item c.args.newest k at places old new c.requires.fits.rise inside (c.requires.fits.last k inside) c.requires.newest many place_is c.index-places-at.is
-          (subst (λ (p : Place). WrittenBy k p new) (sym c.index-places-at.is) c.write.ensures) (c.loop-k.invariant.holds look item held);
+          (subst (λ (p : PacketSlot). WrittenBy k p new) (sym c.index-places-at.is) c.write.ensures) (c.loop-k.invariant.holds look item held);
     }
 
 pub returns-clause-holds : goal.returns-clause-holds

@@ -2,7 +2,7 @@ use Rattle.std.proofs.Common.{sym}
 use Rattle.std.specs.Str.{bytes_eq}
 use Rattle.rmt_bits.proofs.AllLaws.{All-find}
 use Rattle.rmt_entries.specs.NamedTables.{seen_table}
-use Rattle.rmt_entries.specs.Standing.{IsAppliedBy, IsBelow, IsReadable}
+use Rattle.rmt_entries.specs.LinesSoFar.{IsAppliedBy, IsBelow, IsReadable}
 use Rattle.rmt_entries.specs.Tables.{AppliedTable}
 use Rattle.rmt_entries.proofs.line.take_table.Goals as goal
 

@@ -7,7 +7,7 @@ use Rattle.rmt_ast.specs.declared.program.Node.{Node}
 use Rattle.rmt_ast.specs.EntryLists.{terms_at}
 use Rattle.rmt_entries.specs.Entries.{entries_of, entry_of}
 use Rattle.rmt_entries.specs.Reads.{Reads, node_terms}
-use Rattle.rmt_entries.specs.Standing.{Addition, IsAppliedBy, IsBelow, IsReadable}
+use Rattle.rmt_entries.specs.LinesSoFar.{Addition, IsAppliedBy, IsBelow, IsReadable}
 use Rattle.rmt_entries.specs.Tables.{AppliedTable, applied_tables}
 use Rattle.rmt_entries.proofs.LawLists.{entries_law}
 use Rattle.rmt_entries.proofs.ProgramLaws.{are_applied, are_below, are_readable}

@@ -2,8 +2,8 @@ use Rattle.std.proofs.Common.{◌≡◌, ◌++◌, ◌-◌, ◌<◌, ◌∷◌, 
 use Rattle.rmt_bits.specs.declared.lane.Lane.{Lane}
 use Rattle.rmt_ast.specs.declared.program.Program.{Program}
 use Rattle.rmt_phv.specs.Packing.{Piece, lanes_for, pieces, pieces_at}
-use Rattle.rmt_phv.specs.Standing.{Stands, Packs, IsNext, told}
-use Rattle.rmt_phv.proofs.StandingLaws.{packs_own}
+use Rattle.rmt_phv.specs.WordsSoFar.{AreFilled, Packs, IsNext, lanes_or_fault}
+use Rattle.rmt_phv.proofs.WordLaws.{packs_own}
 use Rattle.rmt_phv.proofs.Packed.{then, pieces_push, pieces_step, piece_more, piece_none, pieces_end}
 use Rattle.rmt_phv.proofs.pack.place_field.Goals as goal
 
@@ -43,8 +43,8 @@ loop-left-preserved c =
     (packs_own p f taken l.own c.args.writers.now c.args.words.now.words l.words.words first (l.invariant.stand p taken first)) in
     record {
       stand = λ p taken first.
-          subst (λ (own : List Lane). Stands p (taken ++ pieces_at f own) c.take.new.self.words) (sym pushed)
-          (subst (λ (all : List Piece). Stands p all c.take.new.self.words) (pieces_push taken f l.own lane) (c.in-Some.ensures.taken p f (taken ++ pieces_at f l.own) (packs p taken first)));
+          subst (λ (own : List Lane). AreFilled p (taken ++ pieces_at f own) c.take.new.self.words) (sym pushed)
+          (subst (λ (all : List Piece). AreFilled p all c.take.new.self.words) (pieces_push taken f l.own lane) (c.in-Some.ensures.taken p f (taken ++ pieces_at f l.own) (packs p taken first)));
       so_far = λ p taken first.
           let here = next p f taken l.own l.left len (lanes_for p f taken (pieces c.args.width)) c.loop-left-test.true c.min-len.ensures (l.invariant.so_far p taken first) in
           piece_more p f taken l.own len (pieces (l.left - len)) (lanes_for p f taken (pieces c.args.width)) here lane (c.in-Some.ensures.lane p f (taken ++ pieces_at f l.own) (packs p taken first))
@@ -57,4 +57,4 @@ returns-clause-placed c = λ _ p taken first.
     let f = c.args.field in
     let none : l.left ≡ 0 = omega arith in
     let all = l.invariant.so_far p taken first ∙ ap (λ (left : ℕ). then l.own (lanes_for p f (taken ++ pieces_at f l.own) (pieces left))) none in
-    sym (ap (told f) (pieces_end p f l.own (taken ++ pieces_at f l.own) (lanes_for p f taken (pieces c.args.width)) all))
+    sym (ap (lanes_or_fault f) (pieces_end p f l.own (taken ++ pieces_at f l.own) (lanes_for p f taken (pieces c.args.width)) all))

@@ -7,14 +7,14 @@ use Rattle.rmt_ast.specs.declared.program.Field.{Field}
 use Rattle.rmt_phv.specs.declared.words.Word.{Word}
 use Rattle.rmt_phv.specs.declared.fault.PhvFull.{PhvFull}
 use Rattle.rmt_phv.specs.Packing.{Piece, packing, pieces_at, places_from}
-use Rattle.rmt_phv.specs.Standing.{Stands, IsNext}
+use Rattle.rmt_phv.specs.WordsSoFar.{AreFilled, IsNext}
 use Rattle.rmt_phv.specs.Writers.{AreWriters}
 use Rattle.rmt_phv.proofs.Packed.{then, pieces_of, pieces_of_push, pieces_of_below, field_more, field_none}
 use Rattle.rmt_phv.proofs.pack.place_fields.Goals as goal
 
 -- the next field, beside the pieces of these places
 is_next : (p : Program) (n : ℕ) (places : List (List Lane)) (writers : List (List ℕ)) (d : List ℕ) (words : List Word)
-    → length places ≡ n → n < length p.fields → AreWriters p writers → Stands p (pieces_of 0 places) words → IsNext p n (pieces_of 0 places) (get_or writers n d) words
+    → length places ≡ n → n < length p.fields → AreWriters p writers → AreFilled p (pieces_of 0 places) words → IsNext p n (pieces_of 0 places) (get_or writers n d) words
 is_next p n places writers d words count lt are stands = record {
   stands = stands;
   writes = are.each n d (omega (arith, are.all_there));
@@ -67,6 +67,6 @@ loop-number-preserved c =
     rw pushed
     record {
       count = omega (arith, length-append l.places (own ∷ []), l.invariant.count);
-      stand = subst (λ (ps : List Piece). Stands p ps c.place_field.new.words.words) (sym stand) (c.in_ok-lanes.ensures.taken p (pieces_of 0 l.places) first);
+      stand = subst (λ (ps : List Piece). AreFilled p ps c.place_field.new.words.words) (sym stand) (c.in_ok-lanes.ensures.taken p (pieces_of 0 l.places) first);
       so_far = further ∙ ap (λ (ps : List Piece). then (l.places ++ own ∷ []) (places_from p (l.number + 1) ps (drop (l.number + 1) p.fields))) (sym stand);
     }

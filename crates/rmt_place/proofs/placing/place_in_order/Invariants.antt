@@ -1,11 +1,11 @@
 use Rattle.std.proofs.Common.{◌≡◌, drop, []}
 use Rattle.rmt_deps.specs.Levels.{all_edges}
 use Rattle.rmt_place.specs.Placing.{placed_all}
-use Rattle.rmt_place.specs.Standings.{Stands}
+use Rattle.rmt_place.specs.StagesSoFar.{AreFilled}
 use Rattle.rmt_place.proofs.placing.place_in_order.Given as goal
 
 abbrev pub invariant-loop-node : goal.invariant-loop-node
 invariant-loop-node l = record {
   placed : placed_all l.demands (all_edges l.deps) (drop l.node-index l.order) l.stages.parts.items ≡ placed_all l.demands (all_edges l.deps) l.order [];
-  stands : Stands l.demands l.stages;
+  stands : AreFilled l.demands l.stages;
 }

@@ -2,7 +2,7 @@ use Rattle.rmt_syntax.proofs.Words.{◌∙◌, ap, refl, inr, Some, arith, Node,
 use Rattle.rmt_syntax.proofs.Words.rule
 use Rattle.rmt_syntax.proofs.Faults.{fails_block, is_too_deep}
 use Rattle.rmt_syntax.proofs.Machine.{room}
-use Rattle.rmt_syntax.proofs.Standing.{refused, at_part}
+use Rattle.rmt_syntax.proofs.BeforeLaws.{refused, at_part}
 use Rattle.rmt_syntax.proofs.parser.check_block.Goals as goal
 
 pub returns-then-not-is_kind-clause-err : goal.returns-then-not-is_kind-clause-err

@@ -1,7 +1,7 @@
 use Rattle.rmt_syntax.proofs.Words.{◌∙◌, sym, ap, refl, arith, choice_of, weight}
 use Rattle.rmt_syntax.proofs.Choosing.{choose_stands, choose_lowers}
 use Rattle.rmt_syntax.proofs.Faults.{fails_phrase}
-use Rattle.rmt_syntax.proofs.Standing.{arrives, refused, at_phrase}
+use Rattle.rmt_syntax.proofs.BeforeLaws.{arrives, refused, at_phrase}
 use Rattle.rmt_syntax.proofs.parser.choose_form.Goals as goal
 
 pub returns-in-Some-clause-ok : goal.returns-in-Some-clause-ok

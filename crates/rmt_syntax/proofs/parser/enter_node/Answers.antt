@@ -1,6 +1,6 @@
 use Rattle.rmt_syntax.proofs.Words.{ap, arith, Node, slice_get-item, weight}
 use Rattle.rmt_syntax.proofs.Machine.{room, enter_stands}
-use Rattle.rmt_syntax.proofs.Standing.{arrives, at_part}
+use Rattle.rmt_syntax.proofs.BeforeLaws.{arrives, at_part}
 use Rattle.rmt_syntax.proofs.Choosing.{enter_lowers}
 use Rattle.rmt_syntax.proofs.parser.enter_node.Goals as goal
 

@@ -1,5 +1,5 @@
 use Rattle.rmt_syntax.proofs.Words.{◌∙◌, sym, ap, same_Some, Token, terminal_of}
-use Rattle.rmt_syntax.proofs.Standing.{operand_is}
+use Rattle.rmt_syntax.proofs.BeforeLaws.{operand_is}
 use Rattle.rmt_syntax.proofs.parser.pass_phrase.Goals as goal
 
 pub take_operand-requires-clause-then : goal.take_operand-requires-clause-then

@@ -1,6 +1,6 @@
 use Rattle.rmt_syntax.proofs.Words.{◌≤◌, length, arith, rules, Ok}
 use Rattle.rmt_syntax.proofs.Deciding.{gives}
-use Rattle.rmt_syntax.proofs.Standing.{starts, tree_is, arrives}
+use Rattle.rmt_syntax.proofs.BeforeLaws.{starts, tree_is, arrives}
 use Rattle.rmt_syntax.proofs.parser.syntax.Goals as goal
 use Rattle.rmt_syntax.proofs.parser.syntax.Goals.{After-finish}
 

@@ -2,7 +2,7 @@ use Rattle.rmt_syntax.proofs.Words.{◌≡◌, ◌∙◌, sym, ap, suc, ◌∷�
 use Rattle.rmt_syntax.proofs.Words.rule
 use Rattle.rmt_syntax.proofs.Operands.{lone_stands, field_stands}
 use Rattle.rmt_syntax.proofs.Machine.{room}
-use Rattle.rmt_syntax.proofs.Standing.{ends_at, arrives_next, at_phrase}
+use Rattle.rmt_syntax.proofs.BeforeLaws.{ends_at, arrives_next, at_phrase}
 use Rattle.rmt_syntax.proofs.parser.take_operand.Goals as goal
 
 pub take_field-requires-clause-room : goal.take_field-requires-clause-room

@@ -1,7 +1,7 @@
 use Rattle.rmt_syntax.proofs.Words.{◌≡◌, ◌∙◌, sym, ap, ◌∷◌, [], ◌++◌, Token, leaf, One, goals_of, marks_of}
 use Rattle.rmt_syntax.proofs.Faults.{fails_one}
 use Rattle.rmt_syntax.proofs.Machine.{take_stands}
-use Rattle.rmt_syntax.proofs.Standing.{ends_at, arrives_next, refused, at_part}
+use Rattle.rmt_syntax.proofs.BeforeLaws.{ends_at, arrives_next, refused, at_part}
 use Rattle.rmt_syntax.proofs.parser.take_part.Goals as goal
 
 pub returns-then-not-is_kind-clause-err : goal.returns-then-not-is_kind-clause-err

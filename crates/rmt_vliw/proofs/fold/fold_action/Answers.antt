@@ -7,7 +7,7 @@ use Rattle.rmt_vliw.specs.declared.value.Value.{Value}
 use Rattle.rmt_vliw.specs.declared.folded.Folded.{Folded}
 use Rattle.rmt_vliw.specs.declared.fault.ActionDeep.{ActionDeep}
 use Rattle.rmt_vliw.specs.declared.fault.ActionDeep.TheVariants.{NoMemory}
-use Rattle.rmt_vliw.specs.Folding.{folded_of, told}
+use Rattle.rmt_vliw.specs.Folding.{folded_of, folded_or_fault}
 use Rattle.rmt_vliw.specs.Known.{known_after, told_values, told_of}
 use Rattle.rmt_vliw.proofs.FoldLaws.{folded_err, folded_ok}
 use Rattle.rmt_vliw.proofs.MeaningLaws.{means}
@@ -34,7 +34,7 @@ returns-in_err-values-2-clause-folded c a at not_memory =
     let returned : c.from_residual-in_err-values-2.result ≡ Err x = p.1 ∙ ap Err p.2 in
     let was = c.in_err-values-2.ensures (λ e. not_memory (returned ∙ same_err x NoMemory e)) in
     let same : acts ≡ a = same_Some acts a (sym (found c.args.program.now.actions c.as_slice.result.now c.args.action acts c.as_slice.ensures c.requires.action c.index-as_slice-action.is) ∙ at) in
-    returned ∙ sym (folded_err c.args.action acts x (ap (told_of c.args.action) (sym values) ∙ sym was)) ∙ ap (λ (b : Action). told c.args.action (folded_of b)) same
+    returned ∙ sym (folded_err c.args.action acts x (ap (told_of c.args.action) (sym values) ∙ sym was)) ∙ ap (λ (b : Action). folded_or_fault c.args.action (folded_of b)) same
 
 -- what it returns is the folding of the action of that number
 folds : (p_actions seen : List Action) (n : ℕ) (acts : Action) (params : List ℕ) (values : List Assign) → seen ≡ p_actions → n < length p_actions → acts ≡ slice_index_or seen n acts
@@ -59,7 +59,7 @@ returns-clause-folded c a at not_memory =
     let is = folds c.args.program.now.actions c.as_slice.result.now c.args.action acts c.in_ok-params.params c.in_ok-values-2.values c.as_slice.ensures c.requires.action c.index-as_slice-action.is
     c.in_ok-params.ensures (ap (told_of c.args.action) (sym values) ∙ sym (c.in_ok-values-2.ensures (λ e. cc))) in
     let same : acts ≡ a = same_Some acts a (sym is.0 ∙ at) in
-    sym (ap (told c.args.action) (ap folded_of (sym same) ∙ is.1))
+    sym (ap (folded_or_fault c.args.action) (ap folded_of (sym same) ∙ is.1))
 
 pub returns-clause-means : goal.returns-clause-means
 returns-clause-means c = means c.args.program.now c.args.action (record { params = c.in_ok-params.params; values = c.in_ok-values-2.values }) c.requires.program (returns-clause-is_folding c)

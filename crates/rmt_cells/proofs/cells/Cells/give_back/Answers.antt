@@ -3,7 +3,7 @@ use Rattle.rmt_cells.specs.Links.{after}
 use Rattle.rmt_cells.specs.Pieces.{cells_for}
 use Rattle.rmt_cells.specs.Stands.{Held}
 use Rattle.rmt_cells.proofs.Walks.{inside}
-use Rattle.rmt_cells.proofs.Standing.{chain_run, contains_middle, given_back}
+use Rattle.rmt_cells.proofs.StandsLaws.{chain_run, contains_middle, given_back}
 use Rattle.rmt_cells.proofs.cells.Cells.give_back.Goals as goal
 
 pub overflow_sub-count : goal.overflow_sub-count

@@ -1,7 +1,7 @@
 use Rattle.std.proofs.Common.{◌≡◌, ℕ, ◌-◌, List, [], length, get_or, refl, ap, sym, ◌∙◌, subst, arith}
 use Rattle.rmt_cells.specs.Links.{after, walk, times}
 use Rattle.rmt_cells.specs.Pieces.{IsRun, Spell, cells_for}
-use Rattle.rmt_cells.proofs.Standing.{free_run, put_stands}
+use Rattle.rmt_cells.proofs.StandsLaws.{free_run, put_stands}
 use Rattle.rmt_cells.proofs.cells.Cells.put.Goals as goal
 
 pub write-self-requires-clause-run : goal.write-self-requires-clause-run

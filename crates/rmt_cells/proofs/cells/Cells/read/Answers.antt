@@ -3,7 +3,7 @@ use Rattle.rmt_cells.specs.Links.{after}
 use Rattle.rmt_cells.specs.Pieces.{Spell, cells_for}
 use Rattle.rmt_cells.specs.Stands.{Held}
 use Rattle.rmt_cells.proofs.Walks.{inside}
-use Rattle.rmt_cells.proofs.Standing.{chain_run}
+use Rattle.rmt_cells.proofs.StandsLaws.{chain_run}
 use Rattle.rmt_cells.proofs.cells.Cells.read.Goals as goal
 
 pub read-requires-clause-links : goal.read-requires-clause-links

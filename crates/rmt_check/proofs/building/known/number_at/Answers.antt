@@ -1,5 +1,5 @@
 use Rattle.std.proofs.Common.{arith}
-use Rattle.rmt_check.specs.Standing.{named_at}
+use Rattle.rmt_check.specs.StoredFields.{named_at}
 use Rattle.rmt_check.proofs.Bounds.{field_small}
 use Rattle.rmt_check.proofs.building.known.number_at.Goals as goal
 

@@ -1,6 +1,6 @@
 use Rattle.std.proofs.Common.{◌≡◌, ◌++◌, drop}
 use Rattle.rmt_check.specs.Names.{declared_fields}
-use Rattle.rmt_check.specs.Standing.{owner_at}
+use Rattle.rmt_check.specs.StoredFields.{owner_at}
 use Rattle.rmt_check.proofs.names.fields.add_declared.Given as goal
 
 abbrev pub invariant-loop-field : goal.invariant-loop-field

@@ -2,7 +2,7 @@ use Rattle.std.proofs.Common.{◌≡◌, ℕ, ◌+◌, ◌%◌, Bool, true, fals
 use Rattle.std.specs.Prelude.{is_some}
 use Rattle.std.proofs.lemmas.List.{with_items_is}
 use Rattle.std.proofs.Common.{Vec, Global}
-use Rattle.rmt_chip.specs.declared.place.Place.{Place}
+use Rattle.rmt_chip.specs.declared.packet_slot.PacketSlot.{PacketSlot}
 use Rattle.rmt_chip.specs.declared.memory.SlotMemory.{SlotMemory}
 use Rattle.rmt_chip.specs.FrameList.{frames_of}
 use Rattle.rmt_chip.specs.Pending.{HaveRoomFor}
@@ -29,7 +29,7 @@ cycle-answer-requires-clause-memories c =
 pub cycle-answer-requires-clause-room : goal.cycle-answer-requires-clause-room
 cycle-answer-requires-clause-room c =
     let self = c.args.self.now in
-    subst (All (λ (p : Place). HaveRoomFor self.config.stages p.pending.items)) (sym c.deref_mut.ensures.value) self.room
+    subst (All (λ (p : PacketSlot). HaveRoomFor self.config.stages p.pending.items)) (sym c.deref_mut.ensures.value) self.room
 
 pub returns : goal.returns
 returns c = λ config inputs stands.
@@ -41,11 +41,11 @@ returns c = λ config inputs stands.
     let fact : LaidOut old.config.seed old.config.stages old.memories.items
     → CycleGives old.config ((old.newest + 1) % 385) c.args.frame old.entered old.places.items c.cycle-answer.new.places (frames_of old.frames) (frames_of c.cycle-answer.new.frames) old.counters.counts c.cycle-answer.new.counters.counts c.cycle-answer.result c.cycle-answer.new.out =
     λ laid inputs before ring turn count.
-    subst (λ (ps : List Place). CycleGives old.config ((old.newest + 1) % 385) c.args.frame old.entered ps c.cycle-answer.new.places (frames_of old.frames) (frames_of c.cycle-answer.new.frames) old.counters.counts c.cycle-answer.new.counters.counts c.cycle-answer.result c.cycle-answer.new.out)
+    subst (λ (ps : List PacketSlot). CycleGives old.config ((old.newest + 1) % 385) c.args.frame old.entered ps c.cycle-answer.new.places (frames_of old.frames) (frames_of c.cycle-answer.new.frames) old.counters.counts c.cycle-answer.new.counters.counts c.cycle-answer.result c.cycle-answer.new.out)
     c.deref_mut.ensures.value
     (λ i b r t n. c.cycle-answer.ensures.gives i b r t n (subst (λ (m : List (Vec SlotMemory Global)). LaidOut old.config.seed old.config.stages m) (sym c.deref.ensures.value) laid))
     inputs before ring turn count in
     clock_right config inputs c.args.frame old _ c.cycle-answer.result c.cycle-answer.new.out old.in_ring refl refl
     (ap (λ (n : ℕ). old.entered + n) grown) refl
-    (λ laid. subst (λ (ps : List Place). CycleGives old.config ((old.newest + 1) % 385) c.args.frame old.entered old.places.items ps (frames_of old.frames) (frames_of c.cycle-answer.new.frames) old.counters.counts c.cycle-answer.new.counters.counts c.cycle-answer.result c.cycle-answer.new.out) (sym items) (fact laid))
+    (λ laid. subst (λ (ps : List PacketSlot). CycleGives old.config ((old.newest + 1) % 385) c.args.frame old.entered old.places.items ps (frames_of old.frames) (frames_of c.cycle-answer.new.frames) old.counters.counts c.cycle-answer.new.counters.counts c.cycle-answer.result c.cycle-answer.new.out) (sym items) (fact laid))
     stands

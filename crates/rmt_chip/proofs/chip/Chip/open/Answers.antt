@@ -1,7 +1,7 @@
 use Rattle.std.proofs.Common.{List, All, refl, sym, ap, subst, ◌∙◌, arith}
 use Rattle.std.specs.Prelude.{is_none}
 use Rattle.rmt_chip.specs.Types.{Stage}
-use Rattle.rmt_chip.specs.declared.place.Place.{Place}
+use Rattle.rmt_chip.specs.declared.packet_slot.PacketSlot.{PacketSlot}
 use Rattle.rmt_chip.specs.Pending.{HaveRoomFor}
 use Rattle.rmt_chip.specs.Ring.{ring_at}
 use Rattle.rmt_chip.specs.StageMemories.{AllSlotsFormed, MemoriesOf, LaidOut}
@@ -25,7 +25,7 @@ invariant_of-result c = record {
   limits = ap is_none c.requires.limits;
   fit = subst (λ (ss : List Stage). MemoriesOf ss c.in_ok-memories.memories.items) c.as_slice-stages.ensures c.in_ok-memories.ensures.fit;
   full = c.in_ok-places.ensures.full;
-  room = subst (λ (ss : List Stage). All (λ (p : Place). HaveRoomFor ss p.pending.items) c.in_ok-places.places.items) c.as_slice-stages.ensures c.in_ok-places.ensures.room;
+  room = subst (λ (ss : List Stage). All (λ (p : PacketSlot). HaveRoomFor ss p.pending.items) c.in_ok-places.places.items) c.as_slice-stages.ensures c.in_ok-places.ensures.room;
   in_ring = omega arith;
   leaves = c.latency-latency.ensures.value ∙ ap latency_of c.as_slice.ensures;
 }

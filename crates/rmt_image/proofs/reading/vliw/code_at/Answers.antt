@@ -1,12 +1,12 @@
 use Rattle.std.proofs.Common.{false}
 use Rattle.std.proofs.lemmas.Result.{err_from_is_err_and}
-use Rattle.rmt_config.specs.declared.form.code.Place.{Place}
+use Rattle.rmt_config.specs.declared.form.code.InstructionRole.{InstructionRole}
 use Rattle.rmt_image.specs.Readers.{each}
 use Rattle.rmt_image.specs.Reading.{vliw_at}
 use Rattle.rmt_image.proofs.ItemLoops.{each_goes_on, each_ends, each_is_done}
 use Rattle.rmt_image.proofs.reading.vliw.code_at.Goals as goal
 
-abbrev none : Place
+abbrev none : InstructionRole
 none = record { held = 0; is_default = false }
 
 pub returns-in_err-vliw : goal.returns-in_err-vliw

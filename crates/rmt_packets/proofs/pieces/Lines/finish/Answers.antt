@@ -1,6 +1,6 @@
 use Rattle.std.proofs.Common.{sym, subst}
 use Rattle.rmt_packets.specs.Pieces.{IsLast, LineState}
-use Rattle.rmt_packets.proofs.Standing.{is_last_ready, none_last}
+use Rattle.rmt_packets.proofs.StandsLaws.{is_last_ready, none_last}
 use Rattle.rmt_packets.proofs.pieces.Lines.finish.Goals as goal
 
 pub returns-clause-last : goal.returns-clause-last

@@ -3,7 +3,7 @@ use Rattle.std.specs.List.{list_all}
 use Rattle.std.specs.Vec.{with_items}
 use Rattle.std.proofs.lemmas.List.{length-take, with_items_is}
 use Rattle.rmt_packets.specs.Pieces.{LineState, front_of}
-use Rattle.rmt_packets.proofs.Standing.{front_grows, grown_is}
+use Rattle.rmt_packets.proofs.StandsLaws.{front_grows, grown_is}
 use Rattle.rmt_packets.proofs.pieces.Lines.grow.Goals as goal
 
 pub returns : goal.returns

@@ -1,5 +1,5 @@
 use Rattle.std.proofs.Common.{◌∙◌, refl, length-take, arith}
-use Rattle.rmt_packets.proofs.Standing.{Steps, after_ends, after_none, after_open, after_stands, ended_to, none_whole, stands_to}
+use Rattle.rmt_packets.proofs.StandsLaws.{Steps, after_ends, after_none, after_open, after_stands, ended_to, none_whole, stands_to}
 use Rattle.rmt_packets.proofs.pieces.Lines.take.Goals as goal
 use Rattle.rmt_packets.proofs.pieces.Lines.take.Goals.{Then-feed}
 

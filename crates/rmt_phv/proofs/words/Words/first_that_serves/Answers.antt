@@ -1,7 +1,7 @@
 use Rattle.std.proofs.Common.{◌≡◌, ℕ, ◌<◌, ◌-◌, ◌+◌, Some, Bool, true, false, ap, cond, find, sym, ◌∙◌}
 use Rattle.std.specs.List.{range_with_len}
 use Rattle.rmt_phv.specs.Packing.{serves}
-use Rattle.rmt_phv.proofs.StandingLaws.{find_step, find_none}
+use Rattle.rmt_phv.proofs.WordLaws.{find_step, find_none}
 use Rattle.rmt_phv.proofs.words.Words.first_that_serves.Goals as goal
 
 -- a word that is looked at, and the words behind it

@@ -2,7 +2,7 @@ use Rattle.std.proofs.Common.{◌≡◌, ◌-◌, ℕ, List, find}
 use Rattle.std.specs.List.{range_with_len}
 use Rattle.rmt_ast.specs.declared.program.Program.{Program}
 use Rattle.rmt_phv.specs.Packing.{Piece, serves, words_for}
-use Rattle.rmt_phv.specs.Standing.{Packs}
+use Rattle.rmt_phv.specs.WordsSoFar.{Packs}
 use Rattle.rmt_phv.proofs.words.Words.first_that_serves.Given as goal
 
 -- the first word from here on that serves is the first of all

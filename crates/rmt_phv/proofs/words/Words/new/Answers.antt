@@ -1,4 +1,4 @@
-use Rattle.rmt_phv.proofs.StandingLaws.{nothing_stands}
+use Rattle.rmt_phv.proofs.WordLaws.{nothing_stands}
 use Rattle.rmt_phv.proofs.words.Words.new.Goals as goal
 
 pub returns : goal.returns

@@ -3,7 +3,7 @@ use Rattle.std.proofs.lemmas.Bool.{le-leb}
 use Rattle.rmt_bits.specs.Words.{word_size}
 use Rattle.rmt_phv.specs.declared.words.Word.{Word}
 use Rattle.rmt_phv.specs.Packing.{free_bit}
-use Rattle.rmt_phv.proofs.StandingLaws.{clash_is}
+use Rattle.rmt_phv.proofs.WordLaws.{clash_is}
 use Rattle.rmt_phv.proofs.words.Words.serves.Goals as goal
 
 all_three : (room own clash meet : Bool) → room ≡ true → own ≡ false → meet ≡ clash → not meet ≡ ((room && not own) && not clash)

@@ -1,7 +1,7 @@
 use Rattle.rmt_syntax.proofs.Words.{◌∙◌, sym, ap, ◌∷◌, List, slice_get, Goal, part, phrase, Part, One, Done, FieldEnd}
 use Rattle.rmt_syntax.proofs.Words.terminal
 use Rattle.rmt_syntax.proofs.Cuts.{heads}
-use Rattle.rmt_syntax.proofs.Standing.{next_phrase}
+use Rattle.rmt_syntax.proofs.BeforeLaws.{next_phrase}
 use Rattle.rmt_syntax.proofs.reader.Reader.take_field.Goals as goal
 
 pub returns-clause-goals : goal.returns-clause-goals

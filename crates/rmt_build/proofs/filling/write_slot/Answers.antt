@@ -1,0 +1,37 @@
+use Rattle.std.proofs.Common.{◌≡◌, List, Some, get_or, ◌∙◌, subst, sym, ap}
+use Rattle.std.proofs.lemmas.Option.{none-some, same_Some}
+use Rattle.rmt_ast.specs.declared.entry.Entry.{Entry}
+use Rattle.rmt_pack.specs.Placements.{data_bits, key_bits}
+use Rattle.rmt_pack.specs.Rows.{blocks_of}
+use Rattle.rmt_build.specs.declared.stands.Stand.{Stand}
+use Rattle.rmt_build.specs.Holding.{Held, PartHolds}
+use Rattle.rmt_build.specs.Listing.{masks_of, values_of}
+use Rattle.rmt_build.proofs.UnitsLaws.{applied-here, below}
+use Rattle.rmt_build.proofs.filling.write_slot.Goals as goal
+
+pub returns-clause-written : goal.returns-clause-written
+returns-clause-written c =
+    let fits = c.requires.slot in
+    absurd (none-some fits.table (c.in_default.ensures ∙ applied-here c.args.planned.now.program.now c.as_slice.result.now c.args.slot.now.node _ fits.table c.as_slice.ensures fits.is_table))
+
+pub returns-in-Some-clause-written : goal.returns-in-Some-clause-written
+returns-in-Some-clause-written c =
+    let fits = c.requires.slot in
+    let p = c.args.planned.now.program.now in
+    let lists = c.args.planned.now.entries.now in
+    let slot = c.args.slot.now in
+    let n = slot.node in
+    let t = c.in-Some.table.now in
+    let own = c.as_slice-own.result.now in
+    let list = c.index-as_slice-node.result in
+    let same_table : t ≡ fits.table = same_Some t fits.table (c.in-Some.ensures ∙ applied-here p c.as_slice.result.now n _ fits.table c.as_slice.ensures fits.is_table) in
+    let same_own : own ≡ fits.entries =
+    c.as_slice-own.ensures ∙ c.index-as_slice-node.is ∙ ap (λ (xs : List (List Entry)). get_or xs n list) c.as_slice-in-Some.ensures ∙ (below lists n fits.entries fits.is_entries).1 list in
+    let h : Held = record { sram = blocks_of c.write_part.new.sram; values = values_of c.write_part.new.tcam; masks = masks_of c.write_part.new.tcam } in
+    record {
+      table = t;
+      entries = own;
+      is_table = fits.is_table ∙ ap Some (sym same_table);
+      is_entries = fits.is_entries ∙ ap Some (sym same_own);
+      part = subst (λ (xs : List Stand). PartHolds p t own xs c.args.first (key_bits p t) (data_bits p t) h slot.memory) (c.as_slice-stands.ensures ∙ c.in_ok-stands.ensures) c.in_ok-write_part.ensures.holds;
+    }

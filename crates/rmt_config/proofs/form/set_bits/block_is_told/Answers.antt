@@ -1,0 +1,34 @@
+use Rattle.std.proofs.Common.{◌≡◌, ℕ, ◌+◌, ◌-◌, take, drop, ◌*◌, ◌/◌, ◌%◌, ◌<◌, ◌≤◌, length, sym, subst, arith}
+use Rattle.std.specs.Prelude.{All, slice_index_or}
+use Rattle.rmt_config.specs.Layouts.{listed_cells, RowTold}
+use Rattle.rmt_config.proofs.RiseLaws.{run-order, run-all, run-back}
+use Rattle.rmt_config.proofs.form.set_bits.block_is_told.Goals as goal
+
+pub run_of-run-requires-clause-order : goal.run_of-run-requires-clause-order
+run_of-run-requires-clause-order g c =
+    run-order g.R.Numbered.place_of c.args.rows.now c.first_from-first.result c.first_from-end.result c.joined.result c.joined-2.result
+    (omega (arith, c.joined.ensures, c.joined-2.ensures)) c.first_from-first.ensures.within c.first_from-first.ensures.below c.first_from-end.ensures.above
+
+pub returns : goal.returns
+returns g c =
+    let l = c.args.layout.now in
+    let f = g.R.Numbered.place_of in
+    let xs = c.args.rows.now in
+    let first = c.first_from-first.result in
+    let end = c.first_from-end.result in
+    let b = c.args.block in
+    let P : g.row.R.Denot → Type 0 = λ x. RowTold l (listed_cells c.args.numbers.now) (c.args.at / l.side) (c.args.at % l.side) (f x % l.rows) (g.R.MemoryRow.bits_of x) in
+    let run : c.run_of-run.result.now ≡ take (end - first) (drop first xs) = c.run_of-run.ensures in
+    let e1 : c.joined.result ≡ b * l.rows = omega (arith, c.joined.ensures) in
+    let e2 : c.joined-2.result ≡ (b + 1) * l.rows = omega (arith, c.joined-2.ensures) in
+    let from : (k : ℕ) (d : g.row.R.Denot) → first ≤ k → k < length xs → b * l.rows ≤ f (slice_index_or xs k d) =
+    λ k d le lt. subst (λ n. n ≤ f (slice_index_or xs k d)) e1 (c.first_from-first.ensures.above k d le lt) in
+    let before : (k : ℕ) (d : g.row.R.Denot) → k < first → f (slice_index_or xs k d) < b * l.rows =
+    λ k d lt. subst (λ n. f (slice_index_or xs k d) < n) e1 (c.first_from-first.ensures.below k d lt) in
+    let behind : (k : ℕ) (d : g.row.R.Denot) → end ≤ k → k < length xs → (b + 1) * l.rows ≤ f (slice_index_or xs k d) =
+    λ k d le lt. subst (λ n. n ≤ f (slice_index_or xs k d)) e2 (c.first_from-end.ensures.above k d le lt) in
+    let upto : (k : ℕ) (d : g.row.R.Denot) → k < end → f (slice_index_or xs k d) < (b + 1) * l.rows =
+    λ k d lt. subst (λ n. f (slice_index_or xs k d) < n) e2 (c.first_from-end.ensures.below k d lt) in (
+      λ stands. run-all P f xs first end l.rows b c.requires.layout.some_rows from c.first_from-end.ensures.within before behind (subst (All P) run (c.rows_are_told.ensures.0 stands)),
+      λ all. c.rows_are_told.ensures.1 (subst (All P) (sym run) (run-back P f xs first end l.rows b from c.first_from-end.ensures.within upto all)),
+    )

@@ -1,8 +1,0 @@
-use Rattle.std.proofs.Common.{◌%◌, take}
-use Rattle.std.specs.Prelude.{All}
-use Rattle.rmt_config.specs.Layouts.{listed_cells, RowTold}
-use Rattle.rmt_config.proofs.form.told.rows_are_told.Given as goal
-
-abbrev pub invariant-loop-row : goal.invariant-loop-row
-invariant-loop-row g l =
-    All (λ x. RowTold l.layout (listed_cells l.numbers) l.unit l.place (g.R.Numbered.place_of x % l.layout.rows) (g.R.MemoryRow.bits_of x)) (take l.row-index l.rows)
