@@ -1,8 +1,8 @@
 //! The memory of a slot laid out for reading, and look-ups in it.
 
+mod block_bits;
 mod exact;
 mod lay;
-mod block_bits;
 mod runs;
 mod spot;
 mod ternary;

@@ -6,8 +6,8 @@ ghost use Rattle.rmt_chip.specs.Held.{IsFree};
 ghost use Rattle.rmt_chip.specs.Pending.{HasRoomFor, HaveRoomFor};
 ghost use Rattle.rmt_chip.specs.Writes.{most_ops};
 
-use crate::pending::Pending;
 use crate::packet_slot::PacketSlot;
+use crate::pending::Pending;
 use crate::ring::PLACES;
 use crate::room::room;
 use rmt_config::config::{Stage, Vliw};

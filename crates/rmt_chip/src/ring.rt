@@ -91,7 +91,12 @@ pub fn act_all(places: &mut [PacketSlot], newest: usize, config: &Config, counte
 }
 
 /// Each stage reads the keys and tests of the packet that is at its start.
-pub fn look_all(places: &mut [PacketSlot], newest: usize, config: &Config, memories: &[Vec<SlotMemory>])
+pub fn look_all(
+    places: &mut [PacketSlot],
+    newest: usize,
+    config: &Config,
+    memories: &[Vec<SlotMemory>],
+)
     requires full { length places.old ≡ 385 }
     requires newest { newest < 385 }
     requires fits { StagesFit config.now.stages }

@@ -12,8 +12,8 @@ ghost use Rattle.rmt_chip.specs.Ran.{CountsAlso};
 ghost use Rattle.rmt_chip.specs.Runnable.{StageFits};
 
 use crate::memory::SlotMemory;
-use crate::pending;
 use crate::packet_slot::PacketSlot;
+use crate::pending;
 use crate::writes::apply;
 use rmt_bits::counts::Counts;
 use rmt_config::config::Stage;

@@ -19,11 +19,11 @@ pub mod parser;
 pub mod parts;
 mod row_rules;
 pub mod search;
+mod set_bits;
 pub mod shape;
 pub mod sram;
 mod stage;
 mod tables;
-mod set_bits;
 pub mod unit;
 
 use crate::config::{Config, Stage};

@@ -9,10 +9,10 @@ ghost use Rattle.rmt_pack.specs.Shape.{IsShape, cells_in};
 ghost use Rattle.rmt_pack.specs.Cells.{place_of as cell_place_of, entry_of, HoldsCell, OtherEntriesStay, RecordsStay, PutsEntry};
 
 use crate::head::{Head, byte_of, head_from};
-use crate::spots::{Spot, blocks_from, place_of};
 use crate::rows::Rows;
 use crate::run::{read_run, write_run};
 use crate::shape::Shape;
+use crate::spots::{Spot, blocks_from, place_of};
 
 /// Where the entry of a cell begins.
 fn spot_of(shape: &Shape, cell: u32) -> Spot

@@ -7,10 +7,10 @@ ghost use Rattle.rmt_pack.specs.Rows.{blocks_of};
 ghost use Rattle.rmt_pack.specs.Shape.{IsShape, cells_in};
 ghost use Rattle.rmt_pack.specs.Cells.{record_of, HoldsRecord, EntriesStay, OtherRecordsStay, PutsRecord, quantum_in, index_in, thousands_in};
 
-use crate::spots::{Spot, blocks_from, place_of};
 use crate::rows::Rows;
 use crate::run::{read_run, write_run};
 use crate::shape::{EXACT, Shape};
+use crate::spots::{Spot, blocks_from, place_of};
 
 /// The quotient, rounded up.
 fn divided_up(a: u32, b: u32) -> u32

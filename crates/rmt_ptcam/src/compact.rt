@@ -6,9 +6,9 @@ ghost use Rattle.rmt_ptcam.specs.Adding.{Adds};
 ghost use Rattle.rmt_ptcam.specs.Joining.{IsGood, KeepsForm, Row, is_among as is_among_of, rows_of};
 ghost use Rattle.rmt_ptcam.specs.Clustering.{state_behind, met_states as met_states_of, number_in as number_in_of, renamed_next as renamed_next_of, renamed as renamed_of, states_kept as states_kept_of, compact as compact_of};
 
+use crate::entry_rows::{copied_extracts, push_row};
 use crate::joining::copied;
 use crate::lookups::is_among;
-use crate::entry_rows::{copied_extracts, push_row};
 use crate::search::entry_tail;
 use rmt_bits::answer::Bytes;
 use rmt_bits::sequence::Sequence;

@@ -6,9 +6,9 @@ ghost use Rattle.rmt_config.specs.declared.config.Next.TheVariants.{State};
 ghost use Rattle.rmt_config.specs.declared.config.ParserState.{ParserState};
 ghost use Rattle.rmt_ptcam.specs.Joining.{IsGood, KeepsForm, ParsesAlike, lookups_at as lookups_at_of, compares_before as compares_before_of, ends_open as ends_open_of, is_light as is_light_of, entries_in, can_join as can_join_of, together as together_of, joined as joined_of, join_to as join_to_of, join_at as join_at_of, join_of, number_of_entry as number_of_entry_of};
 
+use crate::entry_rows::{push_joined, push_widened};
 use crate::fault::JoinFault;
 use crate::lookups::{byte_at, together};
-use crate::entry_rows::{push_joined, push_widened};
 use crate::search::entry_tail;
 use rmt_bits::answer::Bytes;
 use rmt_bits::sequence::Sequence;

@@ -6,6 +6,7 @@ pub mod clustered;
 mod clustering;
 mod compact;
 mod entries;
+mod entry_rows;
 mod extract;
 pub mod fault;
 mod headers;
@@ -16,7 +17,6 @@ pub mod need;
 pub mod parse;
 mod pieces;
 pub mod plain;
-mod entry_rows;
 mod search;
 mod step;
 

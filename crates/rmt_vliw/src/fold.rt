@@ -33,7 +33,11 @@ fn values_after(alloc: Global, assigns: &[Assign]) -> Result<Vec<Value>, AllocEr
 }
 
 /// The values as assignments, where each takes at most one operation.
-fn folded_or_fault(alloc: Global, action: u32, values: &[Value]) -> Result<Sequence<Assign>, ActionDeep>
+fn folded_or_fault(
+    alloc: Global,
+    action: u32,
+    values: &[Value],
+) -> Result<Sequence<Assign>, ActionDeep>
     ensures { result ≢ Err ActionDeep.NoMemory → result ≡ told_of action (told_values values.now) }
 {
     let mut assigns = Sequence::new(alloc);

@@ -69,7 +69,11 @@ struct RepeatedSelect;
 impl TryFlaw<(), HeaderText> for RepeatedSelect {
     ghost places = { λ _ h. rules.repeated_select h };
 
-    fn at(alloc: Global, _shared: &(), header: &HeaderText) -> Result<Option<Position>, AllocError> {
+    fn at(
+        alloc: Global,
+        _shared: &(),
+        header: &HeaderText,
+    ) -> Result<Option<Position>, AllocError> {
         repeated_idents(alloc, header.select.as_slice())
     }
 }

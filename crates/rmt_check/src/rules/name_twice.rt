@@ -25,7 +25,11 @@ struct NameTwice;
 impl TryFlaw<(), HeaderText> for NameTwice {
     ghost places = { λ _ h. fields_twice h };
 
-    fn at(alloc: Global, _shared: &(), header: &HeaderText) -> Result<Option<Position>, AllocError> {
+    fn at(
+        alloc: Global,
+        _shared: &(),
+        header: &HeaderText,
+    ) -> Result<Option<Position>, AllocError> {
         repeated_names(alloc, header.fields.as_slice())
     }
 }
@@ -33,7 +37,11 @@ impl TryFlaw<(), HeaderText> for NameTwice {
 impl TryFlaw<(), ActionText> for NameTwice {
     ghost places = { λ _ a. params_twice a };
 
-    fn at(alloc: Global, _shared: &(), action: &ActionText) -> Result<Option<Position>, AllocError> {
+    fn at(
+        alloc: Global,
+        _shared: &(),
+        action: &ActionText,
+    ) -> Result<Option<Position>, AllocError> {
         repeated_names(alloc, action.params.as_slice())
     }
 }

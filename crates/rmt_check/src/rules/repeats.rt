@@ -28,7 +28,10 @@ pub fn repeated<K: Eq + Hash + Copy>(
 }
 
 /// The earliest place of a name that repeats an earlier one.
-pub fn repeated_names<T: Labelled>(alloc: Global, items: &[T]) -> Result<Option<Position>, AllocError>
+pub fn repeated_names<T: Labelled>(
+    alloc: Global,
+    items: &[T],
+) -> Result<Option<Position>, AllocError>
     ensures { IfOk result (λ p. p ≡ earliest (rules.repeated (map T.ident_of items.now))) }
 {
     let mut marks = Vec::new(alloc);

@@ -86,7 +86,11 @@ fn kind_of(bytes: &[u8]) -> Result<(OpKind, &[u8]), ReadError>
 }
 
 #[tactic(auto, unfolding(crate::specs::Reading::operation_at))]
-fn operation_of(place: InstructionRole, least: u32, bytes: &[u8]) -> Result<(Operation, &[u8]), ReadError>
+fn operation_of(
+    place: InstructionRole,
+    least: u32,
+    bytes: &[u8],
+) -> Result<(Operation, &[u8]), ReadError>
     ensures { Gives (λ x. (x.0, x.1.now)) result (operation_at place least bytes.now) }
 {
     let (lane, rest) = lane_from(least, bytes)?;
