@@ -1,8 +1,8 @@
 -- Laws of slices and deposits.
-use Rattle.std.proofs.Common.{◌≡◌, ℕ, ◌+◌, ◌-◌, ◌*◌, ◌/◌, ◌%◌, ◌^◌, ◌<◌, ◌≤◌, sym, ap, ◌∙◌, arith}
+use Rattle.std.proofs.Common.{◌≡◌, ℕ, ◌+◌, ◌-◌, ◌*◌, ◌/◌, ◌%◌, ◌^◌, ◌<◌, ◌≤◌, ◌==◌, false, sym, ap, ◌∙◌, arith}
 use Rattle.std.proofs.lemmas.Nat.{pow_pos, pow-add, shr_below, mod_below, mul-add-lt, shr_split, shr-shr, shr_high, mod_low, field_of, mod-pow-add}
-use Rattle.std.proofs.Math.Pow.{mod-mod-pow}
-use Rattle.std.proofs.Math.Nat.{div-one, mod-eq_of_lt}
+use Rattle.std.proofs.Math.Pow.{mod-mod-pow, pow_mono}
+use Rattle.std.proofs.Math.Nat.{div-eq_of_lt, div-one, mod-eq_of_lt}
 use Rattle.rmt_bits.specs.Bits.{slice, deposit}
 
 -- a slice has no more bits than its length
@@ -138,3 +138,10 @@ deposit-multiple n low len x =
     let high : n * 2 ^ (low + len) / 2 ^ (low + len) ≡ n = ap (λ m. m / 2 ^ (low + len)) whole ∙ shr_high n (low + len) 0 (pow_pos (low + len)) in
     let below : n * 2 ^ (low + len) % 2 ^ low ≡ 0 = ap (λ m. m % 2 ^ low) turned ∙ mod_low (n * 2 ^ len) low 0 (pow_pos low) in
     rw (high, below) (omega (arith, turned))
+
+-- a mask of 16 bits has no later bit
+pub no_bit-above : (mask n : ℕ) → mask < 2 ^ 16 → 16 ≤ n → (mask / 2 ^ n % 2 == 1) ≡ false
+no_bit-above mask n small far =
+    let more : 2 ^ 16 ≤ 2 ^ n = pow_mono far in
+    let below : mask < 2 ^ n = omega arith in
+    ap (λ m. m % 2 == 1) (div-eq_of_lt below)

@@ -1,5 +1,5 @@
 -- Laws of runs of bytes as numbers.
-use Rattle.std.proofs.Common.{◌≡◌, ℕ, zero, suc, refl, ◌+◌, ◌-◌, ◌*◌, ◌/◌, ◌%◌, ◌^◌, ◌<◌, ◌≤◌, List, [], ◌∷◌, ◌++◌, length, get_or, set, take, drop, fold, sym, ap, ◌∙◌, subst, arith, replicate, ◌⊎◌, inl, inr}
+use Rattle.std.proofs.Common.{◌≡◌, ℕ, zero, suc, refl, ◌+◌, ◌-◌, ◌*◌, ◌/◌, ◌%◌, ◌^◌, ◌<◌, ◌≤◌, List, [], ◌∷◌, ◌++◌, length, get_or, set, take, drop, fold, sym, ap, ◌∙◌, subst, arith, replicate}
 use Rattle.std.proofs.lemmas.Nat.{pow-add, mul-add-lt, shr_split, shr-shr, shr_high, mod_low, mod-pow-add, div_below}
 use Rattle.std.proofs.lemmas.List.Sums.{fold-append, fold_push}
 use Rattle.std.proofs.lemmas.List.{length-append, take_all, take_more, take-append-drop, length-drop, get_or-drop, length-set, take-set, get_or-set_same, drop-set-lt}
@@ -270,3 +270,6 @@ number_of-bytes_of (suc count) n lt =
 pub number_of-zeros : (n : ℕ) → number_of (replicate n 0) ≡ 0
 number_of-zeros zero = refl
 number_of-zeros (suc n) = number_of-zeros n
+
+pub number_of-cleared : (bytes : List ℕ) (n : ℕ) → bytes ≡ replicate n 0 → number_of bytes ≡ 0
+number_of-cleared bytes n e = ap number_of e ∙ number_of-zeros n

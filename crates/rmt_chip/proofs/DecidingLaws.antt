@@ -1,8 +1,6 @@
 -- What one more unit of a stage does.
-use Rattle.std.proofs.Common.{◌≡◌, ℕ, ◌+◌, ◌-◌, ◌/◌, ◌%◌, ◌^◌, ◌<◌, ◌≤◌, Bool, true, false, ◌==◌, cond, List, [], ◌∷◌, ◌++◌, length, get_or, set, take, map, reverse, Option, Some, None, refl, sym, ap, subst, ◌∙◌, append_assoc, append-nil, tests, arith}
+use Rattle.std.proofs.Common.{◌≡◌, ℕ, ◌+◌, ◌-◌, ◌<◌, ◌≤◌, Bool, true, false, cond, List, [], ◌∷◌, ◌++◌, length, get_or, set, take, map, reverse, Option, Some, None, refl, sym, ap, subst, ◌∙◌, append_assoc, append-nil, tests, arith}
 use Rattle.std.specs.Prelude.{fold, nat_lt, unwrap_or, option_map}
-use Rattle.std.proofs.Math.Nat.{div-eq_of_lt}
-use Rattle.std.proofs.Math.Pow.{pow_mono}
 use Rattle.std.proofs.lemmas.Bool.{false≢true}
 use Rattle.std.proofs.lemmas.List.{map_push, reverse-append}
 use Rattle.std.proofs.lemmas.List.Sums.{fold_more}
@@ -21,13 +19,6 @@ use Rattle.rmt_chip.specs.Counting.{hits_made}
 use Rattle.rmt_chip.specs.Ran.{held_of, running_of, all_running, CountsAlso, HaveDone, base_after}
 
 -- ---- guards
-
--- an outcome of 16 or more is in no mask
-pub no_bit : (mask outcome : ℕ) → mask < 2 ^ 16 → 16 ≤ outcome → (mask / 2 ^ outcome % 2 == 1) ≡ false
-no_bit mask outcome small high =
-    let more : 2 ^ 16 ≤ 2 ^ outcome = pow_mono high in
-    let none : mask / 2 ^ outcome ≡ 0 = div-eq_of_lt (omega arith) in
-    ap (λ n. n % 2 == 1) none
 
 -- ---- what runs, and what is counted
 

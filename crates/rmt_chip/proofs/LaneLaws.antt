@@ -1,9 +1,9 @@
 -- The lanes of a header, one after another.
-use Rattle.std.proofs.Common.{◌≡◌, ℕ, zero, suc, replicate, ◌+◌, ◌-◌, ◌*◌, ◌/◌, ◌%◌, ◌^◌, ◌<◌, ◌≤◌, List, length, get_or, take, refl, sym, ap, ◌∙◌, arith}
+use Rattle.std.proofs.Common.{◌≡◌, ℕ, ◌+◌, ◌-◌, ◌*◌, ◌/◌, ◌%◌, ◌^◌, ◌<◌, ◌≤◌, List, length, get_or, take, sym, ap, ◌∙◌, arith}
 use Rattle.std.specs.List.{sum_by}
 use Rattle.std.proofs.lemmas.List.Sums.{sum_by_more, sum_by-take-le, sum-map, fold_more}
 use Rattle.std.proofs.lemmas.Nat.{pow_pos, pow-add, shr_high, mod_low}
-use Rattle.rmt_bits.specs.Bits.{deposit, number_of}
+use Rattle.rmt_bits.specs.Bits.{deposit}
 use Rattle.rmt_bits.specs.declared.lane.Lane.{Lane}
 use Rattle.rmt_config.specs.LaneForm.{bits_of_lanes}
 use Rattle.rmt_config.specs.Life.{Words, lane_of, key_of}
@@ -39,10 +39,3 @@ filled_more n n' k at len x size was within small put =
     let low = size - (at + len) in
     let split : size - at ≡ low + len = omega arith in
     put ∙ deposit_below n k low len x (was ∙ ap (λ m. k * 2 ^ m) split) small
-
-number_of_zeros : (n : ℕ) → number_of (replicate n 0) ≡ 0
-number_of_zeros zero = refl
-number_of_zeros (suc n) = number_of_zeros n
-
-pub number_of-zero : (bytes : List ℕ) (n : ℕ) → bytes ≡ replicate n 0 → number_of bytes ≡ 0
-number_of-zero bytes n e = ap number_of e ∙ number_of_zeros n

@@ -86,13 +86,6 @@ pub slice-byte : (v low len up : ℕ) → up ≤ len → slice v (low + up) 8 % 
 slice-byte v low len up le =
     mod-turned (v / 2 ^ (low + up)) 8 (len - up) ∙ sym (ap (λ n. n % 2 ^ 8) (slice-shr v low len up le))
 
--- a slice of a slice
-pub slice-slice : (v low len from n : ℕ) → from + n ≤ len → slice (slice v low len) from n ≡ slice v (low + from) n
-slice-slice v low len from n le =
-    let e : len - from ≡ n + (len - from - n) = omega (arith, le) in
-    ap (λ m. m % 2 ^ n) (slice-shr v low len from (omega (arith, le)))
-    ∙ ap (λ k. v / 2 ^ (low + from) % 2 ^ k % 2 ^ n) e ∙ mod-low (v / 2 ^ (low + from)) n (len - from - n)
-
 -- the lowest bits of a byte
 pub byte-low : (byte len : ℕ) → byte < 256 → 8 ≤ len → byte ≡ byte % 2 ^ len
 byte-low byte len lt le =

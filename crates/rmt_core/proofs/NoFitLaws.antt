@@ -30,6 +30,7 @@ use Rattle.rmt_core.specs.Given.{told}
 use Rattle.rmt_core.specs.Compiling.{Fitted, IsFull, Untailed, first_tail}
 use Rattle.rmt_core.specs.Making.{TellsWhy}
 use Rattle.rmt_core.specs.NoFitText.{no_fit_line}
+use Rattle.rmt_bits.proofs.OptionLaws.{option_or-none_right}
 
 -- ---- tails
 
@@ -51,10 +52,6 @@ refusal_or d (Err e) = e
 pub same_Err : {A E : Type 0} (x y : E) → (let r : Result A E = Err x in r) ≡ Err y → x ≡ y
 same_Err x y e = ap (refusal_or x) e
 
-none_behind : {X : Type 0} (a b : Option X) → option_or a b ≡ None → b ≡ None
-none_behind None b is = is
-none_behind (Some x) b is = absurd (none-some x (sym is))
-
 -- fields have places and nodes parts
 pub record ArePlaced (p : Program) : Type 0 where
   pub places : List (List Lane)
@@ -64,7 +61,7 @@ pub record ArePlaced (p : Program) : Type 0 where
 
 -- where there is no refusal
 pub are_placed : (p : Program) → first_refusal p ≡ None → ArePlaced p
-are_placed p is = by (packing p) refl (none_behind _ _ (none_behind _ _ is))
+are_placed p is = by (packing p) refl (option_or-none_right _ _ (option_or-none_right _ _ is))
   where
     then : (places : List (List Lane)) (r : Result (List Part) Stuck) → packing p ≡ Ok places → placement p places (dependencies_of p places) ≡ r → stuck_told r ≡ None → ArePlaced p
     then places (Ok parts) packed e none = record { places = places; parts = parts; packed = packed; placed = e }

@@ -1,5 +1,5 @@
 -- Runs of bits in a row of blocks side by side.
-use Rattle.std.proofs.Common.{◌≡◌, ◌≢◌, ℕ, zero, suc, ◌+◌, ◌-◌, ◌*◌, ◌/◌, ◌%◌, ◌^◌, ◌<◌, ◌≤◌, List, [], ◌∷◌, length, replicate, get_or, sym, refl, ap, ◌∙◌, subst, arith, inl, inr}
+use Rattle.std.proofs.Common.{◌≡◌, ◌≢◌, ℕ, zero, suc, ◌+◌, ◌-◌, ◌*◌, ◌/◌, ◌%◌, ◌^◌, ◌<◌, ◌≤◌, List, [], ◌∷◌, length, get_or, sym, refl, ap, ◌∙◌, subst, arith, inl, inr}
 use Rattle.std.specs.Prelude.{AllPairs}
 use Rattle.std.specs.Int.{bit_at}
 use Rattle.std.proofs.lemmas.Bool.{cases_order}
@@ -7,7 +7,7 @@ use Rattle.std.proofs.lemmas.List.{get_or_default}
 use Rattle.std.proofs.lemmas.Nat.{shr-shr, shr_split, shr_below, mod_low}
 use Rattle.std.proofs.lemmas.Nat.Bits.{same_from_bits_below}
 use Rattle.std.proofs.Math.Nat.{mod-eq_of_lt}
-use Rattle.rmt_bits.specs.Bits.{slice, deposit, number_of}
+use Rattle.rmt_bits.specs.Bits.{slice, deposit}
 use Rattle.rmt_bits.proofs.BitLaws.{slice-lt, mod-from_low, deposit-add, slice-slice, deposit-multiple}
 use Rattle.rmt_bits.proofs.ByteLaws.{deposit-raised}
 use Rattle.rmt_config.specs.Cells.{Blocks, unit_row}
@@ -155,11 +155,6 @@ read-none u low len =
   where
     zero_times : (n : ℕ) → 0 * n ≡ 0
     zero_times n = omega arith
-
--- bytes that are all 0
-pub number_of-zeros : (n : ℕ) → number_of (replicate n 0) ≡ 0
-number_of-zeros zero = refl
-number_of-zeros (suc n) = number_of-zeros n
 
 pub read-all : (s left : ℕ) → left ≡ 0 → s / 2 ^ left * 2 ^ left ≡ s
 read-all s left none = ap (λ n. s / 2 ^ n * 2 ^ n) none ∙ whole s

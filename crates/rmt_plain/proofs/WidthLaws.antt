@@ -1,10 +1,10 @@
 -- Numbers modulo two to a width of at most 128.
-use Rattle.std.proofs.Common.{◌≡◌, ℕ, zero, suc, replicate, List, ◌+◌, ◌-◌, ◌*◌, ◌/◌, ◌%◌, ◌^◌, ◌<◌, ◌≤◌, ◌==◌, nat_lt, false, refl, sym, ap, ◌∙◌, arith}
-use Rattle.std.proofs.Math.Nat.{add-mod_right, add-mul, div-eq_of_lt, mod-eq_of_lt}
-use Rattle.std.proofs.Math.Pow.{mod-mod-pow, ones_lt, pow_mono}
+use Rattle.std.proofs.Common.{◌≡◌, ℕ, ◌+◌, ◌-◌, ◌*◌, ◌/◌, ◌%◌, ◌^◌, ◌<◌, ◌≤◌, nat_lt, false, sym, ap, ◌∙◌, arith}
+use Rattle.std.proofs.Math.Nat.{add-mod_right, add-mul, mod-eq_of_lt}
+use Rattle.std.proofs.Math.Pow.{mod-mod-pow, ones_lt}
 use Rattle.std.proofs.lemmas.Nat.{pow_pos, pow-add, mod_low, shr_high}
 use Rattle.std.proofs.lemmas.Bool.{le-ltb}
-use Rattle.rmt_bits.specs.Bits.{deposit, number_of}
+use Rattle.rmt_bits.specs.Bits.{deposit}
 
 pub mod-128 : (n width : ℕ) → width ≤ 128 → n % 2 ^ 128 % 2 ^ width ≡ n % 2 ^ width
 mod-128 n width h =
@@ -41,13 +41,6 @@ more-mod a b m h pos =
 pub is_not_below : (a b : ℕ) → b ≤ a → nat_lt a b ≡ false
 is_not_below a b h = le-ltb a b h
 
--- a mask of 16 bits has no later bit
-pub is_not_in : (mask outcome : ℕ) → mask < 2 ^ 16 → 16 ≤ outcome → (mask / 2 ^ outcome % 2 == 1) ≡ false
-is_not_in mask outcome small h =
-    let far : 2 ^ 16 ≤ 2 ^ outcome = pow_mono h in
-    let below : mask < 2 ^ outcome = omega arith in
-    ap (λ n. n % 2 == 1) (div-eq_of_lt below)
-
 -- bits put below those that are there
 pub deposit_onto : (n k low len x : ℕ) → n ≡ k * 2 ^ (len + low) → deposit n low len x ≡ n + x * 2 ^ low
 deposit_onto n k low len x e =
@@ -66,10 +59,3 @@ high_more n k low len x e =
     let product : (k * 2 ^ len + x) * 2 ^ low ≡ k * 2 ^ len * 2 ^ low + x * 2 ^ low = add-mul (k * 2 ^ len) x (2 ^ low) in
     let again : n ≡ k * 2 ^ len * 2 ^ low = e ∙ (let m : k * 2 ^ (len + low) ≡ k * 2 ^ len * 2 ^ low = rw split (omega arith) in m) in
     omega arith
-
-number_of_zeros : (n : ℕ) → number_of (replicate n 0) ≡ 0
-number_of_zeros zero = refl
-number_of_zeros (suc n) = number_of_zeros n
-
-pub number_of-zero : (bytes : List ℕ) (n : ℕ) → bytes ≡ replicate n 0 → number_of bytes ≡ 0
-number_of-zero bytes n e = ap number_of e ∙ number_of_zeros n

@@ -1,8 +1,9 @@
 use Rattle.std.proofs.Common.{◌≤◌, ◌<◌, ◌^◌, ap, sym, ◌∙◌, Option, ℕ, get_or, arith}
 use Rattle.rmt_chip.specs.Types.{UnitGuard}
 use Rattle.rmt_config.specs.Life.{guarded}
-use Rattle.rmt_chip.proofs.DecidingLaws.{no_bit, high_test}
+use Rattle.rmt_chip.proofs.DecidingLaws.{high_test}
 use Rattle.rmt_chip.proofs.decide.is_guarded.Goals as goal
+use Rattle.rmt_bits.proofs.BitLaws.{no_bit-above}
 
 pub returns-else-outcome-lt16 : goal.returns-else-outcome-lt16
 returns-else-outcome-lt16 c =
@@ -12,4 +13,4 @@ returns-else-outcome-lt16 c =
     let high : 16 ≤ get_or outcomes g.parent 0 = omega arith in
     let mask : g.mask < 2 ^ 16 = omega arith in
     high_test (get_or outcomes c.from.result 0) c.if-outcome-lt16.false
-    ∙ sym (ap (λ (o : Option UnitGuard). guarded o outcomes) c.in-Some.is ∙ no_bit g.mask (get_or outcomes g.parent 0) mask high)
+    ∙ sym (ap (λ (o : Option UnitGuard). guarded o outcomes) c.in-Some.is ∙ no_bit-above g.mask (get_or outcomes g.parent 0) mask high)

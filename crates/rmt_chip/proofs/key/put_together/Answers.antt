@@ -5,8 +5,9 @@ use Rattle.rmt_bits.specs.declared.lane.Lane.{Lane}
 use Rattle.rmt_bits.specs.Bits.{number_of, deposit}
 use Rattle.rmt_config.specs.LaneForm.{bits_of_lanes}
 use Rattle.rmt_config.specs.Life.{key_of, lane_of}
-use Rattle.rmt_chip.proofs.LaneLaws.{bits_of_lanes_more, bits_of_lanes-le, key_of_more, filled_more, number_of-zero}
+use Rattle.rmt_chip.proofs.LaneLaws.{bits_of_lanes_more, bits_of_lanes-le, key_of_more, filled_more}
 use Rattle.rmt_chip.proofs.key.put_together.Goals as goal
+use Rattle.rmt_bits.proofs.ByteLaws.{number_of-cleared}
 
 abbrev no_lane : Lane
 no_lane = record { word = 0; low = 0; len = 0 }
@@ -72,7 +73,7 @@ returns c =
 pub loop-piece-init : goal.loop-piece-init
 loop-piece-init c =
     let zeros = c.fill.ensures.after (λ y h. search rules) in
-    let none = number_of-zero c.fill.new.self (length c.args.buffer.now) zeros in
+    let none = number_of-cleared c.fill.new.self (length c.args.buffer.now) zeros in
     let size = c.bits_of.ensures in
     let room = c.requires.room in
     record { at_is = omega arith; so_far = omega arith }

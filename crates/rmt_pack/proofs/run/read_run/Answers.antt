@@ -1,11 +1,11 @@
 use Rattle.std.proofs.Common.{◌≡◌, ◌-◌, ◌+◌, ◌*◌, length, sym, ap, ◌∙◌, arith}
 use Rattle.rmt_bits.specs.Bits.{slice, deposit, number_of, bytes_of}
-use Rattle.rmt_bits.proofs.ByteLaws.{bytes_of-number_of}
+use Rattle.rmt_bits.proofs.ByteLaws.{bytes_of-number_of, number_of-zeros}
 use Rattle.rmt_config.specs.Shapes.{divided_up}
 use Rattle.rmt_config.specs.Cells.{unit_row}
 use Rattle.rmt_pack.specs.Rows.{blocks_of}
 use Rattle.rmt_pack.proofs.RowLaws.{blocks-within}
-use Rattle.rmt_pack.proofs.RunLaws.{number_of-zeros, read-none, read-more, read-all}
+use Rattle.rmt_pack.proofs.RunLaws.{read-none, read-more, read-all}
 use Rattle.rmt_pack.proofs.run.read_run.Goals as goal
 
 pub loop-left-init : goal.loop-left-init

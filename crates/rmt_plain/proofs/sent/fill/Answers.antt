@@ -6,8 +6,9 @@ use Rattle.rmt_ast.specs.State.{joined}
 use Rattle.rmt_ast.specs.WellFormed.{bits_of}
 use Rattle.rmt_plain.proofs.FieldLaws.{joined-drop, value_held}
 use Rattle.rmt_ast.proofs.WellFormedLemmas.{bits_of-drop}
-use Rattle.rmt_plain.proofs.WidthLaws.{deposit_onto, high_more, number_of-zero}
+use Rattle.rmt_plain.proofs.WidthLaws.{deposit_onto, high_more}
 use Rattle.rmt_plain.proofs.sent.fill.Goals as goal
+use Rattle.rmt_bits.proofs.ByteLaws.{number_of-cleared}
 
 pub bytes_of_bits-requires-clause-within : goal.bytes_of_bits-requires-clause-within
 bytes_of_bits-requires-clause-within c =
@@ -71,7 +72,7 @@ returns c = λ state.
 pub loop-field-init : goal.loop-field-init
 loop-field-init c =
     let zeros = c.fill.ensures.after (λ y h. search rules) in
-    let none = number_of-zero c.fill.new.self (length c.args.bytes.now) zeros in
+    let none = number_of-cleared c.fill.new.self (length c.args.bytes.now) zeros in
     let kept = c.fill.auto.self in
     let whole = c.requires.whole in
     record { at_is = omega arith; high = (0, omega arith); so_far = λ state. omega arith }
