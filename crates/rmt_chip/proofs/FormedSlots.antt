@@ -17,6 +17,7 @@ use Rattle.rmt_config.specs.CellForm.{SlotHolds, StageHolds, Coded, coded_from}
 use Rattle.rmt_config.specs.MemoryRules.{FormedRows}
 use Rattle.rmt_config.specs.Form.{Formed}
 use Rattle.rmt_config.proofs.SlotLaws.{formed-rows}
+use Rattle.rmt_config.proofs.CountsLemmas.{stages_of_items}
 use Rattle.rmt_chip.specs.Memories.{WaysFit, UnitFormed}
 
 -- ---- the ways of a part are numbered behind those of the parts before it
@@ -103,5 +104,4 @@ stages-formed k (stage ∷ stages) items rows holds follow =
 
 pub formed-slots : (c : Config) → Formed c → All (λ (stage : Stage). All (UnitFormed stage) stage.units) c.stages
 formed-slots c formed =
-    let items = (and_parts _ _ (and_parts _ _ (and_parts _ _ formed.items).1).0).1 in
-    stages-formed 0 c.stages items formed.whole.rows formed.whole.memory (each-follows [] (placed_units c) formed.whole.tables)
+    stages-formed 0 c.stages (stages_of_items c formed.items) formed.whole.rows formed.whole.memory (each-follows [] (placed_units c) formed.whole.tables)

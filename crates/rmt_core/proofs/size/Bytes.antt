@@ -20,7 +20,7 @@ use Rattle.rmt_core.proofs.size.Stages.{StageFits, stage_short}
 
 stages_fit : (c : Config) → Formed c → CountsFit c → KeepsLimits c → All StageFits c.stages
 stages_fit c formed counts limits k d lt =
-    let stages : stages_are_formed c.stages ≡ true = (and_parts _ _ formed.items).1 in
+    let stages : stages_are_formed c.stages ≡ true = (and_parts _ _ (and_parts _ _ formed.items).0).1 in
     record {
       formed = AllPass-from_list_all stage_is_formed c.stages (and_parts _ _ (and_parts _ _ stages).0).1 k d lt;
       rows = AllPass-from_list_all rows_are_formed c.stages formed.whole.rows k d lt;
