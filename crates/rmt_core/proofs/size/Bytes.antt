@@ -1,13 +1,13 @@
 -- A configuration is spelled with few bytes, but for the numbers of entries.
 use Rattle.std.proofs.Common.{◌≡◌, ◌+◌, ◌*◌, ◌≤◌, true, ◌++◌, length, length-append, arith}
-use Rattle.std.specs.Prelude.{All, codes}
+use Rattle.std.specs.Prelude.{All, codes, ◌&&◌}
 use Rattle.std.specs.List.{flat_map, sum_by}
 use Rattle.std.proofs.lemmas.Bool.{and_parts}
 use Rattle.std.proofs.lemmas.List.Elements.{All-from_recursion, All-weaker}
 use Rattle.std.proofs.lemmas.List.Sums.{AllPass-from_list_all}
 use Rattle.rmt_core.specs.Types.{Config, Stage}
 use Rattle.rmt_config.specs.CellForm.{entry_numbers, numbers_of_stage}
-use Rattle.rmt_config.specs.Form.{Formed}
+use Rattle.rmt_config.specs.Form.{Formed, has_no_names}
 use Rattle.rmt_config.specs.Limits.{IsWithinLimits}
 use Rattle.rmt_config.specs.Resources.{unit_instructions, unit_sram, unit_tcam}
 use Rattle.rmt_config.specs.Spelling.{CountsFit, CountsFitHeader, spelled, spelled_config, spelled_header, spelled_list8, spelled_parser, spelled_ports, spelled_stage, two_bytes}
@@ -17,10 +17,14 @@ use Rattle.rmt_config.proofs.LimitLaws.{KeepsLimits, limits_kept}
 use Rattle.rmt_core.proofs.size.Lists.{flat_map_by, flat_map_short}
 use Rattle.rmt_core.proofs.size.Front.{header_short, parser_short}
 use Rattle.rmt_core.proofs.size.Stages.{StageFits, stage_short}
+use Rattle.rmt_config.specs.LaneForm.{ports_are_formed, headers_are_formed}
+use Rattle.rmt_config.specs.ParserForm.{parser_is_formed}
 
 stages_fit : (c : Config) → Formed c → CountsFit c → KeepsLimits c → All StageFits c.stages
 stages_fit c formed counts limits k d lt =
-    let stages : stages_are_formed c.stages ≡ true = (and_parts _ _ (and_parts _ _ formed.items).0).1 in
+    let front = ports_are_formed c && headers_are_formed c.headers && parser_is_formed c.parser in
+    let named = and_parts (front && stages_are_formed c.stages) (has_no_names c) formed.items in
+    let stages = (and_parts front (stages_are_formed c.stages) named.0).1 in
     record {
       formed = AllPass-from_list_all stage_is_formed c.stages (and_parts _ _ (and_parts _ _ stages).0).1 k d lt;
       rows = AllPass-from_list_all rows_are_formed c.stages formed.whole.rows k d lt;
