@@ -4,7 +4,7 @@ use Rattle.std.proofs.Common.{◌++◌}
 use Rattle.rmt_vliw.specs.Types.{Assign}
 use Rattle.std.specs.Prelude.{List}
 use Rattle.rmt_vliw.specs.Known.{told_values}
-use Rattle.rmt_vliw.proofs.fold.told.Given as goal
+use Rattle.rmt_vliw.proofs.fold.folded_or_fault.Given as goal
 
 -- those so far, and what the others give, are all
 abbrev pub invariant-loop-value : goal.invariant-loop-value
