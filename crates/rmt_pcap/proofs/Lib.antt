@@ -1,0 +1,5 @@
+mod Examples
+mod Fields
+mod Heads
+mod Records
+mod RoundTrip
