@@ -6,6 +6,7 @@ use Rattle.std.proofs.lemmas.Bool.{and_from, le-leb, le-ltb, cond-true, cond-fal
 use Rattle.std.proofs.lemmas.List.Elements.{All-head, All-tail}
 use Rattle.std.proofs.lemmas.List.{append_assoc, drop-drop, length-drop, length-take-le, length-append, length-reverse, reverse-reverse, take_at, drop_at}
 use Rattle.rmt_bits.specs.Bits.{number_of, bytes_of}
+use Rattle.rmt_bits.proofs.ByteLaws.{number_of-bytes_of}
 use Rattle.rmt_pcap.specs.declared.capture.Record.{Record}
 use Rattle.rmt_pcap.specs.Captures.{IsHead, Said, capture_of, capture_in, capture_with, captured_len, in_order, is_kept, is_version, order_of, record_at, said_from}
 use Rattle.rmt_pcap.specs.Written.{four_bytes, record_text}
@@ -13,19 +14,17 @@ use Rattle.rmt_pcap.specs.RoundTrip.{IsReadable, ReadBack, frame_of}
 use Rattle.rmt_pcap.proofs.Heads.{order_by_head, version_by_head}
 use Rattle.rmt_pcap.proofs.Records.{WholeFirst, said_whole}
 
--- ---- a number of four bytes
+-- ---- bytes in either order
 
--- in either order they are four, and turned back they are as they were
+-- turned twice they are as they were
 turned_twice : (big : Bool) (bytes : List ℕ) → in_order big (in_order big bytes) ≡ bytes
 turned_twice true bytes = refl
 turned_twice false bytes = reverse-reverse bytes
 
+-- and turned once they are as many
 size_in_order : (big : Bool) (bytes : List ℕ) → length (in_order big bytes) ≡ length bytes
 size_in_order true bytes = refl
 size_in_order false bytes = length-reverse bytes
-
-four_again : (n : ℕ) → n < 2 ^ 32 → number_of (bytes_of 4 n) ≡ n
-four_again n small = omega arith
 
 -- ---- the parts of a record
 
@@ -65,7 +64,7 @@ item_parts big item rest long =
 whole_by_parts : (big : Bool) (n : ℕ) (time frame rest text : List ℕ) → Parts time (four_bytes big n) frame rest text → length frame ≡ n → n < 2 ^ 32 → WholeFirst big text n
 whole_by_parts big n time frame rest text p len small =
     let told : captured_len big text ≡ n =
-    ap (λ (ys : List ℕ). number_of (in_order big ys)) p.len_next ∙ ap number_of (turned_twice big (bytes_of 4 n)) ∙ four_again n small in
+    ap (λ (ys : List ℕ). number_of (in_order big ys)) p.len_next ∙ ap number_of (turned_twice big (bytes_of 4 n)) ∙ number_of-bytes_of 4 n small in
     let size = p.size in
     record {
       whole = and_from (leb 16 (length text)) (leb (16 + captured_len big text) (length text)) (le-leb 16 (length text) (omega arith)) (le-leb (16 + captured_len big text) (length text) (omega arith));

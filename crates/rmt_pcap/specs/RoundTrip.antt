@@ -22,7 +22,7 @@ pub record HasItems (head : List ℕ) (big : Bool) (items : List (List ℕ)) (fi
   pub frames : map (frame_of file) capture.records ≡ map (drop 8) items
   pub skipped : capture.skipped ≡ 0
 
--- every file that is written has its items
+-- every file that is written with the head of a capture has its items
 abbrev pub ReadBack : Type 0
 ReadBack = (head : List ℕ) (big : Bool) (items : List (List ℕ)) → IsHead big head → All IsReadable items
     → (capture : Capture) × HasItems head big items (written head big items) capture

@@ -9,8 +9,8 @@ pub fn records_in_turn()
     ensures { SaidInTurn }
 {}
 
-/// A file that is written reads back as its items, each with its time and its bytes and none skipped, where each has 1
-/// to 9,216 bytes behind its time.
+/// A file that is written with the head of a capture reads back as its items, each with its time and its bytes and none
+/// skipped, where each has 1 to 9,216 bytes behind its time.
 pub fn written_is_read_back()
     ensures { ReadBack }
 {}
