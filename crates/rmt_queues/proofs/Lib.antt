@@ -1,0 +1,13 @@
+pub mod AlikeLaws
+pub mod CopyLaws
+pub mod CountLaws
+pub mod RingLaws
+pub mod StandingLaws
+pub mod OfferLaws
+pub mod TakeLaws
+pub mod TakenLaws
+pub mod PopLaws
+pub mod AnswerLaws
+pub mod EmptyLaws
+pub mod CallLaws
+pub mod Examples

@@ -1,0 +1,128 @@
+use Rattle.std.proofs.Common.{ℕ, ◌<◌, ◌≤◌, List, [], ◌∷◌, ◌++◌, Some, length, set, refl, ap, sym, ◌∙◌, subst, ⊎_elim, arith}
+use Rattle.std.specs.Prelude.{All, count_by}
+use Rattle.std.proofs.lemmas.Bool.{cases_lt, false≢true}
+use Rattle.rmt_cells.specs.declared.cells.Cells.{Cells}
+use Rattle.rmt_cells.specs.Pieces.{cells_for}
+use Rattle.rmt_queues.specs.declared.queues.Queues.{Queues}
+use Rattle.rmt_queues.specs.Lists.{Lists, free_cells, has_room, offered, standing}
+use Rattle.rmt_queues.specs.Stands.{Stands, held_items}
+use Rattle.rmt_queues.proofs.AnswerLaws.{answer_full, answer_none, answer_stored, few_ports, offered_full, offered_none, room_same, some_spare, stored_stands}
+use Rattle.rmt_queues.proofs.OfferLaws.{sent_stands, spare_within}
+use Rattle.rmt_queues.proofs.StandingLaws.{free_told}
+use Rattle.rmt_queues.proofs.queues.Queues.offer.Goals as goal
+
+-- the ports are those of the lists
+within_in : (s u : Lists) (q : Queues) (ports : List ℕ) → Stands s q → Stands u q → All (λ port. port < length s.queues) ports → All (λ port. port < length u.queues) ports
+within_in s u q ports stands other within = λ i d lt.
+    let here = within i d lt in
+    let a = stands.at.ports in
+    let b = other.at.ports in
+    omega (arith, a, b, here)
+
+pub with_room-copies-requires-clause-few : goal.with_room-copies-requires-clause-few
+with_room-copies-requires-clause-few c =
+    let (s, stands, within) = c.requires.stands in
+    let most = few_ports c.args.ports.now (length s.queues) c.requires.once within in
+    let few = stands.at.few in
+    omega (arith, most, few)
+
+pub overflow_cast-dropped : goal.overflow_cast-dropped
+overflow_cast-dropped c =
+    let (s, stands, within) = c.requires.stands in
+    let most = few_ports c.args.ports.now (length s.queues) c.requires.once within in
+    let few = stands.at.few in
+    omega (arith, most, few)
+
+pub returns-then-copies-eq0-clause-stands : goal.returns-then-copies-eq0-clause-stands
+returns-then-copies-eq0-clause-stands c = λ s stands.
+    let (u, there, all) = c.requires.stands in
+    let q = c.args.self.now in
+    let ports = c.args.ports.now in
+    let within = within_in u s q ports there stands all in
+    let room = c.with_room-copies.ensures ∙ room_same stands.indices s q c.as_slice.result.now ports stands.at c.as_slice.ensures.value within in
+    subst (λ (t : Lists). Stands t q) (sym (offered_none s ports c.args.item.now (sym room ∙ c.if-copies-eq0.true))) stands
+
+pub returns-then-copies-eq0-clause-answer : goal.returns-then-copies-eq0-clause-answer
+returns-then-copies-eq0-clause-answer c = λ s stands.
+    let (u, there, all) = c.requires.stands in
+    let q = c.args.self.now in
+    let ports = c.args.ports.now in
+    let within = within_in u s q ports there stands all in
+    let room = c.with_room-copies.ensures ∙ room_same stands.indices s q c.as_slice.result.now ports stands.at c.as_slice.ensures.value within in
+    answer_none s ports c.args.item.now c.with_room-copies.result room c.if-copies-eq0.true
+
+pub returns-in-Err-clause-stands : goal.returns-in-Err-clause-stands
+returns-in-Err-clause-stands c = λ s stands.
+    let q = c.args.self.now in
+    let told = free_told stands.indices s q stands.at in
+    let full = c.in-Err.ensures.full.0 refl in
+    subst (λ (cells : Cells). Stands (offered s c.args.ports.now c.args.item.now) (record q { cells = cells })) (sym c.in-Err.ensures.kept)
+    (subst (λ (t : Lists). Stands t q) (sym (offered_full s c.args.ports.now c.args.item.now (omega (arith, told, full)))) stands)
+
+pub returns-in-Err-clause-answer : goal.returns-in-Err-clause-answer
+returns-in-Err-clause-answer c = λ s stands.
+    let (u, there, all) = c.requires.stands in
+    let q = c.args.self.now in
+    let ports = c.args.ports.now in
+    let within = within_in u s q ports there stands all in
+    let room = c.with_room-copies.ensures ∙ room_same stands.indices s q c.as_slice.result.now ports stands.at c.as_slice.ensures.value within in
+    let some = c.if-copies-eq0.false in
+    let told = free_told stands.indices s q stands.at in
+    let full = c.in-Err.ensures.full.0 refl in
+    answer_full s ports c.args.item.now (omega (arith, room, some)) (omega (arith, told, full))
+
+pub unreachable-requires : goal.unreachable-requires
+unreachable-requires c =
+    let (s, stands, within) = c.requires.stands in
+    let q = c.args.self.now in
+    let ports = c.args.ports.now in
+    let room = c.with_room-copies.ensures ∙ room_same stands.indices s q c.as_slice.result.now ports stands.at c.as_slice.ensures.value within in
+    let some = c.if-copies-eq0.false in
+    let spare = some_spare stands.indices s q ports stands.at within (omega (arith, room, some)) in
+    let none = ap (λ (xs : List ℕ). length xs) c.in-None.ensures.items in
+    let ok = q.spare.ok.0 in
+    let empty = c.in-None.ensures.cases in
+    omega (arith, spare, ok, empty)
+
+pub index_mut-requires : goal.index_mut-requires
+index_mut-requires c =
+    let (s, stands, within) = c.requires.stands in
+    let q = c.args.self.now in
+    let lt = spare_within stands.indices s q c.pop.new.self.items c.in-Some.index stands.at c.in-Some.ensures.items in
+    let ok = q.stored.ok.0 in
+    omega (arith, lt, ok)
+
+pub returns-clause-stands : goal.returns-clause-stands
+returns-clause-stands c = λ s stands.
+    let (u, there, all) = c.requires.stands in
+    let q = c.args.self.now in
+    let ports = c.args.ports.now in
+    let item = c.args.item.now in
+    let ix = stands.indices in
+    let within = within_in u s q ports there stands all in
+    let room = c.with_room-copies.ensures ∙ room_same ix s q c.as_slice.result.now ports stands.at c.as_slice.ensures.value within in
+    let some = c.if-copies-eq0.false in
+    let positive : 0 < count_by (has_room s) ports = omega (arith, room, some) in
+    let told = free_told ix s q stands.at in
+    let enough : cells_for (length item) ≤ free_cells s =
+    ⊎_elim (λ lt. absurd (false≢true (c.in-Ok.ensures.full.1 lt))) (λ le. omega (arith, le, told)) (cases_lt q.cells.free (cells_for (length item))) in
+    stored_stands (ix ++ c.in-Some.index ∷ []) s ports item _ positive enough
+    (sent_stands ix s ports item q _ c.in-Ok.chain c.in-Some.index stands.at c.requires.once within c.requires.small positive refl
+    c.send.ensures.many c.send.ensures.roomy c.send.ensures.copies c.in-Some.ensures.items c.in-Some.ensures.capacity
+    (ap (λ (n : ℕ). set q.stored.items c.in-Some.index (record { chain = Some c.in-Ok.chain; len = length item; copies = n })) room)
+    (c.in-Ok.ensures.stands 65536 (held_items q.stored.items ix s.items (standing s)) stands.at.held))
+
+pub returns-clause-answer : goal.returns-clause-answer
+returns-clause-answer c = λ s stands.
+    let (u, there, all) = c.requires.stands in
+    let q = c.args.self.now in
+    let ports = c.args.ports.now in
+    let item = c.args.item.now in
+    let ix = stands.indices in
+    let within = within_in u s q ports there stands all in
+    let room = c.with_room-copies.ensures ∙ room_same ix s q c.as_slice.result.now ports stands.at c.as_slice.ensures.value within in
+    let some = c.if-copies-eq0.false in
+    let told = free_told ix s q stands.at in
+    let enough : cells_for (length item) ≤ free_cells s =
+    ⊎_elim (λ lt. absurd (false≢true (c.in-Ok.ensures.full.1 lt))) (λ le. omega (arith, le, told)) (cases_lt q.cells.free (cells_for (length item))) in
+    answer_stored s ports item c.with_room-copies.result room (omega (arith, some)) enough
