@@ -18,7 +18,7 @@ use Rattle.rmt_queues.specs.Rings.{ring_of}
 use Rattle.rmt_queues.specs.Stands.{Stands, StandsAt}
 use Rattle.rmt_queues.proofs.AlikeLaws.{sum_by_alike}
 use Rattle.rmt_queues.proofs.CountLaws.{any_counted, others_counted, room_left, standing_few}
-use Rattle.rmt_queues.proofs.StandingLaws.{place}
+use Rattle.rmt_queues.proofs.StandingLaws.{index_of}
 
 -- ports that are apart are no more than there are
 pub few_ports : (ports : List ℕ) (n : ℕ) → IsDistinct nat_eq ports → All (λ port. port < n) ports → length ports ≤ n
@@ -32,8 +32,8 @@ room_same ix s q rings ports at is within =
     sum_by_alike (λ port. cond (nat_lt (length (ring_of rings port)) q.depth) 1 0) (λ port. cond (has_room s port) 1 0) ports
     (λ k d lt.
     let port = get_or ports k d in
-    let ring : ring_of rings port ≡ map (place ix) (queue_of s port) = ap (λ (rs : List Ring). ring_of rs port) is ∙ at.rings port (within k d lt) in
-    let size : length (ring_of rings port) ≡ length (queue_of s port) = ap (λ (xs : List ℕ). length xs) ring ∙ length-map (queue_of s port) (place ix) in
+    let ring : ring_of rings port ≡ map (index_of ix) (queue_of s port) = ap (λ (rs : List Ring). ring_of rs port) is ∙ at.rings port (within k d lt) in
+    let size : length (ring_of rings port) ≡ length (queue_of s port) = ap (λ (xs : List ℕ). length xs) ring ∙ length-map (queue_of s port) (index_of ix) in
     ap {B = ℕ} (λ (n : ℕ). cond (nat_lt n q.depth) 1 0) size ∙ ap {B = ℕ} (λ (d' : ℕ). cond (nat_lt (length (queue_of s port)) d') 1 0) at.depth)
 
 -- where some port has room an index is spare

@@ -25,7 +25,7 @@ use Rattle.rmt_queues.specs.Stored.{held_if, stored_at}
 use Rattle.rmt_queues.proofs.AlikeLaws.{filter_alike, flat_map_alike, map_alike, sum_by_none, sum_by_plus}
 use Rattle.rmt_queues.proofs.CopyLaws.{with_copy_count, with_copy_deep, with_copy_map}
 use Rattle.rmt_queues.proofs.CountLaws.{ports_counted}
-use Rattle.rmt_queues.proofs.StandingLaws.{all_apart, copies_absent, place, standing_known}
+use Rattle.rmt_queues.proofs.StandingLaws.{all_apart, copies_absent, index_of, standing_known}
 
 no_choice : (b : Bool) → ◌≡◌ {A = ℕ} (cond b 0 0) 0
 no_choice true = refl
@@ -115,7 +115,7 @@ module _ (s : Lists) (ports item : List ℕ) where
 pub spare_within : (ix : List ℕ) (s : Lists) (q : Queues) (rest : List ℕ) (index : ℕ) → StandsAt ix s q → q.spare.items ≡ rest ++ index ∷ [] → index < length q.stored.items
 spare_within ix s q rest index at spare =
     let P : ℕ → Type 0 = λ i. i < length q.stored.items in
-    let all = All-left P q.spare.items (map (place ix) (standing s)) at.within in
+    let all = All-left P q.spare.items (map (index_of ix) (standing s)) at.within in
     All-right P rest (index ∷ []) (All-same P (rest ++ index ∷ []) q.spare.items (sym spare) all) 0 0 (omega arith)
 
 module _ (ix : List ℕ) (s : Lists) (ports item : List ℕ) (q new : Queues) (chain : Chain) (index : ℕ) (at : StandsAt ix s q)
@@ -138,10 +138,10 @@ module _ (ix : List ℕ) (s : Lists) (ports item : List ℕ) (q new : Queues) (c
   abbrev mine : Stored
   mine = record { chain = Some chain; len = length item; copies = count_by (has_room s) ports }
 
-  old_place : (k : ℕ) → k < n → place jx k ≡ place ix k
+  old_place : (k : ℕ) → k < n → index_of jx k ≡ index_of ix k
   old_place k lt = get_or_append_left ix (index ∷ []) 0 k (omega (arith, lt, at.indexed))
 
-  new_place : place jx n ≡ index
+  new_place : index_of jx n ≡ index
   new_place = get_or_push ix index 0 n at.indexed
 
   old_item : (k : ℕ) → k < n → item_of t k ≡ item_of s k
@@ -157,27 +157,27 @@ module _ (ix : List ℕ) (s : Lists) (ports item : List ℕ) (q new : Queues) (c
   stands_now = standing_sent s ports item (omega (arith, copies, some))
 
   -- the index was spare
-  unused : times index (map (place ix) (standing s)) ≡ 0
+  unused : times index (map (index_of ix) (standing s)) ≡ 0
   unused =
       let most = at.once index in
-      let parts = times_append index q.spare.items (map (place ix) (standing s)) in
+      let parts = times_append index q.spare.items (map (index_of ix) (standing s)) in
       let split = ap (times index) spare ∙ times_append index new.spare.items (index ∷ []) in
       let here = times_head index [] in
       omega (arith, most, parts, split, here)
 
-  apart : All (λ k. place ix k ≡ index → ⊥) (standing s)
-  apart = all_apart index (place ix) (standing s) unused
+  apart : All (λ k. index_of ix k ≡ index → ⊥) (standing s)
+  apart = all_apart index (index_of ix) (standing s) unused
 
   index_within : index < length q.stored.items
   index_within = spare_within ix s q new.spare.items index at spare
 
-  old_stored : (k : ℕ) → (place ix k ≡ index → ⊥) → k < n → stored_at new.stored.items (place jx k) ≡ stored_at q.stored.items (place ix k)
+  old_stored : (k : ℕ) → (index_of ix k ≡ index → ⊥) → k < n → stored_at new.stored.items (index_of jx k) ≡ stored_at q.stored.items (index_of ix k)
   old_stored k other lt =
       ap (λ (i : ℕ). stored_at new.stored.items i) (old_place k lt)
-      ∙ ap (λ (list : List Stored). stored_at list (place ix k)) stored
-      ∙ get_or-set_other q.stored.items index (place ix k) mine _ other
+      ∙ ap (λ (list : List Stored). stored_at list (index_of ix k)) stored
+      ∙ get_or-set_other q.stored.items index (index_of ix k) mine _ other
 
-  new_stored : stored_at new.stored.items (place jx n) ≡ mine
+  new_stored : stored_at new.stored.items (index_of jx n) ≡ mine
   new_stored =
       ap (λ (i : ℕ). stored_at new.stored.items i) new_place
       ∙ ap (λ (list : List Stored). stored_at list index) stored
@@ -185,7 +185,7 @@ module _ (ix : List ℕ) (s : Lists) (ports item : List ℕ) (q new : Queues) (c
 
   -- what is held
   abbrev held_one : List Stored → List ℕ → List (List ℕ) → ℕ → List Held
-  held_one list places items k = held_if (stored_at list (place places k)).chain (get_or items k [])
+  held_one list places items k = held_if (stored_at list (index_of places k)).chain (get_or items k [])
 
   held_now : held_items new.stored.items jx t.items (standing t) ≡ held_items q.stored.items ix s.items (standing s) ++ record { chain = chain; bytes = item } ∷ []
   held_now =
@@ -197,7 +197,7 @@ module _ (ix : List ℕ) (s : Lists) (ports item : List ℕ) (q new : Queues) (c
       let k = get_or (standing s) i d in
       let known = standing_known s i d lt in
       ap (λ (x : Stored). held_if x.chain (get_or t.items k [])) (old_stored k (apart i d lt) known)
-      ∙ ap (held_if (stored_at q.stored.items (place ix k)).chain) (old_item k known)) in
+      ∙ ap (held_if (stored_at q.stored.items (index_of ix k)).chain) (old_item k known)) in
       let last : f n ≡ record { chain = chain; bytes = item } ∷ [] =
       ap (λ (x : Stored). held_if x.chain (get_or t.items n [])) new_stored ∙ ap (held_if (Some chain)) new_item in
       ap (flat_map f) stands_now ∙ flat_map-append f (standing s) (n ∷ [])
@@ -211,9 +211,9 @@ module _ (ix : List ℕ) (s : Lists) (ports item : List ℕ) (q new : Queues) (c
       subst (λ (list : List Held). CellsStand 65536 list new.cells) (sym held_now)
       (reordered 65536 (h ∷ hs) (hs ++ h ∷ []) new.cells cells (IsPermutation-sym (hs ++ h ∷ []) (h ∷ hs) (IsPermutation-to_front hs h)))
 
-  kept_now : All (λ k. Keeps (stored_at new.stored.items (place jx k)) (length (item_of t k)) (copies_of t.queues k)) (standing t)
+  kept_now : All (λ k. Keeps (stored_at new.stored.items (index_of jx k)) (length (item_of t k)) (copies_of t.queues k)) (standing t)
   kept_now =
-      let P : ℕ → Type 0 = λ k. Keeps (stored_at new.stored.items (place jx k)) (length (item_of t k)) (copies_of t.queues k) in
+      let P : ℕ → Type 0 = λ k. Keeps (stored_at new.stored.items (index_of jx k)) (length (item_of t k)) (copies_of t.queues k) in
       let before : All P (standing s) =
       λ i d lt.
       let k = get_or (standing s) i d in
@@ -235,34 +235,34 @@ module _ (ix : List ℕ) (s : Lists) (ports item : List ℕ) (q new : Queues) (c
       All-same P (standing t) (standing s ++ n ∷ []) stands_now (All-push P (standing s) n before last)
 
   -- the indices that are spare or used
-  places_now : map (place jx) (standing t) ≡ map (place ix) (standing s) ++ index ∷ []
+  places_now : map (index_of jx) (standing t) ≡ map (index_of ix) (standing s) ++ index ∷ []
   places_now =
-      ap (map (place jx)) stands_now ∙ map_push (place jx) (standing s) n
-      ∙ ap (λ (is : List ℕ). is ++ place jx n ∷ [])
-      (map_alike (place jx) (place ix) (standing s) (λ i d lt. old_place (get_or (standing s) i d) (standing_known s i d lt)))
-      ∙ ap (λ (i : ℕ). map (place ix) (standing s) ++ i ∷ []) new_place
+      ap (map (index_of jx)) stands_now ∙ map_push (index_of jx) (standing s) n
+      ∙ ap (λ (is : List ℕ). is ++ index_of jx n ∷ [])
+      (map_alike (index_of jx) (index_of ix) (standing s) (λ i d lt. old_place (get_or (standing s) i d) (standing_known s i d lt)))
+      ∙ ap (λ (i : ℕ). map (index_of ix) (standing s) ++ i ∷ []) new_place
 
   size_now : length new.stored.items ≡ length q.stored.items
   size_now = ap length stored ∙ length-set q.stored.items index mine
 
-  within_now : All (λ i. i < length new.stored.items) (new.spare.items ++ map (place jx) (standing t))
+  within_now : All (λ i. i < length new.stored.items) (new.spare.items ++ map (index_of jx) (standing t))
   within_now =
       let P : ℕ → Type 0 = λ i. i < length q.stored.items in
-      let used = All-right P q.spare.items (map (place ix) (standing s)) at.within in
-      let spares = All-left P q.spare.items (map (place ix) (standing s)) at.within in
+      let used = All-right P q.spare.items (map (index_of ix) (standing s)) at.within in
+      let spares = All-left P q.spare.items (map (index_of ix) (standing s)) at.within in
       let rest = All-left P new.spare.items (index ∷ []) (All-same P (new.spare.items ++ index ∷ []) q.spare.items (sym spare) spares) in
-      let all = All-append P new.spare.items (map (place ix) (standing s) ++ index ∷ []) rest (All-push P (map (place ix) (standing s)) index used index_within) in
-      let same : new.spare.items ++ map (place jx) (standing t) ≡ new.spare.items ++ (map (place ix) (standing s) ++ index ∷ []) =
+      let all = All-append P new.spare.items (map (index_of ix) (standing s) ++ index ∷ []) rest (All-push P (map (index_of ix) (standing s)) index used index_within) in
+      let same : new.spare.items ++ map (index_of jx) (standing t) ≡ new.spare.items ++ (map (index_of ix) (standing s) ++ index ∷ []) =
       ap (λ (is : List ℕ). new.spare.items ++ is) places_now in
-      λ i d lt. let here = All-same P (new.spare.items ++ map (place jx) (standing t)) _ same all i d lt in omega (arith, here, size_now)
+      λ i d lt. let here = All-same P (new.spare.items ++ map (index_of jx) (standing t)) _ same all i d lt in omega (arith, here, size_now)
 
-  once_now : (i : ℕ) → times i (new.spare.items ++ map (place jx) (standing t)) ≤ 1
+  once_now : (i : ℕ) → times i (new.spare.items ++ map (index_of jx) (standing t)) ≤ 1
   once_now i =
       let most = at.once i in
-      let parts = times_append i q.spare.items (map (place ix) (standing s)) in
+      let parts = times_append i q.spare.items (map (index_of ix) (standing s)) in
       let split = ap (times i) spare ∙ times_append i new.spare.items (index ∷ []) in
-      let new_parts = times_append i new.spare.items (map (place jx) (standing t)) in
-      let places = ap (times i) places_now ∙ times_append i (map (place ix) (standing s)) (index ∷ []) in
+      let new_parts = times_append i new.spare.items (map (index_of jx) (standing t)) in
+      let places = ap (times i) places_now ∙ times_append i (map (index_of ix) (standing s)) (index ∷ []) in
       omega (arith, most, parts, split, new_parts, places)
 
   all_now : length new.spare.items + length (standing t) ≡ length new.stored.items
@@ -272,16 +272,16 @@ module _ (ix : List ℕ) (s : Lists) (ports item : List ℕ) (q new : Queues) (c
       let items = ap length stands_now ∙ length_push (standing s) n in
       omega (arith, was, spares, items, size_now)
 
-  rings_now : (port : ℕ) → port < length t.queues → ring_of new.rings.items port ≡ map (place jx) (queue_of t port)
+  rings_now : (port : ℕ) → port < length t.queues → ring_of new.rings.items port ≡ map (index_of jx) (queue_of t port)
   rings_now port lt =
       let below : port < length s.queues = let size = queues_sent s ports item in omega (arith, size, lt) in
-      let old = map_alike (place jx) (place ix) (queue_of s port) (λ i d less. old_place (get_or (queue_of s port) i d) (at.known port i d less)) in
+      let old = map_alike (index_of jx) (index_of ix) (queue_of s port) (λ i d less. old_place (get_or (queue_of s port) i d) (at.known port i d less)) in
       rings port (omega (arith, below, at.ports))
       ∙ ap (λ (queue : List ℕ). with_copy q.depth ports index port queue) (at.rings port below ∙ sym old)
-      ∙ ap (λ (d : ℕ). with_copy d ports index port (map (place jx) (queue_of s port))) at.depth
-      ∙ ap (λ (i : ℕ). with_copy s.depth ports i port (map (place jx) (queue_of s port))) (sym new_place)
-      ∙ sym (with_copy_map (place jx) s.depth ports n port (queue_of s port))
-      ∙ ap (map (place jx)) (sym (queue_sent s ports item port below))
+      ∙ ap (λ (d : ℕ). with_copy d ports index port (map (index_of jx) (queue_of s port))) at.depth
+      ∙ ap (λ (i : ℕ). with_copy s.depth ports i port (map (index_of jx) (queue_of s port))) (sym new_place)
+      ∙ sym (with_copy_map (index_of jx) s.depth ports n port (queue_of s port))
+      ∙ ap (map (index_of jx)) (sym (queue_sent s ports item port below))
 
   deep_now : (port : ℕ) → length (queue_of t port) ≤ s.depth
   deep_now port =

@@ -15,7 +15,7 @@ use Rattle.rmt_queues.specs.Rings.{AreRoomy, IsRoomy, ring_of}
 use Rattle.rmt_queues.specs.Stands.{Keeps, Stands, StandsAt, held_items}
 use Rattle.rmt_queues.specs.Stored.{held_if, stored_at}
 use Rattle.rmt_queues.proofs.RingLaws.{ring_at, ring_set_other, ring_set_same}
-use Rattle.rmt_queues.proofs.StandingLaws.{place}
+use Rattle.rmt_queues.proofs.StandingLaws.{index_of}
 use Rattle.rmt_queues.proofs.TakeLaws.{back, copies_one, first_popped, front, none_popped, standing_split}
 use Rattle.rmt_queues.proofs.TakenLaws.{ahead, behind, first_held, first_kept, first_small, first_within, held_one, held_split, taken_last, taken_more}
 
@@ -24,7 +24,7 @@ pub record First (ix : List ℕ) (s : Lists) (port index : ℕ) : Type 0 where
   pub number : ℕ
   pub rest : List ℕ
   pub queue : queue_of s port ≡ number ∷ rest
-  pub index_is : index ≡ place ix number
+  pub index_is : index ≡ index_of ix number
 
 module _ (ix : List ℕ) (s : Lists) (port : ℕ) (q : Queues) (at : StandsAt ix s q) (below : port < length s.queues) (r : Ring) (is : r ≡ get_or q.rings.items port r) where
   inside : port < length q.rings.items
@@ -33,7 +33,7 @@ module _ (ix : List ℕ) (s : Lists) (port : ℕ) (q : Queues) (at : StandsAt ix
   old_ring : ring_of q.rings.items port ≡ r.numbers.items
   old_ring = ring_at q.rings.items port r inside ∙ ap (λ (x : Ring). x.numbers.items) (sym is)
 
-  same_first : slice_get r.numbers.items 0 ≡ slice_get (map (place ix) (queue_of s port)) 0
+  same_first : slice_get r.numbers.items 0 ≡ slice_get (map (index_of ix) (queue_of s port)) 0
   same_first = ap (λ (xs : List ℕ). slice_get xs 0) (sym old_ring ∙ at.rings port below)
 
   pub first_of : (index : ℕ) → Some index ≡ slice_get r.numbers.items 0 → First ix s port index
@@ -59,9 +59,9 @@ module _ (ix : List ℕ) (s : Lists) (port : ℕ) (q : Queues) (at : StandsAt ix
     rings_there p other = ring_set_other q.rings.items port p r' other
 
 -- what is stored at an index
-pub stored_read : (stored : List Stored) (index place : ℕ) (x : Stored) → index ≡ place → place < length stored → x ≡ get_or stored index x → x ≡ stored_at stored place
-stored_read stored index place x same lt is =
-    is ∙ ap (λ (i : ℕ). get_or stored i x) same ∙ get_or_default stored place x _ lt
+pub stored_read : (stored : List Stored) (index other : ℕ) (x : Stored) → index ≡ other → other < length stored → x ≡ get_or stored index x → x ≡ stored_at stored other
+stored_read stored index other x same lt is =
+    is ∙ ap (λ (i : ℕ). get_or stored i x) same ∙ get_or_default stored other x _ lt
 
 -- an index is used, so that fewer are spare
 pub spare_left : (ix : List ℕ) (s : Lists) (port : ℕ) (q : Queues) (at : StandsAt ix s q) → port < length s.queues → (k : ℕ) (rest : List ℕ) → queue_of s port ≡ k ∷ rest
@@ -119,7 +119,7 @@ module _ (s u : Lists) (q : Queues) (port : ℕ) (stands : Stands s q) (other : 
       → new ≡ record q { rings = new.rings } → new.rings.items ≡ set q.rings.items port r' → Stands (taken s port) new
   none_stands first r' rest roomy new only rings =
       let none = none_of ix s port q stands.at below r is first in
-      let ring : ring_of q.rings.items port ≡ [] = stands.at.rings port below ∙ ap (map (place ix)) none in
+      let ring : ring_of q.rings.items port ≡ [] = stands.at.rings port below ∙ ap (map (index_of ix)) none in
       let same : (p : ℕ) → ring_of (set q.rings.items port r') p ≡ ring_of q.rings.items p =
       λ p. ⊎_elim
       (λ (at : p ≡ port). subst (λ (x : ℕ). ring_of (set q.rings.items port r') x ≡ ring_of q.rings.items x) (sym at)
@@ -140,13 +140,13 @@ module _ (s u : Lists) (q : Queues) (port : ℕ) (stands : Stands s q) (other : 
     abbrev k : ℕ
     k = first.number
 
-    within : place ix k < length q.stored.items
+    within : index_of ix k < length q.stored.items
     within = first_within ix s port q stands.at below k first.rest first.queue
 
     pub index_below : index < length q.stored.items
     index_below = omega (arith, within, first.index_is)
 
-    abbrev kept : Keeps (stored_at q.stored.items (place ix k)) (length (item_of s k)) (copies_of s.queues k)
+    abbrev kept : Keeps (stored_at q.stored.items (index_of ix k)) (length (item_of s k)) (copies_of s.queues k)
     kept = first_kept ix s port q stands.at below k first.rest first.queue
 
     abbrev all_held : List Held
@@ -166,8 +166,8 @@ module _ (s u : Lists) (q : Queues) (port : ℕ) (stands : Stands s q) (other : 
 
     -- what is read at the index
     module _ (x : Stored) (read : x ≡ get_or q.stored.items index x) where
-      here : x ≡ stored_at q.stored.items (place ix k)
-      here = stored_read q.stored.items index (place ix k) x first.index_is within read
+      here : x ≡ stored_at q.stored.items (index_of ix k)
+      here = stored_read q.stored.items index (index_of ix k) x first.index_is within read
 
       chained : x.chain ≡ Some kept.chain
       chained = ap (λ (y : Stored). y.chain) here ∙ kept.chained
@@ -231,7 +231,7 @@ module _ (s u : Lists) (q : Queues) (port : ℕ) (stands : Stands s q) (other : 
         more_stand stored cells spare room some = record {
           indices = ix;
           at = taken_more ix s port q stands.at below k first.rest first.queue new depth many_now roomy_now here_now there_now
-              (stored ∙ ap (λ (i : ℕ). set q.stored.items i (less x)) first.index_is ∙ ap (λ (y : Stored). set q.stored.items (place ix k) (less y)) here)
+              (stored ∙ ap (λ (i : ℕ). set q.stored.items i (less x)) first.index_is ∙ ap (λ (y : Stored). set q.stored.items (index_of ix k) (less y)) here)
               cells spare room (omega (arith, some, counted));
         }
 

@@ -19,8 +19,8 @@ use Rattle.rmt_queues.specs.Stands.{StandsAt, held_items}
 use Rattle.rmt_queues.specs.Stored.{held_if, stored_at}
 use Rattle.rmt_queues.proofs.AlikeLaws.{sum_by_none}
 
-abbrev pub place : List ℕ → ℕ → ℕ
-place indices number = get_or indices number 0
+abbrev pub index_of : List ℕ → ℕ → ℕ
+index_of indices number = get_or indices number 0
 
 -- each item that stands is one of the items
 pub standing_known : (s : Lists) → All (λ number. number < length s.items) (standing s)
@@ -49,7 +49,7 @@ all_apart index f (x ∷ xs) none =
     All-cons (λ number. f number ≡ index → ⊥) x xs parts.0 (all_apart index f xs parts.1)
 
 abbrev IsStored : List Stored → List ℕ → ℕ → Type 0
-IsStored stored indices number = (chain : Chain) × ((stored_at stored (place indices number)).chain ≡ Some chain)
+IsStored stored indices number = (chain : Chain) × ((stored_at stored (index_of indices number)).chain ≡ Some chain)
 
 -- the cells of what is held are those of the items
 pub cells_of_held : (stored : List Stored) (indices : List ℕ) (items : List (List ℕ)) (numbers : List ℕ) → All (IsStored stored indices) numbers
@@ -59,10 +59,10 @@ cells_of_held stored indices items (x ∷ xs) are =
     let cells : Held → ℕ = λ h. cells_for (length h.bytes) in
     let bytes = get_or items x [] in
     let (chain, is) = All-head (IsStored stored indices) x xs are in
-    let here : cells_held (held_if (stored_at stored (place indices x)).chain bytes) ≡ cells_for (length bytes) =
+    let here : cells_held (held_if (stored_at stored (index_of indices x)).chain bytes) ≡ cells_for (length bytes) =
     ap (λ (o : Option Chain). cells_held (held_if o bytes)) is
     ∙ (let one = sum_by-cons cells (record { chain = chain; bytes = bytes }) [] in omega (arith, one)) in
-    let parts = sum_by-append cells (held_if (stored_at stored (place indices x)).chain bytes) (held_items stored indices items xs) in
+    let parts = sum_by-append cells (held_if (stored_at stored (index_of indices x)).chain bytes) (held_items stored indices items xs) in
     let rest = cells_of_held stored indices items xs (All-tail (IsStored stored indices) x xs are) in
     let sum = sum_by-cons (λ number. cells_for (length (get_or items number []))) x xs in
     omega (arith, here, parts, rest, sum)

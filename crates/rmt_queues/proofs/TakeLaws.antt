@@ -9,14 +9,14 @@ use Rattle.std.proofs.lemmas.List.Sums.{sum_by-cons, sum_by-set}
 use Rattle.rmt_bits.proofs.AllLaws.{All-range}
 use Rattle.rmt_queues.specs.Lists.{Lists, copies_of, queue_of, standing, taken}
 use Rattle.rmt_queues.proofs.AlikeLaws.{filter_alike}
-use Rattle.rmt_queues.proofs.StandingLaws.{place}
+use Rattle.rmt_queues.proofs.StandingLaws.{index_of}
 
 -- the first of a queue, where its ring has one
-pub first_popped : (ix queue : List ℕ) (index : ℕ) → Some index ≡ slice_get (map (place ix) queue) 0 → (k : ℕ) × (rest : List ℕ) × (queue ≡ k ∷ rest) × (index ≡ place ix k)
+pub first_popped : (ix queue : List ℕ) (index : ℕ) → Some index ≡ slice_get (map (index_of ix) queue) 0 → (k : ℕ) × (rest : List ℕ) × (queue ≡ k ∷ rest) × (index ≡ index_of ix k)
 first_popped ix [] index is = absurd cc
 first_popped ix (k ∷ rest) index is = (k, rest, refl, cc)
 
-pub none_popped : (ix queue : List ℕ) → None ≡ slice_get (map (place ix) queue) 0 → queue ≡ []
+pub none_popped : (ix queue : List ℕ) → None ≡ slice_get (map (index_of ix) queue) 0 → queue ≡ []
 none_popped ix [] is = refl
 none_popped ix (k ∷ rest) is = absurd cc
 

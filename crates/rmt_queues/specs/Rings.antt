@@ -4,7 +4,7 @@ use Rattle.std.specs.List.{All}
 use Rattle.std.specs.VecDeque.{deque_capacity}
 use Rattle.rmt_queues.specs.declared.rings.Ring.{Ring}
 
--- a ring has this many places
+-- a ring has room for so many numbers
 abbrev pub IsRoomy : ℕ → Ring → Type 0
 IsRoomy depth ring = depth ≤ deque_capacity ring.numbers
 
@@ -12,6 +12,6 @@ IsRoomy depth ring = depth ≤ deque_capacity ring.numbers
 abbrev pub ring_of : List Ring → ℕ → List ℕ
 ring_of rings port = slice_index_or (map (λ (ring : Ring). ring.numbers.items) rings) port []
 
--- each ring has this many places
+-- each ring has room for so many
 abbrev pub AreRoomy : ℕ → List Ring → Type 0
 AreRoomy depth rings = All (IsRoomy depth) rings

@@ -29,18 +29,18 @@ pub enum Offered {
     },
 }
 
-/// The queues of output ports. Only `new` takes memory.
+/// The queues of output ports, which are numbered from 0. Only `new` takes memory.
 #[derive(Drop)]
 pub struct Queues {
     /// The cells in which the items' bytes are.
     cells: Cells,
-    /// The items, by index.
+    /// The items, by index: as many as all queues together may have.
     stored: Vec<Stored>,
     /// The indices at which no item is stored.
     spare: Vec<u32>,
     /// For each port the indices of the items in its queue.
     rings: Vec<Ring>,
-    /// How many items a queue may have.
+    /// How many items a queue may have, 1 to 64.
     depth: u16,
 }
 
@@ -73,7 +73,8 @@ impl Queues {
     }
 
     /// Offers an item of 1 to 13,320 bytes to ports, no port twice: each port that has room has a copy of it at the end of
-    /// its queue. The item is stored once, however many ports have one. It takes no memory.
+    /// its queue. The item is stored once, however many ports have one. Where cells are short nothing changes. It takes no
+    /// memory.
     pub fn offer(&mut self, ports: &[u16], item: &[u8]) -> Offered
         requires some { 1 ≤ length item.now }
         requires small { length item.now ≤ 13320 }

@@ -11,7 +11,7 @@ use std::collections::VecDeque;
 /// The numbers that wait in a queue, the one that is taken next at the front.
 #[derive(Drop)]
 pub struct Ring {
-    /// The numbers, in a ring of a place for each that the queue may have.
+    /// The numbers; there is room for as many as the queue may have, 1 to 64.
     pub numbers: VecDeque<u32>,
 }
 
@@ -19,7 +19,7 @@ impl Ring {
     ghost use Rattle.std.specs.VecDeque.{deque_capacity};
     ghost use Rattle.rmt_queues.specs.Rings.{IsRoomy};
 
-    /// A ring without numbers, and with so many places.
+    /// A ring without numbers, with room for so many.
     pub fn new(alloc: Global, depth: u16) -> Result<Ring, AllocError>
         ensures empty { IfOk result (λ ring. ring.numbers.items ≡ []) }
         ensures roomy { IfOk result (IsRoomy depth) }

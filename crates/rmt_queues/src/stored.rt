@@ -9,14 +9,14 @@ ghost use Rattle.rmt_queues.specs.Stored.{held_if, no_item};
 use rmt_cells::cells::{Cells, Chain};
 use std::alloc::{AllocError, Global};
 
-/// An item that is stored, or no item.
+/// An item that is stored, or no item: then only `chain` counts.
 #[derive(Drop)]
 pub struct Stored {
     /// Its chain of cells; none where no item is stored here.
     pub chain: Option<Chain>,
-    /// How many bytes it has.
+    /// How many bytes it has, 1 to 13,320.
     pub len: u32,
-    /// How many copies of it stand.
+    /// How many copies of it stand, 1 to 512.
     pub copies: u16,
 }
 

@@ -44,6 +44,8 @@ mod pieces;
 #[cfg(test)]
 mod plain;
 #[cfg(test)]
+mod queues;
+#[cfg(test)]
 mod registers;
 #[cfg(test)]
 mod reports;
