@@ -1,5 +1,5 @@
 mod Examples
-mod Fields
-mod Heads
-mod Records
+mod FieldLaws
+mod HeadLaws
+mod RecordLaws
 mod RoundTrip

@@ -11,8 +11,8 @@ use Rattle.rmt_pcap.specs.declared.capture.Record.{Record}
 use Rattle.rmt_pcap.specs.Captures.{IsHead, Said, capture_of, capture_in, capture_with, captured_len, in_order, is_kept, is_version, order_of, record_at, said_from}
 use Rattle.rmt_pcap.specs.Written.{four_bytes, record_text}
 use Rattle.rmt_pcap.specs.RoundTrip.{IsReadable, ReadBack, frame_of}
-use Rattle.rmt_pcap.proofs.Heads.{order_by_head, version_by_head}
-use Rattle.rmt_pcap.proofs.Records.{WholeFirst, said_whole}
+use Rattle.rmt_pcap.proofs.HeadLaws.{order_by_head, version_by_head}
+use Rattle.rmt_pcap.proofs.RecordLaws.{WholeFirst, said_whole}
 
 -- ---- bytes in either order
 

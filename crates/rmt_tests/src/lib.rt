@@ -8,6 +8,8 @@ mod bits;
 #[cfg(test)]
 mod building;
 #[cfg(test)]
+mod captures;
+#[cfg(test)]
 mod cells;
 #[cfg(test)]
 mod check;

@@ -1,4 +1,4 @@
-use Rattle.rmt_pcap.proofs.Records.{said_first}
+use Rattle.rmt_pcap.proofs.RecordLaws.{said_first}
 use Rattle.rmt_pcap.proofs.laws.records_in_turn.Goals as goal
 
 pub returns : goal.returns

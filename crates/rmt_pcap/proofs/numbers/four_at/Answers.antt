@@ -1,6 +1,6 @@
 use Rattle.std.proofs.Common.{◌∙◌, arith}
 use Rattle.std.proofs.lemmas.Bool.{cond-true, cond-false}
-use Rattle.rmt_pcap.proofs.Fields.{field_four}
+use Rattle.rmt_pcap.proofs.FieldLaws.{field_four}
 use Rattle.rmt_pcap.proofs.numbers.four_at.Goals as goal
 
 pub returns-then-big : goal.returns-then-big

@@ -2,8 +2,8 @@ use Rattle.std.proofs.Common.{◌≡◌, ℕ, ◌+◌, List, length, drop, sym, 
 use Rattle.std.specs.Prelude.{All}
 use Rattle.std.proofs.lemmas.List.{length-drop}
 use Rattle.rmt_pcap.specs.Captures.{IsHead, IsOfFile, Said, said_from}
-use Rattle.rmt_pcap.proofs.Heads.{head_of_file}
-use Rattle.rmt_pcap.proofs.Records.{all_of_file}
+use Rattle.rmt_pcap.proofs.HeadLaws.{head_of_file}
+use Rattle.rmt_pcap.proofs.RecordLaws.{all_of_file}
 use Rattle.rmt_pcap.proofs.reading.read_capture.Goals as goal
 
 pub returns-clause-head : goal.returns-clause-head

@@ -3,7 +3,7 @@ use Rattle.std.proofs.lemmas.List.{length-drop, take_rest}
 use Rattle.rmt_pcap.specs.declared.capture.Record.{Record}
 use Rattle.rmt_pcap.specs.Captures.{record_at, said_from}
 use Rattle.rmt_pcap.specs.Steps.{whole_len}
-use Rattle.rmt_pcap.proofs.Records.{kept_step, read_cut, skipped_step, step_size}
+use Rattle.rmt_pcap.proofs.RecordLaws.{kept_step, read_cut, skipped_step, step_size}
 use Rattle.rmt_pcap.proofs.reading.read_records.Goals as goal
 use Rattle.rmt_pcap.proofs.reading.read_records.Goals.{then-is_kept+in_ok-record_of+in_ok-push, else-is_kept}
 

@@ -1,6 +1,6 @@
 use Rattle.std.proofs.Common.{◌≡◌, ◌-◌, ◌*◌, ◌≤◌, length, drop}
 use Rattle.rmt_pcap.specs.Captures.{said_from}
-use Rattle.rmt_pcap.proofs.Records.{behind}
+use Rattle.rmt_pcap.proofs.RecordLaws.{behind}
 use Rattle.rmt_pcap.proofs.reading.read_records.Given as goal
 
 abbrev pub invariant-loop-at : goal.invariant-loop-at

@@ -3,7 +3,7 @@ use Rattle.std.proofs.Common.{◌≡◌, ℕ, ◌≤◌, Bool, true, false, cond
 use Rattle.std.proofs.lemmas.Bool.{le-ltb, cond-false}
 use Rattle.std.proofs.lemmas.List.{length-append, length-take-le, take-append-drop}
 use Rattle.rmt_pcap.specs.Captures.{IsHead, field, is_magic, is_version, order_of}
-use Rattle.rmt_pcap.proofs.Fields.{field_front}
+use Rattle.rmt_pcap.proofs.FieldLaws.{field_front}
 
 -- the order of a file is that of its head
 pub order_by_head : (head back : List ℕ) → length head ≡ 24 → order_of (head ++ back) ≡ order_of head
