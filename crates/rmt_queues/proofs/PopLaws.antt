@@ -175,7 +175,7 @@ module _ (s u : Lists) (q : Queues) (port : ℕ) (stands : Stands s q) (other : 
       sized : x.len ≡ length (item_of s k)
       sized = ap (λ (y : Stored). y.len) here ∙ kept.len
 
-      pub counted : x.copies ≡ copies_of (taken s port).queues k + 1
+      counted : x.copies ≡ copies_of (taken s port).queues k + 1
       counted = ap (λ (y : Stored). y.copies) here ∙ kept.copies ∙ sym one_fewer
 
       pub short : x.len ≤ 13320

@@ -119,17 +119,17 @@ impl Queues {
         ensures within { IfSome result (λ len. len ≤ length into.new) }
     {
         let index = match self.rings[port as usize].pop() {
-            Some(index) => index as usize,
+            Some(index) => index,
             None => return None,
         };
-        let len = read(&self.cells, &self.stored[index], into);
-        if self.stored[index].copies > 1 {
-            self.stored[index].copies -= 1;
+        let item = &mut self.stored[index as usize];
+        let len = read(&self.cells, item, into);
+        if item.copies > 1 {
+            item.copies -= 1;
             return Some(len);
         }
-        let chain = self.stored[index].chain.take();
-        give_back(&mut self.cells, chain);
-        self.spare.push_reserved(index as u32);
+        give_back(&mut self.cells, item.chain.take());
+        self.spare.push_reserved(index);
         Some(len)
     }
 }
