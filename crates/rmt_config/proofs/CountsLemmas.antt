@@ -11,7 +11,7 @@ use Rattle.rmt_config.specs.declared.form.code.InstructionRole.{InstructionRole}
 use Rattle.rmt_config.specs.Order.{rises_from}
 use Rattle.rmt_config.specs.LaneForm.{header_is_formed}
 use Rattle.rmt_config.specs.ParserForm.{state_is_formed, states_are_formed, entry_is_formed, entries_are_formed, parser_is_formed}
-use Rattle.rmt_config.specs.Parser.{has_no_tail}
+use Rattle.rmt_config.specs.TailForm.{tails_are_formed}
 use Rattle.rmt_config.specs.UnitForm.{unit_is_formed}
 use Rattle.rmt_config.specs.CodeForm.{vliw_is_formed, code_is_formed, places_of}
 use Rattle.rmt_config.specs.StageForm.{stage_is_formed}
@@ -42,7 +42,7 @@ entry_counts states e formed = grind (arith, formed)
 
 parser_counts : (p : ParserConfig) → parser_is_formed p ≡ true → CountsFitParser p
 parser_counts p e =
-    let whole = and_parts (states_are_formed p.states && entries_are_formed p) (has_no_tail p) e in
+    let whole = and_parts (states_are_formed p.states && entries_are_formed p) (tails_are_formed p) e in
     let parts = and_parts (states_are_formed p.states) (entries_are_formed p) whole.0 in
     record {
       states = ltb-true _ _ (and_parts _ _ (and_parts _ _ parts.0).0).1;
@@ -86,10 +86,10 @@ at_most_64 n le = omega (arith, le)
 
 pub counts_fit : (c : Config) → IsTrue (items_are_formed c) → CountsFit c
 counts_fit c e =
-    let front = and_parts _ _ (and_parts _ _ e).0 in
-    let parser = and_parts _ _ front.0 in
+    let whole = and_parts _ _ e in
+    let parser = and_parts _ _ (and_parts _ _ whole.0).0 in
     let headers = and_parts _ _ (and_parts _ _ parser.0).1 in
-    let stages = and_parts _ _ (and_parts _ _ front.1).0 in
+    let stages = and_parts _ _ (and_parts _ _ whole.1).0 in
     record {
       headers = at_most_64 _ (leb-true _ _ headers.0);
       each_header = All-from_test CountsFitHeader header_is_formed header_counts c.headers headers.1;
@@ -101,5 +101,4 @@ counts_fit c e =
 -- each stage of a configuration whose items keep their rules keeps its own
 pub stages_of_items : (c : Config) → IsTrue (items_are_formed c) → IsTrue (list_all stage_is_formed c.stages)
 stages_of_items c e =
-    let front = and_parts _ _ (and_parts _ _ e).0 in
-    (and_parts _ _ (and_parts _ _ front.1).0).1
+    (and_parts _ _ (and_parts _ _ (and_parts _ _ e).1).0).1

@@ -74,9 +74,9 @@ pub exact_rows_kept : rows_are_formed (exact_stage three_numbers exact_rows) ≡
 exact_rows_kept = refl
 
 abbrev pub Holds : Stage → Coded → Type 0
-Holds stage c = SlotHolds stage c.first c.slot
+Holds stage c = SlotHolds 0 stage c.first c.slot
 
-pub exact_kept : StageHolds (exact_stage three_numbers exact_rows)
+pub exact_kept : StageHolds 0 (exact_stage three_numbers exact_rows)
 exact_kept =
     let stage = exact_stage three_numbers exact_rows in
     let s = exact_slot three_numbers in
@@ -113,7 +113,7 @@ row_of_no_slot = refl
 -- ---- numbers that break a rule
 
 abbrev pub numbers_of : List CellNumber → List SramRow → Bool
-numbers_of numbers srows = numbers_are_formed 0 (exact_stage numbers srows) (exact_slot numbers)
+numbers_of numbers srows = numbers_are_formed 0 0 (exact_stage numbers srows) (exact_slot numbers)
 
 pub numbers_kept : numbers_of three_numbers exact_rows ≡ true
 numbers_kept = refl
@@ -150,7 +150,7 @@ default_instruction = refl
 -- ---- bits that break a rule
 
 abbrev pub Broken : List ℕ → List SramRow → Type 0
-Broken cells srows = SlotHolds (exact_stage (cells_are cells) srows) 0 (exact_slot (cells_are cells)) → ⊥
+Broken cells srows = SlotHolds 0 (exact_stage (cells_are cells) srows) 0 (exact_slot (cells_are cells)) → ⊥
 
 -- an occupied cell that has no number
 pub cell_not_told : Broken [] (one_row (0xbeef01 * 2 ^ 24))
@@ -231,7 +231,7 @@ pub ternary_empty_cell : content_of (ternary_stage (cells_are (7 ∷ 2053 ∷ []
     ≡ record { head = 0; key = 0; mask = 0; held = 0 }
 ternary_empty_cell = refl
 
-pub ternary_kept : StageHolds (ternary_stage (cells_are (7 ∷ 2053 ∷ [])) two_records two_rows)
+pub ternary_kept : StageHolds 0 (ternary_stage (cells_are (7 ∷ 2053 ∷ [])) two_records two_rows)
 ternary_kept =
     let stage = ternary_stage (cells_are (7 ∷ 2053 ∷ [])) two_records two_rows in
     let s = ternary_slot (cells_are (7 ∷ 2053 ∷ [])) in
@@ -261,11 +261,11 @@ pub trow_of_no_slot : trows_of (record { block = 4; row = 0; value = 0; mask = 1
 trow_of_no_slot = refl
 
 -- a row whose record isn't in use
-pub row_without_record : SlotHolds (ternary_stage [] [] two_rows) 0 (ternary_slot []) → ⊥
+pub row_without_record : SlotHolds 0 (ternary_stage [] [] two_rows) 0 (ternary_slot []) → ⊥
 row_without_record holds = false≢true (holds.others 7 (lit< tt) refl)
 
 -- a bit past the key, at 48
-pub bit_past_key : SlotHolds (ternary_stage [] [] (record { block = 1; row = 0; value = 0; mask = 256 } ∷ [])) 0 (ternary_slot []) → ⊥
+pub bit_past_key : SlotHolds 0 (ternary_stage [] [] (record { block = 1; row = 0; value = 0; mask = 256 } ∷ [])) 0 (ternary_slot []) → ⊥
 bit_past_key holds = at holds.ends
   where
     at : MemoryEnds (ternary_stage [] [] (record { block = 1; row = 0; value = 0; mask = 256 } ∷ [])) (ternary_slot []) (Ternary 2 (range_with_len 0 4) (range_with_len 0 2) []) → ⊥

@@ -6,8 +6,8 @@ use Rattle.rmt_config.specs.Types.{Config, ParserEntry, TailOf}
 use Rattle.rmt_config.specs.declared.config.Next.TheVariants as next
 use Rattle.rmt_config.specs.Spelling.{spelled, spelled_config}
 use Rattle.rmt_config.specs.ImageSpelling.{spelled_image, spelled_names, spelled_tails, version_of}
-use Rattle.rmt_config.specs.ImageForm.{all_items_are_formed}
-use Rattle.rmt_config.specs.TailForm.{has_greatest_length, has_names_with_tails, tails_are_formed}
+use Rattle.rmt_config.specs.Form.{items_are_formed}
+use Rattle.rmt_config.specs.TailForm.{has_greatest_length, has_names_with_tails, tails_are_formed, tails_have_headers}
 use Rattle.rmt_config.proofs.ExamplesSpelling.{shared_words}
 use Rattle.rmt_config.proofs.ExamplesNames.{its_names, three_ranks}
 
@@ -50,30 +50,30 @@ with_tails tails = record without_tables { parser = record shared_words.parser {
 pub version_3 : spelled_image (with_tails (one_tail ∷ [])) ≡ codes "RMTI" ++ 0 ∷ 3 ∷ spelled_config shared_words ++ 0 ∷ 0 ∷ 1 ∷ 0 ∷ 0 ∷ 0 ∷ 0 ∷ 0 ∷ 4 ∷ 4 ∷ 4 ∷ []
 version_3 = refl
 
-pub one_tail-formed : all_items_are_formed (with_tails (one_tail ∷ [])) ≡ true
+pub one_tail-formed : items_are_formed (with_tails (one_tail ∷ [])) ≡ true
 one_tail-formed = refl
 
 -- a configuration with a tail has names
 pub without_names : has_names_with_tails (record (with_tails (one_tail ∷ [])) { names = None }) ≡ false
 without_names = refl
 
-pub tail_twice : tails_are_formed (with_tails (one_tail ∷ one_tail ∷ [])) ≡ false
+pub tail_twice : tails_are_formed (with_tails (one_tail ∷ one_tail ∷ [])).parser ≡ false
 tail_twice = refl
 
-pub no_entry : tails_are_formed (with_tails (record one_tail { entry = 1 } ∷ [])) ≡ false
+pub no_entry : tails_are_formed (with_tails (record one_tail { entry = 1 } ∷ [])).parser ≡ false
 no_entry = refl
 
-pub no_header : tails_are_formed (with_tails (record one_tail { header = 1 } ∷ [])) ≡ false
+pub no_header : tails_have_headers (with_tails (record one_tail { header = 1 } ∷ [])) ≡ false
 no_header = refl
 
-pub no_bit : tails_are_formed (with_tails (record one_tail { len = 0; base = 0 } ∷ [])) ≡ false
+pub no_bit : tails_are_formed (with_tails (record one_tail { len = 0; base = 0 } ∷ [])).parser ≡ false
 no_bit = refl
 
 -- five bits from bit 4 on, of a byte
-pub past_need : tails_are_formed (with_tails (record one_tail { from = 4; len = 5 } ∷ [])) ≡ false
+pub past_need : tails_are_formed (with_tails (record one_tail { from = 4; len = 5 } ∷ [])).parser ≡ false
 past_need = refl
 
-pub no_unit : tails_are_formed (with_tails (record one_tail { unit = 0; base = 0 } ∷ [])) ≡ false
+pub no_unit : tails_are_formed (with_tails (record one_tail { unit = 0; base = 0 } ∷ [])).parser ≡ false
 no_unit = refl
 
 -- the greatest length is 15 * 4 - base: 0 and -1 bytes, and 64 and 65 by a unit of 5
@@ -93,5 +93,5 @@ greatest_65 = refl
 abbrev moves_less : ParserEntry
 moves_less = record { state = 0; value = 0; mask = 0; need = 1; advance = 0; next = next.Accept; extracts = [] }
 
-pub advance_less : tails_are_formed (record (with_tails []) { parser = record { states = shared_words.parser.states; entries = moves_less ∷ []; tails = one_tail ∷ [] } }) ≡ false
+pub advance_less : tails_are_formed (record { states = shared_words.parser.states; entries = moves_less ∷ []; tails = one_tail ∷ [] }) ≡ false
 advance_less = refl

@@ -5,7 +5,6 @@ pub mod ExamplesTails
 pub mod ExamplesSpelling
 pub mod ExamplesNames
 pub mod ExamplesImages
-pub mod ImageLaws
 pub mod ExamplesForm
 pub mod ExamplesTables
 pub mod ExamplesLimits

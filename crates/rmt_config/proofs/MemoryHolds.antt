@@ -18,11 +18,11 @@ rows-same num bits b l l' rows rows' numbers numbers' blocks el er en h =
     subst (λ x. RowsAnswer num bits b x rows numbers blocks) el
     (subst (λ x. RowsAnswer num bits b l' x numbers blocks) er (subst (λ x. RowsAnswer num bits b l' rows' x blocks) en h))
 
-pub cells-same : (l l' : Layout) (rows rows' : List SramRow) (numbers numbers' : List CellNumber) (blocks : List ℕ) (first actions : ℕ) → l' ≡ l → rows' ≡ rows → numbers' ≡ numbers
-    → cells_hold l' (sram_row rows') blocks first actions numbers' ≡ cells_hold l (sram_row rows) blocks first actions numbers
-cells-same l l' rows rows' numbers numbers' blocks first actions el er en =
-    ap (λ x. cells_hold l' (sram_row rows') blocks first actions x) en
-    ∙ ap (λ x. cells_hold l' (sram_row x) blocks first actions numbers) er ∙ ap (λ x. cells_hold x (sram_row rows) blocks first actions numbers) el
+pub cells-same : (l l' : Layout) (rows rows' : List SramRow) (numbers numbers' : List CellNumber) (blocks : List ℕ) (visible first actions : ℕ) → l' ≡ l → rows' ≡ rows → numbers' ≡ numbers
+    → cells_hold l' (sram_row rows') blocks visible first actions numbers' ≡ cells_hold l (sram_row rows) blocks visible first actions numbers
+cells-same l l' rows rows' numbers numbers' blocks visible first actions el er en =
+    ap (λ x. cells_hold l' (sram_row rows') blocks visible first actions x) en
+    ∙ ap (λ x. cells_hold l' (sram_row x) blocks visible first actions numbers) er ∙ ap (λ x. cells_hold x (sram_row rows) blocks visible first actions numbers) el
 
 -- ---- an answer in three parts
 

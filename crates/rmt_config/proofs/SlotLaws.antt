@@ -35,57 +35,57 @@ and-agree : (a b c : Bool) → (a ≡ true → b ≡ c) → (a && b) ≡ (a && c
 and-agree true b c h = h refl
 and-agree false b c h = refl
 
-pub exact-numbers : (stage : Stage) (first : ℕ) (s : SlotUnit) (k p d w : ℕ) (ks rs cs : List ℕ) → 0 < p → 0 < d
-    → cells_hold (exact_keys k p d (bits_of_lanes s.keys)) (sram_row stage.srows) ks first s.actions s.numbers
-    ≡ numbers_are_formed first stage (record s { memory = Exact k p d w ks rs cs })
-exact-numbers stage first s k p d w ks rs cs lp ld =
+pub exact-numbers : (visible : ℕ) (stage : Stage) (first : ℕ) (s : SlotUnit) (k p d w : ℕ) (ks rs cs : List ℕ) → 0 < p → 0 < d
+    → cells_hold (exact_keys k p d (bits_of_lanes s.keys)) (sram_row stage.srows) ks visible first s.actions s.numbers
+    ≡ numbers_are_formed visible first stage (record s { memory = Exact k p d w ks rs cs })
+exact-numbers visible stage first s k p d w ks rs cs lp ld =
     let l = exact_keys k p d (bits_of_lanes s.keys) in
     let sram = sram_row stage.srows in
     let cells = listed_cells s.numbers in
     let count : 4 * d * (1024 * p) ≡ 4096 * d * p = omega arith in
     let before : ℕ → Bool = λ m. rises_from 0 cells && list_all (λ n. ltb n m) cells in
-    let f : ℕ → Bool = λ n. head_is_formed first s.actions (entry_in l sram ks (quantum_of l n) (local_of l n) % 256) in
-    let g : ℕ → Bool = λ n. head_is_formed first s.actions (content_of stage (record s { memory = Exact k p d w ks rs cs }) n).head in
+    let f : ℕ → Bool = λ n. head_is_formed visible first s.actions (entry_in l sram ks (quantum_of l n) (local_of l n) % 256) in
+    let g : ℕ → Bool = λ n. head_is_formed visible first s.actions (content_of stage (record s { memory = Exact k p d w ks rs cs }) n).head in
     ap (λ m. before m && list_all f cells) count
     ∙ ap (λ (h : ℕ → Bool). before (4096 * d * p) && list_all h cells)
-    (funext f g (λ n. ap (λ e. head_is_formed first s.actions (e % 256)) (sym (exact-entry sram ks k p d (bits_of_lanes s.keys) n lp ld))))
+    (funext f g (λ n. ap (λ e. head_is_formed visible first s.actions (e % 256)) (sym (exact-entry sram ks k p d (bits_of_lanes s.keys) n lp ld))))
 
-pub ternary-numbers : (stage : Stage) (first : ℕ) (s : SlotUnit) (d : ℕ) (ks rs cs : List ℕ)
-    → cells_hold (ternary_records d (s.held + 8)) (sram_row stage.srows) rs first s.actions s.numbers
-    ≡ numbers_are_formed first stage (record s { memory = Ternary d ks rs cs })
-ternary-numbers stage first s d ks rs cs =
+pub ternary-numbers : (visible : ℕ) (stage : Stage) (first : ℕ) (s : SlotUnit) (d : ℕ) (ks rs cs : List ℕ)
+    → cells_hold (ternary_records d (s.held + 8)) (sram_row stage.srows) rs visible first s.actions s.numbers
+    ≡ numbers_are_formed visible first stage (record s { memory = Ternary d ks rs cs })
+ternary-numbers visible stage first s d ks rs cs =
     let l = ternary_records d (s.held + 8) in
     let sram = sram_row stage.srows in
     let cells = listed_cells s.numbers in
     let count : 1 * d * 2048 ≡ 2048 * d = omega arith in
     let before : ℕ → Bool = λ m. rises_from 0 cells && list_all (λ n. ltb n m) cells in
-    let f : ℕ → Bool = λ n. head_is_formed first s.actions (entry_in l sram rs (quantum_of l n) (local_of l n) % 256) in
-    let g : ℕ → Bool = λ n. head_is_formed first s.actions (content_of stage (record s { memory = Ternary d ks rs cs }) n).head in
+    let f : ℕ → Bool = λ n. head_is_formed visible first s.actions (entry_in l sram rs (quantum_of l n) (local_of l n) % 256) in
+    let g : ℕ → Bool = λ n. head_is_formed visible first s.actions (content_of stage (record s { memory = Ternary d ks rs cs }) n).head in
     ap (λ m. before m && list_all f cells) count
     ∙ and-agree (before (2048 * d)) (list_all f cells) (list_all g cells) (λ h.
     all-within (λ n. ltb n (2048 * d)) f g cells
-    (λ n lt. ap (λ e. head_is_formed first s.actions (e % 256)) (sym (ternary-record sram rs d s.held n (ltb-true n (2048 * d) lt))))
+    (λ n lt. ap (λ e. head_is_formed visible first s.actions (e % 256)) (sym (ternary-record sram rs d s.held n (ltb-true n (2048 * d) lt))))
     (and_parts (rises_from 0 cells) (list_all (λ n. ltb n (2048 * d)) cells) h).1)
 
 -- ---- a slot by the kind of its memory
 
-pub exact-slot : (stage : Stage) (first : ℕ) (s : SlotUnit) (k p d w : ℕ) (ks rs cs : List ℕ) → FormedRows stage → ExactFits s k p d ks rs
-    → (IsTrue (cells_hold (exact_keys k p d (bits_of_lanes s.keys)) (sram_row stage.srows) ks first s.actions s.numbers)
+pub exact-slot : (visible : ℕ) (stage : Stage) (first : ℕ) (s : SlotUnit) (k p d w : ℕ) (ks rs cs : List ℕ) → FormedRows stage → ExactFits s k p d ks rs
+    → (IsTrue (cells_hold (exact_keys k p d (bits_of_lanes s.keys)) (sram_row stage.srows) ks visible first s.actions s.numbers)
     × (SramTold (exact_keys k p d (bits_of_lanes s.keys)) stage s ks × SramTold (exact_records p d s.held) stage s rs))
-    ↔ SlotHolds stage first (record s { memory = Exact k p d w ks rs cs })
-exact-slot stage first s k p d w ks rs cs rows fit =
-    let e = exact-numbers stage first s k p d w ks rs cs fit.some_p fit.some_d in
+    ↔ SlotHolds visible stage first (record s { memory = Exact k p d w ks rs cs })
+exact-slot visible stage first s k p d w ks rs cs rows fit =
+    let e = exact-numbers visible stage first s k p d w ks rs cs fit.some_p fit.some_d in
     let told = exact-told stage s k p d w ks rs cs rows fit in (
       λ all. let both = told.0 all.1 in record { numbers = sym e ∙ all.0; others = both.0; ends = both.1 },
       λ holds. (e ∙ holds.numbers, told.1 (holds.others, holds.ends)),
     )
 
-pub ternary-slot : (stage : Stage) (first : ℕ) (s : SlotUnit) (d : ℕ) (ks rs cs : List ℕ) → FormedRows stage → TernaryFits s d ks rs
-    → (IsTrue (cells_hold (ternary_records d (s.held + 8)) (sram_row stage.srows) rs first s.actions s.numbers)
+pub ternary-slot : (visible : ℕ) (stage : Stage) (first : ℕ) (s : SlotUnit) (d : ℕ) (ks rs cs : List ℕ) → FormedRows stage → TernaryFits s d ks rs
+    → (IsTrue (cells_hold (ternary_records d (s.held + 8)) (sram_row stage.srows) rs visible first s.actions s.numbers)
     × (TcamTold (ternary_keys d (bits_of_lanes s.keys)) stage s ks × SramTold (ternary_records d (s.held + 8)) stage s rs))
-    ↔ SlotHolds stage first (record s { memory = Ternary d ks rs cs })
-ternary-slot stage first s d ks rs cs rows fit =
-    let e = ternary-numbers stage first s d ks rs cs in
+    ↔ SlotHolds visible stage first (record s { memory = Ternary d ks rs cs })
+ternary-slot visible stage first s d ks rs cs rows fit =
+    let e = ternary-numbers visible stage first s d ks rs cs in
     let told = ternary-told stage s d ks rs cs rows fit in (
       λ all. let both = told.0 all.1 in record { numbers = sym e ∙ all.0; others = both.0; ends = both.1 },
       λ holds. (e ∙ holds.numbers, told.1 (holds.others, holds.ends)),
@@ -95,17 +95,17 @@ no_items : {X : Type 0} (xs : List X) → length xs ≡ 0 → xs ≡ []
 no_items [] e = refl
 no_items (x ∷ xs) e = absurd (omega (arith, e))
 
-pub without-slot : (stage : Stage) (first : ℕ) (s : SlotUnit) → s.numbers ≡ [] → SlotHolds stage first (record s { memory = Without })
-without-slot stage first s e = record {
-  numbers = ap (λ ns. numbers_are_formed first stage (record s { memory = Without; numbers = ns })) e;
+pub without-slot : (visible : ℕ) (stage : Stage) (first : ℕ) (s : SlotUnit) → s.numbers ≡ [] → SlotHolds visible stage first (record s { memory = Without })
+without-slot visible stage first s e = record {
+  numbers = ap (λ ns. numbers_are_formed visible first stage (record s { memory = Without; numbers = ns })) e;
   others = λ n lt unset. absurd (omega (arith, lt));
   ends = none;
 }
 
 -- the kind of the memory that a slot has
-pub slot-at : (X : Type 0) (stage : Stage) (first : ℕ) (s : SlotUnit) (m : Memory) → s.memory ≡ m
-    → (X ↔ SlotHolds stage first (record s { memory = m })) → (X ↔ SlotHolds stage first s)
-slot-at X stage first s m e h = subst (λ m'. X ↔ SlotHolds stage first (record s { memory = m' })) (sym e) h
+pub slot-at : (X : Type 0) (visible : ℕ) (stage : Stage) (first : ℕ) (s : SlotUnit) (m : Memory) → s.memory ≡ m
+    → (X ↔ SlotHolds visible stage first (record s { memory = m })) → (X ↔ SlotHolds visible stage first s)
+slot-at X visible stage first s m e h = subst (λ m'. X ↔ SlotHolds visible stage first (record s { memory = m' })) (sym e) h
 
 -- ---- what the item rules say
 

@@ -12,17 +12,13 @@ use Rattle.rmt_config.specs.Cells.{Blocks, sram_row, tcam_row, unit_row, blocks_
 -- ---- occupied cells
 
 -- the head of an occupied cell that has these visible bits and runs one of that many instructions, of which the first has this number
-abbrev pub seen_head_is_formed : ℕ → ℕ → ℕ → ℕ → Bool
-seen_head_is_formed visible first actions head =
+abbrev pub head_is_formed : ℕ → ℕ → ℕ → ℕ → Bool
+head_is_formed visible first actions head =
     is_occupied head && (visible_bits head == visible) && nat_le first (code_of head) && nat_lt (code_of head) (first + actions)
 
--- such a head without visible bits
-abbrev pub head_is_formed : ℕ → ℕ → ℕ → Bool
-head_is_formed first actions head = seen_head_is_formed 0 first actions head
-
 -- such a cell, where a slot's own instructions are meant, and not its default
-abbrev pub content_is_formed : ℕ → SlotUnit → Content → Bool
-content_is_formed first s c = head_is_formed first s.actions c.head
+abbrev pub content_is_formed : ℕ → ℕ → SlotUnit → Content → Bool
+content_is_formed visible first s c = head_is_formed visible first s.actions c.head
 
 -- a cell in which no bit is set; an exact key's mask stands in no memory
 abbrev pub is_clear : Memory → Content → Bool
@@ -34,13 +30,10 @@ abbrev pub cells_of : SlotUnit → List ℕ
 cells_of s = map (λ (n : CellNumber). n.cell) s.numbers
 
 -- the numbers of a slot tell cells of it, rising, each of them occupied
-abbrev pub seen_numbers_are_formed : ℕ → ℕ → Stage → SlotUnit → Bool
-seen_numbers_are_formed visible first stage s =
+abbrev pub numbers_are_formed : ℕ → ℕ → Stage → SlotUnit → Bool
+numbers_are_formed visible first stage s =
     rises_from 0 (cells_of s) && list_all (λ n. nat_lt n (cells_in s.memory)) (cells_of s)
-    && list_all (λ n. seen_head_is_formed visible first s.actions (content_of stage s n).head) (cells_of s)
-
-abbrev pub numbers_are_formed : ℕ → Stage → SlotUnit → Bool
-numbers_are_formed first stage s = seen_numbers_are_formed 0 first stage s
+    && list_all (λ n. head_is_formed visible first s.actions (content_of stage s n).head) (cells_of s)
 
 -- ---- all else is zero
 
@@ -66,14 +59,10 @@ pub data MemoryEnds (stage : Stage) (s : SlotUnit) : Memory → Type 0 where
       → MemoryEnds stage s (Ternary d ks rs cs)
 
 -- a slot whose first instruction has this number, and whose occupied cells have these visible bits
-pub record SlotHoldsSeen (visible : ℕ) (stage : Stage) (first : ℕ) (s : SlotUnit) : Type 0 where
-  pub numbers : IsTrue (seen_numbers_are_formed visible first stage s)
+pub record SlotHolds (visible : ℕ) (stage : Stage) (first : ℕ) (s : SlotUnit) : Type 0 where
+  pub numbers : IsTrue (numbers_are_formed visible first stage s)
   pub others : (n : ℕ) → n < cells_in s.memory → IsTrue (not (list_any (λ m. m == n) (cells_of s))) → IsTrue (is_clear s.memory (content_of stage s n))
   pub ends : MemoryEnds stage s s.memory
-
--- the same where no cell has visible bits
-abbrev pub SlotHolds : Stage → ℕ → SlotUnit → Type 0
-SlotHolds stage first s = SlotHoldsSeen 0 stage first s
 
 -- a slot and the number of its first instruction in the stage
 pub record Coded : Type 0 where
@@ -86,11 +75,9 @@ coded_from first [] = []
 coded_from first ((Gate g) ∷ units) = coded_from first units
 coded_from first ((Slot s) ∷ units) = record { first = first; slot = s } ∷ coded_from (first + s.actions + 1) units
 
-abbrev pub StageHoldsSeen : ℕ → Stage → Type 0
-StageHoldsSeen visible stage = All (λ (c : Coded). SlotHoldsSeen visible stage c.first c.slot) (coded_from 0 stage.units)
-
-abbrev pub StageHolds : Stage → Type 0
-StageHolds stage = StageHoldsSeen 0 stage
+-- the same of each slot of a stage
+abbrev pub StageHolds : ℕ → Stage → Type 0
+StageHolds visible stage = All (λ (c : Coded). SlotHolds visible stage c.first c.slot) (coded_from 0 stage.units)
 
 -- the entry numbers of a configuration, as they stand
 abbrev pub numbers_of_unit : Unit → List ℕ

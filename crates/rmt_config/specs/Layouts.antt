@@ -166,15 +166,15 @@ MemoryTold stage s (Ternary d ks rs cs) =
     TcamTold (ternary_keys d (bits_of_lanes s.keys)) stage s ks × SramTold (ternary_records d (s.held + 8)) stage s rs
 
 -- the heads of cells are formed
-abbrev pub heads_hold : Layout → Blocks → List ℕ → ℕ → ℕ → List ℕ → Bool
-heads_hold l sram blocks first actions cells =
-    list_all (λ n. head_is_formed first actions (entry_in l sram blocks (quantum_of l n) (local_of l n) % 256)) cells
+abbrev pub heads_hold : Layout → Blocks → List ℕ → ℕ → ℕ → ℕ → List ℕ → Bool
+heads_hold l sram blocks visible first actions cells =
+    list_all (λ n. head_is_formed visible first actions (entry_in l sram blocks (quantum_of l n) (local_of l n) % 256)) cells
 
 -- the listed cells of a layout whose entries begin with a head: they rise, they are cells of the memory, and their heads are formed
-abbrev pub cells_hold : Layout → Blocks → List ℕ → ℕ → ℕ → List CellNumber → Bool
-cells_hold l sram blocks first actions numbers =
+abbrev pub cells_hold : Layout → Blocks → List ℕ → ℕ → ℕ → ℕ → List CellNumber → Bool
+cells_hold l sram blocks visible first actions numbers =
     rises_from 0 (listed_cells numbers) && list_all (λ n. nat_lt n (l.ways * l.quanta * l.way)) (listed_cells numbers)
-    && heads_hold l sram blocks first actions (listed_cells numbers)
+    && heads_hold l sram blocks visible first actions (listed_cells numbers)
 
 -- a layout in SRAM, whose blocks have 1,024 rows of 112 bits
 pub record IsInSram (l : Layout) : Type 0 where

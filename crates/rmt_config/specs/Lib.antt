@@ -22,7 +22,6 @@ pub mod Resources
 pub mod Limits
 pub mod LimitSteps
 pub mod Spells
-pub mod ImageForm
 pub mod Layouts
 pub mod MemoryRules
 pub mod Agreement

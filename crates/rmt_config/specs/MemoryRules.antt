@@ -1,10 +1,21 @@
 -- What the rules of form say of the rows of a stage and of the numbers of a memory, fact by fact.
-use Rattle.std.specs.Prelude.{◌≡◌, ℕ, ◌+◌, ◌*◌, ◌^◌, ◌<◌, ◌≤◌, List, length, map, true, All}
-use Rattle.rmt_config.specs.Types.{Stage, SramRow, TcamRow, SlotUnit}
+use Rattle.std.specs.Prelude.{◌≡◌, ℕ, ◌+◌, ◌*◌, ◌^◌, ◌<◌, ◌≤◌, List, length, map, true, All, IsTrue}
+use Rattle.std.specs.List.{list_all}
+use Rattle.rmt_config.specs.CellForm.{StageHolds}
+use Rattle.rmt_config.specs.Form.{visible_with}
+use Rattle.rmt_config.specs.StageForm.{rows_are_formed}
+use Rattle.rmt_config.specs.TableForm.{tables_are_formed}
+use Rattle.rmt_config.specs.Types.{Config, Stage, SramRow, TcamRow, SlotUnit}
 use Rattle.rmt_config.specs.LaneForm.{bits_of_lanes}
 use Rattle.rmt_config.specs.Order.{rises_from}
 use Rattle.rmt_config.specs.Shapes.{divided_up, record_width, record_units}
 use Rattle.rmt_config.specs.StageForm.{srow_number, trow_number}
+
+-- rows, tables and memory keep the rules of the whole
+pub record MemoryIsFormed (c : Config) : Type 0 where
+  pub rows : IsTrue (list_all rows_are_formed c.stages)
+  pub tables : IsTrue (tables_are_formed c)
+  pub memory : All (StageHolds (visible_with c.names)) c.stages
 
 -- rows of SRAM in rising order, each within its block
 pub record SramRows (rows : List SramRow) : Type 0 where

@@ -109,7 +109,3 @@ begin = record { vector = replicate 224 0; tails = replicate 64 no_tail; at = 0 
 -- each entry goes to a greater state, so no frame meets more states than the parser has
 abbrev pub parse : ParserConfig → List ℕ → Parse
 parse parser frame = parse_from (length parser.states) parser frame 0 begin
-
--- no entry has a tail: so far no image tells one
-abbrev pub has_no_tail : ParserConfig → Bool
-has_no_tail parser = length parser.tails == 0

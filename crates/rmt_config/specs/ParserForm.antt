@@ -1,12 +1,12 @@
--- The rules of form of the parser: states with their lookups, and entries.
+-- The rules of form of the parser: states with their lookups, entries, and tails of entries.
 use Rattle.std.specs.Prelude.{ℕ, ◌+◌, ◌*◌, ◌-◌, ◌^◌, ◌%◌, List, length, map, Bool, true, ◌&&◌, ◌==◌, nat_lt, nat_le, bit_and, option_map, unwrap_or, slice_get}
 use Rattle.std.specs.List.{list_all}
 use Rattle.rmt_config.specs.Types.{ParserConfig, ParserState, ParserEntry, Next, Extract}
 use Rattle.rmt_config.specs.declared.config.Next.TheVariants.{Accept, Reject, State}
 use Rattle.rmt_config.specs.declared.config.Extract.TheVariants.{Bits, One}
-use Rattle.rmt_config.specs.Parser.{has_no_tail}
 use Rattle.rmt_config.specs.Order.{rises_from, never_falls_from}
 use Rattle.rmt_config.specs.LaneForm.{lane_is_formed, is_lane_of}
+use Rattle.rmt_config.specs.TailForm.{tails_are_formed}
 
 -- the lookup offsets of a state rise, each below 128
 abbrev pub state_is_formed : ParserState → Bool
@@ -47,6 +47,5 @@ entries_are_formed p =
     nat_lt (length p.entries) 65536 && list_all (entry_is_formed p.states) p.entries
     && never_falls_from 0 (map (λ (e : ParserEntry). e.state) p.entries)
 
--- no image tells a tail yet
 abbrev pub parser_is_formed : ParserConfig → Bool
-parser_is_formed p = states_are_formed p.states && entries_are_formed p && has_no_tail p
+parser_is_formed p = states_are_formed p.states && entries_are_formed p && tails_are_formed p

@@ -70,13 +70,13 @@ fn head_of(layout: &Layout, blocks: &[u8], rows: &[SramRow], cell: u64, near: &m
     head_at(layout, blocks, rows, unit, row, bit, near)
 }
 
-/// Whether a head is that of an occupied cell that runs one of these instructions.
-fn head_fits(head: u8, first: u32, actions: u8) -> bool
+/// Whether a head is that of an occupied cell with these visible bits that runs one of these instructions.
+fn head_fits(head: u8, visible: u8, first: u32, actions: u8) -> bool
     requires { first < 65536 }
-    ensures { result ≡ head_is_formed first actions head }
+    ensures { result ≡ head_is_formed visible first actions head }
 {
     let code = (head / 8 % 32) as u32;
-    head % 2 == 1 && head / 2 % 4 == 0 && first <= code && code < first + actions as u32
+    head % 2 == 1 && head / 2 % 4 == visible && first <= code && code < first + actions as u32
 }
 
 /// Whether the heads of all listed cells are such heads.
@@ -85,6 +85,7 @@ fn heads_fit(
     blocks: &[u8],
     rows: &[SramRow],
     numbers: &[CellNumber],
+    visible: u8,
     first: u32,
     actions: u8,
 ) -> bool
@@ -93,7 +94,7 @@ fn heads_fit(
     requires cells { All (λ (n : CellNumber). n.cell < layout.now.ways * layout.now.quanta * layout.now.way) numbers.now }
     requires rows { SramRows rows.now }
     requires first { first < 65536 }
-    ensures { result ≡ heads_hold layout.now (sram_row rows.now) blocks.now first actions (listed_cells numbers.now) }
+    ensures { result ≡ heads_hold layout.now (sram_row rows.now) blocks.now visible first actions (listed_cells numbers.now) }
 {
     let mut near = Near {
         first: 0,
@@ -101,7 +102,7 @@ fn heads_fit(
     };
     for number in numbers {
         let head = head_of(layout, blocks, rows, number.cell as u64, &mut near);
-        if !head_fits(head, first, actions) {
+        if !head_fits(head, visible, first, actions) {
             return false;
         }
     }
@@ -120,12 +121,14 @@ fn cells_fit(numbers: &[CellNumber], count: u64) -> bool
     true
 }
 
-/// Whether the listed cells rise, are cells of the memory, and have the heads of occupied cells that run one of these instructions.
+/// Whether the listed cells rise, are cells of the memory, and have the heads of occupied cells with
+/// these visible bits that run one of these instructions.
 pub fn cells_are_formed(
     layout: &Layout,
     blocks: &[u8],
     rows: &[SramRow],
     numbers: &[CellNumber],
+    visible: u8,
     first: u32,
     actions: u8,
 ) -> bool
@@ -133,11 +136,11 @@ pub fn cells_are_formed(
     requires blocks { length blocks.now ≡ layout.now.quanta * layout.now.units * layout.now.side }
     requires rows { SramRows rows.now }
     requires first { first < 65536 }
-    ensures { result ≡ cells_hold layout.now (sram_row rows.now) blocks.now first actions numbers.now }
+    ensures { result ≡ cells_hold layout.now (sram_row rows.now) blocks.now visible first actions numbers.now }
 {
     let count = joined(joined(layout.ways, layout.quanta, 0), layout.way, 0);
     if !items_rise(0, numbers) || !cells_fit(numbers, count) {
         return false;
     }
-    heads_fit(layout, blocks, rows, numbers, first, actions)
+    heads_fit(layout, blocks, rows, numbers, visible, first, actions)
 }

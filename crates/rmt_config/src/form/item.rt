@@ -8,6 +8,7 @@ use crate::form::header::headers_fit;
 use crate::form::lane::ports_fit;
 use crate::form::parser::parser_fits;
 use crate::form::stage::stages_fit;
+use crate::form::tails::have_headers;
 
 /// Whether each item of a configuration keeps the rules of form that speak of it alone.
 pub fn items_fit(config: &Config) -> bool
@@ -16,6 +17,6 @@ pub fn items_fit(config: &Config) -> bool
     ports_fit(config)
         && headers_fit(config.headers.as_slice())
         && parser_fits(&config.parser)
+        && have_headers(config.parser.tails.as_slice(), config.headers.len())
         && stages_fit(config.stages.as_slice())
-        && config.names.is_none()
 }

@@ -28,6 +28,7 @@ fn key_bits(lanes: &[Lane]) -> u64
 fn exact_holds(
     stage: &Stage,
     slot: &SlotUnit,
+    visible: u8,
     first: u32,
     width: u8,
     per: u16,
@@ -39,14 +40,14 @@ fn exact_holds(
     requires fits { ExactFits slot.now width per quanta keys.now records.now }
     requires first { first < 65536 }
     ensures { IsTrue result
-        ↔ (IsTrue (cells_hold (exact_keys_of width per quanta (bits_of_lanes slot.now.keys)) (sram_row stage.now.srows) keys.now first slot.now.actions slot.now.numbers)
+        ↔ (IsTrue (cells_hold (exact_keys_of width per quanta (bits_of_lanes slot.now.keys)) (sram_row stage.now.srows) keys.now visible first slot.now.actions slot.now.numbers)
         × (SramTold (exact_keys_of width per quanta (bits_of_lanes slot.now.keys)) stage.now slot.now keys.now
         × SramTold (exact_records_of per quanta slot.now.held) stage.now slot.now records.now)) }
 {
     let rows = stage.srows.as_slice();
     let numbers = slot.numbers.as_slice();
     let entries = exact_keys(width, per, quanta, key_bits(slot.keys.as_slice()));
-    if !cells_are_formed(&entries, keys, rows, numbers, first, slot.actions) {
+    if !cells_are_formed(&entries, keys, rows, numbers, visible, first, slot.actions) {
         return false;
     }
     if !blocks_are_told(&entries, numbers, keys, rows) {
@@ -67,6 +68,7 @@ fn exact_holds(
 fn ternary_holds(
     stage: &Stage,
     slot: &SlotUnit,
+    visible: u8,
     first: u32,
     quanta: u8,
     keys: &[u8],
@@ -76,14 +78,14 @@ fn ternary_holds(
     requires fits { TernaryFits slot.now quanta keys.now records.now }
     requires first { first < 65536 }
     ensures { IsTrue result
-        ↔ (IsTrue (cells_hold (ternary_records_of quanta (slot.now.held + 8)) (sram_row stage.now.srows) records.now first slot.now.actions slot.now.numbers)
+        ↔ (IsTrue (cells_hold (ternary_records_of quanta (slot.now.held + 8)) (sram_row stage.now.srows) records.now visible first slot.now.actions slot.now.numbers)
         × (TcamTold (ternary_keys_of quanta (bits_of_lanes slot.now.keys)) stage.now slot.now keys.now
         × SramTold (ternary_records_of quanta (slot.now.held + 8)) stage.now slot.now records.now)) }
 {
     let rows = stage.srows.as_slice();
     let numbers = slot.numbers.as_slice();
     let entries = ternary_records(quanta, slot.held);
-    if !cells_are_formed(&entries, records, rows, numbers, first, slot.actions) {
+    if !cells_are_formed(&entries, records, rows, numbers, visible, first, slot.actions) {
         return false;
     }
     if !blocks_are_told(&entries, numbers, records, rows) {
@@ -93,12 +95,13 @@ fn ternary_holds(
     blocks_are_told(&layout, numbers, keys, stage.trows.as_slice())
 }
 
-/// Whether the memory of a slot holds its occupied cells as its numbers list them, and zeros; `first` is the number of its first instruction.
-fn slot_holds(stage: &Stage, first: u32, slot: &SlotUnit) -> bool
+/// Whether the memory of a slot holds its occupied cells as its numbers list them, and zeros; `visible` are the visible bits of those cells, and `first` is the number of its
+/// first instruction.
+fn slot_holds(stage: &Stage, visible: u8, first: u32, slot: &SlotUnit) -> bool
     requires rows { FormedRows stage.now }
     requires slot { IsTrue (slot_is_formed slot.now) }
     requires first { first < 65536 }
-    ensures { IsTrue result ↔ SlotHolds stage.now first slot.now }
+    ensures { IsTrue result ↔ SlotHolds visible stage.now first slot.now }
 {
     match &slot.memory {
         Memory::Without => true,
@@ -113,6 +116,7 @@ fn slot_holds(stage: &Stage, first: u32, slot: &SlotUnit) -> bool
             exact_holds(
                 stage,
                 slot,
+                visible,
                 first,
                 *width,
                 *per,
@@ -130,6 +134,7 @@ fn slot_holds(stage: &Stage, first: u32, slot: &SlotUnit) -> bool
             ternary_holds(
                 stage,
                 slot,
+                visible,
                 first,
                 *quanta,
                 keys.as_slice(),
@@ -140,18 +145,18 @@ fn slot_holds(stage: &Stage, first: u32, slot: &SlotUnit) -> bool
 }
 
 /// The same of each slot among units of the stage.
-fn slots_hold(stage: &Stage, units: &[Unit]) -> bool
+fn slots_hold(stage: &Stage, visible: u8, units: &[Unit]) -> bool
     requires rows { FormedRows stage.now }
     requires few { length units.now < 256 }
     requires units { IsTrue (list_all unit_is_formed units.now) }
-    ensures { IsTrue result ↔ All (λ (c : Coded). SlotHolds stage.now c.first c.slot) (coded_from 0 units.now) }
+    ensures { IsTrue result ↔ All (λ (c : Coded). SlotHolds visible stage.now c.first c.slot) (coded_from 0 units.now) }
 {
     let mut first: u32 = 0;
     for unit in units {
         match unit {
             Unit::Gate(_) => {}
             Unit::Slot(slot) => {
-                if !slot_holds(stage, first, slot) {
+                if !slot_holds(stage, visible, first, slot) {
                     return false;
                 }
                 first += slot.actions as u32 + 1;
@@ -161,11 +166,12 @@ fn slots_hold(stage: &Stage, units: &[Unit]) -> bool
     true
 }
 
-/// Whether the memory of a stage, whose items and rows keep their rules, holds occupied cells as the numbers of its slots list them, and zeros.
-pub fn stage_holds(stage: &Stage) -> bool
+/// Whether the memory of a stage, whose items and rows keep their rules, holds occupied cells as the numbers of its slots list them,
+/// with these visible bits, and zeros.
+pub fn stage_holds(stage: &Stage, visible: u8) -> bool
     requires formed { IsTrue (stage_is_formed stage.now) }
     requires rows { IsTrue (rows_are_formed stage.now) }
-    ensures { IsTrue result ↔ StageHolds stage.now }
+    ensures { IsTrue result ↔ StageHolds visible stage.now }
 {
-    slots_hold(stage, stage.units.as_slice())
+    slots_hold(stage, visible, stage.units.as_slice())
 }

@@ -9,6 +9,7 @@ ghost use Rattle.rmt_config.specs.declared.config.ParserEntry.{ParserEntry};
 use crate::config::{Extract, Next, ParserConfig, ParserEntry, ParserState};
 use crate::form::lane::{lane_fits, lane_fits_of};
 use crate::form::number::{fits_byte, fits_four_bytes, fits_two_bytes};
+use crate::form::tails::tails_fit;
 
 fn offsets_rise(offsets: &[u8]) -> bool
     ensures { result ≡ rises_from 0 offsets.now }
@@ -143,9 +144,9 @@ fn entries_fit(parser: &ParserConfig) -> bool
         && stand_by_state(entries)
 }
 
-/// Whether the states and the entries of the parser fit, and it has no tail.
+/// Whether the states, the entries and the tails of the parser fit.
 pub fn parser_fits(parser: &ParserConfig) -> bool
     ensures { result ≡ parser_is_formed parser.now }
 {
-    states_fit(parser.states.as_slice()) && entries_fit(parser) && parser.tails.is_empty()
+    states_fit(parser.states.as_slice()) && entries_fit(parser) && tails_fit(parser)
 }

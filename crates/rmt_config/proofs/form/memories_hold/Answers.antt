@@ -14,8 +14,8 @@ returns-then-not-stage_holds c =
     let e = one_off stages i d c.loop-stage-test.true in (
       λ f. absurd (false≢true f),
       λ all.
-          let here = All-head StageHolds (get_or stages i d) (drop (i + 1) stages) (subst (All StageHolds) e (c.loop-stage.invariant.so_far.0 all)) in
-          absurd (both_ways c.stage_holds.result c.if-not-stage_holds.true (c.stage_holds.ensures.1 (subst StageHolds (sym c.stage-item.is) here))),
+          let here = All-head (StageHolds c.args.visible) (get_or stages i d) (drop (i + 1) stages) (subst (All (StageHolds c.args.visible)) e (c.loop-stage.invariant.so_far.0 all)) in
+          absurd (both_ways c.stage_holds.result c.if-not-stage_holds.true (c.stage_holds.ensures.1 (subst (StageHolds c.args.visible) (sym c.stage-item.is) here))),
     )
 
 pub loop-stage-preserved : goal.loop-stage-preserved
@@ -27,8 +27,8 @@ loop-stage-preserved c =
     let e = one_off stages i d c.loop-stage-test.true in
     record {
       so_far = (
-        λ all. All-tail StageHolds (get_or stages i d) rest (subst (All StageHolds) e (c.loop-stage.invariant.so_far.0 all)),
+        λ all. All-tail (StageHolds c.args.visible) (get_or stages i d) rest (subst (All (StageHolds c.args.visible)) e (c.loop-stage.invariant.so_far.0 all)),
         λ more. c.loop-stage.invariant.so_far.1
-            (subst (All StageHolds) (sym e) (All-cons StageHolds (get_or stages i d) rest (subst StageHolds c.stage-item.is (c.stage_holds.ensures.0 c.if-not-stage_holds.false)) more)),
+            (subst (All (StageHolds c.args.visible)) (sym e) (All-cons (StageHolds c.args.visible) (get_or stages i d) rest (subst (StageHolds c.args.visible) c.stage-item.is (c.stage_holds.ensures.0 c.if-not-stage_holds.false)) more)),
       );
     }

@@ -5,4 +5,4 @@ use Rattle.rmt_config.proofs.form.memories_hold.Given as goal
 
 -- the stages so far hold what they may
 abbrev pub invariant-loop-stage : goal.invariant-loop-stage
-invariant-loop-stage l = record { so_far : All StageHolds l.stages ↔ All StageHolds (drop l.stage-index l.stages) }
+invariant-loop-stage l = record { so_far : All (StageHolds l.visible) l.stages ↔ All (StageHolds l.visible) (drop l.stage-index l.stages) }

@@ -13,7 +13,7 @@ returns-then-not-cells_are_formed c =
     let l = exact_keys c.args.width c.args.per c.args.quanta (bits_of_lanes s.keys) in
     let el = c.exact_keys-entries.ensures ∙ ap (exact_keys c.args.width c.args.per c.args.quanta) (c.key_bits.ensures ∙ ap bits_of_lanes c.as_slice.ensures) in
     let e = c.cells_are_formed.ensures
-    ∙ cells-same l c.exact_keys-entries.result c.args.stage.now.srows c.as_slice-rows.result.now s.numbers c.as_slice-numbers.result.now c.args.keys.now c.args.first s.actions
+    ∙ cells-same l c.exact_keys-entries.result c.args.stage.now.srows c.as_slice-rows.result.now s.numbers c.as_slice-numbers.result.now c.args.keys.now c.args.visible c.args.first s.actions
     el c.as_slice-rows.ensures c.as_slice-numbers.ensures in
     breaks_first _ _ (λ stands. both_ways _ (sym e ∙ c.if-not-cells_are_formed.true) stands)
 
@@ -32,7 +32,7 @@ returns-then-slot-eq0 c =
     let l = exact_keys c.args.width c.args.per c.args.quanta (bits_of_lanes s.keys) in
     let el = c.exact_keys-entries.ensures ∙ ap (exact_keys c.args.width c.args.per c.args.quanta) (c.key_bits.ensures ∙ ap bits_of_lanes c.as_slice.ensures) in
     let e = c.cells_are_formed.ensures
-    ∙ cells-same l c.exact_keys-entries.result c.args.stage.now.srows c.as_slice-rows.result.now s.numbers c.as_slice-numbers.result.now c.args.keys.now c.args.first s.actions
+    ∙ cells-same l c.exact_keys-entries.result c.args.stage.now.srows c.as_slice-rows.result.now s.numbers c.as_slice-numbers.result.now c.args.keys.now c.args.visible c.args.first s.actions
     el c.as_slice-rows.ensures c.as_slice-numbers.ensures in
     let told = rows-same srow_number (λ (r : SramRow). r.bits) c.blocks_are_told.result l c.exact_keys-entries.result c.args.stage.now.srows c.as_slice-rows.result.now s.numbers c.as_slice-numbers.result.now c.args.keys.now
     el c.as_slice-rows.ensures c.as_slice-numbers.ensures c.blocks_are_told.ensures in (
@@ -52,7 +52,7 @@ returns c =
     let l = exact_keys c.args.width c.args.per c.args.quanta (bits_of_lanes s.keys) in
     let el = c.exact_keys-entries.ensures ∙ ap (exact_keys c.args.width c.args.per c.args.quanta) (c.key_bits.ensures ∙ ap bits_of_lanes c.as_slice.ensures) in
     let e = c.cells_are_formed.ensures
-    ∙ cells-same l c.exact_keys-entries.result c.args.stage.now.srows c.as_slice-rows.result.now s.numbers c.as_slice-numbers.result.now c.args.keys.now c.args.first s.actions
+    ∙ cells-same l c.exact_keys-entries.result c.args.stage.now.srows c.as_slice-rows.result.now s.numbers c.as_slice-numbers.result.now c.args.keys.now c.args.visible c.args.first s.actions
     el c.as_slice-rows.ensures c.as_slice-numbers.ensures in
     let told = rows-same srow_number (λ (r : SramRow). r.bits) c.blocks_are_told.result l c.exact_keys-entries.result c.args.stage.now.srows c.as_slice-rows.result.now s.numbers c.as_slice-numbers.result.now c.args.keys.now
     el c.as_slice-rows.ensures c.as_slice-numbers.ensures c.blocks_are_told.ensures in

@@ -33,25 +33,26 @@ returns-in-Without c =
     let s = c.args.slot.now in
     let parts = and_parts (slot_head_is_formed s) (memory_is_formed s s.memory) c.requires.slot in
     let numbers = without-numbers s (sym (ap (memory_is_formed s) c.in-Without.is) ∙ parts.1) in
-    slot-at (IsTrue true) c.args.stage.now c.args.first s Without c.in-Without.is
-    (λ _. without-slot c.args.stage.now c.args.first s numbers, λ _. refl)
+    slot-at (IsTrue true) c.args.visible c.args.stage.now c.args.first s Without c.in-Without.is
+    (λ _. without-slot c.args.visible c.args.stage.now c.args.first s numbers, λ _. refl)
 
 pub returns-in-Exact : goal.returns-in-Exact
 returns-in-Exact c =
     let s = c.args.slot.now in
     let stage = c.args.stage.now in
     let first = c.args.first in
+    let visible = c.args.visible in
     let a = c.in-Exact in
     let parts = and_parts (slot_head_is_formed s) (memory_is_formed s s.memory) c.requires.slot in
     let fit = exact-fits s a.width a.per a.quanta a.first_way a.keys a.records a.counters parts.0 (sym (ap (memory_is_formed s) a.is) ∙ parts.1) in
     let l = exact_keys a.width a.per a.quanta (bits_of_lanes s.keys) in
-    let All : List ℕ → List ℕ → Type 0 = λ ks rs. IsTrue (cells_hold l (sram_row stage.srows) ks first s.actions s.numbers)
+    let All : List ℕ → List ℕ → Type 0 = λ ks rs. IsTrue (cells_hold l (sram_row stage.srows) ks visible first s.actions s.numbers)
     × (SramTold l stage s ks × SramTold (exact_records a.per a.quanta s.held) stage s rs) in
     let told : IsTrue c.exact_holds.result ↔ All a.keys a.records =
     subst (λ ks. IsTrue c.exact_holds.result ↔ All ks a.records) c.as_slice.ensures
     (subst (λ rs. IsTrue c.exact_holds.result ↔ All c.as_slice.result.now rs) c.as_slice-in-Exact.ensures c.exact_holds.ensures) in
-    let slot = exact-slot stage first s a.width a.per a.quanta a.first_way a.keys a.records a.counters c.requires.rows fit in
-    slot-at (IsTrue c.exact_holds.result) stage first s (Exact a.width a.per a.quanta a.first_way a.keys a.records a.counters) a.is
+    let slot = exact-slot visible stage first s a.width a.per a.quanta a.first_way a.keys a.records a.counters c.requires.rows fit in
+    slot-at (IsTrue c.exact_holds.result) c.args.visible stage first s (Exact a.width a.per a.quanta a.first_way a.keys a.records a.counters) a.is
     (λ h. slot.0 (told.0 h), λ h. told.1 (slot.1 h))
 
 pub returns-in-Ternary : goal.returns-in-Ternary
@@ -59,15 +60,16 @@ returns-in-Ternary c =
     let s = c.args.slot.now in
     let stage = c.args.stage.now in
     let first = c.args.first in
+    let visible = c.args.visible in
     let a = c.in-Ternary in
     let parts = and_parts (slot_head_is_formed s) (memory_is_formed s s.memory) c.requires.slot in
     let fit = ternary-fits s a.quanta a.keys a.records a.counters parts.0 (sym (ap (memory_is_formed s) a.is) ∙ parts.1) in
     let l = ternary_records a.quanta (s.held + 8) in
-    let All : List ℕ → List ℕ → Type 0 = λ ks rs. IsTrue (cells_hold l (sram_row stage.srows) rs first s.actions s.numbers)
+    let All : List ℕ → List ℕ → Type 0 = λ ks rs. IsTrue (cells_hold l (sram_row stage.srows) rs visible first s.actions s.numbers)
     × (TcamTold (ternary_keys a.quanta (bits_of_lanes s.keys)) stage s ks × SramTold l stage s rs) in
     let told : IsTrue c.ternary_holds.result ↔ All a.keys a.records =
     subst (λ ks. IsTrue c.ternary_holds.result ↔ All ks a.records) c.as_slice-in-Ternary.ensures
     (subst (λ rs. IsTrue c.ternary_holds.result ↔ All c.as_slice-in-Ternary.result.now rs) c.as_slice-in-Ternary-2.ensures c.ternary_holds.ensures) in
-    let slot = ternary-slot stage first s a.quanta a.keys a.records a.counters c.requires.rows fit in
-    slot-at (IsTrue c.ternary_holds.result) stage first s (Ternary a.quanta a.keys a.records a.counters) a.is
+    let slot = ternary-slot visible stage first s a.quanta a.keys a.records a.counters c.requires.rows fit in
+    slot-at (IsTrue c.ternary_holds.result) c.args.visible stage first s (Ternary a.quanta a.keys a.records a.counters) a.is
     (λ h. slot.0 (told.0 h), λ h. told.1 (slot.1 h))

@@ -11,7 +11,7 @@ use Rattle.rmt_config.proofs.form.memory.slots_hold.Goals.{in-Gate, in-Slot+else
 
 pub returns-then-not-slot_holds : goal.returns-then-not-slot_holds
 returns-then-not-slot_holds c =
-    let P : Coded → Type 0 = λ x. SlotHolds c.args.stage.now x.first x.slot in
+    let P : Coded → Type 0 = λ x. SlotHolds c.args.visible c.args.stage.now x.first x.slot in
     let units = c.args.units.now in
     let i = c.loop-unit.unit-index in
     let first = c.loop-unit.first in
@@ -29,7 +29,7 @@ loop-unit-preserved c =
     let units = c.args.units.now in
     let i = c.loop-unit.unit-index in
     let first = c.loop-unit.first in
-    let P : Coded → Type 0 = λ x. SlotHolds c.args.stage.now x.first x.slot in
+    let P : Coded → Type 0 = λ x. SlotHolds c.args.visible c.args.stage.now x.first x.slot in
     elim c.match-unit.branch [
       | in-Gate w ↦
           let e = coded-gate units i first c.unit-item.result _ c.loop-unit-test.true (sym c.unit-item.is ∙ w.in-Gate.is) in

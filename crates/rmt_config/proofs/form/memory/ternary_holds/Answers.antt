@@ -11,7 +11,7 @@ returns c =
     let s = c.args.slot.now in
     let l = ternary_records c.args.quanta (s.held + 8) in
     let e = c.cells_are_formed.ensures
-    ∙ cells-same l c.ternary_records-entries.result c.args.stage.now.srows c.as_slice-rows.result.now s.numbers c.as_slice-numbers.result.now c.args.records.now c.args.first s.actions
+    ∙ cells-same l c.ternary_records-entries.result c.args.stage.now.srows c.as_slice-rows.result.now s.numbers c.as_slice-numbers.result.now c.args.records.now c.args.visible c.args.first s.actions
     c.ternary_records-entries.ensures c.as_slice-rows.ensures c.as_slice-numbers.ensures in
     let told = rows-same srow_number (λ (r : SramRow). r.bits) c.blocks_are_told.result l c.ternary_records-entries.result c.args.stage.now.srows c.as_slice-rows.result.now s.numbers c.as_slice-numbers.result.now c.args.records.now
     c.ternary_records-entries.ensures c.as_slice-rows.ensures c.as_slice-numbers.ensures c.blocks_are_told.ensures in
