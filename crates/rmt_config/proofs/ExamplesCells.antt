@@ -84,7 +84,7 @@ exact_kept =
     let entries = told-from_test (exact_keys 1 4 2 16) (λ r. srow_number r / 1024) (λ r. srow_number r % 1024) (λ (r : SramRow). r.bits) cells exact_rows (range_with_len 0 8) refl in
     let records = told-from_test (exact_records 4 2 9) (λ r. srow_number r / 1024) (λ r. srow_number r % 1024) (λ (r : SramRow). r.bits) cells exact_rows (range_with_len 8 4) refl in
     let fit = exact-fits s 1 4 2 0 (range_with_len 0 8) (range_with_len 8 4) [] refl refl in
-    let holds = (exact-slot stage 0 s 1 4 2 0 (range_with_len 0 8) (range_with_len 8 4) [] (formed-rows stage refl refl) fit).0 (refl, (entries, records)) in
+    let holds = (exact-slot 0 stage 0 s 1 4 2 0 (range_with_len 0 8) (range_with_len 8 4) [] (formed-rows stage refl refl) fit).0 (refl, (entries, records)) in
     All-cons (Holds stage) (record { first = 0; slot = s }) [] holds (All-nil (Holds stage))
 
 -- ---- rows that break a rule
@@ -239,7 +239,7 @@ ternary_kept =
     let keys = told-from_test (ternary_keys 2 48) (λ r. trow_number r / 2048) (λ r. trow_number r % 2048) (λ (r : TcamRow). r.mask) cells two_rows (range_with_len 0 4) refl in
     let records = told-from_test (ternary_records 2 17) (λ r. srow_number r / 1024) (λ r. srow_number r % 1024) (λ (r : SramRow). r.bits) cells two_records (range_with_len 0 2) refl in
     let fit = ternary-fits s 2 (range_with_len 0 4) (range_with_len 0 2) [] refl refl in
-    let holds = (ternary-slot stage 0 s 2 (range_with_len 0 4) (range_with_len 0 2) [] (formed-rows stage refl refl) fit).0 (refl, (keys, records)) in
+    let holds = (ternary-slot 0 stage 0 s 2 (range_with_len 0 4) (range_with_len 0 2) [] (formed-rows stage refl refl) fit).0 (refl, (keys, records)) in
     All-cons (Holds stage) (record { first = 0; slot = s }) [] holds (All-nil (Holds stage))
 
 abbrev pub trows_of : List TcamRow → Bool

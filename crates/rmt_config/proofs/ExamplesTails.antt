@@ -6,9 +6,7 @@ use Rattle.rmt_config.specs.declared.config.Next.TheVariants as next
 use Rattle.rmt_config.specs.declared.config.Extract.TheVariants.{Bits, One}
 use Rattle.rmt_config.specs.Parser.{parse, entry_of, tail_of, tail_length, no_tail, Accept, Reject, Short}
 use Rattle.rmt_config.specs.ChipRun.{outcomes_of}
-use Rattle.rmt_config.specs.Form.{items_are_formed}
 use Rattle.rmt_config.proofs.ExamplesParts.{packet, lane, sent, one_byte}
-use Rattle.rmt_config.proofs.ExamplesSpelling.{own_words}
 
 -- a length that is above 0, one of 0, and one that would be below
 pub tail_length_above : tail_length 2 4 4 ≡ Some 4
@@ -109,7 +107,3 @@ replaced_run = refl
 -- a header that is not valid takes its tail with it: here the first entry sets no valid bit
 pub not_valid_run : outcomes_of (two_tails (tail_of_byte 0 0 ∷ [])) (packet 0 (255 ∷ replicate 255 7 ++ 8 ∷ []) ∷ []) ≡ sent 0 (8 ∷ []) [] ∷ []
 not_valid_run = refl
-
--- so far a configuration with a tail breaks a rule of form
-pub with_tail-unformed : items_are_formed (record own_words { parser = record own_words.parser { tails = record { entry = 0; header = 0; from = 0; len = 4; unit = 4; base = 4 } ∷ [] } }) ≡ false
-with_tail-unformed = refl

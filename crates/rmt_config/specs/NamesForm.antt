@@ -215,9 +215,6 @@ is_made_so c t = has_key_bits c t && has_actions c t && has_rows c t.kind t
 abbrev pub is_filled_so : Config → TableName → Bool
 is_filled_so c t = has_masks c t.kind t && has_ranks c t.kind t && has_entries c t
 
-abbrev pub table_is_named_well : Config → TableName → Bool
-table_is_named_well c t = is_made_so c t && is_filled_so c t
-
 -- names as long as their counts can say
 abbrev pub names_are_short : TableName → Bool
 names_are_short t = nat_lt (length t.name) (2 ^ 32) && list_all (λ (a : ActionName). nat_lt (length a.name) (2 ^ 32)) t.actions
@@ -229,5 +226,5 @@ names_have_counts names = nat_lt (length names.tables) 256 && list_all names_are
 -- names with every rule
 abbrev pub names_fit : Config → Names → Bool
 names_fit c names =
-    names_are_formed names && names_have_counts names && tables_are_those c names && list_all (table_is_named_well c) names.tables
-    && numbers_leave_room c
+    names_are_formed names && names_have_counts names && numbers_leave_room c && tables_are_those c names
+    && list_all (is_made_so c) names.tables && list_all (is_filled_so c) names.tables

@@ -17,6 +17,6 @@ pub fn items_fit(config: &Config) -> bool
     ports_fit(config)
         && headers_fit(config.headers.as_slice())
         && parser_fits(&config.parser)
-        && have_headers(config.parser.tails.as_slice(), config.headers.len())
+        && have_headers(config)
         && stages_fit(config.stages.as_slice())
 }

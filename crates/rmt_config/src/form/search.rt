@@ -7,10 +7,10 @@ ghost use Rattle.rmt_config.specs.declared.config.SramRow.{SramRow};
 ghost use Rattle.rmt_config.specs.declared.config.TcamRow.{TcamRow};
 ghost use Rattle.rmt_config.specs.declared.config.CellNumber.{CellNumber};
 
-use crate::config::{CellNumber, Operation, SramRow, Stage, TcamRow};
+use crate::config::{CellNumber, Operation, SramRow, Stage, TailOf, TcamRow};
 
 /// What stands in a list by rising numbers: a row, by its block and its row in it, a listed cell, an operation, by its
-/// word, or a stage, by its start.
+/// word, a stage, by its start, or a tail, by its entry.
 pub trait Numbered {
     /// Its number.
     ghost place_of: { Self → ℕ };
@@ -83,6 +83,14 @@ impl Numbered for Stage {
 
     fn place(&self) -> u32 {
         self.start as u32
+    }
+}
+
+impl Numbered for TailOf {
+    ghost place_of = { λ tail. tail.entry };
+
+    fn place(&self) -> u32 {
+        self.entry as u32
     }
 }
 

@@ -1,12 +1,12 @@
 //! The rules of form of tails of the parser's entries.
 
-ghost use Rattle.std.specs.Prelude.{◌≡◌, ◌<◌, Some, map, nat_lt, slice_get};
+ghost use Rattle.std.specs.Prelude.{◌≡◌, ◌<◌, Some, nat_lt, slice_get};
 ghost use Rattle.std.specs.List.{list_all};
-ghost use Rattle.rmt_config.specs.Order.{rises_from};
-ghost use Rattle.rmt_config.specs.TailForm.{has_length_field, has_greatest_length, is_tail_of, tails_are_formed};
+ghost use Rattle.rmt_config.specs.TailForm.{has_length_field, has_greatest_length, is_tail_of, tails_are_formed, tails_have_headers};
 ghost use Rattle.rmt_config.specs.declared.config.TailOf.{TailOf};
 
-use crate::config::{ParserConfig, ParserEntry, TailOf};
+use crate::config::{Config, ParserConfig, ParserEntry, TailOf};
+use crate::form::search::items_rise;
 
 /// Whether the field that tells a tail's length lies in the bytes that its entry needs.
 fn has_field(entry: &ParserEntry, tail: TailOf) -> bool
@@ -49,30 +49,23 @@ fn each_tail_fits(entries: &[ParserEntry], tails: &[TailOf]) -> bool
     tails.iter().all(|tail| tail_fits(entries, *tail))
 }
 
-fn entries_rise(tails: &[TailOf]) -> bool
-    ensures { result ≡ rises_from 0 (map (λ (t : TailOf). t.entry) tails.now) }
-{
-    let mut least: u32 = 0;
-    for tail in tails {
-        if (tail.entry as u32) < least {
-            return false;
-        }
-        least = tail.entry as u32 + 1;
-    }
-    true
-}
-
 /// Whether the tails of the parser's entries fit.
 pub fn tails_fit(parser: &ParserConfig) -> bool
     ensures { result ≡ tails_are_formed parser.now }
 {
     let tails = parser.tails.as_slice();
-    entries_rise(tails) && tails.len() < 65536 && each_tail_fits(parser.entries.as_slice(), tails)
+    items_rise(0, tails) && tails.len() < 65536 && each_tail_fits(parser.entries.as_slice(), tails)
 }
 
-/// Whether each tail is of one of that many headers.
-pub fn have_headers(tails: &[TailOf], headers: usize) -> bool
+fn are_below(tails: &[TailOf], headers: usize) -> bool
     ensures { result ≡ list_all (λ (t : TailOf). nat_lt t.header headers) tails.now }
 {
     tails.iter().all(|tail| (tail.header as usize) < headers)
+}
+
+/// Whether each tail is of one of the configuration's headers.
+pub fn have_headers(config: &Config) -> bool
+    ensures { result ≡ tails_have_headers config.now }
+{
+    are_below(config.parser.tails.as_slice(), config.headers.len())
 }
