@@ -258,9 +258,14 @@ const CHANGES_OF_GATED: [Change; 39] = [
     (303, 2, &[1, 0x74], (0, 0, 0, 0)),
 ];
 
-/// The image with a change made.
-fn changed(alloc: Global, image: &[u8], change: &Change) -> Result<Vec<u8>, AllocError> {
-    let (place, gone, bytes, _) = *change;
+/// An image in which that many bytes from a place on give way to others.
+pub fn spliced(
+    alloc: Global,
+    image: &[u8],
+    place: usize,
+    gone: usize,
+    bytes: &[u8],
+) -> Result<Vec<u8>, AllocError> {
     let mut all = Vec::new(alloc);
     for (at, byte) in image.iter().enumerate() {
         if at == place {
@@ -269,6 +274,9 @@ fn changed(alloc: Global, image: &[u8], change: &Change) -> Result<Vec<u8>, Allo
         if at < place || at - place >= gone {
             all.push(*byte)?;
         }
+    }
+    if place == image.len() {
+        all.extend_from_slice(bytes)?;
     }
     Ok(all)
 }
@@ -283,7 +291,7 @@ fn read_whole(rt: HostRuntime) {
 #[test]
 fn changes_of_exact(rt: HostRuntime) -> Result<(), Fail> {
     for change in &CHANGES_OF_EXACT {
-        let image = changed(rt.alloc(), &STRICT_AND_WEAK, change)?;
+        let image = spliced(rt.alloc(), &STRICT_AND_WEAK, change.0, change.1, change.2)?;
         assert_eq!(rt;
             read(rt.alloc(), &image),
             change.3,
@@ -298,7 +306,7 @@ fn changes_of_exact(rt: HostRuntime) -> Result<(), Fail> {
 #[test]
 fn changes_of_gated(rt: HostRuntime) -> Result<(), Fail> {
     for change in &CHANGES_OF_GATED {
-        let image = changed(rt.alloc(), &GATED, change)?;
+        let image = spliced(rt.alloc(), &GATED, change.0, change.1, change.2)?;
         assert_eq!(rt;
             read(rt.alloc(), &image),
             change.3,

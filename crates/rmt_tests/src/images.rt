@@ -15,11 +15,14 @@ pub const IMAGE: [u8; 95] = [
 ];
 
 /// A place, the byte that stands there instead, and the code of the image that is read then.
-const BROKEN: [(usize, u8, u8); 52] = [
+const BROKEN: [(usize, u8, u8); 55] = [
     (0, 0x53, 1),
     (3, 0x48, 1),
     (4, 1, 2),
-    (5, 2, 2),
+    (5, 0, 2),
+    (5, 2, 3), // names that are not there
+    (5, 3, 3),
+    (5, 4, 2),
     (7, 224, 4), // a word that is none
     (8, 8, 4), // a lane that leaves its word
     (9, 8, 4), // a port of entry of 8 bits
@@ -72,7 +75,7 @@ const BROKEN: [(usize, u8, u8); 52] = [
 
 /// The code of the smallest image where one byte is greater by 1, for each byte.
 const NEXT_BYTE: [u8; 95] = [
-    1, 1, 1, 1, 2, 2, 0, 0, 0, 4, 0, 0, 4, 0, 0, 4, 4, 0, 0, 4, 4, 4, 0, 4, 4, 4, 4, 4, 4, 4, 4, 4,
+    1, 1, 1, 1, 2, 3, 0, 0, 0, 4, 0, 0, 4, 0, 0, 4, 4, 0, 0, 4, 4, 4, 0, 4, 4, 4, 4, 4, 4, 4, 4, 4,
     4, 4, 4, 4, 4, 4, 4, 0, 4, 0, 3, 4, 0, 0, 4, 4, 4, 4, 0, 4, 4, 3, 4, 4, 4, 4, 0, 4, 4, 4, 4, 4,
     4, 4, 4, 4, 4, 4, 4, 4, 4, 0, 0, 0, 0, 4, 4, 4, 0, 0, 4, 4, 4, 4, 4, 3, 3, 3, 3, 3, 3, 3, 3,
 ];

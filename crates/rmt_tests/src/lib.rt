@@ -22,6 +22,8 @@ mod entries;
 #[cfg(test)]
 mod formats;
 #[cfg(test)]
+mod image_names;
+#[cfg(test)]
 mod image_rules;
 #[cfg(test)]
 mod images;

@@ -1,0 +1,270 @@
+//! Images of version 2: each rule on names broken once, and what just keeps it.
+
+use crate::image_rules::{GATED, STRICT_AND_WEAK, spliced};
+use crate::images::{IMAGE, read};
+use rmt_image::{read_image, write_image};
+use std::alloc::{AllocError, Global};
+use std::test::*;
+
+/// From a place on, that many bytes give way to these.
+type Splice = (usize, usize, &'static [u8]);
+
+/// Changes of an image, the last place first, and the code of what is read then.
+type Case = (&'static [Splice], u8);
+
+/// A table exact on 8 bits with the entry `7 go 5`, and its names: `b` of node 1, size 16, with the action `go`, which has
+/// a parameter of 9 bits. The names begin at byte 220.
+const NAMED: [u8; 244] = [
+    0x52, 0x4d, 0x54, 0x49, 0, 2, 0, 0x40, 0, 9, 0x41, 0, 9, 0, 0, 1, 1, 0, 1, 1, 1, 1, 1, 0, 8, 0,
+    1, 0, 0, 1, 0, 0, 0, 0, 0, 0, 0, 0, 0, 1, 1, 0, 2, 1, 0, 1, 1, 0, 0, 0, 1, 0, 8, 2, 0, 0, 1, 1,
+    0, 0, 0, 0, 1, 0, 0, 0, 0, 0, 0, 0, 0, 0, 1, 2, 0, 8, 0, 0, 1, 0, 2, 0, 0, 0, 0, 0, 0, 0, 0, 0,
+    0, 0, 0, 0, 0x0c, 2, 1, 1, 0, 0, 1, 1, 0, 9, 0, 1, 2, 0, 8, 1, 1, 0, 7, 1, 0, 0, 1, 2, 3, 4, 5,
+    6, 0, 0, 0, 1, 0, 0, 0x15, 0xa8, 0, 0, 0, 0, 1, 2, 0, 0, 0, 1, 0, 0, 0, 0, 0, 0, 0, 0, 0, 1,
+    0x41, 0, 9, 0, 1, 0, 0, 2, 0, 0, 0, 0, 0, 1, 2, 0, 8, 0, 2, 0, 0, 0, 0, 2, 0, 0, 0, 0, 0, 0, 0,
+    2, 0, 3, 0x18, 0, 0, 0, 0, 0, 0, 0, 0, 0, 0, 0, 0, 7, 7, 4, 1, 0xce, 0, 0, 0, 0, 0, 0, 0, 0, 0,
+    0, 0, 0, 0, 5, 0, 0, 0, 0, 1, 1, 0, 0, 0, 1, 0x62, 0, 0, 0, 0, 0x10, 0, 1, 8, 1, 0, 0, 0, 2,
+    0x67, 0x6f, 1, 9,
+];
+
+/// A ternary table of 17 bits in two parts with three entries, and its names, from byte 409 on, with their ranks.
+const RANKED: [u8; 461] = [
+    0x52, 0x4d, 0x54, 0x49, 0, 2, 1, 0x40, 0, 9, 0x41, 0, 9, 0, 0, 1, 2, 0, 1, 1, 1, 1, 1, 0, 8, 0,
+    2, 1, 2, 1, 0x42, 0, 0x10, 0, 2, 1, 0, 0, 0, 3, 0, 1, 0, 0, 0, 0xff, 0, 0, 0, 1, 1, 2, 1, 2, 1,
+    0, 1, 1, 0, 0, 0, 1, 0, 8, 0, 0, 0, 0, 0, 0, 0, 0, 0, 1, 1, 0, 2, 1, 0, 1, 1, 0, 0, 0, 1, 0, 8,
+    1, 0, 0, 0, 0, 0, 0, 0, 0, 2, 2, 0, 2, 1, 0, 2, 1, 0, 0, 0, 0x42, 0, 0x10, 2, 0, 0, 3, 0, 0, 0,
+    1, 0, 2, 1, 0, 0, 0, 1, 0, 0, 0, 1, 1, 1, 1, 0, 0, 4, 1, 1, 0, 0, 9, 0, 2, 0x42, 0, 0x10, 0, 2,
+    1, 2, 1, 0, 0, 1, 2, 0, 0, 0, 2, 0, 0, 0, 0, 0, 0, 0, 0, 0, 0, 7, 0xff, 0, 0, 0, 2, 1, 2, 1, 0,
+    0, 2, 0, 0, 1, 0, 0, 0, 0, 0, 0, 0, 0, 0, 1, 0x41, 0, 9, 0, 1, 0, 0, 2, 0, 0, 0, 0, 1, 0, 0, 1,
+    0, 2, 0, 0, 0, 1, 2, 0, 0, 0, 0, 1, 0x41, 0, 9, 0, 2, 0, 0, 0, 1, 2, 0, 0, 0, 0, 0, 0, 0, 2, 0,
+    0, 0, 0, 0, 0, 0, 0, 0, 0, 0, 0, 0, 0, 0, 5, 7, 0, 1, 0x55, 0, 0, 0, 0, 0, 0, 0, 0, 0, 0, 0x0e,
+    0x0e, 0, 0, 0, 0, 0, 2, 0, 0, 0, 0, 0, 1, 0x23, 0x45, 0, 0, 1, 0xff, 0xff, 0, 7, 0xff, 0, 0, 0,
+    0, 0, 0, 0, 0, 0, 1, 0, 1, 1, 1, 1, 1, 0, 0, 4, 1, 1, 1, 0, 9, 0, 2, 0x42, 0, 0x10, 0, 2, 1, 2,
+    1, 3, 4, 5, 6, 0, 0, 0, 1, 0, 0, 0, 0, 0, 0, 0, 1, 1, 0x41, 0, 9, 0, 1, 0, 0, 2, 0, 0, 0, 0, 1,
+    0, 0, 1, 0, 2, 0, 0, 0, 1, 2, 0, 0, 0, 0, 0, 0, 0, 1, 4, 0, 0, 0, 0, 0, 0, 0, 0, 0, 0, 0, 0, 0,
+    0, 6, 7, 0, 0, 0, 1, 3, 0, 0, 0, 0, 0, 0x24, 0x68, 0, 0, 1, 0xff, 0xfe, 1, 1, 0, 0, 0, 1, 0x62,
+    2, 0, 0, 0, 0x10, 0, 1, 0x11, 1, 0, 0, 0, 2, 0x67, 0x6f, 1, 9, 0, 0, 0, 3, 0, 0, 0, 0, 0, 0, 0,
+    0, 0, 0, 0, 2, 0, 0, 0, 2, 0, 0, 0, 1, 0, 0, 0, 3,
+];
+
+const OF_EXACT: [Case; 46] = [
+    (&[], 0),
+    (&[(5, 1, &[1])], 5), // bytes behind the configuration
+    (&[(5, 1, &[3])], 3), // no tails behind the names
+    (&[(5, 1, &[4])], 2),
+    (&[(244, 0, &[0])], 5), // a byte behind the names
+    (&[(198, 1, &[1])], 4), // no visible bit
+    (&[(198, 1, &[3])], 4), // one visible bit
+    (&[(198, 1, &[5])], 4), // the other one
+    (&[(220, 24, &[0])], 4), // a table without names
+    (&[(220, 1, &[0])], 5),
+    (&[(220, 1, &[2])], 3),
+    (&[(221, 1, &[0])], 4), // names of a table without memory
+    (&[(221, 1, &[2])], 4),
+    (&[(221, 1, &[3])], 4), // names of no node
+    (&[(222, 5, &[0, 0, 0, 0])], 4), // a name of no byte
+    (&[(222, 5, &[0, 0, 0, 2, 0x62, 0x5f])], 0),
+    (&[(222, 5, &[0, 0, 0, 2, 0x62, 0x2d])], 4), // a sign in a name
+    (&[(226, 1, &[0x31])], 4), // a name that begins with a digit
+    (&[(222, 5, &[0, 0, 0, 2, 0x69, 0x66])], 4), // a reserved word
+    (&[(222, 5, &[0, 0, 0, 4, 0x74, 0x61, 0x69, 0x6c])], 0), // `tail`, which is none in an image
+    (&[(222, 4, &[0xff, 0xff, 0xff, 0xff])], 3), // a name that runs past the end
+    (&[(227, 1, &[1])], 4), // prefixes in exact memory
+    (&[(227, 1, &[2])], 3), // ranks that are not there
+    (&[(244, 0, &[0, 0, 0, 0]), (227, 1, &[2])], 4), // ternary in exact memory
+    (&[(227, 1, &[3])], 4), // a kind that is none
+    (&[(228, 4, &[0, 0, 0, 0])], 4), // a size of 0
+    (&[(228, 4, &[0, 0, 0, 1])], 0),
+    (&[(228, 4, &[0, 0x10, 0, 0])], 0),
+    (&[(228, 4, &[0, 0x10, 0, 1])], 4), // a size above 1,048,576
+    (&[(232, 3, &[0, 0])], 4), // no field
+    (&[(232, 3, &[0, 2, 4, 4])], 0),
+    (&[(232, 3, &[0, 2, 0, 8])], 4), // a field of no bit
+    (&[(234, 1, &[9])], 4), // fields of more bits than the key
+    (&[(235, 9, &[0])], 4), // fewer actions than the slot says
+    (&[(235, 9, &[2, 0, 0, 0, 2, 0x67, 0x6f, 1, 9, 0, 0, 0, 1, 0x78, 0])], 4), // more
+    (&[(240, 1, &[0x20])], 4), // a space in an action's name
+    (&[(236, 6, &[0, 0, 0, 3, 0x68, 0x69, 0x74])], 4), // a reserved word
+    (&[(242, 2, &[2, 4, 5])], 0),
+    (&[(243, 1, &[0])], 4), // a parameter of no bit
+    (&[(243, 1, &[10])], 4), // parameters of more bits than the data
+    (&[(242, 2, &[0])], 0),
+    (&[(130, 4, &[0xff, 0xef, 0xff, 0xff])], 0),
+    (&[(130, 4, &[0xff, 0xf0, 0, 0])], 4), // a number that leaves no room for more
+    (&[(197, 1, &[8])], 4), // a key that may not stand in its cell
+    (&[(5, 1, &[3]), (227, 1, &[3])], 4), // a kind that is none, before tails that are not there
+    (&[(5, 1, &[3]), (231, 1, &[0])], 3), // tails that are not there, before a size of 0
+];
+
+/// A second entry, `8 go 0` in way 1, row 24.
+const EIGHT: [Splice; 4] = [
+    (199, 0, &[1, 0, 24, 0, 0, 0, 0, 0, 0, 0, 0, 0, 0, 0, 0, 8, 7]),
+    (181, 1, &[3]),
+    (134, 0, &[0, 0, 0x1c, 0xa8, 0, 0, 0, 1]),
+    (125, 1, &[2]),
+];
+
+/// A second entry, `7 go 0` in way 1, row 792.
+const SEVEN_AGAIN: [Splice; 4] = [
+    (199, 0, &[1, 3, 24, 0, 0, 0, 0, 0, 0, 0, 0, 0, 0, 0, 0, 7, 7]),
+    (181, 1, &[3]),
+    (134, 0, &[0, 0, 0x31, 0xa8, 0, 0, 0, 1]),
+    (125, 1, &[2]),
+];
+
+/// The same in version 1.
+const SEVEN_UNNAMED: [Splice; 7] = [
+    (220, 24, &[]),
+    (199, 0, &[1, 3, 24, 0, 0, 0, 0, 0, 0, 0, 0, 0, 0, 0, 0, 7, 1]),
+    (198, 1, &[1]),
+    (181, 1, &[3]),
+    (134, 0, &[0, 0, 0x31, 0xa8, 0, 0, 0, 1]),
+    (125, 1, &[2]),
+    (5, 1, &[1]),
+];
+
+/// Two entries, of which the second may be the first one's double.
+const OF_TWO: [Case; 4] = [
+    (&EIGHT, 0),
+    (&[(228, 4, &[0, 0, 0, 1]), EIGHT[0], EIGHT[1], EIGHT[2], EIGHT[3]], 4), // above the size
+    (&SEVEN_AGAIN, 4),
+    (&SEVEN_UNNAMED, 0), // without names no rule speaks of it
+];
+
+/// The names of the ternary table without ranks, as of prefixes.
+const NO_RANKS: Splice = (433, 28, &[]);
+
+const PREFIX: Splice = (416, 1, &[1]);
+
+const OF_TERNARY: [Case; 21] = [
+    (&[], 0),
+    (&[(460, 1, &[1])], 4), // rows against the order of ranks
+    (&[(460, 1, &[2])], 4), // of one rank, against that of numbers
+    (&[(444, 1, &[2])], 0), // of one rank, by number
+    (&[(453, 8, &[]), (436, 1, &[2])], 4), // a rank fewer
+    (&[(461, 0, &[0, 0, 0, 1, 0, 0, 0, 3]), (436, 1, &[4])], 4), // one more
+    (&[(456, 1, &[2]), (448, 1, &[1])], 4), // ranks in another order than rows
+    (&[(448, 1, &[7])], 4), // the rank of no entry
+    (&[(420, 1, &[2])], 4), // fewer than the entries
+    (&[(420, 1, &[3])], 0),
+    (&[(419, 2, &[0x10, 0])], 0),
+    (&[(419, 2, &[0x10, 1])], 4), // more than the rows
+    (&[NO_RANKS, (416, 1, &[0])], 4), // exact in ternary memory
+    (&[(421, 3, &[0, 2, 8, 9])], 0),
+    (&[NO_RANKS, PREFIX], 4), // a mask of the lowest bit
+    (&[NO_RANKS, PREFIX, (298, 5, &[0, 0, 1, 0xff, 0xff])], 0), // lengths 17, 17 and 16
+    (&[NO_RANKS, (421, 3, &[0, 2, 8, 9]), PREFIX, (298, 5, &[0, 0, 1, 0xff, 0xff])], 4), // a prefix of two fields
+    (&[NO_RANKS, PREFIX, (293, 10, &[0, 0, 1, 0x23, 0x45, 0, 0, 1, 0xff, 0xff])], 4), // the same prefix twice
+    (&[NO_RANKS, PREFIX, (404, 5, &[0, 0, 1, 0xff, 0xff]), (298, 5, &[0, 0, 1, 0xff, 0xfe])], 4), // 16 before 17
+    (&[NO_RANKS, PREFIX, (298, 5, &[0, 0, 1, 0xff, 0xfe])], 4), // of one length, against the order of numbers
+    (&[NO_RANKS, PREFIX, (396, 13, &[]), (395, 1, &[0]), (298, 5, &[0, 0, 1, 0xff, 0xff])], 0), // the last one of no bit
+];
+
+/// The smallest image with names of no table, and a tail: 4 bits of its byte tell 4 bytes each, without 4.
+const TAILED: [u8; 106] = [
+    0x52, 0x4d, 0x54, 0x49, 0, 3, 0, 0x40, 0, 9, 0x41, 0, 9, 0, 0, 1, 1, 0, 1, 1, 1, 1, 1, 0, 8, 0,
+    1, 0, 0, 1, 0, 0, 0, 0, 0, 0, 0, 0, 0, 1, 1, 0, 2, 1, 0, 1, 1, 0, 0, 0, 1, 0, 8, 1, 0, 0, 1, 1,
+    0, 0, 0, 0, 1, 0, 0, 0, 0, 0, 0, 0, 0, 0, 1, 0x41, 0, 9, 0, 2, 0, 0, 0, 1, 2, 0, 0, 0, 0, 0, 0,
+    0, 0, 0, 0, 0, 0, 0, 0, 1, 0, 0, 0, 0, 0, 4, 4, 4,
+];
+
+const OF_TAILS: [Case; 23] = [
+    (&[], 0),
+    (&[(97, 1, &[0])], 4), // no tail
+    (&[(98, 8, &[]), (97, 1, &[0])], 4),
+    (&[(97, 1, &[2])], 3), // a second one that is not there
+    (&[(106, 0, &[0, 0, 0, 0, 0, 4, 4, 4]), (97, 1, &[2])], 4), // two of one entry
+    (&[(99, 1, &[1])], 4), // of no entry
+    (&[(100, 1, &[1])], 4), // of no header
+    (&[(102, 1, &[4])], 0),
+    (&[(102, 1, &[5])], 4), // bits behind those that the entry needs
+    (&[(103, 1, &[0])], 4), // no bit
+    (&[(103, 3, &[8, 1, 191])], 0),
+    (&[(103, 3, &[9, 1, 191])], 4), // 9 bits
+    (&[(104, 1, &[0])], 4), // no unit
+    (&[(105, 1, &[60])], 0), // a greatest length of 0
+    (&[(105, 1, &[61])], 4), // below
+    (&[(104, 2, &[5, 11])], 0), // of 64
+    (&[(104, 2, &[5, 10])], 4), // above
+    (&[(40, 1, &[0])], 4), // an entry that moves by less than it needs
+    (&[(106, 0, &[0])], 5),
+    (&[(5, 1, &[2])], 5),
+    (&[(5, 1, &[1])], 5),
+    (&[(5, 1, &[4])], 2),
+    (&[(96, 10, &[]), (5, 1, &[2])], 0),
+];
+
+/// The code of an image with these changes.
+fn code_with(alloc: Global, image: &[u8], splices: &[Splice]) -> Result<u8, AllocError> {
+    let mut changed = Vec::from_slice(alloc, image)?;
+    for (place, gone, bytes) in splices {
+        changed = spliced(alloc, changed.as_slice(), *place, *gone, bytes)?;
+    }
+    Ok(read(alloc, changed.as_slice()).0)
+}
+
+/// The number of the first case whose code is another, or that of all cases.
+fn first_wrong(alloc: Global, image: &[u8], cases: &[Case]) -> Result<usize, AllocError> {
+    for (number, (splices, code)) in cases.iter().enumerate() {
+        if code_with(alloc, image, splices)? != *code {
+            return Ok(number);
+        }
+    }
+    Ok(cases.len())
+}
+
+#[test]
+fn names_of_an_exact_table(rt: HostRuntime) -> Result<(), Fail> {
+    assert_eq!(rt; first_wrong(rt.alloc(), &NAMED, &OF_EXACT)?, OF_EXACT.len());
+    assert_eq!(rt; first_wrong(rt.alloc(), &NAMED, &OF_TWO)?, OF_TWO.len());
+    Ok(())
+}
+
+#[test]
+fn names_of_a_ternary_table(rt: HostRuntime) -> Result<(), Fail> {
+    assert_eq!(rt; first_wrong(rt.alloc(), &RANKED, &OF_TERNARY)?, OF_TERNARY.len());
+    Ok(())
+}
+
+#[test]
+fn tails(rt: HostRuntime) -> Result<(), Fail> {
+    assert_eq!(rt; first_wrong(rt.alloc(), &TAILED, &OF_TAILS)?, OF_TAILS.len());
+    Ok(())
+}
+
+/// The first length behind the version at which an image that is cut there doesn't end inside an item, or its own.
+fn first_not_short(alloc: Global, image: &[u8]) -> usize {
+    for len in 6..image.len() {
+        if read(alloc, &image[..len]).0 != 3 {
+            return len;
+        }
+    }
+    image.len()
+}
+
+#[test]
+fn cut_short(rt: HostRuntime) {
+    assert_eq!(rt; first_not_short(rt.alloc(), &NAMED), NAMED.len());
+    assert_eq!(rt; first_not_short(rt.alloc(), &RANKED), RANKED.len());
+    assert_eq!(rt; first_not_short(rt.alloc(), &TAILED), TAILED.len());
+}
+
+/// What is read is written back byte by byte, whichever the version.
+fn comes_back(alloc: Global, image: &[u8]) -> bool {
+    match read_image(alloc, image) {
+        Ok(config) => match write_image(alloc, &config) {
+            Ok(bytes) => bytes.as_slice() == image,
+            Err(_) => false,
+        },
+        Err(_) => false,
+    }
+}
+
+#[test]
+fn round_trips(rt: HostRuntime) {
+    assert!(rt; comes_back(rt.alloc(), &IMAGE));
+    assert!(rt; comes_back(rt.alloc(), &STRICT_AND_WEAK));
+    assert!(rt; comes_back(rt.alloc(), &GATED));
+    assert!(rt; comes_back(rt.alloc(), &NAMED));
+    assert!(rt; comes_back(rt.alloc(), &RANKED));
+    assert!(rt; comes_back(rt.alloc(), &TAILED));
+}
