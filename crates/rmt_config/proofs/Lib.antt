@@ -38,3 +38,4 @@ pub mod ExamplesCommits
 pub mod ExamplesCommitRuns
 pub mod CommitLaws
 pub mod HeldLaws
+pub mod NameRuleLaws

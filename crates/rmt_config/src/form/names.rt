@@ -7,8 +7,12 @@ ghost use Rattle.rmt_config.specs.MemoryRules.{MemoryIsFormed};
 ghost use Rattle.rmt_config.specs.NamesForm.{names_fit as names_fit_of};
 
 mod alone;
+mod differ;
 mod entries;
+mod room;
+mod table;
 mod tables;
+mod words;
 
 use crate::config::Config;
 use crate::form::names::alone::are_named_well;
