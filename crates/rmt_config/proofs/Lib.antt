@@ -39,3 +39,4 @@ pub mod ExamplesCommitRuns
 pub mod CommitLaws
 pub mod HeldLaws
 pub mod NameRuleLaws
+pub mod NamePartLaws

@@ -9,6 +9,8 @@ ghost use Rattle.rmt_config.specs.NamesForm.{names_fit as names_fit_of};
 mod alone;
 mod differ;
 mod entries;
+mod made;
+mod parts;
 mod room;
 mod table;
 mod tables;
