@@ -23,7 +23,8 @@ use Rattle.rmt_ptcam.specs.Joining.{IsGood, KeepsForm, ParsesAlike, Row, is_amon
 use Rattle.rmt_ptcam.specs.Steps.{parse_within}
 use Rattle.rmt_ptcam.specs.Clustering.{compact, is_met, met_states, number_in, renamed, renamed_next, state_behind, states_kept}
 use Rattle.rmt_ptcam.proofs.AddingLaws.{filter_short, length_rows}
-use Rattle.rmt_ptcam.proofs.FormedRows.{IsFormed, IsRow, IsRowTail, entries_of_rows, formed_parts, rows_are, split_at}
+use Rattle.rmt_ptcam.proofs.FormedRows.{IsFormed, IsRow, entries_of_rows, formed_parts, rows_are, split_at}
+use Rattle.rmt_ptcam.proofs.TailForms.{IsRowTail}
 use Rattle.rmt_ptcam.proofs.JoinedForm.{made_keeps}
 use Rattle.rmt_ptcam.proofs.JoinedKeeps.{sorted_rows}
 use Rattle.rmt_ptcam.proofs.JoinedParse.{find_map, one_more_state}
@@ -301,7 +302,17 @@ module _ (parser : ParserConfig) (keeps : KeepsForm parser) where
     where
       by : (o : Option TailOf) → IfSome o (IsRowTail x.entry) → IfSome o (IsRowTail (rename x).entry)
       by None fits = tt
-      by (Some t) fits = record { header = fits.header; few_bits = fits.few_bits; within = fits.within }
+      by (Some t) fits = record {
+        header = fits.header;
+        some_bits = fits.some_bits;
+        few_bits = fits.few_bits;
+        within = fits.within;
+        some_unit = fits.some_unit;
+        small_unit = fits.small_unit;
+        small_base = fits.small_base;
+        greatest = fits.greatest;
+        moves = fits.moves;
+      }
 
   rows_formed : All (IsRow kept) rows
   rows_formed = All-map (IsRow kept) rename own (λ k d lt. renamed_row (get_or own k d) (own_met k d lt) (λ t on. own_next k d lt t (own_met k d lt) on) (own_formed k d lt))
@@ -325,7 +336,11 @@ module _ (parser : ParserConfig) (keeps : KeepsForm parser) where
       let b = filter_short is_kept (rows_of parser) in
       let c = length_rows parser in
       let d = keeps.few in
-      made_keeps kept rows (omega (arith, a, b, c, d)) (all_kept met (λ s. state_is_formed s ≡ true) parser.states 0 keeps.states) rows_formed rows_sorted
+      let many = length_kept met parser.states in
+      let first = number_less met 0 (length parser.states) first_met keeps.some in
+      let most = number_small met (length parser.states) in
+      let few = keeps.few_states in
+      made_keeps kept rows (omega (arith, many, first)) (omega (arith, many, most, few)) (omega (arith, a, b, c, d)) (all_kept met (λ s. state_is_formed s ≡ true) parser.states 0 keeps.states) rows_formed rows_sorted
 
   -- ---- the same parse
 

@@ -1,29 +1,35 @@
 -- The plain parser keeps the rules of form of entries and tails.
-use Rattle.std.proofs.Common.{◌≡◌, ℕ, zero, suc, ◌+◌, ◌*◌, ◌-◌, ◌<◌, ◌≤◌, true, List, [], ◌∷◌, ◌++◌, get_or, length, map, reverse, Option, Some, None, refl, sym, ap, subst, ◌∙◌, append_assoc, inl, inr, arith}
-use Rattle.std.specs.Prelude.{All, IfSome, slice_get}
+use Rattle.std.proofs.Common.{◌≡◌, ℕ, zero, suc, ◌+◌, ◌*◌, ◌^◌, ◌-◌, ◌<◌, ◌≤◌, true, List, [], ◌∷◌, ◌++◌, get_or, length, map, reverse, Option, Some, None, refl, sym, ap, subst, ◌∙◌, append_assoc, inl, inr, arith}
+use Rattle.std.specs.Prelude.{All, IfSome, nat_le, slice_get}
 use Rattle.std.specs.List.{range_with_len}
 use Rattle.std.specs.List.Sorted.{IsNonDecreasingBy}
-use Rattle.std.proofs.lemmas.Bool.{cases_lt, lt-ltb, le-leb}
+use Rattle.std.proofs.lemmas.Bool.{and_from, cases_lt, lt-ltb, le-leb}
 use Rattle.std.proofs.lemmas.List.{length-append, length-map, get_or_append_left, get_or-append_right}
-use Rattle.std.proofs.lemmas.List.Elements.{All-nil, All-cons, All-head, All-tail, All-append, All-map, All-weaker}
-use Rattle.std.proofs.lemmas.Option.{slice_get-get_or}
+use Rattle.std.proofs.lemmas.List.Elements.{All-nil, All-cons, All-head, All-tail, All-append, All-contains, All-get_or, All-map, All-weaker}
+use Rattle.std.proofs.lemmas.List.FromFn.{length-range_with_len}
+use Rattle.std.proofs.lemmas.List.Sums.{sum_by-cons}
+use Rattle.std.proofs.lemmas.Option.{slice_get_cases, slice_get-get_or}
 use Rattle.rmt_bits.specs.Words.{word_size}
 use Rattle.rmt_bits.specs.declared.lane.Lane.{Lane}
-use Rattle.rmt_bits.proofs.AllLaws.{All-slice_get, All-flat_map, All-reverse, All-between}
+use Rattle.rmt_bits.proofs.AllLaws.{All-flat_map, All-reverse, All-between}
 use Rattle.rmt_bits.proofs.ListLaws.{slice_get-front, slice_get-end}
-use Rattle.rmt_ptcam.specs.Types.{Program, Header, Tail, Target, ParserConfig, ParserEntry, TailOf}
+use Rattle.rmt_ptcam.specs.Types.{Program, Field, Header, Tail, Target, ParserConfig, ParserEntry, TailOf}
 use Rattle.rmt_ast.specs.State.{width_of}
-use Rattle.rmt_ast.specs.WellFormed.{IsProgram, IsHeader, IsTail, bits_of}
+use Rattle.rmt_ast.specs.WellFormed.{HasFields, IsProgram, IsHeader, IsTail, IsWidth, bits_of}
 use Rattle.rmt_phv.specs.Packing.{pieces}
 use Rattle.rmt_phv.specs.Places.{LiesInWord, high_first}
 use Rattle.rmt_config.specs.declared.config.Extract.TheVariants.{Bits, One}
+use Rattle.rmt_config.specs.Order.{rises_from}
 use Rattle.rmt_config.specs.ParserForm.{extract_is_formed}
+use Rattle.rmt_config.specs.TailForm.{is_tail_of}
 use Rattle.rmt_config.specs.LaneForm.{lane_is_formed, bits_of_lanes}
 use Rattle.rmt_ast.specs.Places.{lanes_of}
 use Rattle.rmt_ptcam.specs.Fitting.{IsEntry, IsTailOf, IsParser}
 use Rattle.rmt_phv.specs.Places.{KeepsApart}
-use Rattle.rmt_ptcam.specs.Needs.{place_in, entry_count}
+use Rattle.rmt_ptcam.specs.Needs.{entries_in, entry_count}
 use Rattle.rmt_ptcam.specs.Plain.{bits_from, extracts_of, entry_to, entry_of_case, entries_of, entries_from, tail_at, tails_for, tails_from, plain}
+use Rattle.rmt_ptcam.proofs.FieldLaws.{owns_fields}
+use Rattle.rmt_ptcam.proofs.TailForms.{rises_before, rises_least, rises_sorted, tail_from, tail_runs}
 use Rattle.rmt_ptcam.proofs.PlainLaws.{bits_of_lanes-append, lanes_bits, place_within}
 use Rattle.rmt_bits.proofs.WordLaws.{word_size-le}
 use Rattle.rmt_phv.proofs.LaneLaws.{lanes_cut, lanes_lie}
@@ -137,105 +143,152 @@ module _ (p : Program) (places : List (List Lane)) where
 -- ---- tails
 
 module _ (p : Program) where
-  range_least : (n : ℕ) (h : Header) (t : Tail) (a c : ℕ) → All (λ (x : TailOf). a ≤ x.entry) (map (tail_at p n h t) (range_with_len a c))
-  range_least n h t a zero = All-nil (λ (x : TailOf). a ≤ x.entry)
-  range_least n h t a (suc c) =
-      All-cons (λ (x : TailOf). a ≤ x.entry) (tail_at p n h t a) (map (tail_at p n h t) (range_with_len (a + 1) c)) (omega arith)
-      (All-weaker (λ (x : TailOf). a + 1 ≤ x.entry) (λ (x : TailOf). a ≤ x.entry) (λ x more. omega (arith, more)) _ (range_least n h t (a + 1) c))
-
-  range_most : (n : ℕ) (h : Header) (t : Tail) (a c end : ℕ) → a + c ≤ end → All (λ (x : TailOf). x.entry ≤ end) (map (tail_at p n h t) (range_with_len a c))
-  range_most n h t a zero end le = All-nil (λ (x : TailOf). x.entry ≤ end)
-  range_most n h t a (suc c) end le =
-      All-cons (λ (x : TailOf). x.entry ≤ end) (tail_at p n h t a) (map (tail_at p n h t) (range_with_len (a + 1) c)) (omega (arith, le)) (range_most n h t (a + 1) c end (omega (arith, le)))
-
-  range_sorted : (n : ℕ) (h : Header) (t : Tail) (a c : ℕ) → IsNonDecreasingBy (λ (x : TailOf). x.entry) (map (tail_at p n h t) (range_with_len a c))
-  range_sorted n h t a zero = λ i j d le lt. absurd (omega (arith, lt))
-  range_sorted n h t a (suc c) =
-      sorted-append (λ (x : TailOf). x.entry) (tail_at p n h t a ∷ []) (map (tail_at p n h t) (range_with_len (a + 1) c)) a
-      (All-cons (λ (x : TailOf). x.entry ≤ a) (tail_at p n h t a) [] (omega arith) (All-nil (λ (x : TailOf). x.entry ≤ a)))
-      (All-weaker (λ (x : TailOf). a + 1 ≤ x.entry) (λ (x : TailOf). a ≤ x.entry) (λ x more. omega (arith, more)) _ (range_least n h t (a + 1) c))
-      (sorted-same (λ (x : TailOf). x.entry) (tail_at p n h t a ∷ []) a (All-cons (λ (x : TailOf). x.entry ≡ a) (tail_at p n h t a) [] refl (All-nil (λ (x : TailOf). x.entry ≡ a))))
-      (range_sorted n h t (a + 1) c)
+  rises_range : (n : ℕ) (h : Header) (t : Tail) (a c : ℕ) (rest : List TailOf) → rises_from (a + c) (map (λ (x : TailOf). x.entry) rest) ≡ true
+      → rises_from a (map (λ (x : TailOf). x.entry) (map (tail_at p n h t) (range_with_len a c) ++ rest)) ≡ true
+  rises_range n h t a zero rest is = let none : a + 0 ≡ a = omega arith in subst (λ k. rises_from k (map (λ (x : TailOf). x.entry) rest) ≡ true) none is
+  rises_range n h t a (suc c) rest is =
+      let one : a + suc c ≡ a + 1 + c = omega arith in
+      and_from (nat_le a a) (rises_from (a + 1) (map (λ (x : TailOf). x.entry) (map (tail_at p n h t) (range_with_len (a + 1) c) ++ rest))) (le-leb a a (omega arith))
+      (rises_range n h t (a + 1) c rest (subst (λ k. rises_from k (map (λ (x : TailOf). x.entry) rest) ≡ true) one is))
 
   tails_for_all : (P : TailOf → Type 0) (n : ℕ) (h : Header) (a : ℕ) (o : Option Tail) → ((t : Tail) → o ≡ Some t → All P (map (tail_at p n h t) (range_with_len a (entry_count h)))) → All P (tails_for p n h a o)
   tails_for_all P n h a None each = All-nil P
   tails_for_all P n h a (Some t) each = each t refl
 
-  tails_for_sorted : (n : ℕ) (h : Header) (a : ℕ) (o : Option Tail) → IsNonDecreasingBy (λ (x : TailOf). x.entry) (tails_for p n h a o)
-  tails_for_sorted n h a None = λ i j d le lt. absurd (omega (arith, lt))
-  tails_for_sorted n h a (Some t) = range_sorted n h t a (entry_count h)
+  -- they rise
+  pub plain_rises : (n a : ℕ) (hs : List Header) → rises_from a (map (λ (x : TailOf). x.entry) (tails_from p n a hs)) ≡ true
+  plain_rises n a [] = refl
+  plain_rises n a (h ∷ hs) = by h.tail (plain_rises (n + 1) (a + entry_count h) hs)
+    where
+      by : (o : Option Tail) → rises_from (a + entry_count h) (map (λ (x : TailOf). x.entry) (tails_from p (n + 1) (a + entry_count h) hs)) ≡ true
+          → rises_from a (map (λ (x : TailOf). x.entry) (tails_for p n h a o ++ tails_from p (n + 1) (a + entry_count h) hs)) ≡ true
+      by None rest = rises_before a (a + entry_count h) (map (λ (x : TailOf). x.entry) (tails_from p (n + 1) (a + entry_count h) hs)) (omega arith) rest
+      by (Some t) rest = rises_range n h t a (entry_count h) (tails_from p (n + 1) (a + entry_count h) hs) rest
 
   pub tails_least : (n a : ℕ) (hs : List Header) → All (λ (x : TailOf). a ≤ x.entry) (tails_from p n a hs)
-  tails_least n a [] = All-nil (λ (x : TailOf). a ≤ x.entry)
-  tails_least n a (h ∷ hs) =
-      All-append (λ (x : TailOf). a ≤ x.entry) (tails_for p n h a h.tail) (tails_from p (n + 1) (a + entry_count h) hs)
-      (tails_for_all (λ (x : TailOf). a ≤ x.entry) n h a h.tail (λ t is. range_least n h t a (entry_count h)))
-      (All-weaker (λ (x : TailOf). a + entry_count h ≤ x.entry) (λ (x : TailOf). a ≤ x.entry) (λ x more. omega (arith, more)) _ (tails_least (n + 1) (a + entry_count h) hs))
+  tails_least n a hs = rises_least (λ (x : TailOf). x.entry) a (tails_from p n a hs) (plain_rises n a hs)
 
-  pub by_entry : (n a : ℕ) (hs : List Header) → IsNonDecreasingBy (λ (x : TailOf). x.entry) (tails_from p n a hs)
-  by_entry n a [] = λ i j d le lt. absurd (omega (arith, lt))
-  by_entry n a (h ∷ hs) =
-      sorted-append (λ (x : TailOf). x.entry) (tails_for p n h a h.tail) (tails_from p (n + 1) (a + entry_count h) hs) (a + entry_count h)
-      (tails_for_all (λ (x : TailOf). x.entry ≤ a + entry_count h) n h a h.tail (λ t is. range_most n h t a (entry_count h) (a + entry_count h) (omega arith)))
-      (tails_least (n + 1) (a + entry_count h) hs) (tails_for_sorted n h a h.tail) (by_entry (n + 1) (a + entry_count h) hs)
+  -- they are no more than the entries
+  pub plain_few : (n a : ℕ) (hs : List Header) → length (tails_from p n a hs) ≤ entries_in hs
+  plain_few n a [] = omega arith
+  plain_few n a (h ∷ hs) =
+      let rest = plain_few (n + 1) (a + entry_count h) hs in
+      let both = length-append (tails_for p n h a h.tail) (tails_from p (n + 1) (a + entry_count h) hs) in
+      let all = sum_by-cons entry_count h hs in
+      let here = by h.tail in
+      omega (arith, rest, both, all, here)
+    where
+      by : (o : Option Tail) → length (tails_for p n h a o) ≤ entry_count h
+      by None = omega arith
+      by (Some t) = let one = length-map (range_with_len a (entry_count h)) (tail_at p n h t) in let two = length-range_with_len a (entry_count h) in omega (arith, one, two)
+
+-- each field has a bit
+has_bits : (p : Program) → HasFields p → (f : ℕ) → f < length p.fields → 1 ≤ width_of p f
+has_bits p h f lt =
+    elim ((slice_get_cases p.fields f).1) [
+      | inl (x, below, found, is) ↦
+          let width : IsWidth x.width = subst (λ (y : Field). IsWidth y.width) is (All-get_or (λ (y : Field). IsWidth y.width) p.fields f x below h.widths) in
+          rw found width.0
+      | inr (past, none) ↦ absurd (omega (arith, past, lt))
+    ]
 
 -- a header whose tail is told by a field of its own
 pub record HasTail (p : Program) (h : Header) : Type 0 where
   pub tail : IfSome h.tail (IsTail p h.fields)
   pub whole : bits_of p h.fields ≡ 8 * h.bytes
+  pub bits : All (λ f. 1 ≤ width_of p f) h.fields
 
 pub tail_of_header : (p : Program) (h : Header) (t : Tail) (o : Option Tail) → o ≡ Some t → IfSome o (IsTail p h.fields) → IsTail p h.fields t
 tail_of_header p h t None e told = absurd cc
 tail_of_header p h t (Some u) e told = let same : u ≡ t = cc in subst (IsTail p h.fields) same told
 
+-- it needs the header's bytes, and moves behind them
+abbrev IsWhole : Header → ParserEntry → Type 0
+IsWhole h e = (e.need ≡ h.bytes) × (e.advance ≡ h.bytes)
+
 module _ (p : Program) (places : List (List Lane)) (parser : ParserConfig) where
+  abbrev IsFormedTail : TailOf → Type 0
+  IsFormedTail t = is_tail_of t (slice_get parser.entries t.entry) ≡ true
+
   -- the entries of a header stand behind those before it
-  needs_at : (n a w : ℕ) (front rest : List ParserEntry) (h : Header) (e : ParserEntry) → parser.entries ≡ front ++ (entries_of p places n h ++ rest) → length front ≡ a → a ≤ w → w < a + entry_count h
-      → slice_get parser.entries w ≡ Some e → e.need ≡ h.bytes
-  needs_at n a w front rest h e all long from lt found =
+  whole_at : (n a w : ℕ) (front rest : List ParserEntry) (h : Header) → parser.entries ≡ front ++ (entries_of p places n h ++ rest) → length front ≡ a → a ≤ w → w < a + entry_count h
+      → (e : ParserEntry) × (slice_get parser.entries w ≡ Some e) × IsWhole h e
+  whole_at n a w front rest h all long from lt =
       let k = w - a in
       let at : length front + k ≡ w = omega (arith, long, from) in
       let count = length-entries_of p places n h in
       let inside : k < length (entries_of p places n h) = omega (arith, count, from, lt) in
-      let here : slice_get (entries_of p places n h) k ≡ Some e =
-      sym (slice_get-front (entries_of p places n h) rest k inside) ∙ sym (slice_get-end front (entries_of p places n h ++ rest) k)
-      ∙ ap (slice_get (front ++ (entries_of p places n h ++ rest))) at ∙ sym (ap (λ (es : List ParserEntry). slice_get es w) all) ∙ found in
-      All-slice_get (λ (x : ParserEntry). x.need ≡ h.bytes) (entries_of p places n h) k e (of_header p places (λ (x : ParserEntry). x.need ≡ h.bytes) n h (λ v m t. refl)) here
+      let d = entry_to places n h 0 0 h.other in
+      let e = get_or (entries_of p places n h) k d in
+      let found : slice_get parser.entries w ≡ Some e =
+      ap (λ (es : List ParserEntry). slice_get es w) all ∙ ap (slice_get (front ++ (entries_of p places n h ++ rest))) (sym at)
+      ∙ slice_get-end front (entries_of p places n h ++ rest) k ∙ slice_get-front (entries_of p places n h) rest k inside
+      ∙ slice_get-get_or (entries_of p places n h) k d inside in
+      (e, found, of_header p places (IsWhole h) n h (λ v m t. (refl, refl)) k d inside)
 
-  pub tails_fit : (n a : ℕ) (front : List ParserEntry) (hs : List Header) → parser.entries ≡ front ++ entries_from p places n hs → length front ≡ a → n + length hs ≤ 64 → All (HasTail p) hs
-      → All (IsTailOf parser) (tails_from p n a hs)
-  tails_fit n a front [] all long few told = All-nil (IsTailOf parser)
-  tails_fit n a front (h ∷ hs) all long few told =
+  pub plain_tails : (n a : ℕ) (front : List ParserEntry) (hs : List Header) → parser.entries ≡ front ++ entries_from p places n hs → length front ≡ a → n + length hs ≤ 64 → All (HasTail p) hs
+      → All IsFormedTail (tails_from p n a hs)
+  plain_tails n a front [] all long few told = All-nil IsFormedTail
+  plain_tails n a front (h ∷ hs) all long few told =
       let this : HasTail p h = All-head (HasTail p) h hs told in
       let rest = entries_from p places (n + 1) hs in
       let count = length-entries_of p places n h in
       let parts = length-append front (entries_of p places n h) in
-      All-append (IsTailOf parser) (tails_for p n h a h.tail) (tails_from p (n + 1) (a + entry_count h) hs)
-      (tails_for_all p (IsTailOf parser) n h a h.tail (λ t is.
+      All-append IsFormedTail (tails_for p n h a h.tail) (tails_from p (n + 1) (a + entry_count h) hs)
+      (tails_for_all p IsFormedTail n h a h.tail (λ t is.
       let it : IsTail p h.fields t = tail_of_header p h t h.tail is this.tail in
-      let within = place_within p h.fields t.field it.own in
-      All-map (IsTailOf parser) (tail_at p n h t) (range_with_len a (entry_count h))
-      (All-between (λ w. IsTailOf parser (tail_at p n h t w)) a (entry_count h) (λ w from lt. record {
-        header = omega (arith, few);
-        few_bits = it.narrow;
-        within = if_some (λ (e : ParserEntry). place_in p h.fields t.field + width_of p t.field ≤ 8 * e.need) (slice_get parser.entries w)
-            (λ e found. let need = needs_at n a w front rest h e all long from lt found in omega (arith, within, this.whole, need));
-      }))))
-      (tails_fit (n + 1) (a + entry_count h) (front ++ entries_of p places n h) hs (all ∙ sym (append_assoc front (entries_of p places n h) rest)) (omega (arith, parts, count, long)) (omega (arith, few)) (All-tail (HasTail p) h hs told))
+      All-map IsFormedTail (tail_at p n h t) (range_with_len a (entry_count h))
+      (All-between (λ w. IsFormedTail (tail_at p n h t w)) a (entry_count h) (λ w from lt.
+      formed_at n h t this it (omega (arith, few)) w (whole_at n a w front rest h all long from lt)))))
+      (plain_tails (n + 1) (a + entry_count h) (front ++ entries_of p places n h) hs (all ∙ sym (append_assoc front (entries_of p places n h) rest)) (omega (arith, parts, count, long)) (omega (arith, few)) (All-tail (HasTail p) h hs told))
+    where
+      formed_at : (n : ℕ) (h : Header) (t : Tail) → HasTail p h → IsTail p h.fields t → n < 64 → (w : ℕ) → (e : ParserEntry) × (slice_get parser.entries w ≡ Some e) × IsWhole h e → IsFormedTail (tail_at p n h t w)
+      formed_at n h t this it few w there =
+          let e : ParserEntry = there.0 in
+          let within = place_within p h.fields t.field it.own in
+          let whole : IsWhole h e = there.2 in
+          let unit = it.unit in
+          let base = it.base in
+          subst (λ (o : Option ParserEntry). is_tail_of (tail_at p n h t w) o ≡ true) (sym there.1)
+          (tail_from e (tail_at p n h t w) (record {
+            header = few;
+            some_bits = All-contains (λ f. 1 ≤ width_of p f) h.fields t.field this.bits it.own;
+            few_bits = it.narrow;
+            within = omega (arith, within, this.whole, whole.0);
+            some_unit = it.has_unit;
+            small_unit = omega (arith, unit);
+            small_base = omega (arith, base);
+            greatest =
+                and_from (nat_le t.base ((2 ^ width_of p t.field - 1) * t.unit)) (nat_le ((2 ^ width_of p t.field - 1) * t.unit) (t.base + 64))
+                (le-leb t.base ((2 ^ width_of p t.field - 1) * t.unit) it.reaches) (le-leb ((2 ^ width_of p t.field - 1) * t.unit) (t.base + 64) it.is_not_long);
+            moves = whole.1 ∙ sym whole.0;
+          }))
 
 -- what holds of each header and its number holds of all
 all_numbered : (P : Header → Type 0) (hs : List Header) → ((n : ℕ) (h : Header) → slice_get hs n ≡ Some h → P h) → All P hs
 all_numbered P hs h k d lt = h k (get_or hs k d) (slice_get-get_or hs k d lt)
 
--- the plain parser is one that the chip can run
-pub plain_is_parser : (p : Program) (places : List (List Lane)) → IsProgram p → KeepsApart p places → IsParser (plain p places)
-plain_is_parser p places good keeps = record {
-  by_state = by_state p places 0 p.headers;
-  entries =
-      entries_are p places 0 p.headers
-      (all_numbered (λ (h : Header). All (λ x. extract_is_formed h.bytes x ≡ true) (extracts_of places h)) p.headers (λ n h is. header_formed p places n h keeps (good.headers n h is)));
-  by_entry = by_entry p 0 0 p.headers;
-  tails =
-      tails_fit p places (plain p places) 0 0 [] p.headers refl refl (omega (arith, good.counts.headers))
-      (all_numbered (HasTail p) p.headers (λ n h is. let this = good.headers n h is in record { tail = this.tail; whole = this.whole_bytes }));
-}
+module _ (p : Program) (places : List (List Lane)) (good : IsProgram p) (keeps : KeepsApart p places) where
+  pub plain_tails_formed : All (λ (t : TailOf). is_tail_of t (slice_get (plain p places).entries t.entry) ≡ true) (plain p places).tails
+  plain_tails_formed =
+      plain_tails p places (plain p places) 0 0 [] p.headers refl refl (omega (arith, good.counts.headers))
+      (all_numbered (HasTail p) p.headers (λ n h is.
+      let this = good.headers n h is in
+      record {
+        tail = this.tail;
+        whole = this.whole_bytes;
+        bits = All-weaker (λ f. f < length p.fields) (λ f. 1 ≤ width_of p f) (has_bits p good.fields) h.fields (owns_fields p n h good.fields is).there;
+      }))
+
+  -- the plain parser is one that the chip can run
+  pub plain_is_parser : IsParser (plain p places)
+  plain_is_parser = record {
+    by_state = by_state p places 0 p.headers;
+    entries =
+        entries_are p places 0 p.headers
+        (all_numbered (λ (h : Header). All (λ x. extract_is_formed h.bytes x ≡ true) (extracts_of places h)) p.headers (λ n h is. header_formed p places n h keeps (good.headers n h is)));
+    by_entry = rises_sorted (λ (t : TailOf). t.entry) 0 (plain p places).tails (plain_rises p 0 0 p.headers);
+    tails =
+        All-weaker (λ (t : TailOf). is_tail_of t (slice_get (plain p places).entries t.entry) ≡ true) (IsTailOf (plain p places)) (tail_runs (plain p places)) (plain p places).tails
+        plain_tails_formed;
+  }

@@ -1,18 +1,19 @@
 -- Rows of a parser that keeps the rules of form.
-use Rattle.std.proofs.Common.{◌≡◌, ◌&&◌, nat_lt, Bool, true, ℕ, zero, suc, ◌+◌, ◌-◌, ◌*◌, ◌%◌, ◌^◌, ◌<◌, ◌≤◌, List, [], ◌∷◌, ◌++◌, length, map, take, drop, Option, Some, None, refl, sym, ap, subst, ◌∙◌, append_assoc, arith}
+use Rattle.std.proofs.Common.{◌≡◌, ◌&&◌, nat_lt, eqb, Bool, true, ℕ, zero, suc, ◌+◌, ◌-◌, ◌*◌, ◌%◌, ◌^◌, ◌<◌, ◌≤◌, List, [], ◌∷◌, ◌++◌, length, map, take, drop, Option, Some, None, refl, sym, ap, subst, ◌∙◌, append_assoc, arith}
 use Rattle.std.specs.Prelude.{All, IfSome, bit_and, nat_le, slice_get, ◌==◌}
 use Rattle.std.specs.List.{list_all}
 use Rattle.std.proofs.lemmas.Bool.{and_parts, and_from, ltb-true, leb-true, lt-ltb, le-leb, eqb-true, eq-eqb}
 use Rattle.std.proofs.lemmas.List.{length-append}
 use Rattle.std.proofs.lemmas.List.Elements.{All-nil, All-cons, All-head, All-tail}
 use Rattle.std.proofs.lemmas.Option.{same_Some}
-use Rattle.rmt_bits.proofs.ListLaws.{slice_get-end}
+use Rattle.rmt_bits.proofs.AllLaws.{All-find}
+use Rattle.rmt_bits.proofs.ListLaws.{slice_get-end, find-passes}
 use Rattle.rmt_ptcam.specs.Types.{ParserConfig, ParserState, ParserEntry, TailOf}
 use Rattle.rmt_config.specs.Parser.{tail_of}
 use Rattle.rmt_config.specs.ParserForm.{entry_is_formed, extract_is_formed, lookups_of, match_is_formed, next_is_formed}
 use Rattle.rmt_ptcam.specs.Joining.{Row, KeepsForm, rows_from, rows_of}
-use Rattle.rmt_ptcam.specs.Fitting.{IsTailOf}
-use Rattle.rmt_ptcam.proofs.ParseLaws.{tail_fits}
+use Rattle.rmt_config.specs.TailForm.{is_tail_of}
+use Rattle.rmt_ptcam.proofs.TailForms.{IsRowTail, tail_parts}
 
 -- the rules of form of an entry
 pub record IsFormed (states : List ParserState) (e : ParserEntry) : Type 0 where
@@ -69,12 +70,6 @@ module _ (states : List ParserState) (e : ParserEntry) where
       and_from _ _ (and_from _ _ (and_from _ _ (and_from _ _ (and_from _ _ (and_from _ _ (and_from _ _ (lt-ltb e.state (length states) is.state_there) (lt-ltb e.state 256 is.state_small)) matched)
       (lt-ltb e.need 256 is.need_small)) (le-leb e.advance e.need is.advance)) is.next) (lt-ltb (length e.extracts) 256 is.few)) is.extracts
 
--- a tail of an entry
-pub record IsRowTail (e : ParserEntry) (t : TailOf) : Type 0 where
-  pub header : t.header < 64
-  pub few_bits : t.len ≤ 8
-  pub within : t.from + t.len ≤ 8 * e.need
-
 -- a row that keeps the rules of form
 pub record IsRow (states : List ParserState) (x : Row) : Type 0 where
   pub entry : IsFormed states x.entry
@@ -84,13 +79,10 @@ module _ (parser : ParserConfig) (keeps : KeepsForm parser) where
   pub row_tail : (n : ℕ) (e : ParserEntry) (o : Option TailOf) → slice_get parser.entries n ≡ Some e → tail_of parser n ≡ o → IfSome o (IsRowTail e)
   row_tail n e None there is = tt
   row_tail n e (Some t) there is =
-      let fits : IsTailOf parser t × (t.entry ≡ n) = tail_fits parser n t keeps.fits.tails is in
-      let own : slice_get parser.entries t.entry ≡ Some e = ap (slice_get parser.entries) fits.1 ∙ there in
-      record {
-        header = fits.0.header;
-        few_bits = fits.0.few_bits;
-        within = subst (λ (o : Option ParserEntry). IfSome o (λ (x : ParserEntry). t.from + t.len ≤ 8 * x.need)) own fits.0.within;
-      }
+      let own : t.entry ≡ n = eqb-true t.entry n (find-passes (λ (x : TailOf). eqb x.entry n) parser.tails t is) in
+      let formed : is_tail_of t (slice_get parser.entries t.entry) ≡ true =
+      All-find (λ (x : TailOf). is_tail_of x (slice_get parser.entries x.entry) ≡ true) (λ (x : TailOf). eqb x.entry n) parser.tails t keeps.tails is in
+      tail_parts e t (subst (λ (o : Option ParserEntry). is_tail_of t o ≡ true) (ap (slice_get parser.entries) own ∙ there) formed)
 
   rows_are_from : (front es : List ParserEntry) (n : ℕ) → parser.entries ≡ front ++ es → length front ≡ n → All (λ e. entry_is_formed parser.states e ≡ true) es → All (IsRow parser.states) (rows_from parser n es)
   rows_are_from front [] n all long formed = All-nil (IsRow parser.states)

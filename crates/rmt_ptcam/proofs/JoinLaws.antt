@@ -12,7 +12,8 @@ use Rattle.rmt_config.specs.Parser.{Parse, Reached, Short, behind, extracted, fo
 use Rattle.rmt_config.specs.ParserForm.{extract_is_formed}
 use Rattle.rmt_ptcam.specs.Joining.{Row, joined_entry, moved}
 use Rattle.rmt_ptcam.proofs.AgreementLaws.{window_bytes, length_window}
-use Rattle.rmt_ptcam.proofs.FormedRows.{IsFormed, IsRow, IsRowTail}
+use Rattle.rmt_ptcam.proofs.FormedRows.{IsFormed, IsRow}
+use Rattle.rmt_ptcam.proofs.TailForms.{IsRowTail}
 use Rattle.rmt_ptcam.proofs.WindowLaws.{bits_back, fold_both}
 
 -- ---- two steps in one

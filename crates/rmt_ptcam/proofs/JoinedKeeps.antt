@@ -18,7 +18,8 @@ use Rattle.rmt_config.specs.ParserForm.{extract_is_formed, lookups_of, next_is_f
 use Rattle.rmt_ptcam.specs.Joining.{IsGood, KeepsForm, Row, both, byte_at, can_join, entries_in, join_at, join_to, joined, joined_entry, joined_row, lookups_at, moved, rows_in, rows_of, spread, together, widened, widened_entry}
 use Rattle.rmt_ptcam.proofs.AddingLaws.{length_rows, row_of}
 use Rattle.rmt_ptcam.proofs.FormLaws.{sorted-append, sorted-same}
-use Rattle.rmt_ptcam.proofs.FormedRows.{IsFormed, IsRow, IsRowTail, entries_of_rows, rows_are}
+use Rattle.rmt_ptcam.proofs.FormedRows.{IsFormed, IsRow, entries_of_rows, rows_are}
+use Rattle.rmt_ptcam.proofs.TailForms.{IsRowTail}
 use Rattle.rmt_ptcam.proofs.JoinFacts.{MayJoin, RiseLow, are_joined, entry_compares, lookups_formed, may_join, rows_in_entries}
 use Rattle.rmt_ptcam.proofs.JoinedForm.{made_keeps}
 use Rattle.rmt_ptcam.proofs.JoinedParse.{formed_e, get_set_same, joined_alike, next_there, second_formed, second_own}
@@ -161,7 +162,17 @@ module _ (parser : ParserConfig) (keeps : KeepsForm parser) (at : ℕ) (e : Pars
     where
       same_need : (o : Option TailOf) → IfSome o (IsRowTail x.entry) → IfSome o (IsRowTail (widened_entry here to x.entry))
       same_need None fits = tt
-      same_need (Some t) fits = record { header = fits.header; few_bits = fits.few_bits; within = fits.within }
+      same_need (Some t) fits = record {
+        header = fits.header;
+        some_bits = fits.some_bits;
+        few_bits = fits.few_bits;
+        within = fits.within;
+        some_unit = fits.some_unit;
+        small_unit = fits.small_unit;
+        small_base = fits.small_base;
+        greatest = fits.greatest;
+        moves = fits.moves;
+      }
 
   widened_row : (x : Row) → IsRow parser.states x → IsRow states (widen x)
   widened_row x is = by (eqb x.entry.state n) refl
@@ -206,8 +217,14 @@ module _ (parser : ParserConfig) (keeps : KeepsForm parser) (at : ℕ) (e : Pars
       by None fits = tt
       by (Some t) fits = record {
         header = fits.header;
+        some_bits = fits.some_bits;
         few_bits = fits.few_bits;
         within = let a = fits.within in let b = first.advance in omega (arith, a, b);
+        some_unit = fits.some_unit;
+        small_unit = fits.small_unit;
+        small_base = fits.small_base;
+        greatest = fits.greatest;
+        moves = let a = fits.moves in let b = may.whole in omega (arith, a, b);
       }
 
   abbrev rows : List Row
@@ -332,7 +349,13 @@ module _ (parser : ParserConfig) (keeps : KeepsForm parser) (at : ℕ) (e : Pars
       (list_all_below to (together_low here behind e.advance))) keeps.states
 
   pub joined_keeps : KeepsForm (joined parser at e m)
-  joined_keeps = let count = rows_count in let room = may.room in made_keeps states rows (omega (arith, count, room)) states_formed rows_formed rows_sorted
+  joined_keeps =
+      let count = rows_count in
+      let room = may.room in
+      let many = as_many in
+      let some = keeps.some in
+      let few = keeps.few_states in
+      made_keeps states rows (omega (arith, many, some)) (omega (arith, many, few)) (omega (arith, count, room)) states_formed rows_formed rows_sorted
 
 -- ---- what joining gives
 

@@ -2,13 +2,14 @@ pub mod SearchLaws
 pub mod ParseLaws
 pub mod NeedLaws
 pub mod PlainLaws
+pub mod TailForms
+pub mod FieldLaws
 pub mod FormLaws
 pub mod BitRunLaws
 pub mod ByteRunLaws
 pub mod CaseLaws
 pub mod HoldLaws
 pub mod EntryLaws
-pub mod FieldLaws
 pub mod AgreementLaws
 mod Examples
 pub mod LookupLaws
@@ -28,3 +29,5 @@ pub mod PlainForm
 mod ClusterExamples
 pub mod FewerLaws
 pub mod StepsLaws
+pub mod JoinsHold
+pub mod FormedParsers

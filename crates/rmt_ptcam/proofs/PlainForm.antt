@@ -29,7 +29,7 @@ use Rattle.rmt_ptcam.proofs.AgreementLaws.{few_lookups}
 use Rattle.rmt_ptcam.proofs.BitRunLaws.{bit_from_slice, same_on_runs, slice-and}
 use Rattle.rmt_ptcam.proofs.CaseLaws.{byte_of, case_reads, looked_up_shown, low_of, masks_fit, number_with, shown, values_fit}
 use Rattle.rmt_ptcam.proofs.FormedRows.{formed_from}
-use Rattle.rmt_ptcam.proofs.FormLaws.{header_formed, plain_is_parser}
+use Rattle.rmt_ptcam.proofs.FormLaws.{header_formed, plain_few, plain_is_parser, plain_rises, plain_tails_formed}
 use Rattle.rmt_ptcam.proofs.LookupLaws.{Compares, IsOver, agrees_from, word_over}
 use Rattle.rmt_ptcam.proofs.NeedLaws.{fits_in}
 use Rattle.rmt_ptcam.proofs.PlainLaws.{length-entries_from}
@@ -209,6 +209,11 @@ module _ (p : Program) (places : List (List Lane)) (good : IsProgram p) (keeps :
 
   pub plain_keeps : KeepsForm (plain p places)
   plain_keeps = record {
+    some = let some = good.counts.a_header in omega (arith, as_many, some);
+    few_states = let most = good.counts.headers in omega (arith, as_many, most);
+    few_tails = let short = plain_few p 0 0 p.headers in let all = fits_in p fits in omega (arith, short, all);
+    rises = plain_rises p 0 0 p.headers;
+    tails = plain_tails_formed p places good keeps;
     few = let long = length-entries_from p places 0 p.headers in let all = fits_in p fits in omega (arith, long, all);
     states = states_formed;
     entries = all_entries 0 p.headers (λ k h is. let same : 0 + k ≡ k = omega arith in subst (λ m. All (λ e. entry_is_formed states e ≡ true) (entries_of p places m h)) (sym same) (header_entries k h is));

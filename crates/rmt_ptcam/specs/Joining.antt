@@ -6,7 +6,9 @@ use Rattle.rmt_ptcam.specs.Types.{ParserConfig, ParserState, ParserEntry, Next, 
 use Rattle.rmt_config.specs.declared.config.Next.TheVariants as next
 use Rattle.rmt_config.specs.declared.config.Extract.TheVariants.{Bits, One}
 use Rattle.rmt_config.specs.Parser.{parse, high_bytes, tail_of}
+use Rattle.rmt_config.specs.Order.{rises_from}
 use Rattle.rmt_config.specs.ParserForm.{state_is_formed, entry_is_formed}
+use Rattle.rmt_config.specs.TailForm.{is_tail_of}
 use Rattle.rmt_ptcam.specs.Fitting.{IsParser}
 
 -- ---- a parser as rows
@@ -173,11 +175,16 @@ join_of parser state entry =
 
 -- ---- what a joined parser has to be
 
--- the rules of form of states, entries and tails
+-- the rules of form of states, entries and tails, part by part
 pub record KeepsForm (parser : ParserConfig) : Type 0 where
+  pub some : 0 < length parser.states
+  pub few_states : length parser.states < 65536
   pub few : length parser.entries < 65536
   pub states : All (λ s. state_is_formed s ≡ true) parser.states
   pub entries : All (λ e. entry_is_formed parser.states e ≡ true) parser.entries
+  pub few_tails : length parser.tails < 65536
+  pub rises : rises_from 0 (map (λ (t : TailOf). t.entry) parser.tails) ≡ true
+  pub tails : All (λ (t : TailOf). is_tail_of t (slice_get parser.entries t.entry) ≡ true) parser.tails
   pub fits : IsParser parser
 
 -- on every frame a parser ends as another one: too short, rejected, or accepted at the same byte, with the same words and tails

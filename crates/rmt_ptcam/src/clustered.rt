@@ -1,12 +1,15 @@
 //! The clustered parser of a program: several headers in one step.
 
-ghost use Rattle.std.specs.Prelude.{◌≡◌, ◌≢◌, ◌≤◌, length, Err, IfOk};
+ghost use Rattle.std.specs.Prelude.{◌≡◌, ◌≢◌, ◌≤◌, nat_lt, length, Err, IfOk, IsTrue};
+ghost use Rattle.std.specs.List.{list_all};
 ghost use Rattle.rmt_ast.specs.WellFormed.{IsProgram};
 ghost use Rattle.rmt_config.specs.Agreement.{AgreesWith};
+ghost use Rattle.rmt_config.specs.declared.config.TailOf.{TailOf};
+ghost use Rattle.rmt_config.specs.ParserForm.{parser_is_formed};
 ghost use Rattle.rmt_phv.specs.Places.{KeepsApart};
 ghost use Rattle.rmt_ptcam.specs.declared.fault.ParserFault.TheVariants.{NoMemory};
 ghost use Rattle.rmt_ptcam.specs.Clustering.{clustered_or};
-ghost use Rattle.rmt_ptcam.specs.Joining.{KeepsForm};
+ghost use Rattle.rmt_ptcam.specs.Fitting.{IsParser};
 ghost use Rattle.rmt_ptcam.specs.Plain.{plain};
 ghost use Rattle.rmt_ptcam.specs.Steps.{MeetsNoMore};
 
@@ -38,8 +41,12 @@ pub fn clustered_parser(
     requires places { KeepsApart program.now places.now }
     // Which parser, or which refusal, unless memory runs out.
     ensures made { result ≢ Err NoMemory → result ≡ clustered_or program.now places.now }
-    // It keeps the rules of form, so the chip can run it.
-    ensures keeps { IfOk result KeepsForm }
+    // The chip can run it.
+    ensures runs { IfOk result IsParser }
+    // It keeps the rules of form.
+    ensures formed { IfOk result (λ parser. IsTrue (parser_is_formed parser)) }
+    // Its tails are of headers of the program.
+    ensures headers { IfOk result (λ parser. IsTrue (list_all (λ (t : TailOf). nat_lt t.header (length program.now.headers)) parser.tails)) }
     // The chip's parse of each frame, whole or cut, ends as the walk of the program's parse graph does.
     ensures agrees { IfOk result (λ parser. AgreesWith parser places.now program.now) }
     // On no frame it meets more states than the walk takes headers.

@@ -1,9 +1,10 @@
 //! One entry of the parser joined to the entries of the state that it goes to.
 
-ghost use Rattle.std.specs.Prelude.{◌≡◌, ◌≤◌, ◌<◌, ◌+◌, ◌-◌, ◌&&◌, ◌||◌, ◌==◌, true, Some, None, if◌then◌else◌, nat_le, nat_lt, length, take, drop, ◌++◌, slice_get, slice_set, IfOk, OnOk, IfSome};
+ghost use Rattle.std.specs.Prelude.{◌≡◌, ◌≤◌, ◌<◌, ◌+◌, ◌-◌, ◌&&◌, ◌||◌, ◌==◌, true, Some, None, if◌then◌else◌, nat_le, nat_lt, length, take, drop, ◌++◌, slice_get, slice_set, IfOk, OnOk, IfSome, IsTrue};
 ghost use Rattle.std.specs.List.{list_all};
 ghost use Rattle.rmt_config.specs.declared.config.Next.TheVariants.{State};
 ghost use Rattle.rmt_config.specs.declared.config.ParserState.{ParserState};
+ghost use Rattle.rmt_config.specs.ParserForm.{parser_is_formed};
 ghost use Rattle.rmt_ptcam.specs.Joining.{IsGood, KeepsForm, ParsesAlike, lookups_at as lookups_at_of, compares_before as compares_before_of, ends_open as ends_open_of, is_light as is_light_of, entries_in, can_join as can_join_of, together as together_of, joined as joined_of, join_to as join_to_of, join_at as join_at_of, join_of, number_of_entry as number_of_entry_of};
 
 use crate::entry_rows::{push_joined, push_widened};
@@ -270,7 +271,7 @@ pub fn join(
     state: u8,
     entry: u16,
 ) -> Result<Option<ParserConfig>, JoinFault>
-    requires keeps { KeepsForm parser.now }
+    requires formed { IsTrue (parser_is_formed parser.now) }
     requires there { entry < length (entries_in state parser.now.entries) }
     // Which parser, or that there is none.
     ensures given { IfOk result (λ o. o ≡ join_of parser.now state entry) }
@@ -278,7 +279,7 @@ pub fn join(
     // words and the same tails.
     ensures alike { IfOk result (λ o. IfSome o (ParsesAlike parser.now)) }
     // It keeps the rules of form, so the chip can run it and it can be joined again.
-    ensures keeps { IfOk result (λ o. IfSome o KeepsForm) }
+    ensures formed { IfOk result (λ o. IfSome o (λ q. IsTrue (parser_is_formed q))) }
 {
     let at = number_of_entry(parser.entries.as_slice(), state, entry);
     Ok(join_at(alloc, parser, at)?)

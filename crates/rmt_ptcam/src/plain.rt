@@ -1,6 +1,7 @@
 //! The plain parser of a program: one state for each header.
 
-ghost use Rattle.std.specs.Prelude.{◌≡◌, ◌≢◌, ◌≤◌, Err, IfOk, length};
+ghost use Rattle.std.specs.Prelude.{◌≡◌, ◌≢◌, ◌≤◌, nat_lt, Err, IfOk, IsTrue, length};
+ghost use Rattle.std.specs.List.{list_all};
 ghost use Rattle.rmt_ast.specs.WellFormed.{IsProgram, bits_of};
 ghost use Rattle.rmt_ptcam.specs.declared.fault.ParserFault.TheVariants.{NoMemory};
 ghost use Rattle.rmt_ptcam.specs.Needs.{lookups_of};
@@ -8,6 +9,8 @@ ghost use Rattle.rmt_ptcam.specs.Plain.{planned, state_of as state_of_header};
 ghost use Rattle.rmt_ptcam.specs.Fitting.{IsParser};
 ghost use Rattle.rmt_phv.specs.Places.{KeepsApart};
 ghost use Rattle.rmt_config.specs.Agreement.{AgreesWith};
+ghost use Rattle.rmt_config.specs.declared.config.TailOf.{TailOf};
+ghost use Rattle.rmt_config.specs.ParserForm.{parser_is_formed};
 
 use crate::entries::{push_entries, push_tails};
 use crate::fault::ParserFault;
@@ -56,6 +59,10 @@ pub fn plain_parser(
     ensures made { result ≢ Err NoMemory → result ≡ planned program.now places.now }
     // The chip can run it.
     ensures runs { IfOk result IsParser }
+    // It keeps the rules of form.
+    ensures formed { IfOk result (λ parser. IsTrue (parser_is_formed parser)) }
+    // Its tails are of headers of the program.
+    ensures headers { IfOk result (λ parser. IsTrue (list_all (λ (t : TailOf). nat_lt t.header (length program.now.headers)) parser.tails)) }
     // The chip's parse of each frame, whole or cut, ends as the walk of the program's parse graph does: too short, rejected, or
     // accepted with the same values of the fields in their places, the same tails, and the payload at the same byte.
     ensures agrees { IfOk result (λ parser. AgreesWith parser places.now program.now) }

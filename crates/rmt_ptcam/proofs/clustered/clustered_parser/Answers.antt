@@ -1,7 +1,9 @@
-use Rattle.std.proofs.Common.{◌≡◌, ◌≤◌, None, sym, subst, ◌∙◌, arith}
+use Rattle.std.proofs.Common.{◌≡◌, ◌≤◌, nat_lt, true, None, sym, subst, ◌∙◌, arith}
 use Rattle.std.specs.Prelude.{length}
-use Rattle.rmt_ptcam.specs.Types.{ParserConfig}
+use Rattle.std.specs.List.{list_all}
+use Rattle.rmt_ptcam.specs.Types.{ParserConfig, TailOf}
 use Rattle.rmt_ptcam.specs.Joining.{KeepsForm}
+use Rattle.rmt_ptcam.proofs.FormedParsers.{clustered_headers, keeps_formed}
 use Rattle.rmt_ptcam.specs.Needs.{refusal}
 use Rattle.rmt_ptcam.specs.Plain.{plain}
 use Rattle.rmt_ptcam.proofs.ClusteringLaws.{is_clustered, joined_states, planned_ok}
@@ -35,6 +37,20 @@ compact-requires-clause-few c =
     let count = joined_states p places c.in_ok-parser.parser c.all_joined.new.parser made.1 c.in_ok-all_joined.ensures.joined in
     let few = c.requires.program.counts.headers in
     omega (arith, count, few)
+
+pub returns-clause-runs : goal.returns-clause-runs
+returns-clause-runs c = c.in_ok-compact.ensures.good.keeps.fits
+
+pub returns-clause-formed : goal.returns-clause-formed
+returns-clause-formed c = keeps_formed c.in_ok-compact.field-0 c.in_ok-compact.ensures.good.keeps
+
+pub returns-clause-headers : goal.returns-clause-headers
+returns-clause-headers c =
+    let p = c.args.program.now in
+    let places = c.args.places.now in
+    let made : (refusal p ≡ None) × (c.in_ok-parser.parser ≡ plain p places) = planned_ok p places c.in_ok-parser.parser (c.in_ok-parser.ensures.made (λ e. cc)) in
+    let is = c.in_ok-compact.ensures.given ∙ is_clustered p places c.in_ok-parser.parser c.all_joined.new.parser made.1 c.in_ok-all_joined.ensures.joined in
+    subst (λ (q : ParserConfig). list_all (λ (t : TailOf). nat_lt t.header (length p.headers)) q.tails ≡ true) (sym is) (clustered_headers p places c.requires.program c.requires.places made.0)
 
 pub returns-clause-few : goal.returns-clause-few
 returns-clause-few c =

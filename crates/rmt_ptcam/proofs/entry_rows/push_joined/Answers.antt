@@ -5,7 +5,8 @@ use Rattle.rmt_ptcam.specs.Types.{ParserEntry, TailOf}
 use Rattle.rmt_config.specs.Parser.{tail_of}
 use Rattle.rmt_ptcam.specs.Joining.{Row, is_light, joined_row, rows_in, rows_of}
 use Rattle.rmt_ptcam.proofs.AddingLaws.{adds_at, all_rows, added_own, added_not, few_own, filter_holds, length_added, row_of}
-use Rattle.rmt_ptcam.proofs.FormedRows.{IsRowTail, row_tail}
+use Rattle.rmt_ptcam.proofs.FormedRows.{row_tail}
+use Rattle.rmt_ptcam.proofs.TailForms.{IsRowTail}
 use Rattle.rmt_ptcam.proofs.entry_rows.push_joined.Goals.{then-second-state+in_ok-entry+in_ok-push_row, else-second-state}
 use Rattle.rmt_ptcam.proofs.entry_rows.push_joined.Goals as goal
 use Rattle.rmt_bits.proofs.ListLaws.{slice_get-seen}

@@ -3,13 +3,17 @@ use Rattle.rmt_ptcam.specs.Types.{ParserConfig, ParserEntry}
 use Rattle.rmt_ptcam.proofs.AddingLaws.{numbers_within}
 use Rattle.std.proofs.lemmas.Option.{IfSome_then}
 use Rattle.rmt_ptcam.specs.Joining.{number_of_entry}
+use Rattle.rmt_ptcam.proofs.FormedParsers.{formed_keeps, keeps_formed}
 use Rattle.rmt_ptcam.proofs.joining.join.Goals as goal
 
 pub returns-clause-alike : goal.returns-clause-alike
 returns-clause-alike c = IfSome_then c.in_ok-join_at.field-0 c.in_ok-join_at.ensures.good (λ (q : ParserConfig) good. good.alike)
 
-pub returns-clause-keeps : goal.returns-clause-keeps
-returns-clause-keeps c = IfSome_then c.in_ok-join_at.field-0 c.in_ok-join_at.ensures.good (λ (q : ParserConfig) good. good.keeps)
+pub returns-clause-formed : goal.returns-clause-formed
+returns-clause-formed c = IfSome_then c.in_ok-join_at.field-0 c.in_ok-join_at.ensures.good (λ (q : ParserConfig) good. keeps_formed q good.keeps)
+
+pub join_at-requires-clause-keeps : goal.join_at-requires-clause-keeps
+join_at-requires-clause-keeps c = formed_keeps c.args.parser.now c.requires.formed
 
 pub join_at-requires-clause-there : goal.join_at-requires-clause-there
 join_at-requires-clause-there c =

@@ -1,6 +1,9 @@
-use Rattle.std.proofs.Common.{◌≡◌, ◌<◌, ◌≤◌, List, length, None, sym, subst, ap, ◌∙◌, arith}
+use Rattle.std.proofs.Common.{◌≡◌, ◌<◌, ◌≤◌, nat_lt, true, List, length, None, sym, subst, ap, ◌∙◌, arith}
 use Rattle.std.specs.Prelude.{slice_index_or}
-use Rattle.rmt_ptcam.specs.Types.{Header, ParserConfig}
+use Rattle.std.specs.List.{list_all}
+use Rattle.rmt_config.specs.ParserForm.{parser_is_formed}
+use Rattle.rmt_ptcam.proofs.FormedParsers.{plain_formed, plain_headers}
+use Rattle.rmt_ptcam.specs.Types.{Header, ParserConfig, TailOf}
 use Rattle.rmt_ptcam.specs.Needs.{refusal}
 use Rattle.rmt_ptcam.proofs.NeedLaws.{unless_ok, header_short}
 use Rattle.rmt_ptcam.specs.Fitting.{IsParser}
@@ -56,3 +59,20 @@ returns-clause-agrees c =
     let end : length p.headers ≤ l.number = subst (λ (xs : List Header). length xs ≤ l.number) c.as_slice-header-items.ensures c.loop-number-test.false in
     let fits : refusal p ≡ None = unless_ok (refusal p) (tt {0}) (tt {0}) (sym c.parser_need.ensures ∙ c.in_ok-parser_need.was) in
     subst (λ (parser : ParserConfig). AgreesWith parser places p) (sym (built_all p places l.number l.states l.entries l.tails end l.invariant)) (plain_agrees p places c.requires.program c.requires.places fits)
+
+pub returns-clause-formed : goal.returns-clause-formed
+returns-clause-formed c =
+    let p = c.args.program.now in
+    let places = c.args.places.now in
+    let l = c.loop-number in
+    let end : length p.headers ≤ l.number = subst (λ (xs : List Header). length xs ≤ l.number) c.as_slice-header-items.ensures c.loop-number-test.false in
+    let fits : refusal p ≡ None = unless_ok (refusal p) (tt {0}) (tt {0}) (sym c.parser_need.ensures ∙ c.in_ok-parser_need.was) in
+    subst (λ (parser : ParserConfig). parser_is_formed parser ≡ true) (sym (built_all p places l.number l.states l.entries l.tails end l.invariant)) (plain_formed p places c.requires.program c.requires.places fits)
+
+pub returns-clause-headers : goal.returns-clause-headers
+returns-clause-headers c =
+    let p = c.args.program.now in
+    let places = c.args.places.now in
+    let l = c.loop-number in
+    let end : length p.headers ≤ l.number = subst (λ (xs : List Header). length xs ≤ l.number) c.as_slice-header-items.ensures c.loop-number-test.false in
+    subst (λ (parser : ParserConfig). list_all (λ (t : TailOf). nat_lt t.header (length p.headers)) parser.tails ≡ true) (sym (built_all p places l.number l.states l.entries l.tails end l.invariant)) (plain_headers p places)
