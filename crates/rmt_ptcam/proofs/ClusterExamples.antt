@@ -1,17 +1,19 @@
 -- Joined and clustered parsers that are worked by hand.
-use Rattle.std.proofs.Common.{◌≡◌, Bool, true, false, ◌++◌, ℕ, List, [], ◌∷◌, None, length, map, refl}
+use Rattle.std.proofs.Common.{◌≡◌, Bool, true, false, ◌++◌, ℕ, List, [], ◌∷◌, None, Some, length, map, refl}
 use Rattle.std.specs.Prelude.{codes, is_some, replicate}
 use Rattle.std.specs.List.{range_with_len}
 use Rattle.rmt_bits.specs.declared.lane.Lane.{Lane}
 use Rattle.rmt_ast.proofs.Programs.{field, two_headers, tail_between}
-use Rattle.rmt_ptcam.specs.Types.{Program, Field, Case, Target, ParserConfig, ParserEntry}
+use Rattle.rmt_ptcam.specs.Types.{Program, Field, Header, Case, Target, ParserConfig, ParserEntry}
 use Rattle.rmt_ast.specs.declared.program.Target.TheVariants as target
 use Rattle.rmt_config.specs.declared.config.Extract.TheVariants.{Bits, One}
 use Rattle.rmt_config.specs.declared.config.Next.TheVariants as next
 use Rattle.rmt_config.specs.Parser.{parse, Short}
+use Rattle.rmt_config.specs.ParserForm.{parser_is_formed}
 use Rattle.rmt_ptcam.specs.Plain.{plain}
 use Rattle.rmt_ptcam.specs.Joining.{join_of, byte_at, spread, together}
 use Rattle.rmt_ptcam.specs.Clustering.{arrivals, clustered}
+use Rattle.rmt_ptcam.specs.Joins.{joins as joins_told, replayed}
 
 abbrev lane : ℕ → ℕ → ℕ → Lane
 lane word low len = record { word = word; low = low; len = len }
@@ -31,6 +33,11 @@ two_in_one : (clustered two_headers places).entries
     ∷ []
 unfolding together
 two_in_one = refl
+
+-- its one join
+one_join : joins_told two_headers places ≡ record { state = 0; entry = 0 } ∷ []
+unfolding together
+one_join = refl
 
 one_state : (clustered two_headers places).states ≡ record { lookups = 0 ∷ [] } ∷ []
 unfolding together
@@ -151,6 +158,55 @@ switch_masks : map (λ (e : ParserEntry). e.mask) (clustered switch []).entries
     ≡ 0xffffffff ∷ 0xffffffff ∷ 0xffff0000 ∷ 0xffff0000 ∷ 0xffff0000 ∷ 0 ∷ 0x0fff0000 ∷ 0x0fff0000 ∷ 0x0f000000 ∷ 0 ∷ 0xff000000 ∷ 0xff000000 ∷ 0 ∷ []
 unfolding together
 switch_masks = refl
+
+-- the entries to TCP and UDP, of the later version first, and then the one to the tag; two cases go to each version of IP
+switch_joins : joins_told switch []
+    ≡ record { state = 3; entry = 0 } ∷ record { state = 3; entry = 1 } ∷ record { state = 2; entry = 0 } ∷ record { state = 2; entry = 1 } ∷ record { state = 0; entry = 0 } ∷ []
+unfolding together
+switch_joins = refl
+
+-- ---- joins that are made again
+
+made_again : replayed (plain two_headers places) (record { state = 0; entry = 0 } ∷ []) ≡ Some (clustered two_headers places)
+unfolding together
+made_again = refl
+
+-- no join leaves the plain parser as it is
+none_made : replayed (plain two_headers places) [] ≡ Some (plain two_headers places)
+none_made = refl
+
+-- an entry that isn't there, of a state that isn't there, and one that after the first join goes nowhere
+not_made : replayed (plain two_headers places) (record { state = 0; entry = 4 } ∷ []) ∷ replayed (plain two_headers places) (record { state = 2; entry = 0 } ∷ [])
+    ∷ replayed (plain two_headers places) (record { state = 0; entry = 0 } ∷ record { state = 0; entry = 0 } ∷ []) ∷ []
+    ≡ None ∷ None ∷ None ∷ []
+unfolding together
+not_made = refl
+
+-- ---- tails of two headers, with plain ones before them
+
+abbrev tailed : Target → Header
+tailed to = record { name = codes "h"; valid = 3; fields = 4 ∷ 5 ∷ []; bytes = 1; tail = Some (record { field = 5; unit = 4; base = 4 }); select = []; cases = []; other = to }
+
+abbrev two_tails : Program
+two_tails = record two_headers {
+  fields = field (codes "in_port") 9 ∷ field (codes "out_port") 9 ∷ field (codes "drop") 1 ∷ block (4 ∷ 4 ∷ []);
+  headers = record (tailed (target.Node 1)) { tail = None } ∷ tailed (target.Node 2) ∷ record (tailed (target.Node 3)) { tail = None } ∷ tailed target.Accept ∷ [];
+}
+
+-- each plain header is joined to the one with a tail behind it, and the one with a tail to none
+tail_joins : joins_told two_tails [] ≡ record { state = 2; entry = 0 } ∷ record { state = 0; entry = 0 } ∷ []
+unfolding together
+tail_joins = refl
+
+-- the length of a tail stands a byte later
+tails_moved : (clustered two_tails []).tails
+    ≡ record { entry = 0; header = 1; from = 12; len = 4; unit = 4; base = 4 } ∷ record { entry = 1; header = 3; from = 12; len = 4; unit = 4; base = 4 } ∷ []
+unfolding together
+tails_moved = refl
+
+tails_in_form : parser_is_formed (plain two_tails []) ∷ parser_is_formed (clustered two_tails []) ∷ [] ≡ true ∷ true ∷ []
+unfolding together
+tails_in_form = refl
 
 -- ---- where entries aren't joined
 

@@ -31,7 +31,7 @@ module _ (P : ParserConfig → Type 0) (stays : StaysUnderJoins P) where
   behind_holds c (Some q) here is = is
 
   module _ (p : Program) where
-    one_holds : (c : Clustering) (o : Option ParserEntry) → slice_get c.parser.entries c.at ≡ o → P c.parser → P (one_entry p c o).parser
+    pub one_holds : (c : Clustering) (o : Option ParserEntry) → slice_get c.parser.entries c.at ≡ o → P c.parser → P (one_entry p c o).parser
     one_holds c None there here = here
     one_holds c (Some e) there here = by (is_wanted p c.parser e.next)
       where
@@ -39,11 +39,11 @@ module _ (P : ParserConfig → Type 0) (stays : StaysUnderJoins P) where
         by true = behind_holds c (join_at c.parser c.at (Some e)) here (join_holds c.parser c.at (Some e) there here)
         by false = here
 
-    some_hold : (ks : List ℕ) (c : Clustering) → P c.parser → P (fold (λ (d : Clustering) k. one_entry p d (slice_get d.parser.entries d.at)) c ks).parser
+    pub some_hold : (ks : List ℕ) (c : Clustering) → P c.parser → P (fold (λ (d : Clustering) k. one_entry p d (slice_get d.parser.entries d.at)) c ks).parser
     some_hold [] c here = here
     some_hold (k ∷ ks) c here = some_hold ks (one_entry p c (slice_get c.parser.entries c.at)) (one_holds c (slice_get c.parser.entries c.at) refl here)
 
-    headers_hold : (ns : List ℕ) (parser : ParserConfig) → P parser → P (fold (one_header p) parser ns)
+    pub headers_hold : (ns : List ℕ) (parser : ParserConfig) → P parser → P (fold (one_header p) parser ns)
     headers_hold [] parser here = here
     headers_hold (n ∷ ns) parser here =
         headers_hold ns (one_header p parser n)

@@ -31,3 +31,4 @@ pub mod FewerLaws
 pub mod StepsLaws
 pub mod JoinsHold
 pub mod FormedParsers
+pub mod JoinsLaws

@@ -6,4 +6,5 @@ pub mod Plain
 pub mod Joining
 pub mod Adding
 pub mod Clustering
+pub mod Joins
 pub mod Steps

@@ -1,6 +1,6 @@
 //! The clustered parser of a program: several headers in one step.
 
-ghost use Rattle.std.specs.Prelude.{◌≡◌, ◌≢◌, ◌≤◌, nat_lt, length, Err, IfOk, IsTrue};
+ghost use Rattle.std.specs.Prelude.{◌≡◌, ◌≢◌, ◌≤◌, nat_lt, length, Some, Err, IfOk, IsTrue};
 ghost use Rattle.std.specs.List.{list_all};
 ghost use Rattle.rmt_ast.specs.WellFormed.{IsProgram};
 ghost use Rattle.rmt_config.specs.Agreement.{AgreesWith};
@@ -10,6 +10,7 @@ ghost use Rattle.rmt_phv.specs.Places.{KeepsApart};
 ghost use Rattle.rmt_ptcam.specs.declared.fault.ParserFault.TheVariants.{NoMemory};
 ghost use Rattle.rmt_ptcam.specs.Clustering.{clustered_or};
 ghost use Rattle.rmt_ptcam.specs.Fitting.{IsParser};
+ghost use Rattle.rmt_ptcam.specs.Joins.{joins, replayed};
 ghost use Rattle.rmt_ptcam.specs.Plain.{plain};
 ghost use Rattle.rmt_ptcam.specs.Steps.{MeetsNoMore};
 
@@ -43,6 +44,8 @@ pub fn clustered_parser(
     ensures made { result ≢ Err NoMemory → result ≡ clustered_or program.now places.now }
     // The chip can run it.
     ensures runs { IfOk result IsParser }
+    // It is what the joins of the rule make of the plain parser.
+    ensures joins { IfOk result (λ parser. replayed (plain program.now places.now) (joins program.now places.now) ≡ Some parser) }
     // It keeps the rules of form.
     ensures formed { IfOk result (λ parser. IsTrue (parser_is_formed parser)) }
     // Its tails are of headers of the program.

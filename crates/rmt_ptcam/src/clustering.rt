@@ -1,16 +1,20 @@
 //! The joins of the clustered parser: which entries are joined, and in which order.
 
-ghost use Rattle.std.specs.Prelude.{◌≡◌, ◌≤◌, ◌<◌, ◌+◌, ◌++◌, ◌∷◌, [], List, length, map, fold, slice_get, IfOk, OnOk};
+ghost use Rattle.std.specs.Prelude.{◌≡◌, ◌≤◌, ◌<◌, ◌+◌, ◌-◌, ◌++◌, ◌∷◌, [], List, length, map, fold, slice_get, IfOk, IfSome, OnOk};
 ghost use Rattle.std.specs.List.{filter, flat_map, range_with_len};
 ghost use Rattle.rmt_ast.specs.declared.program.Case.{Case};
+ghost use Rattle.std.specs.List.Sorted.{IsNonDecreasingBy};
 ghost use Rattle.rmt_config.specs.declared.config.ParserConfig.{ParserConfig};
-ghost use Rattle.rmt_ptcam.specs.Joining.{IsGood, KeepsForm};
+ghost use Rattle.rmt_config.specs.declared.config.ParserEntry.{ParserEntry};
+ghost use Rattle.rmt_ptcam.specs.Joining.{IsGood, KeepsForm, number_of_entry as number_of_entry_of};
+ghost use Rattle.rmt_ptcam.specs.Joins.{entry_joins, header_joins, headers_joins};
 ghost use Rattle.rmt_ptcam.specs.Clustering.{targets_of, goes_to as goes_to_of, is_wanted as is_wanted_of, one_entry as one_entry_of, one_header as one_header_of, all_joined as all_joined_of};
 
 use crate::joining::{count_in, join_at, number_of_entry};
+use crate::joins::Join;
 use rmt_ast::program::{Header, Program, Target};
 use rmt_bits::sequence::Sequence;
-use rmt_config::config::{Next, ParserConfig};
+use rmt_config::config::{Next, ParserConfig, ParserEntry};
 use std::alloc::{AllocError, Global};
 
 /// Adds the targets of a header: those of its cases, and that of all other packets.
@@ -73,12 +77,29 @@ fn is_wanted(program: &Program, targets: &[Target], parser: &ParserConfig, next:
     }
 }
 
-/// Looks at one entry, and joins it where that is wanted and can be. Gives the number behind what stands for the entry.
+/// The join of the entry with this number.
+fn join_of_entry(entries: &[ParserEntry], at: usize) -> Join
+    requires sorted { IsNonDecreasingBy (λ (e : ParserEntry). e.state) entries.now }
+    requires there { at < length entries.now }
+    requires few { length entries.now < 65536 }
+    ensures { IfSome (slice_get entries.now at) (λ e. result ≡ record { state = e.state; entry = at - number_of_entry_of entries.now e.state 0 }) }
+{
+    let state = entries[at].state;
+    let first = number_of_entry(entries, state, 0);
+    Join {
+        state,
+        entry: (at - first) as u16,
+    }
+}
+
+/// Looks at one entry, and joins it where that is wanted and can be: the join is added to the others. Gives the number behind
+/// what stands for the entry.
 fn one_entry(
     alloc: Global,
     program: &Program,
     targets: &[Target],
     parser: &mut ParserConfig,
+    joins: &mut Sequence<Join>,
     at: usize,
 ) -> Result<usize, AllocError>
     requires targets { targets.now ≡ flat_map targets_of program.now.headers }
@@ -86,6 +107,7 @@ fn one_entry(
     requires there { at < length parser.old.entries }
     ensures step { IfOk result (λ next. record { parser = parser.new; at = next } ≡ one_entry_of program.now (record { parser = parser.old; at = at }) (slice_get parser.old.entries at)) }
     ensures good { OnOk result (IsGood parser.old parser.new) }
+    ensures joins { OnOk result (joins.new ≡ joins.old ++ entry_joins program.now (record { parser = parser.old; at = at }) (slice_get parser.old.entries at)) }
     ensures within { IfOk result (λ next. next + length parser.old.entries ≡ at + length parser.new.entries + 1) }
 {
     let next = parser.entries.as_slice()[at].next;
@@ -96,6 +118,7 @@ fn one_entry(
     match join_at(alloc, parser, at)? {
         None => Ok(at + 1),
         Some(joined) => {
+            joins.push(join_of_entry(parser.entries.as_slice(), at))?;
             let behind = at + (joined.entries.len() + 1 - before);
             *parser = joined;
             Ok(behind)
@@ -109,37 +132,50 @@ fn one_header(
     program: &Program,
     targets: &[Target],
     parser: &mut ParserConfig,
+    joins: &mut Sequence<Join>,
     number: u8,
 ) -> Result<(), AllocError>
     requires targets { targets.now ≡ flat_map targets_of program.now.headers }
     requires keeps { KeepsForm parser.old }
     ensures step { OnOk result (parser.new ≡ one_header_of program.now parser.old number) }
+    ensures joins { OnOk result (joins.new ≡ joins.old ++ header_joins program.now parser.old number) }
     ensures good { OnOk result (IsGood parser.old parser.new) }
 {
     let count = count_in(parser.entries.as_slice(), number);
     let mut at = number_of_entry(parser.entries.as_slice(), number, 0);
     for _k in 0..count {
-        at = one_entry(alloc, program, targets, parser, at)?;
+        at = one_entry(alloc, program, targets, parser, joins, at)?;
     }
     Ok(())
 }
 
-/// Joins entries where that is wanted and can be: headers from the last to the first, and each of their entries once.
+/// Joins entries where that is wanted and can be: headers from the last to the first, and each of their entries once. Gives
+/// the joins in order.
 pub fn all_joined(
     alloc: Global,
     program: &Program,
     parser: &mut ParserConfig,
-) -> Result<(), AllocError>
+) -> Result<Sequence<Join>, AllocError>
     requires few { length program.now.headers ≤ 64 }
     requires keeps { KeepsForm parser.old }
     ensures joined { OnOk result (parser.new ≡ all_joined_of program.now parser.old) }
+    ensures joins { IfOk result (λ joins. joins ≡ headers_joins program.now (length program.now.headers) parser.old) }
     ensures good { OnOk result (IsGood parser.old parser.new) }
 {
     let targets = targets_in(alloc, program)?;
+    let mut joins = Sequence::new(alloc);
     let mut left = program.headers.len();
     while left > 0 {
         left -= 1;
-        one_header(alloc, program, targets.as_slice(), parser, left as u8)?;
+        let number = left as u8;
+        one_header(
+            alloc,
+            program,
+            targets.as_slice(),
+            parser,
+            &mut joins,
+            number,
+        )?;
     }
-    Ok(())
+    Ok(joins)
 }

@@ -11,6 +11,7 @@ mod extract;
 pub mod fault;
 mod headers;
 pub mod joining;
+pub mod joins;
 mod lookup;
 mod lookups;
 pub mod need;
@@ -22,6 +23,7 @@ mod step;
 
 pub use clustered::clustered_parser;
 pub use joining::join;
+pub use joins::{joins_of, replayed};
 pub use need::parser_need;
 pub use parse::parse_chip;
 pub use plain::plain_parser;

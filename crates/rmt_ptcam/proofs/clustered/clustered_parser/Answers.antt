@@ -1,4 +1,4 @@
-use Rattle.std.proofs.Common.{◌≡◌, ◌≤◌, nat_lt, true, None, sym, subst, ◌∙◌, arith}
+use Rattle.std.proofs.Common.{◌≡◌, ◌≤◌, nat_lt, true, None, Some, ap, sym, subst, ◌∙◌, arith}
 use Rattle.std.specs.Prelude.{length}
 use Rattle.std.specs.List.{list_all}
 use Rattle.rmt_ptcam.specs.Types.{ParserConfig, TailOf}
@@ -7,6 +7,7 @@ use Rattle.rmt_ptcam.proofs.FormedParsers.{clustered_headers, keeps_formed}
 use Rattle.rmt_ptcam.specs.Needs.{refusal}
 use Rattle.rmt_ptcam.specs.Plain.{plain}
 use Rattle.rmt_ptcam.proofs.ClusteringLaws.{is_clustered, joined_states, planned_ok}
+use Rattle.rmt_ptcam.proofs.JoinsLaws.{joins_give}
 use Rattle.rmt_ptcam.proofs.PlainForm.{plain_keeps}
 use Rattle.rmt_ptcam.proofs.FewerLaws.{clustered_few}
 use Rattle.rmt_ptcam.specs.Steps.{MeetsNoMore}
@@ -51,6 +52,14 @@ returns-clause-headers c =
     let made : (refusal p ≡ None) × (c.in_ok-parser.parser ≡ plain p places) = planned_ok p places c.in_ok-parser.parser (c.in_ok-parser.ensures.made (λ e. cc)) in
     let is = c.in_ok-compact.ensures.given ∙ is_clustered p places c.in_ok-parser.parser c.all_joined.new.parser made.1 c.in_ok-all_joined.ensures.joined in
     subst (λ (q : ParserConfig). list_all (λ (t : TailOf). nat_lt t.header (length p.headers)) q.tails ≡ true) (sym is) (clustered_headers p places c.requires.program c.requires.places made.0)
+
+pub returns-clause-joins : goal.returns-clause-joins
+returns-clause-joins c =
+    let p = c.args.program.now in
+    let places = c.args.places.now in
+    let made : (refusal p ≡ None) × (c.in_ok-parser.parser ≡ plain p places) = planned_ok p places c.in_ok-parser.parser (c.in_ok-parser.ensures.made (λ e. cc)) in
+    let is = c.in_ok-compact.ensures.given ∙ is_clustered p places c.in_ok-parser.parser c.all_joined.new.parser made.1 c.in_ok-all_joined.ensures.joined in
+    joins_give p places (plain_keeps p places c.requires.program c.requires.places made.0) ∙ sym (ap Some is)
 
 pub returns-clause-few : goal.returns-clause-few
 returns-clause-few c =
