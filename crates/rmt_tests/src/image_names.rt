@@ -193,13 +193,28 @@ const OF_TAILS: [Case; 23] = [
     (&[(96, 10, &[]), (5, 1, &[2])], 0),
 ];
 
-/// The code of an image with these changes.
+/// What is read is written back byte by byte, whichever the version.
+fn comes_back(alloc: Global, image: &[u8]) -> bool {
+    match read_image(alloc, image) {
+        Ok(config) => match write_image(alloc, &config) {
+            Ok(bytes) => bytes.as_slice() == image,
+            Err(_) => false,
+        },
+        Err(_) => false,
+    }
+}
+
+/// The code of an image with these changes, or 9 where it is read but isn't written back.
 fn code_with(alloc: Global, image: &[u8], splices: &[Splice]) -> Result<u8, AllocError> {
     let mut changed = Vec::from_slice(alloc, image)?;
     for (place, gone, bytes) in splices {
         changed = spliced(alloc, changed.as_slice(), *place, *gone, bytes)?;
     }
-    Ok(read(alloc, changed.as_slice()).0)
+    let code = read(alloc, changed.as_slice()).0;
+    if code == 0 && !comes_back(alloc, changed.as_slice()) {
+        return Ok(9);
+    }
+    Ok(code)
 }
 
 /// The number of the first case whose code is another, or that of all cases.
@@ -242,21 +257,14 @@ fn first_not_short(alloc: Global, image: &[u8]) -> usize {
 }
 
 #[test]
-fn cut_short(rt: HostRuntime) {
-    assert_eq!(rt; first_not_short(rt.alloc(), &NAMED), NAMED.len());
+fn cut_short(rt: HostRuntime) -> Result<(), Fail> {
+    // with all parts: of version 3, with names of a table, and a tail
+    let tailed = spliced(rt.alloc(), &NAMED, 244, 0, &[0, 1, 0, 0, 0, 0, 0, 4, 4, 4])?;
+    let whole = spliced(rt.alloc(), tailed.as_slice(), 5, 1, &[3])?;
+    assert_eq!(rt; read(rt.alloc(), whole.as_slice()).0, 0);
+    assert_eq!(rt; first_not_short(rt.alloc(), whole.as_slice()), whole.len());
     assert_eq!(rt; first_not_short(rt.alloc(), &RANKED), RANKED.len());
-    assert_eq!(rt; first_not_short(rt.alloc(), &TAILED), TAILED.len());
-}
-
-/// What is read is written back byte by byte, whichever the version.
-fn comes_back(alloc: Global, image: &[u8]) -> bool {
-    match read_image(alloc, image) {
-        Ok(config) => match write_image(alloc, &config) {
-            Ok(bytes) => bytes.as_slice() == image,
-            Err(_) => false,
-        },
-        Err(_) => false,
-    }
+    Ok(())
 }
 
 #[test]
@@ -264,7 +272,4 @@ fn round_trips(rt: HostRuntime) {
     assert!(rt; comes_back(rt.alloc(), &IMAGE));
     assert!(rt; comes_back(rt.alloc(), &STRICT_AND_WEAK));
     assert!(rt; comes_back(rt.alloc(), &GATED));
-    assert!(rt; comes_back(rt.alloc(), &NAMED));
-    assert!(rt; comes_back(rt.alloc(), &RANKED));
-    assert!(rt; comes_back(rt.alloc(), &TAILED));
 }
