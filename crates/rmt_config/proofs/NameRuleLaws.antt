@@ -1,6 +1,6 @@
 -- The rules on names that speak of names alone, as loops decide them.
-use Rattle.std.proofs.Common.{◌≡◌, ℕ, zero, suc, ◌+◌, ◌<◌, ◌≤◌, List, [], ◌∷◌, ◌++◌, length, get_or, take, drop, map, Bool, true, false, not, cond, ◌&&◌, ◌||◌, eqb, leb, ltb, Option, Some, None, subst, sym, refl, ap, ◌∙◌, arith, below_more}
-use Rattle.std.specs.List.{flat_map, list_all, list_any, position_from}
+use Rattle.std.proofs.Common.{◌≡◌, ℕ, zero, suc, ◌+◌, ◌<◌, ◌≤◌, List, [], ◌∷◌, length, get_or, Bool, true, false, not, cond, ◌&&◌, eqb, leb, ltb, Option, Some, None, subst, sym, refl, ap, ◌∙◌, arith, below_more}
+use Rattle.std.specs.List.{flat_map, list_all, position_from}
 use Rattle.std.specs.Borrow.{Bor}
 use Rattle.std.specs.Prelude.{Result, Ok, Err, IfOk}
 use Rattle.std.specs.Option.{option_eq}
