@@ -1,18 +1,24 @@
 -- The rules on names that speak of names alone, as loops decide them.
-use Rattle.std.proofs.Common.{◌≡◌, ℕ, zero, suc, ◌+◌, ◌<◌, ◌≤◌, List, [], ◌∷◌, length, get_or, Bool, true, false, not, cond, ◌&&◌, eqb, leb, ltb, Option, Some, None, subst, sym, refl, ap, ◌∙◌, arith, below_more}
-use Rattle.std.specs.List.{flat_map, list_all, position_from}
+use Rattle.std.proofs.Common.{◌≡◌, ℕ, ◌+◌, ◌<◌, ◌≤◌, List, [], ◌∷◌, ◌++◌, length, get_or, take, drop, Bool, true, false, not, ◌&&◌, ◌||◌, leb, ltb, sym, refl, ap, ◌∙◌, arith}
+use Rattle.std.specs.List.{flat_map, list_all, list_any}
 use Rattle.std.specs.Borrow.{Bor}
 use Rattle.std.specs.Prelude.{Result, Ok, Err, IfOk}
-use Rattle.std.specs.Option.{option_eq}
+use Rattle.std.specs.BTreeMap.{is_at}
+use Rattle.std.specs.BTreeSet.{insert_key}
+use Rattle.std.specs.Cmp.Lexicographic.{slice_cmp}
+use Rattle.std.specs.Ordering.{is_eq, match_ordering, nat_cmp}
+use Rattle.std.specs.declared.cmp.Ordering.{Ordering}
+use Rattle.std.specs.declared.cmp.Ordering.TheVariants.{Less, Equal, Greater}
 use Rattle.std.specs.Str.{bytes_eq}
-use Rattle.std.proofs.lemmas.Bool.{false≢true, false_from_ne_true, and_from, and_parts, eq-eqb, eqb-true, leb-true, ltb-true, le-leb}
+use Rattle.std.proofs.lemmas.Bool.{false≢true, false_from_ne_true, and_from, and_parts, leb-true, ltb-true, le-leb}
 use Rattle.std.proofs.lemmas.Bool.Decides.{nat_tests}
-use Rattle.std.proofs.lemmas.List.{get_or_default, get_or-map, length-map}
-use Rattle.std.proofs.lemmas.List.Folds.{list_all-append, list_any_at, Any-from_list_any}
+use Rattle.std.proofs.lemmas.List.{map-append, take_all, take-append-drop}
+use Rattle.std.proofs.lemmas.List.Folds.{list_all-append, list_any-append}
 use Rattle.std.proofs.lemmas.Slice.Eq.{bytes_eq-Decides}
-use Rattle.std.proofs.lemmas.Iterator.Adapters.{position_from-zero}
-use Rattle.rmt_ast.specs.NameList.{bytes_of, is_known, number_of, seen}
+use Rattle.std.proofs.lemmas.Map.Text.{is_eq-slice_cmp}
+use Rattle.rmt_ast.specs.NameList.{bytes_of, is_known, seen}
 use Rattle.rmt_ast.specs.NameRules.{differ, rise}
+use Rattle.rmt_ast.proofs.NameListLaws.{seen_more}
 use Rattle.rmt_config.specs.Order.{rises_from}
 
 -- ---- all items of lists
@@ -66,93 +72,110 @@ rise-all ns = rise-from 0 ns ∙ ap (λ b. b && rise ns) (all_least ns)
 
 -- ---- names of which none stands twice
 
-equal : (a b : List ℕ) → bytes_eq a b ≡ true → a ≡ b
-equal a b h = (bytes_eq-Decides a b).0 h
-
-same_bytes : (a : List ℕ) → bytes_eq a a ≡ true
-same_bytes a = (bytes_eq-Decides a a).1 refl
-
--- a name among later ones differs from the first
-apart : (n : List ℕ) (ns : List (List ℕ)) (k : ℕ) → is_known ns n ≡ false → k < length ns → bytes_eq (get_or ns k []) n ≡ false
-apart n ns k h lt =
-    false_from_ne_true (bytes_eq (get_or ns k []) n) (λ e.
-    let there : bytes_eq n (get_or ns k []) ≡ true = subst (λ m. bytes_eq n m ≡ true) (sym (equal (get_or ns k []) n e)) (same_bytes n) in
-    false≢true (sym h ∙ list_any_at (bytes_eq n) ns k [] lt there))
-
--- each name has the number of its own place, where none stands twice
-places_own : (i : ℕ) (ns : List (List ℕ)) → differ ns ≡ true → (k : ℕ) → k < length ns → position_from (bytes_eq (get_or ns k [])) i ns ≡ Some (i + k)
-places_own i [] h k lt = absurd (omega (arith, lt))
-places_own i (n ∷ ns) h zero lt = rw (same_bytes n) (ap Some (omega arith))
-places_own i (n ∷ ns) h (suc k) lt =
-    let parts = and_parts (not (is_known ns n)) (differ ns) h in
-    let less : k < length ns = omega (arith, lt) in
-    let none : is_known ns n ≡ false = false_from_ne_true (is_known ns n) (λ e. false≢true (sym (ap not e) ∙ parts.0)) in
-    rw (apart n ns k none less) (places_own (i + 1) ns parts.1 k less ∙ ap Some (omega arith))
-
-not_first : (i k : ℕ) → Some i ≡ Some (i + suc k) → ⊥
-not_first i k e = let same : i ≡ i + suc k = cc in omega (arith, same)
-
--- and where each has it, none stands twice
-own_places : (i : ℕ) (ns : List (List ℕ)) → ((k : ℕ) → k < length ns → position_from (bytes_eq (get_or ns k [])) i ns ≡ Some (i + k)) → differ ns ≡ true
-own_places i [] h = refl
-own_places i (n ∷ ns) h = and_from (not (is_known ns n)) (differ ns) (ap not (false_from_ne_true (is_known ns n) new)) (own_places (i + 1) ns rest)
+same_or : (x y : List ℕ) → bytes_eq x y ≡ bytes_eq y x
+same_or x y = by (bytes_eq x y) (bytes_eq y x) (λ e. along x y e) (λ e. along y x e)
   where
-    new : is_known ns n ≡ true → ⊥
-    new e =
-        let found = Any-from_list_any (bytes_eq n) ns e in
-        let k : ℕ = found.0 in
-        let lt : k < length ns = found.2 in
-        let there : bytes_eq n (get_or ns k []) ≡ true = subst (λ m. bytes_eq n m ≡ true) (sym found.3 ∙ get_or_default ns k found.1 [] lt) found.4 in
-        let same : n ≡ get_or ns k [] = equal n (get_or ns k []) there in
-        let own : cond (bytes_eq (get_or ns k []) n) (Some i) (position_from (bytes_eq (get_or ns k [])) (i + 1) ns) ≡ Some (i + suc k) = h (suc k) (omega (arith, lt)) in
-        let first : cond (bytes_eq (get_or ns k []) n) (Some i) (position_from (bytes_eq (get_or ns k [])) (i + 1) ns) ≡ Some i =
-        ap (λ b. cond b (Some i) (position_from (bytes_eq (get_or ns k [])) (i + 1) ns)) (subst (λ m. bytes_eq m n ≡ true) same (same_bytes n)) in
-        not_first i k (sym first ∙ own)
+    along : (a b : List ℕ) → bytes_eq a b ≡ true → bytes_eq b a ≡ true
+    along a b e = (bytes_eq-Decides b a).1 (sym ((bytes_eq-Decides a b).0 e))
 
-    rest : (k : ℕ) → k < length ns → position_from (bytes_eq (get_or ns k [])) (i + 1) ns ≡ Some (i + 1 + k)
-    rest k lt = by (bytes_eq (get_or ns k []) n) (h (suc k) (omega (arith, lt)))
-      where
-        by : (b : Bool) → cond b (Some i) (position_from (bytes_eq (get_or ns k [])) (i + 1) ns) ≡ Some (i + suc k) → position_from (bytes_eq (get_or ns k [])) (i + 1) ns ≡ Some (i + 1 + k)
-        by true e = absurd (not_first i k e)
-        by false e = e ∙ ap Some (omega arith)
+    by : (p q : Bool) → (p ≡ true → q ≡ true) → (q ≡ true → p ≡ true) → p ≡ q
+    by true q h g = sym (h refl)
+    by false true h g = sym (sym (g refl))
+    by false false h g = refl
 
-pub differ-own : (ns : List (List ℕ)) → differ ns ≡ true → (k : ℕ) → k < length ns → number_of ns (get_or ns k []) ≡ Some k
-differ-own ns h k lt = position_from-zero (bytes_eq (get_or ns k [])) ns ∙ places_own 0 ns h k lt ∙ ap Some (omega arith)
+-- one more name differs from the others
+differ_push : (ns : List (List ℕ)) (n : List ℕ) → differ (ns ++ n ∷ []) ≡ (differ ns && not (is_known ns n))
+differ_push [] n = refl
+differ_push (m ∷ ms) n =
+    ap (λ b. not b && differ (ms ++ n ∷ [])) (list_any-append (bytes_eq m) ms (n ∷ []) ∙ ap (λ e. is_known ms m || (e || false)) (same_or m n))
+    ∙ ap (λ b. not (is_known ms m || (bytes_eq n m || false)) && b) (differ_push ms n) ∙ by (is_known ms m) (bytes_eq n m) (differ ms) (is_known ms n)
+  where
+    by : (a e d b : Bool) → (not (a || (e || false)) && (d && not b)) ≡ ((not a && d) && not (e || b))
+    by true e d b = refl
+    by false true true b = refl
+    by false true false b = refl
+    by false false d b = refl
 
-pub own-differ : (ns : List (List ℕ)) → ((k : ℕ) → k < length ns → number_of ns (get_or ns k []) ≡ Some k) → differ ns ≡ true
-own-differ ns h = own_places 0 ns (λ k lt. sym (position_from-zero (bytes_eq (get_or ns k [])) ns) ∙ h k lt ∙ ap Some (omega arith))
+-- the first of names that differ do
+differ_front : (ns ms : List (List ℕ)) → differ (ns ++ ms) ≡ true → differ ns ≡ true
+differ_front [] ms h = refl
+differ_front (n ∷ ns) ms h =
+    let parts = and_parts (not (is_known (ns ++ ms) n)) (differ (ns ++ ms)) h in
+    and_from (not (is_known ns n)) (differ ns) (by (is_known ns n) (is_known ms n) (sym (ap not (list_any-append (bytes_eq n) ns ms)) ∙ parts.0)) (differ_front ns ms parts.1)
+  where
+    by : (a b : Bool) → not (a || b) ≡ true → not a ≡ true
+    by true b e = e
+    by false b e = refl
+
+-- ---- a set of names
+
+abbrev names_order : Bor (List ℕ) → Bor (List ℕ) → Ordering
+names_order x y = slice_cmp nat_cmp x.now y.now
+
+-- a set has a name where it is among those of its keys
+set_knows : (ks : List (Bor (List ℕ))) (k : Bor (List ℕ)) → list_any (is_at (names_order k)) ks ≡ is_known (seen ks) k.now
+set_knows [] k = refl
+set_knows (x ∷ xs) k = ap (λ b. b || list_any (is_at (names_order k)) xs) (is_eq-slice_cmp k.now x.now) ∙ ap (λ b. bytes_eq k.now x.now || b) (set_knows xs k)
+
+known_insert : (ks : List (Bor (List ℕ))) (k : Bor (List ℕ)) (q : List ℕ) → is_known (seen (insert_key names_order ks k)) q ≡ (bytes_eq q k.now || is_known (seen ks) q)
+known_insert [] k q = refl
+known_insert (x ∷ xs) k q = by (names_order k x) refl (known_insert xs k q)
+  where
+    once : (a b : Bool) → (a || b) ≡ (a || (a || b))
+    once true b = refl
+    once false b = refl
+
+    swap : (a d b : Bool) → (a || (d || b)) ≡ (d || (a || b))
+    swap true true b = refl
+    swap true false b = refl
+    swap false d b = refl
+
+    by : (o : Ordering) → names_order k x ≡ o → is_known (seen (insert_key names_order xs k)) q ≡ (bytes_eq q k.now || is_known (seen xs) q)
+        → is_known (seen (match_ordering o (k ∷ x ∷ xs) (x ∷ xs) (x ∷ insert_key names_order xs k))) q ≡ (bytes_eq q k.now || (bytes_eq q x.now || is_known (seen xs) q))
+    by Less e more = refl
+    by Equal e more =
+        let same : k.now ≡ x.now = (bytes_eq-Decides k.now x.now).0 (sym (is_eq-slice_cmp k.now x.now) ∙ ap is_eq e) in
+        rw same (once (bytes_eq q x.now) (is_known (seen xs) q))
+    by Greater e more = ap (λ b. bytes_eq q x.now || b) more ∙ swap (bytes_eq q x.now) (bytes_eq q k.now) (is_known (seen xs) q)
 
 -- ---- the steps of the loop over names
 
-found_own : (o : Option ℕ) (i : ℕ) → o ≡ Some i → option_eq eqb o (Some i) ≡ true
-found_own o i e = rw e (eq-eqb i i refl)
+module _ (names : List (Bor (List ℕ))) (i : ℕ) (d : Bor (List ℕ)) (lt : i < length names) (ks : List (Bor (List ℕ)))
+    (same : (q : List ℕ) → is_known (seen ks) q ≡ is_known (seen (take i names)) q) where
+  known : list_any (is_at (names_order (get_or names i d))) ks ≡ is_known (seen (take i names)) (get_or names i d).now
+  known = set_knows ks (get_or names i d) ∙ same (get_or names i d).now
 
-own_found : (o : Option ℕ) (i : ℕ) → option_eq eqb o (Some i) ≡ true → o ≡ Some i
-own_found None i h = absurd (false≢true h)
-own_found (Some n) i h = ap Some (eqb-true n i h)
+  one_more : differ (seen (take (i + 1) names)) ≡ (differ (seen (take i names)) && not (list_any (is_at (names_order (get_or names i d))) ks))
+  one_more = ap differ (seen_more names i d lt) ∙ differ_push (seen (take i names)) (get_or names i d).now ∙ ap (λ b. differ (seen (take i names)) && not b) (sym known)
 
--- a name without the number of its place stands twice
-pub not_own : (names : List (Bor (List ℕ))) (i : ℕ) (d : Bor (List ℕ)) (o : Option ℕ) → i < length names → o ≡ number_of (seen names) (get_or names i d).now
-    → not (option_eq eqb o (Some i)) ≡ true → false ≡ differ (seen names)
-not_own names i d o lt e other =
-    sym (false_from_ne_true (differ (seen names)) (λ h.
-    let own = differ-own (seen names) h i (rw (length-map names bytes_of) lt) in
-    let at : o ≡ Some i = e ∙ ap (number_of (seen names)) (sym (get_or-map bytes_of names i d [] lt)) ∙ own in
-    false≢true (sym (ap not (found_own o i at)) ∙ other)))
+  -- a name of the set stands twice
+  pub stands_twice : not (list_any (is_at (names_order (get_or names i d))) ks) ≡ false → false ≡ differ (seen names)
+  stands_twice e =
+      sym (false_from_ne_true (differ (seen names)) (λ h.
+      let split : seen (take (i + 1) names) ++ seen (drop (i + 1) names) ≡ seen names =
+      sym (map-append bytes_of (take (i + 1) names) (drop (i + 1) names)) ∙ ap seen (take-append-drop (i + 1) names) in
+      let front : differ (seen (take (i + 1) names)) ≡ true = differ_front (seen (take (i + 1) names)) (seen (drop (i + 1) names)) (ap differ split ∙ h) in
+      let parts = and_parts (differ (seen (take i names))) (not (list_any (is_at (names_order (get_or names i d))) ks)) (sym one_more ∙ front) in
+      false≢true (sym e ∙ parts.1)))
 
-pub own_more : (names : List (Bor (List ℕ))) (i : ℕ) (d : Bor (List ℕ)) (o : Option ℕ) → i < length names → o ≡ number_of (seen names) (get_or names i d).now
-    → not (option_eq eqb o (Some i)) ≡ false → ((k : ℕ) → k < i → number_of (seen names) (get_or (seen names) k []) ≡ Some k)
-    → (k : ℕ) → k < i + 1 → number_of (seen names) (get_or (seen names) k []) ≡ Some k
-own_more names i d o lt e same before =
-    below_more (λ k. number_of (seen names) (get_or (seen names) k []) ≡ Some k) i before
-    (ap (number_of (seen names)) (get_or-map bytes_of names i d [] lt) ∙ sym e ∙ own_found o i (not_false (option_eq eqb o (Some i)) same))
-  where
-    not_false : (b : Bool) → not b ≡ false → b ≡ true
-    not_false true h = refl
-    not_false false h = sym h
+  pub stands_once : not (list_any (is_at (names_order (get_or names i d))) ks) ≡ true → differ (seen (take i names)) ≡ true → differ (seen (take (i + 1) names)) ≡ true
+  stands_once e apart = one_more ∙ and_from (differ (seen (take i names))) (not (list_any (is_at (names_order (get_or names i d))) ks)) apart e
 
-pub all_own : (names : List (Bor (List ℕ))) (i : ℕ) → length names ≤ i → ((k : ℕ) → k < i → number_of (seen names) (get_or (seen names) k []) ≡ Some k) → true ≡ differ (seen names)
-all_own names i le all = sym (own-differ (seen names) (λ k lt. all k (let n = length-map names bytes_of in omega (arith, n, lt, le))))
+  pub known_more : (new : List (Bor (List ℕ))) → new ≡ insert_key names_order ks (get_or names i d) → (q : List ℕ) → is_known (seen new) q ≡ is_known (seen (take (i + 1) names)) q
+  known_more new e q =
+      let n = get_or names i d in
+      ap (λ keys. is_known (seen keys) q) e ∙ known_insert ks n q ∙ ap (λ b. bytes_eq q n.now || b) (same q)
+      ∙ turn (bytes_eq q n.now) (is_known (seen (take i names)) q)
+      ∙ sym (ap (λ all. is_known all q) (seen_more names i d lt) ∙ list_any-append (bytes_eq q) (seen (take i names)) (n.now ∷ []))
+    where
+      turn : (a b : Bool) → (a || b) ≡ (b || (a || false))
+      turn true true = refl
+      turn true false = refl
+      turn false true = refl
+      turn false false = refl
+
+pub stand_once : (names : List (Bor (List ℕ))) (i : ℕ) → length names ≤ i → differ (seen (take i names)) ≡ true → true ≡ differ (seen names)
+stand_once names i le h = sym (ap (λ ns. differ (seen ns)) (sym (take_all i names le)) ∙ h)
 
 -- ---- a table whose other rules hold
 

@@ -6,29 +6,21 @@ ghost use Rattle.rmt_ast.specs.declared.names.TableName.{TableName};
 ghost use Rattle.rmt_ast.specs.NameList.{seen};
 ghost use Rattle.rmt_ast.specs.NameRules.{differ};
 
-use rmt_ast::name_list::NameList;
 use rmt_ast::names::{ActionName, TableName};
 use std::alloc::{AllocError, Global};
-
-/// Whether each name has the number of its own place.
-fn have_own_numbers(list: &NameList, names: &[&[u8]]) -> bool
-    requires { list.now ≡ seen names.now }
-    ensures { result ≡ differ (seen names.now) }
-{
-    for (place, name) in names.iter().enumerate() {
-        if list.number(name) != Some(place) {
-            return false;
-        }
-    }
-    true
-}
+use std::collections::BTreeSet;
 
 /// Whether no name stands twice.
 fn differ(alloc: Global, names: &[&[u8]]) -> Result<bool, AllocError>
     ensures { IfOk result (λ fit. fit ≡ differ (seen names.now)) }
 {
-    let list = NameList::of(alloc, Vec::from_slice(alloc, names)?)?;
-    Ok(have_own_numbers(&list, names))
+    let mut known = BTreeSet::new(alloc);
+    for name in names {
+        if !known.insert(*name)? {
+            return Ok(false);
+        }
+    }
+    Ok(true)
 }
 
 fn names_of_tables<'a>(alloc: Global, tables: &'a [TableName]) -> Result<Vec<&'a [u8]>, AllocError>
