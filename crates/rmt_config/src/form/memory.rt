@@ -85,7 +85,15 @@ fn ternary_holds(
     let rows = stage.srows.as_slice();
     let numbers = slot.numbers.as_slice();
     let entries = ternary_records(quanta, slot.held);
-    if !cells_are_formed(&entries, records, rows, numbers, visible, first, slot.actions) {
+    if !cells_are_formed(
+        &entries,
+        records,
+        rows,
+        numbers,
+        visible,
+        first,
+        slot.actions,
+    ) {
         return false;
     }
     if !blocks_are_told(&entries, numbers, records, rows) {
