@@ -1,9 +1,12 @@
 pub mod AnswerLaws
 pub mod BestLaws
+pub mod CommitLaws
+pub mod CounterLaws
 pub mod Examples
 pub mod FieldLaws
 pub mod FindLaws
 pub mod FirstLaws
+pub mod HitLaws
 pub mod KeyLaws
 pub mod MarkLaws
 pub mod RankingLaws

@@ -1,3 +1,4 @@
+pub mod Counters
 pub mod Grouping
 pub mod Marks
 pub mod Ranking

@@ -1,8 +1,9 @@
 //! The counters of the entries of counted tables.
 
-ghost use Rattle.std.specs.Prelude.{◌≡◌, ◌++◌, ℕ, List, [], if◌then◌else◌, IfOk, OnOk};
+ghost use Rattle.std.specs.Prelude.{◌≡◌, ◌≤◌, ◌++◌, ℕ, List, [], length, All, if◌then◌else◌, IfOk, OnOk};
 ghost use Rattle.rmt_bits.specs.Counts.{Hit, counts, hits_by};
 ghost use Rattle.rmt_ast.specs.Answers.{counted_numbers, entry_numbers, is_counted as is_counted_of};
+ghost use Rattle.rmt_plain.specs.Counters.{IsThereIfHit};
 
 use rmt_ast::entry::{Entry, EntryLists};
 use rmt_ast::program::{Program, What};
@@ -60,7 +61,7 @@ fn push_counted(
 }
 
 /// The numbers of the entries of counted tables, node by node.
-fn numbers_of(
+pub fn numbers_of(
     alloc: Global,
     program: &Program,
     lists: &[Sequence<Entry>],
@@ -87,4 +88,17 @@ pub fn first_counters(
 {
     let numbers = numbers_of(alloc, program, entries.as_slice())?;
     Counts::of(alloc, &numbers)
+}
+
+/// Adds a counter, which is 0, for each of these numbers that has none, for which there is room. A
+/// number without one was not hit. It takes no memory.
+pub fn add_counters(counters: &mut Counts, numbers: &[u32])
+    requires { length numbers.now ≤ counters.old.room }
+    ensures { (before : List ℕ) (hits : List Hit) → counters.old.counts ≡ counts before hits →
+        All (IsThereIfHit before hits) numbers.now →
+        counters.new.counts ≡ counts (before ++ numbers.now) hits }
+{
+    for number in numbers {
+        counters.add(*number);
+    }
 }

@@ -5,7 +5,7 @@ ghost use Rattle.std.proofs.Props.{props};
 ghost use Rattle.rmt_plain.specs.Runnable.{IsRunnable};
 
 use crate::answer::answer;
-use crate::counters::{count, first_counters};
+use crate::counters::{add_counters, count, first_counters, numbers_of};
 use crate::fault::PlainFault;
 use crate::lookup::{Lookup, lookups_of};
 use rmt_ast::entry::EntryLists;
@@ -14,7 +14,7 @@ use rmt_bits::answer::Answer;
 use rmt_bits::counts::Counts;
 use std::alloc::Global;
 
-/// A program with its entries, and what it has counted so far.
+/// A program with the entries that stand now, and what it has counted so far.
 #[derive(Drop)]
 pub struct Plain {
     program: Program,
@@ -31,7 +31,8 @@ impl Plain {
     ghost use Rattle.rmt_ast.specs.WellFormed.{IsProgram};
     ghost use Rattle.rmt_ast.specs.EntryLists.{AreEntries};
     ghost use Rattle.rmt_ast.specs.Answers.{answer_of, counts_of};
-    ghost use Rattle.rmt_plain.specs.Stands.{Stands};
+    ghost use Rattle.rmt_ast.specs.Events.{Met};
+    ghost use Rattle.rmt_plain.specs.Stands.{FollowOn, HasMet, Stands, counts_met};
 
     /// A plain run of a well-formed program with well-formed entries, before the first packet. It is
     /// refused for want of memory alone.
@@ -50,7 +51,8 @@ impl Plain {
     }
 
     /// The answer to the next packet, which comes on a port below 512 with a frame of 1 to 9,216
-    /// bytes. Its hits are counted. It is refused for want of memory alone, and all is then as before.
+    /// bytes, with the entries that stand now. Its hits are counted. It is refused for want of memory
+    /// alone, and all is then as before.
     pub fn packet(&mut self, alloc: Global, port: u16, frame: &[u8]) -> Result<Answer, PlainFault>
         requires port { port < 512 }
         requires some { 1 ≤ length frame.now }
@@ -59,6 +61,11 @@ impl Plain {
             Stands p lists packets self.old →
             Stands p lists (packets ++ record { port = port; frame = frame.now } ∷ []) self.new
             × (answer ≡ answer_of p lists (record { port = port; frame = frame.now }))) }
+        ensures met { IfOk result (λ answer. (p : Program) (so_far : List (List (List Entry)))
+            (lists : List (List Entry)) (met : List Met) → HasMet p so_far lists met self.old →
+            let packet = record { port = port; frame = frame.now } in
+            HasMet p so_far lists (met ++ record { lists = lists; packet = packet } ∷ []) self.new
+            × (answer ≡ answer_of p lists packet)) }
         ensures err { OnErr result (self.new ≡ self.old) }
     {
         let answer = answer(alloc, &self.program, &self.lookups, port, frame)?;
@@ -70,11 +77,33 @@ impl Plain {
         Ok(answer)
     }
 
-    /// How often each entry of a counted table was hit, by rising number.
+    /// The run goes on with other entries, well formed for its program: each stands now, or has a number
+    /// that no entry so far had. Those of counted tables that come get counters at 0, and those that go
+    /// keep theirs. It is refused for want of memory alone, and all is then as before.
+    pub fn commit(&mut self, alloc: Global, entries: EntryLists) -> Result<(), PlainFault>
+        ensures ok { OnOk result ((p : Program) (so_far : List (List (List Entry)))
+            (lists : List (List Entry)) (met : List Met) → HasMet p so_far lists met self.old →
+            AreEntries p entries → FollowOn so_far lists entries →
+            HasMet p (so_far ++ entries ∷ []) entries met self.new) }
+        ensures err { OnErr result (self.new ≡ self.old) }
+    {
+        let numbers = numbers_of(alloc, &self.program, entries.as_slice())?;
+        let lookups = lookups_of(alloc, &self.program, entries)?;
+        self.counters.reserve(numbers.len())?;
+        add_counters(&mut self.counters, &numbers);
+        self.lookups = lookups;
+        Ok(())
+    }
+
+    /// How often each entry of a counted table was hit, by rising number: of the entries that stand now
+    /// and of those that are gone.
     pub fn counters(&self) -> &Counts
-        ensures { (p : Program) (lists : List (List Entry)) (packets : List Packet) →
+        ensures packets { (p : Program) (lists : List (List Entry)) (packets : List Packet) →
             Stands p lists packets self.now →
             result.now.counts ≡ counts_of p lists packets }
+        ensures met { (p : Program) (so_far : List (List (List Entry))) (lists : List (List Entry))
+            (met : List Met) → HasMet p so_far lists met self.now →
+            result.now.counts ≡ counts_met p so_far met }
     {
         &self.counters
     }

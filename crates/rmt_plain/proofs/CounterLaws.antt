@@ -1,0 +1,97 @@
+-- Counters take a number more.
+use Rattle.std.proofs.Common.{◌≡◌, ℕ, ◌+◌, ◌%◌, ◌^◌, ◌++◌, Bool, true, false, true≢false, ◌==◌, cond, List, [], ◌∷◌, map, refl, sym, ap, subst, ◌∙◌, tests, arith}
+use Rattle.std.specs.Prelude.{All, Contains, filter, nat_lt, sum_by}
+use Rattle.std.specs.List.{list_any}
+use Rattle.std.proofs.lemmas.Bool.{eqb-true}
+use Rattle.std.proofs.lemmas.List.Elements.{All-head, All-tail, All-nil, All-cons, All-contains_itself, All-weaker, Contains-append_left}
+use Rattle.std.proofs.lemmas.List.Sums.{sum_by-cons}
+use Rattle.rmt_bits.specs.declared.answer.Count.{Count}
+use Rattle.rmt_bits.specs.Counts.{Hit, count_for, counts, in_order, with_number}
+use Rattle.rmt_bits.specs.Counting.{hits_among, with_count}
+use Rattle.rmt_bits.proofs.MemberLaws.{list_any-Contains}
+use Rattle.rmt_bits.proofs.OrderLaws.{counts-with_count, with_count-with_number, zeros_push}
+use Rattle.rmt_plain.specs.Counters.{IsThereIfHit}
+
+-- the numbers of counters
+numbers-counts : (hits : List Hit) (ms : List ℕ) → map (λ (c : Count). c.entry) (map (count_for hits) ms) ≡ ms
+numbers-counts hits [] = refl
+numbers-counts hits (m ∷ ms) = ap (λ (ks : List ℕ). m ∷ ks) (numbers-counts hits ms)
+
+-- a number behind others comes to its place
+in_order_push : (ns : List ℕ) (n : ℕ) → in_order (ns ++ n ∷ []) ≡ with_number n (in_order ns)
+in_order_push ns n =
+    sym (numbers-counts [] (in_order (ns ++ n ∷ [])))
+    ∙ ap (λ (cs : List Count). map (λ (c : Count). c.entry) cs) (sym (zeros_push ns n) ∙ with_count-with_number [] n (in_order ns) refl)
+    ∙ numbers-counts [] (with_number n (in_order ns))
+
+-- what holds of numbers holds of them in order
+All-with_number : (P : ℕ → Type 0) (n : ℕ) (ms : List ℕ) → P n → All P ms → All P (with_number n ms)
+All-with_number P n [] one all = All-cons P n [] one all
+All-with_number P n (m ∷ ms) one all = by (nat_lt n m) (n == m) (All-with_number P n ms one (All-tail P m ms all))
+  where
+    by : (b e : Bool) → All P (with_number n ms) → All P (cond b (n ∷ m ∷ ms) (cond e (m ∷ ms) (m ∷ with_number n ms)))
+    by true e h = All-cons P n (m ∷ ms) one all
+    by false true h = all
+    by false false h = All-cons P m (with_number n ms) (All-head P m ms all) h
+
+All-in_order : (P : ℕ → Type 0) (ns : List ℕ) → All P ns → All P (in_order ns)
+All-in_order P [] all = All-nil P
+All-in_order P (n ∷ ns) all = All-with_number P n (in_order ns) (All-head P n ns all) (All-in_order P ns (All-tail P n ns all))
+
+map_agree : (f g : ℕ → Count) (ms : List ℕ) → All (λ m. f m ≡ g m) ms → map f ms ≡ map g ms
+map_agree f g [] h = refl
+map_agree f g (m ∷ ms) h =
+    ap (λ (c : Count). c ∷ map f ms) (All-head (λ k. f k ≡ g k) m ms h) ∙ ap (λ (cs : List Count). g m ∷ cs) (map_agree f g ms (All-tail (λ k. f k ≡ g k) m ms h))
+
+-- the items that a filter drops add nothing
+sum_kept : {X : Type 0} (f : X → ℕ) (test : X → Bool) (xs : List X) → All (λ x. test x ≡ false → f x ≡ 0) xs → sum_by f (filter test xs) ≡ sum_by f xs
+sum_kept f test [] none = refl
+sum_kept f test (x ∷ xs) none = by (sum_kept f test xs (All-tail (λ y. test y ≡ false → f y ≡ 0) x xs none)) (test x) refl
+  where
+    by : sum_by f (filter test xs) ≡ sum_by f xs → (b : Bool) → test x ≡ b → sum_by f (cond b (x ∷ filter test xs) (filter test xs)) ≡ sum_by f (x ∷ xs)
+    by rest true e = sum_by-cons f x (filter test xs) ∙ ap (λ n. f x + n) rest ∙ sym (sum_by-cons f x xs)
+    by rest false e =
+        rest ∙ (let zero_more : sum_by f xs ≡ f x + sum_by f xs = omega (arith, All-head (λ y. test y ≡ false → f y ≡ 0) x xs none e) in zero_more) ∙ sym (sum_by-cons f x xs)
+
+-- a number that is among others if it was hit: the hits of the others are all that count
+among_kept : (numbers : List ℕ) (hits : List Hit) (m : ℕ) → IsThereIfHit numbers hits m → count_for (hits_among numbers hits) m ≡ count_for hits m
+among_kept numbers hits m there = parts (sum_kept _ test hits (off (λ h. 1))) (sum_kept _ test hits (off (λ h. h.bytes)))
+  where
+    test : Hit → Bool
+    test h = list_any (λ k. k == h.number) numbers
+
+    passes : (h : Hit) → Contains numbers h.number → test h ≡ true
+    passes h c = let same : (h.number == h.number) ≡ true = grind (arith, tests) in list_any-Contains (λ k. k == h.number) numbers h.number c same
+
+    off : (f : Hit → ℕ) → All (λ (h : Hit). test h ≡ false → cond (h.number == m) (f h) 0 ≡ 0) hits
+    off f = All-weaker (λ (h : Hit). h.number ≡ m → Contains numbers m) (λ (h : Hit). test h ≡ false → cond (h.number == m) (f h) 0 ≡ 0) one hits there
+      where
+        one : (h : Hit) → (h.number ≡ m → Contains numbers m) → test h ≡ false → cond (h.number == m) (f h) 0 ≡ 0
+        one h known out = by (h.number == m) refl
+          where
+            by : (b : Bool) → (h.number == m) ≡ b → cond b (f h) 0 ≡ 0
+            by true e = let is = eqb-true h.number m e in absurd (true≢false (sym (passes h (subst (Contains numbers) (sym is) (known is))) ∙ out))
+            by false e = refl
+
+    parts : {x y z w : ℕ} → x ≡ z → y ≡ w → ◌≡◌ {A = Count} (record { entry = m; packets = x % 2 ^ 48; bytes = y % 2 ^ 64 }) (record { entry = m; packets = z % 2 ^ 48; bytes = w % 2 ^ 64 })
+    parts {x} {y} {z} {w} e f = ap (λ (v : ℕ). record { entry = m; packets = v % 2 ^ 48; bytes = y % 2 ^ 64 }) e ∙ ap (λ (v : ℕ). record { entry = m; packets = z % 2 ^ 48; bytes = v % 2 ^ 64 }) f
+
+-- a number that others have is there
+pub there_of_all : (numbers : List ℕ) (hits : List Hit) → All (IsThereIfHit numbers hits) numbers
+there_of_all numbers hits = All-weaker (Contains numbers) (IsThereIfHit numbers hits) (λ n c k d lt e. c) numbers (All-contains_itself numbers)
+
+-- counters take a number that was not hit, or that they have
+pub counts_push : (numbers : List ℕ) (hits : List Hit) (n : ℕ) → IsThereIfHit numbers hits n → with_count n (counts numbers hits) ≡ counts (numbers ++ n ∷ []) hits
+counts_push numbers hits n there =
+    counts-with_count numbers hits n
+    ∙ map_agree (count_for (hits_among numbers hits)) (count_for hits) (in_order (n ∷ numbers))
+    (All-in_order (λ m. count_for (hits_among numbers hits) m ≡ count_for hits m) (n ∷ numbers)
+    (All-weaker (IsThereIfHit numbers hits) (λ m. count_for (hits_among numbers hits) m ≡ count_for hits m) (among_kept numbers hits) (n ∷ numbers)
+    (All-cons (IsThereIfHit numbers hits) n numbers there (there_of_all numbers hits))))
+    ∙ ap (map (count_for hits)) (sym (in_order_push numbers n))
+
+-- what is there among some numbers is there among more
+pub there_more : (numbers more : List ℕ) (hits : List Hit) (n : ℕ) → IsThereIfHit numbers hits n → IsThereIfHit (numbers ++ more) hits n
+there_more numbers more hits n there =
+    All-weaker (λ (h : Hit). h.number ≡ n → Contains numbers n) (λ (h : Hit). h.number ≡ n → Contains (numbers ++ more) n)
+    (λ h known e. Contains-append_left numbers more n (known e)) hits there
