@@ -1,12 +1,13 @@
 -- What a commit makes of the counters.
-use Rattle.std.proofs.Common.{◌≡◌, ⊥, ℕ, zero, suc, ◌⊎◌, inl, inr, ◌++◌, Bool, true, false, cond, List, [], ◌∷◌, Option, Some, None, refl, sym, ap, subst, ◌∙◌, arith}
+use Rattle.std.proofs.Common.{◌≡◌, ℕ, zero, suc, ◌⊎◌, inl, inr, ◌++◌, Bool, true, false, cond, List, [], ◌∷◌, Option, Some, None, refl, sym, ap, subst, ◌∙◌, arith}
 use Rattle.std.specs.Prelude.{All, Contains, IsSomeAnd, map, slice_get}
 use Rattle.std.specs.List.{flat_map}
 use Rattle.std.proofs.lemmas.List.Elements.{All-contains, All-contains_itself, All-weaker, Contains-append_cases, Contains-append_left, Contains-append_right}
-use Rattle.std.proofs.lemmas.Option.{none-some, some_injective}
+use Rattle.std.proofs.lemmas.Option.{none-some, same_Some}
 use Rattle.rmt_bits.specs.Counts.{Hit}
 use Rattle.rmt_bits.proofs.MemberLaws.{Contains-flat_map, Contains-item, Contains-map, Contains-unmap, flat_from, from_flat_map}
-use Rattle.rmt_ast.specs.Types.{Node, Program}
+use Rattle.rmt_ast.specs.declared.program.Node.{Node}
+use Rattle.rmt_ast.specs.declared.program.Program.{Program}
 use Rattle.rmt_ast.specs.declared.entry.Entry.{Entry}
 use Rattle.rmt_ast.specs.Answers.{counted_numbers, entry_numbers, hits_of, is_counted}
 use Rattle.rmt_ast.specs.EntryLists.{AreEntries, AreEntriesAt, IsEntry, Terms, terms_at}
@@ -60,8 +61,8 @@ module _ (p : Program) where
   counted_there [] lists i node es e at listed counted there = absurd (none-some node at)
   counted_there (x ∷ nodes) [] i node es e at listed counted there = absurd (none-some es listed)
   counted_there (x ∷ nodes) (ys ∷ lists) zero node es e at listed counted there =
-      let own : is_counted p x.what ≡ true = ap (λ (y : Node). is_counted p y.what) (some_injective at) ∙ counted in
-      let in_ys : Contains ys e = subst (λ (xs : List Entry). Contains xs e) (sym (some_injective listed)) there in
+      let own : is_counted p x.what ≡ true = ap (λ (y : Node). is_counted p y.what) (same_Some x node at) ∙ counted in
+      let in_ys : Contains ys e = subst (λ (xs : List Entry). Contains xs e) (sym (same_Some ys es listed)) there in
       Contains-append_left (cond (is_counted p x.what) (entry_numbers ys) []) (counted_numbers p nodes lists) e.number
       (subst (λ b. Contains (cond b (entry_numbers ys) []) e.number) (sym own) (Contains-map (λ (y : Entry). y.number) ys e in_ys))
   counted_there (x ∷ nodes) (ys ∷ lists) (suc i) node es e at listed counted there =
@@ -69,10 +70,10 @@ module _ (p : Program) where
 
   module _ (so_far : List (List (List Entry))) (lists next : List (List Entry)) (met : List Met) (now : AreEntries p lists) (later : AreEntries p next)
       (stand_now : Contains so_far lists) (stood : All (λ (m : Met). Contains so_far m.lists) met) (follow : FollowOn so_far lists next) where
-    counted_so_far : List ℕ
+    abbrev pub counted_so_far : List ℕ
     counted_so_far = flat_map (counted_numbers p p.nodes) so_far
 
-    hits_so_far : List Hit
+    abbrev pub hits_so_far : List Hit
     hits_so_far = flat_map (λ (m : Met). hits_of p m.lists m.packet) met
 
     -- a number that was hit is one of an entry so far
@@ -86,17 +87,17 @@ module _ (p : Program) where
     still_counted : (n : ℕ) (at : IsCountedAt p p.nodes next n) → Contains (entries_in lists) at.entry → Contains counted_so_far n
     still_counted n at there =
         let from = flat_from (λ (es : List Entry). es) lists at.entry there in
-        let same : from.0 ≡ at.place = sym (table_is p lists from.0 from.1 at.entry now from.2.0 from.2.1) ∙ table_is p next at.place at.es at.entry later at.list_at at.among in
-        let listed : slice_get lists at.place ≡ Some from.1 = subst (λ i. slice_get lists i ≡ Some from.1) same from.2.0 in
+        let same : from.0 ≡ at.place = sym (table_is p lists from.0 from.1 at.entry now from.2 from.3) ∙ table_is p next at.place at.es at.entry later at.list_at at.among in
+        let listed : slice_get lists at.place ≡ Some from.1 = subst (λ i. slice_get lists i ≡ Some from.1) same from.2 in
         Contains-flat_map (counted_numbers p p.nodes) so_far lists n stand_now
-        (subst (Contains (counted_numbers p p.nodes lists)) at.number_is (counted_there p.nodes lists at.place at.node from.1 at.entry at.node_at listed at.counted from.2.1))
+        (subst (Contains (counted_numbers p p.nodes lists)) at.number_is (counted_there p.nodes lists at.place at.node from.1 at.entry at.node_at listed at.counted from.3))
 
     there_if_hit : (n : ℕ) → Contains (counted_numbers p p.nodes next) n → IsThereIfHit counted_so_far hits_so_far n
     there_if_hit n there =
         let at = counted_at p.nodes next n there in
         let own = Contains-flat_map (λ (es : List Entry). es) next at.es at.entry (Contains-item next at.place at.es at.list_at) at.among in
         All-weaker (Contains hits_so_far) (λ (h : Hit). h.number ≡ n → Contains counted_so_far n)
-        (λ h hit e. elim (All-contains _ (entries_in next) at.entry follow own) [
+        (λ h hit e. elim (All-contains (λ (x : Entry). Contains (entries_in lists) x ⊎ (Contains (flat_map numbers_in so_far) x.number → ⊥)) (entries_in next) at.entry follow own) [
           | inl stands ↦ still_counted n at stands
           | inr new ↦ absurd (new (subst (Contains (flat_map numbers_in so_far)) (e ∙ sym at.number_is) (hit_stood h hit)))
         ])

@@ -10,7 +10,11 @@ use Rattle.rmt_bits.specs.Counts.{Hit}
 use Rattle.rmt_bits.specs.declared.answer.Answer.{Answer}
 use Rattle.rmt_bits.proofs.AllLaws.{All-find}
 use Rattle.rmt_bits.proofs.MemberLaws.{Contains-map, Contains-unmap}
-use Rattle.rmt_ast.specs.Types.{Kind, Node, Program, Table, What}
+use Rattle.rmt_ast.specs.declared.program.Kind.{Kind}
+use Rattle.rmt_ast.specs.declared.program.Node.{Node}
+use Rattle.rmt_ast.specs.declared.program.Program.{Program}
+use Rattle.rmt_ast.specs.declared.program.Table.{Table}
+use Rattle.rmt_ast.specs.declared.program.What.{What}
 use Rattle.rmt_ast.specs.declared.program.Kind.TheVariants.{Keyless, Exact, Prefix, Ternary}
 use Rattle.rmt_ast.specs.declared.program.What.TheVariants.{Apply, Gate}
 use Rattle.rmt_ast.specs.declared.entry.Entry.{Entry}

@@ -1,5 +1,5 @@
 -- What a plain run stands for.
-use Rattle.std.specs.Prelude.{◌≡◌, ⊥, ◌⊎◌, ℕ, List, [], ◌∷◌, map, All, Contains}
+use Rattle.std.specs.Prelude.{◌≡◌, ◌⊎◌, ℕ, List, [], ◌∷◌, map, All, Contains}
 use Rattle.std.specs.List.{flat_map}
 use Rattle.rmt_bits.specs.Packet.{Packet}
 use Rattle.rmt_bits.specs.Counts.{counts}

@@ -24,7 +24,7 @@ pub struct Plain {
 }
 
 impl Plain {
-    ghost use Rattle.std.specs.Prelude.{◌<◌, ◌≤◌, ◌++◌, ◌∷◌, [], List, length, IfOk, OnErr};
+    ghost use Rattle.std.specs.Prelude.{◌<◌, ◌≤◌, ◌++◌, ◌∷◌, [], List, length, IfOk, OnErr, OnOk};
     ghost use Rattle.rmt_bits.specs.Packet.{Packet};
     ghost use Rattle.rmt_ast.specs.declared.program.Program.{Program};
     ghost use Rattle.rmt_ast.specs.declared.entry.Entry.{Entry};
@@ -32,7 +32,7 @@ impl Plain {
     ghost use Rattle.rmt_ast.specs.EntryLists.{AreEntries};
     ghost use Rattle.rmt_ast.specs.Answers.{answer_of, counts_of};
     ghost use Rattle.rmt_ast.specs.Events.{Met};
-    ghost use Rattle.rmt_plain.specs.Stands.{FollowOn, HasMet, Stands, counts_met};
+    ghost use Rattle.rmt_plain.specs.Stands.{FollowOn, HasMet, Stands, counts_met, meets};
 
     /// A plain run of a well-formed program with well-formed entries, before the first packet. It is
     /// refused for want of memory alone.
@@ -63,9 +63,9 @@ impl Plain {
             × (answer ≡ answer_of p lists (record { port = port; frame = frame.now }))) }
         ensures met { IfOk result (λ answer. (p : Program) (so_far : List (List (List Entry)))
             (lists : List (List Entry)) (met : List Met) → HasMet p so_far lists met self.old →
-            let packet = record { port = port; frame = frame.now } in
-            HasMet p so_far lists (met ++ record { lists = lists; packet = packet } ∷ []) self.new
-            × (answer ≡ answer_of p lists packet)) }
+            HasMet p so_far lists
+            (met ++ meets lists (record { port = port; frame = frame.now }) ∷ []) self.new
+            × (answer ≡ answer_of p lists (record { port = port; frame = frame.now }))) }
         ensures err { OnErr result (self.new ≡ self.old) }
     {
         let answer = answer(alloc, &self.program, &self.lookups, port, frame)?;
