@@ -13,7 +13,7 @@ use Rattle.rmt_ast.specs.Answers.{counted_numbers, entry_numbers, hits_of, is_co
 use Rattle.rmt_ast.specs.EntryLists.{AreEntries, AreEntriesAt, IsEntry, Terms, terms_at}
 use Rattle.rmt_ast.specs.Events.{Met}
 use Rattle.rmt_plain.specs.Counters.{IsThereIfHit}
-use Rattle.rmt_plain.specs.Stands.{FollowOn, entries_in, numbers_in}
+use Rattle.rmt_plain.specs.Stands.{FollowOn, StaysOrIsNew, entries_in, numbers_in}
 use Rattle.rmt_plain.proofs.HitLaws.{hits_are_numbers}
 
 -- the table of an entry is that of the node in whose list it stands
@@ -97,7 +97,7 @@ module _ (p : Program) where
         let at = counted_at p.nodes next n there in
         let own = Contains-flat_map (λ (es : List Entry). es) next at.es at.entry (Contains-item next at.place at.es at.list_at) at.among in
         All-weaker (Contains hits_so_far) (λ (h : Hit). h.number ≡ n → Contains counted_so_far n)
-        (λ h hit e. elim (All-contains (λ (x : Entry). Contains (entries_in lists) x ⊎ (Contains (flat_map numbers_in so_far) x.number → ⊥)) (entries_in next) at.entry follow own) [
+        (λ h hit e. elim (All-contains (StaysOrIsNew so_far lists) (entries_in next) at.entry follow own) [
           | inl stands ↦ still_counted n at stands
           | inr new ↦ absurd (new (subst (Contains (flat_map numbers_in so_far)) (e ∙ sym at.number_is) (hit_stood h hit)))
         ])

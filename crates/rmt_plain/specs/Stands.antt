@@ -21,10 +21,13 @@ entries_in lists = flat_map (λ (es : List Entry). es) lists
 abbrev pub numbers_in : List (List Entry) → List ℕ
 numbers_in lists = flat_map entry_numbers lists
 
--- the entries that follow on others: each stands among those, or has a number that no entry so far had
+-- an entry that stands among these, or has a number that no entry so far had
+abbrev pub StaysOrIsNew : List (List (List Entry)) → List (List Entry) → Entry → Type 0
+StaysOrIsNew so_far lists e = Contains (entries_in lists) e ⊎ (Contains (flat_map numbers_in so_far) e.number → ⊥)
+
+-- entries that follow on those so far, of which these are the last
 abbrev pub FollowOn : List (List (List Entry)) → List (List Entry) → List (List Entry) → Type 0
-FollowOn so_far lists next =
-    All (λ (e : Entry). Contains (entries_in lists) e ⊎ (Contains (flat_map numbers_in so_far) e.number → ⊥)) (entries_in next)
+FollowOn so_far lists next = All (StaysOrIsNew so_far lists) (entries_in next)
 
 -- the counters of the entries so far, a list of lists for each commit: one for each entry of a counted table, with the
 -- packets that hit it while it stood
