@@ -2,6 +2,7 @@ pub mod AnswerLaws
 pub mod BestLaws
 pub mod CommitLaws
 pub mod CounterLaws
+pub mod EventLaws
 pub mod Examples
 pub mod FieldLaws
 pub mod FindLaws

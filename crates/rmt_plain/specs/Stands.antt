@@ -9,7 +9,8 @@ use Rattle.rmt_ast.specs.declared.entry.Entry.{Entry}
 use Rattle.rmt_ast.specs.WellFormed.{IsProgram}
 use Rattle.rmt_ast.specs.EntryLists.{AreEntries}
 use Rattle.rmt_ast.specs.Answers.{counted_numbers, entry_numbers, hits_of}
-use Rattle.rmt_ast.specs.Events.{Met}
+use Rattle.rmt_ast.specs.Changes.{Installed, at_first, committed}
+use Rattle.rmt_ast.specs.Events.{Arrives, Commits, Event, Met, lists_from, met_from}
 use Rattle.rmt_plain.specs.declared.plain.Plain.{Plain}
 use Rattle.rmt_plain.specs.Running.{AreLookups}
 
@@ -53,3 +54,16 @@ meets lists packet = record { lists = lists; packet = packet }
 -- a plain run of this program with these entries stands for the packets so far, all of which met these entries
 abbrev pub Stands : Program → List (List Entry) → List Packet → Plain → Type 0
 Stands p lists packets plain = HasMet p (lists ∷ []) lists (map (meets lists) packets) plain
+
+-- ---- a run over packets and commits
+
+-- the entries as the commits leave them, and the number that the next entry gets
+abbrev pub entries_after : Installed → List Event → Installed
+entries_after s [] = s
+entries_after s ((Arrives packet) ∷ events) = entries_after s events
+entries_after s ((Commits changes) ∷ events) = entries_after (committed s changes) events
+
+-- a plain run of this program that began with these entries stands for the packets and commits so far
+abbrev pub HasTaken : Program → List (List Entry) → List Event → Plain → Type 0
+HasTaken p lists events plain =
+    HasMet p (lists_from (at_first lists) events) (entries_after (at_first lists) events).lists (met_from (at_first lists) events) plain
