@@ -1,5 +1,5 @@
 -- The earliest place that groups have for a key is that of the first entry that matches.
-use Rattle.std.proofs.Common.{◌≡◌, ℕ, ◌<◌, ◌≤◌, Bool, true, false, cond, List, [], length, map, get_or, Option, Some, None, option_map, refl, sym, ap, subst, ◌∙◌, arith}
+use Rattle.std.proofs.Common.{◌≡◌, ℕ, ◌<◌, ◌≤◌, Bool, true, false, cond, List, length, map, get_or, Option, Some, None, option_map, refl, sym, ap, subst, ◌∙◌, arith}
 use Rattle.std.specs.Prelude.{All, IsSomeAnd, find, slice_get, option_and_then, unwrap_or}
 use Rattle.std.proofs.lemmas.Bool.{false_from_ne_true}
 use Rattle.std.proofs.lemmas.Option.{none-some, slice_get-get_or, slice_get-map, slice_get_within, get_or_from_slice_get}
@@ -8,7 +8,7 @@ use Rattle.rmt_bits.specs.Grouping.{Compared, place_in, best_of, AreGrouped}
 use Rattle.rmt_bits.proofs.BestLaws.{Looks, IsFirstHit, best-first}
 use Rattle.rmt_ast.specs.declared.entry.Entry.{Entry}
 use Rattle.rmt_ast.specs.Lookup.{matches}
-use Rattle.rmt_plain.specs.Grouping.{masks_of, values_of, masked, marked_place, place_for, row_of, IsMarked}
+use Rattle.rmt_plain.specs.Grouping.{masked, marked_place, place_for, row_of, IsMarked}
 use Rattle.rmt_plain.specs.Marks.{is_marked, total_of}
 use Rattle.rmt_plain.proofs.FindLaws.{find-first, find-none}
 use Rattle.rmt_plain.proofs.KeyLaws.{FitsKey, masked-passed, passed-masked}

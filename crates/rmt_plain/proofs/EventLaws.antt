@@ -1,15 +1,14 @@
 -- A plain run over packets and commits: each packet and each commit is one step more.
-use Rattle.std.proofs.Common.{◌≡◌, ℕ, zero, suc, ◌+◌, ◌<◌, ◌≤◌, ◌++◌, max, inl, inr, Bool, true, false, cond, List, [], ◌∷◌, map, refl, sym, ap, subst, ◌∙◌, append-nil, arith}
-use Rattle.std.specs.Prelude.{All, Contains, fold, slice_get, slice_set, unwrap_or}
+use Rattle.std.proofs.Common.{◌≡◌, ℕ, zero, suc, ◌+◌, ◌<◌, ◌≤◌, ◌++◌, max, inl, inr, Bool, true, false, cond, List, [], ◌∷◌, refl, sym, ap, subst, append-nil, arith}
+use Rattle.std.specs.Prelude.{All, Contains, fold, slice_set}
 use Rattle.std.specs.List.{flat_map}
 use Rattle.std.proofs.lemmas.List.Elements.{All-append, All-cons, All-contains, All-contains_itself, All-head, All-map, All-nil, All-set, All-tail, All-weaker}
 use Rattle.rmt_bits.specs.Packet.{Packet}
-use Rattle.rmt_bits.specs.declared.answer.Count.{Count}
 use Rattle.rmt_bits.proofs.AllLaws.{All-flat_map, All-left, All-parts, All-right, All-unmap}
 use Rattle.rmt_ast.specs.declared.program.Program.{Program}
 use Rattle.rmt_ast.specs.declared.entry.Entry.{Entry}
 use Rattle.rmt_ast.specs.Answers.{entry_numbers}
-use Rattle.rmt_ast.specs.Changes.{Adds, Change, EntryKey, Installed, Removes, added, at_first, changed, committed, is_keyed_by, list_of, next_number, removed, without}
+use Rattle.rmt_ast.specs.Changes.{Adds, Change, EntryKey, Installed, Removes, at_first, changed, committed, is_keyed_by, list_of, next_number, without}
 use Rattle.rmt_ast.specs.Events.{Arrives, Commits, Event, Met, counts_of_events, lists_from, met_from}
 use Rattle.rmt_plain.specs.declared.plain.Plain.{Plain}
 use Rattle.rmt_plain.specs.Stands.{FollowOn, HasMet, HasTaken, StaysOrIsNew, Stands, counts_met, entries_after, entries_in, meets, numbers_in}

@@ -1,7 +1,6 @@
 -- The hits of an answer are numbers of entries.
-use Rattle.std.proofs.Common.{◌≡◌, ℕ, zero, suc, ◌+◌, ◌++◌, List, [], ◌∷◌, Option, Some, None, length, replicate, drop, refl, ap, subst, arith}
-use Rattle.std.specs.Prelude.{All, Contains, map, slice_get, slice_index, unwrap_or, option_map, ◌==◌}
-use Rattle.std.specs.List.{flat_map}
+use Rattle.std.proofs.Common.{◌≡◌, ℕ, zero, suc, ◌+◌, List, [], ◌∷◌, Option, Some, None, length, replicate, refl, ap, subst, arith}
+use Rattle.std.specs.Prelude.{All, Contains, slice_get, slice_index, unwrap_or, option_map, ◌==◌}
 use Rattle.std.proofs.lemmas.Bool.{cond_both}
 use Rattle.std.proofs.lemmas.Option.{none-some}
 use Rattle.std.proofs.lemmas.List.Elements.{All-nil, All-cons, All-append, All-contains, All-contains_itself, Contains-append_left, Contains-append_right}
@@ -18,7 +17,7 @@ use Rattle.rmt_ast.specs.declared.program.What.{What}
 use Rattle.rmt_ast.specs.declared.program.Kind.TheVariants.{Keyless, Exact, Prefix, Ternary}
 use Rattle.rmt_ast.specs.declared.program.What.TheVariants.{Apply, Gate}
 use Rattle.rmt_ast.specs.declared.entry.Entry.{Entry}
-use Rattle.rmt_ast.specs.Answers.{answer_of, answered, entry_numbers, finished, hits_of}
+use Rattle.rmt_ast.specs.Answers.{answer_of, answered, entry_numbers, hits_of}
 use Rattle.rmt_ast.specs.Control.{Run, applied_table, done_by, run, run_from, runs}
 use Rattle.rmt_ast.specs.Lookup.{hit_of, hits}
 use Rattle.rmt_ast.specs.Walk.{Accept, Reject, Short, Walk, walk}

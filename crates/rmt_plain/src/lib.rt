@@ -1,4 +1,5 @@
-//! Runs a packet program on one packet after another, table by table, and counts hits of entries.
+//! Runs a packet program on one packet after another, table by table, and counts hits of entries. Between packets the
+//! entries may change.
 #![tactic(auto)]
 
 mod act;

@@ -1,7 +1,6 @@
 use Rattle.std.proofs.Common.{◌≡◌, ◌<◌, ◌++◌, ◌∷◌, [], ℕ, List, length, get_or, take, map, sym, ap, subst, ◌∙◌, arith}
 use Rattle.std.proofs.lemmas.List.{take_more, take_all, length-take-le, length-map, map_push}
 use Rattle.rmt_bits.specs.Grouping.{Compared, AreGrouped, AreIndexed}
-use Rattle.rmt_ast.specs.declared.entry.Entry.{Entry}
 use Rattle.rmt_ast.specs.declared.program.Test.{Test}
 use Rattle.rmt_plain.specs.Grouping.{masks_of, values_of, row_of}
 use Rattle.rmt_plain.proofs.grouping.groups_of.Goals as goal

@@ -7,7 +7,6 @@ use Rattle.rmt_ast.specs.declared.program.Program.{Program}
 use Rattle.rmt_ast.specs.declared.entry.Entry.{Entry}
 use Rattle.rmt_ast.specs.Answers.{counted_numbers}
 use Rattle.rmt_ast.specs.Events.{Met}
-use Rattle.rmt_plain.specs.declared.lookup.Lookup.{Lookup}
 use Rattle.rmt_plain.specs.Counters.{IsThereIfHit}
 use Rattle.rmt_plain.specs.Running.{AreLookups}
 use Rattle.rmt_plain.proofs.CommitLaws.{all_there_if_hit}
