@@ -1,74 +1,85 @@
 -- A plain run over packets and commits: each packet and each commit is one step more.
-use Rattle.std.proofs.Common.{◌≡◌, ℕ, zero, suc, ◌+◌, ◌<◌, ◌≤◌, ◌++◌, max, inl, inr, Bool, true, false, cond, List, [], ◌∷◌, refl, sym, ap, subst, append-nil, arith}
+use Rattle.std.proofs.Common.{◌≡◌, ℕ, zero, suc, ◌+◌, ◌<◌, ◌≤◌, ◌++◌, max, inl, inr, Bool, true, false, cond, List, [], ◌∷◌, map, refl, sym, ap, subst, ◌∙◌, append-nil, arith}
 use Rattle.std.specs.Prelude.{All, Contains, fold, slice_set}
 use Rattle.std.specs.List.{flat_map}
+use Rattle.std.proofs.lemmas.List.{map-append}
 use Rattle.std.proofs.lemmas.List.Elements.{All-append, All-cons, All-contains, All-contains_itself, All-head, All-map, All-nil, All-set, All-tail, All-weaker}
 use Rattle.rmt_bits.specs.Packet.{Packet}
+use Rattle.rmt_bits.specs.declared.answer.Answer.{Answer}
 use Rattle.rmt_bits.proofs.AllLaws.{All-flat_map, All-left, All-parts, All-right, All-unmap}
 use Rattle.rmt_ast.specs.declared.program.Program.{Program}
 use Rattle.rmt_ast.specs.declared.entry.Entry.{Entry}
-use Rattle.rmt_ast.specs.Answers.{entry_numbers}
+use Rattle.rmt_ast.specs.Answers.{answer_of, entry_numbers}
 use Rattle.rmt_ast.specs.Changes.{Adds, Change, EntryKey, Installed, Removes, at_first, changed, committed, is_keyed_by, list_of, next_number, without}
-use Rattle.rmt_ast.specs.Events.{Arrives, Commits, Event, Met, counts_of_events, lists_from, met_from}
+use Rattle.rmt_ast.specs.Events.{Arrives, Commits, Event, Met, answers_of_events, counts_of_events, lists_from, met_from}
 use Rattle.rmt_plain.specs.declared.plain.Plain.{Plain}
 use Rattle.rmt_plain.specs.Stands.{FollowOn, HasMet, HasTaken, StaysOrIsNew, Stands, counts_met, entries_after, entries_in, meets, numbers_in}
 
--- ---- one more packet, and one more commit
+-- ---- events behind others, and one more packet or commit
 
-entries_packet : (s : Installed) (events : List Event) (packet : Packet) → entries_after s (events ++ Arrives packet ∷ []) ≡ entries_after s events
-entries_packet s [] packet = refl
-entries_packet s ((Arrives x) ∷ events) packet = entries_packet s events packet
-entries_packet s ((Commits changes) ∷ events) packet = entries_packet (committed s changes) events packet
+pub entries_after-append : (s : Installed) (xs ys : List Event) → entries_after s (xs ++ ys) ≡ entries_after (entries_after s xs) ys
+entries_after-append s [] ys = refl
+entries_after-append s ((Arrives packet) ∷ xs) ys = entries_after-append s xs ys
+entries_after-append s ((Commits changes) ∷ xs) ys = entries_after-append (committed s changes) xs ys
+
+pub met_from-append : (s : Installed) (xs ys : List Event) → met_from s (xs ++ ys) ≡ met_from s xs ++ met_from (entries_after s xs) ys
+met_from-append s [] ys = refl
+met_from-append s ((Arrives packet) ∷ xs) ys = ap (λ (ms : List Met). meets s.lists packet ∷ ms) (met_from-append s xs ys)
+met_from-append s ((Commits changes) ∷ xs) ys = met_from-append (committed s changes) xs ys
 
 lists_packet : (s : Installed) (events : List Event) (packet : Packet) → lists_from s (events ++ Arrives packet ∷ []) ≡ lists_from s events
 lists_packet s [] packet = refl
 lists_packet s ((Arrives x) ∷ events) packet = lists_packet s events packet
 lists_packet s ((Commits changes) ∷ events) packet = ap (λ (ls : List (List (List Entry))). s.lists ∷ ls) (lists_packet (committed s changes) events packet)
 
-met_packet : (s : Installed) (events : List Event) (packet : Packet) → met_from s (events ++ Arrives packet ∷ []) ≡ met_from s events ++ meets (entries_after s events).lists packet ∷ []
-met_packet s [] packet = refl
-met_packet s ((Arrives x) ∷ events) packet = ap (λ (ms : List Met). meets s.lists x ∷ ms) (met_packet s events packet)
-met_packet s ((Commits changes) ∷ events) packet = met_packet (committed s changes) events packet
-
-entries_commit : (s : Installed) (events : List Event) (changes : List Change) → entries_after s (events ++ Commits changes ∷ []) ≡ committed (entries_after s events) changes
-entries_commit s [] changes = refl
-entries_commit s ((Arrives x) ∷ events) changes = entries_commit s events changes
-entries_commit s ((Commits more) ∷ events) changes = entries_commit (committed s more) events changes
-
-lists_commit : (s : Installed) (events : List Event) (changes : List Change) → lists_from s (events ++ Commits changes ∷ []) ≡ lists_from s events ++ (committed (entries_after s events) changes).lists ∷ []
+lists_commit : (s : Installed) (events : List Event) (changes : List Change)
+    → lists_from s (events ++ Commits changes ∷ []) ≡ lists_from s events ++ (committed (entries_after s events) changes).lists ∷ []
 lists_commit s [] changes = refl
 lists_commit s ((Arrives x) ∷ events) changes = lists_commit s events changes
 lists_commit s ((Commits more) ∷ events) changes = ap (λ (ls : List (List (List Entry))). s.lists ∷ ls) (lists_commit (committed s more) events changes)
 
-met_commit : (s : Installed) (events : List Event) (changes : List Change) → met_from s (events ++ Commits changes ∷ []) ≡ met_from s events
-met_commit s [] changes = refl
-met_commit s ((Arrives x) ∷ events) changes = ap (λ (ms : List Met). meets s.lists x ∷ ms) (met_commit s events changes)
-met_commit s ((Commits more) ∷ events) changes = met_commit (committed s more) events changes
-
 module _ (p : Program) (lists : List (List Entry)) where
+  -- the entries so far, those that stand now, and the packets with what they met
+  abbrev so_far_of : List Event → List (List (List Entry))
+  so_far_of events = lists_from (at_first lists) events
+
+  abbrev now_of : List Event → Installed
+  now_of events = entries_after (at_first lists) events
+
+  abbrev met_of : List Event → List Met
+  met_of events = met_from (at_first lists) events
+
   -- before the first event
   pub taken_first : (plain : Plain) → Stands p lists [] plain → HasTaken p lists [] plain
   taken_first plain stands = stands
 
   -- what `packet` leaves
   pub taken_packet : (events : List Event) (packet : Packet) (plain : Plain)
-      → HasMet p (lists_from (at_first lists) events) (entries_after (at_first lists) events).lists (met_from (at_first lists) events ++ meets (entries_after (at_first lists) events).lists packet ∷ []) plain
+      → HasMet p (so_far_of events) (now_of events).lists (met_of events ++ meets (now_of events).lists packet ∷ []) plain
       → HasTaken p lists (events ++ Arrives packet ∷ []) plain
   taken_packet events packet plain h =
       let s = at_first lists in
-      rw (lists_packet s events packet, entries_packet s events packet, met_packet s events packet) h
+      rw (lists_packet s events packet, entries_after-append s events (Arrives packet ∷ []), met_from-append s events (Arrives packet ∷ [])) h
 
-  -- what `commit` leaves
+  -- what `commit` leaves of the entries that changes give
   pub taken_commit : (events : List Event) (changes : List Change) (plain : Plain)
-      → HasMet p (lists_from (at_first lists) events ++ (committed (entries_after (at_first lists) events) changes).lists ∷ []) (committed (entries_after (at_first lists) events) changes).lists (met_from (at_first lists) events) plain
+      → HasMet p (so_far_of events ++ (committed (now_of events) changes).lists ∷ []) (committed (now_of events) changes).lists (met_of events) plain
       → HasTaken p lists (events ++ Commits changes ∷ []) plain
   taken_commit events changes plain h =
       let s = at_first lists in
-      rw (lists_commit s events changes, entries_commit s events changes, met_commit s events changes) h
+      let none = append-nil (met_from s events) in
+      rw (lists_commit s events changes, entries_after-append s events (Commits changes ∷ []), met_from-append s events (Commits changes ∷ []), none) h
 
-  -- the counters that `counters` gives
-  pub taken_counts : (events : List Event) → counts_met p (lists_from (at_first lists) events) (met_from (at_first lists) events) ≡ counts_of_events p lists events
+  -- what `counters` gives
+  pub taken_counts : (events : List Event) → counts_met p (so_far_of events) (met_of events) ≡ counts_of_events p lists events
   taken_counts events = refl
+
+  -- the answers to further packets come behind
+  pub answers-append : (xs ys : List Event)
+      → answers_of_events p lists (xs ++ ys) ≡ answers_of_events p lists xs ++ map (λ (m : Met). answer_of p m.lists m.packet) (met_from (now_of xs) ys)
+  answers-append xs ys =
+      let answer : Met → Answer = λ m. answer_of p m.lists m.packet in
+      ap (map answer) (met_from-append (at_first lists) xs ys) ∙ map-append answer (met_of xs) (met_from (now_of xs) ys)
 
 -- ---- the entries that changes leave follow on those so far
 
