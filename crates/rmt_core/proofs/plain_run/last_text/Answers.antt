@@ -12,4 +12,4 @@ if_ok (Err e) f h = tt
 pub returns-in-None : goal.returns-in-None
 returns-in-None c =
     rw c.in-None.is
-    (if_ok c.count_lines.result (λ text is p lists done stands. is ∙ ap (flat_map count_line) (c.counters.ensures p lists done stands)) c.count_lines.ensures)
+    (if_ok c.count_lines.result (λ text is p lists done stands. is ∙ ap (flat_map count_line) (c.counters.ensures.packets p lists done stands)) c.count_lines.ensures)
