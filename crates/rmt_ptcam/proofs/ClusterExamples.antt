@@ -11,9 +11,9 @@ use Rattle.rmt_config.specs.declared.config.Next.TheVariants as next
 use Rattle.rmt_config.specs.Parser.{parse, Short}
 use Rattle.rmt_config.specs.ParserForm.{parser_is_formed}
 use Rattle.rmt_ptcam.specs.Plain.{plain}
-use Rattle.rmt_ptcam.specs.Joining.{join_of, byte_at, spread, together}
+use Rattle.rmt_ptcam.specs.Joining.{join_of, can_join, byte_at, spread, together}
 use Rattle.rmt_ptcam.specs.Clustering.{arrivals, clustered}
-use Rattle.rmt_ptcam.specs.Joins.{joins as joins_told, replayed}
+use Rattle.rmt_ptcam.specs.Joins.{join_named, joins as joins_told, replayed}
 
 abbrev lane : ℕ → ℕ → ℕ → Lane
 lane word low len = record { word = word; low = low; len = len }
@@ -246,6 +246,22 @@ others : joins (pair_of [] [] (record (first_of 2 1) { advance = 1 }) (second_of
     ≡ false ∷ false ∷ false ∷ false ∷ []
 unfolding together
 others = refl
+
+-- a state without an entry, and an entry that isn't among its state's own
+abbrev lone : ParserConfig
+lone = record { states = record { lookups = [] } ∷ record { lookups = [] } ∷ []; entries = first_of 1 1 ∷ []; tails = [] }
+
+nothing_there : joins lone ∷ is_some (join_named lone (record { state = 0; entry = 1 })) ∷ is_some (join_named lone (record { state = 1; entry = 0 })) ∷ [] ≡ false ∷ false ∷ false ∷ []
+unfolding together
+nothing_there = refl
+
+-- 16,384 entries, and 16,385
+abbrev many : ℕ → ParserConfig
+many count = record { states = record { lookups = [] } ∷ record { lookups = [] } ∷ []; entries = replicate count (first_of 1 1) ++ second_of 1 1 ∷ second_of 1 1 ∷ []; tails = [] }
+
+entries_16384 : can_join (many 16381) 0 (first_of 1 1) 1 ∷ can_join (many 16382) 0 (first_of 1 1) 1 ∷ [] ≡ true ∷ false ∷ []
+unfolding together
+entries_16384 = refl
 
 -- a header of two entries that one case alone goes to is joined, and one that nothing goes to is left out
 abbrev three : Program

@@ -36,10 +36,14 @@ pub record Clustering : Type 0 where
   pub parser : ParserConfig
   pub at : ℕ
 
+-- how many entries stand for one of a parser in another, in which the others are as many
+abbrev pub stand_for_one : ParserConfig → ParserConfig → ℕ
+stand_for_one parser q = length q.entries + 1 - length parser.entries
+
 -- behind the entries that stand for the one that was looked at
 abbrev pub behind_join : Clustering → Option ParserConfig → Clustering
 behind_join c None = record c { at = c.at + 1 }
-behind_join c (Some q) = record { parser = q; at = c.at + (length q.entries + 1 - length c.parser.entries) }
+behind_join c (Some q) = record { parser = q; at = c.at + stand_for_one c.parser q }
 
 -- one entry, joined where it is wanted and can be
 abbrev pub one_entry : Program → Clustering → Option ParserEntry → Clustering

@@ -57,10 +57,18 @@ is_among xs x = list_any (λ y. y == x) xs
 unfoldable pub together : List ℕ → ℕ → List ℕ → List ℕ
 together here bytes there = filter (λ o. is_among here o || (nat_le bytes o && is_among there (o - bytes))) (range_with_len 0 128)
 
+-- the highest byte of 32 bits
+abbrev pub first_byte : ℕ → ℕ
+first_byte word = slice word 24 8
+
+-- 32 bits without their highest byte, the others moved up
+abbrev pub other_bytes : ℕ → ℕ
+other_bytes word = word % 2 ^ 24 * 256
+
 -- the byte of 32 bits that stands for an offset among lookups, of which the first has the highest byte; 0 where it isn't looked up
 abbrev pub byte_at : List ℕ → ℕ → ℕ → ℕ
 byte_at [] word offset = 0
-byte_at (l ∷ ls) word offset = if l == offset then slice word 24 8 else byte_at ls (word % 2 ^ 24 * 256) offset
+byte_at (l ∷ ls) word offset = if l == offset then first_byte word else byte_at ls (other_bytes word) offset
 
 -- 32 bits over some lookups as 32 bits over others, with 0 at those that are new
 abbrev pub spread : List ℕ → List ℕ → ℕ → ℕ

@@ -50,16 +50,6 @@ fn moved(extract: Extract, bytes: u8) -> Extract
     }
 }
 
-/// Adds extracts.
-fn push_extracts(extracts: &mut Sequence<Extract>, others: &[Extract]) -> Result<(), AllocError>
-    ensures { OnOk result (extracts.new ≡ extracts.old ++ others.now) }
-{
-    for extract in others {
-        extracts.push(*extract)?;
-    }
-    Ok(())
-}
-
 /// Adds extracts, so many bytes behind.
 fn push_moved(
     extracts: &mut Sequence<Extract>,
@@ -79,9 +69,7 @@ fn push_moved(
 pub fn copied_extracts(alloc: Global, extracts: &[Extract]) -> Result<Sequence<Extract>, AllocError>
     ensures { IfOk result (λ copy. copy ≡ extracts.now) }
 {
-    let mut copy = Sequence::new(alloc);
-    push_extracts(&mut copy, extracts)?;
-    Ok(copy)
+    Ok(Sequence::from_vec(Vec::from_slice(alloc, extracts)?))
 }
 
 /// A copy of an entry that compares the same bytes where its state has more lookups.
@@ -137,8 +125,7 @@ fn joined_entry(
     ensures { IfOk result (λ e. e ≡ joined_entry_of here.now there.now first.now second.now) }
 {
     let bytes = first.advance;
-    let mut extracts = Sequence::new(alloc);
-    push_extracts(&mut extracts, first.extracts.as_slice())?;
+    let mut extracts = copied_extracts(alloc, first.extracts.as_slice())?;
     push_moved(&mut extracts, second.extracts.as_slice(), bytes)?;
     Ok(ParserEntry {
         state: first.state,

@@ -93,7 +93,7 @@ fn behind_joins(
 /// Makes joins on a parser, one after another; then states that can't be met are left out, and the others numbered in order.
 ///
 /// It is `None` where the entry of a join isn't there by then, or can't be joined, as `join` says. A join that can't be made
-/// ends the work, and copies nothing.
+/// ends the work, and copies nothing; one that is made takes the time of one copy of the parser.
 ///
 /// # Errors
 ///
