@@ -110,10 +110,10 @@ join_keeps parser at e m there on can keeps = joined_keeps parser keeps at e m t
 
 module _ (count : ℕ) where
   -- tails of the first so many headers
-  abbrev IsLow : TailOf → Type 0
+  abbrev pub IsLow : TailOf → Type 0
   IsLow t = t.header < count
 
-  abbrev AreLow : ParserConfig → Type 0
+  abbrev pub AreLow : ParserConfig → Type 0
   AreLow parser = All IsLow parser.tails
 
   abbrev IsLowRow : Row → Type 0
@@ -141,7 +141,7 @@ module _ (count : ℕ) where
   moved_low bytes None low = tt
   moved_low bytes (Some t) low = low
 
-  join_low : StaysUnderJoins AreLow
+  pub join_low : StaysUnderJoins AreLow
   join_low parser at e m there on can low =
       let here = lookups_at parser.states e.state in
       let behind = lookups_at parser.states m in
@@ -151,7 +151,7 @@ module _ (count : ℕ) where
       (λ k d lt. moved_low e.advance (get_or (rows_in m (rows_of parser)) k d).tail (All-filter (λ (x : Row). eqb x.entry.state m) IsLowRow (rows_of parser) all k d lt)) in
       tails_low 0 (rows_joined parser at e m) (rows_hold IsLowRow (λ from to x is. is) parser at e m all own)
 
-  compact_low : (parser : ParserConfig) → AreLow parser → AreLow (compact parser)
+  pub compact_low : (parser : ParserConfig) → AreLow parser → AreLow (compact parser)
   compact_low parser low =
       let met : Row → Bool = λ x. is_met parser x.entry.state in
       tails_low 0 (map (renamed (is_met parser)) (filter met (rows_of parser)))
@@ -161,13 +161,13 @@ module _ (count : ℕ) where
   header_low p n a h None lt = All-nil IsLow
   header_low p n a h (Some t) lt = All-map IsLow (tail_at p n h t) (range_with_len a (entry_count h)) (λ k d inside. lt)
 
-  plain_low : (p : Program) (n a : ℕ) (hs : List Header) → n + length hs ≤ count → All IsLow (tails_from p n a hs)
+  pub plain_low : (p : Program) (n a : ℕ) (hs : List Header) → n + length hs ≤ count → All IsLow (tails_from p n a hs)
   plain_low p n a [] le = All-nil IsLow
   plain_low p n a (h ∷ hs) le =
       All-append IsLow (tails_for p n h a h.tail) (tails_from p (n + 1) (a + entry_count h) hs) (header_low p n a h h.tail (omega (arith, le)))
       (plain_low p (n + 1) (a + entry_count h) hs (omega (arith, le)))
 
-  low_all : (ts : List TailOf) → All IsLow ts → list_all (λ (t : TailOf). nat_lt t.header count) ts ≡ true
+  pub low_all : (ts : List TailOf) → All IsLow ts → list_all (λ (t : TailOf). nat_lt t.header count) ts ≡ true
   low_all [] low = refl
   low_all (t ∷ ts) low =
       and_from (nat_lt t.header count) (list_all (λ (x : TailOf). nat_lt x.header count) ts) (lt-ltb t.header count (All-head IsLow t ts low)) (low_all ts (All-tail IsLow t ts low))

@@ -32,3 +32,4 @@ pub mod StepsLaws
 pub mod JoinsHold
 pub mod FormedParsers
 pub mod JoinsLaws
+pub mod ReplayLaws
