@@ -582,13 +582,13 @@ arrivals-append (g ∷ xs) ys m =
     omega (arith, a, b, c)
 
 -- the headers before n are as in the plain parser
-record IsWaiting (p : Program) (limit n : ℕ) (parser : ParserConfig) : Type 0 where
-  keeps : KeepsForm parser
-  back : List (ℕ × Next)
-  split : shapes parser ≡ shapes_from 0 (take n p.headers) ++ back
-  back_high : All (λ (x : ℕ × Next). n ≤ x.0) back
-  back_edges : (m : ℕ) → arrivals_in (drop n p.headers) m ≡ 0 → edges m back ≡ 0
-  few : busy (shapes parser) ≤ limit
+pub record IsWaiting (p : Program) (limit n : ℕ) (parser : ParserConfig) : Type 0 where
+  pub keeps : KeepsForm parser
+  pub back : List (ℕ × Next)
+  pub split : shapes parser ≡ shapes_from 0 (take n p.headers) ++ back
+  pub back_high : All (λ (x : ℕ × Next). n ≤ x.0) back
+  pub back_edges : (m : ℕ) → arrivals_in (drop n p.headers) m ≡ 0 → edges m back ≡ 0
+  pub few : busy (shapes parser) ≤ limit
 
 module _ (p : Program) (limit n : ℕ) (h : Header) (found : slice_get p.headers n ≡ Some h) (parser : ParserConfig) (is : IsWaiting p limit (n + 1) parser) where
   abbrev ts : List Target
@@ -637,7 +637,7 @@ module _ (p : Program) (limit n : ℕ) (h : Header) (found : slice_get p.headers
       let e = count_none q is.back (All-weaker (λ (x : ℕ × Next). n < x.0) (λ (x : ℕ × Next). q x ≡ false) (λ (x : ℕ × Next) lt. le-ltb x.0 n (omega (arith, lt))) is.back back_is_high) in
       omega (arith, a, b, c, d, e)
 
-  own_many : length (entries_in n parser.entries) ≡ length ts
+  pub own_many : length (entries_in n parser.entries) ≡ length ts
   own_many =
       let q : ℕ × Next → Bool = λ x. eqb x.0 n in
       let a = count_shapes q in
@@ -666,7 +666,7 @@ module _ (p : Program) (limit n : ℕ) (h : Header) (found : slice_get p.headers
   }
 
   -- the header is done
-  header_done : IsWaiting p limit n (one_header p parser n)
+  pub header_done : IsWaiting p limit n (one_header p parser n)
   header_done =
       let ended : IsRunning (arrivals_in (take n p.headers)) (λ m. count (goes_to m) ts) (arrivals_in (drop (n + 1) p.headers)) limit n front [] (some_entries p (length (entries_in n parser.entries)) (record { parser = parser; at = number_of_entry parser.entries n 0 })) =
       subst (λ k. IsRunning (arrivals_in (take n p.headers)) (λ m. count (goes_to m) ts) (arrivals_in (drop (n + 1) p.headers)) limit n front [] (some_entries p k (record { parser = parser; at = number_of_entry parser.entries n 0 }))) (sym own_many)
@@ -767,20 +767,22 @@ compact_few parser =
       | inr none ↦ absurd cc
     ]
 
+-- all headers are as in the plain parser
+pub plain_waits : (p : Program) (places : List (List Lane)) → KeepsForm (plain p places) → IsWaiting p (length (plain p places).entries) (length p.headers) (plain p places)
+plain_waits p places keeps = record {
+  keeps = keeps;
+  back = [];
+  split = entries_shapes p places 0 p.headers ∙ ap (shapes_from 0) (sym (take_all (length p.headers) p.headers (omega arith))) ∙ sym (append-nil (shapes_from 0 (take (length p.headers) p.headers)));
+  back_high = All-nil (λ (x : ℕ × Next). length p.headers ≤ x.0);
+  back_edges = λ m none. refl;
+  few = let a = filter_short (λ (x : ℕ × Next). arrived (shapes (plain p places)) x.0) (shapes (plain p places)) in let b = length-map (plain p places).entries shape in omega (arith, a, b);
+}
+
 -- no more entries than the plain parser has
 pub clustered_few : (p : Program) (places : List (List Lane)) → KeepsForm (plain p places) → length (clustered p places).entries ≤ length (plain p places).entries
 clustered_few p places keeps =
     let limit : ℕ = length (plain p places).entries in
-    let start : IsWaiting p limit (length p.headers) (plain p places) =
-    record {
-      keeps = keeps;
-      back = [];
-      split = entries_shapes p places 0 p.headers ∙ ap (shapes_from 0) (sym (take_all (length p.headers) p.headers (omega arith))) ∙ sym (append-nil (shapes_from 0 (take (length p.headers) p.headers)));
-      back_high = All-nil (λ (x : ℕ × Next). length p.headers ≤ x.0);
-      back_edges = λ m none. refl;
-      few = let a = filter_short (λ (x : ℕ × Next). arrived (shapes (plain p places)) x.0) (shapes (plain p places)) in let b = length-map (plain p places).entries shape in omega (arith, a, b);
-    } in
-    let ended : IsWaiting p limit 0 (all_joined p (plain p places)) = waiting_all p limit (length p.headers) (plain p places) (omega arith) start in
+    let ended : IsWaiting p limit 0 (all_joined p (plain p places)) = waiting_all p limit (length p.headers) (plain p places) (omega arith) (plain_waits p places keeps) in
     let a = compact_few (all_joined p (plain p places)) in
     let b = ended.few in
     omega (arith, a, b)

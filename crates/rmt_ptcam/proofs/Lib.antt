@@ -32,4 +32,5 @@ pub mod StepsLaws
 pub mod JoinsHold
 pub mod FormedParsers
 pub mod JoinsLaws
+pub mod JoinsCount
 pub mod ReplayLaws

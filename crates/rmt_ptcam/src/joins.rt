@@ -44,6 +44,8 @@ pub fn joins_of(
     requires places { KeepsApart program.now places.now }
     // Which joins, or which refusal, unless memory runs out.
     ensures made { result ≢ Err NoMemory → result ≡ joins_or program.now places.now }
+    // No entry of the plain parser is joined twice, so they are few.
+    ensures few { IfOk result (λ joins. length joins ≤ 256) }
     // Made again on the plain parser, they give the clustered one.
     ensures replay { IfOk result (λ joins. replayed_of (plain program.now places.now) joins ≡ Some (clustered program.now places.now)) }
 {
