@@ -14,3 +14,11 @@ appended_four r front a b c d o1 o2 o3 o4 e1 e2 e3 last =
 pub appended_as : {T E : Type 0} (r : Result T E) (new old text same : List ℕ) → new ≡ cond (is_ok r) (old ++ text) old → text ≡ same → OnOk r (new ≡ old ++ same)
 appended_as (Ok x) new old text same e is = e ∙ ap (λ (t : List ℕ). old ++ t) is
 appended_as (Err x) new old text same e is = tt
+
+-- five pieces likewise
+pub appended_five : {T E : Type 0} (r : Result T E) (front a b c d e o1 o2 o3 o4 o5 : List ℕ) → o1 ≡ front ++ a → o2 ≡ o1 ++ b → o3 ≡ o2 ++ c → o4 ≡ o3 ++ d
+    → OnOk r (o5 ≡ o4 ++ e) → OnOk r (o5 ≡ front ++ (a ++ b ++ c ++ d ++ e))
+appended_five r front a b c d e o1 o2 o3 o4 o5 e1 e2 e3 e4 last =
+    let so_far : o3 ≡ front ++ (a ++ b ++ c) = e3 ∙ ap (λ (x : List ℕ). x ++ c) (e2 ∙ ap (λ (x : List ℕ). x ++ b) e1) ∙ simp append_assoc in
+    let whole : o4 ≡ front ++ (a ++ b ++ c ++ d) = e4 ∙ ap (λ (x : List ℕ). x ++ d) so_far ∙ append_assoc front (a ++ b ++ c) d in
+    on_ok_weaker r (λ l. l ∙ ap (λ (x : List ℕ). x ++ e) whole ∙ append_assoc front (a ++ b ++ c ++ d) e) last

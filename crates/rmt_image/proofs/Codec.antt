@@ -11,6 +11,7 @@ use Rattle.rmt_config.specs.Spelling.{two_bytes, four_bytes}
 use Rattle.rmt_image.specs.declared.fault.ReadFault.{ReadFault}
 use Rattle.rmt_image.specs.declared.fault.ReadFault.TheVariants.{Short, Form}
 use Rattle.rmt_image.specs.Readers.{◌>>=◌, Reader, give, behind, made, kept, where_, when, no_other, chosen, items_at, list_at, each, listed, byte_at, number_at}
+use Rattle.rmt_image.specs.ReadingNames.{bytes_at}
 
 -- the value of a step that did not fail
 pub bind_ok : {A B : Type 0} (r : Result A ReadFault) (f : A → Result B ReadFault) (y : B) → (r >>= f) ≡ Ok y → (x : A) × (r ≡ Ok x) × (f x ≡ Ok y)
@@ -235,7 +236,7 @@ codec_items {A} {read} {spell} after least c n = record {
 -- a count, and a list of that many items
 pub codec_listed : {A : Type 0} {count : Reader ℕ} {number : ℕ → List ℕ} {N M : ℕ → Type 0} {items : ℕ → Reader (List A)} {text : List A → List ℕ} {Q : List A → Type 0}
     → Codec count number N M → ((n : ℕ) → Codec (items n) text (λ xs. (length xs ≡ n) × Q xs) (λ xs. length xs ≡ n))
-    → Codec (listed count items) (λ xs. number (length xs) ++ text xs) (λ xs. N (length xs) × Q xs) (λ _. Unit {0})
+    → Codec (listed count items) (λ xs. number (length xs) ++ text xs) (λ xs. N (length xs) × Q xs) (λ xs. M (length xs))
 codec_listed {A} {count} {number} {N} {M} {items} {text} {Q} n c = record {
   takes = λ bytes xs rest fits e.
       let a = bind_ok (count bytes) (λ (k : ℕ × List ℕ). items k.0 k.1) (xs, rest) e in
@@ -244,7 +245,7 @@ codec_listed {A} {count} {number} {N} {M} {items} {text} {Q} n c = record {
       record {
         parts = t1.parts ∙ ap (λ (t : List ℕ). number a.0.0 ++ t) t2.parts ∙ ap (λ (k : ℕ). number k ++ (text xs ++ rest)) (sym t2.fact) ∙ sym (append_assoc (number (length xs)) (text xs) rest);
         rest_fits = t2.rest_fits;
-        fact = tt;
+        fact = subst M (sym t2.fact) t1.fact;
       };
   again = λ xs rest p.
       ap (listed count items) (append_assoc (number (length xs)) (text xs) rest)
@@ -315,6 +316,21 @@ codec_number n = record {
       let len = length-bytes_of n x in
       let long : ltb (length (bytes_of n x ++ rest)) n ≡ false = le-ltb _ _ (omega (arith, length-append (bytes_of n x) rest, len)) in
       rw (long, take_at (bytes_of n x) rest n len, drop_at (bytes_of n x) rest n len, number_of-bytes_of n x lt) refl;
+}
+
+-- that many bytes, as they stand
+pub bytes_codec : (n : ℕ) → Codec (bytes_at n) (λ bs. bs) (λ bs. (length bs ≡ n) × Unit {0}) (λ bs. length bs ≡ n)
+unfolding bytes_at
+bytes_codec n = record {
+  takes = λ bytes x rest fits e.
+      let whole : List ℕ × List ℕ = (take n bytes, drop n bytes) in
+      let g = guard_ok (ltb (length bytes) n) Short whole (x, rest) e in
+      let long : n ≤ length bytes = ltb-false _ _ g.0 in
+      subst (λ (y : List ℕ × List ℕ). Took bytes y.0 y.1 (length y.0 ≡ n)) g.1
+      (record { parts = sym (take-append-drop n bytes); rest_fits = AreBytes-drop n bytes fits; fact = omega (arith, length-take n bytes, long) });
+  again = λ x rest p.
+      let long : ltb (length (x ++ rest)) n ≡ false = le-ltb _ _ (omega (arith, length-append x rest, p.0)) in
+      rw (long, take_at x rest n p.0, drop_at x rest n p.0) refl;
 }
 
 pub two_codec : Codec (number_at 2) two_bytes (λ n. n < 2 ^ 16) (λ _. Unit {0})

@@ -3,7 +3,6 @@ use Rattle.std.proofs.Common.{◌≡◌, ℕ, zero, suc, ◌+◌, ◌-◌, ◌*�
 use Rattle.std.specs.List.{flat_map, list_all}
 use Rattle.std.specs.Prelude.{bit_and}
 use Rattle.std.proofs.lemmas.Bool.{ltb-true, eqb-true, leb-true, le-leb, and_parts, and_from}
-use Rattle.std.proofs.lemmas.List.{nil_from_length}
 use Rattle.std.proofs.lemmas.Nat.{and_le_r}
 use Rattle.rmt_bits.specs.Words.{word_size}
 use Rattle.rmt_bits.specs.declared.lane.Lane.{Lane}
@@ -12,14 +11,13 @@ use Rattle.rmt_config.specs.declared.config.Next.TheVariants as next
 use Rattle.rmt_config.specs.declared.config.Extract.TheVariants.{Bits, One}
 use Rattle.rmt_config.specs.Order.{rises_from, never_falls_from}
 use Rattle.rmt_config.specs.LaneForm.{lane_is_formed, is_lane_of, header_is_formed, headers_are_formed}
-use Rattle.rmt_config.specs.Parser.{has_no_tail}
 use Rattle.rmt_config.specs.ParserForm.{state_is_formed, states_are_formed, extract_is_formed, next_is_formed, lookups_of, match_is_formed, entry_is_formed, parser_is_formed}
 use Rattle.rmt_config.specs.Spelling.{two_bytes, four_bytes, spelled_list8, spelled_list16, spelled_flag, spelled_lane, spelled_header, spelled_state, spelled_next, spelled_extract, spelled_entry, spelled_parser}
 use Rattle.rmt_image.specs.declared.reading.parser.EntryHead.{EntryHead}
-use Rattle.rmt_image.specs.Readers.{kept, byte_at, is_flag, is_one, flag_at}
-use Rattle.rmt_image.specs.Reading.{word_at, lane_of_parts, lane_from_at, lane_at, has_bits, lane_of_at, header_of_parts, header_size_fits, is_covered, at_most, at_least, header_at, headers_at, offset_at, one_more, state_of_parts, state_at, states_at, entry_state_at, match_fits, match_at, need_fits, need_at, later_state_at, accepts, rejects, next_at, bits_of_parts, lies_in, bits_at, extract_at, head_of_parts, entry_head_at, entry_of_parts, entry_at, state_of, parser_of_parts, parser_at}
+use Rattle.rmt_image.specs.Readers.{kept, byte_at, is_flag, is_one, flag_at, at_most, at_least}
+use Rattle.rmt_image.specs.Reading.{word_at, lane_of_parts, lane_from_at, lane_at, has_bits, lane_of_at, header_of_parts, header_size_fits, is_covered, header_at, headers_at, offset_at, one_more, state_of_parts, state_at, states_at, entry_state_at, match_fits, match_at, need_fits, need_at, later_state_at, accepts, rejects, next_at, bits_of_parts, lies_in, bits_at, extract_at, head_of_parts, entry_head_at, entry_of_parts, entry_at, state_of, parser_of_parts, parser_at}
 use Rattle.rmt_bits.proofs.TestLaws.{split2, split3, split4, split6, split8}
-use Rattle.rmt_image.proofs.Codec.{Codec, codec_for, codec_kept, codec_behind, codec_made, codec_give, choices_none, choices_when, codec_chosen, AllAlong, codec_items, codec_listed, byte_codec, two_codec, four_codec, codec_list, alone}
+use Rattle.rmt_image.proofs.Codec.{Codec, codec_for, codec_kept, codec_behind, codec_made, codec_made_known, codec_give, choices_none, choices_when, codec_chosen, AllAlong, codec_items, codec_listed, byte_codec, two_codec, four_codec, codec_list, alone}
 
 -- ---- numbers
 
@@ -262,16 +260,17 @@ entries_along states least (e ∷ es) each order =
     ((p.0, q.0), entries_along states e.state es p.1 q.1)
 
 -- a parser without tails is its states and entries
-parser_whole : (p : ParserConfig) → has_no_tail p ≡ true → parser_of_parts (p.states, p.entries) ≡ p
-parser_whole p none = ap (λ (tails : List TailOf). record p { tails = tails }) (sym (nil_from_length p.tails (eqb-true (length p.tails) 0 none)))
+parser_whole : (p : ParserConfig) → p.tails ≡ [] → parser_of_parts (p.states, p.entries) ≡ p
+parser_whole p none = ap (λ (tails : List TailOf). record p { tails = tails }) (sym none)
 
-pub parser_codec : Codec parser_at spelled_parser (λ p. parser_is_formed p ≡ true) (λ _. Unit {0})
+-- a parser whose tails are read behind it
+pub parser_codec : Codec parser_at spelled_parser (λ p. (parser_is_formed p ≡ true) × (p.tails ≡ [])) (λ p. p.tails ≡ [])
 unfolding parser_at
 parser_codec =
-    codec_made parser_of_parts
+    codec_made_known parser_of_parts
     (codec_behind states_codec (λ (states : List ParserState). codec_listed two_codec (codec_items state_of 0 (entry_codec states))))
-    spelled_parser (λ p. parser_is_formed p ≡ true) (λ a r. refl)
-    (λ p formed.
-    let q = split3 formed in
-    let r = split3 q.1 in
-    ((p.states, p.entries), parser_whole p q.2, refl, (q.0, (ltb-true (length p.entries) 65536 r.0, entries_along p.states 0 p.entries r.1 r.2))))
+    spelled_parser (λ p. (parser_is_formed p ≡ true) × (p.tails ≡ [])) (λ p. p.tails ≡ []) (λ a r. (refl, refl))
+    (λ p keeps.
+    let q = split3 keeps.0 in
+    let r : (ltb (length p.entries) 65536 ≡ true) × (list_all (entry_is_formed p.states) p.entries ≡ true) × (never_falls_from 0 (map state_of p.entries) ≡ true) = split3 q.1 in
+    ((p.states, p.entries), parser_whole p keeps.1, refl, (q.0, (ltb-true (length p.entries) 65536 r.0, entries_along p.states 0 p.entries r.1 r.2))))

@@ -5,5 +5,8 @@ mod ItemLoops
 mod Items
 mod Units
 mod Stages
+mod NameItems
+mod TailItems
+mod NamesCounts
 pub mod Whole
 mod ReadingExamples

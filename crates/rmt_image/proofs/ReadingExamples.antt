@@ -1,7 +1,10 @@
 -- Worked rows of reading: items, and the first fault that is met.
-use Rattle.std.proofs.Common.{◌≡◌, ℕ, List, [], ◌∷◌, Some, None, Ok, Err, refl, true, false}
+use Rattle.std.proofs.Common.{◌≡◌, ℕ, List, [], ◌∷◌, ◌++◌, Some, None, Ok, Err, refl, true, false}
+use Rattle.std.specs.Prelude.{codes}
 use Rattle.rmt_bits.specs.declared.lane.Lane.{Lane}
-use Rattle.rmt_image.specs.Types.{Config, ParserState, Unit as ChipUnit, SlotUnit, Operation, Source}
+use Rattle.rmt_ast.specs.declared.program.Kind.TheVariants as table
+use Rattle.rmt_ast.specs.declared.names.Names.{Names}
+use Rattle.rmt_image.specs.Types.{Config, ParserState, Unit as ChipUnit, SlotUnit, Operation, Source, TailOf}
 use Rattle.rmt_config.specs.declared.config.OpKind.TheVariants as kind
 use Rattle.rmt_config.specs.declared.config.Unit.TheVariants.{Slot}
 use Rattle.rmt_config.specs.declared.config.Next.TheVariants as next
@@ -9,9 +12,13 @@ use Rattle.rmt_config.specs.declared.config.Extract.TheVariants.{Bits, One}
 use Rattle.rmt_config.specs.declared.config.Memory.TheVariants.{Without, Exact, Ternary}
 use Rattle.rmt_config.specs.declared.config.Source.TheVariants.{Word, Held, Constant}
 use Rattle.rmt_config.specs.Spelling.{spelled_config}
+use Rattle.rmt_config.specs.ImageSpelling.{spelled_names}
+use Rattle.rmt_image.specs.declared.fault.ImageFault.TheVariants as image
 use Rattle.rmt_image.specs.declared.fault.ReadFault.TheVariants.{Short, Form}
 use Rattle.rmt_image.specs.Readers.{byte_at, number_at, flag_at, items_at, each}
-use Rattle.rmt_image.specs.Reading.{word_at, lane_from_at, lane_at, lane_of_at, header_at, offset_at, state_at, states_at, entry_state_at, match_at, need_at, entry_head_at, entry_at, later_state_at, next_at, bits_at, extract_at, guard_at, test_at, gate_at, block_at, blocks_at, format_at, exact_at, ternary_at, memory_at, source_at, srow_at, trow_at, ports_at, headers_at, parser_at, stage_at, stage_head_at, stage_tail_at, unit_at, slot_at, slot_head_at, marks_at, numbers_at, vliw_at, operation_at, kind_at, config_at}
+use Rattle.rmt_image.specs.Reading.{word_at, lane_from_at, lane_at, lane_of_at, header_at, offset_at, state_at, states_at, entry_state_at, match_at, need_at, entry_head_at, entry_at, later_state_at, next_at, bits_at, extract_at, guard_at, test_at, gate_at, block_at, blocks_at, format_at, exact_at, ternary_at, memory_at, source_at, srow_at, trow_at, ports_at, headers_at, parser_at, stage_at, stage_head_at, stage_tail_at, unit_at, slot_at, slot_head_at, marks_at, numbers_at, vliw_at, operation_at, kind_at, config_at, named_at, tailed_at, image_at, version_told, EndAnswers, Answers}
+use Rattle.rmt_image.specs.ReadingNames.{bytes_at, name_at, action_at, rank_at, table_kind_at, table_at, names_at}
+use Rattle.rmt_image.specs.ReadingTails.{tail_entry_at, field_at, lengths_at, tail_at, tails_at}
 
 -- ---- lanes and headers
 
@@ -272,3 +279,111 @@ strict_and_weak-spelled = refl
 strict_and_weak-read : config_at strict_and_weak_bytes ≡ Ok (strict_and_weak, [])
 unfolding config_at ports_at headers_at header_at parser_at states_at state_at entry_at entry_head_at entry_state_at match_at need_at next_at extract_at bits_at lane_of_at lane_at lane_from_at word_at stage_at stage_head_at stage_tail_at unit_at slot_at slot_head_at guard_at marks_at memory_at exact_at format_at blocks_at block_at numbers_at vliw_at operation_at kind_at source_at items_at each byte_at number_at flag_at
 strict_and_weak-read = refl
+
+-- ---- names behind it
+
+-- the names of `b`, of one field of 8 bits, with the action `go`, of one parameter of 9 bits, and their bytes
+abbrev names_of_b : Names
+names_of_b = record {
+  tables = record {
+    node = 1;
+    name = codes "b";
+    kind = table.Exact;
+    size = 16;
+    keys = 8 ∷ [];
+    actions = record { name = codes "go"; params = 9 ∷ [] } ∷ [];
+    ranks = [];
+  } ∷ [];
+}
+
+abbrev names_bytes : List ℕ
+names_bytes = 1 ∷ 1 ∷ 0 ∷ 0 ∷ 0 ∷ 1 ∷ 98 ∷ 0 ∷ 0 ∷ 0 ∷ 0 ∷ 16 ∷ 0 ∷ 1 ∷ 8 ∷ 1 ∷ 0 ∷ 0 ∷ 0 ∷ 2 ∷ 103 ∷ 111 ∷ 1 ∷ 9 ∷ []
+
+names-spelled : spelled_names (Some names_of_b) ≡ names_bytes
+names-spelled = refl
+
+names-read : names_at names_bytes ≡ Ok (names_of_b, [])
+unfolding names_at table_at name_at action_at table_kind_at bytes_at items_at byte_at number_at
+names-read = refl
+
+-- a length of which a byte is missing, and a length above all that could be there
+name-cut : name_at (0 ∷ 0 ∷ 0 ∷ 2 ∷ 98 ∷ []) ≡ Err Short
+unfolding name_at bytes_at number_at
+name-cut = refl
+
+name-vast : name_at (255 ∷ 255 ∷ 255 ∷ 255 ∷ 98 ∷ []) ≡ Err Short
+unfolding name_at bytes_at number_at
+name-vast = refl
+
+-- no kind 3, though the bytes end behind it
+table-no_kind : table_at (1 ∷ 0 ∷ 0 ∷ 0 ∷ 1 ∷ 98 ∷ 3 ∷ []) ≡ Err Form
+unfolding table_at name_at table_kind_at bytes_at byte_at number_at
+table-no_kind = refl
+
+-- a ternary table with the rank 7 of the entry 5
+table-ranks : table_at (1 ∷ 0 ∷ 0 ∷ 0 ∷ 1 ∷ 98 ∷ 2 ∷ 0 ∷ 0 ∷ 0 ∷ 1 ∷ 0 ∷ 0 ∷ 0 ∷ 0 ∷ 0 ∷ 0 ∷ 1 ∷ 0 ∷ 0 ∷ 0 ∷ 5 ∷ 0 ∷ 0 ∷ 0 ∷ 7 ∷ [])
+    ≡ Ok (record { node = 1; name = codes "b"; kind = table.Ternary; size = 1; keys = []; actions = []; ranks = record { number = 5; rank = 7 } ∷ [] }, [])
+unfolding table_at name_at table_kind_at rank_at bytes_at items_at byte_at number_at
+table-ranks = refl
+
+abbrev named : Config
+named = record strict_and_weak { names = Some names_of_b }
+
+named-read : image_at 2 (strict_and_weak_bytes ++ names_bytes) ≡ Ok (named, [])
+unfolding image_at named_at names_at table_at name_at action_at table_kind_at bytes_at config_at ports_at headers_at header_at parser_at states_at state_at entry_at entry_head_at entry_state_at match_at need_at next_at extract_at bits_at lane_of_at lane_at lane_from_at word_at stage_at stage_head_at stage_tail_at unit_at slot_at slot_head_at guard_at marks_at memory_at exact_at format_at blocks_at block_at numbers_at vliw_at operation_at kind_at source_at items_at each byte_at number_at flag_at
+named-read = refl
+
+-- a byte that is left behind the names
+named-left : image_at 2 (strict_and_weak_bytes ++ names_bytes ++ 7 ∷ []) ≡ Ok (named, 7 ∷ [])
+unfolding image_at named_at names_at table_at name_at action_at table_kind_at bytes_at config_at ports_at headers_at header_at parser_at states_at state_at entry_at entry_head_at entry_state_at match_at need_at next_at extract_at bits_at lane_of_at lane_at lane_from_at word_at stage_at stage_head_at stage_tail_at unit_at slot_at slot_head_at guard_at marks_at memory_at exact_at format_at blocks_at block_at numbers_at vliw_at operation_at kind_at source_at items_at each byte_at number_at flag_at
+named-left = refl
+
+named-trailing : EndAnswers (named, 7 ∷ []) (Err image.Trailing)
+named-trailing = refl
+
+-- ---- tails behind the names
+
+-- 0 to 60 bytes less 4, by 4 bits of the header's only byte
+abbrev one_tail : TailOf
+one_tail = record { entry = 0; header = 0; from = 0; len = 4; unit = 4; base = 4 }
+
+tails-read : tails_at strict_and_weak.parser.entries 1 (0 ∷ 1 ∷ 0 ∷ 0 ∷ 0 ∷ 0 ∷ 0 ∷ 4 ∷ 4 ∷ 4 ∷ []) ≡ Ok (one_tail ∷ [], [])
+unfolding tails_at tail_at tail_entry_at field_at lengths_at items_at byte_at number_at
+tails-read = refl
+
+-- a count of 0; no entry 1, and no header 1, though the bytes end behind each
+tails-none : tails_at strict_and_weak.parser.entries 1 (0 ∷ 0 ∷ []) ≡ Err Form
+unfolding tails_at number_at
+tails-none = refl
+
+tails-no_entry : tails_at strict_and_weak.parser.entries 1 (0 ∷ 1 ∷ 0 ∷ 1 ∷ []) ≡ Err Form
+unfolding tails_at tail_at tail_entry_at items_at number_at
+tails-no_entry = refl
+
+tails-no_header : tails_at strict_and_weak.parser.entries 1 (0 ∷ 1 ∷ 0 ∷ 0 ∷ 1 ∷ []) ≡ Err Form
+unfolding tails_at tail_at tail_entry_at items_at byte_at number_at
+tails-no_header = refl
+
+-- the ninth bit of a byte; 75 bytes where 65 are the most
+field-past : field_at 1 (0 ∷ 5 ∷ 4 ∷ []) ≡ Err Form
+unfolding field_at byte_at number_at
+field-past = refl
+
+lengths-long : lengths_at 4 (5 ∷ 1 ∷ []) ≡ Err Form
+unfolding lengths_at byte_at
+lengths-long = refl
+
+tailed-read : image_at 3 (strict_and_weak_bytes ++ names_bytes ++ 0 ∷ 1 ∷ 0 ∷ 0 ∷ 0 ∷ 0 ∷ 0 ∷ 4 ∷ 4 ∷ 4 ∷ []) ≡ Ok (record named { parser = record named.parser { tails = one_tail ∷ [] } }, [])
+unfolding image_at tailed_at tails_at tail_at tail_entry_at field_at lengths_at named_at names_at table_at name_at action_at table_kind_at bytes_at config_at ports_at headers_at header_at parser_at states_at state_at entry_at entry_head_at entry_state_at match_at need_at next_at extract_at bits_at lane_of_at lane_at lane_from_at word_at stage_at stage_head_at stage_tail_at unit_at slot_at slot_head_at guard_at marks_at memory_at exact_at format_at blocks_at block_at numbers_at vliw_at operation_at kind_at source_at items_at each byte_at number_at flag_at
+tailed-read = refl
+
+-- ---- versions
+
+version-three : version_told (0 ∷ 3 ∷ 9 ∷ []) ≡ Some 3
+version-three = refl
+
+version-four : Answers (codes "RMTI" ++ 0 ∷ 4 ∷ []) (Err image.Version)
+version-four = refl
+
+version-missing : Answers (codes "RMTI" ++ 0 ∷ []) (Err image.Version)
+version-missing = refl

@@ -16,8 +16,8 @@ use Rattle.rmt_config.specs.StageForm.{srow_fits, trow_fits, stage_is_formed, st
 use Rattle.rmt_config.specs.CodeForm.{places_of, source_is_formed, kind_is_formed, lane_of_operation, operation_is_formed, vliw_is_formed, code_is_formed}
 use Rattle.rmt_config.specs.declared.form.code.InstructionRole.{InstructionRole}
 use Rattle.rmt_config.specs.Spelling.{two_bytes, spelled_list8, spelled_list32, spelled_unit, spelled_kind, spelled_source, spelled_operation, spelled_vliw, spelled_srow, spelled_trow, spelled_stage}
-use Rattle.rmt_image.specs.Readers.{listed, items_at, each, byte_at, number_at}
-use Rattle.rmt_image.specs.Reading.{at_most, below, word_of_parts, fits_word, fits_held, source_at, kind_of, kind_at, operation_of_parts, kind_fits, operation_at, next_word, vliw_of_parts, vliw_at, block_at, srow_of_parts, srow_at, trow_of_parts, trow_at, start_fits, StageHead, stage_head_at, StageTail, stage_tail_at, stage_of_parts, stage_at, next_start}
+use Rattle.rmt_image.specs.Readers.{listed, items_at, each, byte_at, number_at, at_most, below}
+use Rattle.rmt_image.specs.Reading.{word_of_parts, fits_word, fits_held, source_at, kind_of, kind_at, operation_of_parts, kind_fits, operation_at, next_word, vliw_of_parts, vliw_at, block_at, srow_of_parts, srow_at, trow_of_parts, trow_at, start_fits, StageHead, stage_head_at, StageTail, stage_tail_at, stage_of_parts, stage_at, next_start}
 use Rattle.rmt_bits.proofs.TestLaws.{split3, split4, split8}
 use Rattle.rmt_image.proofs.Codec.{Codec, codec_for, codec_kept, codec_where, codec_behind, codec_made, choices_none, choices_when, codec_chosen, AllAlong, codec_items, codec_listed, codec_each, byte_codec, two_codec, four_codec, codec_number, codec_list, rising_along}
 use Rattle.rmt_image.proofs.Units.{unit_codec, AreSmall, small_places}

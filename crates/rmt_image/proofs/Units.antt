@@ -17,8 +17,8 @@ use Rattle.rmt_config.specs.declared.form.code.InstructionRole.{InstructionRole}
 use Rattle.rmt_config.specs.Spelling.{two_bytes, spelled_list16, spelled_list32, spelled_flag, spelled_lane, spelled_guard, spelled_test, spelled_gate, spelled_memory, spelled_number, spelled_slot_head, spelled_slot, spelled_unit}
 use Rattle.rmt_image.specs.declared.reading.memory.Blocks.{Blocks}
 use Rattle.rmt_image.specs.declared.reading.memory.Format.{Format}
-use Rattle.rmt_image.specs.Readers.{list_at}
-use Rattle.rmt_image.specs.Reading.{at_most, at_least, below, no_guard, guard_of_parts, mask_is_even, guard_at, test_of_parts, test_fits, test_at, gate_of_parts, gate_at, SlotHead, marks_of_parts, marks_at, slot_of_head, slot_head_at, block_at, blocks_of_parts, blocks_at, quanta_fit, cells_fit, format_of_parts, format_at, format_shape, exact_at, ternary_at, without, exact_of_parts, ternary_of_parts, memory_at, may_have_numbers, number_of_parts, cell_number_at, numbers_at, slot_of_parts, slot_at, unit_at}
+use Rattle.rmt_image.specs.Readers.{list_at, at_most, at_least, below}
+use Rattle.rmt_image.specs.Reading.{no_guard, guard_of_parts, mask_is_even, guard_at, test_of_parts, test_fits, test_at, gate_of_parts, gate_at, SlotHead, marks_of_parts, marks_at, slot_of_head, slot_head_at, block_at, blocks_of_parts, blocks_at, quanta_fit, cells_fit, format_of_parts, format_at, format_shape, exact_at, ternary_at, without, exact_of_parts, ternary_of_parts, memory_at, may_have_numbers, number_of_parts, cell_number_at, numbers_at, slot_of_parts, slot_at, unit_at}
 use Rattle.rmt_bits.proofs.TestLaws.{split2, split3, split5, split8, split11}
 use Rattle.rmt_image.proofs.Codec.{Codec, codec_for, codec_kept, codec_where, codec_behind, codec_made, codec_give, choices_none, choices_when, codec_chosen, codec_listed, byte_codec, two_codec, four_codec, codec_respelled, codec_list, alone}
 use Rattle.rmt_image.proofs.Items.{codec_byte, flag_codec, lane_tests, lane_codec}

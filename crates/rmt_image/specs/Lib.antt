@@ -1,3 +1,6 @@
 pub mod Types
+pub mod CountsFit
 pub mod Readers
+pub mod ReadingNames
+pub mod ReadingTails
 pub mod Reading

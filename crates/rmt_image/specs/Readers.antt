@@ -100,6 +100,15 @@ each read (place ∷ places) bytes = do
 
 -- ---- numbers
 
+abbrev pub at_most : ℕ → ℕ → Bool
+at_most most n = nat_le n most
+
+abbrev pub at_least : ℕ → ℕ → Bool
+at_least least n = nat_le least n
+
+abbrev pub below : ℕ → ℕ → Bool
+below bound n = nat_lt n bound
+
 unfoldable pub byte_at : Reader ℕ
 byte_at [] = Err Short
 byte_at (byte ∷ rest) = Ok (byte, rest)

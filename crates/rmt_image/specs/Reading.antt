@@ -1,9 +1,10 @@
 -- Reading an image from its front: the configuration that is read, or the first fault that is met.
-use Rattle.std.specs.Prelude.{◌≡◌, ℕ, ◌+◌, ◌*◌, ◌-◌, ◌^◌, ◌%◌, List, [], ◌∷◌, length, drop, Bool, true, false, not, ◌&&◌, ◌==◌, nat_lt, nat_le, bit_and, if◌then◌else◌, Option, Some, None, Result, Ok, Err, codes, nat_eq}
+use Rattle.std.specs.Prelude.{◌≡◌, ℕ, ◌+◌, ◌*◌, ◌-◌, ◌^◌, ◌%◌, List, [], ◌∷◌, length, drop, Bool, true, false, not, ◌&&◌, ◌==◌, nat_lt, nat_le, bit_and, if◌then◌else◌, find, Option, Some, None, Result, Ok, Err, codes, nat_eq}
 use Rattle.std.specs.List.{starts_with}
 use Rattle.rmt_bits.specs.Words.{word_size}
 use Rattle.rmt_bits.specs.declared.lane.Lane.{Lane}
-use Rattle.rmt_image.specs.Types.{Config, OutHeader, ParserConfig, ParserState, ParserEntry, Next, Extract, Stage, SramRow, TcamRow, Unit as ChipUnit, GateUnit, GateTest, UnitGuard, SlotUnit, CellNumber, Memory, Vliw, Operation, OpKind, Source}
+use Rattle.rmt_ast.specs.declared.names.Names.{Names}
+use Rattle.rmt_image.specs.Types.{Config, OutHeader, ParserConfig, ParserState, ParserEntry, Next, Extract, TailOf, Stage, SramRow, TcamRow, Unit as ChipUnit, GateUnit, GateTest, UnitGuard, SlotUnit, CellNumber, Memory, Vliw, Operation, OpKind, Source}
 use Rattle.rmt_config.specs.declared.config.Next.TheVariants as next
 use Rattle.rmt_config.specs.declared.config.Extract.TheVariants.{Bits, One}
 use Rattle.rmt_config.specs.declared.config.Unit.TheVariants.{Gate, Slot}
@@ -28,7 +29,9 @@ use Rattle.rmt_image.specs.declared.reading.memory.Blocks.{Blocks}
 use Rattle.rmt_image.specs.declared.reading.memory.Format.{Format}
 use Rattle.rmt_image.specs.declared.reading.parser.EntryHead.{EntryHead}
 use Rattle.rmt_image.specs.declared.reading.slot.Marks.{Marks}
-use Rattle.rmt_image.specs.Readers.{Reader, give, behind, ◌⊗◌, made, kept, where_, when, no_other, chosen, items_at, list_at, each, listed, byte_at, number_at, flag_at}
+use Rattle.rmt_image.specs.Readers.{Reader, give, behind, ◌⊗◌, made, kept, where_, when, no_other, chosen, items_at, list_at, each, listed, at_most, at_least, below, byte_at, number_at, flag_at}
+use Rattle.rmt_image.specs.ReadingNames.{names_at}
+use Rattle.rmt_image.specs.ReadingTails.{tails_at}
 
 -- ---- lanes and headers
 
@@ -68,15 +71,6 @@ is_covered h = bits_of_lanes h.pieces == 8 * h.bytes
 -- a header of 1 to 64 bytes, whose lanes have its bits
 unfoldable pub header_at : Reader OutHeader
 header_at bytes = kept is_covered (made header_of_parts (lane_of_at 1 ⊗ kept header_size_fits byte_at ⊗ listed byte_at lanes_at)) bytes
-
-abbrev pub at_most : ℕ → ℕ → Bool
-at_most most n = nat_le n most
-
-abbrev pub at_least : ℕ → ℕ → Bool
-at_least least n = nat_le least n
-
-abbrev pub below : ℕ → ℕ → Bool
-below bound n = nat_lt n bound
 
 unfoldable pub headers_at : Reader (List OutHeader)
 headers_at bytes = listed (kept (at_most 64) byte_at) (list_at header_at) bytes
@@ -439,6 +433,7 @@ config_of_parts x = record {
   names = None;
 }
 
+-- version 1, and what stands first in the others: a configuration without names and tails
 unfoldable pub config_at : Reader Config
 config_at bytes = made config_of_parts (ports_at ⊗ headers_at ⊗ parser_at ⊗ listed byte_at (items_at stage_at next_start 0)) bytes
 
@@ -453,7 +448,7 @@ WholeAnswers c (Err image.Version) = ⊥
 WholeAnswers c (Err image.Short) = ⊥
 WholeAnswers c (Err image.Trailing) = ⊥
 
--- nothing may stand behind the configuration
+-- nothing may stand behind what is read
 abbrev pub EndAnswers : Config × List ℕ → Result Config ImageFault → Type 0
 EndAnswers (c, []) answer = WholeAnswers c answer
 EndAnswers (c, byte ∷ rest) answer = answer ≡ Err image.Trailing
@@ -463,14 +458,38 @@ ConfigAnswers (Err Short) answer = answer ≡ Err image.Short
 ConfigAnswers (Err Form) answer = answer ≡ Err image.Form
 ConfigAnswers (Ok x) answer = EndAnswers x answer
 
-abbrev pub VersionAnswers : Bool → List ℕ → Result Config ImageFault → Type 0
-VersionAnswers true bytes answer = ConfigAnswers (config_at bytes) answer
-VersionAnswers false bytes answer = answer ≡ Err image.Version
+-- ---- the versions
+
+abbrev pub config_with_names : Config × Names → Config
+config_with_names x = record x.0 { names = Some x.1 }
+
+-- version 2: the names behind the rest
+unfoldable pub named_at : Reader Config
+named_at bytes = made config_with_names (config_at ⊗ names_at) bytes
+
+abbrev pub config_with_tails : Config × List TailOf → Config
+config_with_tails x = record x.0 { parser = record x.0.parser { tails = x.1 } }
+
+-- version 3: the tails behind the names
+unfoldable pub tailed_at : Reader Config
+tailed_at bytes = made config_with_tails (behind named_at (λ (c : Config). tails_at c.parser.entries (length c.headers))) bytes
+
+-- what stands behind the version
+unfoldable pub image_at : ℕ → Reader Config
+image_at version bytes = if version == 1 then config_at bytes else (if version == 2 then named_at bytes else tailed_at bytes)
+
+-- the version at the front of bytes, where it is one of those
+abbrev pub version_told : List ℕ → Option ℕ
+version_told bytes = find (λ version. starts_with nat_eq bytes (0 ∷ version ∷ [])) (1 ∷ 2 ∷ 3 ∷ [])
+
+abbrev pub VersionAnswers : Option ℕ → List ℕ → Result Config ImageFault → Type 0
+VersionAnswers (Some version) bytes answer = ConfigAnswers (image_at version bytes) answer
+VersionAnswers None bytes answer = answer ≡ Err image.Version
 
 abbrev pub MagicAnswers : Bool → List ℕ → Result Config ImageFault → Type 0
-MagicAnswers true bytes answer = VersionAnswers (starts_with nat_eq bytes (0 ∷ 1 ∷ [])) (drop 2 bytes) answer
+MagicAnswers true bytes answer = VersionAnswers (version_told bytes) (drop 2 bytes) answer
 MagicAnswers false bytes answer = answer ≡ Err image.Magic
 
--- what an image is read as: the four letters, the version 1, the configuration and nothing behind it
+-- what an image is read as: the four letters, the version, what stands behind it, and nothing else
 abbrev pub Answers : List ℕ → Result Config ImageFault → Type 0
 Answers bytes answer = MagicAnswers (starts_with nat_eq bytes (codes "RMTI")) (drop 4 bytes) answer

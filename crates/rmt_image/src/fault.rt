@@ -13,13 +13,13 @@ pub enum ImageFault {
     NoMemory,
     #[error("the file is no image: it does not begin with RMTI")]
     Magic,
-    #[error("the image is of another version than 1")]
+    #[error("the image is of another version than 1, 2 and 3")]
     Version,
     #[error("the image ends inside an item")]
     Short,
     #[error("the image breaks a rule of its form")]
     Form,
-    #[error("bytes are left after the configuration")]
+    #[error("bytes are left at the end of the image")]
     Trailing,
     #[error("the configuration passes limit {} of the chip in stage {}", .0.limit, .0.stage)]
     Limit(LimitHit),

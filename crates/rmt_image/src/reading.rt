@@ -4,7 +4,7 @@ ghost use Rattle.std.specs.Prelude.{◌≡◌, ◌≢◌, ℕ, List, Result, IfO
 ghost use Rattle.rmt_config.specs.Spells.{Spells};
 ghost use Rattle.rmt_config.specs.declared.config.Config.{Config};
 ghost use Rattle.rmt_image.specs.declared.fault.ImageFault.{ImageFault};
-ghost use Rattle.rmt_image.specs.Reading.{WholeAnswers, ConfigAnswers, config_at, Answers};
+ghost use Rattle.rmt_image.specs.Reading.{WholeAnswers, ConfigAnswers, image_at, version_told, Answers};
 
 mod config;
 mod gate;
@@ -12,14 +12,16 @@ mod header;
 mod items;
 mod lane;
 mod memory;
+mod names;
 mod number;
 mod parser;
 mod slot;
 mod stage;
+mod tails;
 mod vliw;
 
 use crate::fault::{ImageFault, ReadError, ReadFault};
-use config::config_of;
+use config::image_of;
 use rmt_config::config::Config;
 use std::alloc::Global;
 
@@ -37,10 +39,10 @@ fn looked_at(alloc: Global, config: Config) -> Result<Config, ImageFault>
     }
 }
 
-fn behind_version(alloc: Global, bytes: &[u8]) -> Result<Config, ImageFault>
-    ensures { result ≢ Err ImageFault.NoMemory → ConfigAnswers (config_at bytes.now) result }
+fn behind_version(alloc: Global, version: u8, bytes: &[u8]) -> Result<Config, ImageFault>
+    ensures { result ≢ Err ImageFault.NoMemory → ConfigAnswers (image_at version bytes.now) result }
 {
-    match config_of(alloc, bytes) {
+    match image_of(alloc, version, bytes) {
         Err(ReadError::Memory) => Err(ImageFault::NoMemory),
         Err(ReadError::Fault(ReadFault::Short)) => Err(ImageFault::Short),
         Err(ReadError::Fault(ReadFault::Form)) => Err(ImageFault::Form),
@@ -53,6 +55,21 @@ fn behind_version(alloc: Global, bytes: &[u8]) -> Result<Config, ImageFault>
     }
 }
 
+/// The version at the front of the bytes, where it is one of those that are read.
+fn version_of(bytes: &[u8]) -> Option<u8>
+    ensures { result ≡ version_told bytes.now }
+{
+    if bytes.starts_with(&[0, 1]) {
+        Some(1)
+    } else if bytes.starts_with(&[0, 2]) {
+        Some(2)
+    } else if bytes.starts_with(&[0, 3]) {
+        Some(3)
+    } else {
+        None
+    }
+}
+
 fn image(alloc: Global, bytes: &[u8]) -> Result<Config, ImageFault>
     ensures { result ≢ Err ImageFault.NoMemory → Answers bytes.now result }
 {
@@ -60,18 +77,20 @@ fn image(alloc: Global, bytes: &[u8]) -> Result<Config, ImageFault>
         return Err(ImageFault::Magic);
     }
     let rest = &bytes[4..];
-    if !rest.starts_with(&[0, 1]) {
-        return Err(ImageFault::Version);
+    match version_of(rest) {
+        Some(version) => behind_version(alloc, version, &rest[2..]),
+        None => Err(ImageFault::Version),
     }
-    behind_version(alloc, &rest[2..])
 }
 
 /// The configuration that an image spells.
 ///
 /// The image is read from its front, once. `Magic` says that it does not begin with `RMTI`, and `Version` that the
-/// version behind is not 1. Then the configuration is read in order: `Short` where the bytes end inside an item, and
-/// `Form` where an item breaks a rule of form. `Trailing` says that bytes are left behind it. Then come the rules on
-/// the whole configuration, again `Form`, and at last the limits of the chip. The first of these is told.
+/// version behind is not 1, 2 or 3. Then the configuration is read in order, behind it in version 2 and 3 its names,
+/// and behind them in version 3 its tails: `Short` where the bytes end inside an item, and `Form` where an item breaks
+/// a rule of form. `Trailing` says that bytes are left behind all that. Then come the rules on the whole
+/// configuration, those on names among them, again `Form`, and at last the limits of the chip. The first of these is
+/// told.
 pub fn read_image(alloc: Global, bytes: &[u8]) -> Result<Config, ImageFault>
     // What is read is spelled so, keeps the rules of form and is within the limits.
     ensures found { IfOk result (λ c. Spells bytes.now c) }

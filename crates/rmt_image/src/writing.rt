@@ -1,18 +1,25 @@
 ghost use Rattle.std.specs.Prelude.{◌≡◌, ◌++◌, OnOk, IfOk, IsOkUnless};
-ghost use Rattle.rmt_config.specs.Spelling.{spelled, spelled_config, spelled_ports, CountsFit};
+ghost use Rattle.rmt_config.specs.Spelling.{spelled_config, spelled_ports, CountsFit};
+ghost use Rattle.rmt_config.specs.ImageSpelling.{spelled_image, version_of};
+ghost use Rattle.rmt_config.specs.Form.{Formed};
+ghost use Rattle.rmt_config.specs.Limits.{IsWithinLimits};
 
 mod lane;
+mod names;
 mod parser;
 mod slot;
 mod spelled;
 mod stage;
+mod tails;
 mod vliw;
 
 use crate::fault::ImageFault;
+use names::put_names;
 use parser::put_parser;
 use rmt_config::config::Config;
-use spelled::{Spelled, put_list8};
+use spelled::{Spelled, put_list8, put_two};
 use std::alloc::{AllocError, Global};
+use tails::put_tails;
 
 fn put_ports(out: &mut Vec<u8>, config: &Config) -> Result<(), AllocError>
     ensures { OnOk result (out.new.items ≡ out.old.items ++ spelled_ports config.now) }
@@ -33,18 +40,36 @@ fn put_config(out: &mut Vec<u8>, config: &Config) -> Result<(), AllocError>
     put_list8(out, config.stages.as_slice())
 }
 
-fn put_image(out: &mut Vec<u8>, config: &Config) -> Result<(), AllocError>
-    requires { CountsFit config.now }
-    ensures { OnOk result (out.new.items ≡ out.old.items ++ spelled config.now) }
+/// The version in which a configuration is spelled.
+fn version(config: &Config) -> u16
+    ensures { result ≡ version_of config.now }
 {
-    out.extend_from_slice(&[b'R', b'M', b'T', b'I', 0, 1])?;
-    put_config(out, config)
+    if !config.parser.tails.is_empty() {
+        3
+    } else if config.names.is_some() {
+        2
+    } else {
+        1
+    }
 }
 
-/// The image of a configuration: the one list of bytes that spells it. Its only refusal is `NoMemory`.
+fn put_image(out: &mut Vec<u8>, config: &Config) -> Result<(), AllocError>
+    requires { Formed config.now }
+    ensures { OnOk result (out.new.items ≡ out.old.items ++ spelled_image config.now) }
+{
+    out.extend_from_slice(b"RMTI")?;
+    put_two(out, version(config))?;
+    put_config(out, config)?;
+    put_names(out, &config.names)?;
+    put_tails(out, config.parser.tails.as_slice())
+}
+
+/// The image of a configuration: the one list of bytes that spells it, of version 1 where it has no names, 2 where it
+/// has names and no tail, and 3 where it has a tail. Its only refusal is `NoMemory`.
 pub fn write_image(alloc: Global, config: &Config) -> Result<Vec<u8>, ImageFault>
-    requires { CountsFit config.now }
-    ensures ok { IfOk result (λ image. image.items ≡ spelled config.now) }
+    requires formed { Formed config.now }
+    requires limits { IsWithinLimits config.now }
+    ensures ok { IfOk result (λ image. image.items ≡ spelled_image config.now) }
     ensures only_memory { IsOkUnless result ImageFault.NoMemory }
 {
     let mut image = Vec::new(alloc);

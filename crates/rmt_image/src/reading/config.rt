@@ -1,15 +1,17 @@
-//! The configuration behind the version.
+//! What stands behind the version: the configuration, its names and its tails.
 
 ghost use Rattle.std.specs.Prelude.{◌≡◌};
 ghost use Rattle.rmt_image.specs.Readers.{Gives};
-ghost use Rattle.rmt_image.specs.Reading.{ports_at, config_at};
+ghost use Rattle.rmt_image.specs.Reading.{ports_at, config_at, named_at, tailed_at, image_at};
 
 use crate::fault::ReadError;
 use crate::reading::header::headers_of;
 use crate::reading::lane::lane_of_bits;
+use crate::reading::names::names_of;
 use crate::reading::number::byte_of;
 use crate::reading::parser::parser_of;
 use crate::reading::stage::stages_of;
+use crate::reading::tails::tails_of;
 use rmt_bits::lane::Lane;
 use rmt_config::config::Config;
 use std::alloc::Global;
@@ -40,9 +42,9 @@ fn ports_of(bytes: &[u8]) -> Result<(Ports, &[u8]), ReadError>
     Ok((ports, rest))
 }
 
-/// The configuration at the front of the bytes behind the version.
+/// A configuration without names and tails.
 #[tactic(auto, unfolding(crate::specs::Reading::config_at))]
-pub fn config_of(alloc: Global, bytes: &[u8]) -> Result<(Config, &[u8]), ReadError>
+fn config_of(alloc: Global, bytes: &[u8]) -> Result<(Config, &[u8]), ReadError>
     ensures { Gives (λ x. (x.0, x.1.now)) result (config_at bytes.now) }
 {
     let (ports, rest) = ports_of(bytes)?;
@@ -60,4 +62,39 @@ pub fn config_of(alloc: Global, bytes: &[u8]) -> Result<(Config, &[u8]), ReadErr
         names: None,
     };
     Ok((config, rest))
+}
+
+/// A configuration without tails, and its names behind it.
+#[tactic(auto, unfolding(crate::specs::Reading::named_at))]
+fn named_of(alloc: Global, bytes: &[u8]) -> Result<(Config, &[u8]), ReadError>
+    ensures { Gives (λ x. (x.0, x.1.now)) result (named_at bytes.now) }
+{
+    let (mut config, rest) = config_of(alloc, bytes)?;
+    let (names, rest) = names_of(alloc, rest)?;
+    config.names = Some(names);
+    Ok((config, rest))
+}
+
+/// A configuration, its names and its tails one behind the other.
+#[tactic(auto, unfolding(crate::specs::Reading::tailed_at))]
+fn tailed_of(alloc: Global, bytes: &[u8]) -> Result<(Config, &[u8]), ReadError>
+    ensures { Gives (λ x. (x.0, x.1.now)) result (tailed_at bytes.now) }
+{
+    let (mut config, rest) = named_of(alloc, bytes)?;
+    let entries = config.parser.entries.as_slice();
+    let (tails, rest) = tails_of(alloc, entries, config.headers.len(), rest)?;
+    config.parser.tails = tails;
+    Ok((config, rest))
+}
+
+/// What stands behind this version, at the front of the bytes.
+#[tactic(auto, unfolding(crate::specs::Reading::image_at))]
+pub fn image_of(alloc: Global, version: u8, bytes: &[u8]) -> Result<(Config, &[u8]), ReadError>
+    ensures { Gives (λ x. (x.0, x.1.now)) result (image_at version bytes.now) }
+{
+    match version {
+        1 => config_of(alloc, bytes),
+        2 => named_of(alloc, bytes),
+        _ => tailed_of(alloc, bytes),
+    }
 }

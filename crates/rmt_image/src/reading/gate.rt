@@ -1,8 +1,8 @@
 //! Guards, and gates with their tests.
 
 ghost use Rattle.std.specs.Prelude.{◌≡◌, ◌≤◌};
-ghost use Rattle.rmt_image.specs.Readers.{Gives, kept, listed, list_at, byte_at, number_at};
-ghost use Rattle.rmt_image.specs.Reading.{mask_is_even, at_least, guard_at, test_fits, test_at, gate_at};
+ghost use Rattle.rmt_image.specs.Readers.{Gives, kept, listed, list_at, byte_at, number_at, at_least};
+ghost use Rattle.rmt_image.specs.Reading.{mask_is_even, guard_at, test_fits, test_at, gate_at};
 
 use crate::fault::{ReadError, ReadFault};
 use crate::reading::items::{Item, list_of};

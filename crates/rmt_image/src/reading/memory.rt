@@ -1,8 +1,8 @@
 //! The memory of a slot, with its lists of blocks, whose lengths follow from the numbers before them.
 
 ghost use Rattle.std.specs.Prelude.{◌≡◌, ◌<◌, length};
-ghost use Rattle.rmt_image.specs.Readers.{Gives, where_, kept, list_at, byte_at, number_at};
-ghost use Rattle.rmt_image.specs.Reading.{at_least, block_at, blocks_at, quanta_fit, cells_fit, format_at, format_shape, exact_at, ternary_at, exact_of_parts, ternary_of_parts, memory_at};
+ghost use Rattle.rmt_image.specs.Readers.{Gives, where_, kept, list_at, byte_at, number_at, at_least};
+ghost use Rattle.rmt_image.specs.Reading.{block_at, blocks_at, quanta_fit, cells_fit, format_at, format_shape, exact_at, ternary_at, exact_of_parts, ternary_of_parts, memory_at};
 
 use crate::fault::{ReadError, ReadFault};
 use crate::reading::items::{Item, list_of};

@@ -2,8 +2,8 @@
 
 ghost use Rattle.std.specs.Prelude.{◌≡◌, ◌<◌, length, IfOk};
 ghost use Rattle.rmt_config.specs.declared.config.Memory.{Memory};
-ghost use Rattle.rmt_image.specs.Readers.{Gives, kept, listed, list_at, byte_at, number_at};
-ghost use Rattle.rmt_image.specs.Reading.{at_most, marks_at, slot_head_at, may_have_numbers, cell_number_at, numbers_at, slot_at, unit_at};
+ghost use Rattle.rmt_image.specs.Readers.{Gives, kept, listed, list_at, byte_at, number_at, at_most};
+ghost use Rattle.rmt_image.specs.Reading.{marks_at, slot_head_at, may_have_numbers, cell_number_at, numbers_at, slot_at, unit_at};
 
 use crate::fault::{ReadError, ReadFault};
 use crate::reading::gate::{gate_of, guard_of};

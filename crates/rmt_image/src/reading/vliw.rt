@@ -2,8 +2,8 @@
 
 ghost use Rattle.std.specs.Prelude.{◌≡◌, ◌≤◌, ◌<◌, ◌^◌, ◌++◌, OnOk, IfOk};
 ghost use Rattle.rmt_config.specs.CodeForm.{slot_places, places_of};
-ghost use Rattle.rmt_image.specs.Readers.{Gives, kept, where_, each, items_at, byte_at, number_at};
-ghost use Rattle.rmt_image.specs.Reading.{below, fits_word, fits_held, source_at, kind_at, operation_at, next_word, vliw_at};
+ghost use Rattle.rmt_image.specs.Readers.{Gives, kept, where_, each, items_at, byte_at, number_at, below};
+ghost use Rattle.rmt_image.specs.Reading.{fits_word, fits_held, source_at, kind_at, operation_at, next_word, vliw_at};
 
 use crate::fault::{ReadError, ReadFault};
 use crate::reading::items::{InOrder, items_of};

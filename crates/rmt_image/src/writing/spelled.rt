@@ -1,6 +1,6 @@
 //! What has a spelling in an image, and lists of it.
 
-ghost use Rattle.std.specs.Prelude.{◌≡◌, ◌++◌, ◌<◌, ◌^◌, ℕ, List, length, All, OnOk};
+ghost use Rattle.std.specs.Prelude.{◌≡◌, ◌++◌, ◌∷◌, [], ◌<◌, ◌^◌, ℕ, List, length, All, OnOk};
 ghost use Rattle.std.specs.List.{flat_map};
 ghost use Rattle.rmt_config.specs.Spelling.{two_bytes, four_bytes, spelled_list8, spelled_list16, spelled_list32};
 
@@ -18,6 +18,16 @@ pub trait Spelled {
     fn put(&self, out: &mut Vec<u8>) -> Result<(), AllocError>
         requires { fits self.now }
         ensures { OnOk result (out.new.items ≡ out.old.items ++ spelling self.now) };
+}
+
+/// A number of one byte.
+impl Spelled for u8 {
+    ghost spelling = { λ number. number ∷ [] };
+
+    fn put(&self, out: &mut Vec<u8>) -> Result<(), AllocError> {
+        out.push(*self)?;
+        Ok(())
+    }
 }
 
 #[tactic(auto, using(crate::proofs::NumberLaws::high_first))]
