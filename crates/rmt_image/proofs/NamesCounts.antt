@@ -8,7 +8,7 @@ use Rattle.std.proofs.lemmas.List.Sums.{sum_by-cons}
 use Rattle.std.proofs.lemmas.List.Elements.{All-nil, All-cons, All-head, All-tail, All-map, All-append, All-weaker}
 use Rattle.std.proofs.lemmas.Slice.Eq.{bytes_eq-Decides}
 use Rattle.rmt_bits.proofs.AllLaws.{All-flat_map, All-from_test, All-unmap}
-use Rattle.rmt_bits.proofs.TestLaws.{split2, split5, split6, split8, split11}
+use Rattle.rmt_bits.proofs.TestLaws.{split2, split3, split5, split6, split8, split11}
 use Rattle.rmt_ast.specs.Naming.{has_key}
 use Rattle.rmt_ast.specs.NameRules.{has_names, action_names_differ, has_fields, are_widths, has_params, has_size, may_have_ranks, table_is_formed, names_are_formed}
 use Rattle.rmt_ast.specs.declared.program.Kind.{Kind}
@@ -146,11 +146,9 @@ actions_fit (a ∷ us) short params =
     (actions_fit us s.1 p.1)
 
 -- what is told of the lengths of names, and of ranks
-short_told : (t : TableName) → names_are_short t ≡ true → (ltb (length t.name) (2 ^ 32) ≡ true) × (list_all (λ (a : ActionName). ltb (length a.name) (2 ^ 32)) t.actions ≡ true)
-short_told t e = split2 e
-
-ranks_small : (t : TableName) → names_are_short t ≡ true → list_all (λ (r : RankOf). ltb r.rank (2 ^ 32)) t.ranks ≡ true
-ranks_small t e = ?
+short_told : (t : TableName) → names_are_short t ≡ true
+    → (ltb (length t.name) (2 ^ 32) ≡ true) × (list_all (λ (a : ActionName). ltb (length a.name) (2 ^ 32)) t.actions ≡ true) × (list_all (λ (r : RankOf). ltb r.rank (2 ^ 32)) t.ranks ≡ true)
+short_told t e = split3 e
 
 -- what a table keeps by the rules on names
 record IsTold (c : Config) (t : TableName) : Type 0 where
@@ -219,7 +217,7 @@ module _ (c : Config) (items : items_are_formed c ≡ true) (t : TableName) (tol
   ranks_keep kind.Prefix keyed may has = nil_from_length t.ranks (eqb-true (length t.ranks) 0 may)
   ranks_keep kind.Ternary keyed may has =
       let numbers = subst (All (λ n. n < 2 ^ 32)) (sym (ranks_are has)) numbers_small in
-      (few_ranks kind.Ternary may has, ranks_fit t.ranks (All-unmap (λ n. n < 2 ^ 32) (λ (r : RankOf). r.number) t.ranks numbers) (ranks_small t told.short))
+      (few_ranks kind.Ternary may has, ranks_fit t.ranks (All-unmap (λ n. n < 2 ^ 32) (λ (r : RankOf). r.number) t.ranks numbers) (short_told t told.short).2)
 
   has_own_ranks : has_ranks c t.kind t ≡ true
   has_own_ranks = (and_parts _ _ (and_parts _ _ told.filled).0).1
