@@ -215,9 +215,11 @@ is_made_so c t = has_key_bits c t && has_actions c t && has_rows c t.kind t
 abbrev pub is_filled_so : Config → TableName → Bool
 is_filled_so c t = has_masks c t.kind t && has_ranks c t.kind t && has_entries c t
 
--- names as long as their counts can say
+-- names as long as their counts can say, and ranks as great as their places can
 abbrev pub names_are_short : TableName → Bool
-names_are_short t = nat_lt (length t.name) (2 ^ 32) && list_all (λ (a : ActionName). nat_lt (length a.name) (2 ^ 32)) t.actions
+names_are_short t =
+    nat_lt (length t.name) (2 ^ 32) && list_all (λ (a : ActionName). nat_lt (length a.name) (2 ^ 32)) t.actions
+    && list_all (λ (r : RankOf). nat_lt r.rank (2 ^ 32)) t.ranks
 
 -- as many tables as their count can say, each with names as long as theirs can
 abbrev pub names_have_counts : Names → Bool

@@ -3,6 +3,7 @@
 ghost use Rattle.std.specs.Prelude.{◌≡◌, ◌&&◌, ◌^◌, IfOk, length, nat_lt};
 ghost use Rattle.std.specs.List.{list_all};
 ghost use Rattle.rmt_ast.specs.declared.names.ActionName.{ActionName};
+ghost use Rattle.rmt_ast.specs.declared.names.RankOf.{RankOf};
 ghost use Rattle.rmt_ast.specs.NameForm.{is_name};
 ghost use Rattle.rmt_ast.specs.NameRules.{are_widths, has_fields, has_names, has_params, has_size, may_have_ranks, table_is_formed};
 ghost use Rattle.rmt_ast.specs.Naming.{has_key};
@@ -123,9 +124,17 @@ fn actions_are_short(actions: &[ActionName]) -> bool
         .all(|action| (action.name.len() as u64) < 4294967296)
 }
 
-/// Whether the names of a table and of its actions are as long as their counts can say.
+fn ranks_are_small(ranks: &[RankOf]) -> bool
+    ensures { result ≡ list_all (λ (r : RankOf). nat_lt r.rank (2 ^ 32)) ranks.now }
+{
+    ranks.iter().all(|rank| u64::from(rank.rank) < 4294967296)
+}
+
+/// Whether the names of a table and of its actions are as long as their counts can say, and its ranks fit their places.
 pub fn names_are_short(table: &TableName) -> bool
     ensures { result ≡ names_are_short table.now }
 {
-    (table.name.len() as u64) < 4294967296 && actions_are_short(table.actions.as_slice())
+    (table.name.len() as u64) < 4294967296
+        && actions_are_short(table.actions.as_slice())
+        && ranks_are_small(table.ranks.as_slice())
 }
