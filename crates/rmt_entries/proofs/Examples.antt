@@ -3,7 +3,9 @@ use Rattle.std.proofs.Common.{◌≡◌, ℕ, ◌+◌, ◌/◌, ◌%◌, List, [
 use Rattle.std.specs.Prelude.{codes, Ok, Err}
 use Rattle.std.specs.List.{flat_map, range_with_len}
 use Rattle.rmt_entries.specs.declared.fault.EntryFault.TheVariants.{At}
+use Rattle.rmt_ast.specs.Naming.{names_of}
 use Rattle.rmt_entries.specs.Entries.{entries_of}
+use Rattle.rmt_entries.specs.NamedLines.{named_entry, named_key}
 use Rattle.rmt_ast.proofs.Programs.{both_keys, one_entry, prefix, prefixes, priorities, strict_and_weak, ternary, two_keys}
 
 -- lists
@@ -102,3 +104,39 @@ full = refl
 repeated_in_a_full_table : entries_of strict_and_weak (lines_of_keys 16 ++ codes "b 15 go 1\n") ≡ Err (At 6 17)
 unfolding lines_of_keys
 repeated_in_a_full_table = refl
+
+-- single lines, by names
+entry_line : named_entry (names_of strict_and_weak one_entry) (codes "b  7 go 5 ") ≡ Ok (record { table = 1; number = 0; tests = record { value = 7; mask = 255 } ∷ []; rank = 0; action = 0; args = 5 ∷ [] })
+entry_line = refl
+
+-- no line is passed over
+empty_line : named_entry (names_of strict_and_weak one_entry) [] ≡ Err 1
+empty_line = refl
+
+comment_line : named_entry (names_of strict_and_weak one_entry) (codes "# b 7 go 5") ≡ Err 2
+comment_line = refl
+
+-- a table without a key has no names
+keyless_line : named_entry (names_of strict_and_weak one_entry) (codes "a 1 go 1") ≡ Err 2
+keyless_line = refl
+
+wide_line : (named_entry (names_of strict_and_weak one_entry) (codes "b 256 sx 512") ≡ Err 3)
+    × (named_entry (names_of strict_and_weak one_entry) (codes "b 1 sx 512") ≡ Err 4) × (named_entry (names_of strict_and_weak one_entry) (codes "b 1 go 512") ≡ Err 5)
+wide_line = (refl, refl, refl)
+
+key_line : named_key (names_of strict_and_weak one_entry) (codes "b 0x7") ≡ Ok (record { table = 1; tests = record { value = 7; mask = 255 } ∷ []; rank = 0 })
+key_line = refl
+
+prefix_line : named_key (names_of prefix prefixes) (codes "r 0x0a0001ff/24") ≡ Ok (record { table = 0; tests = record { value = 0x0a000100; mask = 0xffffff00 } ∷ []; rank = 24 })
+prefix_line = refl
+
+ternary_line : named_key (names_of ternary priorities) (codes "t 20 *") ≡ Ok (record { table = 0; tests = record { value = 0; mask = 0 } ∷ []; rank = 20 })
+ternary_line = refl
+
+no_key_line : (named_key (names_of strict_and_weak one_entry) (codes "b") ≡ Err 1) × (named_key (names_of strict_and_weak one_entry) (codes "c 7") ≡ Err 2)
+    × (named_key (names_of strict_and_weak one_entry) (codes "b 256") ≡ Err 3)
+no_key_line = (refl, refl, refl)
+
+-- no word stands behind a key
+word_too_many : named_key (names_of strict_and_weak one_entry) (codes "b 7 go") ≡ Err 3
+word_too_many = refl

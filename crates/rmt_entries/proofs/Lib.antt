@@ -3,6 +3,7 @@ pub mod GatherLaws
 pub mod LawKeys
 pub mod LawLines
 pub mod LawLists
+pub mod NamedLaws
 pub mod NumberLaws
 pub mod ProgramLaws
 pub mod ReadingLaws

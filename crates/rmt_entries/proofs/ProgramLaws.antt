@@ -42,7 +42,7 @@ readable : (p : Program) → IsProgram p → (n : ℕ) (t : Table) → IsTable p
 readable p h n t is = record {
   widths = All-map (λ w. w ≤ 128) (width_of p) t.key (λ k d lt. narrow_field p h (get_or t.key k d));
   params = All-map AreNarrow (params_of p) t.actions (λ k d lt. narrow_params p h (get_or t.actions k d));
-  few_actions = rw (length-map t.actions (action_name p)) is.few_actions;
+  few_actions = rw (length-map t.actions (action_name p)) (omega (arith, is.few_actions));
 }
 
 -- the table of a program that a node applies

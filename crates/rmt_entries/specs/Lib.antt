@@ -2,6 +2,7 @@ pub mod Entries
 pub mod Fault
 pub mod Keys
 pub mod Lines
+pub mod NamedLines
 pub mod NamedTables
 pub mod Numbers
 pub mod Reads

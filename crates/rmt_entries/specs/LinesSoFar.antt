@@ -18,11 +18,11 @@ abbrev pub IsFault : EntryFault → ℕ → (ℕ → Type 0) → Type 0
 IsFault NoMemory at code = Unit {0}
 IsFault (At c line) at code = (line ≡ at) × code c
 
--- numbers of its widths are read with 128 bits, and its actions are few
+-- numbers of its widths are read with 128 bits, and a place of an action has 32 bits
 pub record IsReadable (t : AppliedTable) : Type 0 where
   pub widths : AreNarrow t.terms.widths
   pub params : All AreNarrow t.terms.params
-  pub few_actions : length t.actions ≤ 14
+  pub few_actions : length t.actions < 4294967296
 
 -- a node with these terms applies the table
 abbrev pub IsAppliedBy : List (Option Terms) → AppliedTable → Type 0

@@ -1,4 +1,4 @@
-//! Entry texts: the entries of a program's tables, a line each.
+//! Entry texts: the entries of a program's tables, a line each; and single lines, by names of tables alone.
 #![tactic(auto)]
 
 mod arguments;
@@ -8,9 +8,11 @@ mod gathered;
 mod keys;
 pub mod laws;
 mod line;
+pub mod named;
 mod numbers;
 mod tables;
 mod text;
 mod words;
 
+pub use named::{entry, key};
 pub use text::entries;

@@ -1,6 +1,6 @@
 //! What a line says by itself.
 
-ghost use Rattle.std.specs.Prelude.{◌≡◌, ℕ, List, Option, All, Some, Err, Ok, [], slice_index_or, IfOk, IfErr, MatchOption};
+ghost use Rattle.std.specs.Prelude.{◌≡◌, ◌≤◌, ◌==◌, ◌∷◌, false, length, ℕ, List, Option, All, Some, Err, Ok, [], slice_index_or, IfOk, IfErr, MatchOption};
 ghost use Rattle.rmt_ast.specs.declared.program.Table.{Table};
 ghost use Rattle.rmt_ast.specs.EntryLists.{Terms};
 ghost use Rattle.rmt_entries.specs.declared.keys.Key.{Key};
@@ -25,6 +25,21 @@ pub fn is_printable(line: &[u8]) -> bool
     line.iter().all(|byte| b' ' <= *byte && *byte <= b'~')
 }
 
+/// Takes the first word of a line, behind which others stand. The fault is of code 1.
+pub fn take_name<'w>(words: &mut Words<'w>, line: u32) -> Result<&'w [u8], EntryFault>
+    ensures name { IfOk result (λ name. words.old ≡ name.now ∷ words.new) }
+    ensures more { IfOk result (λ name. (length words.new == 0) ≡ false) }
+    ensures few { IfErr result (λ fault. IsFault fault line (λ code. (code ≡ 1) × (length words.old ≤ 1))) }
+{
+    let Some(name) = words.take() else {
+        return Err(EntryFault::At { code: 1, line });
+    };
+    if words.is_empty() {
+        return Err(EntryFault::At { code: 1, line });
+    }
+    Ok(name)
+}
+
 /// Takes the table that the words of a line name first. The fault is of code 1 where there are fewer than two words,
 /// and of code 2 where no table has the name.
 pub fn take_table<'t, 'a>(
@@ -42,12 +57,7 @@ pub fn take_table<'t, 'a>(
     ensures fault { IfErr result (λ fault. IsFault fault line (λ code. (number : ℕ) →
         read_words tables.now number words.old ≡ Err code)) }
 {
-    let Some(name) = words.take() else {
-        return Err(EntryFault::At { code: 1, line });
-    };
-    if words.is_empty() {
-        return Err(EntryFault::At { code: 1, line });
-    }
+    let name = take_name(words, line)?;
     match tables.named(name) {
         Some(table) => Ok(table),
         None => Err(EntryFault::At { code: 2, line }),

@@ -6,14 +6,14 @@ use Rattle.rmt_entries.specs.LinesSoFar.{IsAppliedBy, IsBelow, IsReadable}
 use Rattle.rmt_entries.specs.Tables.{AppliedTable}
 use Rattle.rmt_entries.proofs.line.take_table.Goals as goal
 
-pub returns-in-Some-named-clause-readable : goal.returns-in-Some-named-clause-readable
-returns-in-Some-named-clause-readable c =
-    All-find IsReadable (λ (t : AppliedTable). bytes_eq c.in-Some.name.now t.name) c.args.tables.now (seen_table c.in-Some-named.table.now) c.requires (sym c.in-Some-named.ensures)
+pub returns-in-Some-clause-readable : goal.returns-in-Some-clause-readable
+returns-in-Some-clause-readable c =
+    All-find IsReadable (λ (t : AppliedTable). bytes_eq c.in_ok-name.name.now t.name) c.args.tables.now (seen_table c.in-Some.table.now) c.requires (sym c.in-Some.ensures)
 
-pub returns-in-Some-named-clause-applied : goal.returns-in-Some-named-clause-applied
-returns-in-Some-named-clause-applied c terms h =
-    All-find (IsAppliedBy terms) (λ (t : AppliedTable). bytes_eq c.in-Some.name.now t.name) c.args.tables.now (seen_table c.in-Some-named.table.now) h (sym c.in-Some-named.ensures)
+pub returns-in-Some-clause-applied : goal.returns-in-Some-clause-applied
+returns-in-Some-clause-applied c terms h =
+    All-find (IsAppliedBy terms) (λ (t : AppliedTable). bytes_eq c.in_ok-name.name.now t.name) c.args.tables.now (seen_table c.in-Some.table.now) h (sym c.in-Some.ensures)
 
-pub returns-in-Some-named-clause-within : goal.returns-in-Some-named-clause-within
-returns-in-Some-named-clause-within c nodes h =
-    All-find (IsBelow nodes) (λ (t : AppliedTable). bytes_eq c.in-Some.name.now t.name) c.args.tables.now (seen_table c.in-Some-named.table.now) h (sym c.in-Some-named.ensures)
+pub returns-in-Some-clause-within : goal.returns-in-Some-clause-within
+returns-in-Some-clause-within c nodes h =
+    All-find (IsBelow nodes) (λ (t : AppliedTable). bytes_eq c.in_ok-name.name.now t.name) c.args.tables.now (seen_table c.in-Some.table.now) h (sym c.in-Some.ensures)

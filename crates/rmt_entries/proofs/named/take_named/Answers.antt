@@ -1,0 +1,40 @@
+use Rattle.std.proofs.Common.{◌≡◌, ◌∙◌, Some, ap, option_map, refl, subst, sym}
+use Rattle.std.specs.Prelude.{find}
+use Rattle.std.specs.Str.{bytes_eq}
+use Rattle.rmt_ast.specs.declared.names.TableName.{TableName}
+use Rattle.rmt_entries.specs.Entries.{of_table}
+use Rattle.rmt_entries.specs.LinesSoFar.{IsReadable}
+use Rattle.rmt_entries.specs.NamedLines.{key_of_table, named_table, named_tables}
+use Rattle.rmt_entries.specs.Tables.{table_named}
+use Rattle.rmt_entries.proofs.NamedLaws.{entry_words, found_readable, found_table, words_of_key}
+use Rattle.rmt_entries.proofs.named.take_named.Goals as goal
+
+pub returns-in_ok-named_table-in-Some-clause-entry : goal.returns-in_ok-named_table-in-Some-clause-entry
+returns-in_ok-named_table-in-Some-clause-entry c =
+    let names = c.args.names.now in
+    let name = c.in_ok-name.name.now in
+    let seen = c.in_ok-named_table-in-Some.ensures.seen in
+    let found = found_table names name ∙ ap (option_map named_table) (sym c.in-Some.ensures) ∙ ap Some (sym seen) in
+    entry_words (named_tables names) 0 name c.args.words.now c.take_name.new.words c.in_ok-name.ensures.name c.in_ok-name.ensures.more ∙ ap (of_table 0 c.take_name.new.words) found
+
+pub returns-in_ok-named_table-in-Some-clause-key : goal.returns-in_ok-named_table-in-Some-clause-key
+returns-in_ok-named_table-in-Some-clause-key c =
+    let names = c.args.names.now in
+    let name = c.in_ok-name.name.now in
+    let seen = c.in_ok-named_table-in-Some.ensures.seen in
+    let found = found_table names name ∙ ap (option_map named_table) (sym c.in-Some.ensures) ∙ ap Some (sym seen) in
+    words_of_key (named_tables names) 0 name c.args.words.now c.take_name.new.words c.in_ok-name.ensures.name c.in_ok-name.ensures.more ∙ ap (key_of_table c.take_name.new.words) found
+
+pub returns-in_ok-named_table-in-Some-clause-readable : goal.returns-in_ok-named_table-in-Some-clause-readable
+returns-in_ok-named_table-in-Some-clause-readable c =
+    subst IsReadable (sym c.in_ok-named_table-in-Some.ensures.seen)
+    (found_readable c.args.names.now c.in_ok-name.name.now c.in-Some.table.now c.requires (sym c.in-Some.ensures) c.in_ok-named_table-in-Some.ensures.few)
+
+pub returns-in-None-clause-fault : goal.returns-in-None-clause-fault
+returns-in-None-clause-fault c =
+    let names = c.args.names.now in
+    let name = c.in_ok-name.name.now in
+    let found = found_table names name ∙ ap (option_map named_table) (sym c.in-None.ensures) in
+    let here = entry_words (named_tables names) 0 name c.args.words.now c.take_name.new.words c.in_ok-name.ensures.name c.in_ok-name.ensures.more in
+    let here_too = words_of_key (named_tables names) 0 name c.args.words.now c.take_name.new.words c.in_ok-name.ensures.name c.in_ok-name.ensures.more in
+    (refl, (here ∙ ap (of_table 0 c.take_name.new.words) found, here_too ∙ ap (key_of_table c.take_name.new.words) found))
