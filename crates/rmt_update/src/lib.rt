@@ -1,0 +1,6 @@
+//! Entry lists of a run, as changes come.
+#![tactic(auto)]
+
+pub mod fault;
+pub mod held;
+pub mod lists;
