@@ -1,5 +1,5 @@
 -- Keys as numbers.
-use Rattle.std.proofs.Common.{◌≡◌, ◌≢◌, ℕ, ◌+◌, ◌<◌, ◌==◌, ◌&&◌, ◌||◌, Bool, true, false, not, cond, List, [], ◌∷◌, ◌++◌, Option, Some, None, Vec, length, map, slice_get, drop, refl, sym, ap, subst, ◌∙◌, inl, inr, arith, length-append}
+use Rattle.std.proofs.Common.{◌≡◌, ◌≢◌, ℕ, ◌+◌, ◌<◌, ◌==◌, ◌&&◌, ◌||◌, Bool, true, false, not, cond, List, [], ◌∷◌, ◌++◌, Option, Some, None, Vec, length, map, slice_get, drop, is_some, refl, sym, ap, subst, ◌∙◌, inl, inr, arith, length-append}
 use Rattle.std.specs.Prelude.{filter, if◌then◌else◌}
 use Rattle.std.specs.List.{list_any}
 use Rattle.std.specs.Global.{Global}
@@ -164,3 +164,7 @@ length-without key (x ∷ xs) h = by (is_keyed_by key x) refl (length-without ke
     by : (b : Bool) → is_keyed_by key x ≡ b → (holds key xs ≡ true → length (without key xs) + 1 ≡ length xs) → (b || holds key xs) ≡ true → length (cond b xs (x ∷ without key xs)) + 1 ≡ length (x ∷ xs)
     by true s rest t = omega arith
     by false s rest t = let one = rest t in omega (arith, one)
+
+pub keyed_some : (key : EntryKey) (es : List Entry) (o : Option ℕ) → o ≡ slice_get (keyed_numbers key es) 0 → is_some o ≡ holds key es
+keyed_some key es None e = sym (first_keyed key es (sym e))
+keyed_some key es (Some n) e = sym (some_keyed key es n (sym e))

@@ -1,2 +1,5 @@
+pub mod FilterLaws
 pub mod KeyLaws
+pub mod LeftLaws
 pub mod MapLaws
+pub mod StandLaws

@@ -5,6 +5,7 @@ use Rattle.rmt_ast.specs.Answers.{entry_numbers}
 use Rattle.rmt_ast.specs.Changes.{Adds, Removes, EntryKey, Installed, at_first, changed, is_keyed_by, list_of}
 use Rattle.rmt_ast.specs.EntryLists.{Terms}
 use Rattle.rmt_ast.specs.NameRules.{terms_named}
+use Rattle.rmt_ast.specs.declared.program.Kind.{Kind}
 use Rattle.rmt_ast.specs.declared.entry.Entry.{Entry}
 use Rattle.rmt_ast.specs.declared.names.Names.{Names}
 use Rattle.rmt_entries.specs.Entries.{has_keys_once}
@@ -37,20 +38,35 @@ key_of_name k = record { tests = k.tests; rank = k.rank }
 abbrev pub holds : EntryKey → List Entry → Bool
 holds key es = list_any (is_keyed_by key) es
 
--- a run behind an addition to a table with these terms; 6 where the table holds the key of which it holds one alone, 7 where it is
--- full, 9 where there were as many additions as there may be
+-- Why no entry with a key is added to these of a table of this kind and size: 6 where they have the key and may have it once alone, 7
+-- where they are as many as the size, 9 where there were as many additions as there may be.
+abbrev pub refusal_of : Kind → ℕ → ℕ → ℕ → EntryKey → List Entry → Option ℕ
+refusal_of kind size most taken key es =
+    if has_keys_once kind && holds key es then Some 6
+    else (if nat_le size (length es) then Some 7 else (if nat_le most taken then Some 9 else None))
+
+-- a run, where no code stands against it
+abbrev pub unless : Option ℕ → Running → Result Running ℕ
+unless None r = Ok r
+unless (Some code) r = Err code
+
+-- a run with one entry more
+abbrev pub with_one : Running → Entry → Running
+with_one r e = record r { now = changed r.now (Adds e); taken = r.taken + 1 }
+
+-- a run without the entry of a key
+abbrev pub without_one : Running → ℕ → EntryKey → Running
+without_one r node key = record r { now = changed r.now (Removes node key) }
+
+-- a run behind an addition to a table with these terms
 abbrev pub added_to : Running → Entry → Option Terms → Result Running ℕ
 added_to r e None = Err 5
-added_to r e (Some t) =
-    if has_keys_once t.kind && holds (key_of_entry e) (list_of r.now.lists e.table) then Err 6
-    else (if nat_le t.size (length (list_of r.now.lists e.table)) then Err 7
-    else (if nat_le r.most r.taken then Err 9 else Ok (record r { now = changed r.now (Adds e); taken = r.taken + 1 })))
+added_to r e (Some t) = unless (refusal_of t.kind t.size r.most r.taken (key_of_entry e) (list_of r.now.lists e.table)) (with_one r e)
 
 -- a run behind a removal; 8 where the table doesn't hold the key
 abbrev pub removed_from : Running → EntryName → Result Running ℕ
 removed_from r k =
-    if holds (key_of_name k) (list_of r.now.lists k.table) then Ok (record r { now = changed r.now (Removes k.table (key_of_name k)) })
-    else Err 8
+    if holds (key_of_name k) (list_of r.now.lists k.table) then Ok (without_one r k.table (key_of_name k)) else Err 8
 
 -- a run behind the addition of what an entry line says; 5 where it says no entry
 abbrev pub with_entry : Running → Result Entry ℕ → Result Running ℕ
@@ -81,6 +97,10 @@ line_change r line =
 -- the lines since the last commit take effect
 abbrev pub commit_of : Running → Running
 commit_of r = record r { last = r.now.lists }
+
+-- the kind and the size of a table
+abbrev pub kind_and_size : Terms → Kind × ℕ
+kind_and_size t = (t.kind, t.size)
 
 -- a number is among others
 abbrev pub is_among : List ℕ → ℕ → Bool

@@ -1,13 +1,14 @@
 //! What a table holds, found by keys.
 
-ghost use Rattle.std.specs.Prelude.{◌≡◌, ◌<◌, ◌+◌, ◌++◌, ◌∷◌, [], IsTrue, IfOk, OnOk, OnErr, List, Vec as Words, bytes_eq, drop, if◌then◌else◌, length, slice_get};
+ghost use Rattle.std.specs.Prelude.{◌≡◌, ◌<◌, ◌+◌, ◌&&◌, ◌++◌, ◌∷◌, [], IsTrue, IfNone, IfOk, OnOk, OnErr, List, Vec as Words, bytes_eq, drop, if◌then◌else◌, length, slice_get};
 ghost use Rattle.std.specs.Global.{Global as Memory};
 ghost use Rattle.rmt_ast.specs.Changes.{EntryKey, without};
 ghost use Rattle.rmt_ast.specs.declared.entry.Entry.{Entry};
 ghost use Rattle.rmt_update.specs.Holding.{Holds, keyed_numbers, numbers_at, spelled};
-ghost use Rattle.rmt_update.specs.Running.{holds, key_of_entry};
+ghost use Rattle.rmt_entries.specs.Entries.{has_keys_once};
+ghost use Rattle.rmt_update.specs.Running.{holds, key_of_entry, refusal_of};
 
-use rmt_ast::program::Test;
+use rmt_ast::program::{Kind, Test};
 use std::alloc::{AllocError, Global};
 use std::collections::{BTreeMap, VecDeque};
 
@@ -59,6 +60,57 @@ impl Held {
     {
         pop_number(&mut self.numbers, key);
         self.count -= 1;
+    }
+}
+
+/// The code that stands against an entry with a key in a table of this kind and size, which has these entries, where so
+/// many additions were taken of those that there may be.
+pub fn refusal_of(
+    held: &Held,
+    terms: (Kind, u32),
+    most: u32,
+    taken: u32,
+    key: &Vec<u128>,
+) -> Option<u8>
+    ensures refusal { (es : List Entry) (k : EntryKey) → Holds held.now es → key.now.items ≡ spelled k →
+        result ≡ refusal_of terms.0 terms.1 most taken k es }
+    ensures room { IfNone result (held.now.count < 4294967295) }
+    ensures few { IfNone result (taken < most) }
+{
+    let (kind, size) = terms;
+    if is_repeated(held, kind, key) {
+        return Some(6);
+    }
+    if size <= held.count {
+        return Some(7);
+    }
+    if most <= taken {
+        return Some(9);
+    }
+    None
+}
+
+/// Whether a table of this kind has a key that it may have once alone.
+fn is_repeated(held: &Held, kind: Kind, key: &Vec<u128>) -> bool
+    ensures { (es : List Entry) (k : EntryKey) → Holds held.now es → key.now.items ≡ spelled k →
+        result ≡ (has_keys_once kind && holds k es) }
+{
+    if has_keys_once(kind) {
+        held.first(key).is_some()
+    } else {
+        false
+    }
+}
+
+/// Whether a table of this kind holds each key once.
+fn has_keys_once(kind: Kind) -> bool
+    ensures { result ≡ has_keys_once kind }
+{
+    match kind {
+        Kind::Keyless => false,
+        Kind::Exact => true,
+        Kind::Prefix => true,
+        Kind::Ternary => false,
     }
 }
 

@@ -4,3 +4,4 @@
 pub mod fault;
 pub mod held;
 pub mod lists;
+mod reading;
