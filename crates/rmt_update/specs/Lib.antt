@@ -1,3 +1,4 @@
 pub mod Holding
 pub mod Running
+pub mod Settled
 pub mod Stands

@@ -5,3 +5,4 @@ pub mod fault;
 pub mod held;
 pub mod lists;
 mod reading;
+mod settle;

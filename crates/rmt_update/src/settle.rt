@@ -1,0 +1,142 @@
+//! The tables as a commit leaves them.
+
+ghost use Rattle.std.specs.Prelude.{◌≡◌, ◌<◌, ◌≤◌, ◌+◌, ℕ, All, IfOk, OnErr, OnOk, filter, length, not};
+ghost use Rattle.std.specs.List.{flat_map};
+ghost use Rattle.rmt_ast.specs.Answers.{entry_numbers};
+ghost use Rattle.rmt_ast.specs.Changes.{list_of};
+ghost use Rattle.rmt_ast.specs.declared.entry.Entry.{Entry};
+ghost use Rattle.rmt_update.specs.Running.{is_among};
+ghost use Rattle.rmt_update.specs.Settled.{Extends, ExtendsInPart, keeps};
+ghost use Rattle.rmt_update.specs.Stands.{AreSlots, left_at, somes};
+
+use rmt_ast::entry::{Entry, EntryLists};
+use rmt_bits::sequence::Sequence;
+use std::alloc::{AllocError, Global};
+use std::collections::BTreeSet;
+use std::mem::replace;
+
+/// An equal entry. The only fault is want of memory.
+fn copied(alloc: Global, entry: &Entry) -> Result<Entry, AllocError>
+    ensures { IfOk result (λ copy. copy ≡ entry.now) }
+{
+    Ok(Entry {
+        table: entry.table,
+        number: entry.number,
+        tests: Sequence::from_vec(Vec::from_slice(alloc, entry.tests.as_slice())?),
+        rank: entry.rank,
+        action: entry.action,
+        args: Sequence::from_vec(Vec::from_slice(alloc, entry.args.as_slice())?),
+    })
+}
+
+/// Equal entries of those that come, by rising number. The only fault is want of memory.
+pub fn come_of(alloc: Global, come: &[Option<Entry>]) -> Result<Sequence<Entry>, AllocError>
+    ensures { IfOk result (λ entries. entries ≡ somes come.now) }
+{
+    let mut entries = Sequence::new(alloc);
+    for place in come {
+        if let Some(entry) = place {
+            entries.push(copied(alloc, entry)?)?;
+        }
+    }
+    Ok(entries)
+}
+
+/// The numbers of a set, by rising number. The only fault is want of memory.
+pub fn gone_of(alloc: Global, gone: &BTreeSet<u32>) -> Result<Sequence<u32>, AllocError>
+    ensures { IfOk result (λ numbers. numbers ≡ gone.now.keys) }
+{
+    let mut numbers = Sequence::new(alloc);
+    for number in gone {
+        numbers.push(*number)?;
+    }
+    Ok(numbers)
+}
+
+/// Puts entries behind those of their tables. The only fault is want of memory, and then some of them are put.
+fn add_each(
+    alloc: Global,
+    lists: &mut Vec<Sequence<Entry>>,
+    come: &[Option<Entry>],
+) -> Result<(), AllocError>
+    requires tables { All (λ (e : Entry). e.table < length lists.old.items) (somes come.now) }
+    ensures added { OnOk result (Extends lists.old.items (somes come.now) lists.new.items) }
+    ensures some { OnErr result (ExtendsInPart lists.old.items come.now lists.new.items) }
+{
+    for place in come {
+        if let Some(entry) = place {
+            let copy = copied(alloc, entry)?;
+            lists[entry.table as usize].push(copy)?;
+        }
+    }
+    Ok(())
+}
+
+/// Whether an entry stays: it is below a number, and not among those that go.
+fn keeps(gone: &BTreeSet<u32>, limit: u64, entry: &Entry) -> bool
+    ensures { result ≡ keeps gone.now.keys limit entry.now }
+{
+    u64::from(entry.number) < limit && !gone.contains(&entry.number)
+}
+
+/// Keeps the entries of a list that stay.
+fn keep(alloc: Global, list: &mut Sequence<Entry>, gone: &BTreeSet<u32>, limit: u64)
+    ensures { list.new ≡ filter (keeps gone.now.keys limit) list.old }
+{
+    let mut entries = replace(list, Sequence::new(alloc)).into_vec();
+    entries.retain(|entry| keeps(gone, limit, entry));
+    *list = Sequence::from_vec(entries);
+}
+
+/// Keeps the entries of all lists that stay.
+fn keep_each(alloc: Global, lists: &mut Vec<Sequence<Entry>>, gone: &BTreeSet<u32>, limit: u64)
+    ensures count { length lists.new.items ≡ length lists.old.items }
+    ensures kept { (m : ℕ) → list_of lists.new.items m ≡ filter (keeps gone.now.keys limit) (list_of lists.old.items m) }
+{
+    for at in 0..lists.len() {
+        keep(alloc, &mut lists[at], gone, limit);
+    }
+}
+
+/// Takes the entries away that go. A number is above all.
+fn take_gone(alloc: Global, lists: &mut Vec<Sequence<Entry>>, gone: &BTreeSet<u32>, above: u64)
+    ensures count { length lists.new.items ≡ length lists.old.items }
+    ensures left { (m : ℕ) → All (λ (e : Entry). e.number < above) (list_of lists.old.items m) →
+        list_of lists.new.items m ≡ filter (λ (e : Entry). not (is_among gone.now.keys e.number)) (list_of lists.old.items m) }
+{
+    if !gone.is_empty() {
+        keep_each(alloc, lists, gone, above);
+    }
+}
+
+/// Puts entries that come behind those of their tables, and takes those away that go. The only fault is want of
+/// memory, and then all is as before.
+pub fn settle(
+    alloc: Global,
+    last: &mut EntryLists,
+    gone: &BTreeSet<u32>,
+    come: &[Option<Entry>],
+    first: u64,
+) -> Result<(), AllocError>
+    requires slots { AreSlots (length last.old) first come.now }
+    requires old { All (λ n. n < first) (flat_map entry_numbers last.old) }
+    requires gone_old { All (λ n. n < first) gone.now.keys }
+    requires few { first + length come.now ≤ 4294967296 }
+    ensures count { OnOk result (length last.new ≡ length last.old) }
+    ensures left { OnOk result ((m : ℕ) → list_of last.new m ≡ left_at last.old gone.now.keys come.now m) }
+    ensures kept { OnErr result (last.new ≡ last.old) }
+{
+    let mut lists = replace(last, EntryLists::new(alloc)).into_vec();
+    match add_each(alloc, &mut lists, come) {
+        Ok(()) => {
+            take_gone(alloc, &mut lists, gone, first + come.len() as u64);
+            *last = EntryLists::from_vec(lists);
+            Ok(())
+        }
+        Err(error) => {
+            keep_each(alloc, &mut lists, &BTreeSet::new(alloc), first);
+            *last = EntryLists::from_vec(lists);
+            Err(error)
+        }
+    }
+}
