@@ -1,6 +1,8 @@
+pub mod CommitLaws
 pub mod FilterLaws
 pub mod KeyLaws
 pub mod LeftLaws
 pub mod MapLaws
+pub mod NewLaws
 pub mod SettleLaws
 pub mod StandLaws

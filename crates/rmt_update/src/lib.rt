@@ -6,3 +6,4 @@ pub mod held;
 pub mod lists;
 mod reading;
 mod settle;
+mod start;

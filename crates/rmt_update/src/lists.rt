@@ -15,6 +15,8 @@ ghost use Rattle.rmt_update.specs.Stands.{IsRefusal, Stands, StandsFor};
 use crate::fault::{ChangeFault, UpdateFault};
 use crate::held::{Held, refusal_of, spelled};
 use crate::reading::{begins, behind_sign, read_entry, read_key, terms_at};
+use crate::settle::{come_of, gone_of, settle};
+use crate::start::{held_of, next_number};
 use rmt_ast::entry::{Entry, EntryLists};
 use rmt_ast::names::Names;
 use rmt_bits::sequence::Sequence;
@@ -69,7 +71,18 @@ impl Lists {
         requires few { most ≤ 1048576 }
         ensures { IfOk result (λ lists. Stands (fresh names entries most) lists) }
     {
-        Err(UpdateFault::NoMemory)
+        let held = held_of(alloc, entries.as_slice())?;
+        let first = next_number(entries.as_slice());
+        Ok(Lists {
+            names,
+            last: entries,
+            gone: BTreeSet::new(alloc),
+            come: Vec::new(alloc),
+            first,
+            held,
+            taken: 0,
+            most,
+        })
     }
 
     /// Takes a change: `+ ` and an entry line adds the entry, which gets the next number, and `- ` and the table and
@@ -198,7 +211,19 @@ impl Lists {
         ensures changes { IfOk result (λ changes. (r : Running) → Stands r self.old → AreChanges r.last r.now.lists changes) }
         ensures kept { OnErr result ((r : Running) → Stands r self.old → Stands r self.new) }
     {
-        Err(UpdateFault::NoMemory)
+        let gone = gone_of(alloc, &self.gone)?;
+        let come = come_of(alloc, self.come.as_slice())?;
+        settle(
+            alloc,
+            &mut self.last,
+            &self.gone,
+            self.come.as_slice(),
+            self.first,
+        )?;
+        self.first += self.come.len() as u64;
+        self.come.clear();
+        self.gone.clear();
+        Ok(Changes { gone, come })
     }
 
     /// The entries as of the last commit.

@@ -1,6 +1,6 @@
 //! The tables as a commit leaves them.
 
-ghost use Rattle.std.specs.Prelude.{◌≡◌, ◌<◌, ◌≤◌, ◌+◌, ℕ, All, IfOk, OnErr, OnOk, filter, length, not};
+ghost use Rattle.std.specs.Prelude.{◌≡◌, ◌<◌, ◌≤◌, ◌+◌, ℕ, All, AllPairs, IfOk, OnErr, OnOk, filter, length, not};
 ghost use Rattle.std.specs.List.{flat_map};
 ghost use Rattle.rmt_ast.specs.Answers.{entry_numbers};
 ghost use Rattle.rmt_ast.specs.Changes.{list_of};
@@ -44,9 +44,10 @@ pub fn come_of(alloc: Global, come: &[Option<Entry>]) -> Result<Sequence<Entry>,
 
 /// The numbers of a set, by rising number. The only fault is want of memory.
 pub fn gone_of(alloc: Global, gone: &BTreeSet<u32>) -> Result<Sequence<u32>, AllocError>
-    ensures { IfOk result (λ numbers. numbers ≡ gone.now.keys) }
+    ensures numbers { IfOk result (λ numbers. numbers ≡ gone.now.keys) }
+    ensures rise { OnOk result (AllPairs (λ (a b : ℕ). a < b) gone.now.keys) }
 {
-    let mut numbers = Sequence::new(alloc);
+    let mut numbers = Sequence::from_vec(Vec::with_capacity(alloc, gone.len())?);
     for number in gone {
         numbers.push(*number)?;
     }
