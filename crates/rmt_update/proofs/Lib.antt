@@ -1,4 +1,5 @@
 pub mod CommitLaws
+mod Examples
 pub mod FilterLaws
 pub mod KeyLaws
 pub mod LeftLaws
