@@ -167,3 +167,20 @@ place_at xs i x lt at = slice_get-get_or xs i x lt ∙ ap Some (sym at)
 pub nothing : {X : Type 0} (xs : List X) → length xs ≡ 0 → xs ≡ []
 nothing [] e = refl
 nothing (x ∷ xs) e = absurd (omega (arith, e))
+
+-- a list of which as many are kept is kept whole
+pub kept_whole : {X : Type 0} (p : X → Bool) (xs : List X) → length (filter p xs) ≡ length xs → filter p xs ≡ xs
+kept_whole p [] e = refl
+kept_whole p (x ∷ xs) e = by (p x) e (kept_whole p xs) (shorter p xs)
+  where
+    shorter : {X : Type 0} (p : X → Bool) (xs : List X) → length (filter p xs) ≤ length xs
+    shorter p [] = omega arith
+    shorter p (y ∷ ys) = step (p y) (shorter p ys)
+      where
+        step : (b : Bool) → length (filter p ys) ≤ length ys → length (cond b (y ∷ filter p ys) (filter p ys)) ≤ length (y ∷ ys)
+        step true le = omega (arith, le)
+        step false le = omega (arith, le)
+
+    by : (b : Bool) → length (cond b (x ∷ filter p xs) (filter p xs)) ≡ length (x ∷ xs) → (length (filter p xs) ≡ length xs → filter p xs ≡ xs) → length (filter p xs) ≤ length xs → cond b (x ∷ filter p xs) (filter p xs) ≡ x ∷ xs
+    by true s rest le = ap (λ ys. x ∷ ys) (rest (omega (arith, s)))
+    by false s rest le = absurd (omega (arith, s, le))

@@ -213,13 +213,9 @@ impl Lists {
     {
         let gone = gone_of(alloc, &self.gone)?;
         let come = come_of(alloc, self.come.as_slice())?;
-        settle(
-            alloc,
-            &mut self.last,
-            &self.gone,
-            self.come.as_slice(),
-            self.first,
-        )?;
+        let places = self.come.as_slice();
+        let held = self.held.as_slice();
+        settle(alloc, &mut self.last, &self.gone, places, held, self.first)?;
         self.first += self.come.len() as u64;
         self.come.clear();
         self.gone.clear();

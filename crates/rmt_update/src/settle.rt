@@ -1,14 +1,16 @@
 //! The tables as a commit leaves them.
 
-ghost use Rattle.std.specs.Prelude.{◌≡◌, ◌<◌, ◌≤◌, ◌+◌, ℕ, All, AllPairs, IfOk, OnErr, OnOk, filter, length, not};
+ghost use Rattle.std.specs.Prelude.{◌≡◌, ◌<◌, ◌≤◌, ◌+◌, ℕ, All, AllPairs, IfOk, IsTrue, OnErr, OnOk, Some, filter, length, not, slice_get};
 ghost use Rattle.std.specs.List.{flat_map};
 ghost use Rattle.rmt_ast.specs.Answers.{entry_numbers};
 ghost use Rattle.rmt_ast.specs.Changes.{list_of};
 ghost use Rattle.rmt_ast.specs.declared.entry.Entry.{Entry};
+ghost use Rattle.rmt_update.specs.declared.held.Held.{Held as HeldOf};
 ghost use Rattle.rmt_update.specs.Running.{is_among};
 ghost use Rattle.rmt_update.specs.Settled.{Extends, ExtendsInPart, keeps};
 ghost use Rattle.rmt_update.specs.Stands.{AreSlots, left_at, somes};
 
+use crate::held::Held;
 use rmt_ast::entry::{Entry, EntryLists};
 use rmt_bits::sequence::Sequence;
 use std::alloc::{AllocError, Global};
@@ -99,14 +101,52 @@ fn keep_each(alloc: Global, lists: &mut Vec<Sequence<Entry>>, gone: &BTreeSet<u3
     }
 }
 
-/// Takes the entries away that go. A number is above all.
-fn take_gone(alloc: Global, lists: &mut Vec<Sequence<Entry>>, gone: &BTreeSet<u32>, above: u64)
+/// Whether a list has as many entries as its table holds.
+fn is_whole(list: &Sequence<Entry>, held: &[Held], node: usize) -> bool
+    ensures { IsTrue result → (h : HeldOf) × (slice_get held.now node ≡ Some h) × (h.count ≡ length list.now) }
+{
+    match held.get(node) {
+        Some(held) => held.count as usize == list.len(),
+        None => false,
+    }
+}
+
+/// Takes the entries of a table away that go, where any go. A number is above all.
+fn take_from(
+    alloc: Global,
+    list: &mut Sequence<Entry>,
+    gone: &BTreeSet<u32>,
+    held: &[Held],
+    node: usize,
+    above: u64,
+)
+    requires counts { (h : HeldOf) → slice_get held.now node ≡ Some h →
+        h.count ≡ length (filter (λ (e : Entry). not (is_among gone.now.keys e.number)) list.old) }
+    ensures { All (λ (e : Entry). e.number < above) list.old →
+        list.new ≡ filter (λ (e : Entry). not (is_among gone.now.keys e.number)) list.old }
+{
+    if is_whole(list, held, node) {
+        return;
+    }
+    keep(alloc, list, gone, above);
+}
+
+/// Takes the entries away that go. Lists of which none goes are not gone through. A number is above all.
+fn take_gone(
+    alloc: Global,
+    lists: &mut Vec<Sequence<Entry>>,
+    gone: &BTreeSet<u32>,
+    held: &[Held],
+    above: u64,
+)
+    requires counts { (m : ℕ) (h : HeldOf) → slice_get held.now m ≡ Some h →
+        h.count ≡ length (filter (λ (e : Entry). not (is_among gone.now.keys e.number)) (list_of lists.old.items m)) }
     ensures count { length lists.new.items ≡ length lists.old.items }
     ensures left { (m : ℕ) → All (λ (e : Entry). e.number < above) (list_of lists.old.items m) →
         list_of lists.new.items m ≡ filter (λ (e : Entry). not (is_among gone.now.keys e.number)) (list_of lists.old.items m) }
 {
-    if !gone.is_empty() {
-        keep_each(alloc, lists, gone, above);
+    for at in 0..lists.len() {
+        take_from(alloc, &mut lists[at], gone, held, at, above);
     }
 }
 
@@ -117,8 +157,11 @@ pub fn settle(
     last: &mut EntryLists,
     gone: &BTreeSet<u32>,
     come: &[Option<Entry>],
+    held: &[Held],
     first: u64,
 ) -> Result<(), AllocError>
+    requires counts { (m : ℕ) (h : HeldOf) → slice_get held.now m ≡ Some h →
+        h.count ≡ length (left_at last.old gone.now.keys come.now m) }
     requires slots { AreSlots (length last.old) first come.now }
     requires old { All (λ n. n < first) (flat_map entry_numbers last.old) }
     requires gone_old { All (λ n. n < first) gone.now.keys }
@@ -130,7 +173,7 @@ pub fn settle(
     let mut lists = replace(last, EntryLists::new(alloc)).into_vec();
     match add_each(alloc, &mut lists, come) {
         Ok(()) => {
-            take_gone(alloc, &mut lists, gone, first + come.len() as u64);
+            take_gone(alloc, &mut lists, gone, held, first + come.len() as u64);
             *last = EntryLists::from_vec(lists);
             Ok(())
         }
