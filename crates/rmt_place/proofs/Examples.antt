@@ -14,7 +14,7 @@ use Rattle.rmt_phv.specs.Packing.{packing}
 use Rattle.rmt_deps.specs.Edges.{dependencies_of}
 use Rattle.rmt_pack.specs.declared.placement.Part.{Part}
 use Rattle.rmt_place.specs.declared.demand.Demand.{Demand}
-use Rattle.rmt_place.specs.Placing.{order_of, placement_of, placement}
+use Rattle.rmt_place.specs.Placing.{order_of, placement_in, placement_of, placement}
 use Rattle.rmt_place.specs.Starting.{starts_of}
 
 abbrev part : ℕ → ℕ → ℕ → Part
@@ -62,6 +62,16 @@ gate_and_arms = refl
 -- a stage has 16 slots
 seventeen_tables : placement_of (replicate 17 keyless) no_edges ≡ Ok (map (λ n. part n 0 1) (range_with_len 0 16) ++ part 16 1 1 ∷ [])
 seventeen_tables = refl
+
+-- parts stand in the order of placing
+the_other_order : placement_in (keyless ∷ keyless ∷ []) no_edges (1 ∷ 0 ∷ []) ≡ Ok (part 1 0 1 ∷ part 0 0 1 ∷ [])
+the_other_order = refl
+
+-- in an order that isn't good an edge may not be kept
+not_a_good_order :
+    placement_in (replicate 3 keyless) (record { field = []; word = edge 0 1 Word ∷ edge 1 2 Word ∷ [] }) (2 ∷ 1 ∷ 0 ∷ [])
+    ≡ Ok (part 2 1 1 ∷ part 1 1 1 ∷ part 0 0 1 ∷ [])
+not_a_good_order = refl
 
 -- 2 quanta of 16 TCAM blocks each
 split_ternary : placement_of (record keyless { quanta = 2; tcam = 16; sram = 2; instructions = 2 } ∷ []) no_edges ≡ Ok (part 0 0 1 ∷ part 0 1 1 ∷ [])

@@ -1,6 +1,6 @@
 -- What placements keep: each edge, and where parts stand.
 use Rattle.std.proofs.Common.{◌≡◌, ℕ, zero, suc, ◌+◌, ◌-◌, ◌<◌, ◌≤◌, List, [], ◌∷◌, ◌++◌, length, get_or, filter, Bool, true, false, cond, eqb, Ok, Err, Result, inl, inr, sym, refl, subst, ap, ◌∙◌, arith}
-use Rattle.std.specs.List.{All, AllPairs, Contains, range_with_len}
+use Rattle.std.specs.List.{All, Contains, range_with_len}
 use Rattle.std.specs.Prelude.{MatchBool}
 use Rattle.std.proofs.lemmas.Bool.{eqb-false, cases_lt, eq-eqb}
 use Rattle.std.proofs.lemmas.List.{get_or_default}
@@ -15,7 +15,7 @@ use Rattle.rmt_pack.specs.declared.placement.Part.{Part}
 use Rattle.rmt_pack.specs.Placements.{is_strict, Keeps}
 use Rattle.rmt_place.specs.declared.demand.Demand.{Demand}
 use Rattle.rmt_place.specs.Needs.{demand_at}
-use Rattle.rmt_place.specs.Placing.{allowed_by, earliest_stage, fitting, hits_from, IsPart, last_stage, order_of, placed_all, placed_node, placed_then, settled, Spread, spread, stages_from, standing_in, Stuck, taken_part}
+use Rattle.rmt_place.specs.Placing.{allowed_by, earliest_stage, fitting, hits_from, InOrder, IsPart, last_stage, order_of, placed_all, placement_in, placed_node, placed_then, settled, Spread, spread, stages_from, standing_in, Stuck, taken_part}
 use Rattle.rmt_bits.proofs.MostLaws.{items-le}
 use Rattle.rmt_deps.proofs.LevelLaws.{edges_forward, path-le, path_there}
 use Rattle.rmt_place.proofs.OrderLaws.{Goes, order_goes}
@@ -111,10 +111,6 @@ pub record KeepsSoFar (e : Edge) (nodes : List ℕ) (parts : List Part) : Type 0
   pub kept : KeepsEdge e parts
   pub waits : Contains nodes e.from → All (λ (x : Part). x.node ≡ e.to → ⊥) parts
 
--- the earlier node of an edge doesn't come behind the later one
-abbrev pub InOrder : Edge → List ℕ → Type 0
-InOrder e nodes = AllPairs (λ x y. x ≡ e.to → y ≡ e.from → ⊥) nodes
-
 contains_first : (n : ℕ) (rest : List ℕ) (m : ℕ) → n ≡ m → Contains (n ∷ rest) m
 contains_first n rest m is = (0, omega arith, is)
 
@@ -192,8 +188,8 @@ level-le deps nodes e forward there within =
     let longer = path-le deps nodes forward e.to (e ∷ path.0) (there, refl, path.1) in
     omega (arith, longer, path.2, longer-strict e path.0)
 
--- every edge of a placement is kept
-in_order : (deps : Deps) (nodes : ℕ) (e : Edge) → GoForward nodes deps → Contains (all_edges deps) e → InOrder e (order_of (levels_of deps nodes))
+-- the first node of an edge doesn't come behind the second in the rule's order
+pub in_order : (deps : Deps) (nodes : ℕ) (e : Edge) → GoForward nodes deps → Contains (all_edges deps) e → InOrder e (order_of (levels_of deps nodes))
 in_order deps nodes e forward there i j d lt below to from =
     let levels = levels_of deps nodes in
     let order = order_of levels in
@@ -208,13 +204,18 @@ in_order deps nodes e forward there i j d lt below to from =
     let before = goes.number same in
     omega (arith, before, to, from, e_forward.later)
 
+-- every edge is kept that the order has forward
+pub forward_keeps : (demands : List Demand) (deps : Deps) (nodes : ℕ) (order : List ℕ) (final : List Part) → GoForward nodes deps → All (λ e. InOrder e order) (all_edges deps)
+    → placement_in demands deps order ≡ Ok final → All (λ e. KeepsEdge e final) (all_edges deps)
+forward_keeps demands deps nodes order final forward good is = λ i d lt.
+    placed_keeps demands (all_edges deps) (get_or (all_edges deps) i d) order final (Contains-get_or (all_edges deps) i d lt) (edges_forward deps nodes forward i d lt).later (good i d lt) is
+
+-- so the rule's placement keeps every edge
 pub placement_keeps : (demands : List Demand) (deps : Deps) (final : List Part) → GoForward (length demands) deps
     → placed_all demands (all_edges deps) (order_of (levels_of deps (length demands))) [] ≡ Ok final → All (λ e. KeepsEdge e final) (all_edges deps)
-placement_keeps demands deps final forward is = λ i d lt.
-    (let e = get_or (all_edges deps) i d in
-    let there : Contains (all_edges deps) e = Contains-get_or (all_edges deps) i d lt in
-    placed_keeps demands (all_edges deps) e (order_of (levels_of deps (length demands))) final there (edges_forward deps (length demands) forward i d lt).later
-    (in_order deps (length demands) e forward there) is)
+placement_keeps demands deps final forward is =
+    forward_keeps demands deps (length demands) (order_of (levels_of deps (length demands))) final forward
+    (λ i d lt. in_order deps (length demands) (get_or (all_edges deps) i d) forward (Contains-get_or (all_edges deps) i d lt)) is
 
 -- ---- parts
 

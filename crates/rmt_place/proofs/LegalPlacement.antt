@@ -34,7 +34,7 @@ use Rattle.rmt_pack.proofs.NeedLaws.{has_need}
 use Rattle.rmt_place.specs.declared.demand.Demand.{Demand}
 use Rattle.rmt_place.specs.declared.load.TheConstants.{MOST}
 use Rattle.rmt_place.specs.Needs.{Standing, demand_at, demands_of, keeps_limits, nothing, table_demand, what_demands}
-use Rattle.rmt_place.specs.Placing.{earliest_stage, hits_from, IsPart, order_of, placed_all, placed_node, settled, Spread, spread, stages_from, standing_in, Stuck}
+use Rattle.rmt_place.specs.Placing.{earliest_stage, hits_from, IsPart, order_of, placed_all, placed_node, placement_in, settled, Spread, spread, stages_from, standing_in, Stuck}
 use Rattle.rmt_place.specs.Steps.{numbers_of}
 use Rattle.rmt_place.proofs.KeepLaws.{placed_induction, placed_is, placement_keeps}
 use Rattle.rmt_place.proofs.LeastLaws.{contains_in}
@@ -46,7 +46,7 @@ use Rattle.rmt_place.proofs.StageLaws.{kept_at}
 not_in : (ns : List ℕ) (n : ℕ) → is_in ns n ≡ false → All (λ m. m ≡ n → ⊥) ns
 not_in ns n none i d lt same = false≢true (sym none ∙ contains_in ns n (i, lt, get_or_default ns i n d lt ∙ same))
 
-all_there : (levels : List ℕ) (n : ℕ) → n < length levels → get_or levels n 0 < length levels → is_in (order_of levels) n ≡ true
+pub all_there : (levels : List ℕ) (n : ℕ) → n < length levels → get_or levels n 0 < length levels → is_in (order_of levels) n ≡ true
 all_there levels n lt small = by_cases (is_in (order_of levels) n) refl
   where
     by_cases : (b : Bool) → is_in (order_of levels) n ≡ b → b ≡ true
@@ -168,25 +168,20 @@ kept_everywhere demands count parts all kept k = elim (cases_lt k 32) [
 
 -- ---- legal
 
-pub is_legal : (p : Program) (places : List (List Lane)) (deps : Deps) (parts : List Part) → IsProgram p → GoForward (length p.nodes) deps
-    → placed_all (demands_of p places) (all_edges deps) (order_of (levels_of deps (length (demands_of p places)))) [] ≡ Ok parts → All (IsPart (length p.nodes)) parts
+-- a placement is legal that places all nodes and keeps every edge and limit
+pub is_legal_in : (p : Program) (places : List (List Lane)) (deps : Deps) (order : List ℕ) (parts : List Part) → IsProgram p → ((n : ℕ) → n < length p.nodes → is_in order n ≡ true)
+    → All (λ e. All (λ a. All (Keeps e a) parts) parts) (all_edges deps) → placement_in (demands_of p places) deps order ≡ Ok parts → All (IsPart (length p.nodes)) parts
     → ((k : ℕ) → k < 32 → keeps_limits (standing_in (demands_of p places) parts k) ≡ true)
     → IsLegalWith p deps.field (format_at p) parts
-is_legal p places deps parts program forward placed all kept =
+is_legal_in p places deps order parts program there edges placed all kept =
     let demands = demands_of p places in
-    let many : length demands ≡ length p.nodes = simp length-map in
-    let forward_all : GoForward (length demands) deps = subst (λ (n : ℕ). GoForward n deps) (sym many) forward in
-    let levels = levels_of deps (length demands) in
-    let size : length levels ≡ length demands = length-levels_of deps (length demands) in
     let everywhere = kept_everywhere demands (length p.nodes) parts all kept in
     record {
       node_formats = λ n x is. subst (IsNodeFormat p x.what) (sym (mapped (λ (y : Node). what_format p y.what) p.nodes n x no_memory is)) (what_formats p program x.what);
       whole = λ n lt.
-          let small = IsSmall-levels_of deps (length demands) forward_all (length demands) (omega arith) n (omega (arith, many, lt)) in
-          let there = all_there levels n (omega (arith, size, many, lt)) (omega (arith, size, many, lt, small)) in
-          let quanta = placed_whole demands (all_edges deps) (order_of levels) parts n there placed in
+          let quanta = placed_whole demands (all_edges deps) order parts n (there n lt) placed in
           omega (arith, quanta, node_quanta p places program n lt);
-      order = All-left (λ e. All (λ a. All (Keeps e a) parts) parts) deps.field deps.word (placement_keeps demands deps parts forward_all placed);
+      order = All-left (λ e. All (λ a. All (Keeps e a) parts) parts) deps.field deps.word edges;
       sram = λ stage.
           let le = taken-le demands parts (λ n. (format_at p n).sram) (λ (d : Demand). d.sram) (length p.nodes) stage (λ n. (same_blocks p places n).sram) in
           let most = kept_at MOST (numbers_of (standing_in demands parts stage)) 0 (everywhere stage) (omega arith) (omega arith) in
@@ -200,3 +195,22 @@ is_legal p places deps parts program forward placed all kept =
           let most = kept_at MOST (numbers_of (standing_in demands parts stage)) 4 (everywhere stage) (omega arith) (omega arith) in
           omega (arith, le, most);
     }
+
+-- the rule's order has every node
+pub rule_has_all : (deps : Deps) (nodes n : ℕ) → GoForward nodes deps → n < nodes → is_in (order_of (levels_of deps nodes)) n ≡ true
+rule_has_all deps nodes n forward lt =
+    let levels = levels_of deps nodes in
+    let size : length levels ≡ nodes = length-levels_of deps nodes in
+    let small = IsSmall-levels_of deps nodes forward nodes (omega arith) n lt in
+    all_there levels n (omega (arith, size, lt)) (omega (arith, size, lt, small))
+
+pub is_legal : (p : Program) (places : List (List Lane)) (deps : Deps) (parts : List Part) → IsProgram p → GoForward (length p.nodes) deps
+    → placed_all (demands_of p places) (all_edges deps) (order_of (levels_of deps (length (demands_of p places)))) [] ≡ Ok parts → All (IsPart (length p.nodes)) parts
+    → ((k : ℕ) → k < 32 → keeps_limits (standing_in (demands_of p places) parts k) ≡ true)
+    → IsLegalWith p deps.field (format_at p) parts
+is_legal p places deps parts program forward placed all kept =
+    let demands = demands_of p places in
+    let many : length demands ≡ length p.nodes = simp length-map in
+    let forward_all : GoForward (length demands) deps = subst (λ (n : ℕ). GoForward n deps) (sym many) forward in
+    is_legal_in p places deps (order_of (levels_of deps (length demands))) parts program (λ n lt. rule_has_all deps (length demands) n forward_all (omega (arith, many, lt)))
+    (placement_keeps demands deps parts forward_all placed) placed all kept

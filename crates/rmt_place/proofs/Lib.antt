@@ -1,12 +1,16 @@
 pub mod ApartLaws
 pub mod Examples
+pub mod GoodLaws
 pub mod HitLaws
 pub mod KeepLaws
 pub mod LeastLaws
 pub mod LegalLaws
 pub mod LegalPlacement
+pub mod LimitLaws
 pub mod LoadLaws
 pub mod OrderLaws
 pub mod PlaceLaws
+pub mod QuantaLaws
 pub mod StageLaws
 pub mod StartLaws
+pub mod StuckLaws

@@ -1,5 +1,5 @@
 -- How the nodes of a program are placed into stages: by dependency level, each as early as its edges and the limits allow (after the greedy placement of Jose et al. 2015).
-use Rattle.std.specs.Prelude.{◌≡◌, ◌<◌, ◌≤◌, ⊤, ℕ, ◌+◌, ◌-◌, List, [], ◌∷◌, ◌++◌, ◌==◌, nat_lt, if◌then◌else◌, Option, Some, None, find, filter, map, length, slice_index, unwrap_or, Result, Ok, Err, All, sum_by}
+use Rattle.std.specs.Prelude.{◌≡◌, ◌≢◌, ◌<◌, ◌≤◌, ⊤, ℕ, ◌+◌, ◌-◌, List, [], ◌∷◌, ◌++◌, ◌==◌, nat_lt, if◌then◌else◌, Option, Some, None, find, filter, map, length, slice_index, unwrap_or, Result, Ok, Err, All, AllPairs, Contains, sum_by}
 use Rattle.std.specs.List.{flat_map, range_with_len}
 use Rattle.rmt_bits.specs.declared.lane.Lane.{Lane}
 use Rattle.rmt_ast.specs.declared.program.Program.{Program}
@@ -20,6 +20,21 @@ use Rattle.rmt_place.specs.Needs.{Standing, Sum, demands_of, demand_at, sums_of,
 -- nodes by level, and those of one level by number
 abbrev pub order_of : List ℕ → List ℕ
 order_of levels = flat_map (λ level. filter (λ n. slice_index levels n == level) (range_with_len 0 (length levels))) (range_with_len 0 (length levels))
+
+-- the rule's order
+abbrev pub rule_order : Deps → ℕ → List ℕ
+rule_order deps nodes = order_of (levels_of deps nodes)
+
+-- the second node of an edge doesn't stand before the first
+abbrev pub InOrder : Edge → List ℕ → Type 0
+InOrder e order = AllPairs (λ x y. x ≡ e.to → y ≢ e.from) order
+
+-- A good order of so many nodes has each of them once, and the first node of each edge before the second.
+pub record IsGoodOrder (nodes : ℕ) (edges : List Edge) (order : List ℕ) : Type 0 where
+  pub numbers : All (λ n. n < nodes) order
+  pub all_there : (n : ℕ) → n < nodes → Contains order n
+  pub once : AllPairs ◌≢◌ order
+  pub forward : All (λ e. InOrder e order) edges
 
 -- ---- one node
 
@@ -129,9 +144,13 @@ abbrev pub placed_all : List Demand → List Edge → List ℕ → List Part →
 placed_all demands edges [] parts = Ok parts
 placed_all demands edges (n ∷ nodes) parts = placed_then (placed_node demands edges parts n) (placed_all demands edges nodes)
 
--- the parts of all nodes, in the order of placing
+-- the parts of all nodes, where they are placed in this order
+abbrev pub placement_in : List Demand → Deps → List ℕ → Result (List Part) Stuck
+placement_in demands deps order = placed_all demands (all_edges deps) order []
+
+-- by the rule they are placed in its order
 abbrev pub placement_of : List Demand → Deps → Result (List Part) Stuck
-placement_of demands deps = placed_all demands (all_edges deps) (order_of (levels_of deps (length demands))) []
+placement_of demands deps = placement_in demands deps (rule_order deps (length demands))
 
 -- the placement of a program whose fields have these places
 abbrev pub placement : Program → List (List Lane) → Deps → Result (List Part) Stuck

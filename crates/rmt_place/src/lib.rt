@@ -4,10 +4,11 @@
 pub mod demand;
 pub mod fault;
 mod load;
-mod order;
+pub mod order;
 pub mod placing;
 mod stages;
 pub mod start;
 
-pub use placing::place;
+pub use order::rule_order;
+pub use placing::{place, place_in};
 pub use start::offsets;

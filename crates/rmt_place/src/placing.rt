@@ -7,20 +7,19 @@ ghost use Rattle.rmt_deps.specs.Edges.{GoForward};
 ghost use Rattle.rmt_deps.specs.Levels.{all_edges};
 ghost use Rattle.rmt_pack.specs.Placements.{IsLegal, Keeps, is_strict as asks_for_later};
 ghost use Rattle.rmt_pack.specs.declared.placement.Part.{Part};
-ghost use Rattle.rmt_place.specs.Placing.{allowed_by, earliest_stage as earliest, placed_node, placed_all, placement, standing_in, AreTwo, IsPart, IsStuck, TellWhy, TellsWhy};
+ghost use Rattle.rmt_place.specs.Placing.{allowed_by, earliest_stage as earliest, placed_node, placement, placement_in, standing_in, AreTwo, IsPart, IsStuck, TellWhy, TellsWhy};
 ghost use Rattle.rmt_place.specs.Needs.{demands_of, keeps_limits};
 ghost use Rattle.rmt_place.specs.Steps.{AreLast};
 ghost use Rattle.rmt_place.specs.StagesSoFar.{AreFilled};
 
 use crate::demand::{Demand, demands};
 use crate::fault::StageFull;
-use crate::order::order;
+use crate::order::rule_order;
 use crate::stages::{Stages, hits};
 use rmt_ast::deps::{Deps, Edge, EdgeKind};
 use rmt_ast::program::Program;
 use rmt_bits::sequence::Sequence;
 use rmt_config::limits::LimitHit;
-use rmt_deps::levels;
 use rmt_pack::placement::{Placement, is_strict};
 use rmt_phv::places::Places;
 use std::alloc::{AllocError, Global};
@@ -62,20 +61,26 @@ pub fn place(
     ensures hits { IfErr result TellsWhy }
 {
     let demands = demands(alloc, program, places)?;
-    let levels = levels(alloc, deps, demands.len() as u32)?;
-    let order = order(alloc, levels.as_slice())?;
-    place_in_order(alloc, demands.as_slice(), deps, order.as_slice())
+    let order = rule_order(alloc, deps, demands.len() as u32)?;
+    place_in(alloc, demands.as_slice(), deps, order.as_slice())
 }
 
-/// Places nodes in an order.
-fn place_in_order(
+/// Places nodes with these demands as `place` does, but in this order.
+///
+/// In a good order, where the first node of each edge stands before the second, the placement keeps every edge, and is
+/// legal.
+///
+/// # Errors
+///
+/// As of `place`.
+pub fn place_in(
     alloc: Global,
     demands: &[Demand],
     deps: &Deps,
     order: &[u32],
 ) -> Result<Placement, StageFull>
     requires { All (λ n. n < length demands.now) order.now }
-    ensures placed { MatchResult result (λ placed. placed_all demands.now (all_edges deps.now) order.now [] ≡ Ok placed.parts) (IsStuck (placed_all demands.now (all_edges deps.now) order.now [])) }
+    ensures placed { MatchResult result (λ placed. placement_in demands.now deps.now order.now ≡ Ok placed.parts) (IsStuck (placement_in demands.now deps.now order.now)) }
     ensures limits { IfOk result (λ placed. (stage : ℕ) → stage < 32 → keeps_limits (standing_in demands.now placed.parts stage) ≡ true) }
     ensures hits { IfErr result TellsWhy }
 {

@@ -2,7 +2,7 @@ use Rattle.std.proofs.Common.{◌≡◌, drop, []}
 use Rattle.rmt_deps.specs.Levels.{all_edges}
 use Rattle.rmt_place.specs.Placing.{placed_all}
 use Rattle.rmt_place.specs.StagesSoFar.{AreFilled}
-use Rattle.rmt_place.proofs.placing.place_in_order.Given as goal
+use Rattle.rmt_place.proofs.placing.place_in.Given as goal
 
 abbrev pub invariant-loop-node : goal.invariant-loop-node
 invariant-loop-node l = record {
