@@ -1,10 +1,10 @@
 -- Orders in which the nodes of a program may be placed.
-use Rattle.std.specs.Prelude.{ℕ, zero, suc, ◌+◌, ◌-◌, ◌*◌, List, [], ◌∷◌, ◌++◌, Bool, not, ◌&&◌, ◌==◌, nat_lt, if◌then◌else◌, filter, map, length, slice_index, reverse}
+use Rattle.std.specs.Prelude.{◌≡◌, ⊤, Contains, ℕ, zero, suc, ◌+◌, ◌-◌, ◌*◌, List, [], ◌∷◌, ◌++◌, Bool, not, ◌&&◌, ◌==◌, nat_lt, if◌then◌else◌, filter, map, length, slice_index, reverse}
 use Rattle.std.specs.List.{best_of, list_any, range_with_len, swap}
 use Rattle.rmt_ast.specs.declared.deps.Edge.{Edge}
 use Rattle.rmt_ast.specs.declared.deps.Deps.{Deps}
 use Rattle.rmt_config.specs.Resources.{is_in}
-use Rattle.rmt_deps.specs.Levels.{levels_of}
+use Rattle.rmt_deps.specs.Levels.{all_edges, levels_of}
 use Rattle.rmt_place.specs.declared.demand.Demand.{Demand}
 
 -- ---- the heaviest first
@@ -48,6 +48,12 @@ turned_deps nodes deps = record { field = map (turned nodes) deps.field; word = 
 -- of each node the most strict edges on a path that begins in it: its level where all edges are turned
 abbrev pub heights_of : Deps → ℕ → List ℕ
 heights_of deps nodes = reverse (levels_of (turned_deps nodes deps) nodes)
+
+-- The edges of a path that begins in node n, the first one first: each ends where the one behind it begins. No path has more strict edges than the
+-- height of its node, and some path has as many (proofs/HeightLaws).
+abbrev pub IsPathFrom : Deps → ℕ → List Edge → Type 0
+IsPathFrom deps n [] = ⊤
+IsPathFrom deps n (e ∷ path) = Contains (all_edges deps) e × (e.from ≡ n) × IsPathFrom deps e.to path
 
 -- of each node its quanta times the blocks of a quantum
 abbrev pub blocks_of : List Demand → List ℕ
