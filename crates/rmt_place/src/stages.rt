@@ -56,6 +56,9 @@ impl Stages {
         ensures parts { IfOk result (λ taken. self.new.parts.items ≡ self.old.parts.items ++ taken_part node stage taken) }
         ensures stands { OnOk result (AreFilled demands.now self.new) }
     {
+        if left == 0 {
+            return Ok(0);
+        }
         let demand = &demands[node as usize];
         let load = self.loads[stage as usize];
         let quanta = most_that_fit(&load, demand, left);
