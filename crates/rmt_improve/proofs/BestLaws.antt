@@ -1,8 +1,9 @@
 -- Any two tries compare, so the best is the earliest that none is better than.
-use Rattle.std.proofs.Common.{◌≡◌, ℕ, zero, suc, ◌<◌, ◌≤◌, ◌⊎◌, inl, inr, List, [], ◌∷◌, get_or, Bool, true, false, cond, ◌&&◌, ◌||◌, Ok, Err, Result, sym, refl, subst, ap, ◌∙◌, tests, arith}
+use Rattle.std.proofs.Common.{◌≡◌, ℕ, zero, suc, ◌<◌, ◌≤◌, ◌⊎◌, inl, inr, List, [], ◌∷◌, get_or, length, Bool, true, false, cond, ◌&&◌, ◌||◌, Ok, Err, Result, sym, refl, subst, ap, ◌∙◌, tests, arith}
 use Rattle.std.specs.Prelude.{nat_lt, ◌==◌}
 use Rattle.std.specs.Cmp.{IsStrictWeakOrder}
-use Rattle.std.specs.List.{All, best_of}
+use Rattle.std.specs.List.{All, IsFirstBest, best_of}
+use Rattle.std.proofs.lemmas.List.{get_or_default}
 use Rattle.std.proofs.lemmas.Bool.{false≢true}
 use Rattle.std.proofs.lemmas.List.Elements.{All-head, All-tail}
 use Rattle.std.proofs.lemmas.List.MinMax.{IsFirstBest-from_best_of}
@@ -56,19 +57,47 @@ better_ranks edges = record {
   chain = λ a b c first second. chain edges a.placed b.placed c.placed first second;
 }
 
+-- ---- the best is the earliest that none is better than
+
+pub best_is_earliest : (edges : List Edge) (first : Try) (later : List Try)
+    → (k : ℕ) × IsFirstBest (is_better edges) (first ∷ later) (length (first ∷ later)) k × (get_or (first ∷ later) k first ≡ best_of (is_better edges) first later)
+best_is_earliest edges first later = IsFirstBest-from_best_of (better_ranks edges) first later
+
+abbrev IsStuckTry : Try → Type 0
+IsStuckTry t = (stuck : Stuck) × (t.placed ≡ Err stuck)
+
+-- it is stuck where all tries are
+pub all_stuck : (edges : List Edge) (first : Try) (later : List Try) → All IsStuckTry (first ∷ later) → IsStuckTry (best_of (is_better edges) first later)
+all_stuck edges first later all = best-holds IsStuckTry (is_better edges) first later (All-head IsStuckTry first later all) (All-tail IsStuckTry first later all)
+
+-- and only there
+pub only_all_stuck : (edges : List Edge) (first : Try) (later : List Try) → IsStuckTry (best_of (is_better edges) first later) → All IsStuckTry (first ∷ later)
+only_all_stuck edges first later stuck k d lt =
+    let best = best_is_earliest edges first later in
+    let is : get_or (first ∷ later) best.0 d ≡ best_of (is_better edges) first later = get_or_default (first ∷ later) best.0 d first best.1.0 ∙ best.2 in
+    let none : is_better edges (get_or (first ∷ later) k d) (best_of (is_better edges) first later) ≡ false =
+    subst (λ (t : Try). is_better edges (get_or (first ∷ later) k d) t ≡ false) is (best.1.1 k d lt) in
+    by (get_or (first ∷ later) k d).placed refl
+    (ap (λ (r : Result (List Part) Stuck). is_better_than edges (get_or (first ∷ later) k d).placed r) (sym stuck.1) ∙ none)
+  where
+    by : (r : Result (List Part) Stuck) → (get_or (first ∷ later) k d).placed ≡ r → is_better_than edges (get_or (first ∷ later) k d).placed (Err stuck.0) ≡ false
+        → IsStuckTry (get_or (first ∷ later) k d)
+    by (Ok parts) e none = absurd (false≢true (sym none ∙ ap (λ (r : Result (List Part) Stuck). is_better_than edges r (Err stuck.0)) e))
+    by (Err own) e none = (own, e)
+
 -- ---- the best and the first
 
 -- the first is not better than the best
 pub first_not_better : (edges : List Edge) (first : Try) (later : List Try) → is_better edges first (best_of (is_better edges) first later) ≡ false
 first_not_better edges first later =
-    let best = IsFirstBest-from_best_of (better_ranks edges) first later in
+    let best = best_is_earliest edges first later in
     subst (λ (t : Try). is_better edges first t ≡ false) best.2 (best.1.1 0 first (omega arith))
 
 -- the best is the first, or better
 pub first_or_better : (edges : List Edge) (first : Try) (later : List Try)
     → (best_of (is_better edges) first later ≡ first) ⊎ (is_better edges (best_of (is_better edges) first later) first ≡ true)
 first_or_better edges first later =
-    let best = IsFirstBest-from_best_of (better_ranks edges) first later in
+    let best = best_is_earliest edges first later in
     by best.0 best.1.2 best.2
   where
     by : (k : ℕ) → ((j : ℕ) (d : Try) → j < k → is_better edges (get_or (first ∷ later) k d) (get_or (first ∷ later) j d) ≡ true)

@@ -49,8 +49,8 @@ turned_deps nodes deps = record { field = map (turned nodes) deps.field; word = 
 abbrev pub heights_of : Deps → ℕ → List ℕ
 heights_of deps nodes = reverse (levels_of (turned_deps nodes deps) nodes)
 
--- The edges of a path that begins in node n, the first one first: each ends where the one behind it begins. No path has more strict edges than the
--- height of its node, and some path has as many (proofs/HeightLaws).
+-- The edges of a path that begins in node n, the first one first: each ends where the one behind it begins. No path has
+-- more strict edges than the height of the node in which it begins, and some path has as many (proofs/HeightLaws).
 abbrev pub IsPathFrom : Deps → ℕ → List Edge → Type 0
 IsPathFrom deps n [] = ⊤
 IsPathFrom deps n (e ∷ path) = Contains (all_edges deps) e × (e.from ≡ n) × IsPathFrom deps e.to path

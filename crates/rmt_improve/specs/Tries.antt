@@ -44,8 +44,9 @@ is_better edges a b = is_better_than edges a.placed b.placed
 
 -- ---- the tries
 
--- The order of a try by its number, where `best` is that of the best try before it: the rule's; the nodes with the longest way behind them first;
--- those with most blocks first; then the best with two neighbours exchanged, each time the next two.
+-- The order of a try by its number, where `best` is that of the best try before it: the rule's; of the nodes that may be
+-- next each time the one with the most strict edges on a path that begins in it; the one with the most blocks; and then
+-- the best with two neighbours exchanged, each time the next two.
 abbrev pub order_of_try : List Demand → Deps → ℕ → List ℕ → List ℕ
 order_of_try demands deps zero best = rule_order deps (length demands)
 order_of_try demands deps (suc zero) best = by_weight (all_edges deps) (heights_of deps (length demands)) (length demands)
@@ -64,7 +65,7 @@ later_tries demands deps (suc k) =
     let best = best_of (is_better (all_edges deps)) (first_try demands deps) earlier in
     earlier ++ try_in demands deps (order_of_try demands deps (suc k) best.order) ∷ []
 
--- the best of so many tries: the earliest that none is better than
+-- the best of so many tries: the earliest that none is better than (proofs/BestLaws)
 abbrev pub best_try : List Demand → Deps → ℕ → Try
 best_try demands deps budget = best_of (is_better (all_edges deps)) (first_try demands deps) (later_tries demands deps (budget - 1))
 

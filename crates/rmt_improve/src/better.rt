@@ -27,11 +27,11 @@ use std::alloc::Global;
 /// Places the nodes of a program, whose fields have these places, as `place` does, but in that of several orders which
 /// gives the best placement.
 ///
-/// A try is better than another where it isn't stuck and the other is, or it has fewer stages, or as many and an earlier
-/// start of the last one; the earliest that none is better than is taken. The first try is the rule's. The next two take
-/// each time, of the nodes whose edges' first nodes are all taken, the one with the most strict edges on a path that
-/// begins in it, and the one with the most blocks. Each later one exchanges two neighbours in the order of the best so
-/// far, the next two each time, where no edge goes from the first to the second.
+/// A try is better than another where it isn't stuck and the other is, or it has fewer stages, or as many and an
+/// earlier start of the last one; the earliest that none is better than is taken. The first try is the rule's. The next
+/// two take each time, of the nodes whose edges' first nodes are all taken, the one with the most strict edges on a path
+/// that begins in it, and the one with the most blocks. Each later one exchanges two neighbours in the order of the best
+/// so far, the next two each time, where no edge goes from the first to the second.
 ///
 /// # Errors
 ///

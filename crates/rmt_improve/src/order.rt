@@ -44,8 +44,8 @@ pub fn order_of_try(
     }
 }
 
-/// The nodes of these weights, each time the heaviest of those that may be taken next, and of them the one with the least
-/// number.
+/// The nodes of these weights, each time the heaviest of those that may be taken next, and of them the one with the
+/// least number.
 fn by_weight(alloc: Global, deps: &Deps, weights: &[u128]) -> Result<Numbers, AllocError>
     requires few { length weights.now < 2 ^ 32 }
     requires forward { GoForward (length weights.now) deps.now }
@@ -150,7 +150,8 @@ fn heavier(weights: &[u128], best: Option<u32>, node: u32) -> u32
     }
 }
 
-/// An order with the nodes at a place and the next one exchanged, where no edge goes from the first of them to the second.
+/// An order with the nodes at a place and the next one exchanged, where no edge goes from the first of them to the
+/// second.
 fn exchanged(alloc: Global, deps: &Deps, order: &[u32], place: usize) -> Result<Numbers, AllocError>
     requires { place + 1 < length order.now }
     ensures { IfOk result (λ next. next ≡ exchanged_at (all_edges deps.now) order.now place) }
