@@ -7,7 +7,7 @@ ghost use Rattle.rmt_deps.specs.Edges.{GoForward};
 ghost use Rattle.rmt_deps.specs.Levels.{all_edges};
 ghost use Rattle.rmt_pack.specs.Placements.{IsLegal, Keeps, is_strict as asks_for_later};
 ghost use Rattle.rmt_pack.specs.declared.placement.Part.{Part};
-ghost use Rattle.rmt_place.specs.Placing.{allowed_by, earliest_stage as earliest, placed_node, placement, placement_in, standing_in, AreTwo, IsPart, IsStuck, TellWhy, TellsWhy};
+ghost use Rattle.rmt_place.specs.Placing.{allowed_by, earliest_stage as earliest, placed_node, placement, placement_in, standing_in, AreTwo, IsGoodOrder, IsPart, IsStuck, TellWhy, TellsWhy};
 ghost use Rattle.rmt_place.specs.Needs.{demands_of, keeps_limits};
 ghost use Rattle.rmt_place.specs.Steps.{AreLast};
 ghost use Rattle.rmt_place.specs.StagesSoFar.{AreFilled};
@@ -67,8 +67,8 @@ pub fn place(
 
 /// Places nodes with these demands as `place` does, but in this order.
 ///
-/// In a good order, where the first node of each edge stands before the second, the placement keeps every edge, and is
-/// legal.
+/// In a good order, which has each node once and the first node of each edge before the second, the placement is legal
+/// too.
 ///
 /// # Errors
 ///
@@ -81,6 +81,9 @@ pub fn place_in(
 ) -> Result<Placement, StageFull>
     requires { All (λ n. n < length demands.now) order.now }
     ensures placed { MatchResult result (λ placed. placement_in demands.now deps.now order.now ≡ Ok placed.parts) (IsStuck (placement_in demands.now deps.now order.now)) }
+    // A good order keeps each edge between every two parts, where edges go from nodes to later ones.
+    ensures keeps { GoForward (length demands.now) deps.now → IsGoodOrder (length demands.now) (all_edges deps.now) order.now →
+        IfOk result (λ placed. All (λ e. All (λ a. All (Keeps e a) placed.parts) placed.parts) (all_edges deps.now)) }
     ensures limits { IfOk result (λ placed. (stage : ℕ) → stage < 32 → keeps_limits (standing_in demands.now placed.parts stage) ≡ true) }
     ensures hits { IfErr result TellsWhy }
 {
