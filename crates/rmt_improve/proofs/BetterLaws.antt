@@ -1,5 +1,5 @@
 -- The better placement keeps all that the rule's does, has no more stages, and is there wherever the rule's is.
-use Rattle.std.proofs.Common.{◌≡◌, ℕ, ◌-◌, ◌≤◌, List, [], length, Ok, sym, subst, ◌∙◌}
+use Rattle.std.proofs.Common.{◌≡◌, ℕ, ◌-◌, ◌≤◌, List, [], length, Ok, refl, sym, subst, ◌∙◌}
 use Rattle.std.proofs.lemmas.List.{length-map}
 use Rattle.rmt_bits.specs.declared.lane.Lane.{Lane}
 use Rattle.rmt_ast.specs.declared.deps.Deps.{Deps}
@@ -49,3 +49,7 @@ rule_tells_why p places deps NoMemory is = tt
 rule_tells_why p places deps (At node placed hits) is =
     let demands = demands_of p places in
     stuck_why demands (all_edges deps) (first_try demands deps).order [] record { node = node; placed = placed.parts; hits = hits } is
+
+-- one try is the rule's
+pub one_try : (p : Program) (places : List (List Lane)) (deps : Deps) → better_placement p places deps 1 ≡ placement p places deps
+one_try p places deps = refl

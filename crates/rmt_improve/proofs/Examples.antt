@@ -1,5 +1,5 @@
 -- Orders and tries that are worked by hand.
-use Rattle.std.proofs.Common.{◌≡◌, ℕ, [], ◌∷◌, ◌++◌, map, true, false, Ok, Err, refl}
+use Rattle.std.proofs.Common.{◌≡◌, ℕ, ◌+◌, [], ◌∷◌, ◌++◌, map, true, false, Ok, Err, refl}
 use Rattle.std.specs.Prelude.{replicate}
 use Rattle.std.specs.List.{range_with_len}
 use Rattle.std.specs.Result.{result_map_both}
@@ -112,6 +112,12 @@ by_exchange = refl
 -- of tries that are as good the first
 first_of_equals : (best_try (replicate 3 keyless) no_edges 6).order ≡ 0 ∷ 1 ∷ 2 ∷ []
 first_of_equals = refl
+
+-- each of 33 tables matches on what the one before it writes, so there is one good order alone
+no_order :
+    (best_try (replicate 33 keyless) (record { field = map (λ n. edge n (n + 1) Match) (range_with_len 0 32); word = [] }) 5).placed
+    ≡ Err record { node = 32; placed = map (λ n. part n n 1) (range_with_len 0 32); hits = record { limit = 1; stage = 32; sum = 32; need = 1 } ∷ [] }
+no_order = refl
 
 -- a key of 648 bits, in words of which a stage reads 640: all tries are stuck, as the first
 all_stuck :
