@@ -19,7 +19,7 @@ clear-head Without c n lt h = absurd (omega (arith, lt))
 clear-head (Exact k p d w ks rs cs) c n lt h = eqb-true c.head 0 (and_parts _ _ (and_parts _ _ h).0).0
 clear-head (Ternary d ks rs cs) c n lt h = eqb-true c.head 0 (and_parts _ _ (and_parts _ _ (and_parts _ _ h).0).0).0
 
-module _ (stage : Stage) (first : ℕ) (s : SlotUnit) (holds : SlotHolds stage first s) where
+module _ {visible : ℕ} (stage : Stage) (first : ℕ) (s : SlotUnit) (holds : SlotHolds visible stage first s) where
   pub cells-rise : rises_from 0 (map (λ (c : CellNumber). c.cell) s.numbers) ≡ true
   cells-rise = (and_parts _ _ (and_parts _ _ holds.numbers).0).0
 
@@ -33,7 +33,7 @@ module _ (stage : Stage) (first : ℕ) (s : SlotUnit) (holds : SlotHolds stage f
   -- and it is seen
   pub cell-seen : (i : ℕ) → i < length s.numbers → is_seen (content_of stage s (cell_at s.numbers i)).head ≡ true
   cell-seen i lt =
-      let all = AllPass-from_list_all (λ n. content_is_formed first s (content_of stage s n)) (cells_of s) (and_parts _ _ holds.numbers).1 i 0 (let e = length-map s.numbers (λ (c : CellNumber). c.cell) in omega (arith, e, lt)) in
+      let all = AllPass-from_list_all (λ n. content_is_formed visible first s (content_of stage s n)) (cells_of s) (and_parts _ _ holds.numbers).1 i 0 (let e = length-map s.numbers (λ (c : CellNumber). c.cell) in omega (arith, e, lt)) in
       let same = get_or-map (λ (c : CellNumber). c.cell) s.numbers i nowhere 0 lt in
       subst (λ n. is_seen (content_of stage s n).head ≡ true) same (and_parts _ _ (and_parts _ _ (and_parts _ _ all).0).0).0
 

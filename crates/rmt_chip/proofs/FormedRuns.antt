@@ -1,10 +1,10 @@
 -- The chip can run each configuration that keeps the rules of form of its items and the limits.
-use Rattle.std.proofs.Common.{◌≡◌, ℕ, zero, suc, ◌+◌, ◌-◌, ◌*◌, ◌^◌, ◌<◌, ◌≤◌, true, ◌&&◌, ltb, leb, eqb, List, [], ◌∷◌, length, get_or, map, Some, None, lit<, ap, refl, inl, inr, arith}
-use Rattle.std.specs.Prelude.{IsTrue, count_by, slice_get, slice_index}
+use Rattle.std.proofs.Common.{◌≡◌, ℕ, zero, suc, ◌+◌, ◌-◌, ◌*◌, ◌^◌, ◌<◌, ◌≤◌, Bool, true, ◌&&◌, ltb, leb, eqb, List, [], ◌∷◌, length, get_or, map, Some, None, lit<, ap, refl, inl, inr, arith}
+use Rattle.std.specs.Prelude.{IsTrue, IfSome, Option, count_by, slice_get, slice_index}
 use Rattle.std.specs.List.{list_all, AllByRecursion}
 use Rattle.std.specs.List.Sorted.{IsNonDecreasingBy}
-use Rattle.std.proofs.lemmas.Bool.{ltb-true, leb-true, eqb-true, cases_lt, and_parts}
-use Rattle.std.proofs.lemmas.List.{length-map, get_or-map, nil_from_length}
+use Rattle.std.proofs.lemmas.Bool.{ltb-true, leb-true, le-leb, eqb-true, cases_lt, and_parts, and_from}
+use Rattle.std.proofs.lemmas.List.{length-map, get_or-map}
 use Rattle.std.proofs.lemmas.List.Elements.{All-from_recursion, All-weaker}
 use Rattle.std.proofs.lemmas.List.Sums.{AllPass-from_list_all}
 use Rattle.std.proofs.lemmas.Option.{slice_get-get_or}
@@ -12,7 +12,6 @@ use Rattle.rmt_bits.specs.declared.lane.Lane.{Lane}
 use Rattle.rmt_chip.specs.Types.{Config, OutHeader, ParserConfig, ParserState, ParserEntry, TailOf, Stage, Unit as ChipUnit, SlotUnit, Vliw, Operation, Source}
 use Rattle.rmt_config.specs.declared.config.Unit.TheVariants.{Gate, Slot}
 use Rattle.rmt_config.specs.declared.config.Source.TheVariants.{Word, Held, Constant}
-use Rattle.rmt_config.specs.Parser.{has_no_tail}
 use Rattle.rmt_config.specs.declared.form.code.InstructionRole.{InstructionRole}
 use Rattle.rmt_config.specs.Order.{rises_from, never_falls_from}
 use Rattle.rmt_config.specs.LaneForm.{is_lane_of, lane_is_formed, bits_of_lanes, header_is_formed, headers_are_formed, ports_are_formed}
@@ -20,11 +19,12 @@ use Rattle.rmt_config.specs.ParserForm.{next_is_formed, extract_is_formed, looku
 use Rattle.rmt_config.specs.UnitForm.{guard_is_formed, number_is_formed, slot_head_is_formed, memory_is_formed, unit_is_formed}
 use Rattle.rmt_config.specs.CodeForm.{places_of, source_is_formed, kind_is_formed, lane_of_operation, operation_is_formed, vliw_is_formed, code_is_formed}
 use Rattle.rmt_config.specs.StageForm.{srow_fits, trow_fits, stage_is_formed, starts_are_formed, stages_are_formed}
-use Rattle.rmt_config.specs.Form.{items_are_formed, has_no_names}
+use Rattle.rmt_config.specs.TailForm.{has_length_field, has_greatest_length, is_tail_of, tails_are_formed, tails_have_headers}
+use Rattle.rmt_config.specs.Form.{items_are_formed}
 use Rattle.rmt_config.specs.Resources.{is_slot, is_gate}
 use Rattle.rmt_config.specs.Limits.{last_start_hit, IsWithinLimits}
 use Rattle.rmt_config.proofs.LimitLaws.{within, KeepsLimits, limits_kept}
-use Rattle.rmt_ptcam.specs.Fitting.{IsEntry, IsParser}
+use Rattle.rmt_ptcam.specs.Fitting.{IsEntry, IsTailOf, IsParser}
 use Rattle.rmt_chip.specs.Runnable.{LaneFits, source_fits, OperationFits, InstructionFits, data_bits, StageFits, start_of, StagesFit, HeaderFits, IsRunnable}
 use Rattle.rmt_chip.proofs.ReadingLaws.{lane_fits, stage_reads}
 
@@ -74,6 +74,23 @@ never_falls f least (x ∷ xs) e zero (suc j) d le lt = falls_least f (f x) xs (
 never_falls f least (x ∷ xs) e (suc i) zero d le lt = absurd (omega (arith, le))
 never_falls f least (x ∷ xs) e (suc i) (suc j) d le lt = never_falls f (f x) xs (and_parts (leb least (f x)) (never_falls_from (f x) (map f xs)) e).1 i j d (omega (arith, le)) (omega (arith, lt))
 
+-- numbers that never fall from one number on never fall from a smaller one on
+over_lower : {X : Type 0} (f : X → ℕ) (least more : ℕ) (xs : List X) → least ≤ more → never_falls_from more (map f xs) ≡ true → never_falls_from least (map f xs) ≡ true
+over_lower f least more [] le e = refl
+over_lower f least more (x ∷ xs) le e =
+    let p = and_parts (leb more (f x)) (never_falls_from (f x) (map f xs)) e in
+    and_from (leb least (f x)) (never_falls_from (f x) (map f xs)) (le-leb least (f x) (let over : more ≤ f x = leb-true more (f x) p.0 in omega (arith, le, over))) p.1
+
+-- what rises never falls
+rises_over : {X : Type 0} (f : X → ℕ) (least : ℕ) (xs : List X) → rises_from least (map f xs) ≡ true → never_falls_from least (map f xs) ≡ true
+rises_over f least [] e = refl
+rises_over f least (x ∷ xs) e =
+    let p = and_parts (leb least (f x)) (rises_from (f x + 1) (map f xs)) e in
+    and_from (leb least (f x)) (never_falls_from (f x) (map f xs)) p.0 (over_lower f (f x) (f x + 1) xs (omega arith) (rises_over f (f x + 1) xs p.1))
+
+rises_never_fall : {X : Type 0} (f : X → ℕ) (least : ℕ) (xs : List X) → rises_from least (map f xs) ≡ true → IsNonDecreasingBy f xs
+rises_never_fall f least xs e = never_falls f least xs (rises_over f least xs e)
+
 entry_fits : (states : List ParserState) (e : ParserEntry) → entry_is_formed states e ≡ true → IsEntry e
 entry_fits states e formed =
     let front = ltb e.state (length states) && ltb e.state 256 && match_is_formed (lookups_of states e.state) e && ltb e.need 256 in
@@ -88,22 +105,50 @@ entry_fits states e formed =
       extracts = AllPass-from_list_all (extract_is_formed e.need) e.extracts p.1;
     }
 
+-- a tail of an entry of this parser
+abbrev is_formed_tail : ParserConfig → TailOf → Bool
+is_formed_tail p t = is_tail_of t (slice_get p.entries t.entry)
+
+-- the parts of the rules on a tail of an entry
+tail_parts : (t : TailOf) (e : ParserEntry) → is_tail_of t (Some e) ≡ true → (t.header < 64) × (t.len ≤ 8) × (t.from + t.len ≤ 8 * e.need)
+tail_parts t e formed =
+    let of_64 = ltb t.header 64 in
+    let field = has_length_field e t in
+    let p = and_parts (of_64 && field && leb 1 t.unit && ltb t.unit 256 && ltb t.base 256 && has_greatest_length t) (eqb e.advance e.need) formed in
+    let q = and_parts (of_64 && field && leb 1 t.unit && ltb t.unit 256 && ltb t.base 256) (has_greatest_length t) p.0 in
+    let r = and_parts (of_64 && field && leb 1 t.unit && ltb t.unit 256) (ltb t.base 256) q.0 in
+    let s = and_parts (of_64 && field && leb 1 t.unit) (ltb t.unit 256) r.0 in
+    let u = and_parts (of_64 && field) (leb 1 t.unit) s.0 in
+    let v = and_parts of_64 field u.0 in
+    let w = and_parts (leb 1 t.len && leb t.len 8) (leb (t.from + t.len) (8 * e.need)) v.1 in
+    (ltb-true t.header 64 v.0, leb-true t.len 8 (and_parts (leb 1 t.len) (leb t.len 8) w.0).1, leb-true (t.from + t.len) (8 * e.need) w.1)
+
+tail_there : (t : TailOf) (e : Option ParserEntry) → is_tail_of t e ≡ true → (t.header < 64) × (t.len ≤ 8) × IfSome e (λ (x : ParserEntry). t.from + t.len ≤ 8 * x.need)
+tail_there t None formed = absurd cc
+tail_there t (Some e) formed = tail_parts t e formed
+
+tail_fits : (p : ParserConfig) (t : TailOf) → is_formed_tail p t ≡ true → IsTailOf p t
+tail_fits p t formed =
+    let parts = tail_there t (slice_get p.entries t.entry) formed in
+    record { header = parts.0; few_bits = parts.1; within = parts.2 }
+
 parser_fits : (p : ParserConfig) → parser_is_formed p ≡ true → IsParser p
 parser_fits p e =
     let states = states_are_formed p.states in
     let entries = entries_are_formed p in
-    let tails = and_parts (states && entries) (has_no_tail p) e in
+    let tails = and_parts (states && entries) (tails_are_formed p) e in
     let few = ltb (length p.entries) 65536 in
     let each = list_all (entry_is_formed p.states) p.entries in
     let q = and_parts (few && each) (never_falls_from 0 (map (λ (e : ParserEntry). e.state) p.entries)) (and_parts states entries tails.0).1 in
     let all = AllPass-from_list_all (entry_is_formed p.states) p.entries (and_parts few each q.0).1 in
-    let none : p.tails ≡ [] = nil_from_length p.tails (eqb-true (length p.tails) 0 tails.1) in
-    let no_tails : length p.tails ≡ 0 = ap (λ (ts : List TailOf). length ts) none in
+    let told = is_formed_tail p in
+    let numbers : List ℕ = map (λ (t : TailOf). t.entry) p.tails in
+    let rise = and_parts (rises_from 0 numbers && ltb (length p.tails) 65536) (list_all told p.tails) tails.1 in
     record {
       by_state = never_falls (λ (e : ParserEntry). e.state) 0 p.entries q.1;
       entries = All-weaker _ IsEntry (entry_fits p.states) p.entries all;
-      by_entry = λ i j d le lt. absurd (omega arith);
-      tails = λ i d lt. absurd (omega arith);
+      by_entry = rises_never_fall (λ (t : TailOf). t.entry) 0 p.tails (and_parts (rises_from 0 numbers) (ltb (length p.tails) 65536) rise.0).0;
+      tails = All-weaker _ (IsTailOf p) (tail_fits p) p.tails (AllPass-from_list_all told p.tails rise.1);
     }
 
 -- ---- units
@@ -276,9 +321,9 @@ runnable c formed limits =
     let ports = ports_are_formed c in
     let headers = headers_are_formed c.headers in
     let parser = parser_is_formed c.parser in
-    let named = and_parts (ports && headers && parser && stages_are_formed c.stages) (has_no_names c) formed in
-    let a = and_parts (ports && headers && parser) (stages_are_formed c.stages) named.0 in
-    let b = and_parts (ports && headers) parser a.0 in
+    let a = and_parts (ports && headers && parser && tails_have_headers c) (stages_are_formed c.stages) formed in
+    let tailed = and_parts (ports && headers && parser) (tails_have_headers c) a.0 in
+    let b = and_parts (ports && headers) parser tailed.0 in
     let d = and_parts ports headers b.0 in
     let drops = and_parts (ltb c.seed 256 && in_port && out_port) drop d.0 in
     let outs = and_parts (ltb c.seed 256 && in_port) out_port drops.0 in

@@ -15,7 +15,7 @@ use Rattle.rmt_config.specs.StageForm.{trow_fits, stage_is_formed, rows_are_form
 use Rattle.rmt_config.specs.TableForm.{Placed, placed_from, placed_units, ways_follow, unit_stands}
 use Rattle.rmt_config.specs.CellForm.{SlotHolds, StageHolds, Coded, coded_from}
 use Rattle.rmt_config.specs.MemoryRules.{FormedRows}
-use Rattle.rmt_config.specs.Form.{Formed}
+use Rattle.rmt_config.specs.Form.{Formed, visible_with}
 use Rattle.rmt_config.proofs.SlotLaws.{formed-rows}
 use Rattle.rmt_config.proofs.CountsLemmas.{stages_of_items}
 use Rattle.rmt_chip.specs.Memories.{WaysFit, UnitFormed}
@@ -52,15 +52,15 @@ ways-fit s (Ternary d ks rs cs) at h = tt
 
 -- ---- the slots of a stage
 
-units-formed : (stage : Stage) → FormedRows stage → All (λ (r : TcamRow). r.value < 2 ^ 40) stage.trows → (units : List ChipUnit) (first : ℕ) → list_all unit_is_formed units ≡ true
-    → All (λ (c : Coded). SlotHolds stage c.first c.slot) (coded_from first units) → All Follows units → All (UnitFormed stage) units
-units-formed stage rows values [] first form holds follow = λ k d lt. absurd (omega (arith, lt))
-units-formed stage rows values ((Gate g) ∷ units) first form holds follow =
+units-formed : (visible : ℕ) (stage : Stage) → FormedRows stage → All (λ (r : TcamRow). r.value < 2 ^ 40) stage.trows → (units : List ChipUnit) (first : ℕ) → list_all unit_is_formed units ≡ true
+    → All (λ (c : Coded). SlotHolds visible stage c.first c.slot) (coded_from first units) → All Follows units → All (UnitFormed stage) units
+units-formed visible stage rows values [] first form holds follow = λ k d lt. absurd (omega (arith, lt))
+units-formed visible stage rows values ((Gate g) ∷ units) first form holds follow =
     let parts = and_parts (unit_is_formed (Gate g)) (list_all unit_is_formed units) form in
-    All-cons (UnitFormed stage) (Gate g) units tt (units-formed stage rows values units first parts.1 holds (All-tail Follows (Gate g) units follow))
-units-formed stage rows values ((Slot s) ∷ units) first form holds follow =
+    All-cons (UnitFormed stage) (Gate g) units tt (units-formed visible stage rows values units first parts.1 holds (All-tail Follows (Gate g) units follow))
+units-formed visible stage rows values ((Slot s) ∷ units) first form holds follow =
     let parts = and_parts (unit_is_formed (Slot s)) (list_all unit_is_formed units) form in
-    let P : Coded → Type 0 = λ c. SlotHolds stage c.first c.slot in
+    let P : Coded → Type 0 = λ c. SlotHolds visible stage c.first c.slot in
     let rest = coded_from (first + s.actions + 1) units in
     let memory = (and_parts (slot_head_is_formed s) (memory_is_formed s s.memory) parts.0).1 in
     All-cons (UnitFormed stage) (Slot s) units
@@ -68,14 +68,15 @@ units-formed stage rows values ((Slot s) ∷ units) first form holds follow =
       rows = rows;
       values = values;
       form = parts.0;
+      visible = visible;
       first = first;
       holds = All-head P (record { first = first; slot = s }) rest holds;
       ways = ways-fit s s.memory (All-head Follows (Slot s) units follow) memory;
     })
-    (units-formed stage rows values units (first + s.actions + 1) parts.1 (All-tail P (record { first = first; slot = s }) rest holds) (All-tail Follows (Slot s) units follow))
+    (units-formed visible stage rows values units (first + s.actions + 1) parts.1 (All-tail P (record { first = first; slot = s }) rest holds) (All-tail Follows (Slot s) units follow))
 
-stage-formed : (stage : Stage) → stage_is_formed stage ≡ true → rows_are_formed stage ≡ true → StageHolds stage → All Follows stage.units → All (UnitFormed stage) stage.units
-stage-formed stage items rows holds follow =
+stage-formed : (visible : ℕ) (stage : Stage) → stage_is_formed stage ≡ true → rows_are_formed stage ≡ true → StageHolds visible stage → All Follows stage.units → All (UnitFormed stage) stage.units
+stage-formed visible stage items rows holds follow =
     let p7 = and_parts _ _ items in
     let p6 = and_parts _ _ p7.0 in
     let p5 = and_parts _ _ p6.0 in
@@ -84,14 +85,14 @@ stage-formed stage items rows holds follow =
     let p2 = and_parts _ _ p3.0 in
     let fit = AllPass-from_list_all trow_fits stage.trows p7.1 in
     let values : All (λ (r : TcamRow). r.value < 2 ^ 40) stage.trows = λ k d lt. let x = get_or stage.trows k d in ltb-true x.value (2 ^ 40) (and_parts _ _ (and_parts _ _ (fit k d lt)).0).1 in
-    units-formed stage (formed-rows stage items rows) values stage.units 0 p2.1 holds follow
+    units-formed visible stage (formed-rows stage items rows) values stage.units 0 p2.1 holds follow
 
 -- ---- those of all stages
 
-stages-formed : (k : ℕ) (stages : List Stage) → list_all stage_is_formed stages ≡ true → list_all rows_are_formed stages ≡ true → All StageHolds stages
+stages-formed : (visible k : ℕ) (stages : List Stage) → list_all stage_is_formed stages ≡ true → list_all rows_are_formed stages ≡ true → All (StageHolds visible) stages
     → All (λ (x : Placed). Follows x.unit) (placed_from k stages) → All (λ (stage : Stage). All (UnitFormed stage) stage.units) stages
-stages-formed k [] items rows holds follow = λ j d lt. absurd (omega (arith, lt))
-stages-formed k (stage ∷ stages) items rows holds follow =
+stages-formed visible k [] items rows holds follow = λ j d lt. absurd (omega (arith, lt))
+stages-formed visible k (stage ∷ stages) items rows holds follow =
     let i = and_parts (stage_is_formed stage) (list_all stage_is_formed stages) items in
     let r = and_parts (rows_are_formed stage) (list_all rows_are_formed stages) rows in
     let place : ChipUnit → Placed = λ u. record { stage = k; unit = u } in
@@ -99,9 +100,9 @@ stages-formed k (stage ∷ stages) items rows holds follow =
     let own = All-unmap P place stage.units (All-left P (map place stage.units) (placed_from (k + 1) stages) follow) in
     let later = All-right P (map place stage.units) (placed_from (k + 1) stages) follow in
     All-cons (λ (x : Stage). All (UnitFormed x) x.units) stage stages
-    (stage-formed stage i.0 r.0 (All-head StageHolds stage stages holds) own)
-    (stages-formed (k + 1) stages i.1 r.1 (All-tail StageHolds stage stages holds) later)
+    (stage-formed visible stage i.0 r.0 (All-head (StageHolds visible) stage stages holds) own)
+    (stages-formed visible (k + 1) stages i.1 r.1 (All-tail (StageHolds visible) stage stages holds) later)
 
 pub formed-slots : (c : Config) → Formed c → All (λ (stage : Stage). All (UnitFormed stage) stage.units) c.stages
 formed-slots c formed =
-    stages-formed 0 c.stages (stages_of_items c formed.items) formed.whole.rows formed.whole.memory (each-follows [] (placed_units c) formed.whole.tables)
+    stages-formed (visible_with c.names) 0 c.stages (stages_of_items c formed.items) formed.whole.rows formed.whole.memory (each-follows [] (placed_units c) formed.whole.tables)

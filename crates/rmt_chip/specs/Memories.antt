@@ -28,13 +28,14 @@ WaysFit Without = Unit {0}
 WaysFit (Exact k p d w ks rs cs) = w + 3 < 256
 WaysFit (Ternary d ks rs cs) = Unit {0}
 
--- a slot of a stage that keeps the rules of form
+-- a slot of a stage that keeps the rules of form, whatever visible bits its occupied cells have
 pub record SlotFormed (stage : Stage) (slot : SlotUnit) : Type 0 where
   pub rows : FormedRows stage
   pub values : All (λ (r : TcamRow). r.value < 2 ^ 40) stage.trows
   pub form : slot_is_formed slot ≡ true
+  pub visible : ℕ
   pub first : ℕ
-  pub holds : SlotHolds stage first slot
+  pub holds : SlotHolds visible stage first slot
   pub ways : WaysFit slot.memory
 
 -- a unit of a stage, where it is a slot
