@@ -97,19 +97,19 @@ pub record CellsListed (stage : Stage) (slot : SlotUnit) : Type 0 where
   pub seen : (n : CellNumber) → Contains slot.numbers n → is_seen (content_of stage slot n.cell).head ≡ true
   pub others : (n : ℕ) → n < cells_in slot.memory → is_seen (content_of stage slot n).head ≡ true → Contains (cells_of slot) n
 
-pub cells_listed : (stage : Stage) (first : ℕ) (slot : SlotUnit) → SlotHolds stage first slot → CellsListed stage slot
-cells_listed stage first slot holds = record {
+pub cells_listed : (visible : ℕ) (stage : Stage) (first : ℕ) (slot : SlotUnit) → SlotHolds visible stage first slot → CellsListed stage slot
+cells_listed visible stage first slot holds = record {
   rises = front.0;
   within = λ n there. ltb-true n.cell (cells_in slot.memory) (All-contains (λ x. nat_lt x (cells_in slot.memory) ≡ true) (cells_of slot) n.cell all_within (cell_there n there));
-  seen = λ n there. head_seen (content_of stage slot n.cell) (All-contains (λ x. content_is_formed first slot (content_of stage slot x) ≡ true) (cells_of slot) n.cell all_formed (cell_there n there));
+  seen = λ n there. head_seen (content_of stage slot n.cell) (All-contains (λ x. content_is_formed visible first slot (content_of stage slot x) ≡ true) (cells_of slot) n.cell all_formed (cell_there n there));
   others = λ n lt seen. by n lt seen (list_any (λ m. m == n) (cells_of slot)) refl;
 }
   where
     parts : ((rises_from 0 (cells_of slot) && list_all (λ n. nat_lt n (cells_in slot.memory)) (cells_of slot)) ≡ true)
-        × (list_all (λ n. content_is_formed first slot (content_of stage slot n)) (cells_of slot) ≡ true)
+        × (list_all (λ n. content_is_formed visible first slot (content_of stage slot n)) (cells_of slot) ≡ true)
     parts =
         and_parts (rises_from 0 (cells_of slot) && list_all (λ n. nat_lt n (cells_in slot.memory)) (cells_of slot))
-        (list_all (λ n. content_is_formed first slot (content_of stage slot n)) (cells_of slot)) holds.numbers
+        (list_all (λ n. content_is_formed visible first slot (content_of stage slot n)) (cells_of slot)) holds.numbers
 
     front : (rises_from 0 (cells_of slot) ≡ true) × (list_all (λ n. nat_lt n (cells_in slot.memory)) (cells_of slot) ≡ true)
     front = and_parts (rises_from 0 (cells_of slot)) (list_all (λ n. nat_lt n (cells_in slot.memory)) (cells_of slot)) parts.0
@@ -117,18 +117,18 @@ cells_listed stage first slot holds = record {
     all_within : All (λ x. nat_lt x (cells_in slot.memory) ≡ true) (cells_of slot)
     all_within = All-from_test (λ x. nat_lt x (cells_in slot.memory) ≡ true) (λ x. nat_lt x (cells_in slot.memory)) (λ x e. e) (cells_of slot) front.1
 
-    all_formed : All (λ x. content_is_formed first slot (content_of stage slot x) ≡ true) (cells_of slot)
+    all_formed : All (λ x. content_is_formed visible first slot (content_of stage slot x) ≡ true) (cells_of slot)
     all_formed =
-        All-from_test (λ x. content_is_formed first slot (content_of stage slot x) ≡ true) (λ x. content_is_formed first slot (content_of stage slot x)) (λ x e. e) (cells_of slot) parts.1
+        All-from_test (λ x. content_is_formed visible first slot (content_of stage slot x) ≡ true) (λ x. content_is_formed visible first slot (content_of stage slot x)) (λ x e. e) (cells_of slot) parts.1
 
     cell_there : (n : CellNumber) → Contains slot.numbers n → Contains (cells_of slot) n.cell
     cell_there n there = Contains-map (λ (x : CellNumber). x.cell) slot.numbers n there
 
-    head_seen : (x : Content) → content_is_formed first slot x ≡ true → is_seen x.head ≡ true
+    head_seen : (x : Content) → content_is_formed visible first slot x ≡ true → is_seen x.head ≡ true
     head_seen x e =
-        let two = is_occupied x.head && (visible_bits x.head == 0) in
+        let two = is_occupied x.head && (visible_bits x.head == visible) in
         let three = two && nat_le first (code_of x.head) in
-        (and_parts (is_occupied x.head) (visible_bits x.head == 0)
+        (and_parts (is_occupied x.head) (visible_bits x.head == visible)
         (and_parts two (nat_le first (code_of x.head)) (and_parts three (nat_lt (code_of x.head) (first + slot.actions)) e).0).0).0
 
     by : (n : ℕ) → n < cells_in slot.memory → is_seen (content_of stage slot n).head ≡ true → (b : Bool) → list_any (λ m. m == n) (cells_of slot) ≡ b → Contains (cells_of slot) n
@@ -154,7 +154,8 @@ counted_table p (what.Apply i) e = by_table (slice_get p.tables i) refl e
 
 -- ---- the numbers of a configuration
 
-module _ (p : Program) (lists : List (List Entry)) (m : Map) (c : Config) (entries : AreEntries p lists) (carries : Carries p lists m c) (memory : All StageHolds c.stages) where
+module _ (p : Program) (lists : List (List Entry)) (m : Map) (c : Config) (visible : ℕ) (entries : AreEntries p lists) (carries : Carries p lists m c)
+    (memory : All (StageHolds visible) c.stages) where
   -- what is known of a slot: its node, its table, and its cells
   record SlotKnown (k place : ℕ) (stage : Stage) (slot : SlotUnit) : Type 0 where
     node : Node
@@ -174,7 +175,7 @@ module _ (p : Program) (lists : List (List Entry)) (m : Map) (c : Config) (entri
       let table = does_table p m k slot.node node.0.what slot node.2 in
       let list = list_at p lists slot.node node.0 entries node.1 in
       let at_table : table_at p slot.node ≡ Some table.0 = ap (option_and_then (λ (x : Node). applied p x.what)) node.1 ∙ table.1 in
-      let coded = coded_slot (λ (x : Coded). SlotHolds stage x.first x.slot) stage.units 0 place slot part.slot_is (All-slice_get StageHolds c.stages k stage memory part.stage_is) in
+      let coded = coded_slot (λ (x : Coded). SlotHolds visible stage x.first x.slot) stage.units 0 place slot part.slot_is (All-slice_get (StageHolds visible) c.stages k stage memory part.stage_is) in
       record {
         node = node.0;
         table = table.0;
@@ -182,7 +183,7 @@ module _ (p : Program) (lists : List (List Entry)) (m : Map) (c : Config) (entri
         table_is = table.1;
         at_table = at_table;
         carried = table.2;
-        listed = cells_listed stage coded.0 slot coded.1;
+        listed = cells_listed visible stage coded.0 slot coded.1;
         list_is = list.0;
         cells = carries.cells.tables slot.node table.0 (entries_at lists slot.node) at_table list.0;
       }

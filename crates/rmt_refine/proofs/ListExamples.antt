@@ -46,4 +46,4 @@ other_counter = refl
 
 -- the law for lists holds of every list of packets there
 pub all_lists : RunsAs program lists config
-all_lists = lists_law program lists its_map config is_program are_entries carried memories_hold
+all_lists = lists_law program lists its_map config 0 is_program are_entries carried memories_hold

@@ -127,16 +127,16 @@ module _ (p : Program) (lists : List (List Entry)) (c : Config) where
       (packets_same n packets is (All-tail IsAnswered packet packets all))
 
   -- Where each packet's hits are counted, the counters are the program's.
-  pub counters_law : (m : Map) → AreEntries p lists → Carries p lists m c → All StageHolds c.stages → (packets : List Packet)
+  pub counters_law : (m : Map) (visible : ℕ) → AreEntries p lists → Carries p lists m c → All (StageHolds visible) c.stages → (packets : List Packet)
       → All IsAnswered packets → chip_counts_of c (inputs_of c packets) ≡ counts_of p lists packets
-  counters_law m entries carries memory packets all =
+  counters_law m visible entries carries memory packets all =
       let rising : IsStrictlyIncreasing (map (λ (s : Stage). s.start) c.stages) =
       subst IsStrictlyIncreasing (sym carries.units.starts_are) (λ k lt. carries.edges.distances.rise k (k + 1) (omega arith) lt) in
       let ours = flat_map (hits_from c) packets in
       let theirs = flat_map (hits_of p lists) packets in
       let numbers = counted_numbers p p.nodes lists in
       chip_counts_of-all c packets (EndBefore-rising c.stages rising)
-      ∙ ap (map (count_for ours)) (same_numbers p lists m c entries carries memory)
+      ∙ ap (map (count_for ours)) (same_numbers p lists m c visible entries carries memory)
       ∙ map_same (count_for ours) (count_for theirs) (in_order numbers)
       (λ n there. same_count n ours theirs (packets_same n packets (list_any-Contains (λ m. m == n) numbers n (order_member numbers n there) (eq-eqb n n refl)) all))
 
@@ -151,13 +151,13 @@ module _ (p : Program) (lists : List (List Entry)) (c : Config) where
       ∙ ap (λ ys. told_by_answer (answer_of p lists x) ∷ ys) (told_all xs (All-tail IsAnswered x xs all))
 
   -- Where each packet is answered as the program answers it, so is every list of packets.
-  pub packets_law : (m : Map) → AreEntries p lists → Carries p lists m c → All StageHolds c.stages → ((x : Packet) → IsPacket x → IsAnswered x) → RunsAs p lists c
-  packets_law m entries carries memory answered = record {
+  pub packets_law : (m : Map) (visible : ℕ) → AreEntries p lists → Carries p lists m c → All (StageHolds visible) c.stages → ((x : Packet) → IsPacket x → IsAnswered x) → RunsAs p lists c
+  packets_law m visible entries carries memory answered = record {
     answers = λ packets are. ap (map told_by_outcome) (outcomes_of-map c packets) ∙ told_all packets (All-weaker IsPacket IsAnswered answered packets are);
-    counters = λ packets are. counters_law m entries carries memory packets (All-weaker IsPacket IsAnswered answered packets are);
+    counters = λ packets are. counters_law m visible entries carries memory packets (All-weaker IsPacket IsAnswered answered packets are);
   }
 
 -- Where a configuration carries a program, every list of packets is answered as the program answers it.
-pub lists_law : (p : Program) (lists : List (List Entry)) (m : Map) (c : Config) → IsProgram p → AreEntries p lists → Carries p lists m c → All StageHolds c.stages → RunsAs p lists c
-lists_law p lists m c program entries carries memory =
-    packets_law p lists c m entries carries memory (λ x is. own_packet p lists m c x program entries carries is.has_bytes is.port_exists)
+pub lists_law : (p : Program) (lists : List (List Entry)) (m : Map) (c : Config) (visible : ℕ) → IsProgram p → AreEntries p lists → Carries p lists m c → All (StageHolds visible) c.stages → RunsAs p lists c
+lists_law p lists m c visible program entries carries memory =
+    packets_law p lists c m visible entries carries memory (λ x is. own_packet p lists m c x program entries carries is.has_bytes is.port_exists)

@@ -12,32 +12,32 @@ use Rattle.rmt_refine.proofs.ListedLaws.{two}
 use Rattle.rmt_refine.proofs.TwoStages.{config, first_stage, keyless_unit, number_at, ports_unit, second_stage}
 
 -- a slot without memory holds nothing
-keyless_holds : (stage : Stage) (first node : ℕ) → SlotHolds stage first (keyless_unit node)
+keyless_holds : (stage : Stage) (first node : ℕ) → SlotHolds 0 stage first (keyless_unit node)
 keyless_holds stage first node = record { numbers = refl; others = λ n lt more. absurd (omega (arith, lt)); ends = none }
 
-pub first_holds : SlotHolds first_stage 1 (ports_unit false (number_at 0 1 ∷ number_at 1 2 ∷ []))
+pub first_holds : SlotHolds 0 first_stage 1 (ports_unit false (number_at 0 1 ∷ number_at 1 2 ∷ []))
 first_holds =
     let s = ports_unit false (number_at 0 1 ∷ number_at 1 2 ∷ []) in
     let keys = told-from_test (ternary_keys 1 8) (λ r. trow_number r / 2048) (λ r. trow_number r % 2048) (λ (r : TcamRow). r.mask) (0 ∷ 1 ∷ []) first_stage.trows (0 ∷ []) refl in
     let records = told-from_test (ternary_records 1 17) (λ r. srow_number r / 1024) (λ r. srow_number r % 1024) (λ (r : SramRow). r.bits) (0 ∷ 1 ∷ []) first_stage.srows (0 ∷ []) refl in
     let fit = ternary-fits s 1 (0 ∷ []) (0 ∷ []) (1 ∷ 2 ∷ []) refl refl in
-    (ternary-slot first_stage 1 s 1 (0 ∷ []) (0 ∷ []) (1 ∷ 2 ∷ []) (formed-rows first_stage refl refl) fit).0 (refl, (keys, records))
+    (ternary-slot 0 first_stage 1 s 1 (0 ∷ []) (0 ∷ []) (1 ∷ 2 ∷ []) (formed-rows first_stage refl refl) fit).0 (refl, (keys, records))
 
-pub second_holds : SlotHolds second_stage 0 (ports_unit true (number_at 0 0 ∷ []))
+pub second_holds : SlotHolds 0 second_stage 0 (ports_unit true (number_at 0 0 ∷ []))
 second_holds =
     let s = ports_unit true (number_at 0 0 ∷ []) in
     let keys = told-from_test (ternary_keys 1 8) (λ r. trow_number r / 2048) (λ r. trow_number r % 2048) (λ (r : TcamRow). r.mask) (0 ∷ []) second_stage.trows (0 ∷ []) refl in
     let records = told-from_test (ternary_records 1 17) (λ r. srow_number r / 1024) (λ r. srow_number r % 1024) (λ (r : SramRow). r.bits) (0 ∷ []) second_stage.srows (0 ∷ []) refl in
     let fit = ternary-fits s 1 (0 ∷ []) (0 ∷ []) (1 ∷ 2 ∷ []) refl refl in
-    (ternary-slot second_stage 0 s 1 (0 ∷ []) (0 ∷ []) (1 ∷ 2 ∷ []) (formed-rows second_stage refl refl) fit).0 (refl, (keys, records))
+    (ternary-slot 0 second_stage 0 s 1 (0 ∷ []) (0 ∷ []) (1 ∷ 2 ∷ []) (formed-rows second_stage refl refl) fit).0 (refl, (keys, records))
 
 abbrev Holds : Stage → Coded → Type 0
-Holds stage c = SlotHolds stage c.first c.slot
+Holds stage c = SlotHolds 0 stage c.first c.slot
 
-pub memories_hold : All StageHolds config.stages
-memories_hold = two StageHolds first_stage second_stage
+pub memories_hold : All (StageHolds 0) config.stages
+memories_hold = two (StageHolds 0) first_stage second_stage
     (two (Holds first_stage) _ _ (keyless_holds first_stage 0 0) first_holds)
     (two (Holds second_stage) _ _ second_holds (keyless_holds second_stage 2 2))
 
 pub formed : Formed config
-formed = record { items = refl; whole = record { rows = refl; tables = refl; memory = memories_hold; numbers = refl } }
+formed = record { items = refl; whole = record { rows = refl; tables = refl; memory = memories_hold; numbers = refl; names = refl; tails = refl } }

@@ -44,9 +44,9 @@ PacketsAreAnswered =
     → IsProgram p → AreEntries p lists → CarriesIn p lists m c v → All (λ b. b < 256) packet.frame → packet.port < 512
     → AnswersAs p lists (outcome_of (look_in c v) c packet) (answer_of p lists packet)
 
--- Where a configuration carries a program with its entries in its own cells, and its slots list the cells that are occupied, the chip answers and
--- counts as the program does, for every list of packets.
+-- Where a configuration carries a program with its entries in its own cells, and its slots list the cells that are occupied, whatever visible
+-- bits these have, the chip answers and counts as the program does, for every list of packets.
 abbrev pub ListsAreAnswered : Type 0
 ListsAreAnswered =
-    (p : Program) (lists : List (List Entry)) (m : Map) (c : Config)
-    → IsProgram p → AreEntries p lists → Carries p lists m c → All StageHolds c.stages → RunsAs p lists c
+    (p : Program) (lists : List (List Entry)) (m : Map) (c : Config) (visible : ℕ)
+    → IsProgram p → AreEntries p lists → Carries p lists m c → All (StageHolds visible) c.stages → RunsAs p lists c

@@ -24,9 +24,9 @@ pub fn packets()
 {}
 
 /// Where a configuration carries a well-formed program with its entries, as a map tells, with its own cells, and what
-/// its memory holds is well formed (its slots list exactly the cells that are occupied), then the chip run over every
-/// list of packets gives the verdicts and bytes of the plain run, in order, and leaves the same counters. The packets
-/// are any that can come in: on ports 0 to 511, with 1 to 9,216 bytes.
+/// its memory holds is well formed (its slots list exactly the cells that are occupied, which all have the same visible
+/// bits), then the chip run over every list of packets gives the verdicts and bytes of the plain run, in order, and
+/// leaves the same counters. The packets are any that can come in: on ports 0 to 511, with 1 to 9,216 bytes.
 pub fn packet_lists()
     ensures { ListsAreAnswered }
 {}
