@@ -1,9 +1,9 @@
 -- The clustered parser of a program that isn't refused: few states, lookups, bytes and extracts, and no tail where no header has one.
 use Rattle.std.proofs.Common.{◌≡◌, ℕ, suc, ◌+◌, ◌*◌, ◌<◌, ◌≤◌, Bool, true, false, cond, eqb, List, [], ◌∷◌, ◌++◌, Option, Some, None, get_or, length, map, take, drop, fold, find, reverse, refl, sym, ap, ◌∙◌, subst, arith}
-use Rattle.std.specs.Prelude.{All, IfSome, option_map, slice_get}
-use Rattle.std.specs.List.{filter, range_with_len}
+use Rattle.std.specs.Prelude.{◌&&◌, All, IfSome, nat_lt, option_map, slice_get}
+use Rattle.std.specs.List.{filter, list_all, range_with_len}
 use Rattle.std.specs.List.Sorted.{IsNonDecreasingBy}
-use Rattle.std.proofs.lemmas.Bool.{eq-eqb, le-leb, lt-ltb}
+use Rattle.std.proofs.lemmas.Bool.{le-leb, lt-ltb}
 use Rattle.std.proofs.lemmas.List.{length-append, length-map, length-set}
 use Rattle.std.proofs.lemmas.List.Elements.{All-append, All-cons, All-drop, All-filter, All-head, All-map, All-nil, All-set, All-tail, All-take}
 use Rattle.std.proofs.lemmas.List.Sums.{list_all-from_AllPass}
@@ -13,9 +13,10 @@ use Rattle.rmt_ast.specs.WellFormed.{IsProgram}
 use Rattle.rmt_phv.specs.Places.{KeepsApart}
 use Rattle.rmt_bits.proofs.AllLaws.{All-unmap}
 use Rattle.rmt_config.specs.declared.config.Next.TheVariants as next
-use Rattle.rmt_config.specs.Order.{never_falls_from}
+use Rattle.rmt_config.specs.Order.{never_falls_from, rises_from}
 use Rattle.rmt_config.specs.Parser.{tail_of}
 use Rattle.rmt_config.specs.ParserForm.{entry_is_formed, parser_is_formed, state_is_formed}
+use Rattle.rmt_config.specs.TailForm.{is_tail_of, tails_are_formed}
 use Rattle.rmt_ptcam.specs.Clustering.{Clustering, all_joined, behind_join, clustered, compact, is_met, is_wanted, one_entry, one_header, renamed, states_kept}
 use Rattle.rmt_ptcam.specs.Joining.{KeepsForm, Row, can_join, entries_in, join_at, join_to, joined, joined_row, lookups_at, moved, number_of_entry, numbered, rows_from, rows_in, rows_of, tails_in, together, widened, widened_entry}
 use Rattle.rmt_ptcam.specs.Needs.{entry_count, refusal}
@@ -143,7 +144,7 @@ no_tails p n entry (h ∷ hs) all =
     ap (λ o. tails_for p n h entry o ++ tails_from p (n + 1) (entry + entry_count h) hs) (All-head (λ (x : Header). x.tail ≡ None) h hs all)
     ∙ no_tails p (n + 1) (entry + entry_count h) hs (All-tail (λ (x : Header). x.tail ≡ None) h hs all)
 
-clustered_untailed : (p : Program) (places : List (List Lane)) → All (λ (h : Header). h.tail ≡ None) p.headers → (clustered p places).tails ≡ []
+pub clustered_untailed : (p : Program) (places : List (List Lane)) → All (λ (h : Header). h.tail ≡ None) p.headers → (clustered p places).tails ≡ []
 clustered_untailed p places tails =
     compact_untailed (all_joined p (plain p places)) (joins_hold HasNoTail join_untailed p (plain p places) (no_tails p 0 0 p.headers tails))
 
@@ -226,6 +227,11 @@ falls_from least (e ∷ es) sorted all =
       falls_from e.state es (λ i j d le lt. sorted (suc i) (suc j) d (omega (arith, le)) (omega (arith, lt))) (λ k d lt. sorted 0 (suc k) d (omega arith) (omega (arith, lt))),
     ) refl
 
+-- a parser without tails keeps the rules of form on them
+untailed_formed : (parser : ParserConfig) → HasNoTail parser → tails_are_formed parser ≡ true
+untailed_formed parser none =
+    ap (λ (ts : List TailOf). rises_from 0 (map (λ (t : TailOf). t.entry) ts) && nat_lt (length ts) 65536 && list_all (λ (t : TailOf). is_tail_of t (slice_get parser.entries t.entry)) ts) none
+
 small_is_formed : (parser : ParserConfig) → IsSmallParser parser → HasNoTail parser → parser_is_formed parser ≡ true
 small_is_formed parser is none =
     let states = list_all-from_AllPass state_is_formed parser.states is.keeps.states in
@@ -239,7 +245,7 @@ small_is_formed parser is none =
       lt-ltb (length parser.entries) 65536 is.keeps.few,
       entries,
       falls,
-      eq-eqb (length parser.tails) 0 (ap length none),
+      untailed_formed parser none,
     ) refl
 
 module _ (p : Program) (places : List (List Lane)) (program : IsProgram p) (apart : KeepsApart p places) (fits : refusal p ≡ None) where

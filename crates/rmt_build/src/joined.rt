@@ -1,6 +1,6 @@
 //! The back end joined.
 
-ghost use Rattle.std.specs.Prelude.{◌≡◌, ◌≢◌, ◌<◌, ◌≤◌, ℕ, List, All, Some, None, Ok, Err, IfErr, IfOk, IsOkUnless, length, slice_index, true};
+ghost use Rattle.std.specs.Prelude.{◌≡◌, [], ◌≢◌, ◌<◌, ◌≤◌, ℕ, List, All, Some, None, Ok, Err, IfErr, IfOk, IsOkUnless, length, slice_index, true};
 ghost use Rattle.rmt_bits.specs.declared.lane.Lane.{Lane};
 ghost use Rattle.rmt_ast.specs.declared.program.Header.{Header};
 ghost use Rattle.rmt_ast.specs.EntryLists.{AreEntries};
@@ -80,6 +80,9 @@ pub fn build(alloc: Global, program: &Program, entries: &EntryLists) -> Result<B
     // It keeps the rules of form, and the limits of the chip.
     ensures formed { IfOk result (λ b. Formed b.config) }
     ensures limits { IfOk result (λ b. IsWithinLimits b.config) }
+    // So far it has neither names nor tails.
+    ensures no_names { IfOk result (λ b. b.config.names ≡ None) }
+    ensures no_tails { IfOk result (λ b. b.config.parser.tails ≡ []) }
     // Fields are packed, frames parsed, nodes placed and stages started by their rules.
     ensures places { IfOk result (λ b. packing program.now ≡ Ok b.map.places) }
     ensures parser { IfOk result (λ b. clustered_or program.now b.map.places ≡ Ok b.config.parser) }
@@ -136,6 +139,8 @@ fn built_of(
     ensures carries { IfOk result (λ b. Carries program.now entries.now b.map b.config) }
     ensures formed { IfOk result (λ b. Formed b.config) }
     ensures limits { IfOk result (λ b. IsWithinLimits b.config) }
+    ensures no_names { IfOk result (λ b. b.config.names ≡ None) }
+    ensures no_tails { IfOk result (λ b. b.config.parser.tails ≡ []) }
     ensures places { IfOk result (λ b. b.map.places ≡ plan.places) }
     ensures parser { IfOk result (λ b. b.config.parser ≡ parser) }
     ensures placement { IfOk result (λ b. b.map.placement ≡ plan.placement) }

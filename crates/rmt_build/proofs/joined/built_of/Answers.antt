@@ -11,6 +11,8 @@ use Rattle.rmt_refine.specs.Carries.{Carries}
 use Rattle.rmt_build.specs.Loads.{IsFirstSeed}
 use Rattle.rmt_build.specs.Promises.{StandInRows}
 use Rattle.rmt_build.specs.Told.{cells_told}
+use Rattle.rmt_build.specs.Types.{ParserConfig}
+use Rattle.rmt_build.proofs.FormClustered.{clustered_untailed}
 use Rattle.rmt_build.proofs.JoinedLaws.{joined_blocks, joined_carries, joined_formats, joined_formed, joined_limits, joined_rows, same_map}
 use Rattle.rmt_build.proofs.joined.built_of.Goals as goal
 
@@ -47,6 +49,10 @@ returns-clause-formed c =
     let made = c.in_ok-config.ensures in
     joined_formed c.args.program.now c.args.entries.now c.args.plan c.in_ok-config.config c.requires.program c.requires.entries c.requires.plan c.in_ok-stages.stages c.in_ok-config.ensures.stages
     c.in_ok-stages.ensures.stages c.in_ok-config.ensures.seed made.places c.requires.fits c.requires.no_tails (made.parser ∙ c.requires.parser) made.names c.requires.seed.few
+
+pub returns-clause-no_tails : goal.returns-clause-no_tails
+returns-clause-no_tails c =
+    ap (λ (x : ParserConfig). x.tails) (c.in_ok-config.ensures.parser ∙ c.requires.parser) ∙ clustered_untailed c.args.program.now c.args.plan.places c.requires.no_tails
 
 pub returns-clause-limits : goal.returns-clause-limits
 returns-clause-limits c =
