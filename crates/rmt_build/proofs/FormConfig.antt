@@ -34,7 +34,8 @@ use Rattle.rmt_refine.proofs.RankLaws.{compare}
 use Rattle.rmt_build.specs.declared.plan.Plan.{Plan}
 use Rattle.rmt_build.specs.BuiltStage.{IsBuiltStage}
 use Rattle.rmt_build.specs.Plans.{IsPlan, format_at, what_format}
-use Rattle.rmt_build.proofs.FormClustered.{clustered_formed, clustered_parts, clustered_untailed}
+use Rattle.rmt_ptcam.proofs.FormedParsers.{clustered_formed}
+use Rattle.rmt_build.proofs.FormClustered.{clustered_parts, clustered_untailed}
 use Rattle.rmt_build.proofs.FormFits.{data_held, limits_kept, memories, zip_at}
 use Rattle.rmt_bits.proofs.ListLaws.{AllZip-slice_get}
 use Rattle.rmt_build.proofs.FormHolds.{all_hold, starts_formed}
@@ -170,4 +171,4 @@ module _ (p : Program) (lists : List (List Entry)) (plan : Plan) (c : Config) (p
     pub formed_with_clustered : refusal p ≡ None → All (λ (h : Header). h.tail ≡ None) p.headers → c.parser ≡ clustered p plan.places → c.names ≡ None → c.seed < 256 → entries_are_numbered c ≡ true → Formed c
     formed_with_clustered fits tails parser names seed numbers =
         let no_tails : c.parser.tails ≡ [] = ap (λ (x : ParserConfig). x.tails) parser ∙ clustered_untailed p plan.places tails in
-        formed_by_plan fits names no_tails seed (ap parser_is_formed parser ∙ clustered_formed p plan.places program is_plan.places fits tails) numbers
+        formed_by_plan fits names no_tails seed (ap parser_is_formed parser ∙ clustered_formed p plan.places program is_plan.places fits) numbers
