@@ -40,3 +40,16 @@ pub mod CommitLaws
 pub mod HeldLaws
 pub mod NameRuleLaws
 pub mod NamePartLaws
+mod SpelledLists
+mod SpelledOrder
+mod SpelledRanks
+mod SpelledParts
+mod SpelledRows
+mod SpelledTernary
+mod SpelledBytes
+mod SpelledCandidates
+mod SpelledKeys
+mod SpelledWays
+mod SpelledExact
+mod SpelledTable
+mod SpelledPrefix

@@ -16,7 +16,7 @@ unfolding IsDistinct
 distinct_none = tt
 
 -- none of the numbers seen is among these
-abbrev IsClear : List ℕ → List ℕ → Type 0
+abbrev pub IsClear : List ℕ → List ℕ → Type 0
 IsClear seen xs = AllByRecursion (λ m. AllByRecursion (λ y. eqb m y ≡ false) xs) seen
 
 clear_front : (seen : List ℕ) (x : ℕ) (xs : List ℕ) → IsClear seen (x ∷ xs) → (list_any (λ m. eqb m x) seen ≡ false) × IsClear seen xs
@@ -42,7 +42,7 @@ new_from seen (x ∷ xs) c d =
     and_from (not (list_any (λ m. eqb m x) seen)) (are_new (x ∷ seen) xs) (not_from_false (list_any (λ m. eqb m x) seen) front.0)
     (new_from (x ∷ seen) xs (IsDistinct-head eqb x xs d, front.1) (IsDistinct-tail eqb x xs d))
 
-distinct_from : (seen xs : List ℕ) → are_new seen xs ≡ true → IsClear seen xs × IsDistinct eqb xs
+pub distinct_from : (seen xs : List ℕ) → are_new seen xs ≡ true → IsClear seen xs × IsDistinct eqb xs
 distinct_from seen [] e = (clear_none seen, distinct_none)
 distinct_from seen (x ∷ xs) e =
     let parts = and_parts (not (list_any (λ m. eqb m x) seen)) (are_new (x ∷ seen) xs) e in

@@ -30,3 +30,6 @@ pub mod RunInputs
 pub mod Rooms
 pub mod Commits
 pub mod Effects
+pub mod PartsTold
+pub mod PartStands
+pub mod KeysSeen

@@ -9,11 +9,18 @@ ghost use Rattle.rmt_config.specs.NamesForm.{names_fit as names_fit_of};
 mod alone;
 mod differ;
 mod entries;
+mod exact;
+mod exact_part;
+mod key_bytes;
 mod made;
+mod order;
+mod part_list;
 mod parts;
+mod prefix;
 mod room;
 mod table;
 mod tables;
+mod ternary;
 mod words;
 
 use crate::config::Config;

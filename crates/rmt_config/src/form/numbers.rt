@@ -9,7 +9,8 @@ ghost use Rattle.rmt_config.specs.CellForm.{numbers_of_unit, numbers_of_stage, e
 use crate::config::{CellNumber, Config, Stage, Unit};
 use std::alloc::{AllocError, Global};
 
-fn put_numbers(numbers: &mut Vec<u32>, cells: &[CellNumber]) -> Result<(), AllocError>
+/// Adds the numbers of the entries of listed cells.
+pub fn put_numbers(numbers: &mut Vec<u32>, cells: &[CellNumber]) -> Result<(), AllocError>
     ensures { OnOk result (numbers.new.items ≡ numbers.old.items ++ map (λ (n : CellNumber). n.number) cells.now) }
 {
     for cell in cells {

@@ -1,0 +1,92 @@
+-- A cell is a candidate cell of a key exactly where the key's row in the cell's way is that of the cell.
+use Rattle.std.proofs.Common.{◌≡◌, ℕ, zero, suc, ◌+◌, ◌-◌, ◌*◌, ◌/◌, ◌%◌, ◌^◌, ◌<◌, List, [], ◌++◌, Bool, true, false, ◌&&◌, ◌||◌, eqb, refl, sym, ap, ◌∙◌, arith}
+use Rattle.std.specs.List.{list_any, flat_map, range_with_len}
+use Rattle.std.proofs.lemmas.Bool.{and_parts, and_from, eqb-true, eq-eqb, false≢true}
+use Rattle.std.proofs.lemmas.Nat.{div-add-mod', div-mul-add, mod-mul-add, mod_below, div_below}
+use Rattle.std.proofs.lemmas.List.Folds.{list_any-append}
+use Rattle.rmt_bits.specs.Bits.{slice}
+use Rattle.rmt_bits.specs.Hash.{hash_row}
+use Rattle.rmt_bits.proofs.BitLaws.{slice-lt}
+use Rattle.rmt_config.specs.Types.{CellNumber, SramRow}
+use Rattle.rmt_config.specs.Cells.{cell_of, entry_at, sram_row}
+use Rattle.rmt_config.specs.Layouts.{entry_in, exact_keys, local_of, quantum_of}
+use Rattle.rmt_config.specs.KeysSeen.{is_candidate, key_in}
+use Rattle.rmt_config.proofs.CellLayouts.{exact-entry}
+use Rattle.rmt_config.proofs.SpelledRows.{range-from, range-to}
+use Rattle.std.proofs.Math.Nat.{mod-eq_of_lt}
+use Rattle.std.proofs.lemmas.Nat.{shr_below}
+
+pub iff-same : (a b : Bool) → (a ≡ true → b ≡ true) → (b ≡ true → a ≡ true) → a ≡ b
+iff-same true true f g = refl
+iff-same false false f g = refl
+iff-same true false f g = absurd (false≢true (f refl))
+iff-same false true f g = absurd (false≢true (g refl))
+
+-- the cells of a row of a way
+row-cells : (rows per way row cell : ℕ) → 0 < per → row < rows
+    → list_any (λ m. eqb m cell) (range_with_len ((way * rows + row) * per + 0) per) ≡ (eqb way (cell / per / rows) && eqb row (cell / per % rows))
+row-cells rows per way row cell some low =
+    iff-same (list_any (λ m. eqb m cell) (range_with_len (q * per + 0) per)) (eqb way (cell / per / rows) && eqb row (cell / per % rows)) there back
+  where
+    q : ℕ
+    q = way * rows + row
+
+    there : list_any (λ m. eqb m cell) (range_with_len (q * per + 0) per) ≡ true → (eqb way (cell / per / rows) && eqb row (cell / per % rows)) ≡ true
+    there h =
+        let l = range-to (q * per + 0) per cell h in
+        let s = cell - q * per in
+        let is : q * per + s ≡ cell = omega (arith, l.0) in
+        let lt : s < per = omega (arith, l.0, l.1) in
+        let place : cell / per ≡ q = ap (λ n. n / per) (sym is) ∙ div-mul-add q per s lt in
+        and_from (eqb way (cell / per / rows)) (eqb row (cell / per % rows))
+        (eq-eqb way (cell / per / rows) (sym (ap (λ n. n / rows) place ∙ div-mul-add way rows row low)))
+        (eq-eqb row (cell / per % rows) (sym (ap (λ n. n % rows) place ∙ mod-mul-add way rows row low)))
+
+    back : (eqb way (cell / per / rows) && eqb row (cell / per % rows)) ≡ true → list_any (λ m. eqb m cell) (range_with_len (q * per + 0) per) ≡ true
+    back h =
+        let parts = and_parts (eqb way (cell / per / rows)) (eqb row (cell / per % rows)) h in
+        let e : q ≡ cell / per = ap (λ w. w * rows + row) (eqb-true way (cell / per / rows) parts.0) ∙ ap (λ r. cell / per / rows * rows + r) (eqb-true row (cell / per % rows) parts.1) ∙ div-add-mod' (cell / per) rows in
+        let is : q * per + cell % per ≡ cell = ap (λ n. n * per + cell % per) e ∙ div-add-mod' cell per in
+        let lt : cell % per < per = mod_below cell per some in
+        range-from (q * per + 0) per cell (omega (arith, is)) (omega (arith, is, lt))
+
+or-false : (b : Bool) → (b || false) ≡ b
+or-false true = refl
+or-false false = refl
+
+-- of four ways one is that of the cell
+one-way : (f g : ℕ → Bool) (w : ℕ) → w < 4 → ((k : ℕ) → f k ≡ (eqb k w && g k)) → (f 0 || (f 1 || (f 2 || (f 3 || false)))) ≡ g w
+one-way f g zero lt h = rw (h 0, h 1, h 2, h 3) (or-false (g 0))
+one-way f g (suc zero) lt h = rw (h 0, h 1, h 2, h 3) (or-false (g 1))
+one-way f g (suc (suc zero)) lt h = rw (h 0, h 1, h 2, h 3) (or-false (g 2))
+one-way f g (suc (suc (suc zero))) lt h = rw (h 0, h 1, h 2, h 3) (or-false (g 3))
+one-way f g (suc (suc (suc (suc w)))) lt h = absurd (omega (arith, lt))
+
+four-ways : (p : ℕ → Bool) (f : ℕ → List ℕ) → list_any p (flat_map f (range_with_len 0 4)) ≡ (list_any p (f 0) || (list_any p (f 1) || (list_any p (f 2) || (list_any p (f 3) || false))))
+four-ways p f =
+    list_any-append p (f 0) (f 1 ++ (f 2 ++ (f 3 ++ [])))
+    ∙ ap (λ b. list_any p (f 0) || b) (list_any-append p (f 1) (f 2 ++ (f 3 ++ [])) ∙ ap (λ b. list_any p (f 1) || b) (list_any-append p (f 2) (f 3 ++ []) ∙ ap (λ b. list_any p (f 2) || b) (list_any-append p (f 3) [])))
+
+pub candidate-row : (seed first per d : ℕ) (key : List ℕ) (cell : ℕ) → 0 < per → 0 < d → cell < 4096 * d * per
+    → is_candidate seed first per d key cell ≡ eqb (hash_row seed (first + cell / per / (1024 * d)) key (1024 * d)) (cell / per % (1024 * d))
+candidate-row seed first per d key cell lp ld lt =
+    let rows = 1024 * d in
+    let hash : ℕ → ℕ = λ way. hash_row seed (first + way) key rows in
+    let cells : ℕ → List ℕ = λ way. range_with_len ((way * rows + hash way) * per + 0) per in
+    let some : 0 < rows = omega (arith, ld) in
+    let total : 4096 * d * per ≡ 4 * rows * per = omega arith in
+    let place : cell / per < 4 * rows = div_below cell per (4 * rows) lp (omega (arith, lt, total)) in
+    let way : cell / per / rows < 4 = div_below (cell / per) rows 4 some (omega (arith, place)) in
+    four-ways (λ m. eqb m cell) cells
+    ∙ one-way (λ k. list_any (λ m. eqb m cell) (cells k)) (λ k. eqb (hash k) (cell / per % rows)) (cell / per / rows) way
+    (λ k. row-cells rows per k (hash k) cell lp (mod_below _ rows some))
+
+-- ---- the key of a cell
+
+pub above-byte : (x bits : ℕ) → x < 2 ^ (bits + 8) → slice x 8 bits ≡ x / 256
+above-byte x bits lt = mod-eq_of_lt (shr_below x bits 8 lt)
+
+pub key-read : (rows : List SramRow) (blocks : List ℕ) (k p d bits : ℕ) (n : CellNumber) → 0 < p → 0 < d
+    → (let l = exact_keys k p d bits in slice (entry_in l (sram_row rows) blocks (quantum_of l n.cell) (local_of l n.cell)) 8 bits ≡ key_in rows blocks k p d bits n)
+key-read rows blocks k p d bits n lp ld =
+    ap (λ e. slice e 8 bits) (sym (exact-entry (sram_row rows) blocks k p d bits n.cell lp ld)) ∙ above-byte (entry_at (sram_row rows) blocks k bits (cell_of (1024 * d) p n.cell)) bits (slice-lt _ _ (bits + 8))

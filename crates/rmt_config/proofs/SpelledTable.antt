@@ -1,0 +1,224 @@
+-- An exact table is named as its parts are filled, by what is found out of each part.
+use Rattle.std.proofs.Common.{◌≡◌, ℕ, ◌+◌, ◌-◌, ◌*◌, ◌^◌, ◌<◌, ◌≤◌, List, [], ◌∷◌, ◌++◌, length, get_or, drop, map, Bool, true, false, not, ◌&&◌, eqb, leb, Vec, refl, sym, ap, ◌∙◌, subst, arith}
+use Rattle.std.specs.Prelude.{All, IsTrue, sum}
+use Rattle.std.specs.List.{flat_map, list_all, list_any}
+use Rattle.std.specs.Global.{Global}
+use Rattle.std.specs.BTreeSet.{BTreeSet}
+use Rattle.std.proofs.lemmas.Bool.{and_parts, eqb-true, false≢true, le-leb, lt-leb}
+use Rattle.std.proofs.lemmas.List.{map-append}
+use Rattle.std.proofs.lemmas.List.Elements.{All-nil, All-cons, All-head, All-tail, All-append}
+use Rattle.rmt_bits.proofs.FunctionLaws.{funext}
+use Rattle.rmt_bits.proofs.BitLaws.{slice-lt}
+use Rattle.rmt_ast.specs.declared.names.TableName.{TableName}
+use Rattle.rmt_ast.specs.declared.program.Kind.TheVariants as kind
+use Rattle.rmt_ast.specs.declared.program.Test.{Test}
+use Rattle.rmt_ast.specs.declared.entry.Entry.{Entry}
+use Rattle.rmt_ast.specs.Changes.{are_same}
+use Rattle.rmt_config.specs.Types.{CellNumber, Config, Memory}
+use Rattle.rmt_config.specs.declared.config.Memory.TheVariants.{Without, Exact, Ternary}
+use Rattle.rmt_config.specs.LaneForm.{bits_of_lanes}
+use Rattle.rmt_config.specs.Shapes.{divided_up}
+use Rattle.rmt_config.specs.Cells.{candidates, cell_of, content_of, entry_at, sram_row}
+use Rattle.rmt_config.specs.UnitForm.{slot_head_is_formed, memory_is_formed}
+use Rattle.rmt_config.specs.Form.{items_are_formed}
+use Rattle.rmt_config.specs.MemoryRules.{MemoryIsFormed}
+use Rattle.rmt_config.specs.Rooms.{PartAt, parts_of}
+use Rattle.rmt_config.specs.PartStands.{PartStands}
+use Rattle.rmt_config.specs.PartsTold.{listed_numbers, part_at, parts_at}
+use Rattle.rmt_config.specs.declared.form.names.part_list.Part.{Part}
+use Rattle.rmt_bits.proofs.AllLaws.{All-unmap}
+use Rattle.rmt_config.proofs.SpelledLists.{drop-at}
+use Rattle.rmt_config.specs.NamesForm.{each_later, entries_by_cell, entry_in, has_key_bits, has_parts, held_by, is_filled_so, is_made_so, is_of_kind, stands_in_candidates, tests_of_key}
+use Rattle.rmt_config.specs.KeysSeen.{Knows, Sees, WaysLow, key_held, key_in, keys_after, parts_fit, stands_in, stands_there}
+use Rattle.rmt_config.proofs.CellLayouts.{up-enough}
+use Rattle.rmt_config.proofs.SpelledCandidates.{above-byte}
+use Rattle.rmt_config.proofs.SpelledExact.{keys_listed, news, news-differ, parts-split}
+use Rattle.rmt_config.proofs.SpelledParts.{held-is, parts-stand}
+use Rattle.rmt_config.proofs.SpelledRanks.{entries-count, later-map}
+use Rattle.rmt_config.proofs.SpelledTernary.{filled_as, of-kind}
+use Rattle.rmt_config.proofs.SpelledWays.{PartFollows, parts-follow, ways-low}
+
+-- ---- the cells of a part
+
+module _ (c : Config) (p : PartAt) (st : PartStands c p) (k per d w : ℕ) (ks rs cs : List ℕ) (e : p.slot.memory ≡ Exact k per d w ks rs cs) where
+  exact-key : (n : CellNumber) → key_in st.stage.srows ks k per d (bits_of_lanes p.slot.keys) n ≡ key_held c p n
+  exact-key n =
+      sym (ap (λ x. x.key) (held-is c p st n.cell) ∙ ap (λ (m : Memory). (content_of st.stage (record p.slot { memory = m }) n.cell).key) e)
+
+  pub exact-mask : (n : CellNumber) → (held_by c p n).mask ≡ 2 ^ bits_of_lanes p.slot.keys - 1
+  exact-mask n = ap (λ x. x.mask) (held-is c p st n.cell) ∙ ap (λ (m : Memory). (content_of st.stage (record p.slot { memory = m }) n.cell).mask) e
+
+  pub exact-low : (n : CellNumber) → (held_by c p n).key < 2 ^ bits_of_lanes p.slot.keys
+  exact-low n =
+      let bits = bits_of_lanes p.slot.keys in
+      let entry = entry_at (sram_row st.stage.srows) ks k bits (cell_of (1024 * d) per n.cell) in
+      subst (λ x. x < 2 ^ bits) (above-byte entry bits (slice-lt _ _ (bits + 8)) ∙ exact-key n) (slice-lt entry 8 bits)
+
+  exact-stands : (n : CellNumber) → stands_there c.seed w per d (divided_up (bits_of_lanes p.slot.keys) 8) (key_in st.stage.srows ks k per d (bits_of_lanes p.slot.keys)) n ≡ stands_in c p n
+  exact-stands n =
+      ap (λ x. list_any (λ m. eqb m n.cell) (candidates c.seed (bits_of_lanes p.slot.keys) (Exact k per d w ks rs cs) x)) (exact-key n)
+      ∙ ap (λ m. list_any (λ m. eqb m n.cell) (candidates c.seed (bits_of_lanes p.slot.keys) m (key_held c p n))) (sym e)
+
+  pub exact-sees : (before : List ℕ) (set : BTreeSet (Vec ℕ Global)) (fit : Bool)
+      → (let key = key_in st.stage.srows ks k per d (bits_of_lanes p.slot.keys) in
+      let size = divided_up (bits_of_lanes p.slot.keys) 8 in
+      Sees size (stands_there c.seed w per d size key) key before p.slot.numbers set fit → Sees size (stands_in c p) (key_held c p) before p.slot.numbers set fit)
+  exact-sees before set fit h =
+      let size = divided_up (bits_of_lanes p.slot.keys) 8 in
+      let key = key_in st.stage.srows ks k per d (bits_of_lanes p.slot.keys) in
+      subst (λ (f : CellNumber → ℕ). Sees size (stands_in c p) f before p.slot.numbers set fit) (funext key (key_held c p) exact-key)
+      (subst (λ (f : CellNumber → Bool). Sees size f key before p.slot.numbers set fit) (funext (stands_there c.seed w per d size key) (stands_in c p) exact-stands) h)
+
+-- ---- the parts of an exact table
+
+pub record ExactPart (c : Config) (bits : ℕ) (p : PartAt) : Type 0 where
+  pub stands : PartStands c p
+  pub kind : is_of_kind kind.Exact p.slot.memory ≡ true
+  pub ways : WaysLow p.slot.memory
+  pub all_bits : bits ≡ bits_of_lanes p.slot.keys
+
+exact-all : (c : Config) (bits : ℕ) (ps : List PartAt) → All (PartStands c) ps → list_all (λ (p : PartAt). is_of_kind kind.Exact p.slot.memory) ps ≡ true → All PartFollows ps
+    → list_all (λ (p : PartAt). eqb bits (bits_of_lanes p.slot.keys)) ps ≡ true → All (ExactPart c bits) ps
+exact-all c bits [] stand kinds follow same = All-nil (ExactPart c bits)
+exact-all c bits (p ∷ ps) stand kinds follow same =
+    let one = All-head (PartStands c) p ps stand in
+    let two = and_parts (is_of_kind kind.Exact p.slot.memory) (list_all (λ (p : PartAt). is_of_kind kind.Exact p.slot.memory) ps) kinds in
+    let three = and_parts (eqb bits (bits_of_lanes p.slot.keys)) (list_all (λ (p : PartAt). eqb bits (bits_of_lanes p.slot.keys)) ps) same in
+    All-cons (ExactPart c bits) p ps
+    (record {
+      stands = one;
+      kind = two.0;
+      ways = ways-low p.slot p.slot.memory (All-head PartFollows p ps follow) (and_parts (slot_head_is_formed p.slot) (memory_is_formed p.slot p.slot.memory) one.slot).1;
+      all_bits = eqb-true bits (bits_of_lanes p.slot.keys) three.0;
+    })
+    (exact-all c bits ps (All-tail (PartStands c) p ps stand) two.1 (All-tail PartFollows p ps follow) three.1)
+
+pub exact-parts : (c : Config) (t : TableName) → IsTrue (items_are_formed c) → MemoryIsFormed c → t.kind ≡ kind.Exact → has_parts c t ≡ true → has_key_bits c t ≡ true
+    → All (ExactPart c (sum t.keys)) (parts_of c t.node)
+exact-parts c t items memory is has bits =
+    exact-all c (sum t.keys) (parts_of c t.node) (parts-stand c t.node items memory) (of-kind c t kind.Exact is has) (parts-follow c t.node memory) bits
+
+-- ---- their keys
+
+record KeysOf (c : Config) (bits : ℕ) (p : PartAt) : Type 0 where
+  mask : (n : CellNumber) → (held_by c p n).mask ≡ 2 ^ bits - 1
+  low : (n : CellNumber) → (held_by c p n).key < 2 ^ bits
+
+keys-by : (c : Config) (bits : ℕ) (p : PartAt) → ExactPart c bits p → (m : Memory) → p.slot.memory ≡ m → is_of_kind kind.Exact m ≡ true → KeysOf c bits p
+keys-by c bits p x Without e is = absurd (false≢true is)
+keys-by c bits p x (Exact k per d w ks rs cs) e is = record {
+  mask = λ n. exact-mask c p x.stands k per d w ks rs cs e n ∙ ap (λ b. 2 ^ b - 1) (sym x.all_bits);
+  low = λ n. subst (λ b. (held_by c p n).key < 2 ^ b) (sym x.all_bits) (exact-low c p x.stands k per d w ks rs cs e n);
+}
+keys-by c bits p x (Ternary d ks rs cs) e is = absurd (false≢true is)
+
+keys-of : (c : Config) (bits : ℕ) (p : PartAt) → ExactPart c bits p → KeysOf c bits p
+keys-of c bits p x = keys-by c bits p x p.slot.memory refl x.kind
+
+cells-low : (c : Config) (bits : ℕ) (p : PartAt) → KeysOf c bits p → (ns : List CellNumber) → All (λ k. k < 2 ^ bits) (map (key_held c p) ns)
+cells-low c bits p x [] = All-nil (λ k. k < 2 ^ bits)
+cells-low c bits p x (n ∷ ns) = All-cons (λ k. k < 2 ^ bits) (key_held c p n) (map (key_held c p) ns) (x.low n) (cells-low c bits p x ns)
+
+parts-low : (c : Config) (bits : ℕ) (ps : List PartAt) → All (ExactPart c bits) ps → All (λ k. k < 2 ^ bits) (keys_listed c ps)
+parts-low c bits [] all = All-nil (λ k. k < 2 ^ bits)
+parts-low c bits (p ∷ ps) all =
+    All-append (λ k. k < 2 ^ bits) (map (key_held c p) p.slot.numbers) (keys_listed c ps)
+    (cells-low c bits p (keys-of c bits p (All-head (ExactPart c bits) p ps all)) p.slot.numbers) (parts-low c bits ps (All-tail (ExactPart c bits) p ps all))
+
+abbrev tests_at : TableName → ℕ → List Test
+tests_at t k = tests_of_key t.keys k (2 ^ sum t.keys - 1)
+
+cells-tests : (c : Config) (t : TableName) (p : PartAt) → KeysOf c (sum t.keys) p → (ns : List CellNumber)
+    → map (λ (e : Entry). e.tests) (map (entry_in c t p) ns) ≡ map (tests_at t) (map (key_held c p) ns)
+cells-tests c t p x [] = refl
+cells-tests c t p x (n ∷ ns) =
+    ap (λ m. tests_of_key t.keys (key_held c p n) m ∷ map (λ (e : Entry). e.tests) (map (entry_in c t p) ns)) (x.mask n)
+    ∙ ap (λ ts. tests_at t (key_held c p n) ∷ ts) (cells-tests c t p x ns)
+
+parts-tests : (c : Config) (t : TableName) (ps : List PartAt) → All (ExactPart c (sum t.keys)) ps
+    → map (λ (e : Entry). e.tests) (flat_map (λ (p : PartAt). map (entry_in c t p) p.slot.numbers) ps) ≡ map (tests_at t) (keys_listed c ps)
+parts-tests c t [] all = refl
+parts-tests c t (p ∷ ps) all =
+    let here = map (entry_in c t p) p.slot.numbers in
+    let rest = flat_map (λ (p : PartAt). map (entry_in c t p) p.slot.numbers) ps in
+    let keys = map (key_held c p) p.slot.numbers in
+    map-append (λ (e : Entry). e.tests) here rest
+    ∙ ap (λ ts. ts ++ map (λ (e : Entry). e.tests) rest) (cells-tests c t p (keys-of c (sum t.keys) p (All-head (ExactPart c (sum t.keys)) p ps all)) p.slot.numbers)
+    ∙ ap (λ ts. map (tests_at t) keys ++ ts) (parts-tests c t ps (All-tail (ExactPart c (sum t.keys)) p ps all))
+    ∙ sym (map-append (tests_at t) keys (keys_listed c ps))
+
+-- ---- the table
+
+shape : (n k s : Bool) → ((true && true) && (n && k && true && s)) ≡ (n && (s && k))
+shape false k s = refl
+shape true false false = refl
+shape true false true = refl
+shape true true false = refl
+shape true true true = refl
+
+pub exact-answer : (c : Config) (t : TableName) → t.kind ≡ kind.Exact → All (ExactPart c (sum t.keys)) (parts_of c t.node)
+    → is_filled_so c t ≡ (leb (length (listed_numbers (parts_of c t.node))) t.size && parts_fit c (divided_up (sum t.keys) 8) [] (parts_of c t.node))
+exact-answer c t is parts =
+    let es = entries_by_cell c t in
+    let ps = parts_of c t.node in
+    let size = divided_up (sum t.keys) 8 in
+    let wide : sum t.keys ≤ size * 8 = up-enough (sum t.keys) 8 (omega arith) in
+    let differ : List Test → List Test → Bool = λ a b. not (are_same a b) in
+    let once : Bool = each_later (λ (a b : Entry). not (are_same a.tests b.tests)) es in
+    let keys : once ≡ news size [] (keys_listed c ps) =
+    later-map differ (λ (e : Entry). e.tests) es ∙ ap (each_later differ) (parts-tests c t ps parts) ∙ sym (later-map differ (tests_at t) (keys_listed c ps))
+    ∙ sym (news-differ size t.keys (2 ^ sum t.keys - 1) (keys_listed c ps) (omega (arith, wide)) (parts-low c (sum t.keys) ps parts)) in
+    ap (filled_as c t) is
+    ∙ shape (leb (length es) t.size) once (list_all (stands_in_candidates c) ps)
+    ∙ ap (λ n. leb n t.size && (list_all (stands_in_candidates c) ps && once)) (entries-count c t)
+    ∙ ap (λ b. leb (length (listed_numbers ps)) t.size && b) (ap (λ b. list_all (stands_in_candidates c) ps && b) keys ∙ sym (parts-split c size [] ps))
+
+-- ---- parts so far: the keys that were seen then, and what is left to be found out
+
+pub record PartsReached (c : Config) (size : ℕ) (ps rest : List PartAt) (set : BTreeSet (Vec ℕ Global)) : Type 0 where
+  pub seen : List ℕ
+  pub known : Knows size seen set
+  pub answer : parts_fit c size [] ps ≡ parts_fit c size seen rest
+
+module _ (c : Config) (bits : ℕ) (ps : List PartAt) where
+  pub table-no : (p : PartAt) (rest : List PartAt) (set new : BTreeSet (Vec ℕ Global)) → (r : PartsReached c (divided_up bits 8) ps (p ∷ rest) set)
+      → Sees (divided_up bits 8) (stands_in c p) (key_held c p) r.seen p.slot.numbers new false → parts_fit c (divided_up bits 8) [] ps ≡ false
+  table-no p rest set new r h = r.answer ∙ ap (λ b. b && parts_fit c (divided_up bits 8) (keys_after (key_held c p) r.seen p.slot.numbers) rest) (sym h.answer)
+
+  pub table-more : (p : PartAt) (rest : List PartAt) (set new : BTreeSet (Vec ℕ Global)) → (r : PartsReached c (divided_up bits 8) ps (p ∷ rest) set)
+      → Sees (divided_up bits 8) (stands_in c p) (key_held c p) r.seen p.slot.numbers new true → PartsReached c (divided_up bits 8) ps rest new
+  table-more p rest set new r h = record {
+    seen = keys_after (key_held c p) r.seen p.slot.numbers;
+    known = h.known refl;
+    answer = r.answer ∙ ap (λ b. b && parts_fit c (divided_up bits 8) (keys_after (key_held c p) r.seen p.slot.numbers) rest) (sym h.answer);
+  }
+
+-- ---- the parts as they are gone over
+
+module _ (c : Config) (t : TableName) (parts : List Part) (same : parts_at parts ≡ parts_of c t.node) (items : IsTrue (items_are_formed c)) (memory : MemoryIsFormed c) (is : t.kind ≡ kind.Exact)
+    (has : has_parts c t ≡ true) (made : is_made_so c t ≡ true) where
+  all-exact : All (ExactPart c (sum t.keys)) (parts_of c t.node)
+  all-exact = exact-parts c t items memory is has (and_parts _ _ (and_parts _ _ made).0).0
+
+  pub exact-at : (i : ℕ) (x : Part) → i < length parts → x ≡ get_or parts i x → ExactPart c (sum t.keys) (part_at x)
+  exact-at i x lt at =
+      subst (λ y. ExactPart c (sum t.keys) (part_at y)) (sym at)
+      (All-unmap (ExactPart c (sum t.keys)) part_at parts (subst (All (ExactPart c (sum t.keys))) (sym same) all-exact) i x lt)
+
+  pub table-full : (numbers : List ℕ) → numbers ≡ listed_numbers (parts_of c t.node) → t.size < length numbers → false ≡ is_filled_so c t
+  table-full numbers e lt =
+      sym (exact-answer c t is all-exact
+      ∙ ap (λ (ns : List ℕ). leb (length ns) t.size && parts_fit c (divided_up (sum t.keys) 8) [] (parts_of c t.node)) (sym e)
+      ∙ ap (λ b. b && parts_fit c (divided_up (sum t.keys) 8) [] (parts_of c t.node)) (lt-leb (length numbers) t.size lt))
+
+  pub table-answer : (numbers : List ℕ) (fit : Bool) → numbers ≡ listed_numbers (parts_of c t.node) → length numbers ≤ t.size → parts_fit c (divided_up (sum t.keys) 8) [] (parts_at parts) ≡ fit → fit ≡ is_filled_so c t
+  table-answer numbers fit e le h =
+      sym (exact-answer c t is all-exact
+      ∙ ap (λ (ns : List ℕ). leb (length ns) t.size && parts_fit c (divided_up (sum t.keys) 8) [] (parts_of c t.node)) (sym e)
+      ∙ ap (λ b. b && parts_fit c (divided_up (sum t.keys) 8) [] (parts_of c t.node)) (le-leb (length numbers) t.size le)
+      ∙ ap (parts_fit c (divided_up (sum t.keys) 8) []) (sym same) ∙ h)
+
+pub part-next : (c : Config) (size : ℕ) (ps : List PartAt) (parts : List Part) (i : ℕ) (x : Part) (set : BTreeSet (Vec ℕ Global)) → i < length parts → x ≡ get_or parts i x
+    → PartsReached c size ps (parts_at (drop i parts)) set → PartsReached c size ps (part_at x ∷ parts_at (drop (i + 1) parts)) set
+part-next c size ps parts i x set lt at r =
+    subst (λ (xs : List Part). PartsReached c size ps (parts_at xs) set) (drop-at parts i x lt ∙ ap (λ y. y ∷ drop (i + 1) parts) (sym at)) r

@@ -1,0 +1,134 @@
+//! The keys of entries of exact parts, read from rows of memory as bytes.
+
+ghost use Rattle.std.specs.Prelude.{◌≡◌, ◌+◌, ◌*◌, ◌/◌, ◌%◌, ◌^◌, ◌<◌, ◌≤◌, ◌++◌, length, OnOk};
+ghost use Rattle.rmt_bits.specs.Bits.{slice as slice_of, bytes_of};
+ghost use Rattle.rmt_config.specs.Cells.{sram_row, unit_row, blocks_at};
+ghost use Rattle.rmt_config.specs.Layouts.{IsInSram, quantum_of, local_of, unit_of, row_of, position_of, entry_in};
+ghost use Rattle.rmt_config.specs.MemoryRules.{SramRows};
+ghost use Rattle.rmt_config.specs.Shapes.{divided_up};
+
+use crate::config::SramRow;
+use crate::form::layout::{Layout, joined};
+use crate::form::sram::{byte_of_two, row_bits};
+use std::alloc::AllocError;
+
+/// Where rows were found last among those of all blocks: that of a block, and that of the block beside it.
+#[derive(Clone, Copy)]
+pub struct Near {
+    pub first: usize,
+    pub second: usize,
+}
+
+/// Where an entry begins: its unit, the row there, and its lowest bit in the row.
+#[derive(Clone, Copy)]
+struct Spot {
+    unit: u64,
+    row: u64,
+    low: u64,
+}
+
+/// Where the entry of a cell stands.
+fn spot_of(layout: &Layout, cell: u64) -> Spot
+    requires layout { IsInSram layout.now }
+    requires cell { cell < layout.now.ways * layout.now.quanta * layout.now.way }
+    ensures unit { let l = layout.now in result.unit ≡ unit_of l (quantum_of l cell) (local_of l cell) }
+    ensures row { let l = layout.now in result.row ≡ row_of l (local_of l cell) }
+    ensures low { let l = layout.now in result.low ≡ position_of l (local_of l cell) * l.entry }
+{
+    let quantum = cell / layout.way % layout.quanta;
+    let local = joined(
+        cell / layout.way / layout.quanta,
+        layout.way,
+        cell % layout.way,
+    );
+    let in_unit = joined(layout.rows, layout.per, 0);
+    Spot {
+        unit: joined(quantum, layout.units, local / in_unit),
+        row: local % in_unit / layout.per,
+        low: joined(local % layout.per, layout.entry, 0),
+    }
+}
+
+/// The 8 bits from one on of a row of blocks side by side; bits behind its end are 0. The rows are looked
+/// for first near the places where the last ones were found.
+fn byte_at(rows: &[SramRow], blocks: &[u8], row: u64, bit: u64, near: &mut Near) -> u8
+    requires rows { SramRows rows.now }
+    requires row { row < 1024 }
+    requires bit { bit < 112 * length blocks.now }
+    ensures { result ≡ slice_of (unit_row 112 (sram_row rows.now) row blocks.now) bit 8 }
+{
+    let block = (bit / 112) as usize;
+    let first = row_bits(rows, blocks[block], row, &mut near.first);
+    let second = if block + 1 < blocks.len() {
+        row_bits(rows, blocks[block + 1], row, &mut near.second)
+    } else {
+        0
+    };
+    byte_of_two(first, second, bit % 112)
+}
+
+/// The lowest `len` bits of a byte; all of them where there are fewer.
+fn low_part(byte: u8, len: u64) -> u8
+    ensures { result ≡ byte % 2 ^ len }
+{
+    if len < 8 { byte % (1 << len) } else { byte }
+}
+
+/// Adds `len` bits of a row of blocks side by side as bytes, the highest first, with zero bits on top.
+fn push_bits(
+    into: &mut Vec<u8>,
+    rows: &[SramRow],
+    blocks: &[u8],
+    row: u64,
+    low: u64,
+    len: u64,
+    near: &mut Near,
+) -> Result<(), AllocError>
+    requires rows { SramRows rows.now }
+    requires row { row < 1024 }
+    requires within { low + len ≤ 112 * length blocks.now }
+    requires few { low + len < 2 ^ 32 }
+    ensures { OnOk result (into.new.items ≡ into.old.items ++ bytes_of (divided_up len 8) (slice_of (unit_row 112 (sram_row rows.now) row blocks.now) low len)) }
+{
+    let count = (len + 7) / 8;
+    for at in 0..count {
+        let up = 8 * (count - 1 - at);
+        let byte = byte_at(rows, blocks, row, low + up, near);
+        into.push(low_part(byte, len - up))?;
+    }
+    Ok(())
+}
+
+/// The blocks of a unit, where each has that many.
+fn unit_blocks(blocks: &[u8], side: u64, unit: u64) -> &[u8]
+    requires { (unit + 1) * side ≤ length blocks.now }
+    ensures value { result.now ≡ blocks_at blocks.now side unit }
+    ensures size { length result.now ≡ side }
+{
+    let from = (unit * side) as usize;
+    &blocks[from..from + side as usize]
+}
+
+/// Adds `len` bits of the entry of a cell, from the bit `from` on, as bytes, the highest first.
+pub fn push_entry(
+    into: &mut Vec<u8>,
+    layout: &Layout,
+    blocks: &[u8],
+    rows: &[SramRow],
+    cell: u64,
+    from: u64,
+    len: u64,
+    near: &mut Near,
+) -> Result<(), AllocError>
+    requires rows { SramRows rows.now }
+    requires layout { IsInSram layout.now }
+    requires blocks { length blocks.now ≡ layout.now.quanta * layout.now.units * layout.now.side }
+    requires cell { cell < layout.now.ways * layout.now.quanta * layout.now.way }
+    requires bits { from + len ≤ layout.now.entry }
+    ensures { OnOk result (into.new.items ≡ into.old.items ++ bytes_of (divided_up len 8)
+        (slice_of (entry_in layout.now (sram_row rows.now) blocks.now (quantum_of layout.now cell) (local_of layout.now cell)) from len)) }
+{
+    let spot = spot_of(layout, cell);
+    let unit = unit_blocks(blocks, layout.side, spot.unit);
+    push_bits(into, rows, unit, spot.row, spot.low + from, len, near)
+}
