@@ -1,11 +1,11 @@
 -- Lines that are read by the names of tables.
-use Rattle.std.proofs.Common.{◌≡◌, ℕ, ◌<◌, ◌≤◌, ◌==◌, ◌&&◌, Bool, true, false, cond, List, [], ◌∷◌, Option, Some, None, Result, Ok, Err, IfOk, if◌then◌else◌, nat_lt, nat_le, length, map, option_map, find, get_or, refl, sym, ap, subst, ◌∙◌, arith}
+use Rattle.std.proofs.Common.{◌≡◌, ℕ, ◌<◌, ◌≤◌, ◌==◌, ◌&&◌, Bool, true, false, cond, List, [], ◌∷◌, Option, Some, Result, Ok, Err, IfOk, nat_lt, nat_le, length, map, option_map, find, get_or, refl, sym, ap, subst, ◌∙◌, arith}
 use Rattle.std.specs.Prelude.{All}
 use Rattle.std.specs.List.{list_all}
 use Rattle.std.specs.Str.{bytes_eq}
-use Rattle.std.proofs.lemmas.Bool.{and_parts, eq-eqb, eqb-true, false≢true, leb-true, ltb-true}
+use Rattle.std.proofs.lemmas.Bool.{and_parts, eq-eqb, eqb-true, leb-true, ltb-true}
 use Rattle.std.proofs.lemmas.List.{length-map}
-use Rattle.std.proofs.lemmas.List.Elements.{All-cons, All-head, All-map, All-nil, All-tail, All-weaker}
+use Rattle.std.proofs.lemmas.List.Elements.{All-cons, All-map, All-nil}
 use Rattle.rmt_bits.proofs.AllLaws.{All-find, All-from_test}
 use Rattle.rmt_ast.specs.declared.entry.Entry.{Entry}
 use Rattle.rmt_ast.specs.declared.names.Names.{Names}
@@ -16,16 +16,15 @@ use Rattle.rmt_ast.specs.NameRules.{action_names_differ, are_widths, has_fields,
 use Rattle.rmt_ast.specs.Naming.{has_key}
 use Rattle.rmt_entries.specs.declared.fault.EntryFault.{EntryFault}
 use Rattle.rmt_entries.specs.declared.fault.EntryFault.TheVariants.{At, NoMemory}
-use Rattle.rmt_entries.specs.declared.named.EntryName.{EntryName}
 use Rattle.rmt_entries.specs.Entries.{Read, of_table, read_line, read_words}
 use Rattle.rmt_entries.specs.Fault.{Gives}
 use Rattle.rmt_entries.specs.Lines.{is_printable, words}
 use Rattle.rmt_entries.specs.LinesSoFar.{IsFault, IsReadable}
-use Rattle.rmt_entries.specs.NamedLines.{IsNamedEntry, action_word, alone, entry_read, key_of_table, key_words, named_entry, named_key, named_table, named_tables}
+use Rattle.rmt_entries.specs.NamedLines.{IsNamedEntry, action_word, alone, entry_read, key_of_table, key_words, named_entry, named_table, named_tables}
 use Rattle.rmt_entries.specs.Tables.{AppliedTable, table_named}
 use Rattle.rmt_entries.specs.Taken.{AreNarrow}
 use Rattle.rmt_entries.proofs.LawKeys.{HasParams, ReadOf, same_Ok}
-use Rattle.rmt_entries.proofs.LawLines.{ReadBy, read_line_law}
+use Rattle.rmt_entries.proofs.LawLines.{read_line_law}
 
 -- what is asked of a table's names
 record Formed (t : TableName) : Type 0 where

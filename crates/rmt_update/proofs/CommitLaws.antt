@@ -1,5 +1,5 @@
 -- A run behind a commit.
-use Rattle.std.proofs.Common.{◌≡◌, ◌≢◌, ℕ, zero, suc, ◌+◌, ◌<◌, ◌≤◌, ◌==◌, ◌&&◌, ◌||◌, Bool, true, false, not, cond, List, [], ◌∷◌, ◌++◌, Option, Some, None, length, map, get_or, refl, sym, ap, subst, ◌∙◌, inl, inr, arith}
+use Rattle.std.proofs.Common.{◌≡◌, ◌≢◌, ℕ, suc, ◌+◌, ◌<◌, ◌≤◌, ◌==◌, ◌||◌, Bool, true, false, not, cond, List, [], ◌∷◌, ◌++◌, Option, length, refl, sym, ap, subst, ◌∙◌, inl, inr, arith}
 use Rattle.std.specs.Prelude.{All, AllPairs, IsTrue, filter}
 use Rattle.std.specs.List.{flat_map}
 use Rattle.std.proofs.lemmas.Bool.{cases_Bool, eq-eqb, eqb-true, false≢true}
@@ -9,8 +9,8 @@ use Rattle.rmt_ast.specs.declared.entry.Entry.{Entry}
 use Rattle.rmt_ast.specs.Answers.{entry_numbers}
 use Rattle.rmt_ast.specs.Changes.{list_of}
 use Rattle.rmt_update.specs.Running.{AreChanges, is_among}
-use Rattle.rmt_update.specs.Stands.{AreLeft, AreSlots, IsLast, left_at, numbers_in, somes}
-use Rattle.rmt_update.proofs.FilterLaws.{Rise, among_append, among_filter, among_lists, filter_all, filter_swap, not_among, not_number, numbers_of, other_table}
+use Rattle.rmt_update.specs.Stands.{AreLeft, AreSlots, IsLast, numbers_in, somes}
+use Rattle.rmt_update.proofs.FilterLaws.{Rise, among_append, among_filter, filter_swap, not_among, not_number, numbers_of, other_table}
 use Rattle.rmt_update.proofs.LeftLaws.{left_rises, slots_from, slots_rise}
 use Rattle.rmt_update.proofs.SettleLaws.{none_gone, slots_below}
 

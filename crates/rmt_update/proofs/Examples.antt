@@ -1,5 +1,5 @@
 -- Changes of runs, worked out.
-use Rattle.std.proofs.Common.{◌≡◌, ℕ, ◌+◌, ◌/◌, ◌%◌, List, [], ◌∷◌, ◌++◌, Option, Some, None, Result, Ok, Err, map, refl}
+use Rattle.std.proofs.Common.{◌≡◌, ℕ, ◌+◌, ◌/◌, ◌%◌, List, [], ◌∷◌, ◌++◌, Result, Ok, Err, map, refl}
 use Rattle.std.specs.Prelude.{codes}
 use Rattle.std.specs.List.{range_with_len}
 use Rattle.rmt_ast.specs.declared.entry.Entry.{Entry}
@@ -7,7 +7,7 @@ use Rattle.rmt_ast.specs.declared.program.Program.{Program}
 use Rattle.rmt_ast.specs.Changes.{Installed}
 use Rattle.rmt_ast.specs.Naming.{names_of}
 use Rattle.rmt_ast.proofs.Programs.{one_entry, prefix, prefixes, priorities, strict_and_weak, ternary}
-use Rattle.rmt_update.specs.Running.{Running, commit_of, fresh, line_change}
+use Rattle.rmt_update.specs.Running.{Running, fresh, line_change}
 
 abbrev run_of : Program → List (List Entry) → ℕ → Running
 run_of p lists most = fresh (names_of p lists) lists most

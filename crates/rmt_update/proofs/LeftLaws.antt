@@ -1,21 +1,21 @@
 -- What changes leave of the tables.
-use Rattle.std.proofs.Common.{◌≡◌, ◌≢◌, ℕ, zero, suc, ◌+◌, ◌-◌, ◌<◌, ◌≤◌, ◌==◌, ◌&&◌, ◌||◌, Bool, true, false, not, cond, List, [], ◌∷◌, ◌++◌, Option, Some, None, length, map, slice_get, slice_set, get_or, refl, sym, ap, subst, ◌∙◌, inl, inr, arith, add-zero, add-one, length-append, append_assoc}
+use Rattle.std.proofs.Common.{◌≡◌, ◌≢◌, ℕ, zero, suc, ◌+◌, ◌-◌, ◌<◌, ◌≤◌, ◌==◌, ◌&&◌, ◌||◌, Bool, true, false, not, cond, List, [], ◌∷◌, ◌++◌, Option, Some, None, length, slice_get, slice_set, get_or, refl, sym, ap, subst, ◌∙◌, inl, inr, arith, add-zero, append_assoc}
 use Rattle.std.specs.Prelude.{All, AllPairs, IsTrue, filter}
 use Rattle.std.specs.List.{flat_map}
 use Rattle.std.specs.BTreeSet.{insert_key}
 use Rattle.std.specs.Ordering.{nat_cmp}
 use Rattle.std.proofs.lemmas.Bool.{cases_Bool, cases_lt, eq-eqb, eqb-true, false≢true}
 use Rattle.std.proofs.lemmas.List.{append-nil, length-set, map-append}
-use Rattle.std.proofs.lemmas.List.Elements.{All-cons, All-filter, All-head, All-nil, All-tail, All-weaker, filter-append}
+use Rattle.std.proofs.lemmas.List.Elements.{All-cons, All-filter, All-nil, All-weaker, filter-append}
 use Rattle.std.proofs.lemmas.List.Kept.{AllPairs-filter}
-use Rattle.rmt_bits.proofs.PairLaws.{AllPairs-append, AllPairs-none, AllPairs-head, AllPairs-tail}
+use Rattle.rmt_bits.proofs.PairLaws.{AllPairs-append, AllPairs-none}
 use Rattle.rmt_ast.specs.declared.entry.Entry.{Entry}
 use Rattle.rmt_ast.specs.Answers.{entry_numbers}
 use Rattle.rmt_ast.specs.Changes.{EntryKey, added, list_of, removed, without}
 use Rattle.rmt_update.specs.Holding.{keyed_numbers}
-use Rattle.rmt_update.specs.Running.{holds, is_among}
-use Rattle.rmt_update.specs.Stands.{AreLeft, AreSlots, IsLast, left_at, numbers_in, somes}
-use Rattle.rmt_update.proofs.FilterLaws.{All-insert, Rise, above_stay, among_append, among_insert, among_lists, filter_same, filter_swap, filter_twice, first_among, list_of-other, list_of-past, list_of-set, all_apart, among_filter, eqb_turned, not_among, not_among_above, not_number, numbers_of, other_number, other_table, others_stay, without_number}
+use Rattle.rmt_update.specs.Running.{is_among}
+use Rattle.rmt_update.specs.Stands.{AreLeft, AreSlots, left_at, numbers_in, somes}
+use Rattle.rmt_update.proofs.FilterLaws.{All-insert, Rise, above_stay, among_append, among_insert, among_lists, filter_same, filter_swap, filter_twice, first_among, list_of-other, list_of-set, all_apart, among_filter, eqb_turned, not_among, not_among_above, not_number, numbers_of, other_number, other_table, others_stay, without_number}
 
 -- ---- slots
 

@@ -1,11 +1,11 @@
 -- A run to which no change was made.
-use Rattle.std.proofs.Common.{◌≡◌, ◌≢◌, ℕ, zero, suc, ◌+◌, ◌<◌, ◌≤◌, ◌==◌, ◌&&◌, Bool, true, false, not, List, [], ◌∷◌, ◌++◌, Option, Some, None, length, map, max, drop, slice_get, length-append, option_map, unwrap_or, get_or, refl, sym, ap, subst, ◌∙◌, arith}
-use Rattle.std.specs.Prelude.{All, AllPairs, IfSome, IsSomeAnd, IsTrue, filter, find, fold, nat_le}
+use Rattle.std.proofs.Common.{◌≡◌, ◌≢◌, ℕ, zero, suc, ◌+◌, ◌<◌, ◌≤◌, ◌==◌, ◌&&◌, true, not, List, [], ◌∷◌, ◌++◌, Option, Some, None, length, map, max, drop, slice_get, length-append, option_map, unwrap_or, get_or, refl, sym, ap, subst, ◌∙◌, arith}
+use Rattle.std.specs.Prelude.{All, IfSome, IsSomeAnd, IsTrue, filter, find, fold, nat_le}
 use Rattle.std.specs.List.{flat_map, list_all, range_with_len}
 use Rattle.std.proofs.lemmas.Bool.{and_parts, leb-true}
 use Rattle.std.proofs.lemmas.List.{append-nil}
 use Rattle.std.proofs.lemmas.List.Sums.{fold-append}
-use Rattle.std.proofs.lemmas.List.Elements.{All-append, All-cons, All-head, All-map, All-nil, All-tail, All-weaker}
+use Rattle.std.proofs.lemmas.List.Elements.{All-cons, All-head, All-map, All-nil, All-tail}
 use Rattle.std.proofs.lemmas.Option.{none-some, same_Some, slice_get-get_or}
 use Rattle.rmt_bits.proofs.AllLaws.{All-find, All-parts, All-from_test, All-slice_get}
 use Rattle.rmt_bits.proofs.PairLaws.{AllPairs-across, AllPairs-none, AllPairs-right}
@@ -21,7 +21,7 @@ use Rattle.rmt_ast.specs.WellFormed.{AreDistinct}
 use Rattle.rmt_update.specs.Running.{is_among}
 use Rattle.rmt_update.specs.declared.held.Held.{Held}
 use Rattle.rmt_update.specs.Holding.{Holds}
-use Rattle.rmt_update.specs.Stands.{AreHeld, AreLeft, AreSlots, IsLast, left_at, numbers_in, somes}
+use Rattle.rmt_update.specs.Stands.{AreHeld, AreLeft, AreSlots, numbers_in, somes}
 use Rattle.rmt_update.proofs.CommitLaws.{among_numbers}
 use Rattle.rmt_update.proofs.FilterLaws.{Rise, among_lists}
 use Rattle.rmt_update.proofs.SettleLaws.{none_gone}

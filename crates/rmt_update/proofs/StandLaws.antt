@@ -1,6 +1,6 @@
 -- Lists of a run behind a change.
-use Rattle.std.proofs.Common.{◌≡◌, ◌≢◌, ℕ, zero, suc, ◌+◌, ◌-◌, ◌<◌, ◌≤◌, ◌==◌, ◌&&◌, Bool, true, false, not, cond, List, [], ◌∷◌, ◌++◌, Option, Some, None, Result, Ok, Err, OnErr, is_some, length, map, slice_get, slice_set, option_map, get_or, refl, sym, ap, subst, ◌∙◌, inl, inr, arith}
-use Rattle.std.specs.Prelude.{All, IsErr, IsSomeAnd, IsTrue, find, nat_le}
+use Rattle.std.proofs.Common.{◌≡◌, ◌≢◌, ℕ, zero, suc, ◌<◌, ◌≤◌, ◌==◌, ◌&&◌, Bool, true, false, cond, List, [], ◌∷◌, Option, Some, None, Result, Ok, Err, OnErr, length, slice_get, slice_set, option_map, get_or, refl, sym, ap, subst, ◌∙◌, inl, inr, arith}
+use Rattle.std.specs.Prelude.{All, IsErr, IsSomeAnd, find, nat_le}
 use Rattle.std.proofs.lemmas.Bool.{cases_Bool, eq-eqb, eqb-true, false≢true}
 use Rattle.std.proofs.lemmas.Bool.Decides.{nat_tests}
 use Rattle.std.proofs.lemmas.List.{length-set}
@@ -11,8 +11,8 @@ use Rattle.rmt_ast.specs.declared.entry.Entry.{Entry}
 use Rattle.rmt_ast.specs.declared.names.Names.{Names}
 use Rattle.rmt_ast.specs.declared.names.TableName.{TableName}
 use Rattle.rmt_ast.specs.EntryLists.{IsEntry, Terms}
-use Rattle.rmt_ast.specs.NameRules.{terms_named, terms_of_name}
-use Rattle.rmt_ast.specs.Changes.{EntryKey, added, list_of, removed, without}
+use Rattle.rmt_ast.specs.NameRules.{terms_of_name}
+use Rattle.rmt_ast.specs.Changes.{EntryKey, list_of}
 use Rattle.rmt_entries.specs.declared.named.EntryName.{EntryName}
 use Rattle.rmt_entries.specs.Entries.{has_keys_once}
 use Rattle.rmt_entries.specs.NamedLines.{IsNamedEntry}
@@ -20,8 +20,8 @@ use Rattle.rmt_update.specs.declared.held.Held.{Held}
 use Rattle.rmt_update.specs.Holding.{Holds, keyed_numbers}
 use Rattle.rmt_update.specs.Running.{Running, added_to, holds, key_of_entry, key_of_name, kind_and_size, refusal_of, removed_from, with_entry, with_one, without_key, without_one}
 use Rattle.rmt_update.specs.declared.lists.Lists.{Lists}
-use Rattle.rmt_update.specs.Stands.{AreHeld, AreLeft, Stands, StandsFor}
-use Rattle.rmt_update.proofs.FilterLaws.{list_of-other, list_of-past, list_of-set}
+use Rattle.rmt_update.specs.Stands.{AreHeld, Stands, StandsFor}
+use Rattle.rmt_update.proofs.FilterLaws.{list_of-past}
 use Rattle.rmt_update.proofs.KeyLaws.{first_keyed, some_keyed}
 
 pub on_err : {A E : Type 0} (r : Result A E) (P : Type 0) → P → OnErr r P

@@ -1,4 +1,4 @@
-use Rattle.std.proofs.Common.{◌∙◌, sym, refl}
+use Rattle.std.proofs.Common.{◌∙◌, sym}
 use Rattle.rmt_entries.specs.NamedTables.{seen_table}
 use Rattle.rmt_entries.proofs.NamedLaws.{well_formed_entry}
 use Rattle.rmt_entries.proofs.named.entry.Goals as goal

@@ -1,11 +1,7 @@
-use Rattle.std.proofs.Common.{◌≡◌, ◌∙◌, Some, ap, option_map, refl, subst, sym}
-use Rattle.std.specs.Prelude.{find}
-use Rattle.std.specs.Str.{bytes_eq}
-use Rattle.rmt_ast.specs.declared.names.TableName.{TableName}
+use Rattle.std.proofs.Common.{◌∙◌, Some, ap, option_map, refl, subst, sym}
 use Rattle.rmt_entries.specs.Entries.{of_table}
 use Rattle.rmt_entries.specs.LinesSoFar.{IsReadable}
 use Rattle.rmt_entries.specs.NamedLines.{key_of_table, named_table, named_tables}
-use Rattle.rmt_entries.specs.Tables.{table_named}
 use Rattle.rmt_entries.proofs.NamedLaws.{entry_words, found_readable, found_table, words_of_key}
 use Rattle.rmt_entries.proofs.named.take_named.Goals as goal
 

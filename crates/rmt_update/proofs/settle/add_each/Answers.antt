@@ -1,9 +1,6 @@
-use Rattle.std.proofs.Common.{◌≡◌, ◌<◌, ◌∙◌, ◌++◌, ◌∷◌, [], List, Some, ap, arith, length, subst, sym, take}
-use Rattle.std.specs.Prelude.{Vec}
-use Rattle.std.specs.Global.{Global}
+use Rattle.std.proofs.Common.{◌<◌, ◌∙◌, ◌++◌, ◌∷◌, [], List, Some, ap, arith, length, take}
 use Rattle.rmt_ast.specs.declared.entry.Entry.{Entry}
 use Rattle.rmt_ast.specs.Changes.{list_of}
-use Rattle.rmt_update.specs.Settled.{Extends}
 use Rattle.rmt_update.specs.Stands.{somes}
 use Rattle.rmt_update.proofs.SettleLaws.{extends_push, list_at, none_more, place_at, somes_at, somes_more}
 use Rattle.rmt_update.proofs.settle.add_each.Goals as goal

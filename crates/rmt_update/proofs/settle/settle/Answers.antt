@@ -1,4 +1,4 @@
-use Rattle.std.proofs.Common.{◌≡◌, ◌<◌, ◌∙◌, ◌+◌, List, ap, length, not, refl, subst, sym}
+use Rattle.std.proofs.Common.{◌<◌, ◌∙◌, List, ap, length, not, refl, subst, sym}
 use Rattle.std.specs.Prelude.{All, filter}
 use Rattle.rmt_ast.specs.declared.entry.Entry.{Entry}
 use Rattle.rmt_ast.specs.Changes.{list_of}

@@ -1,5 +1,5 @@
-use Rattle.std.proofs.Common.{◌≡◌, ◌<◌, ◌≤◌, ℕ, cond, length, not}
-use Rattle.std.specs.Prelude.{All, filter, nat_lt}
+use Rattle.std.proofs.Common.{◌≡◌, ◌<◌, ◌≤◌, ℕ, length, not}
+use Rattle.std.specs.Prelude.{All, filter}
 use Rattle.rmt_ast.specs.declared.entry.Entry.{Entry}
 use Rattle.rmt_ast.specs.Changes.{list_of}
 use Rattle.rmt_update.specs.Running.{is_among}

@@ -2,7 +2,6 @@ use Rattle.std.proofs.Common.{◌≡◌, ◌<◌, ◌∙◌, ◌+◌, ℕ, List,
 use Rattle.std.specs.Prelude.{All}
 use Rattle.rmt_ast.specs.declared.entry.Entry.{Entry}
 use Rattle.rmt_ast.specs.declared.names.TableName.{TableName}
-use Rattle.rmt_ast.specs.Changes.{list_of}
 use Rattle.rmt_update.specs.declared.held.Held.{Held}
 use Rattle.rmt_update.specs.Stands.{AreLeft, left_at, somes}
 use Rattle.rmt_update.proofs.CommitLaws.{changes_are, gone_low, left_committed}

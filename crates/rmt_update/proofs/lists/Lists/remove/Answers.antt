@@ -1,10 +1,9 @@
-use Rattle.std.proofs.Common.{◌≡◌, ◌<◌, ◌+◌, ◌∙◌, ℕ, List, Option, Some, None, Ok, Result, ap, arith, length, subst, sym}
+use Rattle.std.proofs.Common.{◌<◌, ◌+◌, ◌∙◌, ℕ, List, ap, arith, length, subst, sym}
 use Rattle.std.proofs.lemmas.List.{length-set}
 use Rattle.rmt_ast.specs.declared.program.Test.{Test}
 use Rattle.rmt_ast.specs.Changes.{list_of, removed, without}
 use Rattle.rmt_update.specs.Holding.{Holds, spelled}
-use Rattle.rmt_update.specs.Running.{Running, key_of_name}
-use Rattle.rmt_update.specs.Stands.{StandsFor}
+use Rattle.rmt_update.specs.Running.{key_of_name}
 use Rattle.rmt_update.proofs.FilterLaws.{list_of-other, list_of-set}
 use Rattle.rmt_update.proofs.KeyLaws.{length-without, some_keyed}
 use Rattle.rmt_update.proofs.LeftLaws.{left_removed}
