@@ -81,7 +81,14 @@ const OF_EXACT: [Case; 46] = [
     (&[(232, 3, &[0, 2, 0, 8])], 4), // a field of no bit
     (&[(234, 1, &[9])], 4), // fields of more bits than the key
     (&[(235, 9, &[0])], 4), // fewer actions than the slot says
-    (&[(235, 9, &[2, 0, 0, 0, 2, 0x67, 0x6f, 1, 9, 0, 0, 0, 1, 0x78, 0])], 4), // more
+    (
+        &[(
+            235,
+            9,
+            &[2, 0, 0, 0, 2, 0x67, 0x6f, 1, 9, 0, 0, 0, 1, 0x78, 0],
+        )],
+        4,
+    ), // more
     (&[(240, 1, &[0x20])], 4), // a space in an action's name
     (&[(236, 6, &[0, 0, 0, 3, 0x68, 0x69, 0x74])], 4), // a reserved word
     (&[(242, 2, &[2, 4, 5])], 0),
@@ -97,7 +104,11 @@ const OF_EXACT: [Case; 46] = [
 
 /// A second entry, `8 go 0` in way 1, row 24.
 const EIGHT: [Splice; 4] = [
-    (199, 0, &[1, 0, 24, 0, 0, 0, 0, 0, 0, 0, 0, 0, 0, 0, 0, 8, 7]),
+    (
+        199,
+        0,
+        &[1, 0, 24, 0, 0, 0, 0, 0, 0, 0, 0, 0, 0, 0, 0, 8, 7],
+    ),
     (181, 1, &[3]),
     (134, 0, &[0, 0, 0x1c, 0xa8, 0, 0, 0, 1]),
     (125, 1, &[2]),
@@ -105,7 +116,11 @@ const EIGHT: [Splice; 4] = [
 
 /// A second entry, `7 go 0` in way 1, row 792.
 const SEVEN_AGAIN: [Splice; 4] = [
-    (199, 0, &[1, 3, 24, 0, 0, 0, 0, 0, 0, 0, 0, 0, 0, 0, 0, 7, 7]),
+    (
+        199,
+        0,
+        &[1, 3, 24, 0, 0, 0, 0, 0, 0, 0, 0, 0, 0, 0, 0, 7, 7],
+    ),
     (181, 1, &[3]),
     (134, 0, &[0, 0, 0x31, 0xa8, 0, 0, 0, 1]),
     (125, 1, &[2]),
@@ -114,7 +129,11 @@ const SEVEN_AGAIN: [Splice; 4] = [
 /// The same in version 1.
 const SEVEN_UNNAMED: [Splice; 7] = [
     (220, 24, &[]),
-    (199, 0, &[1, 3, 24, 0, 0, 0, 0, 0, 0, 0, 0, 0, 0, 0, 0, 7, 1]),
+    (
+        199,
+        0,
+        &[1, 3, 24, 0, 0, 0, 0, 0, 0, 0, 0, 0, 0, 0, 0, 7, 1],
+    ),
     (198, 1, &[1]),
     (181, 1, &[3]),
     (134, 0, &[0, 0, 0x31, 0xa8, 0, 0, 0, 1]),
@@ -125,7 +144,16 @@ const SEVEN_UNNAMED: [Splice; 7] = [
 /// Two entries, of which the second may be the first one's double.
 const OF_TWO: [Case; 4] = [
     (&EIGHT, 0),
-    (&[(228, 4, &[0, 0, 0, 1]), EIGHT[0], EIGHT[1], EIGHT[2], EIGHT[3]], 4), // above the size
+    (
+        &[
+            (228, 4, &[0, 0, 0, 1]),
+            EIGHT[0],
+            EIGHT[1],
+            EIGHT[2],
+            EIGHT[3],
+        ],
+        4,
+    ), // above the size
     (&SEVEN_AGAIN, 4),
     (&SEVEN_UNNAMED, 0), // without names no rule speaks of it
 ];
@@ -152,11 +180,43 @@ const OF_TERNARY: [Case; 21] = [
     (&[(421, 3, &[0, 2, 8, 9])], 0),
     (&[NO_RANKS, PREFIX], 4), // a mask of the lowest bit
     (&[NO_RANKS, PREFIX, (298, 5, &[0, 0, 1, 0xff, 0xff])], 0), // lengths 17, 17 and 16
-    (&[NO_RANKS, (421, 3, &[0, 2, 8, 9]), PREFIX, (298, 5, &[0, 0, 1, 0xff, 0xff])], 4), // a prefix of two fields
-    (&[NO_RANKS, PREFIX, (293, 10, &[0, 0, 1, 0x23, 0x45, 0, 0, 1, 0xff, 0xff])], 4), // the same prefix twice
-    (&[NO_RANKS, PREFIX, (404, 5, &[0, 0, 1, 0xff, 0xff]), (298, 5, &[0, 0, 1, 0xff, 0xfe])], 4), // 16 before 17
+    (
+        &[
+            NO_RANKS,
+            (421, 3, &[0, 2, 8, 9]),
+            PREFIX,
+            (298, 5, &[0, 0, 1, 0xff, 0xff]),
+        ],
+        4,
+    ), // a prefix of two fields
+    (
+        &[
+            NO_RANKS,
+            PREFIX,
+            (293, 10, &[0, 0, 1, 0x23, 0x45, 0, 0, 1, 0xff, 0xff]),
+        ],
+        4,
+    ), // the same prefix twice
+    (
+        &[
+            NO_RANKS,
+            PREFIX,
+            (404, 5, &[0, 0, 1, 0xff, 0xff]),
+            (298, 5, &[0, 0, 1, 0xff, 0xfe]),
+        ],
+        4,
+    ), // 16 before 17
     (&[NO_RANKS, PREFIX, (298, 5, &[0, 0, 1, 0xff, 0xfe])], 4), // of one length, against the order of numbers
-    (&[NO_RANKS, PREFIX, (396, 13, &[]), (395, 1, &[0]), (298, 5, &[0, 0, 1, 0xff, 0xff])], 0), // the last one of no bit
+    (
+        &[
+            NO_RANKS,
+            PREFIX,
+            (396, 13, &[]),
+            (395, 1, &[0]),
+            (298, 5, &[0, 0, 1, 0xff, 0xff]),
+        ],
+        0,
+    ), // the last one of no bit
 ];
 
 /// The smallest image with names of no table, and a tail: 4 bits of its byte tell 4 bytes each, without 4.
@@ -236,13 +296,19 @@ fn names_of_an_exact_table(rt: HostRuntime) -> Result<(), Fail> {
 
 #[test]
 fn names_of_a_ternary_table(rt: HostRuntime) -> Result<(), Fail> {
-    assert_eq!(rt; first_wrong(rt.alloc(), &RANKED, &OF_TERNARY)?, OF_TERNARY.len());
+    assert_eq!(rt;
+        first_wrong(rt.alloc(), &RANKED, &OF_TERNARY)?,
+        OF_TERNARY.len()
+    );
     Ok(())
 }
 
 #[test]
 fn tails(rt: HostRuntime) -> Result<(), Fail> {
-    assert_eq!(rt; first_wrong(rt.alloc(), &TAILED, &OF_TAILS)?, OF_TAILS.len());
+    assert_eq!(rt;
+        first_wrong(rt.alloc(), &TAILED, &OF_TAILS)?,
+        OF_TAILS.len()
+    );
     Ok(())
 }
 
