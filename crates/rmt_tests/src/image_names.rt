@@ -102,67 +102,71 @@ const OF_EXACT: [Case; 46] = [
     (&[(5, 1, &[3]), (231, 1, &[0])], 3), // tails that are not there, before a size of 0
 ];
 
-/// A second entry, `8 go 0` in way 1, row 24.
-const EIGHT: [Splice; 4] = [
-    (
-        199,
-        0,
-        &[1, 0, 24, 0, 0, 0, 0, 0, 0, 0, 0, 0, 0, 0, 0, 8, 7],
-    ),
-    (181, 1, &[3]),
-    (134, 0, &[0, 0, 0x1c, 0xa8, 0, 0, 0, 1]),
-    (125, 1, &[2]),
-];
-
-/// A second entry, `7 go 0` in way 1, row 792.
-const SEVEN_AGAIN: [Splice; 4] = [
-    (
-        199,
-        0,
-        &[1, 3, 24, 0, 0, 0, 0, 0, 0, 0, 0, 0, 0, 0, 0, 7, 7],
-    ),
-    (181, 1, &[3]),
-    (134, 0, &[0, 0, 0x31, 0xa8, 0, 0, 0, 1]),
-    (125, 1, &[2]),
-];
-
-/// The same in version 1.
-const SEVEN_UNNAMED: [Splice; 7] = [
-    (220, 24, &[]),
-    (
-        199,
-        0,
-        &[1, 3, 24, 0, 0, 0, 0, 0, 0, 0, 0, 0, 0, 0, 0, 7, 1],
-    ),
-    (198, 1, &[1]),
-    (181, 1, &[3]),
-    (134, 0, &[0, 0, 0x31, 0xa8, 0, 0, 0, 1]),
-    (125, 1, &[2]),
-    (5, 1, &[1]),
-];
-
 /// Two entries, of which the second may be the first one's double.
 const OF_TWO: [Case; 4] = [
-    (&EIGHT, 0),
+    // `8 go 0` in way 1, row 24
+    (
+        &[
+            (
+                199,
+                0,
+                &[1, 0, 24, 0, 0, 0, 0, 0, 0, 0, 0, 0, 0, 0, 0, 8, 7],
+            ),
+            (181, 1, &[3]),
+            (134, 0, &[0, 0, 0x1c, 0xa8, 0, 0, 0, 1]),
+            (125, 1, &[2]),
+        ],
+        0,
+    ),
+    // the same, above the size
     (
         &[
             (228, 4, &[0, 0, 0, 1]),
-            EIGHT[0],
-            EIGHT[1],
-            EIGHT[2],
-            EIGHT[3],
+            (
+                199,
+                0,
+                &[1, 0, 24, 0, 0, 0, 0, 0, 0, 0, 0, 0, 0, 0, 0, 8, 7],
+            ),
+            (181, 1, &[3]),
+            (134, 0, &[0, 0, 0x1c, 0xa8, 0, 0, 0, 1]),
+            (125, 1, &[2]),
         ],
         4,
-    ), // above the size
-    (&SEVEN_AGAIN, 4),
-    (&SEVEN_UNNAMED, 0), // without names no rule speaks of it
+    ),
+    // `7 go 0` in way 1, row 792
+    (
+        &[
+            (
+                199,
+                0,
+                &[1, 3, 24, 0, 0, 0, 0, 0, 0, 0, 0, 0, 0, 0, 0, 7, 7],
+            ),
+            (181, 1, &[3]),
+            (134, 0, &[0, 0, 0x31, 0xa8, 0, 0, 0, 1]),
+            (125, 1, &[2]),
+        ],
+        4,
+    ),
+    // the same in version 1, where no rule speaks of it
+    (
+        &[
+            (220, 24, &[]),
+            (
+                199,
+                0,
+                &[1, 3, 24, 0, 0, 0, 0, 0, 0, 0, 0, 0, 0, 0, 0, 7, 1],
+            ),
+            (198, 1, &[1]),
+            (181, 1, &[3]),
+            (134, 0, &[0, 0, 0x31, 0xa8, 0, 0, 0, 1]),
+            (125, 1, &[2]),
+            (5, 1, &[1]),
+        ],
+        0,
+    ),
 ];
 
-/// The names of the ternary table without ranks, as of prefixes.
-const NO_RANKS: Splice = (433, 28, &[]);
-
-const PREFIX: Splice = (416, 1, &[1]);
-
+/// The last cases are of prefixes: without ranks, and with the kind 1.
 const OF_TERNARY: [Case; 21] = [
     (&[], 0),
     (&[(460, 1, &[1])], 4), // rows against the order of ranks
@@ -176,41 +180,55 @@ const OF_TERNARY: [Case; 21] = [
     (&[(420, 1, &[3])], 0),
     (&[(419, 2, &[0x10, 0])], 0),
     (&[(419, 2, &[0x10, 1])], 4), // more than the rows
-    (&[NO_RANKS, (416, 1, &[0])], 4), // exact in ternary memory
+    (&[(433, 28, &[]), (416, 1, &[0])], 4), // exact in ternary memory
     (&[(421, 3, &[0, 2, 8, 9])], 0),
-    (&[NO_RANKS, PREFIX], 4), // a mask of the lowest bit
-    (&[NO_RANKS, PREFIX, (298, 5, &[0, 0, 1, 0xff, 0xff])], 0), // lengths 17, 17 and 16
+    (&[(433, 28, &[]), (416, 1, &[1])], 4), // a mask of the lowest bit
     (
         &[
-            NO_RANKS,
+            (433, 28, &[]),
+            (416, 1, &[1]),
+            (298, 5, &[0, 0, 1, 0xff, 0xff]),
+        ],
+        0,
+    ), // lengths 17, 17 and 16
+    (
+        &[
+            (433, 28, &[]),
             (421, 3, &[0, 2, 8, 9]),
-            PREFIX,
+            (416, 1, &[1]),
             (298, 5, &[0, 0, 1, 0xff, 0xff]),
         ],
         4,
     ), // a prefix of two fields
     (
         &[
-            NO_RANKS,
-            PREFIX,
+            (433, 28, &[]),
+            (416, 1, &[1]),
             (293, 10, &[0, 0, 1, 0x23, 0x45, 0, 0, 1, 0xff, 0xff]),
         ],
         4,
     ), // the same prefix twice
     (
         &[
-            NO_RANKS,
-            PREFIX,
+            (433, 28, &[]),
+            (416, 1, &[1]),
             (404, 5, &[0, 0, 1, 0xff, 0xff]),
             (298, 5, &[0, 0, 1, 0xff, 0xfe]),
         ],
         4,
     ), // 16 before 17
-    (&[NO_RANKS, PREFIX, (298, 5, &[0, 0, 1, 0xff, 0xfe])], 4), // of one length, against the order of numbers
     (
         &[
-            NO_RANKS,
-            PREFIX,
+            (433, 28, &[]),
+            (416, 1, &[1]),
+            (298, 5, &[0, 0, 1, 0xff, 0xfe]),
+        ],
+        4,
+    ), // of one length, against the order of numbers
+    (
+        &[
+            (433, 28, &[]),
+            (416, 1, &[1]),
             (396, 13, &[]),
             (395, 1, &[0]),
             (298, 5, &[0, 0, 1, 0xff, 0xff]),
