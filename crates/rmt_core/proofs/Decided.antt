@@ -10,12 +10,13 @@ use Rattle.rmt_core.specs.Types.{Config, Stage, SramRow, TcamRow, SlotUnit, Memo
 use Rattle.rmt_config.specs.declared.config.Memory.TheVariants.{Without, Exact, Ternary}
 use Rattle.rmt_config.specs.CellForm.{Coded, EndsAt, MemoryEnds, RecordsEnd, SlotHolds, StageHolds, cells_of, coded_from, entries_are_numbered, is_clear, none, exact, ternary, numbers_are_formed}
 use Rattle.rmt_config.specs.Cells.{Blocks, blocks_at, cells_in, content_of, record_at, sram_row, tcam_row, unit_row}
-use Rattle.rmt_config.specs.Form.{Formed, items_are_formed}
+use Rattle.rmt_config.specs.Form.{Formed, WholeIsFormed, items_are_formed, names_are_fit, visible_with}
 use Rattle.rmt_config.proofs.HeldRows.{held_of}
 use Rattle.rmt_config.specs.LaneForm.{bits_of_lanes}
 use Rattle.rmt_config.specs.Shapes.{divided_up, record_units, record_width, records_a_row}
 use Rattle.rmt_config.specs.StageForm.{rows_are_formed}
 use Rattle.rmt_config.specs.TableForm.{tables_are_formed}
+use Rattle.rmt_config.specs.TailForm.{has_names_with_tails}
 use Rattle.std.specs.List.{list_all, list_any}
 
 -- it holds, or it does not
@@ -138,19 +139,25 @@ memory_ends stage s (Ternary d ks rs cs) =
 
 -- ---- the whole
 
-slot_holds : (stage : Stage) (first : ℕ) (s : SlotUnit) → IsDecided (SlotHolds stage first s)
-slot_holds stage first s =
+slot_holds : (visible : ℕ) (stage : Stage) (first : ℕ) (s : SlotUnit) → IsDecided (SlotHolds visible stage first s)
+slot_holds visible stage first s =
     along (λ x. record { numbers = x.0; others = x.1.0; ends = x.1.1 }) (λ h. (h.numbers, (h.others, h.ends)))
-    (both (of_bool (numbers_are_formed first stage s))
+    (both (of_bool (numbers_are_formed visible first stage s))
     (both (below (cells_in s.memory) (λ n. IsTrue (not (list_any (λ m. m == n) (cells_of s))) → IsTrue (is_clear s.memory (content_of stage s n)))
     (λ n. under (of_bool (not (list_any (λ m. m == n) (cells_of s)))) (of_bool (is_clear s.memory (content_of stage s n)))))
     (memory_ends stage s s.memory)))
 
-stage_holds : (stage : Stage) → IsDecided (StageHolds stage)
-stage_holds stage = each (λ (c : Coded). SlotHolds stage c.first c.slot) (λ (c : Coded). slot_holds stage c.first c.slot) (coded_from 0 stage.units)
+stage_holds : (visible : ℕ) (stage : Stage) → IsDecided (StageHolds visible stage)
+stage_holds visible stage = each (λ (c : Coded). SlotHolds visible stage c.first c.slot) (λ (c : Coded). slot_holds visible stage c.first c.slot) (coded_from 0 stage.units)
+
+whole_is_decided : (c : Config) → IsDecided (WholeIsFormed c)
+whole_is_decided c =
+    along (λ x. record { rows = x.0; tables = x.1.0; memory = x.1.1.0; numbers = x.1.1.1.0; names = x.1.1.1.1.0; tails = x.1.1.1.1.1 })
+    (λ w. (w.rows, (w.tables, (w.memory, (w.numbers, (w.names, w.tails))))))
+    (both (of_bool (list_all rows_are_formed c.stages)) (both (of_bool (tables_are_formed c))
+    (both (each (StageHolds (visible_with c.names)) (stage_holds (visible_with c.names)) c.stages) (both (of_bool (entries_are_numbered c))
+    (both (of_bool (names_are_fit c c.names)) (of_bool (has_names_with_tails c)))))))
 
 pub form_is_decided : (c : Config) → IsDecided (Formed c)
 form_is_decided c =
-    along (λ x. record { items = x.0; whole = record { rows = x.1.0; tables = x.1.1.0; memory = x.1.1.1.0; numbers = x.1.1.1.1 } }) (λ f. (f.items, (f.whole.rows, (f.whole.tables, (f.whole.memory, f.whole.numbers)))))
-    (both (of_bool (items_are_formed c))
-    (both (of_bool (list_all rows_are_formed c.stages)) (both (of_bool (tables_are_formed c)) (both (each StageHolds stage_holds c.stages) (of_bool (entries_are_numbered c))))))
+    along (λ x. record { items = x.0; whole = x.1 }) (λ f. (f.items, f.whole)) (both (of_bool (items_are_formed c)) (whole_is_decided c))

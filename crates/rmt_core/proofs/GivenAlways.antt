@@ -15,7 +15,7 @@ use Rattle.rmt_image.specs.declared.fault.ImageFault.{ImageFault}
 use Rattle.rmt_image.specs.declared.fault.ImageFault.TheVariants as image
 use Rattle.rmt_image.specs.declared.fault.ReadFault.{ReadFault}
 use Rattle.rmt_image.specs.declared.fault.ReadFault.TheVariants.{Short, Form}
-use Rattle.rmt_image.specs.Reading.{Answers, ConfigAnswers, EndAnswers, MagicAnswers, VersionAnswers, WholeAnswers, config_at}
+use Rattle.rmt_image.specs.Reading.{Answers, ConfigAnswers, EndAnswers, MagicAnswers, VersionAnswers, WholeAnswers, image_at, version_told}
 use Rattle.rmt_packets.specs.PacketText.{Reading}
 use Rattle.rmt_core.specs.declared.status.Status.TheVariants.{Done}
 use Rattle.rmt_core.specs.declared.watch.Watch.{Watch}
@@ -57,12 +57,12 @@ config_answer (Err Short) = (Err image.Short, refl)
 config_answer (Err Form) = (Err image.Form, refl)
 config_answer (Ok x) = end_answer x.0 x.1
 
-version_answer : (begins : Bool) (bytes : List ℕ) → HasAnswer (VersionAnswers begins bytes)
-version_answer true bytes = config_answer (config_at bytes)
-version_answer false bytes = (Err image.Version, refl)
+version_answer : (version : Option ℕ) (bytes : List ℕ) → HasAnswer (VersionAnswers version bytes)
+version_answer (Some version) bytes = config_answer (image_at version bytes)
+version_answer None bytes = (Err image.Version, refl)
 
 magic_answer : (begins : Bool) (bytes : List ℕ) → HasAnswer (MagicAnswers begins bytes)
-magic_answer true bytes = version_answer (starts_with nat_eq bytes (0 ∷ 1 ∷ [])) (drop 2 bytes)
+magic_answer true bytes = version_answer (version_told bytes) (drop 2 bytes)
 magic_answer false bytes = (Err image.Magic, refl)
 
 has_answer : (bytes : List ℕ) → HasAnswer (Answers bytes)

@@ -1,5 +1,5 @@
--- An image of a configuration that carries the entries of a text is short.
-use Rattle.std.proofs.Common.{◌≡◌, ℕ, ◌+◌, ◌*◌, ◌<◌, ◌≤◌, List, [], Result, Ok, Err, length, refl, subst, arith}
+-- An image of a configuration that carries the entries of a text, and has neither names nor tails, is short.
+use Rattle.std.proofs.Common.{◌≡◌, ℕ, ◌+◌, ◌*◌, ◌<◌, ◌≤◌, List, [], None, Result, Ok, Err, length, refl, subst, arith}
 use Rattle.std.specs.Prelude.{All}
 use Rattle.std.specs.List.{range_with_len}
 use Rattle.std.proofs.lemmas.List.Elements.{All-filter, All-map}
@@ -13,9 +13,9 @@ use Rattle.rmt_entries.specs.Tables.{applied_tables}
 use Rattle.rmt_entries.proofs.LawKeys.{same_Ok}
 use Rattle.rmt_entries.proofs.LawLists.{entries_law}
 use Rattle.rmt_config.specs.CellForm.{entry_numbers}
-use Rattle.rmt_config.specs.Form.{Formed}
+use Rattle.rmt_config.specs.Form.{Formed, visible_with}
 use Rattle.rmt_config.specs.Limits.{IsWithinLimits}
-use Rattle.rmt_config.specs.Spelling.{spelled}
+use Rattle.rmt_config.specs.ImageSpelling.{spelled_image}
 use Rattle.rmt_refine.specs.declared.map.Map.{Map}
 use Rattle.rmt_refine.specs.Carries.{Carries}
 use Rattle.rmt_core.proofs.size.Bytes.{bytes_few}
@@ -47,10 +47,10 @@ numbered p text lists said = by (reading (applied_tables p) [] (numbered_lines 1
 
 pub image_is_short : (p : Program) (text : List ℕ) (lists : List (List Entry)) (m : Map) (c : Config)
     → IsProgram p → entries_of p text ≡ Ok lists → length text ≤ 67108864
-    → Carries p lists m c → Formed c → IsWithinLimits c
-    → length (spelled c) ≤ 268435456
-image_is_short p text lists m c program said short carries formed within =
+    → Carries p lists m c → Formed c → IsWithinLimits c → c.names ≡ None → c.parser.tails ≡ []
+    → length (spelled_image c) ≤ 268435456
+image_is_short p text lists m c program said short carries formed within no_names no_tails =
     let entries = numbered p text lists said in
-    let below = numbers_below p lists m c (entries_law p text lists program said) carries formed.whole.memory entries.count entries.below in
+    let below = numbers_below p lists m c (visible_with c.names) (entries_law p text lists program said) carries formed.whole.memory entries.count entries.below in
     let numbers = new_few entries.count (entry_numbers c) formed.whole.numbers below in
-    omega (arith, bytes_few c formed within, numbers, entries.few, short)
+    omega (arith, bytes_few c formed within no_names no_tails, numbers, entries.few, short)

@@ -15,7 +15,7 @@ use Rattle.rmt_bounds.specs.Proofs.{Gives, IsChain}
 use Rattle.rmt_bounds.proofs.GivenLaws.{bound-given}
 use Rattle.rmt_config.specs.Form.{Formed}
 use Rattle.rmt_config.specs.Limits.{IsWithinLimits}
-use Rattle.rmt_config.specs.Spelling.{spelled}
+use Rattle.rmt_config.specs.ImageSpelling.{spelled_image}
 use Rattle.rmt_deps.specs.Edges.{field_edges}
 use Rattle.rmt_deps.proofs.EdgeLaws.{go_forward}
 use Rattle.rmt_refine.specs.declared.map.Map.{Map}
@@ -70,11 +70,13 @@ not_refused p r built is refused = by (first_refusal p) refl
     by (Some fault) e = absurd (never fault (sym is ∙ refused fault e (λ memory. never no_fit.NoMemory (sym is ∙ memory))))
 
 -- an image that spells what was built
-pub made : (p : Program) (lists : List (List Entry)) (image : List ℕ) (m : Map) (c : Config) (b : Bound) → IsProgram p → AreOfText p lists → image ≡ spelled c
-    → Formed c → IsWithinLimits c → RunsAs p lists c → Carries p lists m c → IsByRule p lists m c → b ≡ stage_bound p (field_edges p m.places) → Makes p lists image m c b
-made p lists image m c b program said spells formed limits runs carries rule bound = record {
+pub made : (p : Program) (lists : List (List Entry)) (image : List ℕ) (m : Map) (c : Config) (b : Bound) → IsProgram p → AreOfText p lists → image ≡ spelled_image c
+    → Formed c → IsWithinLimits c → c.names ≡ None → c.parser.tails ≡ [] → RunsAs p lists c → Carries p lists m c → IsByRule p lists m c → b ≡ stage_bound p (field_edges p m.places) → Makes p lists image m c b
+made p lists image m c b program said spells formed limits no_names no_tails runs carries rule bound = record {
   spells = record { spelled = spells; formed = formed; limits = limits };
-  short = subst (λ (bytes : List ℕ). length bytes ≤ 268435456) (sym spells) (image_is_short p said.0 lists m c program said.1 said.2 carries formed limits);
+  no_names = no_names;
+  no_tails = no_tails;
+  short = subst (λ (bytes : List ℕ). length bytes ≤ 268435456) (sym spells) (image_is_short p said.0 lists m c program said.1 said.2 carries formed limits no_names no_tails);
   runs = runs;
   carries = carries;
   by_rule = rule;
@@ -83,20 +85,20 @@ made p lists image m c b program said spells formed limits runs carries rule bou
 
 -- what is built is told of
 pub builds : (files : Files) (finish : List ℕ → Config → Bound → Given) (p : Program) (lists : List (List Entry)) (built : Built) → IsBuilt p lists built
-    → Builds files finish p lists (finish (spelled built.config) built.config built.bound)
+    → Builds files finish p lists (finish (spelled_image built.config) built.config built.bound)
 builds files finish p lists built is =
-    let g = finish (spelled built.config) built.config built.bound in
+    let g = finish (spelled_image built.config) built.config built.bound in
     subst (λ o. Untailed files finish p lists g o) (sym is.no_tail) (subst (λ o. Fitted files finish p lists g o) (sym is.no_refusal)
-    (inl (spelled built.config, built.map, built.config, built.bound, is.makes, refl)))
+    (inl (spelled_image built.config, built.map, built.config, built.bound, is.makes, refl)))
 
 -- its image and its lines are what `compile` makes
-pub built_image : (p : Program) (lists : List (List Entry)) (built : Built) (image lines : List ℕ) → IsBuilt p lists built → image ≡ spelled built.config
+pub built_image : (p : Program) (lists : List (List Entry)) (built : Built) (image lines : List ℕ) → IsBuilt p lists built → image ≡ spelled_image built.config
     → lines ≡ compile_text p built.config built.bound → MakesImage p lists image lines
 built_image p lists built image lines is image_is lines_are files name =
     subst (λ g. Compiles files name p lists g) (same image lines image_is lines_are) (builds files (written files name p) p lists built is)
   where
-    same : (i l : List ℕ) → i ≡ spelled built.config → l ≡ compile_text p built.config built.bound
-        → written files name p (spelled built.config) built.config built.bound ≡ stored files name i l
+    same : (i l : List ℕ) → i ≡ spelled_image built.config → l ≡ compile_text p built.config built.bound
+        → written files name p (spelled_image built.config) built.config built.bound ≡ stored files name i l
     same i l e f = rw (e, f) refl
 
 -- ---- the lines

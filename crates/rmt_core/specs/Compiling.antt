@@ -1,5 +1,5 @@
 -- What `compile` gives: the image of a configuration that answers as the program does, or why there is none.
-use Rattle.std.specs.Prelude.{◌≡◌, ◌≤◌, ◌⊎◌, ℕ, List, Option, Some, None, Ok, length, find, is_some}
+use Rattle.std.specs.Prelude.{◌≡◌, ◌≤◌, ◌⊎◌, ℕ, List, [], Option, Some, None, Ok, length, find, is_some}
 use Rattle.rmt_bits.specs.declared.lane.Lane.{Lane}
 use Rattle.rmt_core.specs.Types.{Program, Header, Config}
 use Rattle.rmt_ast.specs.declared.entry.Entry.{Entry}
@@ -34,10 +34,13 @@ pub record IsByRule (p : Program) (lists : List (List Entry)) (m : Map) (c : Con
   pub starts : m.starts ≡ starts_of (all_edges p m.places) m.placement.parts
   pub seed : IsFirstSeed p lists m.placement.parts c.seed
 
--- The image spells one configuration within every limit. As the map tells, it carries the program with its entries and is made by the rules; and for every list
--- of packets its chip run gives the verdicts, bytes and counters of the plain run. The bound is that of the program.
+-- The image spells one configuration within every limit, so far without names and tails. As the map tells, it carries
+-- the program with its entries and is made by the rules; and for every list of packets its chip run gives the verdicts,
+-- bytes and counters of the plain run. The bound is that of the program.
 pub record Makes (p : Program) (lists : List (List Entry)) (image : List ℕ) (m : Map) (c : Config) (b : Bound) : Type 0 where
   pub spells : Spells image c
+  pub no_names : c.names ≡ None
+  pub no_tails : c.parser.tails ≡ []
   pub short : length image ≤ image_limit
   pub runs : RunsAs p lists c
   pub carries : Carries p lists m c

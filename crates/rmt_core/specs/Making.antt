@@ -5,7 +5,7 @@ use Rattle.rmt_ast.specs.declared.entry.Entry.{Entry}
 use Rattle.rmt_bounds.specs.declared.bound.Bound.{Bound}
 use Rattle.rmt_build.specs.declared.built.Built.{Built}
 use Rattle.rmt_build.specs.Refusals.{first_refusal}
-use Rattle.rmt_config.specs.Spelling.{spelled}
+use Rattle.rmt_config.specs.ImageSpelling.{spelled_image}
 use Rattle.rmt_entries.specs.Entries.{entries_of}
 use Rattle.rmt_core.specs.declared.status.Status.TheVariants.{NoFit}
 use Rattle.rmt_core.specs.Files.{Files, entries_limit}
@@ -25,7 +25,7 @@ MakesImage p lists image lines =
 pub record IsBuilt (p : Program) (lists : List (List Entry)) (built : Built) : Type 0 where
   pub no_tail : first_tail p ≡ None
   pub no_refusal : first_refusal p ≡ None
-  pub makes : Makes p lists (spelled built.config) built.map built.config built.bound
+  pub makes : Makes p lists (spelled_image built.config) built.map built.config built.bound
 
 -- none is made, as this line tells
 abbrev pub TellsWhy : Program → List (List Entry) → List ℕ → Type 0

@@ -5,7 +5,8 @@ ghost use Rattle.std.specs.Global.{Global};
 ghost use Rattle.rmt_ast.specs.EntryLists.{AreEntries};
 ghost use Rattle.rmt_ast.specs.WellFormed.{IsProgram};
 ghost use Rattle.rmt_config.specs.Form.{Formed};
-ghost use Rattle.rmt_config.specs.Spelling.{spelled};
+ghost use Rattle.rmt_config.specs.Limits.{IsWithinLimits};
+ghost use Rattle.rmt_config.specs.ImageSpelling.{spelled_image};
 ghost use Rattle.rmt_core.specs.Compiling.{first_tail};
 ghost use Rattle.rmt_core.specs.CompileText.{compile_text};
 ghost use Rattle.rmt_core.specs.Making.{AreOfText, IsBuilt, MakesImage, TellsWhy};
@@ -111,8 +112,9 @@ fn fit_untailed(alloc: Global, program: &Program, entries: &EntryLists) -> Resul
 /// The image and the lines of what was built.
 fn made_of(alloc: Global, program: &Program, built: &Built) -> Result<Made, Refusal>
     requires formed { Formed built.now.config }
+    requires limits { IsWithinLimits built.now.config }
     requires nodes { AreNodesOf program.now built.now.bound.proof }
-    ensures image { IfOk result (λ m. m.image.items ≡ spelled built.now.config) }
+    ensures image { IfOk result (λ m. m.image.items ≡ spelled_image built.now.config) }
     ensures lines { IfOk result
         (λ m. m.lines ≡ compile_text program.now built.now.config built.now.bound) }
     ensures only_memory { IsOkUnless result Refusal.NoMemory }

@@ -1,32 +1,29 @@
 -- A configuration is spelled with few bytes, but for the numbers of entries.
-use Rattle.std.proofs.Common.{◌≡◌, ◌+◌, ◌*◌, ◌≤◌, true, ◌++◌, length, length-append, arith}
-use Rattle.std.specs.Prelude.{All, codes, ◌&&◌}
+use Rattle.std.proofs.Common.{◌≡◌, ℕ, ◌+◌, ◌*◌, ◌≤◌, List, [], ◌++◌, Option, None, length, ap, ◌∙◌, append-nil, length-append, arith}
+use Rattle.std.specs.Prelude.{All, codes}
 use Rattle.std.specs.List.{flat_map, sum_by}
-use Rattle.std.proofs.lemmas.Bool.{and_parts}
 use Rattle.std.proofs.lemmas.List.Elements.{All-from_recursion, All-weaker}
 use Rattle.std.proofs.lemmas.List.Sums.{AllPass-from_list_all}
+use Rattle.rmt_ast.specs.declared.names.Names.{Names}
+use Rattle.rmt_config.specs.declared.config.TailOf.{TailOf}
 use Rattle.rmt_core.specs.Types.{Config, Stage}
 use Rattle.rmt_config.specs.CellForm.{entry_numbers, numbers_of_stage}
-use Rattle.rmt_config.specs.Form.{Formed, has_no_names}
+use Rattle.rmt_config.specs.Form.{Formed}
 use Rattle.rmt_config.specs.Limits.{IsWithinLimits}
 use Rattle.rmt_config.specs.Resources.{unit_instructions, unit_sram, unit_tcam}
-use Rattle.rmt_config.specs.Spelling.{CountsFit, CountsFitHeader, spelled, spelled_config, spelled_header, spelled_list8, spelled_parser, spelled_ports, spelled_stage, two_bytes}
-use Rattle.rmt_config.specs.StageForm.{rows_are_formed, stage_is_formed, stages_are_formed}
-use Rattle.rmt_config.proofs.CountsLemmas.{counts_fit}
+use Rattle.rmt_config.specs.Spelling.{CountsFit, CountsFitHeader, spelled_config, spelled_header, spelled_list8, spelled_parser, spelled_ports, spelled_stage, two_bytes}
+use Rattle.rmt_config.specs.ImageSpelling.{spelled_image, spelled_names, spelled_tails, version_with}
+use Rattle.rmt_config.specs.StageForm.{rows_are_formed, stage_is_formed}
+use Rattle.rmt_config.proofs.CountsLemmas.{counts_fit, stages_of_items}
 use Rattle.rmt_config.proofs.LimitLaws.{KeepsLimits, limits_kept}
 use Rattle.rmt_core.proofs.size.Lists.{flat_map_by, flat_map_short}
 use Rattle.rmt_core.proofs.size.Front.{header_short, parser_short}
 use Rattle.rmt_core.proofs.size.Stages.{StageFits, stage_short}
-use Rattle.rmt_config.specs.LaneForm.{ports_are_formed, headers_are_formed}
-use Rattle.rmt_config.specs.ParserForm.{parser_is_formed}
 
 stages_fit : (c : Config) → Formed c → CountsFit c → KeepsLimits c → All StageFits c.stages
 stages_fit c formed counts limits k d lt =
-    let front = ports_are_formed c && headers_are_formed c.headers && parser_is_formed c.parser in
-    let named = and_parts (front && stages_are_formed c.stages) (has_no_names c) formed.items in
-    let stages = (and_parts front (stages_are_formed c.stages) named.0).1 in
     record {
-      formed = AllPass-from_list_all stage_is_formed c.stages (and_parts _ _ (and_parts _ _ stages).0).1 k d lt;
+      formed = AllPass-from_list_all stage_is_formed c.stages (stages_of_items c formed.items) k d lt;
       rows = AllPass-from_list_all rows_are_formed c.stages formed.whole.rows k d lt;
       counts = counts.each_stage k d lt;
       sram = All-from_recursion (λ (s : Stage). length (flat_map unit_sram s.units) ≤ 106) c.stages limits.sram k d lt;
@@ -45,9 +42,17 @@ config_short c counts limits fit =
     let second = length-append (spelled_ports c ++ spelled_list8 spelled_header c.headers ++ spelled_parser c.parser) (spelled_list8 spelled_stage c.stages) in
     omega (arith, headers, parser, stages, first, second, limits.stages)
 
-pub bytes_few : (c : Config) → Formed c → IsWithinLimits c → length (spelled c) ≤ 103200000 + 8 * length (entry_numbers c)
-bytes_few c formed within =
+-- without names and tails an image is one of version 1, and ends with the configuration
+pub plain_image : (c : Config) → c.names ≡ None → c.parser.tails ≡ [] → spelled_image c ≡ codes "RMTI" ++ two_bytes 1 ++ spelled_config c
+plain_image c no_names no_tails =
+    let whole : List ℕ → List ℕ → List ℕ → List ℕ = λ version names tails. codes "RMTI" ++ version ++ spelled_config c ++ names ++ tails in
+    ap (λ (n : Option Names). whole (two_bytes (version_with n c.parser.tails)) (spelled_names n) (spelled_tails c.parser.tails)) no_names
+    ∙ ap (λ (ts : List TailOf). whole (two_bytes (version_with None ts)) [] (spelled_tails ts)) no_tails
+    ∙ append-nil _ ∙ append-nil _
+
+pub bytes_few : (c : Config) → Formed c → IsWithinLimits c → c.names ≡ None → c.parser.tails ≡ [] → length (spelled_image c) ≤ 103200000 + 8 * length (entry_numbers c)
+bytes_few c formed within no_names no_tails =
     let counts = counts_fit c formed.items in
     let limits = limits_kept c within in
     let config = config_short c counts limits (stages_fit c formed counts limits) in
-    omega (arith, config, length-append (codes "RMTI" ++ two_bytes 1) (spelled_config c))
+    rw (plain_image c no_names no_tails) (omega (arith, config, length-append (codes "RMTI" ++ two_bytes 1) (spelled_config c)))

@@ -56,7 +56,8 @@ table_done p m k n (what.Apply i) slot does =
     let t = some_and (slice_get p.tables i) (λ (x : Table). TableCarried m.places m.placement.parts n k x slot) does in (t.0, t.1)
 table_done p m k n (what.Gate field test) slot does = absurd does
 
-module _ (p : Program) (lists : List (List Entry)) (m : Map) (c : Config) (entries : AreEntries p lists) (carries : Carries p lists m c) (memory : All StageHolds c.stages) where
+module _ (p : Program) (lists : List (List Entry)) (m : Map) (c : Config) (visible : ℕ) (entries : AreEntries p lists) (carries : Carries p lists m c)
+    (memory : All (StageHolds visible) c.stages) where
   own_content_is : (k place cell : ℕ) (stage : Stage) (slot : SlotUnit) → IsPart c slot.node k place stage slot → own_content c k place cell ≡ content_of stage slot cell
   own_content_is k place cell stage slot part =
       ap (λ o. unwrap_or (option_and_then (λ (x : Stage). option_map (λ (y : SlotUnit). content_of x y cell) (slot_of x place)) o) no_content) part.stage_is
@@ -81,8 +82,8 @@ module _ (p : Program) (lists : List (List Entry)) (m : Map) (c : Config) (entri
       let table = table_done p m k slot.node node.0.what slot node.2 in
       let at_table : table_at p slot.node ≡ Some table.0 = ap (option_and_then (λ (n : Node). applied p n.what)) node.1 ∙ table.1 in
       let list = list_at p lists slot.node node.0 entries node.1 in
-      let coded = coded_slot (λ (y : Coded). SlotHolds stage y.first y.slot) stage.units 0 place slot part.slot_is (All-slice_get StageHolds c.stages k stage memory part.stage_is) in
-      let listed = cells_listed stage coded.0 slot coded.1 in
+      let coded = coded_slot (λ (y : Coded). SlotHolds visible stage y.first y.slot) stage.units 0 place slot part.slot_is (All-slice_get (StageHolds visible) c.stages k stage memory part.stage_is) in
+      let listed = cells_listed visible stage coded.0 slot coded.1 in
       let cells = carries.cells.tables slot.node table.0 (entries_at lists slot.node) at_table list.0 in
       let spot : Spot = record { stage = k; place = place; cell = x.cell } in
       let is_spot = spot_of_part c slot.node k place x.cell stage slot part (listed.within x there) in

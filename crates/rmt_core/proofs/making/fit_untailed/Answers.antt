@@ -1,5 +1,6 @@
 use Rattle.std.proofs.Common.{refl, subst, sym}
-use Rattle.rmt_config.specs.Spelling.{spelled}
+use Rattle.rmt_config.specs.Form.{visible_with}
+use Rattle.rmt_config.specs.ImageSpelling.{spelled_image}
 use Rattle.rmt_core.specs.Compiling.{IsByRule}
 use Rattle.rmt_core.specs.Making.{TellsWhy}
 use Rattle.rmt_core.proofs.MakeLaws.{made, not_refused}
@@ -17,12 +18,12 @@ returns-in-Ok-clause-built c =
     let config = c.in-Ok.built.config in
     let bound = c.in-Ok.built.bound in
     let b = c.in-Ok.ensures in
-    let runs = c.packet_lists.ensures p lists map config c.requires.program c.requires.entries b.carries b.formed.whole.memory in
+    let runs = c.packet_lists.ensures p lists map config (visible_with config.names) c.requires.program c.requires.entries b.carries b.formed.whole.memory in
     let rule : IsByRule p lists map config = record { places = b.places; parser = b.parser; placement = b.placement; starts = b.starts; seed = b.seed } in
     record {
       no_tail = c.requires.no_tail;
       no_refusal = not_refused p c.build.result c.in-Ok.built c.in-Ok.is c.build.ensures.refused;
-      makes = made p lists (spelled config) map config bound c.requires.program c.requires.said refl b.formed b.limits runs b.carries rule b.bound;
+      makes = made p lists (spelled_image config) map config bound c.requires.program c.requires.said refl b.formed b.limits b.no_names b.no_tails runs b.carries rule b.bound;
     }
 
 pub returns-in-Err-clause-refused : goal.returns-in-Err-clause-refused

@@ -6,6 +6,9 @@ use Rattle.rmt_core.proofs.making.make.Goals as goal
 pub made_of-requires-clause-formed : goal.made_of-requires-clause-formed
 made_of-requires-clause-formed c = c.in-Ok.ensures.built.makes.spells.formed
 
+pub made_of-requires-clause-limits : goal.made_of-requires-clause-limits
+made_of-requires-clause-limits c = c.in-Ok.ensures.built.makes.spells.limits
+
 pub made_of-requires-clause-nodes : goal.made_of-requires-clause-nodes
 made_of-requires-clause-nodes c = are_nodes c.args.program.now c.in-Ok.built.map.places c.in-Ok.built.bound c.requires.program c.in-Ok.ensures.built.makes.bound
 
