@@ -12,6 +12,8 @@ mod captures;
 #[cfg(test)]
 mod cells;
 #[cfg(test)]
+mod changes;
+#[cfg(test)]
 mod check;
 #[cfg(test)]
 mod chip;
