@@ -32,6 +32,8 @@ mod image_rules;
 #[cfg(test)]
 mod images;
 #[cfg(test)]
+mod joins;
+#[cfg(test)]
 mod layouts;
 #[cfg(test)]
 mod loading;

@@ -19,7 +19,7 @@ use std::test::*;
 
 /// A rule by which a program gets its parser.
 #[derive(Clone, Copy)]
-enum Rule {
+pub(crate) enum Rule {
     /// One state for each header.
     Plain,
     /// Several headers in one step.
@@ -30,7 +30,7 @@ enum Rule {
 const RULES: [Rule; 2] = [Rule::Plain, Rule::Clustered];
 
 /// The parser by a rule of a text that means a program; `parser_need` refuses as the rules do.
-fn parser_of(alloc: Global, text: &[u8], rule: Rule) -> Result<ParserConfig, ParserFault>
+pub(crate) fn parser_of(alloc: Global, text: &[u8], rule: Rule) -> Result<ParserConfig, ParserFault>
     requires { length text.now < 4294967295 }
     ensures { IfOk result IsParser }
 {
@@ -59,7 +59,7 @@ fn parsed(parser: &ParserConfig, frame: &[u8]) -> Parsed
 }
 
 /// The headers of an Ethernet switch: 16 cases and `else`s.
-const HEADERS: &[u8] =
+pub(crate) const HEADERS: &[u8] =
     b"header eth { dst : 48; src : 48; kind : 16; } next (kind) { 0x8100 : vlan; 0x0800 : ipv4; 0x86dd : ipv6; else : accept; } header vlan { pcp : 3; dei : 1; vid : 12; kind : 16; } next (kind) { 0x0800 : ipv4; 0x86dd : ipv6; else : accept; } header ipv4 { version : 4; ihl : 4; tos : 8; length : 16; id : 16; flags : 3; frag : 13; ttl : 8; proto : 8; sum : 16; src : 32; dst : 32; } next (ihl, proto) { 5, 6 : tcp; 5, 17 : udp; 5, 0 & 0 : accept; else : reject; } header ipv6 { version : 4; class : 8; flow : 20; length : 16; nxt : 8; hops : 8; src : 128; dst : 128; } next (nxt) { 6 : tcp; 17 : udp; else : accept; } header tcp { sport : 16; dport : 16; seq : 32; ack : 32; off : 4; flags : 12; window : 16; sum : 16; urgent : 16; } next accept; header udp { sport : 16; dport : 16; length : 16; sum : 16; } next accept; control { }";
 
 /// Packet lines, and how their frames parse: UDP twice, TCP behind a tag, UDP over IPv6, an unknown kind, options of IPv4,
