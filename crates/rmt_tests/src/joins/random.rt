@@ -52,7 +52,8 @@ fn push_target(
     number: u32,
     count: u32,
 ) -> Result<(), AllocError>
-    requires { number < count }
+    requires behind { number < count }
+    requires few { count ≤ 6 }
 {
     let left = count - number;
     let target = chance.below(left + 1);
@@ -72,7 +73,8 @@ fn push_header(
     number: u32,
     count: u32,
 ) -> Result<(), AllocError>
-    requires { number < count }
+    requires behind { number < count }
+    requires few { count ≤ 6 }
 {
     let layout = chance.below(5) as usize;
     write!(out, "header h{number} {{ {}", FIELDS[layout])?;
@@ -132,12 +134,32 @@ fn ends_as(parsed: Parsed, verdict: Verdict) -> bool {
     }
 }
 
-/// Compares the three on frames, each cut at each byte and whole; how many end in each way.
-fn compare(rt: &(impl Abort + AllocGlobal), chance: &mut Chance, text: &[u8]) {
+/// How many frames end in each way, and how many programs have entries that are joined.
+#[derive(Clone, Copy)]
+struct Seen {
+    short: usize,
+    rejected: usize,
+    accepted: usize,
+    joined: usize,
+}
+
+fn see(seen: &mut Seen, parsed: Parsed) {
+    match parsed {
+        Parsed::Short => seen.short = seen.short.saturating_add(1),
+        Parsed::Reject => seen.rejected = seen.rejected.saturating_add(1),
+        Parsed::Accept { .. } => seen.accepted = seen.accepted.saturating_add(1),
+    }
+}
+
+/// Compares the three on frames, each cut at each byte and whole.
+fn compare(rt: &(impl Abort + AllocGlobal), chance: &mut Chance, text: &[u8], seen: &mut Seen) {
     assert!(rt; text.len() < 10000);
     let plain = parser_of(rt.alloc(), text, Rule::Plain).expect(rt, "a parser");
     let clustered = parser_of(rt.alloc(), text, Rule::Clustered).expect(rt, "a parser");
     let mut run = plain_run(rt.alloc(), text).expect(rt, "a program");
+    if clustered.states.len() < plain.states.len() {
+        seen.joined = seen.joined.saturating_add(1);
+    }
     for _ in 0..3 {
         let frame = frame_of(rt.alloc(), chance).expect(rt, "memory");
         assert!(rt; frame.len() < 9217);
@@ -146,6 +168,7 @@ fn compare(rt: &(impl Abort + AllocGlobal), chance: &mut Chance, text: &[u8]) {
             let parsed = both_parsed(&plain, &clustered, front).expect(rt, "ends alike");
             let answer = run.packet(rt.alloc(), 0, front).expect(rt, "memory");
             assert!(rt; ends_as(parsed, answer.verdict));
+            see(seen, parsed);
         }
     }
 }
@@ -153,9 +176,16 @@ fn compare(rt: &(impl Abort + AllocGlobal), chance: &mut Chance, text: &[u8]) {
 #[test]
 fn programs_by_chance(rt: HostRuntime) -> Result<(), Fail> {
     let mut chance = Chance { state: 20 };
+    let mut seen = Seen {
+        short: 0,
+        rejected: 0,
+        accepted: 0,
+        joined: 0,
+    };
     for _ in 0..20 {
         let text = program_text(rt.alloc(), &mut chance)?;
-        compare(&rt, &mut chance, text.as_bytes());
+        compare(&rt, &mut chance, text.as_bytes(), &mut seen);
     }
+    assert!(rt; seen.short > 99 && seen.rejected > 99 && seen.accepted > 99 && seen.joined > 9);
     Ok(())
 }
