@@ -73,7 +73,7 @@ use std::alloc::{AllocError, Global};
 pub fn build(alloc: Global, program: &Program, entries: &EntryLists) -> Result<Built, NoFit>
     requires program { IsProgram program.now }
     requires entries { AreEntries program.now entries.now }
-    // No image tells a tail yet.
+    // An image tells tails together with names, which are not built yet.
     requires no_tails { All (λ (h : Header). h.tail ≡ None) program.now.headers }
     // The configuration carries the program with its entries, as the map says.
     ensures carries { IfOk result (λ b. Carries program.now entries.now b.map b.config) }
