@@ -1,11 +1,10 @@
 -- Images of versions 1, 2 and 3 that are known byte by byte, and tails that break one rule each.
-use Rattle.std.specs.Prelude.{◌≡◌, ℕ, List, [], ◌∷◌, ◌++◌, Option, Some, None, true, false, codes, length, refl}
-use Rattle.rmt_ast.specs.declared.names.Names.{Names}
+use Rattle.std.specs.Prelude.{◌≡◌, List, [], ◌∷◌, ◌++◌, Some, None, true, false, codes, length, refl}
 use Rattle.rmt_ast.specs.declared.program.Kind.TheVariants as named
 use Rattle.rmt_config.specs.Types.{Config, ParserEntry, TailOf}
 use Rattle.rmt_config.specs.declared.config.Next.TheVariants as next
 use Rattle.rmt_config.specs.Spelling.{spelled, spelled_config}
-use Rattle.rmt_config.specs.ImageSpelling.{spelled_image, spelled_names, spelled_tails, version_of}
+use Rattle.rmt_config.specs.ImageSpelling.{spelled_image, spelled_names}
 use Rattle.rmt_config.specs.Form.{items_are_formed}
 use Rattle.rmt_config.specs.TailForm.{has_greatest_length, has_names_with_tails, tails_are_formed, tails_have_headers}
 use Rattle.rmt_config.proofs.ExamplesSpelling.{shared_words}

@@ -1,5 +1,5 @@
 -- Configurations with names: the entries that they spell, and names that break one rule each.
-use Rattle.std.specs.Prelude.{◌≡◌, ℕ, ◌+◌, ◌*◌, ◌^◌, List, [], ◌∷◌, Option, Some, None, true, false, codes, refl}
+use Rattle.std.specs.Prelude.{◌≡◌, ℕ, ◌+◌, ◌*◌, ◌^◌, List, [], ◌∷◌, Some, None, true, false, codes, refl}
 use Rattle.rmt_ast.specs.declared.entry.Entry.{Entry}
 use Rattle.rmt_ast.specs.declared.names.Names.{Names}
 use Rattle.rmt_ast.specs.declared.names.TableName.{TableName}
@@ -7,7 +7,7 @@ use Rattle.rmt_ast.specs.declared.names.ActionName.{ActionName}
 use Rattle.rmt_ast.specs.declared.names.RankOf.{RankOf}
 use Rattle.rmt_ast.specs.declared.program.Kind.{Kind}
 use Rattle.rmt_ast.specs.declared.program.Kind.TheVariants as named
-use Rattle.rmt_config.specs.Types.{Config, Stage, SlotUnit, CellNumber, SramRow, TcamRow, Memory}
+use Rattle.rmt_config.specs.Types.{Config, SlotUnit, CellNumber, SramRow, TcamRow}
 use Rattle.rmt_config.specs.declared.config.Unit.TheVariants.{Slot}
 use Rattle.rmt_config.specs.declared.config.Memory.TheVariants.{Exact, Ternary}
 use Rattle.rmt_config.specs.declared.config.Source.TheVariants.{Word, Held, Constant}

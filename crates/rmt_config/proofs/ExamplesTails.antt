@@ -1,5 +1,5 @@
 -- Parsers with tails, and packets that are sent with them.
-use Rattle.std.specs.Prelude.{◌≡◌, ℕ, List, [], ◌∷◌, ◌++◌, Some, None, false, replicate, refl}
+use Rattle.std.specs.Prelude.{◌≡◌, ℕ, List, [], ◌∷◌, ◌++◌, Some, None, replicate, refl}
 use Rattle.rmt_bits.specs.declared.answer.Verdict.TheVariants as verdict
 use Rattle.rmt_config.specs.Types.{Config, TailOf}
 use Rattle.rmt_config.specs.declared.config.Next.TheVariants as next

@@ -1,5 +1,5 @@
 -- The rules of form on names, each by itself: the tables of a configuration by name, and the entries that cells and ranks spell.
-use Rattle.std.specs.Prelude.{ℕ, ◌+◌, ◌*◌, ◌-◌, ◌^◌, ◌%◌, ◌/◌, List, [], ◌∷◌, Bool, true, false, not, ◌&&◌, ◌||◌, ◌==◌, nat_lt, nat_le, if◌then◌else◌, Option, Some, None, is_some, option_map, unwrap_or, find, fold, length, map, max, sum}
+use Rattle.std.specs.Prelude.{ℕ, ◌+◌, ◌*◌, ◌-◌, ◌^◌, ◌%◌, ◌/◌, List, [], ◌∷◌, Bool, true, false, not, ◌&&◌, ◌||◌, ◌==◌, nat_lt, nat_le, if◌then◌else◌, Option, is_some, option_map, unwrap_or, find, fold, length, map, max, sum}
 use Rattle.std.specs.List.{enumerate_from, flat_map, list_all, list_any, range_with_len}
 use Rattle.std.specs.Str.{bytes_eq}
 use Rattle.rmt_bits.specs.Bits.{slice}

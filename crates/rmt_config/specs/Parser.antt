@@ -1,5 +1,5 @@
 -- The chip's parser: states, lookup bytes, extracts and tails (Gibb et al. 2013: a programmable parser).
-use Rattle.std.specs.Prelude.{ℕ, zero, suc, ◌+◌, ◌*◌, ◌-◌, List, [], ◌∷◌, ◌++◌, Bool, ◌&&◌, ◌==◌, bit_and, nat_lt, if◌then◌else◌, Option, Some, None, find, position, fold, map, take, drop, length, slice_get, slice_index, slice_set, replicate}
+use Rattle.std.specs.Prelude.{ℕ, zero, suc, ◌+◌, ◌*◌, ◌-◌, List, [], ◌∷◌, ◌++◌, ◌&&◌, ◌==◌, bit_and, nat_lt, if◌then◌else◌, Option, Some, None, find, position, fold, map, take, drop, length, slice_get, slice_index, slice_set, replicate}
 use Rattle.rmt_bits.specs.Bits.{deposit, bits_of_bytes}
 use Rattle.rmt_bits.specs.declared.lane.Lane.{Lane}
 use Rattle.rmt_config.specs.Types.{ParserConfig, ParserState, ParserEntry, Next, Extract, TailOf}

@@ -1,5 +1,5 @@
 -- What the clocked chip answers where cells change in flight: each packet looks up in the cells as they stand in the cycle of the look-up.
-use Rattle.std.specs.Prelude.{ℕ, ◌+◌, ◌-◌, List, [], ◌∷◌, ◌++◌, Bool, false, ◌&&◌, ◌==◌, not, nat_le, nat_lt, length, if◌then◌else◌, Option, Some, None, fold, slice_get, option_map, option_and_then, unwrap_or, take, count_by, is_some}
+use Rattle.std.specs.Prelude.{ℕ, ◌+◌, ◌-◌, List, [], ◌∷◌, ◌++◌, false, ◌&&◌, ◌==◌, not, nat_le, nat_lt, length, if◌then◌else◌, Option, Some, None, fold, slice_get, option_map, option_and_then, unwrap_or, take, count_by, is_some}
 use Rattle.std.specs.List.{flat_map, range_with_len}
 use Rattle.rmt_bits.specs.Packet.{Packet}
 use Rattle.rmt_bits.specs.Counts.{Hit, counts}

@@ -1,5 +1,5 @@
 -- The rules of form on tails of entries of the parser.
-use Rattle.std.specs.Prelude.{ℕ, ◌+◌, ◌*◌, ◌-◌, ◌^◌, Bool, false, ◌&&◌, ◌||◌, ◌==◌, nat_lt, nat_le, Option, Some, None, is_some, length, map, slice_get}
+use Rattle.std.specs.Prelude.{◌+◌, ◌*◌, ◌-◌, ◌^◌, Bool, false, ◌&&◌, ◌||◌, ◌==◌, nat_lt, nat_le, Option, Some, None, is_some, length, map, slice_get}
 use Rattle.std.specs.List.{list_all}
 use Rattle.rmt_config.specs.Types.{Config, ParserConfig, ParserEntry, TailOf}
 use Rattle.rmt_config.specs.Order.{rises_from}
