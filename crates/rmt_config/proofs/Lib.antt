@@ -52,4 +52,8 @@ mod SpelledKeys
 mod SpelledWays
 mod SpelledExact
 mod SpelledTable
-mod SpelledPrefix
+mod PrefixLengths
+mod PrefixOrder
+mod PrefixSeen
+mod PrefixRows
+mod PrefixRowLaws

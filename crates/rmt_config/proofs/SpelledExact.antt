@@ -74,7 +74,7 @@ parts-split c size before (p ∷ ps) =
 
 -- ---- new keys differ from all later ones
 
-differ-all : (p q : ℕ → Bool) (xs : List ℕ) → list_all (λ x. not (p x || q x)) xs ≡ (list_all (λ x. not (p x)) xs && list_all (λ x. not (q x)) xs)
+pub differ-all : {A : Type 0} (p q : A → Bool) (xs : List A) → list_all (λ x. not (p x || q x)) xs ≡ (list_all (λ x. not (p x)) xs && list_all (λ x. not (q x)) xs)
 differ-all p q [] = refl
 differ-all p q (x ∷ xs) = ap (λ b. not (p x || q x) && b) (differ-all p q xs) ∙ by (p x) (q x) (list_all (λ x. not (p x)) xs) (list_all (λ x. not (q x)) xs)
   where
@@ -85,7 +85,7 @@ differ-all p q (x ∷ xs) = ap (λ b. not (p x || q x) && b) (differ-all p q xs)
     by false true true d = refl
     by false true false d = refl
 
-turn : (a b c d : Bool) → (a && ((b && c) && d)) ≡ ((a && c) && (b && d))
+pub turn : (a b c d : Bool) → (a && ((b && c) && d)) ≡ ((a && c) && (b && d))
 turn false b c d = refl
 turn true true c d = refl
 turn true false true d = refl

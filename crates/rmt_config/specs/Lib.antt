@@ -31,5 +31,7 @@ pub mod Rooms
 pub mod Commits
 pub mod Effects
 pub mod PartsTold
+pub mod PrefixRow
 pub mod PartStands
 pub mod KeysSeen
+pub mod PrefixRows

@@ -32,7 +32,7 @@ fn table_fits(alloc: Global, config: &Config, table: &TableName) -> Result<bool,
     match table.kind {
         Kind::Keyless => Ok(false),
         Kind::Exact => exact_fits(alloc, config, table, parts.as_slice(), numbers.as_slice()),
-        Kind::Prefix => prefix_fits(config, table, numbers.as_slice()),
+        Kind::Prefix => prefix_fits(alloc, config, table, parts.as_slice(), numbers.as_slice()),
         Kind::Ternary => Ok(ternary_fits(config, table, numbers.as_slice())),
     }
 }

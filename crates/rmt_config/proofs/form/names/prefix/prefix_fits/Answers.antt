@@ -1,13 +1,52 @@
-use Rattle.std.proofs.Common.{length, sym, ◌∙◌}
-use Rattle.std.proofs.lemmas.Bool.{eqb-true}
-use Rattle.rmt_config.proofs.SpelledPrefix.{no-items, prefix-full, prefix-none}
+use Rattle.std.proofs.Common.{◌≡◌, ℕ, List, ◌≤◌, drop, length, sym, ap, ◌∙◌, subst}
+use Rattle.std.specs.Prelude.{IfOk, sum}
+use Rattle.std.proofs.lemmas.List.{drop_all}
+use Rattle.rmt_config.specs.Rooms.{parts_of}
+use Rattle.rmt_config.specs.PrefixRows.{rows_of}
+use Rattle.rmt_config.specs.declared.form.names.prefix_rows.Row.{Row}
+use Rattle.rmt_config.proofs.PrefixRows.{key-low, key-one, prefix-at, prefix-filled, prefix-full, rows-all, rows-next}
 use Rattle.rmt_config.proofs.form.names.prefix.prefix_fits.Goals as goal
 
-pub returns-then-is_empty : goal.returns-then-is_empty
-returns-then-is_empty c =
-    let numbers = c.args.numbers.now in
-    prefix-none c.args._config.now c.args.table.now c.requires.kind
-    (sym c.requires.numbers ∙ no-items numbers (eqb-true (length numbers) 0 (sym c.is_empty.ensures ∙ c.if-is_empty.true)))
-
 pub returns-then-numbers-table : goal.returns-then-numbers-table
-returns-then-numbers-table c = prefix-full c.args._config.now c.args.table.now c.args.numbers.now c.requires.kind c.requires.numbers c.if-numbers-table.true
+returns-then-numbers-table c =
+    prefix-full c.args.config.now c.args.table.now c.args.parts.now c.requires.parts c.requires.items c.requires.memory c.requires.kind c.requires.alone c.requires.has c.requires.made
+    c.args.numbers.now c.requires.numbers c.if-numbers-table.true
+
+pub bits_of-bits-requires : goal.bits_of-bits-requires
+bits_of-bits-requires c =
+    ap (λ (ws : List ℕ). length ws) c.as_slice.ensures
+    ∙ key-one c.args.config.now c.args.table.now c.args.parts.now c.requires.parts c.requires.items c.requires.memory c.requires.kind c.requires.alone c.requires.has c.requires.made
+
+pub put_rows-requires-clause-stands : goal.put_rows-requires-clause-stands
+put_rows-requires-clause-stands c =
+    (prefix-at c.args.config.now c.args.table.now c.args.parts.now c.requires.parts c.requires.items c.requires.memory c.requires.kind c.requires.alone c.requires.has c.requires.made
+    c.loop-part.part-index c.part-item.result c.loop-part-test.true c.part-item.is).stands
+
+pub put_rows-requires-clause-kind : goal.put_rows-requires-clause-kind
+put_rows-requires-clause-kind c =
+    (prefix-at c.args.config.now c.args.table.now c.args.parts.now c.requires.parts c.requires.items c.requires.memory c.requires.kind c.requires.alone c.requires.has c.requires.made
+    c.loop-part.part-index c.part-item.result c.loop-part-test.true c.part-item.is).kind
+
+pub put_rows-requires-clause-short : goal.put_rows-requires-clause-short
+put_rows-requires-clause-short c =
+    (prefix-at c.args.config.now c.args.table.now c.args.parts.now c.requires.parts c.requires.items c.requires.memory c.requires.kind c.requires.alone c.requires.has c.requires.made
+    c.loop-part.part-index c.part-item.result c.loop-part-test.true c.part-item.is).short
+
+pub rows_fit-requires : goal.rows_fit-requires
+rows_fit-requires c =
+    subst (λ n. n ≤ 128) (sym (c.bits_of-bits.ensures ∙ ap (λ (ws : List ℕ). sum ws) c.as_slice.ensures))
+    (key-low c.args.config.now c.args.table.now c.args.parts.now c.requires.parts c.requires.items c.requires.memory c.requires.kind c.requires.alone c.requires.has c.requires.made)
+
+pub returns : goal.returns
+returns c =
+    let config = c.args.config.now in
+    let table = c.args.table.now in
+    let parts = c.args.parts.now in
+    let rows : c.as_slice-2.result.now ≡ rows_of config (parts_of config table.node) =
+    c.as_slice-2.ensures.value
+    ∙ rows-all config c.loop-part.rows.items (drop c.loop-part.part-index parts) (rows_of config (parts_of config table.node))
+    (drop_all c.loop-part.part-index parts c.loop-part-test.false) c.loop-part.invariant in
+    subst (λ b. IfOk c.rows_fit.result (λ fit. fit ≡ b))
+    (prefix-filled config table parts c.requires.parts c.requires.items c.requires.memory c.requires.kind c.requires.alone c.requires.has c.requires.made
+    c.args.numbers.now c.bits_of-bits.result c.as_slice-2.result.now c.requires.numbers c.if-numbers-table.false
+    (c.bits_of-bits.ensures ∙ ap (λ (ws : List ℕ). sum ws) c.as_slice.ensures) rows) c.rows_fit.ensures

@@ -1,0 +1,111 @@
+-- The prefixes of rows, seen one after another.
+use Rattle.std.proofs.Common.{◌≡◌, ℕ, ◌+◌, ◌<◌, List, [], ◌∷◌, length, get_or, drop, Bool, true, false, not, ◌&&◌, ◌||◌, cond, eqb, ltb, refl, sym, ap, ◌∙◌, subst, arith}
+use Rattle.std.specs.List.{list_all, list_any}
+use Rattle.std.specs.Ordering.{is_eq, nat_cmp, ordering_then}
+use Rattle.std.specs.declared.cmp.Ordering.{Ordering}
+use Rattle.std.specs.declared.cmp.Ordering.TheVariants.{Less, Equal, Greater}
+use Rattle.std.specs.BTreeSet.{BTreeSet, Updates, contains}
+use Rattle.std.proofs.lemmas.Bool.{ltb-true, ne_eqb}
+use Rattle.rmt_bits.specs.Bits.{slice}
+use Rattle.rmt_ast.specs.RankPairs.{pair_cmp}
+use Rattle.rmt_config.specs.declared.form.names.prefix_rows.Row.{Row}
+use Rattle.rmt_config.specs.NamesForm.{each_later}
+use Rattle.rmt_config.specs.PrefixRows.{have_same, stand_once}
+use Rattle.rmt_config.proofs.SpelledExact.{differ-all, turn}
+use Rattle.rmt_config.proofs.SpelledLists.{drop-at}
+
+-- ---- items that are new one after another
+
+abbrev pub are_new : {A : Type 0} → (A → A → Bool) → List A → List A → Bool
+are_new same before [] = true
+are_new same before (x ∷ xs) = not (list_any (λ m. same m x) before) && are_new same (x ∷ before) xs
+
+new-later : {A : Type 0} (same : A → A → Bool) (before xs : List A)
+    → are_new same before xs ≡ (list_all (λ x. not (list_any (λ m. same m x) before)) xs && each_later (λ a b. not (same a b)) xs)
+new-later same before [] = refl
+new-later same before (x ∷ xs) =
+    let seen = not (list_any (λ m. same m x) before) in
+    let later = each_later (λ a b. not (same a b)) xs in
+    ap (λ b. seen && b) (new-later same (x ∷ before) xs ∙ ap (λ b. b && later) (differ-all (same x) (λ y. list_any (λ m. same m y) before) xs))
+    ∙ turn seen (list_all (λ y. not (same x y)) xs) (list_all (λ y. not (list_any (λ m. same m y) before)) xs) later
+
+none-before : {A : Type 0} (same : A → A → Bool) (xs : List A) → list_all (λ x. not (list_any (λ m. same m x) [])) xs ≡ true
+none-before same [] = refl
+none-before same (x ∷ xs) = none-before same xs
+
+new-once : (bits : ℕ) (rows : List Row) → stand_once bits rows ≡ are_new (have_same bits) [] rows
+new-once bits rows =
+    sym (new-later (have_same bits) [] rows ∙ ap (λ b. b && each_later (λ a b. not (have_same bits a b)) rows) (none-before (have_same bits) rows))
+
+-- ---- pairs in a set
+
+abbrev pub same_pair : ℕ × ℕ → ℕ × ℕ → Bool
+same_pair a b = eqb a.0 b.0 && eqb a.1 b.1
+
+tie : (a b : ℕ) → is_eq (nat_cmp a b) ≡ eqb a b
+tie a b = by (ltb a b) (eqb a b) (λ l. ne_eqb a b (λ e. let k = ltb-true a b l in absurd (omega (arith, k, e))))
+  where
+    by : (l e : Bool) → (l ≡ true → e ≡ false) → is_eq (cond l Less (cond e Equal Greater)) ≡ e
+    by true e h = sym (h refl)
+    by false true h = refl
+    by false false h = refl
+
+both : (x y : Ordering) → is_eq (ordering_then x y) ≡ (is_eq x && is_eq y)
+both Less y = refl
+both Equal y = refl
+both Greater y = refl
+
+pair-tie : (a b : ℕ × ℕ) → is_eq (pair_cmp a b) ≡ same_pair a b
+pair-tie a b =
+    both (nat_cmp a.0 b.0) (nat_cmp a.1 b.1) ∙ ap (λ x. x && is_eq (nat_cmp a.1 b.1)) (tie a.0 b.0) ∙ ap (λ x. eqb a.0 b.0 && x) (tie a.1 b.1)
+
+abbrev pub pair_of : ℕ → Row → ℕ × ℕ
+pair_of bits r = (slice r.key 0 bits, slice r.mask 0 bits)
+
+-- a set has the prefixes of rows
+abbrev pub Knows : ℕ → List Row → BTreeSet (ℕ × ℕ) → Type 0
+Knows bits before set = (q : ℕ × ℕ) → contains pair_cmp set q ≡ list_any (λ (r : Row). same_pair (pair_of bits r) q) before
+
+either : (a b : Bool) → cond a true b ≡ (a || b)
+either true b = refl
+either false b = refl
+
+knows-more : (bits : ℕ) (r : Row) (before : List Row) (old new : BTreeSet (ℕ × ℕ)) → Knows bits before old → Updates pair_cmp old new (pair_of bits r) true → Knows bits (r ∷ before) new
+knows-more bits r before old new h up q =
+    up.0 q
+    ∙ ap (λ (b : Bool). cond b true (contains pair_cmp old q)) (pair-tie (pair_of bits r) q)
+    ∙ ap (cond (same_pair (pair_of bits r) q) true) (h q)
+    ∙ either (same_pair (pair_of bits r) q) (list_any (λ (m : Row). same_pair (pair_of bits m) q) before)
+
+-- ---- rows so far: those that were seen, and what is left to be found out
+
+pub record RowsSeen (bits : ℕ) (rows rest : List Row) (set : BTreeSet (ℕ × ℕ)) : Type 0 where
+  pub seen : List Row
+  pub known : Knows bits seen set
+  pub answer : stand_once bits rows ≡ are_new (have_same bits) seen rest
+
+module _ (bits : ℕ) (rows : List Row) where
+  pub seen-first : (set : BTreeSet (ℕ × ℕ)) → Knows bits [] set → RowsSeen bits rows rows set
+  seen-first set h = record { seen = []; known = h; answer = new-once bits rows }
+
+  pub seen-at : (i : ℕ) (d : Row) (set : BTreeSet (ℕ × ℕ)) → i < length rows → RowsSeen bits rows (drop i rows) set
+      → RowsSeen bits rows (get_or rows i d ∷ drop (i + 1) rows) set
+  seen-at i d set lt r = subst (λ rest. RowsSeen bits rows rest set) (drop-at rows i d lt) r
+
+  pub seen-no : (x : Row) (rest : List Row) (set : BTreeSet (ℕ × ℕ)) (pair : ℕ × ℕ) → RowsSeen bits rows (x ∷ rest) set → pair ≡ pair_of bits x
+      → false ≡ not (contains pair_cmp set pair) → false ≡ stand_once bits rows
+  seen-no x rest set pair r own is =
+      sym (r.answer
+      ∙ ap (λ b. b && are_new (have_same bits) (x ∷ r.seen) rest) (sym (is ∙ ap (λ q. not (contains pair_cmp set q)) own ∙ ap not (r.known (pair_of bits x)))))
+
+  pub seen-more : (x : Row) (rest : List Row) (set new : BTreeSet (ℕ × ℕ)) (pair : ℕ × ℕ) → RowsSeen bits rows (x ∷ rest) set → pair ≡ pair_of bits x
+      → true ≡ not (contains pair_cmp set pair) → Updates pair_cmp set new pair true → RowsSeen bits rows rest new
+  seen-more x rest set new pair r own is up = record {
+    seen = x ∷ r.seen;
+    known = knows-more bits x r.seen set new r.known (subst (λ q. Updates pair_cmp set new q true) own up);
+    answer = r.answer
+        ∙ ap (λ b. b && are_new (have_same bits) (x ∷ r.seen) rest) (sym (is ∙ ap (λ q. not (contains pair_cmp set q)) own ∙ ap not (r.known (pair_of bits x))));
+  }
+
+  pub seen-all : (rest : List Row) (set : BTreeSet (ℕ × ℕ)) → rest ≡ [] → RowsSeen bits rows rest set → true ≡ stand_once bits rows
+  seen-all rest set none r = sym (r.answer ∙ ap (are_new (have_same bits) r.seen) none)

@@ -1,0 +1,100 @@
+//! The key and the mask in a cell of a prefix table's part, read from the rows of TCAM.
+
+ghost use Rattle.std.specs.Prelude.{◌≡◌, ◌+◌, ◌*◌, ◌^◌, ◌<◌, ◌≤◌, IsTrue, length};
+ghost use Rattle.rmt_ast.specs.declared.program.Kind.TheVariants as kind;
+ghost use Rattle.rmt_config.specs.Cells.{blocks_at, cells_in, tcam_row, unit_row};
+ghost use Rattle.rmt_config.specs.LaneForm.{bits_of_lanes};
+ghost use Rattle.rmt_config.specs.MemoryRules.{MemoryIsFormed};
+ghost use Rattle.rmt_config.specs.NamesForm.{is_of_kind};
+ghost use Rattle.rmt_config.specs.PartStands.{PartStands};
+ghost use Rattle.rmt_config.specs.PartsTold.{part_at};
+ghost use Rattle.rmt_config.specs.PrefixRow.{PrefixRows};
+ghost use Rattle.rmt_config.specs.RunCells.{own_content};
+ghost use Rattle.rmt_config.specs.declared.config.TcamRow.{TcamRow};
+
+use crate::config::{Config, Memory, TcamRow};
+use crate::form::layout::divided_up;
+use crate::form::names::exact_part::key_bits;
+use crate::form::names::part_list::Part;
+use crate::form::search::{Numbered, first_near};
+
+/// A key of at most 128 bits, and the mask of those that count.
+#[derive(Clone, Copy)]
+pub struct Held {
+    pub key: u128,
+    pub mask: u128,
+}
+
+/// The value and the mask of a row of a TCAM block, looked for first near the place where the last one was found; those
+/// of a row that isn't listed are 0.
+fn row_held(rows: &[TcamRow], block: u8, row: u64, near: &mut usize) -> Held
+    requires rows { PrefixRows rows.now }
+    requires row { row < 2048 }
+    ensures key { result.key ≡ tcam_row (λ (t : TcamRow). t.value) rows.now block row }
+    ensures mask { result.mask ≡ tcam_row (λ (t : TcamRow). t.mask) rows.now block row }
+{
+    let number = block as u64 * 2048 + row;
+    let at = first_near(rows, number, *near);
+    *near = at;
+    if at < rows.len() && rows[at].place() as u64 == number {
+        Held {
+            key: rows[at].value as u128,
+            mask: rows[at].mask as u128,
+        }
+    } else {
+        Held { key: 0, mask: 0 }
+    }
+}
+
+/// The values and the masks of a row of blocks side by side, the first lowest.
+fn unit_held(rows: &[TcamRow], blocks: &[u8], row: u64, near: &mut usize) -> Held
+    requires rows { PrefixRows rows.now }
+    requires row { row < 2048 }
+    requires short { unit_row 40 (tcam_row (λ (t : TcamRow). t.mask) rows.now) row blocks.now < 2 ^ 128 }
+    ensures key { result.key ≡ unit_row 40 (tcam_row (λ (t : TcamRow). t.value) rows.now) row blocks.now }
+    ensures mask { result.mask ≡ unit_row 40 (tcam_row (λ (t : TcamRow). t.mask) rows.now) row blocks.now }
+{
+    let mut key: u128 = 0;
+    let mut mask: u128 = 0;
+    let mut left = blocks.len();
+    while left > 0 {
+        left -= 1;
+        let word = row_held(rows, blocks[left], row, near);
+        key = key * 0x100_0000_0000 + word.key;
+        mask = mask * 0x100_0000_0000 + word.mask;
+    }
+    Held { key, mask }
+}
+
+/// The blocks of a unit, where all units have that many.
+fn unit_blocks(blocks: &[u8], side: u64, unit: u64) -> &[u8]
+    requires { (unit + 1) * side ≤ length blocks.now }
+    ensures { result.now ≡ blocks_at blocks.now side unit }
+{
+    let from = (unit * side) as usize;
+    &blocks[from..from + side as usize]
+}
+
+/// What a cell of a prefix part holds as its key and mask.
+pub fn held_in(config: &Config, part: &Part, cell: u32, near: &mut usize) -> Held
+    requires stands { PartStands config.now (part_at part.now) }
+    requires memory { MemoryIsFormed config.now }
+    requires kind { IsTrue (is_of_kind kind.Prefix part.now.slot.now.memory) }
+    requires short { bits_of_lanes part.now.slot.now.keys ≤ 128 }
+    requires within { cell < cells_in part.now.slot.now.memory }
+    ensures key { result.key ≡ (own_content config.now part.now.at part.now.place cell).key }
+    ensures mask { result.mask ≡ (own_content config.now part.now.at part.now.place cell).mask }
+    ensures small_key { result.key < 2 ^ bits_of_lanes part.now.slot.now.keys }
+    ensures small_mask { result.mask < 2 ^ bits_of_lanes part.now.slot.now.keys }
+{
+    let stages = config.stages.as_slice();
+    let rows = stages[part.at].trows.as_slice();
+    match &part.slot.memory {
+        Memory::Ternary { keys, .. } => {
+            let side = divided_up(key_bits(part.slot.keys.as_slice()), 40);
+            let blocks = unit_blocks(keys.as_slice(), side, cell as u64 / 2048);
+            unit_held(rows, blocks, cell as u64 % 2048, near)
+        }
+        _ => Held { key: 0, mask: 0 },
+    }
+}
