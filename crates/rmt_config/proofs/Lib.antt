@@ -4,6 +4,7 @@ pub mod ExamplesLookup
 pub mod ExamplesTails
 pub mod ExamplesSpelling
 pub mod ExamplesNames
+pub mod ExamplesPrefix
 pub mod ExamplesImages
 pub mod ExamplesForm
 pub mod ExamplesTables

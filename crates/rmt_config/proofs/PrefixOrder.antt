@@ -1,5 +1,5 @@
 -- Which rows of a prefix table go first goes on from row to row.
-use Rattle.std.proofs.Common.{◌≡◌, ◌⊎◌, inl, inr, ℕ, ◌<◌, Bool, true, ◌&&◌, ltb, eqb, sym, ap, ◌∙◌, arith}
+use Rattle.std.proofs.Common.{◌≡◌, ◌⊎◌, inl, inr, ℕ, ◌<◌, true, ◌&&◌, ltb, eqb, ◌∙◌, arith}
 use Rattle.std.proofs.lemmas.Bool.{and_parts, and_from, or_cases, or_left, or_right, ltb-true, eqb-true, lt-ltb, eq-eqb}
 use Rattle.rmt_config.specs.declared.form.names.prefix_rows.Row.{Row}
 use Rattle.rmt_config.specs.PrefixRows.{length_in, row_goes_first}

@@ -1,31 +1,28 @@
 -- What the rows of TCAM hold in a cell of a prefix table's part.
-use Rattle.std.proofs.Common.{◌≡◌, ℕ, zero, suc, ◌+◌, ◌-◌, ◌*◌, ◌/◌, ◌%◌, ◌^◌, ◌<◌, ◌≤◌, List, [], ◌∷◌, length, get_or, drop, map, Bool, true, false, cond, ltb, Some, sym, refl, ap, ◌∙◌, subst, arith, inl, inr}
-use Rattle.std.specs.Prelude.{◌&&◌, ◌==◌, not, All, IsTrue, bit_and, find, option_map, unwrap_or, slice_get}
+use Rattle.std.proofs.Common.{◌≡◌, ℕ, zero, suc, ◌+◌, ◌-◌, ◌*◌, ◌/◌, ◌%◌, ◌^◌, ◌<◌, ◌≤◌, List, [], ◌∷◌, length, get_or, drop, Bool, true, cond, ltb, Some, sym, refl, ap, ◌∙◌, subst, arith, inl, inr}
+use Rattle.std.specs.Prelude.{◌&&◌, ◌==◌, not, All, bit_and, find, option_map, unwrap_or, slice_get}
 use Rattle.std.specs.List.{flat_map, list_all}
 use Rattle.std.proofs.lemmas.Bool.{cases_Bool, cases_order, and_parts, eqb-true, ltb-true}
-use Rattle.std.proofs.lemmas.Nat.{and_le_r, mul-le, same_from_place}
+use Rattle.std.proofs.lemmas.Nat.{and_le_r, same_from_place}
 use Rattle.std.proofs.Math.Pow.{pow_mono}
 use Rattle.std.proofs.lemmas.List.Elements.{All-head, All-tail}
 use Rattle.std.proofs.lemmas.List.Folds.{list_all-map}
 use Rattle.std.proofs.lemmas.Option.{none-some, same_Some}
 use Rattle.rmt_bits.proofs.AllLaws.{All-from_test}
 use Rattle.rmt_config.specs.Types.{CellNumber, Config, Memory, SlotUnit, Stage, TcamRow, Unit}
-use Rattle.rmt_config.specs.declared.config.Memory.TheVariants.{Without, Exact, Ternary}
-use Rattle.rmt_config.specs.Order.{rises_from}
+use Rattle.rmt_config.specs.declared.config.Memory.TheVariants.{Ternary}
 use Rattle.rmt_config.specs.StageForm.{is_listed, rows_are_formed, tcam_blocks, trow_is_formed, trow_number}
 use Rattle.rmt_config.specs.Cells.{Blocks, blocks_at, cells_in, content_of, tcam_row, unit_row}
 use Rattle.rmt_config.specs.CellForm.{EndsAt, MemoryEnds, ternary}
 use Rattle.rmt_config.specs.LaneForm.{bits_of_lanes}
-use Rattle.rmt_config.specs.MemoryRules.{FormedRows, MemoryIsFormed, TernaryFits}
+use Rattle.rmt_config.specs.MemoryRules.{MemoryIsFormed}
 use Rattle.rmt_config.specs.PartStands.{PartStands}
 use Rattle.rmt_config.specs.PrefixRow.{PrefixRows}
 use Rattle.rmt_config.specs.Rooms.{PartAt}
 use Rattle.rmt_config.specs.RunCells.{own_content}
 use Rattle.rmt_config.specs.Shapes.{divided_up}
-use Rattle.rmt_config.specs.UnitForm.{memory_is_formed, slot_head_is_formed}
 use Rattle.rmt_config.proofs.HeldRows.{found-item, found-none}
 use Rattle.rmt_config.proofs.RiseLaws.{one_off, rise-below}
-use Rattle.rmt_config.proofs.SlotLaws.{ternary-fits}
 use Rattle.rmt_config.proofs.SpelledParts.{held-is}
 
 -- ---- a row of a block
@@ -52,8 +49,8 @@ trow-none val rows at block row formed below above other =
       | inr (inr more) ↦ absurd (omega (arith, rise-below trow_number 0 rows formed.rise at k d more lt, above at d (omega arith) (omega (arith, more, lt)), e))
     ]))
 
--- what a row is to be is within what of it is compared
-pub value-within : (rows : List TcamRow) (block row : ℕ) → All (λ (r : TcamRow). r.value ≤ r.mask) rows
+-- the value of a row is at most its mask
+value-within : (rows : List TcamRow) (block row : ℕ) → All (λ (r : TcamRow). r.value ≤ r.mask) rows
     → tcam_row (λ (t : TcamRow). t.value) rows block row ≤ tcam_row (λ (t : TcamRow). t.mask) rows block row
 value-within rows block row h = found-le (λ (r : TcamRow). (r.block == block) && (r.row == row)) (λ (t : TcamRow). t.value) (λ (t : TcamRow). t.mask) rows h
   where
@@ -69,7 +66,7 @@ value-within rows block row h = found-le (λ (r : TcamRow). (r.block == block) &
 -- ---- a row of blocks side by side
 
 -- a block more, below those above it
-pub unit-step : (held : Blocks) (row : ℕ) (blocks : List ℕ) (i key word : ℕ) → i < length blocks → key ≡ unit_row 40 held row (drop (i + 1) blocks)
+unit-step : (held : Blocks) (row : ℕ) (blocks : List ℕ) (i key word : ℕ) → i < length blocks → key ≡ unit_row 40 held row (drop (i + 1) blocks)
     → word ≡ held (get_or blocks i 0) row → key * 1099511627776 + word ≡ unit_row 40 held row (drop i blocks)
 unit-step held row blocks i key word lt above here =
     let rest = unit_row 40 held row (drop (i + 1) blocks) in
@@ -77,7 +74,7 @@ unit-step held row blocks i key word lt above here =
     omega (arith, one, above, here)
 
 -- the upper blocks hold no more than all
-pub unit-above : (held : Blocks) (row : ℕ) (blocks : List ℕ) (i : ℕ) → unit_row 40 held row (drop i blocks) ≤ unit_row 40 held row blocks
+unit-above : (held : Blocks) (row : ℕ) (blocks : List ℕ) (i : ℕ) → unit_row 40 held row (drop i blocks) ≤ unit_row 40 held row blocks
 unit-above held row blocks zero = omega arith
 unit-above held row [] (suc i) = omega arith
 unit-above held row (block ∷ blocks) (suc i) =
@@ -85,8 +82,18 @@ unit-above held row (block ∷ blocks) (suc i) =
     let e : unit_row 40 held row (block ∷ blocks) ≡ held block row + 1099511627776 * unit_row 40 held row blocks = refl in
     omega (arith, more, e)
 
+-- a block and those above it hold no more than all
+pub unit-so_far : (held : Blocks) (row : ℕ) (blocks : List ℕ) (left key word : ℕ) → 0 < left → left ≤ length blocks → key ≡ unit_row 40 held row (drop left blocks)
+    → word ≡ held (get_or blocks (left - 1) 0) row → key * 1099511627776 + word ≤ unit_row 40 held row blocks
+unit-so_far held row blocks left key word some within above here =
+    let i = left - 1 in
+    let at : left ≡ i + 1 = omega (arith, some) in
+    let there : i < length blocks = omega (arith, some, within) in
+    let step = unit-step held row blocks i key word there (above ∙ ap (λ n. unit_row 40 held row (drop n blocks)) at) here in
+    omega (arith, step, unit-above held row blocks i)
+
 -- blocks that hold no more, side by side
-pub unit-within : (f g : Blocks) (row : ℕ) (blocks : List ℕ) → ((b r : ℕ) → f b r ≤ g b r) → unit_row 40 f row blocks ≤ unit_row 40 g row blocks
+unit-within : (f g : Blocks) (row : ℕ) (blocks : List ℕ) → ((b r : ℕ) → f b r ≤ g b r) → unit_row 40 f row blocks ≤ unit_row 40 g row blocks
 unit-within f g row [] h = omega arith
 unit-within f g row (block ∷ blocks) h =
     let more = unit-within f g row blocks h in
@@ -95,7 +102,7 @@ unit-within f g row (block ∷ blocks) h =
     let eg : unit_row 40 g row (block ∷ blocks) ≡ g block row + 1099511627776 * unit_row 40 g row blocks = refl in
     omega (arith, more, here, ef, eg)
 
--- the values of a row of blocks are within their masks
+-- the values of a row of blocks are at most their masks
 pub values-within : (rows : List TcamRow) (row : ℕ) (blocks : List ℕ) → All (λ (r : TcamRow). r.value ≤ r.mask) rows
     → unit_row 40 (tcam_row (λ (t : TcamRow). t.value) rows) row blocks ≤ unit_row 40 (tcam_row (λ (t : TcamRow). t.mask) rows) row blocks
 values-within rows row blocks h =
@@ -125,28 +132,15 @@ prefix-rows c p stands memory =
 
 -- ---- a cell of a part
 
--- listed cells are among those of their part
+-- listed cells of a part are among all that it has
 pub cells-within : (c : Config) (p : PartAt) → PartStands c p → All (λ (n : CellNumber). n.cell < cells_in p.slot.memory) p.slot.numbers
 cells-within c p stands =
     All-from_test (λ (n : CellNumber). n.cell < cells_in p.slot.memory) (λ (n : CellNumber). ltb n.cell (cells_in p.slot.memory)) (λ n e. ltb-true n.cell (cells_in p.slot.memory) e) p.slot.numbers
     (sym (list_all-map (λ n. ltb n (cells_in p.slot.memory)) (λ (n : CellNumber). n.cell) p.slot.numbers) ∙ (and_parts _ _ (and_parts _ _ stands.holds.numbers).0).1)
 
-pub part-fits : (c : Config) (p : PartAt) → PartStands c p → (d : ℕ) (ks rs cs : List ℕ) → p.slot.memory ≡ Ternary d ks rs cs → TernaryFits p.slot d ks rs
-part-fits c p stands d ks rs cs e =
-    let s = p.slot in
-    let parts = and_parts (slot_head_is_formed s) (memory_is_formed s s.memory) stands.slot in
-    ternary-fits s d ks rs cs parts.0 (sym (ap (memory_is_formed s) e) ∙ parts.1)
-
--- the blocks of a cell are among those of its part
-pub blocks-there : (d side len cell : ℕ) → len ≡ d * side → cell < 2048 * d → (cell / 2048 + 1) * side ≤ len
-blocks-there d side len cell e lt =
-    let at : cell / 2048 + 1 ≤ d = omega (arith, lt) in
-    let h : (cell / 2048 + 1) * side ≤ d * side = mul-le (cell / 2048 + 1) side d side at (omega arith) in
-    omega (arith, e, h)
-
 module _ (c : Config) (p : PartAt) (stands : PartStands c p) (d : ℕ) (ks rs cs : List ℕ) (is : p.slot.memory ≡ Ternary d ks rs cs) where
   -- the masks of a part's cells have no bit behind the key
-  pub part-ends : EndsAt 40 (tcam_row (λ (t : TcamRow). t.mask) stands.stage.trows) ks (divided_up (bits_of_lanes p.slot.keys) 40) (bits_of_lanes p.slot.keys)
+  part-ends : EndsAt 40 (tcam_row (λ (t : TcamRow). t.mask) stands.stage.trows) ks (divided_up (bits_of_lanes p.slot.keys) 40) (bits_of_lanes p.slot.keys)
   part-ends = ends-say stands.stage p.slot d ks rs cs (subst (λ (m : Memory). MemoryEnds stands.stage p.slot m) is stands.holds.ends)
     where
       ends-say : (stage : Stage) (s : SlotUnit) (d : ℕ) (ks rs cs : List ℕ) → MemoryEnds stage s (Ternary d ks rs cs)
@@ -154,12 +148,12 @@ module _ (c : Config) (p : PartAt) (stands : PartStands c p) (d : ℕ) (ks rs cs
       ends-say stage s d ks rs cs (ternary _ _ _ _ ends behind) = ends
 
   -- what a cell holds, from the rows of its blocks
-  pub key-there : (n : ℕ)
+  key-there : (n : ℕ)
       → unit_row 40 (tcam_row (λ (t : TcamRow). t.value) stands.stage.trows) (n % 2048) (blocks_at ks (divided_up (bits_of_lanes p.slot.keys) 40) (n / 2048))
       ≡ (own_content c p.stage p.place n).key
   key-there n = sym (ap (λ x. x.key) (held-is c p stands n) ∙ ap (λ (m : Memory). (content_of stands.stage (record p.slot { memory = m }) n).key) is)
 
-  pub mask-there : (n : ℕ)
+  mask-there : (n : ℕ)
       → unit_row 40 (tcam_row (λ (t : TcamRow). t.mask) stands.stage.trows) (n % 2048) (blocks_at ks (divided_up (bits_of_lanes p.slot.keys) 40) (n / 2048))
       ≡ (own_content c p.stage p.place n).mask
   mask-there n = sym (ap (λ x. x.mask) (held-is c p stands n) ∙ ap (λ (m : Memory). (content_of stands.stage (record p.slot { memory = m }) n).mask) is)

@@ -17,22 +17,27 @@ pub struct Row {
     pub number: u32,
 }
 
-/// Whether the mask of a row is some of the highest bits, or none.
-fn has_length(bits: u8, row: Row) -> bool
+/// Whether a mask is some of the highest bits, or none.
+fn has_length(bits: u8, mask: u128) -> bool
     requires { bits ≤ 128 }
-    ensures { result ≡ is_some (prefix_length bits row.mask) }
+    ensures { result ≡ is_some (prefix_length bits mask) }
 {
-    length_of(bits, row.mask).is_some()
+    length_of(bits, mask).is_some()
 }
 
-/// Whether the mask of each row is some of the highest bits, or none.
+/// Whether the mask of each row is some of the highest bits, or none. A mask is looked at anew where it differs from
+/// that of the row before.
 fn all_have_lengths(bits: u8, rows: &[Row]) -> bool
     requires { bits ≤ 128 }
     ensures { result ≡ have_lengths bits rows.now }
 {
+    let mut known = 0;
     for row in rows {
-        if !has_length(bits, *row) {
-            return false;
+        if row.mask != known {
+            if !has_length(bits, row.mask) {
+                return false;
+            }
+            known = row.mask;
         }
     }
     true
@@ -51,6 +56,9 @@ fn goes_first(bits: u8, a: Row, b: Row) -> bool
     requires { bits ≤ 128 }
     ensures { result ≡ row_goes_first bits a b }
 {
+    if a.mask == b.mask {
+        return a.number < b.number;
+    }
     let length = length_in(bits, a);
     let other = length_in(bits, b);
     other < length || length == other && a.number < b.number

@@ -3,8 +3,7 @@ use Rattle.std.specs.Prelude.{IfOk, sum}
 use Rattle.std.proofs.lemmas.List.{drop_all}
 use Rattle.rmt_config.specs.Rooms.{parts_of}
 use Rattle.rmt_config.specs.PrefixRows.{rows_of}
-use Rattle.rmt_config.specs.declared.form.names.prefix_rows.Row.{Row}
-use Rattle.rmt_config.proofs.PrefixRows.{key-low, key-one, prefix-at, prefix-filled, prefix-full, rows-all, rows-next}
+use Rattle.rmt_config.proofs.PrefixRows.{key-low, key-one, prefix-at, prefix-filled, prefix-full, rows-all}
 use Rattle.rmt_config.proofs.form.names.prefix.prefix_fits.Goals as goal
 
 pub returns-then-numbers-table : goal.returns-then-numbers-table

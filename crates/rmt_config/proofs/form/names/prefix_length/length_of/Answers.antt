@@ -1,4 +1,4 @@
-use Rattle.std.proofs.Common.{◌+◌, ◌-◌, ◌^◌, Bool, ℕ, eqb, sym, ap, ◌∙◌}
+use Rattle.std.proofs.Common.{◌+◌, ◌-◌, ◌^◌, Bool, ℕ, eqb, sym, ◌∙◌}
 use Rattle.std.proofs.lemmas.Bool.{ne_eqb}
 use Rattle.rmt_config.proofs.PrefixLengths.{find-next}
 use Rattle.rmt_config.proofs.form.names.prefix_length.length_of.Goals as goal

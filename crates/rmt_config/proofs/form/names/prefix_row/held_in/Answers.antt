@@ -1,6 +1,6 @@
 use Rattle.std.proofs.Common.{◌≡◌, ◌<◌, ◌^◌, List, get_or, ap, subst, sym, ◌∙◌}
 use Rattle.std.proofs.lemmas.Option.{get_or_from_slice_get}
-use Rattle.rmt_config.specs.Types.{Stage, TcamRow}
+use Rattle.rmt_config.specs.Types.{Stage}
 use Rattle.rmt_config.specs.LaneForm.{bits_of_lanes}
 use Rattle.rmt_config.specs.PartsTold.{part_at}
 use Rattle.rmt_config.specs.PrefixRow.{PrefixRows}

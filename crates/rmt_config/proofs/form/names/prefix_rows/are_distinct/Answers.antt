@@ -1,10 +1,10 @@
-use Rattle.std.proofs.Common.{◌≡◌, ℕ, List, ◌+◌, drop, get_or, not, sym, ap, ◌∙◌, subst}
+use Rattle.std.proofs.Common.{◌≡◌, ℕ, List, ◌+◌, drop, get_or, sym, ap, ◌∙◌}
 use Rattle.std.specs.BTreeSet.{contains}
 use Rattle.std.proofs.lemmas.List.{drop_all}
 use Rattle.rmt_bits.specs.Bits.{slice}
 use Rattle.rmt_ast.specs.RankPairs.{pair_cmp}
 use Rattle.rmt_config.specs.declared.form.names.prefix_rows.Row.{Row}
-use Rattle.rmt_config.proofs.PrefixSeen.{RowsSeen, pair_of, seen-all, seen-at, seen-first, seen-more, seen-no}
+use Rattle.rmt_config.proofs.PrefixSeen.{pair_of, seen-all, seen-at, seen-first, seen-more, seen-no}
 use Rattle.rmt_config.proofs.form.names.prefix_rows.are_distinct.Goals as goal
 
 pub loop-row-init : goal.loop-row-init
