@@ -5,7 +5,9 @@ use Rattle.rmt_phv.specs.declared.fault.PhvFull.TheVariants as phv
 use Rattle.rmt_phv.specs.Packing.{packing}
 use Rattle.rmt_phv.proofs.FieldCount.{few_fields}
 use Rattle.rmt_place.specs.Placing.{placement}
-use Rattle.rmt_ptcam.specs.Needs.{refusal}
+use Rattle.rmt_ptcam.specs.declared.fault.ParserFault.TheVariants as parser
+use Rattle.rmt_ptcam.specs.Clustering.{clustered, clustered_or}
+use Rattle.rmt_ptcam.specs.Needs.{refusal, unless}
 use Rattle.rmt_vliw.specs.declared.fault.ActionDeep.TheVariants as action
 use Rattle.rmt_build.specs.Folds.{first_deep}
 use Rattle.rmt_build.proofs.RefusalLaws.{bound_there, by_rule, done_not_failed, none_refused, not_refused}
@@ -13,6 +15,18 @@ use Rattle.rmt_build.proofs.joined.build.Goals as goal
 
 pub pack_fields-requires-clause-few_fields : goal.pack_fields-requires-clause-few_fields
 pack_fields-requires-clause-few_fields c = few_fields c.args.program.now c.requires.program
+
+pub built_of-requires-clause-fits : goal.built_of-requires-clause-fits
+built_of-requires-clause-fits c = not_refused (refusal c.args.program.now) c.in_ok-parser_need.ensures
+
+pub built_of-requires-clause-parser : goal.built_of-requires-clause-parser
+built_of-requires-clause-parser c =
+    let p = c.args.program.now in
+    let places = c.in_ok-places.places in
+    let fits : refusal p ≡ None = not_refused (refusal p) c.in_ok-parser_need.ensures in
+    let made : clustered_or p places ≡ Ok (clustered p places) = ap (λ r. unless r (clustered p places)) fits in
+    by_rule c.in_ok-parser.parser (clustered p places) parser.NoMemory (clustered_or p places) c.in_ok-parser.ensures.made made
+    ∙ ap (clustered p) (sym c.in_ok-plan.ensures.places)
 
 pub returns-in_err-plan-clause-load : goal.returns-in_err-plan-clause-load
 returns-in_err-plan-clause-load c node members cells places parts is packed placed =
