@@ -18,8 +18,6 @@ mod check;
 #[cfg(test)]
 mod chip;
 #[cfg(test)]
-mod commits;
-#[cfg(test)]
 mod counts;
 #[cfg(test)]
 mod entries;

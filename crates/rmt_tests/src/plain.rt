@@ -23,7 +23,7 @@ struct Case {
 }
 
 /// The plain run of two texts; None where one is bad, or for want of memory.
-pub(crate) fn started(alloc: Global, program: &[u8], text: &[u8]) -> Option<Plain>
+fn started(alloc: Global, program: &[u8], text: &[u8]) -> Option<Plain>
     requires program { length program.now < 4294967295 }
     requires entries { length text.now < 4294967295 }
 {
@@ -38,7 +38,7 @@ pub(crate) fn started(alloc: Global, program: &[u8], text: &[u8]) -> Option<Plai
 }
 
 /// The lines of a run's counters, without those of no packet.
-pub(crate) fn counted(alloc: Global, plain: &Plain) -> Result<String, AllocError> {
+fn counted(alloc: Global, plain: &Plain) -> Result<String, AllocError> {
     let mut out = String::new(alloc);
     let counters = plain.counters();
     for at in 0..counters.len() {

@@ -1,5 +1,5 @@
 -- A configuration is spelled with few bytes, but for the numbers of entries.
-use Rattle.std.proofs.Common.{◌≡◌, ℕ, ◌+◌, ◌*◌, ◌≤◌, List, [], ◌++◌, Option, None, length, ap, ◌∙◌, append-nil, length-append, arith}
+use Rattle.std.proofs.Common.{◌≡◌, ℕ, ◌+◌, ◌*◌, ◌≤◌, List, [], ◌++◌, Option, None, length, ap, ◌∙◌, sym, subst, append-nil, length-append, arith}
 use Rattle.std.specs.Prelude.{All, codes}
 use Rattle.std.specs.List.{flat_map, sum_by}
 use Rattle.std.proofs.lemmas.List.Elements.{All-from_recursion, All-weaker}
@@ -55,4 +55,6 @@ bytes_few c formed within no_names no_tails =
     let counts = counts_fit c formed.items in
     let limits = limits_kept c within in
     let config = config_short c counts limits (stages_fit c formed counts limits) in
-    rw (plain_image c no_names no_tails) (omega (arith, config, length-append (codes "RMTI" ++ two_bytes 1) (spelled_config c)))
+    let plain : List ℕ = codes "RMTI" ++ two_bytes 1 ++ spelled_config c in
+    let few : length plain ≤ 103200000 + 8 * length (entry_numbers c) = omega (arith, config, length-append (codes "RMTI" ++ two_bytes 1) (spelled_config c)) in
+    subst (λ (bytes : List ℕ). length bytes ≤ 103200000 + 8 * length (entry_numbers c)) (sym (plain_image c no_names no_tails)) few
