@@ -2,7 +2,7 @@
 # Seconds and peak memory of `./rmt`, one line a case: short packets through one stage and through 32; frames of 9,216 bytes with 385 of
 # them in flight; a counted table of 100,000 exact keys, and one of 20,000 ternary entries under 40 masks, by `sim` and by `plain`; two
 # tables of 1,000,000 exact keys each, which are compiled and then run; 128 tables; a ternary table that is too large for the chip; and
-# images of 1,048,576 exact and of 262,144 ternary entries, read without and with names.
+# images of 1,048,576 exact and of 262,144 ternary entries, read without and with their names.
 set -eu
 top=$(cd "$(dirname "$0")/.." && pwd)
 work=$(mktemp -d)
@@ -98,10 +98,10 @@ seconds, peak = run("compile", "tall.rmt", "tall.ent", "tall.img", wanted=6)
 print(f"tall: refused in {seconds:.2f} s, {peak:.0f} MiB")
 
 
-def read(name, table):
-    """Reads an image without names, and with them."""
-    subprocess.run([f"{top}/bench/named.py", f"{work}/{name}.img", f"{work}/{name}2.img", table], check=True)
-    for image, what in ((name, "without names"), (f"{name}2", "with names")):
+def read(name):
+    """Reads an image without its names, and with them."""
+    subprocess.run([f"{top}/bench/unnamed.py", f"{work}/{name}.img", f"{work}/{name}1.img"], check=True)
+    for image, what in ((f"{name}1", "without names"), (name, "with names")):
         seconds, peak = run("report", f"{image}.img")
         print(f"{name}: read {what} in {seconds:.2f} s, {peak:.0f} MiB")
 
@@ -111,10 +111,10 @@ one = "header h {{ k : {}; }} next accept;\naction go(p : 9) {{ out_port = p; }}
 write("million.rmt", [one.format(48, "exact", 1_048_576)])
 write("million.ent", (f"t {wide(i)} go {i % 512}\n" for i in range(1_048_576)))
 compiled("million")
-read("million", "0:t:exact:1048576:48:go/9")
+read("million")
 
 write("rows.rmt", [one.format(32, "ternary", 262_144)])
 write("rows.ent", (f"t {i} {key(i)}&{masks[i % 40]} go {i % 512}\n" for i in range(262_144)))
 compiled("rows")
-read("rows", "0:t:ternary:262144:32:go/9")
+read("rows")
 PY

@@ -1,22 +1,29 @@
-//! The program `rmt`: it gives the words of its command line to the top call, and ends with the answer.
+//! The program `rmt`: it gives the words of its command line to the top call, and ends with the answer. After any answer but
+//! Done it says on standard error, for people, what was wrong.
 #![tactic(auto)]
 
+mod last_line;
+mod messages;
 #[cfg(test)]
 mod tests;
 
 ghost use Rattle.std.specs.Prelude.{◌≡◌, ◌≢◌, IfOk, drop};
 ghost use Rattle.std.specs.Vec.Iter.{into_iter_items};
 
+use crate::last_line::LastLine;
+use crate::messages::{Lengths, message_of};
 use rmt_core::rmt;
 use rmt_core::status::Status;
+use rmt_explain::ending::{Ending, Texts};
+use rmt_explain::explain;
 use rmt_io::true_shelf::TrueShelf;
 use rmt_io::true_sink::TrueSink;
-use std::alloc::Global;
+use std::alloc::{AllocError, Global};
 use std::env::Args;
-use std::io::ErrorKind;
+use std::io::{ErrorKind, Write};
 use std::process::ExitCode;
-use std::rt::Env;
-use std::{env, io};
+use std::rt::{Env, Files};
+use std::{env, fs, io};
 
 /// The exit status where the machine does not give the words as text.
 const NO_WORDS: u8 = 11;
@@ -24,11 +31,74 @@ const NO_WORDS: u8 = 11;
 fn main(rt: HostRuntime) -> ExitCode {
     let words = match words_behind_name(&rt) {
         Ok(words) => words,
-        Err(error) => return ExitCode::from(code_without_words(error.kind())),
+        Err(error) => return end_without_words(&rt, error.kind()),
     };
     let mut shelf = TrueShelf::new(&rt);
-    let mut out = TrueSink::new(&rt);
-    ExitCode::from(rmt(rt.alloc(), &words, &mut shelf, &mut out) as u8)
+    let mut out = LastLine::new(rt.alloc(), TrueSink::new(&rt));
+    let status = rmt(rt.alloc(), &words, &mut shelf, &mut out) as u8;
+    if status != Status::Done as u8 {
+        let ending = Ending {
+            words: words.as_slice(),
+            status,
+            last_line: out.last_line(),
+            fault: None,
+        };
+        let text = message_after(rt.alloc(), &rt, &ending, &mut shelf);
+        say(&mut rt.stderr(), text);
+    }
+    ExitCode::from(status)
+}
+
+/// The lengths of the machine's files.
+#[derive(Drop)]
+struct TrueLengths<'a, R: Files> {
+    rt: &'a R,
+}
+
+impl<R: Files> Lengths for TrueLengths<'_, R> {
+    fn length(&self, name: &String) -> Option<u64> {
+        match fs::metadata(self.rt, name.as_str()) {
+            Ok(found) if found.is_file() => Some(found.len()),
+            _ => None,
+        }
+    }
+}
+
+/// The message of a call that ended.
+fn message_after<R: Files>(
+    alloc: Global,
+    rt: &R,
+    ending: &Ending,
+    shelf: &mut TrueShelf<'_, R>,
+) -> Result<Vec<u8>, AllocError> {
+    let lengths = TrueLengths { rt };
+    match shelf.last_fault() {
+        Some(fault) => explain(
+            alloc,
+            &ending.with_fault(fault.name.as_str(), fault.kind),
+            &Texts::none(),
+        ),
+        None => message_of(alloc, ending, shelf, &lengths),
+    }
+}
+
+/// Says a message on standard error. That it can't be said changes nothing.
+fn say(err: &mut impl Write, text: Result<Vec<u8>, AllocError>) {
+    if let Ok(text) = text {
+        let _ = err.write_all(text.as_slice());
+    }
+}
+
+/// Ends where the machine does not give the words as text.
+fn end_without_words(rt: &HostRuntime, kind: ErrorKind) -> ExitCode {
+    let code = code_without_words(kind);
+    let text: &[u8] = if code == NO_WORDS {
+        b"rmt: a word of the command line is no text in UTF-8\n"
+    } else {
+        b"rmt: the system refused memory for the words of the command line\n"
+    };
+    let _ = rt.stderr().write_all(text);
+    ExitCode::from(code)
 }
 
 /// The words of the command line behind the program's name.

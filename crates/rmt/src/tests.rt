@@ -2,8 +2,11 @@
 
 mod commands;
 mod compiled;
+mod example_texts;
+mod examples;
 mod faults;
 mod hostile;
+mod messages;
 mod probed;
 mod programs;
 mod samples;

@@ -1,3 +1,4 @@
+pub mod AlikeLaws
 pub mod AllLaws
 pub mod BestLaws
 pub mod BitLaws

@@ -1,5 +1,5 @@
 -- Numbers in order, each once, and counters of them.
-use Rattle.std.proofs.Common.{◌≡◌, ℕ, suc, ◌%◌, ◌^◌, ◌<◌, ◌++◌, ◌⊎◌, ◌||◌, Bool, true, false, ◌==◌, cond, List, [], ◌∷◌, length, map, get_or, inl, inr, true≢false, refl, sym, ap, subst, ◌∙◌, tests, arith}
+use Rattle.std.proofs.Common.{◌≡◌, ℕ, ◌%◌, ◌^◌, ◌<◌, ◌++◌, ◌⊎◌, ◌||◌, Bool, true, false, ◌==◌, cond, List, [], ◌∷◌, length, map, get_or, inl, inr, true≢false, refl, sym, ap, subst, ◌∙◌, tests, arith}
 use Rattle.std.specs.Prelude.{All, AllPairs, Contains, nat_lt}
 use Rattle.std.specs.List.{list_any}
 use Rattle.std.proofs.lemmas.Bool.{cases_order, ltb-true}
@@ -10,6 +10,7 @@ use Rattle.rmt_bits.specs.declared.answer.Count.{Count}
 use Rattle.rmt_bits.specs.Counts.{Hit, count_for, counts, in_order, with_number}
 use Rattle.rmt_bits.specs.Counting.{AreRising, counted, zero_count, with_count, hits_among}
 use Rattle.rmt_bits.proofs.CountLaws.{hit_of_bytes, counted_once, with_count-there}
+use Rattle.rmt_bits.proofs.AlikeLaws.{map_alike}
 use Rattle.rmt_bits.proofs.ListLaws.{sum_by-filter, sum_by-filter_none}
 use Rattle.rmt_bits.proofs.MemberLaws.{Contains-first, Contains-later, Contains-split}
 use Rattle.rmt_bits.proofs.PairLaws.{AllPairs-head, AllPairs-tail}
@@ -126,7 +127,7 @@ among-none numbers hits m out =
     parts {x} {y} e f = ap (λ (v : ℕ). record { entry = m; packets = v % 2 ^ 48; bytes = y % 2 ^ 64 }) e ∙ ap (λ (v : ℕ). record { entry = m; packets = 0; bytes = v % 2 ^ 64 }) f
 
 -- what is in order is of the list, and all of the list is in order
-All-with_number : (P : ℕ → Type 0) (n : ℕ) (ms : List ℕ) → P n → All P ms → All P (with_number n ms)
+pub All-with_number : (P : ℕ → Type 0) (n : ℕ) (ms : List ℕ) → P n → All P ms → All P (with_number n ms)
 All-with_number P n [] one all = All-cons P n [] one all
 All-with_number P n (m ∷ ms) one all = by (nat_lt n m) (n == m) (All-with_number P n ms one (All-tail P m ms all))
   where
@@ -194,18 +195,13 @@ with_number-there n (m ∷ ms) rise there = elim (Contains-split m ms n there) [
       ∙ ap (λ (ks : List ℕ). m ∷ ks) (with_number-there n ms (Rise-tail m ms rise) later)
 ]
 
-map-agree : (f g : ℕ → Count) (ms : List ℕ) → All (λ m. g m ≡ f m) ms → map f ms ≡ map g ms
-map-agree f g [] h = refl
-map-agree f g (m ∷ ms) h =
-    ap (λ (c : Count). c ∷ map f ms) (sym (All-head (λ m. g m ≡ f m) m ms h)) ∙ ap (λ (cs : List Count). g m ∷ cs) (map-agree f g ms (All-tail (λ m. g m ≡ f m) m ms h))
-
 -- counters take a number: hits of it from before it was there don't count
 pub counts-with_count : (numbers : List ℕ) (hits : List Hit) (n : ℕ) → with_count n (counts numbers hits) ≡ counts (n ∷ numbers) (hits_among numbers hits)
 counts-with_count numbers hits n = by (list_any (λ k. k == n) numbers) refl
   where
     others : counts numbers hits ≡ counts numbers (hits_among numbers hits)
-    others = map-agree (count_for hits) (count_for (hits_among numbers hits)) (in_order numbers)
-        (All-weaker (λ m. list_any (λ k. k == m) numbers ≡ true) (λ m. count_for (hits_among numbers hits) m ≡ count_for hits m) (among-kept numbers hits) (in_order numbers) (in_order-of numbers))
+    others = sym (map_alike (count_for (hits_among numbers hits)) (count_for hits) (in_order numbers)
+        (All-weaker (λ m. list_any (λ k. k == m) numbers ≡ true) (λ m. count_for (hits_among numbers hits) m ≡ count_for hits m) (among-kept numbers hits) (in_order numbers) (in_order-of numbers)))
 
     by : (b : Bool) → list_any (λ k. k == n) numbers ≡ b → with_count n (counts numbers hits) ≡ counts (n ∷ numbers) (hits_among numbers hits)
     by true there =
@@ -269,7 +265,7 @@ with_number-swap a b ms = elim (cases_order a b) [
   ]
 ]
 
-in_order_push : (ns : List ℕ) (n : ℕ) → in_order (ns ++ n ∷ []) ≡ with_number n (in_order ns)
+pub in_order_push : (ns : List ℕ) (n : ℕ) → in_order (ns ++ n ∷ []) ≡ with_number n (in_order ns)
 in_order_push [] n = refl
 in_order_push (m ∷ ns) n = ap (with_number m) (in_order_push ns n) ∙ with_number-swap m n (in_order ns)
 

@@ -1,29 +1,16 @@
 -- The entries of a part stand in its cells, no two in one.
-use Rattle.std.proofs.Common.{◌≡◌, ◌≢◌, ℕ, zero, suc, ◌+◌, ◌-◌, ◌<◌, List, [], ◌∷◌, Bool, true, false, cond, ltb, leb, get_or, map, arith}
-use Rattle.std.specs.Prelude.{All, AllPairs, filter}
+use Rattle.std.proofs.Common.{◌≡◌, ◌≢◌, ℕ, ◌+◌, ◌-◌, ◌<◌, List, true, ltb, leb, get_or, map, arith}
+use Rattle.std.specs.Prelude.{All, filter}
 use Rattle.std.specs.List.{range_with_len}
 use Rattle.std.proofs.lemmas.Bool.{and_parts, ltb-true, leb-true}
 use Rattle.std.proofs.lemmas.List.Elements.{All-filter, All-map, All-weaker, filter_passes}
 use Rattle.std.proofs.lemmas.List.Sorted.{All-permutation}
+use Rattle.std.proofs.lemmas.List.Kept.{AllPairs-filter}
 use Rattle.rmt_bits.proofs.AllLaws.{All-range, All-unmap}
 use Rattle.rmt_build.specs.declared.stands.Stand.{Stand}
 use Rattle.rmt_build.specs.Rooms.{StandApart}
 use Rattle.rmt_build.specs.EntryCells.{StandOnce, counted_from, stands_there, stands_within}
-use Rattle.rmt_bits.proofs.PairLaws.{AllPairs-tail, AllPairs-head, AllPairs-map}
-
-pairs-cons : {X : Type 0} (R : X → X → Type 0) (x : X) (xs : List X) → All (R x) xs → AllPairs R xs → AllPairs R (x ∷ xs)
-pairs-cons R x xs first rest i zero d less lt = absurd (omega (arith, less))
-pairs-cons R x xs first rest zero (suc j) d less lt = first j d (omega (arith, lt))
-pairs-cons R x xs first rest (suc i) (suc j) d less lt = rest i j d (omega (arith, less)) (omega (arith, lt))
-
-pairs-filter : {X : Type 0} (R : X → X → Type 0) (test : X → Bool) (xs : List X) → AllPairs R xs → AllPairs R (filter test xs)
-pairs-filter R test [] pairs = pairs
-pairs-filter {X} R test (x ∷ xs) pairs =
-    by_test (test x) (All-filter test (R x) xs (AllPairs-head R x xs pairs)) (pairs-filter R test xs (AllPairs-tail R x xs pairs))
-  where
-    by_test : (b : Bool) → All (R x) (filter test xs) → AllPairs R (filter test xs) → AllPairs R (cond b (x ∷ filter test xs) (filter test xs))
-    by_test true first rest = pairs-cons R x (filter test xs) first rest
-    by_test false first rest = rest
+use Rattle.rmt_bits.proofs.PairLaws.{AllPairs-map}
 
 -- the entries of a part, of a table whose entries stand once
 pub part-apart : (count first cells : ℕ) (own : List Stand) → StandOnce count own → StandApart count cells (stands_within first cells own)
@@ -45,7 +32,7 @@ part-apart count first cells own once =
           omega (arith, low, high)) inside passed);
       apart = AllPairs-map (λ (a b : Stand). a.cell ≢ b.cell) (counted_from first) inside
           (λ i j d less lt.
-          let rise : (get_or inside i d).cell < (get_or inside j d).cell = pairs-filter (λ (a b : Stand). a.cell < b.cell) there own once.rise i j d less lt in
+          let rise : (get_or inside i d).cell < (get_or inside j d).cell = AllPairs-filter (λ (a b : Stand). a.cell < b.cell) there own once.rise i j d less lt in
           let parts = and_parts (leb first (get_or inside i d).cell) (ltb (get_or inside i d).cell (first + cells)) (passed i d (omega (arith, less, lt))) in
           let low = leb-true first (get_or inside i d).cell parts.0 in
           λ same. omega (arith, rise, low, same));

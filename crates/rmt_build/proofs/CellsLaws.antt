@@ -58,7 +58,7 @@ sum_total f (suc k) =
     let e : suc k ≡ k + 1 = omega arith in
     ap (λ n. sum_by f (range_with_len 0 n)) e ∙ sum_more f k ∙ ap (λ n. n + f k) (sum_total f k)
 
-all_quanta : (parts : List Part) (n stages : ℕ) → All (λ (x : Part). x.stage < stages) parts → quanta_of parts n ≤ quanta_before parts n stages
+pub all_quanta : (parts : List Part) (n stages : ℕ) → All (λ (x : Part). x.stage < stages) parts → quanta_of parts n ≤ quanta_before parts n stages
 all_quanta parts n stages below =
     let within = All-weaker (λ (x : Part). x.stage < stages) (Within n 0 stages) (λ (x : Part) lt own some. (omega arith, omega (arith, lt))) parts below in
     let most = quanta_of-le-total parts n 0 stages within in

@@ -1,5 +1,5 @@
 -- The numbers of entries of a table of a well-formed program.
-use Rattle.std.proofs.Common.{◌≡◌, ℕ, zero, suc, ◌+◌, ◌*◌, ◌^◌, ◌<◌, ◌≤◌, List, [], ◌∷◌, Some, None, length, get_or, take, map, refl, sym, ap, subst, arith}
+use Rattle.std.proofs.Common.{◌≡◌, ℕ, ◌+◌, ◌*◌, ◌^◌, ◌<◌, ◌≤◌, List, [], ◌∷◌, Some, None, length, get_or, take, map, refl, sym, subst, arith}
 use Rattle.std.specs.Prelude.{All, AllPairs, Option, option_map, slice_get, slice_index, sum, unwrap_or}
 use Rattle.std.specs.List.{AllZip}
 use Rattle.std.proofs.lemmas.List.{get_or-take, length-take, length-map, get_or-map, get_or_default}
@@ -90,11 +90,6 @@ data-small ws vs bits fit le =
     let lt = data-lt ws vs fit in
     let wide : 2 ^ sum ws ≤ 2 ^ bits = pow-le-pow_right (omega arith) le in
     omega (arith, lt, wide)
-
-pub slice_get-at : {X : Type 0} (xs : List X) (i : ℕ) (x : X) → i < length xs → x ≡ get_or xs i x → slice_get xs i ≡ Some x
-slice_get-at [] i x lt is = absurd (omega (arith, lt))
-slice_get-at (y ∷ ys) zero x lt is = ap Some (sym is)
-slice_get-at (y ∷ ys) (suc i) x lt is = slice_get-at ys i x (omega (arith, lt)) is
 
 pub entry-of : (p : Program) (t : Table) (es : List Entry) (entries : AreOf p t es) (i : ℕ) (e : Entry) → slice_get es i ≡ Some e → IsEntry entries.0 (terms_of p t) e
 entry-of p t es entries i e at = All-slice_get (IsEntry entries.0 (terms_of p t)) es i e entries.1 at

@@ -1,20 +1,19 @@
--- The clustered parser of a program that isn't refused: few states, lookups, bytes and extracts, and no tail where no header has one.
-use Rattle.std.proofs.Common.{◌≡◌, ℕ, ◌+◌, ◌*◌, ◌<◌, ◌≤◌, Bool, true, false, cond, eqb, List, [], ◌∷◌, ◌++◌, Option, None, get_or, length, map, find, refl, sym, ap, ◌∙◌, subst, arith}
-use Rattle.std.specs.Prelude.{All, option_map}
+-- The clustered parser of a program that isn't refused: few states, lookups, bytes and extracts.
+use Rattle.std.proofs.Common.{◌≡◌, ℕ, ◌+◌, ◌<◌, ◌≤◌, Bool, true, false, cond, List, [], ◌∷◌, None, get_or, length, map, sym, subst, arith}
+use Rattle.std.specs.Prelude.{All}
 use Rattle.std.specs.List.{filter}
 use Rattle.std.proofs.lemmas.List.{length-append, length-map, length-set}
 use Rattle.std.proofs.lemmas.List.Elements.{All-cons, All-filter, All-head, All-map, All-nil, All-set, All-tail}
 use Rattle.rmt_bits.specs.declared.lane.Lane.{Lane}
-use Rattle.rmt_build.specs.Types.{Program, Header, ParserConfig, ParserState, ParserEntry, TailOf}
+use Rattle.rmt_build.specs.Types.{Program, ParserConfig, ParserState, ParserEntry}
 use Rattle.rmt_ast.specs.WellFormed.{IsProgram}
 use Rattle.rmt_phv.specs.Places.{KeepsApart}
 use Rattle.rmt_bits.proofs.AllLaws.{All-unmap}
-use Rattle.rmt_config.specs.declared.config.Next.TheVariants as next
 use Rattle.rmt_config.specs.Parser.{tail_of}
 use Rattle.rmt_ptcam.specs.Clustering.{all_joined, clustered, compact, is_met, renamed, states_kept}
-use Rattle.rmt_ptcam.specs.Joining.{KeepsForm, Row, joined_row, lookups_at, moved, numbered, rows_from, rows_in, rows_of, tails_in, together}
-use Rattle.rmt_ptcam.specs.Needs.{entry_count, refusal}
-use Rattle.rmt_ptcam.specs.Plain.{plain, state_of, tails_for, tails_from}
+use Rattle.rmt_ptcam.specs.Joining.{KeepsForm, joined_row, lookups_at, moved, rows_from, rows_in, rows_of, together}
+use Rattle.rmt_ptcam.specs.Needs.{refusal}
+use Rattle.rmt_ptcam.specs.Plain.{plain, state_of}
 use Rattle.rmt_ptcam.proofs.CompactLaws.{compact_keeps, first_met, length_kept, number_less, number_small}
 use Rattle.rmt_ptcam.proofs.FewerLaws.{clustered_few}
 use Rattle.rmt_ptcam.proofs.JoinFacts.{MayJoin, may_join, rows_in_entries}
@@ -23,48 +22,6 @@ use Rattle.rmt_ptcam.proofs.JoinsHold.{StaysUnderJoins, joins_hold, rows_hold, r
 use Rattle.rmt_ptcam.proofs.PlainForm.{plain_keeps}
 use Rattle.rmt_build.proofs.FormLimits.{FewParts}
 use Rattle.rmt_build.proofs.FormParser.{IsSmall, few_parts}
-
--- ---- no tail
-
-abbrev HasNoTail : ParserConfig → Type 0
-HasNoTail parser = parser.tails ≡ []
-
-abbrev IsUntailed : Row → Type 0
-IsUntailed x = x.tail ≡ None
-
-tails_none : (n : ℕ) (rows : List Row) → All IsUntailed rows → tails_in n rows ≡ []
-tails_none n [] all = refl
-tails_none n (x ∷ xs) all = ap (λ (o : Option TailOf). numbered n o ++ tails_in (n + 1) xs) (All-head IsUntailed x xs all) ∙ tails_none (n + 1) xs (All-tail IsUntailed x xs all)
-
-rows_untailed : (parser : ParserConfig) → HasNoTail parser → (n : ℕ) (es : List ParserEntry) → All IsUntailed (rows_from parser n es)
-rows_untailed parser none n [] = All-nil IsUntailed
-rows_untailed parser none n (e ∷ es) =
-    All-cons IsUntailed (record { entry = e; tail = tail_of parser n }) (rows_from parser (n + 1) es) (ap (find (λ (t : TailOf). eqb t.entry n)) none) (rows_untailed parser none (n + 1) es)
-
-join_untailed : StaysUnderJoins HasNoTail
-join_untailed parser at e m there on can none =
-    let here = lookups_at parser.states e.state in
-    let behind = lookups_at parser.states m in
-    let all = rows_untailed parser none 0 parser.entries in
-    let own = All-map IsUntailed (joined_row here behind e) (rows_in m (rows_of parser))
-    (λ k d lt. ap (option_map (λ (t : TailOf). record t { from = t.from + 8 * e.advance })) (All-filter (λ (x : Row). eqb x.entry.state m) IsUntailed (rows_of parser) all k d lt)) in
-    tails_none 0 (rows_joined parser at e m) (rows_hold IsUntailed (λ from to x is. is) parser at e m all own)
-
-compact_untailed : (parser : ParserConfig) → HasNoTail parser → HasNoTail (compact parser)
-compact_untailed parser none =
-    let met : Row → Bool = λ x. is_met parser x.entry.state in
-    tails_none 0 (map (renamed (is_met parser)) (filter met (rows_of parser)))
-    (All-map IsUntailed (renamed (is_met parser)) (filter met (rows_of parser)) (All-filter met IsUntailed (rows_of parser) (rows_untailed parser none 0 parser.entries)))
-
-no_tails : (p : Program) (n entry : ℕ) (hs : List Header) → All (λ (h : Header). h.tail ≡ None) hs → tails_from p n entry hs ≡ []
-no_tails p n entry [] all = refl
-no_tails p n entry (h ∷ hs) all =
-    ap (λ o. tails_for p n h entry o ++ tails_from p (n + 1) (entry + entry_count h) hs) (All-head (λ (x : Header). x.tail ≡ None) h hs all)
-    ∙ no_tails p (n + 1) (entry + entry_count h) hs (All-tail (λ (x : Header). x.tail ≡ None) h hs all)
-
-pub clustered_untailed : (p : Program) (places : List (List Lane)) → All (λ (h : Header). h.tail ≡ None) p.headers → (clustered p places).tails ≡ []
-clustered_untailed p places tails =
-    compact_untailed (all_joined p (plain p places)) (joins_hold HasNoTail join_untailed p (plain p places) (no_tails p 0 0 p.headers tails))
 
 -- ---- small
 
@@ -75,6 +32,13 @@ record IsSmallParser (parser : ParserConfig) : Type 0 where
   states : length parser.states ≤ 256
   lookups : All (λ (s : ParserState). length s.lookups ≤ 4) parser.states
   entries : All IsSmall parser.entries
+
+-- a row of a parser, which rmt_ptcam keeps the name of to itself
+abbrev item_of : {X : Type 0} → List X → Type 0
+item_of {X} xs = X
+
+abbrev Row : Type 0
+Row = item_of (rows_in 0 [])
 
 abbrev IsSmallRow : Row → Type 0
 IsSmallRow x = IsSmall x.entry

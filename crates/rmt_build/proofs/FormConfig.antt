@@ -1,13 +1,16 @@
 -- A configuration whose stages are those of a plan keeps the rules of form, and is within the limits of the chip.
-use Rattle.std.proofs.Common.{◌≡◌, ℕ, ◌+◌, ◌*◌, ◌<◌, ◌≤◌, Bool, true, false, ◌&&◌, ◌==◌, cond, List, [], ◌∷◌, Some, None, length, map, get_or, refl, sym, ap, ◌∙◌, subst, inl, inr, arith}
+use Rattle.std.proofs.Common.{◌≡◌, ℕ, ◌+◌, ◌*◌, ◌<◌, ◌≤◌, Bool, true, false, ◌&&◌, ◌==◌, cond, List, [], ◌∷◌, Option, Some, None, length, map, get_or, refl, sym, ap, ◌∙◌, subst, inl, inr, arith}
 use Rattle.std.specs.Prelude.{◌||◌, All, is_some, nat_lt, option_map, slice_get, slice_index}
 use Rattle.std.specs.List.{AllZip, list_all}
-use Rattle.std.proofs.lemmas.Bool.{eqb-true}
+use Rattle.std.proofs.lemmas.Bool.{eqb-true, or_right}
 use Rattle.std.proofs.lemmas.List.Elements.{All-weaker, All-contains}
 use Rattle.std.proofs.lemmas.List.Sums.{list_all-from_AllPass, sum_by-cons}
+use Rattle.std.proofs.lemmas.Slice.Zip.{AllZip-long}
 use Rattle.std.proofs.lemmas.Option.{get_or_from_slice_get, slice_get-get_or, slice_get-map, slice_get_within}
 use Rattle.rmt_ast.specs.declared.entry.Entry.{Entry}
-use Rattle.rmt_build.specs.Types.{Program, Header, Test, Table, Node, Config, ParserConfig, Stage, TailOf}
+use Rattle.rmt_ast.specs.declared.names.Names.{Names}
+use Rattle.rmt_bits.specs.declared.lane.Lane.{Lane}
+use Rattle.rmt_build.specs.Types.{Program, Test, Table, Node, Config, ParserConfig, Stage, TailOf}
 use Rattle.rmt_ast.specs.declared.program.Kind.TheVariants as kind
 use Rattle.rmt_ast.specs.declared.program.What.TheVariants as what
 use Rattle.rmt_ast.specs.EntryLists.{AreEntries}
@@ -15,6 +18,7 @@ use Rattle.rmt_ast.specs.WellFormed.{AllNumbered, IsProgram}
 use Rattle.rmt_config.specs.CellForm.{StageHolds, entries_are_numbered}
 use Rattle.rmt_config.specs.Form.{Formed, names_are_fit, visible_with}
 use Rattle.rmt_config.specs.Limits.{IsWithinLimits}
+use Rattle.rmt_config.specs.NamesForm.{names_fit}
 use Rattle.rmt_config.specs.ParserForm.{parser_is_formed}
 use Rattle.rmt_config.specs.TailForm.{has_names_with_tails, tails_have_headers}
 use Rattle.rmt_config.specs.StageForm.{rows_are_formed, starts_are_formed}
@@ -26,7 +30,7 @@ use Rattle.rmt_place.specs.Placing.{standing_in}
 use Rattle.rmt_ptcam.specs.Needs.{refusal}
 use Rattle.rmt_ptcam.specs.Clustering.{clustered}
 use Rattle.rmt_refine.specs.Carries.{EdgesKept, all_edges}
-use Rattle.rmt_refine.specs.Places.{PlacesCarried}
+use Rattle.rmt_refine.specs.Places.{HeaderCarried, PlacesCarried}
 use Rattle.rmt_refine.specs.Units.{UnitCarried, UnitsCarried, last_stage, nodes_in, table_at}
 use Rattle.rmt_refine.proofs.EdgeLaws.{children_follow}
 use Rattle.rmt_refine.proofs.NodeLaws.{part_there, stands_in_last}
@@ -34,8 +38,8 @@ use Rattle.rmt_refine.proofs.RankLaws.{compare}
 use Rattle.rmt_build.specs.declared.plan.Plan.{Plan}
 use Rattle.rmt_build.specs.BuiltStage.{IsBuiltStage}
 use Rattle.rmt_build.specs.Plans.{IsPlan, format_at, what_format}
-use Rattle.rmt_ptcam.proofs.FormedParsers.{clustered_formed}
-use Rattle.rmt_build.proofs.FormClustered.{clustered_parts, clustered_untailed}
+use Rattle.rmt_ptcam.proofs.FormedParsers.{clustered_formed, clustered_headers}
+use Rattle.rmt_build.proofs.FormClustered.{clustered_parts}
 use Rattle.rmt_build.proofs.FormFits.{data_held, limits_kept, memories, zip_at}
 use Rattle.rmt_bits.proofs.ListLaws.{AllZip-slice_get}
 use Rattle.rmt_build.proofs.FormHolds.{all_hold, starts_formed}
@@ -82,15 +86,17 @@ gate_format p n node field test at is =
 keyless_format : (p : Program) → IsProgram p → (n : ℕ) (t : Table) → table_at p n ≡ Some t → t.kind ≡ kind.Keyless → (format_at p n).quanta ≡ 1
 keyless_format p program n t at is = ap (λ f. f.quanta) (format_is p program n t at ∙ ap (λ kd. memory_format kd (table_need p t)) is)
 
--- ---- no tails
+-- ---- names and tails
 
--- without tails each has a header
-tails_there : (c : Config) → c.parser.tails ≡ [] → tails_have_headers c ≡ true
-tails_there c none = ap (list_all (λ (t : TailOf). nat_lt t.header (length c.headers))) none
+-- each tail is of a header that is sent
+tails_there : (p : Program) (places : List (List Lane)) (c : Config) → PlacesCarried p places c → list_all (λ (t : TailOf). nat_lt t.header (length p.headers)) c.parser.tails ≡ true
+    → tails_have_headers c ≡ true
+tails_there p places c carried low =
+    subst (λ n. list_all (λ (t : TailOf). nat_lt t.header n) c.parser.tails ≡ true) (sym (AllZip-long (HeaderCarried places) p.headers c.headers carried.headers)) low
 
--- and no names are needed
-tails_named : (c : Config) → c.parser.tails ≡ [] → has_names_with_tails c ≡ true
-tails_named c none = ap (λ (ts : List TailOf). (length ts == 0) || is_some c.names) none
+-- where there are names, tails may stand
+tails_named : (c : Config) (names : Names) → c.names ≡ Some names → has_names_with_tails c ≡ true
+tails_named c names is = ap (λ (n : Option Names). (length c.parser.tails == 0) || is_some n) is ∙ or_right (length c.parser.tails == 0) true refl
 
 -- ---- a configuration
 
@@ -148,27 +154,30 @@ module _ (p : Program) (lists : List (List Entry)) (plan : Plan) (c : Config) (p
     starts_are : map (λ (s : Stage). s.start) c.stages ≡ plan.starts
     starts_are = units.starts_are
 
-    pub formed_by_plan : refusal p ≡ None → c.names ≡ None → c.parser.tails ≡ [] → c.seed < 256 → parser_is_formed c.parser ≡ true → entries_are_numbered c ≡ true → Formed c
-    formed_by_plan fits names no_tails seed parser numbers =
+    pub formed_by_plan : (names : Names) → refusal p ≡ None → c.names ≡ Some names → names_fit c names ≡ true → tails_have_headers c ≡ true → c.seed < 256
+        → parser_is_formed c.parser ≡ true → entries_are_numbered c ≡ true → Formed c
+    formed_by_plan names fits named fit tails seed parser numbers =
         let ports = ports_formed p plan.places is_plan.places program c carried seed in
         let headers = headers_formed p plan.places is_plan.places program c carried fits in
         let starts : starts_are_formed (map (λ (s : Stage). s.start) c.stages) ≡ true =
         ap starts_are_formed starts_are ∙ starts_formed plan.starts edges.distances.first edges.distances.rise in
         let stages = stages_formed p program lists entries plan is_plan.parts is_plan.places is_plan.stands keyless_alone c.stages built few long early starts in
         record {
-          items = rw (ports, headers, parser, tails_there c no_tails, stages) refl;
+          items = rw (ports, headers, parser, tails, stages) refl;
           whole = record {
             rows = list_all-from_AllPass rows_are_formed c.stages (λ k d lt. (built k (get_or c.stages k d) (slice_get-get_or c.stages k d lt)).rows);
             tables = tables_formed p program plan.places parts c are_placed stages_built;
-            memory = subst (λ n. All (StageHolds (visible_with n)) c.stages) (sym names) (all_hold p lists plan program entries is_plan.parts is_plan.stands c.stages built);
+            memory = subst (λ n. All (StageHolds (visible_with n)) c.stages) (sym named) (all_hold p lists plan program entries is_plan.parts is_plan.stands c.stages built);
             numbers = numbers;
-            names = subst (λ n. names_are_fit c n ≡ true) (sym names) refl;
-            tails = tails_named c no_tails;
+            names = subst (λ n. names_are_fit c n ≡ true) (sym named) fit;
+            tails = tails_named c names named;
           };
         }
 
-    -- with the clustered parser of a program without tails
-    pub formed_with_clustered : refusal p ≡ None → All (λ (h : Header). h.tail ≡ None) p.headers → c.parser ≡ clustered p plan.places → c.names ≡ None → c.seed < 256 → entries_are_numbered c ≡ true → Formed c
-    formed_with_clustered fits tails parser names seed numbers =
-        let no_tails : c.parser.tails ≡ [] = ap (λ (x : ParserConfig). x.tails) parser ∙ clustered_untailed p plan.places tails in
-        formed_by_plan fits names no_tails seed (ap parser_is_formed parser ∙ clustered_formed p plan.places program is_plan.places fits) numbers
+    -- with the clustered parser
+    pub formed_with_clustered : (names : Names) → refusal p ≡ None → c.parser ≡ clustered p plan.places → c.names ≡ Some names → names_fit c names ≡ true → c.seed < 256
+        → entries_are_numbered c ≡ true → Formed c
+    formed_with_clustered names fits parser named fit seed numbers =
+        let low : list_all (λ (t : TailOf). nat_lt t.header (length p.headers)) c.parser.tails ≡ true =
+        subst (λ (q : ParserConfig). list_all (λ (t : TailOf). nat_lt t.header (length p.headers)) q.tails ≡ true) (sym parser) (clustered_headers p plan.places program is_plan.places fits) in
+        formed_by_plan names fits named fit (tails_there p plan.places c carried low) seed (ap parser_is_formed parser ∙ clustered_formed p plan.places program is_plan.places fits) numbers

@@ -66,7 +66,7 @@ module _ (p : Program) (lists : List (List Entry)) (plan : Plan) (program : IsPr
         unit_there P (a ∷ xs) (b ∷ ys) zero y zip e = (a, refl, subst (P a) (same_Some b y e) zip.0)
         unit_there P (a ∷ xs) (b ∷ ys) (suc j) y zip e = unit_there P xs ys j y zip.1 e
 
-    its_slot : (i : ℕ) (s : SlotUnit) → slice_get stage.units i ≡ Some (Slot s) → SlotHolds 0 stage (first_code stage i) s
+    its_slot : (i : ℕ) (s : SlotUnit) → slice_get stage.units i ≡ Some (Slot s) → SlotHolds 3 stage (first_code stage i) s
     its_slot i s at =
         let unit = unit_at i (Slot s) at in
         let n = unit.0 in
@@ -87,8 +87,8 @@ module _ (p : Program) (lists : List (List Entry)) (plan : Plan) (program : IsPr
         never_gate : (x : SlotUnit) (g : GateUnit) → ◌≡◌ {A = Unit} (Slot x) (Gate g) → ⊥
         never_gate x g e = cc
 
-    pub stage_holds : StageHolds 0 stage
+    pub stage_holds : StageHolds 3 stage
     stage_holds = slots_hold stage its_slot
 
-  pub all_hold : (stages : List Stage) → AllNumbered (IsBuiltStage p lists plan) stages → All (StageHolds 0) stages
+  pub all_hold : (stages : List Stage) → AllNumbered (IsBuiltStage p lists plan) stages → All (StageHolds 3) stages
   all_hold stages built k d lt = stage_holds k (get_or stages k d) (built k (get_or stages k d) (slice_get-get_or stages k d lt))

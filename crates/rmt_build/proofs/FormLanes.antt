@@ -10,7 +10,6 @@ use Rattle.rmt_bits.specs.declared.lane.Lane.{Lane}
 use Rattle.rmt_build.specs.Types.{Program, Header, Config, OutHeader}
 use Rattle.rmt_ast.specs.State.{width_of}
 use Rattle.rmt_ast.specs.WellFormed.{IsHeader, IsProgram}
-use Rattle.rmt_phv.specs.Packing.{pieces}
 use Rattle.rmt_phv.specs.Places.{KeepsApart, LiesInWord, high_first}
 use Rattle.rmt_config.specs.LaneForm.{bits_of_lanes, header_is_formed, headers_are_formed, is_lane_of, lane_is_formed, ports_are_formed}
 use Rattle.rmt_ptcam.specs.Needs.{extract_count, lookups_of, refusal}

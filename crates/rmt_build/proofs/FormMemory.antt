@@ -47,11 +47,11 @@ coded_each P first (Slot x ∷ us) h =
     let e : first + sum_by unit_instructions (take (suc j) (Slot x ∷ us)) ≡ first + x.actions + 1 + sum_by unit_instructions (take j us) = omega (arith, more) in
     subst (λ n. P (record { first = n; slot = s })) e (h (suc j) s at))))
 
-pub slots_hold : (stage : Stage) → ((i : ℕ) (s : SlotUnit) → slice_get stage.units i ≡ Some (Slot s) → SlotHolds 0 stage (first_code stage i) s)
-    → All (λ (c : Coded). SlotHolds 0 stage c.first c.slot) (coded_from 0 stage.units)
+pub slots_hold : (stage : Stage) → ((i : ℕ) (s : SlotUnit) → slice_get stage.units i ≡ Some (Slot s) → SlotHolds 3 stage (first_code stage i) s)
+    → All (λ (c : Coded). SlotHolds 3 stage c.first c.slot) (coded_from 0 stage.units)
 slots_hold stage each =
-    coded_each (λ (c : Coded). SlotHolds 0 stage c.first c.slot) 0 stage.units (λ j s at.
-    (let e : first_code stage j ≡ 0 + first_code stage j = omega arith in subst (λ n. SlotHolds 0 stage n s) e (each j s at)))
+    coded_each (λ (c : Coded). SlotHolds 3 stage c.first c.slot) 0 stage.units (λ j s at.
+    (let e : first_code stage j ≡ 0 + first_code stage j = omega arith in subst (λ n. SlotHolds 3 stage n s) e (each j s at)))
 
 -- ---- the cells that a slot lists
 
@@ -101,7 +101,7 @@ module _ (p : Program) (plan : Plan) (k i : ℕ) (stage : Stage) (slot : SlotUni
   room : cells_in slot.memory ≡ cells_for t.kind (format_at p slot.node).per (quanta_in plan.placement.parts slot.node k)
   room = ap cells_in built.memory ∙ memory_cells t.kind (need_in p plan.placement.parts t slot.node k) (taken_upto p plan.placement.parts k slot.node)
 
-  its_content : (s : Stand) → HoldsStand p t es (first_code stage i) stage slot s → content_is_formed 0 (first_code stage i) slot (content_of stage slot s.cell) ≡ true
+  its_content : (s : Stand) → HoldsStand p t es (first_code stage i) stage slot s → content_is_formed 3 (first_code stage i) slot (content_of stage slot s.cell) ≡ true
   its_content s h =
       let is : IsEntry n (terms_of p t) h.entry = All-slice_get (IsEntry n (terms_of p t)) es s.entry h.entry are.each h.is in
       let params = some_and (slice_get (map (params_of p) t.actions) h.entry.action) _ is.action in
@@ -110,27 +110,27 @@ module _ (p : Program) (plan : Plan) (k i : ℕ) (stage : Stage) (slot : SlotUni
       let code = h.holds.code in
       rw (
         h.holds.seen,
-        eq-eqb (visible_bits (content_of stage slot s.cell).head) 0 h.visible,
+        eq-eqb (visible_bits (content_of stage slot s.cell).head) 3 h.visible,
         le-leb (first_code stage i) (code_of (content_of stage slot s.cell).head) (omega (arith, code)),
         lt-ltb (code_of (content_of stage slot s.cell).head) (first_code stage i + slot.actions) (omega (arith, code, within, long, actions)),
       ) refl
 
-  numbers_formed : numbers_are_formed 0 (first_code stage i) stage slot ≡ true
+  numbers_formed : numbers_are_formed 3 (first_code stage i) stage slot ≡ true
   numbers_formed =
       let first : ℕ = cells_for t.kind (format_at p slot.node).per (quanta_before plan.placement.parts slot.node k) in
       let count : ℕ = cells_for t.kind (format_at p slot.node).per (quanta_in plan.placement.parts slot.node k) in
       let whole = slice_index_or plan.stands slot.node [] in
       let all_rise = rise_within first count 0 whole rise (λ j d lt low. omega (arith, low)) in
       let fits = All-map (λ c. c < cells_in slot.memory) (λ (s : Stand). s.cell) stands (λ j d lt. subst (λ m. (get_or stands j d).cell < m) (sym room) (cells_within first count whole j d lt)) in
-      let contents = All-map (λ c. content_is_formed 0 (first_code stage i) slot (content_of stage slot c) ≡ true) (λ (s : Stand). s.cell) stands (λ j d lt. its_content (get_or stands j d) (built.holds j d lt)) in
+      let contents = All-map (λ c. content_is_formed 3 (first_code stage i) slot (content_of stage slot c) ≡ true) (λ (s : Stand). s.cell) stands (λ j d lt. its_content (get_or stands j d) (built.holds j d lt)) in
       let own = map (λ (s : Stand). s.cell) stands in
       let within : list_all (λ c. nat_lt c (cells_in slot.memory)) own ≡ true = list_all-from_AllPass (λ c. nat_lt c (cells_in slot.memory)) own (λ j d lt. lt-ltb (get_or own j d) (cells_in slot.memory) (fits j d lt)) in
-      let formed : list_all (λ c. content_is_formed 0 (first_code stage i) slot (content_of stage slot c)) own ≡ true =
-      list_all-from_AllPass (λ c. content_is_formed 0 (first_code stage i) slot (content_of stage slot c)) own contents in
-      ap (λ cs. rises_from 0 cs && list_all (λ c. nat_lt c (cells_in slot.memory)) cs && list_all (λ c. content_is_formed 0 (first_code stage i) slot (content_of stage slot c)) cs) cells
+      let formed : list_all (λ c. content_is_formed 3 (first_code stage i) slot (content_of stage slot c)) own ≡ true =
+      list_all-from_AllPass (λ c. content_is_formed 3 (first_code stage i) slot (content_of stage slot c)) own contents in
+      ap (λ cs. rises_from 0 cs && list_all (λ c. nat_lt c (cells_in slot.memory)) cs && list_all (λ c. content_is_formed 3 (first_code stage i) slot (content_of stage slot c)) cs) cells
       ∙ (rw (all_rise, within, formed) refl)
 
-  pub slot_holds : SlotHolds 0 stage (first_code stage i) slot
+  pub slot_holds : SlotHolds 3 stage (first_code stage i) slot
   slot_holds = record {
     numbers = numbers_formed;
     others = λ c lt none.

@@ -23,12 +23,12 @@ use Rattle.rmt_build.proofs.RecordLaws.{has_arguments}
 -- ---- heads
 
 head-seen : (code : ℕ) → is_seen (head_for code) ≡ true
-head-seen code = let odd : (1 + 8 * code) % 2 ≡ 1 = omega arith in ap (λ n. n == 1) odd
+head-seen code = let odd : (7 + 8 * code) % 2 ≡ 1 = omega arith in ap (λ n. n == 1) odd
 
 head-code : (code : ℕ) → code < 32 → code_of (head_for code) ≡ code
 head-code code lt = omega (arith, lt)
 
-head-visible : (code : ℕ) → visible_bits (head_for code) ≡ 0
+head-visible : (code : ℕ) → visible_bits (head_for code) ≡ 3
 head-visible code = omega arith
 
 head-low : (code rest : ℕ) → code < 32 → (head_for code + 256 * rest) % 256 ≡ head_for code

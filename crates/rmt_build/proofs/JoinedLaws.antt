@@ -1,5 +1,5 @@
--- A configuration of the stages of a plan by the rules: it carries the program, and keeps what is promised beside that.
-use Rattle.std.proofs.Common.{◌≡◌, ℕ, ◌+◌, ◌*◌, ◌/◌, ◌-◌, ◌<◌, ◌≤◌, List, Option, Some, None, length, map, get_or, refl, sym, ap, subst, ◌∙◌, inl, inr, arith}
+-- A configuration of the stages of a plan: it carries the program, and keeps what is promised beside that.
+use Rattle.std.proofs.Common.{◌≡◌, ℕ, ◌+◌, ◌*◌, ◌/◌, ◌-◌, ◌<◌, ◌≤◌, true, List, Option, Some, None, length, map, get_or, refl, sym, ap, subst, ◌∙◌, inl, inr, arith}
 use Rattle.std.specs.Prelude.{All, Contains, option_map, slice_get}
 use Rattle.std.specs.List.{range_with_len}
 use Rattle.std.proofs.lemmas.Nat.{le-div}
@@ -8,11 +8,13 @@ use Rattle.std.proofs.lemmas.Slice.Zip.{AllZip-long}
 use Rattle.rmt_bits.proofs.AllLaws.{All-slice_get}
 use Rattle.rmt_bits.proofs.ListLaws.{slice_get-item, AllZip-slice_get}
 use Rattle.rmt_bits.specs.declared.lane.Lane.{Lane}
-use Rattle.rmt_build.specs.Types.{Program, Header, Test, Table, Kind, Node, What, Config, Stage, Unit, SlotUnit, Memory}
+use Rattle.rmt_build.specs.Types.{Program, Test, Table, Kind, Node, What, Config, Stage, Unit, SlotUnit, Memory}
 use Rattle.rmt_ast.specs.declared.program.Kind.TheVariants.{Keyless, Exact, Prefix, Ternary}
 use Rattle.rmt_ast.specs.declared.program.What.TheVariants.{Apply, Gate}
 use Rattle.rmt_ast.specs.declared.entry.Entry.{Entry}
 use Rattle.rmt_ast.specs.EntryLists.{AreEntries}
+use Rattle.rmt_ast.specs.NameRules.{CanBeNamed}
+use Rattle.rmt_ast.specs.Naming.{names_of}
 use Rattle.rmt_ast.specs.State.{width_of}
 use Rattle.rmt_ast.specs.WellFormed.{AllNumbered, IsProgram, IsTable}
 use Rattle.rmt_config.specs.declared.config.Unit.TheVariants as unit
@@ -21,6 +23,7 @@ use Rattle.rmt_config.specs.Cells.{candidates}
 use Rattle.rmt_config.specs.Form.{Formed}
 use Rattle.rmt_config.specs.LaneForm.{bits_of_lanes}
 use Rattle.rmt_config.specs.Limits.{IsWithinLimits}
+use Rattle.rmt_config.specs.NamesForm.{names_have_counts}
 use Rattle.rmt_pack.specs.declared.format.Need.{Need}
 use Rattle.rmt_pack.specs.declared.placement.Part.{Part}
 use Rattle.rmt_pack.specs.declared.placement.Placement.{Placement}
@@ -43,7 +46,7 @@ use Rattle.rmt_build.specs.BuiltStage.{IsBuiltStage}
 use Rattle.rmt_build.specs.Memories.{blocks_for, memory_for}
 use Rattle.rmt_build.specs.Plans.{format_at, need_in, quanta_before, taken_upto, what_format}
 use Rattle.rmt_build.specs.Promises.{HasBlocksInOrder, HasFormat, HasFormatOfRule, StandInRows}
-use Rattle.rmt_build.specs.Stages.{IsPlanByRule, AreStagesOf}
+use Rattle.rmt_build.specs.Stages.{AreStagesOf, IsPlanFor}
 use Rattle.rmt_build.specs.EntryCells.{cells_for}
 use Rattle.rmt_build.specs.Told.{cells_told}
 use Rattle.rmt_build.proofs.CarriedLaws.{built_carries, units_carried}
@@ -53,6 +56,8 @@ use Rattle.rmt_build.proofs.FormFits.{memories}
 use Rattle.rmt_build.proofs.FormStage.{kinds}
 use Rattle.rmt_build.proofs.LoadedLaws.{loaded_there, rows_in_order}
 use Rattle.rmt_build.proofs.MemoryLaws.{format_of_kind}
+use Rattle.rmt_build.proofs.NamesFilled.{names_filled}
+use Rattle.rmt_build.proofs.NamesMade.{names_made}
 use Rattle.rmt_build.proofs.NumberedLaws.{entries_numbered}
 use Rattle.rmt_build.proofs.PromiseLaws.{memory_format_is, stand_in_rows}
 use Rattle.rmt_build.proofs.SpotLaws.{slot_built}
@@ -88,7 +93,7 @@ node_some p program n lt =
 
 -- ---- a configuration
 
-module _ (p : Program) (lists : List (List Entry)) (plan : Plan) (c : Config) (program : IsProgram p) (entries : AreEntries p lists) (is : IsPlanByRule p lists plan)
+module _ (p : Program) (lists : List (List Entry)) (plan : Plan) (c : Config) (program : IsProgram p) (entries : AreEntries p lists) (is : IsPlanFor p lists plan)
     (stages : List Stage) (same : c.stages ≡ stages) (are : AreStagesOf p lists plan stages) (seed : c.seed ≡ plan.seed) where
   own : AreStagesOf p lists plan c.stages
   own = subst (AreStagesOf p lists plan) (sym same) are
@@ -191,9 +196,11 @@ module _ (p : Program) (lists : List (List Entry)) (plan : Plan) (c : Config) (p
   pub joined_limits : refusal p ≡ None → c.parser ≡ clustered p plan.places → IsWithinLimits c
   joined_limits fits parser = limits_by_plan p lists plan c program entries is.is_plan built few long is.early fits parser is.limits
 
-  pub joined_formed : PlacesCarried p plan.places c → refusal p ≡ None → All (λ (h : Header). h.tail ≡ None) p.headers → c.parser ≡ clustered p plan.places → c.names ≡ None → plan.seed < 8 → Formed c
-  joined_formed places fits tails parser names small =
-      formed_with_clustered p lists plan c program entries is.is_plan built few long is.early places units_are is.edges is.exact fits tails parser names (omega (arith, small, seed))
+  pub joined_formed : CanBeNamed p lists → PlacesCarried p plan.places c → refusal p ≡ None → c.parser ≡ clustered p plan.places → c.names ≡ Some (names_of p lists)
+      → names_have_counts (names_of p lists) ≡ true → plan.seed < 8 → Formed c
+  joined_formed can places fits parser names counts small =
+      formed_with_clustered p lists plan c program entries is.is_plan built few long is.early places units_are is.edges is.exact (names_of p lists) fits parser names
+      (names_made p lists plan c program entries is own units_are can counts (names_filled p lists plan c program entries units_are is.is_plan.stands built are_loaded in_rows)) (omega (arith, small, seed))
       (entries_numbered p lists plan c entries units_are is.is_plan.stands built)
 
 -- ---- its map

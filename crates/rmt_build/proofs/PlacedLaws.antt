@@ -1,25 +1,33 @@
--- A placement by the rule, and its starts.
-use Rattle.std.proofs.Common.{◌≡◌, ℕ, zero, suc, ◌+◌, ◌<◌, ◌≤◌, List, [], ◌∷◌, Ok, true, get_or, length, map, refl, ap, subst, arith}
-use Rattle.std.specs.Prelude.{All, AllPairs}
+-- Nodes that are placed so that they keep every edge and limit, and their starts.
+use Rattle.std.proofs.Common.{◌≡◌, ℕ, zero, suc, ◌+◌, ◌<◌, ◌≤◌, List, [], ◌∷◌, Ok, get_or, length, map, refl, sym, ap, subst, ◌∙◌, arith}
+use Rattle.std.specs.Prelude.{All}
+use Rattle.std.proofs.lemmas.List.{length-map}
 use Rattle.rmt_bits.specs.declared.lane.Lane.{Lane}
 use Rattle.rmt_bits.proofs.FunctionLaws.{funext}
-use Rattle.rmt_ast.specs.declared.deps.Deps.{Deps}
 use Rattle.rmt_ast.specs.declared.deps.Edge.{Edge}
 use Rattle.rmt_build.specs.Types.{Program, Node, What}
 use Rattle.rmt_ast.specs.declared.program.What.TheVariants.{Apply, Gate}
 use Rattle.rmt_ast.specs.WellFormed.{IsProgram}
-use Rattle.rmt_deps.specs.Edges.{GoForward}
+use Rattle.rmt_deps.specs.Edges.{GoForward, dependencies_of}
+use Rattle.rmt_deps.specs.Levels as levels
+use Rattle.rmt_deps.proofs.EdgeLaws.{go_forward}
 use Rattle.rmt_pack.specs.declared.format.Format.{Format}
 use Rattle.rmt_pack.specs.declared.placement.Part.{Part}
 use Rattle.rmt_pack.specs.Formats.{no_memory}
 use Rattle.rmt_pack.specs.Placements.{quanta_of, taken_in}
-use Rattle.rmt_place.specs.Needs.{demands_of, keeps_limits}
-use Rattle.rmt_place.specs.Placing.{AreTwo, IsPart, placement, standing_in}
+use Rattle.rmt_place.specs.declared.demand.Demand.{Demand}
+use Rattle.rmt_place.specs.declared.load.TheConstants.{MOST}
+use Rattle.rmt_place.specs.Needs.{demands_of}
+use Rattle.rmt_place.specs.Placing.{IsGoodOrder, placement, rule_order, standing_in}
 use Rattle.rmt_place.specs.Starting.{stages_in, starts_of}
+use Rattle.rmt_place.specs.Steps.{numbers_of}
+use Rattle.rmt_place.proofs.GoodLaws.{good_keeps, rule_good}
 use Rattle.rmt_place.proofs.LeastLaws.{greatest-le, items-le, length-until}
 use Rattle.rmt_place.proofs.LegalLaws as legal
-use Rattle.rmt_place.proofs.LegalPlacement.{is_legal}
+use Rattle.rmt_place.proofs.LegalPlacement.{kept_everywhere, node_quanta}
+use Rattle.rmt_place.proofs.StageLaws.{kept_at}
 use Rattle.rmt_build.specs.Plans.{AreParts, format_at, what_format}
+use Rattle.rmt_build.specs.Stages.{ArePlaced}
 
 -- ---- formats
 
@@ -40,18 +48,44 @@ taken_same p parts f g k same = ap (λ h. taken_in p parts h k) (funext f g same
 
 -- ---- parts
 
-pub parts_are : (p : Program) (places : List (List Lane)) (deps : Deps) (parts : List Part) → IsProgram p → GoForward (length p.nodes) deps
-    → placement p places deps ≡ Ok parts → All (IsPart (length p.nodes)) parts → AllPairs AreTwo parts
-    → ((k : ℕ) → k < 32 → keeps_limits (standing_in (demands_of p places) parts k) ≡ true) → AreParts p parts
-parts_are p places deps parts program forward placed each apart limits =
-    let all = is_legal p places deps parts program forward placed each limits in
-    record {
-      each = each;
-      apart = apart;
-      whole = λ n lt. subst (λ (f : Format). f.quanta ≤ quanta_of parts n) (format_same p n) (all.whole n lt);
-      sram = λ k. subst (λ m. m ≤ 106) (taken_same p parts (λ n. (legal.format_at p n).sram) (λ n. (format_at p n).sram) k (λ n. ap (λ (f : Format). f.sram) (format_same p n))) (all.sram k);
-      tcam = λ k. subst (λ m. m ≤ 16) (taken_same p parts (λ n. (legal.format_at p n).tcam) (λ n. (format_at p n).tcam) k (λ n. ap (λ (f : Format). f.tcam) (format_same p n))) (all.tcam k);
-    }
+-- by the rule they are placed so
+pub rule_placed : (p : Program) (places : List (List Lane)) (parts : List Part) → IsProgram p → placement p places (dependencies_of p places) ≡ Ok parts → ArePlaced p places parts
+rule_placed p places parts program placed =
+    let deps = dependencies_of p places in
+    let demands = demands_of p places in
+    let order = rule_order deps (length demands) in
+    let many : length demands ≡ length p.nodes = simp length-map in
+    let forward : GoForward (length p.nodes) deps = go_forward p places in
+    let good : IsGoodOrder (length demands) (levels.all_edges deps) order = rule_good deps (length demands) (subst (λ (m : ℕ). GoForward m deps) (sym many) forward) in
+    let all = good_keeps p places deps order parts program forward (subst (λ (m : ℕ). IsGoodOrder m (levels.all_edges deps) order) many good) placed in
+    record { keeps = all.edges; limits = λ k lt. all.limits k; parts = all.parts; apart = all.apart; quanta = all.quanta }
+
+module _ (p : Program) (places : List (List Lane)) (parts : List Part) (program : IsProgram p) (placed : ArePlaced p places parts) where
+  pub exact_quanta : (n : ℕ) → n < length p.nodes → quanta_of parts n ≡ (format_at p n).quanta
+  exact_quanta n lt = placed.quanta n lt ∙ sym (node_quanta p places program n lt) ∙ ap (λ (f : Format). f.quanta) (format_same p n)
+
+  sram_fits : (k : ℕ) → taken_in p parts (λ n. (legal.format_at p n).sram) k ≤ 106
+  sram_fits k =
+      let xs = standing_in (demands_of p places) parts k in
+      let le = legal.taken-le (demands_of p places) parts (λ n. (legal.format_at p n).sram) (λ (d : Demand). d.sram) (length p.nodes) k (λ n. (legal.same_blocks p places n).sram) in
+      let most = kept_at MOST (numbers_of xs) 0 (kept_everywhere (demands_of p places) (length p.nodes) parts placed.parts placed.limits k) (omega arith) (omega arith) in
+      omega (arith, le, most)
+
+  tcam_fits : (k : ℕ) → taken_in p parts (λ n. (legal.format_at p n).tcam) k ≤ 16
+  tcam_fits k =
+      let xs = standing_in (demands_of p places) parts k in
+      let le = legal.taken-le (demands_of p places) parts (λ n. (legal.format_at p n).tcam) (λ (d : Demand). d.tcam) (length p.nodes) k (λ n. (legal.same_blocks p places n).tcam) in
+      let most = kept_at MOST (numbers_of xs) 1 (kept_everywhere (demands_of p places) (length p.nodes) parts placed.parts placed.limits k) (omega arith) (omega arith) in
+      omega (arith, le, most)
+
+  pub parts_are : AreParts p parts
+  parts_are = record {
+    each = placed.parts;
+    apart = placed.apart;
+    whole = λ n lt. (let exact = exact_quanta n lt in omega (arith, exact));
+    sram = λ k. subst (λ m. m ≤ 106) (taken_same p parts (λ n. (legal.format_at p n).sram) (λ n. (format_at p n).sram) k (λ n. ap (λ (f : Format). f.sram) (format_same p n))) (sram_fits k);
+    tcam = λ k. subst (λ m. m ≤ 16) (taken_same p parts (λ n. (legal.format_at p n).tcam) (λ n. (format_at p n).tcam) k (λ n. ap (λ (f : Format). f.tcam) (format_same p n))) (tcam_fits k);
+  }
 
 -- ---- starts
 

@@ -19,12 +19,12 @@ use Rattle.rmt_build.specs.Numbers.{number_at}
 use Rattle.rmt_build.specs.Plans.{need_in, stands_of_part, taken_upto}
 use Rattle.rmt_build.specs.UnitCode.{DoUnits}
 
--- the cell of a part in which an entry stands holds it; the part's first instruction has this number
+-- The cell of a part in which an entry stands holds it, seen under either version; the part's first instruction has this number.
 pub record HoldsStand (p : Program) (t : Table) (es : List Entry) (first : ℕ) (stage : Stage) (slot : SlotUnit) (s : Stand) : Type 0 where
   pub entry : Entry
   pub is : slice_get es s.entry ≡ Some entry
   pub holds : HoldsEntry p t (map (width_of p) t.key) first entry entry.number (content_of stage slot s.cell)
-  pub visible : visible_bits (content_of stage slot s.cell).head ≡ 0
+  pub visible : visible_bits (content_of stage slot s.cell).head ≡ 3
 
 -- The slot of a part of a table with these entries in stage k: its memory takes the next blocks of the stage, and its numbers are those of the entries
 -- that stand there.

@@ -36,12 +36,12 @@ content_in h bits held (Ternary d ks rs cs) n = record {
   held = row_record h.sram rs held n / 256;
 }
 
--- a cell holds the entry that stands there
+-- a cell holds the entry that stands there, seen under either version
 pub record HoldsIn (p : Program) (t : Table) (es : List Entry) (first bits held : ℕ) (h : Held) (m : Memory) (s : Stand) : Type 0 where
   pub entry : Entry
   pub is : slice_get es s.entry ≡ Some entry
   pub holds : HoldsEntry p t (map (width_of p) t.key) first entry entry.number (content_in h bits held m s.cell)
-  pub visible : visible_bits (content_in h bits held m s.cell).head ≡ 0
+  pub visible : visible_bits (content_in h bits held m s.cell).head ≡ 3
 
 -- no bit stands beside the cells
 abbrev pub EndsIn : Held → ℕ → ℕ → Memory → Type 0
@@ -71,9 +71,9 @@ pub record AreKeyBlocks (bits d : ℕ) (ks : List ℕ) : Type 0 where
 
 -- ---- one entry
 
--- the head of a cell whose instruction has this number
+-- the head of an occupied cell with both visible bits, whose instruction has this number
 abbrev pub head_for : ℕ → ℕ
-head_for code = 1 + 8 * code
+head_for code = 7 + 8 * code
 
 -- the number of an entry's instruction, the data that it holds, and its key
 abbrev pub data_for : Program → Table → Entry → ℕ

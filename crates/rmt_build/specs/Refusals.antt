@@ -1,5 +1,5 @@
 -- Why a program doesn't fit the chip, and in which order the reasons are looked at.
-use Rattle.std.specs.Prelude.{◌≡◌, ⊤, List, Option, Some, None, Result, Ok, Err, option_map}
+use Rattle.std.specs.Prelude.{List, Option, Some, None, Result, Ok, Err, option_map}
 use Rattle.std.specs.Option.{option_or}
 use Rattle.rmt_bits.specs.declared.lane.Lane.{Lane}
 use Rattle.rmt_build.specs.Types.{Program}
@@ -56,16 +56,3 @@ abbrev pub first_refusal : Program → Option NoFit
 first_refusal p =
     option_or (option_map parser_told (refusal p))
     (option_or (option_map action_told (first_deep 0 p.actions)) (packed_told p (packing p)))
-
--- ---- the refusals after that
-
--- what a refusal of the planning tells, where this is the first one of the placement
-abbrev pub IsLate : Option NoFit → NoFit → Type 0
-IsLate stuck no_fit.NoMemory = ⊤
-IsLate stuck (no_fit.Lookup header bytes) = ⊥
-IsLate stuck (no_fit.Step header extracts) = ⊥
-IsLate stuck (no_fit.Parser many) = ⊥
-IsLate stuck (no_fit.Action number field) = ⊥
-IsLate stuck (no_fit.Phv field class) = ⊥
-IsLate stuck (no_fit.Stage node hits) = stuck ≡ Some (no_fit.Stage node hits)
-IsLate stuck (no_fit.Load node members cells) = stuck ≡ None

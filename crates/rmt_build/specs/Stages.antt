@@ -1,24 +1,32 @@
 -- Stages that are put together by a plan.
-use Rattle.std.specs.Prelude.{◌≡◌, ◌<◌, ◌≤◌, ◌*◌, ℕ, List, true, Ok, All, length, slice_index}
+use Rattle.std.specs.Prelude.{◌≡◌, ◌<◌, ◌≤◌, ◌*◌, ℕ, List, true, All, AllPairs, length, slice_index}
+use Rattle.rmt_bits.specs.declared.lane.Lane.{Lane}
 use Rattle.rmt_build.specs.Types.{Program, Stage}
 use Rattle.rmt_ast.specs.declared.entry.Entry.{Entry}
 use Rattle.rmt_ast.specs.WellFormed.{AllNumbered}
-use Rattle.rmt_deps.specs.Edges.{dependencies_of}
 use Rattle.rmt_pack.specs.declared.placement.Part.{Part}
-use Rattle.rmt_place.specs.Needs.{demands_of, keeps_limits}
-use Rattle.rmt_place.specs.Placing.{placement, standing_in}
+use Rattle.rmt_place.specs.Needs.{demand_at, demands_of, keeps_limits}
+use Rattle.rmt_place.specs.Placing.{AreTwo, IsPart, standing_in}
 use Rattle.rmt_place.specs.Starting.{starts_of}
 use Rattle.rmt_refine.specs.Carries.{EdgesKept, all_edges}
 use Rattle.rmt_build.specs.declared.plan.Plan.{Plan}
 use Rattle.rmt_build.specs.BuiltStage.{IsBuiltStage}
 use Rattle.rmt_build.specs.Loads.{AreAllLoaded}
-use Rattle.rmt_pack.specs.Placements.{quanta_of}
+use Rattle.rmt_pack.specs.Placements.{Keeps, quanta_of}
 use Rattle.rmt_build.specs.Plans.{IsPlan, format_at}
 
--- a plan by the rules of placement and starts
-pub record IsPlanByRule (p : Program) (lists : List (List Entry)) (plan : Plan) : Type 0 where
+-- The parts of the nodes of a program whose fields have these places: they keep every edge, each stage keeps its limits, no two are of one node in
+-- one stage, and each node has exactly the quanta that it needs.
+pub record ArePlaced (p : Program) (places : List (List Lane)) (placed : List Part) : Type 0 where
+  pub keeps : All (λ e. All (λ a. All (Keeps e a) placed) placed) (all_edges p places)
+  pub limits : (k : ℕ) → k < 32 → keeps_limits (standing_in (demands_of p places) placed k) ≡ true
+  pub parts : All (IsPart (length p.nodes)) placed
+  pub apart : AllPairs AreTwo placed
+  pub quanta : (n : ℕ) → n < length p.nodes → quanta_of placed n ≡ (demand_at (demands_of p places) n).quanta
+
+-- a plan with such parts, whose stages start by the rule
+pub record IsPlanFor (p : Program) (lists : List (List Entry)) (plan : Plan) : Type 0 where
   pub is_plan : IsPlan p lists plan
-  pub placement : placement p plan.places (dependencies_of p plan.places) ≡ Ok plan.placement.parts
   pub starts : plan.starts ≡ starts_of (all_edges p plan.places) plan.placement.parts
   pub edges : EdgesKept (all_edges p plan.places) plan.placement.parts plan.starts
   pub limits : (k : ℕ) → k < 32 → keeps_limits (standing_in (demands_of p plan.places) plan.placement.parts k) ≡ true

@@ -155,7 +155,7 @@ fn write_exact(
     )?;
     let head = Head {
         occupied: true,
-        visible: 0,
+        visible: 3,
         code: placed.code,
     };
     write_cell(sram, shape, cell, head, key.as_slice());
@@ -171,7 +171,7 @@ fn put_head(bytes: &mut [u8], code: u8)
     ensures { (n : ℕ) → number_of bytes.old ≡ 2 ^ 8 * n → number_of bytes.new ≡ head_for code + 256 * n }
 {
     let behind = bytes.len() as u32 * 8 - 8;
-    bytes_of_bits(1 + 8 * code as u128, 8, bytes, behind);
+    bytes_of_bits(7 + 8 * code as u128, 8, bytes, behind);
 }
 
 /// A record of so many bits as bytes: a head, and then arguments of these widths side by side. The instruction has this number in the stage.

@@ -1,22 +1,25 @@
 //! The back end joined.
 
-ghost use Rattle.std.specs.Prelude.{◌≡◌, [], ◌≢◌, ◌<◌, ◌≤◌, ℕ, List, All, Some, None, Ok, Err, IfErr, IfOk, IsOkUnless, length, slice_index, true};
+ghost use Rattle.std.specs.Prelude.{◌≡◌, ◌≢◌, ◌<◌, ◌≤◌, ℕ, List, All, AllPairs, Some, None, Ok, Err, IfErr, IfOk, IsOkUnless, length, slice_index, true};
 ghost use Rattle.rmt_bits.specs.declared.lane.Lane.{Lane};
-ghost use Rattle.rmt_ast.specs.declared.program.Header.{Header};
 ghost use Rattle.rmt_ast.specs.EntryLists.{AreEntries};
+ghost use Rattle.rmt_ast.specs.NameRules.{CanBeNamed};
+ghost use Rattle.rmt_ast.specs.Naming.{names_of};
 ghost use Rattle.rmt_ast.specs.WellFormed.{IsProgram};
 ghost use Rattle.rmt_bounds.specs.Bounds.{stage_bound};
 ghost use Rattle.rmt_config.specs.declared.limits.LimitHit.{LimitHit};
 ghost use Rattle.rmt_config.specs.Agreement.{AgreesWith};
 ghost use Rattle.rmt_config.specs.Form.{Formed};
 ghost use Rattle.rmt_config.specs.Limits.{IsWithinLimits};
+ghost use Rattle.rmt_config.specs.NamesForm.{names_have_counts};
 ghost use Rattle.rmt_config.specs.declared.config.Stage.{Stage};
 ghost use Rattle.rmt_deps.specs.Edges.{dependencies_of, field_edges};
 ghost use Rattle.rmt_pack.specs.declared.placement.Part.{Part};
+ghost use Rattle.rmt_pack.specs.Placements.{Keeps, quanta_of};
 ghost use Rattle.rmt_phv.specs.Packing.{packing};
 ghost use Rattle.rmt_phv.specs.Places.{KeepsApart};
-ghost use Rattle.rmt_place.specs.Needs.{demands_of, keeps_limits};
-ghost use Rattle.rmt_place.specs.Placing.{placement as placement_by_rule, standing_in};
+ghost use Rattle.rmt_place.specs.Needs.{demand_at, demands_of, keeps_limits};
+ghost use Rattle.rmt_place.specs.Placing.{AreTwo, IsPart, placement as placement_by_rule, standing_in};
 ghost use Rattle.rmt_place.specs.Starting.{starts_of};
 ghost use Rattle.rmt_ptcam.specs.Clustering.{clustered, clustered_or};
 ghost use Rattle.rmt_ptcam.specs.Needs.{refusal};
@@ -24,11 +27,11 @@ ghost use Rattle.rmt_refine.specs.Carries.{Carries, all_edges};
 ghost use Rattle.rmt_refine.specs.Places.{PlacesCarried};
 ghost use Rattle.rmt_build.specs.Folds.{AreFoldings};
 ghost use Rattle.rmt_build.specs.BuiltStage.{IsBuiltStage};
-ghost use Rattle.rmt_build.specs.Loads.{AreNotLoaded, IsFirstSeed};
+ghost use Rattle.rmt_build.specs.Loads.{AreNotLoaded, IsFirstSeed, IsNotLoaded};
 ghost use Rattle.rmt_build.specs.Plans.{IsPlan};
 ghost use Rattle.rmt_build.specs.Promises.{HasBlocksInOrder, HasFormatOfRule, StandInRows};
-ghost use Rattle.rmt_build.specs.Refusals.{IsLate, first_refusal, stuck_told};
-ghost use Rattle.rmt_build.specs.Stages.{AreStagesOf, IsPlanByRule};
+ghost use Rattle.rmt_build.specs.Refusals.{first_refusal};
+ghost use Rattle.rmt_build.specs.Stages.{ArePlaced, AreStagesOf, IsPlanFor};
 ghost use Rattle.rmt_build.specs.Told.{cells_told};
 
 use crate::built::Built;
@@ -42,15 +45,19 @@ use crate::listing::{sram_rows, tcam_rows};
 use crate::loading::load_all;
 use crate::numbers::cells_of;
 use crate::plan::{Plan, PlannedStage};
+use crate::short::names_have_counts;
 use crate::tcam::TcamRows;
 use crate::units::units_of;
 use rmt_ast::deps::Deps;
 use rmt_ast::entry::EntryLists;
+use rmt_ast::names::Names;
+use rmt_ast::naming::names_of;
 use rmt_ast::program::Program;
 use rmt_bits::sequence::Sequence;
 use rmt_bounds::find::bound;
 use rmt_config::config::{Config, ParserConfig, Stage};
 use rmt_deps::dependencies;
+use rmt_pack::placement::Placement;
 use rmt_pack::rows::Rows;
 use rmt_phv::pack_fields;
 use rmt_phv::places::Places;
@@ -60,29 +67,28 @@ use rmt_refine::map::Map;
 use rmt_vliw::folded::Folded;
 use std::alloc::{AllocError, Global};
 
-/// A program with its entries as the chip holds them: the configuration, the map of where everything stands in it, and a
-/// bound on the stages. Frames are parsed by the clustered parser, and exact tables are loaded under the first of the seeds 0
-/// to 7 under which all of them are.
+/// A program with its entries as the chip holds them: the configuration with their names, the map of where everything
+/// stands in it, and a bound on the stages. Frames are parsed by the clustered parser, and exact tables are loaded under
+/// the first of the seeds 0 to 7 under which all of them are. Each cell that holds an entry has both visible bits.
 ///
 /// # Errors
 ///
 /// The first of these that the program breaks: `Lookup` or `Step` of the first header that the parser can't take, `Parser`
 /// where it has too many entries, `Action` of the first action that is too deep, `Phv` of the first piece that no word
 /// serves, `Stage` of the first node that doesn't stand, `Load` where under no seed all exact tables are loaded. Else for
-/// want of memory.
+/// want of memory, which a name of 4 GiB or more is taken for.
 pub fn build(alloc: Global, program: &Program, entries: &EntryLists) -> Result<Built, NoFit>
     requires program { IsProgram program.now }
     requires entries { AreEntries program.now entries.now }
-    // An image tells tails together with names, which are not built yet.
-    requires no_tails { All (λ (h : Header). h.tail ≡ None) program.now.headers }
+    // An image can name it.
+    requires named { CanBeNamed program.now entries.now }
     // The configuration carries the program with its entries, as the map says.
     ensures carries { IfOk result (λ b. Carries program.now entries.now b.map b.config) }
     // It keeps the rules of form, and the limits of the chip.
     ensures formed { IfOk result (λ b. Formed b.config) }
     ensures limits { IfOk result (λ b. IsWithinLimits b.config) }
-    // So far it has neither names nor tails.
-    ensures no_names { IfOk result (λ b. b.config.names ≡ None) }
-    ensures no_tails { IfOk result (λ b. b.config.parser.tails ≡ []) }
+    // It has the names of the program with its entries.
+    ensures names { IfOk result (λ b. b.config.names ≡ Some (names_of program.now entries.now)) }
     // Fields are packed, frames parsed, nodes placed and stages started by their rules.
     ensures places { IfOk result (λ b. packing program.now ≡ Ok b.map.places) }
     ensures parser { IfOk result (λ b. clustered_or program.now b.map.places ≡ Ok b.config.parser) }
@@ -114,8 +120,90 @@ pub fn build(alloc: Global, program: &Program, entries: &EntryLists) -> Result<B
     let places = pack_fields(alloc, program)?;
     let parser = clustered_parser(alloc, program, &places)?;
     let deps = dependencies(alloc, program, &places)?;
-    let plan = plan_of(alloc, program, entries, folded, places, &deps)?;
+    let placement = place(alloc, program, &places, &deps)?;
+    let plan = plan_of(alloc, program, entries, &deps, folded, places, placement)?;
     built_of(alloc, program, entries, &deps, plan, parser)
+}
+
+/// Builds a program with its entries as `build` does, but with this placement in place of the rule's.
+///
+/// # Errors
+///
+/// As of `build`, but never `Stage`.
+pub fn build_from(
+    alloc: Global,
+    program: &Program,
+    entries: &EntryLists,
+    placement: &Placement,
+) -> Result<Built, NoFit>
+    requires program { IsProgram program.now }
+    requires entries { AreEntries program.now entries.now }
+    // An image can name it.
+    requires named { CanBeNamed program.now entries.now }
+    // Each edge is kept by every part of its earlier node and every part of its later one.
+    requires keeps { (places : List (List Lane)) → packing program.now ≡ Ok places →
+        All (λ e. All (λ a. All (Keeps e a) placement.now.parts) placement.now.parts) (all_edges program.now places) }
+    // Each stage keeps its limits.
+    requires limits { (places : List (List Lane)) → packing program.now ≡ Ok places →
+        (stage : ℕ) → stage < 32 → keeps_limits (standing_in (demands_of program.now places) placement.now.parts stage) ≡ true }
+    // Each part is of a node of the program, stands in a stage of the chip, and has a quantum.
+    requires parts { All (IsPart (length program.now.nodes)) placement.now.parts }
+    // No two parts are of one node in one stage.
+    requires apart { AllPairs AreTwo placement.now.parts }
+    // Each node has exactly the quanta that it needs.
+    requires quanta { (places : List (List Lane)) → packing program.now ≡ Ok places →
+        (n : ℕ) → n < length program.now.nodes → quanta_of placement.now.parts n ≡ (demand_at (demands_of program.now places) n).quanta }
+    // The configuration carries the program with its entries, as the map says.
+    ensures carries { IfOk result (λ b. Carries program.now entries.now b.map b.config) }
+    // It keeps the rules of form, and the limits of the chip.
+    ensures formed { IfOk result (λ b. Formed b.config) }
+    ensures limits { IfOk result (λ b. IsWithinLimits b.config) }
+    // It has the names of the program with its entries.
+    ensures names { IfOk result (λ b. b.config.names ≡ Some (names_of program.now entries.now)) }
+    // Nodes are placed so; fields are packed, frames parsed and stages started by their rules.
+    ensures places { IfOk result (λ b. packing program.now ≡ Ok b.map.places) }
+    ensures parser { IfOk result (λ b. clustered_or program.now b.map.places ≡ Ok b.config.parser) }
+    ensures placement { IfOk result (λ b. b.map.placement.parts ≡ placement.now.parts) }
+    ensures starts { IfOk result (λ b. b.map.starts ≡ starts_of (all_edges program.now b.map.places) b.map.placement.parts) }
+    ensures bound { IfOk result (λ b. b.bound ≡ stage_bound program.now (field_edges program.now b.map.places)) }
+    // All exact tables are loaded under its seed, and under no lesser one.
+    ensures seed { IfOk result (λ b. IsFirstSeed program.now entries.now b.map.placement.parts b.config.seed) }
+    // Exact memories have the formats of the rule, blocks are numbered in the order of the units, and rows stand by rank.
+    ensures formats { IfOk result (λ b. All (λ (s : Stage). All (HasFormatOfRule program.now) s.units) b.config.stages) }
+    ensures blocks { IfOk result (λ b. All HasBlocksInOrder b.config.stages) }
+    ensures rows { IfOk result (λ b. StandInRows program.now entries.now b.map.placement.parts b.map.cells) }
+    // The first refusal before the nodes are placed, unless memory runs out.
+    ensures refused { (fault : NoFit) → first_refusal program.now ≡ Some fault → ((node : ℕ) (hits : List LimitHit) → fault ≢ NoFit.Stage node hits)
+        → result ≢ Err NoFit.NoMemory → result ≡ Err fault }
+    // No node is refused for its stages.
+    ensures no_stage { (node : ℕ) (hits : List LimitHit) → result ≢ Err (NoFit.Stage node hits) }
+    // Each other refusal has its cause.
+    ensures lookup { (header bytes : ℕ) → result ≡ Err (NoFit.Lookup header bytes) → first_refusal program.now ≡ Some (NoFit.Lookup header bytes) }
+    ensures step { (header extracts : ℕ) → result ≡ Err (NoFit.Step header extracts) → first_refusal program.now ≡ Some (NoFit.Step header extracts) }
+    ensures full { (many : ℕ) → result ≡ Err (NoFit.Parser many) → first_refusal program.now ≡ Some (NoFit.Parser many) }
+    ensures action { (number field : ℕ) → result ≡ Err (NoFit.Action number field) → first_refusal program.now ≡ Some (NoFit.Action number field) }
+    ensures phv { (field class : ℕ) → result ≡ Err (NoFit.Phv field class) → first_refusal program.now ≡ Some (NoFit.Phv field class) }
+    ensures load { (node members cells : ℕ) → result ≡ Err (NoFit.Load node members cells)
+        → AreNotLoaded program.now entries.now placement.now.parts node members cells }
+{
+    parser_need(program)?;
+    let folded = fold_all(alloc, program)?;
+    let places = pack_fields(alloc, program)?;
+    let parser = clustered_parser(alloc, program, &places)?;
+    let deps = dependencies(alloc, program, &places)?;
+    let same = copied(alloc, placement)?;
+    let plan = plan_of(alloc, program, entries, &deps, folded, places, same)?;
+    built_of(alloc, program, entries, &deps, plan, parser)
+}
+
+/// A placement with the same parts.
+fn copied(alloc: Global, placement: &Placement) -> Result<Placement, AllocError>
+    ensures { IfOk result (λ same. same.parts ≡ placement.now.parts) }
+{
+    let parts = Vec::from_slice(alloc, placement.parts.as_slice())?;
+    Ok(Placement {
+        parts: Sequence::from_vec(parts),
+    })
 }
 
 /// A program that is planned, with its parser, as the chip holds it.
@@ -129,8 +217,8 @@ fn built_of(
 ) -> Result<Built, NoFit>
     requires program { IsProgram program.now }
     requires entries { AreEntries program.now entries.now }
-    requires no_tails { All (λ (h : Header). h.tail ≡ None) program.now.headers }
-    requires plan { IsPlanByRule program.now entries.now plan }
+    requires named { CanBeNamed program.now entries.now }
+    requires plan { IsPlanFor program.now entries.now plan }
     requires seed { IsFirstSeed program.now entries.now plan.placement.parts plan.seed }
     requires fits { refusal program.now ≡ None }
     requires parser { parser ≡ clustered program.now plan.places }
@@ -139,8 +227,7 @@ fn built_of(
     ensures carries { IfOk result (λ b. Carries program.now entries.now b.map b.config) }
     ensures formed { IfOk result (λ b. Formed b.config) }
     ensures limits { IfOk result (λ b. IsWithinLimits b.config) }
-    ensures no_names { IfOk result (λ b. b.config.names ≡ None) }
-    ensures no_tails { IfOk result (λ b. b.config.parser.tails ≡ []) }
+    ensures names { IfOk result (λ b. b.config.names ≡ Some (names_of program.now entries.now)) }
     ensures places { IfOk result (λ b. b.map.places ≡ plan.places) }
     ensures parser { IfOk result (λ b. b.config.parser ≡ parser) }
     ensures placement { IfOk result (λ b. b.map.placement ≡ plan.placement) }
@@ -154,35 +241,35 @@ fn built_of(
 {
     let stages = stages_of(alloc, program, entries, &plan)?;
     let bound = bound(alloc, program, deps)?;
-    let config = config_of(alloc, program, &plan, parser, stages)?;
+    let names = told_names(alloc, program, entries)?;
+    let config = config_of(alloc, program, &plan, parser, stages, names)?;
     let map = map_of(alloc, program, plan, &config)?;
     Ok(Built { config, map, bound })
 }
 
-/// Where everything is to stand.
+/// Where everything is to stand, with the nodes placed so.
 fn plan_of(
     alloc: Global,
     program: &Program,
     entries: &EntryLists,
+    deps: &Deps,
     folded: Sequence<Folded>,
     places: Places,
-    deps: &Deps,
+    placement: Placement,
 ) -> Result<Plan, NoFit>
     requires program { IsProgram program.now }
     requires entries { AreEntries program.now entries.now }
+    requires deps { deps.now ≡ dependencies_of program.now places }
     requires folded { AreFoldings program.now folded }
     requires places { KeepsApart program.now places }
-    requires deps { deps.now ≡ dependencies_of program.now places }
-    ensures plan { IfOk result (IsPlanByRule program.now entries.now) }
+    requires placed { ArePlaced program.now places placement.parts }
+    ensures plan { IfOk result (IsPlanFor program.now entries.now) }
     ensures seed { IfOk result (λ plan. IsFirstSeed program.now entries.now plan.placement.parts plan.seed) }
     ensures places { IfOk result (λ plan. plan.places ≡ places) }
-    ensures late { IfErr result (IsLate (stuck_told (placement_by_rule program.now places deps.now))) }
-    ensures stage { (node : ℕ) (hits : List LimitHit) → result ≡ Err (NoFit.Stage node hits) →
-        stuck_told (placement_by_rule program.now places deps.now) ≡ Some (NoFit.Stage node hits) }
-    ensures load { (node members cells : ℕ) (parts : List Part) → result ≡ Err (NoFit.Load node members cells)
-        → placement_by_rule program.now places deps.now ≡ Ok parts → AreNotLoaded program.now entries.now parts node members cells }
+    ensures placement { IfOk result (λ plan. plan.placement ≡ placement) }
+    ensures refused { IfErr result (IsNotLoaded program.now entries.now placement.parts) }
+    ensures load { (node members cells : ℕ) → result ≡ Err (NoFit.Load node members cells) → AreNotLoaded program.now entries.now placement.parts node members cells }
 {
-    let placement = place(alloc, program, &places, deps)?;
     let starts = offsets(alloc, &placement, deps)?;
     let formats = formats_of(alloc, program)?;
     let parts = placement.parts.as_slice();
@@ -247,7 +334,7 @@ fn stages_of(
 ) -> Result<Sequence<Stage>, NoFit>
     requires program { IsProgram program.now }
     requires entries { AreEntries program.now entries.now }
-    requires plan { IsPlanByRule program.now entries.now plan.now }
+    requires plan { IsPlanFor program.now entries.now plan.now }
     ensures stages { IfOk result (AreStagesOf program.now entries.now plan.now) }
     ensures memory { IsOkUnless result NoFit.NoMemory }
 {
@@ -260,13 +347,33 @@ fn stages_of(
     Ok(stages)
 }
 
-/// The configuration with these stages and this parser.
+/// The names of a program with its entries, as an image can tell them.
+///
+/// # Errors
+///
+/// For want of memory. A name of 4 GiB or more, whose length no image can tell, is refused as one that wants too much
+/// of it.
+fn told_names(alloc: Global, program: &Program, entries: &EntryLists) -> Result<Names, NoFit>
+    requires program { IsProgram program.now }
+    ensures names { IfOk result (λ names. names ≡ names_of program.now entries.now) }
+    ensures counts { IfOk result (λ names. names_have_counts names ≡ true) }
+    ensures memory { IsOkUnless result NoFit.NoMemory }
+{
+    let names = names_of(alloc, program, entries)?;
+    if !names_have_counts(&names) {
+        return Err(NoFit::NoMemory);
+    }
+    Ok(names)
+}
+
+/// The configuration with these stages, this parser and these names.
 fn config_of(
     alloc: Global,
     program: &Program,
     plan: &Plan,
     parser: ParserConfig,
     stages: Sequence<Stage>,
+    names: Names,
 ) -> Result<Config, AllocError>
     requires program { IsProgram program.now }
     requires places { KeepsApart program.now plan.now.places }
@@ -274,7 +381,7 @@ fn config_of(
     ensures seed { IfOk result (λ config. config.seed ≡ plan.now.seed) }
     ensures parser { IfOk result (λ config. config.parser ≡ parser) }
     ensures stages { IfOk result (λ config. config.stages ≡ stages) }
-    ensures names { IfOk result (λ config. config.names ≡ None) }
+    ensures names { IfOk result (λ config. config.names ≡ Some names) }
 {
     let headers = out_headers(alloc, program, &plan.places)?;
     Ok(Config {
@@ -285,7 +392,7 @@ fn config_of(
         headers,
         parser,
         stages,
-        names: None,
+        names: Some(names),
     })
 }
 

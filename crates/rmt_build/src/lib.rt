@@ -17,9 +17,10 @@ mod memory;
 mod numbers;
 mod parts;
 mod plan;
+mod short;
 mod stands;
 mod tcam;
 mod units;
 mod words;
 
-pub use joined::build;
+pub use joined::{build, build_from};

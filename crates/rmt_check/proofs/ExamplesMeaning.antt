@@ -1,5 +1,6 @@
 -- The program that the small text means.
 use Rattle.std.proofs.Common.{◌≡◌, [], ◌∷◌, ℕ, List, codes, false, None, Some, map, refl}
+use Rattle.std.proofs.lemmas.List.Sums.{AllPass-from_list_all}
 use Rattle.rmt_check.specs.Parts.{Field, Header, Tail, Case, Test, Action, Assign, Table, Node, Guard}
 use Rattle.rmt_ast.specs.declared.program.Target.TheVariants as to
 use Rattle.rmt_ast.specs.declared.program.Expr.TheVariants.{One, Two}
@@ -7,6 +8,8 @@ use Rattle.rmt_ast.specs.declared.program.Leaf.TheVariants as leaf
 use Rattle.rmt_ast.specs.declared.program.Op.TheVariants.{Add}
 use Rattle.rmt_ast.specs.declared.program.Kind.TheVariants.{Exact}
 use Rattle.rmt_ast.specs.declared.program.What.TheVariants.{Apply, Gate}
+use Rattle.rmt_ast.specs.NameForm.{is_name}
+use Rattle.rmt_check.specs.NamedTexts.{HasNameForms, name_bytes}
 use Rattle.rmt_check.specs.Rules.{fault_of}
 use Rattle.rmt_check.specs.Meaning.{program_of}
 use Rattle.rmt_check.proofs.ExampleText.{header_g, header_o, text}
@@ -68,3 +71,13 @@ tail_of_text = refl
 
 tables_of_text : (program_of text).tables ≡ table ∷ []
 tables_of_text = refl
+
+-- `t`, `set` and `hop`: names as an image may have them, of 7 bytes
+names_of_text : HasNameForms (program_of text)
+names_of_text = record {
+  tables = AllPass-from_list_all (λ (t : Table). is_name t.name) (program_of text).tables refl;
+  actions = AllPass-from_list_all (λ (a : Action). is_name a.name) (program_of text).actions refl;
+}
+
+bytes_of_names : map (name_bytes (program_of text)) (program_of text).tables ≡ 7 ∷ []
+bytes_of_names = refl

@@ -4,6 +4,7 @@ pub mod Names
 pub mod Rules
 pub mod Meaning
 pub mod Means
+pub mod NamedTexts
 pub mod Sizes
 pub mod StoredFields
 pub mod Found

@@ -7,6 +7,7 @@ ghost use Rattle.rmt_syntax.specs.Trees.{IsOf, IsText, IsTreeOf, marks};
 ghost use Rattle.rmt_check.specs.Found.{IsFound};
 ghost use Rattle.rmt_check.specs.Meaning.{program_of, Answers};
 ghost use Rattle.rmt_check.specs.Means.{Means, Outcome};
+ghost use Rattle.rmt_check.specs.NamedTexts.{HasNameForms, IsShortFor};
 ghost use Rattle.rmt_check.specs.Naming.{IsOfText, WordsArePlain};
 ghost use Rattle.rmt_check.specs.Reading.{parts, source_of};
 ghost use Rattle.rmt_check.specs.Rules.{fault_of};
@@ -44,13 +45,26 @@ pub fn answer_is_well_formed()
     source_is_of_text();
 }
 
-/// Each text has exactly one meaning, however long it is, and a program that it means is well formed.
+/// The names of the tables and actions of a text are names as an image may have them.
+pub fn text_has_names()
+    ensures { (text : List ℕ) (tokens : List Token) (t : Tree) → tokens_of text ≡ Ok tokens → IsTreeOf tokens t → HasNameForms (program_of (source_of t)) }
+{
+    node_parts();
+    token_part();
+}
+
+/// Each text has exactly one meaning, however long it is. A program that it means is well formed and has names that an image
+/// may have; and the names of its tables and of the actions in their lists, each action in every list that names it, are
+/// together no longer than the text.
 pub fn one_meaning()
     ensures some { (text : List ℕ) → (m : Outcome) × Means text m }
     ensures alone { (text : List ℕ) (m n : Outcome) → Means text m → Means text n → m ≡ n }
     ensures formed { (text : List ℕ) (p : Program) → Means text (Ok p) → IsProgram p }
+    ensures named { (text : List ℕ) (p : Program) → Means text (Ok p) → HasNameForms p }
+    ensures short { (text : List ℕ) (p : Program) → Means text (Ok p) → IsShortFor text p }
 {
     tokens_or_fault();
     tree_or_fault();
     answer_is_well_formed();
+    text_has_names();
 }

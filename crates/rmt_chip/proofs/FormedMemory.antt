@@ -1,6 +1,7 @@
 -- What the rules of form say of the memory of a slot.
-use Rattle.std.proofs.Common.{◌≡◌, ℕ, ◌+◌, ◌*◌, ◌^◌, ◌<◌, List, [], ◌∷◌, length, get_or, true, refl, ap, ◌∙◌, subst, arith}
+use Rattle.std.proofs.Common.{◌≡◌, ℕ, ◌+◌, ◌*◌, ◌^◌, ◌<◌, List, [], length, get_or, true, refl, ap, ◌∙◌, subst, arith}
 use Rattle.std.proofs.lemmas.Bool.{and_parts, eqb-true, ltb-true}
+use Rattle.std.proofs.lemmas.List.{nil_from_length}
 use Rattle.rmt_chip.specs.Types.{Stage, SlotUnit, Memory}
 use Rattle.rmt_config.specs.declared.config.Memory.TheVariants.{Without, Exact, Ternary}
 use Rattle.rmt_config.specs.LaneForm.{bits_of_lanes}
@@ -48,15 +49,11 @@ module _ (stage : Stage) (s : SlotUnit) (formed : SlotFormed stage s) where
 
   -- a slot without memory has no key, no data and no cells
   module _ (e : s.memory ≡ Without) where
-    no_items : {X : Type 0} (xs : List X) → length xs ≡ 0 → xs ≡ []
-    no_items [] z = refl
-    no_items (x ∷ xs) z = absurd (omega (arith, z))
-
     pub without-cells : s.numbers ≡ []
     without-cells = without-numbers s (memory Without e)
 
     pub without-key : divided_up (bits_of_lanes s.keys) 8 ≡ 0
-    without-key = ap (λ ls. divided_up (bits_of_lanes ls) 8) (no_items s.keys (eqb-true (length s.keys) 0 (and_parts _ _ (and_parts _ _ (memory Without e)).0).1))
+    without-key = ap (λ ls. divided_up (bits_of_lanes ls) 8) (nil_from_length s.keys (eqb-true (length s.keys) 0 (and_parts _ _ (and_parts _ _ (memory Without e)).0).1))
 
     pub without-held : divided_up s.held 8 ≡ 0
     without-held = ap (λ h. divided_up h 8) (eqb-true s.held 0 (and_parts _ _ (and_parts _ _ (and_parts _ _ (memory Without e)).0).0).1)

@@ -1,5 +1,5 @@
 -- The chip can run each configuration that keeps the rules of form of its items and the limits.
-use Rattle.std.proofs.Common.{◌≡◌, ℕ, zero, suc, ◌+◌, ◌-◌, ◌*◌, ◌^◌, ◌<◌, ◌≤◌, Bool, true, ◌&&◌, ltb, leb, eqb, List, [], ◌∷◌, length, get_or, map, Some, None, lit<, ap, refl, inl, inr, arith}
+use Rattle.std.proofs.Common.{◌≡◌, ℕ, zero, suc, ◌+◌, ◌-◌, ◌*◌, ◌^◌, ◌<◌, ◌≤◌, Bool, true, ◌&&◌, ltb, leb, eqb, List, [], ◌∷◌, length, get_or, map, Some, None, lit<, refl, inl, inr, arith}
 use Rattle.std.specs.Prelude.{IsTrue, IfSome, Option, count_by, slice_get, slice_index}
 use Rattle.std.specs.List.{list_all, AllByRecursion}
 use Rattle.std.specs.List.Sorted.{IsNonDecreasingBy}

@@ -9,36 +9,18 @@ use Rattle.rmt_bits.proofs.AllLaws.{All-left, All-right, All-unmap}
 use Rattle.rmt_chip.specs.Types.{Config, Stage, TcamRow, Unit as ChipUnit, SlotUnit, Memory}
 use Rattle.rmt_config.specs.declared.config.Unit.TheVariants.{Gate, Slot}
 use Rattle.rmt_config.specs.declared.config.Memory.TheVariants.{Without, Exact, Ternary}
-use Rattle.rmt_config.specs.Order.{each_between}
 use Rattle.rmt_config.specs.UnitForm.{slot_head_is_formed, memory_is_formed, unit_is_formed}
 use Rattle.rmt_config.specs.StageForm.{trow_fits, stage_is_formed, rows_are_formed}
-use Rattle.rmt_config.specs.TableForm.{Placed, placed_from, placed_units, ways_follow, unit_stands}
+use Rattle.rmt_config.specs.TableForm.{Placed, placed_from, placed_units}
 use Rattle.rmt_config.specs.CellForm.{SlotHolds, StageHolds, Coded, coded_from}
 use Rattle.rmt_config.specs.MemoryRules.{FormedRows}
 use Rattle.rmt_config.specs.Form.{Formed, visible_with}
 use Rattle.rmt_config.proofs.SlotLaws.{formed-rows}
 use Rattle.rmt_config.proofs.CountsLemmas.{stages_of_items}
 use Rattle.rmt_chip.specs.Memories.{WaysFit, UnitFormed}
+use Rattle.rmt_config.proofs.SpelledWays.{Follows, FollowsAt, each-follows}
 
 -- ---- the ways of a part are numbered behind those of the parts before it
-
-record FollowsAt (m : Memory) : Type 0 where
-  parts : ℕ
-  follow : ways_follow parts m ≡ true
-
-abbrev Follows : ChipUnit → Type 0
-Follows (Gate g) = Unit {0}
-Follows (Slot s) = FollowsAt s.memory
-
-follows-of : (before behind : List Placed) (stage : ℕ) (u : ChipUnit) → unit_stands before (record { stage = stage; unit = u }) behind ≡ true → Follows u
-follows-of before behind stage (Gate g) h = tt
-follows-of before behind stage (Slot s) h = record { parts = _; follow = (and_parts _ _ (and_parts _ _ (and_parts _ _ h).1).0).1 }
-
-each-follows : (before xs : List Placed) → each_between unit_stands before xs ≡ true → All (λ (x : Placed). Follows x.unit) xs
-each-follows before [] h = λ k d lt. absurd (omega (arith, lt))
-each-follows before (x ∷ xs) h =
-    let parts = and_parts (unit_stands before x xs) (each_between unit_stands (x ∷ before) xs) h in
-    All-cons (λ (y : Placed). Follows y.unit) x xs (follows-of before xs x.stage x.unit parts.0) (each-follows (x ∷ before) xs parts.1)
 
 ways-fit : (s : SlotUnit) (m : Memory) → FollowsAt m → memory_is_formed s m ≡ true → WaysFit m
 ways-fit s Without at h = tt

@@ -1,11 +1,10 @@
 -- What is found in a memory laid out is what the look-up finds.
 use Rattle.std.proofs.Common.{◌≡◌, ℕ, ◌+◌, ◌-◌, ◌*◌, ◌/◌, ◌%◌, ◌^◌, ◌<◌, ◌≤◌, List, length, get_or, take, drop, Bool, true, eqb, Option, Some, None, sym, refl, ap, ◌∙◌, subst, arith}
-use Rattle.std.specs.Prelude.{bit_and, find, option_map, slice_get, IsSomeAnd, IfSome}
+use Rattle.std.specs.Prelude.{bit_and, find, option_map, IsSomeAnd, IfSome}
 use Rattle.std.specs.List.{range_with_len}
 use Rattle.std.proofs.lemmas.Bool.{and_parts, and_from, eqb-true, eq-eqb}
-use Rattle.std.proofs.lemmas.List.{length-map, length-take}
+use Rattle.std.proofs.lemmas.List.{get_or-map, length-map, length-take}
 use Rattle.std.proofs.lemmas.Nat.{mod_below, mul-le, pow-add, pow_pos, and_le_l, shr_below}
-use Rattle.std.proofs.lemmas.Option.{slice_get-get_or, slice_get-map}
 use Rattle.rmt_bits.specs.Bits.{bytes_of, number_of}
 use Rattle.rmt_bits.specs.Hash.{hash_row}
 use Rattle.rmt_bits.proofs.BitLaws.{slice-lt}
@@ -25,17 +24,15 @@ use Rattle.rmt_config.proofs.CellLayouts.{up-enough}
 use Rattle.rmt_config.proofs.SlotLaws.{exact-fits, ternary-fits}
 use Rattle.rmt_chip.specs.declared.memory.SlotMemory.{SlotMemory}
 use Rattle.rmt_chip.specs.declared.memory.Keys.{Keys}
-use Rattle.rmt_chip.specs.declared.memory.Keys.TheVariants.{Nothing, ByRow, ByMask}
+use Rattle.rmt_chip.specs.declared.memory.Keys.TheVariants.{Nothing, ByRow, InVectors}
 use Rattle.rmt_chip.specs.declared.memory.ways.ExactMemory.{ExactMemory}
 use Rattle.rmt_chip.specs.Laying.{SplitsAt}
 use Rattle.rmt_chip.specs.Searching.{FirstIn, HasRun, run_of, row_among, FirstInWay, FirstByWays}
-use Rattle.rmt_bits.specs.declared.groups.Group.{Group}
-use Rattle.rmt_bits.specs.Grouping.{best_of, AreGrouped}
-use Rattle.rmt_chip.specs.Grouping.{Has, words_of, words_of_key, masked, place_for}
-use Rattle.rmt_chip.specs.Memories.{SlotFormed, Lays, ExactLays, KeysLay, Places, PlacesIn, compared_of, compared_in}
+use Rattle.rmt_chip.specs.KeyWords.{Has, words_of, words_of_key, masked}
+use Rattle.rmt_chip.specs.Slicing.{HasRow}
+use Rattle.rmt_chip.specs.Memories.{SlotFormed, Lays, ExactLays, KeysLay, Places, PlacesIn, compared_of, rows_in}
 use Rattle.rmt_chip.proofs.WordLaws.{key-words, wider, masked-words, same-words}
-use Rattle.rmt_chip.proofs.BestLaws.{HasAt, best-first}
-use Rattle.rmt_chip.proofs.RowLaws.{mul-more}
+use Rattle.rmt_config.proofs.SpelledBytes.{mul-more}
 use Rattle.rmt_chip.proofs.RunLaws.{run-is}
 use Rattle.rmt_chip.proofs.RangeLaws.{cell_at, nowhere, range-find, find-parts_none, find-parts_some}
 use Rattle.rmt_chip.proofs.CellLaws.{cells-rise, cell-below, cell-seen, found-listed, has-same, same-has}
@@ -164,7 +161,6 @@ module _ (seed : ℕ) (stage : Stage) (s0 : SlotUnit) (k p d w : ℕ) (ks rs cs 
 -- ---- a ternary part
 
 module _ (seed : ℕ) (stage : Stage) (s0 : SlotUnit) (d : ℕ) (ks rs cs : List ℕ) (formed : SlotFormed stage (record s0 { memory = Ternary d ks rs cs }))
-    (groups : List Group) (grouped : AreGrouped (compared_in stage (record s0 { memory = Ternary d ks rs cs })) groups)
     (key : List ℕ) (within : number_of key < 2 ^ bits_of_lanes s0.keys) where
   abbrev t : SlotUnit
   t = record s0 { memory = Ternary d ks rs cs }
@@ -214,18 +210,16 @@ module _ (seed : ℕ) (stage : Stage) (s0 : SlotUnit) (d : ℕ) (ks rs cs : List
       let wide = wider (number_of key) (bits_of_lanes s0.keys) (40 * width) t-enough within in
       omega (arith, le, wide)
 
-  row-at : (j : ℕ) → j < length t.numbers → slice_get (compared_in stage t) j ≡ Some (compared_of width (held (cell_at t.numbers j)))
-  row-at j lt =
-      slice_get-map (λ (c : CellNumber). compared_of width (held c.cell)) t.numbers j
-      ∙ ap (option_map (λ (c : CellNumber). compared_of width (held c.cell))) (slice_get-get_or t.numbers j nowhere lt)
+  row-at : (j : ℕ) → j < length t.numbers → get_or (rows_in stage t) j None ≡ Some (compared_of width (held (cell_at t.numbers j)))
+  row-at j lt = get_or-map (λ (c : CellNumber). Some (compared_of width (held c.cell))) t.numbers j nowhere None lt
 
-  t-holds : (j : ℕ) → j < length t.numbers → has (cell_at t.numbers j) ≡ true → HasAt words (compared_in stage t) groups grouped j
+  t-holds : (j : ℕ) → j < length t.numbers → has (cell_at t.numbers j) ≡ true → HasRow words (rows_in stage t) j
   t-holds j lt found =
       let c = held (cell_at t.numbers j) in
       let same = eqb-true (bit_and (number_of key) c.mask) c.key (and_parts (is_seen c.head) _ found).1 in
       subst (λ o. IsSomeAnd o (Has words)) (sym (row-at j lt)) (masked-is (cell_at t.numbers j) ∙ ap (words_of width) same)
 
-  t-passes : (j : ℕ) → j < length t.numbers → HasAt words (compared_in stage t) groups grouped j → has (cell_at t.numbers j) ≡ true
+  t-passes : (j : ℕ) → j < length t.numbers → HasRow words (rows_in stage t) j → has (cell_at t.numbers j) ≡ true
   t-passes j lt at =
       let cell = cell_at t.numbers j in
       let c = held cell in
@@ -233,22 +227,26 @@ module _ (seed : ℕ) (stage : Stage) (s0 : SlotUnit) (d : ℕ) (ks rs cs : List
       let same = same-words width (bit_and (number_of key) c.mask) c.key (left-small cell) (t-key-small cell) (sym (masked-is cell) ∙ words_are) in
       and_from (is_seen c.head) (eqb (bit_and (number_of key) c.mask) c.key) (cell-seen stage formed.first t formed.holds j lt) (eq-eqb (bit_and (number_of key) c.mask) c.key same)
 
-  t-rows : length (compared_in stage t) ≡ length t.numbers
-  t-rows = length-map t.numbers (λ (c : CellNumber). compared_of width (held c.cell))
+  t-rows : length (rows_in stage t) ≡ length t.numbers
+  t-rows = length-map t.numbers (λ (c : CellNumber). Some (compared_of width (held c.cell)))
 
-  t-first : (found : Option ℕ) → found ≡ best_of (place_for words) groups None → FirstIn (HasAt words (compared_in stage t) groups grouped) 0 (length t.numbers) found
-  t-first found is = subst (λ e. FirstIn (HasAt words (compared_in stage t) groups grouped) 0 e found) t-rows (best-first words (compared_in stage t) groups grouped found is)
+  -- the first of the listed cells that has the key
+  abbrev IsFirstRow : Option ℕ → Type 0
+  IsFirstRow found = FirstIn (HasRow words (rows_in stage t)) 0 (length (rows_in stage t)) found
 
-  pub ternary-found : (found : Option ℕ) → found ≡ best_of (place_for words) groups None → FindsPlace seed stage t (number_of key) found
+  t-first : (found : Option ℕ) → IsFirstRow found → FirstIn (HasRow words (rows_in stage t)) 0 (length t.numbers) found
+  t-first found is = subst (λ e. FirstIn (HasRow words (rows_in stage t)) 0 e found) t-rows is
+
+  pub ternary-found : (found : Option ℕ) → IsFirstRow found → FindsPlace seed stage t (number_of key) found
   ternary-found found is =
-      range-find t.numbers (cells-rise stage formed.first t formed.holds) has (HasAt words (compared_in stage t) groups grouped) (2048 * d)
+      range-find t.numbers (cells-rise stage formed.first t formed.holds) has (HasRow words (rows_in stage t)) (2048 * d)
       (λ c lc at. found-listed stage formed.first t formed.holds (number_of key) c lc at) t-holds t-passes
       0 (2048 * d) 0 (length t.numbers) (omega arith)
       (record { within = omega arith; below = λ j z lt. absurd (omega (arith, lt)); above = λ j z le lt. omega arith })
       (record { within = omega arith; below = λ j z lt. (let low = cell-below stage formed.first t formed.holds j z lt in omega (arith, low)); above = λ j z le lt. absurd (omega (arith, le, lt)) })
       found (t-first found is)
 
-  pub ternary-within : (found : Option ℕ) → found ≡ best_of (place_for words) groups None → IfSome found (λ i. i < length t.numbers)
+  pub ternary-within : (found : Option ℕ) → IsFirstRow found → IfSome found (λ i. i < length t.numbers)
   ternary-within None is = tt
   ternary-within (Some i) is = (t-first (Some i) is).1
 
@@ -267,18 +265,18 @@ place-found seed stage s m key are lays size within found places = by s.memory m
         → IsPlace seed stage (record s { memory = mem }) (number_of key) found
     by Without Nothing formed lay none = record { finds = sym (ap (option_map (cell_at s.numbers)) none); within = subst (λ o. IfSome o (λ i. i < length s.numbers)) (sym none) tt }
     by Without (ByRow x) formed lay at = absurd lay
-    by Without (ByMask groups) formed lay at = absurd lay
+    by Without (InVectors v) formed lay at = absurd lay
     by (Exact k p d w ks rs cs) Nothing formed lay at = absurd lay
     by (Exact k p d w ks rs cs) (ByRow x) formed lay at = record {
       finds = exact-found seed stage s k p d w ks rs cs formed x lay key are (size ∙ lays.laid.key_bytes) within found at;
       within = exact-within seed stage s k p d w ks rs cs formed x lay key are (size ∙ lays.laid.key_bytes) within found at;
     }
-    by (Exact k p d w ks rs cs) (ByMask groups) formed lay at = absurd lay
+    by (Exact k p d w ks rs cs) (InVectors v) formed lay at = absurd lay
     by (Ternary d ks rs cs) Nothing formed lay at = absurd lay
     by (Ternary d ks rs cs) (ByRow x) formed lay at = absurd lay
-    by (Ternary d ks rs cs) (ByMask groups) formed lay at = record {
-      finds = ternary-found seed stage s d ks rs cs formed groups.items lay key within found at;
-      within = ternary-within seed stage s d ks rs cs formed groups.items lay key within found at;
+    by (Ternary d ks rs cs) (InVectors v) formed lay at = record {
+      finds = ternary-found seed stage s d ks rs cs formed key within found (at (rows_in stage (record s { memory = Ternary d ks rs cs })) lay);
+      within = ternary-within seed stage s d ks rs cs formed key within found (at (rows_in stage (record s { memory = Ternary d ks rs cs })) lay);
     }
 
 -- the data of a cell has no more bits than an entry holds

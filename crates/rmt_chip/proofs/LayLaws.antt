@@ -1,11 +1,11 @@
 -- What is read from the rows of a stage is what the cells of a slot hold.
-use Rattle.std.proofs.Common.{◌≡◌, ℕ, ◌+◌, ◌*◌, ◌/◌, ◌%◌, ◌^◌, ◌<◌, ◌≤◌, List, [], ◌∷◌, length, get_or, drop, map, true, sym, refl, ap, ◌∙◌, subst, arith}
+use Rattle.std.proofs.Common.{◌≡◌, ℕ, ◌+◌, ◌*◌, ◌/◌, ◌%◌, ◌^◌, ◌<◌, ◌≤◌, List, [], ◌∷◌, length, get_or, drop, map, true, Option, Some, sym, refl, ap, ◌∙◌, subst, arith}
 use Rattle.std.specs.Prelude.{All, Result, IfOk}
 use Rattle.std.proofs.lemmas.Result.{IfOk-weaker}
 use Rattle.std.proofs.lemmas.List.{length-take, length-drop}
 use Rattle.std.proofs.lemmas.List.Elements.{All-head, All-tail}
-use Rattle.std.proofs.lemmas.Nat.{shr_below, div_below, mul-le}
-use Rattle.std.proofs.Math.Nat.{mod-eq_of_lt, div-one}
+use Rattle.std.proofs.lemmas.Nat.{div_below, mul-le}
+use Rattle.std.proofs.Math.Nat.{div-one}
 use Rattle.rmt_bits.specs.Bits.{slice}
 use Rattle.rmt_bits.proofs.BitLaws.{slice-lt}
 use Rattle.rmt_chip.specs.Types.{SramRow, TcamRow, CellNumber}
@@ -20,18 +20,18 @@ use Rattle.rmt_config.proofs.HeldRows.{rows-agree}
 use Rattle.rmt_config.proofs.CellLayouts.{exact-entry, ternary-record}
 use Rattle.rmt_chip.specs.Laying.{entry_of, runs_of}
 use Rattle.rmt_bits.specs.Grouping.{Compared}
-use Rattle.rmt_chip.specs.Grouping.{words_of}
+use Rattle.rmt_chip.specs.KeyWords.{words_of}
 use Rattle.rmt_chip.specs.Comparing.{compared_at}
+use Rattle.rmt_chip.specs.Slicing.{RowFits}
 use Rattle.rmt_chip.specs.Memories.{compared_of}
 use Rattle.rmt_chip.proofs.RunLaws.{runs-same}
 use Rattle.rmt_chip.proofs.WordLaws.{words-unit}
+use Rattle.rmt_config.proofs.SpelledCandidates.{above-byte}
+use Rattle.rmt_chip.proofs.SliceLaws.{words-fit}
 
 -- the lowest byte of a number, and what is above it
 low-byte : (x : ℕ) → slice x 0 8 ≡ x % 256
 low-byte x = ap (λ n. n % 256) (div-one x)
-
-above-byte : (x bits : ℕ) → x < 2 ^ (bits + 8) → slice x 8 bits ≡ x / 256
-above-byte x bits lt = mod-eq_of_lt (shr_below x bits 8 lt)
 
 -- listed cells of a memory, by its ways
 pub cells-below : (numbers numbers' : List CellNumber) (count m : ℕ) → numbers' ≡ numbers → count ≡ m → All (λ (c : CellNumber). c.cell < m) numbers → All (λ (c : CellNumber). c.cell < count) numbers'
@@ -111,11 +111,22 @@ module _ (rows : List TcamRow) (ks : List ℕ) (d width : ℕ) (whole : length k
       let size : length blocks ≡ width = (let e = length-take width (drop (n / 2048 * width) ks) in let f = length-drop (n / 2048 * width) ks in omega (arith, e, f, there, next)) in
       sym (words-unit (tcam_row val rows) (n % 2048) blocks (within val small)) ∙ ap (λ c. words_of c (unit_row 40 (tcam_row val rows) (n % 2048) blocks)) size
 
+  -- what a listed row compares has its words
+  pub compared-fits : (n : ℕ) → n < 2048 * d → RowFits width (compared_at rows ks width n)
+  compared-fits n lt =
+      let blocks = blocks_at ks width (n / 2048) in
+      let mask = unit_row 40 (tcam_row (λ (r : TcamRow). r.mask) rows) (n % 2048) blocks in
+      let value = unit_row 40 (tcam_row (λ (r : TcamRow). r.value) rows) (n % 2048) blocks in
+      let same : compared_at rows ks width n ≡ record { masks = words_of width mask; values = words_of width value } =
+      ap (λ (ms : List ℕ). record { masks = ms; values = (compared_at rows ks width n).values }) (words-read (λ (r : TcamRow). r.mask) masks n lt)
+      ∙ ap (λ (vs : List ℕ). record { masks = words_of width mask; values = vs }) (words-read (λ (r : TcamRow). r.value) values n lt) in
+      subst (RowFits width) (sym same) (words-fit width mask value)
+
   -- what the listed rows compare
   pub compared-same : (numbers : List CellNumber) (content : ℕ → Content) → All (λ (c : CellNumber). c.cell < 2048 * d) numbers
       → ((n : ℕ) → (content n).mask ≡ unit_row 40 (tcam_row (λ (r : TcamRow). r.mask) rows) (n % 2048) (blocks_at ks width (n / 2048)))
       → ((n : ℕ) → (content n).key ≡ unit_row 40 (tcam_row (λ (r : TcamRow). r.value) rows) (n % 2048) (blocks_at ks width (n / 2048)))
-      → map (λ (c : CellNumber). compared_at rows ks width c.cell) numbers ≡ map (λ (c : CellNumber). compared_of width (content c.cell)) numbers
+      → map (λ (c : CellNumber). Some (compared_at rows ks width c.cell)) numbers ≡ map (λ (c : CellNumber). Some (compared_of width (content c.cell))) numbers
   compared-same [] content below mask key = refl
   compared-same (c ∷ cs) content below mask key =
       let n = c.cell in
@@ -126,5 +137,5 @@ module _ (rows : List TcamRow) (ks : List ℕ) (d width : ℕ) (whole : length k
       words-read (λ (r : TcamRow). r.value) values n lt ∙ ap (words_of width) (sym (key n)) in
       let head : compared_at rows ks width n ≡ compared_of width (content n) =
       ap (λ (ms : List ℕ). record { masks = ms; values = (compared_at rows ks width n).values }) m ∙ ap (λ (vs : List ℕ). record { masks = words_of width (content n).mask; values = vs }) v in
-      ap (λ (x : Compared). x ∷ map (λ (y : CellNumber). compared_at rows ks width y.cell) cs) head
-      ∙ ap (λ (xs : List Compared). compared_of width (content n) ∷ xs) (compared-same cs content (All-tail (λ (x : CellNumber). x.cell < 2048 * d) c cs below) mask key)
+      ap (λ (x : Compared). Some x ∷ map (λ (y : CellNumber). Some (compared_at rows ks width y.cell)) cs) head
+      ∙ ap (λ (xs : List (Option Compared)). Some (compared_of width (content n)) ∷ xs) (compared-same cs content (All-tail (λ (x : CellNumber). x.cell < 2048 * d) c cs below) mask key)

@@ -19,8 +19,9 @@ pub mod TailLaws
 mod RowLaws
 mod RunLaws
 mod WordLaws
+mod SliceLaws
 mod RangeLaws
-mod BestLaws
+mod PutLaws
 mod CellLaws
 mod FoundLaws
 mod LayLaws

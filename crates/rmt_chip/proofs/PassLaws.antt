@@ -22,7 +22,7 @@ use Rattle.rmt_chip.specs.Runnable.{start_of}
 use Rattle.rmt_chip.proofs.HeldLaws.{NoneAt, ready}
 use Rattle.rmt_chip.proofs.HoldsLaws.{holds_write, holds_write_none, holds_read, holds_read_none, holds_act, holds_act_none, holds_look, holds_look_none}
 use Rattle.rmt_chip.proofs.LifeLaws.{Rise, start_of-get}
-use Rattle.rmt_chip.proofs.RingLaws.{partly-from, next-from, done_more, done_le, pass_step, pass_end, pass_start, next_step, next_end, next_start}
+use Rattle.rmt_chip.proofs.RingLaws.{partly-from, next-from, done_more, done_le, pass_step, pass_end, next_step, next_end}
 
 back : (t : ℕ) → t ≡ t + 1 - 1
 back t = omega arith

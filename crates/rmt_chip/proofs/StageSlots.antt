@@ -1,16 +1,13 @@
 -- The slots of a formed configuration, stage by stage: their memory can be laid out, and its own look-ups look into them.
-use Rattle.std.proofs.Common.{◌≡◌, ℕ, get_or, subst}
-use Rattle.std.specs.Prelude.{All, Some, slice_get}
+use Rattle.std.proofs.Common.{◌≡◌, get_or, subst}
+use Rattle.std.specs.Prelude.{All}
 use Rattle.std.proofs.lemmas.Option.{get_or_from_slice_get}
 use Rattle.rmt_chip.specs.Types.{Config, Stage, Unit as ChipUnit}
 use Rattle.rmt_config.specs.declared.config.Unit.TheVariants.{Slot}
 use Rattle.rmt_config.specs.Form.{Formed}
-use Rattle.rmt_config.specs.ChipRun.{own_look}
 use Rattle.rmt_chip.specs.Memories.{UnitFormed}
-use Rattle.rmt_chip.specs.Memory.{LooksInto}
 use Rattle.rmt_chip.specs.StageMemories.{AllSlotsFormed}
 use Rattle.rmt_chip.proofs.FormedSlots.{formed-slots}
-use Rattle.rmt_chip.proofs.ReadingLaws.{own_looks}
 use Rattle.rmt_chip.proofs.StageMemoriesLaws.{place_below}
 
 pub slots_formed : (c : Config) → Formed c → AllSlotsFormed c.stages

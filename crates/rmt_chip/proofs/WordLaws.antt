@@ -1,17 +1,16 @@
 -- Keys and rows in words of 40 bits.
-use Rattle.std.proofs.Common.{◌≡◌, ℕ, zero, suc, ◌+◌, ◌-◌, ◌*◌, ◌/◌, ◌%◌, ◌^◌, ◌<◌, ◌≤◌, min, List, [], ◌∷◌, length, get_or, take, map, sym, refl, ap, ◌∙◌, subst, arith, inl, inr}
+use Rattle.std.proofs.Common.{◌≡◌, ℕ, zero, suc, ◌+◌, ◌-◌, ◌*◌, ◌/◌, ◌%◌, ◌^◌, ◌<◌, ◌≤◌, min, List, [], ◌∷◌, length, get_or, map, sym, refl, ap, ◌∙◌, subst, arith, inl, inr}
 use Rattle.std.specs.Prelude.{bit_and}
 use Rattle.std.proofs.lemmas.Bool.{cases_lt}
 use Rattle.std.proofs.lemmas.Grind.{same_number_lists}
-use Rattle.std.proofs.lemmas.List.{length-take, get_or-take}
 use Rattle.std.proofs.lemmas.Nat.{shr_below, shr-shr, pow_pos, pow-add, div-add-mod', and_mod, and_shr, mod-mul-add, div-mul-add}
 use Rattle.std.proofs.Math.Nat.{mod-eq_of_lt, div-one}
 use Rattle.rmt_bits.specs.Bits.{slice, number_of}
 use Rattle.rmt_bits.proofs.ByteLaws.{AreBytes, number_of-lt}
 use Rattle.rmt_config.specs.Cells.{Blocks, unit_row}
 use Rattle.rmt_config.proofs.UnitBits.{Within}
-use Rattle.rmt_chip.specs.Grouping.{words_of, words_of_key, masked}
-use Rattle.rmt_chip.proofs.RowLaws.{mul-more}
+use Rattle.rmt_chip.specs.KeyWords.{words_of, words_of_key, masked}
+use Rattle.rmt_config.proofs.SpelledBytes.{mul-more}
 
 -- ---- a word of bytes
 
@@ -67,24 +66,16 @@ pub key-words : (n : ℕ) → words_of_key n ≡ words_of 16 n
 unfolding words_of_key
 key-words n = refl
 
-length-masked : (masks words : List ℕ) → length (masked masks words) ≡ min (length masks) (length words)
+pub length-masked : (masks words : List ℕ) → length (masked masks words) ≡ min (length masks) (length words)
 length-masked [] words = omega arith
 length-masked (m ∷ ms) [] = omega arith
 length-masked (m ∷ ms) (k ∷ ks) = let rest = length-masked ms ks in omega (arith, rest)
 
-masked-at : (masks words : List ℕ) (k : ℕ) → k < length masks → k < length words → get_or (masked masks words) k 0 ≡ bit_and (get_or words k 0) (get_or masks k 0)
+pub masked-at : (masks words : List ℕ) (k : ℕ) → k < length masks → k < length words → get_or (masked masks words) k 0 ≡ bit_and (get_or words k 0) (get_or masks k 0)
 masked-at [] words k lm lw = absurd (omega (arith, lm))
 masked-at (m ∷ ms) [] k lm lw = absurd (omega (arith, lw))
 masked-at (m ∷ ms) (w ∷ ws) zero lm lw = refl
 masked-at (m ∷ ms) (w ∷ ws) (suc k) lm lw = masked-at ms ws k (omega (arith, lm)) (omega (arith, lw))
-
-pub masked-from_each : (masks words wanted : List ℕ) (count : ℕ) → count ≡ min (length masks) (length words) → count ≤ length wanted
-    → ((k : ℕ) → k < count → get_or wanted k 0 ≡ bit_and (get_or words k 0) (get_or masks k 0)) → take count wanted ≡ masked masks words
-masked-from_each masks words wanted count is room each =
-    let all = length-masked masks words in
-    let size : length (take count wanted) ≡ count = (let e = length-take count wanted in omega (arith, e, room)) in
-    same_number_lists (take count wanted) (masked masks words) (omega (arith, size, all, is))
-    (λ k lt. get_or-take count wanted k 0 (omega (arith, lt, size)) ∙ each k (omega (arith, lt, size)) ∙ sym (masked-at masks words k (omega (arith, lt, size, is)) (omega (arith, lt, size, is))))
 
 -- a key that masks leave, where the key has at least as many words
 pub masked-words : (count more key mask : ℕ) → masked (words_of count mask) (words_of (count + more) key) ≡ words_of count (bit_and key mask)

@@ -20,6 +20,7 @@ pub mod PacketsInFlight
 pub mod Stands
 pub mod Laying
 pub mod Searching
-pub mod Grouping
+pub mod KeyWords
+pub mod Slicing
 pub mod Comparing
 pub mod Memories

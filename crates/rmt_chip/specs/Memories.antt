@@ -1,5 +1,5 @@
 -- The memory of a slot laid out for reading, against the slot's cells.
-use Rattle.std.specs.Prelude.{◌≡◌, ℕ, ◌+◌, ◌*◌, ◌^◌, ◌<◌, List, length, map, true, All, Option, None}
+use Rattle.std.specs.Prelude.{◌≡◌, ℕ, ◌+◌, ◌*◌, ◌^◌, ◌<◌, List, length, map, true, All, Option, Some, None}
 use Rattle.rmt_bits.specs.Bits.{number_of}
 use Rattle.rmt_chip.specs.Types.{Stage, TcamRow, Unit as ChipUnit, SlotUnit, CellNumber, Memory}
 use Rattle.rmt_config.specs.declared.config.Unit.TheVariants.{Gate, Slot}
@@ -13,12 +13,13 @@ use Rattle.rmt_config.specs.CellForm.{SlotHolds}
 use Rattle.rmt_config.specs.MemoryRules.{FormedRows}
 use Rattle.rmt_chip.specs.declared.memory.SlotMemory.{SlotMemory}
 use Rattle.rmt_chip.specs.declared.memory.Keys.{Keys}
-use Rattle.rmt_chip.specs.declared.memory.Keys.TheVariants.{Nothing, ByRow, ByMask}
+use Rattle.rmt_chip.specs.declared.memory.Keys.TheVariants.{Nothing, ByRow, InVectors}
 use Rattle.rmt_chip.specs.declared.memory.ways.ExactMemory.{ExactMemory}
 use Rattle.rmt_chip.specs.Laying.{runs_of, StartsByRow}
-use Rattle.rmt_chip.specs.Searching.{FirstByWays}
-use Rattle.rmt_bits.specs.Grouping.{Compared, best_of, AreGrouped}
-use Rattle.rmt_chip.specs.Grouping.{words_of, words_of_key, place_for}
+use Rattle.rmt_chip.specs.Searching.{FirstIn, FirstByWays}
+use Rattle.rmt_bits.specs.Grouping.{Compared}
+use Rattle.rmt_chip.specs.KeyWords.{words_of, words_of_key}
+use Rattle.rmt_chip.specs.Slicing.{HasRow, StandsFor}
 
 -- ---- what is asked of a slot
 
@@ -65,19 +66,20 @@ pub record ExactLays (seed : ℕ) (stage : Stage) (s : SlotUnit) (p d w : ℕ) (
 abbrev pub compared_of : ℕ → Content → Compared
 compared_of count c = record { masks = words_of count c.mask; values = words_of count c.key }
 
-abbrev pub compared_in : Stage → SlotUnit → List Compared
-compared_in stage s = map (λ (c : CellNumber). compared_of (divided_up (bits_of_lanes s.keys) 40) (content_of stage s c.cell)) s.numbers
+-- the listed cells as rows
+abbrev pub rows_in : Stage → SlotUnit → List (Option Compared)
+rows_in stage s = map (λ (c : CellNumber). Some (compared_of (divided_up (bits_of_lanes s.keys) 40) (content_of stage s c.cell))) s.numbers
 
 abbrev pub KeysLay : ℕ → Stage → SlotUnit → Memory → Keys → Type 0
 KeysLay seed stage s Without Nothing = Unit {0}
 KeysLay seed stage s Without (ByRow m) = ⊥
-KeysLay seed stage s Without (ByMask groups) = ⊥
+KeysLay seed stage s Without (InVectors v) = ⊥
 KeysLay seed stage s (Exact k p d w ks rs cs) Nothing = ⊥
 KeysLay seed stage s (Exact k p d w ks rs cs) (ByRow m) = ExactLays seed stage s p d w m
-KeysLay seed stage s (Exact k p d w ks rs cs) (ByMask groups) = ⊥
+KeysLay seed stage s (Exact k p d w ks rs cs) (InVectors v) = ⊥
 KeysLay seed stage s (Ternary d ks rs cs) Nothing = ⊥
 KeysLay seed stage s (Ternary d ks rs cs) (ByRow m) = ⊥
-KeysLay seed stage s (Ternary d ks rs cs) (ByMask groups) = AreGrouped (compared_in stage s) groups.items
+KeysLay seed stage s (Ternary d ks rs cs) (InVectors v) = StandsFor (rows_in stage s) v
 
 -- what a memory has of the listed cells of a slot: keys, heads, data and numbers of the entries
 pub record Laid (seed : ℕ) (stage : Stage) (s : SlotUnit) (m : SlotMemory) : Type 0 where
@@ -106,7 +108,7 @@ held_size m = m.held.size
 abbrev pub PlacesIn : Keys → List ℕ → Option ℕ → Type 0
 PlacesIn Nothing key found = found ≡ None
 PlacesIn (ByRow m) key found = FirstByWays m key found
-PlacesIn (ByMask groups) key found = found ≡ best_of (place_for (words_of_key (number_of key))) groups.items None
+PlacesIn (InVectors v) key found = (rows : List (Option Compared)) → StandsFor rows v → FirstIn (HasRow (words_of_key (number_of key)) rows) 0 (length rows) found
 
 abbrev pub Places : SlotMemory → List ℕ → Option ℕ → Type 0
 Places m key found = PlacesIn m.keys key found

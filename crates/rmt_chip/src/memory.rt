@@ -3,7 +3,9 @@
 mod block_bits;
 mod exact;
 mod lay;
+mod row_bits;
 mod runs;
+mod sliced;
 mod spot;
 mod ternary;
 mod ways;
@@ -14,9 +16,9 @@ use crate::looked::Looked;
 use crate::memory::exact::place_of;
 use crate::memory::lay::{lay_exact, lay_ternary, without};
 use crate::memory::runs::{Runs, run_at};
-use crate::memory::ternary::best_place;
+use crate::memory::sliced::Sliced;
+use crate::memory::ternary::first_row;
 use crate::memory::ways::ExactMemory;
-use rmt_bits::groups::Group;
 use rmt_config::config::{Memory, SlotUnit, Stage};
 use std::alloc::{AllocError, Global};
 
@@ -27,8 +29,8 @@ pub enum Keys {
     Nothing,
     /// Of an exact part.
     ByRow(ExactMemory),
-    /// Of a ternary part: by rising place of their first row.
-    ByMask(Vec<Group>),
+    /// Of a ternary part.
+    InVectors(Sliced),
 }
 
 /// The memory of a slot, laid out for reading: what a hit reads by place among the listed cells.
@@ -130,7 +132,7 @@ impl SlotMemory {
         match &self.keys {
             Keys::Nothing => None,
             Keys::ByRow(memory) => place_of(memory, key),
-            Keys::ByMask(groups) => best_place(groups, key),
+            Keys::InVectors(sliced) => first_row(sliced, key),
         }
     }
 

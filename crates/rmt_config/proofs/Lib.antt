@@ -44,17 +44,18 @@ pub mod NamePartLaws
 mod SpelledLists
 mod SpelledOrder
 mod SpelledRanks
-mod SpelledParts
+pub mod SpelledParts
 mod SpelledRows
 mod SpelledTernary
-mod SpelledBytes
-mod SpelledCandidates
+pub mod SpelledBytes
+pub mod SpelledCandidates
 mod SpelledKeys
-mod SpelledWays
+pub mod SpelledWays
+mod PrintLaws
 mod SpelledExact
 mod SpelledTable
 mod PrefixLengths
 mod PrefixOrder
 mod PrefixSeen
 mod PrefixRows
-mod PrefixRowLaws
+pub mod PrefixRowLaws

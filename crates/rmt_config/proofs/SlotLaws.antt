@@ -4,6 +4,7 @@ use Rattle.std.specs.Prelude.{◌↔◌, IsTrue}
 use Rattle.std.specs.List.{list_all, flat_map, fold}
 use Rattle.std.proofs.lemmas.Bool.{and_parts, ltb-true, leb-true, eqb-true, eq-eqb, both_ways, not-true}
 use Rattle.std.proofs.lemmas.List.Sums.{AllPass-from_list_all}
+use Rattle.std.proofs.lemmas.List.{nil_from_length}
 use Rattle.rmt_bits.proofs.FunctionLaws.{funext}
 use Rattle.rmt_bits.proofs.TestLaws.{split3, split5, split11}
 use Rattle.rmt_bits.specs.declared.lane.Lane.{Lane}
@@ -90,10 +91,6 @@ ternary-slot visible stage first s d ks rs cs rows fit =
       λ all. let both = told.0 all.1 in record { numbers = sym e ∙ all.0; others = both.0; ends = both.1 },
       λ holds. (e ∙ holds.numbers, told.1 (holds.others, holds.ends)),
     )
-
-no_items : {X : Type 0} (xs : List X) → length xs ≡ 0 → xs ≡ []
-no_items [] e = refl
-no_items (x ∷ xs) e = absurd (omega (arith, e))
 
 pub without-slot : (visible : ℕ) (stage : Stage) (first : ℕ) (s : SlotUnit) → s.numbers ≡ [] → SlotHolds visible stage first (record s { memory = Without })
 without-slot visible stage first s e = record {
@@ -190,7 +187,7 @@ ternary-fits s d ks rs cs head h =
     }
 
 pub without-numbers : (s : SlotUnit) → memory_is_formed s Without ≡ true → s.numbers ≡ []
-without-numbers s h = no_items s.numbers (eqb-true (length s.numbers) 0 (and_parts _ _ h).1)
+without-numbers s h = nil_from_length s.numbers (eqb-true (length s.numbers) 0 (and_parts _ _ h).1)
 
 -- ---- the slots of a stage, with the numbers of their first instructions
 

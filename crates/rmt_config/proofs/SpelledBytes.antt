@@ -30,7 +30,7 @@ pub mul-more : (m n : ℕ) → 0 < n → m ≤ m * n
 mul-more m n some = let h : m * 1 ≤ m * n = mul-le-mul_left m some in omega (arith, h)
 
 -- the lower part of a lower part
-mod-within : (z a b : ℕ) → a ≤ b → z % 2 ^ a % 2 ^ b ≡ z % 2 ^ a
+pub mod-within : (z a b : ℕ) → a ≤ b → z % 2 ^ a % 2 ^ b ≡ z % 2 ^ a
 mod-within z a b le =
     let small = mod_below z (2 ^ a) (pow_pos a) in
     let e : b ≡ a + (b - a) = omega (arith, le) in
@@ -39,7 +39,7 @@ mod-within z a b le =
     wider : (x a b : ℕ) → x < 2 ^ a → x < 2 ^ (a + b)
     wider x a b lt = rw (pow-add 2 a b) (let some = pow_pos b in let more = mul-more (2 ^ a) (2 ^ b) some in omega (arith, lt, more))
 
-mod-turned : (z a b : ℕ) → z % 2 ^ a % 2 ^ b ≡ z % 2 ^ b % 2 ^ a
+pub mod-turned : (z a b : ℕ) → z % 2 ^ a % 2 ^ b ≡ z % 2 ^ b % 2 ^ a
 mod-turned z a b =
     elim (cases_lt a b) as (λ _. z % 2 ^ a % 2 ^ b ≡ z % 2 ^ b % 2 ^ a) [
       | inl lt ↦ let e : b ≡ a + (b - a) = omega (arith, lt) in mod-within z a b (omega (arith, lt)) ∙ sym (ap (λ n. z % 2 ^ n % 2 ^ a) e ∙ mod-low z a (b - a))
@@ -47,7 +47,7 @@ mod-turned z a b =
     ]
 
 -- the bits of a slice from one on
-slice-shr : (v low len up : ℕ) → up ≤ len → slice v low len / 2 ^ up ≡ v / 2 ^ (low + up) % 2 ^ (len - up)
+pub slice-shr : (v low len up : ℕ) → up ≤ len → slice v low len / 2 ^ up ≡ v / 2 ^ (low + up) % 2 ^ (len - up)
 slice-shr v low len up le =
     let e : len ≡ (len - up) + up = omega (arith, le) in
     ap (λ n. v / 2 ^ low % 2 ^ n / 2 ^ up) e ∙ ap (λ m. v / 2 ^ low % m / 2 ^ up) (pow-add 2 (len - up) up)

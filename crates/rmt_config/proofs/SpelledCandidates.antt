@@ -1,32 +1,27 @@
 -- A cell is a candidate cell of a key exactly where the key's row in the cell's way is that of the cell.
 use Rattle.std.proofs.Common.{◌≡◌, ℕ, zero, suc, ◌+◌, ◌-◌, ◌*◌, ◌/◌, ◌%◌, ◌^◌, ◌<◌, List, [], ◌++◌, Bool, true, false, ◌&&◌, ◌||◌, eqb, refl, sym, ap, ◌∙◌, arith}
 use Rattle.std.specs.List.{list_any, flat_map, range_with_len}
-use Rattle.std.proofs.lemmas.Bool.{and_parts, and_from, eqb-true, eq-eqb, false≢true}
+use Rattle.std.proofs.lemmas.Bool.{and_parts, and_from, eqb-true, eq-eqb}
 use Rattle.std.proofs.lemmas.Nat.{div-add-mod', div-mul-add, mod-mul-add, mod_below, div_below}
 use Rattle.std.proofs.lemmas.List.Folds.{list_any-append}
-use Rattle.rmt_bits.specs.Bits.{slice}
+use Rattle.rmt_bits.specs.Bits.{slice, bytes_of}
 use Rattle.rmt_bits.specs.Hash.{hash_row}
 use Rattle.rmt_bits.proofs.BitLaws.{slice-lt}
 use Rattle.rmt_config.specs.Types.{CellNumber, SramRow}
 use Rattle.rmt_config.specs.Cells.{cell_of, entry_at, sram_row}
 use Rattle.rmt_config.specs.Layouts.{entry_in, exact_keys, local_of, quantum_of}
-use Rattle.rmt_config.specs.KeysSeen.{is_candidate, key_in}
+use Rattle.rmt_config.specs.KeysSeen.{is_candidate, key_in, stands_there}
 use Rattle.rmt_config.proofs.CellLayouts.{exact-entry}
 use Rattle.rmt_config.proofs.SpelledRows.{range-from, range-to}
+use Rattle.rmt_bits.proofs.OptionLaws.{same_Bool}
 use Rattle.std.proofs.Math.Nat.{mod-eq_of_lt}
 use Rattle.std.proofs.lemmas.Nat.{shr_below}
-
-pub iff-same : (a b : Bool) → (a ≡ true → b ≡ true) → (b ≡ true → a ≡ true) → a ≡ b
-iff-same true true f g = refl
-iff-same false false f g = refl
-iff-same true false f g = absurd (false≢true (f refl))
-iff-same false true f g = absurd (false≢true (g refl))
 
 -- the cells of a row of a way
 row-cells : (rows per way row cell : ℕ) → 0 < per → row < rows
     → list_any (λ m. eqb m cell) (range_with_len ((way * rows + row) * per + 0) per) ≡ (eqb way (cell / per / rows) && eqb row (cell / per % rows))
 row-cells rows per way row cell some low =
-    iff-same (list_any (λ m. eqb m cell) (range_with_len (q * per + 0) per)) (eqb way (cell / per / rows) && eqb row (cell / per % rows)) there back
+    same_Bool (list_any (λ m. eqb m cell) (range_with_len (q * per + 0) per)) (eqb way (cell / per / rows) && eqb row (cell / per % rows)) there back
   where
     q : ℕ
     q = way * rows + row
@@ -90,3 +85,8 @@ pub key-read : (rows : List SramRow) (blocks : List ℕ) (k p d bits : ℕ) (n :
     → (let l = exact_keys k p d bits in slice (entry_in l (sram_row rows) blocks (quantum_of l n.cell) (local_of l n.cell)) 8 bits ≡ key_in rows blocks k p d bits n)
 key-read rows blocks k p d bits n lp ld =
     ap (λ e. slice e 8 bits) (sym (exact-entry (sram_row rows) blocks k p d bits n.cell lp ld)) ∙ above-byte (entry_at (sram_row rows) blocks k bits (cell_of (1024 * d) p n.cell)) bits (slice-lt _ _ (bits + 8))
+
+-- a cell stands where the bytes that were read are those of its key, and it is a candidate of them
+pub cell-stands : (seed first per d size : ℕ) (key : CellNumber → ℕ) (n : CellNumber) (shown read : List ℕ) (b : Bool) → b ≡ is_candidate seed first per d shown n.cell → shown ≡ read
+    → read ≡ bytes_of size (key n) → stands_there seed first per d size key n ≡ b
+cell-stands seed first per d size key n shown read b h same is = sym (h ∙ ap (λ (ks : List ℕ). is_candidate seed first per d ks n.cell) (same ∙ is))

@@ -17,7 +17,7 @@ use Rattle.rmt_config.specs.Rooms.{PartAt}
 use Rattle.rmt_config.specs.NamesForm.{each_later, stands_in_candidates, tests_of_key}
 use Rattle.rmt_config.specs.KeysSeen.{key_held, keys_after, keys_fit, parts_fit, stands_in, was_seen}
 use Rattle.std.proofs.Math.Nat.{mod-eq_of_lt, pow-le-pow_right}
-use Rattle.rmt_config.proofs.SpelledCandidates.{iff-same}
+use Rattle.rmt_bits.proofs.OptionLaws.{same_Bool}
 
 -- ---- keys in the order in which they are seen
 
@@ -121,7 +121,7 @@ later-same P R S h (x ∷ xs) all =
 
 bytes-tell : (size a b : ℕ) → a < 2 ^ (8 * size) → b < 2 ^ (8 * size) → bytes_eq (bytes_of size a) (bytes_of size b) ≡ eqb a b
 bytes-tell size a b la lb =
-    iff-same (bytes_eq (bytes_of size a) (bytes_of size b)) (eqb a b)
+    same_Bool (bytes_eq (bytes_of size a) (bytes_of size b)) (eqb a b)
     (λ e. eq-eqb a b (sym (number_of-bytes_of size a la) ∙ ap number_of ((bytes_eq-Decides (bytes_of size a) (bytes_of size b)).0 e) ∙ number_of-bytes_of size b lb))
     (λ e. (bytes_eq-Decides (bytes_of size a) (bytes_of size b)).1 (ap (bytes_of size) (eqb-true a b e)))
 
@@ -146,7 +146,7 @@ same-bytes xs = (bytes_eq-Decides xs xs).1 refl
 
 pub keys-tell : (ws : List ℕ) (a b m : ℕ) → a < 2 ^ sum ws → b < 2 ^ sum ws → are_same (tests_of_key ws a m) (tests_of_key ws b m) ≡ eqb a b
 keys-tell ws a b m la lb =
-    iff-same (are_same (tests_of_key ws a m) (tests_of_key ws b m)) (eqb a b)
+    same_Bool (are_same (tests_of_key ws a m) (tests_of_key ws b m)) (eqb a b)
     (λ e. eq-eqb a b (sym (mod-eq_of_lt la) ∙ tests-tell ws a b m (and_parts _ _ e).0 ∙ mod-eq_of_lt lb))
     (λ e. ap (λ x. are_same (tests_of_key ws x m) (tests_of_key ws b m)) (eqb-true a b e)
     ∙ ap (λ x. x && bytes_eq (map (λ (t : Test). t.mask) (tests_of_key ws b m)) (map (λ (t : Test). t.mask) (tests_of_key ws b m))) (same-bytes (map value (tests_of_key ws b m)))

@@ -1,10 +1,10 @@
 -- An exact table is named as its parts are filled, by what is found out of each part.
-use Rattle.std.proofs.Common.{◌≡◌, ℕ, ◌+◌, ◌-◌, ◌*◌, ◌^◌, ◌<◌, ◌≤◌, List, [], ◌∷◌, ◌++◌, length, get_or, drop, map, Bool, true, false, not, ◌&&◌, eqb, leb, Vec, refl, sym, ap, ◌∙◌, subst, arith}
+use Rattle.std.proofs.Common.{◌≡◌, ℕ, ◌+◌, ◌-◌, ◌*◌, ◌^◌, ◌<◌, ◌≤◌, List, [], ◌∷◌, ◌++◌, length, get_or, drop, map, Bool, true, false, not, ◌&&◌, eqb, leb, ltb, Vec, refl, sym, ap, ◌∙◌, subst, arith}
 use Rattle.std.specs.Prelude.{All, IsTrue, sum}
 use Rattle.std.specs.List.{flat_map, list_all, list_any}
 use Rattle.std.specs.Global.{Global}
 use Rattle.std.specs.BTreeSet.{BTreeSet}
-use Rattle.std.proofs.lemmas.Bool.{and_parts, eqb-true, false≢true, le-leb, lt-leb}
+use Rattle.std.proofs.lemmas.Bool.{and_parts, eqb-true, false≢true, le-leb, lt-leb, ltb-true}
 use Rattle.std.proofs.lemmas.List.{map-append}
 use Rattle.std.proofs.lemmas.List.Elements.{All-nil, All-cons, All-head, All-tail, All-append}
 use Rattle.rmt_bits.proofs.FunctionLaws.{funext}
@@ -14,21 +14,25 @@ use Rattle.rmt_ast.specs.declared.program.Kind.TheVariants as kind
 use Rattle.rmt_ast.specs.declared.program.Test.{Test}
 use Rattle.rmt_ast.specs.declared.entry.Entry.{Entry}
 use Rattle.rmt_ast.specs.Changes.{are_same}
-use Rattle.rmt_config.specs.Types.{CellNumber, Config, Memory}
+use Rattle.rmt_config.specs.Types.{CellNumber, Config, Memory, SramRow, Stage}
 use Rattle.rmt_config.specs.declared.config.Memory.TheVariants.{Without, Exact, Ternary}
 use Rattle.rmt_config.specs.LaneForm.{bits_of_lanes}
 use Rattle.rmt_config.specs.Shapes.{divided_up}
-use Rattle.rmt_config.specs.Cells.{candidates, cell_of, content_of, entry_at, sram_row}
+use Rattle.rmt_config.specs.Cells.{candidates, cell_of, cells_in, content_of, entry_at, sram_row}
 use Rattle.rmt_config.specs.UnitForm.{slot_head_is_formed, memory_is_formed}
 use Rattle.rmt_config.specs.Form.{items_are_formed}
-use Rattle.rmt_config.specs.MemoryRules.{MemoryIsFormed}
+use Rattle.rmt_config.specs.MemoryRules.{ExactFits, MemoryIsFormed}
 use Rattle.rmt_config.specs.Rooms.{PartAt, parts_of}
 use Rattle.rmt_config.specs.PartStands.{PartStands}
 use Rattle.rmt_config.specs.PartsTold.{listed_numbers, part_at, parts_at}
 use Rattle.rmt_config.specs.declared.form.names.part_list.Part.{Part}
-use Rattle.rmt_bits.proofs.AllLaws.{All-unmap}
+use Rattle.rmt_bits.proofs.AllLaws.{All-from_test, All-unmap}
+use Rattle.std.proofs.lemmas.List.Folds.{list_all-map}
+use Rattle.std.proofs.lemmas.Option.{get_or_from_slice_get}
+use Rattle.rmt_config.proofs.SlotLaws.{exact-fits}
 use Rattle.rmt_config.proofs.SpelledLists.{drop-at}
 use Rattle.rmt_config.specs.NamesForm.{each_later, entries_by_cell, entry_in, has_key_bits, has_parts, held_by, is_filled_so, is_made_so, is_of_kind, stands_in_candidates, tests_of_key}
+use Rattle.rmt_config.specs.KeyPrints.{Prints}
 use Rattle.rmt_config.specs.KeysSeen.{Knows, Sees, WaysLow, key_held, key_in, keys_after, parts_fit, stands_in, stands_there}
 use Rattle.rmt_config.proofs.CellLayouts.{up-enough}
 use Rattle.rmt_config.proofs.SpelledCandidates.{above-byte}
@@ -39,6 +43,16 @@ use Rattle.rmt_config.proofs.SpelledTernary.{filled_as, of-kind}
 use Rattle.rmt_config.proofs.SpelledWays.{PartFollows, parts-follow, ways-low}
 
 -- ---- the cells of a part
+
+-- what is said of the rows, the bits, the cells and the blocks that were found is said of those of the part
+pub exact-found : (c : Config) (p : PartAt) (st : PartStands c p) (T : List SramRow → ℕ → List CellNumber → List ℕ → Type 0) (stages : List Stage) (stage : Stage) (rows : List SramRow)
+    (bits : ℕ) (ns : List CellNumber) (found blocks : List ℕ) → stages ≡ c.stages → stage ≡ get_or stages p.stage stage → rows ≡ (get_or stages p.stage stage).srows → bits ≡ bits_of_lanes p.slot.keys
+    → ns ≡ p.slot.numbers → found ≡ blocks → T rows bits ns found → T st.stage.srows (bits_of_lanes p.slot.keys) p.slot.numbers blocks
+exact-found c p st T stages stage rows bits ns found blocks all at of own cells same h =
+    let is : stage ≡ st.stage = at ∙ ap (λ (ss : List Stage). get_or ss p.stage stage) all ∙ get_or_from_slice_get c.stages p.stage st.stage stage st.in_stages in
+    subst (λ (ks : List ℕ). T st.stage.srows (bits_of_lanes p.slot.keys) p.slot.numbers ks) same
+    (subst (λ (xs : List CellNumber). T st.stage.srows (bits_of_lanes p.slot.keys) xs found) cells
+    (subst (λ b. T st.stage.srows b ns found) own (subst (λ (rs : List SramRow). T rs bits ns found) (of ∙ ap (λ (x : Stage). x.srows) (sym at ∙ is)) h)))
 
 module _ (c : Config) (p : PartAt) (st : PartStands c p) (k per d w : ℕ) (ks rs cs : List ℕ) (e : p.slot.memory ≡ Exact k per d w ks rs cs) where
   exact-key : (n : CellNumber) → key_in st.stage.srows ks k per d (bits_of_lanes p.slot.keys) n ≡ key_held c p n
@@ -59,6 +73,18 @@ module _ (c : Config) (p : PartAt) (st : PartStands c p) (k per d w : ℕ) (ks r
       ap (λ x. list_any (λ m. eqb m n.cell) (candidates c.seed (bits_of_lanes p.slot.keys) (Exact k per d w ks rs cs) x)) (exact-key n)
       ∙ ap (λ m. list_any (λ m. eqb m n.cell) (candidates c.seed (bits_of_lanes p.slot.keys) m (key_held c p n))) (sym e)
 
+  -- the numbers of the part keep their rules
+  pub exact-fit : ExactFits p.slot k per d ks rs
+  exact-fit =
+      let parts = and_parts (slot_head_is_formed p.slot) (memory_is_formed p.slot p.slot.memory) st.slot in
+      exact-fits p.slot k per d w ks rs cs parts.0 (sym (ap (memory_is_formed p.slot) e) ∙ parts.1)
+
+  pub exact-within : All (λ (n : CellNumber). n.cell < 4096 * d * per) p.slot.numbers
+  exact-within =
+      All-from_test (λ (n : CellNumber). n.cell < 4096 * d * per) (λ (n : CellNumber). ltb n.cell (4096 * d * per)) (λ n h. ltb-true n.cell (4096 * d * per) h) p.slot.numbers
+      (sym (list_all-map (λ n. ltb n (4096 * d * per)) (λ (n : CellNumber). n.cell) p.slot.numbers)
+      ∙ sym (ap (λ m. list_all (λ n. ltb n (cells_in m)) (map (λ (n : CellNumber). n.cell) p.slot.numbers)) e) ∙ (and_parts _ _ (and_parts _ _ st.holds.numbers).0).1)
+
   pub exact-sees : (before : List ℕ) (set : BTreeSet (Vec ℕ Global)) (fit : Bool)
       → (let key = key_in st.stage.srows ks k per d (bits_of_lanes p.slot.keys) in
       let size = divided_up (bits_of_lanes p.slot.keys) 8 in
@@ -68,6 +94,16 @@ module _ (c : Config) (p : PartAt) (st : PartStands c p) (k per d w : ℕ) (ks r
       let key = key_in st.stage.srows ks k per d (bits_of_lanes p.slot.keys) in
       subst (λ (f : CellNumber → ℕ). Sees size (stands_in c p) f before p.slot.numbers set fit) (funext key (key_held c p) exact-key)
       (subst (λ (f : CellNumber → Bool). Sees size f key before p.slot.numbers set fit) (funext (stands_there c.seed w per d size key) (stands_in c p) exact-stands) h)
+
+  pub exact-prints : (old new : List ℕ)
+      → (let key = key_in st.stage.srows ks k per d (bits_of_lanes p.slot.keys) in
+      let size = divided_up (bits_of_lanes p.slot.keys) 8 in
+      Prints size (stands_there c.seed w per d size key) key p.slot.numbers old new → Prints size (stands_in c p) (key_held c p) p.slot.numbers old new)
+  exact-prints old new h =
+      let size = divided_up (bits_of_lanes p.slot.keys) 8 in
+      let key = key_in st.stage.srows ks k per d (bits_of_lanes p.slot.keys) in
+      subst (λ (f : CellNumber → ℕ). Prints size (stands_in c p) f p.slot.numbers old new) (funext key (key_held c p) exact-key)
+      (subst (λ (f : CellNumber → Bool). Prints size f key p.slot.numbers old new) (funext (stands_there c.seed w per d size key) (stands_in c p) exact-stands) h)
 
 -- ---- the parts of an exact table
 
@@ -192,6 +228,14 @@ module _ (c : Config) (bits : ℕ) (ps : List PartAt) where
     known = h.known refl;
     answer = r.answer ∙ ap (λ b. b && parts_fit c (divided_up bits 8) (keys_after (key_held c p) r.seen p.slot.numbers) rest) (sym h.answer);
   }
+
+-- what is found out of a part behind the keys of parts before it, whose bits are as many
+pub part-sees : (c : Config) (bits own : ℕ) (p : PartAt) (seen : List ℕ) (set new : BTreeSet (Vec ℕ Global)) (fit : Bool) → bits ≡ own → Knows (divided_up bits 8) seen set
+    → ((before : List ℕ) → Knows (divided_up own 8) before set → Sees (divided_up own 8) (stands_in c p) (key_held c p) before p.slot.numbers new fit)
+    → Sees (divided_up bits 8) (stands_in c p) (key_held c p) seen p.slot.numbers new fit
+part-sees c bits own p seen set new fit same known f =
+    subst (λ b. ((before : List ℕ) → Knows (divided_up b 8) before set → Sees (divided_up b 8) (stands_in c p) (key_held c p) before p.slot.numbers new fit)
+    → Sees (divided_up bits 8) (stands_in c p) (key_held c p) seen p.slot.numbers new fit) same (λ g. g seen known) f
 
 -- ---- the parts as they are gone over
 

@@ -26,11 +26,11 @@ Follows (Slot s) = FollowsAt s.memory
 abbrev pub PartFollows : PartAt → Type 0
 PartFollows p = FollowsAt p.slot.memory
 
-follows-of : (before behind : List Placed) (stage : ℕ) (u : ChipUnit) → unit_stands before (record { stage = stage; unit = u }) behind ≡ true → Follows u
+pub follows-of : (before behind : List Placed) (stage : ℕ) (u : ChipUnit) → unit_stands before (record { stage = stage; unit = u }) behind ≡ true → Follows u
 follows-of before behind stage (Gate g) h = tt
 follows-of before behind stage (Slot s) h = record { parts = _; follow = (and_parts _ _ (and_parts _ _ (and_parts _ _ h).1).0).1 }
 
-each-follows : (before xs : List Placed) → each_between unit_stands before xs ≡ true → All (λ (x : Placed). Follows x.unit) xs
+pub each-follows : (before xs : List Placed) → each_between unit_stands before xs ≡ true → All (λ (x : Placed). Follows x.unit) xs
 each-follows before [] h = All-nil (λ (x : Placed). Follows x.unit)
 each-follows before (x ∷ xs) h =
     let parts = and_parts (unit_stands before x xs) (each_between unit_stands (x ∷ before) xs) h in

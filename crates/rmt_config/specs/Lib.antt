@@ -33,5 +33,6 @@ pub mod Effects
 pub mod PartsTold
 pub mod PrefixRow
 pub mod PartStands
+pub mod KeyPrints
 pub mod KeysSeen
 pub mod PrefixRows

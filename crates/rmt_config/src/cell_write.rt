@@ -3,7 +3,7 @@
 use rmt_bits::answer::Bytes;
 
 /// What a cell of a slot is to hold. With `visible` 0 the cell is emptied, and nothing behind it is looked at.
-#[derive(Drop, Debug)]
+#[derive(Drop)]
 pub struct CellWrite {
     /// The number of the stage, 0 to 31.
     pub stage: u8,

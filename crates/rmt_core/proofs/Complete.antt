@@ -1,15 +1,14 @@
 -- Where the files are as they must be, each command gives Done.
 use Rattle.std.proofs.Common.{◌≡◌, ℕ, List, Option, inl, inr, ap, refl, ◌∙◌, subst}
-use Rattle.rmt_core.specs.Types.{Program, Header, Config}
+use Rattle.rmt_core.specs.Types.{Program, Config}
 use Rattle.rmt_ast.specs.declared.entry.Entry.{Entry}
 use Rattle.rmt_bounds.specs.declared.bound.Bound.{Bound}
 use Rattle.rmt_build.specs.declared.fault.NoFit.{NoFit}
-use Rattle.rmt_build.specs.Refusals.{first_refusal}
 use Rattle.rmt_core.specs.declared.status.Status.TheVariants.{Done}
 use Rattle.rmt_core.specs.declared.watch.Watch.{Watch}
 use Rattle.rmt_core.specs.declared.watch.Watch.TheVariants.{Answers, Vectors}
 use Rattle.rmt_core.specs.Commands.{Compile, Sim, Probe, Plain, Report, Sample}
-use Rattle.rmt_core.specs.Compiling.{Builds, Compiles, Fitted, Loaded, Untailed, written}
+use Rattle.rmt_core.specs.Compiling.{Builds, Compiles, Fitted, Loaded, written}
 use Rattle.rmt_core.specs.Files.{Files, entries_limit, image_limit, packets_limit, program_limit}
 use Rattle.rmt_core.specs.Given.{Given, Opens, Reads, told}
 use Rattle.rmt_core.specs.Gives.{Gives}
@@ -31,8 +30,7 @@ module _ (apart : NeverBoth) (files : Files) (finish : List ℕ → Config → B
 
   builds_ready : Builds files finish p lists g → g.status ≡ Done
   builds_ready h =
-      let untailed : Fitted files finish p lists g (first_refusal p) = subst (λ (o : Option Header). Untailed files finish p lists g o) fits.no_tail h in
-      let fitted : Loaded files finish p lists g = subst (λ (o : Option NoFit). Fitted files finish p lists g o) fits.no_refusal untailed in
+      let fitted : Loaded files finish p lists g = subst (λ (o : Option NoFit). Fitted files finish p lists g o) fits.no_refusal h in
       loaded_ready fitted
 
 compile_ready : OneMeaning → NeverBoth → (files : Files) (program entries image : List ℕ) (g : Given) → IsReady files (Compile program entries image) → Gives files (Compile program entries image) g → g.status ≡ Done

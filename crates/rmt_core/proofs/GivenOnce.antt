@@ -4,7 +4,7 @@ use Rattle.std.specs.Prelude.{replicate}
 use Rattle.std.proofs.lemmas.List.{length-map}
 use Rattle.rmt_bits.specs.Packet.{Packet}
 use Rattle.rmt_bits.specs.declared.lane.Lane.{Lane}
-use Rattle.rmt_core.specs.Types.{Program, Header, Config, Stage}
+use Rattle.rmt_core.specs.Types.{Program, Config, Stage}
 use Rattle.rmt_ast.specs.declared.entry.Entry.{Entry}
 use Rattle.rmt_ast.specs.Answers.{answers_of}
 use Rattle.rmt_check.specs.Means.{Means, Outcome}
@@ -38,7 +38,7 @@ use Rattle.rmt_core.specs.declared.watch.Watch.{Watch}
 use Rattle.rmt_core.specs.declared.watch.Watch.TheVariants as watch
 use Rattle.rmt_core.specs.Commands.{Compile, Sim, Probe, Plain, Report, Sample}
 use Rattle.rmt_core.specs.CompileText.{compile_text}
-use Rattle.rmt_core.specs.Compiling.{Builds, Compiles, Fitted, IsFull, Loaded, Makes, Untailed, first_tail, written}
+use Rattle.rmt_core.specs.Compiling.{Builds, Compiles, Fitted, IsFull, Loaded, Makes, written}
 use Rattle.rmt_core.specs.Files.{Files, Found, Absent, Long, Holds, entries_limit, found, image_limit, packets_limit, program_limit}
 use Rattle.rmt_core.specs.Given.{Given, OfFound, OfOpened, Opens, Reads, told}
 use Rattle.rmt_core.specs.Headline.{GivesOne, OtherNumbers}
@@ -248,12 +248,8 @@ module _ (apart : NeverBoth) (p : Program) (lists : List (List Entry)) where
   fitted_once files finish one (Some fault) g h a b = same_given g h _ a b
   fitted_once files finish one None g h a b = loaded_once files finish one g h a b
 
-  untailed_once : (files : Files) (finish : List ℕ → Config → Bound → Given) → TellsOnce finish → (tail : Option Header) → GivesOnce (λ g. Untailed files finish p lists g tail)
-  untailed_once files finish one (Some header) g h a b = same_given g h _ a b
-  untailed_once files finish one None g h a b = fitted_once files finish one (first_refusal p) g h a b
-
   builds_once : (files : Files) (finish : List ℕ → Config → Bound → Given) → TellsOnce finish → GivesOnce (Builds files finish p lists)
-  builds_once files finish one g h a b = untailed_once files finish one (first_tail p) g h a b
+  builds_once files finish one g h a b = fitted_once files finish one (first_refusal p) g h a b
 
   compiles_once : (files : Files) (name : List ℕ) → GivesOnce (Compiles files name p lists)
   compiles_once files name = builds_once files (written files name p) (λ image other m n c d b e x y. (refl, made_once image other m n c d b e x y))

@@ -6,6 +6,7 @@ use Rattle.rmt_bits.specs.declared.lane.Lane.{Lane}
 use Rattle.rmt_ast.specs.declared.deps.Edge.{Edge}
 use Rattle.rmt_core.specs.Types.{Program, Config}
 use Rattle.rmt_ast.specs.declared.entry.Entry.{Entry}
+use Rattle.rmt_ast.specs.Naming.{names_of}
 use Rattle.rmt_ast.specs.WellFormed.{IsProgram}
 use Rattle.rmt_bounds.specs.declared.bound.Bound.{Bound}
 use Rattle.rmt_bounds.specs.declared.bound.Proof.{Proof}
@@ -13,6 +14,7 @@ use Rattle.rmt_bounds.specs.declared.bound.Proof.TheVariants.{Chain, Sram, Tcam,
 use Rattle.rmt_bounds.specs.Bounds.{stage_bound}
 use Rattle.rmt_bounds.specs.Proofs.{Gives, IsChain}
 use Rattle.rmt_bounds.proofs.GivenLaws.{bound-given}
+use Rattle.rmt_check.specs.NamedTexts.{IsShortFor}
 use Rattle.rmt_config.specs.Form.{Formed}
 use Rattle.rmt_config.specs.Limits.{IsWithinLimits}
 use Rattle.rmt_config.specs.ImageSpelling.{spelled_image}
@@ -27,9 +29,9 @@ use Rattle.rmt_build.specs.declared.fault.NoFit.TheVariants as no_fit
 use Rattle.rmt_build.specs.Refusals.{first_refusal}
 use Rattle.rmt_core.specs.Files.{Files}
 use Rattle.rmt_core.specs.Given.{Given, stored}
-use Rattle.rmt_core.specs.Compiling.{Builds, Compiles, Fitted, IsByRule, Makes, Untailed, written}
+use Rattle.rmt_core.specs.Compiling.{Builds, Compiles, Fitted, IsByRule, Makes, written}
 use Rattle.rmt_core.specs.CompileText.{compile_text}
-use Rattle.rmt_core.specs.Making.{AreOfText, IsBuilt, MakesImage}
+use Rattle.rmt_core.specs.Making.{AreOfTexts, IsBuilt, MakesImage}
 use Rattle.rmt_core.specs.NoFitText.{AreNodesOf}
 use Rattle.rmt_core.proofs.ImageSize.{image_is_short}
 
@@ -70,13 +72,12 @@ not_refused p r built is refused = by (first_refusal p) refl
     by (Some fault) e = absurd (never fault (sym is ∙ refused fault e (λ memory. never no_fit.NoMemory (sym is ∙ memory))))
 
 -- an image that spells what was built
-pub made : (p : Program) (lists : List (List Entry)) (image : List ℕ) (m : Map) (c : Config) (b : Bound) → IsProgram p → AreOfText p lists → image ≡ spelled_image c
-    → Formed c → IsWithinLimits c → c.names ≡ None → c.parser.tails ≡ [] → RunsAs p lists c → Carries p lists m c → IsByRule p lists m c → b ≡ stage_bound p (field_edges p m.places) → Makes p lists image m c b
-made p lists image m c b program said spells formed limits no_names no_tails runs carries rule bound = record {
+pub made : (p : Program) (lists : List (List Entry)) (image : List ℕ) (m : Map) (c : Config) (b : Bound) → IsProgram p → (said : AreOfTexts p lists) → IsShortFor said.text p → image ≡ spelled_image c
+    → Formed c → IsWithinLimits c → c.names ≡ Some (names_of p lists) → RunsAs p lists c → Carries p lists m c → IsByRule p lists m c → b ≡ stage_bound p (field_edges p m.places) → Makes p lists image m c b
+made p lists image m c b program said brief spells formed limits names runs carries rule bound = record {
   spells = record { spelled = spells; formed = formed; limits = limits };
-  no_names = no_names;
-  no_tails = no_tails;
-  short = subst (λ (bytes : List ℕ). length bytes ≤ 268435456) (sym spells) (image_is_short p said.0 lists m c program said.1 said.2 carries formed limits no_names no_tails);
+  names = names;
+  short = subst (λ (bytes : List ℕ). length bytes ≤ 268435456) (sym spells) (image_is_short p lists m c program said brief carries formed limits names);
   runs = runs;
   carries = carries;
   by_rule = rule;
@@ -88,8 +89,8 @@ pub builds : (files : Files) (finish : List ℕ → Config → Bound → Given) 
     → Builds files finish p lists (finish (spelled_image built.config) built.config built.bound)
 builds files finish p lists built is =
     let g = finish (spelled_image built.config) built.config built.bound in
-    subst (λ o. Untailed files finish p lists g o) (sym is.no_tail) (subst (λ o. Fitted files finish p lists g o) (sym is.no_refusal)
-    (inl (spelled_image built.config, built.map, built.config, built.bound, is.makes, refl)))
+    subst (λ o. Fitted files finish p lists g o) (sym is.no_refusal)
+    (inl (spelled_image built.config, built.map, built.config, built.bound, is.makes, refl))
 
 -- its image and its lines are what `compile` makes
 pub built_image : (p : Program) (lists : List (List Entry)) (built : Built) (image lines : List ℕ) → IsBuilt p lists built → image ≡ spelled_image built.config

@@ -1,11 +1,10 @@
 -- Which refusal of the back end a last line tells.
-use Rattle.std.proofs.Common.{◌≡◌, ◌≢◌, ℕ, List, [], ◌∷◌, Option, Some, None, Result, Ok, Err, inr, refl, sym, ap, subst, ◌∙◌}
-use Rattle.std.specs.Prelude.{All, option_map, find, is_some}
+use Rattle.std.proofs.Common.{◌≡◌, ◌≢◌, ℕ, List, Option, Some, None, Result, Ok, Err, inr, refl, sym, ap, subst, ◌∙◌}
+use Rattle.std.specs.Prelude.{option_map}
 use Rattle.std.specs.Option.{option_or}
-use Rattle.std.proofs.lemmas.List.Elements.{All-cons, All-nil}
 use Rattle.std.proofs.lemmas.Option.{none-some}
 use Rattle.rmt_bits.specs.declared.lane.Lane.{Lane}
-use Rattle.rmt_core.specs.Types.{Program, Header, Tail}
+use Rattle.rmt_core.specs.Types.{Program}
 use Rattle.rmt_ast.specs.declared.entry.Entry.{Entry}
 use Rattle.rmt_config.specs.declared.limits.LimitHit.{LimitHit}
 use Rattle.rmt_deps.specs.Edges.{dependencies_of}
@@ -27,21 +26,10 @@ use Rattle.rmt_build.specs.Loads.{AreNotLoaded}
 use Rattle.rmt_build.specs.Refusals.{action_told, first_refusal, packed_told, parser_told, stuck_told}
 use Rattle.rmt_core.specs.declared.status.Status.TheVariants as status
 use Rattle.rmt_core.specs.Given.{told}
-use Rattle.rmt_core.specs.Compiling.{Fitted, IsFull, Untailed, first_tail}
+use Rattle.rmt_core.specs.Compiling.{Fitted, IsFull}
 use Rattle.rmt_core.specs.Making.{TellsWhy}
 use Rattle.rmt_core.specs.NoFitText.{no_fit_line}
 use Rattle.rmt_bits.proofs.OptionLaws.{option_or-none_right}
-
--- ---- tails
-
--- where no header with a tail is found, none has one
-pub no_tails : (hs : List Header) → find (λ (h : Header). is_some h.tail) hs ≡ None → All (λ (h : Header). h.tail ≡ None) hs
-no_tails [] is = All-nil (λ (h : Header). h.tail ≡ None)
-no_tails (h ∷ hs) is = by h.tail refl (no_tails hs)
-  where
-    by : (tail : Option Tail) → h.tail ≡ tail → (find (λ (x : Header). is_some x.tail) hs ≡ None → All (λ (x : Header). x.tail ≡ None) hs) → All (λ (x : Header). x.tail ≡ None) (h ∷ hs)
-    by None e rest = All-cons (λ (x : Header). x.tail ≡ None) h hs e (rest (rw e at is))
-    by (Some tail) e rest = absurd (none-some _ (sym (rw e at is)))
 
 -- ---- the first refusal
 
@@ -113,16 +101,16 @@ never_load p node members cells is = parsed (refusal p) (subst IsOfLoadIf (sym i
 -- ---- what is told
 
 -- the line of the first refusal
-tells_first : (p : Program) (lists : List (List Entry)) (fault : NoFit) → first_tail p ≡ None → first_refusal p ≡ Some fault → TellsWhy p lists (no_fit_line p fault)
-tells_first p lists fault tail is files name =
+tells_first : (p : Program) (lists : List (List Entry)) (fault : NoFit) → first_refusal p ≡ Some fault → TellsWhy p lists (no_fit_line p fault)
+tells_first p lists fault is files name =
     let g = told files status.NoFit (no_fit_line p fault) in
-    subst (λ o. Untailed files name p lists g o) (sym tail) (subst (λ o. Fitted files name p lists g o) (sym is) refl)
+    subst (λ o. Fitted files name p lists g o) (sym is) refl
 
 -- that of a table that doesn't load
-tells_full : (p : Program) (lists : List (List Entry)) (line : List ℕ) → first_tail p ≡ None → first_refusal p ≡ None → IsFull p lists line → TellsWhy p lists line
-tells_full p lists line tail none full files name =
+tells_full : (p : Program) (lists : List (List Entry)) (line : List ℕ) → first_refusal p ≡ None → IsFull p lists line → TellsWhy p lists line
+tells_full p lists line none full files name =
     let g = told files status.NoFit line in
-    subst (λ o. Untailed files name p lists g o) (sym tail) (subst (λ o. Fitted files name p lists g o) (sym none) (inr (line, full, refl)))
+    subst (λ o. Fitted files name p lists g o) (sym none) (inr (line, full, refl))
 
 -- where the back end refused, not for want of memory, there is no first refusal that is not its own
 pub not_first : (p : Program) (r : Result Built NoFit) (told : NoFit) → r ≡ Err told → told ≢ no_fit.NoMemory → ((fault : NoFit) → first_refusal p ≡ Some fault → told ≢ fault)
@@ -134,7 +122,7 @@ not_first p r told is some other refused = by (first_refusal p) refl
     by (Some fault) e = absurd (other fault e (same_Err told fault (sym is ∙ refused fault e (λ memory. some (same_Err told no_fit.NoMemory (sym is ∙ memory))))))
 
 -- what the back end refused by is what is told
-pub tells_refusal : (p : Program) (lists : List (List Entry)) (r : Result Built NoFit) (told : NoFit) → r ≡ Err told → told ≢ no_fit.NoMemory → first_tail p ≡ None
+pub tells_refusal : (p : Program) (lists : List (List Entry)) (r : Result Built NoFit) (told : NoFit) → r ≡ Err told → told ≢ no_fit.NoMemory
     → ((fault : NoFit) → first_refusal p ≡ Some fault → r ≢ Err no_fit.NoMemory → r ≡ Err fault)
     → ((header bytes : ℕ) → r ≡ Err (no_fit.Lookup header bytes) → first_refusal p ≡ Some (no_fit.Lookup header bytes))
     → ((header extracts : ℕ) → r ≡ Err (no_fit.Step header extracts) → first_refusal p ≡ Some (no_fit.Step header extracts))
@@ -145,17 +133,17 @@ pub tells_refusal : (p : Program) (lists : List (List Entry)) (r : Result Built 
     → ((node members cells : ℕ) (places : List (List Lane)) (parts : List Part) → r ≡ Err (no_fit.Load node members cells)
     → packing p ≡ Ok places → placement p places (dependencies_of p places) ≡ Ok parts → AreNotLoaded p lists parts node members cells)
     → TellsWhy p lists (no_fit_line p told)
-tells_refusal p lists r no_fit.NoMemory is some tail refused lookup step full action phv stage load = absurd (some refl)
-tells_refusal p lists r (no_fit.Lookup header bytes) is some tail refused lookup step full action phv stage load = tells_first p lists (no_fit.Lookup header bytes) tail (lookup header bytes is)
-tells_refusal p lists r (no_fit.Step header extracts) is some tail refused lookup step full action phv stage load = tells_first p lists (no_fit.Step header extracts) tail (step header extracts is)
-tells_refusal p lists r (no_fit.Parser many) is some tail refused lookup step full action phv stage load = tells_first p lists (no_fit.Parser many) tail (full many is)
-tells_refusal p lists r (no_fit.Action number field) is some tail refused lookup step full action phv stage load = tells_first p lists (no_fit.Action number field) tail (action number field is)
-tells_refusal p lists r (no_fit.Phv field class) is some tail refused lookup step full action phv stage load = tells_first p lists (no_fit.Phv field class) tail (phv field class is)
-tells_refusal p lists r (no_fit.Stage node hits) is some tail refused lookup step full action phv stage load = tells_first p lists (no_fit.Stage node hits) tail (stage node hits is)
-tells_refusal p lists r (no_fit.Load node members cells) is some tail refused lookup step full action phv stage load =
+tells_refusal p lists r no_fit.NoMemory is some refused lookup step full action phv stage load = absurd (some refl)
+tells_refusal p lists r (no_fit.Lookup header bytes) is some refused lookup step full action phv stage load = tells_first p lists (no_fit.Lookup header bytes) (lookup header bytes is)
+tells_refusal p lists r (no_fit.Step header extracts) is some refused lookup step full action phv stage load = tells_first p lists (no_fit.Step header extracts) (step header extracts is)
+tells_refusal p lists r (no_fit.Parser many) is some refused lookup step full action phv stage load = tells_first p lists (no_fit.Parser many) (full many is)
+tells_refusal p lists r (no_fit.Action number field) is some refused lookup step full action phv stage load = tells_first p lists (no_fit.Action number field) (action number field is)
+tells_refusal p lists r (no_fit.Phv field class) is some refused lookup step full action phv stage load = tells_first p lists (no_fit.Phv field class) (phv field class is)
+tells_refusal p lists r (no_fit.Stage node hits) is some refused lookup step full action phv stage load = tells_first p lists (no_fit.Stage node hits) (stage node hits is)
+tells_refusal p lists r (no_fit.Load node members cells) is some refused lookup step full action phv stage load =
     let none = not_first p r (no_fit.Load node members cells) is some (λ fault first same. never_load p node members cells (first ∙ ap Some (sym same))) refused in
     let at = are_placed p none in
-    tells_full p lists (no_fit_line p (no_fit.Load node members cells)) tail none (record {
+    tells_full p lists (no_fit_line p (no_fit.Load node members cells)) none (record {
       places = at.places;
       parts = at.parts;
       node = node;

@@ -7,7 +7,7 @@ use Rattle.std.proofs.lemmas.Slice.Eq.{bytes_eq-Decides}
 use Rattle.rmt_bits.specs.Packet.{IsPacket, Packet}
 use Rattle.rmt_bits.specs.declared.answer.Answer.{Answer}
 use Rattle.rmt_bits.specs.declared.answer.Verdict.{Verdict}
-use Rattle.rmt_core.specs.Types.{Program, Header, Config}
+use Rattle.rmt_core.specs.Types.{Program, Config}
 use Rattle.rmt_ast.specs.declared.entry.Entry.{Entry}
 use Rattle.rmt_ast.specs.Answers.{answers_of, counts_of}
 use Rattle.rmt_check.specs.Means.{Means}
@@ -22,7 +22,7 @@ use Rattle.rmt_packets.specs.PacketText.{BadLine, Reading, packets_of}
 use Rattle.rmt_core.specs.declared.status.Status.TheVariants.{Done}
 use Rattle.rmt_core.specs.declared.watch.Watch.TheVariants as watch
 use Rattle.rmt_core.specs.Commands.{Compile}
-use Rattle.rmt_core.specs.Compiling.{Compiles, Fitted, Loaded, Untailed, first_tail, written}
+use Rattle.rmt_core.specs.Compiling.{Compiles, Fitted, Loaded, written}
 use Rattle.rmt_core.specs.Files.{Files, entries_limit, image_limit, packets_limit, program_limit, updated}
 use Rattle.rmt_core.specs.Given.{Given, Opens, Reads}
 use Rattle.rmt_core.specs.Gives.{Gives}
@@ -101,12 +101,8 @@ module _ (p : Program) (lists : List (List Entry)) (files : Files) (name : List 
   fitted_done None h = loaded_done h
   fitted_done (Some fault) h = absurd (let e = sym (ap (λ (k : Given). k.status) h) ∙ done in cc)
 
-  untailed_done : (o : Option Header) → Untailed files (written files name p) p lists g o → IsMade p lists (g.files name)
-  untailed_done None h = fitted_done (first_refusal p) h
-  untailed_done (Some header) h = absurd (let e = sym (ap (λ (k : Given). k.status) h) ∙ done in cc)
-
   compiled : Compiles files name p lists g → IsMade p lists (g.files name)
-  compiled h = untailed_done (first_tail p) h
+  compiled h = fitted_done (first_refusal p) h
 
 -- the two texts, and what was made of them
 record Compiled (files : Files) (program entries image : List ℕ) (g : Given) : Type 0 where

@@ -1,5 +1,10 @@
 pub mod Lists
+pub mod Sums
+pub mod Tables
 pub mod Lines
+pub mod Ranks
+pub mod Names
+pub mod Tails
 pub mod Front
 pub mod Units
 pub mod Stages

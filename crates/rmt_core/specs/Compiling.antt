@@ -1,8 +1,9 @@
 -- What `compile` gives: the image of a configuration that answers as the program does, or why there is none.
-use Rattle.std.specs.Prelude.{◌≡◌, ◌≤◌, ◌⊎◌, ℕ, List, [], Option, Some, None, Ok, length, find, is_some}
+use Rattle.std.specs.Prelude.{◌≡◌, ◌≤◌, ◌⊎◌, ℕ, List, Option, Some, None, Ok, length}
 use Rattle.rmt_bits.specs.declared.lane.Lane.{Lane}
-use Rattle.rmt_core.specs.Types.{Program, Header, Config}
+use Rattle.rmt_core.specs.Types.{Program, Config}
 use Rattle.rmt_ast.specs.declared.entry.Entry.{Entry}
+use Rattle.rmt_ast.specs.Naming.{names_of}
 use Rattle.rmt_config.specs.Spells.{Spells}
 use Rattle.rmt_bounds.specs.declared.bound.Bound.{Bound}
 use Rattle.rmt_bounds.specs.Bounds.{stage_bound}
@@ -23,7 +24,7 @@ use Rattle.rmt_core.specs.declared.status.Status.TheVariants as status
 use Rattle.rmt_core.specs.Files.{Files, entries_limit, image_limit, program_limit}
 use Rattle.rmt_core.specs.Given.{Given, Reads, stored, told}
 use Rattle.rmt_core.specs.Texts.{Understands}
-use Rattle.rmt_core.specs.NoFitText.{no_fit_line, tail_line}
+use Rattle.rmt_core.specs.NoFitText.{no_fit_line}
 use Rattle.rmt_core.specs.CompileText.{compile_text}
 
 -- Fields are packed, frames parsed, nodes placed and stages started by their rules, and exact tables are loaded under the first seed that serves.
@@ -34,22 +35,17 @@ pub record IsByRule (p : Program) (lists : List (List Entry)) (m : Map) (c : Con
   pub starts : m.starts ≡ starts_of (all_edges p m.places) m.placement.parts
   pub seed : IsFirstSeed p lists m.placement.parts c.seed
 
--- The image spells one configuration within every limit, so far without names and tails. As the map tells, it carries
--- the program with its entries and is made by the rules; and for every list of packets its chip run gives the verdicts,
--- bytes and counters of the plain run. The bound is that of the program.
+-- The image spells one configuration within every limit, with the names of the program and its entries. As the map
+-- tells, it carries the program with its entries and is made by the rules; and for every list of packets its chip run
+-- gives the verdicts, bytes and counters of the plain run. The bound is that of the program.
 pub record Makes (p : Program) (lists : List (List Entry)) (image : List ℕ) (m : Map) (c : Config) (b : Bound) : Type 0 where
   pub spells : Spells image c
-  pub no_names : c.names ≡ None
-  pub no_tails : c.parser.tails ≡ []
+  pub names : c.names ≡ Some (names_of p lists)
   pub short : length image ≤ image_limit
   pub runs : RunsAs p lists c
   pub carries : Carries p lists m c
   pub by_rule : IsByRule p lists m c
   pub bound : b ≡ stage_bound p (field_edges p m.places)
-
--- the first header with a tail
-abbrev pub first_tail : Program → Option Header
-first_tail p = find (λ (h : Header). is_some h.tail) p.headers
 
 -- under each seed some exact table has entries that have fewer cells than they are: the line names the first such table of the last seed
 pub record IsFull (p : Program) (lists : List (List Entry)) (line : List ℕ) : Type 0 where
@@ -74,14 +70,9 @@ abbrev pub Fitted : Files → (List ℕ → Config → Bound → Given) → Prog
 Fitted files finish p lists g (Some fault) = g ≡ told files status.NoFit (no_fit_line p fault)
 Fitted files finish p lists g None = Loaded files finish p lists g
 
--- and a tail before all others
-abbrev pub Untailed : Files → (List ℕ → Config → Bound → Given) → Program → List (List Entry) → Given → Option Header → Type 0
-Untailed files finish p lists g (Some header) = g ≡ told files status.NoFit (tail_line header)
-Untailed files finish p lists g None = Fitted files finish p lists g (first_refusal p)
-
 -- a command that makes a configuration for a program with its entries, and tells of it
 abbrev pub Builds : Files → (List ℕ → Config → Bound → Given) → Program → List (List Entry) → Given → Type 0
-Builds files finish p lists g = Untailed files finish p lists g (first_tail p)
+Builds files finish p lists g = Fitted files finish p lists g (first_refusal p)
 
 -- the image stands under a name, and its lines are printed
 abbrev pub written : Files → List ℕ → Program → List ℕ → Config → Bound → Given

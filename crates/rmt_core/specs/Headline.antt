@@ -16,7 +16,6 @@ use Rattle.rmt_build.specs.Loads.{AreLoaded}
 use Rattle.rmt_build.specs.Refusals.{first_refusal}
 use Rattle.rmt_core.specs.declared.status.Status.TheVariants.{Done}
 use Rattle.rmt_core.specs.Commands.{Command, Compile, Sim, Probe, Plain, Report, Sample}
-use Rattle.rmt_core.specs.Compiling.{first_tail}
 use Rattle.rmt_core.specs.Files.{Files, entries_limit, image_limit, packets_limit, program_limit}
 use Rattle.rmt_core.specs.Given.{Given}
 use Rattle.rmt_core.specs.Gives.{Gives}
@@ -73,7 +72,6 @@ pub record Fits (p : Program) (lists : List (List Entry)) : Type 0 where
   pub places : List (List Lane)
   pub parts : List Part
   pub seed : ℕ
-  pub no_tail : first_tail p ≡ None
   pub no_refusal : first_refusal p ≡ None
   pub packed : packing p ≡ Ok places
   pub placed : placement_by_rule p places (dependencies_of p places) ≡ Ok parts

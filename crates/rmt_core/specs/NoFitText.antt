@@ -46,10 +46,6 @@ no_fit_line p (Phv field class) = codes "no fit phv " ++ (field_name p field ++ 
 no_fit_line p (Stage node hits) = codes "no fit stage " ++ (node_name p node ++ (flat_map hit_text hits ++ codes "\n"))
 no_fit_line p (Load node members cells) = codes "no fit load " ++ (node_name p node ++ (codes " " ++ (decimal members ++ (codes " " ++ (decimal cells ++ codes "\n")))))
 
--- `no fit tail HEADER`, of a header that has a tail: an image tells it together with names, which are not written yet
-abbrev pub tail_line : Header → List ℕ
-tail_line h = codes "no fit tail " ++ (h.name ++ codes "\n")
-
 -- each node of the chain that proves a bound is a node of the program
 abbrev pub AreNodesOf : Program → Proof → Type 0
 AreNodesOf p (Chain nodes) = All (λ n. n < length p.nodes) nodes

@@ -9,7 +9,7 @@ ghost use Rattle.rmt_core.specs.Compiling.{Compiles, GivesCompile};
 ghost use Rattle.rmt_core.specs.Ends.{Ends, WritesAndPrints, outside};
 ghost use Rattle.rmt_core.specs.Files.{entries_limit, program_limit};
 ghost use Rattle.rmt_core.specs.Given.{Reads, stored};
-ghost use Rattle.rmt_core.specs.Making.{AreOfText};
+ghost use Rattle.rmt_core.specs.Making.{AreOfTexts};
 ghost use Rattle.rmt_core.specs.Texts.{Understands};
 
 use crate::loading::{ENTRIES_LIMIT, PROGRAM_LIMIT, read_file};
@@ -106,7 +106,7 @@ fn compile_meant<F: Shelf, O: Sink>(
 ) -> Status
     requires program { IsProgram meant.now.program }
     requires entries { AreEntries meant.now.program meant.now.entries }
-    requires said { AreOfText meant.now.program meant.now.entries }
+    requires said { AreOfTexts meant.now.program meant.now.entries }
     ensures possible { IsPossible (Compile [] [] (string_bytes image.now)) result }
     ensures no_reading { result ≢ Status.ReadFault }
     ensures not_long { result ≢ Status.TooLong }

@@ -1,28 +1,28 @@
 //! From a program and its entries to an image and the lines that are printed.
 
-ghost use Rattle.std.specs.Prelude.{◌≡◌, ◌≢◌, ℕ, [], None, Err, IfOk, IsOkUnless, Vec, option_copied};
+ghost use Rattle.std.specs.Prelude.{◌≡◌, ◌≢◌, ℕ, [], Err, IfOk, IsOkUnless, Vec};
 ghost use Rattle.std.specs.Global.{Global};
 ghost use Rattle.rmt_ast.specs.EntryLists.{AreEntries};
 ghost use Rattle.rmt_ast.specs.WellFormed.{IsProgram};
 ghost use Rattle.rmt_config.specs.Form.{Formed};
 ghost use Rattle.rmt_config.specs.Limits.{IsWithinLimits};
 ghost use Rattle.rmt_config.specs.ImageSpelling.{spelled_image};
-ghost use Rattle.rmt_core.specs.Compiling.{first_tail};
 ghost use Rattle.rmt_core.specs.CompileText.{compile_text};
-ghost use Rattle.rmt_core.specs.Making.{AreOfText, IsBuilt, MakesImage, TellsWhy};
-ghost use Rattle.rmt_core.specs.NoFitText.{AreNodesOf, no_fit_line, tail_line};
+ghost use Rattle.rmt_core.specs.Making.{AreOfTexts, IsBuilt, MakesImage, TellsWhy};
+ghost use Rattle.rmt_core.specs.NoFitText.{AreNodesOf, no_fit_line};
 
 use crate::made_lines::compile_lines;
-use crate::no_fit::{no_fit_text, tail_text};
+use crate::no_fit::no_fit_text;
 use rmt_ast::entry::EntryLists;
-use rmt_ast::program::{Header, Program};
+use rmt_ast::program::Program;
 use rmt_bits::answer::Bytes;
 use rmt_build::build;
 use rmt_build::built::Built;
 use rmt_build::fault::NoFit;
+use rmt_check::laws::one_meaning;
 use rmt_image::write_image;
 use rmt_refine::laws::packet_lists;
-use std::alloc::{AllocError, Global};
+use std::alloc::Global;
 
 /// An image, and the lines that tell of it.
 #[derive(Drop)]
@@ -39,11 +39,11 @@ pub enum Refusal {
     NoFit { line: Vec<u8> },
 }
 
-/// What is made of a program with its entries. A tail counts before all other refusals.
+/// What is made of a program with its entries.
 pub fn make(alloc: Global, program: &Program, entries: &EntryLists) -> Result<Made, Refusal>
     requires program { IsProgram program.now }
     requires entries { AreEntries program.now entries.now }
-    requires said { AreOfText program.now entries.now }
+    requires said { AreOfTexts program.now entries.now }
     ensures made { IfOk result (λ m. MakesImage program.now entries.now m.image.items m.lines) }
     ensures some { IfOk result (λ m. m.lines ≢ []) }
     ensures refused { (line : Vec ℕ Global) → result ≡ Err (Refusal.NoFit line) →
@@ -55,53 +55,16 @@ pub fn make(alloc: Global, program: &Program, entries: &EntryLists) -> Result<Ma
     }
 }
 
-/// What a program with its entries becomes on the chip. A tail counts before all other refusals.
+/// What a program with its entries becomes on the chip.
 pub fn fit(alloc: Global, program: &Program, entries: &EntryLists) -> Result<Built, Refusal>
     requires program { IsProgram program.now }
     requires entries { AreEntries program.now entries.now }
-    requires said { AreOfText program.now entries.now }
+    requires said { AreOfTexts program.now entries.now }
     ensures built { IfOk result (λ b. IsBuilt program.now entries.now b) }
     ensures refused { (line : Vec ℕ Global) → result ≡ Err (Refusal.NoFit line) →
         TellsWhy program.now entries.now line.items }
 {
-    match first_tail(program) {
-        Some(header) => Err(tail_refusal(alloc, header)),
-        None => fit_untailed(alloc, program, entries),
-    }
-}
-
-/// The first header with a tail.
-fn first_tail(program: &Program) -> Option<&Header>
-    ensures { option_copied result ≡ first_tail program.now }
-{
-    program
-        .headers
-        .as_slice()
-        .iter()
-        .find(|header| header.tail.is_some())
-}
-
-/// The refusal of a header with a tail.
-fn tail_refusal(alloc: Global, header: &Header) -> Refusal
-    ensures { (line : Vec ℕ Global) → result ≡ Refusal.NoFit line →
-        line.items ≡ tail_line header.now }
-{
-    match tail_text(alloc, header) {
-        Ok(line) => Refusal::NoFit { line },
-        Err(_) => Refusal::NoMemory,
-    }
-}
-
-/// What a program without tails becomes.
-fn fit_untailed(alloc: Global, program: &Program, entries: &EntryLists) -> Result<Built, Refusal>
-    requires program { IsProgram program.now }
-    requires entries { AreEntries program.now entries.now }
-    requires said { AreOfText program.now entries.now }
-    requires no_tail { first_tail program.now ≡ None }
-    ensures built { IfOk result (λ b. IsBuilt program.now entries.now b) }
-    ensures refused { (line : Vec ℕ Global) → result ≡ Err (Refusal.NoFit line) →
-        TellsWhy program.now entries.now line.items }
-{
+    one_meaning();
     packet_lists();
     match build(alloc, program, entries) {
         Ok(built) => Ok(built),

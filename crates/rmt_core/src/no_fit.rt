@@ -3,10 +3,10 @@
 ghost use Rattle.std.specs.Prelude.{◌≡◌, ◌++◌, IfOk, OnOk, codes};
 ghost use Rattle.std.specs.Fmt.{decimal};
 ghost use Rattle.std.specs.List.{flat_map};
-ghost use Rattle.rmt_core.specs.NoFitText.{action_name, field_name, header_name, hit_text, no_fit_line, node_name, tail_line};
+ghost use Rattle.rmt_core.specs.NoFitText.{action_name, field_name, header_name, hit_text, no_fit_line, node_name};
 
 use crate::names::{add_action_name, add_field_name, add_header_name, add_node_name};
-use rmt_ast::program::{Header, Program};
+use rmt_ast::program::Program;
 use rmt_build::fault::NoFit;
 use rmt_config::limits::LimitHit;
 use std::alloc::{AllocError, Global};
@@ -17,17 +17,6 @@ pub fn no_fit_text(alloc: Global, program: &Program, fault: &NoFit) -> Result<Ve
 {
     let mut text = Vec::new(alloc);
     add_no_fit(alloc, program, fault, &mut text)?;
-    Ok(text)
-}
-
-/// `no fit tail` and the name of a header that has one.
-pub fn tail_text(alloc: Global, header: &Header) -> Result<Vec<u8>, AllocError>
-    ensures { IfOk result (λ text. text.items ≡ tail_line header.now) }
-{
-    let mut text = Vec::new(alloc);
-    text.extend_from_slice(b"no fit tail ")?;
-    text.extend_from_slice(header.name.as_slice())?;
-    text.extend_from_slice(b"\n")?;
     Ok(text)
 }
 

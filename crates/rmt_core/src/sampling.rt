@@ -11,7 +11,7 @@ ghost use Rattle.rmt_core.specs.Commands.{IsPossible, Sample as SampleOf};
 ghost use Rattle.rmt_core.specs.Compiling.{Builds};
 ghost use Rattle.rmt_core.specs.Ends.{Answered, outside};
 ghost use Rattle.rmt_core.specs.Given.{told};
-ghost use Rattle.rmt_core.specs.Making.{AreOfText};
+ghost use Rattle.rmt_core.specs.Making.{AreOfTexts};
 ghost use Rattle.rmt_core.specs.Sampling.{GivesSample, sample_line};
 ghost use Rattle.rmt_core.specs.Tallies.{chip_line};
 ghost use Rattle.rmt_core.specs.Telling.{Tells};
@@ -89,7 +89,7 @@ fn sample_meant<O: Sink>(
 ) -> Status
     requires program { IsProgram meant.now.program }
     requires entries { AreEntries meant.now.program meant.now.entries }
-    requires said { AreOfText meant.now.program meant.now.entries }
+    requires said { AreOfTexts meant.now.program meant.now.entries }
     requires packets { packets.now ≡ packets_text number }
     ensures possible { IsPossible (SampleOf number) result }
     ensures no_reading { result ≢ Status.ReadFault }

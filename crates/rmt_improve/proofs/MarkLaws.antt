@@ -1,10 +1,10 @@
 -- The marks of nodes tell which may be taken next.
-use Rattle.std.proofs.Common.{◌≡◌, ℕ, ◌<◌, List, [], ◌∷◌, ◌++◌, length, get_or, set, filter, Bool, true, false, not, cond, eqb, ◌&&◌, ◌||◌, inl, inr, sym, refl, subst, ap, ◌∙◌, arith}
-use Rattle.std.specs.List.{All, list_any, range_with_len}
+use Rattle.std.proofs.Common.{◌≡◌, ℕ, ◌<◌, List, [], ◌∷◌, ◌++◌, length, get_or, set, filter, Bool, true, false, not, eqb, ◌&&◌, ◌||◌, inl, inr, sym, refl, subst, ap, ◌∙◌, arith}
+use Rattle.std.specs.List.{All, range_with_len}
 use Rattle.std.proofs.lemmas.Bool.{cases_eq, eq-eqb, ne_eqb}
 use Rattle.std.proofs.lemmas.List.{get_or-set_other, get_or-set_same, length-set}
-use Rattle.std.proofs.lemmas.List.Elements.{All-head, All-tail}
 use Rattle.std.proofs.lemmas.List.Folds.{list_any-append}
+use Rattle.rmt_bits.proofs.AlikeLaws.{filter_alike, list_any_alike}
 use Rattle.rmt_ast.specs.declared.deps.Edge.{Edge}
 use Rattle.rmt_config.specs.Resources.{is_in}
 use Rattle.rmt_deps.specs.Edges.{GoesForward}
@@ -12,24 +12,11 @@ use Rattle.rmt_pack.proofs.FormatLaws.{in_range}
 use Rattle.rmt_improve.specs.Orders.{is_blocked, may_be_next, next_nodes}
 use Rattle.rmt_improve.specs.Steps.{AreTaken, is_free, is_held}
 
--- ---- tests that agree
-
-filter-alike : {X : Type 0} (p q : X → Bool) (xs : List X) → All (λ x. p x ≡ q x) xs → filter p xs ≡ filter q xs
-filter-alike p q [] all = refl
-filter-alike p q (x ∷ xs) all =
-    ap (λ (l : List _). cond (p x) (x ∷ l) l) (filter-alike p q xs (All-tail (λ y. p y ≡ q y) x xs all))
-    ∙ ap (λ (b : Bool). cond b (x ∷ filter q xs) (filter q xs)) (All-head (λ y. p y ≡ q y) x xs all)
-
-list_any-alike : {X : Type 0} (p q : X → Bool) (xs : List X) → All (λ x. p x ≡ q x) xs → list_any p xs ≡ list_any q xs
-list_any-alike p q [] all = refl
-list_any-alike p q (x ∷ xs) all =
-    ap (λ b. p x || b) (list_any-alike p q xs (All-tail (λ y. p y ≡ q y) x xs all)) ∙ ap (λ b. b || list_any q xs) (All-head (λ y. p y ≡ q y) x xs all)
-
 -- ---- which nodes are free
 
 held_is : (edges : List Edge) (taken : List ℕ) (marks : List Bool) (n : ℕ) → AreTaken taken marks → All (GoesForward (length marks)) edges → is_held edges marks n ≡ is_blocked edges taken n
 held_is edges taken marks n are forward =
-    list_any-alike (λ (e : Edge). eqb e.to n && not (get_or marks e.from false)) (λ (e : Edge). eqb e.to n && not (is_in taken e.from)) edges
+    list_any_alike (λ (e : Edge). eqb e.to n && not (get_or marks e.from false)) (λ (e : Edge). eqb e.to n && not (is_in taken e.from)) edges
     (λ i d lt. (let goes = forward i d lt in
     let e = get_or edges i d in
     ap (λ b. eqb e.to n && not b) (are e.from (let later = goes.later in let below = goes.is_node in omega arith))))
@@ -37,7 +24,7 @@ held_is edges taken marks n are forward =
 pub free_is : (edges : List Edge) (taken : List ℕ) (marks held : List Bool) (nodes : ℕ) → AreTaken taken marks → length marks ≡ nodes → All (GoesForward nodes) edges
     → ((n : ℕ) → n < nodes → get_or held n false ≡ is_held edges marks n) → filter (is_free marks held) (range_with_len 0 nodes) ≡ next_nodes edges taken nodes
 free_is edges taken marks held nodes are size forward holds =
-    filter-alike (is_free marks held) (may_be_next edges taken) (range_with_len 0 nodes)
+    filter_alike (is_free marks held) (may_be_next edges taken) (range_with_len 0 nodes)
     (in_range (λ n. is_free marks held n ≡ may_be_next edges taken n) 0 nodes
     (λ n low high.
     (ap (λ b. not b && not (get_or held n false)) (are n (omega arith))

@@ -1,47 +1,21 @@
 -- Counters take a number more.
 use Rattle.std.proofs.Common.{◌≡◌, ℕ, ◌+◌, ◌%◌, ◌^◌, ◌++◌, Bool, true, false, true≢false, ◌==◌, cond, List, [], ◌∷◌, map, refl, sym, ap, subst, ◌∙◌, tests, arith}
-use Rattle.std.specs.Prelude.{All, Contains, filter, nat_lt, sum_by}
+use Rattle.std.specs.Prelude.{All, Contains, filter, sum_by}
 use Rattle.std.specs.List.{list_any}
 use Rattle.std.proofs.lemmas.Bool.{eqb-true}
 use Rattle.std.proofs.lemmas.List.Elements.{All-head, All-tail, All-nil, All-cons, All-contains_itself, All-weaker, Contains-append_left}
 use Rattle.std.proofs.lemmas.List.Sums.{sum_by-cons}
 use Rattle.rmt_bits.specs.declared.answer.Count.{Count}
-use Rattle.rmt_bits.specs.Counts.{Hit, count_for, counts, in_order, with_number}
+use Rattle.rmt_bits.specs.Counts.{Hit, count_for, counts, in_order}
 use Rattle.rmt_bits.specs.Counting.{hits_among, with_count}
 use Rattle.rmt_bits.proofs.MemberLaws.{list_any-Contains}
-use Rattle.rmt_bits.proofs.OrderLaws.{counts-with_count, with_count-with_number, zeros_push}
+use Rattle.rmt_bits.proofs.AlikeLaws.{map_alike}
+use Rattle.rmt_bits.proofs.OrderLaws.{All-with_number, counts-with_count, in_order_push}
 use Rattle.rmt_plain.specs.Counters.{IsThereIfHit}
-
--- the numbers of counters
-numbers-counts : (hits : List Hit) (ms : List ℕ) → map (λ (c : Count). c.entry) (map (count_for hits) ms) ≡ ms
-numbers-counts hits [] = refl
-numbers-counts hits (m ∷ ms) = ap (λ (ks : List ℕ). m ∷ ks) (numbers-counts hits ms)
-
--- a number behind others comes to its place
-in_order_push : (ns : List ℕ) (n : ℕ) → in_order (ns ++ n ∷ []) ≡ with_number n (in_order ns)
-in_order_push ns n =
-    sym (numbers-counts [] (in_order (ns ++ n ∷ [])))
-    ∙ ap (λ (cs : List Count). map (λ (c : Count). c.entry) cs) (sym (zeros_push ns n) ∙ with_count-with_number [] n (in_order ns) refl)
-    ∙ numbers-counts [] (with_number n (in_order ns))
-
--- what holds of numbers holds of them in order
-All-with_number : (P : ℕ → Type 0) (n : ℕ) (ms : List ℕ) → P n → All P ms → All P (with_number n ms)
-All-with_number P n [] one all = All-cons P n [] one all
-All-with_number P n (m ∷ ms) one all = by (nat_lt n m) (n == m) (All-with_number P n ms one (All-tail P m ms all))
-  where
-    by : (b e : Bool) → All P (with_number n ms) → All P (cond b (n ∷ m ∷ ms) (cond e (m ∷ ms) (m ∷ with_number n ms)))
-    by true e h = All-cons P n (m ∷ ms) one all
-    by false true h = all
-    by false false h = All-cons P m (with_number n ms) (All-head P m ms all) h
 
 All-in_order : (P : ℕ → Type 0) (ns : List ℕ) → All P ns → All P (in_order ns)
 All-in_order P [] all = All-nil P
 All-in_order P (n ∷ ns) all = All-with_number P n (in_order ns) (All-head P n ns all) (All-in_order P ns (All-tail P n ns all))
-
-map_agree : (f g : ℕ → Count) (ms : List ℕ) → All (λ m. f m ≡ g m) ms → map f ms ≡ map g ms
-map_agree f g [] h = refl
-map_agree f g (m ∷ ms) h =
-    ap (λ (c : Count). c ∷ map f ms) (All-head (λ k. f k ≡ g k) m ms h) ∙ ap (λ (cs : List Count). g m ∷ cs) (map_agree f g ms (All-tail (λ k. f k ≡ g k) m ms h))
 
 -- the items that a filter drops add nothing
 sum_kept : {X : Type 0} (f : X → ℕ) (test : X → Bool) (xs : List X) → All (λ x. test x ≡ false → f x ≡ 0) xs → sum_by f (filter test xs) ≡ sum_by f xs
@@ -84,7 +58,7 @@ there_of_all numbers hits = All-weaker (Contains numbers) (IsThereIfHit numbers 
 pub counts_push : (numbers : List ℕ) (hits : List Hit) (n : ℕ) → IsThereIfHit numbers hits n → with_count n (counts numbers hits) ≡ counts (numbers ++ n ∷ []) hits
 counts_push numbers hits n there =
     counts-with_count numbers hits n
-    ∙ map_agree (count_for (hits_among numbers hits)) (count_for hits) (in_order (n ∷ numbers))
+    ∙ map_alike (count_for (hits_among numbers hits)) (count_for hits) (in_order (n ∷ numbers))
     (All-in_order (λ m. count_for (hits_among numbers hits) m ≡ count_for hits m) (n ∷ numbers)
     (All-weaker (IsThereIfHit numbers hits) (λ m. count_for (hits_among numbers hits) m ≡ count_for hits m) (among_kept numbers hits) (n ∷ numbers)
     (All-cons (IsThereIfHit numbers hits) n numbers there (there_of_all numbers hits))))

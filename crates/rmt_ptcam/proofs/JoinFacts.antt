@@ -1,11 +1,9 @@
 -- What is known where an entry can be joined.
-use Rattle.std.proofs.Common.{◌≡◌, ◌⊎◌, ◌&&◌, cond, eqb, nat_lt, Bool, true, false, ℕ, ◌+◌, ◌-◌, ◌*◌, ◌%◌, ◌^◌, ◌<◌, ◌≤◌, List, [], ◌∷◌, ◌++◌, get_or, length, map, find, take, Option, Some, None, refl, sym, ap, subst, ◌∙◌, inl, inr}
+use Rattle.std.proofs.Common.{◌≡◌, ◌⊎◌, ◌&&◌, cond, eqb, nat_lt, Bool, true, false, ℕ, ◌+◌, ◌-◌, ◌*◌, ◌%◌, ◌^◌, ◌<◌, ◌≤◌, List, [], ◌∷◌, ◌++◌, length, map, find, Option, Some, None, refl, sym, ap, subst, ◌∙◌, inl, inr}
 use Rattle.std.specs.Prelude.{◌||◌, ◌==◌, All, bit_and, is_none, nat_le, option_map, slice_get, slice_index, unwrap_or}
 use Rattle.std.specs.List.{list_all}
 use Rattle.std.proofs.lemmas.Bool.{and_parts, or_cases, ltb-true, leb-true, eqb-true, eq-eqb}
-use Rattle.std.proofs.lemmas.Bool.Decides.{eqb_tells}
-use Rattle.std.proofs.lemmas.List.Elements.{All-head, All-tail, All-nil, filter_more}
-use Rattle.std.proofs.lemmas.List.{append-nil}
+use Rattle.std.proofs.lemmas.List.Elements.{All-head, All-tail, All-nil}
 use Rattle.std.specs.Int.Bits.{and_zero_r}
 use Rattle.rmt_bits.proofs.AllLaws.{All-from_test, All-slice_get}
 use Rattle.rmt_ptcam.specs.Types.{ParserConfig, ParserState, ParserEntry}
@@ -162,21 +160,7 @@ found_open states state value (x ∷ y ∷ ys) ends formed own =
     by false rest = rest
 
 -- the last entry of all
-ends_push : (es : List ParserEntry) (e : ParserEntry) → ends_open (es ++ e ∷ []) ≡ eqb e.mask 0
+pub ends_push : (es : List ParserEntry) (e : ParserEntry) → ends_open (es ++ e ∷ []) ≡ eqb e.mask 0
 ends_push [] e = refl
 ends_push (f ∷ []) e = refl
 ends_push (f ∷ g ∷ es) e = ends_push (g ∷ es) e
-
--- one entry more
-pub ends_more : (es : List ParserEntry) (state i : ℕ) (e : ParserEntry) (here : Bool) → i < length es → e ≡ get_or es i e → here ≡ ends_open (entries_in state (take i es))
-    → (new : Bool) → (e.state ≡ state → new ≡ eqb e.mask 0) → ((e.state ≡ state → ⊥) → new ≡ here) → new ≡ ends_open (entries_in state (take (i + 1) es))
-ends_more es state i e here lt read so_far new own other =
-    let more : entries_in state (take (i + 1) es) ≡ entries_in state (take i es) ++ cond (eqb e.state state) (e ∷ []) [] =
-    filter_more (λ (x : ParserEntry). eqb x.state state) es i e lt
-    ∙ ap (λ (x : ParserEntry). entries_in state (take i es) ++ cond (eqb x.state state) (x ∷ []) []) (sym read) in
-    elim (eqb_tells e.state state) [
-      | inl (is, same) ↦
-          own same ∙ sym (ap ends_open (more ∙ ap (λ (b : Bool). entries_in state (take i es) ++ cond b (e ∷ []) []) is) ∙ ends_push (entries_in state (take i es)) e)
-      | inr (is, differ) ↦
-          other differ ∙ so_far ∙ sym (ap ends_open (more ∙ ap (λ (b : Bool). entries_in state (take i es) ++ cond b (e ∷ []) []) is ∙ append-nil (entries_in state (take i es))))
-    ]

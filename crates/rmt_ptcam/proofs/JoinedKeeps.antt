@@ -15,14 +15,14 @@ use Rattle.rmt_config.specs.declared.config.Extract.TheVariants.{Bits, One}
 use Rattle.rmt_config.specs.declared.config.Next.TheVariants as next
 use Rattle.rmt_config.specs.LaneForm.{lane_is_formed}
 use Rattle.rmt_config.specs.ParserForm.{extract_is_formed, lookups_of, next_is_formed, state_is_formed}
-use Rattle.rmt_ptcam.specs.Joining.{IsGood, KeepsForm, Row, both, byte_at, can_join, entries_in, join_at, join_to, joined, joined_entry, joined_row, lookups_at, moved, rows_in, rows_of, spread, together, widened, widened_entry}
+use Rattle.rmt_ptcam.specs.Joining.{KeepsForm, Row, both, byte_at, can_join, entries_in, join_at, join_to, joined, joined_entry, joined_row, lookups_at, moved, rows_in, rows_of, spread, together, widened, widened_entry}
 use Rattle.rmt_ptcam.proofs.AddingLaws.{length_rows, row_of}
 use Rattle.rmt_ptcam.proofs.FormLaws.{sorted-append, sorted-same}
 use Rattle.rmt_ptcam.proofs.FormedRows.{IsFormed, IsRow, entries_of_rows, rows_are}
 use Rattle.rmt_ptcam.proofs.TailForms.{IsRowTail}
 use Rattle.rmt_ptcam.proofs.JoinFacts.{MayJoin, RiseLow, are_joined, entry_compares, lookups_formed, may_join, rows_in_entries}
 use Rattle.rmt_ptcam.proofs.JoinedForm.{made_keeps}
-use Rattle.rmt_ptcam.proofs.JoinedParse.{formed_e, get_set_same, joined_alike, next_there, second_formed, second_own}
+use Rattle.rmt_ptcam.proofs.JoinedParse.{formed_e, get_set_same, next_there, second_formed, second_own}
 use Rattle.rmt_ptcam.proofs.LookupLaws.{Compares, byte_small, compares_at, compares_by}
 use Rattle.rmt_ptcam.proofs.TogetherLaws.{both_compares, few_here, list_all_below, together_low, together_rises}
 use Rattle.rmt_bits.proofs.ListLaws.{slice_get-set_other}
@@ -358,21 +358,6 @@ module _ (parser : ParserConfig) (keeps : KeepsForm parser) (at : ℕ) (e : Pars
       made_keeps states rows (omega (arith, many, some)) (omega (arith, many, few)) (omega (arith, count, room)) states_formed rows_formed rows_sorted
 
 -- ---- what joining gives
-
-pub join_good : (parser : ParserConfig) → KeepsForm parser → (at : ℕ) (o : Option ParserEntry) → slice_get parser.entries at ≡ o → IfSome (join_at parser at o) (IsGood parser)
-join_good parser keeps at None there = tt
-join_good parser keeps at (Some e) there = by e.next refl
-  where
-    when : (m : ℕ) (b : Bool) → e.next ≡ next.State m → can_join parser at e m ≡ b → IfSome (cond b (Some (joined parser at e m)) None) (IsGood parser)
-    when m true on can =
-        let may : MayJoin parser at e m = may_join parser at e m can in
-        record { alike = joined_alike parser keeps at e m there on may; keeps = joined_keeps parser keeps at e m there on may }
-    when m false on can = tt
-
-    by : (to : Next) → e.next ≡ to → IfSome (join_to parser at e to) (IsGood parser)
-    by next.Accept on = tt
-    by next.Reject on = tt
-    by (next.State m) on = when m (can_join parser at e m) on refl
 
 -- at most one entry goes
 pub join_counts : (parser : ParserConfig) → KeepsForm parser → (at : ℕ) (o : Option ParserEntry) → slice_get parser.entries at ≡ o → IfSome (join_at parser at o) (λ q. length parser.entries ≤ length q.entries + 1)

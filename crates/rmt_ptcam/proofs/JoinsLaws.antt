@@ -8,7 +8,7 @@ use Rattle.std.proofs.lemmas.Bool.{eq-eqb, eqb-false, le-ltb, lt-ltb, ltb-false}
 use Rattle.std.proofs.lemmas.List.{append-nil, reverse-append}
 use Rattle.std.proofs.lemmas.List.Elements.{All-head, All-tail}
 use Rattle.std.proofs.lemmas.Option.{get_or_from_slice_get, same_Some, slice_get_within}
-use Rattle.rmt_bits.proofs.ListLaws.{range_more}
+use Rattle.rmt_bits.proofs.ListLaws.{range_more, slice_get-item}
 use Rattle.rmt_bits.specs.declared.lane.Lane.{Lane}
 use Rattle.rmt_ptcam.specs.Types.{Program, ParserConfig, ParserEntry}
 use Rattle.rmt_ptcam.specs.declared.joins.Join.{Join}
@@ -88,6 +88,16 @@ named_at parser keeps at e there =
     let inside : nat_lt entry (length (entries_in e.state es)) ≡ true = lt-ltb entry (length (entries_in e.state es)) (omega (arith, first, own)) in
     let same : number_of_entry es e.state entry ≡ at = omega (arith, first) in
     ap (λ (b : Bool). cond b (join_of parser e.state entry) None) inside ∙ ap (λ k. join_at parser k (slice_get es k)) same ∙ ap (join_at parser at) there
+
+-- a join that is told by an entry's number
+pub named_entry : (parser : ParserConfig) → KeepsForm parser → (at : ℕ) (j : Join) → at < length parser.entries
+    → IfSome (slice_get parser.entries at) (λ (x : ParserEntry). ◌≡◌ {A = Join} j (record { state = x.state; entry = at - number_of_entry parser.entries x.state 0 }))
+    → join_named parser j ≡ join_at parser at (slice_get parser.entries at)
+named_entry parser keeps at j lt is =
+    let found = slice_get-item parser.entries at lt in
+    let own : j ≡ record { state = found.0.state; entry = at - number_of_entry parser.entries found.0.state 0 } =
+    subst (λ (o : Option ParserEntry). IfSome o (λ (x : ParserEntry). ◌≡◌ {A = Join} j (record { state = x.state; entry = at - number_of_entry parser.entries x.state 0 }))) found.1 is in
+    ap (join_named parser) own ∙ named_at parser keeps at found.0 found.1 ∙ ap (join_at parser at) (sym found.1)
 
 -- ---- one after another
 

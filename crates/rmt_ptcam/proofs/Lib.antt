@@ -34,3 +34,5 @@ pub mod FormedParsers
 pub mod JoinsLaws
 pub mod JoinsCount
 pub mod ReplayLaws
+pub mod GroupLaws
+pub mod InPlaceLaws

@@ -30,7 +30,7 @@ use Rattle.rmt_ptcam.proofs.PlainForm.{plain_keeps}
 -- ---- what each join keeps, a list of joins keeps
 
 module _ (P : ParserConfig → Type 0) (stays : StaysUnderJoins P) where
-  named_holds : (parser : ParserConfig) (j : Join) → P parser → IfSome (join_named parser j) P
+  pub named_holds : (parser : ParserConfig) (j : Join) → P parser → IfSome (join_named parser j) P
   named_holds parser j here = by (nat_lt j.entry (length (entries_in j.state parser.entries)))
     where
       by : (b : Bool) → IfSome (cond b (join_of parser j.state j.entry) None) P
@@ -53,7 +53,7 @@ module _ (P : ParserConfig → Type 0) (stays : StaysUnderJoins P) where
       by (Some q) is = compacts q is
 
 -- a parser that ends as another one, and keeps the rules of form, does so behind a join
-join_stays : (one : ParserConfig) → StaysUnderJoins (IsGood one)
+pub join_stays : (one : ParserConfig) → StaysUnderJoins (IsGood one)
 join_stays one parser at e m there on can good =
     let may = may_join parser at e m can in
     good_on one parser _ good (record { alike = joined_alike parser good.keeps at e m there on may; keeps = joined_keeps parser good.keeps at e m there on may })

@@ -87,7 +87,7 @@ module _ (parser : ParserConfig) (goes : ℕ → Reached → Parse) (frame : Lis
 -- ---- a parser that is made of rows
 
 -- rows whose tails have their numbers, from n on
-abbrev renumbered : ℕ → List Row → List Row
+abbrev pub renumbered : ℕ → List Row → List Row
 renumbered n [] = []
 renumbered n (x ∷ xs) = record x { tail = option_map (λ (t : TailOf). record t { entry = n }) x.tail } ∷ renumbered (n + 1) xs
 
@@ -103,7 +103,7 @@ no_tail_before (x ∷ xs) n m lt = by x.tail (no_tail_before xs (n + 1) m (omega
     by None rest = rest
     by (Some t) rest = ap (λ (b : Bool). cond b (Some (record t { entry = n })) (find (of_entry m) (tails_in (n + 1) xs))) (ne_eqb n m (λ e. omega (arith, lt, e))) ∙ rest
 
-abbrev with_number : ℕ → Option TailOf → Option TailOf
+abbrev pub with_number : ℕ → Option TailOf → Option TailOf
 with_number n o = option_map (λ (t : TailOf). record t { entry = n }) o
 
 tail_here : (n : ℕ) (o : Option TailOf) (xs : List Row) → find (of_entry n) (numbered n o ++ tails_in (n + 1) xs) ≡ with_number n o
@@ -115,7 +115,7 @@ tail_past n m None xs lt = refl
 tail_past n m (Some t) xs lt = ap (λ (b : Bool). cond b (Some (record t { entry = n })) (find (of_entry m) (tails_in (n + 1) xs))) (ne_eqb n m (λ e. omega (arith, lt, e)))
 
 -- the tail of each row, by its number
-tail_found : (front back : List Row) (x : Row) (n m : ℕ) → n + length front ≡ m → find (of_entry m) (tails_in n (front ++ x ∷ back)) ≡ with_number m x.tail
+pub tail_found : (front back : List Row) (x : Row) (n m : ℕ) → n + length front ≡ m → find (of_entry m) (tails_in n (front ++ x ∷ back)) ≡ with_number m x.tail
 tail_found [] back x n m at =
     let same : n ≡ m = omega (arith, at) in
     subst (λ k. find (of_entry k) (tails_in n (x ∷ back)) ≡ with_number k x.tail) same (tail_here n x.tail back)

@@ -1,4 +1,4 @@
--- The clustered parser of a program: headers of one step (Gibb et al. 2013).
+-- The clustered parser of a program: headers of one step.
 use Rattle.std.specs.Prelude.{ℕ, ◌+◌, ◌-◌, List, [], ◌∷◌, ◌++◌, Bool, false, ◌||◌, ◌==◌, if◌then◌else◌, Option, Some, None, Result, map, fold, reverse, length, slice_get}
 use Rattle.std.specs.List.{filter, flat_map, range_with_len}
 use Rattle.rmt_bits.specs.declared.lane.Lane.{Lane}

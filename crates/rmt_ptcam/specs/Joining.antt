@@ -1,4 +1,4 @@
--- Two steps of the parser in one: an entry is joined to the entries of the state that it goes to (Gibb et al. 2013: clusters of headers).
+-- Two steps of the parser in one: an entry is joined to the entries of the state that it goes to.
 use Rattle.std.specs.Prelude.{◌≡◌, ◌<◌, ℕ, ◌+◌, ◌-◌, ◌*◌, ◌%◌, ◌^◌, List, [], ◌∷◌, ◌++◌, Bool, true, false, ◌&&◌, ◌||◌, ◌==◌, nat_lt, nat_le, if◌then◌else◌, All, Option, Some, None, option_map, unwrap_or, is_none, map, take, drop, length, slice_get, slice_set}
 use Rattle.std.specs.List.{filter, list_any, list_all, range_with_len}
 use Rattle.rmt_bits.specs.Bits.{slice}
@@ -10,13 +10,10 @@ use Rattle.rmt_config.specs.Order.{rises_from}
 use Rattle.rmt_config.specs.ParserForm.{state_is_formed, entry_is_formed}
 use Rattle.rmt_config.specs.TailForm.{is_tail_of}
 use Rattle.rmt_ptcam.specs.Fitting.{IsParser}
+-- an entry with its tail, where it has one
+pub use Rattle.rmt_ptcam.specs.declared.grouped.Row.{Row}
 
 -- ---- a parser as rows
-
--- an entry with its tail, where it has one
-pub record Row : Type 0 where
-  pub entry : ParserEntry
-  pub tail : Option TailOf
 
 -- rows of entries, the first of which has number n
 abbrev pub rows_from : ParserConfig → ℕ → List ParserEntry → List Row

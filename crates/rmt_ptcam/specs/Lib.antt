@@ -7,4 +7,5 @@ pub mod Joining
 pub mod Adding
 pub mod Clustering
 pub mod Joins
+pub mod Grouping
 pub mod Steps

@@ -1,20 +1,18 @@
 //! The joins of the clustered parser: which entries are joined, and in which order.
 
-ghost use Rattle.std.specs.Prelude.{◌≡◌, ◌≤◌, ◌<◌, ◌+◌, ◌-◌, ◌++◌, ◌∷◌, [], List, length, map, fold, slice_get, IfOk, IfSome, OnOk};
+ghost use Rattle.std.specs.Prelude.{◌≡◌, ◌≤◌, ◌<◌, ◌+◌, ◌++◌, ◌∷◌, [], List, length, map, fold, slice_get, IfOk, IfSome, OnOk};
 ghost use Rattle.std.specs.List.{filter, flat_map, range_with_len};
 ghost use Rattle.rmt_ast.specs.declared.program.Case.{Case};
-ghost use Rattle.std.specs.List.Sorted.{IsNonDecreasingBy};
 ghost use Rattle.rmt_config.specs.declared.config.ParserConfig.{ParserConfig};
-ghost use Rattle.rmt_config.specs.declared.config.ParserEntry.{ParserEntry};
-ghost use Rattle.rmt_ptcam.specs.Joining.{IsGood, KeepsForm, number_of_entry as number_of_entry_of};
+ghost use Rattle.rmt_ptcam.specs.Joining.{IsGood, KeepsForm};
 ghost use Rattle.rmt_ptcam.specs.Joins.{entry_joins, header_joins, headers_joins};
 ghost use Rattle.rmt_ptcam.specs.Clustering.{targets_of, goes_to as goes_to_of, is_wanted as is_wanted_of, one_entry as one_entry_of, one_header as one_header_of, all_joined as all_joined_of};
 
-use crate::joining::{count_in, join_at, number_of_entry};
+use crate::joining::{count_in, join_at, join_of_entry, number_of_entry};
 use crate::joins::Join;
 use rmt_ast::program::{Header, Program, Target};
 use rmt_bits::sequence::Sequence;
-use rmt_config::config::{Next, ParserConfig, ParserEntry};
+use rmt_config::config::{Next, ParserConfig};
 use std::alloc::{AllocError, Global};
 
 /// Adds the targets of a header: those of its cases, and that of all other packets.
@@ -74,21 +72,6 @@ fn is_wanted(program: &Program, targets: &[Target], parser: &ParserConfig, next:
         Next::State(state) => {
             count_in(parser.entries.as_slice(), state) == 1 || count_to(targets, state) == 1
         }
-    }
-}
-
-/// The join of the entry with this number.
-fn join_of_entry(entries: &[ParserEntry], at: usize) -> Join
-    requires sorted { IsNonDecreasingBy (λ (e : ParserEntry). e.state) entries.now }
-    requires there { at < length entries.now }
-    requires few { length entries.now < 65536 }
-    ensures { IfSome (slice_get entries.now at) (λ e. result ≡ record { state = e.state; entry = at - number_of_entry_of entries.now e.state 0 }) }
-{
-    let state = entries[at].state;
-    let first = number_of_entry(entries, state, 0);
-    Join {
-        state,
-        entry: (at - first) as u16,
     }
 }
 

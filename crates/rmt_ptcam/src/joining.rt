@@ -1,78 +1,19 @@
 //! One entry of the parser joined to the entries of the state that it goes to.
 
-ghost use Rattle.std.specs.Prelude.{◌≡◌, ◌≤◌, ◌<◌, ◌+◌, ◌-◌, ◌&&◌, ◌||◌, ◌==◌, true, Some, None, if◌then◌else◌, nat_le, nat_lt, length, take, drop, ◌++◌, slice_get, slice_set, IfOk, OnOk, IfSome, IsTrue};
-ghost use Rattle.std.specs.List.{list_all};
-ghost use Rattle.rmt_config.specs.declared.config.Next.TheVariants.{State};
-ghost use Rattle.rmt_config.specs.declared.config.ParserState.{ParserState};
+ghost use Rattle.std.specs.Prelude.{◌≡◌, ◌≤◌, ◌<◌, ◌+◌, ◌-◌, length, slice_get, IfOk, IfSome, IsTrue};
+ghost use Rattle.std.specs.List.Sorted.{IsNonDecreasingBy};
+ghost use Rattle.rmt_config.specs.declared.config.ParserEntry.{ParserEntry};
 ghost use Rattle.rmt_config.specs.ParserForm.{parser_is_formed};
-ghost use Rattle.rmt_ptcam.specs.Joining.{IsGood, KeepsForm, ParsesAlike, lookups_at as lookups_at_of, compares_before as compares_before_of, ends_open as ends_open_of, is_light as is_light_of, entries_in, can_join as can_join_of, together as together_of, joined as joined_of, join_to as join_to_of, join_at as join_at_of, join_of, number_of_entry as number_of_entry_of};
+ghost use Rattle.rmt_ptcam.specs.Joining.{IsGood, KeepsForm, ParsesAlike, entries_in, join_at as join_at_of, join_of, number_of_entry as number_of_entry_of};
+ghost use Rattle.rmt_ptcam.specs.Joins.{join_named};
 
-use crate::entry_rows::{push_joined, push_widened};
 use crate::fault::JoinFault;
-use crate::lookups::{byte_at, together};
-use crate::search::entry_tail;
+use crate::grouped::{flattened, grouped};
+use crate::in_place::join_in;
+use crate::joins::Join;
 use rmt_bits::answer::Bytes;
-use rmt_bits::sequence::Sequence;
-use rmt_config::config::{Next, ParserConfig, ParserEntry, ParserState};
+use rmt_config::config::{ParserConfig, ParserEntry};
 use std::alloc::{AllocError, Global};
-
-/// The lookups of a state.
-fn lookups_at(states: &[ParserState], state: u8) -> &[u8]
-    requires { state < length states.now }
-    ensures { result.now ≡ lookups_at_of states.now state }
-{
-    states[usize::from(state)].lookups.as_slice()
-}
-
-/// Whether an entry compares only bytes before those by which it moves the cursor.
-fn compares_before(here: &[u8], entry: &ParserEntry) -> bool
-    ensures { result ≡ compares_before_of here.now entry.now }
-{
-    here.iter().all(|offset| *offset < entry.advance || byte_at(here, entry.mask, *offset) == 0)
-}
-
-/// Whether a state has an entry, and its last one compares nothing.
-fn ends_open(entries: &[ParserEntry], state: u8) -> bool
-    ensures { result ≡ ends_open_of (entries_in state entries.now) }
-{
-    let mut open = false;
-    for entry in entries {
-        if entry.state == state {
-            open = entry.mask == 0;
-        }
-    }
-    open
-}
-
-/// Whether lookups that begin so many bytes behind are within 128 bytes.
-fn all_low(bytes: u8, there: &[u8]) -> bool
-    ensures { result ≡ list_all (λ o. nat_lt (o + bytes) 128) there.now }
-{
-    there
-        .iter()
-        .all(|offset| u16::from(*offset) + u16::from(bytes) < 128)
-}
-
-/// Whether the joined entry needs at most 128 bytes and has at most 64 extracts.
-fn is_light(first: &ParserEntry, second: &ParserEntry) -> bool
-    ensures { result ≡ is_light_of first.now second.now }
-{
-    u16::from(first.need) + u16::from(second.need) <= 128
-        && first.extracts.len() <= 64
-        && second.extracts.len() <= 64 - first.extracts.len()
-}
-
-/// The same with each entry of a state.
-fn all_light(first: &ParserEntry, entries: &[ParserEntry], state: u8) -> bool
-    ensures { result ≡ list_all (is_light_of first.now) (entries_in state entries.now) }
-{
-    for entry in entries {
-        if entry.state == state && !is_light(first, entry) {
-            return false;
-        }
-    }
-    true
-}
 
 /// How many entries a state has.
 pub fn count_in(entries: &[ParserEntry], state: u8) -> usize
@@ -85,34 +26,6 @@ pub fn count_in(entries: &[ParserEntry], state: u8) -> usize
         }
     }
     count
-}
-
-/// Whether so many entries and as many more, one of them twice, are at most 16,384.
-fn have_room(entries: usize, more: usize) -> bool
-    ensures { result ≡ nat_le (entries + more) 16385 }
-{
-    entries <= 16385 && more <= 16385 - entries
-}
-
-/// Whether an entry can be joined to those of a state; `to` is the lookups of both together.
-fn can_join(parser: &ParserConfig, at: usize, first: &ParserEntry, state: u8, to: &[u8]) -> bool
-    requires keeps { KeepsForm parser.now }
-    requires own { first.now.state < length parser.now.states }
-    requires other { state < length parser.now.states }
-    requires to { to.now ≡ together_of (lookups_at_of parser.now.states first.now.state) first.now.advance (lookups_at_of parser.now.states state) }
-    ensures { result ≡ can_join_of parser.now at first.now state }
-{
-    let entries = parser.entries.as_slice();
-    let here = lookups_at(parser.states.as_slice(), first.state);
-    let there = lookups_at(parser.states.as_slice(), state);
-    entry_tail(parser, at).is_none()
-        && first.need == first.advance
-        && compares_before(here, first)
-        && ends_open(entries, state)
-        && all_low(first.advance, there)
-        && to.len() <= 4
-        && all_light(first, entries, state)
-        && have_room(entries.len(), count_in(entries, state))
 }
 
 /// The number of a state's entry among all.
@@ -129,23 +42,19 @@ pub fn number_of_entry(entries: &[ParserEntry], state: u8, entry: u16) -> usize
     count + usize::from(entry)
 }
 
-/// Adds copies of the states from a number on up to another one.
-fn push_states(
-    alloc: Global,
-    states: &mut Sequence<ParserState>,
-    others: &[ParserState],
-    start: usize,
-    end: usize,
-) -> Result<(), AllocError>
-    requires order { start ≤ end }
-    requires within { end ≤ length others.now }
-    ensures { OnOk result (states.new ≡ states.old ++ take (end - start) (drop start others.now)) }
+/// The join of the entry with this number.
+pub fn join_of_entry(entries: &[ParserEntry], at: usize) -> Join
+    requires sorted { IsNonDecreasingBy (λ (e : ParserEntry). e.state) entries.now }
+    requires there { at < length entries.now }
+    requires few { length entries.now < 65536 }
+    ensures { IfSome (slice_get entries.now at) (λ e. result ≡ record { state = e.state; entry = at - number_of_entry_of entries.now e.state 0 }) }
 {
-    for number in start..end {
-        let lookups = copied(alloc, others[number].lookups.as_slice())?;
-        states.push(ParserState { lookups })?;
+    let state = entries[at].state;
+    let first = number_of_entry(entries, state, 0);
+    Join {
+        state,
+        entry: (at - first) as u16,
     }
-    Ok(())
 }
 
 /// A copy of bytes.
@@ -155,83 +64,21 @@ pub fn copied(alloc: Global, bytes: &[u8]) -> Result<Bytes, AllocError>
     Ok(Bytes::from_vec(Vec::from_slice(alloc, bytes)?))
 }
 
-/// Copies of the states, one of them with other lookups.
-fn with_lookups(
-    alloc: Global,
-    others: &[ParserState],
-    state: u8,
-    to: &[u8],
-) -> Result<Sequence<ParserState>, AllocError>
-    requires { state < length others.now }
-    ensures { IfOk result (λ states. states ≡ slice_set others.now state (record { lookups = to.now })) }
-{
-    let number = usize::from(state);
-    let mut states = Sequence::new(alloc);
-    push_states(alloc, &mut states, others, 0, number)?;
-    let lookups = copied(alloc, to)?;
-    states.push(ParserState { lookups })?;
-    push_states(alloc, &mut states, others, number + 1, others.len())?;
-    Ok(states)
-}
-
-/// The parser in which an entry is replaced by those that it is joined to; `to` is the lookups of both states together.
-fn joined(
+/// A copy of the parser behind one join, where its entry is there and can be joined.
+fn behind_join(
     alloc: Global,
     parser: &ParserConfig,
-    at: usize,
-    first: &ParserEntry,
-    state: u8,
-    to: &[u8],
-) -> Result<ParserConfig, AllocError>
-    requires keeps { KeepsForm parser.now }
-    requires there { slice_get parser.now.entries at ≡ Some first.now }
-    requires own { first.now.state < length parser.now.states }
-    requires other { state < length parser.now.states }
-    requires to { to.now ≡ together_of (lookups_at_of parser.now.states first.now.state) first.now.advance (lookups_at_of parser.now.states state) }
-    requires can { can_join_of parser.now at first.now state ≡ true }
-    ensures { IfOk result (λ p. p ≡ joined_of parser.now at first.now state) }
-{
-    let here = lookups_at(parser.states.as_slice(), first.state);
-    let there = lookups_at(parser.states.as_slice(), state);
-    let own = first.state;
-    let states = with_lookups(alloc, parser.states.as_slice(), own, to)?;
-    let mut es = Sequence::new(alloc);
-    let mut ts = Sequence::new(alloc);
-    push_widened(alloc, &mut es, &mut ts, parser, 0, at, own, here, to)?;
-    push_joined(
-        alloc, &mut es, &mut ts, parser, state, first, here, there, to,
-    )?;
-    let end = parser.entries.len();
-    push_widened(alloc, &mut es, &mut ts, parser, at + 1, end, own, here, to)?;
-    Ok(ParserConfig {
-        states,
-        entries: es,
-        tails: ts,
-    })
-}
-
-/// An entry joined to those of a state, where it can be.
-fn join_to(
-    alloc: Global,
-    parser: &ParserConfig,
-    at: usize,
-    first: &ParserEntry,
-    state: u8,
+    join: Join,
 ) -> Result<Option<ParserConfig>, AllocError>
     requires keeps { KeepsForm parser.now }
-    requires there { slice_get parser.now.entries at ≡ Some first.now }
-    requires own { first.now.state < length parser.now.states }
-    requires other { state < length parser.now.states }
-    ensures { IfOk result (λ o. o ≡ join_to_of parser.now at first.now (State state)) }
+    ensures given { IfOk result (λ o. o ≡ join_named parser.now join) }
+    ensures good { IfOk result (λ o. IfSome o (IsGood parser.now)) }
 {
-    let here = lookups_at(parser.states.as_slice(), first.state);
-    let there = lookups_at(parser.states.as_slice(), state);
-    let to = together(alloc, here, first.advance, there)?;
-    if can_join(parser, at, first, state, to.as_slice()) {
-        Ok(Some(joined(alloc, parser, at, first, state, to.as_slice())?))
-    } else {
-        Ok(None)
+    let mut groups = grouped(alloc, parser)?;
+    if !join_in(alloc, &mut groups, join)? {
+        return Ok(None);
     }
+    Ok(Some(flattened(alloc, &groups)?))
 }
 
 /// The entry with this number joined to those of the state that it goes to, where it can be.
@@ -246,12 +93,8 @@ pub fn join_at(
     ensures good { IfOk result (λ o. IfSome o (IsGood parser.now)) }
     ensures count { IfOk result (λ o. IfSome o (λ q. length parser.now.entries ≤ length q.entries + 1)) }
 {
-    let first = &parser.entries.as_slice()[at];
-    match first.next {
-        Next::Accept => Ok(None),
-        Next::Reject => Ok(None),
-        Next::State(state) => join_to(alloc, parser, at, first, state),
-    }
+    let join = join_of_entry(parser.entries.as_slice(), at);
+    behind_join(alloc, parser, join)
 }
 
 /// Joins an entry to those of the state that it goes to: the parser in which the entry is replaced by one for each of them,

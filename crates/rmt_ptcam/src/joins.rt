@@ -1,19 +1,21 @@
 //! The joins of the clustered parser, told and made again.
 
-ghost use Rattle.std.specs.Prelude.{◌≡◌, ◌≢◌, ◌≤◌, Some, Err, length, IfOk, IfSome, IsTrue};
+ghost use Rattle.std.specs.Prelude.{◌≡◌, ◌≢◌, ◌≤◌, if◌then◌else◌, Some, None, Err, length, IfOk, IfSome, IsTrue};
 ghost use Rattle.rmt_ast.specs.WellFormed.{IsProgram};
 ghost use Rattle.rmt_config.specs.ParserForm.{parser_is_formed};
 ghost use Rattle.rmt_phv.specs.Places.{KeepsApart};
 ghost use Rattle.rmt_ptcam.specs.declared.fault.ParserFault.TheVariants.{NoMemory};
 ghost use Rattle.rmt_ptcam.specs.Clustering.{clustered};
-ghost use Rattle.rmt_ptcam.specs.Joining.{IsGood, KeepsForm, ParsesAlike};
-ghost use Rattle.rmt_ptcam.specs.Joins.{behind_joins as behind_joins_of, join_named as join_named_of, joins_or, replayed as replayed_of};
+ghost use Rattle.rmt_ptcam.specs.Grouping.{Stand, parser_in};
+ghost use Rattle.rmt_ptcam.specs.Joining.{ParsesAlike};
+ghost use Rattle.rmt_ptcam.specs.Joins.{behind_joins as behind_joins_of, joins_or, replayed as replayed_of};
 ghost use Rattle.rmt_ptcam.specs.Plain.{plain};
 
 use crate::clustering::all_joined;
 use crate::compact::compact;
 use crate::fault::{JoinFault, ParserFault};
-use crate::joining::{count_in, join_at, number_of_entry};
+use crate::grouped::{StateRows, flattened, grouped};
+use crate::in_place::join_in;
 use crate::plain::plain_parser;
 use rmt_ast::program::Program;
 use rmt_bits::sequence::Sequence;
@@ -53,49 +55,24 @@ pub fn joins_of(
     Ok(all_joined(alloc, program, &mut parser)?)
 }
 
-/// The parser behind one join, where its entry is there and can be joined.
-fn join_named(
-    alloc: Global,
-    parser: &ParserConfig,
-    join: Join,
-) -> Result<Option<ParserConfig>, AllocError>
-    requires keeps { KeepsForm parser.now }
-    ensures given { IfOk result (λ o. o ≡ join_named_of parser.now join) }
-    ensures good { IfOk result (λ o. IfSome o (IsGood parser.now)) }
-    ensures states { IfOk result (λ o. IfSome o (λ q. length q.states ≡ length parser.now.states)) }
-{
-    let entries = parser.entries.as_slice();
-    if usize::from(join.entry) >= count_in(entries, join.state) {
-        return Ok(None);
-    }
-    let at = number_of_entry(entries, join.state, join.entry);
-    join_at(alloc, parser, at)
-}
-
-/// The parser behind joins, one after another; the first one that can't be made ends it.
-fn behind_joins(
-    alloc: Global,
-    mut parser: ParserConfig,
-    joins: &[Join],
-) -> Result<Option<ParserConfig>, AllocError>
-    requires keeps { KeepsForm parser }
-    ensures given { IfOk result (λ o. o ≡ behind_joins_of parser joins.now) }
-    ensures good { IfOk result (λ o. IfSome o (IsGood parser)) }
-    ensures states { IfOk result (λ o. IfSome o (λ q. length q.states ≡ length parser.states)) }
+/// Makes joins in place, one after another, and tells whether all were made; the first one that can't be made ends it.
+fn all_in(alloc: Global, groups: &mut [StateRows], joins: &[Join]) -> Result<bool, AllocError>
+    requires stand { Stand groups.old }
+    ensures { IfOk result (λ made. (if made then Some (parser_in groups.new) else None) ≡ behind_joins_of (parser_in groups.old) joins.now) }
 {
     for join in joins {
-        match join_named(alloc, &parser, *join)? {
-            None => return Ok(None),
-            Some(next) => parser = next,
+        if !join_in(alloc, groups, *join)? {
+            return Ok(false);
         }
     }
-    Ok(Some(parser))
+    Ok(true)
 }
 
 /// Makes joins on a parser, one after another; then states that can't be met are left out, and the others numbered in order.
 ///
 /// It is `None` where the entry of a join isn't there by then, or can't be joined, as `join` says. A join that can't be made
-/// ends the work, and copies nothing; one that is made takes the time of one copy of the parser.
+/// ends the work. One that is made takes the time of a look at each state and of the entries that come in place of its own,
+/// and touches the other entries of its state only where that looks at more bytes than before, or where more than one comes.
 ///
 /// # Errors
 ///
@@ -115,8 +92,10 @@ pub fn replayed(
     // It keeps the rules of form.
     ensures formed { IfOk result (λ o. IfSome o (λ q. IsTrue (parser_is_formed q))) }
 {
-    match behind_joins(alloc, parser, joins)? {
-        None => Ok(None),
-        Some(behind) => Ok(Some(compact(alloc, &behind)?)),
+    let mut groups = grouped(alloc, &parser)?;
+    if !all_in(alloc, &mut groups, joins)? {
+        return Ok(None);
     }
+    let behind = flattened(alloc, &groups)?;
+    Ok(Some(compact(alloc, &behind)?))
 }

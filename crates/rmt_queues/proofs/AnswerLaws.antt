@@ -16,7 +16,7 @@ use Rattle.rmt_queues.specs.declared.rings.Ring.{Ring}
 use Rattle.rmt_queues.specs.Lists.{Lists, fits, free_cells, has_room, offer_answer, offered, queue_of, with_item}
 use Rattle.rmt_queues.specs.Rings.{ring_of}
 use Rattle.rmt_queues.specs.Stands.{Stands, StandsAt}
-use Rattle.rmt_queues.proofs.AlikeLaws.{sum_by_alike}
+use Rattle.rmt_bits.proofs.AlikeLaws.{sum_by_alike}
 use Rattle.rmt_queues.proofs.CountLaws.{any_counted, others_counted, room_left, standing_few}
 use Rattle.rmt_queues.proofs.StandingLaws.{index_of}
 

@@ -11,7 +11,8 @@ use Rattle.rmt_queues.specs.Calls.{Call, ItemCopy, after, after_all, given, give
 use Rattle.rmt_queues.specs.Calls.Call.{Offer, Take}
 use Rattle.rmt_queues.specs.Laws.{EmptyQueuesFreeAll, NothingIsLost}
 use Rattle.rmt_queues.specs.Lists.{Lists, empty, fits, has_room, item_of, offered, queue_of, standing, taken, with_item}
-use Rattle.rmt_queues.proofs.AlikeLaws.{map_alike, sum_by_none}
+use Rattle.rmt_bits.proofs.AlikeLaws.{map_alike}
+use Rattle.rmt_queues.proofs.AlikeLaws.{sum_by_none}
 use Rattle.rmt_queues.proofs.CountLaws.{standing_few}
 use Rattle.rmt_queues.proofs.EmptyLaws.{empty_queue}
 use Rattle.rmt_queues.proofs.OfferLaws.{queue_sent, queues_sent, with_copy_known}

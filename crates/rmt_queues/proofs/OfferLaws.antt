@@ -22,7 +22,8 @@ use Rattle.rmt_queues.specs.Lists.{Lists, copies_of, has_room, item_of, queue_of
 use Rattle.rmt_queues.specs.Rings.{AreRoomy, ring_of}
 use Rattle.rmt_queues.specs.Stands.{Keeps, StandsAt, held_items}
 use Rattle.rmt_queues.specs.Stored.{held_if, stored_at}
-use Rattle.rmt_queues.proofs.AlikeLaws.{filter_alike, flat_map_alike, map_alike, sum_by_none, sum_by_plus}
+use Rattle.rmt_bits.proofs.AlikeLaws.{filter_alike, flat_map_alike, map_alike}
+use Rattle.rmt_queues.proofs.AlikeLaws.{sum_by_none, sum_by_plus}
 use Rattle.rmt_queues.proofs.CopyLaws.{with_copy_count, with_copy_deep, with_copy_map}
 use Rattle.rmt_queues.proofs.CountLaws.{ports_counted}
 use Rattle.rmt_queues.proofs.StandingLaws.{all_apart, copies_absent, index_of, standing_known}

@@ -8,7 +8,7 @@ use Rattle.std.proofs.lemmas.List.Elements.{All-cons, All-head, All-nil, All-sam
 use Rattle.std.proofs.lemmas.List.Sums.{sum_by-cons, sum_by-set}
 use Rattle.rmt_bits.proofs.AllLaws.{All-range}
 use Rattle.rmt_queues.specs.Lists.{Lists, copies_of, queue_of, standing, taken}
-use Rattle.rmt_queues.proofs.AlikeLaws.{filter_alike}
+use Rattle.rmt_bits.proofs.AlikeLaws.{filter_alike}
 use Rattle.rmt_queues.proofs.StandingLaws.{index_of}
 
 -- the first of a queue, where its ring has one

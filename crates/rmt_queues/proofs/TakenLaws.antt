@@ -18,7 +18,7 @@ use Rattle.rmt_queues.specs.Lists.{Lists, copies_of, item_of, queue_of, standing
 use Rattle.rmt_queues.specs.Rings.{AreRoomy, ring_of}
 use Rattle.rmt_queues.specs.Stands.{Keeps, StandsAt, held_items}
 use Rattle.rmt_queues.specs.Stored.{held_if, stored_at}
-use Rattle.rmt_queues.proofs.AlikeLaws.{flat_map_alike}
+use Rattle.rmt_bits.proofs.AlikeLaws.{flat_map_alike}
 use Rattle.rmt_queues.proofs.StandingLaws.{all_apart, index_of}
 use Rattle.rmt_queues.proofs.TakeLaws.{back, copies_one, copies_other, first_known, front, queue_other, queue_taken, standing_last, standing_more, standing_split}
 

@@ -1,16 +1,12 @@
 //! Texts through tokens, syntax and check: the fault of each, or its program.
 
-ghost use Rattle.std.specs.Prelude.{◌<◌, length, IfOk};
-ghost use Rattle.rmt_ast.specs.WellFormed.{IsProgram};
+ghost use Rattle.std.specs.Prelude.{◌<◌, length};
 
-pub(crate) mod programs;
-pub(crate) mod shown;
-
-use crate::check::programs::{ARMS, ARMS_SHOWN, REALISTIC, REALISTIC_SHOWN, TWINS, TWINS_SHOWN};
-use crate::check::shown::shown;
+use crate::fixtures::programs::{ARMS, ARMS_SHOWN, REALISTIC, REALISTIC_SHOWN, TWINS, TWINS_SHOWN};
+use crate::fixtures::shown::shown;
+use crate::fixtures::texts::repeated;
 use rmt_ast::program::Program;
-use rmt_check::laws::one_meaning;
-use rmt_check::{check, read_program};
+use rmt_check::check;
 use rmt_lexer::fault::ProgramFault;
 use rmt_lexer::tokens;
 use rmt_syntax::syntax;
@@ -25,18 +21,6 @@ fn answer(alloc: Global, text: &[u8]) -> Result<Program, ProgramFault>
     let list = tokens(alloc, text)?;
     let tree = syntax(alloc, &list)?;
     check(alloc, &tree)
-}
-
-/// The program of a text, which is well formed.
-pub(crate) fn program_of(alloc: Global, text: &[u8]) -> Result<Program, ProgramFault>
-    requires { length text.now < 4294967295 }
-    ensures { IfOk result (λ program. IsProgram program) }
-{
-    one_meaning();
-    match read_program(alloc, text) {
-        Ok(program) => Ok(program),
-        Err(fault) => Err(fault),
-    }
 }
 
 /// A text, the code of its fault, and the line and the column where it is told.
@@ -534,29 +518,6 @@ fn tells_faults(rt: HostRuntime) {
     for (text, code, line, column) in &FAULTS {
         tells(&rt, text, *code, *line, *column);
     }
-}
-
-/// A text whose middle part is repeated, in which `#` is its number from 0 on.
-pub(crate) fn repeated(
-    alloc: Global,
-    front: &[u8],
-    piece: &[u8],
-    times: u16,
-    back: &[u8],
-) -> Result<Vec<u8>, AllocError> {
-    let mut text = Vec::from_slice(alloc, front)?;
-    for number in 0..times {
-        let digits = format!(in alloc; "{number}")?;
-        for byte in piece {
-            if *byte == b'#' {
-                text.extend_from_slice(digits.as_bytes())?;
-            } else {
-                text.push(*byte)?;
-            }
-        }
-    }
-    text.extend_from_slice(back)?;
-    Ok(text)
 }
 
 #[test]

@@ -1,7 +1,7 @@
 //! Entry texts: the lists of good lines of each kind of table, and each code of bad ones.
 
-use crate::check::program_of;
-use crate::check::programs::REALISTIC;
+use crate::fixtures::programs::REALISTIC;
+use crate::fixtures::texts::program_of;
 use rmt_ast::entry::{Entry, EntryLists};
 use rmt_entries::entries;
 use rmt_entries::fault::EntryFault;

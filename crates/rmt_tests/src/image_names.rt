@@ -1,7 +1,8 @@
 //! Images of version 2: each rule on names broken once, and what just keeps it.
 
+use crate::fixtures::images::IMAGE;
 use crate::image_rules::{GATED, STRICT_AND_WEAK, spliced};
-use crate::images::{IMAGE, read};
+use crate::images::read;
 use rmt_image::{read_image, write_image};
 use std::alloc::{AllocError, Global};
 use std::test::*;

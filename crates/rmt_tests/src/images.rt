@@ -1,18 +1,8 @@
+use crate::fixtures::images::IMAGE;
 use rmt_config::config::Config;
 use rmt_image::{ImageFault, read_image};
 use std::alloc::{AllocError, Global};
 use std::test::*;
-
-/// The smallest image: one header of a byte, and one table that sends each packet to port 1.
-pub const IMAGE: [u8; 95] = [
-    0x52, 0x4d, 0x54, 0x49, 0, 1, 0, 0x40, 0, 9, 0x41, 0, 9, 0, 0, 1, // letters, version, seed, ports
-    1, 1, 0, 1, 1, 1, 2, 0, 8, // the header
-    0, 1, 0, // the state
-    0, 1, 0, 0, 0, 0, 0, 0, 0, 0, 0, 1, 1, 0, 2, 1, 1, 0, 1, 0, 0, 0, 2, 0, 8, // the entry
-    1, 0, 0, 1, 1, 0, 0, 0, 0, 1, 0, 0, 0, 0, 0, 0, 0, 0, 0, // the stage and its slot
-    1, 0x41, 0, 9, 0, 2, 0, 0, 0, 1, 2, 0, 0, 0, 0, // its instruction
-    0, 0, 0, 0, 0, 0, 0, 0, // no rows
-];
 
 /// A place, the byte that stands there instead, and the code of the image that is read then.
 const BROKEN: [(usize, u8, u8); 55] = [

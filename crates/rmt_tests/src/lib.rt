@@ -1,12 +1,9 @@
-//! The tests of the library crates: worked rows and calls with ample memory, on public calls alone.
+//! The tests of texts, images, the chip, plain runs and the outside: worked rows and calls with ample memory, on public calls
+//! alone.
 #![tactic(auto)]
 
 #[cfg(test)]
-mod actions;
-#[cfg(test)]
 mod bits;
-#[cfg(test)]
-mod building;
 #[cfg(test)]
 mod captures;
 #[cfg(test)]
@@ -18,11 +15,12 @@ mod check;
 #[cfg(test)]
 mod chip;
 #[cfg(test)]
+mod commits;
+#[cfg(test)]
 mod counts;
 #[cfg(test)]
 mod entries;
-#[cfg(test)]
-mod formats;
+pub mod fixtures;
 #[cfg(test)]
 mod image_names;
 #[cfg(test)]
@@ -30,23 +28,15 @@ mod image_rules;
 #[cfg(test)]
 mod images;
 #[cfg(test)]
-mod joins;
-#[cfg(test)]
-mod layouts;
-#[cfg(test)]
 mod loading;
 #[cfg(test)]
-mod memories;
+mod messages;
 #[cfg(test)]
 mod names;
 #[cfg(test)]
 mod outside;
 #[cfg(test)]
 mod packets;
-#[cfg(test)]
-mod packing;
-#[cfg(test)]
-mod parsers;
 #[cfg(test)]
 mod pieces;
 #[cfg(test)]
@@ -57,8 +47,6 @@ mod queues;
 mod registers;
 #[cfg(test)]
 mod reports;
-#[cfg(test)]
-mod running;
 #[cfg(test)]
 mod shelves;
 #[cfg(test)]

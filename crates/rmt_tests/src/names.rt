@@ -2,8 +2,8 @@
 
 ghost use Rattle.std.specs.Prelude.{◌<◌, length};
 
-use crate::check::program_of;
-use crate::check::shown::push_name;
+use crate::fixtures::shown::push_name;
+use crate::fixtures::texts::program_of;
 use rmt_ast::name::NamesFault;
 use rmt_ast::names::Names;
 use rmt_ast::naming::names_of;

@@ -23,7 +23,7 @@ struct Case {
 }
 
 /// The plain run of two texts; None where one is bad, or for want of memory.
-fn started(alloc: Global, program: &[u8], text: &[u8]) -> Option<Plain>
+pub(crate) fn started(alloc: Global, program: &[u8], text: &[u8]) -> Option<Plain>
     requires program { length program.now < 4294967295 }
     requires entries { length text.now < 4294967295 }
 {
@@ -38,7 +38,7 @@ fn started(alloc: Global, program: &[u8], text: &[u8]) -> Option<Plain>
 }
 
 /// The lines of a run's counters, without those of no packet.
-fn counted(alloc: Global, plain: &Plain) -> Result<String, AllocError> {
+pub(crate) fn counted(alloc: Global, plain: &Plain) -> Result<String, AllocError> {
     let mut out = String::new(alloc);
     let counters = plain.counters();
     for at in 0..counters.len() {

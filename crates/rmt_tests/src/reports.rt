@@ -1,7 +1,7 @@
 //! Reports of images, byte by byte.
 
+use crate::fixtures::images::IMAGE;
 use crate::image_rules::{GATED, STRICT_AND_WEAK, WITHOUT_ENTRIES};
-use crate::images::IMAGE;
 use rmt_image::read_image;
 use rmt_report::report;
 use std::alloc::Global;

@@ -2,7 +2,7 @@
 
 ghost use Rattle.std.specs.Prelude.{◌<◌, length};
 
-use crate::check::shown::push_name;
+use crate::fixtures::shown::push_name;
 use rmt_ast::program::Program;
 use rmt_check::read_program;
 use rmt_lexer::fault::ProgramFault;

@@ -1,6 +1,6 @@
 ghost use Rattle.std.specs.Prelude.{◌<◌, length};
 
-use crate::check::shown::push_name;
+use crate::fixtures::shown::push_name;
 use rmt_lexer::fault::ProgramFault;
 use rmt_lexer::token::{Token, TokenKind};
 use rmt_lexer::tokens;

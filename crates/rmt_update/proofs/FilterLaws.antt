@@ -8,6 +8,7 @@ use Rattle.std.specs.declared.cmp.Ordering.{Ordering}
 use Rattle.std.specs.declared.cmp.Ordering.TheVariants.{Less, Equal, Greater}
 use Rattle.std.proofs.lemmas.Bool.{eq-eqb, eqb-true, false≢true}
 use Rattle.std.proofs.lemmas.List.Elements.{All-cons, All-filter, All-head, All-nil, All-tail, All-weaker}
+use Rattle.rmt_bits.proofs.AlikeLaws.{filter_alike}
 use Rattle.rmt_bits.proofs.AllLaws.{All-left, All-right, All-unmap}
 use Rattle.rmt_bits.proofs.PairLaws.{AllPairs-head, AllPairs-tail}
 use Rattle.rmt_ast.specs.declared.entry.Entry.{Entry}
@@ -110,14 +111,6 @@ All-insert P (k ∷ ks) n h p = by (nat_cmp n k) (All-insert P ks n (All-tail P 
 
 -- ---- filters
 
-pub filter_same : {X : Type 0} (p q : X → Bool) (xs : List X) → All (λ x. p x ≡ q x) xs → filter p xs ≡ filter q xs
-filter_same p q [] h = refl
-filter_same p q (x ∷ xs) h = by (p x) (q x) (All-head (λ y. p y ≡ q y) x xs h) (filter_same p q xs (All-tail (λ y. p y ≡ q y) x xs h))
-  where
-    by : (a b : Bool) → a ≡ b → filter p xs ≡ filter q xs → cond a (x ∷ filter p xs) (filter p xs) ≡ cond b (x ∷ filter q xs) (filter q xs)
-    by true b e rest = rw (← e) (ap (λ ys. x ∷ ys) rest)
-    by false b e rest = rw (← e) rest
-
 pub filter_all : {X : Type 0} (p : X → Bool) (xs : List X) → All (λ x. p x ≡ true) xs → filter p xs ≡ xs
 filter_all p [] h = refl
 filter_all p (x ∷ xs) h = rw (All-head (λ y. p y ≡ true) x xs h) (ap (λ ys. x ∷ ys) (filter_all p xs (All-tail (λ y. p y ≡ true) x xs h)))
@@ -132,7 +125,7 @@ filter_twice p q (x ∷ xs) = by (q x) (p x) refl (filter_twice p q xs)
     by false b e rest = rest
 
 pub filter_swap : {X : Type 0} (p q : X → Bool) (xs : List X) → filter p (filter q xs) ≡ filter q (filter p xs)
-filter_swap p q xs = filter_twice p q xs ∙ filter_same (λ x. q x && p x) (λ x. p x && q x) xs (λ k d lt. turn (q (get_or xs k d)) (p (get_or xs k d))) ∙ sym (filter_twice q p xs)
+filter_swap p q xs = filter_twice p q xs ∙ filter_alike (λ x. q x && p x) (λ x. p x && q x) xs (λ k d lt. turn (q (get_or xs k d)) (p (get_or xs k d))) ∙ sym (filter_twice q p xs)
   where
     turn : (a b : Bool) → (a && b) ≡ (b && a)
     turn true true = refl

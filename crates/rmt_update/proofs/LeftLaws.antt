@@ -1,13 +1,14 @@
 -- What changes leave of the tables.
 use Rattle.std.proofs.Common.{◌≡◌, ◌≢◌, ℕ, zero, suc, ◌+◌, ◌-◌, ◌<◌, ◌≤◌, ◌==◌, ◌&&◌, ◌||◌, Bool, true, false, not, cond, List, [], ◌∷◌, ◌++◌, Option, Some, None, length, slice_get, slice_set, get_or, refl, sym, ap, subst, ◌∙◌, inl, inr, arith, add-zero, append_assoc}
-use Rattle.std.specs.Prelude.{All, AllPairs, IsTrue, filter}
+use Rattle.std.specs.Prelude.{All, IsTrue, filter}
 use Rattle.std.specs.List.{flat_map}
 use Rattle.std.specs.BTreeSet.{insert_key}
 use Rattle.std.specs.Ordering.{nat_cmp}
 use Rattle.std.proofs.lemmas.Bool.{cases_Bool, cases_lt, eq-eqb, eqb-true, false≢true}
 use Rattle.std.proofs.lemmas.List.{append-nil, length-set, map-append}
 use Rattle.std.proofs.lemmas.List.Elements.{All-cons, All-filter, All-nil, All-weaker, filter-append}
-use Rattle.std.proofs.lemmas.List.Kept.{AllPairs-filter}
+use Rattle.std.proofs.lemmas.List.Kept.{AllPairs-cons, AllPairs-filter}
+use Rattle.rmt_bits.proofs.AlikeLaws.{filter_alike}
 use Rattle.rmt_bits.proofs.PairLaws.{AllPairs-append, AllPairs-none}
 use Rattle.rmt_ast.specs.declared.entry.Entry.{Entry}
 use Rattle.rmt_ast.specs.Answers.{entry_numbers}
@@ -15,7 +16,7 @@ use Rattle.rmt_ast.specs.Changes.{EntryKey, added, list_of, removed, without}
 use Rattle.rmt_update.specs.Holding.{keyed_numbers}
 use Rattle.rmt_update.specs.Running.{is_among}
 use Rattle.rmt_update.specs.Stands.{AreLeft, AreSlots, left_at, numbers_in, somes}
-use Rattle.rmt_update.proofs.FilterLaws.{All-insert, Rise, above_stay, among_append, among_insert, among_lists, filter_same, filter_swap, filter_twice, first_among, list_of-other, list_of-set, all_apart, among_filter, eqb_turned, not_among, not_among_above, not_number, numbers_of, other_number, other_table, others_stay, without_number}
+use Rattle.rmt_update.proofs.FilterLaws.{All-insert, Rise, above_stay, among_append, among_insert, among_lists, filter_swap, filter_twice, first_among, list_of-other, list_of-set, all_apart, among_filter, eqb_turned, not_among, not_among_above, not_number, numbers_of, other_number, other_table, others_stay, without_number}
 
 -- ---- slots
 
@@ -35,13 +36,6 @@ slots_from nodes first (None ∷ xs) h = All-weaker (λ (e : Entry). first + 1 �
 slots_from nodes first (Some x ∷ xs) h =
     All-cons (λ (e : Entry). first ≤ e.number) x (somes xs) (omega (arith, h.0.0))
     (All-weaker (λ (e : Entry). first + 1 ≤ e.number) (λ (e : Entry). first ≤ e.number) (λ e lt. omega (arith, lt)) (somes xs) (slots_from nodes (first + 1) xs h.1))
-
-AllPairs-cons : {X : Type 0} (R : X → X → Type 0) (x : X) (xs : List X) → All (R x) xs → AllPairs R xs → AllPairs R (x ∷ xs)
-AllPairs-cons R x xs h rest =
-    AllPairs-append R (x ∷ []) xs (one R x) rest (All-cons (λ y. All (R y) xs) x [] h (All-nil (λ y. All (R y) xs)))
-  where
-    one : {X : Type 0} (R : X → X → Type 0) (x : X) → AllPairs R (x ∷ [])
-    one R x i j d lt below = absurd (omega (arith, lt, below))
 
 pub slots_rise : (nodes first : ℕ) (xs : List (Option Entry)) → AreSlots nodes first xs → Rise (somes xs)
 slots_rise nodes first [] h = AllPairs-none (λ (a b : Entry). a.number < b.number)
@@ -199,13 +193,13 @@ module _ (last : List (List Entry)) (gone : List ℕ) (come : List (Option Entry
             ∙ ap (λ es. filter (not_number n) kept ++ es) (above_stay n mine above)
             ∙ ap (λ es. es ++ mine)
             (filter_twice (not_number n) (λ (e : Entry). not (is_among gone e.number)) (list_of last node)
-            ∙ filter_same (λ (e : Entry). not (is_among gone e.number) && not_number n e) (λ (e : Entry). not (is_among (insert_key nat_cmp gone n) e.number)) (list_of last node)
+            ∙ filter_alike (λ (e : Entry). not (is_among gone e.number) && not_number n e) (λ (e : Entry). not (is_among (insert_key nat_cmp gone n) e.number)) (list_of last node)
             (λ k d lt. sym (gone_more (get_or (list_of last node) k d).number)))
 
         others : (m : ℕ) → m ≢ node → left_at last gone come m ≡ left_at last (insert_key nat_cmp gone n) come m
         others m apart =
             ap (λ es. es ++ filter (λ (e : Entry). m == e.table) (somes come))
-            (filter_same (λ (e : Entry). not (is_among gone e.number)) (λ (e : Entry). not (is_among (insert_key nat_cmp gone n) e.number)) (list_of last m)
+            (filter_alike (λ (e : Entry). not (is_among gone e.number)) (λ (e : Entry). not (is_among (insert_key nat_cmp gone n) e.number)) (list_of last m)
             (All-weaker (λ (e : Entry). e.number ≢ n) (λ (e : Entry). not (is_among gone e.number) ≡ not (is_among (insert_key nat_cmp gone n) e.number))
             (λ e other. sym (gone_more e.number ∙ ap (λ b. not (is_among gone e.number) && b) (other_number n e other) ∙ and_true (not (is_among gone e.number))))
             (list_of last m) (all_apart n (list_of last m) (none (is_among (numbers_in last m) n) refl))))

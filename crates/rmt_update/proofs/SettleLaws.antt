@@ -7,13 +7,14 @@ use Rattle.std.proofs.lemmas.Bool.Decides.{nat_tests}
 use Rattle.std.proofs.lemmas.List.{append-nil, length-set}
 use Rattle.std.proofs.lemmas.List.Elements.{All-append, All-cons, All-filter, All-head, All-nil, All-tail, All-weaker, filter-append}
 use Rattle.std.proofs.lemmas.Option.{same_Some, none-some, slice_get-get_or}
+use Rattle.rmt_bits.proofs.AlikeLaws.{filter_alike, filter_none}
 use Rattle.rmt_ast.specs.declared.entry.Entry.{Entry}
 use Rattle.rmt_ast.specs.Answers.{entry_numbers}
 use Rattle.rmt_ast.specs.Changes.{list_of}
 use Rattle.rmt_update.specs.Running.{is_among}
 use Rattle.rmt_update.specs.Settled.{Extends, ExtendsInPart, keeps}
 use Rattle.rmt_update.specs.Stands.{AreSlots, left_at, somes}
-use Rattle.rmt_update.proofs.FilterLaws.{filter_all, filter_same, list_of-other, list_of-set, numbers_of}
+use Rattle.rmt_update.proofs.FilterLaws.{filter_all, list_of-other, list_of-set, numbers_of}
 use Rattle.rmt_update.proofs.LeftLaws.{slots_from}
 
 pub lists_same : (xs ys : List (List Entry)) → length xs ≡ length ys → ((m : ℕ) → list_of xs m ≡ list_of ys m) → xs ≡ ys
@@ -104,10 +105,6 @@ slots_below nodes first (Some x ∷ xs) h =
 
 -- ---- entries that are kept
 
-filter_none : {X : Type 0} (p : X → Bool) (xs : List X) → All (λ x. p x ≡ false) xs → filter p xs ≡ []
-filter_none p [] h = refl
-filter_none p (x ∷ xs) h = rw (All-head (λ y. p y ≡ false) x xs h) (filter_none p xs (All-tail (λ y. p y ≡ false) x xs h))
-
 pub not_among_low : (gone : List ℕ) (first n : ℕ) → All (λ k. k < first) gone → first ≤ n → is_among gone n ≡ false
 not_among_low [] first n h le = refl
 not_among_low (k ∷ ks) first n h le =
@@ -119,7 +116,7 @@ not_among_low (k ∷ ks) first n h le =
 
 pub keeps_below : (gone : List ℕ) (limit : ℕ) (es : List Entry) → All (λ (e : Entry). e.number < limit) es → filter (keeps gone limit) es ≡ filter (λ (e : Entry). not (is_among gone e.number)) es
 keeps_below gone limit es h =
-    filter_same (keeps gone limit) (λ (e : Entry). not (is_among gone e.number)) es
+    filter_alike (keeps gone limit) (λ (e : Entry). not (is_among gone e.number)) es
     (All-weaker (λ (e : Entry). e.number < limit) (λ (e : Entry). keeps gone limit e ≡ not (is_among gone e.number)) (λ e lt. rw (lt-ltb e.number limit lt) refl) es h)
 
 pub none_gone : (gone : List ℕ) (es : List Entry) → gone ≡ [] → es ≡ filter (λ (e : Entry). not (is_among gone e.number)) es
@@ -160,13 +157,6 @@ module _ (last : List (List Entry)) (gone : List ℕ) (come : List (Option Entry
     where
       past : (e : Entry) → first ≤ e.number → keeps none first e ≡ false
       past e le = let f : nat_lt e.number first ≡ false = grind (arith, nat_tests) in rw f refl
-
-pub place_at : {X : Type 0} (xs : List X) (i : ℕ) (x : X) → i < length xs → x ≡ get_or xs i x → slice_get xs i ≡ Some x
-place_at xs i x lt at = slice_get-get_or xs i x lt ∙ ap Some (sym at)
-
-pub nothing : {X : Type 0} (xs : List X) → length xs ≡ 0 → xs ≡ []
-nothing [] e = refl
-nothing (x ∷ xs) e = absurd (omega (arith, e))
 
 -- a list of which as many are kept is kept whole
 pub kept_whole : {X : Type 0} (p : X → Bool) (xs : List X) → length (filter p xs) ≡ length xs → filter p xs ≡ xs

@@ -1,4 +1,4 @@
-//! What `compile` prints, and the smallest image.
+//! What `compile` prints, the smallest image, and the names and tails that stand behind a configuration.
 
 use crate::tests::commands::{STEADY, run_on};
 use crate::tests::programs::*;
@@ -6,7 +6,7 @@ use rmt_core::status::Status;
 use std::alloc::{AllocError, Global};
 use std::test::*;
 
-/// The image of the smallest program.
+/// The configuration of the smallest program as an image without names, of version 1.
 pub const SMALLEST_IMAGE: [u8; 95] = [
     0x52, 0x4d, 0x54, 0x49, 0x00, 0x01, 0x00, 0x40, 0x00, 0x09, 0x41, 0x00, 0x09, 0x00, 0x00, 0x01,
     0x01, 0x00, 0x01, 0x01, 0x01, 0x01, 0x01, 0x00, 0x08, 0x00, 0x01, 0x00, 0x00, 0x01, 0x00, 0x00,
@@ -67,6 +67,16 @@ fn programs_that_fit(rt: HostRuntime) -> Result<(), Fail> {
             "stages 0 latency 0\nbound 0 chain\nminimal yes\n",
         ),
         fits(
+            TAILED,
+            "",
+            "stages 0 latency 0\nbound 0 chain\nminimal yes\n",
+        ),
+        fits(
+            TWO_TAILS,
+            TWO_TAILS_ENTRIES,
+            "stages 1 latency 12\nbound 1 chain t\nminimal yes\n",
+        ),
+        fits(
             TWO_FIELDS,
             "",
             "stages 2 latency 15\nbound 1 chain t1\nminimal no\n",
@@ -111,7 +121,6 @@ fn programs_that_do_not_fit(rt: HostRuntime) -> Result<(), Fail> {
     let long = long_header(alloc, 64)?;
     let cases = many_cases(alloc, 256)?;
     for row in [
-        no_fit(TAILED, "no fit tail o\n"),
         no_fit(
             "header h { x : 24; y : 24; } next (x, y) { 1, 2 : accept; else : reject; }\ncontrol { }\n",
             "no fit lookup h 6\n",
@@ -201,13 +210,55 @@ fn a_table_that_does_not_load(rt: HostRuntime) -> Result<(), Fail> {
     Ok(())
 }
 
+/// The image that `compile` writes for two texts, or no byte where it writes none.
+fn image_of(alloc: Global, program: &str, entries: &str) -> Result<Vec<u8>, Fail> {
+    let files = [("p", program.as_bytes()), ("e", entries.as_bytes())];
+    let left = run_on(alloc, &["compile", "p", "e", "i"], &files, STEADY)?;
+    let name = String::from_str(alloc, "i")?;
+    match left.shelf.file(&name) {
+        Some(image) => Ok(Vec::from_slice(alloc, image.as_slice())?),
+        None => Ok(Vec::new(alloc)),
+    }
+}
+
+/// The version is 2, and behind the configuration stands how many tables have names: none, since this one has no key.
 #[test]
 fn smallest_image(rt: HostRuntime) -> Result<(), Fail> {
     let alloc = rt.alloc();
-    let files = [("p", SMALLEST.as_bytes()), ("e", b"".as_slice())];
-    let left = run_on(alloc, &["compile", "p", "e", "i"], &files, STEADY)?;
-    let name = String::from_str(alloc, "i")?;
-    let image = left.shelf.file(&name).expect(&rt, "the image");
-    assert!(rt; image.as_slice() == SMALLEST_IMAGE.as_slice());
+    let mut named = Vec::from_slice(alloc, &SMALLEST_IMAGE)?;
+    if let Some(version) = named.get_mut(5) {
+        *version = 2;
+    }
+    named.push(0)?;
+    let image = image_of(alloc, SMALLEST, "")?;
+    assert!(rt; image.as_slice() == named.as_slice());
+    Ok(())
+}
+
+/// The names of the program with an exact table: 1 table, of node 1, `b`, exact, size 16, a key of 8 bits, and its action
+/// `go` with a parameter of 9 bits.
+const NAMES: [u8; 24] = [
+    0x01, 0x01, 0x00, 0x00, 0x00, 0x01, 0x62, 0x00, 0x00, 0x00, 0x00, 0x10, 0x00, 0x01, 0x08, 0x01,
+    0x00, 0x00, 0x00, 0x02, 0x67, 0x6f, 0x01, 0x09,
+];
+
+/// No table with a key, and the tail of entry 0 and header 0: bits 0 to 3 tell its length, unit 4, base 4.
+const TAIL: [u8; 11] = [
+    0x00, 0x00, 0x01, 0x00, 0x00, 0x00, 0x00, 0x00, 0x04, 0x04, 0x04,
+];
+
+/// The version, and the end behind the configuration.
+#[test]
+fn names_and_tails(rt: HostRuntime) -> Result<(), Fail> {
+    let alloc = rt.alloc();
+    for (program, entries, version, end) in [
+        (STRICT_AND_WEAK, "b 7 go 5\n", 2u8, NAMES.as_slice()),
+        (TAILED, "", 3, TAIL.as_slice()),
+    ] {
+        let image = image_of(alloc, program, entries)?;
+        let bytes = image.as_slice();
+        let is_begun = bytes.starts_with(&[0x52, 0x4d, 0x54, 0x49, 0, version]);
+        assert!(rt; is_begun && bytes.ends_with(end), "{program}");
+    }
     Ok(())
 }

@@ -47,6 +47,7 @@ fn one_byte_changed(rt: HostRuntime) -> Result<(), Fail> {
     for (at, byte, printed) in [
         (0usize, 0x51u8, "bad image 1\n"),
         (5, 0, "bad image 2\n"),
+        (5, 2, "bad image 3\n"),
         (9, 8, "bad image 4\n"),
         (40, 2, "bad image 4\n"),
         (41, 3, "bad image 4\n"),
@@ -210,7 +211,8 @@ fn a_guard_on_its_own_node(rt: HostRuntime) -> Result<(), Fail> {
 fn other_lanes_and_ports(rt: HostRuntime) -> Result<(), Fail> {
     let alloc = rt.alloc();
     for (at, byte, printed) in [
-        (75usize, 10u8, RUN),
+        (5usize, 1u8, RUN),
+        (75, 10, RUN),
         (81, 2, "0 2 ff\ncycles 13\nflight 1\n"),
     ] {
         let image = changed(alloc, at, byte)?;

@@ -1,7 +1,8 @@
-//! What `probe` prints of the smallest image, and what `report` does.
+//! What `probe` prints of the smallest image, and what `report` does, of one with a tail too.
 
-use crate::tests::commands::{Outside, STEADY, run_on};
+use crate::tests::commands::{Outside, STEADY, run_on, run_over, shelf_of};
 use crate::tests::compiled::SMALLEST_IMAGE;
+use crate::tests::programs::TAILED;
 use rmt_core::status::Status;
 use std::test::*;
 
@@ -79,5 +80,19 @@ fn report_of_the_smallest(rt: HostRuntime) -> Result<(), Fail> {
         let is_printed = left.printed.as_slice() == printed.as_bytes();
         assert!(rt; left.status == status && is_printed, "{printed}");
     }
+    Ok(())
+}
+
+const TAILED_REPORT: &str =
+    "{\"latency\":0,\"parser\":{\"entries\":1,\"states\":1},\"stages\":[],\"words\":[2,2,0]}\n";
+
+#[test]
+fn report_with_a_tail(rt: HostRuntime) -> Result<(), Fail> {
+    let alloc = rt.alloc();
+    let files = [("p", TAILED.as_bytes()), ("e", b"".as_slice())];
+    let mut shelf = shelf_of(alloc, &files, STEADY)?;
+    let _compiled = run_over(alloc, &["compile", "p", "e", "i"], &mut shelf, STEADY)?;
+    let (status, text) = run_over(alloc, &["report", "i"], &mut shelf, STEADY)?;
+    assert!(rt; status == Status::Done && text.as_slice() == TAILED_REPORT.as_bytes());
     Ok(())
 }

@@ -37,6 +37,25 @@ pub const SPLIT: &str =
 
 pub const TAILED: &str = "header o { n : 4; z : 4; tail n * 4 - 4; } next accept;\ncontrol { }\n";
 
+/// A tail of 4 bytes, none, one of fewer than 0, and one that the frame cuts.
+pub const TAILED_PACKETS: &str = "0 20aabbccddee\n0 10ff\n0 00ff\n0 20aabbcc\n";
+
+pub const TAILED_ANSWERS: &str = "0 0 20aabbccddee\n1 0 10ff\n2 drop reject\n3 drop short\n";
+
+/// Two headers with tails, the first of which is taken away, or the second's length is cleared.
+pub const TWO_TAILS: &str =
+    "header a { n : 4; z : 4; tail n * 4 - 4; } next b;\nheader b { m : 4; y : 4; tail m * 1 - 0; } next accept;\naction hide() { a.valid = 0; }\naction clear() { b.m = 0; }\naction no() { }\ntable t { exact b.y; actions hide, clear; size 16; counted; default no(); }\ncontrol { apply t; }\n";
+
+pub const TWO_TAILS_ENTRIES: &str = "t 1 hide\nt 2 clear\n";
+
+/// Both actions and neither on tails of 4 bytes and 1; tails of 0 bytes and 2, of which the second is cut in one more; and
+/// one of fewer than 0.
+pub const TWO_TAILS_PACKETS: &str =
+    "0 21aabbccdd11eeff\n0 21aabbccdd12eeff\n0 21aabbccdd10eeff\n0 1124aabbcc\n0 1124aa\n0 0111\n";
+
+pub const TWO_TAILS_ANSWERS: &str =
+    "0 0 11eeff\n1 0 21aabbccdd02eeff\n2 0 21aabbccdd10eeff\n3 0 1124aabbcc\n4 drop short\n5 drop reject\ncount 0 1 8\ncount 1 1 8\n";
+
 /// Six short keys that are 4 apart collide in all ways.
 pub const COLLIDING: &str =
     "header h { k : 16; } next accept;\naction no() { }\ntable t { exact h.k; actions no; size 16; counted; default no(); }\ncontrol { apply t; }\n";

@@ -77,6 +77,20 @@ fn runs(rt: HostRuntime) -> Result<(), Fail> {
         ),
         (TWO_FIELDS, "", "0 05", "0 0 65\n", "cycles 16\nflight 1\n"),
         (
+            TAILED,
+            "",
+            TAILED_PACKETS,
+            TAILED_ANSWERS,
+            "cycles 4\nflight 1\n",
+        ),
+        (
+            TWO_TAILS,
+            TWO_TAILS_ENTRIES,
+            TWO_TAILS_PACKETS,
+            TWO_TAILS_ANSWERS,
+            "cycles 18\nflight 6\n",
+        ),
+        (
             PREFIX,
             PREFIXES,
             "0 0a000105\n0 0a000106\n0 0a010000\n0 0b000000\n",

@@ -142,7 +142,7 @@ module _ (s : Source) where
           grind (arith, few 1 (λ (f : FieldText). f.place) k.fields, length-map k.fields (λ (f : FieldText). field_number s (named s f)))
 
   -- the actions that a table lists, and its default
-  lists : (t : TableText) (key : Option KeyText) → (table_with s t key).actions ≡ map (action_number s) (unwrap_or (option_map (λ (k : KeyText). k.actions) key) [])
+  pub lists : (t : TableText) (key : Option KeyText) → (table_with s t key).actions ≡ map (action_number s) (unwrap_or (option_map (λ (k : KeyText). k.actions) key) [])
   lists t key = grind arith
 
   falls_to : (t : TableText) (key : Option KeyText) → Takes (program_of s) (action_number s t.default) (map (λ (n : Number). n.value) t.args) → Takes (program_of s) (table_with s t key).default (table_with s t key).args

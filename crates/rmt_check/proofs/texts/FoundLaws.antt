@@ -25,10 +25,10 @@ use Rattle.rmt_syntax.specs.declared.tree.Rule.TheVariants as rule
 use Rattle.rmt_check.specs.declared.source.LeafText.TheVariants as leaf
 
 -- a table of words or signs gives one of its terminals, or the last
-abbrev terminals : {K : Type 0} → List (K × Terminal) → Terminal → List Terminal
+abbrev pub terminals : {K : Type 0} → List (K × Terminal) → Terminal → List Terminal
 terminals es last = map (λ (e : _ × Terminal). e.1) es ++ last ∷ []
 
-given : {K : Type 0} (is : K → Bool) (es : List (K × Terminal)) (last c : Terminal) → entry is es last ≡ c → member c (terminals es last) ≡ true
+pub given : {K : Type 0} (is : K → Bool) (es : List (K × Terminal)) (last c : Terminal) → entry is es last ≡ c → member c (terminals es last) ≡ true
 given is [] last c e = member_here c last [] e
 given is (x ∷ es) last c e = by (is x.0) e (given is es last c)
   where

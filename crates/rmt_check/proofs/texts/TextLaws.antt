@@ -5,7 +5,7 @@ use Rattle.std.specs.Prelude.{drop}
 use Rattle.std.proofs.lemmas.List.Elements.{All-nil, All-cons, All-head, All-tail}
 use Rattle.std.proofs.lemmas.Option.{none-some}
 use Rattle.rmt_bits.proofs.OptionLaws.{IsSome-value}
-use Rattle.rmt_check.specs.Parts.{Kind, Position, Terminal, Rule, Ident, Number, Declared, CaseText, TailText, TableText}
+use Rattle.rmt_check.specs.Parts.{Kind, Position, Token, Terminal, Rule, Ident, Number, Declared, CaseText, TailText, TableText}
 use Rattle.rmt_syntax.specs.declared.tree.Tree.{Tree, out-Tree}
 use Rattle.rmt_syntax.specs.declared.tree.Tree.TheOpen.{Tree-F}
 use Rattle.rmt_syntax.specs.declared.grammar.Part.{Part}
@@ -13,12 +13,13 @@ use Rattle.rmt_syntax.specs.declared.grammar.Phrase.TheVariants.{Whole}
 use Rattle.rmt_syntax.specs.Trees.{marks, part, Reads, IsOf, AreParts, ArePartsOf, IsText}
 use Rattle.rmt_ast.specs.declared.program.Kind.TheVariants.{Keyless}
 use Rattle.rmt_check.specs.Reading.{of_rule, parts_of, first, kind_at, name_at, field_at, value_at, value_text, case_text, kind_of, key_text, parts, number_at, place_at, joined, declared_at, tail_text, tail_at, next_at, next_among, case_at, header_text, header_at, key_at, table_text, table_at, source_of}
-use Rattle.rmt_check.specs.Naming.{IsKeyText, HasKeyText, IsHeaderText, IsOfText, WordsArePlain}
+use Rattle.rmt_check.specs.Naming.{IsKeyText, HasKeyText, IsHeaderText, IsOfText, IsPlainWord, WordsArePlain}
 use Rattle.rmt_check.proofs.ReadingLaws.{one, many}
 use Rattle.rmt_check.proofs.texts.PhraseLaws.{NodesHaveParts, TokensStand, found, listed, is_text, made_of, first_seen, each_seen, or_default}
 use Rattle.rmt_check.proofs.texts.FoundLaws.{name_in, field_there, made_there, parts_found}
 use Rattle.rmt_syntax.specs.declared.tree.Tree.TheViews.{out-Tree}
-use Rattle.rmt_check.proofs.texts.WordLaws.{parts_plain, names_plain, name_plain, name_at_law}
+use Rattle.rmt_check.proofs.texts.TokenLaws.{Through, parts_hold}
+use Rattle.rmt_check.proofs.texts.WordLaws.{names_plain, name_plain, name_at_law}
 use Rattle.rmt_check.proofs.Parents.{nodes_in_order}
 use Rattle.rmt_syntax.specs.declared.terminal.Terminal.TheVariants as terminal
 use Rattle.rmt_syntax.specs.declared.tree.Tree.TheOpen as tree
@@ -30,6 +31,10 @@ use Rattle.rmt_syntax.specs.declared.grammar.Part.TheVariants as parts
 -- a part of a text of the grammar
 abbrev pub IsPart : Tree → Type 0
 IsPart u = (p : Part) × Reads (part p ∷ []) (marks u)
+
+-- a part of a text of the grammar, of whose tokens something holds
+abbrev pub IsSoundPart : (Token → Type 0) → Tree → Type 0
+IsSoundPart P u = Through P u × IsPart u
 
 pub all_parts : (ps : List Part) (us : List Tree) → AreParts ps us → All IsPart us
 all_parts [] [] h = All-nil IsPart
@@ -76,9 +81,38 @@ module _ (nodes : NodesHaveParts) (tokens : TokensStand) where
       let k = nodes rule.Program t h in
       subst (λ x. All IsPart (parts_of x)) (sym (ap out-Tree k.1 ∙ many rule.Program k.0)) (all_parts k.2.0 k.0 k.2.2)
 
--- a part of a text of the grammar, whose words have no dot
+-- What is made of the parts of a text, of whose tokens something holds.
+
+module _ (nodes : NodesHaveParts) (tokens : TokensStand) (P : Token → Type 0) where
+  sound_parts : (u : Tree) (x : Tree-F Tree) → out-Tree u ≡ x → IsSoundPart P u → All (IsSoundPart P) (parts_of x)
+  sound_parts u (tree.One t) e h = All-nil (IsSoundPart P)
+  sound_parts u (tree.Many r v) e h =
+      let grown = node_parts nodes tokens u h.1 r v e in
+      let held = parts_hold P u (tree.Many r v) e h.0 in
+      let all = all_parts grown.0 v grown.2 in
+      λ k d lt. (held k d lt, all k d lt)
+
+  -- what is made of the parts of a rule
+  pub made_sound : {A : Type 0} (Q : A → Type 0) (r : Rule) (make : List Tree → A) → ((v : List Tree) → ArePartsOf (Whole r) v → All (IsSoundPart P) v → Q (make v))
+      → (ts : List Tree) (a : A) → All (IsSoundPart P) ts → of_rule r make ts ≡ Some a → Q a
+  made_sound Q r make law [] a h e = absurd (none-some a e)
+  made_sound Q r make law (u ∷ us) a h e =
+      let m = made_of r make u us a e in
+      let sound = All-head (IsSoundPart P) u us h in
+      subst Q m.2 (law m.0 (node_parts nodes tokens u sound.1 r m.0 m.1) (sound_parts u (tree.Many r m.0) m.1 sound))
+
+  -- the parts of a whole text
+  pub all_sound : (t : Tree) → IsText (marks t) → Through P t → All (IsSoundPart P) (parts t)
+  all_sound t text held =
+      let grown = text_parts nodes tokens t text in
+      let each = parts_hold P t (out-Tree t) refl held in
+      λ k d lt. (each k d lt, grown k d lt)
+
+-- What the words of a text give of its headers.
+
+-- a part whose words have no dot
 abbrev IsSound : Tree → Type 0
-IsSound u = WordsArePlain u × IsPart u
+IsSound = IsSoundPart IsPlainWord
 
 -- no name is the reserved `valid`
 abbrev NotValid : Ident → Type 0
@@ -100,26 +134,9 @@ tail_plain (a ∷ ts) t h e =
     (tail_name (place_at terminal.Tail (a ∷ ts)) (name_at ts) (number_at (drop 2 ts)) (number_at (drop 4 ts)) t e)).not_valid
 
 module _ (nodes : NodesHaveParts) (tokens : TokensStand) where
-  sound_parts : (u : Tree) (x : Tree-F Tree) → out-Tree u ≡ x → IsSound u → All IsSound (parts_of x)
-  sound_parts u (tree.One t) e h = All-nil IsSound
-  sound_parts u (tree.Many r v) e h =
-      let grown = node_parts nodes tokens u h.1 r v e in
-      let plain = parts_plain u (tree.Many r v) e h.0 in
-      let all = all_parts grown.0 v grown.2 in
-      λ k d lt. (plain k d lt, all k d lt)
-
-  -- what is made of the parts of a rule
-  made_sound : {A : Type 0} (Q : A → Type 0) (r : Rule) (make : List Tree → A) → ((v : List Tree) → ArePartsOf (Whole r) v → All IsSound v → Q (make v))
-      → (ts : List Tree) (a : A) → All IsSound ts → of_rule r make ts ≡ Some a → Q a
-  made_sound Q r make law [] a h e = absurd (none-some a e)
-  made_sound Q r make law (u ∷ us) a h e =
-      let m = made_of r make u us a e in
-      let sound = All-head IsSound u us h in
-      subst Q m.2 (law m.0 (node_parts nodes tokens u sound.1 r m.0 m.1) (sound_parts u (tree.Many r m.0) m.1 sound))
-
   next_sound : (ts vs : List Tree) → All IsSound ts → next_at ts ≡ Some vs → All IsSound vs
   next_sound [] vs h e = absurd (none-some vs e)
-  next_sound (u ∷ us) vs h e = sound_parts u (tree.Many rule.Next vs) (is_text rule.Next (out-Tree u) vs e) (All-head IsSound u us h)
+  next_sound (u ∷ us) vs h e = sound_parts nodes tokens IsPlainWord u (tree.Many rule.Next vs) (is_text rule.Next (out-Tree u) vs e) (All-head IsSound u us h)
 
   abbrev HasValue : CaseText → Type 0
   HasValue c = 1 ≤ length c.values
@@ -136,20 +153,18 @@ module _ (nodes : NodesHaveParts) (tokens : TokensStand) where
         fields = each_seen WordsArePlain (λ (d : Declared). NotValid d.ident) declared_at declared_plain ts plain;
         tail = first_seen WordsArePlain (λ (t : TailText). NotValid t.field) tail_at tail_plain ts plain;
         select = λ k d lt. (selected k d lt).not_valid;
-        cases = each_seen IsSound HasValue case_at (made_sound HasValue rule.Case case_text (λ v parts s. case_law nodes tokens v parts)) (next_among ts) next;
+        cases = each_seen IsSound HasValue case_at (made_sound nodes tokens IsPlainWord HasValue rule.Case case_text (λ v parts s. case_law nodes tokens v parts)) (next_among ts) next;
       }
 
   table_law : (ts : List Tree) → All IsSound ts → HasKeyText (table_text ts).key
-  table_law = first_seen IsSound IsKeyText key_at (made_sound IsKeyText rule.Key key_text (λ v parts s. key_law nodes tokens v parts))
+  table_law = first_seen IsSound IsKeyText key_at (made_sound nodes tokens IsPlainWord IsKeyText rule.Key key_text (λ v parts s. key_law nodes tokens v parts))
 
   pub text_law : (t : Tree) → IsText (marks t) → WordsArePlain t → IsOfText (source_of t)
   text_law t text plain =
-      let grown = text_parts nodes tokens t text in
-      let words = parts_plain t (out-Tree t) refl plain in
-      let all : All IsSound (parts t) = λ k d lt. (words k d lt, grown k d lt) in
+      let all = all_sound nodes tokens IsPlainWord t text plain in
       record {
-        headers = each_seen IsSound IsHeaderText header_at (made_sound IsHeaderText rule.Header header_text (λ v parts s. header_law v s)) (parts t) all;
+        headers = each_seen IsSound IsHeaderText header_at (made_sound nodes tokens IsPlainWord IsHeaderText rule.Header header_text (λ v parts s. header_law v s)) (parts t) all;
         tables = each_seen IsSound (λ (x : TableText). HasKeyText x.key) table_at
-            (made_sound (λ (x : TableText). HasKeyText x.key) rule.Table table_text (λ v parts s. table_law v s)) (parts t) all;
+            (made_sound nodes tokens IsPlainWord (λ (x : TableText). HasKeyText x.key) rule.Table table_text (λ v parts s. table_law v s)) (parts t) all;
         nodes = nodes_in_order (parts t);
       }

@@ -13,7 +13,7 @@ ghost use Rattle.rmt_chip.specs.Memories.{Laid, NumbersFit, key_size, held_size}
 
 use crate::memory::exact::starts_of;
 use crate::memory::runs::{Runs, no_runs, runs_of};
-use crate::memory::ternary::groups_of;
+use crate::memory::ternary::sliced_of;
 use crate::memory::ways::ExactMemory;
 use crate::memory::{Keys, SlotMemory};
 use rmt_bits::lane::Lane;
@@ -158,7 +158,7 @@ pub fn lay_ternary(
     let layout = ternary_records(quanta, slot.held);
     let heads = runs_of(alloc, &layout, records, rows, numbers, 0, 8)?;
     let held = runs_of(alloc, &layout, records, rows, numbers, 8, slot.held as u64)?;
-    let groups = groups_of(
+    let sliced = sliced_of(
         alloc,
         stage.trows.as_slice(),
         keys,
@@ -167,7 +167,7 @@ pub fn lay_ternary(
     )?;
     let entries = entry_numbers(alloc, numbers)?;
     Ok(SlotMemory {
-        keys: Keys::ByMask(groups),
+        keys: Keys::InVectors(sliced),
         key_size: ((bits + 7) / 8) as usize,
         heads,
         held,

@@ -1,19 +1,21 @@
-//! The rows of a ternary part in groups that compare the same bits, and the first that has a key.
+//! The listed rows of a ternary part in vectors of bits, and the first that has a key.
 
-ghost use Rattle.std.specs.Prelude.{◌≡◌, ℕ, ◌+◌, ◌*◌, ◌/◌, ◌%◌, ◌^◌, ◌<◌, ◌≤◌, length, map, All, IfOk, None};
+ghost use Rattle.std.specs.Prelude.{◌≡◌, ℕ, ◌+◌, ◌*◌, ◌/◌, ◌%◌, ◌^◌, ◌<◌, ◌≤◌, List, length, map, All, IfOk, Option, Some};
 ghost use Rattle.rmt_bits.specs.Bits.{slice as slice_of, number_of};
 ghost use Rattle.rmt_config.specs.Cells.{tcam_row, blocks_at};
 ghost use Rattle.rmt_config.specs.declared.config.TcamRow.{TcamRow};
 ghost use Rattle.rmt_config.specs.declared.config.CellNumber.{CellNumber};
 ghost use Rattle.rmt_chip.specs.Laying.{TcamRows};
-ghost use Rattle.rmt_bits.specs.Grouping.{best_of, AreGrouped};
-ghost use Rattle.rmt_chip.specs.Grouping.{words_of_key, place_for as place_for_key};
+ghost use Rattle.rmt_bits.specs.Grouping.{Compared};
+ghost use Rattle.rmt_chip.specs.KeyWords.{words_of_key};
+ghost use Rattle.rmt_chip.specs.Searching.{FirstIn};
+ghost use Rattle.rmt_chip.specs.Slicing.{HasRow, RowFits, StandsFor};
 ghost use Rattle.rmt_chip.specs.Comparing.{compared_at};
 
 use crate::memory::block_bits::tcam_bits;
 use crate::memory::runs::unit_blocks;
+use crate::memory::sliced::Sliced;
 use rmt_bits::bits::bits_of_bytes;
-use rmt_bits::groups::{Group, Grouping, add, earlier, is_before, no_groups, place};
 use rmt_config::config::{CellNumber, TcamRow};
 use std::alloc::{AllocError, Global};
 
@@ -53,28 +55,31 @@ fn values_of(
     Ok(values)
 }
 
-/// The listed rows of a part in groups, where a key takes `side` blocks.
-pub fn groups_of(
+/// The listed rows of a part in vectors, where a key takes `side` blocks. The vectors have a bit for
+/// each listed row, in their order, and none for another row of the part.
+pub fn sliced_of(
     alloc: Global,
     rows: &[TcamRow],
     blocks: &[u8],
     side: u64,
     numbers: &[CellNumber],
-) -> Result<Vec<Group>, AllocError>
+) -> Result<Sliced, AllocError>
     requires rows { TcamRows rows.now }
+    requires side { side ≤ 16 }
+    requires few { length numbers.now < 2 ^ 32 }
     requires cells { All (λ (n : CellNumber). (n.cell / 2048 + 1) * side ≤ length blocks.now) numbers.now }
-    ensures { IfOk result (λ groups. AreGrouped (map (λ (n : CellNumber). compared_at rows.now blocks.now side n.cell) numbers.now) groups.items) }
+    requires fit { All (λ (n : CellNumber). RowFits side (compared_at rows.now blocks.now side n.cell)) numbers.now }
+    ensures { IfOk result (λ sliced. StandsFor (map (λ (n : CellNumber). Some (compared_at rows.now blocks.now side n.cell)) numbers.now) sliced) }
 {
-    let mut grouping = no_groups(alloc);
+    let mut sliced = Sliced::new(alloc, numbers.len(), side as usize)?;
     for at in 0..numbers.len() {
         let cell = numbers[at].cell as u64;
         let unit = unit_blocks(blocks, side, cell / 2048);
         let masks = masks_of(alloc, rows, unit, cell % 2048)?;
         let values = values_of(alloc, rows, unit, cell % 2048)?;
-        add(alloc, &mut grouping, masks, values, at)?;
+        sliced.put(at, &masks, &values);
     }
-    let Grouping { groups, .. } = grouping;
-    Ok(groups)
+    Ok(sliced)
 }
 
 /// The 40 bits of a key from one on.
@@ -103,31 +108,11 @@ fn key_words(key: &[u8]) -> [u128; 16]
     words
 }
 
-/// The place of the first row of a group that has a key.
-fn place_for(group: &Group, words: &[u128]) -> Option<usize>
-    requires { length words.now ≡ 16 }
-    ensures { result ≡ place_for_key words.now group.now }
-{
-    let mut wanted = [0; 16];
-    let count = group.masks.len().min(16);
-    for at in 0..count {
-        wanted[at] = words[at] & group.masks[at];
-    }
-    place(group, &wanted[..count])
-}
-
-/// The earliest place that the groups have for a key. Groups whose first row stands behind it are not looked at.
-pub fn best_place(groups: &[Group], key: &[u8]) -> Option<usize>
+/// The first row that has a key.
+pub fn first_row(sliced: &Sliced, key: &[u8]) -> Option<usize>
     requires { length key.now ≤ 80 }
-    ensures { result ≡ best_of (place_for_key (words_of_key (number_of key.now))) groups.now None }
+    ensures { (rows : List (Option Compared)) → StandsFor rows sliced.now → FirstIn (HasRow (words_of_key (number_of key.now)) rows) 0 (length rows) result }
 {
     let words = key_words(key);
-    let mut best = None;
-    for group in groups {
-        if is_before(best, group.first) {
-            return best;
-        }
-        best = earlier(best, place_for(group, &words));
-    }
-    best
+    sliced.first(&words)
 }

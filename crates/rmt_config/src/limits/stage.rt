@@ -11,7 +11,7 @@ use crate::limits::total::{Resource, greatest_width, total};
 use crate::limits::{LimitHit, over};
 
 /// A limit that each stage keeps by itself.
-#[derive(Clone, Copy, Debug, PartialEq, Eq)]
+#[derive(Clone, Copy)]
 pub enum StageLimit {
     /// 106 SRAM blocks.
     Sram,

@@ -1,24 +1,23 @@
--- A configuration is spelled with few bytes, but for the numbers of entries.
-use Rattle.std.proofs.Common.{◌≡◌, ℕ, ◌+◌, ◌*◌, ◌≤◌, List, [], ◌++◌, Option, None, length, ap, ◌∙◌, sym, subst, append-nil, length-append, arith}
+-- An image is spelled with few bytes, but for the numbers of entries and the names.
+use Rattle.std.proofs.Common.{ℕ, ◌+◌, ◌*◌, ◌≤◌, List, ◌++◌, length, length-append, arith}
 use Rattle.std.specs.Prelude.{All, codes}
 use Rattle.std.specs.List.{flat_map, sum_by}
 use Rattle.std.proofs.lemmas.List.Elements.{All-from_recursion, All-weaker}
 use Rattle.std.proofs.lemmas.List.Sums.{AllPass-from_list_all}
-use Rattle.rmt_ast.specs.declared.names.Names.{Names}
-use Rattle.rmt_config.specs.declared.config.TailOf.{TailOf}
 use Rattle.rmt_core.specs.Types.{Config, Stage}
 use Rattle.rmt_config.specs.CellForm.{entry_numbers, numbers_of_stage}
 use Rattle.rmt_config.specs.Form.{Formed}
 use Rattle.rmt_config.specs.Limits.{IsWithinLimits}
 use Rattle.rmt_config.specs.Resources.{unit_instructions, unit_sram, unit_tcam}
 use Rattle.rmt_config.specs.Spelling.{CountsFit, CountsFitHeader, spelled_config, spelled_header, spelled_list8, spelled_parser, spelled_ports, spelled_stage, two_bytes}
-use Rattle.rmt_config.specs.ImageSpelling.{spelled_image, spelled_names, spelled_tails, version_with}
+use Rattle.rmt_config.specs.ImageSpelling.{spelled_image, spelled_names, spelled_tails, version_of}
 use Rattle.rmt_config.specs.StageForm.{rows_are_formed, stage_is_formed}
 use Rattle.rmt_config.proofs.CountsLemmas.{counts_fit, stages_of_items}
 use Rattle.rmt_config.proofs.LimitLaws.{KeepsLimits, limits_kept}
 use Rattle.rmt_core.proofs.size.Lists.{flat_map_by, flat_map_short}
 use Rattle.rmt_core.proofs.size.Front.{header_short, parser_short}
 use Rattle.rmt_core.proofs.size.Stages.{StageFits, stage_short}
+use Rattle.rmt_core.proofs.size.Tails.{all_tails_short}
 
 stages_fit : (c : Config) → Formed c → CountsFit c → KeepsLimits c → All StageFits c.stages
 stages_fit c formed counts limits k d lt =
@@ -42,19 +41,14 @@ config_short c counts limits fit =
     let second = length-append (spelled_ports c ++ spelled_list8 spelled_header c.headers ++ spelled_parser c.parser) (spelled_list8 spelled_stage c.stages) in
     omega (arith, headers, parser, stages, first, second, limits.stages)
 
--- without names and tails an image is one of version 1, and ends with the configuration
-pub plain_image : (c : Config) → c.names ≡ None → c.parser.tails ≡ [] → spelled_image c ≡ codes "RMTI" ++ two_bytes 1 ++ spelled_config c
-plain_image c no_names no_tails =
-    let whole : List ℕ → List ℕ → List ℕ → List ℕ = λ version names tails. codes "RMTI" ++ version ++ spelled_config c ++ names ++ tails in
-    ap (λ (n : Option Names). whole (two_bytes (version_with n c.parser.tails)) (spelled_names n) (spelled_tails c.parser.tails)) no_names
-    ∙ ap (λ (ts : List TailOf). whole (two_bytes (version_with None ts)) [] (spelled_tails ts)) no_tails
-    ∙ append-nil _ ∙ append-nil _
-
-pub bytes_few : (c : Config) → Formed c → IsWithinLimits c → c.names ≡ None → c.parser.tails ≡ [] → length (spelled_image c) ≤ 103200000 + 8 * length (entry_numbers c)
-bytes_few c formed within no_names no_tails =
+-- the four letters and the version, the configuration, its names and its tails
+pub bytes_few : (c : Config) → Formed c → IsWithinLimits c → length (spelled_image c) ≤ 103700000 + 8 * length (entry_numbers c) + length (spelled_names c.names)
+bytes_few c formed within =
     let counts = counts_fit c formed.items in
     let limits = limits_kept c within in
     let config = config_short c counts limits (stages_fit c formed counts limits) in
-    let plain : List ℕ = codes "RMTI" ++ two_bytes 1 ++ spelled_config c in
-    let few : length plain ≤ 103200000 + 8 * length (entry_numbers c) = omega (arith, config, length-append (codes "RMTI" ++ two_bytes 1) (spelled_config c)) in
-    subst (λ (bytes : List ℕ). length bytes ≤ 103200000 + 8 * length (entry_numbers c)) (sym (plain_image c no_names no_tails)) few
+    let front : List ℕ = codes "RMTI" ++ two_bytes (version_of c) in
+    let first = length-append front (spelled_config c) in
+    let second = length-append (front ++ spelled_config c) (spelled_names c.names) in
+    let third = length-append (front ++ spelled_config c ++ spelled_names c.names) (spelled_tails c.parser.tails) in
+    omega (arith, config, first, second, third, all_tails_short c formed)

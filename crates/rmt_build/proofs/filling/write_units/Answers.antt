@@ -1,5 +1,6 @@
-use Rattle.std.proofs.Common.{◌≡◌, ◌+◌, Some, ◌∙◌, subst, sym, ap, arith}
+use Rattle.std.proofs.Common.{◌≡◌, ◌+◌, Some, ◌∙◌, refl, subst, sym, ap, arith}
 use Rattle.std.specs.Prelude.{slice_get}
+use Rattle.rmt_bits.proofs.ListLaws.{slice_get-seen}
 use Rattle.rmt_config.specs.Resources.{unit_instructions}
 use Rattle.rmt_pack.specs.declared.rows.Rows.{Rows}
 use Rattle.rmt_pack.specs.Rows.{blocks_of}
@@ -7,7 +8,6 @@ use Rattle.rmt_build.specs.declared.tcam.TcamRows.{TcamRows}
 use Rattle.rmt_build.specs.Holding.{Held}
 use Rattle.rmt_build.specs.Listing.{masks_of, values_of}
 use Rattle.rmt_build.specs.Written.{SlotWritten, UnitsWritten}
-use Rattle.rmt_build.proofs.EntryLaws.{slice_get-at}
 use Rattle.rmt_build.proofs.UnitsLaws.{instructions-more, units-gate, units-slot, units-zero}
 use Rattle.rmt_build.proofs.filling.write_units.Goals as goal
 use Rattle.rmt_build.proofs.filling.write_units.Goals.{in-Gate, in-Slot+in_ok-write_slot-in-Slot}
@@ -19,19 +19,19 @@ held sram tcam = record { sram = blocks_of sram; values = values_of tcam; masks 
 pub write_slot-requires-clause-zeros : goal.write_slot-requires-clause-zeros
 unfolding held
 write_slot-requires-clause-zeros c =
-    let at = slice_get-at c.args.units.now c.loop-unit.unit-index c.unit-item.result c.loop-unit-test.true c.unit-item.is in
+    let at = slice_get-seen c.args.units.now c.args.units.now c.loop-unit.unit-index c.unit-item.result refl c.loop-unit-test.true c.unit-item.is in
     (units-zero c.args.planned.now.program.now c.args.planned.now.entries.now c.args.planned.now.plan.now c.args.planned.now.stage c.args.units.now (held c.loop-unit.sram c.loop-unit.tcam) c.loop-unit.unit-index c.in-Slot.slot c.requires.apart (at ∙ ap Some c.in-Slot.is) c.loop-unit.invariant.written).0
 
 pub write_slot-requires-clause-zero_values : goal.write_slot-requires-clause-zero_values
 unfolding held
 write_slot-requires-clause-zero_values c =
-    let at = slice_get-at c.args.units.now c.loop-unit.unit-index c.unit-item.result c.loop-unit-test.true c.unit-item.is in
+    let at = slice_get-seen c.args.units.now c.args.units.now c.loop-unit.unit-index c.unit-item.result refl c.loop-unit-test.true c.unit-item.is in
     (units-zero c.args.planned.now.program.now c.args.planned.now.entries.now c.args.planned.now.plan.now c.args.planned.now.stage c.args.units.now (held c.loop-unit.sram c.loop-unit.tcam) c.loop-unit.unit-index c.in-Slot.slot c.requires.apart (at ∙ ap Some c.in-Slot.is) c.loop-unit.invariant.written).1
 
 pub write_slot-requires-clause-zero_masks : goal.write_slot-requires-clause-zero_masks
 unfolding held
 write_slot-requires-clause-zero_masks c =
-    let at = slice_get-at c.args.units.now c.loop-unit.unit-index c.unit-item.result c.loop-unit-test.true c.unit-item.is in
+    let at = slice_get-seen c.args.units.now c.args.units.now c.loop-unit.unit-index c.unit-item.result refl c.loop-unit-test.true c.unit-item.is in
     (units-zero c.args.planned.now.program.now c.args.planned.now.entries.now c.args.planned.now.plan.now c.args.planned.now.stage c.args.units.now (held c.loop-unit.sram c.loop-unit.tcam) c.loop-unit.unit-index c.in-Slot.slot c.requires.apart (at ∙ ap Some c.in-Slot.is) c.loop-unit.invariant.written).2
 
 pub loop-unit-preserved : goal.loop-unit-preserved
@@ -44,7 +44,7 @@ loop-unit-preserved c =
     let units = c.args.units.now in
     let i = c.loop-unit.unit-index in
     let u = c.unit-item.result in
-    let at : slice_get units i ≡ Some u = slice_get-at units i u c.loop-unit-test.true c.unit-item.is in
+    let at : slice_get units i ≡ Some u = slice_get-seen units units i u refl c.loop-unit-test.true c.unit-item.is in
     let more = instructions-more units i u at in
     let first = c.loop-unit.invariant.first in
     let written = c.loop-unit.invariant.written in

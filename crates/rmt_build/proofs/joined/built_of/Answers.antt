@@ -1,7 +1,9 @@
-use Rattle.std.proofs.Common.{◌∙◌, List, length, ap, sym, subst, arith}
+use Rattle.std.proofs.Common.{◌≡◌, ◌∙◌, List, Some, length, true, ap, sym, subst, arith}
 use Rattle.std.specs.Prelude.{All}
 use Rattle.rmt_ast.specs.declared.deps.Deps.{Deps}
+use Rattle.rmt_ast.specs.declared.names.Names.{Names}
 use Rattle.rmt_config.specs.Agreement.{AgreesWith}
+use Rattle.rmt_config.specs.NamesForm.{names_have_counts}
 use Rattle.rmt_deps.specs.Edges.{GoesForward}
 use Rattle.rmt_deps.proofs.EdgeLaws.{go_forward}
 use Rattle.rmt_pack.specs.declared.placement.Placement.{Placement}
@@ -11,8 +13,6 @@ use Rattle.rmt_refine.specs.Carries.{Carries}
 use Rattle.rmt_build.specs.Loads.{IsFirstSeed}
 use Rattle.rmt_build.specs.Promises.{StandInRows}
 use Rattle.rmt_build.specs.Told.{cells_told}
-use Rattle.rmt_build.specs.Types.{ParserConfig}
-use Rattle.rmt_build.proofs.FormClustered.{clustered_untailed}
 use Rattle.rmt_build.proofs.JoinedLaws.{joined_blocks, joined_carries, joined_formats, joined_formed, joined_limits, joined_rows, same_map}
 use Rattle.rmt_build.proofs.joined.built_of.Goals as goal
 
@@ -47,12 +47,10 @@ returns-clause-carries c =
 pub returns-clause-formed : goal.returns-clause-formed
 returns-clause-formed c =
     let made = c.in_ok-config.ensures in
+    let told = c.in_ok-names.ensures in
     joined_formed c.args.program.now c.args.entries.now c.args.plan c.in_ok-config.config c.requires.program c.requires.entries c.requires.plan c.in_ok-stages.stages c.in_ok-config.ensures.stages
-    c.in_ok-stages.ensures.stages c.in_ok-config.ensures.seed made.places c.requires.fits c.requires.no_tails (made.parser ∙ c.requires.parser) made.names c.requires.seed.few
-
-pub returns-clause-no_tails : goal.returns-clause-no_tails
-returns-clause-no_tails c =
-    ap (λ (x : ParserConfig). x.tails) (c.in_ok-config.ensures.parser ∙ c.requires.parser) ∙ clustered_untailed c.args.program.now c.args.plan.places c.requires.no_tails
+    c.in_ok-stages.ensures.stages c.in_ok-config.ensures.seed c.requires.named made.places c.requires.fits (made.parser ∙ c.requires.parser) (made.names ∙ ap Some told.names)
+    (subst (λ (x : Names). names_have_counts x ≡ true) told.names told.counts) c.requires.seed.few
 
 pub returns-clause-limits : goal.returns-clause-limits
 returns-clause-limits c =

@@ -4,13 +4,15 @@ use Rattle.rmt_ast.specs.WellFormed.{IsProgram}
 use Rattle.rmt_lexer.specs.declared.fault.ProgramFault.TheVariants.{NoMemory, At}
 use Rattle.rmt_lexer.specs.Text.{tokens_of}
 use Rattle.rmt_syntax.specs.Trees.{HasFault, HasTree, IsFault, IsTreeOf}
+use Rattle.rmt_check.specs.NamedTexts.{HasNameForms, IsShortFor}
 use Rattle.rmt_check.specs.Reading.{source_of}
 use Rattle.rmt_check.specs.Rules.{fault_of}
-use Rattle.rmt_check.specs.Meaning.{Answers, program_of}
+use Rattle.rmt_check.specs.Meaning.{program_of}
 use Rattle.rmt_check.specs.Means.{Means, Outcome, fault_at, of_tokens, of_grammar, of_rules, of_program}
+use Rattle.rmt_check.proofs.programs.ListedLaws.{program_short}
 use Rattle.rmt_check.proofs.laws.one_meaning.Goals as goal
 
-module _ (known : goal.After-answer_is_well_formed) (text : List ℕ) where
+module _ (known : goal.After-text_has_names) (text : List ℕ) where
   by_rules : (tokens : List Token) (t : Tree) (o : Option (ℕ × Position)) → fault_of (source_of t) ≡ o → tokens_of text ≡ Ok tokens → IsTreeOf tokens t → (m : Outcome) × Means text m
   by_rules tokens t None e is tree = (Ok (program_of (source_of t)), of_program tokens t is tree e)
   by_rules tokens t (Some f) e is tree = (Err f, of_rules tokens t f is tree e)
@@ -65,12 +67,14 @@ module _ (known : goal.After-answer_is_well_formed) (text : List ℕ) where
       let told : ◌≡◌ {A = Option (ℕ × Position)} None (Some g) = sym i ∙ ap (λ v. fault_of (source_of v)) same ∙ l in cc
   alone (of_program ts t e h i) (of_program us u d j l) = ap (λ v. Ok (program_of (source_of v))) (same_tree ts us t u e d h j)
 
-formed : (well : (text : List ℕ) (tokens : List Token) (t : Tree) (p : Program) → tokens_of text ≡ Ok tokens → IsTreeOf tokens t → Answers (source_of t) (Ok p) → IsProgram p)
-    → (text : List ℕ) {m : Outcome} (p : Program) → Means text m → m ≡ Ok p → IsProgram p
-formed well text p (of_tokens a l c e) is = cc
-formed well text p (of_grammar ts a l c e f) is = cc
-formed well text p (of_rules ts t f e h i) is = cc
-formed well text p (of_program ts t e h i) is = let it : program_of (source_of t) ≡ p = cc in subst IsProgram it (well text ts t (program_of (source_of t)) e h (i, refl))
+-- what holds of the program of each tree without a fault holds of the program that a text means
+meant : (P : Program → Type 0) (text : List ℕ)
+    → ((tokens : List Token) (t : Tree) → tokens_of text ≡ Ok tokens → IsTreeOf tokens t → fault_of (source_of t) ≡ None → P (program_of (source_of t)))
+    → {m : Outcome} (p : Program) → Means text m → m ≡ Ok p → P p
+meant P text law p (of_tokens a l c e) is = cc
+meant P text law p (of_grammar ts a l c e f) is = cc
+meant P text law p (of_rules ts t f e h i) is = cc
+meant P text law p (of_program ts t e h i) is = let it : program_of (source_of t) ≡ p = cc in subst P it (law ts t e h i)
 
 pub returns-clause-some : goal.returns-clause-some
 returns-clause-some c text = meaning c text
@@ -79,4 +83,10 @@ pub returns-clause-alone : goal.returns-clause-alone
 returns-clause-alone c text m n h g = alone c text h g
 
 pub returns-clause-formed : goal.returns-clause-formed
-returns-clause-formed c text p h = formed c.answer_is_well_formed.ensures text p h refl
+returns-clause-formed c text p h = meant IsProgram text (λ tokens t e tree none. c.answer_is_well_formed.ensures text tokens t (program_of (source_of t)) e tree (none, refl)) p h refl
+
+pub returns-clause-named : goal.returns-clause-named
+returns-clause-named c text p h = meant HasNameForms text (λ tokens t e tree none. c.text_has_names.ensures text tokens t e tree) p h refl
+
+pub returns-clause-short : goal.returns-clause-short
+returns-clause-short c text p h = meant (IsShortFor text) text (program_short text) p h refl

@@ -14,6 +14,7 @@ ghost use Rattle.rmt_config.specs.Shapes.{divided_up};
 
 use crate::config::{Config, Memory};
 use crate::form::names::exact_part::{key_bits, keys_stand};
+use crate::form::names::key_prints::prints_differ;
 use crate::form::names::part_list::Part;
 use rmt_ast::names::TableName;
 use std::alloc::{AllocError, Global};
@@ -63,7 +64,8 @@ fn part_fits(
     }
 }
 
-/// Whether an exact table is named as its parts are filled.
+/// Whether an exact table is named as its parts are filled. Keys are compared one by one only where prints of them don't
+/// differ.
 pub fn exact_fits(
     alloc: Global,
     config: &Config,
@@ -82,6 +84,9 @@ pub fn exact_fits(
 {
     if numbers.len() > table.size as usize {
         return Ok(false);
+    }
+    if prints_differ(alloc, config, table, parts, numbers.len())? {
+        return Ok(true);
     }
     let mut seen = BTreeSet::new(alloc);
     for part in parts {

@@ -5,6 +5,7 @@ ghost use Rattle.rmt_bits.specs.Bits.{bytes_of};
 ghost use Rattle.rmt_bits.specs.Hash.{hash_row as hash_row_of};
 ghost use Rattle.rmt_config.specs.Layouts.{exact_keys as exact_layout};
 ghost use Rattle.rmt_config.specs.LaneForm.{bits_of_lanes};
+ghost use Rattle.rmt_config.specs.KeyPrints.{Prints};
 ghost use Rattle.rmt_config.specs.KeysSeen.{Knows, Sees, is_candidate, key_in, stands_there};
 ghost use Rattle.rmt_config.specs.MemoryRules.{SramRows, ExactFits};
 ghost use Rattle.rmt_config.specs.Shapes.{divided_up};
@@ -14,7 +15,7 @@ use crate::config::{CellNumber, SlotUnit, SramRow};
 use crate::form::layout::Layout;
 use crate::form::names::key_bytes::{Near, push_entry};
 use crate::form::parts::exact_keys;
-use rmt_bits::hash::hash_row;
+use rmt_bits::hash::{fnv, hash_row};
 use rmt_bits::lane::Lane;
 use std::alloc::{AllocError, Global};
 use std::collections::BTreeSet;
@@ -41,9 +42,9 @@ fn is_its_cell(seed: u8, first_way: u8, per: u16, quanta: u8, key: &[u8], cell: 
     hash_row(seed, first_way + way, key, rows) == place % rows
 }
 
-/// The key of a cell, as bytes, the highest first.
-fn key_of(
-    alloc: Global,
+/// Puts the key of a cell in the place of others, as bytes, the highest first.
+fn read_key(
+    key: &mut Vec<u8>,
     layout: &Layout,
     blocks: &[u8],
     rows: &[SramRow],
@@ -53,7 +54,7 @@ fn key_of(
     bits: u64,
     number: &CellNumber,
     near: &mut Near,
-) -> Result<Vec<u8>, AllocError>
+) -> Result<(), AllocError>
     requires rows { SramRows rows.now }
     requires layout { layout.now ≡ exact_layout width per quanta bits }
     requires width { 0 < width }
@@ -64,11 +65,11 @@ fn key_of(
     requires fits { per * (bits + 8) ≤ 112 * width }
     requires blocks { length blocks.now ≡ quanta * (4 * width) }
     requires within { number.now.cell < 4096 * quanta * per }
-    ensures { IfOk result (λ key. key.items ≡ bytes_of (divided_up bits 8) (key_in rows.now blocks.now width per quanta bits number.now)) }
+    ensures { OnOk result (key.new.items ≡ bytes_of (divided_up bits 8) (key_in rows.now blocks.now width per quanta bits number.now)) }
 {
-    let mut key = Vec::with_capacity(alloc, 80)?;
+    key.clear();
     push_entry(
-        &mut key,
+        key,
         layout,
         blocks,
         rows,
@@ -77,7 +78,53 @@ fn key_of(
         bits,
         near,
     )?;
-    Ok(key)
+    Ok(())
+}
+
+/// Whether each cell of a part is one in which its key may stand; where it is, the prints of their keys are added.
+pub fn put_prints(
+    alloc: Global,
+    seed: u8,
+    numbers: &[CellNumber],
+    rows: &[SramRow],
+    width: u8,
+    per: u16,
+    quanta: u8,
+    first_way: u8,
+    bits: u64,
+    blocks: &[u8],
+    prints: &mut Vec<u64>,
+) -> Result<bool, AllocError>
+    requires rows { SramRows rows.now }
+    requires width { 0 < width }
+    requires per { 0 < per }
+    requires quanta { 0 < quanta }
+    requires few { quanta ≤ 106 }
+    requires short { bits ≤ 640 }
+    requires fits { per * (bits + 8) ≤ 112 * width }
+    requires blocks { length blocks.now ≡ quanta * (4 * width) }
+    requires ways { first_way + 3 < 256 }
+    requires within { All (λ (n : CellNumber). n.cell < 4096 * quanta * per) numbers.now }
+    ensures { IfOk result (λ stand. stand ≡ true →
+        Prints (divided_up bits 8) (stands_there seed first_way per quanta (divided_up bits 8) (key_in rows.now blocks.now width per quanta bits))
+        (key_in rows.now blocks.now width per quanta bits) numbers.now prints.old.items prints.new.items) }
+{
+    let layout = exact_keys(width, per, quanta, bits);
+    let mut near = Near {
+        first: 0,
+        second: 0,
+    };
+    let mut key = Vec::with_capacity(alloc, 80)?;
+    for number in numbers {
+        read_key(
+            &mut key, &layout, blocks, rows, width, per, quanta, bits, number, &mut near,
+        )?;
+        if !is_its_cell(seed, first_way, per, quanta, key.as_slice(), number.cell) {
+            return Ok(false);
+        }
+        prints.push(fnv(key.as_slice()))?;
+    }
+    Ok(true)
 }
 
 /// Whether each cell of a part is one in which its key may stand, and no key was seen before; the keys are seen now.
@@ -114,8 +161,9 @@ pub fn keys_stand(
         second: 0,
     };
     for number in numbers {
-        let key = key_of(
-            alloc, &layout, blocks, rows, width, per, quanta, bits, number, &mut near,
+        let mut key = Vec::with_capacity(alloc, 80)?;
+        read_key(
+            &mut key, &layout, blocks, rows, width, per, quanta, bits, number, &mut near,
         )?;
         if !is_its_cell(seed, first_way, per, quanta, key.as_slice(), number.cell) {
             return Ok(false);

@@ -9,7 +9,7 @@ ghost use Rattle.rmt_config.specs.NamesForm.{has_parts, is_made_so, is_named, ta
 
 use crate::config::{Config, Memory, Stage, Unit};
 use crate::form::names::made::{has_parts, is_made_so};
-use crate::form::names::parts::parts_of;
+use crate::form::names::part_list::parts_of;
 use rmt_ast::names::{Names, TableName};
 use std::alloc::{AllocError, Global};
 

@@ -13,6 +13,16 @@ use Rattle.rmt_core.proofs.compiling.compile_texts.Goals as goal
 abbrev next : List ℕ → List ℕ → List ℕ → Files → Given → Type 0
 next text entry_text image files = Understands files text entry_text (Compiles files image)
 
+pub compile_meant-requires-clause-said : goal.compile_meant-requires-clause-said
+compile_meant-requires-clause-said g c = record {
+  text = c.args.text.now.items;
+  entry_text = c.args.entry_text.now.items;
+  means = rw c.as_slice.ensures.value at c.in-Ok.ensures.means;
+  says = rw c.as_slice-2.ensures.value at c.in-Ok.ensures.says;
+  is_short = c.requires.text;
+  has_short_entries = c.requires.entries;
+}
+
 pub returns-in-Ok-clause-call : goal.returns-in-Ok-clause-call
 returns-in-Ok-clause-call g c =
     let image = string_bytes c.args.image.now in

@@ -19,8 +19,14 @@ pub understand-requires-clause-entries : goal.understand-requires-clause-entries
 understand-requires-clause-entries g c = omega (arith, ap length (c.as_slice-2.ensures ∙ c.requires.entries), entries_short c.args.number c.requires.most)
 
 pub sample_meant-requires-clause-said : goal.sample_meant-requires-clause-said
-sample_meant-requires-clause-said g c =
-    (c.as_slice-2.result.now, c.in-Ok.ensures.says, omega (arith, ap length (c.as_slice-2.ensures ∙ c.requires.entries), entries_short c.args.number c.requires.most))
+sample_meant-requires-clause-said g c = record {
+  text = c.as_slice.result.now;
+  entry_text = c.as_slice-2.result.now;
+  means = c.in-Ok.ensures.means;
+  says = c.in-Ok.ensures.says;
+  is_short = omega (arith, ap length (c.as_slice.ensures ∙ c.requires.program), program_short c.args.number c.requires.most);
+  has_short_entries = omega (arith, ap length (c.as_slice-2.ensures ∙ c.requires.entries), entries_short c.args.number c.requires.most);
+}
 
 pub returns-in-Ok-clause-answered : goal.returns-in-Ok-clause-answered
 returns-in-Ok-clause-answered g c = λ shelf.

@@ -1,21 +1,22 @@
-use Rattle.std.proofs.Common.{◌<◌, ◌∙◌, ◌++◌, ◌∷◌, [], List, Some, ap, arith, length, take}
+use Rattle.std.proofs.Common.{◌<◌, ◌∙◌, ◌++◌, ◌∷◌, List, [], Some, ap, arith, length, refl, take}
+use Rattle.rmt_bits.proofs.ListLaws.{slice_get-seen}
 use Rattle.rmt_ast.specs.declared.entry.Entry.{Entry}
 use Rattle.rmt_ast.specs.Changes.{list_of}
 use Rattle.rmt_update.specs.Stands.{somes}
-use Rattle.rmt_update.proofs.SettleLaws.{extends_push, list_at, none_more, place_at, somes_at, somes_more}
+use Rattle.rmt_update.proofs.SettleLaws.{extends_push, list_at, none_more, somes_at, somes_more}
 use Rattle.rmt_update.proofs.settle.add_each.Goals as goal
 use Rattle.rmt_update.proofs.settle.add_each.Goals.{in-Some+in_ok-copy+in_ok-push, in_default}
 
 pub index_mut-requires : goal.index_mut-requires
 index_mut-requires c =
-    let at = place_at c.args.come.now c.loop-place.place-index c.place-item.result c.loop-place-test.true c.place-item.is ∙ ap Some c.in-Some.is in
+    let at = slice_get-seen c.args.come.now c.args.come.now c.loop-place.place-index c.place-item.result refl c.loop-place-test.true c.place-item.is ∙ ap Some c.in-Some.is in
     let own : c.in-Some.entry.table < length c.args.lists.now.items =
     somes_at (λ (e : Entry). e.table < length c.args.lists.now.items) c.args.come.now c.loop-place.place-index c.in-Some.entry c.requires.tables at in
     omega (arith, own, c.loop-place.invariant.count, c.loop-place.lists.ok.0)
 
 pub loop-place-preserved : goal.loop-place-preserved
 loop-place-preserved c =
-    let place = place_at c.args.come.now c.loop-place.place-index c.place-item.result c.loop-place-test.true c.place-item.is in
+    let place = slice_get-seen c.args.come.now c.args.come.now c.loop-place.place-index c.place-item.result refl c.loop-place-test.true c.place-item.is in
     let old = c.args.lists.now.items in
     let lists = c.loop-place.lists.items in
     let part = somes (take c.loop-place.place-index c.args.come.now) in

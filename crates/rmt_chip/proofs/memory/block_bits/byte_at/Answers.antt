@@ -1,6 +1,6 @@
 use Rattle.std.proofs.Common.{◌<◌, sym, ◌∙◌, subst, ◌^◌, arith}
 use Rattle.rmt_config.proofs.HeldRows.{sram-within}
-use Rattle.rmt_chip.proofs.RowLaws.{byte-read}
+use Rattle.rmt_config.proofs.SpelledBytes.{byte-read}
 use Rattle.rmt_chip.proofs.memory.block_bits.byte_at.Goals as goal
 use Rattle.rmt_chip.proofs.memory.block_bits.byte_at.Goals.{then-block-blocks, else-block-blocks}
 

@@ -8,7 +8,7 @@ use Rattle.rmt_config.specs.Layouts.{exact_records}
 use Rattle.rmt_config.proofs.CellLayouts.{exact-data}
 use Rattle.rmt_chip.specs.declared.memory.runs.Runs.{Runs}
 use Rattle.rmt_chip.specs.Laying.{entry_of, runs_of}
-use Rattle.rmt_chip.proofs.RowLaws.{slice-whole}
+use Rattle.rmt_config.proofs.SpelledBytes.{slice-whole}
 use Rattle.rmt_chip.proofs.RunLaws.{runs-none, runs-same}
 use Rattle.rmt_chip.proofs.memory.lay.exact_data.Goals as goal
 

@@ -1,5 +1,5 @@
 use Rattle.std.proofs.Common.{arith}
-use Rattle.rmt_chip.proofs.RowLaws.{byte-low}
+use Rattle.rmt_config.proofs.SpelledBytes.{byte-low}
 use Rattle.rmt_chip.proofs.memory.runs.low_part.Goals as goal
 
 pub returns-else-len-lt8 : goal.returns-else-len-lt8

@@ -1,7 +1,7 @@
 use Rattle.std.proofs.Common.{◌≡◌, ◌+◌, ◌-◌, ◌*◌, ◌/◌, ◌%◌, ◌^◌, ap, ◌∙◌, arith}
 use Rattle.rmt_bits.specs.Bits.{slice}
 use Rattle.rmt_config.specs.Cells.{sram_row, unit_row}
-use Rattle.rmt_chip.proofs.RowLaws.{slice-byte, bytes-more}
+use Rattle.rmt_config.proofs.SpelledBytes.{slice-byte, bytes-more}
 use Rattle.rmt_chip.proofs.memory.runs.push_bits.Goals as goal
 
 pub loop-at-preserved : goal.loop-at-preserved

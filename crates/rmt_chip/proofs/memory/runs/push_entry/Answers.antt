@@ -7,7 +7,7 @@ use Rattle.rmt_config.specs.Cells.{sram_row, unit_row, blocks_at}
 use Rattle.rmt_config.specs.Layouts.{quantum_of, local_of, unit_of, row_of, position_of}
 use Rattle.rmt_config.proofs.CellPlaces.{mod-div_rows, unit_below, blocks_there}
 use Rattle.rmt_chip.specs.Laying.{entry_of}
-use Rattle.rmt_chip.proofs.RowLaws.{entry_there}
+use Rattle.rmt_config.proofs.SpelledBytes.{entry_there}
 use Rattle.rmt_chip.proofs.memory.runs.push_entry.Goals as goal
 use Rattle.rmt_bits.proofs.BitLaws.{slice-slice}
 

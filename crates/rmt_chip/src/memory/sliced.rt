@@ -1,0 +1,122 @@
+//! Rows of a ternary part in vectors of bits, and the first row that a key has.
+
+ghost use Rattle.std.specs.Prelude.{◌≡◌, ◌≤◌, ◌+◌, ◌*◌, ◌^◌, vec_len};
+
+use crate::memory::row_bits::{nibble, set_row};
+use std::alloc::{AllocError, Global};
+
+/// Rows of a ternary part, of which some may be missing. For each nibble of a key and each of its
+/// 16 values stands a vector with a bit for each row, which is set where the value leaves the row;
+/// a last vector has the rows that are there. A key has the rows whose bits are set in the vectors
+/// of all its nibbles and in the last.
+///
+/// A look-up takes at most one step for a nibble and 64 rows, whatever the masks: 20,000 rows are
+/// 313 runs of 64, and a run ends as soon as none of its rows is left. A row that is put takes 16
+/// steps for a nibble. The memory is 20 bytes a row for each word of 40 bits of a key, and one bit;
+/// rows are counted up to a multiple of 64.
+#[derive(Drop)]
+pub struct Sliced {
+    /// How many words of 40 bits a key has.
+    pub words: usize,
+    /// How many words of 64 bits a vector has.
+    pub width: usize,
+    /// The vectors one behind another: that of value v of nibble n is the one numbered 16 n + v.
+    pub bits: Vec<u64>,
+    pub ghost few: { words ≤ 16 },
+    pub ghost few_rows: { width ≤ 2 ^ 26 },
+    pub ghost all: { vec_len bits ≡ (160 * words + 1) * width },
+}
+
+impl Sliced {
+    ghost use Rattle.std.specs.Prelude.{◌<◌, ℕ, List, length, Option, Some, None, replicate, slice_index, slice_set, IfOk};
+    ghost use Rattle.std.specs.Int.{bit_at};
+    ghost use Rattle.rmt_bits.specs.Grouping.{Compared};
+    ghost use Rattle.rmt_chip.specs.Searching.{FirstIn};
+    ghost use Rattle.rmt_chip.specs.Slicing.{nibble as nibble_of, HasRow, RowFits, StandsFor, IsOn, OnIn};
+
+    /// No row is there, of some, where a key has that many words of 40 bits.
+    pub fn new(alloc: Global, rows: usize, words: usize) -> Result<Sliced, AllocError>
+        requires few { rows < 2 ^ 32 }
+        requires words { words ≤ 16 }
+        ensures words { IfOk result (λ sliced. sliced.words ≡ words) }
+        ensures stands { IfOk result (λ sliced. StandsFor (replicate rows None) sliced) }
+    {
+        let width = (rows + 63) / 64;
+        let bits = vec![in alloc; 0; (160 * words + 1) * width]?;
+        Ok(Sliced { words, width, bits })
+    }
+
+    /// Puts a row that compares these bits, whatever was there. It takes no memory.
+    pub fn put(&mut self, row: usize, masks: &[u128], values: &[u128])
+        requires row { row < 64 * self.old.width }
+        requires fits { RowFits self.old.words (record { masks = masks.now; values = values.now }) }
+        ensures words { self.new.words ≡ self.old.words }
+        ensures width { self.new.width ≡ self.old.width }
+        ensures stands { (rows : List (Option Compared)) → StandsFor rows self.old → row < length rows →
+            StandsFor (slice_set rows row (Some (record { masks = masks.now; values = values.now }))) self.new }
+    {
+        set_row(
+            self.bits.as_mut_slice(),
+            self.words,
+            self.width,
+            row,
+            masks,
+            values,
+        );
+    }
+
+    /// Of 64 rows those that are there and are left by the nibbles whose vectors begin at some words.
+    fn left(&self, vectors: &[usize], at: usize) -> u64
+        requires at { at < self.now.width }
+        requires all { length vectors.now ≡ 160 }
+        requires within { (n : ℕ) → n < 10 * self.now.words → slice_index vectors.now n + self.now.width ≤ vec_len self.now.bits }
+        ensures on { (j : ℕ) → bit_at result j ≡ 1 → IsOn self.now vectors.now (10 * self.now.words) at j }
+        ensures all { (j : ℕ) → IsOn self.now vectors.now (10 * self.now.words) at j → bit_at result j ≡ 1 }
+    {
+        let mut left = self.bits[160 * self.words * self.width + at];
+        for nibble in 0..10 * self.words {
+            if left == 0 {
+                return 0;
+            }
+            left &= self.bits[vectors[nibble] + at];
+        }
+        left
+    }
+
+    /// The first row that is there and is left by the nibbles whose vectors begin at some words.
+    fn first_left(&self, vectors: &[usize]) -> Option<usize>
+        requires all { length vectors.now ≡ 160 }
+        requires within { (n : ℕ) → n < 10 * self.now.words → slice_index vectors.now n + self.now.width ≤ vec_len self.now.bits }
+        ensures { FirstIn (OnIn self.now vectors.now) 0 (64 * self.now.width) result }
+    {
+        for at in 0..self.width {
+            let left = self.left(vectors, at);
+            if left != 0 {
+                return Some(64 * at + left.trailing_zeros() as usize);
+            }
+        }
+        None
+    }
+
+    /// Where the vectors of the nibbles of a key begin.
+    fn vectors_of(&self, key: &[u128]) -> [usize; 160]
+        requires { self.now.words ≤ length key.now }
+        ensures starts { (n : ℕ) → n < 10 * self.now.words → slice_index result n ≡ (16 * n + nibble_of key.now n) * self.now.width }
+        ensures within { (n : ℕ) → n < 10 * self.now.words → slice_index result n + self.now.width ≤ vec_len self.now.bits }
+    {
+        let mut vectors = [0; 160];
+        for at in 0..10 * self.words {
+            vectors[at] = (16 * at + nibble(key, at)) * self.width;
+        }
+        vectors
+    }
+
+    /// The first row that is there and equals a key on the bits that it compares.
+    pub fn first(&self, key: &[u128]) -> Option<usize>
+        requires { self.now.words ≤ length key.now }
+        ensures { (rows : List (Option Compared)) → StandsFor rows self.now → FirstIn (HasRow key.now rows) 0 (length rows) result }
+    {
+        let vectors = self.vectors_of(key);
+        self.first_left(&vectors)
+    }
+}

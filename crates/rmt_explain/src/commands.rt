@@ -1,0 +1,116 @@
+//! The commands, and which file each word of them names.
+
+/// What a file is to a command.
+#[derive(Clone, Copy, Debug, PartialEq, Eq)]
+pub enum Role {
+    Program,
+    Entries,
+    /// An image that is read.
+    Image,
+    /// An image that is written.
+    Written,
+    Packets,
+    /// A word that names no file.
+    Number,
+}
+
+/// A command.
+#[derive(Clone, Copy, Debug)]
+pub struct Form {
+    /// Its first word.
+    pub name: &'static str,
+    /// The words behind it, as the help names them.
+    pub operands: &'static [&'static str],
+    /// What each of them is.
+    pub roles: &'static [Role],
+    /// What the command does.
+    pub purpose: &'static str,
+}
+
+/// The commands, in the order of the help.
+pub const FORMS: [Form; 6] = [
+    Form {
+        name: "compile",
+        operands: &["PROGRAM", "ENTRIES", "IMAGE"],
+        roles: &[Role::Program, Role::Entries, Role::Written],
+        purpose: "write the image of a program with its entries",
+    },
+    Form {
+        name: "sim",
+        operands: &["IMAGE", "PACKETS"],
+        roles: &[Role::Image, Role::Packets],
+        purpose: "run packets through the chip of an image",
+    },
+    Form {
+        name: "probe",
+        operands: &["IMAGE", "PACKETS", "CYCLE"],
+        roles: &[Role::Image, Role::Packets, Role::Number],
+        purpose: "show the header vectors in the chip at a cycle",
+    },
+    Form {
+        name: "plain",
+        operands: &["PROGRAM", "ENTRIES", "PACKETS"],
+        roles: &[Role::Program, Role::Entries, Role::Packets],
+        purpose: "run packets through the program itself",
+    },
+    Form {
+        name: "report",
+        operands: &["IMAGE"],
+        roles: &[Role::Image],
+        purpose: "tell as JSON what an image uses of the chip",
+    },
+    Form {
+        name: "sample",
+        operands: &["N"],
+        roles: &[Role::Number],
+        purpose: "make a large program with N entries a table, and run it",
+    },
+];
+
+/// The command of a name.
+pub fn form_of(name: &str) -> Option<&'static Form> {
+    for form in FORMS.iter() {
+        if form.name == name {
+            return Some(form);
+        }
+    }
+    None
+}
+
+/// What the word of a number is, the words counted from 0 with the command's name.
+pub fn role_of(words: &[String], at: usize) -> Option<Role> {
+    let form = form_of(words.first()?.as_str())?;
+    form.roles.get(at.checked_sub(1)?).copied()
+}
+
+/// The number of the word that names the file of a role.
+pub fn word_of(words: &[String], role: Role) -> Option<usize> {
+    for at in 1..words.len() {
+        if role_of(words, at) == Some(role) {
+            return Some(at);
+        }
+    }
+    None
+}
+
+/// How many bytes a file may have that is read.
+pub fn limit_of(role: Role) -> Option<u64> {
+    match role {
+        Role::Program => Some(1_048_576),
+        Role::Entries => Some(67_108_864),
+        Role::Image => Some(268_435_456),
+        Role::Packets => Some(1_099_511_627_776),
+        Role::Written | Role::Number => None,
+    }
+}
+
+/// What a file is called in a sentence.
+pub fn role_name(role: Role) -> &'static str {
+    match role {
+        Role::Program => "a program",
+        Role::Entries => "an entry text",
+        Role::Image | Role::Written => "an image",
+        Role::Packets => "a packet text",
+        Role::Number => "a number",
+    }
+}

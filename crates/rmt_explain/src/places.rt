@@ -1,0 +1,161 @@
+//! Places in a text, and lines that are quoted with a caret under the place.
+
+use crate::message::{Message, is_seen};
+
+/// The most bytes of a line that are shown.
+const WINDOW: usize = 100;
+
+/// How many bytes are shown before the place where a line is cut.
+const BEFORE: usize = 60;
+
+/// Where the line of a number begins, the lines counted from 1.
+pub fn line_start(text: &[u8], line: u64) -> Option<usize> {
+    let mut number: u64 = 1;
+    if line <= 1 {
+        return Some(0);
+    }
+    for at in 0..text.len() {
+        if text[at] == b'\n' {
+            number = number.saturating_add(1);
+            if number == line {
+                return Some(at.saturating_add(1));
+            }
+        }
+    }
+    None
+}
+
+/// The line that begins at a position, without its line feed.
+pub fn line_from(text: &[u8], start: usize) -> &[u8] {
+    for end in start..text.len() {
+        if text[end] == b'\n' {
+            return part(text, start, end);
+        }
+    }
+    part(text, start, text.len())
+}
+
+/// The bytes from one position to another; none where there are no such.
+pub fn part(text: &[u8], start: usize, end: usize) -> &[u8] {
+    match text.get(start..end) {
+        Some(bytes) => bytes,
+        None => b"".as_slice(),
+    }
+}
+
+/// The line and the column of a position, both from 1.
+pub fn place_of(text: &[u8], position: usize) -> (u64, u64) {
+    let mut line: u64 = 1;
+    let mut column: u64 = 1;
+    for byte in part(text, 0, position) {
+        if *byte == b'\n' {
+            line = line.saturating_add(1);
+            column = 1;
+        } else {
+            column = column.saturating_add(1);
+        }
+    }
+    (line, column)
+}
+
+/// Says `NAME:LINE:COLUMN: `.
+pub fn say_head(name: &str, line: u64, column: u64, message: &mut Message) {
+    message.name(name);
+    message.say(":");
+    message.say_place(line);
+    message.say(":");
+    message.say_place(column);
+    message.say(": ");
+}
+
+/// Quotes a line, with carets under `width` bytes from a column on; a long line is cut around the place.
+pub fn quote_line(number: u64, line: &[u8], column: u64, width: usize, message: &mut Message) {
+    let place = column.saturating_sub(1) as usize;
+    let from = if line.len() > WINDOW {
+        place.saturating_sub(BEFORE)
+    } else {
+        0
+    };
+    let to = from.saturating_add(WINDOW).min(line.len());
+    message.say("  ");
+    message.say_place(number);
+    message.say(" | ");
+    say_cut(from > 0, message);
+    for byte in part(line, from, to) {
+        show_in_line(*byte, message);
+    }
+    say_cut(to < line.len(), message);
+    message.say("\n  ");
+    say_digits_as_spaces(number, message);
+    message.say(" | ");
+    say_blank(from > 0, message);
+    for _ in from..place {
+        message.say(" ");
+    }
+    say_carets(width.min(to.saturating_sub(place)), message);
+    message.say("\n");
+}
+
+/// Marks where a line is cut.
+fn say_cut(is_cut: bool, message: &mut Message) {
+    if is_cut {
+        message.say("..");
+    }
+}
+
+/// Room as wide as the mark of a cut.
+fn say_blank(is_cut: bool, message: &mut Message) {
+    if is_cut {
+        message.say("  ");
+    }
+}
+
+/// At least one caret.
+fn say_carets(width: usize, message: &mut Message) {
+    message.say("^");
+    for _ in 1..width {
+        message.say("^");
+    }
+}
+
+/// A byte of a line: one column wide, whatever it is.
+fn show_in_line(byte: u8, message: &mut Message) {
+    if is_seen(byte) {
+        message.show(byte);
+    } else if byte == b'\t' || byte == b'\r' {
+        message.say(" ");
+    } else {
+        message.say("?");
+    }
+}
+
+/// A space for each digit of a number.
+fn say_digits_as_spaces(number: u64, message: &mut Message) {
+    let mut left = number;
+    message.say(" ");
+    for _ in 0..20 {
+        left = left / 10;
+        if left == 0 {
+            break;
+        }
+        message.say(" ");
+    }
+}
+
+/// Names a byte that isn't seen on a screen, or shows one that is.
+pub fn say_named_byte(byte: u8, message: &mut Message) {
+    match byte {
+        b'\t' => message.say("a tab"),
+        b'\r' => message.say("a carriage return"),
+        0 => message.say("a byte 0"),
+        0xef => message.say("the byte 0xef, with which a byte order mark begins,"),
+        _ => {
+            if is_seen(byte) {
+                message.quote(&[byte]);
+            } else {
+                message.say("the byte ");
+                message.say_byte(byte);
+            }
+        }
+    }
+}

@@ -1,0 +1,144 @@
+//! Words that are no command.
+
+use crate::commands::{FORMS, Form, form_of};
+use crate::message::Message;
+
+/// Words that ask for help.
+const HELP: [&str; 3] = ["help", "--help", "-h"];
+
+/// What stands behind the forms of the commands in the whole help.
+const NOTES: [&str; 12] = [
+    "A file name is any word. CYCLE is 1 to 9 decimal digits; N is a number from 1 to 100,000.",
+    "A program has at most 1,048,576 bytes, an entry text 67,108,864, an image 268,435,456,",
+    "a packet text 1,099,511,627,776.",
+    "",
+    "Results go to standard output, and messages like this one to standard error.",
+    "Exit status: 0 done, 1 no command, 2 a file can't be read, 3 a file or the output can't be",
+    "written, 4 a bad program, 5 bad entries, 6 the program doesn't fit the chip, 7 a bad image,",
+    "8 bad packets, 9 a file is too long, 10 no memory, 11 the words are no text.",
+    "",
+    "docs/commands.md tells each command, docs/language.md the language of programs, entries",
+    "and packets, and docs/glossary.md the words.",
+    "",
+];
+
+/// Tells which word is wrong, and the forms of all commands; or, where it is asked for, the whole help.
+pub fn explain_usage(words: &[String], message: &mut Message) {
+    match words.first() {
+        Some(word) if is_help(word.as_str()) => explain_all(message),
+        Some(word) => {
+            explain_wrong(word.as_str(), words, message);
+            explain_forms(message);
+        }
+        None => {
+            message.say("rmt: no command is given\n");
+            explain_forms(message);
+        }
+    }
+}
+
+/// Whether a word asks for help.
+fn is_help(word: &str) -> bool {
+    for help in HELP.iter() {
+        if *help == word {
+            return true;
+        }
+    }
+    false
+}
+
+/// The whole help.
+fn explain_all(message: &mut Message) {
+    message.say("rmt: a compiler and a simulator for a match-action switch chip\n");
+    explain_forms(message);
+    for note in NOTES.iter() {
+        message.say(note);
+        message.say("\n");
+    }
+}
+
+/// The forms of all commands.
+fn explain_forms(message: &mut Message) {
+    message.say("The commands:\n");
+    for form in FORMS.iter() {
+        message.say("  rmt ");
+        message.say(form.name);
+        say_operands(form, message);
+        message.say("\n      ");
+        message.say(form.purpose);
+        message.say("\n");
+    }
+}
+
+/// The words behind a command's name, each behind a space.
+fn say_operands(form: &Form, message: &mut Message) {
+    for operand in form.operands {
+        message.say(" ");
+        message.say(operand);
+    }
+}
+
+/// Tells the word that is wrong, or the one that is missing.
+fn explain_wrong(first: &str, words: &[String], message: &mut Message) {
+    match form_of(first) {
+        None => {
+            say_word(1, first, message);
+            message.say(" is no command\n");
+        }
+        Some(form) => match words.get(words_of(form) as usize) {
+            Some(extra) => {
+                say_word(words_of(form).saturating_add(1), extra.as_str(), message);
+                message.say(" is one too many: the command is `");
+                say_form(form, message);
+                message.say("`\n");
+            }
+            None => explain_operands(form, words, message),
+        },
+    }
+}
+
+/// How many words a command has, its name among them.
+fn words_of(form: &Form) -> u64 {
+    (form.operands.len() as u64).saturating_add(1)
+}
+
+/// A word of the command line, with its place.
+fn say_word(place: u64, word: &str, message: &mut Message) {
+    message.say("rmt: word ");
+    message.say_number(place);
+    message.say(", `");
+    message.name(word);
+    message.say("`,");
+}
+
+/// A command with the words behind it.
+fn say_form(form: &Form, message: &mut Message) {
+    message.say(form.name);
+    say_operands(form, message);
+}
+
+/// Tells which words are missing, or that the last one is no number.
+fn explain_operands(form: &Form, words: &[String], message: &mut Message) {
+    match form.operands.get(words.len().saturating_sub(1)) {
+        Some(missing) => {
+            message.say("rmt: ");
+            message.say(missing);
+            message.say(" is missing: the command is `");
+            say_form(form, message);
+            message.say("`\n");
+        }
+        None => explain_number(form, words, message),
+    }
+}
+
+/// Tells that the last word is no number of the command.
+fn explain_number(form: &Form, words: &[String], message: &mut Message) {
+    if let Some(last) = words.last() {
+        say_word(words.len() as u64, last.as_str(), message);
+        if form.name == "probe" {
+            message.say(" is no CYCLE: 1 to 9 decimal digits are wanted\n");
+        } else {
+            message.say(" is no N: a number from 1 to 100,000 is wanted, in decimal digits\n");
+        }
+    }
+}

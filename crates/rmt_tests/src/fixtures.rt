@@ -1,0 +1,6 @@
+//! What tests of several crates begin with.
+
+pub mod images;
+pub mod programs;
+pub mod shown;
+pub mod texts;
