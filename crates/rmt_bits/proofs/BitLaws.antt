@@ -1,6 +1,7 @@
 -- Laws of slices and deposits.
 use Rattle.std.proofs.Common.{◌≡◌, ℕ, ◌+◌, ◌-◌, ◌*◌, ◌/◌, ◌%◌, ◌^◌, ◌<◌, ◌≤◌, ◌==◌, false, sym, ap, ◌∙◌, arith}
-use Rattle.std.proofs.lemmas.Nat.{pow_pos, pow-add, shr_below, mod_below, mul-add-lt, shr_split, shr-shr, shr_high, mod_low, field_of, mod-pow-add}
+use Rattle.std.specs.Prelude.{bit_and}
+use Rattle.std.proofs.lemmas.Nat.{and_shr, and_mod, pow_pos, pow-add, shr_below, mod_below, mul-add-lt, shr_split, shr-shr, shr_high, mod_low, field_of, mod-pow-add}
 use Rattle.std.proofs.Math.Pow.{mod-mod-pow, pow_mono}
 use Rattle.std.proofs.Math.Nat.{div-eq_of_lt, div-one, mod-eq_of_lt}
 use Rattle.rmt_bits.specs.Bits.{slice, deposit}
@@ -145,3 +146,7 @@ no_bit-above mask n small far =
     let more : 2 ^ 16 ≤ 2 ^ n = pow_mono far in
     let below : mask < 2 ^ n = omega arith in
     ap (λ m. m % 2 == 1) (div-eq_of_lt below)
+
+-- a run of the bits that two numbers have in common
+pub slice-and : (a b low len : ℕ) → slice (bit_and a b) low len ≡ bit_and (slice a low len) (slice b low len)
+slice-and a b low len = ap (λ n. n % 2 ^ len) (and_shr a b low) ∙ and_mod (a / 2 ^ low) (b / 2 ^ low) len

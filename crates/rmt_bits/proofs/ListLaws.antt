@@ -179,3 +179,10 @@ find-passes test (y ∷ ys) x e = passes_first test (test y) y (find test ys) x 
 -- the item at a place of what is seen of a list
 pub slice_get-seen : {X : Type 0} (xs seen : List X) (i : ℕ) (x : X) → seen ≡ xs → i < length seen → x ≡ get_or seen i x → slice_get xs i ≡ Some x
 slice_get-seen xs seen i x same lt is = slice_get_read xs (length seen) i x (ap length same) lt (is ∙ ap (λ ys. get_or ys i x) same)
+
+-- the items of a list that stand in another one from a place on: the first, and those behind it
+pub first_from : {X : Type 0} (xs ys : List X) (x : X) (k : ℕ) → ((i : ℕ) → slice_get (x ∷ xs) i ≡ slice_get ys (k + i)) → slice_get ys k ≡ Some x
+first_from xs ys x k h = ap (slice_get ys) (omega arith) ∙ sym (h 0)
+
+pub next_from : {X : Type 0} (xs ys : List X) (x : X) (k : ℕ) → ((i : ℕ) → slice_get (x ∷ xs) i ≡ slice_get ys (k + i)) → (i : ℕ) → slice_get xs i ≡ slice_get ys (k + 1 + i)
+next_from xs ys x k h i = h (suc i) ∙ ap (slice_get ys) (omega arith)

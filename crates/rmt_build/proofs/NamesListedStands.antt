@@ -11,7 +11,6 @@ use Rattle.rmt_bits.proofs.ListLaws.{range_more}
 use Rattle.rmt_bits.proofs.PairLaws.{AllPairs-head, AllPairs-tail}
 use Rattle.rmt_pack.specs.declared.placement.Part.{Part}
 use Rattle.rmt_pack.specs.Placements.{quanta_in}
-use Rattle.rmt_ptcam.proofs.FewerLaws.{filter_none}
 use Rattle.rmt_ast.specs.declared.program.Kind.TheVariants.{Keyless, Exact, Prefix, Ternary}
 use Rattle.rmt_build.specs.Types.{Kind}
 use Rattle.rmt_build.specs.declared.stands.Stand.{Stand}
@@ -19,7 +18,7 @@ use Rattle.rmt_build.specs.EntryCells.{cells_for, stands_there}
 use Rattle.rmt_build.specs.Plans.{quanta_before}
 use Rattle.rmt_build.proofs.PartLaws.{quanta_more}
 use Rattle.rmt_build.proofs.StandLaws.{cells_add, first_cell, part_cells}
-use Rattle.rmt_bits.proofs.AlikeLaws.{filter_alike}
+use Rattle.rmt_bits.proofs.AlikeLaws.{filter_alike, filter_none}
 
 -- ---- lists
 

@@ -8,6 +8,7 @@ use Rattle.std.proofs.lemmas.List.Elements.{All-contains, All-map, All-nil, All-
 use Rattle.std.proofs.lemmas.List.Sums.{list_all-from_AllPass, sum_by-append, sum_by-cons}
 use Rattle.std.proofs.lemmas.Option.{none-some, same_Some, slice_get-get_or}
 use Rattle.rmt_bits.proofs.AllLaws.{All-flat_map, All-parts, All-slice_get, All-unmap}
+use Rattle.rmt_bits.proofs.ListLaws.{first_from, next_from}
 use Rattle.rmt_build.specs.Types.{Program, Table, Kind, Config, Stage, Unit, SlotUnit, CellNumber, Memory}
 use Rattle.rmt_ast.specs.declared.program.Kind.TheVariants as kind
 use Rattle.rmt_ast.specs.declared.entry.Entry.{Entry}
@@ -46,7 +47,7 @@ use Rattle.rmt_build.proofs.CellsLaws.{all_quanta}
 use Rattle.rmt_build.proofs.EntryLaws.{data-fits}
 use Rattle.rmt_build.proofs.FormStage.{kinds}
 use Rattle.rmt_build.proofs.NamesListedParts.{IsPartOf, each_is_part, parts_in_stage}
-use Rattle.rmt_build.proofs.NamesTold.{all_places, all_told, first_place, has_number, named_there, next_place}
+use Rattle.rmt_build.proofs.NamesTold.{all_places, all_told, has_number, named_there}
 use Rattle.rmt_build.proofs.PlanLaws.{format_is, node_there}
 use Rattle.rmt_build.proofs.SpotLaws.{HasTable, listed_stands, slot_built, table_of_part}
 
@@ -173,8 +174,8 @@ module _ (p : Program) (lists : List (List Entry)) (plan : Plan) (c : Config) (p
           let here = parts_among n k 0 0 stage.units in
           let rest = flat_map (λ (x : ℕ × Stage). parts_among n x.0 0 0 x.1.units) (enumerate_from (k + 1) stages) in
           ap sum (map-append quanta_at here rest) ∙ sum_by-append (λ m. m) (map quanta_at here) (map quanta_at rest)
-          ∙ ap (λ a. a + sum (map quanta_at rest)) (stage_quanta k stage (first_place stages c.stages stage k h))
-          ∙ ap (λ a. quanta_in parts n k + a) (stages_quanta (k + 1) stages (next_place stages c.stages stage k h))
+          ∙ ap (λ a. a + sum (map quanta_at rest)) (stage_quanta k stage (first_from stages c.stages stage k h))
+          ∙ ap (λ a. quanta_in parts n k + a) (stages_quanta (k + 1) stages (next_from stages c.stages stage k h))
           ∙ sym (sum_by-cons (quanta_in parts n) k (range_with_len (k + 1) (length stages)))
 
       -- the parts have the quanta of the node

@@ -6,7 +6,7 @@ use Rattle.std.proofs.lemmas.Bool.{eq-eqb, or_left, or_right}
 use Rattle.std.proofs.lemmas.List.{length-map}
 use Rattle.std.proofs.lemmas.List.Elements.{All-cons, All-nil}
 use Rattle.std.proofs.lemmas.Option.{none-some, same_Some}
-use Rattle.rmt_bits.proofs.ListLaws.{slice_get-alike}
+use Rattle.rmt_bits.proofs.ListLaws.{first_from, next_from, slice_get-alike}
 use Rattle.rmt_build.specs.Types.{Program, Table, Node, What}
 use Rattle.rmt_ast.specs.declared.program.What.TheVariants as what
 use Rattle.rmt_ast.specs.declared.entry.Entry.{Entry}
@@ -16,12 +16,6 @@ use Rattle.rmt_ast.specs.Naming.{has_key, if_keyed, named_at, named_from, names_
 use Rattle.rmt_refine.specs.Units.{applied, table_at}
 
 -- ---- items by their places
-
-pub next_place : {X : Type 0} (xs ys : List X) (x : X) (k : ℕ) → ((i : ℕ) → slice_get (x ∷ xs) i ≡ slice_get ys (k + i)) → (i : ℕ) → slice_get xs i ≡ slice_get ys (k + 1 + i)
-next_place xs ys x k h i = h (suc i) ∙ ap (slice_get ys) (omega arith)
-
-pub first_place : {X : Type 0} (xs ys : List X) (x : X) (k : ℕ) → ((i : ℕ) → slice_get (x ∷ xs) i ≡ slice_get ys (k + i)) → slice_get ys k ≡ Some x
-first_place xs ys x k h = ap (slice_get ys) (omega arith) ∙ sym (h 0)
 
 pub all_places : {X : Type 0} (xs : List X) (i : ℕ) → slice_get xs i ≡ slice_get xs (0 + i)
 all_places xs i = ap (slice_get xs) (omega arith)
@@ -63,11 +57,11 @@ module _ (p : Program) (lists : List (List Entry)) where
 
     told_from : (n : ℕ) (nodes : List Node) → ((i : ℕ) → slice_get nodes i ≡ slice_get p.nodes (n + i)) → All P (named_from p lists n nodes)
     told_from n [] h = All-nil P
-    told_from n (node ∷ nodes) h = step (named_at p n (entries_at n) node.what) refl (told_from (n + 1) nodes (next_place nodes p.nodes node n h))
+    told_from n (node ∷ nodes) h = step (named_at p n (entries_at n) node.what) refl (told_from (n + 1) nodes (next_from nodes p.nodes node n h))
       where
         step : (o : Option TableName) → named_at p n (entries_at n) node.what ≡ o → All P (named_from p lists (n + 1) nodes) → All P (cons_option o (named_from p lists (n + 1) nodes))
         step None e rest = rest
-        step (Some x) e rest = All-cons P x (named_from p lists (n + 1) nodes) (of_node n node x (first_place nodes p.nodes node n h) e) rest
+        step (Some x) e rest = All-cons P x (named_from p lists (n + 1) nodes) (of_node n node x (first_from nodes p.nodes node n h) e) rest
 
     -- what holds of each table with a key that a node applies
     pub all_told : All P (names_of p lists).tables

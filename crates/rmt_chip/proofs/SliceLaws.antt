@@ -9,7 +9,7 @@ use Rattle.std.proofs.lemmas.Nat.{shr_below, shr-shr, div-add-mod', and_mod, and
 use Rattle.std.proofs.Math.Nat.{div-one}
 use Rattle.rmt_bits.specs.Bits.{slice}
 use Rattle.rmt_bits.specs.Grouping.{Compared}
-use Rattle.rmt_bits.proofs.BitLaws.{slice-lt}
+use Rattle.rmt_bits.proofs.BitLaws.{slice-and, slice-lt}
 use Rattle.rmt_chip.specs.declared.memory.sliced.Sliced.{Sliced}
 use Rattle.rmt_chip.specs.KeyWords.{Has, words_of, masked}
 use Rattle.rmt_chip.specs.Searching.{FirstIn}
@@ -17,9 +17,6 @@ use Rattle.rmt_chip.specs.Slicing.{HasRow, nibble, leaves, bit_if, bit_in, RowFi
 use Rattle.rmt_chip.proofs.WordLaws.{length-words, word-of, length-masked, masked-at}
 
 -- ---- nibbles
-
-pub slice-and : (a b low len : ℕ) → slice (bit_and a b) low len ≡ bit_and (slice a low len) (slice b low len)
-slice-and a b low len = ap (λ n. n % 2 ^ len) (and_shr a b low) ∙ and_mod (a / 2 ^ low) (b / 2 ^ low) len
 
 -- numbers with the same nibbles are the same
 pub same-nibbles : (count a b : ℕ) → a < 2 ^ (4 * count) → b < 2 ^ (4 * count) → ((i : ℕ) → i < count → slice a (4 * i) 4 ≡ slice b (4 * i) 4) → a ≡ b

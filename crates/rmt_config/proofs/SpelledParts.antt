@@ -4,6 +4,7 @@ use Rattle.std.specs.Prelude.{All, IsTrue, option_and_then, slice_get}
 use Rattle.std.specs.List.{enumerate_from, flat_map, list_all}
 use Rattle.std.proofs.lemmas.Bool.{and_parts}
 use Rattle.std.proofs.lemmas.List.Elements.{All-nil, All-cons, All-head, All-tail, All-append}
+use Rattle.rmt_bits.proofs.ListLaws.{first_from, next_from}
 use Rattle.rmt_config.specs.Types.{Config, Stage, Unit, SlotUnit}
 use Rattle.rmt_config.specs.declared.config.Unit.TheVariants.{Gate, Slot}
 use Rattle.rmt_config.specs.Cells.{content_of}
@@ -18,12 +19,6 @@ use Rattle.rmt_config.specs.PartStands.{PartStands}
 use Rattle.rmt_config.proofs.CountsLemmas.{stages_of_items}
 use Rattle.rmt_config.proofs.SlotLaws.{formed-rows}
 
-next-place : {X : Type 0} (xs ys : List X) (x : X) (k : ℕ) → ((i : ℕ) → slice_get (x ∷ xs) i ≡ slice_get ys (k + i)) → (i : ℕ) → slice_get xs i ≡ slice_get ys (k + 1 + i)
-next-place xs ys x k h i = h (suc i) ∙ ap (slice_get ys) (omega arith)
-
-first-place : {X : Type 0} (xs ys : List X) (x : X) (k : ℕ) → ((i : ℕ) → slice_get (x ∷ xs) i ≡ slice_get ys (k + i)) → slice_get ys k ≡ Some x
-first-place xs ys x k h = ap (slice_get ys) (omega arith) ∙ sym (h 0)
-
 slot-stand : (c : Config) (p : PartAt) (rest : List PartAt) (b : Bool) → PartStands c p → All (PartStands c) rest → All (PartStands c) ((cond b (p ∷ []) []) ++ rest)
 slot-stand c p rest true stands more = All-cons (PartStands c) p rest stands more
 slot-stand c p rest false stands more = more
@@ -33,7 +28,7 @@ module _ (c : Config) (stage : Stage) (k node : ℕ) (in_stages : slice_get c.st
       → All (λ (x : Coded). SlotHolds (visible_with c.names) stage x.first x.slot) (coded_from first units) → All (PartStands c) (parts_among node k place first units)
   units-stand [] place first h e all = All-nil (PartStands c)
   units-stand (Gate g ∷ units) place first h e all =
-      units-stand units (place + 1) first (next-place units stage.units (Gate g) place h) (and_parts (unit_is_formed (Gate g)) (list_all unit_is_formed units) e).1 all
+      units-stand units (place + 1) first (next_from units stage.units (Gate g) place h) (and_parts (unit_is_formed (Gate g)) (list_all unit_is_formed units) e).1 all
   units-stand (Slot s ∷ units) place first h e all =
       let parts = and_parts (unit_is_formed (Slot s)) (list_all unit_is_formed units) e in
       let x : Coded = record { first = first; slot = s } in
@@ -42,13 +37,13 @@ module _ (c : Config) (stage : Stage) (k node : ℕ) (in_stages : slice_get c.st
       (record {
         stage = stage;
         in_stages = in_stages;
-        in_units = first-place units stage.units (Slot s) place h;
+        in_units = first_from units stage.units (Slot s) place h;
         formed = formed;
         rows = rows;
         slot = parts.0;
         holds = All-head (λ (x : Coded). SlotHolds (visible_with c.names) stage x.first x.slot) x behind all;
       })
-      (units-stand units (place + 1) (first + s.actions + 1) (next-place units stage.units (Slot s) place h) parts.1
+      (units-stand units (place + 1) (first + s.actions + 1) (next_from units stage.units (Slot s) place h) parts.1
       (All-tail (λ (x : Coded). SlotHolds (visible_with c.names) stage x.first x.slot) x behind all))
 
 units-of : (stage : Stage) → stage_is_formed stage ≡ true → list_all unit_is_formed stage.units ≡ true
@@ -64,9 +59,9 @@ stages-stand c node k (stage ∷ stages) h e r all =
     let here = parts_among node k 0 0 stage.units in
     let rest = flat_map (λ (x : ℕ × Stage). parts_among node x.0 0 0 x.1.units) (enumerate_from (k + 1) stages) in
     All-append (PartStands c) here rest
-    (units-stand c stage k node (first-place stages c.stages stage k h) formed.0 (formed-rows stage formed.0 rows.0) stage.units 0 0 (λ i. ap (slice_get stage.units) (omega arith)) (units-of stage formed.0)
+    (units-stand c stage k node (first_from stages c.stages stage k h) formed.0 (formed-rows stage formed.0 rows.0) stage.units 0 0 (λ i. ap (slice_get stage.units) (omega arith)) (units-of stage formed.0)
     (All-head (StageHolds (visible_with c.names)) stage stages all))
-    (stages-stand c node (k + 1) stages (next-place stages c.stages stage k h) formed.1 rows.1 (All-tail (StageHolds (visible_with c.names)) stage stages all))
+    (stages-stand c node (k + 1) stages (next_from stages c.stages stage k h) formed.1 rows.1 (All-tail (StageHolds (visible_with c.names)) stage stages all))
 
 pub parts-stand : (c : Config) (node : ℕ) → IsTrue (items_are_formed c) → MemoryIsFormed c → All (PartStands c) (parts_of c node)
 parts-stand c node items memory = stages-stand c node 0 c.stages (λ i. ap (slice_get c.stages) (omega arith)) (stages_of_items c items) memory.rows memory.memory

@@ -4,7 +4,6 @@ use Rattle.std.specs.Prelude.{All, AllPairs, Contains, bit_and}
 use Rattle.std.specs.List.{AllZip, zip}
 use Rattle.std.specs.Int.{bit_at}
 use Rattle.std.proofs.lemmas.Bool.{cases_lt}
-use Rattle.std.proofs.lemmas.Nat.{and_shr, and_mod}
 use Rattle.std.proofs.lemmas.Nat.Bits.{bit_at_and, same_from_bits}
 use Rattle.std.proofs.lemmas.List.Elements.{All-nil, All-cons, All-head, All-tail}
 use Rattle.rmt_bits.specs.Bits.{slice, deposit}
@@ -12,10 +11,6 @@ use Rattle.rmt_bits.proofs.BitLaws.{slice-deposit_same, slice-deposit_above, sli
 use Rattle.rmt_config.proofs.UnitBits.{slice-bit}
 
 -- ---- runs of bits
-
--- a run of the bits that two numbers have in common
-pub slice-and : (a b low len : ℕ) → slice (bit_and a b) low len ≡ bit_and (slice a low len) (slice b low len)
-slice-and a b low len = ap (λ n. n % 2 ^ len) (and_shr a b low) ∙ and_mod (a / 2 ^ low) (b / 2 ^ low) len
 
 -- numbers that agree on a run agree on its bits
 pub bit_from_slice : (v w low len i : ℕ) → slice v low len ≡ slice w low len → low ≤ i → i < low + len → bit_at v i ≡ bit_at w i

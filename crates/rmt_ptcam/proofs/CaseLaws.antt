@@ -10,7 +10,7 @@ use Rattle.std.proofs.lemmas.List.Folds.{list_any-from_Any}
 use Rattle.std.proofs.lemmas.List.FromFn.{length-range_with_len, get_or-range_with_len}
 use Rattle.rmt_bits.specs.Bits.{slice, bytes_of}
 use Rattle.rmt_bits.proofs.AllLaws.{All-range}
-use Rattle.rmt_bits.proofs.BitLaws.{slice-lt}
+use Rattle.rmt_bits.proofs.BitLaws.{slice-and, slice-lt}
 use Rattle.rmt_ptcam.specs.Types.{Program, Header, Test}
 use Rattle.rmt_ast.specs.State.{width_of, passes}
 use Rattle.rmt_ast.specs.Walk.{all_pass}
@@ -19,7 +19,7 @@ use Rattle.rmt_config.specs.Parser.{high_bytes}
 use Rattle.rmt_ptcam.specs.Needs.{place_in, touches, is_looked_up, lookups_of}
 use Rattle.rmt_ptcam.specs.Plain.{looked_up}
 use Rattle.rmt_ptcam.proofs.PlainLaws.{place_within, contains_tail}
-use Rattle.rmt_ptcam.proofs.BitRunLaws.{slice-and, bit_from_slice, filled, AreRuns, AllFit, HasBit, filled_reads, same_on_runs}
+use Rattle.rmt_ptcam.proofs.BitRunLaws.{bit_from_slice, filled, AreRuns, AllFit, HasBit, filled_reads, same_on_runs}
 use Rattle.rmt_ptcam.proofs.ByteRunLaws.{bytes_of-at, map_same, high_and, high_apart}
 use Rattle.rmt_bits.proofs.OptionLaws.{same_Bool}
 use Rattle.rmt_bits.proofs.MemberLaws.{Contains-filter}

@@ -23,6 +23,7 @@ use Rattle.rmt_ptcam.proofs.JoinedParse.{next_there}
 use Rattle.rmt_ptcam.specs.Clustering.{goes_to}
 use Rattle.rmt_ptcam.specs.Plain.{entries_from, entries_of, entry_of_case, entry_to, next_of, plain}
 use Rattle.std.proofs.lemmas.Simd.{map-map}
+use Rattle.rmt_bits.proofs.AlikeLaws.{filter_none}
 
 -- ---- how many items pass
 
@@ -82,10 +83,6 @@ count_map p f (x ∷ xs) = by (p (f x)) (count_map p f xs)
     by : (b : Bool) → count p (map f xs) ≡ count (λ y. p (f y)) xs → length (cond b (f x ∷ filter p (map f xs)) (filter p (map f xs))) ≡ length (cond b (x ∷ filter (λ y. p (f y)) xs) (filter (λ y. p (f y)) xs))
     by true rest = ap suc rest
     by false rest = rest
-
-pub filter_none : {X : Type 0} (p : X → Bool) (xs : List X) → All (λ x. p x ≡ false) xs → filter p xs ≡ []
-filter_none p [] each = refl
-filter_none p (x ∷ xs) each = ap (λ (b : Bool). cond b (x ∷ filter p xs) (filter p xs)) (All-head (λ y. p y ≡ false) x xs each) ∙ filter_none p xs (All-tail (λ y. p y ≡ false) x xs each)
 
 abbrev tally : Bool → ℕ
 tally b = cond b 1 0

@@ -10,6 +10,7 @@ use Rattle.std.proofs.lemmas.List.Elements.{All-append, All-nil, All-cons, All-h
 use Rattle.std.proofs.lemmas.Option.{same_Some, slice_get_within}
 use Rattle.rmt_bits.proofs.AllLaws.{All-slice_get}
 use Rattle.rmt_bits.proofs.ListLaws.{take-slice_get}
+use Rattle.rmt_bits.proofs.AlikeLaws.{filter_all, filter_none}
 use Rattle.rmt_config.specs.Order.{rises_from}
 use Rattle.rmt_config.specs.Parser.{tail_of}
 use Rattle.rmt_config.specs.ParserForm.{entry_is_formed}
@@ -18,14 +19,8 @@ use Rattle.rmt_ptcam.specs.Types.{ParserConfig, ParserState, ParserEntry, TailOf
 use Rattle.rmt_ptcam.specs.declared.grouped.StateRows.{StateRows}
 use Rattle.rmt_ptcam.specs.Grouping.{AreOwn, Stand, all_rows, by_state, groups_from, parser_in, state_in}
 use Rattle.rmt_ptcam.specs.Joining.{KeepsForm, Row, numbered, parser_of, rows_from, rows_in, rows_of, tails_in}
-use Rattle.rmt_ptcam.proofs.FewerLaws.{filter_none}
 use Rattle.rmt_ptcam.proofs.FormedRows.{IsRow, entries_of_rows, formed_parts, rows_are}
 use Rattle.rmt_ptcam.proofs.JoinedKeeps.{sorted_rows}
-
-pub filter_all : {X : Type 0} (p : X → Bool) (xs : List X) → All (λ x. p x ≡ true) xs → filter p xs ≡ xs
-filter_all p [] each = refl
-filter_all p (x ∷ xs) each =
-    ap (λ (b : Bool). cond b (x ∷ filter p xs) (filter p xs)) (All-head (λ y. p y ≡ true) x xs each) ∙ ap (λ ys. x ∷ ys) (filter_all p xs (All-tail (λ y. p y ≡ true) x xs each))
 
 -- ---- rows that are grouped one after another
 

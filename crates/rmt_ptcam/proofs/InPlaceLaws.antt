@@ -11,6 +11,7 @@ use Rattle.std.proofs.Math.Seq.{drop-append_seam, drop-cons, take-append_seam}
 use Rattle.std.specs.List.{take-map, drop-map}
 use Rattle.rmt_bits.proofs.AllLaws.{All-from_test, All-parts, All-slice_get, All-unmap}
 use Rattle.rmt_bits.proofs.ListLaws.{slice_get-end, slice_get-item, take-slice_get}
+use Rattle.rmt_bits.proofs.AlikeLaws.{filter_all, filter_none}
 use Rattle.rmt_config.specs.Order.{rises_from}
 use Rattle.rmt_config.specs.Parser.{tail_of}
 use Rattle.rmt_config.specs.ParserForm.{next_is_formed}
@@ -22,9 +23,9 @@ use Rattle.rmt_ptcam.specs.Grouping.{AreOwn, CanFollow, Stand, all_rows, by_stat
 use Rattle.rmt_ptcam.specs.Joining.{IsGood, KeepsForm, Row, are_few, can_join, compares_before, ends_open, entries_in, is_light, join_at, join_of, join_to, joined, joined_row, lookups_at, number_of_entry, numbered, parser_of, rows_in, rows_of, spread, tails_in, together, widened, widened_entry}
 use Rattle.rmt_ptcam.specs.Joins.{behind_joins, join_named}
 use Rattle.rmt_ptcam.proofs.ClusteringLaws.{good_same}
-use Rattle.rmt_ptcam.proofs.FewerLaws.{filter_map, filter_none}
+use Rattle.rmt_ptcam.proofs.FewerLaws.{filter_map}
 use Rattle.rmt_ptcam.proofs.FormedRows.{IsRow, rows_are}
-use Rattle.rmt_ptcam.proofs.GroupLaws.{filter_all, made_by, parser_again, stand_again}
+use Rattle.rmt_ptcam.proofs.GroupLaws.{made_by, parser_again, stand_again}
 use Rattle.rmt_ptcam.proofs.TailForms.{IsRowTail}
 use Rattle.rmt_ptcam.proofs.JoinFacts.{RiseLow, ends_push, entry_compares, lookups_formed}
 use Rattle.rmt_ptcam.proofs.JoinedForm.{formed_entry}

@@ -10,7 +10,7 @@ use Rattle.std.proofs.lemmas.Option.{same_Some, slice_get-get_or, slice_get-map,
 use Rattle.rmt_bits.specs.Bits.{slice}
 use Rattle.rmt_bits.specs.declared.lane.Lane.{Lane}
 use Rattle.rmt_bits.proofs.AllLaws.{All-range}
-use Rattle.rmt_bits.proofs.BitLaws.{slice-lt}
+use Rattle.rmt_bits.proofs.BitLaws.{slice-and, slice-lt}
 use Rattle.rmt_ptcam.specs.Types.{Program, Header, Case, Test, Target, ParserState}
 use Rattle.rmt_ast.specs.declared.program.Target.TheVariants as target
 use Rattle.rmt_ast.specs.Places.{lanes_of}
@@ -26,7 +26,7 @@ use Rattle.rmt_ptcam.specs.Joining.{KeepsForm}
 use Rattle.rmt_ptcam.specs.Needs.{extract_count, first_fault, full_fault, header_fault, is_looked_up, lookups_of, refusal}
 use Rattle.rmt_ptcam.specs.Plain.{bits_from, entries_from, entries_of, entry_of_case, entry_to, extracts_of, looked_up, next_of, plain, state_of}
 use Rattle.rmt_ptcam.proofs.AgreementLaws.{few_lookups}
-use Rattle.rmt_ptcam.proofs.BitRunLaws.{bit_from_slice, same_on_runs, slice-and}
+use Rattle.rmt_ptcam.proofs.BitRunLaws.{bit_from_slice, same_on_runs}
 use Rattle.rmt_ptcam.proofs.CaseLaws.{byte_of, case_reads, looked_up_shown, low_of, masks_fit, number_with, shown, values_fit}
 use Rattle.rmt_ptcam.proofs.FormedRows.{formed_from}
 use Rattle.rmt_ptcam.proofs.FormLaws.{header_formed, plain_few, plain_is_parser, plain_rises, plain_tails_formed}

@@ -8,7 +8,7 @@ use Rattle.std.specs.declared.cmp.Ordering.{Ordering}
 use Rattle.std.specs.declared.cmp.Ordering.TheVariants.{Less, Equal, Greater}
 use Rattle.std.proofs.lemmas.Bool.{eq-eqb, eqb-true, false≢true}
 use Rattle.std.proofs.lemmas.List.Elements.{All-cons, All-filter, All-head, All-nil, All-tail, All-weaker}
-use Rattle.rmt_bits.proofs.AlikeLaws.{filter_alike}
+use Rattle.rmt_bits.proofs.AlikeLaws.{filter_alike, filter_all}
 use Rattle.rmt_bits.proofs.AllLaws.{All-left, All-right, All-unmap}
 use Rattle.rmt_bits.proofs.PairLaws.{AllPairs-head, AllPairs-tail}
 use Rattle.rmt_ast.specs.declared.entry.Entry.{Entry}
@@ -110,10 +110,6 @@ All-insert P (k ∷ ks) n h p = by (nat_cmp n k) (All-insert P ks n (All-tail P 
     by Greater rest = All-cons P k (insert_key nat_cmp ks n) (All-head P k ks h) rest
 
 -- ---- filters
-
-pub filter_all : {X : Type 0} (p : X → Bool) (xs : List X) → All (λ x. p x ≡ true) xs → filter p xs ≡ xs
-filter_all p [] h = refl
-filter_all p (x ∷ xs) h = rw (All-head (λ y. p y ≡ true) x xs h) (ap (λ ys. x ∷ ys) (filter_all p xs (All-tail (λ y. p y ≡ true) x xs h)))
 
 pub filter_twice : {X : Type 0} (p q : X → Bool) (xs : List X) → filter p (filter q xs) ≡ filter (λ x. q x && p x) xs
 filter_twice p q [] = refl

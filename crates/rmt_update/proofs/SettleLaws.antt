@@ -7,14 +7,14 @@ use Rattle.std.proofs.lemmas.Bool.Decides.{nat_tests}
 use Rattle.std.proofs.lemmas.List.{append-nil, length-set}
 use Rattle.std.proofs.lemmas.List.Elements.{All-append, All-cons, All-filter, All-head, All-nil, All-tail, All-weaker, filter-append}
 use Rattle.std.proofs.lemmas.Option.{same_Some, none-some, slice_get-get_or}
-use Rattle.rmt_bits.proofs.AlikeLaws.{filter_alike, filter_none}
+use Rattle.rmt_bits.proofs.AlikeLaws.{filter_alike, filter_all, filter_none}
 use Rattle.rmt_ast.specs.declared.entry.Entry.{Entry}
 use Rattle.rmt_ast.specs.Answers.{entry_numbers}
 use Rattle.rmt_ast.specs.Changes.{list_of}
 use Rattle.rmt_update.specs.Running.{is_among}
 use Rattle.rmt_update.specs.Settled.{Extends, ExtendsInPart, keeps}
 use Rattle.rmt_update.specs.Stands.{AreSlots, left_at, somes}
-use Rattle.rmt_update.proofs.FilterLaws.{filter_all, list_of-other, list_of-set, numbers_of}
+use Rattle.rmt_update.proofs.FilterLaws.{list_of-other, list_of-set, numbers_of}
 use Rattle.rmt_update.proofs.LeftLaws.{slots_from}
 
 pub lists_same : (xs ys : List (List Entry)) → length xs ≡ length ys → ((m : ℕ) → list_of xs m ≡ list_of ys m) → xs ≡ ys
