@@ -32,6 +32,11 @@ pub mod BeginLaws
 pub mod EndLaws
 pub mod PacketLaws
 pub mod RefinedLaws
+mod VisibleBitLaws
+mod PlacedLaws
+mod UnseenLaws
+mod SameCellLaws
+mod OneStateLaws
 mod RefinedExamples
 mod Examples
 mod TwoStages

@@ -11,3 +11,4 @@ pub mod Carries
 pub mod CountedHits
 pub mod Refined
 pub mod RunsAs
+pub mod Commits

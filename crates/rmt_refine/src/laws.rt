@@ -1,5 +1,6 @@
 //! What holds of every configuration that carries a program.
 
+ghost use Rattle.rmt_refine.specs.Commits.{ChangesAreUnseen, PacketsSeeOneState};
 ghost use Rattle.rmt_refine.specs.Laws.{ListsAreAnswered, LookUpsFindHits, OwnLooksAreInItsView, PacketsAreAnswered};
 
 /// Look-ups made in a configuration's own view are those that the chip makes: in its own cells, under its own seed.
@@ -29,4 +30,16 @@ pub fn packets()
 /// leaves the same counters. The packets are any that can come in: on ports 0 to 511, with 1 to 9,216 bytes.
 pub fn packet_lists()
     ensures { ListsAreAnswered }
+{}
+
+/// While a commit that moves no cell changes cells, one a cycle, a packet of the version that is current sees none of it:
+/// each of its look-ups finds what it found before the commit, after any number of the changes.
+pub fn unseen_changes()
+    ensures { ChangesAreUnseen }
+{}
+
+/// Each packet of a run of packets and commits sees one state of the cells, that of the cycle in which it enters, although
+/// cells are changed, and versions made, while it is in flight: each of its look-ups finds what it would find in that cycle.
+pub fn one_state()
+    ensures { PacketsSeeOneState }
 {}

@@ -1,0 +1,106 @@
+-- Heads of cells of which one visible bit is set or cleared: the other one, and all else, stays.
+use Rattle.std.proofs.Common.{◌≡◌, ◌⊎◌, ℕ, ◌+◌, ◌-◌, ◌*◌, ◌/◌, ◌%◌, ◌^◌, ◌==◌, Bool, true, false, cond, refl, sym, ap, subst, inl, inr, arith}
+use Rattle.std.proofs.lemmas.Bool.{cases_eq, eqb-false, eqb-true, ne_eqb}
+use Rattle.rmt_config.specs.Cells.{code_of, is_occupied, visible_bits}
+use Rattle.rmt_config.specs.RunCells.{has_bit}
+use Rattle.rmt_config.specs.Commits.{with_bit, without_bit}
+
+-- the visible bit of a parity
+abbrev pub bit : ℕ → ℕ → Bool
+bit m head = head / 2 ^ (1 + m) % 2 == 1
+
+-- a version and the next one have the two parities
+parities : (v : ℕ) → ((v % 2 ≡ 0) × ((v + 1) % 2 ≡ 1)) ⊎ ((v % 2 ≡ 1) × ((v + 1) % 2 ≡ 0))
+parities v = elim (cases_eq (v % 2) 0) [
+  | inl e ↦ inl (omega (arith, e), omega (arith, e))
+  | inr ne ↦ inr (omega (arith, ne), omega (arith, ne))
+]
+
+-- two heads that are alike but for the visible bit of the other parity
+pub record KeptAt (m a b : ℕ) : Type 0 where
+  pub occupied : is_occupied a ≡ is_occupied b
+  pub seen : bit m a ≡ bit m b
+  pub code : code_of a ≡ code_of b
+
+kept_same : (m a : ℕ) → KeptAt m a a
+kept_same m a = record { occupied = refl; seen = refl; code = refl }
+
+set_one : (h : ℕ) → KeptAt 0 h (cond (bit 1 h) h (h + 4))
+set_one h = by (bit 1 h) refl
+  where
+    by : (b : Bool) → bit 1 h ≡ b → KeptAt 0 h (cond b h (h + 4))
+    by true e = kept_same 0 h
+    by false e =
+        let no = eqb-false (h / 4 % 2) 1 e in
+        let low : h % 2 ≡ (h + 4) % 2 = omega arith in
+        let own : h / 2 % 2 ≡ (h + 4) / 2 % 2 = omega arith in
+        let high : h / 8 % 32 ≡ (h + 4) / 8 % 32 = omega (arith, no) in
+        record { occupied = ap (λ r. r == 1) low; seen = ap (λ r. r == 1) own; code = high }
+
+set_zero : (h : ℕ) → KeptAt 1 h (cond (bit 0 h) h (h + 2))
+set_zero h = by (bit 0 h) refl
+  where
+    by : (b : Bool) → bit 0 h ≡ b → KeptAt 1 h (cond b h (h + 2))
+    by true e = kept_same 1 h
+    by false e =
+        let no = eqb-false (h / 2 % 2) 1 e in
+        let low : h % 2 ≡ (h + 2) % 2 = omega arith in
+        let own : h / 4 % 2 ≡ (h + 2) / 4 % 2 = omega (arith, no) in
+        let high : h / 8 % 32 ≡ (h + 2) / 8 % 32 = omega (arith, no) in
+        record { occupied = ap (λ r. r == 1) low; seen = ap (λ r. r == 1) own; code = high }
+
+clear_one : (h : ℕ) → KeptAt 0 h (cond (bit 1 h) (h - 4) h)
+clear_one h = by (bit 1 h) refl
+  where
+    by : (b : Bool) → bit 1 h ≡ b → KeptAt 0 h (cond b (h - 4) h)
+    by false e = kept_same 0 h
+    by true e =
+        let yes = eqb-true (h / 4 % 2) 1 e in
+        let low : h % 2 ≡ (h - 4) % 2 = omega (arith, yes) in
+        let own : h / 2 % 2 ≡ (h - 4) / 2 % 2 = omega (arith, yes) in
+        let high : h / 8 % 32 ≡ (h - 4) / 8 % 32 = omega (arith, yes) in
+        record { occupied = ap (λ r. r == 1) low; seen = ap (λ r. r == 1) own; code = high }
+
+clear_zero : (h : ℕ) → KeptAt 1 h (cond (bit 0 h) (h - 2) h)
+clear_zero h = by (bit 0 h) refl
+  where
+    by : (b : Bool) → bit 0 h ≡ b → KeptAt 1 h (cond b (h - 2) h)
+    by false e = kept_same 1 h
+    by true e =
+        let yes = eqb-true (h / 2 % 2) 1 e in
+        let low : h % 2 ≡ (h - 2) % 2 = omega (arith, yes) in
+        let own : h / 4 % 2 ≡ (h - 2) / 4 % 2 = omega (arith, yes) in
+        let high : h / 8 % 32 ≡ (h - 2) / 8 % 32 = omega (arith, yes) in
+        record { occupied = ap (λ r. r == 1) low; seen = ap (λ r. r == 1) own; code = high }
+
+-- a packet of a version sees two heads alike
+abbrev pub AreSeenAlike : ℕ → ℕ → ℕ → Type 0
+AreSeenAlike v a b = KeptAt (v % 2) a b
+
+-- what holds at both parities holds of a version and the next one
+at_parities : (P : ℕ → ℕ → Type 0) (v : ℕ) → P 0 1 → P 1 0 → P (v % 2) ((v + 1) % 2)
+at_parities P v even odd = elim (parities v) [
+  | inl e ↦ subst (λ m. P m ((v + 1) % 2)) (sym e.0) (subst (P 0) (sym e.1) even)
+  | inr o ↦ subst (λ m. P m ((v + 1) % 2)) (sym o.0) (subst (P 1) (sym o.1) odd)
+]
+
+-- the next version's bit is set, or cleared
+pub set-alike : (v h : ℕ) → AreSeenAlike v h (with_bit (v + 1) h)
+set-alike v h = at_parities (λ m n. KeptAt m h (cond (bit n h) h (h + 2 ^ (1 + n)))) v (set_one h) (set_zero h)
+
+pub clear-alike : (v h : ℕ) → AreSeenAlike v h (without_bit (v + 1) h)
+clear-alike v h = at_parities (λ m n. KeptAt m h (cond (bit n h) (h - 2 ^ (1 + n)) h)) v (clear_one h) (clear_zero h)
+
+-- without a visible bit a head shows none
+pub unseen_without : (v h : ℕ) → visible_bits h ≡ 0 → has_bit v h ≡ false
+unseen_without v h none =
+    at_parities (λ m n. bit m h ≡ false) v
+    (ne_eqb (h / 2 % 2) 1 (λ e. omega (arith, none, e)))
+    (ne_eqb (h / 4 % 2) 1 (λ e. omega (arith, none, e)))
+
+-- the head of an entry that comes has the next version's bit alone
+pub unseen_coming : (v i : ℕ) → has_bit v (1 + 2 * 2 ^ ((v + 1) % 2) + 8 * i) ≡ false
+unseen_coming v i =
+    at_parities (λ m n. bit m (1 + 2 * 2 ^ n + 8 * i) ≡ false) v
+    (ne_eqb ((1 + 2 * 2 + 8 * i) / 2 % 2) 1 (λ e. omega (arith, e)))
+    (ne_eqb ((1 + 2 * 1 + 8 * i) / 4 % 2) 1 (λ e. omega (arith, e)))
