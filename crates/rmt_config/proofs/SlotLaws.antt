@@ -150,6 +150,14 @@ memory-facts s d h =
     let f = split5 h in
     record { keys = leb-true 1 (length s.keys) f.0; bits = leb-true (bits_of_lanes s.keys) 640 f.1; some_d = leb-true 1 d f.3; most_d = leb-true d 106 f.4 }
 
+-- a key has at most 640 bits
+pub key_is_short : (s : SlotUnit) (m : Memory) → memory_is_formed s m ≡ true → bits_of_lanes s.keys ≤ 640
+key_is_short s Without h =
+    let none : s.keys ≡ [] = nil_from_length s.keys (eqb-true (length s.keys) 0 (and_parts _ _ (and_parts _ _ h).0).1) in
+    rw none (omega arith)
+key_is_short s (Exact k p d w ks rs cs) h = (memory-facts s d (split11 h).0).bits
+key_is_short s (Ternary d ks rs cs) h = (memory-facts s d (split5 h).0).bits
+
 pub exact-fits : (s : SlotUnit) (k p d w : ℕ) (ks rs cs : List ℕ) → slot_head_is_formed s ≡ true → memory_is_formed s (Exact k p d w ks rs cs) ≡ true → ExactFits s k p d ks rs
 exact-fits s k p d w ks rs cs head h =
     let f = split11 h in

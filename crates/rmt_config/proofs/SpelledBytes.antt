@@ -1,7 +1,8 @@
 -- Bytes of rows of blocks side by side, as keys are read.
-use Rattle.std.proofs.Common.{◌≡◌, ℕ, ◌+◌, ◌-◌, ◌*◌, ◌/◌, ◌%◌, ◌^◌, ◌<◌, ◌≤◌, List, [], ◌∷◌, ◌++◌, length, get_or, sym, ap, ◌∙◌, subst, append_assoc, add-one, arith, inl, inr}
+use Rattle.std.proofs.Common.{◌≡◌, ℕ, zero, suc, min, refl, ◌+◌, ◌-◌, ◌*◌, ◌/◌, ◌%◌, ◌^◌, ◌<◌, ◌≤◌, List, [], ◌∷◌, ◌++◌, length, get_or, sym, ap, ◌∙◌, subst, append_assoc, add-one, arith, inl, inr}
 use Rattle.std.specs.Prelude.{All}
 use Rattle.std.proofs.lemmas.Bool.{cases_lt}
+use Rattle.std.proofs.lemmas.List.{append-nil}
 use Rattle.std.proofs.lemmas.Nat.{div-add-mod', mod_below, pow_pos, pow-add, shr-shr, mul-le}
 use Rattle.std.proofs.Math.Nat.{mod-eq_of_lt, mul-le-mul_left, div-one}
 use Rattle.rmt_bits.specs.Bits.{slice, bytes_of}
@@ -76,6 +77,59 @@ bytes-more old so_far x count at byte lt is e =
     ap (λ (bs : List ℕ). bs ++ byte ∷ []) is ∙ append_assoc old (bytes_of at (x / 2 ^ (8 * (count - at)))) (byte ∷ [])
     ∙ ap (λ w. old ++ (bytes_of at w ++ byte ∷ [])) shift ∙ ap (λ b. old ++ (bytes_of at (y / 256) ++ b ∷ [])) (e ∙ ap (λ n. x / 2 ^ n % 256) same)
     ∙ sym (ap (λ n. old ++ bytes_of n y) (add-one at))
+
+-- ---- several bytes at once
+
+-- the bits of a slice from one on, as many as a piece has room for
+pub slice-part : (v low len up n m : ℕ) → up ≤ len → m ≡ min (len - up) n → slice v (low + up) m ≡ slice v low len / 2 ^ up % 2 ^ n
+slice-part v low len up n m le is =
+    let z = v / 2 ^ (low + up) in
+    ap (λ k. z % 2 ^ k) is ∙ least (len - up) n z ∙ sym (ap (λ y. y % 2 ^ n) (slice-shr v low len up le))
+  where
+    least : (a b z : ℕ) → z % 2 ^ min a b ≡ z % 2 ^ a % 2 ^ b
+    least a b z =
+        elim (cases_lt a b) as (λ _. z % 2 ^ min a b ≡ z % 2 ^ a % 2 ^ b) [
+          | inl lt ↦ let e : min a b ≡ a = omega (arith, lt) in ap (λ k. z % 2 ^ k) e ∙ sym (mod-within z a b (omega (arith, lt)))
+          | inr ge ↦ let e : min a b ≡ b = omega (arith, ge) in let f : a ≡ b + (a - b) = omega (arith, ge) in
+              ap (λ k. z % 2 ^ k) e ∙ sym (ap (λ k. z % 2 ^ k % 2 ^ b) f ∙ mod-low z b (a - b))
+        ]
+
+byte-up : (y b : ℕ) → y / 256 / 2 ^ (8 * b) ≡ y / 2 ^ (8 * suc b)
+byte-up y b = let e : 8 + 8 * b ≡ 8 * suc b = omega arith in shr-shr y 8 (8 * b) ∙ ap (λ n. y / 2 ^ n) e
+
+-- the bytes of a number are those of its upper part before those of its lower part
+bytes_of-add : (a b y : ℕ) → bytes_of (a + b) y ≡ bytes_of a (y / 2 ^ (8 * b)) ++ bytes_of b y
+bytes_of-add a zero y =
+    let e : a + 0 ≡ a = omega arith in
+    ap (λ n. bytes_of n y) e ∙ sym (append-nil (bytes_of a (y / 1)) ∙ ap (bytes_of a) (div-one y))
+bytes_of-add a (suc b) y =
+    let e : a + suc b ≡ suc (a + b) = omega arith in
+    ap (λ n. bytes_of n y) e ∙ ap (λ (bs : List ℕ). bs ++ y % 256 ∷ []) (bytes_of-add a b (y / 256))
+    ∙ append_assoc (bytes_of a (y / 256 / 2 ^ (8 * b))) (bytes_of b (y / 256)) (y % 256 ∷ [])
+    ∙ ap (λ n. bytes_of a n ++ bytes_of (suc b) y) (byte-up y b)
+
+bytes_of-low : (b y : ℕ) → bytes_of b (y % 2 ^ (8 * b)) ≡ bytes_of b y
+bytes_of-low zero y = refl
+bytes_of-low (suc b) y =
+    let e : 8 * suc b ≡ 8 * b + 8 = omega arith in
+    let f : 8 * suc b ≡ 8 + 8 * b = omega arith in
+    let high : y % 2 ^ (8 * suc b) / 256 ≡ y / 256 % 2 ^ (8 * b) =
+    ap (λ n. y % 2 ^ n / 256) e ∙ ap (λ m. y % m / 256) (pow-add 2 (8 * b) 8) ∙ mod-div_rows y (2 ^ (8 * b)) 256 (pow_pos (8 * b)) (omega arith) in
+    let low : y % 2 ^ (8 * suc b) % 256 ≡ y % 256 = ap (λ n. y % 2 ^ n % 256) f ∙ mod-low y 8 (8 * b) in
+    ap (λ n. bytes_of b n ++ y % 2 ^ (8 * suc b) % 256 ∷ []) high ∙ ap (λ (bs : List ℕ). bs ++ y % 2 ^ (8 * suc b) % 256 ∷ []) (bytes_of-low b (y / 256))
+    ∙ ap (λ n. bytes_of b (y / 256) ++ n ∷ []) low
+
+-- a piece more of a number
+pub bytes-piece : (old so_far new : List ℕ) (x done left more count piece : ℕ) → so_far ≡ old ++ bytes_of done (x / 2 ^ (8 * left)) → left ≡ more + count
+    → piece ≡ x / 2 ^ (8 * more) % 2 ^ (8 * count) → new ≡ so_far ++ bytes_of count piece → new ≡ old ++ bytes_of (done + count) (x / 2 ^ (8 * more))
+bytes-piece old so_far new x done left more count piece is split e now =
+    let y = x / 2 ^ (8 * more) in
+    let up : 8 * left ≡ 8 * more + 8 * count = omega (arith, split) in
+    let shift : x / 2 ^ (8 * left) ≡ y / 2 ^ (8 * count) = ap (λ n. x / 2 ^ n) up ∙ sym (shr-shr x (8 * more) (8 * count)) in
+    now ∙ ap (λ (bs : List ℕ). bs ++ bytes_of count piece) is ∙ append_assoc old (bytes_of done (x / 2 ^ (8 * left))) (bytes_of count piece)
+    ∙ ap (λ n. old ++ (bytes_of done n ++ bytes_of count piece)) shift
+    ∙ ap (λ (bs : List ℕ). old ++ (bytes_of done (y / 2 ^ (8 * count)) ++ bs)) (ap (bytes_of count) e ∙ bytes_of-low count y)
+    ∙ ap (λ (bs : List ℕ). old ++ bs) (sym (bytes_of-add done count y))
 
 -- an entry lies in the row of its unit
 pub entry_there : (l : Layout) (i : ℕ) → IsLayout l → position_of l i * l.entry + l.entry ≤ l.bits * l.side

@@ -4,6 +4,7 @@ use Rattle.std.specs.Int.{bit_at}
 use Rattle.std.proofs.lemmas.Nat.{pow_pos, pow-add, shr-shr, shr_split, mod_below, mul-add-lt}
 use Rattle.std.proofs.lemmas.Nat.Bits.{bit_at-zero, bit_at_cat_low, bit_at_cat_high, bit_at_above, bit_at-lt, same_from_bits, same_from_bits_below}
 use Rattle.rmt_bits.specs.Bits.{slice}
+use Rattle.rmt_bits.proofs.BitLaws.{slice-add, slice-lt}
 use Rattle.rmt_config.specs.Cells.{Blocks, unit_row}
 
 -- a bit that isn't 1 is 0
@@ -84,3 +85,29 @@ unit_bit size held row (block ∷ blocks) (suc o) t w lt small =
     ∙ bit_at_cat_high (unit_row size held row blocks) size (held block row) (suc o * size + t) (w block row) high
     ∙ ap (bit_at (unit_row size held row blocks)) at
     ∙ unit_bit size held row blocks o t w (omega (arith, lt)) small
+
+-- ---- bits of a row of blocks side by side
+
+-- in one block
+pub unit-slice : (held : Blocks) (row : ℕ) (blocks : List ℕ) (o t len : ℕ) → Within 112 held → o < length blocks → t + len ≤ 112
+    → slice (unit_row 112 held row blocks) (o * 112 + t) len ≡ slice (held (get_or blocks o 0) row) t len
+unit-slice held row blocks o t len w lo le =
+    let x = unit_row 112 held row blocks in
+    let first = held (get_or blocks o 0) row in
+    same_from_bits_below len (slice x (o * 112 + t) len) (slice first t len) (slice-lt x (o * 112 + t) len) (slice-lt first t len)
+    (λ i li. let at : o * 112 + t + i ≡ o * 112 + (t + i) = omega arith in
+    slice-bit x (o * 112 + t) len i li ∙ ap (bit_at x) at ∙ unit_bit 112 held row blocks o (t + i) w lo (omega (arith, li, le))
+    ∙ sym (slice-bit first t len i li))
+
+-- across two
+pub unit-across : (held : Blocks) (row : ℕ) (blocks : List ℕ) (o t a : ℕ) → Within 112 held → o + 1 < length blocks → t < 112 → a ≤ 112
+    → slice (unit_row 112 held row blocks) (o * 112 + t) (a + (112 - t))
+    ≡ slice (held (get_or blocks (o + 1) 0) row) 0 a * 2 ^ (112 - t) + slice (held (get_or blocks o 0) row) t (112 - t)
+unit-across held row blocks o t a w lo lt le =
+    let x = unit_row 112 held row blocks in
+    let b = 112 - t in
+    let next : o * 112 + t + b ≡ (o + 1) * 112 + 0 = omega (arith, lt) in
+    slice-add x (o * 112 + t) a b
+    ∙ ap (λ n. slice x n a * 2 ^ b + slice x (o * 112 + t) b) next
+    ∙ ap (λ n. n * 2 ^ b + slice x (o * 112 + t) b) (unit-slice held row blocks (o + 1) 0 a w lo (omega (arith, le)))
+    ∙ ap (λ n. slice (held (get_or blocks (o + 1) 0) row) 0 a * 2 ^ b + n) (unit-slice held row blocks o t b w (omega (arith, lo)) (omega (arith, lt)))

@@ -9,7 +9,8 @@ ghost use Rattle.rmt_config.specs.Shapes.{divided_up};
 
 use crate::config::SramRow;
 use crate::form::layout::{Layout, joined};
-use crate::form::sram::{byte_of_two, row_bits};
+use crate::form::sram::row_bits;
+use rmt_bits::bits::slice;
 use std::alloc::AllocError;
 
 /// Where rows were found last among those of all blocks: that of a block, and that of the block beside it.
@@ -49,29 +50,38 @@ fn spot_of(layout: &Layout, cell: u64) -> Spot
     }
 }
 
-/// The 8 bits from one on of a row of blocks side by side; bits behind its end are 0. The rows are looked
-/// for first near the places where the last ones were found.
-fn byte_at(rows: &[SramRow], blocks: &[u8], row: u64, bit: u64, near: &mut Near) -> u8
+/// The `len` bits from one on, 1 to 64, of a row of blocks side by side. The rows are looked for first near the places
+/// where the last ones were found.
+fn bits_at(rows: &[SramRow], blocks: &[u8], row: u64, bit: u64, len: u64, near: &mut Near) -> u64
     requires rows { SramRows rows.now }
     requires row { row < 1024 }
-    requires bit { bit < 112 * length blocks.now }
-    ensures { result ≡ slice_of (unit_row 112 (sram_row rows.now) row blocks.now) bit 8 }
+    requires some { 0 < len }
+    requires most { len ≤ 64 }
+    requires within { bit + len ≤ 112 * length blocks.now }
+    ensures { result ≡ slice_of (unit_row 112 (sram_row rows.now) row blocks.now) bit len }
 {
     let block = (bit / 112) as usize;
+    let low = bit % 112;
     let first = row_bits(rows, blocks[block], row, &mut near.first);
-    let second = if block + 1 < blocks.len() {
-        row_bits(rows, blocks[block + 1], row, &mut near.second)
-    } else {
-        0
-    };
-    byte_of_two(first, second, bit % 112)
+    if low + len <= 112 {
+        return slice(first, low as u8, len as u8) as u64;
+    }
+    let here = 112 - low;
+    let second = row_bits(rows, blocks[block + 1], row, &mut near.second);
+    let high = slice(second, 0, (len - here) as u8) as u64;
+    (high << here) + slice(first, low as u8, here as u8) as u64
 }
 
-/// The lowest `len` bits of a byte; all of them where there are fewer.
-fn low_part(byte: u8, len: u64) -> u8
-    ensures { result ≡ byte % 2 ^ len }
+/// Adds the lowest bytes of a number, the highest first.
+fn push_bytes(into: &mut Vec<u8>, bits: u64, count: u64) -> Result<(), AllocError>
+    requires { count ≤ 8 }
+    ensures { OnOk result (into.new.items ≡ into.old.items ++ bytes_of count bits) }
 {
-    if len < 8 { byte % (1 << len) } else { byte }
+    for at in 0..count {
+        let up = 8 * (count - 1 - at);
+        into.push(((bits >> up) % 256) as u8)?;
+    }
+    Ok(())
 }
 
 /// Adds `len` bits of a row of blocks side by side as bytes, the highest first, with zero bits on top.
@@ -90,11 +100,14 @@ fn push_bits(
     requires few { low + len < 2 ^ 32 }
     ensures { OnOk result (into.new.items ≡ into.old.items ++ bytes_of (divided_up len 8) (slice_of (unit_row 112 (sram_row rows.now) row blocks.now) low len)) }
 {
-    let count = (len + 7) / 8;
-    for at in 0..count {
-        let up = 8 * (count - 1 - at);
-        let byte = byte_at(rows, blocks, row, low + up, near);
-        into.push(low_part(byte, len - up))?;
+    let mut left = (len + 7) / 8;
+    while left > 0 {
+        let count = left.min(8);
+        left -= count;
+        let up = 8 * left;
+        let some = (len - up).min(8 * count);
+        let bits = bits_at(rows, blocks, row, low + up, some, near);
+        push_bytes(into, bits, count)?;
     }
     Ok(())
 }
