@@ -1,3 +1,5 @@
+//! Counts of calls, and which calls are to fail.
+
 ghost use Rattle.std.specs.Prelude.{◌≡◌, ◌≤◌};
 ghost use Rattle.rmt_io.specs.Calls.{fails_next, raised};
 ghost use Rattle.rmt_io.specs.Faults.{Rose};

@@ -1,3 +1,5 @@
+//! Files in memory.
+
 ghost use Rattle.std.specs.Prelude.{◌≡◌, ◌≢◌, ◌↔◌, ℕ, false, List, Option, Some, None, ◌+◌, ◌-◌, ◌^◌, ◌<◌, ◌≤◌, [], length, take, drop, min, option_map, IsTrue, IfOk, IfSome, OnOk, OnErr, IsOk, IsErrOf, string_bytes};
 ghost use Rattle.std.specs.FinMap as map;
 ghost use Rattle.rmt_io.specs.Calls.{fails_next, fails_no_more, raised};

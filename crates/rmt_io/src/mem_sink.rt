@@ -1,3 +1,5 @@
+//! Output in memory.
+
 ghost use Rattle.std.specs.Prelude.{◌≡◌, [], ◌+◌, ◌-◌, ◌<◌, ◌≤◌, ◌++◌, length, min, take, IsTrue, IfOk, IsErr, OnErr};
 ghost use Rattle.rmt_io.specs.Calls.{fails_next, raised};
 ghost use Rattle.rmt_io.specs.Faults.{Rose};

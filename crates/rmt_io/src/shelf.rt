@@ -1,3 +1,5 @@
+//! Files as the commands see them.
+
 ghost use Rattle.std.specs.Prelude.{◌≡◌, [], ◌<◌, ◌≤◌, ◌↔◌, length, take, IsTrue, IfOk, OnOk, OnErr, IsOk, IsErrOf, string_bytes};
 ghost use Rattle.rmt_io.specs.Outside.{ShelfState, HasFile, HasLonger, LacksFile, KeepsFiles, GaveBytes, ReadingFailed, WritingFailed, OnlyRead, OnlyWrote};
 

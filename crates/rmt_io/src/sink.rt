@@ -1,3 +1,5 @@
+//! Output as the commands see it.
+
 ghost use Rattle.std.specs.Prelude.{◌<◌, ◌≤◌, length, take, IfOk, OnErr};
 ghost use Rattle.rmt_io.specs.Outside.{SinkState, Gained, GainedNone, PrintingFailed, OnlyPrinted};
 

@@ -1,3 +1,5 @@
+//! The files of the machine.
+
 ghost use Rattle.std.specs.Prelude.{◌≡◌, ◌≢◌, ◌↔◌, ℕ, Bool, false, List, Option, None, [], ◌+◌, ◌-◌, ◌^◌, ◌<◌, ◌≤◌, length, IfSome, IsSome, OnOk, OnErr, IsErrOf, option_copied, string_bytes};
 ghost use Rattle.std.specs.Io.{ReadsAtMost};
 ghost use Rattle.std.specs.Io.KnownBytes.{Appends, ReadConsumes};

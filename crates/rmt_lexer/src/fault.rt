@@ -1,3 +1,5 @@
+//! Faults of a program's text.
+
 ghost use Rattle.std.specs.Prelude.{◌≡◌};
 ghost use Rattle.rmt_lexer.specs.declared.fault.ProgramFault.TheVariants.{NoMemory};
 

@@ -1,3 +1,5 @@
+//! What stands first in a text: a token, a gap or a fault.
+
 ghost use Rattle.std.specs.Prelude.{◌≡◌, ◌-◌, ◌<◌, ◌≤◌, ◌^◌, length, drop, not, ◌==◌, ◌||◌, ℕ, IfOk, SomeIff};
 ghost use Rattle.std.specs.List.{take_while};
 ghost use Rattle.rmt_bits.specs.Digits.{is_digit, is_hex, number_of_digits};

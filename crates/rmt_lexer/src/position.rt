@@ -1,3 +1,5 @@
+//! Lines and columns.
+
 ghost use Rattle.std.specs.Prelude.{◌≡◌, ◌+◌, ◌≤◌, length, fold};
 ghost use Rattle.rmt_lexer.specs.Text.{behind};
 

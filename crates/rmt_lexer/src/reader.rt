@@ -1,3 +1,5 @@
+//! All tokens of a text.
+
 ghost use Rattle.std.specs.Prelude.{◌≡◌, ◌<◌, length, IfOk};
 ghost use Rattle.rmt_lexer.specs.Text.{EndsOnce, Gives, token_at, tokens_of};
 ghost use Rattle.rmt_lexer.specs.declared.fault.ProgramFault.TheVariants.{At};

@@ -1,3 +1,5 @@
+//! Tokens.
+
 ghost use Rattle.std.specs.Prelude.{◌≡◌, IfOk, IfErr};
 ghost use Rattle.rmt_lexer.specs.declared.fault.ProgramFault.TheVariants.{NoMemory};
 

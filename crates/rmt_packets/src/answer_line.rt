@@ -1,3 +1,5 @@
+//! Answer lines.
+
 ghost use Rattle.std.specs.Prelude.{◌≡◌, ◌++◌, [], length, take, codes, decimal, OnOk, OnErr, IsErrOf};
 ghost use Rattle.rmt_packets.specs.AnswerLine.{answer_line, hex_or_dash};
 

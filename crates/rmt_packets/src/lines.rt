@@ -1,3 +1,5 @@
+//! The lines of a text that is there whole.
+
 ghost use Rattle.std.specs.Prelude.{◌≡◌, ℕ, ◌+◌, ◌-◌, ◌<◌, ◌≤◌, ◌==◌, ◌⊎◌, [], ◌∷◌, length, drop, min, slice_index, slice_range, IfSome, IfNone};
 ghost use Rattle.std.specs.List.{position, position_or_len};
 ghost use Rattle.rmt_bits.specs.Lines.{numbered_lines};

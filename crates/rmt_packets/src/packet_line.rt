@@ -1,3 +1,5 @@
+//! Packet lines.
+
 ghost use Rattle.std.specs.Prelude.{◌≡◌, ℕ, ⊤, ◌+◌, ◌*◌, ◌<◌, ◌≤◌, [], length, take, IsTrue, IfOk, IfErr, OnOk, OnErr, IsErr};
 ghost use Rattle.hex.specs.Hex.{decode_of};
 ghost use Rattle.rmt_packets.specs.Fault.{MatchFault};

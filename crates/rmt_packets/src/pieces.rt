@@ -1,3 +1,5 @@
+//! The lines of a text that comes in pieces.
+
 ghost use Rattle.std.specs.Prelude.{◌≡◌, ℕ, true, false, List, [], ◌∷◌, ◌++◌, ◌+◌, ◌^◌, ◌<◌, ◌≤◌, ◌==◌, ◌&&◌, length, take, IsTrue, IfOk, OnErr, IsErrOf};
 ghost use Rattle.std.specs.List.{list_all};
 ghost use Rattle.rmt_packets.specs.LineSteps.{begun, fed, grown, passes_over};

@@ -1,3 +1,5 @@
+//! Faults of captures.
+
 ghost use Rattle.std.specs.Prelude.{◌≡◌};
 ghost use Rattle.rmt_pcap.specs.declared.fault.CaptureFault.TheVariants.{NoMemory};
 

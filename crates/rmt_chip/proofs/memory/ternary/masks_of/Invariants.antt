@@ -1,7 +1,0 @@
-use Rattle.std.proofs.Common.{◌≡◌, take, map}
-use Rattle.rmt_chip.specs.Types.{TcamRow}
-use Rattle.rmt_config.specs.Cells.{tcam_row}
-use Rattle.rmt_chip.proofs.memory.ternary.masks_of.Given as goal
-
-abbrev pub invariant-loop-block : goal.invariant-loop-block
-invariant-loop-block l = l.masks.items ≡ map (λ b. tcam_row (λ (t : TcamRow). t.mask) l.rows b l.row) (take l.block-index l.blocks)
