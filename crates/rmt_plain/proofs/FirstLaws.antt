@@ -1,11 +1,12 @@
 -- A plain run before the first packet.
-use Rattle.std.proofs.Common.{◌≡◌, ℕ, zero, suc, ◌+◌, ◌<◌, ◌≤◌, ◌++◌, min, cond, List, [], ◌∷◌, length, get_or, drop, Option, refl, ap, subst, ◌∙◌, append-nil, arith}
+use Rattle.std.proofs.Common.{◌≡◌, ℕ, zero, suc, ◌+◌, ◌<◌, ◌≤◌, ◌++◌, min, cond, List, [], ◌∷◌, length, get_or, drop, Option, None, refl, ap, subst, ◌∙◌, append-nil, arith}
 use Rattle.std.specs.Prelude.{slice_get, unwrap_or, option_map}
 use Rattle.std.proofs.lemmas.List.{drop_more, length-drop}
 use Rattle.std.proofs.lemmas.Option.{slice_get-get_or}
 use Rattle.rmt_ast.specs.declared.program.Program.{Program}
 use Rattle.rmt_ast.specs.declared.program.Node.{Node}
 use Rattle.rmt_ast.specs.declared.program.Kind.TheVariants.{Keyless}
+use Rattle.rmt_ast.specs.declared.program.What.TheVariants.{Apply}
 use Rattle.rmt_ast.specs.declared.entry.Entry.{Entry}
 use Rattle.rmt_ast.specs.WellFormed.{IsProgram}
 use Rattle.rmt_ast.specs.Answers.{counted_numbers, entry_numbers, is_counted}
@@ -19,6 +20,10 @@ runnable p good = record {
   narrow = λ k d lt. (good.fields.widths k d lt).1;
   headers = λ k d lt. let h = good.headers k _ (slice_get-get_or p.headers k d lt) in record { whole = h.whole_bytes; few = h.is_not_long };
 }
+
+-- a node that stands for those past the end of a list
+abbrev pub no_node : Node
+no_node = record { guard = None; what = Apply 0 }
 
 -- the numbers of a node's entries, and those of the later nodes
 pub counted_numbers-drop : (p : Program) (nodes : List Node) (lists : List (List Entry)) (i : ℕ) (d : Node) (e : List Entry) → i < length nodes → i < length lists

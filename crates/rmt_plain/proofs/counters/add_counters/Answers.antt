@@ -13,8 +13,8 @@ loop-number-init c = record {
 
 pub loop-number-preserved : goal.loop-number-preserved
 loop-number-preserved c =
-    let numbers = c.args.numbers.now in
     let i = c.loop-number.number-index in
+    let numbers = c.args.numbers.now in
     let n = get_or numbers i 0 in
     record {
       room = omega (arith, c.loop-number.invariant.room, c.add.ensures.room, c.add.ensures.once);

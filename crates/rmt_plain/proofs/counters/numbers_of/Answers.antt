@@ -1,13 +1,9 @@
-use Rattle.std.proofs.Common.{◌≡◌, ◌++◌, ◌+◌, [], ℕ, None, cond, List, length, drop, get_or, append_assoc, sym, ap, ◌∙◌, arith}
+use Rattle.std.proofs.Common.{◌≡◌, ◌++◌, ◌+◌, [], ℕ, cond, List, length, drop, get_or, append_assoc, sym, ap, ◌∙◌, arith}
 use Rattle.rmt_ast.specs.declared.program.Node.{Node}
-use Rattle.rmt_ast.specs.declared.program.What.TheVariants.{Apply}
 use Rattle.rmt_ast.specs.declared.entry.Entry.{Entry}
 use Rattle.rmt_ast.specs.Answers.{counted_numbers, entry_numbers, is_counted}
-use Rattle.rmt_plain.proofs.FirstLaws.{counted_numbers-drop, counted_numbers-ended}
+use Rattle.rmt_plain.proofs.FirstLaws.{counted_numbers-drop, counted_numbers-ended, no_node}
 use Rattle.rmt_plain.proofs.counters.numbers_of.Goals as goal
-
-abbrev no_node : Node
-no_node = record { guard = None; what = Apply 0 }
 
 pub loop-i-preserved : goal.loop-i-preserved
 loop-i-preserved c =

@@ -19,11 +19,7 @@ bytes_of_bits-requires-clause-within c =
 
 pub overflow_add-at : goal.overflow_add-at
 overflow_add-at c =
-    let more = bits_of-drop c.args.program.now c.args.fields.now c.loop-field.field-index (omega arith) in
-    let at_is = c.loop-field.invariant.at_is in
-    let width = c.width_of-width.ensures.width in
-    let short = c.requires.short in
-    omega arith
+    omega (arith, bits_of-drop c.args.program.now c.args.fields.now c.loop-field.field-index (omega arith), c.loop-field.invariant.at_is, c.width_of-width.ensures.width, c.requires.short)
 
 pub loop-field-preserved : goal.loop-field-preserved
 loop-field-preserved c =
