@@ -13,7 +13,7 @@ use Rattle.rmt_ast.specs.State.{width_of}
 use Rattle.rmt_ast.specs.WellFormed.{IsProgram, HasFields, IsWidth, bits_of, header_fields}
 
 -- each field has a bit
-has_bits : (p : Program) → HasFields p → (f : ℕ) → f < length p.fields → 1 ≤ width_of p f
+pub has_bits : (p : Program) → HasFields p → (f : ℕ) → f < length p.fields → 1 ≤ width_of p f
 has_bits p h f lt =
     elim ((slice_get_cases p.fields f).1) [
       | inl (x, below, found, is) ↦

@@ -1,3 +1,5 @@
+//! The forms of the text of each rule.
+
 ghost use Rattle.std.specs.Prelude.{◌≡◌, map};
 ghost use Rattle.rmt_syntax.specs.Grammar.{choices};
 

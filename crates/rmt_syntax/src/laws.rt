@@ -1,3 +1,5 @@
+//! What the shape of a tree says of its parts, as laws.
+
 ghost use Rattle.rmt_syntax.specs.declared.tree.Rule.{Rule};
 ghost use Rattle.rmt_syntax.specs.declared.tree.Tree.{Tree};
 ghost use Rattle.rmt_lexer.specs.Text.{EndsOnce};

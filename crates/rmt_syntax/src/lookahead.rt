@@ -1,3 +1,5 @@
+//! Which form of a rule comes, by the next token.
+
 ghost use Rattle.std.specs.Prelude.{◌≡◌, map, option_map};
 ghost use Rattle.std.specs.List.{find};
 ghost use Rattle.rmt_syntax.specs.Lookahead.{member, first_of, may_begin, is_done, is_operand_name, choice_of};

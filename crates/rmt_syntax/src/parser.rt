@@ -1,3 +1,5 @@
+//! The tree of a list of tokens, or its first fault.
+
 ghost use Rattle.std.specs.Prelude.{◌≡◌, ◌+◌, ◌<◌, [], ◌∷◌, Some, Err, IfOk, IfErr, OnOk, Bool, true, false, length, slice_get};
 ghost use Rattle.rmt_lexer.specs.declared.fault.ProgramFault.TheVariants.{At};
 ghost use Rattle.rmt_syntax.specs.declared.grammar.Part.TheVariants.{One, Node};

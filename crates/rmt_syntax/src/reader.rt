@@ -1,3 +1,5 @@
+//! The nodes that are being read, each in the one around it.
+
 ghost use Rattle.std.specs.Prelude.{◌≡◌, [], ◌∷◌, ◌++◌, ◌<◌, List, Bool, true, false, OnOk, IfOk, IfNone, slice_get, option_copied, length, map};
 ghost use Rattle.rmt_syntax.specs.Trees.{Mark, leaf, opens, shuts, marks, Goal, part, phrase, shut, depth_after};
 ghost use Rattle.rmt_syntax.specs.State.{marks_of, goals_of};

@@ -1,3 +1,5 @@
+//! What tokens are to the grammar.
+
 ghost use Rattle.std.specs.Prelude.{◌≡◌, ◌==◌, map};
 ghost use Rattle.std.specs.Str.{bytes_eq};
 ghost use Rattle.rmt_syntax.specs.declared.terminal.Terminal.TheVariants.{Name, Other};

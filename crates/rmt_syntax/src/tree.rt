@@ -1,3 +1,5 @@
+//! Trees, and the rules that their nodes have.
+
 use rmt_bits::sequence::Sequence;
 use rmt_lexer::token::Token;
 
