@@ -9,11 +9,13 @@ use Rattle.rmt_ast.specs.declared.program.Program.{Program}
 use Rattle.rmt_ast.specs.WellFormed.{IsProgram}
 use Rattle.rmt_pack.specs.declared.placement.Placement.{Placement}
 use Rattle.rmt_pack.specs.Formats.{divided_up}
-use Rattle.rmt_pack.specs.Placements.{IsLegal, stage_count}
+use Rattle.rmt_pack.specs.Placements.{IsLegal}
 use Rattle.rmt_bounds.specs.Bounds.{EdgesRise, all_bests, greatest, sram_sum, tcam_sum, table_count, stage_bound}
 use Rattle.rmt_bounds.specs.Proofs.{joins}
+use Rattle.rmt_bounds.specs.Used.{stages_used, taking_room}
 use Rattle.rmt_bounds.proofs.ChainLaws.{any_item}
 use Rattle.rmt_bounds.proofs.BestLaws.{bound-le}
+use Rattle.rmt_bounds.proofs.UsedLaws.{legal_taking_room}
 
 -- the first of two nodes that an edge joins has the lesser number
 joined-lt : (p : Program) (edges : List Edge) (a b : ℕ) → EdgesRise p edges → list_any (joins a b) edges ≡ true → a < b
@@ -47,5 +49,6 @@ stages_is p edges bs sram tcam tables n bs_is sram_is tcam_is tables_is is =
     ∙ ap (λ (m : ℕ). greatest (greatest (all_bests p edges) ∷ divided_up (sram_sum p) 106 ∷ divided_up (tcam_sum p) 16 ∷ divided_up m 16 ∷ [])) tables_is)))
 
 pub found-le : (p : Program) → IsProgram p → (edges : List Edge) → EdgesRise p edges → (n : ℕ) → n ≡ (stage_bound p edges).stages → (placement : Placement) → IsLegal p edges placement
-    → n ≤ stage_count placement
-found-le p is edges rise n n_is placement legal = subst (λ (m : ℕ). m ≤ stage_count placement) (sym n_is) (bound-le p is edges rise placement legal)
+    → n ≤ stages_used p placement
+found-le p is edges rise n n_is placement legal =
+    subst (λ (m : ℕ). m ≤ stages_used p placement) (sym n_is) (bound-le p is edges rise (taking_room p placement) (legal_taking_room p edges placement legal))

@@ -9,11 +9,13 @@ use Rattle.rmt_ast.specs.declared.program.Table.{Table}
 use Rattle.rmt_ast.specs.declared.program.Kind.{Kind}
 use Rattle.rmt_ast.specs.declared.program.Kind.TheVariants.{Exact, Ternary}
 use Rattle.rmt_ast.proofs.Programs.{field, with_fields, header, action, keyless, apply_table, strict_and_weak}
+use Rattle.rmt_pack.specs.declared.placement.Part.{Part}
 use Rattle.rmt_bounds.specs.declared.bound.Bound.{Bound}
 use Rattle.rmt_bounds.specs.declared.bound.Proof.{Proof}
 use Rattle.rmt_bounds.specs.declared.bound.Proof.TheVariants.{Chain, Sram, Tcam, Slots}
 use Rattle.rmt_bounds.specs.Bounds.{stage_bound}
 use Rattle.rmt_bounds.specs.Proofs.{chain_stages}
+use Rattle.rmt_bounds.specs.Used.{stages_used}
 
 abbrev is : ℕ → Proof → Bound
 is stages proof = record { stages = stages; proof = proof }
@@ -63,3 +65,13 @@ two_ternary = refl
 -- 17 tables need a second stage for their slots
 many_tables : stage_bound (with_tables (replicate 17 (keyless (codes "t") 0))) [] ≡ is 2 (Slots 17)
 many_tables = refl
+
+-- a part without quanta, or of no node, counts for no stage
+abbrev part : ℕ → ℕ → ℕ → Part
+part node stage quanta = record { node = node; stage = stage; quanta = quanta }
+
+late_and_empty : stages_used strict_and_weak (record { parts = part 0 0 1 ∷ part 1 4 1 ∷ part 2 9 0 ∷ part 3 7 1 ∷ [] }) ≡ 5
+late_and_empty = refl
+
+none_used : stages_used strict_and_weak (record { parts = part 0 6 0 ∷ part 3 7 1 ∷ [] }) ≡ 0
+none_used = refl

@@ -1,3 +1,4 @@
 pub mod Bounds
 pub mod Proofs
 pub mod Fits
+pub mod Used

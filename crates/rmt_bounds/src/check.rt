@@ -5,9 +5,10 @@ ghost use Rattle.std.specs.List.{list_any};
 ghost use Rattle.rmt_ast.specs.WellFormed.{IsProgram};
 ghost use Rattle.rmt_ast.specs.declared.deps.Edge.{Edge};
 ghost use Rattle.rmt_pack.specs.declared.placement.Placement.{Placement};
-ghost use Rattle.rmt_pack.specs.Placements.{is_strict as asks_for_later, IsLegal, stage_count};
+ghost use Rattle.rmt_pack.specs.Placements.{is_strict as asks_for_later, IsLegal};
 ghost use Rattle.rmt_bounds.specs.Bounds.{EdgesRise};
 ghost use Rattle.rmt_bounds.specs.Proofs.{joins as joins_nodes, shared_by as shared_between, IsChain, chain_stages as stages_of_chain, Gives};
+ghost use Rattle.rmt_bounds.specs.Used.{stages_used};
 
 use crate::bound::{Bound, Proof};
 use crate::stages::node_stages;
@@ -115,9 +116,9 @@ pub fn check_bound(program: &Program, deps: &Deps, bound: &Bound) -> bool
     requires rise { EdgesRise program.now deps.now.field }
     // Yes exactly where the proof gives the number.
     ensures gives { IsTrue result ↔ Gives program.now deps.now.field bound.now.proof bound.now.stages }
-    // Where it says yes, no legal placement has fewer stages.
+    // Where it says yes, no legal placement uses fewer stages.
     ensures proved { IsTrue result → (placement : Placement) → IsLegal program.now deps.now.field placement →
-        bound.now.stages ≤ stage_count placement }
+        bound.now.stages ≤ stages_used program.now placement }
 {
     gives(program, deps.field.as_slice(), &bound.proof, bound.stages)
 }

@@ -4,10 +4,11 @@ ghost use Rattle.std.specs.Prelude.{◌≡◌, ◌≤◌, [], ◌∷◌, length,
 ghost use Rattle.rmt_ast.specs.WellFormed.{IsProgram};
 ghost use Rattle.rmt_pack.specs.declared.placement.Placement.{Placement};
 ghost use Rattle.rmt_pack.specs.Formats.{divided_up};
-ghost use Rattle.rmt_pack.specs.Placements.{IsLegal, stage_count};
+ghost use Rattle.rmt_pack.specs.Placements.{IsLegal};
 ghost use Rattle.rmt_bounds.specs.Bounds.{EdgesRise, stage_bound, four_bounds, proof_of, greatest as greatest_number, all_bests as all_bests_of, sram_sum as sram_of, tcam_sum as tcam_of, table_count as tables_of};
 ghost use Rattle.rmt_bounds.specs.Fits.{AreSmall};
 ghost use Rattle.rmt_bounds.specs.Proofs.{Gives};
+ghost use Rattle.rmt_bounds.specs.Used.{stages_used};
 
 use crate::best::{all_bests, greatest, longest_chain};
 use crate::bound::{Bound, Proof};
@@ -92,9 +93,9 @@ pub fn bound(alloc: Global, program: &Program, deps: &Deps) -> Result<Bound, Bou
     ensures bound { IfOk result (λ b. b ≡ stage_bound program.now deps.now.field) }
     // The proof gives it.
     ensures given { IfOk result (λ b. Gives program.now deps.now.field b.proof b.stages) }
-    // No legal placement has fewer stages.
+    // No legal placement uses fewer stages.
     ensures proved { IfOk result (λ b. (placement : Placement) → IsLegal program.now deps.now.field placement →
-        b.stages ≤ stage_count placement) }
+        b.stages ≤ stages_used program.now placement) }
 {
     let edges = deps.field.as_slice();
     let bests = all_bests(alloc, program, edges)?;

@@ -1,5 +1,5 @@
 -- The rule's order is good, and the placement of a good order keeps every edge and limit, and is legal.
-use Rattle.std.proofs.Common.{◌≡◌, ℕ, ◌<◌, List, length, get_or, true, Ok, subst, arith}
+use Rattle.std.proofs.Common.{◌≡◌, ℕ, ◌<◌, ◌≤◌, List, length, get_or, true, Ok, subst, arith}
 use Rattle.std.specs.List.{All, AllPairs}
 use Rattle.std.proofs.lemmas.List.Elements.{Contains-get_or}
 use Rattle.rmt_bits.specs.declared.lane.Lane.{Lane}
@@ -17,7 +17,7 @@ use Rattle.rmt_place.proofs.ApartLaws.{order_distinct, parts_apart}
 use Rattle.rmt_place.proofs.KeepLaws.{forward_keeps, in_order, parts_placed}
 use Rattle.rmt_place.proofs.LeastLaws.{contains_in, in_contains}
 use Rattle.rmt_place.proofs.LegalLaws.{format_at}
-use Rattle.rmt_place.proofs.LegalPlacement.{is_legal_in, placed_whole, rule_has_all}
+use Rattle.rmt_place.proofs.LegalPlacement.{kept_legal, placed_whole, rule_has_all}
 use Rattle.rmt_place.proofs.LimitLaws.{limits_kept}
 use Rattle.rmt_place.proofs.PlaceLaws.{order_nodes}
 use Rattle.rmt_place.proofs.QuantaLaws.{quanta_few}
@@ -46,14 +46,16 @@ good_keeps p places deps order parts program forward good is =
     let edges = forward_keeps demands deps (length p.nodes) order parts forward good.forward is in
     let limits = limits_kept demands (all_edges deps) order parts is in
     let each = parts_placed demands (all_edges deps) (length p.nodes) order parts good.numbers is in
+    let whole : (n : ℕ) → n < length p.nodes → (demand_at demands n).quanta ≤ quanta_of parts n =
+    λ n lt. placed_whole demands (all_edges deps) order parts n (contains_in order n (good.all_there n lt)) is in
     record {
       edges = edges;
       limits = limits;
-      legal = is_legal_in p places deps order parts program (λ n lt. contains_in order n (good.all_there n lt)) edges is each (λ stage lt. limits stage);
+      legal = kept_legal p places deps parts program edges whole each (λ stage lt. limits stage);
       parts = each;
       apart = parts_apart demands (all_edges deps) order parts good.once is;
       quanta = λ n lt.
-          let least = placed_whole demands (all_edges deps) order parts n (contains_in order n (good.all_there n lt)) is in
+          let least = whole n lt in
           let most = quanta_few demands (all_edges deps) order parts n good.once is in
           omega (arith, least, most);
     }

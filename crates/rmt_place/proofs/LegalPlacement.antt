@@ -34,9 +34,9 @@ use Rattle.rmt_pack.proofs.NeedLaws.{has_need}
 use Rattle.rmt_place.specs.declared.demand.Demand.{Demand}
 use Rattle.rmt_place.specs.declared.load.TheConstants.{MOST}
 use Rattle.rmt_place.specs.Needs.{Standing, demand_at, demands_of, keeps_limits, nothing, table_demand, what_demands}
-use Rattle.rmt_place.specs.Placing.{earliest_stage, hits_from, IsPart, order_of, placed_all, placed_node, placement_in, settled, Spread, spread, stages_from, standing_in, Stuck}
+use Rattle.rmt_place.specs.Placing.{earliest_stage, hits_from, IsPart, order_of, placed_all, placed_node, settled, Spread, spread, stages_from, standing_in, Stuck}
 use Rattle.rmt_place.specs.Steps.{numbers_of}
-use Rattle.rmt_place.proofs.KeepLaws.{placed_induction, placed_is, placement_keeps}
+use Rattle.rmt_place.proofs.KeepLaws.{placed_induction, placed_is}
 use Rattle.rmt_place.proofs.LeastLaws.{contains_in}
 use Rattle.rmt_place.proofs.LegalLaws.{format_at, same_blocks, spread_quanta, tables-le, taken-le, what_format}
 use Rattle.rmt_place.proofs.StageLaws.{kept_at}
@@ -168,18 +168,18 @@ kept_everywhere demands count parts all kept k = elim (cases_lt k 32) [
 
 -- ---- legal
 
--- a placement is legal that places all nodes and keeps every edge and limit
-pub is_legal_in : (p : Program) (places : List (List Lane)) (deps : Deps) (order : List ℕ) (parts : List Part) → IsProgram p → ((n : ℕ) → n < length p.nodes → is_in order n ≡ true)
-    → All (λ e. All (λ a. All (Keeps e a) parts) parts) (all_edges deps) → placement_in (demands_of p places) deps order ≡ Ok parts → All (IsPart (length p.nodes)) parts
+-- a placement is legal that keeps every edge and limit, and has all quanta of each node
+pub kept_legal : (p : Program) (places : List (List Lane)) (deps : Deps) (parts : List Part) → IsProgram p → All (λ e. All (λ a. All (Keeps e a) parts) parts) (all_edges deps)
+    → ((n : ℕ) → n < length p.nodes → (demand_at (demands_of p places) n).quanta ≤ quanta_of parts n) → All (IsPart (length p.nodes)) parts
     → ((k : ℕ) → k < 32 → keeps_limits (standing_in (demands_of p places) parts k) ≡ true)
     → IsLegalWith p deps.field (format_at p) parts
-is_legal_in p places deps order parts program there edges placed all kept =
+kept_legal p places deps parts program edges whole all kept =
     let demands = demands_of p places in
     let everywhere = kept_everywhere demands (length p.nodes) parts all kept in
     record {
       node_formats = λ n x is. subst (IsNodeFormat p x.what) (sym (mapped (λ (y : Node). what_format p y.what) p.nodes n x no_memory is)) (what_formats p program x.what);
       whole = λ n lt.
-          let quanta = placed_whole demands (all_edges deps) order parts n (there n lt) placed in
+          let quanta = whole n lt in
           omega (arith, quanta, node_quanta p places program n lt);
       order = All-left (λ e. All (λ a. All (Keeps e a) parts) parts) deps.field deps.word edges;
       sram = λ stage.
@@ -203,14 +203,3 @@ rule_has_all deps nodes n forward lt =
     let size : length levels ≡ nodes = length-levels_of deps nodes in
     let small = IsSmall-levels_of deps nodes forward nodes (omega arith) n lt in
     all_there levels n (omega (arith, size, lt)) (omega (arith, size, lt, small))
-
-pub is_legal : (p : Program) (places : List (List Lane)) (deps : Deps) (parts : List Part) → IsProgram p → GoForward (length p.nodes) deps
-    → placed_all (demands_of p places) (all_edges deps) (order_of (levels_of deps (length (demands_of p places)))) [] ≡ Ok parts → All (IsPart (length p.nodes)) parts
-    → ((k : ℕ) → k < 32 → keeps_limits (standing_in (demands_of p places) parts k) ≡ true)
-    → IsLegalWith p deps.field (format_at p) parts
-is_legal p places deps parts program forward placed all kept =
-    let demands = demands_of p places in
-    let many : length demands ≡ length p.nodes = simp length-map in
-    let forward_all : GoForward (length demands) deps = subst (λ (n : ℕ). GoForward n deps) (sym many) forward in
-    is_legal_in p places deps (order_of (levels_of deps (length demands))) parts program (λ n lt. rule_has_all deps (length demands) n forward_all (omega (arith, many, lt)))
-    (placement_keeps demands deps parts forward_all placed) placed all kept
