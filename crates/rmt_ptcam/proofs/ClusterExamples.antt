@@ -11,7 +11,9 @@ use Rattle.rmt_config.specs.declared.config.Next.TheVariants as next
 use Rattle.rmt_config.specs.Parser.{parse, Short}
 use Rattle.rmt_config.specs.ParserForm.{parser_is_formed}
 use Rattle.rmt_ptcam.specs.Plain.{plain}
-use Rattle.rmt_ptcam.specs.Joining.{join_of, can_join, byte_at, spread, together}
+use Rattle.rmt_ptcam.specs.Joining.{join_of, can_join, joined_entry, together, widened_entry}
+use Rattle.rmt_ptcam.specs.ByteTests.{ByteTest, joined_tests, tests_of}
+use Rattle.rmt_ptcam.specs.Words.{byte_at, spread}
 use Rattle.rmt_ptcam.specs.Clustering.{arrivals, clustered}
 use Rattle.rmt_ptcam.specs.Joins.{join_named, joins as joins_told, replayed}
 
@@ -222,6 +224,53 @@ second_of bytes count = record { state = 1; value = 0; mask = 0; need = bytes; a
 
 abbrev joins : ParserConfig → Bool
 joins parser = is_some (join_of parser 0 0)
+
+-- ---- what entries compare
+
+abbrev test_of : ℕ → ℕ → ℕ → ByteTest
+test_of offset value mask = record { offset = offset; value = value; mask = mask }
+
+-- an entry that looks at bytes 0 and 2, and one that looks at bytes 0 and 1 of the next header, three bytes behind
+abbrev first_compares : ParserEntry
+first_compares = record (first_of 3 1) { value = 0xab120000; mask = 0xff3f0000 }
+
+abbrev second_compares : ParserEntry
+second_compares = record (second_of 2 1) { value = 0x34000000; mask = 0xff010000 }
+
+two_bytes : tests_of (0 ∷ 2 ∷ []) first_compares ≡ test_of 0 0xab 0xff ∷ test_of 2 0x12 0x3f ∷ []
+two_bytes = refl
+
+-- lookups that no word has a byte for, and none
+more_and_none : length (tests_of (0 ∷ 1 ∷ 2 ∷ 3 ∷ 4 ∷ []) first_compares) ∷ length (tests_of [] first_compares) ∷ [] ≡ 4 ∷ 0 ∷ []
+more_and_none = refl
+
+-- both lists, the second three bytes behind
+bytes_of_both : joined_tests 3 (tests_of (0 ∷ 2 ∷ []) first_compares) (tests_of (0 ∷ 1 ∷ []) second_compares)
+    ≡ test_of 0 0xab 0xff ∷ test_of 2 0x12 0x3f ∷ test_of 3 0x34 0xff ∷ test_of 4 0 0x01 ∷ []
+bytes_of_both = refl
+
+-- a byte that both look at: what the first has there is behind the bytes that it moves by, and the second's stands
+byte_shared : joined_tests 2 (test_of 0 1 0xff ∷ test_of 2 0 0 ∷ []) (test_of 0 7 0xff ∷ []) ≡ test_of 0 1 0xff ∷ test_of 2 7 0xff ∷ []
+byte_shared = refl
+
+-- the words, made at the end
+abbrev joined_bytes : ParserEntry
+joined_bytes = joined_entry (0 ∷ 2 ∷ []) (0 ∷ 1 ∷ []) first_compares second_compares
+
+words_of_both : joined_bytes.value ∷ joined_bytes.mask ∷ [] ≡ 0xab123400 ∷ 0xff3fff01 ∷ []
+unfolding together
+words_of_both = refl
+
+abbrev wide_bytes : ParserEntry
+wide_bytes = widened_entry (0 ∷ 2 ∷ []) (0 ∷ 1 ∷ 2 ∷ []) first_compares
+
+words_over_more : wide_bytes.value ∷ wide_bytes.mask ∷ [] ≡ 0xab001200 ∷ 0xff003f00 ∷ []
+words_over_more = refl
+
+-- lookups that stand in both are told once, in order, and those behind byte 127 are none
+lookups_in_order : together (0 ∷ 5 ∷ []) 2 (3 ∷ 0 ∷ []) ∷ together [] 8 (120 ∷ 119 ∷ []) ∷ [] ≡ (0 ∷ 2 ∷ 5 ∷ []) ∷ (127 ∷ []) ∷ []
+unfolding together
+lookups_in_order = refl
 
 -- four lookup bytes, and five; one that both look up counts once, and one behind byte 127 is none
 four_and_five : joins (pair_of (0 ∷ 1 ∷ []) (0 ∷ 1 ∷ []) (first_of 2 1) (second_of 2 1)) ∷ joins (pair_of (0 ∷ 1 ∷ []) (0 ∷ 1 ∷ 2 ∷ []) (first_of 2 1) (second_of 3 1))

@@ -20,7 +20,9 @@ use Rattle.rmt_ptcam.specs.Types.{ParserConfig, ParserState, ParserEntry, Next, 
 use Rattle.rmt_ptcam.specs.declared.grouped.StateRows.{StateRows}
 use Rattle.rmt_ptcam.specs.declared.joins.Join.{Join}
 use Rattle.rmt_ptcam.specs.Grouping.{AreOwn, CanFollow, Stand, all_rows, by_state, entries_of, joined_in, may_stand, parser_in, put_at, put_in, stand_in, stand_in_at, stand_in_for, stand_in_of, stand_in_to, stand_in_with, state_in, widened_row}
-use Rattle.rmt_ptcam.specs.Joining.{IsGood, KeepsForm, Row, are_few, can_join, compares_before, ends_open, entries_in, is_light, join_at, join_of, join_to, joined, joined_row, lookups_at, number_of_entry, numbered, parser_of, rows_in, rows_of, spread, tails_in, together, widened, widened_entry}
+use Rattle.rmt_ptcam.specs.Joining.{IsGood, KeepsForm, Row, are_few, can_join, compares_before, ends_open, entries_in, is_light, join_at, join_of, join_to, joined, joined_row, lookups_at, number_of_entry, numbered, parser_of, rows_in, rows_of, tails_in, together, widened, widened_entry}
+use Rattle.rmt_ptcam.specs.Words.{spread}
+use Rattle.rmt_ptcam.proofs.TestLaws.{widened_is}
 use Rattle.rmt_ptcam.specs.Joins.{behind_joins, join_named}
 use Rattle.rmt_ptcam.proofs.ClusteringLaws.{good_same}
 use Rattle.rmt_ptcam.proofs.FewerLaws.{filter_map}
@@ -573,7 +575,8 @@ same_words : (ls : List ℕ) (xs : List Row) → rises_from 0 ls ≡ true → le
 same_words ls [] rises few each = refl
 same_words ls (x ∷ xs) rises few each =
     let own : Compares ls x.entry.mask x.entry.value = All-head (λ (y : Row). Compares ls y.entry.mask y.entry.value) x xs each in
-    ap (λ v. record x { entry = record x.entry { value = v; mask = spread ls ls x.entry.mask } } ∷ map (widened_row ls ls) xs) (word_is 0 ls x.entry.value rises few own.value)
+    ap (λ (f : ParserEntry). record x { entry = f } ∷ map (widened_row ls ls) xs) (widened_is ls ls x.entry)
+    ∙ ap (λ v. record x { entry = record x.entry { value = v; mask = spread ls ls x.entry.mask } } ∷ map (widened_row ls ls) xs) (word_is 0 ls x.entry.value rises few own.value)
     ∙ ap (λ k. record x { entry = record x.entry { mask = k } } ∷ map (widened_row ls ls) xs) (word_is 0 ls x.entry.mask rises few own.mask)
     ∙ ap (λ (ys : List Row). x ∷ ys) (same_words ls xs rises few (All-tail (λ (y : Row). Compares ls y.entry.mask y.entry.value) x xs each))
 

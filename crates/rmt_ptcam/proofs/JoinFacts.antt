@@ -10,7 +10,9 @@ use Rattle.rmt_ptcam.specs.Types.{ParserConfig, ParserState, ParserEntry}
 use Rattle.rmt_config.specs.Order.{rises_from}
 use Rattle.rmt_config.specs.Parser.{tail_of, value_at}
 use Rattle.rmt_config.specs.ParserForm.{lookups_of, state_is_formed}
-use Rattle.rmt_ptcam.specs.Joining.{Row, KeepsForm, byte_at, can_join, compares_before, ends_open, entries_in, is_light, lookups_at, rows_from, rows_in, together}
+use Rattle.rmt_ptcam.specs.Joining.{Row, KeepsForm, can_join, compares_before, ends_open, entries_in, is_light, lookups_at, rows_from, rows_in, together}
+use Rattle.rmt_ptcam.specs.Words.{byte_at}
+use Rattle.rmt_ptcam.proofs.TestLaws.{compares_is}
 use Rattle.rmt_ptcam.proofs.FormedRows.{IsFormed, IsRow}
 use Rattle.rmt_ptcam.proofs.LookupLaws.{Compares, compares_of, looked_at}
 use Rattle.rmt_ptcam.proofs.RowLaws.{hits}
@@ -87,7 +89,7 @@ may_join parser at e state can =
       untailed = None-from_is_none (tail_of parser at) g.0;
       whole = eqb-true e.need e.advance g.1;
       before = All-from_test (λ o. (o < e.advance) ⊎ (byte_at here e.mask o ≡ 0)) (λ o. nat_lt o e.advance || (byte_at here e.mask o == 0))
-          (λ o is. elim (or_cases (nat_lt o e.advance) (byte_at here e.mask o == 0) is) [ inl lt ↦ inl (ltb-true o e.advance lt) | inr none ↦ inr (eqb-true (byte_at here e.mask o) 0 none) ]) here f.1;
+          (λ o is. elim (or_cases (nat_lt o e.advance) (byte_at here e.mask o == 0) is) [ inl lt ↦ inl (ltb-true o e.advance lt) | inr none ↦ inr (eqb-true (byte_at here e.mask o) 0 none) ]) here (sym (compares_is here e) ∙ f.1);
       ends = d.1;
       low_there = All-from_test (λ o. o + e.advance < 128) (λ o. nat_lt (o + e.advance) 128) (λ o lt. ltb-true (o + e.advance) 128 lt) there h.0;
       few = leb-true (length (together here e.advance there)) 4 h.1;

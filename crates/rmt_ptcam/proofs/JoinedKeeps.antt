@@ -15,7 +15,9 @@ use Rattle.rmt_config.specs.declared.config.Extract.TheVariants.{Bits, One}
 use Rattle.rmt_config.specs.declared.config.Next.TheVariants as next
 use Rattle.rmt_config.specs.LaneForm.{lane_is_formed}
 use Rattle.rmt_config.specs.ParserForm.{extract_is_formed, lookups_of, next_is_formed, state_is_formed}
-use Rattle.rmt_ptcam.specs.Joining.{KeepsForm, Row, both, byte_at, can_join, entries_in, join_at, join_to, joined, joined_entry, joined_row, lookups_at, moved, rows_in, rows_of, spread, together, widened, widened_entry}
+use Rattle.rmt_ptcam.specs.Joining.{KeepsForm, Row, can_join, entries_in, join_at, join_to, joined, joined_row, lookups_at, moved, rows_in, rows_of, together, widened, widened_entry}
+use Rattle.rmt_ptcam.specs.Words.{both, byte_at, entry_of_both, spread, spread_entry}
+use Rattle.rmt_ptcam.proofs.TestLaws.{joined_is, widened_is}
 use Rattle.rmt_ptcam.proofs.AddingLaws.{length_rows, row_of}
 use Rattle.rmt_ptcam.proofs.FormLaws.{sorted-append, sorted-same}
 use Rattle.rmt_ptcam.proofs.FormedRows.{IsFormed, IsRow, entries_of_rows, rows_are}
@@ -144,7 +146,7 @@ module _ (parser : ParserConfig) (keeps : KeepsForm parser) (at : ℕ) (e : Pars
       let new : Compares to (spread here to x.entry.mask) (spread here to x.entry.value) =
       compares_by (byte_at here x.entry.mask) (byte_at here x.entry.value) (byte_small here x.entry.mask) (byte_small here x.entry.value)
       (compares_at 0 here x.entry.mask x.entry.value lists.rises few old) to may.few in
-      record {
+      subst (λ (f : ParserEntry). IsRow states (record x { entry = f })) (sym (widened_is here to x.entry)) (record {
         entry = record {
           state_there = subst (λ k. x.entry.state < k) (sym as_many) is.entry.state_there;
           state_small = is.entry.state_small;
@@ -158,9 +160,9 @@ module _ (parser : ParserConfig) (keeps : KeepsForm parser) (at : ℕ) (e : Pars
           extracts = is.entry.extracts;
         };
         tail = same_need x.tail is.tail;
-      }
+      })
     where
-      same_need : (o : Option TailOf) → IfSome o (IsRowTail x.entry) → IfSome o (IsRowTail (widened_entry here to x.entry))
+      same_need : (o : Option TailOf) → IfSome o (IsRowTail x.entry) → IfSome o (IsRowTail (spread_entry here to x.entry))
       same_need None fits = tt
       same_need (Some t) fits = record {
         header = fits.header;
@@ -191,7 +193,7 @@ module _ (parser : ParserConfig) (keeps : KeepsForm parser) (at : ℕ) (e : Pars
       let need : e.need + f.need ≤ 128 = light.0 in
       let first_within = first.advance in
       let second_within = is.entry.advance in
-      record {
+      subst (λ (g : ParserEntry). IsRow states (record (join_row y) { entry = g })) (sym (joined_is here behind e f)) (record {
         entry = record {
           state_there = subst (λ k. n < k) (sym as_many) first.state_there;
           state_small = first.state_small;
@@ -211,9 +213,9 @@ module _ (parser : ParserConfig) (keeps : KeepsForm parser) (at : ℕ) (e : Pars
               (λ x h. moved_extract e.advance f.need (e.need + f.need) x (omega (arith, first_within)) need h) is.entry.extracts);
         };
         tail = by y.tail is.tail;
-      }
+      })
     where
-      by : (o : Option TailOf) → IfSome o (IsRowTail y.entry) → IfSome (option_map (λ (t : TailOf). record t { from = t.from + 8 * e.advance }) o) (IsRowTail (joined_entry here behind e y.entry))
+      by : (o : Option TailOf) → IfSome o (IsRowTail y.entry) → IfSome (option_map (λ (t : TailOf). record t { from = t.from + 8 * e.advance }) o) (IsRowTail (entry_of_both here behind e y.entry))
       by None fits = tt
       by (Some t) fits = record {
         header = fits.header;

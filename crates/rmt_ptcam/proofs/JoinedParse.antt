@@ -12,7 +12,9 @@ use Rattle.rmt_ptcam.specs.Types.{ParserConfig, ParserState, ParserEntry, Next}
 use Rattle.rmt_config.specs.declared.config.Next.TheVariants as next
 use Rattle.rmt_config.specs.Parser.{Parse, Reached, Short, begin, behind, follow, lookup_value, parse_from, tail_of, value_at}
 use Rattle.rmt_config.specs.ParserForm.{next_is_formed}
-use Rattle.rmt_ptcam.specs.Joining.{Row, KeepsForm, ParsesAlike, both, ends_open, joined, joined_row, lookups_at, rows_in, rows_of, spread, together, widened, widened_entry}
+use Rattle.rmt_ptcam.specs.Joining.{Row, KeepsForm, ParsesAlike, ends_open, joined, joined_row, lookups_at, rows_in, rows_of, together, widened, widened_entry}
+use Rattle.rmt_ptcam.specs.Words.{both}
+use Rattle.rmt_ptcam.proofs.TestLaws.{joined_is, widened_is}
 use Rattle.rmt_ptcam.proofs.FormedRows.{IsFormed, IsRow, row_at, rows_are, split_at}
 use Rattle.rmt_ptcam.proofs.JoinFacts.{MayJoin, are_joined, entry_compares, find_in, found_open, lookups_formed, rows_in_entries, value_is}
 use Rattle.rmt_ptcam.proofs.JoinLaws.{two_steps}
@@ -162,7 +164,7 @@ module _ (parser : ParserConfig) (keeps : KeepsForm parser) (at : ℕ) (e : Pars
         by true is =
             let own : x.entry.state ≡ n = eqb-true x.entry.state n is in
             let not : eqb x.entry.state state ≡ false = ne_eqb x.entry.state state (λ same. other (sym same ∙ own)) in
-            and_left (eqb x.entry.state state) (eqb (bit_and value (spread here to x.entry.mask)) (spread here to x.entry.value)) not
+            and_left (eqb x.entry.state state) (eqb (bit_and value (widened_entry here to x.entry).mask) (widened_entry here to x.entry).value) not
             ∙ sym (and_left (eqb x.entry.state state) (eqb (bit_and value x.entry.mask) x.entry.value) not)
         by false is = refl
 
@@ -219,7 +221,8 @@ module _ (parser : ParserConfig) (keeps : KeepsForm parser) (at : ℕ) (e : Pars
             let own : x.entry.state ≡ n = eqb-true x.entry.state n is in
             let lists = lookups_formed parser.states n keeps.states in
             let compares = entry_compares parser.states x.entry n formed.entry own in
-            ap (λ (b : Bool). eqb x.entry.state n && b)
+            ap (λ (f : ParserEntry). hits n new_value (record x { entry = f })) (widened_is here to x.entry)
+            ∙ ap (λ (b : Bool). eqb x.entry.state n && b)
             (test_widened read read_small 0 here to x.entry.mask x.entry.value lists.rises (few_here here e.advance behind_lookups lists.rises lists.low may.few) may.few (own_here here behind_lookups e.advance lists.low) compares.mask compares.value
             ∙ ap (λ v. eqb (bit_and v x.entry.mask) x.entry.value) (sym (value_is frame r.at parser.states n)))
         by false is = and_left (eqb x.entry.state n) (eqb (bit_and new_value x.entry.mask) x.entry.value) is ∙ sym (and_left (eqb x.entry.state n) (eqb (bit_and value x.entry.mask) x.entry.value) is)
@@ -229,7 +232,7 @@ module _ (parser : ParserConfig) (keeps : KeepsForm parser) (at : ℕ) (e : Pars
         let f : ParserEntry = y.entry in
         let joins = are_joined parser at e f m keeps may formed_e formed.entry own in
         let mine : Bool = eqb (bit_and new_value (both here e.advance behind_lookups e.mask f.mask)) (both here e.advance behind_lookups e.value f.value) in
-        ap (λ (b : Bool). b && mine) (eq-eqb n n refl)
+        ap (λ (g : ParserEntry). hits n new_value (record (join_row y) { entry = g })) (joined_is here behind_lookups e f) ∙ ap (λ (b : Bool). b && mine) (eq-eqb n n refl)
         ∙ test_joined here e.advance behind_lookups e.mask e.value f.mask f.value joins read read_behind read_small
         (λ o. (let same : r.at + e.advance + o ≡ r.at + (o + e.advance) = omega arith in ap (slice_index frame) same))
         ∙ ap (λ v. eqb (bit_and v e.mask) e.value && eqb (bit_and (looked_at read_behind behind_lookups) f.mask) f.value) (sym (value_is frame r.at parser.states n))

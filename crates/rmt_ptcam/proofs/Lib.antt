@@ -12,6 +12,7 @@ pub mod HoldLaws
 pub mod EntryLaws
 pub mod AgreementLaws
 mod Examples
+pub mod TestLaws
 pub mod LookupLaws
 pub mod TogetherLaws
 pub mod WindowLaws

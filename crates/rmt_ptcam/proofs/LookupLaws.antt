@@ -9,7 +9,8 @@ use Rattle.std.proofs.lemmas.List.{length-map}
 use Rattle.std.proofs.lemmas.Nat.{and_le_l, and_le_r, and_mod}
 use Rattle.rmt_config.specs.Order.{rises_from}
 use Rattle.rmt_config.specs.Parser.{high_bytes}
-use Rattle.rmt_ptcam.specs.Joining.{byte_at, is_among, spread}
+use Rattle.rmt_ptcam.specs.Joining.{is_among}
+use Rattle.rmt_ptcam.specs.Words.{byte_at, spread}
 use Rattle.rmt_ptcam.proofs.ByteRunLaws.{map_same, high_and, high_apart}
 use Rattle.rmt_bits.proofs.OptionLaws.{same_Bool}
 

@@ -8,7 +8,9 @@ use Rattle.std.proofs.lemmas.List.Elements.{All-contains, All-filter, All-head, 
 use Rattle.std.proofs.lemmas.List.FromFn.{length-range_with_len, get_or-range_with_len}
 use Rattle.rmt_bits.proofs.AllLaws.{All-range}
 use Rattle.rmt_config.specs.Order.{rises_from}
-use Rattle.rmt_ptcam.specs.Joining.{byte_at, byte_of_both, both, is_among, together}
+use Rattle.rmt_ptcam.specs.Joining.{is_among, together}
+use Rattle.rmt_ptcam.specs.Words.{byte_at, byte_of_both, both}
+use Rattle.rmt_ptcam.proofs.TestLaws.{together_is}
 use Rattle.rmt_ptcam.proofs.LookupLaws.{Agrees, Compares, compares_at, compares_by, agrees_all, agrees_at, agrees_from, contains_among, byte_small, looked_at, test_at, test_from}
 use Rattle.rmt_bits.proofs.OptionLaws.{same_Bool}
 use Rattle.rmt_bits.proofs.MemberLaws.{Contains-filter}
@@ -18,11 +20,11 @@ test here bytes there o = is_among here o || (nat_le bytes o && is_among there (
 
 -- an offset that is looked up by either is looked up together
 own_by : (here there : List ℕ) (bytes o : ℕ) → o < 128 → test here bytes there o ≡ true → Contains (together here bytes there) o
-unfolding together
 own_by here there bytes o lt passes =
     let long = length-range_with_len 0 128 in
-    Contains-filter (test here bytes there) (range_with_len 0 128) o
-    (o, omega (arith, long, lt), get_or-range_with_len 0 128 o o lt ∙ (let e : 0 + o ≡ o = omega arith in e)) passes
+    subst (λ (ls : List ℕ). Contains ls o) (sym (together_is here bytes there))
+    (Contains-filter (test here bytes there) (range_with_len 0 128) o
+    (o, omega (arith, long, lt), get_or-range_with_len 0 128 o o lt ∙ (let e : 0 + o ≡ o = omega arith in e)) passes)
 
 pub own_here : (here there : List ℕ) (bytes : ℕ) → All (λ o. o < 128) here → All (Contains (together here bytes there)) here
 own_here here there bytes low k d lt =
@@ -185,7 +187,6 @@ count_rising p k s (suc n) a (x ∷ xs) from rises low pass =
 
 module _ (here : List ℕ) (bytes : ℕ) (there : List ℕ) where
   pub few_here : rises_from 0 here ≡ true → All (λ o. o < 128) here → length (together here bytes there) ≤ 4 → length here ≤ 4
-  unfolding together
   few_here rises low few =
       let all : length here ≤ length (filter (test here bytes there) (range_with_len 0 128)) =
       count_rising (test here bytes there) 0 0 128 0 here (omega arith) rises (All-weaker (λ o. o < 128) (λ o. o + 0 < 0 + 128) (λ o lt. omega (arith, lt)) here low)
@@ -194,10 +195,10 @@ module _ (here : List ℕ) (bytes : ℕ) (there : List ℕ) where
       let same : o ≡ o + 0 = omega arith in
       subst (λ x. test here bytes there x ≡ true) same
       (or_left (is_among here o) (nat_le bytes o && is_among there (o - bytes)) (contains_among here o (Contains-get_or here k d lt)))) in
-      omega (arith, all, few)
+      let same : length (together here bytes there) ≡ length (filter (test here bytes there) (range_with_len 0 128)) = ap (λ (ls : List ℕ). length ls) (together_is here bytes there) in
+      omega (arith, all, few, same)
 
   pub few_there : rises_from 0 there ≡ true → All (λ o. o + bytes < 128) there → length (together here bytes there) ≤ 4 → length there ≤ 4
-  unfolding together
   few_there rises low few =
       let all : length there ≤ length (filter (test here bytes there) (range_with_len 0 128)) =
       count_rising (test here bytes there) bytes 0 128 0 there (omega arith) rises (All-weaker (λ o. o + bytes < 128) (λ o. o + bytes < 0 + 128) (λ o lt. omega (arith, lt)) there low)
@@ -206,7 +207,8 @@ module _ (here : List ℕ) (bytes : ℕ) (there : List ℕ) where
       let back : o + bytes - bytes ≡ o = omega arith in
       or_right (is_among here (o + bytes)) (nat_le bytes (o + bytes) && is_among there (o + bytes - bytes))
       (and_from (nat_le bytes (o + bytes)) (is_among there (o + bytes - bytes)) (le-leb bytes (o + bytes) (omega arith)) (ap (is_among there) back ∙ contains_among there o (Contains-get_or there k d lt)))) in
-      omega (arith, all, few)
+      let same : length (together here bytes there) ≡ length (filter (test here bytes there) (range_with_len 0 128)) = ap (λ (ls : List ℕ). length ls) (together_is here bytes there) in
+      omega (arith, all, few, same)
 
 -- a filtered range rises, within its end
 pub rises_filtered : (p : ℕ → Bool) (a n : ℕ) → rises_from a (filter p (range_with_len a n)) ≡ true
@@ -225,13 +227,12 @@ rises_filtered p a (suc n) = by (p a) (rises_filtered p (a + 1) n)
     by false rest = lower (filter p (range_with_len (a + 1) n)) rest
 
 pub together_rises : (here there : List ℕ) (bytes : ℕ) → rises_from 0 (together here bytes there) ≡ true
-unfolding together
-together_rises here there bytes = rises_filtered (test here bytes there) 0 128
+together_rises here there bytes = ap (rises_from 0) (together_is here bytes there) ∙ rises_filtered (test here bytes there) 0 128
 
 pub together_low : (here there : List ℕ) (bytes : ℕ) → All (λ o. o < 128) (together here bytes there)
-unfolding together
 together_low here there bytes =
-    All-filter (test here bytes there) (λ o. o < 128) (range_with_len 0 128) (All-range (λ o. o < 128) 0 128 (λ w lt. omega (arith, lt)))
+    subst (All (λ o. o < 128)) (sym (together_is here bytes there))
+    (All-filter (test here bytes there) (λ o. o < 128) (range_with_len 0 128) (All-range (λ o. o < 128) 0 128 (λ w lt. omega (arith, lt))))
 
 pub list_all_below : (xs : List ℕ) → All (λ o. o < 128) xs → list_all (λ o. nat_lt o 128) xs ≡ true
 list_all_below [] each = refl

@@ -1,14 +1,14 @@
 -- Two steps of the parser in one: an entry is joined to the entries of the state that it goes to.
-use Rattle.std.specs.Prelude.{◌≡◌, ◌<◌, ℕ, ◌+◌, ◌-◌, ◌*◌, ◌%◌, ◌^◌, List, [], ◌∷◌, ◌++◌, Bool, true, false, ◌&&◌, ◌||◌, ◌==◌, nat_lt, nat_le, if◌then◌else◌, All, Option, Some, None, option_map, unwrap_or, is_none, map, take, drop, length, slice_get, slice_set}
+use Rattle.std.specs.Prelude.{◌≡◌, ◌<◌, ℕ, ◌+◌, ◌*◌, List, [], ◌∷◌, ◌++◌, Bool, true, false, ◌&&◌, ◌||◌, ◌==◌, nat_lt, nat_le, if◌then◌else◌, All, Option, Some, None, option_map, unwrap_or, is_none, map, take, drop, length, slice_get, slice_set}
 use Rattle.std.specs.List.{filter, list_any, list_all, range_with_len}
-use Rattle.rmt_bits.specs.Bits.{slice}
 use Rattle.rmt_ptcam.specs.Types.{ParserConfig, ParserState, ParserEntry, Next, Extract, TailOf}
 use Rattle.rmt_config.specs.declared.config.Next.TheVariants as next
 use Rattle.rmt_config.specs.declared.config.Extract.TheVariants.{Bits, One}
-use Rattle.rmt_config.specs.Parser.{parse, high_bytes, tail_of}
+use Rattle.rmt_config.specs.Parser.{parse, tail_of}
 use Rattle.rmt_config.specs.Order.{rises_from}
 use Rattle.rmt_config.specs.ParserForm.{state_is_formed, entry_is_formed}
 use Rattle.rmt_config.specs.TailForm.{is_tail_of}
+use Rattle.rmt_ptcam.specs.ByteTests.{joined_tests, mask_over, test_for, tests_of, value_over}
 use Rattle.rmt_ptcam.specs.Fitting.{IsParser}
 -- an entry with its tail, where it has one
 pub use Rattle.rmt_ptcam.specs.declared.grouped.Row.{Row}
@@ -50,34 +50,13 @@ lookups_at states state = unwrap_or (option_map (λ (s : ParserState). s.lookups
 abbrev pub is_among : List ℕ → ℕ → Bool
 is_among xs x = list_any (λ y. y == x) xs
 
--- the lookups of a state, and those of another one that begins so many bytes behind it; each is below 128
+-- offsets below 128, each once, in order
+abbrev pub in_order : List ℕ → List ℕ
+in_order offsets = filter (is_among offsets) (range_with_len 0 128)
+
+-- the lookups of a state, and those of another one that begins so many bytes behind it
 unfoldable pub together : List ℕ → ℕ → List ℕ → List ℕ
-together here bytes there = filter (λ o. is_among here o || (nat_le bytes o && is_among there (o - bytes))) (range_with_len 0 128)
-
--- the highest byte of 32 bits
-abbrev pub first_byte : ℕ → ℕ
-first_byte word = slice word 24 8
-
--- 32 bits without their highest byte, the others moved up
-abbrev pub other_bytes : ℕ → ℕ
-other_bytes word = word % 2 ^ 24 * 256
-
--- the byte of 32 bits that stands for an offset among lookups, of which the first has the highest byte; 0 where it isn't looked up
-abbrev pub byte_at : List ℕ → ℕ → ℕ → ℕ
-byte_at [] word offset = 0
-byte_at (l ∷ ls) word offset = if l == offset then first_byte word else byte_at ls (other_bytes word) offset
-
--- 32 bits over some lookups as 32 bits over others, with 0 at those that are new
-abbrev pub spread : List ℕ → List ℕ → ℕ → ℕ
-spread from to word = high_bytes (map (byte_at from word) to)
-
--- the byte for an offset, of 32 bits over here, and of others over lookups that begin so many bytes behind
-abbrev pub byte_of_both : List ℕ → ℕ → List ℕ → ℕ → ℕ → ℕ → ℕ
-byte_of_both here bytes there x y offset = if nat_lt offset bytes then byte_at here x offset else byte_at there y (offset - bytes)
-
--- both as 32 bits over the lookups together
-abbrev pub both : List ℕ → ℕ → List ℕ → ℕ → ℕ → ℕ
-both here bytes there x y = high_bytes (map (byte_of_both here bytes there x y) (together here bytes there))
+together here bytes there = in_order (here ++ map (λ o. o + bytes) there)
 
 -- ---- a joined entry
 
@@ -88,15 +67,18 @@ moved bytes (One lane) = One lane
 
 -- an entry, whose state has the lookups here, joined to one of the next state, which has the lookups there
 abbrev pub joined_entry : List ℕ → List ℕ → ParserEntry → ParserEntry → ParserEntry
-joined_entry here there e f = record {
-  state = e.state;
-  value = both here e.advance there e.value f.value;
-  mask = both here e.advance there e.mask f.mask;
-  need = e.need + f.need;
-  advance = e.advance + f.advance;
-  next = f.next;
-  extracts = e.extracts ++ map (moved e.advance) f.extracts;
-}
+joined_entry here there e f =
+    let to = together here e.advance there in
+    let tests = joined_tests e.advance (tests_of here e) (tests_of there f) in
+    record {
+      state = e.state;
+      value = value_over to tests;
+      mask = mask_over to tests;
+      need = e.need + f.need;
+      advance = e.advance + f.advance;
+      next = f.next;
+      extracts = e.extracts ++ map (moved e.advance) f.extracts;
+    }
 
 -- the joined entry has the second one's tail
 abbrev pub joined_row : List ℕ → List ℕ → ParserEntry → Row → Row
@@ -105,9 +87,9 @@ joined_row here there e x = record {
   tail = option_map (λ (t : TailOf). record t { from = t.from + 8 * e.advance }) x.tail;
 }
 
--- an entry compares the same bytes where its state has more lookups
+-- an entry compares the same where its state has more lookups
 abbrev pub widened_entry : List ℕ → List ℕ → ParserEntry → ParserEntry
-widened_entry from to e = record e { value = spread from to e.value; mask = spread from to e.mask }
+widened_entry from to e = record e { value = value_over to (tests_of from e); mask = mask_over to (tests_of from e) }
 
 -- of all entries those of a state
 abbrev pub widened : List ℕ → List ℕ → ℕ → Row → Row
@@ -129,7 +111,7 @@ joined parser at e state =
 
 -- the entry compares only bytes before those by which it moves the cursor
 abbrev pub compares_before : List ℕ → ParserEntry → Bool
-compares_before here e = list_all (λ o. nat_lt o e.advance || (byte_at here e.mask o == 0)) here
+compares_before here e = list_all (λ o. nat_lt o e.advance || ((test_for (tests_of here e) o).mask == 0)) here
 
 -- there is an entry, and the last one compares nothing: so no frame falls through
 abbrev pub ends_open : List ParserEntry → Bool

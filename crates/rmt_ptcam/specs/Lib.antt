@@ -3,7 +3,9 @@ pub mod Fitting
 pub mod Parsing
 pub mod Needs
 pub mod Plain
+pub mod ByteTests
 pub mod Joining
+pub mod Words
 pub mod Adding
 pub mod Clustering
 pub mod Joins

@@ -2,6 +2,7 @@
 
 ghost use Rattle.std.specs.Prelude.{◌≡◌, ◌≤◌, ◌<◌, ◌+◌, ◌*◌, ◌++◌, ◌-◌, ◌&&◌, ◌||◌, ◌==◌, if◌then◌else◌, nat_le, nat_lt, true, Some, None, map, take, drop, length, All, IfOk, OnOk, IfSome};
 ghost use Rattle.std.specs.List.{list_all};
+ghost use Rattle.rmt_ptcam.specs.ByteTests.{test_for, tests_of};
 ghost use Rattle.rmt_ptcam.specs.Grouping.{CanFollow, Stand, all_rows, entries_of, joined_in, may_stand as may_stand_of, put_in as put_in_of, stand_in_for as stand_in_for_of, stand_in_to, widened_row};
 ghost use Rattle.rmt_ptcam.specs.Joining.{Row as RowOf, compares_before as compares_before_of, ends_open as ends_open_of, is_light as is_light_of, joined_row as joined_row_of, together as together_of};
 
@@ -14,11 +15,18 @@ use rmt_config::config::{Next, ParserEntry};
 use std::alloc::{AllocError, Global};
 use std::mem::replace;
 
+/// The mask on which an entry compares a byte; 0 where it doesn't compare it.
+fn mask_at(here: &[u8], entry: &ParserEntry, offset: u8) -> u8
+    ensures { result ≡ (test_for (tests_of here.now entry.now) offset).mask }
+{
+    byte_at(here, entry.mask, offset)
+}
+
 /// Whether an entry compares only bytes before those by which it moves the cursor.
 fn compares_before(here: &[u8], entry: &ParserEntry) -> bool
     ensures { result ≡ compares_before_of here.now entry.now }
 {
-    here.iter().all(|offset| *offset < entry.advance || byte_at(here, entry.mask, *offset) == 0)
+    here.iter().all(|offset| *offset < entry.advance || mask_at(here, entry, *offset) == 0)
 }
 
 /// Whether lookups that begin so many bytes behind are within 128 bytes.

@@ -1,6 +1,6 @@
 use Rattle.std.proofs.Common.{List, ℕ, map, ap, ◌∙◌}
 use Rattle.rmt_config.specs.Parser.{high_bytes}
-use Rattle.rmt_ptcam.specs.Joining.{byte_of_both}
+use Rattle.rmt_ptcam.specs.Words.{byte_of_both}
 use Rattle.rmt_ptcam.proofs.LookupLaws.{four_are}
 use Rattle.rmt_ptcam.proofs.lookups.both.Goals as goal
 

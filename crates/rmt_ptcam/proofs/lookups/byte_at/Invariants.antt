@@ -1,5 +1,5 @@
 use Rattle.std.proofs.Common.{◌≡◌, drop}
-use Rattle.rmt_ptcam.specs.Joining.{byte_at}
+use Rattle.rmt_ptcam.specs.Words.{byte_at}
 use Rattle.rmt_ptcam.proofs.lookups.byte_at.Given as goal
 
 abbrev pub invariant-loop-lookup : goal.invariant-loop-lookup

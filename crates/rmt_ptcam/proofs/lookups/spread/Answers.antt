@@ -1,5 +1,5 @@
 use Rattle.std.proofs.Common.{map, ◌∙◌}
-use Rattle.rmt_ptcam.specs.Joining.{byte_at}
+use Rattle.rmt_ptcam.specs.Words.{byte_at}
 use Rattle.rmt_ptcam.proofs.LookupLaws.{four_are}
 use Rattle.rmt_ptcam.proofs.lookups.spread.Goals as goal
 

@@ -1,9 +1,10 @@
 use Rattle.std.proofs.Common.{◌≡◌, sym, ap, ◌∙◌, ◌-◌, Bool, ℕ, arith}
 use Rattle.std.specs.Prelude.{◌||◌, ◌&&◌, nat_le}
 use Rattle.std.specs.List.{filter, range_with_len}
-use Rattle.rmt_ptcam.specs.Joining.{is_among, together}
+use Rattle.rmt_ptcam.specs.Joining.{is_among}
 use Rattle.rmt_ptcam.proofs.PlainLaws.{filter_here, filter_not}
 use Rattle.rmt_ptcam.proofs.lookups.together.Goals.{then-is_together+in_ok-push, else-is_together}
+use Rattle.rmt_ptcam.proofs.TestLaws.{together_is}
 use Rattle.rmt_ptcam.proofs.lookups.together.Goals as goal
 
 pub loop-offset-preserved : goal.loop-offset-preserved
@@ -16,7 +17,6 @@ loop-offset-preserved c =
     ]
 
 pub returns : goal.returns
-unfolding together
 returns c =
     let end : c.loop-offset.offset ≡ 128 = omega arith in
-    c.loop-offset.invariant ∙ ap (λ n. filter (λ o. is_among c.args.here.now o || (nat_le c.args.bytes o && is_among c.args.there.now (o - c.args.bytes))) (range_with_len 0 n)) end
+    c.loop-offset.invariant ∙ ap (λ n. filter (λ o. is_among c.args.here.now o || (nat_le c.args.bytes o && is_among c.args.there.now (o - c.args.bytes))) (range_with_len 0 n)) end ∙ sym (together_is c.args.here.now c.args.bytes c.args.there.now)
