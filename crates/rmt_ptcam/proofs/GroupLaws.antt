@@ -16,7 +16,7 @@ use Rattle.rmt_config.specs.Parser.{tail_of}
 use Rattle.rmt_config.specs.ParserForm.{entry_is_formed}
 use Rattle.rmt_config.specs.TailForm.{is_tail_of}
 use Rattle.rmt_ptcam.specs.Types.{ParserConfig, ParserState, ParserEntry, TailOf}
-use Rattle.rmt_ptcam.specs.declared.grouped.StateRows.{StateRows}
+use Rattle.rmt_ptcam.specs.declared.joining.rows.StateRows.{StateRows}
 use Rattle.rmt_ptcam.specs.Grouping.{AreOwn, Stand, all_rows, by_state, groups_from, parser_in, state_in}
 use Rattle.rmt_ptcam.specs.Joining.{KeepsForm, Row, numbered, parser_of, rows_from, rows_in, rows_of, tails_in}
 use Rattle.rmt_ptcam.proofs.FormedRows.{IsRow, entries_of_rows, formed_parts, rows_are}

@@ -17,7 +17,7 @@ use Rattle.rmt_config.specs.Parser.{tail_of}
 use Rattle.rmt_config.specs.ParserForm.{next_is_formed}
 use Rattle.rmt_config.specs.declared.config.Next.TheVariants as next
 use Rattle.rmt_ptcam.specs.Types.{ParserConfig, ParserState, ParserEntry, Next, TailOf}
-use Rattle.rmt_ptcam.specs.declared.grouped.StateRows.{StateRows}
+use Rattle.rmt_ptcam.specs.declared.joining.rows.StateRows.{StateRows}
 use Rattle.rmt_ptcam.specs.declared.joins.Join.{Join}
 use Rattle.rmt_ptcam.specs.Grouping.{AreOwn, CanFollow, Stand, all_rows, by_state, entries_of, joined_in, may_stand, parser_in, put_at, put_in, stand_in, stand_in_at, stand_in_for, stand_in_of, stand_in_to, stand_in_with, state_in, widened_row}
 use Rattle.rmt_ptcam.specs.Joining.{IsGood, KeepsForm, Row, are_few, can_join, compares_before, ends_open, entries_in, is_light, join_at, join_of, join_to, joined, joined_row, lookups_at, number_of_entry, numbered, parser_of, rows_in, rows_of, tails_in, together, widened, widened_entry}

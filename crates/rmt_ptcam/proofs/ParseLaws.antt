@@ -9,7 +9,7 @@ use Rattle.std.proofs.lemmas.Bool.{eqb-true, le-ltb}
 use Rattle.rmt_bits.proofs.AllLaws.{All-find}
 use Rattle.rmt_config.specs.Parser.{Parse, Reached, Short, Reject, parse, parse_from, taken, step, follow, past_tail, extracted, entry_of, tail_of, value_at}
 use Rattle.rmt_config.specs.declared.tails.TailAt.{TailAt}
-use Rattle.rmt_ptcam.specs.declared.step.Step.{Step}
+use Rattle.rmt_ptcam.specs.declared.parse.step.Step.{Step}
 use Rattle.rmt_ptcam.specs.Parsing.{standing, StepGives}
 use Rattle.rmt_ptcam.specs.Fitting.{IsTailOf}
 use Rattle.rmt_bits.proofs.ListLaws.{find-passes}

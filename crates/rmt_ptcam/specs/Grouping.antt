@@ -4,7 +4,7 @@ use Rattle.std.specs.List.{flat_map, list_all}
 use Rattle.rmt_ptcam.specs.Types.{ParserConfig, ParserState, ParserEntry, Next, TailOf}
 use Rattle.rmt_ptcam.specs.Fitting.{IsEntry}
 use Rattle.rmt_config.specs.declared.config.Next.TheVariants as next
-use Rattle.rmt_ptcam.specs.declared.grouped.StateRows.{StateRows}
+use Rattle.rmt_ptcam.specs.declared.joining.rows.StateRows.{StateRows}
 use Rattle.rmt_ptcam.specs.declared.joins.Join.{Join}
 use Rattle.rmt_ptcam.specs.Joining.{KeepsForm, Row, are_few, compares_before, ends_open, is_light, joined_row, parser_of, rows_in, rows_of, together, widened_entry}
 

@@ -11,7 +11,7 @@ use Rattle.rmt_config.specs.TailForm.{is_tail_of}
 use Rattle.rmt_ptcam.specs.ByteTests.{joined_tests, mask_over, test_for, tests_of, value_over}
 use Rattle.rmt_ptcam.specs.Fitting.{IsParser}
 -- an entry with its tail, where it has one
-pub use Rattle.rmt_ptcam.specs.declared.grouped.Row.{Row}
+pub use Rattle.rmt_ptcam.specs.declared.joining.rows.Row.{Row}
 
 -- ---- a parser as rows
 

@@ -4,8 +4,8 @@ use Rattle.rmt_config.specs.declared.tails.TailAt.{TailAt}
 use Rattle.rmt_config.specs.Parser.{Parse, Reached, Short, Reject, Accept, no_tail}
 use Rattle.rmt_ptcam.specs.declared.parse.Parsed.{Parsed}
 use Rattle.rmt_ptcam.specs.declared.parse.Parsed.TheVariants as parsed
-use Rattle.rmt_ptcam.specs.declared.step.Step.{Step}
-use Rattle.rmt_ptcam.specs.declared.step.Step.TheVariants as steps
+use Rattle.rmt_ptcam.specs.declared.parse.step.Step.{Step}
+use Rattle.rmt_ptcam.specs.declared.parse.step.Step.TheVariants as steps
 
 -- how far the parser has come
 abbrev pub standing : List ℕ → List TailAt → ℕ → Reached

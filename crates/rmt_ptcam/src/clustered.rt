@@ -14,8 +14,11 @@ ghost use Rattle.rmt_ptcam.specs.Joins.{joins, replayed};
 ghost use Rattle.rmt_ptcam.specs.Plain.{plain};
 ghost use Rattle.rmt_ptcam.specs.Steps.{MeetsNoMore};
 
-use crate::clustering::all_joined;
-use crate::compact::compact;
+pub(crate) mod clustering;
+pub(crate) mod compaction;
+
+use crate::clustered::clustering::all_joined;
+use crate::clustered::compaction::compact;
 use crate::fault::ParserFault;
 use crate::plain::plain_parser;
 use rmt_ast::program::Program;

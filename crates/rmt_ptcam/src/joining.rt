@@ -7,9 +7,14 @@ ghost use Rattle.rmt_config.specs.ParserForm.{parser_is_formed};
 ghost use Rattle.rmt_ptcam.specs.Joining.{IsGood, KeepsForm, ParsesAlike, entries_in, join_at as join_at_of, join_of, number_of_entry as number_of_entry_of};
 ghost use Rattle.rmt_ptcam.specs.Joins.{join_named};
 
+pub(crate) mod entry_rows;
+pub(crate) mod in_place;
+pub(crate) mod lookups;
+pub(crate) mod rows;
+
 use crate::fault::JoinFault;
-use crate::grouped::{flattened, grouped};
-use crate::in_place::join_in;
+use crate::joining::in_place::join_in;
+use crate::joining::rows::{flattened, grouped};
 use crate::joins::Join;
 use rmt_bits::answer::Bytes;
 use rmt_config::config::{ParserConfig, ParserEntry};

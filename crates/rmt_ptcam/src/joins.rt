@@ -11,11 +11,11 @@ ghost use Rattle.rmt_ptcam.specs.Joining.{ParsesAlike};
 ghost use Rattle.rmt_ptcam.specs.Joins.{behind_joins as behind_joins_of, joins_or, replayed as replayed_of};
 ghost use Rattle.rmt_ptcam.specs.Plain.{plain};
 
-use crate::clustering::all_joined;
-use crate::compact::compact;
+use crate::clustered::clustering::all_joined;
+use crate::clustered::compaction::compact;
 use crate::fault::{JoinFault, ParserFault};
-use crate::grouped::{StateRows, flattened, grouped};
-use crate::in_place::join_in;
+use crate::joining::in_place::join_in;
+use crate::joining::rows::{StateRows, flattened, grouped};
 use crate::plain::plain_parser;
 use rmt_ast::program::Program;
 use rmt_bits::sequence::Sequence;

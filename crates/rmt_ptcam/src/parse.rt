@@ -5,9 +5,14 @@ ghost use Rattle.rmt_config.specs.Parser.{Parse, Reached, parse as parse_of, tak
 ghost use Rattle.rmt_ptcam.specs.Parsing.{standing, StepGives, StaysWithin, RunGives, ParsesTo};
 ghost use Rattle.rmt_ptcam.specs.Fitting.{IsParser};
 
-use crate::lookup::lookup;
-use crate::search::{entry_number, entry_tail};
-use crate::step::{Step, take_entry};
+mod extract;
+pub(crate) mod lookup_value;
+pub(crate) mod search;
+mod step;
+
+use crate::parse::lookup_value::lookup;
+use crate::parse::search::{entry_number, entry_tail};
+use crate::parse::step::{Step, take_entry};
 use rmt_config::config::ParserConfig;
 use rmt_config::tails::Tails;
 use rmt_config::vector::Vector;

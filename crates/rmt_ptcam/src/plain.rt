@@ -12,10 +12,16 @@ ghost use Rattle.rmt_config.specs.Agreement.{AgreesWith};
 ghost use Rattle.rmt_config.specs.declared.config.TailOf.{TailOf};
 ghost use Rattle.rmt_config.specs.ParserForm.{parser_is_formed};
 
-use crate::entries::{push_entries, push_tails};
+mod cases;
+mod entries;
+mod headers;
+pub mod need;
+mod pieces;
+
 use crate::fault::ParserFault;
-use crate::headers::is_looked_up;
-use crate::need::parser_need;
+use crate::plain::entries::{push_entries, push_tails};
+use crate::plain::headers::is_looked_up;
+use crate::plain::need::parser_need;
 use rmt_ast::program::{Header, Program};
 use rmt_bits::answer::Bytes;
 use rmt_bits::sequence::Sequence;

@@ -1,7 +1,7 @@
 use Rattle.std.proofs.Common.{◌≡◌, List, Some, ap, arith, length, subst, sym, ◌∙◌}
 use Rattle.std.proofs.lemmas.List.{length-map}
 use Rattle.rmt_ptcam.specs.Types.{ParserConfig}
-use Rattle.rmt_ptcam.specs.declared.grouped.StateRows.{StateRows}
+use Rattle.rmt_ptcam.specs.declared.joining.rows.StateRows.{StateRows}
 use Rattle.rmt_ptcam.specs.Grouping.{Stand, all_rows, by_state, parser_in}
 use Rattle.rmt_ptcam.specs.Joining.{IsGood, Row}
 use Rattle.rmt_ptcam.proofs.GroupLaws.{stand_again}

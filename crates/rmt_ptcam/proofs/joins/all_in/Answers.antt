@@ -1,5 +1,5 @@
 use Rattle.std.proofs.Common.{◌≡◌, ◌+◌, cond, List, None, Some, ap, drop, get_or, sym, ◌∙◌}
-use Rattle.rmt_ptcam.specs.declared.grouped.StateRows.{StateRows}
+use Rattle.rmt_ptcam.specs.declared.joining.rows.StateRows.{StateRows}
 use Rattle.rmt_ptcam.specs.declared.joins.Join.{Join}
 use Rattle.rmt_ptcam.specs.Grouping.{joined_in, parser_in}
 use Rattle.rmt_ptcam.specs.Joins.{behind_joins}

@@ -3,7 +3,7 @@ use Rattle.std.specs.Prelude.{Some, option_map}
 use Rattle.std.proofs.lemmas.List.{length-map}
 use Rattle.rmt_config.specs.Parser.{parse}
 use Rattle.rmt_ptcam.specs.Types.{ParserConfig}
-use Rattle.rmt_ptcam.specs.declared.grouped.StateRows.{StateRows}
+use Rattle.rmt_ptcam.specs.declared.joining.rows.StateRows.{StateRows}
 use Rattle.rmt_ptcam.specs.Clustering.{compact}
 use Rattle.rmt_ptcam.specs.Grouping.{Stand, all_rows, by_state, parser_in}
 use Rattle.rmt_ptcam.specs.Joining.{KeepsForm, Row}

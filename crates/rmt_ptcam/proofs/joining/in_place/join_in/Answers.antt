@@ -1,0 +1,32 @@
+use Rattle.std.proofs.Common.{◌≡◌, List, Some, ap, get_or, sym, subst, ◌∙◌}
+use Rattle.std.specs.Prelude.{map, slice_set}
+use Rattle.std.proofs.lemmas.Option.{get_or_from_slice_get}
+use Rattle.rmt_ptcam.specs.declared.joining.rows.StateRows.{StateRows}
+use Rattle.rmt_ptcam.specs.Grouping.{put_in, stand_in_for, widened_row}
+use Rattle.rmt_ptcam.proofs.InPlaceLaws.{IsMade, made, made_in, made_same}
+use Rattle.rmt_ptcam.proofs.joining.in_place.join_in.Goals as goal
+
+pub put_in-requires-clause-same : goal.put_in-requires-clause-same
+put_in-requires-clause-same c =
+    let g : List StateRows = c.args.groups.now in
+    let new : StateRows = c.in-Some.others in
+    let d : StateRows = c.index-groups-from.result in
+    let some : stand_in_for g c.args.join ≡ Some new = sym c.in_ok-stand_in_for.ensures ∙ c.in-Some.is in
+    let is : IsMade g c.args.join new = made g c.args.join new some in
+    let own : get_or g c.from.result d ≡ is.s = ap (λ k. get_or g k d) c.from.ensures ∙ get_or_from_slice_get g c.args.join.state is.s d is.at_n in
+    subst (λ (u : StateRows). new.lookups ≡ u.lookups → map (widened_row u.lookups u.lookups) u.rows ≡ u.rows) (sym own) (made_same g c.requires.stand c.args.join new some)
+
+pub returns-in_ok-put_in-in-Some : goal.returns-in_ok-put_in-in-Some
+returns-in_ok-put_in-in-Some c =
+    let g : List StateRows = c.args.groups.now in
+    let new : StateRows = c.in-Some.others in
+    let d : StateRows = c.index-groups-from.result in
+    let j = c.args.join in
+    let some : stand_in_for g j ≡ Some new = sym c.in_ok-stand_in_for.ensures ∙ c.in-Some.is in
+    let is : IsMade g j new = made g j new some in
+    let own : get_or g c.from.result d ≡ is.s = ap (λ k. get_or g k d) c.from.ensures ∙ get_or_from_slice_get g j.state is.s d is.at_n in
+    let put : c.put_in.new.state ≡ put_in is.s j.entry new =
+    c.in_ok-put_in-in-Some.ensures ∙ ap (λ (u : StateRows). put_in u c.from-at.result new) own ∙ ap (λ k. put_in is.s k new) c.from-at.ensures in
+    record {
+      made = ap Some (ap (λ k. slice_set g k c.put_in.new.state) c.from.ensures ∙ ap (slice_set g j.state) put) ∙ sym (made_in g c.requires.stand j new some);
+    }
