@@ -14,7 +14,7 @@ use Rattle.rmt_ptcam.specs.Plain.{plain}
 use Rattle.rmt_ptcam.specs.Joining.{join_of, can_join, joined_entry, together, widened_entry}
 use Rattle.rmt_ptcam.specs.ByteTests.{ByteTest, joined_tests, tests_of}
 use Rattle.rmt_ptcam.specs.Words.{byte_at, spread}
-use Rattle.rmt_ptcam.specs.Clustering.{arrivals, clustered}
+use Rattle.rmt_ptcam.specs.Clustering.{arrivals, clustered, with_next}
 use Rattle.rmt_ptcam.specs.Joins.{join_named, joins as joins_told, replayed}
 
 abbrev lane : ℕ → ℕ → ℕ → Lane
@@ -324,6 +324,10 @@ three = record two_headers {
 three_states : (clustered three []).states ≡ record { lookups = 0 ∷ 1 ∷ [] } ∷ []
 unfolding together
 three_states = refl
+
+-- a state that is met stands once
+met_once : with_next (0 ∷ 2 ∷ []) (next.State 2) ∷ with_next (0 ∷ 2 ∷ []) (next.State 1) ∷ with_next (0 ∷ []) next.Accept ∷ [] ≡ (0 ∷ 2 ∷ []) ∷ (0 ∷ 2 ∷ 1 ∷ []) ∷ (0 ∷ []) ∷ []
+met_once = refl
 
 three_values : map (λ (e : ParserEntry). e.value) (clustered three []).entries ≡ 0x01020000 ∷ 0x01000000 ∷ 0 ∷ []
 unfolding together

@@ -1,6 +1,6 @@
 -- A parser without the states that can't be met parses alike.
 use Rattle.std.proofs.Common.{◌≡◌, ◌&&◌, cond, eqb, nat_lt, Bool, true, false, ℕ, zero, suc, ◌+◌, ◌-◌, ◌*◌, ◌%◌, ◌^◌, ◌<◌, ◌≤◌, List, [], ◌∷◌, ◌++◌, get_or, length, map, find, take, drop, fold, Option, Some, None, refl, sym, ap, subst, ◌∙◌, inl, inr, arith}
-use Rattle.std.specs.Prelude.{All, IfSome, bit_and, option_map, slice_get, unwrap_or}
+use Rattle.std.specs.Prelude.{◌||◌, All, IfSome, bit_and, option_map, slice_get, unwrap_or}
 use Rattle.std.specs.List.{filter, range_with_len}
 use Rattle.std.specs.List.Sorted.{IsNonDecreasingBy}
 use Rattle.std.proofs.lemmas.Bool.{cases_order, and_parts, and_from, lt-ltb, ltb-true, eqb-true, eq-eqb, ne_eqb, or_cases, or_left, or_right, false_from_ne_true}
@@ -21,7 +21,7 @@ use Rattle.rmt_config.specs.ParserForm.{lookups_of, next_is_formed, state_is_for
 use Rattle.rmt_ptcam.specs.Adding.{Adds}
 use Rattle.rmt_ptcam.specs.Joining.{IsGood, KeepsForm, ParsesAlike, Row, is_among, parser_of, rows_of, tails_in}
 use Rattle.rmt_ptcam.specs.Steps.{parse_within}
-use Rattle.rmt_ptcam.specs.Clustering.{compact, is_met, met_states, number_in, renamed, renamed_next, state_behind, states_kept}
+use Rattle.rmt_ptcam.specs.Clustering.{compact, is_met, met_states, number_in, renamed, renamed_next, states_kept, with_next}
 use Rattle.rmt_ptcam.proofs.AddingLaws.{filter_short, length_rows}
 use Rattle.rmt_ptcam.proofs.FormedRows.{IsFormed, IsRow, entries_of_rows, formed_parts, rows_are, split_at}
 use Rattle.rmt_ptcam.proofs.TailForms.{IsRowTail}
@@ -32,15 +32,41 @@ use Rattle.rmt_ptcam.proofs.RowLaws.{hits, row_step, taken_made, taken_row}
 
 -- ---- the states that are met
 
+-- the state that is gone to
+abbrev pub state_behind : Next → List ℕ
+state_behind next.Accept = []
+state_behind next.Reject = []
+state_behind (next.State s) = s ∷ []
+
+or_none : (b : Bool) → b ≡ (b || false)
+or_none true = refl
+or_none false = refl
+
+-- then the states are met that were, and the one that is gone to
+pub among_next : (met : List ℕ) (to : Next) (s : ℕ) → is_among (with_next met to) s ≡ (is_among met s || is_among (state_behind to) s)
+among_next met next.Accept s = or_none (is_among met s)
+among_next met next.Reject s = or_none (is_among met s)
+among_next met (next.State t) s = by (is_among met t) refl
+  where
+    new : (b : Bool) → eqb t s ≡ b → is_among met t ≡ true → is_among met s ≡ (is_among met s || (eqb t s || false))
+    new true same own =
+        let is : is_among met s ≡ true = ap (is_among met) (sym (eqb-true t s same)) ∙ own in
+        is ∙ sym (or_left (is_among met s) (eqb t s || false) is)
+    new false other own = or_none (is_among met s) ∙ ap (λ (b : Bool). is_among met s || (b || false)) (sym other)
+
+    by : (b : Bool) → is_among met t ≡ b → is_among (cond b met (met ++ t ∷ [])) s ≡ (is_among met s || (eqb t s || false))
+    by true own = new (eqb t s) refl own
+    by false none = list_any-append (λ y. eqb y s) met (t ∷ [])
+
 abbrev meet : List ℕ → ParserEntry → List ℕ
-meet met e = cond (is_among met e.state) (met ++ state_behind e.next) met
+meet met e = cond (is_among met e.state) (with_next met e.next) met
 
 -- a met state stays met
 stays_one : (met : List ℕ) (e : ParserEntry) (s : ℕ) → is_among met s ≡ true → is_among (meet met e) s ≡ true
 stays_one met e s is = by (is_among met e.state)
   where
-    by : (b : Bool) → is_among (cond b (met ++ state_behind e.next) met) s ≡ true
-    by true = list_any-append (λ y. eqb y s) met (state_behind e.next) ∙ or_left (is_among met s) (is_among (state_behind e.next) s) is
+    by : (b : Bool) → is_among (cond b (with_next met e.next) met) s ≡ true
+    by true = among_next met e.next s ∙ or_left (is_among met s) (is_among (state_behind e.next) s) is
     by false = is
 
 stays : (es : List ParserEntry) (met : List ℕ) (s : ℕ) → is_among met s ≡ true → is_among (fold meet met es) s ≡ true
@@ -66,9 +92,9 @@ met_before (e ∷ es) met s later is =
     let here : (s ≤ e.state) × GoesLater e = All-head (λ (x : ParserEntry). (s ≤ x.state) × GoesLater x) e es later in
     by (is_among met e.state) here (met_before es (meet met e) s (All-tail (λ (x : ParserEntry). (s ≤ x.state) × GoesLater x) e es later) is)
   where
-    by : (b : Bool) → (s ≤ e.state) × GoesLater e → is_among (cond b (met ++ state_behind e.next) met) s ≡ true → is_among met s ≡ true
+    by : (b : Bool) → (s ≤ e.state) × GoesLater e → is_among (cond b (with_next met e.next) met) s ≡ true → is_among met s ≡ true
     by false here found = found
-    by true here found = elim (or_cases (is_among met s) (is_among (state_behind e.next) s) (sym (list_any-append (λ y. eqb y s) met (state_behind e.next)) ∙ found)) [
+    by true here found = elim (or_cases (is_among met s) (is_among (state_behind e.next) s) (sym (among_next met e.next s) ∙ found)) [
       | inl own ↦ own
       | inr new ↦ (let lt = here.1 s (behind_is e.next s new) in let le = here.0 in absurd (omega (arith, lt, le)))
     ]
@@ -81,8 +107,8 @@ met_next front back e met t later goes is =
     let before : List ℕ = fold meet met front in
     let own : is_among before e.state ≡ true = met_before (e ∷ back) before e.state later (sym (ap (λ (ms : List ℕ). is_among ms e.state) all) ∙ is) in
     let here : is_among (meet before e) t ≡ true =
-    ap (λ (b : Bool). is_among (cond b (before ++ state_behind e.next) before) t) own
-    ∙ list_any-append (λ y. eqb y t) before (state_behind e.next)
+    ap (λ (b : Bool). is_among (cond b (with_next before e.next) before) t) own
+    ∙ among_next before e.next t
     ∙ or_right (is_among before t) (is_among (state_behind e.next) t) (ap (λ (x : Next). is_among (state_behind x) t) goes ∙ or_left (eqb t t) false (eq-eqb t t refl)) in
     ap (λ (ms : List ℕ). is_among ms t) all ∙ stays back (meet before e) t here
 

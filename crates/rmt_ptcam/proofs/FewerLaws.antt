@@ -11,10 +11,10 @@ use Rattle.rmt_ast.specs.declared.program.Target.TheVariants as target
 use Rattle.rmt_config.specs.declared.config.Next.TheVariants as next
 use Rattle.std.proofs.lemmas.Option.{same_Some}
 use Rattle.rmt_bits.specs.declared.lane.Lane.{Lane}
-use Rattle.std.proofs.lemmas.List.Folds.{list_any-append}
 use Rattle.rmt_bits.proofs.ListLaws.{range_more, slice_get-end, slice_get-item, take-slice_get}
 use Rattle.rmt_ptcam.specs.Joining.{KeepsForm, Row, can_join, entries_in, is_among, join_at, join_to, joined, joined_row, lookups_at, number_of_entry, rows_in, rows_of, together, widened, widened_entry}
-use Rattle.rmt_ptcam.specs.Clustering.{Clustering, all_joined, arrivals, behind_join, clustered, compact, is_met, is_wanted, one_entry, one_header, renamed, some_entries, state_behind, targets_of}
+use Rattle.rmt_ptcam.specs.Clustering.{Clustering, all_joined, arrivals, behind_join, clustered, compact, is_met, is_wanted, one_entry, one_header, renamed, some_entries, targets_of, with_next}
+use Rattle.rmt_ptcam.proofs.CompactLaws.{among_next, state_behind}
 use Rattle.rmt_ptcam.proofs.FormedRows.{entries_of_rows, split_at}
 use Rattle.rmt_ptcam.proofs.AddingLaws.{filter_short}
 use Rattle.rmt_ptcam.proofs.JoinFacts.{MayJoin, may_join}
@@ -719,10 +719,10 @@ entries_shapes p places n (h ∷ hs) =
 
 -- ---- states that are met are gone to
 
-met_arrived : (es : List ParserEntry) (met : List ℕ) (s : ℕ) → is_among (fold (λ (ms : List ℕ) (e : ParserEntry). cond (is_among ms e.state) (ms ++ state_behind e.next) ms) met es) s ≡ true
+met_arrived : (es : List ParserEntry) (met : List ℕ) (s : ℕ) → is_among (fold (λ (ms : List ℕ) (e : ParserEntry). cond (is_among ms e.state) (with_next ms e.next) ms) met es) s ≡ true
     → (is_among met s ≡ true) ⊎ (0 < edges s (map shape es))
 met_arrived [] met s is = inl is
-met_arrived (e ∷ es) met s is = by (is_among met e.state) (met_arrived es (cond (is_among met e.state) (met ++ state_behind e.next) met) s is)
+met_arrived (e ∷ es) met s is = by (is_among met e.state) (met_arrived es (cond (is_among met e.state) (with_next met e.next) met) s is)
   where
     more : edges s (map shape (e ∷ es)) ≡ length (cond (leads s e.next) (shape e ∷ filter (edge s) (map shape es)) (filter (edge s) (map shape es)))
     more = refl
@@ -736,10 +736,10 @@ met_arrived (e ∷ es) met s is = by (is_among met e.state) (met_arrived es (con
     new_one next.Reject found = absurd cc
     new_one (next.State k) found = elim (or_cases (eqb k s) false found) [ inl same ↦ same | inr none ↦ absurd cc ]
 
-    by : (b : Bool) → (is_among (cond b (met ++ state_behind e.next) met) s ≡ true) ⊎ (0 < edges s (map shape es)) → (is_among met s ≡ true) ⊎ (0 < edges s (map shape (e ∷ es)))
+    by : (b : Bool) → (is_among (cond b (with_next met e.next) met) s ≡ true) ⊎ (0 < edges s (map shape es)) → (is_among met s ≡ true) ⊎ (0 < edges s (map shape (e ∷ es)))
     by b (inr lt) = inr (later (leads s e.next) lt)
     by false (inl found) = inl found
-    by true (inl found) = elim (or_cases (is_among met s) (is_among (state_behind e.next) s) (sym (list_any-append (λ y. eqb y s) met (state_behind e.next)) ∙ found)) [
+    by true (inl found) = elim (or_cases (is_among met s) (is_among (state_behind e.next) s) (sym (among_next met e.next s) ∙ found)) [
       | inl old_one ↦ inl old_one
       | inr fresh ↦ inr (let here : leads s e.next ≡ true = new_one e.next fresh in
           subst (λ (b : Bool). 0 < length (cond b (shape e ∷ filter (edge s) (map shape es)) (filter (edge s) (map shape es)))) (sym here) (let e : 0 < suc (length (filter (edge s) (map shape es))) = omega arith in e))

@@ -64,15 +64,15 @@ all_joined p parser = fold (one_header p) parser (reverse (range_with_len 0 (len
 
 -- ---- states that are met
 
--- the state that is gone to
-abbrev pub state_behind : Next → List ℕ
-state_behind next.Accept = []
-state_behind next.Reject = []
-state_behind (next.State s) = s ∷ []
+-- the states that are met, and the one that is gone to, each once
+abbrev pub with_next : List ℕ → Next → List ℕ
+with_next met next.Accept = met
+with_next met next.Reject = met
+with_next met (next.State s) = if is_among met s then met else met ++ s ∷ []
 
 -- the states that can be met: the first one, and those that an entry of a met state goes to; entries stand by state and go to later states
 abbrev pub met_states : List ParserEntry → List ℕ
-met_states es = fold (λ (met : List ℕ) (e : ParserEntry). if is_among met e.state then met ++ state_behind e.next else met) (0 ∷ []) es
+met_states es = fold (λ (met : List ℕ) (e : ParserEntry). if is_among met e.state then with_next met e.next else met) (0 ∷ []) es
 
 abbrev pub is_met : ParserConfig → ℕ → Bool
 is_met parser s = is_among (met_states parser.entries) s

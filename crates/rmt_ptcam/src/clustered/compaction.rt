@@ -4,7 +4,7 @@ ghost use Rattle.std.specs.Prelude.{◌≡◌, ◌≤◌, ◌<◌, ◌+◌, ◌+
 ghost use Rattle.std.specs.List.{filter};
 ghost use Rattle.rmt_ptcam.specs.Adding.{Adds};
 ghost use Rattle.rmt_ptcam.specs.Joining.{IsGood, KeepsForm, Row, is_among as is_among_of, rows_of};
-ghost use Rattle.rmt_ptcam.specs.Clustering.{state_behind, met_states as met_states_of, number_in as number_in_of, renamed_next as renamed_next_of, renamed as renamed_of, states_kept as states_kept_of, compact as compact_of};
+ghost use Rattle.rmt_ptcam.specs.Clustering.{with_next, met_states as met_states_of, number_in as number_in_of, renamed_next as renamed_next_of, renamed as renamed_of, states_kept as states_kept_of, compact as compact_of};
 
 use crate::joining::copied;
 use crate::joining::entry_rows::{copied_extracts, push_row};
@@ -15,12 +15,14 @@ use rmt_bits::sequence::Sequence;
 use rmt_config::config::{Next, ParserConfig, ParserEntry, ParserState, TailOf};
 use std::alloc::{AllocError, Global};
 
-/// Adds the state that is gone to.
+/// Adds the state that is gone to, where it isn't there yet.
 fn push_next(met: &mut Bytes, next: Next) -> Result<(), AllocError>
-    ensures { OnOk result (met.new ≡ met.old ++ state_behind next) }
+    ensures { OnOk result (met.new ≡ with_next met.old next) }
 {
     if let Next::State(state) = next {
-        met.push(state)?;
+        if !is_among(met.as_slice(), state) {
+            met.push(state)?;
+        }
     }
     Ok(())
 }
