@@ -18,8 +18,6 @@ use Rattle.rmt_chip.specs.Looked.{Finds, LookedFor, AllLooked}
 use Rattle.rmt_chip.specs.Counting.{hits_made}
 use Rattle.rmt_chip.specs.Ran.{held_of, running_of, all_running, CountsAlso, HaveDone, base_after}
 
--- ---- guards
-
 -- ---- what runs, and what is counted
 
 running_more : (stage : Stage) (looked : List Looked) (running : List Ran) (r : Ran) → all_running stage.code looked (running ++ r ∷ []) ≡ running_of stage.code looked r ∷ all_running stage.code looked running
@@ -35,13 +33,9 @@ made_more bytes made one =
     ap (map (λ (c : Counted). record { number = c.number; bytes = bytes })) (reverse-append (one ∷ []) made)
     ∙ map_push (λ (c : Counted). record { number = c.number; bytes = bytes }) (reverse made) one
 
-also_more : (a b c : List Count) (m n : List Hit) → CountsAlso a b m → CountsAlso b c n → CountsAlso a c (m ++ n)
+pub also_more : (a b c : List Count) (m n : List Hit) → CountsAlso a b m → CountsAlso b c n → CountsAlso a c (m ++ n)
 also_more a b c m n one two numbers hits were =
     two numbers (hits ++ m) (one numbers hits were) ∙ ap (λ (hs : List Hit). counts numbers hs) (append_assoc hits m n)
-
--- no hit counts nothing
-pub also_none : (bytes : ℕ) (a : List Count) → CountsAlso a a (hits_made bytes [])
-also_none bytes a numbers hits were = were ∙ ap (λ (hs : List Hit). counts numbers hs) (sym (append-nil hits))
 
 -- a hit that is counted where hits are
 abbrev pub one_if : Bool → ℕ → ℕ → List Hit

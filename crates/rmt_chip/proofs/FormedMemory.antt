@@ -1,5 +1,5 @@
 -- What the rules of form say of the memory of a slot.
-use Rattle.std.proofs.Common.{◌≡◌, ℕ, ◌+◌, ◌*◌, ◌^◌, ◌<◌, List, [], length, get_or, true, refl, ap, ◌∙◌, subst, arith}
+use Rattle.std.proofs.Common.{◌≡◌, ℕ, ◌+◌, ◌*◌, ◌^◌, ◌<◌, List, [], length, get_or, true, refl, ap, ◌∙◌, subst}
 use Rattle.std.proofs.lemmas.Bool.{and_parts, eqb-true, ltb-true}
 use Rattle.std.proofs.lemmas.List.{nil_from_length}
 use Rattle.rmt_chip.specs.Types.{Stage, SlotUnit, Memory}
@@ -10,7 +10,8 @@ use Rattle.rmt_config.specs.Cells.{cells_in}
 use Rattle.rmt_config.specs.UnitForm.{slot_head_is_formed, memory_is_formed}
 use Rattle.rmt_config.specs.MemoryRules.{ExactFits, TernaryFits}
 use Rattle.rmt_config.proofs.SlotLaws.{exact-fits, ternary-fits, without-numbers}
-use Rattle.rmt_chip.specs.Memories.{SlotFormed, NumbersFit, WaysFit}
+use Rattle.rmt_config.specs.KeysSeen.{WaysLow}
+use Rattle.rmt_chip.specs.Memories.{SlotFormed, NumbersFit}
 use Rattle.rmt_chip.proofs.CellLaws.{cells-rise, cell-below}
 
 module _ (stage : Stage) (s : SlotUnit) (formed : SlotFormed stage s) where
@@ -38,7 +39,7 @@ module _ (stage : Stage) (s : SlotUnit) (formed : SlotFormed stage s) where
     exact-numbers-fit = numbers-fit (Exact k p d w ks rs cs) (4096 * d * p) e refl
 
     pub exact-ways : w + 3 < 256
-    exact-ways = subst WaysFit e formed.ways
+    exact-ways = subst WaysLow e formed.ways
 
   module _ (d : ℕ) (ks rs cs : List ℕ) (e : s.memory ≡ Ternary d ks rs cs) where
     pub ternary-facts : TernaryFits s d ks rs

@@ -1,14 +1,13 @@
 -- The slots of a configuration that keeps the rules of form are ones whose memory can be laid out.
-use Rattle.std.proofs.Common.{◌≡◌, ℕ, ◌+◌, ◌*◌, ◌^◌, ◌<◌, List, [], ◌∷◌, get_or, map, true, arith}
+use Rattle.std.proofs.Common.{◌≡◌, ℕ, ◌+◌, ◌^◌, ◌<◌, List, [], ◌∷◌, get_or, map, true, arith}
 use Rattle.std.specs.Prelude.{All}
 use Rattle.std.specs.List.{list_all}
-use Rattle.std.proofs.lemmas.Bool.{and_parts, eqb-true, ltb-true}
+use Rattle.std.proofs.lemmas.Bool.{and_parts, ltb-true}
 use Rattle.std.proofs.lemmas.List.Elements.{All-cons, All-head, All-tail}
 use Rattle.std.proofs.lemmas.List.Sums.{AllPass-from_list_all}
 use Rattle.rmt_bits.proofs.AllLaws.{All-left, All-right, All-unmap}
-use Rattle.rmt_chip.specs.Types.{Config, Stage, TcamRow, Unit as ChipUnit, SlotUnit, Memory}
+use Rattle.rmt_chip.specs.Types.{Config, Stage, TcamRow, Unit as ChipUnit}
 use Rattle.rmt_config.specs.declared.config.Unit.TheVariants.{Gate, Slot}
-use Rattle.rmt_config.specs.declared.config.Memory.TheVariants.{Without, Exact, Ternary}
 use Rattle.rmt_config.specs.UnitForm.{slot_head_is_formed, memory_is_formed, unit_is_formed}
 use Rattle.rmt_config.specs.StageForm.{trow_fits, stage_is_formed, rows_are_formed}
 use Rattle.rmt_config.specs.TableForm.{Placed, placed_from, placed_units}
@@ -17,20 +16,8 @@ use Rattle.rmt_config.specs.MemoryRules.{FormedRows}
 use Rattle.rmt_config.specs.Form.{Formed, visible_with}
 use Rattle.rmt_config.proofs.SlotLaws.{formed-rows}
 use Rattle.rmt_config.proofs.CountsLemmas.{stages_of_items}
-use Rattle.rmt_chip.specs.Memories.{WaysFit, UnitFormed}
-use Rattle.rmt_config.proofs.SpelledWays.{Follows, FollowsAt, each-follows}
-
--- ---- the ways of a part are numbered behind those of the parts before it
-
-ways-fit : (s : SlotUnit) (m : Memory) → FollowsAt m → memory_is_formed s m ≡ true → WaysFit m
-ways-fit s Without at h = tt
-ways-fit s (Exact k p d w ks rs cs) at h =
-    let p7 = and_parts _ _ (and_parts _ _ (and_parts _ _ (and_parts _ _ h).0).0).0 in
-    let p5 = and_parts _ _ (and_parts _ _ p7.0).0 in
-    let byte : w < 256 = ltb-true w 256 p5.1 in
-    let four : w ≡ 4 * at.parts = eqb-true w (4 * at.parts) at.follow in
-    omega (arith, byte, four)
-ways-fit s (Ternary d ks rs cs) at h = tt
+use Rattle.rmt_chip.specs.Memories.{UnitFormed}
+use Rattle.rmt_config.proofs.SpelledWays.{Follows, each-follows, ways-low}
 
 -- ---- the slots of a stage
 
@@ -53,7 +40,7 @@ units-formed visible stage rows values ((Slot s) ∷ units) first form holds fol
       visible = visible;
       first = first;
       holds = All-head P (record { first = first; slot = s }) rest holds;
-      ways = ways-fit s s.memory (All-head Follows (Slot s) units follow) memory;
+      ways = ways-low s s.memory (All-head Follows (Slot s) units follow) memory;
     })
     (units-formed visible stage rows values units (first + s.actions + 1) parts.1 (All-tail P (record { first = first; slot = s }) rest holds) (All-tail Follows (Slot s) units follow))
 

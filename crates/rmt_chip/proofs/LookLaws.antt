@@ -66,3 +66,7 @@ looked_more look k words units xs i new u inside within here before j v d lt =
     set_each (λ (m : ℕ) (l : Looked). (w : Unit) → LookedFor look k m words (get_or units m w) l) xs i new (i + 1) within
     (λ w. subst (λ (x : Unit). LookedFor look k i words x new) (get_or_default units i u w inside) here)
     (λ m e below apart w. before m w e (omega arith)) j d lt v
+
+-- a unit that was read from the list of its stage
+pub unit_at : (units read : List Unit) (i : ℕ) (unit : Unit) → read ≡ units → i < length read → unit ≡ get_or read i unit → (i < length units) × (get_or units i unit ≡ unit)
+unit_at units read i unit same lt is = (subst (λ (us : List Unit). i < length us) same lt, sym (is ∙ ap (λ (us : List Unit). get_or us i unit) same))

@@ -1,16 +1,20 @@
 -- What a stage keeps for a packet has room.
-use Rattle.std.proofs.Common.{◌≡◌, ◌≢◌, ℕ, zero, suc, set, Option, Some, Vec, Global, refl, ⊎_elim, ◌⊎◌, inl, inr, ◌++◌, ◌<◌, ◌≤◌, List, [], ◌∷◌, length, get_or, All, sym, ap, ◌∙◌, subst, arith}
+use Rattle.std.proofs.Common.{◌≡◌, ◌≢◌, ℕ, zero, suc, set, true, Option, Some, Vec, Global, refl, ⊎_elim, ◌⊎◌, inl, inr, ◌++◌, ◌<◌, ◌≤◌, List, [], ◌∷◌, length, get_or, All, sym, ap, ◌∙◌, subst, arith}
 use Rattle.std.specs.Prelude.{slice_index, slice_get, option_map, unwrap_or}
 use Rattle.rmt_chip.specs.Types.{Stage, Unit}
 use Rattle.rmt_config.specs.declared.config.Unit.TheVariants.{Gate, Slot}
-use Rattle.rmt_config.specs.Life.{Look}
-use Rattle.std.proofs.lemmas.Bool.{cases_eq}
+use Rattle.rmt_config.specs.Life.{Look, Words, acts_of}
+use Rattle.std.proofs.lemmas.Bool.{cases_eq, false≢true}
 use Rattle.rmt_chip.specs.declared.looked.Looked.{Looked}
 use Rattle.rmt_chip.specs.declared.pending.Pending.{Pending}
 use Rattle.rmt_chip.specs.declared.packet_slot.PacketSlot.{PacketSlot}
 use Rattle.rmt_chip.specs.declared.ran.Ran.{Ran}
 use Rattle.rmt_chip.specs.declared.write.Write.{Write}
-use Rattle.rmt_chip.specs.Held.{SamePacket, LookedBy}
+use Rattle.rmt_bits.specs.declared.answer.Count.{Count}
+use Rattle.rmt_chip.specs.Counting.{hits_made}
+use Rattle.rmt_chip.specs.Held.{SamePacket, LookedBy, is_accepted}
+use Rattle.rmt_chip.specs.Hits.{CountedBy}
+use Rattle.rmt_chip.specs.Ran.{CountsAlso}
 use Rattle.rmt_chip.specs.Pending.{looked_at, running_at, due_at}
 use Rattle.rmt_chip.specs.Looked.{HaveRoom, AllLooked, held_bytes}
 use Rattle.rmt_chip.specs.Runnable.{StageFits, data_bits}
@@ -60,6 +64,13 @@ kept {A} part ps k p q lt is same j =
     (λ (apart : j ≢ k). ap found (set_there ps k j p apart))
     (cases_eq j k)
 
+-- the part of stage k that was put there
+put_looked : (new ps : List Pending) (k : ℕ) (p : Pending) → k < length ps → new ≡ set ps k p → looked_at new k ≡ p.looked.items
+put_looked new ps k p lt put = ap (λ (x : List Pending). looked_at x k) put ∙ ap (λ (x : Option Pending). unwrap_or (option_map (λ (y : Pending). y.looked.items) x) []) (set_here ps k p lt)
+
+found_looked : (ps : List Pending) (k : ℕ) (q : Pending) → slice_get ps k ≡ Some q → looked_at ps k ≡ q.looked.items
+found_looked ps k q is = ap (λ (x : Option Pending). unwrap_or (option_map (λ (y : Pending). y.looked.items) x) []) is
+
 pub looked_by : (look : Look) (k : ℕ) (stage : Stage) (old new : PacketSlot) (p q : Pending) → k < length old.pending.items → slice_get old.pending.items k ≡ Some q → new.pending.items ≡ set old.pending.items k p
     → SamePacket old new → new.vector ≡ old.vector → new.outcomes ≡ old.outcomes → p.running ≡ q.running → p.due ≡ q.due
     → AllLooked look k (λ v. slice_index old.vector v) stage p.looked.items → LookedBy look k stage old new
@@ -73,8 +84,16 @@ looked_by look k stage old new p q lt is put same v o r d looked =
       due = λ j. ap (λ (x : List Pending). due_at x j) put ∙ kept (λ (x : Pending). x.due.items) ps k p q lt is (ap (λ (x : Vec Write Global). x.items) d) j;
       others = λ j apart. ap (λ (x : List Pending). looked_at x j) put ∙ ap (λ (x : Option Pending). unwrap_or (option_map (λ (y : Pending). y.looked.items) x) []) (set_there ps k j p apart);
       looked = λ yes. subst (AllLooked look k (λ v. slice_index old.vector v) stage)
-          (sym (ap (λ (x : List Pending). looked_at x k) put ∙ ap (λ (x : Option Pending). unwrap_or (option_map (λ (y : Pending). y.looked.items) x) []) (set_here ps k p lt))) looked;
+          (sym (put_looked new.pending.items ps k p lt put)) looked;
     }
+
+pub counted_by : (k : ℕ) (stage : Stage) (old : PacketSlot) (q : Pending) (before after : List Count) → slice_get old.pending.items k ≡ Some q → is_accepted old.parsed ≡ true
+    → ((look : Look) (number : ℕ) (words : Words) → AllLooked look number words stage q.looked.items → CountsAlso before after (hits_made old.size (acts_of look number stage words old.outcomes).counted))
+    → CountedBy k stage old before after
+counted_by k stage old q before after is accepted counted = record {
+  rests = λ refused. absurd (false≢true (sym refused ∙ accepted));
+  counted = λ also look number words looked. counted look number words (subst (AllLooked look number words stage) (found_looked old.pending.items k q is) looked);
+}
 
 -- what stands in a list with one more
 pub push_slice : {A : Type 0} (xs : List A) (x : A) (k : ℕ) (p : A) → slice_get (xs ++ x ∷ []) k ≡ Some p → (slice_get xs k ≡ Some p) ⊎ ((k ≡ length xs) × (x ≡ p))

@@ -115,21 +115,22 @@ number-at numbers i rise lt =
 -- ---- a row of cells
 
 module _ (numbers : List CellNumber) (rise : rises_from 0 (map cell numbers) ≡ true) (p : ℕ → Bool) (P : ℕ → Type 0) (count : ℕ) (listed : (n : ℕ) → n < count → p n ≡ true → ListedAt numbers n) (holds : (j : ℕ) → j < length numbers → p (cell_at numbers j) ≡ true → P j) (passes : (j : ℕ) → j < length numbers → P j → p (cell_at numbers j) ≡ true) where
+  -- a listed cell of at least this number stands at or behind the place where those begin
+  place_low : (a from : ℕ) → SplitsAt numbers from a → {n : ℕ} (there : ListedAt numbers n) → a ≤ n → from ≤ there.at
+  place_low a from low there ln =
+      elim (cases_lt there.at from) as (λ _. from ≤ there.at) [
+        | inl less ↦ let below = low.below there.at nowhere less in let e = there.is in absurd (omega (arith, below, e, ln))
+        | inr more ↦ more
+      ]
+
   -- the first listed cell in a range whose places are known
   pub range-find : (a len from to : ℕ) → a + len ≤ count → SplitsAt numbers from a → SplitsAt numbers to (a + len) → (found : Option ℕ) → FirstIn P from to found
       → find p (range_with_len a len) ≡ option_map (cell_at numbers) found
   range-find a len from to most low high None h =
       find-range_none p a len (λ n ln lt. false_from_ne_true (p n) (λ pass.
       let there = listed n (omega (arith, lt, most)) pass in
-      h there.at (place_low there ln) (place_high there lt) (holds there.at there.within (ap p there.is ∙ pass))))
+      h there.at (place_low a from low there ln) (place_high there lt) (holds there.at there.within (ap p there.is ∙ pass))))
     where
-      place_low : {n : ℕ} (there : ListedAt numbers n) → a ≤ n → from ≤ there.at
-      place_low there ln =
-          elim (cases_lt there.at from) as (λ _. from ≤ there.at) [
-            | inl less ↦ let below = low.below there.at nowhere less in let e = there.is in absurd (omega (arith, below, e, ln))
-            | inr more ↦ more
-          ]
-
       place_high : {n : ℕ} (there : ListedAt numbers n) → n < a + len → there.at < to
       place_high there lt =
           elim (cases_lt there.at to) as (λ _. there.at < to) [
@@ -142,15 +143,8 @@ module _ (numbers : List CellNumber) (rise : rises_from 0 (map cell numbers) ≡
       let most_i : cell_at numbers i < a + len = high.below i nowhere h.1 in
       find-range_some p a len (cell_at numbers i) least most_i (passes i inside h.2) (λ n ln lt. false_from_ne_true (p n) (λ pass.
       let there = listed n (omega (arith, lt, most_i, most)) pass in
-      h.3 there.at (place_low there ln) (place_before there inside lt) (holds there.at there.within (ap p there.is ∙ pass))))
+      h.3 there.at (place_low a from low there ln) (place_before there inside lt) (holds there.at there.within (ap p there.is ∙ pass))))
     where
-      place_low : {n : ℕ} (there : ListedAt numbers n) → a ≤ n → from ≤ there.at
-      place_low there ln =
-          elim (cases_lt there.at from) as (λ _. from ≤ there.at) [
-            | inl less ↦ let below = low.below there.at nowhere less in let e = there.is in absurd (omega (arith, below, e, ln))
-            | inr more ↦ more
-          ]
-
       place_before : {n : ℕ} (there : ListedAt numbers n) → i < length numbers → n < cell_at numbers i → there.at < i
       place_before there inside lt =
           elim (cases_lt there.at i) as (λ _. there.at < i) [

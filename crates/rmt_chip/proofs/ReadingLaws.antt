@@ -1,5 +1,5 @@
 -- What the units of a configuration read that keeps the rules of form and the limits, and what its own look-ups look into.
-use Rattle.std.proofs.Common.{◌≡◌, ℕ, ◌+◌, ◌*◌, ◌^◌, ◌<◌, ◌≤◌, true, cond, not, ◌&&◌, ltb, leb, eqb, List, [], ◌∷◌, length, get_or, All, Option, Some, refl, ap, ◌∙◌, arith}
+use Rattle.std.proofs.Common.{◌≡◌, ℕ, ◌+◌, ◌*◌, ◌^◌, ◌≤◌, true, cond, not, ◌&&◌, ltb, leb, eqb, List, [], ◌∷◌, length, All, Option, Some, refl, ap, ◌∙◌, arith}
 use Rattle.std.specs.Prelude.{slice_get, count_by, option_and_then, bit_and}
 use Rattle.std.specs.List.{list_all}
 use Rattle.std.proofs.lemmas.Bool.{ltb-true, leb-true, eqb-true, and_parts}
@@ -131,9 +131,8 @@ stage_reads s formed slots gates =
 -- ---- look-ups
 
 -- a configuration's own look-ups look into its slots
-pub own_looks : (c : Config) (k : ℕ) (d : Stage) → k < length c.stages → LooksInto c.seed (get_or c.stages k d) (own_look c) k
-own_looks c k d inside i u below s is key =
-    let stage = get_or c.stages k d in
-    ap (λ (o : Option Stage). option_and_then (λ (t : Stage). slot_look c.seed t (slice_get t.units i) key) o) (slice_get-get_or c.stages k d inside)
+pub own_looks : (c : Config) (k : ℕ) (stage : Stage) → slice_get c.stages k ≡ Some stage → LooksInto c.seed stage (own_look c) k
+own_looks c k stage found i u below s is key =
+    ap (λ (o : Option Stage). option_and_then (λ (t : Stage). slot_look c.seed t (slice_get t.units i) key) o) found
     ∙ ap (λ (o : Option ChipUnit). slot_look c.seed stage o key) (slice_get-get_or stage.units i u below)
     ∙ ap (λ (v : ChipUnit). slot_look c.seed stage (Some v) key) is

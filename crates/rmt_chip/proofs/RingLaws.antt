@@ -23,6 +23,12 @@ partly-below bound t h = grind (arith, nat_tests)
 pub partly-from : (bound t : ℕ) → bound ≤ t → partly bound t ≡ t - 1
 partly-from bound t h = grind (arith, nat_tests)
 
+pub next-below : (bound t : ℕ) → t < bound → partly_next bound t ≡ t + 1
+next-below bound t h = grind (arith, nat_tests)
+
+pub next-from : (bound t : ℕ) → bound ≤ t → partly_next bound t ≡ t
+next-from bound t h = grind (arith, nat_tests)
+
 pub done_none : (stages : List Stage) (after : ℕ) → done_before stages after 0 ≡ 0
 done_none stages after = refl
 
@@ -66,7 +72,60 @@ quiet stages after k t rise within from until j hj e =
         let grown : start_of stages j ≤ start_of stages k = grow j k (omega arith) (omega arith) in
         omega arith
 
--- each place keeps a fact of its age
+-- ---- a pass: what it has done at ages below a bound, and not yet from there on
+
+module _ (Q : ℕ → ℕ → PacketSlot → Type 0) (age : ℕ → ℕ → ℕ) (done due : ℕ → ℕ) (below : (bound t : ℕ) → t < bound → age bound t ≡ done t) (above : (bound t : ℕ) → bound ≤ t → age bound t ≡ due t)
+    (stages : List Stage) (after newest : ℕ) (rise : Rise stages) (rests : (t : ℕ) (place : PacketSlot) → NoneAt stages after t → Q t (due t) place → Q t (done t) place) where
+  -- each place keeps a fact of its age
+  abbrev Upto : ℕ → List PacketSlot → Type 0
+  Upto bound places = (t : ℕ) (d : PacketSlot) → t < 385 → Q t (age bound t) (get_or places (ring_at newest t) d)
+
+  one_step : (k : ℕ) (places : List PacketSlot) (new : PacketSlot) → k < length stages → start_of stages k + after < 385 → newest < 385 → length places ≡ 385
+      → Upto (done_before stages after k) places → Q (start_of stages k + after) (done (start_of stages k + after)) new
+      → Upto (start_of stages k + after + 1) (set places (ring_at newest (start_of stages k + after)) new)
+  one_step k places new inside small ring full was now t d h =
+      let a = start_of stages k + after in
+      let b = done_before stages after k in
+      let le : b ≤ a = done_le stages after k rise inside in
+      ⊎_elim
+      (λ (e : t ≡ a).
+      let place : get_or (set places (ring_at newest a) new) (ring_at newest t) d ≡ new =
+      ap (λ n. get_or (set places (ring_at newest a) new) (ring_at newest n) d) e ∙ get_or-set_same places (ring_at newest a) new d (omega (arith, ring_at-lt newest a)) in
+      subst (Q t (age (a + 1) t)) (sym place) (subst (λ u. Q t u new) (sym (below (a + 1) t (omega arith))) (subst (λ u. Q u (done u) new) (sym e) now)))
+      (λ (apart : t ≢ a).
+      let other : ring_at newest t ≢ ring_at newest a = ring_at-apart newest t a ring h small apart in
+      let place : get_or (set places (ring_at newest a) new) (ring_at newest t) d ≡ get_or places (ring_at newest t) d = get_or-set_other places (ring_at newest a) (ring_at newest t) new d other in
+      let old = get_or places (ring_at newest t) d in
+      subst (Q t (age (a + 1) t)) (sym place)
+      (⊎_elim
+      (λ (l : t < a).
+      subst (λ u. Q t u old) (sym (below (a + 1) t (omega arith)))
+      (⊎_elim
+      (λ (f : t < b). subst (λ u. Q t u old) (below b t f) (was t d h))
+      (λ (f : b ≤ t). rests t old (quiet stages after k t rise (omega arith) f (λ _. l)) (subst (λ u. Q t u old) (above b t f) (was t d h)))
+      (cases_lt t b)))
+      (λ (l : a ≤ t). subst (λ u. Q t u old) (sym (above (a + 1) t (omega arith))) (subst (λ u. Q t u old) (above b t (omega arith)) (was t d h)))
+      (cases_lt t a)))
+      (cases_eq t a)
+
+  at_end : (places : List PacketSlot) → Upto (done_before stages after (length stages)) places → (t : ℕ) (d : PacketSlot) → t < 385 → Q t (done t) (get_or places (ring_at newest t) d)
+  at_end places was t d h =
+      let b = done_before stages after (length stages) in
+      let old = get_or places (ring_at newest t) d in
+      ⊎_elim
+      (λ (f : t < b). subst (λ u. Q t u old) (below b t f) (was t d h))
+      (λ (f : b ≤ t). rests t old (quiet stages after (length stages) t rise (omega arith) f (λ l. absurd (omega arith))) (subst (λ u. Q t u old) (above b t f) (was t d h)))
+      (cases_lt t b)
+
+-- what is as of one cycle ago, and does not change at the ages at which no stage acts
+at_rest : (Q : ℕ → ℕ → PacketSlot → Type 0) (stages : List Stage) (after : ℕ) → ((t : ℕ) (place : PacketSlot) → NoneAt stages after (t + 1) → Q (t + 1) t place → Q (t + 1) (t + 1) place)
+    → (u : ℕ) (place : PacketSlot) → NoneAt stages after u → Q u (u - 1) place → Q u u place
+at_rest Q stages after none zero place n q = subst (λ v. Q 0 v place) (let e : 0 - 1 ≡ 0 = omega arith in e) q
+at_rest Q stages after none (suc u) place n q =
+    let next : suc u ≡ u + 1 = omega arith in
+    let back : suc u - 1 ≡ u = omega arith in
+    subst (λ v. Q v v place) (sym next) (none u place (subst (NoneAt stages after) next n) (subst (λ v. Q v u place) next (subst (λ v. Q (suc u) v place) back q)))
+
 abbrev pub AllPlaces : (ℕ → ℕ → PacketSlot → Type 0) → ℕ → ℕ → List PacketSlot → Type 0
 AllPlaces Q bound newest places = (t : ℕ) (d : PacketSlot) → t < 385 → Q t (partly bound t) (get_or places (ring_at newest t) d)
 
@@ -76,121 +135,29 @@ pub pass_step : (Q : ℕ → ℕ → PacketSlot → Type 0) (stages : List Stage
     → AllPlaces Q (done_before stages after k) newest places
     → Q (start_of stages k + after) (start_of stages k + after) new
     → AllPlaces Q (start_of stages k + after + 1) newest (set places (ring_at newest (start_of stages k + after)) new)
-pass_step Q stages after k newest places new rise inside small ring full none was now t d h =
-    let a = start_of stages k + after in
-    let b = done_before stages after k in
-    let le : b ≤ a = done_le stages after k rise inside in
-    ⊎_elim
-    (λ (e : t ≡ a).
-    let place : get_or (set places (ring_at newest a) new) (ring_at newest t) d ≡ new =
-    ap (λ n. get_or (set places (ring_at newest a) new) (ring_at newest n) d) e ∙ get_or-set_same places (ring_at newest a) new d (omega (arith, ring_at-lt newest a)) in
-    let age : partly (a + 1) t ≡ t = partly-below (a + 1) t (omega arith) in
-    subst (Q t (partly (a + 1) t)) (sym place) (subst (λ u. Q t u new) (sym age) (subst (λ u. Q u u new) (sym e) now)))
-    (λ (apart : t ≢ a).
-    let other : ring_at newest t ≢ ring_at newest a = ring_at-apart newest t a ring h small apart in
-    let place : get_or (set places (ring_at newest a) new) (ring_at newest t) d ≡ get_or places (ring_at newest t) d = get_or-set_other places (ring_at newest a) (ring_at newest t) new d other in
-    let old = get_or places (ring_at newest t) d in
-    subst (Q t (partly (a + 1) t)) (sym place)
-    (⊎_elim
-    (λ (l : t < a).
-    let age : partly (a + 1) t ≡ t = partly-below (a + 1) t (omega arith) in
-    subst (λ u. Q t u old) (sym age)
-    (⊎_elim
-    (λ (f : t < b). subst (λ u. Q t u old) (partly-below b t f) (was t d h))
-    (λ (f : b ≤ t). at_rest t old (quiet stages after k t rise (omega arith) f (λ _. l)) (subst (λ u. Q t u old) (partly-from b t f) (was t d h)))
-    (cases_lt t b)))
-    (λ (l : a ≤ t).
-    let beyond : a + 1 ≤ t = omega arith in
-    let age : partly (a + 1) t ≡ t - 1 = partly-from (a + 1) t beyond in
-    subst (λ u. Q t u old) (sym age) (subst (λ u. Q t u old) (partly-from b t (omega arith)) (was t d h)))
-    (cases_lt t a)))
-    (cases_eq t a)
-  where
-    at_rest : (u : ℕ) (place : PacketSlot) → NoneAt stages after u → Q u (u - 1) place → Q u u place
-    at_rest zero place n q = subst (λ v. Q 0 v place) (let e : 0 - 1 ≡ 0 = omega arith in e) q
-    at_rest (suc u) place n q =
-        let next : suc u ≡ u + 1 = omega arith in
-        let back : suc u - 1 ≡ u = omega arith in
-        subst (λ v. Q v v place) (sym next) (none u place (subst (NoneAt stages after) next n) (subst (λ v. Q v u place) next (subst (λ v. Q (suc u) v place) back q)))
+pass_step Q stages after k newest places new rise inside small ring full none was now =
+    one_step Q partly (λ t. t) (λ t. t - 1) partly-below partly-from stages after newest rise (at_rest Q stages after none) k places new inside small ring full was now
 
 pub pass_end : (Q : ℕ → ℕ → PacketSlot → Type 0) (stages : List Stage) (after newest : ℕ) (places : List PacketSlot) → Rise stages
     → ((t : ℕ) (place : PacketSlot) → NoneAt stages after (t + 1) → Q (t + 1) t place → Q (t + 1) (t + 1) place)
     → AllPlaces Q (done_before stages after (length stages)) newest places
     → (t : ℕ) (d : PacketSlot) → t < 385 → Q t t (get_or places (ring_at newest t) d)
-pass_end Q stages after newest places rise none was t d h =
-    let b = done_before stages after (length stages) in
-    let old = get_or places (ring_at newest t) d in
-    ⊎_elim
-    (λ (f : t < b). subst (λ u. Q t u old) (partly-below b t f) (was t d h))
-    (λ (f : b ≤ t). at_rest t old (quiet stages after (length stages) t rise (omega arith) f (λ l. absurd (omega arith))) (subst (λ u. Q t u old) (partly-from b t f) (was t d h)))
-    (cases_lt t b)
-  where
-    at_rest : (u : ℕ) (place : PacketSlot) → NoneAt stages after u → Q u (u - 1) place → Q u u place
-    at_rest zero place n q = subst (λ v. Q 0 v place) (let e : 0 - 1 ≡ 0 = omega arith in e) q
-    at_rest (suc u) place n q =
-        let next : suc u ≡ u + 1 = omega arith in
-        let back : suc u - 1 ≡ u = omega arith in
-        subst (λ v. Q v v place) (sym next) (none u place (subst (NoneAt stages after) next n) (subst (λ v. Q v u place) next (subst (λ v. Q (suc u) v place) back q)))
+pass_end Q stages after newest places rise none was =
+    at_end Q partly (λ t. t) (λ t. t - 1) partly-below partly-from stages after newest rise (at_rest Q stages after none) places was
 
-pub pass_start : (Q : ℕ → ℕ → PacketSlot → Type 0) (newest : ℕ) (places : List PacketSlot) → ((t : ℕ) (d : PacketSlot) → t < 385 → Q t (t - 1) (get_or places (ring_at newest t) d)) → AllPlaces Q 0 newest places
-pass_start Q newest places was t d h = subst (λ u. Q t u (get_or places (ring_at newest t) d)) (sym (partly-from 0 t (omega arith))) (was t d h)
-
--- ---- a pass that may begin at age 0: what it has done at ages below a bound, and not yet from there on
-pub next-below : (bound t : ℕ) → t < bound → partly_next bound t ≡ t + 1
-next-below bound t h = grind (arith, nat_tests)
-
-pub next-from : (bound t : ℕ) → bound ≤ t → partly_next bound t ≡ t
-next-from bound t h = grind (arith, nat_tests)
+-- ---- a pass that may begin at age 0
 
 abbrev pub AllNext : (ℕ → ℕ → PacketSlot → Type 0) → ℕ → ℕ → List PacketSlot → Type 0
 AllNext Q bound newest places = (t : ℕ) (d : PacketSlot) → t < 385 → Q t (partly_next bound t) (get_or places (ring_at newest t) d)
 
 pub next_step : (Q : ℕ → ℕ → PacketSlot → Type 0) (stages : List Stage) (after k newest : ℕ) (places : List PacketSlot) (new : PacketSlot) → Rise stages → k < length stages
-    → start_of stages k + after < 385 → newest < 385 → length places ≡ 385
-    → ((t : ℕ) (place : PacketSlot) → NoneAt stages after t → Q t t place → Q t (t + 1) place)
-    → AllNext Q (done_before stages after k) newest places
-    → Q (start_of stages k + after) (start_of stages k + after + 1) new
+    → start_of stages k + after < 385 → newest < 385 → length places ≡ 385 → ((t : ℕ) (place : PacketSlot) → NoneAt stages after t → Q t t place → Q t (t + 1) place)
+    → AllNext Q (done_before stages after k) newest places → Q (start_of stages k + after) (start_of stages k + after + 1) new
     → AllNext Q (start_of stages k + after + 1) newest (set places (ring_at newest (start_of stages k + after)) new)
-next_step Q stages after k newest places new rise inside small ring full none was now t d h =
-    let a = start_of stages k + after in
-    let b = done_before stages after k in
-    let le : b ≤ a = done_le stages after k rise inside in
-    ⊎_elim
-    (λ (e : t ≡ a).
-    let place : get_or (set places (ring_at newest a) new) (ring_at newest t) d ≡ new =
-    ap (λ n. get_or (set places (ring_at newest a) new) (ring_at newest n) d) e ∙ get_or-set_same places (ring_at newest a) new d (omega (arith, ring_at-lt newest a)) in
-    let age : partly_next (a + 1) t ≡ t + 1 = next-below (a + 1) t (omega arith) in
-    subst (Q t (partly_next (a + 1) t)) (sym place) (subst (λ u. Q t u new) (sym age) (subst (λ u. Q u (u + 1) new) (sym e) now)))
-    (λ (apart : t ≢ a).
-    let other : ring_at newest t ≢ ring_at newest a = ring_at-apart newest t a ring h small apart in
-    let place : get_or (set places (ring_at newest a) new) (ring_at newest t) d ≡ get_or places (ring_at newest t) d = get_or-set_other places (ring_at newest a) (ring_at newest t) new d other in
-    let old = get_or places (ring_at newest t) d in
-    subst (Q t (partly_next (a + 1) t)) (sym place)
-    (⊎_elim
-    (λ (l : t < a).
-    let age : partly_next (a + 1) t ≡ t + 1 = next-below (a + 1) t (omega arith) in
-    subst (λ u. Q t u old) (sym age)
-    (⊎_elim
-    (λ (f : t < b). subst (λ u. Q t u old) (next-below b t f) (was t d h))
-    (λ (f : b ≤ t). none t old (quiet stages after k t rise (omega arith) f (λ _. l)) (subst (λ u. Q t u old) (next-from b t f) (was t d h)))
-    (cases_lt t b)))
-    (λ (l : a ≤ t).
-    let age : partly_next (a + 1) t ≡ t = next-from (a + 1) t (omega arith) in
-    subst (λ u. Q t u old) (sym age) (subst (λ u. Q t u old) (next-from b t (omega arith)) (was t d h)))
-    (cases_lt t a)))
-    (cases_eq t a)
+next_step Q stages after k newest places new rise inside small ring full none was now =
+    one_step Q partly_next (λ t. t + 1) (λ t. t) next-below next-from stages after newest rise none k places new inside small ring full was now
 
-pub next_end : (Q : ℕ → ℕ → PacketSlot → Type 0) (stages : List Stage) (after newest : ℕ) (places : List PacketSlot) → Rise stages
-    → ((t : ℕ) (place : PacketSlot) → NoneAt stages after t → Q t t place → Q t (t + 1) place)
-    → AllNext Q (done_before stages after (length stages)) newest places
-    → (t : ℕ) (d : PacketSlot) → t < 385 → Q t (t + 1) (get_or places (ring_at newest t) d)
-next_end Q stages after newest places rise none was t d h =
-    let b = done_before stages after (length stages) in
-    let old = get_or places (ring_at newest t) d in
-    ⊎_elim
-    (λ (f : t < b). subst (λ u. Q t u old) (next-below b t f) (was t d h))
-    (λ (f : b ≤ t). none t old (quiet stages after (length stages) t rise (omega arith) f (λ l. absurd (omega arith))) (subst (λ u. Q t u old) (next-from b t f) (was t d h)))
-    (cases_lt t b)
-
-pub next_start : (Q : ℕ → ℕ → PacketSlot → Type 0) (newest : ℕ) (places : List PacketSlot) → ((t : ℕ) (d : PacketSlot) → t < 385 → Q t t (get_or places (ring_at newest t) d)) → AllNext Q 0 newest places
-next_start Q newest places was t d h = subst (λ u. Q t u (get_or places (ring_at newest t) d)) (sym (next-from 0 t (omega arith))) (was t d h)
+pub next_end : (Q : ℕ → ℕ → PacketSlot → Type 0) (stages : List Stage) (after newest : ℕ) (places : List PacketSlot) → Rise stages → ((t : ℕ) (place : PacketSlot) → NoneAt stages after t → Q t t place → Q t (t + 1) place)
+    → AllNext Q (done_before stages after (length stages)) newest places → (t : ℕ) (d : PacketSlot) → t < 385 → Q t (t + 1) (get_or places (ring_at newest t) d)
+next_end Q stages after newest places rise none was =
+    at_end Q partly_next (λ t. t + 1) (λ t. t) next-below next-from stages after newest rise none places was

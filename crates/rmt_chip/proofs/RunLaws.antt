@@ -1,9 +1,8 @@
 -- Runs of bytes by listed cell.
-use Rattle.std.proofs.Common.{◌≡◌, ℕ, zero, suc, ◌+◌, ◌*◌, ◌<◌, List, [], ◌∷◌, ◌++◌, length, get_or, take, drop, sym, refl, ap, ◌∙◌, append-nil, arith}
+use Rattle.std.proofs.Common.{◌≡◌, ℕ, zero, suc, ◌+◌, ◌*◌, ◌<◌, List, [], ◌∷◌, ◌++◌, length, get_or, take, drop, sym, refl, ap, ◌∙◌, arith}
 use Rattle.std.specs.Prelude.{All}
 use Rattle.std.proofs.lemmas.List.Elements.{All-head, All-tail}
-use Rattle.std.proofs.lemmas.List.{length-append, take_more}
-use Rattle.std.proofs.lemmas.Grind.{flat_map-append}
+use Rattle.std.proofs.lemmas.List.{length-append}
 use Rattle.std.proofs.Math.Seq.{take-append_seam, drop-append-add}
 use Rattle.rmt_bits.specs.Bits.{bytes_of}
 use Rattle.rmt_bits.proofs.ByteLaws.{length-bytes_of}
@@ -34,15 +33,6 @@ module _ (size : ℕ) (value : ℕ → ℕ) where
       ap (λ n. take size (drop n (front ++ runs_of size value cs))) next
       ∙ ap (take size) (drop-append-add front (runs_of size value cs) (at * size))
       ∙ run-is cs at d (omega (arith, lt))
-
-  -- one more cell
-  pub runs-more : (numbers : List CellNumber) (i : ℕ) (d : CellNumber) → i < length numbers
-      → runs_of size value (take i numbers) ++ bytes_of size (value (get_or numbers i d).cell) ≡ runs_of size value (take (i + 1) numbers)
-  runs-more numbers i d lt =
-      let x = get_or numbers i d in
-      sym (ap (runs_of size value) (take_more numbers i d lt)
-      ∙ flat_map-append (λ (c : CellNumber). bytes_of size (value c.cell)) (take i numbers) (x ∷ [])
-      ∙ ap (λ (bs : List ℕ). runs_of size value (take i numbers) ++ bs) (append-nil (bytes_of size (value x.cell))))
 
 -- runs of no bytes
 pub runs-none : (value : ℕ → ℕ) (numbers : List CellNumber) → runs_of 0 value numbers ≡ []

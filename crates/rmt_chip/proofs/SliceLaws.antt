@@ -1,12 +1,11 @@
 -- Vectors of bits by the nibbles of a key stand for the rows that a key has.
-use Rattle.std.proofs.Common.{◌≡◌, ◌≢◌, ℕ, zero, suc, ◌+◌, ◌*◌, ◌/◌, ◌%◌, ◌^◌, ◌<◌, ◌≤◌, ◌==◌, Bool, true, false, List, length, get_or, Option, Some, None, set, sym, refl, ap, ◌∙◌, subst, arith, inl, inr}
+use Rattle.std.proofs.Common.{◌≡◌, ◌≢◌, ℕ, ◌+◌, ◌*◌, ◌/◌, ◌%◌, ◌^◌, ◌<◌, ◌≤◌, ◌==◌, Bool, true, false, List, length, get_or, Option, Some, None, set, sym, refl, ap, ◌∙◌, subst, arith, inl, inr}
 use Rattle.std.specs.Prelude.{bit_and, is_some, unwrap_or, IsSomeAnd}
 use Rattle.std.specs.Int.{bit_at}
 use Rattle.std.proofs.lemmas.Bool.{cases_lt, cases_eq, eqb-true, eq-eqb}
 use Rattle.std.proofs.lemmas.Grind.{same_number_lists, get_or_default_zero}
 use Rattle.std.proofs.lemmas.List.{get_or_past, get_or-set_same, get_or-set_other, length-set}
-use Rattle.std.proofs.lemmas.Nat.{shr_below, shr-shr, div-add-mod', and_mod, and_shr, and_le_r}
-use Rattle.std.proofs.Math.Nat.{div-one}
+use Rattle.std.proofs.lemmas.Nat.{and_le_r}
 use Rattle.rmt_bits.specs.Bits.{slice}
 use Rattle.rmt_bits.specs.Grouping.{Compared}
 use Rattle.rmt_bits.proofs.BitLaws.{slice-and, slice-lt}
@@ -14,28 +13,9 @@ use Rattle.rmt_chip.specs.declared.memory.sliced.Sliced.{Sliced}
 use Rattle.rmt_chip.specs.KeyWords.{Has, words_of, masked}
 use Rattle.rmt_chip.specs.Searching.{FirstIn}
 use Rattle.rmt_chip.specs.Slicing.{HasRow, nibble, leaves, bit_if, bit_in, RowFits, BitsFor, StandsFor, OnIn}
-use Rattle.rmt_chip.proofs.WordLaws.{length-words, word-of, length-masked, masked-at}
+use Rattle.rmt_chip.proofs.WordLaws.{same-parts, length-words, word-of, length-masked, masked-at}
 
 -- ---- nibbles
-
--- numbers with the same nibbles are the same
-pub same-nibbles : (count a b : ℕ) → a < 2 ^ (4 * count) → b < 2 ^ (4 * count) → ((i : ℕ) → i < count → slice a (4 * i) 4 ≡ slice b (4 * i) 4) → a ≡ b
-same-nibbles zero a b la lb each =
-    let none : 4 * 0 ≡ 0 = omega arith in
-    let one_a : a < 1 = subst (λ m. a < 2 ^ m) none la in
-    let one_b : b < 1 = subst (λ m. b < 2 ^ m) none lb in
-    omega (arith, one_a, one_b)
-same-nibbles (suc count) a b la lb each =
-    let more : 4 * suc count ≡ 4 * count + 4 = omega arith in
-    let high_a : a / 2 ^ 4 < 2 ^ (4 * count) = shr_below a (4 * count) 4 (subst (λ m. a < 2 ^ m) more la) in
-    let high_b : b / 2 ^ 4 < 2 ^ (4 * count) = shr_below b (4 * count) 4 (subst (λ m. b < 2 ^ m) more lb) in
-    let up : (n i : ℕ) → slice (n / 2 ^ 4) (4 * i) 4 ≡ slice n (4 * suc i) 4 =
-    λ n i. ap (λ m. m % 2 ^ 4) (shr-shr n 4 (4 * i)) ∙ ap (λ m. n / 2 ^ m % 2 ^ 4) (let e : 4 + 4 * i ≡ 4 * suc i = omega arith in e) in
-    let high = same-nibbles count (a / 2 ^ 4) (b / 2 ^ 4) high_a high_b (λ i lt. up a i ∙ each (suc i) (omega (arith, lt)) ∙ sym (up b i)) in
-    let none : 4 * 0 ≡ 0 = omega arith in
-    let first : (n : ℕ) → slice n (4 * 0) 4 ≡ n % 2 ^ 4 = λ n. ap (λ m. n / 2 ^ m % 2 ^ 4) none ∙ ap (λ m. m % 2 ^ 4) (div-one n) in
-    let low : a % 2 ^ 4 ≡ b % 2 ^ 4 = sym (first a) ∙ each 0 (omega arith) ∙ first b in
-    sym (div-add-mod' a (2 ^ 4)) ∙ ap (λ n. n * 2 ^ 4 + a % 2 ^ 4) high ∙ ap (λ n. b / 2 ^ 4 * 2 ^ 4 + n) low ∙ div-add-mod' b (2 ^ 4)
 
 -- nibble 10 k + i is nibble i of word k
 pub nibble-at : (words : List ℕ) (k i : ℕ) → i < 10 → nibble words (10 * k + i) ≡ slice (get_or words k 0) (4 * i) 4
@@ -71,7 +51,7 @@ module _ (words : ℕ) (e : Compared) (fits : RowFits words e) (key : List ℕ) 
           let small_v : v < 2 ^ 40 = (let b = fits.values in fits.small_values k 0 (omega (arith, b, lt))) in
           let small : bit_and x m < 2 ^ 40 = (let le = and_le_r x m in omega (arith, le, small_m)) in
           masked-is k lt
-          ∙ same-nibbles 10 (bit_and x m) v small small_v (λ i li.
+          ∙ same-parts 4 10 (bit_and x m) v small small_v (λ i li.
           slice-and x m (4 * i) 4
           ∙ ap (λ n. bit_and n (slice m (4 * i) 4)) (sym (nibble-at key k i li))
           ∙ ap (bit_and (nibble key (10 * k + i))) (sym (nibble-at e.masks k i li))
@@ -127,9 +107,6 @@ module _ (s : Sliced) (rows : List (Option Compared)) (stands : StandsFor rows s
 
   vector-below : (n : ℕ) → n < 10 * s.words → 16 * n + nibble key n < 160 * s.words
   vector-below n lt = let small = nibble-lt key n in omega (arith, lt, small)
-
-  there-is : (r : ℕ) → bit_in s.bits.items s.width (160 * s.words) r ≡ bit_at (get_or s.bits.items (160 * s.words * s.width + r / 64) 0) (r % 64)
-  there-is r = refl
 
   pub on-has : (r : ℕ) → r < 64 * s.width → OnIn s vectors r → HasRow key rows r
   on-has r lt on = by (row r) refl

@@ -87,25 +87,29 @@ masked-words (suc count) more key mask =
     ∙ ap (λ ws. bit_and key mask % 2 ^ 40 ∷ ws) (masked-words count more (key / 2 ^ 40) (mask / 2 ^ 40))
     ∙ ap (λ n. bit_and key mask % 2 ^ 40 ∷ words_of count n) (sym (and_shr key mask 40))
 
-head-same : (a b : ℕ) (xs ys : List ℕ) → a ∷ xs ≡ b ∷ ys → (a ≡ b) × (xs ≡ ys)
-head-same a b xs ys e = (cc, cc)
-
--- numbers with the same words are the same
-pub same-words : (count a b : ℕ) → a < 2 ^ (40 * count) → b < 2 ^ (40 * count) → words_of count a ≡ words_of count b → a ≡ b
-same-words zero a b la lb e =
-    let none : 40 * 0 ≡ 0 = omega arith in
+-- numbers with the same parts of so many bits are the same
+pub same-parts : (w count a b : ℕ) → a < 2 ^ (w * count) → b < 2 ^ (w * count) → ((i : ℕ) → i < count → slice a (w * i) w ≡ slice b (w * i) w) → a ≡ b
+same-parts w zero a b la lb each =
+    let none : w * 0 ≡ 0 = omega arith in
     let one_a : a < 1 = subst (λ m. a < 2 ^ m) none la in
     let one_b : b < 1 = subst (λ m. b < 2 ^ m) none lb in
     omega (arith, one_a, one_b)
-same-words (suc count) a b la lb e =
-    let more : 40 * suc count ≡ 40 * count + 40 = omega arith in
-    let high_a : a / 2 ^ 40 < 2 ^ (40 * count) = shr_below a (40 * count) 40 (subst (λ m. a < 2 ^ m) more la) in
-    let high_b : b / 2 ^ 40 < 2 ^ (40 * count) = shr_below b (40 * count) 40 (subst (λ m. b < 2 ^ m) more lb) in
-    let parts = head-same (a % 2 ^ 40) (b % 2 ^ 40) (words_of count (a / 2 ^ 40)) (words_of count (b / 2 ^ 40)) e in
-    let high = same-words count (a / 2 ^ 40) (b / 2 ^ 40) high_a high_b parts.1 in
-    let whole_a : a / 2 ^ 40 * 2 ^ 40 + a % 2 ^ 40 ≡ a = div-add-mod' a (2 ^ 40) in
-    let whole_b : b / 2 ^ 40 * 2 ^ 40 + b % 2 ^ 40 ≡ b = div-add-mod' b (2 ^ 40) in
-    sym whole_a ∙ ap (λ n. n * 2 ^ 40 + a % 2 ^ 40) high ∙ ap (λ n. b / 2 ^ 40 * 2 ^ 40 + n) parts.0 ∙ whole_b
+same-parts w (suc count) a b la lb each =
+    let more : w * suc count ≡ w * count + w = omega arith in
+    let high_a : a / 2 ^ w < 2 ^ (w * count) = shr_below a (w * count) w (subst (λ m. a < 2 ^ m) more la) in
+    let high_b : b / 2 ^ w < 2 ^ (w * count) = shr_below b (w * count) w (subst (λ m. b < 2 ^ m) more lb) in
+    let up : (n i : ℕ) → slice (n / 2 ^ w) (w * i) w ≡ slice n (w * suc i) w =
+    λ n i. ap (λ m. m % 2 ^ w) (shr-shr n w (w * i)) ∙ ap (λ m. n / 2 ^ m % 2 ^ w) (let e : w + w * i ≡ w * suc i = omega arith in e) in
+    let high = same-parts w count (a / 2 ^ w) (b / 2 ^ w) high_a high_b (λ i lt. up a i ∙ each (suc i) (omega (arith, lt)) ∙ sym (up b i)) in
+    let none : w * 0 ≡ 0 = omega arith in
+    let first : (n : ℕ) → slice n (w * 0) w ≡ n % 2 ^ w = λ n. ap (λ m. n / 2 ^ m % 2 ^ w) none ∙ ap (λ m. m % 2 ^ w) (div-one n) in
+    let low : a % 2 ^ w ≡ b % 2 ^ w = sym (first a) ∙ each 0 (omega arith) ∙ first b in
+    sym (div-add-mod' a (2 ^ w)) ∙ ap (λ n. n * 2 ^ w + a % 2 ^ w) high ∙ ap (λ n. b / 2 ^ w * 2 ^ w + n) low ∙ div-add-mod' b (2 ^ w)
+
+-- numbers with the same words are the same
+pub same-words : (count a b : ℕ) → a < 2 ^ (40 * count) → b < 2 ^ (40 * count) → words_of count a ≡ words_of count b → a ≡ b
+same-words count a b la lb e =
+    same-parts 40 count a b la lb (λ i lt. sym (word-of count a i lt) ∙ ap (λ ws. get_or ws i 0) e ∙ word-of count b i lt)
 
 -- the words of blocks side by side are those of the blocks
 pub words-unit : (held : Blocks) (row : ℕ) (blocks : List ℕ) → Within 40 held → words_of (length blocks) (unit_row 40 held row blocks) ≡ map (λ b. held b row) blocks

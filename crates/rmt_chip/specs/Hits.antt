@@ -1,12 +1,17 @@
 -- The hits that the stages count in one cycle.
-use Rattle.std.specs.Prelude.{ℕ, zero, suc, ◌+◌, List, [], ◌++◌, length, Option, Some, None, slice_get}
+use Rattle.std.specs.Prelude.{◌≡◌, ℕ, zero, suc, ◌+◌, List, [], ◌++◌, length, Option, Some, None, slice_get, true, false}
 use Rattle.rmt_bits.specs.Packet.{Packet}
 use Rattle.rmt_bits.specs.Counts.{Hit}
 use Rattle.rmt_chip.specs.Types.{Config, Stage}
-use Rattle.rmt_config.specs.Life.{Look}
+use Rattle.rmt_bits.specs.declared.answer.Count.{Count}
+use Rattle.rmt_config.specs.Life.{Look, Words, acts_of}
 use Rattle.rmt_config.specs.Parser.{Parse, Short, Reject, Accept, parse, put}
 use Rattle.rmt_chip.specs.Counting.{hits_made}
-use Rattle.rmt_chip.specs.Held.{Entered}
+use Rattle.rmt_chip.specs.declared.packet_slot.PacketSlot.{PacketSlot}
+use Rattle.rmt_chip.specs.Held.{Entered, is_accepted}
+use Rattle.rmt_chip.specs.Looked.{AllLooked}
+use Rattle.rmt_chip.specs.Pending.{looked_at}
+use Rattle.rmt_chip.specs.Ran.{CountsAlso}
 use Rattle.rmt_chip.specs.Lives.{acts_at}
 
 -- those of stage k for a packet, by its parse
@@ -29,3 +34,9 @@ hits_at look c item k (Some stage) = hits_of look c k stage (item (stage.start +
 abbrev pub hits_upto : Look → Config → (ℕ → Option Entered) → ℕ → List Hit
 hits_upto look c item zero = []
 hits_upto look c item (suc k) = hits_upto look c item k ++ hits_at look c item k (slice_get c.stages k)
+
+-- what a step of a stage counts: of a packet that was accepted the hits of its units, else nothing
+pub record CountedBy (k : ℕ) (stage : Stage) (place : PacketSlot) (old new : List Count) : Type 0 where
+  pub rests : is_accepted place.parsed ≡ false → new ≡ old
+  pub counted : is_accepted place.parsed ≡ true → (look : Look) (number : ℕ) (words : Words) → AllLooked look number words stage (looked_at place.pending.items k) →
+      CountsAlso old new (hits_made place.size (acts_of look number stage words place.outcomes).counted)

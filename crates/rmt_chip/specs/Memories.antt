@@ -1,5 +1,5 @@
 -- The memory of a slot laid out for reading, against the slot's cells.
-use Rattle.std.specs.Prelude.{◌≡◌, ℕ, ◌+◌, ◌*◌, ◌^◌, ◌<◌, List, length, map, true, All, Option, Some, None}
+use Rattle.std.specs.Prelude.{◌≡◌, ℕ, ◌*◌, ◌^◌, ◌<◌, List, length, map, true, All, Option, Some, None}
 use Rattle.rmt_bits.specs.Bits.{number_of}
 use Rattle.rmt_chip.specs.Types.{Stage, TcamRow, Unit as ChipUnit, SlotUnit, CellNumber, Memory}
 use Rattle.rmt_config.specs.declared.config.Unit.TheVariants.{Gate, Slot}
@@ -10,6 +10,7 @@ use Rattle.rmt_config.specs.Shapes.{divided_up}
 use Rattle.rmt_config.specs.Cells.{Content, content_of}
 use Rattle.rmt_config.specs.UnitForm.{slot_is_formed}
 use Rattle.rmt_config.specs.CellForm.{SlotHolds}
+use Rattle.rmt_config.specs.KeysSeen.{WaysLow}
 use Rattle.rmt_config.specs.MemoryRules.{FormedRows}
 use Rattle.rmt_chip.specs.declared.memory.SlotMemory.{SlotMemory}
 use Rattle.rmt_chip.specs.declared.memory.Keys.{Keys}
@@ -23,12 +24,6 @@ use Rattle.rmt_chip.specs.Slicing.{HasRow, StandsFor}
 
 -- ---- what is asked of a slot
 
--- the numbers of four ways are bytes
-abbrev pub WaysFit : Memory → Type 0
-WaysFit Without = Unit {0}
-WaysFit (Exact k p d w ks rs cs) = w + 3 < 256
-WaysFit (Ternary d ks rs cs) = Unit {0}
-
 -- a slot of a stage that keeps the rules of form, whatever visible bits its occupied cells have
 pub record SlotFormed (stage : Stage) (slot : SlotUnit) : Type 0 where
   pub rows : FormedRows stage
@@ -37,7 +32,7 @@ pub record SlotFormed (stage : Stage) (slot : SlotUnit) : Type 0 where
   pub visible : ℕ
   pub first : ℕ
   pub holds : SlotHolds visible stage first slot
-  pub ways : WaysFit slot.memory
+  pub ways : WaysLow slot.memory
 
 -- a unit of a stage, where it is a slot
 abbrev pub UnitFormed : Stage → ChipUnit → Type 0

@@ -1,13 +1,20 @@
 -- The ring of packet slots: an age is a place counted back from the newest.
-use Rattle.std.specs.Prelude.{ℕ, ◌+◌, ◌-◌, ◌%◌, ◌<◌, ◌==◌, nat_lt, if◌then◌else◌, List, [], Option, slice_index_or}
+use Rattle.std.specs.Prelude.{◌≡◌, ℕ, ◌+◌, ◌-◌, ◌%◌, ◌<◌, ◌==◌, nat_lt, if◌then◌else◌, List, [], length, All, Option, slice_index_or}
 use Rattle.rmt_chip.specs.Types.{Config, Stage}
 use Rattle.rmt_config.specs.Life.{Look}
 use Rattle.rmt_chip.specs.declared.packet_slot.PacketSlot.{PacketSlot}
+use Rattle.rmt_chip.specs.Pending.{HaveRoomFor}
 use Rattle.rmt_chip.specs.Runnable.{start_of}
 use Rattle.rmt_chip.specs.Held.{Entered, HoldsIf, FrameIs}
 
 abbrev pub ring_at : ℕ → ℕ → ℕ
 ring_at newest age = (newest + 385 - age) % 385
+
+-- 385 packet slots, one of which is the newest, each with room for what the stages read
+pub record IsRing (stages : List Stage) (newest : ℕ) (places : List PacketSlot) : Type 0 where
+  pub full : length places ≡ 385
+  pub among : newest < 385
+  pub room : All (λ (p : PacketSlot). HaveRoomFor stages p.pending.items) places
 
 -- an age, now, one cycle ago or one cycle on
 abbrev pub now : ℕ → ℕ

@@ -19,7 +19,7 @@ use crate::frames::Frames;
 use crate::memory::SlotMemory;
 use crate::out::Out;
 use crate::packet_slot::PacketSlot;
-use crate::ring::{act_all, look_all, place_of, read_all, write_all};
+use crate::ring::{place_of, read_keys, read_operands, set_outcomes, write_words};
 use rmt_bits::answer::Verdict;
 use rmt_bits::counts::Counts;
 use rmt_config::config::{Config, Stage};
@@ -65,10 +65,10 @@ pub fn cycle(
         × AnswersIf (answer_at config.now (inputs ++ input_of frame.entry ∷ []) (length inputs)) result out.new }
 {
     enter_if(&mut places[newest], frames, newest, config, frame, number);
-    write_all(places, newest, config);
-    read_all(places, newest, config);
-    act_all(places, newest, config, counters);
-    look_all(places, newest, config, memories);
+    write_words(places, newest, config);
+    read_operands(places, newest, config);
+    set_outcomes(places, newest, config, counters);
+    read_keys(places, newest, config, memories);
     let last = place_of(newest, usize::from(latency));
     leave(config, &places[last], frames, last, out)
 }

@@ -7,11 +7,11 @@ ghost use Rattle.rmt_chip.specs.Held.{EnteredBy, Begins, Keeps, EntersIf};
 ghost use Rattle.rmt_chip.specs.Inputs.{input_of, MayEnter, numbered_as, frames_after};
 ghost use Rattle.rmt_chip.specs.Runnable.{IsRunnable};
 
+use crate::accepted::is_accepted;
 use crate::frame::Frame;
 use crate::frames::Frames;
 use crate::lanes::put;
 use crate::packet_slot::PacketSlot;
-use crate::steps::is_accepted;
 use rmt_config::config::Config;
 use rmt_config::tails::Tails;
 use rmt_ptcam::parse::Parsed;

@@ -11,16 +11,12 @@ use rmt_bits::bits::bytes_of_bits;
 use rmt_bits::lane::Lane;
 use rmt_config::vector::Vector;
 
-/// How many bits lanes have together, which must be at most 640.
-pub fn bits_of(lanes: &[Lane]) -> u32
+/// How many bits lanes have together, at most 640.
+pub fn key_bits(lanes: &[Lane]) -> u64
     requires { bits_of_lanes lanes.now ≤ 640 }
     ensures { result ≡ bits_of_lanes lanes.now }
 {
-    let mut bits: u32 = 0;
-    for lane in lanes {
-        bits += u32::from(lane.len);
-    }
-    bits
+    lanes.iter().map(|lane| lane.len as u64).sum()
 }
 
 /// Puts lanes together into bytes, the first one highest, and the last one at the end; the bits above the first are 0. It takes no memory.
@@ -31,7 +27,7 @@ pub fn put_together(buffer: &mut [u8], vector: &Vector, lanes: &[Lane])
     ensures { number_of buffer.new ≡ key_of (λ w. slice_index vector.now w) lanes.now }
 {
     buffer.fill(0);
-    let mut at: u32 = 8 * buffer.len() as u32 - bits_of(lanes);
+    let mut at: u32 = 8 * buffer.len() as u32 - key_bits(lanes) as u32;
     for piece in lanes {
         let bits = lane(vector, *piece);
         bytes_of_bits(u128::from(bits), piece.len, buffer, at);

@@ -1,11 +1,11 @@
 //! The clocked chip: one call is one cycle, with many packets in flight.
 #![tactic(auto)]
 
+mod accepted;
 pub mod chip;
 mod compute;
 mod counters;
 mod cycle;
-mod decide;
 mod emit;
 mod enter;
 pub mod fault;
@@ -13,19 +13,20 @@ pub mod frame;
 mod frames;
 mod header;
 mod key;
+mod keys;
 mod lanes;
 mod lay;
-mod look;
 mod looked;
 mod memory;
 mod open;
+mod operands;
 pub mod out;
+mod outcomes;
 mod packet_slot;
 mod pending;
 mod ran;
 mod ring;
 mod room;
 pub mod seen;
-mod steps;
+mod words;
 mod write;
-mod writes;

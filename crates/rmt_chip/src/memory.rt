@@ -6,7 +6,6 @@ mod lay;
 mod row_bits;
 mod runs;
 mod sliced;
-mod spot;
 mod ternary;
 mod ways;
 

@@ -15,7 +15,7 @@ mod item;
 pub mod lane;
 pub mod layout;
 mod memory;
-mod names;
+pub mod names;
 pub mod number;
 mod numbers;
 pub mod parser;

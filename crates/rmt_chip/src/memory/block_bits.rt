@@ -1,15 +1,12 @@
 //! What rows of blocks hold, read from lists of rows that rise by block and row.
 
-ghost use Rattle.std.specs.Prelude.{◌≡◌, ◌*◌, ◌<◌, length};
-ghost use Rattle.rmt_bits.specs.Bits.{slice as slice_of};
-ghost use Rattle.rmt_config.specs.Cells.{sram_row, tcam_row, unit_row};
-ghost use Rattle.rmt_config.specs.MemoryRules.{SramRows};
+ghost use Rattle.std.specs.Prelude.{◌≡◌, ◌<◌};
+ghost use Rattle.rmt_config.specs.Cells.{tcam_row};
 ghost use Rattle.rmt_config.specs.declared.config.TcamRow.{TcamRow};
 ghost use Rattle.rmt_chip.specs.Laying.{TcamRows};
 
-use rmt_config::config::{SramRow, TcamRow};
+use rmt_config::config::TcamRow;
 use rmt_config::form::search::{Numbered, first_from};
-use rmt_config::form::sram::{byte_of_two, row_bits};
 
 /// What a row of a TCAM block compares.
 #[derive(Clone, Copy)]
@@ -35,22 +32,4 @@ pub fn tcam_bits(rows: &[TcamRow], block: u8, row: u64) -> Wanted
     } else {
         Wanted { value: 0, mask: 0 }
     }
-}
-
-/// The 8 bits from one on of a row of blocks side by side; bits behind its end are 0.
-pub fn byte_at(rows: &[SramRow], blocks: &[u8], row: u64, bit: u64) -> u8
-    requires rows { SramRows rows.now }
-    requires row { row < 1024 }
-    requires bit { bit < 112 * length blocks.now }
-    ensures { result ≡ slice_of (unit_row 112 (sram_row rows.now) row blocks.now) bit 8 }
-{
-    let block = (bit / 112) as usize;
-    let mut near = 0;
-    let first = row_bits(rows, blocks[block], row, &mut near);
-    let second = if block + 1 < blocks.len() {
-        row_bits(rows, blocks[block + 1], row, &mut near)
-    } else {
-        0
-    };
-    byte_of_two(first, second, bit % 112)
 }

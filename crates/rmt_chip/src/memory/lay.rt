@@ -11,23 +11,15 @@ ghost use Rattle.rmt_config.specs.MemoryRules.{SramRows, FormedRows, ExactFits, 
 ghost use Rattle.rmt_chip.specs.Laying.{runs_of as runs_of_cells};
 ghost use Rattle.rmt_chip.specs.Memories.{Laid, NumbersFit, key_size, held_size};
 
+use crate::key::key_bits;
 use crate::memory::exact::starts_of;
 use crate::memory::runs::{Runs, no_runs, runs_of};
 use crate::memory::ternary::sliced_of;
 use crate::memory::ways::ExactMemory;
 use crate::memory::{Keys, SlotMemory};
-use rmt_bits::lane::Lane;
 use rmt_config::config::{CellNumber, SlotUnit, SramRow, Stage};
 use rmt_config::form::parts::{exact_keys, exact_records, ternary_records};
 use std::alloc::{AllocError, Global};
-
-/// How many bits lanes have together, at most 640.
-fn key_bits(lanes: &[Lane]) -> u64
-    requires { bits_of_lanes lanes.now ≤ 640 }
-    ensures { result ≡ bits_of_lanes lanes.now }
-{
-    lanes.iter().map(|lane| lane.len as u64).sum()
-}
 
 /// The numbers of the entries of listed cells.
 fn entry_numbers(alloc: Global, numbers: &[CellNumber]) -> Result<Vec<u32>, AllocError>

@@ -13,46 +13,39 @@ ghost use Rattle.rmt_chip.specs.Slicing.{HasRow, RowFits, StandsFor};
 ghost use Rattle.rmt_chip.specs.Comparing.{compared_at};
 
 use crate::memory::block_bits::tcam_bits;
-use crate::memory::runs::unit_blocks;
 use crate::memory::sliced::Sliced;
 use rmt_bits::bits::bits_of_bytes;
 use rmt_config::config::{CellNumber, TcamRow};
+use rmt_config::form::names::key_bytes::unit_blocks;
 use std::alloc::{AllocError, Global};
 
-/// The bits that each of some blocks compares in a row.
-fn masks_of(
-    alloc: Global,
-    rows: &[TcamRow],
-    blocks: &[u8],
-    row: u64,
-) -> Result<Vec<u128>, AllocError>
-    requires rows { TcamRows rows.now }
-    requires row { row < 2048 }
-    ensures { IfOk result (λ masks. masks.items ≡ map (λ b. tcam_row (λ (t : TcamRow). t.mask) rows.now b row) blocks.now) }
-{
-    let mut masks = Vec::with_capacity(alloc, blocks.len())?;
-    for block in blocks {
-        masks.push(u128::from(tcam_bits(rows, *block, row).mask))?;
-    }
-    Ok(masks)
+/// What a row of some blocks side by side compares: in each block these bits, and what they must be.
+#[derive(Drop)]
+struct Compares {
+    masks: Vec<u128>,
+    values: Vec<u128>,
 }
 
-/// What these bits must be.
-fn values_of(
+/// What each of some blocks compares in a row.
+fn row_compares(
     alloc: Global,
     rows: &[TcamRow],
     blocks: &[u8],
     row: u64,
-) -> Result<Vec<u128>, AllocError>
+) -> Result<Compares, AllocError>
     requires rows { TcamRows rows.now }
     requires row { row < 2048 }
-    ensures { IfOk result (λ values. values.items ≡ map (λ b. tcam_row (λ (t : TcamRow). t.value) rows.now b row) blocks.now) }
+    ensures masks { IfOk result (λ bits. bits.masks.items ≡ map (λ b. tcam_row (λ (t : TcamRow). t.mask) rows.now b row) blocks.now) }
+    ensures values { IfOk result (λ bits. bits.values.items ≡ map (λ b. tcam_row (λ (t : TcamRow). t.value) rows.now b row) blocks.now) }
 {
+    let mut masks = Vec::with_capacity(alloc, blocks.len())?;
     let mut values = Vec::with_capacity(alloc, blocks.len())?;
     for block in blocks {
-        values.push(u128::from(tcam_bits(rows, *block, row).value))?;
+        let bits = tcam_bits(rows, *block, row);
+        masks.push(u128::from(bits.mask))?;
+        values.push(u128::from(bits.value))?;
     }
-    Ok(values)
+    Ok(Compares { masks, values })
 }
 
 /// The listed rows of a part in vectors, where a key takes `side` blocks. The vectors have a bit for
@@ -75,9 +68,8 @@ pub fn sliced_of(
     for at in 0..numbers.len() {
         let cell = numbers[at].cell as u64;
         let unit = unit_blocks(blocks, side, cell / 2048);
-        let masks = masks_of(alloc, rows, unit, cell % 2048)?;
-        let values = values_of(alloc, rows, unit, cell % 2048)?;
-        sliced.put(at, &masks, &values);
+        let bits = row_compares(alloc, rows, unit, cell % 2048)?;
+        sliced.put(at, &bits.masks, &bits.values);
     }
     Ok(sliced)
 }

@@ -11,7 +11,7 @@ mod differ;
 mod entries;
 mod exact;
 mod exact_part;
-mod key_bytes;
+pub mod key_bytes;
 mod key_prints;
 mod made;
 mod order;

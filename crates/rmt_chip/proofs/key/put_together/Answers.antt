@@ -74,6 +74,6 @@ pub loop-piece-init : goal.loop-piece-init
 loop-piece-init c =
     let zeros = c.fill.ensures.after (λ y h. search rules) in
     let none = number_of-cleared c.fill.new.self (length c.args.buffer.now) zeros in
-    let size = c.bits_of.ensures in
+    let size = c.key_bits.ensures in
     let room = c.requires.room in
     record { at_is = omega arith; so_far = omega arith }

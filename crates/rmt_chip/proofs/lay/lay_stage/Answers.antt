@@ -1,30 +1,25 @@
-use Rattle.std.proofs.Common.{◌≡◌, ◌<◌, ◌++◌, [], ◌∷◌, ℕ, List, Some, length, get_or, ap, sym, ◌∙◌, subst, arith}
+use Rattle.std.proofs.Common.{◌≡◌, ◌++◌, [], ◌∷◌, ℕ, List, Some, length, get_or, ap, sym, ◌∙◌, subst, arith}
 use Rattle.std.proofs.lemmas.List.{get_or_default}
 use Rattle.std.proofs.lemmas.Option.{slice_get-get_or}
 use Rattle.rmt_chip.specs.Types.{Unit}
 use Rattle.rmt_chip.specs.declared.memory.SlotMemory.{SlotMemory}
 use Rattle.rmt_chip.specs.Memory.{MemoryFits, IsLaid}
+use Rattle.rmt_chip.proofs.LookLaws.{unit_at}
 use Rattle.rmt_chip.proofs.StageMemoriesLaws.{pushed_items}
 use Rattle.rmt_chip.proofs.lay.lay_stage.Goals as goal
 
 pub lay_unit-requires : goal.lay_unit-requires
 lay_unit-requires c =
     let units = c.args.stage.now.units in
-    let i = c.loop-unit.unit-index in
-    let unit = c.unit-item.result in
-    let same = c.as_slice-units.ensures in
-    let inside : i < length units = rw same at c.loop-unit-test.true in
-    let at : get_or units i unit ≡ unit = sym (c.unit-item.is ∙ ap (λ (us : List Unit). get_or us i unit) same) in
-    λ s is. c.requires i s (slice_get-get_or units i unit inside ∙ ap (λ (u : Unit). Some u) (at ∙ is))
+    let (inside, at) = unit_at units c.as_slice-units.result.now c.loop-unit.unit-index c.unit-item.result c.as_slice-units.ensures c.loop-unit-test.true c.unit-item.is in
+    λ s is. c.requires c.loop-unit.unit-index s (slice_get-get_or units c.loop-unit.unit-index c.unit-item.result inside ∙ ap (λ (u : Unit). Some u) (at ∙ is))
 
 pub loop-unit-preserved : goal.loop-unit-preserved
 loop-unit-preserved c =
     let units = c.args.stage.now.units in
     let i = c.loop-unit.unit-index in
     let unit = c.unit-item.result in
-    let same = c.as_slice-units.ensures in
-    let inside : i < length units = rw same at c.loop-unit-test.true in
-    let at : get_or units i unit ≡ unit = sym (c.unit-item.is ∙ ap (λ (us : List Unit). get_or us i unit) same) in
+    let (inside, at) = unit_at units c.as_slice-units.result.now i unit c.as_slice-units.ensures c.loop-unit-test.true c.unit-item.is in
     let any : (u : Unit) → unit ≡ get_or units i u = λ u. sym at ∙ get_or_default units i unit u inside in
     let was = c.loop-unit.invariant in
     let memory = c.in_ok-lay_unit.field-0 in

@@ -113,7 +113,7 @@ fn push_bits(
 }
 
 /// The blocks of a unit, where each has that many.
-fn unit_blocks(blocks: &[u8], side: u64, unit: u64) -> &[u8]
+pub fn unit_blocks(blocks: &[u8], side: u64, unit: u64) -> &[u8]
     requires { (unit + 1) * side ≤ length blocks.now }
     ensures value { result.now ≡ blocks_at blocks.now side unit }
     ensures size { length result.now ≡ side }

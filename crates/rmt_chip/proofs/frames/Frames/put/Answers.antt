@@ -1,6 +1,7 @@
-use Rattle.std.proofs.Common.{◌≡◌, ◌<◌, ◌++◌, ◌∷◌, ℕ, List, [], Option, Some, get_or, set, length, map, sym, ap, subst, ◌∙◌, arith}
+use Rattle.std.proofs.Common.{◌≡◌, ◌<◌, ◌≤◌, ◌++◌, ◌∷◌, ℕ, List, [], Option, Some, get_or, set, length, map, sym, ap, subst, ◌∙◌, arith}
 use Rattle.std.proofs.lemmas.List.{map-set}
 use Rattle.std.proofs.lemmas.List.Sorted.{IsPermutation-middle, IsPermutation-sym}
+use Rattle.rmt_cells.specs.declared.cells.Cells.{Cells}
 use Rattle.rmt_cells.specs.declared.cells.Chain.{Chain}
 use Rattle.rmt_cells.specs.Stands.{Held, Stands}
 use Rattle.rmt_cells.proofs.Orders.{reordered}
@@ -8,90 +9,69 @@ use Rattle.rmt_chip.specs.Frames.{AreFrames, frames_in, held_if}
 use Rattle.rmt_chip.proofs.FrameLaws.{front_of, back_of, split_at, room_left, frame_put, frames_told, set_twice}
 use Rattle.rmt_chip.proofs.frames.Frames.put.Goals as goal
 
+module _ (cells : Cells) (cs : List (Option Chain)) (at : ℕ) (inside : at < length cs) (stand : AreFrames cells cs (frames_in cells cs)) where
+  abbrev fs : List (List ℕ)
+  fs = frames_in cells cs
+
+  -- the chain that is taken out stands between those before and behind it
+  taken : (old c : Option Chain) → c ≡ get_or cs at old → Stands 65536 (front_of cs fs at ++ (held_if c (get_or fs at []) ++ back_of cs fs at)) cells
+  taken old c is =
+      subst (λ (o : Option Chain). Stands 65536 (front_of cs fs at ++ (held_if o (get_or fs at []) ++ back_of cs fs at)) cells) (sym is)
+      (subst (λ (hs : List Held). Stands 65536 hs cells) (split_at cs fs at old [] inside stand.as_many) stand.stands)
+
+  -- and the new one in its place
+  placed : (new : Cells) (chain : Chain) (bytes : List ℕ) → length bytes ≤ 9216 → Stands 65536 (record { chain = chain; bytes = bytes } ∷ (front_of cs fs at ++ back_of cs fs at)) new
+      → AreFrames new (set cs at (Some chain)) (set fs at bytes)
+  placed new chain bytes short put =
+      let front = front_of cs fs at in
+      let back = back_of cs fs at in
+      let one : Held = record { chain = chain; bytes = bytes } in
+      frame_put cells new cs at chain bytes inside short stand
+      (reordered 65536 (one ∷ (front ++ back)) (front ++ one ∷ back) new put (IsPermutation-sym (front ++ one ∷ back) (one ∷ (front ++ back)) (IsPermutation-middle front one back)))
+
 pub clear-requires : goal.clear-requires
 clear-requires c =
     let self = c.args.self.now in
     let cs = self.chains.items in
     let fs = frames_in self.cells cs in
-    let old = c.index_mut.result.now in
-    let all = self.all in
-    let ok = self.chains.ok.0 in
-    let inside : c.args.at < length cs = omega arith in (
-      front_of cs fs c.args.at,
-      back_of cs fs c.args.at,
-      get_or fs c.args.at [],
-      subst (λ (o : Option Chain). Stands 65536 (front_of cs fs c.args.at ++ (held_if o (get_or fs c.args.at []) ++ back_of cs fs c.args.at)) self.cells)
-          (sym (c.take-old.ensures.value ∙ c.index_mut.ensures.value))
-          (subst (λ (hs : List Held). Stands 65536 hs self.cells) (split_at cs fs c.args.at old [] inside self.stand.as_many) self.stand.stands),
-    )
+    let inside : c.args.at < length cs = omega (arith, self.all, self.chains.ok.0, c.requires.exists) in
+    (front_of cs fs c.args.at, back_of cs fs c.args.at, get_or fs c.args.at [], taken self.cells cs c.args.at inside self.stand c.index_mut.result.now c.take-old.result (c.take-old.ensures.value ∙ c.index_mut.ensures.value))
 
 pub put_short-chain-requires-clause-room : goal.put_short-chain-requires-clause-room
 put_short-chain-requires-clause-room c =
     let self = c.args.self.now in
     let cs = self.chains.items in
     let fs = frames_in self.cells cs in
-    let old = c.index_mut.result.now in
-    let all = self.all in
-    let ok = self.chains.ok.0 in
-    let many : length cs ≡ 385 = omega arith in
-    let was = subst (λ (o : Option Chain). Stands 65536 (front_of cs fs c.args.at ++ (held_if o (get_or fs c.args.at []) ++ back_of cs fs c.args.at)) self.cells)
-    (sym (c.take-old.ensures.value ∙ c.index_mut.ensures.value))
-    (subst (λ (hs : List Held). Stands 65536 hs self.cells) (split_at cs fs c.args.at old [] (omega arith) self.stand.as_many) self.stand.stands) in (
-      front_of cs fs c.args.at ++ back_of cs fs c.args.at,
-      c.clear.ensures (front_of cs fs c.args.at) (back_of cs fs c.args.at) (get_or fs c.args.at []) was,
-      room_left cs fs c.args.at many c.requires.exists self.stand.as_many self.stand.short,
-    )
+    let many : length cs ≡ 385 = omega (arith, self.all, self.chains.ok.0) in
+    let was = taken self.cells cs c.args.at (omega (arith, many, c.requires.exists)) self.stand c.index_mut.result.now c.take-old.result (c.take-old.ensures.value ∙ c.index_mut.ensures.value) in
+    (front_of cs fs c.args.at ++ back_of cs fs c.args.at, c.clear.ensures _ _ (get_or fs c.args.at []) was, room_left cs fs c.args.at many c.requires.exists self.stand.as_many self.stand.short)
 
 pub invariant_of-self : goal.invariant_of-self
 invariant_of-self c =
     let self = c.args.self.now in
     let cs = self.chains.items in
-    let fs = frames_in self.cells cs in
     let at = c.args.at in
-    let old = c.index_mut.result.now in
-    let all = self.all in
-    let ok = self.chains.ok.0 in
-    let inside : at < length cs = omega arith in
-    let was = subst (λ (o : Option Chain). Stands 65536 (front_of cs fs at ++ (held_if o (get_or fs at []) ++ back_of cs fs at)) self.cells)
-    (sym (c.take-old.ensures.value ∙ c.index_mut.ensures.value))
-    (subst (λ (hs : List Held). Stands 65536 hs self.cells) (split_at cs fs at old [] inside self.stand.as_many) self.stand.stands) in
-    let cleared = c.clear.ensures (front_of cs fs at) (back_of cs fs at) (get_or fs at []) was in
-    let put = c.put_short-chain.ensures (front_of cs fs at ++ back_of cs fs at) cleared in
-    let new : Held = record { chain = c.put_short-chain.result; bytes = c.args.bytes.now } in
-    let moved = reordered 65536 (new ∷ (front_of cs fs at ++ back_of cs fs at)) (front_of cs fs at ++ new ∷ back_of cs fs at) c.put_short-chain.new.cells put
-    (IsPermutation-sym (front_of cs fs at ++ new ∷ back_of cs fs at) (new ∷ (front_of cs fs at ++ back_of cs fs at)) (IsPermutation-middle (front_of cs fs at) new (back_of cs fs at))) in
-    let are = frame_put self.cells c.put_short-chain.new.cells cs at c.put_short-chain.result c.args.bytes.now inside c.requires.short self.stand moved in
+    let inside : at < length cs = omega (arith, self.all, self.chains.ok.0, c.requires.exists) in
+    let put = c.put_short-chain.ensures _ (c.clear.ensures _ _ _ (taken self.cells cs at inside self.stand c.index_mut.result.now c.take-old.result (c.take-old.ensures.value ∙ c.index_mut.ensures.value))) in
+    let new = c.put_short-chain.new.cells in
+    let are = placed self.cells cs at inside self.stand new c.put_short-chain.result c.args.bytes.now c.requires.short put in
+    let chains = set cs at (Some c.put_short-chain.result) in
+    let frames = set (frames_in self.cells cs) at c.args.bytes.now in
+    let twice = set_twice cs at c.take-old.new.self (Some c.put_short-chain.result) in
     record {
-      all = all;
-      stand = subst (λ (xs : List (Option Chain)). AreFrames c.put_short-chain.new.cells xs (frames_in c.put_short-chain.new.cells xs)) (sym (set_twice cs at c.take-old.new.self (Some c.put_short-chain.result)))
-          (subst (λ (frames : List (List ℕ)). AreFrames c.put_short-chain.new.cells (set cs at (Some c.put_short-chain.result)) frames)
-          (frames_told c.put_short-chain.new.cells (set cs at (Some c.put_short-chain.result)) (set fs at c.args.bytes.now) are) are);
+      all = self.all;
+      stand = subst (λ (xs : List (Option Chain)). AreFrames new xs (frames_in new xs)) (sym twice) (subst (AreFrames new chains) (frames_told new chains frames are) are);
       sized =
           ap (λ (ns : List ℕ). set ns at (length c.args.bytes.now)) self.sized
-          ∙ sym (map-set length fs at c.args.bytes.now)
-          ∙ ap (map length)
-          (frames_told c.put_short-chain.new.cells (set cs at (Some c.put_short-chain.result)) (set fs at c.args.bytes.now) are
-          ∙ ap (frames_in c.put_short-chain.new.cells) (sym (set_twice cs at c.take-old.new.self (Some c.put_short-chain.result))));
+          ∙ sym (map-set length (frames_in self.cells cs) at c.args.bytes.now)
+          ∙ ap (map length) (frames_told new chains frames are ∙ ap (frames_in new) (sym twice));
     }
 
 pub returns : goal.returns
 returns c =
     let self = c.args.self.now in
     let cs = self.chains.items in
-    let fs = frames_in self.cells cs in
-    let at = c.args.at in
-    let old = c.index_mut.result.now in
-    let all = self.all in
-    let ok = self.chains.ok.0 in
-    let inside : at < length cs = omega arith in
-    let was = subst (λ (o : Option Chain). Stands 65536 (front_of cs fs at ++ (held_if o (get_or fs at []) ++ back_of cs fs at)) self.cells)
-    (sym (c.take-old.ensures.value ∙ c.index_mut.ensures.value))
-    (subst (λ (hs : List Held). Stands 65536 hs self.cells) (split_at cs fs at old [] inside self.stand.as_many) self.stand.stands) in
-    let cleared = c.clear.ensures (front_of cs fs at) (back_of cs fs at) (get_or fs at []) was in
-    let put = c.put_short-chain.ensures (front_of cs fs at ++ back_of cs fs at) cleared in
-    let new : Held = record { chain = c.put_short-chain.result; bytes = c.args.bytes.now } in
-    let moved = reordered 65536 (new ∷ (front_of cs fs at ++ back_of cs fs at)) (front_of cs fs at ++ new ∷ back_of cs fs at) c.put_short-chain.new.cells put
-    (IsPermutation-sym (front_of cs fs at ++ new ∷ back_of cs fs at) (new ∷ (front_of cs fs at ++ back_of cs fs at)) (IsPermutation-middle (front_of cs fs at) new (back_of cs fs at))) in
-    let are = frame_put self.cells c.put_short-chain.new.cells cs at c.put_short-chain.result c.args.bytes.now inside c.requires.short self.stand moved in
-    ap (frames_in c.put_short-chain.new.cells) (set_twice cs at c.take-old.new.self (Some c.put_short-chain.result))
-    ∙ sym (frames_told c.put_short-chain.new.cells (set cs at (Some c.put_short-chain.result)) (set fs at c.args.bytes.now) are)
+    let inside : c.args.at < length cs = omega (arith, self.all, self.chains.ok.0, c.requires.exists) in
+    let put = c.put_short-chain.ensures _ (c.clear.ensures _ _ _ (taken self.cells cs c.args.at inside self.stand c.index_mut.result.now c.take-old.result (c.take-old.ensures.value ∙ c.index_mut.ensures.value))) in
+    ap (frames_in c.put_short-chain.new.cells) (set_twice cs c.args.at c.take-old.new.self (Some c.put_short-chain.result))
+    ∙ sym (frames_told _ _ _ (placed self.cells cs c.args.at inside self.stand c.put_short-chain.new.cells c.put_short-chain.result c.args.bytes.now c.requires.short put))

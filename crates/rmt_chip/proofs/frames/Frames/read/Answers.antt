@@ -1,27 +1,27 @@
-use Rattle.std.proofs.Common.{◌≡◌, ◌<◌, [], None, Some, get_or, length, sym, ◌∙◌, arith}
+use Rattle.std.proofs.Common.{◌≡◌, ℕ, ◌<◌, [], List, Option, None, Some, get_or, length, sym, ◌∙◌, arith}
 use Rattle.std.proofs.lemmas.List.{get_or_default}
+use Rattle.rmt_cells.specs.declared.cells.Chain.{Chain}
 use Rattle.rmt_chip.specs.Frames.{frames_in, held_frames}
 use Rattle.rmt_chip.proofs.FrameLaws.{there}
 use Rattle.rmt_chip.proofs.frames.Frames.read.Goals as goal
+
+-- the chain that was read, where one is
+chain_at : (cs : List (Option Chain)) (at : ℕ) (read : Option Chain) (chain : Chain) → at < length cs → read ≡ get_or cs at read → read ≡ Some chain → get_or cs at None ≡ Some chain
+chain_at cs at read chain inside is some = get_or_default cs at None read inside ∙ sym is ∙ some
 
 pub read-requires : goal.read-requires
 read-requires c =
     let self = c.args.self.now in
     let cs = self.chains.items in
+    let inside : c.args.at < length cs = omega (arith, self.all, self.chains.ok.0, c.requires.exists) in
     let fs = frames_in self.cells cs in
-    let all = self.all in
-    let ok = self.chains.ok.0 in
-    let inside : c.args.at < length cs = omega arith in
-    let is : get_or cs c.args.at None ≡ Some c.in-Some.chain = get_or_default cs c.args.at None c.index.result.now inside ∙ sym c.index.ensures ∙ c.in-Some.is in
-    record { held = (65536, held_frames cs fs, get_or fs c.args.at [], self.stand.stands, there cs fs c.args.at c.in-Some.chain inside self.stand.as_many is, c.requires.within) }
+    let chain = there cs fs c.args.at c.in-Some.chain inside self.stand.as_many (chain_at cs c.args.at c.index.result.now c.in-Some.chain inside c.index.ensures c.in-Some.is) in
+    record { held = (65536, held_frames cs fs, get_or fs c.args.at [], self.stand.stands, chain, c.requires.within) }
 
 pub returns-in-Some : goal.returns-in-Some
 returns-in-Some c =
     let self = c.args.self.now in
     let cs = self.chains.items in
-    let fs = frames_in self.cells cs in
-    let all = self.all in
-    let ok = self.chains.ok.0 in
-    let inside : c.args.at < length cs = omega arith in
-    let is : get_or cs c.args.at None ≡ Some c.in-Some.chain = get_or_default cs c.args.at None c.index.result.now inside ∙ sym c.index.ensures ∙ c.in-Some.is in
-    c.read.ensures.bytes 65536 (held_frames cs fs) (get_or fs c.args.at []) self.stand.stands (there cs fs c.args.at c.in-Some.chain inside self.stand.as_many is) c.requires.within
+    let inside : c.args.at < length cs = omega (arith, self.all, self.chains.ok.0, c.requires.exists) in
+    c.read.ensures.bytes 65536 (held_frames cs (frames_in self.cells cs)) (get_or (frames_in self.cells cs) c.args.at []) self.stand.stands
+    (there cs _ c.args.at c.in-Some.chain inside self.stand.as_many (chain_at cs c.args.at c.index.result.now c.in-Some.chain inside c.index.ensures c.in-Some.is)) c.requires.within

@@ -1,0 +1,45 @@
+use Rattle.std.proofs.Common.{◌<◌, ap, sym, subst, ℕ, List, length, get_or, arith}
+use Rattle.std.specs.Prelude.{slice_index}
+use Rattle.rmt_chip.specs.Types.{Unit}
+use Rattle.rmt_chip.specs.Looked.{HasRoom, LookedFor}
+use Rattle.rmt_chip.specs.Memory.{MemoryFits, IsLaid, LooksAt}
+use Rattle.rmt_chip.specs.declared.memory.SlotMemory.{SlotMemory}
+use Rattle.rmt_chip.proofs.LookLaws.{room_kept, looked_more, unit_at}
+use Rattle.rmt_chip.proofs.keys.look_all.Goals as goal
+
+pub look_unit-requires-clause-fits : goal.look_unit-requires-clause-fits
+look_unit-requires-clause-fits c =
+    let unit = c.index-units-at.result in
+    let memory = c.index-memories-at.result in
+    let (inside, at) = unit_at c.args.stage.now.units c.as_slice-units.result.now c.loop-at.at unit c.as_slice-units.ensures c.loop-at-test.true c.index-units-at.is in
+    subst (λ (u : Unit). MemoryFits u memory) at
+    (subst (λ (m : SlotMemory). MemoryFits (get_or c.args.stage.now.units c.loop-at.at unit) m) (sym c.index-memories-at.is) (c.requires.fit.each c.loop-at.at unit memory inside))
+
+pub loop-at-preserved : goal.loop-at-preserved
+loop-at-preserved c =
+    let units = c.args.stage.now.units in
+    let i = c.loop-at.at in
+    let unit = c.index-units-at.result in
+    let (inside, at) = unit_at units c.as_slice-units.result.now i unit c.as_slice-units.ensures c.loop-at-test.true c.index-units-at.is in
+    let memory = c.index-memories-at.result in
+    let was = c.loop-at.invariant in
+    let new = c.look_unit.new.into in
+    let words = λ (w : ℕ). slice_index c.args.vector.now w in
+    let room : HasRoom (get_or units i unit) new = subst (λ (u : Unit). HasRoom u new) (sym at) c.look_unit.ensures.room in
+    let within : i < length c.loop-at.into = subst (λ (n : ℕ). i < n) (sym was.room.all_units) inside in
+    record {
+      room = room_kept c.args.stage.now c.loop-at.into i new unit inside room was.room;
+      so_far = λ seed look k laid looks.
+          let here = c.look_unit.ensures.looked seed c.args.stage.now look k i
+          (subst (λ (u : Unit). IsLaid seed c.args.stage.now u memory) at (subst (λ (m : SlotMemory). IsLaid seed c.args.stage.now (get_or units i unit) m) (sym c.index-memories-at.is) (laid i unit memory inside)))
+          (subst (λ (u : Unit). LooksAt seed c.args.stage.now look k i u) at (looks i unit inside)) in
+          looked_more look k words units c.loop-at.into i new unit inside within (subst (λ (u : Unit). LookedFor look k i words u new) (sym at) here) (was.so_far seed look k laid looks);
+    }
+
+pub returns-clause-looked : goal.returns-clause-looked
+returns-clause-looked c = λ seed look k laid looks.
+    let end = ap (λ (us : List Unit). length us) c.as_slice-units.ensures in
+    record {
+      all_units = c.loop-at.invariant.room.all_units;
+      each = λ i u d lt. c.loop-at.invariant.so_far seed look k laid looks i u d (omega arith);
+    }

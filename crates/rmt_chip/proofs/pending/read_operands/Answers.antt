@@ -1,7 +1,0 @@
-use Rattle.std.proofs.Common.{subst, sym}
-use Rattle.rmt_chip.proofs.PendingLaws.{AreShort, short_records}
-use Rattle.rmt_chip.proofs.pending.read_operands.Goals as goal
-
-pub compute-requires-clause-few : goal.compute-requires-clause-few
-compute-requires-clause-few c =
-    subst AreShort (sym c.deref.ensures.value) (short_records c.args.stage.now c.requires.fits c.args.pending.now.looked.items c.requires.room.looked)

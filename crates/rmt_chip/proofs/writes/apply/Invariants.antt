@@ -1,6 +1,0 @@
-use Rattle.std.proofs.Common.{◌≡◌, take}
-use Rattle.rmt_chip.specs.Writes.{applied}
-use Rattle.rmt_chip.proofs.writes.apply.Given as goal
-
-abbrev pub invariant-loop-write : goal.invariant-loop-write
-invariant-loop-write l = l.vector ≡ applied (take l.write-index l.writes) l.fn.vector
