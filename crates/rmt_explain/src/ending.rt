@@ -62,6 +62,7 @@ impl<'w, 'l> Ending<'w, 'l, '_> {
     /// The word that names the file of a role, where the message may quote that file.
     pub fn quoted_word(&self, role: Role) -> Option<&String> {
         let is_quoted = match self.status {
+            status::DONE => role == Role::Program && self.keeps_program(),
             status::BAD_PROGRAM => role == Role::Program,
             status::BAD_ENTRIES | status::NO_FIT => role == Role::Program || role == Role::Entries,
             status::BAD_PACKETS => role == Role::Packets,
@@ -74,6 +75,17 @@ impl<'w, 'l> Ending<'w, 'l, '_> {
         }
     }
 
+    /// Whether the call writes a file, and another one than the program.
+    fn keeps_program(&self) -> bool {
+        match (
+            word_of(self.words, Role::Program),
+            word_of(self.words, Role::Written),
+        ) {
+            (Some(program), Some(written)) => { self.words.get(program) != self.words.get(written) }
+            _ => false,
+        }
+    }
+
     /// The line, counted from 1, at which the last line says that a text is bad.
     pub fn bad_line(&self) -> u64 {
         number_at(self.last_line, 4)
@@ -82,6 +94,8 @@ impl<'w, 'l> Ending<'w, 'l, '_> {
 
 /// The exit statuses that a message is written for, as docs/commands.md numbers them.
 pub mod status {
+    pub const DONE: u8 = 0;
+
     pub const USAGE: u8 = 1;
 
     pub const READ_FAULT: u8 = 2;

@@ -1,30 +1,73 @@
 //! Bad lines of an entry text.
 
+use crate::arguments::{BadArgument, bad_argument, explain_argument};
 use crate::commands::Role;
 use crate::ending::{Ending, Texts};
+use crate::fields::{Parameter, parameters_of};
+use crate::keys::{BadWord, Key, key_of};
 use crate::last_line::number_at;
 use crate::message::{Message, is_seen};
-use crate::places::{line_from, line_start, quote_line, say_head, say_named_byte};
+use crate::places::{
+    line_from, line_start, quote_line, say_head, say_named_byte, say_second_place,
+};
 use crate::tables::{Declared, Kind, key_words, table_of};
-use crate::words::{Word, count_words, word_of_line};
-use rmt_bits::digits::{digits_len, hex_len};
+use crate::words::{Word, missing_word, word_of_line};
 use std::alloc::Global;
+
+/// A bad line, and what the program declares of its table.
+#[derive(Drop)]
+struct BadLine<'e, 'p> {
+    code: u64,
+    number: u64,
+    line: &'e [u8],
+    table: Option<Declared>,
+    key: Option<Key<'p>>,
+    /// The parameters of the line's action.
+    parameters: Option<Vec<Parameter<'p>>>,
+}
 
 /// Tells what is wrong with the bad line, at which word, and what to do.
 pub fn explain_entries(alloc: Global, ending: &Ending, texts: &Texts, message: &mut Message) {
-    let code = number_at(ending.last_line, 2);
-    let number = ending.bad_line();
-    let line = line_of(texts, number);
-    let table = table_for(alloc, texts, line);
-    let word = word_at_fault(code, line, &table);
+    let bad = bad_line(alloc, ending, texts);
+    let word = bad.word();
     match ending.quoted_word(Role::Entries) {
-        Some(name) => say_head(name.as_str(), number, word.column, message),
+        Some(name) => say_head(name.as_str(), bad.number, word.column, message),
         None => message.say("rmt: the entries: "),
     }
-    explain_code(code, &word, line, &table, message);
+    bad.explain(&word, message);
     message.say("\n");
     if texts.entries.is_some() {
-        quote_line(number, line, word.column, word.bytes.len(), message);
+        quote_line(bad.number, bad.line, word.column, word.bytes.len(), message);
+    }
+    if bad.code == 6 {
+        explain_earlier(ending, texts, &bad, message);
+    }
+    if bad.code == 7 {
+        explain_size(ending, texts, &bad, message);
+    }
+}
+
+/// What is known of the bad line.
+fn bad_line<'e, 'p>(alloc: Global, ending: &Ending, texts: &Texts<'p, 'e, '_>) -> BadLine<'e, 'p> {
+    let number = ending.bad_line();
+    let line = line_of(texts, number);
+    let name = word_or_none(line, 0);
+    let text = match texts.program {
+        Some(text) => text,
+        None => b"".as_slice(),
+    };
+    let table = table_of(alloc, text, name);
+    let (kind, keys) = match &table {
+        Some(table) => (table.kind, key_words(table)),
+        None => (Kind::NoKey, 0),
+    };
+    BadLine {
+        code: number_at(ending.last_line, 2),
+        number,
+        line,
+        table,
+        key: key_of(alloc, text, name, kind),
+        parameters: parameters_of(alloc, text, word_or_none(line, keys.saturating_add(1))),
     }
 }
 
@@ -39,31 +82,140 @@ fn line_of<'e>(texts: &Texts<'_, 'e, '_>, number: u64) -> &'e [u8] {
     }
 }
 
-/// The table that a line names, as the program declares it.
-fn table_for(alloc: Global, texts: &Texts, line: &[u8]) -> Option<Declared> {
-    let name = word_of_line(line, 0)?;
-    table_of(alloc, texts.program?, name.bytes)
+/// The bytes of a word of a line.
+fn word_or_none(line: &[u8], number: usize) -> &[u8] {
+    match word_of_line(line, number) {
+        Some(word) => word.bytes,
+        None => b"".as_slice(),
+    }
 }
 
-/// The word at which a line breaks a code; the place behind the line where a word is missing.
-fn word_at_fault<'a>(code: u64, line: &'a [u8], table: &Option<Declared>) -> Word<'a> {
-    let keys = match table {
-        Some(table) => key_words(table),
-        None => 0,
-    };
-    let found = match code {
-        1 => unseen(line),
-        3 => bad_key_word(line, keys),
-        4 => word_of_line(line, keys.saturating_add(1)),
-        5 => bad_argument(line, keys.saturating_add(2)),
-        _ => word_of_line(line, 0),
-    };
-    match found {
-        Some(word) => word,
-        None => Word {
-            bytes: b"".as_slice(),
-            column: (line.len() as u64).saturating_add(1),
-        },
+impl<'e, 'p> BadLine<'e, 'p> {
+    /// The number of the word that names the action.
+    fn action_at(&self) -> usize {
+        match &self.table {
+            Some(table) => key_words(table).saturating_add(1),
+            None => 1,
+        }
+    }
+
+    /// The word of the key that makes none.
+    fn bad_key_word(&self) -> Option<BadWord<'e, 'p>> {
+        match &self.key {
+            Some(key) => key.bad_word(self.line, missing_word(self.line)),
+            None => None,
+        }
+    }
+
+    /// The argument that the action does not take.
+    fn bad_argument(&self) -> Option<BadArgument<'e, 'p>> {
+        match &self.parameters {
+            Some(parameters) => bad_argument(
+                self.line,
+                self.action_at().saturating_add(1),
+                parameters.as_slice(),
+                missing_word(self.line),
+            ),
+            None => None,
+        }
+    }
+
+    /// The word at which the line breaks its code; the place behind the line where a word is missing.
+    fn word(&self) -> Word<'e> {
+        let found = match self.code {
+            1 => unseen(self.line),
+            3 => match self.bad_key_word() {
+                Some(bad) => Some(bad.word),
+                None => word_of_line(self.line, 1),
+            },
+            4 => word_of_line(self.line, self.action_at()),
+            5 => match self.bad_argument() {
+                Some(bad) => Some(bad.word),
+                None => word_of_line(self.line, self.action_at().saturating_add(1)),
+            },
+            _ => word_of_line(self.line, 0),
+        };
+        match found {
+            Some(word) => word,
+            None => missing_word(self.line),
+        }
+    }
+
+    /// What the line's code says of a word.
+    fn explain(&self, word: &Word, message: &mut Message) {
+        match self.code {
+            1 => explain_bytes(word, message),
+            2 => {
+                message.quote(word.bytes);
+                message.say(
+                    " is no table of the program: a line begins with the name of a table that \
+                        has a key",
+                );
+            }
+            3 => self.explain_key(word, message),
+            4 if word.bytes.is_empty() => message.say(
+                "the action is missing: it stands behind the key",
+            ),
+            4 => {
+                message.quote(word.bytes);
+                message.say(
+                    " is no action that the table lists: give one of its `actions` behind the key",
+                );
+            }
+            5 => self.explain_arguments(message),
+            6 => message.say(
+                "an earlier line of the table has the same key: take one of the two out",
+            ),
+            7 => explain_full(&self.table, message),
+            _ => message.say("the line can't be understood"),
+        }
+    }
+
+    /// A key that is not of its table's form.
+    fn explain_key(&self, word: &Word, message: &mut Message) {
+        if word.bytes.is_empty() {
+            message.say("the key has too few words");
+        } else {
+            message.quote(word.bytes);
+            message.say(" makes no key of the table");
+        }
+        let kind = match &self.key {
+            Some(key) => key.kind,
+            None => Kind::NoKey,
+        };
+        message.say(match kind {
+            Kind::NoKey => ": it has no key, so it takes no entries",
+            Kind::Exact => {
+                ": give a number for each field of the key, each within the field's width"
+            }
+            Kind::Prefix => ": give `value/length`, the length from 0 to the field's width",
+            Kind::Ternary => {
+                ": give a priority below 2^32, then for each field `value&mask`, `value` or `*`, \
+                    within its width"
+            }
+        });
+        if let Some(bad) = self.bad_key_word() {
+            if let Some((field, bits)) = bad.field {
+                message.say("; ");
+                field.say(message);
+                message.say(" has ");
+                message.say_bits(bits);
+            }
+        }
+    }
+
+    /// Arguments that the action does not take.
+    fn explain_arguments(&self, message: &mut Message) {
+        match (self.bad_argument(), &self.parameters) {
+            (Some(bad), Some(parameters)) => {
+                let action = word_or_none(self.line, self.action_at());
+                explain_argument(&bad, action, parameters.as_slice(), message);
+            }
+            _ => message.say(
+                "the action does not take these arguments: give a number for each of its \
+                    parameters, each within its width",
+            ),
+        }
     }
 }
 
@@ -78,97 +230,6 @@ fn unseen(line: &[u8]) -> Option<Word<'_>> {
         }
     }
     None
-}
-
-/// The first word of the key that is not of the form of one, or the first word where all are.
-fn bad_key_word(line: &[u8], keys: usize) -> Option<Word<'_>> {
-    for at in 1..keys.saturating_add(1) {
-        let word = word_of_line(line, at)?;
-        if !is_value(word.bytes) {
-            return Some(word);
-        }
-    }
-    word_of_line(line, 1)
-}
-
-/// The first argument that is no number, or the first one where all are numbers.
-fn bad_argument(line: &[u8], from: usize) -> Option<Word<'_>> {
-    for at in from..from.saturating_add(17) {
-        match word_of_line(line, at) {
-            Some(word) => {
-                if !is_number(word.bytes) {
-                    return Some(word);
-                }
-            }
-            None => break,
-        }
-    }
-    word_of_line(line, from)
-}
-
-/// Whether a word is a number.
-fn is_number(word: &[u8]) -> bool {
-    number_len(word) == word.len() && !word.is_empty()
-}
-
-/// How many bytes of a word are a number.
-fn number_len(word: &[u8]) -> usize {
-    if word.starts_with(b"0x") {
-        match word.get(2..) {
-            Some(digits) if hex_len(digits) > 0 => hex_len(digits).saturating_add(2),
-            _ => 0,
-        }
-    } else {
-        digits_len(word)
-    }
-}
-
-/// Whether a word is a number, `*`, or two numbers with `&` or `/` between them.
-fn is_value(word: &[u8]) -> bool {
-    let first = number_len(word);
-    if word == b"*".as_slice() || is_number(word) {
-        return true;
-    }
-    match (word.get(first), word.get(first.saturating_add(1)..)) {
-        (Some(sign), Some(rest)) => first > 0
-            && (*sign == b'&' || *sign == b'/')
-            && is_number(rest),
-        _ => false,
-    }
-}
-
-/// What a code says of a word.
-fn explain_code(
-    code: u64,
-    word: &Word,
-    line: &[u8],
-    table: &Option<Declared>,
-    message: &mut Message,
-) {
-    match code {
-        1 => explain_bytes(word, message),
-        2 => {
-            message.quote(word.bytes);
-            message.say(
-                " is no table of the program: a line begins with the name of a table that has a \
-                    key",
-            );
-        }
-        3 => explain_key(word, table, message),
-        4 if word.bytes.is_empty() => message.say(
-            "the action is missing: it stands behind the key",
-        ),
-        4 => {
-            message.quote(word.bytes);
-            message.say(
-                " is no action that the table lists: give one of its `actions` behind the key",
-            );
-        }
-        5 => explain_arguments(word, line, message),
-        6 => message.say("an earlier line of the table has the same key: take one of the two out"),
-        7 => explain_full(table, message),
-        _ => message.say("the line can't be understood"),
-    }
 }
 
 /// A line with a byte that isn't seen, or with one word.
@@ -190,48 +251,6 @@ fn explain_bytes(word: &Word, message: &mut Message) {
     }
 }
 
-/// A key that is not of its table's form.
-fn explain_key(word: &Word, table: &Option<Declared>, message: &mut Message) {
-    let kind = match table {
-        Some(table) => table.kind,
-        None => Kind::NoKey,
-    };
-    if word.bytes.is_empty() {
-        message.say("the key has too few words");
-    } else {
-        message.quote(word.bytes);
-        message.say(" makes no key of the table");
-    }
-    message.say(match kind {
-        Kind::NoKey => ": it has no key, so it takes no entries",
-        Kind::Exact => ": give a number for each field of the key, each within the field's width",
-        Kind::Prefix => ": give `value/length`, the length from 0 to the field's width",
-        Kind::Ternary => {
-            ": give a priority below 2^32, then for each field `value&mask`, `value` or `*`, \
-                within its width"
-        }
-    });
-}
-
-/// Arguments that the action does not take.
-fn explain_arguments(word: &Word, line: &[u8], message: &mut Message) {
-    if word.bytes.is_empty() {
-        message.say("the action's arguments are missing");
-    } else if is_number(word.bytes) {
-        message.say(
-            "the action takes another number of arguments, or one does not fit its parameter",
-        );
-    } else {
-        message.quote(word.bytes);
-        message.say(" is no number");
-    }
-    message.say(
-        ": give a number for each parameter of the action, each within its width; the line has ",
-    );
-    message.say_number(count_words(line) as u64);
-    message.say(" words");
-}
-
 /// A table that is full.
 fn explain_full(table: &Option<Declared>, message: &mut Message) {
     message.say("the table is full");
@@ -241,4 +260,42 @@ fn explain_full(table: &Option<Declared>, message: &mut Message) {
         message.say(" entries, its `size`");
     }
     message.say(": raise its `size`, or take entries out");
+}
+
+/// The earlier line that has the same key.
+fn explain_earlier(ending: &Ending, texts: &Texts, bad: &BadLine, message: &mut Message) {
+    let (Some(text), Some(key), Some(name)) = (
+        texts.entries,
+        &bad.key,
+        ending.quoted_word(Role::Entries),
+    ) else {
+        return;
+    };
+    if let Some(number) = key.earlier_line(text, bad.line, bad.number) {
+        if let Some(start) = line_start(text, number) {
+            let line = line_from(text, start);
+            say_head(name.as_str(), number, 1, message);
+            message.say("the key stands here first\n");
+            quote_line(number, line, 1, word_or_none(line, 0).len(), message);
+        }
+    }
+}
+
+/// Where the table is declared that is full.
+fn explain_size(ending: &Ending, texts: &Texts, bad: &BadLine, message: &mut Message) {
+    if let (Some(text), Some(table), Some(name)) = (
+        texts.program,
+        &bad.table,
+        ending.quoted_word(Role::Program),
+    ) {
+        let word = word_or_none(bad.line, 0);
+        say_second_place(
+            name.as_str(),
+            text,
+            table.position,
+            word,
+            " is declared here\n",
+            message,
+        );
+    }
 }

@@ -1,12 +1,12 @@
 //! What may stand where in a program's text: enough of the grammar to tell for a token what was wanted there.
 
-use crate::grammar_rows::ROWS;
+use crate::grammar_rows::rows_of;
 use crate::message::Message;
 use crate::scan::{byte_at, is_name_byte, token_from};
 use rmt_bits::digits::is_digit;
 use std::alloc::Global;
 
-/// A place in the grammar, before a token.
+/// A place in the grammar, before a token: of the text, then those of headers, actions, tables and `control`.
 #[derive(Clone, Copy, Debug)]
 pub enum Want {
     Top,
@@ -156,6 +156,7 @@ fn is_of(row: &str, word: &[u8]) -> bool {
     match row {
         "NAME" => is_word(word) && !is_reserved(word),
         "NUMBER" => is_digit(byte_at(word, 0)),
+        "END" => false,
         _ => row.as_bytes() == word,
     }
 }
@@ -182,7 +183,7 @@ impl Walk {
 
     /// Takes a token, and answers whether it may stand here.
     pub fn take(&mut self, word: &[u8]) -> bool {
-        for row in ROWS.iter() {
+        for row in rows_of(self.want) {
             if is_same(row.at, self.want) && is_of(row.token, word) {
                 self.back = back_of(self.want, self.back);
                 self.open(word);
@@ -257,13 +258,13 @@ pub fn want_at(alloc: Global, text: &[u8], position: usize) -> Want {
 /// Says what may stand at a place: `a name, A or B`.
 pub fn say_wanted(want: Want, message: &mut Message) {
     let mut left = 0usize;
-    for row in ROWS.iter() {
+    for row in rows_of(want) {
         if is_same(row.at, want) {
             left = left.saturating_add(1);
         }
     }
     let mut is_first = true;
-    for row in ROWS.iter() {
+    for row in rows_of(want) {
         if is_same(row.at, want) {
             if !is_first {
                 message.say(if left == 1 { " or " } else { ", " });
@@ -291,7 +292,7 @@ fn say_row(token: &str, message: &mut Message) {
 
 /// Whether a name may stand at a place.
 pub fn wants_name(want: Want) -> bool {
-    for row in ROWS.iter() {
+    for row in rows_of(want) {
         if is_same(row.at, want) && row.token == "NAME" {
             return true;
         }

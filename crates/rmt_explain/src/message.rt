@@ -52,6 +52,12 @@ impl Message {
         }
     }
 
+    /// Adds a number of bits.
+    pub fn say_bits(&mut self, number: u64) {
+        self.say_number(number);
+        self.say(if number == 1 { " bit" } else { " bits" });
+    }
+
     /// Adds digits in groups of three.
     fn add_groups(&mut self, digits: &[u8]) {
         let mut left = digits.len();
@@ -83,6 +89,12 @@ impl Message {
     /// Adds a word of a text between quotes; what isn't seen is a `?`, and a long one is cut.
     pub fn quote(&mut self, word: &[u8]) {
         self.say("`");
+        self.show_word(word);
+        self.say("`");
+    }
+
+    /// Adds a word of a text; what isn't seen is a `?`, and a long one is cut.
+    fn show_word(&mut self, word: &[u8]) {
         let mut room = WORD_LIMIT;
         for byte in word {
             if room == 0 {
@@ -92,6 +104,14 @@ impl Message {
             room -= 1;
             self.show(*byte);
         }
+    }
+
+    /// Adds two words of a text between quotes, with a dot between them.
+    pub fn quote_two(&mut self, first: &[u8], second: &[u8]) {
+        self.say("`");
+        self.show_word(first);
+        self.say(".");
+        self.show_word(second);
         self.say("`");
     }
 

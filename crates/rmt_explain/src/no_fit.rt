@@ -3,11 +3,12 @@
 use crate::commands::Role;
 use crate::ending::{Ending, Texts};
 use crate::grammar::Want;
+use crate::keys::key_of;
 use crate::last_line::{number_at, word_at};
 use crate::limits::limit_of;
 use crate::message::Message;
 use crate::places::{line_from, line_start, place_of, quote_line, say_head};
-use crate::tables::declaration;
+use crate::tables::{Kind, declaration};
 use std::alloc::Global;
 
 /// Tells what doesn't fit, where it is declared, and what helps.
@@ -17,7 +18,8 @@ pub fn explain_no_fit(alloc: Global, ending: &Ending, texts: &Texts, message: &m
     let name = word_or_none(line, 3);
     let place = declared_place(alloc, texts, form, name);
     say_start(ending, texts, place, message);
-    say_form(form, line, message);
+    let late = late_lines(alloc, texts, form, name);
+    say_form(form, line, late, message);
     message.say("\n");
     if let (Some(text), Some(at)) = (texts.program, place) {
         let (number, column) = place_of(text, at);
@@ -50,7 +52,7 @@ fn say_start(ending: &Ending, texts: &Texts, place: Option<usize>, message: &mut
 /// Where the thing is declared that a refusal names.
 fn declared_place(alloc: Global, texts: &Texts, form: &[u8], name: &[u8]) -> Option<usize> {
     let place = match form_of(form) {
-        Form::Tail | Form::Lookup | Form::Step => Want::HeaderName,
+        Form::Lookup | Form::Step => Want::HeaderName,
         Form::Action => Want::ActionName,
         Form::Stage | Form::Load => Want::TableName,
         Form::Parser | Form::Phv | Form::Other => return None,
@@ -61,7 +63,6 @@ fn declared_place(alloc: Global, texts: &Texts, form: &[u8], name: &[u8]) -> Opt
 /// The forms of a refusal.
 #[derive(Clone, Copy)]
 enum Form {
-    Tail,
     Lookup,
     Step,
     Parser,
@@ -73,8 +74,7 @@ enum Form {
 }
 
 /// The words of the forms.
-const FORMS: [(&str, Form); 8] = [
-    ("tail", Form::Tail),
+const FORMS: [(&str, Form); 7] = [
     ("lookup", Form::Lookup),
     ("step", Form::Step),
     ("parser", Form::Parser),
@@ -95,14 +95,8 @@ fn form_of(word: &[u8]) -> Form {
 }
 
 /// What doesn't fit, in words, and what helps.
-fn say_form(form: &[u8], line: &[u8], message: &mut Message) {
+fn say_form(form: &[u8], line: &[u8], late: Option<u64>, message: &mut Message) {
     match form_of(form) {
-        Form::Tail => say_two(
-            "header ",
-            line,
-            " has a tail, and `compile` writes no image with one yet: run the program with `plain`",
-            message,
-        ),
         Form::Lookup => {
             say_two(
                 "the `next` of header ",
@@ -156,7 +150,7 @@ fn say_form(form: &[u8], line: &[u8], message: &mut Message) {
             );
         }
         Form::Stage => say_stage(line, message),
-        Form::Load => say_load(line, message),
+        Form::Load => say_load(line, late, message),
         Form::Other => message.say("the program doesn't fit the chip"),
     }
 }
@@ -175,17 +169,39 @@ fn say_of(line: &[u8], at: usize, behind: &str, message: &mut Message) {
     message.say(behind);
 }
 
+/// How many entries a table has that doesn't load, where their keys differ in their last three bytes alone.
+fn late_lines(alloc: Global, texts: &Texts, form: &[u8], name: &[u8]) -> Option<u64> {
+    match form_of(form) {
+        Form::Load => {
+            let key = key_of(alloc, texts.program?, name, Kind::Exact)?;
+            key.late_lines(alloc, texts.entries?, name)
+        }
+        _ => None,
+    }
+}
+
 /// Entries that find no cells.
-fn say_load(line: &[u8], message: &mut Message) {
+fn say_load(line: &[u8], late: Option<u64>, message: &mut Message) {
     say_two("table ", line, " has ", message);
     message.say_number(number_at(line, 4));
     message.say(" entries that have only ");
     message.say_number(number_at(line, 5));
-    message.say(
-        " cells together, under each of eight seeds: raise the table's `size`; where keys differ \
-            in their last three bytes alone, a field of 24 bits or more that is always 0 behind \
-            them in the key makes them load",
-    );
+    message.say(" cells together, under each of eight seeds: ");
+    match late {
+        Some(count) => {
+            message.say("its ");
+            message.say_number(count);
+            message.say(
+                " keys differ in their last three bytes alone, so put a field of 24 bits or more \
+                    that is always 0 behind the key, as `meta { zero : 24; }`, and a 0 into each \
+                    entry; `tools/spread` writes both",
+            );
+        }
+        None => message.say(
+            "raise the table's `size`; where many keys differ in their last three bytes alone, a \
+                field of 24 bits or more that is always 0 behind the key makes them load",
+        ),
+    }
 }
 
 /// A table or an `if` that has no room in any stage: the first stage's limit, and how many stages there are.

@@ -96,6 +96,24 @@ pub fn quote_line(number: u64, line: &[u8], column: u64, width: usize, message: 
     message.say("\n");
 }
 
+/// Tells another place of a text, at which a word stands, and quotes its line.
+pub fn say_second_place(
+    name: &str,
+    text: &[u8],
+    position: usize,
+    word: &[u8],
+    behind: &str,
+    message: &mut Message,
+) {
+    let (line, column) = place_of(text, position);
+    say_head(name, line, column, message);
+    message.quote(word);
+    message.say(behind);
+    if let Some(start) = line_start(text, line) {
+        quote_line(line, line_from(text, start), column, word.len(), message);
+    }
+}
+
 /// Marks where a line is cut.
 fn say_cut(is_cut: bool, message: &mut Message) {
     if is_cut {

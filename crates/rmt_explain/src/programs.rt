@@ -2,12 +2,16 @@
 
 use crate::commands::Role;
 use crate::ending::{Ending, Texts};
+use crate::fields::{Width, width_of};
 use crate::grammar::{Want, is_reserved, is_word, say_wanted, want_at, wants_name};
 use crate::last_line::number_at;
 use crate::message::Message;
-use crate::places::{line_from, line_start, part, place_of, quote_line, say_head, say_named_byte};
+use crate::places::{
+    line_from, line_start, part, quote_line, say_head, say_named_byte, say_second_place,
+};
 use crate::program_codes::{BYTE_HABITS, SENTENCES, WORD_HABITS};
 use crate::scan::{Token, byte_at, token_from};
+use crate::subjects::{Operand, Subject, operand_at, subject_at};
 use crate::tables::declaration;
 use std::alloc::Global;
 
@@ -34,6 +38,9 @@ pub fn explain_program(alloc: Global, ending: &Ending, texts: &Texts, message: &
             if code == 5 {
                 explain_first(alloc, ending, text, at, message);
             }
+            if code == 10 {
+                explain_declared(alloc, ending, text, at, message);
+            }
         }
         _ => {
             say_code(code, b"", message);
@@ -53,13 +60,50 @@ fn explain_first(alloc: Global, ending: &Ending, text: &[u8], at: usize, message
         ending.quoted_word(Role::Program),
         declaration(alloc, text, want, word),
     ) {
-        let (line, column) = place_of(text, first);
-        say_head(name.as_str(), line, column, message);
-        message.quote(word);
-        message.say(" is declared here first\n");
-        if let Some(start) = line_start(text, line) {
-            quote_line(line, line_from(text, start), column, word.len(), message);
+        say_second_place(
+            name.as_str(),
+            text,
+            first,
+            word,
+            " is declared here first\n",
+            message,
+        );
+    }
+}
+
+/// Where the two are declared whose widths differ.
+fn explain_declared(alloc: Global, ending: &Ending, text: &[u8], at: usize, message: &mut Message) {
+    let (Some(name), Some(subject)) = (
+        ending.quoted_word(Role::Program),
+        subject_at(alloc, text, at),
+    ) else {
+        return;
+    };
+    let field = subject.field;
+    if let Some(width) = width_of(alloc, text, field) {
+        say_declared(name.as_str(), text, field.name, width, message);
+    }
+    match operand_at(alloc, text, at, &subject) {
+        Some(Operand::Field(field, width)) => {
+            say_declared(name.as_str(), text, field.name, width, message);
         }
+        Some(Operand::Parameter(parameter)) => {
+            say_declared(
+                name.as_str(),
+                text,
+                parameter.name,
+                parameter.width,
+                message,
+            );
+        }
+        Some(Operand::Number(_)) | None => {}
+    }
+}
+
+/// Where a name is declared, if it is.
+fn say_declared(name: &str, text: &[u8], word: &[u8], width: Width, message: &mut Message) {
+    if let Some(position) = width.position {
+        say_second_place(name, text, position, word, " is declared here\n", message);
     }
 }
 
@@ -78,7 +122,51 @@ fn explain_at(alloc: Global, code: u64, text: &[u8], at: usize, message: &mut Me
         1 => explain_byte(text, at, message),
         2 => explain_number(word, message),
         3 => explain_token(alloc, text, at, word, message),
+        10 => explain_widths(alloc, text, at, word, message),
         _ => say_code(code, word, message),
+    }
+}
+
+/// An operand or a number of another width than the field that it stands beside.
+fn explain_widths(alloc: Global, text: &[u8], at: usize, word: &[u8], message: &mut Message) {
+    let is_told = match subject_at(alloc, text, at) {
+        Some(subject) => match (
+            operand_at(alloc, text, at, &subject),
+            width_of(alloc, text, subject.field),
+        ) {
+            (Some(operand), Some(width)) => {
+                say_widths(&operand, &subject, width, message);
+                true
+            }
+            _ => false,
+        },
+        None => false,
+    };
+    if is_told {
+        message.say(": use a field, parameter or number of the field's width");
+    } else {
+        say_code(10, word, message);
+    }
+}
+
+/// The widths of an operand and of the field that it stands beside.
+fn say_widths(operand: &Operand, subject: &Subject, width: Width, message: &mut Message) {
+    operand.say(message);
+    match operand.width() {
+        Some(other) => {
+            message.say(" has ");
+            message.say_bits(other.bits);
+            message.say(", and ");
+            subject.field.say(message);
+            message.say(" has ");
+            message.say_number(width.bits);
+        }
+        None => {
+            message.say(" does not fit ");
+            subject.field.say(message);
+            message.say(", which has ");
+            message.say_bits(width.bits);
+        }
     }
 }
 

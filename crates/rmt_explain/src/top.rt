@@ -12,9 +12,10 @@ use crate::no_fit::explain_no_fit;
 use crate::packets::explain_packets;
 use crate::programs::explain_program;
 use crate::usage::explain_usage;
+use crate::warnings::explain_warnings;
 use std::alloc::{AllocError, Global};
 
-/// The lines for standard error. There are none after `Done`.
+/// The lines for standard error. After `Done` these are the warnings of `compile`, if there are any.
 ///
 /// # Errors
 ///
@@ -24,6 +25,7 @@ pub fn explain(alloc: Global, ending: &Ending, texts: &Texts) -> Result<Vec<u8>,
 {
     let mut message = Message::new(alloc);
     match ending.status {
+        status::DONE => explain_warnings(alloc, ending, texts, &mut message),
         status::USAGE => explain_usage(ending.words, &mut message),
         status::READ_FAULT => explain_read(ending, &mut message),
         status::WRITE_FAULT => explain_write(ending, &mut message),

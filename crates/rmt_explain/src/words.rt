@@ -10,37 +10,59 @@ pub struct Word<'a> {
     pub column: u64,
 }
 
-/// The word of a number, from 0, of a line whose words stand between spaces.
-pub fn word_of_line(line: &[u8], wanted: usize) -> Option<Word<'_>> {
-    let mut number = 0usize;
-    let mut start = 0usize;
-    for at in 0..line.len().saturating_add(1) {
-        let is_end = at >= line.len() || part(line, at, at.saturating_add(1)) == b" ".as_slice();
-        if is_end && start < at {
-            if number == wanted {
-                return Some(Word {
-                    bytes: part(line, start, at),
-                    column: (start as u64).saturating_add(1),
-                });
-            }
-            number = number.saturating_add(1);
-        }
-        if is_end {
-            start = at.saturating_add(1);
-        }
-    }
-    None
+/// The words of a line that stand between spaces, one after another.
+#[derive(Clone, Copy)]
+pub struct Words<'a> {
+    line: &'a [u8],
+    at: usize,
 }
 
-/// How many words a line has.
-pub fn count_words(line: &[u8]) -> usize {
-    let mut count = 0usize;
-    let mut is_inside = false;
-    for byte in line {
-        if *byte != b' ' && !is_inside {
-            count = count.saturating_add(1);
-        }
-        is_inside = *byte != b' ';
+impl<'a> Words<'a> {
+    /// The words of a line from the first on.
+    pub fn new(line: &'a [u8]) -> Words<'a> {
+        Words { line, at: 0 }
     }
-    count
+
+    /// The next word.
+    pub fn next(&mut self) -> Option<Word<'a>> {
+        let start = self.first_where(self.at, false);
+        let end = self.first_where(start, true);
+        self.at = end;
+        let bytes = part(self.line, start, end);
+        if bytes.is_empty() {
+            None
+        } else {
+            Some(Word {
+                bytes,
+                column: (start as u64).saturating_add(1),
+            })
+        }
+    }
+
+    /// The first place from one on where a space stands, or none does; the line's end where there is no such.
+    fn first_where(&self, from: usize, is_space: bool) -> usize {
+        for at in from..self.line.len() {
+            if (self.line[at] == b' ') == is_space {
+                return at;
+            }
+        }
+        self.line.len()
+    }
+}
+
+/// The word of a number, from 0, of a line.
+pub fn word_of_line(line: &[u8], wanted: usize) -> Option<Word<'_>> {
+    let mut words = Words::new(line);
+    for _ in 0..wanted {
+        let _ = words.next()?;
+    }
+    words.next()
+}
+
+/// The place behind a line, where a word is missing.
+pub fn missing_word(line: &[u8]) -> Word<'_> {
+    Word {
+        bytes: b"".as_slice(),
+        column: (line.len() as u64).saturating_add(1),
+    }
 }
