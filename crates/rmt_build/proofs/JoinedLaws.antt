@@ -1,6 +1,6 @@
 -- A configuration of the stages of a plan: it carries the program, and keeps what is promised beside that.
 use Rattle.std.proofs.Common.{◌≡◌, ℕ, ◌+◌, ◌*◌, ◌/◌, ◌-◌, ◌<◌, ◌≤◌, true, List, Option, Some, None, length, map, get_or, refl, sym, ap, subst, ◌∙◌, inl, inr, arith}
-use Rattle.std.specs.Prelude.{All, Contains, option_map, slice_get}
+use Rattle.std.specs.Prelude.{All, Contains, IsSomeAnd, option_map, slice_get}
 use Rattle.std.specs.List.{range_with_len}
 use Rattle.std.proofs.lemmas.Nat.{le-div}
 use Rattle.std.proofs.lemmas.Option.{get_or_from_slice_get, none-some, same_Some, slice_get-get_or, slice_get-map, slice_get_within}
@@ -28,7 +28,7 @@ use Rattle.rmt_pack.specs.declared.format.Need.{Need}
 use Rattle.rmt_pack.specs.declared.placement.Part.{Part}
 use Rattle.rmt_pack.specs.declared.placement.Placement.{Placement}
 use Rattle.rmt_pack.specs.Formats.{HasNeed, memory_format, no_memory}
-use Rattle.rmt_pack.specs.Placements.{key_bits, quanta_in, table_need}
+use Rattle.rmt_pack.specs.Placements.{data_bits, key_bits, quanta_in, table_need}
 use Rattle.rmt_pack.proofs.NeedLaws.{table_has_need}
 use Rattle.rmt_ptcam.specs.Clustering.{clustered}
 use Rattle.rmt_ptcam.specs.Needs.{refusal}
@@ -45,15 +45,15 @@ use Rattle.rmt_build.specs.declared.plan.Plan.{Plan}
 use Rattle.rmt_build.specs.BuiltStage.{IsBuiltStage}
 use Rattle.rmt_build.specs.Memories.{blocks_for, memory_for}
 use Rattle.rmt_build.specs.Plans.{format_at, need_in, quanta_before, taken_upto, what_format}
-use Rattle.rmt_build.specs.Promises.{HasBlocksInOrder, HasFormat, HasFormatOfRule, StandInRows}
+use Rattle.rmt_build.specs.Promises.{HasBlocksInOrder, HasDataOfRule, HasFormat, HasFormatOfRule, StandInRows}
 use Rattle.rmt_build.specs.Stages.{AreStagesOf, IsPlanFor}
 use Rattle.rmt_build.specs.EntryCells.{cells_for}
 use Rattle.rmt_build.specs.Told.{cells_told}
 use Rattle.rmt_build.proofs.CarriedLaws.{built_carries, units_carried}
 use Rattle.rmt_build.proofs.FormBlocks.{HasMemory, are_blocks, blocks_in_order}
 use Rattle.rmt_build.proofs.FormConfig.{formed_with_clustered, limits_by_plan}
-use Rattle.rmt_build.proofs.FormFits.{memories}
-use Rattle.rmt_build.proofs.FormStage.{kinds}
+use Rattle.rmt_build.proofs.FormFits.{data_held, memories, zip_right}
+use Rattle.rmt_build.proofs.FormStage.{HoldsData, kinds}
 use Rattle.rmt_build.proofs.LoadedLaws.{loaded_there, rows_in_order}
 use Rattle.rmt_build.proofs.MemoryLaws.{format_of_kind}
 use Rattle.rmt_build.proofs.NamesFilled.{names_filled}
@@ -190,11 +190,27 @@ module _ (p : Program) (lists : List (List Entry)) (plan : Plan) (c : Config) (p
       let memory = AllZip-slice_get (HasMemory p program plan.places parts k) (nodes_in p parts k) stage.units i n.0 u.0 (memories p lists plan program entries is.is_plan.parts k stage b) n.1 u.1 in
       subst (HasFormatOfRule p) (sym (get_or_from_slice_get stage.units i u.0 e u.1)) (has_format k n.0 u.0 carried memory)
 
+  has_data : (k n : ℕ) (u : Unit) → UnitCarried p plan.places parts k n u × HoldsData p plan.places parts k n u → HasDataOfRule p u
+  has_data k n (unit.Gate g) both = tt
+  has_data k n (unit.Slot s) both = elim (kinds p plan.places parts k n (unit.Slot s) both.0) [
+    | inl own ↦
+        let table : table_at p s.node ≡ Some own.table = ap (table_at p) both.0.number ∙ own.at in
+        subst (λ (o : Option Table). IsSomeAnd o (λ t. s.held ≡ data_bits p t)) (sym table) (both.1 s own.table refl own.at)
+    | inr gate ↦ absurd (none-some s (sym (ap as_slot gate.is)))
+  ]
+
+  pub joined_data : All (λ (s : Stage). All (HasDataOfRule p) s.units) c.stages
+  joined_data k d lt =
+      let stage = get_or c.stages k d in
+      let b = built k stage (slice_get-get_or c.stages k d lt) in
+      zip_right (λ n u. UnitCarried p plan.places parts k n u × HoldsData p plan.places parts k n u) (HasDataOfRule p) (nodes_in p parts k) stage.units (has_data k)
+      (data_held p lists plan program entries is.is_plan.parts k stage b)
+
   few : length c.stages ≤ 32
   few = let most = is.few_stages in omega (arith, long, most)
 
   pub joined_limits : refusal p ≡ None → c.parser ≡ clustered p plan.places → IsWithinLimits c
-  joined_limits fits parser = limits_by_plan p lists plan c program entries is.is_plan built few long is.early fits parser is.limits
+  joined_limits fits parser = limits_by_plan p lists plan c program entries is.is_plan built few long is.early fits parser is.placed.limits
 
   pub joined_formed : CanBeNamed p lists → PlacesCarried p plan.places c → refusal p ≡ None → c.parser ≡ clustered p plan.places → c.names ≡ Some (names_of p lists)
       → names_have_counts (names_of p lists) ≡ true → plan.seed < 8 → Formed c

@@ -3,7 +3,7 @@ use Rattle.std.proofs.Common.{◌≡◌, ◌≢◌, ℕ, ◌<◌, ◌∙◌, Boo
 use Rattle.std.specs.Prelude.{All, AllPairs, Contains, nat_lt, slice_get}
 use Rattle.std.specs.List.{list_all, range_with_len}
 use Rattle.std.specs.Str.{bytes_eq}
-use Rattle.std.proofs.lemmas.Bool.{and_from, and_parts, eq-eqb, eqb-true, false≢true, lt-ltb, or_left, or_right}
+use Rattle.std.proofs.lemmas.Bool.{and_from, and_parts, eqb-true, false≢true}
 use Rattle.std.proofs.lemmas.List.{get_or_default, length-map}
 use Rattle.std.proofs.lemmas.List.Elements.{All-map, Contains-get_or}
 use Rattle.std.proofs.lemmas.List.FromFn.{length-range_with_len}
@@ -26,6 +26,7 @@ use Rattle.rmt_build.specs.Types.{Kind, Test}
 use Rattle.rmt_build.specs.declared.stands.Stand.{Stand}
 use Rattle.rmt_build.specs.EntryCells.{GoesFirst, StandInOrder, StandOnce}
 use Rattle.rmt_build.proofs.NamesFilledRanks.{StandsFirst, in_order, ranks_are}
+use Rattle.rmt_build.proofs.PromiseLaws.{goes_true}
 use Rattle.rmt_build.proofs.StandLaws.{entry_there, entry_within, one_stand}
 
 abbrev pub no_entry : Entry
@@ -67,19 +68,6 @@ not_same a b ne = by (are_same a b) refl
     by true e =
         let both = and_parts (bytes_eq (map (λ (t : Test). t.value) a) (map (λ (t : Test). t.value) b)) (bytes_eq (map (λ (t : Test). t.mask) a) (map (λ (t : Test). t.mask) b)) e in
         absurd (ne (same_tests a b both.0 both.1))
-
--- what goes first by the order of rows is what the rule finds
-goes : (kind : Kind) (e f : Entry) → GoesFirst kind e f → goes_first kind e f ≡ true
-goes Keyless e f h = absurd h
-goes Exact e f h = absurd h
-goes Prefix e f (inl lt) = or_left (nat_lt f.rank e.rank) ((e.rank == f.rank) && nat_lt e.number f.number) (lt-ltb f.rank e.rank lt)
-goes Prefix e f (inr both) =
-    or_right (nat_lt f.rank e.rank) ((e.rank == f.rank) && nat_lt e.number f.number)
-    (and_from (e.rank == f.rank) (nat_lt e.number f.number) (eq-eqb e.rank f.rank both.0) (lt-ltb e.number f.number both.1))
-goes Ternary e f (inl lt) = or_left (nat_lt e.rank f.rank) ((e.rank == f.rank) && nat_lt e.number f.number) (lt-ltb e.rank f.rank lt)
-goes Ternary e f (inr both) =
-    or_right (nat_lt e.rank f.rank) ((e.rank == f.rank) && nat_lt e.number f.number)
-    (and_from (e.rank == f.rank) (nat_lt e.number f.number) (eq-eqb e.rank f.rank both.0) (lt-ltb e.number f.number both.1))
 
 -- ---- entries that stand once
 
@@ -140,7 +128,7 @@ module _ (es : List Entry) (own : List Stand) (once : StandOnce (length es) own)
       each_later-from (goes_first kind) (as_they_stand es own)
       (AllPairs-map (λ (a b : Entry). goes_first kind a b ≡ true) (λ (s : Stand). entry_at es s.entry) own
       (λ i j d lt inside.
-      goes kind (entry_at es (get_or own i d).entry) (entry_at es (get_or own j d).entry)
+      goes_true kind (entry_at es (get_or own i d).entry) (entry_at es (get_or own j d).entry)
       (order.order i j d lt inside (entry_at es (get_or own i d).entry) (entry_at es (get_or own j d).entry) (there i d (omega (arith, lt, inside))) (there j d inside))))
 
   -- rows stand in the order of their precedence

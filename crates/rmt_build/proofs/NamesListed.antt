@@ -34,7 +34,7 @@ use Rattle.rmt_build.proofs.NamesListedParts.{IsPartOf, NoPart, OnePart, by_stag
 use Rattle.rmt_build.proofs.NamesListedStands.{all_parts, no_cell, no_quanta, stands_in}
 use Rattle.rmt_build.proofs.SpotLaws.{part_size, rising_place, slot_built, stand_there}
 use Rattle.rmt_build.proofs.StandLaws.{behind_parts, entry_within, first_cell, one_stand, part_cells}
-use Rattle.rmt_build.proofs.TableLaws.{AreInRows, AreLoaded, table_cells}
+use Rattle.rmt_build.proofs.TableLaws.{AreInRows, AreLoaded, own_content_is, table_cells}
 use Rattle.rmt_bits.proofs.AlikeLaws.{map_alike}
 
 -- the cell of a part in which an entry stands holds it, as the part's instructions are numbered
@@ -49,12 +49,6 @@ abbrev pub MayStand : Program → Config → Table → List Entry → PartAt →
 MayStand p c t es part s =
     (e : Entry) → slice_get es s.entry ≡ Some e
     → Contains (candidates c.seed (bits_of_lanes part.slot.keys) part.slot.memory (tests_as_one (λ (u : Test). u.value) (map (width_of p) t.key) e.tests)) s.cell
-
--- what a cell of a slot holds
-content_is : (c : Config) (n k place cell : ℕ) (stage : Stage) (slot : SlotUnit) → IsPart c n k place stage slot → own_content c k place cell ≡ content_of stage slot cell
-content_is c n k place cell stage slot part =
-    ap (λ (o : Option Stage). unwrap_or (option_and_then (λ (s : Stage). option_map (λ (x : SlotUnit). content_of s x cell) (slot_of s place)) o) no_content) part.stage_is
-    ∙ ap (λ (o : Option SlotUnit). unwrap_or (option_map (λ (x : SlotUnit). content_of stage x cell) o) no_content) part.slot_is
 
 module _ (p : Program) (lists : List (List Entry)) (plan : Plan) (c : Config) (entries : AreEntries p lists)
     (units : UnitsCarried p plan.places plan.placement.parts plan.starts c) (stands : AreStands p lists plan.placement.parts plan.stands)
@@ -145,7 +139,7 @@ module _ (p : Program) (lists : List (List Entry)) (plan : Plan) (c : Config) (e
       let there = subst (λ m. All (HoldsStand p t es (first_code is.in_stage part.place) is.in_stage part.slot) (stands_of_part p plan t m part.stage)) is.is.node_is (slot_of_part part is).holds in
       let h = there i d lt in
       let s = get_or (stands_of_part p plan t n part.stage) i d in
-      let content = content_is c n part.stage part.place s.cell is.in_stage part.slot is.is in
+      let content = own_content_is c n part.stage part.place s.cell is.in_stage part.slot is.is in
       record {
         entry = h.entry;
         is = h.is;

@@ -8,24 +8,20 @@ use Rattle.rmt_ast.specs.declared.deps.Edge.{Edge}
 use Rattle.rmt_build.specs.Types.{Program, Node, What}
 use Rattle.rmt_ast.specs.declared.program.What.TheVariants.{Apply, Gate}
 use Rattle.rmt_ast.specs.WellFormed.{IsProgram}
-use Rattle.rmt_deps.specs.Edges.{GoForward, dependencies_of}
+use Rattle.rmt_deps.specs.Edges.{GoForward, dependencies_of, field_edges}
 use Rattle.rmt_deps.specs.Levels as levels
 use Rattle.rmt_deps.proofs.EdgeLaws.{go_forward}
 use Rattle.rmt_pack.specs.declared.format.Format.{Format}
 use Rattle.rmt_pack.specs.declared.placement.Part.{Part}
 use Rattle.rmt_pack.specs.Formats.{no_memory}
-use Rattle.rmt_pack.specs.Placements.{quanta_of, taken_in}
-use Rattle.rmt_place.specs.declared.demand.Demand.{Demand}
-use Rattle.rmt_place.specs.declared.load.TheConstants.{MOST}
+use Rattle.rmt_pack.specs.Placements.{IsLegalWith, quanta_of, taken_in}
 use Rattle.rmt_place.specs.Needs.{demands_of}
-use Rattle.rmt_place.specs.Placing.{IsGoodOrder, placement, rule_order, standing_in}
+use Rattle.rmt_place.specs.Placing.{IsGoodOrder, placement, rule_order}
 use Rattle.rmt_place.specs.Starting.{stages_in, starts_of}
-use Rattle.rmt_place.specs.Steps.{numbers_of}
 use Rattle.rmt_place.proofs.GoodLaws.{good_keeps, rule_good}
 use Rattle.rmt_place.proofs.LeastLaws.{greatest-le, items-le, length-until}
 use Rattle.rmt_place.proofs.LegalLaws as legal
-use Rattle.rmt_place.proofs.LegalPlacement.{kept_everywhere, node_quanta}
-use Rattle.rmt_place.proofs.StageLaws.{kept_at}
+use Rattle.rmt_place.proofs.LegalPlacement.{kept_legal, node_quanta}
 use Rattle.rmt_build.specs.Plans.{AreParts, format_at, what_format}
 use Rattle.rmt_build.specs.Stages.{ArePlaced}
 
@@ -64,27 +60,18 @@ module _ (p : Program) (places : List (List Lane)) (parts : List Part) (program 
   pub exact_quanta : (n : ℕ) → n < length p.nodes → quanta_of parts n ≡ (format_at p n).quanta
   exact_quanta n lt = placed.quanta n lt ∙ sym (node_quanta p places program n lt) ∙ ap (λ (f : Format). f.quanta) (format_same p n)
 
-  sram_fits : (k : ℕ) → taken_in p parts (λ n. (legal.format_at p n).sram) k ≤ 106
-  sram_fits k =
-      let xs = standing_in (demands_of p places) parts k in
-      let le = legal.taken-le (demands_of p places) parts (λ n. (legal.format_at p n).sram) (λ (d : Demand). d.sram) (length p.nodes) k (λ n. (legal.same_blocks p places n).sram) in
-      let most = kept_at MOST (numbers_of xs) 0 (kept_everywhere (demands_of p places) (length p.nodes) parts placed.parts placed.limits k) (omega arith) (omega arith) in
-      omega (arith, le, most)
-
-  tcam_fits : (k : ℕ) → taken_in p parts (λ n. (legal.format_at p n).tcam) k ≤ 16
-  tcam_fits k =
-      let xs = standing_in (demands_of p places) parts k in
-      let le = legal.taken-le (demands_of p places) parts (λ n. (legal.format_at p n).tcam) (λ (d : Demand). d.tcam) (length p.nodes) k (λ n. (legal.same_blocks p places n).tcam) in
-      let most = kept_at MOST (numbers_of xs) 1 (kept_everywhere (demands_of p places) (length p.nodes) parts placed.parts placed.limits k) (omega arith) (omega arith) in
-      omega (arith, le, most)
+  -- they are a legal placement
+  pub is_legal : IsLegalWith p (field_edges p places) (legal.format_at p) parts
+  is_legal =
+      kept_legal p places (dependencies_of p places) parts program placed.keeps (λ n lt. (let all = placed.quanta n lt in omega (arith, all))) placed.parts placed.limits
 
   pub parts_are : AreParts p parts
   parts_are = record {
     each = placed.parts;
     apart = placed.apart;
     whole = λ n lt. (let exact = exact_quanta n lt in omega (arith, exact));
-    sram = λ k. subst (λ m. m ≤ 106) (taken_same p parts (λ n. (legal.format_at p n).sram) (λ n. (format_at p n).sram) k (λ n. ap (λ (f : Format). f.sram) (format_same p n))) (sram_fits k);
-    tcam = λ k. subst (λ m. m ≤ 16) (taken_same p parts (λ n. (legal.format_at p n).tcam) (λ n. (format_at p n).tcam) k (λ n. ap (λ (f : Format). f.tcam) (format_same p n))) (tcam_fits k);
+    sram = λ k. subst (λ m. m ≤ 106) (taken_same p parts (λ n. (legal.format_at p n).sram) (λ n. (format_at p n).sram) k (λ n. ap (λ (f : Format). f.sram) (format_same p n))) (is_legal.sram k);
+    tcam = λ k. subst (λ m. m ≤ 16) (taken_same p parts (λ n. (legal.format_at p n).tcam) (λ n. (format_at p n).tcam) k (λ n. ap (λ (f : Format). f.tcam) (format_same p n))) (is_legal.tcam k);
   }
 
 -- ---- starts

@@ -15,6 +15,7 @@ use Rattle.rmt_build.specs.Types.{Program, Kind, Config, Stage}
 use Rattle.rmt_ast.specs.declared.program.Kind.TheVariants.{Keyless, Exact, Prefix, Ternary}
 use Rattle.rmt_ast.specs.declared.entry.Entry.{Entry}
 use Rattle.rmt_ast.specs.EntryLists.{AreEntries}
+use Rattle.rmt_ast.specs.RowOrder.{goes_first}
 use Rattle.rmt_refine.specs.declared.map.CellOf.{CellOf}
 use Rattle.rmt_refine.specs.Cells.{IsTold}
 use Rattle.rmt_refine.specs.Units.{UnitsCarried}
@@ -25,7 +26,7 @@ use Rattle.rmt_build.specs.declared.plan.Plan.{Plan}
 use Rattle.rmt_build.specs.BuiltStage.{IsBuiltStage}
 use Rattle.rmt_build.specs.Memories.{memory_for}
 use Rattle.rmt_build.specs.Plans.{AreStands, format_at, quanta_before}
-use Rattle.rmt_build.specs.Promises.{HasFormat, HasRows, StandInRows, goes_first}
+use Rattle.rmt_build.specs.Promises.{HasFormat, HasRows, StandInRows}
 use Rattle.rmt_build.specs.EntryCells.{GoesFirst, StandInOrder, cells_for}
 use Rattle.rmt_build.specs.Told.{cells_told}
 use Rattle.rmt_build.proofs.CellsLaws.{told_stands}
@@ -43,7 +44,8 @@ memory_format_is Ternary need taken = tt
 
 -- ---- rows
 
-goes_true : (kind : Kind) (e f : Entry) → GoesFirst kind e f → goes_first kind e f ≡ true
+-- what goes first by the order of rows is what the rule finds
+pub goes_true : (kind : Kind) (e f : Entry) → GoesFirst kind e f → goes_first kind e f ≡ true
 goes_true Keyless e f goes = absurd goes
 goes_true Exact e f goes = absurd goes
 goes_true Prefix e f (inl more) = ap (λ b. b || ((e.rank == f.rank) && nat_lt e.number f.number)) (lt-ltb f.rank e.rank more)

@@ -5,25 +5,20 @@ use Rattle.std.specs.Option.{option_or}
 use Rattle.std.specs.Prelude.{⊤, IfErr, IfOk, option_map}
 use Rattle.rmt_bits.specs.declared.lane.Lane.{Lane}
 use Rattle.rmt_build.specs.Types.{Program}
-use Rattle.rmt_ast.specs.declared.deps.Deps.{Deps}
-use Rattle.rmt_bounds.specs.Bounds.{stage_bound}
 use Rattle.rmt_config.specs.declared.limits.LimitHit.{LimitHit}
-use Rattle.rmt_deps.specs.Edges.{dependencies_of, field_edges}
+use Rattle.rmt_deps.specs.Edges.{dependencies_of}
 use Rattle.rmt_pack.specs.declared.placement.Part.{Part}
 use Rattle.rmt_pack.specs.declared.placement.Placement.{Placement}
 use Rattle.rmt_phv.specs.declared.fault.PhvFull.TheVariants as phv
 use Rattle.rmt_phv.specs.Packing.{packing}
 use Rattle.rmt_place.specs.declared.fault.StageFull.TheVariants as stage
 use Rattle.rmt_place.specs.Placing.{Stuck, placement}
-use Rattle.rmt_place.specs.Starting.{starts_of}
 use Rattle.rmt_ptcam.specs.declared.fault.ParserFault.{ParserFault}
 use Rattle.rmt_ptcam.specs.declared.fault.ParserFault.TheVariants as parser
 use Rattle.rmt_ptcam.specs.Needs.{refusal, unless}
 use Rattle.rmt_vliw.specs.declared.fault.ActionDeep.{ActionDeep}
 use Rattle.rmt_vliw.specs.declared.fault.ActionDeep.TheVariants as action
-use Rattle.rmt_refine.specs.Carries.{all_edges}
 use Rattle.rmt_build.specs.declared.built.Built.{Built}
-use Rattle.rmt_build.specs.declared.plan.Plan.{Plan}
 use Rattle.rmt_build.specs.declared.fault.NoFit.{NoFit}
 use Rattle.rmt_build.specs.declared.fault.NoFit.TheVariants as no_fit
 use Rattle.rmt_build.specs.Folds.{first_deep}
@@ -78,14 +73,7 @@ same_Ok x y is = ap (given_or x) is
 pub of_packing : (p : Program) (P : List (List Lane) → Type 0) (places : List (List Lane)) → packing p ≡ Ok places → P places → (other : List (List Lane)) → packing p ≡ Ok other → P other
 of_packing p P places packed holds other given = subst P (same_Ok places other (sym packed ∙ given)) holds
 
--- the bound of what stands in these places
-pub bound_there : (p : Program) (places : List (List Lane)) (deps : Deps) (r : Result Built NoFit) → deps ≡ dependencies_of p places
-    → IfOk r (λ b. b.map.places ≡ places) → IfOk r (λ b. b.bound ≡ stage_bound p deps.field)
-    → IfOk r (λ b. b.bound ≡ stage_bound p (field_edges p b.map.places))
-bound_there p places deps (Err e) edges there bound = tt
-bound_there p places deps (Ok b) edges there bound = bound ∙ ap (λ (d : Deps). stage_bound p d.field) edges ∙ ap (λ (ps : List (List Lane)). stage_bound p (field_edges p ps)) (sym there)
-
--- and the placement by the rule, or the parts that were handed in
+-- the placement by the rule, or the parts that were handed in
 pub placed_there : (p : Program) (places : List (List Lane)) (placed : Placement) (r : Result Built NoFit) → placement p places (dependencies_of p places) ≡ Ok placed.parts
     → IfOk r (λ b. b.map.places ≡ places) → IfOk r (λ b. b.map.placement ≡ placed)
     → IfOk r (λ b. placement p b.map.places (dependencies_of p b.map.places) ≡ Ok b.map.placement.parts)
@@ -97,12 +85,3 @@ pub parts_there : (placed : Placement) (parts : List Part) (r : Result Built NoF
     → IfOk r (λ b. b.map.placement.parts ≡ parts)
 parts_there placed parts (Err e) is same = tt
 parts_there placed parts (Ok b) is same = ap (λ (x : Placement). x.parts) same ∙ is
-
--- and the starts
-pub starts_there : (p : Program) (plan : Plan) (r : Result Built NoFit) → plan.starts ≡ starts_of (all_edges p plan.places) plan.placement.parts
-    → IfOk r (λ b. b.map.places ≡ plan.places) → IfOk r (λ b. b.map.placement ≡ plan.placement) → IfOk r (λ b. b.map.starts ≡ plan.starts)
-    → IfOk r (λ b. b.map.starts ≡ starts_of (all_edges p b.map.places) b.map.placement.parts)
-starts_there p plan (Err e) is there placed same = tt
-starts_there p plan (Ok b) is there placed same =
-    same ∙ is ∙ ap (λ (ps : List (List Lane)). starts_of (all_edges p ps) plan.placement.parts) (sym there)
-    ∙ ap (λ (x : Placement). starts_of (all_edges p b.map.places) x.parts) (sym placed)

@@ -64,7 +64,8 @@ clear_head (memory.Ternary d ks rs cs) x cell lt clear =
     let two = and_parts ((x.head == 0) && (x.key == 0)) (x.held == 0) one.0 in
     eqb-true x.head 0 (and_parts (x.head == 0) (x.key == 0) two.0).0
 
-own_content_is : (c : Config) (n k place cell : ℕ) (stage : Stage) (slot : SlotUnit) → IsPart c n k place stage slot → own_content c k place cell ≡ content_of stage slot cell
+-- what a cell of a slot holds
+pub own_content_is : (c : Config) (n k place cell : ℕ) (stage : Stage) (slot : SlotUnit) → IsPart c n k place stage slot → own_content c k place cell ≡ content_of stage slot cell
 own_content_is c n k place cell stage slot part =
     ap (λ (o : Option Stage). unwrap_or (option_and_then (λ (s : Stage). option_map (λ (x : SlotUnit). content_of s x cell) (slot_of s place)) o) (record { head = 0; key = 0; mask = 0; held = 0 })) part.stage_is
     ∙ ap (λ (o : Option SlotUnit). unwrap_or (option_map (λ (x : SlotUnit). content_of stage x cell) o) (record { head = 0; key = 0; mask = 0; held = 0 })) part.slot_is

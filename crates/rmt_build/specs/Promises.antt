@@ -1,17 +1,34 @@
--- What the configuration of a program keeps beside carrying it.
-use Rattle.std.specs.Prelude.{◌≡◌, ℕ, ◌+◌, ◌*◌, ⊤, List, Bool, false, ◌&&◌, ◌||◌, ◌==◌, nat_lt, Some, Contains, count_by, length, slice_get}
+-- What the configuration of a program keeps beside carrying it, whatever placement its nodes have.
+use Rattle.std.specs.Prelude.{◌≡◌, ◌≤◌, ℕ, ◌+◌, ◌*◌, ⊤, All, IsSomeAnd, List, Some, Ok, Contains, count_by, length, slice_get}
 use Rattle.std.specs.List.{flat_map, range_with_len}
-use Rattle.rmt_build.specs.Types.{Program, Table, Kind, Stage, Unit, Memory}
+use Rattle.rmt_build.specs.Types.{Program, Table, Kind, Config, Stage, Unit, Memory}
 use Rattle.rmt_ast.specs.declared.program.Kind.TheVariants.{Keyless, Exact, Prefix, Ternary}
 use Rattle.rmt_ast.specs.declared.entry.Entry.{Entry}
+use Rattle.rmt_ast.specs.Naming.{names_of}
+use Rattle.rmt_ast.specs.RowOrder.{goes_first}
+use Rattle.rmt_bounds.specs.declared.bound.Bound.{Bound}
+use Rattle.rmt_bounds.specs.Bounds.{stage_bound}
+use Rattle.rmt_bounds.specs.Used.{stages_used}
 use Rattle.rmt_config.specs.declared.config.Unit.TheVariants.{Gate, Slot}
 use Rattle.rmt_config.specs.declared.config.Memory.TheVariants as memory
+use Rattle.rmt_config.specs.Form.{Formed}
+use Rattle.rmt_config.specs.Limits.{IsWithinLimits}
 use Rattle.rmt_config.specs.Resources.{unit_sram, unit_tcam}
+use Rattle.rmt_deps.specs.Edges.{field_edges}
 use Rattle.rmt_pack.specs.declared.format.Format.{Format}
 use Rattle.rmt_pack.specs.declared.placement.Part.{Part}
+use Rattle.rmt_pack.specs.declared.placement.Placement.{Placement}
+use Rattle.rmt_pack.specs.Placements.{IsLegal, data_bits}
+use Rattle.rmt_phv.specs.Packing.{packing}
+use Rattle.rmt_place.specs.Starting.{starts_of}
+use Rattle.rmt_ptcam.specs.Clustering.{clustered_or}
 use Rattle.rmt_refine.specs.declared.map.CellOf.{CellOf}
+use Rattle.rmt_refine.specs.declared.map.Map.{Map}
+use Rattle.rmt_refine.specs.Carries.{all_edges}
 use Rattle.rmt_refine.specs.Units.{table_at}
+use Rattle.rmt_build.specs.Loads.{IsFirstSeed}
 use Rattle.rmt_build.specs.Plans.{format_at, quanta_before}
+use Rattle.rmt_build.specs.Told.{cells_told}
 
 -- ---- blocks
 
@@ -34,15 +51,14 @@ abbrev pub HasFormatOfRule : Program → Unit → Type 0
 HasFormatOfRule p (Gate g) = ⊤
 HasFormatOfRule p (Slot s) = HasFormat (format_at p s.node) s.memory
 
+-- an entry of a slot holds as many bits of data as the parameters of the action with most of them, of those that its table lists
+abbrev pub HasDataOfRule : Program → Unit → Type 0
+HasDataOfRule p (Gate g) = ⊤
+HasDataOfRule p (Slot s) = IsSomeAnd (table_at p s.node) (λ t. s.held ≡ data_bits p t)
+
 -- ---- rows
 
--- the first entry goes first in a prefix or ternary table: the longer prefix, the less priority number, then the earlier line
-abbrev pub goes_first : Kind → Entry → Entry → Bool
-goes_first Keyless a b = false
-goes_first Exact a b = false
-goes_first Prefix a b = nat_lt b.rank a.rank || (a.rank == b.rank && nat_lt a.number b.number)
-goes_first Ternary a b = nat_lt a.rank b.rank || (a.rank == b.rank && nat_lt a.number b.number)
-
+-- entries of a prefix or ternary table stand in rows
 abbrev pub HasRows : Kind → Type 0
 HasRows Keyless = ⊥
 HasRows Exact = ⊥
@@ -55,3 +71,33 @@ StandInRows p lists parts cells =
     (n : ℕ) (t : Table) (es : List Entry) → table_at p n ≡ Some t → HasRows t.kind → slice_get lists n ≡ Some es
     → (e : Entry) (x : CellOf) → Contains es e → Contains cells x → x.entry ≡ e.number
     → 2048 * quanta_before parts n x.stage + x.cell ≡ count_by (λ f. goes_first t.kind f e) es
+
+-- ---- all that is promised
+
+-- A configuration is one of a program with its entries: it keeps the rules of form and the limits of the chip, and has their names.
+pub record IsConfigOf (p : Program) (lists : List (List Entry)) (c : Config) : Type 0 where
+  pub formed : Formed c
+  pub limits : IsWithinLimits c
+  pub names : c.names ≡ Some (names_of p lists)
+
+-- Fields are packed, frames parsed and stages started by their rules, and the seed is the first under which all exact tables are loaded.
+pub record KeepsRules (p : Program) (lists : List (List Entry)) (m : Map) (c : Config) : Type 0 where
+  pub places : packing p ≡ Ok m.places
+  pub parser : clustered_or p m.places ≡ Ok c.parser
+  pub starts : m.starts ≡ starts_of (all_edges p m.places) m.placement.parts
+  pub seed : IsFirstSeed p lists m.placement.parts c.seed
+
+-- Slots have the formats and the data of the rule, blocks are numbered in the order of the units, rows stand by rank, and the map tells of the cells that
+-- the slots list, by node, stage and cell.
+pub record IsLaidOut (p : Program) (lists : List (List Entry)) (m : Map) (c : Config) : Type 0 where
+  pub formats : All (λ (s : Stage). All (HasFormatOfRule p) s.units) c.stages
+  pub held : All (λ (s : Stage). All (HasDataOfRule p) s.units) c.stages
+  pub blocks : All HasBlocksInOrder c.stages
+  pub rows : StandInRows p lists m.placement.parts m.cells
+  pub cells : m.cells ≡ cells_told (length p.nodes) c.stages
+
+-- The placement is legal, and the bound that of the program: no legal placement uses fewer stages.
+pub record IsBounded (p : Program) (m : Map) (b : Bound) : Type 0 where
+  pub legal : IsLegal p (field_edges p m.places) m.placement
+  pub bound : b ≡ stage_bound p (field_edges p m.places)
+  pub least : (placement : Placement) → IsLegal p (field_edges p m.places) placement → b.stages ≤ stages_used p placement

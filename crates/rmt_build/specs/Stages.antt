@@ -29,7 +29,7 @@ pub record IsPlanFor (p : Program) (lists : List (List Entry)) (plan : Plan) : T
   pub is_plan : IsPlan p lists plan
   pub starts : plan.starts ≡ starts_of (all_edges p plan.places) plan.placement.parts
   pub edges : EdgesKept (all_edges p plan.places) plan.placement.parts plan.starts
-  pub limits : (k : ℕ) → k < 32 → keeps_limits (standing_in (demands_of p plan.places) plan.placement.parts k) ≡ true
+  pub placed : ArePlaced p plan.places plan.placement.parts
   pub early : (k : ℕ) → k < length plan.starts → slice_index plan.starts k ≤ 12 * k
   pub loaded : AreAllLoaded p lists plan.placement.parts plan.seed plan.stands
   pub exact : (n : ℕ) → n < length p.nodes → quanta_of plan.placement.parts n ≡ (format_at p n).quanta

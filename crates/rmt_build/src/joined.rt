@@ -6,22 +6,18 @@ ghost use Rattle.rmt_ast.specs.EntryLists.{AreEntries};
 ghost use Rattle.rmt_ast.specs.NameRules.{CanBeNamed};
 ghost use Rattle.rmt_ast.specs.Naming.{names_of};
 ghost use Rattle.rmt_ast.specs.WellFormed.{IsProgram};
-ghost use Rattle.rmt_bounds.specs.Bounds.{stage_bound};
 ghost use Rattle.rmt_config.specs.declared.limits.LimitHit.{LimitHit};
 ghost use Rattle.rmt_config.specs.Agreement.{AgreesWith};
-ghost use Rattle.rmt_config.specs.Form.{Formed};
-ghost use Rattle.rmt_config.specs.Limits.{IsWithinLimits};
 ghost use Rattle.rmt_config.specs.NamesForm.{names_have_counts};
 ghost use Rattle.rmt_config.specs.declared.config.Stage.{Stage};
-ghost use Rattle.rmt_deps.specs.Edges.{dependencies_of, field_edges};
+ghost use Rattle.rmt_deps.specs.Edges.{dependencies_of};
 ghost use Rattle.rmt_pack.specs.declared.placement.Part.{Part};
 ghost use Rattle.rmt_pack.specs.Placements.{Keeps, quanta_of};
 ghost use Rattle.rmt_phv.specs.Packing.{packing};
 ghost use Rattle.rmt_phv.specs.Places.{KeepsApart};
 ghost use Rattle.rmt_place.specs.Needs.{demand_at, demands_of, keeps_limits};
 ghost use Rattle.rmt_place.specs.Placing.{AreTwo, IsPart, placement as placement_by_rule, standing_in};
-ghost use Rattle.rmt_place.specs.Starting.{starts_of};
-ghost use Rattle.rmt_ptcam.specs.Clustering.{clustered, clustered_or};
+ghost use Rattle.rmt_ptcam.specs.Clustering.{clustered};
 ghost use Rattle.rmt_ptcam.specs.Needs.{refusal};
 ghost use Rattle.rmt_refine.specs.Carries.{Carries, all_edges};
 ghost use Rattle.rmt_refine.specs.Places.{PlacesCarried};
@@ -29,7 +25,7 @@ ghost use Rattle.rmt_build.specs.Folds.{AreFoldings};
 ghost use Rattle.rmt_build.specs.BuiltStage.{IsBuiltStage};
 ghost use Rattle.rmt_build.specs.Loads.{AreNotLoaded, IsFirstSeed, IsNotLoaded};
 ghost use Rattle.rmt_build.specs.Plans.{IsPlan};
-ghost use Rattle.rmt_build.specs.Promises.{HasBlocksInOrder, HasFormatOfRule, StandInRows};
+ghost use Rattle.rmt_build.specs.Promises.{IsBounded, IsConfigOf, IsLaidOut, KeepsRules};
 ghost use Rattle.rmt_build.specs.Refusals.{first_refusal};
 ghost use Rattle.rmt_build.specs.Stages.{ArePlaced, AreStagesOf, IsPlanFor};
 ghost use Rattle.rmt_build.specs.Told.{cells_told};
@@ -84,24 +80,17 @@ pub fn build(alloc: Global, program: &Program, entries: &EntryLists) -> Result<B
     requires named { CanBeNamed program.now entries.now }
     // The configuration carries the program with its entries, as the map says.
     ensures carries { IfOk result (λ b. Carries program.now entries.now b.map b.config) }
-    // It keeps the rules of form, and the limits of the chip.
-    ensures formed { IfOk result (λ b. Formed b.config) }
-    ensures limits { IfOk result (λ b. IsWithinLimits b.config) }
-    // It has the names of the program with its entries.
-    ensures names { IfOk result (λ b. b.config.names ≡ Some (names_of program.now entries.now)) }
-    // Fields are packed, frames parsed, nodes placed and stages started by their rules.
-    ensures places { IfOk result (λ b. packing program.now ≡ Ok b.map.places) }
-    ensures parser { IfOk result (λ b. clustered_or program.now b.map.places ≡ Ok b.config.parser) }
+    // It is formed, within the limits of the chip, and has the names of the program with its entries.
+    ensures config { IfOk result (λ b. IsConfigOf program.now entries.now b.config) }
+    // Fields are packed, frames parsed, stages started and exact tables loaded by their rules.
+    ensures rules { IfOk result (λ b. KeepsRules program.now entries.now b.map b.config) }
+    // Memories, blocks, rows and the map's cells are as the rules say.
+    ensures layout { IfOk result (λ b. IsLaidOut program.now entries.now b.map b.config) }
+    // The placement is legal, and no legal one uses fewer stages than the bound, which is that of the program.
+    ensures bounded { IfOk result (λ b. IsBounded program.now b.map b.bound) }
+    // Nodes are placed by the rule.
     ensures placement { IfOk result (λ b.
         placement_by_rule program.now b.map.places (dependencies_of program.now b.map.places) ≡ Ok b.map.placement.parts) }
-    ensures starts { IfOk result (λ b. b.map.starts ≡ starts_of (all_edges program.now b.map.places) b.map.placement.parts) }
-    ensures bound { IfOk result (λ b. b.bound ≡ stage_bound program.now (field_edges program.now b.map.places)) }
-    // All exact tables are loaded under its seed, and under no lesser one.
-    ensures seed { IfOk result (λ b. IsFirstSeed program.now entries.now b.map.placement.parts b.config.seed) }
-    // Exact memories have the formats of the rule, blocks are numbered in the order of the units, and rows stand by rank.
-    ensures formats { IfOk result (λ b. All (λ (s : Stage). All (HasFormatOfRule program.now) s.units) b.config.stages) }
-    ensures blocks { IfOk result (λ b. All HasBlocksInOrder b.config.stages) }
-    ensures rows { IfOk result (λ b. StandInRows program.now entries.now b.map.placement.parts b.map.cells) }
     // The first refusal before the entries are loaded, unless memory runs out.
     ensures refused { (fault : NoFit) → first_refusal program.now ≡ Some fault → result ≢ Err NoFit.NoMemory → result ≡ Err fault }
     // Each refusal has its cause.
@@ -155,23 +144,16 @@ pub fn build_from(
         (n : ℕ) → n < length program.now.nodes → quanta_of placement.now.parts n ≡ (demand_at (demands_of program.now places) n).quanta }
     // The configuration carries the program with its entries, as the map says.
     ensures carries { IfOk result (λ b. Carries program.now entries.now b.map b.config) }
-    // It keeps the rules of form, and the limits of the chip.
-    ensures formed { IfOk result (λ b. Formed b.config) }
-    ensures limits { IfOk result (λ b. IsWithinLimits b.config) }
-    // It has the names of the program with its entries.
-    ensures names { IfOk result (λ b. b.config.names ≡ Some (names_of program.now entries.now)) }
-    // Nodes are placed so; fields are packed, frames parsed and stages started by their rules.
-    ensures places { IfOk result (λ b. packing program.now ≡ Ok b.map.places) }
-    ensures parser { IfOk result (λ b. clustered_or program.now b.map.places ≡ Ok b.config.parser) }
+    // It is formed, within the limits of the chip, and has the names of the program with its entries.
+    ensures config { IfOk result (λ b. IsConfigOf program.now entries.now b.config) }
+    // Fields are packed, frames parsed, stages started and exact tables loaded by their rules.
+    ensures rules { IfOk result (λ b. KeepsRules program.now entries.now b.map b.config) }
+    // Memories, blocks, rows and the map's cells are as the rules say.
+    ensures layout { IfOk result (λ b. IsLaidOut program.now entries.now b.map b.config) }
+    // The placement is legal, and no legal one uses fewer stages than the bound, which is that of the program.
+    ensures bounded { IfOk result (λ b. IsBounded program.now b.map b.bound) }
+    // Nodes are placed so.
     ensures placement { IfOk result (λ b. b.map.placement.parts ≡ placement.now.parts) }
-    ensures starts { IfOk result (λ b. b.map.starts ≡ starts_of (all_edges program.now b.map.places) b.map.placement.parts) }
-    ensures bound { IfOk result (λ b. b.bound ≡ stage_bound program.now (field_edges program.now b.map.places)) }
-    // All exact tables are loaded under its seed, and under no lesser one.
-    ensures seed { IfOk result (λ b. IsFirstSeed program.now entries.now b.map.placement.parts b.config.seed) }
-    // Exact memories have the formats of the rule, blocks are numbered in the order of the units, and rows stand by rank.
-    ensures formats { IfOk result (λ b. All (λ (s : Stage). All (HasFormatOfRule program.now) s.units) b.config.stages) }
-    ensures blocks { IfOk result (λ b. All HasBlocksInOrder b.config.stages) }
-    ensures rows { IfOk result (λ b. StandInRows program.now entries.now b.map.placement.parts b.map.cells) }
     // The first refusal before the nodes are placed, unless memory runs out.
     ensures refused { (fault : NoFit) → first_refusal program.now ≡ Some fault → ((node : ℕ) (hits : List LimitHit) → fault ≢ NoFit.Stage node hits)
         → result ≢ Err NoFit.NoMemory → result ≡ Err fault }
@@ -220,23 +202,18 @@ fn built_of(
     requires named { CanBeNamed program.now entries.now }
     requires plan { IsPlanFor program.now entries.now plan }
     requires seed { IsFirstSeed program.now entries.now plan.placement.parts plan.seed }
+    requires packed { packing program.now ≡ Ok plan.places }
     requires fits { refusal program.now ≡ None }
     requires parser { parser ≡ clustered program.now plan.places }
     requires agrees { AgreesWith parser plan.places program.now }
     requires deps { deps.now ≡ dependencies_of program.now plan.places }
     ensures carries { IfOk result (λ b. Carries program.now entries.now b.map b.config) }
-    ensures formed { IfOk result (λ b. Formed b.config) }
-    ensures limits { IfOk result (λ b. IsWithinLimits b.config) }
-    ensures names { IfOk result (λ b. b.config.names ≡ Some (names_of program.now entries.now)) }
+    ensures config { IfOk result (λ b. IsConfigOf program.now entries.now b.config) }
+    ensures rules { IfOk result (λ b. KeepsRules program.now entries.now b.map b.config) }
+    ensures layout { IfOk result (λ b. IsLaidOut program.now entries.now b.map b.config) }
+    ensures bounded { IfOk result (λ b. IsBounded program.now b.map b.bound) }
     ensures places { IfOk result (λ b. b.map.places ≡ plan.places) }
-    ensures parser { IfOk result (λ b. b.config.parser ≡ parser) }
     ensures placement { IfOk result (λ b. b.map.placement ≡ plan.placement) }
-    ensures starts { IfOk result (λ b. b.map.starts ≡ plan.starts) }
-    ensures bound { IfOk result (λ b. b.bound ≡ stage_bound program.now deps.now.field) }
-    ensures seed { IfOk result (λ b. IsFirstSeed program.now entries.now b.map.placement.parts b.config.seed) }
-    ensures formats { IfOk result (λ b. All (λ (s : Stage). All (HasFormatOfRule program.now) s.units) b.config.stages) }
-    ensures blocks { IfOk result (λ b. All HasBlocksInOrder b.config.stages) }
-    ensures rows { IfOk result (λ b. StandInRows program.now entries.now b.map.placement.parts b.map.cells) }
     ensures memory { IsOkUnless result NoFit.NoMemory }
 {
     let stages = stages_of(alloc, program, entries, &plan)?;

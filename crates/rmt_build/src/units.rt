@@ -78,12 +78,13 @@ fn need_of(planned: &PlannedStage, table: &Table, node: u32) -> Need
     ensures { result ≡ need_in planned.now.program.now planned.now.plan.now.placement.parts table.now node planned.now.stage }
 {
     let parts = planned.plan.placement.parts.as_slice();
+    let held = data_bits(planned.program, table) as u16;
     Need {
         format: planned.plan.formats.as_slice()[node as usize],
         quanta: quanta_in(parts, node, planned.stage) as u8,
         before: parts_before(parts, node, planned.stage),
         key: key_bits(planned.program, table),
-        held: data_bits(planned.program, table) as u16,
+        held,
         counted: table.counted,
     }
 }

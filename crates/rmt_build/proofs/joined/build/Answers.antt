@@ -15,11 +15,16 @@ use Rattle.rmt_vliw.specs.declared.fault.ActionDeep.TheVariants as action
 use Rattle.rmt_build.specs.Folds.{first_deep}
 use Rattle.rmt_build.specs.Loads.{AreNotLoaded}
 use Rattle.rmt_build.proofs.PlacedLaws.{rule_placed}
-use Rattle.rmt_build.proofs.RefusalLaws.{bound_there, by_rule, done_not_failed, none_refused, not_refused, placed_there, same_Ok, starts_there}
+use Rattle.rmt_build.proofs.RefusalLaws.{by_rule, done_not_failed, none_refused, not_refused, placed_there, same_Ok}
 use Rattle.rmt_build.proofs.joined.build.Goals as goal
 
 pub pack_fields-requires-clause-few_fields : goal.pack_fields-requires-clause-few_fields
 pack_fields-requires-clause-few_fields c = few_fields c.args.program.now c.requires.program
+
+pub built_of-requires-clause-packed : goal.built_of-requires-clause-packed
+built_of-requires-clause-packed c =
+    let places = c.in_ok-places.places in
+    sym (c.in_ok-places.ensures.packed (done_not_failed places phv.NoMemory)) ∙ ap Ok (sym c.in_ok-plan.ensures.places)
 
 pub built_of-requires-clause-fits : goal.built_of-requires-clause-fits
 built_of-requires-clause-fits c = not_refused (refusal c.args.program.now) c.in_ok-parser_need.ensures
@@ -73,14 +78,6 @@ returns-clause-placement c =
     ap (λ ps. placement p ps (dependencies_of p ps)) c.in_ok-plan.ensures.places ∙ placed ∙ ap (λ (x : Placement). Ok x.parts) (sym c.in_ok-plan.ensures.placement) in
     placed_there p c.in_ok-plan.plan.places c.in_ok-plan.plan.placement c.built_of.result there c.built_of.ensures.places c.built_of.ensures.placement
 
-pub returns-clause-bound : goal.returns-clause-bound
-returns-clause-bound c =
-    let p = c.args.program.now in
-    let places = c.in_ok-plan.plan.places in
-    let here : places ≡ c.in_ok-places.places = c.in_ok-plan.ensures.places in
-    let edges : c.in_ok-deps.deps ≡ dependencies_of p places = c.in_ok-deps.ensures.edges ∙ ap (dependencies_of p) (sym here) in
-    bound_there p places c.in_ok-deps.deps c.built_of.result edges c.built_of.ensures.places c.built_of.ensures.bound
-
 pub returns-clause-refused : goal.returns-clause-refused
 returns-clause-refused c fault first other =
     let p = c.args.program.now in
@@ -90,7 +87,3 @@ returns-clause-refused c fault first other =
     let packed : packing p ≡ Ok places = sym (c.in_ok-places.ensures.packed (done_not_failed places phv.NoMemory)) in
     let placed : placement p places (dependencies_of p places) ≡ Ok c.in_ok-placement.placement.parts = ap (placement p places) (sym c.in_ok-deps.ensures.edges) ∙ c.in_ok-placement.ensures.placed in
     absurd (none-some fault (sym (none_refused p places c.in_ok-placement.placement.parts fits shallow packed placed) ∙ first))
-
-pub returns-clause-starts : goal.returns-clause-starts
-returns-clause-starts c =
-    starts_there c.args.program.now c.in_ok-plan.plan c.built_of.result c.in_ok-plan.ensures.plan.starts c.built_of.ensures.places c.built_of.ensures.placement c.built_of.ensures.starts

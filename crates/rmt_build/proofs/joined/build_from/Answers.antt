@@ -1,5 +1,4 @@
 use Rattle.std.proofs.Common.{rules, ◌≡◌, ◌∙◌, List, None, Ok, ap, subst, sym}
-use Rattle.rmt_deps.specs.Edges.{dependencies_of}
 use Rattle.rmt_pack.specs.declared.placement.Part.{Part}
 use Rattle.rmt_pack.specs.declared.placement.Placement.{Placement}
 use Rattle.rmt_phv.specs.declared.fault.PhvFull.TheVariants as phv
@@ -12,7 +11,7 @@ use Rattle.rmt_vliw.specs.declared.fault.ActionDeep.TheVariants as action
 use Rattle.rmt_build.specs.Folds.{first_deep}
 use Rattle.rmt_build.specs.Loads.{AreNotLoaded}
 use Rattle.rmt_build.specs.Stages.{ArePlaced}
-use Rattle.rmt_build.proofs.RefusalLaws.{bound_there, by_rule, done_not_failed, not_refused, parts_there, starts_there, stuck_alone}
+use Rattle.rmt_build.proofs.RefusalLaws.{by_rule, done_not_failed, not_refused, parts_there, stuck_alone}
 use Rattle.rmt_build.proofs.joined.build_from.Goals as goal
 
 pub pack_fields-requires-clause-few_fields : goal.pack_fields-requires-clause-few_fields
@@ -31,6 +30,11 @@ plan_of-requires-clause-placed c =
       quanta = c.requires.quanta places packed;
     } in
     subst (ArePlaced p places) (sym c.in_ok-same.ensures) placed
+
+pub built_of-requires-clause-packed : goal.built_of-requires-clause-packed
+built_of-requires-clause-packed c =
+    let places = c.in_ok-places.places in
+    sym (c.in_ok-places.ensures.packed (done_not_failed places phv.NoMemory)) ∙ ap Ok (sym c.in_ok-plan.ensures.places)
 
 pub built_of-requires-clause-fits : goal.built_of-requires-clause-fits
 built_of-requires-clause-fits c = not_refused (refusal c.args.program.now) c.in_ok-parser_need.ensures
@@ -63,14 +67,6 @@ returns-clause-placement c =
     parts_there c.in_ok-plan.plan.placement c.args.placement.now.parts c.built_of.result (ap (λ (x : Placement). x.parts) c.in_ok-plan.ensures.placement ∙ c.in_ok-same.ensures)
     c.built_of.ensures.placement
 
-pub returns-clause-bound : goal.returns-clause-bound
-returns-clause-bound c =
-    let p = c.args.program.now in
-    let places = c.in_ok-plan.plan.places in
-    let here : places ≡ c.in_ok-places.places = c.in_ok-plan.ensures.places in
-    let edges : c.in_ok-deps.deps ≡ dependencies_of p places = c.in_ok-deps.ensures.edges ∙ ap (dependencies_of p) (sym here) in
-    bound_there p places c.in_ok-deps.deps c.built_of.result edges c.built_of.ensures.places c.built_of.ensures.bound
-
 pub returns-clause-refused : goal.returns-clause-refused
 returns-clause-refused c fault first unstuck other =
     let p = c.args.program.now in
@@ -79,7 +75,3 @@ returns-clause-refused c fault first unstuck other =
     let shallow : first_deep 0 p.actions ≡ None = c.in_ok-folded.ensures.refused (done_not_failed c.in_ok-folded.folded action.NoMemory) in
     let packed : packing p ≡ Ok places = sym (c.in_ok-places.ensures.packed (done_not_failed places phv.NoMemory)) in
     absurd (stuck_alone p places fault fits shallow packed first unstuck)
-
-pub returns-clause-starts : goal.returns-clause-starts
-returns-clause-starts c =
-    starts_there c.args.program.now c.in_ok-plan.plan c.built_of.result c.in_ok-plan.ensures.plan.starts c.built_of.ensures.places c.built_of.ensures.placement c.built_of.ensures.starts

@@ -1,19 +1,29 @@
-use Rattle.std.proofs.Common.{◌≡◌, ◌∙◌, List, Some, length, true, ap, sym, subst, arith}
+use Rattle.std.proofs.Common.{◌≡◌, ◌≤◌, ◌∙◌, List, Some, Ok, length, true, ap, sym, subst, arith}
 use Rattle.std.specs.Prelude.{All}
+use Rattle.rmt_bits.specs.declared.lane.Lane.{Lane}
 use Rattle.rmt_ast.specs.declared.deps.Deps.{Deps}
 use Rattle.rmt_ast.specs.declared.names.Names.{Names}
+use Rattle.rmt_bounds.specs.Bounds.{stage_bound}
+use Rattle.rmt_bounds.specs.Used.{stages_used}
 use Rattle.rmt_config.specs.Agreement.{AgreesWith}
 use Rattle.rmt_config.specs.NamesForm.{names_have_counts}
-use Rattle.rmt_deps.specs.Edges.{GoesForward}
+use Rattle.rmt_deps.specs.Edges.{GoesForward, field_edges}
 use Rattle.rmt_deps.proofs.EdgeLaws.{go_forward}
 use Rattle.rmt_pack.specs.declared.placement.Placement.{Placement}
+use Rattle.rmt_pack.specs.Placements.{IsLegal}
+use Rattle.rmt_phv.specs.Packing.{packing}
+use Rattle.rmt_place.specs.Starting.{starts_of}
+use Rattle.rmt_place.proofs.LegalLaws.{format_at}
+use Rattle.rmt_ptcam.specs.Clustering.{clustered, clustered_or}
+use Rattle.rmt_ptcam.specs.Needs.{unless}
 use Rattle.rmt_refine.specs.declared.map.CellOf.{CellOf}
 use Rattle.rmt_refine.specs.declared.map.Map.{Map}
-use Rattle.rmt_refine.specs.Carries.{Carries}
+use Rattle.rmt_refine.specs.Carries.{Carries, all_edges}
 use Rattle.rmt_build.specs.Loads.{IsFirstSeed}
 use Rattle.rmt_build.specs.Promises.{StandInRows}
 use Rattle.rmt_build.specs.Told.{cells_told}
-use Rattle.rmt_build.proofs.JoinedLaws.{joined_blocks, joined_carries, joined_formats, joined_formed, joined_limits, joined_rows, same_map}
+use Rattle.rmt_build.proofs.JoinedLaws.{joined_blocks, joined_carries, joined_data, joined_formats, joined_formed, joined_limits, joined_rows, same_map}
+use Rattle.rmt_build.proofs.PlacedLaws.{is_legal}
 use Rattle.rmt_build.proofs.joined.built_of.Goals as goal
 
 pub bound-requires-clause-rise : goal.bound-requires-clause-rise
@@ -44,39 +54,66 @@ returns-clause-carries c =
     (joined_carries c.args.program.now c.args.entries.now c.args.plan c.in_ok-config.config c.requires.program c.requires.entries c.requires.plan c.in_ok-stages.stages c.in_ok-config.ensures.stages
     c.in_ok-stages.ensures.stages c.in_ok-config.ensures.seed made.places parser)
 
-pub returns-clause-formed : goal.returns-clause-formed
-returns-clause-formed c =
+pub returns-clause-config : goal.returns-clause-config
+returns-clause-config c =
     let made = c.in_ok-config.ensures in
     let told = c.in_ok-names.ensures in
-    joined_formed c.args.program.now c.args.entries.now c.args.plan c.in_ok-config.config c.requires.program c.requires.entries c.requires.plan c.in_ok-stages.stages c.in_ok-config.ensures.stages
+    let formed = joined_formed c.args.program.now c.args.entries.now c.args.plan c.in_ok-config.config c.requires.program c.requires.entries c.requires.plan c.in_ok-stages.stages c.in_ok-config.ensures.stages
     c.in_ok-stages.ensures.stages c.in_ok-config.ensures.seed c.requires.named made.places c.requires.fits (made.parser ∙ c.requires.parser) (made.names ∙ ap Some told.names)
-    (subst (λ (x : Names). names_have_counts x ≡ true) told.names told.counts) c.requires.seed.few
+    (subst (λ (x : Names). names_have_counts x ≡ true) told.names told.counts) c.requires.seed.few in
+    let limits = joined_limits c.args.program.now c.args.entries.now c.args.plan c.in_ok-config.config c.requires.program c.requires.entries c.requires.plan c.in_ok-stages.stages c.in_ok-config.ensures.stages
+    c.in_ok-stages.ensures.stages c.in_ok-config.ensures.seed c.requires.fits (made.parser ∙ c.requires.parser) in
+    record { formed = formed; limits = limits; names = made.names ∙ ap Some told.names }
 
-pub returns-clause-limits : goal.returns-clause-limits
-returns-clause-limits c =
-    joined_limits c.args.program.now c.args.entries.now c.args.plan c.in_ok-config.config c.requires.program c.requires.entries c.requires.plan c.in_ok-stages.stages c.in_ok-config.ensures.stages
-    c.in_ok-stages.ensures.stages c.in_ok-config.ensures.seed c.requires.fits (c.in_ok-config.ensures.parser ∙ c.requires.parser)
-
-pub returns-clause-seed : goal.returns-clause-seed
-returns-clause-seed c =
+pub returns-clause-rules : goal.returns-clause-rules
+returns-clause-rules c =
+    let p = c.args.program.now in
     let lists = c.args.entries.now in
-    let seed = subst (IsFirstSeed c.args.program.now lists c.args.plan.placement.parts) (sym c.in_ok-config.ensures.seed) c.requires.seed in
-    subst (λ (x : Placement). IsFirstSeed c.args.program.now lists x.parts c.in_ok-config.config.seed) (sym c.in_ok-map.ensures.placement) seed
-
-pub returns-clause-formats : goal.returns-clause-formats
-returns-clause-formats c =
-    joined_formats c.args.program.now c.args.entries.now c.args.plan c.in_ok-config.config c.requires.program c.requires.entries c.requires.plan c.in_ok-stages.stages c.in_ok-config.ensures.stages
-    c.in_ok-stages.ensures.stages c.in_ok-config.ensures.seed
-
-pub returns-clause-blocks : goal.returns-clause-blocks
-returns-clause-blocks c =
-    joined_blocks c.args.program.now c.args.entries.now c.args.plan c.in_ok-config.config c.requires.program c.requires.entries c.requires.plan c.in_ok-stages.stages c.in_ok-config.ensures.stages
-    c.in_ok-stages.ensures.stages c.in_ok-config.ensures.seed
-
-pub returns-clause-rows : goal.returns-clause-rows
-returns-clause-rows c =
+    let plan = c.args.plan in
+    let config = c.in_ok-config.config in
+    let m = c.in_ok-map.map in
     let told = c.in_ok-map.ensures in
-    let rows = joined_rows c.args.program.now c.args.entries.now c.args.plan c.in_ok-config.config c.requires.program c.requires.entries c.requires.plan c.in_ok-stages.stages c.in_ok-config.ensures.stages
+    let seed = subst (IsFirstSeed p lists plan.placement.parts) (sym c.in_ok-config.ensures.seed) c.requires.seed in
+    record {
+      places = subst (λ ps. packing p ≡ Ok ps) (sym told.places) c.requires.packed;
+      parser = subst (λ ps. clustered_or p ps ≡ Ok config.parser) (sym told.places)
+          (ap (λ r. unless r (clustered p plan.places)) c.requires.fits ∙ ap Ok (sym (c.in_ok-config.ensures.parser ∙ c.requires.parser)));
+      starts = told.starts ∙ c.requires.plan.starts ∙ ap (λ (ps : List (List Lane)). starts_of (all_edges p ps) plan.placement.parts) (sym told.places)
+          ∙ ap (λ (x : Placement). starts_of (all_edges p m.places) x.parts) (sym told.placement);
+      seed = subst (λ (x : Placement). IsFirstSeed p lists x.parts config.seed) (sym told.placement) seed;
+    }
+
+pub returns-clause-layout : goal.returns-clause-layout
+returns-clause-layout c =
+    let p = c.args.program.now in
+    let lists = c.args.entries.now in
+    let told = c.in_ok-map.ensures in
+    let rows = joined_rows p lists c.args.plan c.in_ok-config.config c.requires.program c.requires.entries c.requires.plan c.in_ok-stages.stages c.in_ok-config.ensures.stages
     c.in_ok-stages.ensures.stages c.in_ok-config.ensures.seed in
-    subst (λ (x : Placement). StandInRows c.args.program.now c.args.entries.now x.parts c.in_ok-map.map.cells) (sym told.placement)
-    (subst (λ (x : List CellOf). StandInRows c.args.program.now c.args.entries.now c.args.plan.placement.parts x) (sym told.cells) rows)
+    record {
+      formats = joined_formats p lists c.args.plan c.in_ok-config.config c.requires.program c.requires.entries c.requires.plan c.in_ok-stages.stages c.in_ok-config.ensures.stages
+          c.in_ok-stages.ensures.stages c.in_ok-config.ensures.seed;
+      held = joined_data p lists c.args.plan c.in_ok-config.config c.requires.program c.requires.entries c.requires.plan c.in_ok-stages.stages c.in_ok-config.ensures.stages
+          c.in_ok-stages.ensures.stages c.in_ok-config.ensures.seed;
+      blocks = joined_blocks p lists c.args.plan c.in_ok-config.config c.requires.program c.requires.entries c.requires.plan c.in_ok-stages.stages c.in_ok-config.ensures.stages
+          c.in_ok-stages.ensures.stages c.in_ok-config.ensures.seed;
+      rows = subst (λ (x : Placement). StandInRows p lists x.parts c.in_ok-map.map.cells) (sym told.placement)
+          (subst (λ (x : List CellOf). StandInRows p lists c.args.plan.placement.parts x) (sym told.cells) rows);
+      cells = told.cells;
+    }
+
+pub returns-clause-bounded : goal.returns-clause-bounded
+returns-clause-bounded c =
+    let p = c.args.program.now in
+    let plan = c.args.plan in
+    let m = c.in_ok-map.map in
+    let told = c.in_ok-map.ensures in
+    let b = c.in_ok-bound.bound in
+    let of_deps = c.in_ok-bound.ensures in
+    let legal : IsLegal p (field_edges p plan.places) plan.placement = (format_at p, is_legal p plan.places plan.placement.parts c.requires.program c.requires.plan.placed) in
+    let least = subst (λ (d : Deps). (other : Placement) → IsLegal p d.field other → b.stages ≤ stages_used p other) c.requires.deps of_deps.proved in
+    record {
+      legal = subst (λ ps. IsLegal p (field_edges p ps) m.placement) (sym told.places) (subst (IsLegal p (field_edges p plan.places)) (sym told.placement) legal);
+      bound = of_deps.bound ∙ ap (λ (d : Deps). stage_bound p d.field) c.requires.deps ∙ ap (λ (ps : List (List Lane)). stage_bound p (field_edges p ps)) (sym told.places);
+      least = subst (λ (ps : List (List Lane)). (other : Placement) → IsLegal p (field_edges p ps) other → b.stages ≤ stages_used p other) (sym told.places) least;
+    }

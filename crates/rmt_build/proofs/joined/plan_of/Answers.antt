@@ -55,7 +55,7 @@ returns-clause-plan c =
         order = placed.keeps;
         distances = subst (λ (es : List Edge). KeepDistances es parts starts) edges begun.kept;
       };
-      limits = placed.limits;
+      placed = placed;
       early = early (levels.all_edges deps) parts (length starts) (λ k e there in_k. (let within = stage-lt parts e.to k in_k in omega (arith, within, long))) starts refl begun.least;
       loaded = loaded;
       exact = exact_quanta p places parts c.requires.program placed;

@@ -15,13 +15,13 @@ overflow_cast-result-2 c =
 pub key_bits-requires : goal.key_bits-requires
 key_bits-requires c = key-small c.args.planned.now.program.now c.args.table.now (is_table c.args.planned.now.program.now c.requires.program c.args.node c.args.table.now c.requires.table)
 
-pub data_bits-requires : goal.data_bits-requires
-data_bits-requires c = params-small c.args.planned.now.program.now c.requires.program c.args.table.now
+pub data_bits-held-requires : goal.data_bits-held-requires
+data_bits-held-requires c = params-small c.args.planned.now.program.now c.requires.program c.args.table.now
 
-pub overflow_cast-result-3 : goal.overflow_cast-result-3
-overflow_cast-result-3 c =
+pub overflow_cast-held : goal.overflow_cast-held
+overflow_cast-held c =
     let few = data_bits-few c.args.planned.now.program.now c.requires.program c.args.table.now in
-    omega (arith, few, c.data_bits.ensures)
+    omega (arith, few, c.data_bits-held.ensures)
 
 pub returns : goal.returns
 returns c =
@@ -31,4 +31,4 @@ returns c =
     need_same _ _ _ _ _ _ _ _ _ _ c.args.table.now.counted format
     (c.quanta_in.ensures ∙ ap (λ ps. quanta_in ps n k) c.as_slice-parts.ensures)
     (c.parts_before.ensures.parts ∙ ap (λ ps. parts_before ps n k) c.as_slice-parts.ensures)
-    c.key_bits.ensures c.data_bits.ensures
+    c.key_bits.ensures c.data_bits-held.ensures
