@@ -1,3 +1,5 @@
+//! What the crates above rely on, as laws: programs that break no rule are well formed, and trees have their parts.
+
 ghost use Rattle.std.specs.Prelude.{◌≡◌, ℕ, List, None, Ok};
 ghost use Rattle.rmt_ast.specs.declared.program.Program.{Program};
 ghost use Rattle.rmt_ast.specs.WellFormed.{IsProgram};

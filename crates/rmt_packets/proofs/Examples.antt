@@ -1,5 +1,5 @@
 -- Packet texts and answer lines written out.
-use Rattle.std.specs.Prelude.{◌≡◌, [], ◌∷◌, Some, None, Ok, Err, codes, refl}
+use Rattle.std.specs.Prelude.{◌≡◌, [], ◌∷◌, map, Some, None, Ok, Err, codes, refl}
 use Rattle.std.specs.Fmt.{digits}
 use Rattle.hex.specs.Hex.{decode_pairs, encode_with}
 use Rattle.rmt_bits.specs.declared.answer.Verdict.TheVariants.{Sent, Short}
@@ -16,34 +16,12 @@ leading_zeros : packet_of (codes "0000000007 00") ≡ Ok (record { port = 7; fra
 unfolding decode_pairs
 leading_zeros = refl
 
-eleven_digits : packet_of (codes "00000000007 00") ≡ Err 1
+-- texts that are no packet: eleven digits, a space in front, no space, a port above 511, which is looked at before the frame, no digit, an
+-- odd number of them, and one that is none
+refused : map packet_of (codes "00000000007 00" ∷ codes " 7 00" ∷ codes "7" ∷ codes "512 " ∷ codes "0 " ∷ codes "2 abc" ∷ codes "2 0g" ∷ [])
+    ≡ Err 1 ∷ Err 1 ∷ Err 1 ∷ Err 2 ∷ Err 3 ∷ Err 1 ∷ Err 1 ∷ []
 unfolding decode_pairs
-eleven_digits = refl
-
-space_before : packet_of (codes " 7 00") ≡ Err 1
-unfolding decode_pairs
-space_before = refl
-
-no_space : packet_of (codes "7") ≡ Err 1
-unfolding decode_pairs
-no_space = refl
-
--- the port is looked at before the frame
-port_too_great : packet_of (codes "512 ") ≡ Err 2
-unfolding decode_pairs
-port_too_great = refl
-
-no_digit : packet_of (codes "0 ") ≡ Err 3
-unfolding decode_pairs
-no_digit = refl
-
-odd : packet_of (codes "2 abc") ≡ Err 1
-unfolding decode_pairs
-odd = refl
-
-no_hex : packet_of (codes "2 0g") ≡ Err 1
-unfolding decode_pairs
-no_hex = refl
+refused = refl
 
 -- blank lines and comments are counted and passed over
 bad_packets : packets_of (codes "# none\n0 ff\n  \n1 00\n\n2 abc\n3 00") ≡ record {

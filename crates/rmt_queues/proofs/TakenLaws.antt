@@ -151,6 +151,32 @@ module _ (ix : List ℕ) (s : Lists) (port : ℕ) (q : Queues) (at : StandsAt ix
     copies_there : (j : ℕ) → (j ≡ k → ⊥) → copies_of t.queues j ≡ copies_of s.queues j
     copies_there j other = copies_other s port k rest below queue at.known j other
 
+    -- what is left stands, where what is stored and what is spare fit
+    stands_then : All (λ number. Keeps (stored_at new.stored.items (index_of ix number)) (length (item_of s number)) (copies_of t.queues number)) (standing t)
+        → CellsStand 65536 (held_items new.stored.items ix s.items (standing t)) new.cells → length new.stored.items ≡ length q.stored.items → length new.stored.items ≤ vec_capacity new.spare
+        → All (λ i. i < length new.stored.items) (new.spare.items ++ map (index_of ix) (standing t)) → ((i : ℕ) → times i (new.spare.items ++ map (index_of ix) (standing t)) ≤ 1)
+        → length new.spare.items + length (standing t) ≡ length new.stored.items → StandsAt ix t new
+    stands_then kept held size spare_room within once all = record {
+      cells = at.cells;
+      depth = depth ∙ at.depth;
+      shallow = at.shallow;
+      ports = many ∙ at.ports ∙ sym queues_many;
+      few = few_now;
+      rings = rings_now;
+      roomy = roomy;
+      deep = deep_now;
+      known = known_now;
+      indexed = at.indexed;
+      small = at.small;
+      kept = kept;
+      held = held;
+      room = size ∙ room_now;
+      spare_room = spare_room;
+      within = within;
+      once = once;
+      all = all;
+    }
+
     -- another copy stands
     module _ (stored : new.stored.items ≡ set q.stored.items index (record { chain = (stored_at q.stored.items index).chain; len = (stored_at q.stored.items index).len; copies = (stored_at q.stored.items index).copies - 1 }))
         (cells : new.cells ≡ q.cells) (spare : new.spare.items ≡ q.spare.items) (same_room : vec_capacity new.spare ≡ vec_capacity q.spare) (some : 0 < copies_of t.queues k) where
@@ -211,30 +237,16 @@ module _ (ix : List ℕ) (s : Lists) (port : ℕ) (q : Queues) (at : StandsAt ix
       used_more = ap (λ (v : List ℕ). v ++ map (index_of ix) (standing t)) spare ∙ ap (λ (xs : List ℕ). q.spare.items ++ map (index_of ix) xs) same_standing
 
       pub taken_more : StandsAt ix t new
-      taken_more = record {
-        cells = at.cells;
-        depth = depth ∙ at.depth;
-        shallow = at.shallow;
-        ports = many ∙ at.ports ∙ sym queues_many;
-        few = few_now;
-        rings = rings_now;
-        roomy = roomy;
-        deep = deep_now;
-        known = known_now;
-        indexed = at.indexed;
-        small = at.small;
-        kept = kept_more;
-        held = subst (CellsStand 65536 (held_items new.stored.items ix s.items (standing t))) (sym cells) (subst (λ (hs : List Held). CellsStand 65536 hs q.cells) (sym same_held) at.held);
-        room = size_more ∙ room_now;
-        spare_room = omega (arith, size_more, at.spare_room, same_room);
-        within = λ i d lt. let here' = All-same (λ x. x < length q.stored.items) (new.spare.items ++ map (index_of ix) (standing t)) _ used_more at.within i d lt in omega (arith, here', size_more);
-        once = λ i. subst (λ (xs : List ℕ). times i xs ≤ 1) (sym used_more) (at.once i);
-        all =
-            let spares = ap (λ (v : List ℕ). length v) spare in
-            let items = ap (λ (xs : List ℕ). length xs) same_standing in
-            let was = at.all in
-            omega (arith, spares, items, was, size_more);
-      }
+      taken_more =
+          stands_then kept_more
+          (subst (CellsStand 65536 (held_items new.stored.items ix s.items (standing t))) (sym cells) (subst (λ (hs : List Held). CellsStand 65536 hs q.cells) (sym same_held) at.held))
+          size_more (omega (arith, size_more, at.spare_room, same_room))
+          (λ i d lt. let here' = All-same (λ x. x < length q.stored.items) (new.spare.items ++ map (index_of ix) (standing t)) _ used_more at.within i d lt in omega (arith, here', size_more))
+          (λ i. subst (λ (xs : List ℕ). times i xs ≤ 1) (sym used_more) (at.once i))
+          (let spares = ap (λ (v : List ℕ). length v) spare in
+          let items = ap (λ (xs : List ℕ). length xs) same_standing in
+          let was = at.all in
+          omega (arith, spares, items, was, size_more))
 
     -- it was the last copy
     module _ (gone : Stored) (stored : new.stored.items ≡ set q.stored.items index gone)
@@ -322,23 +334,4 @@ module _ (ix : List ℕ) (s : Lists) (port : ℕ) (q : Queues) (at : StandsAt ix
           omega (arith, was, spares, on, were, size_last)
 
       pub taken_last : StandsAt ix t new
-      taken_last = record {
-        cells = at.cells;
-        depth = depth ∙ at.depth;
-        shallow = at.shallow;
-        ports = many ∙ at.ports ∙ sym queues_many;
-        few = few_now;
-        rings = rings_now;
-        roomy = roomy;
-        deep = deep_now;
-        known = known_now;
-        indexed = at.indexed;
-        small = at.small;
-        kept = kept_last;
-        held = subst (λ (hs : List Held). CellsStand 65536 hs new.cells) (sym held_on) cells;
-        room = size_last ∙ room_now;
-        spare_room = omega (arith, size_last, at.spare_room, spare_room);
-        within = within_last;
-        once = once_last;
-        all = all_last;
-      }
+      taken_last = stands_then kept_last (subst (λ (hs : List Held). CellsStand 65536 hs new.cells) (sym held_on) cells) size_last (omega (arith, size_last, at.spare_room, spare_room)) within_last once_last all_last

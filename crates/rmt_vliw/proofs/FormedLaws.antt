@@ -21,7 +21,6 @@ use Rattle.rmt_ast.specs.declared.program.Op.TheVariants.{Add, Sub, And, Or, Xor
 use Rattle.rmt_ast.specs.State.{width_of}
 use Rattle.rmt_ast.specs.Places.{lanes_of}
 use Rattle.rmt_ast.specs.WellFormed.{IsProgram, IsWidth, IsLeaf, IsExpr, AreDistinct}
-use Rattle.rmt_phv.specs.Packing.{pieces}
 use Rattle.rmt_phv.specs.Places.{LiesInWord, ShareNoWord, KeepsApart}
 use Rattle.rmt_config.specs.declared.config.OpKind.TheVariants as kind
 use Rattle.rmt_config.specs.declared.config.Source.TheVariants.{Constant}
@@ -31,10 +30,10 @@ use Rattle.rmt_config.specs.LaneForm.{bits_of_lanes, lane_is_formed}
 use Rattle.rmt_config.specs.CodeForm.{source_is_formed, kind_is_formed, operation_is_formed, vliw_is_formed}
 use Rattle.rmt_vliw.specs.Operations.{lane_source, source_for, kind_for, operation_for, operations_from, operations_for, operations_of, IsInstruction}
 use Rattle.rmt_config.specs.Effects.{begin_of}
-use Rattle.rmt_vliw.proofs.PieceLaws.{begins, piece_of, begins-le, alike-long, alike-len}
+use Rattle.rmt_vliw.proofs.PieceLaws.{begins, piece_of, begins-le, piece_there}
 use Rattle.rmt_vliw.proofs.ValueLaws.{IsValue, AreFolded}
 use Rattle.rmt_vliw.proofs.OperationLaws.{IsOpOf, ops_all, sorted_all, operation_word, one_of_field_at}
-use Rattle.rmt_phv.proofs.LaneLaws.{lanes_cut, lanes_lie, lanes_width}
+use Rattle.rmt_phv.proofs.LaneLaws.{lanes_lie, lanes_width}
 use Rattle.rmt_bits.proofs.WordLaws.{word_size-le}
 use Rattle.rmt_bits.proofs.OptionLaws.{eqb-sym}
 use Rattle.rmt_config.proofs.RiseLaws.{increasing_rises}
@@ -104,12 +103,9 @@ module _ (p : Program) (places : List (List Lane)) (params : List ℕ) (place : 
   source_formed : (f k : ℕ) (d : Lane) → k < length (lanes_of places f) → (x : Leaf) → IsLeaf p params (width_of p f) x
       → source_is_formed place (get_or (lanes_of places f) k d).len (source_for places params (piece_of (lanes_of places f) k (get_or (lanes_of places f) k d).len) x) ≡ true
   source_formed f k d lt (leaf.Field g) is =
-      let xs = lanes_of places f in
       let ys = lanes_of places g in
-      let len = (get_or xs k d).len in
-      let cut : map (λ (l : Lane). l.len) ys ≡ map (λ (l : Lane). l.len) xs = lanes_cut p places g keeps.cut ∙ ap pieces is.1 ∙ sym (lanes_cut p places f keeps.cut) in
-      let inside : k < length ys = (let long = alike-long ys xs cut in omega (arith, lt, long)) in
-      let same : (get_or ys k d).len ≡ len = alike-len ys xs cut k d inside in
+      let len = (get_or (lanes_of places f) k d).len in
+      let (inside, same) = piece_there p places keeps f g k d lt is.1 in
       let y = get_or ys k d in
       let lies : LiesInWord y = lanes_lie p places g keeps k d inside in
       let ends = lies.within in

@@ -9,7 +9,7 @@ use Rattle.std.proofs.lemmas.Option.{slice_get-get_or}
 use Rattle.rmt_bits.specs.Bits.{slice}
 use Rattle.rmt_bits.specs.declared.lane.Lane.{Lane}
 use Rattle.rmt_bits.proofs.BitLaws.{slice-lt, slice-add, slice-slice, slice-whole}
-use Rattle.rmt_vliw.specs.Types.{Program, Field, Expr, Leaf, Op}
+use Rattle.rmt_vliw.specs.Types.{Program, Expr, Leaf, Op}
 use Rattle.rmt_ast.specs.declared.program.Expr.TheVariants.{One, Two}
 use Rattle.rmt_ast.specs.declared.program.Leaf.TheVariants as leaf
 use Rattle.rmt_ast.specs.declared.program.Op.TheVariants.{Add, Sub, And, Or, Xor}
@@ -167,6 +167,17 @@ applied_piece Sub w a b low len ha hb is one =
 abbrev pub piece_of : List Lane → ℕ → ℕ → Piece
 piece_of lanes k len = record { number = k; low = begins lanes k; len = len }
 
+-- fields of one width are cut into the same pieces
+cut_alike : (p : Program) (places : List (List Lane)) → KeepsApart p places → (f g : ℕ) → width_of p g ≡ width_of p f → map (λ (l : Lane). l.len) (lanes_of places g) ≡ map (λ (l : Lane). l.len) (lanes_of places f)
+cut_alike p places keeps f g width = lanes_cut p places g keeps.cut ∙ ap pieces width ∙ sym (lanes_cut p places f keeps.cut)
+
+pub piece_there : (p : Program) (places : List (List Lane)) → KeepsApart p places → (f g k : ℕ) (d : Lane) → k < length (lanes_of places f) → width_of p g ≡ width_of p f
+    → (k < length (lanes_of places g)) × ((get_or (lanes_of places g) k d).len ≡ (get_or (lanes_of places f) k d).len)
+piece_there p places keeps f g k d lt width =
+    let cut = cut_alike p places keeps f g width in
+    let inside : k < length (lanes_of places g) = (let long = alike-long (lanes_of places g) (lanes_of places f) cut in omega (arith, lt, long)) in
+    (inside, alike-len (lanes_of places g) (lanes_of places f) cut k d inside)
+
 module _ (p : Program) (places : List (List Lane)) (params args s : List ℕ) (words : Words) (held : ℕ) (keeps : KeepsApart p places)
     (state : IsState p s) (taken : AllZip Fits params args) (has : HasArguments params args held) (hold : Hold places words s) where
   field_reads : (f : ℕ) → f < length p.fields → Reads words (slice_index s f) 0 (lanes_of places f)
@@ -179,19 +190,16 @@ module _ (p : Program) (places : List (List Lane)) (params args s : List ℕ) (w
       → source_of words held (get_or (lanes_of places f) k d).len (source_for places params (piece_of (lanes_of places f) k (get_or (lanes_of places f) k d).len) x)
       ≡ slice (operand s args x) (begins (lanes_of places f) k) (get_or (lanes_of places f) k d).len
   source_piece f k d lt (leaf.Field g) is =
-      let xs = lanes_of places f in
       let ys = lanes_of places g in
-      let len = (get_or xs k d).len in
-      let cut : map (λ (l : Lane). l.len) ys ≡ map (λ (l : Lane). l.len) xs = lanes_cut p places g keeps.cut ∙ ap pieces is.1 ∙ sym (lanes_cut p places f keeps.cut) in
-      let inside : k < length ys = (let long = alike-long ys xs cut in omega (arith, lt, long)) in
-      let same : (get_or ys k d).len ≡ len = alike-len ys xs cut k d inside in
+      let len = (get_or (lanes_of places f) k d).len in
+      let (inside, same) = piece_there p places keeps f g k d lt is.1 in
       let none : 0 + begins ys k ≡ begins ys k = omega arith in
       ap (λ o. source_of words held len (lane_source o)) (slice_get-get_or ys k d inside)
       ∙ ap (slice (words (get_or ys k d).word) (get_or ys k d).low) (sym same)
       ∙ field_reads g is.0 k d inside
       ∙ ap (λ n. slice (slice_index s g) n (get_or ys k d).len) none
       ∙ ap (slice (slice_index s g) (begins ys k)) same
-      ∙ ap (λ n. slice (slice_index s g) n len) (alike-begins ys xs cut k)
+      ∙ ap (λ n. slice (slice_index s g) n len) (alike-begins ys (lanes_of places f) (cut_alike p places keeps f g is.1) k)
   source_piece f k d lt (leaf.Param i) is =
       let xs = lanes_of places f in
       let len = (get_or xs k d).len in

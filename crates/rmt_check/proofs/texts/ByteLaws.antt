@@ -1,7 +1,7 @@
 -- The bytes of the words of a text: together they are no more than those of the text, and the names that its tables tell are
 -- words at places of their own.
 use Rattle.std.proofs.Common.{◌≡◌, ◌≤◌, ◌+◌, ◌-◌, ◌^◌, ℕ, zero, suc, List, [], ◌∷◌, ◌++◌, Bool, true, false, if◌then◌else◌, Option, None, Some, option_map, unwrap_or, Result, Ok, Err, length, map, sum, refl, ap, subst, arith}
-use Rattle.std.specs.Prelude.{◌==◌, nat_lt, slice_index, drop}
+use Rattle.std.specs.Prelude.{◌==◌, nat_lt, slice_index, drop, IfOk}
 use Rattle.std.specs.List.{take_while, flat_map, cons_option}
 use Rattle.std.specs.Option.{option_or}
 use Rattle.std.proofs.lemmas.List.Sums.{prefix_len-le-length, sum_by-cons}
@@ -62,26 +62,25 @@ item_within text =
     (either (IsWithin n) (is_equal text) _ _ (no_word n 2)
     (either (IsWithin n) (is_sign (slice_index text 0)) _ _ (no_word n 1) tt))))))
 
--- what is read is tokens whose words have at most n bytes
-abbrev IsShort : ℕ → Result (List Token) ProgramFault → Type 0
-IsShort n (Ok ts) = bytes_in ts ≤ n
-IsShort n (Err f) = Unit {0}
+-- tokens whose words have at most n bytes
+abbrev AreShort : ℕ → List Token → Type 0
+AreShort n ts = bytes_in ts ≤ n
 
-shorter : (n m : ℕ) (r : Result (List Token) ProgramFault) → n ≤ m → IsShort n r → IsShort m r
+shorter : (n m : ℕ) (r : Result (List Token) ProgramFault) → n ≤ m → IfOk r (AreShort n) → IfOk r (AreShort m)
 shorter n m (Ok ts) le h = omega arith
 shorter n m (Err f) le h = tt
 
-short_front : (t : Token) (n m : ℕ) (r : Result (List Token) ProgramFault) → length (word_of t.what) + n ≤ m → IsShort n r → IsShort m (with_front t r)
+short_front : (t : Token) (n m : ℕ) (r : Result (List Token) ProgramFault) → length (word_of t.what) + n ≤ m → IfOk r (AreShort n) → IfOk (with_front t r) (AreShort m)
 short_front t n m (Ok ts) le h = omega arith
 short_front t n m (Err f) le h = tt
 
-short_item : (at : Position) (i : Item) (n : ℕ) (rest : ℕ → Result (List Token) ProgramFault) → IsWithin (suc n) i → ((len : ℕ) → IsShort (n - (len - 1)) (rest len))
-    → IsShort (suc n) (read_item at i rest)
+short_item : (at : Position) (i : Item) (n : ℕ) (rest : ℕ → Result (List Token) ProgramFault) → IsWithin (suc n) i → ((len : ℕ) → IfOk (rest len) (AreShort (n - (len - 1))))
+    → IfOk (read_item at i rest) (AreShort (suc n))
 short_item at (item.Gap len) n rest h more = shorter (n - (len - 1)) (suc n) (rest len) (omega arith) (more len)
 short_item at (item.Token what len) n rest h more = short_front (token_at at what) (n - (len - 1)) (suc n) (rest len) (omega (arith, h.0, h.1)) (more len)
 short_item at (item.Fault code) n rest h more = tt
 
-short_reading : (more : ℕ) (at : Position) (text : List ℕ) → IsShort (length text - more) (reading more at text)
+short_reading : (more : ℕ) (at : Position) (text : List ℕ) → IfOk (reading more at text) (AreShort (length text - more))
 short_reading more at [] = omega arith
 short_reading (suc more) at (b ∷ bs) = shorter (length bs - more) (length (b ∷ bs) - suc more) (reading more (behind at b) bs) (omega arith) (short_reading more (behind at b) bs)
 short_reading zero at (b ∷ bs) =
@@ -90,7 +89,7 @@ short_reading zero at (b ∷ bs) =
     (short_item at (item_of (b ∷ bs)) (length bs) rest (item_within (b ∷ bs)) (λ len. short_reading (len - 1) (behind at b) bs))
 
 pub tokens_short : (text : List ℕ) (ts : List Token) → tokens_of text ≡ Ok ts → bytes_in ts ≤ length text
-tokens_short text ts e = let short = subst (IsShort (length text - 0)) e (short_reading 0 first_place text) in omega (arith, short)
+tokens_short text ts e = let short = subst (λ (r : Result (List Token) ProgramFault). IfOk r (AreShort (length text - 0))) e (short_reading 0 first_place text) in omega (arith, short)
 
 -- The words of a tree.
 
