@@ -1,10 +1,12 @@
-use Rattle.std.proofs.Common.{ℕ, ◌<◌, ◌≤◌, List, [], ◌∷◌, ◌++◌, Some, length, set, refl, ap, sym, ◌∙◌, subst, ⊎_elim, arith}
-use Rattle.std.specs.Prelude.{All, count_by}
+use Rattle.std.proofs.Common.{◌≡◌, ℕ, ◌<◌, ◌≤◌, List, [], ◌∷◌, ◌++◌, Some, length, set, refl, ap, sym, ◌∙◌, subst, ⊎_elim, arith}
+use Rattle.std.specs.Prelude.{All, count_by, nat_lt}
 use Rattle.std.proofs.lemmas.Bool.{cases_lt, false≢true}
 use Rattle.rmt_cells.specs.declared.cells.Cells.{Cells}
 use Rattle.rmt_cells.specs.Pieces.{cells_for}
 use Rattle.rmt_queues.specs.declared.queues.Queues.{Queues}
+use Rattle.rmt_queues.specs.declared.rings.Ring.{Ring}
 use Rattle.rmt_queues.specs.Lists.{Lists, free_cells, has_room, offered, standing}
+use Rattle.rmt_queues.specs.Rings.{ring_of}
 use Rattle.rmt_queues.specs.Stands.{Stands, held_items}
 use Rattle.rmt_queues.proofs.AnswerLaws.{answer_full, answer_none, answer_stored, few_ports, offered_full, offered_none, room_same, some_spare, stored_stands}
 use Rattle.rmt_queues.proofs.OfferLaws.{sent_stands, spare_within}
@@ -18,6 +20,11 @@ within_in s u q ports stands other within = λ i d lt.
     let a = stands.at.ports in
     let b = other.at.ports in
     omega (arith, a, b, here)
+
+-- the rings tell which of these ports have room in the lists
+room_in : (s u : Lists) (q : Queues) (rings : List Ring) (ports : List ℕ) → Stands s q → Stands u q → All (λ port. port < length s.queues) ports → rings ≡ q.rings.items
+    → count_by (λ port. nat_lt (length (ring_of rings port)) q.depth) ports ≡ count_by (has_room u) ports
+room_in s u q rings ports stands other within is = room_same other.indices u q rings ports other.at is (within_in s u q ports stands other within)
 
 pub with_room-copies-requires-clause-few : goal.with_room-copies-requires-clause-few
 with_room-copies-requires-clause-few c =
@@ -38,8 +45,7 @@ returns-then-copies-eq0-clause-stands c = λ s stands.
     let (u, there, all) = c.requires.stands in
     let q = c.args.self.now in
     let ports = c.args.ports.now in
-    let within = within_in u s q ports there stands all in
-    let room = c.with_room-copies.ensures ∙ room_same stands.indices s q c.as_slice.result.now ports stands.at c.as_slice.ensures.value within in
+    let room = c.with_room-copies.ensures ∙ room_in u s q c.as_slice.result.now ports there stands all c.as_slice.ensures.value in
     subst (λ (t : Lists). Stands t q) (sym (offered_none s ports c.args.item.now (sym room ∙ c.if-copies-eq0.true))) stands
 
 pub returns-then-copies-eq0-clause-answer : goal.returns-then-copies-eq0-clause-answer
@@ -47,8 +53,7 @@ returns-then-copies-eq0-clause-answer c = λ s stands.
     let (u, there, all) = c.requires.stands in
     let q = c.args.self.now in
     let ports = c.args.ports.now in
-    let within = within_in u s q ports there stands all in
-    let room = c.with_room-copies.ensures ∙ room_same stands.indices s q c.as_slice.result.now ports stands.at c.as_slice.ensures.value within in
+    let room = c.with_room-copies.ensures ∙ room_in u s q c.as_slice.result.now ports there stands all c.as_slice.ensures.value in
     answer_none s ports c.args.item.now c.with_room-copies.result room c.if-copies-eq0.true
 
 pub returns-in-Err-clause-stands : goal.returns-in-Err-clause-stands
@@ -64,8 +69,7 @@ returns-in-Err-clause-answer c = λ s stands.
     let (u, there, all) = c.requires.stands in
     let q = c.args.self.now in
     let ports = c.args.ports.now in
-    let within = within_in u s q ports there stands all in
-    let room = c.with_room-copies.ensures ∙ room_same stands.indices s q c.as_slice.result.now ports stands.at c.as_slice.ensures.value within in
+    let room = c.with_room-copies.ensures ∙ room_in u s q c.as_slice.result.now ports there stands all c.as_slice.ensures.value in
     let some = c.if-copies-eq0.false in
     let told = free_told stands.indices s q stands.at in
     let full = c.in-Err.ensures.full.0 refl in
@@ -115,14 +119,8 @@ returns-clause-stands c = λ s stands.
 pub returns-clause-answer : goal.returns-clause-answer
 returns-clause-answer c = λ s stands.
     let (u, there, all) = c.requires.stands in
-    let q = c.args.self.now in
-    let ports = c.args.ports.now in
-    let item = c.args.item.now in
-    let ix = stands.indices in
-    let within = within_in u s q ports there stands all in
-    let room = c.with_room-copies.ensures ∙ room_same ix s q c.as_slice.result.now ports stands.at c.as_slice.ensures.value within in
-    let some = c.if-copies-eq0.false in
-    let told = free_told ix s q stands.at in
-    let enough : cells_for (length item) ≤ free_cells s =
-    ⊎_elim (λ lt. absurd (false≢true (c.in-Ok.ensures.full.1 lt))) (λ le. omega (arith, le, told)) (cases_lt q.cells.free (cells_for (length item))) in
-    answer_stored s ports item c.with_room-copies.result room (omega (arith, some)) enough
+    let room = c.with_room-copies.ensures ∙ room_in u s c.args.self.now c.as_slice.result.now c.args.ports.now there stands all c.as_slice.ensures.value in
+    let told = free_told stands.indices s c.args.self.now stands.at in
+    let enough : cells_for (length c.args.item.now) ≤ free_cells s =
+    ⊎_elim (λ lt. absurd (false≢true (c.in-Ok.ensures.full.1 lt))) (λ le. omega (arith, le, told)) (cases_lt c.args.self.now.cells.free (cells_for (length c.args.item.now))) in
+    answer_stored s c.args.ports.now c.args.item.now c.with_room-copies.result room (omega (arith, room, c.if-copies-eq0.false)) enough
