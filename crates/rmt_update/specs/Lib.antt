@@ -1,4 +1,9 @@
 pub mod Holding
+pub mod Kept
+pub mod Numbered
+pub mod PartList
 pub mod Running
 pub mod Settled
 pub mod Stands
+pub mod Told
+pub mod Words

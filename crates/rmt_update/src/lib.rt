@@ -1,6 +1,7 @@
-//! Entry lists of a run, as changes come.
+//! Entry lists of a run, as changes come, and the cells of a configuration with their entries.
 #![tactic(auto)]
 
+pub mod book;
 pub mod fault;
 pub mod held;
 pub mod lists;

@@ -1,0 +1,106 @@
+-- What is read of a cell is what it holds.
+use Rattle.std.proofs.Common.{◌≡◌, ℕ, ◌+◌, ◌-◌, ◌*◌, ◌/◌, ◌%◌, ◌^◌, ◌<◌, ◌≤◌, List, [], ◌∷◌, length, map, Bool, true, false, ◌&&◌, ◌==◌, cond, Some, option_map, unwrap_or, refl, sym, ap, ◌∙◌, subst, arith}
+use Rattle.std.specs.Prelude.{All, find}
+use Rattle.std.proofs.lemmas.List.Elements.{All-head, All-tail}
+use Rattle.std.proofs.lemmas.Nat.{div_below, mul-le}
+use Rattle.std.proofs.Math.Nat.{div-one}
+use Rattle.std.proofs.Math.Pow.{pow_mono}
+use Rattle.rmt_bits.specs.Bits.{bytes_of, number_of, slice}
+use Rattle.rmt_bits.proofs.BitLaws.{slice-lt, slice-slice, slice-whole}
+use Rattle.rmt_bits.proofs.ByteLaws.{length-bytes_of, number_of-bytes_of}
+use Rattle.rmt_config.specs.declared.form.layout.Layout.{Layout}
+use Rattle.rmt_config.specs.declared.config.TcamRow.{TcamRow}
+use Rattle.rmt_config.specs.Cells.{Blocks, tcam_row, unit_row}
+use Rattle.rmt_config.specs.Layouts.{IsInSram, exact_keys, exact_records, ternary_records}
+use Rattle.rmt_config.specs.Shapes.{divided_up}
+use Rattle.rmt_config.proofs.CellLayouts.{exact_keys-is, exact_records-is, ternary_records-is, up-enough, up-least}
+use Rattle.rmt_config.proofs.SpelledCandidates.{above-byte}
+use Rattle.rmt_config.proofs.UnitBits.{Within}
+use Rattle.rmt_update.specs.Words.{joined}
+use Rattle.rmt_update.specs.Kept.{Tells}
+use Rattle.rmt_update.proofs.WordLaws.{joined-unit}
+
+-- ---- bytes of a number
+
+pub bytes-hold : (bits y : ℕ) → y < 2 ^ bits → number_of (bytes_of (divided_up bits 8) y) ≡ y
+bytes-hold bits y lt =
+    let enough = up-enough bits 8 (omega arith) in
+    let more : 2 ^ bits ≤ 2 ^ (8 * divided_up bits 8) = pow_mono (omega (arith, enough)) in
+    number_of-bytes_of (divided_up bits 8) y (omega (arith, lt, more))
+
+pub bytes-few : (bits y : ℕ) (bytes : List ℕ) → bytes ≡ bytes_of (divided_up bits 8) y → bits < 65536 → length bytes ≤ 8192
+bytes-few bits y bytes is few =
+    let least = up-least bits 8 (omega arith) in
+    let e = ap (λ (bs : List ℕ). length bs) is ∙ length-bytes_of (divided_up bits 8) y in
+    omega (arith, e, least, few)
+
+-- ---- parts of an entry
+
+-- the lowest byte of what words tell
+pub tells-low : (words : List ℕ) (low len value : ℕ) → 8 ≤ len → Tells words low len value → slice (joined 112 words) low 8 ≡ value % 256
+tells-low words low len value le t =
+    let at : low + 0 ≡ low = omega arith in
+    ap (λ n. slice (joined 112 words) n 8) (sym at) ∙ sym (slice-slice (joined 112 words) low len 0 8 (omega (arith, le)))
+    ∙ ap (λ v. slice v 0 8) t.value ∙ ap (λ n. n % 256) (div-one value)
+
+-- and what is above it
+pub tells-high : (words : List ℕ) (low bits value : ℕ) → Tells words low (bits + 8) value → slice (joined 112 words) (low + 8) bits ≡ value / 256
+tells-high words low bits value t =
+    let lt : value < 2 ^ (bits + 8) = subst (λ v. v < 2 ^ (bits + 8)) t.value (slice-lt (joined 112 words) low (bits + 8)) in
+    sym (slice-slice (joined 112 words) low (bits + 8) 8 bits (omega arith)) ∙ ap (λ v. slice v 8 bits) t.value ∙ above-byte value bits lt
+
+-- the bytes of what is above it
+pub key-told : (words bytes : List ℕ) (low bits value : ℕ) → Tells words low (bits + 8) value → bytes ≡ bytes_of (divided_up bits 8) (slice (joined 112 words) (low + 8) bits) → number_of bytes ≡ value / 256
+key-told words bytes low bits value t is =
+    ap number_of is ∙ bytes-hold bits (slice (joined 112 words) (low + 8) bits) (slice-lt (joined 112 words) (low + 8) bits) ∙ tells-high words low bits value t
+
+-- the bytes of a row of blocks side by side
+pub row-kept : (held : Blocks) (row : ℕ) (blocks blocks' words bytes : List ℕ) (bits : ℕ) → words ≡ map (λ b. held b row) blocks' → blocks' ≡ blocks → unit_row 40 held row blocks < 2 ^ bits
+    → bytes ≡ bytes_of (divided_up bits 8) (slice (joined 40 words) 0 bits) → number_of bytes ≡ unit_row 40 held row blocks
+row-kept held row blocks blocks' words bytes bits are same lt is =
+    let x = unit_row 40 held row blocks in
+    let here : joined 40 words ≡ x = ap (joined 40) are ∙ joined-unit 40 held row blocks' ∙ ap (unit_row 40 held row) same in
+    ap number_of is ∙ ap (λ n. number_of (bytes_of (divided_up bits 8) (slice n 0 bits))) here
+    ∙ ap (λ n. number_of (bytes_of (divided_up bits 8) n)) (slice-whole x bits lt) ∙ bytes-hold bits x lt
+
+-- ---- rows of TCAM
+
+found-small : {X : Type 0} (p : X → Bool) (val : X → ℕ) (m : ℕ) (xs : List X) → 0 < m → All (λ x. val x < m) xs → unwrap_or (option_map val (find p xs)) 0 < m
+found-small p val m [] some all = some
+found-small p val m (x ∷ xs) some all = by (p x) (found-small p val m xs some (All-tail (λ y. val y < m) x xs all))
+  where
+    by : (b : Bool) → unwrap_or (option_map val (find p xs)) 0 < m → unwrap_or (option_map val (cond b (Some x) (find p xs))) 0 < m
+    by true rest = All-head (λ y. val y < m) x xs all
+    by false rest = rest
+
+pub tcam-within : (val : TcamRow → ℕ) (rows : List TcamRow) → All (λ (r : TcamRow). val r < 2 ^ 40) rows → Within 40 (tcam_row val rows)
+tcam-within val rows all block row = found-small (λ (r : TcamRow). (r.block == block) && (r.row == row)) val (2 ^ 40) rows (omega arith) all
+
+pub values-small : (rows : List TcamRow) → All (λ (r : TcamRow). r.value ≤ r.mask) rows → All (λ (r : TcamRow). r.mask < 2 ^ 40) rows → All (λ (r : TcamRow). r.value < 2 ^ 40) rows
+values-small rows within masks k d lt = let a = within k d lt in let b = masks k d lt in omega arith
+
+-- a quantum of a listed row has its blocks
+pub quantum-there : (d width len n : ℕ) → len ≡ d * width → n < 2048 * d → (n / 2048 + 1) * width ≤ len
+quantum-there d width len n is lt =
+    let low : n / 2048 < d = div_below n 2048 d (omega arith) (omega (arith, lt)) in
+    let fit : (n / 2048 + 1) * width ≤ d * width = mul-le (n / 2048 + 1) width d width (omega (arith, low)) (omega arith) in
+    omega (arith, fit, is)
+
+-- how many blocks a key takes
+pub width-is : (bits bits' : ℕ) → bits' ≡ bits → (bits' + 39) / 40 ≡ divided_up bits 40
+width-is bits bits' e = ap (λ b. (b + 39) / 40) e ∙ ap (λ n. n / 40) (let s : bits + 39 ≡ bits + 40 - 1 = omega arith in s)
+
+-- ---- layouts
+
+pub keys-in : (k p d bits : ℕ) → 0 < k → k < 256 → 0 < p → p < 65536 → 0 < d → d ≤ 106 → bits ≤ 640 → p * (bits + 8) ≤ 112 * k → IsInSram (exact_keys k p d bits)
+keys-in k p d bits lk hk lp hp ld hd hb fit = record { is = exact_keys-is k p d bits lk hk lp hp ld hd hb fit; in_sram = refl; in_blocks = refl }
+
+pub records-in : (p d n : ℕ) → 0 < p → p < 65536 → 0 < d → d ≤ 106 → 0 < n → n < 65536 → IsInSram (exact_records p d n)
+records-in p d n lp hp ld hd ln hn = record { is = exact_records-is p d n lp hp ld hd ln hn; in_sram = refl; in_blocks = refl }
+
+pub rows-in : (d n : ℕ) → 0 < d → d ≤ 106 → 0 < n → n < 65544 → IsInSram (ternary_records d n)
+rows-in d n ld hd ln hn = record { is = ternary_records-is d n ld hd ln hn; in_sram = refl; in_blocks = refl }
+
+-- what holds of a layout holds of an equal one
+pub at-layout : (P : Layout → Type 0) (l l' : Layout) → l ≡ l' → P l' → P l
+at-layout P l l' e h = subst P (sym e) h
