@@ -51,6 +51,7 @@ pub mod SpelledBytes
 pub mod SpelledCandidates
 mod SpelledKeys
 pub mod SpelledWays
+mod KeyListLaws
 mod PrintLaws
 mod SpelledExact
 mod SpelledTable

@@ -1,7 +1,7 @@
 -- An exact table is named as its parts are filled, by its keys.
-use Rattle.std.proofs.Common.{◌≡◌, ℕ, ◌+◌, ◌*◌, ◌%◌, ◌^◌, ◌<◌, ◌≤◌, List, [], ◌∷◌, ◌++◌, map, Bool, true, false, not, ◌&&◌, ◌||◌, eqb, refl, sym, ap, ◌∙◌, arith}
+use Rattle.std.proofs.Common.{◌≡◌, ℕ, ◌+◌, ◌*◌, ◌%◌, ◌^◌, ◌<◌, ◌≤◌, List, [], ◌∷◌, map, Bool, true, false, not, ◌&&◌, ◌||◌, eqb, refl, sym, ap, ◌∙◌, arith}
 use Rattle.std.specs.Prelude.{All, sum}
-use Rattle.std.specs.List.{list_all, flat_map}
+use Rattle.std.specs.List.{list_all}
 use Rattle.std.specs.Str.{bytes_eq}
 use Rattle.std.proofs.lemmas.Bool.{and_parts, eqb-true, eq-eqb}
 use Rattle.std.proofs.lemmas.List.Elements.{All-head, All-tail}
@@ -12,65 +12,10 @@ use Rattle.rmt_bits.specs.Bits.{slice, bytes_of, number_of}
 use Rattle.rmt_bits.proofs.ByteLaws.{number_of-bytes_of}
 use Rattle.rmt_ast.specs.declared.program.Test.{Test}
 use Rattle.rmt_ast.specs.Changes.{are_same}
-use Rattle.rmt_config.specs.Types.{CellNumber, Config}
-use Rattle.rmt_config.specs.Rooms.{PartAt}
-use Rattle.rmt_config.specs.NamesForm.{each_later, stands_in_candidates, tests_of_key}
-use Rattle.rmt_config.specs.KeysSeen.{key_held, keys_after, keys_fit, parts_fit, stands_in, was_seen}
+use Rattle.rmt_config.specs.NamesForm.{each_later, tests_of_key}
+use Rattle.rmt_config.specs.KeysSeen.{news, was_seen}
 use Rattle.std.proofs.Math.Nat.{mod-eq_of_lt, pow-le-pow_right}
 use Rattle.rmt_bits.proofs.OptionLaws.{same_Bool}
-
--- ---- keys in the order in which they are seen
-
--- each key is new beside those before it
-abbrev pub news : ℕ → List ℕ → List ℕ → Bool
-news size before [] = true
-news size before (k ∷ ks) = not (was_seen size k before) && news size (k ∷ before) ks
-
-abbrev pub onto : List ℕ → List ℕ → List ℕ
-onto before [] = before
-onto before (k ∷ ks) = onto (k ∷ before) ks
-
-after-onto : (key : CellNumber → ℕ) (before : List ℕ) (ns : List CellNumber) → keys_after key before ns ≡ onto before (map key ns)
-after-onto key before [] = refl
-after-onto key before (n ∷ ns) = after-onto key (key n ∷ before) ns
-
-four : (a b c d : Bool) → ((a && b) && (c && d)) ≡ ((a && c) && (b && d))
-four true true c d = refl
-four true false true d = refl
-four true false false d = refl
-four false b c d = refl
-
-fit-parts : (stands : CellNumber → Bool) (size : ℕ) (key : CellNumber → ℕ) (before : List ℕ) (ns : List CellNumber)
-    → keys_fit stands (was_seen size) key before ns ≡ (list_all stands ns && news size before (map key ns))
-fit-parts stands size key before [] = refl
-fit-parts stands size key before (n ∷ ns) =
-    ap (λ b. stands n && not (was_seen size (key n) before) && b) (fit-parts stands size key (key n ∷ before) ns)
-    ∙ four (stands n) (not (was_seen size (key n) before)) (list_all stands ns) (news size (key n ∷ before) (map key ns))
-
-assoc-and : (a b c : Bool) → (a && (b && c)) ≡ ((a && b) && c)
-assoc-and true b c = refl
-assoc-and false b c = refl
-
-news-append : (size : ℕ) (before xs ys : List ℕ) → news size before (xs ++ ys) ≡ (news size before xs && news size (onto before xs) ys)
-news-append size before [] ys = refl
-news-append size before (x ∷ xs) ys =
-    ap (λ b. not (was_seen size x before) && b) (news-append size (x ∷ before) xs ys)
-    ∙ assoc-and (not (was_seen size x before)) (news size (x ∷ before) xs) (news size (onto (x ∷ before) xs) ys)
-
--- the keys of parts, by part and cell
-abbrev pub keys_listed : Config → List PartAt → List ℕ
-keys_listed c ps = flat_map (λ (p : PartAt). map (key_held c p) p.slot.numbers) ps
-
-pub parts-split : (c : Config) (size : ℕ) (before : List ℕ) (ps : List PartAt) → parts_fit c size before ps ≡ (list_all (stands_in_candidates c) ps && news size before (keys_listed c ps))
-parts-split c size before [] = refl
-parts-split c size before (p ∷ ps) =
-    let here = map (key_held c p) p.slot.numbers in
-    let stand = list_all (stands_in c p) p.slot.numbers in
-    ap (λ b. b && parts_fit c size (keys_after (key_held c p) before p.slot.numbers) ps) (fit-parts (stands_in c p) size (key_held c p) before p.slot.numbers)
-    ∙ ap (λ b. (stand && news size before here) && b) (parts-split c size (keys_after (key_held c p) before p.slot.numbers) ps
-    ∙ ap (λ ks. list_all (stands_in_candidates c) ps && news size ks (keys_listed c ps)) (after-onto (key_held c p) before p.slot.numbers))
-    ∙ four stand (news size before here) (list_all (stands_in_candidates c) ps) (news size (onto before here) (keys_listed c ps))
-    ∙ ap (λ b. (stand && list_all (stands_in_candidates c) ps) && b) (sym (news-append size before here (keys_listed c ps)))
 
 -- ---- new keys differ from all later ones
 

@@ -1,5 +1,5 @@
 -- The parts of a table stand in the stages of a configuration that keeps the rules of items and of memory.
-use Rattle.std.proofs.Common.{◌≡◌, ℕ, suc, ◌+◌, Option, List, [], ◌∷◌, ◌++◌, Bool, true, false, cond, eqb, Some, option_map, unwrap_or, sym, ap, ◌∙◌, arith}
+use Rattle.std.proofs.Common.{◌≡◌, ℕ, ◌+◌, Option, List, [], ◌∷◌, ◌++◌, Bool, true, false, cond, eqb, Some, option_map, unwrap_or, ap, ◌∙◌, arith}
 use Rattle.std.specs.Prelude.{All, IsTrue, option_and_then, slice_get}
 use Rattle.std.specs.List.{enumerate_from, flat_map, list_all}
 use Rattle.std.proofs.lemmas.Bool.{and_parts}

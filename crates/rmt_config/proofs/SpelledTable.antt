@@ -1,11 +1,9 @@
 -- An exact table is named as its parts are filled, by what is found out of each part.
-use Rattle.std.proofs.Common.{◌≡◌, ℕ, ◌+◌, ◌-◌, ◌*◌, ◌^◌, ◌<◌, ◌≤◌, List, [], ◌∷◌, ◌++◌, length, get_or, drop, map, Bool, true, false, not, ◌&&◌, eqb, leb, ltb, Vec, refl, sym, ap, ◌∙◌, subst, arith}
+use Rattle.std.proofs.Common.{◌≡◌, ℕ, ◌+◌, ◌-◌, ◌*◌, ◌^◌, ◌<◌, ◌≤◌, List, [], ◌∷◌, ◌++◌, length, get_or, map, Bool, true, false, not, ◌&&◌, eqb, leb, ltb, refl, sym, ap, ◌∙◌, subst, arith}
 use Rattle.std.specs.Prelude.{All, IsTrue, sum}
 use Rattle.std.specs.List.{flat_map, list_all, list_any}
-use Rattle.std.specs.Global.{Global}
-use Rattle.std.specs.BTreeSet.{BTreeSet}
-use Rattle.std.proofs.lemmas.Bool.{and_parts, eqb-true, false≢true, le-leb, lt-leb, ltb-true}
-use Rattle.std.proofs.lemmas.List.{map-append}
+use Rattle.std.proofs.lemmas.Bool.{and_parts, eqb-true, false≢true, leb-true, ltb-true}
+use Rattle.std.proofs.lemmas.List.{length-append, length-map, map-append}
 use Rattle.std.proofs.lemmas.List.Elements.{All-nil, All-cons, All-head, All-tail, All-append}
 use Rattle.rmt_bits.proofs.FunctionLaws.{funext}
 use Rattle.rmt_bits.proofs.BitLaws.{slice-lt}
@@ -29,14 +27,13 @@ use Rattle.rmt_config.specs.declared.form.names.part_list.Part.{Part}
 use Rattle.rmt_bits.proofs.AllLaws.{All-from_test, All-unmap}
 use Rattle.std.proofs.lemmas.List.Folds.{list_all-map}
 use Rattle.std.proofs.lemmas.Option.{get_or_from_slice_get}
-use Rattle.rmt_config.proofs.SlotLaws.{exact-fits}
-use Rattle.rmt_config.proofs.SpelledLists.{drop-at}
+use Rattle.rmt_config.proofs.SlotLaws.{exact-fits, key_is_short}
 use Rattle.rmt_config.specs.NamesForm.{each_later, entries_by_cell, entry_in, has_key_bits, has_parts, held_by, is_filled_so, is_made_so, is_of_kind, stands_in_candidates, tests_of_key}
-use Rattle.rmt_config.specs.KeyPrints.{Prints}
-use Rattle.rmt_config.specs.KeysSeen.{Knows, Sees, WaysLow, key_held, key_in, keys_after, parts_fit, stands_in, stands_there}
+use Rattle.rmt_config.specs.KeyPrints.{KeysAdded}
+use Rattle.rmt_config.specs.KeysSeen.{WaysLow, key_held, key_in, keys_listed, news, stands_in, stands_there}
 use Rattle.rmt_config.proofs.CellLayouts.{up-enough}
 use Rattle.rmt_config.proofs.SpelledCandidates.{above-byte}
-use Rattle.rmt_config.proofs.SpelledExact.{keys_listed, news, news-differ, parts-split}
+use Rattle.rmt_config.proofs.SpelledExact.{news-differ}
 use Rattle.rmt_config.proofs.SpelledParts.{held-is, parts-stand}
 use Rattle.rmt_config.proofs.SpelledRanks.{entries-count, later-map}
 use Rattle.rmt_config.proofs.SpelledTernary.{filled_as, of-kind}
@@ -85,25 +82,15 @@ module _ (c : Config) (p : PartAt) (st : PartStands c p) (k per d w : ℕ) (ks r
       (sym (list_all-map (λ n. ltb n (4096 * d * per)) (λ (n : CellNumber). n.cell) p.slot.numbers)
       ∙ sym (ap (λ m. list_all (λ n. ltb n (cells_in m)) (map (λ (n : CellNumber). n.cell) p.slot.numbers)) e) ∙ (and_parts _ _ (and_parts _ _ st.holds.numbers).0).1)
 
-  pub exact-sees : (before : List ℕ) (set : BTreeSet (Vec ℕ Global)) (fit : Bool)
+  pub exact-keys : (old new : List ℕ) (stand : Bool)
       → (let key = key_in st.stage.srows ks k per d (bits_of_lanes p.slot.keys) in
       let size = divided_up (bits_of_lanes p.slot.keys) 8 in
-      Sees size (stands_there c.seed w per d size key) key before p.slot.numbers set fit → Sees size (stands_in c p) (key_held c p) before p.slot.numbers set fit)
-  exact-sees before set fit h =
+      KeysAdded size (stands_there c.seed w per d size key) key p.slot.numbers old new stand → KeysAdded size (stands_in c p) (key_held c p) p.slot.numbers old new stand)
+  exact-keys old new stand h =
       let size = divided_up (bits_of_lanes p.slot.keys) 8 in
       let key = key_in st.stage.srows ks k per d (bits_of_lanes p.slot.keys) in
-      subst (λ (f : CellNumber → ℕ). Sees size (stands_in c p) f before p.slot.numbers set fit) (funext key (key_held c p) exact-key)
-      (subst (λ (f : CellNumber → Bool). Sees size f key before p.slot.numbers set fit) (funext (stands_there c.seed w per d size key) (stands_in c p) exact-stands) h)
-
-  pub exact-prints : (old new : List ℕ)
-      → (let key = key_in st.stage.srows ks k per d (bits_of_lanes p.slot.keys) in
-      let size = divided_up (bits_of_lanes p.slot.keys) 8 in
-      Prints size (stands_there c.seed w per d size key) key p.slot.numbers old new → Prints size (stands_in c p) (key_held c p) p.slot.numbers old new)
-  exact-prints old new h =
-      let size = divided_up (bits_of_lanes p.slot.keys) 8 in
-      let key = key_in st.stage.srows ks k per d (bits_of_lanes p.slot.keys) in
-      subst (λ (f : CellNumber → ℕ). Prints size (stands_in c p) f p.slot.numbers old new) (funext key (key_held c p) exact-key)
-      (subst (λ (f : CellNumber → Bool). Prints size f key p.slot.numbers old new) (funext (stands_there c.seed w per d size key) (stands_in c p) exact-stands) h)
+      subst (λ (f : CellNumber → ℕ). KeysAdded size (stands_in c p) f p.slot.numbers old new stand) (funext key (key_held c p) exact-key)
+      (subst (λ (f : CellNumber → Bool). KeysAdded size f key p.slot.numbers old new stand) (funext (stands_there c.seed w per d size key) (stands_in c p) exact-stands) h)
 
 -- ---- the parts of an exact table
 
@@ -193,7 +180,7 @@ shape true true false = refl
 shape true true true = refl
 
 pub exact-answer : (c : Config) (t : TableName) → t.kind ≡ kind.Exact → All (ExactPart c (sum t.keys)) (parts_of c t.node)
-    → is_filled_so c t ≡ (leb (length (listed_numbers (parts_of c t.node))) t.size && parts_fit c (divided_up (sum t.keys) 8) [] (parts_of c t.node))
+    → is_filled_so c t ≡ (leb (length (listed_numbers (parts_of c t.node))) t.size && (list_all (stands_in_candidates c) (parts_of c t.node) && news (divided_up (sum t.keys) 8) [] (keys_listed c (parts_of c t.node))))
 exact-answer c t is parts =
     let es = entries_by_cell c t in
     let ps = parts_of c t.node in
@@ -207,35 +194,16 @@ exact-answer c t is parts =
     ap (filled_as c t) is
     ∙ shape (leb (length es) t.size) once (list_all (stands_in_candidates c) ps)
     ∙ ap (λ n. leb n t.size && (list_all (stands_in_candidates c) ps && once)) (entries-count c t)
-    ∙ ap (λ b. leb (length (listed_numbers ps)) t.size && b) (ap (λ b. list_all (stands_in_candidates c) ps && b) keys ∙ sym (parts-split c size [] ps))
+    ∙ ap (λ b. leb (length (listed_numbers ps)) t.size && (list_all (stands_in_candidates c) ps && b)) keys
 
--- ---- parts so far: the keys that were seen then, and what is left to be found out
-
-pub record PartsReached (c : Config) (size : ℕ) (ps rest : List PartAt) (set : BTreeSet (Vec ℕ Global)) : Type 0 where
-  pub seen : List ℕ
-  pub known : Knows size seen set
-  pub answer : parts_fit c size [] ps ≡ parts_fit c size seen rest
-
-module _ (c : Config) (bits : ℕ) (ps : List PartAt) where
-  pub table-no : (p : PartAt) (rest : List PartAt) (set new : BTreeSet (Vec ℕ Global)) → (r : PartsReached c (divided_up bits 8) ps (p ∷ rest) set)
-      → Sees (divided_up bits 8) (stands_in c p) (key_held c p) r.seen p.slot.numbers new false → parts_fit c (divided_up bits 8) [] ps ≡ false
-  table-no p rest set new r h = r.answer ∙ ap (λ b. b && parts_fit c (divided_up bits 8) (keys_after (key_held c p) r.seen p.slot.numbers) rest) (sym h.answer)
-
-  pub table-more : (p : PartAt) (rest : List PartAt) (set new : BTreeSet (Vec ℕ Global)) → (r : PartsReached c (divided_up bits 8) ps (p ∷ rest) set)
-      → Sees (divided_up bits 8) (stands_in c p) (key_held c p) r.seen p.slot.numbers new true → PartsReached c (divided_up bits 8) ps rest new
-  table-more p rest set new r h = record {
-    seen = keys_after (key_held c p) r.seen p.slot.numbers;
-    known = h.known refl;
-    answer = r.answer ∙ ap (λ b. b && parts_fit c (divided_up bits 8) (keys_after (key_held c p) r.seen p.slot.numbers) rest) (sym h.answer);
-  }
-
--- what is found out of a part behind the keys of parts before it, whose bits are as many
-pub part-sees : (c : Config) (bits own : ℕ) (p : PartAt) (seen : List ℕ) (set new : BTreeSet (Vec ℕ Global)) (fit : Bool) → bits ≡ own → Knows (divided_up bits 8) seen set
-    → ((before : List ℕ) → Knows (divided_up own 8) before set → Sees (divided_up own 8) (stands_in c p) (key_held c p) before p.slot.numbers new fit)
-    → Sees (divided_up bits 8) (stands_in c p) (key_held c p) seen p.slot.numbers new fit
-part-sees c bits own p seen set new fit same known f =
-    subst (λ b. ((before : List ℕ) → Knows (divided_up b 8) before set → Sees (divided_up b 8) (stands_in c p) (key_held c p) before p.slot.numbers new fit)
-    → Sees (divided_up bits 8) (stands_in c p) (key_held c p) seen p.slot.numbers new fit) same (λ g. g seen known) f
+-- as many keys as numbers
+pub keys-count : (c : Config) (ps : List PartAt) → length (keys_listed c ps) ≡ length (listed_numbers ps)
+keys-count c [] = refl
+keys-count c (p ∷ ps) =
+    length-append (map (key_held c p) p.slot.numbers) (keys_listed c ps)
+    ∙ ap (λ n. n + length (keys_listed c ps)) (length-map p.slot.numbers (key_held c p) ∙ sym (length-map p.slot.numbers (λ (n : CellNumber). n.number)))
+    ∙ ap (λ n. length (map (λ (n : CellNumber). n.number) p.slot.numbers) + n) (keys-count c ps)
+    ∙ sym (length-append (map (λ (n : CellNumber). n.number) p.slot.numbers) (listed_numbers ps))
 
 -- ---- the parts as they are gone over
 
@@ -249,20 +217,37 @@ module _ (c : Config) (t : TableName) (parts : List Part) (same : parts_at parts
       subst (λ y. ExactPart c (sum t.keys) (part_at y)) (sym at)
       (All-unmap (ExactPart c (sum t.keys)) part_at parts (subst (All (ExactPart c (sum t.keys))) (sym same) all-exact) i x lt)
 
-  pub table-full : (numbers : List ℕ) → numbers ≡ listed_numbers (parts_of c t.node) → t.size < length numbers → false ≡ is_filled_so c t
-  table-full numbers e lt =
-      sym (exact-answer c t is all-exact
-      ∙ ap (λ (ns : List ℕ). leb (length ns) t.size && parts_fit c (divided_up (sum t.keys) 8) [] (parts_of c t.node)) (sym e)
-      ∙ ap (λ b. b && parts_fit c (divided_up (sum t.keys) 8) [] (parts_of c t.node)) (lt-leb (length numbers) t.size lt))
+  -- its first part
+  pub some-part : 0 < length parts
+  some-part =
+      let some : 1 ≤ length (parts_of c t.node) = leb-true 1 (length (parts_of c t.node)) (and_parts _ _ has).0 in
+      let long : length (parts_at parts) ≡ length (parts_of c t.node) = ap (λ (ps : List PartAt). length ps) same in
+      omega (arith, some, long, length-map parts part_at)
 
-  pub table-answer : (numbers : List ℕ) (fit : Bool) → numbers ≡ listed_numbers (parts_of c t.node) → length numbers ≤ t.size → parts_fit c (divided_up (sum t.keys) 8) [] (parts_at parts) ≡ fit → fit ≡ is_filled_so c t
-  table-answer numbers fit e le h =
-      sym (exact-answer c t is all-exact
-      ∙ ap (λ (ns : List ℕ). leb (length ns) t.size && parts_fit c (divided_up (sum t.keys) 8) [] (parts_of c t.node)) (sym e)
-      ∙ ap (λ b. b && parts_fit c (divided_up (sum t.keys) 8) [] (parts_of c t.node)) (le-leb (length numbers) t.size le)
-      ∙ ap (parts_fit c (divided_up (sum t.keys) 8) []) (sym same) ∙ h)
+  pub first-bits : (x : Part) → x ≡ get_or parts 0 x → sum t.keys ≡ bits_of_lanes (get_or parts 0 x).slot.now.keys
+  first-bits x is = (exact-at 0 x some-part is).all_bits ∙ ap (λ (y : Part). bits_of_lanes y.slot.now.keys) is
 
-pub part-next : (c : Config) (size : ℕ) (ps : List PartAt) (parts : List Part) (i : ℕ) (x : Part) (set : BTreeSet (Vec ℕ Global)) → i < length parts → x ≡ get_or parts i x
-    → PartsReached c size ps (parts_at (drop i parts)) set → PartsReached c size ps (part_at x ∷ parts_at (drop (i + 1) parts)) set
-part-next c size ps parts i x set lt at r =
-    subst (λ (xs : List Part). PartsReached c size ps (parts_at xs) set) (drop-at parts i x lt ∙ ap (λ y. y ∷ drop (i + 1) parts) (sym at)) r
+  pub first-short : (x : Part) → x ≡ get_or parts 0 x → bits_of_lanes (get_or parts 0 x).slot.now.keys ≤ 640
+  first-short x is =
+      let s = x.slot.now in
+      subst (λ (y : Part). bits_of_lanes y.slot.now.keys ≤ 640) is
+      (key_is_short s s.memory (and_parts (slot_head_is_formed s) (memory_is_formed s s.memory) (exact-at 0 x some-part is).stands.slot).1)
+
+  -- a table is filled so where it has room, its cells are candidates and its keys differ
+  pub table-is : (numbers : List ℕ) (room stand differ : Bool) → numbers ≡ listed_numbers (parts_of c t.node) → leb (length numbers) t.size ≡ room
+      → stand ≡ list_all (stands_in_candidates c) (parts_at parts) → (stand ≡ true → differ ≡ news (divided_up (sum t.keys) 8) [] (keys_listed c (parts_at parts)))
+      → (room && (stand && differ)) ≡ is_filled_so c t
+  table-is numbers room stand differ e fits cells keys =
+      let size = divided_up (sum t.keys) 8 in
+      let candidates : List PartAt → Bool = λ ps. list_all (stands_in_candidates c) ps in
+      let new : List PartAt → Bool = λ ps. news size [] (keys_listed c ps) in
+      sym (exact-answer c t is all-exact
+      ∙ ap (λ (ps : List PartAt). leb (length (listed_numbers (parts_of c t.node))) t.size && (candidates ps && new ps)) (sym same)
+      ∙ ap (λ (ns : List ℕ). leb (length ns) t.size && (candidates (parts_at parts) && new (parts_at parts))) (sym e)
+      ∙ ap (λ b. b && (candidates (parts_at parts) && new (parts_at parts))) fits
+      ∙ ap (λ b. room && (b && new (parts_at parts))) (sym cells)
+      ∙ ap (λ b. room && b) (both stand differ (new (parts_at parts)) keys))
+    where
+      both : (a x y : Bool) → (a ≡ true → x ≡ y) → (a && y) ≡ (a && x)
+      both true x y h = sym (h refl)
+      both false x y h = refl

@@ -1,5 +1,5 @@
 -- The keys of exact parts, seen one after another.
-use Rattle.std.specs.Prelude.{◌≡◌, ℕ, ◌+◌, ◌*◌, ◌/◌, ◌<◌, List, [], ◌∷◌, Vec, Bool, true, not, ◌&&◌, ◌==◌}
+use Rattle.std.specs.Prelude.{◌≡◌, ℕ, ◌+◌, ◌*◌, ◌/◌, ◌<◌, List, [], ◌∷◌, Vec, Bool, true, not, ◌&&◌, ◌==◌, map}
 use Rattle.std.specs.List.{list_any, flat_map, range_with_len}
 use Rattle.std.specs.Str.{bytes_eq}
 use Rattle.std.specs.Global.{Global}
@@ -23,19 +23,14 @@ order x y = slice_cmp nat_cmp x.items y.items
 abbrev pub Knows : ℕ → List ℕ → BTreeSet (Vec ℕ Global) → Type 0
 Knows size keys set = (q : Vec ℕ Global) → contains order set q ≡ list_any (λ k. bytes_eq (bytes_of size k) q.items) keys
 
--- each cell stands as a rule says, and has a key that no cell before it has
-abbrev pub keys_fit : (CellNumber → Bool) → (ℕ → List ℕ → Bool) → (CellNumber → ℕ) → List ℕ → List CellNumber → Bool
-keys_fit stands seen key before [] = true
-keys_fit stands seen key before (n ∷ ns) = stands n && not (seen (key n) before) && keys_fit stands seen key (key n ∷ before) ns
-
--- the keys that are seen behind cells
-abbrev pub keys_after : (CellNumber → ℕ) → List ℕ → List CellNumber → List ℕ
-keys_after key before [] = before
-keys_after key before (n ∷ ns) = keys_after key (key n ∷ before) ns
-
 -- whether a key was seen before
 abbrev pub was_seen : ℕ → ℕ → List ℕ → Bool
 was_seen size k before = list_any (λ m. bytes_eq (bytes_of size m) (bytes_of size k)) before
+
+-- each key is new beside those before it
+abbrev pub news : ℕ → List ℕ → List ℕ → Bool
+news size before [] = true
+news size before (k ∷ ks) = not (was_seen size k before) && news size (k ∷ before) ks
 
 -- whether a cell is one in which a key of these bytes may stand
 abbrev pub is_candidate : ℕ → ℕ → ℕ → ℕ → List ℕ → ℕ → Bool
@@ -51,11 +46,6 @@ key_in rows blocks width per quanta bits n = entry_at (sram_row rows) blocks wid
 abbrev pub stands_there : ℕ → ℕ → ℕ → ℕ → ℕ → (CellNumber → ℕ) → CellNumber → Bool
 stands_there seed first_way per quanta size key n = is_candidate seed first_way per quanta (bytes_of size (key n)) n.cell
 
--- it is found out whether cells fit behind keys that were seen, and where they do their keys are seen too
-pub record Sees (size : ℕ) (stands : CellNumber → Bool) (key : CellNumber → ℕ) (before : List ℕ) (ns : List CellNumber) (set : BTreeSet (Vec ℕ Global)) (fit : Bool) : Type 0 where
-  pub answer : fit ≡ keys_fit stands (was_seen size) key before ns
-  pub known : fit ≡ true → Knows size (keys_after key before ns) set
-
 -- ---- over the parts of a table
 
 -- the key that a part's cell holds
@@ -66,11 +56,9 @@ key_held c p n = (held_by c p n).key
 abbrev pub stands_in : Config → PartAt → CellNumber → Bool
 stands_in c p n = list_any (λ m. m == n.cell) (candidates c.seed (bits_of_lanes p.slot.keys) p.slot.memory (held_by c p n).key)
 
--- the cells of parts fit behind keys that were seen
-abbrev pub parts_fit : Config → ℕ → List ℕ → List PartAt → Bool
-parts_fit c size before [] = true
-parts_fit c size before (p ∷ ps) =
-    keys_fit (stands_in c p) (was_seen size) (key_held c p) before p.slot.numbers && parts_fit c size (keys_after (key_held c p) before p.slot.numbers) ps
+-- the keys of parts, by part and cell
+abbrev pub keys_listed : Config → List PartAt → List ℕ
+keys_listed c ps = flat_map (λ (p : PartAt). map (key_held c p) p.slot.numbers) ps
 
 -- the ways of an exact part have numbers of a byte
 abbrev pub WaysLow : Memory → Type 0

@@ -16,7 +16,7 @@ use crate::memory::block_bits::tcam_bits;
 use crate::memory::sliced::Sliced;
 use rmt_bits::bits::bits_of_bytes;
 use rmt_config::config::{CellNumber, TcamRow};
-use rmt_config::form::names::key_bytes::unit_blocks;
+use rmt_config::form::names::key_bytes::piece_at;
 use std::alloc::{AllocError, Global};
 
 /// What a row of some blocks side by side compares: in each block these bits, and what they must be.
@@ -67,7 +67,7 @@ pub fn sliced_of(
     let mut sliced = Sliced::new(alloc, numbers.len(), side as usize)?;
     for at in 0..numbers.len() {
         let cell = numbers[at].cell as u64;
-        let unit = unit_blocks(blocks, side, cell / 2048);
+        let unit = piece_at(blocks, side, cell / 2048);
         let bits = row_compares(alloc, rows, unit, cell % 2048)?;
         sliced.put(at, &bits.masks, &bits.values);
     }

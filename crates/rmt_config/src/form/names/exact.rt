@@ -1,38 +1,34 @@
 //! The rules on the entries of an exact table.
 
-ghost use Rattle.std.specs.Prelude.{◌≡◌, ◌<◌, ℕ, List, IsTrue, IfOk, All, length};
+ghost use Rattle.std.specs.Prelude.{◌≡◌, IsTrue, IfOk};
 ghost use Rattle.rmt_ast.specs.declared.program.Kind.TheVariants as kind;
 ghost use Rattle.rmt_config.specs.Form.{items_are_formed};
-ghost use Rattle.rmt_config.specs.KeysSeen.{Knows, Sees, WaysLow, key_held, stands_in};
+ghost use Rattle.rmt_config.specs.KeyPrints.{KeysAdded};
+ghost use Rattle.rmt_config.specs.KeysSeen.{WaysLow, key_held, stands_in};
 ghost use Rattle.rmt_config.specs.LaneForm.{bits_of_lanes};
 ghost use Rattle.rmt_config.specs.MemoryRules.{MemoryIsFormed};
 ghost use Rattle.rmt_config.specs.NamesForm.{has_parts, is_filled_so, is_made_so, is_of_kind};
 ghost use Rattle.rmt_config.specs.PartStands.{PartStands};
 ghost use Rattle.rmt_config.specs.PartsTold.{listed_numbers, part_at, parts_at};
 ghost use Rattle.rmt_config.specs.Rooms.{parts_of};
-ghost use Rattle.rmt_config.specs.Shapes.{divided_up};
+ghost use Rattle.rmt_config.specs.Shapes.{divided_up as divided_up_of};
 
 use crate::config::{Config, Memory};
-use crate::form::names::exact_part::{key_bits, keys_stand};
-use crate::form::names::key_prints::prints_differ;
+use crate::form::layout::divided_up;
+use crate::form::names::exact_part::{key_bits, put_keys};
+use crate::form::names::key_prints::keys_differ;
 use crate::form::names::part_list::Part;
 use rmt_ast::names::TableName;
 use std::alloc::{AllocError, Global};
-use std::collections::BTreeSet;
 
-/// Whether each cell of a part is one in which its key may stand, and no key was seen before; the keys are seen now.
-fn part_fits(
-    alloc: Global,
-    config: &Config,
-    part: &Part,
-    seen: &mut BTreeSet<Vec<u8>>,
-) -> Result<bool, AllocError>
+/// Whether each cell of a part is one in which its key may stand; where it is, their keys are added as bytes.
+fn part_keys(config: &Config, part: &Part, into: &mut Vec<u8>) -> Result<bool, AllocError>
     requires stands { PartStands config.now (part_at part.now) }
     requires kind { IsTrue (is_of_kind kind.Exact part.now.slot.now.memory) }
     requires ways { WaysLow part.now.slot.now.memory }
-    ensures { IfOk result (λ fit. (before : List ℕ) → Knows (divided_up (bits_of_lanes part.now.slot.now.keys) 8) before seen.old →
-        Sees (divided_up (bits_of_lanes part.now.slot.now.keys) 8) (stands_in config.now (part_at part.now)) (key_held config.now (part_at part.now))
-        before part.now.slot.now.numbers seen.new fit) }
+    ensures { IfOk result (λ stand.
+        KeysAdded (divided_up_of (bits_of_lanes part.now.slot.now.keys) 8) (stands_in config.now (part_at part.now)) (key_held config.now (part_at part.now))
+        part.now.slot.now.numbers into.old.items into.new.items stand) }
 {
     let stages = config.stages.as_slice();
     let rows = stages[part.at].srows.as_slice();
@@ -46,8 +42,7 @@ fn part_fits(
             ..
         } => {
             let bits = key_bits(part.slot.keys.as_slice());
-            keys_stand(
-                alloc,
+            put_keys(
                 config.seed,
                 part.slot.numbers.as_slice(),
                 rows,
@@ -57,15 +52,15 @@ fn part_fits(
                 *first_way,
                 bits,
                 keys.as_slice(),
-                seen,
+                into,
             )
         }
         _ => Ok(false),
     }
 }
 
-/// Whether an exact table is named as its parts are filled. Keys are compared one by one only where prints of them don't
-/// differ.
+/// Whether an exact table is named as its parts are filled. The time is that of sorting prints of its keys, and the
+/// memory that of the keys and of the prints.
 pub fn exact_fits(
     alloc: Global,
     config: &Config,
@@ -85,14 +80,13 @@ pub fn exact_fits(
     if numbers.len() > table.size as usize {
         return Ok(false);
     }
-    if prints_differ(alloc, config, table, parts, numbers.len())? {
-        return Ok(true);
-    }
-    let mut seen = BTreeSet::new(alloc);
+    let first = parts[0].slot;
+    let size = divided_up(key_bits(first.keys.as_slice()), 8);
+    let mut keys = Vec::with_capacity(alloc, numbers.len().saturating_mul(size as usize))?;
     for part in parts {
-        if !part_fits(alloc, config, part, &mut seen)? {
+        if !part_keys(config, part, &mut keys)? {
             return Ok(false);
         }
     }
-    Ok(true)
+    keys_differ(alloc, keys.as_slice(), size, numbers.len() as u64)
 }

@@ -1,24 +1,23 @@
 //! The rules on the keys in a part of an exact table.
 
-ghost use Rattle.std.specs.Prelude.{◌≡◌, ℕ, ◌+◌, ◌*◌, ◌/◌, ◌%◌, ◌^◌, ◌<◌, ◌≤◌, List, true, length, IsTrue, IfOk, OnOk, All, not};
+ghost use Rattle.std.specs.Prelude.{◌≡◌, ℕ, ◌+◌, ◌*◌, ◌/◌, ◌%◌, ◌^◌, ◌<◌, ◌≤◌, ◌++◌, length, IfOk, OnOk, All};
 ghost use Rattle.rmt_bits.specs.Bits.{bytes_of};
 ghost use Rattle.rmt_bits.specs.Hash.{hash_row as hash_row_of};
 ghost use Rattle.rmt_config.specs.Layouts.{exact_keys as exact_layout};
 ghost use Rattle.rmt_config.specs.LaneForm.{bits_of_lanes};
-ghost use Rattle.rmt_config.specs.KeyPrints.{Prints};
-ghost use Rattle.rmt_config.specs.KeysSeen.{Knows, Sees, is_candidate, key_in, stands_there};
-ghost use Rattle.rmt_config.specs.MemoryRules.{SramRows, ExactFits};
+ghost use Rattle.rmt_config.specs.KeyPrints.{KeysAdded};
+ghost use Rattle.rmt_config.specs.KeysSeen.{is_candidate, key_in, stands_there};
+ghost use Rattle.rmt_config.specs.MemoryRules.{SramRows};
 ghost use Rattle.rmt_config.specs.Shapes.{divided_up};
 ghost use Rattle.rmt_config.specs.declared.config.CellNumber.{CellNumber};
 
-use crate::config::{CellNumber, SlotUnit, SramRow};
+use crate::config::{CellNumber, SramRow};
 use crate::form::layout::Layout;
 use crate::form::names::key_bytes::{Near, push_entry};
 use crate::form::parts::exact_keys;
-use rmt_bits::hash::{fnv, hash_row};
+use rmt_bits::hash::hash_row;
 use rmt_bits::lane::Lane;
-use std::alloc::{AllocError, Global};
-use std::collections::BTreeSet;
+use std::alloc::AllocError;
 
 /// How many bits lanes have together, at most 640.
 pub fn key_bits(lanes: &[Lane]) -> u64
@@ -42,9 +41,9 @@ fn is_its_cell(seed: u8, first_way: u8, per: u16, quanta: u8, key: &[u8], cell: 
     hash_row(seed, first_way + way, key, rows) == place % rows
 }
 
-/// Puts the key of a cell in the place of others, as bytes, the highest first.
-fn read_key(
-    key: &mut Vec<u8>,
+/// Adds the key of a cell as bytes, the highest first.
+fn put_key(
+    keys: &mut Vec<u8>,
     layout: &Layout,
     blocks: &[u8],
     rows: &[SramRow],
@@ -65,25 +64,14 @@ fn read_key(
     requires fits { per * (bits + 8) ≤ 112 * width }
     requires blocks { length blocks.now ≡ quanta * (4 * width) }
     requires within { number.now.cell < 4096 * quanta * per }
-    ensures { OnOk result (key.new.items ≡ bytes_of (divided_up bits 8) (key_in rows.now blocks.now width per quanta bits number.now)) }
+    ensures { OnOk result (keys.new.items ≡ keys.old.items ++ bytes_of (divided_up bits 8) (key_in rows.now blocks.now width per quanta bits number.now)) }
 {
-    key.clear();
-    push_entry(
-        key,
-        layout,
-        blocks,
-        rows,
-        u64::from(number.cell),
-        8,
-        bits,
-        near,
-    )?;
-    Ok(())
+    let cell = u64::from(number.cell);
+    push_entry(keys, layout, blocks, rows, cell, 8, bits, near)
 }
 
-/// Whether each cell of a part is one in which its key may stand; where it is, the prints of their keys are added.
-pub fn put_prints(
-    alloc: Global,
+/// Whether each cell of a part is one in which its key may stand; where it is, their keys are added as bytes.
+pub fn put_keys(
     seed: u8,
     numbers: &[CellNumber],
     rows: &[SramRow],
@@ -93,7 +81,7 @@ pub fn put_prints(
     first_way: u8,
     bits: u64,
     blocks: &[u8],
-    prints: &mut Vec<u64>,
+    keys: &mut Vec<u8>,
 ) -> Result<bool, AllocError>
     requires rows { SramRows rows.now }
     requires width { 0 < width }
@@ -105,55 +93,9 @@ pub fn put_prints(
     requires blocks { length blocks.now ≡ quanta * (4 * width) }
     requires ways { first_way + 3 < 256 }
     requires within { All (λ (n : CellNumber). n.cell < 4096 * quanta * per) numbers.now }
-    ensures { IfOk result (λ stand. stand ≡ true →
-        Prints (divided_up bits 8) (stands_there seed first_way per quanta (divided_up bits 8) (key_in rows.now blocks.now width per quanta bits))
-        (key_in rows.now blocks.now width per quanta bits) numbers.now prints.old.items prints.new.items) }
-{
-    let layout = exact_keys(width, per, quanta, bits);
-    let mut near = Near {
-        first: 0,
-        second: 0,
-    };
-    let mut key = Vec::with_capacity(alloc, 80)?;
-    for number in numbers {
-        read_key(
-            &mut key, &layout, blocks, rows, width, per, quanta, bits, number, &mut near,
-        )?;
-        if !is_its_cell(seed, first_way, per, quanta, key.as_slice(), number.cell) {
-            return Ok(false);
-        }
-        prints.push(fnv(key.as_slice()))?;
-    }
-    Ok(true)
-}
-
-/// Whether each cell of a part is one in which its key may stand, and no key was seen before; the keys are seen now.
-pub fn keys_stand(
-    alloc: Global,
-    seed: u8,
-    numbers: &[CellNumber],
-    rows: &[SramRow],
-    width: u8,
-    per: u16,
-    quanta: u8,
-    first_way: u8,
-    bits: u64,
-    blocks: &[u8],
-    seen: &mut BTreeSet<Vec<u8>>,
-) -> Result<bool, AllocError>
-    requires rows { SramRows rows.now }
-    requires width { 0 < width }
-    requires per { 0 < per }
-    requires quanta { 0 < quanta }
-    requires few { quanta ≤ 106 }
-    requires short { bits ≤ 640 }
-    requires fits { per * (bits + 8) ≤ 112 * width }
-    requires blocks { length blocks.now ≡ quanta * (4 * width) }
-    requires ways { first_way + 3 < 256 }
-    requires within { All (λ (n : CellNumber). n.cell < 4096 * quanta * per) numbers.now }
-    ensures { IfOk result (λ fit. (before : List ℕ) → Knows (divided_up bits 8) before seen.old →
-        Sees (divided_up bits 8) (stands_there seed first_way per quanta (divided_up bits 8) (key_in rows.now blocks.now width per quanta bits))
-        (key_in rows.now blocks.now width per quanta bits) before numbers.now seen.new fit) }
+    ensures { IfOk result (λ stand.
+        KeysAdded (divided_up bits 8) (stands_there seed first_way per quanta (divided_up bits 8) (key_in rows.now blocks.now width per quanta bits))
+        (key_in rows.now blocks.now width per quanta bits) numbers.now keys.old.items keys.new.items stand) }
 {
     let layout = exact_keys(width, per, quanta, bits);
     let mut near = Near {
@@ -161,14 +103,12 @@ pub fn keys_stand(
         second: 0,
     };
     for number in numbers {
-        let mut key = Vec::with_capacity(alloc, 80)?;
-        read_key(
-            &mut key, &layout, blocks, rows, width, per, quanta, bits, number, &mut near,
+        let from = keys.len();
+        put_key(
+            keys, &layout, blocks, rows, width, per, quanta, bits, number, &mut near,
         )?;
-        if !is_its_cell(seed, first_way, per, quanta, key.as_slice(), number.cell) {
-            return Ok(false);
-        }
-        if !seen.insert(key)? {
+        let key = &keys.as_slice()[from..];
+        if !is_its_cell(seed, first_way, per, quanta, key, number.cell) {
             return Ok(false);
         }
     }

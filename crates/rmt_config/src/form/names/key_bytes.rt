@@ -112,14 +112,14 @@ fn push_bits(
     Ok(())
 }
 
-/// The blocks of a unit, where each has that many.
-pub fn unit_blocks(blocks: &[u8], side: u64, unit: u64) -> &[u8]
-    requires { (unit + 1) * side ≤ length blocks.now }
-    ensures value { result.now ≡ blocks_at blocks.now side unit }
-    ensures size { length result.now ≡ side }
+/// The bytes at a place, where there are so many at each: the blocks of a unit, or the key of a cell.
+pub fn piece_at(bytes: &[u8], size: u64, at: u64) -> &[u8]
+    requires { (at + 1) * size ≤ length bytes.now }
+    ensures value { result.now ≡ blocks_at bytes.now size at }
+    ensures size { length result.now ≡ size }
 {
-    let from = (unit * side) as usize;
-    &blocks[from..from + side as usize]
+    let from = (at * size) as usize;
+    &bytes[from..from + size as usize]
 }
 
 /// Adds `len` bits of the entry of a cell, from the bit `from` on, as bytes, the highest first.
@@ -142,6 +142,6 @@ pub fn push_entry(
         (slice_of (entry_in layout.now (sram_row rows.now) blocks.now (quantum_of layout.now cell) (local_of layout.now cell)) from len)) }
 {
     let spot = spot_of(layout, cell);
-    let unit = unit_blocks(blocks, layout.side, spot.unit);
+    let unit = piece_at(blocks, layout.side, spot.unit);
     push_bits(into, rows, unit, spot.row, spot.low + from, len, near)
 }

@@ -26,7 +26,7 @@ put-requires-clause-fits c =
     let i = c.loop-at.at in
     let inside : i < length c.args.numbers.now = omega arith in
     let here : compared c.deref.result.now c.deref-in-loop-at.result.now ≡ compared_at c.args.rows.now c.args.blocks.now c.args.side (get_or c.args.numbers.now i nowhere).cell =
-    row_is _ _ _ _ _ _ _ c.unit_blocks-unit.ensures.value (c.deref.ensures.value ∙ c.in_ok-bits.ensures.masks) (c.deref-in-loop-at.ensures.value ∙ c.in_ok-bits.ensures.values) in
+    row_is _ _ _ _ _ _ _ c.piece_at-unit.ensures.value (c.deref.ensures.value ∙ c.in_ok-bits.ensures.masks) (c.deref-in-loop-at.ensures.value ∙ c.in_ok-bits.ensures.values) in
     subst (λ w. RowFits w (compared c.deref.result.now c.deref-in-loop-at.result.now)) (sym c.loop-at.invariant.words) (subst (RowFits c.args.side) (sym here) (c.requires.fit i nowhere inside))
 
 pub loop-at-preserved : goal.loop-at-preserved
@@ -35,7 +35,7 @@ loop-at-preserved c =
     let f = λ (n : CellNumber). compared_at c.args.rows.now c.args.blocks.now c.args.side n.cell in
     let inside : i < length c.args.numbers.now = omega arith in
     let here : compared c.deref.result.now c.deref-in-loop-at.result.now ≡ f (get_or c.args.numbers.now i nowhere) =
-    row_is _ _ _ _ _ _ _ c.unit_blocks-unit.ensures.value (c.deref.ensures.value ∙ c.in_ok-bits.ensures.masks) (c.deref-in-loop-at.ensures.value ∙ c.in_ok-bits.ensures.values) in
+    row_is _ _ _ _ _ _ _ c.piece_at-unit.ensures.value (c.deref.ensures.value ∙ c.in_ok-bits.ensures.masks) (c.deref-in-loop-at.ensures.value ∙ c.in_ok-bits.ensures.values) in
     record {
       words = c.put.ensures.words ∙ c.loop-at.invariant.words;
       put = one-put f c.args.numbers.now i c.loop-at.sliced c.put.new.self (compared c.deref.result.now c.deref-in-loop-at.result.now) c.loop-at.invariant.put inside here c.put.ensures.stands;

@@ -1,8 +1,8 @@
-use Rattle.std.proofs.Common.{◌≡◌, ℕ, ◌+◌, ◌-◌, ◌*◌, ◌/◌, ◌%◌, ◌^◌, ◌<◌, ◌≤◌, get_or, length, ap, sym, ◌∙◌, arith}
+use Rattle.std.proofs.Common.{◌≡◌, ◌+◌, ◌-◌, ◌*◌, ◌/◌, ◌%◌, ◌^◌, ◌<◌, ◌≤◌, get_or, length, ap, sym, ◌∙◌, arith}
 use Rattle.std.proofs.lemmas.Nat.{div-add-mod', mod_below}
 use Rattle.std.proofs.Math.Nat.{mod-eq_of_lt, pow-le-pow_right}
 use Rattle.rmt_bits.specs.Bits.{slice}
-use Rattle.rmt_bits.proofs.BitLaws.{shl-lt, slice-lt}
+use Rattle.rmt_bits.proofs.BitLaws.{slice-lt}
 use Rattle.rmt_config.specs.Cells.{sram_row, unit_row}
 use Rattle.rmt_config.proofs.HeldRows.{sram-within}
 use Rattle.rmt_config.proofs.UnitBits.{unit-slice, unit-across}

@@ -1,4 +1,4 @@
-use Rattle.std.proofs.Common.{◌≡◌, ℕ, ◌+◌, ◌-◌, ◌*◌, ◌/◌, ◌^◌, ◌≤◌, ◌++◌}
+use Rattle.std.proofs.Common.{◌≡◌, ◌-◌, ◌*◌, ◌/◌, ◌^◌, ◌≤◌, ◌++◌}
 use Rattle.rmt_bits.specs.Bits.{slice, bytes_of}
 use Rattle.rmt_config.specs.Cells.{sram_row, unit_row}
 use Rattle.rmt_config.specs.Shapes.{divided_up}

@@ -1,4 +1,4 @@
-use Rattle.std.proofs.Common.{◌≡◌, ℕ, List, ◌∙◌, refl}
+use Rattle.std.proofs.Common.{ℕ, List, ◌∙◌, refl}
 use Rattle.rmt_config.proofs.SpelledBytes.{bytes-more}
 use Rattle.rmt_config.proofs.form.names.key_bytes.push_bytes.Goals as goal
 

@@ -10,8 +10,8 @@ use Rattle.rmt_config.proofs.SpelledBytes.{entry_there}
 use Rattle.rmt_config.proofs.form.names.key_bytes.push_entry.Goals as goal
 use Rattle.rmt_bits.proofs.BitLaws.{slice-slice}
 
-pub unit_blocks-unit-requires : goal.unit_blocks-unit-requires
-unit_blocks-unit-requires c =
+pub piece_at-unit-requires : goal.piece_at-unit-requires
+piece_at-unit-requires c =
     let l = c.args.layout.now in
     let n = c.args.cell in
     let there = blocks_there l (unit_of l (quantum_of l n) (local_of l n)) _ (unit_below l n c.requires.layout.is c.requires.cell) c.requires.blocks in
@@ -30,7 +30,7 @@ push_bits-requires-clause-within c =
     let l = c.args.layout.now in
     let there = entry_there l (local_of l c.args.cell) c.requires.layout.is in
     let wide : l.bits * l.side ≡ 112 * l.side = ap (λ b. b * l.side) c.requires.layout.in_sram in
-    omega (arith, there, wide, c.spot_of-spot.ensures.low, c.unit_blocks-unit.ensures.size, c.requires.bits)
+    omega (arith, there, wide, c.spot_of-spot.ensures.low, c.piece_at-unit.ensures.size, c.requires.bits)
 
 pub push_bits-requires-clause-few : goal.push_bits-requires-clause-few
 push_bits-requires-clause-few c =
@@ -49,7 +49,7 @@ returns c =
     let from = c.args.from in
     let len = c.args.len in
     let spot = c.spot_of-spot in
-    let unit = c.unit_blocks-unit in
+    let unit = c.piece_at-unit in
     let x = unit_row 112 sram (row_of l i) (blocks_at blocks l.side (unit_of l (quantum_of l n) i)) in
     let e : slice (unit_row 112 sram spot.result.row unit.result.now) (spot.result.low + from) len ≡ slice (entry_in l sram blocks (quantum_of l n) (local_of l n)) from len =
     ap (λ (bs : List ℕ). slice (unit_row 112 sram spot.result.row bs) (spot.result.low + from) len) unit.ensures.value
