@@ -3,6 +3,7 @@
 ghost use Rattle.std.specs.Prelude.{◌<◌, length};
 
 mod alike;
+mod hostile;
 mod random;
 mod replays;
 
