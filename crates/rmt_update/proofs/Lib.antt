@@ -8,6 +8,7 @@ pub mod LeftLaws
 pub mod MapLaws
 pub mod NamedLaws
 pub mod NewLaws
+pub mod RankLaws
 pub mod SettleLaws
 pub mod StandLaws
 pub mod OrderedLaws

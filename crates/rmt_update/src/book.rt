@@ -3,8 +3,9 @@
 mod cells;
 mod entry_words;
 pub mod kept;
-mod ordered;
+pub mod ordered;
 pub mod parts;
+pub mod ranks;
 mod rows;
 pub mod told;
 mod words;
