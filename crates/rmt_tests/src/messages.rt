@@ -221,7 +221,7 @@ const PROGRAMS: [(&str, &str); 44] = [
     ),
     (
         "header h { f : 8; } next accept; action b() { h.f = 256; } control { }",
-        "p:1:53: `256` has another width than the field, or does not fit it: use a field, parameter or number of the field's width",
+        "p:1:53: `256` does not fit `h.f`, which has 8 bits: use a field, parameter or number of the field's width",
     ),
     (
         "header h { f : 8; } next accept; action b() { in_port = 1; } control { }",
@@ -299,19 +299,19 @@ const ENTRIES: [(&str, &str); 16] = [
     ),
     (
         "x a go 1",
-        "e:1:3: `a` makes no key of the table: give a number for each field of the key, each within the field's width",
+        "e:1:3: `a` makes no key of the table: give a number for each field of the key, each within the field's width; `h.f` has 8 bits",
     ),
     (
         "x 256 go 1",
-        "e:1:3: `256` makes no key of the table: give a number for each field of the key, each within the field's width",
+        "e:1:3: `256` makes no key of the table: give a number for each field of the key, each within the field's width; `h.f` has 8 bits",
     ),
     (
         "r 1/33 go 1",
-        "e:1:3: `1/33` makes no key of the table: give `value/length`, the length from 0 to the field's width",
+        "e:1:3: `1/33` makes no key of the table: give `value/length`, the length from 0 to the field's width; `h.d` has 32 bits",
     ),
     (
         "y 1",
-        "e:1:4: the key has too few words: give a priority below 2^32, then for each field `value&mask`, `value` or `*`, within its width",
+        "e:1:4: the key has too few words: give a priority below 2^32, then for each field `value&mask`, `value` or `*`, within its width; `h.f` has 8 bits",
     ),
     (
         "x 1",
@@ -323,15 +323,15 @@ const ENTRIES: [(&str, &str); 16] = [
     ),
     (
         "x 1 go",
-        "e:1:7: the action's arguments are missing: give a number for each parameter of the action, each within its width; the line has 3 words",
+        "e:1:7: the argument for parameter `p` is missing: give `go` a number for each of `p` (9 bits)",
     ),
     (
         "x 1 go z",
-        "e:1:8: `z` is no number: give a number for each parameter of the action, each within its width; the line has 4 words",
+        "e:1:8: `z` is no number for parameter `p` of 9 bits: give `go` a number for each of `p` (9 bits)",
     ),
     (
         "x 1 go 512",
-        "e:1:8: the action takes another number of arguments, or one does not fit its parameter: give a number for each parameter of the action, each within its width; the line has 4 words",
+        "e:1:8: `512` does not fit parameter `p` of 9 bits: give `go` a number for each of `p` (9 bits)",
     ),
     (
         "r 1/8 go 1\nr 2/8 go 2",
