@@ -1,16 +1,18 @@
 #!/usr/bin/env bash
-# Runs the built program with each open, read, write and sync of a file failing in turn, with calls that are
-# interrupted or that take one byte, and over pipes that give and take little at a time. Compares status, output and
-# files with what docs/commands.md says. RMT names another program to run in place of the built one.
+# faults.sh [PROGRAM]: runs each command with each open, read, write and sync of a file failing in turn, with calls that are
+# interrupted or that take one byte, with every call cut to one byte, and over pipes that give and take little at a time.
+# Compares status, output and files with what docs/commands.md says. PROGRAM is run in place of the built one. To add a
+# command, add a row at the end.
 set -u
 top=$(cd "$(dirname "$0")/.." && pwd)
 if ! command -v strace >/dev/null; then
   echo 'faults.sh: strace is missing; on Debian it is a package: apt-get install strace' >&2
   exit 1
 fi
-program=${RMT:-$top/crates/rmt/out/rmt}
-if [ -z "${RMT:-}" ]; then
-  "$top/rmt" >/dev/null # builds it; without words the answer is Usage
+program=${1:-}
+if [ -z "$program" ]; then
+  program=$top/crates/rmt/out/rmt
+  "$top/rmt" >/dev/null 2>&1 # builds it; without words the answer is Usage
   [ $? = 1 ] || exit 1
 fi
 work=$(mktemp -d)
@@ -19,19 +21,34 @@ mkdir "$work/given" "$work/now"
 tried=0
 wrong=0
 
+cat >"$work/short.c" <<'C'
+#define _GNU_SOURCE
+#include <dlfcn.h>
+#include <unistd.h>
+ssize_t read(int file, void *into, size_t n) {
+    static ssize_t (*real)(int, void *, size_t); if (!real) real = dlsym(RTLD_NEXT, "read");
+    return real(file, into, n > 1 ? 1 : n);
+}
+ssize_t write(int file, const void *from, size_t n) {
+    static ssize_t (*real)(int, const void *, size_t); if (!real) real = dlsym(RTLD_NEXT, "write");
+    return real(file, from, n > 1 ? 1 : n);
+}
+C
+gcc -O1 -w -shared -fPIC -o "$work/short.so" "$work/short.c" -ldl || exit 1
+
 # The files as they are before a call.
 fresh() {
   cp "$work/given"/* "$work/now/"
   : >"$work/out"
 }
 
-# What a call without faults prints, and the image that it leaves: WORDS
+# What a call without faults prints, and the file that it leaves: WORDS
 learn() {
   fresh
-  (cd "$work/now" && "$program" "$@" >"$work/out")
+  (cd "$work/now" && "$program" "$@" >"$work/out" 2>/dev/null)
   [ $? = 0 ] || { echo "faults.sh: $* fails without a fault" >&2; exit 1; }
   cp "$work/out" "$work/whole.out"
-  cp "$work/now/image" "$work/whole.image"
+  cp "$work/now/made" "$work/whole.made"
 }
 
 # Whether a file is as a word says: FILE WORD WHOLE BEFORE
@@ -46,36 +63,47 @@ is_as() {
   esac
 }
 
-# Judges one call: NAME STATUS WANTED_STATUS OUT IMAGE
+# Judges one call: NAME STATUS WANTED_STATUS OUT MADE
 judge() {
   local good=yes file
   [ "$2" = "$3" ] || good=no
   is_as "$work/out" "$4" "$work/whole.out" /dev/null || good=no
-  is_as "$work/now/image" "$5" "$work/whole.image" "$work/given/image" || good=no
+  is_as "$work/now/made" "$5" "$work/whole.made" "$work/given/made" || good=no
   for file in "$work/given"/*; do
-    [ "${file##*/}" = image ] || cmp -s "$file" "$work/now/${file##*/}" || good=no
+    [ "${file##*/}" = made ] || cmp -s "$file" "$work/now/${file##*/}" || good=no
   done
   tried=$((tried + 1))
   if [ $good = no ]; then
     wrong=$((wrong + 1))
-    echo "WRONG: $1: status $2, wanted $3, output $4, image $5"
+    echo "WRONG: $1: status $2, wanted $3, output $4, file $5"
   fi
 }
 
-# Each call of a kind on a file, in turn: FILE CALL ANSWER STATUS OUT IMAGE WORDS
+# Whether the call that failed came behind the output, when a text is read again for a message.
+is_late() {
+  awk '/write\(1,/ { seen = 1 } /INJECTED/ { exit !seen }' "$work/log"
+}
+
+# Each call of a kind on a file, in turn: FILE CALL ANSWER STATUS OUT MADE WORDS
 each() {
-  local file=$1 call=$2 answer=$3 status=$4 out=$5 image=$6 path number got
+  local file=$1 call=$2 answer=$3 status=$4 out=$5 made=$6 paths number got
   shift 6
-  path=$file
-  [ "$file" != out ] || path=$work/out
+  # the output is traced beside the file, but where that would make its calls fail too
+  paths=(-P "$file" -P "$work/out" -e "trace=$call,write")
+  [ "$call" != write ] || paths=(-P "$file" -e "trace=$call")
+  [ "$file" != out ] || paths=(-P "$work/out" -e "trace=$call")
   for ((number = 1; ; number++)); do
     fresh
-    (cd "$work/now" && strace -f -qq -o "$work/log" -P "$path" -e trace="$call" \
+    (cd "$work/now" && strace -f -qq -o "$work/log" "${paths[@]}" \
       -e inject="$call:$answer:when=$number" "$program" "$@" >"$work/out" 2>/dev/null)
     got=$?
     grep -q INJECTED "$work/log" || break
-    judge "$1, $call $number of $file: $answer" $got "$status" "$out" "$image"
-    [ "$out" != less ] && [ "$image" != less ] || return
+    if [ "$call" != write ] && is_late; then
+      judge "$1, $call $number of $file for a message: $answer" $got 0 whole whole
+    else
+      judge "$1, $call $number of $file: $answer" $got "$status" "$out" "$made"
+    fi
+    [ "$out" != less ] && [ "$made" != less ] || return
   done
   if [ "$number" = 1 ]; then
     wrong=$((wrong + 1))
@@ -83,17 +111,24 @@ each() {
   fi
 }
 
-# The files that a command reads, which may be absent or fail to be read: FILES, then -- and WORDS
+# A file that a command reads, which may be absent or fail to be read: FILE OUT WORDS, with what is printed
 reads() {
-  local files=() file
-  while [ "$1" != -- ]; do files+=("$1"); shift; done
-  shift
-  for file in "${files[@]}"; do
-    each "$file" openat error=EACCES 2 before before "$@"
-    each "$file" openat error=ENOMEM 10 before before "$@"
-    each "$file" read error=EIO 2 before before "$@"
-    each "$file" read error=EINTR 0 whole whole "$@"
-  done
+  local file=$1 out=$2
+  shift 2
+  each "$file" openat error=EACCES 2 before before "$@"
+  each "$file" openat error=ENOMEM 10 before before "$@"
+  each "$file" read error=EIO 2 "$out" before "$@"
+  each "$file" read error=EINTR 0 whole whole "$@"
+}
+
+# The file that a command writes: WORDS
+makes() {
+  each made openat error=EACCES 3 before any "$@"
+  each made write error=ENOSPC 3 before any "$@"
+  each made write error=EINTR 0 whole whole "$@"
+  each made write retval=1 0 whole less "$@"
+  each made fsync error=EIO 3 before any "$@"
+  each made fsync error=EINVAL 0 whole whole "$@"
 }
 
 # Standard output: WORDS
@@ -106,44 +141,64 @@ prints() {
   judge "$1 to a full device" $? 3 before whole
 }
 
-# The same through pipes, a byte at a time: FILE WORDS, in which `pipe` stands for FILE
-pipes() {
-  local file=$1
+# The same with every read and write cut to one byte, and through pipes: FILE WORDS, the file being read through a pipe
+trickles() {
+  local file=$1 word words=()
   shift
   fresh
-  mkfifo "$work/now/pipe"
-  dd if="$work/given/$file" of="$work/now/pipe" bs=1 2>/dev/null &
-  (cd "$work/now" && "$program" "$@" 2>/dev/null) | dd of="$work/out" bs=1 2>/dev/null
+  (cd "$work/now" && LD_PRELOAD=$work/short.so "$program" "$@" >"$work/out" 2>/dev/null)
+  judge "$1, a byte a call" $? 0 whole whole
+  fresh
+  if [ "$file" != none ]; then
+    for word in "$@"; do
+      [ "$word" = "$file" ] && words+=(pipe) || words+=("$word")
+    done
+    mkfifo "$work/now/pipe"
+    dd if="$work/given/$file" of="$work/now/pipe" bs=1 2>/dev/null &
+  else
+    words=("$@")
+  fi
+  (cd "$work/now" && "$program" "${words[@]}" 2>/dev/null) | dd of="$work/out" bs=1 2>/dev/null
   judge "$1 through pipes" "${PIPESTATUS[0]}" 0 whole whole
   wait
-  rm "$work/now/pipe"
+  rm -f "$work/now/pipe"
 }
 
-: >"$work/given/entries"
-echo before >"$work/given/image"
+# A command: what it reads, a word a file (`packets` behind which a front is printed), whether it writes `made`, WORDS
+command_row() {
+  local files=$1 writes=$2 file first=none
+  shift 2
+  learn "$@"
+  for file in $files; do
+    [ "$first" != none ] || first=$file
+    if [ "$file" = packets ]; then
+      reads "$file" front "$@"
+    else
+      reads "$file" before "$@"
+    fi
+  done
+  [ "$writes" = no ] || makes "$@"
+  prints "$@"
+  trickles "$first" "$@"
+  [ "$first" = packets ] || case " $files " in *" packets "*) trickles packets "$@" ;; esac
+}
+
+echo before >"$work/given/made"
+awk 'BEGIN { for (k = 0; k < 3000; k++) printf "%d %02x%02x\n", k % 512, k % 256, k % 7 }' >"$work/many"
 for example in smallest three_tables; do
   cp "$top/examples/$example.rmt" "$work/given/program"
-  learn compile program entries image
-  reads program entries -- compile program entries image
-  each image openat error=EACCES 3 before any compile program entries image
-  each image write error=ENOSPC 3 before any compile program entries image
-  each image write error=EINTR 0 whole whole compile program entries image
-  each image write retval=1 0 whole less compile program entries image
-  each image fsync error=EIO 3 before any compile program entries image
-  each image fsync error=EINVAL 0 whole whole compile program entries image
-  prints compile program entries image
-  pipes program compile pipe entries image
+  : >"$work/given/entries"
+  for packets in "$top/examples/three.pkt" "$work/many"; do
+    cp "$packets" "$work/given/packets"
+    "$program" compile "$work/given/program" "$work/given/entries" "$work/given/image" >/dev/null 2>&1
+    command_row 'program entries' yes compile program entries made
+    command_row 'image packets' no sim image packets
+    command_row 'image packets' no probe image packets 20
+    command_row 'program entries packets' no plain program entries packets
+    command_row 'image' no report image
+  done
 done
-
-cp "$work/whole.image" "$work/given/image"
-awk 'BEGIN { for (k = 0; k < 3000; k++) printf "%d %02x%02x\n", k % 512, k % 256, k % 7 }' >"$work/many"
-for packets in "$top/examples/three.pkt" "$work/many"; do
-  cp "$packets" "$work/given/packets"
-  learn sim image packets
-  reads image packets -- sim image packets
-  prints sim image packets
-  pipes packets sim image pipe
-done
+command_row '' no sample 3
 
 echo "$tried calls, $wrong wrong"
 [ "$wrong" = 0 ]
