@@ -1,7 +1,7 @@
 use Rattle.std.proofs.Common.{ℕ, List, ◌∷◌, map, sym, subst}
-use Rattle.rmt_tests.specs.declared.cells.Kept.{Kept as KeptOf}
+use Rattle.rmt_chip_tests.specs.declared.cells.Kept.{Kept as KeptOf}
 use Rattle.rmt_cells.specs.Stands.{Stands}
-use Rattle.rmt_tests.proofs.cells.put.Goals as goal
+use Rattle.rmt_chip_tests.proofs.cells.put.Goals as goal
 
 pub returns-in_ok-insert-in-Ok : goal.returns-in_ok-insert-in-Ok
 returns-in_ok-insert-in-Ok c =

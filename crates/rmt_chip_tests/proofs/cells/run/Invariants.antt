@@ -1,7 +1,7 @@
 use Rattle.std.proofs.Common.{map}
-use Rattle.rmt_tests.specs.declared.cells.Kept.{Kept as KeptOf}
+use Rattle.rmt_chip_tests.specs.declared.cells.Kept.{Kept as KeptOf}
 use Rattle.rmt_cells.specs.Stands.{Stands}
-use Rattle.rmt_tests.proofs.cells.run.Given as goal
+use Rattle.rmt_chip_tests.proofs.cells.run.Given as goal
 
 -- the chains are held
 abbrev pub invariant-loop-step : goal.invariant-loop-step

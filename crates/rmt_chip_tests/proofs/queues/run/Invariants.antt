@@ -1,7 +1,7 @@
 use Rattle.std.proofs.Common.{◌≡◌, length}
 use Rattle.rmt_queues.specs.Lists.{Lists}
 use Rattle.rmt_queues.specs.Stands.{Stands}
-use Rattle.rmt_tests.proofs.queues.run.Given as goal
+use Rattle.rmt_chip_tests.proofs.queues.run.Given as goal
 
 -- the queues stand for some lists
 abbrev pub invariant-loop-step : goal.invariant-loop-step

@@ -1,7 +1,7 @@
 use Rattle.std.proofs.Common.{List, map, sym, subst}
-use Rattle.rmt_tests.specs.declared.cells.Kept.{Kept as KeptOf}
+use Rattle.rmt_chip_tests.specs.declared.cells.Kept.{Kept as KeptOf}
 use Rattle.rmt_cells.specs.Stands.{Stands}
-use Rattle.rmt_tests.proofs.cells.run.Goals as goal
+use Rattle.rmt_chip_tests.proofs.cells.run.Goals as goal
 
 pub all_read-requires : goal.all_read-requires
 all_read-requires g c = (

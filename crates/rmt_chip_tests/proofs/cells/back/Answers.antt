@@ -1,9 +1,9 @@
 use Rattle.std.proofs.Common.{◌≡◌, ℕ, suc, ◌+◌, ◌<◌, List, length, ◌++◌, map, take, drop, ap, sym, subst, ◌∙◌, arith}
 use Rattle.std.proofs.lemmas.List.{map-append}
-use Rattle.rmt_tests.specs.declared.cells.Kept.{Kept as KeptOf}
+use Rattle.rmt_chip_tests.specs.declared.cells.Kept.{Kept as KeptOf}
 use Rattle.rmt_cells.specs.Stands.{Held, Stands}
-use Rattle.rmt_tests.proofs.KeptCells.{split}
-use Rattle.rmt_tests.proofs.cells.back.Goals as goal
+use Rattle.rmt_chip_tests.proofs.KeptCells.{split}
+use Rattle.rmt_chip_tests.proofs.cells.back.Goals as goal
 
 abbrev held_of : KeptOf → Held
 held_of k = record { chain = k.chain; bytes = k.bytes.items }

@@ -1,6 +1,6 @@
 //! Images of version 2: each rule on names broken once, and what just keeps it.
 
-use crate::fixtures::images::IMAGE;
+use rmt_tests::fixtures::images::IMAGE;
 use crate::image_rules::{GATED, STRICT_AND_WEAK, spliced};
 use crate::images::read;
 use rmt_image::{read_image, write_image};

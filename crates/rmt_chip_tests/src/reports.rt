@@ -1,6 +1,6 @@
 //! Reports of images, byte by byte.
 
-use crate::fixtures::images::IMAGE;
+use rmt_tests::fixtures::images::IMAGE;
 use crate::image_rules::{GATED, STRICT_AND_WEAK, WITHOUT_ENTRIES};
 use rmt_image::read_image;
 use rmt_report::report;

@@ -1,6 +1,6 @@
 use Rattle.rmt_update.specs.Running.{Running}
 use Rattle.rmt_update.specs.Stands.{Stands}
-use Rattle.rmt_tests.proofs.changes.told.Given as goal
+use Rattle.rmt_chip_tests.proofs.changes.told.Given as goal
 
 -- the lists stand for some run
 abbrev pub invariant-loop-line : goal.invariant-loop-line

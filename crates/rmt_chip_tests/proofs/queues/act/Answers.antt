@@ -1,6 +1,6 @@
 use Rattle.std.proofs.Common.{rules}
 use Rattle.std.specs.List.{IsDistinct}
-use Rattle.rmt_tests.proofs.queues.act.Goals as goal
+use Rattle.rmt_chip_tests.proofs.queues.act.Goals as goal
 
 pub offer-requires-clause-once : goal.offer-requires-clause-once
 unfolding IsDistinct

@@ -1,6 +1,6 @@
 use Rattle.std.proofs.Common.{◌≡◌}
-use Rattle.rmt_tests.proofs.commits.told.Goals as goal
-use Rattle.rmt_tests.proofs.commits.told.Goals.{then-is_change, else-is_change+then-eq, else-is_change+else-eq}
+use Rattle.rmt_chip_tests.proofs.commits.told.Goals as goal
+use Rattle.rmt_chip_tests.proofs.commits.told.Goals.{then-is_change, else-is_change+then-eq, else-is_change+else-eq}
 
 pub loop-line-preserved : goal.loop-line-preserved
 loop-line-preserved c =

@@ -1,8 +1,8 @@
 use Rattle.std.proofs.Common.{◌≡◌, length, map, arith}
-use Rattle.rmt_tests.specs.declared.cells.Kept.{Kept as KeptOf}
+use Rattle.rmt_chip_tests.specs.declared.cells.Kept.{Kept as KeptOf}
 use Rattle.rmt_cells.specs.Stands.{Held}
-use Rattle.rmt_tests.proofs.KeptCells.{there}
-use Rattle.rmt_tests.proofs.cells.rest.Goals as goal
+use Rattle.rmt_chip_tests.proofs.KeptCells.{there}
+use Rattle.rmt_chip_tests.proofs.cells.rest.Goals as goal
 
 abbrev held_of : KeptOf → Held
 held_of k = record { chain = k.chain; bytes = k.bytes.items }

@@ -1,4 +1,4 @@
-use crate::fixtures::images::IMAGE;
+use rmt_tests::fixtures::images::IMAGE;
 use rmt_config::config::Config;
 use rmt_image::{ImageFault, read_image};
 use std::alloc::{AllocError, Global};
