@@ -1,5 +1,5 @@
 //! The program `rmt`: it gives the words of its command line to the top call, and ends with the answer. After any answer but
-//! Done it says on standard error, for people, what was wrong.
+//! Done it says on standard error, for people, what was wrong; after Done of `compile`, what the program can't mean.
 #![tactic(auto)]
 
 mod last_line;
@@ -36,16 +36,14 @@ fn main(rt: HostRuntime) -> ExitCode {
     let mut shelf = TrueShelf::new(&rt);
     let mut out = LastLine::new(rt.alloc(), TrueSink::new(&rt));
     let status = rmt(rt.alloc(), &words, &mut shelf, &mut out) as u8;
-    if status != Status::Done as u8 {
-        let ending = Ending {
-            words: words.as_slice(),
-            status,
-            last_line: out.last_line(),
-            fault: None,
-        };
-        let text = message_after(rt.alloc(), &rt, &ending, &mut shelf);
-        say(&mut rt.stderr(), text);
-    }
+    let ending = Ending {
+        words: words.as_slice(),
+        status,
+        last_line: out.last_line(),
+        fault: None,
+    };
+    let text = message_after(rt.alloc(), &rt, &ending, &mut shelf);
+    say(&mut rt.stderr(), text);
     ExitCode::from(status)
 }
 
@@ -84,8 +82,11 @@ fn message_after<R: Files>(
 
 /// Says a message on standard error. That it can't be said changes nothing.
 fn say(err: &mut impl Write, text: Result<Vec<u8>, AllocError>) {
-    if let Ok(text) = text {
-        let _ = err.write_all(text.as_slice());
+    match text {
+        Ok(text) if !text.is_empty() => {
+            let _ = err.write_all(text.as_slice());
+        }
+        _ => {}
     }
 }
 

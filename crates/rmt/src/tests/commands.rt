@@ -37,7 +37,7 @@ pub struct Left {
 }
 
 /// Words as the program is given them.
-fn words_of(alloc: Global, words: &[&str]) -> Result<Vec<String>, AllocError> {
+pub fn words_of(alloc: Global, words: &[&str]) -> Result<Vec<String>, AllocError> {
     let mut all = Vec::new(alloc);
     for word in words {
         all.push(String::from_str(alloc, *word)?)?;

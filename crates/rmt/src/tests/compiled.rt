@@ -159,6 +159,10 @@ fn texts_that_are_bad(rt: HostRuntime) -> Result<(), Fail> {
             "control { } control { }",
             "bad program 3 line 1 column 13\n",
         ),
+        (
+            "control{if(drop==1){if(drop==1){if(drop==1){if(drop==1){if(drop==1){if(drop==1){if(drop==1){if(drop==1){if(drop==1){if(drop==1){if(drop==1){if(drop==1){if(drop==1){if(drop==1){if(drop==1){if(drop==1){if(drop==1){if(drop==1){if(drop==1){if(drop==1){if(drop==1){if(drop==1){if(drop==1){if(drop==1){if(drop==1){if(drop==1){if(drop==1){if(drop==1){if(drop==1){if(drop==1){if(drop==1){if(drop==1){",
+            "bad program 4 line 1 column 392\n",
+        ),
     ] {
         let row = Row {
             program,

@@ -2,6 +2,7 @@
 
 use crate::last_line::LastLine;
 use crate::messages::{Lengths, message_of};
+use crate::tests::commands::words_of;
 use rmt_explain::ending::Ending;
 use rmt_io::mem_shelf::MemShelf;
 use rmt_io::mem_sink::MemSink;
@@ -46,16 +47,40 @@ fn last_lines(rt: HostRuntime) -> Result<(), Fail> {
     Ok(())
 }
 
+/// A program that compiles is warned of, and no program that the call wrote over.
+#[test]
+fn a_program_is_warned_of(rt: HostRuntime) -> Result<(), Fail> {
+    let alloc = rt.alloc();
+    let mut shelf = MemShelf::new(Vec::new(alloc), 7);
+    let program = String::from_str(alloc, "p")?;
+    shelf.put_file(&program, &Vec::from_slice(alloc, b"control { }\n")?)?;
+    let warned =
+        "p:1:1: warning: no action of a table assigns `out_port`, so each packet that is not dropped leaves on port 0: assign it in an action\n  1 | control { }\n    | ^^^^^^^\n";
+    for (words, wanted) in [
+        (["compile", "p", "e", "i"].as_slice(), warned),
+        (["compile", "p", "e", "p"].as_slice(), ""),
+        (["plain", "p", "e", "k"].as_slice(), ""),
+    ] {
+        let words = words_of(alloc, words)?;
+        let ending = Ending {
+            words: words.as_slice(),
+            status: 0,
+            last_line: b"minimal yes\n",
+            fault: None,
+        };
+        let told = message_of(alloc, &ending, &mut shelf, &Short {})?;
+        assert_eq!(rt; told.as_slice(), wanted.as_bytes());
+    }
+    Ok(())
+}
+
 #[test]
 fn a_packet_line_is_quoted(rt: HostRuntime) -> Result<(), Fail> {
     let alloc = rt.alloc();
     let mut shelf = MemShelf::new(Vec::new(alloc), 3);
     let packets = String::from_str(alloc, "k")?;
     shelf.put_file(&packets, &Vec::from_slice(alloc, b"0 00\n1 0g\n2 00\n")?)?;
-    let mut words = Vec::new(alloc);
-    for word in ["sim", "i", "k"] {
-        words.push(String::from_str(alloc, word)?)?;
-    }
+    let words = words_of(alloc, &["sim", "i", "k"])?;
     let ending = Ending {
         words: words.as_slice(),
         status: 8,
