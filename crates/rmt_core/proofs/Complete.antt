@@ -4,15 +4,17 @@ use Rattle.rmt_core.specs.Types.{Program, Config}
 use Rattle.rmt_ast.specs.declared.entry.Entry.{Entry}
 use Rattle.rmt_bounds.specs.declared.bound.Bound.{Bound}
 use Rattle.rmt_build.specs.declared.fault.NoFit.{NoFit}
+use Rattle.rmt_core.specs.declared.placer.Placer.{Placer}
+use Rattle.rmt_core.specs.declared.placer.Placer.TheVariants.{ByRule, ByTries}
 use Rattle.rmt_core.specs.declared.status.Status.TheVariants.{Done}
 use Rattle.rmt_core.specs.declared.watch.Watch.{Watch}
 use Rattle.rmt_core.specs.declared.watch.Watch.TheVariants.{Answers, Vectors}
-use Rattle.rmt_core.specs.Commands.{Compile, Sim, Probe, Plain, Report, Sample}
-use Rattle.rmt_core.specs.Compiling.{Builds, Compiles, Fitted, Loaded, written}
+use Rattle.rmt_core.specs.Commands.{Compile, Improve, Sim, Probe, Plain, Report, Sample}
+use Rattle.rmt_core.specs.Compiling.{Builds, Compiles, Finish, Fitted, GivesImage, Loaded, written}
 use Rattle.rmt_core.specs.Files.{Files, entries_limit, image_limit, packets_limit, program_limit}
 use Rattle.rmt_core.specs.Given.{Given, Opens, Reads, told}
 use Rattle.rmt_core.specs.Gives.{Gives}
-use Rattle.rmt_core.specs.Headline.{Fits, IsComplete, IsGoodText, IsImage, IsReady}
+use Rattle.rmt_core.specs.Headline.{CanBeMade, Fits, IsComplete, IsGoodText, IsImage, IsReady}
 use Rattle.rmt_core.specs.PlainText.{GivesPlain, plain_text}
 use Rattle.rmt_core.specs.Reporting.{report_line}
 use Rattle.rmt_core.specs.Runs.{Runs}
@@ -23,28 +25,32 @@ use Rattle.rmt_core.specs.Watching.{text_of}
 use Rattle.rmt_core.proofs.GivenOnce.{NeverBoth, OneMeaning, never_both}
 use Rattle.rmt_core.proofs.GivenDone.{opened_there, read_within, run_done, sample_built, spelled_is, understood}
 
-module _ (apart : NeverBoth) (files : Files) (finish : List ℕ → Config → Bound → Given) (is : (image : List ℕ) (c : Config) (b : Bound) → (finish image c b).status ≡ Done) (p : Program) (lists : List (List Entry)) (g : Given) (fits : Fits p lists) where
-  loaded_ready : Loaded files finish p lists g → g.status ≡ Done
-  loaded_ready (inl x) = ap (λ (k : Given). k.status) x.5 ∙ is x.0 x.2 x.3
-  loaded_ready (inr x) = absurd (never_both apart p lists fits.places fits.parts fits.seed x.0 fits.packed fits.placed fits.loaded fits.few x.1)
+module _
+    (apart : NeverBoth) (placer : Placer) (files : Files) (finish : Finish) (is : (image : List ℕ) (c : Config) (b : Bound) → (finish image c b).status ≡ Done)
+    (p : Program) (lists : List (List Entry)) (g : Given) (fits : Fits placer p lists)
+  where
+    loaded_ready : Loaded placer files finish p lists g → g.status ≡ Done
+    loaded_ready (inl x) = ap (λ (k : Given). k.status) x.5 ∙ is x.0 x.2 x.3
+    loaded_ready (inr x) = absurd (never_both apart placer p lists fits.parts fits.seed x.0 fits.placed fits.loaded fits.few x.1)
 
-  builds_ready : Builds files finish p lists g → g.status ≡ Done
-  builds_ready h =
-      let fitted : Loaded files finish p lists g = subst (λ (o : Option NoFit). Fitted files finish p lists g o) fits.no_refusal h in
-      loaded_ready fitted
+    builds_ready : Builds placer files finish p lists g → g.status ≡ Done
+    builds_ready h =
+        let fitted : Loaded placer files finish p lists g = subst (λ (o : Option NoFit). Fitted placer files finish p lists g o) fits.no_refusal h in
+        loaded_ready fitted
 
-compile_ready : OneMeaning → NeverBoth → (files : Files) (program entries image : List ℕ) (g : Given) → IsReady files (Compile program entries image) → Gives files (Compile program entries image) g → g.status ≡ Done
-compile_ready one apart files program entries image g ready h =
+image_ready : OneMeaning → NeverBoth → (placer : Placer) (files : Files) (program entries image : List ℕ) (g : Given) → CanBeMade placer files program entries
+    → GivesImage placer files program entries image g → g.status ≡ Done
+image_ready one apart placer files program entries image g ready h =
     let both = ready.2 in
-    let read = read_within files program program_limit (λ text. Reads files entries entries_limit (λ entry_text. Understands files text entry_text (Compiles files image))) g (both.text, both.has_text) h in
-    let told = read_within files entries entries_limit (λ entry_text. Understands files both.text entry_text (Compiles files image)) g (both.entry_text, both.has_entries) read in
-    builds_ready apart files (written files image ready.0) (λ _ _ _. refl) ready.0 ready.1 g ready.3 (understood one files both.text both.entry_text (Compiles files image) g ready.0 ready.1 both.means both.says told)
+    let read = read_within files program program_limit (λ text. Reads files entries entries_limit (λ entry_text. Understands files text entry_text (Compiles placer files image))) g (both.text, both.has_text) h in
+    let told = read_within files entries entries_limit (λ entry_text. Understands files both.text entry_text (Compiles placer files image)) g (both.entry_text, both.has_entries) read in
+    builds_ready apart placer files (written files image ready.0) (λ _ _ _. refl) ready.0 ready.1 g ready.3 (understood one files both.text both.entry_text (Compiles placer files image) g ready.0 ready.1 both.means both.says told)
 
 sample_ready : OneMeaning → NeverBoth → (files : Files) (number : ℕ) (g : Given) → IsReady files (Sample number) → GivesSample files number g → g.status ≡ Done
 sample_ready one apart files number g ready h =
     let p = ready.0 in
     let lists = ready.1 in
-    builds_ready apart files (λ image c b. told files Done (sample_line number p lists c)) (λ _ _ _. refl) p lists g ready.3 (sample_built one files number g p lists ready.2 h)
+    builds_ready apart ByRule files (λ image c b. told files Done (sample_line number p lists c)) (λ _ _ _. refl) p lists g ready.3 (sample_built one files number g p lists ready.2 h)
 
 run_ready : (w : Watch) (files : Files) (image packets : List ℕ) (g : Given) → IsImage files image → IsGoodText files packets → GivesRun w files image packets g → g.status ≡ Done
 run_ready w files image packets g i t h =
@@ -67,7 +73,8 @@ plain_ready one files program entries packets g ready h =
     ap (λ (k : Given). k.status) (run_done files (plain_text ready.0 ready.1) packets_limit t.text g t.has_text.is_short t.is_good run)
 
 pub is_complete : OneMeaning → NeverBoth → IsComplete
-is_complete one apart files (Compile program entries image) g ready h = compile_ready one apart files program entries image g ready h
+is_complete one apart files (Compile program entries image) g ready h = image_ready one apart ByRule files program entries image g ready h
+is_complete one apart files (Improve program entries image budget) g ready h = image_ready one apart (ByTries budget) files program entries image g ready h
 is_complete one apart files (Sim image packets) g ready h = run_ready Answers files image packets g ready.0 ready.1 h
 is_complete one apart files (Probe image packets cycle) g ready h = run_ready (Vectors cycle) files image packets g ready.0 ready.1 h
 is_complete one apart files (Plain program entries packets) g ready h = plain_ready one files program entries packets g ready h

@@ -20,7 +20,7 @@ use Rattle.rmt_packets.specs.PacketText.{Reading}
 use Rattle.rmt_core.specs.declared.status.Status.TheVariants.{Done}
 use Rattle.rmt_core.specs.declared.watch.Watch.{Watch}
 use Rattle.rmt_core.specs.declared.watch.Watch.TheVariants as watch
-use Rattle.rmt_core.specs.Commands.{Compile, Sim, Probe, Plain, Report, Sample}
+use Rattle.rmt_core.specs.Commands.{Compile, Improve, Sim, Probe, Plain, Report, Sample}
 use Rattle.rmt_core.specs.Files.{Files, Found, Absent, Long, Holds, entries_limit, found, image_limit, packets_limit, program_limit}
 use Rattle.rmt_core.specs.Given.{Given, OfFound, OfOpened, Opens, Reads, told}
 use Rattle.rmt_core.specs.Headline.{GivesAlways}
@@ -126,6 +126,7 @@ module _ (k : Known) (files : Files) where
 
 pub gives_always : Known → GivesAlways
 gives_always k files (Compile program entries image) not = absurd (not tt)
+gives_always k files (Improve program entries image budget) not = absurd (not tt)
 gives_always k files (Sim image packets) not = run_given watch.Answers files image packets
 gives_always k files (Probe image packets cycle) not = run_given (watch.Vectors cycle) files image packets
 gives_always k files (Plain program entries packets) not =

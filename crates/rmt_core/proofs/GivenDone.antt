@@ -11,6 +11,7 @@ use Rattle.rmt_entries.specs.Entries.{entries_of}
 use Rattle.rmt_image.proofs.Whole.{image_again}
 use Rattle.rmt_packets.specs.PacketText.{BadLine, Reading, packets_of}
 use Rattle.rmt_sample.specs.Texts.{entries_text, program_text}
+use Rattle.rmt_core.specs.declared.placer.Placer.TheVariants.{ByRule}
 use Rattle.rmt_core.specs.declared.status.Status.TheVariants.{Done}
 use Rattle.rmt_core.specs.Compiling.{Builds}
 use Rattle.rmt_core.specs.Files.{Files, Long, Holds, found}
@@ -45,9 +46,9 @@ understood one files text entry_text next g p lists means says h =
 
 -- what is made of a program with entries that the texts of a number mean
 pub sample_built : OneMeaning → (files : Files) (number : ℕ) (g : Given) (p : Program) (lists : List (List Entry)) → AreOfSample number p lists → GivesSample files number g
-    → Builds files (λ image c b. told files Done (sample_line number p lists c)) p lists g
+    → Builds ByRule files (λ image c b. told files Done (sample_line number p lists c)) p lists g
 sample_built one files number g p lists of h =
-    understood one files (program_text number) (entries_text number) (λ q l. Builds files (λ image c b. told files Done (sample_line number q l c)) q l) g p lists of.means of.says (sample_understood files number g h)
+    understood one files (program_text number) (entries_text number) (λ q l. Builds ByRule files (λ image c b. told files Done (sample_line number q l c)) q l) g p lists of.means of.says (sample_understood files number g h)
 
 -- ---- an image of a configuration
 

@@ -16,11 +16,10 @@ use Rattle.rmt_cuckoo.specs.Loading.{IsLoading, IsOverfull}
 use Rattle.rmt_config.specs.ChipRun.{cycles_of, inputs_of, latency_of}
 use Rattle.rmt_image.specs.declared.fault.ImageFault.{ImageFault}
 use Rattle.rmt_image.proofs.Whole.{answered_once}
-use Rattle.rmt_deps.specs.Edges.{dependencies_of, field_edges}
+use Rattle.rmt_deps.specs.Edges.{field_edges}
 use Rattle.rmt_pack.specs.declared.placement.Part.{Part}
 use Rattle.rmt_phv.specs.Packing.{packing}
 use Rattle.rmt_phv.specs.declared.fault.PhvFull.{PhvFull}
-use Rattle.rmt_place.specs.Placing.{Stuck, placement as placement_by_rule}
 use Rattle.rmt_place.specs.Starting.{starts_of}
 use Rattle.rmt_bounds.specs.declared.bound.Bound.{Bound}
 use Rattle.rmt_bounds.specs.Bounds.{stage_bound}
@@ -31,18 +30,20 @@ use Rattle.rmt_sample.specs.Texts.{entries_text, program_text}
 use Rattle.rmt_build.specs.declared.fault.NoFit.{NoFit}
 use Rattle.rmt_build.specs.declared.fault.NoFit.TheVariants.{Load}
 use Rattle.rmt_build.specs.Loads.{AreFullBefore, AreLoaded, AreLoadedBefore, AreNotLoaded, IsFull as IsFullTable}
-use Rattle.rmt_build.specs.Refusals.{first_refusal}
 use Rattle.rmt_packets.specs.PacketText.{Reading}
+use Rattle.rmt_core.specs.declared.placer.Placer.{Placer}
+use Rattle.rmt_core.specs.declared.placer.Placer.TheVariants.{ByRule, ByTries}
 use Rattle.rmt_core.specs.declared.status.Status.TheVariants.{Done}
 use Rattle.rmt_core.specs.declared.watch.Watch.{Watch}
 use Rattle.rmt_core.specs.declared.watch.Watch.TheVariants as watch
-use Rattle.rmt_core.specs.Commands.{Compile, Sim, Probe, Plain, Report, Sample}
+use Rattle.rmt_core.specs.Commands.{Compile, Improve, Sim, Probe, Plain, Report, Sample}
 use Rattle.rmt_core.specs.CompileText.{compile_text}
-use Rattle.rmt_core.specs.Compiling.{Builds, Compiles, Fitted, IsFull, Loaded, Makes, written}
+use Rattle.rmt_core.specs.Compiling.{Builds, Compiles, Finish, Fitted, GivesImage, IsFull, Loaded, Makes, written}
 use Rattle.rmt_core.specs.Files.{Files, Found, Absent, Long, Holds, entries_limit, found, image_limit, packets_limit, program_limit}
 use Rattle.rmt_core.specs.Given.{Given, OfFound, OfOpened, Opens, Reads, told}
 use Rattle.rmt_core.specs.Headline.{GivesOne, OtherNumbers}
 use Rattle.rmt_core.specs.NoFitText.{no_fit_line}
+use Rattle.rmt_core.specs.Placers.{IsPlacedBy, placed_by, refusal_by}
 use Rattle.rmt_core.specs.PlainText.{plain_text}
 use Rattle.rmt_core.specs.Reporting.{report_line}
 use Rattle.rmt_core.specs.Runs.{Runs}
@@ -50,6 +51,7 @@ use Rattle.rmt_core.specs.Sampling.{GivesSample, answers_line, sample_line, samp
 use Rattle.rmt_core.specs.Simulating.{GivesRun, OfAnswer, Spelled}
 use Rattle.rmt_core.specs.Texts.{OfEntries, OfMeaning, Understands}
 use Rattle.rmt_core.specs.Watching.{text_of}
+use Rattle.rmt_core.proofs.PlacerLaws.{same_placed}
 
 -- each text has one meaning
 abbrev pub OneMeaning : Type 0
@@ -119,10 +121,6 @@ spelled_once files bytes next once g h a b =
 pub same_places : (p : Program) (a b : List (List Lane)) → packing p ≡ Ok a → packing p ≡ Ok b → a ≡ b
 same_places p a b e f = let both : ◌≡◌ {A = Result (List (List Lane)) PhvFull} (Ok a) (Ok b) = sym e ∙ f in cc
 
-pub same_parts : (p : Program) (a b : List (List Lane)) (parts others : List Part) → a ≡ b → placement_by_rule p a (dependencies_of p a) ≡ Ok parts → placement_by_rule p b (dependencies_of p b) ≡ Ok others → parts ≡ others
-same_parts p a b parts others is e f =
-    let both : ◌≡◌ {A = Result (List Part) Stuck} (Ok parts) (Ok others) = sym e ∙ (ap (λ l. placement_by_rule p l (dependencies_of p l)) is ∙ f) in cc
-
 latency_by : List ℕ → ℕ
 latency_by [] = 0
 latency_by (s ∷ []) = s + 12
@@ -160,7 +158,7 @@ one_line n p lists c d starts =
     inputs [] = refl
     inputs (x ∷ xs) = ap (λ l. map Some (x ∷ xs) ++ replicate l None) (same_latency c d starts)
 
-module _ (apart : NeverBoth) (p : Program) (lists : List (List Entry)) where
+module _ (apart : NeverBoth) (placer : Placer) (p : Program) (lists : List (List Entry)) where
   -- no table is loaded and full under one seed
   pub not_loaded_and_full : (parts : List Part) (seed n members cells : ℕ) → AreLoaded p lists parts seed → IsFullTable p lists parts seed n members cells → ⊥
   not_loaded_and_full parts seed n members cells loaded full =
@@ -188,28 +186,32 @@ module _ (apart : NeverBoth) (p : Program) (lists : List (List Entry)) where
       order x y = grind arith
 
   -- the stages of what is made start at the same times
-  same_starts : (image other : List ℕ) (m n : Map) (c d : Config) (b e : Bound) → Makes p lists image m c b → Makes p lists other n d e → starts_in c ≡ starts_in d
+  same_starts : (image other : List ℕ) (m n : Map) (c d : Config) (b e : Bound) → Makes placer p lists image m c b → Makes placer p lists other n d e → starts_in c ≡ starts_in d
   same_starts image other m n c d b e x y =
-      let places = same_places p m.places n.places x.by_rule.places y.by_rule.places in
-      let parts = same_parts p m.places n.places m.placement.parts n.placement.parts places x.by_rule.placement y.by_rule.placement in
-      let starts : m.starts ≡ n.starts = x.by_rule.starts ∙ (ap (λ l. starts_of (all_edges p l) m.placement.parts) places ∙ (ap (λ l. starts_of (all_edges p n.places) l) parts ∙ sym y.by_rule.starts)) in
+      let places = same_places p m.places n.places x.made_by.places y.made_by.places in
+      let parts = same_placed placer p m.places n.places m.placement.parts n.placement.parts x.made_by.places y.made_by.places x.made_by.placement y.made_by.placement in
+      let starts : m.starts ≡ n.starts = x.made_by.starts ∙ (ap (λ l. starts_of (all_edges p l) m.placement.parts) places ∙ (ap (λ l. starts_of (all_edges p n.places) l) parts ∙ sym y.made_by.starts)) in
       x.carries.units.starts_are ∙ (starts ∙ sym y.carries.units.starts_are)
 
-  made_once : (image other : List ℕ) (m n : Map) (c d : Config) (b e : Bound) → Makes p lists image m c b → Makes p lists other n d e → compile_text p c b ≡ compile_text p d e
+  made_once : (image other : List ℕ) (m n : Map) (c d : Config) (b e : Bound) → Makes placer p lists image m c b → Makes placer p lists other n d e → compile_text p c b ≡ compile_text p d e
   made_once image other m n c d b e x y =
-      let places = same_places p m.places n.places x.by_rule.places y.by_rule.places in
+      let places = same_places p m.places n.places x.made_by.places y.made_by.places in
       one_text p c d b e (same_starts image other m n c d b e x y) (x.bound ∙ (ap (λ l. stage_bound p (field_edges p l)) places ∙ sym y.bound))
 
   -- no program is made and full
-  pub never_both : (places : List (List Lane)) (parts : List Part) (seed : ℕ) (line : List ℕ) → packing p ≡ Ok places → placement_by_rule p places (dependencies_of p places) ≡ Ok parts → AreLoaded p lists parts seed → seed < 8
-      → IsFull p lists line → ⊥
-  never_both places parts seed line packed placed loaded few y =
-      let same = same_parts p places y.places parts y.parts (same_places p places y.places packed y.packed) placed y.placed in
+  pub never_both : (parts : List Part) (seed : ℕ) (line : List ℕ) → IsPlacedBy placer p parts → AreLoaded p lists parts seed → seed < 8 → IsFull placer p lists line → ⊥
+  never_both parts seed line placed loaded few y =
+      let same = same_placed placer p placed.places y.placed.places parts y.parts placed.packed y.placed.packed placed.placed y.placed.placed in
       none_before y.parts seed 8 y.full.each (subst (λ l. AreLoaded p lists l seed) same loaded) few
 
-  full_once : (line other : List ℕ) → IsFull p lists line → IsFull p lists other → OtherNumbers line other
+  -- what is made is loaded, so it isn't full
+  made_not_full : (image line : List ℕ) (m : Map) (c : Config) (b : Bound) → Makes placer p lists image m c b → IsFull placer p lists line → ⊥
+  made_not_full image line m c b x y =
+      never_both m.placement.parts c.seed line (record { places = m.places; packed = x.made_by.places; placed = x.made_by.placement }) x.made_by.seed.loaded x.made_by.seed.few y
+
+  full_once : (line other : List ℕ) → IsFull placer p lists line → IsFull placer p lists other → OtherNumbers line other
   full_once line other x y =
-      let same = same_parts p x.places y.places x.parts y.parts (same_places p x.places y.places x.packed y.packed) x.placed y.placed in
+      let same = same_placed placer p x.placed.places y.placed.places x.parts y.parts x.placed.packed y.placed.packed x.placed.placed y.placed.placed in
       let node = one_node y.parts x.node x.members x.cells y.node y.members y.cells (subst (λ l. AreNotLoaded p lists l x.node x.members x.cells) same x.full) y.full in
       record {
         program = p;
@@ -223,19 +225,19 @@ module _ (apart : NeverBoth) (p : Program) (lists : List (List Entry)) where
       }
 
   -- a command tells of all that is made in one way
-  abbrev pub TellsOnce : (List ℕ → Config → Bound → Given) → Type 0
+  abbrev pub TellsOnce : Finish → Type 0
   TellsOnce finish =
-      (image other : List ℕ) (m n : Map) (c d : Config) (b e : Bound) → Makes p lists image m c b → Makes p lists other n d e
+      (image other : List ℕ) (m n : Map) (c d : Config) (b e : Bound) → Makes placer p lists image m c b → Makes placer p lists other n d e
       → ((finish image c b).status ≡ (finish other d e).status) × ((finish image c b).text ≡ (finish other d e).text)
 
-  loaded_once : (files : Files) (finish : List ℕ → Config → Bound → Given) → TellsOnce finish → GivesOnce (Loaded files finish p lists)
+  loaded_once : (files : Files) (finish : Finish) → TellsOnce finish → GivesOnce (Loaded placer files finish p lists)
   loaded_once files finish one g h (inl x) (inl y) =
       let same = one x.0 y.0 x.1 y.1 x.2 y.2 x.3 y.3 x.4 y.4 in (
         ap (λ (k : Given). k.status) x.5 ∙ (same.0 ∙ sym (ap (λ (k : Given). k.status) y.5)),
         inl (ap (λ (k : Given). k.text) x.5 ∙ (same.1 ∙ sym (ap (λ (k : Given). k.text) y.5))),
       )
-  loaded_once files finish one g h (inl x) (inr y) = absurd (never_both x.1.places x.1.placement.parts x.2.seed y.0 x.4.by_rule.places x.4.by_rule.placement x.4.by_rule.seed.loaded x.4.by_rule.seed.few y.1)
-  loaded_once files finish one g h (inr x) (inl y) = absurd (never_both y.1.places y.1.placement.parts y.2.seed x.0 y.4.by_rule.places y.4.by_rule.placement y.4.by_rule.seed.loaded y.4.by_rule.seed.few x.1)
+  loaded_once files finish one g h (inl x) (inr y) = absurd (made_not_full x.0 y.0 x.1 x.2 x.3 x.4 y.1)
+  loaded_once files finish one g h (inr x) (inl y) = absurd (made_not_full y.0 x.0 y.1 y.2 y.3 y.4 x.1)
   loaded_once files finish one g h (inr x) (inr y) = (
     ap (λ (k : Given). k.status) x.2 ∙ sym (ap (λ (k : Given). k.status) y.2),
     inr (
@@ -244,20 +246,25 @@ module _ (apart : NeverBoth) (p : Program) (lists : List (List Entry)) where
         ),
   )
 
-  fitted_once : (files : Files) (finish : List ℕ → Config → Bound → Given) → TellsOnce finish → (fault : Option NoFit) → GivesOnce (λ g. Fitted files finish p lists g fault)
+  fitted_once : (files : Files) (finish : Finish) → TellsOnce finish → (fault : Option NoFit) → GivesOnce (λ g. Fitted placer files finish p lists g fault)
   fitted_once files finish one (Some fault) g h a b = same_given g h _ a b
   fitted_once files finish one None g h a b = loaded_once files finish one g h a b
 
-  builds_once : (files : Files) (finish : List ℕ → Config → Bound → Given) → TellsOnce finish → GivesOnce (Builds files finish p lists)
-  builds_once files finish one g h a b = fitted_once files finish one (first_refusal p) g h a b
+  builds_once : (files : Files) (finish : Finish) → TellsOnce finish → GivesOnce (Builds placer files finish p lists)
+  builds_once files finish one g h a b = fitted_once files finish one (refusal_by placer p) g h a b
 
-  compiles_once : (files : Files) (name : List ℕ) → GivesOnce (Compiles files name p lists)
+  compiles_once : (files : Files) (name : List ℕ) → GivesOnce (Compiles placer files name p lists)
   compiles_once files name = builds_once files (written files name p) (λ image other m n c d b e x y. (refl, made_once image other m n c d b e x y))
 
-  samples_once : (files : Files) (number : ℕ) → GivesOnce (Builds files (λ image c b. told files Done (sample_line number p lists c)) p lists)
+  samples_once : (files : Files) (number : ℕ) → GivesOnce (Builds placer files (λ image c b. told files Done (sample_line number p lists c)) p lists)
   samples_once files number =
       builds_once files (λ image c b. told files Done (sample_line number p lists c))
       (λ image other m n c d b e x y. (refl, one_line number p lists c d (same_starts image other m n c d b e x y)))
+
+image_once : OneMeaning → NeverBoth → (placer : Placer) (files : Files) (program entries image : List ℕ) → GivesOnce (GivesImage placer files program entries image)
+image_once one apart placer files program entries image =
+    reads_once files program program_limit _
+    (λ text. reads_once files entries entries_limit _ (λ entry_text. understands_once one files text entry_text _ (λ p lists. compiles_once apart placer p lists files image)))
 
 tells_once : (k : Given) → GivesOnce (λ g. g ≡ k)
 tells_once k g h a b = same_given g h k a b
@@ -272,17 +279,16 @@ run_once w files image packets =
 
 -- `sample` understands its texts
 pub sample_understood : (files : Files) (number : ℕ) (g : Given) → GivesSample files number g
-    → Understands files (program_text number) (entries_text number) (λ p lists. Builds files (λ image c k. told files Done (sample_line number p lists c)) p lists) g
+    → Understands files (program_text number) (entries_text number) (λ p lists. Builds ByRule files (λ image c k. told files Done (sample_line number p lists c)) p lists) g
 sample_understood files number g h =
-    let next = λ (p : Program) (lists : List (List Entry)). Builds files (λ image c k. told files Done (sample_line number p lists c)) p lists in
+    let next = λ (p : Program) (lists : List (List Entry)). Builds ByRule files (λ image c k. told files Done (sample_line number p lists c)) p lists in
     (Ok h.0, h.2.means, subst (λ (r : Result (List (List Entry)) EntryFault). OfEntries files next h.0 g r) (sym h.2.says) h.3)
 
 -- ---- the law
 
 pub gives_one : OneMeaning → NeverBoth → GivesOne
-gives_one one apart files (Compile program entries image) g h a b =
-    reads_once files program program_limit _
-    (λ text. reads_once files entries entries_limit _ (λ entry_text. understands_once one files text entry_text _ (λ p lists. compiles_once apart p lists files image))) g h a b
+gives_one one apart files (Compile program entries image) g h a b = image_once one apart ByRule files program entries image g h a b
+gives_one one apart files (Improve program entries image budget) g h a b = image_once one apart (ByTries budget) files program entries image g h a b
 gives_one one apart files (Sim image packets) g h a b = run_once watch.Answers files image packets g h a b
 gives_one one apart files (Probe image packets cycle) g h a b = run_once (watch.Vectors cycle) files image packets g h a b
 gives_one one apart files (Plain program entries packets) g h a b =
@@ -293,5 +299,5 @@ gives_one one apart files (Plain program entries packets) g h a b =
 gives_one one apart files (Report image) g h a b =
     reads_once files image image_limit _ (λ bytes. spelled_once files bytes (λ c g. g ≡ told files Done (report_line c)) (λ c. tells_once (told files Done (report_line c)))) g h a b
 gives_one one apart files (Sample number) g h a b =
-    understands_once one files (program_text number) (entries_text number) (λ p lists. Builds files (λ image c k. told files Done (sample_line number p lists c)) p lists)
-    (λ p lists. samples_once apart p lists files number) g h (sample_understood files number g a) (sample_understood files number h b)
+    understands_once one files (program_text number) (entries_text number) (λ p lists. Builds ByRule files (λ image c k. told files Done (sample_line number p lists c)) p lists)
+    (λ p lists. samples_once apart ByRule p lists files number) g h (sample_understood files number g a) (sample_understood files number h b)

@@ -12,10 +12,12 @@ pub mod GivenDone
 pub mod GivenOnce
 pub mod GoingOn
 pub mod ImageSize
+pub mod ImproveLaws
 pub mod LineLaws
 pub mod MakeLaws
 pub mod NoFitLaws
 pub mod PacketLaws
+pub mod PlacerLaws
 pub mod PlainRunLaws
 pub mod ReaderLaws
 pub mod RunExamples

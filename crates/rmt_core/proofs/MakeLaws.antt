@@ -20,20 +20,26 @@ use Rattle.rmt_config.specs.Limits.{IsWithinLimits}
 use Rattle.rmt_config.specs.ImageSpelling.{spelled_image}
 use Rattle.rmt_deps.specs.Edges.{field_edges}
 use Rattle.rmt_deps.proofs.EdgeLaws.{go_forward}
+use Rattle.rmt_phv.specs.Packing.{packing}
+use Rattle.rmt_place.specs.Starting.{starts_of}
+use Rattle.rmt_ptcam.specs.Clustering.{clustered_or}
 use Rattle.rmt_refine.specs.declared.map.Map.{Map}
-use Rattle.rmt_refine.specs.Carries.{Carries}
+use Rattle.rmt_refine.specs.Carries.{Carries, all_edges}
 use Rattle.rmt_refine.specs.RunsAs.{RunsAs}
 use Rattle.rmt_build.specs.declared.built.Built.{Built}
 use Rattle.rmt_build.specs.declared.fault.NoFit.{NoFit}
 use Rattle.rmt_build.specs.declared.fault.NoFit.TheVariants as no_fit
-use Rattle.rmt_build.specs.Refusals.{first_refusal}
+use Rattle.rmt_build.specs.Loads.{IsFirstSeed}
+use Rattle.rmt_core.specs.declared.placer.Placer.{Placer}
 use Rattle.rmt_core.specs.Files.{Files}
-use Rattle.rmt_core.specs.Given.{Given, stored}
-use Rattle.rmt_core.specs.Compiling.{Builds, Compiles, Fitted, IsByRule, Makes, written}
+use Rattle.rmt_core.specs.Given.{stored}
+use Rattle.rmt_core.specs.Compiling.{Builds, Compiles, Finish, Fitted, IsMadeBy, Makes, written}
 use Rattle.rmt_core.specs.CompileText.{compile_text}
 use Rattle.rmt_core.specs.Making.{AreOfTexts, IsBuilt, MakesImage}
 use Rattle.rmt_core.specs.NoFitText.{AreNodesOf}
+use Rattle.rmt_core.specs.Placers.{placed_by, refusal_by}
 use Rattle.rmt_core.proofs.ImageSize.{image_is_short}
+use Rattle.rmt_core.proofs.PlacerLaws.{few_stages}
 
 -- ---- the nodes of a bound
 
@@ -60,43 +66,60 @@ are_nodes p places b program is =
 -- ---- what is made
 
 -- where something was built, nothing was refused
-pub not_refused : (p : Program) (r : Result Built NoFit) (built : Built) → r ≡ Ok built → ((fault : NoFit) → first_refusal p ≡ Some fault → r ≢ Err no_fit.NoMemory → r ≡ Err fault)
-    → first_refusal p ≡ None
-not_refused p r built is refused = by (first_refusal p) refl
+pub not_refused : (first : Option NoFit) (r : Result Built NoFit) → ((fault : NoFit) → first ≡ Some fault → r ≢ Err no_fit.NoMemory → r ≡ Err fault)
+    → IfOk r (λ built. first ≡ None)
+not_refused first (Err fault) refused = tt
+not_refused None (Ok built) refused = refl
+not_refused (Some fault) (Ok built) refused = absurd (never fault (refused fault refl (never no_fit.NoMemory)))
   where
     never : (fault : NoFit) → (let x : Result Built NoFit = Ok built in x) ≢ Err fault
     never fault e = subst (λ (x : Result Built NoFit). IfErr x (λ _. ⊥)) e tt
 
-    by : (o : Option NoFit) → first_refusal p ≡ o → o ≡ None
-    by None e = refl
-    by (Some fault) e = absurd (never fault (sym is ∙ refused fault e (λ memory. never no_fit.NoMemory (sym is ∙ memory))))
-
--- an image that spells what was built
-pub made : (p : Program) (lists : List (List Entry)) (image : List ℕ) (m : Map) (c : Config) (b : Bound) → IsProgram p → (said : AreOfTexts p lists) → IsShortFor said.text p → image ≡ spelled_image c
-    → Formed c → IsWithinLimits c → c.names ≡ Some (names_of p lists) → RunsAs p lists c → Carries p lists m c → IsByRule p lists m c → b ≡ stage_bound p (field_edges p m.places) → Makes p lists image m c b
-made p lists image m c b program said brief spells formed limits names runs carries rule bound = record {
-  spells = record { spelled = spells; formed = formed; limits = limits };
-  names = names;
-  short = subst (λ (bytes : List ℕ). length bytes ≤ 268435456) (sym spells) (image_is_short p lists m c program said brief carries formed limits names);
-  runs = runs;
-  carries = carries;
-  by_rule = rule;
-  bound = bound;
-}
+-- what the back end built is an image of the program with its entries
+pub is_built : (placer : Placer) (p : Program) (lists : List (List Entry)) (r : Result Built NoFit) → IsProgram p → (said : AreOfTexts p lists) → IsShortFor said.text p
+    → ((m : Map) (c : Config) → Carries p lists m c → Formed c → RunsAs p lists c)
+    → IfOk r (λ b. refusal_by placer p ≡ None)
+    → IfOk r (λ b. Carries p lists b.map b.config)
+    → IfOk r (λ b. Formed b.config)
+    → IfOk r (λ b. IsWithinLimits b.config)
+    → IfOk r (λ b. b.config.names ≡ Some (names_of p lists))
+    → IfOk r (λ b. packing p ≡ Ok b.map.places)
+    → IfOk r (λ b. clustered_or p b.map.places ≡ Ok b.config.parser)
+    → IfOk r (λ b. placed_by placer p b.map.places ≡ Ok b.map.placement.parts)
+    → IfOk r (λ b. b.map.starts ≡ starts_of (all_edges p b.map.places) b.map.placement.parts)
+    → IfOk r (λ b. IsFirstSeed p lists b.map.placement.parts b.config.seed)
+    → IfOk r (λ b. b.bound ≡ stage_bound p (field_edges p b.map.places))
+    → IfOk r (IsBuilt placer p lists)
+is_built placer p lists (Err fault) program said brief runs none carries formed limits names places parser placement starts seed bound = tt
+is_built placer p lists (Ok b) program said brief runs none carries formed limits names places parser placement starts seed bound =
+    let made : IsMadeBy placer p lists b.map b.config = record { places = places; parser = parser; placement = placement; starts = starts; seed = seed } in
+    record {
+      no_refusal = none;
+      makes = record {
+        spells = record { spelled = refl; formed = formed; limits = limits };
+        names = names;
+        short = image_is_short p lists b.map b.config program said brief carries formed limits names;
+        runs = runs b.map b.config carries formed;
+        carries = carries;
+        made_by = made;
+        bound = bound;
+        few_stages = few_stages placer p lists b.map b.config carries made;
+      };
+    }
 
 -- what is built is told of
-pub builds : (files : Files) (finish : List ℕ → Config → Bound → Given) (p : Program) (lists : List (List Entry)) (built : Built) → IsBuilt p lists built
-    → Builds files finish p lists (finish (spelled_image built.config) built.config built.bound)
-builds files finish p lists built is =
+pub builds : (placer : Placer) (files : Files) (finish : Finish) (p : Program) (lists : List (List Entry)) (built : Built) → IsBuilt placer p lists built
+    → Builds placer files finish p lists (finish (spelled_image built.config) built.config built.bound)
+builds placer files finish p lists built is =
     let g = finish (spelled_image built.config) built.config built.bound in
-    subst (λ o. Fitted files finish p lists g o) (sym is.no_refusal)
+    subst (λ o. Fitted placer files finish p lists g o) (sym is.no_refusal)
     (inl (spelled_image built.config, built.map, built.config, built.bound, is.makes, refl))
 
--- its image and its lines are what `compile` makes
-pub built_image : (p : Program) (lists : List (List Entry)) (built : Built) (image lines : List ℕ) → IsBuilt p lists built → image ≡ spelled_image built.config
-    → lines ≡ compile_text p built.config built.bound → MakesImage p lists image lines
-built_image p lists built image lines is image_is lines_are files name =
-    subst (λ g. Compiles files name p lists g) (same image lines image_is lines_are) (builds files (written files name p) p lists built is)
+-- its image and its lines are what a command makes that writes them
+pub built_image : (placer : Placer) (p : Program) (lists : List (List Entry)) (built : Built) (image lines : List ℕ) → IsBuilt placer p lists built
+    → image ≡ spelled_image built.config → lines ≡ compile_text p built.config built.bound → MakesImage placer p lists image lines
+built_image placer p lists built image lines is image_is lines_are files name =
+    subst (λ g. Compiles placer files name p lists g) (same image lines image_is lines_are) (builds placer files (written files name p) p lists built is)
   where
     same : (i l : List ℕ) → i ≡ spelled_image built.config → l ≡ compile_text p built.config built.bound
         → written files name p (spelled_image built.config) built.config built.bound ≡ stored files name i l

@@ -15,7 +15,9 @@ use Rattle.rmt_core.specs.declared.texts.Meant.{Meant}
 use Rattle.rmt_core.specs.declared.texts.TextFault.{TextFault}
 use Rattle.rmt_core.specs.declared.texts.TextFault.TheVariants as text
 use Rattle.rmt_core.specs.SampleProgram.{sample_program}
+use Rattle.rmt_core.specs.declared.placer.Placer.TheVariants.{ByRule}
 use Rattle.rmt_core.specs.declared.status.Status.{Status}
+use Rattle.rmt_core.specs.declared.placer.Placer.TheVariants.{ByRule}
 use Rattle.rmt_core.specs.declared.status.Status.TheVariants.{Done, NoMemory, ReadFault, WriteFault}
 use Rattle.rmt_core.specs.Commands.{IsPossible, Sample}
 use Rattle.rmt_core.specs.Compiling.{Builds}
@@ -32,7 +34,7 @@ use Rattle.rmt_core.proofs.TextLaws.{IsFaultOf, is_fault_of, line_answered}
 use Rattle.rmt_core.proofs.sample.MeaningLaws.{sample_is_meant}
 
 -- the chip's answers are those of the plain run
-pub line_of_plain : (n : ℕ) (p : Program) (lists : List (List Entry)) (built : Built) → IsBuilt p lists built → sample_line n p lists built.config ≡ chip_line n built.config
+pub line_of_plain : (n : ℕ) (p : Program) (lists : List (List Entry)) (built : Built) → IsBuilt ByRule p lists built → sample_line n p lists built.config ≡ chip_line n built.config
 line_of_plain n p lists built is =
     ap (λ answers. answers_line n answers (length built.config.stages) (cycles_of built.config (sample_packets n)))
     (sym (is.makes.runs.answers (sample_packets n) (text_says_packets (packets_text n))))
@@ -45,11 +47,11 @@ chip_line_of n c text found line text_is found_is line_is =
 
 -- the line was told
 pub sample_answered : (shelf : ShelfState) (before after : SinkState) (n : ℕ) (p : Program) (lists : List (List Entry)) (built : Built) (result : Status)
-    → IsBuilt p lists built → Tells before after (sample_line n p lists built.config) Done result
-    → Answered (outside shelf before) (outside shelf after) (Builds shelf.files (λ image c b. told shelf.files Done (sample_line n p lists c)) p lists) result
+    → IsBuilt ByRule p lists built → Tells before after (sample_line n p lists built.config) Done result
+    → Answered (outside shelf before) (outside shelf after) (Builds ByRule shelf.files (λ image c b. told shelf.files Done (sample_line n p lists c)) p lists) result
 sample_answered shelf before after n p lists built result is t =
-    line_answered _ _ (Builds shelf.files (λ image c b. told shelf.files Done (sample_line n p lists c)) p lists) Done result (sample_line n p lists built.config)
-    (builds shelf.files (λ image c b. told shelf.files Done (sample_line n p lists c)) p lists built is) (λ _. refl) (inl refl) t
+    line_answered _ _ (Builds ByRule shelf.files (λ image c b. told shelf.files Done (sample_line n p lists c)) p lists) Done result (sample_line n p lists built.config)
+    (builds ByRule shelf.files (λ image c b. told shelf.files Done (sample_line n p lists c)) p lists built is) (λ _. refl) (inl refl) t
 
 -- what may come of telling it
 pub told_possible : (n : ℕ) {before after : SinkState} {line : List ℕ} {result : Status} → Tells before after line Done result → IsPossible (Sample n) result

@@ -1,4 +1,4 @@
--- What `sim` prints of an image that `compile` made is what `plain` prints of the program, and then the cycles and the flight.
+-- What `sim` prints of an image that `compile` or `improve` made is what `plain` prints of the program, and then the cycles and the flight.
 use Rattle.std.proofs.Common.{◌≡◌, ℕ, ◌+◌, ◌≤◌, true, List, [], ◌∷◌, ◌++◌, map, Option, Some, None, Ok, length, sym, refl, inl, inr, ap, ◌∙◌, append_assoc}
 use Rattle.std.specs.Prelude.{All}
 use Rattle.std.specs.List.{flat_map}
@@ -16,17 +16,18 @@ use Rattle.rmt_config.specs.ChipRun.{Outcome, chip_counts_of, cycles_of, flight_
 use Rattle.rmt_config.specs.Spells.{Spells}
 use Rattle.rmt_refine.specs.RunsAs.{RunsAs, told_by_answer, told_by_outcome}
 use Rattle.rmt_build.specs.declared.fault.NoFit.{NoFit}
-use Rattle.rmt_build.specs.Refusals.{first_refusal}
 use Rattle.rmt_packets.specs.AnswerLine.{answer_line}
 use Rattle.rmt_packets.specs.PacketText.{BadLine, Reading, packets_of}
+use Rattle.rmt_core.specs.declared.placer.Placer.{Placer}
+use Rattle.rmt_core.specs.declared.placer.Placer.TheVariants.{ByRule, ByTries}
 use Rattle.rmt_core.specs.declared.status.Status.TheVariants.{Done}
 use Rattle.rmt_core.specs.declared.watch.Watch.TheVariants as watch
-use Rattle.rmt_core.specs.Commands.{Compile}
-use Rattle.rmt_core.specs.Compiling.{Compiles, Fitted, Loaded, written}
+use Rattle.rmt_core.specs.Compiling.{Compiles, Fitted, GivesImage, Loaded, written}
 use Rattle.rmt_core.specs.Files.{Files, entries_limit, image_limit, packets_limit, program_limit, updated}
 use Rattle.rmt_core.specs.Given.{Given, Opens, Reads}
 use Rattle.rmt_core.specs.Gives.{Gives}
-use Rattle.rmt_core.specs.Headline.{IsWithin, SimPrintsPlain}
+use Rattle.rmt_core.specs.Headline.{IsWithin, SimPrintsPlain, image_command}
+use Rattle.rmt_core.specs.Placers.{refusal_by}
 use Rattle.rmt_core.specs.PlainText.{GivesPlain, plain_lines, plain_text}
 use Rattle.rmt_core.specs.Runs.{Runs}
 use Rattle.rmt_core.specs.SimText.{answer_lines, count_line, cycles_line, flight_line, printed_of, sim_text}
@@ -71,7 +72,7 @@ same_texts p lists c packets runs are =
     ∙ ap (λ l. l ++ (cycles_line (cycles_of c packets) ++ flight_line (flight_of c packets)))
     (ap (λ l. l ++ flat_map count_line (chip_counts_of c (inputs_of c packets))) lines ∙ ap (λ l. plain_lines 0 (answers_of p lists packets) ++ flat_map count_line l) counts)
 
--- ---- what `compile` made
+-- ---- what was made
 
 -- an image in files, of a configuration that runs as a program does
 record IsMade (p : Program) (lists : List (List Entry)) (file : Option (List ℕ)) : Type 0 where
@@ -85,8 +86,8 @@ record IsMade (p : Program) (lists : List (List Entry)) (file : Option (List ℕ
 stands_updated : (files : Files) (name bytes : List ℕ) → updated files name bytes name ≡ Some bytes
 stands_updated files name bytes = let same : bytes_eq name name ≡ true = (bytes_eq-Decides name name).1 refl in rw same refl
 
-module _ (p : Program) (lists : List (List Entry)) (files : Files) (name : List ℕ) (g : Given) (done : g.status ≡ Done) where
-  loaded_done : Loaded files (written files name p) p lists g → IsMade p lists (g.files name)
+module _ (placer : Placer) (p : Program) (lists : List (List Entry)) (files : Files) (name : List ℕ) (g : Given) (done : g.status ≡ Done) where
+  loaded_done : Loaded placer files (written files name p) p lists g → IsMade p lists (g.files name)
   loaded_done (inl x) = record {
     bytes = x.0;
     config = x.2;
@@ -97,34 +98,35 @@ module _ (p : Program) (lists : List (List Entry)) (files : Files) (name : List 
   }
   loaded_done (inr x) = absurd (let e = sym (ap (λ (k : Given). k.status) x.2) ∙ done in cc)
 
-  fitted_done : (o : Option NoFit) → Fitted files (written files name p) p lists g o → IsMade p lists (g.files name)
+  fitted_done : (o : Option NoFit) → Fitted placer files (written files name p) p lists g o → IsMade p lists (g.files name)
   fitted_done None h = loaded_done h
   fitted_done (Some fault) h = absurd (let e = sym (ap (λ (k : Given). k.status) h) ∙ done in cc)
 
-  compiled : Compiles files name p lists g → IsMade p lists (g.files name)
-  compiled h = fitted_done (first_refusal p) h
+  compiled : Compiles placer files name p lists g → IsMade p lists (g.files name)
+  compiled h = fitted_done (refusal_by placer p) h
 
 -- the two texts, and what was made of them
-record Compiled (files : Files) (program entries image : List ℕ) (g : Given) : Type 0 where
+record Compiled (placer : Placer) (files : Files) (program entries image : List ℕ) (g : Given) : Type 0 where
   text : List ℕ
   entry_text : List ℕ
   has_text : IsWithin files program program_limit text
   has_entries : IsWithin files entries entries_limit entry_text
-  meant : Understood text entry_text (Compiles files image) g
+  meant : Understood text entry_text (Compiles placer files image) g
   made : IsMade meant.program meant.lists (g.files image)
 
-was_compiled : (files : Files) (program entries image : List ℕ) (g : Given) → g.status ≡ Done → Gives files (Compile program entries image) g → Compiled files program entries image g
-was_compiled files program entries image g done h =
-    let first = was_read files program program_limit (λ text. Reads files entries entries_limit (λ entry_text. Understands files text entry_text (Compiles files image))) g done h in
-    let second = was_read files entries entries_limit (λ entry_text. Understands files first.bytes entry_text (Compiles files image)) g done first.then in
-    let meant = was_understood files first.bytes second.bytes (Compiles files image) g done second.then in
+was_compiled : (placer : Placer) (files : Files) (program entries image : List ℕ) (g : Given) → g.status ≡ Done → GivesImage placer files program entries image g
+    → Compiled placer files program entries image g
+was_compiled placer files program entries image g done h =
+    let first = was_read files program program_limit (λ text. Reads files entries entries_limit (λ entry_text. Understands files text entry_text (Compiles placer files image))) g done h in
+    let second = was_read files entries entries_limit (λ entry_text. Understands files first.bytes entry_text (Compiles placer files image)) g done first.then in
+    let meant = was_understood files first.bytes second.bytes (Compiles placer files image) g done second.then in
     record {
       text = first.bytes;
       entry_text = second.bytes;
       has_text = first.within;
       has_entries = second.within;
       meant = meant;
-      made = compiled meant.program meant.lists files image g done meant.then;
+      made = compiled placer meant.program meant.lists files image g done meant.then;
     }
 
 -- ---- the runs
@@ -160,9 +162,14 @@ later_within files later name bytes limit same w = record { is_there = same ∙ 
 
 -- ---- the law
 
+-- what a command that writes an image gives
+given_image : (placer : Placer) (files : Files) (program entries image : List ℕ) (g : Given) → Gives files (image_command placer program entries image) g → GivesImage placer files program entries image g
+given_image ByRule files program entries image g h = h
+given_image (ByTries budget) files program entries image g h = h
+
 pub sim_prints_plain : OneMeaning → SimPrintsPlain
-sim_prints_plain one files later program entries image packets made simulated run compiles done same_image same_program same_entries simulates sim_done plains =
-    let c = was_compiled files program entries image made done compiles in
+sim_prints_plain one placer files later program entries image packets made simulated run compiles done same_image same_program same_entries simulates sim_done plains =
+    let c = was_compiled placer files program entries image made done (given_image placer files program entries image made compiles) in
     let within : IsWithin later image image_limit c.made.bytes = record { is_there = same_image ∙ c.made.stands; is_short = c.made.short } in
     let s = simulated_is later image packets c.made.bytes c.made.config simulated sim_done within c.made.spells simulates in
     let r = plain_run one later program entries packets c.text c.entry_text s.text c.meant.program c.meant.lists run (later_within files later program c.text program_limit same_program c.has_text)

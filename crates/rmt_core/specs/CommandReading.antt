@@ -2,10 +2,11 @@
 use Rattle.std.specs.Prelude.{Option, Some, None, string_bytes}
 use Rattle.rmt_core.specs.declared.commands.Command.{Command as Read}
 use Rattle.rmt_core.specs.declared.commands.Command.TheVariants as read
-use Rattle.rmt_core.specs.Commands.{Command, Compile, Sim, Probe, Plain, Report, Sample}
+use Rattle.rmt_core.specs.Commands.{Command, Compile, Improve, Sim, Probe, Plain, Report, Sample}
 
 abbrev pub seen : Read → Option Command
 seen (read.Compile program entries image) = Some (Compile (string_bytes program.now) (string_bytes entries.now) (string_bytes image.now))
+seen (read.Improve program entries image budget) = Some (Improve (string_bytes program.now) (string_bytes entries.now) (string_bytes image.now) budget)
 seen (read.Sim image packets) = Some (Sim (string_bytes image.now) (string_bytes packets.now))
 seen (read.Probe image packets cycle) = Some (Probe (string_bytes image.now) (string_bytes packets.now) cycle)
 seen (read.Plain program entries packets) = Some (Plain (string_bytes program.now) (string_bytes entries.now) (string_bytes packets.now))

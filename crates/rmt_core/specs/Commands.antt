@@ -12,6 +12,7 @@ use Rattle.rmt_core.specs.Ends.{IsOfOutside}
 -- a command, with the names of its files; `sample` reads none
 pub data Command : Type 0 where
   Compile : (program entries image : List ℕ) → Command
+  Improve : (program entries image : List ℕ) (budget : ℕ) → Command
   Sim : (image packets : List ℕ) → Command
   Probe : (image packets : List ℕ) (cycle : ℕ) → Command
   Plain : (program entries packets : List ℕ) → Command
@@ -34,9 +35,26 @@ is_sample_number n = nat_le 1 n && nat_le n 100000
 abbrev pub sample_number_of : List ℕ → Option ℕ
 sample_number_of word = if is_number 6 word && is_sample_number (number_of_digits 10 word) then Some (number_of_digits 10 word) else None
 
+-- a number of tries, from 1 to 1,000
+abbrev pub is_budget : ℕ → Bool
+is_budget n = nat_le 1 n && nat_le n 1000
+
+-- the budget that 1 to 4 decimal digits say
+abbrev pub budget_of : List ℕ → Option ℕ
+budget_of word = if is_number 4 word && is_budget (number_of_digits 10 word) then Some (number_of_digits 10 word) else None
+
 -- a probe command, where its last word is a cycle
 abbrev pub probe_of : List ℕ → List ℕ → Option ℕ → Option Command
 probe_of image packets cycle = option_map (λ n. Probe image packets n) cycle
+
+-- an improve command, where its last word is a budget
+abbrev pub improve_of : List ℕ → List ℕ → List ℕ → Option ℕ → Option Command
+improve_of program entries image budget = option_map (λ n. Improve program entries image n) budget
+
+-- the command of a word with four words behind it
+abbrev pub with_four : List ℕ → List ℕ → List ℕ → List ℕ → List ℕ → Option Command
+with_four word first second third fourth =
+    if bytes_eq word (codes "improve") then improve_of first second third (budget_of fourth) else None
 
 -- the command of a word with three words behind it
 abbrev pub with_three : List ℕ → List ℕ → List ℕ → List ℕ → Option Command
@@ -51,9 +69,10 @@ with_one word first =
     if bytes_eq word (codes "report") then Some (Report first)
     else (if bytes_eq word (codes "sample") then option_map Sample (sample_number_of first) else None)
 
--- the command that words are: `compile PROGRAM ENTRIES IMAGE`, `sim IMAGE PACKETS`, `probe IMAGE PACKETS CYCLE`, `plain PROGRAM ENTRIES PACKETS`,
--- `report IMAGE` or `sample N`
+-- the command that words are: `compile PROGRAM ENTRIES IMAGE`, `improve PROGRAM ENTRIES IMAGE BUDGET`, `sim IMAGE PACKETS`,
+-- `probe IMAGE PACKETS CYCLE`, `plain PROGRAM ENTRIES PACKETS`, `report IMAGE` or `sample N`
 abbrev pub command_of : List (List ℕ) → Option Command
+command_of (word ∷ first ∷ second ∷ third ∷ fourth ∷ []) = with_four word first second third fourth
 command_of (word ∷ first ∷ second ∷ third ∷ []) = with_three word first second third
 command_of (word ∷ image ∷ packets ∷ []) = if bytes_eq word (codes "sim") then Some (Sim image packets) else None
 command_of (word ∷ first ∷ []) = with_one word first
@@ -64,18 +83,24 @@ abbrev pub IfCommand : Option Command → (Command → Type 0) → Type 0
 IfCommand None P = Unit {0}
 IfCommand (Some command) P = P command
 
--- the command is `compile`
-abbrev pub IsCompile : Command → Type 0
-IsCompile (Compile program entries image) = Unit {0}
-IsCompile (Sim image packets) = ⊥
-IsCompile (Probe image packets cycle) = ⊥
-IsCompile (Plain program entries packets) = ⊥
-IsCompile (Report image) = ⊥
-IsCompile (Sample number) = ⊥
+-- the command writes an image
+abbrev pub WritesImage : Command → Type 0
+WritesImage (Compile program entries image) = Unit {0}
+WritesImage (Improve program entries image budget) = Unit {0}
+WritesImage (Sim image packets) = ⊥
+WritesImage (Probe image packets cycle) = ⊥
+WritesImage (Plain program entries packets) = ⊥
+WritesImage (Report image) = ⊥
+WritesImage (Sample number) = ⊥
+
+-- the answers of a program text and an entry text, and of what they say
+abbrev pub IsOfTexts : Status → Type 0
+IsOfTexts status = (status ≡ Done) ⊎ (status ≡ BadProgram) ⊎ (status ≡ BadEntries) ⊎ (status ≡ NoFit) ⊎ (status ≡ TooLong)
 
 -- the answers of files that a command may have
 abbrev pub IsOf : Command → Status → Type 0
-IsOf (Compile program entries image) status = (status ≡ Done) ⊎ (status ≡ BadProgram) ⊎ (status ≡ BadEntries) ⊎ (status ≡ NoFit) ⊎ (status ≡ TooLong)
+IsOf (Compile program entries image) status = IsOfTexts status
+IsOf (Improve program entries image budget) status = IsOfTexts status
 IsOf (Sim image packets) status = (status ≡ Done) ⊎ (status ≡ BadImage) ⊎ (status ≡ BadPackets) ⊎ (status ≡ TooLong)
 IsOf (Probe image packets cycle) status = (status ≡ Done) ⊎ (status ≡ BadImage) ⊎ (status ≡ BadPackets) ⊎ (status ≡ TooLong)
 IsOf (Plain program entries packets) status = (status ≡ Done) ⊎ (status ≡ BadProgram) ⊎ (status ≡ BadEntries) ⊎ (status ≡ BadPackets) ⊎ (status ≡ TooLong)

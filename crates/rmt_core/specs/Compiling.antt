@@ -1,4 +1,4 @@
--- What `compile` gives: the image of a configuration that answers as the program does, or why there is none.
+-- What `compile` and `improve` give: the image of a configuration that answers as the program does, or why there is none.
 use Rattle.std.specs.Prelude.{◌≡◌, ◌≤◌, ◌⊎◌, ℕ, List, Option, Some, None, Ok, length}
 use Rattle.rmt_bits.specs.declared.lane.Lane.{Lane}
 use Rattle.rmt_core.specs.Types.{Program, Config}
@@ -7,10 +7,9 @@ use Rattle.rmt_ast.specs.Naming.{names_of}
 use Rattle.rmt_config.specs.Spells.{Spells}
 use Rattle.rmt_bounds.specs.declared.bound.Bound.{Bound}
 use Rattle.rmt_bounds.specs.Bounds.{stage_bound}
-use Rattle.rmt_deps.specs.Edges.{dependencies_of, field_edges}
+use Rattle.rmt_deps.specs.Edges.{field_edges}
 use Rattle.rmt_pack.specs.declared.placement.Part.{Part}
 use Rattle.rmt_phv.specs.Packing.{packing}
-use Rattle.rmt_place.specs.Placing.{placement as placement_by_rule}
 use Rattle.rmt_place.specs.Starting.{starts_of}
 use Rattle.rmt_ptcam.specs.Clustering.{clustered_or}
 use Rattle.rmt_refine.specs.declared.map.Map.{Map}
@@ -19,71 +18,86 @@ use Rattle.rmt_refine.specs.RunsAs.{RunsAs}
 use Rattle.rmt_build.specs.declared.fault.NoFit.{NoFit}
 use Rattle.rmt_build.specs.declared.fault.NoFit.TheVariants.{Load}
 use Rattle.rmt_build.specs.Loads.{AreNotLoaded, IsFirstSeed}
-use Rattle.rmt_build.specs.Refusals.{first_refusal}
+use Rattle.rmt_core.specs.declared.placer.Placer.{Placer}
+use Rattle.rmt_core.specs.declared.placer.Placer.TheVariants.{ByRule, ByTries}
 use Rattle.rmt_core.specs.declared.status.Status.TheVariants as status
 use Rattle.rmt_core.specs.Files.{Files, entries_limit, image_limit, program_limit}
 use Rattle.rmt_core.specs.Given.{Given, Reads, stored, told}
+use Rattle.rmt_core.specs.Placers.{HasFewStages, IsPlacedBy, placed_by, refusal_by}
 use Rattle.rmt_core.specs.Texts.{Understands}
 use Rattle.rmt_core.specs.NoFitText.{no_fit_line}
 use Rattle.rmt_core.specs.CompileText.{compile_text}
 
--- Fields are packed, frames parsed, nodes placed and stages started by their rules, and exact tables are loaded under the first seed that serves.
-pub record IsByRule (p : Program) (lists : List (List Entry)) (m : Map) (c : Config) : Type 0 where
+-- Fields are packed, frames parsed and stages started by their rules, nodes are placed so, and exact tables are loaded under the
+-- first seed that serves.
+pub record IsMadeBy (placer : Placer) (p : Program) (lists : List (List Entry)) (m : Map) (c : Config) : Type 0 where
   pub places : packing p ≡ Ok m.places
   pub parser : clustered_or p m.places ≡ Ok c.parser
-  pub placement : placement_by_rule p m.places (dependencies_of p m.places) ≡ Ok m.placement.parts
+  pub placement : placed_by placer p m.places ≡ Ok m.placement.parts
   pub starts : m.starts ≡ starts_of (all_edges p m.places) m.placement.parts
   pub seed : IsFirstSeed p lists m.placement.parts c.seed
 
 -- The image spells one configuration within every limit, with the names of the program and its entries. As the map
--- tells, it carries the program with its entries and is made by the rules; and for every list of packets its chip run
--- gives the verdicts, bytes and counters of the plain run. The bound is that of the program.
-pub record Makes (p : Program) (lists : List (List Entry)) (image : List ℕ) (m : Map) (c : Config) (b : Bound) : Type 0 where
+-- tells, it carries the program with its entries and is made so; and for every list of packets its chip run gives the
+-- verdicts, bytes and counters of the plain run. The bound is that of the program, and there are never more stages than by
+-- the rule.
+pub record Makes (placer : Placer) (p : Program) (lists : List (List Entry)) (image : List ℕ) (m : Map) (c : Config) (b : Bound) : Type 0 where
   pub spells : Spells image c
   pub names : c.names ≡ Some (names_of p lists)
   pub short : length image ≤ image_limit
   pub runs : RunsAs p lists c
   pub carries : Carries p lists m c
-  pub by_rule : IsByRule p lists m c
+  pub made_by : IsMadeBy placer p lists m c
   pub bound : b ≡ stage_bound p (field_edges p m.places)
+  pub few_stages : HasFewStages p m.places c
 
 -- under each seed some exact table has entries that have fewer cells than they are: the line names the first such table of the last seed
-pub record IsFull (p : Program) (lists : List (List Entry)) (line : List ℕ) : Type 0 where
-  pub places : List (List Lane)
+pub record IsFull (placer : Placer) (p : Program) (lists : List (List Entry)) (line : List ℕ) : Type 0 where
   pub parts : List Part
   pub node : ℕ
   pub members : ℕ
   pub cells : ℕ
-  pub packed : packing p ≡ Ok places
-  pub placed : placement_by_rule p places (dependencies_of p places) ≡ Ok parts
+  pub placed : IsPlacedBy placer p parts
   pub full : AreNotLoaded p lists parts node members cells
   pub line_is : line ≡ no_fit_line p (Load node members cells)
 
--- What is made of a program with its entries: an image of a configuration, of which a command tells, or the last line for tables that don't load.
-abbrev pub Loaded : Files → (List ℕ → Config → Bound → Given) → Program → List (List Entry) → Given → Type 0
-Loaded files finish p lists g =
-    ((image : List ℕ) × (m : Map) × (c : Config) × (b : Bound) × Makes p lists image m c b × (g ≡ finish image c b))
-    ⊎ ((line : List ℕ) × IsFull p lists line × (g ≡ told files status.NoFit line))
+-- how a command tells of what it made
+abbrev pub Finish : Type 0
+Finish = (image : List ℕ) → Config → Bound → Given
+
+-- what is made of a program with its entries, of which a command tells, or the last line for tables that don't load
+abbrev pub Loaded : Placer → Files → Finish → Program → List (List Entry) → Given → Type 0
+Loaded placer files finish p lists g =
+    ((image : List ℕ) × (m : Map) × (c : Config) × (b : Bound) × Makes placer p lists image m c b × (g ≡ finish image c b))
+    ⊎ ((line : List ℕ) × IsFull placer p lists line × (g ≡ told files status.NoFit line))
 
 -- a refusal before loading ends it
-abbrev pub Fitted : Files → (List ℕ → Config → Bound → Given) → Program → List (List Entry) → Given → Option NoFit → Type 0
-Fitted files finish p lists g (Some fault) = g ≡ told files status.NoFit (no_fit_line p fault)
-Fitted files finish p lists g None = Loaded files finish p lists g
+abbrev pub Fitted : Placer → Files → Finish → Program → List (List Entry) → Given → Option NoFit → Type 0
+Fitted placer files finish p lists g (Some fault) = g ≡ told files status.NoFit (no_fit_line p fault)
+Fitted placer files finish p lists g None = Loaded placer files finish p lists g
 
 -- a command that makes a configuration for a program with its entries, and tells of it
-abbrev pub Builds : Files → (List ℕ → Config → Bound → Given) → Program → List (List Entry) → Given → Type 0
-Builds files finish p lists g = Fitted files finish p lists g (first_refusal p)
+abbrev pub Builds : Placer → Files → Finish → Program → List (List Entry) → Given → Type 0
+Builds placer files finish p lists g = Fitted placer files finish p lists g (refusal_by placer p)
 
 -- the image stands under a name, and its lines are printed
 abbrev pub written : Files → List ℕ → Program → List ℕ → Config → Bound → Given
 written files name p image c b = stored files name image (compile_text p c b)
 
-abbrev pub Compiles : Files → List ℕ → Program → List (List Entry) → Given → Type 0
-Compiles files name p lists g = Builds files (written files name p) p lists g
+abbrev pub Compiles : Placer → Files → List ℕ → Program → List (List Entry) → Given → Type 0
+Compiles placer files name p lists g = Builds placer files (written files name p) p lists g
 
--- `compile PROGRAM ENTRIES IMAGE`
-abbrev pub GivesCompile : Files → List ℕ → List ℕ → List ℕ → Given → Type 0
-GivesCompile files program entries image =
+-- a command that writes the image of a program text with an entry text
+abbrev pub GivesImage : Placer → Files → List ℕ → List ℕ → List ℕ → Given → Type 0
+GivesImage placer files program entries image =
     Reads files program program_limit (λ text.
     Reads files entries entries_limit (λ entry_text.
-    Understands files text entry_text (Compiles files image)))
+    Understands files text entry_text (Compiles placer files image)))
+
+-- `compile PROGRAM ENTRIES IMAGE`: nodes are placed by the rule
+abbrev pub GivesCompile : Files → List ℕ → List ℕ → List ℕ → Given → Type 0
+GivesCompile files program entries image = GivesImage ByRule files program entries image
+
+-- `improve PROGRAM ENTRIES IMAGE BUDGET`: nodes are placed as the best of so many tries does
+abbrev pub GivesImprove : Files → List ℕ → List ℕ → List ℕ → ℕ → Given → Type 0
+GivesImprove files program entries image budget = GivesImage (ByTries budget) files program entries image

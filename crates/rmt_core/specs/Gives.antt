@@ -1,9 +1,9 @@
 -- What each command gives, where nothing fails outside.
 use Rattle.rmt_core.specs.declared.watch.Watch.TheVariants.{Answers, Vectors}
-use Rattle.rmt_core.specs.Commands.{Command, Compile, Sim, Probe, Plain, Report, Sample}
+use Rattle.rmt_core.specs.Commands.{Command, Compile, Improve, Sim, Probe, Plain, Report, Sample}
 use Rattle.rmt_core.specs.Files.{Files}
 use Rattle.rmt_core.specs.Given.{Given}
-use Rattle.rmt_core.specs.Compiling.{GivesCompile}
+use Rattle.rmt_core.specs.Compiling.{GivesCompile, GivesImprove}
 use Rattle.rmt_core.specs.Simulating.{GivesRun}
 use Rattle.rmt_core.specs.PlainText.{GivesPlain}
 use Rattle.rmt_core.specs.Reporting.{GivesReport}
@@ -11,6 +11,7 @@ use Rattle.rmt_core.specs.Sampling.{GivesSample}
 
 abbrev pub Gives : Files → Command → Given → Type 0
 Gives files (Compile program entries image) = GivesCompile files program entries image
+Gives files (Improve program entries image budget) = GivesImprove files program entries image budget
 Gives files (Sim image packets) = GivesRun Answers files image packets
 Gives files (Probe image packets cycle) = GivesRun (Vectors cycle) files image packets
 Gives files (Plain program entries packets) = GivesPlain files program entries packets

@@ -1,34 +1,40 @@
 -- What the answers to several commands have to do with one another.
-use Rattle.std.specs.Prelude.{◌≡◌, ◌≤◌, ◌<◌, ◌⊎◌, ℕ, List, None, Some, Ok, ◌++◌, length}
-use Rattle.rmt_bits.specs.declared.lane.Lane.{Lane}
+use Rattle.std.specs.Prelude.{◌≡◌, ◌≤◌, ◌<◌, ◌⊎◌, ◌↔◌, ℕ, List, None, Some, Ok, ◌++◌, length}
 use Rattle.rmt_core.specs.Types.{Program, Config}
 use Rattle.rmt_ast.specs.declared.entry.Entry.{Entry}
+use Rattle.rmt_bounds.specs.declared.bound.Bound.{Bound}
 use Rattle.rmt_config.specs.Spells.{Spells}
-use Rattle.rmt_deps.specs.Edges.{dependencies_of}
 use Rattle.rmt_pack.specs.declared.placement.Part.{Part}
-use Rattle.rmt_phv.specs.Packing.{packing}
-use Rattle.rmt_place.specs.Placing.{placement as placement_by_rule}
 use Rattle.rmt_check.specs.Means.{Means}
 use Rattle.rmt_entries.specs.Entries.{entries_of}
 use Rattle.rmt_packets.specs.PacketText.{packets_of}
+use Rattle.rmt_build.specs.declared.fault.NoFit.{NoFit}
 use Rattle.rmt_build.specs.declared.fault.NoFit.TheVariants.{Load}
 use Rattle.rmt_build.specs.Loads.{AreLoaded}
-use Rattle.rmt_build.specs.Refusals.{first_refusal}
+use Rattle.rmt_core.specs.declared.placer.Placer.{Placer}
+use Rattle.rmt_core.specs.declared.placer.Placer.TheVariants.{ByRule, ByTries}
 use Rattle.rmt_core.specs.declared.status.Status.TheVariants.{Done}
-use Rattle.rmt_core.specs.Commands.{Command, Compile, Sim, Probe, Plain, Report, Sample}
+use Rattle.rmt_core.specs.Commands.{Command, Compile, Improve, Sim, Probe, Plain, Report, Sample}
+use Rattle.rmt_core.specs.CompileText.{compile_text}
 use Rattle.rmt_core.specs.Files.{Files, entries_limit, image_limit, packets_limit, program_limit}
 use Rattle.rmt_core.specs.Given.{Given}
 use Rattle.rmt_core.specs.Gives.{Gives}
 use Rattle.rmt_core.specs.NoFitText.{no_fit_line}
+use Rattle.rmt_core.specs.Placers.{IsPlacedBy, refusal_by}
 use Rattle.rmt_core.specs.Sampling.{AreOfSample}
 use Rattle.rmt_core.specs.SimText.{cycles_line, flight_line}
 
--- After Done of `compile`, and over files in which its image stands, `sim` of that image with Done prints what `plain` of the program and entries prints for the same
--- packets, and then its cycles and its flight.
+-- the command that writes an image of a program whose nodes are placed so
+abbrev pub image_command : Placer → List ℕ → List ℕ → List ℕ → Command
+image_command ByRule program entries image = Compile program entries image
+image_command (ByTries budget) program entries image = Improve program entries image budget
+
+-- After Done of `compile` or `improve`, and over files in which its image stands, `sim` of that image with Done prints
+-- what `plain` of the program and entries prints for the same packets, and then its cycles and its flight.
 abbrev pub SimPrintsPlain : Type 0
 SimPrintsPlain =
-    (files later : Files) (program entries image packets : List ℕ) (made simulated run : Given)
-    → Gives files (Compile program entries image) made → made.status ≡ Done
+    (placer : Placer) (files later : Files) (program entries image packets : List ℕ) (made simulated run : Given)
+    → Gives files (image_command placer program entries image) made → made.status ≡ Done
     → later image ≡ made.files image → later program ≡ files program → later entries ≡ files entries
     → Gives later (Sim image packets) simulated → simulated.status ≡ Done
     → Gives later (Plain program entries packets) run
@@ -51,6 +57,34 @@ GivesOne =
     (files : Files) (command : Command) (g h : Given) → Gives files command g → Gives files command h
     → (g.status ≡ h.status) × ((g.text ≡ h.text) ⊎ OtherNumbers g.text h.text)
 
+-- with one try `improve` gives what `compile` gives
+abbrev pub OneTryIsCompile : Type 0
+OneTryIsCompile =
+    (files : Files) (program entries image : List ℕ) (g : Given)
+    → Gives files (Improve program entries image 1) g ↔ Gives files (Compile program entries image) g
+
+-- After Done of `compile` and of `improve` of the same texts both print one bound, and `improve` has no more stages.
+pub record PrintNoMoreStages (first second : List ℕ) : Type 0 where
+  pub program : Program
+  pub config : Config
+  pub other : Config
+  pub bound : Bound
+  pub first_is : first ≡ compile_text program config bound
+  pub second_is : second ≡ compile_text program other bound
+  pub no_more : length other.stages ≤ length config.stages
+
+abbrev pub ImproveHasNoMoreStages : Type 0
+ImproveHasNoMoreStages =
+    (files : Files) (program entries image other : List ℕ) (budget : ℕ) (made improved : Given)
+    → Gives files (Compile program entries image) made → made.status ≡ Done
+    → Gives files (Improve program entries other budget) improved → improved.status ≡ Done
+    → PrintNoMoreStages made.text improved.text
+
+-- what `improve` refuses before the entries are loaded is refused by the rule, and in the same words
+abbrev pub RefusesAsCompile : Type 0
+RefusesAsCompile =
+    (budget : ℕ) (p : Program) (fault : NoFit) → refusal_by (ByTries budget) p ≡ Some fault → refusal_by ByRule p ≡ Some fault
+
 -- ---- when a command gives Done
 
 -- a file that is there, within a limit
@@ -68,13 +102,11 @@ pub record MeanBoth (files : Files) (program entries : List ℕ) (p : Program) (
   pub says : entries_of p entry_text ≡ Ok lists
 
 -- no refusal comes, and under some seed of 0 to 7 every exact table is loaded
-pub record Fits (p : Program) (lists : List (List Entry)) : Type 0 where
-  pub places : List (List Lane)
+pub record Fits (placer : Placer) (p : Program) (lists : List (List Entry)) : Type 0 where
   pub parts : List Part
   pub seed : ℕ
-  pub no_refusal : first_refusal p ≡ None
-  pub packed : packing p ≡ Ok places
-  pub placed : placement_by_rule p places (dependencies_of p places) ≡ Ok parts
+  pub no_refusal : refusal_by placer p ≡ None
+  pub placed : IsPlacedBy placer p parts
   pub few : seed < 8
   pub loaded : AreLoaded p lists parts seed
 
@@ -91,14 +123,20 @@ pub record IsImage (files : Files) (name : List ℕ) : Type 0 where
   pub has_bytes : IsWithin files name image_limit bytes
   pub spells : Spells bytes config
 
+-- two texts of which an image can be made
+abbrev pub CanBeMade : Placer → Files → List ℕ → List ℕ → Type 0
+CanBeMade placer files program entries =
+    (p : Program) × (lists : List (List Entry)) × MeanBoth files program entries p lists × Fits placer p lists
+
 -- what files must be that a command gives Done
 abbrev pub IsReady : Files → Command → Type 0
-IsReady files (Compile program entries image) = (p : Program) × (lists : List (List Entry)) × MeanBoth files program entries p lists × Fits p lists
+IsReady files (Compile program entries image) = CanBeMade ByRule files program entries
+IsReady files (Improve program entries image budget) = CanBeMade (ByTries budget) files program entries
 IsReady files (Sim image packets) = IsImage files image × IsGoodText files packets
 IsReady files (Probe image packets cycle) = IsImage files image × IsGoodText files packets
 IsReady files (Plain program entries packets) = (p : Program) × (lists : List (List Entry)) × MeanBoth files program entries p lists × IsGoodText files packets
 IsReady files (Report image) = IsImage files image
-IsReady files (Sample number) = (p : Program) × (lists : List (List Entry)) × AreOfSample number p lists × Fits p lists
+IsReady files (Sample number) = (p : Program) × (lists : List (List Entry)) × AreOfSample number p lists × Fits ByRule p lists
 
 abbrev pub IsComplete : Type 0
 IsComplete = (files : Files) (command : Command) (g : Given) → IsReady files command → Gives files command g → g.status ≡ Done
@@ -106,6 +144,7 @@ IsComplete = (files : Files) (command : Command) (g : Given) → IsReady files c
 -- the commands that look for a configuration
 abbrev pub IsBuilding : Command → Type 0
 IsBuilding (Compile program entries image) = Unit {0}
+IsBuilding (Improve program entries image budget) = Unit {0}
 IsBuilding (Sim image packets) = ⊥
 IsBuilding (Probe image packets cycle) = ⊥
 IsBuilding (Plain program entries packets) = ⊥

@@ -6,6 +6,7 @@ pub mod Given
 pub mod Ends
 pub mod Printing
 pub mod Texts
+pub mod Placers
 pub mod Compiling
 pub mod CompileText
 pub mod NoFitText

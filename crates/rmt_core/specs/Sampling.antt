@@ -14,6 +14,7 @@ use Rattle.rmt_entries.specs.Entries.{entries_of}
 use Rattle.rmt_packets.specs.PacketText.{packets_of}
 use Rattle.rmt_refine.specs.RunsAs.{told_by_answer}
 use Rattle.rmt_sample.specs.Texts.{entries_text, packets_text, program_text}
+use Rattle.rmt_core.specs.declared.placer.Placer.TheVariants.{ByRule}
 use Rattle.rmt_core.specs.declared.status.Status.TheVariants.{Done}
 use Rattle.rmt_core.specs.Compiling.{Builds}
 use Rattle.rmt_core.specs.Files.{Files}
@@ -68,7 +69,8 @@ pub record AreOfSample (n : ℕ) (p : Program) (lists : List (List Entry)) : Typ
 -- `sample N`: its texts mean a program with entries, of which a configuration is made, or the last line tells why there is none
 abbrev pub GivesSample : Files → ℕ → Given → Type 0
 GivesSample files n g =
-    (p : Program) × (lists : List (List Entry)) × AreOfSample n p lists × Builds files (λ image c b. told files Done (sample_line n p lists c)) p lists g
+    (p : Program) × (lists : List (List Entry)) × AreOfSample n p lists
+    × Builds ByRule files (λ image c b. told files Done (sample_line n p lists c)) p lists g
 
 -- The texts of every number that `sample` takes mean one program with its entries, which stands in SampleProgram.
 abbrev pub SampleIsMeant : Type 0

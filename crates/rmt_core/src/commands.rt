@@ -2,7 +2,7 @@
 
 ghost use Rattle.std.specs.Prelude.{◌≡◌, ◌≤◌, SomeIff, string_bytes};
 ghost use Rattle.rmt_bits.specs.Digits.{number_of_digits};
-ghost use Rattle.rmt_core.specs.Commands.{command_of, cycle_of, is_number, probe_of, sample_number_of, with_one, with_three, words_of};
+ghost use Rattle.rmt_core.specs.Commands.{budget_of, command_of, cycle_of, improve_of, is_number, probe_of, sample_number_of, with_four, with_one, with_three, words_of};
 ghost use Rattle.rmt_core.specs.CommandReading.{seen};
 
 use rmt_bits::digits::{are_digits, number_up_to};
@@ -12,6 +12,12 @@ const CYCLE_DIGITS: usize = 9;
 
 /// The greatest number of so many digits.
 const LAST_CYCLE: u32 = 999_999_999;
+
+/// The most digits of a budget.
+const BUDGET_DIGITS: usize = 4;
+
+/// The greatest budget.
+const BUDGET_MOST: u32 = 1_000;
 
 /// The most digits of the number of a sample.
 const SAMPLE_DIGITS: usize = 6;
@@ -27,6 +33,13 @@ pub enum Command<'a> {
         program: &'a String,
         entries: &'a String,
         image: &'a String,
+    },
+    /// `improve PROGRAM ENTRIES IMAGE BUDGET`
+    Improve {
+        program: &'a String,
+        entries: &'a String,
+        image: &'a String,
+        budget: u32,
     },
     /// `sim IMAGE PACKETS`
     Sim {
@@ -62,6 +75,7 @@ pub fn command_from(words: &Vec<String>) -> Command<'_>
     ensures { seen result ≡ command_of (words_of words.now.items) }
 {
     match words.as_slice() {
+        [word, first, second, third, fourth] => with_four(word, first, second, third, fourth),
         [word, first, second, third] => with_three(word, first, second, third),
         [word, image, packets] if word.as_str() == "sim" => Command::Sim { image, packets },
         [word, first] => with_one(word, first),
@@ -103,6 +117,57 @@ fn is_number(most: usize, word: &[u8]) -> bool
     1 <= word.len() && word.len() <= most && are_digits(word)
 }
 
+/// The command of a word with four words behind it.
+fn with_four<'a>(
+    word: &String,
+    first: &'a String,
+    second: &'a String,
+    third: &'a String,
+    fourth: &String,
+) -> Command<'a>
+    ensures { seen result ≡ with_four (string_bytes word.now) (string_bytes first.now)
+        (string_bytes second.now) (string_bytes third.now) (string_bytes fourth.now) }
+{
+    match word.as_str() {
+        "improve" => improve_from(first, second, third, fourth),
+        _ => Command::Unknown,
+    }
+}
+
+/// The command `improve`, where the last word is a budget.
+fn improve_from<'a>(
+    program: &'a String,
+    entries: &'a String,
+    image: &'a String,
+    budget: &String,
+) -> Command<'a>
+    ensures { seen result ≡ improve_of (string_bytes program.now) (string_bytes entries.now)
+        (string_bytes image.now) (budget_of (string_bytes budget.now)) }
+{
+    match budget_from(budget.as_bytes()) {
+        Some(budget) => Command::Improve {
+            program,
+            entries,
+            image,
+            budget,
+        },
+        None => Command::Unknown,
+    }
+}
+
+/// The budget that a word says, if it is 1 to 4 decimal digits and from 1 to 1,000.
+fn budget_from(word: &[u8]) -> Option<u32>
+    ensures { result ≡ budget_of word.now }
+{
+    if !is_number(BUDGET_DIGITS, word) {
+        return None;
+    }
+    match number_from(BUDGET_MOST, word) {
+        Some(number) if 1 <= number => Some(number),
+        _ => None,
+    }
+}
+
 /// The command of a word with three words behind it.
 fn with_three<'a>(
     word: &String,
@@ -110,7 +175,8 @@ fn with_three<'a>(
     second: &'a String,
     third: &'a String,
 ) -> Command<'a>
-    ensures { seen result ≡ with_three (string_bytes word.now) (string_bytes first.now) (string_bytes second.now) (string_bytes third.now) }
+    ensures { seen result ≡ with_three (string_bytes word.now) (string_bytes first.now)
+        (string_bytes second.now) (string_bytes third.now) }
 {
     match word.as_str() {
         "compile" => Command::Compile {
@@ -130,7 +196,8 @@ fn with_three<'a>(
 
 /// The command `probe`, where the last word is a cycle.
 fn probe_from<'a>(image: &'a String, packets: &'a String, cycle: &String) -> Command<'a>
-    ensures { seen result ≡ probe_of (string_bytes image.now) (string_bytes packets.now) (cycle_of (string_bytes cycle.now)) }
+    ensures { seen result ≡ probe_of (string_bytes image.now) (string_bytes packets.now)
+        (cycle_of (string_bytes cycle.now)) }
 {
     match cycle_from(cycle.as_bytes()) {
         Some(cycle) => Command::Probe {
@@ -155,7 +222,8 @@ fn cycle_from(word: &[u8]) -> Option<u32>
 
 /// The number that decimal digits say, or None where it is above `last`.
 fn number_from(last: u32, digits: &[u8]) -> Option<u32>
-    ensures { SomeIff result (number_of_digits 10 digits.now ≤ last) (number_of_digits 10 digits.now) }
+    ensures { SomeIff result (number_of_digits 10 digits.now ≤ last)
+        (number_of_digits 10 digits.now) }
 {
     match number_up_to(u128::from(last), 10, digits) {
         Some(number) => Some(number as u32),

@@ -1,6 +1,6 @@
 //! What holds of what the commands give.
 
-ghost use Rattle.rmt_core.specs.Headline.{GivesAlways, GivesOne, IsComplete, SimPrintsPlain};
+ghost use Rattle.rmt_core.specs.Headline.{GivesAlways, GivesOne, ImproveHasNoMoreStages, IsComplete, OneTryIsCompile, RefusesAsCompile, SimPrintsPlain};
 ghost use Rattle.rmt_core.specs.Sampling.{SampleIsMeant};
 
 use rmt_check::laws::one_meaning;
@@ -15,7 +15,7 @@ pub fn gives_one()
     never_both();
 }
 
-/// Whatever the files are, each command but `compile` gives something.
+/// Whatever the files are, each command that builds no configuration gives something.
 pub fn gives_always()
     ensures { GivesAlways }
 {
@@ -31,9 +31,23 @@ pub fn is_complete()
     never_both();
 }
 
-/// What `compile` made runs as `plain` runs the program: `sim` prints the same, and then its cycles and its flight.
+/// What `compile` or `improve` made runs as `plain` runs the program: `sim` prints the same, and then its cycles and its flight.
 pub fn sim_prints_plain()
     ensures { SimPrintsPlain }
+{
+    one_meaning();
+}
+
+/// With one try `improve` gives what `compile` gives.
+pub fn one_try_is_compile()
+    ensures { OneTryIsCompile }
+{}
+
+/// `improve` never has more stages than `compile`, and what it refuses before the entries are loaded is refused by the rule
+/// too, in the same words.
+pub fn improve_is_no_worse()
+    ensures no_more { ImproveHasNoMoreStages }
+    ensures refused { RefusesAsCompile }
 {
     one_meaning();
 }

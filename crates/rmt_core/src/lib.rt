@@ -11,6 +11,8 @@ mod made_lines;
 mod making;
 mod names;
 mod no_fit;
+mod placer;
+mod placing;
 mod plain;
 mod plain_run;
 mod printing;

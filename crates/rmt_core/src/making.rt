@@ -10,18 +10,18 @@ ghost use Rattle.rmt_config.specs.ImageSpelling.{spelled_image};
 ghost use Rattle.rmt_core.specs.CompileText.{compile_text};
 ghost use Rattle.rmt_core.specs.Making.{AreOfTexts, IsBuilt, MakesImage, TellsWhy};
 ghost use Rattle.rmt_core.specs.NoFitText.{AreNodesOf, no_fit_line};
+ghost use Rattle.rmt_core.specs.Placers.{IsPlacer};
 
 use crate::made_lines::compile_lines;
 use crate::no_fit::no_fit_text;
+use crate::placer::Placer;
+use crate::placing::build_by;
 use rmt_ast::entry::EntryLists;
 use rmt_ast::program::Program;
 use rmt_bits::answer::Bytes;
-use rmt_build::build;
 use rmt_build::built::Built;
 use rmt_build::fault::NoFit;
-use rmt_check::laws::one_meaning;
 use rmt_image::write_image;
-use rmt_refine::laws::packet_lists;
 use std::alloc::Global;
 
 /// An image, and the lines that tell of it.
@@ -39,34 +39,45 @@ pub enum Refusal {
     NoFit { line: Vec<u8> },
 }
 
-/// What is made of a program with its entries.
-pub fn make(alloc: Global, program: &Program, entries: &EntryLists) -> Result<Made, Refusal>
+/// What is made of a program with its entries, where its nodes are placed so.
+pub fn make(
+    alloc: Global,
+    placer: Placer,
+    program: &Program,
+    entries: &EntryLists,
+) -> Result<Made, Refusal>
+    requires placer { IsPlacer placer }
     requires program { IsProgram program.now }
     requires entries { AreEntries program.now entries.now }
     requires said { AreOfTexts program.now entries.now }
-    ensures made { IfOk result (λ m. MakesImage program.now entries.now m.image.items m.lines) }
+    ensures made { IfOk result
+        (λ m. MakesImage placer program.now entries.now m.image.items m.lines) }
     ensures some { IfOk result (λ m. m.lines ≢ []) }
     ensures refused { (line : Vec ℕ Global) → result ≡ Err (Refusal.NoFit line) →
-        TellsWhy program.now entries.now line.items }
+        TellsWhy placer program.now entries.now line.items }
 {
-    match fit(alloc, program, entries) {
+    match fit(alloc, placer, program, entries) {
         Ok(built) => made_of(alloc, program, &built),
         Err(refusal) => Err(refusal),
     }
 }
 
-/// What a program with its entries becomes on the chip.
-pub fn fit(alloc: Global, program: &Program, entries: &EntryLists) -> Result<Built, Refusal>
+/// What a program with its entries becomes on the chip, where its nodes are placed so.
+pub fn fit(
+    alloc: Global,
+    placer: Placer,
+    program: &Program,
+    entries: &EntryLists,
+) -> Result<Built, Refusal>
+    requires placer { IsPlacer placer }
     requires program { IsProgram program.now }
     requires entries { AreEntries program.now entries.now }
     requires said { AreOfTexts program.now entries.now }
-    ensures built { IfOk result (λ b. IsBuilt program.now entries.now b) }
+    ensures built { IfOk result (λ b. IsBuilt placer program.now entries.now b) }
     ensures refused { (line : Vec ℕ Global) → result ≡ Err (Refusal.NoFit line) →
-        TellsWhy program.now entries.now line.items }
+        TellsWhy placer program.now entries.now line.items }
 {
-    one_meaning();
-    packet_lists();
-    match build(alloc, program, entries) {
+    match build_by(alloc, placer, program, entries) {
         Ok(built) => Ok(built),
         Err(fault) => Err(refusal_of(alloc, program, &fault)),
     }

@@ -22,6 +22,7 @@ pub mod run;
 pub mod tally;
 
 use crate::making::{Refusal, fit};
+use crate::placer::Placer;
 use crate::printing::end_with;
 use crate::sampling::line::run_line;
 use crate::status::Status;
@@ -95,14 +96,14 @@ fn sample_meant<O: Sink>(
     ensures no_reading { result ≢ Status.ReadFault }
     ensures answered { (shelf : ShelfState) →
         Answered (outside shelf (O.state out.old)) (outside shelf (O.state out.new))
-        (Builds shelf.files
+        (Builds Placer.ByRule shelf.files
         (λ image c b. told shelf.files Status.Done
         (sample_line number meant.now.program meant.now.entries c)) meant.now.program meant.now.entries) result }
     ensures write_fault { result ≡ Status.WriteFault →
         PrintingFailed (O.state out.old) (O.state out.new) }
     ensures only_printed { OnlyPrinted (O.state out.old) (O.state out.new) }
 {
-    match fit(alloc, &meant.program, &meant.entries) {
+    match fit(alloc, Placer::ByRule, &meant.program, &meant.entries) {
         Ok(built) => tell_built(alloc, number, built, packets, out),
         Err(Refusal::NoMemory) => Status::NoMemory,
         Err(Refusal::NoFit { line }) => end_with(out, line.as_slice(), Status::NoFit),

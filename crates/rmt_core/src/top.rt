@@ -2,12 +2,13 @@
 
 ghost use Rattle.std.specs.Prelude.{◌≡◌, ◌⊎◌, ◌↔◌, None, IsTrue};
 ghost use Rattle.rmt_io.specs.Outside.{ReadingFailed, WritingFailed, GainedNone, PrintingFailed, OnlyPrinted};
-ghost use Rattle.rmt_core.specs.Commands.{IfCommand, IsCompile, IsPossible, command_of, words_of};
+ghost use Rattle.rmt_core.specs.Commands.{IfCommand, IsPossible, WritesImage, command_of, words_of};
 ghost use Rattle.rmt_core.specs.Ends.{Answered, outside};
 ghost use Rattle.rmt_core.specs.Gives.{Gives};
 
 use crate::commands::{Command, command_from};
 use crate::compiling::compile;
+use crate::placer::Placer;
 use crate::plain::plain;
 use crate::reporting::report;
 use crate::sampling::sample;
@@ -40,9 +41,9 @@ pub fn rmt<F: Shelf, O: Sink>(
         let before = outside (F.state shelf.old) (O.state out.old) in
         let after = outside (F.state shelf.new) (O.state out.new) in
         Answered before after (Gives before.shelf.files command) result) }
-    // `compile` has read its files, and has its image and its lines, before it writes or prints anything.
-    ensures compile_quiet { (result ≡ Status.NoMemory) ⊎ (result ≡ Status.ReadFault)
-        ⊎ (result ≡ Status.TooLong) → IfCommand (command_of (words_of words.now.items)) IsCompile →
+    // What writes an image has read its files, and has the image and its lines, before it writes or prints anything.
+    ensures image_quiet { (result ≡ Status.NoMemory) ⊎ (result ≡ Status.ReadFault)
+        ⊎ (result ≡ Status.TooLong) → IfCommand (command_of (words_of words.now.items)) WritesImage →
         GainedNone (O.state out.old) (O.state out.new) }
     // Faults of the outside come only where a count rose in this call; a steady shelf has none of writing.
     ensures read_fault { result ≡ Status.ReadFault →
@@ -50,9 +51,9 @@ pub fn rmt<F: Shelf, O: Sink>(
     ensures write_fault { result ≡ Status.WriteFault →
         WritingFailed (F.state shelf.old) (F.state shelf.new)
         ⊎ PrintingFailed (O.state out.old) (O.state out.new) }
-    // Only `compile` writes a file, so with any other command the sink failed.
+    // Only what writes an image writes a file, so with any other command the sink failed.
     ensures sink_fault { result ≡ Status.WriteFault →
-        (IfCommand (command_of (words_of words.now.items)) IsCompile → ⊥) →
+        (IfCommand (command_of (words_of words.now.items)) WritesImage → ⊥) →
         PrintingFailed (O.state out.old) (O.state out.new) }
     ensures steady_write { result ≡ Status.WriteFault → IsTrue (F.state shelf.old).steady →
         PrintingFailed (O.state out.old) (O.state out.new) }
@@ -65,7 +66,16 @@ pub fn rmt<F: Shelf, O: Sink>(
             program,
             entries,
             image,
-        } => compile(alloc, program, entries, image, shelf, out),
+        } => compile(alloc, Placer::ByRule, program, entries, image, shelf, out),
+        Command::Improve {
+            program,
+            entries,
+            image,
+            budget,
+        } => {
+            let placer = Placer::ByTries { budget };
+            compile(alloc, placer, program, entries, image, shelf, out)
+        }
         Command::Sim { image, packets } => {
             simulate(alloc, image, packets, Watch::Answers, shelf, out)
         }

@@ -28,12 +28,18 @@ pub struct Form {
 }
 
 /// The commands, in the order of the help.
-pub const FORMS: [Form; 6] = [
+pub const FORMS: [Form; 7] = [
     Form {
         name: "compile",
         operands: &["PROGRAM", "ENTRIES", "IMAGE"],
         roles: &[Role::Program, Role::Entries, Role::Written],
         purpose: "write the image of a program with its entries",
+    },
+    Form {
+        name: "improve",
+        operands: &["PROGRAM", "ENTRIES", "IMAGE", "BUDGET"],
+        roles: &[Role::Program, Role::Entries, Role::Written, Role::Number],
+        purpose: "do the same, with the best of BUDGET tries at placing the tables",
     },
     Form {
         name: "sim",

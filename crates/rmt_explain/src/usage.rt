@@ -7,8 +7,9 @@ use crate::message::Message;
 const HELP: [&str; 3] = ["help", "--help", "-h"];
 
 /// What stands behind the forms of the commands in the whole help.
-const NOTES: [&str; 12] = [
-    "A file name is any word. CYCLE is 1 to 9 decimal digits; N is a number from 1 to 100,000.",
+const NOTES: [&str; 13] = [
+    "A file name is any word. BUDGET is a number from 1 to 1,000, CYCLE 1 to 9 decimal digits, and",
+    "N a number from 1 to 100,000.",
     "A program has at most 1,048,576 bytes, an entry text 67,108,864, an image 268,435,456,",
     "a packet text 1,099,511,627,776.",
     "",
@@ -135,10 +136,10 @@ fn explain_operands(form: &Form, words: &[String], message: &mut Message) {
 fn explain_number(form: &Form, words: &[String], message: &mut Message) {
     if let Some(last) = words.last() {
         say_word(words.len() as u64, last.as_str(), message);
-        if form.name == "probe" {
-            message.say(" is no CYCLE: 1 to 9 decimal digits are wanted\n");
-        } else {
-            message.say(" is no N: a number from 1 to 100,000 is wanted, in decimal digits\n");
-        }
+        message.say(match form.name {
+            "improve" => " is no BUDGET: a number from 1 to 1,000 is wanted, in decimal digits\n",
+            "probe" => " is no CYCLE: 1 to 9 decimal digits are wanted\n",
+            _ => " is no N: a number from 1 to 100,000 is wanted, in decimal digits\n",
+        });
     }
 }

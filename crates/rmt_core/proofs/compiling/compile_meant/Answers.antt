@@ -15,7 +15,7 @@ returns-in-Ok-clause-call g c =
     let d = c.deliver.ensures in
     record {
       answered = λ tells.
-          delivered _ _ (Compiles files name c.args.meant.now.program c.args.meant.now.entries) (stored files name c.in-Ok.made.image.items c.in-Ok.made.lines) c.deliver.result
+          delivered _ _ (Compiles c.args.placer files name c.args.meant.now.program c.args.meant.now.entries) (stored files name c.in-Ok.made.image.items c.in-Ok.made.lines) c.deliver.result
           (c.in-Ok.ensures.made files name) d.kind (λ some. d.ends some tells) (λ e. d.files e tells) d.quiet;
       quiet = told_quiet Done c.deliver.result (λ e. cc) (λ e. cc) d.quiet d.kind;
       read_fault = told_unread Done c.deliver.result (λ e. cc) d.kind;
@@ -34,13 +34,13 @@ returns-in-Err-NoFit-clause-call g c =
     let name = string_bytes c.args.image.now in
     let p = c.args.meant.now.program in
     let lists = c.args.meant.now.entries in
-    let gives : Given → Type 0 = Compiles shelf.files name p lists in
+    let gives : Given → Type 0 = Compiles c.args.placer shelf.files name p lists in
     let line_why = c.make.ensures.refused c.in-Err-NoFit.line (c.in-Err-NoFit.is ∙ ap Err c.in-Err-NoFit.field-0-is) shelf.files (written shelf.files name p) in
     let why = subst (λ (line : List ℕ). gives (told shelf.files NoFit line)) (ap (λ (line : Vec ℕ Global). line.items) (sym c.in-Err-NoFit.line-is) ∙ sym c.as_slice.ensures.value) line_why in
     let e = c.end_with.ensures in
     let line = printed_tells {before = g.O.Sink.state c.args.out.now} {after = g.O.Sink.state c.end_with.new.out} {line = c.as_slice.result.now} {wanted = NoFit} {result = c.end_with.result}
     (λ m. cc) e.status e.printed e.front e.failed e.some in
     writes_none _ _ _ _
-    (ends_told shelf _ _ (λ files. Compiles files name p lists) NoFit c.end_with.result c.as_slice.result.now (λ m. cc) line e.only_printed
+    (ends_told shelf _ _ (λ files. Compiles c.args.placer files name p lists) NoFit c.end_with.result c.as_slice.result.now (λ m. cc) line e.only_printed
     (line_answered _ _ gives NoFit c.end_with.result c.as_slice.result.now why (λ _. refl) (inr (inr (inr (inl refl)))) line))
     (told_quiet NoFit c.end_with.result (λ m. cc) (λ m. cc) line.quiet line.kind)

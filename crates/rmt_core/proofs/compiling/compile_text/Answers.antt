@@ -1,4 +1,5 @@
 use Rattle.std.proofs.Common.{Err, List, ℕ, ap, refl, string_bytes, ◌∙◌}
+use Rattle.rmt_core.specs.declared.placer.Placer.{Placer}
 use Rattle.rmt_core.specs.Compiling.{Compiles}
 use Rattle.rmt_core.specs.Files.{Files, entries_limit}
 use Rattle.rmt_core.specs.Given.{Given}
@@ -7,17 +8,17 @@ use Rattle.rmt_core.proofs.CallLaws.{ends_unread, writes_none, writes_then}
 use Rattle.rmt_core.proofs.compiling.compile_text.Goals as goal
 
 -- what follows the reading of the entries
-abbrev next : List ℕ → List ℕ → Files → List ℕ → Given → Type 0
-next text image files entry_text = Understands files text entry_text (Compiles files image)
+abbrev next : Placer → List ℕ → List ℕ → Files → List ℕ → Given → Type 0
+next placer text image files entry_text = Understands files text entry_text (Compiles placer files image)
 
 pub returns-in-Ok-clause-call : goal.returns-in-Ok-clause-call
 returns-in-Ok-clause-call g c =
-    writes_then _ _ (g.F.Shelf.state c.read_file.new.shelf) (string_bytes c.args.entries.now) (next c.args.text.now.items (string_bytes c.args.image.now)) entries_limit c.in-Ok.entry_text.items c.compile_texts.result
+    writes_then _ _ (g.F.Shelf.state c.read_file.new.shelf) (string_bytes c.args.entries.now) (next c.args.placer c.args.text.now.items (string_bytes c.args.image.now)) entries_limit c.in-Ok.entry_text.items c.compile_texts.result
     c.read_file.ensures.only_read c.in-Ok.ensures.found c.compile_texts.ensures.call
 
 pub returns-in-Err-clause-call : goal.returns-in-Err-clause-call
 returns-in-Err-clause-call g c =
     writes_none _ _ _ _
-    (ends_unread _ _ _ (string_bytes c.args.entries.now) (next c.args.text.now.items (string_bytes c.args.image.now)) entries_limit c.in-Err.status c.read_file.ensures.only_read c.in-Err.ensures.refused
+    (ends_unread _ _ _ (string_bytes c.args.entries.now) (next c.args.placer c.args.text.now.items (string_bytes c.args.image.now)) entries_limit c.in-Err.status c.read_file.ensures.only_read c.in-Err.ensures.refused
     (λ e. c.read_file.ensures.fault (c.in-Err.is ∙ ap Err e)))
     (λ _ _. refl)

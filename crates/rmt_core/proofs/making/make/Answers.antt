@@ -14,7 +14,7 @@ made_of-requires-clause-nodes c = are_nodes c.args.program.now c.in-Ok.built.map
 
 pub returns-in-Ok-clause-made : goal.returns-in-Ok-clause-made
 returns-in-Ok-clause-made c =
-    both_ok c.made_of.result (λ m image lines. built_image c.args.program.now c.args.entries.now c.in-Ok.built m.image.items m.lines c.in-Ok.ensures.built image lines)
+    both_ok c.made_of.result (λ m image lines. built_image c.args.placer c.args.program.now c.args.entries.now c.in-Ok.built m.image.items m.lines c.in-Ok.ensures.built image lines)
     c.made_of.ensures.image c.made_of.ensures.lines
 
 pub returns-in-Ok-clause-some : goal.returns-in-Ok-clause-some

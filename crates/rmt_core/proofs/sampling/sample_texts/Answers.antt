@@ -3,6 +3,7 @@ use Rattle.std.proofs.Common.{◌≡◌, Ok, arith, length, refl, subst, ap, ◌
 use Rattle.rmt_check.specs.Means.{Means}
 use Rattle.rmt_entries.specs.Entries.{entries_of}
 use Rattle.rmt_core.specs.Compiling.{Builds}
+use Rattle.rmt_core.specs.declared.placer.Placer.TheVariants.{ByRule}
 use Rattle.rmt_core.specs.declared.status.Status.TheVariants.{Done}
 use Rattle.rmt_core.specs.Given.{told}
 use Rattle.rmt_core.specs.Sampling.{AreOfSample, GivesSample, sample_line}
@@ -37,7 +38,7 @@ returns-in-Ok-clause-answered g c = λ shelf.
       means = subst (λ t. Means t (Ok p)) (c.as_slice.ensures ∙ c.requires.program) c.in-Ok.ensures.means;
       says = subst (λ t. entries_of p t ≡ Ok lists) (c.as_slice-2.ensures ∙ c.requires.entries) c.in-Ok.ensures.says;
     } in
-    answered_as _ _ (Builds shelf.files (λ image k b. told shelf.files Done (sample_line n p lists k)) p lists) (GivesSample shelf.files n) c.sample_meant.result
+    answered_as _ _ (Builds ByRule shelf.files (λ image k b. told shelf.files Done (sample_line n p lists k)) p lists) (GivesSample shelf.files n) c.sample_meant.result
     (λ k h. (p, lists, of, h)) (λ k h. sample_built c.one_meaning.ensures.alone shelf.files n k p lists of h) (c.sample_meant.ensures.answered shelf)
 
 pub returns-in-Err-NoMemory-clause-answered : goal.returns-in-Err-NoMemory-clause-answered
