@@ -188,15 +188,15 @@ module _ (apart : NeverBoth) (placer : Placer) (p : Program) (lists : List (List
   -- the stages of what is made start at the same times
   same_starts : (image other : List ℕ) (m n : Map) (c d : Config) (b e : Bound) → Makes placer p lists image m c b → Makes placer p lists other n d e → starts_in c ≡ starts_in d
   same_starts image other m n c d b e x y =
-      let places = same_places p m.places n.places x.made_by.places y.made_by.places in
-      let parts = same_placed placer p m.places n.places m.placement.parts n.placement.parts x.made_by.places y.made_by.places x.made_by.placement y.made_by.placement in
-      let starts : m.starts ≡ n.starts = x.made_by.starts ∙ (ap (λ l. starts_of (all_edges p l) m.placement.parts) places ∙ (ap (λ l. starts_of (all_edges p n.places) l) parts ∙ sym y.made_by.starts)) in
+      let places = same_places p m.places n.places x.made_by.rules.places y.made_by.rules.places in
+      let parts = same_placed placer p m.places n.places m.placement.parts n.placement.parts x.made_by.rules.places y.made_by.rules.places x.made_by.placement y.made_by.placement in
+      let starts : m.starts ≡ n.starts = x.made_by.rules.starts ∙ (ap (λ l. starts_of (all_edges p l) m.placement.parts) places ∙ (ap (λ l. starts_of (all_edges p n.places) l) parts ∙ sym y.made_by.rules.starts)) in
       x.carries.units.starts_are ∙ (starts ∙ sym y.carries.units.starts_are)
 
   made_once : (image other : List ℕ) (m n : Map) (c d : Config) (b e : Bound) → Makes placer p lists image m c b → Makes placer p lists other n d e → compile_text p c b ≡ compile_text p d e
   made_once image other m n c d b e x y =
-      let places = same_places p m.places n.places x.made_by.places y.made_by.places in
-      one_text p c d b e (same_starts image other m n c d b e x y) (x.bound ∙ (ap (λ l. stage_bound p (field_edges p l)) places ∙ sym y.bound))
+      let places = same_places p m.places n.places x.made_by.rules.places y.made_by.rules.places in
+      one_text p c d b e (same_starts image other m n c d b e x y) (x.bounded.bound ∙ (ap (λ l. stage_bound p (field_edges p l)) places ∙ sym y.bounded.bound))
 
   -- no program is made and full
   pub never_both : (parts : List Part) (seed : ℕ) (line : List ℕ) → IsPlacedBy placer p parts → AreLoaded p lists parts seed → seed < 8 → IsFull placer p lists line → ⊥
@@ -207,7 +207,7 @@ module _ (apart : NeverBoth) (placer : Placer) (p : Program) (lists : List (List
   -- what is made is loaded, so it isn't full
   made_not_full : (image line : List ℕ) (m : Map) (c : Config) (b : Bound) → Makes placer p lists image m c b → IsFull placer p lists line → ⊥
   made_not_full image line m c b x y =
-      never_both m.placement.parts c.seed line (record { places = m.places; packed = x.made_by.places; placed = x.made_by.placement }) x.made_by.seed.loaded x.made_by.seed.few y
+      never_both m.placement.parts c.seed line (record { places = m.places; packed = x.made_by.rules.places; placed = x.made_by.placement }) x.made_by.rules.seed.loaded x.made_by.rules.seed.few y
 
   full_once : (line other : List ℕ) → IsFull placer p lists line → IsFull placer p lists other → OtherNumbers line other
   full_once line other x y =

@@ -72,7 +72,7 @@ module _ (placer other : Placer) (alike : PlaceAlike placer other) where
   placed_alike p parts is = record { places = is.places; packed = is.packed; placed = sym (alike p is.places) ∙ is.placed }
 
   made_alike : (p : Program) (lists : List (List Entry)) (m : Map) (c : Config) → IsMadeBy placer p lists m c → IsMadeBy other p lists m c
-  made_alike p lists m c is = record { places = is.places; parser = is.parser; placement = sym (alike p m.places) ∙ is.placement; starts = is.starts; seed = is.seed }
+  made_alike p lists m c is = record { rules = is.rules; placement = sym (alike p m.places) ∙ is.placement; layout = is.layout }
 
   makes_alike : (p : Program) (lists : List (List Entry)) (image : List ℕ) (m : Map) (c : Config) (b : Bound) → Makes placer p lists image m c b → Makes other p lists image m c b
   makes_alike p lists image m c b is = record {
@@ -82,7 +82,7 @@ module _ (placer other : Placer) (alike : PlaceAlike placer other) where
     runs = is.runs;
     carries = is.carries;
     made_by = made_alike p lists m c is.made_by;
-    bound = is.bound;
+    bounded = is.bounded;
     few_stages = is.few_stages;
   }
 
@@ -170,8 +170,8 @@ was_made placer files name p lists g done h = by (refusal_by placer p) h
 no_more : (budget : ℕ) (p : Program) (lists : List (List Entry)) (made improved : Given) → WasMade ByRule p lists made → WasMade (ByTries budget) p lists improved
     → PrintNoMoreStages made.text improved.text
 no_more budget p lists made improved a b =
-    let places : a.map.places ≡ b.map.places = same_places p a.map.places b.map.places a.makes.made_by.places b.makes.made_by.places in
-    let bound : b.bound ≡ a.bound = b.makes.bound ∙ (ap (λ (l : List (List Lane)). stage_bound p (field_edges p l)) (sym places) ∙ sym a.makes.bound) in
+    let places : a.map.places ≡ b.map.places = same_places p a.map.places b.map.places a.makes.made_by.rules.places b.makes.made_by.rules.places in
+    let bound : b.bound ≡ a.bound = b.makes.bounded.bound ∙ (ap (λ (l : List (List Lane)). stage_bound p (field_edges p l)) (sym places) ∙ sym a.makes.bounded.bound) in
     let placed : placed_by ByRule p b.map.places ≡ Ok a.map.placement.parts = ap (placed_by ByRule p) (sym places) ∙ a.makes.made_by.placement in
     let few : length b.config.stages ≤ stages_in a.map.placement.parts = subst (λ (r : Result (List Part) Stuck). IfOk r (λ parts. length b.config.stages ≤ stages_in parts)) placed b.makes.few_stages in
     record {

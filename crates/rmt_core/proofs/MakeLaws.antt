@@ -6,7 +6,6 @@ use Rattle.rmt_bits.specs.declared.lane.Lane.{Lane}
 use Rattle.rmt_ast.specs.declared.deps.Edge.{Edge}
 use Rattle.rmt_core.specs.Types.{Program, Config}
 use Rattle.rmt_ast.specs.declared.entry.Entry.{Entry}
-use Rattle.rmt_ast.specs.Naming.{names_of}
 use Rattle.rmt_ast.specs.WellFormed.{IsProgram}
 use Rattle.rmt_bounds.specs.declared.bound.Bound.{Bound}
 use Rattle.rmt_bounds.specs.declared.bound.Proof.{Proof}
@@ -16,20 +15,16 @@ use Rattle.rmt_bounds.specs.Proofs.{Gives, IsChain}
 use Rattle.rmt_bounds.proofs.GivenLaws.{bound-given}
 use Rattle.rmt_check.specs.NamedTexts.{IsShortFor}
 use Rattle.rmt_config.specs.Form.{Formed}
-use Rattle.rmt_config.specs.Limits.{IsWithinLimits}
 use Rattle.rmt_config.specs.ImageSpelling.{spelled_image}
 use Rattle.rmt_deps.specs.Edges.{field_edges}
 use Rattle.rmt_deps.proofs.EdgeLaws.{go_forward}
-use Rattle.rmt_phv.specs.Packing.{packing}
-use Rattle.rmt_place.specs.Starting.{starts_of}
-use Rattle.rmt_ptcam.specs.Clustering.{clustered_or}
 use Rattle.rmt_refine.specs.declared.map.Map.{Map}
-use Rattle.rmt_refine.specs.Carries.{Carries, all_edges}
+use Rattle.rmt_refine.specs.Carries.{Carries}
 use Rattle.rmt_refine.specs.RunsAs.{RunsAs}
 use Rattle.rmt_build.specs.declared.built.Built.{Built}
 use Rattle.rmt_build.specs.declared.fault.NoFit.{NoFit}
 use Rattle.rmt_build.specs.declared.fault.NoFit.TheVariants as no_fit
-use Rattle.rmt_build.specs.Loads.{IsFirstSeed}
+use Rattle.rmt_build.specs.Promises.{IsBounded, IsConfigOf, IsLaidOut, KeepsRules}
 use Rattle.rmt_core.specs.declared.placer.Placer.{Placer}
 use Rattle.rmt_core.specs.Files.{Files}
 use Rattle.rmt_core.specs.Given.{stored}
@@ -80,29 +75,25 @@ pub is_built : (placer : Placer) (p : Program) (lists : List (List Entry)) (r : 
     → ((m : Map) (c : Config) → Carries p lists m c → Formed c → RunsAs p lists c)
     → IfOk r (λ b. refusal_by placer p ≡ None)
     → IfOk r (λ b. Carries p lists b.map b.config)
-    → IfOk r (λ b. Formed b.config)
-    → IfOk r (λ b. IsWithinLimits b.config)
-    → IfOk r (λ b. b.config.names ≡ Some (names_of p lists))
-    → IfOk r (λ b. packing p ≡ Ok b.map.places)
-    → IfOk r (λ b. clustered_or p b.map.places ≡ Ok b.config.parser)
+    → IfOk r (λ b. IsConfigOf p lists b.config)
+    → IfOk r (λ b. KeepsRules p lists b.map b.config)
     → IfOk r (λ b. placed_by placer p b.map.places ≡ Ok b.map.placement.parts)
-    → IfOk r (λ b. b.map.starts ≡ starts_of (all_edges p b.map.places) b.map.placement.parts)
-    → IfOk r (λ b. IsFirstSeed p lists b.map.placement.parts b.config.seed)
-    → IfOk r (λ b. b.bound ≡ stage_bound p (field_edges p b.map.places))
+    → IfOk r (λ b. IsLaidOut p lists b.map b.config)
+    → IfOk r (λ b. IsBounded p b.map b.bound)
     → IfOk r (IsBuilt placer p lists)
-is_built placer p lists (Err fault) program said brief runs none carries formed limits names places parser placement starts seed bound = tt
-is_built placer p lists (Ok b) program said brief runs none carries formed limits names places parser placement starts seed bound =
-    let made : IsMadeBy placer p lists b.map b.config = record { places = places; parser = parser; placement = placement; starts = starts; seed = seed } in
+is_built placer p lists (Err fault) program said brief runs none carries config rules placement layout bounded = tt
+is_built placer p lists (Ok b) program said brief runs none carries config rules placement layout bounded =
+    let made : IsMadeBy placer p lists b.map b.config = record { rules = rules; placement = placement; layout = layout } in
     record {
       no_refusal = none;
       makes = record {
-        spells = record { spelled = refl; formed = formed; limits = limits };
-        names = names;
-        short = image_is_short p lists b.map b.config program said brief carries formed limits names;
-        runs = runs b.map b.config carries formed;
+        spells = record { spelled = refl; formed = config.formed; limits = config.limits };
+        names = config.names;
+        short = image_is_short p lists b.map b.config program said brief carries config.formed config.limits config.names;
+        runs = runs b.map b.config carries config.formed;
         carries = carries;
         made_by = made;
-        bound = bound;
+        bounded = bounded;
         few_stages = few_stages placer p lists b.map b.config carries made;
       };
     }

@@ -36,6 +36,7 @@ use Rattle.rmt_refine.specs.Carries.{Carries, all_edges}
 use Rattle.rmt_build.specs.declared.built.Built.{Built}
 use Rattle.rmt_build.specs.declared.fault.NoFit.{NoFit}
 use Rattle.rmt_build.specs.Loads.{AreNotLoaded}
+use Rattle.rmt_build.specs.Promises.{KeepsRules}
 use Rattle.rmt_build.specs.declared.fault.NoFit.TheVariants as no_fit
 use Rattle.rmt_build.specs.Folds.{first_deep}
 use Rattle.rmt_build.specs.Refusals.{action_told, first_refusal, packed_told, parser_told, stuck_told}
@@ -57,11 +58,11 @@ same_placed placer p a b parts others e f x y =
     same_Ok parts others (sym x ∙ (ap (placed_by placer p) places ∙ y))
 
 -- what was built on a placement is placed so
-pub placed_so : (placer : Placer) (p : Program) (parts : List Part) → IsPlacedBy placer p parts → (r : Result Built NoFit) → IfOk r (λ b. packing p ≡ Ok b.map.places)
+pub placed_so : (placer : Placer) (p : Program) (lists : List (List Entry)) (parts : List Part) → IsPlacedBy placer p parts → (r : Result Built NoFit) → IfOk r (λ b. KeepsRules p lists b.map b.config)
     → IfOk r (λ b. b.map.placement.parts ≡ parts) → IfOk r (λ b. placed_by placer p b.map.places ≡ Ok b.map.placement.parts)
-placed_so placer p parts placed (Err fault) packed same = tt
-placed_so placer p parts placed (Ok b) packed same =
-    let places : b.map.places ≡ placed.places = same_Ok b.map.places placed.places (sym packed ∙ placed.packed) in
+placed_so placer p lists parts placed (Err fault) rules same = tt
+placed_so placer p lists parts placed (Ok b) rules same =
+    let places : b.map.places ≡ placed.places = same_Ok b.map.places placed.places (sym rules.places ∙ placed.packed) in
     ap (placed_by placer p) places ∙ (placed.placed ∙ ap Ok (sym same))
 
 -- and does not load on it
@@ -216,7 +217,7 @@ pub stages_are : (placer : Placer) (p : Program) (lists : List (List Entry)) (m 
     → length c.stages ≡ stages_in m.placement.parts
 stages_are placer p lists m c carries made =
     sym (length-map c.stages (λ (s : Stage). s.start))
-    ∙ (ap length (carries.units.starts_are ∙ made.starts) ∙ length-until (all_edges p m.places) m.placement.parts (stages_in m.placement.parts))
+    ∙ (ap length (carries.units.starts_are ∙ made.rules.starts) ∙ length-until (all_edges p m.places) m.placement.parts (stages_in m.placement.parts))
 
 pub few_stages : (placer : Placer) (p : Program) (lists : List (List Entry)) (m : Map) (c : Config) → Carries p lists m c → IsMadeBy placer p lists m c
     → HasFewStages p m.places c

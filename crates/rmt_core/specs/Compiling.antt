@@ -6,18 +6,14 @@ use Rattle.rmt_ast.specs.declared.entry.Entry.{Entry}
 use Rattle.rmt_ast.specs.Naming.{names_of}
 use Rattle.rmt_config.specs.Spells.{Spells}
 use Rattle.rmt_bounds.specs.declared.bound.Bound.{Bound}
-use Rattle.rmt_bounds.specs.Bounds.{stage_bound}
-use Rattle.rmt_deps.specs.Edges.{field_edges}
 use Rattle.rmt_pack.specs.declared.placement.Part.{Part}
-use Rattle.rmt_phv.specs.Packing.{packing}
-use Rattle.rmt_place.specs.Starting.{starts_of}
-use Rattle.rmt_ptcam.specs.Clustering.{clustered_or}
 use Rattle.rmt_refine.specs.declared.map.Map.{Map}
-use Rattle.rmt_refine.specs.Carries.{Carries, all_edges}
+use Rattle.rmt_refine.specs.Carries.{Carries}
 use Rattle.rmt_refine.specs.RunsAs.{RunsAs}
 use Rattle.rmt_build.specs.declared.fault.NoFit.{NoFit}
 use Rattle.rmt_build.specs.declared.fault.NoFit.TheVariants.{Load}
-use Rattle.rmt_build.specs.Loads.{AreNotLoaded, IsFirstSeed}
+use Rattle.rmt_build.specs.Loads.{AreNotLoaded}
+use Rattle.rmt_build.specs.Promises.{IsBounded, IsLaidOut, KeepsRules}
 use Rattle.rmt_core.specs.declared.placer.Placer.{Placer}
 use Rattle.rmt_core.specs.declared.placer.Placer.TheVariants.{ByRule, ByTries}
 use Rattle.rmt_core.specs.declared.status.Status.TheVariants as status
@@ -28,19 +24,17 @@ use Rattle.rmt_core.specs.Texts.{Understands}
 use Rattle.rmt_core.specs.NoFitText.{no_fit_line}
 use Rattle.rmt_core.specs.CompileText.{compile_text}
 
--- Fields are packed, frames parsed and stages started by their rules, nodes are placed so, and exact tables are loaded under the
--- first seed that serves.
+-- Fields are packed, frames parsed, stages started and exact tables loaded by their rules, nodes are placed so, and memories, blocks, rows
+-- and the map's cells are as the rules say.
 pub record IsMadeBy (placer : Placer) (p : Program) (lists : List (List Entry)) (m : Map) (c : Config) : Type 0 where
-  pub places : packing p ≡ Ok m.places
-  pub parser : clustered_or p m.places ≡ Ok c.parser
+  pub rules : KeepsRules p lists m c
   pub placement : placed_by placer p m.places ≡ Ok m.placement.parts
-  pub starts : m.starts ≡ starts_of (all_edges p m.places) m.placement.parts
-  pub seed : IsFirstSeed p lists m.placement.parts c.seed
+  pub layout : IsLaidOut p lists m c
 
 -- The image spells one configuration within every limit, with the names of the program and its entries. As the map
 -- tells, it carries the program with its entries and is made so; and for every list of packets its chip run gives the
--- verdicts, bytes and counters of the plain run. The bound is that of the program, and there are never more stages than by
--- the rule.
+-- verdicts, bytes and counters of the plain run. Its placement is legal, the bound is that of the program, no legal placement
+-- uses fewer stages than it, and there are never more stages than by the rule.
 pub record Makes (placer : Placer) (p : Program) (lists : List (List Entry)) (image : List ℕ) (m : Map) (c : Config) (b : Bound) : Type 0 where
   pub spells : Spells image c
   pub names : c.names ≡ Some (names_of p lists)
@@ -48,7 +42,7 @@ pub record Makes (placer : Placer) (p : Program) (lists : List (List Entry)) (im
   pub runs : RunsAs p lists c
   pub carries : Carries p lists m c
   pub made_by : IsMadeBy placer p lists m c
-  pub bound : b ≡ stage_bound p (field_edges p m.places)
+  pub bounded : IsBounded p m b
   pub few_stages : HasFewStages p m.places c
 
 -- under each seed some exact table has entries that have fewer cells than they are: the line names the first such table of the last seed

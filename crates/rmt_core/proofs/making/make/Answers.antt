@@ -10,7 +10,7 @@ pub made_of-requires-clause-limits : goal.made_of-requires-clause-limits
 made_of-requires-clause-limits c = c.in-Ok.ensures.built.makes.spells.limits
 
 pub made_of-requires-clause-nodes : goal.made_of-requires-clause-nodes
-made_of-requires-clause-nodes c = are_nodes c.args.program.now c.in-Ok.built.map.places c.in-Ok.built.bound c.requires.program c.in-Ok.ensures.built.makes.bound
+made_of-requires-clause-nodes c = are_nodes c.args.program.now c.in-Ok.built.map.places c.in-Ok.built.bound c.requires.program c.in-Ok.ensures.built.makes.bounded.bound
 
 pub returns-in-Ok-clause-made : goal.returns-in-Ok-clause-made
 returns-in-Ok-clause-made c =

@@ -24,7 +24,7 @@ returns-clause-built c =
     is_built ByRule p lists c.build.result c.requires.program said (c.one_meaning.ensures.short said.text p said.means)
     (λ m config carries formed. c.packet_lists.ensures p lists m config (visible_with config.names) c.requires.program c.requires.entries carries formed.whole.memory)
     (not_refused (first_refusal p) c.build.result b.refused)
-    b.carries b.formed b.limits b.names b.places b.parser b.placement b.starts b.seed b.bound
+    b.carries b.config b.rules b.placement b.layout b.bounded
 
 cause : (c : After-build) (fault : NoFit) → c.build.result ≡ Err fault → HasCause ByRule c.args.program.now c.args.entries.now fault
 cause c no_fit.NoMemory e = tt

@@ -67,9 +67,7 @@ returns-clause-built c =
     is_built placer p lists c.build_from.result c.requires.program said (c.one_meaning.ensures.short said.text p said.means)
     (λ m config carries formed. c.packet_lists.ensures p lists m config (visible_with config.names) c.requires.program c.requires.entries carries formed.whole.memory)
     (not_refused (refusal_by placer p) c.build_from.result (refused here))
-    b.carries b.formed b.limits b.names b.places b.parser
-    (placed_so placer p c.args.placement.now.parts c.requires.placed c.build_from.result b.places b.placement)
-    b.starts b.seed b.bound
+    b.carries b.config b.rules (placed_so placer p lists c.args.placement.now.parts c.requires.placed c.build_from.result b.rules b.placement) b.layout b.bounded
 
 pub returns-clause-refused : goal.returns-clause-refused
 returns-clause-refused c =
