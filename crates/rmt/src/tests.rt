@@ -6,6 +6,7 @@ mod example_texts;
 mod examples;
 mod faults;
 mod hostile;
+mod improved;
 mod messages;
 mod probed;
 mod programs;

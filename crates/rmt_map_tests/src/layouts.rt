@@ -11,8 +11,8 @@ ghost use Rattle.std.specs.Prelude.{length};
 pub(crate) mod programs;
 
 use crate::layouts::programs::{
-    ARMS, CROSSBAR, LARGE_TABLES, NO_NODE, SHARED, SIXTEEN_AND_ONE, SMALLEST, SPLIT_TERNARY,
-    STRICT_AND_WEAK, TWO_FIELDS_ONE_WORD,
+    ARMS, CROSSBAR, LARGE_TABLES, NO_NODE, SHARED, SIXES_BEFORE_FIVES, SIXTEEN_AND_ONE,
+    SMALL_BEFORE_WIDE, SMALLEST, SPLIT_TERNARY, STRICT_AND_WEAK, TWO_FIELDS_ONE_WORD,
 };
 use rmt_ast::deps::{Deps, Edge, EdgeKind};
 use rmt_ast::program::Program;
@@ -428,6 +428,91 @@ fn no_order(rt: HostRuntime) -> Result<(), Fail> {
         long.as_slice(),
         "stuck 32 32:1:32:1\n",
     );
+    Ok(())
+}
+
+/// Programs with numbers of tries, and what is told of the best: the fewest stages over all good orders come only with the
+/// try that takes wide tables first, or with one that exchanges the second and the third table.
+const ORDERS: [(&[u8], u32, &str); 6] = [
+    (
+        SMALL_BEFORE_WIDE,
+        1,
+        "parts 0@0*1 1@0*1 2@0*1 3@1*1 4@2*1 5@3*1\nstarts 0 1 2 3\n",
+    ),
+    (
+        SMALL_BEFORE_WIDE,
+        2,
+        "parts 0@0*1 1@0*1 2@0*1 3@1*1 4@2*1 5@3*1\nstarts 0 1 2 3\n",
+    ),
+    (
+        SMALL_BEFORE_WIDE,
+        3,
+        "parts 3@0*1 4@1*1 5@2*1 0@0*1 1@1*1 2@2*1\nstarts 0 1 2\n",
+    ),
+    (
+        SIXES_BEFORE_FIVES,
+        4,
+        "parts 0@0*1 1@0*1 2@1*1 3@1*1 4@1*1 5@2*1\nstarts 0 1 2\n",
+    ),
+    (
+        SIXES_BEFORE_FIVES,
+        5,
+        "parts 0@0*1 2@0*1 1@1*1 3@0*1 4@1*1 5@1*1\nstarts 0 1\n",
+    ),
+    (
+        SIXES_BEFORE_FIVES,
+        1000,
+        "parts 0@0*1 2@0*1 1@1*1 3@0*1 4@1*1 5@1*1\nstarts 0 1\n",
+    ),
+];
+
+#[test]
+fn better_orders(rt: HostRuntime) {
+    for (text, budget, wanted) in ORDERS {
+        compare(&rt, What::Better { budget }, text, wanted);
+    }
+}
+
+/// Sixteen tables that fill a stage, and behind them 32 that depend on one another.
+fn full_chain_behind_sixteen(alloc: Global) -> Result<Vec<u8>, AllocError> {
+    let fields = repeated(
+        alloc,
+        b"header h { f : 8; } next accept; meta { x : 8; ",
+        b"m# : 8; ",
+        16,
+        b"} action inc() { meta.x = meta.x + 1; } ",
+    )?;
+    let first = repeated(
+        alloc,
+        fields.as_slice(),
+        b"action s#() { meta.m# = 1; } table a# { default s#(); } ",
+        16,
+        b"",
+    )?;
+    let tables = repeated(
+        alloc,
+        first.as_slice(),
+        b"table t# { default inc(); } ",
+        32,
+        b"control { ",
+    )?;
+    let applied = repeated(alloc, tables.as_slice(), b"apply a#; ", 16, b"")?;
+    repeated(alloc, applied.as_slice(), b"apply t#; ", 32, b"}")
+}
+
+/// The rule is stuck where it fills the first stage before the long chain begins; the second try is not.
+#[test]
+fn stuck_by_the_rule_alone(rt: HostRuntime) -> Result<(), Fail> {
+    let text = full_chain_behind_sixteen(rt.alloc())?;
+    for (budget, wanted) in [
+        (1, "stuck 47 32:1:32:1\n"),
+        (
+            2,
+            "parts 16@0*1 17@1*1 18@2*1 19@3*1 20@4*1 21@5*1 22@6*1 23@7*1 24@8*1 25@9*1 26@10*1 27@11*1 28@12*1 29@13*1 30@14*1 31@15*1 32@16*1 33@17*1 34@18*1 35@19*1 36@20*1 37@21*1 38@22*1 39@23*1 40@24*1 41@25*1 42@26*1 43@27*1 44@28*1 45@29*1 46@30*1 0@0*1 1@0*1 2@0*1 3@0*1 4@0*1 5@0*1 6@0*1 7@0*1 8@0*1 9@0*1 10@0*1 11@0*1 12@0*1 13@0*1 14@0*1 15@1*1 47@31*1\nstarts 0 3 6 9 12 15 18 21 24 27 30 33 36 39 42 45 48 51 54 57 60 63 66 69 72 75 78 81 84 87 90 93\n",
+        ),
+    ] {
+        compare(&rt, What::Better { budget }, text.as_slice(), wanted);
+    }
     Ok(())
 }
 

@@ -36,9 +36,16 @@ struct Row<'a> {
 }
 
 /// Every command that stands, in the order of the help.
-const ROWS: [Row<'static>; 6] = [
+const ROWS: [Row<'static>; 7] = [
     Row {
         words: &["compile", "p", "e", "o"],
+        shelf_calls: 3,
+        quiet: 3,
+        writes: 3,
+        sink_calls: 7,
+    },
+    Row {
+        words: &["improve", "p", "e", "o", "3"],
         shelf_calls: 3,
         quiet: 3,
         writes: 3,

@@ -141,6 +141,26 @@ pub fn chain(alloc: Global, count: u32) -> Result<String, AllocError> {
     format!(in alloc; "{tables}{applied}}}\n")
 }
 
+/// A program of 16 tables that fill a stage, and behind them two of which the second reads what the first wrote: in the
+/// order of their levels they take a stage each.
+pub fn better_order(alloc: Global) -> Result<String, AllocError> {
+    let mut fields = String::from_str(alloc, "header h { f : 8; } next accept;\nmeta { ")?;
+    let mut tables = String::from_str(
+        alloc,
+        "action set_x() { meta.x = 1; }\naction set_w() { meta.w = meta.x; }\n",
+    )?;
+    let mut applied = String::from_str(alloc, "control { ")?;
+    for i in 1..17u32 {
+        fields.push_str(format!(in alloc; "m{i} : 8; ")?.as_str())?;
+        tables.push_str(format!(in alloc;
+            "action set{i}() {{ meta.m{i} = 1; }}\ntable a{i} {{ default set{i}(); }}\n"
+        )?.as_str())?;
+        applied.push_str(format!(in alloc; "apply a{i}; ")?.as_str())?;
+    }
+    let last = "table z { default set_x(); }\ntable y { default set_w(); }\n";
+    format!(in alloc; "{fields}x : 8; w : 8; }}\n{tables}{last}{applied}apply z; apply y; }}\n")
+}
+
 /// A program with so many fields of metadata, `m0` and so on, of 32 bits.
 pub fn wide(alloc: Global, count: u32) -> Result<String, AllocError> {
     let mut program = String::from_str(alloc, "header h { f : 8; } next accept;\nmeta { ")?;

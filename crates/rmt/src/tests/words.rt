@@ -11,6 +11,35 @@ fn words_and_files(rt: HostRuntime) -> Result<(), Fail> {
     for (line, status) in [
         (["compile", "p", "e", ""].as_slice(), Status::Done),
         (["plain", "p", "e", "e"].as_slice(), Status::Done),
+        (["improve", "p", "e", "i", "1"].as_slice(), Status::Done),
+        (["improve", "p", "e", "i", "0001"].as_slice(), Status::Done),
+        (["improve", "p", "e", "i", "1000"].as_slice(), Status::Done),
+        (["improve", "p", "e", "i", "0"].as_slice(), Status::Usage),
+        (["improve", "p", "e", "i", "1001"].as_slice(), Status::Usage),
+        (
+            ["improve", "p", "e", "i", "00001"].as_slice(),
+            Status::Usage,
+        ),
+        (["improve", "p", "e", "i", ""].as_slice(), Status::Usage),
+        (["improve", "p", "e", "i", "x"].as_slice(), Status::Usage),
+        (["improve", "p", "e", "i"].as_slice(), Status::Usage),
+        (["compile", "p", "e", "i", "1"].as_slice(), Status::Usage),
+        (
+            ["improve", "a", "e", "i", "1"].as_slice(),
+            Status::ReadFault,
+        ),
+        (
+            ["improve", "p", "a", "i", "1"].as_slice(),
+            Status::ReadFault,
+        ),
+        (
+            ["improve", "e", "p", "i", "1"].as_slice(),
+            Status::BadProgram,
+        ),
+        (
+            ["improve", "p", "p", "i", "1"].as_slice(),
+            Status::BadEntries,
+        ),
         (["compile", "a", "b"].as_slice(), Status::Usage),
         (["sim", "i"].as_slice(), Status::Usage),
         (["plain", "p", "e"].as_slice(), Status::Usage),

@@ -85,6 +85,32 @@ table t { exact k1.a, k1.b, k1.c, k1.d, k2.e, k2.f, k2.g, k2.i, k2.j; actions no
 control { apply t; }
 ";
 
+/// Three tables of 4 TCAM blocks, and three of 12: a small and a wide one fill a stage, so 3 stages are the fewest.
+pub const SMALL_BEFORE_WIDE: &[u8] = b"
+header h { a : 128; b : 128; c : 128; d : 96; e : 32; } next accept;
+action no() { }
+table s1 { ternary h.a, h.e; actions no; size 16; default no(); }
+table s2 { ternary h.a, h.e; actions no; size 16; default no(); }
+table s3 { ternary h.a, h.e; actions no; size 16; default no(); }
+table w1 { ternary h.a, h.b, h.c, h.d; actions no; size 16; default no(); }
+table w2 { ternary h.a, h.b, h.c, h.d; actions no; size 16; default no(); }
+table w3 { ternary h.a, h.b, h.c, h.d; actions no; size 16; default no(); }
+control { apply s1; apply s2; apply s3; apply w1; apply w2; apply w3; }
+";
+
+/// Two tables of 6 TCAM blocks, and four of 5: one of 6 and two of 5 fill a stage, so 2 stages are the fewest.
+pub const SIXES_BEFORE_FIVES: &[u8] = b"
+header h { a : 128; b : 72; c : 40; } next accept;
+action no() { }
+table p1 { ternary h.a, h.b, h.c; actions no; size 16; default no(); }
+table p2 { ternary h.a, h.b, h.c; actions no; size 16; default no(); }
+table q1 { ternary h.a, h.b; actions no; size 16; default no(); }
+table q2 { ternary h.a, h.b; actions no; size 16; default no(); }
+table q3 { ternary h.a, h.b; actions no; size 16; default no(); }
+table q4 { ternary h.a, h.b; actions no; size 16; default no(); }
+control { apply p1; apply p2; apply q1; apply q2; apply q3; apply q4; }
+";
+
 /// A stage has 16 slots.
 pub const SIXTEEN_AND_ONE: &[u8] = b"
 header h { f : 8; } next accept;

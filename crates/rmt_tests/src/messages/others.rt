@@ -35,7 +35,7 @@ const NOTHING: Row = Row {
 
 const COMPILE: &[&str] = &["compile", "p", "e", "i"];
 
-static OTHERS: [Row; 45] = [
+static OTHERS: [Row; 46] = [
     Row {
         words: &[],
         status: 1,
@@ -82,6 +82,13 @@ static OTHERS: [Row; 45] = [
         words: &["probe", "i", "k", "z"],
         status: 1,
         wanted: "rmt: word 4, `z`, is no CYCLE: 1 to 9 decimal digits are wanted
+",
+        ..NOTHING
+    },
+    Row {
+        words: &["improve", "p", "e", "i", "0"],
+        status: 1,
+        wanted: "rmt: word 5, `0`, is no BUDGET: a number from 1 to 1,000 is wanted, in decimal digits
 ",
         ..NOTHING
     },
@@ -536,7 +543,8 @@ t 0x270000000000 no
 
 /// What the whole help says behind the forms of the commands.
 const NOTES: &str =
-    "A file name is any word. CYCLE is 1 to 9 decimal digits; N is a number from 1 to 100,000.
+    "A file name is any word. BUDGET is a number from 1 to 1,000, CYCLE 1 to 9 decimal digits, and
+N a number from 1 to 100,000.
 A program has at most 1,048,576 bytes, an entry text 67,108,864, an image 268,435,456,
 a packet text 1,099,511,627,776.
 
