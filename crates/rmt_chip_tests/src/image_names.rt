@@ -1,9 +1,9 @@
 //! Images of version 2: each rule on names broken once, and what just keeps it.
 
-use rmt_tests::fixtures::images::IMAGE;
 use crate::image_rules::{GATED, STRICT_AND_WEAK, spliced};
 use crate::images::read;
 use rmt_image::{read_image, write_image};
+use rmt_tests::fixtures::images::IMAGE;
 use std::alloc::{AllocError, Global};
 use std::test::*;
 

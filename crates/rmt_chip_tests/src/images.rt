@@ -1,6 +1,6 @@
-use rmt_tests::fixtures::images::IMAGE;
 use rmt_config::config::Config;
 use rmt_image::{ImageFault, read_image};
+use rmt_tests::fixtures::images::IMAGE;
 use std::alloc::{AllocError, Global};
 use std::test::*;
 

@@ -1,9 +1,9 @@
 //! Reports of images, byte by byte.
 
-use rmt_tests::fixtures::images::IMAGE;
 use crate::image_rules::{GATED, STRICT_AND_WEAK, WITHOUT_ENTRIES};
 use rmt_image::read_image;
 use rmt_report::report;
+use rmt_tests::fixtures::images::IMAGE;
 use std::alloc::Global;
 use std::test::*;
 
