@@ -34,9 +34,13 @@ pub mod PacketLaws
 pub mod RefinedLaws
 mod VisibleBitLaws
 mod PlacedLaws
+mod RoomLaws
+mod ContentLaws
 mod UnseenLaws
 mod SameCellLaws
 mod OneStateLaws
+mod EntryLaws
+mod KeptLaws
 mod RefinedExamples
 mod Examples
 mod TwoStages

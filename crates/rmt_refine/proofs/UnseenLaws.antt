@@ -17,10 +17,10 @@ use Rattle.rmt_config.specs.Cells.{Content, candidates, code_of, is_occupied, vi
 use Rattle.rmt_config.specs.declared.cell_write.CellWrite.{CellWrite}
 use Rattle.rmt_config.specs.RunCells.{RunCells, emptied, found_at, found_in_slot, has_bit, is_changed, is_hit, look_in, no_content, sees, slot_at, with_write, written_content}
 use Rattle.rmt_config.specs.Rooms.{content_in, entry_content, is_at, number_in}
-use Rattle.rmt_config.specs.Commits.{AreWrites, IsCell, Placed, coming_content, leaving_content, placed_after, placed_at, settled, settled_content, settled_number, stays, staying_content, with_bit, without_bit, writes_before}
+use Rattle.rmt_config.specs.Commits.{all_entries, AreWrites, IsCell, Placed, coming_content, leaving_content, placed_after, placed_at, settled, settled_content, settled_number, stays, staying_content, with_bit, without_bit, writes_before}
 use Rattle.rmt_refine.specs.Commits.{ChangesAreUnseen}
 use Rattle.rmt_refine.proofs.VisibleBitLaws.{AreSeenAlike, clear-alike, set-alike, unseen_coming, unseen_without}
-use Rattle.rmt_refine.proofs.PlacedLaws.{HasItsRoom, each_has_its_room}
+use Rattle.rmt_refine.proofs.PlacedLaws.{Comes, HasItsRoom, Stays, each_has_its_room}
 
 -- ---- cells that a packet sees alike
 
@@ -114,15 +114,18 @@ module _ (c : Config) (names : Names) (cells : RunCells) (before after : List (L
           let head = 1 + 2 * 2 ^ ((cells.version + 1) % 2) + 8 * (p.room.part.first + p.entry.action) in
           and_right (is_occupied head) (has_bit cells.version head) (unseen_coming cells.version (p.room.part.first + p.entry.action))
 
-  placed_alike : (p : Placed) → is_at k place n p.room ≡ true → HasItsRoom c names cells before p
+  placed_alike : (p : Placed) → is_at k place n p.room ≡ true → HasItsRoom c names cells before (all_entries after) p
       → Becomes (settled_content c names cells before (Some p) k place n) (settled_number cells (Some p) k place n)
-  placed_alike p at (inl x) =
-      subst (λ b. Becomes (cond b (staying_content (cells.version + 1) now) (coming_content names (cells.version + 1) p)) p.entry.number) (sym x.0)
-      (alike_head cells.version now (with_bit (cells.version + 1) now.head) (cells.number k place n) p.entry.number (set-alike cells.version now.head) (λ met. sym (number_there p at) ∙ x.1))
-  placed_alike p at (inr x) =
-      let unseen = and_right (is_occupied now.head) (has_bit cells.version now.head) (ap (λ (y : Content). has_bit cells.version y.head) (sym (content_there p at)) ∙ x.1) in
-      subst (λ b. Becomes (cond b (staying_content (cells.version + 1) now) (coming_content names (cells.version + 1) p)) p.entry.number) (sym x.0)
-      (alike_unseen cells.version now (coming_content names (cells.version + 1) p) (cells.number k place n) p.entry.number unseen (coming_unseen p))
+  placed_alike p at has = by has.kept
+    where
+      by : Stays c names cells before p ⊎ Comes c names cells before p → Becomes (settled_content c names cells before (Some p) k place n) (settled_number cells (Some p) k place n)
+      by (inl x) =
+          subst (λ b. Becomes (cond b (staying_content (cells.version + 1) now) (coming_content names (cells.version + 1) p)) p.entry.number) (sym x.stood)
+          (alike_head cells.version now (with_bit (cells.version + 1) now.head) (cells.number k place n) p.entry.number (set-alike cells.version now.head) (λ met. sym (number_there p at) ∙ x.number))
+      by (inr x) =
+          let unseen = and_right (is_occupied now.head) (has_bit cells.version now.head) (ap (λ (y : Content). has_bit cells.version y.head) (sym (content_there p at)) ∙ x.unseen) in
+          subst (λ b. Becomes (cond b (staying_content (cells.version + 1) now) (coming_content names (cells.version + 1) p)) p.entry.number) (sym x.new)
+          (alike_unseen cells.version now (coming_content names (cells.version + 1) p) (cells.number k place n) p.entry.number unseen (coming_unseen p))
 
   abbrev cleared : ℕ
   cleared = without_bit (cells.version + 1) now.head
@@ -172,7 +175,7 @@ module _ (c : Config) (names : Names) (cells : RunCells) (before after : List (L
       by None e = none_alike
       by (Some p) e =
           placed_alike p (find-passes (λ (q : Placed). is_at k place n q.room) placed p e)
-          (All-find (HasItsRoom c names cells before) (λ (q : Placed). is_at k place n q.room) placed p (each_has_its_room c names cells before after placed made) e)
+          (All-find (HasItsRoom c names cells before (all_entries after)) (λ (q : Placed). is_at k place n q.room) placed p (each_has_its_room c names cells before after placed made) e)
 
 -- ---- some of the changes
 

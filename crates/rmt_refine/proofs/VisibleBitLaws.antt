@@ -1,8 +1,8 @@
 -- Heads of cells of which one visible bit is set or cleared: the other one, and all else, stays.
-use Rattle.std.proofs.Common.{◌≡◌, ◌⊎◌, ℕ, ◌+◌, ◌-◌, ◌*◌, ◌/◌, ◌%◌, ◌^◌, ◌==◌, Bool, true, false, cond, refl, sym, ap, subst, inl, inr, arith}
-use Rattle.std.proofs.lemmas.Bool.{cases_eq, eqb-false, eqb-true, ne_eqb}
+use Rattle.std.proofs.Common.{◌≡◌, ◌⊎◌, ℕ, ◌+◌, ◌-◌, ◌*◌, ◌/◌, ◌%◌, ◌^◌, ◌<◌, ◌==◌, ◌&&◌, Bool, true, false, cond, refl, sym, ap, subst, ◌∙◌, inl, inr, arith}
+use Rattle.std.proofs.lemmas.Bool.{and_from, and_parts, and_right, cases_eq, eq-eqb, eqb-false, eqb-true, ne_eqb}
 use Rattle.rmt_config.specs.Cells.{code_of, is_occupied, visible_bits}
-use Rattle.rmt_config.specs.RunCells.{has_bit}
+use Rattle.rmt_config.specs.RunCells.{has_bit, sees}
 use Rattle.rmt_config.specs.Commits.{with_bit, without_bit}
 
 -- the visible bit of a parity
@@ -104,3 +104,56 @@ unseen_coming v i =
     at_parities (λ m n. bit m (1 + 2 * 2 ^ n + 8 * i) ≡ false) v
     (ne_eqb ((1 + 2 * 2 + 8 * i) / 2 % 2) 1 (λ e. omega (arith, e)))
     (ne_eqb ((1 + 2 * 1 + 8 * i) / 4 % 2) 1 (λ e. omega (arith, e)))
+
+-- ---- what the next version sees
+
+bit_set_zero : (h : ℕ) → bit 0 (cond (bit 0 h) h (h + 2)) ≡ true
+bit_set_zero h = by (bit 0 h) refl
+  where
+    by : (b : Bool) → bit 0 h ≡ b → bit 0 (cond b h (h + 2)) ≡ true
+    by true e = e
+    by false e = let none = eqb-false (h / 2 % 2) 1 e in eq-eqb ((h + 2) / 2 % 2) 1 (omega (arith, none))
+
+bit_set_one : (h : ℕ) → bit 1 (cond (bit 1 h) h (h + 4)) ≡ true
+bit_set_one h = by (bit 1 h) refl
+  where
+    by : (b : Bool) → bit 1 h ≡ b → bit 1 (cond b h (h + 4)) ≡ true
+    by true e = e
+    by false e = let none = eqb-false (h / 4 % 2) 1 e in eq-eqb ((h + 4) / 4 % 2) 1 (omega (arith, none))
+
+bit_clear_zero : (h : ℕ) → bit 0 (cond (bit 0 h) (h - 2) h) ≡ false
+bit_clear_zero h = by (bit 0 h) refl
+  where
+    by : (b : Bool) → bit 0 h ≡ b → bit 0 (cond b (h - 2) h) ≡ false
+    by false e = e
+    by true e = let some = eqb-true (h / 2 % 2) 1 e in ne_eqb ((h - 2) / 2 % 2) 1 (λ f. omega (arith, some, f))
+
+bit_clear_one : (h : ℕ) → bit 1 (cond (bit 1 h) (h - 4) h) ≡ false
+bit_clear_one h = by (bit 1 h) refl
+  where
+    by : (b : Bool) → bit 1 h ≡ b → bit 1 (cond b (h - 4) h) ≡ false
+    by false e = e
+    by true e = let some = eqb-true (h / 4 % 2) 1 e in ne_eqb ((h - 4) / 4 % 2) 1 (λ f. omega (arith, some, f))
+
+-- a cell that keeps its entry is seen by the next version too
+pub seen_next : (v h : ℕ) → sees true v h ≡ true → sees true (v + 1) (with_bit (v + 1) h) ≡ true
+seen_next v h seen =
+    let occupied = (and_parts (is_occupied h) (has_bit v h) seen).0 in
+    and_from (is_occupied (with_bit (v + 1) h)) (has_bit (v + 1) (with_bit (v + 1) h)) (sym (set-alike v h).occupied ∙ occupied)
+    (at_parities (λ m n. bit n (cond (bit n h) h (h + 2 ^ (1 + n))) ≡ true) v (bit_set_one h) (bit_set_zero h))
+
+-- one that loses it isn't
+pub unseen_next : (v h : ℕ) → sees true (v + 1) (without_bit (v + 1) h) ≡ false
+unseen_next v h =
+    and_right (is_occupied (without_bit (v + 1) h)) (has_bit (v + 1) (without_bit (v + 1) h))
+    (at_parities (λ m n. bit n (cond (bit n h) (h - 2 ^ (1 + n)) h) ≡ false) v (bit_clear_one h) (bit_clear_zero h))
+
+-- the head of an entry that comes is seen, with its code
+pub seen_coming : (v i : ℕ) → i < 32 → (sees true (v + 1) (1 + 2 * 2 ^ ((v + 1) % 2) + 8 * i) ≡ true) × (code_of (1 + 2 * 2 ^ ((v + 1) % 2) + 8 * i) ≡ i)
+seen_coming v i lt =
+    at_parities (λ m n. (is_occupied (1 + 2 * 2 ^ n + 8 * i) && bit n (1 + 2 * 2 ^ n + 8 * i) ≡ true) × (code_of (1 + 2 * 2 ^ n + 8 * i) ≡ i)) v
+    (and_from (is_occupied (1 + 2 * 2 + 8 * i)) (bit 1 (1 + 2 * 2 + 8 * i)) (eq-eqb ((1 + 2 * 2 + 8 * i) % 2) 1 (omega arith)) (eq-eqb ((1 + 2 * 2 + 8 * i) / 4 % 2) 1 (omega arith)), code (1 + 2 * 2) (omega arith))
+    (and_from (is_occupied (1 + 2 * 1 + 8 * i)) (bit 0 (1 + 2 * 1 + 8 * i)) (eq-eqb ((1 + 2 * 1 + 8 * i) % 2) 1 (omega arith)) (eq-eqb ((1 + 2 * 1 + 8 * i) / 2 % 2) 1 (omega arith)), code (1 + 2 * 1) (omega arith))
+  where
+    code : (low : ℕ) → low < 8 → (low + 8 * i) / 8 % 32 ≡ i
+    code low few = omega (arith, few, lt)

@@ -1,6 +1,6 @@
 //! What holds of every configuration that carries a program.
 
-ghost use Rattle.rmt_refine.specs.Commits.{ChangesAreUnseen, PacketsSeeOneState};
+ghost use Rattle.rmt_refine.specs.Commits.{ChangesAreUnseen, CommitsKeepEntries, PacketsSeeOneState};
 ghost use Rattle.rmt_refine.specs.Laws.{ListsAreAnswered, LookUpsFindHits, OwnLooksAreInItsView, PacketsAreAnswered};
 
 /// Look-ups made in a configuration's own view are those that the chip makes: in its own cells, under its own seed.
@@ -42,4 +42,12 @@ pub fn unseen_changes()
 /// cells are changed, and versions made, while it is in flight: each of its look-ups finds what it would find in that cycle.
 pub fn one_state()
     ensures { PacketsSeeOneState }
+{}
+
+/// A commit that moves no cell turns cells in which a packet of the current version sees just the entries before the
+/// commit into cells in which a packet of the next version sees just those after it: each entry stands in one cell,
+/// where its key is looked for, and an entry that goes before another stands before it. Entries that stay are those that
+/// they were, and the names tell what the program asks of its tables.
+pub fn kept_entries()
+    ensures { CommitsKeepEntries }
 {}
