@@ -53,5 +53,6 @@ mod ParserExamples
 mod FormExamples
 mod CarriedExamples
 mod BrokenExamples
+mod SeenByExamples
 mod OutcomeExamples
 mod ListExamples
