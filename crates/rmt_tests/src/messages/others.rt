@@ -6,6 +6,7 @@ use rmt_explain::ending::{Ending, Texts};
 use rmt_explain::explain;
 use std::alloc::{AllocError, Global};
 use std::io::ErrorKind;
+use std::process::Abort;
 use std::test::*;
 
 /// How a call ended, the texts that can be read again, and its message.
@@ -35,7 +36,8 @@ const NOTHING: Row = Row {
 
 const COMPILE: &[&str] = &["compile", "p", "e", "i"];
 
-static OTHERS: [Row; 46] = [
+/// Words that are no command, and files that can't be read or written.
+const CALLS: [Row; 17] = [
     Row {
         words: &[],
         status: 1,
@@ -160,6 +162,10 @@ static OTHERS: [Row; 46] = [
 ",
         ..NOTHING
     },
+];
+
+/// Images that are none, limits that are passed, and want of memory.
+const IMAGES: [Row; 11] = [
     Row {
         words: &["sim", "i", "k"],
         status: 7,
@@ -249,6 +255,10 @@ static OTHERS: [Row; 46] = [
 ",
         ..NOTHING
     },
+];
+
+/// Packet texts.
+const PACKETS: [Row; 8] = [
     Row {
         words: &["sim", "i", "k"],
         status: 8,
@@ -339,6 +349,10 @@ static OTHERS: [Row; 46] = [
 ",
         ..NOTHING
     },
+];
+
+/// Programs that don't fit.
+const NO_FIT: [Row; 10] = [
     Row {
         words: COMPILE,
         status: 6,
@@ -609,15 +623,34 @@ fn told(alloc: Global, row: &Row) -> Result<Vec<u8>, AllocError> {
     }
 }
 
-#[test]
-fn other_endings(rt: HostRuntime) -> Result<(), Fail> {
+/// Compares the message of each row.
+fn compares(rt: &(impl Abort + AllocGlobal), rows: &[Row]) {
     let alloc = rt.alloc();
-    for row in OTHERS.iter() {
-        let told = told(alloc, row)?;
-        let wanted = wanted(alloc, row)?;
+    for row in rows {
+        let told = told(alloc, row).expect(rt, "memory");
+        let wanted = wanted(alloc, row).expect(rt, "memory");
         assert!(rt; told.as_slice() == wanted.as_bytes(), "{wanted}: {told:?}");
     }
-    Ok(())
+}
+
+#[test]
+fn calls_and_files(rt: HostRuntime) {
+    compares(&rt, &CALLS);
+}
+
+#[test]
+fn images_and_limits(rt: HostRuntime) {
+    compares(&rt, &IMAGES);
+}
+
+#[test]
+fn packet_texts(rt: HostRuntime) {
+    compares(&rt, &PACKETS);
+}
+
+#[test]
+fn programs_that_do_not_fit(rt: HostRuntime) {
+    compares(&rt, &NO_FIT);
 }
 
 #[test]

@@ -5,6 +5,7 @@ use rmt_check::read_program;
 use rmt_explain::ending::Texts;
 use rmt_lexer::fault::ProgramFault;
 use std::alloc::{AllocError, Global};
+use std::process::Abort;
 use std::test::*;
 
 /// The last line that is printed for a program text.
@@ -21,7 +22,25 @@ fn program_line(alloc: Global, text: &[u8]) -> Result<String, AllocError> {
 }
 
 /// A program's text, and its message.
-static PROGRAMS: [(&str, &str); 64] = [
+type Row = (&'static str, &'static str);
+
+/// Compares the message of each row's program.
+fn compares(rt: &(impl Abort + AllocGlobal), rows: &[Row]) {
+    let alloc = rt.alloc();
+    for (text, wanted) in rows {
+        let line = program_line(alloc, text.as_bytes()).expect(rt, "memory");
+        let texts = Texts {
+            program: Some(text.as_bytes()),
+            ..Texts::none()
+        };
+        let words = ["compile", "p", "e", "i"];
+        let told = message(alloc, &words, 4, line.as_str(), &texts).expect(rt, "memory");
+        assert!(rt; told.as_slice() == wanted.as_bytes(), "{text}: {told:?}");
+    }
+}
+
+/// Bytes and words that the language doesn't have, and numbers that are too great.
+const WORDS: [Row; 10] = [
     (
         "/* a */",
         "p:1:1: `/` begins no word, number or sign of the language: a comment begins with `//` and ends with its line
@@ -92,6 +111,10 @@ static PROGRAMS: [(&str, &str); 64] = [
     |                ^^^^^^^^^^^^^^^^^^^^^^^^^^^^^^^^^^^^^^^
 ",
     ),
+];
+
+/// Words that stand where others are wanted.
+const GRAMMAR: [Row; 22] = [
     (
         "control { } control { }",
         "p:1:13: `control` stands where the end of the text is wanted: nothing stands behind `control`
@@ -246,6 +269,10 @@ static PROGRAMS: [(&str, &str); 64] = [
     |                                  ^^^^^^
 ",
     ),
+];
+
+/// Texts of the right form that break a rule of the language.
+const RULES: [Row; 13] = [
     (
         "header h { f : 8; } next accept; header h { f : 8; } next accept; control { }",
         "p:1:41: `h` stands a second time: rename this one or take it out; put all metadata into one `meta`
@@ -374,6 +401,10 @@ if (drop == 1) {",
      |                ^
 ",
     ),
+];
+
+/// Rules again: names that stand twice, widths that differ, values and keys.
+const SECOND: [Row; 19] = [
     (
         "meta { a : 8; } meta { b : 8; } control { }",
         "p:1:17: `meta` stands a second time: rename this one or take it out; put all metadata into one `meta`
@@ -564,17 +595,21 @@ control { apply t; }",
 ];
 
 #[test]
-fn mistakes_in_programs(rt: HostRuntime) -> Result<(), Fail> {
-    let alloc = rt.alloc();
-    for (text, wanted) in PROGRAMS.iter() {
-        let line = program_line(alloc, text.as_bytes())?;
-        let texts = Texts {
-            program: Some(text.as_bytes()),
-            ..Texts::none()
-        };
-        let words = ["compile", "p", "e", "i"];
-        let told = message(alloc, &words, 4, line.as_str(), &texts)?;
-        assert!(rt; told.as_slice() == wanted.as_bytes(), "{text}: {told:?}");
-    }
-    Ok(())
+fn words_of_no_meaning(rt: HostRuntime) {
+    compares(&rt, &WORDS);
+}
+
+#[test]
+fn words_in_wrong_places(rt: HostRuntime) {
+    compares(&rt, &GRAMMAR);
+}
+
+#[test]
+fn broken_rules(rt: HostRuntime) {
+    compares(&rt, &RULES);
+}
+
+#[test]
+fn names_widths_and_values(rt: HostRuntime) {
+    compares(&rt, &SECOND);
 }
