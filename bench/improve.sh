@@ -1,7 +1,7 @@
 #!/usr/bin/env bash
-# Of 200 programs of 20 to 100 tables, made by chance from the numbers 1 to 200: how many the rule places in more stages than
-# the bound, and how many of those get fewer stages from `improve` with a budget of 10, of 100 and of 1,000, with the seconds
-# that this takes. `bench/improve.sh FOLDER` keeps the programs there.
+# Programs of 20 to 100 tables are made by chance from the numbers 1, 2, .., until 200 are found that the rule places in more
+# stages than the bound: how many of those get fewer stages from `improve` with a budget of 10, of 100 and of 1,000, and as few
+# as the bound, with the seconds that a call takes at most. `bench/improve.sh FOLDER` keeps the programs there.
 set -eu
 top=$(cd "$(dirname "$0")/.." && pwd)
 if [ $# -gt 0 ]; then
@@ -13,7 +13,7 @@ else
 fi
 "$top/rmt" >/dev/null 2>&1 || true # builds the program
 python3 - "$top" "$work" <<'PY'
-import random, subprocess, sys, time
+import os, random, subprocess, sys, time
 top, work = sys.argv[1:]
 rmt = f"{top}/crates/rmt/out/rmt"
 BUDGETS = (10, 100, 1000)
@@ -21,14 +21,12 @@ PROGRAMS = 200
 
 
 def table(chance, number, written, read, near):
-    """A table by chance, whose action writes one field and may read another; it may look up fields that are near."""
+    """A table by chance, which looks up fields that are near and whose action writes one field and may read another."""
     action = chance.choice([f"meta.{written} = 1", f"meta.{written} = meta.{read}", f"meta.{written} = meta.{read} + 1"])
     head = f"action set{number}() {{ {action}; }}\ntable t{number} {{ "
-    kind = chance.choice(["keyless", "keyless", "exact", "exact", "ternary"])
-    if kind == "keyless":
-        return head + f"default set{number}(); }}\n"
+    kind = chance.choice(["exact", "ternary"])
     keys = ", ".join(f"meta.{key}" for key in chance.sample(near, min(len(near), chance.randint(1, 3))))
-    size = 2 ** chance.randint(0, 15 if kind == "exact" else 11)
+    size = 2 ** (chance.randint(10, 14) if kind == "exact" else chance.randint(9, 12))
     return head + f"{kind} {keys}; actions set{number}; size {size}; default set{number}(); }}\n"
 
 
@@ -36,7 +34,7 @@ def program(number):
     """A program of 20 to 100 tables: most read and write fields of one group, some read those of another."""
     chance = random.Random(number)
     count = chance.randint(20, 100)
-    groups = [[f"g{g}_{i}" for i in range(chance.randint(2, 6))] for g in range(chance.randint(3, 12))]
+    groups = [[f"g{g}_{i}" for i in range(chance.randint(2, 6))] for g in range(chance.randint(15, 25))]
     width = {name: chance.choice([8, 8, 16, 32]) for group in groups for name in group}
     lines = ["header h { f : 8; } next accept;\n", "meta { ", *[f"{name} : {width[name]}; " for name in width], "}\n"]
     for t in range(count):
@@ -63,27 +61,25 @@ def stages(words):
 
 
 open(f"{work}/none.ent", "w").close()
-refused, above, placed = 0, 0, {budget: 0 for budget in BUDGETS}
+above, made = 0, 0
 fewer, least, longest = ({budget: 0 for budget in BUDGETS} for _ in range(3))
-for number in range(1, PROGRAMS + 1):
-    source, image = f"{work}/{number}.rmt", f"{work}/image"
+while above < PROGRAMS:
+    made += 1
+    source, image = f"{work}/{made}.rmt", f"{work}/image"
     with open(source, "w") as file:
-        file.write(program(number))
+        file.write(program(made))
     by_rule, bound, _ = stages(["compile", source, f"{work}/none.ent", image])
-    if by_rule is not None and by_rule == bound:
+    if by_rule is None or by_rule == bound:
+        os.remove(source)
         continue
-    refused += by_rule is None
-    above += by_rule is not None
+    above += 1
     for budget in BUDGETS:
         better, bound, seconds = stages(["improve", source, f"{work}/none.ent", image, str(budget)])
         longest[budget] = max(longest[budget], seconds)
-        if by_rule is None:
-            placed[budget] += better is not None
-        else:
-            fewer[budget] += better < by_rule
-            least[budget] += better == bound
-print(f"{PROGRAMS} programs, of which the rule refuses {refused} and places {above} in more stages than the bound")
+        fewer[budget] += better < by_rule
+        least[budget] += better == bound
+print(f"{PROGRAMS} of {made} programs are placed by the rule in more stages than the bound")
 for budget in BUDGETS:
-    print(f"budget {budget}: {fewer[budget]} of the {above} in fewer stages, {least[budget]} of them in as few as the bound; "
-          f"{placed[budget]} of the {refused} placed; {longest[budget]:.1f} s at most")
+    print(f"budget {budget}: {fewer[budget]} of them in fewer stages, {least[budget]} in as few as the bound, "
+          f"{longest[budget]:.2f} s at most")
 PY

@@ -2,7 +2,7 @@
 # Seconds and peak memory of `./rmt`, one line a case: short packets through one stage and through 32; frames of 9,216 bytes with 385 of
 # them in flight; a counted table of 100,000 exact keys, and one of 20,000 ternary entries under 40 masks, by `sim` and by `plain`; two
 # tables of 1,000,000 exact keys each, which are compiled and then run; 128 tables; a ternary table that is too large for the chip; and
-# images of 1,048,576 exact and of 262,144 ternary entries, read without and with their names.
+# images of 1,048,576 exact and of 262,144 ternary entries, read without and with their names. Behind them what `bench/improve.sh` prints.
 set -eu
 top=$(cd "$(dirname "$0")/.." && pwd)
 work=$(mktemp -d)
@@ -118,3 +118,4 @@ write("rows.ent", (f"t {i} {key(i)}&{masks[i % 40]} go {i % 512}\n" for i in ran
 compiled("rows")
 read("rows")
 PY
+"$top/bench/improve.sh"
