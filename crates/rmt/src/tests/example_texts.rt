@@ -741,3 +741,60 @@ pub const OPTIONS_LINES: &str =
 3 drop reject
 4 drop action
 ";
+
+pub const VXLAN_PROGRAM: &str =
+    "// A VXLAN tunnel end with the address 02:00:00:00:00:fe: IPv4 frames of hosts are wrapped, and frames to it are opened.
+header eth { dst_high : 32; dst_low : 16; src : 48; kind : 16; }
+  next (dst_low, kind) { 0x00fe, 0x0800 : ipv4; 0 & 0, 0x0800 : front; else : reject; }
+header ipv4 { version : 4; ihl : 4; tos : 8; length : 16; id : 16; flags : 3; frag : 13;
+              ttl : 8; proto : 8; sum : 16; src : 32; dst : 32; }
+  next (ihl, proto) { 5, 17 : udp; else : reject; }
+header udp { sport : 16; dport : 16; length : 16; sum : 16; }
+  next (dport) { 4789 : vxlan; else : reject; }
+header vxlan { flags : 8; zero : 24; vni : 24; last : 8; } next inner;
+header inner { dst_high : 32; dst_low : 16; src : 48; kind : 16; } next accept;
+header front { version : 4; ihl : 4; tos : 8; length : 16; } next accept;
+
+action discard() { drop = 1; }
+action wrap(vni : 24, to : 32, mac_high : 32, mac_low : 16, port : 9) {
+  inner.dst_high = eth.dst_high; inner.dst_low = eth.dst_low; inner.src = eth.src; inner.kind = eth.kind;
+  inner.valid = 1;
+  vxlan.flags = 0x08; vxlan.vni = vni; vxlan.valid = 1;
+  udp.sport = 0xc000; udp.dport = 4789; udp.length = front.length + 30; udp.valid = 1;
+  ipv4.version = 4; ipv4.ihl = 5; ipv4.length = front.length + 50; ipv4.ttl = 64; ipv4.proto = 17;
+  ipv4.src = 0x0a000001; ipv4.dst = to; ipv4.valid = 1;
+  eth.dst_high = mac_high; eth.dst_low = mac_low; eth.src = 0x0200000000fe;
+  out_port = port;
+}
+action open(port : 9) { eth.valid = 0; ipv4.valid = 0; udp.valid = 0; vxlan.valid = 0; out_port = port; }
+
+table remote { exact in_port, eth.dst_high, eth.dst_low; actions wrap; size 64; default discard(); }
+table local { exact eth.dst_high, vxlan.vni, inner.dst_high, inner.dst_low; actions open; size 64;
+              default discard(); }
+
+control { if (vxlan.valid == 1) { apply local; } else { apply remote; } }
+";
+
+pub const VXLAN_ENTRIES: &str =
+    "# a host behind the tunnel end 10.0.0.2, reached from port 1, and one on port 1
+remote 1 0x02000000 0x0002 wrap 100 0x0a000002 0x02000000 0x01fe 9
+local 0x02000000 100 0x02000000 0x0001 open 1
+";
+
+pub const VXLAN_PACKETS: &str = "# to the host behind the tunnel, and the answer
+1 020000000002020000000001080045000018aabb
+9 0200000000fe0200000001fe08004500004a00000000401100000a0000020a000001c00012b50036000008000000000064000200000000010200000000020800450000180ccd
+# of a network that isn't here
+9 0200000000fe0200000001fe08004500004a00000000401100000a0000020a000001c00012b50036000008000000000065000200000000010200000000020800450000180ccd
+# from a port without a tunnel, and a frame that isn't IPv4
+2 020000000002020000000001080045000018aabb
+1 02000000000202000000000108060001
+";
+
+pub const VXLAN_LINES: &str =
+    "0 9 0200000001fe0200000000fe08004500004a00000000401100000a0000010a000002c00012b5003600000800000000006400020000000002020000000001080045000018aabb
+1 1 0200000000010200000000020800450000180ccd
+2 drop action
+3 drop action
+4 drop reject
+";

@@ -110,6 +110,13 @@ const OPTIONS: Example<'static> = Example {
     lines: OPTIONS_LINES,
 };
 
+const VXLAN: Example<'static> = Example {
+    program: VXLAN_PROGRAM,
+    entries: VXLAN_ENTRIES,
+    packets: VXLAN_PACKETS,
+    lines: VXLAN_LINES,
+};
+
 #[test]
 fn examples_on_the_chip(rt: HostRuntime) -> Result<(), Fail> {
     let alloc = rt.alloc();
@@ -159,6 +166,11 @@ fn examples_on_the_chip(rt: HostRuntime) -> Result<(), Fail> {
             "stages 1 latency 12\nbound 1 chain routes\nminimal yes\n",
             "cycles 17\nflight 5\n",
         ),
+        (
+            VXLAN,
+            "stages 1 latency 12\nbound 1 chain gate0\nminimal yes\n",
+            "cycles 17\nflight 5\n",
+        ),
     ] {
         assert!(rt; runs_on_chip(alloc, example, compiled, run)?, "{compiled}");
     }
@@ -178,6 +190,7 @@ fn examples_by_plain(rt: HostRuntime) -> Result<(), Fail> {
         DEFAULT_ROUTE,
         TENANTS,
         OPTIONS,
+        VXLAN,
     ] {
         assert!(rt; runs_plainly(alloc, example)?, "{}", example.program);
     }
