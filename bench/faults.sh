@@ -192,8 +192,9 @@ for example in smallest three_tables; do
     cp "$packets" "$work/given/packets"
     "$program" compile "$work/given/program" "$work/given/entries" "$work/given/image" >/dev/null 2>&1
     command_row 'program entries' yes compile program entries made
+    command_row 'program entries' yes improve program entries made 10
     command_row 'image packets' no sim image packets
-    command_row 'image packets' no probe image packets 20
+    command_row 'image packets' no probe image packets 2
     command_row 'program entries packets' no plain program entries packets
     command_row 'image' no report image
   done

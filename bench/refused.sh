@@ -105,6 +105,7 @@ FILES["i"] = read("i")
 # The words of each command, and whether it prints nothing where memory is refused. `o` is the file that it writes.
 COMMANDS = [
     (["compile", "p", "e", "o"], True),
+    (["improve", "p", "e", "o", "10"], True),
     (["sim", "i", "k"], False),
     (["probe", "i", "k", "20"], False),
     (["plain", "p", "e", "k"], False),
