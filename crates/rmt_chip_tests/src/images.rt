@@ -1,3 +1,5 @@
+//! Images that are read, and the codes of those in which a byte is another.
+
 use rmt_config::config::Config;
 use rmt_image::{ImageFault, read_image};
 use rmt_tests::fixtures::images::IMAGE;

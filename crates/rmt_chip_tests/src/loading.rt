@@ -1,3 +1,5 @@
+//! Keys that are loaded into tables of one part and of two.
+
 ghost use Rattle.std.specs.Prelude.{◌≡◌, ◌<◌, ◌≤◌, ◌^◌, ◌∷◌, [], length, All, IfOk};
 ghost use Rattle.rmt_cuckoo.specs.Loading.{cells_of};
 ghost use Rattle.rmt_cuckoo.specs.declared.layout.Ways.{Ways};

@@ -1,3 +1,5 @@
+//! Why an image was not read or written.
+
 ghost use Rattle.std.specs.Prelude.{◌≡◌};
 ghost use Rattle.rmt_image.specs.declared.fault.ImageFault.TheVariants.{NoMemory};
 ghost use Rattle.rmt_image.specs.declared.fault.ReadError.TheVariants.{Memory};

@@ -1,3 +1,5 @@
+//! Images are written from their front, once, each list behind its length.
+
 ghost use Rattle.std.specs.Prelude.{◌≡◌, ◌++◌, OnOk, IfOk, IsOkUnless};
 ghost use Rattle.rmt_config.specs.Spelling.{spelled_config, spelled_ports, CountsFit};
 ghost use Rattle.rmt_config.specs.ImageSpelling.{spelled_image, version_of};

@@ -1,3 +1,5 @@
+//! Fields that are packed into the words of the header vector.
+
 use rmt_ast::name::Name;
 use rmt_ast::program::{Action, Assign, Expr, Field, Leaf, Program};
 use rmt_bits::answer::Bytes;

@@ -1,3 +1,5 @@
+//! Bits of bytes, bytes of bits, the hash of bytes, and runs of bits.
+
 use rmt_bits::bits::{bits_of_bytes, bytes_of_bits, deposit, slice};
 use rmt_bits::hash::{fnv, hash_row};
 use rmt_bits::lane::word_size;

@@ -1,3 +1,5 @@
+//! Registers of tails.
+
 use rmt_config::tails::Tails;
 
 /// A header, and its tail: where it starts, and how many bytes it has.

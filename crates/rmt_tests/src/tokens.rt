@@ -1,3 +1,5 @@
+//! Texts as tokens with their places.
+
 ghost use Rattle.std.specs.Prelude.{◌<◌, length};
 
 use rmt_lexer::fault::ProgramFault;

@@ -1,3 +1,5 @@
+//! Texts as trees of the grammar.
+
 ghost use Rattle.std.specs.Prelude.{◌<◌, length};
 
 use crate::fixtures::shown::push_name;

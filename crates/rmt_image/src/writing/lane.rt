@@ -1,3 +1,5 @@
+//! The words of the header vector that an image names, and its headers.
+
 ghost use Rattle.rmt_config.specs.Spelling.{spelled_lane, spelled_header, CountsFitHeader};
 
 use crate::writing::spelled::{Spelled, put_list8};

@@ -1,3 +1,5 @@
+//! The names of tables and actions, and the ranks of their entries.
+
 ghost use Rattle.std.specs.Prelude.{◌≡◌, ◌++◌, ◌<◌, ◌^◌, length, OnOk};
 ghost use Rattle.rmt_config.specs.ImageSpelling.{spelled_name, spelled_action, spelled_rank, spelled_table_kind, spelled_ranks, spelled_table, spelled_names};
 ghost use Rattle.rmt_image.specs.CountsFit.{CountsFitAction, CountsFitTable, CountsFitNames};

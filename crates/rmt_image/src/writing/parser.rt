@@ -1,3 +1,5 @@
+//! The parser: its states, entries and extracts.
+
 ghost use Rattle.std.specs.Prelude.{◌≡◌, ◌++◌, OnOk};
 ghost use Rattle.rmt_config.specs.Spelling.{spelled_state, spelled_next, spelled_extract, spelled_entry_head, spelled_entry, spelled_parser, CountsFitState, CountsFitEntry, CountsFitParser};
 

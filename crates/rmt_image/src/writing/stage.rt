@@ -1,3 +1,5 @@
+//! Stages, and the rows of their SRAM and TCAM.
+
 ghost use Rattle.std.specs.Prelude.{◌≡◌, ◌++◌, OnOk};
 ghost use Rattle.rmt_bits.specs.Bits.{bytes_of};
 ghost use Rattle.rmt_config.specs.Spelling.{spelled_srow, spelled_trow, spelled_stage, CountsFitStage};

@@ -1,3 +1,5 @@
+//! The tails of headers and of parser entries.
+
 ghost use Rattle.std.specs.Prelude.{◌≡◌, ◌++◌, ◌<◌, ◌^◌, length, OnOk};
 ghost use Rattle.rmt_config.specs.ImageSpelling.{spelled_tail, spelled_tails};
 

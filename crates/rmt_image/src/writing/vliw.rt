@@ -1,3 +1,5 @@
+//! Instructions, their operations and sources.
+
 ghost use Rattle.std.specs.Prelude.{◌≡◌, ◌++◌, OnOk};
 ghost use Rattle.rmt_config.specs.Spelling.{spelled_kind, spelled_source, spelled_operation, spelled_vliw, CountsFitVliw};
 
