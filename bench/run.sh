@@ -2,14 +2,15 @@
 # Seconds and peak memory of `./rmt`, one line a case: short packets through one stage and through 32; frames of 9,216 bytes with 385 of
 # them in flight; a counted table of 100,000 exact keys, and one of 20,000 ternary entries under 40 masks, by `sim` and by `plain`; two
 # tables of 1,000,000 exact keys each, which are compiled and then run; 128 tables; a ternary table that is too large for the chip; and
-# images of 1,048,576 exact and of 262,144 ternary entries, read without and with their names. Behind them what `bench/improve.sh` prints.
+# images of 1,048,576 exact and of 262,144 ternary entries, read without and with their names; and captures of 16 MiB through the router of
+# `examples/`. Behind them what `bench/improve.sh` and `bench/captures.sh` print; the latter wants `tshark` and `tcpdump`.
 set -eu
 top=$(cd "$(dirname "$0")/.." && pwd)
 work=$(mktemp -d)
 trap 'rm -rf "$work"' EXIT
 "$top/rmt" >/dev/null || true # builds the program
 python3 - "$top" "$work" <<'PY'
-import os, subprocess, sys, time
+import os, struct, subprocess, sys, time
 top, work = sys.argv[1:]
 program = f"{top}/crates/rmt/out/rmt"
 
@@ -23,7 +24,7 @@ def run(*words, wanted=0):
     """Runs the program, which is to end with that status, and gives its seconds and its peak memory in MiB."""
     begun = time.time()
     with open(os.devnull, "w") as none:
-        process = subprocess.Popen([program, *[w if w.isdigit() or w in ("compile", "sim", "plain", "report") else f"{work}/{w}" for w in words]], stdout=none)
+        process = subprocess.Popen([program, *[w if w.isdigit() or w in ("compile", "sim", "plain", "report", "switch") else f"{work}/{w}" for w in words]], stdout=none)
         _, status, usage = os.wait4(process.pid, 0)
     if os.waitstatus_to_exitcode(status) != wanted:
         sys.exit(f"{words} ended with status {os.waitstatus_to_exitcode(status)}")
@@ -117,5 +118,25 @@ write("rows.rmt", [one.format(32, "ternary", 262_144)])
 write("rows.ent", (f"t {i} {key(i)}&{masks[i % 40]} go {i % 512}\n" for i in range(262_144)))
 compiled("rows")
 read("rows")
+
+
+# a capture of 16 MiB of frames of 64 bytes, and one of frames of one byte, which the router passes over as too short
+for text in "rmt", "ent":
+    with open(f"{top}/examples/router.{text}") as f:
+        write(f"router.{text}", [f.read()])
+compiled("router")
+write("none.txt", [])
+with open(f"{top}/examples/router.pkt") as f:
+    routed = [bytes.fromhex(line.split()[1]) for line in f if line.strip() and not line.startswith("#")]
+for size in 64, 1:
+    count = (16_777_216 - 24) // (16 + size)
+    with open(f"{work}/frames.pcap", "wb") as f:
+        f.write(struct.pack("<IHHIIII", 0xa1b2c3d4, 2, 4, 0, 0, 65535, 1))
+        for k in range(count):
+            f.write(struct.pack("<IIII", k // 1000, k % 1000, size, size) + routed[k % len(routed)].ljust(size, b"\0")[:size])
+    for every in "1", "1000":
+        seconds, peak = run("switch", "router.img", "none.txt", "frames.pcap", "sent", every)
+        print(f"router: switch of {count} frames of {size} bytes, EVERY {every}, in {seconds:.2f} s, {count / seconds:,.0f} a second, {peak:.0f} MiB")
 PY
 "$top/bench/improve.sh"
+"$top/bench/captures.sh"

@@ -1,6 +1,6 @@
 //! The message for standard error, with the texts that it quotes read again.
 
-use rmt_explain::commands::{Role, limit_of, role_of};
+use rmt_explain::commands::{Role, limit_of, role_of, word_of};
 use rmt_explain::ending::{Ending, Texts, status};
 use rmt_explain::explain;
 use rmt_io::shelf::Shelf;
@@ -27,7 +27,8 @@ pub fn message_of<F: Shelf, L: Lengths>(
     lengths: &L,
 ) -> Result<Vec<u8>, AllocError> {
     let program = read_again(alloc, ending, Role::Program, shelf, lengths);
-    let entries = read_again(alloc, ending, Role::Entries, shelf, lengths);
+    let lines = lines_role(ending);
+    let entries = read_again(alloc, ending, lines, shelf, lengths);
     let line = read_line_again(alloc, ending, shelf, lengths);
     let texts = Texts {
         program: slice_of(&program),
@@ -41,6 +42,14 @@ pub fn message_of<F: Shelf, L: Lengths>(
         }
     }
     explain(alloc, ending, &texts)
+}
+
+/// Which text of lines a command reads: groups, or entries.
+fn lines_role(ending: &Ending) -> Role {
+    match word_of(ending.words, Role::Groups) {
+        Some(_) => Role::Groups,
+        None => Role::Entries,
+    }
 }
 
 /// The bytes that were read.

@@ -12,4 +12,5 @@ mod probed;
 mod programs;
 mod samples;
 mod simulated;
+mod switched;
 mod words;

@@ -10,7 +10,7 @@ use Rattle.rmt_ast.specs.EntryLists.{AreEntries}
 use Rattle.rmt_config.specs.Agreement.{AgreesWith}
 use Rattle.rmt_pack.specs.declared.placement.Part.{Part}
 use Rattle.rmt_refine.specs.declared.map.CellOf.{CellOf}
-use Rattle.rmt_refine.specs.Carries.{Carries, EdgesKept, all_edges}
+use Rattle.rmt_refine.specs.Carries.{CarriesIn, EdgesKept, all_edges}
 use Rattle.rmt_refine.specs.Cells.{CellsCarried, IsSpotOf}
 use Rattle.rmt_refine.specs.Places.{PlacesCarried}
 use Rattle.rmt_refine.specs.Units.{UnitCarried, UnitsCarried, nodes_in}
@@ -84,7 +84,7 @@ module _ (p : Program) (lists : List (List Entry)) (plan : Plan) (c : Config) (e
 
     -- so it carries the program, as the map of the plan tells
     pub built_carries : PlacesCarried p plan.places c → AgreesWith c.parser plan.places p → EdgesKept (all_edges p plan.places) plan.placement.parts plan.starts
-        → Carries p lists (record { places = plan.places; placement = plan.placement; starts = plan.starts; cells = cells_told (length p.nodes) c.stages }) c
+        → CarriesIn p lists (record { places = plan.places; placement = plan.placement; starts = plan.starts; cells = cells_told (length p.nodes) c.stages }) c (own_view c)
     built_carries places parser edges = record {
       places = places;
       parser = parser;

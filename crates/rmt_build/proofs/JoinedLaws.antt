@@ -35,11 +35,11 @@ use Rattle.rmt_ptcam.specs.Needs.{refusal}
 use Rattle.rmt_ptcam.proofs.PlainLaws.{lanes_bits}
 use Rattle.rmt_refine.specs.declared.map.CellOf.{CellOf}
 use Rattle.rmt_refine.specs.declared.map.Map.{Map}
-use Rattle.rmt_refine.specs.Carries.{Carries}
+use Rattle.rmt_refine.specs.Carries.{CarriesIn}
 use Rattle.rmt_refine.specs.Cells.{tests_as_one}
 use Rattle.rmt_refine.specs.Places.{PlacesCarried}
 use Rattle.rmt_refine.specs.Units.{UnitCarried, UnitsCarried, nodes_in, table_at}
-use Rattle.rmt_refine.specs.View.{as_slot, slot_of}
+use Rattle.rmt_refine.specs.View.{as_slot, own_view, slot_of}
 use Rattle.rmt_refine.proofs.PartLaws.{slot_is_unit, then_some}
 use Rattle.rmt_build.specs.declared.plan.Plan.{Plan}
 use Rattle.rmt_build.specs.BuiltStage.{IsBuiltStage}
@@ -156,7 +156,7 @@ module _ (p : Program) (lists : List (List Entry)) (plan : Plan) (c : Config) (p
   in_rows n t es own table has es_are own_is = rows_in_order p lists parts plan.seed plan.stands is.loaded n t es own table has es_are own_is
 
   pub joined_carries : PlacesCarried p plan.places c → AgreesWith c.parser plan.places p
-      → Carries p lists (record { places = plan.places; placement = plan.placement; starts = plan.starts; cells = cells }) c
+      → CarriesIn p lists (record { places = plan.places; placement = plan.placement; starts = plan.starts; cells = cells }) c (own_view c)
   joined_carries places parser =
       built_carries p lists plan c entries is.is_plan.parts is.is_plan.stands (node_some p program) long room built are_loaded in_rows places parser is.edges
 

@@ -46,9 +46,6 @@ mod NamesListed
 mod NamesListedParts
 mod NamesListedStands
 mod NamesMade
-mod NamesSpelled
-mod NamesSpelledFields
-mod NamesSpelledRanks
 mod NamesTold
 mod NumberLaws
 mod NumberedLaws

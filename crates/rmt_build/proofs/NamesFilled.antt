@@ -37,7 +37,7 @@ use Rattle.rmt_build.specs.Told.{cells_told}
 use Rattle.rmt_build.proofs.NamesFilledOrder.{as_many, as_they_stand, entry_at, keys_stand_once, no_entry, ranks_tell, rows_go_first}
 use Rattle.rmt_build.proofs.NamesListed.{each_holds, each_may_stand, listed, numbers_are}
 use Rattle.rmt_build.proofs.NamesListedParts.{IsPartOf, each_is_part}
-use Rattle.rmt_build.proofs.NamesSpelled.{entry_spelled, prefix_spelled}
+use Rattle.rmt_refine.proofs.SpelledEntryLaws.{entry_spelled, prefix_spelled}
 use Rattle.rmt_build.proofs.NamesTold.{all_told}
 use Rattle.rmt_build.proofs.TableLaws.{AreInRows, AreLoaded}
 

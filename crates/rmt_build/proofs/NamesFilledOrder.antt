@@ -1,6 +1,6 @@
 -- The entries of a table as they stand: as many as there are, each key once, and in the order of their precedence.
-use Rattle.std.proofs.Common.{◌≡◌, ◌≢◌, ℕ, ◌<◌, ◌∙◌, Bool, true, false, not, ◌&&◌, ◌==◌, List, [], ◌∷◌, Some, length, map, get_or, refl, sym, ap, subst, ◌⊎◌, inl, inr, arith}
-use Rattle.std.specs.Prelude.{All, AllPairs, Contains, nat_lt, slice_get}
+use Rattle.std.proofs.Common.{◌≡◌, ◌≢◌, ℕ, ◌<◌, ◌∙◌, Bool, true, false, not, ◌==◌, List, [], ◌∷◌, Some, length, map, get_or, refl, sym, ap, subst, ◌⊎◌, inl, inr, arith}
+use Rattle.std.specs.Prelude.{All, AllPairs, Contains, slice_get}
 use Rattle.std.specs.List.{list_all, range_with_len}
 use Rattle.std.specs.Str.{bytes_eq}
 use Rattle.std.proofs.lemmas.Bool.{and_from, and_parts, eqb-true, false≢true}
@@ -24,7 +24,7 @@ use Rattle.rmt_config.specs.NamesForm.{each_later, has_keys_once, has_order}
 use Rattle.rmt_refine.proofs.RankLaws.{compare}
 use Rattle.rmt_build.specs.Types.{Kind, Test}
 use Rattle.rmt_build.specs.declared.stands.Stand.{Stand}
-use Rattle.rmt_build.specs.EntryCells.{GoesFirst, StandInOrder, StandOnce}
+use Rattle.rmt_build.specs.EntryCells.{StandInOrder, StandOnce}
 use Rattle.rmt_build.proofs.NamesFilledRanks.{StandsFirst, in_order, ranks_are}
 use Rattle.rmt_build.proofs.PromiseLaws.{goes_true}
 use Rattle.rmt_build.proofs.StandLaws.{entry_there, entry_within, one_stand}

@@ -1,6 +1,6 @@
 -- What is told of the cells that the parts of a table list, part by part: the same of its entries, by rising cell; and what those cells hold.
 use Rattle.std.proofs.Common.{◌≡◌, ℕ, ◌+◌, ◌<◌, ◌∙◌, List, [], Option, Some, length, map, get_or, refl, sym, ap, subst, inl, inr, arith}
-use Rattle.std.specs.Prelude.{All, Contains, IsSomeAnd, option_and_then, option_map, slice_get, unwrap_or}
+use Rattle.std.specs.Prelude.{All, Contains, IsSomeAnd, option_map, slice_get, unwrap_or}
 use Rattle.std.specs.List.{flat_map}
 use Rattle.std.proofs.lemmas.List.{append-nil}
 use Rattle.std.proofs.lemmas.List.Elements.{Contains-get_or}
@@ -11,15 +11,14 @@ use Rattle.rmt_bits.proofs.MemberLaws.{Contains-item}
 use Rattle.rmt_ast.specs.declared.entry.Entry.{Entry}
 use Rattle.rmt_ast.specs.EntryLists.{AreEntries}
 use Rattle.rmt_ast.specs.State.{width_of}
-use Rattle.rmt_config.specs.Cells.{candidates, content_of}
+use Rattle.rmt_config.specs.Cells.{candidates}
 use Rattle.rmt_config.specs.LaneForm.{bits_of_lanes}
 use Rattle.rmt_config.specs.NamesForm.{held_by}
 use Rattle.rmt_config.specs.Rooms.{PartAt, parts_among, parts_of}
-use Rattle.rmt_config.specs.RunCells.{no_content, own_content}
 use Rattle.rmt_refine.specs.Cells.{HoldsEntry, Spot, first_code, tests_as_one}
 use Rattle.rmt_refine.specs.Units.{UnitsCarried, table_at}
 use Rattle.rmt_refine.specs.View.{slot_of}
-use Rattle.rmt_refine.proofs.PartLaws.{IsPart, and_at, spot_of_part}
+use Rattle.rmt_refine.proofs.PartLaws.{and_at, spot_of_part}
 use Rattle.rmt_refine.proofs.TheLaw.{table_entries}
 use Rattle.rmt_build.specs.Types.{CellNumber, Config, Program, SlotUnit, Stage, Table, Test}
 use Rattle.rmt_build.specs.declared.plan.Plan.{Plan}

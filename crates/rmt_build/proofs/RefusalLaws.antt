@@ -9,15 +9,11 @@ use Rattle.rmt_config.specs.declared.limits.LimitHit.{LimitHit}
 use Rattle.rmt_deps.specs.Edges.{dependencies_of}
 use Rattle.rmt_pack.specs.declared.placement.Part.{Part}
 use Rattle.rmt_pack.specs.declared.placement.Placement.{Placement}
-use Rattle.rmt_phv.specs.declared.fault.PhvFull.TheVariants as phv
 use Rattle.rmt_phv.specs.Packing.{packing}
-use Rattle.rmt_place.specs.declared.fault.StageFull.TheVariants as stage
 use Rattle.rmt_place.specs.Placing.{Stuck, placement}
 use Rattle.rmt_ptcam.specs.declared.fault.ParserFault.{ParserFault}
-use Rattle.rmt_ptcam.specs.declared.fault.ParserFault.TheVariants as parser
 use Rattle.rmt_ptcam.specs.Needs.{refusal, unless}
 use Rattle.rmt_vliw.specs.declared.fault.ActionDeep.{ActionDeep}
-use Rattle.rmt_vliw.specs.declared.fault.ActionDeep.TheVariants as action
 use Rattle.rmt_build.specs.declared.built.Built.{Built}
 use Rattle.rmt_build.specs.declared.fault.NoFit.{NoFit}
 use Rattle.rmt_build.specs.declared.fault.NoFit.TheVariants as no_fit

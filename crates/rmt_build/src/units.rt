@@ -165,13 +165,14 @@ fn slot_of(
     let stands = stands_in(alloc, planned, table, node)?;
     let list = planned.entries.as_slice()[node as usize].as_slice();
     let numbers = numbers_of(alloc, stands.as_slice(), list)?;
+    let data = data_bits(planned.program, table) as u16;
     Ok(Unit::Slot(SlotUnit {
         node: node as u8,
         guard: guard_of(planned.program.nodes.as_slice()[node as usize].guard),
         counted: table.counted,
         actions: table.actions.len() as u8,
         last: planned.stage == last_stage(planned.plan.placement.parts.as_slice(), node),
-        held: data_bits(planned.program, table) as u16,
+        held: data,
         keys,
         memory,
         numbers,

@@ -1,28 +1,36 @@
 -- A cycle of the chip against the chip run.
-use Rattle.std.proofs.Common.{◌≡◌, ℕ, zero, suc, ◌+◌, ◌-◌, ◌<◌, ◌≤◌, Bool, true, false, cond, eqb, List, [], ◌∷◌, ◌++◌, length, get_or, drop, reverse, Option, Some, None, refl, sym, ap, ◌∙◌, subst, ⊎_elim, arith}
+use Rattle.std.proofs.Common.{◌≡◌, ℕ, ◌+◌, ◌-◌, ◌<◌, ◌≤◌, Bool, true, false, cond, eqb, List, length, drop, Option, Some, None, refl, sym, ap, ◌∙◌, subst, ⊎_elim, arith}
 use Rattle.std.specs.Prelude.{map, slice_index, slice_get, option_map, option_and_then}
 use Rattle.std.proofs.Math.Path.{fun_ext}
 use Rattle.std.proofs.lemmas.Bool.{cases_lt, lt-ltb, le-ltb}
-use Rattle.std.proofs.lemmas.List.{get_or-reverse, length-reverse, length_push}
-use Rattle.std.proofs.lemmas.Option.{slice_get-get_or, slice_get_past}
 use Rattle.rmt_bits.specs.Packet.{Packet}
 use Rattle.rmt_bits.specs.declared.answer.Verdict.{Verdict}
 use Rattle.rmt_chip.specs.Types.{Config}
 use Rattle.rmt_config.specs.Life.{Look, Life, Words, Counted, lane_of, life_of}
 use Rattle.rmt_config.specs.declared.tails.TailAt.{TailAt}
 use Rattle.rmt_config.specs.Parser.{Parse, Short, Reject, Accept, parse, put}
-use Rattle.rmt_config.specs.ChipRun.{Outcome, tail_bytes, finished, outcome_from, outcome_of, own_look, answer_at, latency_of}
+use Rattle.rmt_config.specs.ChipRun.{Outcome, tail_bytes, finished, outcome_from, outcome_of, latency_of}
+use Rattle.rmt_config.specs.RunInputs.{Input, answer_in, look_from, outcome_from_cycle, packet_of}
 use Rattle.rmt_chip.specs.declared.packet_slot.PacketSlot.{PacketSlot}
 use Rattle.rmt_ptcam.specs.declared.parse.Parsed.{Parsed}
-use Rattle.rmt_chip.specs.Held.{CarriedFor, Entered, HoldsIf, EntersIf, FrameIs}
-use Rattle.rmt_chip.specs.Inputs.{entered_in, entered_at, packets_of}
+use Rattle.rmt_chip.specs.Held.{Begins, CarriedFor, Entered, HoldsIf, EntersIf, FrameIs}
+use Rattle.rmt_chip.specs.Inputs.{entered_in, entered_at, entering}
 use Rattle.rmt_chip.specs.Leaving.{Answers, AnswersIf, leaving, leaving_if, still}
 use Rattle.rmt_chip.proofs.LifeLaws.{Rise}
-use Rattle.rmt_chip.proofs.EnterLaws.{holds_entered}
+use Rattle.rmt_chip.proofs.EnterLaws.{IsOf, holds_entered}
 
-pub holds_enters : (look : Look) (c : Config) → Rise c.stages → (e : Option Entered) (place : PacketSlot) → EntersIf c e place → HoldsIf look c e 0 0 0 0 place
-holds_enters look c rise None place h = h
-holds_enters look c rise (Some e) place h = holds_entered look c rise e place h
+pub holds_enters : (c : Config) → Rise c.stages → (packet : Option Packet) (number version : ℕ) (e : Option Entered) (place : PacketSlot) → IsOf packet number version e → EntersIf c packet number version place → HoldsIf c e 0 0 0 0 place
+holds_enters c rise None number version None place is h = h
+holds_enters c rise None number version (Some e) place is h = absurd is
+holds_enters c rise (Some packet) number version None place is h = absurd is
+holds_enters c rise (Some packet) number version (Some e) place is h = holds_entered c rise e place (record {
+  taken = h.taken;
+  number_is = h.number_is ∙ sym is.1;
+  version_is = h.version_is ∙ sym is.2;
+  size = h.size ∙ ap (λ (p : Packet). length p.frame) (sym is.0);
+  outcomes = h.outcomes;
+  begins = subst (λ (p : Packet). Begins c p place (parse c.parser p.frame)) (sym is.0) h.begins;
+})
 
 -- the verdict and the bytes of an outcome, without what it counts
 pub record SameAnswer (a b : Outcome) : Type 0 where
@@ -53,53 +61,31 @@ same_answers : (a b : Outcome) (answer : Verdict) (bytes : List ℕ) → SameAns
 same_answers a b answer bytes s h = record { verdict_is = h.verdict_is ∙ s.verdicts; bytes_are = h.bytes_are ∙ s.bytes }
 
 -- what leaves a packet slot is the outcome of the packet that it holds
-pub leaves_right : (c : Config) (look : Look) (l : ℕ) (item : Option Entered) (place : PacketSlot) (frame : List ℕ) (answer : Option Verdict) (bytes : List ℕ)
-    → HoldsIf look c item (latency_of c.stages) (latency_of c.stages) (latency_of c.stages) l place → FrameIs item frame → AnswersIf (leaving_if c place frame place.taken) answer bytes
-    → AnswersIf (option_map (λ (e : Entered). outcome_of look c e.packet) item) answer bytes
-leaves_right c look l None place frame answer bytes held is left = subst (λ (b : Bool). AnswersIf (leaving_if c place frame b) answer bytes) held.taken left
-leaves_right c look l (Some e) place frame None bytes held is left = absurd (let h : AnswersIf (leaving_if c place frame true) None bytes = subst (λ (b : Bool). AnswersIf (leaving_if c place frame b) None bytes) held.taken left in h)
-leaves_right c look l (Some e) place frame (Some answer) bytes held is left =
+pub leaves_right : (c : Config) (l : ℕ) (item : Option Entered) (place : PacketSlot) (frame : List ℕ) (answer : Option Verdict) (bytes : List ℕ)
+    → HoldsIf c item (latency_of c.stages) (latency_of c.stages) (latency_of c.stages) l place → FrameIs item frame → AnswersIf (leaving_if c place frame place.taken) answer bytes
+    → AnswersIf (option_map (λ (e : Entered). outcome_of e.look c e.packet) item) answer bytes
+leaves_right c l None place frame answer bytes held is left = subst (λ (b : Bool). AnswersIf (leaving_if c place frame b) answer bytes) held.taken left
+leaves_right c l (Some e) place frame None bytes held is left = absurd (let h : AnswersIf (leaving_if c place frame true) None bytes = subst (λ (b : Bool). AnswersIf (leaving_if c place frame b) None bytes) held.taken left in h)
+leaves_right c l (Some e) place frame (Some answer) bytes held is left =
     let h : AnswersIf (leaving_if c place frame true) (Some answer) bytes = subst (λ (b : Bool). AnswersIf (leaving_if c place frame b) (Some answer) bytes) held.taken left in
-    same_answers (leaving c place frame place.parsed) (outcome_of look c e.packet) answer bytes (leaving_for look c e.packet l place frame is (parse c.parser e.packet.frame) held.carried) h
+    same_answers (leaving c place frame place.parsed) (outcome_of e.look c e.packet) answer bytes (leaving_for e.look c e.packet l place frame is (parse c.parser e.packet.frame) held.carried) h
 
--- the packets that entered, by age
-entered_packet : {Y : Type 0} (f : Packet → Y) (inputs : List (Option Packet)) (age : ℕ) → option_map (λ (e : Entered). f e.packet) (entered_in inputs age) ≡ option_and_then (λ (i : Option Packet). option_map f i) (slice_get inputs age)
-entered_packet f [] age = refl
-entered_packet f (None ∷ inputs) zero = refl
-entered_packet f ((Some p) ∷ inputs) zero = refl
-entered_packet f (i ∷ inputs) (suc age) = entered_packet f inputs age
-
-from_back : {A : Type 0} (xs : List A) (n k : ℕ) → length xs ≡ n + 1 → k ≤ n → slice_get (reverse xs) k ≡ slice_get xs (n - k)
-from_back {A} xs n k full h = at xs full
-  where
-    at : (ys : List A) → length ys ≡ n + 1 → slice_get (reverse ys) k ≡ slice_get ys (n - k)
-    at [] e = absurd (omega (arith, e))
-    at (y ∷ ys) e =
-        let all : List A = y ∷ ys in
-        let place : length all - 1 - k ≡ n - k = omega (arith, e) in
-        let inside : k < length (reverse all) = omega (arith, e, length-reverse all) in
-        let there : n - k < length all = omega (arith, e) in
-        slice_get-get_or (reverse all) k y inside
-        ∙ ap Some (get_or-reverse all k y (omega (arith, e)) ∙ ap (λ m. get_or all m y) place)
-        ∙ sym (slice_get-get_or all (n - k) y there)
-
-pub answer_entered : (c : Config) (inputs : List (Option Packet)) (input : Option Packet)
-    → answer_at c (inputs ++ input ∷ []) (length inputs) ≡ option_map (λ (e : Entered). outcome_of (own_look c) c e.packet) (entered_at (inputs ++ input ∷ []) (latency_of c.stages))
-answer_entered c inputs input =
+-- the answer of the last cycle of a run, by what has the age at which it leaves
+pub answer_entered : (c : Config) (run : List Input) (n : ℕ) → answer_in c run n ≡ option_map (λ (e : Entered). outcome_of e.look c e.packet) (entered_at c run (n + 1) (latency_of c.stages))
+answer_entered c run n =
     let l = latency_of c.stages in
-    let n = length inputs in
-    let xs = inputs ++ input ∷ [] in
-    let f = outcome_of (own_look c) c in
-    let full : length xs ≡ n + 1 = length_push inputs input in
     ⊎_elim
     (λ (h : n < l).
-    let past : slice_get (reverse xs) l ≡ None = slice_get_past (reverse xs) l (omega (arith, length-reverse xs)) in
-    ap (λ (b : Bool). cond b None (option_and_then (λ (i : Option Packet). option_map f i) (slice_get xs (n - l)))) (lt-ltb n l h)
-    ∙ sym (entered_packet f (reverse xs) l ∙ ap (option_and_then (λ (i : Option Packet). option_map f i)) past))
+    ap (λ (b : Bool). cond b None (outcome_from_cycle c run (n - l))) (lt-ltb n l h)
+    ∙ sym (ap (λ (b : Bool). option_map (λ (e : Entered). outcome_of e.look c e.packet) (cond b (entered_in c run (n + 1 - 1 - l)) None)) (le-ltb l (n + 1) (omega arith))))
     (λ (h : l ≤ n).
-    ap (λ (b : Bool). cond b None (option_and_then (λ (i : Option Packet). option_map f i) (slice_get xs (n - l)))) (le-ltb n l h)
-    ∙ sym (entered_packet f (reverse xs) l ∙ ap (option_and_then (λ (i : Option Packet). option_map f i)) (from_back xs n l full h)))
+    let back : n + 1 - 1 - l ≡ n - l = omega arith in
+    ap (λ (b : Bool). cond b None (outcome_from_cycle c run (n - l))) (le-ltb n l h)
+    ∙ sym (by (option_and_then packet_of (slice_get run (n - l))))
+    ∙ sym (ap (λ (b : Bool). option_map (λ (e : Entered). outcome_of e.look c e.packet) (cond b (entered_in c run (n + 1 - 1 - l)) None)) (lt-ltb l (n + 1) (omega arith))
+    ∙ ap (λ m. option_map (λ (e : Entered). outcome_of e.look c e.packet) (entered_in c run m)) back))
     (cases_lt n l)
-
-pub packets_more : (inputs : List (Option Packet)) → packets_of (None ∷ inputs) ≡ packets_of inputs
-packets_more inputs = refl
+  where
+    by : (o : Option Packet) → option_map (λ (e : Entered). outcome_of e.look c e.packet) (option_map (entering c run (n - latency_of c.stages)) o) ≡ option_map (outcome_of (look_from c run (n - latency_of c.stages)) c) o
+    by None = refl
+    by (Some p) = refl

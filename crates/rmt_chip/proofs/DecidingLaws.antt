@@ -41,11 +41,11 @@ also_more a b c m n one two numbers hits were =
 abbrev pub one_if : Bool → ℕ → ℕ → List Hit
 one_if counted number bytes = cond counted (record { number = number; bytes = bytes } ∷ []) []
 
-also_if : (bytes : ℕ) (a b c : List Count) (made : List Counted) (one : Counted) (n : ℕ) (counted : Bool) → n ≡ one.number
+also_if : (bytes : ℕ) (a b c : List Count) (made : List Counted) (one : Counted) (n : ℕ) (counted : Bool) → (counted ≡ true → n ≡ one.number)
     → CountsAlso a b (hits_made bytes made) → CountsAlso b c (one_if counted n bytes) → CountsAlso a c (hits_made bytes (cond counted (one ∷ made) made))
 also_if bytes a b c made one n true same was now =
     subst (λ (hs : List Hit). CountsAlso a c hs)
-    (ap (λ (m : ℕ). hits_made bytes made ++ record { number = m; bytes = bytes } ∷ []) same ∙ sym (made_more bytes made one))
+    (ap (λ (m : ℕ). hits_made bytes made ++ record { number = m; bytes = bytes } ∷ []) (same refl) ∙ sym (made_more bytes made one))
     (also_more a b c (hits_made bytes made) (one_if true n bytes) was now)
 also_if bytes a b c made one n false same was now =
     subst (λ (hs : List Hit). CountsAlso a c hs) (append-nil (hits_made bytes made)) (also_more a b c (hits_made bytes made) [] was now)
@@ -54,7 +54,7 @@ also_if bytes a b c made one n false same was now =
 
 -- a slot that found an entry
 pub slot_found : (stage : Stage) (slot : SlotUnit) (found : Option Found) (looked : List Looked) (unit : ℕ) (d : Looked) (bytes base : ℕ) (first before after : List Count) (acts : Acts) (outcomes : List ℕ) (running : List Ran)
-    → unit < length looked → Finds found (get_or looked unit d) → (get_or looked unit d).hit ≡ true → base ≡ acts.base
+    → unit < length looked → Finds slot.counted found (get_or looked unit d) → (get_or looked unit d).hit ≡ true → base ≡ acts.base
     → CountsAlso before after (one_if slot.counted (get_or looked unit d).number bytes)
     → HaveDone stage looked bytes first acts outcomes running before
     → HaveDone stage looked bytes first (slot_acts stage slot found acts) (set outcomes slot.node (2 + ((get_or looked unit d).code - base)))
@@ -76,7 +76,7 @@ slot_found stage slot (Some f) looked unit d bytes base first before after acts 
 
 -- the last part of a table in which no entry was found
 pub slot_missed : (stage : Stage) (slot : SlotUnit) (found : Option Found) (looked : List Looked) (one : Looked) (unit bytes base : ℕ) (first counters : List Count) (acts : Acts) (outcomes : List ℕ) (running : List Ran)
-    → Finds found one → one.hit ≡ false → slot.last ≡ true → base ≡ acts.base
+    → Finds slot.counted found one → one.hit ≡ false → slot.last ≡ true → base ≡ acts.base
     → HaveDone stage looked bytes first acts outcomes running counters
     → HaveDone stage looked bytes first (slot_acts stage slot found acts) (set outcomes slot.node 1)
     (running ++ record { code = base + slot.actions; unit = unit; found = false } ∷ []) counters
@@ -98,7 +98,7 @@ slot_missed stage slot None looked one unit bytes base first counters acts outco
 
 -- another part in which no entry was found does nothing
 pub slot_rests : (stage : Stage) (slot : SlotUnit) (found : Option Found) (looked : List Looked) (one : Looked) (bytes : ℕ) (first counters : List Count) (acts : Acts) (outcomes : List ℕ) (running : List Ran)
-    → Finds found one → one.hit ≡ false → slot.last ≡ false
+    → Finds slot.counted found one → one.hit ≡ false → slot.last ≡ false
     → HaveDone stage looked bytes first acts outcomes running counters
     → HaveDone stage looked bytes first (slot_acts stage slot found acts) outcomes running counters
 slot_rests stage slot (Some f) looked one bytes first counters acts outcomes running finds hit last was = absurd (false≢true (sym hit ∙ finds.0))

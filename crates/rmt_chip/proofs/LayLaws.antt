@@ -1,12 +1,11 @@
 -- What is read from the rows of a stage is what the cells of a slot hold.
-use Rattle.std.proofs.Common.{◌≡◌, ℕ, ◌+◌, ◌*◌, ◌/◌, ◌%◌, ◌^◌, ◌<◌, ◌≤◌, List, [], ◌∷◌, length, get_or, drop, map, true, Option, Some, sym, refl, ap, ◌∙◌, subst, arith}
+use Rattle.std.proofs.Common.{◌≡◌, ℕ, ◌+◌, ◌*◌, ◌/◌, ◌%◌, ◌^◌, ◌<◌, ◌≤◌, List, ◌∷◌, ◌++◌, length, get_or, take, drop, map, true, sym, refl, ap, ◌∙◌, subst, arith}
 use Rattle.std.specs.Prelude.{All, Result, IfOk}
 use Rattle.std.proofs.lemmas.Result.{IfOk-weaker}
 use Rattle.std.proofs.lemmas.List.{length-take, length-drop}
-use Rattle.std.proofs.lemmas.List.Elements.{All-head, All-tail}
 use Rattle.std.proofs.lemmas.Nat.{div_below, mul-le}
-use Rattle.std.proofs.Math.Nat.{div-one}
-use Rattle.rmt_bits.specs.Bits.{slice}
+use Rattle.std.proofs.Math.Nat.{div-one, mod-eq_of_lt}
+use Rattle.rmt_bits.specs.Bits.{slice, bytes_of}
 use Rattle.rmt_bits.proofs.BitLaws.{slice-lt}
 use Rattle.rmt_chip.specs.Types.{SramRow, TcamRow, CellNumber}
 use Rattle.rmt_config.specs.declared.form.layout.Layout.{Layout}
@@ -18,13 +17,14 @@ use Rattle.rmt_config.specs.Order.{rises_from}
 use Rattle.rmt_config.proofs.UnitBits.{Within}
 use Rattle.rmt_config.proofs.HeldRows.{rows-agree}
 use Rattle.rmt_config.proofs.CellLayouts.{exact-entry, ternary-record}
-use Rattle.rmt_chip.specs.Laying.{entry_of, runs_of}
-use Rattle.rmt_bits.specs.Grouping.{Compared}
+use Rattle.rmt_chip.specs.declared.memory.runs.Runs.{Runs}
+use Rattle.rmt_chip.specs.Laying.{entry_of, runs_of, bytes_at, cell_at, nowhere}
+use Rattle.rmt_chip.specs.Searching.{run_of}
 use Rattle.rmt_chip.specs.KeyWords.{words_of}
 use Rattle.rmt_chip.specs.Comparing.{compared_at}
 use Rattle.rmt_chip.specs.Slicing.{RowFits}
 use Rattle.rmt_chip.specs.Memories.{compared_of}
-use Rattle.rmt_chip.proofs.RunLaws.{runs-same}
+use Rattle.rmt_chip.proofs.RunLaws.{run-is, runs-same}
 use Rattle.rmt_chip.proofs.WordLaws.{words-unit}
 use Rattle.rmt_config.proofs.SpelledCandidates.{above-byte}
 use Rattle.rmt_chip.proofs.SliceLaws.{words-fit}
@@ -122,20 +122,35 @@ module _ (rows : List TcamRow) (ks : List ℕ) (d width : ℕ) (whole : length k
       ∙ ap (λ (vs : List ℕ). record { masks = words_of width mask; values = vs }) (words-read (λ (r : TcamRow). r.value) values n lt) in
       subst (RowFits width) (sym same) (words-fit width mask value)
 
-  -- what the listed rows compare
-  pub compared-same : (numbers : List CellNumber) (content : ℕ → Content) → All (λ (c : CellNumber). c.cell < 2048 * d) numbers
-      → ((n : ℕ) → (content n).mask ≡ unit_row 40 (tcam_row (λ (r : TcamRow). r.mask) rows) (n % 2048) (blocks_at ks width (n / 2048)))
-      → ((n : ℕ) → (content n).key ≡ unit_row 40 (tcam_row (λ (r : TcamRow). r.value) rows) (n % 2048) (blocks_at ks width (n / 2048)))
-      → map (λ (c : CellNumber). Some (compared_at rows ks width c.cell)) numbers ≡ map (λ (c : CellNumber). Some (compared_of width (content c.cell))) numbers
-  compared-same [] content below mask key = refl
-  compared-same (c ∷ cs) content below mask key =
-      let n = c.cell in
-      let lt : n < 2048 * d = All-head (λ (x : CellNumber). x.cell < 2048 * d) c cs below in
-      let m : map (λ b. tcam_row (λ (r : TcamRow). r.mask) rows b (n % 2048)) (blocks_at ks width (n / 2048)) ≡ words_of width (content n).mask =
-      words-read (λ (r : TcamRow). r.mask) masks n lt ∙ ap (words_of width) (sym (mask n)) in
-      let v : map (λ b. tcam_row (λ (r : TcamRow). r.value) rows b (n % 2048)) (blocks_at ks width (n / 2048)) ≡ words_of width (content n).key =
-      words-read (λ (r : TcamRow). r.value) values n lt ∙ ap (words_of width) (sym (key n)) in
-      let head : compared_at rows ks width n ≡ compared_of width (content n) =
-      ap (λ (ms : List ℕ). record { masks = ms; values = (compared_at rows ks width n).values }) m ∙ ap (λ (vs : List ℕ). record { masks = words_of width (content n).mask; values = vs }) v in
-      ap (λ (x : Compared). Some x ∷ map (λ (y : CellNumber). Some (compared_at rows ks width y.cell)) cs) head
-      ∙ ap (λ (xs : List (Option Compared)). Some (compared_of width (content n)) ∷ xs) (compared-same cs content (All-tail (λ (x : CellNumber). x.cell < 2048 * d) c cs below) mask key)
+  -- what a row compares
+  pub compared-is : (c : Content) (n : ℕ) → n < 2048 * d → c.mask ≡ unit_row 40 (tcam_row (λ (r : TcamRow). r.mask) rows) (n % 2048) (blocks_at ks width (n / 2048))
+      → c.key ≡ unit_row 40 (tcam_row (λ (r : TcamRow). r.value) rows) (n % 2048) (blocks_at ks width (n / 2048)) → compared_at rows ks width n ≡ compared_of width c
+  compared-is c n lt mask key =
+      let m : map (λ b. tcam_row (λ (r : TcamRow). r.mask) rows b (n % 2048)) (blocks_at ks width (n / 2048)) ≡ words_of width c.mask =
+      words-read (λ (r : TcamRow). r.mask) masks n lt ∙ ap (words_of width) (sym mask) in
+      let v : map (λ b. tcam_row (λ (r : TcamRow). r.value) rows b (n % 2048)) (blocks_at ks width (n / 2048)) ≡ words_of width c.key =
+      words-read (λ (r : TcamRow). r.value) values n lt ∙ ap (words_of width) (sym key) in
+      ap (λ (ms : List ℕ). record { masks = ms; values = (compared_at rows ks width n).values }) m ∙ ap (λ (vs : List ℕ). record { masks = words_of width c.mask; values = vs }) v
+
+-- ---- runs of listed cells
+
+-- the run of a listed cell
+pub run-at : (r : Runs) (size : ℕ) (value : ℕ → ℕ) (numbers : List CellNumber) (i : ℕ) → r.size ≡ size → r.bytes.items ≡ runs_of size value numbers → i < length numbers
+    → run_of r i ≡ bytes_of size (value (cell_at numbers i))
+run-at r size value numbers i is bytes lt =
+    ap (λ n. take n (drop (i * n) r.bytes.items)) is ∙ ap (λ (bs : List ℕ). take size (drop (i * size) bs)) bytes ∙ run-is size value numbers i nowhere lt
+
+-- the head of a listed cell
+pub head-of : (heads : Runs) (f : ℕ → ℕ) (numbers : List CellNumber) (i : ℕ) → i < length numbers → heads.size ≡ 1 → heads.bytes.items ≡ runs_of 1 f numbers → f (cell_at numbers i) < 256
+    → get_or (run_of heads i) 0 0 ≡ f (cell_at numbers i)
+head-of heads f numbers i lt one fs small = ap (λ (bs : List ℕ). get_or bs 0 0) (run-at heads 1 f numbers i one fs lt) ∙ mod-eq_of_lt small
+
+-- the bytes of a listed cell
+pub bytes-at : (heads keys held : Runs) (k h : ℕ) (f g e : ℕ → ℕ) (numbers : List CellNumber) (i : ℕ) → i < length numbers
+    → heads.size ≡ 1 → heads.bytes.items ≡ runs_of 1 f numbers → keys.size ≡ k → keys.bytes.items ≡ runs_of k g numbers → held.size ≡ h → held.bytes.items ≡ runs_of h e numbers
+    → f (cell_at numbers i) < 256 → bytes_at heads keys held i ≡ f (cell_at numbers i) ∷ (bytes_of k (g (cell_at numbers i)) ++ bytes_of h (e (cell_at numbers i)))
+bytes-at heads keys held k h f g e numbers i lt one fs ks gs hs es small =
+    let n = cell_at numbers i in
+    let rest : run_of keys i ++ run_of held i ≡ bytes_of k (g n) ++ bytes_of h (e n) =
+    ap (λ (bs : List ℕ). bs ++ run_of held i) (run-at keys k g numbers i ks gs lt) ∙ ap (λ (bs : List ℕ). bytes_of k (g n) ++ bs) (run-at held h e numbers i hs es lt) in
+    ap (λ x. x ∷ (run_of keys i ++ run_of held i)) (head-of heads f numbers i lt one fs small) ∙ ap (λ (bs : List ℕ). f n ∷ bs) rest

@@ -9,6 +9,7 @@ pub mod EnterLaws
 pub mod LaneLaws
 pub mod EmitLaws
 pub mod CycleLaws
+pub mod EnteredLaws
 pub mod LatencyLaws
 pub mod WholeCycle
 pub mod StandsLaws
@@ -18,6 +19,7 @@ pub mod PendingLaws
 pub mod TailLaws
 mod RowLaws
 mod RunLaws
+mod RunWriteLaws
 mod WordLaws
 mod SliceLaws
 mod RangeLaws
@@ -25,6 +27,8 @@ mod PutLaws
 mod CellLaws
 mod FoundLaws
 mod LayLaws
+mod LaidLaws
+mod CellWriteLaws
 mod ExamplesMemory
 pub mod FormedMemory
 pub mod FormedSlots
@@ -35,3 +39,9 @@ pub mod ExamplesDeciding
 pub mod TurnLaws
 pub mod StageMemoriesLaws
 pub mod StageSlots
+pub mod CounterLaws
+pub mod CandidateLaws
+pub mod KnownLaws
+pub mod OwnLookLaws
+pub mod PacketRunLaws
+pub mod MemoriesLaws

@@ -15,7 +15,8 @@ use Rattle.rmt_chip.specs.Counting.{hits_made}
 use Rattle.rmt_chip.specs.Held.{SamePacket, LookedBy, is_accepted}
 use Rattle.rmt_chip.specs.Hits.{CountedBy}
 use Rattle.rmt_chip.specs.Ran.{CountsAlso}
-use Rattle.rmt_chip.specs.Pending.{looked_at, running_at, due_at}
+use Rattle.rmt_chip.specs.Pending.{HasRoomFor, HaveRoomFor, looked_at, running_at, due_at}
+use Rattle.std.proofs.lemmas.List.{length-set}
 use Rattle.rmt_chip.specs.Looked.{HaveRoom, AllLooked, held_bytes}
 use Rattle.rmt_chip.specs.Runnable.{StageFits, data_bits}
 
@@ -101,3 +102,19 @@ push_slice [] x zero p e = inr (refl, cc)
 push_slice [] x (suc k) p e = absurd cc
 push_slice (y ∷ ys) x zero p e = inl e
 push_slice (y ∷ ys) x (suc k) p e = elim (push_slice ys x k p e) [ inl before ↦ inl before | inr (here, same) ↦ inr (ap suc here, same) ]
+
+-- one stage's part is replaced by one with room
+pub room_put : (stages : List Stage) (ps : List Pending) (k : ℕ) (here : Stage) (p : Pending) → k < length ps → slice_get stages k ≡ Some here → HasRoomFor here p → HaveRoomFor stages ps → HaveRoomFor stages (set ps k p)
+room_put stages ps k here p lt is room all = record {
+  all_stages = length-set ps k p ∙ all.all_stages;
+  each = λ j stage q at there. ⊎_elim
+      (λ (e : j ≡ k).
+      let one : p ≡ q = same_some p q (sym (set_here ps k p lt) ∙ ap (slice_get (set ps k p)) (sym e) ∙ there) in
+      let its : here ≡ stage = same_some here stage (sym is ∙ ap (slice_get stages) (sym e) ∙ at) in
+      subst (λ (x : Pending). HasRoomFor stage x) one (subst (λ (x : Stage). HasRoomFor x p) its room))
+      (λ (apart : j ≢ k). all.each j stage q at (sym (set_there ps k j p apart) ∙ there))
+      (cases_eq j k);
+}
+  where
+    same_some : {X : Type 0} (x y : X) → Some x ≡ Some y → x ≡ y
+    same_some x y e = cc

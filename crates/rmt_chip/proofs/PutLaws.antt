@@ -1,47 +1,133 @@
--- The first of some listed rows, put into vectors one after another.
-use Rattle.std.proofs.Common.{◌≡◌, ℕ, ◌+◌, ◌<◌, List, length, get_or, map, replicate, set, Option, Some, None, sym, ap, ◌∙◌, subst, arith, below_more}
-use Rattle.std.proofs.lemmas.List.{ext_get_or, get_or-map, get_or-set_same, get_or-set_other, length-set, length-map, length-replicate}
+-- What stands in a memory after one more of the listed cells was put.
+use Rattle.std.proofs.Common.{◌≡◌, ◌≢◌, ℕ, zero, suc, ◌+◌, ◌<◌, List, length, get_or, map, replicate, set, Option, None, sym, refl, ap, ◌∙◌, subst, arith, below_more, inl, inr}
+use Rattle.std.specs.Prelude.{All}
+use Rattle.std.specs.List.{range_with_len}
+use Rattle.std.proofs.lemmas.Bool.{cases_Bool, cases_eq}
+use Rattle.std.proofs.lemmas.List.FromFn.{get_or-map-range_with_len, length-map-range_with_len}
+use Rattle.std.proofs.lemmas.List.{ext_get_or, get_or-set_same, get_or-set_other, length-set, length-replicate}
 use Rattle.rmt_bits.specs.Grouping.{Compared}
 use Rattle.rmt_chip.specs.Types.{CellNumber}
+use Rattle.rmt_chip.specs.declared.memory.runs.Runs.{Runs}
 use Rattle.rmt_chip.specs.declared.memory.sliced.Sliced.{Sliced}
-use Rattle.rmt_chip.specs.Slicing.{StandsFor}
-use Rattle.rmt_chip.proofs.RangeLaws.{nowhere}
+use Rattle.rmt_chip.specs.Laying.{CellsPut, bytes_at, cell_at, nowhere}
+use Rattle.rmt_chip.specs.Laid.{NumbersLaid, Unlisted}
+use Rattle.rmt_config.specs.StageForm.{is_listed}
+use Rattle.rmt_chip.proofs.RangeLaws.{listed-place, unlisted-place}
+use Rattle.rmt_chip.specs.RunWrites.{RunSet}
+use Rattle.rmt_chip.specs.Searching.{run_of}
+use Rattle.rmt_chip.specs.Slicing.{RowSet, StandsFor}
 
-module _ (f : CellNumber → Compared) (numbers : List CellNumber) where
-  -- vectors stand for as many rows as are listed, and the first of these are as listed
-  pub record FirstPut (at : ℕ) (s : Sliced) : Type 0 where
-    pub rows : List (Option Compared)
-    pub size : length rows ≡ length numbers
-    pub stands : StandsFor rows s
-    pub each : (k : ℕ) → k < at → get_or rows k None ≡ Some (f (get_or numbers k nowhere))
+-- a place among the listed cells is among the first ones, or is the next
+up-to : (P : ℕ → Type 0) (at : ℕ) → ((i : ℕ) → i < at → P i) → P at → (i : ℕ) → i < at + 1 → P i
+up-to P at before here = below_more P at before here
 
-  pub none-put : (s : Sliced) → StandsFor (replicate (length numbers) None) s → FirstPut 0 s
-  none-put s stands = record {
-    rows = replicate (length numbers) None;
-    size = length-replicate {A = Option Compared} (length numbers) None;
+-- ---- runs
+
+pub one-run : (numbers : List CellNumber) (heads keys held : Runs) (at : ℕ) (old mid new : Runs) → at < length numbers → All (λ (n : CellNumber). n.cell < old.count) numbers
+    → CellsPut numbers heads keys held at old mid → RunSet (cell_at numbers at) (bytes_at heads keys held at) mid new → CellsPut numbers heads keys held (at + 1) old new
+one-run numbers heads keys held at old mid new lt below before put = record {
+  size = put.stay.size ∙ before.size;
+  same = put.stay.count ∙ before.same;
+  listed = λ bytes are.
+      up-to (λ i. run_of new (cell_at numbers i) ≡ bytes (cell_at numbers i)) at
+      (λ i less.
+      elim (cases_eq (cell_at numbers i) (cell_at numbers at)) as (λ _. run_of new (cell_at numbers i) ≡ bytes (cell_at numbers i)) [
+        | inl same ↦ ap (run_of new) same ∙ put.run ∙ are at lt ∙ ap bytes (sym same)
+        | inr other ↦ put.stay.others (cell_at numbers i) (let b = below i nowhere (omega (arith, less, lt)) in let s = before.same in omega (arith, b, s)) other ∙ before.listed bytes are i less
+      ])
+      (put.run ∙ are at lt);
+  others = λ n inside off.
+      put.stay.others n (let s = before.same in omega (arith, inside, s)) (λ e. off at (omega arith) (sym e)) ∙ before.others n inside (λ i less. off i (omega (arith, less)));
+}
+
+-- ---- numbers
+
+pub no-numbers : (numbers : List CellNumber) (all : ℕ) (entries : List ℕ) → length entries ≡ all → NumbersLaid numbers all 0 entries
+no-numbers numbers all entries size = record { size = size; each = λ value are i lt. absurd (omega (arith, lt)) }
+
+pub one-number : (numbers : List CellNumber) (all at : ℕ) (old : List ℕ) → at < length numbers → All (λ (n : CellNumber). n.cell < all) numbers → NumbersLaid numbers all at old
+    → NumbersLaid numbers all (at + 1) (set old (cell_at numbers at) (get_or numbers at nowhere).number)
+one-number numbers all at old lt below before =
+    let x = (get_or numbers at nowhere).number in
+    let cell = cell_at numbers at in
+    let there : cell < length old = (let b = below at nowhere lt in let s = before.size in omega (arith, b, s)) in
+    record {
+      size = length-set old cell x ∙ before.size;
+      each = λ value are.
+          up-to (λ i. get_or (set old cell x) (cell_at numbers i) 0 ≡ value (cell_at numbers i)) at
+          (λ i less.
+          elim (cases_eq (cell_at numbers i) cell) as (λ _. get_or (set old cell x) (cell_at numbers i) 0 ≡ value (cell_at numbers i)) [
+            | inl same ↦ ap (λ n. get_or (set old cell x) n 0) same ∙ get_or-set_same old cell x 0 there ∙ are at lt ∙ ap value (sym same)
+            | inr other ↦ get_or-set_other old cell (cell_at numbers i) x 0 other ∙ before.each value are i less
+          ])
+          (get_or-set_same old cell x 0 there ∙ are at lt);
+    }
+
+-- ---- vectors
+
+-- vectors have the first of the listed cells as rows, as a sight shows them, and no other
+pub record RowsPut (numbers : List CellNumber) (shown : ℕ → Option Compared) (sight count at : ℕ) (s : Sliced) : Type 0 where
+  pub rows : List (Option Compared)
+  pub size : length rows ≡ count
+  pub stands : StandsFor sight rows s
+  pub listed : (i : ℕ) → i < at → get_or rows (cell_at numbers i) None ≡ shown (cell_at numbers i)
+  pub others : (n : ℕ) → ((i : ℕ) → i < at → cell_at numbers i ≢ n) → get_or rows n None ≡ None
+
+none-there : (count n : ℕ) → get_or {A = Option Compared} (replicate count None) n None ≡ None
+none-there zero n = refl
+none-there (suc count) zero = refl
+none-there (suc count) (suc n) = none-there count n
+
+module _ (numbers : List CellNumber) (shown : ℕ → Option Compared) (sight count : ℕ) (few : sight < 3) where
+  pub no-rows : (s : Sliced) → StandsFor sight (replicate count None) s → RowsPut numbers shown sight count 0 s
+  no-rows s stands = record {
+    rows = replicate count None;
+    size = length-replicate {A = Option Compared} count None;
     stands = stands;
-    each = λ k lt. absurd (omega (arith, lt));
+    listed = λ i lt. absurd (omega (arith, lt));
+    others = λ n off. none-there count n;
   }
 
-  pub one-put : (at : ℕ) (old new : Sliced) (e : Compared) → FirstPut at old → at < length numbers → e ≡ f (get_or numbers at nowhere)
-      → ((rows : List (Option Compared)) → StandsFor rows old → at < length rows → StandsFor (set rows at (Some e)) new) → FirstPut (at + 1) new
-  one-put at old new e before inside is put =
-      let there : at < length before.rows = (let s = before.size in omega (arith, s, inside)) in
+  pub one-row : (at : ℕ) (old new : Sliced) (one : ℕ → Option Compared) → at < length numbers → All (λ (n : CellNumber). n.cell < count) numbers → RowsPut numbers shown sight count at old
+      → RowSet (cell_at numbers at) one old new → one sight ≡ shown (cell_at numbers at) → RowsPut numbers shown sight count (at + 1) new
+  one-row at old new one lt below before put is =
+      let cell = cell_at numbers at in
+      let rows = before.rows in
+      let there : cell < length rows = (let b = below at nowhere lt in let s = before.size in omega (arith, b, s)) in
       record {
-        rows = set before.rows at (Some e);
-        size = length-set before.rows at (Some e) ∙ before.size;
-        stands = put before.rows before.stands there;
-        each = below_more _ _
-            (λ k lt. get_or-set_other before.rows at k (Some e) None (λ same. absurd (omega (arith, same, lt))) ∙ before.each k lt)
-            (get_or-set_same before.rows at (Some e) None there ∙ ap (λ x. Some x) is);
+        rows = set rows cell (one sight);
+        size = length-set rows cell (one sight) ∙ before.size;
+        stands = put.stands sight rows few before.stands there;
+        listed =
+            up-to (λ i. get_or (set rows cell (one sight)) (cell_at numbers i) None ≡ shown (cell_at numbers i)) at
+            (λ i less.
+            elim (cases_eq (cell_at numbers i) cell) as (λ _. get_or (set rows cell (one sight)) (cell_at numbers i) None ≡ shown (cell_at numbers i)) [
+              | inl same ↦ ap (λ n. get_or (set rows cell (one sight)) n None) same ∙ get_or-set_same rows cell (one sight) None there ∙ is ∙ ap shown (sym same)
+              | inr other ↦ get_or-set_other rows cell (cell_at numbers i) (one sight) None other ∙ before.listed i less
+            ])
+            (get_or-set_same rows cell (one sight) None there ∙ is);
+        others = λ n off.
+            get_or-set_other rows cell n (one sight) None (λ e. off at (omega arith) (sym e)) ∙ before.others n (λ i less. off i (omega (arith, less)));
       }
 
-  pub all-put : (at : ℕ) (s : Sliced) → at ≡ length numbers → FirstPut at s → StandsFor (map (λ (n : CellNumber). Some (f n)) numbers) s
-  all-put at s end put =
-      let all = length-map numbers (λ (n : CellNumber). Some (f n)) in
-      let same : put.rows ≡ map (λ (n : CellNumber). Some (f n)) numbers =
-      ext_get_or None put.rows (map (λ (n : CellNumber). Some (f n)) numbers) (put.size ∙ sym all)
-      (λ k lt.
-      let inside : k < length numbers = (let s = put.size in omega (arith, s, lt)) in
-      put.each k (omega (arith, inside, end)) ∙ sym (get_or-map (λ (n : CellNumber). Some (f n)) numbers k nowhere None inside)) in
-      subst (λ (rs : List (Option Compared)). StandsFor rs s) same put.stands
+  -- so they stand for what the sight shows of each row
+  pub rows-are : (s : Sliced) → RowsPut numbers shown sight count (length numbers) s → ((n : ℕ) → n < count → Unlisted numbers n → shown n ≡ None) → StandsFor sight (map shown (range_with_len 0 count)) s
+  rows-are s put off = subst (λ (rs : List (Option Compared)). StandsFor sight rs s) same put.stands
+    where
+      at : (n : ℕ) → n < count → get_or put.rows n None ≡ shown n
+      at n lt =
+          elim (cases_Bool (is_listed n (map (λ (c : CellNumber). c.cell) numbers))) as (λ _. get_or put.rows n None ≡ shown n) [
+            | inl there ↦
+                let place = listed-place numbers n there in
+                subst (λ m. get_or put.rows m None ≡ shown m) place.is (put.listed place.at place.within)
+            | inr none ↦
+                let apart = unlisted-place numbers n none in
+                put.others n apart ∙ sym (off n lt apart)
+          ]
+
+      same : put.rows ≡ map shown (range_with_len 0 count)
+      same =
+          ext_get_or None put.rows (map shown (range_with_len 0 count)) (put.size ∙ sym (length-map-range_with_len shown 0 count))
+          (λ n lt.
+          let inside : n < count = (let e = put.size in omega (arith, e, lt)) in
+          at n inside ∙ sym (get_or-map-range_with_len shown 0 count n n None inside (omega arith)))

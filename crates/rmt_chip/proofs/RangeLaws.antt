@@ -1,8 +1,8 @@
 -- The first cell of a range that passes a test, where the cells that may pass are listed.
-use Rattle.std.proofs.Common.{◌≡◌, ℕ, zero, suc, ◌+◌, ◌<◌, ◌≤◌, List, [], ◌∷◌, ◌++◌, length, get_or, map, Bool, true, false, cond, ◌||◌, eqb, Option, Some, None, sym, refl, ap, ◌∙◌, arith, inl, inr}
+use Rattle.std.proofs.Common.{◌≡◌, ◌≢◌, ℕ, zero, suc, ◌+◌, ◌<◌, ◌≤◌, List, [], ◌∷◌, ◌++◌, length, get_or, map, Bool, true, false, cond, ◌||◌, eqb, Option, Some, None, sym, refl, ap, ◌∙◌, arith, inl, inr}
 use Rattle.std.specs.Prelude.{find, option_map, unwrap_or, slice_get}
 use Rattle.std.specs.List.{range_with_len, flat_map}
-use Rattle.std.proofs.lemmas.Bool.{cases_lt, cases_eq, false_from_ne_true, eqb-true, eq-eqb, ne_eqb}
+use Rattle.std.proofs.lemmas.Bool.{cases_eq, false_from_ne_true, false≢true, eqb-true, eq-eqb, ne_eqb}
 use Rattle.std.proofs.lemmas.List.Folds.{find_at}
 use Rattle.std.proofs.lemmas.List.Sums.{position_or_len_is}
 use Rattle.std.proofs.lemmas.Option.{slice_get-get_or}
@@ -10,20 +10,12 @@ use Rattle.rmt_chip.specs.Types.{CellNumber}
 use Rattle.rmt_config.specs.Order.{rises_from}
 use Rattle.rmt_config.specs.StageForm.{is_listed}
 use Rattle.rmt_config.specs.Cells.{number_of_cell}
-use Rattle.rmt_config.proofs.RiseLaws.{rise-below, rise-upto}
-use Rattle.rmt_chip.specs.Laying.{SplitsAt}
+use Rattle.rmt_config.proofs.RiseLaws.{rise-below}
+pub use Rattle.rmt_chip.specs.Laying.{cell_at, nowhere}
 use Rattle.rmt_chip.specs.Searching.{FirstIn}
 
 abbrev cell : CellNumber → ℕ
 cell c = c.cell
-
--- a cell number that stands nowhere
-abbrev pub nowhere : CellNumber
-nowhere = record { cell = 0; number = 0 }
-
--- the listed cell at a place
-abbrev pub cell_at : List CellNumber → ℕ → ℕ
-cell_at numbers at = (get_or numbers at nowhere).cell
 
 -- ---- the first in a list
 
@@ -78,6 +70,12 @@ module _ (p : ℕ → Bool) where
             ∙ find-parts_some f (a + 1) n v m (omega (arith, le, other)) (omega (arith, lt)) here (λ w lw. before w (omega (arith, lw)))
       ]
 
+-- tests that agree find the same
+pub find-same : (p q : ℕ → Bool) → ((n : ℕ) → p n ≡ q n) → (xs : List ℕ) → find p xs ≡ find q xs
+find-same p q same [] = refl
+find-same p q same (x ∷ xs) =
+    ap (λ b. cond b (Some x) (find p xs)) (same x) ∙ ap (λ o. cond (q x) (Some x) o) (find-same p q same xs)
+
 -- ---- listed cells
 
 -- the place of a listed cell
@@ -95,6 +93,17 @@ listed-place (c ∷ cs) n h =
           let rest = listed-place cs n (sym (ap (λ (b : Bool). b || is_listed n (map cell cs)) (ne_eqb c.cell n other)) ∙ h) in
           record { at = suc rest.at; within = (let lt = rest.within in omega (arith, lt)); is = rest.is }
     ]
+
+-- a cell that isn't listed stands at no place
+pub unlisted-place : (numbers : List CellNumber) (n : ℕ) → is_listed n (map cell numbers) ≡ false → (i : ℕ) → i < length numbers → cell_at numbers i ≢ n
+unlisted-place [] n h i lt e = absurd (omega (arith, lt))
+unlisted-place (c ∷ cs) n h zero lt e = false≢true (sym h ∙ ap (λ (b : Bool). b || is_listed n (map cell cs)) (eq-eqb c.cell n e))
+unlisted-place (c ∷ cs) n h (suc i) lt e =
+    unlisted-place cs n (rest (eqb c.cell n) (is_listed n (map cell cs)) h) i (omega (arith, lt)) e
+  where
+    rest : (a b : Bool) → (a || b) ≡ false → b ≡ false
+    rest true b none = absurd (false≢true (sym none))
+    rest false b none = none
 
 -- the number of a listed cell
 pub number-at : (numbers : List CellNumber) (i : ℕ) → rises_from 0 (map cell numbers) ≡ true → i < length numbers
@@ -114,40 +123,12 @@ number-at numbers i rise lt =
 
 -- ---- a row of cells
 
-module _ (numbers : List CellNumber) (rise : rises_from 0 (map cell numbers) ≡ true) (p : ℕ → Bool) (P : ℕ → Type 0) (count : ℕ) (listed : (n : ℕ) → n < count → p n ≡ true → ListedAt numbers n) (holds : (j : ℕ) → j < length numbers → p (cell_at numbers j) ≡ true → P j) (passes : (j : ℕ) → j < length numbers → P j → p (cell_at numbers j) ≡ true) where
-  -- a listed cell of at least this number stands at or behind the place where those begin
-  place_low : (a from : ℕ) → SplitsAt numbers from a → {n : ℕ} (there : ListedAt numbers n) → a ≤ n → from ≤ there.at
-  place_low a from low there ln =
-      elim (cases_lt there.at from) as (λ _. from ≤ there.at) [
-        | inl less ↦ let below = low.below there.at nowhere less in let e = there.is in absurd (omega (arith, below, e, ln))
-        | inr more ↦ more
-      ]
-
-  -- the first listed cell in a range whose places are known
-  pub range-find : (a len from to : ℕ) → a + len ≤ count → SplitsAt numbers from a → SplitsAt numbers to (a + len) → (found : Option ℕ) → FirstIn P from to found
-      → find p (range_with_len a len) ≡ option_map (cell_at numbers) found
-  range-find a len from to most low high None h =
-      find-range_none p a len (λ n ln lt. false_from_ne_true (p n) (λ pass.
-      let there = listed n (omega (arith, lt, most)) pass in
-      h there.at (place_low a from low there ln) (place_high there lt) (holds there.at there.within (ap p there.is ∙ pass))))
-    where
-      place_high : {n : ℕ} (there : ListedAt numbers n) → n < a + len → there.at < to
-      place_high there lt =
-          elim (cases_lt there.at to) as (λ _. there.at < to) [
-            | inl less ↦ less
-            | inr more ↦ let above = high.above there.at nowhere more there.within in let e = there.is in absurd (omega (arith, above, e, lt))
-          ]
-  range-find a len from to most low high (Some i) h =
-      let inside : i < length numbers = (let w = high.within in let lt = h.1 in omega (arith, w, lt)) in
-      let least : a ≤ cell_at numbers i = low.above i nowhere h.0 inside in
-      let most_i : cell_at numbers i < a + len = high.below i nowhere h.1 in
-      find-range_some p a len (cell_at numbers i) least most_i (passes i inside h.2) (λ n ln lt. false_from_ne_true (p n) (λ pass.
-      let there = listed n (omega (arith, lt, most_i, most)) pass in
-      h.3 there.at (place_low a from low there ln) (place_before there inside lt) (holds there.at there.within (ap p there.is ∙ pass))))
-    where
-      place_before : {n : ℕ} (there : ListedAt numbers n) → i < length numbers → n < cell_at numbers i → there.at < i
-      place_before there inside lt =
-          elim (cases_lt there.at i) as (λ _. there.at < i) [
-            | inl less ↦ less
-            | inr more ↦ let up = rise-upto cell numbers rise i there.at nowhere more there.within in let e = there.is in absurd (omega (arith, up, e, lt))
-          ]
+module _ (p : ℕ → Bool) (P : ℕ → Type 0) (count : ℕ) (holds : (j : ℕ) → j < count → p j ≡ true → P j) (passes : (j : ℕ) → j < count → P j → p j ≡ true) where
+  -- the first of a range, found by a fact that goes with the test
+  pub range-find : (a len : ℕ) → a + len ≤ count → (found : Option ℕ) → FirstIn P a (a + len) found → find p (range_with_len a len) ≡ found
+  range-find a len most None h =
+      find-range_none p a len (λ n ln lt. false_from_ne_true (p n) (λ pass. h n ln lt (holds n (omega (arith, lt, most)) pass)))
+  range-find a len most (Some i) h =
+      let lt = h.1 in
+      find-range_some p a len i h.0 h.1 (passes i (omega (arith, lt, most)) h.2) (λ n ln less. false_from_ne_true (p n) (λ pass.
+      h.3 n ln less (holds n (omega (arith, less, lt, most)) pass)))

@@ -1,6 +1,6 @@
--- What the units of a configuration read that keeps the rules of form and the limits, and what its own look-ups look into.
+-- What the units of a configuration read that keeps the rules of form and the limits and what its look-ups look into.
 use Rattle.std.proofs.Common.{◌≡◌, ℕ, ◌+◌, ◌*◌, ◌^◌, ◌≤◌, true, cond, not, ◌&&◌, ltb, leb, eqb, List, [], ◌∷◌, length, All, Option, Some, refl, ap, ◌∙◌, arith}
-use Rattle.std.specs.Prelude.{slice_get, count_by, option_and_then, bit_and}
+use Rattle.std.specs.Prelude.{slice_get, count_by, option_and_then, bit_and, is_some}
 use Rattle.std.specs.List.{list_all}
 use Rattle.std.proofs.lemmas.Bool.{ltb-true, leb-true, eqb-true, and_parts}
 use Rattle.std.proofs.lemmas.List.{nil_from_length}
@@ -16,9 +16,9 @@ use Rattle.rmt_config.specs.LaneForm.{lane_is_formed, bits_of_lanes}
 use Rattle.rmt_config.specs.UnitForm.{guard_is_formed, test_is_formed, number_is_formed, slot_head_is_formed, may_have_memory, format_is_formed, has_shape, are_sram_blocks, are_tcam_blocks, memory_is_formed, unit_is_formed}
 use Rattle.rmt_config.specs.Shapes.{exact_shape, ternary_shape}
 use Rattle.rmt_config.specs.Resources.{is_slot, is_gate}
-use Rattle.rmt_config.specs.ChipRun.{slot_look, own_look}
+use Rattle.rmt_config.specs.RunCells.{RunCells, as_slot, found_in_slot, look_in}
 use Rattle.rmt_chip.specs.Runnable.{LaneFits, UnitReads, StageReads}
-use Rattle.rmt_chip.specs.Memory.{LooksInto}
+use Rattle.rmt_chip.specs.Looks.{LooksInto}
 
 -- ---- lanes
 
@@ -130,9 +130,10 @@ stage_reads s formed slots gates =
 
 -- ---- look-ups
 
--- a configuration's own look-ups look into its slots
-pub own_looks : (c : Config) (k : ℕ) (stage : Stage) → slice_get c.stages k ≡ Some stage → LooksInto c.seed stage (own_look c) k
-own_looks c k stage found i u below s is key =
-    ap (λ (o : Option Stage). option_and_then (λ (t : Stage). slot_look c.seed t (slice_get t.units i) key) o) found
-    ∙ ap (λ (o : Option ChipUnit). slot_look c.seed stage o key) (slice_get-get_or stage.units i u below)
-    ∙ ap (λ (v : ChipUnit). slot_look c.seed stage (Some v) key) is
+-- a configuration's look-ups in cells look into its slots
+pub looks_into : (c : Config) (version : ℕ) (cells : RunCells) (k : ℕ) (stage : Stage) → slice_get c.stages k ≡ Some stage → LooksInto (is_some c.names) version cells stage (look_in c version cells) k
+looks_into c version cells k stage found i u below s is key =
+    let finds = found_in_slot (is_some c.names) version cells k i key in
+    ap (λ (o : Option Stage). option_and_then finds (option_and_then (λ (t : Stage). option_and_then as_slot (slice_get t.units i)) o)) found
+    ∙ ap (λ (o : Option ChipUnit). option_and_then finds (option_and_then as_slot o)) (slice_get-get_or stage.units i u below)
+    ∙ ap (λ (v : ChipUnit). option_and_then finds (as_slot v)) is

@@ -1,6 +1,6 @@
 -- Vectors of bits by the nibbles of a key stand for the rows that a key has.
 use Rattle.std.proofs.Common.{◌≡◌, ◌≢◌, ℕ, ◌+◌, ◌*◌, ◌/◌, ◌%◌, ◌^◌, ◌<◌, ◌≤◌, ◌==◌, Bool, true, false, List, length, get_or, Option, Some, None, set, sym, refl, ap, ◌∙◌, subst, arith, inl, inr}
-use Rattle.std.specs.Prelude.{bit_and, is_some, unwrap_or, IsSomeAnd}
+use Rattle.std.specs.Prelude.{bit_and, is_some, IsSomeAnd}
 use Rattle.std.specs.Int.{bit_at}
 use Rattle.std.proofs.lemmas.Bool.{cases_lt, cases_eq, eqb-true, eq-eqb}
 use Rattle.std.proofs.lemmas.Grind.{same_number_lists, get_or_default_zero}
@@ -96,7 +96,7 @@ on-true false h = absurd (omega (arith, h))
 
 -- ---- rows
 
-module _ (s : Sliced) (rows : List (Option Compared)) (stands : StandsFor rows s) (key : List ℕ) (enough : s.words ≤ length key) (vectors : List ℕ)
+module _ (s : Sliced) (sight : ℕ) (rows : List (Option Compared)) (stands : StandsFor sight rows s) (key : List ℕ) (enough : s.words ≤ length key) (vectors : List ℕ)
     (picked : (n : ℕ) → n < 10 * s.words → get_or vectors n 0 ≡ (16 * n + nibble key n) * s.width) where
   abbrev row : ℕ → Option Compared
   row r = get_or rows r None
@@ -108,7 +108,7 @@ module _ (s : Sliced) (rows : List (Option Compared)) (stands : StandsFor rows s
   vector-below : (n : ℕ) → n < 10 * s.words → 16 * n + nibble key n < 160 * s.words
   vector-below n lt = let small = nibble-lt key n in omega (arith, lt, small)
 
-  pub on-has : (r : ℕ) → r < 64 * s.width → OnIn s vectors r → HasRow key rows r
+  pub on-has : (r : ℕ) → r < 64 * s.width → OnIn s sight vectors r → HasRow key rows r
   on-has r lt on = by (row r) refl
     where
       by : (o : Option Compared) → row r ≡ o → IsSomeAnd o (Has key)
@@ -119,10 +119,10 @@ module _ (s : Sliced) (rows : List (Option Compared)) (stands : StandsFor rows s
           let bit : bit_if (leaves e (16 * n + nibble key n)) ≡ 1 = sym (stands.left r e (16 * n + nibble key n) is (vector-below n ln)) ∙ sym (bit-is r n ln) ∙ on.1 n ln in
           eqb-true _ _ (sym (leaves-is e n (nibble key n) small) ∙ on-true _ bit))
 
-  pub has-on : (r : ℕ) → r < 64 * s.width → HasRow key rows r → OnIn s vectors r
+  pub has-on : (r : ℕ) → r < 64 * s.width → HasRow key rows r → OnIn s sight vectors r
   has-on r lt has = by (row r) refl has
     where
-      by : (o : Option Compared) → row r ≡ o → IsSomeAnd o (Has key) → OnIn s vectors r
+      by : (o : Option Compared) → row r ≡ o → IsSomeAnd o (Has key) → OnIn s sight vectors r
       by None is h = absurd h
       by (Some e) is h = (
         stands.there r lt ∙ ap (λ o. bit_if (is_some o)) is,
@@ -139,7 +139,7 @@ module _ (s : Sliced) (rows : List (Option Compared)) (stands : StandsFor rows s
         | inr more ↦ absurd (subst (λ o. IsSomeAnd o (Has key)) (get_or_past rows r None more) has)
       ]
 
-  pub first-is : (found : Option ℕ) → FirstIn (OnIn s vectors) 0 (64 * s.width) found → FirstIn (HasRow key rows) 0 (length rows) found
+  pub first-is : (found : Option ℕ) → FirstIn (OnIn s sight vectors) 0 (64 * s.width) found → FirstIn (HasRow key rows) 0 (length rows) found
   first-is None none = λ j le lt has. none j le (let room = stands.room in omega (arith, lt, room)) (has-on j (let room = stands.room in omega (arith, lt, room)) has)
   first-is (Some i) first =
       let has = on-has i first.1 first.2 in (
@@ -150,6 +150,9 @@ module _ (s : Sliced) (rows : List (Option Compared)) (stands : StandsFor rows s
       )
 
 -- ---- a row is put
+
+pub none-some : (e : Compared) → None ≡ Some e → ⊥
+none-some e h = let n : ⊥ = cc in n
 
 no-some : (e : Compared) (o : Option Compared) → o ≡ None → o ≡ Some e → ⊥
 no-some e o none some = let h : None ≡ Some e = sym none ∙ some in apart h
@@ -164,40 +167,41 @@ row-below rows r e is =
       | inr more ↦ absurd (no-some e (get_or rows r None) (get_or_past rows r None more) is)
     ]
 
-module _ (rows : List (Option Compared)) (words width row : ℕ) (before after : List ℕ) (e : Compared) (stands : BitsFor rows words width before) (inside : row < length rows) (fits : RowFits words e)
-    (there : bit_in after width (160 * words) row ≡ 1) (left : (v : ℕ) → v < 160 * words → bit_in after width v row ≡ bit_if (leaves e v))
+module _ (sight : ℕ) (rows : List (Option Compared)) (words width row : ℕ) (before after : List ℕ) (shown : Option Compared) (stands : BitsFor sight rows words width before) (inside : row < length rows)
+    (fits : (e : Compared) → shown ≡ Some e → RowFits words e) (there : bit_in after width (160 * words + sight) row ≡ bit_if (is_some shown))
+    (left : (e : Compared) (v : ℕ) → shown ≡ Some e → v < 160 * words → bit_in after width v row ≡ bit_if (leaves e v))
     (others : (v r : ℕ) → r < 64 * width → r ≢ row → bit_in after width v r ≡ bit_in before width v r) where
   abbrev put : List (Option Compared)
-  put = set rows row (Some e)
+  put = set rows row shown
 
-  own : get_or put row None ≡ Some e
-  own = get_or-set_same rows row (Some e) None inside
+  own : get_or put row None ≡ shown
+  own = get_or-set_same rows row shown None inside
 
   kept : (r : ℕ) → r ≢ row → get_or put r None ≡ get_or rows r None
-  kept r ne = get_or-set_other rows row r (Some e) None ne
+  kept r ne = get_or-set_other rows row r shown None ne
 
   -- what stands at the row is what was put
-  is-put : (r : ℕ) (x : Compared) → r ≡ row → get_or put r None ≡ Some x → e ≡ x
-  is-put r x same is = ap (λ o. unwrap_or o e) (sym own ∙ ap (λ n. get_or put n None) (sym same) ∙ is)
+  is-put : (r : ℕ) (x : Compared) → r ≡ row → get_or put r None ≡ Some x → shown ≡ Some x
+  is-put r x same is = sym own ∙ ap (λ n. get_or put n None) (sym same) ∙ is
 
   fit_put : (r : ℕ) (x : Compared) → get_or put r None ≡ Some x → RowFits words x
   fit_put r x is =
       elim (cases_eq r row) as (λ _. RowFits words x) [
-        | inl same ↦ subst (RowFits words) (is-put r x same is) fits
+        | inl same ↦ fits x (is-put r x same is)
         | inr other ↦ stands.fit r x (sym (kept r other) ∙ is)
       ]
 
-  there_put : (r : ℕ) → r < 64 * width → bit_in after width (160 * words) r ≡ bit_if (is_some (get_or put r None))
+  there_put : (r : ℕ) → r < 64 * width → bit_in after width (160 * words + sight) r ≡ bit_if (is_some (get_or put r None))
   there_put r lt =
-      elim (cases_eq r row) as (λ _. bit_in after width (160 * words) r ≡ bit_if (is_some (get_or put r None))) [
-        | inl same ↦ ap (bit_in after width (160 * words)) same ∙ there ∙ sym (ap (λ n. bit_if (is_some (get_or put n None))) same ∙ ap (λ o. bit_if (is_some o)) own)
-        | inr other ↦ others (160 * words) r lt other ∙ stands.there r lt ∙ sym (ap (λ o. bit_if (is_some o)) (kept r other))
+      elim (cases_eq r row) as (λ _. bit_in after width (160 * words + sight) r ≡ bit_if (is_some (get_or put r None))) [
+        | inl same ↦ ap (bit_in after width (160 * words + sight)) same ∙ there ∙ sym (ap (λ n. bit_if (is_some (get_or put n None))) same ∙ ap (λ o. bit_if (is_some o)) own)
+        | inr other ↦ others (160 * words + sight) r lt other ∙ stands.there r lt ∙ sym (ap (λ o. bit_if (is_some o)) (kept r other))
       ]
 
   left_put : (r : ℕ) (x : Compared) (v : ℕ) → get_or put r None ≡ Some x → v < 160 * words → bit_in after width v r ≡ bit_if (leaves x v)
   left_put r x v is lt =
       elim (cases_eq r row) as (λ _. bit_in after width v r ≡ bit_if (leaves x v)) [
-        | inl same ↦ ap (bit_in after width v) same ∙ left v lt ∙ ap (λ (y : Compared). bit_if (leaves y v)) (is-put r x same is)
+        | inl same ↦ ap (bit_in after width v) same ∙ left x v (is-put r x same is) lt
         | inr other ↦
             let was = sym (kept r other) ∙ is in
             let below = row-below rows r x was in
@@ -205,9 +209,9 @@ module _ (rows : List (Option Compared)) (words width row : ℕ) (before after :
             others v r (omega (arith, below, room)) other ∙ stands.left r x v was lt
       ]
 
-  pub put-stands : BitsFor put words width after
+  pub put-stands : BitsFor sight put words width after
   put-stands = record {
-    room = let size = length-set rows row (Some e) in let room = stands.room in omega (arith, size, room);
+    room = let size = length-set rows row shown in let room = stands.room in omega (arith, size, room);
     fit = fit_put;
     there = there_put;
     left = left_put;

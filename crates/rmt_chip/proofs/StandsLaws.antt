@@ -1,58 +1,179 @@
 -- What a chip stands for, one cycle later.
-use Rattle.std.proofs.Common.{◌≡◌, ℕ, ◌+◌, ◌%◌, ◌<◌, ◌≤◌, Bool, true, false, cond, List, [], ◌∷◌, ◌++◌, length, reverse, Option, Some, None, refl, sym, ap, ◌∙◌, subst, le-leb, arith}
+use Rattle.std.proofs.Common.{◌≡◌, ℕ, ◌+◌, ◌%◌, ◌<◌, ◌≤◌, Bool, true, false, cond, List, [], ◌∷◌, ◌++◌, length, append_assoc, Option, Some, None, Vec, Global, refl, sym, ap, ◌∙◌, subst, le-leb}
 use Rattle.std.specs.Prelude.{IsTrue, is_some, is_none, slice_index}
+use Rattle.std.specs.List.{flat_map}
+use Rattle.std.proofs.lemmas.List.{append-nil}
+use Rattle.std.proofs.lemmas.List.Sums.{fold-append, sum_by_push}
+use Rattle.std.proofs.lemmas.Grind.{flat_map-append}
 use Rattle.rmt_config.specs.Limits.{limit_hit, IsWithinLimits}
 use Rattle.rmt_bits.specs.Packet.{Packet}
+use Rattle.rmt_bits.specs.Counts.{counts}
+use Rattle.rmt_bits.specs.declared.answer.Count.{Count}
 use Rattle.rmt_bits.specs.declared.answer.Verdict.{Verdict}
 use Rattle.rmt_chip.specs.Types.{Config}
 use Rattle.rmt_config.specs.Life.{Look}
 use Rattle.rmt_config.specs.Parser.{Parse, Short, Reject, Accept, parse}
-use Rattle.rmt_config.specs.ChipRun.{own_look, answer_at, latency_of, words_from}
-use Rattle.rmt_bits.specs.declared.answer.Count.{Count}
-use Rattle.std.proofs.Common.{Vec, Global}
+use Rattle.rmt_config.specs.ChipRun.{counted_numbers, latency_of, words_from}
+use Rattle.rmt_config.specs.RunCells.{RunCells, own_cells}
+use Rattle.rmt_config.specs.RunInputs.{Input, Turns, after_input, answer_in, hits_from, input_of as input_with, numbers_brought, packet_of}
 use Rattle.rmt_chip.specs.declared.memory.SlotMemory.{SlotMemory}
-use Rattle.rmt_chip.specs.FrameList.{frames_of}
-use Rattle.rmt_chip.specs.StageMemories.{LaidOut}
-use Rattle.rmt_chip.specs.PacketsInFlight.{InFlight}
+use Rattle.rmt_chip.specs.declared.moment.Moment.{Moment}
 use Rattle.rmt_chip.specs.declared.packet_slot.PacketSlot.{PacketSlot}
 use Rattle.rmt_chip.specs.declared.chip.Chip.{Chip}
 use Rattle.rmt_chip.specs.declared.frame.Frame.{Frame}
 use Rattle.rmt_chip.specs.declared.seen.Seen.{Seen}
+use Rattle.rmt_chip.specs.FrameList.{frames_of}
 use Rattle.rmt_chip.specs.Held.{Entered, HoldsIf, CarriedFor}
-use Rattle.rmt_chip.specs.Inputs.{entered_at, packets_of, input_of}
+use Rattle.rmt_chip.specs.Inputs.{entered_at, input_of, packets_of}
 use Rattle.rmt_chip.specs.Leaving.{AnswersIf}
-use Rattle.rmt_chip.specs.Stands.{Stands, Shows, in_flight}
-use Rattle.rmt_chip.proofs.EnterLaws.{reverse_push}
+use Rattle.rmt_chip.specs.Cycles.{Cycles}
+use Rattle.rmt_chip.specs.PacketsInFlight.{InFlight, Precedes, cells_after, numbers_after}
+use Rattle.rmt_chip.specs.StageMemories.{MemoriesHold}
+use Rattle.rmt_chip.specs.Stands.{Stands, Took, Turned, Shows, in_flight}
+use Rattle.rmt_chip.specs.declared.frames.Frames.{Frames}
+use Rattle.rmt_chip.specs.Ring.{now, next, AllHold, FramesAre}
+use Rattle.rmt_bits.specs.Counts.{Counters}
+use Rattle.rmt_chip.proofs.MemoriesLaws.{memories_turned}
 
-packets_push : (inputs : List (Option Packet)) (frame : Option Frame) → packets_of (reverse (inputs ++ input_of frame ∷ [])) ≡ packets_of (reverse inputs) + cond (is_some frame) 1 0
-packets_push inputs None = ap packets_of (reverse_push inputs None) ∙ (let e : packets_of (reverse inputs) ≡ packets_of (reverse inputs) + 0 = omega arith in e)
-packets_push inputs (Some f) = ap packets_of (reverse_push inputs (input_of (Some f)))
+-- ---- the inputs with one more
+
+packets_push : (inputs : List Input) (input : Input) → packets_of (inputs ++ input ∷ []) ≡ packets_of inputs + cond (is_some (packet_of input)) 1 0
+packets_push inputs input = sum_by_push (λ i. cond (is_some (packet_of i)) 1 0) inputs input
+
+cells_push : (c : Config) (inputs : List Input) (input : Input) → cells_after c (inputs ++ input ∷ []) ≡ after_input c (cells_after c inputs) input
+cells_push c inputs input = fold-append (after_input c) (own_cells c) inputs (input ∷ [])
+
+pub numbers_push : (c : Config) (inputs : List Input) (input : Input) → numbers_after c (inputs ++ input ∷ []) ≡ numbers_after c inputs ++ numbers_brought c input
+numbers_push c inputs input =
+    let brought = flat_map (numbers_brought c) inputs in
+    ap (λ ns. counted_numbers c ++ ns) (flat_map-append (numbers_brought c) inputs (input ∷ []) ∙ ap (λ ns. brought ++ ns) (append-nil (numbers_brought c input)))
+    ∙ sym (append_assoc (counted_numbers c) brought (numbers_brought c input))
+
+-- ---- one cycle of the packets
 
 -- what one cycle of the parts gives
-abbrev pub CycleGives : Config → ℕ → Option Frame → ℕ → List PacketSlot → List PacketSlot → List (List ℕ) → List (List ℕ) → List Count → List Count → Option Verdict → List ℕ → Type 0
-CycleGives c newest frame number old new frames frames' counters counters' answer bytes = (inputs : List (Option Packet)) (before : ℕ) → before < 385 → newest ≡ (before + 1) % 385 →
-    number ≡ packets_of (reverse inputs) → InFlight c inputs before old frames counters
-    → InFlight c (inputs ++ input_of frame ∷ []) newest new frames' counters' × AnswersIf (answer_at c (inputs ++ input_of frame ∷ []) (length inputs)) answer bytes
+abbrev pub CycleGives : Config → Moment → Option Frame → List (Vec SlotMemory Global) → List PacketSlot → List PacketSlot → List (List ℕ) → List (List ℕ) → List Count → List Count → Option Verdict → List ℕ → Type 0
+CycleGives c moment frame memories old new frames frames' counters counters' answer bytes = (numbers : List ℕ) (inputs later : List Input) (input : Input) (before : ℕ) →
+    Precedes c inputs input before moment frame memories → InFlight c numbers inputs (input ∷ later) before old frames counters
+    → Cycles c numbers inputs later input moment.newest new frames' counters' answer bytes
 
-pub clock_right : (c : Config) (inputs : List (Option Packet)) (frame : Option Frame) (old new : Chip) (answer : Option Verdict) (bytes : List ℕ)
-    → old.newest < 385 → new.config ≡ old.config → new.memories ≡ old.memories → new.entered ≡ old.entered + cond (is_some frame) 1 0 → new.newest ≡ (old.newest + 1) % 385
-    → (LaidOut old.config.seed old.config.stages old.memories.items →
-    CycleGives old.config new.newest frame old.entered old.places.items new.places.items (frames_of old.frames) (frames_of new.frames) old.counters.counts new.counters.counts answer bytes)
-    → Stands c inputs old → Stands c (inputs ++ input_of frame ∷ []) new × AnswersIf (answer_at c (inputs ++ input_of frame ∷ []) (length inputs)) answer bytes
-clock_right c inputs frame old new answer bytes ring same_config same_memories grown turned cycle s =
-    let cfg = old.config in
-    let flies : InFlight cfg inputs old.newest old.places.items (frames_of old.frames) old.counters.counts =
-    subst (λ (k : Config). InFlight k inputs old.newest old.places.items (frames_of old.frames) old.counters.counts) (sym s.config_is) s.in_flight in
-    let r = cycle s.memories_are inputs old.newest ring turned s.entered_is flies in (
+same_some : (input : Input) (frame : Option Frame) → packet_of input ≡ input_of frame → is_some (packet_of input) ≡ is_some frame
+same_some input frame is = ap (λ (o : Option Packet). is_some o) is ∙ by frame
+  where
+    by : (o : Option Frame) → is_some (input_of o) ≡ is_some o
+    by None = refl
+    by (Some f) = refl
+
+pub turn_right : (c : Config) (numbers : List ℕ) (inputs : List Input) (input : Input) (frame : Option Frame) (old new : Chip) (answer : Option Verdict) (bytes : List ℕ)
+    → old.newest < 385 → packet_of input ≡ input_of frame → new.config ≡ old.config → new.memories ≡ old.memories → new.seed ≡ old.seed → new.version ≡ old.version
+    → new.entered ≡ old.entered + cond (is_some frame) 1 0 → new.newest ≡ (old.newest + 1) % 385
+    → CycleGives old.config (record { newest = new.newest; number = old.entered; version = old.version; seed = old.seed }) frame old.memories.items old.places.items new.places.items (frames_of old.frames) (frames_of new.frames) old.counters.counts new.counters.counts answer bytes
+    → Took c numbers inputs old → Turned c numbers inputs input new × AnswersIf (answer_in c (inputs ++ input ∷ []) (length inputs)) answer bytes
+turn_right c numbers inputs input frame old new answer bytes ring is same_config same_memories same_seed same_version grown turned cycle s =
+    let moment : Moment = record { newest = new.newest; number = old.entered; version = old.version; seed = old.seed } in
+    let cycles = subst (λ (k : Config). CycleGives k moment frame old.memories.items old.places.items new.places.items (frames_of old.frames) (frames_of new.frames) old.counters.counts new.counters.counts answer bytes) s.config_is cycle in
+    let comes : Precedes c inputs input old.newest moment frame old.memories.items = record {
+      within = ring;
+      newest_is = turned;
+      number_is = s.entered_is;
+      version_is = s.version_is;
+      seed_is = s.seed_is;
+      enters = is;
+      held = s.memories_are;
+    } in
+    let given : (later : List Input) → Cycles c numbers inputs later input new.newest new.places.items (frames_of new.frames) new.counters.counts answer bytes =
+    λ later. cycles numbers inputs later input old.newest comes (s.in_flight (input ∷ later)) in (
       record {
+        formed = s.formed;
         config_is = same_config ∙ s.config_is;
-        memories_are = subst (λ (k : Config). LaidOut k.seed k.stages new.memories.items) (sym same_config)
-            (subst (λ (m : Vec (Vec SlotMemory Global) Global). LaidOut cfg.seed cfg.stages m.items) (sym same_memories) s.memories_are);
-        entered_is = grown ∙ ap (λ n. n + cond (is_some frame) 1 0) s.entered_is ∙ sym (packets_push inputs frame);
-        in_flight = subst (λ (k : Config). InFlight k (inputs ++ input_of frame ∷ []) new.newest new.places.items (frames_of new.frames) new.counters.counts) s.config_is r.0;
+        memories_are = subst (λ (m : Vec (Vec SlotMemory Global) Global). MemoriesHold c (cells_after c inputs) m.items) (sym same_memories) s.memories_are;
+        entered_is = grown ∙ ap (λ n. n + cond (is_some frame) 1 0) s.entered_is ∙ ap (λ (b : Bool). packets_of inputs + cond b 1 0) (sym (same_some input frame is)) ∙ sym (packets_push inputs input);
+        seed_is = same_seed ∙ s.seed_is;
+        version_is = same_version ∙ s.version_is;
+        in_flight = λ later. (given later).flies;
       },
-      subst (λ (k : Config). AnswersIf (answer_at k (inputs ++ input_of frame ∷ []) (length inputs)) answer bytes) s.config_is r.1,
+      subst (λ (run : List Input). AnswersIf (answer_in c run (length inputs)) answer bytes) (append-nil (inputs ++ input ∷ [])) (given []).answers,
     )
+
+-- ---- what the cycle's input changes
+
+pub stands_next : (c : Config) (numbers : List ℕ) (inputs : List Input) (input : Input) (turned chip : Chip) → Turned c numbers inputs input turned
+    → chip.config ≡ turned.config → chip.entered ≡ turned.entered → chip.newest ≡ turned.newest → chip.places ≡ turned.places → chip.frames ≡ turned.frames → chip.counters ≡ turned.counters
+    → MemoriesHold c (after_input c (cells_after c inputs) input) chip.memories.items
+    → chip.seed ≡ (after_input c (cells_after c inputs) input).seed → chip.version ≡ (after_input c (cells_after c inputs) input).version
+    → numbers ≡ numbers_after c inputs ++ numbers_brought c input → Stands c (inputs ++ input ∷ []) chip
+stands_next c numbers inputs input turned chip t config entered newest places frames counters memories seed version known =
+    let all = inputs ++ input ∷ [] in
+    let cells = cells_push c inputs input in
+    record {
+      formed = t.formed;
+      config_is = config ∙ t.config_is;
+      memories_are = subst (λ (x : RunCells). MemoriesHold c x chip.memories.items) (sym cells) memories;
+      entered_is = entered ∙ t.entered_is;
+      seed_is = seed ∙ sym (ap (λ (x : RunCells). x.seed) cells);
+      version_is = version ∙ sym (ap (λ (x : RunCells). x.version) cells);
+      in_flight = λ later.
+          let was = t.in_flight later in
+          let item = entered_at c (all ++ later) (length all) in
+          record {
+            places_hold = subst (λ (n : ℕ). AllHold c item now now now next n chip.places.items) (sym newest)
+                (subst (λ (ps : Vec PacketSlot Global). AllHold c item now now now next turned.newest ps.items) (sym places) was.places_hold);
+            frames_stand = subst (λ (n : ℕ). FramesAre item n (frames_of chip.frames)) (sym newest)
+                (subst (λ (fs : Frames). FramesAre item turned.newest (frames_of fs)) (sym frames) was.frames_stand);
+            counters_are = ap (λ (x : Counters). x.counts) counters ∙ was.counters_are
+                ∙ ap (λ ns. counts ns (hits_from c (all ++ later) 0 all)) (known ∙ sym (numbers_push c inputs input));
+          };
+    }
+
+-- no number is brought
+none_more : (c : Config) (inputs : List Input) → numbers_after c inputs ≡ numbers_after c inputs ++ []
+none_more c inputs = sym (append-nil (numbers_after c inputs))
+
+-- what enters, or nothing, is as it was
+pub packet_back : (o : Option Packet) → packet_of (input_with o) ≡ o
+packet_back None = refl
+packet_back (Some p) = refl
+
+pub stands_clocked : (c : Config) (inputs : List Input) (o : Option Packet) (turned : Chip) → Turned c (numbers_after c inputs) inputs (input_with o) turned → Stands c (inputs ++ input_with o ∷ []) turned
+stands_clocked c inputs None turned t =
+    stands_next c (numbers_after c inputs) inputs (input_with None) turned turned t refl refl refl refl refl refl t.memories_are t.seed_is t.version_is (none_more c inputs)
+stands_clocked c inputs (Some p) turned t =
+    stands_next c (numbers_after c inputs) inputs (input_with (Some p)) turned turned t refl refl refl refl refl refl t.memories_are t.seed_is t.version_is (none_more c inputs)
+
+-- a new version with a seed
+pub stands_committed : (c : Config) (inputs : List Input) (seed : ℕ) (turned chip : Chip) → Turned c (numbers_after c inputs) inputs (Turns seed) turned
+    → chip.config ≡ turned.config → chip.entered ≡ turned.entered → chip.newest ≡ turned.newest → chip.places ≡ turned.places → chip.frames ≡ turned.frames → chip.counters ≡ turned.counters
+    → chip.memories ≡ turned.memories → chip.seed ≡ seed → chip.version ≡ turned.version + 1 → Stands c (inputs ++ Turns seed ∷ []) chip
+stands_committed c inputs seed turned chip t config entered newest places frames counters memories seed_is version_is =
+    stands_next c (numbers_after c inputs) inputs (Turns seed) turned chip t config entered newest places frames counters
+    (memories_turned c (cells_after c inputs) seed chip.memories.items (subst (λ (m : Vec (Vec SlotMemory Global) Global). MemoriesHold c (cells_after c inputs) m.items) (sym memories) t.memories_are))
+    seed_is (version_is ∙ ap (λ (n : ℕ). n + 1) t.version_is) (none_more c inputs)
+
+-- counters with other room, or for other numbers
+pub took_counting : (c : Config) (numbers numbers' : List ℕ) (inputs : List Input) (old new : Chip)
+    → new.config ≡ old.config → new.memories ≡ old.memories → new.entered ≡ old.entered → new.seed ≡ old.seed → new.version ≡ old.version → new.newest ≡ old.newest → new.places ≡ old.places → new.frames ≡ old.frames
+    → ((later : List Input) → old.counters.counts ≡ counts numbers (hits_from c (inputs ++ later) 0 inputs) → new.counters.counts ≡ counts numbers' (hits_from c (inputs ++ later) 0 inputs))
+    → Took c numbers inputs old → Took c numbers' inputs new
+took_counting c numbers numbers' inputs old new config memories entered seed version newest places frames counted s = record {
+  formed = s.formed;
+  config_is = config ∙ s.config_is;
+  memories_are = subst (λ (m : Vec (Vec SlotMemory Global) Global). MemoriesHold c (cells_after c inputs) m.items) (sym memories) s.memories_are;
+  entered_is = entered ∙ s.entered_is;
+  seed_is = seed ∙ s.seed_is;
+  version_is = version ∙ s.version_is;
+  in_flight = λ later.
+      let was = s.in_flight later in
+      let item = entered_at c (inputs ++ later) (length inputs) in
+      record {
+        places_hold = subst (λ (n : ℕ). AllHold c item now now now next n new.places.items) (sym newest)
+            (subst (λ (ps : Vec PacketSlot Global). AllHold c item now now now next old.newest ps.items) (sym places) was.places_hold);
+        frames_stand = subst (λ (n : ℕ). FramesAre item n (frames_of new.frames)) (sym newest)
+            (subst (λ (fs : Frames). FramesAre item old.newest (frames_of fs)) (sym frames) was.frames_stand);
+        counters_are = counted later was.counters_are;
+      };
+}
+
+-- ---- what is seen
 
 -- the words of a packet in its place are those of its life
 words_held : (look : Look) (c : Config) (packet : Packet) (age l : ℕ) (place : PacketSlot) (p : Parse) → CarriedFor look c packet age age age l place p → (w : ℕ) → slice_index place.vector w ≡ words_from look c packet p age w
@@ -60,19 +181,24 @@ words_held look c packet age l place Short held w = held.1 w
 words_held look c packet age l place Reject held w = held.1 w
 words_held look c packet age l place (Accept r) held w = held.2.words w
 
-pub shows_entered : (c : Config) (age : ℕ) (item : Option Entered) (place : PacketSlot) (seen : Seen) → HoldsIf (own_look c) c item age age age (age + 1) place → place.taken ≡ true → seen.number ≡ place.number → seen.words.now ≡ place.vector → Shows c age item (Some seen)
+pub shows_entered : (c : Config) (age : ℕ) (item : Option Entered) (place : PacketSlot) (seen : Seen) → HoldsIf c item age age age (age + 1) place → place.taken ≡ true → seen.number ≡ place.number → seen.words.now ≡ place.vector → Shows c age item (Some seen)
 shows_entered c age None place seen held taken number words = let free : place.taken ≡ false = held.taken in cc
 shows_entered c age (Some e) place seen held taken number words =
-    (number ∙ held.number, λ w. ap (λ (ws : List ℕ). slice_index ws w) words ∙ words_held (own_look c) c e.packet age (age + 1) place (parse c.parser e.packet.frame) held.carried w)
+    (number ∙ held.number, λ w. ap (λ (ws : List ℕ). slice_index ws w) words ∙ words_held e.look c e.packet age (age + 1) place (parse c.parser e.packet.frame) held.carried w)
 
-pub shows_none : (c : Config) (age : ℕ) (item : Option Entered) (place : PacketSlot) → HoldsIf (own_look c) c item age age age (age + 1) place → place.taken ≡ false → Shows c age item None
+pub shows_none : (c : Config) (age : ℕ) (item : Option Entered) (place : PacketSlot) → HoldsIf c item age age age (age + 1) place → place.taken ≡ false → Shows c age item None
 shows_none c age None place held taken = tt
 shows_none c age (Some e) place held taken = let h : place.taken ≡ true = held.taken in cc
 
 -- where an age is not past the last one
-pub shows_within : (c : Config) (inputs : List (Option Packet)) (age : ℕ) (seen : Option Seen) → age ≤ latency_of c.stages → Shows c age (entered_at inputs age) seen → Shows c age (in_flight c inputs age) seen
+pub shows_within : (c : Config) (inputs : List Input) (age : ℕ) (seen : Option Seen) → age ≤ latency_of c.stages → Shows c age (entered_at c inputs (length inputs) age) seen → Shows c age (in_flight c inputs age) seen
 shows_within c inputs age seen h shows =
-    subst (λ (b : Bool). Shows c age (cond b (entered_at inputs age) None) seen) (sym (le-leb age (latency_of c.stages) h)) shows
+    subst (λ (b : Bool). Shows c age (cond b (entered_at c inputs (length inputs) age) None) seen) (sym (le-leb age (latency_of c.stages) h)) shows
+
+-- what the packet slots hold after all inputs
+pub held_now : (c : Config) (inputs : List Input) (chip : Chip) → Stands c inputs chip → AllHold c (entered_at c inputs (length inputs)) now now now next chip.newest chip.places.items
+held_now c inputs chip s =
+    subst (λ (run : List Input). AllHold c (entered_at c run (length inputs)) now now now next chip.newest chip.places.items) (append-nil inputs) (s.in_flight []).places_hold
 
 -- a configuration within its limits, as the chip keeps the fact
 pub no_limit : (c : Config) → IsTrue (is_none (limit_hit c)) → IsWithinLimits c

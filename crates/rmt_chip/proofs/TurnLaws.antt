@@ -1,13 +1,14 @@
 -- What is counted in one cycle: the hits of every packet at the ages at which its stages count them.
-use Rattle.std.proofs.Common.{◌≡◌, ℕ, zero, suc, ◌+◌, ◌%◌, ◌^◌, ◌<◌, ◌≤◌, Bool, true, false, cond, ◌==◌, List, [], ◌∷◌, ◌++◌, length, get_or, map, reverse, Option, Some, None, refl, sym, ap, subst, ◌∙◌, arith}
-use Rattle.std.specs.Prelude.{nat_lt, slice_get, fold}
+use Rattle.std.proofs.Common.{◌≡◌, ℕ, zero, suc, ◌+◌, ◌%◌, ◌^◌, ◌-◌, ◌<◌, ◌≤◌, ⊎_elim, Bool, true, false, cond, ◌==◌, List, [], ◌∷◌, ◌++◌, length, get_or, map, reverse, Option, Some, None, refl, sym, ap, subst, ◌∙◌, arith}
+use Rattle.std.specs.Prelude.{nat_lt, slice_get, fold, option_map, option_and_then, unwrap_or}
 use Rattle.std.specs.List.{sum_by}
 use Rattle.std.proofs.Math.Path.{fun_ext}
 use Rattle.std.proofs.lemmas.Bool.Decides.{nat_tests}
-use Rattle.std.proofs.lemmas.List.{reverse-append, length-reverse, length-append}
+use Rattle.std.proofs.lemmas.List.{reverse-append, length-reverse, length-append, get_or-reverse, get_or_past}
+use Rattle.std.proofs.lemmas.Bool.{cases_lt, lt-ltb, le-ltb}
 use Rattle.std.proofs.lemmas.List.Sums.{sum_by-append}
 use Rattle.std.proofs.lemmas.Option.{get_or_from_slice_get}
-use Rattle.rmt_bits.proofs.ListLaws.{slice_get-item}
+use Rattle.rmt_bits.proofs.ListLaws.{slice_get-item, slice_get-front}
 use Rattle.rmt_bits.specs.Packet.{Packet}
 use Rattle.rmt_bits.specs.Counts.{Hit, count_for, counts, in_order}
 use Rattle.rmt_bits.specs.declared.answer.Count.{Count}
@@ -16,12 +17,13 @@ use Rattle.rmt_config.specs.declared.config.Unit.TheVariants.{Gate, Slot}
 use Rattle.rmt_config.specs.Cells.{Found}
 use Rattle.rmt_config.specs.Parser.{Parse, Reached, Short, Reject, Accept, parse, put}
 use Rattle.rmt_config.specs.Life.{Look, Words, Life, Acts, Counted, lane_of, life_of, unit_acts, slot_acts, looked_up, runs}
-use Rattle.rmt_config.specs.ChipRun.{Outcome, latency_of, own_look, outcome_of, outcome_from, hits_before, hits_in, chip_counts_of, counted_numbers}
+use Rattle.rmt_config.specs.ChipRun.{Outcome, latency_of, outcome_of, outcome_from, hits_before}
+use Rattle.rmt_config.specs.RunInputs.{Input, hits_from, look_from, packet_of}
 use Rattle.rmt_chip.specs.Counting.{hits_made}
 use Rattle.rmt_chip.specs.Ran.{CountsAlso}
 use Rattle.rmt_chip.specs.Held.{Entered}
-use Rattle.rmt_chip.specs.Hits.{hits_from, hits_of, hits_at, hits_upto}
-use Rattle.rmt_chip.specs.Inputs.{entered_in, entered_at, numbered}
+use Rattle.rmt_chip.specs.Hits.{hits_from as hits_of_parse, hits_of, hits_at, hits_upto}
+use Rattle.rmt_chip.specs.Inputs.{entered_in, entered_at, entering}
 use Rattle.rmt_chip.specs.Lives.{upto, acts_at}
 use Rattle.rmt_chip.specs.Runnable.{start_of}
 use Rattle.rmt_chip.proofs.LifeLaws.{upto_more, upto_all, start_of-get}
@@ -86,46 +88,49 @@ before_none f packet (c ∷ cs) =
 
 -- ---- a cycle's hits, by what entered
 
--- the sum over the hits that an input of this age counts
-abbrev aged : (Hit → ℕ) → Config → ℕ → Option Packet → ℕ
+-- the sum over the hits that are counted at this age for what entered
+abbrev aged : (Hit → ℕ) → Config → ℕ → Option Entered → ℕ
 aged f c age None = 0
-aged f c age (Some packet) = sum_by f (hits_aged age packet (outcome_of (own_look c) c packet).counted)
+aged f c age (Some e) = sum_by f (hits_aged age e.packet (outcome_of e.look c e.packet).counted)
 
--- over all inputs, the last of which has age 0
-abbrev turn : (Hit → ℕ) → Config → List (Option Packet) → ℕ
+-- over all that entered, the last of which has age 0
+abbrev turn : (Hit → ℕ) → Config → List (Option Entered) → ℕ
 turn f c [] = 0
 turn f c (x ∷ rest) = aged f c (length rest) x + turn f c rest
 
-more_inputs : (inputs : List (Option Packet)) (input : Option Packet) → length (inputs ++ input ∷ []) ≡ length inputs + 1
-more_inputs inputs input = length-append inputs (input ∷ [])
+-- all hits so far
+abbrev hits_over : Config → List (Option Entered) → List Hit
+hits_over c [] = []
+hits_over c (None ∷ items) = hits_over c items
+hits_over c ((Some e) ∷ items) = hits_before (length items + 1) e.packet (outcome_of e.look c e.packet).counted ++ hits_over c items
 
-hits_turn : (f : Hit → ℕ) (c : Config) (inputs : List (Option Packet)) (input : Option Packet)
-    → sum_by f (hits_in c (inputs ++ input ∷ [])) ≡ sum_by f (hits_in c inputs) + turn f c (inputs ++ input ∷ [])
+hits_turn : (f : Hit → ℕ) (c : Config) (items : List (Option Entered)) (item : Option Entered)
+    → sum_by f (hits_over c (items ++ item ∷ [])) ≡ sum_by f (hits_over c items) + turn f c (items ++ item ∷ [])
 hits_turn f c [] None = refl
-hits_turn f c [] (Some p) =
-    let cs = (outcome_of (own_look c) c p).counted in
-    let a = sum_by-append f (hits_before (0 + 1) p cs) [] in
-    let b = before_more f 0 p cs in
-    let d = before_none f p cs in
+hits_turn f c [] (Some e) =
+    let cs = (outcome_of e.look c e.packet).counted in
+    let a = sum_by-append f (hits_before (0 + 1) e.packet cs) [] in
+    let b = before_more f 0 e.packet cs in
+    let d = before_none f e.packet cs in
     omega arith
-hits_turn f c (None ∷ inputs) input = let rest = hits_turn f c inputs input in omega arith
-hits_turn f c ((Some p) ∷ inputs) input =
-    let cs = (outcome_of (own_look c) c p).counted in
-    let n = length (inputs ++ input ∷ []) in
-    let size : n ≡ length inputs + 1 = more_inputs inputs input in
-    let rest = hits_turn f c inputs input in
-    let up = sum_by-append f (hits_before (n + 1) p cs) (hits_in c (inputs ++ input ∷ [])) in
-    let low : sum_by f (hits_in c ((Some p) ∷ inputs)) ≡ sum_by f (hits_before n p cs) + sum_by f (hits_in c inputs) =
-    sum_by-append f (hits_before (length inputs + 1) p cs) (hits_in c inputs) ∙ ap (λ (m : ℕ). sum_by f (hits_before m p cs) + sum_by f (hits_in c inputs)) (sym size) in
-    let more = before_more f n p cs in
+hits_turn f c (None ∷ items) item = let rest = hits_turn f c items item in omega arith
+hits_turn f c ((Some e) ∷ items) item =
+    let cs = (outcome_of e.look c e.packet).counted in
+    let n = length (items ++ item ∷ []) in
+    let size : n ≡ length items + 1 = length-append items (item ∷ []) in
+    let rest = hits_turn f c items item in
+    let up = sum_by-append f (hits_before (n + 1) e.packet cs) (hits_over c (items ++ item ∷ [])) in
+    let low : sum_by f (hits_over c ((Some e) ∷ items)) ≡ sum_by f (hits_before n e.packet cs) + sum_by f (hits_over c items) =
+    sum_by-append f (hits_before (length items + 1) e.packet cs) (hits_over c items) ∙ ap (λ (m : ℕ). sum_by f (hits_before m e.packet cs) + sum_by f (hits_over c items)) (sym size) in
+    let more = before_more f n e.packet cs in
     omega arith
 
--- the same with the newest input first, which has this age
-abbrev turn_from : (Hit → ℕ) → Config → ℕ → List (Option Packet) → ℕ
+-- the same with the newest first, which has this age
+abbrev turn_from : (Hit → ℕ) → Config → ℕ → List (Option Entered) → ℕ
 turn_from f c age [] = 0
 turn_from f c age (x ∷ xs) = aged f c age x + turn_from f c (age + 1) xs
 
-turn_push : (f : Hit → ℕ) (c : Config) (age : ℕ) (xs : List (Option Packet)) (x : Option Packet) → turn_from f c age (xs ++ x ∷ []) ≡ turn_from f c age xs + aged f c (age + length xs) x
+turn_push : (f : Hit → ℕ) (c : Config) (age : ℕ) (xs : List (Option Entered)) (x : Option Entered) → turn_from f c age (xs ++ x ∷ []) ≡ turn_from f c age xs + aged f c (age + length xs) x
 turn_push f c age [] x = let none : age + 0 ≡ age = omega arith in let same = ap (λ (n : ℕ). aged f c n x) none in omega arith
 turn_push f c age (y ∷ ys) x =
     let next : age + 1 + length ys ≡ age + length (y ∷ ys) = omega arith in
@@ -133,10 +138,10 @@ turn_push f c age (y ∷ ys) x =
     let rest = turn_push f c (age + 1) ys x in
     omega arith
 
-turn_back : (f : Hit → ℕ) (c : Config) (xs : List (Option Packet)) → turn f c xs ≡ turn_from f c 0 (reverse xs)
+turn_back : (f : Hit → ℕ) (c : Config) (xs : List (Option Entered)) → turn f c xs ≡ turn_from f c 0 (reverse xs)
 turn_back f c [] = refl
 turn_back f c (x ∷ xs) =
-    let back = ap (λ (ys : List (Option Packet)). turn_from f c 0 ys) (reverse-append (x ∷ []) xs) in
+    let back = ap (λ (ys : List (Option Entered)). turn_from f c 0 ys) (reverse-append (x ∷ []) xs) in
     let push = turn_push f c 0 (reverse xs) x in
     let size : 0 + length (reverse xs) ≡ length xs = omega (arith, length-reverse xs) in
     let same = ap (λ (n : ℕ). aged f c n x) size in
@@ -169,8 +174,8 @@ sum_below-add (suc n) g h = let rest = sum_below-add n g h in omega arith
 
 -- ---- the hits of one stage, for the packet that is at its age
 
--- of the inputs, the newest of which has this age, the one that is at age t
-abbrev pick : ℕ → (Option Packet → ℕ) → ℕ → List (Option Packet) → ℕ
+-- of what entered, the newest of which has this age, the one that is at age t
+abbrev pick : ℕ → (Option Entered → ℕ) → ℕ → List (Option Entered) → ℕ
 pick t g age [] = 0
 pick t g age (x ∷ xs) = cond (t == age) (g x) 0 + pick t g (age + 1) xs
 
@@ -180,41 +185,31 @@ apart t age v lt = grind (arith, nat_tests)
 equal : (t age v : ℕ) → t ≡ age → cond (t == age) v 0 ≡ v
 equal t age v same = grind (arith, nat_tests)
 
-pick_past : (t : ℕ) (g : Option Packet → ℕ) (age : ℕ) (xs : List (Option Packet)) → t < age → pick t g age xs ≡ 0
+pick_past : (t : ℕ) (g : Option Entered → ℕ) (age : ℕ) (xs : List (Option Entered)) → t < age → pick t g age xs ≡ 0
 pick_past t g age [] lt = refl
 pick_past t g age (x ∷ xs) lt =
     let here = apart t age (g x) lt in
     let rest = pick_past t g (age + 1) xs (omega arith) in
     omega arith
 
--- what a number of a packet is where a packet is
-abbrev of_entered : (Option Packet → ℕ) → Option Entered → ℕ
-of_entered g None = 0
-of_entered g (Some e) = g (Some e.packet)
-
-of_numbered : (g : Option Packet → ℕ) → g None ≡ 0 → (x : Option Packet) (xs : List (Option Packet)) → of_entered g (numbered x xs) ≡ g x
-of_numbered g none None xs = sym none
-of_numbered g none (Some p) xs = refl
-
 later : (t age v i : ℕ) → t ≡ age + suc i → cond (t == age) v 0 ≡ 0
 later t age v i same = grind (arith, nat_tests)
 
-pick_at : (g : Option Packet → ℕ) → g None ≡ 0 → (t age i : ℕ) (xs : List (Option Packet)) → t ≡ age + i → pick t g age xs ≡ of_entered g (entered_in xs i)
-pick_at g none t age i [] at = refl
+pick_at : (g : Option Entered → ℕ) → g None ≡ 0 → (t age i : ℕ) (xs : List (Option Entered)) → t ≡ age + i → pick t g age xs ≡ g (get_or xs i None)
+pick_at g none t age i [] at = sym none
 pick_at g none t age zero (x ∷ xs) at =
     let here = equal t age (g x) (omega arith) in
     let rest = pick_past t g (age + 1) xs (omega arith) in
-    let one = of_numbered g none x xs in
     omega arith
 pick_at g none t age (suc i) (x ∷ xs) at =
     let here = later t age (g x) i at in
     let rest = pick_at g none t (age + 1) i xs (omega arith) in
     omega arith
 
--- inputs of which each counts what its stages count, stage by stage
-by_stages : (f : Hit → ℕ) (c : Config) (n : ℕ) (t : ℕ → ℕ) (g : ℕ → Option Packet → ℕ)
-    → ((age : ℕ) (x : Option Packet) → aged f c age x ≡ sum_below n (λ k. cond (t k == age) (g k x) 0))
-    → (age : ℕ) (xs : List (Option Packet)) → turn_from f c age xs ≡ sum_below n (λ k. pick (t k) (g k) age xs)
+-- packets of which each counts what its stages count, stage by stage
+by_stages : (f : Hit → ℕ) (c : Config) (n : ℕ) (t : ℕ → ℕ) (g : ℕ → Option Entered → ℕ)
+    → ((age : ℕ) (x : Option Entered) → aged f c age x ≡ sum_below n (λ k. cond (t k == age) (g k x) 0))
+    → (age : ℕ) (xs : List (Option Entered)) → turn_from f c age xs ≡ sum_below n (λ k. pick (t k) (g k) age xs)
 by_stages f c n t g each age [] = sym (sum_below-zero n (λ k. 0) (λ k lt. refl))
 by_stages f c n t g each age (x ∷ xs) =
     let here = each age x in
@@ -331,89 +326,167 @@ life_counted f look stages vector p age (suc n) h =
 -- ---- any packet's hits at an age, stage by stage
 
 -- the sum over what a stage counts for a packet, by its parse
-abbrev of_parse : (Hit → ℕ) → Config → ℕ → Option Stage → Packet → Parse → ℕ
-of_parse f c k None p q = 0
-of_parse f c k (Some stage) p q = sum_by f (hits_from (own_look c) c k stage p q)
+abbrev of_parse : (Hit → ℕ) → Look → Config → ℕ → Option Stage → Packet → Parse → ℕ
+of_parse f look c k None p q = 0
+of_parse f look c k (Some stage) p q = sum_by f (hits_of_parse look c k stage p q)
 
--- and of an input
-abbrev of_stage : (Hit → ℕ) → Config → ℕ → Option Stage → Option Packet → ℕ
+-- and for what entered
+abbrev of_stage : (Hit → ℕ) → Config → ℕ → Option Stage → Option Entered → ℕ
 of_stage f c k o None = 0
-of_stage f c k o (Some p) = of_parse f c k o p (parse c.parser p.frame)
+of_stage f c k o (Some e) = of_parse f e.look c k o e.packet (parse c.parser e.packet.frame)
 
-short_none : (f : Hit → ℕ) (c : Config) (k : ℕ) (o : Option Stage) (p : Packet) → of_parse f c k o p Short ≡ 0
-short_none f c k None p = refl
-short_none f c k (Some stage) p = refl
+short_none : (f : Hit → ℕ) (look : Look) (c : Config) (k : ℕ) (o : Option Stage) (p : Packet) → of_parse f look c k o p Short ≡ 0
+short_none f look c k None p = refl
+short_none f look c k (Some stage) p = refl
 
-reject_none : (f : Hit → ℕ) (c : Config) (k : ℕ) (o : Option Stage) (p : Packet) → of_parse f c k o p Reject ≡ 0
-reject_none f c k None p = refl
-reject_none f c k (Some stage) p = refl
+reject_none : (f : Hit → ℕ) (look : Look) (c : Config) (k : ℕ) (o : Option Stage) (p : Packet) → of_parse f look c k o p Reject ≡ 0
+reject_none f look c k None p = refl
+reject_none f look c k (Some stage) p = refl
 
-accepted : (f : Hit → ℕ) (c : Config) (k : ℕ) (o : Option Stage) (p : Packet) (r : Reached) → of_made f (own_look c) c.stages (put r.vector c.in_port p.port) p k o ≡ of_parse f c k o p (Accept r)
-accepted f c k None p r = refl
-accepted f c k (Some stage) p r = refl
+accepted : (f : Hit → ℕ) (look : Look) (c : Config) (k : ℕ) (o : Option Stage) (p : Packet) (r : Reached) → of_made f look c.stages (put r.vector c.in_port p.port) p k o ≡ of_parse f look c k o p (Accept r)
+accepted f look c k None p r = refl
+accepted f look c k (Some stage) p r = refl
 
 either_counted : (b : Bool) (x y : Outcome) (cs : List Counted) → x.counted ≡ cs → y.counted ≡ cs → (cond b x y).counted ≡ cs
 either_counted true x y cs a b = a
 either_counted false x y cs a b = b
 
-by_parse : (f : Hit → ℕ) (c : Config) (age : ℕ) (p : Packet) (q : Parse)
-    → sum_by f (hits_aged age p (outcome_from (own_look c) c p q).counted)
-    ≡ sum_below (length c.stages) (λ k. cond (start_of c.stages k + 8 == age) (of_parse f c k (slice_get c.stages k) p q) 0)
-by_parse f c age p Short = sym (sum_below-zero (length c.stages) _ (λ k lt. nothing (start_of c.stages k + 8 == age) _ (short_none f c k (slice_get c.stages k) p)))
-by_parse f c age p Reject = sym (sum_below-zero (length c.stages) _ (λ k lt. nothing (start_of c.stages k + 8 == age) _ (reject_none f c k (slice_get c.stages k) p)))
-by_parse f c age p (Accept r) =
+by_parse : (f : Hit → ℕ) (look : Look) (c : Config) (age : ℕ) (p : Packet) (q : Parse)
+    → sum_by f (hits_aged age p (outcome_from look c p q).counted)
+    ≡ sum_below (length c.stages) (λ k. cond (start_of c.stages k + 8 == age) (of_parse f look c k (slice_get c.stages k) p q) 0)
+by_parse f look c age p Short = sym (sum_below-zero (length c.stages) _ (λ k lt. nothing (start_of c.stages k + 8 == age) _ (short_none f look c k (slice_get c.stages k) p)))
+by_parse f look c age p Reject = sym (sum_below-zero (length c.stages) _ (λ k lt. nothing (start_of c.stages k + 8 == age) _ (reject_none f look c k (slice_get c.stages k) p)))
+by_parse f look c age p (Accept r) =
     let vector = put r.vector c.in_port p.port in
-    let life = life_of (own_look c) c.stages vector in
+    let life = life_of look c.stages vector in
     let words = life.word (latency_of c.stages) in
-    let all : (outcome_from (own_look c) c p (Accept r)).counted ≡ (upto (own_look c) c.stages vector (length c.stages)).counted =
-    either_counted (lane_of words c.drop == 1) _ _ life.counted refl refl ∙ sym (ap (λ (l : Life). l.counted) (upto_all (own_look c) c.stages vector)) in
+    let all : (outcome_from look c p (Accept r)).counted ≡ (upto look c.stages vector (length c.stages)).counted =
+    either_counted (lane_of words c.drop == 1) _ _ life.counted refl refl ∙ sym (ap (λ (l : Life). l.counted) (upto_all look c.stages vector)) in
     ap (λ (cs : List Counted). sum_by f (hits_aged age p cs)) all
-    ∙ life_counted f (own_look c) c.stages vector p age (length c.stages) (omega arith)
-    ∙ sum_below-same (length c.stages) _ _ (λ k lt. ap (λ (m : ℕ). cond (start_of c.stages k + 8 == age) m 0) (accepted f c k (slice_get c.stages k) p r))
+    ∙ life_counted f look c.stages vector p age (length c.stages) (omega arith)
+    ∙ sum_below-same (length c.stages) _ _ (λ k lt. ap (λ (m : ℕ). cond (start_of c.stages k + 8 == age) m 0) (accepted f look c k (slice_get c.stages k) p r))
 
-input_counts : (f : Hit → ℕ) (c : Config) (age : ℕ) (x : Option Packet)
+entered_counts : (f : Hit → ℕ) (c : Config) (age : ℕ) (x : Option Entered)
     → aged f c age x ≡ sum_below (length c.stages) (λ k. cond (start_of c.stages k + 8 == age) (of_stage f c k (slice_get c.stages k) x) 0)
-input_counts f c age None = sym (sum_below-zero (length c.stages) _ (λ k lt. nothing (start_of c.stages k + 8 == age) 0 refl))
-input_counts f c age (Some p) = by_parse f c age p (parse c.parser p.frame)
+entered_counts f c age None = sym (sum_below-zero (length c.stages) _ (λ k lt. nothing (start_of c.stages k + 8 == age) 0 refl))
+entered_counts f c age (Some e) = by_parse f e.look c age e.packet (parse c.parser e.packet.frame)
 
 -- ---- the hits of all stages in a cycle
 
-of_hits : (f : Hit → ℕ) (c : Config) (k : ℕ) (stage : Stage) (o : Option Entered) → of_entered (of_stage f c k (Some stage)) o ≡ sum_by f (hits_of (own_look c) c k stage o)
+of_hits : (f : Hit → ℕ) (c : Config) (k : ℕ) (stage : Stage) (o : Option Entered) → of_stage f c k (Some stage) o ≡ sum_by f (hits_of c k stage o)
 of_hits f c k stage None = refl
 of_hits f c k stage (Some e) = refl
 
-stage_turn : (f : Hit → ℕ) (c : Config) (xs : List (Option Packet)) (k : ℕ) → k < length c.stages
-    → pick (start_of c.stages k + 8) (of_stage f c k (slice_get c.stages k)) 0 xs ≡ sum_by f (hits_at (own_look c) c (entered_in xs) k (slice_get c.stages k))
+stage_turn : (f : Hit → ℕ) (c : Config) (xs : List (Option Entered)) (k : ℕ) → k < length c.stages
+    → pick (start_of c.stages k + 8) (of_stage f c k (slice_get c.stages k)) 0 xs ≡ sum_by f (hits_at c (λ i. get_or xs i None) k (slice_get c.stages k))
 stage_turn f c xs k inside =
     let it = slice_get-item c.stages k inside in
     let stage = it.0 in
     let at : get_or c.stages k stage ≡ stage = get_or_from_slice_get c.stages k stage stage it.1 in
     let start : stage.start ≡ start_of c.stages k = sym (ap (λ (s : Stage). s.start) at) ∙ start_of-get c.stages k stage inside in
-    subst (λ (o : Option Stage). pick (start_of c.stages k + 8) (of_stage f c k o) 0 xs ≡ sum_by f (hits_at (own_look c) c (entered_in xs) k o)) (sym it.1)
-    (pick_at (of_stage f c k (Some stage)) refl (start_of c.stages k + 8) 0 (stage.start + 8) xs (omega arith) ∙ of_hits f c k stage (entered_in xs (stage.start + 8)))
+    subst (λ (o : Option Stage). pick (start_of c.stages k + 8) (of_stage f c k o) 0 xs ≡ sum_by f (hits_at c (λ i. get_or xs i None) k o)) (sym it.1)
+    (pick_at (of_stage f c k (Some stage)) refl (start_of c.stages k + 8) 0 (stage.start + 8) xs (omega arith) ∙ of_hits f c k stage (get_or xs (stage.start + 8) None))
 
 hits_upto_sum : (f : Hit → ℕ) (c : Config) (item : ℕ → Option Entered) (n : ℕ)
-    → sum_by f (hits_upto (own_look c) c item n) ≡ sum_below n (λ k. sum_by f (hits_at (own_look c) c item k (slice_get c.stages k)))
+    → sum_by f (hits_upto c item n) ≡ sum_below n (λ k. sum_by f (hits_at c item k (slice_get c.stages k)))
 hits_upto_sum f c item zero = refl
 hits_upto_sum f c item (suc n) =
-    let split = sum_by-append f (hits_upto (own_look c) c item n) (hits_at (own_look c) c item n (slice_get c.stages n)) in
+    let split = sum_by-append f (hits_upto c item n) (hits_at c item n (slice_get c.stages n)) in
     let rest = hits_upto_sum f c item n in
     omega arith
 
-turn_of_stages : (f : Hit → ℕ) (c : Config) (inputs : List (Option Packet)) → turn f c inputs ≡ sum_by f (hits_upto (own_look c) c (entered_at inputs) (length c.stages))
-turn_of_stages f c inputs =
-    turn_back f c inputs
-    ∙ by_stages f c (length c.stages) (λ k. start_of c.stages k + 8) (λ k. of_stage f c k (slice_get c.stages k)) (input_counts f c) 0 (reverse inputs)
-    ∙ sum_below-same (length c.stages) _ _ (stage_turn f c (reverse inputs))
-    ∙ sym (hits_upto_sum f c (entered_at inputs) (length c.stages))
+turn_of_stages : (f : Hit → ℕ) (c : Config) (items : List (Option Entered)) → turn f c items ≡ sum_by f (hits_upto c (λ i. get_or (reverse items) i None) (length c.stages))
+turn_of_stages f c items =
+    turn_back f c items
+    ∙ by_stages f c (length c.stages) (λ k. start_of c.stages k + 8) (λ k. of_stage f c k (slice_get c.stages k)) (entered_counts f c) 0 (reverse items)
+    ∙ sum_below-same (length c.stages) _ _ (stage_turn f c (reverse items))
+    ∙ sym (hits_upto_sum f c (λ i. get_or (reverse items) i None) (length c.stages))
+
+-- ---- the inputs of a run
+
+-- what enters in the cycles from one on
+abbrev items_from : Config → List Input → ℕ → List Input → List (Option Entered)
+items_from c run cycle [] = []
+items_from c run cycle (input ∷ inputs) = option_map (entering c run cycle) (packet_of input) ∷ items_from c run (cycle + 1) inputs
+
+length-items : (c : Config) (run : List Input) (cycle : ℕ) (inputs : List Input) → length (items_from c run cycle inputs) ≡ length inputs
+length-items c run cycle [] = refl
+length-items c run cycle (input ∷ inputs) = ap suc (length-items c run (cycle + 1) inputs)
+
+items-push : (c : Config) (run : List Input) (cycle : ℕ) (inputs : List Input) (input : Input)
+    → items_from c run cycle (inputs ++ input ∷ []) ≡ items_from c run cycle inputs ++ option_map (entering c run (cycle + length inputs)) (packet_of input) ∷ []
+items-push c run cycle [] input = let none : cycle ≡ cycle + 0 = omega arith in ap (λ n. option_map (entering c run n) (packet_of input) ∷ []) none
+items-push c run cycle (x ∷ inputs) input =
+    let next : cycle + 1 + length inputs ≡ cycle + length (x ∷ inputs) = omega arith in
+    ap (λ items. option_map (entering c run cycle) (packet_of x) ∷ items)
+    (items-push c run (cycle + 1) inputs input ∙ ap (λ n. items_from c run (cycle + 1) inputs ++ option_map (entering c run n) (packet_of input) ∷ []) next)
+
+item-at : (c : Config) (run : List Input) (cycle : ℕ) (inputs : List Input) (j : ℕ)
+    → get_or (items_from c run cycle inputs) j None ≡ option_map (entering c run (cycle + j)) (option_and_then packet_of (slice_get inputs j))
+item-at c run cycle [] j = refl
+item-at c run cycle (x ∷ inputs) zero = let none : cycle ≡ cycle + 0 = omega arith in ap (λ n. option_map (entering c run n) (packet_of x)) none
+item-at c run cycle (x ∷ inputs) (suc j) =
+    let next : cycle + 1 + j ≡ cycle + suc j = omega arith in
+    item-at c run (cycle + 1) inputs j ∙ ap (λ n. option_map (entering c run n) (option_and_then packet_of (slice_get inputs j))) next
+
+hits-items : (c : Config) (run : List Input) (cycle : ℕ) (inputs : List Input) → hits_from c run cycle inputs ≡ hits_over c (items_from c run cycle inputs)
+hits-items c run cycle [] = refl
+hits-items c run cycle (input ∷ inputs) = by (packet_of input) (hits-items c run (cycle + 1) inputs) ∙ more (packet_of input)
+  where
+    by : (o : Option Packet) → hits_from c run (cycle + 1) inputs ≡ hits_over c (items_from c run (cycle + 1) inputs)
+        → unwrap_or (option_map (λ packet. hits_before (length inputs + 1) packet (outcome_of (look_from c run cycle) c packet).counted) o) [] ++ hits_from c run (cycle + 1) inputs
+        ≡ unwrap_or (option_map (λ packet. hits_before (length (items_from c run (cycle + 1) inputs) + 1) packet (outcome_of (look_from c run cycle) c packet).counted) o) [] ++ hits_over c (items_from c run (cycle + 1) inputs)
+    by o rest =
+        ap (λ n. unwrap_or (option_map (λ packet. hits_before (n + 1) packet (outcome_of (look_from c run cycle) c packet).counted) o) [] ++ hits_from c run (cycle + 1) inputs) (sym (length-items c run (cycle + 1) inputs))
+        ∙ ap (λ hits. unwrap_or (option_map (λ packet. hits_before (length (items_from c run (cycle + 1) inputs) + 1) packet (outcome_of (look_from c run cycle) c packet).counted) o) [] ++ hits) rest
+
+    more : (o : Option Packet) → unwrap_or (option_map (λ packet. hits_before (length (items_from c run (cycle + 1) inputs) + 1) packet (outcome_of (look_from c run cycle) c packet).counted) o) [] ++ hits_over c (items_from c run (cycle + 1) inputs)
+        ≡ hits_over c (option_map (entering c run cycle) o ∷ items_from c run (cycle + 1) inputs)
+    more None = refl
+    more (Some p) = refl
+
+-- what has an age in the last cycle, counted back from the newest
+item_by_age : (c : Config) (inputs later : List Input) (t : ℕ)
+    → get_or (reverse (items_from c (inputs ++ later) 0 inputs)) t None ≡ entered_at c (inputs ++ later) (length inputs) t
+item_by_age c inputs later t =
+    let run = inputs ++ later in
+    let items = items_from c run 0 inputs in
+    let n = length inputs in
+    let size : length items ≡ n = length-items c run 0 inputs in
+    ⊎_elim
+    (λ (h : t < n).
+    let back : length items - 1 - t ≡ n - 1 - t = omega arith in
+    let first : 0 + (n - 1 - t) ≡ n - 1 - t = omega arith in
+    get_or-reverse items t None (omega arith)
+    ∙ ap (λ m. get_or items m None) back
+    ∙ item-at c run 0 inputs (n - 1 - t)
+    ∙ ap (λ m. option_map (entering c run m) (option_and_then packet_of (slice_get inputs (n - 1 - t)))) first
+    ∙ ap (λ o. option_map (entering c run (n - 1 - t)) (option_and_then packet_of o)) (sym (slice_get-front inputs later (n - 1 - t) (omega arith)))
+    ∙ sym (ap (λ (b : Bool). cond b (entered_in c run (n - 1 - t)) None) (lt-ltb t n h)))
+    (λ (h : n ≤ t).
+    get_or_past (reverse items) t None (omega (arith, length-reverse items))
+    ∙ sym (ap (λ (b : Bool). cond b (entered_in c run (n - 1 - t)) None) (le-ltb t n h)))
+    (cases_lt t n)
 
 -- counters that were those of the inputs so far and now have a cycle's hits too are those of the inputs with that cycle's
-pub counted_turn : (c : Config) (inputs : List (Option Packet)) (input : Option Packet) (old new : List Count) → old ≡ chip_counts_of c inputs
-    → CountsAlso old new (hits_upto (own_look c) c (entered_at (inputs ++ input ∷ [])) (length c.stages)) → new ≡ chip_counts_of c (inputs ++ input ∷ [])
-counted_turn c inputs input old new were also =
-    also (counted_numbers c) (hits_in c inputs) were
-    ∙ same_counts (counted_numbers c) (hits_in c inputs ++ hits_upto (own_look c) c (entered_at (inputs ++ input ∷ [])) (length c.stages)) (hits_in c (inputs ++ input ∷ []))
+pub counted_turn : (c : Config) (numbers : List ℕ) (inputs later : List Input) (input : Input) (old new : List Count)
+    → let run = (inputs ++ input ∷ []) ++ later in old ≡ counts numbers (hits_from c run 0 inputs)
+    → CountsAlso old new (hits_upto c (entered_at c run (length (inputs ++ input ∷ []))) (length c.stages)) → new ≡ counts numbers (hits_from c run 0 (inputs ++ input ∷ []))
+counted_turn c numbers inputs later input old new were also =
+    let all = inputs ++ input ∷ [] in
+    let run = all ++ later in
+    let items = items_from c run 0 inputs in
+    let last = option_map (entering c run (0 + length inputs)) (packet_of input) in
+    let whole : items_from c run 0 all ≡ items ++ last ∷ [] = items-push c run 0 inputs input in
+    let by_age : (λ i. get_or (reverse (items ++ last ∷ [])) i None) ≡ entered_at c run (length all) =
+    fun_ext (λ t. ap (λ (xs : List (Option Entered)). get_or (reverse xs) t None) (sym whole) ∙ item_by_age c all later t) in
+    also numbers (hits_from c run 0 inputs) were
+    ∙ same_counts numbers (hits_from c run 0 inputs ++ hits_upto c (entered_at c run (length all)) (length c.stages)) (hits_from c run 0 all)
     (λ f.
-    sum_by-append f (hits_in c inputs) (hits_upto (own_look c) c (entered_at (inputs ++ input ∷ [])) (length c.stages))
-    ∙ ap (λ (n : ℕ). sum_by f (hits_in c inputs) + n) (sym (turn_of_stages f c (inputs ++ input ∷ [])))
-    ∙ sym (hits_turn f c inputs input))
+    sum_by-append f (hits_from c run 0 inputs) (hits_upto c (entered_at c run (length all)) (length c.stages))
+    ∙ ap (λ (n : ℕ). n + sum_by f (hits_upto c (entered_at c run (length all)) (length c.stages))) (ap (sum_by f) (hits-items c run 0 inputs))
+    ∙ ap (λ (item : ℕ → Option Entered). sum_by f (hits_over c items) + sum_by f (hits_upto c item (length c.stages))) (sym by_age)
+    ∙ ap (λ (n : ℕ). sum_by f (hits_over c items) + n) (sym (turn_of_stages f c (items ++ last ∷ [])))
+    ∙ sym (hits_turn f c items last)
+    ∙ ap (λ (xs : List (Option Entered)). sum_by f (hits_over c xs)) (sym whole)
+    ∙ ap (sum_by f) (sym (hits-items c run 0 all)))

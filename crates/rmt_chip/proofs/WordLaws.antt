@@ -1,5 +1,5 @@
 -- Keys and rows in words of 40 bits.
-use Rattle.std.proofs.Common.{◌≡◌, ℕ, zero, suc, ◌+◌, ◌-◌, ◌*◌, ◌/◌, ◌%◌, ◌^◌, ◌<◌, ◌≤◌, min, List, [], ◌∷◌, length, get_or, map, sym, refl, ap, ◌∙◌, subst, arith, inl, inr}
+use Rattle.std.proofs.Common.{◌≡◌, ℕ, zero, suc, ◌+◌, ◌-◌, ◌*◌, ◌/◌, ◌%◌, ◌^◌, ◌<◌, ◌≤◌, min, List, [], ◌∷◌, length, get_or, take, map, sym, refl, ap, ◌∙◌, subst, arith, inl, inr}
 use Rattle.std.specs.Prelude.{bit_and}
 use Rattle.std.proofs.lemmas.Bool.{cases_lt}
 use Rattle.std.proofs.lemmas.Grind.{same_number_lists}
@@ -61,6 +61,13 @@ words-from_each count n words size each =
     let all = length-words count n in
     same_number_lists words (words_of count n) (omega (arith, size, all))
     (λ k lt. each k (omega (arith, lt, size)) ∙ sym (word-of count n k (omega (arith, lt, size))))
+
+-- the lowest words of a number
+pub words-low : (count more n : ℕ) → take count (words_of (count + more) n) ≡ words_of count n
+words-low zero more n = refl
+words-low (suc count) more n =
+    let e : suc count + more ≡ suc (count + more) = omega arith in
+    ap (λ m. take (suc count) (words_of m n)) e ∙ ap (λ ws. n % 2 ^ 40 ∷ ws) (words-low count more (n / 2 ^ 40))
 
 pub key-words : (n : ℕ) → words_of_key n ≡ words_of 16 n
 unfolding words_of_key

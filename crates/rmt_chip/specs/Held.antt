@@ -41,16 +41,20 @@ CarriedFor look c packet words_age read_age acts_age looks_age place (Accept r) 
     (place.parsed ≡ parsed.Accept r.at) × (place.tails ≡ r.tails)
     × Carried look c.stages (put r.vector c.in_port packet.port) words_age read_age acts_age looks_age place
 
--- a packet, and how many entered before it
+-- a packet, how many entered before it, and the version that was current then; and its look-ups, each in the cells of the
+-- cycle in which it is made
 pub record Entered : Type 0 where
   pub packet : Packet
   pub number : ℕ
+  pub version : ℕ
+  pub look : Look
 
-pub record Holds (look : Look) (c : Config) (entered : Entered) (words_age read_age acts_age looks_age : ℕ) (place : PacketSlot) : Type 0 where
+pub record Holds (c : Config) (entered : Entered) (words_age read_age acts_age looks_age : ℕ) (place : PacketSlot) : Type 0 where
   pub taken : place.taken ≡ true
   pub number : place.number ≡ entered.number
+  pub version : place.version ≡ entered.version
   pub size : place.size ≡ length entered.packet.frame
-  pub carried : CarriedFor look c entered.packet words_age read_age acts_age looks_age place (parse c.parser entered.packet.frame)
+  pub carried : CarriedFor entered.look c entered.packet words_age read_age acts_age looks_age place (parse c.parser entered.packet.frame)
 
 -- no unit runs without a packet
 pub record IsFree (place : PacketSlot) : Type 0 where
@@ -58,14 +62,15 @@ pub record IsFree (place : PacketSlot) : Type 0 where
   pub rests : is_accepted place.parsed ≡ false
 
 -- a packet slot holds a packet, or none
-abbrev pub HoldsIf : Look → Config → Option Entered → ℕ → ℕ → ℕ → ℕ → PacketSlot → Type 0
-HoldsIf look c None words_age read_age acts_age looks_age place = IsFree place
-HoldsIf look c (Some entered) words_age read_age acts_age looks_age place = Holds look c entered words_age read_age acts_age looks_age place
+abbrev pub HoldsIf : Config → Option Entered → ℕ → ℕ → ℕ → ℕ → PacketSlot → Type 0
+HoldsIf c None words_age read_age acts_age looks_age place = IsFree place
+HoldsIf c (Some entered) words_age read_age acts_age looks_age place = Holds c entered words_age read_age acts_age looks_age place
 
 -- the packet itself is as before
 pub record SamePacket (old new : PacketSlot) : Type 0 where
   pub taken : new.taken ≡ old.taken
   pub number : new.number ≡ old.number
+  pub version : new.version ≡ old.version
   pub size : new.size ≡ old.size
   pub parsed : new.parsed ≡ old.parsed
   pub tails : new.tails ≡ old.tails
@@ -115,26 +120,28 @@ Begins c packet place Short = (place.parsed ≡ parsed.Short) × (place.vector �
 Begins c packet place Reject = (place.parsed ≡ parsed.Reject) × (place.vector ≡ replicate 224 0)
 Begins c packet place (Accept r) = (place.parsed ≡ parsed.Accept r.at) × (place.tails ≡ r.tails) × (place.vector ≡ put r.vector c.in_port packet.port) × (length place.vector ≡ 224)
 
--- a packet slot with a packet that enters
-pub record EnteredBy (c : Config) (entered : Entered) (place : PacketSlot) : Type 0 where
+-- a packet slot with a packet that enters behind so many others, under a version
+pub record EnteredBy (c : Config) (packet : Packet) (number version : ℕ) (place : PacketSlot) : Type 0 where
   pub taken : place.taken ≡ true
-  pub number : place.number ≡ entered.number
-  pub size : place.size ≡ length entered.packet.frame
+  pub number_is : place.number ≡ number
+  pub version_is : place.version ≡ version
+  pub size : place.size ≡ length packet.frame
   pub outcomes : place.outcomes ≡ replicate 256 0
-  pub begins : Begins c entered.packet place (parse c.parser entered.packet.frame)
+  pub begins : Begins c packet place (parse c.parser packet.frame)
 
 -- all but the vector and how the parser ended
 pub record Keeps (old new : PacketSlot) : Type 0 where
   pub taken : new.taken ≡ old.taken
   pub number : new.number ≡ old.number
+  pub version : new.version ≡ old.version
   pub size : new.size ≡ old.size
   pub outcomes : new.outcomes ≡ old.outcomes
   pub pending : new.pending ≡ old.pending
 
 -- a packet slot after a cycle's input
-abbrev pub EntersIf : Config → Option Entered → PacketSlot → Type 0
-EntersIf c None place = IsFree place
-EntersIf c (Some entered) place = EnteredBy c entered place
+abbrev pub EntersIf : Config → Option Packet → ℕ → ℕ → PacketSlot → Type 0
+EntersIf c None number version place = IsFree place
+EntersIf c (Some packet) number version place = EnteredBy c packet number version place
 
 -- the frame of a packet, if there is one
 abbrev pub FrameIs : Option Entered → List ℕ → Type 0

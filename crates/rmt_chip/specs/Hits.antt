@@ -21,19 +21,19 @@ hits_from look c k stage packet Reject = []
 hits_from look c k stage packet (Accept r) = hits_made (length packet.frame) (acts_at look c.stages (put r.vector c.in_port packet.port) k stage).counted
 
 -- the same where a packet is
-abbrev pub hits_of : Look → Config → ℕ → Stage → Option Entered → List Hit
-hits_of look c k stage None = []
-hits_of look c k stage (Some e) = hits_from look c k stage e.packet (parse c.parser e.packet.frame)
+abbrev pub hits_of : Config → ℕ → Stage → Option Entered → List Hit
+hits_of c k stage None = []
+hits_of c k stage (Some e) = hits_from e.look c k stage e.packet (parse c.parser e.packet.frame)
 
 -- those of stage k in a cycle, for the packet that is 8 cycles past the stage's start
-abbrev pub hits_at : Look → Config → (ℕ → Option Entered) → ℕ → Option Stage → List Hit
-hits_at look c item k None = []
-hits_at look c item k (Some stage) = hits_of look c k stage (item (stage.start + 8))
+abbrev pub hits_at : Config → (ℕ → Option Entered) → ℕ → Option Stage → List Hit
+hits_at c item k None = []
+hits_at c item k (Some stage) = hits_of c k stage (item (stage.start + 8))
 
 -- those of the first stages
-abbrev pub hits_upto : Look → Config → (ℕ → Option Entered) → ℕ → List Hit
-hits_upto look c item zero = []
-hits_upto look c item (suc k) = hits_upto look c item k ++ hits_at look c item k (slice_get c.stages k)
+abbrev pub hits_upto : Config → (ℕ → Option Entered) → ℕ → List Hit
+hits_upto c item zero = []
+hits_upto c item (suc k) = hits_upto c item k ++ hits_at c item k (slice_get c.stages k)
 
 -- what a step of a stage counts: of a packet that was accepted the hits of its units, else nothing
 pub record CountedBy (k : ℕ) (stage : Stage) (place : PacketSlot) (old new : List Count) : Type 0 where

@@ -1,9 +1,11 @@
 -- How the cells of a slot are laid out for reading: rows of memory, the entries in them, and runs of bytes by listed cell.
-use Rattle.std.specs.Prelude.{◌≡◌, ℕ, ◌+◌, ◌*◌, ◌<◌, ◌≤◌, List, length, map, true, All, slice_index, slice_index_or}
+use Rattle.std.specs.Prelude.{◌≡◌, ◌≢◌, ℕ, ◌<◌, ◌∷◌, ◌++◌, List, length, map, true, All, slice_index, slice_index_or}
 use Rattle.std.specs.List.{flat_map}
 use Rattle.rmt_bits.specs.Bits.{bytes_of}
 use Rattle.rmt_chip.specs.Types.{TcamRow, CellNumber}
 use Rattle.rmt_config.specs.declared.form.layout.Layout.{Layout}
+use Rattle.rmt_chip.specs.declared.memory.runs.Runs.{Runs}
+use Rattle.rmt_chip.specs.Searching.{run_of}
 use Rattle.rmt_config.specs.Order.{rises_from}
 use Rattle.rmt_config.specs.StageForm.{trow_number}
 use Rattle.rmt_config.specs.Cells.{Blocks}
@@ -22,13 +24,22 @@ entry_of l held blocks cell = entry_in l held blocks (quantum_of l cell) (local_
 abbrev pub runs_of : ℕ → (ℕ → ℕ) → List CellNumber → List ℕ
 runs_of size value numbers = flat_map (λ (c : CellNumber). bytes_of size (value c.cell)) numbers
 
--- a place in a list of cells: those before it are below cell n, and no other is
-pub record SplitsAt (numbers : List CellNumber) (place n : ℕ) : Type 0 where
-  pub within : place ≤ length numbers
-  pub below : (k : ℕ) (d : CellNumber) → k < place → (slice_index_or numbers k d).cell < n
-  pub above : (k : ℕ) (d : CellNumber) → place ≤ k → k < length numbers → n ≤ (slice_index_or numbers k d).cell
+-- a cell number that stands nowhere
+abbrev pub nowhere : CellNumber
+nowhere = record { cell = 0; number = 0 }
 
--- by row the place in a list of cells where the cells of the row begin, where a row has that many cells; and where those of the last end
-pub record StartsByRow (numbers : List CellNumber) (rows per : ℕ) (starts : List ℕ) : Type 0 where
-  pub all : length starts ≡ rows + 1
-  pub each : (r : ℕ) → r ≤ rows → SplitsAt numbers (slice_index starts r) (r * per)
+-- the listed cell at a place
+abbrev pub cell_at : List CellNumber → ℕ → ℕ
+cell_at numbers at = (slice_index_or numbers at nowhere).cell
+
+-- the bytes of a listed cell, of its head, its key and its data
+abbrev pub bytes_at : Runs → Runs → Runs → ℕ → List ℕ
+bytes_at heads keys held i = slice_index (run_of heads i) 0 ∷ run_of keys i ++ run_of held i
+
+-- the first of the listed cells have their bytes, and all others stay
+pub record CellsPut (numbers : List CellNumber) (heads keys held : Runs) (count : ℕ) (old new : Runs) : Type 0 where
+  pub size : new.size ≡ old.size
+  pub same : new.count ≡ old.count
+  pub listed : (bytes : ℕ → List ℕ) → ((i : ℕ) → i < length numbers → bytes_at heads keys held i ≡ bytes (cell_at numbers i))
+      → (i : ℕ) → i < count → run_of new (cell_at numbers i) ≡ bytes (cell_at numbers i)
+  pub others : (n : ℕ) → n < old.count → ((i : ℕ) → i < count → cell_at numbers i ≢ n) → run_of new n ≡ run_of old n

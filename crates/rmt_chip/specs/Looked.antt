@@ -1,5 +1,5 @@
 -- What a unit read for a packet, against what the definitions find.
-use Rattle.std.specs.Prelude.{◌≡◌, ℕ, ◌<◌, true, false, List, length, Option, Some, None, slice_index_or}
+use Rattle.std.specs.Prelude.{◌≡◌, ℕ, ◌<◌, Bool, true, false, List, length, Option, Some, None, slice_index_or}
 use Rattle.rmt_bits.specs.Bits.{number_of}
 use Rattle.rmt_chip.specs.Types.{Stage, Unit}
 use Rattle.rmt_config.specs.declared.config.Unit.TheVariants.{Gate, Slot}
@@ -8,15 +8,16 @@ use Rattle.rmt_config.specs.Shapes.{divided_up}
 use Rattle.rmt_config.specs.Life.{Look, Words, gate_passes, looked_up}
 use Rattle.rmt_chip.specs.declared.looked.Looked.{Looked}
 
--- what is kept of a look-up: whether it found, and what it found
-abbrev pub Finds : Option Found → Looked → Type 0
-Finds None looked = looked.hit ≡ false
-Finds (Some f) looked = (looked.hit ≡ true) × (looked.code ≡ f.code) × (looked.number ≡ f.number) × (number_of looked.held.items ≡ f.held)
+-- what is kept of a look-up: whether it found, and what it found; the entry's number only where hits are counted
+abbrev pub Finds : Bool → Option Found → Looked → Type 0
+Finds counted None looked = looked.hit ≡ false
+Finds counted (Some f) looked =
+    (looked.hit ≡ true) × (looked.code ≡ f.code) × (counted ≡ true → looked.number ≡ f.number) × (number_of looked.held.items ≡ f.held)
 
 -- what a unit of stage k reads, by its place there, from the words at the stage's start
 abbrev pub LookedFor : Look → ℕ → ℕ → Words → Unit → Looked → Type 0
 LookedFor look k place words (Gate g) looked = looked.hit ≡ gate_passes words g.tests
-LookedFor look k place words (Slot s) looked = Finds (looked_up look k place words s) looked
+LookedFor look k place words (Slot s) looked = Finds s.counted (looked_up look k place words s) looked
 
 -- how many bytes the data of an entry of a unit takes
 abbrev pub held_bytes : Unit → ℕ

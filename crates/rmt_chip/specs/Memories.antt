@@ -1,26 +1,26 @@
--- The memory of a slot laid out for reading, against the slot's cells.
-use Rattle.std.specs.Prelude.{◌≡◌, ℕ, ◌*◌, ◌^◌, ◌<◌, List, length, map, true, All, Option, Some, None}
-use Rattle.rmt_bits.specs.Bits.{number_of}
+-- The memory of a slot, with room for each of its cells, against what the cells hold.
+use Rattle.std.specs.Prelude.{◌≡◌, ℕ, ◌-◌, ◌*◌, ◌^◌, ◌<◌, List, ◌∷◌, ◌++◌, length, map, Bool, true, false, ◌&&◌, ◌==◌, IsTrue, All, Option, Some, None, slice_index, if◌then◌else◌}
+use Rattle.std.specs.List.{range_with_len}
+use Rattle.rmt_bits.specs.Bits.{bytes_of, number_of}
+use Rattle.rmt_bits.specs.Grouping.{Compared}
 use Rattle.rmt_chip.specs.Types.{Stage, TcamRow, Unit as ChipUnit, SlotUnit, CellNumber, Memory}
 use Rattle.rmt_config.specs.declared.config.Unit.TheVariants.{Gate, Slot}
 use Rattle.rmt_config.specs.declared.config.Memory.TheVariants.{Without, Exact, Ternary}
 use Rattle.rmt_config.specs.LaneForm.{bits_of_lanes}
 use Rattle.rmt_config.specs.Order.{rises_from}
 use Rattle.rmt_config.specs.Shapes.{divided_up}
-use Rattle.rmt_config.specs.Cells.{Content, content_of}
+use Rattle.rmt_config.specs.Cells.{Content, cells_in, is_occupied}
 use Rattle.rmt_config.specs.UnitForm.{slot_is_formed}
 use Rattle.rmt_config.specs.CellForm.{SlotHolds}
 use Rattle.rmt_config.specs.KeysSeen.{WaysLow}
 use Rattle.rmt_config.specs.MemoryRules.{FormedRows}
 use Rattle.rmt_chip.specs.declared.memory.SlotMemory.{SlotMemory}
-use Rattle.rmt_chip.specs.declared.memory.Keys.{Keys}
-use Rattle.rmt_chip.specs.declared.memory.Keys.TheVariants.{Nothing, ByRow, InVectors}
-use Rattle.rmt_chip.specs.declared.memory.ways.ExactMemory.{ExactMemory}
-use Rattle.rmt_chip.specs.Laying.{runs_of, StartsByRow}
-use Rattle.rmt_chip.specs.Searching.{FirstIn, FirstByWays}
-use Rattle.rmt_bits.specs.Grouping.{Compared}
+use Rattle.rmt_chip.specs.declared.memory.keys.Keys.{Keys}
+use Rattle.rmt_chip.specs.declared.memory.keys.Keys.TheVariants.{Nothing, InCells, InVectors}
+use Rattle.rmt_chip.specs.Searching.{FirstIn, FirstByWays, run_of}
 use Rattle.rmt_chip.specs.KeyWords.{words_of, words_of_key}
 use Rattle.rmt_chip.specs.Slicing.{HasRow, StandsFor}
+use Rattle.rmt_chip.specs.Sights.{seen_by}
 
 -- ---- what is asked of a slot
 
@@ -45,65 +45,89 @@ pub record NumbersFit (slot : SlotUnit) (count : ℕ) : Type 0 where
   pub below : All (λ (n : CellNumber). n.cell < count) slot.numbers
   pub few : length slot.numbers < 2 ^ 32
 
--- ---- a slot laid out
-
--- the keys of an exact part, of p cells a row, d times 1,024 rows a way, and ways from number w on
-pub record ExactLays (seed : ℕ) (stage : Stage) (s : SlotUnit) (p d w : ℕ) (m : ExactMemory) : Type 0 where
-  pub seed_is : m.seed ≡ seed
-  pub first_way : m.first_way ≡ w
-  pub rows : m.rows ≡ 1024 * d
-  pub starts : StartsByRow s.numbers (4 * (1024 * d)) p m.starts.items
-  pub size : m.keys.size ≡ divided_up (bits_of_lanes s.keys) 8
-  pub count : m.keys.count ≡ length s.numbers
-  pub keys : m.keys.bytes.items ≡ runs_of (divided_up (bits_of_lanes s.keys) 8) (λ n. (content_of stage s n).key) s.numbers
-
--- what a cell of a ternary part compares, in that many words
-abbrev pub compared_of : ℕ → Content → Compared
-compared_of count c = record { masks = words_of count c.mask; values = words_of count c.key }
-
--- the listed cells as rows
-abbrev pub rows_in : Stage → SlotUnit → List (Option Compared)
-rows_in stage s = map (λ (c : CellNumber). Some (compared_of (divided_up (bits_of_lanes s.keys) 40) (content_of stage s c.cell))) s.numbers
-
-abbrev pub KeysLay : ℕ → Stage → SlotUnit → Memory → Keys → Type 0
-KeysLay seed stage s Without Nothing = Unit {0}
-KeysLay seed stage s Without (ByRow m) = ⊥
-KeysLay seed stage s Without (InVectors v) = ⊥
-KeysLay seed stage s (Exact k p d w ks rs cs) Nothing = ⊥
-KeysLay seed stage s (Exact k p d w ks rs cs) (ByRow m) = ExactLays seed stage s p d w m
-KeysLay seed stage s (Exact k p d w ks rs cs) (InVectors v) = ⊥
-KeysLay seed stage s (Ternary d ks rs cs) Nothing = ⊥
-KeysLay seed stage s (Ternary d ks rs cs) (ByRow m) = ⊥
-KeysLay seed stage s (Ternary d ks rs cs) (InVectors v) = StandsFor (rows_in stage s) v
-
--- what a memory has of the listed cells of a slot: keys, heads, data and numbers of the entries
-pub record Laid (seed : ℕ) (stage : Stage) (s : SlotUnit) (m : SlotMemory) : Type 0 where
-  pub keys : KeysLay seed stage s s.memory m.keys
-  pub key_bytes : m.key_size ≡ divided_up (bits_of_lanes s.keys) 8
-  pub heads : m.heads.bytes.items ≡ runs_of 1 (λ n. (content_of stage s n).head) s.numbers
-  pub held_size : m.held.size ≡ divided_up s.held 8
-  pub held : m.held.bytes.items ≡ runs_of (divided_up s.held 8) (λ n. (content_of stage s n).held) s.numbers
-  pub numbers : m.numbers.items ≡ map (λ (c : CellNumber). c.number) s.numbers
-
--- the memory of a slot of a stage, under a seed
-pub record Lays (seed : ℕ) (stage : Stage) (slot : SlotUnit) (m : SlotMemory) : Type 0 where
-  pub formed : SlotFormed stage slot
-  pub laid : Laid seed stage slot m
+-- ---- room
 
 -- how many bytes a key has, and the data of an entry
 abbrev pub key_size : SlotMemory → ℕ
 key_size m = m.key_size
 
 abbrev pub held_size : SlotMemory → ℕ
-held_size m = m.held.size
+held_size m = m.held_size
+
+-- the keys of that many bits stand where the kind of a memory has them: in the cells, by the rows of its ways, or in vectors
+abbrev pub keys_fit : ℕ → Memory → ℕ → Keys → Bool
+keys_fit bits Without stored Nothing = true
+keys_fit bits Without stored (InCells ways) = false
+keys_fit bits Without stored (InVectors v) = false
+keys_fit bits (Exact k p d w ks rs cs) stored Nothing = false
+keys_fit bits (Exact k p d w ks rs cs) stored (InCells ways) =
+    (ways.first_way == w) && (ways.rows == 1024 * d) && (ways.per == p) && (stored == divided_up bits 8)
+keys_fit bits (Exact k p d w ks rs cs) stored (InVectors v) = false
+keys_fit bits (Ternary d ks rs cs) stored Nothing = false
+keys_fit bits (Ternary d ks rs cs) stored (InCells ways) = false
+keys_fit bits (Ternary d ks rs cs) stored (InVectors v) = (v.words == divided_up bits 40) && (stored == 0)
+
+-- a memory has room for each cell of a slot
+pub record FitsSlot (slot : SlotUnit) (m : SlotMemory) : Type 0 where
+  pub key : key_size m ≡ divided_up (bits_of_lanes slot.keys) 8
+  pub held : held_size m ≡ divided_up slot.held 8
+  pub cells : m.cells.count ≡ cells_in slot.memory
+  pub numbers : slot.counted ≡ true → length m.numbers.items ≡ cells_in slot.memory
+  pub keys : IsTrue (keys_fit (bits_of_lanes slot.keys) slot.memory m.stored m.keys)
+
+-- ---- what cells hold
+
+-- the bytes of a cell: its head, its key in that many bytes, and its data in that many; each highest first
+abbrev pub cell_bytes : ℕ → ℕ → Content → List ℕ
+cell_bytes key held c = c.head ∷ bytes_of key c.key ++ bytes_of held c.held
+
+-- the key and the mask of an occupied cell have the bits that the slot's keys have
+abbrev pub KeyFits : ℕ → Memory → Content → Type 0
+KeyFits bits Without c = Unit {0}
+KeyFits bits (Exact k p d w ks rs cs) c = (c.key < 2 ^ bits) × (c.mask ≡ 2 ^ bits - 1)
+KeyFits bits (Ternary d ks rs cs) c = c.key < 2 ^ (40 * divided_up bits 40)
+
+-- a memory holds an occupied cell
+pub record HoldsEntry (slot : SlotUnit) (c : Content) (entry n : ℕ) (m : SlotMemory) : Type 0 where
+  pub bytes : run_of m.cells n ≡ cell_bytes m.stored m.held_size c
+  pub key : KeyFits (bits_of_lanes slot.keys) slot.memory c
+  pub held : c.held < 2 ^ slot.held
+  pub number : slot.counted ≡ true → slice_index m.numbers.items n ≡ entry
+
+-- of a cell that isn't occupied it tells no more than that
+pub record HoldsCell (slot : SlotUnit) (c : Content) (number n : ℕ) (m : SlotMemory) : Type 0 where
+  pub occupied : is_occupied (slice_index (run_of m.cells n) 0) ≡ is_occupied c.head
+  pub entry : is_occupied c.head ≡ true → HoldsEntry slot c number n m
+
+-- what a cell of a ternary part compares, in that many words
+abbrev pub compared_of : ℕ → Content → Compared
+compared_of count c = record { masks = words_of count c.mask; values = words_of count c.key }
+
+-- the rows that a sight shows, of that many
+abbrev pub rows_seen : ℕ → ℕ → (ℕ → Content) → ℕ → List (Option Compared)
+rows_seen sight words content count =
+    map (λ n. if seen_by sight (content n).head then Some (compared_of words (content n)) else None) (range_with_len 0 count)
+
+-- the vectors of a ternary part stand for what its rows compare
+abbrev pub VectorsHold : ℕ → ℕ → (ℕ → Content) → Keys → Type 0
+VectorsHold words count content Nothing = Unit {0}
+VectorsHold words count content (InCells ways) = Unit {0}
+VectorsHold words count content (InVectors v) = (sight : ℕ) → sight < 3 → StandsFor sight (rows_seen sight words content count) v
+
+-- a memory holds all cells of a slot
+pub record HoldsSlot (content : ℕ → Content) (number : ℕ → ℕ) (slot : SlotUnit) (m : SlotMemory) : Type 0 where
+  pub fits : FitsSlot slot m
+  pub each : (n : ℕ) → n < cells_in slot.memory → HoldsCell slot (content n) (number n) n m
+  pub vectors : VectorsHold (divided_up (bits_of_lanes slot.keys) 40) (cells_in slot.memory) content m.keys
 
 -- ---- the search
 
--- where a key is found among the listed cells
-abbrev pub PlacesIn : Keys → List ℕ → Option ℕ → Type 0
-PlacesIn Nothing key found = found ≡ None
-PlacesIn (ByRow m) key found = FirstByWays m key found
-PlacesIn (InVectors v) key found = (rows : List (Option Compared)) → StandsFor rows v → FirstIn (HasRow (words_of_key (number_of key)) rows) 0 (length rows) found
+-- where a key is found
+abbrev pub PlacesIn : SlotMemory → Keys → ℕ → ℕ → List ℕ → Option ℕ → Type 0
+PlacesIn m Nothing seed sight key found = found ≡ None
+PlacesIn m (InCells ways) seed sight key found = FirstByWays ways m.cells seed sight key found
+PlacesIn m (InVectors v) seed sight key found =
+    (rows : List (Option Compared)) → StandsFor sight rows v → FirstIn (HasRow (words_of_key (number_of key)) rows) 0 (length rows) found
 
-abbrev pub Places : SlotMemory → List ℕ → Option ℕ → Type 0
-Places m key found = PlacesIn m.keys key found
+abbrev pub Places : SlotMemory → ℕ → ℕ → List ℕ → Option ℕ → Type 0
+Places m seed sight key found = PlacesIn m m.keys seed sight key found

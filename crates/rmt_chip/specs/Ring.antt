@@ -1,7 +1,8 @@
 -- The ring of packet slots: an age is a place counted back from the newest.
-use Rattle.std.specs.Prelude.{◌≡◌, ℕ, ◌+◌, ◌-◌, ◌%◌, ◌<◌, ◌==◌, nat_lt, if◌then◌else◌, List, [], length, All, Option, slice_index_or}
+use Rattle.std.specs.Prelude.{◌≡◌, ℕ, zero, suc, ◌+◌, ◌-◌, ◌%◌, ◌<◌, ◌==◌, nat_lt, if◌then◌else◌, List, [], length, All, Option, Some, None, option_map, slice_index_or}
 use Rattle.rmt_chip.specs.Types.{Config, Stage}
-use Rattle.rmt_config.specs.Life.{Look}
+use Rattle.rmt_config.specs.Life.{or_else}
+use Rattle.rmt_config.specs.RunCells.{RunCells, look_in}
 use Rattle.rmt_chip.specs.declared.packet_slot.PacketSlot.{PacketSlot}
 use Rattle.rmt_chip.specs.Pending.{HaveRoomFor}
 use Rattle.rmt_chip.specs.Runnable.{start_of}
@@ -39,10 +40,19 @@ abbrev pub done_before : List Stage → ℕ → ℕ → ℕ
 done_before stages after k = if k == 0 then 0 else start_of stages (k - 1) + after + 1
 
 -- each packet slot holds what entered so many cycles ago: its words, reads and acts as of these ages, and its look-ups below one
-abbrev pub AllHold : Look → Config → (ℕ → Option Entered) → (ℕ → ℕ) → (ℕ → ℕ) → (ℕ → ℕ) → (ℕ → ℕ) → ℕ → List PacketSlot → Type 0
-AllHold look c item words reads acts looks newest places =
-    (age : ℕ) (d : PacketSlot) → age < 385 → HoldsIf look c (item age) (words age) (reads age) (acts age) (looks age) (slice_index_or places (ring_at newest age) d)
+abbrev pub AllHold : Config → (ℕ → Option Entered) → (ℕ → ℕ) → (ℕ → ℕ) → (ℕ → ℕ) → (ℕ → ℕ) → ℕ → List PacketSlot → Type 0
+AllHold c item words reads acts looks newest places =
+    (age : ℕ) (d : PacketSlot) → age < 385 → HoldsIf c (item age) (words age) (reads age) (acts age) (looks age) (slice_index_or places (ring_at newest age) d)
 
 -- each frame is that of the packet that entered so many cycles ago
 abbrev pub FramesAre : (ℕ → Option Entered) → ℕ → List (List ℕ) → Type 0
 FramesAre item newest frames = (age : ℕ) → age < 385 → FrameIs (item age) (slice_index_or frames (ring_at newest age) [])
+
+-- the packet at the start of a stage looks up there in these cells
+abbrev pub LooksNow : Config → RunCells → (ℕ → Option Entered) → Type 0
+LooksNow c cells item = (k : ℕ) (e : Entered) → k < length c.stages → item (start_of c.stages k) ≡ Some e → e.look k ≡ look_in c e.version cells k
+
+-- of packets by age the version of the oldest one below an age, if one is there
+abbrev pub oldest_below : (ℕ → Option Entered) → ℕ → Option ℕ
+oldest_below item zero = None
+oldest_below item (suc age) = or_else (option_map (λ (e : Entered). e.version) (item age)) (oldest_below item age)

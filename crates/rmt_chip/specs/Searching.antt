@@ -1,8 +1,9 @@
 -- The first of what stands in a run of places, and the search by ways.
-use Rattle.std.specs.Prelude.{◌≡◌, ℕ, ◌+◌, ◌*◌, ◌<◌, ◌≤◌, List, take, drop, slice_index, Option, Some, None}
+use Rattle.std.specs.Prelude.{◌≡◌, ℕ, ◌+◌, ◌*◌, ◌<◌, ◌≤◌, true, List, length, take, drop, slice_index, Option, Some, None}
 use Rattle.rmt_bits.specs.Hash.{hash_row}
 use Rattle.rmt_chip.specs.declared.memory.runs.Runs.{Runs}
-use Rattle.rmt_chip.specs.declared.memory.ways.ExactMemory.{ExactMemory}
+use Rattle.rmt_chip.specs.declared.memory.ways.Ways.{Ways}
+use Rattle.rmt_chip.specs.Sights.{seen_by}
 
 -- the first place from one on, below another, at which a fact holds, if there is one
 abbrev pub FirstIn : (ℕ → Type 0) → ℕ → ℕ → Option ℕ → Type 0
@@ -13,19 +14,21 @@ FirstIn P from to (Some i) = (from ≤ i) × (i < to) × P i × ((j : ℕ) → f
 abbrev pub run_of : Runs → ℕ → List ℕ
 run_of runs at = take runs.size (drop (at * runs.size) runs.bytes.items)
 
-abbrev pub HasRun : Runs → List ℕ → ℕ → Type 0
-HasRun runs key at = run_of runs at ≡ key
+-- a sight shows the cell of this number, and its key behind the head is this one
+abbrev pub HasCell : Runs → ℕ → List ℕ → ℕ → Type 0
+HasCell cells sight key n = (seen_by sight (slice_index (run_of cells n) 0) ≡ true) × (take (length key) (drop 1 (run_of cells n)) ≡ key)
 
--- the row of a key in a way, among the rows of all ways
-abbrev pub row_among : ExactMemory → List ℕ → ℕ → ℕ
-row_among m key way = way * m.rows + hash_row m.seed (m.first_way + way) key m.rows
+-- the row of a key in a way under a seed, among the rows of all ways
+abbrev pub row_among : Ways → ℕ → List ℕ → ℕ → ℕ
+row_among ways seed key way = way * ways.rows + hash_row seed (ways.first_way + way) key ways.rows
 
 -- the first cell with a key among those of its row in a way
-abbrev pub FirstInWay : ExactMemory → List ℕ → ℕ → Option ℕ → Type 0
-FirstInWay m key way found =
-    FirstIn (HasRun m.keys key) (slice_index m.starts.items (row_among m key way)) (slice_index m.starts.items (row_among m key way + 1)) found
+abbrev pub FirstInWay : Ways → Runs → ℕ → ℕ → List ℕ → ℕ → Option ℕ → Type 0
+FirstInWay ways cells seed sight key way found =
+    FirstIn (HasCell cells sight key) (row_among ways seed key way * ways.per) (row_among ways seed key way * ways.per + ways.per) found
 
 -- that of the first of the four ways that has one
-abbrev pub FirstByWays : ExactMemory → List ℕ → Option ℕ → Type 0
-FirstByWays m key None = (way : ℕ) → way < 4 → FirstInWay m key way None
-FirstByWays m key (Some i) = (way : ℕ) × (way < 4) × FirstInWay m key way (Some i) × ((w : ℕ) → w < way → FirstInWay m key w None)
+abbrev pub FirstByWays : Ways → Runs → ℕ → ℕ → List ℕ → Option ℕ → Type 0
+FirstByWays ways cells seed sight key None = (way : ℕ) → way < 4 → FirstInWay ways cells seed sight key way None
+FirstByWays ways cells seed sight key (Some i) =
+    (way : ℕ) × (way < 4) × FirstInWay ways cells seed sight key way (Some i) × ((w : ℕ) → w < way → FirstInWay ways cells seed sight key w None)

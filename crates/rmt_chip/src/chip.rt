@@ -9,20 +9,23 @@ ghost use Rattle.rmt_chip.specs.declared.packet_slot.PacketSlot.{PacketSlot as P
 ghost use Rattle.rmt_chip.specs.Pending.{HaveRoomFor};
 ghost use Rattle.rmt_chip.specs.StageMemories.{MemoriesOf};
 
-use crate::counters::first_counters;
+use crate::counters::{bring, first_counters};
 use crate::cycle::{cycle, latency};
 use crate::fault::ChipFault;
 use crate::frame::Frame;
 use crate::frames::Frames;
-use crate::lay::lay_all;
+use crate::lay::{lay_all, write_cell};
 use crate::memory::SlotMemory;
+use crate::moment::Moment;
 use crate::open::all_places;
 use crate::out::Out;
 use crate::packet_slot::PacketSlot;
-use crate::ring::{PLACES, place_of};
+use crate::ring::{PLACES, oldest, place_of};
 use crate::seen::Seen;
+use crate::taken::is_taken;
 use rmt_bits::answer::Verdict;
 use rmt_bits::counts::Counts;
+use rmt_config::cell_write::CellWrite;
 use rmt_config::config::Config;
 use std::alloc::Global;
 
@@ -36,6 +39,8 @@ pub struct Chip {
     counters: Counts,
     newest: usize,
     entered: u64,
+    version: u64,
+    seed: u8,
     latency: u16,
     ghost formed: { IsTrue (items_are_formed config) },
     ghost limits: { IsTrue (is_none (limit_hit config)) },
@@ -47,18 +52,19 @@ pub struct Chip {
 }
 
 impl Chip {
-    ghost use Rattle.std.specs.Prelude.{[], ◌∷◌, ◌++◌, ◌^◌, ℕ, List, Option, length, IfOk};
-    ghost use Rattle.rmt_bits.specs.Packet.{Packet};
+    ghost use Rattle.std.specs.Prelude.{[], ◌∷◌, ◌++◌, ◌+◌, ◌^◌, ◌≤◌, ◌⊎◌, ℕ, List, None, true, Contains, length, map, IfOk, OnOk, OnErr};
+    ghost use Rattle.rmt_bits.specs.declared.answer.Count.{Count};
     ghost use Rattle.rmt_config.specs.declared.config.Config.{Config};
-    ghost use Rattle.rmt_config.specs.ChipRun.{answer_at, chip_counts_of};
     ghost use Rattle.rmt_config.specs.Form.{Formed};
     ghost use Rattle.rmt_config.specs.Limits.{IsWithinLimits};
-    ghost use Rattle.rmt_chip.specs.Inputs.{input_of, MayEnter};
+    ghost use Rattle.rmt_config.specs.RunInputs.{Input, Writes, Turns, answer_in, counts_in, numbers_brought, packet_of};
+    ghost use Rattle.rmt_chip.specs.Inputs.{input_of, input_from, MayEnter};
     ghost use Rattle.rmt_chip.specs.Leaving.{AnswersIf};
-    ghost use Rattle.rmt_chip.specs.Stands.{Stands, Shows, entered_of, in_flight};
+    ghost use Rattle.rmt_chip.specs.Stands.{Stands, Took, Turned, Shows, entered_of, spare_of, version_of, in_flight, oldest_in_flight};
+    ghost use Rattle.rmt_chip.specs.Writable.{IsTaken};
 
-    /// A chip in which no packet is. It takes all memory that the chip ever needs, and can only be
-    /// refused for memory.
+    /// A chip in which no packet is. It takes all memory that the chip ever needs but room for counters
+    /// of numbers that changed cells bring, and can only be refused for memory.
     pub fn open(alloc: Global, config: Config) -> Result<Chip, ChipFault>
         requires form { Formed config }
         requires limits { IsWithinLimits config }
@@ -66,10 +72,11 @@ impl Chip {
     {
         let stages = config.stages.as_slice();
         let places = all_places(alloc, stages)?;
-        let memories = lay_all(alloc, config.seed, stages)?;
+        let memories = lay_all(alloc, stages)?;
         let counters = first_counters(alloc, &config)?;
         let frames = Frames::new(alloc)?;
         let latency = latency(config.stages.as_slice());
+        let seed = config.seed;
         Ok(Chip {
             config,
             memories,
@@ -78,8 +85,22 @@ impl Chip {
             counters,
             newest: 0,
             entered: 0,
+            version: 0,
+            seed,
             latency,
         })
+    }
+
+    /// Makes room for the counters of that many more numbers, which changed cells may bring. Without
+    /// memory all is as before.
+    pub fn reserve(&mut self, entries: u32) -> Result<(), ChipFault>
+        ensures stands { (c : Config) (inputs : List Input) → Stands c inputs self.old → Stands c inputs self.new }
+        ensures ok { OnOk result (entries ≤ spare_of self.new) }
+        ensures kept { spare_of self.old ≤ spare_of self.new }
+        ensures err { OnErr result (spare_of self.new ≡ spare_of self.old) }
+    {
+        self.counters.reserve(entries as usize)?;
+        Ok(())
     }
 
     /// How many packets have entered.
@@ -89,6 +110,27 @@ impl Chip {
         self.entered
     }
 
+    /// How many versions were made, which is the version under which a packet enters.
+    pub fn version(&self) -> u64
+        ensures { result ≡ version_of self.now }
+    {
+        self.version
+    }
+
+    /// For how many more numbers there is room to count.
+    pub fn spare(&self) -> usize
+        ensures { result ≡ spare_of self.now }
+    {
+        self.counters.spare()
+    }
+
+    /// Whether a changed cell is one of a slot, and holds what the slot may have.
+    pub fn takes(&self, write: &CellWrite) -> bool
+        ensures { result ≡ true → IsTaken self.now.config.stages write.now }
+    {
+        is_taken(self.config.stages.as_slice(), write)
+    }
+
     /// One cycle, with a frame or nothing. The frame must be one that may enter, and fewer than
     /// 2^63 packets may have entered before. The answer is that to the packet that leaves, or None
     /// where none leaves; after a packet was sent its bytes are in `out`, and after every other
@@ -96,33 +138,93 @@ impl Chip {
     pub fn clock(&mut self, frame: Option<Frame<'_>>, out: &mut Out) -> Option<Verdict>
         requires frame { MayEnter frame }
         requires few { entered_of self.old < 2 ^ 63 }
-        ensures { (c : Config) (inputs : List (Option Packet)) → Stands c inputs self.old →
-            Stands c (inputs ++ input_of frame.entry ∷ []) self.new
-            × AnswersIf (answer_at c (inputs ++ input_of frame.entry ∷ []) (length inputs)) result out.new }
+        ensures stands { (c : Config) (inputs : List Input) → Stands c inputs self.old →
+            Stands c (inputs ++ input_from frame.entry ∷ []) self.new }
+        ensures answers { (c : Config) (inputs : List Input) → Stands c inputs self.old →
+            AnswersIf (answer_in c (inputs ++ input_from frame.entry ∷ []) (length inputs)) result out.new }
+        ensures spare { spare_of self.new ≡ spare_of self.old }
+    {
+        self.turn(frame, out)
+    }
+
+    /// One cycle in which no packet enters and one cell changes, which packets see from the next cycle
+    /// on. The cell must be one of its slot, and what it is to hold must be as the slot has it; where it
+    /// brings a number into a counted slot that has no counter yet, there must be room for one. The
+    /// answer is as that of `clock`. It takes no memory.
+    pub fn clock_write(&mut self, write: &CellWrite, out: &mut Out) -> Option<Verdict>
+        requires taken { IsTaken self.old.config.stages write.now }
+        requires room { All (λ n. Contains (map (λ (count : Count). count.entry) self.old.counters.counts) n ⊎ (1 ≤ spare_of self.old))
+            (numbers_brought self.old.config (Writes write.now)) }
+        ensures stands { (c : Config) (inputs : List Input) → Stands c inputs self.old →
+            Stands c (inputs ++ Writes write.now ∷ []) self.new }
+        ensures answers { (c : Config) (inputs : List Input) → Stands c inputs self.old →
+            AnswersIf (answer_in c (inputs ++ Writes write.now ∷ []) (length inputs)) result out.new }
+        ensures spare { (c : Config) (inputs : List Input) → Stands c inputs self.old →
+            spare_of self.new + length (counts_in c (inputs ++ Writes write.now ∷ [])) ≡ spare_of self.old + length (counts_in c inputs) }
+        ensures falls { spare_of self.old ≤ spare_of self.new + 1 }
+    {
+        bring(&mut self.counters, &self.config, write);
+        let answer = self.turn(None, out);
+        write_cell(self.config.stages.as_slice(), &mut self.memories, write);
+        answer
+    }
+
+    /// One cycle in which no packet enters, and which makes the next version the current one, with a new
+    /// seed for look-ups. Fewer than 2^63 versions may have been made before. The answer is as that of
+    /// `clock`. It takes no memory.
+    pub fn clock_commit(&mut self, seed: u8, out: &mut Out) -> Option<Verdict>
+        requires few { version_of self.old < 2 ^ 63 }
+        ensures stands { (c : Config) (inputs : List Input) → Stands c inputs self.old →
+            Stands c (inputs ++ Turns seed ∷ []) self.new }
+        ensures answers { (c : Config) (inputs : List Input) → Stands c inputs self.old →
+            AnswersIf (answer_in c (inputs ++ Turns seed ∷ []) (length inputs)) result out.new }
+        ensures spare { spare_of self.new ≡ spare_of self.old }
+    {
+        let answer = self.turn(None, out);
+        self.version += 1;
+        self.seed = seed;
+        answer
+    }
+
+    /// One cycle of the packets; the cells, the version and the seed stay.
+    fn turn(&mut self, frame: Option<Frame<'_>>, out: &mut Out) -> Option<Verdict>
+        requires frame { MayEnter frame }
+        requires few { entered_of self.old < 2 ^ 63 ⊎ (frame ≡ None) }
+        ensures goes { (c : Config) (numbers : List ℕ) (inputs : List Input) (input : Input) → packet_of input ≡ input_of frame.entry →
+            Took c numbers inputs self.old → Turned c numbers inputs input self.new
+            × AnswersIf (answer_in c (inputs ++ input ∷ []) (length inputs)) result out.new }
+        ensures config { self.new.config ≡ self.old.config }
+        ensures spare { spare_of self.new ≡ spare_of self.old }
+        ensures version { version_of self.new ≡ version_of self.old }
     {
         let newest = (self.newest + 1) % PLACES;
-        let grown = self.entered + u64::from(frame.is_some());
+        let moment = Moment {
+            newest,
+            number: self.entered,
+            version: self.version,
+            seed: self.seed,
+        };
+        let entering = u64::from(frame.is_some());
         let answer = cycle(
             &self.config,
             &self.memories,
             &mut self.places,
             &mut self.frames,
             &mut self.counters,
-            newest,
+            moment,
             frame,
-            self.entered,
             self.latency,
             out,
         );
         self.newest = newest;
-        self.entered = grown;
+        self.entered += entering;
         answer
     }
 
     /// The packet of this age, counted in cycles since it entered; None exactly where none of that
     /// age is in flight. A packet is in flight from age 0 to the age at which it leaves.
     pub fn probe(&self, age: u16) -> Option<Seen<'_>>
-        ensures { (c : Config) (inputs : List (Option Packet)) → Stands c inputs self.now →
+        ensures { (c : Config) (inputs : List Input) → Stands c inputs self.now →
             Shows c age (in_flight c inputs age) result }
     {
         if age > self.latency {
@@ -138,17 +240,26 @@ impl Chip {
         })
     }
 
+    /// The version of the oldest packet that hasn't left; None exactly where all have. In the cycle in
+    /// which its age is the latency a packet leaves.
+    pub fn oldest(&self) -> Option<u64>
+        ensures { (c : Config) (inputs : List Input) → Stands c inputs self.now →
+            result ≡ oldest_in_flight c inputs }
+    {
+        oldest(&self.places, self.newest, usize::from(self.latency))
+    }
+
     /// How often each counted entry was hit, by rising number.
     pub fn counters(&self) -> &Counts
-        ensures { (c : Config) (inputs : List (Option Packet)) → Stands c inputs self.now →
-            result.now.counts ≡ chip_counts_of c inputs }
+        ensures { (c : Config) (inputs : List Input) → Stands c inputs self.now →
+            result.now.counts ≡ counts_in c inputs }
     {
         &self.counters
     }
 
     /// The age at which a packet leaves: 12 cycles behind the last start, or 0 without a stage.
     pub fn latency(&self) -> u16
-        ensures { (c : Config) (inputs : List (Option Packet)) → Stands c inputs self.now →
+        ensures { (c : Config) (inputs : List Input) → Stands c inputs self.now →
             result ≡ latency_of c.stages }
     {
         self.latency

@@ -1,12 +1,17 @@
 //! The counters of the entries in counted slots.
 
-ghost use Rattle.std.specs.Prelude.{◌≡◌, ◌++◌, [], map, IfOk, OnOk};
+ghost use Rattle.std.specs.Prelude.{◌≡◌, ◌+◌, ◌≤◌, ◌++◌, ◌⊎◌, ◌∷◌, [], ℕ, List, All, Contains, length, map, if◌then◌else◌, IfOk, OnOk};
 ghost use Rattle.std.specs.List.{flat_map};
 ghost use Rattle.rmt_bits.specs.Counts.{counts};
 ghost use Rattle.rmt_config.specs.declared.config.CellNumber.{CellNumber};
 ghost use Rattle.rmt_config.specs.ChipRun.{counted_numbers, unit_numbers};
+ghost use Rattle.rmt_config.specs.RunInputs.{Writes, numbers_brought};
+ghost use Rattle.rmt_bits.specs.declared.answer.Count.{Count};
+ghost use Rattle.rmt_bits.specs.Counts.{Hit};
+ghost use Rattle.rmt_chip.specs.Counting.{AreAmong};
 
 use rmt_bits::counts::Counts;
+use rmt_config::cell_write::CellWrite;
 use rmt_config::config::{CellNumber, Config, Unit};
 use std::alloc::{AllocError, Global};
 
@@ -62,4 +67,37 @@ pub fn first_counters(alloc: Global, config: &Config) -> Result<Counts, AllocErr
 {
     let numbers = numbers_of(alloc, config)?;
     Counts::of(alloc, &numbers)
+}
+
+/// Whether a changed cell brings its number into a counted slot.
+fn brings(config: &Config, write: &CellWrite) -> bool
+    ensures { numbers_brought config.now (Writes write.now) ≡ (if result then write.now.number ∷ [] else []) }
+{
+    if write.visible == 0 {
+        return false;
+    }
+    let Some(stage) = config.stages.as_slice().get(usize::from(write.stage)) else {
+        return false;
+    };
+    match stage.units.as_slice().get(usize::from(write.unit)) {
+        Some(Unit::Slot(slot)) => slot.counted,
+        _ => false,
+    }
+}
+
+/// A counter for the number that a changed cell brings, where it has none yet; there must be room for it.
+/// It takes no memory.
+pub fn bring(counters: &mut Counts, config: &Config, write: &CellWrite)
+    requires room { All (λ n. Contains (map (λ (count : Count). count.entry) counters.old.counts) n ⊎ (1 ≤ counters.old.room))
+        (numbers_brought config.now (Writes write.now)) }
+    ensures counts { (numbers : List ℕ) (hits : List Hit) → counters.old.counts ≡ counts numbers hits → AreAmong numbers hits →
+        counters.new.counts ≡ counts (numbers ++ numbers_brought config.now (Writes write.now)) hits }
+    ensures spare { counters.new.room + length counters.new.counts ≡ counters.old.room + length counters.old.counts }
+    ensures falls { counters.old.room ≤ counters.new.room + 1 }
+{
+    if brings(config, write) {
+        if counters.spare() > 0 {
+            counters.add(write.number);
+        }
+    }
 }

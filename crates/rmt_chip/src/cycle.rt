@@ -1,22 +1,23 @@
 //! One cycle of the chip.
 
-ghost use Rattle.std.specs.Prelude.{◌≡◌, ◌+◌, ◌%◌, ◌<◌, ◌≤◌, ◌++◌, ◌∷◌, [], ℕ, List, Option, length, reverse, All};
-ghost use Rattle.rmt_bits.specs.Packet.{Packet};
-ghost use Rattle.rmt_config.specs.ChipRun.{answer_at, latency_of};
+ghost use Rattle.std.specs.Prelude.{◌≡◌, ◌<◌, ◌≤◌, ◌∷◌, ℕ, List, length, All};
+ghost use Rattle.rmt_config.specs.ChipRun.{latency_of};
+ghost use Rattle.rmt_config.specs.RunInputs.{Input};
 ghost use Rattle.rmt_chip.specs.declared.packet_slot.PacketSlot.{PacketSlot as PlaceOf};
-ghost use Rattle.rmt_chip.specs.PacketsInFlight.{InFlight};
+ghost use Rattle.rmt_chip.specs.PacketsInFlight.{InFlight, Precedes};
 ghost use Rattle.rmt_chip.specs.FrameList.{frames_of};
-ghost use Rattle.rmt_chip.specs.Inputs.{input_of, packets_of, MayEnter};
-ghost use Rattle.rmt_chip.specs.Leaving.{AnswersIf};
+ghost use Rattle.rmt_chip.specs.Inputs.{MayEnter};
+ghost use Rattle.rmt_chip.specs.Cycles.{Cycles};
 ghost use Rattle.rmt_chip.specs.Pending.{HaveRoomFor};
 ghost use Rattle.rmt_chip.specs.Runnable.{IsRunnable, StagesFit};
-ghost use Rattle.rmt_chip.specs.StageMemories.{MemoriesOf, LaidOut};
+ghost use Rattle.rmt_chip.specs.StageMemories.{MemoriesOf};
 
 use crate::emit::leave;
 use crate::enter::enter_if;
 use crate::frame::Frame;
 use crate::frames::Frames;
 use crate::memory::SlotMemory;
+use crate::moment::Moment;
 use crate::out::Out;
 use crate::packet_slot::PacketSlot;
 use crate::ring::{place_of, read_keys, read_operands, set_outcomes, write_words};
@@ -36,7 +37,7 @@ pub fn latency(stages: &[Stage]) -> u16
     }
 }
 
-/// One cycle: the input enters the slot `newest`, every stage acts on the packets at its ages, and
+/// One cycle: the input enters the newest slot, every stage acts on the packets at its ages, and
 /// the packet whose age is `latency` leaves.
 pub fn cycle(
     config: &Config,
@@ -44,9 +45,8 @@ pub fn cycle(
     places: &mut [PacketSlot],
     frames: &mut Frames,
     counters: &mut Counts,
-    newest: usize,
+    moment: Moment,
     frame: Option<Frame<'_>>,
-    number: u64,
     latency: u16,
     out: &mut Out,
 ) -> Option<Verdict>
@@ -54,21 +54,22 @@ pub fn cycle(
     requires memories { MemoriesOf config.now.stages memories.now }
     requires full { length places.old ≡ 385 }
     requires room { All (λ (p : PlaceOf). HaveRoomFor config.now.stages p.pending.items) places.old }
-    requires in_ring { newest < 385 }
+    requires in_ring { moment.newest < 385 }
     requires frame { MayEnter frame }
     requires leaves { latency ≡ latency_of config.now.stages }
     ensures room { All (λ (p : PlaceOf). HaveRoomFor config.now.stages p.pending.items) places.new }
-    ensures gives { (inputs : List (Option Packet)) (before : ℕ) → before < 385 → newest ≡ (before + 1) % 385 →
-        number ≡ packets_of (reverse inputs) → LaidOut config.now.seed config.now.stages memories.now →
-        InFlight config.now inputs before places.old (frames_of frames.old) counters.old.counts →
-        InFlight config.now (inputs ++ input_of frame.entry ∷ []) newest places.new (frames_of frames.new) counters.new.counts
-        × AnswersIf (answer_at config.now (inputs ++ input_of frame.entry ∷ []) (length inputs)) result out.new }
+    ensures spare { counters.new.room ≡ counters.old.room }
+    ensures gives { (numbers : List ℕ) (inputs later : List Input) (input : Input) (before : ℕ) →
+        Precedes config.now inputs input before moment frame.entry memories.now →
+        InFlight config.now numbers inputs (input ∷ later) before places.old (frames_of frames.old) counters.old.counts →
+        Cycles config.now numbers inputs later input moment.newest places.new (frames_of frames.new) counters.new.counts result out.new }
 {
-    enter_if(&mut places[newest], frames, newest, config, frame, number);
+    let newest = moment.newest;
+    enter_if(&mut places[newest], frames, moment, config, frame);
     write_words(places, newest, config);
     read_operands(places, newest, config);
     set_outcomes(places, newest, config, counters);
-    read_keys(places, newest, config, memories);
+    read_keys(places, newest, config, memories, moment.seed);
     let last = place_of(newest, usize::from(latency));
     leave(config, &places[last], frames, last, out)
 }

@@ -4,13 +4,14 @@ ghost use Rattle.std.specs.Prelude.{◌≡◌, ◌<◌, ◌≤◌, ◌^◌, leng
 ghost use Rattle.rmt_config.specs.Parser.{parse as parse_of};
 ghost use Rattle.rmt_chip.specs.FrameList.{frames_of};
 ghost use Rattle.rmt_chip.specs.Held.{EnteredBy, Begins, Keeps, EntersIf};
-ghost use Rattle.rmt_chip.specs.Inputs.{input_of, MayEnter, numbered_as, frames_after};
+ghost use Rattle.rmt_chip.specs.Inputs.{input_of, MayEnter, frames_after};
 ghost use Rattle.rmt_chip.specs.Runnable.{IsRunnable};
 
 use crate::accepted::is_accepted;
 use crate::frame::Frame;
 use crate::frames::Frames;
 use crate::lanes::put;
+use crate::moment::Moment;
 use crate::packet_slot::PacketSlot;
 use rmt_config::config::Config;
 use rmt_config::tails::Tails;
@@ -33,35 +34,35 @@ fn begin(place: &mut PacketSlot, config: &Config, port: u16, bytes: &[u8])
 }
 
 /// The packet enters: it is parsed, and nothing has been read for it.
-pub fn enter(place: &mut PacketSlot, config: &Config, port: u16, bytes: &[u8], number: u64)
+fn enter(place: &mut PacketSlot, config: &Config, port: u16, bytes: &[u8], moment: Moment)
     requires fits { IsRunnable config.now }
     requires port { port < 512 }
     requires short { length bytes.now ≤ 9216 }
     ensures room { place.new.pending ≡ place.old.pending }
-    ensures entered { EnteredBy config.now (record { packet = record { port = port; frame = bytes.now }; number = number }) place.new }
+    ensures entered { EnteredBy config.now (record { port = port; frame = bytes.now }) moment.number moment.version place.new }
 {
     place.taken = true;
-    place.number = number;
+    place.number = moment.number;
+    place.version = moment.version;
     place.size = bytes.len() as u64;
     place.outcomes = [0; 256];
     begin(place, config, port, bytes);
 }
 
-/// A cycle's input enters packet slot `at`: a frame as packet number `number`, or nothing.
+/// A frame enters the newest packet slot, or nothing does.
 pub fn enter_if(
     place: &mut PacketSlot,
     frames: &mut Frames,
-    at: usize,
+    moment: Moment,
     config: &Config,
     frame: Option<Frame<'_>>,
-    number: u64,
 )
-    requires exists { at < 385 }
+    requires exists { moment.newest < 385 }
     requires fits { IsRunnable config.now }
     requires frame { MayEnter frame }
     ensures room { place.new.pending ≡ place.old.pending }
-    ensures entered { EntersIf config.now (numbered_as (input_of frame.entry) number) place.new }
-    ensures frames { frames_of frames.new ≡ frames_after frame.entry at (frames_of frames.old) }
+    ensures entered { EntersIf config.now (input_of frame.entry) moment.number moment.version place.new }
+    ensures frames { frames_of frames.new ≡ frames_after frame.entry moment.newest (frames_of frames.old) }
 {
     match frame {
         None => {
@@ -70,8 +71,8 @@ pub fn enter_if(
             place.tails = Tails::new();
         }
         Some(frame) => {
-            frames.put(at, frame.bytes);
-            enter(place, config, frame.port, frame.bytes, number);
+            frames.put(moment.newest, frame.bytes);
+            enter(place, config, frame.port, frame.bytes, moment);
         }
     }
 }

@@ -9,7 +9,7 @@ pub struct Looked {
     pub hit: bool,
     /// The number of the instruction of the entry that was found, in its stage; 0 to 31.
     pub code: u8,
-    /// The number of the entry that was found.
+    /// The number of the entry that was found, where the slot is counted.
     pub number: u32,
     /// The data of the entry that was found, in as many bytes as the slot's entries need, highest first.
     pub held: Vec<u8>,

@@ -1,85 +1,79 @@
-//! The memory of a slot laid out for reading, and look-ups in it.
+//! The memory of a slot, with room for each of its cells: look-ups in it, and changes of it.
 
 mod block_bits;
+mod changes;
 mod exact;
+mod keys;
 mod lay;
+mod listed;
 mod row_bits;
 mod runs;
+pub mod sight;
 mod sliced;
 mod ternary;
 mod ways;
 
-ghost use Rattle.std.specs.Prelude.{◌≡◌, ◌≤◌, vec_len};
+ghost use Rattle.std.specs.Prelude.{◌≡◌, ◌≤◌, ◌+◌, IsTrue};
+ghost use Rattle.rmt_chip.specs.KeysWithin.{keys_within};
 
 use crate::looked::Looked;
+use crate::memory::changes::{clear_head, set_number, set_run};
 use crate::memory::exact::place_of;
+use crate::memory::keys::{Keys, hide_key, put_key};
 use crate::memory::lay::{lay_exact, lay_ternary, without};
 use crate::memory::runs::{Runs, run_at};
-use crate::memory::sliced::Sliced;
+use crate::memory::sight::{Sight, number_of_sight};
 use crate::memory::ternary::first_row;
-use crate::memory::ways::ExactMemory;
+use rmt_config::cell_write::CellWrite;
 use rmt_config::config::{Memory, SlotUnit, Stage};
 use std::alloc::{AllocError, Global};
 
-/// The keys of the listed cells of a slot.
-#[derive(Drop)]
-pub enum Keys {
-    /// Of a slot without memory, and of a gate.
-    Nothing,
-    /// Of an exact part.
-    ByRow(ExactMemory),
-    /// Of a ternary part.
-    InVectors(Sliced),
-}
-
-/// The memory of a slot, laid out for reading: what a hit reads by place among the listed cells.
+/// The memory of a slot. It has room for each cell that the slot's blocks have, occupied or not, so
+/// that a changed cell takes no memory: of an exact part a head of one byte, the key and the data,
+/// each in whole bytes; of a ternary part a head and the data, and 20 bytes for each 40 bits of a key
+/// (`Sliced`); and 4 bytes for a number where hits are counted.
 #[derive(Drop)]
 pub struct SlotMemory {
     pub keys: Keys,
     /// How many bytes a key has.
     pub key_size: usize,
-    /// The heads of the entries, a byte each.
-    pub heads: Runs,
-    /// The data of the entries, highest byte first.
-    pub held: Runs,
-    /// The numbers of the entries.
+    /// How many bytes of a key stand in a cell: all of an exact part, none of a ternary one.
+    pub stored: usize,
+    /// How many bytes the data of an entry has.
+    pub held_size: usize,
+    /// The cells by number: the head, the key where it stands here, and the data; each the highest byte first.
+    pub cells: Runs,
+    /// The numbers of the entries by cell, where hits are counted; else none.
     pub numbers: Vec<u32>,
     pub ghost short: { key_size ≤ 80 },
-    pub ghost heads_all: { heads.count ≡ vec_len numbers },
-    pub ghost heads_size: { heads.size ≡ 1 },
-    pub ghost held_all: { held.count ≡ vec_len numbers },
+    pub ghost size: { cells.size ≡ 1 + stored + held_size },
+    pub ghost within: { IsTrue (keys_within keys key_size stored cells.count) },
 }
 
 impl SlotMemory {
-    ghost use Rattle.std.specs.Prelude.{◌<◌, ◌^◌, ℕ, IfOk, IfSome, length};
+    ghost use Rattle.std.specs.Prelude.{◌≢◌, ◌<◌, ◌^◌, ℕ, IfOk, IfSome, length, drop, true, vec_len, slice_index};
     ghost use Rattle.rmt_bits.specs.Bits.{number_of};
     ghost use Rattle.rmt_config.specs.declared.config.Stage.{Stage};
     ghost use Rattle.rmt_config.specs.declared.config.SlotUnit.{SlotUnit};
     ghost use Rattle.rmt_config.specs.LaneForm.{bits_of_lanes};
-    ghost use Rattle.rmt_config.specs.Shapes.{divided_up};
-    ghost use Rattle.rmt_config.specs.Cells.{look_up};
+    ghost use Rattle.rmt_config.specs.Cells.{Content, cells_in, content_of, code_of, number_of_cell};
+    ghost use Rattle.rmt_config.specs.RunCells.{RunCells, found_in_slot};
     ghost use Rattle.rmt_chip.specs.Looked.{Finds};
-    ghost use Rattle.rmt_chip.specs.Memories.{SlotFormed, Lays, Places, key_size as key_size_of, held_size as held_size_of};
+    ghost use Rattle.rmt_chip.specs.Memories.{SlotFormed, FitsSlot, HoldsSlot, Places, key_size as key_size_of, held_size as held_size_of};
+    ghost use Rattle.rmt_chip.specs.Searching.{run_of};
+    ghost use Rattle.rmt_chip.specs.Memory.{HoldsCells};
+    ghost use Rattle.rmt_chip.specs.Writable.{WriteTaken, content_after, number_after};
 
-    /// A memory in which nothing is found, for a gate and for a slot without memory.
-    pub fn empty(alloc: Global) -> SlotMemory
-        ensures key { key_size_of result ≡ 0 }
-        ensures held { held_size_of result ≡ 0 }
-    {
+    /// A memory without cells, for a gate and for a slot without memory.
+    pub fn empty(alloc: Global) -> SlotMemory {
         without(alloc)
     }
 
-    /// The memory of a slot of a stage that keeps the rules of form.
-    pub fn lay(
-        alloc: Global,
-        seed: u8,
-        stage: &Stage,
-        slot: &SlotUnit,
-    ) -> Result<SlotMemory, AllocError>
+    /// The memory of a slot of a stage that keeps the rules of form, with what the slot's cells hold.
+    pub fn lay(alloc: Global, stage: &Stage, slot: &SlotUnit) -> Result<SlotMemory, AllocError>
         requires { SlotFormed stage.now slot.now }
-        ensures lays { IfOk result (λ memory. Lays seed stage.now slot.now memory) }
-        ensures key { IfOk result (λ memory. key_size_of memory ≡ divided_up (bits_of_lanes slot.now.keys) 8) }
-        ensures held { IfOk result (λ memory. held_size_of memory ≡ divided_up slot.now.held 8) }
+        ensures fits { IfOk result (λ memory. FitsSlot slot.now memory) }
+        ensures holds { IfOk result (λ memory. HoldsSlot (content_of stage.now slot.now) (number_of_cell slot.now.numbers) slot.now memory) }
     {
         match &slot.memory {
             Memory::Without => Ok(without(alloc)),
@@ -94,7 +88,6 @@ impl SlotMemory {
             } => {
                 lay_exact(
                     alloc,
-                    seed,
                     stage,
                     slot,
                     *width,
@@ -123,39 +116,105 @@ impl SlotMemory {
         }
     }
 
-    /// The place of the entry that a key finds, among the listed cells.
-    fn place(&self, key: &[u8]) -> Option<usize>
-        requires { length key.now ≡ key_size_of self.now }
-        ensures { Places self.now key.now result }
+    /// The number of the cell that a key finds under a sight.
+    fn place(&self, key: &[u8], seed: u8, sight: u8) -> Option<usize>
+        requires key { length key.now ≡ key_size_of self.now }
+        requires sight { sight < 3 }
+        ensures place { Places self.now seed sight key.now result }
+        ensures within { IfSome result (λ i. i < self.now.cells.count) }
     {
         match &self.keys {
             Keys::Nothing => None,
-            Keys::ByRow(memory) => place_of(memory, key),
-            Keys::InVectors(sliced) => first_row(sliced, key),
+            Keys::InCells(ways) => place_of(*ways, &self.cells, seed, sight, key),
+            Keys::InVectors(sliced) => first_row(sliced, sight, key),
         }
     }
 
-    /// What a key finds; the key has its bits in `key_size` bytes, the highest first, with zero bits on top.
-    /// Where nothing is found only `hit` is written.
-    pub fn find(&self, key: &[u8], into: &mut Looked)
+    /// Reads what a look-up takes of a cell that has an entry.
+    fn read(&self, at: usize, into: &mut Looked)
+        requires at { at < self.now.cells.count }
+        requires room { length into.old.held.items ≡ held_size_of self.now }
+        ensures hit { into.new.hit ≡ true }
+        ensures code { into.new.code ≡ code_of (slice_index (run_of self.now.cells at) 0) }
+        ensures number { at < vec_len self.now.numbers → into.new.number ≡ slice_index self.now.numbers.items at }
+        ensures held { into.new.held.items ≡ drop (1 + self.now.stored) (run_of self.now.cells at) }
+    {
+        let cell = run_at(&self.cells, at);
+        into.hit = true;
+        into.code = cell[0] / 8 % 32;
+        into.held.copy_from_slice(&cell[1 + self.stored..]);
+        if at < self.numbers.len() {
+            into.number = self.numbers[at];
+        }
+    }
+
+    /// What a key finds under a sight; the key has its bits in `key_size` bytes, the highest first, with zero
+    /// bits on top. Where nothing is found only `hit` is written, and `number` only where hits are counted.
+    pub fn find(&self, key: &[u8], sight: Sight, into: &mut Looked)
         requires key { length key.now ≡ key_size_of self.now }
         requires room { length into.old.held.items ≡ held_size_of self.now }
         ensures room { length into.new.held.items ≡ length into.old.held.items }
-        ensures found { (seed : ℕ) (stage : Stage) (slot : SlotUnit) → Lays seed stage slot self.now → number_of key.now < 2 ^ bits_of_lanes slot.keys
-            → Finds (look_up seed stage slot (number_of key.now)) into.new }
+        ensures found { (cells : RunCells) (k place : ℕ) (slot : SlotUnit) → HoldsCells cells k place slot self.now → cells.seed ≡ sight.seed
+            → number_of key.now < 2 ^ bits_of_lanes slot.keys
+            → Finds slot.counted (found_in_slot sight.named sight.version cells k place (number_of key.now) slot) into.new }
     {
-        into.hit = false;
-        match self.place(key) {
-            Some(at) => {
-                if at < self.numbers.len() {
-                    let head = run_at(&self.heads, at)[0];
-                    into.hit = true;
-                    into.code = head / 8 % 32;
-                    into.number = self.numbers[at];
-                    into.held.copy_from_slice(run_at(&self.held, at));
-                }
-            }
-            None => {}
+        match self.place(key, sight.seed, number_of_sight(sight)) {
+            Some(at) => self.read(at, into),
+            None => into.hit = false,
+        }
+    }
+
+    /// Empties a cell.
+    fn empty_cell(&mut self, slot: &SlotUnit, write: &CellWrite)
+        requires fits { FitsSlot slot.now self.old }
+        requires cell { write.now.cell < cells_in slot.now.memory }
+        requires none { write.now.visible ≡ 0 }
+        ensures fits { FitsSlot slot.now self.new }
+        ensures holds { (content : ℕ → Content) (number : ℕ → ℕ) → HoldsSlot content number slot.now self.old →
+            HoldsSlot (content_after write.now slot.now content) (number_after write.now number) slot.now self.new }
+    {
+        let at = write.cell as usize;
+        hide_key(&mut self.keys, at);
+        clear_head(&mut self.cells, at);
+    }
+
+    /// Puts an entry into a cell: these bytes of its key, of the mask and of its data.
+    fn put(&mut self, slot: &SlotUnit, write: &CellWrite, key: &[u8], mask: &[u8], held: &[u8])
+        requires fits { FitsSlot slot.now self.old }
+        requires taken { WriteTaken slot.now write.now }
+        requires some { write.now.visible ≢ 0 }
+        requires key { key.now ≡ write.now.key }
+        requires mask { mask.now ≡ write.now.mask }
+        requires held { held.now ≡ write.now.held }
+        ensures fits { FitsSlot slot.now self.new }
+        ensures holds { (content : ℕ → Content) (number : ℕ → ℕ) → HoldsSlot content number slot.now self.old →
+            HoldsSlot (content_after write.now slot.now content) (number_after write.now number) slot.now self.new }
+    {
+        let at = write.cell as usize;
+        let head = 1 + 2 * write.visible + 8 * write.code;
+        put_key(&mut self.keys, at, head, key, mask);
+        set_run(&mut self.cells, at, head, &key[..self.stored], held);
+        set_number(self.numbers.as_mut_slice(), slot.counted, at, write.number);
+    }
+
+    /// Puts a changed cell of the slot whose memory this is. It takes no memory.
+    pub fn write(&mut self, slot: &SlotUnit, write: &CellWrite)
+        requires fits { FitsSlot slot.now self.old }
+        requires taken { WriteTaken slot.now write.now }
+        ensures fits { FitsSlot slot.now self.new }
+        ensures holds { (content : ℕ → Content) (number : ℕ → ℕ) → HoldsSlot content number slot.now self.old →
+            HoldsSlot (content_after write.now slot.now content) (number_after write.now number) slot.now self.new }
+    {
+        if write.visible == 0 {
+            self.empty_cell(slot, write);
+        } else {
+            self.put(
+                slot,
+                write,
+                write.key.as_slice(),
+                write.mask.as_slice(),
+                write.held.as_slice(),
+            );
         }
     }
 }

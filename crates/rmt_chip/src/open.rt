@@ -61,6 +61,7 @@ fn empty_place(alloc: Global, stages: &[Stage]) -> Result<PacketSlot, AllocError
     Ok(PacketSlot {
         taken: false,
         number: 0,
+        version: 0,
         size: 0,
         parsed: Parsed::Reject,
         vector: Vector::new(),

@@ -52,7 +52,8 @@ fn runs_now(node: u8, guard: Option<UnitGuard>, outcomes: &[u8]) -> bool
 
 /// Counts a hit by a packet of so many bytes, where hits are counted.
 fn count(counted: bool, counters: &mut Counts, number: u32, bytes: u64)
-    ensures { CountsAlso counters.old.counts counters.new.counts (if counted then record { number = number; bytes = bytes } ∷ [] else []) }
+    ensures spare { counters.new.room ≡ counters.old.room }
+    ensures counts { CountsAlso counters.old.counts counters.new.counts (if counted then record { number = number; bytes = bytes } ∷ [] else []) }
 {
     if counted {
         counters.hit(number, bytes);
@@ -94,9 +95,10 @@ fn act(
     requires all_nodes { length outcomes.old ≡ 256 }
     requires room { vec_len running.old < vec_capacity running.old }
     ensures more { vec_len running.new ≤ vec_len running.old + 1 }
+    ensures spare { counters.new.room ≡ counters.old.room }
     ensures room { vec_capacity running.old ≤ vec_capacity running.new }
     ensures done { (stage : Stage) (found : Option Found) (d : Looked) (first : List Count) (acts : Acts) →
-        Finds found (slice_index_or looked.now at.unit d) → at.base ≡ acts.base →
+        Finds slot.now.counted found (slice_index_or looked.now at.unit d) → at.base ≡ acts.base →
         HaveDone stage looked.now bytes first acts outcomes.old running.old.items counters.old.counts →
         HaveDone stage looked.now bytes first (slot_acts stage slot.now found acts) outcomes.new running.new.items counters.new.counts }
 {
@@ -137,9 +139,10 @@ fn decide_slot(
     requires all_nodes { length outcomes.old ≡ 256 }
     requires room { vec_len running.old < vec_capacity running.old }
     ensures more { vec_len running.new ≤ vec_len running.old + 1 }
+    ensures spare { counters.new.room ≡ counters.old.room }
     ensures room { vec_capacity running.old ≤ vec_capacity running.new }
     ensures done { (stage : Stage) (found : Option Found) (d : Looked) (first : List Count) (acts : Acts) →
-        Finds found (slice_index_or looked.now at.unit d) → at.base ≡ acts.base →
+        Finds slot.now.counted found (slice_index_or looked.now at.unit d) → at.base ≡ acts.base →
         HaveDone stage looked.now bytes first acts outcomes.old running.old.items counters.old.counts →
         HaveDone stage looked.now bytes first (if runs slot.now.node slot.now.guard acts.outcomes then slot_acts stage slot.now found acts else acts)
         outcomes.new running.new.items counters.new.counts }
@@ -164,6 +167,7 @@ fn decide_unit(
     requires all_nodes { length outcomes.old ≡ 256 }
     requires room { vec_len running.old < vec_capacity running.old }
     ensures more { vec_len running.new ≤ vec_len running.old + 1 }
+    ensures spare { counters.new.room ≡ counters.old.room }
     ensures room { vec_capacity running.old ≤ vec_capacity running.new }
     ensures next { result ≡ base_after at.base what.now }
     ensures near { result ≤ at.base + 256 }
@@ -199,6 +203,7 @@ fn decide_all(
     requires all_nodes { length outcomes.old ≡ 256 }
     requires room { length stage.now.units ≤ vec_capacity running.old }
     ensures few { vec_len running.new ≤ length stage.now.units }
+    ensures spare { counters.new.room ≡ counters.old.room }
     ensures room { vec_capacity running.old ≤ vec_capacity running.new }
     ensures done { (look : Look) (k : ℕ) (words : Words) → AllLooked look k words stage.now looked.now →
         HaveDone stage.now looked.now bytes counters.old.counts (acts_of look k stage.now words outcomes.old) outcomes.new running.new.items counters.new.counts }
@@ -221,6 +226,7 @@ pub fn set_outcomes(place: &mut PacketSlot, k: usize, stages: &[Stage], counters
     requires fit { All StageFits stages.now }
     requires room { HaveRoomFor stages.now place.old.pending.items }
     ensures room { HaveRoomFor stages.now place.new.pending.items }
+    ensures spare { counters.new.room ≡ counters.old.room }
     ensures decided { (stage : Stage) → slice_get stages.now k ≡ Some stage → DecidedBy k stage place.old place.new }
     ensures counted { (stage : Stage) → slice_get stages.now k ≡ Some stage →
         CountedBy k stage place.old counters.old.counts counters.new.counts }

@@ -15,6 +15,8 @@ pub struct PacketSlot {
     pub taken: bool,
     /// How many packets entered before it.
     pub number: u64,
+    /// The version that was current as it entered.
+    pub version: u64,
     /// The bytes of its frame.
     pub size: u64,
     /// How the parser ended.

@@ -2,16 +2,17 @@
 //! touches, for each stage, the one packet at the age at which the stage acts.
 
 ghost use Rattle.std.specs.Prelude.{◌≡◌, ◌+◌, ◌<◌, ◌≤◌, ℕ, Option, length};
-ghost use Rattle.rmt_config.specs.Life.{Look};
-ghost use Rattle.rmt_config.specs.ChipRun.{own_look};
+ghost use Rattle.rmt_config.specs.RunCells.{RunCells};
 ghost use Rattle.rmt_chip.specs.Held.{Entered};
 ghost use Rattle.rmt_chip.specs.Hits.{hits_upto};
 ghost use Rattle.rmt_chip.specs.Ran.{CountsAlso};
-ghost use Rattle.rmt_chip.specs.Ring.{ring_at, now, past, next, IsRing, AllHold};
+ghost use Rattle.rmt_chip.specs.Ring.{ring_at, now, past, next, IsRing, AllHold, LooksNow, oldest_below};
 ghost use Rattle.rmt_chip.specs.Runnable.{StagesFit, start_of};
-ghost use Rattle.rmt_chip.specs.StageMemories.{MemoriesOf, LaidOut};
+ghost use Rattle.rmt_config.specs.declared.config.Config.{Config as ConfigOf};
+ghost use Rattle.rmt_chip.specs.StageMemories.{MemoriesOf, MemoriesHold};
 
 use crate::memory::SlotMemory;
+use crate::memory::sight::Sight;
 use crate::packet_slot::PacketSlot;
 use crate::{keys, operands, outcomes, words};
 use rmt_bits::counts::Counts;
@@ -44,14 +45,33 @@ fn place_behind(newest: usize, config: &Config, k: usize, after: u16) -> usize
     place_of(newest, usize::from(stage.start) + usize::from(after))
 }
 
+/// The version of the oldest packet of an age below this one, if there is one.
+pub fn oldest(places: &[PacketSlot], newest: usize, age: usize) -> Option<u64>
+    requires full { length places.now ≡ 385 }
+    requires newest { newest < 385 }
+    requires age { age ≤ 385 }
+    ensures { (c : ConfigOf) (item : ℕ → Option Entered) → AllHold c item now now now next newest places.now →
+        result ≡ oldest_below item age }
+{
+    let mut below = age;
+    while below > 0 {
+        below -= 1;
+        let place = &places[place_of(newest, below)];
+        if place.taken {
+            return Some(place.version);
+        }
+    }
+    None
+}
+
 /// Each stage writes the words of the packet that is 12 cycles behind its start.
 pub fn write_words(places: &mut [PacketSlot], newest: usize, config: &Config)
     requires fits { StagesFit config.now.stages }
     requires ring { IsRing config.now.stages newest places.old }
     ensures ring { IsRing config.now.stages newest places.new }
-    ensures holds { (look : Look) (item : ℕ → Option Entered) →
-        AllHold look config.now item past past past now newest places.old →
-        AllHold look config.now item now past past now newest places.new }
+    ensures holds { (item : ℕ → Option Entered) →
+        AllHold config.now item past past past now newest places.old →
+        AllHold config.now item now past past now newest places.new }
 {
     for k in 0..config.stages.len() {
         let at = place_behind(newest, config, k, 12);
@@ -64,9 +84,9 @@ pub fn read_operands(places: &mut [PacketSlot], newest: usize, config: &Config)
     requires fits { StagesFit config.now.stages }
     requires ring { IsRing config.now.stages newest places.old }
     ensures ring { IsRing config.now.stages newest places.new }
-    ensures holds { (look : Look) (item : ℕ → Option Entered) →
-        AllHold look config.now item now past past now newest places.old →
-        AllHold look config.now item now now past now newest places.new }
+    ensures holds { (item : ℕ → Option Entered) →
+        AllHold config.now item now past past now newest places.old →
+        AllHold config.now item now now past now newest places.new }
 {
     let stages = config.stages.as_slice();
     for k in 0..config.stages.len() {
@@ -85,10 +105,11 @@ pub fn set_outcomes(
     requires fits { StagesFit config.now.stages }
     requires ring { IsRing config.now.stages newest places.old }
     ensures ring { IsRing config.now.stages newest places.new }
-    ensures holds { (look : Look) (item : ℕ → Option Entered) →
-        AllHold look config.now item now now past now newest places.old →
-        AllHold look config.now item now now now now newest places.new
-        × CountsAlso counters.old.counts counters.new.counts (hits_upto look config.now item (length config.now.stages)) }
+    ensures spare { counters.new.room ≡ counters.old.room }
+    ensures holds { (item : ℕ → Option Entered) →
+        AllHold config.now item now now past now newest places.old →
+        AllHold config.now item now now now now newest places.new
+        × CountsAlso counters.old.counts counters.new.counts (hits_upto config.now item (length config.now.stages)) }
 {
     let stages = config.stages.as_slice();
     for k in 0..config.stages.len() {
@@ -103,18 +124,26 @@ pub fn read_keys(
     newest: usize,
     config: &Config,
     memories: &[Vec<SlotMemory>],
+    seed: u8,
 )
     requires fits { StagesFit config.now.stages }
     requires memories { MemoriesOf config.now.stages memories.now }
     requires ring { IsRing config.now.stages newest places.old }
     ensures ring { IsRing config.now.stages newest places.new }
-    ensures holds { (item : ℕ → Option Entered) → LaidOut config.now.seed config.now.stages memories.now →
-        AllHold (own_look config.now) config.now item now now now now newest places.old →
-        AllHold (own_look config.now) config.now item now now now next newest places.new }
+    ensures holds { (cells : RunCells) (item : ℕ → Option Entered) →
+        MemoriesHold config.now cells memories.now → cells.seed ≡ seed → LooksNow config.now cells item →
+        AllHold config.now item now now now now newest places.old →
+        AllHold config.now item now now now next newest places.new }
 {
     let stages = config.stages.as_slice();
     for k in 0..config.stages.len() {
         let at = place_behind(newest, config, k, 0);
-        keys::read_keys(&mut places[at], k, stages, &memories[k]);
+        let place = &mut places[at];
+        let sight = Sight {
+            seed,
+            named: config.names.is_some(),
+            version: place.version,
+        };
+        keys::read_keys(place, k, stages, &memories[k], sight);
     }
 }

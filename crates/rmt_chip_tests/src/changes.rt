@@ -66,7 +66,7 @@ fn push_tests(out: &mut String, tests: &[Test]) -> Result<(), AllocError> {
 }
 
 /// Writes an entry.
-fn push_entry(out: &mut String, entry: &Entry) -> Result<(), AllocError> {
+pub(crate) fn push_entry(out: &mut String, entry: &Entry) -> Result<(), AllocError> {
     write!(
         out,
         " {} #{} rank {}",

@@ -3,6 +3,7 @@
 
 pub mod fixture;
 mod lookups;
+mod writes;
 
 use crate::chip::fixture::{Look, NO_ROWS, NOTHING, Row, SENT, TWO_BYTES, open, replay, step};
 use rmt_bits::answer::Verdict;

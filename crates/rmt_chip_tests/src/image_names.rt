@@ -15,7 +15,7 @@ type Case = (&'static [Splice], u8);
 
 /// A table exact on 8 bits with the entry `7 go 5`, and its names: `b` of node 1, size 16, with the action `go`, which has
 /// a parameter of 9 bits. The names begin at byte 220.
-const NAMED: [u8; 244] = [
+pub const NAMED: [u8; 244] = [
     0x52, 0x4d, 0x54, 0x49, 0, 2, 0, 0x40, 0, 9, 0x41, 0, 9, 0, 0, 1, 1, 0, 1, 1, 1, 1, 1, 0, 8, 0,
     1, 0, 0, 1, 0, 0, 0, 0, 0, 0, 0, 0, 0, 1, 1, 0, 2, 1, 0, 1, 1, 0, 0, 0, 1, 0, 8, 2, 0, 0, 1, 1,
     0, 0, 0, 0, 1, 0, 0, 0, 0, 0, 0, 0, 0, 0, 1, 2, 0, 8, 0, 0, 1, 0, 2, 0, 0, 0, 0, 0, 0, 0, 0, 0,
@@ -28,7 +28,7 @@ const NAMED: [u8; 244] = [
 ];
 
 /// A ternary table of 17 bits in two parts with three entries, and its names, from byte 409 on, with their ranks.
-const RANKED: [u8; 461] = [
+pub const RANKED: [u8; 461] = [
     0x52, 0x4d, 0x54, 0x49, 0, 2, 1, 0x40, 0, 9, 0x41, 0, 9, 0, 0, 1, 2, 0, 1, 1, 1, 1, 1, 0, 8, 0,
     2, 1, 2, 1, 0x42, 0, 0x10, 0, 2, 1, 0, 0, 0, 3, 0, 1, 0, 0, 0, 0xff, 0, 0, 0, 1, 1, 2, 1, 2, 1,
     0, 1, 1, 0, 0, 0, 1, 0, 8, 0, 0, 0, 0, 0, 0, 0, 0, 0, 1, 1, 0, 2, 1, 0, 1, 1, 0, 0, 0, 1, 0, 8,

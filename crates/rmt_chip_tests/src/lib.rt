@@ -1,6 +1,9 @@
-//! The tests of images, the chip, plain runs, changes and queues: worked rows and calls with ample memory, on public calls alone.
+//! The tests of images, the chip, plain runs, changes, queues and switches: worked rows and calls with ample memory, on
+//! public calls alone.
 #![tactic(auto)]
 
+#[cfg(test)]
+mod books;
 #[cfg(test)]
 mod cells;
 #[cfg(test)]
@@ -23,3 +26,5 @@ mod plain;
 mod queues;
 #[cfg(test)]
 mod reports;
+#[cfg(test)]
+mod switches;

@@ -12,7 +12,7 @@ use Rattle.rmt_core.specs.Telling.{Tells}
 use Rattle.rmt_core.proofs.EndLaws.{no_memory, not_opened, not_read, opens_on, reads_on}
 
 -- what is no fault of writing proves anything of one
-unread_unwritten : {P : Type 0} (s : Status) → (s ≡ ReadFault) ⊎ (s ≡ TooLong) ⊎ (s ≡ NoMemory) → s ≡ WriteFault → P
+pub unread_unwritten : {P : Type 0} (s : Status) → (s ≡ ReadFault) ⊎ (s ≡ TooLong) ⊎ (s ≡ NoMemory) → s ≡ WriteFault → P
 unread_unwritten s (inl h) e = absurd (cc)
 unread_unwritten s (inr (inl h)) e = absurd (cc)
 unread_unwritten s (inr (inr h)) e = absurd (cc)
@@ -139,7 +139,7 @@ writes_then before after mid name next limit bytes status r is h = record {
   answered = reads_on before after mid name next limit bytes status r is h.answered;
   quiet = h.quiet;
   read_fault = λ e. reading_failed_later after.shelf r (h.read_fault e);
-  write_fault = λ e. ⊎_elim (λ failed. inl (writing_failed_later after.shelf r failed)) (λ failed. inr failed) (h.write_fault e);
+  write_fault = λ e. ⊎_elim (λ failed. inl (writing_failed_later after.shelf r failed.0, failed.1)) (λ failed. inr failed) (h.write_fault e);
   steady_write = λ e steady. h.steady_write e (r.stays_steady steady);
   tells = h.tells ∙ r.tells;
   only_printed = h.only_printed;

@@ -4,22 +4,23 @@ use Rattle.rmt_core.specs.Types.{Program, Config}
 use Rattle.rmt_ast.specs.declared.entry.Entry.{Entry}
 use Rattle.rmt_bounds.specs.declared.bound.Bound.{Bound}
 use Rattle.rmt_build.specs.declared.fault.NoFit.{NoFit}
+use Rattle.rmt_switch.specs.Switch.{switched}
 use Rattle.rmt_core.specs.declared.placer.Placer.{Placer}
 use Rattle.rmt_core.specs.declared.placer.Placer.TheVariants.{ByRule, ByTries}
 use Rattle.rmt_core.specs.declared.status.Status.TheVariants.{Done}
 use Rattle.rmt_core.specs.declared.watch.Watch.{Watch}
 use Rattle.rmt_core.specs.declared.watch.Watch.TheVariants.{Answers, Vectors}
-use Rattle.rmt_core.specs.Commands.{Compile, Improve, Sim, Probe, Plain, Report, Sample}
+use Rattle.rmt_core.specs.Commands.{Compile, Improve, Sim, Probe, Plain, Report, Sample, Switch}
 use Rattle.rmt_core.specs.Compiling.{Builds, Compiles, Finish, Fitted, GivesImage, Loaded, written}
-use Rattle.rmt_core.specs.Files.{Files, entries_limit, image_limit, packets_limit, program_limit}
+use Rattle.rmt_core.specs.Files.{Files, capture_limit, entries_limit, groups_limit, image_limit, packets_limit, program_limit}
 use Rattle.rmt_core.specs.Given.{Given, Opens, Reads, told}
-use Rattle.rmt_core.specs.Gives.{Gives}
-use Rattle.rmt_core.specs.Headline.{CanBeMade, Fits, IsComplete, IsGoodText, IsImage, IsReady}
+use Rattle.rmt_core.specs.Headline.{AreGoodGroups, CanBeMade, Fits, IsComplete, IsGoodCapture, IsGoodText, IsImage, IsReady}
 use Rattle.rmt_core.specs.PlainText.{GivesPlain, plain_text}
 use Rattle.rmt_core.specs.Reporting.{report_line}
 use Rattle.rmt_core.specs.Runs.{Runs}
 use Rattle.rmt_core.specs.Sampling.{GivesSample, sample_line}
 use Rattle.rmt_core.specs.Simulating.{GivesRun, Spelled}
+use Rattle.rmt_core.specs.Switching.{GivesSwitch, HasCapture, HasGroups, OfCapture, OfGroups, Switches, switch_given}
 use Rattle.rmt_core.specs.Texts.{Understands}
 use Rattle.rmt_core.specs.Watching.{text_of}
 use Rattle.rmt_core.proofs.GivenOnce.{NeverBoth, OneMeaning, never_both}
@@ -72,6 +73,18 @@ plain_ready one files program entries packets g ready h =
     let run = understood one files both.text both.entry_text (λ p lists. Runs files (plain_text p lists) packets_limit t.text) g ready.0 ready.1 both.means both.says opened in
     ap (λ (k : Given). k.status) (run_done files (plain_text ready.0 ready.1) packets_limit t.text g t.has_text.is_short t.is_good run)
 
+switch_ready : (files : Files) (image groups capture out : List ℕ) (every : ℕ) (g : Given) → IsImage files image → AreGoodGroups files groups → IsGoodCapture files capture
+    → GivesSwitch files image groups capture out every g → g.status ≡ Done
+switch_ready files image groups capture out every g i t k h =
+    let read = read_within files image image_limit (λ bytes. Reads files groups groups_limit (λ text. Reads files capture capture_limit (λ file. Switches files out every bytes text file))) g (i.bytes, i.has_bytes) h in
+    let grouped = read_within files groups groups_limit (λ text. Reads files capture capture_limit (λ file. Switches files out every i.bytes text file)) g (t.text, t.has_text) read in
+    let captured = read_within files capture capture_limit (λ file. Switches files out every i.bytes t.text file) g (k.file, k.has_file) grouped in
+    let next = λ (ports : List (List ℕ)). HasCapture files k.file (λ said x. x ≡ switch_given files out (switched i.config ports every k.file said)) in
+    let spelled : HasGroups files t.text next g = spelled_is files i.bytes (λ c. HasGroups files t.text (λ ports. HasCapture files k.file (λ said x. x ≡ switch_given files out (switched c ports every k.file said)))) g i.config i.spells captured in
+    let meant : next t.ports g = subst (λ r. OfGroups files next g r) t.says spelled in
+    let given : g ≡ switch_given files out (switched i.config t.ports every k.file k.said) = subst (λ r. OfCapture files (λ said x. x ≡ switch_given files out (switched i.config t.ports every k.file said)) g r) k.says meant in
+    ap (λ (x : Given). x.status) given
+
 pub is_complete : OneMeaning → NeverBoth → IsComplete
 is_complete one apart files (Compile program entries image) g ready h = image_ready one apart ByRule files program entries image g ready h
 is_complete one apart files (Improve program entries image budget) g ready h = image_ready one apart (ByTries budget) files program entries image g ready h
@@ -82,3 +95,4 @@ is_complete one apart files (Report image) g ready h =
     let read = read_within files image image_limit (λ bytes. Spelled files bytes (λ c k. k ≡ told files Done (report_line c))) g (ready.bytes, ready.has_bytes) h in
     ap (λ (k : Given). k.status) (spelled_is files ready.bytes (λ c k. k ≡ told files Done (report_line c)) g ready.config ready.spells read)
 is_complete one apart files (Sample number) g ready h = sample_ready one apart files number g ready h
+is_complete one apart files (Switch image groups capture out every) g ready h = switch_ready files image groups capture out every g ready.0 ready.1 ready.2 h

@@ -8,7 +8,7 @@ use Rattle.rmt_core.specs.declared.status.Status.{Status}
 use Rattle.rmt_core.specs.declared.status.Status.TheVariants.{Done, Usage, ReadFault, WriteFault, BadProgram, BadEntries, NoFit, BadImage, BadPackets, TooLong, NoMemory}
 use Rattle.rmt_core.specs.Files.{Files, Long, found}
 use Rattle.rmt_core.specs.Given.{Given, OfFound, OfOpened, Opens, Reads, told}
-use Rattle.rmt_core.specs.Ends.{Answered, AreSame, EndsWith, Outside, PrintsAll, Stops, outside}
+use Rattle.rmt_core.specs.Ends.{Answered, AreSame, BrokenOff, CutShort, EndsWith, FileFailed, Outside, PrintsAll, StoppedBetween, Stops, outside}
 use Rattle.rmt_core.specs.Loading.{IsFound, NotRead, NotOpened}
 use Rattle.rmt_core.specs.Printing.{GainedFront, GainsFront}
 
@@ -42,6 +42,11 @@ gains_behind old mid new first text is p = record {
 abbrev pub IsEnding : Status → Type 0
 IsEnding status = PrintsAll status ⊎ (status ≡ TooLong)
 
+-- memory was wanting between two files of another command too that may give the same
+between_as : (before after : Outside) (gives other : Given → Type 0) (status : Status) → ((g : Given) → gives g → other g)
+    → StoppedBetween before after gives status → StoppedBetween before after other status
+between_as before after gives other status to b = record { memory = b.memory; given = b.given; is_given = to b.given b.is_given; files = b.files }
+
 -- two ways to say what a command gives
 pub answered_as : (before after : Outside) (gives other : Given → Type 0) (status : Status) → ((g : Given) → gives g → other g) → ((g : Given) → other g → gives g)
     → Answered before after gives status → Answered before after other status
@@ -51,7 +56,11 @@ answered_as before after gives other result to back = by result
     ends status e = (e.0, to e.0 e.1, e.2)
 
     stop : (status : Status) → Stops before after gives status → Stops before after other status
-    stop status s = record { files = s.files; front = λ g h. s.front g (back g h); steady = λ steady e g h. s.steady steady e g (back g h) }
+    stop status s = record {
+      files = ⊎_elim (λ same. inl same) (λ between. inr (between_as before after gives other status to between)) s.files;
+      front = λ g h. s.front g (back g h);
+      steady = λ steady e g h. s.steady steady e g (back g h);
+    }
 
     by : (status : Status) → Answered before after gives status → Answered before after other status
     by Done h = ends Done h
@@ -66,7 +75,7 @@ answered_as before after gives other result to back = by result
     by TooLong h = ends TooLong h
     by NoMemory h = stop NoMemory h
 
-ends_by : (before after : Outside) (gives : Given → Type 0) (status : Status) → IsEnding status ⊎ (status ≡ WriteFault) → EndsWith before after gives status → Answered before after gives status
+pub ends_by : (before after : Outside) (gives : Given → Type 0) (status : Status) → IsEnding status ⊎ (status ≡ WriteFault) → EndsWith before after gives status → Answered before after gives status
 ends_by before after gives Done is e = e
 ends_by before after gives WriteFault is e = e
 ends_by before after gives BadProgram is e = e
@@ -78,6 +87,31 @@ ends_by before after gives TooLong is e = e
 ends_by before after gives Usage is e = absurd (grind arith)
 ends_by before after gives ReadFault is e = absurd (grind arith)
 ends_by before after gives NoMemory is e = absurd (grind arith)
+
+-- what is said of a command is said of one that may give more, of a call that did not fail to read, and printed nothing where memory was wanting
+pub answered_where : (before after : Outside) (gives other : Given → Type 0) (status : Status) → (status ≢ ReadFault) → (status ≡ NoMemory → GainedNone before.sink after.sink)
+    → ((g : Given) → gives g → other g) → Answered before after gives status → Answered before after other status
+answered_where before after gives other result read quiet to = by result read quiet
+  where
+    ends : (status : Status) → EndsWith before after gives status → EndsWith before after other status
+    ends status e = (e.0, to e.0 e.1, e.2)
+
+    by : (status : Status) → status ≢ ReadFault → (status ≡ NoMemory → GainedNone before.sink after.sink) → Answered before after gives status → Answered before after other status
+    by Done r q h = ends Done h
+    by Usage r q h = h
+    by ReadFault r q h = absurd (r refl)
+    by WriteFault r q h = ends WriteFault h
+    by BadProgram r q h = ends BadProgram h
+    by BadEntries r q h = ends BadEntries h
+    by NoFit r q h = ends NoFit h
+    by BadImage r q h = ends BadImage h
+    by BadPackets r q h = ends BadPackets h
+    by TooLong r q h = ends TooLong h
+    by NoMemory r q h = record {
+      files = ⊎_elim (λ same. inl same) (λ between. inr (between_as before after gives other NoMemory to between)) h.files;
+      front = λ g _. gained_none before.sink after.sink g.text (q refl);
+      steady = λ _ e. absurd (cc);
+    }
 
 module _ (before after : Outside) (gives : Given → Type 0) where
   -- a call that printed, with this status, a front of a text, or all of it where the status wants it, and wrote no file
@@ -95,7 +129,7 @@ module _ (before after : Outside) (gives : Given → Type 0) where
           whole = λ e all. whole e (subst PrintsAll e all);
           files = λ _. same;
           others = λ name _. same name;
-          fault = λ e. inr (failed e, same);
+          fault = λ e. inr (record { counted = failed e; files = same });
           some = some;
         },
       )
@@ -116,7 +150,7 @@ module _ (before after : Outside) (gives : Given → Type 0) where
   pub stopped : (status : Status) → (status ≡ ReadFault) ⊎ (status ≡ NoMemory) → AreSame after.shelf.files before.shelf.files → GainedNone before.sink after.sink
       → (IsTrue before.shelf.steady → status ≡ ReadFault → (g : Given) → gives g → g.status ≡ ReadFault) → Answered before after gives status
   stopped status is same quiet steady =
-      stops status is (record { files = same; front = λ g _. gained_none before.sink after.sink g.text quiet; steady = steady })
+      stops status is (record { files = inl same; front = λ g _. gained_none before.sink after.sink g.text quiet; steady = steady })
 
   -- a call for want of memory, before it printed anything
   pub no_memory : AreSame after.shelf.files before.shelf.files → GainedNone before.sink after.sink → Answered before after gives NoMemory
@@ -133,8 +167,26 @@ module _ (before after : Outside) (gives : Given → Type 0) where
 pub later : (before after : Outside) (mid : ShelfState) (gives : Files → Given → Type 0) (status : Status) → OnlyRead before.shelf mid
     → Answered (outside mid before.sink) after (gives mid.files) status → Answered before after (gives before.shelf.files) status
 later before after mid gives result r h =
-    subst (λ files. Answered before after (gives files) result) (funext mid.files before.shelf.files r.files) (by (gives mid.files) result h)
+    subst (λ files. Answered before after (gives files) result) same (by (gives mid.files) result h)
   where
+    same : mid.files ≡ before.shelf.files
+    same = funext mid.files before.shelf.files r.files
+
+    file_failed : (g : Given) → FileFailed (outside mid before.sink) after g → FileFailed before after g
+    file_failed g f = record {
+      counted = writing_failed_later after.shelf r f.counted;
+      quiet = f.quiet;
+      files = subst (λ (files : Files). BrokenOff files after.shelf.files g.writes) same f.files;
+    }
+
+    between : (gives : Given → Type 0) (status : Status) → StoppedBetween (outside mid before.sink) after gives status → StoppedBetween before after gives status
+    between gives status b = record {
+      memory = b.memory;
+      given = b.given;
+      is_given = b.is_given;
+      files = subst (λ (files : Files). CutShort files after.shelf.files b.given.writes) same b.files;
+    }
+
     ends : (gives : Given → Type 0) (status : Status) → EndsWith (outside mid before.sink) after gives status → EndsWith before after gives status
     ends gives status e = (
       e.0,
@@ -145,13 +197,17 @@ later before after mid gives result r h =
         whole = e.2.whole;
         files = e.2.files;
         others = λ name other. e.2.others name other ∙ r.files name;
-        fault = λ w. ⊎_elim (λ failed. inl (writing_failed_later after.shelf r failed)) (λ printed. inr printed) (e.2.fault w);
+        fault = λ w. ⊎_elim (λ f. inl (file_failed e.0 f)) (λ f. inr (record { counted = f.counted; files = f.files })) (e.2.fault w);
         some = e.2.some;
       },
     )
 
     stop : (gives : Given → Type 0) (status : Status) → Stops (outside mid before.sink) after gives status → Stops before after gives status
-    stop gives status s = record { files = λ name. s.files name ∙ r.files name; front = s.front; steady = λ is. s.steady (r.stays_steady is) }
+    stop gives status s = record {
+      files = ⊎_elim (λ same. inl (λ name. same name ∙ r.files name)) (λ b. inr (between gives status b)) s.files;
+      front = s.front;
+      steady = λ is. s.steady (r.stays_steady is);
+    }
 
     by : (gives : Given → Type 0) (status : Status) → Answered (outside mid before.sink) after gives status → Answered before after gives status
     by gives Done h = ends gives Done h

@@ -11,23 +11,31 @@ use Rattle.rmt_entries.specs.Entries.{entries_of}
 use Rattle.rmt_config.specs.declared.limits.LimitHit.{LimitHit}
 use Rattle.rmt_config.specs.Form.{Formed}
 use Rattle.rmt_config.specs.Limits.{limit_hit}
+use Rattle.rmt_bits.specs.Lines.{numbered_lines}
 use Rattle.rmt_image.specs.declared.fault.ImageFault.{ImageFault}
 use Rattle.rmt_image.specs.declared.fault.ImageFault.TheVariants as image
 use Rattle.rmt_image.specs.declared.fault.ReadFault.{ReadFault}
 use Rattle.rmt_image.specs.declared.fault.ReadFault.TheVariants.{Short, Form}
 use Rattle.rmt_image.specs.Reading.{Answers, ConfigAnswers, EndAnswers, MagicAnswers, VersionAnswers, WholeAnswers, image_at, version_told}
 use Rattle.rmt_packets.specs.PacketText.{Reading}
+use Rattle.rmt_pcap.specs.declared.capture.Capture.{Capture}
+use Rattle.rmt_pcap.specs.Captures.{capture_of}
+use Rattle.rmt_switch.specs.declared.fault.GroupFault.{GroupFault}
+use Rattle.rmt_switch.specs.declared.fault.GroupFault.TheVariants as group
+use Rattle.rmt_switch.specs.GroupText.{group_of, groups_of, line_then, no_groups, numbers_of, reading, with_group}
+use Rattle.rmt_switch.specs.Switch.{switched}
 use Rattle.rmt_core.specs.declared.status.Status.TheVariants.{Done}
 use Rattle.rmt_core.specs.declared.watch.Watch.{Watch}
 use Rattle.rmt_core.specs.declared.watch.Watch.TheVariants as watch
-use Rattle.rmt_core.specs.Commands.{Compile, Improve, Sim, Probe, Plain, Report, Sample}
-use Rattle.rmt_core.specs.Files.{Files, Found, Absent, Long, Holds, entries_limit, found, image_limit, packets_limit, program_limit}
+use Rattle.rmt_core.specs.Commands.{Compile, Improve, Sim, Probe, Plain, Report, Sample, Switch}
+use Rattle.rmt_core.specs.Files.{Files, Found, Absent, Long, Holds, capture_limit, entries_limit, found, groups_limit, image_limit, packets_limit, program_limit}
 use Rattle.rmt_core.specs.Given.{Given, OfFound, OfOpened, Opens, Reads, told}
 use Rattle.rmt_core.specs.Headline.{GivesAlways}
 use Rattle.rmt_core.specs.PlainText.{plain_text}
 use Rattle.rmt_core.specs.Reporting.{report_line}
 use Rattle.rmt_core.specs.Runs.{Runs}
 use Rattle.rmt_core.specs.Simulating.{GivesRun, OfAnswer, Spelled}
+use Rattle.rmt_core.specs.Switching.{HasCapture, HasGroups, OfCapture, OfGroups, Switches, switch_given}
 use Rattle.rmt_core.specs.Texts.{OfEntries, OfMeaning, Understands}
 use Rattle.rmt_core.specs.Watching.{text_of}
 use Rattle.rmt_core.proofs.Decided.{IsDecided, form_is_decided}
@@ -101,6 +109,37 @@ run_given w files image packets =
     (λ bytes. opened_given files (λ text. Spelled files bytes (λ c. Runs files (text_of w c) packets_limit text))
     (λ text. spelled_given files bytes (λ c. Runs files (text_of w c) packets_limit text) (λ c. runs_given files (text_of w c) packets_limit text)) (files packets)) (found image_limit (files image))
 
+-- no group text is a want of memory
+line_memory : (number : ℕ) (o : Option (List (List ℕ))) (rest : List (List ℕ) → Result (List (List ℕ)) GroupFault) → ((more : List (List ℕ)) → rest more ≡ Err group.NoMemory → ⊥)
+    → line_then number o rest ≡ Err group.NoMemory → ⊥
+line_memory number None rest never e = cc
+line_memory number (Some more) rest never e = never more e
+
+no_group_memory : (groups : List (List ℕ)) (lines : List (ℕ × List ℕ)) → reading groups lines ≡ Err group.NoMemory → ⊥
+no_group_memory groups [] e = cc
+no_group_memory groups (l ∷ ls) e = line_memory l.0 (with_group groups (group_of (numbers_of l.1))) (λ more. reading more ls) (λ more. no_group_memory more ls) e
+
+groups_given : (files : Files) (text : List ℕ) (next : List (List ℕ) → Given → Type 0) → ((groups : List (List ℕ)) → IsGiven (next groups)) → IsGiven (HasGroups files text next)
+groups_given files text next given = by (groups_of text) refl
+  where
+    by : (r : Result (List (List ℕ)) GroupFault) → groups_of text ≡ r → IsGiven (λ g. OfGroups files next g r)
+    by (Ok groups) e = given groups
+    by (Err (group.At code line)) e = (_, refl)
+    by (Err group.NoMemory) e = absurd (no_group_memory no_groups (numbered_lines 1 text) e)
+
+capture_given : (files : Files) (file : List ℕ) (next : Capture → Given → Type 0) → ((said : Capture) → IsGiven (next said)) → IsGiven (HasCapture files file next)
+capture_given files file next given = by (capture_of file)
+  where
+    by : (r : Result Capture ℕ) → IsGiven (λ g. OfCapture files next g r)
+    by (Ok said) = given said
+    by (Err code) = (_, refl)
+
+switches_given : (files : Files) (out : List ℕ) (every : ℕ) (bytes text file : List ℕ) → IsGiven (Switches files out every bytes text file)
+switches_given files out every bytes text file =
+    spelled_given files bytes (λ c. HasGroups files text (λ ports. HasCapture files file (λ said g. g ≡ switch_given files out (switched c ports every file said))))
+    (λ c. groups_given files text (λ ports. HasCapture files file (λ said g. g ≡ switch_given files out (switched c ports every file said)))
+    (λ ports. capture_given files file (λ said g. g ≡ switch_given files out (switched c ports every file said)) (λ said. (switch_given files out (switched c ports every file said), refl))))
+
 -- what is known of texts: each means something, and no entry text is a want of memory
 pub record Known : Type 0 where
   pub means : (text : List ℕ) → (m : Outcome) × Means text m
@@ -140,3 +179,8 @@ gives_always k files (Report image) not =
     found_given files (λ bytes. Spelled files bytes (λ c g. g ≡ told files Done (report_line c)))
     (λ bytes. spelled_given files bytes (λ c g. g ≡ told files Done (report_line c)) (λ c. (told files Done (report_line c), refl))) (found image_limit (files image))
 gives_always k files (Sample number) not = absurd (not tt)
+gives_always k files (Switch image groups capture out every) not =
+    found_given files (λ bytes. Reads files groups groups_limit (λ text. Reads files capture capture_limit (λ file. Switches files out every bytes text file)))
+    (λ bytes. found_given files (λ text. Reads files capture capture_limit (λ file. Switches files out every bytes text file))
+    (λ text. found_given files (λ file. Switches files out every bytes text file) (λ file. switches_given files out every bytes text file)
+    (found capture_limit (files capture))) (found groups_limit (files groups))) (found image_limit (files image))

@@ -31,24 +31,31 @@ use Rattle.rmt_build.specs.declared.fault.NoFit.{NoFit}
 use Rattle.rmt_build.specs.declared.fault.NoFit.TheVariants.{Load}
 use Rattle.rmt_build.specs.Loads.{AreFullBefore, AreLoaded, AreLoadedBefore, AreNotLoaded, IsFull as IsFullTable}
 use Rattle.rmt_packets.specs.PacketText.{Reading}
+use Rattle.rmt_pcap.specs.declared.capture.Capture.{Capture}
+use Rattle.rmt_pcap.specs.Captures.{capture_of}
+use Rattle.rmt_switch.specs.declared.fault.GroupFault.{GroupFault}
+use Rattle.rmt_switch.specs.declared.fault.GroupFault.TheVariants as group
+use Rattle.rmt_switch.specs.GroupText.{groups_of}
+use Rattle.rmt_switch.specs.Switch.{switched}
 use Rattle.rmt_core.specs.declared.placer.Placer.{Placer}
 use Rattle.rmt_core.specs.declared.placer.Placer.TheVariants.{ByRule, ByTries}
 use Rattle.rmt_core.specs.declared.status.Status.TheVariants.{Done}
 use Rattle.rmt_core.specs.declared.watch.Watch.{Watch}
 use Rattle.rmt_core.specs.declared.watch.Watch.TheVariants as watch
-use Rattle.rmt_core.specs.Commands.{Compile, Improve, Sim, Probe, Plain, Report, Sample}
+use Rattle.rmt_core.specs.Commands.{Compile, Improve, Sim, Probe, Plain, Report, Sample, Switch}
 use Rattle.rmt_core.specs.CompileText.{compile_text}
 use Rattle.rmt_core.specs.Compiling.{Builds, Compiles, Finish, Fitted, GivesImage, IsFull, Loaded, Makes, written}
-use Rattle.rmt_core.specs.Files.{Files, Found, Absent, Long, Holds, entries_limit, found, image_limit, packets_limit, program_limit}
+use Rattle.rmt_core.specs.Files.{Files, Found, Absent, Long, Holds, capture_limit, entries_limit, found, groups_limit, image_limit, packets_limit, program_limit}
 use Rattle.rmt_core.specs.Given.{Given, OfFound, OfOpened, Opens, Reads, told}
 use Rattle.rmt_core.specs.Headline.{GivesOne, OtherNumbers}
 use Rattle.rmt_core.specs.NoFitText.{no_fit_line}
-use Rattle.rmt_core.specs.Placers.{IsPlacedBy, placed_by, refusal_by}
+use Rattle.rmt_core.specs.Placers.{IsPlacedBy, refusal_by}
 use Rattle.rmt_core.specs.PlainText.{plain_text}
 use Rattle.rmt_core.specs.Reporting.{report_line}
 use Rattle.rmt_core.specs.Runs.{Runs}
 use Rattle.rmt_core.specs.Sampling.{GivesSample, answers_line, sample_line, sample_packets}
 use Rattle.rmt_core.specs.Simulating.{GivesRun, OfAnswer, Spelled}
+use Rattle.rmt_core.specs.Switching.{GivesSwitch, HasCapture, HasGroups, OfCapture, OfGroups, switch_given}
 use Rattle.rmt_core.specs.Texts.{OfEntries, OfMeaning, Understands}
 use Rattle.rmt_core.specs.Watching.{text_of}
 use Rattle.rmt_core.proofs.PlacerLaws.{same_placed}
@@ -115,6 +122,21 @@ once_answered files next (Err fault) once g h a b = same_given g h _ a b
 spelled_once : (files : Files) (bytes : List ℕ) (next : Config → Given → Type 0) → ((c : Config) → GivesOnce (next c)) → GivesOnce (Spelled files bytes next)
 spelled_once files bytes next once g h a b =
     once_answered files next a.0 once g h a.2 (subst (λ r. OfAnswer files next h r) (answered_once bytes b.0 a.0 b.1 a.1) b.2)
+
+once_grouped : (files : Files) (next : List (List ℕ) → Given → Type 0) (r : Result (List (List ℕ)) GroupFault) → ((groups : List (List ℕ)) → GivesOnce (next groups)) → GivesOnce (λ g. OfGroups files next g r)
+once_grouped files next (Ok groups) once g h a b = once groups g h a b
+once_grouped files next (Err (group.At code line)) once g h a b = same_given g h _ a b
+once_grouped files next (Err group.NoMemory) once g h a b = absurd a
+
+groups_once : (files : Files) (text : List ℕ) (next : List (List ℕ) → Given → Type 0) → ((groups : List (List ℕ)) → GivesOnce (next groups)) → GivesOnce (HasGroups files text next)
+groups_once files text next once g h a b = once_grouped files next (groups_of text) once g h a b
+
+once_captured : (files : Files) (next : Capture → Given → Type 0) (r : Result Capture ℕ) → ((said : Capture) → GivesOnce (next said)) → GivesOnce (λ g. OfCapture files next g r)
+once_captured files next (Ok said) once g h a b = once said g h a b
+once_captured files next (Err code) once g h a b = same_given g h _ a b
+
+capture_once : (files : Files) (file : List ℕ) (next : Capture → Given → Type 0) → ((said : Capture) → GivesOnce (next said)) → GivesOnce (HasCapture files file next)
+capture_once files file next once g h a b = once_captured files next (capture_of file) once g h a b
 
 -- ---- what is made, or is not loaded
 
@@ -277,6 +299,15 @@ run_once w files image packets =
     reads_once files image image_limit _
     (λ bytes. opens_once files packets _ (λ text. spelled_once files bytes (λ c. Runs files (text_of w c) packets_limit text) (λ c. runs_once files (text_of w c) packets_limit text)))
 
+switch_once : (files : Files) (image groups capture out : List ℕ) (every : ℕ) → GivesOnce (GivesSwitch files image groups capture out every)
+switch_once files image groups capture out every =
+    reads_once files image image_limit _
+    (λ bytes. reads_once files groups groups_limit _
+    (λ text. reads_once files capture capture_limit _
+    (λ file. spelled_once files bytes (λ c. HasGroups files text (λ ports. HasCapture files file (λ said g. g ≡ switch_given files out (switched c ports every file said))))
+    (λ c. groups_once files text (λ ports. HasCapture files file (λ said g. g ≡ switch_given files out (switched c ports every file said)))
+    (λ ports. capture_once files file (λ said g. g ≡ switch_given files out (switched c ports every file said)) (λ said. tells_once (switch_given files out (switched c ports every file said))))))))
+
 -- `sample` understands its texts
 pub sample_understood : (files : Files) (number : ℕ) (g : Given) → GivesSample files number g
     → Understands files (program_text number) (entries_text number) (λ p lists. Builds ByRule files (λ image c k. told files Done (sample_line number p lists c)) p lists) g
@@ -301,3 +332,4 @@ gives_one one apart files (Report image) g h a b =
 gives_one one apart files (Sample number) g h a b =
     understands_once one files (program_text number) (entries_text number) (λ p lists. Builds ByRule files (λ image c k. told files Done (sample_line number p lists c)) p lists)
     (λ p lists. samples_once apart ByRule p lists files number) g h (sample_understood files number g a) (sample_understood files number h b)
+gives_one one apart files (Switch image groups capture out every) g h a b = switch_once files image groups capture out every g h a b

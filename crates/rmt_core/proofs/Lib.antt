@@ -9,6 +9,7 @@ pub mod EndLaws
 pub mod EnterLaws
 pub mod GivenAlways
 pub mod GivenDone
+pub mod GivenFew
 pub mod GivenOnce
 pub mod GoingOn
 pub mod ImageSize
@@ -27,11 +28,13 @@ pub mod SampleLaws
 pub mod SampleTexts
 pub mod ShownLaws
 pub mod SimPlain
+pub mod SwitchLaws
 pub mod TallyLaws
 pub mod TextExamples
 pub mod TextLaws
 pub mod VectorLaws
 pub mod VectorTexts
 pub mod WaitingLaws
+pub mod WritingLaws
 pub mod sample
 pub mod size

@@ -1,5 +1,5 @@
 -- What the back end built is what `compile` makes.
-use Rattle.std.proofs.Common.{◌≡◌, ◌≢◌, ℕ, ◌<◌, ◌≤◌, List, [], ◌∷◌, Option, Some, None, Result, Ok, Err, length, inl, refl, sym, subst, ◌∙◌}
+use Rattle.std.proofs.Common.{◌≡◌, ◌≢◌, ℕ, ◌<◌, List, [], ◌∷◌, Option, Some, None, Result, Ok, Err, length, inl, refl, sym, subst, ◌∙◌}
 use Rattle.std.specs.Prelude.{All, IfErr, IfOk}
 use Rattle.std.proofs.lemmas.List.Elements.{All-cons, All-nil}
 use Rattle.rmt_bits.specs.declared.lane.Lane.{Lane}
@@ -27,8 +27,8 @@ use Rattle.rmt_build.specs.declared.fault.NoFit.TheVariants as no_fit
 use Rattle.rmt_build.specs.Promises.{IsBounded, IsConfigOf, IsLaidOut, KeepsRules}
 use Rattle.rmt_core.specs.declared.placer.Placer.{Placer}
 use Rattle.rmt_core.specs.Files.{Files}
-use Rattle.rmt_core.specs.Given.{stored}
-use Rattle.rmt_core.specs.Compiling.{Builds, Compiles, Finish, Fitted, IsMadeBy, Makes, written}
+use Rattle.rmt_core.specs.Given.{one_file, stored}
+use Rattle.rmt_core.specs.Compiling.{Builds, Compiles, Finish, Fitted, IsMadeBy, written}
 use Rattle.rmt_core.specs.CompileText.{compile_text}
 use Rattle.rmt_core.specs.Making.{AreOfTexts, IsBuilt, MakesImage}
 use Rattle.rmt_core.specs.NoFitText.{AreNodesOf}
@@ -113,7 +113,7 @@ built_image placer p lists built image lines is image_is lines_are files name =
     subst (λ g. Compiles placer files name p lists g) (same image lines image_is lines_are) (builds placer files (written files name p) p lists built is)
   where
     same : (i l : List ℕ) → i ≡ spelled_image built.config → l ≡ compile_text p built.config built.bound
-        → written files name p (spelled_image built.config) built.config built.bound ≡ stored files name i l
+        → written files name p (spelled_image built.config) built.config built.bound ≡ stored files (one_file name i) l
     same i l e f = rw (e, f) refl
 
 -- ---- the lines

@@ -1,8 +1,7 @@
 -- A run, one cycle later.
-use Rattle.std.proofs.Common.{◌≡◌, ◌≢◌, ℕ, zero, suc, ◌+◌, ◌≤◌, true, false, cond, eqb, List, [], ◌∷◌, ◌++◌, length, reverse, Option, Some, None, sym, refl, ap, ◌∙◌, subst, arith, append_assoc, append-nil, length-append}
+use Rattle.std.proofs.Common.{◌≡◌, ◌≢◌, ℕ, zero, suc, ◌+◌, ◌≤◌, true, false, cond, eqb, List, [], ◌∷◌, ◌++◌, length, Option, Some, None, sym, refl, ap, ◌∙◌, subst, arith, append_assoc, append-nil, length-append}
 use Rattle.std.specs.Prelude.{filter_map, is_some}
 use Rattle.std.specs.Option.{option_to_list}
-use Rattle.std.proofs.lemmas.List.{length-reverse}
 use Rattle.std.specs.List.{range_with_len, cons_option}
 use Rattle.std.proofs.lemmas.Bool.{le-ltb}
 use Rattle.rmt_bits.specs.Packet.{Packet}
@@ -11,8 +10,9 @@ use Rattle.rmt_io.specs.Outside.{SinkState}
 use Rattle.rmt_core.specs.Types.{Config}
 use Rattle.rmt_config.specs.ChipRun.{Outcome, answer_at, latency_of}
 use Rattle.rmt_chip.specs.declared.chip.Chip.{Chip}
-use Rattle.rmt_chip.specs.Stands.{Stands, entered_of}
-use Rattle.rmt_chip.specs.Inputs.{packets_of}
+use Rattle.rmt_chip.specs.PacketRuns.{StandsFor as Stands}
+use Rattle.rmt_chip.specs.Stands.{entered_of}
+use Rattle.rmt_chip.proofs.PacketRunLaws.{entered-few}
 use Rattle.rmt_chip.specs.Leaving.{AnswersIf}
 use Rattle.rmt_core.specs.declared.running.state.Run.{Run}
 use Rattle.rmt_core.specs.SimText.{answer_lines}
@@ -136,17 +136,12 @@ few_left f a (suc n) =
     let later : length (filter_map f (range_with_len (a + 1) n)) ≤ n = few_left f (a + 1) n in
     elim (f a) as (λ o. length (cons_option o (filter_map f (range_with_len (a + 1) n))) ≤ suc n) [ None ↦ omega (arith, later) | Some y ↦ omega (arith, later) ]
 
-pub few_packets : (inputs : List (Option Packet)) → packets_of inputs ≤ length inputs
-few_packets [] = omega arith
-few_packets (None ∷ inputs) = omega (arith, few_packets inputs)
-few_packets ((Some p) ∷ inputs) = omega (arith, few_packets inputs)
-
 -- no more answers and packets than cycles
 pub few_numbered : {w : Watch} {c : Config} {inputs : List (Option Packet)} {run : Run} {chip : Chip} {before now : SinkState} → Goes w c inputs run chip before now → run.answered ≤ length inputs
 few_numbered {w} {c} {inputs} g = omega (arith, g.numbered, few_left (answer_at c inputs) 0 (length inputs))
 
 pub few_entered : {w : Watch} {c : Config} {inputs : List (Option Packet)} {run : Run} {chip : Chip} {before now : SinkState} → Goes w c inputs run chip before now → entered_of chip ≤ length inputs
-few_entered {w} {c} {inputs} g = omega (arith, g.stands.entered_is, few_packets (reverse inputs), length-reverse inputs)
+few_entered {w} {c} {inputs} {run} {chip} g = entered-few c inputs chip g.stands
 
 -- before the first cycle
 pub goes_first : (w : Watch) (c : Config) (run : Run) (chip : Chip) → run.watch ≡ w → Stands c [] chip → run.cycles ≡ 0 → run.answered ≡ 0 → run.waiting.lines.items ≡ [] → (before : SinkState) → Goes w c [] run chip before before

@@ -80,7 +80,7 @@ module _ (before after : Outside) (printed : Reading → List ℕ) (limit : ℕ)
   stops_so s is same front never =
       stops before after (Runs before.shelf.files printed limit text) s is
       (record {
-        files = same;
+        files = inl same;
         front = λ g e. subst (λ (x : Given). GainedFront before.sink after.sink x.text) (sym e) front;
         steady = λ steady e g _. absurd (never e steady);
       })

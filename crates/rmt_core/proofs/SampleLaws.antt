@@ -18,7 +18,7 @@ use Rattle.rmt_core.specs.SampleProgram.{sample_program}
 use Rattle.rmt_core.specs.declared.placer.Placer.TheVariants.{ByRule}
 use Rattle.rmt_core.specs.declared.status.Status.{Status}
 use Rattle.rmt_core.specs.declared.placer.Placer.TheVariants.{ByRule}
-use Rattle.rmt_core.specs.declared.status.Status.TheVariants.{Done, NoMemory, ReadFault, WriteFault}
+use Rattle.rmt_core.specs.declared.status.Status.TheVariants.{Done, NoMemory, ReadFault, TooLong, WriteFault}
 use Rattle.rmt_core.specs.Commands.{IsPossible, Sample}
 use Rattle.rmt_core.specs.Compiling.{Builds}
 use Rattle.rmt_core.specs.Ends.{Answered, outside}
@@ -56,6 +56,18 @@ sample_answered shelf before after n p lists built result is t =
 -- what may come of telling it
 pub told_possible : (n : ℕ) {before after : SinkState} {line : List ℕ} {result : Status} → Tells before after line Done result → IsPossible (Sample n) result
 told_possible n t = ⊎_elim (λ e. inl (inl e)) (λ rest. ⊎_elim (λ e. inr (inr e)) (λ e. inr (inl e)) rest) t.kind
+
+-- what printed nothing where memory was wanting ended by no fault of reading and with no file that is too long
+pub quiet_possible : {P : Type 0} (n : ℕ) (s : Status) → IsPossible (Sample n) s → (s ≡ NoMemory → P) → (s ≡ NoMemory) ⊎ (s ≡ ReadFault) ⊎ (s ≡ TooLong) → P
+quiet_possible n s is quiet (inl e) = quiet e
+quiet_possible n s (inl (inl h)) quiet (inr (inl e)) = absurd (cc)
+quiet_possible n s (inl (inr h)) quiet (inr (inl e)) = absurd (cc)
+quiet_possible n s (inr (inl h)) quiet (inr (inl e)) = absurd (cc)
+quiet_possible n s (inr (inr h)) quiet (inr (inl e)) = absurd (cc)
+quiet_possible n s (inl (inl h)) quiet (inr (inr e)) = absurd (cc)
+quiet_possible n s (inl (inr h)) quiet (inr (inr e)) = absurd (cc)
+quiet_possible n s (inr (inl h)) quiet (inr (inr e)) = absurd (cc)
+quiet_possible n s (inr (inr h)) quiet (inr (inr e)) = absurd (cc)
 
 pub told_no_reading : {before after : SinkState} {line : List ℕ} {result : Status} → Tells before after line Done result → result ≢ ReadFault
 told_no_reading {before} {after} {line} {result} t e = by result e t.kind

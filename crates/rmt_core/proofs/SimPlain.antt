@@ -1,9 +1,7 @@
 -- What `sim` prints of an image that `compile` or `improve` made is what `plain` prints of the program, and then the cycles and the flight.
-use Rattle.std.proofs.Common.{◌≡◌, ℕ, ◌+◌, ◌≤◌, true, List, [], ◌∷◌, ◌++◌, map, Option, Some, None, Ok, length, sym, refl, inl, inr, ap, ◌∙◌, append_assoc}
+use Rattle.std.proofs.Common.{◌≡◌, ℕ, ◌+◌, ◌≤◌, List, [], ◌∷◌, ◌++◌, map, Option, Some, None, Ok, length, sym, refl, inl, inr, ap, ◌∙◌, append_assoc}
 use Rattle.std.specs.Prelude.{All}
 use Rattle.std.specs.List.{flat_map}
-use Rattle.std.specs.Str.{bytes_eq}
-use Rattle.std.proofs.lemmas.Slice.Eq.{bytes_eq-Decides}
 use Rattle.rmt_bits.specs.Packet.{IsPacket, Packet}
 use Rattle.rmt_bits.specs.declared.answer.Answer.{Answer}
 use Rattle.rmt_bits.specs.declared.answer.Verdict.{Verdict}
@@ -23,7 +21,7 @@ use Rattle.rmt_core.specs.declared.placer.Placer.TheVariants.{ByRule, ByTries}
 use Rattle.rmt_core.specs.declared.status.Status.TheVariants.{Done}
 use Rattle.rmt_core.specs.declared.watch.Watch.TheVariants as watch
 use Rattle.rmt_core.specs.Compiling.{Compiles, Fitted, GivesImage, Loaded, written}
-use Rattle.rmt_core.specs.Files.{Files, entries_limit, image_limit, packets_limit, program_limit, updated}
+use Rattle.rmt_core.specs.Files.{Files, entries_limit, image_limit, packets_limit, program_limit}
 use Rattle.rmt_core.specs.Given.{Given, Opens, Reads}
 use Rattle.rmt_core.specs.Gives.{Gives}
 use Rattle.rmt_core.specs.Headline.{IsWithin, SimPrintsPlain, image_command}
@@ -37,6 +35,7 @@ use Rattle.rmt_core.specs.Watching.{text_of}
 use Rattle.rmt_core.proofs.GivenOnce.{OneMeaning}
 use Rattle.rmt_core.proofs.GivenDone.{RanToEnd, Understood, opened_there, ran_to_end, read_within, run_done, spelled_is, understood, was_opened, was_read, was_understood}
 use Rattle.rmt_core.proofs.PacketLaws.{text_says_packets}
+use Rattle.rmt_core.proofs.WritingLaws.{updated_same}
 
 -- ---- the texts
 
@@ -83,15 +82,12 @@ record IsMade (p : Program) (lists : List (List Entry)) (file : Option (List ℕ
   spells : Spells bytes config
   runs : RunsAs p lists config
 
-stands_updated : (files : Files) (name bytes : List ℕ) → updated files name bytes name ≡ Some bytes
-stands_updated files name bytes = let same : bytes_eq name name ≡ true = (bytes_eq-Decides name name).1 refl in rw same refl
-
 module _ (placer : Placer) (p : Program) (lists : List (List Entry)) (files : Files) (name : List ℕ) (g : Given) (done : g.status ≡ Done) where
   loaded_done : Loaded placer files (written files name p) p lists g → IsMade p lists (g.files name)
   loaded_done (inl x) = record {
     bytes = x.0;
     config = x.2;
-    stands = ap (λ (k : Given). k.files name) x.5 ∙ stands_updated files name x.0;
+    stands = ap (λ (k : Given). k.files name) x.5 ∙ updated_same files name x.0;
     short = x.4.short;
     spells = x.4.spells;
     runs = x.4.runs;

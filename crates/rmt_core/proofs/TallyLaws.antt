@@ -1,14 +1,17 @@
 -- Runs of which only counts are kept, one cycle after another.
-use Rattle.std.proofs.Common.{◌≡◌, ℕ, zero, suc, ◌+◌, ◌-◌, ◌<◌, ◌≤◌, List, [], ◌∷◌, ◌++◌, length, reverse, drop, Option, Some, None, Result, Ok, Err, sym, refl, ap, ◌∙◌, subst, arith, length-append}
-use Rattle.std.specs.Prelude.{map, replicate}
+use Rattle.std.proofs.Common.{◌≡◌, ℕ, zero, suc, ◌+◌, ◌-◌, ◌<◌, ◌≤◌, List, [], ◌∷◌, ◌++◌, length, drop, cond, Option, Some, None, Result, Ok, Err, sym, refl, ap, ◌∙◌, subst, arith, length-append}
+use Rattle.std.specs.Prelude.{is_some, map, replicate}
+use Rattle.std.specs.List.{count_by}
+use Rattle.std.proofs.lemmas.List.Sums.{count_by-le-length, sum_by-append, sum_by-cons}
 use Rattle.std.specs.Option.{option_to_list}
-use Rattle.std.proofs.lemmas.List.{length-map, length-reverse, map-append, reverse-append}
+use Rattle.std.proofs.lemmas.List.{length-map, map-append}
 use Rattle.rmt_bits.specs.Packet.{Packet}
 use Rattle.rmt_bits.specs.declared.answer.Verdict.{Verdict}
 use Rattle.rmt_core.specs.Types.{Config}
 use Rattle.rmt_config.specs.ChipRun.{Outcome, answer_at, cycles_of, inputs_of, latency_of, outcomes_of}
-use Rattle.rmt_chip.specs.Stands.{Stands, entered_of}
-use Rattle.rmt_chip.specs.Inputs.{packets_of as many_of}
+use Rattle.rmt_chip.specs.PacketRuns.{StandsFor as Stands}
+use Rattle.rmt_chip.specs.Stands.{entered_of}
+use Rattle.rmt_chip.proofs.PacketRunLaws.{entered-alone, entered-few}
 use Rattle.rmt_chip.specs.Leaving.{AnswersIf}
 use Rattle.rmt_packets.specs.PacketText.{BadLine, Reading, behind, packet_of, packets_of, reading_of}
 use Rattle.rmt_bits.specs.Lines.{numbered_lines}
@@ -20,7 +23,7 @@ use Rattle.rmt_core.specs.Tallies.{Counts, StandsFor, left_of, told_of}
 use Rattle.rmt_core.specs.Watching.{emitted}
 use Rattle.rmt_core.proofs.EmitLaws.{emitted-more}
 use Rattle.rmt_core.proofs.EnterLaws.{inputs_more}
-use Rattle.rmt_core.proofs.RunLaws.{few_left, few_packets}
+use Rattle.rmt_core.proofs.RunLaws.{few_left}
 use Rattle.rmt_core.proofs.VectorLaws.{length_somes}
 
 -- ---- one cycle
@@ -52,27 +55,23 @@ pub few_answered : {c : Config} {inputs : List (Option Packet)} {run : CountedRu
 few_answered {c} {inputs} s = omega (arith, s.counts.answered, length-map (emitted c inputs) told_by_outcome, few_left (answer_at c inputs) 0 (length inputs))
 
 pub few_in : {c : Config} {inputs : List (Option Packet)} {run : CountedRun} → StandsFor c inputs run → entered_of run.chip ≤ length inputs
-few_in {c} {inputs} s = omega (arith, s.stands.entered_is, few_packets (reverse inputs), length-reverse inputs)
+few_in {c} {inputs} {run} s = entered-few c inputs run.chip s.stands
 
 -- an empty cycle enters nothing
-many_append : (xs ys : List (Option Packet)) → many_of (xs ++ ys) ≡ many_of xs + many_of ys
-many_append [] ys = omega arith
-many_append (None ∷ xs) ys = many_append xs ys
-many_append ((Some p) ∷ xs) ys = omega (arith, many_append xs ys)
+many_append : (xs ys : List (Option Packet)) → count_by is_some (xs ++ ys) ≡ count_by is_some xs + count_by is_some ys
+many_append xs ys = sum_by-append (λ (o : Option Packet). cond (is_some o) 1 0) xs ys
 
-many_reverse : (xs : List (Option Packet)) → many_of (reverse xs) ≡ many_of xs
-many_reverse [] = refl
-many_reverse (x ∷ xs) =
-    let one = many_append (x ∷ []) xs in
-    omega (arith, one, ap many_of (reverse-append (x ∷ []) xs), many_append (reverse xs) (x ∷ []), many_reverse xs)
+abbrev nothing : ℕ → List (Option Packet)
+nothing a = replicate a None
 
-many_none : (a : ℕ) → many_of (replicate a None) ≡ 0
+many_none : (a : ℕ) → count_by is_some (nothing a) ≡ 0
 many_none zero = refl
-many_none (suc a) = many_none a
+many_none (suc a) = sum_by-cons (λ (o : Option Packet). cond (is_some o) 1 0) None (nothing a) ∙ (let e : 0 + count_by is_some (nothing a) ≡ 0 = omega (arith, many_none a) in e)
 
 pub few_drained : {c : Config} (inputs : List (Option Packet)) (a : ℕ) {run : CountedRun} → StandsFor c (inputs ++ replicate a None) run → entered_of run.chip ≤ length inputs
-few_drained {c} inputs a s =
-    omega (arith, s.stands.entered_is, many_reverse (inputs ++ replicate a None), many_append inputs (replicate a None), many_none a, few_packets inputs)
+few_drained {c} inputs a {run} s =
+    let few = count_by-le-length is_some inputs in
+    omega (arith, s.stands.entered_is, entered-alone (inputs ++ replicate a None), many_append inputs (replicate a None), many_none a, few)
 
 -- ---- one line after another
 

@@ -13,9 +13,11 @@ use Rattle.rmt_core.specs.Types.{Config}
 use Rattle.rmt_config.specs.Life.{Words}
 use Rattle.rmt_config.specs.ChipRun.{inputs_of, latency_of, number_at, own_look, packet_at, words_at}
 use Rattle.rmt_chip.specs.declared.seen.Seen.{Seen}
-use Rattle.rmt_chip.specs.Held.{Entered}
-use Rattle.rmt_chip.specs.Inputs.{entered_at, entered_in, numbered, packets_of}
+use Rattle.rmt_chip.specs.declared.chip.Chip.{Chip}
+use Rattle.rmt_chip.specs.PacketRuns.{ShowsPacket, StandsFor}
 use Rattle.rmt_chip.specs.Stands.{Shows, in_flight}
+use Rattle.rmt_chip.proofs.PacketRunLaws.{shows-alone}
+use Rattle.rmt_config.specs.RunInputs.{input_of as input_with}
 use Rattle.rmt_core.specs.ProbeText.{lines_below, packet_line, vector_line}
 use Rattle.rmt_core.proofs.EmitLaws.{front_get}
 
@@ -89,93 +91,23 @@ lines_over c done cycle (suc age) h m =
     ap (λ o. packet_line c (number_at (inputs_of c done) (cycle - age)) age o ++ lines_below c (inputs_of c done) cycle age) none
     ∙ lines_over c done cycle age h (omega (arith, m))
 
--- how many packets are among inputs, in either order
-packets_append : (xs ys : List (Option Packet)) → packets_of (xs ++ ys) ≡ packets_of xs + packets_of ys
-packets_append [] ys = omega arith
-packets_append (None ∷ xs) ys = packets_append xs ys
-packets_append ((Some p) ∷ xs) ys = let more = packets_append xs ys in omega (arith, more)
-
-packets_reverse : (xs : List (Option Packet)) → packets_of (reverse xs) ≡ count_by is_some xs
-packets_reverse xs = is_count_by (λ inputs. packets_of (reverse inputs)) is_some refl one_more xs
-  where
-    turned : (x : Option Packet) (rest : List (Option Packet)) → packets_of (reverse (x ∷ rest)) ≡ packets_of (reverse rest) + packets_of (x ∷ [])
-    turned x rest = ap packets_of (reverse-append (x ∷ []) rest) ∙ packets_append (reverse rest) (x ∷ [])
-
-    one_more : (x : Option Packet) (rest : List (Option Packet)) → packets_of (reverse (x ∷ rest)) ≡ cond (is_some x) (1 + packets_of (reverse rest)) (packets_of (reverse rest))
-    one_more None rest = let t = turned None rest in omega (arith, t)
-    one_more (Some p) rest = let t = turned (Some p) rest in omega (arith, t)
-
--- what stands behind so many newer inputs
-entered_behind : (newer : List (Option Packet)) (x : Option Packet) (older : List (Option Packet)) → entered_in (newer ++ x ∷ older) (length newer) ≡ numbered x older
-entered_behind [] x older = refl
-entered_behind (y ∷ newer) x older = entered_behind newer x older
-
-entered_past : (inputs : List (Option Packet)) (age : ℕ) → length inputs ≤ age → entered_in inputs age ≡ None
-entered_past [] age h = refl
-entered_past (x ∷ inputs) zero h = absurd (omega (arith, h))
-entered_past (x ∷ inputs) (suc age) h = entered_past inputs age (omega (arith, h))
-
--- a packet with a number
-abbrev as_entered : ℕ → Option Packet → Option Entered
-as_entered n o = option_map (λ (p : Packet). record { packet = p; number = n }) o
-
-entered_now : (inputs : List (Option Packet)) (cycle age : ℕ) → length inputs ≡ cycle + 1 → age ≤ cycle
-    → entered_at inputs age ≡ as_entered (number_at inputs (cycle - age)) (held (slice_get inputs (cycle - age)))
-entered_now inputs cycle age long h =
-    let k = cycle - age in
-    let x = get_or inputs k None in
-    let front = take k inputs in
-    let back = drop (suc k) inputs in
-    let within : k < length inputs = omega (arith, long) in
-    let parts : inputs ≡ front ++ x ∷ back = sym (take-append-drop k inputs) ∙ ap (λ l. front ++ l) (drop-cons inputs k None within) in
-    let newest : reverse inputs ≡ reverse back ++ x ∷ reverse front =
-    ap (λ l. reverse l) parts ∙ reverse-append front (x ∷ back) ∙ ap (λ l. l ++ reverse front) (reverse-append (x ∷ []) back) ∙ append_assoc (reverse back) (x ∷ []) (reverse front) in
-    let count : length (reverse back) ≡ age = length-reverse back ∙ length-drop (suc k) inputs ∙ (let n : length inputs - suc k ≡ age = omega (arith, long, h) in n) in
-    ap (λ l. entered_in l age) newest
-    ∙ ap (λ n. entered_in (reverse back ++ x ∷ reverse front) n) (sym count)
-    ∙ entered_behind (reverse back) x (reverse front)
-    ∙ ap (λ n. as_entered n x) (packets_reverse front)
-    ∙ ap (λ o. as_entered (number_at inputs k) (held o)) (sym (slice_get-get_or inputs k None within))
-
--- what the chip has of an age is the packet of that age in the newest cycle
-pub flight_now : (c : Config) (inputs : List (Option Packet)) (cycle age : ℕ) → length inputs ≡ cycle + 1
-    → in_flight c inputs age ≡ as_entered (number_at inputs (cycle - age)) (packet_at c inputs cycle age)
-flight_now c inputs cycle age long =
-    let n = number_at inputs (cycle - age) in
-    let there = held (slice_get inputs (cycle - age)) in
-    let latency = latency_of c.stages in
-    ⊎_elim (λ (gone : latency < age). rw (leb_no age latency gone, lt-ltb latency age gone) (gone_away (ltb cycle age) n there))
-    (λ (l : age ≤ latency). ⊎_elim
-    (λ (early : cycle < age). rw (le-leb age latency l, lt-ltb cycle age early) (entered_past (reverse inputs) age (omega (arith, long, length-reverse inputs, early))))
-    (λ (h : age ≤ cycle). rw (le-leb age latency l, le-ltb cycle age h, le-ltb latency age l) (entered_now inputs cycle age long h))
-    (cases_lt cycle age)) (cases_lt latency age)
-  where
-    leb_no : (a b : ℕ) → b < a → leb a b ≡ false
-    leb_no a b h = grind (arith, h)
-
-    gone_away : (b : Bool) (n : ℕ) (o : Option Packet) → None ≡ as_entered n (cond (b || true) None o)
-    gone_away true n o = refl
-    gone_away false n o = refl
-
 -- the line of what is seen
-line_seen : (c : Config) (n age : ℕ) (o : Option Packet) (seen : Seen) → Shows c age (as_entered n o) (Some seen) → vector_line seen.number age (λ w. slice_index seen.words.now w) ≡ packet_line c n age o
+pub line_seen : (c : Config) (n age : ℕ) (o : Option Packet) (seen : Seen) → ShowsPacket c age n o (Some seen) → vector_line seen.number age (λ w. slice_index seen.words.now w) ≡ packet_line c n age o
 line_seen c n age None seen shows = absurd shows
 line_seen c n age (Some p) seen shows =
     ap (λ m. vector_line m age (λ w. slice_index seen.words.now w)) shows.0
     ∙ ap (λ (words : Words). vector_line n age words) (funext (λ w. slice_index seen.words.now w) (words_at (own_look c) c p age) shows.1)
 
-line_unseen : (c : Config) (n age : ℕ) (o : Option Packet) → Shows c age (as_entered n o) None → [] ≡ packet_line c n age o
+pub line_unseen : (c : Config) (n age : ℕ) (o : Option Packet) → ShowsPacket c age n o None → [] ≡ packet_line c n age o
 line_unseen c n age None shows = refl
 line_unseen c n age (Some p) shows = absurd shows
 
-pub seen_at : (c : Config) (inputs : List (Option Packet)) (cycle age : ℕ) (seen : Seen) → length inputs ≡ cycle + 1 → Shows c age (in_flight c inputs age) (Some seen)
+pub seen_at : (c : Config) (inputs : List (Option Packet)) (chip : Chip) (cycle age : ℕ) (seen : Seen) → StandsFor c inputs chip → length inputs ≡ cycle + 1 → Shows c age (in_flight c (map input_with inputs) age) (Some seen)
     → vector_line seen.number age (λ w. slice_index seen.words.now w) ≡ packet_line c (number_at inputs (cycle - age)) age (packet_at c inputs cycle age)
-seen_at c inputs cycle age seen long shows =
-    line_seen c (number_at inputs (cycle - age)) age (packet_at c inputs cycle age) seen
-    (subst (λ (o : Option Entered). Shows c age o (Some seen)) (flight_now c inputs cycle age long) shows)
+seen_at c inputs chip cycle age seen s long shows =
+    line_seen c (number_at inputs (cycle - age)) age (packet_at c inputs cycle age) seen (shows-alone c s.formed inputs age (Some seen) cycle long shows)
 
-pub unseen_at : (c : Config) (inputs : List (Option Packet)) (cycle age : ℕ) → length inputs ≡ cycle + 1 → Shows c age (in_flight c inputs age) None
+pub unseen_at : (c : Config) (inputs : List (Option Packet)) (chip : Chip) (cycle age : ℕ) → StandsFor c inputs chip → length inputs ≡ cycle + 1 → Shows c age (in_flight c (map input_with inputs) age) None
     → [] ≡ packet_line c (number_at inputs (cycle - age)) age (packet_at c inputs cycle age)
-unseen_at c inputs cycle age long shows =
-    line_unseen c (number_at inputs (cycle - age)) age (packet_at c inputs cycle age)
-    (subst (λ (o : Option Entered). Shows c age o None) (flight_now c inputs cycle age long) shows)
+unseen_at c inputs chip cycle age s long shows =
+    line_unseen c (number_at inputs (cycle - age)) age (packet_at c inputs cycle age) (shows-alone c s.formed inputs age None cycle long shows)

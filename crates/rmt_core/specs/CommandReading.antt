@@ -2,7 +2,7 @@
 use Rattle.std.specs.Prelude.{Option, Some, None, string_bytes}
 use Rattle.rmt_core.specs.declared.commands.Command.{Command as Read}
 use Rattle.rmt_core.specs.declared.commands.Command.TheVariants as read
-use Rattle.rmt_core.specs.Commands.{Command, Compile, Improve, Sim, Probe, Plain, Report, Sample}
+use Rattle.rmt_core.specs.Commands.{Command, Compile, Improve, Sim, Probe, Plain, Report, Sample, Switch}
 
 abbrev pub seen : Read → Option Command
 seen (read.Compile program entries image) = Some (Compile (string_bytes program.now) (string_bytes entries.now) (string_bytes image.now))
@@ -12,4 +12,6 @@ seen (read.Probe image packets cycle) = Some (Probe (string_bytes image.now) (st
 seen (read.Plain program entries packets) = Some (Plain (string_bytes program.now) (string_bytes entries.now) (string_bytes packets.now))
 seen (read.Report image) = Some (Report (string_bytes image.now))
 seen (read.Sample number) = Some (Sample number)
+seen (read.Switch names every) =
+    Some (Switch (string_bytes names.image.now) (string_bytes names.groups.now) (string_bytes names.capture.now) (string_bytes names.out.now) every)
 seen read.Unknown = None

@@ -18,6 +18,7 @@ pub data Command : Type 0 where
   Plain : (program entries packets : List ℕ) → Command
   Report : (image : List ℕ) → Command
   Sample : (number : ℕ) → Command
+  Switch : (image groups capture out : List ℕ) (every : ℕ) → Command
 
 -- decimal digits, at least one and at most so many
 abbrev pub is_number : ℕ → List ℕ → Bool
@@ -51,6 +52,23 @@ probe_of image packets cycle = option_map (λ n. Probe image packets n) cycle
 abbrev pub improve_of : List ℕ → List ℕ → List ℕ → Option ℕ → Option Command
 improve_of program entries image budget = option_map (λ n. Improve program entries image n) budget
 
+-- a number of cycles, from 1 to 999,999
+abbrev pub is_every : ℕ → Bool
+is_every n = nat_le 1 n && nat_le n 999999
+
+-- the number of cycles that 1 to 6 decimal digits say, at least 1
+abbrev pub every_of : List ℕ → Option ℕ
+every_of word = if is_number 6 word && is_every (number_of_digits 10 word) then Some (number_of_digits 10 word) else None
+
+-- a switch command, where its last word is a number of cycles
+abbrev pub switch_of : List ℕ → List ℕ → List ℕ → List ℕ → Option ℕ → Option Command
+switch_of image groups capture out every = option_map (λ n. Switch image groups capture out n) every
+
+-- the command of a word with five words behind it
+abbrev pub with_five : List ℕ → List ℕ → List ℕ → List ℕ → List ℕ → List ℕ → Option Command
+with_five word first second third fourth fifth =
+    if bytes_eq word (codes "switch") then switch_of first second third fourth (every_of fifth) else None
+
 -- the command of a word with four words behind it
 abbrev pub with_four : List ℕ → List ℕ → List ℕ → List ℕ → List ℕ → Option Command
 with_four word first second third fourth =
@@ -70,8 +88,9 @@ with_one word first =
     else (if bytes_eq word (codes "sample") then option_map Sample (sample_number_of first) else None)
 
 -- the command that words are: `compile PROGRAM ENTRIES IMAGE`, `improve PROGRAM ENTRIES IMAGE BUDGET`, `sim IMAGE PACKETS`,
--- `probe IMAGE PACKETS CYCLE`, `plain PROGRAM ENTRIES PACKETS`, `report IMAGE` or `sample N`
+-- `probe IMAGE PACKETS CYCLE`, `plain PROGRAM ENTRIES PACKETS`, `report IMAGE`, `sample N` or `switch IMAGE GROUPS CAPTURE OUT EVERY`
 abbrev pub command_of : List (List ℕ) → Option Command
+command_of (word ∷ first ∷ second ∷ third ∷ fourth ∷ fifth ∷ []) = with_five word first second third fourth fifth
 command_of (word ∷ first ∷ second ∷ third ∷ fourth ∷ []) = with_four word first second third fourth
 command_of (word ∷ first ∷ second ∷ third ∷ []) = with_three word first second third
 command_of (word ∷ image ∷ packets ∷ []) = if bytes_eq word (codes "sim") then Some (Sim image packets) else None
@@ -83,15 +102,38 @@ abbrev pub IfCommand : Option Command → (Command → Type 0) → Type 0
 IfCommand None P = Unit {0}
 IfCommand (Some command) P = P command
 
--- the command writes an image
-abbrev pub WritesImage : Command → Type 0
-WritesImage (Compile program entries image) = Unit {0}
-WritesImage (Improve program entries image budget) = Unit {0}
-WritesImage (Sim image packets) = ⊥
-WritesImage (Probe image packets cycle) = ⊥
-WritesImage (Plain program entries packets) = ⊥
-WritesImage (Report image) = ⊥
-WritesImage (Sample number) = ⊥
+-- the command writes files
+abbrev pub WritesFiles : Command → Type 0
+WritesFiles (Compile program entries image) = Unit {0}
+WritesFiles (Improve program entries image budget) = Unit {0}
+WritesFiles (Sim image packets) = ⊥
+WritesFiles (Probe image packets cycle) = ⊥
+WritesFiles (Plain program entries packets) = ⊥
+WritesFiles (Report image) = ⊥
+WritesFiles (Sample number) = ⊥
+WritesFiles (Switch image groups capture out every) = Unit {0}
+
+-- it prints nothing before it has all that it prints
+abbrev pub PrintsAtEnd : Command → Type 0
+PrintsAtEnd (Compile program entries image) = Unit {0}
+PrintsAtEnd (Improve program entries image budget) = Unit {0}
+PrintsAtEnd (Sim image packets) = ⊥
+PrintsAtEnd (Probe image packets cycle) = ⊥
+PrintsAtEnd (Plain program entries packets) = ⊥
+PrintsAtEnd (Report image) = Unit {0}
+PrintsAtEnd (Sample number) = Unit {0}
+PrintsAtEnd (Switch image groups capture out every) = Unit {0}
+
+-- it reads no file
+abbrev pub ReadsNone : Command → Type 0
+ReadsNone (Compile program entries image) = ⊥
+ReadsNone (Improve program entries image budget) = ⊥
+ReadsNone (Sim image packets) = ⊥
+ReadsNone (Probe image packets cycle) = ⊥
+ReadsNone (Plain program entries packets) = ⊥
+ReadsNone (Report image) = ⊥
+ReadsNone (Sample number) = Unit {0}
+ReadsNone (Switch image groups capture out every) = ⊥
 
 -- the answers of a program text and an entry text, and of what they say
 abbrev pub IsOfTexts : Status → Type 0
@@ -106,6 +148,7 @@ IsOf (Probe image packets cycle) status = (status ≡ Done) ⊎ (status ≡ BadI
 IsOf (Plain program entries packets) status = (status ≡ Done) ⊎ (status ≡ BadProgram) ⊎ (status ≡ BadEntries) ⊎ (status ≡ BadPackets) ⊎ (status ≡ TooLong)
 IsOf (Report image) status = (status ≡ Done) ⊎ (status ≡ BadImage) ⊎ (status ≡ TooLong)
 IsOf (Sample number) status = (status ≡ Done) ⊎ (status ≡ NoFit)
+IsOf (Switch image groups capture out every) status = (status ≡ Done) ⊎ (status ≡ BadEntries) ⊎ (status ≡ BadImage) ⊎ (status ≡ BadPackets) ⊎ (status ≡ TooLong)
 
 -- those of the outside or of want of memory; `sample` reads no file
 abbrev pub IsOutside : Command → Status → Type 0

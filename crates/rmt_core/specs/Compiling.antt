@@ -1,6 +1,5 @@
 -- What `compile` and `improve` give: the image of a configuration that answers as the program does, or why there is none.
 use Rattle.std.specs.Prelude.{◌≡◌, ◌≤◌, ◌⊎◌, ℕ, List, Option, Some, None, Ok, length}
-use Rattle.rmt_bits.specs.declared.lane.Lane.{Lane}
 use Rattle.rmt_core.specs.Types.{Program, Config}
 use Rattle.rmt_ast.specs.declared.entry.Entry.{Entry}
 use Rattle.rmt_ast.specs.Naming.{names_of}
@@ -18,7 +17,7 @@ use Rattle.rmt_core.specs.declared.placer.Placer.{Placer}
 use Rattle.rmt_core.specs.declared.placer.Placer.TheVariants.{ByRule, ByTries}
 use Rattle.rmt_core.specs.declared.status.Status.TheVariants as status
 use Rattle.rmt_core.specs.Files.{Files, entries_limit, image_limit, program_limit}
-use Rattle.rmt_core.specs.Given.{Given, Reads, stored, told}
+use Rattle.rmt_core.specs.Given.{Given, Reads, one_file, stored, told}
 use Rattle.rmt_core.specs.Placers.{HasFewStages, IsPlacedBy, placed_by, refusal_by}
 use Rattle.rmt_core.specs.Texts.{Understands}
 use Rattle.rmt_core.specs.NoFitText.{no_fit_line}
@@ -76,7 +75,7 @@ Builds placer files finish p lists g = Fitted placer files finish p lists g (ref
 
 -- the image stands under a name, and its lines are printed
 abbrev pub written : Files → List ℕ → Program → List ℕ → Config → Bound → Given
-written files name p image c b = stored files name image (compile_text p c b)
+written files name p image c b = stored files (one_file name image) (compile_text p c b)
 
 abbrev pub Compiles : Placer → Files → List ℕ → Program → List (List Entry) → Given → Type 0
 Compiles placer files name p lists g = Builds placer files (written files name p) p lists g

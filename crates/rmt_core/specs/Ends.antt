@@ -1,9 +1,10 @@
 -- How a call of a command ends, by what the command gives and what befell outside.
-use Rattle.std.specs.Prelude.{◌≡◌, ◌≢◌, ◌⊎◌, ℕ, IsTrue, List, [], Some}
+use Rattle.std.specs.Prelude.{◌≡◌, ◌≢◌, ◌⊎◌, ℕ, IsTrue, List, [], ◌∷◌, ◌++◌}
+use Rattle.std.specs.List.{All}
 use Rattle.rmt_io.specs.Outside.{ShelfState, SinkState, Gained, GainedNone, OnlyPrinted, OnlyRead, PrintingFailed, ReadingFailed, WritingFailed}
 use Rattle.rmt_core.specs.declared.status.Status.{Status}
 use Rattle.rmt_core.specs.declared.status.Status.TheVariants.{Done, Usage, ReadFault, WriteFault, BadProgram, BadEntries, NoFit, BadImage, BadPackets, TooLong, NoMemory}
-use Rattle.rmt_core.specs.Files.{Files}
+use Rattle.rmt_core.specs.Files.{Files, Write, all_written}
 use Rattle.rmt_core.specs.Given.{Given}
 use Rattle.rmt_core.specs.Printing.{GainedFront}
 
@@ -19,25 +20,60 @@ outside shelf sink = record { shelf = shelf; sink = sink }
 abbrev pub AreSame : Files → Files → Type 0
 AreSame files others = (name : List ℕ) → files name ≡ others name
 
+-- Of files that were to be written in this order those before one stand whole, nothing is told of that one, and all others are as before.
+pub record BrokenOff (before after : Files) (writes : List Write) : Type 0 where
+  pub done : List Write
+  pub failed : Write
+  pub rest : List Write
+  pub writes_are : writes ≡ done ++ (failed ∷ rest)
+  pub others : (name : List ℕ) → name ≢ failed.name → after name ≡ all_written before done name
+
+-- Of files that were to be written in this order the first stand whole, some but not all, and all others are as before.
+pub record CutShort (before after : Files) (writes : List Write) : Type 0 where
+  pub first : Write
+  pub done : List Write
+  pub next : Write
+  pub rest : List Write
+  pub writes_are : writes ≡ (first ∷ done) ++ (next ∷ rest)
+  pub files : AreSame after (all_written before (first ∷ done))
+
 -- with these the whole text is printed
 abbrev pub PrintsAll : Status → Type 0
 PrintsAll status = (status ≡ Done) ⊎ (status ≡ BadProgram) ⊎ (status ≡ BadEntries) ⊎ (status ≡ NoFit) ⊎ (status ≡ BadImage) ⊎ (status ≡ BadPackets)
 
+-- a file was not written, and nothing was printed
+pub record FileFailed (before after : Outside) (g : Given) : Type 0 where
+  pub counted : WritingFailed before.shelf after.shelf
+  pub quiet : GainedNone before.sink after.sink
+  pub files : BrokenOff before.shelf.files after.shelf.files g.writes
+
+-- the sink failed, when all files were written
+pub record SinkFailed (before after : Outside) (g : Given) : Type 0 where
+  pub counted : PrintingFailed before.sink after.sink
+  pub files : AreSame after.shelf.files g.files
+
 -- Where a command gives this, a call ends with its status, or with WriteFault. A sink gained a front of its text, and all of it with its status but for TooLong.
--- With its status its files stand; they stand too where the sink failed. All files but the one that it writes stay as they were.
+-- With its status its files stand; they stand too where the sink failed. All files but those that it writes stay as they were.
 pub record Ends (before after : Outside) (g : Given) (status : Status) : Type 0 where
   pub status_is : (status ≡ g.status) ⊎ (status ≡ WriteFault)
   pub front : GainedFront before.sink after.sink g.text
   pub whole : status ≡ g.status → PrintsAll status → Gained before.sink after.sink g.text
   pub files : status ≡ g.status → AreSame after.shelf.files g.files
-  pub others : (name : List ℕ) → g.writes ≢ Some name → after.shelf.files name ≡ before.shelf.files name
-  pub fault : status ≡ WriteFault → WritingFailed before.shelf after.shelf ⊎ (PrintingFailed before.sink after.sink × AreSame after.shelf.files g.files)
+  pub others : (name : List ℕ) → All (λ (w : Write). w.name ≢ name) g.writes → after.shelf.files name ≡ before.shelf.files name
+  pub fault : status ≡ WriteFault → FileFailed before after g ⊎ SinkFailed before after g
   pub some : status ≡ WriteFault → g.text ≢ []
 
--- A call that ends for want of memory, or by a fault of reading, leaves the files as they are; what a sink gained is a front of the text that they give. A steady
--- shelf has such a fault only where the files give it.
+-- memory was wanting between two files that a command writes
+pub record StoppedBetween (before after : Outside) (gives : Given → Type 0) (status : Status) : Type 0 where
+  pub memory : status ≡ NoMemory
+  pub given : Given
+  pub is_given : gives given
+  pub files : CutShort before.shelf.files after.shelf.files given.writes
+
+-- A call that ends for want of memory, or by a fault of reading, leaves the files as they are, but between two files that a command writes; what a sink gained is a
+-- front of the text that they give. A steady shelf has such a fault only where the files give it.
 pub record Stops (before after : Outside) (gives : Given → Type 0) (status : Status) : Type 0 where
-  pub files : AreSame after.shelf.files before.shelf.files
+  pub files : AreSame after.shelf.files before.shelf.files ⊎ StoppedBetween before after gives status
   pub front : (g : Given) → gives g → GainedFront before.sink after.sink g.text
   pub steady : IsTrue before.shelf.steady → status ≡ ReadFault → (g : Given) → gives g → g.status ≡ ReadFault
 
@@ -68,13 +104,13 @@ pub record ReadsAndPrints (before after : Outside) (gives : Files → Given → 
   pub only_read : OnlyRead before.shelf after.shelf
   pub only_printed : OnlyPrinted before.sink after.sink
 
--- A call of a command that may write a file, and prints behind that: the same, and it printed nothing where it ends for want of memory, by a fault of reading or
--- with a file that is too long. A steady shelf has no fault of writing.
+-- A call of a command that may write files, and prints behind them: the same, and it printed nothing where it ends for want of memory, by a fault of reading or
+-- of a file, or with a file that is too long. A steady shelf has no fault of writing.
 pub record WritesAndPrints (before after : Outside) (gives : Files → Given → Type 0) (status : Status) : Type 0 where
   pub answered : IsTrue before.shelf.tells → Answered before after (gives before.shelf.files) status
   pub quiet : (status ≡ NoMemory) ⊎ (status ≡ ReadFault) ⊎ (status ≡ TooLong) → GainedNone before.sink after.sink
   pub read_fault : status ≡ ReadFault → ReadingFailed before.shelf after.shelf
-  pub write_fault : status ≡ WriteFault → WritingFailed before.shelf after.shelf ⊎ PrintingFailed before.sink after.sink
+  pub write_fault : status ≡ WriteFault → (WritingFailed before.shelf after.shelf × GainedNone before.sink after.sink) ⊎ PrintingFailed before.sink after.sink
   pub steady_write : status ≡ WriteFault → IsTrue before.shelf.steady → PrintingFailed before.sink after.sink
   pub tells : after.shelf.tells ≡ before.shelf.tells
   pub only_printed : OnlyPrinted before.sink after.sink

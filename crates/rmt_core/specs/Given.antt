@@ -1,23 +1,31 @@
 -- What a command gives where nothing fails outside, and how reading files begins it.
-use Rattle.std.specs.Prelude.{◌≡◌, ℕ, List, [], Option, Some, None}
+use Rattle.std.specs.Prelude.{◌≡◌, ℕ, List, [], ◌∷◌, Option, Some, None}
 use Rattle.rmt_core.specs.declared.status.Status.{Status}
 use Rattle.rmt_core.specs.declared.status.Status.TheVariants.{Done, ReadFault, TooLong}
-use Rattle.rmt_core.specs.Files.{Files, Found, Absent, Long, Holds, found, updated}
+use Rattle.rmt_core.specs.Files.{Files, Found, Absent, Long, Holds, Write, all_written, found}
 
--- a status, the whole text that is printed, the files as they stand afterwards, and the name of the one that is written, if any
+-- a status, the whole text that is printed, the files as they stand afterwards, and those that are written, in their order
 pub record Given : Type 0 where
   pub status : Status
   pub text : List ℕ
   pub files : Files
-  pub writes : Option (List ℕ)
+  pub writes : List Write
 
 -- a status with this text, and the files as they are
 abbrev pub told : Files → Status → List ℕ → Given
-told files status text = record { status = status; text = text; files = files; writes = None }
+told files status text = record { status = status; text = text; files = files; writes = [] }
 
--- Done with these lines, and one file more, or another one of its name
-abbrev pub stored : Files → List ℕ → List ℕ → List ℕ → Given
-stored files name bytes lines = record { status = Done; text = lines; files = updated files name bytes; writes = Some name }
+-- Done with these lines, behind files that are written one after another
+abbrev pub stored : Files → List Write → List ℕ → Given
+stored files writes lines = record { status = Done; text = lines; files = all_written files writes; writes = writes }
+
+-- one file, as all that is written
+abbrev pub one_file : List ℕ → List ℕ → List Write
+one_file name bytes = record { name = name; bytes = bytes } ∷ []
+
+-- a command that writes these files and prints these lines, whatever there was
+abbrev pub Stores : List Write → List ℕ → Files → Given → Type 0
+Stores writes lines files g = g ≡ stored files writes lines
 
 -- a command that reads a file of which so many bytes may be read, and then goes on with them
 abbrev pub OfFound : Files → (List ℕ → Given → Type 0) → Given → Found → Type 0

@@ -1,6 +1,6 @@
 -- What each command gives, where nothing fails outside.
 use Rattle.rmt_core.specs.declared.watch.Watch.TheVariants.{Answers, Vectors}
-use Rattle.rmt_core.specs.Commands.{Command, Compile, Improve, Sim, Probe, Plain, Report, Sample}
+use Rattle.rmt_core.specs.Commands.{Command, Compile, Improve, Sim, Probe, Plain, Report, Sample, Switch}
 use Rattle.rmt_core.specs.Files.{Files}
 use Rattle.rmt_core.specs.Given.{Given}
 use Rattle.rmt_core.specs.Compiling.{GivesCompile, GivesImprove}
@@ -8,6 +8,7 @@ use Rattle.rmt_core.specs.Simulating.{GivesRun}
 use Rattle.rmt_core.specs.PlainText.{GivesPlain}
 use Rattle.rmt_core.specs.Reporting.{GivesReport}
 use Rattle.rmt_core.specs.Sampling.{GivesSample}
+use Rattle.rmt_core.specs.Switching.{GivesSwitch}
 
 abbrev pub Gives : Files → Command → Given → Type 0
 Gives files (Compile program entries image) = GivesCompile files program entries image
@@ -17,3 +18,4 @@ Gives files (Probe image packets cycle) = GivesRun (Vectors cycle) files image p
 Gives files (Plain program entries packets) = GivesPlain files program entries packets
 Gives files (Report image) = GivesReport files image
 Gives files (Sample number) = GivesSample files number
+Gives files (Switch image groups capture out every) = GivesSwitch files image groups capture out every

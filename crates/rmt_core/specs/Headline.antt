@@ -8,15 +8,20 @@ use Rattle.rmt_pack.specs.declared.placement.Part.{Part}
 use Rattle.rmt_check.specs.Means.{Means}
 use Rattle.rmt_entries.specs.Entries.{entries_of}
 use Rattle.rmt_packets.specs.PacketText.{packets_of}
+use Rattle.rmt_pcap.specs.declared.capture.Capture.{Capture}
+use Rattle.rmt_pcap.specs.Captures.{capture_of}
+use Rattle.rmt_switch.specs.GroupText.{groups_of}
 use Rattle.rmt_build.specs.declared.fault.NoFit.{NoFit}
 use Rattle.rmt_build.specs.declared.fault.NoFit.TheVariants.{Load}
 use Rattle.rmt_build.specs.Loads.{AreLoaded}
 use Rattle.rmt_core.specs.declared.placer.Placer.{Placer}
 use Rattle.rmt_core.specs.declared.placer.Placer.TheVariants.{ByRule, ByTries}
-use Rattle.rmt_core.specs.declared.status.Status.TheVariants.{Done}
-use Rattle.rmt_core.specs.Commands.{Command, Compile, Improve, Sim, Probe, Plain, Report, Sample}
+use Rattle.rmt_core.specs.declared.status.Status.{Status}
+use Rattle.rmt_core.specs.declared.status.Status.TheVariants.{Done, ReadFault, NoMemory}
+use Rattle.rmt_core.specs.Commands.{Command, Compile, Improve, Sim, Probe, Plain, Report, Sample, Switch}
 use Rattle.rmt_core.specs.CompileText.{compile_text}
-use Rattle.rmt_core.specs.Files.{Files, entries_limit, image_limit, packets_limit, program_limit}
+use Rattle.rmt_core.specs.Ends.{Answered, AreSame, Outside}
+use Rattle.rmt_core.specs.Files.{Files, capture_limit, entries_limit, groups_limit, image_limit, packets_limit, program_limit}
 use Rattle.rmt_core.specs.Given.{Given}
 use Rattle.rmt_core.specs.Gives.{Gives}
 use Rattle.rmt_core.specs.NoFitText.{no_fit_line}
@@ -116,6 +121,20 @@ pub record IsGoodText (files : Files) (name : List ℕ) : Type 0 where
   pub has_text : IsWithin files name packets_limit text
   pub is_good : (packets_of text).bad ≡ None
 
+-- a group text without a bad line
+pub record AreGoodGroups (files : Files) (name : List ℕ) : Type 0 where
+  pub text : List ℕ
+  pub ports : List (List ℕ)
+  pub has_text : IsWithin files name groups_limit text
+  pub says : groups_of text ≡ Ok ports
+
+-- a capture file without a fault
+pub record IsGoodCapture (files : Files) (name : List ℕ) : Type 0 where
+  pub file : List ℕ
+  pub said : Capture
+  pub has_file : IsWithin files name capture_limit file
+  pub says : capture_of file ≡ Ok said
+
 -- the image of a configuration
 pub record IsImage (files : Files) (name : List ℕ) : Type 0 where
   pub bytes : List ℕ
@@ -136,10 +155,32 @@ IsReady files (Sim image packets) = IsImage files image × IsGoodText files pack
 IsReady files (Probe image packets cycle) = IsImage files image × IsGoodText files packets
 IsReady files (Plain program entries packets) = (p : Program) × (lists : List (List Entry)) × MeanBoth files program entries p lists × IsGoodText files packets
 IsReady files (Report image) = IsImage files image
+IsReady files (Switch image groups capture out every) = IsImage files image × AreGoodGroups files groups × IsGoodCapture files capture
 IsReady files (Sample number) = (p : Program) × (lists : List (List Entry)) × AreOfSample number p lists × Fits ByRule p lists
 
 abbrev pub IsComplete : Type 0
 IsComplete = (files : Files) (command : Command) (g : Given) → IsReady files command → Gives files command g → g.status ≡ Done
+
+-- ---- when all files are left as they are
+
+-- the command writes more than one file
+abbrev pub WritesSeveral : Command → Type 0
+WritesSeveral (Compile program entries image) = ⊥
+WritesSeveral (Improve program entries image budget) = ⊥
+WritesSeveral (Sim image packets) = ⊥
+WritesSeveral (Probe image packets cycle) = ⊥
+WritesSeveral (Plain program entries packets) = ⊥
+WritesSeveral (Report image) = ⊥
+WritesSeveral (Sample number) = ⊥
+WritesSeveral (Switch image groups capture out every) = Unit {0}
+
+-- any other one that ends for want of memory, or by a fault of reading, leaves all files as they are
+abbrev pub LeavesFiles : Type 0
+LeavesFiles =
+    (before after : Outside) (command : Command) → (WritesSeveral command → ⊥) → (status : Status) → (status ≡ ReadFault) ⊎ (status ≡ NoMemory)
+    → Answered before after (Gives before.shelf.files command) status → AreSame after.shelf.files before.shelf.files
+
+-- ---- when something is given
 
 -- the commands that look for a configuration
 abbrev pub IsBuilding : Command → Type 0
@@ -150,6 +191,7 @@ IsBuilding (Probe image packets cycle) = ⊥
 IsBuilding (Plain program entries packets) = ⊥
 IsBuilding (Report image) = ⊥
 IsBuilding (Sample number) = Unit {0}
+IsBuilding (Switch image groups capture out every) = ⊥
 
 -- each other command gives something
 abbrev pub GivesAlways : Type 0

@@ -4,6 +4,7 @@ pub mod CommandReading
 pub mod Files
 pub mod Given
 pub mod Ends
+pub mod Writing
 pub mod Printing
 pub mod Texts
 pub mod Placers
@@ -23,6 +24,8 @@ pub mod Reporting
 pub mod SampleProgram
 pub mod Sampling
 pub mod Tallies
+pub mod Switching
+pub mod SwitchSetup
 pub mod Gives
 pub mod Headline
 pub mod Running

@@ -12,7 +12,7 @@ use Rattle.rmt_core.specs.declared.placer.Placer.{Placer}
 use Rattle.rmt_core.specs.declared.placer.Placer.TheVariants.{ByRule, ByTries}
 use Rattle.rmt_core.specs.declared.status.Status.TheVariants as status
 use Rattle.rmt_core.specs.Files.{Files, entries_limit, program_limit}
-use Rattle.rmt_core.specs.Given.{stored, told}
+use Rattle.rmt_core.specs.Given.{one_file, stored, told}
 use Rattle.rmt_core.specs.Compiling.{Builds, Compiles, Finish, Makes}
 use Rattle.rmt_core.specs.Placers.{placing_refusal, refusal_by}
 
@@ -28,7 +28,7 @@ pub record AreOfTexts (p : Program) (lists : List (List Entry)) : Type 0 where
 -- an image is made, with these lines
 abbrev pub MakesImage : Placer → Program → List (List Entry) → List ℕ → List ℕ → Type 0
 MakesImage placer p lists image lines =
-    (files : Files) (name : List ℕ) → Compiles placer files name p lists (stored files name image lines)
+    (files : Files) (name : List ℕ) → Compiles placer files name p lists (stored files (one_file name image) lines)
 
 -- a program with its entries became this, since nothing refuses it
 pub record IsBuilt (placer : Placer) (p : Program) (lists : List (List Entry)) (built : Built) : Type 0 where

@@ -5,7 +5,7 @@ use Rattle.rmt_bits.specs.declared.answer.Verdict.{Verdict}
 use Rattle.rmt_io.specs.Outside.{ShelfState, SinkState}
 use Rattle.rmt_core.specs.Types.{Config}
 use Rattle.rmt_chip.specs.declared.chip.Chip.{Chip}
-use Rattle.rmt_chip.specs.Stands.{Stands}
+use Rattle.rmt_chip.specs.PacketRuns.{StandsFor as Stands}
 use Rattle.rmt_packets.specs.AnswerLine.{answer_line}
 use Rattle.rmt_packets.specs.PacketText.{BadLine}
 use Rattle.rmt_core.specs.declared.running.state.Run.{Run}

@@ -4,7 +4,7 @@ use Rattle.rmt_bits.specs.Packet.{Packet}
 use Rattle.rmt_bits.specs.declared.answer.Verdict.{Verdict}
 use Rattle.rmt_core.specs.Types.{Config}
 use Rattle.rmt_config.specs.ChipRun.{cycles_of, outcomes_of}
-use Rattle.rmt_chip.specs.Stands.{Stands}
+use Rattle.rmt_chip.specs.PacketRuns.{StandsFor as Stands}
 use Rattle.rmt_refine.specs.RunsAs.{told_by_outcome}
 use Rattle.rmt_core.specs.declared.sampling.run.CountedRun.{CountedRun}
 use Rattle.rmt_core.specs.declared.sampling.tally.Tally.{Tally}

@@ -2,7 +2,7 @@
 
 ghost use Rattle.std.specs.Prelude.{◌≡◌, ◌≤◌, SomeIff, string_bytes};
 ghost use Rattle.rmt_bits.specs.Digits.{number_of_digits};
-ghost use Rattle.rmt_core.specs.Commands.{budget_of, command_of, cycle_of, improve_of, is_number, probe_of, sample_number_of, with_four, with_one, with_three, words_of};
+ghost use Rattle.rmt_core.specs.Commands.{budget_of, command_of, cycle_of, every_of, improve_of, is_number, probe_of, sample_number_of, switch_of, with_five, with_four, with_one, with_three, words_of};
 ghost use Rattle.rmt_core.specs.CommandReading.{seen};
 
 use rmt_bits::digits::{are_digits, number_up_to};
@@ -24,6 +24,25 @@ const SAMPLE_DIGITS: usize = 6;
 
 /// The greatest number of a sample.
 const SAMPLE_MOST: u32 = 100_000;
+
+/// The most digits of a number of cycles.
+const EVERY_DIGITS: usize = 6;
+
+/// The greatest number of cycles.
+const EVERY_MOST: u32 = 999_999;
+
+/// The names that `switch` is given.
+#[derive(Clone, Copy)]
+pub struct SwitchNames<'a> {
+    /// The image.
+    pub image: &'a String,
+    /// The group text.
+    pub groups: &'a String,
+    /// The capture file.
+    pub capture: &'a String,
+    /// What the names of the ports' captures begin with.
+    pub out: &'a String,
+}
 
 /// A command, with the names of its files.
 #[derive(Clone, Copy)]
@@ -66,6 +85,11 @@ pub enum Command<'a> {
     Sample {
         number: u32,
     },
+    /// `switch IMAGE GROUPS CAPTURE OUT EVERY`
+    Switch {
+        names: SwitchNames<'a>,
+        every: u32,
+    },
     /// The words are of no command.
     Unknown,
 }
@@ -75,6 +99,9 @@ pub fn command_from(words: &Vec<String>) -> Command<'_>
     ensures { seen result ≡ command_of (words_of words.now.items) }
 {
     match words.as_slice() {
+        [word, first, second, third, fourth, fifth] => {
+            with_five(word, first, second, third, fourth, fifth)
+        }
         [word, first, second, third, fourth] => with_four(word, first, second, third, fourth),
         [word, first, second, third] => with_three(word, first, second, third),
         [word, image, packets] if word.as_str() == "sim" => Command::Sim { image, packets },
@@ -115,6 +142,56 @@ fn is_number(most: usize, word: &[u8]) -> bool
     ensures { result ≡ is_number most word.now }
 {
     1 <= word.len() && word.len() <= most && are_digits(word)
+}
+
+/// The command of a word with five words behind it.
+fn with_five<'a>(
+    word: &String,
+    first: &'a String,
+    second: &'a String,
+    third: &'a String,
+    fourth: &'a String,
+    fifth: &String,
+) -> Command<'a>
+    ensures { seen result ≡ with_five (string_bytes word.now) (string_bytes first.now)
+        (string_bytes second.now) (string_bytes third.now) (string_bytes fourth.now)
+        (string_bytes fifth.now) }
+{
+    let names = SwitchNames {
+        image: first,
+        groups: second,
+        capture: third,
+        out: fourth,
+    };
+    match word.as_str() {
+        "switch" => switch_from(names, fifth),
+        _ => Command::Unknown,
+    }
+}
+
+/// The command `switch`, where the last word is a number of cycles.
+fn switch_from<'a>(names: SwitchNames<'a>, every: &String) -> Command<'a>
+    ensures { seen result ≡ switch_of (string_bytes names.entry.image.now)
+        (string_bytes names.entry.groups.now) (string_bytes names.entry.capture.now)
+        (string_bytes names.entry.out.now) (every_of (string_bytes every.now)) }
+{
+    match every_from(every.as_bytes()) {
+        Some(every) => Command::Switch { names, every },
+        None => Command::Unknown,
+    }
+}
+
+/// The number of cycles that a word says, if it is 1 to 6 decimal digits and at least 1.
+fn every_from(word: &[u8]) -> Option<u32>
+    ensures { result ≡ every_of word.now }
+{
+    if !is_number(EVERY_DIGITS, word) {
+        return None;
+    }
+    match number_from(EVERY_MOST, word) {
+        Some(number) if 1 <= number => Some(number),
+        _ => None,
+    }
 }
 
 /// The command of a word with four words behind it.

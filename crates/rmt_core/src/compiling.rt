@@ -1,14 +1,13 @@
 //! The commands `compile` and `improve`, which place the nodes of a program in two ways.
 
-ghost use Rattle.std.specs.Prelude.{◌≡◌, ◌≢◌, ◌≤◌, ◌⊎◌, [], Ok, IsTrue, length, string_bytes};
+ghost use Rattle.std.specs.Prelude.{◌≡◌, ◌≢◌, ◌≤◌, ◌⊎◌, [], Ok, length, string_bytes};
 ghost use Rattle.rmt_ast.specs.EntryLists.{AreEntries};
 ghost use Rattle.rmt_ast.specs.WellFormed.{IsProgram};
-ghost use Rattle.rmt_io.specs.Outside.{KeepsFiles, WritingFailed, GainedNone, PrintingFailed, OnlyPrinted};
 ghost use Rattle.rmt_core.specs.Commands.{IsPossible, Compile};
 ghost use Rattle.rmt_core.specs.Compiling.{Compiles, GivesImage};
-ghost use Rattle.rmt_core.specs.Ends.{Ends, WritesAndPrints, outside};
+ghost use Rattle.rmt_core.specs.Ends.{WritesAndPrints, outside};
 ghost use Rattle.rmt_core.specs.Files.{entries_limit, program_limit};
-ghost use Rattle.rmt_core.specs.Given.{Reads, stored};
+ghost use Rattle.rmt_core.specs.Given.{Reads, Stores, one_file};
 ghost use Rattle.rmt_core.specs.Making.{AreOfTexts};
 ghost use Rattle.rmt_core.specs.Placers.{IsPlacer};
 ghost use Rattle.rmt_core.specs.Texts.{Understands};
@@ -19,8 +18,9 @@ use crate::placer::Placer;
 use crate::printing::end_with;
 use crate::status::Status;
 use crate::texts::{Meant, tell_text_fault, understand};
+use crate::writing::{NewFile, deliver};
 use rmt_check::laws::one_meaning;
-use rmt_io::shelf::{Shelf, ShelfFault};
+use rmt_io::shelf::Shelf;
 use rmt_io::sink::Sink;
 use std::alloc::Global;
 
@@ -126,42 +126,31 @@ fn compile_meant<F: Shelf, O: Sink>(
         (string_bytes image.now) meant.now.program meant.now.entries) result }
 {
     match make(alloc, placer, &meant.program, &meant.entries) {
-        Ok(made) => deliver(alloc, &made, image, shelf, out),
+        Ok(made) => deliver_image(alloc, made, image, shelf, out),
         Err(Refusal::NoMemory) => Status::NoMemory,
         Err(Refusal::NoFit { line }) => end_with(out, line.as_slice(), Status::NoFit),
     }
 }
 
 /// Writes an image to a file, and then prints its lines.
-fn deliver<F: Shelf, O: Sink>(
+fn deliver_image<F: Shelf, O: Sink>(
     alloc: Global,
-    made: &Made,
+    made: Made,
     name: &String,
     shelf: &mut F,
     out: &mut O,
 ) -> Status
-    requires { made.now.lines ≢ [] }
+    requires { made.lines ≢ [] }
     ensures kind { (result ≡ Status.Done) ⊎ (result ≡ Status.WriteFault)
         ⊎ (result ≡ Status.NoMemory) }
-    ensures ends { result ≢ Status.NoMemory → IsTrue (F.state shelf.old).tells →
-        let before = outside (F.state shelf.old) (O.state out.old) in
-        let after = outside (F.state shelf.new) (O.state out.new) in
-        Ends before after
-        (stored before.shelf.files
-        (string_bytes name.now) made.now.image.items made.now.lines) result }
-    ensures files { result ≡ Status.NoMemory → KeepsFiles (F.state shelf.old) (F.state shelf.new) }
-    ensures quiet { result ≡ Status.NoMemory → GainedNone (O.state out.old) (O.state out.new) }
-    ensures write_fault { result ≡ Status.WriteFault →
-        WritingFailed (F.state shelf.old) (F.state shelf.new)
-        ⊎ PrintingFailed (O.state out.old) (O.state out.new) }
-    ensures steady_write { result ≡ Status.WriteFault → IsTrue (F.state shelf.old).steady →
-        PrintingFailed (O.state out.old) (O.state out.new) }
-    ensures tells { (F.state shelf.new).tells ≡ (F.state shelf.old).tells }
-    ensures only_printed { OnlyPrinted (O.state out.old) (O.state out.new) }
+    ensures call { WritesAndPrints (outside (F.state shelf.old) (O.state out.old))
+        (outside (F.state shelf.new) (O.state out.new))
+        (Stores (one_file (string_bytes name.now) made.image.items) made.lines) result }
 {
-    match shelf.write(alloc, name, &made.image) {
-        Ok(()) => end_with(out, made.lines.as_slice(), Status::Done),
-        Err(ShelfFault::NoMemory) => Status::NoMemory,
-        Err(ShelfFault::Failed | ShelfFault::TooLong) => Status::WriteFault,
-    }
+    let Ok(name) = name.clone() else {
+        return Status::NoMemory;
+    };
+    let bytes = made.image;
+    let files = [NewFile { name, bytes }];
+    deliver(alloc, &files, made.lines.as_slice(), shelf, out)
 }

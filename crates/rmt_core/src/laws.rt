@@ -1,6 +1,6 @@
 //! What holds of what the commands give.
 
-ghost use Rattle.rmt_core.specs.Headline.{GivesAlways, GivesOne, ImproveHasNoMoreStages, IsComplete, OneTryIsCompile, RefusesAsCompile, SimPrintsPlain};
+ghost use Rattle.rmt_core.specs.Headline.{GivesAlways, GivesOne, ImproveHasNoMoreStages, IsComplete, LeavesFiles, OneTryIsCompile, RefusesAsCompile, SimPrintsPlain};
 ghost use Rattle.rmt_core.specs.Sampling.{SampleIsMeant};
 
 use rmt_check::laws::one_meaning;
@@ -22,6 +22,12 @@ pub fn gives_always()
     one_meaning();
     lists_or_fault();
 }
+
+/// A command that writes no more than one file leaves all files as they are where it ends for want of memory or by a fault of
+/// reading.
+pub fn leaves_files()
+    ensures { LeavesFiles }
+{}
 
 /// Where the files are as they must be, a command gives `Done`.
 pub fn is_complete()

@@ -23,12 +23,14 @@ pub mod running;
 pub mod sampling;
 mod simulating;
 pub mod status;
+pub mod switching;
 mod telling;
 mod texts;
 pub mod top;
 mod vectors;
 mod waiting;
 mod watch;
+mod writing;
 
 pub use made_lines::compile_lines;
 pub use running::run_chip;

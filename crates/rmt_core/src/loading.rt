@@ -14,6 +14,10 @@ pub const PROGRAM_LIMIT: u64 = 1_048_576;
 pub const ENTRIES_LIMIT: u64 = 67_108_864;
 /// How many bytes an image may have.
 pub const IMAGE_LIMIT: u64 = 268_435_456;
+/// How many bytes a group text may have.
+pub const GROUPS_LIMIT: u64 = 1_048_576;
+/// How many bytes a capture file may have.
+pub const CAPTURE_LIMIT: u64 = 16_777_216;
 /// How many bytes a packet text may have: a terabyte.
 pub const PACKETS_LIMIT: u64 = 1_099_511_627_776;
 

@@ -2,7 +2,7 @@
 
 ghost use Rattle.std.specs.Prelude.{◌≡◌, ◌⊎◌, IfOk, string_bytes};
 ghost use Rattle.rmt_config.specs.Limits.{IsWithinLimits};
-ghost use Rattle.rmt_io.specs.Outside.{ShelfState};
+ghost use Rattle.rmt_io.specs.Outside.{ShelfState, GainedNone};
 ghost use Rattle.rmt_core.specs.Commands.{IsPossible, Report};
 ghost use Rattle.rmt_core.specs.Ends.{ReadsAndPrints, outside};
 ghost use Rattle.rmt_core.specs.Given.{told};
@@ -31,6 +31,8 @@ pub fn report<F: Shelf, O: Sink>(
     ensures call { ReadsAndPrints (outside (F.state shelf.old) (O.state out.old))
         (outside (F.state shelf.new) (O.state out.new))
         (λ files. GivesReport files (string_bytes image.now)) result }
+    ensures quiet { (result ≡ Status.NoMemory) ⊎ (result ≡ Status.ReadFault)
+        ⊎ (result ≡ Status.TooLong) → GainedNone (O.state out.old) (O.state out.new) }
 {
     match read_file(alloc, image, IMAGE_LIMIT, shelf) {
         Ok(bytes) => report_bytes(alloc, bytes.as_slice(), out),
@@ -46,6 +48,8 @@ fn report_bytes<O: Sink>(alloc: Global, bytes: &[u8], out: &mut O) -> Status
         ReadsAndPrints (outside shelf (O.state out.old)) (outside shelf (O.state out.new))
         (λ files. Spelled files bytes.now
         (λ c g. g ≡ told files Status.Done (report_line c))) result }
+    ensures quiet { (result ≡ Status.NoMemory) ⊎ (result ≡ Status.ReadFault)
+        ⊎ (result ≡ Status.TooLong) → GainedNone (O.state out.old) (O.state out.new) }
 {
     match read_image(alloc, bytes) {
         Ok(config) => tell(use_line(alloc, &config), Status::Done, out),

@@ -4,7 +4,7 @@ ghost use Rattle.std.specs.Prelude.{◌≡◌, ◌≤◌, [], IsTrue};
 ghost use Rattle.rmt_packets.specs.PacketText.{packets_of};
 ghost use Rattle.rmt_config.specs.declared.config.Config.{Config};
 ghost use Rattle.rmt_config.specs.ChipRun.{inputs_of};
-ghost use Rattle.rmt_chip.specs.Stands.{Stands};
+ghost use Rattle.rmt_chip.specs.PacketRuns.{StandsFor as Stands};
 ghost use Rattle.rmt_io.specs.Outside.{ReadingFailed, OnlyRead, PrintingFailed, OnlyPrinted};
 ghost use Rattle.rmt_core.specs.Commands.{IsRunStatus};
 ghost use Rattle.rmt_core.specs.Runs.{Runs};

@@ -6,7 +6,7 @@ ghost use Rattle.rmt_ast.specs.WellFormed.{IsProgram};
 ghost use Rattle.rmt_config.specs.Form.{Formed};
 ghost use Rattle.rmt_config.specs.Limits.{IsWithinLimits};
 ghost use Rattle.rmt_sample.specs.Texts.{entries_text, packets_text, program_text};
-ghost use Rattle.rmt_io.specs.Outside.{ShelfState, PrintingFailed, OnlyPrinted};
+ghost use Rattle.rmt_io.specs.Outside.{ShelfState, GainedNone, PrintingFailed, OnlyPrinted};
 ghost use Rattle.rmt_core.specs.Commands.{IsPossible, Sample as SampleOf};
 ghost use Rattle.rmt_core.specs.Compiling.{Builds};
 ghost use Rattle.rmt_core.specs.Ends.{Answered, outside};
@@ -45,6 +45,7 @@ pub fn sample<O: Sink>(alloc: Global, number: u32, out: &mut O) -> Status
     ensures answered { (shelf : ShelfState) →
         Answered (outside shelf (O.state out.old)) (outside shelf (O.state out.new))
         (GivesSample shelf.files number) result }
+    ensures quiet { result ≡ Status.NoMemory → GainedNone (O.state out.old) (O.state out.new) }
     ensures write_fault { result ≡ Status.WriteFault →
         PrintingFailed (O.state out.old) (O.state out.new) }
     ensures only_printed { OnlyPrinted (O.state out.old) (O.state out.new) }
@@ -67,6 +68,7 @@ fn sample_texts<O: Sink>(alloc: Global, number: u32, texts: &Sample, out: &mut O
     ensures answered { (shelf : ShelfState) →
         Answered (outside shelf (O.state out.old)) (outside shelf (O.state out.new))
         (GivesSample shelf.files number) result }
+    ensures quiet { result ≡ Status.NoMemory → GainedNone (O.state out.old) (O.state out.new) }
     ensures write_fault { result ≡ Status.WriteFault →
         PrintingFailed (O.state out.old) (O.state out.new) }
     ensures only_printed { OnlyPrinted (O.state out.old) (O.state out.new) }
@@ -99,6 +101,7 @@ fn sample_meant<O: Sink>(
         (Builds Placer.ByRule shelf.files
         (λ image c b. told shelf.files Status.Done
         (sample_line number meant.now.program meant.now.entries c)) meant.now.program meant.now.entries) result }
+    ensures quiet { result ≡ Status.NoMemory → GainedNone (O.state out.old) (O.state out.new) }
     ensures write_fault { result ≡ Status.WriteFault →
         PrintingFailed (O.state out.old) (O.state out.new) }
     ensures only_printed { OnlyPrinted (O.state out.old) (O.state out.new) }

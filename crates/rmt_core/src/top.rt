@@ -2,7 +2,7 @@
 
 ghost use Rattle.std.specs.Prelude.{◌≡◌, ◌⊎◌, ◌↔◌, None, IsTrue};
 ghost use Rattle.rmt_io.specs.Outside.{ReadingFailed, WritingFailed, GainedNone, PrintingFailed, OnlyPrinted};
-ghost use Rattle.rmt_core.specs.Commands.{IfCommand, IsPossible, WritesImage, command_of, words_of};
+ghost use Rattle.rmt_core.specs.Commands.{IfCommand, IsPossible, PrintsAtEnd, ReadsNone, WritesFiles, command_of, words_of};
 ghost use Rattle.rmt_core.specs.Ends.{Answered, outside};
 ghost use Rattle.rmt_core.specs.Gives.{Gives};
 
@@ -14,6 +14,7 @@ use crate::reporting::report;
 use crate::sampling::sample;
 use crate::simulating::simulate;
 use crate::status::Status;
+use crate::switching::switch;
 use crate::watch::Watch;
 use rmt_io::shelf::Shelf;
 use rmt_io::sink::Sink;
@@ -41,19 +42,26 @@ pub fn rmt<F: Shelf, O: Sink>(
         let before = outside (F.state shelf.old) (O.state out.old) in
         let after = outside (F.state shelf.new) (O.state out.new) in
         Answered before after (Gives before.shelf.files command) result) }
-    // What writes an image has read its files, and has the image and its lines, before it writes or prints anything.
-    ensures image_quiet { (result ≡ Status.NoMemory) ⊎ (result ≡ Status.ReadFault)
-        ⊎ (result ≡ Status.TooLong) → IfCommand (command_of (words_of words.now.items)) WritesImage →
+    // What reads no file does so over any shelf.
+    ensures alone { IfCommand (command_of (words_of words.now.items)) (λ command.
+        let before = outside (F.state shelf.old) (O.state out.old) in
+        let after = outside (F.state shelf.new) (O.state out.new) in
+        ReadsNone command → Answered before after (Gives before.shelf.files command) result) }
+    // What runs no packets of a file has all that it prints, and has written its files, before it prints anything.
+    ensures quiet { (result ≡ Status.NoMemory) ⊎ (result ≡ Status.ReadFault)
+        ⊎ (result ≡ Status.TooLong) → IfCommand (command_of (words_of words.now.items)) PrintsAtEnd →
         GainedNone (O.state out.old) (O.state out.new) }
-    // Faults of the outside come only where a count rose in this call; a steady shelf has none of writing.
+    // Faults of the outside come only where a count rose in this call; a steady shelf has none of writing. Where a file was
+    // not written, nothing was printed.
     ensures read_fault { result ≡ Status.ReadFault →
         ReadingFailed (F.state shelf.old) (F.state shelf.new) }
     ensures write_fault { result ≡ Status.WriteFault →
-        WritingFailed (F.state shelf.old) (F.state shelf.new)
+        (WritingFailed (F.state shelf.old) (F.state shelf.new)
+        × GainedNone (O.state out.old) (O.state out.new))
         ⊎ PrintingFailed (O.state out.old) (O.state out.new) }
-    // Only what writes an image writes a file, so with any other command the sink failed.
+    // With a command that writes no file the sink failed.
     ensures sink_fault { result ≡ Status.WriteFault →
-        (IfCommand (command_of (words_of words.now.items)) WritesImage → ⊥) →
+        (IfCommand (command_of (words_of words.now.items)) WritesFiles → ⊥) →
         PrintingFailed (O.state out.old) (O.state out.new) }
     ensures steady_write { result ≡ Status.WriteFault → IsTrue (F.state shelf.old).steady →
         PrintingFailed (O.state out.old) (O.state out.new) }
@@ -91,6 +99,7 @@ pub fn rmt<F: Shelf, O: Sink>(
         } => plain(alloc, program, entries, packets, shelf, out),
         Command::Report { image } => report(alloc, image, shelf, out),
         Command::Sample { number } => sample(alloc, number, out),
+        Command::Switch { names, every } => switch(alloc, names, every, shelf, out),
         Command::Unknown => Status::Usage,
     }
 }

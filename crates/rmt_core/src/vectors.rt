@@ -4,7 +4,7 @@ ghost use Rattle.std.specs.Prelude.{◌≡◌, ℕ, ◌+◌, ◌-◌, ◌<◌, �
 ghost use Rattle.rmt_bits.specs.Packet.{Packet};
 ghost use Rattle.rmt_config.specs.declared.config.Config.{Config};
 ghost use Rattle.rmt_config.specs.ChipRun.{latency_of, number_at, packet_at};
-ghost use Rattle.rmt_chip.specs.Stands.{Stands};
+ghost use Rattle.rmt_chip.specs.PacketRuns.{StandsFor as Stands};
 ghost use Rattle.rmt_core.specs.ProbeText.{hex_text, word_text, words_below, vector_line, packet_line, lines_below};
 
 use rmt_bits::lane::word_size;

@@ -10,6 +10,12 @@ pub enum Role {
     /// An image that is written.
     Written,
     Packets,
+    /// A group text.
+    Groups,
+    /// A capture that is read.
+    Capture,
+    /// What the names of the captures that are written begin with.
+    Prefix,
     /// A word that names no file.
     Number,
 }
@@ -28,7 +34,7 @@ pub struct Form {
 }
 
 /// The commands, in the order of the help.
-pub const FORMS: [Form; 7] = [
+pub const FORMS: [Form; 8] = [
     Form {
         name: "compile",
         operands: &["PROGRAM", "ENTRIES", "IMAGE"],
@@ -71,6 +77,18 @@ pub const FORMS: [Form; 7] = [
         roles: &[Role::Number],
         purpose: "make a large program with N entries a table, and run it",
     },
+    Form {
+        name: "switch",
+        operands: &["IMAGE", "GROUPS", "CAPTURE", "OUT", "EVERY"],
+        roles: &[
+            Role::Image,
+            Role::Groups,
+            Role::Capture,
+            Role::Prefix,
+            Role::Number,
+        ],
+        purpose: "send the frames of a capture to ports, and write OUT.P.pcap of each port P",
+    },
 ];
 
 /// The command of a name.
@@ -106,7 +124,9 @@ pub fn limit_of(role: Role) -> Option<u64> {
         Role::Entries => Some(67_108_864),
         Role::Image => Some(268_435_456),
         Role::Packets => Some(1_099_511_627_776),
-        Role::Written | Role::Number => None,
+        Role::Groups => Some(1_048_576),
+        Role::Capture => Some(16_777_216),
+        Role::Written | Role::Prefix | Role::Number => None,
     }
 }
 
@@ -117,6 +137,8 @@ pub fn role_name(role: Role) -> &'static str {
         Role::Entries => "an entry text",
         Role::Image | Role::Written => "an image",
         Role::Packets => "a packet text",
+        Role::Groups => "a group text",
+        Role::Capture | Role::Prefix => "a capture",
         Role::Number => "a number",
     }
 }

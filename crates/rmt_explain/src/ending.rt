@@ -31,7 +31,7 @@ pub struct FileFault<'f> {
 pub struct Texts<'p, 'e, 'k> {
     /// The program's text.
     pub program: Option<&'p [u8]>,
-    /// The entries' text.
+    /// The entries' text, or the group text of `switch`.
     pub entries: Option<&'e [u8]>,
     /// The first bytes of the packet line that the last line names; the whole text may be too long to be held.
     pub packet_line: Option<&'k [u8]>,
@@ -64,7 +64,10 @@ impl<'w, 'l> Ending<'w, 'l, '_> {
         let is_quoted = match self.status {
             status::DONE => role == Role::Program && self.keeps_program(),
             status::BAD_PROGRAM => role == Role::Program,
-            status::BAD_ENTRIES | status::NO_FIT => role == Role::Program || role == Role::Entries,
+            status::BAD_ENTRIES => {
+                role == Role::Program || role == Role::Entries || role == Role::Groups
+            }
+            status::NO_FIT => role == Role::Program || role == Role::Entries,
             status::BAD_PACKETS => role == Role::Packets,
             _ => false,
         };

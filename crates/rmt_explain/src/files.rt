@@ -28,6 +28,9 @@ pub fn explain_write(ending: &Ending, message: &mut Message) {
             message.say(" can't be written: ");
             message.say(reason(fault.kind));
             message.say("; what it holds now is not known");
+            if word_of(ending.words, Role::Prefix).is_some() {
+                message.say(", and the captures of lower ports stand whole");
+            }
         }
         None => explain_output(ending, message),
     }
@@ -37,6 +40,9 @@ pub fn explain_write(ending: &Ending, message: &mut Message) {
 /// Tells that standard output can't be written, and what stands nevertheless.
 fn explain_output(ending: &Ending, message: &mut Message) {
     message.say("standard output can't be written");
+    if word_of(ending.words, Role::Prefix).is_some() {
+        message.say(", or a capture; captures that were written stand whole");
+    }
     if let Some(at) = word_of(ending.words, Role::Written) {
         if let Some(image) = ending.words.get(at) {
             message.say(", or ");

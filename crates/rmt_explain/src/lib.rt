@@ -3,6 +3,7 @@
 #![tactic(auto)]
 
 mod arguments;
+mod captures;
 pub mod commands;
 pub mod ending;
 mod entries;
@@ -10,6 +11,7 @@ mod fields;
 mod files;
 mod grammar;
 mod grammar_rows;
+mod groups;
 mod images;
 mod keys;
 mod last_line;

@@ -2,9 +2,12 @@
 
 ghost use Rattle.std.specs.Prelude.{◌≤◌, length, IfOk};
 
+use crate::captures::explain_capture;
+use crate::commands::{Role, word_of};
 use crate::ending::{Ending, Texts, status};
 use crate::entries::explain_entries;
 use crate::files::{explain_read, explain_too_long, explain_write};
+use crate::groups::explain_groups;
 use crate::images::explain_image;
 use crate::memory::explain_memory;
 use crate::message::Message;
@@ -30,13 +33,24 @@ pub fn explain(alloc: Global, ending: &Ending, texts: &Texts) -> Result<Vec<u8>,
         status::READ_FAULT => explain_read(ending, &mut message),
         status::WRITE_FAULT => explain_write(ending, &mut message),
         status::BAD_PROGRAM => explain_program(alloc, ending, texts, &mut message),
+        status::BAD_ENTRIES if has_word(ending, Role::Groups) => {
+            explain_groups(ending, texts, &mut message);
+        }
         status::BAD_ENTRIES => explain_entries(alloc, ending, texts, &mut message),
         status::NO_FIT => explain_no_fit(alloc, ending, texts, &mut message),
+        status::BAD_PACKETS if has_word(ending, Role::Capture) => {
+            explain_capture(ending, &mut message);
+        }
         status::BAD_PACKETS => explain_packets(ending, texts, &mut message),
         status::BAD_IMAGE => explain_image(ending, &mut message),
         status::TOO_LONG => explain_too_long(ending, &mut message),
-        status::NO_MEMORY => explain_memory(&mut message),
+        status::NO_MEMORY => explain_memory(ending, &mut message),
         _ => {}
     }
     message.finish()
+}
+
+/// Whether a word of the command names the file of a role.
+fn has_word(ending: &Ending, role: Role) -> bool {
+    word_of(ending.words, role).is_some()
 }

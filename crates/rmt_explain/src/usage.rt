@@ -8,10 +8,10 @@ const HELP: [&str; 3] = ["help", "--help", "-h"];
 
 /// What stands behind the forms of the commands in the whole help.
 const NOTES: [&str; 13] = [
-    "A file name is any word. BUDGET is a number from 1 to 1,000, CYCLE 1 to 9 decimal digits, and",
-    "N a number from 1 to 100,000.",
+    "A file name is any word. BUDGET is a number from 1 to 1,000, CYCLE 1 to 9 decimal digits,",
+    "N a number from 1 to 100,000, and EVERY one from 1 to 999,999.",
     "A program has at most 1,048,576 bytes, an entry text 67,108,864, an image 268,435,456,",
-    "a packet text 1,099,511,627,776.",
+    "a packet text 1,099,511,627,776, a group text 1,048,576, and a capture 16,777,216.",
     "",
     "Results go to standard output, and messages like this one to standard error.",
     "Exit status: 0 done, 1 no command, 2 a file can't be read, 3 a file or the output can't be",
@@ -139,6 +139,7 @@ fn explain_number(form: &Form, words: &[String], message: &mut Message) {
         message.say(match form.name {
             "improve" => " is no BUDGET: a number from 1 to 1,000 is wanted, in decimal digits\n",
             "probe" => " is no CYCLE: 1 to 9 decimal digits are wanted\n",
+            "switch" => " is no EVERY: a number from 1 to 999,999 is wanted, in decimal digits\n",
             _ => " is no N: a number from 1 to 100,000 is wanted, in decimal digits\n",
         });
     }

@@ -16,7 +16,7 @@ use std::fs::File;
 use std::io::ErrorKind;
 use std::rt::Files;
 
-/// A refusal of the machine: the name of the file that was asked for, and why.
+/// A refusal of the machine, or a file that is longer than its limit: the name of the file that was asked for, and why.
 #[derive(Debug, Drop)]
 pub struct MachineFault {
     pub name: String,
@@ -53,7 +53,8 @@ impl<'a, R: Files> TrueShelf<'a, R> {
         }
     }
 
-    /// The file and the reason of the last fault, where there was memory to keep them.
+    /// The file and the reason of the last fault, where there was memory to keep them; of a file that was longer than the
+    /// limit of its reader the reason is `FileTooLarge`.
     pub fn last_fault(&self) -> Option<&MachineFault>
         ensures { option_copied result ≡ self.now.last }
     {
@@ -153,6 +154,9 @@ impl<'a, R: Files> TrueShelf<'a, R> {
             (file : R.File) × IfSome (R.File.remaining file) (λ bytes. limit < length bytes) }
         ensures within { OnOk result (length into.new.items ≤ limit) }
         ensures emptied { OnErr result (into.new.items ≡ []) }
+        // Of a file that is longer than the limit the name is kept, as of one that the system finds too large.
+        ensures long_kept { IsErrOf result ShelfFault.TooLong →
+            IsFaultOf (string_bytes name.now) ErrorKind.FileTooLarge self.new.last }
 
         // A fault is counted, and its name is kept.
         ensures counted { IsErrOf result ShelfFault.Failed → Rose self.old.reading self.new.reading }
@@ -164,7 +168,10 @@ impl<'a, R: Files> TrueShelf<'a, R> {
         self.opened = None;
         match read_opened(File::open(self.rt, name.as_str()), limit, into) {
             Ok(()) => Ok(()),
-            Err(ReadFault::TooLong) => Err(ShelfFault::TooLong),
+            Err(ReadFault::TooLong) => {
+                self.keep_fault(name, ErrorKind::FileTooLarge);
+                Err(ShelfFault::TooLong)
+            }
             Err(ReadFault::Refused(kind)) => Err(self.reading_fault(name, kind)),
         }
     }

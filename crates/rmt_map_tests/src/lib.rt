@@ -12,6 +12,8 @@ mod joins;
 #[cfg(test)]
 mod layouts;
 #[cfg(test)]
+mod maps;
+#[cfg(test)]
 mod memories;
 #[cfg(test)]
 mod packing;
@@ -19,3 +21,5 @@ mod packing;
 mod parsers;
 #[cfg(test)]
 mod running;
+#[cfg(test)]
+mod verifying;

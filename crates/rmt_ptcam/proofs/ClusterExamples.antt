@@ -11,11 +11,11 @@ use Rattle.rmt_config.specs.declared.config.Next.TheVariants as next
 use Rattle.rmt_config.specs.Parser.{parse, Short}
 use Rattle.rmt_config.specs.ParserForm.{parser_is_formed}
 use Rattle.rmt_ptcam.specs.Plain.{plain}
-use Rattle.rmt_ptcam.specs.Joining.{join_of, can_join, joined_entry, together, widened_entry}
+use Rattle.rmt_ptcam.specs.Joining.{join_named, join_of, can_join, joined_entry, together, widened_entry}
 use Rattle.rmt_ptcam.specs.ByteTests.{ByteTest, joined_tests, tests_of}
 use Rattle.rmt_ptcam.specs.Words.{byte_at, spread}
 use Rattle.rmt_ptcam.specs.Clustering.{arrivals, clustered, with_next}
-use Rattle.rmt_ptcam.specs.Joins.{join_named, joins as joins_told, replayed}
+use Rattle.rmt_ptcam.specs.Joins.{joins as joins_told, replayed}
 
 abbrev lane : ℕ → ℕ → ℕ → Lane
 lane word low len = record { word = word; low = low; len = len }

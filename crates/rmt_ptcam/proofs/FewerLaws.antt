@@ -1,9 +1,9 @@
 -- The clustered parser has no more entries than the plain one.
-use Rattle.std.proofs.Common.{◌≡◌, ◌⊎◌, ◌&&◌, not, cond, eqb, nat_lt, Bool, true, false, ℕ, zero, suc, ◌+◌, ◌<◌, ◌≤◌, List, [], ◌∷◌, ◌++◌, length, map, take, drop, fold, reverse, Option, Some, None, refl, sym, ap, subst, ◌∙◌, append_assoc, inl, inr, arith}
+use Rattle.std.proofs.Common.{◌≡◌, ◌⊎◌, ◌&&◌, not, cond, eqb, nat_lt, Bool, true, false, ℕ, zero, suc, ◌+◌, ◌<◌, ◌≤◌, List, [], ◌∷◌, ◌++◌, length, map, take, drop, fold, Option, Some, None, refl, sym, ap, subst, ◌∙◌, append_assoc, inl, inr, arith}
 use Rattle.std.specs.Prelude.{◌||◌, ◌==◌, All, option_map, slice_get}
-use Rattle.std.specs.List.{filter, flat_map, range_with_len}
+use Rattle.std.specs.List.{filter, flat_map}
 use Rattle.std.proofs.lemmas.Bool.{cases_eq, and_from, and_parts, eqb-true, eq-eqb, lt-ltb, ltb-true, ne_eqb, or_cases, or_left, or_right, le-ltb, not-true}
-use Rattle.std.proofs.lemmas.List.{append-nil, length-append, length-map, length-take-le, reverse-append, take_all, map-append, take-map, drop-map, take_at, drop_at}
+use Rattle.std.proofs.lemmas.List.{append-nil, length-append, length-map, length-take-le, take_all, map-append, take-map, drop-map, take_at, drop_at}
 use Rattle.std.proofs.lemmas.List.Elements.{All-nil, All-cons, All-append, All-head, All-map, All-tail, All-weaker, filter-append}
 use Rattle.std.proofs.lemmas.Option.{slice_get-map, slice_get_within}
 use Rattle.rmt_ptcam.specs.Types.{Program, Header, Case, Target, ParserConfig, ParserEntry, Next}
@@ -11,9 +11,10 @@ use Rattle.rmt_ast.specs.declared.program.Target.TheVariants as target
 use Rattle.rmt_config.specs.declared.config.Next.TheVariants as next
 use Rattle.std.proofs.lemmas.Option.{same_Some}
 use Rattle.rmt_bits.specs.declared.lane.Lane.{Lane}
-use Rattle.rmt_bits.proofs.ListLaws.{range_more, slice_get-end, slice_get-item, take-slice_get}
-use Rattle.rmt_ptcam.specs.Joining.{KeepsForm, Row, can_join, entries_in, is_among, join_at, join_to, joined, joined_row, lookups_at, number_of_entry, rows_in, rows_of, together, widened, widened_entry}
-use Rattle.rmt_ptcam.specs.Clustering.{Clustering, all_joined, arrivals, behind_join, clustered, compact, is_met, is_wanted, one_entry, one_header, renamed, some_entries, targets_of, with_next}
+use Rattle.rmt_bits.proofs.ListLaws.{slice_get-end, slice_get-item, take-slice_get}
+use Rattle.rmt_ptcam.specs.declared.joins.Join.{Join}
+use Rattle.rmt_ptcam.specs.Joining.{KeepsForm, Row, can_join, entries_in, entries_to, entry_named, is_among, join_at, join_named, join_to, joined, joined_row, lookups_at, number_of_entry, rows_in, rows_of, together, widened, widened_entry}
+use Rattle.rmt_ptcam.specs.Clustering.{Clustering, all_joined, arrivals, behind_join, clustered, compact, is_met, is_wanted, next_entry, one_entry, one_header, renamed, some_entries, some_headers, targets_of, unjoined, with_next}
 use Rattle.rmt_ptcam.proofs.CompactLaws.{among_next, state_behind}
 use Rattle.rmt_ptcam.proofs.FormedRows.{entries_of_rows, split_at}
 use Rattle.rmt_ptcam.proofs.AddingLaws.{filter_short}
@@ -23,7 +24,7 @@ use Rattle.rmt_ptcam.proofs.JoinedParse.{next_there}
 use Rattle.rmt_ptcam.specs.Clustering.{goes_to}
 use Rattle.rmt_ptcam.specs.Plain.{entries_from, entries_of, entry_of_case, entry_to, next_of, plain}
 use Rattle.std.proofs.lemmas.Simd.{map-map}
-use Rattle.rmt_bits.proofs.AlikeLaws.{filter_none}
+use Rattle.rmt_bits.proofs.AlikeLaws.{filter_all, filter_none}
 
 -- ---- how many items pass
 
@@ -328,7 +329,7 @@ pub record IsRunning (before own behind : ℕ → ℕ) (limit n : ℕ) (fore : L
   pub done : List (ℕ × Next)
   pub back : List (ℕ × Next)
   pub split : shapes c.parser ≡ fore ++ (done ++ (map (own_shape n) ts ++ back))
-  pub at : c.at ≡ length fore + length done
+  pub reached : c.behind ≡ length done
   pub front_low : All (λ (x : ℕ × Next). x.0 < n) fore
   pub done_own : All (λ (x : ℕ × Next). x.0 ≡ n) done
   pub back_high : All (λ (x : ℕ × Next). n < x.0) back
@@ -342,6 +343,17 @@ leads_target : (m : ℕ) (t : Target) → leads m (next_of t) ≡ goes_to m t
 leads_target m target.Accept = refl
 leads_target m target.Reject = refl
 leads_target m (target.Node k) = refl
+
+-- the entries of states before this one are those that stand before
+low_many : (parser : ParserConfig) (n : ℕ) (fore back : List (ℕ × Next)) → shapes parser ≡ fore ++ back → All (λ (x : ℕ × Next). x.0 < n) fore → All (λ (x : ℕ × Next). n ≤ x.0) back
+    → length (filter (λ (e : ParserEntry). nat_lt e.state n) parser.entries) ≡ length fore
+low_many parser n fore back split low high =
+    let q : ℕ × Next → Bool = λ x. nat_lt x.0 n in
+    let a : count q (shapes parser) ≡ count q fore + count q back = ap (count q) split ∙ count-append q fore back in
+    let b : count q (shapes parser) ≡ length (filter (λ (e : ParserEntry). nat_lt e.state n) parser.entries) = count_map q shape parser.entries in
+    let c = count_all q fore (All-weaker (λ (x : ℕ × Next). x.0 < n) (λ (x : ℕ × Next). q x ≡ true) (λ (x : ℕ × Next) lt. lt-ltb x.0 n lt) fore low) in
+    let d = count_none q back (All-weaker (λ (x : ℕ × Next). n ≤ x.0) (λ (x : ℕ × Next). q x ≡ false) (λ (x : ℕ × Next) le. le-ltb x.0 n le) back high) in
+    omega (arith, a, b, c, d)
 
 module _ (p : Program) (before own behind : ℕ → ℕ) (sides : Sides p before own behind) (limit n : ℕ) (fore : List (ℕ × Next)) (t : Target) (ts : List Target) (c : Clustering) (is : IsRunning before own behind limit n fore (t ∷ ts) c) where
   abbrev rest : List (ℕ × Next)
@@ -357,24 +369,53 @@ module _ (p : Program) (before own behind : ℕ → ℕ) (sides : Sides p before
   split_here : shapes c.parser ≡ ahead ++ (x ∷ (rest ++ is.back))
   split_here = is.split ∙ sym (append_assoc fore is.done (x ∷ (rest ++ is.back)))
 
-  long_ahead : length ahead ≡ c.at
-  long_ahead = length-append fore is.done ∙ sym is.at
+  -- its join, and its number among all
+  abbrev own_join : Join
+  own_join = record { state = n; entry = c.behind }
 
-  entry_here : (o : Option ParserEntry) → slice_get c.parser.entries c.at ≡ o → option_map shape o ≡ Some x
+  abbrev at : ℕ
+  at = number_of_entry c.parser.entries n c.behind
+
+  long_ahead : length ahead ≡ at
+  long_ahead =
+      let own_high : All (λ (y : ℕ × Next). n ≤ y.0) (is.done ++ (x ∷ (rest ++ is.back))) =
+      All-append (λ (y : ℕ × Next). n ≤ y.0) is.done (x ∷ (rest ++ is.back)) (All-weaker (λ (y : ℕ × Next). y.0 ≡ n) (λ (y : ℕ × Next). n ≤ y.0) (λ (y : ℕ × Next) same. omega (arith, same)) is.done is.done_own)
+      (All-append (λ (y : ℕ × Next). n ≤ y.0) (x ∷ rest) is.back (All-map (λ (y : ℕ × Next). n ≤ y.0) (own_shape n) (t ∷ ts) (λ k d lt. omega arith))
+      (All-weaker (λ (y : ℕ × Next). n < y.0) (λ (y : ℕ × Next). n ≤ y.0) (λ (y : ℕ × Next) lt. omega (arith, lt)) is.back is.back_high)) in
+      let low = low_many c.parser n fore (is.done ++ (x ∷ (rest ++ is.back))) is.split is.front_low own_high in
+      let long = length-append fore is.done in
+      let done = is.reached in
+      omega (arith, low, long, done)
+
+  entry_here : (o : Option ParserEntry) → slice_get c.parser.entries at ≡ o → option_map shape o ≡ Some x
   entry_here o found =
-      let same : c.at ≡ length ahead + 0 = let a = long_ahead in omega (arith, a) in
-      ap (option_map shape) (sym found) ∙ sym (slice_get-map shape c.parser.entries c.at) ∙ ap (λ l. slice_get l c.at) split_here ∙ ap (slice_get (ahead ++ (x ∷ (rest ++ is.back)))) same
+      let same : at ≡ length ahead + 0 = let a = long_ahead in omega (arith, a) in
+      ap (option_map shape) (sym found) ∙ sym (slice_get-map shape c.parser.entries at) ∙ ap (λ l. slice_get l at) split_here ∙ ap (slice_get (ahead ++ (x ∷ (rest ++ is.back)))) same
       ∙ slice_get-end ahead (x ∷ (rest ++ is.back)) 0
 
+  own_here : (o : Option ParserEntry) → entry_named c.parser own_join ≡ o → option_map shape o ≡ Some x
+  own_here o found =
+      let q : ℕ × Next → Bool = λ y. eqb y.0 n in
+      let later : List (ℕ × Next) = rest ++ is.back in
+      let none : filter q fore ≡ [] = filter_none q fore (All-weaker (λ (y : ℕ × Next). y.0 < n) (λ (y : ℕ × Next). q y ≡ false) (λ (y : ℕ × Next) lt. ne_eqb y.0 n (λ e. omega (arith, lt, e))) fore is.front_low) in
+      let done : filter q is.done ≡ is.done = filter_all q is.done (All-weaker (λ (y : ℕ × Next). y.0 ≡ n) (λ (y : ℕ × Next). q y ≡ true) (λ (y : ℕ × Next) same. eq-eqb y.0 n same) is.done is.done_own) in
+      let first : filter q (x ∷ later) ≡ x ∷ filter q later = ap (λ b. cond b (x ∷ filter q later) (filter q later)) (eq-eqb n n refl) in
+      let split : filter q (shapes c.parser) ≡ is.done ++ (x ∷ filter q later) =
+      ap (filter q) is.split ∙ filter-append q fore (is.done ++ (x ∷ later)) ∙ ap (λ l. l ++ filter q (is.done ++ (x ∷ later))) none
+      ∙ filter-append q is.done (x ∷ later) ∙ ap (λ l. l ++ filter q (x ∷ later)) done ∙ ap (λ l. is.done ++ l) first in
+      let place : c.behind ≡ length is.done + 0 = let b = is.reached in omega (arith, b) in
+      ap (option_map shape) (sym found) ∙ sym (slice_get-map shape (entries_in n c.parser.entries) c.behind)
+      ∙ ap (λ l. slice_get l c.behind) (sym (filter_map q shape c.parser.entries) ∙ split) ∙ ap (slice_get (is.done ++ (x ∷ filter q later))) place ∙ slice_get-end is.done (x ∷ filter q later) 0
+
   -- the entry stays
-  stays_so : (d : Clustering) → d ≡ record c { at = c.at + 1 } → IsRunning before own behind limit n fore ts d
+  stays_so : (d : Clustering) → d ≡ record c { behind = c.behind + 1 } → IsRunning before own behind limit n fore ts d
   stays_so d same =
       subst (IsRunning before own behind limit n fore ts) (sym same) (record {
         keeps = is.keeps;
         done = is.done ++ x ∷ [];
         back = is.back;
         split = is.split ∙ ap (λ l. fore ++ l) (sym (append_assoc is.done (x ∷ []) (rest ++ is.back)));
-        at = let a = is.at in let b = length-append is.done (x ∷ []) in omega (arith, a, b);
+        reached = let a = is.reached in let b = length-append is.done (x ∷ []) in omega (arith, a, b);
         front_low = is.front_low;
         done_own = All-append (λ (y : ℕ × Next). y.0 ≡ n) is.done (x ∷ []) is.done_own (All-cons (λ (y : ℕ × Next). y.0 ≡ n) x [] refl (All-nil (λ (y : ℕ × Next). y.0 ≡ n)));
         back_high = is.back_high;
@@ -386,7 +427,7 @@ module _ (p : Program) (before own behind : ℕ → ℕ) (sides : Sides p before
       })
 
   -- and where it is joined
-  module _ (e : ParserEntry) (there : slice_get c.parser.entries c.at ≡ Some e) (m : ℕ) (on : e.next ≡ next.State m) (can : can_join c.parser c.at e m ≡ true) (wanted : is_wanted p c.parser (next.State m) ≡ true) where
+  module _ (e : ParserEntry) (there : slice_get c.parser.entries at ≡ Some e) (m : ℕ) (on : e.next ≡ next.State m) (can : can_join c.parser at e m ≡ true) (wanted : is_wanted p c.parser (next.State m) ≡ true) where
     abbrev tail : List (ℕ × Next)
     tail = rest ++ is.back
 
@@ -399,29 +440,29 @@ module _ (p : Program) (before own behind : ℕ → ℕ) (sides : Sides p before
     next_is : next_of t ≡ next.State m
     next_is = sym (ap (λ (y : ℕ × Next). y.1) shape_is) ∙ on
 
-    may : MayJoin c.parser c.at e m
-    may = may_join c.parser c.at e m can
+    may : MayJoin c.parser at e m
+    may = may_join c.parser at e m can
 
     lower : n < m
-    lower = let later : e.state < m = ltb-true e.state m (next_there c.parser is.keeps c.at e m there on may).1 in omega (arith, later, state_is)
+    lower = let later : e.state < m = ltb-true e.state m (next_there c.parser is.keeps at e m there on may).1 in omega (arith, later, state_is)
 
     as_old : shapes c.parser ≡ old ahead tail n m lower
     as_old = split_here ∙ ap (λ (to : Next). ahead ++ ((n, to) ∷ tail)) next_is
 
     abbrev merged : ParserConfig
-    merged = joined c.parser c.at e m
+    merged = joined c.parser at e m
 
     abbrev mine_of : List (ℕ × Next)
     mine_of = second ahead tail n m lower
 
     as_new : shapes merged ≡ new ahead tail n m lower
     as_new =
-        let tail_is : drop (c.at + 1) (shapes c.parser) ≡ tail =
-        ap (drop (c.at + 1)) (split_here ∙ sym (append_assoc ahead (x ∷ []) tail))
-        ∙ drop_at (ahead ++ x ∷ []) tail (c.at + 1) (length-append ahead (x ∷ []) ∙ ap (λ k. k + 1) long_ahead) in
-        let head_is : take c.at (shapes c.parser) ≡ ahead = ap (take c.at) split_here ∙ take_at ahead (x ∷ tail) c.at long_ahead in
-        join_shapes c.parser c.at e m
-        ∙ ap (λ l. l ++ (map (λ (y : ℕ × Next). (e.state, y.1)) (filter (λ (y : ℕ × Next). eqb y.0 m) (shapes c.parser)) ++ drop (c.at + 1) (shapes c.parser))) head_is
+        let tail_is : drop (at + 1) (shapes c.parser) ≡ tail =
+        ap (drop (at + 1)) (split_here ∙ sym (append_assoc ahead (x ∷ []) tail))
+        ∙ drop_at (ahead ++ x ∷ []) tail (at + 1) (length-append ahead (x ∷ []) ∙ ap (λ k. k + 1) long_ahead) in
+        let head_is : take at (shapes c.parser) ≡ ahead = ap (take at) split_here ∙ take_at ahead (x ∷ tail) at long_ahead in
+        join_shapes c.parser at e m
+        ∙ ap (λ l. l ++ (map (λ (y : ℕ × Next). (e.state, y.1)) (filter (λ (y : ℕ × Next). eqb y.0 m) (shapes c.parser)) ++ drop (at + 1) (shapes c.parser))) head_is
         ∙ ap (λ l. ahead ++ (map (λ (y : ℕ × Next). (e.state, y.1)) (filter (λ (y : ℕ × Next). eqb y.0 m) (shapes c.parser)) ++ l)) tail_is
         ∙ ap (λ l. ahead ++ (map (λ (y : ℕ × Next). (e.state, y.1)) (filter (λ (y : ℕ × Next). eqb y.0 m) l) ++ tail)) as_old
         ∙ ap (λ k. ahead ++ (map (λ (y : ℕ × Next). (k, y.1)) mine_of ++ tail)) state_is
@@ -438,6 +479,10 @@ module _ (p : Program) (before own behind : ℕ → ℕ) (sides : Sides p before
         ∙ ap (λ (b : Bool). cond b ((n, next.State m) ∷ filter p1 tail) (filter p1 tail)) (ne_eqb n m (λ e. (let l = lower in omega (arith, l, e))))
         ∙ filter-append p1 rest is.back ∙ ap (λ l. l ++ filter p1 is.back) own_none
 
+    count_mine : length mine_of ≡ length (entries_in m c.parser.entries)
+    count_mine =
+        ap (λ l. length (filter (λ (y : ℕ × Next). eqb y.0 m) l)) (sym as_old) ∙ ap length (filter_map (λ (y : ℕ × Next). eqb y.0 m) shape c.parser.entries) ∙ length-map (entries_in m c.parser.entries) shape
+
     one_way : edges m (x ∷ rest) ≡ suc (edges m rest)
     one_way = ap (λ (to : Next). length (cond (leads m to) (x ∷ filter (edge m) rest) (filter (edge m) rest))) next_is ∙ ap (λ (b : Bool). length (cond b (x ∷ filter (edge m) rest) (filter (edge m) rest))) (eq-eqb m m refl)
 
@@ -445,9 +490,7 @@ module _ (p : Program) (before own behind : ℕ → ℕ) (sides : Sides p before
     not_more = elim (or_cases (length (entries_in m c.parser.entries) == 1) (arrivals p m == 1) wanted) [
       | inl one ↦
           let count_is : length (entries_in m c.parser.entries) ≡ 1 = eqb-true (length (entries_in m c.parser.entries)) 1 one in
-          let same : length mine_of ≡ length (entries_in m c.parser.entries) =
-          ap (λ l. length (filter (λ (y : ℕ × Next). eqb y.0 m) l)) (sym as_old) ∙ ap length (filter_map (λ (y : ℕ × Next). eqb y.0 m) shape c.parser.entries) ∙ length-map (entries_in m c.parser.entries) shape in
-          less_one ahead tail n m lower (same ∙ count_is)
+          less_one ahead tail n m lower (count_mine ∙ count_is)
       | inr only ↦
           let total : arrivals p m ≡ 1 = eqb-true (arrivals p m) 1 only in
           let sum = sides.sum m in
@@ -464,21 +507,18 @@ module _ (p : Program) (before own behind : ℕ → ℕ) (sides : Sides p before
           less_only ahead tail n m lower (omega (arith, total, sum, a, b, none, d, f, g, h, i))
     ]
 
-    joined_so : IsRunning before own behind limit n fore ts (behind_join c (Some merged))
+    joined_so : IsRunning before own behind limit n fore ts (behind_join c own_join (next_of t) (Some merged))
     joined_so =
         let moved_in : List (ℕ × Next) = map (λ (y : ℕ × Next). (n, y.1)) mine_of in
-        let long_q : length merged.entries ≡ length (new ahead tail n m lower) = sym (length-map merged.entries shape) ∙ ap length as_new in
-        let long_c : length c.parser.entries ≡ length (old ahead tail n m lower) = sym (length-map c.parser.entries shape) ∙ ap length as_old in
-        let a = length-append ahead (moved_in ++ tail) in
-        let b = length-append moved_in tail in
-        let d = length-append ahead ((n, next.State m) ∷ tail) in
+        let stand : length (entries_to c.parser (next_of t)) ≡ length mine_of = ap (λ (to : Next). length (entries_to c.parser to)) next_is ∙ sym count_mine in
+        let moved_long : length moved_in ≡ length mine_of = length-map {B = ℕ × Next} mine_of (λ (y : ℕ × Next). (n, y.1)) in
         let f = length-append is.done moved_in in
         record {
-          keeps = joined_keeps c.parser is.keeps c.at e m there on may;
+          keeps = joined_keeps c.parser is.keeps at e m there on may;
           done = is.done ++ moved_in;
           back = is.back;
           split = as_new ∙ append_assoc fore is.done (moved_in ++ tail) ∙ ap (λ l. fore ++ l) (sym (append_assoc is.done moved_in tail));
-          at = let at = is.at in omega (arith, long_q, long_c, a, b, d, f, at);
+          reached = let done = is.reached in omega (arith, stand, moved_long, f, done);
           front_low = is.front_low;
           done_own = All-append (λ (y : ℕ × Next). y.0 ≡ n) is.done moved_in is.done_own (All-map (λ (y : ℕ × Next). y.0 ≡ n) (λ (y : ℕ × Next). (n, y.1)) mine_of (λ k dd lt. refl));
           back_high = is.back_high;
@@ -498,35 +538,45 @@ module _ (p : Program) (before own behind : ℕ → ℕ) (sides : Sides p before
         }
 
   -- one entry on
-  pub step_on : IsRunning before own behind limit n fore ts (one_entry p c (slice_get c.parser.entries c.at))
-  step_on = by (slice_get c.parser.entries c.at) refl
+  pub step_on : IsRunning before own behind limit n fore ts (next_entry p n c)
+  step_on = by (entry_named c.parser own_join) refl
     where
-      joins : (e : ParserEntry) (m : ℕ) (can : Bool) → slice_get c.parser.entries c.at ≡ Some e → e.next ≡ next.State m → can_join c.parser c.at e m ≡ can → is_wanted p c.parser (next.State m) ≡ true
-          → IsRunning before own behind limit n fore ts (behind_join c (cond can (Some (joined c.parser c.at e m)) None))
-      joins e m true there on can wanted = joined_so e there m on can wanted
-      joins e m false there on can wanted = stays_so (record c { at = c.at + 1 }) refl
+      joins : (e : ParserEntry) (m : ℕ) (can : Bool) → slice_get c.parser.entries at ≡ Some e → e.next ≡ next.State m → can_join c.parser at e m ≡ can → is_wanted p c.parser (next_of t) ≡ true
+          → IsRunning before own behind limit n fore ts (behind_join c own_join (next_of t) (cond can (Some (joined c.parser at e m)) None))
+      joins e m true there on can wanted =
+          let same : next_of t ≡ next.State m = sym (ap (λ (y : ℕ × Next). y.1) (same_Some (shape e) x (entry_here (Some e) there))) ∙ on in
+          joined_so e there m on can (ap (is_wanted p c.parser) (sym same) ∙ wanted)
+      joins e m false there on can wanted = stays_so (record c { behind = c.behind + 1 }) refl
 
-      goes : (e : ParserEntry) (to : Next) → slice_get c.parser.entries c.at ≡ Some e → e.next ≡ to → is_wanted p c.parser to ≡ true → IsRunning before own behind limit n fore ts (behind_join c (join_to c.parser c.at e to))
-      goes e next.Accept there on wanted = absurd cc
-      goes e next.Reject there on wanted = absurd cc
-      goes e (next.State m) there on wanted = joins e m (can_join c.parser c.at e m) there on refl wanted
+      goes : (e : ParserEntry) (to : Next) → slice_get c.parser.entries at ≡ Some e → e.next ≡ to → is_wanted p c.parser (next_of t) ≡ true
+          → IsRunning before own behind limit n fore ts (behind_join c own_join (next_of t) (join_to c.parser at e to))
+      goes e next.Accept there on wanted = stays_so (record c { behind = c.behind + 1 }) refl
+      goes e next.Reject there on wanted = stays_so (record c { behind = c.behind + 1 }) refl
+      goes e (next.State m) there on wanted = joins e m (can_join c.parser at e m) there on refl wanted
 
-      chosen : (e : ParserEntry) (b : Bool) → slice_get c.parser.entries c.at ≡ Some e → is_wanted p c.parser e.next ≡ b
-          → IsRunning before own behind limit n fore ts (cond b (behind_join c (join_at c.parser c.at (Some e))) (record c { at = c.at + 1 }))
-      chosen e true there wanted = goes e e.next there refl wanted
-      chosen e false there wanted = stays_so (record c { at = c.at + 1 }) refl
+      named : (b : Bool) (o : Option ParserEntry) → slice_get c.parser.entries at ≡ o → is_wanted p c.parser (next_of t) ≡ true
+          → IsRunning before own behind limit n fore ts (behind_join c own_join (next_of t) (cond b (join_at c.parser at o) None))
+      named false o there wanted = stays_so (record c { behind = c.behind + 1 }) refl
+      named true None there wanted = stays_so (record c { behind = c.behind + 1 }) refl
+      named true (Some e) there wanted = goes e e.next there refl wanted
 
-      by : (o : Option ParserEntry) → slice_get c.parser.entries c.at ≡ o → IsRunning before own behind limit n fore ts (one_entry p c o)
-      by None there = (let none : option_map shape None ≡ Some x = entry_here None there in absurd cc)
-      by (Some e) there = chosen e (is_wanted p c.parser e.next) there refl
+      chosen : (b : Bool) → is_wanted p c.parser (next_of t) ≡ b → IsRunning before own behind limit n fore ts (behind_join c own_join (next_of t) (cond b (join_named c.parser own_join) None))
+      chosen true wanted = named (nat_lt c.behind (length (entries_in n c.parser.entries))) (slice_get c.parser.entries at) refl wanted
+      chosen false wanted = stays_so (record c { behind = c.behind + 1 }) refl
+
+      by : (o : Option ParserEntry) → entry_named c.parser own_join ≡ o → IsRunning before own behind limit n fore ts (one_entry p c own_join o)
+      by None there = (let none : option_map shape None ≡ Some x = own_here None there in absurd cc)
+      by (Some d) there =
+          let same : next_of t ≡ d.next = sym (ap (λ (y : ℕ × Next). y.1) (same_Some (shape d) x (own_here (Some d) there))) in
+          subst (λ (to : Next). IsRunning before own behind limit n fore ts (behind_join c own_join to (cond (is_wanted p c.parser to) (join_named c.parser own_join) None))) same
+          (chosen (is_wanted p c.parser (next_of t)) refl)
 
 -- ---- a whole header
 
 module _ (p : Program) (before own behind : ℕ → ℕ) (sides : Sides p before own behind) (limit n : ℕ) (fore : List (ℕ × Next)) where
-  run : (ts : List Target) (a : ℕ) (c : Clustering) → IsRunning before own behind limit n fore ts c
-      → IsRunning before own behind limit n fore [] (fold (λ (d : Clustering) k. one_entry p d (slice_get d.parser.entries d.at)) c (range_with_len a (length ts)))
-  run [] a c is = is
-  run (t ∷ ts) a c is = run ts (a + 1) (one_entry p c (slice_get c.parser.entries c.at)) (step_on p before own behind sides limit n fore t ts c is)
+  run : (ts : List Target) (c : Clustering) → IsRunning before own behind limit n fore ts c → IsRunning before own behind limit n fore [] (some_entries p n (length ts) c)
+  run [] c is = is
+  run (t ∷ ts) c is = run ts (next_entry p n c) (step_on p before own behind sides limit n fore t ts c is)
 
 -- the shapes of some headers' entries, the first of which has number n
 abbrev shapes_from : ℕ → List Header → List (ℕ × Next)
@@ -587,7 +637,13 @@ pub record IsWaiting (p : Program) (limit n : ℕ) (parser : ParserConfig) : Typ
   pub back_edges : (m : ℕ) → arrivals_in (drop n p.headers) m ≡ 0 → edges m back ≡ 0
   pub few : busy (shapes parser) ≤ limit
 
-module _ (p : Program) (limit n : ℕ) (h : Header) (found : slice_get p.headers n ≡ Some h) (parser : ParserConfig) (is : IsWaiting p limit (n + 1) parser) where
+module _ (p : Program) (limit n : ℕ) (h : Header) (found : slice_get p.headers n ≡ Some h) (from : Clustering) (is : IsWaiting p limit (n + 1) from.parser) where
+  abbrev parser : ParserConfig
+  parser = from.parser
+
+  abbrev start : Clustering
+  start = record from { behind = 0 }
+
   abbrev ts : List Target
   ts = targets_of h
 
@@ -624,16 +680,6 @@ module _ (p : Program) (limit n : ℕ) (h : Header) (found : slice_get p.headers
   count_shapes : (q : ℕ × Next → Bool) → count q (shapes parser) ≡ count q front + (count q (map (own_shape n) ts) + count q is.back)
   count_shapes q = ap (count q) split_h ∙ count-append q front (map (own_shape n) ts ++ is.back) ∙ ap (λ k. count q front + k) (count-append q (map (own_shape n) ts) is.back)
 
-  start_at : number_of_entry parser.entries n 0 ≡ length front
-  start_at =
-      let q : ℕ × Next → Bool = λ x. nat_lt x.0 n in
-      let a = count_shapes q in
-      let b : count q (shapes parser) ≡ length (filter (λ (e : ParserEntry). nat_lt e.state n) parser.entries) = count_map q shape parser.entries in
-      let c = count_all q front (All-weaker (λ (x : ℕ × Next). x.0 < n) (λ (x : ℕ × Next). q x ≡ true) (λ (x : ℕ × Next) lt. lt-ltb x.0 n lt) front front_is_low) in
-      let d = count_none q (map (own_shape n) ts) (All-map (λ (x : ℕ × Next). q x ≡ false) (own_shape n) ts (λ k dd lt. le-ltb n n (omega arith))) in
-      let e = count_none q is.back (All-weaker (λ (x : ℕ × Next). n < x.0) (λ (x : ℕ × Next). q x ≡ false) (λ (x : ℕ × Next) lt. le-ltb x.0 n (omega (arith, lt))) is.back back_is_high) in
-      omega (arith, a, b, c, d, e)
-
   pub own_many : length (entries_in n parser.entries) ≡ length ts
   own_many =
       let q : ℕ × Next → Bool = λ x. eqb x.0 n in
@@ -645,13 +691,13 @@ module _ (p : Program) (limit n : ℕ) (h : Header) (found : slice_get p.headers
       let e = count_none q is.back (All-weaker (λ (x : ℕ × Next). n < x.0) (λ (x : ℕ × Next). q x ≡ false) (λ (x : ℕ × Next) lt. ne_eqb x.0 n (λ e. omega (arith, lt, e))) is.back back_is_high) in
       omega (arith, a, b, c, d, e, f)
 
-  starts : IsRunning (arrivals_in (take n p.headers)) (λ m. count (goes_to m) ts) (arrivals_in (drop (n + 1) p.headers)) limit n front ts (record { parser = parser; at = number_of_entry parser.entries n 0 })
+  starts : IsRunning (arrivals_in (take n p.headers)) (λ m. count (goes_to m) ts) (arrivals_in (drop (n + 1) p.headers)) limit n front ts start
   starts = record {
     keeps = is.keeps;
     done = [];
     back = is.back;
     split = split_h;
-    at = let a = start_at in omega (arith, a);
+    reached = refl;
     front_low = front_is_low;
     done_own = All-nil (λ (x : ℕ × Next). x.0 ≡ n);
     back_high = back_is_high;
@@ -663,12 +709,12 @@ module _ (p : Program) (limit n : ℕ) (h : Header) (found : slice_get p.headers
   }
 
   -- the header is done
-  pub header_done : IsWaiting p limit n (one_header p parser n)
+  pub header_done : IsWaiting p limit n (one_header p n from).parser
   header_done =
-      let ended : IsRunning (arrivals_in (take n p.headers)) (λ m. count (goes_to m) ts) (arrivals_in (drop (n + 1) p.headers)) limit n front [] (some_entries p (length (entries_in n parser.entries)) (record { parser = parser; at = number_of_entry parser.entries n 0 })) =
-      subst (λ k. IsRunning (arrivals_in (take n p.headers)) (λ m. count (goes_to m) ts) (arrivals_in (drop (n + 1) p.headers)) limit n front [] (some_entries p k (record { parser = parser; at = number_of_entry parser.entries n 0 }))) (sym own_many)
-      (run p (arrivals_in (take n p.headers)) (λ m. count (goes_to m) ts) (arrivals_in (drop (n + 1) p.headers)) the_sides limit n front ts 0 (record { parser = parser; at = number_of_entry parser.entries n 0 }) starts) in
-      waits (some_entries p (length (entries_in n parser.entries)) (record { parser = parser; at = number_of_entry parser.entries n 0 })) ended
+      let ended : IsRunning (arrivals_in (take n p.headers)) (λ m. count (goes_to m) ts) (arrivals_in (drop (n + 1) p.headers)) limit n front [] (some_entries p n (length (entries_in n parser.entries)) start) =
+      subst (λ k. IsRunning (arrivals_in (take n p.headers)) (λ m. count (goes_to m) ts) (arrivals_in (drop (n + 1) p.headers)) limit n front [] (some_entries p n k start)) (sym own_many)
+      (run p (arrivals_in (take n p.headers)) (λ m. count (goes_to m) ts) (arrivals_in (drop (n + 1) p.headers)) the_sides limit n front ts start starts) in
+      waits (some_entries p n (length (entries_in n parser.entries)) start) ended
     where
       behind_zero : (m : ℕ) → arrivals_in (drop n p.headers) m ≡ count (goes_to m) ts + arrivals_in (drop (n + 1) p.headers) m
       behind_zero m =
@@ -695,18 +741,13 @@ module _ (p : Program) (limit n : ℕ) (h : Header) (found : slice_get p.headers
 
 -- ---- all headers
 
-module _ (p : Program) (limit : ℕ) where
-  waiting_all : (n : ℕ) (parser : ParserConfig) → n ≤ length p.headers → IsWaiting p limit n parser → IsWaiting p limit 0 (fold (one_header p) parser (reverse (range_with_len 0 n)))
-  waiting_all zero parser le is = is
-  waiting_all (suc n) parser le is =
-      let item = slice_get-item p.headers n (omega (arith, le)) in
-      let one : suc n ≡ n + 1 = omega arith in
-      let here : IsWaiting p limit (n + 1) parser = subst (λ k. IsWaiting p limit k parser) one is in
-      let next : IsWaiting p limit n (one_header p parser n) = header_done p limit n item.0 item.1 parser here in
-      let zero_more : 0 + n ≡ n = omega arith in
-      let order : reverse (range_with_len 0 (suc n)) ≡ n ∷ reverse (range_with_len 0 n) =
-      ap (λ k. reverse (range_with_len 0 k)) one ∙ ap reverse (range_more 0 n) ∙ reverse-append (range_with_len 0 n) ((0 + n) ∷ []) ∙ ap (λ k. k ∷ reverse (range_with_len 0 n)) zero_more in
-      subst (λ l. IsWaiting p limit 0 (fold (one_header p) parser l)) (sym order) (waiting_all n (one_header p parser n) (omega (arith, le)) next)
+waiting_all : (p : Program) (limit n : ℕ) (c : Clustering) → n ≤ length p.headers → IsWaiting p limit n c.parser → IsWaiting p limit 0 (some_headers p n c).parser
+waiting_all p limit zero c le is = is
+waiting_all p limit (suc n) c le is =
+    let item = slice_get-item p.headers n (omega (arith, le)) in
+    let one : suc n ≡ n + 1 = omega arith in
+    let here : IsWaiting p limit (n + 1) c.parser = subst (λ k. IsWaiting p limit k c.parser) one is in
+    waiting_all p limit n (one_header p n c) (omega (arith, le)) (header_done p limit n item.0 item.1 c here)
 
 entries_shapes : (p : Program) (places : List (List Lane)) (n : ℕ) (hs : List Header) → map shape (entries_from p places n hs) ≡ shapes_from n hs
 entries_shapes p places n [] = refl
@@ -779,7 +820,7 @@ plain_waits p places keeps = record {
 pub clustered_few : (p : Program) (places : List (List Lane)) → KeepsForm (plain p places) → length (clustered p places).entries ≤ length (plain p places).entries
 clustered_few p places keeps =
     let limit : ℕ = length (plain p places).entries in
-    let ended : IsWaiting p limit 0 (all_joined p (plain p places)) = waiting_all p limit (length p.headers) (plain p places) (omega arith) (plain_waits p places keeps) in
+    let ended : IsWaiting p limit 0 (all_joined p (plain p places)) = waiting_all p limit (length p.headers) (unjoined (plain p places)) (omega arith) (plain_waits p places keeps) in
     let a = compact_few (all_joined p (plain p places)) in
     let b = ended.few in
     omega (arith, a, b)

@@ -4,7 +4,7 @@ use Rattle.std.specs.Prelude.{◌==◌, All, IfSome, is_none, nat_le, option_map
 use Rattle.std.specs.List.{filter, list_all}
 use Rattle.std.specs.Option.{option_and_then}
 use Rattle.std.proofs.lemmas.Bool.{and_parts, cases_lt, eq-eqb, eqb-true, leb-true, ne_eqb, lt-ltb, le-ltb, ltb-true}
-use Rattle.std.proofs.lemmas.List.{append-nil, length-append, length-map, length-set, length-take-le, map-append, map-set, take-append-drop}
+use Rattle.std.proofs.lemmas.List.{append-nil, length-append, length-map, length-take-le, map-append, map-set, take-append-drop}
 use Rattle.std.proofs.lemmas.List.Elements.{All-append, All-cons, All-nil, All-head, All-map, All-tail, All-take, All-drop, All-weaker, filter-append}
 use Rattle.std.proofs.lemmas.Option.{same_Some, slice_get-map, slice_get_read, slice_get_within, get_or_from_slice_get}
 use Rattle.std.proofs.Math.Seq.{drop-append_seam, drop-cons, take-append_seam}
@@ -20,20 +20,20 @@ use Rattle.rmt_ptcam.specs.Types.{ParserConfig, ParserState, ParserEntry, Next, 
 use Rattle.rmt_ptcam.specs.declared.joining.rows.StateRows.{StateRows}
 use Rattle.rmt_ptcam.specs.declared.joins.Join.{Join}
 use Rattle.rmt_ptcam.specs.Grouping.{AreOwn, CanFollow, Stand, all_rows, by_state, entries_of, joined_in, may_stand, parser_in, put_at, put_in, stand_in, stand_in_at, stand_in_for, stand_in_of, stand_in_to, stand_in_with, state_in, widened_row}
-use Rattle.rmt_ptcam.specs.Joining.{IsGood, KeepsForm, Row, are_few, can_join, compares_before, ends_open, entries_in, is_light, join_at, join_of, join_to, joined, joined_row, lookups_at, number_of_entry, numbered, parser_of, rows_in, rows_of, tails_in, together, widened, widened_entry}
+use Rattle.rmt_ptcam.specs.Joining.{IsGood, KeepsForm, Row, are_few, can_join, compares_before, ends_open, entries_in, is_light, join_at, join_named, join_of, join_to, joined, joined_row, lookups_at, number_of_entry, numbered, parser_of, rows_in, rows_of, tails_in, together, widened, widened_entry}
 use Rattle.rmt_ptcam.specs.Words.{spread}
 use Rattle.rmt_ptcam.proofs.TestLaws.{widened_is}
-use Rattle.rmt_ptcam.specs.Joins.{behind_joins, join_named}
-use Rattle.rmt_ptcam.proofs.ClusteringLaws.{good_same}
+use Rattle.rmt_ptcam.specs.Joins.{behind_joins}
+use Rattle.rmt_ptcam.proofs.ClusteringLaws.{AsMany, good_same, many_stays}
 use Rattle.rmt_ptcam.proofs.FewerLaws.{filter_map}
 use Rattle.rmt_ptcam.proofs.FormedRows.{IsRow, rows_are}
 use Rattle.rmt_ptcam.proofs.GroupLaws.{made_by, parser_again, stand_again}
 use Rattle.rmt_ptcam.proofs.TailForms.{IsRowTail}
 use Rattle.rmt_ptcam.proofs.JoinFacts.{RiseLow, ends_push, entry_compares, lookups_formed}
 use Rattle.rmt_ptcam.proofs.JoinedForm.{formed_entry}
-use Rattle.rmt_ptcam.proofs.JoinsHold.{StaysUnderJoins}
+use Rattle.rmt_ptcam.proofs.JoinsHold.{named_holds}
 use Rattle.rmt_ptcam.proofs.LookupLaws.{Compares, word_is}
-use Rattle.rmt_ptcam.proofs.ReplayLaws.{join_stays, list_holds, named_holds}
+use Rattle.rmt_ptcam.proofs.ReplayLaws.{join_stays, list_holds}
 use Rattle.rmt_ptcam.proofs.RowLaws.{renumbered, rows_made, tail_found, with_number}
 
 -- ---- where the rows of a state stand
@@ -205,7 +205,7 @@ rows_in_state g n s own there =
     ∙ append-nil (rows_in n s.rows)
     ∙ filter_all is s.rows (All-weaker (λ (x : Row). x.entry.state ≡ 0 + n) (λ (x : Row). is x ≡ true) (λ (x : Row) e. eq-eqb x.entry.state n (omega (arith, e))) s.rows p.own)
 
-entries_in_state : (g : List StateRows) (n : ℕ) (s : StateRows) → AreOwn 0 g → slice_get g n ≡ Some s → entries_in n (entries_of (all_rows g)) ≡ entries_of s.rows
+pub entries_in_state : (g : List StateRows) (n : ℕ) (s : StateRows) → AreOwn 0 g → slice_get g n ≡ Some s → entries_in n (entries_of (all_rows g)) ≡ entries_of s.rows
 entries_in_state g n s own there = filter_map (λ (e : ParserEntry). eqb e.state n) (λ (x : Row). x.entry) (all_rows g) ∙ ap entries_of (rows_in_state g n s own there)
 
 module _ (g : List StateRows) (own : AreOwn 0 g) (n j : ℕ) (s : StateRows) (x : Row) (at_n : slice_get g n ≡ Some s) (at_j : slice_get s.rows j ≡ Some x) where
@@ -410,6 +410,18 @@ rows_formed_in g stand n s there =
     (All-parts (IsRow (map state_in g)) (λ (t : StateRows). t.rows) g
     (formed_again (map state_in g) 0 (all_rows g) (subst (λ (xs : List Row). All (IsRow (map state_in g)) xs) (rows_made (map state_in g) (all_rows g)) (rows_are (parser_in g) stand.keeps)))) there
 
+-- a state that isn't there has no entries
+pub absent_in : (g : List StateRows) (n : ℕ) → AreOwn 0 g → slice_get g n ≡ None → entries_in n (parser_in g).entries ≡ []
+absent_in g n own none =
+    let high : length g ≤ n = slice_get_none g n none in
+    let low = low_all 0 g own in
+    let empty : rows_in n (all_rows g) ≡ [] =
+    filter_none (λ (x : Row). eqb x.entry.state n) (all_rows g) (All-weaker (λ (x : Row). x.entry.state < 0 + length g) (λ (x : Row). eqb x.entry.state n ≡ false) (λ (x : Row) lt. ne_eqb x.entry.state n (λ e. omega (arith, e, lt, high))) (all_rows g) low) in
+    filter_map (λ (e : ParserEntry). eqb e.state n) (λ (x : Row). x.entry) (all_rows g) ∙ ap entries_of empty
+
+pub count_in_state : (g : List StateRows) (n : ℕ) (s : StateRows) → AreOwn 0 g → slice_get g n ≡ Some s → length (entries_in n (parser_in g).entries) ≡ length s.rows
+count_in_state g n s own there = ap length (entries_in_state g n s own there) ∙ length-map s.rows (λ (x : Row). x.entry)
+
 -- ---- a join in place is the join
 
 -- what stands behind a join in place, as a parser
@@ -430,17 +442,11 @@ module _ (g : List StateRows) (stand : Stand g) (j : Join) where
   put o = option_map (put_at g j (slice_get g n)) o
 
   named_absent : slice_get g n ≡ None → join_named whole j ≡ None
-  named_absent none =
-      let high : length g ≤ n = slice_get_none g n none in
-      let low = low_all 0 g stand.own in
-      let empty : rows_in n (all_rows g) ≡ [] =
-      filter_none (λ (x : Row). eqb x.entry.state n) (all_rows g) (All-weaker (λ (x : Row). x.entry.state < 0 + length g) (λ (x : Row). eqb x.entry.state n ≡ false) (λ (x : Row) lt. ne_eqb x.entry.state n (λ e. omega (arith, e, lt, high))) (all_rows g) low) in
-      let count : length (entries_in n whole.entries) ≡ 0 = ap length (filter_map (λ (e : ParserEntry). eqb e.state n) (λ (x : Row). x.entry) (all_rows g) ∙ ap entries_of empty) in
-      ap (λ b. cond b (join_of whole n j.entry) None) (le-ltb j.entry (length (entries_in n whole.entries)) (omega (arith, count)))
+  named_absent none = let count = ap length (absent_in g n stand.own none) in ap (λ b. cond b (join_of whole n j.entry) None) (le-ltb j.entry (length (entries_in n whole.entries)) (omega (arith, count)))
 
   module _ (s : StateRows) (at_n : slice_get g n ≡ Some s) where
     count_own : length (entries_in n whole.entries) ≡ length s.rows
-    count_own = ap length (entries_in_state g n s stand.own at_n) ∙ length-map s.rows (λ (x : Row). x.entry)
+    count_own = count_in_state g n s stand.own at_n
 
     named_none : slice_get s.rows j.entry ≡ None → join_named whole j ≡ None
     named_none none =
@@ -504,6 +510,7 @@ pub record IsMade (g : List StateRows) (j : Join) (new : StateRows) : Type 0 whe
   pub t : StateRows
   pub at_n : slice_get g j.state ≡ Some s
   pub at_j : slice_get s.rows j.entry ≡ Some x
+  pub on : x.entry.next ≡ next.State m
   pub at_m : slice_get g m ≡ Some t
   pub may : may_stand (length (all_rows g)) s.lookups x t ≡ true
   pub is : new ≡ stand_in s.lookups x t
@@ -511,23 +518,23 @@ pub record IsMade (g : List StateRows) (j : Join) (new : StateRows) : Type 0 whe
 pub made : (g : List StateRows) (j : Join) (new : StateRows) → stand_in_for g j ≡ Some new → IsMade g j new
 made g j new some = of_state (slice_get g j.state) refl some
   where
-    of_room : (s : StateRows) (x : Row) (m : ℕ) (t : StateRows) (b : Bool) → slice_get g j.state ≡ Some s → slice_get s.rows j.entry ≡ Some x → slice_get g m ≡ Some t
+    of_room : (s : StateRows) (x : Row) (m : ℕ) (t : StateRows) (b : Bool) → slice_get g j.state ≡ Some s → slice_get s.rows j.entry ≡ Some x → x.entry.next ≡ next.State m → slice_get g m ≡ Some t
         → may_stand (length (all_rows g)) s.lookups x t ≡ b → cond b (Some (stand_in s.lookups x t)) None ≡ Some new → IsMade g j new
-    of_room s x m t true at_n at_j at_m may some = record { s = s; x = x; m = m; t = t; at_n = at_n; at_j = at_j; at_m = at_m; may = may; is = sym (same_Some (stand_in s.lookups x t) new some) }
-    of_room s x m t false at_n at_j at_m may some = absurd cc
+    of_room s x m t true at_n at_j on at_m may some = record { s = s; x = x; m = m; t = t; at_n = at_n; at_j = at_j; on = on; at_m = at_m; may = may; is = sym (same_Some (stand_in s.lookups x t) new some) }
+    of_room s x m t false at_n at_j on at_m may some = absurd cc
 
-    of_target : (s : StateRows) (x : Row) (m : ℕ) (o : Option StateRows) → slice_get g j.state ≡ Some s → slice_get s.rows j.entry ≡ Some x → slice_get g m ≡ o → stand_in_with g s x o ≡ Some new → IsMade g j new
-    of_target s x m None at_n at_j at_m some = absurd cc
-    of_target s x m (Some t) at_n at_j at_m some = of_room s x m t (may_stand (length (all_rows g)) s.lookups x t) at_n at_j at_m refl some
+    of_target : (s : StateRows) (x : Row) (m : ℕ) (o : Option StateRows) → slice_get g j.state ≡ Some s → slice_get s.rows j.entry ≡ Some x → x.entry.next ≡ next.State m → slice_get g m ≡ o → stand_in_with g s x o ≡ Some new → IsMade g j new
+    of_target s x m None at_n at_j on at_m some = absurd cc
+    of_target s x m (Some t) at_n at_j on at_m some = of_room s x m t (may_stand (length (all_rows g)) s.lookups x t) at_n at_j on at_m refl some
 
-    of_next : (s : StateRows) (x : Row) (to : Next) → slice_get g j.state ≡ Some s → slice_get s.rows j.entry ≡ Some x → stand_in_to g s x to ≡ Some new → IsMade g j new
-    of_next s x next.Accept at_n at_j some = absurd cc
-    of_next s x next.Reject at_n at_j some = absurd cc
-    of_next s x (next.State m) at_n at_j some = of_target s x m (slice_get g m) at_n at_j refl some
+    of_next : (s : StateRows) (x : Row) (to : Next) → slice_get g j.state ≡ Some s → slice_get s.rows j.entry ≡ Some x → x.entry.next ≡ to → stand_in_to g s x to ≡ Some new → IsMade g j new
+    of_next s x next.Accept at_n at_j on some = absurd cc
+    of_next s x next.Reject at_n at_j on some = absurd cc
+    of_next s x (next.State m) at_n at_j on some = of_target s x m (slice_get g m) at_n at_j on refl some
 
     of_row : (s : StateRows) (o : Option Row) → slice_get g j.state ≡ Some s → slice_get s.rows j.entry ≡ o → stand_in_of g s o ≡ Some new → IsMade g j new
     of_row s None at_n at_j some = absurd cc
-    of_row s (Some x) at_n at_j some = of_next s x x.entry.next at_n at_j some
+    of_row s (Some x) at_n at_j some = of_next s x x.entry.next at_n at_j refl some
 
     of_state : (o : Option StateRows) → slice_get g j.state ≡ o → stand_in_at g j.entry o ≡ Some new → IsMade g j new
     of_state None at_n some = absurd cc
@@ -682,18 +689,12 @@ stand_is g own x m t count here it on there whole same may is =
 pub list_more : (js : List Join) (i : ℕ) (d : Join) → i < length js → drop i js ≡ get_or js i d ∷ drop (i + 1) js
 list_more js i d lt = let one : suc i ≡ i + 1 = omega arith in drop-cons js i d lt ∙ ap (λ k. get_or js i d ∷ drop k js) one
 
-abbrev AsMany : ParserConfig → ParserConfig → Type 0
-AsMany parser r = length r.states ≡ length parser.states
-
 -- what a list of joins gives is good, and has as many states
 pub list_good : (parser : ParserConfig) (js : List Join) (q : ParserConfig) → KeepsForm parser → Some q ≡ behind_joins parser js → IsGood parser q × (length q.states ≡ length parser.states)
 list_good parser js q keeps is = (
   subst (λ (o : Option ParserConfig). IfSome o (IsGood parser)) (sym is) (list_holds (IsGood parser) (join_stays parser) parser js (good_same parser keeps)),
-  subst (λ (o : Option ParserConfig). IfSome o (AsMany parser)) (sym is) (list_holds (AsMany parser) stays parser js refl),
+  subst (λ (o : Option ParserConfig). IfSome o (AsMany parser)) (sym is) (list_holds (AsMany parser) (many_stays parser) parser js refl),
 )
-  where
-    stays : StaysUnderJoins (AsMany parser)
-    stays r at e m there on can same = length-set r.states e.state (record { lookups = together (lookups_at r.states e.state) e.advance (lookups_at r.states m) }) ∙ same
 
 -- ---- joins that are all made
 

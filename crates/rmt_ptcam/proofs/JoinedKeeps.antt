@@ -15,14 +15,14 @@ use Rattle.rmt_config.specs.declared.config.Extract.TheVariants.{Bits, One}
 use Rattle.rmt_config.specs.declared.config.Next.TheVariants as next
 use Rattle.rmt_config.specs.LaneForm.{lane_is_formed}
 use Rattle.rmt_config.specs.ParserForm.{extract_is_formed, lookups_of, next_is_formed, state_is_formed}
-use Rattle.rmt_ptcam.specs.Joining.{KeepsForm, Row, can_join, entries_in, join_at, join_to, joined, joined_row, lookups_at, moved, rows_in, rows_of, together, widened, widened_entry}
+use Rattle.rmt_ptcam.specs.Joining.{KeepsForm, Row, entries_in, joined, joined_row, lookups_at, moved, rows_in, rows_of, together, widened, widened_entry}
 use Rattle.rmt_ptcam.specs.Words.{both, byte_at, entry_of_both, spread, spread_entry}
 use Rattle.rmt_ptcam.proofs.TestLaws.{joined_is, widened_is}
 use Rattle.rmt_ptcam.proofs.AddingLaws.{length_rows, row_of}
 use Rattle.rmt_ptcam.proofs.FormLaws.{sorted-append, sorted-same}
 use Rattle.rmt_ptcam.proofs.FormedRows.{IsFormed, IsRow, entries_of_rows, rows_are}
 use Rattle.rmt_ptcam.proofs.TailForms.{IsRowTail}
-use Rattle.rmt_ptcam.proofs.JoinFacts.{MayJoin, RiseLow, are_joined, entry_compares, lookups_formed, may_join, rows_in_entries}
+use Rattle.rmt_ptcam.proofs.JoinFacts.{MayJoin, RiseLow, are_joined, entry_compares, lookups_formed, rows_in_entries}
 use Rattle.rmt_ptcam.proofs.JoinedForm.{made_keeps}
 use Rattle.rmt_ptcam.proofs.JoinedParse.{formed_e, get_set_same, next_there, second_formed, second_own}
 use Rattle.rmt_ptcam.proofs.LookupLaws.{Compares, byte_small, compares_at, compares_by}
@@ -358,23 +358,3 @@ module _ (parser : ParserConfig) (keeps : KeepsForm parser) (at : ℕ) (e : Pars
       let some = keeps.some in
       let few = keeps.few_states in
       made_keeps states rows (omega (arith, many, some)) (omega (arith, many, few)) (omega (arith, count, room)) states_formed rows_formed rows_sorted
-
--- ---- what joining gives
-
--- at most one entry goes
-pub join_counts : (parser : ParserConfig) → KeepsForm parser → (at : ℕ) (o : Option ParserEntry) → slice_get parser.entries at ≡ o → IfSome (join_at parser at o) (λ q. length parser.entries ≤ length q.entries + 1)
-join_counts parser keeps at None there = tt
-join_counts parser keeps at (Some e) there = by e.next refl
-  where
-    when : (m : ℕ) (b : Bool) → e.next ≡ next.State m → can_join parser at e m ≡ b → IfSome (cond b (Some (joined parser at e m)) None) (λ q. length parser.entries ≤ length q.entries + 1)
-    when m true on can =
-        let may : MayJoin parser at e m = may_join parser at e m can in
-        let count = rows_count parser keeps at e m there on may in
-        let long = length-map (rows parser keeps at e m there on may) (λ (x : Row). x.entry) in
-        omega (arith, count, long)
-    when m false on can = tt
-
-    by : (to : Next) → e.next ≡ to → IfSome (join_to parser at e to) (λ q. length parser.entries ≤ length q.entries + 1)
-    by next.Accept on = tt
-    by next.Reject on = tt
-    by (next.State m) on = when m (can_join parser at e m) on refl

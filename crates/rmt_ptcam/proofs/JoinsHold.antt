@@ -1,12 +1,12 @@
 -- What each join keeps, all joins of the clustered parser keep.
-use Rattle.std.proofs.Common.{◌≡◌, ℕ, ◌+◌, Bool, true, false, cond, eqb, List, [], ◌∷◌, ◌++◌, Option, Some, None, get_or, length, map, take, drop, fold, reverse, refl}
+use Rattle.std.proofs.Common.{◌≡◌, ℕ, zero, suc, ◌+◌, Bool, true, false, cond, eqb, nat_lt, List, [], ◌∷◌, ◌++◌, Option, Some, None, get_or, length, map, take, drop, refl, subst}
 use Rattle.std.specs.Prelude.{All, IfSome, slice_get}
-use Rattle.std.specs.List.{range_with_len}
 use Rattle.std.proofs.lemmas.List.Elements.{All-append, All-drop, All-map, All-take}
 use Rattle.rmt_ptcam.specs.Types.{Program, ParserConfig, ParserEntry, Next}
 use Rattle.rmt_config.specs.declared.config.Next.TheVariants as next
-use Rattle.rmt_ptcam.specs.Clustering.{Clustering, all_joined, behind_join, is_wanted, one_entry, one_header}
-use Rattle.rmt_ptcam.specs.Joining.{Row, can_join, entries_in, join_at, join_to, joined, joined_row, lookups_at, number_of_entry, rows_in, rows_of, together, widened, widened_entry}
+use Rattle.rmt_ptcam.specs.declared.joins.Join.{Join}
+use Rattle.rmt_ptcam.specs.Clustering.{Clustering, all_joined, behind_join, is_wanted, next_entry, one_entry, one_header, some_entries, some_headers, unjoined}
+use Rattle.rmt_ptcam.specs.Joining.{Row, can_join, entries_in, entry_named, join_at, join_named, join_of, join_to, joined, joined_row, lookups_at, number_of_entry, rows_in, rows_of, together, widened, widened_entry}
 
 -- whatever entry is joined, P stays
 abbrev pub StaysUnderJoins : (ParserConfig → Type 0) → Type 0
@@ -26,31 +26,47 @@ module _ (P : ParserConfig → Type 0) (stays : StaysUnderJoins P) where
       by next.Reject on = tt
       by (next.State m) on = when m (can_join parser at e m) on refl
 
-  behind_holds : (c : Clustering) (o : Option ParserConfig) → P c.parser → IfSome o P → P (behind_join c o).parser
-  behind_holds c None here is = here
-  behind_holds c (Some q) here is = is
+  pub named_holds : (parser : ParserConfig) (j : Join) → P parser → IfSome (join_named parser j) P
+  named_holds parser j here = by (nat_lt j.entry (length (entries_in j.state parser.entries)))
+    where
+      by : (b : Bool) → IfSome (cond b (join_of parser j.state j.entry) None) P
+      by true = join_holds parser (number_of_entry parser.entries j.state j.entry) (slice_get parser.entries (number_of_entry parser.entries j.state j.entry)) refl here
+      by false = tt
 
-  module _ (p : Program) where
-    pub one_holds : (c : Clustering) (o : Option ParserEntry) → slice_get c.parser.entries c.at ≡ o → P c.parser → P (one_entry p c o).parser
-    one_holds c None there here = here
-    one_holds c (Some e) there here = by (is_wanted p c.parser e.next)
-      where
-        by : (b : Bool) → P (cond b (behind_join c (join_at c.parser c.at (Some e))) (record c { at = c.at + 1 })).parser
-        by true = behind_holds c (join_at c.parser c.at (Some e)) here (join_holds c.parser c.at (Some e) there here)
-        by false = here
+-- what each join keeps of a parser and of the joins that were made, all joins keep
+module _ (C : ParserConfig → List Join → Type 0) (more : (parser q : ParserConfig) (js : List Join) (j : Join) → join_named parser j ≡ Some q → C parser js → C q (js ++ j ∷ [])) (p : Program) where
+  abbrev Holds : Clustering → Type 0
+  Holds c = C c.parser c.joins
 
-    pub some_hold : (ks : List ℕ) (c : Clustering) → P c.parser → P (fold (λ (d : Clustering) k. one_entry p d (slice_get d.parser.entries d.at)) c ks).parser
-    some_hold [] c here = here
-    some_hold (k ∷ ks) c here = some_hold ks (one_entry p c (slice_get c.parser.entries c.at)) (one_holds c (slice_get c.parser.entries c.at) refl here)
+  entry_holds : (n : ℕ) (c : Clustering) → Holds c → Holds (next_entry p n c)
+  entry_holds n c here = by (entry_named c.parser j)
+    where
+      j : Join
+      j = record { state = n; entry = c.behind }
 
-    pub headers_hold : (ns : List ℕ) (parser : ParserConfig) → P parser → P (fold (one_header p) parser ns)
-    headers_hold [] parser here = here
-    headers_hold (n ∷ ns) parser here =
-        headers_hold ns (one_header p parser n)
-        (some_hold (range_with_len 0 (length (entries_in n parser.entries))) (record { parser = parser; at = number_of_entry parser.entries n 0 }) here)
+      named : (to : Next) (o : Option ParserConfig) → join_named c.parser j ≡ o → Holds (behind_join c j to o)
+      named to None is = here
+      named to (Some q) is = more c.parser q c.joins j is here
 
-    pub joins_hold : (parser : ParserConfig) → P parser → P (all_joined p parser)
-    joins_hold parser here = headers_hold (reverse (range_with_len 0 (length p.headers))) parser here
+      wanted : (to : Next) (b : Bool) → Holds (behind_join c j to (cond b (join_named c.parser j) None))
+      wanted to true = named to (join_named c.parser j) refl
+      wanted to false = here
+
+      by : (o : Option ParserEntry) → Holds (one_entry p c j o)
+      by None = here
+      by (Some e) = wanted e.next (is_wanted p c.parser e.next)
+
+  entries_hold : (n count : ℕ) (c : Clustering) → Holds c → Holds (some_entries p n count c)
+  entries_hold n zero c here = here
+  entries_hold n (suc count) c here = entries_hold n count (next_entry p n c) (entry_holds n c here)
+
+  pub headers_hold : (n : ℕ) (c : Clustering) → Holds c → Holds (some_headers p n c)
+  headers_hold zero c here = here
+  headers_hold (suc n) c here = headers_hold n (one_header p n c) (entries_hold n (length (entries_in n c.parser.entries)) (record c { behind = 0 }) here)
+
+pub joins_hold : (P : ParserConfig → Type 0) → StaysUnderJoins P → (p : Program) (parser : ParserConfig) → P parser → P (all_joined p parser)
+joins_hold P stays p parser here =
+    headers_hold (λ (q : ParserConfig) (js : List Join). P q) (λ (q r : ParserConfig) (js : List Join) (j : Join) is hold. subst (λ (o : Option ParserConfig). IfSome o P) is (named_holds P stays q j hold)) p (length p.headers) (unjoined parser) here
 
 -- ---- rows
 

@@ -37,3 +37,5 @@ pub mod JoinsCount
 pub mod ReplayLaws
 pub mod GroupLaws
 pub mod InPlaceLaws
+pub mod ClusterSteps
+pub mod ClusteredLaws

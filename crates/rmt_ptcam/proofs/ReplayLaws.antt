@@ -1,6 +1,6 @@
 -- Whatever joins are made on the plain parser: what they give agrees with the walk of the parse graph, and keeps the rules of form.
-use Rattle.std.proofs.Common.{◌≡◌, cond, nat_lt, Bool, true, false, List, [], ◌∷◌, length, Option, Some, None, refl, sym, subst, arith}
-use Rattle.std.specs.Prelude.{IfSome, option_map, slice_get}
+use Rattle.std.proofs.Common.{◌≡◌, nat_lt, true, List, [], ◌∷◌, length, Option, Some, None, sym, subst, arith}
+use Rattle.std.specs.Prelude.{IfSome, option_map}
 use Rattle.std.specs.Option.{option_and_then}
 use Rattle.std.specs.List.{list_all}
 use Rattle.rmt_bits.specs.declared.lane.Lane.{Lane}
@@ -13,8 +13,8 @@ use Rattle.rmt_config.specs.ParserForm.{parser_is_formed}
 use Rattle.rmt_ptcam.specs.Types.{Program, ParserConfig, TailOf}
 use Rattle.rmt_ptcam.specs.declared.joins.Join.{Join}
 use Rattle.rmt_ptcam.specs.Clustering.{compact}
-use Rattle.rmt_ptcam.specs.Joining.{IsGood, entries_in, join_of, number_of_entry}
-use Rattle.rmt_ptcam.specs.Joins.{behind_joins, join_named, replayed}
+use Rattle.rmt_ptcam.specs.Joining.{IsGood, join_named}
+use Rattle.rmt_ptcam.specs.Joins.{behind_joins, replayed}
 use Rattle.rmt_ptcam.specs.Needs.{refusal}
 use Rattle.rmt_ptcam.specs.Plain.{plain}
 use Rattle.rmt_ptcam.proofs.AgreementLaws.{plain_agrees}
@@ -24,22 +24,15 @@ use Rattle.rmt_ptcam.proofs.FormedParsers.{AreLow, compact_low, join_low, keeps_
 use Rattle.rmt_ptcam.proofs.JoinFacts.{may_join}
 use Rattle.rmt_ptcam.proofs.JoinedKeeps.{joined_keeps}
 use Rattle.rmt_ptcam.proofs.JoinedParse.{joined_alike}
-use Rattle.rmt_ptcam.proofs.JoinsHold.{StaysUnderJoins, join_holds}
+use Rattle.rmt_ptcam.proofs.JoinsHold.{StaysUnderJoins, named_holds}
 use Rattle.rmt_ptcam.proofs.PlainForm.{plain_keeps}
 
 -- ---- what each join keeps, a list of joins keeps
 
 module _ (P : ParserConfig → Type 0) (stays : StaysUnderJoins P) where
-  pub named_holds : (parser : ParserConfig) (j : Join) → P parser → IfSome (join_named parser j) P
-  named_holds parser j here = by (nat_lt j.entry (length (entries_in j.state parser.entries)))
-    where
-      by : (b : Bool) → IfSome (cond b (join_of parser j.state j.entry) None) P
-      by true = join_holds P stays parser (number_of_entry parser.entries j.state j.entry) (slice_get parser.entries (number_of_entry parser.entries j.state j.entry)) refl here
-      by false = tt
-
   pub list_holds : (parser : ParserConfig) (js : List Join) → P parser → IfSome (behind_joins parser js) P
   list_holds parser [] here = here
-  list_holds parser (j ∷ js) here = by (join_named parser j) (named_holds parser j here) (λ (q : ParserConfig) behind. list_holds q js behind)
+  list_holds parser (j ∷ js) here = by (join_named parser j) (named_holds P stays parser j here) (λ (q : ParserConfig) behind. list_holds q js behind)
     where
       by : (o : Option ParserConfig) → IfSome o P → ((q : ParserConfig) → P q → IfSome (behind_joins q js) P) → IfSome (option_and_then (λ (q : ParserConfig). behind_joins q js) o) P
       by None is rest = tt

@@ -1,8 +1,7 @@
 -- The clustered parser meets no more states than the walk takes headers.
-use Rattle.std.proofs.Common.{◌≡◌, ◌⊎◌, ◌&&◌, cond, nat_lt, Bool, true, false, ℕ, zero, suc, ◌+◌, ◌-◌, ◌<◌, ◌≤◌, List, [], ◌∷◌, length, find, fold, reverse, take, drop, Option, Some, None, refl, sym, ap, subst, ◌∙◌, inl, inr, arith}
+use Rattle.std.proofs.Common.{◌≡◌, ◌⊎◌, ◌&&◌, cond, nat_lt, Bool, true, false, ℕ, zero, suc, ◌+◌, ◌-◌, ◌<◌, ◌≤◌, List, length, find, take, drop, Option, Some, None, refl, sym, ap, subst, ◌∙◌, inl, inr, arith}
 use Rattle.std.specs.Prelude.{All, slice_get, slice_set}
 use Rattle.std.proofs.lemmas.Bool.{cases_eq, cases_lt, le-ltb, lt-ltb, ltb-true, and_parts}
-use Rattle.std.specs.List.{range_with_len}
 use Rattle.rmt_bits.specs.declared.lane.Lane.{Lane}
 use Rattle.rmt_ptcam.specs.Types.{Program, ParserConfig, ParserState, ParserEntry, Next, TailOf}
 use Rattle.rmt_ast.specs.Walk as walks
@@ -12,8 +11,8 @@ use Rattle.rmt_config.specs.Agreement.{EndsAs}
 use Rattle.rmt_config.specs.Parser.{begin}
 use Rattle.rmt_ptcam.specs.Needs.{refusal}
 use Rattle.rmt_ptcam.specs.Plain.{plain}
-use Rattle.rmt_ptcam.specs.Joining.{can_join, entries_in, join_at, join_to, number_of_entry}
-use Rattle.rmt_ptcam.specs.Clustering.{Clustering, all_joined, behind_join, clustered, compact, is_wanted, one_entry, one_header}
+use Rattle.rmt_ptcam.specs.Joining.{can_join}
+use Rattle.rmt_ptcam.specs.Clustering.{all_joined, clustered, compact}
 use Rattle.rmt_ptcam.proofs.AgreementLaws.{same_within, start_step}
 use Rattle.rmt_ptcam.proofs.CompactLaws.{compact_within, first_met}
 use Rattle.rmt_ptcam.proofs.JoinFacts.{may_join}
@@ -26,6 +25,7 @@ use Rattle.rmt_config.specs.ParserForm.{next_is_formed}
 use Rattle.rmt_ptcam.specs.Joining.{KeepsForm, Row, joined, lookups_at, rows_in, rows_of, together}
 use Rattle.rmt_ptcam.specs.Steps.{MeetsNoMore, ParsesWithin, parse_within, walk_within}
 use Rattle.rmt_ptcam.proofs.JoinFacts.{MayJoin, find_in}
+use Rattle.rmt_ptcam.proofs.JoinsHold.{StaysUnderJoins, joins_hold}
 use Rattle.rmt_ptcam.proofs.JoinedParse.{found_row, get_set_same, new_rows, own_rows, step_other}
 use Rattle.rmt_ptcam.proofs.RowLaws.{hits, row_step, taken_made, taken_row}
 use Rattle.rmt_bits.proofs.ListLaws.{slice_get-set_other}
@@ -250,38 +250,8 @@ paced_joined parser keeps at e m there on can =
           step Short ∙ done ∙ sym (step Reject));
     }
 
-paced_entry : (p : Program) (c : Clustering) → KeepsForm c.parser → IsPaced c.parser (one_entry p c (slice_get c.parser.entries c.at)).parser
-paced_entry p c keeps = by (slice_get c.parser.entries c.at) refl
-  where
-    joins : (e : ParserEntry) (m : ℕ) (can : Bool) → slice_get c.parser.entries c.at ≡ Some e → e.next ≡ next.State m → can_join c.parser c.at e m ≡ can → IsPaced c.parser (behind_join c (cond can (Some (joined c.parser c.at e m)) None)).parser
-    joins e m true there on can = paced_joined c.parser keeps c.at e m there on can
-    joins e m false there on can = paced_same c.parser keeps
-
-    goes : (e : ParserEntry) (to : Next) → slice_get c.parser.entries c.at ≡ Some e → e.next ≡ to → IsPaced c.parser (behind_join c (join_to c.parser c.at e to)).parser
-    goes e next.Accept there on = paced_same c.parser keeps
-    goes e next.Reject there on = paced_same c.parser keeps
-    goes e (next.State m) there on = joins e m (can_join c.parser c.at e m) there on refl
-
-    chosen : (e : ParserEntry) (b : Bool) → slice_get c.parser.entries c.at ≡ Some e → IsPaced c.parser (cond b (behind_join c (join_at c.parser c.at (Some e))) (record c { at = c.at + 1 })).parser
-    chosen e true there = goes e e.next there refl
-    chosen e false there = paced_same c.parser keeps
-
-    by : (o : Option ParserEntry) → slice_get c.parser.entries c.at ≡ o → IsPaced c.parser (one_entry p c o).parser
-    by None there = paced_same c.parser keeps
-    by (Some e) there = chosen e (is_wanted p c.parser e.next) there
-
-paced_entries : (p : Program) (ks : List ℕ) (c : Clustering) → KeepsForm c.parser → IsPaced c.parser (fold (λ (d : Clustering) k. one_entry p d (slice_get d.parser.entries d.at)) c ks).parser
-paced_entries p [] c keeps = paced_same c.parser keeps
-paced_entries p (k ∷ ks) c keeps =
-    let one : IsPaced c.parser (one_entry p c (slice_get c.parser.entries c.at)).parser = paced_entry p c keeps in
-    paced_on c.parser (one_entry p c (slice_get c.parser.entries c.at)).parser (fold (λ (d : Clustering) k. one_entry p d (slice_get d.parser.entries d.at)) (one_entry p c (slice_get c.parser.entries c.at)) ks).parser one
-    (paced_entries p ks (one_entry p c (slice_get c.parser.entries c.at)) one.keeps)
-
-paced_headers : (p : Program) (ns : List ℕ) (parser : ParserConfig) → KeepsForm parser → IsPaced parser (fold (one_header p) parser ns)
-paced_headers p [] parser keeps = paced_same parser keeps
-paced_headers p (n ∷ ns) parser keeps =
-    let one : IsPaced parser (one_header p parser n) = paced_entries p (range_with_len 0 (length (entries_in n parser.entries))) (record { parser = parser; at = number_of_entry parser.entries n 0 }) keeps in
-    paced_on parser (one_header p parser n) (fold (one_header p) (one_header p parser n) ns) one (paced_headers p ns (one_header p parser n) one.keeps)
+paced_stays : (one : ParserConfig) → StaysUnderJoins (IsPaced one)
+paced_stays one parser at e m there on can here = paced_on one parser (joined parser at e m) here (paced_joined parser here.keeps at e m there on can)
 
 compact_pace : (parser : ParserConfig) → KeepsForm parser → KeepsPace parser (compact parser)
 compact_pace parser keeps frame small count done =
@@ -308,5 +278,5 @@ plain_pace p places good apart fits keeps port frame small count walks_done =
 
 pub clustered_pace : (p : Program) (places : List (List Lane)) → IsProgram p → KeepsApart p places → refusal p ≡ None → KeepsForm (plain p places) → MeetsNoMore (clustered p places) p
 clustered_pace p places good apart fits keeps port frame small count walks_done =
-    let joins : IsPaced (plain p places) (all_joined p (plain p places)) = paced_headers p (reverse (range_with_len 0 (length p.headers))) (plain p places) keeps in
+    let joins : IsPaced (plain p places) (all_joined p (plain p places)) = joins_hold (IsPaced (plain p places)) (paced_stays (plain p places)) p (plain p places) (paced_same (plain p places) keeps) in
     compact_pace (all_joined p (plain p places)) joins.keeps frame small count (joins.pace frame small count (plain_pace p places good apart fits keeps port frame small count walks_done))

@@ -1,5 +1,5 @@
 -- The clustered parser of a program: headers of one step.
-use Rattle.std.specs.Prelude.{ℕ, ◌+◌, ◌-◌, List, [], ◌∷◌, ◌++◌, Bool, false, ◌||◌, ◌==◌, if◌then◌else◌, Option, Some, None, Result, map, fold, reverse, length, slice_get}
+use Rattle.std.specs.Prelude.{ℕ, zero, suc, ◌+◌, List, [], ◌∷◌, ◌++◌, Bool, false, ◌||◌, ◌==◌, if◌then◌else◌, Option, Some, None, Result, map, fold, length}
 use Rattle.std.specs.List.{filter, flat_map, range_with_len}
 use Rattle.rmt_bits.specs.declared.lane.Lane.{Lane}
 use Rattle.rmt_ptcam.specs.Types.{Program, Header, Case, Target, ParserConfig, ParserState, ParserEntry, Next}
@@ -8,7 +8,8 @@ use Rattle.rmt_config.specs.declared.config.Next.TheVariants as next
 use Rattle.rmt_ptcam.specs.declared.fault.ParserFault.{ParserFault}
 use Rattle.rmt_ptcam.specs.Needs.{refusal, unless}
 use Rattle.rmt_ptcam.specs.Plain.{plain}
-use Rattle.rmt_ptcam.specs.Joining.{Row, entries_in, is_among, join_at, number_of_entry, parser_of, rows_of}
+use Rattle.rmt_ptcam.specs.declared.joins.Join.{Join}
+use Rattle.rmt_ptcam.specs.Joining.{Row, entries_in, entries_to, entry_named, is_among, join_named, parser_of, rows_of}
 
 -- ---- joins
 
@@ -31,36 +32,50 @@ is_wanted p parser next.Accept = false
 is_wanted p parser next.Reject = false
 is_wanted p parser (next.State m) = (length (entries_in m parser.entries) == 1) || (arrivals p m == 1)
 
--- a parser, and the number of the entry that is looked at next
+-- how far clustering has come: the parser, the joins that were made, in order, and how many entries of a state are behind
 pub record Clustering : Type 0 where
   pub parser : ParserConfig
-  pub at : ℕ
+  pub joins : List Join
+  pub behind : ℕ
 
--- how many entries stand for one of a parser in another, in which the others are as many
-abbrev pub stand_for_one : ParserConfig → ParserConfig → ℕ
-stand_for_one parser q = length q.entries + 1 - length parser.entries
+-- no join of a parser is made yet
+abbrev pub unjoined : ParserConfig → Clustering
+unjoined parser = record { parser = parser; joins = []; behind = 0 }
 
--- behind the entries that stand for the one that was looked at
-abbrev pub behind_join : Clustering → Option ParserConfig → Clustering
-behind_join c None = record c { at = c.at + 1 }
-behind_join c (Some q) = record { parser = q; at = c.at + stand_for_one c.parser q }
+-- behind one more entry, or behind those of the next state, which stand for an entry that is joined
+abbrev pub behind_join : Clustering → Join → Next → Option ParserConfig → Clustering
+behind_join c j to None = record c { behind = c.behind + 1 }
+behind_join c j to (Some q) = record { parser = q; joins = c.joins ++ j ∷ []; behind = c.behind + length (entries_to c.parser to) }
 
--- one entry, joined where it is wanted and can be
-abbrev pub one_entry : Program → Clustering → Option ParserEntry → Clustering
-one_entry p c None = record c { at = c.at + 1 }
-one_entry p c (Some e) = if is_wanted p c.parser e.next then behind_join c (join_at c.parser c.at (Some e)) else record c { at = c.at + 1 }
+-- an entry, joined where it is wanted and can be
+abbrev pub one_entry : Program → Clustering → Join → Option ParserEntry → Clustering
+one_entry p c j None = c
+one_entry p c j (Some e) = behind_join c j e.next (if is_wanted p c.parser e.next then join_named c.parser j else None)
 
--- so many entries, one after another
-abbrev pub some_entries : Program → ℕ → Clustering → Clustering
-some_entries p count c = fold (λ (d : Clustering) k. one_entry p d (slice_get d.parser.entries d.at)) c (range_with_len 0 count)
+-- the state's entry that is looked at next
+abbrev pub next_entry : Program → ℕ → Clustering → Clustering
+next_entry p n c = let j : Join = record { state = n; entry = c.behind } in one_entry p c j (entry_named c.parser j)
+
+-- so many entries of state n, one after another
+abbrev pub some_entries : Program → ℕ → ℕ → Clustering → Clustering
+some_entries p n zero c = c
+some_entries p n (suc count) c = some_entries p n count (next_entry p n c)
 
 -- the entries of header n, from the first to the last
-abbrev pub one_header : Program → ParserConfig → ℕ → ParserConfig
-one_header p parser n = (some_entries p (length (entries_in n parser.entries)) (record { parser = parser; at = number_of_entry parser.entries n 0 })).parser
+abbrev pub one_header : Program → ℕ → Clustering → Clustering
+one_header p n c = some_entries p n (length (entries_in n c.parser.entries)) (record c { behind = 0 })
 
--- the headers, from the last to the first
+-- so many headers, from the last to the first
+abbrev pub some_headers : Program → ℕ → Clustering → Clustering
+some_headers p zero c = c
+some_headers p (suc n) c = some_headers p n (one_header p n c)
+
+-- all headers of a program
+abbrev pub all_headers : Program → ParserConfig → Clustering
+all_headers p parser = some_headers p (length p.headers) (unjoined parser)
+
 abbrev pub all_joined : Program → ParserConfig → ParserConfig
-all_joined p parser = fold (one_header p) parser (reverse (range_with_len 0 (length p.headers)))
+all_joined p parser = (all_headers p parser).parser
 
 -- ---- states that are met
 

@@ -10,6 +10,7 @@ use Rattle.rmt_config.specs.ParserForm.{state_is_formed, entry_is_formed}
 use Rattle.rmt_config.specs.TailForm.{is_tail_of}
 use Rattle.rmt_ptcam.specs.ByteTests.{joined_tests, mask_over, test_for, tests_of, value_over}
 use Rattle.rmt_ptcam.specs.Fitting.{IsParser}
+use Rattle.rmt_ptcam.specs.declared.joins.Join.{Join}
 -- an entry with its tail, where it has one
 pub use Rattle.rmt_ptcam.specs.declared.joining.rows.Row.{Row}
 
@@ -159,6 +160,20 @@ abbrev pub join_of : ParserConfig → ℕ → ℕ → Option ParserConfig
 join_of parser state entry =
     let at = number_of_entry parser.entries state entry in
     join_at parser at (slice_get parser.entries at)
+
+-- the entry of a join: the one with its number among those of its state
+abbrev pub entry_named : ParserConfig → Join → Option ParserEntry
+entry_named parser j = slice_get (entries_in j.state parser.entries) j.entry
+
+-- the parser behind one join; None where its entry isn't there, or can't be joined
+abbrev pub join_named : ParserConfig → Join → Option ParserConfig
+join_named parser j = if nat_lt j.entry (length (entries_in j.state parser.entries)) then join_of parser j.state j.entry else None
+
+-- the entries of the state that is gone to
+abbrev pub entries_to : ParserConfig → Next → List ParserEntry
+entries_to parser next.Accept = []
+entries_to parser next.Reject = []
+entries_to parser (next.State state) = entries_in state parser.entries
 
 -- ---- what a joined parser has to be
 

@@ -20,6 +20,7 @@ pub(crate) mod compaction;
 use crate::clustered::clustering::all_joined;
 use crate::clustered::compaction::compact;
 use crate::fault::ParserFault;
+use crate::joining::rows::{flattened, grouped};
 use crate::plain::plain_parser;
 use rmt_ast::program::Program;
 use rmt_config::config::ParserConfig;
@@ -60,7 +61,9 @@ pub fn clustered_parser(
     // It has no more entries than the plain parser.
     ensures few { IfOk result (λ parser. length parser.entries ≤ length (plain program.now places.now).entries) }
 {
-    let mut parser = plain_parser(alloc, program, places)?;
-    all_joined(alloc, program, &mut parser)?;
+    let plain = plain_parser(alloc, program, places)?;
+    let mut groups = grouped(alloc, &plain)?;
+    all_joined(alloc, program, &mut groups)?;
+    let parser = flattened(alloc, &groups)?;
     Ok(compact(alloc, &parser)?)
 }

@@ -1,11 +1,8 @@
 //! One entry of the parser joined to the entries of the state that it goes to.
 
-ghost use Rattle.std.specs.Prelude.{◌≡◌, ◌≤◌, ◌<◌, ◌+◌, ◌-◌, length, slice_get, IfOk, IfSome, IsTrue};
-ghost use Rattle.std.specs.List.Sorted.{IsNonDecreasingBy};
-ghost use Rattle.rmt_config.specs.declared.config.ParserEntry.{ParserEntry};
+ghost use Rattle.std.specs.Prelude.{◌≡◌, ◌<◌, length, IfOk, IfSome, IsTrue};
 ghost use Rattle.rmt_config.specs.ParserForm.{parser_is_formed};
-ghost use Rattle.rmt_ptcam.specs.Joining.{IsGood, KeepsForm, ParsesAlike, entries_in, join_at as join_at_of, join_of, number_of_entry as number_of_entry_of};
-ghost use Rattle.rmt_ptcam.specs.Joins.{join_named};
+ghost use Rattle.rmt_ptcam.specs.Joining.{IsGood, KeepsForm, ParsesAlike, entries_in, join_named, join_of};
 
 pub(crate) mod entry_rows;
 pub(crate) mod in_place;
@@ -33,35 +30,6 @@ pub fn count_in(entries: &[ParserEntry], state: u8) -> usize
     count
 }
 
-/// The number of a state's entry among all.
-pub fn number_of_entry(entries: &[ParserEntry], state: u8, entry: u16) -> usize
-    requires { length entries.now < 65536 }
-    ensures { result ≡ number_of_entry_of entries.now state entry }
-{
-    let mut count = 0;
-    for other in entries {
-        if other.state < state {
-            count += 1;
-        }
-    }
-    count + usize::from(entry)
-}
-
-/// The join of the entry with this number.
-pub fn join_of_entry(entries: &[ParserEntry], at: usize) -> Join
-    requires sorted { IsNonDecreasingBy (λ (e : ParserEntry). e.state) entries.now }
-    requires there { at < length entries.now }
-    requires few { length entries.now < 65536 }
-    ensures { IfSome (slice_get entries.now at) (λ e. result ≡ record { state = e.state; entry = at - number_of_entry_of entries.now e.state 0 }) }
-{
-    let state = entries[at].state;
-    let first = number_of_entry(entries, state, 0);
-    Join {
-        state,
-        entry: (at - first) as u16,
-    }
-}
-
 /// A copy of bytes.
 pub fn copied(alloc: Global, bytes: &[u8]) -> Result<Bytes, AllocError>
     ensures { IfOk result (λ copy. copy ≡ bytes.now) }
@@ -84,22 +52,6 @@ fn behind_join(
         return Ok(None);
     }
     Ok(Some(flattened(alloc, &groups)?))
-}
-
-/// The entry with this number joined to those of the state that it goes to, where it can be.
-pub fn join_at(
-    alloc: Global,
-    parser: &ParserConfig,
-    at: usize,
-) -> Result<Option<ParserConfig>, AllocError>
-    requires keeps { KeepsForm parser.now }
-    requires there { at < length parser.now.entries }
-    ensures given { IfOk result (λ o. o ≡ join_at_of parser.now at (slice_get parser.now.entries at)) }
-    ensures good { IfOk result (λ o. IfSome o (IsGood parser.now)) }
-    ensures count { IfOk result (λ o. IfSome o (λ q. length parser.now.entries ≤ length q.entries + 1)) }
-{
-    let join = join_of_entry(parser.entries.as_slice(), at);
-    behind_join(alloc, parser, join)
 }
 
 /// Joins an entry to those of the state that it goes to: the parser in which the entry is replaced by one for each of them,
@@ -129,6 +81,5 @@ pub fn join(
     // It keeps the rules of form, so the chip can run it and it can be joined again.
     ensures formed { IfOk result (λ o. IfSome o (λ q. IsTrue (parser_is_formed q))) }
 {
-    let at = number_of_entry(parser.entries.as_slice(), state, entry);
-    Ok(join_at(alloc, parser, at)?)
+    Ok(behind_join(alloc, parser, Join { state, entry })?)
 }

@@ -51,8 +51,9 @@ pub fn joins_of(
     // Made again on the plain parser, they give the clustered one.
     ensures replay { IfOk result (λ joins. replayed_of (plain program.now places.now) joins ≡ Some (clustered program.now places.now)) }
 {
-    let mut parser = plain_parser(alloc, program, places)?;
-    Ok(all_joined(alloc, program, &mut parser)?)
+    let parser = plain_parser(alloc, program, places)?;
+    let mut groups = grouped(alloc, &parser)?;
+    Ok(all_joined(alloc, program, &mut groups)?)
 }
 
 /// Makes joins in place, one after another, and tells whether all were made; the first one that can't be made ends it.
@@ -71,8 +72,9 @@ fn all_in(alloc: Global, groups: &mut [StateRows], joins: &[Join]) -> Result<boo
 /// Makes joins on a parser, one after another; then states that can't be met are left out, and the others numbered in order.
 ///
 /// It is `None` where the entry of a join isn't there by then, or can't be joined, as `join` says. A join that can't be made
-/// ends the work. One that is made takes the time of a look at each state and of the entries that come in place of its own,
-/// and touches the other entries of its state only where that looks at more bytes than before, or where more than one comes.
+/// ends the work. One that is made takes the time of a look at each state and of the entries that come in place of its own:
+/// of the other entries of its state only those behind are moved, at once, where more than one comes, and all are touched
+/// only where the state looks at more bytes than before.
 ///
 /// # Errors
 ///

@@ -1,9 +1,10 @@
--- The program on two stages: each of the six parts of carrying it is broken by one small change.
-use Rattle.std.proofs.Common.{◌≡◌, ◌+◌, ◌<◌, ◌≤◌, Bool, true, false, List, [], ◌∷◌, map, refl, sym, ap, inl, inr, arith}
+-- The program on two stages: each of the seven parts of carrying it is broken by one small change.
+use Rattle.std.proofs.Common.{◌≡◌, ◌+◌, ◌<◌, ◌≤◌, Bool, true, false, List, [], ◌∷◌, length, map, Some, refl, sym, ap, inl, inr, arith}
 use Rattle.std.specs.Prelude.{All, Contains, slice_index}
 use Rattle.std.proofs.lemmas.List.Elements.{All-cons, All-head, All-nil}
 use Rattle.rmt_bits.specs.declared.lane.Lane.{Lane}
 use Rattle.rmt_ast.specs.declared.deps.EdgeKind.TheVariants as edges
+use Rattle.rmt_ast.specs.declared.names.Names.{Names}
 use Rattle.rmt_ast.specs.Walk.{Walk}
 use Rattle.rmt_ast.specs.Walk as walks
 use Rattle.rmt_deps.specs.Edges.{edge}
@@ -87,3 +88,10 @@ other_start h =
     let apart = h.edges.distances.apart (edge 0 2 edges.Action) 0 1 (0, omega arith, refl) (0, omega arith, refl) (0, omega arith, refl) (omega arith) in
     let le : 0 + 3 ≤ 2 = apart in
     omega (arith, le)
+
+-- names without the table that has a key
+pub other_names : Carries program lists its_map (record config { names = Some (record { tables = [] }) }) → ⊥
+other_names h =
+    let e = h.names.names_are in
+    let tables : 0 ≡ 1 = ap (λ (names : Names). length names.tables) e in
+    omega (arith, tables)

@@ -10,9 +10,12 @@ use Rattle.rmt_pack.specs.declared.placement.Part.{Part}
 use Rattle.rmt_pack.specs.Placements.{Keeps, is_strict}
 use Rattle.rmt_pack.specs.Starts.{distance, stages_of}
 use Rattle.rmt_refine.specs.Carries.{Carries, EdgesKept, all_edges}
-use Rattle.rmt_refine.proofs.TwoStages.{config, its_map, lists, parts, places, program}
+use Rattle.rmt_refine.specs.Named.{NamesCarried}
+use Rattle.rmt_refine.proofs.TwoStages.{config, its_map, its_names, lists, parts, places, program}
 use Rattle.rmt_refine.proofs.ListedLaws.{all_by, at_most, differ, three}
 use Rattle.rmt_refine.proofs.PlacesExamples.{places_carried, units_carried}
+use Rattle.rmt_refine.proofs.CellNumberLaws.{all_listed}
+use Rattle.rmt_refine.proofs.MemoryExamples.{memories_hold}
 use Rattle.rmt_refine.proofs.CellsExamples.{cells_carried}
 use Rattle.rmt_refine.proofs.CodeExamples.{code_carried}
 use Rattle.rmt_refine.proofs.ParserExamples.{parser_agrees}
@@ -83,7 +86,13 @@ edges_kept = record {
   };
 }
 
+-- ---- names
+
+-- the cells and ranks of the configuration spell the entries
+names_carried : NamesCarried program lists config its_names
+names_carried = record { names_are = refl; entries = refl }
+
 -- ---- so it carries the program
 
 pub carried : Carries program lists its_map config
-carried = record { places = places_carried; parser = parser_agrees; units = units_carried; cells = cells_carried; code = code_carried; edges = edges_kept }
+carried = record { places = places_carried; parser = parser_agrees; units = units_carried; cells = cells_carried; listed = all_listed 3 config memories_hold; code = code_carried; edges = edges_kept; names = names_carried }

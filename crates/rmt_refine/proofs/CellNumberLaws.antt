@@ -26,6 +26,7 @@ use Rattle.rmt_refine.specs.View.{as_slot, no_content, own_content, own_number, 
 use Rattle.rmt_refine.specs.Units.{DoesAs, TableCarried, applied, table_at}
 use Rattle.rmt_refine.specs.Cells.{IsSpotOf, IsTold, Spot, TableCellsCarried}
 use Rattle.rmt_refine.specs.Carries.{Carries}
+use Rattle.rmt_refine.specs.Listed.{ListTheirCells, ListsItsCells}
 use Rattle.rmt_refine.specs.Outcomes.{entries_at}
 use Rattle.rmt_refine.proofs.NumberLaws.{counted_is, from_counted, in_counted}
 use Rattle.rmt_refine.proofs.OutcomeLaws.{list_at}
@@ -47,7 +48,7 @@ coded_slot P ((Slot s) ∷ units) first (suc place) slot e all =
     coded_slot P units (first + s.actions + 1) place slot e (All-tail P (record { first = first; slot = s }) (coded_from (first + s.actions + 1) units) all)
 
 -- the number of a cell that is listed
-listed_number : (numbers : List CellNumber) (least : ℕ) (x : CellNumber) → rises_from least (map (λ (n : CellNumber). n.cell) numbers) ≡ true → Contains numbers x
+pub listed_number : (numbers : List CellNumber) (least : ℕ) (x : CellNumber) → rises_from least (map (λ (n : CellNumber). n.cell) numbers) ≡ true → Contains numbers x
     → number_of_cell numbers x.cell ≡ x.number
 listed_number [] least x rises there = absurd (let lt = there.1 in omega (arith, lt))
 listed_number (y ∷ ys) least x rises there = by (y.cell == x.cell) refl (listed_number ys (y.cell + 1) x rest)
@@ -90,14 +91,8 @@ clear_unseen (Ternary d ks rs cs) content n lt clear =
     (and_parts ((content.head == 0) && (content.key == 0) && (content.held == 0)) (content.mask == 0) clear).0 in
     head_clear content (and_parts (content.head == 0) (content.key == 0) first.0).0
 
--- what the rules of form say of the cells that a slot lists
-pub record CellsListed (stage : Stage) (slot : SlotUnit) : Type 0 where
-  pub rises : rises_from 0 (cells_of slot) ≡ true
-  pub within : (n : CellNumber) → Contains slot.numbers n → n.cell < cells_in slot.memory
-  pub seen : (n : CellNumber) → Contains slot.numbers n → is_seen (content_of stage slot n.cell).head ≡ true
-  pub others : (n : ℕ) → n < cells_in slot.memory → is_seen (content_of stage slot n).head ≡ true → Contains (cells_of slot) n
-
-pub cells_listed : (visible : ℕ) (stage : Stage) (first : ℕ) (slot : SlotUnit) → SlotHolds visible stage first slot → CellsListed stage slot
+-- the rules of form ask that a slot lists its occupied cells
+pub cells_listed : (visible : ℕ) (stage : Stage) (first : ℕ) (slot : SlotUnit) → SlotHolds visible stage first slot → ListsItsCells stage slot
 cells_listed visible stage first slot holds = record {
   rises = front.0;
   within = λ n there. ltb-true n.cell (cells_in slot.memory) (All-contains (λ x. nat_lt x (cells_in slot.memory) ≡ true) (cells_of slot) n.cell all_within (cell_there n there));
@@ -137,14 +132,20 @@ cells_listed visible stage first slot holds = record {
         let clear = holds.others n lt (ap not e) in
         absurd (both_ways (is_seen (content_of stage slot n).head) (clear_unseen slot.memory (content_of stage slot n) n lt clear) seen)
 
+-- so each slot of a configuration does
+pub all_listed : (visible : ℕ) (c : Config) → All (StageHolds visible) c.stages → ListTheirCells c
+all_listed visible c memory k place stage slot at there =
+    let coded = coded_slot (λ (x : Coded). SlotHolds visible stage x.first x.slot) stage.units 0 place slot there (All-slice_get (StageHolds visible) c.stages k stage memory at) in
+    cells_listed visible stage coded.0 slot coded.1
+
 -- ---- the table of a slot
 
-does_table : (p : Program) (m : Map) (k n : ℕ) (w : What) (slot : SlotUnit) → DoesAs p m.places m.placement.parts k n w (Slot slot)
+pub does_table : (p : Program) (m : Map) (k n : ℕ) (w : What) (slot : SlotUnit) → DoesAs p m.places m.placement.parts k n w (Slot slot)
     → (t : Table) × (applied p w ≡ Some t) × TableCarried m.places m.placement.parts n k t slot
 does_table p m k n (what.Apply i) slot does = some_and (slice_get p.tables i) (λ (t : Table). TableCarried m.places m.placement.parts n k t slot) does
 does_table p m k n (what.Gate field test) slot does = absurd does
 
-counted_table : (p : Program) (w : What) → is_counted p w ≡ true → (t : Table) × (applied p w ≡ Some t) × (t.counted ≡ true)
+pub counted_table : (p : Program) (w : What) → is_counted p w ≡ true → (t : Table) × (applied p w ≡ Some t) × (t.counted ≡ true)
 counted_table p (what.Gate field test) e = absurd (both_ways false refl e)
 counted_table p (what.Apply i) e = by_table (slice_get p.tables i) refl e
   where
@@ -154,8 +155,7 @@ counted_table p (what.Apply i) e = by_table (slice_get p.tables i) refl e
 
 -- ---- the numbers of a configuration
 
-module _ (p : Program) (lists : List (List Entry)) (m : Map) (c : Config) (visible : ℕ) (entries : AreEntries p lists) (carries : Carries p lists m c)
-    (memory : All (StageHolds visible) c.stages) where
+module _ (p : Program) (lists : List (List Entry)) (m : Map) (c : Config) (entries : AreEntries p lists) (carries : Carries p lists m c) where
   -- what is known of a slot: its node, its table, and its cells
   record SlotKnown (k place : ℕ) (stage : Stage) (slot : SlotUnit) : Type 0 where
     node : Node
@@ -164,7 +164,7 @@ module _ (p : Program) (lists : List (List Entry)) (m : Map) (c : Config) (visib
     table_is : applied p node.what ≡ Some table
     at_table : table_at p slot.node ≡ Some table
     carried : TableCarried m.places m.placement.parts slot.node k table slot
-    listed : CellsListed stage slot
+    listed : ListsItsCells stage slot
     list_is : slice_get lists slot.node ≡ Some (entries_at lists slot.node)
     cells : TableCellsCarried p c (own_view c) m.cells slot.node table (map (width_of p) table.key) (entries_at lists slot.node)
 
@@ -175,7 +175,6 @@ module _ (p : Program) (lists : List (List Entry)) (m : Map) (c : Config) (visib
       let table = does_table p m k slot.node node.0.what slot node.2 in
       let list = list_at p lists slot.node node.0 entries node.1 in
       let at_table : table_at p slot.node ≡ Some table.0 = ap (option_and_then (λ (x : Node). applied p x.what)) node.1 ∙ table.1 in
-      let coded = coded_slot (λ (x : Coded). SlotHolds visible stage x.first x.slot) stage.units 0 place slot part.slot_is (All-slice_get (StageHolds visible) c.stages k stage memory part.stage_is) in
       record {
         node = node.0;
         table = table.0;
@@ -183,7 +182,7 @@ module _ (p : Program) (lists : List (List Entry)) (m : Map) (c : Config) (visib
         table_is = table.1;
         at_table = at_table;
         carried = table.2;
-        listed = cells_listed visible stage coded.0 slot coded.1;
+        listed = carries.listed k place stage slot part.stage_is part.slot_is;
         list_is = list.0;
         cells = carries.cells.tables slot.node table.0 (entries_at lists slot.node) at_table list.0;
       }
@@ -231,7 +230,7 @@ module _ (p : Program) (lists : List (List Entry)) (m : Map) (c : Config) (visib
           subst (Contains (counted_numbers p p.nodes lists)) x.2 (told k place stage slot x.0 part e x.1)
       by false e h = absurd (let lt = h.1 in omega (arith, lt))
 
-  all_told : (n : ℕ) → Contains (chip_numbers c) n → Contains (counted_numbers p p.nodes lists) n
+  pub all_told : (n : ℕ) → Contains (chip_numbers c) n → Contains (counted_numbers p p.nodes lists) n
   all_told n there =
       let stage = flat_from (λ (x : Stage). flat_map unit_numbers x.units) c.stages n there in
       let unit = flat_from unit_numbers stage.1.units n stage.3 in
@@ -281,7 +280,7 @@ module _ (p : Program) (lists : List (List Entry)) (m : Map) (c : Config) (visib
           let holds = cells.holds e at stage there is_spot is_told part.stage_is in
           entry_has at.stage at.place at.cell stage slot e (own_part n at.stage at.place stage slot part) (slot_counted n at.stage at.place stage slot t part at_table counted) lt holds.seen holds.number_is
 
-  all_have : (n : ℕ) → Contains (counted_numbers p p.nodes lists) n → Contains (chip_numbers c) n
+  pub all_have : (n : ℕ) → Contains (counted_numbers p p.nodes lists) n → Contains (chip_numbers c) n
   all_have n there =
       let r = from_counted p p.nodes lists n there in
       let list = list_at p lists r.n r.node entries r.node_is in

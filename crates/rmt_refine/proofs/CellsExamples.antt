@@ -31,7 +31,7 @@ Told k place n = (e : Entry) × Contains entries e × IsTold cells e (record { s
 
 -- no cell of the first part is seen but the two that it lists
 first_only : (n : ℕ) → n < 2048 → is_seen (own_content config 0 1 n).head ≡ true → Told 0 1 n
-first_only n lt seen = elim (Contains-split 0 (1 ∷ []) n ((cells_listed 0 first_stage 1 _ first_holds).others n lt seen)) [
+first_only n lt seen = elim (Contains-split 0 (1 ∷ []) n ((cells_listed 3 first_stage 1 _ first_holds).others n lt seen)) [
   | inl e ↦ subst (Told 0 1) e (first_line, (1, omega arith, refl), (1, omega arith, refl))
   | inr later ↦ elim (Contains-split 1 [] n later) [
     | inl e ↦ subst (Told 0 1) e (second_line, (2, omega arith, refl), (2, omega arith, refl))
@@ -41,7 +41,7 @@ first_only n lt seen = elim (Contains-split 0 (1 ∷ []) n ((cells_listed 0 firs
 
 -- and of the second one but the one
 second_only : (n : ℕ) → n < 2048 → is_seen (own_content config 1 0 n).head ≡ true → Told 1 0 n
-second_only n lt seen = elim (Contains-split 0 [] n ((cells_listed 0 second_stage 0 _ second_holds).others n lt seen)) [
+second_only n lt seen = elim (Contains-split 0 [] n ((cells_listed 3 second_stage 0 _ second_holds).others n lt seen)) [
   | inl e ↦ subst (Told 1 0) e (lowest_last, (0, omega arith, refl), (0, omega arith, refl))
   | inr more ↦ absurd (let none = more.1 in omega (arith, none))
 ]

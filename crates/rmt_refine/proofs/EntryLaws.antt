@@ -80,7 +80,7 @@ Contains-filter_map {X} {Y} f (z ∷ zs) x y there e = elim (Contains-split z zs
 
 -- ---- numbers
 
-all_numbers : (lists : List (List Entry)) → flat_map entry_numbers lists ≡ map (λ (e : Entry). e.number) (all_entries lists)
+pub all_numbers : (lists : List (List Entry)) → flat_map entry_numbers lists ≡ map (λ (e : Entry). e.number) (all_entries lists)
 all_numbers [] = refl
 all_numbers (es ∷ lists) = ap (λ ns. entry_numbers es ++ ns) (all_numbers lists) ∙ sym (map-append (λ (e : Entry). e.number) es (all_entries lists))
 

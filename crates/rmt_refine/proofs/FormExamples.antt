@@ -8,7 +8,7 @@ use Rattle.rmt_refine.specs.Types.{Field, Header, Action, Table}
 use Rattle.rmt_ast.specs.declared.entry.Entry.{Entry}
 use Rattle.rmt_ast.specs.EntryLists.{AreEntries, AreTableEntries, IsEntry, terms_of}
 use Rattle.rmt_ast.specs.WellFormed.{AllNumbered, AreAppliedOnce, BeginsWith, HasFields, HasHeaderNames, HasNames, IsAction, IsHeader, IsNode, IsProgram, IsTable, IsTest, IsWidth, name_of}
-use Rattle.rmt_ast.proofs.Programs.{action, field, keyless}
+use Rattle.rmt_ast.proofs.Programs.{field, keyless}
 use Rattle.rmt_bits.proofs.PairLaws.{AllPairs-none}
 use Rattle.rmt_ast.proofs.WellFormedLemmas.{AllNumbered-from_items, AreDistinct-from_apart}
 use Rattle.rmt_refine.proofs.ListedLaws.{three, two}

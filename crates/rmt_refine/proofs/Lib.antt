@@ -40,7 +40,24 @@ mod UnseenLaws
 mod SameCellLaws
 mod OneStateLaws
 mod EntryLaws
+mod StandLaws
 mod KeptLaws
+mod FilledLaws
+mod StartLaws
+mod NamedLaws
+mod InputLaws
+mod MetLaws
+mod HitNumberLaws
+mod RunNumberLaws
+mod EventRunLaws
+mod ShortLaws
+pub mod SpelledFieldLaws
+pub mod SpelledRankLaws
+pub mod SpelledEntryLaws
+mod SortedLaws
+pub mod SpelledLaws
+mod FitLaws
+mod RoomOrderLaws
 mod RefinedExamples
 mod Examples
 mod TwoStages
@@ -54,5 +71,6 @@ mod FormExamples
 mod CarriedExamples
 mod BrokenExamples
 mod SeenByExamples
+mod CommitRunExamples
 mod OutcomeExamples
 mod ListExamples

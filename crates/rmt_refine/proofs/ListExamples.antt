@@ -1,5 +1,5 @@
 -- The program on two stages: lists of packets, and the counters behind them.
-use Rattle.std.proofs.Common.{◌≡◌, ℕ, ◌*◌, false, List, [], ◌∷◌, map, refl}
+use Rattle.std.proofs.Common.{◌≡◌, ℕ, ◌*◌, false, List, [], ◌∷◌, map, refl, arith}
 use Rattle.rmt_bits.specs.Packet.{Packet}
 use Rattle.rmt_bits.specs.declared.answer.Count.{Count}
 use Rattle.rmt_bits.specs.declared.answer.Verdict.{Verdict}
@@ -8,11 +8,12 @@ use Rattle.rmt_ast.specs.Answers.{answers_of, counts_of}
 use Rattle.rmt_refine.specs.Types.{Config}
 use Rattle.rmt_config.specs.declared.config.Unit.TheVariants.{Slot}
 use Rattle.rmt_config.specs.ChipRun.{chip_counts_of, inputs_of, outcomes_of}
+use Rattle.rmt_refine.specs.Carries.{Carries}
 use Rattle.rmt_refine.specs.RunsAs.{RunsAs, told_by_answer, told_by_outcome}
 use Rattle.rmt_refine.proofs.CarriedExamples.{carried}
 use Rattle.rmt_refine.proofs.FormExamples.{are_entries, is_program}
+use Rattle.rmt_refine.proofs.ListedLaws.{never}
 use Rattle.rmt_refine.proofs.ListLaws.{lists_law}
-use Rattle.rmt_refine.proofs.MemoryExamples.{memories_hold}
 use Rattle.rmt_refine.proofs.OutcomeExamples.{packet}
 use Rattle.rmt_refine.proofs.TwoStages.{config, first_stage, its_map, keyless_unit, lists, number_at, ports_unit, program, second_stage}
 
@@ -44,6 +45,10 @@ one_too_many = record config {
 pub other_counter : chip_counts_of one_too_many (inputs_of one_too_many packets) ≡ count 0 1 ∷ count 1 2 ∷ count 2 0 ∷ count 5 0 ∷ []
 other_counter = refl
 
+-- so it doesn't carry the program
+pub other_list : Carries program lists its_map one_too_many → ⊥
+other_list h = never ((h.listed 0 1 _ _ refl refl).seen (number_at 2 5) (2, omega arith, refl))
+
 -- the law for lists holds of every list of packets there
 pub all_lists : RunsAs program lists config
-all_lists = lists_law program lists its_map config 0 is_program are_entries carried memories_hold
+all_lists = lists_law program lists its_map config is_program are_entries carried

@@ -28,12 +28,12 @@ use Rattle.rmt_refine.proofs.UnseenLaws.{changes_unseen, seed_stays}
 -- ---- lists of inputs
 
 -- what stands behind some items
-past : {S X : Type 0} (f : S → X → S) (s : S) (xs ys : List X) (i : ℕ) → fold f s (take (length xs + i) (xs ++ ys)) ≡ fold f (fold f s xs) (take i ys)
+pub past : {S X : Type 0} (f : S → X → S) (s : S) (xs ys : List X) (i : ℕ) → fold f s (take (length xs + i) (xs ++ ys)) ≡ fold f (fold f s xs) (take i ys)
 past f s [] ys i = let none : 0 + i ≡ i = omega arith in ap (λ n. fold f s (take n ys)) none
 past f s (x ∷ xs) ys i = let more : suc (length xs) + i ≡ suc (length xs + i) = omega arith in ap (λ n. fold f s (take n (x ∷ (xs ++ ys)))) more ∙ past f (f s x) xs ys i
 
 -- idle cycles change nothing
-idle : (c : Config) (cells : RunCells) (n : ℕ) → fold (after_input c) cells (replicate n Idle) ≡ cells
+pub idle : (c : Config) (cells : RunCells) (n : ℕ) → fold (after_input c) cells (replicate n Idle) ≡ cells
 idle c cells zero = refl
 idle c cells (suc n) = idle c cells n
 
@@ -58,13 +58,13 @@ all_writes c cells [] = refl
 all_writes c cells (w ∷ ws) = all_writes c (with_write c cells w) ws
 
 -- a commit's cycles but the last one
-abbrev changing : ℕ → List CellWrite → List Input
+abbrev pub changing : ℕ → List CellWrite → List Input
 changing n ws = replicate n Idle ++ map Writes ws
 
-length_changing : (n : ℕ) (ws : List CellWrite) → length (changing n ws) ≡ n + length ws
+pub length_changing : (n : ℕ) (ws : List CellWrite) → length (changing n ws) ≡ n + length ws
 length_changing n ws = length-append (replicate n Idle) (map Writes ws) ∙ ap (λ m. m + length (map Writes ws)) (length-replicate n Idle) ∙ ap (λ m. n + m) (length-map ws Writes)
 
-after_changing : (c : Config) (cells : RunCells) (n : ℕ) (ws : List CellWrite) → fold (after_input c) cells (changing n ws) ≡ fold (with_write c) cells ws
+pub after_changing : (c : Config) (cells : RunCells) (n : ℕ) (ws : List CellWrite) → fold (after_input c) cells (changing n ws) ≡ fold (with_write c) cells ws
 after_changing c cells zero ws = all_writes c cells ws
 after_changing c cells (suc n) ws = after_changing c cells n ws
 
@@ -101,7 +101,7 @@ seed_made c names cells before after seed next (stays placed e) = refl
 
 module _ (c : Config) (names : Names) (formed : Formed c) (named : c.names ≡ Some names) where
   -- cells that agree before a version turns agree with the cells of the next one
-  same_turned : (r : RunState) (cells next : RunCells) (ws : List CellWrite) (seed : ℕ) → next.version ≡ r.cells.version → SameCells c cells r.cells → AreWrites c r.cells next ws
+  pub same_turned : (r : RunState) (cells next : RunCells) (ws : List CellWrite) (seed : ℕ) → next.version ≡ r.cells.version → SameCells c cells r.cells → AreWrites c r.cells next ws
       → SameCells c (with_version (fold (with_write c) cells ws) seed) (with_version next seed)
   same_turned r cells next ws seed nv h w =
       let all = same_writes c cells r.cells ws h in
@@ -117,7 +117,7 @@ module _ (c : Config) (names : Names) (formed : Formed c) (named : c.names ≡ S
       version_stays x (v ∷ vs) = version_stays (with_write c x v) vs
 
   -- a commit's cells keep the version until it turns
-  version_made : (before after : List (List Entry)) (cells next : RunCells) (moved : Bool) (seed : ℕ) → Makes c names cells before after moved seed next → next.version ≡ cells.version
+  pub version_made : (before after : List (List Entry)) (cells next : RunCells) (moved : Bool) (seed : ℕ) → Makes c names cells before after moved seed next → next.version ≡ cells.version
   version_made before after cells next moved seed (stays placed e) = refl
   version_made before after cells next moved seed (moves s placed e f g) = refl
 

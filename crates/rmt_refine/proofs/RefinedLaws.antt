@@ -45,9 +45,13 @@ module _ (p : Program) (lists : List (List Entry)) (m : Map) (c : Config) (v : V
 own_look_is : (c : Config) → look_in c (own_view c) ≡ own_look c
 own_look_is c = λ i k place key. own_look_law c k place key i
 
+-- a configuration that carries a program carries it in its own view
+pub in_own_view : (p : Program) (lists : List (List Entry)) (m : Map) (c : Config) → Carries p lists m c → CarriesIn p lists m c (own_view c)
+in_own_view p lists m c carries = record { places = carries.places; parser = carries.parser; units = carries.units; cells = carries.cells; code = carries.code; edges = carries.edges }
+
 -- One packet is answered as the program answers it, by the chip itself.
 pub own_packet : (p : Program) (lists : List (List Entry)) (m : Map) (c : Config) (packet : Packet) → IsProgram p → AreEntries p lists → Carries p lists m c
     → All (λ b. b < 256) packet.frame → packet.port < 512 → AnswersAs p lists (outcome_of (own_look c) c packet) (answer_of p lists packet)
 own_packet p lists m c packet program entries carries bytes port =
     subst (λ look. AnswersAs p lists (outcome_of look c packet) (answer_of p lists packet)) (own_look_is c)
-    (one_packet p lists m c (own_view c) program entries carries packet bytes port)
+    (one_packet p lists m c (own_view c) program entries (in_own_view p lists m c carries) packet bytes port)

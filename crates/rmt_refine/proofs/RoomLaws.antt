@@ -49,7 +49,7 @@ module _ (c : Config) (node k : ℕ) (stage : Stage) (in_stages : slice_get c.st
           All-cons (PartIs c node) (record { stage = k; place = place; first = first; slot = s }) (parts_among node k (place + 1) (first + s.actions + 1) units)
           (record { stage = stage; part = record { stage_is = in_stages; slot_is = ap (option_and_then as_slot) at; node_is = eqb-true s.node node e }; first = code }) rest
 
-stages_there : (c : Config) (node k : ℕ) (stages : List Stage) → ((i : ℕ) → slice_get stages i ≡ slice_get c.stages (k + i))
+pub stages_there : (c : Config) (node k : ℕ) (stages : List Stage) → ((i : ℕ) → slice_get stages i ≡ slice_get c.stages (k + i))
     → All (PartIs c node) (flat_map (λ (x : ℕ × Stage). parts_among node x.0 0 0 x.1.units) (enumerate_from k stages))
 stages_there c node k [] h = All-nil (PartIs c node)
 stages_there c node k (stage ∷ stages) h =
@@ -125,6 +125,23 @@ in_enumerated (s ∷ stages) j (suc i) stage e =
     subst (λ n. Contains ((j, s) ∷ enumerate_from (j + 1) stages) (n, stage)) next
     (Contains-later (j, s) (enumerate_from (j + 1) stages) (j + 1 + i, stage) (in_enumerated stages (j + 1) i stage e))
 
+-- a part of a node stands at its place
+pub part_at_place : (c : Config) (node k place : ℕ) (stage : Stage) (slot : SlotUnit) → IsPart c node k place stage slot → PartAtPlace k place slot (parts_of c node)
+part_at_place c node k place stage slot part =
+    let u = then_some as_slot (slice_get stage.units place) slot part.slot_is in
+    let unit_is : slice_get stage.units place ≡ Some (Slot slot) = u.1 ∙ ap Some (slot_is_unit u.0 slot u.2) in
+    let r = part_among node k slot part.node_is stage.units 0 0 place unit_is in
+    let at = r.place_is in
+    let stage_in : Contains (enumerate_from 0 c.stages) (k, stage) =
+    subst (λ n. Contains (enumerate_from 0 c.stages) (n, stage)) (let e : 0 + k ≡ k = omega arith in e) (in_enumerated c.stages 0 k stage part.stage_is) in
+    record {
+      part = r.part;
+      there = Contains-flat_map (λ (x : ℕ × Stage). parts_among node x.0 0 0 x.1.units) (enumerate_from 0 c.stages) (k, stage) r.part stage_in r.there;
+      stage_is = r.stage_is;
+      place_is = omega (arith, at);
+      slot_is = r.slot_is;
+    }
+
 -- a room of a key at a place
 pub record RoomAt (c : Config) (seed node key k place cell : ℕ) : Type 0 where
   pub room : Room
@@ -136,22 +153,15 @@ pub record RoomAt (c : Config) (seed node key k place cell : ℕ) : Type 0 where
 pub room_at : (c : Config) (seed node key k place cell : ℕ) (stage : Stage) (slot : SlotUnit) → IsPart c node k place stage slot
     → Contains (candidates seed (bits_of_lanes slot.keys) slot.memory key) cell → RoomAt c seed node key k place cell
 room_at c seed node key k place cell stage slot part there =
-    let u = then_some as_slot (slice_get stage.units place) slot part.slot_is in
-    let unit_is : slice_get stage.units place ≡ Some (Slot slot) = u.1 ∙ ap Some (slot_is_unit u.0 slot u.2) in
-    let r = part_among node k slot part.node_is stage.units 0 0 place unit_is in
-    let at = r.place_is in
-    let stage_in : Contains (enumerate_from 0 c.stages) (k, stage) =
-    subst (λ n. Contains (enumerate_from 0 c.stages) (n, stage)) (let e : 0 + k ≡ k = omega arith in e) (in_enumerated c.stages 0 k stage part.stage_is) in
-    let part_in : Contains (parts_of c node) r.part =
-    Contains-flat_map (λ (x : ℕ × Stage). parts_among node x.0 0 0 x.1.units) (enumerate_from 0 c.stages) (k, stage) r.part stage_in r.there in
+    let r = part_at_place c node k place stage slot part in
     let room : Room = record { part = r.part; cell = cell } in
     let own : Contains (candidates seed (bits_of_lanes r.part.slot.keys) r.part.slot.memory key) cell =
     subst (λ (x : SlotUnit). Contains (candidates seed (bits_of_lanes x.keys) x.memory key) cell) (sym r.slot_is) there in
     record {
       room = room;
-      there = Contains-flat_map (λ (p : PartAt). map (λ n. record { part = p; cell = n }) (candidates seed (bits_of_lanes p.slot.keys) p.slot.memory key)) (parts_of c node) r.part room part_in
+      there = Contains-flat_map (λ (p : PartAt). map (λ n. record { part = p; cell = n }) (candidates seed (bits_of_lanes p.slot.keys) p.slot.memory key)) (parts_of c node) r.part room r.there
           (Contains-map (λ n. record { part = r.part; cell = n }) (candidates seed (bits_of_lanes r.part.slot.keys) r.part.slot.memory key) cell own);
       stage_is = r.stage_is;
-      place_is = omega (arith, at);
+      place_is = r.place_is;
       cell_is = refl;
     }

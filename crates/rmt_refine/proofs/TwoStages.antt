@@ -1,6 +1,6 @@
 -- A program on two stages, with its entries, its map and its configuration, written out: two tables stand in each stage, a ternary table in both, and the second
 -- stage begins before what the first one writes is seen.
-use Rattle.std.proofs.Common.{ℕ, ◌+◌, ◌*◌, ◌^◌, Bool, true, false, List, [], ◌∷◌, None}
+use Rattle.std.proofs.Common.{ℕ, ◌+◌, ◌*◌, ◌^◌, Bool, true, false, List, [], ◌∷◌, None, Some}
 use Rattle.std.specs.Prelude.{codes}
 use Rattle.rmt_bits.specs.declared.lane.Lane.{Lane}
 use Rattle.rmt_refine.specs.Types.{Program, Test, Action, Table, Config, ParserConfig, Stage, SlotUnit, CellNumber, Operation, Source}
@@ -8,6 +8,8 @@ use Rattle.rmt_ast.specs.declared.program.Expr.TheVariants.{One}
 use Rattle.rmt_ast.specs.declared.program.Leaf.TheVariants as leaf
 use Rattle.rmt_ast.specs.declared.program.Kind.TheVariants.{Ternary}
 use Rattle.rmt_ast.specs.declared.entry.Entry.{Entry}
+use Rattle.rmt_ast.specs.declared.names.Names.{Names}
+use Rattle.rmt_ast.specs.Naming.{names_of}
 use Rattle.rmt_ast.proofs.Programs.{action, apply_table, field, header, keyless, with_fields}
 use Rattle.rmt_config.specs.declared.config.OpKind.TheVariants.{Copy}
 use Rattle.rmt_config.specs.declared.config.Source.TheVariants.{Word, Held, Constant}
@@ -134,13 +136,13 @@ to_x = copy (lane 2 0 8) (Word 1 0) ∷ []
 abbrev pub from_x : List Operation
 from_x = copy (lane 1 0 8) (Word 2 0) ∷ []
 
--- two cells are occupied: their instruction is number 1, behind that of note, and their data the ports 2 and 3
+-- two cells are occupied, with both visible bits: their instruction is number 1, behind that of note, and their data the ports 2 and 3
 abbrev pub first_stage : Stage
 first_stage = record {
   start = 0;
   units = Slot (keyless_unit 0) ∷ Slot (ports_unit false (number_at 0 1 ∷ number_at 1 2 ∷ [])) ∷ [];
   code = record { ops = to_x } ∷ record { ops = send } ∷ record { ops = send_zero } ∷ [];
-  srows = record { block = 0; row = 0; bits = 9 + 2 * 2 ^ 8 + (9 + 3 * 2 ^ 8) * 2 ^ 17 } ∷ [];
+  srows = record { block = 0; row = 0; bits = 15 + 2 * 2 ^ 8 + (15 + 3 * 2 ^ 8) * 2 ^ 17 } ∷ [];
   trows = record { block = 0; row = 0; value = 0x02; mask = 0x0f } ∷ record { block = 0; row = 1; value = 0x32; mask = 0xff } ∷ [];
 }
 
@@ -150,7 +152,7 @@ second_stage = record {
   start = 3;
   units = Slot (ports_unit true (number_at 0 0 ∷ [])) ∷ Slot (keyless_unit 2) ∷ [];
   code = record { ops = send } ∷ record { ops = send_zero } ∷ record { ops = from_x } ∷ [];
-  srows = record { block = 0; row = 0; bits = 1 + 1 * 2 ^ 8 } ∷ [];
+  srows = record { block = 0; row = 0; bits = 7 + 1 * 2 ^ 8 } ∷ [];
   trows = record { block = 0; row = 0; value = 0x10; mask = 0xf0 } ∷ [];
 }
 
@@ -162,6 +164,9 @@ its_parser = record {
   tails = [];
 }
 
+abbrev pub its_names : Names
+its_names = names_of program lists
+
 abbrev pub config : Config
 config = record {
   seed = 0;
@@ -171,5 +176,5 @@ config = record {
   headers = record { valid = lane 0 1 1; bytes = 1; pieces = lane 1 0 8 ∷ [] } ∷ [];
   parser = its_parser;
   stages = first_stage ∷ second_stage ∷ [];
-  names = None;
+  names = Some its_names;
 }

@@ -180,29 +180,29 @@ module _ (c : Config) (names : Names) (cells : RunCells) (before after : List (L
 -- ---- some of the changes
 
 module _ (c : Config) (k place n : ℕ) where
-  abbrev at : RunCells → Content × ℕ
+  abbrev pub at : RunCells → Content × ℕ
   at cells = (cells.content k place n, cells.number k place n)
 
-  abbrev changed_by : CellWrite → Bool
+  abbrev pub changed_by : CellWrite → Bool
   changed_by w = is_changed w k place n
 
-  one_other : (cells : RunCells) (w : CellWrite) → changed_by w ≡ false → at (with_write c cells w) ≡ at cells
+  pub one_other : (cells : RunCells) (w : CellWrite) → changed_by w ≡ false → at (with_write c cells w) ≡ at cells
   one_other cells w e =
       ap (λ b. (cond b (unwrap_or (option_map (written_content w) (slot_at c k place)) no_content) (cells.content k place n), cond b (cond (w.visible == 0) 0 w.number) (cells.number k place n))) e
 
-  all_others : (cells : RunCells) (ws : List CellWrite) → All (λ w. changed_by w ≡ false) ws → at (fold (with_write c) cells ws) ≡ at cells
+  pub all_others : (cells : RunCells) (ws : List CellWrite) → All (λ w. changed_by w ≡ false) ws → at (fold (with_write c) cells ws) ≡ at cells
   all_others cells [] h = refl
   all_others cells (w ∷ ws) h =
       all_others (with_write c cells w) ws (All-tail (λ x. changed_by x ≡ false) w ws h) ∙ one_other cells w (All-head (λ x. changed_by x ≡ false) w ws h)
 
-  where_is : (w : CellWrite) → changed_by w ≡ true → (w.stage ≡ k) × (w.unit ≡ place) × (w.cell ≡ n)
+  pub where_is : (w : CellWrite) → changed_by w ≡ true → (w.stage ≡ k) × (w.unit ≡ place) × (w.cell ≡ n)
   where_is w e =
       let parts = and_parts ((w.stage == k) && (w.unit == place)) (w.cell == n) e in
       let two = and_parts (w.stage == k) (w.unit == place) parts.0 in
       (eqb-true w.stage k two.0, eqb-true w.unit place two.1, eqb-true w.cell n parts.1)
 
   -- a cell changes once
-  not_again : (w x : CellWrite) → changed_by w ≡ true → writes_before w x ≡ true → changed_by x ≡ false
+  pub not_again : (w x : CellWrite) → changed_by w ≡ true → writes_before w x ≡ true → changed_by x ≡ false
   not_again w x e o = false_from_ne_true (changed_by x) (λ f. twice (where_is w e) (where_is x f) o)
     where
       twice : (w.stage ≡ k) × (w.unit ≡ place) × (w.cell ≡ n) → (x.stage ≡ k) × (x.unit ≡ place) × (x.cell ≡ n) → writes_before w x ≡ true → ⊥
@@ -215,7 +215,7 @@ module _ (c : Config) (k place n : ℕ) where
             ]
       ]
 
-  is_cell : (w : CellWrite) → changed_by w ≡ true → IsCell c w.stage w.unit w.cell → IsCell c k place n
+  pub is_cell : (w : CellWrite) → changed_by w ≡ true → IsCell c w.stage w.unit w.cell → IsCell c k place n
   is_cell w e h = let at_w = where_is w e in subst (λ m. IsCell c k place m) at_w.2 (subst (λ m. IsCell c k m w.cell) at_w.1 (subst (λ m. IsCell c m w.unit w.cell) at_w.0 h))
 
   -- after some changes a cell is as it was, or as it is after all of them

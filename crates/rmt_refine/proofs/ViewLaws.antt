@@ -10,7 +10,7 @@ use Rattle.rmt_config.specs.ChipRun.{own_look, slot_look}
 use Rattle.rmt_refine.specs.View.{as_slot, found_at, found_in_slot, look_in, no_content, own_content, own_number, own_view, slot_at, slot_of}
 
 -- a slot that stands there
-content_is : (c : Config) (k place : ℕ) (stage : Stage) (slot : SlotUnit) → slice_get c.stages k ≡ Some stage → slot_of stage place ≡ Some slot
+pub content_is : (c : Config) (k place : ℕ) (stage : Stage) (slot : SlotUnit) → slice_get c.stages k ≡ Some stage → slot_of stage place ≡ Some slot
     → (n : ℕ) → own_content c k place n ≡ content_of stage slot n
 content_is c k place stage slot e u n =
     ap (λ (o : Option Stage). unwrap_or (option_and_then (λ (x : Stage). option_map (λ (y : SlotUnit). content_of x y n) (slot_of x place)) o) no_content) e
@@ -19,7 +19,7 @@ content_is c k place stage slot e u n =
 slot_there : (c : Config) (k place : ℕ) (stage : Stage) (slot : SlotUnit) → slice_get c.stages k ≡ Some stage → slot_of stage place ≡ Some slot → slot_at c k place ≡ Some slot
 slot_there c k place stage slot e u = ap (option_and_then (λ (x : Stage). slot_of x place)) e ∙ u
 
-number_is : (c : Config) (k place : ℕ) (stage : Stage) (slot : SlotUnit) → slice_get c.stages k ≡ Some stage → slot_of stage place ≡ Some slot
+pub number_is : (c : Config) (k place : ℕ) (stage : Stage) (slot : SlotUnit) → slice_get c.stages k ≡ Some stage → slot_of stage place ≡ Some slot
     → (n : ℕ) → own_number c k place n ≡ number_of_cell slot.numbers n
 number_is c k place stage slot e u n =
     ap (λ (o : Option SlotUnit). unwrap_or (option_map (λ (y : SlotUnit). number_of_cell y.numbers n) o) 0) (slot_there c k place stage slot e u)

@@ -1,5 +1,5 @@
 -- Heads of cells of which one visible bit is set or cleared: the other one, and all else, stays.
-use Rattle.std.proofs.Common.{◌≡◌, ◌⊎◌, ℕ, ◌+◌, ◌-◌, ◌*◌, ◌/◌, ◌%◌, ◌^◌, ◌<◌, ◌==◌, ◌&&◌, Bool, true, false, cond, refl, sym, ap, subst, ◌∙◌, inl, inr, arith}
+use Rattle.std.proofs.Common.{◌≡◌, ◌≢◌, ◌⊎◌, ℕ, ◌+◌, ◌-◌, ◌*◌, ◌/◌, ◌%◌, ◌^◌, ◌<◌, ◌==◌, ◌&&◌, Bool, true, false, cond, refl, sym, ap, subst, ◌∙◌, inl, inr, arith}
 use Rattle.std.proofs.lemmas.Bool.{and_from, and_parts, and_right, cases_eq, eq-eqb, eqb-false, eqb-true, ne_eqb}
 use Rattle.rmt_config.specs.Cells.{code_of, is_occupied, visible_bits}
 use Rattle.rmt_config.specs.RunCells.{has_bit, sees}
@@ -91,6 +91,34 @@ set-alike v h = at_parities (λ m n. KeptAt m h (cond (bit n h) h (h + 2 ^ (1 + 
 pub clear-alike : (v h : ℕ) → AreSeenAlike v h (without_bit (v + 1) h)
 clear-alike v h = at_parities (λ m n. KeptAt m h (cond (bit n h) (h - 2 ^ (1 + n)) h)) v (clear_one h) (clear_zero h)
 
+kept_zero : (h : ℕ) → visible_bits (cond (bit 1 h) (h - 4) h) ≢ 0 → bit 0 h ≡ true
+kept_zero h some = by (bit 1 h) refl some
+  where
+    by : (b : Bool) → bit 1 h ≡ b → visible_bits (cond b (h - 4) h) ≢ 0 → bit 0 h ≡ true
+    by true e g = let yes = eqb-true (h / 4 % 2) 1 e in eq-eqb (h / 2 % 2) 1 (omega (arith, yes, g))
+    by false e g = let no = eqb-false (h / 4 % 2) 1 e in eq-eqb (h / 2 % 2) 1 (omega (arith, no, g))
+
+kept_one : (h : ℕ) → visible_bits (cond (bit 0 h) (h - 2) h) ≢ 0 → bit 1 h ≡ true
+kept_one h some = by (bit 0 h) refl some
+  where
+    by : (b : Bool) → bit 0 h ≡ b → visible_bits (cond b (h - 2) h) ≢ 0 → bit 1 h ≡ true
+    by true e g = let yes = eqb-true (h / 2 % 2) 1 e in eq-eqb (h / 4 % 2) 1 (omega (arith, yes, g))
+    by false e g = let no = eqb-false (h / 2 % 2) 1 e in eq-eqb (h / 4 % 2) 1 (omega (arith, no, g))
+
+set_both_one : (h : ℕ) → bit 0 h ≡ true → visible_bits (cond (bit 1 h) h (h + 4)) ≡ 3
+set_both_one h low = by (bit 1 h) refl
+  where
+    by : (b : Bool) → bit 1 h ≡ b → visible_bits (cond b h (h + 4)) ≡ 3
+    by true e = let yes = eqb-true (h / 4 % 2) 1 e in let own = eqb-true (h / 2 % 2) 1 low in omega (arith, yes, own)
+    by false e = let no = eqb-false (h / 4 % 2) 1 e in let own = eqb-true (h / 2 % 2) 1 low in omega (arith, no, own)
+
+set_both_zero : (h : ℕ) → bit 1 h ≡ true → visible_bits (cond (bit 0 h) h (h + 2)) ≡ 3
+set_both_zero h high = by (bit 0 h) refl
+  where
+    by : (b : Bool) → bit 0 h ≡ b → visible_bits (cond b h (h + 2)) ≡ 3
+    by true e = let yes = eqb-true (h / 2 % 2) 1 e in let own = eqb-true (h / 4 % 2) 1 high in omega (arith, yes, own)
+    by false e = let no = eqb-false (h / 2 % 2) 1 e in let own = eqb-true (h / 4 % 2) 1 high in omega (arith, no, own)
+
 -- without a visible bit a head shows none
 pub unseen_without : (v h : ℕ) → visible_bits h ≡ 0 → has_bit v h ≡ false
 unseen_without v h none =
@@ -157,3 +185,29 @@ seen_coming v i lt =
   where
     code : (low : ℕ) → low < 8 → (low + 8 * i) / 8 % 32 ≡ i
     code low few = omega (arith, few, lt)
+
+-- a head that keeps a visible bit without the next version's has the version's
+pub bit_kept : (v h : ℕ) → visible_bits (without_bit (v + 1) h) ≢ 0 → has_bit v h ≡ true
+bit_kept v h = at_parities (λ m n. visible_bits (cond (bit n h) (h - 2 ^ (1 + n)) h) ≢ 0 → bit m h ≡ true) v (kept_zero h) (kept_one h)
+
+-- a head that has a version's visible bit and gets the next one's has both
+pub both_set : (v h : ℕ) → has_bit v h ≡ true → visible_bits (with_bit (v + 1) h) ≡ 3
+both_set v h = at_parities (λ m n. bit m h ≡ true → visible_bits (cond (bit n h) h (h + 2 ^ (1 + n))) ≡ 3) v (set_both_one h) (set_both_zero h)
+
+-- and one that has both gets none
+pub none_set : (v h : ℕ) → visible_bits h ≡ 3 → with_bit v h ≡ h
+none_set v h both = elim (cases_eq (v % 2) 0) [
+  | inl e ↦ subst (λ m. cond (bit m h) h (h + 2 ^ (1 + m)) ≡ h) (sym e) (ap (λ b. cond b h (h + 2)) (eq-eqb (h / 2 % 2) 1 (omega (arith, both))))
+  | inr ne ↦
+      let one : v % 2 ≡ 1 = omega (arith, ne) in
+      subst (λ m. cond (bit m h) h (h + 2 ^ (1 + m)) ≡ h) (sym one) (ap (λ b. cond b h (h + 4)) (eq-eqb (h / 4 % 2) 1 (omega (arith, both))))
+]
+
+-- it shows every version its bit
+pub both_show : (v h : ℕ) → visible_bits h ≡ 3 → has_bit v h ≡ true
+both_show v h both = elim (cases_eq (v % 2) 0) [
+  | inl e ↦ subst (λ m. bit m h ≡ true) (sym e) (eq-eqb (h / 2 % 2) 1 (omega (arith, both)))
+  | inr ne ↦
+      let one : v % 2 ≡ 1 = omega (arith, ne) in
+      subst (λ m. bit m h ≡ true) (sym one) (eq-eqb (h / 4 % 2) 1 (omega (arith, both)))
+]

@@ -1,5 +1,5 @@
 -- When a configuration carries a program and its entries.
-use Rattle.std.specs.Prelude.{ℕ, List, ◌++◌, All}
+use Rattle.std.specs.Prelude.{ℕ, List, ◌++◌, All, IfSome}
 use Rattle.rmt_bits.specs.declared.lane.Lane.{Lane}
 use Rattle.rmt_ast.specs.declared.deps.Edge.{Edge}
 use Rattle.rmt_refine.specs.Types.{Program, Config}
@@ -15,6 +15,8 @@ use Rattle.rmt_refine.specs.Places.{PlacesCarried}
 use Rattle.rmt_refine.specs.Units.{UnitsCarried}
 use Rattle.rmt_refine.specs.Cells.{CellsCarried}
 use Rattle.rmt_refine.specs.Code.{CodeCarried}
+use Rattle.rmt_refine.specs.Listed.{ListTheirCells}
+use Rattle.rmt_refine.specs.Named.{NamesCarried}
 
 -- all edges of a program, word edges among them
 abbrev pub all_edges : Program → List (List Lane) → List Edge
@@ -34,6 +36,13 @@ pub record CarriesIn (p : Program) (lists : List (List Entry)) (m : Map) (c : Co
   pub code : CodeCarried p m.places c
   pub edges : EdgesKept (all_edges p m.places) m.placement.parts m.starts
 
--- With its own cells.
-abbrev pub Carries : Program → List (List Entry) → Map → Config → Type 0
-Carries p lists m c = CarriesIn p lists m c (own_view c)
+-- With its own cells, which its slots list, and with the names where it has names.
+pub record Carries (p : Program) (lists : List (List Entry)) (m : Map) (c : Config) : Type 0 where
+  pub places : PlacesCarried p m.places c
+  pub parser : AgreesWith c.parser m.places p
+  pub units : UnitsCarried p m.places m.placement.parts m.starts c
+  pub cells : CellsCarried p c (own_view c) m.cells lists
+  pub listed : ListTheirCells c
+  pub code : CodeCarried p m.places c
+  pub edges : EdgesKept (all_edges p m.places) m.placement.parts m.starts
+  pub names : IfSome c.names (NamesCarried p lists c)

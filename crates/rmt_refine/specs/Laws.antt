@@ -9,7 +9,6 @@ use Rattle.rmt_ast.specs.EntryLists.{AreEntries}
 use Rattle.rmt_ast.specs.Answers.{answer_of}
 use Rattle.rmt_ast.specs.State.{IsState, joined, width_of}
 use Rattle.rmt_ast.specs.Lookup.{hit_of}
-use Rattle.rmt_config.specs.CellForm.{StageHolds}
 use Rattle.rmt_config.specs.ChipRun.{outcome_of, own_look}
 use Rattle.rmt_pack.specs.declared.placement.Part.{Part}
 use Rattle.rmt_refine.specs.declared.map.CellOf.{CellOf}
@@ -44,9 +43,7 @@ PacketsAreAnswered =
     → IsProgram p → AreEntries p lists → CarriesIn p lists m c v → All (λ b. b < 256) packet.frame → packet.port < 512
     → AnswersAs p lists (outcome_of (look_in c v) c packet) (answer_of p lists packet)
 
--- Where a configuration carries a program with its entries in its own cells, and its slots list the cells that are occupied, whatever visible
--- bits these have, the chip answers and counts as the program does, for every list of packets.
+-- Where a configuration carries a program with its entries, the chip answers and counts as the program does, for every list of packets.
 abbrev pub ListsAreAnswered : Type 0
 ListsAreAnswered =
-    (p : Program) (lists : List (List Entry)) (m : Map) (c : Config) (visible : ℕ)
-    → IsProgram p → AreEntries p lists → Carries p lists m c → All (StageHolds visible) c.stages → RunsAs p lists c
+    (p : Program) (lists : List (List Entry)) (m : Map) (c : Config) → IsProgram p → AreEntries p lists → Carries p lists m c → RunsAs p lists c

@@ -7,8 +7,13 @@ pub mod LookUps
 pub mod Laws
 pub mod Outcomes
 pub mod Code
+pub mod Named
+pub mod Listed
 pub mod Carries
 pub mod CountedHits
 pub mod Refined
 pub mod RunsAs
 pub mod Commits
+pub mod Fit
+pub mod EventRuns
+pub mod ShortCommits

@@ -1,6 +1,8 @@
 //! What holds of every configuration that carries a program.
 
 ghost use Rattle.rmt_refine.specs.Commits.{ChangesAreUnseen, CommitsKeepEntries, PacketsSeeOneState};
+ghost use Rattle.rmt_refine.specs.EventRuns.{EventsAreAnswered};
+ghost use Rattle.rmt_refine.specs.ShortCommits.{CommitsAreShort};
 ghost use Rattle.rmt_refine.specs.Laws.{ListsAreAnswered, LookUpsFindHits, OwnLooksAreInItsView, PacketsAreAnswered};
 
 /// Look-ups made in a configuration's own view are those that the chip makes: in its own cells, under its own seed.
@@ -24,10 +26,9 @@ pub fn packets()
     ensures { PacketsAreAnswered }
 {}
 
-/// Where a configuration carries a well-formed program with its entries, as a map tells, with its own cells, and what
-/// its memory holds is well formed (its slots list exactly the cells that are occupied, which all have the same visible
-/// bits), then the chip run over every list of packets gives the verdicts and bytes of the plain run, in order, and
-/// leaves the same counters. The packets are any that can come in: on ports 0 to 511, with 1 to 9,216 bytes.
+/// Where a configuration carries a well-formed program with its entries, as a map tells, the chip run over every list of
+/// packets gives the verdicts and bytes of the plain run, in order, and leaves the same counters. The packets are any that
+/// can come in: on ports 0 to 511, with 1 to 9,216 bytes.
 pub fn packet_lists()
     ensures { ListsAreAnswered }
 {}
@@ -50,4 +51,20 @@ pub fn one_state()
 /// they were, and the names tell what the program asks of its tables.
 pub fn kept_entries()
     ensures { CommitsKeepEntries }
+{}
+
+/// Where a configuration with names carries a well-formed program with its entries, and keeps the rules of form and the
+/// limits, every run that it may have for a list of packets and commits gives the verdicts and bytes of the program, and
+/// leaves its counters: each packet is answered with the entries that just the commits before it leave, although packets
+/// of two versions are in the chip at once. The packets are any that can come in, and each change is one that can be made
+/// where it stands.
+pub fn event_lists()
+    ensures { EventsAreAnswered }
+{}
+
+/// Commits are short, by the definition of their cycles: one that moves no cell, and finds no packet of an older version
+/// than the current one in flight, delays the next packet by at most one cycle more than the entries that it and the
+/// commit before it added or removed.
+pub fn short_commits()
+    ensures { CommitsAreShort }
 {}

@@ -367,12 +367,14 @@ const FOLDER: Refusal = (".", ErrorKind::IsADirectory);
 
 const FULL: Refusal = ("/dev/full", ErrorKind::StorageFull);
 
+const ENDLESS: Refusal = ("/dev/zero", ErrorKind::FileTooLarge);
+
 const CANNOT: Result<(), ShelfFault> = Err(ShelfFault::Failed);
 
 const TOO_LONG: Result<(), ShelfFault> = Err(ShelfFault::TooLong);
 
 /// The name of a file, what is asked, the answer, and the last refusal then. `/dev/null` cannot keep
-/// bytes, which is no fault.
+/// bytes, which is no fault; a file that is too long is kept as one.
 const REFUSALS: [(&str, Step, Result<(), ShelfFault>, Refusal); 8] = [
     ("rmt_io_absent_test", Step::Open, CANNOT, ABSENT),
     (".", Step::Open, Ok(()), ABSENT),
@@ -380,7 +382,7 @@ const REFUSALS: [(&str, Step, Result<(), ShelfFault>, Refusal); 8] = [
     (".", Step::Next(2), CANNOT, FOLDER),
     ("/dev/full", Step::Write(b"x"), CANNOT, FULL),
     ("/dev/null", Step::Write(b"x"), Ok(()), FULL),
-    ("/dev/zero", Step::Read(9), TOO_LONG, FULL),
+    ("/dev/zero", Step::Read(9), TOO_LONG, ENDLESS),
     (".", Step::Read(9), CANNOT, FOLDER),
 ];
 

@@ -1,7 +1,6 @@
 -- The entry that a kept cell tells is the one that the configuration spells there.
-use Rattle.std.proofs.Common.{◌≡◌, ℕ, ◌-◌, ◌/◌, ◌^◌, ◌<◌, List, [], ◌∷◌, map, true, sum, refl, sym, ap, ◌∙◌, subst, arith}
+use Rattle.std.proofs.Common.{◌≡◌, ℕ, ◌-◌, ◌/◌, ◌^◌, ◌<◌, List, true, sum, sym, ap, ◌∙◌, subst, arith}
 use Rattle.std.specs.Prelude.{if◌then◌else◌}
-use Rattle.std.specs.List.{AllZip}
 use Rattle.std.proofs.lemmas.Bool.{false≢true}
 use Rattle.std.proofs.lemmas.Nat.{mod_below}
 use Rattle.std.proofs.Math.Nat.{mod-eq_of_lt}
@@ -25,7 +24,6 @@ use Rattle.rmt_config.specs.RunCells.{own_content, written_mask}
 use Rattle.rmt_config.proofs.SpelledParts.{held-is}
 use Rattle.rmt_update.specs.declared.book.kept.Kept.{Kept}
 use Rattle.rmt_update.specs.Kept.{IsKept}
-use Rattle.rmt_update.specs.PartList.{AreKept}
 use Rattle.rmt_update.specs.Told.{is_whole, told_entry}
 
 -- a head is a byte
@@ -76,13 +74,3 @@ entry-is c t p n k stands of same kept ranked =
     ∙ ap (λ a. made t p.first n.number x.key x.mask a k.code (number_of k.held.items)) ranked
     ∙ ap (λ a. made t p.first n.number x.key x.mask (rank_in t.kind t x.mask n.number) a (number_of k.held.items)) code
     ∙ ap (λ a. made t p.first n.number x.key x.mask (rank_in t.kind t x.mask n.number) (code_of x.head) a) kept.held
-
--- of all cells that the part lists
-pub entries-are : (c : Config) (t : TableName) (p : PartAt) → PartStands c p → is_of_kind t.kind p.slot.memory ≡ true → sum t.keys ≡ bits_of_lanes p.slot.keys → (ns : List CellNumber) (ks : List Kept)
-    → AreKept c p ns ks → AllZip (λ (n : CellNumber) (k : Kept). k.rank ≡ rank_in t.kind t (held_by c p n).mask n.number) ns ks → map (told_entry t p.first) ks ≡ map (entry_in c t p) ns
-entries-are c t p stands of same [] [] kept ranked = refl
-entries-are c t p stands of same [] (k ∷ ks) kept ranked = absurd kept
-entries-are c t p stands of same (n ∷ ns) [] kept ranked = absurd kept
-entries-are c t p stands of same (n ∷ ns) (k ∷ ks) kept ranked =
-    ap (λ e. e ∷ map (told_entry t p.first) ks) (entry-is c t p n k stands of same kept.0 ranked.0)
-    ∙ ap (λ es. entry_in c t p n ∷ es) (entries-are c t p stands of same ns ks kept.1 ranked.1)

@@ -1,3 +1,4 @@
+pub mod BookLaws
 pub mod CommitLaws
 pub mod EntryLaws
 mod Examples
@@ -5,13 +6,21 @@ pub mod FilterLaws
 pub mod KeptLaws
 pub mod KeyLaws
 pub mod LeftLaws
+pub mod ListedLaws
+pub mod ListedNumbers
 pub mod MapLaws
 pub mod NamedLaws
 pub mod NewLaws
-pub mod RankLaws
-pub mod SettleLaws
-pub mod StandLaws
+pub mod NodeLaws
 pub mod OrderedLaws
+pub mod OwnNumbers
+pub mod PartHoldLaws
+pub mod RankLaws
+pub mod SeenLaws
+pub mod SettleLaws
+pub mod SightLaws
+pub mod StandLaws
+pub mod ToldEntryLaws
 pub mod ToldLaws
 pub mod WordLaws
 pub mod WritesLaws

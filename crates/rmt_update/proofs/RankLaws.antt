@@ -1,11 +1,27 @@
 -- The ranks that names tell, by numbers in a map.
-use Rattle.std.proofs.Common.{◌≡◌, ℕ, ◌+◌, ◌<◌, List, ◌∷◌, Bool, true, false, Option, Some, cond, drop, eqb, get_or, length, option_map, add-one, inl, inr, refl, sym, ap, ◌∙◌, arith}
+use Rattle.std.proofs.Common.{◌≡◌, ℕ, zero, suc, ◌+◌, ◌-◌, ◌^◌, ◌<◌, ◌≤◌, List, [], ◌∷◌, Bool, true, false, Option, Some, cond, drop, eqb, leb, ◌&&◌, get_or, length, option_map, subst, sum, add-one, inl, inr, refl, sym, ap, ◌∙◌, arith}
 use Rattle.std.specs.Prelude.{find}
+use Rattle.std.specs.List.{range_with_len}
 use Rattle.std.specs.Cmp.{nat_cmp_is}
 use Rattle.std.specs.Ordering.{is_eq, nat_cmp}
 use Rattle.std.specs.declared.cmp.Ordering.TheVariants.{Less, Equal, Greater}
 use Rattle.std.proofs.Math.Seq.{drop-cons}
-use Rattle.std.proofs.lemmas.Bool.{cases_lt, eq-eqb, ne_eqb}
+use Rattle.std.proofs.lemmas.Bool.{and_parts, cases_lt, eq-eqb, false≢true, leb-true, ne_eqb}
+use Rattle.std.proofs.lemmas.List.Sums.{sum_by-cons}
+use Rattle.rmt_bits.specs.Bits.{number_of}
+use Rattle.rmt_ast.specs.NameRules.{are_widths}
+use Rattle.rmt_ast.specs.declared.names.TableName.{TableName}
+use Rattle.rmt_ast.specs.declared.program.Kind.{Kind}
+use Rattle.rmt_ast.specs.declared.program.Kind.TheVariants as kind
+use Rattle.rmt_config.specs.declared.config.Config.{Config}
+use Rattle.rmt_config.specs.declared.config.Memory.{Memory}
+use Rattle.rmt_config.specs.declared.config.Memory.TheVariants.{Without, Exact, Ternary}
+use Rattle.rmt_config.specs.LaneForm.{bits_of_lanes}
+use Rattle.rmt_config.specs.NamesForm.{is_of_kind, rank_in}
+use Rattle.rmt_config.specs.PartStands.{PartStands}
+use Rattle.rmt_config.specs.Rooms.{PartAt}
+use Rattle.rmt_config.specs.RunCells.{own_content, written_mask}
+use Rattle.rmt_config.proofs.PrefixRowLaws.{mask-small}
 use Rattle.rmt_ast.specs.declared.names.RankOf.{RankOf}
 
 -- numbers that compare as equal
@@ -34,3 +50,51 @@ told-more ranks at n d old new lt put was =
     by : (b : Bool) (x : RankOf) (o : Option RankOf) → cond b (Some x.rank) (option_map (λ (r : RankOf). r.rank) o) ≡ option_map (λ (r : RankOf). r.rank) (cond b (Some x) o)
     by true x o = refl
     by false x o = refl
+
+-- ---- the first number of a run that keeps a rule
+
+pub find-here : (p : ℕ → Bool) (a end : ℕ) → a < end → p a ≡ true → find p (range_with_len a (end - a)) ≡ Some a
+find-here p a end lt e = by (end - a) (omega (arith, lt))
+  where
+    by : (n : ℕ) → 0 < n → find p (range_with_len a n) ≡ Some a
+    by zero some = absurd (omega (arith, some))
+    by (suc n) some = ap (λ b. cond b (Some a) (find p (range_with_len (a + 1) n))) e
+
+pub find-next : (p : ℕ → Bool) (a end : ℕ) → a < end → p a ≡ false → find p (range_with_len a (end - a)) ≡ find p (range_with_len (a + 1) (end - (a + 1)))
+find-next p a end lt e = by (end - a) (end - (a + 1)) (omega (arith, lt))
+  where
+    by : (n m : ℕ) → n ≡ m + 1 → find p (range_with_len a n) ≡ find p (range_with_len (a + 1) m)
+    by zero m h = absurd (omega (arith, h))
+    by (suc n) m h =
+        ap (λ b. cond b (Some a) (find p (range_with_len (a + 1) n))) e ∙ ap (λ k. find p (range_with_len (a + 1) k)) (omega (arith, h))
+
+-- ---- keys of one field
+
+pub sum-one : (ws : List ℕ) (d : ℕ) → length ws ≡ 1 → get_or ws 0 d ≡ sum ws
+sum-one [] d e = absurd (omega (arith, e))
+sum-one (w ∷ []) d e = let s = sum_by-cons (λ (n : ℕ). n) w [] in omega (arith, s)
+sum-one (w ∷ x ∷ ws) d e = absurd (omega (arith, e))
+
+pub sum-short : (ws : List ℕ) → length ws ≡ 1 → are_widths ws ≡ true → sum ws ≤ 128
+sum-short [] e h = absurd (omega (arith, e))
+sum-short (w ∷ []) e h =
+    let s = sum_by-cons (λ (n : ℕ). n) w [] in
+    let le : w ≤ 128 = leb-true w 128 (and_parts (leb 1 w) (leb w 128) (and_parts (leb 1 w && leb w 128) true h).0).1 in
+    omega (arith, s, le)
+sum-short (w ∷ x ∷ ws) e h = absurd (omega (arith, e))
+
+-- ---- the rank of a cell's entry
+
+pub rank-is : (k : Kind) (t : TableName) (m : Memory) (bits : ℕ) (mask : List ℕ) (x n : ℕ) → is_of_kind k m ≡ true → written_mask bits m mask ≡ x → rank_in k t (number_of mask) n ≡ rank_in k t x n
+rank-is kind.Keyless t m bits mask x n is e = refl
+rank-is kind.Exact t m bits mask x n is e = refl
+rank-is kind.Prefix t Without bits mask x n is e = absurd (false≢true is)
+rank-is kind.Prefix t (Exact k p d w ks rs cs) bits mask x n is e = absurd (false≢true is)
+rank-is kind.Prefix t (Ternary d ks rs cs) bits mask x n is e = ap (λ y. rank_in kind.Prefix t y n) e
+rank-is kind.Ternary t m bits mask x n is e = refl
+
+pub mask-fits : (c : Config) (p : PartAt) (st : PartStands c p) (n : ℕ) (mask : List ℕ) → (m : Memory) → p.slot.memory ≡ m → is_of_kind kind.Prefix m ≡ true
+    → written_mask (bits_of_lanes p.slot.keys) m mask ≡ (own_content c p.stage p.place n).mask → number_of mask < 2 ^ bits_of_lanes p.slot.keys
+mask-fits c p st n mask Without e is w = absurd (false≢true is)
+mask-fits c p st n mask (Exact k per d f ks rs cs) e is w = absurd (false≢true is)
+mask-fits c p st n mask (Ternary d ks rs cs) e is w = subst (λ x. x < 2 ^ bits_of_lanes p.slot.keys) (sym w) (mask-small c p st d ks rs cs e n)

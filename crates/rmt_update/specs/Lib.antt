@@ -1,8 +1,11 @@
+pub mod BookStands
 pub mod Holding
 pub mod Kept
+pub mod Listed
 pub mod Numbered
 pub mod PartList
 pub mod Running
+pub mod Seen
 pub mod Settled
 pub mod Stands
 pub mod Told

@@ -1,11 +1,111 @@
 //! The cells of a run with their entries.
 
+ghost use Rattle.std.specs.Prelude.{◌≡◌, IfOk, IsSome, List, Some};
+ghost use Rattle.std.specs.List.{AllZip};
+ghost use Rattle.rmt_ast.specs.declared.entry.Entry.{Entry};
+ghost use Rattle.rmt_ast.specs.declared.names.Names.{Names as NamesOf};
+ghost use Rattle.rmt_config.specs.Form.{Formed};
+ghost use Rattle.rmt_config.specs.NamesForm.{entries_spelled};
+ghost use Rattle.rmt_config.specs.RunCells.{RunCells, own_cells};
+ghost use Rattle.rmt_config.specs.declared.config.Config.{Config as ConfigOf};
+ghost use Rattle.rmt_update.specs.BookStands.{BookStands};
+ghost use Rattle.rmt_update.specs.Listed.{IsTable};
+
 mod cells;
 mod entry_words;
-pub mod kept;
-pub mod ordered;
-pub mod parts;
-pub mod ranks;
+mod kept;
+mod nodes;
+mod ordered;
+mod parts;
+mod ranks;
 mod rows;
-pub mod told;
+mod seen;
+mod table;
+mod told;
 mod words;
+
+use crate::book::nodes::node_count;
+use crate::book::seen::entries_at;
+use crate::book::table::{TableCells, cells_of};
+use crate::fault::UpdateFault;
+use rmt_ast::entry::EntryLists;
+use rmt_ast::names::Names;
+use rmt_config::config::Config;
+use std::alloc::{AllocError, Global};
+
+/// The names of a configuration.
+fn names_of(config: &Config) -> &Names
+    requires { IsSome config.now.names }
+    ensures { config.now.names ≡ Some result.now }
+{
+    match &config.names {
+        Some(names) => names,
+        None => unreachable!(),
+    }
+}
+
+/// The tables of names with the cells that a configuration lists. The only fault is want of memory.
+fn tables_of(alloc: Global, config: &Config, names: Names) -> Result<Vec<TableCells>, AllocError>
+    requires formed { Formed config.now }
+    requires named { config.now.names ≡ Some names }
+    ensures { IfOk result (λ tables. AllZip (IsTable config.now) names.tables tables.items) }
+{
+    let mut tables = Vec::new(alloc);
+    for name in names.tables.into_vec() {
+        let parts = cells_of(alloc, config, &name)?;
+        tables.push(TableCells { name, parts })?;
+    }
+    Ok(tables)
+}
+
+/// The cells of a run with the entries that its version sees.
+#[derive(Drop)]
+pub struct Book {
+    /// Whether the number of its version is odd.
+    odd: bool,
+    /// The seed of the hash that finds exact keys.
+    seed: u8,
+    /// For how many nodes there are entry lists, from 0 on.
+    nodes: u32,
+    /// The tables with a key, by rising node.
+    tables: Vec<TableCells>,
+}
+
+impl Book {
+    /// A book of the cells of a configuration that has names, with the entries that they spell.
+    ///
+    /// # Errors
+    ///
+    /// For want of memory alone.
+    pub fn new(alloc: Global, config: &Config) -> Result<Book, UpdateFault>
+        requires formed { Formed config.now }
+        requires named { IsSome config.now.names }
+        ensures { IfOk result (λ book. (names : NamesOf) → config.now.names ≡ Some names →
+            BookStands config.now (own_cells config.now) (entries_spelled config.now names) book) }
+    {
+        let names = names_of(config).copy(alloc)?;
+        let tables = tables_of(alloc, config, names)?;
+        Ok(Book {
+            odd: false,
+            seed: config.seed,
+            nodes: node_count(config),
+            tables,
+        })
+    }
+
+    /// The entries that its version sees, a list by rising number for each node.
+    ///
+    /// # Errors
+    ///
+    /// For want of memory alone.
+    pub fn entries(&self, alloc: Global) -> Result<EntryLists, UpdateFault>
+        requires { (c : ConfigOf) × (cells : RunCells) × (lists : List (List Entry)) × BookStands c cells lists self.now }
+        ensures { IfOk result (λ entries. (c : ConfigOf) (cells : RunCells) (lists : List (List Entry)) → BookStands c cells lists self.now → entries ≡ lists) }
+    {
+        let mut lists = EntryLists::new(alloc);
+        for node in 0..self.nodes {
+            lists.push(entries_at(alloc, self.odd, self.tables.as_slice(), node)?)?;
+        }
+        Ok(lists)
+    }
+}

@@ -1,7 +1,8 @@
 //! Each call of the shelf and of the sink fails in turn, one number at a time, until a run meets no fault.
 
 use crate::tests::commands::{Left, Outside, STEADY, run_on};
-use crate::tests::programs::STRICT_AND_WEAK;
+use crate::tests::programs::{STRICT_AND_WEAK, TO_A_GROUP};
+use crate::tests::switched::capture_of;
 use rmt_core::status::Status;
 use rmt_io::mem_shelf::MemShelf;
 use std::alloc::{AllocError, Global};
@@ -11,8 +12,14 @@ const ENTRIES: &str = "b 7 go 5\n";
 
 const PACKETS: &str = "0 07\n0 08\n";
 
-/// The files' names: program, entries, packets, image that is read, and image that is written, which is there before.
-const NAMES: [&str; 5] = ["p", "e", "k", "i", "o"];
+/// The group of the ports to which the second image sends.
+const GROUPS: &str = "300 2 1\n";
+
+/// The files' names: program, entries, packets, image that is read, image that is written, which is there before, image that
+/// sends to a group, groups, capture, and the captures that are written, of which one is there before.
+const NAMES: [&str; 10] = [
+    "p", "e", "k", "i", "o", "j", "g", "c", "o.1.pcap", "o.2.pcap",
+];
 
 /// Calls that give or take at most 8 bytes.
 const SMALL: Outside = Outside {
@@ -29,68 +36,104 @@ struct Row<'a> {
     shelf_calls: u8,
     /// How many of these come before any packet is read. Nothing is printed before them.
     quiet: u8,
-    /// The number of the call that writes a file; 0 where none does.
-    writes: u8,
+    /// The names of the files that are written, in their order. The shelf's last calls write them.
+    writes: &'a [&'a str],
     /// How many calls of the sink.
     sink_calls: u8,
 }
 
 /// Every command that stands, in the order of the help.
-const ROWS: [Row<'static>; 7] = [
+const ROWS: [Row<'static>; 8] = [
     Row {
         words: &["compile", "p", "e", "o"],
         shelf_calls: 3,
         quiet: 3,
-        writes: 3,
+        writes: &["o"],
         sink_calls: 7,
     },
     Row {
         words: &["improve", "p", "e", "o", "3"],
         shelf_calls: 3,
         quiet: 3,
-        writes: 3,
+        writes: &["o"],
         sink_calls: 7,
     },
     Row {
         words: &["sim", "i", "k"],
         shelf_calls: 5,
         quiet: 2,
-        writes: 0,
+        writes: &[],
         sink_calls: 5,
     },
     Row {
         words: &["probe", "i", "k", "13"],
         shelf_calls: 5,
         quiet: 2,
-        writes: 0,
+        writes: &[],
         sink_calls: 5,
     },
     Row {
         words: &["plain", "p", "e", "k"],
         shelf_calls: 6,
         quiet: 3,
-        writes: 0,
+        writes: &[],
         sink_calls: 2,
     },
     Row {
         words: &["report", "i"],
         shelf_calls: 1,
         quiet: 1,
-        writes: 0,
+        writes: &[],
         sink_calls: 37,
     },
     Row {
         words: &["sample", "1"],
         shelf_calls: 0,
         quiet: 0,
-        writes: 0,
+        writes: &[],
         sink_calls: 8,
+    },
+    Row {
+        words: &["switch", "j", "g", "c", "o", "1"],
+        shelf_calls: 5,
+        quiet: 5,
+        writes: &["o.1.pcap", "o.2.pcap"],
+        sink_calls: 7,
     },
 ];
 
-/// The image of the program with its entries.
-fn image(alloc: Global) -> Result<Vec<u8>, Fail> {
-    let files = [("p", STRICT_AND_WEAK.as_bytes()), ("e", ENTRIES.as_bytes())];
+impl Row<'_> {
+    /// How many calls of the shelf come before the one that writes the first file.
+    fn reads(&self) -> u64 {
+        u64::from(self.shelf_calls).saturating_sub(self.writes.len() as u64)
+    }
+
+    /// How many files were written before the call of the shelf that fails.
+    fn written(&self, outside: Outside) -> u64 {
+        if outside.shelf_fails == 0 {
+            return self.writes.len() as u64;
+        }
+        outside
+            .shelf_fails
+            .saturating_sub(self.reads().saturating_add(1))
+    }
+
+    /// Whether a file is one of the first that are written.
+    fn writes_early(&self, name: &str, written: u64) -> bool {
+        let mut at: u64 = 0;
+        for other in self.writes {
+            if *other == name {
+                return at < written;
+            }
+            at = at.saturating_add(1);
+        }
+        false
+    }
+}
+
+/// The image of a program with its entries.
+fn image(alloc: Global, program: &str, entries: &str) -> Result<Vec<u8>, Fail> {
+    let files = [("p", program.as_bytes()), ("e", entries.as_bytes())];
     let left = run_on(alloc, &["compile", "p", "e", "o"], &files, STEADY)?;
     let name = String::from_str(alloc, "o")?;
     match left.shelf.file(&name) {
@@ -99,26 +142,59 @@ fn image(alloc: Global) -> Result<Vec<u8>, Fail> {
     }
 }
 
-/// Runs a command over the program, its entries, its packets and its image.
-fn run(alloc: Global, words: &[&str], image: &[u8], outside: Outside) -> Result<Left, Fail> {
+/// The images and the capture that the commands read.
+#[derive(Drop)]
+struct Given {
+    image: Vec<u8>,
+    to_a_group: Vec<u8>,
+    capture: Vec<u8>,
+}
+
+/// What all runs read.
+fn read_files(alloc: Global) -> Result<Given, Fail> {
+    Ok(Given {
+        image: image(alloc, STRICT_AND_WEAK, ENTRIES)?,
+        to_a_group: image(alloc, TO_A_GROUP, "")?,
+        capture: capture_of(alloc, 3, &[0xff])?,
+    })
+}
+
+/// Runs a command over the program, its entries, its packets, its image, and what `switch` reads.
+fn run(alloc: Global, words: &[&str], given: &Given, outside: Outside) -> Result<Left, Fail> {
     let files = [
         ("p", STRICT_AND_WEAK.as_bytes()),
         ("e", ENTRIES.as_bytes()),
         ("k", PACKETS.as_bytes()),
-        ("i", image),
+        ("i", given.image.as_slice()),
         ("o", b"before".as_slice()),
+        ("j", given.to_a_group.as_slice()),
+        ("g", GROUPS.as_bytes()),
+        ("c", given.capture.as_slice()),
+        ("o.2.pcap", b"before".as_slice()),
     ];
     run_on(alloc, words, &files, outside)
 }
 
-/// Whether all files of two shelves are the same.
-fn are_same(alloc: Global, one: &MemShelf, other: &MemShelf) -> Result<bool, AllocError> {
-    let mut are_same = true;
+/// Whether the first files that a command writes are those of one shelf, and all others those of another.
+fn are_of(
+    alloc: Global,
+    row: Row<'_>,
+    written: u64,
+    left: &MemShelf,
+    whole: &MemShelf,
+    before: &MemShelf,
+) -> Result<bool, AllocError> {
+    let mut are_of = true;
     for name in NAMES.iter() {
-        let name = String::from_str(alloc, name)?;
-        are_same = are_same && one.file(&name) == other.file(&name);
+        let wanted = if row.writes_early(*name, written) {
+            whole
+        } else {
+            before
+        };
+        let name = String::from_str(alloc, *name)?;
+        are_of = are_of && left.file(&name) == wanted.file(&name);
     }
-    Ok(are_same)
+    Ok(are_of)
 }
 
 /// What a call that fails makes of a run: its status, and whether nothing is printed.
@@ -132,24 +208,32 @@ fn wanted(row: Row<'_>, outside: Outside) -> (Status, bool) {
     let call = outside.shelf_fails;
     if call > u64::from(row.shelf_calls) {
         (Status::Done, false)
-    } else if call == u64::from(row.writes) {
+    } else if call > row.reads() {
         (Status::WriteFault, true)
     } else {
         (Status::ReadFault, call <= u64::from(row.quiet))
     }
 }
 
-/// Whether a run with one fault ends as it should: with the fault's status, a front of the whole text or nothing, and all
-/// files as before the call, or as behind it where they were written before the fault.
+/// A run that meets no fault, and one of no command, which leaves all files.
+#[derive(Drop)]
+struct Ends {
+    whole: Left,
+    before: Left,
+}
+
+/// Whether a run with one fault ends as it should: with the fault's status, a front of the whole text or nothing, the files
+/// that were written before the fault, and all others as before the call.
 fn is_right(
     alloc: Global,
     row: Row<'_>,
-    image: &[u8],
-    whole: &Left,
+    given: &Given,
+    ends: &Ends,
     outside: Outside,
 ) -> Result<bool, Fail> {
     let (status, is_quiet) = wanted(row, outside);
-    let ended = run(alloc, row.words, image, outside)?;
+    let ended = run(alloc, row.words, given, outside)?;
+    let whole = &ends.whole;
     let front = whole.printed.as_slice();
     let printed = ended.printed.as_slice();
     let is_text = match status {
@@ -157,32 +241,38 @@ fn is_right(
         _ => front.starts_with(printed),
     };
     let is_empty = printed.is_empty() || !is_quiet;
-    let are_files = if outside.sink_fails > 0 || status == Status::Done {
-        are_same(alloc, &ended.shelf, &whole.shelf)?
-    } else {
-        let before = run(alloc, &[], image, STEADY)?;
-        are_same(alloc, &ended.shelf, &before.shelf)?
-    };
+    let written = row.written(outside);
+    let are_files = are_of(
+        alloc,
+        row,
+        written,
+        &ended.shelf,
+        &whole.shelf,
+        &ends.before.shelf,
+    )?;
     Ok(ended.status == status && is_text && is_empty && are_files)
 }
 
 /// Whether a command ends as it should for each call of the shelf and of the sink that fails, and at last for none.
-fn holds(alloc: Global, row: Row<'_>, image: &[u8]) -> Result<bool, Fail> {
-    let whole = run(alloc, row.words, image, STEADY)?;
-    let mut is_held = whole.status == Status::Done;
+fn holds(alloc: Global, row: Row<'_>, given: &Given) -> Result<bool, Fail> {
+    let ends = Ends {
+        whole: run(alloc, row.words, given, STEADY)?,
+        before: run(alloc, &[], given, STEADY)?,
+    };
+    let mut is_held = ends.whole.status == Status::Done;
     for call in 0..row.shelf_calls.saturating_add(1) {
         let outside = Outside {
             shelf_fails: u64::from(call) + 1,
             ..SMALL
         };
-        is_held = is_held && is_right(alloc, row, image, &whole, outside)?;
+        is_held = is_held && is_right(alloc, row, given, &ends, outside)?;
     }
     for call in 0..row.sink_calls.saturating_add(1) {
         let outside = Outside {
             sink_fails: u64::from(call) + 1,
             ..SMALL
         };
-        is_held = is_held && is_right(alloc, row, image, &whole, outside)?;
+        is_held = is_held && is_right(alloc, row, given, &ends, outside)?;
     }
     Ok(is_held)
 }
@@ -190,9 +280,9 @@ fn holds(alloc: Global, row: Row<'_>, image: &[u8]) -> Result<bool, Fail> {
 #[test]
 fn each_call_fails(rt: HostRuntime) -> Result<(), Fail> {
     let alloc = rt.alloc();
-    let image = image(alloc)?;
+    let given = read_files(alloc)?;
     for row in ROWS.iter() {
-        assert!(rt; holds(alloc, *row, image.as_slice())?, "{:?}", row.words);
+        assert!(rt; holds(alloc, *row, &given)?, "{:?}", row.words);
     }
     Ok(())
 }
@@ -201,21 +291,19 @@ fn each_call_fails(rt: HostRuntime) -> Result<(), Fail> {
 #[test]
 fn a_byte_at_a_time(rt: HostRuntime) -> Result<(), Fail> {
     let alloc = rt.alloc();
-    let image = image(alloc)?;
+    let given = read_files(alloc)?;
     let single = Outside {
         given: 1,
         taken: 1,
         ..STEADY
     };
     for row in ROWS.iter() {
-        let whole = run(alloc, row.words, image.as_slice(), STEADY)?;
-        let left = run(alloc, row.words, image.as_slice(), single)?;
+        let whole = run(alloc, row.words, &given, STEADY)?;
+        let left = run(alloc, row.words, &given, single)?;
         let is_whole = left.status == Status::Done && left.printed == whole.printed;
-        assert!(rt;
-            is_whole && are_same(alloc, &left.shelf, &whole.shelf)?,
-            "{:?}",
-            row.words
-        );
+        let all = row.writes.len() as u64;
+        let are_files = are_of(alloc, *row, all, &left.shelf, &whole.shelf, &whole.shelf)?;
+        assert!(rt; is_whole && are_files, "{:?}", row.words);
     }
     Ok(())
 }

@@ -5,6 +5,14 @@ use std::alloc::{AllocError, Global};
 pub const SMALLEST: &str =
     "header h { f : 8; } next accept;\naction send() { out_port = 1; }\ntable t { default send(); }\ncontrol { apply t; }\n";
 
+/// Each packet is sent to the ports of group 300.
+pub const TO_A_GROUP: &str =
+    "header h { f : 8; } next accept;\naction send() { out_port = 300; }\ntable t { default send(); }\ncontrol { apply t; }\n";
+
+/// Each packet is sent to the port that its first 9 bits say.
+pub const TO_ITS_PORT: &str =
+    "header h { p : 9; z : 7; } next accept;\naction send() { out_port = h.p; }\ntable t { default send(); }\ncontrol { apply t; }\n";
+
 pub const NO_STAGE: &str =
     "header h { f : 8; } next accept;\naction send() { out_port = 1; }\ncontrol { }\n";
 

@@ -1,80 +1,75 @@
-//! The keys of an exact part, by the rows of its four ways.
+//! Look-ups in the cells of an exact part, by the rows of its four ways.
 
-ghost use Rattle.std.specs.Prelude.{◌≡◌, ℕ, ◌+◌, ◌*◌, ◌^◌, ◌<◌, ◌≤◌, length, map, IsTrue, IfOk, IfSome, slice_index};
+ghost use Rattle.std.specs.Prelude.{◌≡◌, ℕ, ◌+◌, ◌*◌, ◌<◌, ◌≤◌, true, false, length, IfSome};
 ghost use Rattle.rmt_bits.specs.Hash.{hash_row as hash_row_of};
-ghost use Rattle.rmt_config.specs.Order.{rises_from};
-ghost use Rattle.rmt_config.specs.declared.config.CellNumber.{CellNumber};
-ghost use Rattle.rmt_chip.specs.Laying.{StartsByRow};
-ghost use Rattle.rmt_chip.specs.Searching.{FirstIn, HasRun, FirstByWays};
+ghost use Rattle.rmt_chip.specs.Searching.{FirstIn, HasCell, FirstByWays, FirstInWay};
 
 use crate::memory::runs::{Runs, run_at};
-use crate::memory::ways::ExactMemory;
+use crate::memory::sight::is_seen;
+use crate::memory::ways::Ways;
 use rmt_bits::hash::hash_row;
-use rmt_config::config::CellNumber;
-use rmt_config::form::search::first_from;
-use std::alloc::{AllocError, Global};
 
-/// By row where the listed cells of the row begin, where a row has `per` cells.
-pub fn starts_of(
-    alloc: Global,
-    numbers: &[CellNumber],
-    rows: u32,
-    per: u16,
-) -> Result<Vec<u32>, AllocError>
-    requires order { IsTrue (rises_from 0 (map (λ (n : CellNumber). n.cell) numbers.now)) }
-    requires few { length numbers.now < 2 ^ 32 }
-    requires rows { rows < 2 ^ 22 }
-    ensures { IfOk result (λ starts. StartsByRow numbers.now rows per starts.items) }
+/// Whether a sight shows a cell, and it has a key.
+fn has_key(cells: &Runs, at: usize, sight: u8, key: &[u8]) -> bool
+    requires at { at < cells.now.count }
+    requires sight { sight < 3 }
+    requires size { 1 + length key.now ≤ cells.now.size }
+    ensures yes { result ≡ true → HasCell cells.now sight key.now at }
+    ensures no { result ≡ false → HasCell cells.now sight key.now at → ⊥ }
 {
-    let mut starts = Vec::with_capacity(alloc, rows as usize + 1)?;
-    for row in 0..rows + 1 {
-        let start = first_from(numbers, row as u64 * per as u64);
-        starts.push(start as u32)?;
-    }
-    Ok(starts)
+    let cell = run_at(cells, at);
+    is_seen(cell[0], sight) && &cell[1..1 + key.len()] == key
 }
 
-/// The first run from a place on, below another, that is a key.
-fn first_with(keys: &Runs, key: &[u8], from: usize, to: usize) -> Option<usize>
-    requires { to ≤ keys.now.count }
-    ensures { FirstIn (HasRun keys.now key.now) from to result }
+/// The first cell from a place on, below another, that a sight shows and that has a key.
+fn first_with(cells: &Runs, sight: u8, key: &[u8], from: usize, to: usize) -> Option<usize>
+    requires sight { sight < 3 }
+    requires size { 1 + length key.now ≤ cells.now.size }
+    requires to { to ≤ cells.now.count }
+    ensures { FirstIn (HasCell cells.now sight key.now) from to result }
 {
     for at in from..to {
-        if run_at(keys, at) == key {
+        if has_key(cells, at, sight, key) {
             return Some(at);
         }
     }
     None
 }
 
-/// The first of the keys of a row, among those of all ways, that is this one.
-fn first_in_row(memory: &ExactMemory, key: &[u8], row: usize) -> Option<usize>
-    requires { row < 4 * memory.now.rows }
-    ensures { FirstIn (HasRun memory.now.keys key.now) (slice_index memory.now.starts.items row) (slice_index memory.now.starts.items (row + 1)) result }
-{
-    let from = memory.starts[row] as usize;
-    let to = memory.starts[row + 1] as usize;
-    first_with(&memory.keys, key, from, to)
-}
-
 /// The number of a key's row in a way, among the rows of all ways.
-fn row_of(memory: &ExactMemory, key: &[u8], way: u8) -> usize
+fn row_of(ways: Ways, seed: u8, key: &[u8], way: u8) -> usize
     requires { way < 4 }
-    ensures value { result ≡ way * memory.now.rows + hash_row_of memory.now.seed (memory.now.first_way + way) key.now memory.now.rows }
-    ensures within { result < 4 * memory.now.rows }
+    ensures value { result ≡ way * ways.rows + hash_row_of seed (ways.first_way + way) key.now ways.rows }
+    ensures within { result < 4 * ways.rows }
 {
-    let row = hash_row(memory.seed, memory.first_way + way, key, memory.rows);
-    way as usize * memory.rows as usize + row as usize
+    let row = hash_row(seed, ways.first_way + way, key, ways.rows);
+    way as usize * ways.rows as usize + row as usize
 }
 
-/// The place of a key among those listed, in the first way that has it.
-pub fn place_of(memory: &ExactMemory, key: &[u8]) -> Option<usize>
-    ensures first { FirstByWays memory.now key.now result }
-    ensures within { IfSome result (λ i. i < memory.now.keys.count) }
+/// The first cell of a key's row in a way that a sight shows and that has the key.
+fn first_in_way(ways: Ways, cells: &Runs, seed: u8, sight: u8, key: &[u8], way: u8) -> Option<usize>
+    requires way { way < 4 }
+    requires sight { sight < 3 }
+    requires size { 1 + length key.now ≤ cells.now.size }
+    requires within { 4 * ways.rows * ways.per ≤ cells.now.count }
+    ensures first { FirstInWay ways cells.now seed sight key.now way result }
+    ensures within { IfSome result (λ i. i < cells.now.count) }
+{
+    let per = ways.per as usize;
+    let from = row_of(ways, seed, key, way) * per;
+    first_with(cells, sight, key, from, from + per)
+}
+
+/// The cell of a key under a seed, in the first way that has one that a sight shows.
+pub fn place_of(ways: Ways, cells: &Runs, seed: u8, sight: u8, key: &[u8]) -> Option<usize>
+    requires sight { sight < 3 }
+    requires size { 1 + length key.now ≤ cells.now.size }
+    requires within { 4 * ways.rows * ways.per ≤ cells.now.count }
+    ensures first { FirstByWays ways cells.now seed sight key.now result }
+    ensures within { IfSome result (λ i. i < cells.now.count) }
 {
     for way in 0..4 {
-        let row = row_of(memory, key, way);
-        if let Some(at) = first_in_row(memory, key, row) {
+        if let Some(at) = first_in_way(ways, cells, seed, sight, key, way) {
             return Some(at);
         }
     }

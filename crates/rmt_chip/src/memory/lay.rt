@@ -1,6 +1,6 @@
-//! The memory of a slot is laid out.
+//! The memory of a slot is laid out: room for all its cells, and what the listed ones hold.
 
-ghost use Rattle.std.specs.Prelude.{◌≡◌, ℕ, ◌+◌, ◌*◌, ◌^◌, ◌<◌, ◌≤◌, [], List, length, map, All, IfOk};
+ghost use Rattle.std.specs.Prelude.{◌≡◌, ◌≢◌, ℕ, ◌+◌, ◌*◌, ◌^◌, ◌<◌, ◌≤◌, [], List, length, map, true, All, IfOk, slice_index};
 ghost use Rattle.rmt_config.specs.declared.config.TcamRow.{TcamRow};
 ghost use Rattle.rmt_config.specs.declared.config.CellNumber.{CellNumber};
 ghost use Rattle.rmt_config.specs.declared.config.Memory.TheVariants.{Exact, Ternary};
@@ -8,46 +8,103 @@ ghost use Rattle.rmt_config.specs.LaneForm.{bits_of_lanes};
 ghost use Rattle.rmt_config.specs.Shapes.{divided_up, record_width, record_units};
 ghost use Rattle.rmt_config.specs.Cells.{sram_row, cell_of, data_at};
 ghost use Rattle.rmt_config.specs.MemoryRules.{SramRows, FormedRows, ExactFits, TernaryFits};
-ghost use Rattle.rmt_chip.specs.Laying.{runs_of as runs_of_cells};
-ghost use Rattle.rmt_chip.specs.Memories.{Laid, NumbersFit, key_size, held_size};
+ghost use Rattle.rmt_chip.specs.Searching.{run_of};
+ghost use Rattle.rmt_chip.specs.Laying.{runs_of as runs_of_cells, cell_at, CellsPut, bytes_at};
+ghost use Rattle.rmt_chip.specs.Laid.{Laid, CellsLaid, NumbersLaid};
+ghost use Rattle.rmt_chip.specs.Memories.{NumbersFit, key_size, held_size};
 
 use crate::key::key_bits;
-use crate::memory::exact::starts_of;
-use crate::memory::runs::{Runs, no_runs, runs_of};
+use crate::memory::SlotMemory;
+use crate::memory::changes::set_run;
+use crate::memory::keys::Keys;
+use crate::memory::listed::runs_of;
+use crate::memory::runs::{Runs, no_runs, run_at, zeros};
 use crate::memory::ternary::sliced_of;
-use crate::memory::ways::ExactMemory;
-use crate::memory::{Keys, SlotMemory};
+use crate::memory::ways::Ways;
 use rmt_config::config::{CellNumber, SlotUnit, SramRow, Stage};
 use rmt_config::form::parts::{exact_keys, exact_records, ternary_records};
 use std::alloc::{AllocError, Global};
-
-/// The numbers of the entries of listed cells.
-fn entry_numbers(alloc: Global, numbers: &[CellNumber]) -> Result<Vec<u32>, AllocError>
-    ensures { IfOk result (λ ns. ns.items ≡ map (λ (c : CellNumber). c.number) numbers.now) }
-{
-    numbers.iter().map(|number| number.number).collect(alloc)
-}
 
 /// A memory without cells.
 pub fn without(alloc: Global) -> SlotMemory
     ensures keys { result.keys ≡ Keys.Nothing }
     ensures key { key_size result ≡ 0 }
-    ensures heads { result.heads.bytes.items ≡ [] }
     ensures held { held_size result ≡ 0 }
-    ensures data { result.held.bytes.items ≡ [] }
+    ensures cells { result.cells.count ≡ 0 }
     ensures numbers { result.numbers.items ≡ [] }
 {
     SlotMemory {
         keys: Keys::Nothing,
         key_size: 0,
-        heads: Runs {
+        stored: 0,
+        held_size: 0,
+        cells: Runs {
             size: 1,
             count: 0,
             bytes: Vec::new(alloc),
         },
-        held: no_runs(alloc, 0),
         numbers: Vec::new(alloc),
     }
+}
+
+/// By cell the numbers of the entries of listed cells, where they are counted; else none.
+fn numbers_by_cell(
+    alloc: Global,
+    counted: bool,
+    numbers: &[CellNumber],
+    count: usize,
+) -> Result<Vec<u32>, AllocError>
+    requires { All (λ (n : CellNumber). n.cell < count) numbers.now }
+    ensures { IfOk result (λ ns. counted ≡ true → NumbersLaid numbers.now count (length numbers.now) ns.items) }
+{
+    if !counted {
+        return Ok(Vec::new(alloc));
+    }
+    let mut entries = vec![in alloc; 0; count]?;
+    for at in 0..numbers.len() {
+        entries[numbers[at].cell as usize] = numbers[at].number;
+    }
+    Ok(entries)
+}
+
+/// Writes the listed cells.
+fn put_listed(cells: &mut Runs, numbers: &[CellNumber], heads: &Runs, keys: &Runs, held: &Runs)
+    requires heads { heads.now.count ≡ length numbers.now }
+    requires keys { keys.now.count ≡ length numbers.now }
+    requires held { held.now.count ≡ length numbers.now }
+    requires head_size { heads.now.size ≡ 1 }
+    requires size { cells.old.size ≡ 1 + keys.now.size + held.now.size }
+    requires inside { All (λ (n : CellNumber). n.cell < cells.old.count) numbers.now }
+    ensures { CellsPut numbers.now heads.now keys.now held.now (length numbers.now) cells.old cells.new }
+{
+    for at in 0..numbers.len() {
+        let head = run_at(heads, at)[0];
+        let cell = numbers[at].cell as usize;
+        set_run(cells, cell, head, run_at(keys, at), run_at(held, at));
+    }
+}
+
+/// That many cells, of which the listed ones have these heads, keys and data, and no other is occupied.
+fn cells_of(
+    alloc: Global,
+    count: usize,
+    numbers: &[CellNumber],
+    heads: &Runs,
+    keys: &Runs,
+    held: &Runs,
+) -> Result<Runs, AllocError>
+    requires heads { heads.now.count ≡ length numbers.now }
+    requires keys { keys.now.count ≡ length numbers.now }
+    requires held { held.now.count ≡ length numbers.now }
+    requires head_size { heads.now.size ≡ 1 }
+    requires inside { All (λ (n : CellNumber). n.cell < count) numbers.now }
+    requires few { count < 2 ^ 40 }
+    requires short { keys.now.size + held.now.size < 2 ^ 20 }
+    ensures { IfOk result (λ cells. CellsLaid numbers.now heads.now keys.now held.now count cells) }
+{
+    let mut cells = zeros(alloc, 1 + keys.size + held.size, count)?;
+    put_listed(&mut cells, numbers, heads, keys, held);
+    Ok(cells)
 }
 
 /// The data of the listed cells of an exact part.
@@ -81,7 +138,6 @@ fn exact_data(
 /// The memory of an exact part.
 pub fn lay_exact(
     alloc: Global,
-    seed: u8,
     stage: &Stage,
     slot: &SlotUnit,
     width: u8,
@@ -96,9 +152,7 @@ pub fn lay_exact(
     requires ways { first_way + 3 < 256 }
     requires numbers { NumbersFit slot.now (4096 * quanta * per) }
     ensures laid { IfOk result (λ m. (cs : List ℕ) →
-        Laid seed stage.now (record slot.now { memory = Exact width per quanta first_way keys.now records.now cs }) m) }
-    ensures key { IfOk result (λ m. key_size m ≡ divided_up (bits_of_lanes slot.now.keys) 8) }
-    ensures held { IfOk result (λ m. held_size m ≡ divided_up slot.now.held 8) }
+        Laid stage.now (record slot.now { memory = Exact width per quanta first_way keys.now records.now cs }) m) }
 {
     let rows = stage.srows.as_slice();
     let numbers = slot.numbers.as_slice();
@@ -107,21 +161,20 @@ pub fn lay_exact(
     let heads = runs_of(alloc, &layout, keys, rows, numbers, 0, 8)?;
     let found = runs_of(alloc, &layout, keys, rows, numbers, 8, bits)?;
     let held = exact_data(alloc, rows, numbers, per, quanta, slot.held, records)?;
-    let starts = starts_of(alloc, numbers, 4096 * quanta as u32, per)?;
-    let entries = entry_numbers(alloc, numbers)?;
-    let key_size = found.size;
-    let memory = ExactMemory {
-        seed,
+    let count = 4096 * quanta as usize * per as usize;
+    let cells = cells_of(alloc, count, numbers, &heads, &found, &held)?;
+    let entries = numbers_by_cell(alloc, slot.counted, numbers, count)?;
+    let ways = Ways {
         first_way,
         rows: 1024 * quanta as u32,
-        starts,
-        keys: found,
+        per,
     };
     Ok(SlotMemory {
-        keys: Keys::ByRow(memory),
-        key_size,
-        heads,
-        held,
+        keys: Keys::InCells(ways),
+        key_size: found.size,
+        stored: found.size,
+        held_size: held.size,
+        cells,
         numbers: entries,
     })
 }
@@ -139,10 +192,8 @@ pub fn lay_ternary(
     requires values { All (λ (r : TcamRow). r.value < 2 ^ 40) stage.now.trows }
     requires fits { TernaryFits slot.now quanta keys.now records.now }
     requires numbers { NumbersFit slot.now (2048 * quanta) }
-    ensures laid { IfOk result (λ m. (seed : ℕ) (cs : List ℕ) →
-        Laid seed stage.now (record slot.now { memory = Ternary quanta keys.now records.now cs }) m) }
-    ensures key { IfOk result (λ m. key_size m ≡ divided_up (bits_of_lanes slot.now.keys) 8) }
-    ensures held { IfOk result (λ m. held_size m ≡ divided_up slot.now.held 8) }
+    ensures laid { IfOk result (λ m. (cs : List ℕ) →
+        Laid stage.now (record slot.now { memory = Ternary quanta keys.now records.now cs }) m) }
 {
     let rows = stage.srows.as_slice();
     let numbers = slot.numbers.as_slice();
@@ -150,19 +201,25 @@ pub fn lay_ternary(
     let layout = ternary_records(quanta, slot.held);
     let heads = runs_of(alloc, &layout, records, rows, numbers, 0, 8)?;
     let held = runs_of(alloc, &layout, records, rows, numbers, 8, slot.held as u64)?;
+    let count = 2048 * quanta as usize;
     let sliced = sliced_of(
         alloc,
         stage.trows.as_slice(),
         keys,
         (bits + 39) / 40,
         numbers,
+        &heads,
+        count,
     )?;
-    let entries = entry_numbers(alloc, numbers)?;
+    let none = no_runs(alloc, numbers.len());
+    let cells = cells_of(alloc, count, numbers, &heads, &none, &held)?;
+    let entries = numbers_by_cell(alloc, slot.counted, numbers, count)?;
     Ok(SlotMemory {
         keys: Keys::InVectors(sliced),
         key_size: ((bits + 7) / 8) as usize,
-        heads,
-        held,
+        stored: 0,
+        held_size: held.size,
+        cells,
         numbers: entries,
     })
 }

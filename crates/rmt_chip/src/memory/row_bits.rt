@@ -2,8 +2,10 @@
 
 ghost use Rattle.std.specs.Prelude.{◌≡◌, ◌≢◌, ◌≤◌, ◌<◌, ◌+◌, ◌*◌, ◌==◌, ℕ, length, bit_and};
 ghost use Rattle.std.specs.Int.{bit_at};
+ghost use Rattle.rmt_chip.specs.Sights.{seen_by};
 ghost use Rattle.rmt_chip.specs.Slicing.{nibble as nibble_of, leaves as leaves_of, bit_if, bit_in};
 
+use crate::memory::sight::is_seen;
 use rmt_bits::bits::slice;
 
 /// A nibble of a number in words of 40 bits, the lowest first.
@@ -53,7 +55,27 @@ fn set_nibble(bits: &mut [u64], width: usize, row: usize, at: usize, mask: usize
     }
 }
 
-/// Sets the bits of a row in all vectors.
+/// Sets the bits of a row in the last three vectors, one for each sight, by the head of its cell.
+pub fn set_seen(bits: &mut [u64], words: usize, width: usize, row: usize, head: u8)
+    requires row { row < 64 * width }
+    requires few { words ≤ 16 }
+    requires all { length bits.old ≡ (160 * words + 3) * width }
+    ensures size { length bits.new ≡ length bits.old }
+    ensures seen { (sight : ℕ) → sight < 3 → bit_in bits.new width (160 * words + sight) row ≡ bit_if (seen_by sight head) }
+    ensures others { (v r : ℕ) → r < 64 * width → (160 * words ≤ v → r ≢ row) → bit_in bits.new width v r ≡ bit_in bits.old width v r }
+{
+    for sight in 0..3u8 {
+        set_bit(
+            bits,
+            width,
+            160 * words + sight as usize,
+            row,
+            is_seen(head, sight),
+        );
+    }
+}
+
+/// Sets the bits of a row in all vectors but the last three.
 pub fn set_row(
     bits: &mut [u64],
     words: usize,
@@ -64,11 +86,10 @@ pub fn set_row(
 )
     requires row { row < 64 * width }
     requires few { words ≤ 16 }
-    requires all { length bits.old ≡ (160 * words + 1) * width }
+    requires all { length bits.old ≡ (160 * words + 3) * width }
     requires masks { length masks.now ≡ words }
     requires values { length values.now ≡ words }
     ensures size { length bits.new ≡ length bits.old }
-    ensures there { bit_in bits.new width (160 * words) row ≡ 1 }
     ensures leaves { (v : ℕ) → v < 160 * words → bit_in bits.new width v row ≡ bit_if (leaves_of (record { masks = masks.now; values = values.now }) v) }
     ensures others { (v r : ℕ) → r < 64 * width → r ≢ row → bit_in bits.new width v r ≡ bit_in bits.old width v r }
 {
@@ -77,5 +98,4 @@ pub fn set_row(
         let value = nibble(values, at);
         set_nibble(bits, width, row, at, mask, value);
     }
-    set_bit(bits, width, 160 * words, row, true);
 }

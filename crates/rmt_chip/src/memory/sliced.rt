@@ -2,17 +2,17 @@
 
 ghost use Rattle.std.specs.Prelude.{◌≡◌, ◌≤◌, ◌+◌, ◌*◌, ◌^◌, vec_len};
 
-use crate::memory::row_bits::{nibble, set_row};
+use crate::memory::row_bits::{nibble, set_row, set_seen};
 use std::alloc::{AllocError, Global};
 
 /// Rows of a ternary part, of which some may be missing. For each nibble of a key and each of its
 /// 16 values stands a vector with a bit for each row, which is set where the value leaves the row;
-/// a last vector has the rows that are there. A key has the rows whose bits are set in the vectors
-/// of all its nibbles and in the last.
+/// the last three vectors, one for each sight, have the rows that the sight shows. Under a sight a key
+/// has the rows whose bits are set in the vectors of all its nibbles and in that of the sight.
 ///
 /// A look-up takes at most one step for a nibble and 64 rows, whatever the masks: 20,000 rows are
 /// 313 runs of 64, and a run ends as soon as none of its rows is left. A row that is put takes 16
-/// steps for a nibble. The memory is 20 bytes a row for each word of 40 bits of a key, and one bit;
+/// steps for a nibble. The memory is 20 bytes a row for each word of 40 bits of a key, and three bits;
 /// rows are counted up to a multiple of 64.
 #[derive(Drop)]
 pub struct Sliced {
@@ -24,56 +24,62 @@ pub struct Sliced {
     pub bits: Vec<u64>,
     pub ghost few: { words ≤ 16 },
     pub ghost few_rows: { width ≤ 2 ^ 26 },
-    pub ghost all: { vec_len bits ≡ (160 * words + 1) * width },
+    pub ghost all: { vec_len bits ≡ (160 * words + 3) * width },
 }
 
 impl Sliced {
-    ghost use Rattle.std.specs.Prelude.{◌<◌, ℕ, List, length, Option, Some, None, replicate, slice_index, slice_set, IfOk};
+    ghost use Rattle.std.specs.Prelude.{◌<◌, ℕ, List, length, Option, Some, None, replicate, slice_index, slice_set, IfOk, IfSome, ◌/◌, if◌then◌else◌};
     ghost use Rattle.std.specs.Int.{bit_at};
     ghost use Rattle.rmt_bits.specs.Grouping.{Compared};
     ghost use Rattle.rmt_chip.specs.Searching.{FirstIn};
-    ghost use Rattle.rmt_chip.specs.Slicing.{nibble as nibble_of, HasRow, RowFits, StandsFor, IsOn, OnIn};
+    ghost use Rattle.rmt_chip.specs.Sights.{seen_by};
+    ghost use Rattle.rmt_chip.specs.Slicing.{nibble as nibble_of, HasRow, RowFits, RowSet, StandsFor, IsOn, OnIn};
 
     /// No row is there, of some, where a key has that many words of 40 bits.
     pub fn new(alloc: Global, rows: usize, words: usize) -> Result<Sliced, AllocError>
         requires few { rows < 2 ^ 32 }
         requires words { words ≤ 16 }
         ensures words { IfOk result (λ sliced. sliced.words ≡ words) }
-        ensures stands { IfOk result (λ sliced. StandsFor (replicate rows None) sliced) }
+        ensures width { IfOk result (λ sliced. sliced.width ≡ (rows + 63) / 64) }
+        ensures stands { IfOk result (λ sliced. (sight : ℕ) → sight < 3 → StandsFor sight (replicate rows None) sliced) }
     {
         let width = (rows + 63) / 64;
-        let bits = vec![in alloc; 0; (160 * words + 1) * width]?;
+        let bits = vec![in alloc; 0; (160 * words + 3) * width]?;
         Ok(Sliced { words, width, bits })
     }
 
-    /// Puts a row that compares these bits, whatever was there. It takes no memory.
-    pub fn put(&mut self, row: usize, masks: &[u128], values: &[u128])
+    /// Puts a row that compares these bits, whatever was there, and that sights show by its head. It takes
+    /// no memory.
+    pub fn put(&mut self, row: usize, head: u8, masks: &[u128], values: &[u128])
         requires row { row < 64 * self.old.width }
         requires fits { RowFits self.old.words (record { masks = masks.now; values = values.now }) }
-        ensures words { self.new.words ≡ self.old.words }
-        ensures width { self.new.width ≡ self.old.width }
-        ensures stands { (rows : List (Option Compared)) → StandsFor rows self.old → row < length rows →
-            StandsFor (slice_set rows row (Some (record { masks = masks.now; values = values.now }))) self.new }
+        ensures { RowSet row (λ sight. if seen_by sight head then Some (record { masks = masks.now; values = values.now }) else None) self.old self.new }
     {
-        set_row(
-            self.bits.as_mut_slice(),
-            self.words,
-            self.width,
-            row,
-            masks,
-            values,
-        );
+        let (words, width) = (self.words, self.width);
+        let bits = self.bits.as_mut_slice();
+        set_row(bits, words, width, row, masks, values);
+        set_seen(bits, words, width, row, head);
     }
 
-    /// Of 64 rows those that are there and are left by the nibbles whose vectors begin at some words.
-    fn left(&self, vectors: &[usize], at: usize) -> u64
+    /// Takes a row away from every sight. It takes no memory.
+    pub fn hide(&mut self, row: usize)
+        requires row { row < 64 * self.old.width }
+        ensures { RowSet row (λ sight. None) self.old self.new }
+    {
+        let (words, width) = (self.words, self.width);
+        set_seen(self.bits.as_mut_slice(), words, width, row, 0);
+    }
+
+    /// Of 64 rows those that a sight shows and that are left by the nibbles whose vectors begin at some words.
+    fn left(&self, sight: u8, vectors: &[usize], at: usize) -> u64
+        requires sight { sight < 3 }
         requires at { at < self.now.width }
         requires all { length vectors.now ≡ 160 }
         requires within { (n : ℕ) → n < 10 * self.now.words → slice_index vectors.now n + self.now.width ≤ vec_len self.now.bits }
-        ensures on { (j : ℕ) → bit_at result j ≡ 1 → IsOn self.now vectors.now (10 * self.now.words) at j }
-        ensures all { (j : ℕ) → IsOn self.now vectors.now (10 * self.now.words) at j → bit_at result j ≡ 1 }
+        ensures on { (j : ℕ) → bit_at result j ≡ 1 → IsOn self.now sight vectors.now (10 * self.now.words) at j }
+        ensures all { (j : ℕ) → IsOn self.now sight vectors.now (10 * self.now.words) at j → bit_at result j ≡ 1 }
     {
-        let mut left = self.bits[160 * self.words * self.width + at];
+        let mut left = self.bits[(160 * self.words + sight as usize) * self.width + at];
         for nibble in 0..10 * self.words {
             if left == 0 {
                 return 0;
@@ -83,14 +89,15 @@ impl Sliced {
         left
     }
 
-    /// The first row that is there and is left by the nibbles whose vectors begin at some words.
-    fn first_left(&self, vectors: &[usize]) -> Option<usize>
+    /// The first row that a sight shows and that is left by the nibbles whose vectors begin at some words.
+    fn first_left(&self, sight: u8, vectors: &[usize]) -> Option<usize>
+        requires sight { sight < 3 }
         requires all { length vectors.now ≡ 160 }
         requires within { (n : ℕ) → n < 10 * self.now.words → slice_index vectors.now n + self.now.width ≤ vec_len self.now.bits }
-        ensures { FirstIn (OnIn self.now vectors.now) 0 (64 * self.now.width) result }
+        ensures { FirstIn (OnIn self.now sight vectors.now) 0 (64 * self.now.width) result }
     {
         for at in 0..self.width {
-            let left = self.left(vectors, at);
+            let left = self.left(sight, vectors, at);
             if left != 0 {
                 return Some(64 * at + left.trailing_zeros() as usize);
             }
@@ -111,12 +118,14 @@ impl Sliced {
         vectors
     }
 
-    /// The first row that is there and equals a key on the bits that it compares.
-    pub fn first(&self, key: &[u128]) -> Option<usize>
-        requires { self.now.words ≤ length key.now }
-        ensures { (rows : List (Option Compared)) → StandsFor rows self.now → FirstIn (HasRow key.now rows) 0 (length rows) result }
+    /// The first row that a sight shows and that equals a key on the bits that it compares.
+    pub fn first(&self, sight: u8, key: &[u128]) -> Option<usize>
+        requires sight { sight < 3 }
+        requires words { self.now.words ≤ length key.now }
+        ensures within { IfSome result (λ i. i < 64 * self.now.width) }
+        ensures first { (rows : List (Option Compared)) → StandsFor sight rows self.now → FirstIn (HasRow key.now rows) 0 (length rows) result }
     {
         let vectors = self.vectors_of(key);
-        self.first_left(&vectors)
+        self.first_left(sight, &vectors)
     }
 }

@@ -1,18 +1,21 @@
-//! The listed rows of a ternary part in vectors of bits, and the first that has a key.
+//! The rows of a ternary part in vectors of bits, and the first that has a key.
 
-ghost use Rattle.std.specs.Prelude.{◌≡◌, ℕ, ◌+◌, ◌*◌, ◌/◌, ◌%◌, ◌^◌, ◌<◌, ◌≤◌, List, length, map, All, IfOk, Option, Some};
+ghost use Rattle.std.specs.Prelude.{◌≡◌, ℕ, ◌+◌, ◌*◌, ◌/◌, ◌%◌, ◌^◌, ◌<◌, ◌≤◌, List, length, map, All, IfOk, Option, Some, None, IfSome, if◌then◌else◌};
+ghost use Rattle.std.specs.List.{range_with_len};
 ghost use Rattle.rmt_bits.specs.Bits.{slice as slice_of, number_of};
 ghost use Rattle.rmt_config.specs.Cells.{tcam_row, blocks_at};
 ghost use Rattle.rmt_config.specs.declared.config.TcamRow.{TcamRow};
 ghost use Rattle.rmt_config.specs.declared.config.CellNumber.{CellNumber};
 ghost use Rattle.rmt_chip.specs.Laying.{TcamRows};
 ghost use Rattle.rmt_bits.specs.Grouping.{Compared};
-ghost use Rattle.rmt_chip.specs.KeyWords.{words_of_key};
+ghost use Rattle.rmt_chip.specs.KeyWords.{words_of, words_of_key};
 ghost use Rattle.rmt_chip.specs.Searching.{FirstIn};
-ghost use Rattle.rmt_chip.specs.Slicing.{HasRow, RowFits, StandsFor};
-ghost use Rattle.rmt_chip.specs.Comparing.{compared_at};
+ghost use Rattle.rmt_chip.specs.Slicing.{HasRow, RowFits, RowSet, StandsFor};
+ghost use Rattle.rmt_chip.specs.Sights.{seen_by};
+ghost use Rattle.rmt_chip.specs.Comparing.{compared_at, ShowsListed};
 
 use crate::memory::block_bits::tcam_bits;
+use crate::memory::runs::{Runs, run_at};
 use crate::memory::sliced::Sliced;
 use rmt_bits::bits::bits_of_bytes;
 use rmt_config::config::{CellNumber, TcamRow};
@@ -48,28 +51,37 @@ fn row_compares(
     Ok(Compares { masks, values })
 }
 
-/// The listed rows of a part in vectors, where a key takes `side` blocks. The vectors have a bit for
-/// each listed row, in their order, and none for another row of the part.
+/// The listed rows of a part in vectors, each with its head, where a key takes `side` blocks. The vectors
+/// have a bit for each of `count` rows; one that isn't listed is missing.
 pub fn sliced_of(
     alloc: Global,
     rows: &[TcamRow],
     blocks: &[u8],
     side: u64,
     numbers: &[CellNumber],
+    heads: &Runs,
+    count: usize,
 ) -> Result<Sliced, AllocError>
     requires rows { TcamRows rows.now }
     requires side { side ≤ 16 }
-    requires few { length numbers.now < 2 ^ 32 }
+    requires few { count < 2 ^ 32 }
+    requires heads { heads.now.count ≡ length numbers.now }
+    requires head_size { heads.now.size ≡ 1 }
+    requires inside { All (λ (n : CellNumber). n.cell < count) numbers.now }
     requires cells { All (λ (n : CellNumber). (n.cell / 2048 + 1) * side ≤ length blocks.now) numbers.now }
     requires fit { All (λ (n : CellNumber). RowFits side (compared_at rows.now blocks.now side n.cell)) numbers.now }
-    ensures { IfOk result (λ sliced. StandsFor (map (λ (n : CellNumber). Some (compared_at rows.now blocks.now side n.cell)) numbers.now) sliced) }
+    ensures words { IfOk result (λ sliced. sliced.words ≡ side) }
+    ensures width { IfOk result (λ sliced. sliced.width ≡ (count + 63) / 64) }
+    ensures stands { IfOk result (λ sliced. (shown : ℕ → Option Compared) (sight : ℕ) → sight < 3 → ShowsListed sight count rows.now blocks.now side numbers.now heads.now shown →
+        StandsFor sight (map shown (range_with_len 0 count)) sliced) }
 {
-    let mut sliced = Sliced::new(alloc, numbers.len(), side as usize)?;
+    let mut sliced = Sliced::new(alloc, count, side as usize)?;
     for at in 0..numbers.len() {
         let cell = numbers[at].cell as u64;
         let unit = piece_at(blocks, side, cell / 2048);
         let bits = row_compares(alloc, rows, unit, cell % 2048)?;
-        sliced.put(at, &bits.masks, &bits.values);
+        let head = run_at(heads, at)[0];
+        sliced.put(cell as usize, head, &bits.masks, &bits.values);
     }
     Ok(sliced)
 }
@@ -100,11 +112,25 @@ fn key_words(key: &[u8]) -> [u128; 16]
     words
 }
 
-/// The first row that has a key.
-pub fn first_row(sliced: &Sliced, key: &[u8]) -> Option<usize>
-    requires { length key.now ≤ 80 }
-    ensures { (rows : List (Option Compared)) → StandsFor rows sliced.now → FirstIn (HasRow (words_of_key (number_of key.now)) rows) 0 (length rows) result }
+/// Puts a row that compares the bits of a mask, and that sights show by its head. It takes no memory.
+pub fn put_row(sliced: &mut Sliced, row: usize, head: u8, key: &[u8], mask: &[u8])
+    requires row { row < 64 * sliced.old.width }
+    requires key { length key.now ≤ 80 }
+    requires mask { length mask.now ≤ 80 }
+    ensures { RowSet row (λ sight. if seen_by sight head then Some (record { masks = words_of sliced.old.words (number_of mask.now); values = words_of sliced.old.words (number_of key.now) }) else None) sliced.old sliced.new }
+{
+    let (masks, values) = (key_words(mask), key_words(key));
+    let words = sliced.words;
+    sliced.put(row, head, &masks[..words], &values[..words]);
+}
+
+/// The first row that a sight shows and that has a key.
+pub fn first_row(sliced: &Sliced, sight: u8, key: &[u8]) -> Option<usize>
+    requires sight { sight < 3 }
+    requires key { length key.now ≤ 80 }
+    ensures within { IfSome result (λ i. i < 64 * sliced.now.width) }
+    ensures first { (rows : List (Option Compared)) → StandsFor sight rows sliced.now → FirstIn (HasRow (words_of_key (number_of key.now)) rows) 0 (length rows) result }
 {
     let words = key_words(key);
-    sliced.first(&words)
+    sliced.first(sight, &words)
 }

@@ -3,7 +3,7 @@
 ghost use Rattle.std.specs.Prelude.{◌≡◌, ◌≢◌, ◌≤◌, ◌⊎◌, ◌+◌, ◌++◌, [], List, Option, None, length, map, min, replicate, string_bytes, Some, IsErrOf, IfErr, IfOk, OnOk, if◌then◌else◌};
 ghost use Rattle.std.specs.List.{flat_map};
 ghost use Rattle.rmt_bits.specs.Packet.{Packet};
-ghost use Rattle.rmt_chip.specs.Stands.{Stands};
+ghost use Rattle.rmt_chip.specs.PacketRuns.{StandsFor as Stands};
 ghost use Rattle.rmt_config.specs.declared.config.Config.{Config};
 ghost use Rattle.rmt_config.specs.ChipRun.{chip_counts_of, inputs_of, latency_of};
 ghost use Rattle.rmt_io.specs.Outside.{SinkState, Gained, PrintingFailed, OnlyPrinted};

@@ -3,7 +3,7 @@
 ghost use Rattle.std.specs.Prelude.{[], IfOk};
 ghost use Rattle.rmt_config.specs.declared.config.Config.{Config};
 ghost use Rattle.rmt_chip.specs.declared.chip.Chip.{Chip};
-ghost use Rattle.rmt_chip.specs.Stands.{Stands};
+ghost use Rattle.rmt_chip.specs.PacketRuns.{StandsFor as Stands};
 ghost use Rattle.rmt_io.specs.Outside.{SinkState};
 ghost use Rattle.rmt_core.specs.Running.{Goes};
 

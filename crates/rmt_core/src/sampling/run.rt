@@ -3,7 +3,8 @@
 ghost use Rattle.std.specs.Prelude.{◌≡◌, ◌≤◌, ◌<◌, ◌^◌, ◌+◌, ◌++◌, ◌∷◌, ℕ, List, [], Option, None, length, replicate, IfOk};
 ghost use Rattle.rmt_bits.specs.Packet.{Packet};
 ghost use Rattle.rmt_chip.specs.Inputs.{input_of, MayEnter};
-ghost use Rattle.rmt_chip.specs.Stands.{entered_of, Stands};
+ghost use Rattle.rmt_chip.specs.PacketRuns.{StandsFor as Stands};
+ghost use Rattle.rmt_chip.specs.Stands.{entered_of};
 ghost use Rattle.rmt_config.specs.declared.config.Config.{Config};
 ghost use Rattle.rmt_config.specs.ChipRun.{latency_of};
 ghost use Rattle.rmt_core.specs.Tallies.{IsBounded, StandsFor};

@@ -1,18 +1,18 @@
 //! The joins of the clustered parser: which entries are joined, and in which order.
 
-ghost use Rattle.std.specs.Prelude.{◌≡◌, ◌≤◌, ◌<◌, ◌+◌, ◌++◌, ◌∷◌, [], List, length, map, fold, slice_get, IfOk, IfSome, OnOk};
-ghost use Rattle.std.specs.List.{filter, flat_map, range_with_len};
-ghost use Rattle.rmt_ast.specs.declared.program.Case.{Case};
-ghost use Rattle.rmt_config.specs.declared.config.ParserConfig.{ParserConfig};
-ghost use Rattle.rmt_ptcam.specs.Joining.{IsGood, KeepsForm};
-ghost use Rattle.rmt_ptcam.specs.Joins.{entry_joins, header_joins, headers_joins};
-ghost use Rattle.rmt_ptcam.specs.Clustering.{targets_of, goes_to as goes_to_of, is_wanted as is_wanted_of, one_entry as one_entry_of, one_header as one_header_of, all_joined as all_joined_of};
+ghost use Rattle.std.specs.Prelude.{◌≡◌, ◌≤◌, ◌++◌, length, map, option_map, IfOk, OnOk};
+ghost use Rattle.std.specs.List.{filter, flat_map};
+ghost use Rattle.rmt_config.specs.declared.config.ParserEntry.{ParserEntry};
+ghost use Rattle.rmt_ptcam.specs.Grouping.{Stand, parser_in};
+ghost use Rattle.rmt_ptcam.specs.Joining.{entries_in, entries_to, entry_named};
+ghost use Rattle.rmt_ptcam.specs.Clustering.{targets_of, goes_to as goes_to_of, is_wanted as is_wanted_of, next_entry, one_header as one_header_of, all_headers, all_joined as all_joined_of};
 
-use crate::joining::{count_in, join_at, join_of_entry, number_of_entry};
+use crate::joining::in_place::join_in;
+use crate::joining::rows::StateRows;
 use crate::joins::Join;
 use rmt_ast::program::{Header, Program, Target};
 use rmt_bits::sequence::Sequence;
-use rmt_config::config::{Next, ParserConfig};
+use rmt_config::config::Next;
 use std::alloc::{AllocError, Global};
 
 /// Adds the targets of a header: those of its cases, and that of all other packets.
@@ -61,103 +61,138 @@ fn count_to(targets: &[Target], header: u8) -> usize
     count
 }
 
-/// Whether an entry that goes there is to be joined: one entry stands for that header, or one target alone is that header.
-fn is_wanted(program: &Program, targets: &[Target], parser: &ParserConfig, next: Next) -> bool
-    requires { targets.now ≡ flat_map targets_of program.now.headers }
-    ensures { result ≡ is_wanted_of program.now parser.now next }
+/// How many rows a state has.
+fn count_rows(groups: &[StateRows], state: u8) -> usize
+    requires stand { Stand groups.now }
+    ensures { result ≡ length (entries_in state (parser_in groups.now).entries) }
+{
+    match groups.get(usize::from(state)) {
+        Some(group) => group.rows.len(),
+        None => 0,
+    }
+}
+
+/// Where the row of a join goes, where there is one.
+fn next_at(groups: &[StateRows], join: Join) -> Option<Next>
+    requires stand { Stand groups.now }
+    ensures { result ≡ option_map (λ (e : ParserEntry). e.next) (entry_named (parser_in groups.now) join) }
+{
+    let Some(group) = groups.get(usize::from(join.state)) else {
+        return None;
+    };
+    match group.rows.get(usize::from(join.entry)) {
+        Some(row) => Some(row.entry.next),
+        None => None,
+    }
+}
+
+/// How many rows stand for a joined one that goes there: those of the state.
+fn count_next(groups: &[StateRows], next: Next) -> usize
+    requires stand { Stand groups.now }
+    ensures { result ≡ length (entries_to (parser_in groups.now) next) }
+{
+    match next {
+        Next::Accept => 0,
+        Next::Reject => 0,
+        Next::State(state) => count_rows(groups, state),
+    }
+}
+
+/// Whether a row that goes there is to be joined: one row stands for that header, or one target alone is that header.
+fn is_wanted(program: &Program, targets: &[Target], groups: &[StateRows], next: Next) -> bool
+    requires stand { Stand groups.now }
+    requires targets { targets.now ≡ flat_map targets_of program.now.headers }
+    ensures { result ≡ is_wanted_of program.now (parser_in groups.now) next }
 {
     match next {
         Next::Accept => false,
         Next::Reject => false,
-        Next::State(state) => {
-            count_in(parser.entries.as_slice(), state) == 1 || count_to(targets, state) == 1
-        }
+        Next::State(state) => count_rows(groups, state) == 1 || count_to(targets, state) == 1,
     }
 }
 
-/// Looks at one entry, and joins it where that is wanted and can be: the join is added to the others. Gives the number behind
-/// what stands for the entry.
+/// Looks at the row of a join, where there is one, and joins it where that is wanted and can be: the join is added to the
+/// others. Gives how many rows of the state are behind then.
 fn one_entry(
     alloc: Global,
     program: &Program,
     targets: &[Target],
-    parser: &mut ParserConfig,
+    groups: &mut [StateRows],
     joins: &mut Sequence<Join>,
-    at: usize,
+    join: Join,
 ) -> Result<usize, AllocError>
     requires targets { targets.now ≡ flat_map targets_of program.now.headers }
-    requires keeps { KeepsForm parser.old }
-    requires there { at < length parser.old.entries }
-    ensures step { IfOk result (λ next. record { parser = parser.new; at = next } ≡ one_entry_of program.now (record { parser = parser.old; at = at }) (slice_get parser.old.entries at)) }
-    ensures good { OnOk result (IsGood parser.old parser.new) }
-    ensures joins { OnOk result (joins.new ≡ joins.old ++ entry_joins program.now (record { parser = parser.old; at = at }) (slice_get parser.old.entries at)) }
-    ensures within { IfOk result (λ next. next + length parser.old.entries ≡ at + length parser.new.entries + 1) }
+    requires stand { Stand groups.old }
+    requires within { join.entry ≤ length (entries_in join.state (parser_in groups.old).entries) }
+    ensures step { IfOk result (λ behind. record { parser = parser_in groups.new; joins = joins.new; behind = behind } ≡ next_entry program.now join.state (record { parser = parser_in groups.old; joins = joins.old; behind = join.entry })) }
+    ensures stand { OnOk result (Stand groups.new) }
+    ensures within { IfOk result (λ behind. behind ≤ length (entries_in join.state (parser_in groups.new).entries)) }
 {
-    let next = parser.entries.as_slice()[at].next;
-    if !is_wanted(program, targets, parser, next) {
+    let at = usize::from(join.entry);
+    let Some(next) = next_at(groups, join) else {
+        return Ok(at);
+    };
+    if !is_wanted(program, targets, groups, next) {
         return Ok(at + 1);
     }
-    let before = parser.entries.len();
-    match join_at(alloc, parser, at)? {
-        None => Ok(at + 1),
-        Some(joined) => {
-            joins.push(join_of_entry(parser.entries.as_slice(), at))?;
-            let behind = at + (joined.entries.len() + 1 - before);
-            *parser = joined;
-            Ok(behind)
-        }
+    let others = count_next(groups, next);
+    if !join_in(alloc, groups, join)? {
+        return Ok(at + 1);
     }
+    joins.push(join)?;
+    Ok(at + others)
 }
 
-/// Looks at the entries of a header, from the first to the last.
+/// Looks at the rows of a header, from the first to the last.
 fn one_header(
     alloc: Global,
     program: &Program,
     targets: &[Target],
-    parser: &mut ParserConfig,
+    groups: &mut [StateRows],
     joins: &mut Sequence<Join>,
     number: u8,
-) -> Result<(), AllocError>
+) -> Result<usize, AllocError>
     requires targets { targets.now ≡ flat_map targets_of program.now.headers }
-    requires keeps { KeepsForm parser.old }
-    ensures step { OnOk result (parser.new ≡ one_header_of program.now parser.old number) }
-    ensures joins { OnOk result (joins.new ≡ joins.old ++ header_joins program.now parser.old number) }
-    ensures good { OnOk result (IsGood parser.old parser.new) }
+    requires stand { Stand groups.old }
+    ensures step { IfOk result (λ behind. record { parser = parser_in groups.new; joins = joins.new; behind = behind } ≡ one_header_of program.now number (record { parser = parser_in groups.old; joins = joins.old; behind = 0 })) }
+    ensures stand { OnOk result (Stand groups.new) }
 {
-    let count = count_in(parser.entries.as_slice(), number);
-    let mut at = number_of_entry(parser.entries.as_slice(), number, 0);
-    for _k in 0..count {
-        at = one_entry(alloc, program, targets, parser, joins, at)?;
+    let mut behind = 0;
+    for _k in 0..count_rows(groups, number) {
+        let join = Join {
+            state: number,
+            entry: behind as u16,
+        };
+        behind = one_entry(alloc, program, targets, groups, joins, join)?;
     }
-    Ok(())
+    Ok(behind)
 }
 
-/// Joins entries where that is wanted and can be: headers from the last to the first, and each of their entries once. Gives
-/// the joins in order.
+/// Joins rows where that is wanted and can be: headers from the last to the first, and each of their rows once. Gives the
+/// joins in order.
 pub fn all_joined(
     alloc: Global,
     program: &Program,
-    parser: &mut ParserConfig,
+    groups: &mut [StateRows],
 ) -> Result<Sequence<Join>, AllocError>
     requires few { length program.now.headers ≤ 64 }
-    requires keeps { KeepsForm parser.old }
-    ensures joined { OnOk result (parser.new ≡ all_joined_of program.now parser.old) }
-    ensures joins { IfOk result (λ joins. joins ≡ headers_joins program.now (length program.now.headers) parser.old) }
-    ensures good { OnOk result (IsGood parser.old parser.new) }
+    requires stand { Stand groups.old }
+    ensures joined { OnOk result (parser_in groups.new ≡ all_joined_of program.now (parser_in groups.old)) }
+    ensures joins { IfOk result (λ joins. joins ≡ (all_headers program.now (parser_in groups.old)).joins) }
+    ensures stand { OnOk result (Stand groups.new) }
 {
     let targets = targets_in(alloc, program)?;
     let mut joins = Sequence::new(alloc);
     let mut left = program.headers.len();
     while left > 0 {
         left -= 1;
-        let number = left as u8;
         one_header(
             alloc,
             program,
             targets.as_slice(),
-            parser,
+            groups,
             &mut joins,
-            number,
+            left as u8,
         )?;
     }
     Ok(joins)

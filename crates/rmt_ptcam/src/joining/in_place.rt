@@ -1,6 +1,6 @@
 //! Joins made in place, on the rows of a parser by state.
 
-ghost use Rattle.std.specs.Prelude.{◌≡◌, ◌≤◌, ◌<◌, ◌+◌, ◌*◌, ◌++◌, ◌-◌, ◌&&◌, ◌||◌, ◌==◌, if◌then◌else◌, nat_le, nat_lt, true, Some, None, map, take, drop, length, All, IfOk, OnOk, IfSome};
+ghost use Rattle.std.specs.Prelude.{◌≡◌, ◌≤◌, ◌<◌, ◌+◌, ◌*◌, ◌++◌, ◌-◌, ◌&&◌, ◌||◌, ◌==◌, if◌then◌else◌, nat_le, nat_lt, true, false, Some, None, map, take, drop, length, All, IfOk, OnOk, IfSome};
 ghost use Rattle.std.specs.List.{list_all};
 ghost use Rattle.rmt_ptcam.specs.ByteTests.{test_for, tests_of};
 ghost use Rattle.rmt_ptcam.specs.Grouping.{CanFollow, Stand, all_rows, entries_of, joined_in, may_stand as may_stand_of, put_in as put_in_of, stand_in_for as stand_in_for_of, stand_in_to, widened_row};
@@ -171,18 +171,11 @@ fn widen(rows: &mut [Row], from: &[u8], to: &[u8])
 }
 
 /// Puts rows in place of the one with this number.
-fn replace_row(rows: &mut Vec<Row>, at: usize, mut others: Vec<Row>) -> Result<(), AllocError>
+fn replace_row(rows: &mut Vec<Row>, at: usize, others: Vec<Row>) -> Result<(), AllocError>
     requires there { at < length rows.old.items }
-    requires some { 0 < length others.items }
     ensures { OnOk result (rows.new.items ≡ take at rows.old.items ++ (others.items ++ drop (at + 1) rows.old.items)) }
 {
-    let Some(last) = others.pop() else {
-        return Ok(());
-    };
-    rows[at] = last;
-    while let Some(other) = others.pop() {
-        rows.insert(at, other)?;
-    }
+    rows.splice(at..at + 1, others)?;
     Ok(())
 }
 
@@ -234,6 +227,7 @@ fn stand_in_for(
 pub fn join_in(alloc: Global, groups: &mut [StateRows], join: Join) -> Result<bool, AllocError>
     requires stand { Stand groups.old }
     ensures made { IfOk result (λ made. (if made then Some groups.new else None) ≡ joined_in groups.old join) }
+    ensures kept { IfOk result (λ made. made ≡ false → groups.new ≡ groups.old) }
 {
     match stand_in_for(alloc, groups, join)? {
         None => Ok(false),

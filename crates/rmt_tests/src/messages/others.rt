@@ -555,12 +555,123 @@ t 0x270000000000 no
     },
 ];
 
+const SWITCH: &[&str] = &["switch", "i", "g", "c", "o", "7"];
+
+/// Groups and captures, and what stands of the captures that are written.
+const SWITCHES: [Row; 10] = [
+    Row {
+        words: &["switch", "i", "g", "c", "o", "0"],
+        status: 1,
+        wanted: "rmt: word 6, `0`, is no EVERY: a number from 1 to 999,999 is wanted, in decimal digits
+",
+        ..NOTHING
+    },
+    Row {
+        words: SWITCH,
+        status: 5,
+        last_line: "bad entries 8 line 2
+",
+        entries: Some(
+            "300 1
+300 2
+",
+        ),
+        wanted: "g:2:1: `300` has a line already: put its ports on one line
+  2 | 300 2
+    | ^^^
+",
+        ..NOTHING
+    },
+    Row {
+        words: SWITCH,
+        status: 5,
+        last_line: "bad entries 8 line 1
+",
+        entries: Some("300"),
+        wanted: "g:1:4: a port is missing: give 1 to 8 ports, from 0 to 511, behind the group
+  1 | 300
+    |    ^
+",
+        ..NOTHING
+    },
+    Row {
+        words: SWITCH,
+        status: 5,
+        last_line: "bad entries 8 line 1
+",
+        entries: Some(" 255 1"),
+        wanted: "g:1:2: `255` is no group: a line begins with a number from 256 to 511
+  1 |  255 1
+    |  ^^^
+",
+        ..NOTHING
+    },
+    Row {
+        words: SWITCH,
+        status: 5,
+        last_line: "bad entries 8 line 1
+",
+        entries: Some("300 1 512"),
+        wanted: "g:1:7: `512` is no port: a number from 0 to 511 is wanted
+  1 | 300 1 512
+    |       ^^^
+",
+        ..NOTHING
+    },
+    Row {
+        words: SWITCH,
+        status: 5,
+        last_line: "bad entries 8 line 1
+",
+        entries: Some("300 1 01"),
+        wanted: "g:1:7: `01` stands twice: the ports of a group differ
+  1 | 300 1 01
+    |       ^^
+",
+        ..NOTHING
+    },
+    Row {
+        words: SWITCH,
+        status: 8,
+        last_line: "bad packets 11 line 0
+",
+        wanted: "rmt: c is no capture: it doesn't begin with a magic of pcap, so it is another kind of file; of a capture in pcapng `editcap -F pcap` makes one
+",
+        ..NOTHING
+    },
+    Row {
+        words: SWITCH,
+        status: 9,
+        fault: Some(("c", ErrorKind::FileTooLarge)),
+        wanted: "rmt: a file is longer than its limit
+  c: a capture has at most 16,777,216 bytes
+",
+        ..NOTHING
+    },
+    Row {
+        words: SWITCH,
+        status: 3,
+        fault: Some(("o.2.pcap", ErrorKind::StorageFull)),
+        wanted: "rmt: o.2.pcap can't be written: the disk is full; what it holds now is not known, and the captures of lower ports stand whole
+",
+        ..NOTHING
+    },
+    Row {
+        words: SWITCH,
+        status: 10,
+        wanted: "rmt: the system refused memory; captures that were written before stand whole
+  Give the program more memory, or make the tables, entries or packets smaller.
+",
+        ..NOTHING
+    },
+];
+
 /// What the whole help says behind the forms of the commands.
 const NOTES: &str =
-    "A file name is any word. BUDGET is a number from 1 to 1,000, CYCLE 1 to 9 decimal digits, and
-N a number from 1 to 100,000.
+    "A file name is any word. BUDGET is a number from 1 to 1,000, CYCLE 1 to 9 decimal digits,
+N a number from 1 to 100,000, and EVERY one from 1 to 999,999.
 A program has at most 1,048,576 bytes, an entry text 67,108,864, an image 268,435,456,
-a packet text 1,099,511,627,776.
+a packet text 1,099,511,627,776, a group text 1,048,576, and a capture 16,777,216.
 
 Results go to standard output, and messages like this one to standard error.
 Exit status: 0 done, 1 no command, 2 a file can't be read, 3 a file or the output can't be
@@ -651,6 +762,11 @@ fn packet_texts(rt: HostRuntime) {
 #[test]
 fn programs_that_do_not_fit(rt: HostRuntime) {
     compares(&rt, &NO_FIT);
+}
+
+#[test]
+fn groups_and_captures(rt: HostRuntime) {
+    compares(&rt, &SWITCHES);
 }
 
 #[test]

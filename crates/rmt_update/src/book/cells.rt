@@ -56,24 +56,37 @@ fn exact_held(
     bytes_at(alloc, words, 112, entry.low, held as u64)
 }
 
+/// The memory of an exact part: the shape of its rows, the SRAM blocks of its entries and those of their data.
+#[derive(Clone, Copy)]
+pub struct ExactMemory<'a> {
+    pub width: u8,
+    pub per: u16,
+    pub quanta: u8,
+    pub keys: &'a [u8],
+    pub records: &'a [u8],
+}
+
 /// A cell of an exact part. The only fault is want of memory.
 pub fn exact_cell(
     alloc: Global,
     rows: &[SramRow],
     slot: &SlotUnit,
-    width: u8,
-    per: u16,
-    quanta: u8,
-    keys: &[u8],
-    records: &[u8],
+    part: &ExactMemory,
     number: CellNumber,
 ) -> Result<Kept, AllocError>
     requires rows { SramRows rows.now }
-    requires fits { ExactFits slot.now width per quanta keys.now records.now }
-    requires cell { number.cell < 4096 * quanta * per }
-    ensures { IfOk result (λ kept. (w : ℕ) (cs : List ℕ) → IsKept (bits_of_lanes slot.now.keys) (Exact width per quanta w keys.now records.now cs)
-        (exact_content (sram_row rows.now) slot.now width per keys.now records.now (cell_of (1024 * quanta) per number.cell)) number kept) }
+    requires fits { ExactFits slot.now part.now.width part.now.per part.now.quanta part.now.keys.now part.now.records.now }
+    requires cell { number.cell < 4096 * part.now.quanta * part.now.per }
+    ensures { IfOk result (λ kept. (w : ℕ) (cs : List ℕ) → IsKept (bits_of_lanes slot.now.keys) (Exact part.now.width part.now.per part.now.quanta w part.now.keys.now part.now.records.now cs)
+        (exact_content (sram_row rows.now) slot.now part.now.width part.now.per part.now.keys.now part.now.records.now (cell_of (1024 * part.now.quanta) part.now.per number.cell)) number kept) }
 {
+    let ExactMemory {
+        width,
+        per,
+        quanta,
+        keys,
+        records,
+    } = *part;
     let bits = key_bits(slot.keys.as_slice());
     let layout = exact_keys(width, per, quanta, bits);
     let entry = entry_words(alloc, &layout, keys, rows, number.cell as u64)?;

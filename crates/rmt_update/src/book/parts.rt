@@ -8,9 +8,9 @@ ghost use Rattle.rmt_config.specs.PartStands.{PartStands};
 ghost use Rattle.rmt_config.specs.Rooms.{parts_among, parts_of as parts_of_node};
 ghost use Rattle.rmt_config.specs.RunCells.{own_content};
 ghost use Rattle.rmt_update.specs.Kept.{IsKept};
-ghost use Rattle.rmt_update.specs.PartList.{AreKept, part_at, parts_at};
+ghost use Rattle.rmt_update.specs.PartList.{part_at, parts_at};
 
-use crate::book::cells::{exact_cell, ternary_cell};
+use crate::book::cells::{ExactMemory, exact_cell, ternary_cell};
 use crate::book::kept::Kept;
 use rmt_config::config::{CellNumber, Config, Memory, SlotUnit, Unit};
 use std::alloc::{AllocError, Global};
@@ -85,7 +85,7 @@ pub fn cell_of(
     let stages = config.stages.as_slice();
     let stage = &stages[part.at];
     match &part.slot.memory {
-        Memory::Without => Err(AllocError),
+        Memory::Without => unreachable!(),
         Memory::Exact {
             width,
             per,
@@ -97,11 +97,13 @@ pub fn cell_of(
             alloc,
             stage.srows.as_slice(),
             part.slot,
-            *width,
-            *per,
-            *quanta,
-            keys.as_slice(),
-            records.as_slice(),
+            &ExactMemory {
+                width: *width,
+                per: *per,
+                quanta: *quanta,
+                keys: keys.as_slice(),
+                records: records.as_slice(),
+            },
             number,
         ),
         Memory::Ternary {
@@ -119,20 +121,4 @@ pub fn cell_of(
             number,
         ),
     }
-}
-
-/// The cells that a part lists, in their order, as the configuration holds them, each with rank 0. The only fault is
-/// want of memory.
-pub fn cells_of(alloc: Global, config: &Config, part: &Part) -> Result<Vec<Kept>, AllocError>
-    requires stands { PartStands config.now (part_at part.now) }
-    requires memory { MemoryIsFormed config.now }
-    ensures { IfOk result (λ cells. AreKept config.now (part_at part.now) part.now.slot.now.numbers cells.items) }
-{
-    let numbers = part.slot.numbers.as_slice();
-    let mut cells = Vec::with_capacity(alloc, numbers.len())?;
-    for number in numbers {
-        let kept = cell_of(alloc, config, part, *number)?;
-        cells.push(kept)?;
-    }
-    Ok(cells)
 }

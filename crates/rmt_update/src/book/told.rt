@@ -15,7 +15,7 @@ use rmt_bits::sequence::Sequence;
 use std::alloc::{AllocError, Global};
 
 /// `len` bits from the bit `low` on of the number that bytes are, the highest first; bits above them are 0.
-fn bits_from(bytes: &[u8], low: u128, len: u8) -> u128
+pub fn bits_from(bytes: &[u8], low: u128, len: u8) -> u128
     requires few { length bytes.now ≤ 8192 }
     requires short { len ≤ 128 }
     ensures { result ≡ slice_of (number_of bytes.now) low len }

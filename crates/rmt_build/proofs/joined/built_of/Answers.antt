@@ -6,6 +6,7 @@ use Rattle.rmt_ast.specs.declared.names.Names.{Names}
 use Rattle.rmt_bounds.specs.Bounds.{stage_bound}
 use Rattle.rmt_bounds.specs.Used.{stages_used}
 use Rattle.rmt_config.specs.Agreement.{AgreesWith}
+use Rattle.rmt_config.specs.Form.{visible_with}
 use Rattle.rmt_config.specs.NamesForm.{names_have_counts}
 use Rattle.rmt_deps.specs.Edges.{GoesForward, field_edges}
 use Rattle.rmt_deps.proofs.EdgeLaws.{go_forward}
@@ -22,6 +23,7 @@ use Rattle.rmt_refine.specs.Carries.{Carries, all_edges}
 use Rattle.rmt_build.specs.Loads.{IsFirstSeed}
 use Rattle.rmt_build.specs.Promises.{StandInRows}
 use Rattle.rmt_build.specs.Told.{cells_told}
+use Rattle.rmt_refine.proofs.SpelledLaws.{carries_named}
 use Rattle.rmt_build.proofs.JoinedLaws.{joined_blocks, joined_carries, joined_data, joined_formats, joined_formed, joined_limits, joined_rows, same_map}
 use Rattle.rmt_build.proofs.PlacedLaws.{is_legal}
 use Rattle.rmt_build.proofs.joined.built_of.Goals as goal
@@ -50,9 +52,14 @@ returns-clause-carries c =
     let told = c.in_ok-map.ensures in
     let parser : AgreesWith config.parser plan.places p = subst (λ x. AgreesWith x plan.places p) (sym made.parser) c.requires.agrees in
     let same = same_map m.places plan.places m.placement plan.placement m.starts plan.starts m.cells (cells_told (length p.nodes) config.stages) told.places told.placement told.starts told.cells in
+    let own = joined_carries c.args.program.now c.args.entries.now c.args.plan c.in_ok-config.config c.requires.program c.requires.entries c.requires.plan c.in_ok-stages.stages c.in_ok-config.ensures.stages
+    c.in_ok-stages.ensures.stages c.in_ok-config.ensures.seed made.places parser in
+    let named = c.in_ok-names.ensures in
+    let formed = joined_formed c.args.program.now c.args.entries.now c.args.plan c.in_ok-config.config c.requires.program c.requires.entries c.requires.plan c.in_ok-stages.stages c.in_ok-config.ensures.stages
+    c.in_ok-stages.ensures.stages c.in_ok-config.ensures.seed c.requires.named made.places c.requires.fits (made.parser ∙ c.requires.parser) (made.names ∙ ap Some named.names)
+    (subst (λ (x : Names). names_have_counts x ≡ true) named.names named.counts) c.requires.seed.few in
     subst (λ (x : Map). Carries p c.args.entries.now x config) (sym same)
-    (joined_carries c.args.program.now c.args.entries.now c.args.plan c.in_ok-config.config c.requires.program c.requires.entries c.requires.plan c.in_ok-stages.stages c.in_ok-config.ensures.stages
-    c.in_ok-stages.ensures.stages c.in_ok-config.ensures.seed made.places parser)
+    (carries_named p c.args.entries.now _ config (visible_with config.names) c.requires.program c.requires.entries own formed.whole.memory (made.names ∙ ap Some named.names))
 
 pub returns-clause-config : goal.returns-clause-config
 returns-clause-config c =

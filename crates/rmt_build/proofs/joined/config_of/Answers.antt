@@ -19,3 +19,6 @@ lane_of-requires-2 c =
 pub lane_of-requires-3 : goal.lane_of-requires-3
 lane_of-requires-3 c =
     one_lane c.args.program.now c.args.plan.now.places 2 c.requires.places (one_piece c.args.program.now 2 1 c.requires.program.fields.drop refl)
+
+pub returns-clause-names : goal.returns-clause-names
+returns-clause-names c = refl

@@ -57,13 +57,13 @@ overflow_cast-result-2 c =
     let few = (is_table c.args.planned.now.program.now c.requires.program c.args.node c.args.table.now c.requires.table).few_actions in
     omega (arith, few, c.len.ensures)
 
-pub data_bits-requires : goal.data_bits-requires
-data_bits-requires c = params-small c.args.planned.now.program.now c.requires.program c.args.table.now
+pub data_bits-data-requires : goal.data_bits-data-requires
+data_bits-data-requires c = params-small c.args.planned.now.program.now c.requires.program c.args.table.now
 
-pub overflow_cast-result-3 : goal.overflow_cast-result-3
-overflow_cast-result-3 c =
+pub overflow_cast-data : goal.overflow_cast-data
+overflow_cast-data c =
     let few = data_bits-few c.args.planned.now.program.now c.requires.program c.args.table.now in
-    omega (arith, few, c.data_bits.ensures)
+    omega (arith, few, c.data_bits-data.ensures)
 
 pub returns-clause-unit : goal.returns-clause-unit
 returns-clause-unit c =
@@ -99,7 +99,7 @@ returns-clause-parts c =
     slice_get_read c.args.planned.now.entries.now (length c.args.planned.now.entries.now) n es refl (omega (arith, all, terms, c.requires.node)) (c.index-as_slice-node.is ∙ ap (λ xs. get_or xs n es) c.as_slice-2.ensures) in
     slot_part p c.args.planned.now.entries.now plan c.args.planned.now.stage _ t es c.requires.table at (record {
       memory = c.in_ok-memory.ensures.memory ∙ ap (memory_for t.kind (need_in p plan.placement.parts t n c.args.planned.now.stage)) c.requires.taken;
-      held = c.data_bits.ensures;
+      held = c.data_bits-data.ensures;
       numbers = c.in_ok-numbers.ensures.numbers ∙ (ap (λ (xs : List Entry). map (number_at xs) c.as_slice-3.result.now) c.as_slice-list.ensures ∙ ap (map (number_at es)) (c.as_slice-3.ensures ∙ c.in_ok-stands.ensures));
     })
 

@@ -1,12 +1,13 @@
-use Rattle.std.proofs.Common.{◌≡◌, ◌≤◌, ◌++◌, ◌∷◌, [], ℕ, List, length, get_or, set, Vec, Global, sym, ap, subst, ◌∙◌, arith}
+use Rattle.std.proofs.Common.{◌≡◌, ◌≤◌, [], ℕ, List, length, get_or, set, Vec, Global, sym, ap, subst, ◌∙◌, arith}
 use Rattle.rmt_chip.specs.declared.packet_slot.PacketSlot.{PacketSlot}
 use Rattle.rmt_chip.specs.declared.pending.Pending.{Pending}
 use Rattle.rmt_chip.specs.FrameList.{frames_of}
-use Rattle.rmt_chip.specs.Inputs.{input_of, frames_after}
+use Rattle.rmt_chip.specs.Inputs.{frames_after}
 use Rattle.rmt_chip.specs.Leaving.{AnswersIf, leaving_if}
 use Rattle.rmt_chip.specs.Pending.{HaveRoomFor}
 use Rattle.rmt_chip.specs.Ring.{ring_at}
-use Rattle.rmt_chip.specs.PacketsInFlight.{InFlight}
+use Rattle.rmt_chip.specs.PacketsInFlight.{cells_after}
+use Rattle.rmt_chip.specs.Cycles.{Cycles}
 use Rattle.rmt_chip.proofs.LatencyLaws.{latency-le}
 use Rattle.rmt_chip.proofs.PassLaws.{ring_set}
 use Rattle.rmt_chip.proofs.WholeCycle.{Passes, cycle_right}
@@ -15,20 +16,21 @@ use Rattle.rmt_chip.proofs.cycle.cycle.Goals as goal
 pub write_words-requires-clause-ring : goal.write_words-requires-clause-ring
 write_words-requires-clause-ring c =
     let stages = c.args.config.now.stages in
-    ring_set stages c.args.newest c.args.newest c.args.places.now c.enter_if.new.place
-    (subst (λ (x : Vec Pending Global). HaveRoomFor stages x.items) (sym c.enter_if.ensures.room) (c.requires.room c.args.newest c.index-places-newest.result (omega arith)))
+    ring_set stages c.args.moment.newest c.args.moment.newest c.args.places.now c.enter_if.new.place
+    (subst (λ (x : Vec Pending Global). HaveRoomFor stages x.items) (sym c.enter_if.ensures.room) (c.requires.room c.args.moment.newest c.index-places-newest.result (omega arith)))
     (record { full = c.requires.full; among = c.requires.in_ring; room = c.requires.room })
 
 pub place_of-last-requires-clause-age : goal.place_of-last-requires-clause-age
 place_of-last-requires-clause-age c = let most = latency-le c.args.config.now.stages c.requires.fits.stages in omega arith
 
 pub returns-clause-gives : goal.returns-clause-gives
-returns-clause-gives c = λ inputs before ring turn count laid flight.
+returns-clause-gives c = λ numbers inputs later input before comes flight.
     let config = c.args.config.now in
+    let newest = c.args.moment.newest in
     let most = latency-le config.stages c.requires.fits.stages in
     let small : c.args.latency ≤ 384 = omega arith in
     let at = c.place_of-last.result in
-    let last = c.place_of-last.ensures.place ∙ ap (ring_at c.args.newest) c.from.ensures in
+    let last = c.place_of-last.ensures.place ∙ ap (ring_at newest) c.from.ensures in
     let four = c.read_keys.new.places in
     let place = get_or four at c.index-places-last.result in
     let place_is : place ≡ get_or four at place = ap (λ (p : PacketSlot). get_or four at p) c.index-places-last.is in
@@ -37,16 +39,17 @@ returns-clause-gives c = λ inputs before ring turn count laid flight.
     let ok = frames.chains.ok.0 in
     let as_many = frames.stand.as_many in
     let all_frames : length (frames_of frames) ≡ 385 = omega arith in
-    let passes : Passes config (set c.args.places.now c.args.newest c.enter_if.new.place) c.write_words.new.places c.read_operands.new.places c.set_outcomes.new.places four c.args.newest c.args.counters.now.counts c.set_outcomes.new.counters.counts = record {
+    let cells = cells_after config inputs in
+    let passes : Passes config cells (set c.args.places.now newest c.enter_if.new.place) c.write_words.new.places c.read_operands.new.places c.set_outcomes.new.places four newest c.args.counters.now.counts c.set_outcomes.new.counters.counts = record {
       write = c.write_words.ensures.holds;
       read = c.read_operands.ensures.holds;
       act = c.set_outcomes.ensures.holds;
-      look = λ item. c.read_keys.ensures.holds item laid;
+      look = λ item looks. c.read_keys.ensures.holds cells item comes.held (sym comes.seed_is) looks;
     } in
     let entered = c.enter_if.ensures.frames in
-    let left : AnswersIf (leaving_if config place (get_or (frames_after c.args.frame c.args.newest (frames_of frames)) at []) place.taken) c.leave.result c.leave.new.out =
+    let left : AnswersIf (leaving_if config place (get_or (frames_after c.args.frame newest (frames_of frames)) at []) place.taken) c.leave.result c.leave.new.out =
     subst (λ (fs : List (List ℕ)). AnswersIf (leaving_if config place (get_or fs at []) place.taken) c.leave.result c.leave.new.out) entered c.leave.ensures in
-    let given = cycle_right config c.requires.fits.stages.rise inputs c.args.frame before c.args.newest c.args.number c.args.latency at
+    let given = cycle_right config c.requires.fits.stages.rise numbers inputs later input c.args.frame before c.args.moment c.args.memories.now c.args.latency at
     c.args.places.now c.write_words.new.places c.read_operands.new.places c.set_outcomes.new.places four (frames_of frames) c.args.counters.now.counts c.set_outcomes.new.counters.counts
-    c.enter_if.new.place place c.leave.result c.leave.new.out ring c.requires.full all_frames turn count c.enter_if.ensures.entered passes c.requires.leaves small last place_is left flight in
-    (subst (λ (fs : List (List ℕ)). InFlight config (inputs ++ input_of c.args.frame ∷ []) c.args.newest four fs c.set_outcomes.new.counters.counts) (sym entered) given.0, given.1)
+    c.enter_if.new.place place c.leave.result c.leave.new.out comes c.requires.full all_frames c.enter_if.ensures.entered passes c.requires.leaves small last place_is left flight in
+    subst (λ (fs : List (List ℕ)). Cycles config numbers inputs later input newest four fs c.set_outcomes.new.counters.counts c.leave.result c.leave.new.out) (sym entered) given

@@ -2,7 +2,8 @@ use Rattle.std.proofs.Common.{◌<◌, ap, sym, subst, ℕ, List, length, get_or
 use Rattle.std.specs.Prelude.{slice_index}
 use Rattle.rmt_chip.specs.Types.{Unit}
 use Rattle.rmt_chip.specs.Looked.{HasRoom, LookedFor}
-use Rattle.rmt_chip.specs.Memory.{MemoryFits, IsLaid, LooksAt}
+use Rattle.rmt_chip.specs.Memory.{MemoryFits, UnitHeld}
+use Rattle.rmt_chip.specs.Looks.{LooksAt}
 use Rattle.rmt_chip.specs.declared.memory.SlotMemory.{SlotMemory}
 use Rattle.rmt_chip.proofs.LookLaws.{room_kept, looked_more, unit_at}
 use Rattle.rmt_chip.proofs.keys.look_all.Goals as goal
@@ -29,17 +30,18 @@ loop-at-preserved c =
     let within : i < length c.loop-at.into = subst (λ (n : ℕ). i < n) (sym was.room.all_units) inside in
     record {
       room = room_kept c.args.stage.now c.loop-at.into i new unit inside room was.room;
-      so_far = λ seed look k laid looks.
-          let here = c.look_unit.ensures.looked seed c.args.stage.now look k i
-          (subst (λ (u : Unit). IsLaid seed c.args.stage.now u memory) at (subst (λ (m : SlotMemory). IsLaid seed c.args.stage.now (get_or units i unit) m) (sym c.index-memories-at.is) (laid i unit memory inside)))
-          (subst (λ (u : Unit). LooksAt seed c.args.stage.now look k i u) at (looks i unit inside)) in
-          looked_more look k words units c.loop-at.into i new unit inside within (subst (λ (u : Unit). LookedFor look k i words u new) (sym at) here) (was.so_far seed look k laid looks);
+      so_far = λ cells look k held seed looks.
+          let sight = c.args.sight in
+          let here = c.look_unit.ensures.looked cells look k i
+          (subst (λ (u : Unit). UnitHeld cells k i u memory) at (subst (λ (m : SlotMemory). UnitHeld cells k i (get_or units i unit) m) (sym c.index-memories-at.is) (held i unit memory inside))) seed
+          (subst (λ (u : Unit). LooksAt sight.named sight.version cells look k i u) at (looks i unit inside)) in
+          looked_more look k words units c.loop-at.into i new unit inside within (subst (λ (u : Unit). LookedFor look k i words u new) (sym at) here) (was.so_far cells look k held seed looks);
     }
 
 pub returns-clause-looked : goal.returns-clause-looked
-returns-clause-looked c = λ seed look k laid looks.
+returns-clause-looked c = λ cells look k held seed looks.
     let end = ap (λ (us : List Unit). length us) c.as_slice-units.ensures in
     record {
       all_units = c.loop-at.invariant.room.all_units;
-      each = λ i u d lt. c.loop-at.invariant.so_far seed look k laid looks i u d (omega arith);
+      each = λ i u d lt. c.loop-at.invariant.so_far cells look k held seed looks i u d (omega arith);
     }

@@ -3,16 +3,18 @@ use Rattle.std.specs.Prelude.{slice_index}
 use Rattle.rmt_bits.specs.Bits.{number_of}
 use Rattle.rmt_bits.specs.declared.lane.Lane.{Lane}
 use Rattle.rmt_config.specs.LaneForm.{bits_of_lanes}
-use Rattle.rmt_config.specs.Cells.{look_up}
+use Rattle.rmt_config.specs.RunCells.{found_in_slot}
 use Rattle.rmt_config.specs.Life.{key_of}
 use Rattle.rmt_chip.specs.Looked.{Finds}
 use Rattle.rmt_chip.proofs.LookLaws.{key_of-lt}
 use Rattle.rmt_chip.proofs.keys.look_key.Goals as goal
 
 pub returns-clause-found : goal.returns-clause-found
-returns-clause-found c = λ seed stage lays.
+returns-clause-found c = λ cells k place holds seed.
     let keys = c.args.slot.now.keys in
     let words = λ (w : ℕ). slice_index c.args.vector.now w in
     let key : number_of c.put_together.new.buffer ≡ key_of words keys = c.put_together.ensures ∙ ap (λ (ls : List Lane). key_of words ls) c.as_slice-2.ensures in
     let small : number_of c.put_together.new.buffer < 2 ^ bits_of_lanes keys = subst (λ (n : ℕ). n < 2 ^ bits_of_lanes keys) (sym key) (key_of-lt words keys) in
-    subst (λ (n : ℕ). Finds (look_up seed stage c.args.slot.now n) c.find.new.into) key (c.find.ensures.found seed stage c.args.slot.now lays small)
+    let slot = c.args.slot.now in
+    let sight = c.args.sight in
+    subst (λ (n : ℕ). Finds slot.counted (found_in_slot sight.named sight.version cells k place n slot) c.find.new.into) key (c.find.ensures.found cells k place slot holds seed small)

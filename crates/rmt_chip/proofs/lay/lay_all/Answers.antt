@@ -1,9 +1,10 @@
-use Rattle.std.proofs.Common.{◌≡◌, ◌<◌, ◌++◌, [], ◌∷◌, List, Some, Vec, Global, length, ap, sym, ◌∙◌, arith}
+use Rattle.std.proofs.Common.{◌≡◌, ◌<◌, ◌++◌, [], ◌∷◌, ℕ, List, Some, Vec, Global, length, ap, sym, ◌∙◌, arith}
 use Rattle.std.specs.Prelude.{slice_get}
 use Rattle.std.proofs.lemmas.Option.{slice_get-get_or}
-use Rattle.rmt_chip.specs.Types.{Stage}
+use Rattle.rmt_chip.specs.Types.{Config, Stage}
+use Rattle.rmt_config.specs.RunCells.{own_cells}
 use Rattle.rmt_chip.specs.declared.memory.SlotMemory.{SlotMemory}
-use Rattle.rmt_chip.specs.Memory.{MemoriesFit, AllLaid}
+use Rattle.rmt_chip.specs.Memory.{MemoriesFit, StageHeld}
 use Rattle.rmt_chip.proofs.StageMemoriesLaws.{pushed_each, place_below}
 use Rattle.rmt_chip.proofs.lay.lay_all.Goals as goal
 
@@ -26,11 +27,12 @@ loop-stage-preserved c =
     let memories = c.loop-stage.memories.items in
     let pushed : c.push.new.self.items ≡ memories ++ new ∷ [] = c.in_ok-push.ensures.items in
     let fit = pushed_each (λ (s : Stage) (m : Vec SlotMemory Global). MemoriesFit s m.items) stages memories k stage new was.all inside (sym c.stage-item.is) c.in_ok-lay_stage.ensures.fit was.fit in
-    let laid = pushed_each (λ (s : Stage) (m : Vec SlotMemory Global). AllLaid c.args.seed s m.items) stages memories k stage new was.all inside (sym c.stage-item.is) c.in_ok-lay_stage.ensures.laid was.laid in
+    let held = pushed_each (λ (s : Stage) (m : Vec SlotMemory Global). (cf : Config) (j : ℕ) → slice_get cf.stages j ≡ Some s → StageHeld (own_cells cf) j s m.items) stages memories k stage new was.all inside (sym c.stage-item.is)
+    c.in_ok-lay_stage.ensures.held was.held in
     record {
       all = let all = was.all in omega (arith, c.in_ok-push.ensures.len);
       fit = λ j s m lt one two. fit j s m lt one (ap (λ (ms : List (Vec SlotMemory Global)). slice_get ms j) (sym pushed) ∙ two);
-      laid = λ j s m lt one two. laid j s m lt one (ap (λ (ms : List (Vec SlotMemory Global)). slice_get ms j) (sym pushed) ∙ two);
+      held = λ j s m lt one two. held j s m lt one (ap (λ (ms : List (Vec SlotMemory Global)). slice_get ms j) (sym pushed) ∙ two);
     }
 
 pub returns-clause-fit : goal.returns-clause-fit
@@ -39,5 +41,8 @@ returns-clause-fit c = record {
   each = λ k s m one two. let lt = place_below c.args.stages.now k s one in c.loop-stage.invariant.fit k s m (omega arith) one two;
 }
 
-pub returns-clause-laid : goal.returns-clause-laid
-returns-clause-laid c = λ k s m one two. let lt = place_below c.args.stages.now k s one in c.loop-stage.invariant.laid k s m (omega arith) one two
+pub returns-clause-hold : goal.returns-clause-hold
+returns-clause-hold c = λ cf same k s m one two.
+    let here : slice_get c.args.stages.now k ≡ Some s = ap (λ (ss : List Stage). slice_get ss k) (sym same) ∙ one in
+    let lt = place_below c.args.stages.now k s here in
+    c.loop-stage.invariant.held k s m (omega arith) here two cf k one

@@ -1,11 +1,13 @@
 use Rattle.std.proofs.Common.{◌≡◌, ◌++◌, [], ◌∷◌, ℕ, List, Some, length, get_or, ap, sym, ◌∙◌, subst, arith}
+use Rattle.std.specs.Prelude.{slice_get}
 use Rattle.std.proofs.lemmas.List.{get_or_default}
 use Rattle.std.proofs.lemmas.Option.{slice_get-get_or}
-use Rattle.rmt_chip.specs.Types.{Unit}
+use Rattle.rmt_chip.specs.Types.{Config, Unit}
+use Rattle.rmt_config.specs.RunCells.{own_cells}
 use Rattle.rmt_chip.specs.declared.memory.SlotMemory.{SlotMemory}
-use Rattle.rmt_chip.specs.Memory.{MemoryFits, IsLaid}
-use Rattle.rmt_chip.proofs.LookLaws.{unit_at}
+use Rattle.rmt_chip.specs.Memory.{MemoryFits, UnitHeld}
 use Rattle.rmt_chip.proofs.StageMemoriesLaws.{pushed_items}
+use Rattle.rmt_chip.proofs.LookLaws.{unit_at}
 use Rattle.rmt_chip.proofs.lay.lay_stage.Goals as goal
 
 pub lay_unit-requires : goal.lay_unit-requires
@@ -26,14 +28,15 @@ loop-unit-preserved c =
     let memories = c.loop-unit.memories.items in
     let pushed : c.push.new.self.items ≡ memories ++ memory ∷ [] = c.in_ok-push.ensures.items in
     let size : length memories ≡ i = was.all in
+    let there : slice_get units i ≡ Some unit = slice_get-get_or units i unit inside ∙ ap (λ (u : Unit). Some u) at in
     let fit = pushed_items (λ (j : ℕ) (m : SlotMemory). (u : Unit) → MemoryFits (get_or units j u) m) memories i memory size
     (λ u. subst (λ (v : Unit). MemoryFits v memory) (any u) c.in_ok-lay_unit.ensures.fits) (λ j d lt u. was.fit j u d lt) in
-    let laid = pushed_items (λ (j : ℕ) (m : SlotMemory). (u : Unit) → IsLaid c.args.seed c.args.stage.now (get_or units j u) m) memories i memory size
-    (λ u. subst (λ (v : Unit). IsLaid c.args.seed c.args.stage.now v memory) (any u) c.in_ok-lay_unit.ensures.laid) (λ j d lt u. was.laid j u d lt) in
+    let held = pushed_items (λ (j : ℕ) (m : SlotMemory). (u : Unit) (cf : Config) (k : ℕ) → slice_get cf.stages k ≡ Some c.args.stage.now → UnitHeld (own_cells cf) k j (get_or units j u) m) memories i memory size
+    (λ u cf k stage. subst (λ (v : Unit). UnitHeld (own_cells cf) k i v memory) (any u) (c.in_ok-lay_unit.ensures.held cf k i stage there)) (λ j d lt u. was.held j u d lt) in
     record {
       all = omega (arith, c.in_ok-push.ensures.len);
       fit = λ j u d lt. subst (λ (ms : List SlotMemory). MemoryFits (get_or units j u) (get_or ms j d)) (sym pushed) (fit j d lt u);
-      laid = λ j u d lt. subst (λ (ms : List SlotMemory). IsLaid c.args.seed c.args.stage.now (get_or units j u) (get_or ms j d)) (sym pushed) (laid j d lt u);
+      held = λ j u d lt cf k stage. subst (λ (ms : List SlotMemory). UnitHeld (own_cells cf) k j (get_or units j u) (get_or ms j d)) (sym pushed) (held j d lt u cf k stage);
     }
 
 pub returns-clause-fit : goal.returns-clause-fit
@@ -44,7 +47,7 @@ returns-clause-fit c =
       each = λ i u d lt. c.loop-unit.invariant.fit i u d (omega arith);
     }
 
-pub returns-clause-laid : goal.returns-clause-laid
-returns-clause-laid c =
+pub returns-clause-held : goal.returns-clause-held
+returns-clause-held c =
     let end = ap (λ (us : List Unit). length us) c.as_slice-units.ensures in
-    λ i u d lt. c.loop-unit.invariant.laid i u d (omega arith)
+    λ cf k stage i u d lt. c.loop-unit.invariant.held i u d (omega arith) cf k stage

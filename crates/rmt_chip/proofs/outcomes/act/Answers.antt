@@ -27,7 +27,7 @@ returns-then-one-clause-done c = λ stage found d first acts finds low was.
     ap (λ (n : ℕ). set c.args.outcomes.now n (2 + c.saturating_sub.result)) c.from-node.ensures ∙ ap (λ (n : ℕ). set c.args.outcomes.now slot.node (2 + n)) value in
     let running : c.push_reserved.new.self.items ≡ c.args.running.now.items ++ record { code = one.code; unit = unit; found = true } ∷ [] =
     c.push_reserved.ensures.items ∙ ap (λ (n : ℕ). c.args.running.now.items ++ record { code = n; unit = unit; found = true } ∷ []) code in
-    let counts = subst (λ (l : Looked). CountsAlso before counters (one_if slot.counted l.number c.args.bytes)) same c.count.ensures in
+    let counts = subst (λ (l : Looked). CountsAlso before counters (one_if slot.counted l.number c.args.bytes)) same c.count.ensures.counts in
     let done = slot_found stage slot found looked unit d c.args.bytes base first before counters acts c.args.outcomes.now c.args.running.now.items
     c.requires.inside finds (ap (λ (l : Looked). l.hit) (sym same) ∙ c.if-one.true) low counts was in
     subst (λ (os : List ℕ). HaveDone stage looked c.args.bytes first (slot_acts stage slot found acts) os c.push_reserved.new.self.items counters) (sym outcomes)

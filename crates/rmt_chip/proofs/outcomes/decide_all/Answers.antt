@@ -22,6 +22,7 @@ loop-i-preserved c =
     record {
       all_nodes = omega arith;
       room = omega arith;
+      spare = d.ensures.spare ∙ was.spare;
       few = omega arith;
       small = omega arith;
       so_far = λ look k words read. upto_more look k words c.args.stage.now c.args.looked.now c.args.bytes c.args.counters.now.counts i c.args.outcomes.now

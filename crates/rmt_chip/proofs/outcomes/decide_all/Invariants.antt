@@ -8,6 +8,7 @@ abbrev pub invariant-loop-i : goal.invariant-loop-i
 invariant-loop-i l = record {
   all_nodes : length l.outcomes ≡ 256;
   room : vec_capacity l.initial.running ≤ vec_capacity l.running;
+  spare : l.counters.room ≡ l.initial.counters.room;
   few : vec_len l.running ≤ l.i;
   small : l.base ≤ 256 * l.i;
   so_far : (look : Look) (k : ℕ) (words : Words) → AllLooked look k words l.stage l.looked →

@@ -1,12 +1,13 @@
-use Rattle.std.proofs.Common.{◌≡◌, ◌<◌, List, length, Some, sym, subst, ap, ◌∙◌, arith}
+use Rattle.std.proofs.Common.{◌≡◌, ◌<◌, ℕ, Bool, List, get_or, length, Some, sym, subst, ap, ◌∙◌, arith}
 use Rattle.std.specs.Prelude.{slice_get}
 use Rattle.std.proofs.lemmas.Option.{slice_get-get_or}
-use Rattle.rmt_config.specs.ChipRun.{own_look}
+use Rattle.rmt_config.specs.RunCells.{look_in}
 use Rattle.rmt_chip.specs.Types.{Stage}
-use Rattle.rmt_chip.specs.Memory.{AllLaid}
+use Rattle.rmt_chip.specs.Memory.{StageHeld}
+use Rattle.rmt_chip.specs.Looks.{LooksInto}
 use Rattle.rmt_chip.specs.Pending.{HaveRoomFor}
 use Rattle.rmt_chip.proofs.PassLaws.{ring_set, look_turn, look_done}
-use Rattle.rmt_chip.proofs.ReadingLaws.{own_looks}
+use Rattle.rmt_chip.proofs.ReadingLaws.{looks_into}
 use Rattle.rmt_chip.proofs.ring.read_keys.Goals as goal
 
 pub loop-k-preserved : goal.loop-k-preserved
@@ -19,14 +20,16 @@ loop-k-preserved c =
     record {
       ring = ring_set config.stages c.args.newest c.place_behind-at.result c.loop-k.places c.read_keys.new.place
           (subst (λ (ss : List Stage). HaveRoomFor ss c.read_keys.new.place.pending.items) c.as_slice-stages.ensures c.read_keys.ensures.room) c.loop-k.invariant.ring;
-      holds = λ item laid held.
-          look_turn (own_look config) config item c.args.newest k c.loop-k.places c.requires.fits c.loop-k.invariant.ring c.place_behind-at.result c.index-places-at.result c.read_keys.new.place inside c.place_behind-at.ensures.place
+      holds = λ cells item laid seed looks held.
+          let place = get_or c.loop-k.places c.place_behind-at.result c.index-places-at.result in
+          look_turn config item c.args.newest k c.loop-k.places c.requires.fits c.loop-k.invariant.ring c.place_behind-at.result c.index-places-at.result c.read_keys.new.place (look_in config place.version cells) inside c.place_behind-at.ensures.place
           (λ stage found.
-          let lies : AllLaid config.seed stage c.deref.result.now = subst (AllLaid config.seed stage) (sym c.deref.ensures.value) (laid k stage m found mine) in
-          c.read_keys.ensures.looked stage (ap (λ (ss : List Stage). slice_get ss k) c.as_slice-stages.ensures ∙ found) config.seed (own_look config) lies (own_looks config k stage found))
-          (c.loop-k.invariant.holds item laid held);
+          let lies : StageHeld cells k stage c.deref.result.now = subst (StageHeld cells k stage) (sym c.deref.ensures.value) (laid k stage m found mine) in
+          c.read_keys.ensures.looked stage (ap (λ (ss : List Stage). slice_get ss k) c.as_slice-stages.ensures ∙ found) cells (look_in config place.version cells) lies seed (subst (λ (b : Bool). LooksInto b place.version cells stage (look_in config place.version cells) k) (sym c.is_some.ensures) (looks_into config place.version cells k stage found)))
+          (λ x there version. looks k x inside there ∙ ap (λ (v : ℕ). look_in config v cells k) (sym version))
+          (c.loop-k.invariant.holds cells item laid seed looks held);
     }
 
 pub returns-clause-holds : goal.returns-clause-holds
-returns-clause-holds c = λ item laid held.
-    look_done (own_look c.args.config.now) c.args.config.now item c.args.newest c.loop-k.k c.loop-k.places c.requires.fits c.loop-k.invariant.ring (omega arith) (c.loop-k.invariant.holds item laid held)
+returns-clause-holds c = λ cells item laid seed looks held.
+    look_done c.args.config.now item c.args.newest c.loop-k.k c.loop-k.places c.requires.fits c.loop-k.invariant.ring (omega arith) (c.loop-k.invariant.holds cells item laid seed looks held)

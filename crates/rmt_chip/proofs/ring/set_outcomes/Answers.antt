@@ -1,4 +1,4 @@
-use Rattle.std.proofs.Common.{◌≡◌, ℕ, List, length, Some, get_or, subst, arith}
+use Rattle.std.proofs.Common.{◌≡◌, ℕ, List, length, Some, get_or, subst, ◌∙◌, arith}
 use Rattle.std.specs.Prelude.{slice_get}
 use Rattle.rmt_chip.specs.Types.{Stage}
 use Rattle.rmt_chip.specs.Held.{DecidedBy}
@@ -18,18 +18,19 @@ loop-k-preserved c =
     record {
       ring = ring_set config.stages c.args.newest c.place_behind-at.result c.loop-k.places c.set_outcomes.new.place
           (subst (λ (ss : List Stage). HaveRoomFor ss c.set_outcomes.new.place.pending.items) c.as_slice-stages.ensures c.set_outcomes.ensures.room) c.loop-k.invariant.ring;
-      holds = λ look item held.
-          let was = c.loop-k.invariant.holds look item held in (
-            act_turn look config item c.args.newest k c.loop-k.places c.requires.fits c.loop-k.invariant.ring c.place_behind-at.result c.index-places-at.result c.set_outcomes.new.place (omega arith) c.place_behind-at.ensures.place decided was.0,
-            count_turn look config item c.args.newest k c.loop-k.places c.requires.fits c.loop-k.invariant.ring c.place_behind-at.result c.index-places-at.result c.args.counters.now.counts c.loop-k.counters.counts c.set_outcomes.new.counters.counts
+      spare = c.set_outcomes.ensures.spare ∙ c.loop-k.invariant.spare;
+      holds = λ item held.
+          let was = c.loop-k.invariant.holds item held in (
+            act_turn config item c.args.newest k c.loop-k.places c.requires.fits c.loop-k.invariant.ring c.place_behind-at.result c.index-places-at.result c.set_outcomes.new.place (omega arith) c.place_behind-at.ensures.place decided was.0,
+            count_turn config item c.args.newest k c.loop-k.places c.requires.fits c.loop-k.invariant.ring c.place_behind-at.result c.index-places-at.result c.args.counters.now.counts c.loop-k.counters.counts c.set_outcomes.new.counters.counts
                 (omega arith) c.place_behind-at.ensures.place counted was.0 was.1,
           );
     }
 
 pub returns-clause-holds : goal.returns-clause-holds
-returns-clause-holds c = λ look item held.
-    let was = c.loop-k.invariant.holds look item held in
+returns-clause-holds c = λ item held.
+    let was = c.loop-k.invariant.holds item held in
     let all : c.loop-k.k ≡ length c.args.config.now.stages = omega arith in (
-      act_done look c.args.config.now item c.args.newest c.loop-k.k c.loop-k.places c.requires.fits c.loop-k.invariant.ring all was.0,
-      subst (λ (n : ℕ). CountsAlso c.args.counters.now.counts c.loop-k.counters.counts (hits_upto look c.args.config.now item n)) all was.1,
+      act_done c.args.config.now item c.args.newest c.loop-k.k c.loop-k.places c.requires.fits c.loop-k.invariant.ring all was.0,
+      subst (λ (n : ℕ). CountsAlso c.args.counters.now.counts c.loop-k.counters.counts (hits_upto c.args.config.now item n)) all was.1,
     )

@@ -1,5 +1,4 @@
-use Rattle.std.proofs.Common.{ℕ, Option}
-use Rattle.rmt_config.specs.Life.{Look}
+use Rattle.std.proofs.Common.{◌≡◌, ℕ, Option}
 use Rattle.rmt_chip.specs.Held.{Entered}
 use Rattle.rmt_chip.specs.Hits.{hits_upto}
 use Rattle.rmt_chip.specs.Ran.{CountsAlso}
@@ -9,8 +8,9 @@ use Rattle.rmt_chip.proofs.ring.set_outcomes.Given as goal
 abbrev pub invariant-loop-k : goal.invariant-loop-k
 invariant-loop-k l = record {
   ring : IsRing l.config.stages l.newest l.places;
-  holds : (look : Look) (item : ℕ → Option Entered) →
-      AllHold look l.config item now now past now l.newest l.initial.places →
-      AllHold look l.config item now now (partly (done_before l.config.stages 8 l.k)) now l.newest l.places
-      × CountsAlso l.initial.counters.counts l.counters.counts (hits_upto look l.config item l.k);
+  spare : l.counters.room ≡ l.initial.counters.room;
+  holds : (item : ℕ → Option Entered) →
+      AllHold l.config item now now past now l.newest l.initial.places →
+      AllHold l.config item now now (partly (done_before l.config.stages 8 l.k)) now l.newest l.places
+      × CountsAlso l.initial.counters.counts l.counters.counts (hits_upto l.config item l.k);
 }

@@ -1,29 +1,21 @@
 use Rattle.std.proofs.Common.{List, ℕ, Err, Vec, ap, ◌∙◌, inr, inl, refl, string_bytes, subst, sym}
 use Rattle.std.specs.Global.{Global}
-use Rattle.rmt_core.specs.declared.status.Status.TheVariants.{Done, NoFit}
+use Rattle.rmt_core.specs.declared.status.Status.TheVariants.{NoFit}
 use Rattle.rmt_core.specs.Compiling.{Compiles, written}
-use Rattle.rmt_core.specs.Given.{Given, stored, told}
-use Rattle.rmt_core.proofs.CallLaws.{ends_at_once, ends_told, told_quiet, told_unread, writes_none}
-use Rattle.rmt_core.proofs.DeliverLaws.{delivered}
+use Rattle.rmt_core.specs.Ends.{outside}
+use Rattle.rmt_core.specs.Given.{Given, one_file, told}
+use Rattle.rmt_core.proofs.CallLaws.{ends_at_once, ends_told, told_quiet, writes_none}
+use Rattle.rmt_core.proofs.DeliverLaws.{delivers}
 use Rattle.rmt_core.proofs.TextLaws.{line_answered, printed_tells}
 use Rattle.rmt_core.proofs.compiling.compile_meant.Goals as goal
 
 pub returns-in-Ok-clause-call : goal.returns-in-Ok-clause-call
 returns-in-Ok-clause-call g c =
-    let files = (g.F.Shelf.state c.args.shelf.now).files in
     let name = string_bytes c.args.image.now in
-    let d = c.deliver.ensures in
-    record {
-      answered = λ tells.
-          delivered _ _ (Compiles c.args.placer files name c.args.meant.now.program c.args.meant.now.entries) (stored files name c.in-Ok.made.image.items c.in-Ok.made.lines) c.deliver.result
-          (c.in-Ok.ensures.made files name) d.kind (λ some. d.ends some tells) (λ e. d.files e tells) d.quiet;
-      quiet = told_quiet Done c.deliver.result (λ e. cc) (λ e. cc) d.quiet d.kind;
-      read_fault = told_unread Done c.deliver.result (λ e. cc) d.kind;
-      write_fault = d.write_fault;
-      steady_write = d.steady_write;
-      tells = d.tells;
-      only_printed = d.only_printed;
-    }
+    let made = c.in-Ok.made in
+    delivers (outside (g.F.Shelf.state c.args.shelf.now) (g.O.Sink.state c.args.out.now)) (outside (g.F.Shelf.state c.deliver_image.new.shelf) (g.O.Sink.state c.deliver_image.new.out))
+    (λ files. Compiles c.args.placer files name c.args.meant.now.program c.args.meant.now.entries) (one_file name made.image.items) made.lines c.deliver_image.result
+    (c.in-Ok.ensures.made (g.F.Shelf.state c.args.shelf.now).files name) c.deliver_image.ensures.kind c.deliver_image.ensures.call
 
 pub returns-in-Err-NoMemory-clause-call : goal.returns-in-Err-NoMemory-clause-call
 returns-in-Err-NoMemory-clause-call g c = writes_none _ _ _ _ (ends_at_once _ _) (λ _ _. refl)

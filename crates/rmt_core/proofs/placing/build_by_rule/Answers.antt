@@ -1,5 +1,4 @@
 use Rattle.std.proofs.Common.{◌≡◌, Err}
-use Rattle.rmt_config.specs.Form.{visible_with}
 use Rattle.rmt_build.specs.declared.fault.NoFit.{NoFit}
 use Rattle.rmt_build.specs.declared.fault.NoFit.TheVariants as no_fit
 use Rattle.rmt_build.specs.Refusals.{first_refusal}
@@ -22,7 +21,7 @@ returns-clause-built c =
     let said = c.requires.said in
     let b = c.build.ensures in
     is_built ByRule p lists c.build.result c.requires.program said (c.one_meaning.ensures.short said.text p said.means)
-    (λ m config carries formed. c.packet_lists.ensures p lists m config (visible_with config.names) c.requires.program c.requires.entries carries formed.whole.memory)
+    (λ m config carries formed. c.packet_lists.ensures p lists m config c.requires.program c.requires.entries carries)
     (not_refused (first_refusal p) c.build.result b.refused)
     b.carries b.config b.rules b.placement b.layout b.bounded
 

@@ -1,8 +1,4 @@
 use Rattle.std.proofs.Common.{◌≡◌, ◌≢◌, Err, Some}
-use Rattle.rmt_config.specs.Form.{visible_with}
-use Rattle.rmt_deps.specs.Edges.{dependencies_of}
-use Rattle.rmt_deps.proofs.EdgeLaws.{go_forward}
-use Rattle.rmt_improve.proofs.BetterLaws.{better_keeps}
 use Rattle.rmt_build.specs.declared.fault.NoFit.{NoFit}
 use Rattle.rmt_build.specs.declared.fault.NoFit.TheVariants as no_fit
 use Rattle.rmt_core.specs.declared.placer.Placer.TheVariants.{ByTries}
@@ -65,7 +61,7 @@ returns-clause-built c =
     let said = c.requires.said in
     let b = c.build_from.ensures in
     is_built placer p lists c.build_from.result c.requires.program said (c.one_meaning.ensures.short said.text p said.means)
-    (λ m config carries formed. c.packet_lists.ensures p lists m config (visible_with config.names) c.requires.program c.requires.entries carries formed.whole.memory)
+    (λ m config carries formed. c.packet_lists.ensures p lists m config c.requires.program c.requires.entries carries)
     (not_refused (refusal_by placer p) c.build_from.result (refused here))
     b.carries b.config b.rules (placed_so placer p lists c.args.placement.now.parts c.requires.placed c.build_from.result b.rules b.placement) b.layout b.bounded
 

@@ -7,7 +7,7 @@ use Rattle.rmt_core.specs.Reporting.{report_line}
 use Rattle.rmt_core.specs.Simulating.{Spelled}
 use Rattle.rmt_core.specs.SimText.{bad_image_line}
 use Rattle.rmt_core.specs.Types.{Config}
-use Rattle.rmt_core.proofs.CallLaws.{ends_told}
+use Rattle.rmt_core.proofs.CallLaws.{ends_told, told_quiet}
 use Rattle.rmt_core.proofs.GoingOn.{bad_image_answered}
 use Rattle.rmt_core.proofs.TextLaws.{line_answered}
 use Rattle.rmt_core.proofs.reporting.report_bytes.Goals as goal
@@ -32,3 +32,13 @@ returns-in-Err-clause-call g c = λ shelf.
     c.tell_bad_image.ensures.line c.tell_bad_image.ensures.only_printed
     (bad_image_answered _ _ c.args.bytes.now (use_of shelf.files) c.in-Err.fault c.tell_bad_image.result c.in-Err.ensures.exact c.tell_bad_image.ensures.no_memory (λ _. refl)
     c.tell_bad_image.ensures.line)
+
+pub returns-in-Ok-clause-quiet : goal.returns-in-Ok-clause-quiet
+returns-in-Ok-clause-quiet g c =
+    let line = c.tell.ensures.line (report_line c.in-Ok.config) c.use_line.ensures in
+    told_quiet Done c.tell.result (λ e. cc) (λ e. cc) line.quiet line.kind
+
+pub returns-in-Err-clause-quiet : goal.returns-in-Err-clause-quiet
+returns-in-Err-clause-quiet g c =
+    let line = c.tell_bad_image.ensures.line in
+    told_quiet BadImage c.tell_bad_image.result (λ e. cc) (λ e. cc) line.quiet line.kind

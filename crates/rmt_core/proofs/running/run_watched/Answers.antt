@@ -1,9 +1,13 @@
 -- A run that ended early, and one that came to the end of what may be read.
-use Rattle.std.proofs.Common.{◌≡◌, None, Err, ap, sym, subst}
+use Rattle.std.proofs.Common.{◌≡◌, None, Err, inl, refl, ap, sym, subst, ◌∙◌}
 use Rattle.rmt_io.proofs.OutsideLaws.{only_printed_trans, printing_failed_later}
-use Rattle.rmt_chip.specs.Stands.{Stands}
+use Rattle.rmt_chip.specs.PacketRuns.{StandsFor as Stands}
 use Rattle.rmt_config.specs.ChipRun.{inputs_of}
-use Rattle.rmt_core.specs.RunEnd.{bad_line}
+use Rattle.rmt_core.specs.RunEnd.{bad_line, status_of_fault}
+use Rattle.rmt_core.specs.declared.run_end.RunFault.{RunFault}
+use Rattle.rmt_core.specs.declared.run_end.RunFault.TheVariants as fault
+use Rattle.rmt_core.specs.declared.status.Status.TheVariants as status
+use Rattle.rmt_core.proofs.EndLaws.{gained_none}
 use Rattle.rmt_core.specs.Watching.{text_of}
 use Rattle.rmt_core.proofs.DrainLaws.{ended_done, ended_was}
 use Rattle.rmt_core.proofs.EnterLaws.{whole_packets}
@@ -50,3 +54,21 @@ returns-clause-answered g c = λ t k stands.
 
 pub returns-in-Ok-enter_all-clause-only_printed : goal.returns-in-Ok-enter_all-clause-only_printed
 returns-in-Ok-enter_all-clause-only_printed g c = only_printed_trans c.enter_all.ensures.only_printed c.finish.ensures.only_printed
+
+-- without memory nothing was read or printed
+pub returns-in_default-clause-answered : goal.returns-in_default-clause-answered
+returns-in_default-clause-answered g c = λ t k stands. record {
+  files = inl (λ name. refl);
+  front = λ given is. gained_none (g.O.Sink.state c.args.out.now) (g.O.Sink.state c.args.out.now) given.text (λ tells. refl);
+  steady = λ st e. absurd (cc);
+}
+
+-- a run that broke off isn't done
+not_done : (fault : RunFault) → status_of_fault fault ≡ status.Done → ⊥
+not_done fault.NoMemory e = cc
+not_done fault.Write e = cc
+not_done fault.Read e = cc
+not_done fault.TooLong e = cc
+
+pub returns-clause-clocked : goal.returns-clause-clocked
+returns-clause-clocked g c = λ done t k stands. absurd (not_done c.in-Err.fault (sym c.fault_status.ensures ∙ done))

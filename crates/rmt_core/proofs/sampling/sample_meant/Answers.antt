@@ -18,6 +18,9 @@ returns-in-Ok-clause-possible g c = told_possible c.args.number (c.tell_built.en
 pub returns-in-Ok-clause-no_reading : goal.returns-in-Ok-clause-no_reading
 returns-in-Ok-clause-no_reading g c = told_no_reading (c.tell_built.ensures.line _ refl)
 
+pub returns-in-Ok-clause-quiet : goal.returns-in-Ok-clause-quiet
+returns-in-Ok-clause-quiet g c = (c.tell_built.ensures.line _ refl).quiet
+
 pub returns-in-Ok-clause-write_fault : goal.returns-in-Ok-clause-write_fault
 returns-in-Ok-clause-write_fault g c = (c.tell_built.ensures.line _ refl).failed
 

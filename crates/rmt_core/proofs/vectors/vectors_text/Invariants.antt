@@ -3,7 +3,7 @@ use Rattle.std.proofs.Common.{◌≡◌, ℕ, ◌+◌, ◌≤◌, ◌++◌, List
 use Rattle.rmt_bits.specs.Packet.{Packet}
 use Rattle.rmt_core.specs.Types.{Config}
 use Rattle.rmt_config.specs.ChipRun.{latency_of}
-use Rattle.rmt_chip.specs.Stands.{Stands}
+use Rattle.rmt_chip.specs.PacketRuns.{StandsFor as Stands}
 use Rattle.rmt_core.specs.ProbeText.{lines_below}
 use Rattle.rmt_core.proofs.vectors.vectors_text.Given as goal
 

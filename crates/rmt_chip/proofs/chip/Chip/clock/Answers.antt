@@ -1,51 +1,15 @@
-use Rattle.std.proofs.Common.{◌≡◌, ℕ, ◌+◌, ◌%◌, Bool, true, false, cond, List, All, refl, sym, ap, ◌∙◌, subst, arith}
-use Rattle.std.specs.Prelude.{is_some}
-use Rattle.std.proofs.lemmas.List.{with_items_is}
-use Rattle.std.proofs.Common.{Vec, Global}
-use Rattle.rmt_chip.specs.declared.packet_slot.PacketSlot.{PacketSlot}
-use Rattle.rmt_chip.specs.declared.memory.SlotMemory.{SlotMemory}
-use Rattle.rmt_chip.specs.FrameList.{frames_of}
-use Rattle.rmt_chip.specs.Pending.{HaveRoomFor}
-use Rattle.rmt_chip.specs.StageMemories.{MemoriesOf, LaidOut}
-use Rattle.rmt_chip.proofs.FormedRuns.{runnable}
-use Rattle.rmt_chip.proofs.StandsLaws.{CycleGives, clock_right, no_limit}
+use Rattle.rmt_chip.specs.Inputs.{input_of}
+use Rattle.rmt_config.specs.RunInputs.{input_of as input_with}
+use Rattle.rmt_chip.specs.PacketsInFlight.{numbers_after}
+use Rattle.rmt_chip.proofs.StandsLaws.{packet_back, stands_clocked}
 use Rattle.rmt_chip.proofs.chip.Chip.clock.Goals as goal
-use mir.Val.{bool_byte}
 
-byte_of : (b : Bool) → bool_byte b ≡ cond b 1 0
-byte_of true = refl
-byte_of false = refl
+pub returns-clause-stands : goal.returns-clause-stands
+returns-clause-stands c = λ config inputs stands.
+    let packet = input_of c.args.frame in
+    stands_clocked config inputs packet c.turn.new.self (c.turn.ensures.goes config (numbers_after config inputs) inputs (input_with packet) (packet_back packet) stands).0
 
-pub cycle-answer-requires-clause-fits : goal.cycle-answer-requires-clause-fits
-cycle-answer-requires-clause-fits c =
-    let self = c.args.self.now in
-    runnable self.config self.formed (no_limit self.config self.limits)
-
-pub cycle-answer-requires-clause-memories : goal.cycle-answer-requires-clause-memories
-cycle-answer-requires-clause-memories c =
-    let self = c.args.self.now in
-    subst (MemoriesOf self.config.stages) (sym c.deref.ensures.value) self.fit
-
-pub cycle-answer-requires-clause-room : goal.cycle-answer-requires-clause-room
-cycle-answer-requires-clause-room c =
-    let self = c.args.self.now in
-    subst (All (λ (p : PacketSlot). HaveRoomFor self.config.stages p.pending.items)) (sym c.deref_mut.ensures.value) self.room
-
-pub returns : goal.returns
-returns c = λ config inputs stands.
-    let old = c.args.self.now in
-    let same = c.cycle-answer.auto.places in
-    let lent = c.deref_mut.ensures.len in
-    let items = with_items_is old.places c.cycle-answer.new.places (omega arith) in
-    let grown : c.from.result ≡ cond (is_some c.args.frame) 1 0 = c.from.ensures ∙ ap bool_byte c.is_some.ensures ∙ byte_of (is_some c.args.frame) in
-    let fact : LaidOut old.config.seed old.config.stages old.memories.items
-    → CycleGives old.config ((old.newest + 1) % 385) c.args.frame old.entered old.places.items c.cycle-answer.new.places (frames_of old.frames) (frames_of c.cycle-answer.new.frames) old.counters.counts c.cycle-answer.new.counters.counts c.cycle-answer.result c.cycle-answer.new.out =
-    λ laid inputs before ring turn count.
-    subst (λ (ps : List PacketSlot). CycleGives old.config ((old.newest + 1) % 385) c.args.frame old.entered ps c.cycle-answer.new.places (frames_of old.frames) (frames_of c.cycle-answer.new.frames) old.counters.counts c.cycle-answer.new.counters.counts c.cycle-answer.result c.cycle-answer.new.out)
-    c.deref_mut.ensures.value
-    (λ i b r t n. c.cycle-answer.ensures.gives i b r t n (subst (λ (m : List (Vec SlotMemory Global)). LaidOut old.config.seed old.config.stages m) (sym c.deref.ensures.value) laid))
-    inputs before ring turn count in
-    clock_right config inputs c.args.frame old _ c.cycle-answer.result c.cycle-answer.new.out old.in_ring refl refl
-    (ap (λ (n : ℕ). old.entered + n) grown) refl
-    (λ laid. subst (λ (ps : List PacketSlot). CycleGives old.config ((old.newest + 1) % 385) c.args.frame old.entered old.places.items ps (frames_of old.frames) (frames_of c.cycle-answer.new.frames) old.counters.counts c.cycle-answer.new.counters.counts c.cycle-answer.result c.cycle-answer.new.out) (sym items) (fact laid))
-    stands
+pub returns-clause-answers : goal.returns-clause-answers
+returns-clause-answers c = λ config inputs stands.
+    let packet = input_of c.args.frame in
+    (c.turn.ensures.goes config (numbers_after config inputs) inputs (input_with packet) (packet_back packet) stands).1

@@ -1,15 +1,33 @@
-use Rattle.std.proofs.Common.{List, All, refl, sym, ap, subst, ◌∙◌, arith}
+use Rattle.std.proofs.Common.{◌≡◌, ℕ, ◌+◌, ◌-◌, Bool, cond, List, [], get_or, All, Option, None, refl, sym, ap, subst, ◌∙◌, arith}
+use Rattle.std.proofs.lemmas.Bool.{le-ltb}
+use Rattle.std.proofs.lemmas.List.{append-nil}
+use Rattle.rmt_bits.specs.Counts.{counts}
+use Rattle.rmt_config.specs.ChipRun.{counted_numbers}
+use Rattle.rmt_config.specs.RunInputs.{Input}
+use Rattle.rmt_chip.specs.FrameList.{frames_of}
+use Rattle.rmt_chip.specs.Held.{Entered, FrameIs, HoldsIf, IsFree}
+use Rattle.rmt_chip.specs.Inputs.{entered_at, entered_in}
 use Rattle.std.specs.Prelude.{is_none}
-use Rattle.rmt_chip.specs.Types.{Stage}
+use Rattle.rmt_chip.specs.Types.{Config, Stage}
 use Rattle.rmt_chip.specs.declared.packet_slot.PacketSlot.{PacketSlot}
 use Rattle.rmt_chip.specs.Pending.{HaveRoomFor}
 use Rattle.rmt_chip.specs.Ring.{ring_at}
-use Rattle.rmt_chip.specs.StageMemories.{AllSlotsFormed, MemoriesOf, LaidOut}
+use Rattle.rmt_chip.specs.StageMemories.{AllSlotsFormed, MemoriesOf}
 use Rattle.rmt_config.specs.ChipRun.{latency_of}
 use Rattle.rmt_chip.proofs.FormedRuns.{runnable}
 use Rattle.rmt_chip.proofs.RingLaws.{ring_at-lt}
 use Rattle.rmt_chip.proofs.StageSlots.{slots_formed}
 use Rattle.rmt_chip.proofs.chip.Chip.open.Goals as goal
+
+-- nothing has entered
+none_before : (config : Config) (run : List Input) (age : ℕ) → entered_at config run 0 age ≡ None
+none_before config run age = ap (λ (b : Bool). cond b (entered_in config run (0 - 1 - age)) None) (le-ltb age 0 (omega arith))
+
+free_at : (config : Config) (run : List Input) (age : ℕ) (place : PacketSlot) → IsFree place → HoldsIf config (entered_at config run 0 age) age age age (age + 1) place
+free_at config run age place free = subst (λ (o : Option Entered). HoldsIf config o age age age (age + 1) place) (sym (none_before config run age)) free
+
+none_at : (config : Config) (run : List Input) (age : ℕ) (frame : List ℕ) → FrameIs (entered_at config run 0 age) frame
+none_at config run age frame = subst (λ (o : Option Entered). FrameIs o frame) (sym (none_before config run age)) tt
 
 pub lay_all-requires : goal.lay_all-requires
 lay_all-requires c = subst AllSlotsFormed (sym c.as_slice-stages.ensures) (slots_formed c.args.config c.requires.form)
@@ -31,13 +49,19 @@ invariant_of-result c = record {
 }
 
 pub returns : goal.returns
-returns c = record {
-  config_is = refl;
-  memories_are = subst (λ (ss : List Stage). LaidOut c.args.config.seed ss c.in_ok-memories.memories.items) c.as_slice-stages.ensures c.in_ok-memories.ensures.laid;
-  entered_is = refl;
-  in_flight = record {
-    places_hold = λ age d h. c.in_ok-places.ensures.free (ring_at 0 age) d (let lt = ring_at-lt 0 age in let full = c.in_ok-places.ensures.full in omega arith);
-    frames_stand = λ age h. tt;
-    counters_are = c.in_ok-counters.ensures;
-  };
-}
+returns c =
+    let config = c.args.config in
+    let stages : c.as_slice-stages.result.now ≡ config.stages = c.as_slice-stages.ensures in
+    record {
+      formed = c.requires.form;
+      config_is = refl;
+      memories_are = c.in_ok-memories.ensures.hold config (sym stages);
+      entered_is = refl;
+      seed_is = refl;
+      version_is = refl;
+      in_flight = λ later. record {
+        places_hold = λ age d h. free_at config later age (get_or c.in_ok-places.places.items (ring_at 0 age) d) (c.in_ok-places.ensures.free (ring_at 0 age) d (let lt = ring_at-lt 0 age in let full = c.in_ok-places.ensures.full in omega arith));
+        frames_stand = λ age h. none_at config later age (get_or (frames_of c.in_ok-frames.frames) (ring_at 0 age) []);
+        counters_are = c.in_ok-counters.ensures ∙ ap (λ ns. counts ns []) (sym (append-nil (counted_numbers config)));
+      };
+    }

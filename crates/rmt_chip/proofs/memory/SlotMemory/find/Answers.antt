@@ -1,57 +1,65 @@
-use Rattle.std.proofs.Common.{◌≡◌, ℕ, ◌*◌, ◌/◌, ◌%◌, ◌^◌, ◌<◌, List, length, get_or, take, drop, true, false, Option, Some, None, sym, refl, ap, ◌∙◌, subst, arith}
-use Rattle.std.proofs.lemmas.List.{get_or-map, length-map}
-use Rattle.rmt_bits.specs.Bits.{number_of}
-use Rattle.rmt_chip.specs.Types.{CellNumber}
+use Rattle.std.proofs.Common.{◌≡◌, ℕ, suc, ◌+◌, List, ◌∷◌, ◌++◌, get_or, drop, Bool, true, false, Option, Some, None, sym, refl, ap, ◌∙◌, subst, arith}
+use Rattle.std.specs.Prelude.{find, option_map}
+use Rattle.std.proofs.lemmas.Bool.{and_parts}
+use Rattle.std.proofs.Math.Seq.{drop-append_seam}
+use Rattle.rmt_bits.specs.Bits.{bytes_of, number_of}
+use Rattle.rmt_bits.proofs.ByteLaws.{length-bytes_of, number_of-bytes_of}
+use Rattle.rmt_config.specs.LaneForm.{bits_of_lanes}
 use Rattle.rmt_config.specs.Shapes.{divided_up}
-use Rattle.rmt_config.specs.Cells.{Found, content_of, found_in, number_of_cell}
+use Rattle.rmt_config.specs.Cells.{Found, candidates, code_of}
+use Rattle.rmt_config.specs.RunCells.{found_at, is_hit}
 use Rattle.rmt_chip.specs.declared.looked.Looked.{Looked}
 use Rattle.rmt_chip.specs.Looked.{Finds}
-use Rattle.rmt_chip.proofs.RunLaws.{run-is}
-use Rattle.rmt_bits.proofs.ByteLaws.{number_of-bytes_of}
-use Rattle.rmt_chip.proofs.RangeLaws.{cell_at, nowhere, number-at}
-use Rattle.rmt_chip.proofs.CellLaws.{cells-rise}
-use Rattle.rmt_chip.proofs.FoundLaws.{place-found, held-small, held-room, look_up-is}
+use Rattle.rmt_chip.specs.Searching.{run_of}
+use Rattle.rmt_chip.specs.Sights.{seen_by, sight_of}
+use Rattle.rmt_chip.proofs.FoundLaws.{IsPlace, place-found, place-hit, place-shown, own-head, shown-occupied, held-room}
 use Rattle.rmt_chip.proofs.memory.SlotMemory.find.Goals as goal
 
-finds-some : (o : Option Found) (f : Found) (looked : Looked) → o ≡ Some f → looked.hit ≡ true → looked.code ≡ f.code → looked.number ≡ f.number → number_of looked.held.items ≡ f.held → Finds o looked
-finds-some o f looked e hit code number held = subst (λ p. Finds p looked) (sym e) (hit, code, number, held)
+finds-some : (counted : Bool) (o : Option Found) (f : Found) (looked : Looked) → o ≡ Some f → looked.hit ≡ true → looked.code ≡ f.code → (counted ≡ true → looked.number ≡ f.number)
+    → number_of looked.held.items ≡ f.held → Finds counted o looked
+finds-some counted o f looked e hit code number held = subst (λ p. Finds counted p looked) (sym e) (hit, code, number, held)
 
-finds-none : (o : Option Found) (looked : Looked) → o ≡ None → looked.hit ≡ false → Finds o looked
-finds-none o looked e hit = subst (λ p. Finds p looked) (sym e) hit
+finds-none : (counted : Bool) (o : Option Found) (looked : Looked) → o ≡ None → looked.hit ≡ false → Finds counted o looked
+finds-none counted o looked e hit = subst (λ p. Finds counted p looked) (sym e) hit
 
-head-code : (x y : ℕ) → y ≡ x % 256 → y / 8 % 32 ≡ x / 2 ^ 3 % 2 ^ 5
-head-code x y e = ap (λ n. n / 8 % 32) e ∙ omega arith
-
-pub returns-then-at-len-clause-found : goal.returns-then-at-len-clause-found
-returns-then-at-len-clause-found c = λ seed stage slot lays within.
+pub returns-in-Some-clause-found : goal.returns-in-Some-clause-found
+returns-in-Some-clause-found c = λ cells k place slot held seed small.
     let m = c.args.self.now in
     let at = c.in-Some.at in
-    let place = place-found seed stage slot m c.args.key.now (λ i. (c.type_inv.key i).fits) lays c.requires.key within (Some at) c.in-Some.ensures in
-    let inside : at < length slot.numbers = place.within in
-    let cell = cell_at slot.numbers at in
-    let content = content_of stage slot cell in
-    let head : get_or c.run_at.result.now 0 0 ≡ content.head % 256 =
-    ap (λ (bs : List ℕ). get_or bs 0 0) (c.run_at.ensures.value ∙ ap (λ s. take s (drop (at * s) m.heads.bytes.items)) m.heads_size
-    ∙ ap (λ (bs : List ℕ). take 1 (drop (at * 1) bs)) lays.laid.heads ∙ run-is 1 (λ n. (content_of stage slot n).head) slot.numbers at nowhere inside) in
-    let number : c.index.result.now ≡ number_of_cell slot.numbers cell =
-    c.index.ensures ∙ ap (λ (ns : List ℕ). get_or ns at c.index.result.now) lays.laid.numbers
-    ∙ get_or-map (λ (x : CellNumber). x.number) slot.numbers at nowhere c.index.result.now inside ∙ sym (number-at slot.numbers at (cells-rise stage lays.formed.first slot lays.formed.holds) inside) in
-    let size = divided_up slot.held 8 in
-    let held : number_of c.copy_from_slice.new.self.items ≡ content.held =
-    ap (λ (bs : List ℕ). number_of bs) (c.copy_from_slice.ensures.items ∙ c.run_at-then-at-len.ensures.value ∙ ap (λ s. take s (drop (at * s) m.held.bytes.items)) lays.laid.held_size
-    ∙ ap (λ (bs : List ℕ). take size (drop (at * size) bs)) lays.laid.held ∙ run-is size (λ n. (content_of stage slot n).held) slot.numbers at nowhere inside)
-    ∙ number_of-bytes_of size content.held (held-room slot.held content.held (held-small stage slot cell)) in
-    finds-some _ (found_in slot.numbers cell content) _ (look_up-is seed stage slot (number_of c.args.key.now) (Some at) place.finds) refl (head-code content.head _ head) number held
-
-pub returns-else-at-len-clause-found : goal.returns-else-at-len-clause-found
-returns-else-at-len-clause-found c = λ seed stage slot lays within.
-    let m = c.args.self.now in
-    let place = place-found seed stage slot m c.args.key.now (λ i. (c.type_inv.key i).fits) lays c.requires.key within (Some c.in-Some.at) c.in-Some.ensures in
-    let inside : c.in-Some.at < length slot.numbers = place.within in
-    let all : length m.numbers.items ≡ length slot.numbers = ap (λ (ns : List ℕ). length ns) lays.laid.numbers ∙ length-map slot.numbers (λ (x : CellNumber). x.number) in
-    absurd (omega (arith, inside, all, m.numbers.ok.0, c.len.ensures, c.if-at-len.false))
+    let named = c.args.sight.named in
+    let version = c.args.sight.version in
+    let key = number_of c.args.key.now in
+    let content = cells.content k place in
+    let there = place-found c.args.sight.seed c.number_of_sight.result content (cells.number k place) slot m c.args.key.now c.number_of_sight.ensures.few (λ i. (c.type_inv.key i).fits) held c.requires.key small (Some at) c.in-Some.ensures.place in
+    let seen = subst (λ v. IsPlace c.args.sight.seed v content slot key (Some at)) c.number_of_sight.ensures.value there in
+    let hit = place-hit c.args.sight.seed named version content slot key (Some at) seen in
+    let found = ap (option_map (found_at cells k place)) (ap (λ s. find (λ n. is_hit named version key (content n)) (candidates s (bits_of_lanes slot.keys) slot.memory key)) seed ∙ hit) in
+    let passes = place-shown c.args.sight.seed (sight_of named version) content slot key at seen in
+    let occupied = shown-occupied (sight_of named version) (content at).head (and_parts (seen_by (sight_of named version) (content at).head) _ passes).0 in
+    let cell = held.each at seen.within in
+    let entry = cell.entry occupied in
+    let x = content at in
+    let head : get_or (run_of m.cells at) 0 0 ≡ x.head = own-head slot m x (cells.number k place at) at cell occupied in
+    let rest : drop (1 + m.stored) (run_of m.cells at) ≡ bytes_of m.held_size x.held =
+    ap (λ (bs : List ℕ). drop (1 + m.stored) bs) entry.bytes
+    ∙ ap (λ n. drop n (x.head ∷ (bytes_of m.stored x.key ++ bytes_of m.held_size x.held))) (let e : 1 + m.stored ≡ suc m.stored = omega arith in e)
+    ∙ ap (λ n. drop n (bytes_of m.stored x.key ++ bytes_of m.held_size x.held)) (sym (length-bytes_of m.stored x.key))
+    ∙ drop-append_seam (bytes_of m.stored x.key) (bytes_of m.held_size x.held) in
+    let room : m.held_size ≡ divided_up slot.held 8 = held.fits.held in
+    let own : number_of c.read.new.into.held.items ≡ x.held =
+    ap (λ (bs : List ℕ). number_of bs) (c.read.ensures.held ∙ rest) ∙ ap (λ n. number_of (bytes_of n x.held)) room
+    ∙ number_of-bytes_of (divided_up slot.held 8) x.held (held-room slot.held x.held entry.held) in
+    finds-some slot.counted _ (found_at cells k place at) c.read.new.into found c.read.ensures.hit (c.read.ensures.code ∙ ap code_of head)
+    (λ counted. c.read.ensures.number (let all = held.fits.numbers counted in let lt = seen.within in omega (arith, all, lt, m.numbers.ok.0)) ∙ entry.number counted)
+    own
 
 pub returns-in-None-clause-found : goal.returns-in-None-clause-found
-returns-in-None-clause-found c = λ seed stage slot lays within.
-    let place = place-found seed stage slot c.args.self.now c.args.key.now (λ i. (c.type_inv.key i).fits) lays c.requires.key within None c.in-None.ensures in
-    finds-none _ _ (look_up-is seed stage slot (number_of c.args.key.now) None place.finds) refl
+returns-in-None-clause-found c = λ cells k place slot held seed small.
+    let key = number_of c.args.key.now in
+    let content = cells.content k place in
+    let named = c.args.sight.named in
+    let version = c.args.sight.version in
+    let there = place-found c.args.sight.seed c.number_of_sight.result content (cells.number k place) slot c.args.self.now c.args.key.now c.number_of_sight.ensures.few (λ i. (c.type_inv.key i).fits) held c.requires.key small None c.in-None.ensures.place in
+    let seen = subst (λ v. IsPlace c.args.sight.seed v content slot key None) c.number_of_sight.ensures.value there in
+    let hit = place-hit c.args.sight.seed named version content slot key None seen in
+    finds-none slot.counted _ _ (ap (option_map (found_at cells k place)) (ap (λ s. find (λ n. is_hit named version key (content n)) (candidates s (bits_of_lanes slot.keys) slot.memory key)) seed ∙ hit)) refl

@@ -1,14 +1,16 @@
-use Rattle.std.proofs.Common.{◌≡◌, ℕ, List, map, sym, ap, ◌∙◌, subst}
-use Rattle.rmt_chip.specs.Types.{CellNumber, Memory}
+use Rattle.std.proofs.Common.{◌≡◌, ℕ, List, length, true, sym, ap, ◌∙◌, subst, arith}
+use Rattle.rmt_chip.specs.Types.{Memory}
 use Rattle.rmt_config.specs.declared.config.Memory.TheVariants.{Without, Exact, Ternary}
 use Rattle.rmt_config.specs.MemoryRules.{ExactFits, TernaryFits}
-use Rattle.rmt_config.specs.Cells.{content_of}
+use Rattle.rmt_config.specs.LaneForm.{bits_of_lanes}
+use Rattle.rmt_config.specs.Cells.{cells_in, content_of}
 use Rattle.rmt_config.specs.Shapes.{divided_up}
-use Rattle.rmt_chip.specs.declared.memory.Keys.{Keys}
-use Rattle.rmt_chip.specs.Laying.{runs_of}
-use Rattle.rmt_chip.specs.Memories.{KeysLay, Laid}
+use Rattle.rmt_chip.specs.declared.memory.keys.Keys.{Keys}
+use Rattle.rmt_chip.specs.Laid.{Laid}
+use Rattle.rmt_chip.specs.Memories.{VectorsHold, keys_fit}
 use Rattle.rmt_chip.proofs.LayLaws.{IfOk-then}
-use Rattle.rmt_chip.proofs.FormedMemory.{exact-facts, exact-numbers-fit, exact-ways, ternary-facts, ternary-numbers-fit, without-cells, without-key, without-held}
+use Rattle.rmt_chip.proofs.LaidLaws.{laid-holds}
+use Rattle.rmt_chip.proofs.FormedMemory.{exact-facts, exact-numbers-fit, exact-ways, ternary-facts, ternary-numbers-fit, without-key, without-held}
 use Rattle.rmt_chip.proofs.memory.SlotMemory.lay.Goals as goal
 
 pub lay_exact-requires-clause-fits : goal.lay_exact-requires-clause-fits
@@ -37,47 +39,66 @@ pub lay_ternary-requires-clause-numbers : goal.lay_ternary-requires-clause-numbe
 lay_ternary-requires-clause-numbers c =
     let x = c.in-Ternary in ternary-numbers-fit c.args.stage.now c.args.slot.now c.requires x.quanta x.keys x.records x.counters x.is
 
-pub returns-in-Without-clause-lays : goal.returns-in-Without-clause-lays
-returns-in-Without-clause-lays c =
+pub returns-in-Without-clause-fits : goal.returns-in-Without-clause-fits
+returns-in-Without-clause-fits c =
     let stage = c.args.stage.now in
     let slot = c.args.slot.now in
-    let m = c.without.result in
     let e = c.in-Without.is in
-    let cells = without-cells stage slot c.requires e in
     record {
-      formed = c.requires;
-      laid = record {
-        keys = subst (λ (x : Memory). KeysLay c.args.seed stage slot x m.keys) (sym e) (subst (λ (ks : Keys). KeysLay c.args.seed stage slot Without ks) (sym c.without.ensures.keys) tt);
-        key_bytes = c.without.ensures.key ∙ sym (without-key stage slot c.requires e);
-        heads = c.without.ensures.heads ∙ sym (ap (runs_of 1 (λ n. (content_of stage slot n).head)) cells);
-        held_size = c.without.ensures.held ∙ sym (without-held stage slot c.requires e);
-        held = c.without.ensures.data ∙ sym (ap (runs_of (divided_up slot.held 8) (λ n. (content_of stage slot n).held)) cells);
-        numbers = c.without.ensures.numbers ∙ sym (ap (λ (ns : List CellNumber). map (λ (x : CellNumber). x.number) ns) cells);
-      };
+      key = c.without.ensures.key ∙ sym (without-key stage slot c.requires e);
+      held = c.without.ensures.held ∙ sym (without-held stage slot c.requires e);
+      cells = c.without.ensures.cells ∙ sym (ap cells_in e);
+      numbers = λ counted. ap (λ (ns : List ℕ). length ns) c.without.ensures.numbers ∙ sym (ap cells_in e);
+      keys = subst (λ (mem : Memory). keys_fit (bits_of_lanes slot.keys) mem c.without.result.stored c.without.result.keys ≡ true) (sym e)
+          (ap (λ (ks : Keys). keys_fit (bits_of_lanes slot.keys) Without c.without.result.stored ks) c.without.ensures.keys);
     }
 
-pub returns-in-Without-clause-key : goal.returns-in-Without-clause-key
-returns-in-Without-clause-key c = c.without.ensures.key ∙ sym (without-key c.args.stage.now c.args.slot.now c.requires c.in-Without.is)
+pub returns-in-Without-clause-holds : goal.returns-in-Without-clause-holds
+returns-in-Without-clause-holds c =
+    let slot = c.args.slot.now in
+    let e = c.in-Without.is in
+    record {
+      fits = returns-in-Without-clause-fits c;
+      each = λ n lt. absurd (let none : cells_in slot.memory ≡ 0 = ap cells_in e in omega (arith, lt, none));
+      vectors = subst (VectorsHold (divided_up (bits_of_lanes slot.keys) 40) (cells_in slot.memory) (content_of c.args.stage.now slot)) (sym c.without.ensures.keys) tt;
+    }
 
-pub returns-in-Without-clause-held : goal.returns-in-Without-clause-held
-returns-in-Without-clause-held c = c.without.ensures.held ∙ sym (without-held c.args.stage.now c.args.slot.now c.requires c.in-Without.is)
-
-pub returns-in-Exact-clause-lays : goal.returns-in-Exact-clause-lays
-returns-in-Exact-clause-lays c =
+pub returns-in-Exact-clause-fits : goal.returns-in-Exact-clause-fits
+returns-in-Exact-clause-fits c =
     let x = c.in-Exact in
     let slot = c.args.slot.now in
     let memory : Exact x.width x.per x.quanta x.first_way c.as_slice.result.now c.as_slice-in-Exact.result.now x.counters ≡ slot.memory =
     ap (λ (ks : List ℕ). Exact x.width x.per x.quanta x.first_way ks c.as_slice-in-Exact.result.now x.counters) c.as_slice.ensures
     ∙ ap (λ (rs : List ℕ). Exact x.width x.per x.quanta x.first_way x.keys rs x.counters) c.as_slice-in-Exact.ensures ∙ sym x.is in
     IfOk-then c.lay_exact.result _ _ c.lay_exact.ensures.laid
-    (λ m laid. record { formed = c.requires; laid = subst (λ (y : Memory). Laid c.args.seed c.args.stage.now (record slot { memory = y }) m) memory (laid x.counters) })
+    (λ m laid. (subst (λ (y : Memory). Laid c.args.stage.now (record slot { memory = y }) m) memory (laid x.counters)).fits)
 
-pub returns-in-Ternary-clause-lays : goal.returns-in-Ternary-clause-lays
-returns-in-Ternary-clause-lays c =
+pub returns-in-Exact-clause-holds : goal.returns-in-Exact-clause-holds
+returns-in-Exact-clause-holds c =
+    let x = c.in-Exact in
+    let slot = c.args.slot.now in
+    let memory : Exact x.width x.per x.quanta x.first_way c.as_slice.result.now c.as_slice-in-Exact.result.now x.counters ≡ slot.memory =
+    ap (λ (ks : List ℕ). Exact x.width x.per x.quanta x.first_way ks c.as_slice-in-Exact.result.now x.counters) c.as_slice.ensures
+    ∙ ap (λ (rs : List ℕ). Exact x.width x.per x.quanta x.first_way x.keys rs x.counters) c.as_slice-in-Exact.ensures ∙ sym x.is in
+    IfOk-then c.lay_exact.result _ _ c.lay_exact.ensures.laid
+    (λ m laid. laid-holds c.args.stage.now slot c.requires m (subst (λ (y : Memory). Laid c.args.stage.now (record slot { memory = y }) m) memory (laid x.counters)))
+
+pub returns-in-Ternary-clause-fits : goal.returns-in-Ternary-clause-fits
+returns-in-Ternary-clause-fits c =
     let x = c.in-Ternary in
     let slot = c.args.slot.now in
     let memory : Ternary x.quanta c.as_slice-in-Ternary.result.now c.as_slice-in-Ternary-2.result.now x.counters ≡ slot.memory =
     ap (λ (ks : List ℕ). Ternary x.quanta ks c.as_slice-in-Ternary-2.result.now x.counters) c.as_slice-in-Ternary.ensures
     ∙ ap (λ (rs : List ℕ). Ternary x.quanta x.keys rs x.counters) c.as_slice-in-Ternary-2.ensures ∙ sym x.is in
     IfOk-then c.lay_ternary.result _ _ c.lay_ternary.ensures.laid
-    (λ m laid. record { formed = c.requires; laid = subst (λ (y : Memory). Laid c.args.seed c.args.stage.now (record slot { memory = y }) m) memory (laid c.args.seed x.counters) })
+    (λ m laid. (subst (λ (y : Memory). Laid c.args.stage.now (record slot { memory = y }) m) memory (laid x.counters)).fits)
+
+pub returns-in-Ternary-clause-holds : goal.returns-in-Ternary-clause-holds
+returns-in-Ternary-clause-holds c =
+    let x = c.in-Ternary in
+    let slot = c.args.slot.now in
+    let memory : Ternary x.quanta c.as_slice-in-Ternary.result.now c.as_slice-in-Ternary-2.result.now x.counters ≡ slot.memory =
+    ap (λ (ks : List ℕ). Ternary x.quanta ks c.as_slice-in-Ternary-2.result.now x.counters) c.as_slice-in-Ternary.ensures
+    ∙ ap (λ (rs : List ℕ). Ternary x.quanta x.keys rs x.counters) c.as_slice-in-Ternary-2.ensures ∙ sym x.is in
+    IfOk-then c.lay_ternary.result _ _ c.lay_ternary.ensures.laid
+    (λ m laid. laid-holds c.args.stage.now slot c.requires m (subst (λ (y : Memory). Laid c.args.stage.now (record slot { memory = y }) m) memory (laid x.counters)))

@@ -1,11 +1,15 @@
-use Rattle.std.proofs.Common.{◌≡◌, List, ◌*◌, length, map, refl, ap, ◌∙◌, subst, arith}
+use Rattle.std.proofs.Common.{◌≡◌, List, ℕ, ◌*◌, ◌%◌, ◌/◌, ◌<◌, ◌∷◌, ◌++◌, length, true, sym, refl, ap, ◌∙◌, subst, arith}
+use Rattle.std.proofs.lemmas.Bool.{and_from, eq-eqb}
+use Rattle.std.proofs.lemmas.Nat.{mod_below}
+use Rattle.rmt_bits.specs.Bits.{bytes_of}
 use Rattle.rmt_chip.specs.Types.{SramRow, CellNumber}
 use Rattle.rmt_config.specs.declared.form.layout.Layout.{Layout}
 use Rattle.rmt_config.specs.LaneForm.{bits_of_lanes}
 use Rattle.rmt_config.specs.Shapes.{divided_up}
-use Rattle.rmt_config.specs.Cells.{sram_row, cell_of, data_at}
-use Rattle.rmt_chip.specs.Laying.{runs_of, StartsByRow}
-use Rattle.rmt_chip.proofs.LayLaws.{cells-below, exact-heads, exact-keys}
+use Rattle.rmt_config.specs.Cells.{sram_row, cell_of, data_at, entry_at}
+use Rattle.rmt_chip.specs.Laying.{runs_of, cell_at}
+use Rattle.rmt_chip.specs.Laid.{CellsLaid, NumbersLaid}
+use Rattle.rmt_chip.proofs.LayLaws.{cells-below, exact-heads, exact-keys, bytes-at}
 use Rattle.rmt_chip.proofs.memory.lay.lay_exact.Goals as goal
 
 pub runs_of-requires-clause-cells : goal.runs_of-requires-clause-cells
@@ -22,39 +26,58 @@ runs_of-requires-2-clause-cells c =
     let same : 4 * c.args.quanta * (1024 * c.args.per) ≡ 4096 * c.args.quanta * c.args.per = omega arith in
     cells-below c.args.slot.now.numbers c.as_slice-numbers.result.now _ _ c.as_slice-numbers.ensures (e ∙ same) c.requires.numbers.below
 
-pub returns-clause-laid : goal.returns-clause-laid
-returns-clause-laid c = λ cs.
-    let slot = c.args.slot.now in
-    let k = c.args.width in
-    let p = c.args.per in
-    let d = c.args.quanta in
-    let ks = c.args.keys.now in
-    let bits : c.key_bits-bits.result ≡ bits_of_lanes slot.keys = c.key_bits-bits.ensures ∙ ap bits_of_lanes c.as_slice.ensures in
-    let l = c.exact_keys-layout.result in
-    let rows = c.args.stage.now.srows in
-    let rows' = c.as_slice-rows.result.now in
-    let numbers' = c.as_slice-numbers.result.now in
-    let fits = c.requires.fits in
-    let size : c.in_ok-found.found.size ≡ divided_up (bits_of_lanes slot.keys) 8 = c.in_ok-found.ensures.size ∙ ap (λ b. divided_up b 8) bits in
-    let ways : 4096 * d ≡ 4 * (1024 * d) = omega arith in
-    record {
-      keys = record {
-        seed_is = refl;
-        first_way = refl;
-        rows = refl;
-        starts = subst (λ (ns : List CellNumber). StartsByRow ns (4 * (1024 * d)) p c.in_ok-starts.starts.items) c.as_slice-numbers.ensures
-            (subst (λ n. StartsByRow numbers' n p c.in_ok-starts.starts.items) ways c.in_ok-starts.ensures);
-        size = size;
-        count = c.in_ok-found.ensures.count ∙ ap (λ (ns : List CellNumber). length ns) c.as_slice-numbers.ensures;
-        keys = c.in_ok-found.ensures.bytes
-            ∙ exact-keys rows rows' slot.numbers numbers' l ks k p d (bits_of_lanes slot.keys) c.key_bits-bits.result c.exact_keys-layout.ensures bits c.as_slice-rows.ensures c.as_slice-numbers.ensures fits.some_p fits.some_d;
+pub numbers_by_cell-requires : goal.numbers_by_cell-requires
+numbers_by_cell-requires c = cells-below c.args.slot.now.numbers c.as_slice-numbers.result.now _ _ c.as_slice-numbers.ensures refl c.requires.numbers.below
+
+pub returns : goal.returns
+returns c = record {
+  laid = λ cs.
+      let slot = c.args.slot.now in
+      let k = c.args.width in
+      let p = c.args.per in
+      let d = c.args.quanta in
+      let ks = c.args.keys.now in
+      let rs = c.args.records.now in
+      let bits : c.key_bits-bits.result ≡ bits_of_lanes slot.keys = c.key_bits-bits.ensures ∙ ap bits_of_lanes c.as_slice.ensures in
+      let b = bits_of_lanes slot.keys in
+      let l = c.exact_keys-layout.result in
+      let rows = c.args.stage.now.srows in
+      let rows' = c.as_slice-rows.result.now in
+      let numbers = slot.numbers in
+      let numbers' = c.as_slice-numbers.result.now in
+      let fits = c.requires.fits in
+      let size : c.in_ok-found.found.size ≡ divided_up b 8 = c.in_ok-found.ensures.size ∙ ap (λ n. divided_up n 8) bits in
+      let heads = c.in_ok-heads.heads in
+      let found = c.in_ok-found.found in
+      let held = c.in_ok-held.held in
+      let entry : ℕ → ℕ = λ n. entry_at (sram_row rows) ks k b (cell_of (1024 * d) p n) in
+      let kept : ℕ → ℕ = λ n. data_at (sram_row rows) rs p slot.held (cell_of (1024 * d) p n) in
+      let fs : heads.bytes.items ≡ runs_of 1 (λ n. entry n % 256) numbers =
+      c.in_ok-heads.ensures.bytes ∙ exact-heads rows rows' numbers numbers' l ks k p d b c.key_bits-bits.result c.exact_keys-layout.ensures bits c.as_slice-rows.ensures c.as_slice-numbers.ensures fits.some_p fits.some_d in
+      let gs : found.bytes.items ≡ runs_of (divided_up b 8) (λ n. entry n / 256) numbers =
+      c.in_ok-found.ensures.bytes ∙ exact-keys rows rows' numbers numbers' l ks k p d b c.key_bits-bits.result c.exact_keys-layout.ensures bits c.as_slice-rows.ensures c.as_slice-numbers.ensures fits.some_p fits.some_d in
+      let hs : held.bytes.items ≡ runs_of (divided_up slot.held 8) kept numbers =
+      c.in_ok-held.ensures.bytes
+      ∙ ap (λ (xs : List SramRow). runs_of (divided_up slot.held 8) (λ n. data_at (sram_row xs) rs p slot.held (cell_of (1024 * d) p n)) numbers') c.as_slice-rows.ensures
+      ∙ ap (λ (ns : List CellNumber). runs_of (divided_up slot.held 8) kept ns) c.as_slice-numbers.ensures in
+      let cells = subst (λ (ns : List CellNumber). CellsLaid ns heads found held (4096 * d * p) c.in_ok-cells.cells) c.as_slice-numbers.ensures c.in_ok-cells.ensures in
+      let numbered : slot.counted ≡ true → NumbersLaid numbers (4096 * d * p) (length numbers) c.in_ok-entries.entries.items = λ counted. subst (λ (ns : List CellNumber). NumbersLaid ns (4096 * d * p) (length ns) c.in_ok-entries.entries.items) c.as_slice-numbers.ensures (c.in_ok-entries.ensures counted) in
+      let small : (n : ℕ) → entry n % 256 < 256 = λ n. mod_below (entry n) 256 (omega arith) in
+      record {
+        fits = record {
+          key = size;
+          held = c.in_ok-held.ensures.size;
+          cells = cells.all;
+          numbers = λ counted. (numbered counted).size;
+          keys = and_from _ _ (and_from _ _ (and_from _ _ (eq-eqb c.args.first_way c.args.first_way refl) (eq-eqb (1024 * d) (1024 * d) refl)) (eq-eqb p p refl)) (eq-eqb found.size (divided_up b 8) size);
+        };
+        listed = λ i lt.
+            cells.listed (λ n. (entry n % 256) ∷ (bytes_of found.size (entry n / 256) ++ bytes_of held.size (kept n)))
+            (λ j less. bytes-at heads found held found.size held.size (λ n. entry n % 256) (λ n. entry n / 256) kept numbers j less c.in_ok-heads.ensures.size fs refl
+            (gs ∙ ap (λ z. runs_of z (λ n. entry n / 256) numbers) (sym size)) refl (hs ∙ ap (λ z. runs_of z kept numbers) (sym c.in_ok-held.ensures.size)) (small (cell_at numbers j)))
+            i lt;
+        others = cells.others;
+        numbers = numbered;
+        vectors = tt;
       };
-      key_bytes = size;
-      heads = c.in_ok-heads.ensures.bytes
-          ∙ exact-heads rows rows' slot.numbers numbers' l ks k p d (bits_of_lanes slot.keys) c.key_bits-bits.result c.exact_keys-layout.ensures bits c.as_slice-rows.ensures c.as_slice-numbers.ensures fits.some_p fits.some_d;
-      held_size = c.in_ok-held.ensures.size;
-      held = c.in_ok-held.ensures.bytes
-          ∙ ap (λ (rs : List SramRow). runs_of (divided_up slot.held 8) (λ n. data_at (sram_row rs) c.args.records.now p slot.held (cell_of (1024 * d) p n)) numbers') c.as_slice-rows.ensures
-          ∙ ap (λ (ns : List CellNumber). runs_of (divided_up slot.held 8) (λ n. data_at (sram_row rows) c.args.records.now p slot.held (cell_of (1024 * d) p n)) ns) c.as_slice-numbers.ensures;
-      numbers = c.in_ok-entries.ensures ∙ ap (λ (ns : List CellNumber). map (λ (x : CellNumber). x.number) ns) c.as_slice-numbers.ensures;
-    }
+}

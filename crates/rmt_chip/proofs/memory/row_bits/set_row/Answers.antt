@@ -10,8 +10,8 @@ use Rattle.rmt_chip.proofs.memory.row_bits.set_row.Goals as goal
 pub set_nibble-requires-clause-within : goal.set_nibble-requires-clause-within
 set_nibble-requires-clause-within c =
     let w = c.args.width in
-    let most : (16 * c.loop-at.at + 16) * w ≤ (160 * c.args.words + 1) * w =
-    mul-le (16 * c.loop-at.at + 16) w (160 * c.args.words + 1) w (omega arith) (omega arith) in
+    let most : (16 * c.loop-at.at + 16) * w ≤ (160 * c.args.words + 3) * w =
+    mul-le (16 * c.loop-at.at + 16) w (160 * c.args.words + 3) w (omega arith) (omega arith) in
     omega (arith, most, c.loop-at.invariant.size, c.requires.all)
 
 pub loop-at-preserved : goal.loop-at-preserved

@@ -1,11 +1,12 @@
-use Rattle.std.proofs.Common.{◌≡◌}
-use Rattle.rmt_chip.specs.Types.{CellNumber}
-use Rattle.rmt_chip.specs.Comparing.{compared_at}
-use Rattle.rmt_chip.proofs.PutLaws.{FirstPut}
+use Rattle.std.proofs.Common.{◌≡◌, ◌+◌, ◌/◌, ◌<◌, ℕ, Option}
+use Rattle.rmt_bits.specs.Grouping.{Compared}
+use Rattle.rmt_chip.specs.Comparing.{ShowsListed}
+use Rattle.rmt_chip.proofs.PutLaws.{RowsPut}
 use Rattle.rmt_chip.proofs.memory.ternary.sliced_of.Given as goal
 
 abbrev pub invariant-loop-at : goal.invariant-loop-at
 invariant-loop-at l = record {
   words : l.sliced.words ≡ l.side;
-  put : FirstPut (λ (n : CellNumber). compared_at l.rows l.blocks l.side n.cell) l.numbers l.at l.sliced;
+  width : l.sliced.width ≡ (l.count + 63) / 64;
+  put : (shown : ℕ → Option Compared) (sight : ℕ) → sight < 3 → ShowsListed sight l.count l.rows l.blocks l.side l.numbers l.heads shown → RowsPut l.numbers shown sight l.count l.at l.sliced;
 }

@@ -1,5 +1,5 @@
 -- One packet after another.
-use Rattle.std.proofs.Common.{◌++◌, ◌∷◌, [], Some, Err, arith, sym, ap, subst, length-append}
+use Rattle.std.proofs.Common.{◌++◌, ◌∷◌, [], Some, Err, arith, refl, sym, ap, subst, length-append}
 use Rattle.std.specs.Prelude.{map}
 use Rattle.rmt_bits.specs.Packet.{Packet}
 use Rattle.rmt_io.proofs.OutsideLaws.{only_printed_refl, only_printed_trans, only_read_refl, only_read_trans, tells_later}
@@ -8,6 +8,7 @@ use Rattle.rmt_core.specs.ReadsOn.{ReadsOn}
 use Rattle.rmt_core.specs.Running.{Goes}
 use Rattle.rmt_core.specs.RunEnd.{Cut}
 use Rattle.rmt_core.specs.Watching.{shown}
+use Rattle.rmt_core.proofs.EndLaws.{gained_none}
 use Rattle.rmt_core.proofs.EnterLaws.{breaks, ends_whole, inputs_more, may_enter}
 use Rattle.rmt_core.proofs.ReaderLaws.{reads_packet}
 use Rattle.rmt_core.proofs.RunsLaws.{not_too_long}
@@ -135,3 +136,20 @@ returns-in-Err-turn-clause-only_read g c = only_read_trans c.loop-step.invariant
 
 pub returns-in-Err-turn-clause-only_printed : goal.returns-in-Err-turn-clause-only_printed
 returns-in-Err-turn-clause-only_printed g c = only_printed_trans c.loop-step.invariant.only_printed c.turn.ensures.only_printed
+
+pub returns-in_default-clause-broken : goal.returns-in_default-clause-broken
+returns-in_default-clause-broken g c = λ t w k h. record {
+  front = gained_none (g.O.Sink.state c.args.out.now) (g.O.Sink.state c.args.out.now) _ (λ tells. refl);
+  some = λ e. absurd (cc);
+  long = λ e. absurd (cc);
+  within = λ e. absurd (cc);
+}
+
+pub returns-in-Err-clause-only_read : goal.returns-in-Err-clause-only_read
+returns-in-Err-clause-only_read g c = only_read_trans c.loop-step.invariant.only_read c.next.ensures.only_read
+
+pub returns-in-Bad-clause-only_read : goal.returns-in-Bad-clause-only_read
+returns-in-Bad-clause-only_read g c = only_read_trans c.loop-step.invariant.only_read c.next.ensures.only_read
+
+pub returns-in-End-clause-only_read : goal.returns-in-End-clause-only_read
+returns-in-End-clause-only_read g c = only_read_trans c.loop-step.invariant.only_read c.next.ensures.only_read

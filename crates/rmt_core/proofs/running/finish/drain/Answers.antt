@@ -1,6 +1,7 @@
 -- One empty cycle after another.
+use Rattle.rmt_config.specs.RunInputs.{input_of as input_with}
 use Rattle.std.proofs.Common.{◌≡◌, ◌++◌, None, arith, subst}
-use Rattle.std.specs.Prelude.{replicate}
+use Rattle.std.specs.Prelude.{map, replicate}
 use Rattle.rmt_io.proofs.OutsideLaws.{only_printed_trans}
 use Rattle.rmt_config.specs.ChipRun.{latency_of}
 use Rattle.rmt_core.specs.Running.{Goes}
@@ -25,12 +26,12 @@ turn-requires-clause-answered g c =
 
 pub returns-clause-ok : goal.returns-clause-ok
 returns-clause-ok g c = λ w k inputs before h.
-    let e : c.loop-age._age ≡ latency_of k.stages = omega (arith, c.latency-latency.ensures k inputs h.stands) in
+    let e : c.loop-age._age ≡ latency_of k.stages = omega (arith, c.latency-latency.ensures k (map input_with inputs) h.stands) in
     subst (λ n. Goes w k (inputs ++ replicate n None) c.loop-age.run c.loop-age.chip before (g.O.Sink.state c.loop-age.out)) e (c.loop-age.invariant.goes w k inputs before h)
 
 pub returns-in-Err-clause-cut : goal.returns-in-Err-clause-cut
 returns-in-Err-clause-cut g c = λ w k inputs before h.
-    cut_begins (padded_begins w k inputs c.loop-age._age (latency_of k.stages) (omega (arith, c.latency-latency.ensures k inputs h.stands)))
+    cut_begins (padded_begins w k inputs c.loop-age._age (latency_of k.stages) (omega (arith, c.latency-latency.ensures k (map input_with inputs) h.stands)))
     (c.in-Err.ensures.cut w k (inputs ++ replicate c.loop-age._age None) before (c.loop-age.invariant.goes w k inputs before h))
 
 pub loop-age-preserved : goal.loop-age-preserved

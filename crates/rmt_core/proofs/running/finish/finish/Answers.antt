@@ -1,7 +1,7 @@
 -- The lines that wait, and what stands behind them, are the rest of the text.
 use Rattle.std.proofs.Common.{◌≡◌, None, sym, ap, ◌∙◌, subst}
 use Rattle.rmt_io.proofs.OutsideLaws.{only_printed_trans}
-use Rattle.rmt_chip.specs.Stands.{Stands}
+use Rattle.rmt_chip.specs.PacketRuns.{StandsFor as Stands}
 use Rattle.rmt_core.specs.RunEnd.{bad_line}
 use Rattle.rmt_core.specs.Watching.{ran}
 use Rattle.rmt_core.proofs.DrainLaws.{all_written, ended_as, ended_done, ran_whole, text_begins, write_alone}

@@ -1,6 +1,7 @@
 -- One empty cycle after another.
+use Rattle.rmt_config.specs.RunInputs.{input_of as input_with}
 use Rattle.std.proofs.Common.{◌≡◌, ◌++◌, None, arith, subst}
-use Rattle.std.specs.Prelude.{replicate}
+use Rattle.std.specs.Prelude.{map, replicate}
 use Rattle.rmt_config.specs.ChipRun.{latency_of}
 use Rattle.rmt_core.specs.Tallies.{StandsFor}
 use Rattle.rmt_core.proofs.DrainLaws.{padded, padded_length}
@@ -24,7 +25,7 @@ turn-requires-clause-answered c =
 
 pub returns-clause-stands : goal.returns-clause-stands
 returns-clause-stands c = λ k inputs s.
-    let e : c.loop-age._age ≡ latency_of k.stages = omega (arith, c.latency-latency.ensures k inputs s.stands) in
+    let e : c.loop-age._age ≡ latency_of k.stages = omega (arith, c.latency-latency.ensures k (map input_with inputs) s.stands) in
     subst (λ n. StandsFor k (inputs ++ replicate n None) c.loop-age.run) e (c.loop-age.invariant.stands k inputs s)
 
 pub loop-age-preserved : goal.loop-age-preserved

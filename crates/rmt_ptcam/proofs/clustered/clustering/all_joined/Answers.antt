@@ -1,20 +1,19 @@
-use Rattle.std.proofs.Common.{◌≡◌, ◌+◌, ◌-◌, length, arith}
-use Rattle.rmt_ptcam.specs.Clustering.{all_joined}
-use Rattle.rmt_ptcam.specs.Joins.{headers_joins}
-use Rattle.rmt_ptcam.proofs.JoinsLaws.{headers_left}
-use Rattle.rmt_ptcam.proofs.ClusteringLaws.{good_on, headers_less}
+use Rattle.std.proofs.Common.{◌≡◌, ◌-◌, ap, arith, suc, sym, ◌∙◌}
+use Rattle.rmt_ptcam.specs.Clustering.{Clustering, some_headers}
+use Rattle.rmt_ptcam.specs.Grouping.{parser_in}
 use Rattle.rmt_ptcam.proofs.clustered.clustering.all_joined.Goals as goal
 
 pub loop-left-preserved : goal.loop-left-preserved
 loop-left-preserved c =
     let left = c.loop-left.left in
+    let so_far = c.loop-left.invariant.so_far in
+    let now : Clustering = record { parser = parser_in c.loop-left.groups; joins = c.loop-left.joins; behind = so_far.0 } in
+    let one : left ≡ suc (left - 1) = let lt = c.loop-left-test.true in omega (arith, lt) in
     record {
-      so_far =
-          headers_less c.args.program.now left (left - 1) c.loop-left.parser c.one_header.new.parser (all_joined c.args.program.now c.args.parser.now)
-          (let one : left ≡ left - 1 + 1 = omega arith in one) c.in_ok-one_header.ensures.step c.loop-left.invariant.so_far;
-      good = good_on c.args.parser.now c.loop-left.parser c.one_header.new.parser c.loop-left.invariant.good c.in_ok-one_header.ensures.good;
-      told =
-          headers_left c.args.program.now left (left - 1) c.loop-left.parser c.one_header.new.parser c.loop-left.joins c.one_header.new.joins (headers_joins c.args.program.now (length c.args.program.now.headers) c.args.parser.now)
-          (let one : left ≡ left - 1 + 1 = omega arith in one) c.in_ok-one_header.ensures.step c.in_ok-one_header.ensures.joins c.loop-left.invariant.told;
+      so_far = (
+        c.in_ok-one_header.field-0,
+        ap (some_headers c.args.program.now (left - 1)) c.in_ok-one_header.ensures.step ∙ sym (ap (λ k. some_headers c.args.program.now k now) one) ∙ so_far.1,
+      );
+      stand = c.in_ok-one_header.ensures.stand;
       few = let few = c.loop-left.invariant.few in omega (arith, few);
     }

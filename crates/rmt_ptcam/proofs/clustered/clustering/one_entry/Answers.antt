@@ -1,47 +1,71 @@
-use Rattle.std.proofs.Common.{◌≡◌, ◌+◌, ◌-◌, List, length, true, false, Some, ap, sym, refl, subst, ◌∙◌}
-use Rattle.std.specs.Prelude.{IfSome, slice_get, slice_index_or}
-use Rattle.std.proofs.lemmas.Option.{slice_get_read}
-use Rattle.rmt_ptcam.specs.Types.{ParserConfig, ParserEntry}
-use Rattle.rmt_ptcam.specs.Clustering.{is_wanted}
-use Rattle.rmt_ptcam.specs.Joining.{join_at, number_of_entry}
+use Rattle.std.proofs.Common.{◌≡◌, ◌+◌, ◌++◌, ◌∷◌, [], ◌≤◌, cond, List, None, Some, ap, arith, length, subst, sym, true, ◌∙◌}
+use Rattle.rmt_ptcam.specs.declared.joining.rows.StateRows.{StateRows}
 use Rattle.rmt_ptcam.specs.declared.joins.Join.{Join}
-use Rattle.rmt_ptcam.proofs.JoinsLaws.{joined_step, joined_told, unwanted_told}
+use Rattle.rmt_ptcam.specs.Clustering.{is_wanted}
+use Rattle.rmt_ptcam.specs.Grouping.{joined_in, parser_in}
+use Rattle.rmt_ptcam.specs.Joining.{entries_in}
+use Rattle.rmt_ptcam.proofs.ClusterSteps.{step_alone, step_joined, step_small, step_there, step_within}
+use Rattle.rmt_ptcam.proofs.InPlaceLaws.{joined_stand}
 use Rattle.rmt_ptcam.proofs.clustered.clustering.one_entry.Goals as goal
 
-pub returns-then-not-is_wanted-clause-joins : goal.returns-then-not-is_wanted-clause-joins
-returns-then-not-is_wanted-clause-joins c =
-    let parser : ParserConfig = c.args.parser.now in
-    let es = parser.entries in
-    let e : ParserEntry = c.index-as_slice-at.result in
-    let read : e ≡ slice_index_or es c.args.at e = c.index-as_slice-at.is ∙ ap (λ (xs : List ParserEntry). slice_index_or xs c.args.at e) c.as_slice.ensures in
-    let there : slice_get es c.args.at ≡ Some e = slice_get_read es (length es) c.args.at e refl c.requires.there read in
-    let not_wanted : is_wanted c.args.program.now parser e.next ≡ false = ap (λ (x : ParserEntry). is_wanted c.args.program.now parser x.next) c.index-as_slice-at.is ∙ sym c.is_wanted.ensures ∙ c.if-not-is_wanted.true in
-    unwanted_told c.args.program.now (record { parser = parser; at = c.args.at }) e there c.args.joins.now not_wanted
+pub returns-then-not-branch-clause-step : goal.returns-then-not-branch-clause-step
+returns-then-not-branch-clause-step c =
+    let g : List StateRows = c.args.groups.now in
+    let h : List StateRows = c.join_in.new.groups in
+    let j : Join = c.args.join in
+    let same : h ≡ g = c.in_ok-join_in.ensures.kept c.if-not-branch.true in
+    let none : joined_in g j ≡ None = sym c.in_ok-join_in.ensures.made ∙ ap (λ b. cond b (Some h) None) c.if-not-branch.true in
+    ap (λ (k : List StateRows). record { parser = parser_in k; joins = c.args.joins.now; behind = c.from-at.result + 1 }) same
+    ∙ ap (λ k. record { parser = parser_in g; joins = c.args.joins.now; behind = k + 1 }) c.from-at.ensures
+    ∙ step_alone c.args.program.now g c.requires.stand c.args.joins.now j c.in-Some.next (sym c.next_at.ensures ∙ c.in-Some.is) none
 
-pub returns-in_ok-push-in-Some-clause-step : goal.returns-in_ok-push-in-Some-clause-step
-returns-in_ok-push-in-Some-clause-step c =
-    let parser : ParserConfig = c.args.parser.now in
-    let q : ParserConfig = c.in-Some.joined in
-    let es = parser.entries in
-    let e : ParserEntry = c.index-as_slice-at.result in
-    let read : e ≡ slice_index_or es c.args.at e = c.index-as_slice-at.is ∙ ap (λ (xs : List ParserEntry). slice_index_or xs c.args.at e) c.as_slice.ensures in
-    let there : slice_get es c.args.at ≡ Some e = slice_get_read es (length es) c.args.at e refl c.requires.there read in
-    let wanted : is_wanted c.args.program.now parser e.next ≡ true = ap (λ (x : ParserEntry). is_wanted c.args.program.now parser x.next) c.index-as_slice-at.is ∙ sym c.is_wanted.ensures ∙ c.if-not-is_wanted.false in
-    let made : join_at parser c.args.at (slice_get es c.args.at) ≡ Some q = sym c.in_ok-join_at.ensures.given ∙ c.in-Some.is in
-    joined_step c.args.program.now (record { parser = parser; at = c.args.at }) e there q wanted made (c.args.at + (c.len.result + 1 - c.len-before.result))
-    (ap (λ k. c.args.at + (k + 1 - c.len-before.result)) c.len.ensures ∙ ap (λ k. c.args.at + (length q.entries + 1 - k)) c.len-before.ensures)
+pub returns-then-not-branch-clause-within : goal.returns-then-not-branch-clause-within
+returns-then-not-branch-clause-within c =
+    let g : List StateRows = c.args.groups.now in
+    let h : List StateRows = c.join_in.new.groups in
+    let same : h ≡ g = c.in_ok-join_in.ensures.kept c.if-not-branch.true in
+    let there = step_there c.args.program.now g c.requires.stand c.args.joins.now c.args.join c.in-Some.next (sym c.next_at.ensures ∙ c.in-Some.is) in
+    subst (λ (k : List StateRows). c.from-at.result + 1 ≤ length (entries_in c.args.join.state (parser_in k).entries)) (sym same) (let at = c.from-at.ensures in omega (arith, there, at))
 
-pub returns-in_ok-push-in-Some-clause-joins : goal.returns-in_ok-push-in-Some-clause-joins
-returns-in_ok-push-in-Some-clause-joins c =
-    let parser : ParserConfig = c.args.parser.now in
-    let q : ParserConfig = c.in-Some.joined in
-    let es = parser.entries in
-    let e : ParserEntry = c.index-as_slice-at.result in
-    let read : e ≡ slice_index_or es c.args.at e = c.index-as_slice-at.is ∙ ap (λ (xs : List ParserEntry). slice_index_or xs c.args.at e) c.as_slice.ensures in
-    let there : slice_get es c.args.at ≡ Some e = slice_get_read es (length es) c.args.at e refl c.requires.there read in
-    let wanted : is_wanted c.args.program.now parser e.next ≡ true = ap (λ (x : ParserEntry). is_wanted c.args.program.now parser x.next) c.index-as_slice-at.is ∙ sym c.is_wanted.ensures ∙ c.if-not-is_wanted.false in
-    let made : join_at parser c.args.at (slice_get es c.args.at) ≡ Some q = sym c.in_ok-join_at.ensures.given ∙ c.in-Some.is in
-    let own : IfSome (slice_get es c.args.at) (λ (x : ParserEntry). ◌≡◌ {A = Join} c.join_of_entry.result (record { state = x.state; entry = c.args.at - number_of_entry es x.state 0 })) =
-    subst (λ (xs : List ParserEntry). IfSome (slice_get xs c.args.at) (λ (x : ParserEntry). ◌≡◌ {A = Join} c.join_of_entry.result (record { state = x.state; entry = c.args.at - number_of_entry xs x.state 0 })))
-    c.as_slice-in-Some.ensures c.join_of_entry.ensures in
-    joined_told c.args.program.now (record { parser = parser; at = c.args.at }) e there q wanted made c.args.joins.now c.push.new.self c.join_of_entry.result c.in_ok-push-in-Some.ensures.ok own
+pub overflow_add-result-2 : goal.overflow_add-result-2
+overflow_add-result-2 c =
+    let g : List StateRows = c.args.groups.now in
+    let h : List StateRows = c.join_in.new.groups in
+    let j : Join = c.args.join in
+    let wanted : is_wanted c.args.program.now (parser_in g) c.in-Some.next ≡ true = sym c.is_wanted.ensures ∙ c.if-not-is_wanted.false in
+    let some : joined_in g j ≡ Some h = sym c.in_ok-join_in.ensures.made ∙ ap (λ b. cond b (Some h) None) c.if-not-branch.false in
+    let small = step_small c.args.program.now g c.requires.stand c.args.joins.now j c.in-Some.next (sym c.next_at.ensures ∙ c.in-Some.is) wanted h some in
+    let at = c.from-at.ensures in
+    let others = c.count_next-others.ensures in
+    omega (arith, small, at, others)
+
+pub returns-clause-step : goal.returns-clause-step
+returns-clause-step c =
+    let g : List StateRows = c.args.groups.now in
+    let h : List StateRows = c.join_in.new.groups in
+    let j : Join = c.args.join in
+    let wanted : is_wanted c.args.program.now (parser_in g) c.in-Some.next ≡ true = sym c.is_wanted.ensures ∙ c.if-not-is_wanted.false in
+    let some : joined_in g j ≡ Some h = sym c.in_ok-join_in.ensures.made ∙ ap (λ b. cond b (Some h) None) c.if-not-branch.false in
+    ap (λ (js : List Join). record { parser = parser_in h; joins = js; behind = c.from-at.result + c.count_next-others.result }) c.in_ok-push.ensures.ok
+    ∙ ap (λ k. record { parser = parser_in h; joins = c.args.joins.now ++ j ∷ []; behind = k + c.count_next-others.result }) c.from-at.ensures
+    ∙ ap (λ k. record { parser = parser_in h; joins = c.args.joins.now ++ j ∷ []; behind = j.entry + k }) c.count_next-others.ensures
+    ∙ step_joined c.args.program.now g c.requires.stand c.args.joins.now j c.in-Some.next (sym c.next_at.ensures ∙ c.in-Some.is) wanted h some
+
+pub returns-clause-stand : goal.returns-clause-stand
+returns-clause-stand c =
+    let g : List StateRows = c.args.groups.now in
+    let h : List StateRows = c.join_in.new.groups in
+    let some : joined_in g c.args.join ≡ Some h = sym c.in_ok-join_in.ensures.made ∙ ap (λ b. cond b (Some h) None) c.if-not-branch.false in
+    (joined_stand g h c.requires.stand c.args.join some).1
+
+pub returns-clause-within : goal.returns-clause-within
+returns-clause-within c =
+    let g : List StateRows = c.args.groups.now in
+    let h : List StateRows = c.join_in.new.groups in
+    let j : Join = c.args.join in
+    let wanted : is_wanted c.args.program.now (parser_in g) c.in-Some.next ≡ true = sym c.is_wanted.ensures ∙ c.if-not-is_wanted.false in
+    let some : joined_in g j ≡ Some h = sym c.in_ok-join_in.ensures.made ∙ ap (λ b. cond b (Some h) None) c.if-not-branch.false in
+    let within = step_within c.args.program.now g c.requires.stand c.args.joins.now j c.in-Some.next (sym c.next_at.ensures ∙ c.in-Some.is) wanted h some in
+    let at = c.from-at.ensures in
+    let others = c.count_next-others.ensures in
+    omega (arith, within, at, others)

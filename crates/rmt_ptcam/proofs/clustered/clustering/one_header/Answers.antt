@@ -1,43 +1,33 @@
-use Rattle.std.proofs.Common.{◌≡◌, ◌+◌, ◌-◌, ◌++◌, List, ap, ◌∙◌, arith}
-use Rattle.rmt_ptcam.specs.Types.{ParserConfig, ParserEntry}
-use Rattle.rmt_ptcam.specs.Joining.{entries_in, number_of_entry}
-use Rattle.rmt_ptcam.specs.Clustering.{Clustering}
-use Rattle.std.specs.Prelude.{length}
-use Rattle.rmt_ptcam.specs.Joins.{header_joins, some_joins}
-use Rattle.rmt_ptcam.proofs.JoinsLaws.{entries_left}
+use Rattle.std.proofs.Common.{◌≡◌, ◌+◌, ◌-◌, ap, arith, length, suc, sym, ◌∙◌}
+use Rattle.rmt_ptcam.specs.Clustering.{Clustering, some_entries}
+use Rattle.rmt_ptcam.specs.Grouping.{parser_in}
+use Rattle.rmt_ptcam.specs.Joining.{entries_in}
 use Rattle.rmt_ptcam.proofs.AddingLaws.{numbers_within}
-use Rattle.rmt_ptcam.proofs.ClusteringLaws.{good_same, good_on, entries_more}
 use Rattle.rmt_ptcam.proofs.clustered.clustering.one_header.Goals as goal
 
 pub loop-k-init : goal.loop-k-init
 loop-k-init c =
-    let parser : ParserConfig = c.args.parser.now in
-    let at : c.number_of_entry-at.result ≡ number_of_entry parser.entries c.args.number 0 =
-    c.number_of_entry-at.ensures ∙ ap (λ (es : List ParserEntry). number_of_entry es c.args.number 0) c.as_slice-2.ensures in
-    let count : c.count_in-count.result ≡ length (entries_in c.args.number parser.entries) = c.count_in-count.ensures ∙ ap (λ (es : List ParserEntry). length (entries_in c.args.number es)) c.as_slice.ensures in
-    let within = numbers_within c.args.number parser.entries in
-    record {
-      so_far = ap (λ n. record { parser = parser; at = n }) at;
-      good = good_same parser c.requires.keeps;
-      told =
-          let none : c.count_in-count.result - 0 ≡ c.count_in-count.result = omega arith in
-          ap (λ k. c.args.joins.now ++ some_joins c.args.program.now k (record { parser = parser; at = c.number_of_entry-at.result })) (none ∙ count)
-          ∙ ap (λ n. c.args.joins.now ++ some_joins c.args.program.now (length (entries_in c.args.number parser.entries)) (record { parser = parser; at = n })) at;
-      room = omega (arith, at, count, within);
-    }
+    let start : Clustering = record { parser = parser_in c.args.groups.now; joins = c.args.joins.now; behind = 0 } in
+    let count : c.count_rows-k-end.result - 0 ≡ length (entries_in c.args.number (parser_in c.args.groups.now).entries) = let e = c.count_rows-k-end.ensures in omega (arith, e) in
+    record { so_far = ap (λ k. some_entries c.args.program.now c.args.number k start) count; stand = c.requires.stand; within = omega arith }
 
 pub loop-k-preserved : goal.loop-k-preserved
 loop-k-preserved c =
-    let parser : ParserConfig = c.args.parser.now in
-    let start : Clustering = record { parser = parser; at = number_of_entry parser.entries c.args.number 0 } in
-    let within = c.in_ok-at.ensures.within in
-    let room = c.loop-k.invariant.room in
+    let now : Clustering = record { parser = parser_in c.loop-k.groups; joins = c.loop-k.joins; behind = c.loop-k.behind } in
+    let end = c.count_rows-k-end.result in
+    let k = c.loop-k._k in
+    let one : end - k ≡ suc (end - (k + 1)) = let lt = c.loop-k-test.true in omega (arith, lt) in
     record {
-      so_far = entries_more c.args.program.now c.loop-k._k start (record { parser = c.loop-k.parser; at = c.loop-k.at }) (record { parser = c.one_entry.new.parser; at = c.in_ok-at.at }) c.loop-k.invariant.so_far c.in_ok-at.ensures.step;
-      told =
-          entries_left c.args.program.now (c.count_in-count.result - c.loop-k._k) (c.count_in-count.result - (c.loop-k._k + 1)) (record { parser = c.loop-k.parser; at = c.loop-k.at })
-          (record { parser = c.one_entry.new.parser; at = c.in_ok-at.at }) c.loop-k.joins c.one_entry.new.joins (c.args.joins.now ++ header_joins c.args.program.now parser c.args.number)
-          (let one : c.count_in-count.result - c.loop-k._k ≡ c.count_in-count.result - (c.loop-k._k + 1) + 1 = omega (arith, c.loop-k-test.true) in one) c.in_ok-at.ensures.step c.in_ok-at.ensures.joins c.loop-k.invariant.told;
-      good = good_on parser c.loop-k.parser c.one_entry.new.parser c.loop-k.invariant.good c.in_ok-at.ensures.good;
-      room = omega (arith, within, room);
+      so_far =
+          ap (some_entries c.args.program.now c.args.number (end - (k + 1))) c.in_ok-behind.ensures.step
+          ∙ sym (ap (λ left. some_entries c.args.program.now c.args.number left now) one) ∙ c.loop-k.invariant.so_far;
+      stand = c.in_ok-behind.ensures.stand;
+      within = c.in_ok-behind.ensures.within;
     }
+
+pub overflow_cast-join : goal.overflow_cast-join
+overflow_cast-join c =
+    let within = c.loop-k.invariant.within in
+    let own = numbers_within c.args.number (parser_in c.loop-k.groups).entries in
+    let few = c.loop-k.invariant.stand.keeps.few in
+    omega (arith, within, own, few)

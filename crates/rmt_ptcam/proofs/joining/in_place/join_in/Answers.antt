@@ -29,4 +29,5 @@ returns-in_ok-put_in-in-Some c =
     c.in_ok-put_in-in-Some.ensures ∙ ap (λ (u : StateRows). put_in u c.from-at.result new) own ∙ ap (λ k. put_in is.s k new) c.from-at.ensures in
     record {
       made = ap Some (ap (λ k. slice_set g k c.put_in.new.state) c.from.ensures ∙ ap (slice_set g j.state) put) ∙ sym (made_in g c.requires.stand j new some);
+      kept = λ not. absurd cc;
     }

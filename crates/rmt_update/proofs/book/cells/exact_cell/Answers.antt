@@ -17,17 +17,17 @@ entry_words-requires-clause-layout c =
     let slot = c.args.slot.now in
     let f = c.requires.fits in
     let same : c.key_bits-bits.result ≡ bits_of_lanes slot.keys = c.key_bits-bits.ensures ∙ ap bits_of_lanes c.as_slice.ensures in
-    at-layout IsInSram c.exact_keys-layout.result (exact_keys c.args.width c.args.per c.args.quanta (bits_of_lanes slot.keys)) (c.exact_keys-layout.ensures ∙ ap (exact_keys c.args.width c.args.per c.args.quanta) same)
-    (keys-in c.args.width c.args.per c.args.quanta (bits_of_lanes slot.keys) f.some_k f.most_k f.some_p f.most_p f.some_d f.most_d f.most_bits f.fits)
+    at-layout IsInSram c.exact_keys-layout.result (exact_keys c.args.part.now.width c.args.part.now.per c.args.part.now.quanta (bits_of_lanes slot.keys)) (c.exact_keys-layout.ensures ∙ ap (exact_keys c.args.part.now.width c.args.part.now.per c.args.part.now.quanta) same)
+    (keys-in c.args.part.now.width c.args.part.now.per c.args.part.now.quanta (bits_of_lanes slot.keys) f.some_k f.most_k f.some_p f.most_p f.some_d f.most_d f.most_bits f.fits)
 
 pub entry_words-requires-clause-blocks : goal.entry_words-requires-clause-blocks
 entry_words-requires-clause-blocks c =
-    at-layout (λ l. length c.args.keys.now ≡ l.quanta * l.units * l.side) c.exact_keys-layout.result (exact_keys c.args.width c.args.per c.args.quanta c.key_bits-bits.result) c.exact_keys-layout.ensures
+    at-layout (λ l. length c.args.part.now.keys.now ≡ l.quanta * l.units * l.side) c.exact_keys-layout.result (exact_keys c.args.part.now.width c.args.part.now.per c.args.part.now.quanta c.key_bits-bits.result) c.exact_keys-layout.ensures
     (let h = c.requires.fits.keys in omega (arith, h))
 
 pub entry_words-requires-clause-cell : goal.entry_words-requires-clause-cell
 entry_words-requires-clause-cell c =
-    at-layout (λ l. c.args.number.cell < l.ways * l.quanta * l.way) c.exact_keys-layout.result (exact_keys c.args.width c.args.per c.args.quanta c.key_bits-bits.result) c.exact_keys-layout.ensures
+    at-layout (λ l. c.args.number.cell < l.ways * l.quanta * l.way) c.exact_keys-layout.result (exact_keys c.args.part.now.width c.args.part.now.per c.args.part.now.quanta c.key_bits-bits.result) c.exact_keys-layout.ensures
     (let h = c.requires.cell in omega (arith, h))
 
 pub invariant_of-result-clause-key_short : goal.invariant_of-result-clause-key_short
@@ -42,13 +42,13 @@ invariant_of-result-clause-held_short c = bytes-few c.args.slot.now.held _ c.in_
 pub returns : goal.returns
 returns c = λ w cs.
     let slot = c.args.slot.now in
-    let k = c.args.width in
-    let p = c.args.per in
-    let d = c.args.quanta in
+    let k = c.args.part.now.width in
+    let p = c.args.part.now.per in
+    let d = c.args.part.now.quanta in
     let n = c.args.number.cell in
     let bits = bits_of_lanes slot.keys in
     let sram = sram_row c.args.rows.now in
-    let keys = c.args.keys.now in
+    let keys = c.args.part.now.keys.now in
     let fits = c.requires.fits in
     let low = c.in_ok-entry.entry.low in
     let words = c.in_ok-entry.entry.words.items in
@@ -60,7 +60,7 @@ returns c = λ w cs.
     (subst (λ (l : Layout). Tells words low l.entry (entry_in l sram keys (quantum_of l n) (local_of l n))) layout c.in_ok-entry.ensures) in
     let head : c.bits_at-head.result ≡ value % 256 =
     c.bits_at-head.ensures ∙ ap (λ (ws : List ℕ). slice (joined 112 ws) low 8) c.as_slice-words.ensures.value ∙ tells-low words low (bits + 8) value (omega arith) told in
-    let held = data_at sram c.args.records.now p slot.held (cell_of (1024 * d) p n) in
+    let held = data_at sram c.args.part.now.records.now p slot.held (cell_of (1024 * d) p n) in
     record {
       cell = refl;
       number = refl;

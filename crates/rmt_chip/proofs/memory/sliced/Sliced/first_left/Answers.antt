@@ -17,17 +17,17 @@ returns-then-left-ne0 c =
     let few : t < 64 = lowest.0 in
     let high : (64 * at + t) / 64 ≡ at = omega (arith, few) in
     let low : (64 * at + t) % 64 ≡ t = omega (arith, few) in
-    let on : IsOn s vectors count at t = c.left-left.ensures.on t lowest.1 in (
+    let on : IsOn s c.args.sight vectors count at t = c.left-left.ensures.on t lowest.1 in (
       omega arith,
       omega (arith, few, c.loop-at-test.true),
-      subst (λ k. IsOn s vectors count k ((64 * at + t) % 64)) (sym high) (subst (IsOn s vectors count at) (sym low) on),
+      subst (λ k. IsOn s c.args.sight vectors count k ((64 * at + t) % 64)) (sym high) (subst (IsOn s c.args.sight vectors count at) (sym low) on),
       λ j le lt on.
           elim (cases_lt j (64 * at)) as (λ _. ⊥) [
             | inl less ↦ c.loop-at.invariant j less on
             | inr more ↦
                 let here : j / 64 ≡ at = omega (arith, lt, few, more) in
                 let early : j % 64 < t = omega (arith, lt, few, more) in
-                let one = c.left-left.ensures.all (j % 64) (subst (λ k. IsOn s vectors count k (j % 64)) here on) in
+                let one = c.left-left.ensures.all (j % 64) (subst (λ k. IsOn s c.args.sight vectors count k (j % 64)) here on) in
                 let none = lowest.2 (j % 64) early in
                 omega (arith, one, none)
           ],

@@ -5,6 +5,6 @@ use Rattle.rmt_chip.proofs.memory.sliced.Sliced.left.Given as goal
 
 abbrev pub invariant-loop-nibble : goal.invariant-loop-nibble
 invariant-loop-nibble l = record {
-  on : (j : ℕ) → bit_at l.left j ≡ 1 → IsOn l.self l.vectors l.nibble l.at j;
-  all : (j : ℕ) → IsOn l.self l.vectors l.nibble l.at j → bit_at l.left j ≡ 1;
+  on : (j : ℕ) → bit_at l.left j ≡ 1 → IsOn l.self l.sight l.vectors l.nibble l.at j;
+  all : (j : ℕ) → IsOn l.self l.sight l.vectors l.nibble l.at j → bit_at l.left j ≡ 1;
 }

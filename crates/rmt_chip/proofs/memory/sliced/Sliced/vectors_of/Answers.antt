@@ -11,6 +11,6 @@ returns-clause-within c = λ n lt.
     let small = nibble-lt c.args.key.now n in
     let starts = c.loop-at.invariant.each n (omega (arith, lt)) in
     let next : (16 * n + x + 1) * s.width ≡ (16 * n + x) * s.width + s.width = omega arith in
-    let most : (16 * n + x + 1) * s.width ≤ (160 * s.words + 1) * s.width =
-    mul-le (16 * n + x + 1) s.width (160 * s.words + 1) s.width (omega (arith, lt, small)) (omega arith) in
+    let most : (16 * n + x + 1) * s.width ≤ (160 * s.words + 3) * s.width =
+    mul-le (16 * n + x + 1) s.width (160 * s.words + 3) s.width (omega (arith, lt, small)) (omega arith) in
     omega (arith, starts, next, most, s.all)

@@ -1,0 +1,492 @@
+-- What fit changes make of well-formed entries: they stay well formed, and each entry is one that stood or has a new number.
+use Rattle.std.proofs.Common.{◌≡◌, ◌≢◌, ◌⊎◌, ℕ, zero, suc, ◌+◌, ◌-◌, ◌^◌, ◌<◌, ◌≤◌, ◌==◌, max, Bool, true, false, ◌&&◌, cond, List, [], ◌∷◌, ◌++◌, fold, length, map, Option, Some, None, All, Contains, refl, sym, ap, subst, ◌∙◌, inl, inr, arith}
+use Rattle.std.specs.Prelude.{AllPairs, option_map, slice_get, slice_set, unwrap_or}
+use Rattle.std.specs.List.{AllZip, flat_map, list_any}
+use Rattle.std.specs.Str.{bytes_eq}
+use Rattle.std.proofs.Math.Pow.{pow-lt}
+use Rattle.std.proofs.lemmas.Bool.{and_from, cases_eq, cases_lt, eq-eqb, eqb-true, false≢true, or_cases}
+use Rattle.std.proofs.lemmas.List.{length-append, length-map, length-set}
+use Rattle.std.proofs.lemmas.List.Elements.{All-append, All-cons, All-contains, All-contains_itself, All-head, All-nil, All-set, All-tail, All-weaker}
+use Rattle.std.proofs.lemmas.List.Kept.{AllPairs-cons}
+use Rattle.std.proofs.lemmas.List.Quantifiers.{all_pairs_push}
+use Rattle.std.proofs.lemmas.Option.{none-some, same_Some, slice_get-map}
+use Rattle.std.proofs.lemmas.Slice.Eq.{bytes_eq-Decides}
+use Rattle.rmt_bits.proofs.AllLaws.{All-flat_map, All-parts, All-unmap}
+use Rattle.rmt_bits.proofs.ListLaws.{slice_get-set_other}
+use Rattle.rmt_bits.proofs.MemberLaws.{Contains-first, Contains-item, Contains-later, Contains-map, Contains-split, Contains-unmap, flat_from, list_any-Contains}
+use Rattle.rmt_bits.proofs.PairLaws.{AllPairs-append, AllPairs-head, AllPairs-map, AllPairs-none, AllPairs-tail, AllPairs-weaker}
+use Rattle.rmt_ast.specs.declared.entry.Entry.{Entry}
+use Rattle.rmt_ast.specs.declared.program.Kind.TheVariants as kind
+use Rattle.rmt_ast.specs.Answers.{entry_numbers}
+use Rattle.rmt_ast.specs.Changes.{Adds, Change, EntryKey, Installed, Removes, are_same, changed, committed, is_keyed_by, list_of, next_number, without}
+use Rattle.rmt_ast.specs.EntryLists.{AreEntries, AreEntriesAt, AreTableEntries, HasKeysOnce, HasRank, IsEntry, IsPrefix, Terms, terms_at, terms_of}
+use Rattle.rmt_ast.specs.Events.{Arrives, Commits, Event, lists_from}
+use Rattle.rmt_ast.specs.WellFormed.{AreDistinct, HasKey, IsProgram}
+use Rattle.rmt_refine.specs.Types.{Kind, Node, Program, Table, Test}
+use Rattle.rmt_config.specs.Commits.{all_entries, is_numbered_in}
+use Rattle.rmt_refine.specs.Commits.{KeepEntries}
+use Rattle.rmt_refine.specs.Fit.{AreFit, AreFitChanges, CanBeAdded, CanBeMade, has_once, is_held, key_of_entry}
+use Rattle.rmt_refine.specs.Units.{applied, table_at}
+use Rattle.rmt_refine.proofs.EntryLaws.{all_numbers, listed_in, one_entry}
+use Rattle.rmt_refine.proofs.NumberLaws.{one_list}
+use Rattle.rmt_refine.proofs.PartLaws.{and_from as some_from, some_and, then_some}
+use Rattle.rmt_refine.proofs.TheLaw.{its_table, its_terms}
+
+-- ---- numbers that stand once
+
+-- numbers that stand once in each list, and in one list
+abbrev InOneList : List (List Entry) → Type 0
+InOneList lists =
+    (i j : ℕ) (a b : List Entry) (x : ℕ) → slice_get lists i ≡ Some a → slice_get lists j ≡ Some b → Contains (entry_numbers a) x → Contains (entry_numbers b) x → i ≡ j
+
+no_succ : (i : ℕ) → zero ≡ suc i → ⊥
+no_succ i e = omega (arith, e)
+
+distinct_from : (lists : List (List Entry)) → ((i : ℕ) (es : List Entry) → slice_get lists i ≡ Some es → AreDistinct (entry_numbers es)) → InOneList lists → AreDistinct (flat_map entry_numbers lists)
+distinct_from [] own one = AllPairs-none ◌≢◌
+distinct_from (es ∷ lists) own one =
+    AllPairs-append ◌≢◌ (entry_numbers es) (flat_map entry_numbers lists) (own 0 es refl)
+    (distinct_from lists (λ i fs at. own (suc i) fs at)
+    (λ i j a b x at_a at_b in_a in_b. let same = one (suc i) (suc j) a b x at_a at_b in_a in_b in omega (arith, same)))
+    (All-weaker (Contains (entry_numbers es)) (λ x. All (λ y. x ≢ y) (flat_map entry_numbers lists))
+    (λ x there. All-weaker (Contains (flat_map entry_numbers lists)) (λ y. x ≢ y)
+    (λ y later same.
+    let from = flat_from entry_numbers lists y later in
+    no_succ from.0 (one 0 (suc from.0) es from.1 x refl from.2 there (subst (Contains (entry_numbers from.1)) (sym same) from.3)))
+    (flat_map entry_numbers lists) (All-contains_itself (flat_map entry_numbers lists)))
+    (entry_numbers es) (All-contains_itself (entry_numbers es)))
+
+distinct_at : (n : ℕ) (es : List Entry) (o : Option Terms) → AreEntriesAt n es o → AreDistinct (entry_numbers es)
+distinct_at n es None are = subst (λ (xs : List Entry). AreDistinct (entry_numbers xs)) (sym are) (AllPairs-none ◌≢◌)
+distinct_at n es (Some t) are =
+    AllPairs-map ◌≢◌ (λ (e : Entry). e.number) es
+    (AllPairs-weaker (λ (a b : Entry). a.number < b.number) (λ (a b : Entry). a.number ≢ b.number) (λ a b lt same. omega (arith, lt, same)) es are.rising)
+
+-- what passes a test
+pub any_there : {X : Type 0} (test : X → Bool) (xs : List X) → list_any test xs ≡ true → (x : X) × Contains xs x × (test x ≡ true)
+any_there test [] e = absurd (false≢true e)
+any_there test (x ∷ xs) e = elim (or_cases (test x) (list_any test xs) e) [
+  | inl here ↦ (x, Contains-first x xs, here)
+  | inr later ↦ let r = any_there test xs later in (r.0, Contains-later x xs r.0 r.1, r.2)
+]
+
+-- ---- a list in place of another
+
+-- what is set stands in the place of something
+set_there : {X : Type 0} (xs : List X) (k : ℕ) (y z : X) → slice_get (slice_set xs k y) k ≡ Some z → (x : X) × (slice_get xs k ≡ Some x) × (y ≡ z)
+set_there [] k y z e = absurd (none-some z e)
+set_there (x ∷ xs) zero y z e = (x, refl, same_Some y z e)
+set_there (x ∷ xs) (suc k) y z e = set_there xs k y z e
+
+length_set : {X : Type 0} (xs : List X) (k : ℕ) (y : X) → length (slice_set xs k y) ≡ length xs
+length_set xs k y = length-set xs k y
+
+module _ (p : Program) (s : Installed) (entries : AreEntries p s.lists) (below : All (λ (e : Entry). e.number < s.next) (all_entries s.lists)) (i : ℕ) (new : List Entry) where
+  abbrev terms : List (Option Terms)
+  terms = map (λ (node : Node). terms_at p node.what) p.nodes
+
+  abbrev lists : List (List Entry)
+  lists = slice_set s.lists i new
+
+  -- an entry is one of these, or has the next number
+  abbrev IsOldOrNext : List Entry → Entry → Type 0
+  IsOldOrNext old e = Contains old e ⊎ (e.number ≡ s.next)
+
+  below_in : (n : ℕ) (es : List Entry) (e : Entry) → slice_get s.lists n ≡ Some es → Contains es e → e.number < s.next
+  below_in n es e at there = All-contains (λ (x : Entry). x.number < s.next) (all_entries s.lists) e below (listed_in s.lists n es e at there)
+
+  module _ (own : (old : List Entry) → slice_get s.lists i ≡ Some old → All (IsOldOrNext old) new) where
+    -- a number of a list is one that it had, or the next one
+    record IsOldNumber (j x : ℕ) : Type 0 where
+      list : List Entry
+      list_is : slice_get s.lists j ≡ Some list
+      there : Contains (entry_numbers list) x
+
+    old_number : (j x : ℕ) (b : List Entry) → slice_get lists j ≡ Some b → Contains (entry_numbers b) x → IsOldNumber j x ⊎ ((j ≡ i) × (x ≡ s.next))
+    old_number j x b at there = elim (cases_eq j i) [
+      | inl same ↦
+          let r = set_there s.lists i new b (ap (slice_get lists) (sym same) ∙ at) in
+          let e = Contains-unmap (λ (y : Entry). y.number) b x there in
+          elim (All-contains (IsOldOrNext r.0) new e.0 (own r.0 r.1) (subst (λ (ys : List Entry). Contains ys e.0) (sym r.2) e.1)) [
+            | inl stood ↦ inl (record { list = r.0; list_is = ap (slice_get s.lists) same ∙ r.1; there = subst (Contains (entry_numbers r.0)) e.2 (Contains-map (λ (y : Entry). y.number) r.0 e.0 stood) })
+            | inr next ↦ inr (same, sym e.2 ∙ next)
+          ]
+      | inr other ↦ inl (record { list = b; list_is = sym (slice_get-set_other s.lists i j new other) ∙ at; there = there })
+    ]
+
+    not_next : (j x : ℕ) → IsOldNumber j x → x ≡ s.next → ⊥
+    not_next j x o is =
+        let e = Contains-unmap (λ (y : Entry). y.number) o.list x o.there in
+        let lt = below_in j o.list e.0 o.list_is e.1 in
+        let same = e.2 in
+        omega (arith, lt, same, is)
+
+    in_one_list : InOneList lists
+    in_one_list j k a b x at_a at_b in_a in_b = elim (old_number j x a at_a in_a) [
+      | inl old_a ↦ elim (old_number k x b at_b in_b) [
+        | inl old_b ↦ one_list s.lists j k old_a.list old_b.list x entries.numbers_once old_a.list_is old_b.list_is old_a.there old_b.there
+        | inr next_b ↦ absurd (not_next j x old_a next_b.1)
+      ]
+      | inr next_a ↦ elim (old_number k x b at_b in_b) [
+        | inl old_b ↦ absurd (not_next k x old_b next_a.1)
+        | inr next_b ↦ next_a.0 ∙ sym next_b.0
+      ]
+    ]
+
+    module _ (good : (old : List Entry) (o : Option Terms) → slice_get terms i ≡ Some o → slice_get s.lists i ≡ Some old → AreEntriesAt i old o → AreEntriesAt i new o) where
+      each_good : (n : ℕ) (es : List Entry) → slice_get lists n ≡ Some es → (o : Option Terms) × (slice_get terms n ≡ Some o) × AreEntriesAt n es o
+      each_good n es at = elim (cases_eq n i) [
+        | inl same ↦
+            let r = set_there s.lists i new es (ap (slice_get lists) (sym same) ∙ at) in
+            let o = some_and (slice_get terms i) (AreEntriesAt i r.0) (entries.each i r.0 r.1) in
+            subst (λ m. (o : Option Terms) × (slice_get terms m ≡ Some o) × AreEntriesAt m es o) (sym same)
+            (subst (λ ys. (o : Option Terms) × (slice_get terms i ≡ Some o) × AreEntriesAt i ys o) r.2 (o.0, o.1, good r.0 o.0 o.1 r.1 o.2))
+        | inr other ↦ some_and (slice_get terms n) (AreEntriesAt n es) (entries.each n es (sym (slice_get-set_other s.lists i n new other) ∙ at))
+      ]
+
+      are_entries : AreEntries p lists
+      are_entries = record {
+        for_each_node = length_set s.lists i new ∙ entries.for_each_node;
+        each = λ n es at. let r = each_good n es at in some_from (slice_get terms n) (AreEntriesAt n es) r.0 r.1 r.2;
+        numbers_once = distinct_from lists (λ n es at. let r = each_good n es at in distinct_at n es r.0 r.2) in_one_list;
+      }
+
+  -- what holds of all entries and of those of the new list holds afterwards
+  all_set : (P : Entry → Type 0) → All P (all_entries s.lists) → All P new → All P (all_entries lists)
+  all_set P all own = All-flat_map P (λ (xs : List Entry). xs) lists (All-set (All P) s.lists i new own (All-parts P (λ (xs : List Entry). xs) s.lists all))
+
+-- ---- one change
+
+-- entries that follow on others
+pub record FollowOn (p : Program) (before after : Installed) : Type 0 where
+  pub next : before.next ≤ after.next
+  pub each : All (λ (e : Entry). Contains (all_entries before.lists) e ⊎ (before.next ≤ e.number)) (all_entries after.lists)
+  pub below : All (λ (e : Entry). e.number < after.next) (all_entries after.lists)
+  pub entries : AreEntries p after.lists
+
+list_is : (all : List (List Entry)) (n : ℕ) (es : List Entry) → slice_get all n ≡ Some es → list_of all n ≡ es
+list_is all n es at = ap (λ o. unwrap_or o []) at
+
+terms_there : (p : Program) (n : ℕ) (t : Table) → table_at p n ≡ Some t → slice_get (map (λ (node : Node). terms_at p node.what) p.nodes) n ≡ Some (Some (terms_of p t))
+terms_there p n t at =
+    let node = then_some (λ (x : Node). applied p x.what) (slice_get p.nodes n) t at in
+    slice_get-map (λ (x : Node). terms_at p x.what) p.nodes n
+    ∙ ap (option_map (λ (x : Node). terms_at p x.what)) node.1 ∙ ap Some (its_terms p node.0.what t node.2)
+
+-- ---- an entry is added
+
+abbrev numbered : Entry → ℕ → Entry
+numbered e n = record e { number = n }
+
+same_rank : (k : Kind) (ws : List ℕ) (e : Entry) (n : ℕ) → HasRank k ws e → HasRank k ws (numbered e n)
+same_rank kind.Keyless ws e n h = h
+same_rank kind.Exact ws e n h = h
+same_rank kind.Prefix ws e n h = h
+same_rank kind.Ternary ws e n h = h
+
+-- prefixes of one mask have one length
+one_length : (w a b : ℕ) → a ≤ w → b ≤ w → 2 ^ w - 2 ^ (w - a) ≡ 2 ^ w - 2 ^ (w - b) → a < b → ⊥
+one_length w a b la lb e lt =
+    let less : 2 ^ (w - b) < 2 ^ (w - a) = pow-lt (omega (arith, lt, la, lb)) in
+    let top : 2 ^ (w - a) ≤ 2 ^ w = elim (cases_eq a 0) [
+      | inl none ↦ (let same : w - a ≡ w = omega (arith, none) in subst (λ m. 2 ^ m ≤ 2 ^ w) (sym same) (omega arith))
+      | inr some ↦ (let less : 2 ^ (w - a) < 2 ^ w = pow-lt (omega (arith, some, la)) in omega (arith, less))
+    ] in
+    powers (2 ^ w) (2 ^ (w - a)) (2 ^ (w - b)) less top e
+  where
+    powers : (x y z : ℕ) → z < y → y ≤ x → x - y ≡ x - z → ⊥
+    powers x y z lt le same = omega (arith, lt, le, same)
+
+one_rank : (ws : List ℕ) (ts : List Test) (a b : ℕ) → 1 ≤ length ws → AllZip (IsPrefix a) ws ts → AllZip (IsPrefix b) ws ts → a ≡ b
+one_rank [] ts a b some ha hb = absurd (omega (arith, some))
+one_rank (w ∷ ws) [] a b some ha hb = absurd ha
+one_rank (w ∷ ws) (t ∷ ts) a b some ha hb = elim (cases_lt a b) [
+  | inl lt ↦ absurd (one_length w a b ha.0.0 hb.0.0 (sym ha.0.1 ∙ hb.0.1) lt)
+  | inr ge ↦ elim (cases_eq a b) [
+    | inl same ↦ same
+    | inr other ↦ absurd (one_length w b a hb.0.0 ha.0.0 (sym hb.0.1 ∙ ha.0.1) (omega (arith, ge, other)))
+  ]
+]
+
+-- entries with the same tests have the same key
+ranks_agree : (k : Kind) (ws : List ℕ) (e o : Entry) → has_once k ≡ true → (k ≡ kind.Prefix → 1 ≤ length ws) → HasRank k ws e → HasRank k ws o → e.tests ≡ o.tests → e.rank ≡ o.rank
+ranks_agree kind.Keyless ws e o once some he ho same = absurd (false≢true once)
+ranks_agree kind.Exact ws e o once some he ho same = he.1 ∙ sym ho.1
+ranks_agree kind.Prefix ws e o once some he ho same = one_rank ws e.tests e.rank o.rank (some refl) he (subst (AllZip (IsPrefix o.rank) ws) (sym same) ho)
+ranks_agree kind.Ternary ws e o once some he ho same = absurd (false≢true once)
+
+keyed : (e o : Entry) → e.tests ≡ o.tests → e.rank ≡ o.rank → is_keyed_by (key_of_entry e) o ≡ true
+keyed e o tests ranks =
+    and_from (are_same e.tests o.tests) (e.rank == o.rank)
+    (and_from (bytes_eq (map (λ (t : Test). t.value) e.tests) (map (λ (t : Test). t.value) o.tests)) (bytes_eq (map (λ (t : Test). t.mask) e.tests) (map (λ (t : Test). t.mask) o.tests))
+    ((bytes_eq-Decides (map (λ (t : Test). t.value) e.tests) (map (λ (t : Test). t.value) o.tests)).1 (ap (map (λ (t : Test). t.value)) tests))
+    ((bytes_eq-Decides (map (λ (t : Test). t.mask) e.tests) (map (λ (t : Test). t.mask) o.tests)).1 (ap (map (λ (t : Test). t.mask)) tests)))
+    (eq-eqb e.rank o.rank ranks)
+
+other_tests : (n : ℕ) (t : Terms) (es : List Entry) (e : Entry) → has_once t.kind ≡ true → (t.kind ≡ kind.Prefix → 1 ≤ length t.widths) → All (IsEntry n t) es → IsEntry n t e
+    → (has_once t.kind && is_held (key_of_entry e) es) ≡ false → All (λ (o : Entry). o.tests ≢ e.tests) es
+other_tests n t es e once some each is new =
+    All-weaker (Contains es) (λ (o : Entry). o.tests ≢ e.tests)
+    (λ o there same.
+    let own = All-contains (IsEntry n t) es o each there in
+    let held = list_any-Contains (is_keyed_by (key_of_entry e)) es o there (keyed e o (sym same) (ranks_agree t.kind t.widths e o once some is.rank own.rank (sym same))) in
+    false≢true (sym new ∙ and_from (has_once t.kind) (is_held (key_of_entry e) es) once held))
+    es (All-contains_itself es)
+
+keys_pushed : (k : Kind) (es : List Entry) (e : Entry) → HasKeysOnce k es → (has_once k ≡ true → All (λ (o : Entry). o.tests ≢ e.tests) es) → HasKeysOnce k (es ++ e ∷ [])
+keys_pushed kind.Keyless es e once other = tt
+keys_pushed kind.Exact es e once other = all_pairs_push (λ (a b : Entry). a.tests ≢ b.tests) es e once (other refl)
+keys_pushed kind.Prefix es e once other = all_pairs_push (λ (a b : Entry). a.tests ≢ b.tests) es e once (other refl)
+keys_pushed kind.Ternary es e once other = tt
+
+prefix_width : (p : Program) (k : Kind) (t : Table) → HasKey p k t → k ≡ kind.Prefix → 1 ≤ length t.key
+prefix_width p kind.Keyless t has e = absurd (false≢true (ap has_once e))
+prefix_width p kind.Exact t has e = has.has_key
+prefix_width p kind.Prefix t has e = has.0.has_key
+prefix_width p kind.Ternary t has e = has.has_key
+
+table_added : (n : ℕ) (t : Terms) (es : List Entry) (e : Entry) (next : ℕ) → (t.kind ≡ kind.Prefix → 1 ≤ length t.widths) → AreTableEntries n es t → IsEntry n t e
+    → (has_once t.kind && is_held (key_of_entry e) es) ≡ false → length es < t.size → All (λ (o : Entry). o.number < next) es → AreTableEntries n (es ++ numbered e next ∷ []) t
+table_added n t es e next some are is new room below = record {
+  each = All-append (IsEntry n t) es (numbered e next ∷ []) are.each
+      (All-cons (IsEntry n t) (numbered e next) [] (record { table = is.table; tests = is.tests; rank = same_rank t.kind t.widths e next is.rank; action = is.action }) (All-nil (IsEntry n t)));
+  rising = all_pairs_push (λ (a b : Entry). a.number < b.number) es (numbered e next) are.rising below;
+  keys_once = keys_pushed t.kind es (numbered e next) are.keys_once (λ once. other_tests n t es e once some are.each is new);
+  within_size = let long = length-append es (numbered e next ∷ []) in omega (arith, room, long);
+}
+
+-- ---- an entry is removed
+
+module _ (P : Entry → Type 0) where
+  all_without : (key : EntryKey) (es : List Entry) → All P es → All P (without key es)
+  all_without key [] all = all
+  all_without key (e ∷ es) all = by (is_keyed_by key e) (all_without key es (All-tail P e es all))
+    where
+      by : (b : Bool) → All P (without key es) → All P (cond b es (e ∷ without key es))
+      by true rest = All-tail P e es all
+      by false rest = All-cons P e (without key es) (All-head P e es all) rest
+
+pairs_without : (R : Entry → Entry → Type 0) (key : EntryKey) (es : List Entry) → AllPairs R es → AllPairs R (without key es)
+pairs_without R key [] all = all
+pairs_without R key (e ∷ es) all = by (is_keyed_by key e) (pairs_without R key es (AllPairs-tail R e es all))
+  where
+    by : (b : Bool) → AllPairs R (without key es) → AllPairs R (cond b es (e ∷ without key es))
+    by true rest = AllPairs-tail R e es all
+    by false rest = AllPairs-cons R e (without key es) (all_without (R e) key es (AllPairs-head R e es all)) rest
+
+fewer : (key : EntryKey) (es : List Entry) → length (without key es) ≤ length es
+fewer key [] = omega arith
+fewer key (e ∷ es) = by (is_keyed_by key e) (fewer key es)
+  where
+    by : (b : Bool) → length (without key es) ≤ length es → length (cond b es (e ∷ without key es)) ≤ length (e ∷ es)
+    by true le = omega arith
+    by false le = omega (arith, le)
+
+keys_without : (k : Kind) (key : EntryKey) (es : List Entry) → HasKeysOnce k es → HasKeysOnce k (without key es)
+keys_without kind.Keyless key es once = tt
+keys_without kind.Exact key es once = pairs_without (λ (a b : Entry). a.tests ≢ b.tests) key es once
+keys_without kind.Prefix key es once = pairs_without (λ (a b : Entry). a.tests ≢ b.tests) key es once
+keys_without kind.Ternary key es once = tt
+
+entries_without : (n : ℕ) (key : EntryKey) (es : List Entry) (o : Option Terms) → AreEntriesAt n es o → AreEntriesAt n (without key es) o
+entries_without n key es None are = ap (without key) are
+entries_without n key es (Some t) are = record {
+  each = all_without (IsEntry n t) key es are.each;
+  rising = pairs_without (λ (a b : Entry). a.number < b.number) key es are.rising;
+  keys_once = keys_without t.kind key es are.keys_once;
+  within_size = let le = fewer key es in let size = are.within_size in omega (arith, le, size);
+}
+
+-- ---- a change that can be made
+
+module _ (p : Program) (program : IsProgram p) where
+  abbrev AllBelow : Installed → Type 0
+  AllBelow s = All (λ (e : Entry). e.number < s.next) (all_entries s.lists)
+
+  abbrev StaysOrIsNew : Installed → Entry → Type 0
+  StaysOrIsNew s e = Contains (all_entries s.lists) e ⊎ (s.next ≤ e.number)
+
+  in_list : (s : Installed) (P : Entry → Type 0) (n : ℕ) → All P (all_entries s.lists) → All P (list_of s.lists n)
+  in_list s P n all = by (slice_get s.lists n) refl
+    where
+      by : (o : Option (List Entry)) → slice_get s.lists n ≡ o → All P (unwrap_or o [])
+      by None at = All-nil P
+      by (Some es) at = All-contains (All P) s.lists es (All-parts P (λ (xs : List Entry). xs) s.lists all) (Contains-item s.lists n es at)
+
+  all_stand : (s : Installed) → All (StaysOrIsNew s) (all_entries s.lists)
+  all_stand s = All-weaker (Contains (all_entries s.lists)) (StaysOrIsNew s) (λ e there. inl there) (all_entries s.lists) (All-contains_itself (all_entries s.lists))
+
+  change_follows : (s : Installed) (change : Change) → AreEntries p s.lists → AllBelow s → CanBeMade p s change → FollowOn p s (changed s change)
+  change_follows s (Adds e) entries below can =
+      let t = some_and (table_at p e.table) (λ (x : Table). CanBeAdded (terms_of p x) (list_of s.lists e.table) e) can in
+      let node = then_some (λ (x : Node). applied p x.what) (slice_get p.nodes e.table) t.0 t.1 in
+      let table = its_table p node.0.what t.0 node.2 program.tables in
+      let long : length (terms_of p t.0).widths ≡ length t.0.key = length-map t.0.key _ in
+      let some : t.0.kind ≡ kind.Prefix → 1 ≤ length (terms_of p t.0).widths =
+      λ is. (let key = prefix_width p t.0.kind t.0 table.key is in omega (arith, key, long)) in
+      let es = list_of s.lists e.table in
+      let own = numbered e s.next in
+      let new = es ++ own ∷ [] in
+      let IsOld : List Entry → Entry → Type 0 = λ old x. Contains old x ⊎ (x.number ≡ s.next) in
+      record {
+        next = omega arith;
+        each = all_set p s entries below e.table new (StaysOrIsNew s) (all_stand s)
+            (All-append (StaysOrIsNew s) es (own ∷ []) (in_list s (StaysOrIsNew s) e.table (all_stand s)) (All-cons (StaysOrIsNew s) own [] (inr (omega arith)) (All-nil (StaysOrIsNew s))));
+        below = all_set p s entries below e.table new (λ (x : Entry). x.number < s.next + 1) (All-weaker (λ (x : Entry). x.number < s.next) (λ (x : Entry). x.number < s.next + 1) (λ x lt. omega (arith, lt)) (all_entries s.lists) below)
+            (All-append (λ (x : Entry). x.number < s.next + 1) es (own ∷ [])
+            (All-weaker (λ (x : Entry). x.number < s.next) (λ (x : Entry). x.number < s.next + 1) (λ x lt. omega (arith, lt)) es (in_list s (λ (x : Entry). x.number < s.next) e.table below))
+            (All-cons (λ (x : Entry). x.number < s.next + 1) own [] (omega arith) (All-nil (λ (x : Entry). x.number < s.next + 1))));
+        entries = are_entries p s entries below e.table new
+            (λ old at. subst (λ xs. All (IsOld old) (xs ++ own ∷ [])) (sym (list_is s.lists e.table old at))
+            (All-append (IsOld old) old (own ∷ []) (All-weaker (Contains old) (IsOld old) (λ x there. inl there) old (All-contains_itself old)) (All-cons (IsOld old) own [] (inr refl) (All-nil (IsOld old)))))
+            (λ old o terms at are.
+            let same : old ≡ es = sym (list_is s.lists e.table old at) in
+            let is : o ≡ Some (terms_of p t.0) = same_Some o (Some (terms_of p t.0)) (sym terms ∙ terms_there p e.table t.0 t.1) in
+            subst (AreEntriesAt e.table new) (sym is)
+            (table_added e.table (terms_of p t.0) es e s.next some (subst (λ xs. AreEntriesAt e.table xs (Some (terms_of p t.0))) same (subst (AreEntriesAt e.table old) is are)) t.2.is_entry t.2.is_new t.2.has_room
+            (in_list s (λ (x : Entry). x.number < s.next) e.table below)));
+      }
+  change_follows s (Removes node key) entries below can =
+      let new = without key (list_of s.lists node) in
+      let IsOld : List Entry → Entry → Type 0 = λ old x. Contains old x ⊎ (x.number ≡ s.next) in
+      record {
+        next = omega arith;
+        each = all_set p s entries below node new (StaysOrIsNew s) (all_stand s) (all_without (StaysOrIsNew s) key (list_of s.lists node) (in_list s (StaysOrIsNew s) node (all_stand s)));
+        below = all_set p s entries below node new (λ (x : Entry). x.number < s.next) below (all_without (λ (x : Entry). x.number < s.next) key (list_of s.lists node) (in_list s (λ (x : Entry). x.number < s.next) node below));
+        entries = are_entries p s entries below node new
+            (λ old at. subst (λ xs. All (IsOld old) (without key xs)) (sym (list_is s.lists node old at))
+            (all_without (IsOld old) key old (All-weaker (Contains old) (IsOld old) (λ x there. inl there) old (All-contains_itself old))))
+            (λ old o terms at are. subst (λ xs. AreEntriesAt node (without key xs) o) (sym (list_is s.lists node old at)) (entries_without node key old o are));
+      }
+
+  follow_itself : (s : Installed) → AreEntries p s.lists → AllBelow s → FollowOn p s s
+  follow_itself s entries below = record { next = omega arith; each = all_stand s; below = below; entries = entries }
+
+  follow_on : (a b d : Installed) → FollowOn p a b → FollowOn p b d → FollowOn p a d
+  follow_on a b d ab bd =
+      let le = ab.next in
+      let more = bd.next in
+      record {
+        next = omega (arith, le, more);
+        each = All-weaker (λ (e : Entry). Contains (all_entries b.lists) e ⊎ (b.next ≤ e.number)) (StaysOrIsNew a)
+            (λ e h. elim h [
+              | inl there ↦ All-contains (StaysOrIsNew a) (all_entries b.lists) e ab.each there
+              | inr new ↦ inr (omega (arith, le, new))
+            ])
+            (all_entries d.lists) bd.each;
+        below = bd.below;
+        entries = bd.entries;
+      }
+
+  -- what a commit of fit changes leaves
+  pub commit_follows : (s : Installed) (changes : List Change) → AreEntries p s.lists → AllBelow s → AreFitChanges p s changes → FollowOn p s (committed s changes)
+  commit_follows s [] entries below fit = follow_itself s entries below
+  commit_follows s (change ∷ changes) entries below fit =
+      let one = change_follows s change entries below fit.0 in
+      follow_on s (changed s change) (committed (changed s change) changes) one (commit_follows (changed s change) changes one.entries one.below fit.1)
+
+  -- entries of one number are one, where some follow on others
+  pub one_of_both : (s : Installed) (e f : Entry) → AreEntries p s.lists → AllBelow s → Contains (all_entries s.lists) e → StaysOrIsNew s f → e.number ≡ f.number → e ≡ f
+  one_of_both s e f entries below there (inl too) same = one_entry p s.lists e f entries there too same
+  one_of_both s e f entries below there (inr new) same = absurd (let lt = All-contains (λ (x : Entry). x.number < s.next) (all_entries s.lists) e below there in omega (arith, lt, new, same))
+
+  pub keep_entries : (s : Installed) (changes : List Change) → AreEntries p s.lists → AllBelow s → AreFitChanges p s changes → KeepEntries s.lists (committed s changes).lists
+  keep_entries s changes entries below fit =
+      All-weaker (StaysOrIsNew s) (λ e. is_numbered_in (all_entries s.lists) e ≡ true → Contains (all_entries s.lists) e)
+      (λ e h stood. elim h [
+        | inl there ↦ there
+        | inr new ↦
+            let o = any_there (λ (x : Entry). x.number == e.number) (all_entries s.lists) stood in
+            absurd (let lt = All-contains (λ (x : Entry). x.number < s.next) (all_entries s.lists) o.0 below o.1 in let same = eqb-true o.0.number e.number o.2 in omega (arith, lt, new, same))
+      ])
+      (all_entries (committed s changes).lists) (commit_follows s changes entries below fit).each
+
+  -- ---- all entries of a run
+
+  -- entries of a later time stood before, or are new
+  later_entries : (s : Installed) (events : List Event) → AreEntries p s.lists → AllBelow s → AreFit p s events
+      → (ls : List (List Entry)) → Contains (lists_from s events) ls → All (StaysOrIsNew s) (all_entries ls)
+  later_entries s [] entries below fit ls there = elim (Contains-split s.lists [] ls there) [
+    | inl same ↦ subst (λ (xs : List (List Entry)). All (StaysOrIsNew s) (all_entries xs)) same (all_stand s)
+    | inr later ↦ absurd (let lt = later.1 in omega (arith, lt))
+  ]
+  later_entries s ((Arrives packet) ∷ events) entries below fit ls there = later_entries s events entries below fit.1 ls there
+  later_entries s ((Commits changes) ∷ events) entries below fit ls there =
+      let one = commit_follows s changes entries below fit.0 in
+      let le = one.next in
+      let next = committed s changes in
+      elim (Contains-split s.lists (lists_from next events) ls there) [
+        | inl same ↦ subst (λ (xs : List (List Entry)). All (StaysOrIsNew s) (all_entries xs)) same (all_stand s)
+        | inr later ↦
+            All-weaker (StaysOrIsNew next) (StaysOrIsNew s)
+            (λ e h. elim h [
+              | inl stands ↦ All-contains (StaysOrIsNew s) (all_entries next.lists) e one.each stands
+              | inr new ↦ inr (omega (arith, le, new))
+            ])
+            (all_entries ls) (later_entries next events one.entries one.below fit.1 ls later)
+      ]
+
+  -- the entries at each time are well formed
+  pub entries_ever : (s : Installed) (events : List Event) → AreEntries p s.lists → AllBelow s → AreFit p s events → (ls : List (List Entry)) → Contains (lists_from s events) ls → AreEntries p ls
+  entries_ever s [] entries below fit ls there = elim (Contains-split s.lists [] ls there) [
+    | inl same ↦ subst (AreEntries p) same entries
+    | inr later ↦ absurd (let lt = later.1 in omega (arith, lt))
+  ]
+  entries_ever s ((Arrives packet) ∷ events) entries below fit ls there = entries_ever s events entries below fit.1 ls there
+  entries_ever s ((Commits changes) ∷ events) entries below fit ls there =
+      let one = commit_follows s changes entries below fit.0 in
+      elim (Contains-split s.lists (lists_from (committed s changes) events) ls there) [
+        | inl same ↦ subst (AreEntries p) same entries
+        | inr later ↦ entries_ever (committed s changes) events one.entries one.below fit.1 ls later
+      ]
+
+  -- entries of one number are one, whenever they stand
+  pub one_ever : (s : Installed) (events : List Event) → AreEntries p s.lists → AllBelow s → AreFit p s events
+      → (ls ms : List (List Entry)) → Contains (lists_from s events) ls → Contains (lists_from s events) ms → (e f : Entry) → Contains (all_entries ls) e → Contains (all_entries ms) f → e.number ≡ f.number → e ≡ f
+  one_ever s [] entries below fit ls ms in_ls in_ms e f there too same =
+      one_entry p s.lists e f entries (only ls e in_ls there) (only ms f in_ms too) same
+    where
+      only : (xs : List (List Entry)) (x : Entry) → Contains (s.lists ∷ []) xs → Contains (all_entries xs) x → Contains (all_entries s.lists) x
+      only xs x at own = elim (Contains-split s.lists [] xs at) [
+        | inl is ↦ subst (λ (ys : List (List Entry)). Contains (all_entries ys) x) (sym is) own
+        | inr later ↦ absurd (let lt = later.1 in omega (arith, lt))
+      ]
+  one_ever s ((Arrives packet) ∷ events) entries below fit ls ms in_ls in_ms e f there too same = one_ever s events entries below fit.1 ls ms in_ls in_ms e f there too same
+  one_ever s ((Commits changes) ∷ events) entries below fit ls ms in_ls in_ms e f there too same =
+      let one = commit_follows s changes entries below fit.0 in
+      let next = committed s changes in
+      elim (Contains-split s.lists (lists_from next events) ls in_ls) [
+        | inl is ↦
+            one_of_both s e f entries below (subst (λ (ys : List (List Entry)). Contains (all_entries ys) e) (sym is) there)
+            (All-contains (StaysOrIsNew s) (all_entries ms) f (later_entries s ((Commits changes) ∷ events) entries below fit ms in_ms) too) same
+        | inr later ↦ elim (Contains-split s.lists (lists_from next events) ms in_ms) [
+          | inl is ↦
+              sym (one_of_both s f e entries below (subst (λ (ys : List (List Entry)). Contains (all_entries ys) f) (sym is) too)
+              (All-contains (StaysOrIsNew s) (all_entries ls) e (later_entries s ((Commits changes) ∷ events) entries below fit ls in_ls) there) (sym same))
+          | inr last ↦ one_ever next events one.entries one.below fit.1 ls ms later last e f there too same
+        ]
+      ]
+
+-- the entries of a time are among those from then on
+pub stand_first : (s : Installed) (events : List Event) → Contains (lists_from s events) s.lists
+stand_first s [] = Contains-first s.lists []
+stand_first s ((Arrives packet) ∷ events) = stand_first s events
+stand_first s ((Commits changes) ∷ events) = Contains-first s.lists (lists_from (committed s changes) events)
+
+-- ---- before the first change
+
+fold_max : (ns : List ℕ) (a : ℕ) → (a ≤ fold (λ next n. max next (n + 1)) a ns) × All (λ n. n < fold (λ next n. max next (n + 1)) a ns) ns
+fold_max [] a = (omega arith, All-nil (λ n. n < a))
+fold_max (n ∷ ns) a =
+    let rest = fold_max ns (max a (n + 1)) in
+    let most = fold (λ next m. max next (m + 1)) (max a (n + 1)) ns in
+    let le : max a (n + 1) ≤ most = rest.0 in (
+      omega (arith, le),
+      All-cons (λ m. m < most) n ns (omega (arith, le)) rest.1,
+    )
+
+-- the first next number is above those of all entries
+pub first_below : (lists : List (List Entry)) → All (λ (e : Entry). e.number < next_number lists) (all_entries lists)
+first_below lists =
+    All-unmap (λ n. n < next_number lists) (λ (e : Entry). e.number) (all_entries lists)
+    (subst (All (λ n. n < next_number lists)) (all_numbers lists) (fold_max (flat_map entry_numbers lists) 0).1)

@@ -1,0 +1,11 @@
+mod CallLaws
+mod CaptureLaws
+mod ChipClocked
+mod ChipFits
+mod DistinctLaws
+mod EmptyLaws
+mod Examples
+mod GroupLaws
+mod PortLaws
+mod RoundLaws
+mod RunLaws

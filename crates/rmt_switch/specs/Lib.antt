@@ -1,0 +1,10 @@
+pub mod Clocked
+pub mod Copies
+pub mod Fault
+pub mod GroupText
+pub mod Laws
+pub mod LinesSoFar
+pub mod Ports
+pub mod Printed
+pub mod Running
+pub mod Switch

@@ -1,0 +1,39 @@
+//! Why a group text is refused.
+
+ghost use Rattle.std.specs.Prelude.{◌≡◌};
+ghost use Rattle.rmt_switch.specs.declared.fault.GroupFault.TheVariants.{NoMemory};
+
+use std::alloc::{AllocError, AllocFailed};
+use thiserror::Error;
+
+/// Why a group text is refused.
+#[derive(Clone, Copy, Debug, Drop, PartialEq, Eq, Error)]
+pub enum GroupFault {
+    /// There is not enough memory.
+    #[error("out of memory")]
+    NoMemory,
+    /// A line is bad.
+    #[error("line {line} of the groups has a fault of code {code}")]
+    At {
+        /// 8: the line is no group, or an earlier line has its group.
+        code: u8,
+        /// The number of the line, from 1.
+        line: u32,
+    },
+}
+
+impl From<AllocError> for GroupFault {
+    ghost from_gives = { λ _ e. e ≡ NoMemory };
+
+    fn from(_error: AllocError) -> GroupFault {
+        GroupFault::NoMemory
+    }
+}
+
+impl<T: Drop> From<AllocFailed<T>> for GroupFault {
+    ghost from_gives = { λ _ e. e ≡ NoMemory };
+
+    fn from(_error: AllocFailed<T>) -> GroupFault {
+        GroupFault::NoMemory
+    }
+}

@@ -1,0 +1,122 @@
+-- The cells of a part in a book are those in which a run begins.
+use Rattle.std.proofs.Common.{◌≡◌, ℕ, ◌<◌, ◌||◌, List, [], ◌∷◌, map, Bool, true, false, not, cond, eqb, Option, Some, None, option_map, unwrap_or, refl, sym, ap, ◌∙◌, subst, arith}
+use Rattle.std.specs.Prelude.{All, IsTrue, find, option_and_then, slice_get}
+use Rattle.std.specs.List.{AllZip, list_any}
+use Rattle.std.specs.BTreeMap.{get, is_at}
+use Rattle.std.specs.Map.{keys_of, lookup}
+use Rattle.std.specs.Ordering.{is_eq, nat_cmp}
+use Rattle.std.proofs.lemmas.Bool.{and_parts, eqb-true}
+use Rattle.std.proofs.lemmas.List.Elements.{All-cons, All-head, All-nil, All-tail}
+use Rattle.rmt_bits.proofs.AllLaws.{All-from_test}
+use Rattle.rmt_bits.proofs.OptionLaws.{eqb-sym}
+use Rattle.rmt_ast.specs.declared.names.TableName.{TableName}
+use Rattle.rmt_config.specs.declared.config.CellNumber.{CellNumber}
+use Rattle.rmt_config.specs.declared.config.Config.{Config}
+use Rattle.rmt_config.specs.declared.config.Memory.{Memory}
+use Rattle.rmt_config.specs.declared.config.SlotUnit.{SlotUnit}
+use Rattle.rmt_config.specs.declared.config.Stage.{Stage}
+use Rattle.rmt_config.specs.declared.config.Unit.{Unit}
+use Rattle.rmt_config.specs.declared.config.Memory.TheVariants.{Without, Exact, Ternary}
+use Rattle.rmt_config.specs.Cells.{Content, cells_in, content_of, is_occupied, number_of_cell}
+use Rattle.rmt_config.specs.CellForm.{is_clear}
+use Rattle.rmt_config.specs.Form.{visible_with}
+use Rattle.rmt_config.specs.LaneForm.{bits_of_lanes}
+use Rattle.rmt_config.specs.NamesForm.{held_by, stands_in_candidates}
+use Rattle.rmt_config.specs.PartStands.{PartStands}
+use Rattle.rmt_config.specs.Rooms.{PartAt}
+use Rattle.rmt_config.specs.RunCells.{as_slot, own_cells, own_content, slot_at}
+use Rattle.rmt_config.proofs.PrefixRowLaws.{cells-within}
+use Rattle.rmt_config.proofs.SpelledParts.{held-is}
+use Rattle.rmt_update.specs.declared.book.kept.Kept.{Kept}
+use Rattle.rmt_update.specs.declared.book.table.PartCells.{PartCells}
+use Rattle.rmt_update.specs.BookStands.{HoldsPart, IsKeptOf, is_candidate}
+use Rattle.rmt_update.specs.Kept.{IsKept}
+use Rattle.rmt_update.specs.Listed.{IsListed, IsRanked}
+use Rattle.rmt_update.proofs.RankLaws.{same-number}
+use Rattle.rmt_update.proofs.ToldEntryLaws.{IsHead, head-occupied, listed-heads}
+
+-- a cell without a bit is not occupied
+pub clear-head : (m : Memory) (n : ℕ) (x : Content) → n < cells_in m → IsTrue (is_clear m x) → x.head ≡ 0
+clear-head Without n x lt h = absurd (omega (arith, lt))
+clear-head (Exact k p d w ks rs cs) n x lt h = eqb-true x.head 0 (and_parts _ _ (and_parts _ _ h).0).0
+clear-head (Ternary d ks rs cs) n x lt h = eqb-true x.head 0 (and_parts _ _ (and_parts _ _ (and_parts _ _ h).0).0).0
+
+-- the slot of a part
+pub part-slot : (c : Config) (p : PartAt) → PartStands c p → slot_at c p.stage p.place ≡ Some p.slot
+part-slot c p st =
+    ap (λ (o : Option Stage). option_and_then (λ (stage : Stage). option_and_then as_slot (slice_get stage.units p.place)) o) st.in_stages
+    ∙ ap (λ (o : Option Unit). option_and_then as_slot o) st.in_units
+
+module _ (c : Config) (t : TableName) (p : PartAt) (st : PartStands c p) (fit : stands_in_candidates c p ≡ true) where
+  keys-within : (ns : List CellNumber) (es : List (ℕ × Kept)) → AllZip (IsRanked c t p) ns es → All (λ (n : CellNumber). n.cell < cells_in p.slot.memory) ns
+      → All (λ n. n < cells_in p.slot.memory) (keys_of es)
+  keys-within [] [] zip all = All-nil (λ n. n < cells_in p.slot.memory)
+  keys-within [] (e ∷ es) zip all = absurd zip
+  keys-within (n ∷ ns) [] zip all = absurd zip
+  keys-within (n ∷ ns) (e ∷ es) zip all =
+      All-cons (λ n. n < cells_in p.slot.memory) e.0 (keys_of es)
+      (subst (λ m. m < cells_in p.slot.memory) (sym zip.0.at) (All-head (λ (n : CellNumber). n.cell < cells_in p.slot.memory) n ns all))
+      (keys-within ns es zip.1 (All-tail (λ (n : CellNumber). n.cell < cells_in p.slot.memory) n ns all))
+
+  -- what is kept of a cell, by whether it is listed
+  abbrev Found : ℕ → Option CellNumber → Option Kept → Bool → Type 0
+  Found n None None listed = listed ≡ false
+  Found n None (Some k) listed = ⊥
+  Found n (Some x) None listed = ⊥
+  Found n (Some x) (Some k) listed =
+      (x.cell ≡ n) × (is_occupied (held_by c p x).head ≡ true) × IsKept (bits_of_lanes p.slot.keys) p.slot.memory (held_by c p x) x k × (is_candidate c.seed p (held_by c p x).key x.cell ≡ true)
+
+  -- a listed cell is a candidate of its key
+  abbrev Fits : CellNumber → Type 0
+  Fits x = is_candidate c.seed p (held_by c p x).key x.cell ≡ true
+
+  all-fit : All Fits p.slot.numbers
+  all-fit = All-from_test Fits (λ (x : CellNumber). is_candidate c.seed p (held_by c p x).key x.cell) (λ x e. e) p.slot.numbers fit
+
+  find-kept : (n : ℕ) (ns : List CellNumber) (es : List (ℕ × Kept)) → AllZip (IsRanked c t p) ns es → All (IsHead c p) ns → All Fits ns
+      → Found n (find (λ (x : CellNumber). eqb x.cell n) ns) (lookup (is_at (nat_cmp n)) es) (list_any (λ m. eqb m n) (map (λ (x : CellNumber). x.cell) ns))
+  find-kept n [] [] zip heads fits = refl
+  find-kept n [] (e ∷ es) zip heads fits = absurd zip
+  find-kept n (x ∷ ns) [] zip heads fits = absurd zip
+  find-kept n (x ∷ ns) (e ∷ es) zip heads fits =
+      let rest = find-kept n ns es zip.1 (All-tail (IsHead c p) x ns heads) (All-tail Fits x ns fits) in
+      let same : is_eq (nat_cmp n e.0) ≡ eqb x.cell n = same-number n e.0 ∙ ap (eqb n) zip.0.at ∙ eqb-sym n x.cell in
+      let later = list_any (λ m. eqb m n) (map (λ (x : CellNumber). x.cell) ns) in
+      subst (λ b. Found n (cond (eqb x.cell n) (Some x) (find (λ (x : CellNumber). eqb x.cell n) ns)) (cond b (Some e.1) (lookup (is_at (nat_cmp n)) es)) (eqb x.cell n || later)) (sym same)
+      (by (eqb x.cell n) refl (find (λ (x : CellNumber). eqb x.cell n) ns) (lookup (is_at (nat_cmp n)) es) later rest)
+    where
+      by : (b : Bool) → eqb x.cell n ≡ b → (o : Option CellNumber) (q : Option Kept) (later : Bool) → Found n o q later → Found n (cond b (Some x) o) (cond b (Some e.1) q) (b || later)
+      by true is o q later rest =
+          (eqb-true x.cell n is, head-occupied (visible_with c.names) p.first p.slot.actions (held_by c p x).head (All-head (IsHead c p) x ns heads), zip.0.kept, All-head Fits x ns fits)
+      by false is o q later rest = rest
+
+  -- the number that a run begins with
+  own-number : (n : ℕ) → (own_cells c).number p.stage p.place n ≡ number_of_cell p.slot.numbers n
+  own-number n = ap (λ (o : Option SlotUnit). unwrap_or (option_map (λ (slot : SlotUnit). number_of_cell slot.numbers n) o) 0) (part-slot c p st)
+
+  kept-of : (n : ℕ) (o : Option CellNumber) (q : Option Kept) (listed : Bool) → n < cells_in p.slot.memory → Found n o q listed
+      → (listed ≡ false → is_occupied (own_content c p.stage p.place n).head ≡ false)
+      → IsKeptOf c.seed p (own_content c p.stage p.place n) (record { cell = n; number = unwrap_or (option_map (λ (x : CellNumber). x.number) o) 0 }) q
+  kept-of n None None listed lt h others = others h
+  kept-of n None (Some k) listed lt h others = absurd h
+  kept-of n (Some x) None listed lt h others = absurd h
+  kept-of n (Some x) (Some k) listed lt h others =
+      subst (λ m. IsKeptOf c.seed p (own_content c p.stage p.place m) (record { cell = m; number = x.number }) (Some k)) h.0 (h.1, h.2, h.3)
+
+  -- a cell that isn't listed is not occupied
+  unlisted : (n : ℕ) → n < cells_in p.slot.memory → list_any (λ m. eqb m n) (map (λ (x : CellNumber). x.cell) p.slot.numbers) ≡ false → is_occupied (own_content c p.stage p.place n).head ≡ false
+  unlisted n lt none =
+      let clear = st.holds.others n lt (ap not none) in
+      ap (λ (x : Content). is_occupied x.head) (held-is c p st n) ∙ ap is_occupied (clear-head p.slot.memory n (content_of st.stage p.slot n) lt clear)
+
+  pub part-holds : (x : PartCells) → IsListed c t p x → HoldsPart (own_cells c) p x
+  part-holds x h = record {
+    stage = h.stage;
+    place = h.place;
+    first = h.first;
+    within = keys-within p.slot.numbers x.cells.entries h.cells (cells-within c p st);
+    each = λ n lt.
+        subst (λ m. IsKeptOf c.seed p (own_content c p.stage p.place n) (record { cell = n; number = m }) (get nat_cmp x.cells n)) (sym (own-number n))
+        (kept-of n (find (λ (x : CellNumber). eqb x.cell n) p.slot.numbers) (get nat_cmp x.cells n) (list_any (λ m. eqb m n) (map (λ (x : CellNumber). x.cell) p.slot.numbers)) lt
+        (find-kept n p.slot.numbers x.cells.entries h.cells (listed-heads c p st) all-fit) (unlisted n lt));
+  }

@@ -1,0 +1,26 @@
+use Rattle.std.proofs.Common.{◌++◌, ◌∷◌, List, [], map, sym, ap, ◌∙◌, subst, arith}
+use Rattle.std.specs.Prelude.{All}
+use Rattle.std.specs.List.{range_with_len}
+use Rattle.std.proofs.lemmas.List.FromFn.{map-range_with_len_more}
+use Rattle.rmt_ast.specs.declared.entry.Entry.{Entry}
+use Rattle.rmt_update.specs.declared.book.table.TableCells.{TableCells}
+use Rattle.rmt_update.specs.Seen.{IsReadable, entries_at}
+use Rattle.rmt_update.proofs.book.Book.entries.Goals as goal
+
+pub entries_at-requires : goal.entries_at-requires
+entries_at-requires c = subst (All (IsReadable c.args.self.now.odd)) (sym c.as_slice.ensures.value) c.requires.3.readable
+
+pub loop-node-preserved : goal.loop-node-preserved
+loop-node-preserved c =
+    let self = c.args.self.now in
+    let n = c.loop-node.node in
+    let f = entries_at self.odd self.tables.items in
+    c.in_ok-push.ensures.ok
+    ∙ ap (λ (ls : List (List Entry)). ls ++ c.in_ok-entries_at.field-0 ∷ []) c.loop-node.invariant
+    ∙ ap (λ (es : List Entry). map f (range_with_len 0 n) ++ es ∷ []) (c.in_ok-entries_at.ensures ∙ ap (λ (ts : List TableCells). entries_at self.odd ts n) c.as_slice.ensures.value)
+    ∙ sym (map-range_with_len_more f 0 n n (omega arith))
+
+pub returns : goal.returns
+returns c = λ config cells lists stands.
+    let self = c.args.self.now in
+    c.loop-node.invariant ∙ ap (λ n. map (entries_at self.odd self.tables.items) (range_with_len 0 n)) (omega arith) ∙ sym stands.lists

@@ -1,0 +1,82 @@
+//! The entries that a version sees.
+
+ghost use Rattle.std.specs.Prelude.{◌≡◌, ◌==◌, ◌++◌, All, IfOk, IsTrue, List, OnOk, find, option_copied};
+ghost use Rattle.rmt_ast.specs.NameRules.{table_is_formed};
+ghost use Rattle.rmt_ast.specs.declared.entry.Entry.{Entry as EntryOf};
+ghost use Rattle.rmt_config.specs.NamesForm.{by_number};
+ghost use Rattle.rmt_update.specs.Numbered.{IsOrder};
+ghost use Rattle.rmt_update.specs.Seen.{HaveNumbers, IsReadable, entries_at as entries_at_of, entries_by_part, entries_in, is_seen as is_seen_of};
+ghost use Rattle.rmt_update.specs.declared.book.table.TableCells.{TableCells as TableOf};
+
+use crate::book::kept::Kept;
+use crate::book::ordered::{Ordered, in_order, put};
+use crate::book::table::{PartCells, TableCells};
+use crate::book::told::entry_told;
+use rmt_ast::entry::Entry;
+use rmt_ast::names::TableName;
+use rmt_bits::sequence::Sequence;
+use std::alloc::{AllocError, Global};
+
+/// Whether a cell is seen by odd versions, or by even ones.
+fn is_seen(odd: bool, kept: &Kept) -> bool
+    ensures { result ≡ is_seen_of odd kept.now }
+{
+    let bit = if odd { 2 } else { 1 };
+    kept.visible / bit % 2 == 1
+}
+
+/// Adds the entries that are seen in a part. The only fault is want of memory.
+fn put_entries(
+    alloc: Global,
+    odd: bool,
+    table: &TableName,
+    part: &PartCells,
+    ordered: &mut Ordered,
+) -> Result<(), AllocError>
+    requires { IsTrue (table_is_formed table.now) }
+    ensures { OnOk result ((es : List EntryOf) → IsOrder es ordered.old → HaveNumbers (es ++ entries_in odd table.now part.now) →
+        IsOrder (es ++ entries_in odd table.now part.now) ordered.new) }
+{
+    for kept in part.cells.values() {
+        if is_seen(odd, kept) {
+            put(ordered, entry_told(alloc, table, part.first, kept)?)?;
+        }
+    }
+    Ok(())
+}
+
+/// The entries that are seen in a table, by number. The only fault is want of memory.
+fn entries_of(alloc: Global, odd: bool, table: &TableCells) -> Result<Sequence<Entry>, AllocError>
+    requires { IsReadable odd table.now }
+    ensures { IfOk result (λ entries. entries ≡ by_number (entries_by_part odd table.now)) }
+{
+    let mut ordered = Ordered::new(alloc);
+    for part in table.parts.as_slice() {
+        put_entries(alloc, odd, &table.name, part, &mut ordered)?;
+    }
+    in_order(alloc, ordered)
+}
+
+/// The table of a node.
+fn table_at(tables: &[TableCells], node: u32) -> Option<&TableCells>
+    ensures { option_copied result ≡ find (λ (t : TableOf). t.name.node == node) tables.now }
+{
+    tables.iter().find(|table| table.name.node == node)
+}
+
+/// The entries that are seen in the table of a node, by number; none where there is no such table. The only fault is want
+/// of memory.
+pub fn entries_at(
+    alloc: Global,
+    odd: bool,
+    tables: &[TableCells],
+    node: u32,
+) -> Result<Sequence<Entry>, AllocError>
+    requires { All (IsReadable odd) tables.now }
+    ensures { IfOk result (λ entries. entries ≡ entries_at_of odd tables.now node) }
+{
+    match table_at(tables, node) {
+        Some(table) => entries_of(alloc, odd, table),
+        None => Ok(Sequence::new(alloc)),
+    }
+}

@@ -1,0 +1,11 @@
+mod NumberLaws
+mod ItemLoops
+mod Codec
+mod Lists
+mod Whole
+mod Examples
+mod SameLaws
+mod EdgeLaws
+mod PairLaws
+mod ZipLaws
+mod PlaceLaws

@@ -1,0 +1,9 @@
+pub mod Types
+pub mod Spelling
+pub mod Spells
+pub mod Readers
+pub mod Reading
+pub mod ParserMade
+pub mod EdgeSpans
+pub mod WrittenApart
+pub mod ReadThere

@@ -1,0 +1,21 @@
+//! The map of a compiled program as a file, and what verify looks at: whether a configuration and a map belong to a
+//! program.
+#![tactic(auto)]
+
+mod all;
+pub mod edges;
+mod fault;
+mod map_file;
+pub mod parser;
+pub mod places;
+mod reading;
+mod same;
+mod writing;
+
+pub use edges::{edges_hold, parts_stand};
+pub use fault::{MapFault, VerifyFault};
+pub use map_file::MapFile;
+pub use parser::parser_holds;
+pub use places::places_hold;
+pub use reading::{read_map, spells_one};
+pub use writing::write_map;
