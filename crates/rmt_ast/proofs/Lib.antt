@@ -6,6 +6,7 @@ pub mod StateLaws
 pub mod RunStateLaws
 pub mod ExampleForm
 pub mod EventLaws
+pub mod EntryLaws
 pub mod RankLaws
 pub mod NamingExamples
 pub mod EventExamples

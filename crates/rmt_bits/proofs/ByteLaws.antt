@@ -1,9 +1,11 @@
 -- Laws of runs of bytes as numbers.
-use Rattle.std.proofs.Common.{◌≡◌, ℕ, zero, suc, refl, ◌+◌, ◌-◌, ◌*◌, ◌/◌, ◌%◌, ◌^◌, ◌<◌, ◌≤◌, List, [], ◌∷◌, ◌++◌, length, get_or, set, take, drop, fold, sym, ap, ◌∙◌, subst, arith, replicate}
+use Rattle.std.proofs.Common.{◌≡◌, ℕ, zero, suc, refl, ◌+◌, ◌-◌, ◌*◌, ◌/◌, ◌%◌, ◌^◌, ◌<◌, ◌≤◌, List, [], ◌∷◌, ◌++◌, length, get_or, set, take, drop, fold, sym, ap, ◌∙◌, subst, arith, replicate, inl, inr}
 use Rattle.std.proofs.lemmas.Nat.{pow-add, mul-add-lt, shr_split, shr-shr, shr_high, mod_low, mod-pow-add, div_below}
 use Rattle.std.proofs.lemmas.List.Sums.{fold-append, fold_push}
-use Rattle.std.proofs.lemmas.List.{length-append, take_all, take_more, take-append-drop, length-drop, get_or-drop, length-set, take-set, get_or-set_same, drop-set-lt}
-use Rattle.std.proofs.Math.Pow.{pow_mono}
+use Rattle.std.proofs.lemmas.Bool.{cases_lt}
+use Rattle.std.proofs.lemmas.List.{length-append, length-take, get_or-take, get_or_past, take_all, take_more, take-append-drop, length-drop, get_or-drop, length-set, take-set, get_or-set_same, drop-set-lt}
+use Rattle.std.proofs.Math.Nat.{mod-eq_of_lt, div-eq_of_lt}
+use Rattle.std.proofs.Math.Pow.{ones_lt, pow_mono}
 use Rattle.rmt_bits.specs.Bits.{slice, deposit, number_of, bytes_of, bits_of_bytes}
 use Rattle.rmt_bits.proofs.BitLaws.{slice-lt, slice-add, slice-from_low, mod-from_low, high_part-lt, deposit-add, deposit-lt}
 
@@ -50,12 +52,23 @@ number_of_split bytes k h =
     ∙ ap (λ n. number_of (take (k + 1) bytes) * 2 ^ (8 * n) + number_of (drop (k + 1) bytes)) (length-drop (k + 1) bytes)
     ∙ ap (λ n. n * 2 ^ (8 * (length bytes - (k + 1))) + number_of (drop (k + 1) bytes)) front'
 
-AreBytes-drop : (bytes : List ℕ) (n : ℕ) → AreBytes bytes → AreBytes (drop n bytes)
-AreBytes-drop bytes n h = λ i. rw (get_or-drop n bytes i 0) (h (n + i))
+-- parts of bytes are bytes
+pub AreBytes-drop : (n : ℕ) (bytes : List ℕ) → AreBytes bytes → AreBytes (drop n bytes)
+AreBytes-drop n bytes h i = rw get_or-drop (h (n + i))
+
+pub AreBytes-take : (n : ℕ) (bytes : List ℕ) → AreBytes bytes → AreBytes (take n bytes)
+AreBytes-take n bytes h i =
+    elim (cases_lt i n) [
+      | inl lt ↦ rw (get_or-take n bytes i 0 lt) (h i)
+      | inr le ↦ rw (get_or_past (take n bytes) i 0 (omega (arith, length-take n bytes))) (omega arith)
+    ]
+
+pub AreBytes-rest : (b : ℕ) (bytes : List ℕ) → AreBytes (b ∷ bytes) → AreBytes bytes
+AreBytes-rest b bytes h i = h (suc i)
 
 number_of-drop-lt : (bytes : List ℕ) (n : ℕ) → AreBytes bytes → number_of (drop n bytes) < 2 ^ (8 * (length bytes - n))
 number_of-drop-lt bytes n h =
-    subst (λ k. number_of (drop n bytes) < 2 ^ (8 * k)) (length-drop n bytes) (number_of-lt (drop n bytes) (AreBytes-drop bytes n h))
+    subst (λ k. number_of (drop n bytes) < 2 ^ (8 * k)) (length-drop n bytes) (number_of-lt (drop n bytes) (AreBytes-drop n bytes h))
 
 -- low bits of a number whose higher bits are not looked at
 pub slice_low : (f b s t : ℕ) → b < 2 ^ 8 → s + t ≤ 8 → slice (f * 2 ^ 8 + b) s t ≡ slice b s t
@@ -273,3 +286,14 @@ number_of-zeros (suc n) = number_of-zeros n
 
 pub number_of-cleared : (bytes : List ℕ) (n : ℕ) → bytes ≡ replicate n 0 → number_of bytes ≡ 0
 number_of-cleared bytes n e = ap number_of e ∙ number_of-zeros n
+
+-- above the bytes no bit is set
+pub bits-above : (bytes : List ℕ) (low len : ℕ) → AreBytes bytes → 8 * length bytes ≤ low → 0 ≡ slice (number_of bytes) low len
+bits-above bytes low len are past =
+    let lt = number_of-lt bytes are in
+    let more : 2 ^ (8 * length bytes) ≤ 2 ^ low = pow_mono past in
+    let none : number_of bytes / 2 ^ low ≡ 0 = div-eq_of_lt (let l : number_of bytes < 2 ^ low = omega (arith, lt, more) in l) in
+    sym (ap (λ n. n % 2 ^ len) none ∙ mod-eq_of_lt (let l : 0 < 2 ^ len = pos len in l))
+  where
+    pos : (n : ℕ) → 0 < 2 ^ n
+    pos n = let l = ones_lt n in omega (arith, l)

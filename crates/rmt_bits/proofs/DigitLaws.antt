@@ -1,13 +1,15 @@
 -- What digits are, what they say, and how a number's digits are written.
-use Rattle.std.proofs.Common.{◌≡◌, ◌∙◌, ℕ, ◌+◌, ◌-◌, ◌*◌, ◌/◌, ◌%◌, ◌^◌, ◌<◌, ◌≤◌, true, leb, List, [], ◌∷◌, ◌++◌, length, get_or, drop, fold, refl, sym, ap, arith, add-one, drop-cons}
+use Rattle.std.proofs.Common.{◌≡◌, ◌∙◌, ℕ, ◌+◌, ◌-◌, ◌*◌, ◌/◌, ◌%◌, ◌^◌, ◌<◌, ◌≤◌, ◌==◌, ◌&&◌, Bool, true, false, not, if◌then◌else◌, leb, List, [], ◌∷◌, ◌++◌, Option, Some, None, inl, inr, subst, length, get_or, drop, fold, refl, sym, ap, arith, add-one, drop-cons}
+use Rattle.std.specs.Prelude.{SomeIff, nat_lt}
 use Rattle.std.specs.Fmt.{decimal}
 use Rattle.std.specs.List.{All, list_all}
 use Rattle.std.proofs.Math.Nat.{mul-le-mul_left, mul-le-mul_right, mul_assoc, pow-succ'}
-use Rattle.std.proofs.lemmas.Bool.{and_from, and_parts, le-leb, leb-true, lt-leb}
+use Rattle.std.proofs.lemmas.Bool.{and_from, and_parts, cases_Bool, le-leb, leb-true, lt-leb, lt-ltb, ltb-true}
 use Rattle.std.proofs.lemmas.Fmt.{decimal_by_steps}
 use Rattle.std.proofs.lemmas.List.Folds.{list_all-append}
 use Rattle.std.proofs.lemmas.List.Sums.{AllPass-from_list_all, fold-append}
-use Rattle.rmt_bits.specs.Digits.{appended, digit_value, is_digit, number_of_digits}
+use Rattle.std.proofs.lemmas.Option.{same_Some}
+use Rattle.rmt_bits.specs.Digits.{appended, below, digit_value, is_digit, number_in, number_of_digits}
 
 -- ---- one digit
 
@@ -103,3 +105,25 @@ more_digits n ds ge s =
 -- a number's decimal digits say it
 pub Says-decimal : (n : ℕ) → n < 2 ^ 64 → Says n (decimal n)
 Says-decimal n lt = decimal_by_steps Says one_digit more_digits n lt
+
+-- ---- numbers that are told where they are below a limit
+
+pub below_limit : (limit : ℕ) (o : Option ℕ) (n : ℕ) → below limit o ≡ Some n → n < limit
+below_limit limit None n e = cc
+below_limit limit (Some m) n e = by (nat_lt m limit) refl e
+  where
+    by : (b : Bool) → nat_lt m limit ≡ b → (if b then Some m else None) ≡ Some n → n < limit
+    by true t h = subst (λ (k : ℕ). k < limit) (same_Some m n h) (ltb-true m limit t)
+    by false t h = cc
+
+-- a number that is told exactly where it is at most the last one
+pub some_below : (o : Option ℕ) (last n : ℕ) → SomeIff o (n ≤ last) n → o ≡ below (last + 1) (Some n)
+some_below None last n h = elim (cases_Bool (nat_lt n (last + 1))) [ inl e ↦ absurd (h (omega (arith, ltb-true n (last + 1) e))) | inr e ↦ rw e refl ]
+some_below (Some x) last n h = rw (lt-ltb n (last + 1) (omega (arith, h.0))) (ap Some h.1)
+
+pub number_below : (base last : ℕ) (is_one : ℕ → Bool) (digits : List ℕ) (o : Option ℕ) (b : Bool) → SomeIff o (number_of_digits base digits ≤ last) (number_of_digits base digits)
+    → b ≡ (not (length digits == 0) && list_all is_one digits) → b ≡ true → o ≡ below (last + 1) (number_in base is_one digits)
+number_below base last is_one digits o b h e t = rw (← e, t) (some_below o last (number_of_digits base digits) h)
+
+pub number_none : (base limit : ℕ) (is_one : ℕ → Bool) (digits : List ℕ) (b : Bool) → b ≡ (not (length digits == 0) && list_all is_one digits) → b ≡ false → None ≡ below limit (number_in base is_one digits)
+number_none base limit is_one digits b e f = rw (← e, f) refl

@@ -6,6 +6,7 @@ pub mod ByteLaws
 pub mod DigitLaws
 pub mod CountLaws
 pub mod Examples
+pub mod FindLaws
 pub mod FunctionLaws
 pub mod LineLaws
 pub mod GroupLaws

@@ -1,4 +1,4 @@
--- The parts of a list that is cut, and the lines of a text: the first, and then those behind it.
+-- The parts of a list that is cut, the lines of a text and the words of a line: the first, and then those behind it.
 use Rattle.std.proofs.Common.{◌≡◌, ℕ, ◌+◌, ◌≤◌, ◌==◌, Bool, true, false, not, cond, List, [], ◌∷◌, length, take, drop, refl, ap, ◌∙◌, inl, inr, arith}
 use Rattle.std.specs.List.{after_first, before_first, enumerate_from, filter, position_or_len, slice_split}
 use Rattle.std.proofs.Math.ListN.{drop_of_length-le}
@@ -6,7 +6,7 @@ use Rattle.std.proofs.lemmas.Bool.{cases_lt, not-true}
 use Rattle.std.proofs.lemmas.List.{take_all}
 use Rattle.std.proofs.lemmas.List.Splits.{slice_split_first, slice_split_none}
 use Rattle.std.proofs.lemmas.List.Sums.{prefix_len_passes}
-use Rattle.rmt_bits.specs.Lines.{is_passed_over, numbered_lines}
+use Rattle.rmt_bits.specs.Lines.{is_passed_over, numbered_lines, words}
 
 -- a negated test chooses the other way round
 pub cond-not : {A : Type 0} (b : Bool) (x y : A) → cond (not b) x y ≡ cond b y x
@@ -40,3 +40,16 @@ numbered_lines-first n text =
   where
     kept : ℕ → List (List ℕ) → List (ℕ × List ℕ)
     kept n ls = filter (λ l. not (is_passed_over l.1)) (enumerate_from n ls)
+
+abbrev pub is_space : ℕ → Bool
+is_space b = b == 32
+
+-- the words of a line are what stands before its first space, if anything, and then those behind it
+pub words_cut : (line : List ℕ) → words line ≡ cond (not (length (before_first is_space line) == 0)) (before_first is_space line ∷ words (after_first is_space line)) (words (after_first is_space line))
+words_cut line = slice_split-each is_space 0 (filter (λ word. not (length word == 0))) (filter (λ word. not (length word == 0))) (λ p ps. cond (not (length p == 0)) (p ∷ ps) ps) (λ p ps. refl) refl line
+
+pub word_first : (line word rest : List ℕ) → word ≡ before_first is_space line → rest ≡ after_first is_space line → (length word == 0) ≡ false → words line ≡ word ∷ words rest
+word_first line word rest e f h = rw (e, f) (words_cut line ∙ rw (← e, h) refl)
+
+pub word_none : (line word rest : List ℕ) → word ≡ before_first is_space line → rest ≡ after_first is_space line → (length word == 0) ≡ true → words line ≡ words rest
+word_none line word rest e f h = rw f (words_cut line ∙ rw (← e, h) refl)

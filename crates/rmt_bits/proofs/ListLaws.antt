@@ -1,10 +1,11 @@
--- Lists: where there is an item, lists without items, and one item more.
-use Rattle.std.proofs.Common.{◌≡◌, ◌≢◌, ℕ, zero, suc, ◌+◌, ◌<◌, ◌≤◌, Bool, true, false, cond, List, [], ◌∷◌, ◌++◌, length, take, drop, Option, None, Some, refl, ap, sym, subst, ◌∙◌, arith, get_or}
-use Rattle.std.specs.Prelude.{All, IsSome, IsSomeAnd, find, slice_get, slice_set, map, filter}
-use Rattle.std.specs.List.{flat_map, list_all, prefix_len, range_with_len, sum_by, take_while, AllZip}
+-- Lists: where there is an item, lists without items, one item more, and parts one behind the other.
+use Rattle.std.proofs.Common.{◌≡◌, ◌≢◌, ℕ, zero, suc, ◌+◌, ◌<◌, ◌≤◌, ◌==◌, Bool, true, false, cond, List, [], ◌∷◌, ◌++◌, length, take, drop, Option, None, Some, refl, ap, sym, subst, ◌∙◌, arith, append_assoc, get_or}
+use Rattle.std.specs.Prelude.{All, IsSome, IsSomeAnd, find, nat_eq, slice_get, slice_set, map, filter}
+use Rattle.std.specs.Cmp.Lexicographic.{same_text}
+use Rattle.std.specs.List.{flat_map, list_all, prefix_len, range_with_len, starts_with, sum_by, take_while, AllZip}
 use Rattle.std.proofs.Math.Seq.{take-append_seam}
-use Rattle.std.proofs.lemmas.Bool.{and_parts}
-use Rattle.std.proofs.lemmas.List.{map-id, length-drop, length-take, take_more}
+use Rattle.std.proofs.lemmas.Bool.{and_parts, eqb-true, true≢false}
+use Rattle.std.proofs.lemmas.List.{map-id, length-drop, length-take, take-append-drop, take_more}
 use Rattle.std.proofs.lemmas.List.FromFn.{map-range_with_len_more}
 use Rattle.std.proofs.lemmas.List.Elements.{All-nil, All-cons, All-head, All-tail, filter-append}
 use Rattle.std.proofs.lemmas.List.Sums.{sum_by-cons}
@@ -126,14 +127,17 @@ flat_map-map g f [] = refl
 flat_map-map g f (x ∷ xs) = ap (λ l. g (f x) ++ l) (flat_map-map g f xs)
 
 -- a sum over the items that pass a test, where the others add nothing, or where those add nothing
-pub sum_by-filter : {X : Type 0} (f : X → ℕ) (test : X → Bool) (xs : List X) → ((x : X) → test x ≡ false → f x ≡ 0) → sum_by f (filter test xs) ≡ sum_by f xs
-sum_by-filter f test [] none = refl
-sum_by-filter f test (x ∷ xs) none = by (sum_by-filter f test xs none) (test x) refl
+pub sum_by-filter_all : {X : Type 0} (f : X → ℕ) (test : X → Bool) (xs : List X) → All (λ x. test x ≡ false → f x ≡ 0) xs → sum_by f (filter test xs) ≡ sum_by f xs
+sum_by-filter_all f test [] none = refl
+sum_by-filter_all f test (x ∷ xs) none = by (sum_by-filter_all f test xs (All-tail (λ y. test y ≡ false → f y ≡ 0) x xs none)) (test x) refl
   where
     by : sum_by f (filter test xs) ≡ sum_by f xs → (b : Bool) → test x ≡ b → sum_by f (cond b (x ∷ filter test xs) (filter test xs)) ≡ sum_by f (x ∷ xs)
     by rest true e = sum_by-cons f x (filter test xs) ∙ ap (λ n. f x + n) rest ∙ sym (sum_by-cons f x xs)
     by rest false e =
-        rest ∙ (let zero_more : sum_by f xs ≡ f x + sum_by f xs = omega (arith, none x e) in zero_more) ∙ sym (sum_by-cons f x xs)
+        rest ∙ (let zero_more : sum_by f xs ≡ f x + sum_by f xs = omega (arith, All-head (λ y. test y ≡ false → f y ≡ 0) x xs none e) in zero_more) ∙ sym (sum_by-cons f x xs)
+
+pub sum_by-filter : {X : Type 0} (f : X → ℕ) (test : X → Bool) (xs : List X) → ((x : X) → test x ≡ false → f x ≡ 0) → sum_by f (filter test xs) ≡ sum_by f xs
+sum_by-filter f test xs none = sum_by-filter_all f test xs (λ k d lt. none (get_or xs k d))
 
 pub sum_by-filter_none : {X : Type 0} (f : X → ℕ) (test : X → Bool) (xs : List X) → ((x : X) → test x ≡ true → f x ≡ 0) → sum_by f (filter test xs) ≡ 0
 sum_by-filter_none f test [] none = refl
@@ -186,3 +190,43 @@ first_from xs ys x k h = ap (slice_get ys) (omega arith) ∙ sym (h 0)
 
 pub next_from : {X : Type 0} (xs ys : List X) (x : X) (k : ℕ) → ((i : ℕ) → slice_get (x ∷ xs) i ≡ slice_get ys (k + i)) → (i : ℕ) → slice_get xs i ≡ slice_get ys (k + 1 + i)
 next_from xs ys x k h i = h (suc i) ∙ ap (slice_get ys) (omega arith)
+
+-- bytes, or none
+pub has_bytes : (text : List ℕ) → (length text == 0) ≡ false → 0 < length text
+has_bytes [] h = absurd (true≢false h)
+has_bytes (x ∷ xs) h = omega arith
+
+pub has_none : (text : List ℕ) → (length text == 0) ≡ true → text ≡ []
+has_none [] h = refl
+has_none (x ∷ xs) h = absurd (omega (arith, eqb-true (length (x ∷ xs)) 0 h))
+
+-- texts one behind the other
+pub text_behind : (bytes first second mid rest : List ℕ) → bytes ≡ first ++ mid → mid ≡ second ++ rest → bytes ≡ (first ++ second) ++ rest
+text_behind bytes first second mid rest e f = e ∙ ap (λ (t : List ℕ). first ++ t) f ∙ sym (append_assoc first second rest)
+
+-- bytes that begin with a text
+pub begins : (bytes text : List ℕ) → starts_with nat_eq bytes text ≡ true → bytes ≡ text ++ drop (length text) bytes
+begins bytes text e = sym (take-append-drop (length text) bytes) ∙ ap (λ (t : List ℕ). t ++ drop (length text) bytes) (sym (same_text text (take (length text) bytes) (sym e)))
+
+-- a range is its front and what follows
+pub range-append : (a m n : ℕ) → range_with_len a (m + n) ≡ range_with_len a m ++ range_with_len (a + m) n
+range-append a zero n = let e : a ≡ a + 0 = omega arith in let f : 0 + n ≡ n = omega arith in ap (range_with_len a) f ∙ ap (λ (b : ℕ). range_with_len b n) e
+range-append a (suc m) n =
+    let e : a + 1 + m ≡ a + suc m = omega arith in
+    let f : suc m + n ≡ suc (m + n) = omega arith in rw (f, range-append (a + 1) m n, e) refl
+
+-- a filter keeps no more than there is
+pub filter-short : {X : Type 0} (p : X → Bool) (xs : List X) → length (filter p xs) ≤ length xs
+filter-short p [] = omega arith
+filter-short p (x ∷ xs) = by (p x) (filter-short p xs)
+  where
+    by : (b : Bool) → length (filter p xs) ≤ length xs → length (cond b (x ∷ filter p xs) (filter p xs)) ≤ suc (length xs)
+    by true rest = omega (arith, rest)
+    by false rest = omega (arith, rest)
+
+-- one more item on both sides
+pub zip_push : {X Y : Type 0} (R : X → Y → Type 0) (xs : List X) (ys : List Y) (x : X) (y : Y) → AllZip R xs ys → R x y → AllZip R (xs ++ x ∷ []) (ys ++ y ∷ [])
+zip_push R [] [] x y h r = (r, tt)
+zip_push R [] (b ∷ ys) x y h r = absurd h
+zip_push R (a ∷ xs) [] x y h r = absurd h
+zip_push R (a ∷ xs) (b ∷ ys) x y h r = (h.0, zip_push R xs ys x y h.1 r)

@@ -4,7 +4,7 @@ use Rattle.std.specs.Prelude.{Contains, filter, slice_get, ◌==◌}
 use Rattle.std.proofs.lemmas.List.Elements.{All-contains, All-contains_itself, All-filter, filter_passes, Contains-append_cases, Contains-append_left, Contains-append_right}
 use Rattle.rmt_bits.proofs.AllLaws.{All-unfilter}
 use Rattle.std.specs.List.{list_any, flat_map}
-use Rattle.std.proofs.lemmas.List.Folds.{list_any_at}
+use Rattle.std.proofs.lemmas.List.Folds.{list_any_at, Any-from_list_any}
 use Rattle.std.proofs.lemmas.Option.{get_or_from_slice_get, slice_get_within}
 use Rattle.std.proofs.lemmas.Bool.{both_ways, eqb-true}
 
@@ -84,3 +84,7 @@ Contains-from_any (y ∷ ys) x e = by (y == x) refl e (Contains-from_any ys x)
     by : (b : Bool) → (y == x) ≡ b → (b || list_any (λ m. m == x) ys) ≡ true → (list_any (λ m. m == x) ys ≡ true → Contains ys x) → Contains (y ∷ ys) x
     by true is h rest = subst (Contains (y ∷ ys)) (eqb-true y x is) (Contains-first y ys)
     by false is h rest = Contains-later y ys x (rest h)
+
+-- a list some item of which passes a test has one that does
+pub any_item : {X : Type 0} (t : X → Bool) (xs : List X) → list_any t xs ≡ true → (x : X) × Contains xs x × (t x ≡ true)
+any_item t xs some = let (place, item, lt, at, passes) = Any-from_list_any t xs some in (item, (place, lt, at), passes)

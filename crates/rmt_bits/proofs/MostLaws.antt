@@ -1,5 +1,5 @@
 -- The greatest of a number and of what the items of a list give, and what is picked of them.
-use Rattle.std.proofs.Common.{◌≡◌, ◌⊎◌, ℕ, ◌≤◌, List, [], ◌∷◌, fold, max, refl, ◌∙◌, inl, inr, arith}
+use Rattle.std.proofs.Common.{◌≡◌, ◌⊎◌, ℕ, ◌+◌, ◌<◌, ◌≤◌, List, [], ◌∷◌, fold, max, refl, ◌∙◌, inl, inr, arith}
 use Rattle.std.specs.Prelude.{All, Contains}
 use Rattle.std.proofs.Math.Nat.{max-eq_left, max-eq_right}
 use Rattle.std.proofs.lemmas.Bool.{cases_lt}
@@ -38,3 +38,14 @@ picked pick one f a (x ∷ xs) = elim (picked pick one f (pick a (f x)) xs) [
 -- the greater of two is one of them
 pub max-either : (m n : ℕ) → (max m n ≡ m) ⊎ (max m n ≡ n)
 max-either m n = elim (cases_lt m n) [ inl less ↦ inr (max-eq_right (omega arith)) | inr more ↦ inl (max-eq_left more) ]
+
+-- a next number is above those that it is for
+pub fold_max : (ns : List ℕ) (a : ℕ) → (a ≤ fold (λ next n. max next (n + 1)) a ns) × All (λ n. n < fold (λ next n. max next (n + 1)) a ns) ns
+fold_max [] a = (omega arith, All-nil (λ n. n < a))
+fold_max (n ∷ ns) a =
+    let rest = fold_max ns (max a (n + 1)) in
+    let most = fold (λ next m. max next (m + 1)) (max a (n + 1)) ns in
+    let le : max a (n + 1) ≤ most = rest.0 in (
+      omega (arith, le),
+      All-cons (λ m. m < most) n ns (omega (arith, le)) rest.1,
+    )

@@ -1,5 +1,5 @@
 -- Values that are there, values behind references, and truth values.
-use Rattle.std.proofs.Common.{◌≡◌, ℕ, Bool, true, false, eqb, inl, inr, Option, Some, None, option_copied, option_map, refl, sym, ◌∙◌}
+use Rattle.std.proofs.Common.{◌≡◌, ℕ, Bool, true, false, eqb, inl, inr, Option, Some, None, Result, Ok, Err, option_copied, option_map, refl, ap, sym, ◌∙◌}
 use Rattle.std.specs.Borrow.{Bor}
 use Rattle.std.specs.Prelude.{IsSome, is_none}
 use Rattle.std.specs.Option.{option_or}
@@ -39,3 +39,11 @@ eqb-sym a b = elim (cases_eq a b) [
   | inl e ↦ eq-eqb a b e ∙ sym (eq-eqb b a (sym e))
   | inr ne ↦ ne_eqb a b ne ∙ sym (ne_eqb b a (λ e. ne (sym e)))
 ]
+
+-- the value of what is done
+pub same_Ok : {A E : Type 0} (x y : A) → (let r : Result A E = Ok x in r) ≡ Ok y → x ≡ y
+same_Ok {A} {E} x y e = ap held e
+  where
+    held : Result A E → A
+    held (Ok a) = a
+    held (Err a) = x

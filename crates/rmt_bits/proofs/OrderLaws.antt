@@ -90,9 +90,13 @@ with_count-with_number hits n (m ∷ ms) new = by (nat_lt n m) (n == m) (with_co
 same_number : (n m : ℕ) → (n == m) ≡ true → n ≡ m
 same_number n m h = grind (arith, tests)
 
+-- a count with the same sums
+pub count_parts : (m : ℕ) {x y z w : ℕ} → x ≡ z → y ≡ w → ◌≡◌ {A = Count} (record { entry = m; packets = x % 2 ^ 48; bytes = y % 2 ^ 64 }) (record { entry = m; packets = z % 2 ^ 48; bytes = w % 2 ^ 64 })
+count_parts m {x} {y} {z} {w} e f = ap (λ (v : ℕ). record { entry = m; packets = v % 2 ^ 48; bytes = y % 2 ^ 64 }) e ∙ ap (λ (v : ℕ). record { entry = m; packets = z % 2 ^ 48; bytes = v % 2 ^ 64 }) f
+
 among-kept : (numbers : List ℕ) (hits : List Hit) (m : ℕ) → list_any (λ k. k == m) numbers ≡ true → count_for (hits_among numbers hits) m ≡ count_for hits m
 among-kept numbers hits m there =
-    parts (sum_by-filter (λ h. cond (h.number == m) 1 0) test hits (λ h out. off h out 1))
+    count_parts m (sum_by-filter (λ h. cond (h.number == m) 1 0) test hits (λ h out. off h out 1))
     (sum_by-filter (λ h. cond (h.number == m) h.bytes 0) test hits (λ h out. off h out h.bytes))
   where
     test : Hit → Bool
@@ -104,9 +108,6 @@ among-kept numbers hits m there =
         by : (b : Bool) → (h.number == m) ≡ b → cond b x 0 ≡ 0
         by true e = absurd (true≢false (sym there ∙ ap (λ n. list_any (λ k. k == n) numbers) (sym (same_number h.number m e)) ∙ out))
         by false e = refl
-
-    parts : {x y z w : ℕ} → x ≡ z → y ≡ w → ◌≡◌ {A = Count} (record { entry = m; packets = x % 2 ^ 48; bytes = y % 2 ^ 64 }) (record { entry = m; packets = z % 2 ^ 48; bytes = w % 2 ^ 64 })
-    parts {x} {y} {z} {w} e f = ap (λ (v : ℕ). record { entry = m; packets = v % 2 ^ 48; bytes = y % 2 ^ 64 }) e ∙ ap (λ (v : ℕ). record { entry = m; packets = z % 2 ^ 48; bytes = v % 2 ^ 64 }) f
 
 among-none : (numbers : List ℕ) (hits : List Hit) (m : ℕ) → list_any (λ k. k == m) numbers ≡ false → zero_count m ≡ count_for (hits_among numbers hits) m
 among-none numbers hits m out =

@@ -1,10 +1,11 @@
 -- What holds of each item of a list and each later one.
-use Rattle.std.proofs.Common.{ℕ, suc, ◌+◌, ◌<◌, List, [], ◌∷◌, ◌++◌, map, length, get_or, sym, subst, arith}
+use Rattle.std.proofs.Common.{ℕ, zero, suc, ◌+◌, ◌<◌, ◌≤◌, List, [], ◌∷◌, ◌++◌, map, length, get_or, sym, subst, arith}
 use Rattle.std.specs.Prelude.{All, AllPairs}
+use Rattle.std.specs.List.{range_with_len}
 use Rattle.std.proofs.lemmas.List.{get_or-map, length-map}
 use Rattle.std.proofs.lemmas.List.Elements.{All-append, All-cons, All-head, All-nil, All-tail}
 use Rattle.std.proofs.lemmas.List.Kept.{AllPairs-cons}
-use Rattle.rmt_bits.proofs.AllLaws.{All-left, All-right}
+use Rattle.rmt_bits.proofs.AllLaws.{All-between, All-left, All-right}
 
 pub AllPairs-none : {X : Type 0} (R : X → X → Type 0) → AllPairs R []
 AllPairs-none R i j d below within = absurd (omega (arith, within))
@@ -47,3 +48,8 @@ AllPairs-across R (x ∷ xs) ys h =
 -- what follows holds too
 pub AllPairs-weaker : {X : Type 0} (R S : X → X → Type 0) → ((x y : X) → R x y → S x y) → (xs : List X) → AllPairs R xs → AllPairs S xs
 AllPairs-weaker R S weak xs h i j d lt below = weak (get_or xs i d) (get_or xs j d) (h i j d lt below)
+
+-- numbers in a row rise
+pub range_rises : (a n : ℕ) → AllPairs (λ x y. x < y) (range_with_len a n)
+range_rises a zero = AllPairs-none (λ x y. x < y)
+range_rises a (suc n) = AllPairs-cons (λ x y. x < y) a (range_with_len (a + 1) n) (All-between (λ y. a < y) (a + 1) n (λ w le lt. omega (arith, le))) (range_rises (a + 1) n)

@@ -1,6 +1,8 @@
--- Tests joined by &&: each of them holds where all of them do.
-use Rattle.std.proofs.Common.{◌≡◌, Bool, true, ◌&&◌}
+-- Tests joined by &&: each of them holds where all of them do; and what holds of either value that a test chooses.
+use Rattle.std.proofs.Common.{◌≡◌, ℕ, ◌+◌, ◌==◌, Bool, true, false, cond, ◌&&◌, refl, arith}
+use Rattle.std.specs.Prelude.{nat_lt}
 use Rattle.std.proofs.lemmas.Bool.{and_parts}
+use Rattle.std.proofs.lemmas.Bool.Decides.{nat_tests}
 
 pub split2 : {a1 a2 : Bool} → (a1 && a2) ≡ true → (a1 ≡ true) × (a2 ≡ true)
 split2 {a1} {a2} e = and_parts a1 a2 e
@@ -58,3 +60,20 @@ split11 {a1} {a2} {a3} {a4} {a5} {a6} {a7} {a8} {a9} {a10} {a11} e =
     let p = and_parts (a1 && a2 && a3 && a4 && a5 && a6 && a7 && a8 && a9 && a10) a11 e in
     let q = split10 p.0 in
     (q.0, q.1, q.2, q.3, q.4, q.5, q.6, q.7, q.8, q.9, p.1)
+
+pub either : {A : Type 0} (P : A → Type 0) (b : Bool) (x y : A) → P x → P y → P (cond b x y)
+either P true x y p q = p
+either P false x y p q = q
+
+-- a part below one number more is one below that number or at it
+pub below_next : (a k x : ℕ) → cond (nat_lt a (k + 1)) x 0 ≡ cond (nat_lt a k) x 0 + cond (a == k) x 0
+below_next a k x = grind (arith, nat_tests)
+
+-- nothing, either way
+pub nothing_either : (b : Bool) (q : ℕ) → q ≡ 0 → cond b q 0 ≡ 0
+nothing_either true q none = none
+nothing_either false q none = refl
+
+pub and_false_right : (a b : Bool) → b ≡ false → (a && b) ≡ false
+and_false_right true b h = h
+and_false_right false b h = refl

@@ -1,5 +1,6 @@
 -- Decimal and hexadecimal digits, and the numbers that they say.
-use Rattle.std.specs.Prelude.{ℕ, ◌+◌, ◌-◌, ◌*◌, List, Bool, ◌==◌, ◌&&◌, ◌||◌, nat_le, if◌then◌else◌, fold, slice_index}
+use Rattle.std.specs.Prelude.{ℕ, ◌+◌, ◌-◌, ◌*◌, List, Bool, Option, Some, None, ◌==◌, ◌&&◌, ◌||◌, not, nat_le, nat_lt, if◌then◌else◌, fold, length, slice_index}
+use Rattle.std.specs.List.{list_all}
 
 abbrev pub is_digit : ℕ → Bool
 is_digit b = nat_le 48 b && nat_le b 57
@@ -23,3 +24,15 @@ number_of_digits base digits = fold (appended base) 0 digits
 -- a text that begins with 0x; past its end a text has the byte 0
 abbrev pub is_hex_number : List ℕ → Bool
 is_hex_number text = slice_index text 0 == 48 && slice_index text 1 == 120
+
+-- the number of one or more digits, and of nothing else
+abbrev pub number_in : ℕ → (ℕ → Bool) → List ℕ → Option ℕ
+number_in base is_one digits = if not (length digits == 0) && list_all is_one digits then Some (number_of_digits base digits) else None
+
+abbrev pub decimal : List ℕ → Option ℕ
+decimal word = number_in 10 is_digit word
+
+-- a number below a limit
+abbrev pub below : ℕ → Option ℕ → Option ℕ
+below limit None = None
+below limit (Some n) = if nat_lt n limit then Some n else None

@@ -1,8 +1,8 @@
 //! Decimal and hexadecimal digits, and the numbers that they say.
 
-ghost use Rattle.std.specs.Prelude.{◌≡◌, ◌<◌, ◌≤◌, length, SomeIff};
+ghost use Rattle.std.specs.Prelude.{◌≡◌, ◌+◌, ◌<◌, ◌≤◌, length, SomeIff};
 ghost use Rattle.std.specs.List.{list_all, prefix_len, take_while};
-ghost use Rattle.rmt_bits.specs.Digits.{appended, digit_value, is_digit, is_hex, is_hex_number, number_of_digits};
+ghost use Rattle.rmt_bits.specs.Digits.{appended, below, decimal, digit_value, is_digit, is_hex, is_hex_number, number_in, number_of_digits};
 
 /// Whether a byte is a decimal digit.
 pub fn is_digit(byte: u8) -> bool
@@ -95,4 +95,28 @@ pub fn number_up_to(last: u128, base: u128, digits: &[u8]) -> Option<u128>
         value = longer;
     }
     Some(value)
+}
+
+/// The number that one or more decimal digits say, and nothing else does, where it is at most `last`.
+#[tactic(auto, using(crate::proofs::DigitLaws::number_below, crate::proofs::DigitLaws::number_none))]
+pub fn decimal(last: u128, word: &[u8]) -> Option<u128>
+    ensures { result ≡ below (last + 1) (decimal word.now) }
+{
+    if !word.is_empty() && are_digits(word) {
+        number_up_to(last, 10, word)
+    } else {
+        None
+    }
+}
+
+/// The number that one or more hexadecimal digits say, and nothing else does, where it is at most `last`.
+#[tactic(auto, using(crate::proofs::DigitLaws::number_below, crate::proofs::DigitLaws::number_none))]
+pub fn hexadecimal(last: u128, digits: &[u8]) -> Option<u128>
+    ensures { result ≡ below (last + 1) (number_in 16 is_hex digits.now) }
+{
+    if !digits.is_empty() && are_hex(digits) {
+        number_up_to(last, 16, digits)
+    } else {
+        None
+    }
 }

@@ -5,6 +5,7 @@
 pub mod answer;
 pub mod bits;
 pub mod counts;
+pub mod cuts;
 pub mod digits;
 pub mod fault;
 pub mod groups;

@@ -6,7 +6,6 @@ use Rattle.std.proofs.Math.Nat.{mul-le-mul_right}
 use Rattle.std.proofs.lemmas.Option.{slice_get_within}
 use Rattle.std.proofs.lemmas.Bool.{eqb-true, and_parts, cases_lt}
 use Rattle.std.proofs.lemmas.List.Elements.{All-contains}
-use Rattle.std.proofs.lemmas.List.Folds.{Any-from_list_any}
 use Rattle.std.proofs.lemmas.List.Sums.{sum_by-cons}
 use Rattle.rmt_bits.proofs.ListLaws.{slice_get-item, slice_get-end}
 use Rattle.rmt_pack.proofs.FormatLaws.{divided_up-least}
@@ -27,6 +26,7 @@ use Rattle.rmt_bounds.proofs.StageSums.{total, total-le, total-swap, total-times
 use Rattle.rmt_bounds.proofs.NodeLaws.{IsLeast, of_what, fits_alone, blocks-le, sram-le_of_kind, tcam-le_of_kind, whole_tcam}
 use Rattle.rmt_bits.proofs.AllLaws.{All-unmap}
 use Rattle.rmt_bits.proofs.MostLaws.{items-le}
+use Rattle.rmt_bits.proofs.MemberLaws.{any_item}
 
 -- ---- one node in a legal placement
 
@@ -46,10 +46,6 @@ pub own-le-taken : (p : Program) (parts : List Part) (blocks : ℕ → ℕ) (n s
 own-le-taken p parts blocks n stage there = one-le-sum (λ node. quanta_in parts node stage * blocks node) 0 (length p.nodes) n (omega arith) (omega arith)
 
 -- ---- items of lists
-
--- an item that passes, where some does
-pub any_item : {X : Type 0} (t : X → Bool) (xs : List X) → list_any t xs ≡ true → (x : X) × Contains xs x × (t x ≡ true)
-any_item t xs some = let (place, item, lt, at, passes) = Any-from_list_any t xs some in (item, (place, lt, at), passes)
 
 -- a sum over the items of a list is within one over their numbers
 sum-le-numbered : {X : Type 0} (f : X → ℕ) (g : ℕ → ℕ) (a : ℕ) (xs : List X) → ((n : ℕ) (x : X) → slice_get xs n ≡ Some x → f x ≤ g (a + n))

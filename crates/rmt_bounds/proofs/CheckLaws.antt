@@ -13,9 +13,9 @@ use Rattle.rmt_pack.specs.Placements.{IsLegal}
 use Rattle.rmt_bounds.specs.Bounds.{EdgesRise, all_bests, greatest, sram_sum, tcam_sum, table_count, stage_bound}
 use Rattle.rmt_bounds.specs.Proofs.{joins}
 use Rattle.rmt_bounds.specs.Used.{stages_used, taking_room}
-use Rattle.rmt_bounds.proofs.ChainLaws.{any_item}
 use Rattle.rmt_bounds.proofs.BestLaws.{bound-le}
 use Rattle.rmt_bounds.proofs.UsedLaws.{legal_taking_room}
+use Rattle.rmt_bits.proofs.MemberLaws.{any_item}
 
 -- the first of two nodes that an edge joins has the lesser number
 joined-lt : (p : Program) (edges : List Edge) (a b : ℕ) → EdgesRise p edges → list_any (joins a b) edges ≡ true → a < b

@@ -6,7 +6,6 @@ use Rattle.std.proofs.Math.Nat.{min-eq_left, min-eq_right}
 use Rattle.std.proofs.lemmas.List.Sums.{passes_at_first, fails_before_first}
 use Rattle.std.proofs.lemmas.Bool.{ltb-true, ltb-false, eqb-true, eqb-false, eq-eqb, ne_eqb, and_parts, and_from, cases_lt, cases_eq, false≢true}
 use Rattle.std.proofs.lemmas.List.Elements.{All-contains}
-use Rattle.std.proofs.lemmas.List.Folds.{list_any_at}
 use Rattle.rmt_ast.specs.declared.deps.Edge.{Edge}
 use Rattle.rmt_ast.specs.declared.program.Program.{Program}
 use Rattle.rmt_ast.specs.WellFormed.{IsProgram}
@@ -17,9 +16,8 @@ use Rattle.rmt_bounds.specs.declared.bound.Proof.{Proof}
 use Rattle.rmt_bounds.specs.declared.bound.Proof.TheVariants.{Chain, Sram, Tcam, Slots}
 use Rattle.rmt_bounds.specs.Proofs.{joins, shared_by, IsChain, chain_stages, Gives}
 use Rattle.rmt_bounds.proofs.BestLaws.{length-bests, index-front, index-last}
-use Rattle.rmt_bounds.proofs.ChainLaws.{any_item}
 use Rattle.rmt_bounds.proofs.NodeLaws.{node-some}
-use Rattle.rmt_bits.proofs.MemberLaws.{Contains-filter, Contains-first, Contains-later, Contains-map, Contains-unfilter, Contains-unmap}
+use Rattle.rmt_bits.proofs.MemberLaws.{Contains-filter, Contains-first, Contains-later, Contains-map, Contains-unfilter, Contains-unmap, any_item, list_any-Contains}
 use Rattle.rmt_bits.proofs.AllLaws.{All-unmap}
 use Rattle.rmt_bits.proofs.MostLaws.{items-le, max-either, picked}
 
@@ -43,10 +41,6 @@ least-reached (x ∷ xs) y there = elim (min-reached x xs) [
   | inl first ↦ subst (Contains (x ∷ xs)) (sym first) (Contains-first x xs)
   | inr later ↦ Contains-later x xs (fold min x xs) later
 ]
-
--- a test that an item passes is passed by some
-any_here : {X : Type 0} (t : X → Bool) (xs : List X) (x : X) → Contains xs x → t x ≡ true → list_any t xs ≡ true
-any_here t xs x there pass = list_any_at t xs there.0 x there.1 (ap t there.2 ∙ pass)
 
 -- ---- chains with a node more at their end
 
@@ -137,7 +131,7 @@ module _ (p : Program) (is : IsProgram p) (edges : List Edge) (rise : EdgesRise 
 
       weak : (t : Bool) → is_strict e.kind ≡ t → list_any (λ (g : Edge). joins m n g && is_strict g.kind) edges ≡ false → shared e ≡ 1
       weak true strict none =
-          absurd (false≢true (sym none ∙ any_here (λ (g : Edge). joins m n g && is_strict g.kind) edges e found
+          absurd (false≢true (sym none ∙ list_any-Contains (λ (g : Edge). joins m n g && is_strict g.kind) edges e found
           (and_from (joins m n e) (is_strict e.kind) (and_from (e.from == m) (e.to == n) (eq-eqb e.from m from) (eq-eqb e.to n to)) strict)))
       weak false strict none = ap (λ (t : Bool). cond t 0 1) strict
 
@@ -174,7 +168,7 @@ module _ (p : Program) (is : IsProgram p) (edges : List Edge) (rise : EdgesRise 
       let i = ih m before in
       let gives = eqb-true (through p all item.0) (best n) first.1 in
       let joined : IsTrue (list_any (joins m n) edges) =
-      any_here (joins m n) edges item.0 then.0 (and_from (item.0.from == m) (item.0.to == n) (eq-eqb item.0.from m item.2) (eq-eqb item.0.to n to)) in
+      list_any-Contains (joins m n) edges item.0 then.0 (and_from (item.0.from == m) (item.0.to == n) (eq-eqb item.0.from m item.2) (eq-eqb item.0.to n to)) in
       let whole : chain_to p edges all k m ++ n ∷ [] ≡ chain_to p edges all (suc k) n =
       ap (λ (t : Bool). cond t [] (chain_to p edges all k m) ++ n ∷ []) (sym (ne_eqb (best n) (node_stages p n) other)) in
       let ended : IsChain p edges (i.front ++ m ∷ []) = subst (IsChain p edges) i.last i.chain in

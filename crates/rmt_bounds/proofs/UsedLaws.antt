@@ -1,5 +1,5 @@
 -- A legal placement stays legal without the parts that take no room, so a bound counts only the stages that are used.
-use Rattle.std.proofs.Common.{◌≡◌, ℕ, ◌*◌, ◌<◌, ◌≤◌, ◌⊎◌, List, Bool, true, false, inl, inr, cond, filter, get_or, length, refl, ap, sym, ◌∙◌, subst, arith}
+use Rattle.std.proofs.Common.{◌≡◌, ℕ, ◌*◌, ◌<◌, ◌≤◌, ◌⊎◌, List, Bool, true, false, inl, inr, cond, filter, get_or, length, ap, sym, ◌∙◌, subst, arith}
 use Rattle.std.specs.Prelude.{All, ◌==◌, ◌&&◌, nat_lt}
 use Rattle.std.specs.List.{range_with_len}
 use Rattle.std.proofs.lemmas.Bool.{cases_lt, false≢true, lt-ltb, ne_eqb}
@@ -14,10 +14,7 @@ use Rattle.rmt_pack.specs.declared.placement.Part.{Part}
 use Rattle.rmt_pack.specs.declared.placement.Placement.{Placement}
 use Rattle.rmt_pack.specs.Placements.{quanta_in, quanta_of, taken_in, tables_in, is_table_at, Keeps, IsLegal, IsLegalWith}
 use Rattle.rmt_bounds.specs.Used.{takes_room, taking_room}
-
-nothing_either : (b : Bool) (q : ℕ) → q ≡ 0 → cond b q 0 ≡ 0
-nothing_either true q none = none
-nothing_either false q none = refl
+use Rattle.rmt_bits.proofs.TestLaws.{nothing_either}
 
 module _ (p : Program) (n : ℕ) (there : n < length p.nodes) where
   -- a part that takes no room has nothing of a node of the program

@@ -18,8 +18,8 @@ use Rattle.rmt_cuckoo.specs.declared.layout.Ways.{Ways}
 use Rattle.rmt_cuckoo.specs.declared.way.Way.{Way}
 use Rattle.rmt_cuckoo.specs.Loading.{candidates, cells_in, row_start, way_of, ways_from}
 use Rattle.rmt_refine.proofs.FindLaws.{Contains-range}
-use Rattle.rmt_refine.proofs.PartLaws.{cell_lt}
 use Rattle.rmt_bits.proofs.MemberLaws.{Contains-unmap, Contains-flat_map, from_flat_map}
+use Rattle.rmt_config.proofs.CellLaws.{cell_lt}
 
 range_bounds : (a n x : ℕ) → Contains (range_with_len a n) x → (a ≤ x) × (x < a + n)
 range_bounds a n x there =

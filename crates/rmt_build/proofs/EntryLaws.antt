@@ -18,7 +18,7 @@ use Rattle.rmt_config.specs.Shapes.{divided_up}
 use Rattle.rmt_pack.specs.Placements.{data_bits, param_bits}
 use Rattle.rmt_pack.proofs.FormatLaws.{divided_up-covers}
 use Rattle.rmt_pack.proofs.TcamLaws.{masks-fit, side_by_side-lt, values-fit}
-use Rattle.rmt_refine.specs.Cells.{tests_as_one}
+use Rattle.rmt_config.specs.Rooms.{tests_as_one}
 use Rattle.rmt_build.specs.Data.{data_of}
 use Rattle.rmt_build.specs.Holding.{head_for}
 use Rattle.rmt_build.specs.Rooms.{AreOf}

@@ -28,32 +28,23 @@ use Rattle.rmt_refine.specs.Units.{UnitCarried, nodes_in, table_at}
 use Rattle.rmt_build.proofs.FormStage.{kinds}
 use Rattle.rmt_build.proofs.PartLaws.{sum_more}
 use Rattle.rmt_build.proofs.PlanLaws.{part_sram, part_tcam}
+use Rattle.rmt_bits.proofs.ListLaws.{range-append}
 
 -- ---- ranges
-
-pub range_append : (start a b : ℕ) → range_with_len start (a + b) ≡ range_with_len start a ++ range_with_len (start + a) b
-range_append start zero b =
-    let e : 0 + b ≡ b = omega arith in
-    let f : start ≡ start + 0 = omega arith in
-    ap (range_with_len start) e ∙ ap (λ s. range_with_len s b) f
-range_append start (suc a) b =
-    let e : suc a + b ≡ suc (a + b) = omega arith in
-    let f : start + 1 + a ≡ start + suc a = omega arith in
-    ap (range_with_len start) e ∙ ap (λ xs. start ∷ xs) (range_append (start + 1) a b ∙ ap (λ s. range_with_len (start + 1) a ++ range_with_len s b) f)
 
 three_ranges : (start a b c : ℕ) → range_with_len start a ++ range_with_len (start + a) b ++ range_with_len (start + a + b) c ≡ range_with_len start (a + b + c)
 three_ranges start a b c =
     let e : start + a + b ≡ start + (a + b) = omega arith in
-    ap (λ xs. xs ++ range_with_len (start + a + b) c) (sym (range_append start a b)) ∙ ap (λ s. range_with_len start (a + b) ++ range_with_len s c) e
-    ∙ sym (range_append start (a + b) c)
+    ap (λ xs. xs ++ range_with_len (start + a + b) c) (sym (range-append start a b)) ∙ ap (λ s. range_with_len start (a + b) ++ range_with_len s c) e
+    ∙ sym (range-append start (a + b) c)
 
 -- ---- the blocks of a memory
 
 memory_sram_is : (kd : Kind) (n : Need) (taken : Taken) → memory_sram (memory_for kd n taken) ≡ range_with_len taken.sram (sram_for kd (blocks_for kd n))
 memory_sram_is kind.Keyless n taken = refl
 memory_sram_is kind.Exact n taken = let s = blocks_for kind.Exact n in three_ranges taken.sram s.keys s.records s.counters
-memory_sram_is kind.Prefix n taken = let s = blocks_for kind.Prefix n in sym (range_append taken.sram s.records s.counters)
-memory_sram_is kind.Ternary n taken = let s = blocks_for kind.Ternary n in sym (range_append taken.sram s.records s.counters)
+memory_sram_is kind.Prefix n taken = let s = blocks_for kind.Prefix n in sym (range-append taken.sram s.records s.counters)
+memory_sram_is kind.Ternary n taken = let s = blocks_for kind.Ternary n in sym (range-append taken.sram s.records s.counters)
 
 memory_tcam_is : (kd : Kind) (n : Need) (taken : Taken) → memory_tcam (memory_for kd n taken) ≡ range_with_len taken.tcam (tcam_for kd (blocks_for kd n))
 memory_tcam_is kind.Keyless n taken = refl
@@ -94,7 +85,7 @@ module _ (blocks : Unit → List ℕ) (f : ℕ → ℕ) (stands : ℕ → Bool) 
       record {
         count = f m + r.count;
         are = ap (λ xs. xs ++ flat_map blocks us) zip.0 ∙ ap (λ xs. range_with_len (before m) (f m) ++ xs) (r.are ∙ ap (λ s. range_with_len s r.count) more)
-            ∙ sym (range_append (before m) (f m) r.count);
+            ∙ sym (range-append (before m) (f m) r.count);
         all = omega (arith, all, more);
       }
 

@@ -14,7 +14,7 @@ use Rattle.rmt_ast.specs.State.{width_of}
 use Rattle.rmt_ast.specs.WellFormed.{Fits, bits_of}
 use Rattle.rmt_config.specs.declared.config.Memory.TheVariants.{Exact, Ternary}
 use Rattle.rmt_config.specs.Cells.{code_of, is_seen, row_record, visible_bits}
-use Rattle.rmt_refine.specs.Cells.{tests_as_one}
+use Rattle.rmt_config.specs.Rooms.{tests_as_one}
 use Rattle.rmt_config.specs.Effects.{HasArguments}
 use Rattle.rmt_build.specs.declared.stands.Stand.{Stand}
 use Rattle.rmt_build.specs.Holding.{ExactHolds, ExactSo, Held, HoldsIn, PartHolds, TernaryHolds, TernarySo, content_in, data_for, exact_part, head_for, ternary_part, value_for}

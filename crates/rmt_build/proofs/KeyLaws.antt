@@ -14,7 +14,7 @@ use Rattle.rmt_bits.specs.Bits.{bytes_of, deposit, number_of}
 use Rattle.rmt_build.specs.Types.{Program, Field, Test}
 use Rattle.rmt_ast.specs.State.{width_of}
 use Rattle.rmt_ast.specs.WellFormed.{IsProgram, IsTest, IsWidth}
-use Rattle.rmt_refine.specs.Cells.{tests_as_one}
+use Rattle.rmt_config.specs.Rooms.{tests_as_one}
 use Rattle.rmt_build.proofs.LoadedLaws.{zip_length}
 use Rattle.rmt_bits.proofs.BitLaws.{deposit-multiple}
 

@@ -24,7 +24,7 @@ use Rattle.rmt_ast.specs.declared.entry.Entry.{Entry}
 use Rattle.rmt_ast.specs.EntryLists.{AreTableEntries, terms_of}
 use Rattle.rmt_ast.specs.State.{width_of}
 use Rattle.rmt_ast.specs.WellFormed.{IsProgram}
-use Rattle.rmt_refine.specs.Cells.{tests_as_one}
+use Rattle.rmt_config.specs.Rooms.{tests_as_one}
 use Rattle.rmt_refine.specs.Units.{table_at}
 use Rattle.rmt_build.specs.Loads.{keys_of, layout_in, layout_of, ways_for}
 use Rattle.rmt_build.specs.Plans.{AreParts, format_at}

@@ -31,10 +31,9 @@ use Rattle.rmt_pack.specs.declared.placement.Part.{Part}
 use Rattle.rmt_pack.specs.declared.format.Format.{Format}
 use Rattle.rmt_pack.specs.Formats.{IsFormat, ternary_format}
 use Rattle.rmt_pack.specs.Placements.{key_bits, quanta_in, quanta_of, table_need}
-use Rattle.rmt_refine.specs.Cells.{tests_as_one}
+use Rattle.rmt_config.specs.Rooms.{tests_as_one}
 use Rattle.rmt_refine.specs.Outcomes.{entries_at}
 use Rattle.rmt_refine.specs.Units.{applied, table_at}
-use Rattle.rmt_refine.proofs.CountLaws.{below_next}
 use Rattle.rmt_refine.proofs.OutcomeLaws.{list_at}
 use Rattle.rmt_refine.proofs.PartLaws.{some_and, then_some}
 use Rattle.rmt_refine.proofs.TheLaw.{table_entries}
@@ -48,6 +47,7 @@ use Rattle.rmt_build.proofs.PartLaws.{quanta_more}
 use Rattle.rmt_build.proofs.PlanLaws.{is_format, is_table, node_there}
 use Rattle.rmt_bits.proofs.ListLaws.{slice_get-item, AllZip-slice_get}
 use Rattle.rmt_bits.proofs.MemberLaws.{Contains-first, Contains-later}
+use Rattle.rmt_bits.proofs.TestLaws.{below_next}
 
 -- ---- one list beside another
 

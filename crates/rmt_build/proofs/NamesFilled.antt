@@ -21,8 +21,7 @@ use Rattle.rmt_ast.specs.WellFormed.{IsProgram}
 use Rattle.rmt_config.specs.Cells.{candidates}
 use Rattle.rmt_config.specs.LaneForm.{bits_of_lanes}
 use Rattle.rmt_config.specs.NamesForm.{each_part, entries_by_cell, entry_in, has_entries, has_keys_once, has_masks, has_order, has_ranks, held_by, is_filled_so, prefix_length, stands_in_candidates}
-use Rattle.rmt_config.specs.Rooms.{PartAt, parts_of}
-use Rattle.rmt_refine.specs.Cells.{tests_as_one}
+use Rattle.rmt_config.specs.Rooms.{PartAt, parts_of, tests_as_one}
 use Rattle.rmt_refine.specs.Units.{UnitsCarried, table_at}
 use Rattle.rmt_refine.proofs.TheLaw.{table_entries}
 use Rattle.rmt_build.specs.Types.{CellNumber, Config, Kind, Program, Stage, Table, Test}

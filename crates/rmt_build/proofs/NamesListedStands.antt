@@ -6,7 +6,7 @@ use Rattle.std.proofs.Math.Bool.{and-false}
 use Rattle.std.proofs.lemmas.Bool.{cases_lt, le-leb, le-ltb, lt-leb, lt-ltb}
 use Rattle.std.proofs.lemmas.List.{append-nil, map-append}
 use Rattle.std.proofs.lemmas.List.Concat.{flat_map-append}
-use Rattle.std.proofs.lemmas.List.Elements.{All-cons, All-head, All-tail, All-weaker}
+use Rattle.std.proofs.lemmas.List.Elements.{All-cons, All-weaker}
 use Rattle.rmt_bits.proofs.ListLaws.{range_more}
 use Rattle.rmt_bits.proofs.PairLaws.{AllPairs-head, AllPairs-tail}
 use Rattle.rmt_pack.specs.declared.placement.Part.{Part}
@@ -18,14 +18,9 @@ use Rattle.rmt_build.specs.EntryCells.{cells_for, stands_there}
 use Rattle.rmt_build.specs.Plans.{quanta_before}
 use Rattle.rmt_build.proofs.PartLaws.{quanta_more}
 use Rattle.rmt_build.proofs.StandLaws.{cells_add, first_cell, part_cells}
-use Rattle.rmt_bits.proofs.AlikeLaws.{filter_alike, filter_none}
+use Rattle.rmt_bits.proofs.AlikeLaws.{filter_alike, filter_none, filter_all}
 
 -- ---- lists
-
-filter_whole : {X : Type 0} (f : X → Bool) (xs : List X) → All (λ x. f x ≡ true) xs → filter f xs ≡ xs
-filter_whole f [] all = refl
-filter_whole f (x ∷ xs) all =
-    ap (λ b. cond b (x ∷ filter f xs) (filter f xs)) (All-head (λ z. f z ≡ true) x xs all) ∙ ap (λ ys. x ∷ ys) (filter_whole f xs (All-tail (λ z. f z ≡ true) x xs all))
 
 -- ---- those before a cell
 
@@ -107,6 +102,6 @@ module _ (kind : Kind) (per : ℕ) (parts : List Part) (n : ℕ) (own : List Sta
       → flat_map (λ k. map g (stands_in k)) (range_with_len 0 stages) ≡ map g own
   all_parts g stages below =
       upto g stages
-      ∙ ap (map g) (filter_whole (lies_before (first_cell kind per parts n stages)) own
+      ∙ ap (map g) (filter_all (lies_before (first_cell kind per parts n stages)) own
       (All-weaker (λ (s : Stand). s.cell < first_cell kind per parts n stages) (λ (s : Stand). lies_before (first_cell kind per parts n stages) s ≡ true)
       (λ s lt. lt-ltb s.cell (first_cell kind per parts n stages) lt) own below))

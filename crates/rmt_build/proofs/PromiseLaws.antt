@@ -2,7 +2,7 @@
 use Rattle.std.proofs.Common.{◌≡◌, ℕ, zero, suc, ◌+◌, ◌*◌, ◌<◌, ◌≤◌, ◌==◌, ◌&&◌, ◌||◌, Bool, true, false, cond, List, [], ◌∷◌, Some, length, map, get_or, refl, sym, ap, ◌∙◌, subst, inl, inr, arith}
 use Rattle.std.specs.Prelude.{Contains, count_by, nat_lt, slice_get, sum_by}
 use Rattle.std.specs.List.{range_with_len}
-use Rattle.std.proofs.lemmas.Bool.{cases_eq, eq-eqb, lt-ltb, le-ltb, ne_eqb, or_right}
+use Rattle.std.proofs.lemmas.Bool.{cases_eq, eq-eqb, lt-ltb, or_right}
 use Rattle.std.proofs.lemmas.List.Elements.{Contains-get_or, All-contains}
 use Rattle.std.proofs.lemmas.List.{get_or-map, length-map}
 use Rattle.std.proofs.lemmas.List.FromFn.{get_or-range_with_len, length-range_with_len}
@@ -30,9 +30,8 @@ use Rattle.rmt_build.specs.Promises.{HasFormat, HasRows, StandInRows}
 use Rattle.rmt_build.specs.EntryCells.{GoesFirst, StandInOrder, cells_for}
 use Rattle.rmt_build.specs.Told.{cells_told}
 use Rattle.rmt_build.proofs.CellsLaws.{told_stands}
-use Rattle.rmt_build.proofs.TableLaws.{AreInRows}
+use Rattle.rmt_build.proofs.TableLaws.{AreInRows, goes_back, goes_itself}
 use Rattle.rmt_bits.proofs.MemberLaws.{Contains-map}
-use Rattle.std.proofs.Math.Bool.{and-false}
 
 -- ---- formats
 
@@ -52,21 +51,6 @@ goes_true Prefix e f (inl more) = ap (λ b. b || ((e.rank == f.rank) && nat_lt e
 goes_true Prefix e f (inr (same, lt)) = or_right (nat_lt f.rank e.rank) _ (ap (λ b. b && nat_lt e.number f.number) (eq-eqb e.rank f.rank same) ∙ lt-ltb e.number f.number lt)
 goes_true Ternary e f (inl less) = ap (λ b. b || ((e.rank == f.rank) && nat_lt e.number f.number)) (lt-ltb e.rank f.rank less)
 goes_true Ternary e f (inr (same, lt)) = or_right (nat_lt e.rank f.rank) _ (ap (λ b. b && nat_lt e.number f.number) (eq-eqb e.rank f.rank same) ∙ lt-ltb e.number f.number lt)
-
--- the first of two never goes behind
-goes_back : (kind : Kind) (e f : Entry) → GoesFirst kind e f → goes_first kind f e ≡ false
-goes_back Keyless e f goes = refl
-goes_back Exact e f goes = refl
-goes_back Prefix e f (inl more) = rw (le-ltb e.rank f.rank (omega (arith, more)), ne_eqb f.rank e.rank (λ s. omega (arith, s, more))) refl
-goes_back Prefix e f (inr (same, lt)) = rw (le-ltb e.rank f.rank (omega (arith, same)), le-ltb f.number e.number (omega (arith, lt))) (and-false (f.rank == e.rank))
-goes_back Ternary e f (inl less) = rw (le-ltb f.rank e.rank (omega (arith, less)), ne_eqb f.rank e.rank (λ s. omega (arith, s, less))) refl
-goes_back Ternary e f (inr (same, lt)) = rw (le-ltb f.rank e.rank (omega (arith, same)), le-ltb f.number e.number (omega (arith, lt))) (and-false (f.rank == e.rank))
-
-goes_itself : (kind : Kind) (e : Entry) → goes_first kind e e ≡ false
-goes_itself Keyless e = refl
-goes_itself Exact e = refl
-goes_itself Prefix e = rw (le-ltb e.rank e.rank (omega arith), le-ltb e.number e.number (omega arith)) (and-false (e.rank == e.rank))
-goes_itself Ternary e = rw (le-ltb e.rank e.rank (omega arith), le-ltb e.number e.number (omega arith)) (and-false (e.rank == e.rank))
 
 -- ---- the number of a row
 

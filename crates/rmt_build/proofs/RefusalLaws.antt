@@ -19,6 +19,7 @@ use Rattle.rmt_build.specs.declared.fault.NoFit.{NoFit}
 use Rattle.rmt_build.specs.declared.fault.NoFit.TheVariants as no_fit
 use Rattle.rmt_build.specs.Folds.{first_deep}
 use Rattle.rmt_build.specs.Refusals.{action_told, first_refusal, packed_told, parser_told, stuck_told}
+use Rattle.rmt_bits.proofs.OptionLaws.{same_Ok}
 
 -- then the nodes are looked at
 pub then_placed : (p : Program) (places : List (List Lane)) → refusal p ≡ None → first_deep 0 p.actions ≡ None → packing p ≡ Ok places
@@ -60,10 +61,6 @@ not_refused (Some fault) is = absurd (done_not_failed tt fault is)
 pub by_rule : {X E : Type 0} (x y : X) (none : E) (rule : Result X E) → ((let r : Result X E = Ok x in r) ≢ Err none → Ok x ≡ rule) → rule ≡ Ok y → x ≡ y
 unfolding given_or
 by_rule x y none rule made is = ap (given_or x) (made (done_not_failed x none) ∙ is)
-
-pub same_Ok : {X E : Type 0} (x y : X) → (let r : Result X E = Ok x in r) ≡ Ok y → x ≡ y
-unfolding given_or
-same_Ok x y is = ap (given_or x) is
 
 -- what holds of a program's places holds of all that are given as them
 pub of_packing : (p : Program) (P : List (List Lane) → Type 0) (places : List (List Lane)) → packing p ≡ Ok places → P places → (other : List (List Lane)) → packing p ≡ Ok other → P other

@@ -1,7 +1,8 @@
 -- The cells of each table hold its entries, as the map tells.
-use Rattle.std.proofs.Common.{◌≡◌, ◌≢◌, ℕ, ◌*◌, ◌<◌, ◌==◌, ◌&&◌, true, false, List, Option, Some, None, length, map, get_or, refl, sym, ap, ◌∙◌, subst, ◌⊎◌, inl, inr, arith}
-use Rattle.std.specs.Prelude.{All, Contains, IsSomeAnd, ⊤, find, nat_lt, option_and_then, option_map, slice_get, unwrap_or}
-use Rattle.std.proofs.lemmas.Bool.{and_parts, both_ways, eq-eqb, eqb-true, ltb-true, or_cases}
+use Rattle.std.proofs.Common.{◌≡◌, ◌≢◌, ℕ, ◌*◌, ◌<◌, ◌==◌, true, false, List, Option, Some, None, length, map, get_or, refl, sym, ap, ◌∙◌, subst, ◌⊎◌, inl, inr, arith}
+use Rattle.std.specs.Prelude.{All, Contains, IsSomeAnd, ⊤, find, option_and_then, option_map, slice_get, unwrap_or}
+use Rattle.std.proofs.lemmas.Bool.{and_parts, both_ways, eq-eqb, eqb-true, le-ltb, ne_eqb}
+use Rattle.std.proofs.Math.Bool.{and-false}
 use Rattle.std.proofs.lemmas.List.{get_or_default}
 use Rattle.std.proofs.lemmas.List.Elements.{Contains-get_or, All-contains}
 use Rattle.std.proofs.lemmas.Option.{none-some, same_Some, slice_get_within}
@@ -9,18 +10,18 @@ use Rattle.rmt_build.specs.Types.{Program, Test, Table, Kind, Node, Config, Stag
 use Rattle.rmt_ast.specs.declared.program.Kind.TheVariants.{Keyless, Exact, Prefix, Ternary}
 use Rattle.rmt_ast.specs.declared.entry.Entry.{Entry}
 use Rattle.rmt_ast.specs.EntryLists.{AreEntries}
-use Rattle.rmt_ast.specs.Lookup.{precedes}
+use Rattle.rmt_ast.specs.RowOrder.{goes_first}
 use Rattle.rmt_ast.specs.State.{width_of}
 use Rattle.rmt_config.specs.declared.config.Memory.TheVariants as memory
-use Rattle.rmt_config.specs.CellForm.{is_clear}
-use Rattle.rmt_config.specs.Cells.{Content, candidates, cells_in, content_of, is_seen, number_of_cell}
+use Rattle.rmt_config.specs.Cells.{Content, candidates, content_of, is_seen, number_of_cell}
 use Rattle.rmt_config.specs.LaneForm.{bits_of_lanes}
 use Rattle.rmt_pack.specs.Placements.{quanta_in}
 use Rattle.rmt_refine.specs.declared.map.CellOf.{CellOf}
-use Rattle.rmt_refine.specs.Cells.{HoldsEntry, IsBefore, IsCandidate, IsSpotOf, IsTold, Spot, TableCellsCarried, first_code, tests_as_one}
+use Rattle.rmt_config.specs.Rooms.{tests_as_one}
+use Rattle.rmt_refine.specs.Cells.{HoldsEntry, IsBefore, IsCandidate, IsSpotOf, IsTold, Spot, TableCellsCarried, first_code}
 use Rattle.rmt_refine.specs.Units.{UnitsCarried, applied, nodes_in, table_at}
 use Rattle.rmt_refine.specs.View.{own_content, own_number, own_view, slot_of}
-use Rattle.rmt_refine.proofs.FindLaws.{Contains-range, find-some, found_passes}
+use Rattle.rmt_refine.proofs.FindLaws.{Contains-range, found_passes}
 use Rattle.rmt_refine.proofs.NodeLaws.{one_place}
 use Rattle.rmt_refine.proofs.PartLaws.{IsPart, and_from, part_of_spot, slot_of_part, spot_of_part, then_some, unit_of_part}
 use Rattle.rmt_build.specs.declared.memory.Need.{Need}
@@ -37,7 +38,9 @@ use Rattle.rmt_build.proofs.CellsLaws.{each_stands, no_cells, one_spot, part_in,
 use Rattle.rmt_build.proofs.SpotLaws.{StandsAt, listed_stands, part_size, slot_built, stand_there, stands_listed, there_stands}
 use Rattle.rmt_build.proofs.StandLaws.{behind_parts, first_cell, one_cell, part_cells}
 use Rattle.rmt_bits.proofs.MemberLaws.{Contains-item}
-use Rattle.rmt_refine.proofs.RankLaws.{precedes_never, compare}
+use Rattle.rmt_refine.proofs.RankLaws.{compare}
+use Rattle.rmt_config.proofs.CellLaws.{clear-head}
+use Rattle.rmt_bits.proofs.FindLaws.{find-some}
 
 -- ---- kinds and orders
 
@@ -52,17 +55,6 @@ kinds_apart : (kind : Kind) → kind ≡ Exact → IsExact kind
 kinds_apart kind e = subst IsExact (sym e) tt
 
 -- ---- contents
-
--- the head of a cell of a memory in which no bit is set
-clear_head : (m : Memory) (x : Content) (cell : ℕ) → cell < cells_in m → is_clear m x ≡ true → x.head ≡ 0
-clear_head memory.Without x cell lt clear = absurd (omega (arith, lt))
-clear_head (memory.Exact w per d first ks rs cs) x cell lt clear =
-    let one = and_parts ((x.head == 0) && (x.key == 0)) (x.held == 0) clear in
-    eqb-true x.head 0 (and_parts (x.head == 0) (x.key == 0) one.0).0
-clear_head (memory.Ternary d ks rs cs) x cell lt clear =
-    let one = and_parts (((x.head == 0) && (x.key == 0)) && (x.held == 0)) (x.mask == 0) clear in
-    let two = and_parts ((x.head == 0) && (x.key == 0)) (x.held == 0) one.0 in
-    eqb-true x.head 0 (and_parts (x.head == 0) (x.key == 0) two.0).0
 
 -- what a cell of a slot holds
 pub own_content_is : (c : Config) (n k place cell : ℕ) (stage : Stage) (slot : SlotUnit) → IsPart c n k place stage slot → own_content c k place cell ≡ content_of stage slot cell
@@ -89,23 +81,22 @@ some_stand xs cell = by (find (λ (y : Stand). y.cell == cell) xs) refl
         let z = find-some (λ (y : Stand). y.cell == cell) xs (get_or xs k d) there (eq-eqb (get_or xs k d).cell cell same) in
         none-some z.0 (sym e ∙ z.1)))
 
--- the first of two entries never goes behind the other
-never_behind : (kind : Kind) (e f : Entry) → precedes kind e f ≡ true → GoesFirst kind f e → ⊥
-never_behind Keyless e f first goes = both_ways false refl first
-never_behind Exact e f first goes = both_ways false refl first
-never_behind Prefix e f first goes =
-    let less = ltb-true f.rank e.rank first in
-    elim goes [ inl more ↦ omega (arith, less, more) | inr same ↦ (let s = same.0 in omega (arith, less, s)) ]
-never_behind Ternary e f first goes = elim (or_cases (nat_lt e.rank f.rank) ((e.rank == f.rank) && nat_lt e.number f.number) first) [
-  | inl less ↦ (let lt = ltb-true e.rank f.rank less in elim goes [ inl more ↦ omega (arith, lt, more) | inr same ↦ (let s = same.0 in omega (arith, lt, s)) ])
-  | inr both ↦
-      (let q = and_parts (e.rank == f.rank) (nat_lt e.number f.number) both in
-      let same = eqb-true e.rank f.rank q.0 in
-      let lt = ltb-true e.number f.number q.1 in
-      elim goes [ inl more ↦ omega (arith, same, more) | inr r ↦ (let n = r.1 in omega (arith, lt, n)) ])
-]
+-- the first of two never goes behind
+pub goes_back : (kind : Kind) (e f : Entry) → GoesFirst kind e f → goes_first kind f e ≡ false
+goes_back Keyless e f goes = refl
+goes_back Exact e f goes = refl
+goes_back Prefix e f (inl more) = rw (le-ltb e.rank f.rank (omega (arith, more)), ne_eqb f.rank e.rank (λ s. omega (arith, s, more))) refl
+goes_back Prefix e f (inr (same, lt)) = rw (le-ltb e.rank f.rank (omega (arith, same)), le-ltb f.number e.number (omega (arith, lt))) (and-false (f.rank == e.rank))
+goes_back Ternary e f (inl less) = rw (le-ltb f.rank e.rank (omega (arith, less)), ne_eqb f.rank e.rank (λ s. omega (arith, s, less))) refl
+goes_back Ternary e f (inr (same, lt)) = rw (le-ltb f.rank e.rank (omega (arith, same)), le-ltb f.number e.number (omega (arith, lt))) (and-false (f.rank == e.rank))
 
-has_rows : (kind : Kind) (e f : Entry) → precedes kind e f ≡ true → HasRows kind
+pub goes_itself : (kind : Kind) (e : Entry) → goes_first kind e e ≡ false
+goes_itself Keyless e = refl
+goes_itself Exact e = refl
+goes_itself Prefix e = rw (le-ltb e.rank e.rank (omega arith), le-ltb e.number e.number (omega arith)) (and-false (e.rank == e.rank))
+goes_itself Ternary e = rw (le-ltb e.rank e.rank (omega arith), le-ltb e.number e.number (omega arith)) (and-false (e.rank == e.rank))
+
+has_rows : (kind : Kind) (e f : Entry) → goes_first kind e f ≡ true → HasRows kind
 has_rows Keyless e f first = absurd (both_ways false refl first)
 has_rows Exact e f first = absurd (both_ways false refl first)
 has_rows Prefix e f first = tt
@@ -113,7 +104,7 @@ has_rows Ternary e f first = tt
 
 -- where rows stand in order, the first of two entries stands in a lower one
 in_front : (kind : Kind) (es : List Entry) (own : List Stand) (e f : Entry) (s r : Stand) → StandInOrder kind es own → StandOnce (length es) own → Contains own s → Contains own r
-    → slice_get es s.entry ≡ Some e → slice_get es r.entry ≡ Some f → precedes kind e f ≡ true → s.cell < r.cell
+    → slice_get es s.entry ≡ Some e → slice_get es r.entry ≡ Some f → goes_first kind e f ≡ true → s.cell < r.cell
 in_front kind es own e f s r order once in_s in_r at_s at_r first = elim (compare in_s.0 in_r.0) [
   | inl lt ↦
       let less = once.rise in_s.0 in_r.0 s lt in_r.1 in
@@ -123,12 +114,12 @@ in_front kind es own e f s r order once in_s in_r at_s at_r first = elim (compar
     | inl gt ↦
         let s_is : get_or own in_s.0 r ≡ s = get_or_default own in_s.0 r s in_s.1 ∙ in_s.2 in
         let goes = order.order in_r.0 in_s.0 r gt in_s.1 f e (ap (λ (x : Stand). slice_get es x.entry) in_r.2 ∙ at_r) (ap (λ (x : Stand). slice_get es x.entry) s_is ∙ at_s) in
-        absurd (never_behind kind e f first goes)
+        absurd (both_ways (goes_first kind e f) (goes_back kind f e goes) first)
     | inr same ↦
         let r_is : get_or own in_r.0 s ≡ r = get_or_default own in_r.0 s r in_r.1 ∙ in_r.2 in
         let both : s ≡ r = sym in_s.2 ∙ ap (λ i. get_or own i s) same ∙ r_is in
         let entry : e ≡ f = same_Some e f (sym at_s ∙ ap (λ (x : Stand). slice_get es x.entry) both ∙ at_r) in
-        absurd (precedes_never kind e (subst (λ (x : Entry). precedes kind e x ≡ true) (sym entry) first))
+        absurd (both_ways (goes_first kind e e) (goes_itself kind e) (subst (λ (x : Entry). goes_first kind e x ≡ true) (sym entry) first))
   ]
 ]
 
@@ -204,7 +195,7 @@ module _ (p : Program) (lists : List (List Entry)) (plan : Plan) (c : Config) (c
                     (subst (At h.entry at.stage) found.2 s),
               )
           | inr none ↦
-              let head = clear_head slot.memory (content_of stage slot at.cell) at.cell r.3 (b.empty at.cell r.3 none) in
+              let head = clear-head slot.memory (content_of stage slot at.cell) at.cell r.3 (b.empty at.cell r.3 none) in
               absurd (both_ways (is_seen ((own_view c).content at.stage at.place at.cell).head) (ap is_seen (ap (λ (x : Content). x.head) content ∙ head)) seen)
         ]
 
@@ -280,7 +271,7 @@ module _ (p : Program) (lists : List (List Entry)) (plan : Plan) (c : Config) (c
           exact_or Prefix = inr (λ e. kinds_apart Prefix e)
           exact_or Ternary = inr (λ e. kinds_apart Ternary e)
 
-      order_told : (e f : Entry) (a b : Spot) → Contains es e → Contains es f → IsSpotOf c n a → IsSpotOf c n b → IsTold cells e a → IsTold cells f b → precedes t.kind e f ≡ true → IsBefore a b
+      order_told : (e f : Entry) (a b : Spot) → Contains es e → Contains es f → IsSpotOf c n a → IsSpotOf c n b → IsTold cells e a → IsTold cells f b → goes_first t.kind e f ≡ true → IsBefore a b
       order_told e f a b in_e in_f spot_a spot_b told_a told_b first =
           let per = (format_at p n).per in
           let parts = plan.placement.parts in

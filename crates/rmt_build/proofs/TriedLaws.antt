@@ -15,7 +15,7 @@ use Rattle.rmt_config.specs.Shapes.{divided_up}
 use Rattle.rmt_cuckoo.specs.Loading.{IsOverfull}
 use Rattle.rmt_pack.specs.declared.placement.Part.{Part}
 use Rattle.rmt_pack.specs.Placements.{key_bits}
-use Rattle.rmt_refine.specs.Cells.{tests_as_one}
+use Rattle.rmt_config.specs.Rooms.{tests_as_one}
 use Rattle.rmt_refine.specs.Outcomes.{entries_at}
 use Rattle.rmt_refine.specs.Units.{applied, table_at}
 use Rattle.rmt_refine.proofs.OutcomeLaws.{list_at}

@@ -10,10 +10,10 @@ use Rattle.rmt_build.specs.Types.{Test}
 use Rattle.rmt_ast.specs.WellFormed.{IsTest}
 use Rattle.rmt_config.specs.Cells.{Blocks, blocks_at}
 use Rattle.rmt_pack.specs.declared.tcam.TcamWord.{TcamWord}
-use Rattle.rmt_pack.specs.Tcam.{FillsRow, IsWords, Passes, joined_words, side_by_side}
+use Rattle.rmt_config.specs.Rooms.{side_by_side, tests_as_one}
+use Rattle.rmt_pack.specs.Tcam.{FillsRow, IsWords, Passes, joined_words}
 use Rattle.rmt_pack.proofs.TcamLaws.{matched, values-fit}
 use Rattle.rmt_pack.proofs.BlockLaws.{part-item, part-length, place-same}
-use Rattle.rmt_refine.specs.Cells.{tests_as_one}
 use Rattle.rmt_build.specs.Holding.{PutsRow}
 use Rattle.rmt_build.specs.Words.{IsMaskedWord, WordsSo}
 

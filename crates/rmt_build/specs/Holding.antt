@@ -11,7 +11,8 @@ use Rattle.rmt_config.specs.Shapes.{divided_up}
 use Rattle.rmt_pack.specs.declared.shape.Shape.{Shape}
 use Rattle.rmt_pack.specs.Cells.{PutsEntry, PutsRecord, entry_of, record_of, thousands_in}
 use Rattle.rmt_pack.specs.Shape.{cells_in as cells_of}
-use Rattle.rmt_refine.specs.Cells.{HoldsEntry, tests_as_one}
+use Rattle.rmt_config.specs.Rooms.{tests_as_one}
+use Rattle.rmt_refine.specs.Cells.{HoldsEntry}
 use Rattle.rmt_build.specs.declared.stands.Stand.{Stand}
 use Rattle.rmt_build.specs.Data.{data_of}
 

@@ -7,7 +7,7 @@ ghost use Rattle.rmt_bits.specs.Bits.{bytes_of, number_of};
 ghost use Rattle.rmt_ast.specs.State.{width_of};
 ghost use Rattle.rmt_ast.specs.WellFormed.{Fits, IsTest};
 ghost use Rattle.rmt_config.specs.Shapes.{divided_up};
-ghost use Rattle.rmt_refine.specs.Cells.{tests_as_one};
+ghost use Rattle.rmt_config.specs.Rooms.{tests_as_one};
 ghost use Rattle.rmt_build.specs.Data.{data_of};
 
 use rmt_ast::program::{Program, Test};

@@ -15,7 +15,7 @@ ghost use Rattle.rmt_pack.specs.Cells.{PutsRecord};
 ghost use Rattle.rmt_pack.specs.Placements.{data_bits as bits_of_data, key_bits as bits_of_key};
 ghost use Rattle.rmt_pack.specs.Rows.{blocks_of};
 ghost use Rattle.rmt_pack.specs.Shape.{IsShape, cells_in};
-ghost use Rattle.rmt_refine.specs.Cells.{tests_as_one};
+ghost use Rattle.rmt_config.specs.Rooms.{tests_as_one};
 ghost use Rattle.rmt_build.specs.Data.{data_of};
 ghost use Rattle.rmt_build.specs.Holding.{AreKeyBlocks, ExactSo, Held, PartHolds, PutsCell, TernarySo, exact_part, head_for, ternary_part};
 ghost use Rattle.rmt_build.specs.Listing.{masks_of, values_of};

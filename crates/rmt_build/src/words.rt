@@ -7,7 +7,7 @@ ghost use Rattle.rmt_ast.specs.declared.program.Test.{Test};
 ghost use Rattle.rmt_config.specs.Cells.{blocks_at};
 ghost use Rattle.rmt_config.specs.Shapes.{divided_up};
 ghost use Rattle.rmt_pack.specs.declared.tcam.TcamWord.{TcamWord};
-ghost use Rattle.rmt_refine.specs.Cells.{tests_as_one};
+ghost use Rattle.rmt_config.specs.Rooms.{tests_as_one};
 ghost use Rattle.rmt_build.specs.Holding.{PutsRow};
 ghost use Rattle.rmt_build.specs.Listing.{values_of, masks_of};
 ghost use Rattle.rmt_build.specs.Words.{IsMaskedWord, WordsSo};

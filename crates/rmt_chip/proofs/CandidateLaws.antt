@@ -1,49 +1,19 @@
 -- The cells in which a key may stand are cells of their memory, and of those a configuration lists the occupied ones.
-use Rattle.std.proofs.Common.{◌≡◌, ℕ, ◌+◌, ◌*◌, ◌<◌, Bool, true, false, true≢false, not, ◌==◌, Option, Some, None, refl, sym, ap, ◌∙◌, arith}
+use Rattle.std.proofs.Common.{◌≡◌, ℕ, ◌<◌, Bool, true, false, true≢false, not, ◌==◌, Option, Some, None, refl, sym, ap, ◌∙◌}
 use Rattle.std.specs.Prelude.{All, option_and_then, slice_get}
-use Rattle.std.specs.List.{list_any, range_with_len}
-use Rattle.std.proofs.lemmas.Bool.{and_parts, eqb-true}
-use Rattle.std.proofs.lemmas.List.Elements.{All-nil}
-use Rattle.std.proofs.lemmas.Nat.{mod_below, mul-le}
-use Rattle.rmt_bits.proofs.AllLaws.{All-flat_map, All-range}
-use Rattle.rmt_chip.specs.Types.{Config, Stage, Unit as ChipUnit, SlotUnit, Memory}
+use Rattle.std.specs.List.{list_any}
+use Rattle.std.proofs.lemmas.Bool.{and_parts}
+use Rattle.rmt_chip.specs.Types.{Config, Stage, Unit as ChipUnit, SlotUnit}
 use Rattle.rmt_config.specs.declared.config.Unit.TheVariants.{Gate, Slot}
-use Rattle.rmt_config.specs.declared.config.Memory.TheVariants.{Without, Exact, Ternary}
 use Rattle.rmt_config.specs.LaneForm.{bits_of_lanes}
 use Rattle.rmt_config.specs.UnitForm.{slot_head_is_formed, memory_is_formed}
-use Rattle.rmt_config.specs.Cells.{Content, candidates, cells_in, content_of, index_of, is_occupied, key_row}
-use Rattle.rmt_config.specs.CellForm.{SlotHolds, cells_of, is_clear}
+use Rattle.rmt_config.specs.Cells.{candidates, cells_in, content_of, is_occupied}
+use Rattle.rmt_config.specs.CellForm.{SlotHolds, cells_of}
 use Rattle.rmt_config.specs.RunCells.{as_slot, slot_at}
 use Rattle.rmt_config.specs.Form.{Formed}
-use Rattle.rmt_config.proofs.SlotLaws.{exact-fits}
 use Rattle.rmt_chip.specs.Memories.{SlotFormed}
 use Rattle.rmt_chip.proofs.StageSlots.{slots_formed}
-
--- ---- candidates
-
-cell_lt : (way row rows per w : ℕ) → way < 4 → row < rows → w < (way * rows + row) * per + 0 + per → w < 4 * rows * per
-cell_lt way row rows per w some_way some_row lt =
-    let ways = mul-le way rows 3 rows (omega (arith, some_way)) (omega arith) in
-    let more = mul-le (way * rows + row + 1) per (4 * rows) per (omega (arith, ways, some_row)) (omega arith) in
-    omega (arith, more, lt)
-
--- those of a memory that keeps the rules of form
-pub candidates-within : (s : SlotUnit) (m : Memory) → slot_head_is_formed s ≡ true → memory_is_formed s m ≡ true → (seed bits key : ℕ) → All (λ j. j < cells_in m) (candidates seed bits m key)
-candidates-within s Without head h seed bits key = All-nil (λ j. j < 0)
-candidates-within s (Exact k per d first ks rs cs) head h seed bits key =
-    let rows = 1024 * d in
-    let some = (exact-fits s k per d first ks rs cs head h).some_d in
-    let row : ℕ → ℕ = λ way. key_row seed first d bits key way in
-    let P : ℕ → Type 0 = λ j. j < 4096 * d * per in
-    All-flat_map P (λ way. range_with_len (index_of rows per (record { way = way; row = row way; position = 0 })) per) (range_with_len 0 4)
-    (All-range (λ way. All P (range_with_len (index_of rows per (record { way = way; row = row way; position = 0 })) per)) 0 4
-    (λ way some_way.
-    All-range P (index_of rows per (record { way = way; row = row way; position = 0 })) per
-    (λ w lw.
-    let below : row way < rows = mod_below _ rows (omega (arith, some)) in
-    let r = cell_lt way (row way) rows per w (omega (arith, some_way)) below (omega (arith, lw)) in
-    omega (arith, r))))
-candidates-within s (Ternary d ks rs cs) head h seed bits key = All-range (λ j. j < 2048 * d) 0 (2048 * d) (λ w lw. omega (arith, lw))
+use Rattle.rmt_config.proofs.CellLaws.{candidates-within, clear-head}
 
 -- ---- the slots of a formed configuration
 
@@ -75,11 +45,6 @@ slot-within c formed k place slot is seed key =
     candidates-within slot slot.memory parts.0 parts.1 seed (bits_of_lanes slot.keys) key
 
 -- ---- occupied cells are listed
-
-clear-head : (m : Memory) (c : Content) (n : ℕ) → n < cells_in m → is_clear m c ≡ true → c.head ≡ 0
-clear-head Without c n lt h = absurd (omega (arith, lt))
-clear-head (Exact k p d w ks rs cs) c n lt h = eqb-true c.head 0 (and_parts _ _ (and_parts _ _ h).0).0
-clear-head (Ternary d ks rs cs) c n lt h = eqb-true c.head 0 (and_parts _ _ (and_parts _ _ (and_parts _ _ h).0).0).0
 
 pub occupied-listed : (visible : ℕ) (stage : Stage) (first : ℕ) (s : SlotUnit) → SlotHolds visible stage first s → (n : ℕ) → n < cells_in s.memory → is_occupied (content_of stage s n).head ≡ true
     → list_any (λ m. m == n) (cells_of s) ≡ true

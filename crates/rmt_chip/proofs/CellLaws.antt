@@ -6,18 +6,13 @@ use Rattle.std.proofs.lemmas.List.{get_or-map, length-map}
 use Rattle.std.proofs.lemmas.List.Sums.{AllPass-from_list_all}
 use Rattle.std.proofs.lemmas.Nat.{and_mask}
 use Rattle.std.proofs.Math.Nat.{mod-eq_of_lt}
-use Rattle.rmt_chip.specs.Types.{Stage, SlotUnit, CellNumber, Memory}
-use Rattle.rmt_config.specs.declared.config.Memory.TheVariants.{Without, Exact, Ternary}
+use Rattle.rmt_chip.specs.Types.{Stage, SlotUnit, CellNumber}
 use Rattle.rmt_config.specs.Order.{rises_from}
 use Rattle.rmt_config.specs.StageForm.{is_listed}
 use Rattle.rmt_config.specs.Cells.{Content, content_of, cells_in, is_seen}
-use Rattle.rmt_config.specs.CellForm.{SlotHolds, is_clear, cells_of, content_is_formed}
+use Rattle.rmt_config.specs.CellForm.{SlotHolds, cells_of, content_is_formed}
 use Rattle.rmt_chip.proofs.RangeLaws.{cell_at, nowhere}
-
-clear-head : (m : Memory) (c : Content) (n : ℕ) → n < cells_in m → is_clear m c ≡ true → c.head ≡ 0
-clear-head Without c n lt h = absurd (omega (arith, lt))
-clear-head (Exact k p d w ks rs cs) c n lt h = eqb-true c.head 0 (and_parts _ _ (and_parts _ _ h).0).0
-clear-head (Ternary d ks rs cs) c n lt h = eqb-true c.head 0 (and_parts _ _ (and_parts _ _ (and_parts _ _ h).0).0).0
+use Rattle.rmt_config.proofs.CellLaws.{clear-head}
 
 module _ {visible : ℕ} (stage : Stage) (first : ℕ) (s : SlotUnit) (holds : SlotHolds visible stage first s) where
   pub cells-rise : rises_from 0 (map (λ (c : CellNumber). c.cell) s.numbers) ≡ true

@@ -26,6 +26,7 @@ use Rattle.rmt_config.specs.RunInputs.{Input, Idle, Enters, Writes, Turns, after
 use Rattle.rmt_chip.specs.Counting.{AreAmong}
 use Rattle.rmt_chip.specs.PacketsInFlight.{cells_after, numbers_after}
 use Rattle.rmt_chip.proofs.CandidateLaws.{stands-at, slot-formed, slot-within, occupied-listed}
+use Rattle.rmt_bits.proofs.TestLaws.{either}
 
 -- ---- the numbers of cells
 
@@ -148,10 +149,6 @@ MayCount Q look k stage = (place key : ℕ) (slot : SlotUnit) (f : Found) → sl
 
 abbrev AllCounted : (ℕ → ℕ → Type 0) → List Counted → Type 0
 AllCounted Q counted = All (λ (x : Counted). Q x.age x.number) counted
-
-either : {A : Type 0} (P : A → Type 0) (b : Bool) (x y : A) → P x → P y → P (cond b x y)
-either P true x y p q = p
-either P false x y p q = q
 
 counted-if : (Q : ℕ → ℕ → Type 0) (b : Bool) (one : Counted) (xs : List Counted) → (b ≡ true → Q one.age one.number) → AllCounted Q xs → AllCounted Q (cond b (one ∷ xs) xs)
 counted-if Q true one xs q h = All-cons (λ (x : Counted). Q x.age x.number) one xs (q refl) h

@@ -1,9 +1,8 @@
 -- What is read from the rows of a stage is what the cells of a slot hold.
-use Rattle.std.proofs.Common.{◌≡◌, ℕ, ◌+◌, ◌*◌, ◌/◌, ◌%◌, ◌^◌, ◌<◌, ◌≤◌, List, ◌∷◌, ◌++◌, length, get_or, take, drop, map, true, sym, refl, ap, ◌∙◌, subst, arith}
+use Rattle.std.proofs.Common.{◌≡◌, ℕ, ◌+◌, ◌*◌, ◌/◌, ◌%◌, ◌^◌, ◌<◌, List, ◌∷◌, ◌++◌, length, get_or, take, drop, map, true, sym, refl, ap, ◌∙◌, subst, arith}
 use Rattle.std.specs.Prelude.{All, Result, IfOk}
 use Rattle.std.proofs.lemmas.Result.{IfOk-weaker}
 use Rattle.std.proofs.lemmas.List.{length-take, length-drop}
-use Rattle.std.proofs.lemmas.Nat.{div_below, mul-le}
 use Rattle.std.proofs.Math.Nat.{div-one, mod-eq_of_lt}
 use Rattle.rmt_bits.specs.Bits.{slice, bytes_of}
 use Rattle.rmt_bits.proofs.BitLaws.{slice-lt}
@@ -28,6 +27,7 @@ use Rattle.rmt_chip.proofs.RunLaws.{run-is, runs-same}
 use Rattle.rmt_chip.proofs.WordLaws.{words-unit}
 use Rattle.rmt_config.proofs.SpelledCandidates.{above-byte}
 use Rattle.rmt_chip.proofs.SliceLaws.{words-fit}
+use Rattle.rmt_config.proofs.CellLaws.{blocks-there}
 
 -- the lowest byte of a number, and what is above it
 low-byte : (x : ℕ) → slice x 0 8 ≡ x % 256
@@ -89,13 +89,6 @@ module _ (rows rows' : List SramRow) (numbers numbers' : List CellNumber) (l : L
   ternary-data =
       row-same (divided_up held 8) 8 held
       ∙ runs-same (divided_up held 8) _ _ numbers (λ i z lt. above-byte (kept (get_or numbers i z).cell) held (slice-lt _ _ (held + 8)))
-
--- a quantum of a listed row has its blocks
-pub blocks-there : (d width len n : ℕ) → len ≡ d * width → n < 2048 * d → (n / 2048 + 1) * width ≤ len
-blocks-there d width len n is lt =
-    let low : n / 2048 < d = div_below n 2048 d (omega arith) (omega (arith, lt)) in
-    let fit : (n / 2048 + 1) * width ≤ d * width = mul-le (n / 2048 + 1) width d width (omega (arith, low)) (omega arith) in
-    omega (arith, fit, is)
 
 module _ (rows : List TcamRow) (ks : List ℕ) (d width : ℕ) (whole : length ks ≡ d * width) (rise : rises_from 0 (map trow_number rows) ≡ true)
     (low : All (λ (r : TcamRow). r.row < 2048) rows) (masks : All (λ (r : TcamRow). r.mask < 2 ^ 40) rows) (values : All (λ (r : TcamRow). r.value < 2 ^ 40) rows) where

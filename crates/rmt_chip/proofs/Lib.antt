@@ -17,7 +17,6 @@ pub mod FormedRuns
 pub mod FrameLaws
 pub mod PendingLaws
 pub mod TailLaws
-mod RowLaws
 mod RunLaws
 mod RunWriteLaws
 mod WordLaws

@@ -4,7 +4,7 @@ use Rattle.std.specs.Prelude.{option_and_then, option_map, slice_get, unwrap_or}
 use Rattle.std.specs.Vec.{with_item}
 use Rattle.std.proofs.lemmas.Bool.{cases_eq, eq-eqb, ne_eqb}
 use Rattle.std.proofs.lemmas.List.{get_or-set_same, get_or-set_other}
-use Rattle.std.proofs.lemmas.Option.{get_or_from_slice_get}
+use Rattle.std.proofs.lemmas.Option.{get_or_from_slice_get, same_Some}
 use Rattle.rmt_bits.proofs.ListLaws.{slice_get-set_same, slice_get-set_other}
 use Rattle.std.specs.declared.alloc.Global.{Global}
 use Rattle.rmt_chip.specs.Types.{Config, Stage, Unit, SlotUnit, Memory}
@@ -61,16 +61,13 @@ pub record SlotPlace (stages : List Stage) (k place : ℕ) (slot : SlotUnit) : T
 none_some : {X : Type 0} (x : X) → None ≡ Some x → ⊥
 none_some x e = let n : ⊥ = cc in n
 
-pub some_is : {X : Type 0} (x y : X) → Some x ≡ Some y → x ≡ y
-some_is x y e = cc
-
 pub slot_place : (stages : List Stage) (k place : ℕ) (slot : SlotUnit) → slot_in stages k place ≡ Some slot → SlotPlace stages k place slot
 slot_place stages k place slot is = by (slice_get stages k) refl is
   where
     unit_is : (o : Option Unit) → option_and_then as_slot o ≡ Some slot → o ≡ Some (Slot slot)
     unit_is None e = absurd (none_some slot e)
     unit_is (Some (Gate g)) e = absurd (none_some slot e)
-    unit_is (Some (Slot s)) e = ap (λ (x : SlotUnit). Some (Slot x)) (some_is s slot e)
+    unit_is (Some (Slot s)) e = ap (λ (x : SlotUnit). Some (Slot x)) (same_Some s slot e)
 
     by : (o : Option Stage) → slice_get stages k ≡ o → option_and_then (λ (stage : Stage). option_and_then as_slot (slice_get stage.units place)) o ≡ Some slot → SlotPlace stages k place slot
     by None at e = absurd (none_some slot e)
@@ -96,8 +93,8 @@ changed_each P Q stages memories k place stage unit v new at vat there inside he
           (old j s m one (sym (slice_get-set_other memories k j (with_item v place new) other) ∙ two) i u d lt)
       | inl same ↦
           let mine : with_item v place new ≡ m =
-          some_is (with_item v place new) m (sym (slice_get-set_same memories k v (with_item v place new) vat) ∙ ap (slice_get (set memories k (with_item v place new))) (sym same) ∙ two) in
-          let its : stage ≡ s = some_is stage s (sym at ∙ ap (slice_get stages) (sym same) ∙ one) in
+          same_Some (with_item v place new) m (sym (slice_get-set_same memories k v (with_item v place new) vat) ∙ ap (slice_get (set memories k (with_item v place new))) (sym same) ∙ two) in
+          let its : stage ≡ s = same_Some stage s (sym at ∙ ap (slice_get stages) (sym same) ∙ one) in
           subst (λ (x : Vec SlotMemory Global). Q j i (get_or s.units i u) (get_or x.items i d)) mine
           (elim (cases_eq i place) as (λ _. Q j i (get_or s.units i u) (get_or (set v.items place new) i d)) [
             | inl equal ↦

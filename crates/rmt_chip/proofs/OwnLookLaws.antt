@@ -1,6 +1,6 @@
 -- In its own cells a formed configuration's look-ups are its own, whatever the version: of each occupied cell both visible bits are set, or none counts.
-use Rattle.std.proofs.Common.{◌≡◌, ℕ, zero, suc, ◌+◌, ◌/◌, ◌%◌, ◌^◌, ◌<◌, Bool, true, false, cond, not, ◌&&◌, ◌||◌, ◌==◌, List, [], ◌∷◌, Option, Some, None, refl, sym, ap, subst, ◌∙◌, arith}
-use Rattle.std.specs.Prelude.{All, bit_and, find, is_some, option_and_then, option_map, slice_get, unwrap_or}
+use Rattle.std.proofs.Common.{◌≡◌, ℕ, zero, suc, ◌+◌, ◌/◌, ◌%◌, ◌^◌, ◌<◌, Bool, true, false, not, ◌&&◌, ◌||◌, ◌==◌, List, [], ◌∷◌, Option, Some, None, refl, sym, ap, subst, ◌∙◌, arith}
+use Rattle.std.specs.Prelude.{All, bit_and, find, is_some, option_and_then, option_map, slice_get}
 use Rattle.std.specs.List.{list_all, list_any}
 use Rattle.std.proofs.lemmas.Bool.{and_parts, eqb-true}
 use Rattle.std.proofs.lemmas.List.Elements.{All-head, All-tail, All-weaker}
@@ -9,12 +9,14 @@ use Rattle.rmt_bits.proofs.FunctionLaws.{funext}
 use Rattle.rmt_chip.specs.Types.{Config, Stage, Unit as ChipUnit, SlotUnit}
 use Rattle.rmt_config.specs.declared.config.Unit.TheVariants.{Gate, Slot}
 use Rattle.rmt_config.specs.LaneForm.{bits_of_lanes}
-use Rattle.rmt_config.specs.Cells.{candidates, cells_in, code_of, content_of, found_in, has_key, is_occupied, look_up, number_of_cell, visible_bits}
+use Rattle.rmt_config.specs.Cells.{candidates, cells_in, content_of, found_in, has_key, is_occupied, look_up, visible_bits}
 use Rattle.rmt_config.specs.CellForm.{SlotHolds, StageHolds, Coded, cells_of, coded_from, head_is_formed}
 use Rattle.rmt_config.specs.ChipRun.{own_look, slot_look}
 use Rattle.rmt_config.specs.Form.{Formed, visible_with}
-use Rattle.rmt_config.specs.RunCells.{as_slot, found_at, found_in_slot, has_bit, is_hit, look_in, no_content, own_cells, own_content, sees, slot_at}
+use Rattle.rmt_config.specs.RunCells.{as_slot, found_at, found_in_slot, has_bit, is_hit, look_in, own_cells, own_content, sees, slot_at}
 use Rattle.rmt_chip.proofs.CandidateLaws.{StandsAt, occupied-listed, slot-within, stands-at}
+use Rattle.rmt_bits.proofs.FindLaws.{find-alike}
+use Rattle.rmt_config.proofs.RunCellLaws.{content_is, same_found}
 
 -- ---- the slots of a formed configuration hold cells with both visible bits, where it has names
 
@@ -65,16 +67,14 @@ module _ (c : Config) (formed : Formed c) (version k place : ℕ) (slot : SlotUn
   at : StandsAt c k place slot
   at = stands-at c k place slot is
 
-  content-is : (n : ℕ) → own_content c k place n ≡ content_of at.stage slot n
-  content-is n =
-      ap (λ (o : Option Stage). unwrap_or (option_and_then (λ (x : Stage). option_map (λ (y : SlotUnit). content_of x y n) (option_and_then as_slot (slice_get x.units place))) o) no_content) at.stage_is
-      ∙ ap (λ (o : Option ChipUnit). unwrap_or (option_map (λ (y : SlotUnit). content_of at.stage y n) (option_and_then as_slot o)) no_content) at.slot_is
+  unit-is : option_and_then as_slot (slice_get at.stage.units place) ≡ Some slot
+  unit-is = ap (option_and_then as_slot) at.slot_is
 
-  number-is : (n : ℕ) → (own_cells c).number k place n ≡ number_of_cell slot.numbers n
-  number-is n = ap (λ (o : Option SlotUnit). unwrap_or (option_map (λ (y : SlotUnit). number_of_cell y.numbers n) o) 0) is
+  content-is : (n : ℕ) → own_content c k place n ≡ content_of at.stage slot n
+  content-is = content_is c k place at.stage slot at.stage_is unit-is
 
   found-is : (n : ℕ) → found_at (own_cells c) k place n ≡ found_in slot.numbers n (content_of at.stage slot n)
-  found-is n = λ i. record { code = code_of (content-is n i).head; held = (content-is n i).held; number = number-is n i }
+  found-is = same_found c k place at.stage slot at.stage_is unit-is
 
   shown : (b : Bool) → is_some c.names ≡ b → (n : ℕ) → n < cells_in slot.memory → is_occupied (content_of at.stage slot n).head ≡ true → (not b || has_bit version (content_of at.stage slot n).head) ≡ true
   shown false e n lt occupied = refl
@@ -98,11 +98,6 @@ module _ (c : Config) (formed : Formed c) (version k place : ℕ) (slot : SlotUn
   hit-is key n lt =
       ap (is_hit (is_some c.names) version key) (content-is n)
       ∙ ap (λ (b : Bool). b && (bit_and key (content_of at.stage slot n).mask == (content_of at.stage slot n).key)) (seen-is n lt)
-
-  find-alike : {X : Type 0} (p q : X → Bool) (xs : List X) → All (λ x. p x ≡ q x) xs → find p xs ≡ find q xs
-  find-alike p q [] h = refl
-  find-alike {X} p q (x ∷ xs) h =
-      ap (λ (b : Bool). cond b (Some x) (find p xs)) (All-head (λ y. p y ≡ q y) x xs h) ∙ ap (λ (o : Option X). cond (q x) (Some x) o) (find-alike p q xs (All-tail (λ y. p y ≡ q y) x xs h))
 
   slot-own : (key : ℕ) → found_in_slot (is_some c.names) version (own_cells c) k place key slot ≡ look_up c.seed at.stage slot key
   slot-own key =

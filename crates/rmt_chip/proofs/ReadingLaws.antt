@@ -1,24 +1,22 @@
 -- What the units of a configuration read that keeps the rules of form and the limits and what its look-ups look into.
-use Rattle.std.proofs.Common.{◌≡◌, ℕ, ◌+◌, ◌*◌, ◌^◌, ◌≤◌, true, cond, not, ◌&&◌, ltb, leb, eqb, List, [], ◌∷◌, length, All, Option, Some, refl, ap, ◌∙◌, arith}
+use Rattle.std.proofs.Common.{◌≡◌, ℕ, ◌+◌, ◌^◌, ◌≤◌, true, cond, ◌&&◌, ltb, leb, eqb, List, [], ◌∷◌, length, All, Option, Some, refl, ap, ◌∙◌, arith}
 use Rattle.std.specs.Prelude.{slice_get, count_by, option_and_then, bit_and, is_some}
 use Rattle.std.specs.List.{list_all}
-use Rattle.std.proofs.lemmas.Bool.{ltb-true, leb-true, eqb-true, and_parts}
-use Rattle.std.proofs.lemmas.List.{nil_from_length}
+use Rattle.std.proofs.lemmas.Bool.{ltb-true, leb-true, and_parts}
 use Rattle.std.proofs.lemmas.List.Elements.{All-weaker}
 use Rattle.std.proofs.lemmas.List.Sums.{sum_by-cons, AllPass-from_list_all}
 use Rattle.std.proofs.lemmas.Option.{slice_get-get_or}
 use Rattle.rmt_bits.specs.Words.{word_size}
 use Rattle.rmt_bits.specs.declared.lane.Lane.{Lane}
-use Rattle.rmt_chip.specs.Types.{Config, Stage, Unit as ChipUnit, GateTest, SlotUnit, Memory}
+use Rattle.rmt_chip.specs.Types.{Config, Stage, Unit as ChipUnit, GateTest, SlotUnit}
 use Rattle.rmt_config.specs.declared.config.Unit.TheVariants.{Gate, Slot}
-use Rattle.rmt_config.specs.declared.config.Memory.TheVariants.{Without, Exact, Ternary}
-use Rattle.rmt_config.specs.LaneForm.{lane_is_formed, bits_of_lanes}
-use Rattle.rmt_config.specs.UnitForm.{guard_is_formed, test_is_formed, number_is_formed, slot_head_is_formed, may_have_memory, format_is_formed, has_shape, are_sram_blocks, are_tcam_blocks, memory_is_formed, unit_is_formed}
-use Rattle.rmt_config.specs.Shapes.{exact_shape, ternary_shape}
+use Rattle.rmt_config.specs.LaneForm.{lane_is_formed}
+use Rattle.rmt_config.specs.UnitForm.{guard_is_formed, test_is_formed, number_is_formed, slot_head_is_formed, memory_is_formed, unit_is_formed}
 use Rattle.rmt_config.specs.Resources.{is_slot, is_gate}
 use Rattle.rmt_config.specs.RunCells.{RunCells, as_slot, found_in_slot, look_in}
 use Rattle.rmt_chip.specs.Runnable.{LaneFits, UnitReads, StageReads}
 use Rattle.rmt_chip.specs.Looks.{LooksInto}
+use Rattle.rmt_config.proofs.SlotLaws.{key_is_short}
 
 -- ---- lanes
 
@@ -50,51 +48,6 @@ keys_fit s e =
     let p = and_parts (front && lanes && few) (list_all number_is_formed s.numbers) e in
     let q = and_parts (front && lanes) few p.0 in
     All-weaker _ LaneFits lane_fits s.keys (AllPass-from_list_all lane_is_formed s.keys (and_parts front lanes q.0).1)
-
-short_key : (s : SlotUnit) (quanta : ℕ) → may_have_memory s quanta ≡ true → bits_of_lanes s.keys ≤ 640
-short_key s quanta e =
-    let some = leb 1 (length s.keys) in
-    let bits = leb (bits_of_lanes s.keys) 640 in
-    let acts = leb 1 s.actions in
-    let p = and_parts (some && bits && acts && leb 1 quanta) (leb quanta 106) e in
-    let q = and_parts (some && bits && acts) (leb 1 quanta) p.0 in
-    let r = and_parts (some && bits) acts q.0 in
-    leb-true (bits_of_lanes s.keys) 640 (and_parts some bits r.0).1
-
-key_is_short : (s : SlotUnit) (m : Memory) → memory_is_formed s m ≡ true → bits_of_lanes s.keys ≤ 640
-key_is_short s Without e =
-    let front = not s.counted && eqb s.actions 0 && s.last && eqb s.held 0 in
-    let none = eqb (length s.keys) 0 in
-    let p = and_parts (front && none) (eqb (length s.numbers) 0) e in
-    let empty : s.keys ≡ [] = nil_from_length s.keys (eqb-true (length s.keys) 0 (and_parts front none p.0).1) in
-    let bits : bits_of_lanes s.keys ≡ 0 = ap bits_of_lanes empty in
-    omega arith
-key_is_short s (Exact width per quanta first_way keys records counters) e =
-    let format = format_is_formed s width per quanta first_way in
-    let shape = has_shape (exact_shape width per quanta s.held s.counted) keys records counters in
-    let a = and_parts (format && shape && are_sram_blocks keys && are_sram_blocks records) (are_sram_blocks counters) e in
-    let b = and_parts (format && shape && are_sram_blocks keys) (are_sram_blocks records) a.0 in
-    let d = and_parts (format && shape) (are_sram_blocks keys) b.0 in
-    let f = (and_parts format shape d.0).0 in
-    let may = may_have_memory s quanta in
-    let w = leb 1 width in
-    let x = ltb width 256 in
-    let y = leb 1 per in
-    let z = ltb per 65536 in
-    let v = ltb first_way 256 in
-    let g = and_parts (may && w && x && y && z && v) (leb (per * (bits_of_lanes s.keys + 8)) (112 * width)) f in
-    let h = and_parts (may && w && x && y && z) v g.0 in
-    let i = and_parts (may && w && x && y) z h.0 in
-    let j = and_parts (may && w && x) y i.0 in
-    let k = and_parts (may && w) x j.0 in
-    short_key s quanta (and_parts may w k.0).0
-key_is_short s (Ternary quanta keys records counters) e =
-    let may = may_have_memory s quanta in
-    let shape = has_shape (ternary_shape (bits_of_lanes s.keys) quanta s.held s.counted) keys records counters in
-    let a = and_parts (may && shape && are_tcam_blocks keys && are_sram_blocks records) (are_sram_blocks counters) e in
-    let b = and_parts (may && shape && are_tcam_blocks keys) (are_sram_blocks records) a.0 in
-    let d = and_parts (may && shape) (are_tcam_blocks keys) b.0 in
-    short_key s quanta (and_parts may shape d.0).0
 
 -- ---- units and stages
 

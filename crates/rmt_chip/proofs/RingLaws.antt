@@ -1,12 +1,13 @@
 -- A pass over the stages in the ring of places.
-use Rattle.std.proofs.Common.{◌≡◌, ◌≢◌, ℕ, zero, suc, ◌+◌, ◌-◌, ◌<◌, ◌≤◌, Bool, false, cond, eqb, List, length, get_or, set, refl, sym, ap, ◌∙◌, subst, ⊎_elim, arith}
+use Rattle.std.proofs.Common.{◌≡◌, ◌≢◌, ℕ, zero, suc, ◌+◌, ◌-◌, ◌<◌, ◌≤◌, Bool, false, cond, eqb, List, Option, length, get_or, set, refl, sym, ap, ◌∙◌, subst, ⊎_elim, arith}
 use Rattle.std.proofs.lemmas.List.{get_or-set_same, get_or-set_other}
 use Rattle.std.proofs.lemmas.Bool.{cases_lt, cases_eq}
 use Rattle.std.proofs.lemmas.Bool.Decides.{nat_tests}
-use Rattle.rmt_chip.specs.Types.{Stage}
+use Rattle.rmt_chip.specs.Types.{Config, Stage}
 use Rattle.rmt_chip.specs.declared.packet_slot.PacketSlot.{PacketSlot}
 use Rattle.rmt_chip.specs.Runnable.{start_of}
-use Rattle.rmt_chip.specs.Ring.{ring_at, partly, partly_next, done_before}
+use Rattle.rmt_chip.specs.Held.{Entered, HoldsIf}
+use Rattle.rmt_chip.specs.Ring.{ring_at, partly, partly_next, done_before, now, next, AllHold}
 use Rattle.rmt_chip.proofs.LifeLaws.{Rise}
 use Rattle.rmt_chip.proofs.HeldLaws.{NoneAt}
 
@@ -161,3 +162,9 @@ pub next_end : (Q : ℕ → ℕ → PacketSlot → Type 0) (stages : List Stage)
     → AllNext Q (done_before stages after (length stages)) newest places → (t : ℕ) (d : PacketSlot) → t < 385 → Q t (t + 1) (get_or places (ring_at newest t) d)
 next_end Q stages after newest places rise none was =
     at_end Q partly_next (λ t. t + 1) (λ t. t) next-below next-from stages after newest rise none places was
+
+-- what the packet slot of an age holds, by its place in the list
+pub held_at : (c : Config) (item : ℕ → Option Entered) (newest age at : ℕ) (places : List PacketSlot) (place : PacketSlot) → age < 385 → at ≡ ring_at newest age → place ≡ get_or places at place
+    → AllHold c item now now now next newest places → HoldsIf c (item age) age age age (age + 1) place
+held_at c item newest age at places place h e is all =
+    subst (HoldsIf c (item age) age age age (age + 1)) (ap (λ n. get_or places n place) (sym e) ∙ sym is) (all age place h)

@@ -15,6 +15,14 @@ use Rattle.rmt_chip.specs.Searching.{FirstIn}
 use Rattle.rmt_chip.specs.Slicing.{HasRow, nibble, leaves, bit_if, bit_in, RowFits, BitsFor, StandsFor, OnIn}
 use Rattle.rmt_chip.proofs.WordLaws.{same-parts, length-words, word-of, length-masked, masked-at}
 
+-- ---- masks and values
+
+abbrev pub compared : List ℕ → List ℕ → Compared
+compared ms vs = record { masks = ms; values = vs }
+
+pub compared-same : (ms ms' vs vs' : List ℕ) → ms ≡ ms' → vs ≡ vs' → compared ms vs ≡ compared ms' vs'
+compared-same ms ms' vs vs' m v = ap (λ (xs : List ℕ). compared xs vs) m ∙ ap (λ (xs : List ℕ). compared ms' xs) v
+
 -- ---- nibbles
 
 -- nibble 10 k + i is nibble i of word k

@@ -2,13 +2,10 @@
 use Rattle.std.proofs.Common.{◌≡◌, ℕ, zero, suc, ◌+◌, ◌<◌, List, [], ◌∷◌, ◌++◌, length, get_or, Some, sym, ap, subst, ◌∙◌, inl, inr, arith}
 use Rattle.std.specs.Prelude.{slice_get}
 use Rattle.std.proofs.lemmas.Bool.{cases_lt}
-use Rattle.std.proofs.lemmas.Option.{slice_get-get_or}
+use Rattle.std.proofs.lemmas.Option.{same_Some, slice_get-get_or}
 use Rattle.std.proofs.Math.ListN.{get_or-append}
 use Rattle.std.proofs.Math.Seq.{get_or-append_seam}
 use Rattle.rmt_bits.proofs.ListLaws.{slice_get-front, slice_get-end}
-
-some_same : {X : Type 0} (x y : X) → Some x ≡ Some y → x ≡ y
-some_same x y e = cc
 
 -- what holds of items of two lists at the same places, and of two more at the next place
 pub pushed_each : {X Y : Type 0} (P : X → Y → Type 0) (xs : List X) (ys : List Y) (i : ℕ) (x : X) (y : Y) → length ys ≡ i → i < length xs → get_or xs i x ≡ x → P x y
@@ -20,8 +17,8 @@ pushed_each P xs ys i x y size inside at here before k a b lt one two =
       | inr more ↦
           let same : k ≡ i = omega arith in
           let end : length ys + 0 ≡ k = omega arith in
-          let first : x ≡ a = some_same x a (sym (ap Some at) ∙ sym (slice_get-get_or xs i x inside) ∙ ap (slice_get xs) (sym same) ∙ one) in
-          let second : y ≡ b = some_same y b (sym (slice_get-end ys (y ∷ []) 0) ∙ ap (slice_get (ys ++ y ∷ [])) end ∙ two) in
+          let first : x ≡ a = same_Some x a (sym (ap Some at) ∙ sym (slice_get-get_or xs i x inside) ∙ ap (slice_get xs) (sym same) ∙ one) in
+          let second : y ≡ b = same_Some y b (sym (slice_get-end ys (y ∷ []) 0) ∙ ap (slice_get (ys ++ y ∷ [])) end ∙ two) in
           subst (λ v. P v b) first (subst (λ v. P x v) second here)
     ]
 

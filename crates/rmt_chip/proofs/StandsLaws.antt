@@ -34,6 +34,7 @@ use Rattle.rmt_chip.specs.declared.frames.Frames.{Frames}
 use Rattle.rmt_chip.specs.Ring.{now, next, AllHold, FramesAre}
 use Rattle.rmt_bits.specs.Counts.{Counters}
 use Rattle.rmt_chip.proofs.MemoriesLaws.{memories_turned}
+use Rattle.rmt_bits.proofs.OptionLaws.{None-from_is_none}
 
 -- ---- the inputs with one more
 
@@ -202,8 +203,4 @@ held_now c inputs chip s =
 
 -- a configuration within its limits, as the chip keeps the fact
 pub no_limit : (c : Config) → IsTrue (is_none (limit_hit c)) → IsWithinLimits c
-no_limit c h = none_of (limit_hit c) h
-  where
-    none_of : {A : Type 0} (o : Option A) → is_none o ≡ true → o ≡ None
-    none_of None e = refl
-    none_of (Some x) e = absurd cc
+no_limit c h = None-from_is_none (limit_hit c) h

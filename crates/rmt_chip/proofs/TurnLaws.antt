@@ -27,6 +27,7 @@ use Rattle.rmt_chip.specs.Inputs.{entered_in, entered_at, entering}
 use Rattle.rmt_chip.specs.Lives.{upto, acts_at}
 use Rattle.rmt_chip.specs.Runnable.{start_of}
 use Rattle.rmt_chip.proofs.LifeLaws.{upto_more, upto_all, start_of-get}
+use Rattle.rmt_bits.proofs.TestLaws.{below_next, nothing_either}
 
 -- ---- counters depend on sums over the hits alone
 
@@ -61,9 +62,6 @@ sum_if : (f : Hit → ℕ) (h : Hit) (b : Bool) → sum_by f (cond b (h ∷ []) 
 sum_if f h true = refl
 sum_if f h false = refl
 
-one_older : (age n v : ℕ) → cond (nat_lt age (n + 1)) v 0 ≡ cond (nat_lt age n) v 0 + cond (age == n) v 0
-one_older age n v = grind (arith, nat_tests)
-
 before_more : (f : Hit → ℕ) (n : ℕ) (packet : Packet) (cs : List Counted)
     → sum_by f (hits_before (n + 1) packet cs) ≡ sum_by f (hits_before n packet cs) + sum_by f (hits_aged n packet cs)
 before_more f n packet [] = refl
@@ -76,7 +74,7 @@ before_more f n packet (c ∷ cs) =
     sum_by-append f (cond (nat_lt c.age n) (h ∷ []) []) (hits_before n packet cs) ∙ ap (λ (x : ℕ). x + sum_by f (hits_before n packet cs)) (sum_if f h (nat_lt c.age n)) in
     let at : sum_by f (hits_aged n packet (c ∷ cs)) ≡ cond (c.age == n) v 0 + sum_by f (hits_aged n packet cs) =
     sum_by-append f (cond (c.age == n) (h ∷ []) []) (hits_aged n packet cs) ∙ ap (λ (x : ℕ). x + sum_by f (hits_aged n packet cs)) (sum_if f h (c.age == n)) in
-    let one = one_older c.age n v in
+    let one = below_next c.age n v in
     let rest = before_more f n packet cs in
     omega arith
 
@@ -268,12 +266,8 @@ hits_aged-append f age p (x ∷ xs) ys =
     let rest = hits_aged-append f age p xs ys in
     omega arith
 
-nothing : (b : Bool) (n : ℕ) → n ≡ 0 → cond b n 0 ≡ 0
-nothing true n e = e
-nothing false n e = refl
-
 hits_of_age : (f : Hit → ℕ) (t age : ℕ) (p : Packet) (xs : List Counted) → Aged t xs → sum_by f (hits_aged age p xs) ≡ cond (t == age) (sum_by f (map (hit_by p) xs)) 0
-hits_of_age f t age p [] a = sym (nothing (t == age) 0 refl)
+hits_of_age f t age p [] a = sym (nothing_either (t == age) 0 refl)
 hits_of_age f t age p (x ∷ xs) a = by (t == age) (ap (λ n. n == age) a.0) (hits_of_age f t age p xs a.1)
   where
     h : Hit
@@ -354,8 +348,8 @@ either_counted false x y cs a b = b
 by_parse : (f : Hit → ℕ) (look : Look) (c : Config) (age : ℕ) (p : Packet) (q : Parse)
     → sum_by f (hits_aged age p (outcome_from look c p q).counted)
     ≡ sum_below (length c.stages) (λ k. cond (start_of c.stages k + 8 == age) (of_parse f look c k (slice_get c.stages k) p q) 0)
-by_parse f look c age p Short = sym (sum_below-zero (length c.stages) _ (λ k lt. nothing (start_of c.stages k + 8 == age) _ (short_none f look c k (slice_get c.stages k) p)))
-by_parse f look c age p Reject = sym (sum_below-zero (length c.stages) _ (λ k lt. nothing (start_of c.stages k + 8 == age) _ (reject_none f look c k (slice_get c.stages k) p)))
+by_parse f look c age p Short = sym (sum_below-zero (length c.stages) _ (λ k lt. nothing_either (start_of c.stages k + 8 == age) _ (short_none f look c k (slice_get c.stages k) p)))
+by_parse f look c age p Reject = sym (sum_below-zero (length c.stages) _ (λ k lt. nothing_either (start_of c.stages k + 8 == age) _ (reject_none f look c k (slice_get c.stages k) p)))
 by_parse f look c age p (Accept r) =
     let vector = put r.vector c.in_port p.port in
     let life = life_of look c.stages vector in
@@ -368,7 +362,7 @@ by_parse f look c age p (Accept r) =
 
 entered_counts : (f : Hit → ℕ) (c : Config) (age : ℕ) (x : Option Entered)
     → aged f c age x ≡ sum_below (length c.stages) (λ k. cond (start_of c.stages k + 8 == age) (of_stage f c k (slice_get c.stages k) x) 0)
-entered_counts f c age None = sym (sum_below-zero (length c.stages) _ (λ k lt. nothing (start_of c.stages k + 8 == age) 0 refl))
+entered_counts f c age None = sym (sum_below-zero (length c.stages) _ (λ k lt. nothing_either (start_of c.stages k + 8 == age) 0 refl))
 entered_counts f c age (Some e) = by_parse f e.look c age e.packet (parse c.parser e.packet.frame)
 
 -- ---- the hits of all stages in a cycle

@@ -26,12 +26,7 @@ use Rattle.rmt_chip.proofs.EnterLaws.{ring_turns, frames_turn}
 use Rattle.rmt_chip.proofs.EnteredLaws.{run-is, older, newest as newest-is, looks-now}
 use Rattle.rmt_chip.proofs.CycleLaws.{holds_enters, leaves_right, answer_entered}
 use Rattle.rmt_chip.proofs.TurnLaws.{counted_turn}
-
--- what the packet slot of an age holds, by its place in the list
-held_at : (c : Config) (item : ℕ → Option Entered) (newest age at : ℕ) (places : List PacketSlot) (place : PacketSlot) → age < 385 → at ≡ ring_at newest age → place ≡ get_or places at place
-    → AllHold c item now now now next newest places → HoldsIf c (item age) age age age (age + 1) place
-held_at c item newest age at places place h e is all =
-    subst (HoldsIf c (item age) age age age (age + 1)) (ap (λ n. get_or places n place) (sym e) ∙ sym is) (all age place h)
+use Rattle.rmt_chip.proofs.RingLaws.{held_at}
 
 -- what the four passes make of the packet slots and the counters, where look-ups are made in these cells
 pub record Passes (c : Config) (cells : RunCells) (old one two three four : List PacketSlot) (newest : ℕ) (before after : List Count) : Type 0 where

@@ -14,19 +14,10 @@ use Rattle.rmt_config.proofs.SpelledBytes.{mul-more}
 
 -- ---- a word of bytes
 
-none-above : (n low len : ℕ) → n < 2 ^ low → slice n low len ≡ 0
-none-above n low len lt =
-    let small : n / 2 ^ low < 2 ^ 0 = shr_below n 0 low (let e : 0 + low ≡ low = omega arith in subst (λ m. n < 2 ^ m) (sym e) lt) in
-    let zero_is : n / 2 ^ low ≡ 0 = omega (arith, small) in
-    ap (λ m. m % 2 ^ len) zero_is ∙ mod-eq_of_lt (pow_pos len)
-
 pub wider : (n a b : ℕ) → a ≤ b → n < 2 ^ a → n < 2 ^ b
 wider n a b le lt =
     let e : b ≡ a + (b - a) = omega (arith, le) in
     subst (λ m. n < 2 ^ m) (sym e) (rw (pow-add 2 a (b - a)) (let more = mul-more (2 ^ a) (2 ^ (b - a)) (pow_pos (b - a)) in omega (arith, lt, more)))
-
-pub word-past : (bytes : List ℕ) (low len : ℕ) → AreBytes bytes → 8 * length bytes ≤ low → 0 ≡ slice (number_of bytes) low len
-word-past bytes low len are le = sym (none-above (number_of bytes) low len (wider (number_of bytes) (8 * length bytes) low le (number_of-lt bytes are)))
 
 pub word-is : (bytes : List ℕ) (low len from : ℕ) → AreBytes bytes → low < 8 * length bytes → len ≡ min (8 * length bytes - low) 40
     → from + (low + len) ≡ 8 * length bytes → slice (number_of bytes) (8 * length bytes - (from + len)) len ≡ slice (number_of bytes) low 40

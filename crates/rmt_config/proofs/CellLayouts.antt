@@ -31,6 +31,10 @@ up-most a b some =
     let lt = div_below (a + b - 1) b (a + 1) some (omega (arith, wide, next, some)) in
     omega (arith, lt)
 
+-- words of 40 bits
+pub width-is : (bits bits' : ℕ) → bits' ≡ bits → (bits' + 39) / 40 ≡ divided_up bits 40
+width-is bits bits' e = ap (λ b. (b + 39) / 40) e ∙ ap (λ n. n / 40) (let s : bits + 39 ≡ bits + 40 - 1 = omega arith in s)
+
 -- ---- the layouts are ones that a memory may have
 
 pub exact_keys-is : (k p d bits : ℕ) → 0 < k → k < 256 → 0 < p → p < 65536 → 0 < d → d ≤ 106 → bits ≤ 640 → p * (bits + 8) ≤ 112 * k

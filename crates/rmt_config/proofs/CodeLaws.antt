@@ -7,6 +7,7 @@ use Rattle.std.proofs.Math.Seq.{drop-cons}
 use Rattle.rmt_config.specs.Types.{Unit, Vliw}
 use Rattle.rmt_config.specs.declared.form.code.InstructionRole.{InstructionRole}
 use Rattle.rmt_config.specs.CodeForm.{unit_places, places_of, vliw_is_formed, code_is_formed}
+use Rattle.rmt_bits.proofs.TestLaws.{and_false_right}
 
 -- the same place for all but the last of some instructions
 pub code_before_last : (own default : InstructionRole) (n : ℕ) (code : List Vliw) (v : Vliw) → length code ≡ n + 1 → v ≡ get_or code n v
@@ -17,11 +18,6 @@ code_before_last own default zero (w ∷ x ∷ code) v len e = absurd (omega (ar
 code_before_last own default (suc n) (w ∷ code) v len e =
     ap (λ b. vliw_is_formed own w && b) (code_before_last own default n code v (omega (arith, len)) e)
     ∙ sym (and_assoc (vliw_is_formed own w) (list_all (vliw_is_formed own) (take n code)) (vliw_is_formed default v))
-
--- one that breaks the rule of its place
-never : (b c : Bool) → c ≡ false → (b && c) ≡ false
-never true c e = e
-never false c e = refl
 
 pub code_breaks_early : (own default : InstructionRole) (n : ℕ) (code : List Vliw) → list_all (vliw_is_formed own) (take n code) ≡ false
     → code_is_formed (replicate n own ++ default ∷ []) code ≡ false
@@ -47,7 +43,7 @@ code_append (p ∷ ps) qs (v ∷ code) enough =
 code_short : (ps qs : List InstructionRole) (code : List Vliw) → length code < length ps → code_is_formed (ps ++ qs) code ≡ false
 code_short [] qs code few = absurd (omega (arith, few))
 code_short (p ∷ ps) qs [] few = refl
-code_short (p ∷ ps) qs (v ∷ code) few = never (vliw_is_formed p v) (code_is_formed (ps ++ qs) code) (code_short ps qs code (omega (arith, few)))
+code_short (p ∷ ps) qs (v ∷ code) few = and_false_right (vliw_is_formed p v) (code_is_formed (ps ++ qs) code) (code_short ps qs code (omega (arith, few)))
 
 module _ (units : List Unit) (i : ℕ) (u : Unit) (code : List Vliw) (inside : i < length units) (here : u ≡ get_or units i u) where
   split : drop i units ≡ u ∷ drop (i + 1) units

@@ -1,12 +1,11 @@
 -- What the chip counts in a whole run: each hit of each packet, since every hit is counted before its packet leaves.
-use Rattle.std.proofs.Common.{◌≡◌, ℕ, zero, suc, ◌+◌, ◌<◌, ◌≤◌, Bool, true, false, cond, List, [], ◌∷◌, ◌++◌, length, Option, Some, None, refl, ap, subst, arith}
+use Rattle.std.proofs.Common.{◌≡◌, ℕ, zero, suc, ◌+◌, ◌<◌, ◌≤◌, List, [], ◌∷◌, ◌++◌, length, Option, Some, None, refl, ap, subst, arith}
 use Rattle.std.specs.Prelude.{map, replicate, fold, All, slice_index}
 use Rattle.std.specs.List.{flat_map}
 use Rattle.std.specs.List.Sorted.{IsStrictlyIncreasing}
 use Rattle.std.proofs.lemmas.List.{length-append, length-map, length-replicate}
 use Rattle.std.proofs.lemmas.List.Elements.{All-nil, All-cons, All-head, All-tail, All-append, All-weaker}
 use Rattle.std.proofs.lemmas.Bool.{lt-ltb}
-use Rattle.rmt_bits.proofs.AllLaws.{All-reverse}
 use Rattle.rmt_bits.specs.Packet.{Packet}
 use Rattle.rmt_bits.specs.Counts.{Hit, counts}
 use Rattle.rmt_config.specs.Types.{Config, Stage, Unit, SlotUnit}
@@ -16,14 +15,11 @@ use Rattle.rmt_config.specs.Parser.{Parse, Short, Reject, Accept, parse, put}
 use Rattle.rmt_config.specs.Life.{Look, Words, Life, Acts, Counted, slot_acts, looked_up, unit_acts, through, through_from, life_of, runs}
 use Rattle.rmt_config.specs.ChipRun.{Outcome, outcome_from, outcome_of, own_look, latency_of, inputs_of, hits_before, hits_in, counted_numbers, chip_counts_of}
 use Rattle.rmt_bits.proofs.AllLaws.{All-reverse}
+use Rattle.rmt_bits.proofs.TestLaws.{either}
 
 -- all counts are made below an age
 abbrev pub AreBelow : ℕ → List Counted → Type 0
 AreBelow age counted = All (λ (x : Counted). x.age < age) counted
-
-either : {A : Type 0} (P : A → Type 0) (b : Bool) (x y : A) → P x → P y → P (cond b x y)
-either P true x y p q = p
-either P false x y p q = q
 
 module _ (age : ℕ) (stage : Stage) (early : stage.start + 8 < age) where
   slot_below : (slot : SlotUnit) (o : Option Found) (a : Acts) → AreBelow age a.counted → AreBelow age (slot_acts stage slot o a).counted
@@ -49,13 +45,13 @@ module _ (age : ℕ) (stage : Stage) (early : stage.start + 8 < age) where
 abbrev pub CountBelow : ℕ → List Stage → Type 0
 CountBelow age stages = All (λ (s : Stage). s.start + 8 < age) stages
 
-life_below : (age : ℕ) (look : Look) (k : ℕ) (stages : List Stage) (life : Life) → CountBelow age stages → AreBelow age life.counted → AreBelow age (through_from look k stages life).counted
+pub life_below : (age : ℕ) (look : Look) (k : ℕ) (stages : List Stage) (life : Life) → CountBelow age stages → AreBelow age life.counted → AreBelow age (through_from look k stages life).counted
 life_below age look k [] life early h = h
 life_below age look k (stage ∷ stages) life early h =
     life_below age look (k + 1) stages (through look k stage life) (All-tail (λ (s : Stage). s.start + 8 < age) stage stages early)
     (through_below age stage (All-head (λ (s : Stage). s.start + 8 < age) stage stages early) look k life h)
 
-outcome_below : (age : ℕ) (look : Look) (c : Config) (packet : Packet) (p : Parse) → CountBelow age c.stages → AreBelow age (outcome_from look c packet p).counted
+pub outcome_below : (age : ℕ) (look : Look) (c : Config) (packet : Packet) (p : Parse) → CountBelow age c.stages → AreBelow age (outcome_from look c packet p).counted
 outcome_below age look c packet Short early = All-nil _
 outcome_below age look c packet Reject early = All-nil _
 outcome_below age look c packet (Accept r) early =
@@ -70,7 +66,7 @@ hit_from packet counted = record { number = counted.number; bytes = length packe
 abbrev pub hits_from : Config → Packet → List Hit
 hits_from c packet = map (hit_from packet) (outcome_of (own_look c) c packet).counted
 
-hits_before-all : (age : ℕ) (packet : Packet) (counted : List Counted) → AreBelow age counted → hits_before age packet counted ≡ map (hit_from packet) counted
+pub hits_before-all : (age : ℕ) (packet : Packet) (counted : List Counted) → AreBelow age counted → hits_before age packet counted ≡ map (hit_from packet) counted
 hits_before-all age packet [] h = refl
 hits_before-all age packet (x ∷ xs) h =
     rw (lt-ltb x.age age (All-head (λ (y : Counted). y.age < age) x xs h))

@@ -1,9 +1,8 @@
 -- What blocks hold, by rows in rising order.
-use Rattle.std.proofs.Common.{◌≡◌, ℕ, zero, suc, ◌+◌, ◌*◌, ◌/◌, ◌%◌, ◌^◌, ◌<◌, List, [], ◌∷◌, length, get_or, map, Bool, true, false, ◌&&◌, cond, eqb, Some, sym, refl, ap, ◌∙◌, subst, arith, inl, inr}
+use Rattle.std.proofs.Common.{◌≡◌, ℕ, zero, suc, ◌+◌, ◌*◌, ◌/◌, ◌%◌, ◌^◌, ◌<◌, List, [], ◌∷◌, length, get_or, map, Bool, true, false, ◌&&◌, eqb, Some, sym, refl, ap, ◌∙◌, arith}
 use Rattle.std.specs.Prelude.{All, find, option_map, unwrap_or, slice_get}
-use Rattle.std.proofs.lemmas.Bool.{cases_Bool, and_parts, and_from, eqb-true, eq-eqb, false_from_ne_true}
+use Rattle.std.proofs.lemmas.Bool.{and_parts, and_from, eqb-true, eq-eqb, false_from_ne_true}
 use Rattle.std.proofs.lemmas.Nat.{div-mul-add, mod-mul-add, pow_pos}
-use Rattle.std.proofs.lemmas.List.Elements.{All-head, All-tail}
 use Rattle.std.proofs.lemmas.List.Folds.{find_at}
 use Rattle.std.proofs.lemmas.List.Sums.{position_or_len_is}
 use Rattle.rmt_config.specs.declared.form.layout.Layout.{Layout}
@@ -14,6 +13,7 @@ use Rattle.rmt_config.proofs.UnitBits.{Within}
 use Rattle.rmt_config.proofs.RiseLaws.{rise-below}
 use Rattle.rmt_config.proofs.ToldBits.{Agrees}
 use Rattle.rmt_bits.proofs.ListLaws.{find-none}
+use Rattle.rmt_bits.proofs.FindLaws.{found-lt}
 
 -- the first item of that block and row, and what it says
 abbrev pub stands : {X : Type 0} → (X → ℕ) → (X → ℕ) → ℕ → ℕ → X → Bool
@@ -56,15 +56,6 @@ found-none fb fr val xs b r none =
     ap (λ o. unwrap_or (option_map val o) 0) (find-none (stands fb fr b r) xs (λ k d lt. false_from_ne_true (stands fb fr b r (get_or xs k d)) (λ same.
     let parts = and_parts (eqb (fb (get_or xs k d)) b) (eqb (fr (get_or xs k d)) r) same in
     none k d lt (eqb-true (fb (get_or xs k d)) b parts.0) (eqb-true (fr (get_or xs k d)) r parts.1))))
-
-found-lt : {X : Type 0} (p : X → Bool) (val : X → ℕ) (m : ℕ) (xs : List X) → 0 < m → All (λ x. val x < m) xs → unwrap_or (option_map val (find p xs)) 0 < m
-found-lt p val m [] some h = some
-found-lt p val m (x ∷ xs) some h =
-    elim (cases_Bool (p x)) as (λ _. unwrap_or (option_map val (find p (x ∷ xs))) 0 < m) [
-      | inl here ↦ subst (λ (b : Bool). unwrap_or (option_map val (cond b (Some x) (find p xs))) 0 < m) (sym here) (All-head (λ x. val x < m) x xs h)
-      | inr other ↦ subst (λ (b : Bool). unwrap_or (option_map val (cond b (Some x) (find p xs))) 0 < m) (sym other)
-          (found-lt p val m xs some (All-tail (λ x. val x < m) x xs h))
-    ]
 
 -- rows that rise, all of them within their blocks, stand for what the blocks hold
 pub rows-agree : {X : Type 0} (l : Layout) (fb fr val num : X → ℕ) (xs : List X) → ((x : X) → num x ≡ l.rows * fb x + fr x)

@@ -30,6 +30,8 @@ pub mod HeadRows
 pub mod RowForm
 pub mod MemoryHolds
 pub mod SlotLaws
+pub mod CellLaws
+pub mod TcamRowLaws
 pub mod ToldTests
 pub mod ExamplesCells
 pub mod RunCellLaws
@@ -43,7 +45,7 @@ pub mod NameRuleLaws
 pub mod NamePartLaws
 mod SpelledLists
 mod SpelledOrder
-mod SpelledRanks
+pub mod SpelledRanks
 pub mod SpelledParts
 mod SpelledRows
 mod SpelledTernary

@@ -11,6 +11,7 @@ use Rattle.rmt_config.specs.TableForm.{node_of}
 use Rattle.rmt_config.specs.Resources.{is_in, distinct, times_in, most_listed, node_numbers, node_count}
 use Rattle.rmt_config.specs.Limits.{told, crowded_stage}
 use Rattle.rmt_config.specs.LimitSteps.{marked_sum, Marks, Counts}
+use Rattle.rmt_bits.proofs.MostLaws.{start-le}
 
 -- ---- numbers in lists
 
@@ -136,13 +137,9 @@ one_counted ns counts x lt m =
 
 -- ---- the greatest of some
 
-start_le_fold : {A : Type 0} (measure : A → ℕ) (a : ℕ) (xs : List A) → a ≤ fold (λ most x. max most (measure x)) a xs
-start_le_fold measure a [] = omega arith
-start_le_fold measure a (x ∷ xs) = let rest = start_le_fold measure (max a (measure x)) xs in omega (arith, rest)
-
 item_le_fold : (a : ℕ) (xs : List ℕ) (k : ℕ) → k < length xs → get_or xs k 0 ≤ fold (λ most x. max most x) a xs
 item_le_fold a [] k lt = absurd (omega (arith, lt))
-item_le_fold a (x ∷ xs) zero lt = let rest = start_le_fold (λ n. n) (max a x) xs in omega (arith, rest)
+item_le_fold a (x ∷ xs) zero lt = let rest = start-le (λ n. n) (max a x) xs in omega (arith, rest)
 item_le_fold a (x ∷ xs) (suc k) lt = item_le_fold (max a x) xs k (omega (arith, lt))
 
 fold_le : (a most : ℕ) (xs : List ℕ) → a ≤ most → ((k : ℕ) → k < length xs → get_or xs k 0 ≤ most) → fold (λ m x. max m x) a xs ≤ most
@@ -157,7 +154,7 @@ listed_le measure a [] n = inl refl
 listed_le measure a (m ∷ ns) n =
     elim (cases_eq m n) [
       | inl same ↦
-          let rest = start_le_fold measure (max a (measure m)) ns in
+          let rest = start-le measure (max a (measure m)) ns in
           let alike : measure m ≡ measure n = ap measure same in
           inr (omega (arith, rest, alike))
       | inr other ↦

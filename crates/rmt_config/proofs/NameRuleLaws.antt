@@ -20,6 +20,7 @@ use Rattle.rmt_ast.specs.NameList.{bytes_of, is_known, seen}
 use Rattle.rmt_ast.specs.NameRules.{differ, rise}
 use Rattle.rmt_ast.proofs.NameListLaws.{seen_more}
 use Rattle.rmt_config.specs.Order.{rises_from}
+use Rattle.rmt_bits.proofs.FunctionLaws.{bytes_eq-sym}
 
 -- ---- all items of lists
 
@@ -72,22 +73,11 @@ rise-all ns = rise-from 0 ns ∙ ap (λ b. b && rise ns) (all_least ns)
 
 -- ---- names of which none stands twice
 
-same_or : (x y : List ℕ) → bytes_eq x y ≡ bytes_eq y x
-same_or x y = by (bytes_eq x y) (bytes_eq y x) (λ e. along x y e) (λ e. along y x e)
-  where
-    along : (a b : List ℕ) → bytes_eq a b ≡ true → bytes_eq b a ≡ true
-    along a b e = (bytes_eq-Decides b a).1 (sym ((bytes_eq-Decides a b).0 e))
-
-    by : (p q : Bool) → (p ≡ true → q ≡ true) → (q ≡ true → p ≡ true) → p ≡ q
-    by true q h g = sym (h refl)
-    by false true h g = sym (sym (g refl))
-    by false false h g = refl
-
 -- one more name differs from the others
 differ_push : (ns : List (List ℕ)) (n : List ℕ) → differ (ns ++ n ∷ []) ≡ (differ ns && not (is_known ns n))
 differ_push [] n = refl
 differ_push (m ∷ ms) n =
-    ap (λ b. not b && differ (ms ++ n ∷ [])) (list_any-append (bytes_eq m) ms (n ∷ []) ∙ ap (λ e. is_known ms m || (e || false)) (same_or m n))
+    ap (λ b. not b && differ (ms ++ n ∷ [])) (list_any-append (bytes_eq m) ms (n ∷ []) ∙ ap (λ e. is_known ms m || (e || false)) (bytes_eq-sym m n))
     ∙ ap (λ b. not (is_known ms m || (bytes_eq n m || false)) && b) (differ_push ms n) ∙ by (is_known ms m) (bytes_eq n m) (differ ms) (is_known ms n)
   where
     by : (a e d b : Bool) → (not (a || (e || false)) && (d && not b)) ≡ ((not a && d) && not (e || b))

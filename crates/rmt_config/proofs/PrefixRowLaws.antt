@@ -2,8 +2,8 @@
 use Rattle.std.proofs.Common.{◌≡◌, ℕ, zero, suc, ◌+◌, ◌-◌, ◌*◌, ◌/◌, ◌%◌, ◌^◌, ◌<◌, ◌≤◌, List, [], ◌∷◌, length, get_or, drop, Bool, true, cond, ltb, Some, sym, refl, ap, ◌∙◌, subst, arith, inl, inr}
 use Rattle.std.specs.Prelude.{◌&&◌, ◌==◌, not, All, bit_and, find, option_map, unwrap_or, slice_get}
 use Rattle.std.specs.List.{flat_map, list_all}
-use Rattle.std.proofs.lemmas.Bool.{cases_Bool, cases_order, and_parts, eqb-true, ltb-true}
-use Rattle.std.proofs.lemmas.Nat.{and_le_r, same_from_place}
+use Rattle.std.proofs.lemmas.Bool.{cases_Bool, and_parts, eqb-true, ltb-true}
+use Rattle.std.proofs.lemmas.Nat.{and_le_r}
 use Rattle.std.proofs.Math.Pow.{pow_mono}
 use Rattle.std.proofs.lemmas.List.Elements.{All-head, All-tail}
 use Rattle.std.proofs.lemmas.List.Folds.{list_all-map}
@@ -21,33 +21,21 @@ use Rattle.rmt_config.specs.PrefixRow.{PrefixRows}
 use Rattle.rmt_config.specs.Rooms.{PartAt}
 use Rattle.rmt_config.specs.RunCells.{own_content}
 use Rattle.rmt_config.specs.Shapes.{divided_up}
-use Rattle.rmt_config.proofs.HeldRows.{found-item, found-none}
-use Rattle.rmt_config.proofs.RiseLaws.{one_off, rise-below}
+use Rattle.rmt_config.proofs.RiseLaws.{one_off}
 use Rattle.rmt_config.proofs.SpelledParts.{held-is}
+use Rattle.rmt_config.proofs.TcamRowLaws.{trow-found as row-found, trow-none as row-none}
 
 -- ---- a row of a block
 
 pub trow-found : (val : TcamRow → ℕ) (rows : List TcamRow) (at block row : ℕ) (d : TcamRow) → PrefixRows rows
     → row < 2048 → at < length rows → trow_number (get_or rows at d) ≡ block * 2048 + row → val (get_or rows at d) ≡ tcam_row val rows block row
-trow-found val rows at block row d formed lr lt e =
-    let x = get_or rows at d in
-    let turned : x.block * 2048 + x.row ≡ block * 2048 + row = omega (arith, e) in
-    let same = same_from_place x.block x.row block row 2048 (formed.low at d lt) lr turned in
-    sym (found-item (λ (r : TcamRow). r.block) (λ (r : TcamRow). r.row) val trow_number 2048 rows at d (λ r. refl) formed.rise lt block row same.0 same.1)
+trow-found val rows at block row d formed = row-found val rows at block row d formed.rise formed.low
 
 pub trow-none : (val : TcamRow → ℕ) (rows : List TcamRow) (at block row : ℕ) → PrefixRows rows
     → ((k : ℕ) (d : TcamRow) → k < at → trow_number (get_or rows k d) < block * 2048 + row)
     → ((k : ℕ) (d : TcamRow) → at ≤ k → k < length rows → block * 2048 + row ≤ trow_number (get_or rows k d))
     → ((d : TcamRow) → at < length rows → trow_number (get_or rows at d) ≡ block * 2048 + row → ⊥) → 0 ≡ tcam_row val rows block row
-trow-none val rows at block row formed below above other =
-    sym (found-none (λ (r : TcamRow). r.block) (λ (r : TcamRow). r.row) val rows block row (λ k d lt eb er.
-    let x = get_or rows k d in
-    let e : trow_number x ≡ block * 2048 + row = (let eb' : x.block ≡ block = eb in let er' : x.row ≡ row = er in omega (arith, eb', er')) in
-    elim (cases_order k at) as (λ _. ⊥) [
-      | inl same ↦ other d (subst (λ i. i < length rows) same lt) (subst (λ i. trow_number (get_or rows i d) ≡ block * 2048 + row) same e)
-      | inr (inl less) ↦ absurd (omega (arith, below k d less, e))
-      | inr (inr more) ↦ absurd (omega (arith, rise-below trow_number 0 rows formed.rise at k d more lt, above at d (omega arith) (omega (arith, more, lt)), e))
-    ]))
+trow-none val rows at block row formed = row-none val rows at block row formed.rise
 
 -- the value of a row is at most its mask
 value-within : (rows : List TcamRow) (block row : ℕ) → All (λ (r : TcamRow). r.value ≤ r.mask) rows

@@ -1,17 +1,15 @@
 -- Keys whose prints differ differ.
 use Rattle.std.proofs.Common.{◌≡◌, ℕ, List, [], ◌∷◌, map, Bool, true, false, not, eqb, refl, sym, ap, ◌∙◌}
 use Rattle.std.specs.List.{list_any}
-use Rattle.std.specs.List.Sorted.{IsPermutation, IsSorted}
-use Rattle.std.specs.Ordering.{nat_cmp}
 use Rattle.std.specs.Str.{bytes_eq}
 use Rattle.std.proofs.lemmas.Bool.{and_parts, and_from, eq-eqb, false≢true, not-true, not_from_false, or_from, or_parts}
 use Rattle.std.proofs.lemmas.Slice.Eq.{bytes_eq-Decides}
 use Rattle.rmt_bits.specs.Bits.{bytes_of}
 use Rattle.rmt_bits.specs.Hash.{fnv}
-use Rattle.rmt_config.specs.KeyPrints.{print_of}
+use Rattle.rmt_config.specs.KeyPrints.{kept_of_keys, print_of}
 use Rattle.rmt_config.specs.KeysSeen.{news, was_seen}
-use Rattle.rmt_config.specs.Order.{are_new, rises_from}
-use Rattle.rmt_config.proofs.NumberLaws.{rise_from_sort}
+use Rattle.rmt_config.specs.Order.{are_new}
+use Rattle.rmt_config.proofs.KeyListLaws.{kept-prints}
 
 not_same : (size k m : ℕ) → eqb (print_of size m) (print_of size k) ≡ false → (b : Bool) → bytes_eq (bytes_of size m) (bytes_of size k) ≡ b → b ≡ false
 not_same size k m e false is = refl
@@ -33,7 +31,6 @@ news-by size before (k ∷ ks) e =
     and_from (not (was_seen size k before)) (news size (k ∷ before) ks) (not_from_false (was_seen size k before) (unseen size k before (not-true seen parts.0)))
     (news-by size (k ∷ before) ks parts.1)
 
--- keys are new one after another where their prints rise when sorted
-pub news-by_prints : (size : ℕ) (ks prints sorted : List ℕ) → prints ≡ map (print_of size) ks → IsPermutation prints sorted → IsSorted nat_cmp sorted → rises_from 0 sorted ≡ true
-    → news size [] ks ≡ true
-news-by_prints size ks prints sorted of moved is e = news-by size [] ks (ap (are_new []) (sym of) ∙ sym (rise_from_sort prints sorted moved is) ∙ e)
+-- keys are new one after another where their prints are
+pub news-by_prints : (size : ℕ) (ks prints : List ℕ) → prints ≡ kept_of_keys false size ks → are_new [] prints ≡ true → news size [] ks ≡ true
+news-by_prints size ks prints of e = news-by size [] ks (ap (are_new []) (sym (of ∙ kept-prints size ks)) ∙ e)

@@ -19,7 +19,7 @@ hit_is version key x = ap (λ b. b && (bit_and key x.mask == x.key)) (kept (is_o
     kept false = refl
 
 module _ (c : Config) (k place : ℕ) (stage : Stage) (slot : SlotUnit) (e : slice_get c.stages k ≡ Some stage) (u : option_and_then as_slot (slice_get stage.units place) ≡ Some slot) where
-  content_is : (n : ℕ) → own_content c k place n ≡ content_of stage slot n
+  pub content_is : (n : ℕ) → own_content c k place n ≡ content_of stage slot n
   content_is n =
       ap (λ (o : Option Stage). unwrap_or (option_and_then (λ (x : Stage). option_map (λ (y : SlotUnit). content_of x y n) (option_and_then as_slot (slice_get x.units place))) o) no_content) e
       ∙ ap (λ (o : Option SlotUnit). unwrap_or (option_map (λ (y : SlotUnit). content_of stage y n) o) no_content) u
@@ -29,7 +29,7 @@ module _ (c : Config) (k place : ℕ) (stage : Stage) (slot : SlotUnit) (e : sli
       ap (λ (o : Option SlotUnit). unwrap_or (option_map (λ (y : SlotUnit). number_of_cell y.numbers n) o) 0)
       (ap (option_and_then (λ (x : Stage). option_and_then as_slot (slice_get x.units place))) e ∙ u)
 
-  same_found : (n : ℕ) → found_at (own_cells c) k place n ≡ found_in slot.numbers n (content_of stage slot n)
+  pub same_found : (n : ℕ) → found_at (own_cells c) k place n ≡ found_in slot.numbers n (content_of stage slot n)
   same_found n = λ i. record { code = code_of (content_is n i).head; held = (content_is n i).held; number = number_is n i }
 
   slot_found : (version key : ℕ) → found_in_slot false version (own_cells c) k place key slot ≡ look_up c.seed stage slot key

@@ -2,16 +2,14 @@
 use Rattle.std.proofs.Common.{◌≡◌, ℕ, zero, suc, ◌+◌, ◌-◌, ◌*◌, ◌/◌, ◌%◌, ◌^◌, ◌<◌, List, [], ◌++◌, Bool, true, false, ◌&&◌, ◌||◌, eqb, refl, sym, ap, ◌∙◌, arith}
 use Rattle.std.specs.List.{list_any, flat_map, range_with_len}
 use Rattle.std.proofs.lemmas.Bool.{and_parts, and_from, eqb-true, eq-eqb}
-use Rattle.std.proofs.lemmas.Nat.{div-add-mod', div-mul-add, mod-mul-add, mod_below, div_below}
+use Rattle.std.proofs.lemmas.Nat.{div-add-mod', div-mul-add, mod-mul-add, mod_below}
 use Rattle.std.proofs.lemmas.List.Folds.{list_any-append}
 use Rattle.rmt_bits.specs.Bits.{slice, bytes_of}
 use Rattle.rmt_bits.specs.Hash.{hash_row}
-use Rattle.rmt_bits.proofs.BitLaws.{slice-lt}
-use Rattle.rmt_config.specs.Types.{CellNumber, SramRow}
-use Rattle.rmt_config.specs.Cells.{cell_of, entry_at, sram_row}
-use Rattle.rmt_config.specs.Layouts.{entry_in, exact_keys, local_of, quantum_of}
-use Rattle.rmt_config.specs.KeysSeen.{is_candidate, key_in, stands_there}
-use Rattle.rmt_config.proofs.CellLayouts.{exact-entry}
+use Rattle.rmt_bits.proofs.BitLaws.{slice-lt, slice-slice}
+use Rattle.rmt_config.specs.Types.{CellNumber}
+use Rattle.rmt_config.specs.Cells.{Cell, cell_of}
+use Rattle.rmt_config.specs.KeysSeen.{is_candidate, stands_there}
 use Rattle.rmt_config.proofs.SpelledRows.{range-from, range-to}
 use Rattle.rmt_bits.proofs.OptionLaws.{same_Bool}
 use Rattle.std.proofs.Math.Nat.{mod-eq_of_lt}
@@ -62,16 +60,13 @@ four-ways p f =
     list_any-append p (f 0) (f 1 ++ (f 2 ++ (f 3 ++ [])))
     ∙ ap (λ b. list_any p (f 0) || b) (list_any-append p (f 1) (f 2 ++ (f 3 ++ [])) ∙ ap (λ b. list_any p (f 1) || b) (list_any-append p (f 2) (f 3 ++ []) ∙ ap (λ b. list_any p (f 2) || b) (list_any-append p (f 3) [])))
 
-pub candidate-row : (seed first per d : ℕ) (key : List ℕ) (cell : ℕ) → 0 < per → 0 < d → cell < 4096 * d * per
+pub candidate-row : (seed first per d : ℕ) (key : List ℕ) (cell : ℕ) → 0 < per → 0 < d → cell / per / (1024 * d) < 4
     → is_candidate seed first per d key cell ≡ eqb (hash_row seed (first + cell / per / (1024 * d)) key (1024 * d)) (cell / per % (1024 * d))
-candidate-row seed first per d key cell lp ld lt =
+candidate-row seed first per d key cell lp ld way =
     let rows = 1024 * d in
     let hash : ℕ → ℕ = λ way. hash_row seed (first + way) key rows in
     let cells : ℕ → List ℕ = λ way. range_with_len ((way * rows + hash way) * per + 0) per in
     let some : 0 < rows = omega (arith, ld) in
-    let total : 4096 * d * per ≡ 4 * rows * per = omega arith in
-    let place : cell / per < 4 * rows = div_below cell per (4 * rows) lp (omega (arith, lt, total)) in
-    let way : cell / per / rows < 4 = div_below (cell / per) rows 4 some (omega (arith, place)) in
     four-ways (λ m. eqb m cell) cells
     ∙ one-way (λ k. list_any (λ m. eqb m cell) (cells k)) (λ k. eqb (hash k) (cell / per % rows)) (cell / per / rows) way
     (λ k. row-cells rows per k (hash k) cell lp (mod_below _ rows some))
@@ -81,10 +76,16 @@ candidate-row seed first per d key cell lp ld lt =
 pub above-byte : (x bits : ℕ) → x < 2 ^ (bits + 8) → slice x 8 bits ≡ x / 256
 above-byte x bits lt = mod-eq_of_lt (shr_below x bits 8 lt)
 
-pub key-read : (rows : List SramRow) (blocks : List ℕ) (k p d bits : ℕ) (n : CellNumber) → 0 < p → 0 < d
-    → (let l = exact_keys k p d bits in slice (entry_in l (sram_row rows) blocks (quantum_of l n.cell) (local_of l n.cell)) 8 bits ≡ key_in rows blocks k p d bits n)
-key-read rows blocks k p d bits n lp ld =
-    ap (λ e. slice e 8 bits) (sym (exact-entry (sram_row rows) blocks k p d bits n.cell lp ld)) ∙ above-byte (entry_at (sram_row rows) blocks k bits (cell_of (1024 * d) p n.cell)) bits (slice-lt _ _ (bits + 8))
+-- what is read of an entry behind its head is the key
+pub key-read : (x low bits : ℕ) → slice x (low + 8) bits ≡ slice x low (bits + 8) / 256
+key-read x low bits = sym (slice-slice x low (bits + 8) 8 bits (omega arith)) ∙ above-byte (slice x low (bits + 8)) bits (slice-lt x low (bits + 8))
+
+-- what is said of a cell is said of the place where it lies
+pub place-same : {X : Type 0} (f : Cell → X) (rows per n way row position : ℕ) → way ≡ n / per / rows → row ≡ n / per % rows → position ≡ n % per
+    → f (record { way = way; row = row; position = position }) ≡ f (cell_of rows per n)
+place-same f rows per n way row position a b c =
+    ap (λ w. f (record { way = w; row = row; position = position })) a ∙ ap (λ r. f (record { way = n / per / rows; row = r; position = position })) b
+    ∙ ap (λ p. f (record { way = n / per / rows; row = n / per % rows; position = p })) c
 
 -- a cell stands where the bytes that were read are those of its key, and it is a candidate of them
 pub cell-stands : (seed first per d size : ℕ) (key : CellNumber → ℕ) (n : CellNumber) (shown read : List ℕ) (b : Bool) → b ≡ is_candidate seed first per d shown n.cell → shown ≡ read

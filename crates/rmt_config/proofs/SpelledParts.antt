@@ -46,7 +46,7 @@ module _ (c : Config) (stage : Stage) (k node : ℕ) (in_stages : slice_get c.st
       (units-stand units (place + 1) (first + s.actions + 1) (next_from units stage.units (Slot s) place h) parts.1
       (All-tail (λ (x : Coded). SlotHolds (visible_with c.names) stage x.first x.slot) x behind all))
 
-units-of : (stage : Stage) → stage_is_formed stage ≡ true → list_all unit_is_formed stage.units ≡ true
+pub units-of : (stage : Stage) → stage_is_formed stage ≡ true → list_all unit_is_formed stage.units ≡ true
 units-of stage e = (and_parts _ _ (and_parts _ _ (and_parts _ _ (and_parts _ _ (and_parts _ _ (and_parts _ _ e).0).0).0).0).0).1
 
 stages-stand : (c : Config) (node k : ℕ) (stages : List Stage) → ((i : ℕ) → slice_get stages i ≡ slice_get c.stages (k + i)) → list_all stage_is_formed stages ≡ true

@@ -127,11 +127,12 @@ length-map : {A B : Type 0} (f : A → B) (xs : List A) → length (map f xs) �
 length-map f [] = refl
 length-map f (x ∷ xs) = ap suc (length-map f xs)
 
--- as many entries as numbers
+-- the numbers of the entries are those that are listed, and so they are as many
+pub entries-numbered : (c : Config) (t : TableName) → map (λ (e : Entry). e.number) (entries_by_cell c t) ≡ listed_numbers (parts_of c t.node)
+entries-numbered c t = each_entry (λ (e : Entry). e.number) (entry_in c t) (λ n. n) (λ p n. refl) (parts_of c t.node) ∙ map-same (listed_numbers (parts_of c t.node))
+
 pub entries-count : (c : Config) (t : TableName) → length (entries_by_cell c t) ≡ length (listed_numbers (parts_of c t.node))
-entries-count c t =
-    sym (length-map (λ (e : Entry). e.number) (entries_by_cell c t))
-    ∙ ap length (each_entry (λ (e : Entry). e.number) (entry_in c t) (λ n. n) (λ p n. refl) (parts_of c t.node) ∙ map-same (listed_numbers (parts_of c t.node)))
+entries-count c t = sym (length-map (λ (e : Entry). e.number) (entries_by_cell c t)) ∙ ap length (entries-numbered c t)
 
 -- the ranks of the entries of a ternary table are those that are told
 pub ranks-told : (c : Config) (t : TableName) → t.kind ≡ kind.Ternary → map rank_of (entries_by_cell c t) ≡ map (rank_with t.ranks) (listed_numbers (parts_of c t.node))

@@ -82,15 +82,15 @@ module _ (c : Config) (p : PartAt) (st : PartStands c p) (k per d w : ℕ) (ks r
       (sym (list_all-map (λ n. ltb n (4096 * d * per)) (λ (n : CellNumber). n.cell) p.slot.numbers)
       ∙ sym (ap (λ m. list_all (λ n. ltb n (cells_in m)) (map (λ (n : CellNumber). n.cell) p.slot.numbers)) e) ∙ (and_parts _ _ (and_parts _ _ st.holds.numbers).0).1)
 
-  pub exact-keys : (old new : List ℕ) (stand : Bool)
+  pub exact-keys : (whole : Bool) (old new : List ℕ) (stand : Bool)
       → (let key = key_in st.stage.srows ks k per d (bits_of_lanes p.slot.keys) in
       let size = divided_up (bits_of_lanes p.slot.keys) 8 in
-      KeysAdded size (stands_there c.seed w per d size key) key p.slot.numbers old new stand → KeysAdded size (stands_in c p) (key_held c p) p.slot.numbers old new stand)
-  exact-keys old new stand h =
+      KeysAdded whole size (stands_there c.seed w per d size key) key p.slot.numbers old new stand → KeysAdded whole size (stands_in c p) (key_held c p) p.slot.numbers old new stand)
+  exact-keys whole old new stand h =
       let size = divided_up (bits_of_lanes p.slot.keys) 8 in
       let key = key_in st.stage.srows ks k per d (bits_of_lanes p.slot.keys) in
-      subst (λ (f : CellNumber → ℕ). KeysAdded size (stands_in c p) f p.slot.numbers old new stand) (funext key (key_held c p) exact-key)
-      (subst (λ (f : CellNumber → Bool). KeysAdded size f key p.slot.numbers old new stand) (funext (stands_there c.seed w per d size key) (stands_in c p) exact-stands) h)
+      subst (λ (f : CellNumber → ℕ). KeysAdded whole size (stands_in c p) f p.slot.numbers old new stand) (funext key (key_held c p) exact-key)
+      (subst (λ (f : CellNumber → Bool). KeysAdded whole size f key p.slot.numbers old new stand) (funext (stands_there c.seed w per d size key) (stands_in c p) exact-stands) h)
 
 -- ---- the parts of an exact table
 

@@ -52,11 +52,15 @@ rooms_for c seed node key =
 
 -- ---- an entry in a cell
 
--- the numbers of tests as one, those of the first field highest
+-- values of these widths as one number, the first highest
+abbrev pub side_by_side : List ℕ → List ℕ → ℕ
+side_by_side [] vs = 0
+side_by_side (w ∷ ws) [] = 0
+side_by_side (w ∷ ws) (v ∷ vs) = v * 2 ^ sum ws + side_by_side ws vs
+
+-- the numbers of an entry's tests as one, those of the first field highest
 abbrev pub tests_as_one : (Test → ℕ) → List ℕ → List Test → ℕ
-tests_as_one part [] ts = 0
-tests_as_one part (w ∷ ws) [] = 0
-tests_as_one part (w ∷ ws) (t ∷ ts) = part t * 2 ^ sum ws + tests_as_one part ws ts
+tests_as_one part widths tests = side_by_side widths (map part tests)
 
 -- the key of an entry of a table
 abbrev pub key_number : Terms → Entry → ℕ

@@ -15,9 +15,10 @@ use Rattle.rmt_core.specs.Compiling.{Builds, Compiles, Finish, Fitted, GivesImag
 use Rattle.rmt_core.specs.Files.{Files, capture_limit, entries_limit, groups_limit, image_limit, packets_limit, program_limit}
 use Rattle.rmt_core.specs.Given.{Given, Opens, Reads, told}
 use Rattle.rmt_core.specs.Headline.{AreGoodGroups, CanBeMade, Fits, IsComplete, IsGoodCapture, IsGoodText, IsImage, IsReady}
-use Rattle.rmt_core.specs.PlainText.{GivesPlain, plain_text}
+use Rattle.rmt_core.specs.EventText.{with_changes}
+use Rattle.rmt_core.specs.PlainText.{GivesPlain, RunsPlain, plain_text}
 use Rattle.rmt_core.specs.Reporting.{report_line}
-use Rattle.rmt_core.specs.Runs.{Runs}
+use Rattle.rmt_core.specs.Runs.{Runs, packets_alone}
 use Rattle.rmt_core.specs.Sampling.{GivesSample, sample_line}
 use Rattle.rmt_core.specs.Simulating.{GivesRun, Spelled}
 use Rattle.rmt_core.specs.Switching.{GivesSwitch, HasCapture, HasGroups, OfCapture, OfGroups, Switches, switch_given}
@@ -58,7 +59,7 @@ run_ready w files image packets g i t h =
     let read = read_within files image image_limit (λ bytes. Opens files packets (λ text. Spelled files bytes (λ c. Runs files (text_of w c) packets_limit text))) g (i.bytes, i.has_bytes) h in
     let opened = opened_there files packets t.text (λ text. Spelled files i.bytes (λ c. Runs files (text_of w c) packets_limit text)) g t.has_text.is_there read in
     let run = spelled_is files i.bytes (λ c. Runs files (text_of w c) packets_limit t.text) g i.config i.spells opened in
-    ap (λ (k : Given). k.status) (run_done files (text_of w i.config) packets_limit t.text g t.has_text.is_short t.is_good run)
+    ap (λ (k : Given). k.status) (run_done packets_alone files (text_of w i.config) packets_limit t.text g t.has_text.is_short t.is_good run)
 
 plain_ready : OneMeaning → (files : Files) (program entries packets : List ℕ) (g : Given) → IsReady files (Plain program entries packets) → GivesPlain files program entries packets g → g.status ≡ Done
 plain_ready one files program entries packets g ready h =
@@ -66,12 +67,12 @@ plain_ready one files program entries packets g ready h =
     let t = ready.3 in
     let read = read_within files program program_limit
     (λ text. Reads files entries entries_limit
-    (λ entry_text. Opens files packets (λ packet_text. Understands files text entry_text (λ p lists. Runs files (plain_text p lists) packets_limit packet_text)))) g (both.text, both.has_text) h in
+    (λ entry_text. Opens files packets (λ packet_text. Understands files text entry_text (RunsPlain files packet_text)))) g (both.text, both.has_text) h in
     let second = read_within files entries entries_limit
-    (λ entry_text. Opens files packets (λ packet_text. Understands files both.text entry_text (λ p lists. Runs files (plain_text p lists) packets_limit packet_text))) g (both.entry_text, both.has_entries) read in
-    let opened = opened_there files packets t.text (λ packet_text. Understands files both.text both.entry_text (λ p lists. Runs files (plain_text p lists) packets_limit packet_text)) g t.has_text.is_there second in
-    let run = understood one files both.text both.entry_text (λ p lists. Runs files (plain_text p lists) packets_limit t.text) g ready.0 ready.1 both.means both.says opened in
-    ap (λ (k : Given). k.status) (run_done files (plain_text ready.0 ready.1) packets_limit t.text g t.has_text.is_short t.is_good run)
+    (λ entry_text. Opens files packets (λ packet_text. Understands files both.text entry_text (RunsPlain files packet_text))) g (both.entry_text, both.has_entries) read in
+    let opened = opened_there files packets t.text (λ packet_text. Understands files both.text both.entry_text (RunsPlain files packet_text)) g t.has_text.is_there second in
+    let run = understood one files both.text both.entry_text (RunsPlain files t.text) g ready.0 ready.1 both.means both.says opened in
+    ap (λ (k : Given). k.status) (run_done (with_changes ready.0 ready.1) files (plain_text ready.0 ready.1) packets_limit t.text g t.has_text.is_short t.is_good run)
 
 switch_ready : (files : Files) (image groups capture out : List ℕ) (every : ℕ) (g : Given) → IsImage files image → AreGoodGroups files groups → IsGoodCapture files capture
     → GivesSwitch files image groups capture out every g → g.status ≡ Done

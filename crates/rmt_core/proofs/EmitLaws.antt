@@ -1,6 +1,6 @@
 -- The answers of a run, cycle by cycle.
 use Rattle.std.proofs.Common.{◌≡◌, ℕ, zero, suc, ◌+◌, ◌-◌, ◌<◌, List, [], ◌∷◌, ◌++◌, length, Option, Some, None, sym, refl, ap, ◌∙◌, subst, arith, append_assoc, length-append}
-use Rattle.std.specs.Prelude.{filter_map, slice_get, option_and_then, option_map, nat_lt, if◌then◌else◌}
+use Rattle.std.specs.Prelude.{filter_map, option_and_then, option_map, nat_lt, if◌then◌else◌}
 use Rattle.std.specs.Option.{option_to_list}
 use Rattle.std.specs.List.{range_with_len, cons_option}
 use Rattle.std.proofs.lemmas.List.Elements.{filter_map-append}
@@ -8,7 +8,7 @@ use Rattle.rmt_bits.specs.Packet.{Packet}
 use Rattle.rmt_core.specs.Types.{Config}
 use Rattle.rmt_config.specs.ChipRun.{Outcome, answer_at, latency_of, outcome_of, own_look}
 use Rattle.rmt_packets.specs.AnswerLine.{answer_line}
-use Rattle.rmt_bits.proofs.ListLaws.{range_more}
+use Rattle.rmt_bits.proofs.ListLaws.{range_more, slice_get-front}
 use Rattle.rmt_core.specs.SimText.{answer_lines, answer_of_outcome}
 use Rattle.rmt_core.specs.Watching.{emitted}
 
@@ -19,16 +19,11 @@ same_answers f g a (suc n) e =
     let later : (k : ℕ) → k < n → f (a + 1 + k) ≡ g (a + 1 + k) = λ k h. subst (λ m. f m ≡ g m) (omega arith) (e (suc k) (omega arith)) in
     ap (λ o. cons_option o (filter_map f (range_with_len (a + 1) n))) first ∙ ap (λ l. cons_option (g a) l) (same_answers f g (a + 1) n later)
 
-pub front_get : {X : Type 0} (xs ys : List X) (k : ℕ) → k < length xs → slice_get (xs ++ ys) k ≡ slice_get xs k
-front_get [] ys k h = absurd (omega (arith, h))
-front_get (x ∷ xs) ys zero h = refl
-front_get (x ∷ xs) ys (suc k) h = front_get xs ys k (omega (arith, h))
-
 -- what leaves in a cycle does not wait for later inputs
 answer_before : (c : Config) (inputs : List (Option Packet)) (x : Option Packet) (k : ℕ) → k < length inputs → answer_at c (inputs ++ x ∷ []) k ≡ answer_at c inputs k
 answer_before c inputs x k h =
     ap (λ o. if nat_lt k (latency_of c.stages) then None else option_and_then (λ (input : Option Packet). option_map (outcome_of (own_look c) c) input) o)
-    (front_get inputs (x ∷ []) (k - latency_of c.stages) (omega arith))
+    (slice_get-front inputs (x ∷ []) (k - latency_of c.stages) (omega arith))
 
 -- one more cycle
 pub emitted-more : (c : Config) (inputs : List (Option Packet)) (x : Option Packet) → emitted c (inputs ++ x ∷ []) ≡ emitted c inputs ++ option_to_list (answer_at c (inputs ++ x ∷ []) (length inputs))

@@ -17,7 +17,6 @@ use Rattle.rmt_image.specs.declared.fault.ImageFault.TheVariants as image
 use Rattle.rmt_image.specs.declared.fault.ReadFault.{ReadFault}
 use Rattle.rmt_image.specs.declared.fault.ReadFault.TheVariants.{Short, Form}
 use Rattle.rmt_image.specs.Reading.{Answers, ConfigAnswers, EndAnswers, MagicAnswers, VersionAnswers, WholeAnswers, image_at, version_told}
-use Rattle.rmt_packets.specs.PacketText.{Reading}
 use Rattle.rmt_pcap.specs.declared.capture.Capture.{Capture}
 use Rattle.rmt_pcap.specs.Captures.{capture_of}
 use Rattle.rmt_switch.specs.declared.fault.GroupFault.{GroupFault}
@@ -31,9 +30,10 @@ use Rattle.rmt_core.specs.Commands.{Compile, Improve, Sim, Probe, Plain, Report,
 use Rattle.rmt_core.specs.Files.{Files, Found, Absent, Long, Holds, capture_limit, entries_limit, found, groups_limit, image_limit, packets_limit, program_limit}
 use Rattle.rmt_core.specs.Given.{Given, OfFound, OfOpened, Opens, Reads, told}
 use Rattle.rmt_core.specs.Headline.{GivesAlways}
-use Rattle.rmt_core.specs.PlainText.{plain_text}
+use Rattle.rmt_core.specs.EventText.{with_changes}
+use Rattle.rmt_core.specs.PlainText.{RunsPlain, plain_text}
 use Rattle.rmt_core.specs.Reporting.{report_line}
-use Rattle.rmt_core.specs.Runs.{Runs}
+use Rattle.rmt_core.specs.Runs.{Runs, RunsBy, Way, packets_alone}
 use Rattle.rmt_core.specs.Simulating.{GivesRun, OfAnswer, Spelled}
 use Rattle.rmt_core.specs.Switching.{HasCapture, HasGroups, OfCapture, OfGroups, Switches, switch_given}
 use Rattle.rmt_core.specs.Texts.{OfEntries, OfMeaning, Understands}
@@ -100,14 +100,14 @@ spelled_given files bytes next given =
     let g = answer_given files next given a.0 in
     (g.0, (a.0, a.1, g.1))
 
-runs_given : (files : Files) (printed : Reading → List ℕ) (limit : ℕ) (text : List ℕ) → IsGiven (Runs files printed limit text)
-runs_given files printed limit text = (_, refl)
+runs_given : {X : Type 0} (way : Way X) (files : Files) (printed : X → List ℕ) (limit : ℕ) (text : List ℕ) → IsGiven (RunsBy way files printed limit text)
+runs_given way files printed limit text = (_, refl)
 
 run_given : (w : Watch) (files : Files) (image packets : List ℕ) → IsGiven (GivesRun w files image packets)
 run_given w files image packets =
     found_given files (λ bytes. Opens files packets (λ text. Spelled files bytes (λ c. Runs files (text_of w c) packets_limit text)))
     (λ bytes. opened_given files (λ text. Spelled files bytes (λ c. Runs files (text_of w c) packets_limit text))
-    (λ text. spelled_given files bytes (λ c. Runs files (text_of w c) packets_limit text) (λ c. runs_given files (text_of w c) packets_limit text)) (files packets)) (found image_limit (files image))
+    (λ text. spelled_given files bytes (λ c. Runs files (text_of w c) packets_limit text) (λ c. runs_given packets_alone files (text_of w c) packets_limit text)) (files packets)) (found image_limit (files image))
 
 -- no group text is a want of memory
 line_memory : (number : ℕ) (o : Option (List (List ℕ))) (rest : List (List ℕ) → Result (List (List ℕ)) GroupFault) → ((more : List (List ℕ)) → rest more ≡ Err group.NoMemory → ⊥)
@@ -170,10 +170,10 @@ gives_always k files (Sim image packets) not = run_given watch.Answers files ima
 gives_always k files (Probe image packets cycle) not = run_given (watch.Vectors cycle) files image packets
 gives_always k files (Plain program entries packets) not =
     found_given files
-    (λ text. Reads files entries entries_limit (λ entry_text. Opens files packets (λ packet_text. Understands files text entry_text (λ p lists. Runs files (plain_text p lists) packets_limit packet_text))))
-    (λ text. found_given files (λ entry_text. Opens files packets (λ packet_text. Understands files text entry_text (λ p lists. Runs files (plain_text p lists) packets_limit packet_text)))
-    (λ entry_text. opened_given files (λ packet_text. Understands files text entry_text (λ p lists. Runs files (plain_text p lists) packets_limit packet_text))
-    (λ packet_text. understands_given k files text entry_text (λ p lists. Runs files (plain_text p lists) packets_limit packet_text) (λ p lists. runs_given files (plain_text p lists) packets_limit packet_text))
+    (λ text. Reads files entries entries_limit (λ entry_text. Opens files packets (λ packet_text. Understands files text entry_text (RunsPlain files packet_text))))
+    (λ text. found_given files (λ entry_text. Opens files packets (λ packet_text. Understands files text entry_text (RunsPlain files packet_text)))
+    (λ entry_text. opened_given files (λ packet_text. Understands files text entry_text (RunsPlain files packet_text))
+    (λ packet_text. understands_given k files text entry_text (RunsPlain files packet_text) (λ p lists. runs_given (with_changes p lists) files (plain_text p lists) packets_limit packet_text))
     (files packets)) (found entries_limit (files entries))) (found program_limit (files program))
 gives_always k files (Report image) not =
     found_given files (λ bytes. Spelled files bytes (λ c g. g ≡ told files Done (report_line c)))

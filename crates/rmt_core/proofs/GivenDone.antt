@@ -9,7 +9,8 @@ use Rattle.rmt_entries.specs.declared.fault.EntryFault.{EntryFault}
 use Rattle.rmt_entries.specs.declared.fault.EntryFault.TheVariants.{NoMemory, At}
 use Rattle.rmt_entries.specs.Entries.{entries_of}
 use Rattle.rmt_image.proofs.Whole.{image_again}
-use Rattle.rmt_packets.specs.PacketText.{BadLine, Reading, packets_of}
+use Rattle.rmt_bits.specs.Lines.{numbered_lines}
+use Rattle.rmt_packets.specs.PacketText.{BadLine}
 use Rattle.rmt_sample.specs.Texts.{entries_text, program_text}
 use Rattle.rmt_core.specs.declared.placer.Placer.TheVariants.{ByRule}
 use Rattle.rmt_core.specs.declared.status.Status.TheVariants.{Done}
@@ -17,7 +18,7 @@ use Rattle.rmt_core.specs.Compiling.{Builds}
 use Rattle.rmt_core.specs.Files.{Files, Long, Holds, found}
 use Rattle.rmt_core.specs.Given.{Given, OfFound, OfOpened, Opens, Reads, told}
 use Rattle.rmt_core.specs.Headline.{IsWithin}
-use Rattle.rmt_core.specs.Runs.{Runs, reading_within, run_status, told_reading}
+use Rattle.rmt_core.specs.Runs.{RunsBy, Way, run_status, said_within, told_within}
 use Rattle.rmt_core.specs.Sampling.{AreOfSample, GivesSample, sample_line}
 use Rattle.rmt_core.specs.Simulating.{OfAnswer, Spelled}
 use Rattle.rmt_core.specs.Texts.{OfEntries, OfMeaning, Understands}
@@ -57,38 +58,44 @@ spelled_is files bytes next g c spells h = subst (λ r. OfAnswer files next g r)
 
 -- ---- runs
 
-within_is : (limit : ℕ) (text : List ℕ) → ltb limit (length text) ≡ false → reading_within limit text ≡ packets_of text
-within_is limit text few = rw few refl
-
--- a text that is short and good runs to its end
-pub run_done : (files : Files) (printed : Reading → List ℕ) (limit : ℕ) (text : List ℕ) (g : Given) → length text ≤ limit → (packets_of text).bad ≡ None → Runs files printed limit text g
-    → g ≡ told files Done (printed (packets_of text))
-run_done files printed limit text g short good h =
-    let few : ltb limit (length text) ≡ false = le-ltb limit (length text) short in
-    let bad : (reading_within limit text).bad ≡ None = ap (λ (r : Reading). r.bad) (within_is limit text few) ∙ good in
-    subst (λ (b : Option BadLine). g ≡ told files (run_status false b) (printed (told_reading limit text b))) bad
-    (subst (λ (l : Bool). g ≡ told files (run_status l (reading_within limit text).bad) (printed (told_reading limit text (reading_within limit text).bad))) few h)
-
 status_done : (is_long : Bool) (bad : Option BadLine) → run_status is_long bad ≡ Done → (is_long ≡ false) × (bad ≡ None)
 status_done true None e = absurd (cc)
 status_done false None e = (refl, refl)
 status_done true (Some b) e = absurd (cc)
 status_done false (Some b) e = absurd (cc)
 
-pub record RanToEnd (files : Files) (printed : Reading → List ℕ) (limit : ℕ) (text : List ℕ) (g : Given) : Type 0 where
+-- such a run
+pub record RanToEnd {X : Type 0} (way : Way X) (files : Files) (printed : X → List ℕ) (limit : ℕ) (text : List ℕ) (g : Given) : Type 0 where
   pub short : length text ≤ limit
-  pub good : (packets_of text).bad ≡ None
-  pub text_is : g.text ≡ printed (packets_of text)
+  pub good : way.bad (way.read (numbered_lines 1 text)) ≡ None
+  pub text_is : g.text ≡ printed (way.read (numbered_lines 1 text))
 
-pub ran_to_end : (files : Files) (printed : Reading → List ℕ) (limit : ℕ) (text : List ℕ) (g : Given) → g.status ≡ Done → Runs files printed limit text g → RanToEnd files printed limit text g
-ran_to_end files printed limit text g done h =
-    let bad = (reading_within limit text).bad in
-    let parts = status_done (ltb limit (length text)) bad (sym (ap (λ (x : Given). x.status) h) ∙ done) in
-    record {
-      short = ltb-false limit (length text) parts.0;
-      good = sym (ap (λ (r : Reading). r.bad) (within_is limit text parts.0)) ∙ parts.1;
-      text_is = ap (λ (x : Given). x.text) h ∙ ap (λ (b : Option BadLine). printed (told_reading limit text b)) parts.1;
-    }
+module _ {X : Type 0} (way : Way X) where
+  -- what all lines of a text say
+  abbrev pub whole : List ℕ → X
+  whole text = way.read (numbered_lines 1 text)
+
+  within_is : (limit : ℕ) (text : List ℕ) → ltb limit (length text) ≡ false → said_within way limit text ≡ whole text
+  within_is limit text few = rw few refl
+
+  -- a text that is short and good runs to its end
+  pub run_done : (files : Files) (printed : X → List ℕ) (limit : ℕ) (text : List ℕ) (g : Given) → length text ≤ limit → way.bad (whole text) ≡ None → RunsBy way files printed limit text g
+      → g ≡ told files Done (printed (whole text))
+  run_done files printed limit text g short good h =
+      let few : ltb limit (length text) ≡ false = le-ltb limit (length text) short in
+      let bad : way.bad (said_within way limit text) ≡ None = ap way.bad (within_is limit text few) ∙ good in
+      subst (λ (b : Option BadLine). g ≡ told files (run_status false b) (printed (told_within way limit text b))) bad
+      (subst (λ (l : Bool). g ≡ told files (run_status l (way.bad (said_within way limit text))) (printed (told_within way limit text (way.bad (said_within way limit text))))) few h)
+
+  pub ran_to_end : (files : Files) (printed : X → List ℕ) (limit : ℕ) (text : List ℕ) (g : Given) → g.status ≡ Done → RunsBy way files printed limit text g → RanToEnd way files printed limit text g
+  ran_to_end files printed limit text g done h =
+      let bad = way.bad (said_within way limit text) in
+      let parts = status_done (ltb limit (length text)) bad (sym (ap (λ (x : Given). x.status) h) ∙ done) in
+      record {
+        short = ltb-false limit (length text) parts.0;
+        good = sym (ap way.bad (within_is limit text parts.0)) ∙ parts.1;
+        text_is = ap (λ (x : Given). x.text) h ∙ ap (λ (b : Option BadLine). printed (told_within way limit text b)) parts.1;
+      }
 
 -- ---- what stands behind Done
 

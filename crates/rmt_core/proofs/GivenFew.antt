@@ -9,7 +9,6 @@ use Rattle.rmt_entries.specs.declared.fault.EntryFault.{EntryFault}
 use Rattle.rmt_entries.specs.declared.fault.EntryFault.TheVariants.{NoMemory, At}
 use Rattle.rmt_entries.specs.Entries.{entries_of}
 use Rattle.rmt_image.specs.declared.fault.ImageFault.{ImageFault}
-use Rattle.rmt_packets.specs.PacketText.{Reading}
 use Rattle.rmt_core.specs.declared.placer.Placer.{Placer}
 use Rattle.rmt_core.specs.declared.placer.Placer.TheVariants.{ByRule, ByTries}
 use Rattle.rmt_core.specs.declared.status.Status.{Status}
@@ -23,10 +22,11 @@ use Rattle.rmt_core.specs.Files.{Files, Found, Absent, Long, Holds, entries_limi
 use Rattle.rmt_core.specs.Given.{Given, OfFound, OfOpened, told}
 use Rattle.rmt_core.specs.Gives.{Gives}
 use Rattle.rmt_core.specs.Headline.{LeavesFiles, WritesSeveral}
+use Rattle.rmt_core.specs.EventText.{with_changes}
 use Rattle.rmt_core.specs.PlainText.{plain_text}
 use Rattle.rmt_core.specs.Placers.{refusal_by}
 use Rattle.rmt_core.specs.Reporting.{report_line}
-use Rattle.rmt_core.specs.Runs.{Runs}
+use Rattle.rmt_core.specs.Runs.{RunsBy, Way, packets_alone}
 use Rattle.rmt_core.specs.Sampling.{sample_line}
 use Rattle.rmt_core.specs.Simulating.{GivesRun, OfAnswer, Spelled}
 use Rattle.rmt_core.specs.Texts.{OfEntries, OfMeaning, Understands}
@@ -73,8 +73,8 @@ module _ (files : Files) where
   spelled_few : (bytes : List ℕ) (next : Config → Given → Type 0) → ((c : Config) → WritesFew (next c)) → WritesFew (Spelled files bytes next)
   spelled_few bytes next few g h = answer_few next few h.0 g h.2
 
-  runs_few : (printed : Reading → List ℕ) (limit : ℕ) (text : List ℕ) → WritesFew (Runs files printed limit text)
-  runs_few printed limit text g h = none_told _ _ g h
+  runs_few : {X : Type 0} (way : Way X) (printed : X → List ℕ) (limit : ℕ) (text : List ℕ) → WritesFew (RunsBy way files printed limit text)
+  runs_few way printed limit text g h = none_told _ _ g h
 
   module _ (placer : Placer) (finish : Finish) (few : (image : List ℕ) (c : Config) (b : Bound) → length (finish image c b).writes ≤ 1) (p : Program) (lists : List (List Entry)) where
     loaded_few : WritesFew (Loaded placer files finish p lists)
@@ -95,7 +95,7 @@ module _ (files : Files) where
 
   run_few : (w : Watch) (image packets : List ℕ) → WritesFew (GivesRun w files image packets)
   run_few w image packets =
-      found_few _ (λ bytes. opened_few _ (λ text. spelled_few bytes _ (λ c. runs_few (text_of w c) packets_limit text)) (files packets)) (found image_limit (files image))
+      found_few _ (λ bytes. opened_few _ (λ text. spelled_few bytes _ (λ c. runs_few packets_alone (text_of w c) packets_limit text)) (files packets)) (found image_limit (files image))
 
   gives_few : (command : Command) → (WritesSeveral command → ⊥) → WritesFew (Gives files command)
   gives_few (Compile program entries image) not = image_few ByRule program entries image
@@ -104,7 +104,7 @@ module _ (files : Files) where
   gives_few (Probe image packets cycle) not = run_few (watch.Vectors cycle) image packets
   gives_few (Plain program entries packets) not =
       found_few _ (λ text. found_few _ (λ entry_text. opened_few _ (λ packet_text. understands_few text entry_text _
-      (λ p lists. runs_few (plain_text p lists) packets_limit packet_text)) (files packets)) (found entries_limit (files entries))) (found program_limit (files program))
+      (λ p lists. runs_few (with_changes p lists) (plain_text p lists) packets_limit packet_text)) (files packets)) (found entries_limit (files entries))) (found program_limit (files program))
   gives_few (Report image) not =
       found_few _ (λ bytes. spelled_few bytes _ (λ c. none_told status.Done (report_line c))) (found image_limit (files image))
   gives_few (Switch image groups capture out every) not = absurd (not tt)

@@ -30,7 +30,6 @@ use Rattle.rmt_sample.specs.Texts.{entries_text, program_text}
 use Rattle.rmt_build.specs.declared.fault.NoFit.{NoFit}
 use Rattle.rmt_build.specs.declared.fault.NoFit.TheVariants.{Load}
 use Rattle.rmt_build.specs.Loads.{AreFullBefore, AreLoaded, AreLoadedBefore, AreNotLoaded, IsFull as IsFullTable}
-use Rattle.rmt_packets.specs.PacketText.{Reading}
 use Rattle.rmt_pcap.specs.declared.capture.Capture.{Capture}
 use Rattle.rmt_pcap.specs.Captures.{capture_of}
 use Rattle.rmt_switch.specs.declared.fault.GroupFault.{GroupFault}
@@ -50,9 +49,10 @@ use Rattle.rmt_core.specs.Given.{Given, OfFound, OfOpened, Opens, Reads, told}
 use Rattle.rmt_core.specs.Headline.{GivesOne, OtherNumbers}
 use Rattle.rmt_core.specs.NoFitText.{no_fit_line}
 use Rattle.rmt_core.specs.Placers.{IsPlacedBy, refusal_by}
-use Rattle.rmt_core.specs.PlainText.{plain_text}
+use Rattle.rmt_core.specs.EventText.{with_changes}
+use Rattle.rmt_core.specs.PlainText.{RunsPlain, plain_text}
 use Rattle.rmt_core.specs.Reporting.{report_line}
-use Rattle.rmt_core.specs.Runs.{Runs}
+use Rattle.rmt_core.specs.Runs.{Runs, RunsBy, Way, packets_alone}
 use Rattle.rmt_core.specs.Sampling.{GivesSample, answers_line, sample_line, sample_packets}
 use Rattle.rmt_core.specs.Simulating.{GivesRun, OfAnswer, Spelled}
 use Rattle.rmt_core.specs.Switching.{GivesSwitch, HasCapture, HasGroups, OfCapture, OfGroups, switch_given}
@@ -291,13 +291,13 @@ image_once one apart placer files program entries image =
 tells_once : (k : Given) → GivesOnce (λ g. g ≡ k)
 tells_once k g h a b = same_given g h k a b
 
-runs_once : (files : Files) (printed : Reading → List ℕ) (limit : ℕ) (text : List ℕ) → GivesOnce (Runs files printed limit text)
-runs_once files printed limit text g h a b = same_given g h _ a b
+runs_once : {X : Type 0} (way : Way X) (files : Files) (printed : X → List ℕ) (limit : ℕ) (text : List ℕ) → GivesOnce (RunsBy way files printed limit text)
+runs_once way files printed limit text g h a b = same_given g h _ a b
 
 run_once : (w : Watch) (files : Files) (image packets : List ℕ) → GivesOnce (GivesRun w files image packets)
 run_once w files image packets =
     reads_once files image image_limit _
-    (λ bytes. opens_once files packets _ (λ text. spelled_once files bytes (λ c. Runs files (text_of w c) packets_limit text) (λ c. runs_once files (text_of w c) packets_limit text)))
+    (λ bytes. opens_once files packets _ (λ text. spelled_once files bytes (λ c. Runs files (text_of w c) packets_limit text) (λ c. runs_once packets_alone files (text_of w c) packets_limit text)))
 
 switch_once : (files : Files) (image groups capture out : List ℕ) (every : ℕ) → GivesOnce (GivesSwitch files image groups capture out every)
 switch_once files image groups capture out every =
@@ -326,7 +326,7 @@ gives_one one apart files (Plain program entries packets) g h a b =
     reads_once files program program_limit _
     (λ text. reads_once files entries entries_limit _
     (λ entry_text. opens_once files packets _ (λ packet_text. understands_once one files text entry_text
-    (λ p lists. Runs files (plain_text p lists) packets_limit packet_text) (λ p lists. runs_once files (plain_text p lists) packets_limit packet_text)))) g h a b
+    (RunsPlain files packet_text) (λ p lists. runs_once (with_changes p lists) files (plain_text p lists) packets_limit packet_text)))) g h a b
 gives_one one apart files (Report image) g h a b =
     reads_once files image image_limit _ (λ bytes. spelled_once files bytes (λ c g. g ≡ told files Done (report_line c)) (λ c. tells_once (told files Done (report_line c)))) g h a b
 gives_one one apart files (Sample number) g h a b =

@@ -16,7 +16,6 @@ use Rattle.rmt_entries.specs.declared.fault.EntryFault.{EntryFault}
 use Rattle.rmt_entries.specs.Entries.{by_node, entries_at, entries_of, lists_or_fault, reading}
 use Rattle.rmt_bits.specs.Lines.{numbered_lines}
 use Rattle.rmt_entries.specs.Tables.{applied_tables}
-use Rattle.rmt_entries.proofs.LawKeys.{same_Ok}
 use Rattle.rmt_entries.proofs.LawLists.{entries_law}
 use Rattle.rmt_config.specs.CellForm.{entry_numbers}
 use Rattle.rmt_config.specs.Form.{Formed, visible_with}
@@ -30,6 +29,7 @@ use Rattle.rmt_core.proofs.size.Distinct.{new_few}
 use Rattle.rmt_core.proofs.size.Lines.{AreFew, few_entries}
 use Rattle.rmt_core.proofs.size.Names.{names_short}
 use Rattle.rmt_core.proofs.size.Numbers.{numbers_below}
+use Rattle.rmt_bits.proofs.OptionLaws.{same_Ok}
 
 -- the entries that a text says are those of the lists, and few; their numbers are below how many they are
 record Numbered (p : Program) (lists : List (List Entry)) (text : List ℕ) : Type 0 where

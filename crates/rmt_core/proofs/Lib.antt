@@ -5,8 +5,10 @@ pub mod Decided
 pub mod DeliverLaws
 pub mod DrainLaws
 pub mod EmitLaws
+pub mod EditedLaws
 pub mod EndLaws
 pub mod EnterLaws
+pub mod EventTextLaws
 pub mod GivenAlways
 pub mod GivenDone
 pub mod GivenFew

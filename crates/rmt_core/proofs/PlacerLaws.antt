@@ -11,7 +11,6 @@ use Rattle.rmt_ast.specs.declared.entry.Entry.{Entry}
 use Rattle.rmt_config.specs.declared.limits.LimitHit.{LimitHit}
 use Rattle.rmt_ast.specs.WellFormed.{IsProgram}
 use Rattle.rmt_deps.specs.Edges.{dependencies_of}
-use Rattle.rmt_entries.proofs.LawKeys.{same_Ok}
 use Rattle.rmt_deps.proofs.EdgeLaws.{go_forward}
 use Rattle.rmt_pack.specs.declared.placement.Part.{Part}
 use Rattle.rmt_pack.specs.declared.placement.Placement.{Placement}
@@ -45,6 +44,7 @@ use Rattle.rmt_core.specs.declared.placer.Placer.TheVariants.{ByRule, ByTries}
 use Rattle.rmt_core.specs.Compiling.{IsMadeBy}
 use Rattle.rmt_core.specs.Making.{AreBothRefused}
 use Rattle.rmt_core.specs.Placers.{HasFewStages, IsPlacedBy, placed_by, placing_refusal, refusal_by}
+use Rattle.rmt_bits.proofs.OptionLaws.{same_Ok}
 
 -- what is done has not failed
 pub done_not_failed : {A E : Type 0} (x : A) (e : E) → (let r : Result A E = Ok x in r) ≢ Err e

@@ -1,4 +1,4 @@
--- What a reader of packets in pieces stands for, step by step.
+-- What a reader of the lines of a text in pieces stands for, step by step.
 use Rattle.std.proofs.Common.{◌≡◌, ℕ, ◌+◌, ◌-◌, ◌<◌, ◌≤◌, Bool, true, false, not, cond, List, [], ◌∷◌, ◌++◌, length, take, Option, Some, None, Ok, Err, IsTrue, refl, sym, ap, ◌∙◌, inl, inr, arith, length-append, append_assoc, append-nil, subst}
 use Rattle.std.specs.List.{enumerate_from, filter, onto_first}
 use Rattle.std.proofs.Math.Seq.{take-append-add, take-append_seam}
@@ -9,16 +9,16 @@ use Rattle.std.proofs.lemmas.List.Splits.{slice_split-cons_no, slice_split-cons_
 use Rattle.rmt_bits.specs.Packet.{Packet}
 use Rattle.rmt_bits.specs.Lines.{is_passed_over, lines, numbered_lines}
 use Rattle.rmt_bits.proofs.LineLaws.{is_feed}
-use Rattle.rmt_packets.specs.PacketText.{BadLine, Reading, packet_of, packets_of, reading_of}
+use Rattle.rmt_packets.specs.PacketText.{BadLine, packet_of, packets_of, reading_of}
 use Rattle.rmt_packets.specs.Pieces.{EndsLine, IsLast, LineState, Stands, ended_lines, feeds, open_line}
 use Rattle.rmt_packets.proofs.Cuts.{ended_fed, ended_grows, lines_go_on, whole_lines}
 use Rattle.rmt_packets.proofs.Fronts.{packet_of_front}
 use Rattle.rmt_packets.proofs.Readings.{behind_end, behind_fault, behind_packet, reading_append, then}
 use Rattle.rmt_core.specs.declared.reader.Step.{Step}
 use Rattle.rmt_core.specs.declared.reader.Step.TheVariants.{Packet as Next}
-use Rattle.rmt_core.specs.Pieces.{Comes, GoesTooFar}
-use Rattle.rmt_core.specs.Runs.{reading_within, told_reading}
-use Rattle.rmt_core.specs.ReadsOn.{AtLine, HasLines, ReaderState, ReadsOn, Took, lines_taken}
+use Rattle.rmt_core.specs.Pieces.{Comes, GoesTooFar, PassesLimit}
+use Rattle.rmt_core.specs.Runs.{Way, packets_alone, said_within, reading_within, told_within}
+use Rattle.rmt_core.specs.ReadsOn.{AtLine, HasLines, ReaderState, ReadsLines, ReadsOn, Took, lines_taken}
 
 -- lines that are numbered and not passed over
 abbrev kept : ℕ → List (List ℕ) → List (ℕ × List ℕ)
@@ -69,64 +69,72 @@ took_within limit text reader rest taken t end = omega (arith, ap length (t.fini
 
 -- the packet lines of the whole text are those of what was taken, and more
 whole_lines_more : (limit : ℕ) (text : List ℕ) (reader : ReaderState) (rest taken : List ℕ) → Took limit text reader rest taken
-    → (more : List (ℕ × List ℕ)) × (packets_of text ≡ reading_of (lines_taken reader.is_finished taken ++ more))
+    → (more : List (ℕ × List ℕ)) × (numbered_lines 1 text ≡ lines_taken reader.is_finished taken ++ more)
 whole_lines_more limit text reader rest taken t =
     elim (cases_Bool reader.is_finished) [
-      | inl e ↦ let s : taken ≡ text = t.finished e in rw (e, s) ([], ap reading_of (sym (append-nil (numbered_lines 1 text))))
-      | inr e ↦ rw e (_, ap packets_of t.whole ∙ ap reading_of (lines_go_on taken (reader.waiting ++ rest)))
+      | inl e ↦ let s : taken ≡ text = t.finished e in rw (e, s) ([], sym (append-nil (numbered_lines 1 text)))
+      | inr e ↦ rw e (_, ap (numbered_lines 1) t.whole ∙ lines_go_on taken (reader.waiting ++ rest))
     ]
-
-abbrev ended_reading : List ℕ → Reading
-ended_reading text = reading_of (ended_lines text)
-
--- a text within its limit is read whole
-pub reading_short : (limit : ℕ) (text : List ℕ) → length text ≤ limit → reading_within limit text ≡ packets_of text
-reading_short limit text le = let e = le-ltb limit (length text) le in rw e refl
-
-reading_long : (limit : ℕ) (text : List ℕ) → limit < length text → reading_within limit text ≡ reading_of (ended_lines (take limit text))
-reading_long limit text lt = let e = lt-ltb limit (length text) lt in rw e refl
 
 take_behind : (limit : ℕ) (taken more : List ℕ) → length taken ≤ limit → take limit (taken ++ more) ≡ taken ++ take (limit - length taken) more
 take_behind limit taken more le =
     let e : limit ≡ length taken + (limit - length taken) = omega arith in
     ap (λ n. take n (taken ++ more)) e ∙ take-append-add taken more (limit - length taken)
 
--- and so are those that may be read
-within_more : (limit : ℕ) (text : List ℕ) (reader : ReaderState) (rest taken : List ℕ) → Took limit text reader rest taken
-    → (more : List (ℕ × List ℕ)) × (reading_within limit text ≡ reading_of (lines_taken reader.is_finished taken ++ more))
-within_more limit text reader rest taken t =
-    elim (cases_lt limit (length text)) [
-      | inr ge ↦ let w = whole_lines_more limit text reader rest taken t in (w.0, reading_short limit text ge ∙ w.1)
-      | inl lt ↦
-          elim (cases_Bool reader.is_finished) [
-            | inl e ↦ let le = took_within limit text reader rest taken t e in absurd (omega arith)
-            | inr e ↦
-                let more = take (limit - length taken) (reader.waiting ++ rest) in
-                let m = ended_more taken more in
-                rw e (
-                  m.0,
-                  reading_long limit text lt ∙ ap (λ xs. ended_reading (take limit xs)) t.whole ∙ ap ended_reading (take_behind limit taken (reader.waiting ++ rest) (omega (arith, t.within))) ∙ ap reading_of m.1,
-                )
-          ]
-    ]
+module _ {X : Type 0} (way : Way X) where
+  -- a text within its limit is read whole
+  pub read_short : (limit : ℕ) (text : List ℕ) → length text ≤ limit → said_within way limit text ≡ way.read (numbered_lines 1 text)
+  read_short limit text le = let e = le-ltb limit (length text) le in rw e refl
+
+  pub read_long : (limit : ℕ) (text : List ℕ) → limit < length text → said_within way limit text ≡ way.read (ended_lines (take limit text))
+  read_long limit text lt = let e = lt-ltb limit (length text) lt in rw e refl
+
+  -- and so are the lines that may be read
+  pub within_more : (limit : ℕ) (text : List ℕ) (reader : ReaderState) (rest taken : List ℕ) → Took limit text reader rest taken
+      → (more : List (ℕ × List ℕ)) × (said_within way limit text ≡ way.read (lines_taken reader.is_finished taken ++ more))
+  within_more limit text reader rest taken t =
+      elim (cases_lt limit (length text)) [
+        | inr ge ↦ let w = whole_lines_more limit text reader rest taken t in (w.0, read_short limit text ge ∙ ap way.read w.1)
+        | inl lt ↦
+            elim (cases_Bool reader.is_finished) [
+              | inl e ↦ let le = took_within limit text reader rest taken t e in absurd (omega arith)
+              | inr e ↦
+                  let more = take (limit - length taken) (reader.waiting ++ rest) in
+                  let m = ended_more taken more in
+                  rw e (
+                    m.0,
+                    read_long limit text lt ∙ ap (λ xs. way.read (ended_lines (take limit xs))) t.whole
+                        ∙ ap (λ xs. way.read (ended_lines xs)) (take_behind limit taken (reader.waiting ++ rest) (omega (arith, t.within))) ∙ ap way.read m.1,
+                  )
+            ]
+      ]
+
+  -- the lines that were given come first among those that are told of the text
+  pub gave_is_front : (bad : Option BadLine) (limit : ℕ) (text : List ℕ) (gave : List (ℕ × List ℕ)) (reader : ReaderState) (rest : List ℕ) → ReadsLines limit text gave reader rest
+      → (more : List (ℕ × List ℕ)) × (told_within way limit text bad ≡ way.read (gave ++ more))
+  gave_is_front (Some bad) limit text gave reader rest h =
+      let w = within_more limit text reader rest h.taken h.took in (w.0, w.1 ∙ ap (λ ls. way.read (ls ++ w.0)) h.lines)
+  gave_is_front None limit text gave reader rest h =
+      let w = whole_lines_more limit text reader rest h.taken h.took in (w.0, ap way.read w.1 ∙ ap (λ ls. way.read (ls ++ w.0)) h.lines)
+
+  -- of a text that was read to its end the lines that were given are read
+  pub read_all : (limit : ℕ) (text : List ℕ) (gave : List (ℕ × List ℕ)) → length text ≤ limit → numbered_lines 1 text ≡ gave → said_within way limit text ≡ way.read gave
+  read_all limit text gave le e = read_short limit text le ∙ ap way.read e
+
+  -- and so they are of one that goes on behind its limit
+  pub read_passed : (limit : ℕ) (text : List ℕ) (gave : List (ℕ × List ℕ)) → PassesLimit limit text gave → said_within way limit text ≡ way.read gave
+  read_passed limit text gave far = read_long limit text far.long ∙ ap way.read far.within
 
 -- lines that say these packets, and then others
 behind_done : (done : List Packet) (lines more : List (ℕ × List ℕ)) → reading_of lines ≡ record { packets = done; bad = None } → (reading_of (lines ++ more)).packets ≡ done ++ (reading_of more).packets
 behind_done done lines more e = ap (λ r. r.packets) (reading_append lines more ∙ ap (λ r. then r.bad r.packets (reading_of more)) e)
 
-told_front : (bad : Option BadLine) (limit : ℕ) (text : List ℕ) (done : List Packet) (reader : ReaderState) (rest : List ℕ) → ReadsOn limit text done reader rest
-    → (more : List Packet) × ((told_reading limit text bad).packets ≡ done ++ more)
-told_front (Some bad) limit text done reader rest h =
-    let w = within_more limit text reader rest h.taken h.took in
-    (_, ap (λ r. r.packets) w.1 ∙ behind_done done (lines_taken reader.is_finished h.taken) w.0 h.packets)
-told_front None limit text done reader rest h =
-    let w = whole_lines_more limit text reader rest h.taken h.took in
-    (_, ap (λ r. r.packets) w.1 ∙ behind_done done (lines_taken reader.is_finished h.taken) w.0 h.packets)
-
 -- the packets that were given come first among those that are told of the text
 pub done_is_front : (limit : ℕ) (text : List ℕ) (done : List Packet) (reader : ReaderState) (rest : List ℕ) → ReadsOn limit text done reader rest
-    → (more : List Packet) × ((told_reading limit text (reading_within limit text).bad).packets ≡ done ++ more)
-done_is_front limit text done reader rest h = told_front (reading_within limit text).bad limit text done reader rest h
+    → (more : List Packet) × ((told_within packets_alone limit text (reading_within limit text).bad).packets ≡ done ++ more)
+done_is_front limit text done reader rest h =
+    let w = gave_is_front packets_alone (reading_within limit text).bad limit text h.gave reader rest h.reads in
+    (_, ap (λ r. r.packets) w.1 ∙ behind_done done h.gave w.0 h.packets)
 
 -- a reader whose line reader took more of the text has no fewer lines
 pub has_more : (count : ℕ) (is_finished : Bool) (old new : LineState) (bytes : List ℕ) → is_finished ≡ false → HasLines count is_finished old → ((t : List ℕ) → Stands t old → Stands (t ++ bytes) new)
@@ -177,39 +185,37 @@ took_more limit text rest taken bytes old new t going left split stands =
     }
 
 -- the bytes end a line
-pub line_taken : (limit : ℕ) (text rest : List ℕ) (done : List Packet) (bytes : List ℕ) (old new : ReaderState) → ReadsOn limit text done old rest → old.is_finished ≡ false → new.is_finished ≡ false
+pub line_taken : (limit : ℕ) (text rest : List ℕ) (gave : List (ℕ × List ℕ)) (bytes : List ℕ) (old new : ReaderState) → ReadsLines limit text gave old rest → old.is_finished ≡ false → new.is_finished ≡ false
     → new.left ≡ old.left → old.waiting ≡ bytes ++ new.waiting → ((t : List ℕ) → Stands t old.lines → Stands (t ++ bytes) new.lines) → ((t : List ℕ) → Stands t old.lines → EndsLine t bytes new.lines)
-    → AtLine limit text done new rest
-line_taken limit text rest done bytes old new h was going left split stands ends =
+    → AtLine limit text gave new rest
+line_taken limit text rest gave bytes old new h was going left split stands ends =
     let s = stands h.taken h.took.stands in
     let l = ends h.taken h.took.stands in
     record {
       taken = h.taken ++ bytes;
       took = took_more limit text rest h.taken bytes old new h.took going left split s;
-      earlier = ended_lines h.taken;
       line = l.line;
-      lines = rw going l.ended;
-      packets = rw was at h.packets;
+      lines = rw going (l.ended ∙ ap (λ ls. ls ++ (new.lines.number, l.line) ∷ []) (rw was at h.lines));
       front = l.front;
     }
 
 -- the bytes end none
-pub none_taken : (limit : ℕ) (text rest : List ℕ) (done : List Packet) (bytes : List ℕ) (old new : ReaderState) → ReadsOn limit text done old rest → old.is_finished ≡ false → new.is_finished ≡ false
+pub none_taken : (limit : ℕ) (text rest : List ℕ) (gave : List (ℕ × List ℕ)) (bytes : List ℕ) (old new : ReaderState) → ReadsLines limit text gave old rest → old.is_finished ≡ false → new.is_finished ≡ false
     → new.left ≡ old.left → old.waiting ≡ bytes ++ new.waiting → ((t : List ℕ) → Stands t old.lines → Stands (t ++ bytes) new.lines)
-    → ((t : List ℕ) → Stands t old.lines → ended_lines (t ++ bytes) ≡ ended_lines t) → ReadsOn limit text done new rest
-none_taken limit text rest done bytes old new h was going left split stands same =
+    → ((t : List ℕ) → Stands t old.lines → ended_lines (t ++ bytes) ≡ ended_lines t) → ReadsLines limit text gave new rest
+none_taken limit text rest gave bytes old new h was going left split stands same =
     let s = stands h.taken h.took.stands in
-    let p : reading_of (ended_lines h.taken) ≡ record { packets = done; bad = None } = rw was at h.packets in
+    let p : ended_lines h.taken ≡ gave = rw was at h.lines in
     record {
       taken = h.taken ++ bytes;
       took = took_more limit text rest h.taken bytes old new h.took going left split s;
-      packets = rw going (ap reading_of (same h.taken h.took.stands) ∙ p);
+      lines = rw going (same h.taken h.took.stands ∙ p);
     }
 
 -- a reader without bytes that wait got some
-pub filled : (limit : ℕ) (text before rest : List ℕ) (done : List Packet) (old new : ReaderState) → ReadsOn limit text done old before → old.waiting ≡ [] → before ≡ new.waiting ++ rest
-    → length new.waiting + new.left ≡ old.left → new.lines ≡ old.lines → new.is_finished ≡ old.is_finished → ReadsOn limit text done new rest
-filled limit text before rest done old new h empty more left lines same =
+pub filled : (limit : ℕ) (text before rest : List ℕ) (gave : List (ℕ × List ℕ)) (old new : ReaderState) → ReadsLines limit text gave old before → old.waiting ≡ [] → before ≡ new.waiting ++ rest
+    → length new.waiting + new.left ≡ old.left → new.lines ≡ old.lines → new.is_finished ≡ old.is_finished → ReadsLines limit text gave new rest
+filled limit text before rest gave old new h empty more left lines same =
     let t = h.took in
     let w : text ≡ h.taken ++ before = t.whole ∙ ap (λ xs. h.taken ++ (xs ++ before)) empty in
     record {
@@ -221,21 +227,21 @@ filled limit text before rest done old new h empty more left lines same =
             within = omega (arith, t.within, left, ap length empty);
             finished = λ e. t.finished (sym same ∙ e);
           };
-      packets = rw same h.packets;
+      lines = rw same h.lines;
     }
 
 -- at the limit the text goes on
-pub gone_too_far : (limit : ℕ) (text rest : List ℕ) (done : List Packet) (reader : ReaderState) → ReadsOn limit text done reader rest → reader.is_finished ≡ false → reader.waiting ≡ [] → reader.left ≡ 0
-    → 0 < length rest → GoesTooFar limit text done
-gone_too_far limit text rest done reader h going empty none some =
+pub gone_too_far : (limit : ℕ) (text rest : List ℕ) (gave : List (ℕ × List ℕ)) (reader : ReaderState) → ReadsLines limit text gave reader rest → reader.is_finished ≡ false → reader.waiting ≡ [] → reader.left ≡ 0
+    → 0 < length rest → PassesLimit limit text gave
+gone_too_far limit text rest gave reader h going empty none some =
     let t = h.took in
     let w : text ≡ h.taken ++ rest = t.whole ∙ ap (λ xs. h.taken ++ (xs ++ rest)) empty in
     let all : limit ≡ length h.taken = omega (arith, t.within, ap length empty) in
     let long : limit < length text = omega (arith, ap length w, length-append h.taken rest) in
-    let p : reading_of (ended_lines h.taken) ≡ record { packets = done; bad = None } = rw going at h.packets in
+    let p : ended_lines h.taken ≡ gave = rw going at h.lines in
     record {
       long = long;
-      within = reading_long limit text long ∙ ap (λ xs. ended_reading (take limit xs)) w ∙ ap (λ n. ended_reading (take n (h.taken ++ rest))) all ∙ ap ended_reading (take-append_seam h.taken rest) ∙ p;
+      within = ap (λ xs. ended_lines (take limit xs)) w ∙ ap (λ n. ended_lines (take n (h.taken ++ rest))) all ∙ ap ended_lines (take-append_seam h.taken rest) ∙ p;
     }
 
 -- a reader that saw the end of the text
@@ -249,46 +255,43 @@ took_all limit text rest taken old new t empty end waiting left stands =
       finished = λ _. sym (t.whole ∙ ap (λ xs. taken ++ (xs ++ rest)) empty ∙ ap (λ xs. taken ++ xs) end ∙ append-nil taken);
     }
 
-pub last_taken : (limit : ℕ) (text rest : List ℕ) (done : List Packet) (old new : ReaderState) → ReadsOn limit text done old rest → old.is_finished ≡ false → old.waiting ≡ [] → rest ≡ []
+pub last_taken : (limit : ℕ) (text rest : List ℕ) (gave : List (ℕ × List ℕ)) (old new : ReaderState) → ReadsLines limit text gave old rest → old.is_finished ≡ false → old.waiting ≡ [] → rest ≡ []
     → new.is_finished ≡ true → new.waiting ≡ old.waiting → new.left ≡ old.left → ((t : List ℕ) → Stands t old.lines → Stands t new.lines) → ((t : List ℕ) → Stands t old.lines → IsLast t new.lines)
-    → AtLine limit text done new rest
-last_taken limit text rest done old new h going empty end over waiting left stands last =
+    → AtLine limit text gave new rest
+last_taken limit text rest gave old new h going empty end over waiting left stands last =
     let l = last h.taken h.took.stands in
     record {
       taken = h.taken;
       took = took_all limit text rest h.taken old new h.took empty end waiting left (stands h.taken h.took.stands);
-      earlier = ended_lines h.taken;
       line = l.line;
-      lines = rw over l.last;
-      packets = rw going at h.packets;
+      lines = rw over (l.last ∙ ap (λ ls. ls ++ (new.lines.number, l.line) ∷ []) (rw going at h.lines));
       front = l.front;
     }
 
--- a reader that gave the last packet
-pub read_whole : (limit : ℕ) (text rest : List ℕ) (done : List Packet) (reader : ReaderState) → ReadsOn limit text done reader rest → reader.is_finished ≡ true
-    → (length text ≤ limit) × (packets_of text ≡ record { packets = done; bad = None })
-read_whole limit text rest done reader h over =
+-- a reader that gave the last line
+pub read_whole : (limit : ℕ) (text rest : List ℕ) (gave : List (ℕ × List ℕ)) (reader : ReaderState) → ReadsLines limit text gave reader rest → reader.is_finished ≡ true
+    → (length text ≤ limit) × (numbered_lines 1 text ≡ gave)
+read_whole limit text rest gave reader h over =
     let all : h.taken ≡ text = h.took.finished over in
-    let p : packets_of h.taken ≡ record { packets = done; bad = None } = rw over at h.packets in
-    (took_within limit text reader rest h.taken h.took over, ap packets_of (sym all) ∙ p)
+    let p : numbered_lines 1 h.taken ≡ gave = rw over at h.lines in
+    (took_within limit text reader rest h.taken h.took over, ap (numbered_lines 1) (sym all) ∙ p)
 
 -- a text without a last line that no line feed ends
-pub no_last : (limit : ℕ) (text rest : List ℕ) (done : List Packet) (old : ReaderState) → ReadsOn limit text done old rest → old.is_finished ≡ false → old.waiting ≡ [] → rest ≡ []
-    → ((t : List ℕ) → Stands t old.lines → numbered_lines 1 t ≡ ended_lines t) → (length text ≤ limit) × (packets_of text ≡ record { packets = done; bad = None })
-no_last limit text rest done old h going empty end none =
+pub no_last : (limit : ℕ) (text rest : List ℕ) (gave : List (ℕ × List ℕ)) (old : ReaderState) → ReadsLines limit text gave old rest → old.is_finished ≡ false → old.waiting ≡ [] → rest ≡ []
+    → ((t : List ℕ) → Stands t old.lines → numbered_lines 1 t ≡ ended_lines t) → (length text ≤ limit) × (numbered_lines 1 text ≡ gave)
+no_last limit text rest gave old h going empty end none =
     let t = h.took in
     let w : text ≡ h.taken = t.whole ∙ ap (λ xs. h.taken ++ (xs ++ rest)) empty ∙ ap (λ xs. h.taken ++ xs) end ∙ append-nil h.taken in
-    let p : reading_of (ended_lines h.taken) ≡ record { packets = done; bad = None } = rw going at h.packets in
-    (omega (arith, t.within, ap length w), ap packets_of w ∙ ap reading_of (none h.taken t.stands) ∙ p)
+    let p : ended_lines h.taken ≡ gave = rw going at h.lines in
+    (omega (arith, t.within, ap length w), ap (numbered_lines 1) w ∙ none h.taken t.stands ∙ p)
 
--- the line at hand says a packet
-pub packet_read : (limit : ℕ) (text rest : List ℕ) (done : List Packet) (packet : Packet) (old new : ReaderState) → AtLine limit text done old rest → packet_of old.lines.front ≡ Ok packet
-    → new.lines ≡ old.lines → new.waiting ≡ old.waiting → new.left ≡ old.left → new.is_finished ≡ old.is_finished → ReadsOn limit text (done ++ packet ∷ []) new rest
-packet_read limit text rest done packet old new h says lines waiting left same =
-    let t = h.took in
-    let line : packet_of h.line ≡ Ok packet = sym (packet_of_front h.line) ∙ ap packet_of (sym h.front) ∙ says in
+-- the line at hand is among those that a reader gave, whatever it counts
+pub line_given : (limit : ℕ) (text rest : List ℕ) (gave : List (ℕ × List ℕ)) (old new : ReaderState) → (at : AtLine limit text gave old rest)
+    → new.lines ≡ old.lines → new.waiting ≡ old.waiting → new.left ≡ old.left → new.is_finished ≡ old.is_finished → ReadsLines limit text (gave ++ (old.lines.number, at.line) ∷ []) new rest
+line_given limit text rest gave old new at lines waiting left same =
+    let t = at.took in
     record {
-      taken = h.taken;
+      taken = at.taken;
       took =
           record {
             stands = rw lines t.stands;
@@ -296,20 +299,49 @@ packet_read limit text rest done packet old new h says lines waiting left same =
             within = omega (arith, t.within, left, ap length waiting);
             finished = λ e. t.finished (sym same ∙ e);
           };
-      packets =
-          ap (λ b. reading_of (lines_taken b h.taken)) same ∙ ap reading_of h.lines ∙ reading_append h.earlier ((old.lines.number, h.line) ∷ [])
-          ∙ ap (λ r. then r.bad r.packets (reading_of ((old.lines.number, h.line) ∷ []))) h.packets ∙ behind_packet done old.lines.number h.line packet [] line ∙ behind_end (done ++ packet ∷ []);
+      lines = ap (λ b. lines_taken b at.taken) same ∙ at.lines;
     }
 
+-- the line at hand says a packet
+pub packet_read : (limit : ℕ) (text rest : List ℕ) (gave : List (ℕ × List ℕ)) (done : List Packet) (packet : Packet) (old new : ReaderState) → AtLine limit text gave old rest
+    → reading_of gave ≡ record { packets = done; bad = None } → packet_of old.lines.front ≡ Ok packet
+    → new.lines ≡ old.lines → new.waiting ≡ old.waiting → new.left ≡ old.left → new.is_finished ≡ old.is_finished → ReadsOn limit text (done ++ packet ∷ []) new rest
+packet_read limit text rest gave done packet old new h packets says lines waiting left same =
+    let line : packet_of h.line ≡ Ok packet = sym (packet_of_front h.line) ∙ ap packet_of (sym h.front) ∙ says in
+    let last : List (ℕ × List ℕ) = (old.lines.number, h.line) ∷ [] in
+    record {
+      gave = gave ++ last;
+      reads = line_given limit text rest gave old new h lines waiting left same;
+      packets =
+          reading_append gave last ∙ ap (λ r. then r.bad r.packets (reading_of last)) packets
+          ∙ behind_packet done old.lines.number h.line packet [] line ∙ behind_end (done ++ packet ∷ []);
+    }
+
+-- what is read of a text in which a line is at hand
+pub read_at_line : {X : Type 0} (way : Way X) (limit : ℕ) (text rest : List ℕ) (gave : List (ℕ × List ℕ)) (reader : ReaderState) → (at : AtLine limit text gave reader rest)
+    → (more : List (ℕ × List ℕ)) × (said_within way limit text ≡ way.read (gave ++ (reader.lines.number, at.line) ∷ more))
+read_at_line way limit text rest gave reader at =
+    let w = within_more way limit text reader rest at.taken at.took in
+    (w.0, w.1 ∙ ap (λ ls. way.read (ls ++ w.0)) at.lines ∙ ap way.read (append_assoc gave ((reader.lines.number, at.line) ∷ []) w.0))
+
 -- the line at hand is bad
-pub bad_read : (limit : ℕ) (text rest : List ℕ) (done : List Packet) (code : ℕ) (reader : ReaderState) → AtLine limit text done reader rest → packet_of reader.lines.front ≡ Err code
+pub bad_read : (limit : ℕ) (text rest : List ℕ) (gave : List (ℕ × List ℕ)) (done : List Packet) (code : ℕ) (reader : ReaderState) → AtLine limit text gave reader rest
+    → reading_of gave ≡ record { packets = done; bad = None } → packet_of reader.lines.front ≡ Err code
     → reading_within limit text ≡ record { packets = done; bad = Some (record { code = code; line = reader.lines.number }) }
-bad_read limit text rest done code reader h says =
+bad_read limit text rest gave done code reader h packets says =
     let line : packet_of h.line ≡ Err code = sym (packet_of_front h.line) ∙ ap packet_of (sym h.front) ∙ says in
-    let w = within_more limit text reader rest h.taken h.took in
+    let w = read_at_line packets_alone limit text rest gave reader h in
     let n = reader.lines.number in
-    w.1 ∙ ap (λ ls. reading_of (ls ++ w.0)) h.lines ∙ ap reading_of (append_assoc h.earlier ((n, h.line) ∷ []) w.0) ∙ reading_append h.earlier ((n, h.line) ∷ w.0)
-    ∙ ap (λ r. then r.bad r.packets (reading_of ((n, h.line) ∷ w.0))) h.packets ∙ behind_fault done n h.line code w.0 line
+    w.1 ∙ reading_append gave ((n, h.line) ∷ w.0)
+    ∙ ap (λ r. then r.bad r.packets (reading_of ((n, h.line) ∷ w.0))) packets ∙ behind_fault done n h.line code w.0 line
+
+-- the packets of lines that end a text, or pass its limit, are those that it says
+pub packets_whole : (limit : ℕ) (text : List ℕ) (gave : List (ℕ × List ℕ)) (done : List Packet) → reading_of gave ≡ record { packets = done; bad = None } → (length text ≤ limit) × (numbered_lines 1 text ≡ gave)
+    → (length text ≤ limit) × (packets_of text ≡ record { packets = done; bad = None })
+packets_whole limit text gave done packets all = (all.0, ap reading_of all.1 ∙ packets)
+
+pub packets_passed : (limit : ℕ) (text : List ℕ) (gave : List (ℕ × List ℕ)) (done : List Packet) → reading_of gave ≡ record { packets = done; bad = None } → PassesLimit limit text gave → GoesTooFar limit text done
+packets_passed limit text gave done packets far = record { long = far.long; within = read_passed packets_alone limit text gave far ∙ packets }
 
 -- a packet came, with these bytes of its frame
 pub reads_packet : (limit : ℕ) (text : List ℕ) (done : List Packet) (reader : ReaderState) (rest : List ℕ) (step : Step) (port : ℕ) (held frame : List ℕ) → step ≡ Next port → frame ≡ held

@@ -8,6 +8,9 @@ use Rattle.rmt_bits.specs.declared.answer.Verdict.{Verdict}
 use Rattle.rmt_core.specs.Types.{Program, Config}
 use Rattle.rmt_ast.specs.declared.entry.Entry.{Entry}
 use Rattle.rmt_ast.specs.Answers.{answers_of, counts_of}
+use Rattle.rmt_ast.specs.Events.{Arrives, Event, answers_of_events, counts_of_events}
+use Rattle.rmt_ast.proofs.EventLaws.{answers-without_commits, counts-without_commits}
+use Rattle.rmt_bits.specs.Lines.{numbered_lines}
 use Rattle.rmt_check.specs.Means.{Means}
 use Rattle.rmt_entries.specs.Entries.{entries_of}
 use Rattle.rmt_config.specs.ChipRun.{Outcome, chip_counts_of, cycles_of, flight_of, inputs_of, outcomes_of}
@@ -26,14 +29,16 @@ use Rattle.rmt_core.specs.Given.{Given, Opens, Reads}
 use Rattle.rmt_core.specs.Gives.{Gives}
 use Rattle.rmt_core.specs.Headline.{IsWithin, SimPrintsPlain, image_command}
 use Rattle.rmt_core.specs.Placers.{refusal_by}
-use Rattle.rmt_core.specs.PlainText.{GivesPlain, plain_lines, plain_text}
-use Rattle.rmt_core.specs.Runs.{Runs}
+use Rattle.rmt_core.specs.EventText.{EventReading, events_of, with_changes}
+use Rattle.rmt_core.specs.PlainText.{GivesPlain, RunsPlain, plain_end, plain_lines, plain_text}
+use Rattle.rmt_core.specs.Runs.{Runs, packets_alone}
 use Rattle.rmt_core.specs.SimText.{answer_lines, count_line, cycles_line, flight_line, printed_of, sim_text}
 use Rattle.rmt_core.specs.Simulating.{GivesRun, Spelled}
 use Rattle.rmt_core.specs.Texts.{Understands}
 use Rattle.rmt_core.specs.Watching.{text_of}
 use Rattle.rmt_core.proofs.GivenOnce.{OneMeaning}
 use Rattle.rmt_core.proofs.GivenDone.{RanToEnd, Understood, opened_there, ran_to_end, read_within, run_done, spelled_is, understood, was_opened, was_read, was_understood}
+use Rattle.rmt_core.proofs.EventTextLaws.{packets_are_events}
 use Rattle.rmt_core.proofs.PacketLaws.{text_says_packets}
 use Rattle.rmt_core.proofs.WritingLaws.{updated_same}
 
@@ -59,8 +64,16 @@ good r e = ap (λ (b : Option BadLine). record { packets = r.packets; bad = b })
 sim_is : (c : Config) (r : Reading) → r.bad ≡ None → printed_of c r ≡ sim_text c r.packets
 sim_is c r e = ap (printed_of c) (good r e)
 
-plain_is : (p : Program) (lists : List (List Entry)) (r : Reading) → r.bad ≡ None → plain_text p lists r ≡ plain_lines 0 (answers_of p lists r.packets) ++ flat_map count_line (counts_of p lists r.packets)
-plain_is p lists r e = ap (plain_text p lists) (good r e)
+plain_is : (p : Program) (lists : List (List Entry)) (r : EventReading) → r.bad ≡ None → plain_text p lists r ≡ plain_lines 0 (answers_of_events p lists r.events) ++ flat_map count_line (counts_of_events p lists r.events)
+plain_is p lists r e = ap (λ (b : Option BadLine). plain_lines 0 (answers_of_events p lists r.events) ++ plain_end p lists r.events b) e
+
+-- what `plain` prints of packets alone
+plain_alone : (p : Program) (lists : List (List Entry)) (r : EventReading) (packets : List Packet) → r.bad ≡ None → r.events ≡ map Arrives packets
+    → plain_text p lists r ≡ plain_lines 0 (answers_of p lists packets) ++ flat_map count_line (counts_of p lists packets)
+plain_alone p lists r packets good are =
+    plain_is p lists r good ∙ ap (λ (es : List Event). plain_lines 0 (answers_of_events p lists es) ++ flat_map count_line (counts_of_events p lists es)) are
+    ∙ ap (λ answers. plain_lines 0 answers ++ flat_map count_line (counts_of_events p lists (map Arrives packets))) (answers-without_commits p lists packets)
+    ∙ ap (λ cs. plain_lines 0 (answers_of p lists packets) ++ flat_map count_line cs) (counts-without_commits p lists packets)
 
 same_texts : (p : Program) (lists : List (List Entry)) (c : Config) (packets : List Packet) → RunsAs p lists c → All IsPacket packets
     → sim_text c packets ≡ (plain_lines 0 (answers_of p lists packets) ++ flat_map count_line (counts_of p lists packets)) ++ (cycles_line (cycles_of c packets) ++ flight_line (flight_of c packets))
@@ -131,7 +144,7 @@ was_compiled placer files program entries image g done h =
 record Simulated (files : Files) (packets : List ℕ) (c : Config) (g : Given) : Type 0 where
   text : List ℕ
   is_there : files packets ≡ Some text
-  ran : RanToEnd files (text_of watch.Answers c) packets_limit text g
+  ran : RanToEnd packets_alone files (text_of watch.Answers c) packets_limit text g
 
 simulated_is : (files : Files) (image packets bytes : List ℕ) (c : Config) (g : Given) → g.status ≡ Done → IsWithin files image image_limit bytes → Spells bytes c → GivesRun watch.Answers files image packets g
     → Simulated files packets c g
@@ -139,19 +152,19 @@ simulated_is files image packets bytes c g done within spells h =
     let read = read_within files image image_limit (λ bytes. Opens files packets (λ text. Spelled files bytes (λ c. Runs files (text_of watch.Answers c) packets_limit text))) g (bytes, within) h in
     let opened = was_opened files packets (λ text. Spelled files bytes (λ c. Runs files (text_of watch.Answers c) packets_limit text)) g done read in
     let run = spelled_is files bytes (λ c. Runs files (text_of watch.Answers c) packets_limit opened.0) g c spells opened.2 in
-    record { text = opened.0; is_there = opened.1; ran = ran_to_end files (text_of watch.Answers c) packets_limit opened.0 g done run }
+    record { text = opened.0; is_there = opened.1; ran = ran_to_end packets_alone files (text_of watch.Answers c) packets_limit opened.0 g done run }
 
 plain_run : OneMeaning → (files : Files) (program entries packets text entry_text packet_text : List ℕ) (p : Program) (lists : List (List Entry)) (g : Given) → IsWithin files program program_limit text
     → IsWithin files entries entries_limit entry_text → files packets ≡ Some packet_text → Means text (Ok p) → entries_of p entry_text ≡ Ok lists → GivesPlain files program entries packets g
-    → Runs files (plain_text p lists) packets_limit packet_text g
+    → RunsPlain files packet_text p lists g
 plain_run one files program entries packets text entry_text packet_text p lists g has_text has_entries is means says h =
     let first = read_within files program program_limit
     (λ text. Reads files entries entries_limit
-    (λ entry_text. Opens files packets (λ packet_text. Understands files text entry_text (λ p lists. Runs files (plain_text p lists) packets_limit packet_text)))) g (text, has_text) h in
+    (λ entry_text. Opens files packets (λ packet_text. Understands files text entry_text (RunsPlain files packet_text)))) g (text, has_text) h in
     let second = read_within files entries entries_limit
-    (λ entry_text. Opens files packets (λ packet_text. Understands files text entry_text (λ p lists. Runs files (plain_text p lists) packets_limit packet_text))) g (entry_text, has_entries) first in
-    let opened = opened_there files packets packet_text (λ packet_text. Understands files text entry_text (λ p lists. Runs files (plain_text p lists) packets_limit packet_text)) g is second in
-    understood one files text entry_text (λ p lists. Runs files (plain_text p lists) packets_limit packet_text) g p lists means says opened
+    (λ entry_text. Opens files packets (λ packet_text. Understands files text entry_text (RunsPlain files packet_text))) g (entry_text, has_entries) first in
+    let opened = opened_there files packets packet_text (λ packet_text. Understands files text entry_text (RunsPlain files packet_text)) g is second in
+    understood one files text entry_text (RunsPlain files packet_text) g p lists means says opened
 
 later_within : (files later : Files) (name bytes : List ℕ) (limit : ℕ) → later name ≡ files name → IsWithin files name limit bytes → IsWithin later name limit bytes
 later_within files later name bytes limit same w = record { is_there = same ∙ w.is_there; is_short = w.is_short }
@@ -170,10 +183,13 @@ sim_prints_plain one placer files later program entries image packets made simul
     let s = simulated_is later image packets c.made.bytes c.made.config simulated sim_done within c.made.spells simulates in
     let r = plain_run one later program entries packets c.text c.entry_text s.text c.meant.program c.meant.lists run (later_within files later program c.text program_limit same_program c.has_text)
     (later_within files later entries c.entry_text entries_limit same_entries c.has_entries) s.is_there c.meant.means c.meant.says plains in
-    let told = run_done later (plain_text c.meant.program c.meant.lists) packets_limit s.text run s.ran.short s.ran.good r in
     let reading = packets_of s.text in
-    let sim_text_is = s.ran.text_is ∙ (sim_is c.made.config reading s.ran.good ∙ same_texts c.meant.program c.meant.lists c.made.config reading.packets c.made.runs (text_says_packets s.text)) in
-    let plain_text_is : run.text ≡ plain_lines 0 (answers_of c.meant.program c.meant.lists reading.packets) ++ flat_map count_line (counts_of c.meant.program c.meant.lists reading.packets) =
-    ap (λ (k : Given). k.text) told ∙ plain_is c.meant.program c.meant.lists reading s.ran.good in
+    let p = c.meant.program in
+    let lists = c.meant.lists in
+    let alone = packets_are_events p lists (numbered_lines 1 s.text) s.ran.good in
+    let told = run_done (with_changes p lists) later (plain_text p lists) packets_limit s.text run s.ran.short alone.0 r in
+    let sim_text_is = s.ran.text_is ∙ (sim_is c.made.config reading s.ran.good ∙ same_texts p lists c.made.config reading.packets c.made.runs (text_says_packets s.text)) in
+    let plain_text_is : run.text ≡ plain_lines 0 (answers_of p lists reading.packets) ++ flat_map count_line (counts_of p lists reading.packets) =
+    ap (λ (k : Given). k.text) told ∙ plain_alone p lists (events_of p lists (numbered_lines 1 s.text)) reading.packets alone.0 alone.1 in
     let last = cycles_line (cycles_of c.made.config reading.packets) ++ flight_line (flight_of c.made.config reading.packets) in
     (ap (λ (k : Given). k.status) told, cycles_of c.made.config reading.packets, flight_of c.made.config reading.packets, sim_text_is ∙ ap (λ l. l ++ last) (sym plain_text_is))

@@ -19,7 +19,7 @@ use Rattle.rmt_chip.specs.Stands.{Shows, in_flight}
 use Rattle.rmt_chip.proofs.PacketRunLaws.{shows-alone}
 use Rattle.rmt_config.specs.RunInputs.{input_of as input_with}
 use Rattle.rmt_core.specs.ProbeText.{lines_below, packet_line, vector_line}
-use Rattle.rmt_core.proofs.EmitLaws.{front_get}
+use Rattle.rmt_bits.proofs.ListLaws.{slice_get-front}
 
 -- the packet of an input, if there is one
 abbrev held : Option (Option Packet) → Option Packet
@@ -28,7 +28,7 @@ held o = option_and_then (λ (input : Option Packet). input) o
 -- a packet in flight does not wait for later inputs
 packet_before : (c : Config) (inputs later : List (Option Packet)) (cycle age : ℕ) → cycle < length inputs → packet_at c (inputs ++ later) cycle age ≡ packet_at c inputs cycle age
 packet_before c inputs later cycle age h =
-    ap (λ o. cond (ltb cycle age || ltb (latency_of c.stages) age) None (held o)) (front_get inputs later (cycle - age) (omega (arith, h)))
+    ap (λ o. cond (ltb cycle age || ltb (latency_of c.stages) age) None (held o)) (slice_get-front inputs later (cycle - age) (omega (arith, h)))
 
 number_before : (inputs later : List (Option Packet)) (k : ℕ) → k ≤ length inputs → number_at (inputs ++ later) k ≡ number_at inputs k
 number_before inputs later k h = ap (λ l. count_by is_some l) (take-append-le k inputs later h)

@@ -2,6 +2,7 @@
 use Rattle.std.specs.Prelude.{◌≡◌, ◌≤◌, ◌<◌, ◌⊎◌, ◌↔◌, ℕ, List, None, Some, Ok, ◌++◌, length}
 use Rattle.rmt_core.specs.Types.{Program, Config}
 use Rattle.rmt_ast.specs.declared.entry.Entry.{Entry}
+use Rattle.rmt_bits.specs.Lines.{numbered_lines}
 use Rattle.rmt_bounds.specs.declared.bound.Bound.{Bound}
 use Rattle.rmt_config.specs.Spells.{Spells}
 use Rattle.rmt_pack.specs.declared.placement.Part.{Part}
@@ -20,6 +21,7 @@ use Rattle.rmt_core.specs.declared.status.Status.{Status}
 use Rattle.rmt_core.specs.declared.status.Status.TheVariants.{Done, ReadFault, NoMemory}
 use Rattle.rmt_core.specs.Commands.{Command, Compile, Improve, Sim, Probe, Plain, Report, Sample, Switch}
 use Rattle.rmt_core.specs.CompileText.{compile_text}
+use Rattle.rmt_core.specs.EventText.{events_of}
 use Rattle.rmt_core.specs.Ends.{Answered, AreSame, Outside}
 use Rattle.rmt_core.specs.Files.{Files, capture_limit, entries_limit, groups_limit, image_limit, packets_limit, program_limit}
 use Rattle.rmt_core.specs.Given.{Given}
@@ -115,11 +117,17 @@ pub record Fits (placer : Placer) (p : Program) (lists : List (List Entry)) : Ty
   pub few : seed < 8
   pub loaded : AreLoaded p lists parts seed
 
--- a packet text without a bad line
+-- a packet text of packets alone without a bad line
 pub record IsGoodText (files : Files) (name : List ℕ) : Type 0 where
   pub text : List ℕ
   pub has_text : IsWithin files name packets_limit text
   pub is_good : (packets_of text).bad ≡ None
+
+-- a packet text without a bad line, which may change the entries of a program
+pub record IsGoodRun (p : Program) (lists : List (List Entry)) (files : Files) (name : List ℕ) : Type 0 where
+  pub text : List ℕ
+  pub has_text : IsWithin files name packets_limit text
+  pub is_good : (events_of p lists (numbered_lines 1 text)).bad ≡ None
 
 -- a group text without a bad line
 pub record AreGoodGroups (files : Files) (name : List ℕ) : Type 0 where
@@ -153,7 +161,7 @@ IsReady files (Compile program entries image) = CanBeMade ByRule files program e
 IsReady files (Improve program entries image budget) = CanBeMade (ByTries budget) files program entries
 IsReady files (Sim image packets) = IsImage files image × IsGoodText files packets
 IsReady files (Probe image packets cycle) = IsImage files image × IsGoodText files packets
-IsReady files (Plain program entries packets) = (p : Program) × (lists : List (List Entry)) × MeanBoth files program entries p lists × IsGoodText files packets
+IsReady files (Plain program entries packets) = (p : Program) × (lists : List (List Entry)) × MeanBoth files program entries p lists × IsGoodRun p lists files packets
 IsReady files (Report image) = IsImage files image
 IsReady files (Switch image groups capture out every) = IsImage files image × AreGoodGroups files groups × IsGoodCapture files capture
 IsReady files (Sample number) = (p : Program) × (lists : List (List Entry)) × AreOfSample number p lists × Fits ByRule p lists

@@ -12,6 +12,7 @@ pub mod Compiling
 pub mod CompileText
 pub mod NoFitText
 pub mod Runs
+pub mod EventText
 pub mod RunEnd
 pub mod Waiting
 pub mod SimText

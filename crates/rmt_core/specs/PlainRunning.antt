@@ -1,34 +1,66 @@
--- A plain run over the packets of a text.
-use Rattle.std.specs.Prelude.{◌≡◌, ℕ, List, length}
-use Rattle.rmt_bits.specs.Packet.{Packet}
+-- A plain run over a packet text that may change entries.
+use Rattle.std.specs.Prelude.{◌≡◌, ◌<◌, ℕ, List, Option, None, Some, All, length}
 use Rattle.rmt_io.specs.Outside.{SinkState}
 use Rattle.rmt_core.specs.Types.{Program}
 use Rattle.rmt_ast.specs.declared.entry.Entry.{Entry}
-use Rattle.rmt_ast.specs.Answers.{answers_of}
-use Rattle.rmt_plain.specs.declared.plain.Plain.{Plain}
-use Rattle.rmt_plain.specs.Stands.{Stands}
-use Rattle.rmt_core.specs.Files.{Files, entries_limit, packets_limit}
+use Rattle.rmt_ast.specs.Changes.{Installed, at_first, committed}
+use Rattle.rmt_ast.specs.EntryLists.{AreEntries}
+use Rattle.rmt_ast.specs.Events.{Event, answers_of_events}
+use Rattle.rmt_ast.specs.Naming.{names_of}
+use Rattle.rmt_plain.specs.Stands.{HasTaken, entries_after, entries_in}
+use Rattle.rmt_refine.specs.Fit.{AreFitChanges}
+use Rattle.rmt_update.specs.Stands.{Stands}
+use Rattle.rmt_core.specs.declared.plain_run.PlainRun.{PlainRun}
+use Rattle.rmt_core.specs.declared.run_end.Bad.{Bad}
+use Rattle.rmt_core.specs.EventText.{EventReading, with_bad}
+use Rattle.rmt_core.specs.Files.{Files, entries_limit}
 use Rattle.rmt_core.specs.Given.{Given, Opens, Reads}
-use Rattle.rmt_core.specs.PlainText.{plain_lines, plain_text}
-use Rattle.rmt_core.specs.Runs.{Runs}
+use Rattle.rmt_core.specs.PlainText.{RunsPlain, plain_lines}
+use Rattle.rmt_core.specs.RunEnd.{bad_line}
 use Rattle.rmt_core.specs.Texts.{Understands}
 use Rattle.rmt_core.specs.Waiting.{Written}
 
--- the lines of the answers to packets
-abbrev pub answer_lines_of : Program → List (List Entry) → List Packet → List ℕ
-answer_lines_of p lists packets = plain_lines 0 (answers_of p lists packets)
+-- the entries as the commits of a text leave them
+abbrev pub committed_by : List (List Entry) → EventReading → Installed
+committed_by lists said = entries_after (at_first lists) said.events
 
--- a run of a program with its entries that has answered these packets: the lines of its answers were written but for those that wait
-pub record Goes (p : Program) (lists : List (List Entry)) (done : List Packet) (plain : Plain) (number : ℕ) (waiting : List ℕ) (before now : SinkState) : Type 0 where
-  pub stands : Stands p lists done plain
-  pub numbered : number ≡ length done
-  pub written : Written (answer_lines_of p lists done) waiting before now
+-- The entries of a text that was read so far: as of the last commit they are well formed, with numbers below the next one, and each change
+-- since then can be made where it stands.
+pub record IsEdited (p : Program) (lists : List (List Entry)) (said : EventReading) : Type 0 where
+  pub names : said.run.names ≡ names_of p lists
+  pub last : said.run.last ≡ (committed_by lists said).lists
+  pub now : said.run.now ≡ committed (committed_by lists said) said.changes
+  pub fit : AreFitChanges p (committed_by lists said) said.changes
+  pub entries : AreEntries p (committed_by lists said).lists
+  pub below : All (λ (e : Entry). e.number < (committed_by lists said).next) (entries_in (committed_by lists said).lists)
+
+-- the lines of the answers to the packets of a text
+abbrev pub event_lines : Program → List (List Entry) → List Event → List ℕ
+event_lines p lists events = plain_lines 0 (answers_of_events p lists events)
+
+-- what was read of a text has no bad line, and a run stands for it: the lines of its answers were written but for those that wait
+pub record Goes (p : Program) (lists : List (List Entry)) (said : EventReading) (run : PlainRun) (before now : SinkState) : Type 0 where
+  pub good : said.bad ≡ None
+  pub edited : IsEdited p lists said
+  pub takes : HasTaken p lists said.events run.plain
+  pub stands : Stands said.run run.lists
+  pub numbered : run.answered ≡ length (answers_of_events p lists said.events)
+  pub written : Written (event_lines p lists said.events) run.waiting.lines.items before now
+
+-- A line leaves this reading: a run goes on with it, or the line is bad, and the run stands as before it.
+abbrev pub Leaves : Program → List (List Entry) → ℕ → EventReading → EventReading → PlainRun → SinkState → SinkState → Option ℕ → Type 0
+Leaves p lists number said next run before now None = Goes p lists next run before now
+Leaves p lists number said next run before now (Some code) = (next ≡ with_bad number code said) × Goes p lists said run before now
+
+-- what was read of a text, and the bad line that ended it, if one did
+abbrev pub ended_at : Option Bad → EventReading → EventReading
+ended_at bad said = record said { bad = bad_line bad }
 
 -- ---- the steps of the command
 
 -- a run of the program and the entries that two texts mean over the packets of a third
 abbrev pub OfOpen : Files → List ℕ → List ℕ → List ℕ → Given → Type 0
-OfOpen files text entry_text packet_text = Understands files text entry_text (λ p lists. Runs files (plain_text p lists) packets_limit packet_text)
+OfOpen files text entry_text packet_text = Understands files text entry_text (RunsPlain files packet_text)
 
 -- and over those of a file
 abbrev pub OfTexts : Files → List ℕ → List ℕ → List ℕ → Given → Type 0

@@ -1,4 +1,4 @@
--- What a reader of packets in pieces stands for.
+-- What a reader of the lines of a packet text in pieces stands for.
 use Rattle.std.specs.Prelude.{◌≡◌, ◌≤◌, ℕ, ◌+◌, Bool, List, [], ◌∷◌, ◌++◌, None, length, IsTrue, if◌then◌else◌}
 use Rattle.rmt_bits.specs.Packet.{Packet}
 use Rattle.rmt_bits.specs.Lines.{numbered_lines}
@@ -6,7 +6,7 @@ use Rattle.rmt_packets.specs.PacketText.{reading_of}
 use Rattle.rmt_packets.specs.Pieces.{LineState, Stands, ended_lines, front_of}
 
 -- what a reader holds: the reader of its lines, the bytes that the shelf gave and that wait to be taken, how many bytes more may be
--- asked of the shelf, whether the text's end was seen and its last line taken, and how many packets were given
+-- asked of the shelf, whether the text's end was seen and its last line taken, and how many lines were given
 pub record ReaderState : Type 0 where
   pub lines : LineState
   pub waiting : List ℕ
@@ -25,21 +25,25 @@ pub record Took (limit : ℕ) (text : List ℕ) (reader : ReaderState) (rest tak
   pub within : length taken + (length reader.waiting + reader.left) ≡ limit
   pub finished : IsTrue reader.is_finished → taken ≡ text
 
--- a reader gave these packets of a text of which so many bytes may be read, and the shelf has yet to give the rest
-pub record ReadsOn (limit : ℕ) (text : List ℕ) (done : List Packet) (reader : ReaderState) (rest : List ℕ) : Type 0 where
+-- a reader gave these lines of a text of which so many bytes may be read, and the shelf has yet to give the rest
+pub record ReadsLines (limit : ℕ) (text : List ℕ) (gave : List (ℕ × List ℕ)) (reader : ReaderState) (rest : List ℕ) : Type 0 where
   pub taken : List ℕ
   pub took : Took limit text reader rest taken
-  pub packets : reading_of (lines_taken reader.is_finished taken) ≡ record { packets = done; bad = None }
+  pub lines : lines_taken reader.is_finished taken ≡ gave
 
--- behind these packets a reader holds the next packet line
-pub record AtLine (limit : ℕ) (text : List ℕ) (done : List Packet) (reader : ReaderState) (rest : List ℕ) : Type 0 where
+-- behind these lines a reader holds the next one
+pub record AtLine (limit : ℕ) (text : List ℕ) (gave : List (ℕ × List ℕ)) (reader : ReaderState) (rest : List ℕ) : Type 0 where
   pub taken : List ℕ
   pub took : Took limit text reader rest taken
-  pub earlier : List (ℕ × List ℕ)
   pub line : List ℕ
-  pub lines : lines_taken reader.is_finished taken ≡ earlier ++ (reader.lines.number, line) ∷ []
-  pub packets : reading_of earlier ≡ record { packets = done; bad = None }
+  pub lines : lines_taken reader.is_finished taken ≡ gave ++ (reader.lines.number, line) ∷ []
   pub front : reader.lines.front ≡ front_of line
+
+-- a reader gave these packets of such a text
+pub record ReadsOn (limit : ℕ) (text : List ℕ) (done : List Packet) (reader : ReaderState) (rest : List ℕ) : Type 0 where
+  pub gave : List (ℕ × List ℕ)
+  pub reads : ReadsLines limit text gave reader rest
+  pub packets : reading_of gave ≡ record { packets = done; bad = None }
 
 -- a text was taken that has so many packet lines at least
 pub record HasLines (count : ℕ) (is_finished : Bool) (lines : LineState) : Type 0 where

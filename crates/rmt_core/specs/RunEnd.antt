@@ -9,7 +9,7 @@ use Rattle.rmt_core.specs.declared.run_end.RunFault.TheVariants.{NoMemory, Write
 use Rattle.rmt_core.specs.declared.status.Status.{Status}
 use Rattle.rmt_core.specs.declared.status.Status.TheVariants as status
 use Rattle.rmt_core.specs.Printing.{GainedFront}
-use Rattle.rmt_core.specs.Runs.{reading_within, told_reading}
+use Rattle.rmt_core.specs.Runs.{Way, packets_alone, said_within, told_within}
 
 -- a bad line, as the definition of packet texts has it
 abbrev pub bad_line : Option Bad → Option BadLine
@@ -25,10 +25,14 @@ abbrev pub status_of_end : Option Bad → Status
 status_of_end None = status.Done
 status_of_end (Some bad) = status.BadPackets
 
--- A text of which so many bytes may be read was read to its end, or to its first bad line: it says these packets before.
-pub record ReadsAll (limit : ℕ) (text : List ℕ) (done : List Packet) (bad : Option BadLine) : Type 0 where
-  pub says : reading_within limit text ≡ record { packets = done; bad = bad }
-  pub ends : bad ≡ None → length text ≤ limit
+-- A text of which so many bytes may be read was read to its end, or to its first bad line: it says this.
+pub record ReadsAllBy {X : Type 0} (way : Way X) (limit : ℕ) (text : List ℕ) (said : X) : Type 0 where
+  pub says : said_within way limit text ≡ said
+  pub ends : way.bad said ≡ None → length text ≤ limit
+
+-- a text of packets alone says these before its first bad line
+abbrev pub ReadsAll : ℕ → List ℕ → List Packet → Option BadLine → Type 0
+ReadsAll limit text done bad = ReadsAllBy packets_alone limit text (record { packets = done; bad = bad })
 
 -- A run was cut off: a front of these lines was printed, and a fault of the sink comes only where there are lines.
 pub record Cut (lines : List ℕ) (before now : SinkState) (fault : RunFault) : Type 0 where
@@ -37,8 +41,11 @@ pub record Cut (lines : List ℕ) (before now : SinkState) (fault : RunFault) : 
 
 -- A run over a text ended early: a front of what the text gives was printed, a fault of the sink comes only where that is something, and TooLong only of a text that goes
 -- on behind its limit and has no bad line within it.
-pub record Breaks (printed : Reading → List ℕ) (limit : ℕ) (text : List ℕ) (before now : SinkState) (fault : RunFault) : Type 0 where
-  pub front : GainedFront before now (printed (told_reading limit text (reading_within limit text).bad))
-  pub some : fault ≡ Write → printed (told_reading limit text (reading_within limit text).bad) ≢ []
+pub record BreaksBy {X : Type 0} (way : Way X) (printed : X → List ℕ) (limit : ℕ) (text : List ℕ) (before now : SinkState) (fault : RunFault) : Type 0 where
+  pub front : GainedFront before now (printed (told_within way limit text (way.bad (said_within way limit text))))
+  pub some : fault ≡ Write → printed (told_within way limit text (way.bad (said_within way limit text))) ≢ []
   pub long : fault ≡ TooLong → limit < length text
-  pub within : fault ≡ TooLong → (reading_within limit text).bad ≡ None
+  pub within : fault ≡ TooLong → way.bad (said_within way limit text) ≡ None
+
+abbrev pub Breaks : (Reading → List ℕ) → ℕ → List ℕ → SinkState → SinkState → RunFault → Type 0
+Breaks printed limit text before now fault = BreaksBy packets_alone printed limit text before now fault

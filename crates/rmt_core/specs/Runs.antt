@@ -1,7 +1,8 @@
 -- What a packet text of which so many bytes may be read gives, and how a run over it ends.
 use Rattle.std.specs.Prelude.{◌≡◌, ℕ, Bool, List, ◌++◌, codes, Option, Some, None, if◌then◌else◌, length, nat_lt, take}
 use Rattle.std.specs.Fmt.{decimal}
-use Rattle.rmt_packets.specs.PacketText.{BadLine, Reading, packets_of, reading_of}
+use Rattle.rmt_bits.specs.Lines.{numbered_lines}
+use Rattle.rmt_packets.specs.PacketText.{BadLine, Reading, reading_of}
 use Rattle.rmt_packets.specs.Pieces.{ended_lines}
 use Rattle.rmt_core.specs.declared.status.Status.{Status}
 use Rattle.rmt_core.specs.declared.status.Status.TheVariants.{Done, BadPackets, TooLong}
@@ -12,9 +13,21 @@ use Rattle.rmt_core.specs.Given.{Given, told}
 abbrev pub bad_packets_line : ℕ → ℕ → List ℕ
 bad_packets_line code line = codes "bad packets " ++ (decimal code ++ (codes " line " ++ (decimal line ++ codes "\n")))
 
+-- how the numbered lines of a packet text are read: what they say, and which of them is the first bad one
+pub record Way (X : Type 0) : Type 0 where
+  pub read : List (ℕ × List ℕ) → X
+  pub bad : X → Option BadLine
+
+-- a text of packets alone
+abbrev pub packets_alone : Way Reading
+packets_alone = record { read = reading_of; bad = λ (r : Reading). r.bad }
+
 -- what is read of a text: all of it, or the lines that end within the limit
+abbrev pub said_within : {X : Type 0} → Way X → ℕ → List ℕ → X
+said_within way limit text = if nat_lt limit (length text) then way.read (ended_lines (take limit text)) else way.read (numbered_lines 1 text)
+
 abbrev pub reading_within : ℕ → List ℕ → Reading
-reading_within limit text = if nat_lt limit (length text) then reading_of (ended_lines (take limit text)) else packets_of text
+reading_within limit text = said_within packets_alone limit text
 
 -- a bad line that is read ends a run with BadPackets; else a text that is too long with TooLong
 abbrev pub run_status : Bool → Option BadLine → Status
@@ -22,12 +35,16 @@ run_status is_long (Some bad) = BadPackets
 run_status is_long None = if is_long then TooLong else Done
 
 -- what is told of a text that is too long is of the whole text, of which a front is printed
-abbrev pub told_reading : ℕ → List ℕ → Option BadLine → Reading
-told_reading limit text (Some bad) = reading_within limit text
-told_reading limit text None = packets_of text
+abbrev pub told_within : {X : Type 0} → Way X → ℕ → List ℕ → Option BadLine → X
+told_within way limit text (Some bad) = said_within way limit text
+told_within way limit text None = way.read (numbered_lines 1 text)
 
--- a run over a packet text, by what is printed for what such a text says
+-- a run over a packet text that is read so, by what is printed for what such a text says
+abbrev pub RunsBy : {X : Type 0} → Way X → Files → (X → List ℕ) → ℕ → List ℕ → Given → Type 0
+RunsBy way files printed limit text g =
+    let bad = way.bad (said_within way limit text) in
+    g ≡ told files (run_status (nat_lt limit (length text)) bad) (printed (told_within way limit text bad))
+
+-- and over one of packets alone
 abbrev pub Runs : Files → (Reading → List ℕ) → ℕ → List ℕ → Given → Type 0
-Runs files printed limit text g =
-    let bad = (reading_within limit text).bad in
-    g ≡ told files (run_status (nat_lt limit (length text)) bad) (printed (told_reading limit text bad))
+Runs files printed limit text g = RunsBy packets_alone files printed limit text g

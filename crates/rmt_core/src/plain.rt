@@ -5,22 +5,22 @@ ghost use Rattle.rmt_ast.specs.EntryLists.{AreEntries};
 ghost use Rattle.rmt_ast.specs.WellFormed.{IsProgram};
 ghost use Rattle.rmt_core.specs.Commands.{IsPossible, Plain as Command};
 ghost use Rattle.rmt_core.specs.Ends.{ReadsAndPrints, outside};
-ghost use Rattle.rmt_core.specs.Files.{entries_limit, packets_limit, program_limit};
+ghost use Rattle.rmt_core.specs.Files.{entries_limit, program_limit};
+ghost use Rattle.rmt_core.specs.Making.{AreOfTexts};
 ghost use Rattle.rmt_core.specs.PlainRunning.{OfOpen, OfText, OfTexts};
-ghost use Rattle.rmt_core.specs.PlainText.{GivesPlain, plain_text};
-ghost use Rattle.rmt_core.specs.Runs.{Runs};
+ghost use Rattle.rmt_core.specs.PlainText.{GivesPlain, RunsPlain};
 
 use crate::loading::{ENTRIES_LIMIT, PACKETS_LIMIT, PROGRAM_LIMIT, open_file, read_file};
+use crate::plain_run::begin::begin;
 use crate::plain_run::run_plain;
 use crate::status::Status;
 use crate::texts::{Meant, tell_text_fault, understand};
 use rmt_check::laws::one_meaning;
 use rmt_io::shelf::Shelf;
 use rmt_io::sink::Sink;
-use rmt_plain::plain::Plain;
 use std::alloc::Global;
 
-/// Runs a program with its entries table by table, one packet of a text after another.
+/// Runs a program with its entries table by table, one packet of a text after another; the text may change the entries.
 pub fn plain<F: Shelf, O: Sink>(
     alloc: Global,
     program: &String,
@@ -121,15 +121,14 @@ fn plain_of_meant<F: Shelf, O: Sink>(
 ) -> Status
     requires program { IsProgram meant.program }
     requires entries { AreEntries meant.program meant.entries }
+    requires said { AreOfTexts meant.program meant.entries }
     ensures possible { IsPossible (Command [] [] []) result }
     ensures call { ReadsAndPrints (outside (F.state shelf.old) (O.state out.old))
         (outside (F.state shelf.new) (O.state out.new))
-        (λ files. Runs files (plain_text meant.program meant.entries) packets_limit
-        (F.state shelf.old).rest) result }
+        (λ files. RunsPlain files (F.state shelf.old).rest meant.program meant.entries) result }
 {
-    let Meant { program, entries } = meant;
-    match Plain::new(alloc, program, entries) {
-        Ok(mut plain) => run_plain(alloc, shelf, PACKETS_LIMIT, &mut plain, out),
+    match begin(alloc, meant) {
+        Ok(mut run) => run_plain(alloc, shelf, PACKETS_LIMIT, &mut run, out),
         Err(_) => Status::NoMemory,
     }
 }

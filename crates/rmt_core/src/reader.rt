@@ -1,11 +1,12 @@
-//! Reading the packets of a text in pieces, as a shelf gives them.
+//! Reading the lines of a packet text in pieces, as a shelf gives them.
 
 ghost use Rattle.std.specs.Prelude.{◌≡◌, ◌+◌, ◌<◌, ◌≤◌, ℕ, false, List, [], None, length, IfOk, IsTrue, IsErrOf, OnErr};
 ghost use Rattle.rmt_bits.specs.Packet.{Packet};
-ghost use Rattle.rmt_packets.specs.PacketText.{packets_of};
+ghost use Rattle.rmt_bits.specs.Lines.{numbered_lines};
+ghost use Rattle.rmt_packets.specs.PacketText.{reading_of};
 ghost use Rattle.rmt_io.specs.Outside.{ReadingFailed, OnlyRead};
-ghost use Rattle.rmt_core.specs.Pieces.{Comes, GoesTooFar};
-ghost use Rattle.rmt_core.specs.ReadsOn.{AtLine, HasLines, ReadsOn};
+ghost use Rattle.rmt_core.specs.Pieces.{Comes, GoesTooFar, PassesLimit};
+ghost use Rattle.rmt_core.specs.ReadsOn.{AtLine, HasLines, ReadsLines, ReadsOn};
 
 mod piece;
 
@@ -37,7 +38,7 @@ pub enum StepFault {
     TooLong,
 }
 
-/// A reader of the packets of a shelf's open file, of which so many bytes may be read.
+/// A reader of the lines of a packet text, or of its packets, in a shelf's open file of which so many bytes may be read.
 #[derive(Drop)]
 pub struct PacketReader {
     lines: Lines,
@@ -47,7 +48,7 @@ pub struct PacketReader {
     left: u64,
     /// Whether the end of the text was seen, and its last line taken.
     is_finished: bool,
-    /// How many packets it gave.
+    /// How many lines it gave.
     given: u64,
 }
 
@@ -63,12 +64,14 @@ impl Model for PacketReader {
 }
 
 impl PacketReader {
-    /// A reader that gave no packet yet, of a text of which `limit` bytes may be read. No other call takes memory, but
+    /// A reader that gave no line yet, of a text of which `limit` bytes may be read. No other call takes memory, but
     /// for the frame.
     pub fn new(alloc: Global, limit: u64) -> Result<PacketReader, AllocError>
         requires { limit ≤ 1099511627776 }
         ensures reads { IfOk result
             (λ reader. (text : List ℕ) → ReadsOn limit text [] reader text) }
+        ensures lines { IfOk result
+            (λ reader. (text : List ℕ) → ReadsLines limit text [] reader text) }
         ensures given { IfOk result (λ reader. reader.given ≡ 0) }
     {
         let Ok(lines) = Lines::new(alloc) else {
@@ -119,21 +122,87 @@ impl PacketReader {
         }
     }
 
+    /// Goes on to the next line that is not passed over, and answers whether there is one. Behind a refusal what a further
+    /// call answers is of no use.
+    pub fn next_line<F: Shelf>(&mut self, shelf: &mut F) -> Result<bool, StepFault>
+        // What comes next, over a shelf that tells its files; a text that goes on behind the limit ends with `TooLong`.
+        ensures line { IfOk result
+            (λ is_line. IsTrue is_line → IsTrue (F.state shelf.old).tells →
+            (limit : ℕ) (text : List ℕ) (gave : List (ℕ × List ℕ)) →
+            ReadsLines limit text gave self.old (F.state shelf.old).rest →
+            AtLine limit text gave self.new (F.state shelf.new).rest) }
+        ensures end { IfOk result
+            (λ is_line. is_line ≡ false → IsTrue (F.state shelf.old).tells →
+            (limit : ℕ) (text : List ℕ) (gave : List (ℕ × List ℕ)) →
+            ReadsLines limit text gave self.old (F.state shelf.old).rest →
+            (length text ≤ limit) × (numbered_lines 1 text ≡ gave)) }
+        ensures too_long { IsErrOf result StepFault.TooLong → IsTrue (F.state shelf.old).tells →
+            (limit : ℕ) (text : List ℕ) (gave : List (ℕ × List ℕ)) →
+            ReadsLines limit text gave self.old (F.state shelf.old).rest →
+            PassesLimit limit text gave }
+        ensures ready { IfOk result (λ is_line. IsTrue is_line → IsTrue self.new.lines.is_ready) }
+        // How many lines may come.
+        ensures given { IfOk result
+            (λ is_line. IsTrue is_line → self.new.given ≡ self.old.given + 1) }
+        ensures few { IfOk result (λ is_line. self.new.given ≤ 1099511627776) }
+        // A fault of the shelf is counted; a steady one has none.
+        ensures failed { IsErrOf result StepFault.Read →
+            ReadingFailed (F.state shelf.old) (F.state shelf.new) }
+        ensures never_fails { IsErrOf result StepFault.Read → IsTrue (F.state shelf.old).steady →
+            ⊥ }
+        // What stays the same.
+        ensures only_read { OnlyRead (F.state shelf.old) (F.state shelf.new) }
+    {
+        if !self.find(shelf)? {
+            return Ok(false);
+        }
+        self.count_line();
+        Ok(true)
+    }
+
+    /// Counts the line that is ready.
+    fn count_line(&mut self)
+        requires { HasLines (self.old.given + 1) self.old.is_finished self.old.lines }
+        ensures given { self.new.given ≡ self.old.given + 1 }
+        ensures few { self.new.given ≤ 1099511627776 }
+        ensures lines { self.new.lines ≡ self.old.lines }
+        ensures reads { (limit : ℕ) (text rest : List ℕ) (gave : List (ℕ × List ℕ)) →
+            AtLine limit text gave self.old rest → AtLine limit text gave self.new rest }
+    {
+        self.given += 1;
+    }
+
+    /// The first 18,444 bytes of the line that is ready, or all where it has fewer.
+    pub fn line(&self) -> &[u8]
+        requires { IsTrue self.now.lines.is_ready }
+        ensures { result.now ≡ self.now.lines.front }
+    {
+        self.lines.text()
+    }
+
+    /// The number of the line that is ready; the first line of a text has number 1.
+    pub fn number(&self) -> u64
+        requires { IsTrue self.now.lines.is_ready }
+        ensures { result ≡ self.now.lines.number }
+    {
+        self.lines.number()
+    }
+
     /// Goes on to the next packet line, and answers whether there is one.
     fn find<F: Shelf>(&mut self, shelf: &mut F) -> Result<bool, StepFault>
         ensures line { IfOk result
             (λ is_line. IsTrue is_line → IsTrue (F.state shelf.old).tells →
-            (limit : ℕ) (text : List ℕ) (done : List Packet) →
-            ReadsOn limit text done self.old (F.state shelf.old).rest →
-            AtLine limit text done self.new (F.state shelf.new).rest) }
+            (limit : ℕ) (text : List ℕ) (gave : List (ℕ × List ℕ)) →
+            ReadsLines limit text gave self.old (F.state shelf.old).rest →
+            AtLine limit text gave self.new (F.state shelf.new).rest) }
         ensures end { IfOk result
             (λ is_line. is_line ≡ false → IsTrue (F.state shelf.old).tells →
-            (limit : ℕ) (text : List ℕ) (done : List Packet) →
-            ReadsOn limit text done self.old (F.state shelf.old).rest →
-            (length text ≤ limit) × (packets_of text ≡ record { packets = done; bad = None })) }
+            (limit : ℕ) (text : List ℕ) (gave : List (ℕ × List ℕ)) →
+            ReadsLines limit text gave self.old (F.state shelf.old).rest →
+            (length text ≤ limit) × (numbered_lines 1 text ≡ gave)) }
         ensures too_long { IsErrOf result StepFault.TooLong → IsTrue (F.state shelf.old).tells →
-            (limit : ℕ) (text : List ℕ) (done : List Packet) →
-            ReadsOn limit text done self.old (F.state shelf.old).rest → GoesTooFar limit text done }
+            (limit : ℕ) (text : List ℕ) (gave : List (ℕ × List ℕ)) →
+            ReadsLines limit text gave self.old (F.state shelf.old).rest → PassesLimit limit text gave }
         ensures ready { IfOk result (λ is_line. IsTrue is_line → IsTrue self.new.lines.is_ready) }
         ensures one_more { IfOk result
             (λ is_line. IsTrue is_line →
@@ -162,10 +231,10 @@ impl PacketReader {
     /// Takes the waiting bytes up to the end of the next packet line, and all where they end none.
     fn take_line(&mut self) -> bool
         requires { self.old.is_finished ≡ false }
-        ensures line { IsTrue result → (limit : ℕ) (text rest : List ℕ) (done : List Packet) →
-            ReadsOn limit text done self.old rest → AtLine limit text done self.new rest }
-        ensures none { result ≡ false → (limit : ℕ) (text rest : List ℕ) (done : List Packet) →
-            ReadsOn limit text done self.old rest → ReadsOn limit text done self.new rest }
+        ensures line { IsTrue result → (limit : ℕ) (text rest : List ℕ) (gave : List (ℕ × List ℕ)) →
+            ReadsLines limit text gave self.old rest → AtLine limit text gave self.new rest }
+        ensures none { result ≡ false → (limit : ℕ) (text rest : List ℕ) (gave : List (ℕ × List ℕ)) →
+            ReadsLines limit text gave self.old rest → ReadsLines limit text gave self.new rest }
         ensures empty { result ≡ false → self.new.waiting ≡ [] }
         ensures ready { self.new.lines.is_ready ≡ result }
         ensures one_more { IsTrue result →
@@ -185,17 +254,17 @@ impl PacketReader {
         requires going_on { self.old.is_finished ≡ false }
         ensures reads { IfOk result
             (λ _. IsTrue (F.state shelf.old).tells →
-            (limit : ℕ) (text : List ℕ) (done : List Packet) →
-            ReadsOn limit text done self.old (F.state shelf.old).rest →
-            ReadsOn limit text done self.new (F.state shelf.new).rest) }
+            (limit : ℕ) (text : List ℕ) (gave : List (ℕ × List ℕ)) →
+            ReadsLines limit text gave self.old (F.state shelf.old).rest →
+            ReadsLines limit text gave self.new (F.state shelf.new).rest) }
         ensures less { IfOk result (λ is_more. IsTrue is_more → self.new.left < self.old.left) }
         ensures ended { IfOk result
             (λ is_more. is_more ≡ false → IsTrue (F.state shelf.old).tells →
             (F.state shelf.new).rest ≡ []) }
         ensures empty { IfOk result (λ is_more. is_more ≡ false → self.new.waiting ≡ []) }
         ensures too_long { IsErrOf result StepFault.TooLong → IsTrue (F.state shelf.old).tells →
-            (limit : ℕ) (text : List ℕ) (done : List Packet) →
-            ReadsOn limit text done self.old (F.state shelf.old).rest → GoesTooFar limit text done }
+            (limit : ℕ) (text : List ℕ) (gave : List (ℕ × List ℕ)) →
+            ReadsLines limit text gave self.old (F.state shelf.old).rest → PassesLimit limit text gave }
         ensures going_on { self.new.is_finished ≡ false }
         ensures given { self.new.given ≡ self.old.given }
         ensures failed { IsErrOf result StepFault.Read →
@@ -220,12 +289,12 @@ impl PacketReader {
     fn finish(&mut self) -> bool
         requires empty { self.old.waiting ≡ [] }
         requires going_on { self.old.is_finished ≡ false }
-        ensures line { IsTrue result → (limit : ℕ) (text rest : List ℕ) (done : List Packet) →
-            rest ≡ [] → ReadsOn limit text done self.old rest →
-            AtLine limit text done self.new rest }
-        ensures end { result ≡ false → (limit : ℕ) (text rest : List ℕ) (done : List Packet) →
-            rest ≡ [] → ReadsOn limit text done self.old rest →
-            (length text ≤ limit) × (packets_of text ≡ record { packets = done; bad = None }) }
+        ensures line { IsTrue result → (limit : ℕ) (text rest : List ℕ) (gave : List (ℕ × List ℕ)) →
+            rest ≡ [] → ReadsLines limit text gave self.old rest →
+            AtLine limit text gave self.new rest }
+        ensures end { result ≡ false → (limit : ℕ) (text rest : List ℕ) (gave : List (ℕ × List ℕ)) →
+            rest ≡ [] → ReadsLines limit text gave self.old rest →
+            (length text ≤ limit) × (numbered_lines 1 text ≡ gave) }
         ensures ready { self.new.lines.is_ready ≡ result }
         ensures one_more { IsTrue result →
             HasLines (self.new.given + 1) self.new.is_finished self.new.lines }
@@ -240,8 +309,9 @@ impl PacketReader {
         requires ready { IsTrue self.old.lines.is_ready }
         requires one_more { HasLines (self.old.given + 1) self.old.is_finished self.old.lines }
         ensures comes { IfOk result
-            (λ step. (limit : ℕ) (text rest : List ℕ) (done : List Packet) →
-            AtLine limit text done self.old rest →
+            (λ step. (limit : ℕ) (text rest : List ℕ) (gave : List (ℕ × List ℕ))
+            (done : List Packet) → AtLine limit text gave self.old rest →
+            reading_of gave ≡ record { packets = done; bad = None } →
             Comes (λ packets. ReadsOn limit text packets self.new rest) limit text done frame.new.items step) }
         ensures port { IfOk result (λ step. (port : ℕ) → step ≡ Step.Packet port → port < 512) }
         ensures frame { IfOk result

@@ -5,7 +5,7 @@ use Rattle.std.specs.List.{AllZip, flat_map}
 use Rattle.std.specs.Set.{distinct_count, is_member, unique_keys}
 use Rattle.std.proofs.lemmas.List.{get_or_default, get_or-map, get_or-replicate, get_or_past, length-map, length-replicate}
 use Rattle.std.proofs.lemmas.List.Elements.{All-contains, Contains-append_left, Contains-append_right, Contains-append_cases, Contains-get_or}
-use Rattle.std.proofs.lemmas.Bool.{cases_lt, false≢true}
+use Rattle.std.proofs.lemmas.Bool.{cases_lt, false≢true, or_right}
 use Rattle.std.proofs.lemmas.Bool.Decides.{Decides-eqb, same_from_decides}
 use Rattle.std.proofs.lemmas.Cmp.{nat_eq_equiv}
 use Rattle.std.proofs.lemmas.Map.Made.{IsDistinct-from_AllPairs, is_member-Decides, length-from_keys, length-le_from_is_member}
@@ -81,10 +81,6 @@ kept false x q xs there rest h =
     ⊎_elim (λ (same : nat_eq q x ≡ true). ap (λ (b : Bool). b || is_member nat_eq (unique_keys nat_eq xs) q) same)
     (λ (later : is_member nat_eq xs q ≡ true). or_right (nat_eq q x) (is_member nat_eq (unique_keys nat_eq xs) q) (rest later))
     (or_cases (nat_eq q x) (is_member nat_eq xs q) h)
-  where
-    or_right : (a b : Bool) → b ≡ true → (a || b) ≡ true
-    or_right true b e = refl
-    or_right false b e = e
 
 member_unique : (xs : List ℕ) (q : ℕ) → is_member nat_eq xs q ≡ true → is_member nat_eq (unique_keys nat_eq xs) q ≡ true
 member_unique [] q h = h

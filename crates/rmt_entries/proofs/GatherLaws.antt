@@ -9,7 +9,6 @@ use Rattle.std.specs.Cmp.Lexicographic.{slice_cmp}
 use Rattle.std.specs.BTreeSet.{BTreeSet, Updates, contains}
 use Rattle.std.proofs.lemmas.Bool.{cases_Bool, eqb-true, eq-eqb, false≢true}
 use Rattle.std.proofs.lemmas.Bool.Decides.{nat_tests}
-use Rattle.std.proofs.lemmas.Slice.Eq.{bytes_eq-Decides}
 use Rattle.std.proofs.lemmas.Map.Text.{is_eq-slice_cmp}
 use Rattle.std.proofs.lemmas.List.{ext_get_or, get_or-set_same, get_or-set_other, length-set, map_push, append-nil}
 use Rattle.std.proofs.lemmas.List.Folds.{list_any-append}
@@ -22,6 +21,7 @@ use Rattle.rmt_ast.specs.EntryLists.{Terms}
 use Rattle.rmt_entries.specs.Entries.{by_node, entries_at, has_keys_once, identity, is_repeated}
 use Rattle.rmt_entries.specs.LinesSoFar.{IsAppliedBy, Knows, is_once}
 use Rattle.rmt_entries.specs.Tables.{AppliedTable}
+use Rattle.rmt_bits.proofs.FunctionLaws.{bytes_eq-sym}
 
 not-not : (b : Bool) → not (not b) ≡ b
 not-not true = refl
@@ -70,20 +70,11 @@ by_node_push n es e own lt h =
           get_or-set_other old e.table m own [] apart ∙ by_node_at n m es [] inside ∙ sym (entries_at_other es e m apart) ∙ sym (by_node_at n m (es ++ e ∷ []) [] inside)
     ])
 
-same_sym : (a b : List ℕ) → bytes_eq a b ≡ bytes_eq b a
-same_sym a b = by (bytes_eq a b) (bytes_eq b a) refl refl
-  where
-    by : (x y : Bool) → bytes_eq a b ≡ x → bytes_eq b a ≡ y → x ≡ y
-    by true true e f = refl
-    by false false e f = refl
-    by true false e f = absurd (false≢true (sym f ∙ (bytes_eq-Decides b a).1 (sym ((bytes_eq-Decides a b).0 e))))
-    by false true e f = absurd (false≢true (sym e ∙ (bytes_eq-Decides a b).1 (sym ((bytes_eq-Decides b a).0 f))))
-
 -- the entries that are repeated beside one more
 is_repeated_push : (es : List Entry) (e x : Entry) → is_repeated (es ++ e ∷ []) x ≡ cond (bytes_eq (identity e) (identity x)) true (is_repeated es x)
 is_repeated_push es e x =
     list_any-append (λ (o : Entry). bytes_eq (identity x) (identity o)) es (e ∷ [])
-    ∙ by (is_repeated es x) (bytes_eq (identity x) (identity e)) (bytes_eq (identity e) (identity x)) (same_sym (identity x) (identity e))
+    ∙ by (is_repeated es x) (bytes_eq (identity x) (identity e)) (bytes_eq (identity e) (identity x)) (bytes_eq-sym (identity x) (identity e))
   where
     by : (a b c : Bool) → b ≡ c → (a || (b || false)) ≡ cond c true a
     by true true c h = rw (← h) refl

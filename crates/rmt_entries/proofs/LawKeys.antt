@@ -1,9 +1,8 @@
 -- What the words of a line say fits the table: tests of its key's fields, their masks, and arguments.
-use Rattle.std.proofs.Common.{◌≡◌, ℕ, ◌+◌, ◌-◌, ◌^◌, ◌<◌, ◌==◌, Bool, true, false, List, [], ◌∷◌, Option, Some, None, Result, Ok, Err, bit_and, if◌then◌else◌, nat_lt, option_map, length, slice_get, position, get_or, codes, refl, ap, subst, ◌∙◌, pow_pos, arith}
+use Rattle.std.proofs.Common.{◌≡◌, ℕ, ◌+◌, ◌-◌, ◌^◌, ◌<◌, ◌==◌, Bool, true, false, List, [], ◌∷◌, Option, Some, None, Ok, bit_and, if◌then◌else◌, option_map, length, slice_get, position, get_or, codes, refl, ap, subst, ◌∙◌, pow_pos, arith}
 use Rattle.std.specs.Int.Bits.{and_self}
 use Rattle.std.specs.List.{AllZip, list_any, before_first, after_first}
 use Rattle.std.specs.Str.{bytes_eq}
-use Rattle.std.proofs.lemmas.Bool.{ltb-true}
 use Rattle.std.proofs.lemmas.List.Quantifiers.{position-Some}
 use Rattle.std.proofs.Math.Nat.{mod-eq_of_lt}
 use Rattle.std.proofs.lemmas.Nat.{and_le_l, and_assoc, and_mask}
@@ -19,14 +18,8 @@ use Rattle.rmt_entries.specs.Entries.{Read, arguments, behind_key, whole_line, w
 use Rattle.rmt_entries.specs.Keys.{both, exact_test, key_of, masked, onto, pattern_test, prefix_key, prefix_mask, prefix_of, ranked, read_each, whole}
 use Rattle.rmt_entries.specs.Numbers.{below, decimal, number, number_of_width}
 use Rattle.rmt_entries.specs.Tables.{AppliedTable}
-
-below_limit : (limit : ℕ) (o : Option ℕ) (n : ℕ) → below limit o ≡ Some n → n < limit
-below_limit limit None n e = cc
-below_limit limit (Some m) n e = by (nat_lt m limit) refl e
-  where
-    by : (b : Bool) → nat_lt m limit ≡ b → (if b then Some m else None) ≡ Some n → n < limit
-    by true t h = subst (λ (k : ℕ). k < limit) (same_Some m n h) (ltb-true m limit t)
-    by false t h = cc
+use Rattle.rmt_bits.proofs.DigitLaws.{below_limit}
+use Rattle.rmt_bits.proofs.OptionLaws.{same_Ok}
 
 fits_width : (width : ℕ) (word : List ℕ) (n : ℕ) → number_of_width width word ≡ Some n → Fits width n
 fits_width width word n e = below_limit (2 ^ width) (number word) n e
@@ -157,13 +150,6 @@ pub record ReadOf (t : AppliedTable) (n : ℕ) (r : Read) : Type 0 where
   pub table : r.table ≡ t
   pub number : r.entry.number ≡ n
   pub entry : IsEntry t.node t.terms r.entry
-
-pub same_Ok : {A E : Type 0} (x y : A) → (let r : Result A E = Ok x in r) ≡ Ok y → x ≡ y
-same_Ok {A} {E} x y e = ap held e
-  where
-    held : Result A E → A
-    held (Ok a) = a
-    held (Err a) = x
 
 -- a table has parameters for each of its actions
 abbrev pub HasParams : AppliedTable → Type 0

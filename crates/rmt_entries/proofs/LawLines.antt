@@ -17,7 +17,8 @@ use Rattle.rmt_entries.specs.Lines.{is_printable, words}
 use Rattle.rmt_entries.specs.LinesSoFar.{IsAppliedBy, is_once}
 use Rattle.rmt_entries.specs.Tables.{AppliedTable, table_named}
 use Rattle.rmt_entries.proofs.GatherLaws.{entries_at_own, entries_at_other, once_own}
-use Rattle.rmt_entries.proofs.LawKeys.{HasParams, ReadOf, same_Ok, with_key_law}
+use Rattle.rmt_entries.proofs.LawKeys.{HasParams, ReadOf, with_key_law}
+use Rattle.rmt_bits.proofs.OptionLaws.{same_Ok}
 
 -- what holds of each table holds of that of a line
 pub record ReadBy (P : AppliedTable → Type 0) (n : ℕ) (r : Read) : Type 0 where

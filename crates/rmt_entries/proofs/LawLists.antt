@@ -32,10 +32,10 @@ use Rattle.rmt_entries.specs.Reads.{node_terms}
 use Rattle.rmt_entries.specs.LinesSoFar.{is_once}
 use Rattle.rmt_entries.specs.Tables.{AppliedTable, applied_tables}
 use Rattle.rmt_entries.proofs.GatherLaws.{by_node_at, by_node_more, length-by_node}
-use Rattle.rmt_entries.proofs.LawKeys.{same_Ok}
 use Rattle.rmt_entries.proofs.LawLines.{AreRead, Fit, IsOwn, none_read, read_push}
 use Rattle.rmt_entries.proofs.ProgramLaws.{are_applied, have_params}
 use Rattle.rmt_bits.proofs.PairLaws.{AllPairs-append, AllPairs-map, AllPairs-none}
+use Rattle.rmt_bits.proofs.OptionLaws.{same_Ok}
 
 -- all lines
 reading_law : (terms : List (Option Terms)) (tables : List AppliedTable) (es out : List Entry) (ls : List (ℕ × List ℕ)) → All (Fit terms) tables → AreRead terms es → reading tables es ls ≡ Ok out → AreRead terms out

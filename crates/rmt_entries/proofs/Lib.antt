@@ -4,8 +4,6 @@ pub mod LawKeys
 pub mod LawLines
 pub mod LawLists
 pub mod NamedLaws
-pub mod NumberLaws
 pub mod ProgramLaws
 pub mod ReadingLaws
 pub mod TextLaws
-pub mod WordLaws

@@ -23,8 +23,9 @@ use Rattle.rmt_entries.specs.LinesSoFar.{IsFault, IsReadable}
 use Rattle.rmt_entries.specs.NamedLines.{IsNamedEntry, action_word, alone, entry_read, key_of_table, key_words, named_entry, named_table, named_tables}
 use Rattle.rmt_entries.specs.Tables.{AppliedTable, table_named}
 use Rattle.rmt_entries.specs.Taken.{AreNarrow}
-use Rattle.rmt_entries.proofs.LawKeys.{HasParams, ReadOf, same_Ok}
+use Rattle.rmt_entries.proofs.LawKeys.{HasParams, ReadOf}
 use Rattle.rmt_entries.proofs.LawLines.{read_line_law}
+use Rattle.rmt_bits.proofs.OptionLaws.{same_Ok}
 
 -- what is asked of a table's names
 record Formed (t : TableName) : Type 0 where

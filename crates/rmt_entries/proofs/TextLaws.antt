@@ -1,8 +1,7 @@
 -- Texts, read line by line.
-use Rattle.std.proofs.Common.{◌≡◌, ℕ, ◌+◌, ◌<◌, ◌==◌, true, false, List, [], ◌∷◌, ◌++◌, Result, Ok, Err, length, refl, sym, ap, subst, ◌∙◌, length-append, arith}
+use Rattle.std.proofs.Common.{◌≡◌, ℕ, ◌+◌, true, false, List, [], ◌∷◌, ◌++◌, Result, Ok, Err, length, refl, sym, ap, subst, ◌∙◌, length-append, arith}
 use Rattle.std.specs.List.{before_first, after_first}
 use Rattle.std.specs.Result.{IsErrAnd}
-use Rattle.std.proofs.lemmas.Bool.{eqb-true, true≢false}
 use Rattle.std.proofs.lemmas.List.{length-map}
 use Rattle.rmt_ast.specs.declared.program.Program.{Program}
 use Rattle.rmt_ast.specs.declared.program.Node.{Node}
@@ -75,11 +74,3 @@ pub gives_handed : (r : Result (List (List Entry)) EntryFault) (fault : EntryFau
     → Gives r wanted
 gives_handed (Ok x) fault wanted h g = absurd h
 gives_handed (Err e) fault wanted h g = subst (λ (f : EntryFault). Gives (Err f) wanted) (sym h) g
-
-pub has_bytes : (text : List ℕ) → (length text == 0) ≡ false → 0 < length text
-has_bytes [] h = absurd (true≢false h)
-has_bytes (x ∷ xs) h = omega arith
-
-pub has_none : (text : List ℕ) → (length text == 0) ≡ true → text ≡ []
-has_none [] h = refl
-has_none (x ∷ xs) h = absurd (omega (arith, eqb-true (length (x ∷ xs)) 0 h))

@@ -6,11 +6,11 @@ ghost use Rattle.rmt_entries.specs.Keys.{both, exact_test, masked, pattern_test,
 ghost use Rattle.rmt_entries.specs.Numbers.{number_of_width};
 ghost use Rattle.rmt_entries.specs.Taken.{AreNarrow, IsTaken, test_of};
 
-use crate::cuts::cut;
 use crate::numbers::{decimal_up_to, number_of_width, priority};
 use crate::words::Words;
 use rmt_ast::program::{Kind, Test};
 use rmt_bits::bits::ones;
+use rmt_bits::cuts::cut;
 use rmt_bits::sequence::Sequence;
 use std::alloc::{AllocError, Global};
 

@@ -2,7 +2,6 @@
 #![tactic(auto)]
 
 mod arguments;
-mod cuts;
 pub mod fault;
 mod gathered;
 mod keys;

@@ -1,35 +1,10 @@
 //! The numbers that words say.
 
 ghost use Rattle.std.specs.Prelude.{◌≡◌, ◌+◌, ◌<◌, ◌≤◌, ◌^◌};
-ghost use Rattle.rmt_bits.specs.Digits.{is_hex};
-ghost use Rattle.rmt_entries.specs.Numbers.{below, decimal, number, number_in, number_of_width};
+ghost use Rattle.rmt_entries.specs.Numbers.{below, decimal, number, number_of_width};
 
 use rmt_bits::bits::ones;
-use rmt_bits::digits::{are_digits, are_hex, is_hex_number, number_up_to};
-
-/// The number that one or more decimal digits say, where it is at most `last`.
-#[tactic(auto, using(crate::proofs::NumberLaws::number_below, crate::proofs::NumberLaws::number_none))]
-fn decimal(last: u128, word: &[u8]) -> Option<u128>
-    ensures { result ≡ below (last + 1) (decimal word.now) }
-{
-    if !word.is_empty() && are_digits(word) {
-        number_up_to(last, 10, word)
-    } else {
-        None
-    }
-}
-
-/// The number that one or more hexadecimal digits say, where it is at most `last`.
-#[tactic(auto, using(crate::proofs::NumberLaws::number_below, crate::proofs::NumberLaws::number_none))]
-fn hexadecimal(last: u128, digits: &[u8]) -> Option<u128>
-    ensures { result ≡ below (last + 1) (number_in 16 is_hex digits.now) }
-{
-    if !digits.is_empty() && are_hex(digits) {
-        number_up_to(last, 16, digits)
-    } else {
-        None
-    }
-}
+use rmt_bits::digits::{decimal, hexadecimal, is_hex_number};
 
 /// The number that a word says, where it is at most `last`.
 fn number(last: u128, word: &[u8]) -> Option<u128>

@@ -8,7 +8,6 @@ ghost use Rattle.rmt_entries.specs.Entries.{entries_of, entry_of};
 ghost use Rattle.rmt_entries.specs.Fault.{Gives};
 ghost use Rattle.rmt_entries.specs.LinesSoFar.{Addition, Gathers, IsAppliedBy, IsBelow, IsFault, IsReadable};
 
-use crate::cuts::cut;
 use crate::fault::EntryFault;
 use crate::gathered::Gathered;
 use crate::line::{is_printable, read_entry, take_table};
@@ -16,6 +15,7 @@ use crate::tables::Tables;
 use crate::words::Words;
 use rmt_ast::entry::EntryLists;
 use rmt_ast::program::Program;
+use rmt_bits::cuts::cut;
 use rmt_bits::lines::is_passed_over;
 use std::alloc::Global;
 

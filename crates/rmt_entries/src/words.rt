@@ -3,7 +3,7 @@
 ghost use Rattle.std.specs.Prelude.{◌≡◌, ◌==◌, ◌∷◌, [], length, IfNone, IfSome};
 ghost use Rattle.rmt_entries.specs.Lines.{words};
 
-use crate::cuts::cut;
+use rmt_bits::cuts::cut;
 use std::marker::Model;
 
 /// The words of a line that are not taken yet, as contracts see them.

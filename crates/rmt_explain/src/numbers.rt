@@ -1,21 +1,14 @@
 //! Numbers of entry lines.
 
 use crate::places::part;
-use rmt_bits::digits::{are_digits, are_hex, number_up_to};
+use rmt_bits::digits::{decimal, hexadecimal};
 
 /// The number that a word says, in decimal or behind `0x`; none where it is no number, or 2^128 or more.
 pub fn value_of(word: &[u8]) -> Option<u128> {
     if word.starts_with(b"0x") {
-        let digits = part(word, 2, word.len());
-        if digits.is_empty() || !are_hex(digits) {
-            return None;
-        }
-        number_up_to(u128::MAX, 16, digits)
+        hexadecimal(u128::MAX, part(word, 2, word.len()))
     } else {
-        if word.is_empty() || !are_digits(word) {
-            return None;
-        }
-        number_up_to(u128::MAX, 10, word)
+        decimal(u128::MAX, word)
     }
 }
 

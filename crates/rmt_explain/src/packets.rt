@@ -26,11 +26,27 @@ pub fn explain_packets(ending: &Ending, texts: &Texts, message: &mut Message) {
         3 if part(text, column.saturating_sub(1) as usize, text.len()).is_empty() => {
             message.say("the frame has no byte: give 1 to 9,216 bytes as hexadecimal digits");
         }
-        _ => message.say("the frame has more than 18,432 digits: a frame has at most 9,216 bytes"),
+        3 => message.say("the frame has more than 18,432 digits: a frame has at most 9,216 bytes"),
+        _ => explain_change(code, message),
     }
     message.say("\n");
     if texts.packet_line.is_some() {
         quote_line(line, text, column, 1, message);
+    }
+}
+
+/// A change of entries that can't be made.
+fn explain_change(code: u64, message: &mut Message) {
+    match code {
+        5 => message.say(
+            "the line says no change: behind `+ ` stands an entry, behind `- ` the table and the key of one",
+        ),
+        6 => message.say("the table holds an entry with this key: remove that one first"),
+        7 => message.say("the table is full: it holds as many entries as its size"),
+        8 => message.say("the table holds no entry with this key"),
+        _ => message.say(
+            "the line is one addition too many: a packet text adds at most 1,048,576 entries",
+        ),
     }
 }
 

@@ -4,14 +4,14 @@ use Rattle.std.specs.List.{flat_map, list_all, AllZip}
 use Rattle.std.proofs.lemmas.Bool.{ltb-false, le-ltb, eqb-true, eq-eqb, ne_eqb, and_parts}
 use Rattle.std.proofs.lemmas.List.{take_at, drop_at, take-append-drop, length-append, length-take}
 use Rattle.rmt_bits.specs.Bits.{number_of, bytes_of}
-use Rattle.rmt_bits.proofs.ByteLaws.{AreBytes, bytes_of-number_of}
-use Rattle.rmt_image.proofs.NumberLaws.{AreBytes-drop, AreBytes-take, AreBytes-rest, length-bytes_of, number_of-bytes_of}
+use Rattle.rmt_bits.proofs.ByteLaws.{AreBytes, AreBytes-drop, AreBytes-rest, AreBytes-take, bytes_of-number_of, length-bytes_of, number_of-bytes_of}
 use Rattle.rmt_config.specs.Order.{rises_from}
 use Rattle.rmt_config.specs.Spelling.{two_bytes, four_bytes}
 use Rattle.rmt_image.specs.declared.fault.ReadFault.{ReadFault}
 use Rattle.rmt_image.specs.declared.fault.ReadFault.TheVariants.{Short, Form}
 use Rattle.rmt_image.specs.Readers.{◌>>=◌, Reader, give, behind, made, kept, where_, when, no_other, chosen, items_at, list_at, each, listed, byte_at, number_at}
 use Rattle.rmt_image.specs.ReadingNames.{bytes_at}
+use Rattle.rmt_bits.proofs.ListLaws.{text_behind}
 
 -- the value of a step that did not fail
 pub bind_ok : {A B : Type 0} (r : Result A ReadFault) (f : A → Result B ReadFault) (y : B) → (r >>= f) ≡ Ok y → (x : A) × (r ≡ Ok x) × (f x ≡ Ok y)
@@ -60,10 +60,6 @@ codec_kept {A} test {read} {spell} {P} {R} c = record {
       subst (λ (y : A × List ℕ). Took bytes (spell y.0) y.1 (R y.0 × (test y.0 ≡ true))) g.1 (record { parts = t.parts; rest_fits = t.rest_fits; fact = (t.fact, g.0) });
   again = λ x rest p. rw (c.again x rest p.0, p.1) refl;
 }
-
--- one behind the other
-text_behind : (bytes first second mid rest : List ℕ) → bytes ≡ first ++ mid → mid ≡ second ++ rest → bytes ≡ (first ++ second) ++ rest
-text_behind bytes first second mid rest e f = e ∙ ap (λ (t : List ℕ). first ++ t) f ∙ sym (append_assoc first second rest)
 
 pub codec_behind : {A B : Type 0} {first : Reader A} {second : A → Reader B} {s1 : A → List ℕ} {s2 : A → B → List ℕ} {Pa Ra : A → Type 0} {Pb Rb : A → B → Type 0}
     → Codec first s1 Pa Ra → ((a : A) → Codec (second a) (s2 a) (Pb a) (Rb a))

@@ -8,7 +8,7 @@ use Rattle.std.proofs.lemmas.List.Sums.{sum_by-cons}
 use Rattle.std.proofs.lemmas.List.Elements.{All-nil, All-cons, All-head, All-tail, All-map, All-append, All-weaker}
 use Rattle.std.proofs.lemmas.Slice.Eq.{bytes_eq-Decides}
 use Rattle.rmt_bits.proofs.AllLaws.{All-flat_map, All-from_test, All-unmap}
-use Rattle.rmt_bits.proofs.TestLaws.{split2, split3, split5, split6, split8, split11}
+use Rattle.rmt_bits.proofs.TestLaws.{split2, split3, split6, split8}
 use Rattle.rmt_ast.specs.Naming.{has_key}
 use Rattle.rmt_ast.specs.NameRules.{has_names, action_names_differ, has_fields, are_widths, has_params, has_size, may_have_ranks, table_is_formed, names_are_formed}
 use Rattle.rmt_ast.specs.declared.program.Kind.{Kind}
@@ -17,11 +17,11 @@ use Rattle.rmt_ast.specs.declared.names.Names.{Names}
 use Rattle.rmt_ast.specs.declared.names.TableName.{TableName}
 use Rattle.rmt_ast.specs.declared.names.ActionName.{ActionName}
 use Rattle.rmt_ast.specs.declared.names.RankOf.{RankOf}
-use Rattle.rmt_image.specs.Types.{Config, Stage, Unit as ChipUnit, SlotUnit, CellNumber, Memory}
+use Rattle.rmt_image.specs.Types.{Config, Stage, Unit as ChipUnit, SlotUnit, CellNumber}
 use Rattle.rmt_config.specs.declared.config.Unit.TheVariants.{Gate, Slot}
-use Rattle.rmt_config.specs.declared.config.Memory.TheVariants.{Without, Exact, Ternary}
+use Rattle.rmt_config.specs.declared.config.Memory.TheVariants.{Exact, Ternary}
 use Rattle.rmt_config.specs.LaneForm.{lane_is_formed, bits_of_lanes}
-use Rattle.rmt_config.specs.UnitForm.{guard_is_formed, may_have_memory, number_is_formed, slot_head_is_formed, memory_is_formed, slot_is_formed, unit_is_formed}
+use Rattle.rmt_config.specs.UnitForm.{guard_is_formed, number_is_formed, slot_head_is_formed, memory_is_formed, slot_is_formed, unit_is_formed}
 use Rattle.rmt_config.specs.StageForm.{stage_is_formed}
 use Rattle.rmt_config.specs.Form.{items_are_formed, names_are_fit, Formed}
 use Rattle.rmt_config.specs.Rooms.{PartAt, parts_among, parts_of}
@@ -30,6 +30,8 @@ use Rattle.rmt_config.proofs.CountsLemmas.{stages_of_items}
 use Rattle.rmt_image.specs.CountsFit.{CountsFitAction, CountsFitTable, CountsFitTables, CountsFitNames}
 use Rattle.rmt_image.proofs.Codec.{AllAlong}
 use Rattle.rmt_image.proofs.NameItems.{rank_fits, RanksKeep, TableKeeps, NamesKeep}
+use Rattle.rmt_config.proofs.SlotLaws.{key_is_short}
+use Rattle.rmt_config.proofs.SpelledParts.{units-of}
 
 -- ---- the parts of a table
 
@@ -54,15 +56,12 @@ parts_are node k place first ((Slot s) ∷ us) e =
 abbrev parts_in : ℕ → ℕ × Stage → List PartAt
 parts_in node x = parts_among node x.0 0 0 x.1.units
 
-units_formed : (s : Stage) → stage_is_formed s ≡ true → list_all unit_is_formed s.units ≡ true
-units_formed s e = (and_parts _ _ (and_parts _ _ (and_parts _ _ (and_parts _ _ (and_parts _ _ (and_parts _ _ e).0).0).0).0).0).1
-
 stages_parts : (node k : ℕ) (ss : List Stage) → list_all stage_is_formed ss ≡ true → All (λ (x : ℕ × Stage). All (IsPart node) (parts_in node x)) (enumerate_from k ss)
 stages_parts node k [] e = All-nil (λ (x : ℕ × Stage). All (IsPart node) (parts_in node x))
 stages_parts node k (s ∷ ss) e =
     let p = and_parts (stage_is_formed s) (list_all stage_is_formed ss) e in
     All-cons (λ (x : ℕ × Stage). All (IsPart node) (parts_in node x)) (k, s) (enumerate_from (k + 1) ss)
-    (parts_are node k 0 0 s.units (units_formed s p.0)) (stages_parts node (k + 1) ss p.1)
+    (parts_are node k 0 0 s.units (units-of s p.0)) (stages_parts node (k + 1) ss p.1)
 
 all_parts : (c : Config) → items_are_formed c ≡ true → (node : ℕ) → All (IsPart node) (parts_of c node)
 all_parts c items node = All-flat_map (IsPart node) (parts_in node) (enumerate_from 0 c.stages) (stages_parts node 0 c.stages (stages_of_items c items))
@@ -87,21 +86,8 @@ slot_numbers s e =
     split8 (and_parts (slot_head_is_formed s) (memory_is_formed s s.memory) e).0 in
     (ltb-true s.node 256 h.0, leb-true s.actions 14 h.2, h.7)
 
-may_have : (s : SlotUnit) (quanta : ℕ) → may_have_memory s quanta ≡ true → leb (bits_of_lanes s.keys) 640 ≡ true
-may_have s quanta e =
-    let p : (leb 1 (length s.keys) ≡ true) × (leb (bits_of_lanes s.keys) 640 ≡ true) × (leb 1 s.actions ≡ true) × (leb 1 quanta ≡ true) × (leb quanta 106 ≡ true) = split5 e in
-    p.1
-
--- a key has at most 640 bits
-key_fits : (s : SlotUnit) (m : Memory) → memory_is_formed s m ≡ true → bits_of_lanes s.keys ≤ 640
-key_fits s Without e =
-    let none : s.keys ≡ [] = nil_from_length s.keys (eqb-true (length s.keys) 0 (and_parts _ _ (and_parts _ _ e).0).1) in
-    rw none (omega arith)
-key_fits s (Exact width per quanta first_way keys records counters) e = leb-true _ _ (may_have s quanta (split11 e).0)
-key_fits s (Ternary quanta keys records counters) e = leb-true _ _ (may_have s quanta (split5 e).0)
-
 slot_key : (s : SlotUnit) → slot_is_formed s ≡ true → bits_of_lanes s.keys ≤ 640
-slot_key s e = key_fits s s.memory (and_parts (slot_head_is_formed s) (memory_is_formed s s.memory) e).1
+slot_key s e = key_is_short s s.memory (and_parts (slot_head_is_formed s) (memory_is_formed s s.memory) e).1
 
 -- ---- what a table has
 

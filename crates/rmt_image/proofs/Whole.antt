@@ -1,11 +1,10 @@
 -- The whole image, and its laws: what is read is spelled so, and what is spelled so is read.
-use Rattle.std.proofs.Common.{◌≡◌, ℕ, zero, suc, Bool, true, false, ◌&&◌, cond, ltb, eqb, List, [], ◌∷◌, ◌++◌, length, take, drop, Option, Some, None, Result, Ok, Err, refl, sym, ap, subst, ◌∙◌, append_assoc, arith, inl, inr, ◌⊎◌}
+use Rattle.std.proofs.Common.{◌≡◌, ℕ, zero, suc, Bool, true, false, ◌&&◌, cond, ltb, eqb, List, [], ◌∷◌, ◌++◌, length, drop, Option, Some, None, Result, Ok, Err, refl, sym, ap, subst, ◌∙◌, append_assoc, arith, inl, inr, ◌⊎◌}
 use Rattle.std.specs.Prelude.{codes, nat_eq, is_some, ◌||◌, ◌≢◌, IfOk}
 use Rattle.std.specs.List.{starts_with}
-use Rattle.std.specs.Cmp.Lexicographic.{same_text}
 use Rattle.std.proofs.lemmas.Bool.{eqb-true, le-leb, and_parts, and_from}
-use Rattle.std.proofs.lemmas.List.{append-nil, take-append-drop}
-use Rattle.rmt_bits.proofs.ByteLaws.{AreBytes}
+use Rattle.std.proofs.lemmas.List.{append-nil}
+use Rattle.rmt_bits.proofs.ByteLaws.{AreBytes, AreBytes-drop}
 use Rattle.rmt_bits.proofs.TestLaws.{split4, split5}
 use Rattle.rmt_ast.specs.declared.names.Names.{Names}
 use Rattle.rmt_image.specs.Types.{Config, OutHeader, ParserConfig, Stage, TailOf}
@@ -26,13 +25,13 @@ use Rattle.rmt_image.specs.declared.fault.ReadFault.TheVariants.{Short, Form}
 use Rattle.rmt_image.specs.declared.reading.config.Ports.{Ports}
 use Rattle.rmt_image.specs.Readers.{at_least}
 use Rattle.rmt_image.specs.Reading.{ports_of_parts, ports_at, config_of_parts, config_at, config_with_names, named_at, config_with_tails, tailed_at, image_at, version_told, WholeAnswers, EndAnswers, ConfigAnswers, VersionAnswers, MagicAnswers, Answers}
-use Rattle.rmt_image.proofs.NumberLaws.{AreBytes-drop}
 use Rattle.rmt_image.proofs.Codec.{Codec, codec_behind, codec_made, codec_made_known, byte_codec}
 use Rattle.rmt_image.proofs.Items.{lane_of_codec, headers_codec, parser_codec}
 use Rattle.rmt_image.proofs.Stages.{stages_codec}
 use Rattle.rmt_image.proofs.NameItems.{NamesKeep, names_codec}
 use Rattle.rmt_image.proofs.TailItems.{tails_codec, tails_keep}
 use Rattle.rmt_image.proofs.NamesCounts.{names_keep}
+use Rattle.rmt_bits.proofs.ListLaws.{begins}
 
 -- ---- the configuration
 
@@ -291,10 +290,6 @@ one_answer c = Ok c
 
 abbrev one_version : ℕ → Option ℕ
 one_version version = Some version
-
--- bytes that begin with a text
-begins : (bytes text : List ℕ) → starts_with nat_eq bytes text ≡ true → bytes ≡ text ++ drop (length text) bytes
-begins bytes text e = sym (take-append-drop (length text) bytes) ∙ ap (λ (t : List ℕ). t ++ drop (length text) bytes) (sym (same_text text (take (length text) bytes) (sym e)))
 
 -- a version that bytes begin with
 record Told (bytes : List ℕ) (version : ℕ) : Type 0 where

@@ -8,9 +8,9 @@ use Rattle.rmt_bits.proofs.AlikeLaws.{filter_alike, list_any_alike}
 use Rattle.rmt_ast.specs.declared.deps.Edge.{Edge}
 use Rattle.rmt_config.specs.Resources.{is_in}
 use Rattle.rmt_deps.specs.Edges.{GoesForward}
-use Rattle.rmt_pack.proofs.FormatLaws.{in_range}
 use Rattle.rmt_improve.specs.Orders.{is_blocked, may_be_next, next_nodes}
 use Rattle.rmt_improve.specs.Steps.{AreTaken, is_free, is_held}
+use Rattle.rmt_bits.proofs.AllLaws.{All-between}
 
 -- ---- which nodes are free
 
@@ -25,7 +25,7 @@ pub free_is : (edges : List Edge) (taken : List ℕ) (marks held : List Bool) (n
     → ((n : ℕ) → n < nodes → get_or held n false ≡ is_held edges marks n) → filter (is_free marks held) (range_with_len 0 nodes) ≡ next_nodes edges taken nodes
 free_is edges taken marks held nodes are size forward holds =
     filter_alike (is_free marks held) (may_be_next edges taken) (range_with_len 0 nodes)
-    (in_range (λ n. is_free marks held n ≡ may_be_next edges taken n) 0 nodes
+    (All-between (λ n. is_free marks held n ≡ may_be_next edges taken n) 0 nodes
     (λ n low high.
     (ap (λ b. not b && not (get_or held n false)) (are n (omega arith))
     ∙ ap (λ b. not (is_in taken n) && not b) (holds n (omega arith) ∙ held_is edges taken marks n are (subst (λ m. All (GoesForward m) edges) (sym size) forward)))))

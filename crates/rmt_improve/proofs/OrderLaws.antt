@@ -19,11 +19,12 @@ use Rattle.rmt_config.specs.Resources.{is_in}
 use Rattle.rmt_deps.specs.Edges.{GoesForward, GoForward}
 use Rattle.rmt_deps.specs.Levels.{all_edges}
 use Rattle.rmt_deps.proofs.LevelLaws.{edges_forward}
-use Rattle.rmt_pack.proofs.FormatLaws.{in_range, of_range}
+use Rattle.rmt_pack.proofs.FormatLaws.{of_range}
 use Rattle.rmt_place.specs.Placing.{InOrder, IsGoodOrder}
 use Rattle.rmt_place.proofs.LeastLaws.{contains_in, in_contains}
 use Rattle.rmt_improve.specs.Orders.{by_weight, exchanged, heaviest, is_blocked, is_heavier, joins, may_be_next, next_nodes}
 use Rattle.rmt_improve.proofs.BestLaws.{best-holds}
+use Rattle.rmt_bits.proofs.AllLaws.{All-between}
 
 -- ---- one more node behind others
 
@@ -156,7 +157,7 @@ front_of edges weights (suc k) forward le =
     let m = heavy.0 in
     let is : by_weight edges weights (suc k) ≡ taken ++ m ∷ [] = ap (λ (l : List ℕ). taken ++ l) heavy.1 in
     let next = Contains-unfilter (may_be_next edges taken) (range_with_len 0 nodes) m heavy.2 in
-    let below : m < nodes = All-contains (λ j. j < nodes) (range_with_len 0 nodes) m (in_range (λ j. j < nodes) 0 nodes (λ j low high. omega arith)) next.0 in (
+    let below : m < nodes = All-contains (λ j. j < nodes) (range_with_len 0 nodes) m (All-between (λ j. j < nodes) 0 nodes (λ j low high. omega arith)) next.0 in (
       subst (IsFront edges nodes) (sym is) (front_more edges nodes taken m before.0 below next.1),
       (let long : length (by_weight edges weights (suc k)) ≡ length (taken ++ m ∷ []) = ap length is in omega (arith, long, length-append taken (m ∷ []), size)),
     )

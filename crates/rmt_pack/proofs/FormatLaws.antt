@@ -13,7 +13,7 @@ use Rattle.std.proofs.lemmas.List.MinMax.{IsFirstBest-from_best_of}
 use Rattle.std.proofs.lemmas.Bool.{leb-true, le-leb}
 use Rattle.std.proofs.lemmas.Bool.Decides.{nat_tests}
 use Rattle.rmt_bits.proofs.ListLaws.{range_more}
-use Rattle.rmt_bits.proofs.AllLaws.{All-parts, All-flat_map, All-unmap, All-unfilter}
+use Rattle.rmt_bits.proofs.AllLaws.{All-parts, All-flat_map, All-unmap, All-unfilter, All-between}
 use Rattle.rmt_config.specs.Shapes.{divided_up, record_width, records_a_row, record_units}
 use Rattle.rmt_pack.specs.declared.format.Format.{Format}
 use Rattle.rmt_pack.specs.declared.format.Need.{Need}
@@ -123,11 +123,6 @@ of_range P a m k low high all =
     let there : k - a < length (range_with_len a m) = omega (arith, length-range_with_len a m) in
     subst P at (All-get_or P (range_with_len a m) (k - a) 0 there all)
 
-pub in_range : (P : ℕ → Type 0) (a m : ℕ) → ((k : ℕ) → a ≤ k → k < a + m → P k) → All P (range_with_len a m)
-in_range P a zero each = All-nil P
-in_range P a (suc m) each =
-    All-cons P a (range_with_len (a + 1) m) (each a (omega arith) (omega arith)) (in_range P (a + 1) m (λ k low high. each k (omega arith) (omega arith)))
-
 -- what holds of each item of the list of formats holds of each format
 pub of_formats : (P : Format → Type 0) (n : Need) → All P (exact_formats n) → (f : Format) → IsExactFormat n f → P f
 of_formats P n all f is =
@@ -144,9 +139,9 @@ pub formats_are : (n : Need) → All (IsExactFormat n) (exact_formats n)
 formats_are n =
     filtered (IsExactFormat n) is_in_stage _
     (All-flat_map (λ f. is_in_stage f ≡ true → IsExactFormat n f) (layouts_of_width n) (range_with_len 1 8)
-    (in_range (λ k. All (λ f. is_in_stage f ≡ true → IsExactFormat n f) (layouts_of_width n k)) 1 8 (λ k low high.
+    (All-between (λ k. All (λ f. is_in_stage f ≡ true → IsExactFormat n f) (layouts_of_width n k)) 1 8 (λ k low high.
     All-map (λ f. is_in_stage f ≡ true → IsExactFormat n f) (exact_layout n k) (range_with_len 1 (most_cells n k))
-    (in_range (λ p. is_in_stage (exact_layout n k p) ≡ true → IsExactFormat n (exact_layout n k p)) 1 (most_cells n k) (λ p some few passes. record {
+    (All-between (λ p. is_in_stage (exact_layout n k p) ≡ true → IsExactFormat n (exact_layout n k p)) 1 (most_cells n k) (λ p some few passes. record {
       has_width = low;
       width = omega arith;
       has_cells = some;

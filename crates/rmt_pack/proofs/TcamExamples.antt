@@ -1,6 +1,7 @@
 -- Ternary keys that are worked by hand.
 use Rattle.std.proofs.Common.{◌≡◌, [], ◌∷◌, refl}
-use Rattle.rmt_pack.specs.Tcam.{side_by_side, joined_words}
+use Rattle.rmt_config.specs.Rooms.{side_by_side}
+use Rattle.rmt_pack.specs.Tcam.{joined_words}
 
 -- fields of 8 and 4 bits: the first is higher
 two_fields : side_by_side (8 ∷ 4 ∷ []) (0xab ∷ 0x5 ∷ []) ≡ 0xab5

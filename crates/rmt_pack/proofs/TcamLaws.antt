@@ -13,7 +13,8 @@ use Rattle.rmt_pack.specs.declared.tcam.Bits.{Bits}
 use Rattle.rmt_ast.specs.declared.program.Test.{Test}
 use Rattle.rmt_pack.specs.declared.tcam.TcamWord.{TcamWord}
 use Rattle.rmt_ast.specs.WellFormed.{Fits, IsTest}
-use Rattle.rmt_pack.specs.Tcam.{side_by_side, joined_words, Holds, IsWords, FillsRow, MatchesKey, Passes}
+use Rattle.rmt_config.specs.Rooms.{side_by_side}
+use Rattle.rmt_pack.specs.Tcam.{joined_words, Holds, IsWords, FillsRow, MatchesKey, Passes}
 
 -- a word more stands above the others
 pub joined_words-push : (ws : List ℕ) (w : ℕ) → joined_words (ws ++ w ∷ []) ≡ joined_words ws + w * 2 ^ (40 * length ws)

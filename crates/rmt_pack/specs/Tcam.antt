@@ -7,12 +7,6 @@ use Rattle.rmt_pack.specs.declared.tcam.TcamWord.{TcamWord}
 use Rattle.rmt_config.specs.Shapes.{divided_up}
 use Rattle.rmt_pack.specs.declared.tcam.Bits.{Bits}
 
--- values of these widths as one number, the first highest
-abbrev pub side_by_side : List ℕ → List ℕ → ℕ
-side_by_side [] vs = 0
-side_by_side (w ∷ ws) [] = 0
-side_by_side (w ∷ ws) (v ∷ vs) = v * 2 ^ sum ws + side_by_side ws vs
-
 -- words of 40 bits as one number, the first lowest
 abbrev pub joined_words : List ℕ → ℕ
 joined_words [] = 0

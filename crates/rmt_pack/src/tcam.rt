@@ -5,7 +5,8 @@ ghost use Rattle.std.specs.List.{AllZip};
 ghost use Rattle.rmt_ast.specs.declared.program.Test.{Test};
 ghost use Rattle.rmt_ast.specs.WellFormed.{Fits, IsTest};
 ghost use Rattle.rmt_pack.specs.declared.tcam.TcamWord.{TcamWord};
-ghost use Rattle.rmt_pack.specs.Tcam.{side_by_side, Holds, IsWords, FillsRow, MatchesKey, Passes};
+ghost use Rattle.rmt_config.specs.Rooms.{side_by_side};
+ghost use Rattle.rmt_pack.specs.Tcam.{Holds, IsWords, FillsRow, MatchesKey, Passes};
 
 use crate::fault::PackFault;
 use rmt_ast::program::Test;

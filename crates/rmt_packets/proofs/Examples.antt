@@ -3,7 +3,9 @@ use Rattle.std.specs.Prelude.{◌≡◌, [], ◌∷◌, map, Some, None, Ok, Err
 use Rattle.std.specs.Fmt.{digits}
 use Rattle.hex.specs.Hex.{decode_pairs, encode_with}
 use Rattle.rmt_bits.specs.declared.answer.Verdict.TheVariants.{Sent, Short}
+use Rattle.rmt_packets.specs.declared.line_kind.LineKind.TheVariants.{Addition, Removal, Commit, Packet}
 use Rattle.rmt_packets.specs.AnswerLine.{answer_line}
+use Rattle.rmt_packets.specs.LineKinds.{kind_of}
 use Rattle.rmt_packets.specs.PacketText.{packet_of, packets_of}
 use Rattle.rmt_packets.specs.Pieces.{ended_lines, open_line}
 
@@ -58,3 +60,11 @@ nothing_sent = refl
 dropped : answer_line 2 (record { verdict = Short; bytes = []; hits = [] }) ≡ codes "2 drop short\n"
 unfolding digits encode_with
 dropped = refl
+
+-- changes and a commit
+changes : map kind_of (codes "+ b 7 go 6" ∷ codes "- b 7" ∷ codes "commit" ∷ codes "+ " ∷ codes "- " ∷ []) ≡ Addition ∷ Removal ∷ Commit ∷ Addition ∷ Removal ∷ []
+changes = refl
+
+-- lines on which a packet is to stand: a sign alone, one without a space behind it, one behind a space, and a commit with more
+no_changes : map kind_of (codes "0 07" ∷ codes "+" ∷ codes "-" ∷ codes "+b 7 go 6" ∷ codes " - b 7" ∷ codes "commit " ∷ codes "commi" ∷ []) ≡ Packet ∷ Packet ∷ Packet ∷ Packet ∷ Packet ∷ Packet ∷ Packet ∷ []
+no_changes = refl

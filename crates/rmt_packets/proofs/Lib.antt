@@ -1,6 +1,7 @@
 pub mod Cuts
 pub mod Examples
 pub mod Fronts
+pub mod KindLaws
 pub mod Packet
 pub mod Readings
 pub mod RoundTrip

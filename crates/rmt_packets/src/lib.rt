@@ -2,6 +2,7 @@
 #![tactic(auto)]
 
 pub mod answer_line;
+pub mod line_kind;
 pub mod lines;
 pub mod packet_line;
 pub mod pieces;

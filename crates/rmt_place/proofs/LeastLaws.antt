@@ -4,16 +4,16 @@ use Rattle.std.specs.List.{All, Contains, flat_map, fold, range_with_len}
 use Rattle.std.specs.Prelude.{slice_index}
 use Rattle.std.proofs.Math.ListN.{get_or-append}
 use Rattle.std.proofs.Math.Seq.{get_or-append_seam}
-use Rattle.std.proofs.lemmas.Bool.{cases_lt, eqb-true, eq-eqb, or_cases, false≢true}
+use Rattle.std.proofs.lemmas.Bool.{cases_lt, eqb-true, eq-eqb, or_cases, false≢true, or_right}
 use Rattle.std.proofs.lemmas.List.Elements.{All-nil, All-map, All-contains, All-from_get_or, Contains-get_or, Contains-append_right}
-use Rattle.rmt_bits.proofs.AllLaws.{All-flat_map, All-parts, All-unfilter, All-unmap}
+use Rattle.rmt_bits.proofs.AllLaws.{All-flat_map, All-parts, All-unfilter, All-unmap, All-between}
 use Rattle.rmt_bits.proofs.ListLaws.{flat_map-none}
 pub use Rattle.rmt_bits.proofs.MostLaws.{greatest-le, items-le, start-le}
 use Rattle.rmt_ast.specs.declared.deps.Edge.{Edge}
 use Rattle.rmt_config.specs.Resources.{greatest_by, is_in}
 use Rattle.rmt_pack.specs.declared.placement.Part.{Part}
 use Rattle.rmt_pack.specs.Starts.{distance, stages_of, KeepDistances}
-use Rattle.rmt_pack.proofs.FormatLaws.{filtered, of_range, in_range}
+use Rattle.rmt_pack.proofs.FormatLaws.{filtered, of_range}
 use Rattle.rmt_place.specs.Starting.{asked_by, next_start, stages_in, starts_behind, starts_of}
 use Rattle.rmt_place.proofs.StartLaws.{starts_until, starts_more}
 
@@ -26,17 +26,13 @@ in_contains (m ∷ ns) n is = elim (or_cases (eqb m n) (is_in ns n) is) [
   | inr later ↦ Contains-append_right (m ∷ []) ns n (in_contains ns n later)
 ]
 
-or_later : (b r : Bool) → r ≡ true → (b || r) ≡ true
-or_later true r is = refl
-or_later false r is = is
-
 pub contains_in : (ns : List ℕ) (n : ℕ) → Contains ns n → is_in ns n ≡ true
 contains_in ns n c = in_at ns n c.0 c.1 c.2
   where
     in_at : (ms : List ℕ) (m k : ℕ) → k < length ms → get_or ms k m ≡ m → is_in ms m ≡ true
     in_at [] m k lt is = absurd (omega arith)
     in_at (x ∷ ms) m zero lt is = ap (λ b. b || is_in ms m) (eq-eqb x m is)
-    in_at (x ∷ ms) m (suc k) lt is = or_later (eqb x m) (is_in ms m) (in_at ms m k (omega arith) is)
+    in_at (x ∷ ms) m (suc k) lt is = or_right (eqb x m) (is_in ms m) (in_at ms m k (omega arith) is)
 
 -- ---- starts of the first stages
 
@@ -160,7 +156,7 @@ next-le edges parts starts others k keep size below earlier =
         by_stage true is =
             All-map (λ s. s ≤ get_or others k 0) (λ i. slice_index starts i + distance e.kind) (filter (is_in (stages_of parts e.from)) (range_with_len 0 (length starts)))
             (filtered (λ i. get_or starts i 0 + distance e.kind ≤ get_or others k 0) (is_in (stages_of parts e.from)) (range_with_len 0 (length starts))
-            (in_range (λ i. is_in (stages_of parts e.from) i ≡ true → get_or starts i 0 + distance e.kind ≤ get_or others k 0) 0 (length starts)
+            (All-between (λ i. is_in (stages_of parts e.from) i ≡ true → get_or starts i 0 + distance e.kind ≤ get_or others k 0) 0 (length starts)
             (λ i low high from.
             (let at : length starts ≡ k = size in
             let to : Contains (stages_of parts e.to) k = subst (λ (j : ℕ). Contains (stages_of parts e.to) j) at (in_contains (stages_of parts e.to) (length starts) is) in

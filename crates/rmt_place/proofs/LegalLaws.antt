@@ -15,10 +15,10 @@ use Rattle.rmt_pack.specs.declared.format.Format.{Format}
 use Rattle.rmt_pack.specs.declared.placement.Part.{Part}
 use Rattle.rmt_pack.specs.Formats.{memory_format, no_memory}
 use Rattle.rmt_pack.specs.Placements.{quanta_in, quanta_of, table_need}
-use Rattle.rmt_pack.proofs.FormatLaws.{in_range}
 use Rattle.rmt_place.specs.declared.demand.Demand.{Demand}
 use Rattle.rmt_place.specs.Needs.{Standing, demand_at, demands_of, keeps_limits, nothing, table_demand, what_demands}
 use Rattle.rmt_place.specs.Placing.{beside, fitting, spread, standing_in, taken_part}
+use Rattle.rmt_bits.proofs.AllLaws.{All-between}
 
 -- ---- sums over nodes
 
@@ -228,7 +228,7 @@ found-le p most (q ∷ qs) all = by_head (p q) (All-head (λ q. q ≤ most) q qs
 pub fitting-le : (xs : List Standing) (d : Demand) (left : ℕ) → fitting xs d left ≤ left
 fitting-le xs d left =
     found-le (λ q. keeps_limits (beside xs d q)) left (map (λ i. left - i) (range_with_len 0 left))
-    (All-map (λ q. q ≤ left) (λ i. left - i) (range_with_len 0 left) (in_range (λ i. left - i ≤ left) 0 left (λ i low high. omega arith)))
+    (All-map (λ q. q ≤ left) (λ i. left - i) (range_with_len 0 left) (All-between (λ i. left - i ≤ left) 0 left (λ i low high. omega arith)))
 
 taken_quanta : (n k taken : ℕ) → quanta_of (taken_part n k taken) n ≡ taken
 taken_quanta n k taken = elim (cases_eq taken 0) [

@@ -3,18 +3,14 @@ use Rattle.std.proofs.Common.{◌≡◌, ℕ, zero, suc, ◌+◌, ◌<◌, ◌�
 use Rattle.std.specs.List.{All, AllPairs, flat_map, range_with_len}
 use Rattle.std.proofs.lemmas.Bool.{eqb-true}
 use Rattle.std.proofs.lemmas.List.Elements.{All-nil, All-append}
-use Rattle.std.proofs.lemmas.List.Kept.{AllPairs-cons, AllPairs-filter}
+use Rattle.std.proofs.lemmas.List.Kept.{AllPairs-filter}
 use Rattle.rmt_deps.proofs.EdgeLaws.{numbers_more}
-use Rattle.rmt_pack.proofs.FormatLaws.{filtered, in_range}
+use Rattle.rmt_pack.proofs.FormatLaws.{filtered}
 use Rattle.rmt_place.specs.Placing.{order_of}
-use Rattle.rmt_bits.proofs.PairLaws.{AllPairs-append, AllPairs-none}
+use Rattle.rmt_bits.proofs.PairLaws.{AllPairs-append, AllPairs-none, range_rises}
+use Rattle.rmt_bits.proofs.AllLaws.{All-between}
 
 -- ---- pairs of a list
-
-range_rises : (a m : ℕ) → AllPairs (λ x y. x < y) (range_with_len a m)
-range_rises a zero = AllPairs-none (λ x y. x < y)
-range_rises a (suc m) =
-    AllPairs-cons (λ x y. x < y) a (range_with_len (a + 1) m) (in_range (λ k. a < k) (a + 1) m (λ k low high. omega arith)) (range_rises (a + 1) m)
 
 -- ---- the order
 
@@ -29,7 +25,7 @@ of_level levels level = filter (λ n. eqb (get_or levels n 0) level) (range_with
 level_is : (levels : List ℕ) (level : ℕ) → All (λ n. get_or levels n 0 ≡ level) (of_level levels level)
 level_is levels level =
     filtered (λ n. get_or levels n 0 ≡ level) (λ n. eqb (get_or levels n 0) level) (range_with_len 0 (length levels))
-    (in_range (λ n. eqb (get_or levels n 0) level ≡ true → get_or levels n 0 ≡ level) 0 (length levels) (λ n low high is. eqb-true (get_or levels n 0) level is))
+    (All-between (λ n. eqb (get_or levels n 0) level ≡ true → get_or levels n 0 ≡ level) 0 (length levels) (λ n low high is. eqb-true (get_or levels n 0) level is))
 
 level_goes : (levels : List ℕ) (level : ℕ) → AllPairs (Goes levels) (of_level levels level)
 level_goes levels level i j d lt below =

@@ -3,10 +3,10 @@ use Rattle.std.proofs.Common.{◌≡◌, ℕ, ◌<◌, List, ◌++◌, length, g
 use Rattle.std.specs.List.{All, fold, range_with_len}
 use Rattle.std.proofs.lemmas.List.Elements.{filter-append}
 use Rattle.std.proofs.lemmas.List.Sums.{fold-append}
-use Rattle.rmt_bits.proofs.AllLaws.{All-flat_map}
+use Rattle.rmt_bits.proofs.AllLaws.{All-flat_map, All-between}
 use Rattle.rmt_ast.specs.declared.deps.Edge.{Edge}
 use Rattle.rmt_pack.specs.declared.placement.Part.{Part}
-use Rattle.rmt_pack.proofs.FormatLaws.{filtered, in_range}
+use Rattle.rmt_pack.proofs.FormatLaws.{filtered}
 use Rattle.rmt_place.specs.Placing.{allowed_by, earliest_stage, order_of}
 
 -- ---- the earliest stage
@@ -30,8 +30,8 @@ behind_both parts n field word =
 pub order_nodes : (levels : List ℕ) → All (λ n. n < length levels) (order_of levels)
 order_nodes levels =
     All-flat_map (λ n. n < length levels) (λ level. filter (λ n. eqb (get_or levels n 0) level) (range_with_len 0 (length levels))) (range_with_len 0 (length levels))
-    (in_range (λ level. All (λ n. n < length levels) (filter (λ n. eqb (get_or levels n 0) level) (range_with_len 0 (length levels)))) 0 (length levels)
+    (All-between (λ level. All (λ n. n < length levels) (filter (λ n. eqb (get_or levels n 0) level) (range_with_len 0 (length levels)))) 0 (length levels)
     (λ level low high. filtered (λ n. n < length levels) (λ n. eqb (get_or levels n 0) level) (range_with_len 0 (length levels))
-    (in_range (λ n. eqb (get_or levels n 0) level ≡ true → n < length levels) 0 (length levels) (λ n more few is. omega arith))))
+    (All-between (λ n. eqb (get_or levels n 0) level ≡ true → n < length levels) 0 (length levels) (λ n more few is. omega arith))))
 
 -- ---- one node

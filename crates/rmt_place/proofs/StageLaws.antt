@@ -5,7 +5,6 @@ use Rattle.std.proofs.lemmas.Bool.{leb-true, and_parts, cases_eq, ne_eqb, eq-eqb
 use Rattle.std.proofs.lemmas.List.{append-nil, map-append, get_or-set_same, get_or-set_other, length-set}
 use Rattle.std.proofs.lemmas.List.Elements.{filter-append}
 use Rattle.std.proofs.lemmas.List.Sums.{fold-append}
-use Rattle.rmt_bits.proofs.ListLaws.{range_more}
 use Rattle.rmt_config.specs.declared.limits.LimitHit.{LimitHit}
 use Rattle.rmt_pack.specs.declared.placement.Part.{Part}
 use Rattle.rmt_place.specs.declared.demand.Demand.{Demand}
@@ -16,13 +15,6 @@ use Rattle.rmt_place.specs.Steps.{Holds, HoldStages, AreLast, are_kept}
 use Rattle.rmt_place.proofs.LoadLaws.{with_one}
 
 -- ---- the order of nodes
-
--- one number more that passes or not
-pub filter_more : (p : ℕ → Bool) (n : ℕ) → filter p (range_with_len 0 (n + 1)) ≡ filter p (range_with_len 0 n) ++ cond (p n) (n ∷ []) []
-filter_more p n =
-    ap (filter p) (range_more 0 n)
-    ∙ (filter-append p (range_with_len 0 n) ((0 + n) ∷ [])
-    ∙ (let e : 0 + n ≡ n = omega arith in ap (λ m. filter p (range_with_len 0 n) ++ cond (p m) (m ∷ []) []) e))
 
 -- ---- one part more
 

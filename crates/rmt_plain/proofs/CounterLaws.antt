@@ -1,35 +1,24 @@
 -- Counters take a number more.
-use Rattle.std.proofs.Common.{◌≡◌, ℕ, ◌+◌, ◌%◌, ◌^◌, ◌++◌, Bool, true, false, true≢false, ◌==◌, cond, List, [], ◌∷◌, map, refl, sym, ap, subst, ◌∙◌, tests, arith}
-use Rattle.std.specs.Prelude.{All, Contains, filter, sum_by}
+use Rattle.std.proofs.Common.{◌≡◌, ℕ, ◌++◌, Bool, true, false, true≢false, ◌==◌, cond, List, [], ◌∷◌, map, refl, sym, ap, subst, ◌∙◌, tests, arith}
+use Rattle.std.specs.Prelude.{All, Contains}
 use Rattle.std.specs.List.{list_any}
 use Rattle.std.proofs.lemmas.Bool.{eqb-true}
 use Rattle.std.proofs.lemmas.List.Elements.{All-head, All-tail, All-nil, All-cons, All-contains_itself, All-weaker, Contains-append_left}
-use Rattle.std.proofs.lemmas.List.Sums.{sum_by-cons}
-use Rattle.rmt_bits.specs.declared.answer.Count.{Count}
 use Rattle.rmt_bits.specs.Counts.{Hit, count_for, counts, in_order}
 use Rattle.rmt_bits.specs.Counting.{hits_among, with_count}
 use Rattle.rmt_bits.proofs.MemberLaws.{list_any-Contains}
 use Rattle.rmt_bits.proofs.AlikeLaws.{map_alike}
-use Rattle.rmt_bits.proofs.OrderLaws.{All-with_number, counts-with_count, in_order_push}
+use Rattle.rmt_bits.proofs.OrderLaws.{All-with_number, counts-with_count, in_order_push, count_parts}
 use Rattle.rmt_plain.specs.Counters.{IsThereIfHit}
+use Rattle.rmt_bits.proofs.ListLaws.{sum_by-filter_all}
 
 All-in_order : (P : ℕ → Type 0) (ns : List ℕ) → All P ns → All P (in_order ns)
 All-in_order P [] all = All-nil P
 All-in_order P (n ∷ ns) all = All-with_number P n (in_order ns) (All-head P n ns all) (All-in_order P ns (All-tail P n ns all))
 
--- the items that a filter drops add nothing
-sum_kept : {X : Type 0} (f : X → ℕ) (test : X → Bool) (xs : List X) → All (λ x. test x ≡ false → f x ≡ 0) xs → sum_by f (filter test xs) ≡ sum_by f xs
-sum_kept f test [] none = refl
-sum_kept f test (x ∷ xs) none = by (sum_kept f test xs (All-tail (λ y. test y ≡ false → f y ≡ 0) x xs none)) (test x) refl
-  where
-    by : sum_by f (filter test xs) ≡ sum_by f xs → (b : Bool) → test x ≡ b → sum_by f (cond b (x ∷ filter test xs) (filter test xs)) ≡ sum_by f (x ∷ xs)
-    by rest true e = sum_by-cons f x (filter test xs) ∙ ap (λ n. f x + n) rest ∙ sym (sum_by-cons f x xs)
-    by rest false e =
-        rest ∙ (let zero_more : sum_by f xs ≡ f x + sum_by f xs = omega (arith, All-head (λ y. test y ≡ false → f y ≡ 0) x xs none e) in zero_more) ∙ sym (sum_by-cons f x xs)
-
 -- a number that is among others if it was hit: the hits of the others are all that count
 among_kept : (numbers : List ℕ) (hits : List Hit) (m : ℕ) → IsThereIfHit numbers hits m → count_for (hits_among numbers hits) m ≡ count_for hits m
-among_kept numbers hits m there = parts (sum_kept _ test hits (off (λ h. 1))) (sum_kept _ test hits (off (λ h. h.bytes)))
+among_kept numbers hits m there = count_parts m (sum_by-filter_all _ test hits (off (λ h. 1))) (sum_by-filter_all _ test hits (off (λ h. h.bytes)))
   where
     test : Hit → Bool
     test h = list_any (λ k. k == h.number) numbers
@@ -46,9 +35,6 @@ among_kept numbers hits m there = parts (sum_kept _ test hits (off (λ h. 1))) (
             by : (b : Bool) → (h.number == m) ≡ b → cond b (f h) 0 ≡ 0
             by true e = let is = eqb-true h.number m e in absurd (true≢false (sym (passes h (subst (Contains numbers) (sym is) (known is))) ∙ out))
             by false e = refl
-
-    parts : {x y z w : ℕ} → x ≡ z → y ≡ w → ◌≡◌ {A = Count} (record { entry = m; packets = x % 2 ^ 48; bytes = y % 2 ^ 64 }) (record { entry = m; packets = z % 2 ^ 48; bytes = w % 2 ^ 64 })
-    parts {x} {y} {z} {w} e f = ap (λ (v : ℕ). record { entry = m; packets = v % 2 ^ 48; bytes = y % 2 ^ 64 }) e ∙ ap (λ (v : ℕ). record { entry = m; packets = z % 2 ^ 48; bytes = v % 2 ^ 64 }) f
 
 -- a number that others have is there
 pub there_of_all : (numbers : List ℕ) (hits : List Hit) → All (IsThereIfHit numbers hits) numbers

@@ -1,19 +1,21 @@
 -- A plain run over packets and commits: each packet and each commit is one step more.
-use Rattle.std.proofs.Common.{◌≡◌, ℕ, zero, suc, ◌+◌, ◌<◌, ◌≤◌, ◌++◌, max, inl, inr, Bool, true, false, cond, List, [], ◌∷◌, map, refl, sym, ap, subst, ◌∙◌, append-nil, arith}
-use Rattle.std.specs.Prelude.{All, Contains, fold, slice_set}
+use Rattle.std.proofs.Common.{◌≡◌, ℕ, zero, suc, ◌+◌, ◌<◌, ◌≤◌, ◌++◌, inl, inr, List, [], ◌∷◌, map, refl, sym, ap, subst, ◌∙◌, append-nil, arith}
+use Rattle.std.specs.Prelude.{All, Contains, slice_set}
 use Rattle.std.specs.List.{flat_map}
 use Rattle.std.proofs.lemmas.List.{map-append}
-use Rattle.std.proofs.lemmas.List.Elements.{All-append, All-cons, All-contains, All-contains_itself, All-head, All-map, All-nil, All-set, All-tail, All-weaker}
+use Rattle.std.proofs.lemmas.List.Elements.{All-append, All-cons, All-contains, All-contains_itself, All-map, All-nil, All-set, All-weaker}
 use Rattle.rmt_bits.specs.Packet.{Packet}
 use Rattle.rmt_bits.specs.declared.answer.Answer.{Answer}
 use Rattle.rmt_bits.proofs.AllLaws.{All-flat_map, All-left, All-parts, All-right, All-unmap}
 use Rattle.rmt_ast.specs.declared.program.Program.{Program}
 use Rattle.rmt_ast.specs.declared.entry.Entry.{Entry}
 use Rattle.rmt_ast.specs.Answers.{answer_of, entry_numbers}
-use Rattle.rmt_ast.specs.Changes.{Adds, Change, EntryKey, Installed, Removes, at_first, changed, committed, is_keyed_by, list_of, next_number, without}
+use Rattle.rmt_ast.specs.Changes.{Adds, Change, Installed, Removes, at_first, changed, committed, list_of, next_number, without}
 use Rattle.rmt_ast.specs.Events.{Arrives, Commits, Event, Met, answers_of_events, counts_of_events, lists_from, met_from}
 use Rattle.rmt_plain.specs.declared.plain.Plain.{Plain}
 use Rattle.rmt_plain.specs.Stands.{FollowOn, HasMet, HasTaken, StaysOrIsNew, Stands, counts_met, entries_after, entries_in, meets, numbers_in}
+use Rattle.rmt_bits.proofs.MostLaws.{fold_max}
+use Rattle.rmt_ast.proofs.EntryLaws.{all_without}
 
 -- ---- events behind others, and one more packet or commit
 
@@ -92,21 +94,13 @@ module _ (P : Entry → Type 0) where
   list_entries (es ∷ lists) zero all = All-left P es (entries_in lists) all
   list_entries (es ∷ lists) (suc i) all = list_entries lists i (All-right P es (entries_in lists) all)
 
-  without_entries : (key : EntryKey) (es : List Entry) → All P es → All P (without key es)
-  without_entries key [] all = all
-  without_entries key (e ∷ es) all = by (is_keyed_by key e) (without_entries key es (All-tail P e es all))
-    where
-      by : (b : Bool) → All P (without key es) → All P (cond b es (e ∷ without key es))
-      by true rest = All-tail P e es all
-      by false rest = All-cons P e (without key es) (All-head P e es all) rest
-
   -- what holds of the entries, and of one of the next number, holds behind a change
   changed_entries : (s : Installed) (change : Change) → All P (entries_in s.lists) → ((e : Entry) → e.number ≡ s.next → P e) → All P (entries_in (changed s change).lists)
   changed_entries s (Adds e) all next =
       let own : Entry = record e { number = s.next } in
       set_entries s.lists e.table (list_of s.lists e.table ++ own ∷ []) all
       (All-append P (list_of s.lists e.table) (own ∷ []) (list_entries s.lists e.table all) (All-cons P own [] (next own refl) (All-nil P)))
-  changed_entries s (Removes node key) all next = set_entries s.lists node (without key (list_of s.lists node)) all (without_entries key (list_of s.lists node) (list_entries s.lists node all))
+  changed_entries s (Removes node key) all next = set_entries s.lists node (without key (list_of s.lists node)) all (all_without P key (list_of s.lists node) (list_entries s.lists node all))
 
 next_changed : (s : Installed) (change : Change) → s.next ≤ (changed s change).next
 next_changed s (Adds e) = omega arith
@@ -130,7 +124,7 @@ IsBelow n e = e.number < n
 changed_below : (s : Installed) (change : Change) → All (IsBelow s.next) (entries_in s.lists) → All (IsBelow (changed s change).next) (entries_in (changed s change).lists)
 changed_below s (Adds e) all =
     changed_entries (IsBelow (s.next + 1)) s (Adds e) (All-weaker (IsBelow s.next) (IsBelow (s.next + 1)) (λ x lt. omega (arith, lt)) (entries_in s.lists) all) (λ x is. omega (arith, is))
-changed_below s (Removes node key) all = set_entries (IsBelow s.next) s.lists node (without key (list_of s.lists node)) all (without_entries (IsBelow s.next) key (list_of s.lists node) (list_entries (IsBelow s.next) s.lists node all))
+changed_below s (Removes node key) all = set_entries (IsBelow s.next) s.lists node (without key (list_of s.lists node)) all (all_without (IsBelow s.next) key (list_of s.lists node) (list_entries (IsBelow s.next) s.lists node all))
 
 committed_below : (s : Installed) (changes : List Change) → All (IsBelow s.next) (entries_in s.lists) → All (IsBelow (committed s changes).next) (entries_in (committed s changes).lists)
 committed_below s [] all = all
@@ -163,17 +157,6 @@ below_after s ((Commits changes) ∷ events) all =
     All-append (λ n. n < last) (numbers_in s.lists) (flat_map numbers_in (lists_from later events))
     (All-weaker (λ n. n < s.next) (λ n. n < last) (λ n lt. omega (arith, lt, one, rest)) (numbers_in s.lists) (numbers_all (λ n. n < s.next) s.lists all))
     (below_after later events (committed_below s changes all))
-
--- the first next number is above those of all entries
-fold_max : (ns : List ℕ) (a : ℕ) → (a ≤ fold (λ next n. max next (n + 1)) a ns) × All (λ n. n < fold (λ next n. max next (n + 1)) a ns) ns
-fold_max [] a = (omega arith, All-nil (λ n. n < a))
-fold_max (n ∷ ns) a =
-    let rest = fold_max ns (max a (n + 1)) in
-    let most = fold (λ next m. max next (m + 1)) (max a (n + 1)) ns in
-    let le : max a (n + 1) ≤ most = rest.0 in (
-      omega (arith, le),
-      All-cons (λ m. m < most) n ns (omega (arith, le)) rest.1,
-    )
 
 first_below : (lists : List (List Entry)) → All (IsBelow (next_number lists)) (entries_in lists)
 first_below lists = entries_all (λ n. n < next_number lists) lists (fold_max (numbers_in lists) 0).1

@@ -2,19 +2,15 @@
 use Rattle.std.proofs.Common.{◌≡◌, ℕ, zero, suc, ◌+◌, List, [], ◌∷◌, Option, Some, None, length, replicate, refl, ap, subst, arith}
 use Rattle.std.specs.Prelude.{All, Contains, slice_get, slice_index, unwrap_or, option_map, ◌==◌}
 use Rattle.std.proofs.lemmas.Bool.{cond_both}
-use Rattle.std.proofs.lemmas.Option.{none-some}
-use Rattle.std.proofs.lemmas.List.Elements.{All-nil, All-cons, All-append, All-contains, All-contains_itself, Contains-append_left, Contains-append_right}
+use Rattle.std.proofs.lemmas.List.Elements.{All-nil, All-cons, All-append, All-contains, Contains-append_left, Contains-append_right}
 use Rattle.rmt_bits.specs.Packet.{Packet}
 use Rattle.rmt_bits.specs.Counts.{Hit}
 use Rattle.rmt_bits.specs.declared.answer.Answer.{Answer}
-use Rattle.rmt_bits.proofs.AllLaws.{All-find}
 use Rattle.rmt_bits.proofs.MemberLaws.{Contains-map, Contains-unmap}
-use Rattle.rmt_ast.specs.declared.program.Kind.{Kind}
 use Rattle.rmt_ast.specs.declared.program.Node.{Node}
 use Rattle.rmt_ast.specs.declared.program.Program.{Program}
 use Rattle.rmt_ast.specs.declared.program.Table.{Table}
 use Rattle.rmt_ast.specs.declared.program.What.{What}
-use Rattle.rmt_ast.specs.declared.program.Kind.TheVariants.{Keyless, Exact, Prefix, Ternary}
 use Rattle.rmt_ast.specs.declared.program.What.TheVariants.{Apply, Gate}
 use Rattle.rmt_ast.specs.declared.entry.Entry.{Entry}
 use Rattle.rmt_ast.specs.Answers.{answer_of, answered, entry_numbers, hits_of}
@@ -22,13 +18,7 @@ use Rattle.rmt_ast.specs.Control.{Run, applied_table, done_by, run, run_from, ru
 use Rattle.rmt_ast.specs.Lookup.{hit_of, hits}
 use Rattle.rmt_ast.specs.Walk.{Accept, Reject, Short, Walk, walk}
 use Rattle.rmt_plain.specs.Stands.{numbers_in}
-
--- an entry that is hit is of the table
-hit_among : (kind : Kind) (key : List ℕ) (es : List Entry) (s : List ℕ) (e : Entry) → hit_of kind key es s ≡ Some e → Contains es e
-hit_among Keyless key es s e same = absurd (none-some e same)
-hit_among Exact key es s e same = All-find (Contains es) (hits Exact key es s) es e (All-contains_itself es) same
-hit_among Prefix key es s e same = All-find (Contains es) (hits Prefix key es s) es e (All-contains_itself es) same
-hit_among Ternary key es s e same = All-find (Contains es) (hits Ternary key es s) es e (All-contains_itself es) same
+use Rattle.rmt_ast.proofs.EntryLaws.{hit_among}
 
 -- an entry of a node has a number of the lists
 number_among : (lists : List (List Entry)) (n : ℕ) (e : Entry) → Contains (unwrap_or (slice_get lists n) []) e → Contains (numbers_in lists) e.number

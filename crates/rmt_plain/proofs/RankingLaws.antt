@@ -14,6 +14,7 @@ use Rattle.rmt_ast.specs.declared.entry.Entry.{Entry}
 use Rattle.rmt_ast.specs.Lookup.{matches, precedes, hits}
 use Rattle.rmt_plain.specs.Ranking.{weight_of, IsRanked}
 use Rattle.rmt_plain.proofs.FindLaws.{IsFirst, first_from_find, find-first, none_from_find, find-none}
+use Rattle.rmt_bits.proofs.TestLaws.{and_false_right}
 
 abbrev weight : Kind → Entry → ℕ
 weight kind e = weight_of kind e.rank
@@ -33,10 +34,6 @@ record Before (kind : Kind) (a b : Entry) : Type 0 where
 or_parts : (a b : Bool) → (a || b) ≡ false → (a ≡ false) × (b ≡ false)
 or_parts true b h = absurd (false≢true (sym h))
 or_parts false b h = (refl, h)
-
-and_false_right : (a b : Bool) → b ≡ false → (a && b) ≡ false
-and_false_right true b h = h
-and_false_right false b h = refl
 
 -- of two, the later choice does not precede the other
 not_preceded : (kind : Kind) (a b : Entry) → IsSmall kind a → IsSmall kind b → Before kind a b → precedes kind b a ≡ false

@@ -10,7 +10,7 @@ use Rattle.rmt_config.specs.Parser.{tail_of}
 use Rattle.rmt_ptcam.specs.Adding.{Adds}
 use Rattle.rmt_ptcam.specs.Joining.{Row, entries_in, numbered, rows_of, tails_in}
 use Rattle.rmt_ptcam.proofs.FormedRows.{entries_of_rows, row_at}
-use Rattle.rmt_bits.proofs.ListLaws.{take-slice_get}
+use Rattle.rmt_bits.proofs.ListLaws.{take-slice_get, filter-short}
 
 pub tails_in-append : (n : ℕ) (xs ys : List Row) → tails_in n (xs ++ ys) ≡ tails_in n xs ++ tails_in (n + length xs) ys
 tails_in-append n [] ys = let e : n ≡ n + 0 = omega arith in ap (λ k. tails_in k ys) e
@@ -63,18 +63,10 @@ module _ (es fs gs : List ParserEntry) (ts us vs : List TailOf) where
 
 -- ---- how many
 
-pub filter_short : {X : Type 0} (p : X → Bool) (xs : List X) → length (filter p xs) ≤ length xs
-filter_short p [] = omega arith
-filter_short p (x ∷ xs) = by (p x) (filter_short p xs)
-  where
-    by : (b : Bool) → length (filter p xs) ≤ length xs → length (cond b (x ∷ filter p xs) (filter p xs)) ≤ suc (length xs)
-    by true rest = omega (arith, rest)
-    by false rest = omega (arith, rest)
-
 pub few_own : (change : Row → Row) (p : Row → Bool) (n : ℕ) (xs : List Row) → length (map change (filter p (take n xs))) ≤ n
 few_own change p n xs =
     let all = length-map (filter p (take n xs)) change in
-    let own = filter_short p (take n xs) in
+    let own = filter-short p (take n xs) in
     let some = length-take n xs in
     omega (arith, all, own, some)
 

@@ -37,10 +37,11 @@ use Rattle.rmt_ptcam.proofs.FormLaws.{tail_of_header}
 use Rattle.rmt_ptcam.proofs.ByteRunLaws.{byte_at}
 use Rattle.rmt_ptcam.proofs.CaseLaws.{low_of, shown, shown_from, HasSelected, case_passes}
 use Rattle.rmt_ptcam.proofs.HoldLaws.{IsPut, put_one, put_bits, after_lanes, holds_put, lanes_apart}
-use Rattle.rmt_ptcam.proofs.EntryLaws.{agrees, taken_target, find_same, IsMet, met}
+use Rattle.rmt_ptcam.proofs.EntryLaws.{agrees, taken_target, IsMet, met}
 use Rattle.rmt_ptcam.proofs.FieldLaws.{OwnsFields, owns_fields, length-set_fields, set_fields_after, set_fields_reads}
 use Rattle.rmt_bits.proofs.OptionLaws.{option_or-none_left, option_or-none_right}
 use Rattle.rmt_phv.proofs.LaneLaws.{lanes_cut, lanes_lie, lanes_width}
+use Rattle.rmt_bits.proofs.FindLaws.{find-alike}
 
 -- ---- a program that is not refused
 
@@ -155,7 +156,7 @@ module _ (p : Program) (n : ℕ) (h : Header) (is : IsHeader p n h) (owns : Owns
       let looked : ℕ = lookup_value frame at (state_of p h) in
       let selected : HasSelected p h number behind = All-weaker (Contains h.fields) (λ f. slice_index behind f ≡ slice number (low_of p h f) (width_of p f)) (λ f own. field_read s f long own) h.select is.selects_own in
       ap (λ (o : Option Case). unwrap_or (option_map (λ (c : Case). c.target) o) h.other)
-      (find_same (λ c. agrees n looked (entry_of_case p places n h c)) (λ c. all_pass c.tests h.select behind) h.cases
+      (find-alike (λ c. agrees n looked (entry_of_case p places n h c)) (λ c. all_pass c.tests h.select behind) h.cases
       (All-weaker (IsCase p n h.select) (λ (c : Case). agrees n looked (entry_of_case p places n h c) ≡ all_pass c.tests h.select behind)
       (λ (c : Case) good.
       let values : ℕ = looked_up p h (map (λ (t : Test). t.value) c.tests) in

@@ -13,7 +13,7 @@ use Rattle.std.proofs.lemmas.List.Sums.{fold-append}
 use Rattle.std.proofs.lemmas.Option.{get_or_from_slice_get, slice_get-get_or, slice_get-map, slice_get_within}
 use Rattle.rmt_bits.proofs.AllLaws.{All-find}
 use Rattle.rmt_bits.proofs.FunctionLaws.{funext}
-use Rattle.rmt_bits.proofs.ListLaws.{range_more, find-passes}
+use Rattle.rmt_bits.proofs.ListLaws.{range_more, find-passes, filter-short}
 use Rattle.rmt_ptcam.specs.Types.{ParserConfig, ParserState, ParserEntry, Next, TailOf}
 use Rattle.rmt_config.specs.declared.config.Next.TheVariants as next
 use Rattle.rmt_config.specs.Parser.{Parse, Reached, Short, begin, behind, follow, parse_from, past_tail, value_at}
@@ -22,7 +22,7 @@ use Rattle.rmt_ptcam.specs.Adding.{Adds}
 use Rattle.rmt_ptcam.specs.Joining.{IsGood, KeepsForm, ParsesAlike, Row, is_among, parser_of, rows_of, tails_in}
 use Rattle.rmt_ptcam.specs.Steps.{parse_within}
 use Rattle.rmt_ptcam.specs.Clustering.{compact, is_met, met_states, number_in, renamed, renamed_next, states_kept, with_next}
-use Rattle.rmt_ptcam.proofs.AddingLaws.{filter_short, length_rows}
+use Rattle.rmt_ptcam.proofs.AddingLaws.{length_rows}
 use Rattle.rmt_ptcam.proofs.FormedRows.{IsFormed, IsRow, entries_of_rows, formed_parts, rows_are, split_at}
 use Rattle.rmt_ptcam.proofs.TailForms.{IsRowTail}
 use Rattle.rmt_ptcam.proofs.JoinedForm.{made_keeps}
@@ -141,7 +141,7 @@ module _ (met : ℕ → Bool) where
       omega (arith, one, next, rest, same)
 
   pub number_small : (a : ℕ) → number_in met a ≤ a
-  number_small a = let short = filter_short met (range_with_len 0 a) in let long = length-range_with_len 0 a in omega (arith, short, long)
+  number_small a = let short = filter-short met (range_with_len 0 a) in let long = length-range_with_len 0 a in omega (arith, short, long)
 
   pub number_rises : (a b : ℕ) → a ≤ b → number_in met a ≤ number_in met b
   number_rises a b le = let e : a + (b - a) ≡ b = omega (arith, le) in subst (λ c. number_in met a ≤ number_in met c) e (number_more a (b - a))
@@ -359,7 +359,7 @@ module _ (parser : ParserConfig) (keeps : KeepsForm parser) where
   pub compact_keeps : KeepsForm (compact parser)
   compact_keeps =
       let a = length-map own rename in
-      let b = filter_short is_kept (rows_of parser) in
+      let b = filter-short is_kept (rows_of parser) in
       let c = length_rows parser in
       let d = keeps.few in
       let many = length_kept met parser.states in

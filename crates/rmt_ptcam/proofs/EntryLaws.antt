@@ -59,12 +59,6 @@ module _ {X : Type 0} (t : X → Bool) where
   first_there : (xs : List X) (k : ℕ) (x : X) → IsFirst t xs k x → slice_get xs k ≡ Some x
   first_there xs k x is = slice_get-get_or xs k x is.inside ∙ ap Some (is.at x)
 
-pub find_same : {X : Type 0} (f g : X → Bool) (xs : List X) → All (λ x. f x ≡ g x) xs → find f xs ≡ find g xs
-find_same f g [] same = refl
-find_same f g (x ∷ xs) same =
-    ap (λ (b : Bool). cond b (Some x) (find f xs)) (All-head (λ y. f y ≡ g y) x xs same)
-    ∙ ap (λ (o : Option _). cond (g x) (Some x) o) (find_same f g xs (All-tail (λ y. f y ≡ g y) x xs same))
-
 -- ---- the entries of one header
 
 -- an entry is of a state, and agrees with the lookup bytes on its mask

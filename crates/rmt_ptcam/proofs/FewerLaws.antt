@@ -11,13 +11,12 @@ use Rattle.rmt_ast.specs.declared.program.Target.TheVariants as target
 use Rattle.rmt_config.specs.declared.config.Next.TheVariants as next
 use Rattle.std.proofs.lemmas.Option.{same_Some}
 use Rattle.rmt_bits.specs.declared.lane.Lane.{Lane}
-use Rattle.rmt_bits.proofs.ListLaws.{slice_get-end, slice_get-item, take-slice_get}
+use Rattle.rmt_bits.proofs.ListLaws.{slice_get-end, slice_get-item, take-slice_get, filter-short}
 use Rattle.rmt_ptcam.specs.declared.joins.Join.{Join}
 use Rattle.rmt_ptcam.specs.Joining.{KeepsForm, Row, can_join, entries_in, entries_to, entry_named, is_among, join_at, join_named, join_to, joined, joined_row, lookups_at, number_of_entry, rows_in, rows_of, together, widened, widened_entry}
 use Rattle.rmt_ptcam.specs.Clustering.{Clustering, all_joined, arrivals, behind_join, clustered, compact, is_met, is_wanted, next_entry, one_entry, one_header, renamed, some_entries, some_headers, targets_of, unjoined, with_next}
 use Rattle.rmt_ptcam.proofs.CompactLaws.{among_next, state_behind}
 use Rattle.rmt_ptcam.proofs.FormedRows.{entries_of_rows, split_at}
-use Rattle.rmt_ptcam.proofs.AddingLaws.{filter_short}
 use Rattle.rmt_ptcam.proofs.JoinFacts.{MayJoin, may_join}
 use Rattle.rmt_ptcam.proofs.JoinedKeeps.{joined_keeps}
 use Rattle.rmt_ptcam.proofs.JoinedParse.{next_there}
@@ -813,7 +812,7 @@ plain_waits p places keeps = record {
   split = entries_shapes p places 0 p.headers ∙ ap (shapes_from 0) (sym (take_all (length p.headers) p.headers (omega arith))) ∙ sym (append-nil (shapes_from 0 (take (length p.headers) p.headers)));
   back_high = All-nil (λ (x : ℕ × Next). length p.headers ≤ x.0);
   back_edges = λ m none. refl;
-  few = let a = filter_short (λ (x : ℕ × Next). arrived (shapes (plain p places)) x.0) (shapes (plain p places)) in let b = length-map (plain p places).entries shape in omega (arith, a, b);
+  few = let a = filter-short (λ (x : ℕ × Next). arrived (shapes (plain p places)) x.0) (shapes (plain p places)) in let b = length-map (plain p places).entries shape in omega (arith, a, b);
 }
 
 -- no more entries than the plain parser has

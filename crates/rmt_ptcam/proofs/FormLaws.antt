@@ -5,17 +5,17 @@ use Rattle.std.specs.List.{range_with_len}
 use Rattle.std.specs.List.Sorted.{IsNonDecreasingBy}
 use Rattle.std.proofs.lemmas.Bool.{and_from, cases_lt, lt-ltb, le-leb}
 use Rattle.std.proofs.lemmas.List.{length-append, length-map, get_or_append_left, get_or-append_right}
-use Rattle.std.proofs.lemmas.List.Elements.{All-nil, All-cons, All-head, All-tail, All-append, All-contains, All-get_or, All-map, All-weaker}
+use Rattle.std.proofs.lemmas.List.Elements.{All-nil, All-cons, All-head, All-tail, All-append, All-contains, All-map, All-weaker}
 use Rattle.std.proofs.lemmas.List.FromFn.{length-range_with_len}
 use Rattle.std.proofs.lemmas.List.Sums.{sum_by-cons}
-use Rattle.std.proofs.lemmas.Option.{slice_get_cases, slice_get-get_or}
+use Rattle.std.proofs.lemmas.Option.{slice_get-get_or}
 use Rattle.rmt_bits.specs.Words.{word_size}
 use Rattle.rmt_bits.specs.declared.lane.Lane.{Lane}
 use Rattle.rmt_bits.proofs.AllLaws.{All-flat_map, All-reverse, All-between}
 use Rattle.rmt_bits.proofs.ListLaws.{slice_get-front, slice_get-end}
-use Rattle.rmt_ptcam.specs.Types.{Program, Field, Header, Tail, Target, ParserConfig, ParserEntry, TailOf}
+use Rattle.rmt_ptcam.specs.Types.{Program, Header, Tail, Target, ParserConfig, ParserEntry, TailOf}
 use Rattle.rmt_ast.specs.State.{width_of}
-use Rattle.rmt_ast.specs.WellFormed.{HasFields, IsProgram, IsHeader, IsTail, IsWidth, bits_of}
+use Rattle.rmt_ast.specs.WellFormed.{IsProgram, IsHeader, IsTail, bits_of}
 use Rattle.rmt_phv.specs.Packing.{pieces}
 use Rattle.rmt_phv.specs.Places.{LiesInWord, high_first}
 use Rattle.rmt_config.specs.declared.config.Extract.TheVariants.{Bits, One}
@@ -33,6 +33,7 @@ use Rattle.rmt_ptcam.proofs.TailForms.{rises_before, rises_least, rises_sorted, 
 use Rattle.rmt_ptcam.proofs.PlainLaws.{bits_of_lanes-append, lanes_bits, place_within}
 use Rattle.rmt_bits.proofs.WordLaws.{word_size-le}
 use Rattle.rmt_phv.proofs.LaneLaws.{lanes_cut, lanes_lie}
+use Rattle.rmt_phv.proofs.FieldCount.{has_bits}
 
 -- ---- lists that stand by a number
 
@@ -181,16 +182,6 @@ module _ (p : Program) where
       by : (o : Option Tail) → length (tails_for p n h a o) ≤ entry_count h
       by None = omega arith
       by (Some t) = let one = length-map (range_with_len a (entry_count h)) (tail_at p n h t) in let two = length-range_with_len a (entry_count h) in omega (arith, one, two)
-
--- each field has a bit
-has_bits : (p : Program) → HasFields p → (f : ℕ) → f < length p.fields → 1 ≤ width_of p f
-has_bits p h f lt =
-    elim ((slice_get_cases p.fields f).1) [
-      | inl (x, below, found, is) ↦
-          let width : IsWidth x.width = subst (λ (y : Field). IsWidth y.width) is (All-get_or (λ (y : Field). IsWidth y.width) p.fields f x below h.widths) in
-          rw found width.0
-      | inr (past, none) ↦ absurd (omega (arith, past, lt))
-    ]
 
 -- a header whose tail is told by a field of its own
 pub record HasTail (p : Program) (h : Header) : Type 0 where

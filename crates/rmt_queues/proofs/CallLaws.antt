@@ -172,7 +172,7 @@ nothing_lost cells ports depth calls port lt =
       (queued_rise s calls port).rising,
     )
 
-many_all : (s : Lists) (calls : List Call) → length (after_all s calls).queues ≡ length s.queues
+pub many_all : (s : Lists) (calls : List Call) → length (after_all s calls).queues ≡ length s.queues
 many_all s [] = refl
 many_all s (call ∷ calls) = many_all (after s call) calls ∙ many_on s call
 

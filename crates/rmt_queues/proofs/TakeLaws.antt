@@ -10,6 +10,7 @@ use Rattle.rmt_bits.proofs.AllLaws.{All-range}
 use Rattle.rmt_queues.specs.Lists.{Lists, copies_of, queue_of, standing, taken}
 use Rattle.rmt_bits.proofs.AlikeLaws.{filter_alike}
 use Rattle.rmt_queues.proofs.StandingLaws.{index_of}
+use Rattle.rmt_bits.proofs.ListLaws.{range-append}
 
 -- the first of a queue, where its ring has one
 pub first_popped : (ix queue : List ℕ) (index : ℕ) → Some index ≡ slice_get (map (index_of ix) queue) 0 → (k : ℕ) × (rest : List ℕ) × (queue ≡ k ∷ rest) × (index ≡ index_of ix k)
@@ -26,17 +27,6 @@ queue_taken s port lt = get_or-set_same s.queues port (drop 1 (queue_of s port))
 
 pub queue_other : (s : Lists) (port other : ℕ) → (other ≡ port → ⊥) → queue_of (taken s port) other ≡ queue_of s other
 queue_other s port other apart = get_or-set_other s.queues port other (drop 1 (queue_of s port)) [] apart
-
-range_plus : (a x y : ℕ) → range_with_len a (x + y) ≡ range_with_len a x ++ range_with_len (a + x) y
-range_plus a zero y =
-    let none : 0 + y ≡ y = omega arith in
-    let same : a ≡ a + 0 = omega arith in
-    ap (range_with_len a) none ∙ ap (λ (b : ℕ). range_with_len b y) same
-range_plus a (suc x) y =
-    let next : suc x + y ≡ suc (x + y) = omega arith in
-    let same : a + 1 + x ≡ a + suc x = omega arith in
-    ap (range_with_len a) next ∙ ap (λ (xs : List ℕ). a ∷ xs) (range_plus (a + 1) x y)
-    ∙ ap (λ (b : ℕ). a ∷ (range_with_len (a + 1) x ++ range_with_len b y)) same
 
 module _ (s : Lists) (port k : ℕ) (rest : List ℕ) (below : port < length s.queues) (queue : queue_of s port ≡ k ∷ rest)
     (known : (p : ℕ) → All (λ number. number < length s.items) (queue_of s p)) where
@@ -84,7 +74,7 @@ module _ (s : Lists) (port k : ℕ) (rest : List ℕ) (below : port < length s.q
   numbers_split =
       let all : m ≡ k + suc (m - (k + 1)) = omega (arith, first_known) in
       let start : 0 + k ≡ k = omega arith in
-      ap (range_with_len 0) all ∙ range_plus 0 k (suc (m - (k + 1)))
+      ap (range_with_len 0) all ∙ range-append 0 k (suc (m - (k + 1)))
       ∙ ap (λ (b : ℕ). range_with_len 0 k ++ range_with_len b (suc (m - (k + 1)))) start
 
   pub standing_split : standing s ≡ front ++ k ∷ back

@@ -3,11 +3,12 @@ use Rattle.std.proofs.Common.{◌≡◌, ℕ, List, Some, true, sym, ◌∙◌, 
 use Rattle.std.specs.Prelude.{All, Contains, slice_get}
 use Rattle.rmt_refine.specs.Types.{Program, Table, Config, Stage}
 use Rattle.rmt_ast.specs.declared.entry.Entry.{Entry}
-use Rattle.rmt_ast.specs.Lookup.{precedes}
+use Rattle.rmt_ast.specs.RowOrder.{goes_first}
 use Rattle.rmt_config.specs.Cells.{is_seen}
 use Rattle.rmt_refine.specs.declared.map.CellOf.{CellOf}
 use Rattle.rmt_refine.specs.View.{View}
-use Rattle.rmt_refine.specs.Cells.{HoldsEntry, IsBefore, IsCandidate, IsSpotOf, IsTold, Spot, TableCellsCarried, first_code, tests_as_one}
+use Rattle.rmt_config.specs.Rooms.{tests_as_one}
+use Rattle.rmt_refine.specs.Cells.{HoldsEntry, IsBefore, IsCandidate, IsSpotOf, IsTold, Spot, TableCellsCarried, first_code}
 use Rattle.std.proofs.lemmas.List.Elements.{All-contains}
 
 -- each entry has the spot that a function tells, and the map tells of that one alone
@@ -19,7 +20,7 @@ pub record HaveSpots (p : Program) (c : Config) (v : View) (cells : List CellOf)
   pub holds : All (λ (e : Entry). (stage : Stage) → slice_get c.stages (spot e).stage ≡ Some stage
       → HoldsEntry p t widths (first_code stage (spot e).place) e (v.number (spot e).stage (spot e).place (spot e).cell) (v.content (spot e).stage (spot e).place (spot e).cell)) es
   pub candidate : All (λ (e : Entry). IsCandidate c v (tests_as_one (λ u. u.value) widths e.tests) (spot e)) es
-  pub order : All (λ (e : Entry). All (λ (f : Entry). precedes t.kind e f ≡ true → IsBefore (spot e) (spot f)) es) es
+  pub order : All (λ (e : Entry). All (λ (f : Entry). goes_first t.kind e f ≡ true → IsBefore (spot e) (spot f)) es) es
 
 pub carried_from : (p : Program) (c : Config) (v : View) (cells : List CellOf) (n : ℕ) (t : Table) (widths : List ℕ) (es : List Entry) (spot : Entry → Spot)
     → HaveSpots p c v cells n t widths es spot → TableCellsCarried p c v cells n t widths es
@@ -37,7 +38,7 @@ carried_from p c v cells n t widths es spot have = record {
       subst (IsCandidate c v (tests_as_one (λ u. u.value) widths e.tests)) (sym (have.one e at there is told))
       (All-contains (λ (x : Entry). IsCandidate c v (tests_as_one (λ u. u.value) widths x.tests) (spot x)) es e have.candidate there);
   order = λ e f a b there_e there_f spot_a spot_b told_a told_b before.
-      let each = All-contains (λ (x : Entry). All (λ (y : Entry). precedes t.kind x y ≡ true → IsBefore (spot x) (spot y)) es) es e have.order there_e in
-      let h = All-contains (λ (y : Entry). precedes t.kind e y ≡ true → IsBefore (spot e) (spot y)) es f each there_f before in
+      let each = All-contains (λ (x : Entry). All (λ (y : Entry). goes_first t.kind x y ≡ true → IsBefore (spot x) (spot y)) es) es e have.order there_e in
+      let h = All-contains (λ (y : Entry). goes_first t.kind e y ≡ true → IsBefore (spot e) (spot y)) es f each there_f before in
       subst (λ s. IsBefore s b) (sym (have.one e a there_e spot_a told_a)) (subst (IsBefore (spot e)) (sym (have.one f b there_f spot_b told_b)) h);
 }

@@ -7,13 +7,14 @@ use Rattle.rmt_bits.specs.Bits.{slice}
 use Rattle.rmt_refine.specs.Types.{Table, Stage}
 use Rattle.rmt_ast.specs.declared.program.Kind.TheVariants.{Ternary}
 use Rattle.rmt_ast.specs.declared.entry.Entry.{Entry}
-use Rattle.rmt_ast.specs.Lookup.{precedes}
+use Rattle.rmt_ast.specs.RowOrder.{goes_first}
 use Rattle.rmt_ast.specs.State.{width_of}
 use Rattle.rmt_ast.proofs.WellFormedLemmas.{AreDistinct-from_apart}
 use Rattle.rmt_config.specs.Cells.{is_seen}
 use Rattle.rmt_refine.specs.declared.map.CellOf.{CellOf}
 use Rattle.rmt_refine.specs.View.{own_content, own_number, own_view}
-use Rattle.rmt_refine.specs.Cells.{CellsCarried, HoldsEntry, IsBefore, IsCandidate, IsSpotOf, IsTold, Spot, TableCellsCarried, first_code, tests_as_one}
+use Rattle.rmt_config.specs.Rooms.{tests_as_one}
+use Rattle.rmt_refine.specs.Cells.{CellsCarried, HoldsEntry, IsBefore, IsCandidate, IsSpotOf, IsTold, Spot, TableCellsCarried, first_code}
 use Rattle.rmt_config.specs.Effects.{HasArguments}
 use Rattle.rmt_refine.specs.Units.{table_at}
 use Rattle.rmt_refine.proofs.CellLaws.{carried_from}
@@ -93,7 +94,7 @@ Stands e =
     (own_content config (spot_of e.number).stage (spot_of e.number).place (spot_of e.number).cell)
 
 abbrev Comes : Entry → Entry → Type 0
-Comes e f = precedes Ternary e f ≡ true → IsBefore (spot_of e.number) (spot_of f.number)
+Comes e f = goes_first Ternary e f ≡ true → IsBefore (spot_of e.number) (spot_of f.number)
 
 lowest_stands : Stands lowest_last
 lowest_stands stage at =

@@ -6,17 +6,9 @@ use Rattle.std.proofs.lemmas.List.Sums.{sum_by-cons}
 use Rattle.std.proofs.lemmas.Nat.{mod_low, shr-shr, shr_high}
 use Rattle.std.proofs.lemmas.Option.{none-some, same_Some}
 use Rattle.rmt_bits.specs.Bits.{slice}
-use Rattle.rmt_refine.specs.Types.{Test}
 use Rattle.rmt_ast.specs.WellFormed.{Fits}
 use Rattle.rmt_config.specs.Effects.{HasArguments}
-use Rattle.rmt_config.specs.Rooms.{args_as_one, tests_as_one}
-use Rattle.rmt_refine.specs.Cells.{tests_as_one as tests_of_cell}
-
--- the tests of an entry as one number, in the two ways in which this is said
-pub tests_are : (part : Test → ℕ) (ws : List ℕ) (ts : List Test) → tests_as_one part ws ts ≡ tests_of_cell part ws ts
-tests_are part [] ts = refl
-tests_are part (w ∷ ws) [] = refl
-tests_are part (w ∷ ws) (t ∷ ts) = ap (λ n. part t * 2 ^ sum ws + n) (tests_are part ws ts)
+use Rattle.rmt_config.specs.Rooms.{args_as_one}
 
 -- each argument stands at its place
 args_at : (ws vs : List ℕ) (i width : ℕ) → AllZip Fits ws vs → slice_get ws i ≡ Some width → slice (args_as_one ws vs) (sum (take i ws)) width ≡ slice_index vs i

@@ -26,7 +26,7 @@ use Rattle.rmt_refine.proofs.NodeLaws.{part_there}
 use Rattle.rmt_refine.proofs.RunningLaws.{count_of, counted_before, counts_in, goes_at, own_numbers, stage_counts, table_counts}
 use Rattle.rmt_refine.proofs.StageLaws.{AllRead, AreSet, IsRun, drop_head, none_set, stage_law, stands_where_set}
 use Rattle.std.proofs.lemmas.List.Elements.{All-contains}
-use Rattle.std.proofs.lemmas.Bool.Decides.{nat_tests}
+use Rattle.rmt_bits.proofs.TestLaws.{below_next}
 
 -- ---- sums of counts
 
@@ -47,10 +47,6 @@ cond_sum w false ns = refl
 zero_either : (b : Bool) → cond b 0 0 ≡ zero
 zero_either true = refl
 zero_either false = refl
-
--- what stands below the next number stands below this one, or is it
-pub below_next : (a k x : ℕ) → cond (nat_lt a (k + 1)) x 0 ≡ cond (nat_lt a k) x 0 + cond (a == k) x 0
-below_next a k x = grind (arith, nat_tests)
 
 module _ (p : Program) (places : List (List Lane)) (parts : List Part) (starts : List ℕ) (c : Config) (v : View) (entries : ℕ → List Entry) (state : ℕ → List ℕ) (outcomes : List ℕ) (set_in : ℕ → ℕ) where
   abbrev own : ℕ → List ℕ

@@ -16,7 +16,7 @@ use Rattle.rmt_config.specs.Cells.{Content, Found}
 use Rattle.rmt_refine.specs.View.{View, look_in, own_content, own_view}
 use Rattle.rmt_phv.specs.Places.{high_first}
 use Rattle.rmt_refine.specs.Units.{last_stage, nodes_in, table_at, tests_of}
-use Rattle.rmt_refine.specs.Cells.{tests_as_one}
+use Rattle.rmt_config.specs.Rooms.{tests_as_one}
 use Rattle.rmt_refine.specs.LookUps.{FindsAs}
 use Rattle.rmt_refine.specs.Outcomes.{IsSetIn, node_outcome, run_before}
 use Rattle.rmt_refine.specs.Code.{WritesWordsOf, assigned_lanes}

@@ -10,7 +10,6 @@ use Rattle.rmt_ast.specs.declared.names.Names.{Names}
 use Rattle.rmt_ast.specs.declared.program.Kind.TheVariants as kind
 use Rattle.rmt_ast.specs.Changes.{list_of}
 use Rattle.rmt_ast.specs.EntryLists.{AreEntries, Terms, terms_of}
-use Rattle.rmt_ast.specs.Lookup.{precedes}
 use Rattle.rmt_ast.specs.NameRules.{terms_named}
 use Rattle.rmt_ast.specs.RowOrder.{goes_first}
 use Rattle.rmt_refine.specs.Types.{Config, Kind, Program, SlotUnit, Table}
@@ -29,7 +28,7 @@ use Rattle.rmt_refine.proofs.EntryLaws.{AllPairs-unmap, entry_listed, entry_name
 use Rattle.rmt_refine.proofs.PartLaws.{and_at}
 use Rattle.rmt_refine.proofs.RoomLaws.{room_is}
 use Rattle.rmt_refine.proofs.RoomOrderLaws.{any_key, fewer_first, pair_at, rooms_rise}
-use Rattle.rmt_refine.proofs.StandLaws.{Apart, HoldsIts, InOrder, StandsIn, all_carried, entry_holds, few_codes, goes_where_precedes, placed_there, shown, shown_seen, shown_unseen, told_of}
+use Rattle.rmt_refine.proofs.StandLaws.{Apart, HoldsIts, InOrder, StandsIn, all_carried, entry_holds, few_codes, placed_there, shown, shown_seen, shown_unseen, told_of}
 
 -- ---- a head with both visible bits
 
@@ -42,7 +41,7 @@ full_bit v i = elim (cases_eq (v % 2) 0) [
       subst (λ m. ((1 + 2 * 3 + 8 * i) / 2 ^ (1 + m) % 2 == 1) ≡ true) (sym one) (eq-eqb ((1 + 2 * 3 + 8 * i) / 4 % 2) 1 (omega arith))
 ]
 
-full_occupied : (i : ℕ) → is_occupied (1 + 2 * 3 + 8 * i) ≡ true
+pub full_occupied : (i : ℕ) → is_occupied (1 + 2 * 3 + 8 * i) ≡ true
 full_occupied i = eq-eqb ((1 + 2 * 3 + 8 * i) % 2) 1 (omega arith)
 
 full_seen : (v i : ℕ) → sees true v (1 + 2 * 3 + 8 * i) ≡ true
@@ -121,23 +120,23 @@ module _ (p : Program) (m : Map) (c : Config) (names : Names) (cells : RunCells)
     rows_in_order : (k : Kind) → t.kind ≡ k → (k ≡ kind.Prefix) ⊎ (k ≡ kind.Ternary)
         → slice_get (rooms_for c seed a.entry.table (key_number (terms_of p t) a.entry)) (count_by (λ f. goes_first k f a.entry) (list_of after a.entry.table)) ≡ Some a.room
         → slice_get (rooms_for c seed b.entry.table (key_number (terms_of p t) b.entry)) (count_by (λ f. goes_first k f b.entry) (list_of after b.entry.table)) ≡ Some b.room
-        → precedes t.kind a.entry b.entry ≡ true → is_before a.room b.room ≡ true
+        → goes_first t.kind a.entry b.entry ≡ true → is_before a.room b.room ≡ true
     rows_in_order k is rowed at_a at_b h =
         let n = a.entry.table in
         let es = list_of after n in
         let key_a = key_number (terms_of p t) a.entry in
         let key_b = key_number (terms_of p t) b.entry in
         let rowed_t : (t.kind ≡ kind.Prefix) ⊎ (t.kind ≡ kind.Ternary) = subst (λ x. (x ≡ kind.Prefix) ⊎ (x ≡ kind.Ternary)) (sym is) rowed in
-        let goes : goes_first k a.entry b.entry ≡ true = subst (λ x. goes_first x a.entry b.entry ≡ true) is (goes_where_precedes t.kind a.entry b.entry h) in
+        let goes : goes_first k a.entry b.entry ≡ true = subst (λ x. goes_first x a.entry b.entry ≡ true) is h in
         let there : slice_get (rooms_for c seed n key_a) (count_by (λ f. goes_first k f b.entry) es) ≡ Some b.room =
         ap (λ rs. slice_get rs (count_by (λ f. goes_first k f b.entry) es)) (any_key p m c units n t table rowed_t seed key_a key_b)
         ∙ ap (λ x. slice_get (rooms_for c seed x key_b) (count_by (λ f. goes_first k f b.entry) (list_of after x))) same ∙ at_b in
         pair_at (λ (r s : Room). is_before r s ≡ true) (rooms_for c seed n key_a) (count_by (λ f. goes_first k f a.entry) es) (count_by (λ f. goes_first k f b.entry) es) a.room b.room
         (rooms_rise p m c units n t table rowed_t seed key_a) (fewer_first k es a.entry b.entry listed_a goes) at_a there
 
-    in_order_by : (k : Kind) → t.kind ≡ k → precedes t.kind a.entry b.entry ≡ true → is_before a.room b.room ≡ true
-    in_order_by kind.Keyless is h = absurd (false≢true (ap (λ x. precedes x a.entry b.entry) (sym is) ∙ h))
-    in_order_by kind.Exact is h = absurd (false≢true (ap (λ x. precedes x a.entry b.entry) (sym is) ∙ h))
+    in_order_by : (k : Kind) → t.kind ≡ k → goes_first t.kind a.entry b.entry ≡ true → is_before a.room b.room ≡ true
+    in_order_by kind.Keyless is h = absurd (false≢true (ap (λ x. goes_first x a.entry b.entry) (sym is) ∙ h))
+    in_order_by kind.Exact is h = absurd (false≢true (ap (λ x. goes_first x a.entry b.entry) (sym is) ∙ h))
     in_order_by kind.Prefix is h =
         rows_in_order kind.Prefix is (inl refl) (subst (λ x. IsFilled c seed (terms_of p t) x (list_of after a.entry.table) a.entry a.room) is filled_a)
         (subst (λ x. IsFilled c seed (terms_of p t) x (list_of after b.entry.table) b.entry b.room) is filled_b) h

@@ -9,6 +9,7 @@ use Rattle.rmt_bits.proofs.MemberLaws.{Contains-first, Contains-later, Contains-
 use Rattle.rmt_bits.proofs.ListLaws.{find-passes}
 use Rattle.rmt_bits.proofs.AllLaws.{All-find}
 use Rattle.std.proofs.lemmas.List.Elements.{All-contains_itself}
+use Rattle.rmt_bits.proofs.FindLaws.{find-some}
 
 -- ---- members
 
@@ -32,16 +33,6 @@ found_passes test xs x e = (All-find (Contains xs) test xs x (All-contains_itsel
 cond_some : {X : Type 0} (b : Bool) (y : X) (rest : Option X) → (b ≡ false → (z : X) × (rest ≡ Some z)) → (z : X) × (cond b (Some y) rest ≡ Some z)
 cond_some true y rest h = (y, refl)
 cond_some false y rest h = h refl
-
--- a list with an item that passes
-pub find-some : {X : Type 0} (test : X → Bool) (xs : List X) (x : X) → Contains xs x → test x ≡ true → (z : X) × (find test xs ≡ Some z)
-find-some test [] x h pass = absurd (let lt = h.1 in omega (arith, lt))
-find-some test (y ∷ ys) x h pass =
-    cond_some (test y) y (find test ys) (λ fails.
-    elim (Contains-split y ys x h) [
-      | inl e ↦ absurd (both_ways (test x) (subst (λ z. test z ≡ false) e fails) pass)
-      | inr later ↦ find-some test ys x later pass
-    ])
 
 -- no item, where each that there may be is refuted
 pub none_unless : {X : Type 0} (o : Option X) → ((x : X) → o ≡ Some x → ⊥) → o ≡ None

@@ -1,19 +1,19 @@
 -- What fit changes make of well-formed entries: they stay well formed, and each entry is one that stood or has a new number.
-use Rattle.std.proofs.Common.{◌≡◌, ◌≢◌, ◌⊎◌, ℕ, zero, suc, ◌+◌, ◌-◌, ◌^◌, ◌<◌, ◌≤◌, ◌==◌, max, Bool, true, false, ◌&&◌, cond, List, [], ◌∷◌, ◌++◌, fold, length, map, Option, Some, None, All, Contains, refl, sym, ap, subst, ◌∙◌, inl, inr, arith}
+use Rattle.std.proofs.Common.{◌≡◌, ◌≢◌, ◌⊎◌, ℕ, zero, suc, ◌+◌, ◌-◌, ◌^◌, ◌<◌, ◌≤◌, ◌==◌, Bool, true, false, ◌&&◌, cond, List, [], ◌∷◌, ◌++◌, length, map, Option, Some, None, All, Contains, refl, sym, ap, subst, ◌∙◌, inl, inr, arith}
 use Rattle.std.specs.Prelude.{AllPairs, option_map, slice_get, slice_set, unwrap_or}
-use Rattle.std.specs.List.{AllZip, flat_map, list_any}
+use Rattle.std.specs.List.{AllZip, flat_map}
 use Rattle.std.specs.Str.{bytes_eq}
 use Rattle.std.proofs.Math.Pow.{pow-lt}
-use Rattle.std.proofs.lemmas.Bool.{and_from, cases_eq, cases_lt, eq-eqb, eqb-true, false≢true, or_cases}
+use Rattle.std.proofs.lemmas.Bool.{and_from, cases_eq, cases_lt, eq-eqb, eqb-true, false≢true}
 use Rattle.std.proofs.lemmas.List.{length-append, length-map, length-set}
-use Rattle.std.proofs.lemmas.List.Elements.{All-append, All-cons, All-contains, All-contains_itself, All-head, All-nil, All-set, All-tail, All-weaker}
+use Rattle.std.proofs.lemmas.List.Elements.{All-append, All-cons, All-contains, All-contains_itself, All-nil, All-set, All-weaker}
 use Rattle.std.proofs.lemmas.List.Kept.{AllPairs-cons}
 use Rattle.std.proofs.lemmas.List.Quantifiers.{all_pairs_push}
 use Rattle.std.proofs.lemmas.Option.{none-some, same_Some, slice_get-map}
 use Rattle.std.proofs.lemmas.Slice.Eq.{bytes_eq-Decides}
 use Rattle.rmt_bits.proofs.AllLaws.{All-flat_map, All-parts, All-unmap}
 use Rattle.rmt_bits.proofs.ListLaws.{slice_get-set_other}
-use Rattle.rmt_bits.proofs.MemberLaws.{Contains-first, Contains-item, Contains-later, Contains-map, Contains-split, Contains-unmap, flat_from, list_any-Contains}
+use Rattle.rmt_bits.proofs.MemberLaws.{Contains-first, Contains-item, Contains-map, Contains-split, Contains-unmap, flat_from, list_any-Contains, any_item}
 use Rattle.rmt_bits.proofs.PairLaws.{AllPairs-append, AllPairs-head, AllPairs-map, AllPairs-none, AllPairs-tail, AllPairs-weaker}
 use Rattle.rmt_ast.specs.declared.entry.Entry.{Entry}
 use Rattle.rmt_ast.specs.declared.program.Kind.TheVariants as kind
@@ -31,6 +31,8 @@ use Rattle.rmt_refine.proofs.EntryLaws.{all_numbers, listed_in, one_entry}
 use Rattle.rmt_refine.proofs.NumberLaws.{one_list}
 use Rattle.rmt_refine.proofs.PartLaws.{and_from as some_from, some_and, then_some}
 use Rattle.rmt_refine.proofs.TheLaw.{its_table, its_terms}
+use Rattle.rmt_bits.proofs.MostLaws.{fold_max}
+use Rattle.rmt_ast.proofs.EntryLaws.{all_without}
 
 -- ---- numbers that stand once
 
@@ -61,14 +63,6 @@ distinct_at n es None are = subst (λ (xs : List Entry). AreDistinct (entry_numb
 distinct_at n es (Some t) are =
     AllPairs-map ◌≢◌ (λ (e : Entry). e.number) es
     (AllPairs-weaker (λ (a b : Entry). a.number < b.number) (λ (a b : Entry). a.number ≢ b.number) (λ a b lt same. omega (arith, lt, same)) es are.rising)
-
--- what passes a test
-pub any_there : {X : Type 0} (test : X → Bool) (xs : List X) → list_any test xs ≡ true → (x : X) × Contains xs x × (test x ≡ true)
-any_there test [] e = absurd (false≢true e)
-any_there test (x ∷ xs) e = elim (or_cases (test x) (list_any test xs) e) [
-  | inl here ↦ (x, Contains-first x xs, here)
-  | inr later ↦ let r = any_there test xs later in (r.0, Contains-later x xs r.0 r.1, r.2)
-]
 
 -- ---- a list in place of another
 
@@ -257,15 +251,6 @@ table_added n t es e next some are is new room below = record {
 
 -- ---- an entry is removed
 
-module _ (P : Entry → Type 0) where
-  all_without : (key : EntryKey) (es : List Entry) → All P es → All P (without key es)
-  all_without key [] all = all
-  all_without key (e ∷ es) all = by (is_keyed_by key e) (all_without key es (All-tail P e es all))
-    where
-      by : (b : Bool) → All P (without key es) → All P (cond b es (e ∷ without key es))
-      by true rest = All-tail P e es all
-      by false rest = All-cons P e (without key es) (All-head P e es all) rest
-
 pairs_without : (R : Entry → Entry → Type 0) (key : EntryKey) (es : List Entry) → AllPairs R es → AllPairs R (without key es)
 pairs_without R key [] all = all
 pairs_without R key (e ∷ es) all = by (is_keyed_by key e) (pairs_without R key es (AllPairs-tail R e es all))
@@ -396,7 +381,7 @@ module _ (p : Program) (program : IsProgram p) where
       (λ e h stood. elim h [
         | inl there ↦ there
         | inr new ↦
-            let o = any_there (λ (x : Entry). x.number == e.number) (all_entries s.lists) stood in
+            let o = any_item (λ (x : Entry). x.number == e.number) (all_entries s.lists) stood in
             absurd (let lt = All-contains (λ (x : Entry). x.number < s.next) (all_entries s.lists) o.0 below o.1 in let same = eqb-true o.0.number e.number o.2 in omega (arith, lt, new, same))
       ])
       (all_entries (committed s changes).lists) (commit_follows s changes entries below fit).each
@@ -474,16 +459,6 @@ stand_first s ((Arrives packet) ∷ events) = stand_first s events
 stand_first s ((Commits changes) ∷ events) = Contains-first s.lists (lists_from (committed s changes) events)
 
 -- ---- before the first change
-
-fold_max : (ns : List ℕ) (a : ℕ) → (a ≤ fold (λ next n. max next (n + 1)) a ns) × All (λ n. n < fold (λ next n. max next (n + 1)) a ns) ns
-fold_max [] a = (omega arith, All-nil (λ n. n < a))
-fold_max (n ∷ ns) a =
-    let rest = fold_max ns (max a (n + 1)) in
-    let most = fold (λ next m. max next (m + 1)) (max a (n + 1)) ns in
-    let le : max a (n + 1) ≤ most = rest.0 in (
-      omega (arith, le),
-      All-cons (λ m. m < most) n ns (omega (arith, le)) rest.1,
-    )
 
 -- the first next number is above those of all entries
 pub first_below : (lists : List (List Entry)) → All (λ (e : Entry). e.number < next_number lists) (all_entries lists)

@@ -2,13 +2,10 @@
 use Rattle.std.proofs.Common.{◌≡◌, ℕ, ◌+◌, List, [], ◌∷◌, Option, Some, None, length, replicate, refl, arith}
 use Rattle.std.specs.Prelude.{All, Contains, option_map, slice_get, slice_index, unwrap_or, ◌==◌}
 use Rattle.std.proofs.lemmas.Bool.{cond_both}
-use Rattle.std.proofs.lemmas.Option.{none-some}
-use Rattle.std.proofs.lemmas.List.Elements.{All-append, All-cons, All-contains_itself, All-nil}
+use Rattle.std.proofs.lemmas.List.Elements.{All-append, All-cons, All-nil}
 use Rattle.rmt_bits.specs.Packet.{Packet}
 use Rattle.rmt_bits.specs.declared.answer.Answer.{Answer}
-use Rattle.rmt_bits.proofs.AllLaws.{All-find}
-use Rattle.rmt_refine.specs.Types.{Kind, Node, Program, Table, What}
-use Rattle.rmt_ast.specs.declared.program.Kind.TheVariants.{Keyless, Exact, Prefix, Ternary}
+use Rattle.rmt_refine.specs.Types.{Node, Program, Table, What}
 use Rattle.rmt_ast.specs.declared.program.What.TheVariants.{Apply, Gate}
 use Rattle.rmt_ast.specs.declared.entry.Entry.{Entry}
 use Rattle.rmt_ast.specs.Answers.{answer_of, answered}
@@ -17,13 +14,7 @@ use Rattle.rmt_ast.specs.Lookup.{hit_of, hits}
 use Rattle.rmt_ast.specs.Walk.{Accept, Reject, Short, Walk, walk}
 use Rattle.rmt_config.specs.Commits.{all_entries}
 use Rattle.rmt_refine.proofs.EntryLaws.{listed_in}
-
--- an entry that is hit is of the table
-hit_among : (kind : Kind) (key : List ℕ) (es : List Entry) (s : List ℕ) (e : Entry) → hit_of kind key es s ≡ Some e → Contains es e
-hit_among Keyless key es s e same = absurd (none-some e same)
-hit_among Exact key es s e same = All-find (Contains es) (hits Exact key es s) es e (All-contains_itself es) same
-hit_among Prefix key es s e same = All-find (Contains es) (hits Prefix key es s) es e (All-contains_itself es) same
-hit_among Ternary key es s e same = All-find (Contains es) (hits Ternary key es s) es e (All-contains_itself es) same
+use Rattle.rmt_ast.proofs.EntryLaws.{hit_among}
 
 module _ (p : Program) (lists : List (List Entry)) where
   -- the number of an entry

@@ -1,23 +1,19 @@
 -- The packets of a run of inputs: their outcomes leave in order, and all their hits are counted, where each packet has as many cycles behind it as it takes.
-use Rattle.std.proofs.Common.{◌≡◌, ℕ, zero, suc, ◌+◌, ◌-◌, ◌<◌, ◌≤◌, Bool, true, false, cond, List, [], ◌∷◌, ◌++◌, filter_map, fold, length, map, replicate, Option, Some, None, All, refl, sym, ap, ◌∙◌, inl, inr, arith}
+use Rattle.std.proofs.Common.{◌≡◌, ℕ, zero, suc, ◌+◌, ◌-◌, ◌<◌, ◌≤◌, cond, List, [], ◌∷◌, ◌++◌, filter_map, length, map, replicate, Option, Some, None, refl, sym, ap, ◌∙◌, inl, inr, arith}
 use Rattle.std.specs.Prelude.{option_and_then, option_map, slice_get, unwrap_or, ⊤}
 use Rattle.std.specs.List.{cons_option, flat_map, range_with_len}
 use Rattle.std.proofs.lemmas.Bool.{cases_lt, le-ltb, lt-ltb}
-use Rattle.std.proofs.lemmas.List.Elements.{All-append, All-cons, All-head, All-nil, All-tail, All-weaker}
+use Rattle.std.proofs.lemmas.List.Elements.{All-weaker}
 use Rattle.std.proofs.lemmas.Option.{none-some}
-use Rattle.rmt_bits.proofs.AllLaws.{All-reverse}
 use Rattle.rmt_bits.proofs.ListLaws.{first_from, next_from}
 use Rattle.rmt_bits.specs.Packet.{Packet}
 use Rattle.rmt_bits.specs.Counts.{Hit}
-use Rattle.rmt_refine.specs.Types.{Config, SlotUnit, Stage, Unit}
-use Rattle.rmt_config.specs.declared.config.Unit.TheVariants.{Gate, Slot}
+use Rattle.rmt_refine.specs.Types.{Config, Stage}
 use Rattle.rmt_config.specs.declared.cell_write.CellWrite.{CellWrite}
-use Rattle.rmt_config.specs.Cells.{Found}
-use Rattle.rmt_config.specs.ChipRun.{Outcome, hits_before, latency_of, outcome_from, outcome_of}
-use Rattle.rmt_config.specs.Life.{Acts, Counted, Life, Look, Words, life_of, looked_up, runs, slot_acts, through, through_from, unit_acts}
-use Rattle.rmt_config.specs.Parser.{Accept, Parse, Reject, Short, parse, put}
+use Rattle.rmt_config.specs.ChipRun.{Outcome, hits_before, latency_of, outcome_of}
+use Rattle.rmt_config.specs.Parser.{parse}
 use Rattle.rmt_config.specs.RunInputs.{Idle, Input, Turns, answer_in, hits_from, look_from, outcome_from_cycle, packet_of}
-use Rattle.rmt_config.proofs.CountLaws.{EndBefore, hit_from}
+use Rattle.rmt_config.proofs.CountLaws.{EndBefore, hit_from, CountBelow, hits_before-all, outcome_below}
 use Rattle.rmt_refine.specs.EventRuns.{outcomes_in}
 use Rattle.rmt_refine.proofs.OneStateLaws.{changing}
 
@@ -148,57 +144,6 @@ module _ (c : Config) (whole : List Input) where
       none k high (Some packet) e = absurd (let le = leaves_late l whole k packet all e in omega (arith, le, high))
 
 -- ---- all hits are counted
-
--- all counts are made below an age
-abbrev AreBelow : ℕ → List Counted → Type 0
-AreBelow age counted = All (λ (x : Counted). x.age < age) counted
-
-either : {A : Type 0} (P : A → Type 0) (b : Bool) (x y : A) → P x → P y → P (cond b x y)
-either P true x y p q = p
-either P false x y p q = q
-
-module _ (age : ℕ) (stage : Stage) (early : stage.start + 8 < age) where
-  slot_below : (slot : SlotUnit) (o : Option Found) (a : Acts) → AreBelow age a.counted → AreBelow age (slot_acts stage slot o a).counted
-  slot_below slot (Some f) a h = either (AreBelow age) slot.counted _ a.counted (All-cons (λ (x : Counted). x.age < age) _ a.counted early h) h
-  slot_below slot None a h = either (λ (b : Acts). AreBelow age b.counted) slot.last _ a h h
-
-  unit_below : (look : Look) (k : ℕ) (words : Words) (a : Acts) (u : Unit) → AreBelow age a.counted → AreBelow age (unit_acts look k stage words a u).counted
-  unit_below look k words a (Gate g) h = either (λ (b : Acts). AreBelow age b.counted) (runs g.node g.guard a.outcomes) _ a h h
-  unit_below look k words a (Slot slot) h =
-      either (λ (b : Acts). AreBelow age b.counted) (runs slot.node slot.guard a.outcomes) _ a
-      (slot_below slot (looked_up look k a.place words slot) a h) h
-
-  units_below : (look : Look) (k : ℕ) (words : Words) (units : List Unit) (a : Acts) → AreBelow age a.counted → AreBelow age (fold (unit_acts look k stage words) a units).counted
-  units_below look k words [] a h = h
-  units_below look k words (u ∷ us) a h = units_below look k words us (unit_acts look k stage words a u) (unit_below look k words a u h)
-
-  through_below : (look : Look) (k : ℕ) (life : Life) → AreBelow age life.counted → AreBelow age (through look k stage life).counted
-  through_below look k life h =
-      All-append (λ (x : Counted). x.age < age) life.counted _ h
-      (All-reverse (λ (x : Counted). x.age < age) _ (units_below look k (life.word stage.start) stage.units _ (All-nil _)))
-
--- stages that count below an age
-abbrev CountBelow : ℕ → List Stage → Type 0
-CountBelow age stages = All (λ (s : Stage). s.start + 8 < age) stages
-
-life_below : (age : ℕ) (look : Look) (k : ℕ) (stages : List Stage) (life : Life) → CountBelow age stages → AreBelow age life.counted → AreBelow age (through_from look k stages life).counted
-life_below age look k [] life early h = h
-life_below age look k (stage ∷ stages) life early h =
-    life_below age look (k + 1) stages (through look k stage life) (All-tail (λ (s : Stage). s.start + 8 < age) stage stages early)
-    (through_below age stage (All-head (λ (s : Stage). s.start + 8 < age) stage stages early) look k life h)
-
-outcome_below : (age : ℕ) (look : Look) (c : Config) (packet : Packet) (p : Parse) → CountBelow age c.stages → AreBelow age (outcome_from look c packet p).counted
-outcome_below age look c packet Short early = All-nil _
-outcome_below age look c packet Reject early = All-nil _
-outcome_below age look c packet (Accept r) early =
-    let below : AreBelow age (life_of look c.stages (put r.vector c.in_port packet.port)).counted = life_below age look 0 c.stages _ early (All-nil _) in
-    either (λ (o : Outcome). AreBelow age o.counted) _ _ _ below below
-
-hits_before-all : (age : ℕ) (packet : Packet) (counted : List Counted) → AreBelow age counted → hits_before age packet counted ≡ map (hit_from packet) counted
-hits_before-all age packet [] h = refl
-hits_before-all age packet (x ∷ xs) h =
-    rw (lt-ltb x.age age (All-head (λ (y : Counted). y.age < age) x xs h))
-    (ap (λ ys. hit_from packet x ∷ ys) (hits_before-all age packet xs (All-tail (λ (y : Counted). y.age < age) x xs h)))
 
 module _ (c : Config) (whole : List Input) (ends : EndBefore (latency_of c.stages) c.stages) where
   -- the hits of a packet that entered in a cycle

@@ -20,22 +20,21 @@ use Rattle.rmt_config.specs.LaneForm.{bits_of_lanes}
 use Rattle.rmt_config.specs.Cells.{Content, candidates, is_occupied, is_seen, visible_bits}
 use Rattle.rmt_config.specs.Limits.{IsWithinLimits}
 use Rattle.rmt_config.specs.RunCells.{RunCells, emptied, has_bit, sees, slot_at}
-use Rattle.rmt_config.specs.Rooms.{Room, content_in, entry_content, is_before, is_same, key_number, number_in}
+use Rattle.rmt_config.specs.Rooms.{Room, content_in, entry_content, is_before, is_same, key_number, number_in, tests_as_one}
 use Rattle.rmt_config.specs.Commits.{IsCell, Placed, all_entries, come, coming_content, is_numbered_in, leaving_content, placed_after, placed_at, placed_now, rooms_of, settled, settled_content, settled_number, stay, staying_content, stays, without_bit}
 use Rattle.rmt_refine.specs.declared.map.CellOf.{CellOf}
 use Rattle.rmt_refine.specs.declared.map.Map.{Map}
 use Rattle.rmt_refine.specs.View.{View, slot_of}
 use Rattle.rmt_refine.specs.Units.{UnitsCarried, table_at}
 use Rattle.rmt_refine.specs.Cells.{CellsCarried, IsSpotOf, IsTold, Spot}
-use Rattle.rmt_refine.specs.Cells.{tests_as_one as tests_of_cell}
 use Rattle.rmt_refine.specs.Commits.{AreNamesOf, CommitsKeepEntries, KeepEntries, seen_by}
 use Rattle.rmt_refine.proofs.PartLaws.{and_at, part_of_spot}
 use Rattle.rmt_refine.proofs.EntryLaws.{All-filter_map, AllPairs-filter_map, AllPairs-unmap, IsListed, entry_listed, entry_named, listed_in, numbers_apart, one_entry}
 use Rattle.rmt_refine.proofs.RoomLaws.{RoomAt, RoomIs, room_at, room_is}
-use Rattle.rmt_refine.proofs.ContentLaws.{tests_are}
 use Rattle.rmt_refine.proofs.PlacedLaws.{Comes, HasItsRoom, Stays, Takes, all_placed, each_has_its_room, each_placed, placed_entries, placed_entry, stay_fine}
-use Rattle.rmt_refine.proofs.StandLaws.{cell_of_spot, Apart, HoldsIts, InOrder, StandsIn, all_carried, at_is, before_from, entry_holds, few_codes, find_some, goes_where_precedes, is_spot, its_key, placed_there, seen_from, shown, shown_seen, shown_unseen, spot, then_so, told_of, widths}
+use Rattle.rmt_refine.proofs.StandLaws.{cell_of_spot, Apart, HoldsIts, InOrder, StandsIn, all_carried, at_is, before_from, entry_holds, few_codes, is_spot, its_key, placed_there, seen_from, shown, shown_seen, shown_unseen, spot, then_so, told_of, widths}
 use Rattle.rmt_refine.proofs.VisibleBitLaws.{seen_coming, seen_next, set-alike, unseen_next}
+use Rattle.rmt_bits.proofs.FindLaws.{find-some}
 
 module _ (p : Program) (m : Map) (c : Config) (names : Names) (cells : RunCells) (before after : List (List Entry)) (told : List CellOf) (placed : List Placed)
     (limits : IsWithinLimits c) (naming : AreNamesOf p names) (units : UnitsCarried p m.places m.placement.parts m.starts c)
@@ -134,14 +133,13 @@ module _ (p : Program) (m : Map) (c : Config) (names : Names) (cells : RunCells)
       let n = at.0.cell in
       let part = part_of_spot c e.table at.0 at.1 in
       let holds = own.holds e at.0 part.0 l.there at.1 at.2 part.2.stage_is in
-      let key = tests_of_cell (λ u. u.value) (widths p c new after t) e.tests in
+      let key = tests_as_one (λ u. u.value) (widths p c new after t) e.tests in
       let in_stage = and_at (slice_get c.stages k)
       (λ (stage : Stage). IsSomeAnd (slot_of stage place) (λ (x : SlotUnit). Contains (candidates cells.seed (bits_of_lanes x.keys) x.memory key) n)) part.0 part.2.stage_is (own.candidate e at.0 l.there at.1 at.2) in
       let in_slot = and_at (slot_of part.0 place) (λ (x : SlotUnit). Contains (candidates cells.seed (bits_of_lanes x.keys) x.memory key) n) part.1 part.2.slot_is in_stage in
-      let candidate = subst (λ j. Contains (candidates cells.seed (bits_of_lanes part.1.keys) part.1.memory j) n) (sym (tests_are (λ u. u.value) (widths p c new after t) e.tests)) in_slot in
-      let r = room_at c cells.seed e.table (its_key p c new after t e) k place n part.0 part.1 part.2 candidate in
+      let r = room_at c cells.seed e.table (its_key p c new after t e) k place n part.0 part.1 part.2 in_slot in
       let passes = test_there e (its_key p c new after t e) k place n r (seen_from cells.version (cells.content k place n) holds.seen) holds.number_is in
-      let found = find_some (its_test e) (rooms_of c (terms_of p t) cells e) r.room r.there passes in
+      let found = find-some (its_test e) (rooms_of c (terms_of p t) cells e) r.room r.there passes in
       (record { entry = e; room = found.0 }, placed_found e (terms_of p t) found.0 (entry_named p names before e naming l) found.1)
 
   -- ---- two placed entries
@@ -192,11 +190,11 @@ module _ (p : Program) (m : Map) (c : Config) (names : Names) (cells : RunCells)
         forth = λ t e same h.
             then_so (goes_first takes.fine.terms.kind a.entry q.entry) (is_before a.room q.room)
             (and_parts (not (goes_first takes.fine.terms.kind a.entry q.entry) || is_before a.room q.room) (not (goes_first takes.fine.terms.kind q.entry a.entry) || is_before q.room a.room) (both same)).0
-            (subst (λ k. goes_first k a.entry q.entry ≡ true) (kind_is t (ap (table_at p) (sym same) ∙ e)) (goes_where_precedes t.kind a.entry q.entry h));
+            (subst (λ k. goes_first k a.entry q.entry ≡ true) (kind_is t (ap (table_at p) (sym same) ∙ e)) h);
         back = λ t e same h.
             then_so (goes_first takes.fine.terms.kind q.entry a.entry) (is_before q.room a.room)
             (and_parts (not (goes_first takes.fine.terms.kind a.entry q.entry) || is_before a.room q.room) (not (goes_first takes.fine.terms.kind q.entry a.entry) || is_before q.room a.room) (both (sym same))).1
-            (subst (λ k. goes_first k q.entry a.entry ≡ true) (kind_is t e) (goes_where_precedes t.kind q.entry a.entry h));
+            (subst (λ k. goes_first k q.entry a.entry ≡ true) (kind_is t e) h);
       }
 
   -- ---- all placed entries

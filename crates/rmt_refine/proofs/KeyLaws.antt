@@ -12,7 +12,7 @@ use Rattle.rmt_ast.specs.State.{joined, passes, width_of}
 use Rattle.rmt_ast.specs.Walk.{all_pass}
 use Rattle.rmt_ast.specs.WellFormed.{IsTest}
 use Rattle.rmt_ast.specs.EntryLists.{IsWhole, IsPrefix}
-use Rattle.rmt_refine.specs.Cells.{tests_as_one}
+use Rattle.rmt_config.specs.Rooms.{tests_as_one}
 use Rattle.rmt_bits.proofs.OptionLaws.{same_Bool}
 
 -- ---- sizes

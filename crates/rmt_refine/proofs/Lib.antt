@@ -44,7 +44,7 @@ mod StandLaws
 mod KeptLaws
 mod FilledLaws
 mod StartLaws
-mod NamedLaws
+pub mod NamedLaws
 mod InputLaws
 mod MetLaws
 mod HitNumberLaws
@@ -56,7 +56,7 @@ pub mod SpelledRankLaws
 pub mod SpelledEntryLaws
 mod SortedLaws
 pub mod SpelledLaws
-mod FitLaws
+pub mod FitLaws
 mod RoomOrderLaws
 mod RefinedExamples
 mod Examples

@@ -18,14 +18,16 @@ use Rattle.rmt_config.specs.Cells.{Content, candidates, cells_in, has_key, is_se
 use Rattle.rmt_refine.specs.declared.map.CellOf.{CellOf}
 use Rattle.rmt_refine.specs.View.{View, found_at, look_in, slot_at, slot_of}
 use Rattle.rmt_refine.specs.Units.{HasKind}
-use Rattle.rmt_refine.specs.Cells.{HoldsEntry, IsBefore, IsSpotOf, IsTold, Spot, TableCellsCarried, first_code, tests_as_one}
+use Rattle.rmt_config.specs.Rooms.{tests_as_one}
+use Rattle.rmt_refine.specs.Cells.{HoldsEntry, IsBefore, IsSpotOf, IsTold, Spot, TableCellsCarried, first_code}
 use Rattle.rmt_refine.specs.LookUps.{FindsAs, FindsEntry}
-use Rattle.rmt_refine.proofs.FindLaws.{best_there, find-least, find-some, none_unless, found_passes}
+use Rattle.rmt_refine.proofs.FindLaws.{best_there, find-least, none_unless, found_passes}
 use Rattle.rmt_refine.proofs.KeyLaws.{FieldsFit, key_agrees, whole_key}
-use Rattle.rmt_refine.proofs.RankLaws.{are_ordered, precedes_chain, precedes_never}
+use Rattle.rmt_refine.proofs.RankLaws.{are_ordered, goes_where_precedes, precedes_chain, precedes_never}
 use Rattle.rmt_refine.proofs.PartLaws.{IsPart, and_at, candidates_within, look_of_part, part_of_slot, part_of_spot, same_candidates, spot_of_part}
 use Rattle.rmt_bits.proofs.MemberLaws.{Contains-first, Contains-later}
 use Rattle.std.proofs.lemmas.List.Elements.{All-contains}
+use Rattle.rmt_bits.proofs.FindLaws.{find-some}
 
 -- ---- what a state hits
 
@@ -180,7 +182,7 @@ behind p c v cells n t es s e o a b l hit keyed sa sb pass =
     elim (are_ordered p n t es s e o l.are keyed sa.there sb.there hit.matching pass) [
       | inl same ↦ inl (l.carried.one e b a sa.there sb.spot sa.spot (subst (λ x. IsTold cells x b) (sym same) sb.told) sa.told)
       | inr either ↦ elim either [
-        | inl before ↦ inr (l.carried.order e o a b sa.there sb.there sa.spot sb.spot sa.told sb.told before, before)
+        | inl before ↦ inr (l.carried.order e o a b sa.there sb.there sa.spot sb.spot sa.told sb.told (goes_where_precedes t.kind e o before), before)
         | inr other ↦ absurd (hit.first o sb.there pass other)
       ]
     ]

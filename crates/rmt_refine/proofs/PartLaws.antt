@@ -1,25 +1,25 @@
 -- The slots in which the parts of a node stand.
-use Rattle.std.proofs.Common.{◌≡◌, ℕ, ◌+◌, ◌*◌, ◌<◌, true, List, Option, Some, None, length, refl, sym, ap, ◌∙◌, subst, arith}
+use Rattle.std.proofs.Common.{◌≡◌, ℕ, ◌<◌, true, List, Option, Some, None, length, refl, sym, ap, ◌∙◌, subst, arith}
 use Rattle.std.specs.Prelude.{⊤, All, Contains, IsSomeAnd, MatchOption, nat_lt, option_and_then, slice_get}
 use Rattle.std.specs.List.{AllZip, range_with_len}
 use Rattle.std.proofs.lemmas.Bool.{ltb-true}
 use Rattle.std.proofs.lemmas.List.Elements.{All-nil, filter_passes}
-use Rattle.std.proofs.lemmas.Nat.{mod_below, mul-le}
 use Rattle.std.proofs.lemmas.Option.{none-some, same_Some, slice_get_within}
 use Rattle.std.proofs.lemmas.Slice.Zip.{AllZip-right}
-use Rattle.rmt_bits.proofs.AllLaws.{All-flat_map, All-range, All-slice_get}
+use Rattle.rmt_bits.proofs.AllLaws.{All-slice_get}
 use Rattle.rmt_bits.specs.declared.lane.Lane.{Lane}
 use Rattle.rmt_refine.specs.Types.{Program, Table, Kind, Node, What, Config, Stage, Unit, SlotUnit, Memory}
 use Rattle.rmt_ast.specs.declared.program.What.TheVariants as what
 use Rattle.rmt_ast.specs.declared.program.Kind.TheVariants as kind
 use Rattle.rmt_config.specs.declared.config.Unit.TheVariants.{Gate, Slot}
 use Rattle.rmt_config.specs.declared.config.Memory.TheVariants.{Without, Exact, Ternary}
-use Rattle.rmt_config.specs.Cells.{candidates, cells_in, index_of, key_row}
+use Rattle.rmt_config.specs.Cells.{candidates, cells_in}
 use Rattle.rmt_pack.specs.declared.placement.Part.{Part}
 use Rattle.rmt_pack.specs.Placements.{quanta_in}
 use Rattle.rmt_refine.specs.View.{View, as_slot, found_in_slot, look_in, slot_at, slot_of}
 use Rattle.rmt_refine.specs.Units.{DoesAs, HasKind, TableCarried, UnitCarried, UnitsCarried, applied, nodes_in, table_at}
 use Rattle.rmt_refine.specs.Cells.{IsSpotOf, Spot}
+use Rattle.rmt_config.proofs.CellLaws.{exact-candidates, ternary-candidates}
 
 -- ---- values that are there
 
@@ -116,12 +116,6 @@ kind_of_part p places parts starts c n t k place stage slot carried at part =
 
 -- ---- its candidates
 
-pub cell_lt : (way row rows per w : ℕ) → way < 4 → row < rows → w < (way * rows + row) * per + 0 + per → w < 4 * rows * per
-cell_lt way row rows per w some_way some_row lt =
-    let ways = mul-le way rows 3 rows (omega (arith, some_way)) (omega arith) in
-    let more = mul-le (way * rows + row + 1) per (4 * rows) per (omega (arith, ways, some_row)) (omega arith) in
-    omega (arith, more, lt)
-
 some_quanta : (kd : Kind) (q k per d w : ℕ) (ks rs cs : List ℕ) → HasKind kd q (Exact k per d w ks rs cs) → 0 < q → 0 < d
 some_quanta kind.Keyless q k per d w ks rs cs h lt = absurd h
 some_quanta kind.Exact q k per d w ks rs cs h lt = omega (arith, h, lt)
@@ -131,20 +125,8 @@ some_quanta kind.Ternary q k per d w ks rs cs h lt = absurd h
 -- they are cells of the memory
 pub candidates_within : (kd : Kind) (q : ℕ) (m : Memory) → HasKind kd q m → 0 < q → (seed bits key : ℕ) → All (λ j. j < cells_in m) (candidates seed bits m key)
 candidates_within kd q Without h lt seed bits key = All-nil (λ j. j < 0)
-candidates_within kd q (Exact k per d first ks rs cs) h lt seed bits key =
-    let rows = 1024 * d in
-    let some = some_quanta kd q k per d first ks rs cs h lt in
-    let row : ℕ → ℕ = λ way. key_row seed first d bits key way in
-    let P : ℕ → Type 0 = λ j. j < 4096 * d * per in
-    All-flat_map P (λ way. range_with_len (index_of rows per (record { way = way; row = row way; position = 0 })) per) (range_with_len 0 4)
-    (All-range (λ way. All P (range_with_len (index_of rows per (record { way = way; row = row way; position = 0 })) per)) 0 4
-    (λ way some_way.
-    All-range P (index_of rows per (record { way = way; row = row way; position = 0 })) per
-    (λ w lw.
-    let below : row way < rows = mod_below _ rows (omega (arith, some)) in
-    let r = cell_lt way (row way) rows per w (omega (arith, some_way)) below (omega (arith, lw)) in
-    omega (arith, r))))
-candidates_within kd q (Ternary d ks rs cs) h lt seed bits key = All-range (λ j. j < 2048 * d) 0 (2048 * d) (λ w lw. omega (arith, lw))
+candidates_within kd q (Exact k per d first ks rs cs) h lt seed bits key = exact-candidates k per d first ks rs cs (some_quanta kd q k per d first ks rs cs h lt) seed bits key
+candidates_within kd q (Ternary d ks rs cs) h lt seed bits key = ternary-candidates d ks rs cs seed bits key
 
 -- the cells in which an entry may stand are those in which a key may stand that it matches; only an exact memory looks at the key
 pub same_candidates : (kd : Kind) (q : ℕ) (m : Memory) → HasKind kd q m → (seed bits key other cell : ℕ) → (kd ≡ kind.Exact → other ≡ key)

@@ -9,6 +9,7 @@ use Rattle.rmt_ast.specs.declared.program.Kind.TheVariants.{Keyless, Exact, Pref
 use Rattle.rmt_ast.specs.declared.entry.Entry.{Entry}
 use Rattle.rmt_ast.specs.EntryLists.{AreTableEntries, HasKeysOnce, HasRank, IsEntry, IsPrefix, IsWhole, terms_of}
 use Rattle.rmt_ast.specs.Lookup.{matches, precedes}
+use Rattle.rmt_ast.specs.RowOrder.{goes_first}
 use Rattle.rmt_ast.specs.State.{width_of}
 use Rattle.rmt_ast.specs.WellFormed.{IsTest}
 use Rattle.rmt_refine.proofs.KeyLaws.{prefix_masks, same_tests, whole_masks}
@@ -50,6 +51,23 @@ precedes_never Ternary e h =
       | inl lt ↦ omega (arith, lt)
       | inr both ↦ let lt = both.1 in omega (arith, lt)
     ]
+
+-- an entry that is found before another goes first
+pub goes_where_precedes : (kind : Kind) (a b : Entry) → precedes kind a b ≡ true → goes_first kind a b ≡ true
+goes_where_precedes Keyless a b h = h
+goes_where_precedes Exact a b h = h
+goes_where_precedes Prefix a b h = or_left (nat_lt b.rank a.rank) ((a.rank == b.rank) && nat_lt a.number b.number) h
+goes_where_precedes Ternary a b h = h
+
+pub goes_never : (kind : Kind) (e : Entry) → goes_first kind e e ≡ true → ⊥
+goes_never Keyless e h = both_ways false refl h
+goes_never Exact e h = both_ways false refl h
+goes_never Prefix e h =
+    elim (or_cases (nat_lt e.rank e.rank) ((e.rank == e.rank) && nat_lt e.number e.number) h) [
+      | inl lt ↦ never_lt e.rank lt
+      | inr both ↦ never_lt e.number (and_parts (e.rank == e.rank) (nat_lt e.number e.number) both).1
+    ]
+goes_never Ternary e h = precedes_never Ternary e h
 
 earlier_chain : (a b c : Entry) → IsEarlier a b → IsEarlier b c → IsEarlier a c
 earlier_chain a b c (inl x) (inl y) = inl (omega (arith, x, y))

@@ -1,15 +1,14 @@
 -- The rooms of a prefix or ternary table stand in order, whatever the key; and an entry that goes before another has fewer entries before it.
-use Rattle.std.proofs.Common.{◌≡◌, ◌⊎◌, ℕ, zero, suc, ◌+◌, ◌*◌, ◌<◌, ◌≤◌, ◌==◌, Bool, true, false, ◌&&◌, cond, List, [], ◌∷◌, ◌++◌, map, get_or, Some, All, Contains, refl, sym, ap, subst, ◌∙◌, inl, inr, arith}
+use Rattle.std.proofs.Common.{◌≡◌, ◌⊎◌, ℕ, ◌+◌, ◌*◌, ◌<◌, ◌≤◌, ◌==◌, Bool, true, false, ◌&&◌, cond, List, [], ◌∷◌, ◌++◌, map, get_or, Some, All, Contains, refl, sym, ap, subst, ◌∙◌, inl, inr, arith}
 use Rattle.std.specs.Prelude.{AllPairs, count_by, nat_lt, slice_get}
 use Rattle.std.specs.List.{enumerate_from, flat_map, range_with_len}
-use Rattle.std.proofs.lemmas.Bool.{and_from, and_parts, eq-eqb, eqb-true, false≢true, false_from_ne_true, lt-ltb, ltb-true, or_cases, or_left, or_right}
+use Rattle.std.proofs.lemmas.Bool.{and_from, and_parts, eq-eqb, eqb-true, false_from_ne_true, lt-ltb, ltb-true, or_cases, or_left, or_right}
 use Rattle.std.proofs.lemmas.List.Elements.{All-append, All-cons, All-head, All-map, All-nil, All-tail, All-weaker}
 use Rattle.std.proofs.lemmas.List.Kept.{AllPairs-cons}
 use Rattle.std.proofs.lemmas.List.Sums.{sum_by-cons}
 use Rattle.std.proofs.lemmas.Option.{get_or_from_slice_get, slice_get_within}
-use Rattle.rmt_bits.proofs.AllLaws.{All-between}
 use Rattle.rmt_bits.proofs.MemberLaws.{Contains-split}
-use Rattle.rmt_bits.proofs.PairLaws.{AllPairs-append, AllPairs-head, AllPairs-map, AllPairs-none, AllPairs-tail, AllPairs-weaker}
+use Rattle.rmt_bits.proofs.PairLaws.{AllPairs-append, AllPairs-head, AllPairs-map, AllPairs-none, AllPairs-tail, AllPairs-weaker, range_rises}
 use Rattle.rmt_ast.specs.declared.entry.Entry.{Entry}
 use Rattle.rmt_ast.specs.declared.program.Kind.TheVariants as kind
 use Rattle.rmt_ast.specs.RowOrder.{goes_first}
@@ -23,7 +22,7 @@ use Rattle.rmt_refine.specs.declared.map.Map.{Map}
 use Rattle.rmt_refine.specs.Units.{HasKind, UnitsCarried, nodes_in, table_at}
 use Rattle.rmt_refine.proofs.NodeLaws.{one_place}
 use Rattle.rmt_refine.proofs.PartLaws.{kind_of_part, unit_of_part}
-use Rattle.rmt_refine.proofs.RankLaws.{precedes_chain, precedes_never}
+use Rattle.rmt_refine.proofs.RankLaws.{goes_never, precedes_chain}
 use Rattle.rmt_refine.proofs.RoomLaws.{PartIs, stages_there}
 
 -- ---- pairs
@@ -53,10 +52,6 @@ pub pair_at : {X : Type 0} (R : X → X → Type 0) (xs : List X) (i j : ℕ) (x
 pair_at R xs i j x y pairs lt at_x at_y =
     subst (λ z. R z y) (get_or_from_slice_get xs i x x at_x)
     (subst (R (get_or xs i x)) (get_or_from_slice_get xs j y x at_y) (pairs i j x lt (slice_get_within xs j y at_y)))
-
-range_rises : (a n : ℕ) → AllPairs (λ x y. x < y) (range_with_len a n)
-range_rises a zero = AllPairs-none (λ x y. x < y)
-range_rises a (suc n) = AllPairs-cons (λ x y. x < y) a (range_with_len (a + 1) n) (All-between (λ y. a < y) (a + 1) n (λ w le lt. omega (arith, le))) (range_rises (a + 1) n)
 
 -- ---- parts
 
@@ -287,17 +282,8 @@ first_chain kind.Exact a b d h g = h
 first_chain kind.Prefix a b d h g = from_longer a d (longer_chain a b d (longer a b h) (longer b d g))
 first_chain kind.Ternary a b d h g = precedes_chain kind.Ternary a b d h g
 
-first_never : (k : Kind) (a : Entry) → goes_first k a a ≡ true → ⊥
-first_never kind.Keyless a h = false≢true h
-first_never kind.Exact a h = false≢true h
-first_never kind.Prefix a h = elim (longer a a h) [
-  | inl lt ↦ omega (arith, lt)
-  | inr both ↦ let lt = both.1 in omega (arith, lt)
-]
-first_never kind.Ternary a h = precedes_never kind.Ternary a h
-
 -- an entry that goes before another has fewer entries before it
 pub fewer_first : (k : Kind) (es : List Entry) (a b : Entry) → Contains es a → goes_first k a b ≡ true → count_by (λ f. goes_first k f a) es < count_by (λ f. goes_first k f b) es
 fewer_first k es a b there h =
     count_one_less (λ f. goes_first k f a) (λ f. goes_first k f b) (λ f g. first_chain k f a b g h) es a there
-    (false_from_ne_true (goes_first k a a) (first_never k a)) h
+    (false_from_ne_true (goes_first k a a) (goes_never k a)) h

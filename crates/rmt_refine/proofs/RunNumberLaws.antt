@@ -5,7 +5,7 @@ use Rattle.std.specs.List.{flat_map, list_any}
 use Rattle.std.proofs.lemmas.Bool.{and_from, and_parts, eq-eqb, false≢true, false_from_ne_true, not-true}
 use Rattle.std.proofs.lemmas.List.Elements.{All-contains, All-contains_itself, All-weaker, Contains-append_cases, Contains-append_left, Contains-append_right}
 use Rattle.std.proofs.lemmas.Option.{same_Some}
-use Rattle.rmt_bits.proofs.MemberLaws.{Contains-first, Contains-flat_map, Contains-map, Contains-split, Contains-unmap, from_flat_map, list_any-Contains}
+use Rattle.rmt_bits.proofs.MemberLaws.{Contains-first, Contains-flat_map, Contains-map, Contains-split, Contains-unmap, from_flat_map, list_any-Contains, any_item}
 use Rattle.rmt_bits.proofs.PairLaws.{AllPairs-head, AllPairs-tail}
 use Rattle.rmt_ast.specs.declared.entry.Entry.{Entry}
 use Rattle.rmt_ast.specs.declared.names.Names.{Names}
@@ -35,7 +35,7 @@ use Rattle.rmt_bits.specs.Bits.{number_of}
 use Rattle.rmt_config.specs.LaneForm.{bits_of_lanes}
 use Rattle.rmt_refine.specs.View.{View}
 use Rattle.rmt_refine.proofs.VisibleBitLaws.{bit_kept}
-use Rattle.rmt_refine.proofs.FitLaws.{FollowOn, any_there, commit_follows, keep_entries, stand_first}
+use Rattle.rmt_refine.proofs.FitLaws.{FollowOn, commit_follows, keep_entries, stand_first}
 use Rattle.rmt_refine.proofs.KeptLaws.{placed_stand}
 use Rattle.rmt_refine.proofs.MetLaws.{IsGood, commit_good, packet_good}
 use Rattle.rmt_refine.proofs.NumberLaws.{counted_is, from_counted, in_counted, one_list}
@@ -299,7 +299,7 @@ module _ (p : Program) (m : Map) (c : Config) (names : Names) (program : IsProgr
               let lt = good.used k place n cell (sym (ap (λ (x : Content). is_occupied x.head) content) ∙ occupied) in
               absurd (omega (arith, lt, new, number, numbers))
           at_cell e k place n slot at counted cell new number occupied true some =
-              let w = any_there (λ x. is_changed x k place n) ws some in
+              let w = any_item (λ x. is_changed x k place n) ws some in
               let made = written c k place n slot at r.cells ws w.0 are.in_order w.1 w.2 in
               let content : next.content k place n ≡ written_content w.0 slot = sym (are.content k place n cell) ∙ made.content_is in
               let full = seen_write w.0 slot (sym (ap (λ (x : Content). is_occupied x.head) content) ∙ occupied) in

@@ -1,14 +1,11 @@
 -- Cells that agree in all cells of slots: look-ups find the same in them, also after the same inputs.
 use Rattle.std.proofs.Common.{◌≡◌, ℕ, ◌<◌, ◌==◌, Bool, true, cond, List, [], ◌∷◌, fold, Option, Some, None, All, refl, sym, ap, subst, ◌∙◌}
 use Rattle.std.specs.Prelude.{IsSomeAnd, find, is_some, option_and_then, option_map, slice_get, unwrap_or}
-use Rattle.std.specs.List.{list_all}
 use Rattle.std.proofs.lemmas.Bool.{and_parts}
-use Rattle.std.proofs.lemmas.List.Elements.{All-head, All-nil, All-tail, All-weaker}
+use Rattle.std.proofs.lemmas.List.Elements.{All-weaker}
 use Rattle.std.proofs.lemmas.Option.{none-some, same_Some}
 use Rattle.rmt_bits.proofs.AllLaws.{All-find, All-from_test, All-slice_get}
-use Rattle.rmt_ast.specs.declared.program.Kind.TheVariants as kind
-use Rattle.rmt_refine.specs.Types.{Config, Memory, SlotUnit, Stage, Unit}
-use Rattle.rmt_config.specs.declared.config.Memory.TheVariants.{Without, Exact, Ternary}
+use Rattle.rmt_refine.specs.Types.{Config, SlotUnit, Stage, Unit}
 use Rattle.rmt_config.specs.declared.config.Unit.TheVariants.{Gate, Slot}
 use Rattle.rmt_config.specs.declared.cell_write.CellWrite.{CellWrite}
 use Rattle.rmt_config.specs.LaneForm.{bits_of_lanes}
@@ -19,33 +16,25 @@ use Rattle.rmt_config.specs.StageForm.{stage_is_formed}
 use Rattle.rmt_config.specs.UnitForm.{memory_is_formed, slot_head_is_formed, unit_is_formed}
 use Rattle.rmt_config.specs.RunCells.{RunCells, as_slot, found_at, found_in_slot, is_changed, is_hit, look_in, no_content, slot_at, with_write, written_content}
 use Rattle.rmt_config.proofs.CountsLemmas.{stages_of_items}
-use Rattle.rmt_config.proofs.SlotLaws.{exact-fits, ternary-fits}
-use Rattle.rmt_refine.proofs.PartLaws.{candidates_within}
+use Rattle.rmt_config.proofs.CellLaws.{candidates-within}
+use Rattle.rmt_config.proofs.SpelledParts.{units-of}
+use Rattle.rmt_bits.proofs.FindLaws.{find-alike}
 
 -- ---- candidates are cells
-
--- the cells in which a key may stand are cells of a memory that keeps the rules of form
-within_memory : (s : SlotUnit) (m : Memory) → slot_head_is_formed s ≡ true → memory_is_formed s m ≡ true → (seed bits key : ℕ) → All (λ n. n < cells_in m) (candidates seed bits m key)
-within_memory s Without head h seed bits key = All-nil (λ n. n < 0)
-within_memory s (Exact k p d w ks rs cs) head h seed bits key = candidates_within kind.Exact d (Exact k p d w ks rs cs) refl (exact-fits s k p d w ks rs cs head h).some_d seed bits key
-within_memory s (Ternary d ks rs cs) head h seed bits key = candidates_within kind.Ternary d (Ternary d ks rs cs) refl (ternary-fits s d ks rs cs head h).some_d seed bits key
 
 unit_within : (u : Unit) (slot : SlotUnit) → unit_is_formed u ≡ true → as_slot u ≡ Some slot → (seed key : ℕ) → All (λ n. n < cells_in slot.memory) (candidates seed (bits_of_lanes slot.keys) slot.memory key)
 unit_within (Gate g) slot h e = absurd (none-some slot e)
 unit_within (Slot s) slot h e =
     let parts = and_parts (slot_head_is_formed s) (memory_is_formed s s.memory) h in
     subst (λ (x : SlotUnit). (seed key : ℕ) → All (λ n. n < cells_in x.memory) (candidates seed (bits_of_lanes x.keys) x.memory key)) (same_Some s slot e)
-    (λ seed key. within_memory s s.memory parts.0 parts.1 seed (bits_of_lanes s.keys) key)
-
-units_formed : (stage : Stage) → stage_is_formed stage ≡ true → list_all unit_is_formed stage.units ≡ true
-units_formed stage h = (and_parts _ _ (and_parts _ _ (and_parts _ _ (and_parts _ _ (and_parts _ _ (and_parts _ _ h).0).0).0).0).0).1
+    (λ seed key. candidates-within s s.memory parts.0 parts.1 seed (bits_of_lanes s.keys) key)
 
 stage_within : (stage : Stage) (place : ℕ) (slot : SlotUnit) → stage_is_formed stage ≡ true → option_and_then as_slot (slice_get stage.units place) ≡ Some slot
     → (seed key : ℕ) → All (λ n. n < cells_in slot.memory) (candidates seed (bits_of_lanes slot.keys) slot.memory key)
 stage_within stage place slot h e = by (slice_get stage.units place) refl e
   where
     units : All (λ u. unit_is_formed u ≡ true) stage.units
-    units = All-from_test (λ u. unit_is_formed u ≡ true) unit_is_formed (λ u e. e) stage.units (units_formed stage h)
+    units = All-from_test (λ u. unit_is_formed u ≡ true) unit_is_formed (λ u e. e) stage.units (units-of stage h)
 
     by : (o : Option Unit) → slice_get stage.units place ≡ o → option_and_then as_slot o ≡ Some slot → (seed key : ℕ) → All (λ n. n < cells_in slot.memory) (candidates seed (bits_of_lanes slot.keys) slot.memory key)
     by None at k = absurd (none-some slot k)
@@ -89,12 +78,6 @@ pub same_writes : (c : Config) (a b : RunCells) (ws : List CellWrite) → SameCe
 same_writes c a b [] h = h
 same_writes c a b (w ∷ ws) h = same_writes c (with_write c a w) (with_write c b w) ws (same_write c a b w h)
 
--- tests that agree on all items find the same
-find_alike : {X : Type 0} (p q : X → Bool) (xs : List X) → All (λ x. p x ≡ q x) xs → find p xs ≡ find q xs
-find_alike p q [] h = refl
-find_alike {X} p q (x ∷ xs) h =
-    ap (λ (b : Bool). cond b (Some x) (find p xs)) (All-head (λ y. p y ≡ q y) x xs h) ∙ ap (λ (o : Option X). cond (q x) (Some x) o) (find_alike p q xs (All-tail (λ y. p y ≡ q y) x xs h))
-
 module _ (c : Config) (formed : Formed c) (a b : RunCells) (same : SameCells c a b) (v k place key : ℕ) where
   cell_of : (slot : SlotUnit) → slot_at c k place ≡ Some slot → (n : ℕ) → n < cells_in slot.memory → IsCell c k place n
   cell_of slot e n lt = subst (λ (o : Option SlotUnit). IsSomeAnd o (λ s. n < cells_in s.memory)) (sym e) lt
@@ -102,7 +85,7 @@ module _ (c : Config) (formed : Formed c) (a b : RunCells) (same : SameCells c a
   slot_same : (named : Bool) (slot : SlotUnit) → slot_at c k place ≡ Some slot → found_in_slot named v a k place key slot ≡ found_in_slot named v b k place key slot
   slot_same named slot e =
       ap (λ seed. option_map (found_at a k place) (find (tests a) (candidates seed (bits_of_lanes slot.keys) slot.memory key))) same.seed
-      ∙ ap (option_map (found_at a k place)) (find_alike (tests a) (tests b) among (All-weaker (λ n. n < cells_in slot.memory) (λ n. tests a n ≡ tests b n) alike among within))
+      ∙ ap (option_map (found_at a k place)) (find-alike (tests a) (tests b) among (All-weaker (λ n. n < cells_in slot.memory) (λ n. tests a n ≡ tests b n) alike among within))
       ∙ by (find (tests b) among) refl
     where
       tests : RunCells → ℕ → Bool

@@ -1,5 +1,5 @@
 -- A commit that moves no cell changes at most the cells of the entries that it and the commit before it added or removed.
-use Rattle.std.proofs.Common.{◌≡◌, ◌≢◌, ◌⊎◌, ℕ, ◌+◌, ◌*◌, ◌%◌, ◌<◌, ◌≤◌, ◌==◌, ◌&&◌, ◌||◌, Bool, true, false, not, cond, List, [], ◌∷◌, ◌++◌, length, map, Option, Some, None, All, Contains, refl, sym, ap, subst, ◌∙◌, inl, inr, arith}
+use Rattle.std.proofs.Common.{◌≡◌, ◌≢◌, ◌⊎◌, ℕ, ◌+◌, ◌*◌, ◌<◌, ◌≤◌, ◌==◌, ◌&&◌, ◌||◌, Bool, true, false, not, cond, List, [], ◌∷◌, ◌++◌, length, map, Option, Some, None, All, Contains, refl, sym, ap, subst, ◌∙◌, inl, inr, arith}
 use Rattle.std.specs.Prelude.{AllPairs, IfSome, nat_lt, option_map, unwrap_or, ⊤}
 use Rattle.std.proofs.lemmas.Bool.{and_from, and_parts, both_ways, eq-eqb, eqb-true, false≢true, false_from_ne_true, ltb-true, or_cases}
 use Rattle.std.proofs.lemmas.List.{length-append, length-map}
@@ -7,7 +7,7 @@ use Rattle.std.proofs.lemmas.List.Elements.{All-contains, All-contains_itself, A
 use Rattle.std.proofs.lemmas.Option.{none-some}
 use Rattle.rmt_bits.proofs.AllLaws.{All-slice_get}
 use Rattle.rmt_bits.proofs.ListLaws.{find-none}
-use Rattle.rmt_bits.proofs.MemberLaws.{Contains-filter, Contains-first, Contains-later, Contains-map, Contains-split, Contains-unmap, list_any-Contains}
+use Rattle.rmt_bits.proofs.MemberLaws.{Contains-filter, Contains-first, Contains-later, Contains-map, Contains-split, Contains-unmap, list_any-Contains, any_item}
 use Rattle.rmt_bits.proofs.PairLaws.{AllPairs-head, AllPairs-map, AllPairs-tail}
 use Rattle.rmt_ast.specs.declared.entry.Entry.{Entry}
 use Rattle.rmt_ast.specs.declared.names.Names.{Names}
@@ -34,9 +34,9 @@ use Rattle.rmt_refine.specs.Outcomes.{entries_at}
 use Rattle.rmt_refine.specs.ShortCommits.{CommitsAreShort, IsReached, arrived, begins, touched, turned}
 use Rattle.rmt_refine.proofs.CellNumberLaws.{cells_listed, coded_slot}
 use Rattle.rmt_refine.proofs.EntryLaws.{is_numbered, listed_in, one_entry}
-use Rattle.rmt_refine.proofs.FilledLaws.{fills}
+use Rattle.rmt_refine.proofs.FilledLaws.{fills, full_occupied}
 use Rattle.rmt_refine.proofs.FilledLaws.{differ as filled_differ}
-use Rattle.rmt_refine.proofs.FitLaws.{FollowOn, any_there, commit_follows, keep_entries}
+use Rattle.rmt_refine.proofs.FitLaws.{FollowOn, commit_follows, keep_entries}
 use Rattle.rmt_refine.proofs.KeptLaws.{at_its_cell, each_is_placed, its_cell, placed_differ, placed_kept, placed_occupied, placed_stand}
 use Rattle.rmt_refine.proofs.MetLaws.{IsGood, commit_good, packet_good, start_good}
 use Rattle.rmt_refine.proofs.NamedLaws.{names_tell}
@@ -116,9 +116,6 @@ record IsTidy (c : Config) (recent : List Entry) (cells : RunCells) : Type 0 whe
 
 full_bits : (i : ℕ) → visible_bits (1 + 2 * 3 + 8 * i) ≡ 3
 full_bits i = omega arith
-
-full_head : (i : ℕ) → is_occupied (1 + 2 * 3 + 8 * i) ≡ true
-full_head i = eq-eqb ((1 + 2 * 3 + 8 * i) % 2) 1 (omega arith)
 
 module _ (p : Program) (m : Map) (c : Config) (names : Names) (program : IsProgram p) (limits : IsWithinLimits c) (named : c.names ≡ Some names) (naming : AreNamesOf p names)
     (first : List (List Entry)) (carries : Carries p first m c) where
@@ -249,7 +246,7 @@ module _ (p : Program) (m : Map) (c : Config) (names : Names) (program : IsProgr
               Contains-map (λ (x : Entry). x.number) touching e
               (Contains-append_right (come r.entries.lists after.lists) (come after.lists r.entries.lists) e (Contains-filter (λ x. not (is_numbered_in after_all x)) before_all e in_before (ap not new)))
           by e in_before number true still =
-              let f = any_there (λ (o : Entry). o.number == e.number) after_all still in
+              let f = any_item (λ (o : Entry). o.number == e.number) after_all still in
               absurd (goes_on e f.0 in_before number f.1 (eqb-true f.0.number e.number f.2))
 
       -- ---- the cells afterwards
@@ -495,7 +492,7 @@ module _ (p : Program) (m : Map) (c : Config) (names : Names) (program : IsProgr
           empty_by s None e h = refl
           empty_by s (Some q) e h =
               let f = placed_spot placed s q e in
-              absurd (both_ways (is_occupied (filled_content c names (Some q) s.stage s.place).head) h (ap is_occupied (filled_head q f.0 s.stage s.place) ∙ full_head (q.room.part.first + q.entry.action)))
+              absurd (both_ways (is_occupied (filled_content c names (Some q) s.stage s.place).head) h (ap is_occupied (filled_head q f.0 s.stage s.place) ∙ full_occupied (q.room.part.first + q.entry.action)))
 
     made_tidy : (moved : Bool) (seed : ℕ) (next : RunCells) → Makes c names r.cells r.entries.lists after.lists moved seed next → IsTidy c touching next
     made_tidy moved seed cells (stays placed made) = settled_tidy placed made

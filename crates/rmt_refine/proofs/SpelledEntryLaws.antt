@@ -11,8 +11,8 @@ use Rattle.rmt_ast.specs.State.{width_of}
 use Rattle.rmt_ast.specs.WellFormed.{HasKey, IsProgram, IsTable}
 use Rattle.rmt_config.specs.Cells.{Content, code_of}
 use Rattle.rmt_config.specs.NamesForm.{args_of_data, entry_in, held_by, params_in, prefix_length, rank_in, rank_told, tests_of_key}
-use Rattle.rmt_config.specs.Rooms.{PartAt}
-use Rattle.rmt_refine.specs.Cells.{HoldsEntry, tests_as_one}
+use Rattle.rmt_config.specs.Rooms.{PartAt, tests_as_one}
+use Rattle.rmt_refine.specs.Cells.{HoldsEntry}
 use Rattle.rmt_refine.specs.Units.{applied, table_at}
 use Rattle.rmt_refine.proofs.TheLaw.{its_table, table_entries}
 use Rattle.rmt_refine.specs.Types.{CellNumber, Config, Kind, Node, Program, Table, Test}

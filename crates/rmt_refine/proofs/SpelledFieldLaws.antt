@@ -14,7 +14,7 @@ use Rattle.rmt_ast.specs.Naming.{action_named, table_named}
 use Rattle.rmt_ast.specs.WellFormed.{Fits, IsTest}
 use Rattle.rmt_config.specs.Effects.{HasArguments}
 use Rattle.rmt_config.specs.NamesForm.{args_of_data, params_in, tests_of_key}
-use Rattle.rmt_refine.specs.Cells.{tests_as_one}
+use Rattle.rmt_config.specs.Rooms.{tests_as_one}
 use Rattle.rmt_refine.specs.Types.{Program, Table, Test}
 use Rattle.rmt_pack.proofs.TcamLaws.{masks-fit, side_by_side-lt, values-fit}
 

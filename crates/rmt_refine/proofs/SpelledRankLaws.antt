@@ -15,7 +15,7 @@ use Rattle.rmt_ast.specs.declared.names.RankOf.{RankOf}
 use Rattle.rmt_ast.specs.EntryLists.{IsPrefix}
 use Rattle.rmt_ast.specs.Naming.{rank_of, ranks_in, stands_first, with_rank}
 use Rattle.rmt_config.specs.NamesForm.{prefix_length, rank_told}
-use Rattle.rmt_refine.specs.Cells.{tests_as_one}
+use Rattle.rmt_config.specs.Rooms.{tests_as_one}
 use Rattle.rmt_refine.specs.Types.{Test}
 
 -- ---- the length of a prefix

@@ -1,6 +1,6 @@
 -- Entries in rooms: where each entry has a room of its own in which a view shows it, and the view shows nothing else, the cells hold the entries.
-use Rattle.std.proofs.Common.{◌≡◌, ◌≢◌, ◌⊎◌, ℕ, zero, suc, ◌+◌, ◌*◌, ◌<◌, ◌≤◌, ◌==◌, Bool, true, false, not, ◌&&◌, ◌||◌, cond, List, [], ◌∷◌, map, length, Some, Contains, refl, sym, ap, subst, ◌∙◌, inl, inr, arith}
-use Rattle.std.specs.Prelude.{AllPairs, IsSomeAnd, find, nat_lt, slice_get, slice_index, slice_index_or, sum_by}
+use Rattle.std.proofs.Common.{◌≡◌, ◌≢◌, ℕ, zero, suc, ◌+◌, ◌*◌, ◌<◌, ◌≤◌, ◌==◌, Bool, true, false, not, ◌&&◌, ◌||◌, cond, List, [], ◌∷◌, map, length, Some, Contains, refl, sym, ap, subst, ◌∙◌, inl, inr, arith}
+use Rattle.std.specs.Prelude.{AllPairs, IsSomeAnd, nat_lt, slice_get, slice_index, slice_index_or, sum_by}
 use Rattle.std.specs.List.{AllByRecursion}
 use Rattle.std.proofs.lemmas.Bool.{and_from, and_parts, eq-eqb, eqb-true, false≢true, lt-ltb, ltb-true, or_cases, or_left, or_right}
 use Rattle.std.proofs.lemmas.List.Elements.{All-contains, All-contains_itself, All-map, All-weaker}
@@ -8,12 +8,11 @@ use Rattle.std.proofs.lemmas.List.Sums.{sum_by-take-le}
 use Rattle.std.proofs.lemmas.Option.{get_or_from_slice_get, none-some, same_Some}
 use Rattle.rmt_bits.proofs.AllLaws.{All-find}
 use Rattle.rmt_bits.proofs.ListLaws.{find-passes}
-use Rattle.rmt_bits.proofs.MemberLaws.{Contains-map, Contains-split, Contains-unmap}
+use Rattle.rmt_bits.proofs.MemberLaws.{Contains-map, Contains-unmap}
 use Rattle.rmt_bits.proofs.PairLaws.{AllPairs-map, AllPairs-weaker}
 use Rattle.rmt_ast.specs.declared.entry.Entry.{Entry}
 use Rattle.rmt_ast.specs.declared.program.Kind.TheVariants as kind
 use Rattle.rmt_ast.specs.EntryLists.{AreEntries, IsEntry, params_of, terms_of}
-use Rattle.rmt_ast.specs.Lookup.{precedes}
 use Rattle.rmt_ast.specs.RowOrder.{goes_first}
 use Rattle.rmt_ast.specs.State.{width_of}
 use Rattle.rmt_refine.specs.Types.{Config, Kind, Node, Program, SlotUnit, Stage, Table, What}
@@ -21,14 +20,13 @@ use Rattle.rmt_config.specs.LaneForm.{bits_of_lanes}
 use Rattle.rmt_config.specs.Cells.{Content, candidates, cells_in, code_of, is_seen}
 use Rattle.rmt_config.specs.Limits.{IsWithinLimits}
 use Rattle.rmt_config.specs.RunCells.{no_content, sees, slot_at}
-use Rattle.rmt_config.specs.Rooms.{Room, args_as_one, entry_content, is_at, is_before, is_same, key_number}
+use Rattle.rmt_config.specs.Rooms.{Room, args_as_one, entry_content, is_at, is_before, is_same, key_number, tests_as_one}
 use Rattle.rmt_config.specs.Commits.{IsCell, Placed, all_entries, placed_at}
 use Rattle.rmt_refine.specs.declared.map.CellOf.{CellOf}
 use Rattle.rmt_refine.specs.declared.map.Map.{Map}
 use Rattle.rmt_refine.specs.View.{View, as_slot, slot_of}
 use Rattle.rmt_refine.specs.Units.{DoesAs, TableCarried, UnitsCarried, applied, nodes_in, table_at}
 use Rattle.rmt_refine.specs.Cells.{CellsCarried, HoldsEntry, IsBefore, IsCandidate, IsSpotOf, IsTold, Spot, TableCellsCarried, first_code}
-use Rattle.rmt_refine.specs.Cells.{tests_as_one as tests_of_cell}
 use Rattle.rmt_refine.proofs.PartLaws.{and_at, and_from as some_from, candidates_within, kind_of_part, part_of_spot, slot_is_unit, slot_of_part, spot_of_part, then_some, unit_of_part}
 use Rattle.rmt_refine.proofs.EntryLaws.{IsListed, action_is, listed_in, one_entry, two_items}
 use Rattle.rmt_bits.specs.declared.lane.Lane.{Lane}
@@ -41,31 +39,17 @@ use Rattle.rmt_pack.specs.declared.placement.Part.{Part}
 use Rattle.rmt_refine.proofs.NodeLaws.{one_place}
 use Rattle.rmt_refine.proofs.StageLaws.{first_code_next}
 use Rattle.rmt_refine.proofs.TheLaw.{table_entries}
+use Rattle.rmt_refine.proofs.RankLaws.{goes_never}
 use Rattle.rmt_refine.proofs.RoomLaws.{RoomIs}
-use Rattle.rmt_refine.proofs.ContentLaws.{has_arguments, tests_are}
+use Rattle.rmt_refine.proofs.ContentLaws.{has_arguments}
+use Rattle.rmt_bits.proofs.FindLaws.{find-some}
 
 -- ---- general
-
--- an item that passes is found, or one before it
-pub find_some : {X : Type 0} (test : X → Bool) (xs : List X) (x : X) → Contains xs x → test x ≡ true → (y : X) × (find test xs ≡ Some y)
-find_some test [] x there pass = absurd (let lt = there.1 in omega (arith, lt))
-find_some {X} test (z ∷ zs) x there pass = by (test z) refl (Contains-split z zs x there) (λ later. find_some test zs x later pass)
-  where
-    by : (b : Bool) → test z ≡ b → (z ≡ x) ⊎ Contains zs x → (Contains zs x → (y : X) × (find test zs ≡ Some y)) → (y : X) × (find test (z ∷ zs) ≡ Some y)
-    by true e h rest = (z, ap (λ b. cond b (Some z) (find test zs)) e)
-    by false e (inl same) rest = absurd (false≢true (sym e ∙ ap test same ∙ pass))
-    by false e (inr later) rest = let r = rest later in (r.0, ap (λ b. cond b (Some z) (find test zs)) e ∙ r.1)
 
 -- what is so if a test is
 pub then_so : (x y : Bool) → (not x || y) ≡ true → x ≡ true → y ≡ true
 then_so true y h e = h
 then_so false y h e = absurd (false≢true e)
-
-pub goes_where_precedes : (k : Kind) (a b : Entry) → precedes k a b ≡ true → goes_first k a b ≡ true
-goes_where_precedes kind.Keyless a b h = h
-goes_where_precedes kind.Exact a b h = h
-goes_where_precedes kind.Prefix a b h = or_left (nat_lt b.rank a.rank) ((a.rank == b.rank) && nat_lt a.number b.number) h
-goes_where_precedes kind.Ternary a b h = h
 
 abbrev pub spot : Placed → Spot
 spot q = record { stage = q.room.part.stage; place = q.room.part.place; cell = q.room.cell }
@@ -95,15 +79,6 @@ pub at_from : (k place n : ℕ) (r : Room) → r.part.stage ≡ k → r.part.pla
 at_from k place n r a b d =
     and_from ((r.part.stage == k) && (r.part.place == place)) (r.cell == n)
     (and_from (r.part.stage == k) (r.part.place == place) (eq-eqb r.part.stage k a) (eq-eqb r.part.place place b)) (eq-eqb r.cell n d)
-
-pub precedes_itself : (k : Kind) (e : Entry) → precedes k e e ≡ true → ⊥
-precedes_itself kind.Keyless e h = false≢true h
-precedes_itself kind.Exact e h = false≢true h
-precedes_itself kind.Prefix e h = let lt = ltb-true e.rank e.rank h in omega (arith, lt)
-precedes_itself kind.Ternary e h = elim (or_cases (nat_lt e.rank e.rank) ((e.rank == e.rank) && nat_lt e.number e.number) h) [
-  | inl less ↦ let lt = ltb-true e.rank e.rank less in omega (arith, lt)
-  | inr more ↦ let lt = ltb-true e.number e.number (and_parts (e.rank == e.rank) (nat_lt e.number e.number) more).1 in omega (arith, lt)
-]
 
 code_at : (xs : List Stage) (k : ℕ) (x : Stage) → AllByRecursion (λ (s : Stage). sum_by unit_instructions s.units ≤ 32) xs → slice_get xs k ≡ Some x → sum_by unit_instructions x.units ≤ 32
 code_at [] k x all e = absurd (none-some x e)
@@ -184,7 +159,7 @@ module _ (p : Program) (c : Config) (v : View) (lists : List (List Entry)) where
 
   -- two entries of a table stand in their order
   abbrev pub InOrder : Placed → Placed → Type 0
-  InOrder a b = (t : Table) → table_at p a.entry.table ≡ Some t → a.entry.table ≡ b.entry.table → precedes t.kind a.entry b.entry ≡ true → is_before a.room b.room ≡ true
+  InOrder a b = (t : Table) → table_at p a.entry.table ≡ Some t → a.entry.table ≡ b.entry.table → goes_first t.kind a.entry b.entry ≡ true → is_before a.room b.room ≡ true
 
   pub record Apart (a b : Placed) : Type 0 where
     pub rooms : is_same a.room b.room ≡ false
@@ -209,13 +184,12 @@ module _ (p : Program) (m : Map) (c : Config) (v : View) (lists : List (List Ent
       spot_of_part c q.entry.table q.room.part.stage q.room.part.place q.room.cell r.stage slot r.part
       (All-contains (λ j. j < cells_in slot.memory) (candidates v.seed (bits_of_lanes slot.keys) slot.memory (its_key p c v lists t q.entry)) q.room.cell within s.room.candidate)
 
-  pub is_candidate : (q : Placed) (s : Stands q) → IsCandidate c v (tests_of_cell (λ u. u.value) (widths p c v lists s.listed.table) q.entry.tests) (spot q)
+  pub is_candidate : (q : Placed) (s : Stands q) → IsCandidate c v (tests_as_one (λ u. u.value) (widths p c v lists s.listed.table) q.entry.tests) (spot q)
   is_candidate q s =
       let slot = q.room.part.slot in
       let r = s.room.part in
-      let key = tests_of_cell (λ u. u.value) (widths p c v lists s.listed.table) q.entry.tests in
-      let there : Contains (candidates v.seed (bits_of_lanes slot.keys) slot.memory key) q.room.cell =
-      subst (λ k. Contains (candidates v.seed (bits_of_lanes slot.keys) slot.memory k) q.room.cell) (tests_are (λ u. u.value) (widths p c v lists s.listed.table) q.entry.tests) s.room.candidate in
+      let key = tests_as_one (λ u. u.value) (widths p c v lists s.listed.table) q.entry.tests in
+      let there : Contains (candidates v.seed (bits_of_lanes slot.keys) slot.memory key) q.room.cell = s.room.candidate in
       some_from (slice_get c.stages q.room.part.stage)
       (λ (stage : Stage). IsSomeAnd (slot_of stage q.room.part.place) (λ (x : SlotUnit). Contains (candidates v.seed (bits_of_lanes x.keys) x.memory key) q.room.cell)) r.stage r.part.stage_is
       (some_from (slot_of r.stage q.room.part.place) (λ (x : SlotUnit). Contains (candidates v.seed (bits_of_lanes x.keys) x.memory key) q.room.cell) slot r.part.slot_is there)
@@ -257,8 +231,8 @@ module _ (p : Program) (m : Map) (c : Config) (v : View) (lists : List (List Ent
       record {
         seen = seen;
         code = code ∙ ap (λ n. n + e.action) s.room.part.first;
-        key = tests_are (λ u. u.value) (widths p c v lists t) e.tests;
-        mask = tests_are (λ u. u.mask) (widths p c v lists t) e.tests;
+        key = refl;
+        mask = refl;
         held = subst (λ ws. HasArguments (params_of p (slice_index t.actions e.action)) e.args (args_as_one ws e.args)) (sym params) (has_arguments (params_of p (slice_index t.actions e.action)) e.args act.fits);
         number_is = refl;
       }
@@ -280,7 +254,7 @@ module _ (p : Program) (m : Map) (c : Config) (v : View) (lists : List (List Ent
     pub placed_there : (q : Placed) → Contains placed q → placed_at placed q.room.part.stage q.room.part.place q.room.cell ≡ Some q
     placed_there q there =
         let test : Placed → Bool = λ (x : Placed). is_same q.room x.room in
-        let found = find_some test placed q there (at_from q.room.part.stage q.room.part.place q.room.cell q.room refl refl refl) in
+        let found = find-some test placed q there (at_from q.room.part.stage q.room.part.place q.room.cell q.room refl refl refl) in
         let is = same_room q found.0 there (All-find (Contains placed) test placed found.0 (All-contains_itself placed) found.1) (find-passes test placed found.0 found.1) in
         found.1 ∙ ap Some (sym is)
 
@@ -397,19 +371,19 @@ module _ (p : Program) (m : Map) (c : Config) (v : View) (lists : List (List Ent
             HoldsEntry p x.0 (widths p c v lists x.0) (first_code x.1 x.3.place) x.2 (v.number x.3.stage x.3.place x.3.cell) (v.content x.3.stage x.3.place x.3.cell))
             (λ i. (table i, stages i, r.entry i, r.spot_is i)) (holds q r.there)
 
-        table_candidate : (e : Entry) (at : Spot) → At e at → IsCandidate c v (tests_of_cell (λ u. u.value) (widths p c v lists t) e.tests) at
+        table_candidate : (e : Entry) (at : Spot) → At e at → IsCandidate c v (tests_as_one (λ u. u.value) (widths p c v lists t) e.tests) at
         table_candidate e at r =
             let q = r.placed_one in
             let s = its q r.there in
             let table = its_table q s r.table in
-            subst (λ (x : Table × Entry × Spot). IsCandidate c v (tests_of_cell (λ u. u.value) (widths p c v lists x.0) x.1.tests) x.2)
+            subst (λ (x : Table × Entry × Spot). IsCandidate c v (tests_as_one (λ u. u.value) (widths p c v lists x.0) x.1.tests) x.2)
             (λ i. (table i, r.entry i, r.spot_is i)) (is_candidate q s)
 
-        table_order : (e f : Entry) (a b : Spot) → At e a → At f b → precedes t.kind e f ≡ true → IsBefore a b
+        table_order : (e f : Entry) (a b : Spot) → At e a → At f b → goes_first t.kind e f ≡ true → IsBefore a b
         table_order e f a b ra rb h =
             let qa = ra.placed_one in
             let qb = rb.placed_one in
-            let goes : precedes t.kind qa.entry qb.entry ≡ true = (λ i. precedes t.kind (ra.entry i) (rb.entry i)) ∙ h in
+            let goes : goes_first t.kind qa.entry qb.entry ≡ true = (λ i. goes_first t.kind (ra.entry i) (rb.entry i)) ∙ h in
             let same : qa.entry.table ≡ qb.entry.table = ra.table ∙ sym rb.table in
             let in_order : InOrder p c v lists qa qb → IsBefore a b =
             λ order. subst (λ (x : Spot × Spot). IsBefore x.0 x.1) (λ i. (ra.spot_is i, rb.spot_is i)) (before_to qa qb (order t (ap (table_at p) ra.table ∙ table_is) same goes)) in
@@ -417,7 +391,7 @@ module _ (p : Program) (m : Map) (c : Config) (v : View) (lists : List (List Ent
               | inl apart ↦ in_order apart.forth
               | inr more ↦ elim more [
                 | inl apart ↦ in_order apart.back
-                | inr is ↦ absurd (precedes_itself t.kind qa.entry (ap (λ (q : Placed). precedes t.kind qa.entry q.entry) is ∙ goes))
+                | inr is ↦ absurd (goes_never t.kind qa.entry (ap (λ (q : Placed). goes_first t.kind qa.entry q.entry) is ∙ goes))
               ]
             ]
 

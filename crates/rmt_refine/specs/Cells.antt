@@ -1,11 +1,11 @@
 -- Fourth part of a configuration's carrying a program: the cells hold its entries.
 use Rattle.std.specs.Prelude.{◌≡◌, ◌<◌, ◌⊎◌, ℕ, ◌+◌, List, true, Some, All, IsSomeAnd, Contains, map, take, slice_get, slice_index}
 use Rattle.std.specs.List.{sum_by}
-use Rattle.rmt_refine.specs.Types.{Program, Test, Table, Config, Stage, SlotUnit}
+use Rattle.rmt_refine.specs.Types.{Program, Table, Config, Stage, SlotUnit}
 use Rattle.rmt_ast.specs.declared.entry.Entry.{Entry}
 use Rattle.rmt_ast.specs.WellFormed.{AreDistinct}
 use Rattle.rmt_ast.specs.EntryLists.{params_of}
-use Rattle.rmt_ast.specs.Lookup.{precedes}
+use Rattle.rmt_ast.specs.RowOrder.{goes_first}
 use Rattle.rmt_ast.specs.State.{width_of}
 use Rattle.rmt_config.specs.LaneForm.{bits_of_lanes}
 use Rattle.rmt_config.specs.Cells.{Content, candidates, cells_in, code_of, is_seen}
@@ -14,13 +14,9 @@ use Rattle.rmt_refine.specs.declared.map.CellOf.{CellOf}
 use Rattle.rmt_refine.specs.View.{View, slot_of}
 use Rattle.rmt_refine.specs.Units.{table_at}
 use Rattle.rmt_config.specs.Effects.{HasArguments}
-use Rattle.rmt_pack.specs.Tcam.{side_by_side}
+use Rattle.rmt_config.specs.Rooms.{tests_as_one}
 
 -- ---- an entry in a cell
-
--- the numbers of an entry's tests as one, those of the first field highest
-abbrev pub tests_as_one : (Test → ℕ) → List ℕ → List Test → ℕ
-tests_as_one part widths tests = side_by_side widths (map part tests)
 
 -- a cell holds an entry of a table, whose key fields have these widths, and whose first instruction in the stage has this number
 pub record HoldsEntry (p : Program) (t : Table) (widths : List ℕ) (first : ℕ) (e : Entry) (number : ℕ) (content : Content) : Type 0 where
@@ -70,9 +66,9 @@ pub record TableCellsCarried (p : Program) (c : Config) (v : View) (cells : List
       → HoldsEntry p t widths (first_code stage at.place) e (v.number at.stage at.place at.cell) (v.content at.stage at.place at.cell)
   -- an entry stands where its key is looked for
   pub candidate : (e : Entry) (at : Spot) → Contains es e → IsSpotOf c n at → IsTold cells e at → IsCandidate c v (tests_as_one (λ t. t.value) widths e.tests) at
-  -- an entry that goes before another stands before it
+  -- an entry that goes before another stands before it: the longer prefix, or the lower priority number, and then the earlier line
   pub order : (e f : Entry) (a b : Spot) → Contains es e → Contains es f → IsSpotOf c n a → IsSpotOf c n b → IsTold cells e a → IsTold cells f b
-      → precedes t.kind e f ≡ true → IsBefore a b
+      → goes_first t.kind e f ≡ true → IsBefore a b
 
 -- the cells that a configuration has in a view hold the entries of a program, and the map tells of each cell once and of no other one
 pub record CellsCarried (p : Program) (c : Config) (v : View) (cells : List CellOf) (lists : List (List Entry)) : Type 0 where

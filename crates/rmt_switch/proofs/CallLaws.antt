@@ -6,7 +6,6 @@ use Rattle.std.proofs.lemmas.List.{append-nil, map-append, set-get_or}
 use Rattle.rmt_queues.specs.Calls.{Call, ItemCopy, after, after_all, given, given_by, held}
 use Rattle.rmt_queues.specs.Calls.Call.{Take}
 use Rattle.rmt_queues.specs.Lists.{Lists, fits, has_room, item_of, offered, queue_of, taken, with_item}
-use Rattle.rmt_queues.proofs.CallLaws.{many_on}
 use Rattle.rmt_queues.proofs.CopyLaws.{with_copy_none}
 use Rattle.rmt_queues.proofs.OfferLaws.{queue_sent}
 use Rattle.rmt_switch.specs.Copies.{counted, sent_in}
@@ -26,10 +25,6 @@ counted-append count s [] more = omega arith
 counted-append count s (call ∷ calls) more =
     let rest = counted-append count (after s call) calls more in
     omega (arith, rest)
-
-pub many_after : (s : Lists) (calls : List Call) → length (after_all s calls).queues ≡ length s.queues
-many_after s [] = refl
-many_after s (call ∷ calls) = many_after (after s call) calls ∙ many_on s call
 
 -- one call more
 module _ (s : Lists) (calls : List Call) (call : Call) where

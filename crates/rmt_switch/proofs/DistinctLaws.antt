@@ -2,12 +2,13 @@
 use Rattle.std.proofs.Common.{◌≡◌, ℕ, ◌<◌, ◌&&◌, Bool, cond, Option, Some, None, true, false, not, List, [], ◌∷◌, length, get_or, ap, sym, refl, eqb, ◌∙◌, subst, arith}
 use Rattle.std.specs.Prelude.{nat_eq, nat_lt, nat_le, replicate, unwrap_or}
 use Rattle.std.specs.List.{All, IsDistinct, list_any}
-use Rattle.std.proofs.lemmas.Bool.{and_parts, eq-eqb, leb-true, ltb-true, ne_eqb, not-true, true≢false}
+use Rattle.std.proofs.lemmas.Bool.{and_parts, eq-eqb, leb-true, ne_eqb, not-true, true≢false}
 use Rattle.std.proofs.lemmas.List.{length-replicate}
 use Rattle.std.proofs.lemmas.List.Elements.{All-cons, All-nil, All-replicate, All-tail, recursion_from_All}
 use Rattle.std.proofs.lemmas.List.Folds.{list_any_at}
 use Rattle.std.proofs.lemmas.Map.Keys.{IsDistinct-cons}
-use Rattle.rmt_switch.specs.GroupText.{AreGroups, Group, IsPortList, all_ports, are_distinct, are_ports, before, below, decimal, group_of, numbers_of, port_of, words}
+use Rattle.rmt_switch.specs.GroupText.{AreGroups, Group, IsPortList, all_ports, are_distinct, are_ports, before, decimal, group_of, numbers_of, port_of, words}
+use Rattle.rmt_bits.proofs.DigitLaws.{below_limit}
 
 pub distinct_none : IsDistinct nat_eq []
 unfolding IsDistinct
@@ -42,18 +43,6 @@ ports_tested ports h within =
 
 abbrev pub IsBelow : ℕ → Type 0
 IsBelow n = n < 512
-
--- what is told is below its limit
-below_limit : (limit : ℕ) (o : Option ℕ) (n : ℕ) → below limit o ≡ Some n → n < limit
-below_limit limit None n e = absurd (cc)
-below_limit limit (Some m) n e = tested (nat_lt m limit) refl e
-  where
-    tested : (b : Bool) → nat_lt m limit ≡ b → cond b (Some m) None ≡ Some n → n < limit
-    tested true t h =
-        let same : m ≡ n = ap (λ (o : Option ℕ). unwrap_or o 0) h in
-        let less = ltb-true m limit t in
-        omega (arith, same, less)
-    tested false t h = absurd (cc)
 
 numbers_joined : (first : Option ℕ) (rest : Option (List ℕ)) → ((n : ℕ) → first ≡ Some n → IsBelow n) → ((ns : List ℕ) → rest ≡ Some ns → All IsBelow ns)
     → (ns : List ℕ) → before first rest ≡ Some ns → All IsBelow ns

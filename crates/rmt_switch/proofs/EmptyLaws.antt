@@ -7,14 +7,14 @@ use Rattle.std.proofs.lemmas.List.{append-nil, length-drop, length-replicate, ni
 use Rattle.rmt_queues.specs.Calls.{Call, after, after_all, given, held, queued}
 use Rattle.rmt_queues.specs.Calls.Call.{Offer, Take}
 use Rattle.rmt_queues.specs.Lists.{Lists, empty, fits, has_room, item_of, queue_of, taken, with_item}
-use Rattle.rmt_queues.proofs.CallLaws.{many_on, nothing_lost}
+use Rattle.rmt_queues.proofs.CallLaws.{many_on, nothing_lost, many_all}
 use Rattle.rmt_queues.proofs.CopyLaws.{with_copy_deep}
 use Rattle.rmt_queues.proofs.EmptyLaws.{empty_queue}
 use Rattle.rmt_queues.proofs.OfferLaws.{queue_sent}
 use Rattle.rmt_queues.proofs.TakeLaws.{queue_other, queue_taken}
 use Rattle.rmt_switch.specs.Copies.{round, rounds}
 use Rattle.rmt_switch.specs.Laws.{EverythingIsSent}
-use Rattle.rmt_switch.proofs.CallLaws.{after_all-append, many_after}
+use Rattle.rmt_switch.proofs.CallLaws.{after_all-append}
 use Rattle.rmt_switch.proofs.RoundLaws.{rounds_more}
 
 -- ---- no queue has more items than the depth
@@ -84,7 +84,7 @@ left_after s ports port (suc n) lt below =
     let before = after_all s (rounds ports n) in
     let more : after_all s (rounds ports (suc n)) ≡ after_all before (round ports) =
     ap (λ (m : ℕ). after_all s (rounds ports m)) next ∙ ap (after_all s) (sym (rounds_more [] ports n)) ∙ after_all-append s (rounds ports n) (round ports) in
-    let many = many_after s (rounds ports n) in
+    let many = many_all s (rounds ports n) in
     let here = round_here before ports port lt (omega (arith, below, many)) in
     let rest = left_after s ports port n lt below in
     let fewer = length-drop 1 (queue_of before port) in
@@ -104,7 +104,7 @@ all_sent cells ports depth calls port lt =
     let size = length-replicate ports none in
     let below : port < length s.queues = omega (arith, size, lt) in
     let t = after_all s calls in
-    let many = many_after s calls in
+    let many = many_all s calls in
     let nothing : length (queue_of s port) ≤ s.depth = let e = ap (λ (queue : List ℕ). length queue) (empty_queue ports port) in omega (arith, e) in
     let deep = deep_after s calls port below nothing in
     let left = left_after t ports port depth lt (omega (arith, below, many)) in

@@ -1,24 +1,16 @@
 -- Group texts, read line by line, and the numbers of a line, word by word.
-use Rattle.std.proofs.Common.{◌≡◌, ℕ, ◌+◌, ◌<◌, ◌==◌, Bool, true, false, not, cond, List, [], ◌∷◌, ◌++◌, Option, Some, None, Result, Ok, Err, length, refl, sym, ap, subst, ◌∙◌, append_assoc, arith}
-use Rattle.std.specs.List.{before_first, after_first, filter}
+use Rattle.std.proofs.Common.{◌≡◌, ℕ, ◌+◌, ◌<◌, ◌==◌, true, false, List, [], ◌∷◌, ◌++◌, Option, Some, None, Result, Ok, Err, length, refl, sym, ap, subst, ◌∙◌, append_assoc, arith}
+use Rattle.std.specs.List.{before_first, after_first}
 use Rattle.std.specs.Result.{IsErrAnd}
-use Rattle.std.proofs.lemmas.Bool.{eqb-true, true≢false}
 use Rattle.rmt_bits.specs.Lines.{is_passed_over, numbered_lines}
-use Rattle.rmt_bits.proofs.LineLaws.{is_feed, numbered_lines-first, slice_split-each}
+use Rattle.rmt_bits.proofs.LineLaws.{is_feed, numbered_lines-first, is_space, word_first, word_none}
 use Rattle.rmt_switch.specs.declared.fault.GroupFault.{GroupFault}
 use Rattle.rmt_switch.specs.declared.fault.GroupFault.TheVariants.{At, NoMemory}
 use Rattle.rmt_switch.specs.Fault.{Gives, IsFault}
 use Rattle.rmt_switch.specs.GroupText.{all_ports, before, group_of, groups_of, no_groups, numbers_of, port_of, reading, with_group, words}
 use Rattle.rmt_switch.specs.LinesSoFar.{Reads, behind}
 
-abbrev is_space : ℕ → Bool
-is_space b = b == 32
-
 -- ---- words
-
--- the words of a line: what stands before its first space, if anything, and then those behind it
-words_cut : (line : List ℕ) → words line ≡ cond (not (length (before_first is_space line) == 0)) (before_first is_space line ∷ words (after_first is_space line)) (words (after_first is_space line))
-words_cut line = slice_split-each is_space 0 (filter (λ word. not (length word == 0))) (filter (λ word. not (length word == 0))) (λ p ps. cond (not (length p == 0)) (p ∷ ps) ps) (λ p ps. refl) refl line
 
 module _ (numbers : List ℕ) (said : Option (List ℕ)) (line word rest : List ℕ) (so_far : said ≡ behind numbers (all_ports (words line))) (front : word ≡ before_first is_space line) (back : rest ≡ after_first is_space line) where
   -- a word says a number
@@ -26,7 +18,7 @@ module _ (numbers : List ℕ) (said : Option (List ℕ)) (line word rest : List 
   number_more n some e = so_far ∙ ap (λ ws. behind numbers (all_ports ws)) here ∙ ap (λ o. behind numbers (before o (all_ports (words rest)))) e ∙ moved (all_ports (words rest))
     where
       here : words line ≡ word ∷ words rest
-      here = rw (front, back) (words_cut line ∙ rw (← front, some) refl)
+      here = word_first line word rest front back some
 
       moved : (o : Option (List ℕ)) → behind numbers (before (Some n) o) ≡ behind (numbers ++ n ∷ []) o
       moved None = refl
@@ -37,14 +29,14 @@ module _ (numbers : List ℕ) (said : Option (List ℕ)) (line word rest : List 
   number_none some e = so_far ∙ ap (λ ws. behind numbers (all_ports ws)) here ∙ ap (λ o. behind numbers (before o (all_ports (words rest)))) e
     where
       here : words line ≡ word ∷ words rest
-      here = rw (front, back) (words_cut line ∙ rw (← front, some) refl)
+      here = word_first line word rest front back some
 
   -- nothing stands between two spaces
   pub number_skipped : (length word == 0) ≡ true → said ≡ behind numbers (all_ports (words rest))
   number_skipped none = so_far ∙ ap (λ ws. behind numbers (all_ports ws)) next
     where
       next : words line ≡ words rest
-      next = rw back (words_cut line ∙ rw (← front, none) refl)
+      next = word_none line word rest front back none
 
 -- ---- lines
 
@@ -81,14 +73,6 @@ module _ (text rest : List ℕ) (n : ℕ) (groups : List (List ℕ)) (r : Reads 
 pub gives_fault : (fault : GroupFault) (n : ℕ) (wanted : Result (List (List ℕ)) GroupFault) (bad : Type 0) → IsFault fault n bad → (bad → wanted ≡ Err (At 8 n)) → Gives (Err fault) wanted
 gives_fault NoMemory n wanted bad h each = tt
 gives_fault (At code line) n wanted bad h each = each h.2 ∙ rw (h.0, h.1) refl
-
-pub has_bytes : (text : List ℕ) → (length text == 0) ≡ false → 0 < length text
-has_bytes [] h = absurd (true≢false h)
-has_bytes (x ∷ xs) h = omega arith
-
-pub has_none : (text : List ℕ) → (length text == 0) ≡ true → text ≡ []
-has_none [] h = refl
-has_none (x ∷ xs) h = absurd (omega (arith, eqb-true (length (x ∷ xs)) 0 h))
 
 -- a fault that is handed on
 pub gives_handed : (r : Result (List (List ℕ)) GroupFault) (fault : GroupFault) (wanted : Result (List (List ℕ)) GroupFault) → IsErrAnd r (λ e. e ≡ fault) → Gives (Err fault) wanted → Gives r wanted

@@ -1,25 +1,13 @@
 -- What a group text says: which ports the packets of a group go to.
 use Rattle.std.specs.Prelude.{◌≡◌, ℕ, ◌<◌, ◌≤◌, Bool, true, not, ◌==◌, ◌&&◌, nat_lt, nat_le, nat_eq, if◌then◌else◌, List, [], ◌∷◌, length, replicate, slice_set, slice_index_or, Option, Some, None, Result, Ok, Err}
-use Rattle.std.specs.List.{All, IsDistinct, filter, list_all, list_any, slice_split}
-use Rattle.rmt_bits.specs.Digits.{is_digit, number_of_digits}
+use Rattle.std.specs.List.{All, IsDistinct, list_any}
 use Rattle.rmt_bits.specs.Lines.{numbered_lines}
+pub use Rattle.rmt_bits.specs.Digits.{below, decimal}
+pub use Rattle.rmt_bits.specs.Lines.{words}
 use Rattle.rmt_switch.specs.declared.fault.GroupFault.{GroupFault}
 use Rattle.rmt_switch.specs.declared.fault.GroupFault.TheVariants.{At}
 
 -- ---- the numbers of a line
-
--- what stands between spaces
-abbrev pub words : List ℕ → List (List ℕ)
-words line = filter (λ word. not (length word == 0)) (slice_split (λ b. b == 32) line)
-
--- the number of one or more decimal digits, and of nothing else
-abbrev pub decimal : List ℕ → Option ℕ
-decimal word = if not (length word == 0) && list_all is_digit word then Some (number_of_digits 10 word) else None
-
--- a number below a limit
-abbrev pub below : ℕ → Option ℕ → Option ℕ
-below limit None = None
-below limit (Some n) = if nat_lt n limit then Some n else None
 
 -- the number of a port or of a group, below 512
 abbrev pub port_of : List ℕ → Option ℕ

@@ -6,10 +6,10 @@ ghost use Rattle.rmt_switch.specs.GroupText.{are_distinct, are_ports, group_of, 
 ghost use Rattle.rmt_switch.specs.Fault.{Gives, IsFault};
 ghost use Rattle.rmt_switch.specs.LinesSoFar.{told};
 
-use crate::cuts::cut;
 use crate::fault::GroupFault;
 use crate::group_table::Groups;
 use crate::numbers::numbers_of;
+use rmt_bits::cuts::cut;
 use rmt_bits::lines::is_passed_over;
 use rmt_bits::sequence::Sequence;
 use std::alloc::{AllocError, Global};

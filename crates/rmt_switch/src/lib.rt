@@ -2,7 +2,6 @@
 #![tactic(auto)]
 
 mod clocking;
-mod cuts;
 pub mod fault;
 pub mod group_table;
 mod group_text;

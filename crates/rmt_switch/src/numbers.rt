@@ -1,23 +1,12 @@
 //! The numbers that a line says.
 
-ghost use Rattle.std.specs.Prelude.{◌≡◌, ◌<◌, ◌+◌, IfOk};
-ghost use Rattle.rmt_switch.specs.GroupText.{below, decimal, numbers_of, port_of};
+ghost use Rattle.std.specs.Prelude.{◌≡◌, IfOk};
+ghost use Rattle.rmt_switch.specs.GroupText.{numbers_of, port_of};
 
-use crate::cuts::cut;
-use rmt_bits::digits::{are_digits, number_up_to};
+use rmt_bits::cuts::cut;
+use rmt_bits::digits::decimal;
 use rmt_bits::sequence::Sequence;
 use std::alloc::{AllocError, Global};
-
-/// The number that one or more decimal digits say, where it is at most `last`.
-fn decimal(last: u128, word: &[u8]) -> Option<u128>
-    ensures { result ≡ below (last + 1) (decimal word.now) }
-{
-    if !word.is_empty() && are_digits(word) {
-        number_up_to(last, 10, word)
-    } else {
-        None
-    }
-}
 
 /// The number below 512 that a word says.
 fn port_of(word: &[u8]) -> Option<u16>

@@ -2,6 +2,7 @@
 
 use rmt_bits::answer::Verdict;
 use rmt_packets::answer_line::write_line;
+use rmt_packets::line_kind::{LineKind, kind_of};
 use rmt_packets::lines::{Line, next_line};
 use rmt_packets::packet_line::{PacketFault, read_packet};
 use std::alloc::AllocError;
@@ -64,6 +65,30 @@ fn packets_of_lines(rt: HostRuntime) -> Result<(), Fail> {
     longest.push(b'0')?;
     reads(&rt, longest.as_slice(), Err(PacketFault::Code(3)), &[])?;
     Ok(())
+}
+
+const KINDS: [(&[u8], LineKind); 14] = [
+    (b"+ b 7 go 6", LineKind::Addition),
+    (b"+ ", LineKind::Addition),
+    (b"- b 7", LineKind::Removal),
+    (b"- ", LineKind::Removal),
+    (b"commit", LineKind::Commit),
+    (b"0 07", LineKind::Packet),
+    (b"+", LineKind::Packet),
+    (b"-", LineKind::Packet),
+    (b"+b 7 go 6", LineKind::Packet),
+    (b" + b 7 go 6", LineKind::Packet),
+    (b"commit ", LineKind::Packet),
+    (b"commits", LineKind::Packet),
+    (b"Commit", LineKind::Packet),
+    (b"commi", LineKind::Packet),
+];
+
+#[test]
+fn kinds_of_lines(rt: HostRuntime) {
+    for (line, kind) in KINDS {
+        assert_eq!(rt; kind_of(line), kind);
+    }
 }
 
 const ANSWERS: [(u64, Verdict, &[u8]); 5] = [

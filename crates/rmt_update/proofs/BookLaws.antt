@@ -12,10 +12,11 @@ use Rattle.rmt_ast.specs.NameRules.{table_is_formed}
 use Rattle.rmt_config.specs.declared.config.Config.{Config}
 use Rattle.rmt_config.specs.Form.{Formed, names_are_fit, visible_with}
 use Rattle.rmt_config.specs.MemoryRules.{MemoryIsFormed}
-use Rattle.rmt_config.specs.NamesForm.{by_number, entries_by_cell, entries_of_node, entries_spelled, has_entries, has_key_bits, has_order, has_parts, is_filled_so, is_made_so, names_fit, node_count_of, stands_in_candidates}
+use Rattle.rmt_config.specs.NamesForm.{by_number, entries_by_cell, entries_of_node, entries_spelled, has_entries, has_key_bits, has_order, has_parts, has_rows, is_filled_so, is_made_so, names_fit, node_count_of, stands_in_candidates}
 use Rattle.rmt_config.specs.Rooms.{PartAt, parts_of}
 use Rattle.rmt_config.specs.RunCells.{own_cells}
 use Rattle.rmt_config.proofs.SpelledParts.{parts-stand}
+use Rattle.rmt_config.proofs.SpelledWays.{parts-follow}
 use Rattle.rmt_update.specs.declared.book.Book.{Book}
 use Rattle.rmt_update.specs.declared.book.table.PartCells.{PartCells}
 use Rattle.rmt_update.specs.declared.book.table.TableCells.{TableCells}
@@ -34,6 +35,7 @@ pub record TableFacts (c : Config) (t : TableName) : Type 0 where
   pub parts : has_parts c t ≡ true
   pub bits : has_key_bits c t ≡ true
   pub entries : has_entries c t ≡ true
+  pub rows : has_rows c t.kind t ≡ true
 
 tables-by : (c : Config) (ts : List TableName) → list_all table_is_formed ts ≡ true → list_all (has_parts c) ts ≡ true → list_all (is_made_so c) ts ≡ true → list_all (is_filled_so c) ts ≡ true
     → All (TableFacts c) ts
@@ -43,7 +45,7 @@ tables-by c (t ∷ ts) formed parts made filled =
     let two = and_parts (has_parts c t) (list_all (has_parts c) ts) parts in
     let three = and_parts (is_made_so c t) (list_all (is_made_so c) ts) made in
     let four = and_parts (is_filled_so c t) (list_all (is_filled_so c) ts) filled in
-    All-cons (TableFacts c) t ts (record { formed = one.0; parts = two.0; bits = (and_parts _ _ (and_parts _ _ three.0).0).0; entries = (and_parts _ _ four.0).1 })
+    All-cons (TableFacts c) t ts (record { formed = one.0; parts = two.0; bits = (and_parts _ _ (and_parts _ _ three.0).0).0; entries = (and_parts _ _ four.0).1; rows = (and_parts _ _ three.0).1 })
     (tables-by c ts one.1 two.1 three.1 four.1)
 
 pub names-fit : (c : Config) (names : Names) → Formed c → c.names ≡ Some names → names_fit c names ≡ true
@@ -67,7 +69,8 @@ memory-of c formed = record { rows = formed.whole.rows; tables = formed.whole.ta
 
 module _ (c : Config) (formed : Formed c) (named : visible_with c.names ≡ 3) (t : TableName) (facts : TableFacts c t) where
   part-facts : All (PartFacts c t) (parts_of c t.node)
-  part-facts = all-facts c t (parts_of c t.node) (parts-stand c t.node formed.items (memory-of c formed)) (and_parts _ _ facts.parts).1 facts.bits
+  part-facts = all-facts c t (parts_of c t.node) (parts-stand c t.node formed.items (memory-of c formed)) (parts-follow c t.node (memory-of c formed))
+      (and_parts _ _ facts.parts).1 facts.bits
 
   parts-hold : (ps : List PartAt) (xs : List PartCells) → AllZip (IsListed c t) ps xs → All (PartFacts c t) ps → list_all (stands_in_candidates c) ps ≡ true → AllZip (HoldsPart (own_cells c)) ps xs
   parts-hold [] [] zip all fit = tt
@@ -75,7 +78,7 @@ module _ (c : Config) (formed : Formed c) (named : visible_with c.names ≡ 3) (
   parts-hold (p ∷ ps) [] zip all fit = absurd zip
   parts-hold (p ∷ ps) (x ∷ xs) zip all fit =
       let both = and_parts (stands_in_candidates c p) (list_all (stands_in_candidates c) ps) fit in
-      (part-holds c t p (All-head (PartFacts c t) p ps all).stands both.0 x zip.0, parts-hold ps xs zip.1 (All-tail (PartFacts c t) p ps all) both.1)
+      (part-holds c t p (All-head (PartFacts c t) p ps all).stands named both.0 x zip.0, parts-hold ps xs zip.1 (All-tail (PartFacts c t) p ps all) both.1)
 
   table-holds : (x : TableCells) → IsTable c t x → HoldsTable c (own_cells c) x
   table-holds x h =
@@ -144,6 +147,7 @@ stands-at-first c names b formed named zip odd seed nodes =
     let three : visible_with c.names ≡ 3 = ap visible_with named in
     let all = table-facts c names formed named in
     record {
+      formed = formed;
       names = named ∙ ap (λ (ts : List TableName). Some (record { tables = ts })) (names-of c names.tables b.tables.items zip);
       version = odd;
       seed = seed;

@@ -6,7 +6,7 @@ use Rattle.std.specs.BTreeSet.{insert_key}
 use Rattle.std.specs.Ordering.{match_ordering, nat_cmp}
 use Rattle.std.specs.declared.cmp.Ordering.{Ordering}
 use Rattle.std.specs.declared.cmp.Ordering.TheVariants.{Less, Equal, Greater}
-use Rattle.std.proofs.lemmas.Bool.{eq-eqb, eqb-true, false≢true}
+use Rattle.std.proofs.lemmas.Bool.{eq-eqb, eqb-true, false≢true, or_right}
 use Rattle.std.proofs.lemmas.List.Elements.{All-cons, All-filter, All-head, All-nil, All-tail, All-weaker}
 use Rattle.rmt_bits.proofs.AlikeLaws.{filter_alike, filter_all}
 use Rattle.rmt_bits.proofs.AllLaws.{All-left, All-right, All-unmap}
@@ -52,14 +52,10 @@ among_append (x ∷ xs) ys n = by (x == n) (among_append xs ys n)
     by true rest = refl
     by false rest = rest
 
-pub or_true : (a b : Bool) → b ≡ true → (a || b) ≡ true
-or_true true b e = refl
-or_true false b e = e
-
 pub among_lists : (lists : List (List Entry)) (node n : ℕ) → is_among (entry_numbers (list_of lists node)) n ≡ true → is_among (flat_map entry_numbers lists) n ≡ true
 among_lists [] node n h = h
 among_lists (x ∷ xs) zero n h = among_append (entry_numbers x) (flat_map entry_numbers xs) n ∙ rw h refl
-among_lists (x ∷ xs) (suc node) n h = among_append (entry_numbers x) (flat_map entry_numbers xs) n ∙ or_true (is_among (entry_numbers x) n) (is_among (flat_map entry_numbers xs) n) (among_lists xs node n h)
+among_lists (x ∷ xs) (suc node) n h = among_append (entry_numbers x) (flat_map entry_numbers xs) n ∙ or_right (is_among (entry_numbers x) n) (is_among (flat_map entry_numbers xs) n) (among_lists xs node n h)
 
 pub among_insert : (ks : List ℕ) (n x : ℕ) → is_among (insert_key nat_cmp ks n) x ≡ (is_among ks x || (n == x))
 among_insert [] n x = by (n == x)
@@ -170,7 +166,7 @@ first_among key (x ∷ xs) n e = by (is_keyed_by key x) e (first_among key xs n)
     by : (b : Bool) → slice_get (map (λ (y : Entry). y.number) (cond b (x ∷ filter (is_keyed_by key) xs) (filter (is_keyed_by key) xs))) 0 ≡ Some n
         → (slice_get (keyed_numbers key xs) 0 ≡ Some n → is_among (entry_numbers xs) n ≡ true) → ((x.number == n) || is_among (entry_numbers xs) n) ≡ true
     by true s rest = let same : x.number ≡ n = ap (λ o. unwrap_or o n) s in rw (eq-eqb x.number n same) refl
-    by false s rest = or_true (x.number == n) (is_among (entry_numbers xs) n) (rest s)
+    by false s rest = or_right (x.number == n) (is_among (entry_numbers xs) n) (rest s)
 
 -- without a key: without the first number at it
 pub without_number : (key : EntryKey) (es : List Entry) (n : ℕ) → Rise es → slice_get (keyed_numbers key es) 0 ≡ Some n → without key es ≡ filter (not_number n) es

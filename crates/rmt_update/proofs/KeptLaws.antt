@@ -1,8 +1,6 @@
 -- What is read of a cell is what it holds.
-use Rattle.std.proofs.Common.{◌≡◌, ℕ, ◌+◌, ◌-◌, ◌*◌, ◌/◌, ◌%◌, ◌^◌, ◌<◌, ◌≤◌, List, [], ◌∷◌, length, map, Bool, true, false, ◌&&◌, ◌==◌, cond, Some, option_map, unwrap_or, refl, sym, ap, ◌∙◌, subst, arith}
-use Rattle.std.specs.Prelude.{All, find}
-use Rattle.std.proofs.lemmas.List.Elements.{All-head, All-tail}
-use Rattle.std.proofs.lemmas.Nat.{div_below, mul-le}
+use Rattle.std.proofs.Common.{◌≡◌, ℕ, ◌+◌, ◌*◌, ◌/◌, ◌%◌, ◌^◌, ◌<◌, ◌≤◌, List, length, map, ◌&&◌, ◌==◌, refl, sym, ap, ◌∙◌, subst, arith}
+use Rattle.std.specs.Prelude.{All}
 use Rattle.std.proofs.Math.Nat.{div-one}
 use Rattle.std.proofs.Math.Pow.{pow_mono}
 use Rattle.rmt_bits.specs.Bits.{bytes_of, number_of, slice}
@@ -19,6 +17,7 @@ use Rattle.rmt_config.proofs.UnitBits.{Within}
 use Rattle.rmt_update.specs.Words.{joined}
 use Rattle.rmt_update.specs.Kept.{Tells}
 use Rattle.rmt_update.proofs.WordLaws.{joined-unit}
+use Rattle.rmt_bits.proofs.FindLaws.{found-lt}
 
 -- ---- bytes of a number
 
@@ -65,30 +64,11 @@ row-kept held row blocks blocks' words bytes bits are same lt is =
 
 -- ---- rows of TCAM
 
-found-small : {X : Type 0} (p : X → Bool) (val : X → ℕ) (m : ℕ) (xs : List X) → 0 < m → All (λ x. val x < m) xs → unwrap_or (option_map val (find p xs)) 0 < m
-found-small p val m [] some all = some
-found-small p val m (x ∷ xs) some all = by (p x) (found-small p val m xs some (All-tail (λ y. val y < m) x xs all))
-  where
-    by : (b : Bool) → unwrap_or (option_map val (find p xs)) 0 < m → unwrap_or (option_map val (cond b (Some x) (find p xs))) 0 < m
-    by true rest = All-head (λ y. val y < m) x xs all
-    by false rest = rest
-
 pub tcam-within : (val : TcamRow → ℕ) (rows : List TcamRow) → All (λ (r : TcamRow). val r < 2 ^ 40) rows → Within 40 (tcam_row val rows)
-tcam-within val rows all block row = found-small (λ (r : TcamRow). (r.block == block) && (r.row == row)) val (2 ^ 40) rows (omega arith) all
+tcam-within val rows all block row = found-lt (λ (r : TcamRow). (r.block == block) && (r.row == row)) val (2 ^ 40) rows (omega arith) all
 
 pub values-small : (rows : List TcamRow) → All (λ (r : TcamRow). r.value ≤ r.mask) rows → All (λ (r : TcamRow). r.mask < 2 ^ 40) rows → All (λ (r : TcamRow). r.value < 2 ^ 40) rows
 values-small rows within masks k d lt = let a = within k d lt in let b = masks k d lt in omega arith
-
--- a quantum of a listed row has its blocks
-pub quantum-there : (d width len n : ℕ) → len ≡ d * width → n < 2048 * d → (n / 2048 + 1) * width ≤ len
-quantum-there d width len n is lt =
-    let low : n / 2048 < d = div_below n 2048 d (omega arith) (omega (arith, lt)) in
-    let fit : (n / 2048 + 1) * width ≤ d * width = mul-le (n / 2048 + 1) width d width (omega (arith, low)) (omega arith) in
-    omega (arith, fit, is)
-
--- how many blocks a key takes
-pub width-is : (bits bits' : ℕ) → bits' ≡ bits → (bits' + 39) / 40 ≡ divided_up bits 40
-width-is bits bits' e = ap (λ b. (b + 39) / 40) e ∙ ap (λ n. n / 40) (let s : bits + 39 ≡ bits + 40 - 1 = omega arith in s)
 
 -- ---- layouts
 

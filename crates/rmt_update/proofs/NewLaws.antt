@@ -5,7 +5,7 @@ use Rattle.std.specs.List.{flat_map, list_all, range_with_len}
 use Rattle.std.proofs.lemmas.Bool.{and_parts, leb-true}
 use Rattle.std.proofs.lemmas.List.{append-nil}
 use Rattle.std.proofs.lemmas.List.Sums.{fold-append}
-use Rattle.std.proofs.lemmas.List.Elements.{All-cons, All-head, All-map, All-nil, All-tail}
+use Rattle.std.proofs.lemmas.List.Elements.{All-head, All-map, All-nil, All-tail}
 use Rattle.std.proofs.lemmas.Option.{none-some, same_Some, slice_get-get_or}
 use Rattle.rmt_bits.proofs.AllLaws.{All-find, All-parts, All-from_test, All-slice_get}
 use Rattle.rmt_bits.proofs.PairLaws.{AllPairs-across, AllPairs-none, AllPairs-right}
@@ -25,21 +25,15 @@ use Rattle.rmt_update.specs.Stands.{AreHeld, AreLeft, AreSlots, numbers_in, some
 use Rattle.rmt_update.proofs.CommitLaws.{among_numbers}
 use Rattle.rmt_update.proofs.FilterLaws.{Rise, among_lists}
 use Rattle.rmt_update.proofs.SettleLaws.{none_gone}
+use Rattle.rmt_bits.proofs.MostLaws.{fold_max}
 
 -- ---- the next number
 
 abbrev pub step : ℕ → ℕ → ℕ
 step next n = max next (n + 1)
 
-fold_from : (z : ℕ) (ns : List ℕ) → z ≤ fold (λ next n. max next (n + 1)) z ns
-fold_from z [] = omega arith
-fold_from z (n ∷ ns) = let more = fold_from (max z (n + 1)) ns in omega (arith, more)
-
 pub below_next : (z : ℕ) (ns : List ℕ) → All (λ n. n < fold (λ next n. max next (n + 1)) z ns) ns
-below_next z [] = All-nil (λ n. n < z)
-below_next z (n ∷ ns) =
-    let from = fold_from (max z (n + 1)) ns in
-    All-cons (λ k. k < fold (λ next m. max next (m + 1)) (max z (n + 1)) ns) n ns (omega (arith, from)) (below_next (max z (n + 1)) ns)
+below_next z ns = (fold_max ns z).1
 
 pub next_up_to : (limit z : ℕ) (ns : List ℕ) → All (λ n. n < limit) ns → z ≤ limit → fold (λ next n. max next (n + 1)) z ns ≤ limit
 next_up_to limit z [] h le = le

@@ -1,7 +1,6 @@
 -- The ranks that names tell, by numbers in a map.
-use Rattle.std.proofs.Common.{◌≡◌, ℕ, zero, suc, ◌+◌, ◌-◌, ◌^◌, ◌<◌, ◌≤◌, List, [], ◌∷◌, Bool, true, false, Option, Some, cond, drop, eqb, leb, ◌&&◌, get_or, length, option_map, subst, sum, add-one, inl, inr, refl, sym, ap, ◌∙◌, arith}
+use Rattle.std.proofs.Common.{◌≡◌, ℕ, ◌+◌, ◌^◌, ◌<◌, ◌≤◌, List, [], ◌∷◌, Bool, true, false, Option, Some, cond, drop, eqb, leb, ◌&&◌, get_or, length, option_map, subst, sum, add-one, inl, inr, refl, sym, ap, ◌∙◌, arith}
 use Rattle.std.specs.Prelude.{find}
-use Rattle.std.specs.List.{range_with_len}
 use Rattle.std.specs.Cmp.{nat_cmp_is}
 use Rattle.std.specs.Ordering.{is_eq, nat_cmp}
 use Rattle.std.specs.declared.cmp.Ordering.TheVariants.{Less, Equal, Greater}
@@ -50,23 +49,6 @@ told-more ranks at n d old new lt put was =
     by : (b : Bool) (x : RankOf) (o : Option RankOf) → cond b (Some x.rank) (option_map (λ (r : RankOf). r.rank) o) ≡ option_map (λ (r : RankOf). r.rank) (cond b (Some x) o)
     by true x o = refl
     by false x o = refl
-
--- ---- the first number of a run that keeps a rule
-
-pub find-here : (p : ℕ → Bool) (a end : ℕ) → a < end → p a ≡ true → find p (range_with_len a (end - a)) ≡ Some a
-find-here p a end lt e = by (end - a) (omega (arith, lt))
-  where
-    by : (n : ℕ) → 0 < n → find p (range_with_len a n) ≡ Some a
-    by zero some = absurd (omega (arith, some))
-    by (suc n) some = ap (λ b. cond b (Some a) (find p (range_with_len (a + 1) n))) e
-
-pub find-next : (p : ℕ → Bool) (a end : ℕ) → a < end → p a ≡ false → find p (range_with_len a (end - a)) ≡ find p (range_with_len (a + 1) (end - (a + 1)))
-find-next p a end lt e = by (end - a) (end - (a + 1)) (omega (arith, lt))
-  where
-    by : (n m : ℕ) → n ≡ m + 1 → find p (range_with_len a n) ≡ find p (range_with_len (a + 1) m)
-    by zero m h = absurd (omega (arith, h))
-    by (suc n) m h =
-        ap (λ b. cond b (Some a) (find p (range_with_len (a + 1) n))) e ∙ ap (λ k. find p (range_with_len (a + 1) k)) (omega (arith, h))
 
 -- ---- keys of one field
 

@@ -16,6 +16,7 @@ use Rattle.rmt_update.specs.Settled.{Extends, ExtendsInPart, keeps}
 use Rattle.rmt_update.specs.Stands.{AreSlots, left_at, somes}
 use Rattle.rmt_update.proofs.FilterLaws.{list_of-other, list_of-set, numbers_of}
 use Rattle.rmt_update.proofs.LeftLaws.{slots_from}
+use Rattle.rmt_bits.proofs.ListLaws.{filter-short}
 
 pub lists_same : (xs ys : List (List Entry)) → length xs ≡ length ys → ((m : ℕ) → list_of xs m ≡ list_of ys m) → xs ≡ ys
 lists_same [] [] e h = refl
@@ -161,16 +162,8 @@ module _ (last : List (List Entry)) (gone : List ℕ) (come : List (Option Entry
 -- a list of which as many are kept is kept whole
 pub kept_whole : {X : Type 0} (p : X → Bool) (xs : List X) → length (filter p xs) ≡ length xs → filter p xs ≡ xs
 kept_whole p [] e = refl
-kept_whole p (x ∷ xs) e = by (p x) e (kept_whole p xs) (shorter p xs)
+kept_whole p (x ∷ xs) e = by (p x) e (kept_whole p xs) (filter-short p xs)
   where
-    shorter : {X : Type 0} (p : X → Bool) (xs : List X) → length (filter p xs) ≤ length xs
-    shorter p [] = omega arith
-    shorter p (y ∷ ys) = step (p y) (shorter p ys)
-      where
-        step : (b : Bool) → length (filter p ys) ≤ length ys → length (cond b (y ∷ filter p ys) (filter p ys)) ≤ length (y ∷ ys)
-        step true le = omega (arith, le)
-        step false le = omega (arith, le)
-
     by : (b : Bool) → length (cond b (x ∷ filter p xs) (filter p xs)) ≡ length (x ∷ xs) → (length (filter p xs) ≡ length xs → filter p xs ≡ xs) → length (filter p xs) ≤ length xs → cond b (x ∷ filter p xs) (filter p xs) ≡ x ∷ xs
     by true s rest le = ap (λ ys. x ∷ ys) (rest (omega (arith, s)))
     by false s rest le = absurd (omega (arith, s, le))

@@ -1,5 +1,5 @@
 -- Lists of a run behind a change.
-use Rattle.std.proofs.Common.{◌≡◌, ◌≢◌, ℕ, zero, suc, ◌<◌, ◌≤◌, ◌==◌, ◌&&◌, Bool, true, false, cond, List, [], ◌∷◌, Option, Some, None, Result, Ok, Err, OnErr, length, slice_get, slice_set, option_map, get_or, refl, sym, ap, subst, ◌∙◌, inl, inr, arith}
+use Rattle.std.proofs.Common.{◌≡◌, ◌≢◌, ℕ, zero, suc, ◌<◌, ◌≤◌, ◌==◌, ◌&&◌, true, false, List, [], ◌∷◌, Option, Some, None, Result, Ok, Err, OnErr, length, slice_get, slice_set, option_map, get_or, refl, sym, ap, subst, ◌∙◌, inl, inr, arith}
 use Rattle.std.specs.Prelude.{All, IsErr, IsSomeAnd, find, nat_le}
 use Rattle.std.proofs.lemmas.Bool.{cases_Bool, eq-eqb, eqb-true, false≢true}
 use Rattle.std.proofs.lemmas.Bool.Decides.{nat_tests}
@@ -23,6 +23,7 @@ use Rattle.rmt_update.specs.declared.lists.Lists.{Lists}
 use Rattle.rmt_update.specs.Stands.{AreHeld, Stands, StandsFor}
 use Rattle.rmt_update.proofs.FilterLaws.{list_of-past}
 use Rattle.rmt_update.proofs.KeyLaws.{first_keyed, some_keyed}
+use Rattle.rmt_bits.proofs.ListLaws.{slice_get-set_other, find-passes}
 
 pub on_err : {A E : Type 0} (r : Result A E) (P : Type 0) → P → OnErr r P
 on_err (Ok x) P p = tt
@@ -34,13 +35,6 @@ set_get-same : {X : Type 0} (xs : List X) (i : ℕ) (v x : X) → slice_get (sli
 set_get-same [] i v x e = absurd (none-some x e)
 set_get-same (y ∷ ys) zero v x e = same_Some v x e
 set_get-same (y ∷ ys) (suc i) v x e = set_get-same ys i v x e
-
-set_get-other : {X : Type 0} (xs : List X) (i m : ℕ) (v : X) → m ≢ i → slice_get (slice_set xs i v) m ≡ slice_get xs m
-set_get-other [] i m v apart = refl
-set_get-other (y ∷ ys) zero zero v apart = absurd (apart refl)
-set_get-other (y ∷ ys) zero (suc m) v apart = refl
-set_get-other (y ∷ ys) (suc i) zero v apart = refl
-set_get-other (y ∷ ys) (suc i) (suc m) v apart = set_get-other ys i m v (λ same. apart (ap suc same))
 
 pub held_set : (tables : List Held) (lists lists2 : List (List Entry)) (node : ℕ) (h : Held) → AreHeld tables lists → length lists2 ≡ length lists → Holds h (list_of lists2 node)
     → ((m : ℕ) → m ≢ node → list_of lists2 m ≡ list_of lists m) → AreHeld (slice_set tables node h) lists2
@@ -54,7 +48,7 @@ held_set tables lists lists2 node h all len own others = record {
             subst (λ (k : ℕ). Holds x (list_of lists2 k)) (sym same) (subst (λ (y : Held). Holds y (list_of lists2 node)) (set_get-same tables node h x here) own)
         | inr f ↦
             let apart : m ≢ node = λ same. false≢true (sym f ∙ eq-eqb m node same) in
-            subst (Holds x) (sym (others m apart)) (all.each m x (sym (set_get-other tables node m h apart) ∙ at))
+            subst (Holds x) (sym (others m apart)) (all.each m x (sym (slice_get-set_other tables node m h apart) ∙ at))
       ];
 }
 
@@ -95,22 +89,13 @@ added_allowed r e (Some t) terms known h =
     sym (h ∙ ap (λ (x : Kind × ℕ). refusal_of x.0 x.1 r.most r.taken (key_of_entry e) (list_of r.now.lists e.table)) same) in
     rw refusal refl
 
--- the table of an entry that names allow is one of theirs
-find_passes : {X : Type 0} (p : X → Bool) (xs : List X) (x : X) → find p xs ≡ Some x → p x ≡ true
-find_passes p [] x e = absurd (none-some x e)
-find_passes p (y ∷ ys) x e = by (p y) refl e (find_passes p ys x)
-  where
-    by : (b : Bool) → p y ≡ b → cond b (Some y) (find p ys) ≡ Some x → (find p ys ≡ Some x → p x ≡ true) → p x ≡ true
-    by true s f rest = subst (λ z. p z ≡ true) (same_Some y x f) s
-    by false s f rest = rest f
-
 pub named_within : (names : Names) (e : Entry) (n : ℕ) → IsNamedEntry names e → All (λ (t : TableName). t.node < n) names.tables → e.table < n
 named_within names e n named all = by (find (λ (t : TableName). t.node == e.table) names.tables) refl named
   where
     by : (o : Option TableName) → find (λ (t : TableName). t.node == e.table) names.tables ≡ o → IsSomeAnd (option_map terms_of_name o) (λ t. IsEntry e.table t e) → e.table < n
     by None s h = absurd h
     by (Some t) s h =
-        let node : t.node ≡ e.table = eqb-true t.node e.table (find_passes (λ (x : TableName). x.node == e.table) names.tables t s) in
+        let node : t.node ≡ e.table = eqb-true t.node e.table (find-passes (λ (x : TableName). x.node == e.table) names.tables t s) in
         subst (λ (k : ℕ). k < n) node (All-find (λ (x : TableName). x.node < n) (λ (x : TableName). x.node == e.table) names.tables t all s)
 
 -- ---- removals

@@ -22,7 +22,10 @@ use Rattle.rmt_config.specs.PartStands.{PartStands}
 use Rattle.rmt_config.specs.Form.{items_are_formed, visible_with}
 use Rattle.rmt_config.specs.MemoryRules.{MemoryIsFormed}
 use Rattle.rmt_config.specs.Rooms.{PartAt, parts_of}
+use Rattle.rmt_config.specs.KeysSeen.{WaysLow}
+use Rattle.rmt_config.specs.UnitForm.{memory_is_formed, slot_head_is_formed}
 use Rattle.rmt_config.proofs.SpelledParts.{held-is, parts-stand}
+use Rattle.rmt_config.proofs.SpelledWays.{PartFollows, parts-follow, ways-low}
 use Rattle.rmt_update.specs.declared.book.parts.Part.{Part}
 use Rattle.rmt_update.specs.PartList.{part_at, parts_at}
 use Rattle.rmt_update.specs.declared.book.kept.Kept.{Kept}
@@ -57,6 +60,7 @@ pub record PartFacts (c : Config) (t : TableName) (p : PartAt) : Type 0 where
   pub stands : PartStands c p
   pub kind : is_of_kind t.kind p.slot.memory ≡ true
   pub bits : sum t.keys ≡ bits_of_lanes p.slot.keys
+  pub ways : WaysLow p.slot.memory
 
 module _ (c : Config) (t : TableName) (p : PartAt) (facts : PartFacts c t p) (named : visible_with c.names ≡ 3) where
   told-is : (n : CellNumber) (x : ℕ × Kept) → IsRanked c t p n x → told_entry t p.first x.1 ≡ entry_in c t p n
@@ -95,20 +99,27 @@ parts-told c t named (p ∷ ps) (x ∷ xs) zip facts =
     ap (λ es. es ++ flat_map (entries_in false t) xs) (part-told c t p (All-head (PartFacts c t) p ps facts) named x zip.0)
     ∙ ap (λ es. map (entry_in c t p) p.slot.numbers ++ es) (parts-told c t named ps xs zip.1 (All-tail (PartFacts c t) p ps facts))
 
-pub all-facts : (c : Config) (t : TableName) (ps : List PartAt) → All (PartStands c) ps → list_all (λ (p : PartAt). is_of_kind t.kind p.slot.memory) ps ≡ true
+pub all-facts : (c : Config) (t : TableName) (ps : List PartAt) → All (PartStands c) ps → All PartFollows ps → list_all (λ (p : PartAt). is_of_kind t.kind p.slot.memory) ps ≡ true
     → list_all (λ (p : PartAt). sum t.keys == bits_of_lanes p.slot.keys) ps ≡ true → All (PartFacts c t) ps
-all-facts c t [] stand kinds same = All-nil (PartFacts c t)
-all-facts c t (p ∷ ps) stand kinds same =
+all-facts c t [] stand follow kinds same = All-nil (PartFacts c t)
+all-facts c t (p ∷ ps) stand follow kinds same =
+    let one = All-head (PartStands c) p ps stand in
     let two = and_parts (is_of_kind t.kind p.slot.memory) (list_all (λ (p : PartAt). is_of_kind t.kind p.slot.memory) ps) kinds in
     let three = and_parts (sum t.keys == bits_of_lanes p.slot.keys) (list_all (λ (p : PartAt). sum t.keys == bits_of_lanes p.slot.keys) ps) same in
-    All-cons (PartFacts c t) p ps (record { stands = All-head (PartStands c) p ps stand; kind = two.0; bits = eqb-true (sum t.keys) (bits_of_lanes p.slot.keys) three.0 })
-    (all-facts c t ps (All-tail (PartStands c) p ps stand) two.1 three.1)
+    All-cons (PartFacts c t) p ps
+    (record {
+      stands = one;
+      kind = two.0;
+      bits = eqb-true (sum t.keys) (bits_of_lanes p.slot.keys) three.0;
+      ways = ways-low p.slot p.slot.memory (All-head PartFollows p ps follow) (and_parts (slot_head_is_formed p.slot) (memory_is_formed p.slot p.slot.memory) one.slot).1;
+    })
+    (all-facts c t ps (All-tail (PartStands c) p ps stand) (All-tail PartFollows p ps follow) two.1 three.1)
 
 -- a part that is gone over
 pub facts-at : (c : Config) (t : TableName) → IsTrue (items_are_formed c) → MemoryIsFormed c → has_parts c t ≡ true → has_key_bits c t ≡ true → (found : List Part) → parts_at found ≡ parts_of c t.node
     → (i : ℕ) (x : Part) → i < length found → x ≡ get_or found i x → PartFacts c t (part_at x)
 facts-at c t items memory has bits found same i x lt at =
-    let all = all-facts c t (parts_of c t.node) (parts-stand c t.node items memory) (and_parts _ _ has).1 bits in
+    let all = all-facts c t (parts_of c t.node) (parts-stand c t.node items memory) (parts-follow c t.node memory) (and_parts _ _ has).1 bits in
     subst (λ (y : Part). PartFacts c t (part_at y)) (sym at) (All-unmap (PartFacts c t) part_at found (subst (All (PartFacts c t)) (sym same) all) i x lt)
 
 -- the parts so far, with one more

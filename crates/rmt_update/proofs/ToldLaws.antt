@@ -3,24 +3,13 @@ use Rattle.std.proofs.Common.{◌≡◌, ℕ, ◌+◌, ◌-◌, ◌*◌, ◌/◌
 use Rattle.std.proofs.lemmas.Bool.{cases_lt}
 use Rattle.std.proofs.lemmas.List.Sums.{sum_by-cons}
 use Rattle.std.proofs.lemmas.Nat.{shr-shr}
-use Rattle.std.proofs.Math.Nat.{mod-eq_of_lt, div-eq_of_lt}
+use Rattle.std.proofs.Math.Nat.{mod-eq_of_lt}
 use Rattle.std.proofs.Math.Pow.{high_ones, ones_lt, pow_mono}
 use Rattle.rmt_bits.specs.Bits.{slice, number_of, bits_of_bytes}
 use Rattle.rmt_bits.proofs.BitLaws.{high_part-lt, three-middle}
 use Rattle.rmt_bits.proofs.ByteLaws.{AreBytes, number_of-lt}
 use Rattle.rmt_ast.specs.declared.program.Test.{Test}
 use Rattle.rmt_config.specs.NamesForm.{args_of_data, tests_of_key}
-
--- above the bytes no bit is set
-pub bits-above : (bytes : List ℕ) (low len : ℕ) → AreBytes bytes → 8 * length bytes ≤ low → 0 ≡ slice (number_of bytes) low len
-bits-above bytes low len are past =
-    let lt = number_of-lt bytes are in
-    let more : 2 ^ (8 * length bytes) ≤ 2 ^ low = pow_mono past in
-    let none : number_of bytes / 2 ^ low ≡ 0 = div-eq_of_lt (let l : number_of bytes < 2 ^ low = omega (arith, lt, more) in l) in
-    sym (ap (λ n. n % 2 ^ len) none ∙ mod-eq_of_lt (let l : 0 < 2 ^ len = pos len in l))
-  where
-    pos : (n : ℕ) → 0 < 2 ^ n
-    pos n = let l = ones_lt n in omega (arith, l)
 
 -- the bits of a run that reaches above the bytes
 pub bits-there : (bytes : List ℕ) (low len count : ℕ) → AreBytes bytes → low < 8 * length bytes → count ≡ min (8 * length bytes - low) len

@@ -11,6 +11,7 @@ use Rattle.rmt_update.specs.declared.book.kept.Kept.{Kept}
 use Rattle.rmt_update.specs.declared.book.table.PartCells.{PartCells}
 use Rattle.rmt_update.specs.declared.book.table.TableCells.{TableCells}
 use Rattle.rmt_update.specs.Kept.{IsKept}
+use Rattle.rmt_update.specs.PartShape.{IsShape}
 
 -- a cell of a part by its number, with the rank of its entry
 pub record IsRanked (c : Config) (t : TableName) (p : PartAt) (n : CellNumber) (x : ℕ × Kept) : Type 0 where
@@ -23,6 +24,7 @@ pub record IsListed (c : Config) (t : TableName) (p : PartAt) (x : PartCells) : 
   pub stage : x.stage ≡ p.stage
   pub place : x.place ≡ p.place
   pub first : x.first ≡ p.first
+  pub shape : IsShape p.slot x.shape
   pub cells : AllZip (IsRanked c t p) p.slot.numbers x.cells.entries
 
 -- those of all parts of a table

@@ -1,6 +1,6 @@
 //! The cells of a run with their entries.
 
-ghost use Rattle.std.specs.Prelude.{◌≡◌, IfOk, IsSome, List, Some};
+ghost use Rattle.std.specs.Prelude.{◌≡◌, IfErr, IfOk, IsSome, List, Some};
 ghost use Rattle.std.specs.List.{AllZip};
 ghost use Rattle.rmt_ast.specs.declared.entry.Entry.{Entry};
 ghost use Rattle.rmt_ast.specs.declared.names.Names.{Names as NamesOf};
@@ -12,17 +12,31 @@ ghost use Rattle.rmt_update.specs.BookStands.{BookStands};
 ghost use Rattle.rmt_update.specs.Listed.{IsTable};
 
 mod cells;
+mod changing;
+mod coming;
+mod encoded;
 mod entry_words;
+pub mod grid;
+mod in_rows;
 mod kept;
+pub mod loading;
 mod nodes;
+mod number_set;
+mod open;
 mod ordered;
 mod parts;
+pub mod plan;
 mod ranks;
+mod row_order;
 mod rows;
 mod seen;
+pub mod shape;
+mod spot;
+pub mod spots;
 mod table;
 mod told;
 mod words;
+mod written;
 
 use crate::book::nodes::node_count;
 use crate::book::seen::entries_at;
@@ -80,8 +94,9 @@ impl Book {
     pub fn new(alloc: Global, config: &Config) -> Result<Book, UpdateFault>
         requires formed { Formed config.now }
         requires named { IsSome config.now.names }
-        ensures { IfOk result (λ book. (names : NamesOf) → config.now.names ≡ Some names →
+        ensures stands { IfOk result (λ book. (names : NamesOf) → config.now.names ≡ Some names →
             BookStands config.now (own_cells config.now) (entries_spelled config.now names) book) }
+        ensures fault { IfErr result (λ fault. fault ≡ UpdateFault.NoMemory) }
     {
         let names = names_of(config).copy(alloc)?;
         let tables = tables_of(alloc, config, names)?;
@@ -100,7 +115,8 @@ impl Book {
     /// For want of memory alone.
     pub fn entries(&self, alloc: Global) -> Result<EntryLists, UpdateFault>
         requires { (c : ConfigOf) × (cells : RunCells) × (lists : List (List Entry)) × BookStands c cells lists self.now }
-        ensures { IfOk result (λ entries. (c : ConfigOf) (cells : RunCells) (lists : List (List Entry)) → BookStands c cells lists self.now → entries ≡ lists) }
+        ensures entries { IfOk result (λ entries. (c : ConfigOf) (cells : RunCells) (lists : List (List Entry)) → BookStands c cells lists self.now → entries ≡ lists) }
+        ensures fault { IfErr result (λ fault. fault ≡ UpdateFault.NoMemory) }
     {
         let mut lists = EntryLists::new(alloc);
         for node in 0..self.nodes {

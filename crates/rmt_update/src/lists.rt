@@ -69,7 +69,8 @@ impl Lists {
         requires entries { AreEntriesOf names entries }
         requires numbers { All (λ n. n < 4293918720) (flat_map entry_numbers entries) }
         requires few { most ≤ 1048576 }
-        ensures { IfOk result (λ lists. Stands (fresh names entries most) lists) }
+        ensures stands { IfOk result (λ lists. Stands (fresh names entries most) lists) }
+        ensures fault { IfErr result (λ fault. fault ≡ UpdateFault.NoMemory) }
     {
         let held = held_of(alloc, entries.as_slice())?;
         let first = next_number(entries.as_slice());
@@ -209,6 +210,7 @@ impl Lists {
         requires stands { (r : Running) × Stands r self.old }
         ensures committed { OnOk result ((r : Running) → Stands r self.old → Stands (commit_of r) self.new) }
         ensures changes { IfOk result (λ changes. (r : Running) → Stands r self.old → AreChanges r.last r.now.lists changes) }
+        ensures fault { IfErr result (λ fault. fault ≡ UpdateFault.NoMemory) }
         ensures kept { OnErr result ((r : Running) → Stands r self.old → Stands r self.new) }
     {
         let gone = gone_of(alloc, &self.gone)?;

@@ -3,10 +3,12 @@ use Rattle.std.proofs.Common.{◌≡◌, ℕ, zero, suc, ◌^◌, ◌<◌, ◌/�
 use Rattle.std.specs.Prelude.{All}
 use Rattle.std.specs.List.{flat_map}
 use Rattle.std.proofs.lemmas.List.Elements.{All-nil, All-cons, All-head, All-tail}
-use Rattle.rmt_bits.proofs.ByteLaws.{AreBytes}
+use Rattle.rmt_bits.proofs.ByteLaws.{AreBytes, AreBytes-rest}
 use Rattle.rmt_config.specs.Spelling.{two_bytes, four_bytes}
 use Rattle.rmt_verify.specs.Readers.{◌>>=◌, Reader, ◌⊗◌, made, kept, items_at, listed, byte_at, two_of_parts, two_at, four_of_parts, four_at}
-use Rattle.rmt_verify.proofs.NumberLaws.{AreBytes-rest, two_text, four_text}
+use Rattle.rmt_verify.proofs.NumberLaws.{two_text, four_text}
+use Rattle.rmt_bits.proofs.ListLaws.{text_behind}
+use Rattle.std.proofs.lemmas.Option.{same_Some}
 
 -- the value of a step that did not fail
 pub bind_some : {A B : Type 0} (r : Option A) (f : A → Option B) (y : B) → (r >>= f) ≡ Some y → (x : A) × (r ≡ Some x) × (f x ≡ Some y)
@@ -17,12 +19,6 @@ bind_some None f y e = absurd cc
 pub kept_some : {A : Type 0} (b : Bool) (x y : A) → cond b (Some x) None ≡ Some y → (b ≡ true) × (x ≡ y)
 kept_some true x y e = (refl, cc)
 kept_some false x y e = absurd cc
-
-abbrev done : {A : Type 0} → A → Option A
-done x = Some x
-
-some_is : {A : Type 0} (x y : A) → done x ≡ done y → x ≡ y
-some_is x y e = cc
 
 -- what a reader took from the front, and what is then known
 pub record Took (bytes text rest : List ℕ) (known : Type 0) : Type 0 where
@@ -45,10 +41,6 @@ codec_kept {A} test {read} {spell} {P} c = record {
   again = λ x rest p. rw (c.again x rest p.0, p.1) refl;
 }
 
--- one behind the other
-text_behind : (bytes first second mid rest : List ℕ) → bytes ≡ first ++ mid → mid ≡ second ++ rest → bytes ≡ (first ++ second) ++ rest
-text_behind bytes first second mid rest e f = e ∙ ap (λ (t : List ℕ). first ++ t) f ∙ sym (append_assoc first second rest)
-
 pub codec_pair : {A B : Type 0} {first : Reader A} {second : Reader B} {s1 : A → List ℕ} {s2 : B → List ℕ} {P : A → Type 0} {Q : B → Type 0}
     → Codec first s1 P → Codec second s2 Q → Codec (first ⊗ second) (λ x. s1 x.0 ++ s2 x.1) (λ x. P x.0 × Q x.1)
 codec_pair {A} {B} {first} {second} {s1} {s2} {P} {Q} c d = record {
@@ -58,7 +50,7 @@ codec_pair {A} {B} {first} {second} {s1} {s2} {P} {Q} c d = record {
       let t1 = c.takes bytes a.0.0 a.0.1 fits a.1 in
       let t2 = d.takes a.0.1 b.0.0 b.0.1 t1.rest_fits b.1 in
       let made_pair : (A × B) × List ℕ = ((a.0.0, b.0.0), b.0.1) in
-      subst (λ (y : (A × B) × List ℕ). Took bytes (s1 y.0.0 ++ s2 y.0.1) y.1 (P y.0.0 × Q y.0.1)) (some_is made_pair (x, rest) b.2)
+      subst (λ (y : (A × B) × List ℕ). Took bytes (s1 y.0.0 ++ s2 y.0.1) y.1 (P y.0.0 × Q y.0.1)) (same_Some made_pair (x, rest) b.2)
       (record {
         parts = text_behind bytes (s1 a.0.0) (s2 b.0.0) a.0.1 b.0.1 t1.parts t2.parts;
         rest_fits = t2.rest_fits;
@@ -78,7 +70,7 @@ codec_made {A} {B} f {read} {s} {P} c spell Q same back = record {
       let t = c.takes bytes a.0.0 a.0.1 fits a.1 in
       let known = same a.0.0 t.fact in
       let made_pair : B × List ℕ = (f a.0.0, a.0.1) in
-      subst (λ (y : B × List ℕ). Took bytes (spell y.0) y.1 (Q y.0)) (some_is made_pair (x, rest) a.2)
+      subst (λ (y : B × List ℕ). Took bytes (spell y.0) y.1 (Q y.0)) (same_Some made_pair (x, rest) a.2)
       (record { parts = t.parts ∙ ap (λ (text : List ℕ). text ++ a.0.1) known.0; rest_fits = t.rest_fits; fact = known.1 });
   again = λ x rest q.
       let a = back x q in
@@ -93,14 +85,14 @@ items_take : {A : Type 0} {read : Reader A} {spell : A → List ℕ} {P : A → 
 unfolding items_at
 items_take {A} {read} {spell} {P} c zero bytes xs rest fits e =
     let nothing : List A × List ℕ = ([], bytes) in
-    subst (λ (y : List A × List ℕ). Took bytes (flat_map spell y.0) y.1 ((length y.0 ≡ 0) × All P y.0)) (some_is nothing (xs, rest) e) (record { parts = refl; rest_fits = fits; fact = (refl, All-nil P) })
+    subst (λ (y : List A × List ℕ). Took bytes (flat_map spell y.0) y.1 ((length y.0 ≡ 0) × All P y.0)) (same_Some nothing (xs, rest) e) (record { parts = refl; rest_fits = fits; fact = (refl, All-nil P) })
 items_take {A} {read} {spell} {P} c (suc n) bytes xs rest fits e =
     let a = bind_some (read bytes) (λ (y : A × List ℕ). items_at read n y.1 >>= λ ys. Some (y.0 ∷ ys.0, ys.1)) (xs, rest) e in
     let b = bind_some (items_at read n a.0.1) (λ (ys : List A × List ℕ). Some (a.0.0 ∷ ys.0, ys.1)) (xs, rest) a.2 in
     let t1 = c.takes bytes a.0.0 a.0.1 fits a.1 in
     let t2 = items_take c n a.0.1 b.0.0 b.0.1 t1.rest_fits b.1 in
     let all : List A × List ℕ = (a.0.0 ∷ b.0.0, b.0.1) in
-    subst (λ (y : List A × List ℕ). Took bytes (flat_map spell y.0) y.1 ((length y.0 ≡ suc n) × All P y.0)) (some_is all (xs, rest) b.2)
+    subst (λ (y : List A × List ℕ). Took bytes (flat_map spell y.0) y.1 ((length y.0 ≡ suc n) × All P y.0)) (same_Some all (xs, rest) b.2)
     (record {
       parts = text_behind bytes (spell a.0.0) (flat_map spell b.0.0) a.0.1 b.0.1 t1.parts t2.parts;
       rest_fits = t2.rest_fits;
@@ -140,7 +132,7 @@ unfolding byte_at
 byte_takes [] x rest fits e = absurd cc
 byte_takes (b ∷ bs) x rest fits e =
     let front : ℕ × List ℕ = (b, bs) in
-    subst (λ (y : ℕ × List ℕ). Took (b ∷ bs) (y.0 ∷ []) y.1 (y.0 < 2 ^ 8)) (some_is front (x, rest) e) (record { parts = refl; rest_fits = AreBytes-rest b bs fits; fact = fits 0 })
+    subst (λ (y : ℕ × List ℕ). Took (b ∷ bs) (y.0 ∷ []) y.1 (y.0 < 2 ^ 8)) (same_Some front (x, rest) e) (record { parts = refl; rest_fits = AreBytes-rest b bs fits; fact = fits 0 })
 
 pub byte_codec : Codec byte_at (λ n. n ∷ []) (λ n. n < 2 ^ 8)
 unfolding byte_at

@@ -20,12 +20,12 @@ use Rattle.rmt_verify.specs.EdgeSpans.{IsPartOf, Rise, is_kept, no_span, span_ke
 -- ---- the span of some stages
 
 -- its ends are among them, and none is outside
-record Between (stages : List ℕ) (s : Span) : Type 0 where
+pub record Between (stages : List ℕ) (s : Span) : Type 0 where
   pub first : Contains stages s.first
   pub last : Contains stages s.last
   pub within : All (λ k. (s.first ≤ k) × (k ≤ s.last)) stages
 
-abbrev IsSpan : List ℕ → Option Span → Type 0
+abbrev pub IsSpan : List ℕ → Option Span → Type 0
 IsSpan stages None = stages ≡ []
 IsSpan stages (Some s) = Between stages s
 
@@ -62,7 +62,7 @@ span_all : (seen rest : List ℕ) (o : Option Span) → IsSpan seen o → IsSpan
 span_all seen [] o is = subst (λ (s : List ℕ). IsSpan s o) (sym (append-nil seen)) is
 span_all seen (k ∷ rest) o is = subst (λ (s : List ℕ). IsSpan s (fold widened (widened o k) rest)) (append_assoc seen (k ∷ []) rest) (span_all (seen ++ k ∷ []) rest (widened o k) (span_more seen o k is))
 
-is_span : (stages : List ℕ) → IsSpan stages (span_of stages)
+pub is_span : (stages : List ℕ) → IsSpan stages (span_of stages)
 is_span stages = span_all [] stages None refl
 
 -- ---- starts that rise

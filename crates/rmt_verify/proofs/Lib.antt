@@ -9,3 +9,10 @@ mod EdgeLaws
 mod PairLaws
 mod ZipLaws
 mod PlaceLaws
+mod NameLaws
+mod UnitLaws
+mod RisingLaws
+mod FoldedLaws
+mod StageCodeLaws
+mod CodedLaws
+mod CodeLaws

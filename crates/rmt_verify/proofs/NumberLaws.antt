@@ -1,16 +1,8 @@
 -- Laws of numbers as bytes, the highest first.
-use Rattle.std.proofs.Common.{◌≡◌, ℕ, suc, ◌+◌, ◌<◌, ◌^◌, List, [], ◌∷◌, ◌++◌, drop, refl, arith}
-use Rattle.std.proofs.lemmas.List.{get_or-drop}
+use Rattle.std.proofs.Common.{◌≡◌, ℕ, ◌<◌, ◌^◌, [], ◌∷◌, ◌++◌, refl, arith}
 use Rattle.std.specs.Int.{bytes_high_first}
 use Rattle.rmt_config.specs.Spelling.{two_bytes, four_bytes}
 use Rattle.rmt_verify.specs.Readers.{two_of_parts, four_of_parts}
-use Rattle.rmt_bits.proofs.ByteLaws.{AreBytes}
-
-pub AreBytes-rest : (b : ℕ) (bytes : List ℕ) → AreBytes (b ∷ bytes) → AreBytes bytes
-AreBytes-rest b bytes h i = h (suc i)
-
-pub AreBytes-drop : (n : ℕ) (bytes : List ℕ) → AreBytes bytes → AreBytes (drop n bytes)
-AreBytes-drop n bytes h i = rw get_or-drop (h (n + i))
 
 -- bytes one by one
 pub same_two : (a b c d : ℕ) → a ≡ c → b ≡ d → a ∷ b ∷ [] ≡ c ∷ d ∷ []

@@ -1,10 +1,9 @@
 -- The whole map: what is read is spelled so, and what is spelled so is read.
-use Rattle.std.proofs.Common.{◌≡◌, ℕ, Bool, true, false, cond, List, [], ◌∷◌, ◌++◌, length, take, drop, Option, Some, None, Result, Ok, Err, refl, sym, ap, subst, ◌∙◌}
+use Rattle.std.proofs.Common.{◌≡◌, ℕ, Bool, true, false, cond, List, [], ◌∷◌, ◌++◌, drop, Option, Some, None, Result, Ok, Err, refl, sym, ap, subst, ◌∙◌}
 use Rattle.std.specs.Prelude.{codes, nat_eq, ◌≢◌, IfOk}
 use Rattle.std.specs.List.{starts_with}
-use Rattle.std.proofs.lemmas.List.{append-nil, take-append-drop}
-use Rattle.std.specs.Cmp.Lexicographic.{same_text}
-use Rattle.rmt_bits.proofs.ByteLaws.{AreBytes}
+use Rattle.std.proofs.lemmas.List.{append-nil}
+use Rattle.rmt_bits.proofs.ByteLaws.{AreBytes, AreBytes-drop}
 use Rattle.rmt_verify.specs.Types.{MapFile}
 use Rattle.rmt_verify.specs.declared.fault.MapFault.{MapFault}
 use Rattle.rmt_verify.specs.declared.fault.MapFault.TheVariants.{NoMemory, Form}
@@ -13,8 +12,8 @@ use Rattle.rmt_verify.specs.Reading.{lists_at, all_of, map_of}
 use Rattle.rmt_verify.specs.Spelling.{MapFits, spelled_lists}
 use Rattle.rmt_verify.specs.Spells.{Spells}
 use Rattle.rmt_verify.proofs.Codec.{bind_some}
-use Rattle.rmt_verify.proofs.NumberLaws.{AreBytes-drop}
 use Rattle.rmt_verify.proofs.Lists.{lists_codec}
+use Rattle.rmt_bits.proofs.ListLaws.{begins}
 
 abbrev head : List ℕ
 head = codes "RMTM\0\u{1}"
@@ -29,10 +28,6 @@ passed false read m e = absurd cc
 nothing_left : (x : MapFile × List ℕ) (m : MapFile) → all_of x ≡ Some m → (x.0 ≡ m) × (x.1 ≡ [])
 nothing_left (x, []) m e = (cc, refl)
 nothing_left (x, byte ∷ rest) m e = absurd cc
-
--- bytes begin with others
-begins : (bytes text : List ℕ) → starts_with nat_eq bytes text ≡ true → bytes ≡ text ++ drop (length text) bytes
-begins bytes text e = sym (take-append-drop (length text) bytes) ∙ ap (λ (t : List ℕ). t ++ drop (length text) bytes) (sym (same_text text (take (length text) bytes) (sym e)))
 
 map_takes : (bytes : List ℕ) (m : MapFile) → AreBytes bytes → map_of bytes ≡ Some m → Spells bytes m
 map_takes bytes m fits e =

@@ -7,3 +7,7 @@ pub mod ParserMade
 pub mod EdgeSpans
 pub mod WrittenApart
 pub mod ReadThere
+pub mod Standing
+pub mod Instructions
+pub mod WordsRise
+pub mod StageCode

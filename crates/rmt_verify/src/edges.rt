@@ -6,7 +6,7 @@ ghost use Rattle.rmt_bits.specs.declared.fault.OutOfMemory.{OutOfMemory};
 ghost use Rattle.rmt_refine.specs.Carries.{EdgesKept, all_edges};
 ghost use Rattle.rmt_verify.specs.EdgeSpans.{IsPartOf, is_kept};
 
-mod spans;
+pub mod spans;
 mod starts;
 
 use crate::all::{Test, all_pass};

@@ -12,7 +12,7 @@ mod actions;
 mod cut;
 mod headers;
 mod lanes;
-mod lookup;
+pub mod lookup;
 
 use crate::all::{all_match, all_pass, every_two};
 use crate::fault::VerifyFault;

@@ -1,5 +1,5 @@
 -- The fields of a text that breaks no rule: those of each header stand one after another, in the order of the text.
-use Rattle.std.proofs.Common.{◌≡◌, ℕ, zero, suc, ◌+◌, List, [], ◌∷◌, ◌++◌, Some, Option, option_map, unwrap_or, codes, length, slice_get, refl, sym, ap, ap₂, subst, ◌∙◌, append_assoc, length-append, zero-add, arith, drop}
+use Rattle.std.proofs.Common.{◌≡◌, ℕ, suc, ◌+◌, List, [], ◌∷◌, ◌++◌, Some, Option, option_map, unwrap_or, codes, length, slice_get, refl, sym, ap, ap₂, subst, ◌∙◌, append_assoc, length-append, zero-add, arith, drop}
 use Rattle.std.specs.List.{flat_map, range_with_len, enumerate_from}
 use Rattle.std.proofs.lemmas.List.{length-map}
 use Rattle.std.proofs.lemmas.List.Concat.{flat_map-append}
@@ -11,7 +11,7 @@ use Rattle.rmt_ast.proofs.WellFormedLemmas.{NumberedFrom, AllNumbered-from_items
 use Rattle.rmt_ast.specs.WellFormed.{AllNumbered, IsWidth, HasFields}
 use Rattle.rmt_ast.specs.State as state
 use Rattle.rmt_ast.specs.WellFormed as formed
-use Rattle.rmt_bits.proofs.ListLaws.{slice_get-front, slice_get-end, drop-nil, map-nil}
+use Rattle.rmt_bits.proofs.ListLaws.{slice_get-front, slice_get-end, drop-nil, map-nil, range-append}
 use Rattle.rmt_check.specs.Parts.{Field, Header, Ident, Declared, HeaderText, Source}
 use Rattle.rmt_check.specs.Names.{Known, common_fields, of_metadata, of_header, owned, printed_name, declared_fields, header_fields, metadata, fields_of}
 use Rattle.rmt_check.specs.Sizes.{count_of}
@@ -26,12 +26,6 @@ use Rattle.rmt_check.proofs.programs.RuleLaws.{KeepsRules}
 pub length-headers_from : (s : Source) (n : ℕ) (hs : List HeaderText) → length (headers_from s n hs) ≡ length hs
 length-headers_from s n [] = refl
 length-headers_from s n (h ∷ hs) = ap suc (length-headers_from s (n + 1 + length h.fields) hs)
-
-range-append : (a m n : ℕ) → range_with_len a (m + n) ≡ range_with_len a m ++ range_with_len (a + m) n
-range-append a zero n = let e : a ≡ a + 0 = omega arith in let f : 0 + n ≡ n = omega arith in ap (range_with_len a) f ∙ ap (λ (b : ℕ). range_with_len b n) e
-range-append a (suc m) n =
-    let e : a + 1 + m ≡ a + suc m = omega arith in
-    let f : suc m + n ≡ suc (m + n) = omega arith in rw (f, range-append (a + 1) m n, e) refl
 
 pub numbers_in_order : (s : Source) (n : ℕ) (hs : List HeaderText) → flat_map (λ (h : Header). h.valid ∷ h.fields) (headers_from s n hs) ≡ range_with_len n (count_of hs)
 numbers_in_order s n [] = refl

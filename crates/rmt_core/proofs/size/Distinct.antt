@@ -1,8 +1,8 @@
 -- Numbers of which none stands twice, below some number, are at most as many.
-use Rattle.std.proofs.Common.{◌≡◌, ℕ, ◌<◌, ◌≤◌, Bool, true, false, not, ◌||◌, eqb, List, [], ◌∷◌, length, refl, sym, ap, ◌∙◌, subst, inl, inr, arith}
+use Rattle.std.proofs.Common.{◌≡◌, ℕ, ◌<◌, ◌≤◌, true, false, not, ◌||◌, eqb, List, [], ◌∷◌, length, refl, sym, ap, ◌∙◌, subst, inl, inr, arith}
 use Rattle.std.specs.Prelude.{All}
 use Rattle.std.specs.List.{AllByRecursion, IsDistinct, list_any}
-use Rattle.std.proofs.lemmas.Bool.{and_parts, both_ways, cases_eq, eq-eqb, ne_eqb, not-true}
+use Rattle.std.proofs.lemmas.Bool.{and_parts, both_ways, cases_eq, eq-eqb, ne_eqb, not-true, or_right}
 use Rattle.std.proofs.lemmas.List.Elements.{All-head, All-tail}
 use Rattle.std.proofs.lemmas.Map.Keys.{IsDistinct-cons}
 use Rattle.std.proofs.lemmas.Map.Steps.{length-le_from_distinct_below}
@@ -12,10 +12,6 @@ distinct_none : IsDistinct eqb []
 unfolding IsDistinct
 distinct_none = tt
 
-or_later : (b c : Bool) → c ≡ true → (b || c) ≡ true
-or_later true c e = refl
-or_later false c e = e
-
 -- new numbers differ from one that was seen
 apart_from_seen : (m : ℕ) (seen xs : List ℕ) → list_any (λ k. eqb k m) seen ≡ true → are_new seen xs ≡ true → AllByRecursion (λ y. eqb m y ≡ false) xs
 apart_from_seen m seen [] there new = tt
@@ -23,7 +19,7 @@ apart_from_seen m seen (x ∷ xs) there new =
     let parts = and_parts (not (list_any (λ k. eqb k x) seen)) (are_new (x ∷ seen) xs) new in (
       ne_eqb m x (λ same. both_ways (list_any (λ k. eqb k x) seen) (not-true (list_any (λ k. eqb k x) seen) parts.0)
           (subst (λ y. list_any (λ k. eqb k y) seen ≡ true) same there)),
-      apart_from_seen m (x ∷ seen) xs (or_later (eqb x m) (list_any (λ k. eqb k m) seen) there) parts.1,
+      apart_from_seen m (x ∷ seen) xs (or_right (eqb x m) (list_any (λ k. eqb k m) seen) there) parts.1,
     )
 
 distinct_from_new : (seen xs : List ℕ) → are_new seen xs ≡ true → IsDistinct eqb xs

@@ -20,10 +20,11 @@ use Rattle.rmt_entries.specs.Numbers.{number_of_width}
 use Rattle.rmt_bits.specs.Lines.{is_passed_over, numbered_lines}
 use Rattle.rmt_entries.specs.Lines.{is_printable, words}
 use Rattle.rmt_entries.specs.Tables.{AppliedTable, applied_tables, table_named}
-use Rattle.rmt_entries.proofs.LawKeys.{both_law, same_Ok, with_key_law}
+use Rattle.rmt_entries.proofs.LawKeys.{both_law, with_key_law}
 use Rattle.rmt_entries.proofs.LawLines.{admitted_law, read_line_law}
 use Rattle.rmt_core.proofs.size.Lists.{kept_size, parts_size, size}
 use Rattle.rmt_core.proofs.size.Tables.{HasShape, are_shaped, is_ranked}
+use Rattle.rmt_bits.proofs.OptionLaws.{same_Ok}
 
 -- ---- one line
 

@@ -22,9 +22,10 @@ use Rattle.rmt_refine.specs.Cells.{Spot}
 use Rattle.rmt_refine.specs.Carries.{Carries}
 use Rattle.rmt_refine.specs.Outcomes.{entries_at}
 use Rattle.rmt_refine.proofs.CellNumberLaws.{cells_listed, coded_slot}
-use Rattle.rmt_refine.proofs.FindLaws.{find-some, found_passes}
+use Rattle.rmt_refine.proofs.FindLaws.{found_passes}
 use Rattle.rmt_refine.proofs.OutcomeLaws.{list_at}
 use Rattle.rmt_refine.proofs.PartLaws.{IsPart, slot_of_part, some_and, spot_of_part, unit_of_part}
+use Rattle.rmt_bits.proofs.FindLaws.{find-some}
 
 -- ---- what a slot lists
 

@@ -22,7 +22,7 @@ use rmt_config::form::parts::{exact_keys, exact_records, ternary_records};
 use std::alloc::{AllocError, Global};
 
 /// How many bits lanes have together, at most 640.
-fn key_bits(lanes: &[Lane]) -> u64
+pub fn key_bits(lanes: &[Lane]) -> u64
     requires { bits_of_lanes lanes.now ≤ 640 }
     ensures { result ≡ bits_of_lanes lanes.now }
 {

@@ -18,7 +18,7 @@ use rmt_bits::sequence::Sequence;
 use std::alloc::{AllocError, Global};
 
 /// Whether a cell is seen by odd versions, or by even ones.
-fn is_seen(odd: bool, kept: &Kept) -> bool
+pub fn is_seen(odd: bool, kept: &Kept) -> bool
     ensures { result ≡ is_seen_of odd kept.now }
 {
     let bit = if odd { 2 } else { 1 };
@@ -58,7 +58,7 @@ fn entries_of(alloc: Global, odd: bool, table: &TableCells) -> Result<Sequence<E
 }
 
 /// The table of a node.
-fn table_at(tables: &[TableCells], node: u32) -> Option<&TableCells>
+pub fn table_at(tables: &[TableCells], node: u32) -> Option<&TableCells>
     ensures { option_copied result ≡ find (λ (t : TableOf). t.name.node == node) tables.now }
 {
     tables.iter().find(|table| table.name.node == node)

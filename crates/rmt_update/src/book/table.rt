@@ -5,6 +5,7 @@ ghost use Rattle.std.specs.BTreeMap.{get};
 ghost use Rattle.std.specs.Ordering.{nat_cmp};
 ghost use Rattle.rmt_ast.specs.NameRules.{table_is_formed};
 ghost use Rattle.rmt_config.specs.Form.{items_are_formed};
+ghost use Rattle.rmt_config.specs.KeysSeen.{WaysLow};
 ghost use Rattle.rmt_config.specs.LaneForm.{bits_of_lanes};
 ghost use Rattle.rmt_config.specs.MemoryRules.{MemoryIsFormed};
 ghost use Rattle.rmt_config.specs.NamesForm.{has_key_bits, has_parts, is_of_kind, rank_told};
@@ -15,6 +16,7 @@ ghost use Rattle.rmt_update.specs.PartList.{part_at};
 use crate::book::kept::Kept;
 use crate::book::parts::{Part, cell_of, parts_of};
 use crate::book::ranks::{rank_of, ranks_told};
+use crate::book::shape::{Shape, shape_of};
 use rmt_ast::names::TableName;
 use rmt_config::config::Config;
 use std::alloc::{AllocError, Global};
@@ -29,6 +31,8 @@ pub struct PartCells {
     pub place: usize,
     /// The number of the slot's first instruction in the stage.
     pub first: u128,
+    /// What is kept of the slot's memory.
+    pub shape: Shape,
     /// The occupied cells, found by their numbers in the part.
     pub cells: BTreeMap<u32, Kept>,
 }
@@ -56,6 +60,7 @@ fn part_cells(
     requires memory { MemoryIsFormed config.now }
     requires kind { IsTrue (is_of_kind table.now.kind part.now.slot.now.memory) }
     requires bits { sum table.now.keys ≡ bits_of_lanes part.now.slot.now.keys }
+    requires ways { WaysLow part.now.slot.now.memory }
     ensures { IfOk result (IsListed config.now table.now (part_at part.now)) }
 {
     let mut cells = BTreeMap::new(alloc);
@@ -68,6 +73,7 @@ fn part_cells(
         stage: part.at,
         place: part.place,
         first: part.first,
+        shape: shape_of(part.slot),
         cells,
     })
 }

@@ -5,7 +5,7 @@ use Rattle.rmt_bits.specs.Bits.{bytes_of, number_of}
 use Rattle.rmt_config.specs.Shapes.{divided_up}
 use Rattle.rmt_pack.specs.Cells.{PutsEntry, PutsRecord}
 use Rattle.rmt_pack.specs.Rows.{blocks_of}
-use Rattle.rmt_refine.specs.Cells.{tests_as_one}
+use Rattle.rmt_config.specs.Rooms.{tests_as_one}
 use Rattle.rmt_build.specs.Data.{data_of}
 use Rattle.rmt_build.specs.Holding.{head_for}
 use Rattle.rmt_build.proofs.EntryLaws.{data-small, key-number, tests_value-lt}

@@ -16,7 +16,7 @@ use Rattle.rmt_pack.specs.Rows.{blocks_of}
 use Rattle.rmt_pack.specs.Shape.{cells_in}
 use Rattle.rmt_pack.proofs.NeedLaws.{data_bits-few}
 use Rattle.rmt_pack.proofs.ShapeLaws.{ternary-cells}
-use Rattle.rmt_refine.specs.Cells.{tests_as_one}
+use Rattle.rmt_config.specs.Rooms.{tests_as_one}
 use Rattle.rmt_build.specs.declared.stands.Stand.{Stand}
 use Rattle.rmt_build.specs.Data.{data_of}
 use Rattle.rmt_build.specs.Holding.{Held, PutsRow, TernarySo, data_for, head_for, mask_for, value_for}

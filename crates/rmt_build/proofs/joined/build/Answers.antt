@@ -15,8 +15,9 @@ use Rattle.rmt_vliw.specs.declared.fault.ActionDeep.TheVariants as action
 use Rattle.rmt_build.specs.Folds.{first_deep}
 use Rattle.rmt_build.specs.Loads.{AreNotLoaded}
 use Rattle.rmt_build.proofs.PlacedLaws.{rule_placed}
-use Rattle.rmt_build.proofs.RefusalLaws.{by_rule, done_not_failed, none_refused, not_refused, placed_there, same_Ok}
+use Rattle.rmt_build.proofs.RefusalLaws.{by_rule, done_not_failed, none_refused, not_refused, placed_there}
 use Rattle.rmt_build.proofs.joined.build.Goals as goal
+use Rattle.rmt_bits.proofs.OptionLaws.{same_Ok}
 
 pub pack_fields-requires-clause-few_fields : goal.pack_fields-requires-clause-few_fields
 pack_fields-requires-clause-few_fields c = few_fields c.args.program.now c.requires.program

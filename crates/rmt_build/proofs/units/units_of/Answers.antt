@@ -7,8 +7,7 @@ use Rattle.std.proofs.lemmas.List.Elements.{All-append, All-cons, All-nil}
 use Rattle.rmt_build.specs.Types.{Unit}
 use Rattle.rmt_pack.specs.Placements.{quanta_in}
 use Rattle.rmt_refine.specs.Units.{UnitCarried}
-use Rattle.rmt_build.proofs.ListLaws.{zip_push}
-use Rattle.rmt_bits.proofs.ListLaws.{filter-range_more}
+use Rattle.rmt_bits.proofs.ListLaws.{filter-range_more, zip_push}
 use Rattle.rmt_build.specs.BuiltStage.{HaveParts, SmallUnit}
 use Rattle.rmt_build.proofs.PlanLaws.{absent_taken}
 use Rattle.rmt_build.proofs.UnitPartLaws.{parts_push}

@@ -2,7 +2,7 @@ use Rattle.std.proofs.Common.{◌≡◌, ◌<◌, ℕ, List, Vec, Global, length
 use Rattle.std.specs.Prelude.{slice_get}
 use Rattle.std.specs.Vec.{with_item}
 use Rattle.std.proofs.lemmas.List.{length-set}
-use Rattle.std.proofs.lemmas.Option.{get_or_from_slice_get, slice_get-get_or}
+use Rattle.std.proofs.lemmas.Option.{get_or_from_slice_get, slice_get-get_or, same_Some}
 use Rattle.std.proofs.lemmas.Bool.{cases_eq}
 use Rattle.rmt_bits.proofs.ListLaws.{slice_get-set_same, slice_get-set_other}
 use Rattle.rmt_chip.specs.Types.{Config, Stage, Unit, SlotUnit}
@@ -16,7 +16,7 @@ use Rattle.rmt_chip.specs.StageMemories.{MemoriesHold, MemoriesOf}
 use Rattle.rmt_chip.specs.Memory.{HoldsCells, MemoriesFit, MemoryFits, UnitHeld}
 use Rattle.rmt_chip.specs.Writable.{WriteTaken, content_after, number_after, slot_in}
 use Rattle.rmt_chip.proofs.StageMemoriesLaws.{place_below}
-use Rattle.rmt_chip.proofs.MemoriesLaws.{SlotPlace, some_is, slot_place, slot_same, has_cells, changed_each, written_here, written_elsewhere}
+use Rattle.rmt_chip.proofs.MemoriesLaws.{SlotPlace, slot_place, slot_same, has_cells, changed_each, written_here, written_elsewhere}
 use Rattle.rmt_chip.proofs.lay.write_cell.Goals as goal
 
 -- the unit that was read is the slot that is there
@@ -82,8 +82,8 @@ module _ (stages : List Stage) (memories : List (Vec SlotMemory Global)) (w : Ce
             | inr other ↦ (fit.each j s m one (sym (slice_get-set_other memories k j (with_item v place new) other) ∙ two)).all_units
             | inl same ↦
                 let mine : with_item v place new ≡ m =
-                some_is (with_item v place new) m (sym (slice_get-set_same memories k v (with_item v place new) vat) ∙ ap (slice_get (after new)) (sym same) ∙ two) in
-                let its : p.stage ≡ s = some_is p.stage s (sym p.at ∙ ap (slice_get stages) (sym same) ∙ one) in
+                same_Some (with_item v place new) m (sym (slice_get-set_same memories k v (with_item v place new) vat) ∙ ap (slice_get (after new)) (sym same) ∙ two) in
+                let its : p.stage ≡ s = same_Some p.stage s (sym p.at ∙ ap (slice_get stages) (sym same) ∙ one) in
                 ap (λ (x : Vec SlotMemory Global). length x.items) (sym mine) ∙ length-set v.items place new ∙ fits.all_units ∙ ap (λ (x : Stage). length x.units) its
           ]
 

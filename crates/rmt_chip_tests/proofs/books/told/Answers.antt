@@ -8,4 +8,4 @@ pub entries-requires : goal.entries-requires
 entries-requires c =
     let config = c.in_ok-config.config in
     let named = IsSome-value config.names c.in_ok-config.ensures.named in
-    (config, own_cells config, entries_spelled config named.0, c.in-Ok.ensures named.0 named.1)
+    (config, own_cells config, entries_spelled config named.0, c.in-Ok.ensures.stands named.0 named.1)

@@ -1,9 +1,9 @@
 //! The rules on the entries of an exact table.
 
-ghost use Rattle.std.specs.Prelude.{◌≡◌, IsTrue, IfOk};
+ghost use Rattle.std.specs.Prelude.{◌≡◌, IsTrue, IfOk, sum};
 ghost use Rattle.rmt_ast.specs.declared.program.Kind.TheVariants as kind;
 ghost use Rattle.rmt_config.specs.Form.{items_are_formed};
-ghost use Rattle.rmt_config.specs.KeyPrints.{KeysAdded};
+ghost use Rattle.rmt_config.specs.KeyPrints.{KeysAdded, PartKeys};
 ghost use Rattle.rmt_config.specs.KeysSeen.{WaysLow, key_held, stands_in};
 ghost use Rattle.rmt_config.specs.LaneForm.{bits_of_lanes};
 ghost use Rattle.rmt_config.specs.MemoryRules.{MemoryIsFormed};
@@ -16,18 +16,24 @@ ghost use Rattle.rmt_config.specs.Shapes.{divided_up as divided_up_of};
 use crate::config::{Config, Memory};
 use crate::form::layout::divided_up;
 use crate::form::names::exact_part::{key_bits, put_keys};
-use crate::form::names::key_prints::keys_differ;
+use crate::form::names::key_prints::{all_differ, each_is_new};
 use crate::form::names::part_list::Part;
 use rmt_ast::names::TableName;
 use std::alloc::{AllocError, Global};
 
-/// Whether each cell of a part is one in which its key may stand; where it is, their keys are added as bytes.
-fn part_keys(config: &Config, part: &Part, into: &mut Vec<u8>) -> Result<bool, AllocError>
+/// Whether each cell of a part is one in which its key may stand; where it is, what is kept of their keys is added.
+fn part_keys(
+    alloc: Global,
+    config: &Config,
+    part: &Part,
+    whole: bool,
+    into: &mut Vec<u64>,
+) -> Result<bool, AllocError>
     requires stands { PartStands config.now (part_at part.now) }
     requires kind { IsTrue (is_of_kind kind.Exact part.now.slot.now.memory) }
     requires ways { WaysLow part.now.slot.now.memory }
     ensures { IfOk result (λ stand.
-        KeysAdded (divided_up_of (bits_of_lanes part.now.slot.now.keys) 8) (stands_in config.now (part_at part.now)) (key_held config.now (part_at part.now))
+        KeysAdded whole (divided_up_of (bits_of_lanes part.now.slot.now.keys) 8) (stands_in config.now (part_at part.now)) (key_held config.now (part_at part.now))
         part.now.slot.now.numbers into.old.items into.new.items stand) }
 {
     let stages = config.stages.as_slice();
@@ -43,6 +49,7 @@ fn part_keys(config: &Config, part: &Part, into: &mut Vec<u8>) -> Result<bool, A
         } => {
             let bits = key_bits(part.slot.keys.as_slice());
             put_keys(
+                alloc,
                 config.seed,
                 part.slot.numbers.as_slice(),
                 rows,
@@ -52,6 +59,7 @@ fn part_keys(config: &Config, part: &Part, into: &mut Vec<u8>) -> Result<bool, A
                 *first_way,
                 bits,
                 keys.as_slice(),
+                whole,
                 into,
             )
         }
@@ -59,8 +67,33 @@ fn part_keys(config: &Config, part: &Part, into: &mut Vec<u8>) -> Result<bool, A
     }
 }
 
-/// Whether an exact table is named as its parts are filled. The time is that of sorting prints of its keys, and the
-/// memory that of the keys and of the prints.
+/// The same of all parts of an exact table.
+fn parts_keys(
+    alloc: Global,
+    config: &Config,
+    table: &TableName,
+    parts: &[Part],
+    whole: bool,
+    into: &mut Vec<u64>,
+) -> Result<bool, AllocError>
+    requires kind { table.now.kind ≡ kind.Exact }
+    requires items { IsTrue (items_are_formed config.now) }
+    requires memory { MemoryIsFormed config.now }
+    requires has { IsTrue (has_parts config.now table.now) }
+    requires made { IsTrue (is_made_so config.now table.now) }
+    requires parts { parts_at parts.now ≡ parts_of config.now table.now.node }
+    ensures { IfOk result (λ stand. PartKeys whole config.now (divided_up_of (sum table.now.keys) 8) (parts_at parts.now) into.old.items into.new.items stand) }
+{
+    for part in parts {
+        if !part_keys(alloc, config, part, whole, into)? {
+            return Ok(false);
+        }
+    }
+    Ok(true)
+}
+
+/// Whether an exact table is named as its parts are filled. The keys are told apart by prints, and by their bytes only
+/// where two prints are the same. The time is that of sorting prints of the keys, and the memory that of the prints.
 pub fn exact_fits(
     alloc: Global,
     config: &Config,
@@ -80,13 +113,18 @@ pub fn exact_fits(
     if numbers.len() > table.size as usize {
         return Ok(false);
     }
+    let mut prints = Vec::with_capacity(alloc, numbers.len())?;
+    if !parts_keys(alloc, config, table, parts, false, &mut prints)? {
+        return Ok(false);
+    }
+    if all_differ(&mut prints) {
+        return Ok(true);
+    }
+    let mut keys = Vec::new(alloc);
+    if !parts_keys(alloc, config, table, parts, true, &mut keys)? {
+        return Ok(false);
+    }
     let first = parts[0].slot;
     let size = divided_up(key_bits(first.keys.as_slice()), 8);
-    let mut keys = Vec::with_capacity(alloc, numbers.len().saturating_mul(size as usize))?;
-    for part in parts {
-        if !part_keys(config, part, &mut keys)? {
-            return Ok(false);
-        }
-    }
-    keys_differ(alloc, keys.as_slice(), size, numbers.len() as u64)
+    each_is_new(alloc, keys.as_slice(), size, numbers.len() as u64)
 }

@@ -85,7 +85,7 @@ fn push_bytes(into: &mut Vec<u8>, bits: u64, count: u64) -> Result<(), AllocErro
 }
 
 /// Adds `len` bits of a row of blocks side by side as bytes, the highest first, with zero bits on top.
-fn push_bits(
+pub fn push_bits(
     into: &mut Vec<u8>,
     rows: &[SramRow],
     blocks: &[u8],

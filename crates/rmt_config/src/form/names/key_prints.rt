@@ -1,11 +1,11 @@
 //! That no key of a list stands twice: by prints of the keys, and key by key only where two prints are the same.
 
-ghost use Rattle.std.specs.Prelude.{◌≡◌, ◌*◌, ℕ, List, [], IfOk, length, true};
-ghost use Rattle.rmt_config.specs.KeyPrints.{bytes_of_keys};
+ghost use Rattle.std.specs.Prelude.{◌≡◌, ◌+◌, ◌*◌, ◌≤◌, ◌++◌, ℕ, List, [], IfOk, OnOk, length, true};
+ghost use Rattle.rmt_config.specs.Cells.{blocks_at};
+ghost use Rattle.rmt_config.specs.KeyPrints.{kept_of, kept_of_keys};
 ghost use Rattle.rmt_config.specs.KeysSeen.{news};
-ghost use Rattle.rmt_config.specs.Order.{rises_from};
+ghost use Rattle.rmt_config.specs.Order.{are_new, rises_from};
 
-use crate::form::names::key_bytes::piece_at;
 use rmt_bits::hash::fnv;
 use std::alloc::{AllocError, Global};
 use std::collections::BTreeSet;
@@ -24,42 +24,57 @@ fn rise(prints: &[u64]) -> bool
     true
 }
 
-/// Whether the prints of keys differ, of which there are so many, of `size` bytes each. The time is that of sorting
-/// the prints, and the memory that of a list of them.
-fn prints_differ(alloc: Global, keys: &[u8], size: u64, count: u64) -> Result<bool, AllocError>
-    requires { length keys.now ≡ count * size }
-    ensures { IfOk result (λ differ. (ks : List ℕ) → keys.now ≡ bytes_of_keys size ks → length ks ≡ count → differ ≡ true → news size [] ks ≡ true) }
+/// Whether no number stands twice. They are sorted.
+pub fn all_differ(numbers: &mut Vec<u64>) -> bool
+    ensures { result ≡ are_new [] numbers.old.items }
 {
-    let mut prints = Vec::with_capacity(alloc, count as usize)?;
-    for at in 0..count {
-        prints.push(fnv(piece_at(keys, size, at)))?;
-    }
-    prints.sort_unstable();
-    Ok(rise(prints.as_slice()))
+    numbers.sort_unstable();
+    rise(numbers.as_slice())
 }
 
-/// Whether no key is one that was seen before it.
-fn each_is_new(alloc: Global, keys: &[u8], size: u64, count: u64) -> Result<bool, AllocError>
+/// Adds bytes as numbers.
+fn put_bytes(into: &mut Vec<u64>, bytes: &[u8]) -> Result<(), AllocError>
+    ensures { OnOk result (into.new.items ≡ into.old.items ++ bytes.now) }
+{
+    for byte in bytes {
+        into.push(u64::from(*byte))?;
+    }
+    Ok(())
+}
+
+/// Adds what is kept of a key of these bytes: all of them, or their print.
+pub fn put_kept(into: &mut Vec<u64>, whole: bool, bytes: &[u8]) -> Result<(), AllocError>
+    ensures { OnOk result (into.new.items ≡ into.old.items ++ kept_of whole bytes.now) }
+{
+    if whole {
+        put_bytes(into, bytes)?;
+    } else {
+        into.push(fnv(bytes))?;
+    }
+    Ok(())
+}
+
+/// The bytes of the key at a place, where each has so many.
+fn key_at(keys: &[u64], size: u64, at: u64) -> &[u64]
+    requires { (at + 1) * size ≤ length keys.now }
+    ensures { result.now ≡ blocks_at keys.now size at }
+{
+    let from = (at * size) as usize;
+    &keys[from..from + size as usize]
+}
+
+/// Whether no key stands twice among the bytes of keys, of which there are so many, of `size` bytes each. The time is
+/// that of an ordered set of them.
+pub fn each_is_new(alloc: Global, keys: &[u64], size: u64, count: u64) -> Result<bool, AllocError>
     requires { length keys.now ≡ count * size }
-    ensures { IfOk result (λ new. (ks : List ℕ) → keys.now ≡ bytes_of_keys size ks → length ks ≡ count → new ≡ news size [] ks) }
+    ensures { IfOk result (λ new. (ks : List ℕ) → keys.now ≡ kept_of_keys true size ks → length ks ≡ count → new ≡ news size [] ks) }
 {
     let mut seen = BTreeSet::new(alloc);
     for at in 0..count {
-        let key = piece_at(keys, size, at).to_vec(alloc)?;
+        let key = key_at(keys, size, at).to_vec(alloc)?;
         if !seen.insert(key)? {
             return Ok(false);
         }
     }
     Ok(true)
-}
-
-/// Whether no key stands twice among keys, of which there are so many, of `size` bytes each.
-pub fn keys_differ(alloc: Global, keys: &[u8], size: u64, count: u64) -> Result<bool, AllocError>
-    requires { length keys.now ≡ count * size }
-    ensures { IfOk result (λ differ. (ks : List ℕ) → keys.now ≡ bytes_of_keys size ks → length ks ≡ count → differ ≡ news size [] ks) }
-{
-    if prints_differ(alloc, keys, size, count)? {
-        return Ok(true);
-    }
-    each_is_new(alloc, keys, size, count)
 }

@@ -1,7 +1,10 @@
--- The counters are those of the packets.
+-- The counters are those of the packets and commits.
 use Rattle.std.proofs.Common.{ap, ◌∙◌, Result, Ok, Err}
 use Rattle.std.specs.Prelude.{IfOk}
 use Rattle.std.specs.List.{flat_map}
+use Rattle.rmt_ast.specs.Changes.{at_first}
+use Rattle.rmt_ast.specs.Events.{lists_from, met_from}
+use Rattle.rmt_plain.specs.Stands.{entries_after}
 use Rattle.rmt_core.specs.SimText.{count_line}
 use Rattle.rmt_core.proofs.plain_run.last_text.Goals as goal
 
@@ -12,4 +15,7 @@ if_ok (Err e) f h = tt
 pub returns-in-None : goal.returns-in-None
 returns-in-None c =
     rw c.in-None.is
-    (if_ok c.count_lines.result (λ text is p lists done stands. is ∙ ap (flat_map count_line) (c.counters.ensures.packets p lists done stands)) c.count_lines.ensures)
+    (if_ok c.count_lines.result
+    (λ text is p lists events taken. is ∙ ap (flat_map count_line)
+    (c.counters.ensures.met p (lists_from (at_first lists) events) (entries_after (at_first lists) events).lists (met_from (at_first lists) events) taken))
+    c.count_lines.ensures)

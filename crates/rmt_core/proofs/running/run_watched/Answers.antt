@@ -8,6 +8,7 @@ use Rattle.rmt_core.specs.declared.run_end.RunFault.{RunFault}
 use Rattle.rmt_core.specs.declared.run_end.RunFault.TheVariants as fault
 use Rattle.rmt_core.specs.declared.status.Status.TheVariants as status
 use Rattle.rmt_core.proofs.EndLaws.{gained_none}
+use Rattle.rmt_core.specs.Runs.{packets_alone}
 use Rattle.rmt_core.specs.Watching.{text_of}
 use Rattle.rmt_core.proofs.DrainLaws.{ended_done, ended_was}
 use Rattle.rmt_core.proofs.EnterLaws.{whole_packets}
@@ -41,14 +42,15 @@ returns-in-Ok-enter_all-clause-answered g c = λ t k stands.
     let w = c.args.watch in
     let entered = c.in-Ok-enter_all.ensures.ok w k (c.in-Ok.ensures k c.args.chip.now before stands) in
     let e = c.finish.ensures in
-    finished_answered _ _ (text_of w k) c.args.limit (g.F.Shelf.state c.args.shelf.now).rest entered.done c.in-Ok-enter_all.bad c.finish.result (entered.reads t) c.enter_all.ensures.only_read.files e.possible
+    finished_answered _ _ packets_alone (text_of w k) c.args.limit (g.F.Shelf.state c.args.shelf.now).rest (record { packets = entered.done; bad = bad_line c.in-Ok-enter_all.bad }) c.in-Ok-enter_all.bad c.finish.result
+    (entered.reads t) refl c.enter_all.ensures.only_read.files e.possible
     (λ f. e.some f w k entered.done before entered.goes) (λ d. e.printed d w k entered.done before entered.goes) (e.front w k entered.done before entered.goes)
     (λ f. printing_failed_later (g.O.Sink.state c.finish.new.out) c.enter_all.ensures.only_printed (e.failed f))
 
 pub returns-clause-answered : goal.returns-clause-answered
 returns-clause-answered g c = λ t k stands.
     rw c.fault_status.ensures
-    (broken_answered _ _ (text_of c.args.watch k) c.args.limit (g.F.Shelf.state c.args.shelf.now).rest c.in-Err.fault
+    (broken_answered _ _ packets_alone (text_of c.args.watch k) c.args.limit (g.F.Shelf.state c.args.shelf.now).rest c.in-Err.fault
     (c.in-Err.ensures.broken t c.args.watch k (c.in-Ok.ensures k c.args.chip.now (g.O.Sink.state c.args.out.now) stands)) c.enter_all.ensures.only_read.files
     (λ e. c.in-Err.ensures.write_fault (ap Err e)) (λ e. c.in-Err.ensures.never_fails (ap Err e)))
 

@@ -11,9 +11,10 @@ use Rattle.rmt_entries.specs.LinesSoFar.{Addition, IsAppliedBy, IsBelow, IsReada
 use Rattle.rmt_entries.specs.Tables.{AppliedTable, applied_tables}
 use Rattle.rmt_entries.proofs.LawLists.{entries_law}
 use Rattle.rmt_entries.proofs.ProgramLaws.{are_applied, are_below, are_readable}
-use Rattle.rmt_entries.proofs.TextLaws.{gives_fault, gives_handed, has_bytes, has_none, lists_of_nodes, reads_first, reads_passed, reads_added, reads_bad, reads_end}
+use Rattle.rmt_entries.proofs.TextLaws.{gives_fault, gives_handed, lists_of_nodes, reads_first, reads_passed, reads_added, reads_bad, reads_end}
 use Rattle.rmt_entries.proofs.text.entries.Goals as goal
 use Rattle.rmt_entries.proofs.text.entries.Goals.{then-not-is_passed_over+in_ok-take_line, else-not-is_passed_over}
+use Rattle.rmt_bits.proofs.ListLaws.{has_bytes, has_none}
 
 -- the tables that were found are applied by the nodes
 tables_applied : (p : Program) (ts : List AppliedTable) → ts ≡ applied_tables p → All (IsAppliedBy (node_terms p)) ts

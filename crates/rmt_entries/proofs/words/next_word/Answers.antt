@@ -1,5 +1,5 @@
 use Rattle.std.proofs.Common.{◌∙◌, sym}
-use Rattle.rmt_entries.proofs.WordLaws.{word_first, word_none}
+use Rattle.rmt_bits.proofs.LineLaws.{word_first, word_none}
 use Rattle.rmt_entries.proofs.words.next_word.Goals as goal
 
 pub returns-then-not-is_empty-clause-some : goal.returns-then-not-is_empty-clause-some

@@ -2,7 +2,8 @@ use Rattle.std.proofs.Common.{◌≡◌, ℕ, suc, ◌-◌, ◌<◌, length, dro
 use Rattle.std.specs.Prelude.{sum}
 use Rattle.std.proofs.lemmas.List.Elements.{length_all_zip}
 use Rattle.rmt_ast.specs.WellFormed.{Fits}
-use Rattle.rmt_pack.specs.Tcam.{side_by_side, Holds}
+use Rattle.rmt_config.specs.Rooms.{side_by_side}
+use Rattle.rmt_pack.specs.Tcam.{Holds}
 use Rattle.rmt_pack.proofs.TcamLaws.{gather-next, words_of_all}
 use Rattle.rmt_pack.proofs.tcam.side_words.Goals as goal
 

@@ -1,6 +1,7 @@
 use Rattle.std.proofs.Common.{◌≤◌, drop, length}
 use Rattle.std.specs.Prelude.{sum}
-use Rattle.rmt_pack.specs.Tcam.{side_by_side, Holds}
+use Rattle.rmt_config.specs.Rooms.{side_by_side}
+use Rattle.rmt_pack.specs.Tcam.{Holds}
 use Rattle.rmt_pack.proofs.tcam.side_words.Given as goal
 
 -- the numbers from this place on are gathered

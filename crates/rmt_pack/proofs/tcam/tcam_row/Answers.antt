@@ -2,7 +2,8 @@ use Rattle.std.proofs.Common.{◌≡◌, ℕ, List, map, sym, ap, ◌∙◌, sub
 use Rattle.std.specs.List.{AllZip}
 use Rattle.rmt_ast.specs.WellFormed.{Fits}
 use Rattle.rmt_pack.specs.declared.tcam.TcamWord.{TcamWord}
-use Rattle.rmt_pack.specs.Tcam.{side_by_side, joined_words, IsWords}
+use Rattle.rmt_config.specs.Rooms.{side_by_side}
+use Rattle.rmt_pack.specs.Tcam.{joined_words, IsWords}
 use Rattle.rmt_pack.proofs.TcamLaws.{values_of, masks_of, values-fit, masks-fit, fills, row-matches}
 use Rattle.rmt_pack.proofs.tcam.tcam_row.Goals as goal
 use Rattle.rmt_pack.proofs.tcam.tcam_row.Goals.{In_ok-row}

@@ -3,16 +3,16 @@ use Rattle.std.specs.List.{flat_map, range_with_len}
 use Rattle.std.proofs.lemmas.Bool.{eq-eqb, ne_eqb}
 use Rattle.std.proofs.lemmas.List.{append-nil}
 use Rattle.rmt_deps.proofs.EdgeLaws.{numbers_more}
-use Rattle.rmt_place.proofs.StageLaws.{filter_more}
 use Rattle.rmt_place.proofs.order.order.Goals as goal
 use Rattle.rmt_place.proofs.order.order.Goals.{then-other-level+in_ok-push, else-other-level}
+use Rattle.rmt_bits.proofs.ListLaws.{filter-range_more}
 
 pub loop-node-preserved : goal.loop-node-preserved
 loop-node-preserved c =
     let n = c.loop-node.node in
     let level = c.loop-level.level in
     let front = filter (λ m. eqb (get_or c.args.levels.now m 0) level) (range_with_len 0 n) in
-    let more = filter_more (λ m. eqb (get_or c.args.levels.now m 0) level) n in
+    let more = filter-range_more (λ m. eqb (get_or c.args.levels.now m 0) level) n in
     elim c.if-other-level.branch [
       | then-other-level+in_ok-push w ↦
           let test = eq-eqb (get_or c.args.levels.now n 0) level w.if-other-level.true in

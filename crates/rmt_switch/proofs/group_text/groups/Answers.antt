@@ -1,9 +1,10 @@
 use Rattle.std.proofs.Common.{◌+◌, ◌∙◌, sym, subst, List, ℕ}
 use Rattle.rmt_switch.specs.GroupText.{groups_of}
 use Rattle.rmt_switch.specs.LinesSoFar.{Reads}
-use Rattle.rmt_switch.proofs.GroupLaws.{gives_fault, gives_handed, has_bytes, reads_added, reads_bad, reads_passed}
+use Rattle.rmt_switch.proofs.GroupLaws.{gives_fault, gives_handed, reads_added, reads_bad, reads_passed}
 use Rattle.rmt_switch.proofs.group_text.groups.Goals as goal
 use Rattle.rmt_switch.proofs.group_text.groups.Goals.{then-not-is_passed_over+in_ok-add_line, else-not-is_passed_over}
+use Rattle.rmt_bits.proofs.ListLaws.{has_bytes}
 
 pub returns-in_err-add_line : goal.returns-in_err-add_line
 returns-in_err-add_line c =

@@ -63,16 +63,6 @@ returns-in-Without-clause-holds c =
       vectors = subst (VectorsHold (divided_up (bits_of_lanes slot.keys) 40) (cells_in slot.memory) (content_of c.args.stage.now slot)) (sym c.without.ensures.keys) tt;
     }
 
-pub returns-in-Exact-clause-fits : goal.returns-in-Exact-clause-fits
-returns-in-Exact-clause-fits c =
-    let x = c.in-Exact in
-    let slot = c.args.slot.now in
-    let memory : Exact x.width x.per x.quanta x.first_way c.as_slice.result.now c.as_slice-in-Exact.result.now x.counters ≡ slot.memory =
-    ap (λ (ks : List ℕ). Exact x.width x.per x.quanta x.first_way ks c.as_slice-in-Exact.result.now x.counters) c.as_slice.ensures
-    ∙ ap (λ (rs : List ℕ). Exact x.width x.per x.quanta x.first_way x.keys rs x.counters) c.as_slice-in-Exact.ensures ∙ sym x.is in
-    IfOk-then c.lay_exact.result _ _ c.lay_exact.ensures.laid
-    (λ m laid. (subst (λ (y : Memory). Laid c.args.stage.now (record slot { memory = y }) m) memory (laid x.counters)).fits)
-
 pub returns-in-Exact-clause-holds : goal.returns-in-Exact-clause-holds
 returns-in-Exact-clause-holds c =
     let x = c.in-Exact in
@@ -83,15 +73,8 @@ returns-in-Exact-clause-holds c =
     IfOk-then c.lay_exact.result _ _ c.lay_exact.ensures.laid
     (λ m laid. laid-holds c.args.stage.now slot c.requires m (subst (λ (y : Memory). Laid c.args.stage.now (record slot { memory = y }) m) memory (laid x.counters)))
 
-pub returns-in-Ternary-clause-fits : goal.returns-in-Ternary-clause-fits
-returns-in-Ternary-clause-fits c =
-    let x = c.in-Ternary in
-    let slot = c.args.slot.now in
-    let memory : Ternary x.quanta c.as_slice-in-Ternary.result.now c.as_slice-in-Ternary-2.result.now x.counters ≡ slot.memory =
-    ap (λ (ks : List ℕ). Ternary x.quanta ks c.as_slice-in-Ternary-2.result.now x.counters) c.as_slice-in-Ternary.ensures
-    ∙ ap (λ (rs : List ℕ). Ternary x.quanta x.keys rs x.counters) c.as_slice-in-Ternary-2.ensures ∙ sym x.is in
-    IfOk-then c.lay_ternary.result _ _ c.lay_ternary.ensures.laid
-    (λ m laid. (subst (λ (y : Memory). Laid c.args.stage.now (record slot { memory = y }) m) memory (laid x.counters)).fits)
+pub returns-in-Exact-clause-fits : goal.returns-in-Exact-clause-fits
+returns-in-Exact-clause-fits c = IfOk-then c.lay_exact.result _ _ (returns-in-Exact-clause-holds c) (λ m holds. holds.fits)
 
 pub returns-in-Ternary-clause-holds : goal.returns-in-Ternary-clause-holds
 returns-in-Ternary-clause-holds c =
@@ -102,3 +85,6 @@ returns-in-Ternary-clause-holds c =
     ∙ ap (λ (rs : List ℕ). Ternary x.quanta x.keys rs x.counters) c.as_slice-in-Ternary-2.ensures ∙ sym x.is in
     IfOk-then c.lay_ternary.result _ _ c.lay_ternary.ensures.laid
     (λ m laid. laid-holds c.args.stage.now slot c.requires m (subst (λ (y : Memory). Laid c.args.stage.now (record slot { memory = y }) m) memory (laid x.counters)))
+
+pub returns-in-Ternary-clause-fits : goal.returns-in-Ternary-clause-fits
+returns-in-Ternary-clause-fits c = IfOk-then c.lay_ternary.result _ _ (returns-in-Ternary-clause-holds c) (λ m holds. holds.fits)

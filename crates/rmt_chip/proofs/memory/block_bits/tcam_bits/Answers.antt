@@ -3,7 +3,7 @@ use Rattle.std.proofs.lemmas.List.{get_or_default}
 use Rattle.rmt_config.specs.Cells.{tcam_row}
 use Rattle.rmt_config.specs.StageForm.{trow_number}
 use Rattle.rmt_chip.specs.Types.{TcamRow}
-use Rattle.rmt_chip.proofs.RowLaws.{trow-found, trow-none}
+use Rattle.rmt_config.proofs.TcamRowLaws.{trow-found, trow-none}
 use Rattle.rmt_chip.proofs.memory.block_bits.tcam_bits.Goals as goal
 use Rattle.rmt_chip.proofs.memory.block_bits.tcam_bits.Goals.{else-at-rows-via-then-at-rows+else-place-number, else-at-rows-via-else-at-rows}
 

@@ -15,13 +15,11 @@ use Rattle.rmt_chip.specs.Searching.{run_of}
 use Rattle.rmt_chip.specs.Slicing.{RowFits}
 use Rattle.rmt_chip.specs.Sights.{seen_by}
 use Rattle.rmt_chip.specs.Memories.{compared_of}
-use Rattle.rmt_chip.proofs.LayLaws.{ternary-heads, ternary-data, compared-is, compared-fits, blocks-there, bytes-at, head-of}
+use Rattle.rmt_chip.proofs.LayLaws.{ternary-heads, ternary-data, compared-is, compared-fits, bytes-at, head-of}
 use Rattle.rmt_chip.proofs.RunLaws.{runs-none}
 use Rattle.rmt_chip.proofs.memory.lay.lay_ternary.Goals as goal
-
--- how many blocks a key takes
-width-is : (bits bits' : ℕ) → bits' ≡ bits → (bits' + 39) / 40 ≡ divided_up bits 40
-width-is bits bits' e = ap (λ b. (b + 39) / 40) e ∙ ap (λ n. n / 40) (let s : bits + 39 ≡ bits + 40 - 1 = omega arith in s)
+use Rattle.rmt_config.proofs.CellLayouts.{width-is}
+use Rattle.rmt_config.proofs.CellLaws.{blocks-there}
 
 pub sliced_of-requires-clause-cells : goal.sliced_of-requires-clause-cells
 sliced_of-requires-clause-cells c =

@@ -9,19 +9,14 @@ use Rattle.rmt_chip.specs.Slicing.{RowFits}
 use Rattle.rmt_chip.specs.Sights.{seen_by}
 use Rattle.rmt_chip.proofs.PutLaws.{RowsPut, no-rows, one-row, rows-are}
 use Rattle.rmt_chip.proofs.memory.ternary.sliced_of.Goals as goal
-
-abbrev compared : List ℕ → List ℕ → Compared
-compared ms vs = record { masks = ms; values = vs }
-
-both-same : (ms ms' vs vs' : List ℕ) → ms ≡ ms' → vs ≡ vs' → compared ms vs ≡ compared ms' vs'
-both-same ms ms' vs vs' m v = ap (λ (xs : List ℕ). compared xs vs) m ∙ ap (λ (xs : List ℕ). compared ms' xs) v
+use Rattle.rmt_chip.proofs.SliceLaws.{compared, compared-same}
 
 -- what was read of a row of a unit is what the row compares
 row_is : (rows : List TcamRow) (blocks unit ms vs : List ℕ) (side cell : ℕ) → unit ≡ blocks_at blocks side (cell / 2048)
     → ms ≡ map (λ b. tcam_row (λ (t : TcamRow). t.mask) rows b (cell % 2048)) unit → vs ≡ map (λ b. tcam_row (λ (t : TcamRow). t.value) rows b (cell % 2048)) unit → compared ms vs ≡ compared_at rows blocks side cell
 row_is rows blocks unit ms vs side cell is m v =
     let read = λ (val : TcamRow → ℕ). ap (λ (bs : List ℕ). map (λ b. tcam_row val rows b (cell % 2048)) bs) is in
-    both-same _ _ _ _ (m ∙ read (λ (t : TcamRow). t.mask)) (v ∙ read (λ (t : TcamRow). t.value))
+    compared-same _ _ _ _ (m ∙ read (λ (t : TcamRow). t.mask)) (v ∙ read (λ (t : TcamRow). t.value))
 
 pub put-requires-clause-row : goal.put-requires-clause-row
 put-requires-clause-row c =

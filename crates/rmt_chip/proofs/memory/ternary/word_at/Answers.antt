@@ -1,9 +1,10 @@
 use Rattle.std.proofs.Common.{◌-◌, ◌*◌, length, ◌∙◌, arith}
-use Rattle.rmt_chip.proofs.WordLaws.{word-past, word-is}
+use Rattle.rmt_bits.proofs.ByteLaws.{bits-above}
+use Rattle.rmt_chip.proofs.WordLaws.{word-is}
 use Rattle.rmt_chip.proofs.memory.ternary.word_at.Goals as goal
 
 pub returns-then-bits-low : goal.returns-then-bits-low
-returns-then-bits-low c = word-past c.args.key.now c.args.low 40 (λ i. (c.type_inv.key i).fits) c.if-bits-low.true
+returns-then-bits-low c = bits-above c.args.key.now c.args.low 40 (λ i. (c.type_inv.key i).fits) c.if-bits-low.true
 
 pub returns : goal.returns
 returns c =

@@ -1,16 +1,15 @@
 use Rattle.std.proofs.Common.{◌≡◌, ◌+◌, ℕ, false, List, [], IsTrue}
-use Rattle.rmt_bits.specs.Packet.{Packet}
 use Rattle.rmt_io.specs.Outside.{OnlyRead}
-use Rattle.rmt_core.specs.ReadsOn.{AtLine, HasLines, ReadsOn}
+use Rattle.rmt_core.specs.ReadsOn.{AtLine, HasLines, ReadsLines}
 use Rattle.rmt_core.proofs.reader.PacketReader.find.Given as goal
 
 -- a packet line is at hand, or all bytes that came were taken
 abbrev pub invariant-loop-is_ready : goal.invariant-loop-is_ready
 invariant-loop-is_ready g l = record {
-  line : IsTrue l.is_ready → IsTrue (g.F.Shelf.state l.fn.shelf).tells → (limit : ℕ) (text : List ℕ) (done : List Packet) → ReadsOn limit text done l.fn.self (g.F.Shelf.state l.fn.shelf).rest
-      → AtLine limit text done l.self (g.F.Shelf.state l.shelf).rest;
-  reads : l.is_ready ≡ false → IsTrue (g.F.Shelf.state l.fn.shelf).tells → (limit : ℕ) (text : List ℕ) (done : List Packet) → ReadsOn limit text done l.fn.self (g.F.Shelf.state l.fn.shelf).rest
-      → ReadsOn limit text done l.self (g.F.Shelf.state l.shelf).rest;
+  line : IsTrue l.is_ready → IsTrue (g.F.Shelf.state l.fn.shelf).tells → (limit : ℕ) (text : List ℕ) (gave : List (ℕ × List ℕ)) → ReadsLines limit text gave l.fn.self (g.F.Shelf.state l.fn.shelf).rest
+      → AtLine limit text gave l.self (g.F.Shelf.state l.shelf).rest;
+  reads : l.is_ready ≡ false → IsTrue (g.F.Shelf.state l.fn.shelf).tells → (limit : ℕ) (text : List ℕ) (gave : List (ℕ × List ℕ)) → ReadsLines limit text gave l.fn.self (g.F.Shelf.state l.fn.shelf).rest
+      → ReadsLines limit text gave l.self (g.F.Shelf.state l.shelf).rest;
   empty : l.is_ready ≡ false → l.self.waiting ≡ [];
   ready : l.self.lines.is_ready ≡ l.is_ready;
   one_more : IsTrue l.is_ready → HasLines (l.self.given + 1) l.self.is_finished l.self.lines;

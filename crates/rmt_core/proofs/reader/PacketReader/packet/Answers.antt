@@ -38,17 +38,17 @@ returns-in-Err-NoMemory-clause-few c =
     omega (arith, few, lines, c.self.invariant.0)
 
 pub returns-in-Ok-clause-comes : goal.returns-in-Ok-clause-comes
-returns-in-Ok-clause-comes c limit text rest done h =
+returns-in-Ok-clause-comes c limit text rest gave done h packets =
     let i = c.self.inside in
     let old : ReaderState = record { lines = i.lines; waiting = i.piece; left = i.left; is_finished = i.is_finished; given = i.given } in
     let new : ReaderState = record { lines = i.lines; waiting = i.piece; left = i.left; is_finished = i.is_finished; given = i.given + 1 } in
-    packet_read limit text rest done (record { port = c.in-Ok.port; frame = c.read_packet.new.into.items }) old new (rw (← c.self.view_is) at h) (ap packet_of (sym c.text.ensures.front) ∙ c.in-Ok.ensures.packet) refl refl refl refl
+    packet_read limit text rest gave done (record { port = c.in-Ok.port; frame = c.read_packet.new.into.items }) old new (rw (← c.self.view_is) at h) packets (ap packet_of (sym c.text.ensures.front) ∙ c.in-Ok.ensures.packet) refl refl refl refl
 
 pub returns-in-Err-Code-clause-comes : goal.returns-in-Err-Code-clause-comes
-returns-in-Err-Code-clause-comes c limit text rest done h =
+returns-in-Err-Code-clause-comes c limit text rest gave done h packets =
     let i = c.self.inside in
     let code = c.in-Err-Code.code in
     let old : ReaderState = record { lines = i.lines; waiting = i.piece; left = i.left; is_finished = i.is_finished; given = i.given } in
     let says = of_code (λ k. packet_of c.text.result.now ≡ Err k) c.in-Err-Code.field-0 code c.in-Err-Code.field-0-is c.in-Err-Code.ensures.code in
-    bad_read limit text rest done code old (rw (← c.self.view_is) at h) (ap packet_of (sym c.text.ensures.front) ∙ says)
+    bad_read limit text rest gave done code old (rw (← c.self.view_is) at h) packets (ap packet_of (sym c.text.ensures.front) ∙ says)
     ∙ ap (λ n. record { packets = done; bad = Some (record { code = code; line = n }) }) (sym c.number.ensures)

@@ -36,16 +36,16 @@ returns-clause-one_more c is =
     has_next i.given i.is_finished i.lines c.take-taken.new.self (take c.take-taken.result.used bytes) going c.self.invariant.1 c.take-taken.ensures.stands (λ t s. c.take-taken.ensures.ready t s is)
 
 pub returns-clause-line : goal.returns-clause-line
-returns-clause-line c is limit text rest done h =
+returns-clause-line c is limit text rest gave h =
     let i = c.self.inside in
     let bytes = c.bytes.result.now in
     let going = ap (λ r. r.is_finished) c.self.view_is ∙ c.requires in
     let old : ReaderState = record { lines = i.lines; waiting = i.piece; left = i.left; is_finished = i.is_finished; given = i.given } in
     let new : ReaderState = record { lines = c.take-taken.new.self; waiting = c.skip.new.self; left = i.left; is_finished = i.is_finished; given = i.given } in
-    line_taken limit text rest done (take c.take-taken.result.used bytes) old new (rw (← c.self.view_is) at h) going going refl (split c) c.take-taken.ensures.stands (λ t s. c.take-taken.ensures.ready t s is)
+    line_taken limit text rest gave (take c.take-taken.result.used bytes) old new (rw (← c.self.view_is) at h) going going refl (split c) c.take-taken.ensures.stands (λ t s. c.take-taken.ensures.ready t s is)
 
 pub returns-clause-none : goal.returns-clause-none
-returns-clause-none c none limit text rest done h =
+returns-clause-none c none limit text rest gave h =
     let i = c.self.inside in
     let bytes = c.bytes.result.now in
     let used = c.take-taken.result.used in
@@ -53,5 +53,5 @@ returns-clause-none c none limit text rest done h =
     let all : take used bytes ≡ bytes = ap (λ n. take n bytes) (c.take-taken.ensures.whole none) ∙ take_all (length bytes) bytes (omega arith) in
     let old : ReaderState = record { lines = i.lines; waiting = i.piece; left = i.left; is_finished = i.is_finished; given = i.given } in
     let new : ReaderState = record { lines = c.take-taken.new.self; waiting = c.skip.new.self; left = i.left; is_finished = i.is_finished; given = i.given } in
-    none_taken limit text rest done (take used bytes) old new (rw (← c.self.view_is) at h) going going refl (split c) c.take-taken.ensures.stands
+    none_taken limit text rest gave (take used bytes) old new (rw (← c.self.view_is) at h) going going refl (split c) c.take-taken.ensures.stands
     (λ t s. ap (λ xs. ended_lines (t ++ xs)) all ∙ c.take-taken.ensures.none t s none)

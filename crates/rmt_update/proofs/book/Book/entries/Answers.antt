@@ -20,7 +20,7 @@ loop-node-preserved c =
     ∙ ap (λ (es : List Entry). map f (range_with_len 0 n) ++ es ∷ []) (c.in_ok-entries_at.ensures ∙ ap (λ (ts : List TableCells). entries_at self.odd ts n) c.as_slice.ensures.value)
     ∙ sym (map-range_with_len_more f 0 n n (omega arith))
 
-pub returns : goal.returns
-returns c = λ config cells lists stands.
+pub returns-clause-entries : goal.returns-clause-entries
+returns-clause-entries c = λ config cells lists stands.
     let self = c.args.self.now in
     c.loop-node.invariant ∙ ap (λ n. map (entries_at self.odd self.tables.items) (range_with_len 0 n)) (omega arith) ∙ sym stands.lists

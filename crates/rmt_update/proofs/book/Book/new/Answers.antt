@@ -6,8 +6,8 @@ use Rattle.rmt_update.specs.Listed.{IsTable}
 use Rattle.rmt_update.proofs.BookLaws.{stands-at-first}
 use Rattle.rmt_update.proofs.book.Book.new.Goals as goal
 
-pub returns : goal.returns
-returns c = λ names named.
+pub returns-clause-stands : goal.returns-clause-stands
+returns-clause-stands c = λ names named.
     let copy : c.in_ok-names.names ≡ c.names_of.result.now = c.in_ok-names.ensures in
     let same : c.names_of.result.now ≡ names = same_Some c.names_of.result.now names (sym c.names_of.ensures ∙ named) in
     stands-at-first c.args.config.now names _ c.requires.formed named

@@ -10,10 +10,11 @@ use Rattle.rmt_config.specs.Cells.{blocks_at, row_record, sram_row, tcam_row, un
 use Rattle.rmt_config.specs.Layouts.{IsInSram, entry_in, local_of, quantum_of, ternary_records}
 use Rattle.rmt_config.specs.MemoryRules.{SramRows}
 use Rattle.rmt_config.specs.PrefixRow.{PrefixRows}
+use Rattle.rmt_config.proofs.CellLaws.{blocks-there}
 use Rattle.rmt_config.proofs.CellLayouts.{ternary-record}
 use Rattle.rmt_update.specs.Kept.{Tells}
 use Rattle.rmt_update.specs.Words.{joined}
-use Rattle.rmt_update.proofs.KeptLaws.{at-layout, bytes-few, key-told, quantum-there, rows-in, tells-low}
+use Rattle.rmt_update.proofs.KeptLaws.{at-layout, bytes-few, key-told, rows-in, tells-low}
 use Rattle.rmt_update.proofs.book.cells.ternary_cell.Goals as goal
 
 pub entry_words-requires-clause-rows : goal.entry_words-requires-clause-rows
@@ -48,7 +49,7 @@ ternary_key-requires-clause-blocks c =
     let bits = bits_of_lanes c.args.slot.now.keys in
     let same : c.key_bits-bits.result ≡ bits = c.key_bits-bits.ensures ∙ ap bits_of_lanes c.as_slice.ensures in
     subst (λ b. (c.args.number.cell / 2048 + 1) * divided_up b 40 ≤ length c.args.keys.now) (sym same)
-    (quantum-there c.args.quanta (divided_up bits 40) (length c.args.keys.now) c.args.number.cell c.requires.fits.keys c.requires.cell)
+    (blocks-there c.args.quanta (divided_up bits 40) (length c.args.keys.now) c.args.number.cell c.requires.fits.keys c.requires.cell)
 
 pub ternary_key-requires-clause-ends : goal.ternary_key-requires-clause-ends
 ternary_key-requires-clause-ends c =

@@ -1,6 +1,6 @@
 use Rattle.std.proofs.Common.{◌+◌, ◌-◌, ◌^◌, Bool, ℕ, eqb, sym, ◌∙◌}
 use Rattle.std.proofs.lemmas.Bool.{ne_eqb}
-use Rattle.rmt_update.proofs.RankLaws.{find-next}
+use Rattle.rmt_bits.proofs.FindLaws.{find-next}
 use Rattle.rmt_update.proofs.book.ranks.length_of.Goals as goal
 
 pub loop-length-preserved : goal.loop-length-preserved

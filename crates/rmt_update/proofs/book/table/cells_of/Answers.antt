@@ -23,6 +23,11 @@ part_cells-requires-clause-bits c =
     (facts-at c.args.config.now c.args.table.now c.requires.items c.requires.memory c.requires.has c.requires.bits c.as_slice-part-items.result.now
     (ap parts_at c.as_slice-part-items.ensures.value ∙ c.in_ok-found.ensures) c.loop-part.part-index c.part-item.result c.loop-part-test.true c.part-item.is).bits
 
+pub part_cells-requires-clause-ways : goal.part_cells-requires-clause-ways
+part_cells-requires-clause-ways c =
+    (facts-at c.args.config.now c.args.table.now c.requires.items c.requires.memory c.requires.has c.requires.bits c.as_slice-part-items.result.now
+    (ap parts_at c.as_slice-part-items.ensures.value ∙ c.in_ok-found.ensures) c.loop-part.part-index c.part-item.result c.loop-part-test.true c.part-item.is).ways
+
 pub loop-part-preserved : goal.loop-part-preserved
 loop-part-preserved c =
     let config = c.args.config.now in

@@ -14,6 +14,7 @@ use Rattle.rmt_update.specs.Listed.{IsRanked}
 use Rattle.rmt_update.specs.PartList.{part_at}
 use Rattle.rmt_update.proofs.ListedLaws.{one-more}
 use Rattle.rmt_update.proofs.RankLaws.{mask-fits, rank-is}
+use Rattle.rmt_update.proofs.ShapeLaws.{kind-has}
 use Rattle.rmt_update.proofs.book.table.part_cells.Goals as goal
 
 abbrev first : CellNumber
@@ -73,6 +74,13 @@ returns c =
       stage = refl;
       place = refl;
       first = refl;
+      shape = c.shape_of.ensures;
       cells = subst (λ (ns : List CellNumber). AllZip (IsRanked config t part) ns c.loop-number.cells.entries)
           (take_all i part.slot.numbers (let past = c.loop-number-test.false in omega (arith, past, there))) c.loop-number.invariant;
     }
+
+pub shape_of-requires-clause-formed : goal.shape_of-requires-clause-formed
+shape_of-requires-clause-formed c = c.requires.stands.slot
+
+pub shape_of-requires-clause-memory : goal.shape_of-requires-clause-memory
+shape_of-requires-clause-memory c = kind-has c.args.table.now.kind c.args.part.now.slot.now.memory c.requires.kind

@@ -1,5 +1,6 @@
 use Rattle.std.proofs.Common.{◌∙◌, arith}
-use Rattle.rmt_update.proofs.ToldLaws.{bits-above, bits-there}
+use Rattle.rmt_bits.proofs.ByteLaws.{bits-above}
+use Rattle.rmt_update.proofs.ToldLaws.{bits-there}
 use Rattle.rmt_update.proofs.book.told.bits_from.Goals as goal
 
 pub returns-then-all-low : goal.returns-then-all-low

@@ -12,8 +12,8 @@ pub held_of-requires : goal.held_of-requires
 held_of-requires c =
     subst (λ (ls : List (List Entry)). All (λ (es : List Entry). length es ≤ 1048576) ls) (sym c.as_slice.ensures) (few_entries c.args.names c.args.entries c.requires.formed c.requires.entries)
 
-pub returns : goal.returns
-returns c =
+pub returns-clause-stands : goal.returns-clause-stands
+returns-clause-stands c =
     let first : c.next_number-first.result ≡ next_number c.args.entries = c.next_number-first.ensures ∙ ap next_number c.as_slice-2.ensures in
     let most = next_up_to 4293918720 0 (flat_map entry_numbers c.args.entries) c.requires.numbers (omega arith) in
     record {

@@ -46,8 +46,8 @@ returns-in-Exact c =
     let config = c.args.config.now in
     let p = part_at c.args.part.now in
     let st = c.requires.stands in
-    let V : List SramRow → ℕ → List CellNumber → List ℕ → Type 0 = λ rows bits ns ks. IfOk c.put_keys.result (λ stand. KeysAdded (divided_up bits 8) (stands_there config.seed a.first_way a.per a.quanta (divided_up bits 8) (key_in rows ks a.width a.per a.quanta bits)) (key_in rows ks a.width a.per a.quanta bits) ns c.args.into.now.items c.put_keys.new.keys.items stand) in
-    IfOk-weaker c.put_keys.result _ _ (λ stand f. exact-keys config p st a.width a.per a.quanta a.first_way a.keys a.records a.counters a.is c.args.into.now.items c.put_keys.new.keys.items stand f)
+    let V : List SramRow → ℕ → List CellNumber → List ℕ → Type 0 = λ rows bits ns ks. IfOk c.put_keys.result (λ stand. KeysAdded c.args.whole (divided_up bits 8) (stands_there config.seed a.first_way a.per a.quanta (divided_up bits 8) (key_in rows ks a.width a.per a.quanta bits)) (key_in rows ks a.width a.per a.quanta bits) ns c.args.into.now.items c.put_keys.new.kept.items stand) in
+    IfOk-weaker c.put_keys.result _ _ (λ stand f. exact-keys config p st a.width a.per a.quanta a.first_way a.keys a.records a.counters a.is c.args.whole c.args.into.now.items c.put_keys.new.kept.items stand f)
     (exact-found config p st V c.as_slice-stages.result.now c.index-stages-part.result c.as_slice-rows.result.now c.key_bits-bits.result c.as_slice-in-Exact.result.now c.as_slice-in-Exact-2.result.now a.keys
     c.as_slice-stages.ensures c.index-stages-part.is c.as_slice-rows.ensures (c.key_bits-bits.ensures ∙ ap bits_of_lanes c.as_slice.ensures) c.as_slice-in-Exact.ensures
     c.as_slice-in-Exact-2.ensures c.put_keys.ensures)

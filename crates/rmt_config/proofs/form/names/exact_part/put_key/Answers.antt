@@ -1,31 +1,37 @@
-use Rattle.std.proofs.Common.{◌≡◌, ◌*◌, ℕ, List, ◌++◌, ap, ◌∙◌, subst, arith}
+use Rattle.std.proofs.Common.{◌≡◌, ◌+◌, ◌*◌, ◌/◌, ◌%◌, ◌<◌, List, ℕ, ◌++◌, ap, ◌∙◌, subst, arith}
 use Rattle.std.specs.Prelude.{OnOk}
+use Rattle.std.proofs.lemmas.Nat.{div_below, mul-le}
 use Rattle.rmt_bits.specs.Bits.{slice, bytes_of}
-use Rattle.rmt_config.specs.Cells.{sram_row}
-use Rattle.rmt_config.specs.Layouts.{entry_in, local_of, quantum_of}
-use Rattle.rmt_config.specs.KeysSeen.{key_in}
+use Rattle.rmt_config.specs.Cells.{blocks_at, sram_row, unit_row}
 use Rattle.rmt_config.specs.Shapes.{divided_up}
-use Rattle.rmt_config.specs.declared.form.layout.Layout.{Layout}
 use Rattle.rmt_config.proofs.SpelledCandidates.{key-read}
 use Rattle.rmt_config.proofs.form.names.exact_part.put_key.Goals as goal
 
-pub push_entry-requires-clause-cell : goal.push_entry-requires-clause-cell
-push_entry-requires-clause-cell c =
+pub piece_at-blocks-requires : goal.piece_at-blocks-requires
+piece_at-blocks-requires c =
+    let place = c.args.place in
+    let w = c.args.width in
     let d = c.args.quanta in
-    let p = c.args.per in
-    let e : c.args.layout.now.ways * c.args.layout.now.quanta * c.args.layout.now.way ≡ 4 * d * (1024 * p) = ap (λ (l : Layout). l.ways * l.quanta * l.way) c.requires.layout in
-    let same : 4 * d * (1024 * p) ≡ 4096 * d * p = omega arith in
-    omega (arith, c.from-cell.ensures, e, same, c.requires.within)
+    let same : 1024 * d ≡ d * 1024 = omega arith in
+    let low : place.row / 1024 < d = div_below place.row 1024 d (omega arith) (omega (arith, c.requires.low, same)) in
+    let le = mul-le (place.row / 1024 * 4 + place.way + 1) w (d * 4) w (omega (arith, low, c.requires.four)) (omega arith) in
+    let all : d * 4 * w ≡ d * (4 * w) = omega arith in
+    omega (arith, le, all, c.requires.blocks)
+
+pub push_bits-requires-clause-within : goal.push_bits-requires-clause-within
+push_bits-requires-clause-within c = omega (arith, c.requires.fits, c.piece_at-blocks.ensures.size)
+
+pub push_bits-requires-clause-few : goal.push_bits-requires-clause-few
+push_bits-requires-clause-few c = omega (arith, c.requires.fits)
 
 pub returns : goal.returns
 returns c =
-    let sram = sram_row c.args.rows.now in
-    let blocks = c.args.blocks.now in
+    let place = c.args.place in
     let bits = c.args.bits in
-    let n = c.args.number.now in
-    let value : Layout → ℕ → List ℕ = λ l cell. bytes_of (divided_up bits 8) (slice (entry_in l sram blocks (quantum_of l cell) (local_of l cell)) 8 bits) in
-    let e : value c.args.layout.now c.from-cell.result ≡ bytes_of (divided_up bits 8) (key_in c.args.rows.now blocks c.args.width c.args.per c.args.quanta bits n) =
-    ap (value c.args.layout.now) c.from-cell.ensures
-    ∙ ap (λ (l : Layout). value l n.cell) c.requires.layout
-    ∙ ap (bytes_of (divided_up bits 8)) (key-read c.args.rows.now blocks c.args.width c.args.per c.args.quanta bits n c.requires.per c.requires.quanta) in
-    subst (λ (bs : List ℕ). OnOk c.push_entry.result (c.push_entry.new.into.items ≡ c.args.keys.now.items ++ bs)) e c.push_entry.ensures
+    let sram = sram_row c.args.rows.now in
+    let row = place.row % 1024 in
+    let low = place.position * (bits + 8) in
+    let x = unit_row 112 sram row (blocks_at c.args.blocks.now c.args.width (place.row / 1024 * 4 + place.way)) in
+    let e : slice (unit_row 112 sram row c.piece_at-blocks.result.now) (low + 8) bits ≡ slice x low (bits + 8) / 256 =
+    ap (λ (bs : List ℕ). slice (unit_row 112 sram row bs) (low + 8) bits) c.piece_at-blocks.ensures.value ∙ key-read x low bits in
+    subst (λ n. OnOk c.push_bits.result (c.push_bits.new.into.items ≡ c.args.keys.now.items ++ bytes_of (divided_up bits 8) n)) e c.push_bits.ensures

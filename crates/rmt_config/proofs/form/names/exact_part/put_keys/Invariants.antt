@@ -9,4 +9,4 @@ invariant-loop-number l =
     let size = divided_up l.bits 8 in
     let key = key_in l.rows l.blocks l.width l.per l.quanta l.bits in
     let stands = stands_there l.seed l.first_way l.per l.quanta size key in
-    (new : List ℕ) (stand : Bool) → KeysAdded size stands key (drop l.number-index l.numbers) l.keys.items new stand → KeysAdded size stands key l.numbers l.fn.keys.items new stand
+    (new : List ℕ) (stand : Bool) → KeysAdded l.whole size stands key (drop l.number-index l.numbers) l.kept.items new stand → KeysAdded l.whole size stands key l.numbers l.fn.kept.items new stand

@@ -11,7 +11,7 @@ returns-then-not-branch c ks same count =
     let i = c.loop-at.at in
     let lt : i < length ks = omega (arith, count, c.loop-at-test.true) in
     let own : c.in_ok-key.key.items ≡ bytes_of size (get_or ks i 0) =
-    c.in_ok-key.ensures.items_if_clones_equal (λ x y e. e) ∙ c.piece_at.ensures.value ∙ ap (λ (bs : List ℕ). blocks_at bs size i) same ∙ key-at size ks i lt in
+    c.in_ok-key.ensures.items_if_clones_equal (λ x y e. e) ∙ c.key_at.ensures ∙ ap (λ (bs : List ℕ). blocks_at bs size i) same ∙ key-at size ks i lt in
     reached-no size ks i c.loop-at.seen c.in_ok-key.key lt own (c.loop-at.invariant ks same count) (sym c.if-not-branch.true ∙ c.in_ok-insert.ensures.added)
 
 pub loop-at-preserved : goal.loop-at-preserved
@@ -20,6 +20,6 @@ loop-at-preserved c ks same count =
     let i = c.loop-at.at in
     let lt : i < length ks = omega (arith, count, c.loop-at-test.true) in
     let own : c.in_ok-key.key.items ≡ bytes_of size (get_or ks i 0) =
-    c.in_ok-key.ensures.items_if_clones_equal (λ x y e. e) ∙ c.piece_at.ensures.value ∙ ap (λ (bs : List ℕ). blocks_at bs size i) same ∙ key-at size ks i lt in
+    c.in_ok-key.ensures.items_if_clones_equal (λ x y e. e) ∙ c.key_at.ensures ∙ ap (λ (bs : List ℕ). blocks_at bs size i) same ∙ key-at size ks i lt in
     reached-more size ks i c.loop-at.seen c.in_ok-key.key lt own (c.loop-at.invariant ks same count) c.insert.new.self (sym c.if-not-branch.false ∙ c.in_ok-insert.ensures.added)
     c.in_ok-insert.ensures.updates

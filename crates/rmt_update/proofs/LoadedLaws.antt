@@ -1,0 +1,143 @@
+-- What comes of loading all tables, in the words of a commit that moves cells.
+use Rattle.std.proofs.Common.{◌≡◌, ℕ, suc, ◌+◌, ◌<◌, ◌==◌, List, [], ◌∷◌, ◌++◌, length, Option, Some, None, refl, sym, ap, ◌∙◌, subst, inl, inr, arith}
+use Rattle.std.specs.Prelude.{All, slice_get, unwrap_or}
+use Rattle.std.specs.List.{AllZip}
+use Rattle.std.proofs.lemmas.Bool.{cases_lt}
+use Rattle.std.proofs.lemmas.List.{length-append}
+use Rattle.std.proofs.lemmas.Option.{none-some, same_Some, slice_get_within}
+use Rattle.rmt_bits.proofs.AllLaws.{All-find, All-unmap}
+use Rattle.rmt_bits.proofs.ListLaws.{slice_get-end, slice_get-front, slice_get-item}
+use Rattle.rmt_ast.specs.declared.entry.Entry.{Entry}
+use Rattle.rmt_ast.specs.declared.names.Names.{Names}
+use Rattle.rmt_ast.specs.declared.names.TableName.{TableName}
+use Rattle.rmt_ast.specs.declared.program.Kind.TheVariants as kind
+use Rattle.rmt_ast.specs.Changes.{list_of}
+use Rattle.rmt_ast.specs.NameRules.{AreEntriesOf, terms_of_name}
+use Rattle.rmt_config.specs.declared.config.Config.{Config}
+use Rattle.rmt_config.specs.Commits.{AreFilled, Placed}
+use Rattle.rmt_config.specs.Rooms.{parts_of}
+use Rattle.rmt_cuckoo.specs.declared.layout.Ways.{Ways}
+use Rattle.rmt_cuckoo.specs.Loading.{IsLoading, IsOverfull}
+use Rattle.rmt_update.specs.declared.book.loading.Full.{Full}
+use Rattle.rmt_update.specs.declared.book.loading.Loaded.{Loaded}
+use Rattle.rmt_update.specs.declared.book.loading.TableTried.TheVariants as table
+use Rattle.rmt_update.specs.declared.book.spots.Spot.{Spot}
+use Rattle.rmt_update.specs.declared.book.table.TableCells.{TableCells}
+use Rattle.rmt_update.specs.Loads.{AreStuck, AreTables, IsFirstFull, IsLoaded, IsStuck, IsTriedAt, StandBy, StandUpto, keys_of, layout_in, table_of}
+use Rattle.rmt_update.specs.Planned.{HasNoLoading}
+use Rattle.rmt_update.specs.Spots.{placed_from, placed_in}
+use Rattle.rmt_update.proofs.LoadLaws.{NodeTried, loading-of, node-tried, table-entries}
+use Rattle.rmt_update.proofs.PlacedLaws.{NodeStands, all-stand}
+use Rattle.rmt_update.proofs.TableRules.{own-table}
+
+-- no table has both a loading and keys with too few cells
+abbrev pub NeverBoth : Type 0
+NeverBoth = (layout : List Ways) (seed : ℕ) (keys : List (List ℕ)) (cells members : List ℕ) (count : ℕ) → IsLoading layout seed keys cells → IsOverfull layout seed keys members count → ⊥
+
+zip-from : {X Y : Type 0} (R : X → Y → Type 0) (xs : List X) (ys : List Y) → length ys ≡ length xs → ((i : ℕ) (x : X) (y : Y) → slice_get xs i ≡ Some x → slice_get ys i ≡ Some y → R x y) → AllZip R xs ys
+zip-from R [] [] long each = tt
+zip-from R [] (y ∷ ys) long each = absurd (omega (arith, long))
+zip-from R (x ∷ xs) [] long each = absurd (omega (arith, long))
+zip-from R (x ∷ xs) (y ∷ ys) long each = (each 0 x y refl refl, zip-from R xs ys (omega (arith, long)) (λ i z w at_z at_w. each (suc i) z w at_z at_w))
+
+-- ---- node by node
+
+pub none-upto : (tables : List TableCells) (lists : List (List Entry)) (seed : ℕ) → StandUpto tables lists seed 0 []
+none-upto tables lists seed = record { count_is = refl; each = λ n ss at. absurd (none-some ss at) }
+
+pub upto-more : (tables : List TableCells) (lists : List (List Entry)) (seed m : ℕ) (spots : List (List Spot)) (own : List Spot) → StandUpto tables lists seed m spots
+    → IsTriedAt seed (list_of lists m) (table_of tables m) (table.Stand own) → StandUpto tables lists seed (m + 1) (spots ++ own ∷ [])
+upto-more tables lists seed m spots own upto here = record {
+  count_is = (let many = length-append spots (own ∷ []) in let count = upto.count_is in omega (arith, many, count));
+  each = λ n ss at. elim (cases_lt n (length spots)) [
+    | inl lt ↦ upto.each n ss (sym (slice_get-front spots (own ∷ []) n lt) ∙ at)
+    | inr le ↦
+        let count = upto.count_is in
+        let many = length-append spots (own ∷ []) in
+        let within = slice_get_within (spots ++ own ∷ []) n ss at in
+        let last : n ≡ length spots + 0 = omega (arith, le, within, many) in
+        let same : own ≡ ss = same_Some own ss (sym (slice_get-end spots (own ∷ []) 0) ∙ ap (slice_get (spots ++ own ∷ [])) (sym last) ∙ at) in
+        let number : m ≡ n = omega (arith, last, count) in
+        subst (λ k. IsTriedAt seed (list_of lists k) (table_of tables k) (table.Stand ss)) number (subst (λ s. IsTriedAt seed (list_of lists m) (table_of tables m) (table.Stand s)) same here)
+  ];
+}
+
+module _ (c : Config) (names : Names) (tables : List TableCells) (lists : List (List Entry)) (are : AreTables c names tables) (formed : AreEntriesOf names lists) where
+  -- ---- all stand
+
+  module _ (seed : ℕ) (spots : List (List Spot)) (upto : StandUpto tables lists seed (length lists) spots) where
+    tried : (n : ℕ) (ss : List Spot) → slice_get spots n ≡ Some ss → NodeTried c names seed lists n ss
+    tried n ss at =
+        let within = slice_get_within spots n ss at in
+        let count = upto.count_is in
+        node-tried c names tables seed lists n ss are formed (omega (arith, within, count)) (upto.each n ss at)
+
+    own-list : (n : ℕ) (es : List Entry) → slice_get lists n ≡ Some es → list_of lists n ≡ es
+    own-list n es at = ap (λ (o : Option (List Entry)). unwrap_or o []) at
+
+    pub spots-many : AllZip (λ (es : List Entry) (ss : List Spot). length ss ≡ length es) lists spots
+    spots-many =
+        zip-from (λ (es : List Entry) (ss : List Spot). length ss ≡ length es) lists spots upto.count_is (λ i es ss at_es at_ss. (tried i ss at_ss).many ∙ ap (λ (xs : List Entry). length xs) (own-list i es at_es))
+
+    pub spots-filled : AreFilled c names seed lists (placed_from c 0 lists spots)
+    spots-filled =
+        all-stand c names seed lists spots spots-many
+        (λ i es ss at_es at_ss. subst (λ xs. NodeStands c names seed lists i (placed_in (parts_of c i) xs ss)) (own-list i es at_es) (tried i ss at_ss).stand)
+
+  -- ---- some don't
+
+  node-within : (node : ℕ) (x : TableCells) → table_of tables node ≡ Some x → node < length lists
+  node-within node x found =
+      let all = All-unmap (λ (t : TableName). t.node < length lists) (λ (y : TableCells). y.name) tables (subst (All (λ (t : TableName). t.node < length lists)) are.same formed.tables) in
+      let lt = All-find (λ (y : TableCells). y.name.node < length lists) (λ (y : TableCells). y.name.node == node) tables x all found in
+      let same = (own-table c names tables lists node x are found).node_is in
+      omega (arith, lt, same)
+
+  module _ (never : NeverBoth) where
+    pub stuck-none : (seed : ℕ) (full : Full) → IsStuck tables lists seed full → (placed : List Placed) → AreFilled c names seed lists placed → ⊥
+    stuck-none seed full stuck placed filled = by (table_of tables full.node) refl stuck.here
+      where
+        by : (o : Option TableCells) → table_of tables full.node ≡ o → IsTriedAt seed (list_of lists full.node) o (table.Overfull full.members full.cells) → ⊥
+        by None is here = here
+        by (Some x) is here =
+            let h = own-table c names tables lists full.node x are is in
+            let load = loading-of c names seed lists full.node x h (table-entries c names lists full.node x h formed (node-within full.node x is)) here.0 placed formed filled in
+            never (layout_in x.parts.items) seed (keys_of (terms_of_name x.name) (list_of lists full.node)) load.0 here.1 full.cells load.1 here.2
+
+    pub loaded-is : (seed : ℕ) (loaded : Loaded) → loaded.seed ≡ seed → seed < 8 → StandUpto tables lists seed (length lists) loaded.spots → AreStuck tables lists seed → IsLoaded c names lists loaded
+    loaded-is seed loaded same few upto stuck = record {
+      first = record {
+        in_range = omega (arith, same, few);
+        first = λ s placed lt filled. let one = stuck s (omega (arith, lt, same)) in stuck-none s one.0 one.1 placed filled;
+      };
+      many = spots-many seed loaded.spots upto;
+      filled = subst (λ s. AreFilled c names s lists (placed_from c 0 lists loaded.spots)) (sym same) (spots-filled seed loaded.spots upto);
+    }
+
+    pub none-loads : AreStuck tables lists 8 → HasNoLoading c names lists
+    none-loads stuck seed few some = let one = stuck seed few in stuck-none seed one.0 one.1 some.0 some.1
+
+  -- the first that doesn't
+  first-loads : (seed node : ℕ) (spots : List (List Spot)) → StandUpto tables lists seed node spots → (m : ℕ) (x : TableCells) → m < node → table_of tables m ≡ Some x → x.name.kind ≡ kind.Exact
+      → (loaded : List ℕ) × IsLoading (layout_in x.parts.items) seed (keys_of (terms_of_name x.name) (list_of lists m)) loaded
+  first-loads seed node spots upto m x lt found exact =
+      let count = upto.count_is in
+      let one = slice_get-item spots m (omega (arith, lt, count)) in
+      let stand = subst (λ o. IsTriedAt seed (list_of lists m) o (table.Stand one.0)) found (upto.each m one.0 one.1) in
+      let by = subst (λ k. StandBy x.parts.items seed (terms_of_name x.name) (list_of lists m) k one.0) exact stand in
+      (by.0, by.1)
+
+  pub first-full : (seed : ℕ) (full : Full) → IsStuck tables lists seed full → IsFirstFull tables names lists seed full.node full.members full.cells
+  first-full seed full stuck = by (table_of tables full.node) refl stuck.here
+    where
+      by : (o : Option TableCells) → table_of tables full.node ≡ o → IsTriedAt seed (list_of lists full.node) o (table.Overfull full.members full.cells)
+          → IsFirstFull tables names lists seed full.node full.members full.cells
+      by None is here = absurd here
+      by (Some x) is here = record { own = x; there = is; few = here; first = first-loads seed full.node stuck.spots stuck.before }
+
+-- under one more seed
+pub stuck-more : (tables : List TableCells) (lists : List (List Entry)) (seed : ℕ) (full : Full) → AreStuck tables lists seed → IsStuck tables lists seed full → AreStuck tables lists (seed + 1)
+stuck-more tables lists seed full stuck here s lt = elim (cases_lt s seed) [
+  | inl less ↦ stuck s less
+  | inr le ↦ let same : seed ≡ s = omega (arith, lt, le) in subst (λ k. (f : Full) × IsStuck tables lists k f) same (full, here)
+]

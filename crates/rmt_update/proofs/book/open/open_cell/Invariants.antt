@@ -1,0 +1,7 @@
+use Rattle.std.proofs.Common.{◌≡◌, drop}
+use Rattle.rmt_update.specs.Open.{first_open}
+use Rattle.rmt_update.proofs.book.open.open_cell.Given as goal
+
+-- no part so far has a free cell
+abbrev pub invariant-loop-at : goal.invariant-loop-at
+invariant-loop-at l = first_open l.odd l.at (drop l.at l.parts) (drop l.at l.given) (drop l.at l.cells) ≡ first_open l.odd 0 l.parts l.given l.cells

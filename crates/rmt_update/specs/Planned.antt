@@ -1,0 +1,52 @@
+-- What changes a book takes, and what it plans for them.
+use Rattle.std.specs.Prelude.{◌≡◌, ◌≢◌, ◌<◌, ℕ, List, [], ◌++◌, not, ◌==◌, Option, Some, None, All, AllPairs, IsTrue, Contains, filter, length, map}
+use Rattle.std.specs.List.{enumerate_from, flat_map}
+use Rattle.rmt_ast.specs.Answers.{entry_numbers}
+use Rattle.rmt_ast.specs.NameRules.{AreEntriesOf}
+use Rattle.rmt_ast.specs.declared.entry.Entry.{Entry}
+use Rattle.rmt_ast.specs.declared.names.Names.{Names}
+use Rattle.rmt_config.specs.declared.config.Config.{Config}
+use Rattle.rmt_config.specs.Commits.{AreFilled, AreWrites, Makes, placed_after}
+use Rattle.rmt_config.specs.NamesForm.{by_number}
+use Rattle.rmt_config.specs.RunCells.{RunCells, with_version}
+use Rattle.rmt_update.specs.declared.book.Book.{Book}
+use Rattle.rmt_update.specs.declared.book.plan.Plan.{Plan}
+use Rattle.rmt_update.specs.declared.fault.UpdateFault.{UpdateFault}
+use Rattle.rmt_update.specs.declared.fault.UpdateFault.TheVariants.{NoMemory, LoadFull}
+use Rattle.rmt_update.specs.declared.lists.Changes.{Changes}
+use Rattle.rmt_update.specs.BookStands.{BookStands, IsUsed}
+use Rattle.rmt_update.specs.Running.{is_among}
+
+-- a list of a node without the entries that go and with those that come
+abbrev pub changed_list : Changes → ℕ × List Entry → List Entry
+changed_list ch x = by_number (filter (λ (e : Entry). not (is_among ch.gone e.number)) x.1 ++ filter (λ (e : Entry). x.0 == e.table) ch.come)
+
+-- the lists of all nodes
+abbrev pub changed_lists : List (List Entry) → Changes → List (List Entry)
+changed_lists lists ch = map (changed_list ch) (enumerate_from 0 lists)
+
+-- Changes of these entries, in these cells: what goes is there, what comes has numbers that no cell has, and the entries that are left are
+-- well formed for the names. Both are by rising number.
+pub record MayChange (c : Config) (names : Names) (cells : RunCells) (lists : List (List Entry)) (ch : Changes) : Type 0 where
+  pub gone_rise : AllPairs (λ (a b : ℕ). a < b) ch.gone
+  pub gone_stand : All (λ n. IsTrue (is_among (flat_map entry_numbers lists) n)) ch.gone
+  pub come_rise : AllPairs (λ (a b : Entry). a.number < b.number) ch.come
+  pub come_new : All (λ (e : Entry). (k place n : ℕ) → IsUsed c cells k place n → cells.number k place n ≢ e.number) ch.come
+  pub come_within : All (λ (e : Entry). e.table < length lists) ch.come
+  pub formed : AreEntriesOf names (changed_lists lists ch)
+
+-- A plan of a commit between cells with these entries: what it makes of the cells, the cells that it changes to that end, and that the book
+-- stands for the next version.
+pub record IsPlanned (c : Config) (names : Names) (cells : RunCells) (before after : List (List Entry)) (plan : Plan) (next : RunCells) (b : Book) : Type 0 where
+  pub makes : Makes c names cells before after plan.moved plan.seed next
+  pub writes : AreWrites c cells next plan.writes.items
+  pub stands : BookStands c (with_version next plan.seed) after b
+
+-- no loading of all exact tables under any seed from 0 to 7
+abbrev pub HasNoLoading : Config → Names → List (List Entry) → Type 0
+HasNoLoading c names after = (seed : ℕ) → seed < 8 → ((placed : _) × AreFilled c names seed after placed) → ⊥
+
+-- why a commit is not planned: for want of memory, or since a cell must move and nothing loads
+abbrev pub IsUnplanned : Config → Names → RunCells → List (List Entry) → List (List Entry) → UpdateFault → Type 0
+IsUnplanned c names cells before after NoMemory = Unit {0}
+IsUnplanned c names cells before after (LoadFull table members count) = (placed_after c names cells before after ≡ None) × HasNoLoading c names after

@@ -1,0 +1,32 @@
+-- The foldings of a program's actions, by their numbers.
+use Rattle.std.proofs.Common.{◌≡◌, ℕ, ◌<◌, ◌∙◌, List, Ok, Err, length, get_or, sym, ap}
+use Rattle.std.specs.Prelude.{Result, Some, slice_get}
+use Rattle.std.proofs.lemmas.Option.{same_Some}
+use Rattle.rmt_bits.proofs.ListLaws.{slice_get-seen}
+use Rattle.rmt_refine.specs.Types.{Action, Program}
+use Rattle.rmt_vliw.specs.declared.fault.ActionDeep.{ActionDeep}
+use Rattle.rmt_vliw.specs.declared.folded.Folded.{Folded}
+use Rattle.rmt_vliw.specs.Folding.{IsFolding, folded_of, folded_or_fault}
+use Rattle.rmt_vliw.proofs.MeaningLaws.{action_of}
+use Rattle.rmt_verify.specs.StageCode.{AreFoldings}
+
+pub folding_at : (p : Program) (all seen : List Folded) → AreFoldings p all → seen ≡ all → (a : ℕ) (folded : Folded) → a < length seen → folded ≡ get_or seen a folded → IsFolding p a folded
+folding_at p all seen are same a folded lt is = are.each a folded (slice_get-seen all seen a folded same lt is)
+
+-- an action folds to one value
+pub folding_once : (p : Program) (a : ℕ) (f g : Folded) → IsFolding p a f → IsFolding p a g → f ≡ g
+folding_once p a f g one two =
+    let first = action_of p a f one in
+    let second = action_of p a g two in
+    let same : first.0 ≡ second.0 = same_Some first.0 second.0 (sym first.1 ∙ second.1) in
+    let e : Ok f ≡ Ok g = sym first.2 ∙ ap folded_of same ∙ second.2 in
+    cc
+
+-- an action that is refused doesn't fold
+pub not_deep : (p : Program) (n : ℕ) (deep : ActionDeep) (a : Action) → slice_get p.actions n ≡ Some a → ◌≡◌ {A = Result Folded ActionDeep} (Err deep) (folded_or_fault n (folded_of a))
+    → (folded : Folded) → IsFolding p n folded → ⊥
+not_deep p n deep a at refused folded folding =
+    let found = action_of p n folded folding in
+    let same : found.0 ≡ a = same_Some found.0 a (sym found.1 ∙ at) in
+    let e : ◌≡◌ {A = Result Folded ActionDeep} (Err deep) (Ok folded) = refused ∙ ap (λ (x : Action). folded_or_fault n (folded_of x)) (sym same) ∙ ap (folded_or_fault n) found.2 in
+    cc

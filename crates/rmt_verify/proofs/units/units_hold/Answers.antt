@@ -1,0 +1,50 @@
+use Rattle.std.proofs.Common.{◌≡◌, ◌≢◌, ◌<◌, ℕ, List, Option, length, get_or, map, sym, ap, subst, ◌∙◌, arith}
+use Rattle.std.specs.Prelude.{All}
+use Rattle.rmt_config.proofs.CountsLemmas.{counts_fit}
+use Rattle.rmt_pack.specs.Starts.{stages_of}
+use Rattle.rmt_refine.specs.Types.{Stage}
+use Rattle.rmt_verify.specs.EdgeSpans.{IsPartOf, no_span, span_of}
+use Rattle.rmt_verify.specs.declared.edges.spans.Span.{Span}
+use Rattle.rmt_verify.proofs.UnitLaws.{StagesStand, some_quanta, stands_where, units_carried}
+use Rattle.rmt_verify.proofs.units.units_hold.Goals as goal
+
+pub returns-then-not-all_stand-clause-exact : goal.returns-then-not-all_stand-clause-exact
+returns-then-not-all_stand-clause-exact c =
+    let p = c.args.program.now in
+    let parts = c.args.parts.now in
+    let stand : All (IsPartOf c.len-nodes.result (length c.as_slice-stages.result.now)) parts = c.parts_stand.ensures.exact.0 cc in
+    let some = some_quanta c.len-nodes.result (length c.as_slice-stages.result.now) parts stand in
+    let same : (n : ℕ) → get_or c.deref.result.now n no_span ≡ span_of (stages_of parts n) =
+    λ n. ap (λ (xs : List (Option Span)). get_or xs n no_span) c.deref.ensures.value ∙ c.in_ok-spans.ensures n in (
+      λ no. absurd cc,
+      λ units. absurd (
+          let there : (n : ℕ) → n < c.len-nodes.result → get_or c.deref.result.now n no_span ≢ no_span =
+          λ n lt none. (stands_where parts n some).1 (units.each_node n (omega (arith, lt, c.len-nodes.ensures))) (sym (same n) ∙ none) in
+          let yes = c.all_stand.ensures.1 there in
+          cc),
+    )
+
+pub all_stages-requires-clause-few : goal.all_stages-requires-clause-few
+all_stages-requires-clause-few c =
+    let few = (counts_fit c.args.config.now c.requires.formed.items).stages in
+    omega (arith, few, ap (λ (ss : List Stage). length ss) c.as_slice-stages.ensures)
+
+pub returns-clause-exact : goal.returns-clause-exact
+returns-clause-exact c =
+    let p = c.args.program.now in
+    let places = c.args.places.now in
+    let parts = c.args.parts.now in
+    let cfg = c.args.config.now in
+    let stages = c.as_slice-stages.result.now in
+    let is : stages ≡ cfg.stages = c.as_slice-stages.ensures in
+    let start : map (λ (s : Stage). s.start) cfg.stages ≡ c.args.starts.now = sym (ap (map (λ (s : Stage). s.start)) is) ∙ c.starts_are.ensures.0 cc in
+    let stand : All (IsPartOf (length p.nodes) (length cfg.stages)) parts =
+    subst (λ n. All (IsPartOf n (length cfg.stages)) parts) c.len-nodes.ensures
+    (subst (λ (ss : List Stage). All (IsPartOf c.len-nodes.result (length ss)) parts) is (c.parts_stand.ensures.exact.0 cc)) in
+    let all : (n : ℕ) → n < c.len-nodes.result → get_or c.deref.result.now n no_span ≢ no_span = c.all_stand.ensures.0 cc in
+    let there : (n : ℕ) → n < length p.nodes → span_of (stages_of parts n) ≢ no_span =
+    λ n lt none. all n (omega (arith, lt, c.len-nodes.ensures))
+    (ap (λ (xs : List (Option Span)). get_or xs n no_span) c.deref.ensures.value ∙ c.in_ok-spans.ensures n ∙ none) in (
+      λ yes. units_carried p places parts c.args.starts.now cfg start stand there (subst (StagesStand p places parts) is (c.in_ok-all_stages.ensures.0 yes)),
+      λ units. c.in_ok-all_stages.ensures.1 (subst (StagesStand p places parts) (sym is) units.units),
+    )
