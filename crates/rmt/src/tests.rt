@@ -1,5 +1,6 @@
 //! What no clause says: worked rows of every command, and faults of the outside in turn.
 
+mod changes;
 mod commands;
 mod compiled;
 mod example_texts;
@@ -13,4 +14,5 @@ mod programs;
 mod samples;
 mod simulated;
 mod switched;
+mod verified;
 mod words;

@@ -17,17 +17,9 @@ use Rattle.rmt_config.specs.Shapes.{divided_up}
 use Rattle.rmt_cuckoo.specs.declared.layout.Ways.{Ways}
 use Rattle.rmt_cuckoo.specs.declared.way.Way.{Way}
 use Rattle.rmt_cuckoo.specs.Loading.{candidates, cells_in, row_start, way_of, ways_from}
-use Rattle.rmt_refine.proofs.FindLaws.{Contains-range}
+use Rattle.rmt_refine.proofs.FindLaws.{Contains-range, range_bounds}
 use Rattle.rmt_bits.proofs.MemberLaws.{Contains-unmap, Contains-flat_map, from_flat_map}
 use Rattle.rmt_config.proofs.CellLaws.{cell_lt}
-
-range_bounds : (a n x : ℕ) → Contains (range_with_len a n) x → (a ≤ x) × (x < a + n)
-range_bounds a n x there =
-    let lt = there.1 in
-    let long = length-range_with_len a n in
-    let at = get_or-range_with_len a n there.0 x (omega (arith, lt, long)) in
-    let same = there.2 in
-    (omega (arith, at, same), omega (arith, at, same, lt, long))
 
 range_there : (a n x : ℕ) → a ≤ x → x < a + n → Contains (range_with_len a n) x
 range_there a n x low high =

@@ -18,11 +18,10 @@ use Rattle.rmt_config.specs.Shapes.{divided_up}
 use Rattle.rmt_pack.specs.Placements.{data_bits, param_bits}
 use Rattle.rmt_pack.proofs.FormatLaws.{divided_up-covers}
 use Rattle.rmt_pack.proofs.TcamLaws.{masks-fit, side_by_side-lt, values-fit}
-use Rattle.rmt_config.specs.Rooms.{tests_as_one}
-use Rattle.rmt_build.specs.Data.{data_of}
+use Rattle.rmt_config.specs.Rooms.{args_as_one, tests_as_one}
 use Rattle.rmt_build.specs.Holding.{head_for}
 use Rattle.rmt_build.specs.Rooms.{AreOf}
-use Rattle.rmt_build.proofs.RecordLaws.{data-lt}
+use Rattle.rmt_refine.proofs.BesideLaws.{args-lt}
 use Rattle.rmt_bits.proofs.MostLaws.{items-le}
 
 -- ---- tests
@@ -85,9 +84,9 @@ key-number ws ts all =
     let wide : 2 ^ sum ws ≤ 2 ^ (8 * divided_up (sum ws) 8) = pow-le-pow_right (omega arith) (omega (arith, covers)) in
     number_of-bytes_of (divided_up (sum ws) 8) (tests_as_one (λ t. t.value) ws ts) (omega (arith, lt, wide))
 
-pub data-small : (ws vs : List ℕ) (bits : ℕ) → AllZip Fits ws vs → sum ws ≤ bits → data_of ws vs < 2 ^ bits
+pub data-small : (ws vs : List ℕ) (bits : ℕ) → AllZip Fits ws vs → sum ws ≤ bits → args_as_one ws vs < 2 ^ bits
 data-small ws vs bits fit le =
-    let lt = data-lt ws vs fit in
+    let lt = args-lt ws vs fit in
     let wide : 2 ^ sum ws ≤ 2 ^ bits = pow-le-pow_right (omega arith) le in
     omega (arith, lt, wide)
 

@@ -1,19 +1,13 @@
--- The foldings of a program's actions, by their numbers.
-use Rattle.std.proofs.Common.{◌≡◌, ℕ, ◌<◌, ◌≤◌, ◌∙◌, List, get_or, length, map, ap, sym, arith}
+-- The parameters of foldings of a program's actions.
+use Rattle.std.proofs.Common.{◌≡◌, ℕ, ◌≤◌, ◌∙◌, map, ap, sym, arith}
 use Rattle.std.specs.Prelude.{Contains, Option, option_map, sum, unwrap_or}
 use Rattle.rmt_build.specs.Types.{Program, Action, Table}
 use Rattle.rmt_vliw.specs.declared.folded.Folded.{Folded}
 use Rattle.rmt_pack.specs.Placements.{data_bits, param_bits}
 use Rattle.rmt_vliw.specs.Folding.{IsFolding}
 use Rattle.rmt_vliw.proofs.MeaningLaws.{action_of, folded_is}
-use Rattle.rmt_build.specs.Folds.{AreFoldings}
-use Rattle.rmt_bits.proofs.ListLaws.{slice_get-seen}
 use Rattle.rmt_bits.proofs.MostLaws.{items-le}
 use Rattle.rmt_bits.proofs.AllLaws.{All-unmap}
-
-pub folding_at : (p : Program) (all seen : List Folded) → AreFoldings p all → seen ≡ all → (a : ℕ) (folded : Folded) → a < length seen → folded ≡ get_or seen a folded → IsFolding p a folded
-folding_at p all seen are same a folded lt is =
-    are.each a folded (slice_get-seen all seen a folded same lt is)
 
 -- the data of a table have room for the parameters of each listed action
 pub folding_data : (p : Program) (t : Table) (a : ℕ) (folded : Folded) → IsFolding p a folded → Contains t.actions a → sum folded.params ≤ data_bits p t

@@ -18,7 +18,7 @@ use Rattle.rmt_config.specs.Rooms.{tests_as_one}
 use Rattle.rmt_config.specs.Effects.{HasArguments}
 use Rattle.rmt_build.specs.declared.stands.Stand.{Stand}
 use Rattle.rmt_build.specs.Holding.{ExactHolds, ExactSo, Held, HoldsIn, PartHolds, TernaryHolds, TernarySo, content_in, data_for, exact_part, head_for, ternary_part, value_for}
-use Rattle.rmt_build.proofs.RecordLaws.{has_arguments}
+use Rattle.rmt_refine.proofs.ContentLaws.{has_arguments}
 
 -- ---- heads
 

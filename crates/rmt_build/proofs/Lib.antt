@@ -53,7 +53,6 @@ mod PartLaws
 mod PlacedLaws
 mod PlanLaws
 mod PromiseLaws
-mod RecordLaws
 mod RefusalLaws
 mod RoomLaws
 mod RowsLaws

@@ -1,19 +1,15 @@
 -- What is known of the entries of all nodes, where they are loaded.
-use Rattle.std.proofs.Common.{◌≡◌, ℕ, zero, suc, ◌+◌, ◌-◌, ◌*◌, ◌<◌, ◌≤◌, Bool, true, false, cond, eqb, ◌&&◌, ◌||◌, ◌==◌, List, [], ◌∷◌, Option, Some, None, length, map, get_or, refl, sym, ap, ◌∙◌, subst, arith}
+use Rattle.std.proofs.Common.{◌≡◌, ℕ, zero, suc, ◌+◌, ◌-◌, ◌*◌, ◌<◌, ◌≤◌, Bool, true, false, cond, ◌&&◌, ◌==◌, List, [], ◌∷◌, Option, Some, None, length, map, get_or, refl, sym, ap, ◌∙◌, subst, arith}
 use Rattle.std.specs.Prelude.{⊤, All, AllPairs, Contains, IsSomeAnd, MatchOption, nat_lt, option_and_then, option_map, slice_get, sum_by}
-use Rattle.std.specs.List.{AllZip, list_any}
-use Rattle.std.proofs.lemmas.Bool.{both_ways, eqb-true}
+use Rattle.std.specs.List.{AllZip}
 use Rattle.std.proofs.lemmas.List.{get_or-map, length-map}
 use Rattle.std.proofs.lemmas.List.Elements.{All-nil, All-contains}
 use Rattle.std.proofs.lemmas.List.FromFn.{get_or-range_with_len, length-range_with_len}
 use Rattle.std.proofs.lemmas.List.Sorted.{IsPermutation-refl}
 use Rattle.std.proofs.lemmas.List.Sums.{sum_by-cons}
-use Rattle.std.proofs.lemmas.Bool.Decides.{Decides-eqb}
-use Rattle.std.proofs.lemmas.Map.Made.{IsDistinct-from_AllPairs}
-use Rattle.std.proofs.lemmas.Map.Steps.{length-le_from_distinct_below}
 use Rattle.std.proofs.lemmas.Nat.{mul-le}
 use Rattle.std.proofs.lemmas.Option.{same_Some, slice_get-map, slice_get_within}
-use Rattle.std.proofs.lemmas.Slice.Zip.{AllZip-right, AllZip-long}
+use Rattle.std.proofs.lemmas.Slice.Zip.{AllZip-right}
 use Rattle.rmt_bits.specs.Bits.{bytes_of}
 use Rattle.rmt_build.specs.Types.{Program, Table, Kind, Node, What}
 use Rattle.rmt_ast.specs.declared.program.Kind.TheVariants.{Keyless, Exact, Prefix, Ternary}
@@ -25,8 +21,7 @@ use Rattle.rmt_ast.specs.State.{width_of}
 use Rattle.rmt_config.specs.declared.config.Memory.TheVariants as memory
 use Rattle.rmt_config.specs.Cells.{candidates as looked_in}
 use Rattle.rmt_config.specs.Shapes.{divided_up}
-use Rattle.rmt_cuckoo.specs.declared.layout.Ways.{Ways}
-use Rattle.rmt_cuckoo.specs.Loading.{IsOverfull, candidates}
+use Rattle.rmt_cuckoo.specs.Loading.{candidates}
 use Rattle.rmt_pack.specs.declared.placement.Part.{Part}
 use Rattle.rmt_pack.specs.declared.format.Format.{Format}
 use Rattle.rmt_pack.specs.Formats.{IsFormat, ternary_format}
@@ -46,7 +41,6 @@ use Rattle.rmt_build.proofs.CandidateLaws.{below_all, looked_for}
 use Rattle.rmt_build.proofs.PartLaws.{quanta_more}
 use Rattle.rmt_build.proofs.PlanLaws.{is_format, is_table, node_there}
 use Rattle.rmt_bits.proofs.ListLaws.{slice_get-item, AllZip-slice_get}
-use Rattle.rmt_bits.proofs.MemberLaws.{Contains-first, Contains-later}
 use Rattle.rmt_bits.proofs.TestLaws.{below_next}
 
 -- ---- one list beside another
@@ -56,23 +50,6 @@ zip_other R xs ys i y zip at_y =
     let there = subst (λ o. MatchOption o ⊤ (λ b. IsSomeAnd (slice_get xs i) (λ a. R a b))) at_y (AllZip-right R xs ys zip i) in
     let x = some_and (slice_get xs i) (λ a. R a y) there in
     (x.0, x.2)
-
-pub zip_length : {X Y : Type 0} (R : X → Y → Type 0) (xs : List X) (ys : List Y) → AllZip R xs ys → length xs ≡ length ys
-zip_length R xs ys zip = sym (AllZip-long R xs ys zip)
-
--- the keys that have too few cells are no more than all
-pub members_few : (layout : List Ways) (seed : ℕ) (keys : List (List ℕ)) (members : List ℕ) (cells : ℕ) → IsOverfull layout seed keys members cells → length members ≤ length keys
-members_few layout seed keys members cells full =
-    length-le_from_distinct_below members (length keys) (IsDistinct-from_AllPairs Decides-eqb members full.apart)
-    (λ q there. All-contains (λ m. m < length keys) members q full.are_keys (found members q there))
-  where
-    found : (ms : List ℕ) (q : ℕ) → list_any (eqb q) ms ≡ true → Contains ms q
-    found [] q e = absurd (both_ways false refl e)
-    found (m ∷ ms) q e = by (eqb q m) refl e (found ms q)
-      where
-        by : (b : Bool) → eqb q m ≡ b → (b || list_any (eqb q) ms) ≡ true → (list_any (eqb q) ms ≡ true → Contains ms q) → Contains (m ∷ ms) q
-        by true is h rest = subst (Contains (m ∷ ms)) (sym (eqb-true q m is)) (Contains-first m ms)
-        by false is h rest = Contains-later m ms q (rest h)
 
 -- ---- rows
 

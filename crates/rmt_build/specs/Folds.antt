@@ -1,16 +1,11 @@
 -- What the actions of a program fold to.
-use Rattle.std.specs.Prelude.{◌≡◌, ℕ, ◌+◌, List, [], ◌∷◌, Option, Some, None, Result, Ok, Err, length}
-use Rattle.rmt_build.specs.Types.{Program, Action}
-use Rattle.rmt_ast.specs.WellFormed.{AllNumbered}
+use Rattle.std.specs.Prelude.{ℕ, ◌+◌, List, [], ◌∷◌, Option, Some, None, Result, Ok, Err}
+use Rattle.rmt_build.specs.Types.{Action}
 use Rattle.rmt_vliw.specs.declared.folded.Folded.{Folded}
 use Rattle.rmt_vliw.specs.declared.fault.ActionDeep.{ActionDeep}
 use Rattle.rmt_vliw.specs.declared.fault.ActionDeep.TheVariants.{At}
-use Rattle.rmt_vliw.specs.Folding.{IsFolding, folded_of}
-
--- what each action folds to, by its number
-pub record AreFoldings (p : Program) (folded : List Folded) : Type 0 where
-  pub all_there : length folded ≡ length p.actions
-  pub each : AllNumbered (IsFolding p) folded
+use Rattle.rmt_vliw.specs.Folding.{folded_of}
+pub use Rattle.rmt_vliw.specs.Folding.{AreFoldings}
 
 -- the first of some actions that doesn't fold, of which the first has this number
 abbrev pub deep_then : ℕ → Result Folded ℕ → Option ActionDeep → Option ActionDeep

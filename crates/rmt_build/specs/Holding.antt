@@ -11,10 +11,9 @@ use Rattle.rmt_config.specs.Shapes.{divided_up}
 use Rattle.rmt_pack.specs.declared.shape.Shape.{Shape}
 use Rattle.rmt_pack.specs.Cells.{PutsEntry, PutsRecord, entry_of, record_of, thousands_in}
 use Rattle.rmt_pack.specs.Shape.{cells_in as cells_of}
-use Rattle.rmt_config.specs.Rooms.{tests_as_one}
+use Rattle.rmt_config.specs.Rooms.{args_as_one, tests_as_one}
 use Rattle.rmt_refine.specs.Cells.{HoldsEntry}
 use Rattle.rmt_build.specs.declared.stands.Stand.{Stand}
-use Rattle.rmt_build.specs.Data.{data_of}
 
 -- what the blocks of a stage hold: the rows of SRAM, and the values and masks of those of TCAM
 pub record Held : Type 0 where
@@ -78,7 +77,7 @@ head_for code = 7 + 8 * code
 
 -- the number of an entry's instruction, the data that it holds, and its key
 abbrev pub data_for : Program → Table → Entry → ℕ
-data_for p t e = data_of (params_of p (slice_index t.actions e.action)) e.args
+data_for p t e = args_as_one (params_of p (slice_index t.actions e.action)) e.args
 
 abbrev pub value_for : Program → Table → Entry → ℕ
 value_for p t e = tests_as_one (λ test. test.value) (map (width_of p) t.key) e.tests

@@ -1,6 +1,5 @@
 pub mod Types
 pub mod BuiltStage
-pub mod Data
 pub mod Folds
 pub mod Holding
 pub mod Listing

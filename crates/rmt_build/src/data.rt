@@ -7,8 +7,7 @@ ghost use Rattle.rmt_bits.specs.Bits.{bytes_of, number_of};
 ghost use Rattle.rmt_ast.specs.State.{width_of};
 ghost use Rattle.rmt_ast.specs.WellFormed.{Fits, IsTest};
 ghost use Rattle.rmt_config.specs.Shapes.{divided_up};
-ghost use Rattle.rmt_config.specs.Rooms.{tests_as_one};
-ghost use Rattle.rmt_build.specs.Data.{data_of};
+ghost use Rattle.rmt_config.specs.Rooms.{args_as_one, tests_as_one};
 
 use rmt_ast::program::{Program, Test};
 use rmt_bits::answer::Bytes;
@@ -86,7 +85,7 @@ fn put_args(bytes: &mut [u8], low: u32, widths: &[u8], args: &[u128])
     requires room { low + sum widths.now ≤ 8 * length bytes.old }
     requires widths { All (λ w. w ≤ 128) widths.now }
     requires fit { AllZip Fits widths.now args.now }
-    ensures { number_of bytes.new ≡ 2 ^ low * data_of widths.now args.now }
+    ensures { number_of bytes.new ≡ 2 ^ low * args_as_one widths.now args.now }
 {
     let mut above = bytes.len() as u32 * 8 - low;
     for at in 0..widths.len() {
@@ -108,7 +107,7 @@ pub fn record_bytes(
     requires few { bits < 65536 }
     requires room { low + sum widths.now ≤ bits }
     ensures long { IfOk result (λ bytes. length bytes.items ≡ divided_up bits 8) }
-    ensures number { IfOk result (λ bytes. number_of bytes.items ≡ 2 ^ low * data_of widths.now args.now) }
+    ensures number { IfOk result (λ bytes. number_of bytes.items ≡ 2 ^ low * args_as_one widths.now args.now) }
 {
     let mut bytes = bytes_for(alloc, bits)?;
     put_args(&mut bytes, low, widths, args);

@@ -15,8 +15,7 @@ ghost use Rattle.rmt_pack.specs.Cells.{PutsRecord};
 ghost use Rattle.rmt_pack.specs.Placements.{data_bits as bits_of_data, key_bits as bits_of_key};
 ghost use Rattle.rmt_pack.specs.Rows.{blocks_of};
 ghost use Rattle.rmt_pack.specs.Shape.{IsShape, cells_in};
-ghost use Rattle.rmt_config.specs.Rooms.{tests_as_one};
-ghost use Rattle.rmt_build.specs.Data.{data_of};
+ghost use Rattle.rmt_config.specs.Rooms.{args_as_one, tests_as_one};
 ghost use Rattle.rmt_build.specs.Holding.{AreKeyBlocks, ExactSo, Held, PartHolds, PutsCell, TernarySo, exact_part, head_for, ternary_part};
 ghost use Rattle.rmt_build.specs.Listing.{masks_of, values_of};
 ghost use Rattle.rmt_build.specs.Plans.{IsPlan};
@@ -143,7 +142,7 @@ fn write_exact(
     requires tests { AllZip IsTest widths.now placed.now.entry.now.tests }
     requires args { AllZip Fits placed.now.params.now placed.now.entry.now.args }
     ensures { OnOk result (PutsCell (blocks_of sram.old) (blocks_of sram.new) shape.now cell
-        (head_for placed.now.code + 256 * tests_as_one (λ (t : Test). t.value) widths.now placed.now.entry.now.tests) (data_of placed.now.params.now placed.now.entry.now.args)) }
+        (head_for placed.now.code + 256 * tests_as_one (λ (t : Test). t.value) widths.now placed.now.entry.now.tests) (args_as_one placed.now.params.now placed.now.entry.now.args)) }
 {
     let key = key_bytes(alloc, widths, placed.entry.tests.as_slice())?;
     let held = record_bytes(
@@ -188,7 +187,7 @@ fn headed_bytes(
     requires widths { All (λ w. w ≤ 128) widths.now }
     requires fit { AllZip Fits widths.now args.now }
     ensures len { IfOk result (λ bytes. length bytes.items ≡ divided_up bits 8) }
-    ensures value { IfOk result (λ bytes. number_of bytes.items ≡ head_for code + 256 * data_of widths.now args.now) }
+    ensures value { IfOk result (λ bytes. number_of bytes.items ≡ head_for code + 256 * args_as_one widths.now args.now) }
 {
     let mut bytes = record_bytes(alloc, bits, 8, widths, args)?;
     put_head(&mut bytes, code);
@@ -209,7 +208,7 @@ fn write_head(
     requires held { 8 + sum placed.now.params.now ≤ shape.now.held }
     requires params { All (λ w. w ≤ 128) placed.now.params.now }
     requires args { AllZip Fits placed.now.params.now placed.now.entry.now.args }
-    ensures { OnOk result (PutsRecord (blocks_of sram.old) (blocks_of sram.new) shape.now cell (head_for placed.now.code + 256 * data_of placed.now.params.now placed.now.entry.now.args)) }
+    ensures { OnOk result (PutsRecord (blocks_of sram.old) (blocks_of sram.new) shape.now cell (head_for placed.now.code + 256 * args_as_one placed.now.params.now placed.now.entry.now.args)) }
 {
     let held = headed_bytes(
         alloc,

@@ -52,7 +52,7 @@ pub struct Chip {
 }
 
 impl Chip {
-    ghost use Rattle.std.specs.Prelude.{[], ◌∷◌, ◌++◌, ◌+◌, ◌^◌, ◌≤◌, ◌⊎◌, ℕ, List, None, true, Contains, length, map, IfOk, OnOk, OnErr};
+    ghost use Rattle.std.specs.Prelude.{[], ◌∷◌, ◌++◌, ◌+◌, ◌^◌, ◌≤◌, ◌⊎◌, ℕ, List, None, true, false, Contains, length, map, IfOk, OnOk, OnErr};
     ghost use Rattle.rmt_bits.specs.declared.answer.Count.{Count};
     ghost use Rattle.rmt_config.specs.declared.config.Config.{Config};
     ghost use Rattle.rmt_config.specs.Form.{Formed};
@@ -126,7 +126,8 @@ impl Chip {
 
     /// Whether a changed cell is one of a slot, and holds what the slot may have.
     pub fn takes(&self, write: &CellWrite) -> bool
-        ensures { result ≡ true → IsTaken self.now.config.stages write.now }
+        ensures yes { result ≡ true → IsTaken self.now.config.stages write.now }
+        ensures no { result ≡ false → IsTaken self.now.config.stages write.now → ⊥ }
     {
         is_taken(self.config.stages.as_slice(), write)
     }

@@ -54,24 +54,7 @@ fn has_memory(memory: &Memory) -> bool
     !matches!(memory, Memory::Without)
 }
 
-/// What a slot's key finds in its memory.
-fn look_key(slot: &SlotUnit, memory: &SlotMemory, sight: Sight, vector: &Vector, into: &mut Looked)
-    requires lanes { All LaneFits slot.now.keys }
-    requires short { bits_of_lanes slot.now.keys ≤ 640 }
-    requires fits { FitsSlot slot.now memory.now }
-    requires room { length into.old.held.items ≡ divided_up slot.now.held 8 }
-    ensures room { length into.new.held.items ≡ length into.old.held.items }
-    ensures found { (cells : RunCells) (k place : ℕ) → HoldsCells cells k place slot.now memory.now → cells.seed ≡ sight.seed →
-        Finds slot.now.counted (found_in_slot sight.named sight.version cells k place (key_of (λ w. slice_index vector.now w) slot.now.keys) slot.now) into.new }
-{
-    let mut buffer = [0; 80];
-    let size = (key_bits(slot.keys.as_slice()) as usize + 7) / 8;
-    let key = &mut buffer[..size];
-    put_together(key, vector, slot.keys.as_slice());
-    memory.find(key, sight, into);
-}
-
-/// What a slot finds; without memory it finds nothing.
+/// What a slot's key finds in its memory; without memory it finds nothing.
 fn look_slot(slot: &SlotUnit, memory: &SlotMemory, sight: Sight, vector: &Vector, into: &mut Looked)
     requires lanes { All LaneFits slot.now.keys }
     requires short { bits_of_lanes slot.now.keys ≤ 640 }
@@ -82,11 +65,15 @@ fn look_slot(slot: &SlotUnit, memory: &SlotMemory, sight: Sight, vector: &Vector
         cells.seed ≡ sight.seed → Finds slot.now.counted (if memory_is_there slot.now.memory
         then found_in_slot sight.named sight.version cells k place (key_of (λ w. slice_index vector.now w) slot.now.keys) slot.now else None) into.new }
 {
-    if has_memory(&slot.memory) {
-        look_key(slot, memory, sight, vector, into);
-    } else {
+    if !has_memory(&slot.memory) {
         into.hit = false;
+        return;
     }
+    let mut buffer = [0; 80];
+    let size = (key_bits(slot.keys.as_slice()) as usize + 7) / 8;
+    let key = &mut buffer[..size];
+    put_together(key, vector, slot.keys.as_slice());
+    memory.find(key, sight, into);
 }
 
 /// What a unit reads.

@@ -80,51 +80,7 @@ fn default_code(slot: &SlotUnit, base: u16) -> u16
     base + u16::from(slot.actions)
 }
 
-/// What a slot that runs does with what it found.
-fn act(
-    slot: &SlotUnit,
-    at: UnitAt,
-    looked: &[Looked],
-    outcomes: &mut [u8],
-    running: &mut Vec<Ran>,
-    counters: &mut Counts,
-    bytes: u64,
-)
-    requires inside { at.unit < length looked.now }
-    requires low { at.base ≤ 8192 }
-    requires all_nodes { length outcomes.old ≡ 256 }
-    requires room { vec_len running.old < vec_capacity running.old }
-    ensures more { vec_len running.new ≤ vec_len running.old + 1 }
-    ensures spare { counters.new.room ≡ counters.old.room }
-    ensures room { vec_capacity running.old ≤ vec_capacity running.new }
-    ensures done { (stage : Stage) (found : Option Found) (d : Looked) (first : List Count) (acts : Acts) →
-        Finds slot.now.counted found (slice_index_or looked.now at.unit d) → at.base ≡ acts.base →
-        HaveDone stage looked.now bytes first acts outcomes.old running.old.items counters.old.counts →
-        HaveDone stage looked.now bytes first (slot_acts stage slot.now found acts) outcomes.new running.new.items counters.new.counts }
-{
-    let node = usize::from(slot.node);
-    let one = &looked[usize::from(at.unit)];
-    if one.hit {
-        let code = u16::from(one.code);
-        outcomes[node] = 2 + code.saturating_sub(at.base) as u8;
-        running.push_reserved(Ran {
-            code,
-            unit: at.unit,
-            found: true,
-        });
-        count(slot.counted, counters, one.number, bytes);
-    } else if slot.last {
-        outcomes[node] = 1;
-        let code = default_code(slot, at.base);
-        running.push_reserved(Ran {
-            code,
-            unit: at.unit,
-            found: false,
-        });
-    }
-}
-
-/// What a slot does: it acts where it runs.
+/// What a slot does, where it runs, with what it found.
 fn decide_slot(
     slot: &SlotUnit,
     at: UnitAt,
@@ -147,8 +103,28 @@ fn decide_slot(
         HaveDone stage looked.now bytes first (if runs slot.now.node slot.now.guard acts.outcomes then slot_acts stage slot.now found acts else acts)
         outcomes.new running.new.items counters.new.counts }
 {
-    if runs_now(slot.node, slot.guard, outcomes) {
-        act(slot, at, looked, outcomes, running, counters, bytes);
+    if !runs_now(slot.node, slot.guard, outcomes) {
+        return;
+    }
+    let node = usize::from(slot.node);
+    let one = &looked[usize::from(at.unit)];
+    if one.hit {
+        let code = u16::from(one.code);
+        outcomes[node] = 2 + code.saturating_sub(at.base) as u8;
+        running.push_reserved(Ran {
+            code,
+            unit: at.unit,
+            found: true,
+        });
+        count(slot.counted, counters, one.number, bytes);
+    } else if slot.last {
+        outcomes[node] = 1;
+        let code = default_code(slot, at.base);
+        running.push_reserved(Ran {
+            code,
+            unit: at.unit,
+            found: false,
+        });
     }
 }
 

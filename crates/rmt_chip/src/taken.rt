@@ -1,6 +1,6 @@
 //! Which changed cells a chip takes.
 
-ghost use Rattle.std.specs.Prelude.{◌≡◌, ◌<◌, ◌≤◌, ◌^◌, true, All};
+ghost use Rattle.std.specs.Prelude.{◌≡◌, ◌<◌, ◌≤◌, ◌^◌, true, false, All};
 ghost use Rattle.rmt_config.specs.LaneForm.{bits_of_lanes};
 ghost use Rattle.rmt_config.specs.Cells.{cells_in};
 ghost use Rattle.rmt_chip.specs.Runnable.{StageFits};
@@ -13,7 +13,8 @@ use rmt_config::config::{Memory, SlotUnit, Stage, Unit};
 /// Whether bytes are a number of so many bits, the highest first.
 fn are_bits(bytes: &[u8], bits: u64) -> bool
     requires { bits < 2 ^ 31 }
-    ensures { result ≡ true → AreBits bits bytes.now }
+    ensures yes { result ≡ true → AreBits bits bytes.now }
+    ensures no { result ≡ false → AreBits bits bytes.now → ⊥ }
 {
     if bytes.len() != (bits as usize + 7) / 8 {
         return false;
@@ -41,7 +42,8 @@ fn cells_of(memory: &Memory) -> u64
 /// Whether a mask is one of a key of so many bits.
 fn is_mask(memory: &Memory, bits: u64, mask: &[u8]) -> bool
     requires { bits < 2 ^ 31 }
-    ensures { result ≡ true → MaskTaken bits memory.now mask.now }
+    ensures yes { result ≡ true → MaskTaken bits memory.now mask.now }
+    ensures no { result ≡ false → MaskTaken bits memory.now mask.now → ⊥ }
 {
     match memory {
         Memory::Without => true,
@@ -53,7 +55,8 @@ fn is_mask(memory: &Memory, bits: u64, mask: &[u8]) -> bool
 /// Whether a cell of a slot may have an entry.
 fn takes_entry(slot: &SlotUnit, write: &CellWrite) -> bool
     requires { bits_of_lanes slot.now.keys ≤ 640 }
-    ensures { result ≡ true → EntryTaken slot.now write.now }
+    ensures yes { result ≡ true → EntryTaken slot.now write.now }
+    ensures no { result ≡ false → EntryTaken slot.now write.now → ⊥ }
 {
     let bits = key_bits(slot.keys.as_slice());
     write.code < 32
@@ -65,7 +68,8 @@ fn takes_entry(slot: &SlotUnit, write: &CellWrite) -> bool
 /// Whether a slot takes a changed cell.
 fn slot_takes(slot: &SlotUnit, write: &CellWrite) -> bool
     requires { bits_of_lanes slot.now.keys ≤ 640 }
-    ensures { result ≡ true → WriteTaken slot.now write.now }
+    ensures yes { result ≡ true → WriteTaken slot.now write.now }
+    ensures no { result ≡ false → WriteTaken slot.now write.now → ⊥ }
 {
     if u64::from(write.cell) >= cells_of(&slot.memory) || write.visible > 3 {
         return false;
@@ -76,7 +80,8 @@ fn slot_takes(slot: &SlotUnit, write: &CellWrite) -> bool
 /// Whether a changed cell is one of a slot that is there, and the slot takes it.
 pub fn is_taken(stages: &[Stage], write: &CellWrite) -> bool
     requires fit { All StageFits stages.now }
-    ensures { result ≡ true → IsTaken stages.now write.now }
+    ensures yes { result ≡ true → IsTaken stages.now write.now }
+    ensures no { result ≡ false → IsTaken stages.now write.now → ⊥ }
 {
     let Some(stage) = stages.get(usize::from(write.stage)) else {
         return false;

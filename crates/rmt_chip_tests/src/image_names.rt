@@ -238,6 +238,42 @@ const OF_TERNARY: [Case; 21] = [
     ), // the last one of no bit
 ];
 
+/// Two exact tables side by side, of nodes 1 and 2, and their names, from byte 197 on: `b` with the actions `go` and `x`,
+/// of which the latter has 16 parameters of a bit, and `c` with `go`.
+const TWO_TABLES: [u8; 266] = [
+    0x52, 0x4d, 0x54, 0x49, 0, 2, 0, 0x40, 0, 9, 0x41, 0, 9, 0, 0, 1, 1, 0, 1, 1, 1, 1, 1, 0, 8, 0,
+    1, 0, 0, 1, 0, 0, 0, 0, 0, 0, 0, 0, 0, 1, 1, 0, 2, 1, 0, 1, 1, 0, 0, 0, 1, 0, 8, 2, 0, 0, 1, 1,
+    0, 0, 0, 0, 1, 0, 0, 0, 0, 0, 0, 0, 0, 0, 1, 2, 0, 8, 0, 0, 1, 0, 2, 0, 0, 0, 0, 0, 0, 0, 0, 0,
+    0, 0, 0, 0, 0x0c, 2, 1, 1, 0, 0, 2, 1, 0, 0x11, 0, 1, 2, 0, 8, 1, 1, 0, 7, 1, 0, 0, 1, 2, 3, 4,
+    5, 6, 7, 8, 0, 0, 0, 0, 1, 2, 0, 0, 1, 1, 0, 9, 0, 1, 2, 0, 8, 1, 1, 0, 7, 1, 0, 9, 0x0a, 0x0b,
+    0x0c, 0x0d, 0x0e, 0x0f, 0, 0, 0, 0, 1, 0x41, 0, 9, 0, 1, 0, 0, 2, 0, 0, 0, 0, 0, 0, 0, 1, 2, 0,
+    8, 0, 2, 0, 0, 0, 0, 2, 0, 0, 0, 0, 0, 0, 0, 0, 0, 0, 0, 0, 2, 1, 0, 0, 0, 1, 0x62, 0, 0, 0, 0,
+    0x10, 0, 1, 8, 2, 0, 0, 0, 2, 0x67, 0x6f, 1, 9, 0, 0, 0, 1, 0x78, 0x10, 1, 1, 1, 1, 1, 1, 1, 1,
+    1, 1, 1, 1, 1, 1, 1, 1, 2, 0, 0, 0, 1, 0x63, 0, 0, 0, 0, 0x10, 0, 1, 8, 1, 0, 0, 0, 2, 0x67,
+    0x6f, 1, 9,
+];
+
+const OF_TWO_TABLES: [Case; 6] = [
+    (&[], 0),
+    (
+        &[
+            (243, 23, &[]),
+            (
+                198,
+                0,
+                &[
+                    2, 0, 0, 0, 1, 0x63, 0, 0, 0, 0, 0x10, 0, 1, 8, 1, 0, 0, 0, 2, 0x67, 0x6f, 1, 9,
+                ],
+            ),
+        ],
+        4,
+    ), // by falling node
+    (&[(248, 1, &[0x62])], 4), // two tables of one name
+    (&[(221, 5, &[0, 0, 0, 2, 0x67, 0x6f])], 4), // two actions of one name
+    (&[(221, 5, &[0, 0, 0, 2, 0x67, 0x78])], 0),
+    (&[(227, 0, &[1]), (226, 1, &[17])], 4), // a parameter too many
+];
+
 /// The smallest image with names of no table, and a tail: 4 bits of its byte tell 4 bytes each, without 4.
 const TAILED: [u8; 106] = [
     0x52, 0x4d, 0x54, 0x49, 0, 3, 0, 0x40, 0, 9, 0x41, 0, 9, 0, 0, 1, 1, 0, 1, 1, 1, 1, 1, 0, 8, 0,
@@ -314,6 +350,15 @@ fn names_of_an_exact_table(rt: HostRuntime) -> Result<(), Fail> {
 }
 
 #[test]
+fn names_of_two_tables(rt: HostRuntime) -> Result<(), Fail> {
+    assert_eq!(rt;
+        first_wrong(rt.alloc(), &TWO_TABLES, &OF_TWO_TABLES)?,
+        OF_TWO_TABLES.len()
+    );
+    Ok(())
+}
+
+#[test]
 fn names_of_a_ternary_table(rt: HostRuntime) -> Result<(), Fail> {
     assert_eq!(rt;
         first_wrong(rt.alloc(), &RANKED, &OF_TERNARY)?,
@@ -331,10 +376,19 @@ fn tails(rt: HostRuntime) -> Result<(), Fail> {
     Ok(())
 }
 
-/// The first length behind the version at which an image that is cut there doesn't end inside an item, or its own.
-fn first_not_short(alloc: Global, image: &[u8]) -> usize {
-    for len in 6..image.len() {
-        if read(alloc, &image[..len]).0 != 3 {
+/// The code of an image that is cut at that length: inside the letters, the version, or an item.
+fn code_of_cut(len: usize) -> u8 {
+    match len {
+        0..=3 => 1,
+        4 | 5 => 2,
+        _ => 3,
+    }
+}
+
+/// The first length at which an image that is cut there has another code, or its own length.
+fn first_not_cut(alloc: Global, image: &[u8]) -> usize {
+    for len in 0..image.len() {
+        if read(alloc, &image[..len]).0 != code_of_cut(len) {
             return len;
         }
     }
@@ -347,8 +401,8 @@ fn cut_short(rt: HostRuntime) -> Result<(), Fail> {
     let tailed = spliced(rt.alloc(), &NAMED, 244, 0, &[0, 1, 0, 0, 0, 0, 0, 4, 4, 4])?;
     let whole = spliced(rt.alloc(), tailed.as_slice(), 5, 1, &[3])?;
     assert_eq!(rt; read(rt.alloc(), whole.as_slice()).0, 0);
-    assert_eq!(rt; first_not_short(rt.alloc(), whole.as_slice()), whole.len());
-    assert_eq!(rt; first_not_short(rt.alloc(), &RANKED), RANKED.len());
+    assert_eq!(rt; first_not_cut(rt.alloc(), whole.as_slice()), whole.len());
+    assert_eq!(rt; first_not_cut(rt.alloc(), &RANKED), RANKED.len());
     Ok(())
 }
 

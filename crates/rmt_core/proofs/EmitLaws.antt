@@ -12,7 +12,7 @@ use Rattle.rmt_bits.proofs.ListLaws.{range_more, slice_get-front}
 use Rattle.rmt_core.specs.SimText.{answer_lines, answer_of_outcome}
 use Rattle.rmt_core.specs.Watching.{emitted}
 
-same_answers : {Y : Type 0} (f g : ℕ → Option Y) (a n : ℕ) → ((k : ℕ) → k < n → f (a + k) ≡ g (a + k)) → filter_map f (range_with_len a n) ≡ filter_map g (range_with_len a n)
+pub same_answers : {Y : Type 0} (f g : ℕ → Option Y) (a n : ℕ) → ((k : ℕ) → k < n → f (a + k) ≡ g (a + k)) → filter_map f (range_with_len a n) ≡ filter_map g (range_with_len a n)
 same_answers f g a zero e = refl
 same_answers f g a (suc n) e =
     let first : f a ≡ g a = subst (λ m. f m ≡ g m) (omega arith) (e 0 (omega arith)) in

@@ -1,5 +1,5 @@
 -- What commands give with Done, and when they give it.
-use Rattle.std.proofs.Common.{◌≡◌, ℕ, ◌≤◌, Bool, true, false, cond, ltb, List, length, Option, Some, None, Result, Ok, Err, sym, refl, ap, ◌∙◌, subst}
+use Rattle.std.proofs.Common.{◌≡◌, inl, inr, ℕ, ◌≤◌, Bool, true, false, cond, ltb, List, length, Option, Some, None, Result, Ok, Err, sym, refl, ap, ◌∙◌, subst}
 use Rattle.std.proofs.lemmas.Bool.{le-ltb, ltb-false}
 use Rattle.rmt_core.specs.Types.{Program, Config}
 use Rattle.rmt_ast.specs.declared.entry.Entry.{Entry}
@@ -12,6 +12,8 @@ use Rattle.rmt_image.proofs.Whole.{image_again}
 use Rattle.rmt_bits.specs.Lines.{numbered_lines}
 use Rattle.rmt_packets.specs.PacketText.{BadLine}
 use Rattle.rmt_sample.specs.Texts.{entries_text, program_text}
+use Rattle.rmt_verify.specs.Spells.{Spells as SpellsMap}
+use Rattle.rmt_verify.specs.declared.map_file.MapFile.{MapFile}
 use Rattle.rmt_core.specs.declared.placer.Placer.TheVariants.{ByRule}
 use Rattle.rmt_core.specs.declared.status.Status.TheVariants.{Done}
 use Rattle.rmt_core.specs.Compiling.{Builds}
@@ -22,7 +24,8 @@ use Rattle.rmt_core.specs.Runs.{RunsBy, Way, run_status, said_within, told_withi
 use Rattle.rmt_core.specs.Sampling.{AreOfSample, GivesSample, sample_line}
 use Rattle.rmt_core.specs.Simulating.{OfAnswer, Spelled}
 use Rattle.rmt_core.specs.Texts.{OfEntries, OfMeaning, Understands}
-use Rattle.rmt_core.proofs.GivenOnce.{OneMeaning, sample_understood}
+use Rattle.rmt_core.specs.Verifying.{HasMap}
+use Rattle.rmt_core.proofs.GivenOnce.{OneMap, OneMeaning, sample_understood}
 
 -- ---- a file that is there is read
 
@@ -47,14 +50,20 @@ understood one files text entry_text next g p lists means says h =
 
 -- what is made of a program with entries that the texts of a number mean
 pub sample_built : OneMeaning → (files : Files) (number : ℕ) (g : Given) (p : Program) (lists : List (List Entry)) → AreOfSample number p lists → GivesSample files number g
-    → Builds ByRule files (λ image c b. told files Done (sample_line number p lists c)) p lists g
+    → Builds ByRule files (λ image m c b. told files Done (sample_line number p lists c)) p lists g
 sample_built one files number g p lists of h =
-    understood one files (program_text number) (entries_text number) (λ q l. Builds ByRule files (λ image c b. told files Done (sample_line number q l c)) q l) g p lists of.means of.says (sample_understood files number g h)
+    understood one files (program_text number) (entries_text number) (λ q l. Builds ByRule files (λ image m c b. told files Done (sample_line number q l c)) q l) g p lists of.means of.says (sample_understood files number g h)
 
 -- ---- an image of a configuration
 
 pub spelled_is : (files : Files) (bytes : List ℕ) (next : Config → Given → Type 0) (g : Given) (c : Config) → Spells bytes c → Spelled files bytes next g → next c g
 spelled_is files bytes next g c spells h = subst (λ r. OfAnswer files next g r) (image_again bytes c spells h.0 h.1) h.2
+
+-- ---- the bytes of a map
+
+pub map_is : OneMap → (files : Files) (bytes : List ℕ) (next : MapFile → Given → Type 0) (g : Given) (m : MapFile) → SpellsMap bytes m → HasMap files bytes next g → next m g
+map_is one files bytes next g m spells (inl x) = subst (λ k. next k g) (one bytes x.0 m x.1 spells) x.2
+map_is one files bytes next g m spells (inr x) = absurd (x.0 m spells)
 
 -- ---- runs
 

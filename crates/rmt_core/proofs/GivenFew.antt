@@ -9,27 +9,31 @@ use Rattle.rmt_entries.specs.declared.fault.EntryFault.{EntryFault}
 use Rattle.rmt_entries.specs.declared.fault.EntryFault.TheVariants.{NoMemory, At}
 use Rattle.rmt_entries.specs.Entries.{entries_of}
 use Rattle.rmt_image.specs.declared.fault.ImageFault.{ImageFault}
+use Rattle.rmt_refine.specs.declared.map.Map.{Map}
+use Rattle.rmt_verify.specs.declared.map_file.MapFile.{MapFile}
 use Rattle.rmt_core.specs.declared.placer.Placer.{Placer}
 use Rattle.rmt_core.specs.declared.placer.Placer.TheVariants.{ByRule, ByTries}
 use Rattle.rmt_core.specs.declared.status.Status.{Status}
 use Rattle.rmt_core.specs.declared.status.Status.TheVariants as status
 use Rattle.rmt_core.specs.declared.watch.Watch.{Watch}
 use Rattle.rmt_core.specs.declared.watch.Watch.TheVariants as watch
-use Rattle.rmt_core.specs.Commands.{Command, Compile, Improve, Sim, Probe, Plain, Report, Sample, Switch}
+use Rattle.rmt_core.specs.Commands.{Command, Compile, CompileMap, Improve, Sim, Probe, Plain, Report, Sample, Switch, Verify}
 use Rattle.rmt_core.specs.Compiling.{Builds, Finish, Fitted, GivesImage, Loaded, written}
 use Rattle.rmt_core.specs.Ends.{Answered, AreSame, Outside, Stops, StoppedBetween}
-use Rattle.rmt_core.specs.Files.{Files, Found, Absent, Long, Holds, entries_limit, found, image_limit, packets_limit, program_limit}
+use Rattle.rmt_core.specs.Files.{Files, Found, Absent, Long, Holds, entries_limit, found, image_limit, map_limit, packets_limit, program_limit}
 use Rattle.rmt_core.specs.Given.{Given, OfFound, OfOpened, told}
 use Rattle.rmt_core.specs.Gives.{Gives}
 use Rattle.rmt_core.specs.Headline.{LeavesFiles, WritesSeveral}
 use Rattle.rmt_core.specs.EventText.{with_changes}
 use Rattle.rmt_core.specs.PlainText.{plain_text}
+use Rattle.rmt_core.specs.MapFiles.{image_alone}
 use Rattle.rmt_core.specs.Placers.{refusal_by}
 use Rattle.rmt_core.specs.Reporting.{report_line}
 use Rattle.rmt_core.specs.Runs.{RunsBy, Way, packets_alone}
 use Rattle.rmt_core.specs.Sampling.{sample_line}
 use Rattle.rmt_core.specs.Simulating.{GivesRun, OfAnswer, Spelled}
 use Rattle.rmt_core.specs.Texts.{OfEntries, OfMeaning, Understands}
+use Rattle.rmt_core.specs.Verifying.{Checks, GivesVerify, HasMap, answer_line, bad_map_line}
 use Rattle.rmt_core.specs.Watching.{text_of}
 
 -- what gives no more than one file to write
@@ -73,12 +77,19 @@ module _ (files : Files) where
   spelled_few : (bytes : List ℕ) (next : Config → Given → Type 0) → ((c : Config) → WritesFew (next c)) → WritesFew (Spelled files bytes next)
   spelled_few bytes next few g h = answer_few next few h.0 g h.2
 
+  map_few : (bytes : List ℕ) (next : MapFile → Given → Type 0) → ((m : MapFile) → WritesFew (next m)) → WritesFew (HasMap files bytes next)
+  map_few bytes next few g (inl x) = few x.0 g x.2
+  map_few bytes next few g (inr x) = none_told status.BadImage bad_map_line g x.1
+
+  checks_few : (p : Program) (lists : List (List Entry)) (c : Config) (m : MapFile) → WritesFew (Checks files p lists c m)
+  checks_few p lists c m g h = none_told status.Done (answer_line h.0) g h.2
+
   runs_few : {X : Type 0} (way : Way X) (printed : X → List ℕ) (limit : ℕ) (text : List ℕ) → WritesFew (RunsBy way files printed limit text)
   runs_few way printed limit text g h = none_told _ _ g h
 
-  module _ (placer : Placer) (finish : Finish) (few : (image : List ℕ) (c : Config) (b : Bound) → length (finish image c b).writes ≤ 1) (p : Program) (lists : List (List Entry)) where
+  module _ (placer : Placer) (finish : Finish) (few : (image : List ℕ) (m : Map) (c : Config) (b : Bound) → length (finish image m c b).writes ≤ 1) (p : Program) (lists : List (List Entry)) where
     loaded_few : WritesFew (Loaded placer files finish p lists)
-    loaded_few g (inl x) = tells_few (finish x.0 x.2 x.3) (few x.0 x.2 x.3) g x.5
+    loaded_few g (inl x) = tells_few (finish x.0 x.1 x.2 x.3) (few x.0 x.1 x.2 x.3) g x.5
     loaded_few g (inr x) = none_told status.NoFit x.0 g x.2
 
     fitted_few : (o : Option NoFit) → WritesFew (λ g. Fitted placer files finish p lists g o)
@@ -88,17 +99,24 @@ module _ (files : Files) where
     builds_few : WritesFew (Builds placer files finish p lists)
     builds_few g h = fitted_few (refusal_by placer p) g h
 
-  image_few : (placer : Placer) (program entries image : List ℕ) → WritesFew (GivesImage placer files program entries image)
+  image_few : (placer : Placer) (program entries image : List ℕ) → WritesFew (GivesImage placer files program entries (image_alone image))
   image_few placer program entries image =
       found_few _ (λ text. found_few _ (λ entry_text. understands_few text entry_text _
-      (λ p lists. builds_few placer (written files image p) (λ _ _ _. omega arith) p lists)) (found entries_limit (files entries))) (found program_limit (files program))
+      (λ p lists. builds_few placer (written files (image_alone image) p) (λ _ _ _ _. omega arith) p lists)) (found entries_limit (files entries))) (found program_limit (files program))
 
   run_few : (w : Watch) (image packets : List ℕ) → WritesFew (GivesRun w files image packets)
   run_few w image packets =
       found_few _ (λ bytes. opened_few _ (λ text. spelled_few bytes _ (λ c. runs_few packets_alone (text_of w c) packets_limit text)) (files packets)) (found image_limit (files image))
 
+  verify_few : (program entries image map : List ℕ) → WritesFew (GivesVerify files program entries image map)
+  verify_few program entries image map =
+      found_few _ (λ text. found_few _ (λ entry_text. found_few _ (λ image_bytes. found_few _ (λ map_bytes. understands_few text entry_text _
+      (λ p lists. spelled_few image_bytes _ (λ c. map_few map_bytes (Checks files p lists c) (checks_few p lists c))))
+      (found map_limit (files map))) (found image_limit (files image))) (found entries_limit (files entries))) (found program_limit (files program))
+
   gives_few : (command : Command) → (WritesSeveral command → ⊥) → WritesFew (Gives files command)
   gives_few (Compile program entries image) not = image_few ByRule program entries image
+  gives_few (CompileMap program entries image map) not = absurd (not tt)
   gives_few (Improve program entries image budget) not = image_few (ByTries budget) program entries image
   gives_few (Sim image packets) not = run_few watch.Answers image packets
   gives_few (Probe image packets cycle) not = run_few (watch.Vectors cycle) image packets
@@ -108,8 +126,9 @@ module _ (files : Files) where
   gives_few (Report image) not =
       found_few _ (λ bytes. spelled_few bytes _ (λ c. none_told status.Done (report_line c))) (found image_limit (files image))
   gives_few (Switch image groups capture out every) not = absurd (not tt)
+  gives_few (Verify program entries image map) not = verify_few program entries image map
   gives_few (Sample number) not = λ g h.
-      builds_few ByRule (λ image c b. told files status.Done (sample_line number h.0 h.1 c)) (λ _ _ _. omega arith) h.0 h.1 g h.3
+      builds_few ByRule (λ image m c b. told files status.Done (sample_line number h.0 h.1 c)) (λ _ _ _ _. omega arith) h.0 h.1 g h.3
 
 -- ---- the law
 

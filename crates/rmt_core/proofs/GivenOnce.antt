@@ -1,6 +1,7 @@
 -- Each command gives one status and one text over the same files, but for the numbers of a table that doesn't load.
 use Rattle.std.proofs.Common.{◌≡◌, ◌⊎◌, inl, inr, ⊎_elim, ℕ, ◌+◌, ◌<◌, ◌≤◌, List, [], ◌∷◌, ◌++◌, length, map, Option, Some, None, Result, Ok, Err, sym, refl, ap, ◌∙◌, subst, arith}
-use Rattle.std.specs.Prelude.{replicate}
+use Rattle.std.specs.Prelude.{MatchOption, replicate}
+use Rattle.std.proofs.lemmas.Bool.{cases_order}
 use Rattle.std.proofs.lemmas.List.{length-map}
 use Rattle.rmt_bits.specs.Packet.{Packet}
 use Rattle.rmt_bits.specs.declared.lane.Lane.{Lane}
@@ -36,17 +37,21 @@ use Rattle.rmt_switch.specs.declared.fault.GroupFault.{GroupFault}
 use Rattle.rmt_switch.specs.declared.fault.GroupFault.TheVariants as group
 use Rattle.rmt_switch.specs.GroupText.{groups_of}
 use Rattle.rmt_switch.specs.Switch.{switched}
+use Rattle.rmt_verify.specs.Checks.{AllHold, FailsFirst}
+use Rattle.rmt_verify.specs.Spells.{Spells as SpellsMap}
+use Rattle.rmt_verify.specs.declared.map_file.MapFile.{MapFile}
 use Rattle.rmt_core.specs.declared.placer.Placer.{Placer}
 use Rattle.rmt_core.specs.declared.placer.Placer.TheVariants.{ByRule, ByTries}
 use Rattle.rmt_core.specs.declared.status.Status.TheVariants.{Done}
 use Rattle.rmt_core.specs.declared.watch.Watch.{Watch}
 use Rattle.rmt_core.specs.declared.watch.Watch.TheVariants as watch
-use Rattle.rmt_core.specs.Commands.{Compile, Improve, Sim, Probe, Plain, Report, Sample, Switch}
+use Rattle.rmt_core.specs.Commands.{Compile, CompileMap, Improve, Sim, Probe, Plain, Report, Sample, Switch, Verify}
 use Rattle.rmt_core.specs.CompileText.{compile_text}
 use Rattle.rmt_core.specs.Compiling.{Builds, Compiles, Finish, Fitted, GivesImage, IsFull, Loaded, Makes, written}
-use Rattle.rmt_core.specs.Files.{Files, Found, Absent, Long, Holds, capture_limit, entries_limit, found, groups_limit, image_limit, packets_limit, program_limit}
+use Rattle.rmt_core.specs.Files.{Files, Found, Absent, Long, Holds, capture_limit, entries_limit, found, groups_limit, image_limit, map_limit, packets_limit, program_limit}
 use Rattle.rmt_core.specs.Given.{Given, OfFound, OfOpened, Opens, Reads, told}
 use Rattle.rmt_core.specs.Headline.{GivesOne, OtherNumbers}
+use Rattle.rmt_core.specs.MapFiles.{Wanted, image_alone, with_map}
 use Rattle.rmt_core.specs.NoFitText.{no_fit_line}
 use Rattle.rmt_core.specs.Placers.{IsPlacedBy, refusal_by}
 use Rattle.rmt_core.specs.EventText.{with_changes}
@@ -57,12 +62,17 @@ use Rattle.rmt_core.specs.Sampling.{GivesSample, answers_line, sample_line, samp
 use Rattle.rmt_core.specs.Simulating.{GivesRun, OfAnswer, Spelled}
 use Rattle.rmt_core.specs.Switching.{GivesSwitch, HasCapture, HasGroups, OfCapture, OfGroups, switch_given}
 use Rattle.rmt_core.specs.Texts.{OfEntries, OfMeaning, Understands}
+use Rattle.rmt_core.specs.Verifying.{Checks, ChecksBytes, ChecksTexts, GivesVerify, HasMap, answer_line}
 use Rattle.rmt_core.specs.Watching.{text_of}
 use Rattle.rmt_core.proofs.PlacerLaws.{same_placed}
 
 -- each text has one meaning
 abbrev pub OneMeaning : Type 0
 OneMeaning = (text : List ℕ) (m n : Outcome) → Means text m → Means text n → m ≡ n
+
+-- no bytes spell two maps
+abbrev pub OneMap : Type 0
+OneMap = (bytes : List ℕ) (m n : MapFile) → SpellsMap bytes m → SpellsMap bytes n → m ≡ n
 
 -- no table has both a loading and keys with too few cells
 abbrev pub NeverBoth : Type 0
@@ -137,6 +147,33 @@ once_captured files next (Err code) once g h a b = same_given g h _ a b
 
 capture_once : (files : Files) (file : List ℕ) (next : Capture → Given → Type 0) → ((said : Capture) → GivesOnce (next said)) → GivesOnce (HasCapture files file next)
 capture_once files file next once g h a b = once_captured files next (capture_of file) once g h a b
+
+-- ---- maps and what fails of them
+
+map_once : OneMap → (files : Files) (bytes : List ℕ) (next : MapFile → Given → Type 0) → ((m : MapFile) → GivesOnce (next m)) → GivesOnce (HasMap files bytes next)
+map_once one files bytes next once g h (inl a) (inl b) = once a.0 g h a.2 (subst (λ m. next m h) (one bytes b.0 a.0 b.1 a.1) b.2)
+map_once one files bytes next once g h (inl a) (inr b) = absurd (b.0 a.0 a.1)
+map_once one files bytes next once g h (inr a) (inl b) = absurd (a.0 b.0 b.1)
+map_once one files bytes next once g h (inr a) (inr b) = same_given g h _ a.1 b.1
+
+module _ (p : Program) (lists : List (List Entry)) (c : Config) (m : MapFile) where
+  abbrev Answers : Option ℕ → Type 0
+  Answers failing = MatchOption failing (AllHold p lists c m) (FailsFirst p lists c m)
+
+  one_failing : (a b : Option ℕ) → Answers a → Answers b → a ≡ b
+  one_failing None None x y = refl
+  one_failing None (Some n) x y = absurd (y.fails (x n))
+  one_failing (Some n) None x y = absurd (x.fails (y n))
+  one_failing (Some n) (Some k) x y =
+      elim (cases_order n k) as (λ _. ◌≡◌ {A = Option ℕ} (Some n) (Some k)) [
+        | inl same ↦ ap Some same
+        | inr (inl less) ↦ absurd (x.fails (y.before n less))
+        | inr (inr more) ↦ absurd (y.fails (x.before k more))
+      ]
+
+  checks_once : (files : Files) → GivesOnce (Checks files p lists c m)
+  checks_once files g h a b =
+      same_given g h (told files Done (answer_line a.0)) a.2 (b.2 ∙ ap (λ o. told files Done (answer_line o)) (one_failing b.0 a.0 b.1 a.1))
 
 -- ---- what is made, or is not loaded
 
@@ -250,7 +287,7 @@ module _ (apart : NeverBoth) (placer : Placer) (p : Program) (lists : List (List
   abbrev pub TellsOnce : Finish → Type 0
   TellsOnce finish =
       (image other : List ℕ) (m n : Map) (c d : Config) (b e : Bound) → Makes placer p lists image m c b → Makes placer p lists other n d e
-      → ((finish image c b).status ≡ (finish other d e).status) × ((finish image c b).text ≡ (finish other d e).text)
+      → ((finish image m c b).status ≡ (finish other n d e).status) × ((finish image m c b).text ≡ (finish other n d e).text)
 
   loaded_once : (files : Files) (finish : Finish) → TellsOnce finish → GivesOnce (Loaded placer files finish p lists)
   loaded_once files finish one g h (inl x) (inl y) =
@@ -275,18 +312,18 @@ module _ (apart : NeverBoth) (placer : Placer) (p : Program) (lists : List (List
   builds_once : (files : Files) (finish : Finish) → TellsOnce finish → GivesOnce (Builds placer files finish p lists)
   builds_once files finish one g h a b = fitted_once files finish one (refusal_by placer p) g h a b
 
-  compiles_once : (files : Files) (name : List ℕ) → GivesOnce (Compiles placer files name p lists)
-  compiles_once files name = builds_once files (written files name p) (λ image other m n c d b e x y. (refl, made_once image other m n c d b e x y))
+  compiles_once : (files : Files) (wanted : Wanted) → GivesOnce (Compiles placer files wanted p lists)
+  compiles_once files wanted = builds_once files (written files wanted p) (λ image other m n c d b e x y. (refl, made_once image other m n c d b e x y))
 
-  samples_once : (files : Files) (number : ℕ) → GivesOnce (Builds placer files (λ image c b. told files Done (sample_line number p lists c)) p lists)
+  samples_once : (files : Files) (number : ℕ) → GivesOnce (Builds placer files (λ image m c b. told files Done (sample_line number p lists c)) p lists)
   samples_once files number =
-      builds_once files (λ image c b. told files Done (sample_line number p lists c))
+      builds_once files (λ image m c b. told files Done (sample_line number p lists c))
       (λ image other m n c d b e x y. (refl, one_line number p lists c d (same_starts image other m n c d b e x y)))
 
-image_once : OneMeaning → NeverBoth → (placer : Placer) (files : Files) (program entries image : List ℕ) → GivesOnce (GivesImage placer files program entries image)
-image_once one apart placer files program entries image =
+image_once : OneMeaning → NeverBoth → (placer : Placer) (files : Files) (program entries : List ℕ) (wanted : Wanted) → GivesOnce (GivesImage placer files program entries wanted)
+image_once one apart placer files program entries wanted =
     reads_once files program program_limit _
-    (λ text. reads_once files entries entries_limit _ (λ entry_text. understands_once one files text entry_text _ (λ p lists. compiles_once apart placer p lists files image)))
+    (λ text. reads_once files entries entries_limit _ (λ entry_text. understands_once one files text entry_text _ (λ p lists. compiles_once apart placer p lists files wanted)))
 
 tells_once : (k : Given) → GivesOnce (λ g. g ≡ k)
 tells_once k g h a b = same_given g h k a b
@@ -308,28 +345,40 @@ switch_once files image groups capture out every =
     (λ c. groups_once files text (λ ports. HasCapture files file (λ said g. g ≡ switch_given files out (switched c ports every file said)))
     (λ ports. capture_once files file (λ said g. g ≡ switch_given files out (switched c ports every file said)) (λ said. tells_once (switch_given files out (switched c ports every file said))))))))
 
+verify_once : OneMeaning → OneMap → (files : Files) (program entries image map : List ℕ) → GivesOnce (GivesVerify files program entries image map)
+verify_once one maps files program entries image map =
+    reads_once files program program_limit _
+    (λ text. reads_once files entries entries_limit _
+    (λ entry_text. reads_once files image image_limit _
+    (λ image_bytes. reads_once files map map_limit (λ map_bytes. ChecksTexts files text entry_text image_bytes map_bytes)
+    (λ map_bytes. understands_once one files text entry_text (ChecksBytes files image_bytes map_bytes)
+    (λ p lists. spelled_once files image_bytes (λ c. HasMap files map_bytes (Checks files p lists c))
+    (λ c. map_once maps files map_bytes (Checks files p lists c) (λ m. checks_once p lists c m files)))))))
+
 -- `sample` understands its texts
 pub sample_understood : (files : Files) (number : ℕ) (g : Given) → GivesSample files number g
-    → Understands files (program_text number) (entries_text number) (λ p lists. Builds ByRule files (λ image c k. told files Done (sample_line number p lists c)) p lists) g
+    → Understands files (program_text number) (entries_text number) (λ p lists. Builds ByRule files (λ image m c k. told files Done (sample_line number p lists c)) p lists) g
 sample_understood files number g h =
-    let next = λ (p : Program) (lists : List (List Entry)). Builds ByRule files (λ image c k. told files Done (sample_line number p lists c)) p lists in
+    let next = λ (p : Program) (lists : List (List Entry)). Builds ByRule files (λ image m c k. told files Done (sample_line number p lists c)) p lists in
     (Ok h.0, h.2.means, subst (λ (r : Result (List (List Entry)) EntryFault). OfEntries files next h.0 g r) (sym h.2.says) h.3)
 
 -- ---- the law
 
-pub gives_one : OneMeaning → NeverBoth → GivesOne
-gives_one one apart files (Compile program entries image) g h a b = image_once one apart ByRule files program entries image g h a b
-gives_one one apart files (Improve program entries image budget) g h a b = image_once one apart (ByTries budget) files program entries image g h a b
-gives_one one apart files (Sim image packets) g h a b = run_once watch.Answers files image packets g h a b
-gives_one one apart files (Probe image packets cycle) g h a b = run_once (watch.Vectors cycle) files image packets g h a b
-gives_one one apart files (Plain program entries packets) g h a b =
+pub gives_one : OneMeaning → NeverBoth → OneMap → GivesOne
+gives_one one apart maps files (Compile program entries image) g h a b = image_once one apart ByRule files program entries (image_alone image) g h a b
+gives_one one apart maps files (CompileMap program entries image map) g h a b = image_once one apart ByRule files program entries (with_map image map) g h a b
+gives_one one apart maps files (Improve program entries image budget) g h a b = image_once one apart (ByTries budget) files program entries (image_alone image) g h a b
+gives_one one apart maps files (Sim image packets) g h a b = run_once watch.Answers files image packets g h a b
+gives_one one apart maps files (Probe image packets cycle) g h a b = run_once (watch.Vectors cycle) files image packets g h a b
+gives_one one apart maps files (Plain program entries packets) g h a b =
     reads_once files program program_limit _
     (λ text. reads_once files entries entries_limit _
     (λ entry_text. opens_once files packets _ (λ packet_text. understands_once one files text entry_text
     (RunsPlain files packet_text) (λ p lists. runs_once (with_changes p lists) files (plain_text p lists) packets_limit packet_text)))) g h a b
-gives_one one apart files (Report image) g h a b =
+gives_one one apart maps files (Report image) g h a b =
     reads_once files image image_limit _ (λ bytes. spelled_once files bytes (λ c g. g ≡ told files Done (report_line c)) (λ c. tells_once (told files Done (report_line c)))) g h a b
-gives_one one apart files (Sample number) g h a b =
-    understands_once one files (program_text number) (entries_text number) (λ p lists. Builds ByRule files (λ image c k. told files Done (sample_line number p lists c)) p lists)
+gives_one one apart maps files (Sample number) g h a b =
+    understands_once one files (program_text number) (entries_text number) (λ p lists. Builds ByRule files (λ image m c k. told files Done (sample_line number p lists c)) p lists)
     (λ p lists. samples_once apart ByRule p lists files number) g h (sample_understood files number g a) (sample_understood files number h b)
-gives_one one apart files (Switch image groups capture out every) g h a b = switch_once files image groups capture out every g h a b
+gives_one one apart maps files (Switch image groups capture out every) g h a b = switch_once files image groups capture out every g h a b
+gives_one one apart maps files (Verify program entries image map) g h a b = verify_once one maps files program entries image map g h a b

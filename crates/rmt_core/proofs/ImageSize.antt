@@ -32,13 +32,13 @@ use Rattle.rmt_core.proofs.size.Numbers.{numbers_below}
 use Rattle.rmt_bits.proofs.OptionLaws.{same_Ok}
 
 -- the entries that a text says are those of the lists, and few; their numbers are below how many they are
-record Numbered (p : Program) (lists : List (List Entry)) (text : List ℕ) : Type 0 where
-  entries : List Entry
-  few : AreFew p entries (length text + 1)
-  lists_are : by_node (length p.nodes) entries ≡ lists
-  below : All (λ es. All (λ (e : Entry). e.number < length entries) es) lists
+pub record Numbered (p : Program) (lists : List (List Entry)) (text : List ℕ) : Type 0 where
+  pub entries : List Entry
+  pub few : AreFew p entries (length text + 1)
+  pub lists_are : by_node (length p.nodes) entries ≡ lists
+  pub below : All (λ es. All (λ (e : Entry). e.number < length entries) es) lists
 
-numbered : (p : Program) (text : List ℕ) (lists : List (List Entry)) → IsProgram p → entries_of p text ≡ Ok lists → Numbered p lists text
+pub numbered : (p : Program) (text : List ℕ) (lists : List (List Entry)) → IsProgram p → entries_of p text ≡ Ok lists → Numbered p lists text
 numbered p text lists program said = by (reading (applied_tables p) [] (numbered_lines 1 text)) refl said
   where
     by : (o : Result (List Entry) EntryFault) → reading (applied_tables p) [] (numbered_lines 1 text) ≡ o → lists_or_fault (length p.nodes) o ≡ Ok lists → Numbered p lists text

@@ -30,6 +30,7 @@ use Rattle.rmt_core.specs.CompileText.{compile_text}
 use Rattle.rmt_core.specs.Files.{Files, Found, Absent, Long, Holds, entries_limit, found, program_limit}
 use Rattle.rmt_core.specs.Given.{Given, OfFound, Reads}
 use Rattle.rmt_core.specs.Headline.{ImproveHasNoMoreStages, OneTryIsCompile, PrintNoMoreStages, RefusesAsCompile}
+use Rattle.rmt_core.specs.MapFiles.{Wanted, image_alone}
 use Rattle.rmt_core.specs.Placers.{IsPlacedBy, placed_by, placing_refusal, refusal_by}
 use Rattle.rmt_core.specs.Texts.{OfEntries, OfMeaning, Understands}
 use Rattle.rmt_core.proofs.GivenDone.{read_within, understood, was_read, was_understood}
@@ -82,6 +83,7 @@ module _ (placer other : Placer) (alike : PlaceAlike placer other) where
     runs = is.runs;
     carries = is.carries;
     made_by = made_alike p lists m c is.made_by;
+    map = is.map;
     bounded = is.bounded;
     few_stages = is.few_stages;
   }
@@ -104,30 +106,30 @@ module _ (placer other : Placer) (alike : PlaceAlike placer other) where
       by (Err fault) = refl
       by (Ok places) = ap stuck_told (alike p places)
 
-  compiles_alike : (files : Files) (name : List ℕ) (p : Program) (lists : List (List Entry)) → GoesOn (Compiles placer files name p lists) (Compiles other files name p lists)
-  compiles_alike files name p lists g h =
-      by (refusal_by other p) (subst (λ o. Fitted placer files (written files name p) p lists g o) (refusal_alike p) h)
+  compiles_alike : (files : Files) (wanted : Wanted) (p : Program) (lists : List (List Entry)) → GoesOn (Compiles placer files wanted p lists) (Compiles other files wanted p lists)
+  compiles_alike files wanted p lists g h =
+      by (refusal_by other p) (subst (λ o. Fitted placer files (written files wanted p) p lists g o) (refusal_alike p) h)
     where
-      loaded : Loaded placer files (written files name p) p lists g → Loaded other files (written files name p) p lists g
+      loaded : Loaded placer files (written files wanted p) p lists g → Loaded other files (written files wanted p) p lists g
       loaded (inl x) = inl (x.0, x.1, x.2, x.3, makes_alike p lists x.0 x.1 x.2 x.3 x.4, x.5)
       loaded (inr x) = inr (x.0, full_alike p lists x.0 x.1, x.2)
 
-      by : (o : Option NoFit) → Fitted placer files (written files name p) p lists g o → Fitted other files (written files name p) p lists g o
+      by : (o : Option NoFit) → Fitted placer files (written files wanted p) p lists g o → Fitted other files (written files wanted p) p lists g o
       by (Some fault) h = h
       by None h = loaded h
 
-  image_alike : (files : Files) (program entries image : List ℕ) → GoesOn (GivesImage placer files program entries image) (GivesImage other files program entries image)
-  image_alike files program entries image g h =
-      found_on files (λ text. Reads files entries entries_limit (λ entry_text. Understands files text entry_text (Compiles placer files image)))
-      (λ text. Reads files entries entries_limit (λ entry_text. Understands files text entry_text (Compiles other files image)))
-      (λ text. found_on files (λ entry_text. Understands files text entry_text (Compiles placer files image)) (λ entry_text. Understands files text entry_text (Compiles other files image))
-      (λ entry_text. understands_on files text entry_text (Compiles placer files image) (Compiles other files image) (compiles_alike files image)) (found entries_limit (files entries)))
+  image_alike : (files : Files) (program entries : List ℕ) (wanted : Wanted) → GoesOn (GivesImage placer files program entries wanted) (GivesImage other files program entries wanted)
+  image_alike files program entries wanted g h =
+      found_on files (λ text. Reads files entries entries_limit (λ entry_text. Understands files text entry_text (Compiles placer files wanted)))
+      (λ text. Reads files entries entries_limit (λ entry_text. Understands files text entry_text (Compiles other files wanted)))
+      (λ text. found_on files (λ entry_text. Understands files text entry_text (Compiles placer files wanted)) (λ entry_text. Understands files text entry_text (Compiles other files wanted))
+      (λ entry_text. understands_on files text entry_text (Compiles placer files wanted) (Compiles other files wanted) (compiles_alike files wanted)) (found entries_limit (files entries)))
       (found program_limit (files program)) g h
 
 pub one_try_is_compile : OneTryIsCompile
 one_try_is_compile files program entries image g = (
-  image_alike (ByTries 1) ByRule (λ p places. refl) files program entries image g,
-  image_alike ByRule (ByTries 1) (λ p places. refl) files program entries image g,
+  image_alike (ByTries 1) ByRule (λ p places. refl) files program entries (image_alone image) g,
+  image_alike ByRule (ByTries 1) (λ p places. refl) files program entries (image_alone image) g,
 )
 
 -- ---- refusals
@@ -155,15 +157,15 @@ record WasMade (placer : Placer) (p : Program) (lists : List (List Entry)) (g : 
   makes : Makes placer p lists image map config bound
   text : g.text ≡ compile_text p config bound
 
-was_made : (placer : Placer) (files : Files) (name : List ℕ) (p : Program) (lists : List (List Entry)) (g : Given) → g.status ≡ Done → Compiles placer files name p lists g
+was_made : (placer : Placer) (files : Files) (wanted : Wanted) (p : Program) (lists : List (List Entry)) (g : Given) → g.status ≡ Done → Compiles placer files wanted p lists g
     → WasMade placer p lists g
-was_made placer files name p lists g done h = by (refusal_by placer p) h
+was_made placer files wanted p lists g done h = by (refusal_by placer p) h
   where
-    loaded : Loaded placer files (written files name p) p lists g → WasMade placer p lists g
+    loaded : Loaded placer files (written files wanted p) p lists g → WasMade placer p lists g
     loaded (inl x) = record { image = x.0; map = x.1; config = x.2; bound = x.3; makes = x.4; text = ap (λ (k : Given). k.text) x.5 }
     loaded (inr x) = absurd (let e = sym (ap (λ (k : Given). k.status) x.2) ∙ done in cc)
 
-    by : (o : Option NoFit) → Fitted placer files (written files name p) p lists g o → WasMade placer p lists g
+    by : (o : Option NoFit) → Fitted placer files (written files wanted p) p lists g o → WasMade placer p lists g
     by (Some fault) h = absurd (let e = sym (ap (λ (k : Given). k.status) h) ∙ done in cc)
     by None h = loaded h
 
@@ -186,12 +188,12 @@ no_more budget p lists made improved a b =
 
 pub improve_has_no_more_stages : OneMeaning → ImproveHasNoMoreStages
 improve_has_no_more_stages one files program entries image other budget made improved compiles done improves improved_done =
-    let next = λ (placer : Placer) (name text : List ℕ). Reads files entries entries_limit (λ entry_text. Understands files text entry_text (Compiles placer files name)) in
+    let next = λ (placer : Placer) (name text : List ℕ). Reads files entries entries_limit (λ entry_text. Understands files text entry_text (Compiles placer files (image_alone name))) in
     let first = was_read files program program_limit (next ByRule image) made done compiles in
-    let second = was_read files entries entries_limit (λ entry_text. Understands files first.bytes entry_text (Compiles ByRule files image)) made done first.then in
-    let meant = was_understood files first.bytes second.bytes (Compiles ByRule files image) made done second.then in
+    let second = was_read files entries entries_limit (λ entry_text. Understands files first.bytes entry_text (Compiles ByRule files (image_alone image))) made done first.then in
+    let meant = was_understood files first.bytes second.bytes (Compiles ByRule files (image_alone image)) made done second.then in
     let read = read_within files program program_limit (next (ByTries budget) other) improved (first.bytes, first.within) improves in
-    let read_both = read_within files entries entries_limit (λ entry_text. Understands files first.bytes entry_text (Compiles (ByTries budget) files other)) improved (second.bytes, second.within) read in
-    let then = understood one files first.bytes second.bytes (Compiles (ByTries budget) files other) improved meant.program meant.lists meant.means meant.says read_both in
-    no_more budget meant.program meant.lists made improved (was_made ByRule files image meant.program meant.lists made done meant.then)
-    (was_made (ByTries budget) files other meant.program meant.lists improved improved_done then)
+    let read_both = read_within files entries entries_limit (λ entry_text. Understands files first.bytes entry_text (Compiles (ByTries budget) files (image_alone other))) improved (second.bytes, second.within) read in
+    let then = understood one files first.bytes second.bytes (Compiles (ByTries budget) files (image_alone other)) improved meant.program meant.lists meant.means meant.says read_both in
+    no_more budget meant.program meant.lists made improved (was_made ByRule files (image_alone image) meant.program meant.lists made done meant.then)
+    (was_made (ByTries budget) files (image_alone other) meant.program meant.lists improved improved_done then)

@@ -1,4 +1,8 @@
+pub mod BudgetLaws
+pub mod AnswerLaws
 pub mod CallLaws
+pub mod ChipTextLaws
+pub mod ComesLaws
 pub mod Complete
 pub mod CycleWords
 pub mod Decided
@@ -9,6 +13,8 @@ pub mod EditedLaws
 pub mod EndLaws
 pub mod EnterLaws
 pub mod EventTextLaws
+pub mod FlightLaws
+pub mod FlyingLaws
 pub mod GivenAlways
 pub mod GivenDone
 pub mod GivenFew
@@ -18,6 +24,8 @@ pub mod ImageSize
 pub mod ImproveLaws
 pub mod LineLaws
 pub mod MakeLaws
+pub mod MapLaws
+pub mod MapSize
 pub mod NoFitLaws
 pub mod PacketLaws
 pub mod PlacerLaws
@@ -36,6 +44,7 @@ pub mod TextExamples
 pub mod TextLaws
 pub mod VectorLaws
 pub mod VectorTexts
+pub mod VerifyLaws
 pub mod WaitingLaws
 pub mod WritingLaws
 pub mod sample

@@ -1,6 +1,8 @@
 -- What the back end built is what `compile` makes.
-use Rattle.std.proofs.Common.{◌≡◌, ◌≢◌, ℕ, ◌<◌, List, [], ◌∷◌, Option, Some, None, Result, Ok, Err, length, inl, refl, sym, subst, ◌∙◌}
-use Rattle.std.specs.Prelude.{All, IfErr, IfOk}
+use Rattle.std.proofs.Common.{◌≡◌, ◌≢◌, ℕ, ◌<◌, Bool, cond, List, [], ◌∷◌, Option, Some, None, Result, Ok, Err, length, inl, refl, sym, ap, subst, ◌∙◌}
+use Rattle.std.specs.Prelude.{All, IfErr, IfOk, is_some, option_map}
+use Rattle.std.specs.Option.{option_or}
+use Rattle.std.proofs.lemmas.Option.{none-some, same_Some}
 use Rattle.std.proofs.lemmas.List.Elements.{All-cons, All-nil}
 use Rattle.rmt_bits.specs.declared.lane.Lane.{Lane}
 use Rattle.rmt_ast.specs.declared.deps.Edge.{Edge}
@@ -24,16 +26,24 @@ use Rattle.rmt_refine.specs.RunsAs.{RunsAs}
 use Rattle.rmt_build.specs.declared.built.Built.{Built}
 use Rattle.rmt_build.specs.declared.fault.NoFit.{NoFit}
 use Rattle.rmt_build.specs.declared.fault.NoFit.TheVariants as no_fit
+use Rattle.rmt_build.specs.Folds.{first_deep}
 use Rattle.rmt_build.specs.Promises.{IsBounded, IsConfigOf, IsLaidOut, KeepsRules}
+use Rattle.rmt_build.specs.Refusals.{action_told, parser_told}
+use Rattle.rmt_phv.specs.Packing.{packing}
+use Rattle.rmt_ptcam.specs.declared.fault.ParserFault.{ParserFault}
+use Rattle.rmt_ptcam.specs.Needs.{refusal}
+use Rattle.rmt_verify.specs.Spelling.{spelled_map}
 use Rattle.rmt_core.specs.declared.placer.Placer.{Placer}
 use Rattle.rmt_core.specs.Files.{Files}
-use Rattle.rmt_core.specs.Given.{one_file, stored}
+use Rattle.rmt_core.specs.Given.{stored}
 use Rattle.rmt_core.specs.Compiling.{Builds, Compiles, Finish, Fitted, IsMadeBy, written}
 use Rattle.rmt_core.specs.CompileText.{compile_text}
-use Rattle.rmt_core.specs.Making.{AreOfTexts, IsBuilt, MakesImage}
+use Rattle.rmt_core.specs.Making.{AreOfTexts, IsBuilt, MakesFiles, image_and}
+use Rattle.rmt_core.specs.MapFiles.{Wanted, made_files, map_file}
 use Rattle.rmt_core.specs.NoFitText.{AreNodesOf}
-use Rattle.rmt_core.specs.Placers.{placed_by, refusal_by}
+use Rattle.rmt_core.specs.Placers.{placed_by, placing_refusal, refusal_by}
 use Rattle.rmt_core.proofs.ImageSize.{image_is_short}
+use Rattle.rmt_core.proofs.MapSize.{has_map_file}
 use Rattle.rmt_core.proofs.PlacerLaws.{few_stages}
 
 -- ---- the nodes of a bound
@@ -70,6 +80,11 @@ not_refused (Some fault) (Ok built) refused = absurd (never fault (refused fault
     never : (fault : NoFit) → (let x : Result Built NoFit = Ok built in x) ≢ Err fault
     never fault e = subst (λ (x : Result Built NoFit). IfErr x (λ _. ⊥)) e tt
 
+-- nor by the parser
+unrefused : (o : Option ParserFault) (rest : Option NoFit) → option_or (option_map parser_told o) rest ≡ None → o ≡ None
+unrefused None rest e = refl
+unrefused (Some fault) rest e = absurd (none-some (parser_told fault) (sym e))
+
 -- what the back end built is an image of the program with its entries
 pub is_built : (placer : Placer) (p : Program) (lists : List (List Entry)) (r : Result Built NoFit) → IsProgram p → (said : AreOfTexts p lists) → IsShortFor said.text p
     → ((m : Map) (c : Config) → Carries p lists m c → Formed c → RunsAs p lists c)
@@ -93,6 +108,7 @@ is_built placer p lists (Ok b) program said brief runs none carries config rules
         runs = runs b.map b.config carries config.formed;
         carries = carries;
         made_by = made;
+        map = has_map_file placer p lists b.map b.config program said carries made config.formed config.limits (unrefused (refusal p) (option_or (option_map action_told (first_deep 0 p.actions)) (placing_refusal placer p (packing p))) none);
         bounded = bounded;
         few_stages = few_stages placer p lists b.map b.config carries made;
       };
@@ -100,21 +116,40 @@ is_built placer p lists (Ok b) program said brief runs none carries config rules
 
 -- what is built is told of
 pub builds : (placer : Placer) (files : Files) (finish : Finish) (p : Program) (lists : List (List Entry)) (built : Built) → IsBuilt placer p lists built
-    → Builds placer files finish p lists (finish (spelled_image built.config) built.config built.bound)
+    → Builds placer files finish p lists (finish (spelled_image built.config) built.map built.config built.bound)
 builds placer files finish p lists built is =
-    let g = finish (spelled_image built.config) built.config built.bound in
+    let g = finish (spelled_image built.config) built.map built.config built.bound in
     subst (λ o. Fitted placer files finish p lists g o) (sym is.no_refusal)
     (inl (spelled_image built.config, built.map, built.config, built.bound, is.makes, refl))
 
--- its image and its lines are what a command makes that writes them
-pub built_image : (placer : Placer) (p : Program) (lists : List (List Entry)) (built : Built) (image lines : List ℕ) → IsBuilt placer p lists built
-    → image ≡ spelled_image built.config → lines ≡ compile_text p built.config built.bound → MakesImage placer p lists image lines
-built_image placer p lists built image lines is image_is lines_are files name =
-    subst (λ g. Compiles placer files name p lists g) (same image lines image_is lines_are) (builds placer files (written files name p) p lists built is)
+-- what is written under the names that are wanted
+files_are : (wanted : Wanted) (p : Program) (image : List ℕ) (m : Map) (map : Option (List ℕ)) → map ≡ cond (is_some wanted.map) (Some (spelled_map (map_file p m))) None
+    → made_files wanted p image m ≡ image_and wanted image map
+files_are wanted p image m map is = by wanted.map map is
   where
+    by : (o map : Option (List ℕ)) → map ≡ cond (is_some o) (Some (spelled_map (map_file p m))) None
+        → made_files (record { image = wanted.image; map = o }) p image m ≡ image_and (record { image = wanted.image; map = o }) image map
+    by None map e = refl
+    by (Some name) None e = absurd (none-some (spelled_map (map_file p m)) e)
+    by (Some name) (Some bytes) e =
+        let same : bytes ≡ spelled_map (map_file p m) = same_Some bytes (spelled_map (map_file p m)) e in
+        ap (λ b. record { name = wanted.image; bytes = image } ∷ record { name = name; bytes = b } ∷ []) (sym same)
+
+-- its image, its map and its lines are what a command makes that writes them
+pub built_files : (placer : Placer) (p : Program) (lists : List (List Entry)) (built : Built) (has_map : Bool) (image : List ℕ) (map : Option (List ℕ)) (lines : List ℕ) → IsBuilt placer p lists built
+    → image ≡ spelled_image built.config → map ≡ cond has_map (Some (spelled_map (map_file p built.map))) None → lines ≡ compile_text p built.config built.bound
+    → MakesFiles placer p lists has_map image map lines
+built_files placer p lists built has_map image map lines is image_is map_is lines_are files wanted wants =
+    subst (λ g. Compiles placer files wanted p lists g) (same image lines image_is lines_are) (builds placer files (written files wanted p) p lists built is)
+  where
+    file : made_files wanted p (spelled_image built.config) built.map ≡ image_and wanted (spelled_image built.config) map
+    file =
+        files_are wanted p (spelled_image built.config) built.map map
+        (map_is ∙ ap (λ b. cond b (Some (spelled_map (map_file p built.map))) None) (sym wants))
+
     same : (i l : List ℕ) → i ≡ spelled_image built.config → l ≡ compile_text p built.config built.bound
-        → written files name p (spelled_image built.config) built.config built.bound ≡ stored files (one_file name i) l
-    same i l e f = rw (e, f) refl
+        → written files wanted p (spelled_image built.config) built.map built.config built.bound ≡ stored files (image_and wanted i map) l
+    same i l e f = rw (e, f) (ap (λ writes. stored files writes (compile_text p built.config built.bound)) file)
 
 -- ---- the lines
 

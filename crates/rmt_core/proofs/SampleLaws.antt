@@ -48,10 +48,10 @@ chip_line_of n c text found line text_is found_is line_is =
 -- the line was told
 pub sample_answered : (shelf : ShelfState) (before after : SinkState) (n : ℕ) (p : Program) (lists : List (List Entry)) (built : Built) (result : Status)
     → IsBuilt ByRule p lists built → Tells before after (sample_line n p lists built.config) Done result
-    → Answered (outside shelf before) (outside shelf after) (Builds ByRule shelf.files (λ image c b. told shelf.files Done (sample_line n p lists c)) p lists) result
+    → Answered (outside shelf before) (outside shelf after) (Builds ByRule shelf.files (λ image m c b. told shelf.files Done (sample_line n p lists c)) p lists) result
 sample_answered shelf before after n p lists built result is t =
-    line_answered _ _ (Builds ByRule shelf.files (λ image c b. told shelf.files Done (sample_line n p lists c)) p lists) Done result (sample_line n p lists built.config)
-    (builds ByRule shelf.files (λ image c b. told shelf.files Done (sample_line n p lists c)) p lists built is) (λ _. refl) (inl refl) t
+    line_answered _ _ (Builds ByRule shelf.files (λ image m c b. told shelf.files Done (sample_line n p lists c)) p lists) Done result (sample_line n p lists built.config)
+    (builds ByRule shelf.files (λ image m c b. told shelf.files Done (sample_line n p lists c)) p lists built is) (λ _. refl) (inl refl) t
 
 -- what may come of telling it
 pub told_possible : (n : ℕ) {before after : SinkState} {line : List ℕ} {result : Status} → Tells before after line Done result → IsPossible (Sample n) result

@@ -1,5 +1,5 @@
 -- What `sim` prints of an image that `compile` or `improve` made is what `plain` prints of the program, and then the cycles and the flight.
-use Rattle.std.proofs.Common.{◌≡◌, ℕ, ◌+◌, ◌≤◌, List, [], ◌∷◌, ◌++◌, map, Option, Some, None, Ok, length, sym, refl, inl, inr, ap, ◌∙◌, append_assoc}
+use Rattle.std.proofs.Common.{◌≡◌, ◌≢◌, ℕ, ◌+◌, ◌≤◌, List, [], ◌∷◌, ◌++◌, map, Option, Some, None, Ok, length, sym, refl, inl, inr, ap, ◌∙◌, append_assoc}
 use Rattle.std.specs.Prelude.{All}
 use Rattle.std.specs.List.{flat_map}
 use Rattle.rmt_bits.specs.Packet.{IsPacket, Packet}
@@ -15,19 +15,23 @@ use Rattle.rmt_check.specs.Means.{Means}
 use Rattle.rmt_entries.specs.Entries.{entries_of}
 use Rattle.rmt_config.specs.ChipRun.{Outcome, chip_counts_of, cycles_of, flight_of, inputs_of, outcomes_of}
 use Rattle.rmt_config.specs.Spells.{Spells}
+use Rattle.rmt_refine.specs.declared.map.Map.{Map}
 use Rattle.rmt_refine.specs.RunsAs.{RunsAs, told_by_answer, told_by_outcome}
 use Rattle.rmt_build.specs.declared.fault.NoFit.{NoFit}
 use Rattle.rmt_packets.specs.AnswerLine.{answer_line}
+use Rattle.rmt_verify.specs.Spelling.{spelled_map}
 use Rattle.rmt_packets.specs.PacketText.{BadLine, Reading, packets_of}
 use Rattle.rmt_core.specs.declared.placer.Placer.{Placer}
 use Rattle.rmt_core.specs.declared.placer.Placer.TheVariants.{ByRule, ByTries}
 use Rattle.rmt_core.specs.declared.status.Status.TheVariants.{Done}
 use Rattle.rmt_core.specs.declared.watch.Watch.TheVariants as watch
+use Rattle.rmt_core.specs.Commands.{Command}
 use Rattle.rmt_core.specs.Compiling.{Compiles, Fitted, GivesImage, Loaded, written}
-use Rattle.rmt_core.specs.Files.{Files, entries_limit, image_limit, packets_limit, program_limit}
+use Rattle.rmt_core.specs.Files.{Files, all_written, entries_limit, image_limit, packets_limit, program_limit, updated}
 use Rattle.rmt_core.specs.Given.{Given, Opens, Reads}
 use Rattle.rmt_core.specs.Gives.{Gives}
-use Rattle.rmt_core.specs.Headline.{IsWithin, SimPrintsPlain, image_command}
+use Rattle.rmt_core.specs.Headline.{IsWithin, SimPrintsPlain, WritesImage, by_compile, by_compile_map, by_improve}
+use Rattle.rmt_core.specs.MapFiles.{Wanted, made_files, map_file}
 use Rattle.rmt_core.specs.Placers.{refusal_by}
 use Rattle.rmt_core.specs.EventText.{EventReading, events_of, with_changes}
 use Rattle.rmt_core.specs.PlainText.{GivesPlain, RunsPlain, plain_end, plain_lines, plain_text}
@@ -40,7 +44,7 @@ use Rattle.rmt_core.proofs.GivenOnce.{OneMeaning}
 use Rattle.rmt_core.proofs.GivenDone.{RanToEnd, Understood, opened_there, ran_to_end, read_within, run_done, spelled_is, understood, was_opened, was_read, was_understood}
 use Rattle.rmt_core.proofs.EventTextLaws.{packets_are_events}
 use Rattle.rmt_core.proofs.PacketLaws.{text_says_packets}
-use Rattle.rmt_core.proofs.WritingLaws.{updated_same}
+use Rattle.rmt_core.proofs.WritingLaws.{updated_other, updated_same}
 
 -- ---- the texts
 
@@ -95,47 +99,59 @@ record IsMade (p : Program) (lists : List (List Entry)) (file : Option (List ℕ
   spells : Spells bytes config
   runs : RunsAs p lists config
 
-module _ (placer : Placer) (p : Program) (lists : List (List Entry)) (files : Files) (name : List ℕ) (g : Given) (done : g.status ≡ Done) where
-  loaded_done : Loaded placer files (written files name p) p lists g → IsMade p lists (g.files name)
+-- a map is not written over the image
+abbrev IsApart : List ℕ → Option (List ℕ) → Type 0
+IsApart image None = Unit {0}
+IsApart image (Some map) = map ≢ image
+
+-- so the image stands
+image_stands : (files : Files) (p : Program) (name bytes : List ℕ) (m : Map) (map : Option (List ℕ)) → IsApart name map
+    → all_written files (made_files (record { image = name; map = map }) p bytes m) name ≡ Some bytes
+image_stands files p name bytes m None apart = updated_same files name bytes
+image_stands files p name bytes m (Some map) apart =
+    updated_other (updated files name bytes) map (spelled_map (map_file p m)) name apart ∙ updated_same files name bytes
+
+module _ (placer : Placer) (p : Program) (lists : List (List Entry)) (files : Files) (wanted : Wanted) (apart : IsApart wanted.image wanted.map) (g : Given) (done : g.status ≡ Done) where
+  loaded_done : Loaded placer files (written files wanted p) p lists g → IsMade p lists (g.files wanted.image)
   loaded_done (inl x) = record {
     bytes = x.0;
     config = x.2;
-    stands = ap (λ (k : Given). k.files name) x.5 ∙ updated_same files name x.0;
+    stands = ap (λ (k : Given). k.files wanted.image) x.5 ∙ image_stands files p wanted.image x.0 x.1 wanted.map apart;
     short = x.4.short;
     spells = x.4.spells;
     runs = x.4.runs;
   }
   loaded_done (inr x) = absurd (let e = sym (ap (λ (k : Given). k.status) x.2) ∙ done in cc)
 
-  fitted_done : (o : Option NoFit) → Fitted placer files (written files name p) p lists g o → IsMade p lists (g.files name)
+  fitted_done : (o : Option NoFit) → Fitted placer files (written files wanted p) p lists g o → IsMade p lists (g.files wanted.image)
   fitted_done None h = loaded_done h
   fitted_done (Some fault) h = absurd (let e = sym (ap (λ (k : Given). k.status) h) ∙ done in cc)
 
-  compiled : Compiles placer files name p lists g → IsMade p lists (g.files name)
+  compiled : Compiles placer files wanted p lists g → IsMade p lists (g.files wanted.image)
   compiled h = fitted_done (refusal_by placer p) h
 
 -- the two texts, and what was made of them
-record Compiled (placer : Placer) (files : Files) (program entries image : List ℕ) (g : Given) : Type 0 where
+record Compiled (placer : Placer) (files : Files) (program entries : List ℕ) (wanted : Wanted) (g : Given) : Type 0 where
   text : List ℕ
   entry_text : List ℕ
   has_text : IsWithin files program program_limit text
   has_entries : IsWithin files entries entries_limit entry_text
-  meant : Understood text entry_text (Compiles placer files image) g
-  made : IsMade meant.program meant.lists (g.files image)
+  meant : Understood text entry_text (Compiles placer files wanted) g
+  made : IsMade meant.program meant.lists (g.files wanted.image)
 
-was_compiled : (placer : Placer) (files : Files) (program entries image : List ℕ) (g : Given) → g.status ≡ Done → GivesImage placer files program entries image g
-    → Compiled placer files program entries image g
-was_compiled placer files program entries image g done h =
-    let first = was_read files program program_limit (λ text. Reads files entries entries_limit (λ entry_text. Understands files text entry_text (Compiles placer files image))) g done h in
-    let second = was_read files entries entries_limit (λ entry_text. Understands files first.bytes entry_text (Compiles placer files image)) g done first.then in
-    let meant = was_understood files first.bytes second.bytes (Compiles placer files image) g done second.then in
+was_compiled : (placer : Placer) (files : Files) (program entries : List ℕ) (wanted : Wanted) → IsApart wanted.image wanted.map → (g : Given) → g.status ≡ Done → GivesImage placer files program entries wanted g
+    → Compiled placer files program entries wanted g
+was_compiled placer files program entries wanted apart g done h =
+    let first = was_read files program program_limit (λ text. Reads files entries entries_limit (λ entry_text. Understands files text entry_text (Compiles placer files wanted))) g done h in
+    let second = was_read files entries entries_limit (λ entry_text. Understands files first.bytes entry_text (Compiles placer files wanted)) g done first.then in
+    let meant = was_understood files first.bytes second.bytes (Compiles placer files wanted) g done second.then in
     record {
       text = first.bytes;
       entry_text = second.bytes;
       has_text = first.within;
       has_entries = second.within;
       meant = meant;
-      made = compiled placer meant.program meant.lists files image g done meant.then;
+      made = compiled placer meant.program meant.lists files wanted apart g done meant.then;
     }
 
 -- ---- the runs
@@ -171,14 +187,22 @@ later_within files later name bytes limit same w = record { is_there = same ∙ 
 
 -- ---- the law
 
--- what a command that writes an image gives
-given_image : (placer : Placer) (files : Files) (program entries image : List ℕ) (g : Given) → Gives files (image_command placer program entries image) g → GivesImage placer files program entries image g
-given_image ByRule files program entries image g h = h
-given_image (ByTries budget) files program entries image g h = h
+-- how a command writes an image
+record Maker (files : Files) (program entries image : List ℕ) (g : Given) : Type 0 where
+  placer : Placer
+  map : Option (List ℕ)
+  apart : IsApart image map
+  gives : GivesImage placer files program entries (record { image = image; map = map }) g
+
+maker : (files : Files) (program entries image : List ℕ) (g : Given) {command : Command} → WritesImage program entries image command → Gives files command g → Maker files program entries image g
+maker files program entries image g by_compile h = record { placer = ByRule; map = None; apart = tt; gives = h }
+maker files program entries image g (by_compile_map map apart) h = record { placer = ByRule; map = Some map; apart = apart; gives = h }
+maker files program entries image g (by_improve budget) h = record { placer = ByTries budget; map = None; apart = tt; gives = h }
 
 pub sim_prints_plain : OneMeaning → SimPrintsPlain
-sim_prints_plain one placer files later program entries image packets made simulated run compiles done same_image same_program same_entries simulates sim_done plains =
-    let c = was_compiled placer files program entries image made done (given_image placer files program entries image made compiles) in
+sim_prints_plain one command files later program entries image packets made simulated run writes compiles done same_image same_program same_entries simulates sim_done plains =
+    let how = maker files program entries image made writes compiles in
+    let c = was_compiled how.placer files program entries (record { image = image; map = how.map }) how.apart made done how.gives in
     let within : IsWithin later image image_limit c.made.bytes = record { is_there = same_image ∙ c.made.stands; is_short = c.made.short } in
     let s = simulated_is later image packets c.made.bytes c.made.config simulated sim_done within c.made.spells simulates in
     let r = plain_run one later program entries packets c.text c.entry_text s.text c.meant.program c.meant.lists run (later_within files later program c.text program_limit same_program c.has_text)

@@ -2,13 +2,14 @@
 use Rattle.std.specs.Prelude.{◌≡◌, ◌∷◌, [], true, false, codes, refl, Some, None}
 use Rattle.std.specs.Fmt.{digits}
 use Rattle.rmt_core.specs.declared.status.Status.TheVariants.{BadPackets, Done, TooLong}
-use Rattle.rmt_core.specs.Commands.{Report, Sample, command_of, sample_number_of}
+use Rattle.rmt_core.specs.Commands.{Report, Sample, Verify, command_of, sample_number_of}
 use Rattle.rmt_core.specs.CompileText.{minimal_line}
 use Rattle.rmt_core.specs.Files.{Absent, Holds, Long, found}
 use Rattle.rmt_core.specs.NoFitText.{hit_text}
 use Rattle.rmt_core.specs.Runs.{run_status}
 use Rattle.rmt_core.specs.Sampling.{counts_line}
 use Rattle.rmt_core.specs.Texts.{bad_entries_line, bad_program_line}
+use Rattle.rmt_core.specs.Verifying.{answer_line}
 
 pub a_bad_program : bad_program_line 8 1 8 ≡ codes "bad program 8 line 1 column 8\n"
 unfolding digits
@@ -26,6 +27,10 @@ pub a_sample : counts_line 1000 2000 1000 1000 24000 1 2012 ≡ codes "sample 10
 unfolding digits
 a_sample = refl
 
+pub a_failing_part : answer_line (Some 4) ≡ codes "no 4\n"
+unfolding digits
+a_failing_part = refl
+
 pub not_minimal : minimal_line false ≡ codes "minimal no\n"
 not_minimal = refl
 
@@ -41,6 +46,9 @@ one_too_many = refl
 
 pub a_report : command_of (codes "report" ∷ codes "i" ∷ []) ≡ Some (Report (codes "i"))
 a_report = refl
+
+pub a_check : command_of (codes "verify" ∷ codes "p" ∷ codes "e" ∷ codes "i" ∷ codes "m" ∷ []) ≡ Some (Verify (codes "p") (codes "e") (codes "i") (codes "m"))
+a_check = refl
 
 pub one_file_too_few : command_of (codes "sim" ∷ codes "i" ∷ []) ≡ None
 one_file_too_few = refl

@@ -24,7 +24,7 @@ updated_as files after name bytes is others other = by (bytes_eq other name) ref
     by true e = let same : other ≡ name = (bytes_eq-Decides other name).0 e in rw (same) (is ∙ sym (updated_same files name bytes))
     by false e = rw e (others other (λ same. let yes : bytes_eq other name ≡ true = (bytes_eq-Decides other name).1 same in cc))
 
-updated_other : (files : Files) (name bytes other : List ℕ) → name ≢ other → updated files name bytes other ≡ files other
+pub updated_other : (files : Files) (name bytes other : List ℕ) → name ≢ other → updated files name bytes other ≡ files other
 updated_other files name bytes other not = by (bytes_eq other name) refl
   where
     by : (b : Bool) → bytes_eq other name ≡ b → updated files name bytes other ≡ files other

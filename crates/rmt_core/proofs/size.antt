@@ -11,3 +11,7 @@ pub mod Stages
 pub mod Bytes
 pub mod Distinct
 pub mod Numbers
+pub mod Places
+pub mod Joins
+pub mod Parts
+pub mod Told

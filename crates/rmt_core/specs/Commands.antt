@@ -12,6 +12,7 @@ use Rattle.rmt_core.specs.Ends.{IsOfOutside}
 -- a command, with the names of its files; `sample` reads none
 pub data Command : Type 0 where
   Compile : (program entries image : List ℕ) → Command
+  CompileMap : (program entries image map : List ℕ) → Command
   Improve : (program entries image : List ℕ) (budget : ℕ) → Command
   Sim : (image packets : List ℕ) → Command
   Probe : (image packets : List ℕ) (cycle : ℕ) → Command
@@ -19,6 +20,7 @@ pub data Command : Type 0 where
   Report : (image : List ℕ) → Command
   Sample : (number : ℕ) → Command
   Switch : (image groups capture out : List ℕ) (every : ℕ) → Command
+  Verify : (program entries image map : List ℕ) → Command
 
 -- decimal digits, at least one and at most so many
 abbrev pub is_number : ℕ → List ℕ → Bool
@@ -43,6 +45,10 @@ is_budget n = nat_le 1 n && nat_le n 1000
 -- the budget that 1 to 4 decimal digits say
 abbrev pub budget_of : List ℕ → Option ℕ
 budget_of word = if is_number 4 word && is_budget (number_of_digits 10 word) then Some (number_of_digits 10 word) else None
+
+-- a compile command with a map, where image and map are not one word
+abbrev pub compile_of : List ℕ → List ℕ → List ℕ → List ℕ → Option Command
+compile_of program entries image map = if bytes_eq image map then None else Some (CompileMap program entries image map)
 
 -- a probe command, where its last word is a cycle
 abbrev pub probe_of : List ℕ → List ℕ → Option ℕ → Option Command
@@ -72,7 +78,9 @@ with_five word first second third fourth fifth =
 -- the command of a word with four words behind it
 abbrev pub with_four : List ℕ → List ℕ → List ℕ → List ℕ → List ℕ → Option Command
 with_four word first second third fourth =
-    if bytes_eq word (codes "improve") then improve_of first second third (budget_of fourth) else None
+    if bytes_eq word (codes "compile") then compile_of first second third fourth
+    else (if bytes_eq word (codes "improve") then improve_of first second third (budget_of fourth)
+    else (if bytes_eq word (codes "verify") then Some (Verify first second third fourth) else None))
 
 -- the command of a word with three words behind it
 abbrev pub with_three : List ℕ → List ℕ → List ℕ → List ℕ → Option Command
@@ -87,8 +95,9 @@ with_one word first =
     if bytes_eq word (codes "report") then Some (Report first)
     else (if bytes_eq word (codes "sample") then option_map Sample (sample_number_of first) else None)
 
--- the command that words are: `compile PROGRAM ENTRIES IMAGE`, `improve PROGRAM ENTRIES IMAGE BUDGET`, `sim IMAGE PACKETS`,
--- `probe IMAGE PACKETS CYCLE`, `plain PROGRAM ENTRIES PACKETS`, `report IMAGE`, `sample N` or `switch IMAGE GROUPS CAPTURE OUT EVERY`
+-- the command that words are: `compile PROGRAM ENTRIES IMAGE`, `compile PROGRAM ENTRIES IMAGE MAP`, `improve PROGRAM ENTRIES IMAGE BUDGET`, `sim IMAGE PACKETS`,
+-- `probe IMAGE PACKETS CYCLE`, `plain PROGRAM ENTRIES PACKETS`, `report IMAGE`, `sample N`, `switch IMAGE GROUPS CAPTURE OUT EVERY`
+-- or `verify PROGRAM ENTRIES IMAGE MAP`
 abbrev pub command_of : List (List ℕ) → Option Command
 command_of (word ∷ first ∷ second ∷ third ∷ fourth ∷ fifth ∷ []) = with_five word first second third fourth fifth
 command_of (word ∷ first ∷ second ∷ third ∷ fourth ∷ []) = with_four word first second third fourth
@@ -105,6 +114,7 @@ IfCommand (Some command) P = P command
 -- the command writes files
 abbrev pub WritesFiles : Command → Type 0
 WritesFiles (Compile program entries image) = Unit {0}
+WritesFiles (CompileMap program entries image map) = Unit {0}
 WritesFiles (Improve program entries image budget) = Unit {0}
 WritesFiles (Sim image packets) = ⊥
 WritesFiles (Probe image packets cycle) = ⊥
@@ -112,10 +122,12 @@ WritesFiles (Plain program entries packets) = ⊥
 WritesFiles (Report image) = ⊥
 WritesFiles (Sample number) = ⊥
 WritesFiles (Switch image groups capture out every) = Unit {0}
+WritesFiles (Verify program entries image map) = ⊥
 
 -- it prints nothing before it has all that it prints
 abbrev pub PrintsAtEnd : Command → Type 0
 PrintsAtEnd (Compile program entries image) = Unit {0}
+PrintsAtEnd (CompileMap program entries image map) = Unit {0}
 PrintsAtEnd (Improve program entries image budget) = Unit {0}
 PrintsAtEnd (Sim image packets) = ⊥
 PrintsAtEnd (Probe image packets cycle) = ⊥
@@ -123,10 +135,12 @@ PrintsAtEnd (Plain program entries packets) = ⊥
 PrintsAtEnd (Report image) = Unit {0}
 PrintsAtEnd (Sample number) = Unit {0}
 PrintsAtEnd (Switch image groups capture out every) = Unit {0}
+PrintsAtEnd (Verify program entries image map) = Unit {0}
 
 -- it reads no file
 abbrev pub ReadsNone : Command → Type 0
 ReadsNone (Compile program entries image) = ⊥
+ReadsNone (CompileMap program entries image map) = ⊥
 ReadsNone (Improve program entries image budget) = ⊥
 ReadsNone (Sim image packets) = ⊥
 ReadsNone (Probe image packets cycle) = ⊥
@@ -134,6 +148,7 @@ ReadsNone (Plain program entries packets) = ⊥
 ReadsNone (Report image) = ⊥
 ReadsNone (Sample number) = Unit {0}
 ReadsNone (Switch image groups capture out every) = ⊥
+ReadsNone (Verify program entries image map) = ⊥
 
 -- the answers of a program text and an entry text, and of what they say
 abbrev pub IsOfTexts : Status → Type 0
@@ -142,6 +157,7 @@ IsOfTexts status = (status ≡ Done) ⊎ (status ≡ BadProgram) ⊎ (status ≡
 -- the answers of files that a command may have
 abbrev pub IsOf : Command → Status → Type 0
 IsOf (Compile program entries image) status = IsOfTexts status
+IsOf (CompileMap program entries image map) status = IsOfTexts status
 IsOf (Improve program entries image budget) status = IsOfTexts status
 IsOf (Sim image packets) status = (status ≡ Done) ⊎ (status ≡ BadImage) ⊎ (status ≡ BadPackets) ⊎ (status ≡ TooLong)
 IsOf (Probe image packets cycle) status = (status ≡ Done) ⊎ (status ≡ BadImage) ⊎ (status ≡ BadPackets) ⊎ (status ≡ TooLong)
@@ -149,6 +165,7 @@ IsOf (Plain program entries packets) status = (status ≡ Done) ⊎ (status ≡ 
 IsOf (Report image) status = (status ≡ Done) ⊎ (status ≡ BadImage) ⊎ (status ≡ TooLong)
 IsOf (Sample number) status = (status ≡ Done) ⊎ (status ≡ NoFit)
 IsOf (Switch image groups capture out every) status = (status ≡ Done) ⊎ (status ≡ BadEntries) ⊎ (status ≡ BadImage) ⊎ (status ≡ BadPackets) ⊎ (status ≡ TooLong)
+IsOf (Verify program entries image map) status = (status ≡ Done) ⊎ (status ≡ BadProgram) ⊎ (status ≡ BadEntries) ⊎ (status ≡ BadImage) ⊎ (status ≡ TooLong)
 
 -- those of the outside or of want of memory; `sample` reads no file
 abbrev pub IsOutside : Command → Status → Type 0

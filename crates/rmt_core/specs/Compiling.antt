@@ -1,4 +1,4 @@
--- What `compile` and `improve` give: the image of a configuration that answers as the program does, or why there is none.
+-- What `compile` and `improve` give: the image of a configuration that answers as the program does, and its map where it is wanted, or why there is none.
 use Rattle.std.specs.Prelude.{◌≡◌, ◌≤◌, ◌⊎◌, ℕ, List, Option, Some, None, Ok, length}
 use Rattle.rmt_core.specs.Types.{Program, Config}
 use Rattle.rmt_ast.specs.declared.entry.Entry.{Entry}
@@ -17,7 +17,8 @@ use Rattle.rmt_core.specs.declared.placer.Placer.{Placer}
 use Rattle.rmt_core.specs.declared.placer.Placer.TheVariants.{ByRule, ByTries}
 use Rattle.rmt_core.specs.declared.status.Status.TheVariants as status
 use Rattle.rmt_core.specs.Files.{Files, entries_limit, image_limit, program_limit}
-use Rattle.rmt_core.specs.Given.{Given, Reads, one_file, stored, told}
+use Rattle.rmt_core.specs.Given.{Given, Reads, stored, told}
+use Rattle.rmt_core.specs.MapFiles.{HasMapFile, Wanted, image_alone, made_files, with_map}
 use Rattle.rmt_core.specs.Placers.{HasFewStages, IsPlacedBy, placed_by, refusal_by}
 use Rattle.rmt_core.specs.Texts.{Understands}
 use Rattle.rmt_core.specs.NoFitText.{no_fit_line}
@@ -31,8 +32,8 @@ pub record IsMadeBy (placer : Placer) (p : Program) (lists : List (List Entry)) 
   pub layout : IsLaidOut p lists m c
 
 -- The image spells one configuration within every limit, with the names of the program and its entries. As the map
--- tells, it carries the program with its entries and is made so; and for every list of packets its chip run gives the
--- verdicts, bytes and counters of the plain run. Its placement is legal, the bound is that of the program, no legal placement
+-- tells, which has a spelling of few bytes, it carries the program with its entries and is made so; and for every list of
+-- packets its chip run gives the verdicts, bytes and counters of the plain run. Its placement is legal, the bound is that of the program, no legal placement
 -- uses fewer stages than it, and there are never more stages than by the rule.
 pub record Makes (placer : Placer) (p : Program) (lists : List (List Entry)) (image : List ℕ) (m : Map) (c : Config) (b : Bound) : Type 0 where
   pub spells : Spells image c
@@ -41,6 +42,7 @@ pub record Makes (placer : Placer) (p : Program) (lists : List (List Entry)) (im
   pub runs : RunsAs p lists c
   pub carries : Carries p lists m c
   pub made_by : IsMadeBy placer p lists m c
+  pub map : HasMapFile p m
   pub bounded : IsBounded p m b
   pub few_stages : HasFewStages p m.places c
 
@@ -56,12 +58,12 @@ pub record IsFull (placer : Placer) (p : Program) (lists : List (List Entry)) (l
 
 -- how a command tells of what it made
 abbrev pub Finish : Type 0
-Finish = (image : List ℕ) → Config → Bound → Given
+Finish = (image : List ℕ) → Map → Config → Bound → Given
 
 -- what is made of a program with its entries, of which a command tells, or the last line for tables that don't load
 abbrev pub Loaded : Placer → Files → Finish → Program → List (List Entry) → Given → Type 0
 Loaded placer files finish p lists g =
-    ((image : List ℕ) × (m : Map) × (c : Config) × (b : Bound) × Makes placer p lists image m c b × (g ≡ finish image c b))
+    ((image : List ℕ) × (m : Map) × (c : Config) × (b : Bound) × Makes placer p lists image m c b × (g ≡ finish image m c b))
     ⊎ ((line : List ℕ) × IsFull placer p lists line × (g ≡ told files status.NoFit line))
 
 -- a refusal before loading ends it
@@ -73,24 +75,28 @@ Fitted placer files finish p lists g None = Loaded placer files finish p lists g
 abbrev pub Builds : Placer → Files → Finish → Program → List (List Entry) → Given → Type 0
 Builds placer files finish p lists g = Fitted placer files finish p lists g (refusal_by placer p)
 
--- the image stands under a name, and its lines are printed
-abbrev pub written : Files → List ℕ → Program → List ℕ → Config → Bound → Given
-written files name p image c b = stored files (one_file name image) (compile_text p c b)
+-- the files that are wanted stand, and the lines are printed
+abbrev pub written : Files → Wanted → Program → List ℕ → Map → Config → Bound → Given
+written files wanted p image m c b = stored files (made_files wanted p image m) (compile_text p c b)
 
-abbrev pub Compiles : Placer → Files → List ℕ → Program → List (List Entry) → Given → Type 0
-Compiles placer files name p lists g = Builds placer files (written files name p) p lists g
+abbrev pub Compiles : Placer → Files → Wanted → Program → List (List Entry) → Given → Type 0
+Compiles placer files wanted p lists g = Builds placer files (written files wanted p) p lists g
 
 -- a command that writes the image of a program text with an entry text
-abbrev pub GivesImage : Placer → Files → List ℕ → List ℕ → List ℕ → Given → Type 0
-GivesImage placer files program entries image =
+abbrev pub GivesImage : Placer → Files → List ℕ → List ℕ → Wanted → Given → Type 0
+GivesImage placer files program entries wanted =
     Reads files program program_limit (λ text.
     Reads files entries entries_limit (λ entry_text.
-    Understands files text entry_text (Compiles placer files image)))
+    Understands files text entry_text (Compiles placer files wanted)))
 
 -- `compile PROGRAM ENTRIES IMAGE`: nodes are placed by the rule
 abbrev pub GivesCompile : Files → List ℕ → List ℕ → List ℕ → Given → Type 0
-GivesCompile files program entries image = GivesImage ByRule files program entries image
+GivesCompile files program entries image = GivesImage ByRule files program entries (image_alone image)
+
+-- `compile PROGRAM ENTRIES IMAGE MAP`: the same, and the map behind the image
+abbrev pub GivesCompileMap : Files → List ℕ → List ℕ → List ℕ → List ℕ → Given → Type 0
+GivesCompileMap files program entries image map = GivesImage ByRule files program entries (with_map image map)
 
 -- `improve PROGRAM ENTRIES IMAGE BUDGET`: nodes are placed as the best of so many tries does
 abbrev pub GivesImprove : Files → List ℕ → List ℕ → List ℕ → ℕ → Given → Type 0
-GivesImprove files program entries image budget = GivesImage (ByTries budget) files program entries image
+GivesImprove files program entries image budget = GivesImage (ByTries budget) files program entries (image_alone image)

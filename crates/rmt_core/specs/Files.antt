@@ -29,7 +29,7 @@ abbrev pub found : ℕ → Option (List ℕ) → Found
 found limit None = Absent
 found limit (Some bytes) = if nat_lt limit (length bytes) then Long else Holds bytes
 
--- how many bytes a program text, an entry text, an image, a group text, a capture file and a packet text may have
+-- how many bytes a program text, an entry text, an image, a map, a group text, a capture file and a packet text may have
 abbrev pub program_limit : ℕ
 program_limit = 1048576
 
@@ -38,6 +38,9 @@ entries_limit = 67108864
 
 abbrev pub image_limit : ℕ
 image_limit = 268435456
+
+abbrev pub map_limit : ℕ
+map_limit = 268435456
 
 abbrev pub groups_limit : ℕ
 groups_limit = 1048576

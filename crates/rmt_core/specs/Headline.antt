@@ -1,5 +1,5 @@
 -- What the answers to several commands have to do with one another.
-use Rattle.std.specs.Prelude.{◌≡◌, ◌≤◌, ◌<◌, ◌⊎◌, ◌↔◌, ℕ, List, None, Some, Ok, ◌++◌, length}
+use Rattle.std.specs.Prelude.{◌≡◌, ◌≢◌, ◌≤◌, ◌<◌, ◌⊎◌, ◌↔◌, ℕ, List, None, Some, Ok, ◌++◌, length}
 use Rattle.rmt_core.specs.Types.{Program, Config}
 use Rattle.rmt_ast.specs.declared.entry.Entry.{Entry}
 use Rattle.rmt_bits.specs.Lines.{numbered_lines}
@@ -12,6 +12,8 @@ use Rattle.rmt_packets.specs.PacketText.{packets_of}
 use Rattle.rmt_pcap.specs.declared.capture.Capture.{Capture}
 use Rattle.rmt_pcap.specs.Captures.{capture_of}
 use Rattle.rmt_switch.specs.GroupText.{groups_of}
+use Rattle.rmt_verify.specs.Spells.{Spells as SpellsMap}
+use Rattle.rmt_verify.specs.declared.map_file.MapFile.{MapFile}
 use Rattle.rmt_build.specs.declared.fault.NoFit.{NoFit}
 use Rattle.rmt_build.specs.declared.fault.NoFit.TheVariants.{Load}
 use Rattle.rmt_build.specs.Loads.{AreLoaded}
@@ -19,11 +21,11 @@ use Rattle.rmt_core.specs.declared.placer.Placer.{Placer}
 use Rattle.rmt_core.specs.declared.placer.Placer.TheVariants.{ByRule, ByTries}
 use Rattle.rmt_core.specs.declared.status.Status.{Status}
 use Rattle.rmt_core.specs.declared.status.Status.TheVariants.{Done, ReadFault, NoMemory}
-use Rattle.rmt_core.specs.Commands.{Command, Compile, Improve, Sim, Probe, Plain, Report, Sample, Switch}
+use Rattle.rmt_core.specs.Commands.{Command, Compile, CompileMap, Improve, Sim, Probe, Plain, Report, Sample, Switch, Verify}
 use Rattle.rmt_core.specs.CompileText.{compile_text}
 use Rattle.rmt_core.specs.EventText.{events_of}
 use Rattle.rmt_core.specs.Ends.{Answered, AreSame, Outside}
-use Rattle.rmt_core.specs.Files.{Files, capture_limit, entries_limit, groups_limit, image_limit, packets_limit, program_limit}
+use Rattle.rmt_core.specs.Files.{Files, capture_limit, entries_limit, groups_limit, image_limit, map_limit, packets_limit, program_limit}
 use Rattle.rmt_core.specs.Given.{Given}
 use Rattle.rmt_core.specs.Gives.{Gives}
 use Rattle.rmt_core.specs.NoFitText.{no_fit_line}
@@ -31,17 +33,18 @@ use Rattle.rmt_core.specs.Placers.{IsPlacedBy, refusal_by}
 use Rattle.rmt_core.specs.Sampling.{AreOfSample}
 use Rattle.rmt_core.specs.SimText.{cycles_line, flight_line}
 
--- the command that writes an image of a program whose nodes are placed so
-abbrev pub image_command : Placer → List ℕ → List ℕ → List ℕ → Command
-image_command ByRule program entries image = Compile program entries image
-image_command (ByTries budget) program entries image = Improve program entries image budget
+-- a command that writes an image of these texts, and no map over it
+pub data WritesImage (program entries image : List ℕ) : Command → Type 0 where
+  by_compile : WritesImage program entries image (Compile program entries image)
+  by_compile_map : (map : List ℕ) → map ≢ image → WritesImage program entries image (CompileMap program entries image map)
+  by_improve : (budget : ℕ) → WritesImage program entries image (Improve program entries image budget)
 
 -- After Done of `compile` or `improve`, and over files in which its image stands, `sim` of that image with Done prints
 -- what `plain` of the program and entries prints for the same packets, and then its cycles and its flight.
 abbrev pub SimPrintsPlain : Type 0
 SimPrintsPlain =
-    (placer : Placer) (files later : Files) (program entries image packets : List ℕ) (made simulated run : Given)
-    → Gives files (image_command placer program entries image) made → made.status ≡ Done
+    (command : Command) (files later : Files) (program entries image packets : List ℕ) (made simulated run : Given)
+    → WritesImage program entries image command → Gives files command made → made.status ≡ Done
     → later image ≡ made.files image → later program ≡ files program → later entries ≡ files entries
     → Gives later (Sim image packets) simulated → simulated.status ≡ Done
     → Gives later (Plain program entries packets) run
@@ -63,6 +66,18 @@ abbrev pub GivesOne : Type 0
 GivesOne =
     (files : Files) (command : Command) (g h : Given) → Gives files command g → Gives files command h
     → (g.status ≡ h.status) × ((g.text ≡ h.text) ⊎ OtherNumbers g.text h.text)
+
+-- with a map `compile` gives what it gives without one, and all files but the map stand as then
+pub record GivesBeside (files : Files) (program entries image map : List ℕ) (g : Given) : Type 0 where
+  pub alone : Given
+  pub is_given : Gives files (Compile program entries image) alone
+  pub status : g.status ≡ alone.status
+  pub text : g.text ≡ alone.text
+  pub others : (name : List ℕ) → name ≢ map → g.files name ≡ alone.files name
+
+abbrev pub MapIsBeside : Type 0
+MapIsBeside =
+    (files : Files) (program entries image map : List ℕ) (g : Given) → Gives files (CompileMap program entries image map) g → GivesBeside files program entries image map g
 
 -- with one try `improve` gives what `compile` gives
 abbrev pub OneTryIsCompile : Type 0
@@ -150,6 +165,13 @@ pub record IsImage (files : Files) (name : List ℕ) : Type 0 where
   pub has_bytes : IsWithin files name image_limit bytes
   pub spells : Spells bytes config
 
+-- the bytes of a map
+pub record IsMapFile (files : Files) (name : List ℕ) : Type 0 where
+  pub bytes : List ℕ
+  pub map : MapFile
+  pub has_bytes : IsWithin files name map_limit bytes
+  pub spells : SpellsMap bytes map
+
 -- two texts of which an image can be made
 abbrev pub CanBeMade : Placer → Files → List ℕ → List ℕ → Type 0
 CanBeMade placer files program entries =
@@ -158,12 +180,14 @@ CanBeMade placer files program entries =
 -- what files must be that a command gives Done
 abbrev pub IsReady : Files → Command → Type 0
 IsReady files (Compile program entries image) = CanBeMade ByRule files program entries
+IsReady files (CompileMap program entries image map) = CanBeMade ByRule files program entries
 IsReady files (Improve program entries image budget) = CanBeMade (ByTries budget) files program entries
 IsReady files (Sim image packets) = IsImage files image × IsGoodText files packets
 IsReady files (Probe image packets cycle) = IsImage files image × IsGoodText files packets
 IsReady files (Plain program entries packets) = (p : Program) × (lists : List (List Entry)) × MeanBoth files program entries p lists × IsGoodRun p lists files packets
 IsReady files (Report image) = IsImage files image
 IsReady files (Switch image groups capture out every) = IsImage files image × AreGoodGroups files groups × IsGoodCapture files capture
+IsReady files (Verify program entries image map) = (p : Program) × (lists : List (List Entry)) × MeanBoth files program entries p lists × IsImage files image × IsMapFile files map
 IsReady files (Sample number) = (p : Program) × (lists : List (List Entry)) × AreOfSample number p lists × Fits ByRule p lists
 
 abbrev pub IsComplete : Type 0
@@ -174,6 +198,7 @@ IsComplete = (files : Files) (command : Command) (g : Given) → IsReady files c
 -- the command writes more than one file
 abbrev pub WritesSeveral : Command → Type 0
 WritesSeveral (Compile program entries image) = ⊥
+WritesSeveral (CompileMap program entries image map) = Unit {0}
 WritesSeveral (Improve program entries image budget) = ⊥
 WritesSeveral (Sim image packets) = ⊥
 WritesSeveral (Probe image packets cycle) = ⊥
@@ -181,6 +206,7 @@ WritesSeveral (Plain program entries packets) = ⊥
 WritesSeveral (Report image) = ⊥
 WritesSeveral (Sample number) = ⊥
 WritesSeveral (Switch image groups capture out every) = Unit {0}
+WritesSeveral (Verify program entries image map) = ⊥
 
 -- any other one that ends for want of memory, or by a fault of reading, leaves all files as they are
 abbrev pub LeavesFiles : Type 0
@@ -193,6 +219,7 @@ LeavesFiles =
 -- the commands that look for a configuration
 abbrev pub IsBuilding : Command → Type 0
 IsBuilding (Compile program entries image) = Unit {0}
+IsBuilding (CompileMap program entries image map) = Unit {0}
 IsBuilding (Improve program entries image budget) = Unit {0}
 IsBuilding (Sim image packets) = ⊥
 IsBuilding (Probe image packets cycle) = ⊥
@@ -200,7 +227,25 @@ IsBuilding (Plain program entries packets) = ⊥
 IsBuilding (Report image) = ⊥
 IsBuilding (Sample number) = Unit {0}
 IsBuilding (Switch image groups capture out every) = ⊥
+IsBuilding (Verify program entries image map) = ⊥
+
+-- the command that checks one against a program
+abbrev pub IsChecking : Command → Type 0
+IsChecking (Compile program entries image) = ⊥
+IsChecking (CompileMap program entries image map) = ⊥
+IsChecking (Improve program entries image budget) = ⊥
+IsChecking (Sim image packets) = ⊥
+IsChecking (Probe image packets cycle) = ⊥
+IsChecking (Plain program entries packets) = ⊥
+IsChecking (Report image) = ⊥
+IsChecking (Sample number) = ⊥
+IsChecking (Switch image groups capture out every) = ⊥
+IsChecking (Verify program entries image map) = Unit {0}
 
 -- each other command gives something
 abbrev pub GivesAlways : Type 0
-GivesAlways = (files : Files) (command : Command) → (IsBuilding command → ⊥) → (g : Given) × Gives files command g
+GivesAlways = (files : Files) (command : Command) → (IsBuilding command → ⊥) → (IsChecking command → ⊥) → (g : Given) × Gives files command g
+
+-- and of that one it can't be that it gives nothing
+abbrev pub GivesNeverNothing : Type 0
+GivesNeverNothing = (files : Files) (command : Command) → (IsBuilding command → ⊥) → ((g : Given) → Gives files command g → ⊥) → ⊥

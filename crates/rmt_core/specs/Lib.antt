@@ -8,6 +8,7 @@ pub mod Writing
 pub mod Printing
 pub mod Texts
 pub mod Placers
+pub mod MapFiles
 pub mod Compiling
 pub mod CompileText
 pub mod NoFitText
@@ -18,6 +19,8 @@ pub mod Waiting
 pub mod SimText
 pub mod ProbeText
 pub mod Watching
+pub mod ChipText
+pub mod ChipEvents
 pub mod Simulating
 pub mod PlainText
 pub mod PlainRunning
@@ -27,6 +30,7 @@ pub mod Sampling
 pub mod Tallies
 pub mod Switching
 pub mod SwitchSetup
+pub mod Verifying
 pub mod Gives
 pub mod Headline
 pub mod Running
@@ -36,3 +40,4 @@ pub mod Loading
 pub mod Telling
 pub mod TextFaults
 pub mod Making
+pub mod WantedNames

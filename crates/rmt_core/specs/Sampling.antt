@@ -70,7 +70,7 @@ pub record AreOfSample (n : ℕ) (p : Program) (lists : List (List Entry)) : Typ
 abbrev pub GivesSample : Files → ℕ → Given → Type 0
 GivesSample files n g =
     (p : Program) × (lists : List (List Entry)) × AreOfSample n p lists
-    × Builds ByRule files (λ image c b. told files Done (sample_line n p lists c)) p lists g
+    × Builds ByRule files (λ image m c b. told files Done (sample_line n p lists c)) p lists g
 
 -- The texts of every number that `sample` takes mean one program with its entries, which stands in SampleProgram.
 abbrev pub SampleIsMeant : Type 0

@@ -2,7 +2,7 @@
 
 ghost use Rattle.std.specs.Prelude.{◌≡◌, ◌≤◌, SomeIff, string_bytes};
 ghost use Rattle.rmt_bits.specs.Digits.{number_of_digits};
-ghost use Rattle.rmt_core.specs.Commands.{budget_of, command_of, cycle_of, every_of, improve_of, is_number, probe_of, sample_number_of, switch_of, with_five, with_four, with_one, with_three, words_of};
+ghost use Rattle.rmt_core.specs.Commands.{budget_of, command_of, compile_of, cycle_of, every_of, improve_of, is_number, probe_of, sample_number_of, switch_of, with_five, with_four, with_one, with_three, words_of};
 ghost use Rattle.rmt_core.specs.CommandReading.{seen};
 
 use rmt_bits::digits::{are_digits, number_up_to};
@@ -53,6 +53,13 @@ pub enum Command<'a> {
         entries: &'a String,
         image: &'a String,
     },
+    /// `compile PROGRAM ENTRIES IMAGE MAP`
+    CompileMap {
+        program: &'a String,
+        entries: &'a String,
+        image: &'a String,
+        map: &'a String,
+    },
     /// `improve PROGRAM ENTRIES IMAGE BUDGET`
     Improve {
         program: &'a String,
@@ -89,6 +96,13 @@ pub enum Command<'a> {
     Switch {
         names: SwitchNames<'a>,
         every: u32,
+    },
+    /// `verify PROGRAM ENTRIES IMAGE MAP`
+    Verify {
+        program: &'a String,
+        entries: &'a String,
+        image: &'a String,
+        map: &'a String,
     },
     /// The words are of no command.
     Unknown,
@@ -200,14 +214,42 @@ fn with_four<'a>(
     first: &'a String,
     second: &'a String,
     third: &'a String,
-    fourth: &String,
+    fourth: &'a String,
 ) -> Command<'a>
     ensures { seen result ≡ with_four (string_bytes word.now) (string_bytes first.now)
         (string_bytes second.now) (string_bytes third.now) (string_bytes fourth.now) }
 {
     match word.as_str() {
+        "compile" => compile_from(first, second, third, fourth),
         "improve" => improve_from(first, second, third, fourth),
+        "verify" => Command::Verify {
+            program: first,
+            entries: second,
+            image: third,
+            map: fourth,
+        },
         _ => Command::Unknown,
+    }
+}
+
+/// The command `compile` with a map, where image and map are not one word.
+fn compile_from<'a>(
+    program: &'a String,
+    entries: &'a String,
+    image: &'a String,
+    map: &'a String,
+) -> Command<'a>
+    ensures { seen result ≡ compile_of (string_bytes program.now) (string_bytes entries.now)
+        (string_bytes image.now) (string_bytes map.now) }
+{
+    if image.as_str() == map.as_str() {
+        return Command::Unknown;
+    }
+    Command::CompileMap {
+        program,
+        entries,
+        image,
+        map,
     }
 }
 

@@ -1,14 +1,16 @@
-//! The commands `compile` and `improve`, which place the nodes of a program in two ways.
+//! The commands `compile`, with and without a map, and `improve`, which place the nodes of a program in two ways.
 
-ghost use Rattle.std.specs.Prelude.{◌≡◌, ◌≢◌, ◌≤◌, ◌⊎◌, [], Ok, length, string_bytes};
+ghost use Rattle.std.specs.Prelude.{◌≡◌, ◌≢◌, ◌≤◌, ◌⊎◌, [], Ok, IfOk, length, string_bytes};
 ghost use Rattle.rmt_ast.specs.EntryLists.{AreEntries};
 ghost use Rattle.rmt_ast.specs.WellFormed.{IsProgram};
 ghost use Rattle.rmt_core.specs.Commands.{IsPossible, Compile};
 ghost use Rattle.rmt_core.specs.Compiling.{Compiles, GivesImage};
 ghost use Rattle.rmt_core.specs.Ends.{WritesAndPrints, outside};
 ghost use Rattle.rmt_core.specs.Files.{entries_limit, program_limit};
-ghost use Rattle.rmt_core.specs.Given.{Reads, Stores, one_file};
-ghost use Rattle.rmt_core.specs.Making.{AreOfTexts};
+ghost use Rattle.rmt_core.specs.Given.{Reads, Stores};
+ghost use Rattle.rmt_core.specs.Making.{AreOfTexts, bytes_of, image_and};
+ghost use Rattle.rmt_core.specs.WantedNames.{names_of};
+ghost use Rattle.rmt_core.specs.Writing.{write_of, writes_of};
 ghost use Rattle.rmt_core.specs.Placers.{IsPlacer};
 ghost use Rattle.rmt_core.specs.Texts.{Understands};
 
@@ -22,30 +24,38 @@ use crate::writing::{NewFile, deliver};
 use rmt_check::laws::one_meaning;
 use rmt_io::shelf::Shelf;
 use rmt_io::sink::Sink;
-use std::alloc::Global;
+use std::alloc::{AllocError, Global};
 
-/// Compiles a program and its entries to an image, with the program's nodes placed so, and prints its lines. The image and
-/// the lines are made before anything is written.
+/// The names of the files that are made.
+#[derive(Clone, Copy)]
+pub struct Wanted<'a> {
+    pub image: &'a String,
+    /// Of the map, where one is wanted.
+    pub map: Option<&'a String>,
+}
+
+/// Compiles a program and its entries to an image, with the program's nodes placed so, and to its map where one is wanted, and
+/// prints its lines. All is made before anything is written.
 pub fn compile<F: Shelf, O: Sink>(
     alloc: Global,
     placer: Placer,
     program: &String,
     entries: &String,
-    image: &String,
+    wanted: Wanted<'_>,
     shelf: &mut F,
     out: &mut O,
 ) -> Status
     requires { IsPlacer placer }
     ensures possible { IsPossible
         (Compile (string_bytes program.now) (string_bytes entries.now)
-        (string_bytes image.now)) result }
+        (string_bytes wanted.entry.image.now)) result }
     ensures call { WritesAndPrints (outside (F.state shelf.old) (O.state out.old))
         (outside (F.state shelf.new) (O.state out.new))
         (λ files. GivesImage placer files (string_bytes program.now) (string_bytes entries.now)
-        (string_bytes image.now)) result }
+        (names_of wanted.entry)) result }
 {
     match read_file(alloc, program, PROGRAM_LIMIT, shelf) {
-        Ok(text) => compile_text(alloc, placer, &text, entries, image, shelf, out),
+        Ok(text) => compile_text(alloc, placer, &text, entries, wanted, shelf, out),
         Err(status) => status,
     }
 }
@@ -56,22 +66,22 @@ fn compile_text<F: Shelf, O: Sink>(
     placer: Placer,
     text: &Vec<u8>,
     entries: &String,
-    image: &String,
+    wanted: Wanted<'_>,
     shelf: &mut F,
     out: &mut O,
 ) -> Status
     requires placer { IsPlacer placer }
     requires text { length text.now.items ≤ program_limit }
     ensures possible { IsPossible
-        (Compile [] (string_bytes entries.now) (string_bytes image.now)) result }
+        (Compile [] (string_bytes entries.now) (string_bytes wanted.entry.image.now)) result }
     ensures call { WritesAndPrints (outside (F.state shelf.old) (O.state out.old))
         (outside (F.state shelf.new) (O.state out.new))
         (λ files. Reads files (string_bytes entries.now) entries_limit
         (λ entry_text. Understands files text.now.items entry_text
-        (Compiles placer files (string_bytes image.now)))) result }
+        (Compiles placer files (names_of wanted.entry)))) result }
 {
     match read_file(alloc, entries, ENTRIES_LIMIT, shelf) {
-        Ok(entry_text) => compile_texts(alloc, placer, text, &entry_text, image, shelf, out),
+        Ok(entry_text) => compile_texts(alloc, placer, text, &entry_text, wanted, shelf, out),
         Err(status) => status,
     }
 }
@@ -82,24 +92,24 @@ fn compile_texts<F: Shelf, O: Sink>(
     placer: Placer,
     text: &Vec<u8>,
     entry_text: &Vec<u8>,
-    image: &String,
+    wanted: Wanted<'_>,
     shelf: &mut F,
     out: &mut O,
 ) -> Status
     requires placer { IsPlacer placer }
     requires text { length text.now.items ≤ program_limit }
     requires entries { length entry_text.now.items ≤ entries_limit }
-    ensures possible { IsPossible (Compile [] [] (string_bytes image.now)) result }
+    ensures possible { IsPossible (Compile [] [] (string_bytes wanted.entry.image.now)) result }
     ensures no_reading { result ≢ Status.ReadFault }
     ensures not_long { result ≢ Status.TooLong }
     ensures call { WritesAndPrints (outside (F.state shelf.old) (O.state out.old))
         (outside (F.state shelf.new) (O.state out.new))
         (λ files. Understands files text.now.items entry_text.now.items
-        (Compiles placer files (string_bytes image.now))) result }
+        (Compiles placer files (names_of wanted.entry))) result }
 {
     one_meaning();
     match understand(alloc, text.as_slice(), entry_text.as_slice()) {
-        Ok(meant) => compile_meant(alloc, placer, &meant, image, shelf, out),
+        Ok(meant) => compile_meant(alloc, placer, &meant, wanted, shelf, out),
         Err(fault) => tell_text_fault(alloc, fault, out),
     }
 }
@@ -109,7 +119,7 @@ fn compile_meant<F: Shelf, O: Sink>(
     alloc: Global,
     placer: Placer,
     meant: &Meant,
-    image: &String,
+    wanted: Wanted<'_>,
     shelf: &mut F,
     out: &mut O,
 ) -> Status
@@ -117,26 +127,27 @@ fn compile_meant<F: Shelf, O: Sink>(
     requires program { IsProgram meant.now.program }
     requires entries { AreEntries meant.now.program meant.now.entries }
     requires said { AreOfTexts meant.now.program meant.now.entries }
-    ensures possible { IsPossible (Compile [] [] (string_bytes image.now)) result }
+    ensures possible { IsPossible (Compile [] [] (string_bytes wanted.entry.image.now)) result }
     ensures no_reading { result ≢ Status.ReadFault }
     ensures not_long { result ≢ Status.TooLong }
     ensures call { WritesAndPrints (outside (F.state shelf.old) (O.state out.old))
         (outside (F.state shelf.new) (O.state out.new))
         (λ files. Compiles placer files
-        (string_bytes image.now) meant.now.program meant.now.entries) result }
+        (names_of wanted.entry) meant.now.program meant.now.entries) result }
 {
-    match make(alloc, placer, &meant.program, &meant.entries) {
-        Ok(made) => deliver_image(alloc, made, image, shelf, out),
+    let has_map = wanted.map.is_some();
+    match make(alloc, placer, &meant.program, &meant.entries, has_map) {
+        Ok(made) => deliver_made(alloc, made, wanted, shelf, out),
         Err(Refusal::NoMemory) => Status::NoMemory,
         Err(Refusal::NoFit { line }) => end_with(out, line.as_slice(), Status::NoFit),
     }
 }
 
-/// Writes an image to a file, and then prints its lines.
-fn deliver_image<F: Shelf, O: Sink>(
+/// Writes an image, and its map behind it where one is wanted, and then prints its lines.
+fn deliver_made<F: Shelf, O: Sink>(
     alloc: Global,
     made: Made,
-    name: &String,
+    wanted: Wanted<'_>,
     shelf: &mut F,
     out: &mut O,
 ) -> Status
@@ -145,12 +156,41 @@ fn deliver_image<F: Shelf, O: Sink>(
         ⊎ (result ≡ Status.NoMemory) }
     ensures call { WritesAndPrints (outside (F.state shelf.old) (O.state out.old))
         (outside (F.state shelf.new) (O.state out.new))
-        (Stores (one_file (string_bytes name.now) made.image.items) made.lines) result }
+        (Stores (image_and (names_of wanted.entry) made.image.items (bytes_of made.map))
+        made.lines) result }
 {
-    let Ok(name) = name.clone() else {
-        return Status::NoMemory;
-    };
-    let bytes = made.image;
-    let files = [NewFile { name, bytes }];
-    deliver(alloc, &files, made.lines.as_slice(), shelf, out)
+    let Made { image, map, lines } = made;
+    match new_files(alloc, wanted, image, map) {
+        Ok(files) => deliver(alloc, files.as_slice(), lines.as_slice(), shelf, out),
+        Err(_) => Status::NoMemory,
+    }
+}
+
+/// An image under its name, and behind it a map under its own.
+fn new_files(
+    alloc: Global,
+    wanted: Wanted<'_>,
+    image: Vec<u8>,
+    map: Option<Vec<u8>>,
+) -> Result<Vec<NewFile>, AllocError>
+    ensures { IfOk result (λ files. writes_of files.items
+        ≡ image_and (names_of wanted.entry) image.items (bytes_of map)) }
+{
+    let mut files = Vec::new(alloc);
+    files.push(new_file(wanted.image, image)?)?;
+    if let Some(name) = wanted.map {
+        if let Some(bytes) = map {
+            files.push(new_file(name, bytes)?)?;
+        }
+    }
+    Ok(files)
+}
+
+/// Bytes under a name.
+fn new_file(name: &String, bytes: Vec<u8>) -> Result<NewFile, AllocError>
+    ensures { IfOk result (λ file. write_of file
+        ≡ record { name = string_bytes name.now; bytes = bytes.items }) }
+{
+    let name = name.clone()?;
+    Ok(NewFile { name, bytes })
 }

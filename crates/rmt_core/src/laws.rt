@@ -1,11 +1,12 @@
 //! What holds of what the commands give.
 
-ghost use Rattle.rmt_core.specs.Headline.{GivesAlways, GivesOne, ImproveHasNoMoreStages, IsComplete, LeavesFiles, OneTryIsCompile, RefusesAsCompile, SimPrintsPlain};
+ghost use Rattle.rmt_core.specs.Headline.{GivesAlways, GivesNeverNothing, GivesOne, ImproveHasNoMoreStages, IsComplete, LeavesFiles, MapIsBeside, OneTryIsCompile, RefusesAsCompile, SimPrintsPlain};
 ghost use Rattle.rmt_core.specs.Sampling.{SampleIsMeant};
 
 use rmt_check::laws::one_meaning;
 use rmt_cuckoo::never_both;
 use rmt_entries::laws::lists_or_fault;
+use rmt_verify::spells_one;
 
 /// Each command gives one status and one text over the same files, but for the numbers of a table that doesn't load.
 pub fn gives_one()
@@ -13,11 +14,14 @@ pub fn gives_one()
 {
     one_meaning();
     never_both();
+    spells_one();
 }
 
-/// Whatever the files are, each command that builds no configuration gives something.
+/// Whatever the files are, each command that builds no configuration gives something; of `verify` it can't be that it gives
+/// nothing.
 pub fn gives_always()
-    ensures { GivesAlways }
+    ensures always { GivesAlways }
+    ensures never_nothing { GivesNeverNothing }
 {
     one_meaning();
     lists_or_fault();
@@ -35,6 +39,7 @@ pub fn is_complete()
 {
     one_meaning();
     never_both();
+    spells_one();
 }
 
 /// What `compile` or `improve` made runs as `plain` runs the program: `sim` prints the same, and then its cycles and its flight.
@@ -43,6 +48,11 @@ pub fn sim_prints_plain()
 {
     one_meaning();
 }
+
+/// With a map `compile` gives what it gives without one, and all files but the map stand as then.
+pub fn map_is_beside()
+    ensures { MapIsBeside }
+{}
 
 /// With one try `improve` gives what `compile` gives.
 pub fn one_try_is_compile()

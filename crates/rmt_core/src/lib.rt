@@ -28,6 +28,7 @@ mod telling;
 mod texts;
 pub mod top;
 mod vectors;
+mod verifying;
 mod waiting;
 mod watch;
 mod writing;

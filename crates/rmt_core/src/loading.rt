@@ -14,6 +14,8 @@ pub const PROGRAM_LIMIT: u64 = 1_048_576;
 pub const ENTRIES_LIMIT: u64 = 67_108_864;
 /// How many bytes an image may have.
 pub const IMAGE_LIMIT: u64 = 268_435_456;
+/// How many bytes a map may have.
+pub const MAP_LIMIT: u64 = 268_435_456;
 /// How many bytes a group text may have.
 pub const GROUPS_LIMIT: u64 = 1_048_576;
 /// How many bytes a capture file may have.

@@ -99,7 +99,7 @@ fn sample_meant<O: Sink>(
     ensures answered { (shelf : ShelfState) →
         Answered (outside shelf (O.state out.old)) (outside shelf (O.state out.new))
         (Builds Placer.ByRule shelf.files
-        (λ image c b. told shelf.files Status.Done
+        (λ image m c b. told shelf.files Status.Done
         (sample_line number meant.now.program meant.now.entries c)) meant.now.program meant.now.entries) result }
     ensures quiet { result ≡ Status.NoMemory → GainedNone (O.state out.old) (O.state out.new) }
     ensures write_fault { result ≡ Status.WriteFault →

@@ -7,7 +7,7 @@ ghost use Rattle.rmt_core.specs.Ends.{Answered, outside};
 ghost use Rattle.rmt_core.specs.Gives.{Gives};
 
 use crate::commands::{Command, command_from};
-use crate::compiling::compile;
+use crate::compiling::{Wanted, compile};
 use crate::placer::Placer;
 use crate::plain::plain;
 use crate::reporting::report;
@@ -15,6 +15,7 @@ use crate::sampling::sample;
 use crate::simulating::simulate;
 use crate::status::Status;
 use crate::switching::switch;
+use crate::verifying::verify;
 use crate::watch::Watch;
 use rmt_io::shelf::Shelf;
 use rmt_io::sink::Sink;
@@ -74,7 +75,22 @@ pub fn rmt<F: Shelf, O: Sink>(
             program,
             entries,
             image,
-        } => compile(alloc, Placer::ByRule, program, entries, image, shelf, out),
+        } => {
+            let wanted = Wanted { image, map: None };
+            compile(alloc, Placer::ByRule, program, entries, wanted, shelf, out)
+        }
+        Command::CompileMap {
+            program,
+            entries,
+            image,
+            map,
+        } => {
+            let wanted = Wanted {
+                image,
+                map: Some(map),
+            };
+            compile(alloc, Placer::ByRule, program, entries, wanted, shelf, out)
+        }
         Command::Improve {
             program,
             entries,
@@ -82,7 +98,8 @@ pub fn rmt<F: Shelf, O: Sink>(
             budget,
         } => {
             let placer = Placer::ByTries { budget };
-            compile(alloc, placer, program, entries, image, shelf, out)
+            let wanted = Wanted { image, map: None };
+            compile(alloc, placer, program, entries, wanted, shelf, out)
         }
         Command::Sim { image, packets } => {
             simulate(alloc, image, packets, Watch::Answers, shelf, out)
@@ -100,6 +117,12 @@ pub fn rmt<F: Shelf, O: Sink>(
         Command::Report { image } => report(alloc, image, shelf, out),
         Command::Sample { number } => sample(alloc, number, out),
         Command::Switch { names, every } => switch(alloc, names, every, shelf, out),
+        Command::Verify {
+            program,
+            entries,
+            image,
+            map,
+        } => verify(alloc, program, entries, image, map, shelf, out),
         Command::Unknown => Status::Usage,
     }
 }

@@ -1,4 +1,4 @@
-mod RowLaws
+pub mod RowLaws
 mod SearchLaws
 mod MoveLaws
-mod LoadLaws
+pub mod LoadLaws

@@ -1,14 +1,16 @@
 -- From a loading of all keys to what is promised of it, and from a closed search to keys that have too few cells.
-use Rattle.std.proofs.Common.{◌≡◌, ◌≢◌, ℕ, zero, suc, ◌+◌, ◌-◌, ◌<◌, ◌≤◌, Bool, true, false, List, [], ◌∷◌, ◌⊎◌, length, map, cond, ◌||◌, get_or, replicate, Contains, refl, ap, sym, ◌∙◌, subst, ⊎_elim, inl, inr, arith}
+use Rattle.std.proofs.Common.{◌≡◌, ◌≢◌, ℕ, zero, suc, ◌+◌, ◌-◌, ◌<◌, ◌≤◌, Bool, true, false, List, [], ◌∷◌, ◌⊎◌, length, map, cond, eqb, ◌||◌, get_or, replicate, Contains, refl, ap, sym, ◌∙◌, subst, ⊎_elim, arith}
 use Rattle.std.specs.Prelude.{AllPairs, nat_eq}
-use Rattle.std.specs.List.{AllZip, flat_map}
+use Rattle.std.specs.List.{AllZip, flat_map, list_any}
 use Rattle.std.specs.Set.{distinct_count, is_member, unique_keys}
 use Rattle.std.proofs.lemmas.List.{get_or_default, get_or-map, get_or-replicate, get_or_past, length-map, length-replicate}
 use Rattle.std.proofs.lemmas.List.Elements.{All-contains, Contains-append_left, Contains-append_right, Contains-append_cases, Contains-get_or}
-use Rattle.std.proofs.lemmas.Bool.{cases_lt, false≢true, or_right}
+use Rattle.std.proofs.lemmas.Bool.{both_ways, cases_lt, eqb-true, false≢true, or_cases, or_right}
 use Rattle.std.proofs.lemmas.Bool.Decides.{Decides-eqb, same_from_decides}
 use Rattle.std.proofs.lemmas.Cmp.{nat_eq_equiv}
 use Rattle.std.proofs.lemmas.Map.Made.{IsDistinct-from_AllPairs, is_member-Decides, length-from_keys, length-le_from_is_member}
+use Rattle.std.proofs.lemmas.Map.Steps.{length-le_from_distinct_below}
+use Rattle.rmt_bits.proofs.MemberLaws.{Contains-first, Contains-later}
 use Rattle.rmt_bits.proofs.WordLaws.{get_or-zeros}
 use Rattle.rmt_cuckoo.specs.declared.layout.Ways.{Ways}
 use Rattle.rmt_cuckoo.specs.declared.search.Step.{Step}
@@ -67,10 +69,6 @@ apart_count xs ys apart inside back =
     let in_ys = is_member-Decides Decides-eqb ys q in
     same_from_decides (is_member nat_eq xs q) (is_member nat_eq ys q) in_xs
     ((λ member. back q (in_ys.0 member)), (λ there. in_ys.1 (inside q there))))
-
-or_cases : (a b : Bool) → (a || b) ≡ true → (a ≡ true) ⊎ (b ≡ true)
-or_cases true b h = inl refl
-or_cases false b h = inr h
 
 -- a number of a list is among the different ones of it
 kept : (b : Bool) (x q : ℕ) (xs : List ℕ) → is_member nat_eq xs x ≡ b → (is_member nat_eq xs q ≡ true → is_member nat_eq (unique_keys nat_eq xs) q ≡ true)
@@ -247,3 +245,17 @@ not_both layout seed keys cells members count loading over =
     member_unique (shared layout seed keys members) q ((is_member-Decides Decides-eqb (shared layout seed keys members) q).1 in_all) in
     let fewer = apart_within own (unique_keys nat_eq (shared layout seed keys members)) own_apart inside in
     omega (arith, fewer, long, over.counted, over.too_few)
+
+-- the keys that have too few cells are no more than all
+pub members_few : (layout : List Ways) (seed : ℕ) (keys : List (List ℕ)) (members : List ℕ) (cells : ℕ) → IsOverfull layout seed keys members cells → length members ≤ length keys
+members_few layout seed keys members cells full =
+    length-le_from_distinct_below members (length keys) (IsDistinct-from_AllPairs Decides-eqb members full.apart)
+    (λ q there. All-contains (λ m. m < length keys) members q full.are_keys (found members q there))
+  where
+    found : (ms : List ℕ) (q : ℕ) → list_any (eqb q) ms ≡ true → Contains ms q
+    found [] q e = absurd (both_ways false refl e)
+    found (m ∷ ms) q e = by (eqb q m) refl e (found ms q)
+      where
+        by : (b : Bool) → eqb q m ≡ b → (b || list_any (eqb q) ms) ≡ true → (list_any (eqb q) ms ≡ true → Contains ms q) → Contains (m ∷ ms) q
+        by true is h rest = subst (Contains (m ∷ ms)) (sym (eqb-true q m is)) (Contains-first m ms)
+        by false is h rest = Contains-later m ms q (rest h)

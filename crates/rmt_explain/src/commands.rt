@@ -9,6 +9,10 @@ pub enum Role {
     Image,
     /// An image that is written.
     Written,
+    /// A map that is written behind it.
+    WrittenMap,
+    /// A map that is read.
+    Map,
     Packets,
     /// A group text.
     Groups,
@@ -33,8 +37,8 @@ pub struct Form {
     pub purpose: &'static str,
 }
 
-/// The commands, in the order of the help.
-pub const FORMS: [Form; 8] = [
+/// The commands, in the order of the help; of two with one name the shorter one first.
+pub const FORMS: [Form; 10] = [
     Form {
         name: "compile",
         operands: &["PROGRAM", "ENTRIES", "IMAGE"],
@@ -42,10 +46,21 @@ pub const FORMS: [Form; 8] = [
         purpose: "write the image of a program with its entries",
     },
     Form {
+        name: "compile",
+        operands: &["PROGRAM", "ENTRIES", "IMAGE", "MAP"],
+        roles: &[
+            Role::Program,
+            Role::Entries,
+            Role::Written,
+            Role::WrittenMap,
+        ],
+        purpose: "write its map too, which tells where all stands",
+    },
+    Form {
         name: "improve",
         operands: &["PROGRAM", "ENTRIES", "IMAGE", "BUDGET"],
         roles: &[Role::Program, Role::Entries, Role::Written, Role::Number],
-        purpose: "do the same, with the best of BUDGET tries at placing the tables",
+        purpose: "write the image with the best of BUDGET tries at placing the tables",
     },
     Form {
         name: "sim",
@@ -89,21 +104,29 @@ pub const FORMS: [Form; 8] = [
         ],
         purpose: "send the frames of a capture to ports, and write OUT.P.pcap of each port P",
     },
+    Form {
+        name: "verify",
+        operands: &["PROGRAM", "ENTRIES", "IMAGE", "MAP"],
+        roles: &[Role::Program, Role::Entries, Role::Image, Role::Map],
+        purpose: "tell whether an image and its map belong to a program with its entries",
+    },
 ];
 
-/// The command of a name.
-pub fn form_of(name: &str) -> Option<&'static Form> {
+/// The command of some words: of those with the name of the first word the longest that they fill, or the shortest.
+pub fn form_of(words: &[String]) -> Option<&'static Form> {
+    let name = words.first()?;
+    let mut found = None;
     for form in FORMS.iter() {
-        if form.name == name {
-            return Some(form);
+        if form.name == name.as_str() && (found.is_none() || form.operands.len() < words.len()) {
+            found = Some(form);
         }
     }
-    None
+    found
 }
 
 /// What the word of a number is, the words counted from 0 with the command's name.
 pub fn role_of(words: &[String], at: usize) -> Option<Role> {
-    let form = form_of(words.first()?.as_str())?;
+    let form = form_of(words)?;
     form.roles.get(at.checked_sub(1)?).copied()
 }
 
@@ -122,11 +145,11 @@ pub fn limit_of(role: Role) -> Option<u64> {
     match role {
         Role::Program => Some(1_048_576),
         Role::Entries => Some(67_108_864),
-        Role::Image => Some(268_435_456),
+        Role::Image | Role::Map => Some(268_435_456),
         Role::Packets => Some(1_099_511_627_776),
         Role::Groups => Some(1_048_576),
         Role::Capture => Some(16_777_216),
-        Role::Written | Role::Prefix | Role::Number => None,
+        Role::Written | Role::WrittenMap | Role::Prefix | Role::Number => None,
     }
 }
 
@@ -136,6 +159,7 @@ pub fn role_name(role: Role) -> &'static str {
         Role::Program => "a program",
         Role::Entries => "an entry text",
         Role::Image | Role::Written => "an image",
+        Role::Map | Role::WrittenMap => "a map",
         Role::Packets => "a packet text",
         Role::Groups => "a group text",
         Role::Capture | Role::Prefix => "a capture",

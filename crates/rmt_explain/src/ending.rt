@@ -78,13 +78,21 @@ impl<'w, 'l> Ending<'w, 'l, '_> {
         }
     }
 
-    /// Whether the call writes a file, and another one than the program.
+    /// Whether the call writes files, and others than the program.
     fn keeps_program(&self) -> bool {
+        match word_of(self.words, Role::Written) {
+            Some(_) => { !self.is_program(Role::Written) && !self.is_program(Role::WrittenMap) }
+            None => false,
+        }
+    }
+
+    /// Whether the word of a role names the program too.
+    fn is_program(&self, role: Role) -> bool {
         match (
             word_of(self.words, Role::Program),
-            word_of(self.words, Role::Written),
+            word_of(self.words, role),
         ) {
-            (Some(program), Some(written)) => { self.words.get(program) != self.words.get(written) }
+            (Some(program), Some(other)) => self.words.get(program) == self.words.get(other),
             _ => false,
         }
     }

@@ -31,10 +31,24 @@ pub fn explain_write(ending: &Ending, message: &mut Message) {
             if word_of(ending.words, Role::Prefix).is_some() {
                 message.say(", and the captures of lower ports stand whole");
             }
+            if word_is(ending, Role::WrittenMap, fault.name) {
+                message.say(", and the image stands whole");
+            }
         }
         None => explain_output(ending, message),
     }
     message.say("\n");
+}
+
+/// Whether the word of a role is this name.
+fn word_is(ending: &Ending, role: Role, name: &str) -> bool {
+    match word_of(ending.words, role) {
+        Some(at) => match ending.words.get(at) {
+            Some(word) => word.as_str() == name,
+            None => false,
+        },
+        None => false,
+    }
 }
 
 /// Tells that standard output can't be written, and what stands nevertheless.
@@ -47,6 +61,9 @@ fn explain_output(ending: &Ending, message: &mut Message) {
         if let Some(image) = ending.words.get(at) {
             message.say(", or ");
             message.name(image.as_str());
+            if word_of(ending.words, Role::WrittenMap).is_some() {
+                message.say(", or the map");
+            }
             message.say("; if the image was written, it stands whole");
         }
     }

@@ -1,4 +1,4 @@
-//! Files that are no image of the chip.
+//! Files that are no image of the chip, or no map of one.
 
 use crate::commands::{Role, word_of};
 use crate::ending::Ending;
@@ -8,21 +8,32 @@ use crate::message::Message;
 
 /// Tells why a file is no image.
 pub fn explain_image(ending: &Ending, message: &mut Message) {
+    let code = number_at(ending.last_line, 2);
     message.say("rmt: ");
-    match word_of(ending.words, Role::Image) {
+    say_file(
+        ending,
+        if code == 7 { Role::Map } else { Role::Image },
+        message,
+    );
+    match code {
+        6 => explain_limit(ending.last_line, message),
+        7 => message.say(" is no map: give the file that `compile` wrote beside the image\n"),
+        _ => {
+            message.say(" is no image: ");
+            message.say(sentence(code));
+            message.say("\n");
+        }
+    }
+}
+
+/// The name of the file of a role.
+fn say_file(ending: &Ending, role: Role, message: &mut Message) {
+    match word_of(ending.words, role) {
         Some(at) => match ending.words.get(at) {
             Some(name) => message.name(name.as_str()),
             None => message.say("the file"),
         },
         None => message.say("the file"),
-    }
-    let code = number_at(ending.last_line, 2);
-    if code == 6 {
-        explain_limit(ending.last_line, message);
-    } else {
-        message.say(" is no image: ");
-        message.say(sentence(code));
-        message.say("\n");
     }
 }
 

@@ -10,7 +10,7 @@ const HELP: [&str; 3] = ["help", "--help", "-h"];
 const NOTES: [&str; 13] = [
     "A file name is any word. BUDGET is a number from 1 to 1,000, CYCLE 1 to 9 decimal digits,",
     "N a number from 1 to 100,000, and EVERY one from 1 to 999,999.",
-    "A program has at most 1,048,576 bytes, an entry text 67,108,864, an image 268,435,456,",
+    "A program has at most 1,048,576 bytes, an entry text 67,108,864, an image or a map 268,435,456,",
     "a packet text 1,099,511,627,776, a group text 1,048,576, and a capture 16,777,216.",
     "",
     "Results go to standard output, and messages like this one to standard error.",
@@ -81,7 +81,7 @@ fn say_operands(form: &Form, message: &mut Message) {
 
 /// Tells the word that is wrong, or the one that is missing.
 fn explain_wrong(first: &str, words: &[String], message: &mut Message) {
-    match form_of(first) {
+    match form_of(words) {
         None => {
             say_word(1, first, message);
             message.say(" is no command\n");
@@ -118,7 +118,7 @@ fn say_form(form: &Form, message: &mut Message) {
     say_operands(form, message);
 }
 
-/// Tells which words are missing, or that the last one is no number.
+/// Tells which words are missing, or what is wrong with the last one.
 fn explain_operands(form: &Form, words: &[String], message: &mut Message) {
     match form.operands.get(words.len().saturating_sub(1)) {
         Some(missing) => {
@@ -128,15 +128,16 @@ fn explain_operands(form: &Form, words: &[String], message: &mut Message) {
             say_form(form, message);
             message.say("`\n");
         }
-        None => explain_number(form, words, message),
+        None => explain_last(form, words, message),
     }
 }
 
-/// Tells that the last word is no number of the command.
-fn explain_number(form: &Form, words: &[String], message: &mut Message) {
+/// Tells that the last word is no number of the command, or that a map has the name of the image.
+fn explain_last(form: &Form, words: &[String], message: &mut Message) {
     if let Some(last) = words.last() {
         say_word(words.len() as u64, last.as_str(), message);
         message.say(match form.name {
+            "compile" => " names the image already: give the map another name\n",
             "improve" => " is no BUDGET: a number from 1 to 1,000 is wanted, in decimal digits\n",
             "probe" => " is no CYCLE: 1 to 9 decimal digits are wanted\n",
             "switch" => " is no EVERY: a number from 1 to 999,999 is wanted, in decimal digits\n",

@@ -1,8 +1,10 @@
--- The program on two stages: runs with a commit of each kind, and three changes each of which breaks one part of what a commit keeps.
-use Rattle.std.proofs.Common.{◌≡◌, ℕ, ◌*◌, ◌<◌, false, true, List, [], ◌∷◌, ◌++◌, map, replicate, refl, arith}
+-- The program on two stages: runs with a commit of each kind, and three changes each of which breaks one part of what a commit keeps, so that there is no such run.
+use Rattle.std.proofs.Common.{◌≡◌, ◌≢◌, ℕ, ◌*◌, ◌<◌, false, true, List, [], ◌∷◌, ◌++◌, length, map, replicate, refl, sym, ap, ◌∙◌, arith}
+use Rattle.std.specs.Prelude.{slice_index_or}
 use Rattle.rmt_bits.specs.declared.answer.Count.{Count}
 use Rattle.rmt_bits.specs.declared.answer.Verdict.{Verdict}
 use Rattle.rmt_bits.specs.declared.answer.Verdict.TheVariants.{Sent}
+use Rattle.rmt_bits.specs.declared.answer.Verdict.TheVariants as verdict
 use Rattle.std.proofs.lemmas.Bool.{false≢true}
 use Rattle.std.proofs.lemmas.List.Elements.{All-cons, All-nil}
 use Rattle.rmt_bits.specs.Packet.{IsPacket}
@@ -67,10 +69,10 @@ abbrev count : ℕ → ℕ → Count
 count number packets = record { entry = number; packets = packets; bytes = 2 * packets }
 
 -- the line of number 1 goes: its cell keeps the bit of the first version
-abbrev goes : List Change
+abbrev pub goes : List Change
 goes = Removes 1 (record { tests = test 0x02 0x0f ∷ []; rank = 20 }) ∷ []
 
-abbrev gone : List Input
+abbrev pub gone : List Input
 gone = Writes (write 0 1 0 1 1 0x02 0x0f 2 1) ∷ Turns 0 ∷ []
 
 pub removed : (outcomes 0x32 gone ≡ ports_told 0x32 2 3) × (answers 0x32 goes ≡ ports_told 0x32 2 3)
@@ -80,10 +82,10 @@ pub removed_counts : (counts_in config (around 0x32 gone) ≡ count 0 0 ∷ coun
 removed_counts = (refl, refl)
 
 -- a line of priority 25 comes: it takes the row behind those of priority 20
-abbrev comes : List Change
+abbrev pub comes : List Change
 comes = Adds (entry 0 25 0x15 0xff 5) ∷ []
 
-abbrev come : List Input
+abbrev pub come : List Input
 come = Writes (write 0 1 2 2 1 0x15 0xff 5 3) ∷ Turns 0 ∷ []
 
 pub added : (outcomes 0x15 come ≡ ports_told 0x15 1 5) × (answers 0x15 comes ≡ ports_told 0x15 1 5)
@@ -93,10 +95,10 @@ pub added_counts : (counts_in config (around 0x15 come) ≡ count 0 1 ∷ count 
 added_counts = (refl, refl)
 
 -- a line of priority 10 comes: no row stands before the others, so all rows are laid out anew, once the packet has left
-abbrev comes_first : List Change
+abbrev pub comes_first : List Change
 comes_first = Adds (entry 0 10 0x32 0xff 5) ∷ []
 
-abbrev moved : List Input
+abbrev pub moved : List Input
 moved =
     replicate 15 Idle
     ++ Writes (write 0 1 0 3 1 0x32 0xff 5 3) ∷ Writes (write 0 1 1 3 1 0x02 0x0f 2 1) ∷ Writes (write 0 1 2 3 1 0x32 0xff 3 2) ∷ Writes (write 0 1 3 3 1 0x10 0xf0 1 0) ∷ Writes (write 1 0 0 0 0 0 0 0 0)
@@ -155,20 +157,62 @@ cycles_taken = (refl, refl)
 
 -- ---- what breaks a part
 
--- a changed cell that loses the bit of the current version: the packet in flight misses in the second stage
+-- a line of priority 30 goes
 abbrev goes_last : List Change
 goes_last = Removes 1 (record { tests = test 0x10 0xf0 ∷ []; rank = 30 }) ∷ []
+
+abbrev port_of : Verdict → ℕ
+port_of verdict.Short = 512
+port_of verdict.Reject = 512
+port_of verdict.Dropped = 512
+port_of (verdict.Sent port) = port
+
+-- the port to which the packet at this place of a list goes
+abbrev port_at : ℕ → List (Verdict × List ℕ) → ℕ
+port_at i told = port_of (slice_index_or told i (verdict.Dropped, [])).0
+
+-- inputs that answer otherwise than the program does are those of no run of the list
+no_run : (d i first second third fourth : ℕ) (changes : List Change) (cycles : List Input) → AreFit program (at_first lists) (events d changes)
+    → outcomes d cycles ≡ ports_told d first second → answers d changes ≡ ports_told d third fourth → port_at i (ports_told d first second) ≢ port_at i (ports_told d third fourth)
+    → RunsTo config its_names lists (events d changes) (around d cycles) → ⊥
+no_run d i first second third fourth changes cycles fit ours theirs differ runs =
+    differ (ap (port_at i) (sym ours ∙ (all_runs (events d changes) (around d cycles) fit runs).answers ∙ theirs))
+
+last_fits : AreFit program (at_first lists) (events 0x15 goes_last)
+last_fits = (is_packet 0x15 (omega arith), ((refl, tt), (is_packet 0x15 (omega arith), tt)))
+
+-- a changed cell that loses the bit of the current version: the packet in flight misses in the second stage
+abbrev losing : List Input
+losing = Writes (write 1 0 0 0 0 0 0 0 0) ∷ Turns 0 ∷ []
 
 pub kept_bit : (outcomes 0x15 (Writes (write 1 0 0 1 0 0x10 0xf0 1 0) ∷ Turns 0 ∷ []) ≡ ports_told 0x15 1 0) × (answers 0x15 goes_last ≡ ports_told 0x15 1 0)
 kept_bit = (refl, refl)
 
-pub lost_bit : outcomes 0x15 (Writes (write 1 0 0 0 0 0 0 0 0) ∷ Turns 0 ∷ []) ≡ ports_told 0x15 0 0
+pub lost_bit : outcomes 0x15 losing ≡ ports_told 0x15 0 0
 lost_bit = refl
 
+pub no_lost_bit : RunsTo config its_names lists (events 0x15 goes_last) (around 0x15 losing) → ⊥
+no_lost_bit = no_run 0x15 0 0 0 1 0 goes_last losing last_fits lost_bit kept_bit.1 (λ e. omega (arith, e))
+
 -- a number that is used again: one counter for two entries
-pub used_again : counts_in config (around 0x15 (Writes (write 0 1 2 2 1 0x15 0xff 5 0) ∷ Turns 0 ∷ [])) ≡ count 0 2 ∷ count 1 0 ∷ count 2 0 ∷ []
+abbrev using_again : List Input
+using_again = Writes (write 0 1 2 2 1 0x15 0xff 5 0) ∷ Turns 0 ∷ []
+
+pub used_again : counts_in config (around 0x15 using_again) ≡ count 0 2 ∷ count 1 0 ∷ count 2 0 ∷ []
 used_again = refl
 
+pub no_used_again : RunsTo config its_names lists (events 0x15 comes) (around 0x15 using_again) → ⊥
+no_used_again runs =
+    let same = sym used_again ∙ (all_runs (events 0x15 comes) (around 0x15 using_again) addition_fits runs).counters ∙ added_counts.1 in
+    let three : 3 ≡ 4 = ap (λ (counts : List Count). length counts) same in
+    omega (arith, three)
+
 -- a row out of order among those of a version: the line of greater priority number is found first
-pub out_of_order : outcomes 0x15 (Writes (write 1 0 1 2 0 0x15 0xff 5 3) ∷ Turns 0 ∷ []) ≡ ports_told 0x15 1 1
+abbrev behind_last : List Input
+behind_last = Writes (write 1 0 1 2 0 0x15 0xff 5 3) ∷ Turns 0 ∷ []
+
+pub out_of_order : outcomes 0x15 behind_last ≡ ports_told 0x15 1 1
 out_of_order = refl
+
+pub no_out_of_order : RunsTo config its_names lists (events 0x15 comes) (around 0x15 behind_last) → ⊥
+no_out_of_order = no_run 0x15 1 1 1 1 5 comes behind_last addition_fits out_of_order added.1 (λ e. omega (arith, e))

@@ -21,6 +21,15 @@ Contains-range n i lt =
 pub Contains-range_from : (a n i : ℕ) → i < n → Contains (range_with_len a n) (a + i)
 Contains-range_from a n i lt = (i, subst (λ m. i < m) (sym (length-range_with_len a n)) lt, get_or-range_with_len a n i (a + i) lt)
 
+-- a member of a range is within its bounds
+pub range_bounds : (a n x : ℕ) → Contains (range_with_len a n) x → (a ≤ x) × (x < a + n)
+range_bounds a n x there =
+    let lt = there.1 in
+    let long = length-range_with_len a n in
+    let at = get_or-range_with_len a n there.0 x (omega (arith, lt, long)) in
+    let same = there.2 in
+    (omega (arith, at, same), omega (arith, at, same, lt, long))
+
 -- ---- an item that passes
 
 cond_cases : {X : Type 0} (b : Bool) (y x : X) (rest : Option X) → cond b (Some y) rest ≡ Some x → ((b ≡ true) × (y ≡ x)) ⊎ ((b ≡ false) × (rest ≡ Some x))

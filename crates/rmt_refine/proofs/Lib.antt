@@ -34,12 +34,12 @@ pub mod PacketLaws
 pub mod RefinedLaws
 mod VisibleBitLaws
 mod PlacedLaws
-mod RoomLaws
-mod ContentLaws
+pub mod RoomLaws
+pub mod ContentLaws
 mod UnseenLaws
 mod SameCellLaws
 mod OneStateLaws
-mod EntryLaws
+pub mod EntryLaws
 mod StandLaws
 mod KeptLaws
 mod FilledLaws
@@ -51,13 +51,15 @@ mod HitNumberLaws
 mod RunNumberLaws
 mod EventRunLaws
 mod ShortLaws
+mod RunStateLaws
 pub mod SpelledFieldLaws
 pub mod SpelledRankLaws
 pub mod SpelledEntryLaws
-mod SortedLaws
+pub mod SortedLaws
 pub mod SpelledLaws
 pub mod FitLaws
-mod RoomOrderLaws
+pub mod RoomOrderLaws
+pub mod BesideLaws
 mod RefinedExamples
 mod Examples
 mod TwoStages
@@ -72,5 +74,6 @@ mod CarriedExamples
 mod BrokenExamples
 mod SeenByExamples
 mod CommitRunExamples
+mod TailExamples
 mod OutcomeExamples
 mod ListExamples

@@ -79,7 +79,8 @@ among_from node k (Slot s ∷ units) place first =
     by true h = All-cons (IsFrom k place) (record { stage = k; place = place; first = first; slot = s }) rest (refl, omega arith) h
     by false h = h
 
-among_rise : (node k : ℕ) (units : List Unit) (place first : ℕ) → AllPairs Rises (parts_among node k place first units)
+-- the parts of a node in a stage rise
+pub among_rise : (node k : ℕ) (units : List Unit) (place first : ℕ) → AllPairs Rises (parts_among node k place first units)
 among_rise node k [] place first = AllPairs-none Rises
 among_rise node k (Gate g ∷ units) place first = among_rise node k units (place + 1) first
 among_rise node k (Slot s ∷ units) place first = by (s.node == node) (among_rise node k units (place + 1) (first + s.actions + 1))
@@ -211,7 +212,7 @@ module _ (p : Program) (m : Map) (c : Config) (units : UnitsCarried p m.places m
 abbrev one_if : Bool → ℕ
 one_if b = cond b 1 0
 
--- more items pass a test that all of another pass, and one more
+-- more items pass a test that all of another pass
 count_less : {X : Type 0} (f g : X → Bool) → ((x : X) → f x ≡ true → g x ≡ true) → (xs : List X) → count_by f xs ≤ count_by g xs
 count_less f g more [] = omega arith
 count_less f g more (x ∷ xs) = by (f x) refl (count_less f g more xs)
@@ -229,7 +230,8 @@ count_less f g more (x ∷ xs) = by (f x) refl (count_less f g more xs)
         let g_is : count_by g (x ∷ xs) ≡ one_if (g x) + count_by g xs = sum_by-cons (λ z. one_if (g z)) x xs in
         omega (arith, le, head_f, f_is, g_is)
 
-count_one_less : {X : Type 0} (f g : X → Bool) → ((x : X) → f x ≡ true → g x ≡ true) → (xs : List X) (x : X) → Contains xs x → f x ≡ false → g x ≡ true → count_by f xs < count_by g xs
+-- and one more, where there is one more
+pub count_one_less : {X : Type 0} (f g : X → Bool) → ((x : X) → f x ≡ true → g x ≡ true) → (xs : List X) (x : X) → Contains xs x → f x ≡ false → g x ≡ true → count_by f xs < count_by g xs
 count_one_less f g more [] x there fails passes = absurd (let lt = there.1 in omega (arith, lt))
 count_one_less {X} f g more (y ∷ ys) x there fails passes = elim (Contains-split y ys x there) [
   | inl same ↦

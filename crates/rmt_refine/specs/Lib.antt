@@ -17,3 +17,4 @@ pub mod Commits
 pub mod Fit
 pub mod EventRuns
 pub mod ShortCommits
+pub mod RunStates

@@ -2,6 +2,7 @@
 
 ghost use Rattle.rmt_refine.specs.Commits.{ChangesAreUnseen, CommitsKeepEntries, PacketsSeeOneState};
 ghost use Rattle.rmt_refine.specs.EventRuns.{EventsAreAnswered};
+ghost use Rattle.rmt_refine.specs.RunStates.{RunsPassReachedStates};
 ghost use Rattle.rmt_refine.specs.ShortCommits.{CommitsAreShort};
 ghost use Rattle.rmt_refine.specs.Laws.{ListsAreAnswered, LookUpsFindHits, OwnLooksAreInItsView, PacketsAreAnswered};
 
@@ -67,4 +68,11 @@ pub fn event_lists()
 /// commit before it added or removed.
 pub fn short_commits()
     ensures { CommitsAreShort }
+{}
+
+/// Each state that a run of packets and commits passes is a reached one, and its cells are those of its cycle: of the
+/// same version, and every look-up finds the same in them. So what is said of reached states, as that commits are
+/// short, is said of every state of every run.
+pub fn passed_states()
+    ensures { RunsPassReachedStates }
 {}

@@ -25,7 +25,8 @@ use Rattle.rmt_update.specs.Coming.{KeepsEntry}
 use Rattle.rmt_update.specs.Encoded.{part_of}
 use Rattle.rmt_update.specs.Told.{is_whole, told_entry}
 use Rattle.rmt_update.proofs.NamedLaws.{params-at}
-use Rattle.rmt_update.proofs.SpelledLaws.{args-spelled, tests-spelled, whole-mask}
+use Rattle.rmt_refine.proofs.SpelledFieldLaws.{tests_spelled}
+use Rattle.rmt_update.proofs.SpelledLaws.{args-spelled, whole-mask}
 
 abbrev widths : ActionName → List ℕ
 widths a = a.params
@@ -74,7 +75,7 @@ module _ (t : TableName) (first cell visible : ℕ) (e : Entry) (k : Kept) (fit 
   told-tests : tests_of_key t.keys (number_of k.key.items) (if is_whole t.kind then 2 ^ sum t.keys - 1 else number_of k.mask.items) ≡ e.tests
   told-tests =
       ap (λ n. tests_of_key t.keys n (if is_whole t.kind then 2 ^ sum t.keys - 1 else number_of k.mask.items)) key
-      ∙ ap (tests_of_key t.keys (tests_as_one (part_of false) t.keys e.tests)) mask ∙ tests-spelled t.keys e.tests fit.tests
+      ∙ ap (tests_of_key t.keys (tests_as_one (part_of false) t.keys e.tests)) mask ∙ tests_spelled t.keys e.tests fit.tests
 
   told-args : args_of_data (params_in t (k.code - first)) (number_of k.held.items) ≡ e.args
   told-args =

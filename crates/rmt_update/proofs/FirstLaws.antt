@@ -1,18 +1,19 @@
 -- Which entries of a prefix or ternary table go first, how many do, and the numbers by which they are put into rows.
-use Rattle.std.proofs.Common.{◌≡◌, ◌⊎◌, ℕ, ◌+◌, ◌-◌, ◌*◌, ◌^◌, ◌<◌, ◌≤◌, ◌==◌, Bool, true, false, ◌&&◌, ◌||◌, cond, List, [], ◌∷◌, length, map, get_or, All, Contains, refl, sym, ap, ◌∙◌, subst, inl, inr, arith}
+use Rattle.std.proofs.Common.{◌≡◌, ◌≢◌, ◌⊎◌, ℕ, ◌+◌, ◌-◌, ◌*◌, ◌^◌, ◌<◌, ◌≤◌, ◌==◌, Bool, true, false, ◌&&◌, ◌||◌, cond, List, [], ◌∷◌, length, map, get_or, All, Contains, refl, sym, ap, ◌∙◌, subst, inl, inr, arith}
 use Rattle.std.specs.Prelude.{count_by, nat_lt}
 use Rattle.std.specs.List.Sorted.{IsPermutation}
 use Rattle.std.proofs.lemmas.Bool.{and_from, and_parts, cases_lt, eq-eqb, eqb-true, false≢true, false_from_ne_true, lt-ltb, ltb-true, or_cases, or_left, or_right}
 use Rattle.std.proofs.lemmas.List.Elements.{All-head, All-tail}
 use Rattle.std.proofs.lemmas.List.Sorted.{sum_by-IsPermutation}
 use Rattle.std.proofs.lemmas.List.Sums.{count_by-le-length, sum_by-cons}
+use Rattle.rmt_bits.proofs.AlikeLaws.{map_alike}
 use Rattle.rmt_bits.proofs.ListLaws.{sum_by-map}
-use Rattle.rmt_bits.proofs.MemberLaws.{Contains-split}
 use Rattle.rmt_bits.proofs.OptionLaws.{same_Bool}
 use Rattle.rmt_ast.specs.declared.entry.Entry.{Entry}
 use Rattle.rmt_ast.specs.declared.program.Kind.{Kind}
 use Rattle.rmt_ast.specs.declared.program.Kind.TheVariants as kind
 use Rattle.rmt_ast.specs.RowOrder.{goes_first}
+use Rattle.rmt_refine.proofs.RoomOrderLaws.{count_one_less, fewer_first}
 use Rattle.rmt_update.specs.Spots.{order_by}
 
 -- prefix and ternary tables have rows
@@ -52,18 +53,6 @@ is-first kind.Exact a b h = absurd h
 is-first kind.Prefix a b h = is-less b.rank a.rank a.rank b.rank a.number b.number h
 is-first kind.Ternary a b h = is-less a.rank b.rank a.rank b.rank a.number b.number h
 
-chain : (k : Kind) (a b d : Entry) → IsFirst k a b → IsFirst k b d → IsFirst k a d
-chain kind.Keyless a b d x y = absurd x
-chain kind.Exact a b d x y = absurd x
-chain kind.Prefix a b d (inl x) (inl y) = inl (omega (arith, x, y))
-chain kind.Prefix a b d (inl x) (inr y) = let e = y.0 in inl (omega (arith, x, e))
-chain kind.Prefix a b d (inr x) (inl y) = let e = x.0 in inl (omega (arith, y, e))
-chain kind.Prefix a b d (inr x) (inr y) = let l = x.1 in let r = y.1 in inr (x.0 ∙ y.0, omega (arith, l, r))
-chain kind.Ternary a b d (inl x) (inl y) = inl (omega (arith, x, y))
-chain kind.Ternary a b d (inl x) (inr y) = let e = y.0 in inl (omega (arith, x, e))
-chain kind.Ternary a b d (inr x) (inl y) = let e = x.0 in inl (omega (arith, y, e))
-chain kind.Ternary a b d (inr x) (inr y) = let l = x.1 in let r = y.1 in inr (x.0 ∙ y.0, omega (arith, l, r))
-
 never : (k : Kind) (a : Entry) → IsFirst k a a → ⊥
 never kind.Keyless a h = h
 never kind.Exact a h = h
@@ -100,50 +89,6 @@ either k a b (inr is) lt = subst (λ j. IsFirst j a b ⊎ IsFirst j b a) (sym is
 abbrev one_if : Bool → ℕ
 one_if b = cond b 1 0
 
--- more items pass a test that all of another pass
-count-less : {X : Type 0} (f g : X → Bool) → ((x : X) → f x ≡ true → g x ≡ true) → (xs : List X) → count_by f xs ≤ count_by g xs
-count-less f g more [] = omega arith
-count-less f g more (x ∷ xs) = by (f x) refl (count-less f g more xs)
-  where
-    by : (b : Bool) → f x ≡ b → count_by f xs ≤ count_by g xs → count_by f (x ∷ xs) ≤ count_by g (x ∷ xs)
-    by true e le =
-        let head_f : one_if (f x) ≡ 1 = ap one_if e in
-        let head_g : one_if (g x) ≡ 1 = ap one_if (more x e) in
-        let f_is : count_by f (x ∷ xs) ≡ one_if (f x) + count_by f xs = sum_by-cons (λ z. one_if (f z)) x xs in
-        let g_is : count_by g (x ∷ xs) ≡ one_if (g x) + count_by g xs = sum_by-cons (λ z. one_if (g z)) x xs in
-        omega (arith, le, head_f, head_g, f_is, g_is)
-    by false e le =
-        let head_f : one_if (f x) ≡ 0 = ap one_if e in
-        let f_is : count_by f (x ∷ xs) ≡ one_if (f x) + count_by f xs = sum_by-cons (λ z. one_if (f z)) x xs in
-        let g_is : count_by g (x ∷ xs) ≡ one_if (g x) + count_by g xs = sum_by-cons (λ z. one_if (g z)) x xs in
-        omega (arith, le, head_f, f_is, g_is)
-
--- and one more, where there is one more
-count-one-less : {X : Type 0} (f g : X → Bool) → ((x : X) → f x ≡ true → g x ≡ true) → (xs : List X) (x : X) → Contains xs x → f x ≡ false → g x ≡ true → count_by f xs < count_by g xs
-count-one-less f g more [] x there fails passes = absurd (let lt = there.1 in omega (arith, lt))
-count-one-less {X} f g more (y ∷ ys) x there fails passes = elim (Contains-split y ys x there) [
-  | inl same ↦
-      let le = count-less f g more ys in
-      let head_f : one_if (f y) ≡ 0 = ap one_if (ap f same ∙ fails) in
-      let head_g : one_if (g y) ≡ 1 = ap one_if (ap g same ∙ passes) in
-      let f_is : count_by f (y ∷ ys) ≡ one_if (f y) + count_by f ys = sum_by-cons (λ z. one_if (f z)) y ys in
-      let g_is : count_by g (y ∷ ys) ≡ one_if (g y) + count_by g ys = sum_by-cons (λ z. one_if (g z)) y ys in
-      omega (arith, le, head_f, head_g, f_is, g_is)
-  | inr later ↦
-      let lt = count-one-less f g more ys x later fails passes in
-      let heads = head-le y in
-      let f_is : count_by f (y ∷ ys) ≡ one_if (f y) + count_by f ys = sum_by-cons (λ z. one_if (f z)) y ys in
-      let g_is : count_by g (y ∷ ys) ≡ one_if (g y) + count_by g ys = sum_by-cons (λ z. one_if (g z)) y ys in
-      omega (arith, lt, heads, f_is, g_is)
-]
-  where
-    head-le : (z : X) → one_if (f z) ≤ one_if (g z)
-    head-le z = by (f z) refl
-      where
-        by : (b : Bool) → f z ≡ b → one_if (f z) ≤ one_if (g z)
-        by true e = (let head_g : one_if (g z) ≡ 1 = ap one_if (more z e) in let head_f : one_if (f z) ≡ 1 = ap one_if e in omega (arith, head_g, head_f))
-        by false e = (let head_f : one_if (f z) ≡ 0 = ap one_if e in omega (arith, head_f))
-
 module _ (k : Kind) (es : List Entry) where
   -- how many of the entries go before one
   abbrev pub firsts : Entry → ℕ
@@ -155,20 +100,32 @@ module _ (k : Kind) (es : List Entry) where
   -- fewer than there are
   pub firsts-within : (e : Entry) → Contains es e → firsts e < length es
   firsts-within e there =
-      let lt = count-one-less (λ f. goes_first k f e) (λ f. true) (λ f h. refl) es e there (not-first e) refl in
+      let lt = count_one_less (λ f. goes_first k f e) (λ f. true) (λ f h. refl) es e there (not-first e) refl in
       let le = count_by-le-length (λ (f : Entry). true) es in
       omega (arith, lt, le)
 
   -- an entry that goes before another has fewer before it
   fewer : (a b : Entry) → Contains es a → IsFirst k a b → firsts a < firsts b
-  fewer a b there h =
-      count-one-less (λ f. goes_first k f a) (λ f. goes_first k f b) (λ f g. is-first k f b (chain k f a b (first-is k f a g) h)) es a there (not-first a) (is-first k a b h)
+  fewer a b there h = fewer_first k es a b there (is-first k a b h)
 
   -- so entries of different numbers have different ones
   pub firsts-differ : IsRowKind k → (a b : Entry) → Contains es a → Contains es b → a.number < b.number → firsts a ≡ firsts b → ⊥
   firsts-differ rowed a b in_a in_b lt same = elim (either k a b rowed lt) [
     | inl h ↦ let less = fewer a b in_a h in omega (arith, less, same)
     | inr h ↦ let less = fewer b a in_b h in omega (arith, less, same)
+  ]
+
+  -- and that which has fewer before it goes first
+  pub goes-by-count : IsRowKind k → (a b : Entry) → Contains es a → Contains es b → a.number ≢ b.number → firsts a < firsts b → goes_first k a b ≡ true
+  goes-by-count rowed a b in_a in_b differ less = elim (cases_lt a.number b.number) [
+    | inl lt ↦ elim (either k a b rowed lt) [
+      | inl h ↦ is-first k a b h
+      | inr h ↦ let more = fewer b a in_b h in absurd (omega (arith, more, less))
+    ]
+    | inr ge ↦ elim (either k b a rowed (omega (arith, ge, differ))) [
+      | inl h ↦ let more = fewer b a in_b h in absurd (omega (arith, more, less))
+      | inr h ↦ is-first k a b h
+    ]
   ]
 
 -- ---- the numbers by which they are sorted
@@ -219,10 +176,6 @@ count-same f g (x ∷ xs) all =
     sum_by-cons (λ z. one_if (f z)) x xs ∙ ap (λ b. one_if b + count_by f xs) (All-head (λ y. f y ≡ g y) x xs all) ∙ ap (λ n. one_if (g x) + n) (count-same f g xs (All-tail (λ y. f y ≡ g y) x xs all))
     ∙ sym (sum_by-cons (λ z. one_if (g z)) x xs)
 
-map-same : {X Y : Type 0} (f g : X → Y) (xs : List X) → All (λ x. f x ≡ g x) xs → map f xs ≡ map g xs
-map-same f g [] all = refl
-map-same f g (x ∷ xs) all = ap (λ y. y ∷ map f xs) (All-head (λ y. f y ≡ g y) x xs all) ∙ ap (λ ys. g x ∷ ys) (map-same f g xs (All-tail (λ y. f y ≡ g y) x xs all))
-
 pub map-twice : {X Y Z : Type 0} (g : Y → Z) (f : X → Y) (xs : List X) → map g (map f xs) ≡ map (λ x. g (f x)) xs
 map-twice g f [] = refl
 map-twice g f (x ∷ xs) = ap (λ ys. g (f x) ∷ ys) (map-twice g f xs)
@@ -232,7 +185,7 @@ pub rows-are : (k : Kind) (es : List Entry) (orders sorted : List ℕ) → IsRow
     → IsPermutation orders sorted → map (λ o. count_by (λ n. nat_lt n o) sorted) orders ≡ map (λ e. count_by (λ f. goes_first k f e) es) es
 rows-are k es orders sorted rowed are ranks numbers moved =
     ap (map (λ o. count_by (λ n. nat_lt n o) sorted)) are ∙ map-twice (λ o. count_by (λ n. nat_lt n o) sorted) (order_by k) es
-    ∙ map-same (λ e. count_by (λ n. nat_lt n (order_by k e)) sorted) (λ e. count_by (λ f. goes_first k f e) es) es (λ i d lt. one (get_or es i d) (low i d lt))
+    ∙ map_alike (λ e. count_by (λ n. nat_lt n (order_by k e)) sorted) (λ e. count_by (λ f. goes_first k f e) es) es (λ i d lt. one (get_or es i d) (low i d lt))
   where
     low : All Low es
     low i d lt = record { rank = ranks i d lt; number = numbers i d lt }

@@ -1,12 +1,12 @@
 -- The first free row that keeps the order is the first room that an entry that comes may take.
-use Rattle.std.proofs.Common.{◌≡◌, ◌≢◌, ℕ, zero, suc, ◌<◌, Bool, true, false, not, ◌&&◌, ◌||◌, cond, eqb, List, [], ◌∷◌, Option, Some, None, refl, sym, ap, ◌∙◌, arith}
+use Rattle.std.proofs.Common.{◌≡◌, ℕ, zero, suc, ◌<◌, Bool, true, false, not, ◌&&◌, ◌||◌, cond, eqb, List, [], ◌∷◌, Option, Some, None, refl, sym, ap, ◌∙◌, arith}
 use Rattle.std.specs.Prelude.{All, Contains, find, nat_lt, option_and_then, slice_get}
 use Rattle.std.specs.List.{list_all}
 use Rattle.std.specs.BTreeMap.{BTreeMap, get}
 use Rattle.std.specs.BTreeSet.{BTreeSet, contains}
 use Rattle.std.specs.Ordering.{nat_cmp}
 use Rattle.std.specs.declared.cmp.Ordering.TheVariants.{Less}
-use Rattle.std.proofs.lemmas.Bool.{and_parts, eq-eqb, eqb-true, false≢true}
+use Rattle.std.proofs.lemmas.Bool.{and_from, and_parts, eq-eqb, eqb-true, false≢true}
 use Rattle.std.proofs.lemmas.Bool.Decides.{nat_tests}
 use Rattle.std.proofs.lemmas.List.Elements.{All-contains, All-head, All-tail}
 use Rattle.std.proofs.lemmas.Option.{none-some, same_Some}
@@ -34,17 +34,12 @@ find-no : (test : Room → Bool) (xs : List Room) → ((j : ℕ) (y : Room) → 
 find-no test [] all = refl
 find-no test (z ∷ xs) all = ap (λ b. cond b (Some z) (find test xs)) (all 0 z refl) ∙ find-no test xs (λ j y here. all (suc j) y here)
 
-both-true : (a b : Bool) → a ≡ true → b ≡ true → (a && b) ≡ true
-both-true true true p q = refl
-both-true true false p q = q
-both-true false b p q = p
-
 -- ---- an order by pairs
 
 module _ (cells : RunCells) (placed : List Placed) (kind : Kind) (e : Entry) (key : Entry → ℕ × ℕ) (rooms : List Room) (rows : BTreeMap (ℕ × ℕ) ℕ) (free : BTreeSet ℕ)
-    (goes : (a b : Entry) → a.rank < 4294967296 → b.rank < 4294967296 → goes_first kind a b ≡ true → pair_cmp (key a) (key b) ≡ Less)
-    (goes-by : (a b : Entry) → a.rank < 4294967296 → b.rank < 4294967296 → pair_cmp (key a) (key b) ≡ Less → goes_first kind a b ≡ true)
-    (low : All (λ (p : Placed). p.entry.rank < 4294967296) placed) (low-own : e.rank < 4294967296)
+    (Low : Entry → Type 0) (goes : (a b : Entry) → Low a → Low b → goes_first kind a b ≡ true → pair_cmp (key a) (key b) ≡ Less)
+    (goes-by : (a b : Entry) → Low a → Low b → pair_cmp (key a) (key b) ≡ Less → goes_first kind a b ≡ true)
+    (low : All (λ (p : Placed). p.entry.table ≡ e.table → Low p.entry) placed) (low-own : Low e)
     (before : (i j : ℕ) (a b : Room) → slice_get rooms i ≡ Some a → slice_get rooms j ≡ Some b → is_before a b ≡ nat_lt i j)
     (are-free : (i : ℕ) (a : Room) → slice_get rooms i ≡ Some a → is_free cells placed a ≡ contains nat_cmp free i)
     (within : (i : ℕ) → contains nat_cmp free i ≡ true → (a : Room) × (slice_get rooms i ≡ Some a))
@@ -67,7 +62,7 @@ module _ (cells : RunCells) (placed : List Placed) (kind : Kind) (e : Entry) (ke
       let asked = All-contains (λ (q : Placed). asks room q ≡ true) placed p.0 (All-from_test (λ (q : Placed). asks room q ≡ true) (asks room) (λ q h. h) placed keeps) p.1 in
       let two = one (eqb p.0.entry.table e.table) _ (eq-eqb p.0.entry.table e.table p.2) asked in
       let parts = and_parts _ _ two in
-      let small = All-contains (λ (q : Placed). q.entry.rank < 4294967296) placed p.0 low p.1 in (
+      let small = All-contains (λ (q : Placed). q.entry.table ≡ e.table → Low q.entry) placed p.0 low p.1 p.2 in (
         λ l. less j i (sym (before j i p.0.room room p.4 at) ∙ then (goes_first kind p.0.entry e) _ (goes-by p.0.entry e small low-own (ap (λ m. pair_cmp m (key e)) (sym p.3) ∙ l)) parts.0),
         λ l. less i j (sym (before i j room p.0.room at p.4) ∙ then (goes_first kind e p.0.entry) _ (goes-by e p.0.entry low-own small (ap (pair_cmp (key e)) (sym p.3) ∙ l)) parts.1),
       )
@@ -88,18 +83,18 @@ module _ (cells : RunCells) (placed : List Placed) (kind : Kind) (e : Entry) (ke
       unless true b h = h refl
       unless false b h = refl
 
-      all : (ps : List Placed) → All (λ (p : Placed). p.entry.table ≡ e.table → (j : ℕ) × (slice_get rooms j ≡ Some p.room) × (get pair_cmp rows (key p.entry) ≡ Some j)) ps → All (λ (p : Placed). p.entry.rank < 4294967296) ps → list_all (asks room) ps ≡ true
+      all : (ps : List Placed) → All (λ (p : Placed). p.entry.table ≡ e.table → (j : ℕ) × (slice_get rooms j ≡ Some p.room) × (get pair_cmp rows (key p.entry) ≡ Some j)) ps → All (λ (p : Placed). p.entry.table ≡ e.table → Low p.entry) ps → list_all (asks room) ps ≡ true
       all [] every lows = refl
       all (p ∷ ps) every lows =
-          both-true (asks room p) (list_all (asks room) ps)
+          and_from (asks room p) (list_all (asks room) ps)
           (unless (eqb p.entry.table e.table) _ (λ t.
           let place = All-head (λ (q : Placed). q.entry.table ≡ e.table → (j : ℕ) × (slice_get rooms j ≡ Some q.room) × (get pair_cmp rows (key q.entry) ≡ Some j)) p ps every (eqb-true p.entry.table e.table t) in
           let fitted = fit (key p.entry) place.0 place.2 in
-          let small = All-head (λ (q : Placed). q.entry.rank < 4294967296) p ps lows in
-          both-true _ _
+          let small = All-head (λ (q : Placed). q.entry.table ≡ e.table → Low q.entry) p ps lows (eqb-true p.entry.table e.table t) in
+          and_from _ _
           (unless (goes_first kind p.entry e) _ (λ g. before place.0 i p.room room place.1 at ∙ is-less place.0 i (fitted.0 (goes p.entry e small low-own g))))
           (unless (goes_first kind e p.entry) _ (λ g. before i place.0 room p.room at place.1 ∙ is-less i place.0 (fitted.1 (goes e p.entry low-own small g))))))
-          (all ps (All-tail (λ (q : Placed). q.entry.table ≡ e.table → (j : ℕ) × (slice_get rooms j ≡ Some q.room) × (get pair_cmp rows (key q.entry) ≡ Some j)) p ps every) (All-tail (λ (q : Placed). q.entry.rank < 4294967296) p ps lows))
+          (all ps (All-tail (λ (q : Placed). q.entry.table ≡ e.table → (j : ℕ) × (slice_get rooms j ≡ Some q.room) × (get pair_cmp rows (key q.entry) ≡ Some j)) p ps every) (All-tail (λ (q : Placed). q.entry.table ≡ e.table → Low q.entry) p ps lows))
 
   abbrev test : Room → Bool
   test room = is_free cells placed room && keeps_order kind placed e room
@@ -116,4 +111,4 @@ module _ (cells : RunCells) (placed : List Placed) (kind : Kind) (e : Entry) (ke
   first-row None none = find-no test rooms (λ j y at. fails j y at (none j))
   first-row (Some i) h =
       let there = within i h.0 in
-      find-at test rooms i there.0 there.1 (both-true _ _ (are-free i there.0 there.1 ∙ h.0) (keeps i there.0 there.1 h.1)) (λ j y lt at. fails j y at (h.2 j lt)) ∙ sym there.1
+      find-at test rooms i there.0 there.1 (and_from _ _ (are-free i there.0 there.1 ∙ h.0) (keeps i there.0 there.1 h.1)) (λ j y lt at. fails j y at (h.2 j lt)) ∙ sym there.1

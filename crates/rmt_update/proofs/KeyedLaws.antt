@@ -2,11 +2,13 @@
 use Rattle.std.proofs.Common.{◌≡◌, ℕ, Bool, true, false, ◌&&◌, ◌||◌, cond, eqb, List, [], ◌∷◌, map, Option, Some, option_map, refl, sym, ap, ◌∙◌}
 use Rattle.std.specs.Prelude.{All, AllPairs, find, nat_lt}
 use Rattle.std.specs.BTreeMap.{insert_entry, is_at}
+use Rattle.std.specs.Cmp.{IsTotalOrder}
 use Rattle.std.specs.List.Sorted.{IsStrictlySortedBy}
 use Rattle.std.specs.Map.{keys_of, lookup}
 use Rattle.std.specs.Ordering.{is_eq, match_ordering, nat_cmp, ordering_then}
 use Rattle.std.specs.declared.cmp.Ordering.{Ordering}
 use Rattle.std.specs.declared.cmp.Ordering.TheVariants.{Less, Equal, Greater}
+use Rattle.std.proofs.lemmas.Cmp.{nat_cmp_total, on_total, then_total}
 use Rattle.std.proofs.lemmas.List.Elements.{All-cons, All-head, All-nil, All-tail}
 use Rattle.std.proofs.lemmas.List.Kept.{AllPairs-cons}
 use Rattle.std.proofs.lemmas.Map.Keys.{sorted_tail}
@@ -83,8 +85,12 @@ keyed-found k place n (e ∷ es) all =
     by true o q rest = refl
     by false o q rest = rest
 
-key-exact : (a b : ChangeKey) → key_cmp a b ≡ Equal → a ≡ b
+pub key-exact : (a b : ChangeKey) → key_cmp a b ≡ Equal → a ≡ b
 key-exact a b e = exact_pairs (λ (x y : ℕ × ℕ). ordering_then (nat_cmp x.0 y.0) (nat_cmp x.1 y.1)) nat_cmp (exact_pairs nat_cmp nat_cmp exact_unsigned exact_unsigned) exact_unsigned a b e
+
+pub key-total : IsTotalOrder key_cmp
+key-total =
+    then_total (on_total (λ (k : ChangeKey). k.0) (then_total (on_total (λ (p : ℕ × ℕ). p.0) nat_cmp_total) (on_total (λ (p : ℕ × ℕ). p.1) nat_cmp_total))) (on_total (λ (k : ChangeKey). k.1) nat_cmp_total)
 
 -- one more changed cell
 pub keyed-more : (es : List (ChangeKey × CellChange)) (k : ChangeKey) (x : CellChange) → All IsKeyed es → k ≡ change_key x.write → All IsKeyed (insert_entry key_cmp es k x)

@@ -30,7 +30,8 @@ use Rattle.rmt_update.specs.declared.book.loading.TableTried.TheVariants as tabl
 use Rattle.rmt_update.specs.declared.book.spots.Spot.{Spot}
 use Rattle.rmt_update.specs.declared.book.table.PartCells.{PartCells}
 use Rattle.rmt_update.specs.declared.book.table.TableCells.{TableCells}
-use Rattle.rmt_update.specs.Loads.{AreTables, IsTriedAt, StandBy, keys_of, layout_in, table_of}
+use Rattle.rmt_update.specs.FirstFull.{keys_of}
+use Rattle.rmt_update.specs.Loads.{AreTables, IsTriedAt, StandBy, layout_in, table_of}
 use Rattle.rmt_update.specs.Spots.{placed_in, spot_from, spots_at}
 use Rattle.rmt_update.proofs.FirstLaws.{IsRowKind, firsts, firsts-differ, firsts-within, map-twice}
 use Rattle.rmt_update.proofs.PlacedLaws.{FitsHere, NodeStands, StandsAt, none-stand, table-stands, zip-pairs}

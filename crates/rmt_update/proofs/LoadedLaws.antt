@@ -1,7 +1,7 @@
 -- What comes of loading all tables, in the words of a commit that moves cells.
-use Rattle.std.proofs.Common.{◌≡◌, ℕ, suc, ◌+◌, ◌<◌, ◌==◌, List, [], ◌∷◌, ◌++◌, length, Option, Some, None, refl, sym, ap, ◌∙◌, subst, inl, inr, arith}
+use Rattle.std.proofs.Common.{◌≡◌, ℕ, suc, ◌+◌, ◌*◌, ◌<◌, ◌==◌, List, [], ◌∷◌, ◌++◌, length, Option, Some, None, option_map, refl, sym, ap, ◌∙◌, subst, inl, inr, arith}
 use Rattle.std.specs.Prelude.{All, slice_get, unwrap_or}
-use Rattle.std.specs.List.{AllZip}
+use Rattle.std.specs.List.{AllZip, flat_map}
 use Rattle.std.proofs.lemmas.Bool.{cases_lt}
 use Rattle.std.proofs.lemmas.List.{length-append}
 use Rattle.std.proofs.lemmas.Option.{none-some, same_Some, slice_get_within}
@@ -12,23 +12,30 @@ use Rattle.rmt_ast.specs.declared.names.Names.{Names}
 use Rattle.rmt_ast.specs.declared.names.TableName.{TableName}
 use Rattle.rmt_ast.specs.declared.program.Kind.TheVariants as kind
 use Rattle.rmt_ast.specs.Changes.{list_of}
-use Rattle.rmt_ast.specs.NameRules.{AreEntriesOf, terms_of_name}
+use Rattle.rmt_ast.specs.EntryLists.{Terms}
+use Rattle.rmt_ast.specs.NameRules.{AreEntriesOf, terms_named, terms_of_name}
 use Rattle.rmt_config.specs.declared.config.Config.{Config}
 use Rattle.rmt_config.specs.Commits.{AreFilled, Placed}
-use Rattle.rmt_config.specs.Rooms.{parts_of}
+use Rattle.rmt_config.specs.declared.config.Memory.{Memory}
+use Rattle.rmt_config.specs.declared.config.Memory.TheVariants.{Without, Exact, Ternary}
+use Rattle.rmt_config.specs.Rooms.{PartAt, parts_of}
 use Rattle.rmt_cuckoo.specs.declared.layout.Ways.{Ways}
 use Rattle.rmt_cuckoo.specs.Loading.{IsLoading, IsOverfull}
 use Rattle.rmt_update.specs.declared.book.loading.Full.{Full}
 use Rattle.rmt_update.specs.declared.book.loading.Loaded.{Loaded}
 use Rattle.rmt_update.specs.declared.book.loading.TableTried.TheVariants as table
 use Rattle.rmt_update.specs.declared.book.spots.Spot.{Spot}
+use Rattle.rmt_update.specs.declared.book.grid.Grid.{Grid}
+use Rattle.rmt_update.specs.declared.book.grid.Grid.TheVariants as grid
+use Rattle.rmt_update.specs.declared.book.table.PartCells.{PartCells}
 use Rattle.rmt_update.specs.declared.book.table.TableCells.{TableCells}
-use Rattle.rmt_update.specs.Loads.{AreStuck, AreTables, IsFirstFull, IsLoaded, IsStuck, IsTriedAt, StandBy, StandUpto, keys_of, layout_in, table_of}
-use Rattle.rmt_update.specs.Planned.{HasNoLoading}
+use Rattle.rmt_update.specs.FirstFull.{HasNoLoading, IsFirstFull, keys_of, layout_at, ways_in}
+use Rattle.rmt_update.specs.Loads.{AreStuck, AreTables, HasShape, IsLoaded, IsStuck, IsTriedAt, StandBy, StandUpto, layout_in, table_of, ways_for}
+use Rattle.rmt_update.specs.PartShape.{IsGrid}
 use Rattle.rmt_update.specs.Spots.{placed_from, placed_in}
 use Rattle.rmt_update.proofs.LoadLaws.{NodeTried, loading-of, node-tried, table-entries}
 use Rattle.rmt_update.proofs.PlacedLaws.{NodeStands, all-stand}
-use Rattle.rmt_update.proofs.TableRules.{own-table}
+use Rattle.rmt_update.proofs.TableRules.{own-table, terms-found}
 
 -- no table has both a loading and keys with too few cells
 abbrev pub NeverBoth : Type 0
@@ -39,6 +46,22 @@ zip-from R [] [] long each = tt
 zip-from R [] (y ∷ ys) long each = absurd (omega (arith, long))
 zip-from R (x ∷ xs) [] long each = absurd (omega (arith, long))
 zip-from R (x ∷ xs) (y ∷ ys) long each = (each 0 x y refl refl, zip-from R xs ys (omega (arith, long)) (λ i z w at_z at_w. each (suc i) z w at_z at_w))
+
+-- the ways of parts are those of their slots
+layout-is : (ps : List PartAt) (xs : List PartCells) → AllZip HasShape ps xs → layout_in xs ≡ flat_map (λ (p : PartAt). ways_in p.slot.memory) ps
+layout-is [] [] zip = refl
+layout-is [] (x ∷ xs) zip = absurd zip
+layout-is (p ∷ ps) [] zip = absurd zip
+layout-is (p ∷ ps) (x ∷ xs) zip =
+    ap (λ ws. ws ++ layout_in xs) (by p.slot.memory x.shape.grid zip.0.grid) ∙ ap (λ ws. ways_in p.slot.memory ++ ws) (layout-is ps xs zip.1)
+  where
+    by : (m : Memory) (g : Grid) → IsGrid m g → ways_for g ≡ ways_in m
+    by Without g is = absurd is
+    by (Exact k per quanta first keys records counters) (grid.Ways w) is =
+        ap (λ n. record { rows = n; per = w.per } ∷ []) is.1 ∙ ap (λ n. record { rows = 1024 * quanta; per = n } ∷ []) is.2
+    by (Exact k per quanta first keys records counters) (grid.Rows rows) is = absurd is
+    by (Ternary quanta keys records counters) (grid.Ways w) is = absurd is
+    by (Ternary quanta keys records counters) (grid.Rows rows) is = refl
 
 -- ---- node by node
 
@@ -118,22 +141,42 @@ module _ (c : Config) (names : Names) (tables : List TableCells) (lists : List (
     none-loads stuck seed few some = let one = stuck seed few in stuck-none seed one.0 one.1 some.0 some.1
 
   -- the first that doesn't
-  first-loads : (seed node : ℕ) (spots : List (List Spot)) → StandUpto tables lists seed node spots → (m : ℕ) (x : TableCells) → m < node → table_of tables m ≡ Some x → x.name.kind ≡ kind.Exact
-      → (loaded : List ℕ) × IsLoading (layout_in x.parts.items) seed (keys_of (terms_of_name x.name) (list_of lists m)) loaded
-  first-loads seed node spots upto m x lt found exact =
-      let count = upto.count_is in
-      let one = slice_get-item spots m (omega (arith, lt, count)) in
-      let stand = subst (λ o. IsTriedAt seed (list_of lists m) o (table.Stand one.0)) found (upto.each m one.0 one.1) in
-      let by = subst (λ k. StandBy x.parts.items seed (terms_of_name x.name) (list_of lists m) k one.0) exact stand in
-      (by.0, by.1)
+  first-loads : (seed node : ℕ) (spots : List (List Spot)) → StandUpto tables lists seed node spots → (m : ℕ) (t : Terms) → m < node → terms_named names m ≡ Some t → t.kind ≡ kind.Exact
+      → (loaded : List ℕ) × IsLoading (layout_at c m) seed (keys_of t (list_of lists m)) loaded
+  first-loads seed node spots upto m t lt named exact = by (table_of tables m) refl
+    where
+      by : (o : Option TableCells) → table_of tables m ≡ o → (loaded : List ℕ) × IsLoading (layout_at c m) seed (keys_of t (list_of lists m)) loaded
+      by None is = absurd (none-some t (sym (terms-found c names tables m are ∙ ap (option_map (λ (y : TableCells). terms_of_name y.name)) is) ∙ named))
+      by (Some x) is =
+          let h = own-table c names tables lists m x are is in
+          let same : terms_of_name x.name ≡ t = same_Some (terms_of_name x.name) t (sym h.terms ∙ named) in
+          let count = upto.count_is in
+          let one = slice_get-item spots m (omega (arith, lt, count)) in
+          let stand = subst (λ o. IsTriedAt seed (list_of lists m) o (table.Stand one.0)) is (upto.each m one.0 one.1) in
+          let kind_is : x.name.kind ≡ kind.Exact = ap (λ (u : Terms). u.kind) same ∙ exact in
+          let load = subst (λ k. StandBy x.parts.items seed (terms_of_name x.name) (list_of lists m) k one.0) kind_is stand in (
+            load.0,
+            subst (λ l. IsLoading l seed (keys_of t (list_of lists m)) load.0) (layout-is (parts_of c m) x.parts.items h.shapes)
+                (subst (λ u. IsLoading (layout_in x.parts.items) seed (keys_of u (list_of lists m)) load.0) same load.1),
+          )
 
-  pub first-full : (seed : ℕ) (full : Full) → IsStuck tables lists seed full → IsFirstFull tables names lists seed full.node full.members full.cells
+  pub first-full : (seed : ℕ) (full : Full) → IsStuck tables lists seed full → IsFirstFull c names lists seed full.node full.members full.cells
   first-full seed full stuck = by (table_of tables full.node) refl stuck.here
     where
       by : (o : Option TableCells) → table_of tables full.node ≡ o → IsTriedAt seed (list_of lists full.node) o (table.Overfull full.members full.cells)
-          → IsFirstFull tables names lists seed full.node full.members full.cells
+          → IsFirstFull c names lists seed full.node full.members full.cells
       by None is here = absurd here
-      by (Some x) is here = record { own = x; there = is; few = here; first = first-loads seed full.node stuck.spots stuck.before }
+      by (Some x) is here =
+          let h = own-table c names tables lists full.node x are is in
+          record {
+            terms = terms_of_name x.name;
+            there = h.terms;
+            exact = here.0;
+            own = here.1;
+            few = subst (λ l. IsOverfull l seed (keys_of (terms_of_name x.name) (list_of lists full.node)) here.1 full.cells) (layout-is (parts_of c full.node) x.parts.items h.shapes) here.2;
+            count = here.3;
+            first = first-loads seed full.node stuck.spots stuck.before;
+          }
 
 -- under one more seed
 pub stuck-more : (tables : List TableCells) (lists : List (List Entry)) (seed : ℕ) (full : Full) → AreStuck tables lists seed → IsStuck tables lists seed full → AreStuck tables lists (seed + 1)

@@ -1,8 +1,8 @@
 -- A run to which no change was made.
 use Rattle.std.proofs.Common.{◌≡◌, ◌≢◌, ℕ, zero, suc, ◌+◌, ◌<◌, ◌≤◌, ◌==◌, ◌&&◌, true, not, List, [], ◌∷◌, ◌++◌, Option, Some, None, length, map, max, drop, slice_get, length-append, option_map, unwrap_or, get_or, refl, sym, ap, subst, ◌∙◌, arith}
-use Rattle.std.specs.Prelude.{All, IfSome, IsSomeAnd, IsTrue, filter, find, fold, nat_le}
+use Rattle.std.specs.Prelude.{All, IfSome, IsSomeAnd, IsTrue, filter, find, fold}
 use Rattle.std.specs.List.{flat_map, list_all, range_with_len}
-use Rattle.std.proofs.lemmas.Bool.{and_parts, leb-true}
+use Rattle.std.proofs.lemmas.Bool.{and_parts}
 use Rattle.std.proofs.lemmas.List.{append-nil}
 use Rattle.std.proofs.lemmas.List.Sums.{fold-append}
 use Rattle.std.proofs.lemmas.List.Elements.{All-head, All-map, All-nil, All-tail}
@@ -15,8 +15,7 @@ use Rattle.rmt_ast.specs.declared.names.TableName.{TableName}
 use Rattle.rmt_ast.specs.Answers.{entry_numbers}
 use Rattle.rmt_ast.specs.Changes.{list_of, next_number}
 use Rattle.rmt_ast.specs.EntryLists.{AreEntriesAt, Terms}
-use Rattle.rmt_ast.specs.NameRules.{AreEntriesOf, action_names_differ, are_widths, has_fields, has_names, has_params, has_size, may_have_ranks, names_are_formed, nodes_rise, table_is_formed, table_names_differ, terms_named, terms_of_name}
-use Rattle.rmt_ast.specs.Naming.{has_key}
+use Rattle.rmt_ast.specs.NameRules.{AreEntriesOf, names_are_formed, nodes_rise, table_is_formed, table_names_differ, terms_named, terms_of_name}
 use Rattle.rmt_ast.specs.WellFormed.{AreDistinct}
 use Rattle.rmt_update.specs.Running.{is_among}
 use Rattle.rmt_update.specs.declared.held.Held.{Held}
@@ -25,6 +24,7 @@ use Rattle.rmt_update.specs.Stands.{AreHeld, AreLeft, AreSlots, numbers_in, some
 use Rattle.rmt_update.proofs.CommitLaws.{among_numbers}
 use Rattle.rmt_update.proofs.FilterLaws.{Rise, among_lists}
 use Rattle.rmt_update.proofs.SettleLaws.{none_gone}
+use Rattle.rmt_update.proofs.SmallLaws.{size-few}
 use Rattle.rmt_bits.proofs.MostLaws.{fold_max}
 
 -- ---- the next number
@@ -42,17 +42,11 @@ next_up_to limit z (n ∷ ns) h le =
 
 -- ---- entries of names
 
-sized : (t : TableName) → table_is_formed t ≡ true → t.size ≤ 1048576
-sized t h =
-    let p7 = and_parts (has_key t.kind && has_names t && action_names_differ t && are_widths t.keys && has_fields t.kind t.keys && list_all has_params t.actions && has_size t) (may_have_ranks t.kind t.ranks) h in
-    let p6 = and_parts (has_key t.kind && has_names t && action_names_differ t && are_widths t.keys && has_fields t.kind t.keys && list_all has_params t.actions) (has_size t) p7.0 in
-    leb-true t.size 1048576 (and_parts (nat_le 1 t.size) (nat_le t.size 1048576) p6.1).1
-
 sized_terms : (names : Names) → names_are_formed names ≡ true → (n : ℕ) → IfSome (terms_named names n) (λ t. t.size ≤ 1048576)
 sized_terms names h n = by (find (λ (t : TableName). t.node == n) names.tables) refl
   where
     all : All (λ (t : TableName). t.size ≤ 1048576) names.tables
-    all = All-from_test (λ (t : TableName). t.size ≤ 1048576) table_is_formed sized names.tables (and_parts (nodes_rise names && table_names_differ names) (list_all table_is_formed names.tables) h).1
+    all = All-from_test (λ (t : TableName). t.size ≤ 1048576) table_is_formed size-few names.tables (and_parts (nodes_rise names && table_names_differ names) (list_all table_is_formed names.tables) h).1
 
     by : (o : Option TableName) → find (λ (t : TableName). t.node == n) names.tables ≡ o → IfSome (option_map terms_of_name o) (λ t. t.size ≤ 1048576)
     by None e = tt

@@ -95,12 +95,12 @@ one-item (x ∷ xs) a b d in_a in_b same =
 
 -- ---- the slots of cells
 
-record Standing (c : Config) (k place : ℕ) (s : SlotUnit) : Type 0 where
-  stage : Stage
-  in_stages : slice_get c.stages k ≡ Some stage
-  in_units : slice_get stage.units place ≡ Some (Slot s)
+pub record Standing (c : Config) (k place : ℕ) (s : SlotUnit) : Type 0 where
+  pub stage : Stage
+  pub in_stages : slice_get c.stages k ≡ Some stage
+  pub in_units : slice_get stage.units place ≡ Some (Slot s)
 
-standing : (c : Config) (k place : ℕ) (s : SlotUnit) → slot_at c k place ≡ Some s → Standing c k place s
+pub standing : (c : Config) (k place : ℕ) (s : SlotUnit) → slot_at c k place ≡ Some s → Standing c k place s
 standing c k place s at = by_stage (slice_get c.stages k) refl at
   where
     by_unit : (stage : Stage) (o : Option Unit) → slice_get c.stages k ≡ Some stage → slice_get stage.units place ≡ o → option_and_then as_slot o ≡ Some s → Standing c k place s

@@ -17,7 +17,7 @@ use Rattle.rmt_config.specs.declared.config.SlotUnit.{SlotUnit}
 use Rattle.rmt_config.specs.declared.config.Stage.{Stage}
 use Rattle.rmt_config.specs.declared.config.Unit.{Unit}
 use Rattle.rmt_config.specs.declared.config.Memory.TheVariants.{Without, Exact, Ternary}
-use Rattle.rmt_config.specs.Cells.{Content, cells_in, content_of, is_occupied, number_of_cell}
+use Rattle.rmt_config.specs.Cells.{Content, candidates, cells_in, content_of, is_occupied, number_of_cell}
 use Rattle.rmt_config.specs.CellForm.{is_clear}
 use Rattle.rmt_config.specs.Form.{visible_with}
 use Rattle.rmt_config.specs.LaneForm.{bits_of_lanes}
@@ -32,6 +32,7 @@ use Rattle.rmt_update.specs.declared.book.table.PartCells.{PartCells}
 use Rattle.rmt_update.specs.BookStands.{HoldsPart, IsKeptOf, is_candidate}
 use Rattle.rmt_update.specs.Kept.{IsKept}
 use Rattle.rmt_update.specs.Listed.{IsListed, IsRanked}
+use Rattle.rmt_update.proofs.CandidateLaws.{IsKey, own-key, same-candidates}
 use Rattle.rmt_update.proofs.RankLaws.{same-number}
 use Rattle.rmt_update.proofs.ToldEntryLaws.{IsHead, head-occupied, head-visible, listed-heads}
 
@@ -101,7 +102,12 @@ module _ (c : Config) (t : TableName) (p : PartAt) (st : PartStands c p) (named 
   Fits x = is_candidate c.seed p (held_by c p x).key x.cell ≡ true
 
   all-fit : All Fits p.slot.numbers
-  all-fit = All-from_test Fits (λ (x : CellNumber). is_candidate c.seed p (held_by c p x).key x.cell) (λ x e. e) p.slot.numbers fit
+  all-fit =
+      All-from_test Fits (λ (x : CellNumber). list_any (λ m. eqb m x.cell) (candidates c.seed (bits_of_lanes p.slot.keys) p.slot.memory (held_by c p x).key))
+      (λ x e. ap (list_any (λ m. eqb m x.cell)) (same-candidates c.seed (bits_of_lanes p.slot.keys) p.slot.memory (held_by c p x).key (own x)) ∙ e) p.slot.numbers fit
+    where
+      own : (x : CellNumber) → IsKey (bits_of_lanes p.slot.keys) p.slot.memory (held_by c p x).key
+      own x = subst (λ (y : Content). IsKey (bits_of_lanes p.slot.keys) p.slot.memory y.key) (sym (held-is c p st x.cell)) (own-key st.stage p.slot p.slot.memory x.cell)
 
   find-kept : (n : ℕ) (ns : List CellNumber) (es : List (ℕ × Kept)) → AllZip (IsRanked c t p) ns es → All (IsHead c p) ns → All Fits ns
       → Found n (find (λ (x : CellNumber). eqb x.cell n) ns) (lookup (is_at (nat_cmp n)) es) (list_any (λ m. eqb m n) (map (λ (x : CellNumber). x.cell) ns))

@@ -1,8 +1,8 @@
 -- The ways of the exact parts of a table are numbered from part to part, four each.
-use Rattle.std.proofs.Common.{◌≡◌, ℕ, ◌+◌, ◌==◌, ◌||◌, Bool, true, false, cond, List, [], ◌∷◌, ◌++◌, map, refl, sym, ap, ◌∙◌, subst, arith}
+use Rattle.std.proofs.Common.{◌≡◌, ℕ, ◌+◌, ◌==◌, Bool, true, false, cond, List, [], ◌∷◌, ◌++◌, map, refl, sym, ap, ◌∙◌, subst, arith}
 use Rattle.std.specs.Prelude.{count_by}
 use Rattle.std.specs.List.{enumerate_from, flat_map}
-use Rattle.std.proofs.lemmas.Bool.{and_parts, eqb-true, not-true}
+use Rattle.std.proofs.lemmas.Bool.{and_parts, eqb-true, not-true, or_parts}
 use Rattle.std.proofs.lemmas.Grind.{flat_map-append}
 use Rattle.std.proofs.lemmas.List.{map-append}
 use Rattle.std.proofs.lemmas.List.Sums.{sum_by-cons}
@@ -61,10 +61,6 @@ abbrev pub SlotsFrom : ℕ → List SlotUnit → Type 0
 SlotsFrom n [] = Unit {0}
 SlotsFrom n (s ∷ ss) = (ways_follow n s.memory ≡ true) × SlotsFrom (n + 1) ss
 
-none-of : (a b : Bool) → (a || b) ≡ false → (a ≡ false) × (b ≡ false)
-none-of true b e = absurd cc
-none-of false b e = (refl, e)
-
 none-one : (node : ℕ) (u : ChipUnit) → (node_of u == node) ≡ false → own_slot node u ≡ []
 none-one node (Gate g) e = refl
 none-one node (Slot s) e = ap (λ b. cond b (s ∷ []) []) e
@@ -72,7 +68,7 @@ none-one node (Slot s) e = ap (λ b. cond b (s ∷ []) []) e
 none-among : (node : ℕ) (xs : List Placed) → is_among node xs ≡ false → slots_of node xs ≡ []
 none-among node [] e = refl
 none-among node (x ∷ xs) e =
-    let both = none-of (has_node node x) (is_among node xs) e in
+    let both = or_parts (has_node node x) (is_among node xs) e in
     ap (λ ss. ss ++ slots_of node xs) (none-one node x.unit both.0) ∙ none-among node xs both.1
 
 counted : (node : ℕ) (x : Placed) (before : List Placed) (b : Bool) → has_node node x ≡ b → count_by (has_node node) (x ∷ before) ≡ cond b 1 0 + count_by (has_node node) before

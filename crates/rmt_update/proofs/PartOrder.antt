@@ -1,11 +1,10 @@
 -- The parts of a node stand in different places, and no two nodes have a part in one place.
-use Rattle.std.proofs.Common.{◌≡◌, ◌⊎◌, ℕ, ◌+◌, ◌<◌, ◌≤◌, ◌==◌, Bool, true, false, ◌&&◌, cond, List, [], ◌∷◌, ◌++◌, get_or, Some, refl, sym, ap, ◌∙◌, subst, inl, inr, arith}
-use Rattle.std.specs.Prelude.{All, AllPairs, slice_get}
+use Rattle.std.proofs.Common.{◌≡◌, ℕ, ◌+◌, ◌≤◌, ◌==◌, Bool, true, false, ◌&&◌, cond, List, [], ◌∷◌, ◌++◌, get_or, Some, refl, sym, ap, ◌∙◌, inl, inr, arith}
+use Rattle.std.specs.Prelude.{All, AllPairs}
 use Rattle.std.specs.List.{enumerate_from, flat_map}
 use Rattle.std.proofs.lemmas.Bool.{and_parts, cases_lt, eqb-true, false_from_ne_true}
 use Rattle.std.proofs.lemmas.List.Elements.{All-append, All-cons, All-nil, All-weaker}
-use Rattle.std.proofs.lemmas.List.Kept.{AllPairs-cons}
-use Rattle.std.proofs.lemmas.Option.{get_or_from_slice_get, same_Some, slice_get_within}
+use Rattle.std.proofs.lemmas.Option.{same_Some}
 use Rattle.rmt_bits.proofs.PairLaws.{AllPairs-append, AllPairs-none}
 use Rattle.rmt_config.specs.declared.config.Config.{Config}
 use Rattle.rmt_config.specs.declared.config.SlotUnit.{SlotUnit}
@@ -17,31 +16,23 @@ use Rattle.rmt_config.specs.MemoryRules.{MemoryIsFormed}
 use Rattle.rmt_config.specs.Rooms.{PartAt, Room, is_same, parts_among, parts_of}
 use Rattle.rmt_config.specs.RunCells.{slot_at}
 use Rattle.rmt_config.proofs.SpelledParts.{parts-stand}
+use Rattle.rmt_refine.proofs.RoomOrderLaws.{among_rise}
+pub use Rattle.rmt_refine.proofs.RoomOrderLaws.{Rises, pair_at as pair-at}
 use Rattle.rmt_update.proofs.PartHoldLaws.{part-slot}
 use Rattle.rmt_update.proofs.RoomNumbers.{IsNumber, offset}
 
--- two items of a list in which all stand in pairs
-pair-at : {X : Type 0} (R : X → X → Type 0) (xs : List X) (i j : ℕ) (x y : X) → AllPairs R xs → i < j → slice_get xs i ≡ Some x → slice_get xs j ≡ Some y → R x y
-pair-at R xs i j x y pairs lt at_x at_y =
-    subst (λ z. R z y) (get_or_from_slice_get xs i x x at_x)
-    (subst (R (get_or xs i x)) (get_or_from_slice_get xs j y x at_y) (pairs i j x lt (slice_get_within xs j y at_y)))
-
 -- ---- the parts of a node rise
 
--- a part comes before another: in an earlier stage, or before it in the same one
-abbrev Rises : PartAt → PartAt → Type 0
-Rises a b = (a.stage < b.stage) ⊎ ((a.stage ≡ b.stage) × (a.place < b.place))
-
 -- a part of a stage, from a place on, of a node
-record IsFrom (node k place : ℕ) (a : PartAt) : Type 0 where
-  stage : a.stage ≡ k
-  from : place ≤ a.place
-  own : a.slot.node ≡ node
+pub record IsFrom (node k place : ℕ) (a : PartAt) : Type 0 where
+  pub stage : a.stage ≡ k
+  pub from : place ≤ a.place
+  pub own : a.slot.node ≡ node
 
 later : (node k place : ℕ) (a : PartAt) → IsFrom node k (place + 1) a → IsFrom node k place a
 later node k place a h = record { stage = h.stage; from = (let le = h.from in omega (arith, le)); own = h.own }
 
-among-from : (node k : ℕ) (units : List Unit) (place first : ℕ) → All (IsFrom node k place) (parts_among node k place first units)
+pub among-from : (node k : ℕ) (units : List Unit) (place first : ℕ) → All (IsFrom node k place) (parts_among node k place first units)
 among-from node k [] place first = All-nil (IsFrom node k place)
 among-from node k (Gate g ∷ units) place first =
     All-weaker (IsFrom node k (place + 1)) (IsFrom node k place) (later node k place) (parts_among node k (place + 1) first units) (among-from node k units (place + 1) first)
@@ -57,32 +48,15 @@ among-from node k (Slot s ∷ units) place first =
     by true is h = All-cons (IsFrom node k place) (record { stage = k; place = place; first = first; slot = s }) rest (record { stage = refl; from = omega arith; own = eqb-true s.node node is }) h
     by false is h = h
 
-among-rise : (node k : ℕ) (units : List Unit) (place first : ℕ) → AllPairs Rises (parts_among node k place first units)
-among-rise node k [] place first = AllPairs-none Rises
-among-rise node k (Gate g ∷ units) place first = among-rise node k units (place + 1) first
-among-rise node k (Slot s ∷ units) place first = by (s.node == node) (among-rise node k units (place + 1) (first + s.actions + 1))
-  where
-    rest : List PartAt
-    rest = parts_among node k (place + 1) (first + s.actions + 1) units
-
-    here : PartAt
-    here = record { stage = k; place = place; first = first; slot = s }
-
-    by : (b : Bool) → AllPairs Rises rest → AllPairs Rises (cond b (here ∷ []) [] ++ rest)
-    by true h =
-        AllPairs-cons Rises here rest
-        (All-weaker (IsFrom node k (place + 1)) (Rises here) (λ a own. let le = own.from in inr (sym own.stage, omega (arith, le))) rest (among-from node k units (place + 1) (first + s.actions + 1))) h
-    by false h = h
-
 -- the parts of stages from one on, of a node
-record IsBehind (node k : ℕ) (a : PartAt) : Type 0 where
-  stage : k ≤ a.stage
-  own : a.slot.node ≡ node
+pub record IsBehind (node k : ℕ) (a : PartAt) : Type 0 where
+  pub stage : k ≤ a.stage
+  pub own : a.slot.node ≡ node
 
-abbrev parts_from : ℕ → ℕ → List Stage → List PartAt
+abbrev pub parts_from : ℕ → ℕ → List Stage → List PartAt
 parts_from node k stages = flat_map (λ (x : ℕ × Stage). parts_among node x.0 0 0 x.1.units) (enumerate_from k stages)
 
-stages-from : (node k : ℕ) (stages : List Stage) → All (IsBehind node k) (parts_from node k stages)
+pub stages-from : (node k : ℕ) (stages : List Stage) → All (IsBehind node k) (parts_from node k stages)
 stages-from node k [] = All-nil (IsBehind node k)
 stages-from node k (stage ∷ stages) =
     All-append (IsBehind node k) (parts_among node k 0 0 stage.units) (parts_from node (k + 1) stages)
@@ -93,29 +67,29 @@ stages-rise : (node k : ℕ) (stages : List Stage) → AllPairs Rises (parts_fro
 stages-rise node k [] = AllPairs-none Rises
 stages-rise node k (stage ∷ stages) =
     let rest = parts_from node (k + 1) stages in
-    AllPairs-append Rises (parts_among node k 0 0 stage.units) rest (among-rise node k stage.units 0 0) (stages-rise node (k + 1) stages)
+    AllPairs-append Rises (parts_among node k 0 0 stage.units) rest (among_rise node k stage.units 0 0) (stages-rise node (k + 1) stages)
     (All-weaker (IsFrom node k 0) (λ a. All (Rises a) rest)
     (λ a own. let same = own.stage in All-weaker (IsBehind node (k + 1)) (Rises a) (λ b h. let le = h.stage in inl (omega (arith, le, same))) rest (stages-from node (k + 1) stages))
     (parts_among node k 0 0 stage.units) (among-from node k stage.units 0 0))
 
-parts-rise : (c : Config) (node : ℕ) → AllPairs Rises (parts_of c node)
+pub parts-rise : (c : Config) (node : ℕ) → AllPairs Rises (parts_of c node)
 parts-rise c node = stages-rise node 0 c.stages
 
 -- ---- rooms
 
 -- a room's stage, place and cell
-record SameAs (a b : Room) : Type 0 where
-  stage : b.part.stage ≡ a.part.stage
-  place : b.part.place ≡ a.part.place
-  cell : b.cell ≡ a.cell
+pub record SameAs (a b : Room) : Type 0 where
+  pub stage : b.part.stage ≡ a.part.stage
+  pub place : b.part.place ≡ a.part.place
+  pub cell : b.cell ≡ a.cell
 
-same-as : (a b : Room) → is_same a b ≡ true → SameAs a b
+pub same-as : (a b : Room) → is_same a b ≡ true → SameAs a b
 same-as a b e =
     let two = and_parts ((b.part.stage == a.part.stage) && (b.part.place == a.part.place)) (b.cell == a.cell) e in
     let one = and_parts (b.part.stage == a.part.stage) (b.part.place == a.part.place) two.0 in
     record { stage = eqb-true b.part.stage a.part.stage one.0; place = eqb-true b.part.place a.part.place one.1; cell = eqb-true b.cell a.cell two.1 }
 
-never-rises : (a b : PartAt) → Rises a b → b.stage ≡ a.stage → b.place ≡ a.place → ⊥
+pub never-rises : (a b : PartAt) → Rises a b → b.stage ≡ a.stage → b.place ≡ a.place → ⊥
 never-rises a b (inl lt) stage place = omega (arith, lt, stage)
 never-rises a b (inr both) stage place = let lt = both.1 in omega (arith, lt, place)
 

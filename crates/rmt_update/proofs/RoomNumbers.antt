@@ -6,7 +6,7 @@ use Rattle.std.proofs.lemmas.Bool.{cases_lt, eqb-true, le-ltb, lt-ltb}
 use Rattle.std.proofs.lemmas.Grind.{flat_map-append}
 use Rattle.std.proofs.lemmas.List.{length-map, map-append}
 use Rattle.std.proofs.lemmas.List.Elements.{All-head, All-tail, Contains-append_cases, Contains-append_left, Contains-append_right}
-use Rattle.std.proofs.lemmas.List.FromFn.{get_or-range_with_len, length-range_with_len}
+use Rattle.std.proofs.lemmas.List.FromFn.{length-range_with_len}
 use Rattle.std.proofs.lemmas.Nat.{mod_below}
 use Rattle.std.proofs.lemmas.Option.{none-some, same_Some}
 use Rattle.rmt_bits.specs.Bits.{bytes_of}
@@ -24,6 +24,7 @@ use Rattle.rmt_config.specs.NamesForm.{is_of_kind}
 use Rattle.rmt_config.specs.Rooms.{PartAt, Room}
 use Rattle.rmt_config.specs.Shapes.{divided_up}
 use Rattle.rmt_config.specs.TableForm.{ways_follow}
+use Rattle.rmt_refine.proofs.FindLaws.{range_bounds}
 use Rattle.rmt_cuckoo.specs.declared.layout.Ways.{Ways}
 use Rattle.rmt_cuckoo.specs.declared.way.Way.{Way}
 use Rattle.rmt_cuckoo.specs.Loading.{candidates as loaded_in, cells_in as cells_of_part, row_start, way_of, ways_from}
@@ -146,14 +147,6 @@ row-at seed key (p ∷ ps) x rows lt = elim (cases_lt x (size_of p)) [
     long = length-map (candidates seed (bits_of_lanes p.slot.keys) p.slot.memory key) (λ n. record { part = p; cell = n }) ∙ ap length range ∙ length-range_with_len 0 (size_of p)
 
 -- ---- the candidate cells of exact tables
-
-range_bounds : (a n x : ℕ) → Contains (range_with_len a n) x → (a ≤ x) × (x < a + n)
-range_bounds a n x there =
-    let lt = there.1 in
-    let long = length-range_with_len a n in
-    let at = get_or-range_with_len a n there.0 x (omega (arith, lt, long)) in
-    let same = there.2 in
-    (omega (arith, at, same), omega (arith, at, same, lt, long))
 
 shifted : (f a len : ℕ) → map (λ n. f + n) (range_with_len a len) ≡ range_with_len (f + a) len
 shifted f a zero = refl

@@ -12,7 +12,7 @@ use Rattle.rmt_ast.specs.declared.entry.Entry.{Entry}
 use Rattle.rmt_ast.specs.declared.program.Kind.TheVariants as kind
 use Rattle.rmt_update.specs.RowOrder.{entry_key}
 
-pair-less : (a b : ℕ × ℕ) → (nat_lt a.0 b.0 || (eqb a.0 b.0 && nat_lt a.1 b.1)) ≡ true → pair_cmp a b ≡ Less
+pub pair-less : (a b : ℕ × ℕ) → (nat_lt a.0 b.0 || (eqb a.0 b.0 && nat_lt a.1 b.1)) ≡ true → pair_cmp a b ≡ Less
 pair-less a b h = by (nat_lt a.0 b.0) (eqb a.0 b.0) (nat_lt a.1 b.1) (eqb a.1 b.1) h
   where
     by : (x y z w : Bool) → (x || (y && z)) ≡ true → ordering_then (cond x Less (cond y Equal Greater)) (cond z Less (cond w Equal Greater)) ≡ Less
@@ -21,7 +21,7 @@ pair-less a b h = by (nat_lt a.0 b.0) (eqb a.0 b.0) (nat_lt a.1 b.1) (eqb a.1 b.
     by false true false w h = cc
     by false false z w h = cc
 
-less-pair : (a b : ℕ × ℕ) → pair_cmp a b ≡ Less → (nat_lt a.0 b.0 || (eqb a.0 b.0 && nat_lt a.1 b.1)) ≡ true
+pub less-pair : (a b : ℕ × ℕ) → pair_cmp a b ≡ Less → (nat_lt a.0 b.0 || (eqb a.0 b.0 && nat_lt a.1 b.1)) ≡ true
 less-pair a b h = by (nat_lt a.0 b.0) (eqb a.0 b.0) (nat_lt a.1 b.1) (eqb a.1 b.1) h
   where
     by : (x y z w : Bool) → ordering_then (cond x Less (cond y Equal Greater)) (cond z Less (cond w Equal Greater)) ≡ Less → (x || (y && z)) ≡ true

@@ -1,5 +1,5 @@
 -- Rows in the order of pairs.
-use Rattle.std.proofs.Common.{◌≡◌, ℕ, ◌+◌, ◌<◌, ◌≤◌, true, false, Some, None, refl, sym, ap, ◌∙◌, ◌⊎◌, inl, inr, arith}
+use Rattle.std.proofs.Common.{◌≡◌, ℕ, ◌+◌, ◌<◌, ◌≤◌, false, Some, None, refl, sym, ap, ◌∙◌, ◌⊎◌, inl, inr, arith}
 use Rattle.std.specs.BTreeMap.{BTreeMap, get}
 use Rattle.std.specs.Ordering.{is_gt, is_lt, nat_cmp, ordering_reverse, ordering_then}
 use Rattle.std.specs.declared.cmp.Ordering.{Ordering}
@@ -12,7 +12,7 @@ use Rattle.rmt_ast.specs.RankPairs.{pair_cmp}
 use Rattle.rmt_update.specs.RowOrder.{AreInOrder}
 
 -- the order of pairs turned round
-pair-turned : (a b : ℕ × ℕ) → pair_cmp a b ≡ ordering_reverse (pair_cmp b a)
+pub pair-turned : (a b : ℕ × ℕ) → pair_cmp a b ≡ ordering_reverse (pair_cmp b a)
 pair-turned a b =
     ap (λ o. ordering_then o (nat_cmp a.1 b.1)) (nat_cmp_total.antisymm a.0 b.0) ∙ ap (ordering_then (ordering_reverse (nat_cmp b.0 a.0))) (nat_cmp_total.antisymm a.1 b.1)
     ∙ both (nat_cmp b.0 a.0) (nat_cmp b.1 a.1)

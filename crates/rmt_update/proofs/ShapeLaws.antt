@@ -3,7 +3,7 @@ use Rattle.std.proofs.Common.{◌≡◌, ℕ, ◌+◌, ◌-◌, ◌*◌, ◌^◌
 use Rattle.std.specs.List.{flat_map, range_with_len}
 use Rattle.std.proofs.lemmas.Bool.{and_parts}
 use Rattle.std.proofs.lemmas.Grind.{flat_map-append}
-use Rattle.std.proofs.lemmas.List.{append-nil, append_assoc}
+use Rattle.std.proofs.lemmas.List.{append-nil}
 use Rattle.std.proofs.lemmas.Nat.{mul-le}
 use Rattle.rmt_bits.proofs.ListLaws.{range_more}
 use Rattle.rmt_bits.specs.Bits.{bytes_of}
@@ -105,16 +105,6 @@ row-end way row rows per four low =
     let e : (way * rows + row + 1) * per ≡ (way * rows + row) * per + per = omega arith in
     let f : (4 * rows) * per ≡ 4 * (rows * per) = omega arith in
     omega (arith, le, e, f)
-
-pub row-more : (all before : List ℕ) (start cell : ℕ) → start ≤ cell → all ≡ before ++ range_with_len start (cell - start)
-    → all ++ cell ∷ [] ≡ before ++ range_with_len start (cell + 1 - start)
-row-more all before start cell le so_far =
-    let at : start + (cell - start) ≡ cell = omega (arith, le) in
-    let more : cell + 1 - start ≡ (cell - start) + 1 = omega (arith, le) in
-    let longer : range_with_len start (cell + 1 - start) ≡ range_with_len start (cell - start) ++ cell ∷ [] =
-    ap (range_with_len start) more ∙ range_more start (cell - start) ∙ ap (λ (c : ℕ). range_with_len start (cell - start) ++ c ∷ []) at in
-    ap (λ (cs : List ℕ). cs ++ cell ∷ []) so_far ∙ append_assoc before (range_with_len start (cell - start)) (cell ∷ [])
-    ∙ ap (λ (cs : List ℕ). before ++ cs) (sym longer)
 
 -- the rows of the ways so far, with one more
 pub ways-more : (row : ℕ → List ℕ) (all : List ℕ) (way : ℕ) → all ≡ flat_map row (range_with_len 0 way) → all ++ row way ≡ flat_map row (range_with_len 0 (way + 1))

@@ -1,21 +1,17 @@
 -- Steps of loading one table.
-use Rattle.std.proofs.Common.{◌≡◌, ℕ, ◌+◌, ◌*◌, ◌^◌, ◌<◌, ◌≤◌, ◌||◌, ◌&&◌, Bool, true, false, eqb, List, [], ◌∷◌, ◌++◌, get_or, length, map, sum, take, Option, refl, sym, ap, ◌∙◌, subst, inl, inr, arith}
-use Rattle.std.specs.Prelude.{All, Contains, count_by, nat_le, unwrap_or}
-use Rattle.std.specs.List.{AllZip, list_any}
-use Rattle.std.proofs.lemmas.Bool.{and_parts, both_ways, eqb-true, leb-true}
-use Rattle.std.proofs.lemmas.Bool.Decides.{Decides-eqb}
+use Rattle.std.proofs.Common.{◌≡◌, ℕ, ◌+◌, ◌*◌, ◌^◌, ◌<◌, ◌≤◌, true, List, [], ◌∷◌, ◌++◌, get_or, length, map, sum, take, Option, sym, ap, ◌∙◌, subst, inl, inr, arith}
+use Rattle.std.specs.Prelude.{All, count_by, unwrap_or}
+use Rattle.std.specs.List.{AllZip}
+use Rattle.std.proofs.lemmas.Bool.{and_parts, leb-true}
 use Rattle.std.proofs.lemmas.Grind.{flat_map-append}
 use Rattle.std.proofs.lemmas.List.{append-nil, map-append, take_more}
-use Rattle.std.proofs.lemmas.List.Elements.{All-cons, All-contains, All-nil, All-weaker}
+use Rattle.std.proofs.lemmas.List.Elements.{All-cons, All-nil, All-weaker}
 use Rattle.std.proofs.lemmas.List.Sums.{sum_by_more}
-use Rattle.std.proofs.lemmas.Map.Made.{IsDistinct-from_AllPairs}
-use Rattle.std.proofs.lemmas.Map.Steps.{length-le_from_distinct_below}
 use Rattle.std.proofs.lemmas.Option.{get_or_from_slice_get}
 use Rattle.rmt_bits.specs.Bits.{bytes_of, number_of}
-use Rattle.rmt_bits.proofs.AllLaws.{All-flat_map, All-from_test}
+use Rattle.rmt_bits.proofs.AllLaws.{All-flat_map}
 use Rattle.rmt_bits.proofs.ByteLaws.{bytes_of-number_of}
 use Rattle.rmt_bits.proofs.ListLaws.{slice_get-item}
-use Rattle.rmt_bits.proofs.MemberLaws.{Contains-first, Contains-later}
 use Rattle.rmt_ast.specs.declared.entry.Entry.{Entry}
 use Rattle.rmt_ast.specs.declared.names.TableName.{TableName}
 use Rattle.rmt_ast.specs.declared.program.Kind.{Kind}
@@ -28,14 +24,15 @@ use Rattle.rmt_ast.specs.WellFormed.{IsTest}
 use Rattle.rmt_config.specs.Rooms.{key_number}
 use Rattle.rmt_config.specs.Shapes.{divided_up}
 use Rattle.rmt_cuckoo.specs.declared.layout.Ways.{Ways}
-use Rattle.rmt_cuckoo.specs.Loading.{IsOverfull, cells_in, cells_of}
+use Rattle.rmt_cuckoo.specs.Loading.{cells_in, cells_of}
 use Rattle.rmt_update.specs.declared.book.grid.Grid.{Grid}
 use Rattle.rmt_update.specs.declared.book.grid.Grid.TheVariants as grid
 use Rattle.rmt_update.specs.declared.book.loading.TableTried.{TableTried}
 use Rattle.rmt_update.specs.declared.book.loading.TableTried.TheVariants as table
 use Rattle.rmt_update.specs.declared.book.spots.Spot.{Spot}
 use Rattle.rmt_update.specs.declared.book.table.PartCells.{PartCells}
-use Rattle.rmt_update.specs.Loads.{AreLoadedKeys, IsTried, StandBy, keys_of, layout_in, ways_for}
+use Rattle.rmt_update.specs.FirstFull.{keys_of}
+use Rattle.rmt_update.specs.Loads.{AreLoadedKeys, IsTried, StandBy, layout_in, ways_for}
 use Rattle.rmt_update.specs.Spots.{spots_at}
 use Rattle.rmt_update.proofs.FirstLaws.{IsRowKind}
 
@@ -90,31 +87,11 @@ size-few t formed = leb-true t.size 1048576 (and_parts _ _ (and_parts _ _ (and_p
 pub tests-of : (node : ℕ) (t : Terms) (es : List Entry) → All (IsEntry node t) es → All (λ (e : Entry). AllZip IsTest t.widths e.tests) es
 tests-of node t es all = All-weaker (IsEntry node t) (λ (e : Entry). AllZip IsTest t.widths e.tests) (λ e is. is.tests) es all
 
--- the keys that have too few cells are no more than all
-pub members-few : (layout : List Ways) (seed : ℕ) (keys : List (List ℕ)) (members : List ℕ) (cells : ℕ) → IsOverfull layout seed keys members cells → length members ≤ length keys
-members-few layout seed keys members cells full =
-    length-le_from_distinct_below members (length keys) (IsDistinct-from_AllPairs Decides-eqb members full.apart)
-    (λ q there. All-contains (λ m. m < length keys) members q full.are_keys (found members q there))
-  where
-    found : (ms : List ℕ) (q : ℕ) → list_any (eqb q) ms ≡ true → Contains ms q
-    found [] q e = absurd (both_ways false refl e)
-    found (m ∷ ms) q e = by (eqb q m) refl e (found ms q)
-      where
-        by : (b : Bool) → eqb q m ≡ b → (b || list_any (eqb q) ms) ≡ true → (list_any (eqb q) ms ≡ true → Contains ms q) → Contains (m ∷ ms) q
-        by true is h rest = subst (Contains (m ∷ ms)) (sym (eqb-true q m is)) (Contains-first m ms)
-        by false is h rest = Contains-later m ms q (rest h)
-
 -- the list of a node, as it is read
 pub list-is : (lists xs : List (List Entry)) (n : ℕ) (es : List Entry) → n < length lists → xs ≡ lists → es ≡ get_or xs n es → es ≡ list_of lists n
 list-is lists xs n es lt same is =
     let one = slice_get-item lists n lt in
     is ∙ ap (λ ys. get_or ys n es) same ∙ get_or_from_slice_get lists n one.0 es one.1 ∙ sym (ap (λ (o : Option (List Entry)). unwrap_or o []) one.1)
-
--- the widths of a table's keys
-pub widths-narrow : (t : TableName) → table_is_formed t ≡ true → All (λ w. w ≤ 128) t.keys
-widths-narrow t formed =
-    All-from_test (λ w. w ≤ 128) (λ w. nat_le 1 w && nat_le w 128) (λ w e. leb-true w 128 (and_parts (nat_le 1 w) (nat_le w 128) e).1) t.keys
-    (and_parts _ _ (and_parts _ _ (and_parts _ _ (and_parts _ _ (and_parts _ _ formed).0).0).0).0).1
 
 -- the keys of an exact table that were loaded, or were not
 pub exact-tried : (parts told : List PartCells) (layout : List Ways) (seed : ℕ) (t : Terms) (es : List Entry) (keys : List (List ℕ)) (tried : TableTried) → t.kind ≡ kind.Exact → told ≡ parts

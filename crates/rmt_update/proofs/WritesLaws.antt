@@ -26,7 +26,7 @@ place-of w k place n e =
     (eqb-true w.stage k two.0, eqb-true w.unit place two.1, eqb-true w.cell n parts.1)
 
 -- of changed cells in order no two are the same cell
-apart : (a b : CellWrite) (k place n : ℕ) → writes_before a b ≡ true → is_changed a k place n ≡ true → is_changed b k place n ≡ false
+pub apart : (a b : CellWrite) (k place n : ℕ) → writes_before a b ≡ true → is_changed a k place n ≡ true → is_changed b k place n ≡ false
 apart a b k place n before here = false_from_ne_true (is_changed b k place n) (λ there.
     let p = place-of a k place n here in
     let q = place-of b k place n there in

@@ -1,5 +1,5 @@
 -- What a book stands for: the cells of a run, with the entries that their version sees.
-use Rattle.std.specs.Prelude.{◌≡◌, ◌≢◌, ◌<◌, ◌==◌, ℕ, ◌%◌, List, Bool, true, Option, Some, None, All, map}
+use Rattle.std.specs.Prelude.{◌≡◌, ◌≢◌, ◌<◌, ◌==◌, ℕ, ◌%◌, ◌^◌, List, Bool, true, Option, Some, None, All, map}
 use Rattle.std.specs.List.{AllZip, list_any}
 use Rattle.std.specs.BTreeMap.{get, keys}
 use Rattle.std.specs.Ordering.{nat_cmp}
@@ -20,9 +20,9 @@ use Rattle.rmt_update.specs.Kept.{IsKept}
 use Rattle.rmt_update.specs.PartShape.{IsShape}
 use Rattle.rmt_update.specs.Seen.{IsReadable, entries_seen}
 
--- a cell of a part is one in which its key may stand under a seed
+-- a cell of a part is one in which its key, as many bits as the part's keys have, may stand under a seed
 abbrev pub is_candidate : ℕ → PartAt → ℕ → ℕ → Bool
-is_candidate seed p key n = list_any (λ m. m == n) (candidates seed (bits_of_lanes p.slot.keys) p.slot.memory key)
+is_candidate seed p key n = list_any (λ m. m == n) (candidates seed (bits_of_lanes p.slot.keys) p.slot.memory (key % 2 ^ bits_of_lanes p.slot.keys))
 
 -- what is kept under a seed of a cell that holds this and has that number: nothing of an empty one, and else an entry that some version sees
 abbrev pub IsKeptOf : ℕ → PartAt → Content → CellNumber → Option Kept → Type 0

@@ -1,7 +1,6 @@
 -- How the entries of a run are loaded into the cells of a book's tables, where cells must move, and why they can't be.
-use Rattle.std.specs.Prelude.{◌≡◌, ◌<◌, ℕ, List, [], ◌∷◌, Option, Some, None, All, count_by, find, length, map, slice_get, sum, ◌==◌}
+use Rattle.std.specs.Prelude.{◌≡◌, ◌<◌, ℕ, List, [], ◌∷◌, Option, Some, None, All, count_by, find, length, map, slice_get, ◌==◌}
 use Rattle.std.specs.List.{AllZip, flat_map}
-use Rattle.rmt_bits.specs.Bits.{bytes_of}
 use Rattle.rmt_ast.specs.Changes.{list_of}
 use Rattle.rmt_ast.specs.EntryLists.{Terms}
 use Rattle.rmt_ast.specs.NameRules.{terms_of_name}
@@ -13,8 +12,7 @@ use Rattle.rmt_ast.specs.declared.program.Kind.TheVariants.{Keyless, Exact, Pref
 use Rattle.rmt_config.specs.declared.config.Config.{Config}
 use Rattle.rmt_config.specs.Commits.{AreFilled, IsFirstSeed}
 use Rattle.rmt_config.specs.Form.{Formed}
-use Rattle.rmt_config.specs.Rooms.{PartAt, key_number, parts_of}
-use Rattle.rmt_config.specs.Shapes.{divided_up}
+use Rattle.rmt_config.specs.Rooms.{PartAt, parts_of}
 use Rattle.rmt_cuckoo.specs.declared.layout.Ways.{Ways}
 use Rattle.rmt_cuckoo.specs.Loading.{IsLoading, IsOverfull}
 use Rattle.rmt_update.specs.declared.book.loading.Full.{Full}
@@ -30,8 +28,8 @@ use Rattle.rmt_update.specs.declared.book.table.PartCells.{PartCells}
 use Rattle.rmt_update.specs.declared.book.table.TableCells.{TableCells}
 use Rattle.rmt_update.specs.declared.fault.UpdateFault.{UpdateFault}
 use Rattle.rmt_update.specs.declared.fault.UpdateFault.TheVariants.{NoMemory, LoadFull}
+use Rattle.rmt_update.specs.FirstFull.{HasNoLoading, IsFirstFull, keys_of}
 use Rattle.rmt_update.specs.PartShape.{IsShape}
-use Rattle.rmt_update.specs.Planned.{HasNoLoading}
 use Rattle.rmt_update.specs.Spots.{placed_from, spots_at}
 
 -- ---- the tables of a configuration
@@ -60,10 +58,6 @@ ways_for (grid.Rows rows) = []
 -- the exact parts of a table, as its keys are loaded into them
 abbrev pub layout_in : List PartCells → List Ways
 layout_in parts = flat_map (λ (x : PartCells). ways_for x.shape.grid) parts
-
--- the keys of entries as bytes
-abbrev pub keys_of : Terms → List Entry → List (List ℕ)
-keys_of t es = map (λ (e : Entry). bytes_of (divided_up (sum t.widths) 8) (key_number t e)) es
 
 -- ---- what comes of one table under a seed
 
@@ -128,15 +122,7 @@ pub record IsLoaded (c : Config) (names : Names) (lists : List (List Entry)) (l 
   pub many : AllZip (λ (es : List Entry) (ss : List Spot). length ss ≡ length es) lists l.spots
   pub filled : AreFilled c names l.seed lists (placed_from c 0 lists l.spots)
 
--- the first exact table that has no loading under a seed: some of its keys, so many, have so many cells, fewer than they are
-pub record IsFirstFull (tables : List TableCells) (names : Names) (lists : List (List Entry)) (seed node members cells : ℕ) : Type 0 where
-  pub own : TableCells
-  pub there : table_of tables node ≡ Some own
-  pub few : HasFew own.parts.items seed (terms_of_name own.name) (list_of lists node) members cells
-  pub first : (m : ℕ) (x : TableCells) → m < node → table_of tables m ≡ Some x → x.name.kind ≡ Exact
-      → (loaded : List ℕ) × IsLoading (layout_in x.parts.items) seed (keys_of (terms_of_name x.name) (list_of lists m)) loaded
-
 -- why nothing is loaded: for want of memory, or since no seed from 0 to 7 has a loading; then told with the first table that has none under seed 7
-abbrev pub IsNotLoaded : Config → Names → List TableCells → List (List Entry) → UpdateFault → Type 0
-IsNotLoaded c names tables lists NoMemory = Unit {0}
-IsNotLoaded c names tables lists (LoadFull node members cells) = HasNoLoading c names lists × IsFirstFull tables names lists 7 node members cells
+abbrev pub IsNotLoaded : Config → Names → List (List Entry) → UpdateFault → Type 0
+IsNotLoaded c names lists NoMemory = Unit {0}
+IsNotLoaded c names lists (LoadFull node members cells) = HasNoLoading c names lists × IsFirstFull c names lists 7 node members cells

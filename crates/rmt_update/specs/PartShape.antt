@@ -25,9 +25,10 @@ IsGrid (Exact k per quanta first_way keys records counters) (Rows rows) = ⊥
 IsGrid (Ternary quanta keys records counters) (Ways w) = ⊥
 IsGrid (Ternary quanta keys records counters) (Rows rows) = rows ≡ 2048 * quanta
 
--- a slot has keys of so many bits, and its cells lie so
+-- a slot has keys of so many bits, entries with so many bits of data, and its cells lie so
 pub record IsShape (slot : SlotUnit) (s : Shape) : Type 0 where
   pub bits : s.bits ≡ bits_of_lanes slot.keys
+  pub held : s.held ≡ slot.held
   pub grid : IsGrid slot.memory s.grid
 
 -- how many cells there are

@@ -6,7 +6,7 @@ use Rattle.rmt_ast.specs.NameRules.{AreEntriesOf}
 use Rattle.rmt_ast.specs.declared.entry.Entry.{Entry}
 use Rattle.rmt_ast.specs.declared.names.Names.{Names}
 use Rattle.rmt_config.specs.declared.config.Config.{Config}
-use Rattle.rmt_config.specs.Commits.{AreFilled, AreWrites, Makes, placed_after}
+use Rattle.rmt_config.specs.Commits.{AreWrites, Makes, placed_after}
 use Rattle.rmt_config.specs.NamesForm.{by_number}
 use Rattle.rmt_config.specs.RunCells.{RunCells, with_version}
 use Rattle.rmt_update.specs.declared.book.Book.{Book}
@@ -15,6 +15,7 @@ use Rattle.rmt_update.specs.declared.fault.UpdateFault.{UpdateFault}
 use Rattle.rmt_update.specs.declared.fault.UpdateFault.TheVariants.{NoMemory, LoadFull}
 use Rattle.rmt_update.specs.declared.lists.Changes.{Changes}
 use Rattle.rmt_update.specs.BookStands.{BookStands, IsUsed}
+use Rattle.rmt_update.specs.FirstFull.{HasNoLoading, IsFirstFull}
 use Rattle.rmt_update.specs.Running.{is_among}
 
 -- a list of a node without the entries that go and with those that come
@@ -42,11 +43,9 @@ pub record IsPlanned (c : Config) (names : Names) (cells : RunCells) (before aft
   pub writes : AreWrites c cells next plan.writes.items
   pub stands : BookStands c (with_version next plan.seed) after b
 
--- no loading of all exact tables under any seed from 0 to 7
-abbrev pub HasNoLoading : Config → Names → List (List Entry) → Type 0
-HasNoLoading c names after = (seed : ℕ) → seed < 8 → ((placed : _) × AreFilled c names seed after placed) → ⊥
-
--- why a commit is not planned: for want of memory, or since a cell must move and nothing loads
+-- why a commit is not planned: for want of memory, or since a cell must move and nothing loads; then told with the first table that has no
+-- loading under seed 7
 abbrev pub IsUnplanned : Config → Names → RunCells → List (List Entry) → List (List Entry) → UpdateFault → Type 0
 IsUnplanned c names cells before after NoMemory = Unit {0}
-IsUnplanned c names cells before after (LoadFull table members count) = (placed_after c names cells before after ≡ None) × HasNoLoading c names after
+IsUnplanned c names cells before after (LoadFull node members count) =
+    (placed_after c names cells before after ≡ None) × HasNoLoading c names after × IsFirstFull c names after 7 node members count

@@ -18,7 +18,7 @@ use std::collections::BTreeSet;
 use std::mem::replace;
 
 /// An equal entry. The only fault is want of memory.
-fn copied(alloc: Global, entry: &Entry) -> Result<Entry, AllocError>
+pub fn copied(alloc: Global, entry: &Entry) -> Result<Entry, AllocError>
     ensures { IfOk result (λ copy. copy ≡ entry.now) }
 {
     Ok(Entry {

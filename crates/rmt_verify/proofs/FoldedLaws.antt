@@ -1,17 +1,12 @@
--- The foldings of a program's actions, by their numbers.
-use Rattle.std.proofs.Common.{◌≡◌, ℕ, ◌<◌, ◌∙◌, List, Ok, Err, length, get_or, sym, ap}
+-- An action folds to one value, or is refused.
+use Rattle.std.proofs.Common.{◌≡◌, ℕ, ◌∙◌, Ok, Err, sym, ap}
 use Rattle.std.specs.Prelude.{Result, Some, slice_get}
 use Rattle.std.proofs.lemmas.Option.{same_Some}
-use Rattle.rmt_bits.proofs.ListLaws.{slice_get-seen}
 use Rattle.rmt_refine.specs.Types.{Action, Program}
 use Rattle.rmt_vliw.specs.declared.fault.ActionDeep.{ActionDeep}
 use Rattle.rmt_vliw.specs.declared.folded.Folded.{Folded}
 use Rattle.rmt_vliw.specs.Folding.{IsFolding, folded_of, folded_or_fault}
 use Rattle.rmt_vliw.proofs.MeaningLaws.{action_of}
-use Rattle.rmt_verify.specs.StageCode.{AreFoldings}
-
-pub folding_at : (p : Program) (all seen : List Folded) → AreFoldings p all → seen ≡ all → (a : ℕ) (folded : Folded) → a < length seen → folded ≡ get_or seen a folded → IsFolding p a folded
-folding_at p all seen are same a folded lt is = are.each a folded (slice_get-seen all seen a folded same lt is)
 
 -- an action folds to one value
 pub folding_once : (p : Program) (a : ℕ) (f g : Folded) → IsFolding p a f → IsFolding p a g → f ≡ g

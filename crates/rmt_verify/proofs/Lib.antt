@@ -16,3 +16,14 @@ mod FoldedLaws
 mod StageCodeLaws
 mod CodedLaws
 mod CodeLaws
+mod ShortLists
+mod CellsHeldLaws
+mod KnownLaws
+mod TableLaws
+mod TableHeldLaws
+mod CellsToldLaws
+mod CheckLaws
+mod FieldLaws
+mod OrderLaws
+mod ToldLaws
+mod ContentLaws

@@ -11,3 +11,9 @@ pub mod Standing
 pub mod Instructions
 pub mod WordsRise
 pub mod StageCode
+pub mod Checks
+pub mod CellsHeld
+pub mod Told
+pub mod Wanted
+pub mod PartList
+pub mod TableKnown

@@ -1,19 +1,13 @@
 -- The instructions of a stage, unit by unit.
-use Rattle.std.specs.Prelude.{◌≡◌, ℕ, List, ⊤, IfSome, length}
+use Rattle.std.specs.Prelude.{ℕ, List, ⊤, IfSome}
 use Rattle.rmt_bits.specs.declared.lane.Lane.{Lane}
 use Rattle.rmt_ast.specs.WellFormed.{AllNumbered}
 use Rattle.rmt_config.specs.declared.config.Unit.TheVariants.{Gate, Slot}
 use Rattle.rmt_refine.specs.Cells.{first_code}
 use Rattle.rmt_refine.specs.Types.{Program, Stage, Table, Unit}
 use Rattle.rmt_refine.specs.Units.{table_at}
-use Rattle.rmt_vliw.specs.Folding.{IsFolding}
-use Rattle.rmt_vliw.specs.declared.folded.Folded.{Folded}
+pub use Rattle.rmt_vliw.specs.Folding.{AreFoldings}
 use Rattle.rmt_verify.specs.Instructions.{TableCoded}
-
--- what each action folds to, by its number
-pub record AreFoldings (p : Program) (folded : List Folded) : Type 0 where
-  pub all_there : length folded ≡ length p.actions
-  pub each : AllNumbered (IsFolding p) folded
 
 -- a unit whose first instruction has that number: where it is of a table, it has that table's instructions
 abbrev pub UnitCoded : Program → List (List Lane) → Stage → ℕ → Unit → Type 0

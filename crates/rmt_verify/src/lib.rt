@@ -3,6 +3,8 @@
 #![tactic(auto)]
 
 mod all;
+pub mod cells;
+pub mod checking;
 pub mod edges;
 mod fault;
 pub mod instructions;
@@ -15,6 +17,8 @@ mod same;
 pub mod units;
 mod writing;
 
+pub use cells::cells_hold;
+pub use checking::check_map;
 pub use edges::{edges_hold, parts_stand};
 pub use fault::{MapFault, VerifyFault};
 pub use instructions::code_holds;

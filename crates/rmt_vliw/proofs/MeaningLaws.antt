@@ -1,10 +1,11 @@
 -- The values of a folded action are what the action leaves.
-use Rattle.std.proofs.Common.{◌≡◌, ◌≢◌, ℕ, ◌<◌, true, false, List, [], ◌∷◌, Option, Some, None, Ok, Err, length, map, refl, sym, ap, ◌∙◌, subst, ⊎_elim, arith}
+use Rattle.std.proofs.Common.{◌≡◌, ◌≢◌, ℕ, ◌<◌, true, false, List, [], ◌∷◌, Option, Some, None, Ok, Err, get_or, length, map, refl, sym, ap, ◌∙◌, subst, ⊎_elim, arith}
 use Rattle.std.specs.Prelude.{◌==◌, fold, All, IsSomeAnd, Result, slice_get, slice_index, slice_set, unwrap_or, option_map}
 use Rattle.std.proofs.lemmas.Bool.{eqb-true, eqb-false, ne_eqb, or_from, cases_Bool, cases_eq}
 use Rattle.std.proofs.lemmas.List.{length-set, get_or-set_same, get_or-set_other, ext_get_or}
 use Rattle.std.proofs.lemmas.List.Elements.{All-nil, All-cons, All-head, All-tail}
 use Rattle.rmt_bits.proofs.AllLaws.{All-slice_get}
+use Rattle.rmt_bits.proofs.ListLaws.{slice_get-seen}
 use Rattle.rmt_vliw.specs.Types.{Program, Action, Assign, Expr, Leaf, Op}
 use Rattle.rmt_ast.specs.declared.program.Expr.TheVariants.{One, Two}
 use Rattle.rmt_ast.specs.declared.program.Leaf.TheVariants as leaf
@@ -14,7 +15,7 @@ use Rattle.rmt_ast.specs.Control.{act_of}
 use Rattle.rmt_ast.specs.WellFormed.{IsProgram, IsAction, IsAssign, IsExpr, IsLeaf, IsOp}
 use Rattle.rmt_phv.specs.Packing.{map_ok}
 use Rattle.rmt_vliw.specs.declared.folded.Folded.{Folded}
-use Rattle.rmt_vliw.specs.Folding.{Term, Atom, Joined, Terms, unassigned, in_place, term_of, and_then, terms_of, dests_of, leaf_of, two_of, expr_of, value_then, values_of, folded_of, IsFolding, all_set, Means}
+use Rattle.rmt_vliw.specs.Folding.{Term, Atom, Joined, Terms, unassigned, in_place, term_of, and_then, terms_of, dests_of, leaf_of, two_of, expr_of, value_then, values_of, folded_of, AreFoldings, IsFolding, all_set, Means}
 use Rattle.rmt_vliw.proofs.FoldLaws.{has, others_all, none_assigned, then_same, then_other}
 
 -- ---- what terms are
@@ -230,6 +231,11 @@ folding_action p n folded (Some a) at h = (a, at, h)
 
 pub action_of : (p : Program) (n : ℕ) (folded : Folded) → IsFolding p n folded → (a : Action) × (slice_get p.actions n ≡ Some a) × (folded_of a ≡ Ok folded)
 action_of p n folded h = folding_action p n folded (slice_get p.actions n) refl h
+
+-- the folding of an action, by its number
+pub folding_at : (p : Program) (all seen : List Folded) → AreFoldings p all → seen ≡ all → (a : ℕ) (folded : Folded) → a < length seen → folded ≡ get_or seen a folded → IsFolding p a folded
+folding_at p all seen are same a folded lt is =
+    are.each a folded (slice_get-seen all seen a folded same lt is)
 
 pub act_of-some : (p : Program) (n : ℕ) (a : Action) (args s : List ℕ) → slice_get p.actions n ≡ Some a → act_of p n args s ≡ acted p a.assigns args s
 act_of-some p n a args s at = ap (λ (o : Option Action). unwrap_or (option_map (λ (b : Action). acted p b.assigns args s) o) s) at

@@ -1,5 +1,5 @@
 -- What an action folds to: one value for each field that it writes, over the fields as they are before it.
-use Rattle.std.specs.Prelude.{◌≡◌, ℕ, List, [], ◌∷◌, ◌++◌, Option, Some, None, Result, Ok, Err, IsSomeAnd, fold, if◌then◌else◌, ◌==◌, slice_get, slice_set}
+use Rattle.std.specs.Prelude.{◌≡◌, ℕ, List, [], ◌∷◌, ◌++◌, Option, Some, None, Result, Ok, Err, IsSomeAnd, fold, if◌then◌else◌, ◌==◌, length, slice_get, slice_set}
 use Rattle.std.specs.List.{list_any}
 use Rattle.rmt_vliw.specs.Types.{Program, Action, Assign, Expr, Leaf, Op}
 use Rattle.rmt_ast.specs.declared.program.Expr.TheVariants.{One, Two}
@@ -7,6 +7,7 @@ use Rattle.rmt_ast.specs.declared.program.Leaf.TheVariants as leaf
 use Rattle.rmt_ast.specs.State.{IsState, width_of}
 use Rattle.rmt_ast.specs.Actions.{value_of}
 use Rattle.rmt_ast.specs.Control.{act_of}
+use Rattle.rmt_ast.specs.WellFormed.{AllNumbered}
 use Rattle.rmt_phv.specs.Packing.{map_ok}
 use Rattle.rmt_vliw.specs.declared.folded.Folded.{Folded}
 use Rattle.rmt_vliw.specs.declared.fault.ActionDeep.{ActionDeep}
@@ -88,6 +89,11 @@ folded_or_fault action (Err field) = Err (At action field)
 -- the folding of the action of that number
 abbrev pub IsFolding : Program → ℕ → Folded → Type 0
 IsFolding p action folded = IsSomeAnd (slice_get p.actions action) (λ (a : Action). folded_of a ≡ Ok folded)
+
+-- what each action folds to, by its number
+pub record AreFoldings (p : Program) (folded : List Folded) : Type 0 where
+  pub all_there : length folded ≡ length p.actions
+  pub each : AllNumbered (IsFolding p) folded
 
 -- a state with some fields set, each to its value over the state as it was
 abbrev pub all_set : Program → List ℕ → List ℕ → List Assign → List ℕ

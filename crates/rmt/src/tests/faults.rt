@@ -15,10 +15,11 @@ const PACKETS: &str = "0 07\n0 08\n";
 /// The group of the ports to which the second image sends.
 const GROUPS: &str = "300 2 1\n";
 
-/// The files' names: program, entries, packets, image that is read, image that is written, which is there before, image that
-/// sends to a group, groups, capture, and the captures that are written, of which one is there before.
-const NAMES: [&str; 10] = [
-    "p", "e", "k", "i", "o", "j", "g", "c", "o.1.pcap", "o.2.pcap",
+/// The files' names: program, entries, packets, image and map that are read, image that is written, which is there
+/// before, map that is written, image that sends to a group, groups, capture, and the captures that are written, of which
+/// one is there before.
+const NAMES: [&str; 12] = [
+    "p", "e", "k", "i", "m", "o", "n", "j", "g", "c", "o.1.pcap", "o.2.pcap",
 ];
 
 /// Calls that give or take at most 8 bytes.
@@ -43,12 +44,19 @@ struct Row<'a> {
 }
 
 /// Every command that stands, in the order of the help.
-const ROWS: [Row<'static>; 8] = [
+const ROWS: [Row<'static>; 10] = [
     Row {
         words: &["compile", "p", "e", "o"],
         shelf_calls: 3,
         quiet: 3,
         writes: &["o"],
+        sink_calls: 7,
+    },
+    Row {
+        words: &["compile", "p", "e", "o", "n"],
+        shelf_calls: 4,
+        quiet: 4,
+        writes: &["o", "n"],
         sink_calls: 7,
     },
     Row {
@@ -100,6 +108,13 @@ const ROWS: [Row<'static>; 8] = [
         writes: &["o.1.pcap", "o.2.pcap"],
         sink_calls: 7,
     },
+    Row {
+        words: &["verify", "p", "e", "i", "m"],
+        shelf_calls: 4,
+        quiet: 4,
+        writes: &[],
+        sink_calls: 1,
+    },
 ];
 
 impl Row<'_> {
@@ -131,21 +146,22 @@ impl Row<'_> {
     }
 }
 
-/// The image of a program with its entries.
-fn image(alloc: Global, program: &str, entries: &str) -> Result<Vec<u8>, Fail> {
+/// The image of a program with its entries, `o`, or its map, `n`.
+fn made(alloc: Global, program: &str, entries: &str, name: &str) -> Result<Vec<u8>, Fail> {
     let files = [("p", program.as_bytes()), ("e", entries.as_bytes())];
-    let left = run_on(alloc, &["compile", "p", "e", "o"], &files, STEADY)?;
-    let name = String::from_str(alloc, "o")?;
+    let left = run_on(alloc, &["compile", "p", "e", "o", "n"], &files, STEADY)?;
+    let name = String::from_str(alloc, name)?;
     match left.shelf.file(&name) {
-        Some(image) => Ok(Vec::from_slice(alloc, image.as_slice())?),
+        Some(bytes) => Ok(Vec::from_slice(alloc, bytes.as_slice())?),
         None => Ok(Vec::new(alloc)),
     }
 }
 
-/// The images and the capture that the commands read.
+/// The images, the map and the capture that the commands read.
 #[derive(Drop)]
 struct Given {
     image: Vec<u8>,
+    map: Vec<u8>,
     to_a_group: Vec<u8>,
     capture: Vec<u8>,
 }
@@ -153,19 +169,21 @@ struct Given {
 /// What all runs read.
 fn read_files(alloc: Global) -> Result<Given, Fail> {
     Ok(Given {
-        image: image(alloc, STRICT_AND_WEAK, ENTRIES)?,
-        to_a_group: image(alloc, TO_A_GROUP, "")?,
+        image: made(alloc, STRICT_AND_WEAK, ENTRIES, "o")?,
+        map: made(alloc, STRICT_AND_WEAK, ENTRIES, "n")?,
+        to_a_group: made(alloc, TO_A_GROUP, "", "o")?,
         capture: capture_of(alloc, 3, &[0xff])?,
     })
 }
 
-/// Runs a command over the program, its entries, its packets, its image, and what `switch` reads.
+/// Runs a command over the program, its entries, its packets, its image and map, and what `switch` reads.
 fn run(alloc: Global, words: &[&str], given: &Given, outside: Outside) -> Result<Left, Fail> {
     let files = [
         ("p", STRICT_AND_WEAK.as_bytes()),
         ("e", ENTRIES.as_bytes()),
         ("k", PACKETS.as_bytes()),
         ("i", given.image.as_slice()),
+        ("m", given.map.as_slice()),
         ("o", b"before".as_slice()),
         ("j", given.to_a_group.as_slice()),
         ("g", GROUPS.as_bytes()),

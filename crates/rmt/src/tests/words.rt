@@ -23,7 +23,12 @@ fn words_and_files(rt: HostRuntime) -> Result<(), Fail> {
         (["improve", "p", "e", "i", ""].as_slice(), Status::Usage),
         (["improve", "p", "e", "i", "x"].as_slice(), Status::Usage),
         (["improve", "p", "e", "i"].as_slice(), Status::Usage),
-        (["compile", "p", "e", "i", "1"].as_slice(), Status::Usage),
+        (["compile", "p", "e", "i", "1"].as_slice(), Status::Done),
+        (["compile", "p", "e", "i", "i"].as_slice(), Status::Usage),
+        (
+            ["compile", "p", "e", "i", "m", "m"].as_slice(),
+            Status::Usage,
+        ),
         (
             ["improve", "a", "e", "i", "1"].as_slice(),
             Status::ReadFault,
@@ -46,6 +51,11 @@ fn words_and_files(rt: HostRuntime) -> Result<(), Fail> {
         (["probe", "i", "k"].as_slice(), Status::Usage),
         (["probe", "i", "k", "1", "1"].as_slice(), Status::Usage),
         (["report"].as_slice(), Status::Usage),
+        (["verify", "p", "e", "i"].as_slice(), Status::Usage),
+        (
+            ["verify", "p", "e", "i", "m", "m"].as_slice(),
+            Status::Usage,
+        ),
         (["--help"].as_slice(), Status::Usage),
         ([].as_slice(), Status::Usage),
         (["compile", "a", "e", "i"].as_slice(), Status::ReadFault),

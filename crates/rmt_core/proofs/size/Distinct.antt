@@ -29,7 +29,7 @@ distinct_from_new seen (x ∷ xs) new =
     let first : list_any (λ k. eqb k x) (x ∷ seen) ≡ true = ap (λ b. b || list_any (λ k. eqb k x) seen) (eq-eqb x x refl) in
     IsDistinct-cons eqb x xs (apart_from_seen x (x ∷ seen) xs first parts.1) (distinct_from_new (x ∷ seen) xs parts.1)
 
-member_below : (n q : ℕ) (xs : List ℕ) → All (λ x. x < n) xs → list_any (eqb q) xs ≡ true → q < n
+pub member_below : (n q : ℕ) (xs : List ℕ) → All (λ x. x < n) xs → list_any (eqb q) xs ≡ true → q < n
 member_below n q [] below there = absurd (both_ways false refl there)
 member_below n q (x ∷ xs) below there =
     elim (cases_eq q x) as (λ _. q < n) [

@@ -24,17 +24,19 @@ use Rattle.rmt_core.proofs.size.Units.{unit_short}
 
 -- ---- what the rules of form say of a stage by itself
 
-record StageParts (s : Stage) : Type 0 where
-  units : list_all unit_is_formed s.units ≡ true
-  code : code_is_formed (places_of s.units) s.code ≡ true
-  srows : list_all srow_fits s.srows ≡ true
-  trows : list_all trow_fits s.trows ≡ true
+pub record StageParts (s : Stage) : Type 0 where
+  pub start : ltb s.start 65536 ≡ true
+  pub units : list_all unit_is_formed s.units ≡ true
+  pub code : code_is_formed (places_of s.units) s.code ≡ true
+  pub srows : list_all srow_fits s.srows ≡ true
+  pub trows : list_all trow_fits s.trows ≡ true
 
-stage_parts : (s : Stage) → stage_is_formed s ≡ true → StageParts s
+pub stage_parts : (s : Stage) → stage_is_formed s ≡ true → StageParts s
 stage_parts s formed =
     let srows = and_parts _ _ (and_parts _ _ (and_parts _ _ formed).0).0 in
     let code = and_parts _ _ (and_parts _ _ srows.0).0 in
-    record { units = (and_parts _ _ code.0).1; code = code.1; srows = srows.1; trows = (and_parts _ _ formed).1 }
+    let units = and_parts _ _ code.0 in
+    record { start = (and_parts _ _ units.0).0; units = units.1; code = code.1; srows = srows.1; trows = (and_parts _ _ formed).1 }
 
 -- ---- instructions
 

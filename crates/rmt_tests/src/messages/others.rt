@@ -670,7 +670,7 @@ const SWITCHES: [Row; 10] = [
 const NOTES: &str =
     "A file name is any word. BUDGET is a number from 1 to 1,000, CYCLE 1 to 9 decimal digits,
 N a number from 1 to 100,000, and EVERY one from 1 to 999,999.
-A program has at most 1,048,576 bytes, an entry text 67,108,864, an image 268,435,456,
+A program has at most 1,048,576 bytes, an entry text 67,108,864, an image or a map 268,435,456,
 a packet text 1,099,511,627,776, a group text 1,048,576, and a capture 16,777,216.
 
 Results go to standard output, and messages like this one to standard error.

@@ -14,7 +14,8 @@ ghost use Rattle.rmt_config.specs.Rooms.{key_number};
 ghost use Rattle.rmt_config.specs.Shapes.{divided_up};
 ghost use Rattle.rmt_cuckoo.specs.declared.layout.Ways.{Ways as WaysOf};
 ghost use Rattle.rmt_cuckoo.specs.Loading.{cells_in, cells_of};
-ghost use Rattle.rmt_update.specs.Loads.{AreLoadedKeys, AreTables, AreTried, IsLoaded, IsNotLoaded, IsTried, IsTriedAt, keys_of as keys_as_bytes, layout_in, table_of, ways_for};
+ghost use Rattle.rmt_update.specs.FirstFull.{keys_of as keys_as_bytes};
+ghost use Rattle.rmt_update.specs.Loads.{AreLoadedKeys, AreTables, AreTried, IsLoaded, IsNotLoaded, IsTried, IsTriedAt, layout_in, table_of, ways_for};
 
 use crate::book::encoded::tests_bytes;
 use crate::book::grid::Grid;
@@ -107,14 +108,14 @@ fn is_small(layout: &[Ways]) -> bool
 }
 
 /// Bytes are below 256.
-fn are_bytes(bytes: &[u8])
+pub fn are_bytes(bytes: &[u8])
     ensures { (k : ℕ) → slice_index bytes.now k < 2 ^ 8 }
 {
     let _count = bytes.len();
 }
 
 /// The key of an entry of a table, as bytes.
-fn key_of(alloc: Global, name: &TableName, entry: &Entry) -> Result<Vec<u8>, AllocError>
+pub fn key_of(alloc: Global, name: &TableName, entry: &Entry) -> Result<Vec<u8>, AllocError>
     requires formed { IsTrue (table_is_formed name.now) }
     requires few { sum name.now.keys ≤ 640 }
     requires tests { AllZip IsTest name.now.keys entry.now.tests }
@@ -309,7 +310,7 @@ pub fn load_all(
     requires fit { (c : ConfigOf) × (names : NamesOf) × AreTables c names tables.now × AreEntriesOf names entries.now }
     requires few { length entries.now < 2 ^ 32 }
     ensures loaded { IfOk result (λ loaded. (c : ConfigOf) (names : NamesOf) → AreTables c names tables.now → AreEntriesOf names entries.now → IsLoaded c names entries.now loaded) }
-    ensures refused { IfErr result (λ fault. (c : ConfigOf) (names : NamesOf) → AreTables c names tables.now → AreEntriesOf names entries.now → IsNotLoaded c names tables.now entries.now fault) }
+    ensures refused { IfErr result (λ fault. (c : ConfigOf) (names : NamesOf) → AreTables c names tables.now → AreEntriesOf names entries.now → IsNotLoaded c names entries.now fault) }
 {
     never_both();
     for seed in 0..7 {

@@ -23,6 +23,8 @@ use std::alloc::{AllocError, Global};
 pub struct Shape {
     /// The bits of a key, at most 640.
     pub bits: u64,
+    /// The bits of an entry's data.
+    pub held: u16,
     /// How the cells lie.
     pub grid: Grid,
 }
@@ -57,6 +59,7 @@ pub fn shape_of(slot: &SlotUnit) -> Shape
 {
     Shape {
         bits: key_bits(slot.keys.as_slice()),
+        held: slot.held,
         grid: grid_of(&slot.memory),
     }
 }

@@ -20,7 +20,7 @@ pub struct Spot {
 pub type Spots = Sequence<Spot>;
 
 /// The spot of a cell of a table, which is numbered over all parts in their order.
-fn spot_of(parts: &[PartCells], number: u32) -> Spot
+pub fn spot_of(parts: &[PartCells], number: u32) -> Spot
     ensures { result ≡ spot_from 0 parts.now number }
 {
     let mut left = number;

@@ -9,7 +9,8 @@ use Rattle.rmt_vliw.proofs.InstructionLaws.{takes_folded, takes_within}
 use Rattle.rmt_refine.specs.Code.{DoesAction}
 use Rattle.rmt_build.specs.UnitCode.{DoActions}
 use Rattle.rmt_build.proofs.CodeLaws.{does_action, does_default}
-use Rattle.rmt_build.proofs.FoldingLaws.{folding_at, folding_data}
+use Rattle.rmt_vliw.proofs.MeaningLaws.{folding_at}
+use Rattle.rmt_build.proofs.FoldingLaws.{folding_data}
 use Rattle.rmt_build.proofs.ListLaws.{zip_more}
 use Rattle.rmt_build.proofs.code.push_table.Goals as goal
 

@@ -1,6 +1,8 @@
 use Rattle.std.proofs.Common.{◌≡◌, ◌+◌, ◌-◌, ◌*◌, ◌^◌, ◌∙◌, ap, arith, get_or, length, sym, take}
 use Rattle.rmt_bits.specs.Bits.{number_of}
-use Rattle.rmt_build.proofs.KeyLaws.{key_end, key_step, next_place, place_fits, test_fits, values}
+use Rattle.rmt_build.specs.Types.{Test}
+use Rattle.rmt_refine.proofs.BesideLaws.{key_end, key_step, next_place, place_fits}
+use Rattle.rmt_build.proofs.KeyLaws.{test_fits, values}
 use Rattle.rmt_build.proofs.data.put_tests.Goals as goal
 
 pub bounds-widths-at : goal.bounds-widths-at
@@ -29,7 +31,7 @@ loop-at-preserved c =
     let room = c.requires.room in
     let size : length c.bytes_of_bits.new.into ≡ length c.loop-at.bytes = c.bytes_of_bits.auto.into in
     let fits = place_fits ws i 0 c.args.first c.loop-at.from (8 * length c.loop-at.bytes) in_ws c.loop-at.invariant.place (omega (arith, long, room)) in
-    let step = key_step ws ts i 0 (record { value = 0; mask = 0 }) (number_of c.loop-at.bytes) (number_of c.bytes_of_bits.new.into) c.loop-at.from (8 * length c.loop-at.bytes) in_ws c.loop-at-test.true fits
+    let step = key_step (λ (t : Test). t.value) ws ts i 0 (record { value = 0; mask = 0 }) (number_of c.loop-at.bytes) (number_of c.bytes_of_bits.new.into) c.loop-at.from (8 * length c.loop-at.bytes) in_ws c.loop-at-test.true fits
     c.loop-at.invariant.number c.bytes_of_bits.ensures in
     record {
       long = size ∙ long;
@@ -42,5 +44,5 @@ pub returns-clause-number : goal.returns-clause-number
 returns-clause-number c =
     let long = c.loop-at.invariant.long in
     let room = c.requires.room in
-    key_end c.args.widths.now c.args.tests.now c.loop-at.at (number_of c.loop-at.bytes) c.args.first c.loop-at.from (8 * length c.loop-at.bytes) c.requires.tests c.loop-at-test.false c.loop-at.invariant.place
+    key_end (λ (t : Test). t.value) c.args.widths.now c.args.tests.now c.loop-at.at (number_of c.loop-at.bytes) c.args.first c.loop-at.from (8 * length c.loop-at.bytes) c.requires.tests c.loop-at-test.false c.loop-at.invariant.place
     (omega (arith, long, room)) c.loop-at.invariant.number

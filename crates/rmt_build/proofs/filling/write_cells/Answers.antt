@@ -11,9 +11,8 @@ use Rattle.rmt_pack.specs.Placements.{data_bits}
 use Rattle.rmt_pack.specs.Rows.{blocks_of}
 use Rattle.rmt_pack.specs.Shape.{cells_in}
 use Rattle.rmt_pack.proofs.NeedLaws.{data_bits-few}
-use Rattle.rmt_config.specs.Rooms.{tests_as_one}
+use Rattle.rmt_config.specs.Rooms.{args_as_one, tests_as_one}
 use Rattle.rmt_build.specs.declared.stands.Stand.{Stand}
-use Rattle.rmt_build.specs.Data.{data_of}
 use Rattle.rmt_build.specs.Holding.{ExactSo, PutsCell, data_for, head_for, value_for}
 use Rattle.rmt_build.proofs.EntryLaws.{above-lt, before-one, data-fits, data-small, entry-of, tests_value-lt, widths-small}
 use Rattle.rmt_build.proofs.ExactLaws.{cell-elsewhere, exact-start, exact-step}
@@ -76,9 +75,9 @@ loop-stand-preserved c =
     data-small (params_of p (slice_index t.actions e.action)) e.args s.held (entry-fits p t n e is)
     (subst (λ k. sum (params_of p (slice_index t.actions e.action)) ≤ k) (sym c.requires.held) (data-fits p t e.action acts)) in
     let puts : PutsCell old new s x.cell (head_for code + 256 * value_for p t e) (data_for p t e) =
-    subst (λ (ps : List ℕ). PutsCell old new s x.cell (head_for code + 256 * value_for p t e) (data_of ps e.args)) c.placed_entry-placed.ensures.params
-    (subst (λ (ws : List ℕ). PutsCell old new s x.cell (head_for code + 256 * tests_as_one (λ (u : Test). u.value) ws e.tests) (data_of c.placed_entry-placed.result.params.now e.args)) c.requires.widths
-    (subst (λ k. PutsCell old new s x.cell (head_for k + 256 * tests_as_one (λ (u : Test). u.value) c.args.widths.now e.tests) (data_of c.placed_entry-placed.result.params.now e.args)) c.placed_entry-placed.ensures.code
+    subst (λ (ps : List ℕ). PutsCell old new s x.cell (head_for code + 256 * value_for p t e) (args_as_one ps e.args)) c.placed_entry-placed.ensures.params
+    (subst (λ (ws : List ℕ). PutsCell old new s x.cell (head_for code + 256 * tests_as_one (λ (u : Test). u.value) ws e.tests) (args_as_one c.placed_entry-placed.result.params.now e.args)) c.requires.widths
+    (subst (λ k. PutsCell old new s x.cell (head_for k + 256 * tests_as_one (λ (u : Test). u.value) c.args.widths.now e.tests) (args_as_one c.placed_entry-placed.result.params.now e.args)) c.placed_entry-placed.ensures.code
     c.in_ok-write_exact.ensures)) in
     record {
       holds = subst (ExactSo p t es c.args.part.now.first new s) (sym (take_more stands i none lt))

@@ -5,8 +5,7 @@ use Rattle.rmt_bits.specs.Bits.{bytes_of, number_of}
 use Rattle.rmt_config.specs.Shapes.{divided_up}
 use Rattle.rmt_pack.specs.Cells.{PutsEntry, PutsRecord}
 use Rattle.rmt_pack.specs.Rows.{blocks_of}
-use Rattle.rmt_config.specs.Rooms.{tests_as_one}
-use Rattle.rmt_build.specs.Data.{data_of}
+use Rattle.rmt_config.specs.Rooms.{args_as_one, tests_as_one}
 use Rattle.rmt_build.specs.Holding.{head_for}
 use Rattle.rmt_build.proofs.EntryLaws.{data-small, key-number, tests_value-lt}
 use Rattle.rmt_build.proofs.filling.write_exact.Goals as goal
@@ -27,9 +26,9 @@ write_cell-requires-clause-small c =
 
 pub write_record-requires-clause-small : goal.write_record-requires-clause-small
 write_record-requires-clause-small c =
-    let d = data_of c.args.placed.now.params.now c.args.placed.now.entry.now.args in
+    let d = args_as_one c.args.placed.now.params.now c.args.placed.now.entry.now.args in
     let once : 2 ^ 0 * d ≡ d = omega arith in
-    let same : number_of c.as_slice-4.result.now ≡ d = ap number_of c.as_slice-4.ensures.value ∙ c.in_ok-held.ensures.number ∙ ap (λ (vs : List ℕ). 2 ^ 0 * data_of c.args.placed.now.params.now vs) c.as_slice-2.ensures ∙ once in
+    let same : number_of c.as_slice-4.result.now ≡ d = ap number_of c.as_slice-4.ensures.value ∙ c.in_ok-held.ensures.number ∙ ap (λ (vs : List ℕ). 2 ^ 0 * args_as_one c.args.placed.now.params.now vs) c.as_slice-2.ensures ∙ once in
     subst (λ n. n < 2 ^ c.args.shape.now.held) (sym same) (data-small c.args.placed.now.params.now c.args.placed.now.entry.now.args c.args.shape.now.held c.requires.args c.requires.held)
 
 pub returns : goal.returns
@@ -37,13 +36,13 @@ returns c =
     let ws = c.args.widths.now in
     let ts = c.args.placed.now.entry.now.tests in
     let k = tests_as_one (λ (t : Test). t.value) ws ts in
-    let d = data_of c.args.placed.now.params.now c.args.placed.now.entry.now.args in
+    let d = args_as_one c.args.placed.now.params.now c.args.placed.now.entry.now.args in
     let old = blocks_of c.args.sram.now in
     let mid = blocks_of c.write_cell.new.rows in
     let new = blocks_of c.write_record.new.rows in
     let once : 2 ^ 0 * d ≡ d = omega arith in
     let key : number_of c.as_slice-3.result.now ≡ k = ap number_of (c.as_slice-3.ensures.value ∙ c.in_ok-key.ensures ∙ ap (λ (us : List Test). bytes_of (divided_up (sum c.args.widths.now) 8) (tests_as_one (λ (u : Test). u.value) c.args.widths.now us)) c.as_slice.ensures) ∙ key-number ws ts c.requires.tests in
-    let held : number_of c.as_slice-4.result.now ≡ d = ap number_of c.as_slice-4.ensures.value ∙ c.in_ok-held.ensures.number ∙ ap (λ (vs : List ℕ). 2 ^ 0 * data_of c.args.placed.now.params.now vs) c.as_slice-2.ensures ∙ once in
+    let held : number_of c.as_slice-4.result.now ≡ d = ap number_of c.as_slice-4.ensures.value ∙ c.in_ok-held.ensures.number ∙ ap (λ (vs : List ℕ). 2 ^ 0 * args_as_one c.args.placed.now.params.now vs) c.as_slice-2.ensures ∙ once in
     record {
       mid = mid;
       entry = subst (λ n. PutsEntry old mid c.args.shape.now c.args.cell (head_for c.args.placed.now.code + 256 * n)) key c.write_cell.ensures.bits;

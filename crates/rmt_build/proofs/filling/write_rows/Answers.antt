@@ -16,9 +16,8 @@ use Rattle.rmt_pack.specs.Rows.{blocks_of}
 use Rattle.rmt_pack.specs.Shape.{cells_in}
 use Rattle.rmt_pack.proofs.NeedLaws.{data_bits-few}
 use Rattle.rmt_pack.proofs.ShapeLaws.{ternary-cells}
-use Rattle.rmt_config.specs.Rooms.{tests_as_one}
+use Rattle.rmt_config.specs.Rooms.{args_as_one, tests_as_one}
 use Rattle.rmt_build.specs.declared.stands.Stand.{Stand}
-use Rattle.rmt_build.specs.Data.{data_of}
 use Rattle.rmt_build.specs.Holding.{Held, PutsRow, TernarySo, data_for, head_for, mask_for, value_for}
 use Rattle.rmt_build.specs.Listing.{masks_of, values_of}
 use Rattle.rmt_build.proofs.EntryLaws.{above-lt, before-one, data-fits, data-small, entry-of, tests_mask-lt, widths-small}
@@ -114,8 +113,8 @@ loop-stand-preserved c =
     subst (λ k. head_for code + 256 * data_for p t e < 2 ^ k) (sym c.requires.held)
     (above-lt code (data_for p t e) (data_bits p t) code_lt (data-small (params_of p (slice_index t.actions e.action)) e.args (data_bits p t) (entry-fits p t n e is) (data-fits p t e.action acts))) in
     let puts : PutsRecord old.sram new.sram s x.cell (head_for code + 256 * data_for p t e) =
-    subst (λ (ps : List ℕ). PutsRecord old.sram new.sram s x.cell (head_for code + 256 * data_of ps e.args)) c.placed_entry-placed.ensures.params
-    (subst (λ k. PutsRecord old.sram new.sram s x.cell (head_for k + 256 * data_of c.placed_entry-placed.result.params.now e.args)) c.placed_entry-placed.ensures.code c.in_ok-write_head.ensures) in
+    subst (λ (ps : List ℕ). PutsRecord old.sram new.sram s x.cell (head_for code + 256 * args_as_one ps e.args)) c.placed_entry-placed.ensures.params
+    (subst (λ k. PutsRecord old.sram new.sram s x.cell (head_for k + 256 * args_as_one c.placed_entry-placed.result.params.now e.args)) c.placed_entry-placed.ensures.code c.in_ok-write_head.ensures) in
     let key : map (width_of p) t.key ≡ c.args.widths.now = sym c.requires.widths in
     let bits : sum c.args.widths.now ≡ s.key = ap sum c.requires.widths ∙ sym c.requires.key in
     let values : PutsRow old.values new.values (x.cell % 2048) (blocks_at blocks (divided_up s.key 40) (x.cell / 2048)) (value_for p t e) =

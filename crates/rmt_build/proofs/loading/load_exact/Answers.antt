@@ -1,14 +1,15 @@
-use Rattle.std.proofs.Common.{All, ap, arith, length, subst, sym, ◌∙◌}
+use Rattle.std.proofs.Common.{All, ap, arith, length, subst, ◌∙◌}
 use Rattle.std.specs.Prelude.{Contains}
+use Rattle.std.proofs.lemmas.Slice.Zip.{AllZip-long}
 use Rattle.rmt_cuckoo.specs.Loading.{candidates}
 use Rattle.rmt_cuckoo.specs.Told.{Explains}
 use Rattle.rmt_build.specs.EntryCells.{IsLoadedAt, StandOnce}
-use Rattle.rmt_build.proofs.LoadedLaws.{members_few, zip_length}
+use Rattle.rmt_cuckoo.proofs.LoadLaws.{members_few}
 use Rattle.rmt_build.proofs.loading.load_exact.Goals as goal
 
 pub as_loaded-requires-clause-few : goal.as_loaded-requires-clause-few
 as_loaded-requires-clause-few c =
-    let long = zip_length (λ key cell. Contains (candidates c.args.layout.now c.args.seed key) cell) c.args.keys.now c.in-Ok.cells c.in-Ok.ensures.loaded.stand in
+    let long = AllZip-long (λ key cell. Contains (candidates c.args.layout.now c.args.seed key) cell) c.args.keys.now c.in-Ok.cells c.in-Ok.ensures.loaded.stand in
     let same = ap length c.as_slice.ensures in
     let few = c.requires.few_keys in
     omega (arith, long, same, few)
@@ -25,9 +26,9 @@ overflow_cast-result c =
 pub returns-in_ok-stands-in-Ok : goal.returns-in_ok-stands-in-Ok
 returns-in_ok-stands-in-Ok c =
     let own = c.in_ok-stands-in-Ok.stands in
-    let long = zip_length (λ key cell. Contains (candidates c.args.layout.now c.args.seed key) cell) c.args.keys.now c.in-Ok.cells c.in-Ok.ensures.loaded.stand in (
+    let long = AllZip-long (λ key cell. Contains (candidates c.args.layout.now c.args.seed key) cell) c.args.keys.now c.in-Ok.cells c.in-Ok.ensures.loaded.stand in (
       c.in-Ok.cells,
       c.in-Ok.ensures.loaded,
-      subst (λ n. StandOnce n own) (ap length c.as_slice.ensures ∙ sym long) c.in_ok-stands-in-Ok.ensures.once,
+      subst (λ n. StandOnce n own) (ap length c.as_slice.ensures ∙ long) c.in_ok-stands-in-Ok.ensures.once,
       subst (λ ns. All (IsLoadedAt ns) own) c.as_slice.ensures c.in_ok-stands-in-Ok.ensures.cells,
     )

@@ -2,6 +2,7 @@
 use Rattle.std.proofs.Common.{List, ℕ, Err, Vec, inl, inr, refl, sym, ap, ◌∙◌, subst}
 use Rattle.std.specs.Global.{Global}
 use Rattle.rmt_bounds.specs.declared.bound.Bound.{Bound}
+use Rattle.rmt_refine.specs.declared.map.Map.{Map}
 use Rattle.rmt_core.specs.Types.{Config}
 use Rattle.rmt_core.specs.declared.placer.Placer.TheVariants.{ByRule}
 use Rattle.rmt_core.specs.declared.status.Status.TheVariants.{Done, NoFit}
@@ -36,7 +37,7 @@ pub returns-in-Err-NoFit-clause-answered : goal.returns-in-Err-NoFit-clause-answ
 returns-in-Err-NoFit-clause-answered g c = λ shelf.
     let p = c.args.meant.now.program in
     let lists = c.args.meant.now.entries in
-    let finish : List ℕ → Config → Bound → Given = λ image k b. told shelf.files Done (sample_line c.args.number p lists k) in
+    let finish : List ℕ → Map → Config → Bound → Given = λ image m k b. told shelf.files Done (sample_line c.args.number p lists k) in
     let gives : Given → Type 0 = Builds ByRule shelf.files finish p lists in
     let line_why = c.fit.ensures.refused c.in-Err-NoFit.line (c.in-Err-NoFit.is ∙ ap Err c.in-Err-NoFit.field-0-is) shelf.files finish in
     let why = subst (λ (line : List ℕ). gives (told shelf.files NoFit line)) (ap (λ (line : Vec ℕ Global). line.items) (sym c.in-Err-NoFit.line-is) ∙ sym c.as_slice.ensures.value) line_why in

@@ -38,7 +38,7 @@ returns-in-Ok-clause-answered g c = λ shelf.
       means = subst (λ t. Means t (Ok p)) (c.as_slice.ensures ∙ c.requires.program) c.in-Ok.ensures.means;
       says = subst (λ t. entries_of p t ≡ Ok lists) (c.as_slice-2.ensures ∙ c.requires.entries) c.in-Ok.ensures.says;
     } in
-    answered_as _ _ (Builds ByRule shelf.files (λ image k b. told shelf.files Done (sample_line n p lists k)) p lists) (GivesSample shelf.files n) c.sample_meant.result
+    answered_as _ _ (Builds ByRule shelf.files (λ image m k b. told shelf.files Done (sample_line n p lists k)) p lists) (GivesSample shelf.files n) c.sample_meant.result
     (λ k h. (p, lists, of, h)) (λ k h. sample_built c.one_meaning.ensures.alone shelf.files n k p lists of h) (c.sample_meant.ensures.answered shelf)
 
 pub returns-in-Err-NoMemory-clause-answered : goal.returns-in-Err-NoMemory-clause-answered

@@ -1,10 +1,14 @@
 use Rattle.std.proofs.Common.{ap, subst, sym, ◌∙◌}
 use Rattle.rmt_core.specs.CommandReading.{seen}
-use Rattle.rmt_core.specs.Commands.{IfCommand, ReadsNone}
+use Rattle.rmt_core.specs.Commands.{IfCommand, ReadsNone, words_of}
 use Rattle.rmt_core.specs.Ends.{Answered, outside}
 use Rattle.rmt_core.specs.Gives.{Gives}
+use Rattle.rmt_core.proofs.BudgetLaws.{HasBudget, has_budget}
 use Rattle.rmt_core.proofs.SampleLaws.{quiet_possible}
 use Rattle.rmt_core.proofs.top.rmt.Goals as goal
+
+pub compile-requires-in-Improve : goal.compile-requires-in-Improve
+compile-requires-in-Improve g c = subst HasBudget (sym (ap seen (sym c.in-Improve.is) ∙ c.command_from.ensures)) (has_budget (words_of c.args.words.now.items))
 
 pub returns-in-Sample-clause-answered : goal.returns-in-Sample-clause-answered
 returns-in-Sample-clause-answered g c = λ _.

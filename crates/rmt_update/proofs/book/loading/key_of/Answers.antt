@@ -3,11 +3,12 @@ use Rattle.rmt_ast.specs.NameRules.{terms_of_name}
 use Rattle.rmt_config.specs.Rooms.{key_number, tests_as_one}
 use Rattle.rmt_config.specs.Shapes.{divided_up}
 use Rattle.rmt_update.specs.Encoded.{part_of}
-use Rattle.rmt_update.proofs.SmallLaws.{bytes-are, widths-narrow}
+use Rattle.rmt_update.proofs.NamedLaws.{keys-low}
+use Rattle.rmt_update.proofs.SmallLaws.{bytes-are}
 use Rattle.rmt_update.proofs.book.loading.key_of.Goals as goal
 
 pub tests_bytes-requires-clause-narrow : goal.tests_bytes-requires-clause-narrow
-tests_bytes-requires-clause-narrow c = subst (All (λ w. w ≤ 128)) (sym c.as_slice.ensures) (widths-narrow c.args.name.now c.requires.formed)
+tests_bytes-requires-clause-narrow c = subst (All (λ w. w ≤ 128)) (sym c.as_slice.ensures) (keys-low c.args.name.now c.requires.formed)
 
 pub returns : goal.returns
 returns c =

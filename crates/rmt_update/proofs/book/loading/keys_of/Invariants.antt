@@ -1,6 +1,6 @@
 use Rattle.std.proofs.Common.{◌≡◌, take}
 use Rattle.rmt_ast.specs.NameRules.{terms_of_name}
-use Rattle.rmt_update.specs.Loads.{keys_of}
+use Rattle.rmt_update.specs.FirstFull.{keys_of}
 use Rattle.rmt_update.proofs.book.loading.keys_of.Given as goal
 
 -- the keys so far

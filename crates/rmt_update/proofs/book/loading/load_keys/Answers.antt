@@ -1,13 +1,13 @@
 use Rattle.std.proofs.Common.{ap, arith, length, subst, ◌∙◌}
 use Rattle.rmt_cuckoo.specs.Told.{Explains}
 use Rattle.rmt_update.specs.Spots.{spots_at}
-use Rattle.rmt_update.proofs.SmallLaws.{members-few}
+use Rattle.rmt_cuckoo.proofs.LoadLaws.{members_few}
 use Rattle.rmt_update.proofs.book.loading.load_keys.Goals as goal
 
 pub overflow_cast-result : goal.overflow_cast-result
 overflow_cast-result c =
     let full = subst (Explains c.args.layout.now c.args.seed c.args.keys.now) c.in-Err-Overfull.field-0-is c.in-Err-Overfull.ensures.fault in
-    let few = members-few c.args.layout.now c.args.seed c.args.keys.now c.in-Err-Overfull.members c.in-Err-Overfull.cells full in
+    let few = members_few c.args.layout.now c.args.seed c.args.keys.now c.in-Err-Overfull.members c.in-Err-Overfull.cells full in
     let keys = c.requires.few_keys in
     let same = c.len.ensures in
     let members = ap length c.in-Err-Overfull.members-is in

@@ -1,7 +1,8 @@
 use Rattle.std.proofs.Common.{◌≡◌, ◌+◌, ◌*◌, ◌-◌, ◌++◌, ap, ◌∙◌, arith}
 use Rattle.std.specs.List.{range_with_len}
 use Rattle.std.proofs.lemmas.Nat.{mul-le}
-use Rattle.rmt_update.proofs.ShapeLaws.{row-end, row-more}
+use Rattle.rmt_cuckoo.proofs.RowLaws.{row_more}
+use Rattle.rmt_update.proofs.ShapeLaws.{row-end}
 use Rattle.rmt_update.proofs.book.shape.put_row.Goals as goal
 
 pub overflow_mul-first : goal.overflow_mul-first
@@ -36,7 +37,7 @@ overflow_add-end c =
 pub loop-cell-preserved : goal.loop-cell-preserved
 loop-cell-preserved c =
     c.in_ok-push.ensures.items
-    ∙ row-more c.loop-cell.cells.items c.args.cells.now.items ((c.args.way * c.args.ways.rows + c.hash_row-row.result) * c.args.ways.per) c.loop-cell.cell (let low = c.loop-cell.auto.cell in omega (arith, low)) c.loop-cell.invariant
+    ∙ row_more c.loop-cell.cells.items c.args.cells.now.items ((c.args.way * c.args.ways.rows + c.hash_row-row.result) * c.args.ways.per) c.loop-cell.cell (let low = c.loop-cell.auto.cell in omega (arith, low)) c.loop-cell.invariant
 
 pub returns : goal.returns
 returns c =

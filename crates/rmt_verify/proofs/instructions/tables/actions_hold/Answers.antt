@@ -2,7 +2,7 @@ use Rattle.std.proofs.Common.{◌+◌, ◌<◌, get_or, length, refl, arith}
 use Rattle.std.proofs.lemmas.Option.{slice_get_within}
 use Rattle.rmt_vliw.specs.Folding.{IsFolding}
 use Rattle.rmt_verify.proofs.CodedLaws.{actions_fail, actions_more, code_at_rises}
-use Rattle.rmt_verify.proofs.FoldedLaws.{folding_at}
+use Rattle.rmt_vliw.proofs.MeaningLaws.{folding_at}
 use Rattle.rmt_verify.proofs.instructions.tables.actions_hold.Goals as goal
 
 pub is_of_action-requires-clause-folded : goal.is_of_action-requires-clause-folded

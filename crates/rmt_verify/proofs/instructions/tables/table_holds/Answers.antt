@@ -6,7 +6,7 @@ use Rattle.rmt_vliw.specs.Folding.{IsFolding}
 use Rattle.rmt_vliw.proofs.InstructionLaws.{takes_folded, takes_within}
 use Rattle.rmt_verify.specs.Instructions.{IsCodeOf, TableCoded}
 use Rattle.rmt_verify.proofs.CodedLaws.{code_at_rises, table_answer}
-use Rattle.rmt_verify.proofs.FoldedLaws.{folding_at}
+use Rattle.rmt_vliw.proofs.MeaningLaws.{folding_at}
 use Rattle.rmt_verify.proofs.instructions.tables.table_holds.Goals as goal
 
 pub actions_hold-requires-clause-actions : goal.actions_hold-requires-clause-actions

@@ -1,0 +1,147 @@
+use Rattle.std.proofs.Common.{◌≡◌, ℕ, ◌<◌, ◌≤◌, List, Vec, length, refl, sym, ap, ◌∙◌, subst, arith}
+use Rattle.std.specs.Prelude.{All, Err, IfErr, None, Ok, Result, Some}
+use Rattle.std.specs.Result.{IsErrAnd}
+use Rattle.rmt_ast.specs.declared.names.Names.{Names}
+use Rattle.rmt_config.specs.declared.config.Config.{Config}
+use Rattle.rmt_config.specs.Commits.{placed_after}
+use Rattle.rmt_config.specs.RunCells.{RunCells}
+use Rattle.rmt_update.specs.BookStands.{BookStands}
+use Rattle.std.specs.Global.{Global}
+use Rattle.std.specs.List.{AllZip}
+use Rattle.rmt_ast.specs.declared.entry.Entry.{Entry}
+use Rattle.rmt_ast.specs.NameRules.{AreEntriesOf}
+use Rattle.rmt_update.specs.declared.book.spots.Spot.{Spot}
+use Rattle.rmt_update.specs.declared.book.table.PartCells.{PartCells}
+use Rattle.rmt_update.specs.Differences.{AreDifferences, CanChange, Goal, IsGoal, all_pairs}
+use Rattle.rmt_update.specs.declared.book.table.TableCells.{TableCells}
+use Rattle.rmt_update.specs.After.{left_of, with_come}
+use Rattle.std.proofs.lemmas.Slice.Zip.{AllZip-long}
+use Rattle.rmt_update.specs.Loads.{AreTables, IsLoaded, IsNotLoaded}
+use Rattle.rmt_update.specs.Refill.{IsMoved, SamePart, TableFits}
+use Rattle.rmt_update.specs.Planned.{IsUnplanned, MayChange, changed_lists}
+use Rattle.rmt_update.specs.Seen.{HaveNumbers}
+use Rattle.rmt_update.proofs.AfterLaws.{after-have}
+use Rattle.rmt_update.proofs.LoadSteps.{after-few, can-change, planned, same-count, same-parts, tables-are, tables-fit, unplanned}
+use Rattle.rmt_update.proofs.RefillLaws.{zip-gives}
+use Rattle.rmt_update.proofs.book.Book.load.Goals as goal
+
+pub entries-requires : goal.entries-requires
+entries-requires c = (c.requires.0, c.requires.2, c.requires.3, c.requires.4)
+
+pub lists_after-requires-clause-tables : goal.lists_after-requires-clause-tables
+lists_after-requires-clause-tables c =
+    subst (λ (ls : List (List Entry)). All (λ (e : Entry). e.table < length ls) c.args.changes.now.come) (sym (c.in_ok-before.ensures.entries c.requires.0 c.requires.2 c.requires.3 c.requires.4)) c.requires.6.come_within
+
+pub lists_after-requires-clause-numbers : goal.lists_after-requires-clause-numbers
+lists_after-requires-clause-numbers c =
+    let ch = c.args.changes.now in
+    subst (λ (ls : List (List Entry)). (n : ℕ) → n < length ls → HaveNumbers (with_come (left_of ch.gone ls) ch.come n)) (sym (c.in_ok-before.ensures.entries c.requires.0 c.requires.2 c.requires.3 c.requires.4))
+    (after-have c.requires.1 c.requires.3 ch c.requires.6.formed)
+
+pub load_all-requires-clause-fit : goal.load_all-requires-clause-fit
+load_all-requires-clause-fit c =
+    let ch = c.args.changes.now in
+    let b = c.args.self.now in
+    let before = c.in_ok-before.ensures.entries c.requires.0 c.requires.2 c.requires.3 c.requires.4 in
+    let after : c.in_ok-after.after ≡ changed_lists c.requires.3 ch = c.in_ok-after.ensures ∙ ap (λ (ls : List (List Entry)). changed_lists ls ch) before in (
+      c.requires.0,
+      c.requires.1,
+      subst (AreTables c.requires.0 c.requires.1) (sym c.as_slice.ensures.value) (tables-are c.requires.0 c.requires.1 c.requires.2 c.requires.3 b c.requires.4 c.requires.5),
+      subst (AreEntriesOf c.requires.1) (sym after) c.requires.6.formed,
+    )
+
+pub put_back-requires : goal.put_back-requires
+put_back-requires c =
+    let same = AllZip-long (λ (t : TableCells) (v : Vec PartCells Global). IsMoved c.in_ok-after.after c.as_slice-spots.result.now t v.items) c.as_slice-2.result.now c.in_ok-parts.parts.items c.in_ok-parts.ensures in
+    let value = ap (λ (ts : List TableCells). length ts) c.as_slice-2.ensures.value in
+    omega (arith, same, value)
+
+-- what is known once all is loaded
+pub moved_parts-requires : goal.moved_parts-requires
+moved_parts-requires c =
+    let ch = c.args.changes.now in
+    let b = c.args.self.now in
+    let before = c.in_ok-before.ensures.entries c.requires.0 c.requires.2 c.requires.3 c.requires.4 in
+    let after : c.in_ok-after.after ≡ changed_lists c.requires.3 ch = c.in_ok-after.ensures ∙ ap (λ (ls : List (List Entry)). changed_lists ls ch) before in
+    let tables = subst (AreTables c.requires.0 c.requires.1) (sym c.as_slice.ensures.value) (tables-are c.requires.0 c.requires.1 c.requires.2 c.requires.3 b c.requires.4 c.requires.5) in
+    let loaded = c.in_ok-loaded.ensures.loaded c.requires.0 c.requires.1 tables (subst (AreEntriesOf c.requires.1) (sym after) c.requires.6.formed) in
+    let is : IsLoaded c.requires.0 c.requires.1 (changed_lists c.requires.3 ch) c.in_ok-loaded.loaded = subst (λ ls. IsLoaded c.requires.0 c.requires.1 ls c.in_ok-loaded.loaded) after loaded in
+    subst (λ (ts : List TableCells). All (TableFits c.in_ok-after.after c.as_slice-spots.result.now) ts) (sym c.as_slice-2.ensures.value)
+    (subst (λ (ls : List (List Entry)). All (TableFits ls c.as_slice-spots.result.now) b.tables.items) (sym after)
+    (subst (λ (ss : List (List Spot)). All (TableFits (changed_lists c.requires.3 ch) ss) b.tables.items) (sym c.as_slice-spots.ensures)
+    (tables-fit c.requires.0 c.requires.1 c.requires.2 c.requires.3 b c.requires.4 c.requires.5 ch c.requires.6 c.in_ok-loaded.loaded is)))
+
+pub returns-clause-planned : goal.returns-clause-planned
+returns-clause-planned c = λ config names cells lists stands named may none.
+    let ch = c.args.changes.now in
+    let b = c.args.self.now in
+    let before = c.in_ok-before.ensures.entries config cells lists stands in
+    let after : c.in_ok-after.after ≡ changed_lists lists ch = c.in_ok-after.ensures ∙ ap (λ (ls : List (List Entry)). changed_lists ls ch) before in
+    let tables = subst (AreTables config names) (sym c.as_slice.ensures.value) (tables-are config names cells lists b stands named) in
+    let loaded = c.in_ok-loaded.ensures.loaded config names tables (subst (AreEntriesOf names) (sym after) may.formed) in
+    let is : IsLoaded config names (changed_lists lists ch) c.in_ok-loaded.loaded = subst (λ ls. IsLoaded config names ls c.in_ok-loaded.loaded) after loaded in
+    let R : List (List Entry) → List (List Spot) → TableCells → Vec PartCells Global → Type 0 = λ ls ss t v. IsMoved ls ss t v.items in
+    let all : AllZip (R (changed_lists lists ch) c.in_ok-loaded.loaded.spots) b.tables.items c.in_ok-parts.parts.items =
+    subst (λ (ts : List TableCells). AllZip (R (changed_lists lists ch) c.in_ok-loaded.loaded.spots) ts c.in_ok-parts.parts.items) c.as_slice-2.ensures.value
+    (subst (λ (ls : List (List Entry)). AllZip (R ls c.in_ok-loaded.loaded.spots) c.as_slice-2.result.now c.in_ok-parts.parts.items) after
+    (subst (λ (ss : List (List Spot)). AllZip (R c.in_ok-after.after ss) c.as_slice-2.result.now c.in_ok-parts.parts.items) c.as_slice-spots.ensures c.in_ok-parts.ensures)) in
+    planned config names cells lists b stands named ch may c.in_ok-loaded.loaded is c.in_ok-parts.parts.items all _ _ none refl refl
+    (subst (λ (ts : List TableCells). (g : Goal) → All (IsGoal g) (all_pairs ts c.in_ok-parts.parts.items) → AreDifferences (all_pairs ts c.in_ok-parts.parts.items) c.in_ok-writes.writes.items g) c.as_slice-3.ensures.value
+    (subst (λ (vs : List (Vec PartCells Global)). (g : Goal) → All (IsGoal g) (all_pairs c.as_slice-3.result.now vs) → AreDifferences (all_pairs c.as_slice-3.result.now vs) c.in_ok-writes.writes.items g) c.as_slice-4.ensures.value c.in_ok-writes.ensures))
+    refl refl refl c.put_back.ensures
+
+pub differences-requires-clause-same : goal.differences-requires-clause-same
+differences-requires-clause-same c =
+    zip-gives (λ (t : TableCells) (v : Vec PartCells Global). IsMoved c.in_ok-after.after c.as_slice-spots.result.now t v.items) (λ (t : TableCells) (v : Vec PartCells Global). length v.items ≡ length t.parts.items)
+    (λ t v m. AllZip-long SamePart t.parts.items v.items m.same) c.as_slice-3.result.now c.as_slice-4.result.now
+    (subst (λ (ts : List TableCells). AllZip (λ (t : TableCells) (v : Vec PartCells Global). IsMoved c.in_ok-after.after c.as_slice-spots.result.now t v.items) ts c.as_slice-4.result.now) (c.as_slice-2.ensures.value ∙ sym c.as_slice-3.ensures.value)
+    (subst (λ (vs : List (Vec PartCells Global)). AllZip (λ (t : TableCells) (v : Vec PartCells Global). IsMoved c.in_ok-after.after c.as_slice-spots.result.now t v.items) c.as_slice-2.result.now vs) (sym c.as_slice-4.ensures.value) c.in_ok-parts.ensures))
+
+pub differences-requires-clause-can : goal.differences-requires-clause-can
+differences-requires-clause-can c =
+    let config = c.requires.0 in
+    let names = c.requires.1 in
+    let cells = c.requires.2 in
+    let lists = c.requires.3 in
+    let ch = c.args.changes.now in
+    let b = c.args.self.now in
+    let before = c.in_ok-before.ensures.entries config cells lists c.requires.4 in
+    let after : c.in_ok-after.after ≡ changed_lists lists ch = c.in_ok-after.ensures ∙ ap (λ (ls : List (List Entry)). changed_lists ls ch) before in
+    let tables = subst (AreTables config names) (sym c.as_slice.ensures.value) (tables-are config names cells lists b c.requires.4 c.requires.5) in
+    let loaded = c.in_ok-loaded.ensures.loaded config names tables (subst (AreEntriesOf names) (sym after) c.requires.6.formed) in
+    let is : IsLoaded config names (changed_lists lists ch) c.in_ok-loaded.loaded = subst (λ ls. IsLoaded config names ls c.in_ok-loaded.loaded) after loaded in
+    let R : List (List Entry) → List (List Spot) → TableCells → Vec PartCells Global → Type 0 = λ ls ss t v. IsMoved ls ss t v.items in
+    let all : AllZip (R (changed_lists lists ch) c.in_ok-loaded.loaded.spots) b.tables.items c.in_ok-parts.parts.items =
+    subst (λ (ts : List TableCells). AllZip (R (changed_lists lists ch) c.in_ok-loaded.loaded.spots) ts c.in_ok-parts.parts.items) c.as_slice-2.ensures.value
+    (subst (λ (ls : List (List Entry)). AllZip (R ls c.in_ok-loaded.loaded.spots) c.as_slice-2.result.now c.in_ok-parts.parts.items) after
+    (subst (λ (ss : List (List Spot)). AllZip (R c.in_ok-after.after ss) c.as_slice-2.result.now c.in_ok-parts.parts.items) c.as_slice-spots.ensures c.in_ok-parts.ensures)) in
+    subst (λ (vs : List (Vec PartCells Global)). All (λ (v : Vec PartCells Global). All CanChange v.items) vs) (sym c.as_slice-4.ensures.value)
+    (can-change config names cells lists b c.requires.4 c.requires.5 ch c.requires.6 c.in_ok-loaded.loaded is c.in_ok-parts.parts.items all)
+
+pub load_all-requires-clause-few : goal.load_all-requires-clause-few
+load_all-requires-clause-few c =
+    let ch = c.args.changes.now in
+    let b = c.args.self.now in
+    let before = c.in_ok-before.ensures.entries c.requires.0 c.requires.2 c.requires.3 c.requires.4 in
+    let after : c.in_ok-after.after ≡ changed_lists c.requires.3 ch = c.in_ok-after.ensures ∙ ap (λ (ls : List (List Entry)). changed_lists ls ch) before in
+    subst (λ (ls : List (List Entry)). length ls < 4294967296) (sym after) (after-few c.requires.0 c.requires.1 c.requires.2 c.requires.3 b c.requires.4 c.requires.5 ch c.requires.6 c.is_word.ensures)
+
+-- what holds of the one fault that there may be
+caught : {A E : Type 0} (r : Result A E) (x : E) (P : E → Type 0) → IsErrAnd r (λ e. e ≡ x) → P x → IfErr r P
+caught (Ok v) x P h p = tt
+caught (Err e) x P h p = subst P (sym h) p
+
+pub returns-in_err-loaded-clause-refused : goal.returns-in_err-loaded-clause-refused
+returns-in_err-loaded-clause-refused c =
+    let ch = c.args.changes.now in
+    let b = c.args.self.now in
+    let x = c.in_err-loaded.field-0.0 in
+    caught c.from_residual-in_err-loaded.result x
+    (λ fault. (config : Config) (names : Names) (cells : RunCells) (lists : List (List Entry)) → BookStands config cells lists b → config.names ≡ Some names → MayChange config names cells lists ch
+    → placed_after config names cells lists (changed_lists lists ch) ≡ None → IsUnplanned config names cells lists (changed_lists lists ch) fault) c.from_residual-in_err-loaded.ensures.1
+    (λ config names cells lists stands named may none.
+    let before = c.in_ok-before.ensures.entries config cells lists stands in
+    let after : c.in_ok-after.after ≡ changed_lists lists ch = c.in_ok-after.ensures ∙ ap (λ (ls : List (List Entry)). changed_lists ls ch) before in
+    let tables = subst (AreTables config names) (sym c.as_slice.ensures.value) (tables-are config names cells lists b stands named) in
+    let refused = c.in_err-loaded.ensures.refused config names tables (subst (AreEntriesOf names) (sym after) may.formed) in
+    unplanned config names cells lists (changed_lists lists ch) x none (subst (λ ls. IsNotLoaded config names ls x) after refused))

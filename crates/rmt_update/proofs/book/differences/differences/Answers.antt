@@ -1,0 +1,68 @@
+use Rattle.std.proofs.Common.{◌≡◌, ◌+◌, List, Vec, length, take, refl, sym, ap, ◌∙◌, subst, arith}
+use Rattle.std.specs.Prelude.{All, zip}
+use Rattle.std.specs.Global.{Global}
+use Rattle.std.specs.List.{AllZip, flat_map}
+use Rattle.std.proofs.lemmas.Slice.Zip.{AllZip-long}
+use Rattle.rmt_bits.proofs.AllLaws.{All-slice_get}
+use Rattle.rmt_bits.proofs.ListLaws.{AllZip-slice_get, slice_get-seen}
+use Rattle.rmt_update.specs.declared.book.table.PartCells.{PartCells}
+use Rattle.rmt_update.specs.declared.book.table.TableCells.{TableCells}
+use Rattle.rmt_update.specs.Differences.{AllPut, CanChange, pairs_of}
+use Rattle.rmt_update.proofs.PutChanges.{all-differences, put-none, table-put, take-past, zip-at, zip-short}
+use Rattle.rmt_update.proofs.book.differences.differences.Goals as goal
+
+pub loop-table-init : goal.loop-table-init
+loop-table-init c = put-none c.new-changes.result
+
+pub returns : goal.returns
+returns c =
+    let ts = c.args.tables.now in
+    let ms = c.args.moved.now in
+    let past = c.loop-table-test.false in
+    let short = zip-short ts ms in
+    all-differences (flat_map pairs_of (zip ts ms)) c.new-changes.result c.loop-table.changes c.in_ok-writes.writes.items c.new-changes.ensures.empty c.in_ok-writes.ensures.ordered
+    (subst (λ ps. AllPut (flat_map pairs_of ps) c.new-changes.result c.loop-table.changes) (take-past (zip ts ms) c.loop-table.table (omega (arith, past, short))) c.loop-table.invariant) c.in_ok-writes.ensures.writes
+
+pub bounds-moved-table : goal.bounds-moved-table
+bounds-moved-table c =
+    let long = AllZip-long (λ (t : TableCells) (ps : Vec PartCells Global). length ps.items ≡ length t.parts.items) c.args.tables.now c.args.moved.now c.requires.same in
+    let lt = c.loop-table-test.true in
+    omega (arith, long, lt)
+
+pub put_parts-requires-clause-same : goal.put_parts-requires-clause-same
+put_parts-requires-clause-same c =
+    let ts = c.args.tables.now in
+    let ms = c.args.moved.now in
+    let i = c.loop-table.table in
+    let long = AllZip-long (λ (t : TableCells) (ps : Vec PartCells Global). length ps.items ≡ length t.parts.items) ts ms c.requires.same in
+    let lt = c.loop-table-test.true in
+    let at_t = slice_get-seen ts ts i c.index-tables-table.result refl lt c.index-tables-table.is in
+    let at_m = slice_get-seen ms ms i c.index-moved-table.result refl (omega (arith, lt, long)) c.index-moved-table.is in
+    ap (λ (xs : List PartCells). length xs) c.as_slice.ensures.value
+    ∙ AllZip-slice_get (λ (t : TableCells) (ps : Vec PartCells Global). length ps.items ≡ length t.parts.items) ts ms i c.index-tables-table.result c.index-moved-table.result c.requires.same at_t at_m
+    ∙ sym (ap (λ (xs : List PartCells). length xs) (c.as_slice-old.ensures.value ∙ ap (λ (x : TableCells). x.parts.items) (sym c.index-tables-table.is)))
+
+pub put_parts-requires-clause-can : goal.put_parts-requires-clause-can
+put_parts-requires-clause-can c =
+    let ts = c.args.tables.now in
+    let ms = c.args.moved.now in
+    let i = c.loop-table.table in
+    let long = AllZip-long (λ (t : TableCells) (ps : Vec PartCells Global). length ps.items ≡ length t.parts.items) ts ms c.requires.same in
+    let lt = c.loop-table-test.true in
+    let at_m = slice_get-seen ms ms i c.index-moved-table.result refl (omega (arith, lt, long)) c.index-moved-table.is in
+    subst (All CanChange) (sym c.as_slice.ensures.value) (All-slice_get (λ (ps : Vec PartCells Global). All CanChange ps.items) ms i c.index-moved-table.result c.requires.can at_m)
+
+pub loop-table-preserved : goal.loop-table-preserved
+loop-table-preserved c =
+    let ts = c.args.tables.now in
+    let ms = c.args.moved.now in
+    let i = c.loop-table.table in
+    let t = c.index-tables-table.result in
+    let m = c.index-moved-table.result in
+    let long = AllZip-long (λ (x : TableCells) (ps : Vec PartCells Global). length ps.items ≡ length x.parts.items) ts ms c.requires.same in
+    let lt = c.loop-table-test.true in
+    let at_t = slice_get-seen ts ts i t refl lt c.index-tables-table.is in
+    let at_m = slice_get-seen ms ms i m refl (omega (arith, lt, long)) c.index-moved-table.is in
+    table-put (zip ts ms) i (t, m) c.new-changes.result c.loop-table.changes c.put_parts.new.changes (zip-at ts ms i t m at_t at_m) c.loop-table.invariant
+    (subst (λ (xs : List PartCells). AllPut (zip xs m.items) c.loop-table.changes c.put_parts.new.changes) (c.as_slice-old.ensures.value ∙ ap (λ (x : TableCells). x.parts.items) (sym c.index-tables-table.is))
+    (subst (λ (ys : List PartCells). AllPut (zip c.as_slice-old.result.now ys) c.loop-table.changes c.put_parts.new.changes) c.as_slice.ensures.value c.in_ok-put_parts.ensures))

@@ -1,0 +1,14 @@
+use Rattle.std.proofs.Common.{◌≡◌, ◌∙◌, Some, ap, cond, refl}
+use Rattle.std.specs.BTreeMap.{get}
+use Rattle.std.specs.Ordering.{nat_cmp}
+use Rattle.rmt_update.proofs.RankLaws.{same-number}
+use Rattle.rmt_update.proofs.book.refill.put_entry.Goals as goal
+
+pub returns : goal.returns
+returns c = record {
+  same = record { stage = refl; place = refl; first = refl; shape = refl };
+  kept = c.in_ok-kept.kept;
+  keeps = c.in_ok-kept.ensures.keeps;
+  put = λ m. c.in_ok-insert.ensures.updates.0 m ∙ ap (λ b. cond b (Some c.in_ok-kept.kept) (get nat_cmp c.args.part.now.cells m)) (same-number c.args.cell m);
+  ordered = c.insert.ensures.ordered;
+}

@@ -1,0 +1,122 @@
+//! The cell that one entry takes.
+
+ghost use Rattle.std.specs.Prelude.{◌≡◌, ◌<◌, ◌≤◌, ℕ, All, IfOk, IfSome, IsTrue, List, OnOk, length, sum};
+ghost use Rattle.std.specs.List.{AllZip};
+ghost use Rattle.rmt_bits.specs.Bits.{bytes_of};
+ghost use Rattle.rmt_ast.specs.NameRules.{table_is_formed};
+ghost use Rattle.rmt_ast.specs.WellFormed.{IsTest};
+ghost use Rattle.rmt_config.specs.LaneForm.{bits_of_lanes};
+ghost use Rattle.rmt_config.specs.Rooms.{PartAt};
+ghost use Rattle.rmt_config.specs.Shapes.{divided_up};
+ghost use Rattle.rmt_update.specs.Loads.{HasShape};
+ghost use Rattle.rmt_update.specs.Taking.{HaveRoom, IsGiven, MayGive, TakesFrom, TakesOpen, TakesRow, candidates_at};
+
+use crate::book::index::TableIndex;
+use crate::book::loading::key_of;
+use crate::book::open::open_cell;
+use crate::book::row_order::{RowOrder, row_key};
+use crate::book::spots::{Spot, spot_of};
+use crate::book::table::{PartCells, TableCells};
+use rmt_ast::entry::Entry;
+use rmt_bits::answer::Numbers;
+use rmt_bits::sequence::Sequence;
+use std::alloc::{AllocError, Global};
+use std::collections::BTreeSet;
+
+/// The cells of each part in which a key may stand under a seed. The only fault is want of memory.
+fn candidates_in(
+    alloc: Global,
+    seed: u8,
+    parts: &[PartCells],
+    key: &[u8],
+) -> Result<Vec<Numbers>, AllocError>
+    ensures count { IfOk result (λ cells. length cells.items ≡ length parts.now) }
+    ensures cells { IfOk result (λ cells. (ps : List PartAt) (number : ℕ) → AllZip HasShape ps parts.now →
+        All (λ (p : PartAt). key.now ≡ bytes_of (divided_up (bits_of_lanes p.slot.keys) 8) number) ps → cells.items ≡ candidates_at seed number ps) }
+{
+    let mut cells = Vec::with_capacity(alloc, parts.len())?;
+    for part in parts {
+        let own = part.shape.candidates(alloc, seed, key)?;
+        cells.push(Sequence::from_vec(own))?;
+    }
+    Ok(cells)
+}
+
+/// Gives a cell of an exact table. The only fault is want of memory.
+fn give(given: &mut Vec<BTreeSet<u32>>, spot: Spot) -> Result<(), AllocError>
+    requires { spot.part < length given.old.items }
+    ensures { OnOk result (IsGiven given.old.items given.new.items spot) }
+{
+    given[spot.part].insert(spot.cell)?;
+    Ok(())
+}
+
+/// The first free one of the candidate cells of an entry of an exact table, which is given from then on. The only fault
+/// is want of memory.
+fn take_open(
+    alloc: Global,
+    odd: bool,
+    seed: u8,
+    table: &TableCells,
+    given: &mut Vec<BTreeSet<u32>>,
+    entry: &Entry,
+) -> Result<Option<Spot>, AllocError>
+    requires formed { IsTrue (table_is_formed table.now.name) }
+    requires few { sum table.now.name.keys ≤ 640 }
+    requires tests { AllZip IsTest table.now.name.keys entry.now.tests }
+    requires given { length given.old.items ≡ length table.now.parts.items }
+    ensures takes { IfOk result (λ spot. TakesOpen odd seed table.now entry.now given.old.items given.new.items spot) }
+    ensures within { IfOk result (λ spot. IfSome spot (λ s. s.part < length table.now.parts.items)) }
+{
+    let parts = table.parts.as_slice();
+    let key = key_of(alloc, &table.name, entry)?;
+    let cells = candidates_in(alloc, seed, parts, key.as_slice())?;
+    let Some(spot) = open_cell(odd, parts, given.as_slice(), cells.as_slice()) else {
+        return Ok(None);
+    };
+    give(given, spot)?;
+    Ok(Some(spot))
+}
+
+/// The first free row of a prefix or ternary table in which an entry keeps the order, which it has from then on. The
+/// only fault is want of memory.
+fn take_row(
+    table: &TableCells,
+    order: &mut RowOrder,
+    entry: &Entry,
+) -> Result<Option<Spot>, AllocError>
+    requires { HaveRoom table.now entry.now order.old }
+    ensures takes { IfOk result (λ spot. TakesRow table.now entry.now order.old order.new spot) }
+    ensures within { IfOk result (λ spot. IfSome spot (λ s. s.part < length table.now.parts.items)) }
+{
+    let key = row_key(table.name.kind, entry.rank, entry.number);
+    let Some(row) = order.row_for(key) else {
+        return Ok(None);
+    };
+    order.rows.insert(key, row)?;
+    order.free.remove(&row);
+    Ok(Some(spot_of(table.parts.as_slice(), row)))
+}
+
+/// The first cell that an entry may take, which it has from then on; None where there is none. The only fault is want
+/// of memory.
+pub fn take_cell(
+    alloc: Global,
+    odd: bool,
+    seed: u8,
+    table: &TableCells,
+    index: &mut TableIndex,
+    entry: &Entry,
+) -> Result<Option<Spot>, AllocError>
+    requires formed { IsTrue (table_is_formed table.now.name) }
+    requires few { sum table.now.name.keys ≤ 640 }
+    requires tests { AllZip IsTest table.now.name.keys entry.now.tests }
+    requires may { MayGive table.now entry.now index.old }
+    ensures takes { IfOk result (λ spot. TakesFrom odd seed table.now entry.now index.old index.new spot) }
+    ensures within { IfOk result (λ spot. IfSome spot (λ s. s.part < length table.now.parts.items)) }
+{
+    match index {
+        TableIndex::Cells(given) => take_open(alloc, odd, seed, table, given, entry),
+        TableIndex::Rows(order) => take_row(table, order, entry),
+    }
+}

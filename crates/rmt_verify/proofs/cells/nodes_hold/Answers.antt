@@ -1,0 +1,29 @@
+use Rattle.std.proofs.Common.{◌≤◌, inl, inr, length, refl, arith}
+use Rattle.std.proofs.lemmas.Bool.{cases_lt}
+use Rattle.rmt_verify.specs.CellsHeld.{TablesHeld}
+use Rattle.rmt_verify.proofs.CellsToldLaws.{nodes_more, past_nodes}
+use Rattle.rmt_verify.proofs.cells.nodes_hold.Goals as goal
+
+pub node_holds-requires-clause-known : goal.node_holds-requires-clause-known
+node_holds-requires-clause-known c = c.requires.known c.loop-node.node
+
+pub returns-then-not-branch : goal.returns-then-not-branch
+returns-then-not-branch c = λ cells told. (
+  λ no. absurd cc,
+  λ all. absurd (let yes = (c.in_ok-node_holds.ensures cells told).1 (all c.loop-node.node) in cc),
+)
+
+pub loop-node-preserved : goal.loop-node-preserved
+loop-node-preserved c = λ cells told.
+    nodes_more (TablesHeld c.args.program.now c.args.config.now cells c.args.entries.now) c.loop-node.node (c.loop-node.invariant cells told) ((c.in_ok-node_holds.ensures cells told).0 cc)
+
+pub returns : goal.returns
+returns c = λ cells told. (
+  λ yes n. elim (cases_lt n c.loop-node.node) [
+    | inl less ↦ c.loop-node.invariant cells told n less
+    | inr le ↦
+        let past : length c.args.program.now.nodes ≤ n = omega (arith, c.loop-node-test.false, c.len-node-end.ensures, le) in
+        past_nodes c.args.program.now c.args.config.now cells c.args.entries.now n past
+  ],
+  λ all. refl,
+)

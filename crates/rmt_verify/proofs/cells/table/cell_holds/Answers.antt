@@ -1,0 +1,15 @@
+use Rattle.std.proofs.Common.{arith}
+use Rattle.std.proofs.lemmas.Result.{IfOk-weaker}
+use Rattle.rmt_verify.proofs.cells.table.cell_holds.Goals as goal
+
+pub overflow_cast-cell : goal.overflow_cast-cell
+overflow_cast-cell c = let low = c.requires.part.low in record { fits = omega (arith, low) }
+
+pub returns-then-not-is_told : goal.returns-then-not-is_told
+returns-then-not-is_told c = λ cells told. (
+  λ no. absurd cc,
+  λ held. absurd (let yes = (c.is_told.ensures cells told).1 held.told in cc),
+)
+
+pub returns-in-Some : goal.returns-in-Some
+returns-in-Some c = IfOk-weaker c.holds_entry.result _ _ (λ holds told cells are. told cells ((c.is_told.ensures cells are).0 cc)) c.holds_entry.ensures

@@ -1,0 +1,50 @@
+//! What rows of TCAM compare, against the words of an entry.
+
+ghost use Rattle.std.specs.Prelude.{◌≡◌, ◌↔◌, ◌+◌, ◌*◌, ◌<◌, ◌≤◌, IsTrue, length, map};
+ghost use Rattle.rmt_config.specs.Cells.{blocks_at, tcam_row};
+ghost use Rattle.rmt_config.specs.PrefixRow.{PrefixRows};
+ghost use Rattle.rmt_config.specs.declared.config.TcamRow.{TcamRow as TcamRowOf};
+ghost use Rattle.rmt_verify.specs.Wanted.{word_in};
+
+use rmt_config::config::TcamRow;
+use rmt_config::form::search::{Numbered, first_near};
+use rmt_pack::tcam::TcamWord;
+
+/// What a row of a TCAM block compares, looked for first near the place where the last one was found; a row that isn't
+/// listed compares no bit.
+fn word_at(rows: &[TcamRow], block: u8, row: u64, near: &mut usize) -> TcamWord
+    requires rows { PrefixRows rows.now }
+    requires row { row < 2048 }
+    ensures value { result.value ≡ tcam_row (λ (t : TcamRowOf). t.value) rows.now block row }
+    ensures mask { result.mask ≡ tcam_row (λ (t : TcamRowOf). t.mask) rows.now block row }
+{
+    let number = block as u64 * 2048 + row;
+    let at = first_near(rows, number, *near);
+    *near = at;
+    if at < rows.len() && rows[at].place() as u64 == number {
+        TcamWord {
+            value: rows[at].value,
+            mask: rows[at].mask,
+        }
+    } else {
+        TcamWord { value: 0, mask: 0 }
+    }
+}
+
+/// Whether a row of blocks side by side has these words, the first block lowest.
+pub fn are_words(rows: &[TcamRow], blocks: &[u8], row: u64, words: &[TcamWord]) -> bool
+    requires rows { PrefixRows rows.now }
+    requires row { row < 2048 }
+    ensures { IsTrue result ↔ map (word_in rows.now row) blocks.now ≡ words.now }
+{
+    if blocks.len() != words.len() {
+        return false;
+    }
+    let mut near = 0;
+    for (at, block) in blocks.iter().enumerate() {
+        if word_at(rows, *block, row, &mut near) != words[at] {
+            return false;
+        }
+    }
+    true
+}
