@@ -1,16 +1,17 @@
 #!/usr/bin/env bash
 # Seconds and peak memory of `./rmt`, one line a case: short packets through one stage and through 32; frames of 9,216 bytes with 385 of
-# them in flight; a counted table of 100,000 exact keys, and one of 20,000 ternary entries under 40 masks, by `sim` and by `plain`; two
-# tables of 1,000,000 exact keys each, which are compiled and then run; 128 tables; a ternary table that is too large for the chip; and
-# images of 1,048,576 exact and of 262,144 ternary entries, read without and with their names; and captures of 16 MiB through the router of
-# `examples/`. Behind them what `bench/improve.sh` and `bench/captures.sh` print; the latter wants `tshark` and `tcpdump`.
+# them in flight; a counted table of 100,000 exact keys, and one of 20,000 ternary entries under 40 masks, by `sim` and by `plain`; one of
+# as many under random masks, by `sim`; 20,000 packets with 2,000 commits over 200 entries; two tables of 1,000,000 exact keys each, which
+# are compiled and then run; 128 tables; a ternary table that is too large for the chip; and images of 1,048,576 exact and of 262,144
+# ternary entries, read without and with their names; and captures of 16 MiB through the router of `examples/`. Behind them what
+# `bench/improve.sh` and `bench/captures.sh` print; the latter wants `tshark` and `tcpdump`.
 set -eu
 top=$(cd "$(dirname "$0")/.." && pwd)
 work=$(mktemp -d)
 trap 'rm -rf "$work"' EXIT
 "$top/rmt" >/dev/null || true # builds the program
 python3 - "$top" "$work" <<'PY'
-import os, struct, subprocess, sys, time
+import os, random, struct, subprocess, sys, time
 top, work = sys.argv[1:]
 program = f"{top}/crates/rmt/out/rmt"
 
@@ -36,9 +37,10 @@ def compiled(name):
     print(f"{name}: compiled in {seconds:.2f} s, {peak:.0f} MiB")
 
 
-def packets(name, count, packet):
+def packets(name, count, packet, commands=("sim", "plain")):
     write(f"{name}.pkt", (packet(k) for k in range(count)))
-    for words in (("sim", f"{name}.img"), ("plain", f"{name}.rmt", f"{name}.ent")):
+    for command in commands:
+        words = (command, f"{name}.img") if command == "sim" else (command, f"{name}.rmt", f"{name}.ent")
         seconds, peak = run(*words, f"{name}.pkt")
         print(f"{name}: {words[0]} of {count} packets in {seconds:.2f} s, {count / seconds:,.0f} a second, {peak:.0f} MiB")
 
@@ -77,6 +79,18 @@ write("ternary.rmt", [tabled.format("ternary", 20_000)])
 write("ternary.ent", (f"t {i} {key(i)}&{masks[i % 40]} go {i % 512}\n" for i in range(20_000)))
 compiled("ternary")
 packets("ternary", 1_000_000, lambda k: f"{k % 512} {key(k * 7919 % 20_000):08x}0102\n")
+
+random.seed(1)
+write("random.rmt", [tabled.format("ternary", 20_000)])
+write("random.ent", (f"t {i} {key(i)}&{random.getrandbits(32)} go {i % 512}\n" for i in range(20_000)))
+compiled("random")
+packets("random", 1_000_000, lambda k: f"{k % 512} {key(k * 7919 % 20_000):08x}0102\n", ["sim"])
+write("commits.rmt", [tabled.format("exact", 256)])
+write("commits.ent", (f"t {key(i)} go {i % 512}\n" for i in range(200)))
+compiled("commits")
+# Each commit stands between two packets, and replaces an entry.
+packets("commits", 20_000, lambda k: f"- t {key(7)}\n+ t {key(7)} go {k % 512}\ncommit\n0 {key(7):08x}0102\n" if k % 10 == 9
+        else f"0 {key(7):08x}0102\n")
 
 write("large.rmt", ["header h { a : 48; b : 48; } next accept;\naction go(p : 9) { out_port = p; }\n"
     "table first { exact h.a; actions go; size 1000000; default go(0); }\ntable second { exact h.b; actions go; size 1000000; default go(0); }\n"

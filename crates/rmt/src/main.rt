@@ -2,6 +2,7 @@
 //! Done it says on standard error, for people, what was wrong; after Done of `compile`, what the program can't mean.
 #![tactic(auto)]
 
+mod call;
 mod last_line;
 mod messages;
 #[cfg(test)]
@@ -10,15 +11,12 @@ mod tests;
 ghost use Rattle.std.specs.Prelude.{◌≡◌, ◌≢◌, IfOk, drop};
 ghost use Rattle.std.specs.Vec.Iter.{into_iter_items};
 
-use crate::last_line::LastLine;
-use crate::messages::{Lengths, message_of};
-use rmt_core::rmt;
+use crate::call::call;
+use crate::messages::{KeepsFault, Lengths};
 use rmt_core::status::Status;
-use rmt_explain::ending::{Ending, Texts};
-use rmt_explain::explain;
-use rmt_io::true_shelf::TrueShelf;
+use rmt_io::true_shelf::{MachineFault, TrueShelf};
 use rmt_io::true_sink::TrueSink;
-use std::alloc::{AllocError, Global};
+use std::alloc::Global;
 use std::env::Args;
 use std::io::{ErrorKind, Write};
 use std::process::ExitCode;
@@ -29,22 +27,15 @@ use std::{env, fs, io};
 const NO_WORDS: u8 = 11;
 
 fn main(rt: HostRuntime) -> ExitCode {
+    let mut err = rt.stderr();
     let words = match words_behind_name(&rt) {
         Ok(words) => words,
-        Err(error) => return end_without_words(&rt, error.kind()),
+        Err(error) => return ExitCode::from(end_without_words(&mut err, error.kind())),
     };
     let mut shelf = TrueShelf::new(&rt);
-    let mut out = LastLine::new(rt.alloc(), TrueSink::new(&rt));
-    let status = rmt(rt.alloc(), &words, &mut shelf, &mut out) as u8;
-    let ending = Ending {
-        words: words.as_slice(),
-        status,
-        last_line: out.last_line(),
-        fault: None,
-    };
-    let text = message_after(rt.alloc(), &rt, &ending, &mut shelf);
-    say(&mut rt.stderr(), text);
-    ExitCode::from(status)
+    let out = TrueSink::new(&rt);
+    let lengths = TrueLengths { rt: &rt };
+    ExitCode::from(call(rt.alloc(), &words, &mut shelf, out, &lengths, &mut err))
 }
 
 /// The lengths of the machine's files.
@@ -62,44 +53,22 @@ impl<R: Files> Lengths for TrueLengths<'_, R> {
     }
 }
 
-/// The message of a call that ended.
-fn message_after<R: Files>(
-    alloc: Global,
-    rt: &R,
-    ending: &Ending,
-    shelf: &mut TrueShelf<'_, R>,
-) -> Result<Vec<u8>, AllocError> {
-    let lengths = TrueLengths { rt };
-    match shelf.last_fault() {
-        Some(fault) => explain(
-            alloc,
-            &ending.with_fault(fault.name.as_str(), fault.kind),
-            &Texts::none(),
-        ),
-        None => message_of(alloc, ending, shelf, &lengths),
+impl<R: Files> KeepsFault for TrueShelf<'_, R> {
+    fn kept_fault(&self) -> Option<&MachineFault> {
+        self.last_fault()
     }
 }
 
-/// Says a message on standard error. That it can't be said changes nothing.
-fn say(err: &mut impl Write, text: Result<Vec<u8>, AllocError>) {
-    match text {
-        Ok(text) if !text.is_empty() => {
-            let _ = err.write_all(text.as_slice());
-        }
-        _ => {}
-    }
-}
-
-/// Ends where the machine does not give the words as text.
-fn end_without_words(rt: &HostRuntime, kind: ErrorKind) -> ExitCode {
+/// Says that the machine does not give the words as text, and answers the exit status.
+fn end_without_words(err: &mut impl Write, kind: ErrorKind) -> u8 {
     let code = code_without_words(kind);
     let text: &[u8] = if code == NO_WORDS {
         b"rmt: a word of the command line is no text in UTF-8\n"
     } else {
         b"rmt: the system refused memory for the words of the command line\n"
     };
-    let _ = rt.stderr().write_all(text);
-    ExitCode::from(code)
+    let _ = err.write_all(text);
+    code
 }
 
 /// The words of the command line behind the program's name.

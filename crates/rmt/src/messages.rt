@@ -4,6 +4,7 @@ use rmt_explain::commands::{Role, limit_of, role_of, word_of};
 use rmt_explain::ending::{Ending, Texts, status};
 use rmt_explain::explain;
 use rmt_io::shelf::Shelf;
+use rmt_io::true_shelf::MachineFault;
 use std::alloc::{AllocError, Global};
 use std::io::ErrorKind;
 
@@ -19,7 +20,30 @@ pub trait Lengths {
     fn length(&self, name: &String) -> Option<u64>;
 }
 
-/// The message of a call that ended. A file is read again only where it is a regular one.
+/// What keeps the last fault of a file.
+pub trait KeepsFault {
+    /// The last fault; None where there was none, or no memory for its name.
+    fn kept_fault(&self) -> Option<&MachineFault>;
+}
+
+/// The message of a call that ended; where a file was at fault, no text is read again.
+pub fn message_after<F: Shelf + KeepsFault, L: Lengths>(
+    alloc: Global,
+    ending: &Ending,
+    shelf: &mut F,
+    lengths: &L,
+) -> Result<Vec<u8>, AllocError> {
+    match shelf.kept_fault() {
+        Some(fault) => explain(
+            alloc,
+            &ending.with_fault(fault.name.as_str(), fault.kind),
+            &Texts::none(),
+        ),
+        None => message_of(alloc, ending, shelf, lengths),
+    }
+}
+
+/// The message of a call in which no file was at fault. A file is read again only where it is a regular one.
 pub fn message_of<F: Shelf, L: Lengths>(
     alloc: Global,
     ending: &Ending,

@@ -2,7 +2,9 @@
 
 mod changes;
 mod commands;
+mod committed;
 mod compiled;
+mod endings;
 mod example_texts;
 mod examples;
 mod faults;

@@ -7,6 +7,7 @@ use Rattle.rmt_bits.proofs.ListLaws.{slice_get-alike, slice_get-item}
 use Rattle.rmt_build.specs.Types.{Program, Config, Stage}
 use Rattle.rmt_ast.specs.declared.entry.Entry.{Entry}
 use Rattle.rmt_ast.specs.EntryLists.{AreEntries}
+use Rattle.rmt_ast.specs.WellFormed.{IsProgram}
 use Rattle.rmt_config.specs.Agreement.{AgreesWith}
 use Rattle.rmt_pack.specs.declared.placement.Part.{Part}
 use Rattle.rmt_refine.specs.declared.map.CellOf.{CellOf}
@@ -83,13 +84,13 @@ module _ (p : Program) (lists : List (List Entry)) (plan : Plan) (c : Config) (e
             )
 
     -- so it carries the program, as the map of the plan tells
-    pub built_carries : PlacesCarried p plan.places c → AgreesWith c.parser plan.places p → EdgesKept (all_edges p plan.places) plan.placement.parts plan.starts
+    pub built_carries : IsProgram p → PlacesCarried p plan.places c → AgreesWith c.parser plan.places p → EdgesKept (all_edges p plan.places) plan.placement.parts plan.starts
         → CarriesIn p lists (record { places = plan.places; placement = plan.placement; starts = plan.starts; cells = cells_told (length p.nodes) c.stages }) c (own_view c)
-    built_carries places parser edges = record {
+    built_carries program places parser edges = record {
       places = places;
       parser = parser;
       units = units_carried;
       cells = cells_carried;
-      code = code_carried p plan.places c (λ k stage at. (built k stage at).code);
+      code = code_carried p plan.places program places.apart c (λ k stage at. (built k stage at).code);
       edges = edges;
     }

@@ -1,4 +1,4 @@
--- Instructions of foldings do what a configuration that carries a program asks of them.
+-- Instructions of a program's actions do what a configuration that carries the program asks of them.
 use Rattle.std.proofs.Common.{◌≡◌, ◌≢◌, ◌⊎◌, ◌+◌, ◌<◌, ◌≤◌, ◌∙◌, ℕ, List, [], map, get_or, sym, ap, subst}
 use Rattle.std.specs.Prelude.{All, Contains, Option, option_map, unwrap_or}
 use Rattle.std.specs.List.{AllZip}
@@ -7,21 +7,23 @@ use Rattle.std.proofs.lemmas.List.Elements.{All-contains, All-contains_itself, A
 use Rattle.std.proofs.lemmas.List.Sorted.{All-permutation}
 use Rattle.rmt_bits.specs.declared.lane.Lane.{Lane}
 use Rattle.rmt_bits.proofs.AllLaws.{All-flat_map, All-unmap}
-use Rattle.rmt_build.specs.Types.{Program, Action, Assign, Operation}
+use Rattle.rmt_build.specs.Types.{Program, Action, Assign, Table, Stage, Operation}
 use Rattle.rmt_ast.specs.EntryLists.{params_of}
 use Rattle.rmt_ast.specs.Places.{lanes_of}
-use Rattle.rmt_ast.specs.WellFormed.{Fits}
+use Rattle.rmt_ast.specs.WellFormed.{Fits, IsProgram, IsTable, Takes}
 use Rattle.rmt_deps.specs.Edges.{of_action}
-use Rattle.rmt_phv.specs.Places.{written_by}
+use Rattle.rmt_phv.specs.Places.{KeepsApart, written_by}
 use Rattle.rmt_vliw.specs.declared.folded.Folded.{Folded}
+use Rattle.rmt_vliw.specs.Coded.{IsCodeOf, IsDefaultCodeOf, TableCoded}
 use Rattle.rmt_vliw.specs.Effects as effects
 use Rattle.rmt_vliw.specs.Folding.{IsFolding, dests_of}
 use Rattle.rmt_vliw.specs.Operations.{given, operations_of}
+use Rattle.rmt_vliw.proofs.InstructionLaws.{does, does_with, takes_folded}
 use Rattle.rmt_vliw.proofs.MeaningLaws.{action_of, folded_is}
 use Rattle.rmt_vliw.proofs.OperationLaws.{IsOpOf, operation_word, ops_all}
 use Rattle.rmt_vliw.proofs.PieceLaws.{piece_of}
 use Rattle.rmt_vliw.proofs.ValueLaws.{dests_known}
-use Rattle.rmt_refine.specs.Code.{assigned_lanes, WritesWordsOf, DoesAction, DoesDefault}
+use Rattle.rmt_refine.specs.Code.{assigned_lanes, WritesWordsOf, DoesAction, DoesDefault, TableCode}
 use Rattle.rmt_config.specs.Effects.{ChangesOnly, HasArguments}
 use Rattle.rmt_bits.proofs.MemberLaws.{Contains-map, Contains-flat_map}
 
@@ -77,7 +79,7 @@ module _ (p : Program) (places : List (List Lane)) (n : ℕ) where
 
     -- ---- instructions
 
-    pub does_action : (ops : List Operation) → IsPermutation (operations_of places folded.params folded.values) ops → effects.Does p places n folded ops → DoesAction p places n ops
+    does_action : (ops : List Operation) → IsPermutation (operations_of places folded.params folded.values) ops → effects.Does p places n folded ops → DoesAction p places n ops
     does_action ops same does = record {
       acts = λ s args words held state fit has hold.
           does.acts s args words held state (subst (λ ps. AllZip Fits ps args) params_same fit) (subst (λ ps. HasArguments ps args held) params_same has) hold;
@@ -88,9 +90,28 @@ module _ (p : Program) (places : List (List Lane)) (n : ℕ) where
     given_assigned : (args : List ℕ) → All IsAssigned (map (given args) folded.values)
     given_assigned args = All-map IsAssigned (given args) folded.values values_assigned
 
-    pub does_default : (args : List ℕ) (ops : List Operation) → IsPermutation (operations_of places [] (map (given args) folded.values)) ops → effects.DoesWith p places n args folded ops → DoesDefault p places n args ops
+    does_default : (args : List ℕ) (ops : List Operation) → IsPermutation (operations_of places [] (map (given args) folded.values)) ops → effects.DoesWith p places n args folded ops → DoesDefault p places n args ops
     does_default args ops same does = record {
       acts = does.acts;
       others = changes_assigned folded.values ops values_assigned does.others;
       words = words_assigned [] (map (given args) folded.values) ops (given_assigned args) same;
     }
+
+-- ---- those of a table
+
+module _ (p : Program) (places : List (List Lane)) (program : IsProgram p) (keeps : KeepsApart p places) where
+  code_does : (action : ℕ) (ops : List Operation) → IsCodeOf p places action ops → DoesAction p places action ops
+  code_does action ops is =
+      does_action p places action is.folded is.folding ops is.instruction.same
+      (does p places is.folded program keeps action is.folding (record { ops = ops }) is.instruction)
+
+  default_does : (action : ℕ) (args : List ℕ) (ops : List Operation) → Takes p action args → IsDefaultCodeOf p places action args ops → DoesDefault p places action args ops
+  default_does action args ops takes is =
+      does_default p places action is.folded is.folding args ops is.instruction.same
+      (does_with p places is.folded program keeps action is.folding (record { ops = ops }) args (takes_folded p action args is.folded takes is.folding) is.instruction)
+
+  pub table_does : (t : Table) (first : ℕ) (stage : Stage) → IsTable p t → TableCoded p places t first stage → TableCode p places t first stage
+  table_does t first stage own coded = record {
+    actions = λ i action at. code_does action _ (coded.actions i action at);
+    default = default_does t.default t.args _ own.default coded.default;
+  }

@@ -14,7 +14,7 @@ use Rattle.rmt_build.specs.UnitCode.{DoTable, DoUnit, DoUnits}
 use Rattle.std.proofs.lemmas.List.{append-nil}
 use Rattle.std.proofs.lemmas.Bool.{and_parts, both_ways}
 use Rattle.std.proofs.lemmas.Slice.Zip.{AllZip-long}
-use Rattle.rmt_refine.specs.Code.{DoesAction}
+use Rattle.rmt_vliw.specs.Coded.{IsCodeOf}
 
 both_formed : (firsts seconds : List InstructionRole) (xs ys : List Vliw) → code_is_formed firsts xs ≡ true → code_is_formed seconds ys ≡ true → code_is_formed (firsts ++ seconds) (xs ++ ys) ≡ true
 both_formed [] seconds [] ys one two = two
@@ -38,7 +38,7 @@ module _ (p : Program) (places : List (List Lane)) where
 
   slot_code : (s : SlotUnit) (t : Table) (own : List Vliw) → s.actions ≡ length t.actions → s.held ≡ data_bits p t → DoTable p places t own → code_is_formed (slot_places s) own ≡ true
   slot_code s t own actions held does =
-      let count = AllZip-long (λ a (v : Vliw). DoesAction p places a v.ops) t.actions does.listed does.actions in
+      let count = AllZip-long (λ a (v : Vliw). IsCodeOf p places a v.ops) t.actions does.listed does.actions in
       let listed = listed_formed (record { held = s.held; is_default = false }) s.actions does.listed (omega (arith, count, actions))
       (subst (λ h. All (λ v. vliw_is_formed (record { held = h; is_default = false }) v ≡ true) does.listed) (sym held) does.formed) in
       let last : code_is_formed (record { held = s.held; is_default = true } ∷ []) (does.last ∷ []) ≡ true =

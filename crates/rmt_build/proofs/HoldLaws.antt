@@ -19,6 +19,7 @@ use Rattle.rmt_config.specs.Effects.{HasArguments}
 use Rattle.rmt_build.specs.declared.stands.Stand.{Stand}
 use Rattle.rmt_build.specs.Holding.{ExactHolds, ExactSo, Held, HoldsIn, PartHolds, TernaryHolds, TernarySo, content_in, data_for, exact_part, head_for, ternary_part, value_for}
 use Rattle.rmt_refine.proofs.ContentLaws.{has_arguments}
+use Rattle.rmt_refine.proofs.BesideLaws.{whole_mask}
 
 -- ---- heads
 
@@ -38,26 +39,6 @@ head-high : (code rest : ℕ) → code < 32 → (head_for code + 256 * rest) / 2
 head-high code rest lt = omega (arith, lt)
 
 -- ---- masks
-
--- masks of all bits are a mask of all bits
-pub whole-mask : (ws : List ℕ) (ts : List Test) → AllZip IsWhole ws ts → tests_as_one (λ test. test.mask) ws ts ≡ 2 ^ sum ws - 1
-whole-mask [] [] all = refl
-whole-mask [] (t ∷ ts) all = absurd all
-whole-mask (w ∷ ws) [] all = absurd all
-whole-mask (w ∷ ws) (t ∷ ts) all =
-    let size : 2 ^ sum (w ∷ ws) ≡ 2 ^ w * 2 ^ sum ws = ap (λ (n : ℕ). 2 ^ n) (sum_by-cons (λ x. x) w ws) ∙ pow-add 2 w (sum ws) in
-    ap (λ n. n * 2 ^ sum ws + tests_as_one (λ test. test.mask) ws ts) all.0
-    ∙ ap (λ n. (2 ^ w - 1) * 2 ^ sum ws + n) (whole-mask ws ts all.1)
-    ∙ joined (2 ^ w) (2 ^ sum ws) (pow_pos w) (pow_pos (sum ws)) ∙ ap (λ n. n - 1) (sym size)
-  where
-    joined : (a b : ℕ) → 0 < a → 0 < b → (a - 1) * b + (b - 1) ≡ a * b - 1
-    joined (suc a) (suc b) la lb =
-        let one : suc a - 1 ≡ a = omega arith in
-        let two : suc b - 1 ≡ b = omega arith in
-        let spread : suc a * suc b ≡ a * suc b + suc b = omega arith in
-        ap (λ n. n * suc b + (suc b - 1)) one ∙ omega (arith, spread)
-    joined (suc a) zero la lb = absurd (omega (arith, lb))
-    joined zero b la lb = absurd (omega (arith, la))
 
 -- ---- the arguments of an entry
 
@@ -105,7 +86,7 @@ module _ (p : Program) (t : Table) (n : ℕ) where
             seen = ap (λ v. is_seen (v % 256)) so.cell ∙ ap is_seen (head-low (first + e.action) (value_for p t e) lt) ∙ head-seen (first + e.action);
             code = ap (λ v. code_of (v % 256)) so.cell ∙ ap code_of (head-low (first + e.action) (value_for p t e) lt) ∙ head-code (first + e.action) lt;
             key = ap (λ v. v / 256) so.cell ∙ head-high (first + e.action) (value_for p t e) lt;
-            mask = ap (λ v. 2 ^ v - 1) size ∙ sym (whole-mask (map (width_of p) t.key) e.tests whole);
+            mask = ap (λ v. 2 ^ v - 1) size ∙ sym (whole_mask (map (width_of p) t.key) e.tests whole);
             held = subst (HasArguments (params_of p (slice_index t.actions e.action)) e.args) (sym so.data_is) (has_arguments (params_of p (slice_index t.actions e.action)) e.args (entry-fits e is));
             number_is = refl;
           };

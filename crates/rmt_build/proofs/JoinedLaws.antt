@@ -45,10 +45,11 @@ use Rattle.rmt_build.specs.declared.plan.Plan.{Plan}
 use Rattle.rmt_build.specs.BuiltStage.{IsBuiltStage}
 use Rattle.rmt_build.specs.Memories.{blocks_for, memory_for}
 use Rattle.rmt_build.specs.Plans.{format_at, need_in, quanta_before, taken_upto, what_format}
-use Rattle.rmt_build.specs.Promises.{HasBlocksInOrder, HasDataOfRule, HasFormat, HasFormatOfRule, StandInRows}
+use Rattle.rmt_build.specs.Promises.{HasBlocksInOrder, HasCodeOfRule, HasDataOfRule, HasFormat, HasFormatOfRule, StandInRows}
 use Rattle.rmt_build.specs.Stages.{AreStagesOf, IsPlanFor}
 use Rattle.rmt_build.specs.EntryCells.{cells_for}
 use Rattle.rmt_build.specs.Told.{cells_told}
+use Rattle.rmt_build.proofs.AssemblyLaws.{code_coded}
 use Rattle.rmt_build.proofs.CarriedLaws.{built_carries, units_carried}
 use Rattle.rmt_build.proofs.FormBlocks.{HasMemory, are_blocks, blocks_in_order}
 use Rattle.rmt_build.proofs.FormConfig.{formed_with_clustered, limits_by_plan}
@@ -158,10 +159,13 @@ module _ (p : Program) (lists : List (List Entry)) (plan : Plan) (c : Config) (p
   pub joined_carries : PlacesCarried p plan.places c → AgreesWith c.parser plan.places p
       → CarriesIn p lists (record { places = plan.places; placement = plan.placement; starts = plan.starts; cells = cells }) c (own_view c)
   joined_carries places parser =
-      built_carries p lists plan c entries is.is_plan.parts is.is_plan.stands (node_some p program) long room built are_loaded in_rows places parser is.edges
+      built_carries p lists plan c entries is.is_plan.parts is.is_plan.stands (node_some p program) long room built are_loaded in_rows program places parser is.edges
 
   pub joined_rows : StandInRows p lists parts cells
   joined_rows = stand_in_rows p lists plan c cells entries units_are is.is_plan.stands built refl in_rows
+
+  pub joined_code : All (HasCodeOfRule p plan.places) c.stages
+  joined_code k d lt = code_coded p plan.places (get_or c.stages k d) (built k (get_or c.stages k d) (slice_get-get_or c.stages k d lt)).code
 
   pub joined_blocks : All HasBlocksInOrder c.stages
   joined_blocks k d lt =

@@ -1,7 +1,8 @@
 -- What the configuration of a program keeps beside carrying it, whatever placement its nodes have.
 use Rattle.std.specs.Prelude.{◌≡◌, ◌≤◌, ℕ, ◌+◌, ◌*◌, ⊤, All, IsSomeAnd, List, Some, Ok, Contains, count_by, length, slice_get}
 use Rattle.std.specs.List.{flat_map, range_with_len}
-use Rattle.rmt_build.specs.Types.{Program, Table, Kind, Config, Stage, Unit, Memory}
+use Rattle.rmt_bits.specs.declared.lane.Lane.{Lane}
+use Rattle.rmt_build.specs.Types.{Program, Table, Kind, Config, Stage, Unit, SlotUnit, Memory}
 use Rattle.rmt_ast.specs.declared.program.Kind.TheVariants.{Keyless, Exact, Prefix, Ternary}
 use Rattle.rmt_ast.specs.declared.entry.Entry.{Entry}
 use Rattle.rmt_ast.specs.Naming.{names_of}
@@ -25,7 +26,10 @@ use Rattle.rmt_ptcam.specs.Clustering.{clustered_or}
 use Rattle.rmt_refine.specs.declared.map.CellOf.{CellOf}
 use Rattle.rmt_refine.specs.declared.map.Map.{Map}
 use Rattle.rmt_refine.specs.Carries.{all_edges}
+use Rattle.rmt_refine.specs.Cells.{first_code}
 use Rattle.rmt_refine.specs.Units.{table_at}
+use Rattle.rmt_refine.specs.View.{slot_of}
+use Rattle.rmt_vliw.specs.Coded.{ActionsFold, TableCoded}
 use Rattle.rmt_build.specs.Loads.{IsFirstSeed}
 use Rattle.rmt_build.specs.Plans.{format_at, quanta_before}
 use Rattle.rmt_build.specs.Told.{cells_told}
@@ -56,6 +60,14 @@ abbrev pub HasDataOfRule : Program → Unit → Type 0
 HasDataOfRule p (Gate g) = ⊤
 HasDataOfRule p (Slot s) = IsSomeAnd (table_at p s.node) (λ t. s.held ≡ data_bits p t)
 
+-- ---- instructions
+
+-- each slot of a stage has the instructions of its table
+abbrev pub HasCodeOfRule : Program → List (List Lane) → Stage → Type 0
+HasCodeOfRule p places stage =
+    (place : ℕ) (slot : SlotUnit) (t : Table) → slot_of stage place ≡ Some slot → table_at p slot.node ≡ Some t
+    → TableCoded p places t (first_code stage place) stage
+
 -- ---- rows
 
 -- entries of a prefix or ternary table stand in rows
@@ -80,10 +92,13 @@ pub record IsConfigOf (p : Program) (lists : List (List Entry)) (c : Config) : T
   pub limits : IsWithinLimits c
   pub names : c.names ≡ Some (names_of p lists)
 
--- Fields are packed, frames parsed and stages started by their rules, and the seed is the first under which all exact tables are loaded.
+-- Fields are packed, frames parsed, actions folded, instructions made of the foldings and stages started by their rules, and the seed is the first under
+-- which all exact tables are loaded.
 pub record KeepsRules (p : Program) (lists : List (List Entry)) (m : Map) (c : Config) : Type 0 where
   pub places : packing p ≡ Ok m.places
   pub parser : clustered_or p m.places ≡ Ok c.parser
+  pub folds : ActionsFold p
+  pub code : All (HasCodeOfRule p m.places) c.stages
   pub starts : m.starts ≡ starts_of (all_edges p m.places) m.placement.parts
   pub seed : IsFirstSeed p lists m.placement.parts c.seed
 

@@ -82,7 +82,7 @@ pub fn build(alloc: Global, program: &Program, entries: &EntryLists) -> Result<B
     ensures carries { IfOk result (λ b. Carries program.now entries.now b.map b.config) }
     // It is formed, within the limits of the chip, and has the names of the program with its entries.
     ensures config { IfOk result (λ b. IsConfigOf program.now entries.now b.config) }
-    // Fields are packed, frames parsed, stages started and exact tables loaded by their rules.
+    // Fields are packed, frames parsed, instructions made, stages started and exact tables loaded by their rules.
     ensures rules { IfOk result (λ b. KeepsRules program.now entries.now b.map b.config) }
     // Memories, blocks, rows and the map's cells are as the rules say.
     ensures layout { IfOk result (λ b. IsLaidOut program.now entries.now b.map b.config) }
@@ -146,7 +146,7 @@ pub fn build_from(
     ensures carries { IfOk result (λ b. Carries program.now entries.now b.map b.config) }
     // It is formed, within the limits of the chip, and has the names of the program with its entries.
     ensures config { IfOk result (λ b. IsConfigOf program.now entries.now b.config) }
-    // Fields are packed, frames parsed, stages started and exact tables loaded by their rules.
+    // Fields are packed, frames parsed, instructions made, stages started and exact tables loaded by their rules.
     ensures rules { IfOk result (λ b. KeepsRules program.now entries.now b.map b.config) }
     // Memories, blocks, rows and the map's cells are as the rules say.
     ensures layout { IfOk result (λ b. IsLaidOut program.now entries.now b.map b.config) }

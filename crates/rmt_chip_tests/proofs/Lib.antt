@@ -1,1 +1,2 @@
 pub mod KeptCells
+mod PlanReady

@@ -49,7 +49,7 @@ const ROWS: [Row; 4] = [
 ];
 
 /// The configuration of an image with names.
-fn config_of(alloc: Global, image: &[u8]) -> Option<Config>
+pub(crate) fn config_of(alloc: Global, image: &[u8]) -> Option<Config>
     ensures formed { IfSome result (λ c. Formed c) }
     ensures named { IfSome result (λ c. IsSome c.names) }
 {

@@ -3,6 +3,8 @@
 
 pub mod fixture;
 mod lookups;
+mod taken;
+mod versions;
 mod writes;
 
 use crate::chip::fixture::{Look, NO_ROWS, NOTHING, Row, SENT, TWO_BYTES, open, replay, step};

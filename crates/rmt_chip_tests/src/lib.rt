@@ -23,6 +23,8 @@ mod loading;
 #[cfg(test)]
 mod plain;
 #[cfg(test)]
+mod plans;
+#[cfg(test)]
 mod queues;
 #[cfg(test)]
 mod reports;

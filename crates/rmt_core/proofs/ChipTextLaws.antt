@@ -1,6 +1,6 @@
 -- The lines of a run of packets and commits, cycle by cycle.
-use Rattle.std.proofs.Common.{◌≡◌, ⊎_elim, ℕ, ◌+◌, ◌-◌, ◌<◌, ◌≤◌, Bool, true, false, cond, ltb, eqb, List, [], ◌∷◌, ◌++◌, length, take, Option, Some, None, sym, refl, ap, ◌∙◌, subst, arith, append_assoc, append-nil, length-append}
-use Rattle.std.specs.Prelude.{is_none, option_map, slice_get, unwrap_or}
+use Rattle.std.proofs.Common.{◌≡◌, ⊎_elim, ℕ, ◌+◌, ◌-◌, ◌<◌, ◌≤◌, true, false, cond, eqb, List, [], ◌∷◌, ◌++◌, length, take, Option, Some, None, sym, refl, ap, ◌∙◌, subst, arith, append_assoc, append-nil, length-append}
+use Rattle.std.specs.Prelude.{option_map, slice_get, unwrap_or}
 use Rattle.std.specs.Option.{option_to_list}
 use Rattle.std.proofs.lemmas.Bool.{cases_lt, lt-ltb, le-ltb}
 use Rattle.std.proofs.lemmas.List.{take-append-le, take_all}
@@ -37,7 +37,7 @@ module _ (c : Config) (fit : StagesFit c.stages) where
       (λ (le : last ≤ k). let same : k ≡ last = omega (arith, lt, le) in let there : start_in c.stages k ≡ start_in c.stages last = ap (start_in c.stages) same in omega (arith, e, at, is, there))
       (cases_lt k last)
 
-  start_within : (k : ℕ) → start_of c k ≤ latency_of c.stages
+  pub start_within : (k : ℕ) → start_of c k ≤ latency_of c.stages
   start_within k = by (slice_get c.stages k) refl
     where
       by : (o : Option Stage) → slice_get c.stages k ≡ o → unwrap_or (option_map (λ (stage : Stage). stage.start) o) 0 ≤ latency_of c.stages

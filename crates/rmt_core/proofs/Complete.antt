@@ -1,5 +1,8 @@
 -- Where the files are as they must be, each command gives Done.
-use Rattle.std.proofs.Common.{◌≡◌, ℕ, List, Option, inl, inr, ap, refl, ◌∙◌, subst}
+use Rattle.std.proofs.Common.{◌≡◌, ℕ, false, cond, ltb, List, length, take, Option, Some, None, inl, inr, ap, refl, ◌∙◌, subst}
+use Rattle.std.proofs.lemmas.Bool.{le-ltb}
+use Rattle.rmt_bits.specs.Lines.{numbered_lines}
+use Rattle.rmt_packets.specs.Pieces.{ended_lines}
 use Rattle.rmt_core.specs.Types.{Program, Config}
 use Rattle.rmt_ast.specs.declared.entry.Entry.{Entry}
 use Rattle.rmt_bounds.specs.declared.bound.Bound.{Bound}
@@ -11,24 +14,28 @@ use Rattle.rmt_core.specs.declared.placer.Placer.TheVariants.{ByRule, ByTries}
 use Rattle.rmt_core.specs.declared.status.Status.TheVariants.{Done}
 use Rattle.rmt_core.specs.declared.watch.Watch.{Watch}
 use Rattle.rmt_core.specs.declared.watch.Watch.TheVariants.{Answers, Vectors}
+use Rattle.rmt_core.specs.ChipEvents.{Comes}
+use Rattle.rmt_core.specs.ChipReading.{lists_in, names_in, read_by}
+use Rattle.rmt_core.specs.ChipRuns.{EndsFull, RunsChip, RunsSo, bad_within}
 use Rattle.rmt_core.specs.Commands.{Compile, CompileMap, Improve, Sim, Probe, Plain, Report, Sample, Switch, Verify}
 use Rattle.rmt_core.specs.Compiling.{Builds, Compiles, Finish, Fitted, GivesImage, Loaded, written}
-use Rattle.rmt_core.specs.Files.{Files, capture_limit, entries_limit, groups_limit, image_limit, map_limit, packets_limit, program_limit}
+use Rattle.rmt_core.specs.Files.{Files, capture_limit, entries_limit, groups_limit, image_limit, packets_limit, program_limit}
 use Rattle.rmt_core.specs.Given.{Given, Opens, Reads, told}
-use Rattle.rmt_core.specs.Headline.{AreGoodGroups, CanBeMade, Fits, IsComplete, IsGoodCapture, IsGoodText, IsImage, IsReady}
-use Rattle.rmt_core.specs.EventText.{with_changes}
+use Rattle.rmt_core.specs.Headline.{AreGoodGroups, CanBeMade, Fits, IsComplete, IsGoodCapture, IsGoodChipRun, IsImage, IsReady}
+use Rattle.rmt_core.specs.EventText.{EventReading, with_changes}
 use Rattle.rmt_core.specs.MapFiles.{Wanted, image_alone, with_map}
 use Rattle.rmt_core.specs.PlainText.{GivesPlain, RunsPlain, plain_text}
 use Rattle.rmt_core.specs.Reporting.{report_line}
-use Rattle.rmt_core.specs.Runs.{Runs, packets_alone}
+use Rattle.rmt_core.specs.Runs.{run_status}
 use Rattle.rmt_core.specs.Sampling.{GivesSample, sample_line}
 use Rattle.rmt_core.specs.Simulating.{GivesRun, Spelled}
 use Rattle.rmt_core.specs.Switching.{GivesSwitch, HasCapture, HasGroups, OfCapture, OfGroups, Switches, switch_given}
 use Rattle.rmt_core.specs.Texts.{Understands}
-use Rattle.rmt_core.specs.Verifying.{Checks, ChecksBytes, ChecksTexts, GivesVerify, HasMap}
-use Rattle.rmt_core.specs.Watching.{text_of}
+use Rattle.rmt_core.specs.Verifying.{GivesVerify}
 use Rattle.rmt_core.proofs.GivenOnce.{NeverBoth, OneMap, OneMeaning, never_both}
-use Rattle.rmt_core.proofs.GivenDone.{map_is, opened_there, read_within, run_done, sample_built, spelled_is, understood}
+use Rattle.rmt_core.proofs.Verified.{verify_checks}
+use Rattle.rmt_core.proofs.GivenDone.{opened_there, read_within, run_done, sample_built, spelled_is, understood}
+use Rattle.rmt_core.proofs.ReadOnce.{told_is}
 
 module _
     (apart : NeverBoth) (placer : Placer) (files : Files) (finish : Finish) (is : (image : List ℕ) (m : Map) (c : Config) (b : Bound) → (finish image m c b).status ≡ Done)
@@ -57,12 +64,31 @@ sample_ready one apart files number g ready h =
     let lists = ready.1 in
     builds_ready apart ByRule files (λ image m c b. told files Done (sample_line number p lists c)) (λ _ _ _ _. refl) p lists g ready.3 (sample_built one files number g p lists ready.2 h)
 
-run_ready : (w : Watch) (files : Files) (image packets : List ℕ) (g : Given) → IsImage files image → IsGoodText files packets → GivesRun w files image packets g → g.status ≡ Done
-run_ready w files image packets g i t h =
-    let read = read_within files image image_limit (λ bytes. Opens files packets (λ text. Spelled files bytes (λ c. Runs files (text_of w c) packets_limit text))) g (i.bytes, i.has_bytes) h in
-    let opened = opened_there files packets t.text (λ text. Spelled files i.bytes (λ c. Runs files (text_of w c) packets_limit text)) g t.has_text.is_there read in
-    let run = spelled_is files i.bytes (λ c. Runs files (text_of w c) packets_limit t.text) g i.config i.spells opened in
-    ap (λ (k : Given). k.status) (run_done packets_alone files (text_of w i.config) packets_limit t.text g t.has_text.is_short t.is_good run)
+-- what a run gives over a text that is short, has no bad line for it, and in which each commit finds room
+run_good : (w : Watch) (files : Files) (image packets : List ℕ) (i : IsGoodChipRun files image packets) (g : Given) → RunsChip w files i.is_image.config packets_limit i.text g → g.status ≡ Done
+run_good w files image packets i g h = by h.0 h.3
+  where
+    c : Config
+    c = i.is_image.config
+
+    few : ltb packets_limit (length i.text) ≡ false
+    few = le-ltb packets_limit (length i.text) i.has_text.is_short
+
+    none : bad_within c None packets_limit i.text ≡ None
+    none = ap (λ b. (cond b (read_by c None (ended_lines (take packets_limit i.text))) (read_by c None (numbered_lines 1 i.text))).bad) few ∙ i.is_good
+
+    by : (full : Option ℕ) → RunsSo w files c packets_limit i.text full h.1 h.2 g → g.status ≡ Done
+    by None so = ap (λ (k : Given). k.status) so.given_is ∙ ap (λ b. run_status b (bad_within c None packets_limit i.text)) few ∙ ap (run_status false) none
+    by (Some k) so =
+        let same = told_is c packets_limit i.text (Some k) in
+        absurd (i.has_room k h.1 h.2 (subst (λ (x : EventReading). Comes c (names_in c) (lists_in c) x.events h.1 h.2) same so.comes) (subst (λ (x : EventReading). EndsFull c h.2 x (Some k)) same so.ends))
+
+run_ready : (w : Watch) (files : Files) (image packets : List ℕ) (g : Given) → IsGoodChipRun files image packets → GivesRun w files image packets g → g.status ≡ Done
+run_ready w files image packets g r h =
+    let i = r.is_image in
+    let read = read_within files image image_limit (λ bytes. Opens files packets (λ text. Spelled files bytes (λ c. RunsChip w files c packets_limit text))) g (i.bytes, i.has_bytes) h in
+    let opened = opened_there files packets r.text (λ text. Spelled files i.bytes (λ c. RunsChip w files c packets_limit text)) g r.has_text.is_there read in
+    run_good w files image packets r g (spelled_is files i.bytes (λ c. RunsChip w files c packets_limit r.text) g i.config i.spells opened)
 
 plain_ready : OneMeaning → (files : Files) (program entries packets : List ℕ) (g : Given) → IsReady files (Plain program entries packets) → GivesPlain files program entries packets g → g.status ≡ Done
 plain_ready one files program entries packets g ready h =
@@ -91,28 +117,14 @@ switch_ready files image groups capture out every g i t k h =
 
 verify_ready : OneMeaning → OneMap → (files : Files) (program entries image map : List ℕ) (g : Given) → IsReady files (Verify program entries image map) → GivesVerify files program entries image map g → g.status ≡ Done
 verify_ready one maps files program entries image map g ready h =
-    let p = ready.0 in
-    let lists = ready.1 in
-    let both = ready.2 in
-    let i = ready.3 in
-    let k = ready.4 in
-    let read = read_within files program program_limit
-    (λ text. Reads files entries entries_limit (λ entry_text. Reads files image image_limit (λ image_bytes. Reads files map map_limit (λ map_bytes. ChecksTexts files text entry_text image_bytes map_bytes)))) g (both.text, both.has_text) h in
-    let second = read_within files entries entries_limit
-    (λ entry_text. Reads files image image_limit (λ image_bytes. Reads files map map_limit (λ map_bytes. ChecksTexts files both.text entry_text image_bytes map_bytes))) g (both.entry_text, both.has_entries) read in
-    let third = read_within files image image_limit (λ image_bytes. Reads files map map_limit (λ map_bytes. ChecksTexts files both.text both.entry_text image_bytes map_bytes)) g (i.bytes, i.has_bytes) second in
-    let fourth = read_within files map map_limit (λ map_bytes. ChecksTexts files both.text both.entry_text i.bytes map_bytes) g (k.bytes, k.has_bytes) third in
-    let meant = understood one files both.text both.entry_text (ChecksBytes files i.bytes k.bytes) g p lists both.means both.says fourth in
-    let spelled = spelled_is files i.bytes (λ c. HasMap files k.bytes (Checks files p lists c)) g i.config i.spells meant in
-    let checked = map_is maps files k.bytes (Checks files p lists i.config) g k.map k.spells spelled in
-    ap (λ (x : Given). x.status) checked.2
+    ap (λ (x : Given). x.status) (verify_checks one maps files program entries image map g ready.0 ready.1 ready.2 ready.3 ready.4 h).2
 
 pub is_complete : OneMeaning → NeverBoth → OneMap → IsComplete
 is_complete one apart maps files (Compile program entries image) g ready h = image_ready one apart ByRule files program entries (image_alone image) g ready h
 is_complete one apart maps files (CompileMap program entries image map) g ready h = image_ready one apart ByRule files program entries (with_map image map) g ready h
 is_complete one apart maps files (Improve program entries image budget) g ready h = image_ready one apart (ByTries budget) files program entries (image_alone image) g ready h
-is_complete one apart maps files (Sim image packets) g ready h = run_ready Answers files image packets g ready.0 ready.1 h
-is_complete one apart maps files (Probe image packets cycle) g ready h = run_ready (Vectors cycle) files image packets g ready.0 ready.1 h
+is_complete one apart maps files (Sim image packets) g ready h = run_ready Answers files image packets g ready h
+is_complete one apart maps files (Probe image packets cycle) g ready h = run_ready (Vectors cycle) files image packets g ready h
 is_complete one apart maps files (Plain program entries packets) g ready h = plain_ready one files program entries packets g ready h
 is_complete one apart maps files (Report image) g ready h =
     let read = read_within files image image_limit (λ bytes. Spelled files bytes (λ c k. k ≡ told files Done (report_line c))) g (ready.bytes, ready.has_bytes) h in

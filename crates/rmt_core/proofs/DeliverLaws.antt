@@ -95,7 +95,7 @@ module _ (before after : ShelfState) (sink : SinkState) (writes : List Write) (l
         let up = stood told in
         record {
           files = by up.done up.next up.rest up.writes_are up.files;
-          front = λ g _. gained_none sink sink g.text (λ _. refl);
+          front = λ g h. (g, h, gained_none sink sink g.text (λ _. refl));
           steady = λ _ e. absurd (cc);
         };
     quiet = λ _ _. refl;

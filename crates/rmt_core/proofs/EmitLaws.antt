@@ -1,8 +1,9 @@
 -- The answers of a run, cycle by cycle.
-use Rattle.std.proofs.Common.{◌≡◌, ℕ, zero, suc, ◌+◌, ◌-◌, ◌<◌, List, [], ◌∷◌, ◌++◌, length, Option, Some, None, sym, refl, ap, ◌∙◌, subst, arith, append_assoc, length-append}
-use Rattle.std.specs.Prelude.{filter_map, option_and_then, option_map, nat_lt, if◌then◌else◌}
+use Rattle.std.proofs.Common.{◌≡◌, ℕ, zero, suc, ◌+◌, ◌-◌, ◌<◌, ◌≤◌, List, [], ◌∷◌, ◌++◌, length, Option, Some, None, sym, refl, ap, ◌∙◌, subst, arith, append_assoc, length-append}
+use Rattle.std.specs.Prelude.{filter_map, map, option_and_then, option_map, nat_lt, replicate, if◌then◌else◌}
 use Rattle.std.specs.Option.{option_to_list}
 use Rattle.std.specs.List.{range_with_len, cons_option}
+use Rattle.std.proofs.lemmas.List.{length-replicate, map-append, replicate-append-replicate}
 use Rattle.std.proofs.lemmas.List.Elements.{filter_map-append}
 use Rattle.rmt_bits.specs.Packet.{Packet}
 use Rattle.rmt_core.specs.Types.{Config}
@@ -51,3 +52,27 @@ answer_lines-append n (x ∷ xs) ys =
     ap (λ l. answer_line n (answer_of_outcome x) ++ l) (answer_lines-append (n + 1) xs ys)
     ∙ sym (append_assoc (answer_line n (answer_of_outcome x)) (answer_lines (n + 1) xs) (answer_lines (n + 1 + length xs) ys))
     ∙ ap (λ m. answer_lines n (x ∷ xs) ++ answer_lines m ys) same
+
+-- no more answers than cycles
+pub few_left : (f : ℕ → Option Outcome) (a n : ℕ) → length (filter_map f (range_with_len a n)) ≤ n
+few_left f a zero = omega arith
+few_left f a (suc n) =
+    let later : length (filter_map f (range_with_len (a + 1) n)) ≤ n = few_left f (a + 1) n in
+    elim (f a) as (λ o. length (cons_option o (filter_map f (range_with_len (a + 1) n))) ≤ suc n) [ None ↦ omega (arith, later) | Some y ↦ omega (arith, later) ]
+
+-- ---- packets, and cycles without one behind them
+
+-- one more packet among the inputs
+pub inputs_more : (done : List Packet) (packet : Packet) → map Some done ++ Some packet ∷ [] ≡ map Some (done ++ packet ∷ [])
+inputs_more done packet = sym (map-append Some done (packet ∷ []))
+
+pub length_somes : (done : List Packet) → length (map (λ p. Some p) done) ≡ length done
+length_somes [] = refl
+length_somes (p ∷ done) = ap (λ n. suc n) (length_somes done)
+
+-- one more cycle without a packet
+pub padded : (inputs : List (Option Packet)) (a : ℕ) → (inputs ++ replicate a None) ++ None ∷ [] ≡ inputs ++ replicate (a + 1) None
+padded inputs a = append_assoc inputs (replicate a None) (None ∷ []) ∙ ap (λ (l : List (Option Packet)). inputs ++ l) (replicate-append-replicate a 1 None)
+
+pub padded_length : (inputs : List (Option Packet)) (a : ℕ) → length (inputs ++ replicate a None) ≡ length inputs + a
+padded_length inputs a = length-append inputs (replicate a None) ∙ ap (λ n. length inputs + n) (length-replicate a None)

@@ -58,7 +58,7 @@ answered_as before after gives other result to back = by result
     stop : (status : Status) → Stops before after gives status → Stops before after other status
     stop status s = record {
       files = ⊎_elim (λ same. inl same) (λ between. inr (between_as before after gives other status to between)) s.files;
-      front = λ g h. s.front g (back g h);
+      front = λ g h. let x = s.front g (back g h) in (x.0, to x.0 x.1, x.2);
       steady = λ steady e g h. s.steady steady e g (back g h);
     }
 
@@ -109,7 +109,7 @@ answered_where before after gives other result read quiet to = by result read qu
     by TooLong r q h = ends TooLong h
     by NoMemory r q h = record {
       files = ⊎_elim (λ same. inl same) (λ between. inr (between_as before after gives other NoMemory to between)) h.files;
-      front = λ g _. gained_none before.sink after.sink g.text (q refl);
+      front = λ g h. (g, h, gained_none before.sink after.sink g.text (q refl));
       steady = λ _ e. absurd (cc);
     }
 
@@ -150,7 +150,7 @@ module _ (before after : Outside) (gives : Given → Type 0) where
   pub stopped : (status : Status) → (status ≡ ReadFault) ⊎ (status ≡ NoMemory) → AreSame after.shelf.files before.shelf.files → GainedNone before.sink after.sink
       → (IsTrue before.shelf.steady → status ≡ ReadFault → (g : Given) → gives g → g.status ≡ ReadFault) → Answered before after gives status
   stopped status is same quiet steady =
-      stops status is (record { files = inl same; front = λ g _. gained_none before.sink after.sink g.text quiet; steady = steady })
+      stops status is (record { files = inl same; front = λ g h. (g, h, gained_none before.sink after.sink g.text quiet); steady = steady })
 
   -- a call for want of memory, before it printed anything
   pub no_memory : AreSame after.shelf.files before.shelf.files → GainedNone before.sink after.sink → Answered before after gives NoMemory

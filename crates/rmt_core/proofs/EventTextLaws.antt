@@ -1,5 +1,5 @@
 -- What the lines of a text say that may change entries, line by line.
-use Rattle.std.proofs.Common.{◌≡◌, ◌⊎◌, ℕ, ◌≤◌, ◌&&◌, Bool, true, false, cond, eqb, List, [], ◌∷◌, ◌++◌, length, Option, Some, None, Result, Ok, Err, map, refl, sym, ap, ◌∙◌, inl, inr, arith, append_assoc, append-nil}
+use Rattle.std.proofs.Common.{◌≡◌, ◌⊎◌, ℕ, ◌≤◌, ◌&&◌, Bool, true, false, cond, eqb, List, [], ◌∷◌, ◌++◌, length, Option, Some, None, Result, Ok, Err, refl, sym, ap, ◌∙◌, inl, inr, arith, append_assoc, append-nil}
 use Rattle.std.specs.Prelude.{◌||◌, codes, drop, fold}
 use Rattle.std.specs.Str.{bytes_eq}
 use Rattle.std.proofs.lemmas.Bool.{and_parts, cases_lt, false≢true, le-leb}
@@ -12,10 +12,10 @@ use Rattle.rmt_ast.specs.Events.{Arrives, Commits, Event}
 use Rattle.rmt_packets.specs.declared.line_kind.LineKind.{LineKind}
 use Rattle.rmt_packets.specs.declared.line_kind.LineKind.TheVariants as line
 use Rattle.rmt_packets.specs.LineKinds.{begins_with, kind_of}
-use Rattle.rmt_packets.specs.PacketText.{BadLine, before, packet_of, reading_of}
+use Rattle.rmt_packets.specs.PacketText.{BadLine, packet_of}
 use Rattle.rmt_packets.specs.Pieces.{front_of, front_size}
 use Rattle.rmt_packets.proofs.Fronts.{packet_of_front}
-use Rattle.rmt_packets.proofs.KindLaws.{kind_of_front, packet_kind}
+use Rattle.rmt_packets.proofs.KindLaws.{kind_of_front}
 use Rattle.rmt_packets.proofs.StandsLaws.{front_size_is}
 use Rattle.rmt_update.specs.Running.{Running, begins, is_change, line_change}
 use Rattle.rmt_core.specs.EventText.{EventReading, events_of, read_on, unread, with_bad, with_change, with_line, with_packet}
@@ -143,31 +143,3 @@ module _ (p : Program) (lists : List (List Entry)) where
       let bad : BadLine = record { code = code; line = n } in
       ap (events_of p lists) (sym (append_assoc ls ((n, text) ∷ []) more)) ∙ events_append (ls ++ (n, text) ∷ []) more
       ∙ ap (λ (x : EventReading). fold read_more x more) is ∙ bad_stays (with_bad n code said) bad more refl
-
--- ---- packets alone
-
--- a packet before what the lines behind it say
-packet_first : (o : Result Packet ℕ) (n : ℕ) (ls : List (ℕ × List ℕ)) → (before n o (reading_of ls)).bad ≡ None → (packet : Packet) × (o ≡ Ok packet) × ((reading_of ls).bad ≡ None)
-packet_first (Ok packet) n ls e = (packet, refl, e)
-packet_first (Err code) n ls e = absurd (cc)
-
-packets_from : (r : EventReading) (ls : List (ℕ × List ℕ)) → r.bad ≡ None → (reading_of ls).bad ≡ None
-    → ((fold read_more r ls).bad ≡ None) × ((fold read_more r ls).events ≡ r.events ++ map Arrives (reading_of ls).packets)
-packets_from r [] good e = (good, sym (append-nil r.events))
-packets_from r (l ∷ ls) good e =
-    let first = packet_first (packet_of l.1) l.0 ls e in
-    let packet = first.0 in
-    let next : EventReading = with_packet l.0 (Ok packet) r in
-    let step : read_more r l ≡ next =
-    read_good r l good ∙ ap (λ (k : LineKind). with_line l.0 l.1 k r) (packet_kind l.1 packet first.1) ∙ ap (λ (o : Result Packet ℕ). with_packet l.0 o r) first.1 in
-    let rest = packets_from next ls good first.2 in
-    let all : (before l.0 (packet_of l.1) (reading_of ls)).packets ≡ packet ∷ (reading_of ls).packets = ap (λ (o : Result Packet ℕ). (before l.0 o (reading_of ls)).packets) first.1 in (
-      ap (λ (x : EventReading). (fold read_more x ls).bad) step ∙ rest.0,
-      ap (λ (x : EventReading). (fold read_more x ls).events) step ∙ rest.1 ∙ append_assoc r.events (Arrives packet ∷ []) (map Arrives (reading_of ls).packets)
-          ∙ ap (λ (ps : List Packet). r.events ++ map Arrives ps) (sym all),
-    )
-
--- a text of packets alone without a bad line says these packets and no commit
-pub packets_are_events : (p : Program) (lists : List (List Entry)) (ls : List (ℕ × List ℕ)) → (reading_of ls).bad ≡ None
-    → ((events_of p lists ls).bad ≡ None) × ((events_of p lists ls).events ≡ map Arrives (reading_of ls).packets)
-packets_are_events p lists ls e = packets_from (unread p lists) ls refl e

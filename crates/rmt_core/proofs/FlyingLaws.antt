@@ -1,10 +1,10 @@
 -- Until when packets are in flight, and those of older versions.
-use Rattle.std.proofs.Common.{◌≡◌, ◌⊎◌, ⊎_elim, inl, inr, ℕ, zero, suc, ◌+◌, ◌-◌, ◌<◌, ◌≤◌, Bool, true, false, cond, ltb, List, [], ◌∷◌, ◌++◌, length, take, max, Option, Some, None, sym, refl, ap, ◌∙◌, subst, arith, append_assoc, append-nil, length-append}
-use Rattle.std.specs.Prelude.{fold, is_some, map, option_and_then, option_map, replicate, slice_get, ◌||◌}
-use Rattle.std.proofs.lemmas.Bool.{cases_lt, lt-ltb, le-ltb, false≢true}
+use Rattle.std.proofs.Common.{◌≡◌, ◌⊎◌, inl, inr, ℕ, zero, suc, ◌+◌, ◌-◌, ◌<◌, ◌≤◌, Bool, true, false, cond, ltb, List, [], ◌∷◌, ◌++◌, length, take, max, Option, Some, None, sym, refl, ap, ◌∙◌, subst, arith, append_assoc, append-nil, length-append}
+use Rattle.std.specs.Prelude.{fold, map, option_and_then, option_map, replicate, slice_get, ◌||◌}
+use Rattle.std.proofs.lemmas.Bool.{cases_lt, lt-ltb, le-ltb}
 use Rattle.std.proofs.lemmas.List.{take-append-le, take_all, length-map, length-replicate}
 use Rattle.std.proofs.lemmas.Option.{none-some, same_Some, slice_get_within}
-use Rattle.rmt_bits.proofs.ListLaws.{slice_get-front, slice_get-end, slice_get-pushed}
+use Rattle.rmt_bits.proofs.ListLaws.{slice_get-front, slice_get-pushed}
 use Rattle.rmt_bits.specs.Packet.{Packet}
 use Rattle.rmt_ast.specs.declared.entry.Entry.{Entry}
 use Rattle.rmt_ast.specs.declared.names.Names.{Names}
@@ -12,7 +12,7 @@ use Rattle.rmt_ast.specs.Events.{Event}
 use Rattle.rmt_core.specs.Types.{Config}
 use Rattle.rmt_config.specs.declared.cell_write.CellWrite.{CellWrite}
 use Rattle.rmt_config.specs.ChipRun.{latency_of}
-use Rattle.rmt_config.specs.Commits.{Makes, RunState, behind_commit, behind_packet, moves, stays, waits}
+use Rattle.rmt_config.specs.Commits.{Makes, RunState, moves, stays, waits}
 use Rattle.rmt_config.specs.Life.{or_else}
 use Rattle.rmt_config.specs.RunCells.{RunCells, own_cells, with_version, with_write}
 use Rattle.rmt_config.specs.RunInputs.{Enters, Idle, Input, Turns, Writes, after_input, cells_at, packet_of}

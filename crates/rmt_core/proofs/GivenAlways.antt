@@ -1,5 +1,5 @@
 -- Something is given for each files and command that builds no configuration; of `verify` it can't be that nothing is.
-use Rattle.std.proofs.Common.{◌≡◌, ◌⊎◌, inl, inr, ⊎_elim, ℕ, zero, suc, ◌+◌, ◌<◌, ◌≤◌, Bool, true, false, List, [], ◌∷◌, drop, Option, Some, None, Result, Ok, Err, refl, subst, arith}
+use Rattle.std.proofs.Common.{◌≡◌, inl, inr, ⊎_elim, ℕ, zero, suc, ◌+◌, ◌<◌, ◌≤◌, Bool, true, false, List, [], ◌∷◌, drop, Option, Some, None, Result, Ok, Err, refl, sym, subst, arith}
 use Rattle.std.specs.Prelude.{codes, nat_eq}
 use Rattle.std.specs.List.{starts_with}
 use Rattle.std.proofs.lemmas.Bool.{cases_lt}
@@ -11,7 +11,7 @@ use Rattle.rmt_entries.specs.declared.fault.EntryFault.TheVariants.{NoMemory, At
 use Rattle.rmt_entries.specs.Entries.{entries_of}
 use Rattle.rmt_config.specs.declared.limits.LimitHit.{LimitHit}
 use Rattle.rmt_config.specs.Form.{Formed}
-use Rattle.rmt_config.specs.Limits.{limit_hit}
+use Rattle.rmt_config.specs.Limits.{IsWithinLimits, limit_hit}
 use Rattle.rmt_bits.specs.Lines.{numbered_lines}
 use Rattle.rmt_image.specs.declared.fault.ImageFault.{ImageFault}
 use Rattle.rmt_image.specs.declared.fault.ImageFault.TheVariants as image
@@ -34,15 +34,16 @@ use Rattle.rmt_core.specs.Files.{Files, Found, Absent, Long, Holds, capture_limi
 use Rattle.rmt_core.specs.Given.{Given, OfFound, OfOpened, Opens, Reads, told}
 use Rattle.rmt_core.specs.Gives.{Gives}
 use Rattle.rmt_core.specs.Headline.{GivesAlways, GivesNeverNothing, IsBuilding, IsChecking}
+use Rattle.rmt_core.specs.ChipRuns.{RunsChip}
 use Rattle.rmt_core.specs.EventText.{with_changes}
 use Rattle.rmt_core.specs.PlainText.{RunsPlain, plain_text}
 use Rattle.rmt_core.specs.Reporting.{report_line}
-use Rattle.rmt_core.specs.Runs.{Runs, RunsBy, Way, packets_alone}
+use Rattle.rmt_core.specs.Runs.{RunsBy, Way}
 use Rattle.rmt_core.specs.Simulating.{GivesRun, OfAnswer, Spelled}
 use Rattle.rmt_core.specs.Switching.{HasCapture, HasGroups, OfCapture, OfGroups, Switches, switch_given}
 use Rattle.rmt_core.specs.Texts.{OfEntries, OfMeaning, Understands}
 use Rattle.rmt_core.specs.Verifying.{Checks, ChecksBytes, ChecksTexts, GivesVerify, HasMap}
-use Rattle.rmt_core.specs.Watching.{text_of}
+use Rattle.rmt_core.proofs.ChipExtends.{always}
 use Rattle.rmt_core.proofs.Decided.{IsDecided, form_is_decided}
 
 -- ---- each image has an answer
@@ -80,6 +81,33 @@ magic_answer false bytes = (Err image.Magic, refl)
 
 has_answer : (bytes : List ℕ) → HasAnswer (Answers bytes)
 has_answer bytes = magic_answer (starts_with nat_eq bytes (codes "RMTI")) (drop 4 bytes)
+
+-- a configuration that an image has is well formed and within the limits
+abbrev IsWhole : Config → Type 0
+IsWhole c = Formed c × IsWithinLimits c
+
+whole_is : (c d : Config) → WholeAnswers c (Ok d) → IsWhole d
+whole_is c d h = subst IsWhole (sym h.0) (h.1, h.2)
+
+end_is : (c : Config) (rest : List ℕ) (d : Config) → EndAnswers (c, rest) (Ok d) → IsWhole d
+end_is c [] d h = whole_is c d h
+end_is c (byte ∷ rest) d h = absurd (cc)
+
+config_is : (r : Result (Config × List ℕ) ReadFault) (d : Config) → ConfigAnswers r (Ok d) → IsWhole d
+config_is (Err Short) d h = absurd (cc)
+config_is (Err Form) d h = absurd (cc)
+config_is (Ok x) d h = end_is x.0 x.1 d h
+
+version_is : (version : Option ℕ) (bytes : List ℕ) (d : Config) → VersionAnswers version bytes (Ok d) → IsWhole d
+version_is (Some version) bytes d h = config_is (image_at version bytes) d h
+version_is None bytes d h = absurd (cc)
+
+magic_is : (begins : Bool) (bytes : List ℕ) (d : Config) → MagicAnswers begins bytes (Ok d) → IsWhole d
+magic_is true bytes d h = version_is (version_told bytes) (drop 2 bytes) d h
+magic_is false bytes d h = absurd (cc)
+
+answer_is : (bytes : List ℕ) (d : Config) → Answers bytes (Ok d) → IsWhole d
+answer_is bytes d h = magic_is (starts_with nat_eq bytes (codes "RMTI")) (drop 4 bytes) d h
 
 -- no group text is a want of memory
 line_memory : (number : ℕ) (o : Option (List (List ℕ))) (rest : List (List ℕ) → Result (List (List ℕ)) GroupFault) → ((more : List (List ℕ)) → rest more ≡ Err group.NoMemory → ⊥)
@@ -119,11 +147,22 @@ module _ (R : Type 0) (files : Files) where
   runs_given : {X : Type 0} (way : Way X) (printed : X → List ℕ) (limit : ℕ) (text : List ℕ) → Leads R (RunsBy way files printed limit text)
   runs_given way printed limit text to = to _ refl
 
+  -- a command that runs the configuration of an image
+  formed_given : (bytes : List ℕ) (next : Config → Given → Type 0) → ((c : Config) → IsWhole c → Leads R (next c)) → Leads R (Spelled files bytes next)
+  formed_given bytes next given to =
+      let a = has_answer bytes in
+      by a.0 a.1 (λ g h. to g (a.0, a.1, h))
+    where
+      by : (r : Result Config ImageFault) → Answers bytes r → Leads R (λ g. OfAnswer files next g r)
+      by (Ok c) is to = given c (answer_is bytes c is) to
+      by (Err fault) is to = to _ refl
+
   run_given : (w : Watch) (image packets : List ℕ) → Leads R (GivesRun w files image packets)
   run_given w image packets =
-      found_given (λ bytes. Opens files packets (λ text. Spelled files bytes (λ c. Runs files (text_of w c) packets_limit text)))
-      (λ bytes. opened_given (λ text. Spelled files bytes (λ c. Runs files (text_of w c) packets_limit text))
-      (λ text. spelled_given bytes (λ c. Runs files (text_of w c) packets_limit text) (λ c. runs_given packets_alone (text_of w c) packets_limit text)) (files packets)) (found image_limit (files image))
+      found_given (λ bytes. Opens files packets (λ text. Spelled files bytes (λ c. RunsChip w files c packets_limit text)))
+      (λ bytes. opened_given (λ text. Spelled files bytes (λ c. RunsChip w files c packets_limit text))
+      (λ text. formed_given bytes (λ c. RunsChip w files c packets_limit text) (λ c whole to. let x = always c whole.0 whole.1 w files packets_limit text in to x.0 x.1)) (files packets))
+      (found image_limit (files image))
 
   groups_given : (text : List ℕ) (next : List (List ℕ) → Given → Type 0) → ((groups : List (List ℕ)) → Leads R (next groups)) → Leads R (HasGroups files text next)
   groups_given text next given = by (groups_of text) refl

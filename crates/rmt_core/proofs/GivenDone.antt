@@ -67,17 +67,11 @@ map_is one files bytes next g m spells (inr x) = absurd (x.0 m spells)
 
 -- ---- runs
 
-status_done : (is_long : Bool) (bad : Option BadLine) → run_status is_long bad ≡ Done → (is_long ≡ false) × (bad ≡ None)
+pub status_done : (is_long : Bool) (bad : Option BadLine) → run_status is_long bad ≡ Done → (is_long ≡ false) × (bad ≡ None)
 status_done true None e = absurd (cc)
 status_done false None e = (refl, refl)
 status_done true (Some b) e = absurd (cc)
 status_done false (Some b) e = absurd (cc)
-
--- such a run
-pub record RanToEnd {X : Type 0} (way : Way X) (files : Files) (printed : X → List ℕ) (limit : ℕ) (text : List ℕ) (g : Given) : Type 0 where
-  pub short : length text ≤ limit
-  pub good : way.bad (way.read (numbered_lines 1 text)) ≡ None
-  pub text_is : g.text ≡ printed (way.read (numbered_lines 1 text))
 
 module _ {X : Type 0} (way : Way X) where
   -- what all lines of a text say
@@ -95,16 +89,6 @@ module _ {X : Type 0} (way : Way X) where
       let bad : way.bad (said_within way limit text) ≡ None = ap way.bad (within_is limit text few) ∙ good in
       subst (λ (b : Option BadLine). g ≡ told files (run_status false b) (printed (told_within way limit text b))) bad
       (subst (λ (l : Bool). g ≡ told files (run_status l (way.bad (said_within way limit text))) (printed (told_within way limit text (way.bad (said_within way limit text))))) few h)
-
-  pub ran_to_end : (files : Files) (printed : X → List ℕ) (limit : ℕ) (text : List ℕ) (g : Given) → g.status ≡ Done → RunsBy way files printed limit text g → RanToEnd way files printed limit text g
-  ran_to_end files printed limit text g done h =
-      let bad = way.bad (said_within way limit text) in
-      let parts = status_done (ltb limit (length text)) bad (sym (ap (λ (x : Given). x.status) h) ∙ done) in
-      record {
-        short = ltb-false limit (length text) parts.0;
-        good = sym (ap way.bad (within_is limit text parts.0)) ∙ parts.1;
-        text_is = ap (λ (x : Given). x.text) h ∙ ap (λ (b : Option BadLine). printed (told_within way limit text b)) parts.1;
-      }
 
 -- ---- what stands behind Done
 

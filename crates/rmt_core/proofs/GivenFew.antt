@@ -17,6 +17,7 @@ use Rattle.rmt_core.specs.declared.status.Status.{Status}
 use Rattle.rmt_core.specs.declared.status.Status.TheVariants as status
 use Rattle.rmt_core.specs.declared.watch.Watch.{Watch}
 use Rattle.rmt_core.specs.declared.watch.Watch.TheVariants as watch
+use Rattle.rmt_core.specs.ChipRuns.{RunsChip}
 use Rattle.rmt_core.specs.Commands.{Command, Compile, CompileMap, Improve, Sim, Probe, Plain, Report, Sample, Switch, Verify}
 use Rattle.rmt_core.specs.Compiling.{Builds, Finish, Fitted, GivesImage, Loaded, written}
 use Rattle.rmt_core.specs.Ends.{Answered, AreSame, Outside, Stops, StoppedBetween}
@@ -29,12 +30,11 @@ use Rattle.rmt_core.specs.PlainText.{plain_text}
 use Rattle.rmt_core.specs.MapFiles.{image_alone}
 use Rattle.rmt_core.specs.Placers.{refusal_by}
 use Rattle.rmt_core.specs.Reporting.{report_line}
-use Rattle.rmt_core.specs.Runs.{RunsBy, Way, packets_alone}
+use Rattle.rmt_core.specs.Runs.{RunsBy, Way}
 use Rattle.rmt_core.specs.Sampling.{sample_line}
 use Rattle.rmt_core.specs.Simulating.{GivesRun, OfAnswer, Spelled}
 use Rattle.rmt_core.specs.Texts.{OfEntries, OfMeaning, Understands}
 use Rattle.rmt_core.specs.Verifying.{Checks, GivesVerify, HasMap, answer_line, bad_map_line}
-use Rattle.rmt_core.specs.Watching.{text_of}
 
 -- what gives no more than one file to write
 abbrev WritesFew : (Given → Type 0) → Type 0
@@ -87,6 +87,9 @@ module _ (files : Files) where
   runs_few : {X : Type 0} (way : Way X) (printed : X → List ℕ) (limit : ℕ) (text : List ℕ) → WritesFew (RunsBy way files printed limit text)
   runs_few way printed limit text g h = none_told _ _ g h
 
+  chip_few : (w : Watch) (c : Config) (limit : ℕ) (text : List ℕ) → WritesFew (RunsChip w files c limit text)
+  chip_few w c limit text g h = none_told _ _ g h.3.given_is
+
   module _ (placer : Placer) (finish : Finish) (few : (image : List ℕ) (m : Map) (c : Config) (b : Bound) → length (finish image m c b).writes ≤ 1) (p : Program) (lists : List (List Entry)) where
     loaded_few : WritesFew (Loaded placer files finish p lists)
     loaded_few g (inl x) = tells_few (finish x.0 x.1 x.2 x.3) (few x.0 x.1 x.2 x.3) g x.5
@@ -106,7 +109,7 @@ module _ (files : Files) where
 
   run_few : (w : Watch) (image packets : List ℕ) → WritesFew (GivesRun w files image packets)
   run_few w image packets =
-      found_few _ (λ bytes. opened_few _ (λ text. spelled_few bytes _ (λ c. runs_few packets_alone (text_of w c) packets_limit text)) (files packets)) (found image_limit (files image))
+      found_few _ (λ bytes. opened_few _ (λ text. spelled_few bytes _ (λ c. chip_few w c packets_limit text)) (files packets)) (found image_limit (files image))
 
   verify_few : (program entries image map : List ℕ) → WritesFew (GivesVerify files program entries image map)
   verify_few program entries image map =

@@ -1,5 +1,5 @@
--- Each command gives one status and one text over the same files, but for the numbers of a table that doesn't load.
-use Rattle.std.proofs.Common.{◌≡◌, ◌⊎◌, inl, inr, ⊎_elim, ℕ, ◌+◌, ◌<◌, ◌≤◌, List, [], ◌∷◌, ◌++◌, length, map, Option, Some, None, Result, Ok, Err, sym, refl, ap, ◌∙◌, subst, arith}
+-- Each command gives one status and one text over the same files, but for the numbers of a table that doesn't load, and for the text of a run in which a commit moves cells.
+use Rattle.std.proofs.Common.{◌≡◌, ◌⊎◌, inl, inr, ⊎_elim, ℕ, ◌+◌, ◌<◌, ◌≤◌, Bool, true, false, cond, ltb, List, [], ◌∷◌, ◌++◌, length, map, Option, Some, None, Result, Ok, Err, sym, refl, ap, ◌∙◌, subst, arith}
 use Rattle.std.specs.Prelude.{MatchOption, replicate}
 use Rattle.std.proofs.lemmas.Bool.{cases_order}
 use Rattle.std.proofs.lemmas.List.{length-map}
@@ -16,6 +16,7 @@ use Rattle.rmt_cuckoo.specs.declared.layout.Ways.{Ways}
 use Rattle.rmt_cuckoo.specs.Loading.{IsLoading, IsOverfull}
 use Rattle.rmt_config.specs.ChipRun.{cycles_of, inputs_of, latency_of}
 use Rattle.rmt_image.specs.declared.fault.ImageFault.{ImageFault}
+use Rattle.rmt_image.specs.Reading.{Answers as ImageAnswers}
 use Rattle.rmt_image.proofs.Whole.{answered_once}
 use Rattle.rmt_deps.specs.Edges.{field_edges}
 use Rattle.rmt_pack.specs.declared.placement.Part.{Part}
@@ -45,26 +46,28 @@ use Rattle.rmt_core.specs.declared.placer.Placer.TheVariants.{ByRule, ByTries}
 use Rattle.rmt_core.specs.declared.status.Status.TheVariants.{Done}
 use Rattle.rmt_core.specs.declared.watch.Watch.{Watch}
 use Rattle.rmt_core.specs.declared.watch.Watch.TheVariants as watch
+use Rattle.rmt_core.specs.ChipRuns.{RunsChip}
 use Rattle.rmt_core.specs.Commands.{Compile, CompileMap, Improve, Sim, Probe, Plain, Report, Sample, Switch, Verify}
 use Rattle.rmt_core.specs.CompileText.{compile_text}
 use Rattle.rmt_core.specs.Compiling.{Builds, Compiles, Finish, Fitted, GivesImage, IsFull, Loaded, Makes, written}
 use Rattle.rmt_core.specs.Files.{Files, Found, Absent, Long, Holds, capture_limit, entries_limit, found, groups_limit, image_limit, map_limit, packets_limit, program_limit}
 use Rattle.rmt_core.specs.Given.{Given, OfFound, OfOpened, Opens, Reads, told}
-use Rattle.rmt_core.specs.Headline.{GivesOne, OtherNumbers}
+use Rattle.rmt_core.specs.Headline.{GivesOne, HasMovingCommit, OtherNumbers}
 use Rattle.rmt_core.specs.MapFiles.{Wanted, image_alone, with_map}
 use Rattle.rmt_core.specs.NoFitText.{no_fit_line}
 use Rattle.rmt_core.specs.Placers.{IsPlacedBy, refusal_by}
 use Rattle.rmt_core.specs.EventText.{with_changes}
 use Rattle.rmt_core.specs.PlainText.{RunsPlain, plain_text}
 use Rattle.rmt_core.specs.Reporting.{report_line}
-use Rattle.rmt_core.specs.Runs.{Runs, RunsBy, Way, packets_alone}
+use Rattle.rmt_core.specs.Runs.{RunsBy, Way}
 use Rattle.rmt_core.specs.Sampling.{GivesSample, answers_line, sample_line, sample_packets}
 use Rattle.rmt_core.specs.Simulating.{GivesRun, OfAnswer, Spelled}
 use Rattle.rmt_core.specs.Switching.{GivesSwitch, HasCapture, HasGroups, OfCapture, OfGroups, switch_given}
 use Rattle.rmt_core.specs.Texts.{OfEntries, OfMeaning, Understands}
 use Rattle.rmt_core.specs.Verifying.{Checks, ChecksBytes, ChecksTexts, GivesVerify, HasMap, answer_line}
-use Rattle.rmt_core.specs.Watching.{text_of}
+use Rattle.rmt_core.proofs.AnswersFormed.{answers_formed}
 use Rattle.rmt_core.proofs.PlacerLaws.{same_placed}
+use Rattle.rmt_core.proofs.RunOnce.{run_once}
 
 -- each text has one meaning
 abbrev pub OneMeaning : Type 0
@@ -331,10 +334,71 @@ tells_once k g h a b = same_given g h k a b
 runs_once : {X : Type 0} (way : Way X) (files : Files) (printed : X → List ℕ) (limit : ℕ) (text : List ℕ) → GivesOnce (RunsBy way files printed limit text)
 runs_once way files printed limit text g h a b = same_given g h _ a b
 
-run_once : (w : Watch) (files : Files) (image packets : List ℕ) → GivesOnce (GivesRun w files image packets)
-run_once w files image packets =
-    reads_once files image image_limit _
-    (λ bytes. opens_once files packets _ (λ text. spelled_once files bytes (λ c. Runs files (text_of w c) packets_limit text) (λ c. runs_once packets_alone files (text_of w c) packets_limit text)))
+-- ---- runs of the chip
+
+-- two givens of a run: one text, but where a commit moves cells
+abbrev pub AreOneRun : Files → List ℕ → List ℕ → Given → Given → Type 0
+AreOneRun files image packets g h = (g.status ≡ h.status) × ((g.text ≡ h.text) ⊎ OtherNumbers g.text h.text ⊎ HasMovingCommit files image packets)
+
+module _ (w : Watch) (files : Files) (image packets : List ℕ) where
+  same_run : (g h k : Given) → g ≡ k → h ≡ k → AreOneRun files image packets g h
+  same_run g h k a b =
+      let same : g ≡ h = a ∙ sym b in
+      (ap (λ (x : Given). x.status) same, inl (ap (λ (x : Given). x.text) same))
+
+  abbrev Run : List ℕ → Config → Given → Type 0
+  Run text c = RunsChip w files c packets_limit text
+
+  module _ (bytes : List ℕ) (has_bytes : files image ≡ Some bytes) where
+    run_answered : (text : List ℕ) → files packets ≡ Some text → (r : Result Config ImageFault) → ImageAnswers bytes r → (g h : Given) → OfAnswer files (Run text) g r → OfAnswer files (Run text) h r
+        → AreOneRun files image packets g h
+    run_answered text has_text (Ok c) answers g h a b =
+        let form = answers_formed bytes c answers in
+        let o = run_once w files c form.0 form.1 packets_limit text g h a b in (
+          o.0,
+          elim o.1 [
+            | inl e ↦ inl e
+            | inr m ↦
+                inr (inr (record {
+                  bytes = bytes;
+                  config = c;
+                  text = text;
+                  full = m.full;
+                  made = m.made;
+                  state = m.state;
+                  has_bytes = has_bytes;
+                  answers = answers;
+                  has_text = has_text;
+                  comes = m.comes;
+                  moved = m.moved;
+                }))
+          ],
+        )
+    run_answered text has_text (Err fault) answers g h a b = same_run g h _ a b
+
+    run_spelled : (text : List ℕ) → files packets ≡ Some text → (g h : Given) → Spelled files bytes (Run text) g → Spelled files bytes (Run text) h → AreOneRun files image packets g h
+    run_spelled text has_text g h a b =
+        run_answered text has_text a.0 a.1 g h a.2 (subst (λ r. OfAnswer files (Run text) h r) (answered_once bytes b.0 a.0 b.1 a.1) b.2)
+
+    run_opened : (o : Option (List ℕ)) → files packets ≡ o → (g h : Given) → OfOpened files (λ text. Spelled files bytes (Run text)) g o → OfOpened files (λ text. Spelled files bytes (Run text)) h o
+        → AreOneRun files image packets g h
+    run_opened None e g h a b = same_run g h _ a b
+    run_opened (Some text) e g h a b = run_spelled text e g h a b
+
+  run_found : (o : Option (List ℕ)) → files image ≡ o → (g h : Given) → OfFound files (λ bytes. Opens files packets (λ text. Spelled files bytes (Run text))) g (found image_limit o)
+      → OfFound files (λ bytes. Opens files packets (λ text. Spelled files bytes (Run text))) h (found image_limit o) → AreOneRun files image packets g h
+  run_found None e g h a b = same_run g h _ a b
+  run_found (Some bytes) e g h a b = by (ltb image_limit (length bytes)) a b
+    where
+      next : List ℕ → Given → Type 0
+      next read = Opens files packets (λ text. Spelled files read (Run text))
+
+      by : (long : Bool) → OfFound files next g (cond long Long (Holds bytes)) → OfFound files next h (cond long Long (Holds bytes)) → AreOneRun files image packets g h
+      by true x y = same_run g h _ x y
+      by false x y = run_opened bytes e (files packets) refl g h x y
+
+  gives_run_once : (g h : Given) → GivesRun w files image packets g → GivesRun w files image packets h → AreOneRun files image packets g h
+  gives_run_once g h a b = run_found (files image) refl g h a b
 
 switch_once : (files : Files) (image groups capture out : List ℕ) (every : ℕ) → GivesOnce (GivesSwitch files image groups capture out every)
 switch_once files image groups capture out every =
@@ -364,21 +428,34 @@ sample_understood files number g h =
 
 -- ---- the law
 
+-- what is one but for the numbers of a table, for a command that runs no chip
+no_run : {M : Type 0} (g h : Given) → AreOne g h → (g.status ≡ h.status) × ((g.text ≡ h.text) ⊎ OtherNumbers g.text h.text ⊎ M)
+no_run g h x = (
+  x.0,
+  elim x.1 [
+    | inl e ↦ inl e
+    | inr o ↦ inr (inl o)
+  ],
+)
+
 pub gives_one : OneMeaning → NeverBoth → OneMap → GivesOne
-gives_one one apart maps files (Compile program entries image) g h a b = image_once one apart ByRule files program entries (image_alone image) g h a b
-gives_one one apart maps files (CompileMap program entries image map) g h a b = image_once one apart ByRule files program entries (with_map image map) g h a b
-gives_one one apart maps files (Improve program entries image budget) g h a b = image_once one apart (ByTries budget) files program entries (image_alone image) g h a b
-gives_one one apart maps files (Sim image packets) g h a b = run_once watch.Answers files image packets g h a b
-gives_one one apart maps files (Probe image packets cycle) g h a b = run_once (watch.Vectors cycle) files image packets g h a b
+gives_one one apart maps files (Compile program entries image) g h a b = no_run g h (image_once one apart ByRule files program entries (image_alone image) g h a b)
+gives_one one apart maps files (CompileMap program entries image map) g h a b = no_run g h (image_once one apart ByRule files program entries (with_map image map) g h a b)
+gives_one one apart maps files (Improve program entries image budget) g h a b = no_run g h (image_once one apart (ByTries budget) files program entries (image_alone image) g h a b)
+gives_one one apart maps files (Sim image packets) g h a b = gives_run_once watch.Answers files image packets g h a b
+gives_one one apart maps files (Probe image packets cycle) g h a b = gives_run_once (watch.Vectors cycle) files image packets g h a b
 gives_one one apart maps files (Plain program entries packets) g h a b =
-    reads_once files program program_limit _
+    no_run g h
+    (reads_once files program program_limit _
     (λ text. reads_once files entries entries_limit _
     (λ entry_text. opens_once files packets _ (λ packet_text. understands_once one files text entry_text
-    (RunsPlain files packet_text) (λ p lists. runs_once (with_changes p lists) files (plain_text p lists) packets_limit packet_text)))) g h a b
+    (RunsPlain files packet_text) (λ p lists. runs_once (with_changes p lists) files (plain_text p lists) packets_limit packet_text)))) g h a b)
 gives_one one apart maps files (Report image) g h a b =
-    reads_once files image image_limit _ (λ bytes. spelled_once files bytes (λ c g. g ≡ told files Done (report_line c)) (λ c. tells_once (told files Done (report_line c)))) g h a b
+    no_run g h
+    (reads_once files image image_limit _ (λ bytes. spelled_once files bytes (λ c g. g ≡ told files Done (report_line c)) (λ c. tells_once (told files Done (report_line c)))) g h a b)
 gives_one one apart maps files (Sample number) g h a b =
-    understands_once one files (program_text number) (entries_text number) (λ p lists. Builds ByRule files (λ image m c k. told files Done (sample_line number p lists c)) p lists)
-    (λ p lists. samples_once apart ByRule p lists files number) g h (sample_understood files number g a) (sample_understood files number h b)
-gives_one one apart maps files (Switch image groups capture out every) g h a b = switch_once files image groups capture out every g h a b
-gives_one one apart maps files (Verify program entries image map) g h a b = verify_once one maps files program entries image map g h a b
+    no_run g h
+    (understands_once one files (program_text number) (entries_text number) (λ p lists. Builds ByRule files (λ image m c k. told files Done (sample_line number p lists c)) p lists)
+    (λ p lists. samples_once apart ByRule p lists files number) g h (sample_understood files number g a) (sample_understood files number h b))
+gives_one one apart maps files (Switch image groups capture out every) g h a b = no_run g h (switch_once files image groups capture out every g h a b)
+gives_one one apart maps files (Verify program entries image map) g h a b = no_run g h (verify_once one maps files program entries image map g h a b)

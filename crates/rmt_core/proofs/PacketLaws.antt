@@ -41,7 +41,7 @@ sized n e =
     let parts = or_parts (eqb n 0) (ltb 18432 n) e in
     (ltb-false 18432 n parts.1, eqb-false n 0 parts.0)
 
-line_says : (line : List ℕ) (p : Packet) → packet_of line ≡ Ok p → IsPacket p
+pub line_says : (line : List ℕ) (p : Packet) → packet_of line ≡ Ok p → IsPacket p
 line_says line p told =
     passed (begins_with_port line) (ltb 511 (number_of_digits 10 (port_digits line))) (eqb (length (frame_digits line)) 0 || ltb 18432 (length (frame_digits line)))
     (number_of_digits 10 (port_digits line)) (frame_digits line) p (λ e. ltb-false 511 (number_of_digits 10 (port_digits line)) e) (sized (length (frame_digits line))) told

@@ -6,19 +6,14 @@ use Rattle.std.proofs.lemmas.Bool.{cases_Bool, cases_lt, eqb-true, le-ltb, lt-lt
 use Rattle.std.proofs.lemmas.List.{length-take, nil_from_length}
 use Rattle.std.proofs.lemmas.List.Elements.{All-cons, All-nil}
 use Rattle.std.proofs.lemmas.List.Splits.{slice_split-cons_no, slice_split-cons_yes}
-use Rattle.rmt_bits.specs.Packet.{Packet}
 use Rattle.rmt_bits.specs.Lines.{is_passed_over, lines, numbered_lines}
 use Rattle.rmt_bits.proofs.LineLaws.{is_feed}
-use Rattle.rmt_packets.specs.PacketText.{BadLine, packet_of, packets_of, reading_of}
+use Rattle.rmt_packets.specs.PacketText.{BadLine}
 use Rattle.rmt_packets.specs.Pieces.{EndsLine, IsLast, LineState, Stands, ended_lines, feeds, open_line}
 use Rattle.rmt_packets.proofs.Cuts.{ended_fed, ended_grows, lines_go_on, whole_lines}
-use Rattle.rmt_packets.proofs.Fronts.{packet_of_front}
-use Rattle.rmt_packets.proofs.Readings.{behind_end, behind_fault, behind_packet, reading_append, then}
-use Rattle.rmt_core.specs.declared.reader.Step.{Step}
-use Rattle.rmt_core.specs.declared.reader.Step.TheVariants.{Packet as Next}
-use Rattle.rmt_core.specs.Pieces.{Comes, GoesTooFar, PassesLimit}
-use Rattle.rmt_core.specs.Runs.{Way, packets_alone, said_within, reading_within, told_within}
-use Rattle.rmt_core.specs.ReadsOn.{AtLine, HasLines, ReaderState, ReadsLines, ReadsOn, Took, lines_taken}
+use Rattle.rmt_core.specs.Pieces.{PassesLimit}
+use Rattle.rmt_core.specs.Runs.{Way, said_within, told_within}
+use Rattle.rmt_core.specs.ReadsOn.{AtLine, HasLines, ReaderState, ReadsLines, Took, lines_taken}
 
 -- lines that are numbered and not passed over
 abbrev kept : ℕ → List (List ℕ) → List (ℕ × List ℕ)
@@ -124,17 +119,6 @@ module _ {X : Type 0} (way : Way X) where
   -- and so they are of one that goes on behind its limit
   pub read_passed : (limit : ℕ) (text : List ℕ) (gave : List (ℕ × List ℕ)) → PassesLimit limit text gave → said_within way limit text ≡ way.read gave
   read_passed limit text gave far = read_long limit text far.long ∙ ap way.read far.within
-
--- lines that say these packets, and then others
-behind_done : (done : List Packet) (lines more : List (ℕ × List ℕ)) → reading_of lines ≡ record { packets = done; bad = None } → (reading_of (lines ++ more)).packets ≡ done ++ (reading_of more).packets
-behind_done done lines more e = ap (λ r. r.packets) (reading_append lines more ∙ ap (λ r. then r.bad r.packets (reading_of more)) e)
-
--- the packets that were given come first among those that are told of the text
-pub done_is_front : (limit : ℕ) (text : List ℕ) (done : List Packet) (reader : ReaderState) (rest : List ℕ) → ReadsOn limit text done reader rest
-    → (more : List Packet) × ((told_within packets_alone limit text (reading_within limit text).bad).packets ≡ done ++ more)
-done_is_front limit text done reader rest h =
-    let w = gave_is_front packets_alone (reading_within limit text).bad limit text h.gave reader rest h.reads in
-    (_, ap (λ r. r.packets) w.1 ∙ behind_done done h.gave w.0 h.packets)
 
 -- a reader whose line reader took more of the text has no fewer lines
 pub has_more : (count : ℕ) (is_finished : Bool) (old new : LineState) (bytes : List ℕ) → is_finished ≡ false → HasLines count is_finished old → ((t : List ℕ) → Stands t old → Stands (t ++ bytes) new)
@@ -302,50 +286,9 @@ line_given limit text rest gave old new at lines waiting left same =
       lines = ap (λ b. lines_taken b at.taken) same ∙ at.lines;
     }
 
--- the line at hand says a packet
-pub packet_read : (limit : ℕ) (text rest : List ℕ) (gave : List (ℕ × List ℕ)) (done : List Packet) (packet : Packet) (old new : ReaderState) → AtLine limit text gave old rest
-    → reading_of gave ≡ record { packets = done; bad = None } → packet_of old.lines.front ≡ Ok packet
-    → new.lines ≡ old.lines → new.waiting ≡ old.waiting → new.left ≡ old.left → new.is_finished ≡ old.is_finished → ReadsOn limit text (done ++ packet ∷ []) new rest
-packet_read limit text rest gave done packet old new h packets says lines waiting left same =
-    let line : packet_of h.line ≡ Ok packet = sym (packet_of_front h.line) ∙ ap packet_of (sym h.front) ∙ says in
-    let last : List (ℕ × List ℕ) = (old.lines.number, h.line) ∷ [] in
-    record {
-      gave = gave ++ last;
-      reads = line_given limit text rest gave old new h lines waiting left same;
-      packets =
-          reading_append gave last ∙ ap (λ r. then r.bad r.packets (reading_of last)) packets
-          ∙ behind_packet done old.lines.number h.line packet [] line ∙ behind_end (done ++ packet ∷ []);
-    }
-
 -- what is read of a text in which a line is at hand
 pub read_at_line : {X : Type 0} (way : Way X) (limit : ℕ) (text rest : List ℕ) (gave : List (ℕ × List ℕ)) (reader : ReaderState) → (at : AtLine limit text gave reader rest)
     → (more : List (ℕ × List ℕ)) × (said_within way limit text ≡ way.read (gave ++ (reader.lines.number, at.line) ∷ more))
 read_at_line way limit text rest gave reader at =
     let w = within_more way limit text reader rest at.taken at.took in
     (w.0, w.1 ∙ ap (λ ls. way.read (ls ++ w.0)) at.lines ∙ ap way.read (append_assoc gave ((reader.lines.number, at.line) ∷ []) w.0))
-
--- the line at hand is bad
-pub bad_read : (limit : ℕ) (text rest : List ℕ) (gave : List (ℕ × List ℕ)) (done : List Packet) (code : ℕ) (reader : ReaderState) → AtLine limit text gave reader rest
-    → reading_of gave ≡ record { packets = done; bad = None } → packet_of reader.lines.front ≡ Err code
-    → reading_within limit text ≡ record { packets = done; bad = Some (record { code = code; line = reader.lines.number }) }
-bad_read limit text rest gave done code reader h packets says =
-    let line : packet_of h.line ≡ Err code = sym (packet_of_front h.line) ∙ ap packet_of (sym h.front) ∙ says in
-    let w = read_at_line packets_alone limit text rest gave reader h in
-    let n = reader.lines.number in
-    w.1 ∙ reading_append gave ((n, h.line) ∷ w.0)
-    ∙ ap (λ r. then r.bad r.packets (reading_of ((n, h.line) ∷ w.0))) packets ∙ behind_fault done n h.line code w.0 line
-
--- the packets of lines that end a text, or pass its limit, are those that it says
-pub packets_whole : (limit : ℕ) (text : List ℕ) (gave : List (ℕ × List ℕ)) (done : List Packet) → reading_of gave ≡ record { packets = done; bad = None } → (length text ≤ limit) × (numbered_lines 1 text ≡ gave)
-    → (length text ≤ limit) × (packets_of text ≡ record { packets = done; bad = None })
-packets_whole limit text gave done packets all = (all.0, ap reading_of all.1 ∙ packets)
-
-pub packets_passed : (limit : ℕ) (text : List ℕ) (gave : List (ℕ × List ℕ)) (done : List Packet) → reading_of gave ≡ record { packets = done; bad = None } → PassesLimit limit text gave → GoesTooFar limit text done
-packets_passed limit text gave done packets far = record { long = far.long; within = read_passed packets_alone limit text gave far ∙ packets }
-
--- a packet came, with these bytes of its frame
-pub reads_packet : (limit : ℕ) (text : List ℕ) (done : List Packet) (reader : ReaderState) (rest : List ℕ) (step : Step) (port : ℕ) (held frame : List ℕ) → step ≡ Next port → frame ≡ held
-    → Comes (λ packets. ReadsOn limit text packets reader rest) limit text done held step → ReadsOn limit text (done ++ record { port = port; frame = frame } ∷ []) reader rest
-reads_packet limit text done reader rest step port held frame is same h =
-    subst (λ bytes. ReadsOn limit text (done ++ record { port = port; frame = bytes } ∷ []) reader rest) (sym same)
-    (subst (λ s. Comes (λ packets. ReadsOn limit text packets reader rest) limit text done held s) is h)

@@ -2,7 +2,7 @@
 use Rattle.std.proofs.Common.{◌≡◌, ◌≢◌, ◌⊎◌, ⊎_elim, inl, inr, ◌≤◌, ◌<◌, ℕ, Bool, true, false, cond, IsTrue, List, [], length, take, Option, Some, None, sym, refl, ap, ◌∙◌, subst, arith, ltb}
 use Rattle.rmt_bits.specs.Lines.{numbered_lines}
 use Rattle.rmt_io.specs.Outside.{Gained, PrintingFailed}
-use Rattle.rmt_packets.specs.PacketText.{BadLine, Reading}
+use Rattle.rmt_packets.specs.PacketText.{BadLine}
 use Rattle.rmt_packets.specs.Pieces.{ended_lines}
 use Rattle.rmt_core.specs.declared.run_end.Bad.{Bad}
 use Rattle.rmt_core.specs.declared.run_end.RunFault.{RunFault}
@@ -13,15 +13,12 @@ use Rattle.rmt_core.specs.Ends.{Answered, AreSame, Outside, PrintsAll}
 use Rattle.rmt_core.specs.Given.{Given, told}
 use Rattle.rmt_core.specs.Printing.{GainedFront}
 use Rattle.rmt_core.specs.RunEnd.{BreaksBy, ReadsAllBy, bad_line, status_of_end, status_of_fault}
-use Rattle.rmt_core.specs.Runs.{RunsBy, Way, packets_alone, said_within, run_status, told_within}
+use Rattle.rmt_core.specs.Runs.{RunsBy, Way, said_within, run_status, told_within}
 use Rattle.rmt_core.proofs.EndLaws.{IsEnding, run_answered, stops}
 
 -- what is told of a text
 abbrev pub told_by : {X : Type 0} → Way X → ℕ → List ℕ → X
 told_by way limit text = told_within way limit text (way.bad (said_within way limit text))
-
-abbrev pub told_of : ℕ → List ℕ → Reading
-told_of limit text = told_by packets_alone limit text
 
 -- a cycle, or the answer to a packet, is never cut off by a text that is too long
 pub not_too_long : (fault : RunFault) → (fault ≡ NoMemory) ⊎ (fault ≡ Write) → fault ≡ TooLong → ⊥
@@ -44,19 +41,19 @@ module _ {X : Type 0} (way : Way X) (limit : ℕ) (text : List ℕ) (said : X) (
       of None e = sym (ap (λ b. cond b (way.read (ended_lines (take limit text))) (way.read (numbered_lines 1 text))) (not_longer limit (length text) (r.ends e))) ∙ r.says
 
   -- its status
-  status_all : (bad : Option Bad) → way.bad said ≡ bad_line bad → run_status (ltb limit (length text)) (way.bad (said_within way limit text)) ≡ status_of_end bad
+  pub status_all : (bad : Option Bad) → way.bad said ≡ bad_line bad → run_status (ltb limit (length text)) (way.bad (said_within way limit text)) ≡ status_of_end bad
   status_all bad e = ap (λ (x : X). run_status (ltb limit (length text)) (way.bad x)) r.says ∙ ap (run_status (ltb limit (length text))) e ∙ of bad e
     where
       of : (bad : Option Bad) → way.bad said ≡ bad_line bad → run_status (ltb limit (length text)) (bad_line bad) ≡ status_of_end bad
       of (Some b) e = refl
       of None e = ap (λ b. run_status b None) (not_longer limit (length text) (r.ends e))
 
-is_ending : (long : Bool) (bad : Option BadLine) → IsEnding (run_status long bad)
+pub is_ending : (long : Bool) (bad : Option BadLine) → IsEnding (run_status long bad)
 is_ending long (Some b) = inl (inr (inr (inr (inr (inr refl)))))
 is_ending true None = inr refl
 is_ending false None = inl (inl refl)
 
-not_written : (long : Bool) (bad : Option BadLine) → status.WriteFault ≡ run_status long bad → ⊥
+pub not_written : (long : Bool) (bad : Option BadLine) → status.WriteFault ≡ run_status long bad → ⊥
 not_written long (Some b) e = cc
 not_written true None e = cc
 not_written false None e = cc
@@ -90,7 +87,7 @@ module _ (before after : Outside) {X : Type 0} (way : Way X) (printed : X → Li
       stops before after gives s is
       (record {
         files = inl same;
-        front = λ g e. subst (λ (x : Given). GainedFront before.sink after.sink x.text) (sym e) front;
+        front = λ g e. (g, e, subst (λ (x : Given). GainedFront before.sink after.sink x.text) (sym e) front);
         steady = λ steady e g _. absurd (never e steady);
       })
 

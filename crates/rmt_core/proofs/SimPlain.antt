@@ -1,30 +1,35 @@
 -- What `sim` prints of an image that `compile` or `improve` made is what `plain` prints of the program, and then the cycles and the flight.
-use Rattle.std.proofs.Common.{◌≡◌, ◌≢◌, ℕ, ◌+◌, ◌≤◌, List, [], ◌∷◌, ◌++◌, map, Option, Some, None, Ok, length, sym, refl, inl, inr, ap, ◌∙◌, append_assoc}
-use Rattle.std.specs.Prelude.{All}
+use Rattle.std.proofs.Common.{◌≡◌, ◌≢◌, ℕ, ◌≤◌, false, cond, ltb, List, ◌++◌, Option, Some, None, Ok, length, take, sym, inl, inr, ap, ◌∙◌, subst}
 use Rattle.std.specs.List.{flat_map}
-use Rattle.rmt_bits.specs.Packet.{IsPacket, Packet}
-use Rattle.rmt_bits.specs.declared.answer.Answer.{Answer}
-use Rattle.rmt_bits.specs.declared.answer.Verdict.{Verdict}
+use Rattle.std.proofs.lemmas.Bool.{ltb-false}
+use Rattle.std.proofs.lemmas.Option.{none-some}
 use Rattle.rmt_core.specs.Types.{Program, Config}
 use Rattle.rmt_ast.specs.declared.entry.Entry.{Entry}
-use Rattle.rmt_ast.specs.Answers.{answers_of, counts_of}
-use Rattle.rmt_ast.specs.Events.{Arrives, Event, answers_of_events, counts_of_events}
-use Rattle.rmt_ast.proofs.EventLaws.{answers-without_commits, counts-without_commits}
+use Rattle.rmt_ast.specs.EntryLists.{AreEntries}
+use Rattle.rmt_ast.specs.Events.{answers_of_events, counts_of_events}
+use Rattle.rmt_ast.specs.Naming.{names_of}
+use Rattle.rmt_ast.specs.WellFormed.{IsProgram}
 use Rattle.rmt_bits.specs.Lines.{numbered_lines}
 use Rattle.rmt_check.specs.Means.{Means}
 use Rattle.rmt_entries.specs.Entries.{entries_of}
-use Rattle.rmt_config.specs.ChipRun.{Outcome, chip_counts_of, cycles_of, flight_of, inputs_of, outcomes_of}
+use Rattle.rmt_config.specs.Commits.{RunState}
+use Rattle.rmt_config.specs.RunInputs.{Input}
 use Rattle.rmt_config.specs.Spells.{Spells}
 use Rattle.rmt_refine.specs.declared.map.Map.{Map}
-use Rattle.rmt_refine.specs.RunsAs.{RunsAs, told_by_answer, told_by_outcome}
+use Rattle.rmt_refine.specs.Carries.{Carries}
+use Rattle.rmt_refine.specs.EventRuns.{EventsAreAnswered}
 use Rattle.rmt_build.specs.declared.fault.NoFit.{NoFit}
-use Rattle.rmt_packets.specs.AnswerLine.{answer_line}
 use Rattle.rmt_verify.specs.Spelling.{spelled_map}
-use Rattle.rmt_packets.specs.PacketText.{BadLine, Reading, packets_of}
+use Rattle.rmt_packets.specs.PacketText.{BadLine}
+use Rattle.rmt_packets.specs.Pieces.{ended_lines}
 use Rattle.rmt_core.specs.declared.placer.Placer.{Placer}
 use Rattle.rmt_core.specs.declared.placer.Placer.TheVariants.{ByRule, ByTries}
 use Rattle.rmt_core.specs.declared.status.Status.TheVariants.{Done}
 use Rattle.rmt_core.specs.declared.watch.Watch.TheVariants as watch
+use Rattle.rmt_core.specs.ChipEvents.{Comes, empty_cycles}
+use Rattle.rmt_core.specs.ChipReading.{lists_in, names_in, read_by}
+use Rattle.rmt_core.specs.ChipRuns.{RunsChip, RunsSo, bad_within, told_of}
+use Rattle.rmt_core.specs.ChipText.{run_text}
 use Rattle.rmt_core.specs.Commands.{Command}
 use Rattle.rmt_core.specs.Compiling.{Compiles, Fitted, GivesImage, Loaded, written}
 use Rattle.rmt_core.specs.Files.{Files, all_written, entries_limit, image_limit, packets_limit, program_limit, updated}
@@ -35,69 +40,32 @@ use Rattle.rmt_core.specs.MapFiles.{Wanted, made_files, map_file}
 use Rattle.rmt_core.specs.Placers.{refusal_by}
 use Rattle.rmt_core.specs.EventText.{EventReading, events_of, with_changes}
 use Rattle.rmt_core.specs.PlainText.{GivesPlain, RunsPlain, plain_end, plain_lines, plain_text}
-use Rattle.rmt_core.specs.Runs.{Runs, packets_alone}
-use Rattle.rmt_core.specs.SimText.{answer_lines, count_line, cycles_line, flight_line, printed_of, sim_text}
+use Rattle.rmt_core.specs.SimText.{count_line, cycles_line, flight_line}
 use Rattle.rmt_core.specs.Simulating.{GivesRun, Spelled}
 use Rattle.rmt_core.specs.Texts.{Understands}
-use Rattle.rmt_core.specs.Watching.{text_of}
 use Rattle.rmt_core.proofs.GivenOnce.{OneMeaning}
-use Rattle.rmt_core.proofs.GivenDone.{RanToEnd, Understood, opened_there, ran_to_end, read_within, run_done, spelled_is, understood, was_opened, was_read, was_understood}
-use Rattle.rmt_core.proofs.EventTextLaws.{packets_are_events}
-use Rattle.rmt_core.proofs.PacketLaws.{text_says_packets}
+use Rattle.rmt_core.proofs.GivenDone.{Understood, opened_there, read_within, run_done, spelled_is, status_done, understood, was_opened, was_read, was_understood}
+use Rattle.rmt_core.proofs.ReadOnce.{told_is}
+use Rattle.rmt_core.proofs.SimRuns.{prints_so, read_same}
 use Rattle.rmt_core.proofs.WritingLaws.{updated_other, updated_same}
 
 -- ---- the texts
 
--- a line tells the verdict and the bytes
-abbrev line_of : ℕ → Verdict × List ℕ → List ℕ
-line_of n x = answer_line n (record { verdict = x.0; bytes = x.1; hits = [] })
-
-lines_same : (n : ℕ) (os : List Outcome) (answers : List Answer) → map told_by_outcome os ≡ map told_by_answer answers → answer_lines n os ≡ plain_lines n answers
-lines_same n [] [] e = refl
-lines_same n [] (a ∷ answers) e = cc
-lines_same n (o ∷ os) [] e = cc
-lines_same n (o ∷ os) (a ∷ answers) e =
-    let head : told_by_outcome o ≡ told_by_answer a = cc in
-    let tail : map told_by_outcome os ≡ map told_by_answer answers = cc in
-    ap (λ l. l ++ answer_lines (n + 1) os) (ap (line_of n) head) ∙ ap (λ l. answer_line n a ++ l) (lines_same (n + 1) os answers tail)
-
--- what a text without a bad line says
-good : (r : Reading) → r.bad ≡ None → r ≡ record { packets = r.packets; bad = None }
-good r e = ap (λ (b : Option BadLine). record { packets = r.packets; bad = b }) e
-
-sim_is : (c : Config) (r : Reading) → r.bad ≡ None → printed_of c r ≡ sim_text c r.packets
-sim_is c r e = ap (printed_of c) (good r e)
-
 plain_is : (p : Program) (lists : List (List Entry)) (r : EventReading) → r.bad ≡ None → plain_text p lists r ≡ plain_lines 0 (answers_of_events p lists r.events) ++ flat_map count_line (counts_of_events p lists r.events)
 plain_is p lists r e = ap (λ (b : Option BadLine). plain_lines 0 (answers_of_events p lists r.events) ++ plain_end p lists r.events b) e
 
--- what `plain` prints of packets alone
-plain_alone : (p : Program) (lists : List (List Entry)) (r : EventReading) (packets : List Packet) → r.bad ≡ None → r.events ≡ map Arrives packets
-    → plain_text p lists r ≡ plain_lines 0 (answers_of p lists packets) ++ flat_map count_line (counts_of p lists packets)
-plain_alone p lists r packets good are =
-    plain_is p lists r good ∙ ap (λ (es : List Event). plain_lines 0 (answers_of_events p lists es) ++ flat_map count_line (counts_of_events p lists es)) are
-    ∙ ap (λ answers. plain_lines 0 answers ++ flat_map count_line (counts_of_events p lists (map Arrives packets))) (answers-without_commits p lists packets)
-    ∙ ap (λ cs. plain_lines 0 (answers_of p lists packets) ++ flat_map count_line cs) (counts-without_commits p lists packets)
-
-same_texts : (p : Program) (lists : List (List Entry)) (c : Config) (packets : List Packet) → RunsAs p lists c → All IsPacket packets
-    → sim_text c packets ≡ (plain_lines 0 (answers_of p lists packets) ++ flat_map count_line (counts_of p lists packets)) ++ (cycles_line (cycles_of c packets) ++ flight_line (flight_of c packets))
-same_texts p lists c packets runs are =
-    let lines = lines_same 0 (outcomes_of c packets) (answers_of p lists packets) (runs.answers packets are) in
-    let counts = runs.counters packets are in
-    append_assoc (answer_lines 0 (outcomes_of c packets) ++ flat_map count_line (chip_counts_of c (inputs_of c packets))) (cycles_line (cycles_of c packets)) (flight_line (flight_of c packets))
-    ∙ ap (λ l. l ++ (cycles_line (cycles_of c packets) ++ flight_line (flight_of c packets)))
-    (ap (λ l. l ++ flat_map count_line (chip_counts_of c (inputs_of c packets))) lines ∙ ap (λ l. plain_lines 0 (answers_of p lists packets) ++ flat_map count_line l) counts)
-
 -- ---- what was made
 
--- an image in files, of a configuration that runs as a program does
+-- an image in files, of a configuration with a program's names that carries it with its entries
 record IsMade (p : Program) (lists : List (List Entry)) (file : Option (List ℕ)) : Type 0 where
   bytes : List ℕ
+  map : Map
   config : Config
   stands : file ≡ Some bytes
   short : length bytes ≤ image_limit
   spells : Spells bytes config
-  runs : RunsAs p lists config
+  names : config.names ≡ Some (names_of p lists)
+  carries : Carries p lists map config
 
 -- a map is not written over the image
 abbrev IsApart : List ℕ → Option (List ℕ) → Type 0
@@ -115,11 +83,13 @@ module _ (placer : Placer) (p : Program) (lists : List (List Entry)) (files : Fi
   loaded_done : Loaded placer files (written files wanted p) p lists g → IsMade p lists (g.files wanted.image)
   loaded_done (inl x) = record {
     bytes = x.0;
+    map = x.1;
     config = x.2;
     stands = ap (λ (k : Given). k.files wanted.image) x.5 ∙ image_stands files p wanted.image x.0 x.1 wanted.map apart;
     short = x.4.short;
     spells = x.4.spells;
-    runs = x.4.runs;
+    names = x.4.names;
+    carries = x.4.carries;
   }
   loaded_done (inr x) = absurd (let e = sym (ap (λ (k : Given). k.status) x.2) ∙ done in cc)
 
@@ -160,15 +130,48 @@ was_compiled placer files program entries wanted apart g done h =
 record Simulated (files : Files) (packets : List ℕ) (c : Config) (g : Given) : Type 0 where
   text : List ℕ
   is_there : files packets ≡ Some text
-  ran : RanToEnd packets_alone files (text_of watch.Answers c) packets_limit text g
+  short : length text ≤ packets_limit
+  good : (read_by c None (numbered_lines 1 text)).bad ≡ None
+  made : List Input
+  state : RunState
+  comes : Comes c (names_in c) (lists_in c) (read_by c None (numbered_lines 1 text)).events made state
+  text_is : g.text ≡ run_text watch.Answers c made (empty_cycles state) None
+
+-- with Done a text is short, and no commit is refused
+chip_ran : (files : Files) (packets text : List ℕ) (c : Config) (g : Given) → files packets ≡ Some text → g.status ≡ Done → RunsChip watch.Answers files c packets_limit text g → Simulated files packets c g
+chip_ran files packets text c g is_there done h = by h.0 h.3
+  where
+    -- of a short text what is told is what is read within the limit
+    told_bad : (full : Option ℕ) → (ltb packets_limit (length text) ≡ false) × (bad_within c full packets_limit text ≡ None) → (told_of c full packets_limit text).bad ≡ None
+    told_bad full parts =
+        ap (λ (x : EventReading). x.bad) (told_is c packets_limit text full)
+        ∙ sym (ap (λ b. (cond b (read_by c full (ended_lines (take packets_limit text))) (read_by c full (numbered_lines 1 text))).bad) parts.0) ∙ parts.1
+
+    by : (full : Option ℕ) → RunsSo watch.Answers files c packets_limit text full h.1 h.2 g → Simulated files packets c g
+    by full so = of full so (status_done (ltb packets_limit (length text)) (bad_within c full packets_limit text) (sym (ap (λ (x : Given). x.status) so.given_is) ∙ done))
+      where
+        of : (full : Option ℕ) → RunsSo watch.Answers files c packets_limit text full h.1 h.2 g → (ltb packets_limit (length text) ≡ false) × (bad_within c full packets_limit text ≡ None) → Simulated files packets c g
+        of None so parts =
+            let told = told_is c packets_limit text None in
+            let good : (told_of c None packets_limit text).bad ≡ None = told_bad None parts in
+            record {
+              text = text;
+              is_there = is_there;
+              short = ltb-false packets_limit (length text) parts.0;
+              good = ap (λ (x : EventReading). x.bad) (sym told) ∙ good;
+              made = h.1;
+              state = h.2;
+              comes = subst (λ (x : EventReading). Comes c (names_in c) (lists_in c) x.events h.1 h.2) told so.comes;
+              text_is = ap (λ (x : Given). x.text) so.given_is ∙ ap (run_text watch.Answers c h.1 (empty_cycles h.2)) good;
+            }
+        of (Some k) so parts = absurd (none-some _ (sym (told_bad (Some k) parts) ∙ so.ends.1))
 
 simulated_is : (files : Files) (image packets bytes : List ℕ) (c : Config) (g : Given) → g.status ≡ Done → IsWithin files image image_limit bytes → Spells bytes c → GivesRun watch.Answers files image packets g
     → Simulated files packets c g
 simulated_is files image packets bytes c g done within spells h =
-    let read = read_within files image image_limit (λ bytes. Opens files packets (λ text. Spelled files bytes (λ c. Runs files (text_of watch.Answers c) packets_limit text))) g (bytes, within) h in
-    let opened = was_opened files packets (λ text. Spelled files bytes (λ c. Runs files (text_of watch.Answers c) packets_limit text)) g done read in
-    let run = spelled_is files bytes (λ c. Runs files (text_of watch.Answers c) packets_limit opened.0) g c spells opened.2 in
-    record { text = opened.0; is_there = opened.1; ran = ran_to_end packets_alone files (text_of watch.Answers c) packets_limit opened.0 g done run }
+    let read = read_within files image image_limit (λ bytes. Opens files packets (λ text. Spelled files bytes (λ c. RunsChip watch.Answers files c packets_limit text))) g (bytes, within) h in
+    let opened = was_opened files packets (λ text. Spelled files bytes (λ c. RunsChip watch.Answers files c packets_limit text)) g done read in
+    chip_ran files packets opened.0 c g opened.1 done (spelled_is files bytes (λ c. RunsChip watch.Answers files c packets_limit opened.0) g c spells opened.2)
 
 plain_run : OneMeaning → (files : Files) (program entries packets text entry_text packet_text : List ℕ) (p : Program) (lists : List (List Entry)) (g : Given) → IsWithin files program program_limit text
     → IsWithin files entries entries_limit entry_text → files packets ≡ Some packet_text → Means text (Ok p) → entries_of p entry_text ≡ Ok lists → GivesPlain files program entries packets g
@@ -199,21 +202,33 @@ maker files program entries image g by_compile h = record { placer = ByRule; map
 maker files program entries image g (by_compile_map map apart) h = record { placer = ByRule; map = Some map; apart = apart; gives = h }
 maker files program entries image g (by_improve budget) h = record { placer = ByTries budget; map = None; apart = tt; gives = h }
 
-pub sim_prints_plain : OneMeaning → SimPrintsPlain
-sim_prints_plain one command files later program entries image packets made simulated run writes compiles done same_image same_program same_entries simulates sim_done plains =
+-- each text that means a program means a well-formed one
+abbrev pub MeansPrograms : Type 0
+MeansPrograms = (text : List ℕ) (p : Program) → Means text (Ok p) → IsProgram p
+
+-- and the entries that a text says for it are well formed
+abbrev pub SaysEntries : Type 0
+SaysEntries = (p : Program) (text : List ℕ) (lists : List (List Entry)) → IsProgram p → entries_of p text ≡ Ok lists → AreEntries p lists
+
+pub sim_prints_plain : OneMeaning → MeansPrograms → SaysEntries → EventsAreAnswered → SimPrintsPlain
+sim_prints_plain one means_program says_entries answered command files later program entries image packets made simulated run writes compiles done same_image same_program same_entries simulates sim_done plains =
     let how = maker files program entries image made writes compiles in
     let c = was_compiled how.placer files program entries (record { image = image; map = how.map }) how.apart made done how.gives in
     let within : IsWithin later image image_limit c.made.bytes = record { is_there = same_image ∙ c.made.stands; is_short = c.made.short } in
     let s = simulated_is later image packets c.made.bytes c.made.config simulated sim_done within c.made.spells simulates in
     let r = plain_run one later program entries packets c.text c.entry_text s.text c.meant.program c.meant.lists run (later_within files later program c.text program_limit same_program c.has_text)
     (later_within files later entries c.entry_text entries_limit same_entries c.has_entries) s.is_there c.meant.means c.meant.says plains in
-    let reading = packets_of s.text in
     let p = c.meant.program in
     let lists = c.meant.lists in
-    let alone = packets_are_events p lists (numbered_lines 1 s.text) s.ran.good in
-    let told = run_done (with_changes p lists) later (plain_text p lists) packets_limit s.text run s.ran.short alone.0 r in
-    let sim_text_is = s.ran.text_is ∙ (sim_is c.made.config reading s.ran.good ∙ same_texts p lists c.made.config reading.packets c.made.runs (text_says_packets s.text)) in
-    let plain_text_is : run.text ≡ plain_lines 0 (answers_of p lists reading.packets) ++ flat_map count_line (counts_of p lists reading.packets) =
-    ap (λ (k : Given). k.text) told ∙ plain_alone p lists (events_of p lists (numbered_lines 1 s.text)) reading.packets alone.0 alone.1 in
-    let last = cycles_line (cycles_of c.made.config reading.packets) ++ flight_line (flight_of c.made.config reading.packets) in
-    (ap (λ (k : Given). k.status) told, cycles_of c.made.config reading.packets, flight_of c.made.config reading.packets, sim_text_is ∙ ap (λ l. l ++ last) (sym plain_text_is))
+    let k = c.made.config in
+    let ls = numbered_lines 1 s.text in
+    let is_program = means_program c.text p c.meant.means in
+    let are_entries = says_entries p c.entry_text lists is_program c.meant.says in
+    let read = read_same p lists c.made.map k c.made.spells.formed c.made.names c.made.carries ls in
+    let good : (events_of p lists ls).bad ≡ None = ap (λ (x : EventReading). x.bad) (sym read) ∙ s.good in
+    let told = run_done (with_changes p lists) later (plain_text p lists) packets_limit s.text run s.short good r in
+    let prints = prints_so p lists c.made.map k c.made.spells.formed c.made.names c.made.carries answered is_program are_entries c.made.spells.limits ls s.made s.state s.comes in
+    let plain_text_is : run.text ≡ plain_lines 0 (answers_of_events p lists (events_of p lists ls).events) ++ flat_map count_line (counts_of_events p lists (events_of p lists ls).events) =
+    ap (λ (x : Given). x.text) told ∙ plain_is p lists (events_of p lists ls) good in
+    let last = cycles_line prints.cycles ++ flight_line prints.flight in
+    (ap (λ (x : Given). x.status) told, prints.cycles, prints.flight, s.text_is ∙ prints.text_is ∙ ap (λ l. l ++ last) (sym plain_text_is))

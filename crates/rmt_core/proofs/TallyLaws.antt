@@ -21,10 +21,7 @@ use Rattle.rmt_core.specs.declared.sampling.run.CountedRun.{CountedRun}
 use Rattle.rmt_core.specs.Sampling.{answers_line, counts_line}
 use Rattle.rmt_core.specs.Tallies.{Counts, StandsFor, left_of, told_of}
 use Rattle.rmt_core.specs.Watching.{emitted}
-use Rattle.rmt_core.proofs.EmitLaws.{emitted-more}
-use Rattle.rmt_core.proofs.EnterLaws.{inputs_more}
-use Rattle.rmt_core.proofs.RunLaws.{few_left}
-use Rattle.rmt_core.proofs.VectorLaws.{length_somes}
+use Rattle.rmt_core.proofs.EmitLaws.{emitted-more, few_left, inputs_more, length_somes}
 
 -- ---- one cycle
 

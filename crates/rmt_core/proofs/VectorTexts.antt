@@ -1,14 +1,19 @@
 -- The text of a vector, piece by piece.
-use Rattle.std.proofs.Common.{◌≡◌, ℕ, zero, suc, ◌+◌, ◌-◌, ◌*◌, ◌/◌, ◌%◌, ◌^◌, ◌<◌, List, [], ◌∷◌, ◌++◌, Option, sym, ap, ◌∙◌, arith, append_assoc, append-nil}
+use Rattle.std.proofs.Common.{◌≡◌, ℕ, zero, suc, ◌+◌, ◌-◌, ◌*◌, ◌/◌, ◌%◌, ◌^◌, ◌<◌, List, [], ◌∷◌, ◌++◌, Option, Some, None, sym, refl, ap, ◌∙◌, arith, append_assoc, append-nil}
 use Rattle.std.specs.Prelude.{codes, slice_index}
 use Rattle.std.specs.List.{flat_map, range_with_len}
 use Rattle.std.proofs.lemmas.Grind.{flat_map-append}
-use Rattle.rmt_bits.specs.Packet.{Packet}
+use Rattle.rmt_bits.proofs.FunctionLaws.{funext}
+use Rattle.rmt_bits.proofs.ListLaws.{range_more}
 use Rattle.rmt_core.specs.Types.{Config}
 use Rattle.rmt_config.specs.Life.{Words}
-use Rattle.rmt_config.specs.ChipRun.{number_at, packet_at}
-use Rattle.rmt_core.specs.ProbeText.{hex_text, lines_below, packet_line, word_text, words_below}
-use Rattle.rmt_bits.proofs.ListLaws.{range_more}
+use Rattle.rmt_config.specs.ChipRun.{words_at}
+use Rattle.rmt_config.specs.RunInputs.{Input}
+use Rattle.rmt_chip.specs.declared.seen.Seen.{Seen}
+use Rattle.rmt_chip.specs.Held.{Entered}
+use Rattle.rmt_chip.specs.Stands.{Shows, in_flight}
+use Rattle.rmt_core.specs.ChipText.{flying_below, line_at}
+use Rattle.rmt_core.specs.ProbeText.{hex_text, vector_line, word_text, words_below}
 
 -- one more digit
 pub hex_more : (places value : ℕ) (old new all : List ℕ) (digit : ℕ) → 0 < places → old ++ hex_text places value ≡ all
@@ -35,17 +40,30 @@ words_more words front old new n value was is same =
     ∙ ap (λ v. front ++ (flat_map f (range_with_len 0 n) ++ word_text n v)) same ∙ ap (λ l. front ++ l) (sym last)
 
 -- no age, and one more
-pub no_lines : (c : Config) (inputs : List (Option Packet)) (cycle : ℕ) (text all : List ℕ) → text ++ lines_below c inputs cycle 0 ≡ all → text ≡ all
-unfolding lines_below
-no_lines c inputs cycle text all is = sym (append-nil text) ∙ is
+pub no_lines : (c : Config) (made : List Input) (text all : List ℕ) → text ++ flying_below c made 0 ≡ all → text ≡ all
+unfolding flying_below
+no_lines c made text all is = sym (append-nil text) ∙ is
 
-pub lines_more : (c : Config) (inputs : List (Option Packet)) (cycle below : ℕ) (old new all : List ℕ) → 0 < below → old ++ lines_below c inputs cycle below ≡ all
-    → new ≡ old ++ packet_line c (number_at inputs (cycle - (below - 1))) (below - 1) (packet_at c inputs cycle (below - 1)) → new ++ lines_below c inputs cycle (below - 1) ≡ all
-unfolding lines_below
-lines_more c inputs cycle zero old new all h was is = absurd (omega (arith, h))
-lines_more c inputs cycle (suc age) old new all h was is =
+pub age_more : (c : Config) (made : List Input) (below : ℕ) (old new all : List ℕ) → 0 < below → old ++ flying_below c made below ≡ all
+    → new ≡ old ++ line_at c (below - 1) (in_flight c made (below - 1)) → new ++ flying_below c made (below - 1) ≡ all
+unfolding flying_below
+age_more c made zero old new all h was is = absurd (omega (arith, h))
+age_more c made (suc age) old new all h was is =
     let one : suc age - 1 ≡ age = omega arith in
-    let line = packet_line c (number_at inputs (cycle - age)) age (packet_at c inputs cycle age) in
-    ap (λ n. new ++ lines_below c inputs cycle n) one
-    ∙ ap (λ l. l ++ lines_below c inputs cycle age) (is ∙ ap (λ n. old ++ packet_line c (number_at inputs (cycle - n)) n (packet_at c inputs cycle n)) one)
-    ∙ append_assoc old line (lines_below c inputs cycle age) ∙ was
+    let line = line_at c age (in_flight c made age) in
+    ap (λ n. new ++ flying_below c made n) one
+    ∙ ap (λ l. l ++ flying_below c made age) (is ∙ ap (λ n. old ++ line_at c n (in_flight c made n)) one)
+    ∙ append_assoc old line (flying_below c made age) ∙ was
+
+-- ---- what is seen
+
+-- the line of what is seen of an age
+pub line_seen : (c : Config) (age : ℕ) (o : Option Entered) (seen : Seen) → Shows c age o (Some seen) → vector_line seen.number age (λ w. slice_index seen.words.now w) ≡ line_at c age o
+line_seen c age None seen shows = absurd shows
+line_seen c age (Some e) seen shows =
+    ap (λ m. vector_line m age (λ w. slice_index seen.words.now w)) shows.0
+    ∙ ap (λ (words : Words). vector_line e.number age words) (funext (λ w. slice_index seen.words.now w) (words_at e.look c e.packet age) shows.1)
+
+pub line_unseen : (c : Config) (age : ℕ) (o : Option Entered) → Shows c age o None → [] ≡ line_at c age o
+line_unseen c age None shows = refl
+line_unseen c age (Some e) shows = absurd shows

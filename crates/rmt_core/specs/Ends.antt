@@ -71,10 +71,10 @@ pub record StoppedBetween (before after : Outside) (gives : Given → Type 0) (s
   pub files : CutShort before.shelf.files after.shelf.files given.writes
 
 -- A call that ends for want of memory, or by a fault of reading, leaves the files as they are, but between two files that a command writes; what a sink gained is a
--- front of the text that they give. A steady shelf has such a fault only where the files give it.
+-- front of a text that they give, where they give any. A steady shelf has such a fault only where the files give it.
 pub record Stops (before after : Outside) (gives : Given → Type 0) (status : Status) : Type 0 where
   pub files : AreSame after.shelf.files before.shelf.files ⊎ StoppedBetween before after gives status
-  pub front : (g : Given) → gives g → GainedFront before.sink after.sink g.text
+  pub front : (g : Given) → gives g → (h : Given) × gives h × GainedFront before.sink after.sink h.text
   pub steady : IsTrue before.shelf.steady → status ≡ ReadFault → (g : Given) → gives g → g.status ≡ ReadFault
 
 -- a call of a command that gives something

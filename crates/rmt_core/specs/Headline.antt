@@ -1,14 +1,16 @@
 -- What the answers to several commands have to do with one another.
-use Rattle.std.specs.Prelude.{◌≡◌, ◌≢◌, ◌≤◌, ◌<◌, ◌⊎◌, ◌↔◌, ℕ, List, None, Some, Ok, ◌++◌, length}
+use Rattle.std.specs.Prelude.{◌≡◌, ◌≢◌, ◌≤◌, ◌<◌, ◌⊎◌, ◌↔◌, ℕ, List, None, Option, Some, Ok, ◌++◌, codes, length, true}
 use Rattle.rmt_core.specs.Types.{Program, Config}
 use Rattle.rmt_ast.specs.declared.entry.Entry.{Entry}
 use Rattle.rmt_bits.specs.Lines.{numbered_lines}
 use Rattle.rmt_bounds.specs.declared.bound.Bound.{Bound}
+use Rattle.rmt_config.specs.Commits.{RunState}
+use Rattle.rmt_config.specs.RunInputs.{Input}
 use Rattle.rmt_config.specs.Spells.{Spells}
+use Rattle.rmt_image.specs.Reading.{Answers}
 use Rattle.rmt_pack.specs.declared.placement.Part.{Part}
 use Rattle.rmt_check.specs.Means.{Means}
 use Rattle.rmt_entries.specs.Entries.{entries_of}
-use Rattle.rmt_packets.specs.PacketText.{packets_of}
 use Rattle.rmt_pcap.specs.declared.capture.Capture.{Capture}
 use Rattle.rmt_pcap.specs.Captures.{capture_of}
 use Rattle.rmt_switch.specs.GroupText.{groups_of}
@@ -22,6 +24,9 @@ use Rattle.rmt_core.specs.declared.placer.Placer.TheVariants.{ByRule, ByTries}
 use Rattle.rmt_core.specs.declared.status.Status.{Status}
 use Rattle.rmt_core.specs.declared.status.Status.TheVariants.{Done, ReadFault, NoMemory}
 use Rattle.rmt_core.specs.Commands.{Command, Compile, CompileMap, Improve, Sim, Probe, Plain, Report, Sample, Switch, Verify}
+use Rattle.rmt_core.specs.ChipEvents.{Comes}
+use Rattle.rmt_core.specs.ChipReading.{lists_in, names_in, read_by}
+use Rattle.rmt_core.specs.ChipRuns.{EndsFull, has_moved, told_of}
 use Rattle.rmt_core.specs.CompileText.{compile_text}
 use Rattle.rmt_core.specs.EventText.{events_of}
 use Rattle.rmt_core.specs.Ends.{Answered, AreSame, Outside}
@@ -40,7 +45,7 @@ pub data WritesImage (program entries image : List ℕ) : Command → Type 0 whe
   by_improve : (budget : ℕ) → WritesImage program entries image (Improve program entries image budget)
 
 -- After Done of `compile` or `improve`, and over files in which its image stands, `sim` of that image with Done prints
--- what `plain` of the program and entries prints for the same packets, and then its cycles and its flight.
+-- what `plain` of the program and entries prints for the same packets and commits, and then its cycles and its flight.
 abbrev pub SimPrintsPlain : Type 0
 SimPrintsPlain =
     (command : Command) (files later : Files) (program entries image packets : List ℕ) (made simulated run : Given)
@@ -61,11 +66,39 @@ pub record OtherNumbers (a b : List ℕ) : Type 0 where
   pub first : a ≡ no_fit_line program (Load node members cells)
   pub second : b ≡ no_fit_line program (Load node others few)
 
--- a command gives one status and one text over the same files, but for the numbers of a table that doesn't load
+-- some run over a packet text has a commit that moves cells
+pub record HasMovingCommit (files : Files) (image packets : List ℕ) : Type 0 where
+  pub bytes : List ℕ
+  pub config : Config
+  pub text : List ℕ
+  pub full : Option ℕ
+  pub made : List Input
+  pub state : RunState
+  pub has_bytes : files image ≡ Some bytes
+  pub answers : Answers bytes (Ok config)
+  pub has_text : files packets ≡ Some text
+  pub comes : Comes config (names_in config) (lists_in config) (told_of config full packets_limit text).events made state
+  pub moved : has_moved config (names_in config) (lists_in config) (told_of config full packets_limit text).events made state comes ≡ true
+
+-- the command runs one in the chip
+abbrev pub MovesCells : Files → Command → Type 0
+MovesCells files (Sim image packets) = HasMovingCommit files image packets
+MovesCells files (Probe image packets cycle) = HasMovingCommit files image packets
+MovesCells files (Compile program entries image) = ⊥
+MovesCells files (CompileMap program entries image map) = ⊥
+MovesCells files (Improve program entries image budget) = ⊥
+MovesCells files (Plain program entries packets) = ⊥
+MovesCells files (Report image) = ⊥
+MovesCells files (Sample number) = ⊥
+MovesCells files (Switch image groups capture out every) = ⊥
+MovesCells files (Verify program entries image map) = ⊥
+
+-- A command gives one status over the same files, and one text but for the numbers of a table that doesn't load; where a commit moves cells
+-- its loading is free, and the text of the run may hang on it.
 abbrev pub GivesOne : Type 0
 GivesOne =
     (files : Files) (command : Command) (g h : Given) → Gives files command g → Gives files command h
-    → (g.status ≡ h.status) × ((g.text ≡ h.text) ⊎ OtherNumbers g.text h.text)
+    → (g.status ≡ h.status) × ((g.text ≡ h.text) ⊎ OtherNumbers g.text h.text ⊎ MovesCells files command)
 
 -- with a map `compile` gives what it gives without one, and all files but the map stand as then
 pub record GivesBeside (files : Files) (program entries image map : List ℕ) (g : Given) : Type 0 where
@@ -132,12 +165,6 @@ pub record Fits (placer : Placer) (p : Program) (lists : List (List Entry)) : Ty
   pub few : seed < 8
   pub loaded : AreLoaded p lists parts seed
 
--- a packet text of packets alone without a bad line
-pub record IsGoodText (files : Files) (name : List ℕ) : Type 0 where
-  pub text : List ℕ
-  pub has_text : IsWithin files name packets_limit text
-  pub is_good : (packets_of text).bad ≡ None
-
 -- a packet text without a bad line, which may change the entries of a program
 pub record IsGoodRun (p : Program) (lists : List (List Entry)) (files : Files) (name : List ℕ) : Type 0 where
   pub text : List ℕ
@@ -165,6 +192,16 @@ pub record IsImage (files : Files) (name : List ℕ) : Type 0 where
   pub has_bytes : IsWithin files name image_limit bytes
   pub spells : Spells bytes config
 
+-- The image of a configuration, and a packet text that has no bad line for it: each change can be made where it stands, and each commit finds room.
+pub record IsGoodChipRun (files : Files) (image packets : List ℕ) : Type 0 where
+  pub is_image : IsImage files image
+  pub text : List ℕ
+  pub has_text : IsWithin files packets packets_limit text
+  pub is_good : (read_by is_image.config None (numbered_lines 1 text)).bad ≡ None
+  pub has_room : (before : ℕ) (made : List Input) (r : RunState)
+      → Comes is_image.config (names_in is_image.config) (lists_in is_image.config) (read_by is_image.config (Some before) (numbered_lines 1 text)).events made r
+      → EndsFull is_image.config r (read_by is_image.config (Some before) (numbered_lines 1 text)) (Some before) → ⊥
+
 -- the bytes of a map
 pub record IsMapFile (files : Files) (name : List ℕ) : Type 0 where
   pub bytes : List ℕ
@@ -182,8 +219,8 @@ abbrev pub IsReady : Files → Command → Type 0
 IsReady files (Compile program entries image) = CanBeMade ByRule files program entries
 IsReady files (CompileMap program entries image map) = CanBeMade ByRule files program entries
 IsReady files (Improve program entries image budget) = CanBeMade (ByTries budget) files program entries
-IsReady files (Sim image packets) = IsImage files image × IsGoodText files packets
-IsReady files (Probe image packets cycle) = IsImage files image × IsGoodText files packets
+IsReady files (Sim image packets) = IsGoodChipRun files image packets
+IsReady files (Probe image packets cycle) = IsGoodChipRun files image packets
 IsReady files (Plain program entries packets) = (p : Program) × (lists : List (List Entry)) × MeanBoth files program entries p lists × IsGoodRun p lists files packets
 IsReady files (Report image) = IsImage files image
 IsReady files (Switch image groups capture out every) = IsImage files image × AreGoodGroups files groups × IsGoodCapture files capture
@@ -249,3 +286,14 @@ GivesAlways = (files : Files) (command : Command) → (IsBuilding command → �
 -- and of that one it can't be that it gives nothing
 abbrev pub GivesNeverNothing : Type 0
 GivesNeverNothing = (files : Files) (command : Command) → (IsBuilding command → ⊥) → ((g : Given) → Gives files command g → ⊥) → ⊥
+
+-- ---- when `verify` says yes
+
+-- After Done of `compile` with a map, and over files in which its image and its map stand beside the same two texts, `verify` of them
+-- gives Done and prints `yes`.
+abbrev pub VerifiesCompiled : Type 0
+VerifiesCompiled =
+    (files later : Files) (program entries image map : List ℕ) (made verified : Given)
+    → map ≢ image → Gives files (CompileMap program entries image map) made → made.status ≡ Done
+    → later image ≡ made.files image → later map ≡ made.files map → later program ≡ files program → later entries ≡ files entries
+    → Gives later (Verify program entries image map) verified → (verified.status ≡ Done) × (verified.text ≡ codes "yes\n")

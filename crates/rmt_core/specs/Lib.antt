@@ -21,6 +21,9 @@ pub mod ProbeText
 pub mod Watching
 pub mod ChipText
 pub mod ChipEvents
+pub mod ChipReading
+pub mod ChipRuns
+pub mod CommitsOf
 pub mod Simulating
 pub mod PlainText
 pub mod PlainRunning

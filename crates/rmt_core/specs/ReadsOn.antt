@@ -1,8 +1,6 @@
 -- What a reader of the lines of a packet text in pieces stands for.
-use Rattle.std.specs.Prelude.{◌≡◌, ◌≤◌, ℕ, ◌+◌, Bool, List, [], ◌∷◌, ◌++◌, None, length, IsTrue, if◌then◌else◌}
-use Rattle.rmt_bits.specs.Packet.{Packet}
+use Rattle.std.specs.Prelude.{◌≡◌, ◌≤◌, ℕ, ◌+◌, Bool, List, [], ◌∷◌, ◌++◌, length, IsTrue, if◌then◌else◌}
 use Rattle.rmt_bits.specs.Lines.{numbered_lines}
-use Rattle.rmt_packets.specs.PacketText.{reading_of}
 use Rattle.rmt_packets.specs.Pieces.{LineState, Stands, ended_lines, front_of}
 
 -- what a reader holds: the reader of its lines, the bytes that the shelf gave and that wait to be taken, how many bytes more may be
@@ -38,12 +36,6 @@ pub record AtLine (limit : ℕ) (text : List ℕ) (gave : List (ℕ × List ℕ)
   pub line : List ℕ
   pub lines : lines_taken reader.is_finished taken ≡ gave ++ (reader.lines.number, line) ∷ []
   pub front : reader.lines.front ≡ front_of line
-
--- a reader gave these packets of such a text
-pub record ReadsOn (limit : ℕ) (text : List ℕ) (done : List Packet) (reader : ReaderState) (rest : List ℕ) : Type 0 where
-  pub gave : List (ℕ × List ℕ)
-  pub reads : ReadsLines limit text gave reader rest
-  pub packets : reading_of gave ≡ record { packets = done; bad = None }
 
 -- a text was taken that has so many packet lines at least
 pub record HasLines (count : ℕ) (is_finished : Bool) (lines : LineState) : Type 0 where

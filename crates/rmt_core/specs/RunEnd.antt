@@ -1,15 +1,14 @@
 -- How a run over a packet text ends.
 use Rattle.std.specs.Prelude.{◌≡◌, ◌≢◌, ◌≤◌, ◌<◌, ℕ, List, [], Option, Some, None, option_map, length}
-use Rattle.rmt_bits.specs.Packet.{Packet}
 use Rattle.rmt_io.specs.Outside.{SinkState}
-use Rattle.rmt_packets.specs.PacketText.{BadLine, Reading}
+use Rattle.rmt_packets.specs.PacketText.{BadLine}
 use Rattle.rmt_core.specs.declared.run_end.Bad.{Bad}
 use Rattle.rmt_core.specs.declared.run_end.RunFault.{RunFault}
 use Rattle.rmt_core.specs.declared.run_end.RunFault.TheVariants.{NoMemory, Write, Read, TooLong}
 use Rattle.rmt_core.specs.declared.status.Status.{Status}
 use Rattle.rmt_core.specs.declared.status.Status.TheVariants as status
 use Rattle.rmt_core.specs.Printing.{GainedFront}
-use Rattle.rmt_core.specs.Runs.{Way, packets_alone, said_within, told_within}
+use Rattle.rmt_core.specs.Runs.{Way, said_within, told_within}
 
 -- a bad line, as the definition of packet texts has it
 abbrev pub bad_line : Option Bad → Option BadLine
@@ -30,10 +29,6 @@ pub record ReadsAllBy {X : Type 0} (way : Way X) (limit : ℕ) (text : List ℕ)
   pub says : said_within way limit text ≡ said
   pub ends : way.bad said ≡ None → length text ≤ limit
 
--- a text of packets alone says these before its first bad line
-abbrev pub ReadsAll : ℕ → List ℕ → List Packet → Option BadLine → Type 0
-ReadsAll limit text done bad = ReadsAllBy packets_alone limit text (record { packets = done; bad = bad })
-
 -- A run was cut off: a front of these lines was printed, and a fault of the sink comes only where there are lines.
 pub record Cut (lines : List ℕ) (before now : SinkState) (fault : RunFault) : Type 0 where
   pub front : GainedFront before now lines
@@ -46,6 +41,3 @@ pub record BreaksBy {X : Type 0} (way : Way X) (printed : X → List ℕ) (limit
   pub some : fault ≡ Write → printed (told_within way limit text (way.bad (said_within way limit text))) ≢ []
   pub long : fault ≡ TooLong → limit < length text
   pub within : fault ≡ TooLong → way.bad (said_within way limit text) ≡ None
-
-abbrev pub Breaks : (Reading → List ℕ) → ℕ → List ℕ → SinkState → SinkState → RunFault → Type 0
-Breaks printed limit text before now fault = BreaksBy packets_alone printed limit text before now fault

@@ -1,49 +1,205 @@
--- A run of the chip over the packets of a text.
-use Rattle.std.specs.Prelude.{◌≡◌, ◌≤◌, ℕ, IsTrue, List, [], length, map, Option, Some, None}
-use Rattle.rmt_bits.specs.Packet.{Packet}
+-- A run of the chip over the lines of a text.
+use Rattle.std.specs.Prelude.{◌≡◌, ◌≤◌, ◌<◌, ◌⊎◌, ℕ, ◌*◌, ◌^◌, IsTrue, List, [], ◌++◌, length, Option, Some, None, All, is_some, Bool, true}
 use Rattle.rmt_bits.specs.declared.answer.Verdict.{Verdict}
 use Rattle.rmt_io.specs.Outside.{ShelfState, SinkState}
+use Rattle.rmt_ast.specs.Changes.{committed}
+use Rattle.rmt_ast.specs.Events.{Event}
 use Rattle.rmt_core.specs.Types.{Config}
+use Rattle.rmt_config.specs.declared.cell_write.CellWrite.{CellWrite}
+use Rattle.rmt_config.specs.Commits.{AreWrites, Makes, RunState, behind_commit}
+use Rattle.rmt_config.specs.Form.{Formed}
+use Rattle.rmt_config.specs.Limits.{IsWithinLimits}
+use Rattle.rmt_config.specs.RunCells.{RunCells}
+use Rattle.rmt_config.specs.RunInputs.{Idle, Input, Turns, Writes, flight_in}
 use Rattle.rmt_chip.specs.declared.chip.Chip.{Chip}
-use Rattle.rmt_chip.specs.PacketRuns.{StandsFor as Stands}
+use Rattle.rmt_chip.specs.Inputs.{MayEnter, input_from}
+use Rattle.rmt_chip.specs.Stands.{Stands, entered_of, spare_of, version_of}
+use Rattle.rmt_chip.specs.Writable.{IsTaken}
 use Rattle.rmt_packets.specs.AnswerLine.{answer_line}
+use Rattle.rmt_packets.specs.declared.line_kind.LineKind.TheVariants as line
+use Rattle.rmt_packets.specs.LineKinds.{kind_of}
 use Rattle.rmt_packets.specs.PacketText.{BadLine}
+use Rattle.rmt_refine.specs.EventRuns.{outcomes_in}
+use Rattle.rmt_update.specs.BookStands.{BookStands}
+use Rattle.rmt_update.specs.Stands.{Stands as ListsStand}
+use Rattle.rmt_update.specs.declared.book.plan.Plan.{Plan}
+use Rattle.rmt_update.specs.declared.fault.UpdateFault.{UpdateFault}
+use Rattle.rmt_update.specs.declared.fault.UpdateFault.TheVariants.{NoMemory, LoadFull}
+use Rattle.rmt_core.specs.declared.run_end.RunFault.{RunFault}
+use Rattle.rmt_core.specs.declared.run_end.RunFault.TheVariants as fault
+use Rattle.rmt_core.specs.declared.running.commits.Commits.{Commits}
 use Rattle.rmt_core.specs.declared.running.state.Run.{Run}
+use Rattle.rmt_core.specs.declared.running.turn.Cycle.{Cycle}
+use Rattle.rmt_core.specs.declared.running.turn.Cycle.TheVariants as cycle
+use Rattle.rmt_core.specs.declared.status.Status.TheVariants.{TooLong}
 use Rattle.rmt_core.specs.declared.watch.Watch.{Watch}
+use Rattle.rmt_core.specs.ChipEvents.{Comes, IsRefused, commit_cycles}
+use Rattle.rmt_core.specs.ChipReading.{by_chip, lists_in, names_in, read_by, with_chip_line}
+use Rattle.rmt_core.specs.ChipRuns.{EndsFull, RunsChip}
+use Rattle.rmt_core.specs.ChipText.{lines_of}
+use Rattle.rmt_core.specs.EventText.{EventReading, with_bad, with_commit}
 use Rattle.rmt_core.specs.Files.{Files, packets_limit}
 use Rattle.rmt_core.specs.Given.{Given, Opens}
-use Rattle.rmt_core.specs.RunEnd.{ReadsAll}
-use Rattle.rmt_core.specs.Runs.{Runs}
+use Rattle.rmt_core.specs.Printing.{GainedFront}
+use Rattle.rmt_core.specs.RunEnd.{Cut, ReadsAllBy}
 use Rattle.rmt_core.specs.Simulating.{Spelled}
 use Rattle.rmt_core.specs.Waiting.{Written}
-use Rattle.rmt_core.specs.Watching.{emitted, shown, text_of}
+
+-- ---- cycle by cycle
 
 -- a run with its chip stands for the inputs so far: of the lines of their cycles some were written, and the rest waits
-pub record Goes (watch : Watch) (c : Config) (inputs : List (Option Packet)) (run : Run) (chip : Chip) (before now : SinkState) : Type 0 where
+pub record Goes (watch : Watch) (c : Config) (made : List Input) (run : Run) (chip : Chip) (before now : SinkState) : Type 0 where
   pub watches : run.watch ≡ watch
-  pub stands : Stands c inputs chip
-  pub clocked : run.cycles ≡ length inputs
-  pub numbered : run.answered ≡ length (emitted c inputs)
-  pub written : Written (shown watch c inputs) run.waiting.lines.items before now
+  pub stands : Stands c made chip
+  pub clocked : run.cycles ≡ length made
+  pub numbered : run.answered ≡ length (outcomes_in c made)
+  pub flies : run.flight ≡ flight_in c made
+  pub written : Written (lines_of watch c made) run.waiting.lines.items before now
 
--- the packets of the open file entered, up to its end or its first bad line; what they are is known where the shelf tells its files
-pub record Entered (watch : Watch) (c : Config) (limit : ℕ) (shelf : ShelfState) (bad : Option BadLine) (run : Run) (chip : Chip) (before now : SinkState) : Type 0 where
-  pub done : List Packet
-  pub goes : Goes watch c (map Some done) run chip before now
-  pub reads : IsTrue shelf.tells → ReadsAll limit shelf.rest done bad
-  pub few : length done ≤ 1099511627776
+-- the input of a cycle
+abbrev pub input_for : Cycle → Input
+input_for cycle.Idle = Idle
+input_for (cycle.Enters frame) = input_from (Some frame)
+input_for (cycle.Changes write) = Writes write.now
+input_for (cycle.Turns seed) = Turns seed
+
+-- for how many numbers less a chip can count behind it
+abbrev pub spent_by : Cycle → ℕ
+spent_by cycle.Idle = 0
+spent_by (cycle.Enters frame) = 0
+spent_by (cycle.Changes write) = 1
+spent_by (cycle.Turns seed) = 0
+
+-- a cycle that a chip may have: a frame that may enter, a cell that the chip takes and can count for, and not too many versions
+abbrev pub MayTurn : Chip → Cycle → Type 0
+MayTurn chip cycle.Idle = entered_of chip < 2 ^ 63
+MayTurn chip (cycle.Enters frame) = MayEnter (Some frame) × (entered_of chip < 2 ^ 63)
+MayTurn chip (cycle.Changes write) = IsTaken chip.config.stages write.now × (1 ≤ spare_of chip)
+MayTurn chip (cycle.Turns seed) = version_of chip < 2 ^ 63
 
 -- the line of what left, if anything did
 abbrev pub line_if : ℕ → Option Verdict → List ℕ → List ℕ
 line_if n None bytes = []
 line_if n (Some verdict) bytes = answer_line n (record { verdict = verdict; bytes = bytes; hits = [] })
 
+-- ---- line by line
+
+-- a run that has come so far with packets and commits
+pub record Came (watch : Watch) (c : Config) (events : List Event) (made : List Input) (r : RunState) (run : Run) (chip : Chip) (before now : SinkState) : Type 0 where
+  pub comes : Comes c (names_in c) (lists_in c) events made r
+  pub goes : Goes watch c made run chip before now
+
+-- so many lines bring no more packets, versions and cycles
+pub record IsFew (lines : ℕ) (run : Run) (chip : Chip) : Type 0 where
+  pub entered : entered_of chip ≤ lines
+  pub versions : version_of chip ≤ lines
+  pub cycles : run.cycles ≤ lines * 8589934592
+
+-- what changes entries stands for the cells and the entries of a run, and for what the lines since its last commit change; of a configuration
+-- without names there is nothing
+abbrev pub AreCommitsAt : Config → EventReading → RunState → Option Commits → Type 0
+AreCommitsAt c said r None = c.names ≡ None
+AreCommitsAt c said r (Some commits) =
+    (c.names ≡ Some (names_in c)) × BookStands c r.cells r.entries.lists commits.book × ListsStand said.run commits.lists
+
+-- a run has come by some lines, of which none was bad
+pub record HasCome (c : Config) (said : EventReading) (made : List Input) (r : RunState) (commits : Option Commits) : Type 0 where
+  pub formed : Formed c
+  pub small : IsWithinLimits c
+  pub lines : List (ℕ × List ℕ)
+  pub read : read_by c None lines ≡ said
+  pub good : said.bad ≡ None
+  pub comes : Comes c (names_in c) (lists_in c) said.events made r
+  pub knows : AreCommitsAt c said r commits
+
+-- a run with its chip stands for what was read of a text
+pub record Follows (watch : Watch) (c : Config) (said : EventReading) (run : Run) (chip : Chip) (commits : Option Commits) (before now : SinkState) : Type 0 where
+  pub made : List Input
+  pub state : RunState
+  pub come : HasCome c said made state commits
+  pub goes : Goes watch c made run chip before now
+
+-- a line more that no commit of the text refuses
+abbrev pub with_text : Config → ℕ → List ℕ → EventReading → EventReading
+with_text c number text said = with_chip_line (is_some c.names) None number text (kind_of text) said
+
+-- a commit finds no room
+pub record IsFull (c : Config) (text : List ℕ) (said : EventReading) (r : RunState) (code : ℕ) : Type 0 where
+  pub code_is : code ≡ 10
+  pub named : is_some c.names ≡ true
+  pub kind : kind_of text ≡ line.Commit
+  pub refused : IsRefused c (names_in c) r said.changes
+
+-- a line is bad, and the run stands as before it
+pub record Stopped (watch : Watch) (c : Config) (number : ℕ) (text : List ℕ) (said : EventReading) (code : ℕ) (run : Run) (chip : Chip) (before now : SinkState) : Type 0 where
+  pub made : List Input
+  pub state : RunState
+  pub comes : Comes c (names_in c) (lists_in c) said.events made state
+  pub goes : Goes watch c made run chip before now
+  pub bad : (with_text c number text said ≡ with_bad number code said) ⊎ IsFull c text said state code
+
+-- a plan of the commit that a run has come to, and what changes entries stands for the entries and cells behind it
+pub record IsPlannedAt (c : Config) (said : EventReading) (r : RunState) (plan : Plan) (commits : Commits) : Type 0 where
+  pub next : RunCells
+  pub makes : Makes c (names_in c) r.cells r.entries.lists (committed r.entries said.changes).lists plan.moved plan.seed next
+  pub writes : AreWrites c r.cells next plan.writes.items
+  pub taken : All (IsTaken c.stages) plan.writes.items
+  pub knows : AreCommitsAt c (with_commit said) (behind_commit r said.changes plan.moved plan.seed plan.writes.items next) (Some commits)
+
+-- why there is none
+abbrev pub IsUnplannedAt : Config → EventReading → RunState → UpdateFault → Type 0
+IsUnplannedAt c said r NoMemory = Unit {0}
+IsUnplannedAt c said r (LoadFull node members count) = IsRefused c (names_in c) r said.changes
+
+-- what a line leaves: a run that goes on with it, or its code
+abbrev pub Leaves : Watch → Config → ℕ → List ℕ → EventReading → Run → Chip → Option Commits → SinkState → SinkState → Option ℕ → Type 0
+Leaves watch c number text said run chip commits before now None = Follows watch c (with_text c number text said) run chip commits before now
+Leaves watch c number text said run chip commits before now (Some code) = Stopped watch c number text said code run chip before now
+
+-- ---- a run that breaks off
+
+-- the inputs behind which a run broke off at a line: those before it, those with its packet, or those with some of the cycles of its commit
+pub data BreaksAt (c : Config) (number : ℕ) (text : List ℕ) (said : EventReading) : List Input → Type 0 where
+  ahead : (made : List Input) (r : RunState) → Comes c (names_in c) (lists_in c) said.events made r → BreaksAt c number text said made
+  behind : (made : List Input) (r : RunState) → (with_text c number text said).bad ≡ None
+      → Comes c (names_in c) (lists_in c) (with_text c number text said).events made r → BreaksAt c number text said made
+  amid : (made : List Input) (r : RunState) (moved : Bool) (seed : ℕ) (next : RunCells) (writes : List CellWrite) (part rest : List Input)
+      → is_some c.names ≡ true → kind_of text ≡ line.Commit → Comes c (names_in c) (lists_in c) said.events made r
+      → Makes c (names_in c) r.cells r.entries.lists (committed r.entries said.changes).lists moved seed next → AreWrites c r.cells next writes
+      → commit_cycles r moved seed writes ≡ part ++ rest → BreaksAt c number text said (made ++ part)
+
+-- a run broke off at a line, and printed a front of the lines of its cycles
+pub record LeftOff (watch : Watch) (c : Config) (number : ℕ) (text : List ℕ) (said : EventReading) (before now : SinkState) (f : RunFault) : Type 0 where
+  pub made : List Input
+  pub at : BreaksAt c number text said made
+  pub cut : Cut (lines_of watch c made) before now f
+
+-- A run over a text ended early: it printed a front of what a run over the text gives, a fault of the sink comes only where that is something, and TooLong only where
+-- it ends so.
+pub record BreaksRun (watch : Watch) (files : Files) (c : Config) (limit : ℕ) (text : List ℕ) (before now : SinkState) (f : RunFault) : Type 0 where
+  pub given : Given
+  pub runs : RunsChip watch files c limit text given
+  pub front : GainedFront before now given.text
+  pub some : f ≡ fault.Write → given.text ≡ [] → ⊥
+  pub long : f ≡ fault.TooLong → given.status ≡ TooLong
+
+-- the lines of the open file taken, up to its end or its first bad line; what they are is known where the shelf tells its files
+pub record Taken (watch : Watch) (c : Config) (limit : ℕ) (shelf : ShelfState) (bad : Option BadLine) (run : Run) (chip : Chip) (before now : SinkState) : Type 0 where
+  pub full : Option ℕ
+  pub said : EventReading
+  pub made : List Input
+  pub state : RunState
+  pub came : Came watch c said.events made state run chip before now
+  pub ends : EndsFull c state said full
+  pub bad_is : said.bad ≡ bad
+  pub reads : IsTrue shelf.tells → ReadsAllBy (by_chip c full) limit shelf.rest said
+
 -- ---- the steps of `sim` and `probe`
 
--- a run of the chip of an image over the packets of a text
+-- a run of the chip of an image over a packet text
 abbrev pub OfOpen : Watch → Files → List ℕ → List ℕ → Given → Type 0
-OfOpen watch files bytes text = Spelled files bytes (λ c. Runs files (text_of watch c) packets_limit text)
+OfOpen watch files bytes text = Spelled files bytes (λ c. RunsChip watch files c packets_limit text)
 
--- and over those of a file
+-- and over that of a file
 abbrev pub OfImage : Watch → Files → List ℕ → List ℕ → Given → Type 0
 OfImage watch files packets bytes = Opens files packets (OfOpen watch files bytes)

@@ -2,7 +2,7 @@
 use Rattle.std.specs.Prelude.{◌≡◌, ℕ, Bool, List, ◌++◌, codes, Option, Some, None, if◌then◌else◌, length, nat_lt, take}
 use Rattle.std.specs.Fmt.{decimal}
 use Rattle.rmt_bits.specs.Lines.{numbered_lines}
-use Rattle.rmt_packets.specs.PacketText.{BadLine, Reading, reading_of}
+use Rattle.rmt_packets.specs.PacketText.{BadLine}
 use Rattle.rmt_packets.specs.Pieces.{ended_lines}
 use Rattle.rmt_core.specs.declared.status.Status.{Status}
 use Rattle.rmt_core.specs.declared.status.Status.TheVariants.{Done, BadPackets, TooLong}
@@ -18,16 +18,9 @@ pub record Way (X : Type 0) : Type 0 where
   pub read : List (ℕ × List ℕ) → X
   pub bad : X → Option BadLine
 
--- a text of packets alone
-abbrev pub packets_alone : Way Reading
-packets_alone = record { read = reading_of; bad = λ (r : Reading). r.bad }
-
 -- what is read of a text: all of it, or the lines that end within the limit
 abbrev pub said_within : {X : Type 0} → Way X → ℕ → List ℕ → X
 said_within way limit text = if nat_lt limit (length text) then way.read (ended_lines (take limit text)) else way.read (numbered_lines 1 text)
-
-abbrev pub reading_within : ℕ → List ℕ → Reading
-reading_within limit text = said_within packets_alone limit text
 
 -- a bad line that is read ends a run with BadPackets; else a text that is too long with TooLong
 abbrev pub run_status : Bool → Option BadLine → Status
@@ -44,7 +37,3 @@ abbrev pub RunsBy : {X : Type 0} → Way X → Files → (X → List ℕ) → �
 RunsBy way files printed limit text g =
     let bad = way.bad (said_within way limit text) in
     g ≡ told files (run_status (nat_lt limit (length text)) bad) (printed (told_within way limit text bad))
-
--- and over one of packets alone
-abbrev pub Runs : Files → (Reading → List ℕ) → ℕ → List ℕ → Given → Type 0
-Runs files printed limit text g = RunsBy packets_alone files printed limit text g

@@ -7,9 +7,8 @@ use Rattle.rmt_core.specs.declared.status.Status.TheVariants.{BadImage}
 use Rattle.rmt_core.specs.declared.watch.Watch.{Watch}
 use Rattle.rmt_core.specs.Files.{Files, image_limit, packets_limit}
 use Rattle.rmt_core.specs.Given.{Given, Opens, Reads, told}
-use Rattle.rmt_core.specs.Runs.{Runs}
+use Rattle.rmt_core.specs.ChipRuns.{RunsChip}
 use Rattle.rmt_core.specs.SimText.{bad_image_line}
-use Rattle.rmt_core.specs.Watching.{text_of}
 
 -- with the configuration of an image a command goes on; it ends with the fault of bytes that are none
 abbrev pub OfAnswer : Files → (Config → Given → Type 0) → Given → Result Config ImageFault → Type 0
@@ -25,4 +24,4 @@ abbrev pub GivesRun : Watch → Files → List ℕ → List ℕ → Given → Ty
 GivesRun watch files image packets =
     Reads files image image_limit (λ bytes.
     Opens files packets (λ text.
-    Spelled files bytes (λ c. Runs files (text_of watch c) packets_limit text)))
+    Spelled files bytes (λ c. RunsChip watch files c packets_limit text)))

@@ -1,14 +1,16 @@
 //! What holds of what the commands give.
 
-ghost use Rattle.rmt_core.specs.Headline.{GivesAlways, GivesNeverNothing, GivesOne, ImproveHasNoMoreStages, IsComplete, LeavesFiles, MapIsBeside, OneTryIsCompile, RefusesAsCompile, SimPrintsPlain};
+ghost use Rattle.rmt_core.specs.Headline.{GivesAlways, GivesNeverNothing, GivesOne, ImproveHasNoMoreStages, IsComplete, LeavesFiles, MapIsBeside, OneTryIsCompile, RefusesAsCompile, SimPrintsPlain, VerifiesCompiled};
 ghost use Rattle.rmt_core.specs.Sampling.{SampleIsMeant};
 
 use rmt_check::laws::one_meaning;
 use rmt_cuckoo::never_both;
 use rmt_entries::laws::lists_or_fault;
+use rmt_refine::laws::event_lists;
 use rmt_verify::spells_one;
 
-/// Each command gives one status and one text over the same files, but for the numbers of a table that doesn't load.
+/// Each command gives one status and one text over the same files, but for the numbers of a table that doesn't load, and for the
+/// text of a run in which a commit moves cells.
 pub fn gives_one()
     ensures { GivesOne }
 {
@@ -47,6 +49,8 @@ pub fn sim_prints_plain()
     ensures { SimPrintsPlain }
 {
     one_meaning();
+    lists_or_fault();
+    event_lists();
 }
 
 /// With a map `compile` gives what it gives without one, and all files but the map stand as then.
@@ -72,3 +76,11 @@ pub fn improve_is_no_worse()
 pub fn sample_is_meant()
     ensures { SampleIsMeant }
 {}
+
+/// What `compile` wrote with a map belongs to the program: `verify` of the four files prints `yes`.
+pub fn verifies_compiled()
+    ensures { VerifiesCompiled }
+{
+    one_meaning();
+    spells_one();
+}

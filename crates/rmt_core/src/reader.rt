@@ -1,32 +1,18 @@
 //! Reading the lines of a packet text in pieces, as a shelf gives them.
 
-ghost use Rattle.std.specs.Prelude.{◌≡◌, ◌+◌, ◌<◌, ◌≤◌, ℕ, false, List, [], None, length, IfOk, IsTrue, IsErrOf, OnErr};
-ghost use Rattle.rmt_bits.specs.Packet.{Packet};
+ghost use Rattle.std.specs.Prelude.{◌≡◌, ◌+◌, ◌<◌, ◌≤◌, ℕ, false, List, [], length, IfOk, IsTrue, IsErrOf};
 ghost use Rattle.rmt_bits.specs.Lines.{numbered_lines};
-ghost use Rattle.rmt_packets.specs.PacketText.{reading_of};
 ghost use Rattle.rmt_io.specs.Outside.{ReadingFailed, OnlyRead};
-ghost use Rattle.rmt_core.specs.Pieces.{Comes, GoesTooFar, PassesLimit};
-ghost use Rattle.rmt_core.specs.ReadsOn.{AtLine, HasLines, ReadsLines, ReadsOn};
+ghost use Rattle.rmt_core.specs.Pieces.{PassesLimit};
+ghost use Rattle.rmt_core.specs.ReadsOn.{AtLine, HasLines, ReadsLines};
 
 mod piece;
 
 use piece::{PIECE, Piece};
 use rmt_io::shelf::Shelf;
-use rmt_packets::packet_line::{PacketFault, read_packet};
 use rmt_packets::pieces::Lines;
 use std::alloc::{AllocError, Global};
 use std::marker::Model;
-
-/// What comes next in a packet text.
-#[derive(Clone, Copy, Debug, PartialEq, Eq)]
-pub enum Step {
-    /// A packet on this port, 0 to 511.
-    Packet { port: u16 },
-    /// A bad line: its code, 1 to 3, and its number, from 1.
-    Bad { code: u8, line: u64 },
-    /// The end of the text.
-    End,
-}
 
 /// Why nothing more is read of a packet text.
 #[derive(Clone, Copy, Debug, PartialEq, Eq)]
@@ -38,7 +24,7 @@ pub enum StepFault {
     TooLong,
 }
 
-/// A reader of the lines of a packet text, or of its packets, in a shelf's open file of which so many bytes may be read.
+/// A reader of the lines of a packet text in a shelf's open file of which so many bytes may be read.
 #[derive(Drop)]
 pub struct PacketReader {
     lines: Lines,
@@ -64,12 +50,10 @@ impl Model for PacketReader {
 }
 
 impl PacketReader {
-    /// A reader that gave no line yet, of a text of which `limit` bytes may be read. No other call takes memory, but
-    /// for the frame.
+    /// A reader that gave no line yet, of a text of which `limit` bytes may be read. No other call takes
+    /// memory.
     pub fn new(alloc: Global, limit: u64) -> Result<PacketReader, AllocError>
         requires { limit ≤ 1099511627776 }
-        ensures reads { IfOk result
-            (λ reader. (text : List ℕ) → ReadsOn limit text [] reader text) }
         ensures lines { IfOk result
             (λ reader. (text : List ℕ) → ReadsLines limit text [] reader text) }
         ensures given { IfOk result (λ reader. reader.given ≡ 0) }
@@ -84,42 +68,6 @@ impl PacketReader {
             is_finished: false,
             given: 0,
         })
-    }
-
-    /// The next packet, whose frame replaces what `frame` held, or what ends the text. Behind a bad line or a refusal
-    /// what a further call answers is of no use.
-    pub fn next<F: Shelf>(&mut self, shelf: &mut F, frame: &mut Vec<u8>) -> Result<Step, StepFault>
-        // What comes next, over a shelf that tells its files; a text that goes on behind the limit ends with `TooLong`.
-        ensures comes { IfOk result
-            (λ step. IsTrue (F.state shelf.old).tells →
-            (limit : ℕ) (text : List ℕ) (done : List Packet) →
-            ReadsOn limit text done self.old (F.state shelf.old).rest →
-            Comes (λ packets. ReadsOn limit text packets self.new
-            (F.state shelf.new).rest) limit text done frame.new.items step) }
-        ensures too_long { IsErrOf result StepFault.TooLong → IsTrue (F.state shelf.old).tells →
-            (limit : ℕ) (text : List ℕ) (done : List Packet) →
-            ReadsOn limit text done self.old (F.state shelf.old).rest → GoesTooFar limit text done }
-        // Which packets may come, and how many.
-        ensures port { IfOk result (λ step. (port : ℕ) → step ≡ Step.Packet port → port < 512) }
-        ensures frame { IfOk result
-            (λ step. (port : ℕ) → step ≡ Step.Packet port →
-            (1 ≤ length frame.new.items) × (length frame.new.items ≤ 9216)) }
-        ensures given { IfOk result
-            (λ step. (port : ℕ) → step ≡ Step.Packet port → self.new.given ≡ self.old.given + 1) }
-        ensures few { self.new.given ≤ 1099511627776 }
-        // A fault of the shelf is counted; a steady one has none.
-        ensures failed { IsErrOf result StepFault.Read →
-            ReadingFailed (F.state shelf.old) (F.state shelf.new) }
-        ensures never_fails { IsErrOf result StepFault.Read → IsTrue (F.state shelf.old).steady →
-            ⊥ }
-        // What stays the same.
-        ensures only_read { OnlyRead (F.state shelf.old) (F.state shelf.new) }
-    {
-        if self.find(shelf)? {
-            self.packet(frame)
-        } else {
-            Ok(Step::End)
-        }
     }
 
     /// Goes on to the next line that is not passed over, and answers whether there is one. Behind a refusal what a further
@@ -302,36 +250,5 @@ impl PacketReader {
     {
         self.is_finished = true;
         self.lines.finish()
-    }
-
-    /// Reads the packet line that is ready.
-    fn packet(&mut self, frame: &mut Vec<u8>) -> Result<Step, StepFault>
-        requires ready { IsTrue self.old.lines.is_ready }
-        requires one_more { HasLines (self.old.given + 1) self.old.is_finished self.old.lines }
-        ensures comes { IfOk result
-            (λ step. (limit : ℕ) (text rest : List ℕ) (gave : List (ℕ × List ℕ))
-            (done : List Packet) → AtLine limit text gave self.old rest →
-            reading_of gave ≡ record { packets = done; bad = None } →
-            Comes (λ packets. ReadsOn limit text packets self.new rest) limit text done frame.new.items step) }
-        ensures port { IfOk result (λ step. (port : ℕ) → step ≡ Step.Packet port → port < 512) }
-        ensures frame { IfOk result
-            (λ step. (port : ℕ) → step ≡ Step.Packet port →
-            (1 ≤ length frame.new.items) × (length frame.new.items ≤ 9216)) }
-        ensures given { IfOk result
-            (λ step. (port : ℕ) → step ≡ Step.Packet port → self.new.given ≡ self.old.given + 1) }
-        ensures few { self.new.given ≤ 1099511627776 }
-        ensures no_memory { OnErr result (IsErrOf result StepFault.NoMemory) }
-    {
-        match read_packet(self.lines.text(), frame) {
-            Ok(port) => {
-                self.given += 1;
-                Ok(Step::Packet { port })
-            }
-            Err(PacketFault::Code(code)) => Ok(Step::Bad {
-                code,
-                line: self.lines.number(),
-            }),
-            Err(PacketFault::NoMemory) => Err(StepFault::NoMemory),
-        }
     }
 }

@@ -1,25 +1,28 @@
 //! Running the chip over the packets of a text.
 
 ghost use Rattle.std.specs.Prelude.{◌≡◌, ◌≤◌, [], IsTrue};
-ghost use Rattle.rmt_packets.specs.PacketText.{packets_of};
 ghost use Rattle.rmt_config.specs.declared.config.Config.{Config};
-ghost use Rattle.rmt_config.specs.ChipRun.{inputs_of};
-ghost use Rattle.rmt_chip.specs.PacketRuns.{StandsFor as Stands};
+ghost use Rattle.rmt_chip.specs.Stands.{Stands};
 ghost use Rattle.rmt_io.specs.Outside.{ReadingFailed, OnlyRead, PrintingFailed, OnlyPrinted};
 ghost use Rattle.rmt_core.specs.Commands.{IsRunStatus};
-ghost use Rattle.rmt_core.specs.Runs.{Runs};
-ghost use Rattle.rmt_core.specs.SimText.{printed_of};
-ghost use Rattle.rmt_core.specs.Watching.{text_of};
+ghost use Rattle.rmt_core.specs.ChipRuns.{RanWhole, RunsChip};
+ghost use Rattle.rmt_core.specs.CommitsOf.{AreCommitsOf};
 ghost use Rattle.rmt_core.specs.Ends.{Answered, outside};
 
-mod enter;
+mod changing;
+mod commit;
+pub mod commits;
 mod finish;
+mod line;
+mod lines;
 mod state;
 mod turn;
+mod wait;
 
 use crate::run_end::fault_status;
-use crate::running::enter::enter_all;
+use crate::running::commits::Commits;
 use crate::running::finish::finish;
+use crate::running::lines::take_all;
 use crate::running::state::start;
 use crate::status::Status;
 use crate::watch::Watch;
@@ -29,7 +32,9 @@ use rmt_io::sink::Sink;
 use std::alloc::Global;
 
 /// Reads the packet text from the place in the shelf's open file on, of which `limit` bytes may be read, clocks the chip,
-/// and prints the answers, the counters, the cycles and the flight, or the last line of a bad line. The text is empty where no file is open.
+/// changes its entries, and prints the answers, the counters, the cycles and the flight, or the last line of a bad line.
+/// The text is empty where no file is open. `commits` has the entries and the cells of the chip's configuration where it
+/// has names.
 ///
 /// The answers are `Done`, `ReadFault`, `TooLong`, `BadPackets`, `WriteFault` and `NoMemory`.
 pub fn run_chip<F: Shelf, O: Sink>(
@@ -37,20 +42,23 @@ pub fn run_chip<F: Shelf, O: Sink>(
     shelf: &mut F,
     limit: u64,
     chip: &mut Chip,
+    commits: &mut Option<Commits>,
     out: &mut O,
 ) -> Status
     requires limit { limit ≤ 1099511627776 }
-    requires stands { (c : Config) × Stands c [] chip.old }
+    requires stands { (c : Config) × Stands c [] chip.old × AreCommitsOf c commits.old }
     ensures possible { IsRunStatus result }
-    // With Done the chip stands for all cycles of the run of the packets that were read.
+    // With Done the chip stands for all cycles of one run that the text may have, whose text was printed.
     ensures clocked { result ≡ Status.Done → IsTrue (F.state shelf.old).tells → (c : Config) →
-        Stands c [] chip.old →
-        Stands c (inputs_of c (packets_of (F.state shelf.old).rest).packets) chip.new }
+        Stands c [] chip.old → AreCommitsOf c commits.old →
+        RanWhole Watch.Answers c (F.state shelf.old).rest chip.new (O.state out.old)
+        (O.state out.new) }
     ensures answered { IsTrue (F.state shelf.old).tells → (c : Config) → Stands c [] chip.old →
+        AreCommitsOf c commits.old →
         let before = outside (F.state shelf.old) (O.state out.old) in
         let after = outside (F.state shelf.new) (O.state out.new) in
         Answered before after
-        (Runs before.shelf.files (printed_of c) limit before.shelf.rest) result }
+        (RunsChip Watch.Answers before.shelf.files c limit before.shelf.rest) result }
     ensures read_fault { result ≡ Status.ReadFault →
         ReadingFailed (F.state shelf.old) (F.state shelf.new) }
     ensures write_fault { result ≡ Status.WriteFault →
@@ -58,7 +66,7 @@ pub fn run_chip<F: Shelf, O: Sink>(
     ensures only_read { OnlyRead (F.state shelf.old) (F.state shelf.new) }
     ensures only_printed { OnlyPrinted (O.state out.old) (O.state out.new) }
 {
-    run_watched(alloc, shelf, limit, chip, Watch::Answers, out)
+    run_watched(alloc, shelf, limit, chip, commits, Watch::Answers, out)
 }
 
 /// The same, printing what is watched.
@@ -67,20 +75,21 @@ pub fn run_watched<F: Shelf, O: Sink>(
     shelf: &mut F,
     limit: u64,
     chip: &mut Chip,
+    commits: &mut Option<Commits>,
     watch: Watch,
     out: &mut O,
 ) -> Status
     requires limit { limit ≤ 1099511627776 }
-    requires stands { (c : Config) × Stands c [] chip.old }
+    requires stands { (c : Config) × Stands c [] chip.old × AreCommitsOf c commits.old }
     ensures possible { IsRunStatus result }
     ensures clocked { result ≡ Status.Done → IsTrue (F.state shelf.old).tells → (c : Config) →
-        Stands c [] chip.old →
-        Stands c (inputs_of c (packets_of (F.state shelf.old).rest).packets) chip.new }
+        Stands c [] chip.old → AreCommitsOf c commits.old →
+        RanWhole watch c (F.state shelf.old).rest chip.new (O.state out.old) (O.state out.new) }
     ensures answered { IsTrue (F.state shelf.old).tells → (c : Config) → Stands c [] chip.old →
+        AreCommitsOf c commits.old →
         let before = outside (F.state shelf.old) (O.state out.old) in
         let after = outside (F.state shelf.new) (O.state out.new) in
-        Answered before after
-        (Runs before.shelf.files (text_of watch c) limit before.shelf.rest) result }
+        Answered before after (RunsChip watch before.shelf.files c limit before.shelf.rest) result }
     ensures read_fault { result ≡ Status.ReadFault →
         ReadingFailed (F.state shelf.old) (F.state shelf.new) }
     ensures never_fails { result ≡ Status.ReadFault → IsTrue (F.state shelf.old).steady → ⊥ }
@@ -92,7 +101,7 @@ pub fn run_watched<F: Shelf, O: Sink>(
     let Ok(mut run) = start(alloc, watch) else {
         return Status::NoMemory;
     };
-    match enter_all(alloc, shelf, limit, chip, &mut run, out) {
+    match take_all(alloc, shelf, limit, chip, commits, &mut run, out) {
         Ok(bad) => finish(alloc, chip, &mut run, bad, out),
         Err(fault) => fault_status(fault),
     }

@@ -3,16 +3,16 @@
 ghost use Rattle.std.specs.Prelude.{[], string_bytes};
 ghost use Rattle.rmt_config.specs.Form.{Formed};
 ghost use Rattle.rmt_config.specs.Limits.{IsWithinLimits};
+ghost use Rattle.rmt_core.specs.ChipRuns.{RunsChip};
 ghost use Rattle.rmt_core.specs.Commands.{IsPossible, Sim};
 ghost use Rattle.rmt_core.specs.Ends.{ReadsAndPrints, outside};
 ghost use Rattle.rmt_core.specs.Files.{packets_limit};
 ghost use Rattle.rmt_core.specs.Running.{OfImage, OfOpen};
-ghost use Rattle.rmt_core.specs.Runs.{Runs};
 ghost use Rattle.rmt_core.specs.Simulating.{GivesRun};
-ghost use Rattle.rmt_core.specs.Watching.{text_of};
 
 use crate::bad_image::tell_bad_image;
 use crate::loading::{IMAGE_LIMIT, PACKETS_LIMIT, open_file, read_file};
+use crate::running::commits::commits_of;
 use crate::running::run_watched;
 use crate::status::Status;
 use crate::watch::Watch;
@@ -95,10 +95,16 @@ fn simulate_config<F: Shelf, O: Sink>(
     ensures possible { IsPossible (Sim [] []) result }
     ensures call { ReadsAndPrints (outside (F.state shelf.old) (O.state out.old))
         (outside (F.state shelf.new) (O.state out.new))
-        (λ files. Runs files (text_of watch config) packets_limit (F.state shelf.old).rest) result }
+        (λ files. RunsChip watch files config packets_limit (F.state shelf.old).rest) result }
 {
+    let Ok(mut commits) = commits_of(alloc, &config) else {
+        return Status::NoMemory;
+    };
     match Chip::open(alloc, config) {
-        Ok(mut chip) => run_watched(alloc, shelf, PACKETS_LIMIT, &mut chip, watch, out),
+        Ok(mut chip) => {
+            let limit = PACKETS_LIMIT;
+            run_watched(alloc, shelf, limit, &mut chip, &mut commits, watch, out)
+        }
         Err(_) => Status::NoMemory,
     }
 }

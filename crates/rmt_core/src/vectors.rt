@@ -1,11 +1,12 @@
 //! The text of the vectors in flight.
 
-ghost use Rattle.std.specs.Prelude.{◌≡◌, ℕ, ◌+◌, ◌-◌, ◌<◌, ◌++◌, List, Option, length, slice_index, OnOk, IfOk};
-ghost use Rattle.rmt_bits.specs.Packet.{Packet};
+ghost use Rattle.std.specs.Prelude.{◌≡◌, ◌+◌, ◌<◌, ◌++◌, List, slice_index, OnOk, IfOk};
 ghost use Rattle.rmt_config.specs.declared.config.Config.{Config};
-ghost use Rattle.rmt_config.specs.ChipRun.{latency_of, number_at, packet_at};
-ghost use Rattle.rmt_chip.specs.PacketRuns.{StandsFor as Stands};
-ghost use Rattle.rmt_core.specs.ProbeText.{hex_text, word_text, words_below, vector_line, packet_line, lines_below};
+ghost use Rattle.rmt_config.specs.ChipRun.{latency_of};
+ghost use Rattle.rmt_config.specs.RunInputs.{Input};
+ghost use Rattle.rmt_chip.specs.Stands.{Stands, in_flight};
+ghost use Rattle.rmt_core.specs.ChipText.{flying_below, line_at};
+ghost use Rattle.rmt_core.specs.ProbeText.{hex_text, word_text, words_below, vector_line};
 
 use rmt_bits::lane::word_size;
 use rmt_chip::chip::Chip;
@@ -74,8 +75,8 @@ fn add_line(
 
 /// Appends the line of the packet of this age, if one is in flight.
 fn add_age(alloc: Global, chip: &Chip, age: u16, text: &mut Vec<u8>) -> Result<(), AllocError>
-    ensures { OnOk result ((c : Config) (inputs : List (Option Packet)) (cycle : ℕ) → Stands c inputs chip.now → length inputs ≡ cycle + 1 →
-        text.new.items ≡ text.old.items ++ packet_line c (number_at inputs (cycle - age)) age (packet_at c inputs cycle age)) }
+    ensures { OnOk result ((c : Config) (made : List Input) → Stands c made chip.now →
+        text.new.items ≡ text.old.items ++ line_at c age (in_flight c made age)) }
 {
     match chip.probe(age) {
         Some(seen) => add_line(alloc, seen.number, age, seen.words, text),
@@ -85,8 +86,8 @@ fn add_age(alloc: Global, chip: &Chip, age: u16, text: &mut Vec<u8>) -> Result<(
 
 /// The lines of the packets in flight, the oldest first.
 pub fn vectors_text(alloc: Global, chip: &Chip) -> Result<Vec<u8>, AllocError>
-    ensures { IfOk result (λ lines. (c : Config) (inputs : List (Option Packet)) (cycle : ℕ) → Stands c inputs chip.now → length inputs ≡ cycle + 1 →
-        lines.items ≡ lines_below c inputs cycle (latency_of c.stages + 1)) }
+    ensures { IfOk result (λ lines. (c : Config) (made : List Input) → Stands c made chip.now →
+        lines.items ≡ flying_below c made (latency_of c.stages + 1)) }
 {
     let mut text = Vec::new(alloc);
     let mut below = u32::from(chip.latency()) + 1;

@@ -71,28 +71,27 @@ fn explain_output(ending: &Ending, message: &mut Message) {
 
 /// Tells which file is too long, with its limit; where it isn't known, the limits of all that are read.
 pub fn explain_too_long(ending: &Ending, message: &mut Message) {
+    message.say("rmt: a file is longer than its limit\n");
     let mut is_told = false;
-    if let Some(fault) = &ending.fault {
-        is_told = explain_limit_of(ending.words, fault.name, message);
+    for at in 1..ending.words.len() {
+        if word_is_at_fault(ending, at) {
+            say_limit(ending.words, at, message);
+            is_told = true;
+        }
     }
     if !is_told {
-        message.say("rmt: a file is longer than its limit\n");
-        for word in 1..ending.words.len() {
-            say_limit(ending.words, word, message);
+        for at in 1..ending.words.len() {
+            say_limit(ending.words, at, message);
         }
     }
 }
 
-/// Tells the limit of the file of a name, and whether a word names it.
-fn explain_limit_of(words: &[String], name: &str, message: &mut Message) -> bool {
-    for at in 1..words.len() {
-        if words[at].as_str() == name {
-            message.say("rmt: a file is longer than its limit\n");
-            say_limit(words, at, message);
-            return true;
-        }
+/// Whether a word names the file that was at fault. Two words may, and then either limit may be the one.
+fn word_is_at_fault(ending: &Ending, at: usize) -> bool {
+    match (&ending.fault, ending.words.get(at)) {
+        (Some(fault), Some(word)) => word.as_str() == fault.name,
+        _ => false,
     }
-    false
 }
 
 /// A file and how many bytes it may have.

@@ -38,12 +38,21 @@ pub fn explain_packets(ending: &Ending, texts: &Texts, message: &mut Message) {
 /// A change of entries that can't be made.
 fn explain_change(code: u64, message: &mut Message) {
     match code {
+        4 => message.say(
+            "the image tells no names, so its entries can't be changed: `compile` writes one that \
+                does",
+        ),
         5 => message.say(
             "the line says no change: behind `+ ` stands an entry, behind `- ` the table and the key of one",
         ),
         6 => message.say("the table holds an entry with this key: remove that one first"),
         7 => message.say("the table is full: it holds as many entries as its size"),
         8 => message.say("the table holds no entry with this key"),
+        10 => message.say(
+            "the entries of some exact table have no place behind this commit, under each of \
+                eight seeds; where many keys differ in their last three bytes alone, a field of \
+                24 bits or more that is always 0 behind the key makes them load",
+        ),
         _ => message.say(
             "the line is one addition too many: a packet text adds at most 1,048,576 entries",
         ),

@@ -3,11 +3,13 @@
 ghost use Rattle.std.specs.Prelude.{[], IfOk};
 ghost use Rattle.rmt_config.specs.declared.config.Config.{Config};
 ghost use Rattle.rmt_chip.specs.Stands.{Stands};
+ghost use Rattle.rmt_core.specs.CommitsOf.{AreCommitsOf};
 
 mod flight;
 
 use rmt_chip::chip::Chip;
 use rmt_core::run_chip;
+use rmt_core::running::commits::{Commits, commits_of};
 use rmt_core::status::Status;
 use rmt_image::read_image;
 use rmt_io::mem_shelf::MemShelf;
@@ -38,12 +40,23 @@ struct Fails {
 /// No call fails.
 const NONE: Fails = Fails { shelf: 0, sink: 0 };
 
-/// The chip of the smallest image.
-fn smallest_chip(alloc: Global) -> Result<Chip, Fail>
-    ensures { IfOk result (λ chip. (c : Config) × Stands c [] chip) }
+/// A chip, and what changes its entries.
+#[derive(Drop)]
+struct Lent {
+    chip: Chip,
+    commits: Option<Commits>,
+}
+
+/// The chip of the smallest image, which has no names.
+fn smallest_chip(alloc: Global) -> Result<Lent, Fail>
+    ensures { IfOk result (λ lent. (c : Config) × Stands c [] lent.chip × AreCommitsOf c lent.commits) }
 {
     match read_image(alloc, &IMAGE) {
-        Ok(config) => Ok(Chip::open(alloc, config)?),
+        Ok(config) => {
+            let commits = commits_of(alloc, &config)?;
+            let chip = Chip::open(alloc, config)?;
+            Ok(Lent { chip, commits })
+        }
         Err(fault) => Err(Fail::from(fault)),
     }
 }
@@ -62,22 +75,23 @@ fn opened(alloc: Global, text: &[u8], fails: u64) -> Result<MemShelf, Fail> {
 fn run_over(
     alloc: Global,
     shelf: &mut MemShelf,
-    chip: &mut Chip,
+    lent: &mut Lent,
     fails: u64,
 ) -> Result<(Status, Vec<u8>), AllocError>
-    requires { (c : Config) × Stands c [] chip.old }
+    requires { (c : Config) × Stands c [] lent.old.chip × AreCommitsOf c lent.old.commits }
 {
     let mut out = MemSink::new(vec![in alloc; fails]?, 65_536);
-    let status = run_chip(alloc, shelf, LIMIT, chip, &mut out);
+    let (chip, commits) = (&mut lent.chip, &mut lent.commits);
+    let status = run_chip(alloc, shelf, LIMIT, chip, commits, &mut out);
     let printed = Vec::from_slice(alloc, out.bytes().as_slice())?;
     Ok((status, printed))
 }
 
 /// Runs the chip of the smallest image over a packet text, and answers the status and what was printed.
 fn run(alloc: Global, text: &[u8], fails: Fails) -> Result<(Status, Vec<u8>), Fail> {
-    let mut chip = smallest_chip(alloc)?;
+    let mut lent = smallest_chip(alloc)?;
     let mut shelf = opened(alloc, text, fails.shelf)?;
-    Ok(run_over(alloc, &mut shelf, &mut chip, fails.sink)?)
+    Ok(run_over(alloc, &mut shelf, &mut lent, fails.sink)?)
 }
 
 /// The shelf's first call opens the file, and its second one reads.

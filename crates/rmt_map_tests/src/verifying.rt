@@ -9,14 +9,19 @@ use crate::parsers::HEADERS;
 use rmt_ast::program::Program;
 use rmt_bits::lane::Lane;
 use rmt_bits::sequence::Sequence;
-use rmt_config::config::{Config, OutHeader, ParserConfig};
+use rmt_config::config::{Config, OutHeader, ParserConfig, Source, Stage};
+use rmt_core::rmt;
+use rmt_image::read_image;
+use rmt_io::mem_shelf::MemShelf;
+use rmt_io::mem_sink::MemSink;
 use rmt_pack::placement::Part;
 use rmt_phv::pack_fields;
 use rmt_phv::places::Places;
 use rmt_ptcam::{clustered_parser, joins_of, plain_parser};
+use rmt_refine::map::Map;
 use rmt_tests::fixtures::programs::REALISTIC;
 use rmt_tests::fixtures::texts::program_of;
-use rmt_verify::{edges_hold, parser_holds, parts_stand, places_hold};
+use rmt_verify::{edges_hold, parser_holds, parts_stand, places_hold, read_map};
 use std::alloc::{AllocError, Global};
 use std::test::*;
 
@@ -380,6 +385,204 @@ fn parts(rt: HostRuntime) -> Result<(), Fail> {
     for (nodes, stages, told, want) in STAND {
         let parts = told_parts(rt.alloc(), told)?;
         assert_eq!(rt; parts_stand(nodes, stages, parts.as_slice()), want);
+    }
+    Ok(())
+}
+
+// ---- what `verify` tells of changed images and maps
+
+/// A byte of an image or of its map that is otherwise.
+#[derive(Clone, Copy, PartialEq, Eq)]
+enum Byte {
+    /// Stage 1 starts in cycle 11, and not in 12.
+    Start,
+    /// It does so in the map.
+    StartInMap,
+    /// An instruction of stage 1 sets 1, and not 0.
+    Number,
+    /// An entry sends to port 4, and not to 5.
+    Port,
+    /// The table `b` is named `d`.
+    Name,
+    /// The port of entry stands in word 95 of the map, and not in 64.
+    Place,
+}
+
+/// The byte that stood there, and the one that stands there instead.
+fn values_of(byte: Byte) -> (u8, u8) {
+    match byte {
+        Byte::Start | Byte::StartInMap => (12, 11),
+        Byte::Number => (0, 1),
+        Byte::Port => (5, 4),
+        Byte::Name => (b'b', b'd'),
+        Byte::Place => (64, 95),
+    }
+}
+
+/// Whether a stage has an instruction that sets 1.
+fn sets_one(stage: &Stage) -> bool {
+    let one = Source::Constant { value: 1 };
+    for code in stage.code.as_slice() {
+        if code.ops.as_slice().iter().any(|op| op.left == one) {
+            return true;
+        }
+    }
+    false
+}
+
+/// Whether stage 1 of an image tells that a byte of it is otherwise.
+fn stage_tells(stage: &Stage, byte: Byte) -> bool {
+    match byte {
+        Byte::Start => stage.start == 11,
+        Byte::Number => sets_one(stage),
+        Byte::Port => stage.srows.as_slice().iter().any(|row| row.bits == 4),
+        Byte::StartInMap | Byte::Name | Byte::Place => false,
+    }
+}
+
+/// Whether a table of an image is named `d`.
+fn has_name(config: &Config) -> bool {
+    match &config.names {
+        Some(names) => {
+            let tables = names.tables.as_slice();
+            tables
+                .iter()
+                .any(|table| table.name.as_slice() == b"d".as_slice())
+        }
+        None => false,
+    }
+}
+
+/// Whether an image tells that a byte of it is otherwise.
+fn image_tells(config: &Config, byte: Byte) -> bool {
+    if byte == Byte::Name {
+        return has_name(config);
+    }
+    match config.stages.get(1) {
+        Some(stage) => stage_tells(stage, byte),
+        None => false,
+    }
+}
+
+/// Whether a map tells that a byte of it is otherwise.
+fn map_tells(map: &Map, byte: Byte) -> bool {
+    if byte == Byte::Place {
+        return lane_of(&map.places, 0).word == 95;
+    }
+    match map.starts.get(1) {
+        Some(start) => *start == 11,
+        None => false,
+    }
+}
+
+/// Whether bytes are an image, or a map, that tells so.
+fn tells(alloc: Global, bytes: &[u8], byte: Byte) -> bool {
+    if byte == Byte::StartInMap || byte == Byte::Place {
+        return match read_map(alloc, bytes) {
+            Ok(file) => map_tells(&file.map, byte),
+            Err(_) => false,
+        };
+    }
+    match read_image(alloc, bytes) {
+        Ok(config) => image_tells(&config, byte),
+        Err(_) => false,
+    }
+}
+
+/// Bytes with another one at a place.
+fn with_byte(alloc: Global, bytes: &[u8], at: usize, other: u8) -> Result<Vec<u8>, AllocError> {
+    let mut changed = Vec::new(alloc);
+    for (number, byte) in bytes.iter().enumerate() {
+        changed.push(if number == at { other } else { *byte })?;
+    }
+    Ok(changed)
+}
+
+/// An image, or a map, of which that byte is otherwise; the same bytes where there is none.
+fn otherwise(alloc: Global, bytes: &[u8], byte: Byte) -> Result<Vec<u8>, AllocError> {
+    let (was, other) = values_of(byte);
+    for (at, own) in bytes.iter().enumerate() {
+        if *own == was {
+            let changed = with_byte(alloc, bytes, at, other)?;
+            if tells(alloc, changed.as_slice(), byte) {
+                return Ok(changed);
+            }
+        }
+    }
+    Vec::from_slice(alloc, bytes)
+}
+
+/// Puts a file on a shelf.
+fn put(alloc: Global, shelf: &mut MemShelf, name: &str, bytes: &[u8]) -> Result<(), Fail> {
+    let name = String::from_str(alloc, name)?;
+    let bytes = Vec::from_slice(alloc, bytes)?;
+    shelf.put_file(&name, &bytes)?;
+    Ok(())
+}
+
+/// Changes a byte of the image, or of the map, on a shelf.
+fn make_otherwise(alloc: Global, shelf: &mut MemShelf, byte: Byte) -> Result<(), Fail> {
+    let name = if byte == Byte::StartInMap || byte == Byte::Place {
+        "m"
+    } else {
+        "i"
+    };
+    let key = String::from_str(alloc, name)?;
+    let changed = match shelf.file(&key) {
+        Some(bytes) => otherwise(alloc, bytes.as_slice(), byte)?,
+        None => Vec::new(alloc),
+    };
+    put(alloc, shelf, name, changed.as_slice())
+}
+
+/// What a command over a shelf prints.
+fn printed(alloc: Global, words: &[&str], shelf: &mut MemShelf) -> Result<Vec<u8>, AllocError> {
+    let mut all = Vec::new(alloc);
+    for word in words {
+        all.push(String::from_str(alloc, *word)?)?;
+    }
+    let mut out = MemSink::new(vec![in alloc; 0u64]?, 65_536);
+    let _status = rmt(alloc, &all, shelf, &mut out);
+    Vec::from_slice(alloc, out.bytes().as_slice())
+}
+
+/// What `verify` prints of what `compile` wrote, with these bytes otherwise.
+fn verified(alloc: Global, bytes: &[Byte]) -> Result<Vec<u8>, Fail> {
+    let mut shelf = MemShelf::new(vec![in alloc; 0u64]?, 65_536);
+    put(alloc, &mut shelf, "p", STRICT_AND_WEAK)?;
+    put(alloc, &mut shelf, "e", b"b 7 go 5\n")?;
+    printed(alloc, &["compile", "p", "e", "i", "m"], &mut shelf)?;
+    for byte in bytes {
+        make_otherwise(alloc, &mut shelf, *byte)?;
+    }
+    Ok(printed(alloc, &["verify", "p", "e", "i", "m"], &mut shelf)?)
+}
+
+/// What is otherwise, and what is told: the first part that fails.
+const OTHERWISE: [(&[Byte], &str); 15] = [
+    (&[], "yes\n"),
+    (&[Byte::Place], "no 1\n"),
+    (&[Byte::Start], "no 3\n"),
+    (&[Byte::StartInMap], "no 3\n"),
+    (&[Byte::Port], "no 4\n"),
+    (&[Byte::Number], "no 5\n"),
+    (&[Byte::Start, Byte::StartInMap], "no 6\n"),
+    (&[Byte::Name], "no 7\n"),
+    // two parts at once
+    (&[Byte::Start, Byte::Place], "no 1\n"),
+    (&[Byte::Name, Byte::Place], "no 1\n"),
+    (&[Byte::Port, Byte::Start], "no 3\n"),
+    (&[Byte::Number, Byte::Port], "no 4\n"),
+    (&[Byte::Start, Byte::StartInMap, Byte::Port], "no 4\n"),
+    (&[Byte::Start, Byte::StartInMap, Byte::Number], "no 5\n"),
+    (&[Byte::Start, Byte::StartInMap, Byte::Name], "no 6\n"),
+];
+
+#[test]
+fn otherwise_than_compiled(rt: HostRuntime) -> Result<(), Fail> {
+    for (number, (bytes, wanted)) in OTHERWISE.iter().enumerate() {
+        let told = verified(rt.alloc(), bytes)?;
+        assert!(rt; told.as_slice() == wanted.as_bytes(), "row {number}");
     }
     Ok(())
 }

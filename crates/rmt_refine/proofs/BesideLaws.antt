@@ -10,6 +10,7 @@ use Rattle.std.proofs.lemmas.Slice.Zip.{AllZip-long}
 use Rattle.std.proofs.Math.Nat.{mod-eq_of_lt, pow-le-pow_right}
 use Rattle.rmt_bits.specs.Bits.{deposit}
 use Rattle.rmt_bits.proofs.BitLaws.{deposit-multiple, parts-lt}
+use Rattle.rmt_ast.specs.EntryLists.{IsWhole}
 use Rattle.rmt_ast.specs.WellFormed.{Fits, IsTest}
 use Rattle.rmt_config.specs.Rooms.{args_as_one, tests_as_one}
 use Rattle.rmt_refine.specs.Types.{Test}
@@ -158,3 +159,25 @@ args-step n n' whole above total ws vs at there fit room within small value is =
       subst (λ m. m < 2 ^ (pos + w)) (sym n'_is) (args-small n pos w a small lt),
       ap (λ m. m + 2 ^ (pos + w) * args_as_one (drop (suc at) ws) (drop (suc at) vs)) n'_is ∙ args-value n pos w a (args_as_one (drop (suc at) ws) (drop (suc at) vs)) total small value',
     ))
+
+-- ---- masks
+
+-- masks of all bits are a mask of all bits
+pub whole_mask : (ws : List ℕ) (ts : List Test) → AllZip IsWhole ws ts → tests_as_one (λ test. test.mask) ws ts ≡ 2 ^ sum ws - 1
+whole_mask [] [] all = refl
+whole_mask [] (t ∷ ts) all = absurd all
+whole_mask (w ∷ ws) [] all = absurd all
+whole_mask (w ∷ ws) (t ∷ ts) all =
+    let size : 2 ^ sum (w ∷ ws) ≡ 2 ^ w * 2 ^ sum ws = ap (λ (n : ℕ). 2 ^ n) (sum_by-cons (λ x. x) w ws) ∙ pow-add 2 w (sum ws) in
+    ap (λ n. n * 2 ^ sum ws + tests_as_one (λ test. test.mask) ws ts) all.0
+    ∙ ap (λ n. (2 ^ w - 1) * 2 ^ sum ws + n) (whole_mask ws ts all.1)
+    ∙ joined (2 ^ w) (2 ^ sum ws) (pow_pos w) (pow_pos (sum ws)) ∙ ap (λ n. n - 1) (sym size)
+  where
+    joined : (a b : ℕ) → 0 < a → 0 < b → (a - 1) * b + (b - 1) ≡ a * b - 1
+    joined (suc a) (suc b) la lb =
+        let one : suc a - 1 ≡ a = omega arith in
+        let two : suc b - 1 ≡ b = omega arith in
+        let spread : suc a * suc b ≡ a * suc b + suc b = omega arith in
+        ap (λ n. n * suc b + (suc b - 1)) one ∙ omega (arith, spread)
+    joined (suc a) zero la lb = absurd (omega (arith, lb))
+    joined zero b la lb = absurd (omega (arith, la))

@@ -52,7 +52,7 @@ full_code i lt = omega (arith, lt)
 
 -- ---- its entries in their rooms
 
-room_there : (c : Config) (seed : ℕ) (t : Terms) (k : Kind) (es : List Entry) (e : Entry) (room : Room) → IsFilled c seed t k es e room → Contains (rooms_for c seed e.table (key_number t e)) room
+pub room_there : (c : Config) (seed : ℕ) (t : Terms) (k : Kind) (es : List Entry) (e : Entry) (room : Room) → IsFilled c seed t k es e room → Contains (rooms_for c seed e.table (key_number t e)) room
 room_there c seed t kind.Keyless es e room h = absurd h
 room_there c seed t kind.Exact es e room h = h
 room_there c seed t kind.Prefix es e room h = Contains-item (rooms_for c seed e.table (key_number t e)) (count_by (λ f. goes_first kind.Prefix f e) es) room h

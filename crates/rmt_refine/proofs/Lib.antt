@@ -32,8 +32,8 @@ pub mod BeginLaws
 pub mod EndLaws
 pub mod PacketLaws
 pub mod RefinedLaws
-mod VisibleBitLaws
-mod PlacedLaws
+pub mod VisibleBitLaws
+pub mod PlacedLaws
 pub mod RoomLaws
 pub mod ContentLaws
 mod UnseenLaws
@@ -42,7 +42,7 @@ mod OneStateLaws
 pub mod EntryLaws
 mod StandLaws
 mod KeptLaws
-mod FilledLaws
+pub mod FilledLaws
 mod StartLaws
 pub mod NamedLaws
 mod InputLaws
@@ -50,7 +50,7 @@ mod MetLaws
 mod HitNumberLaws
 mod RunNumberLaws
 mod EventRunLaws
-mod ShortLaws
+pub mod ShortLaws
 mod RunStateLaws
 pub mod SpelledFieldLaws
 pub mod SpelledRankLaws
@@ -60,6 +60,7 @@ pub mod SpelledLaws
 pub mod FitLaws
 pub mod RoomOrderLaws
 pub mod BesideLaws
+pub mod LayoutLaws
 mod RefinedExamples
 mod Examples
 mod TwoStages

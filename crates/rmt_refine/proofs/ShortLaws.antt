@@ -83,7 +83,7 @@ still_there x z (y ∷ ys) other there = by (y == x) refl (still_there x z ys ot
     ]
 
 -- numbers of which none stands twice are at most as many as those that they are among
-at_most : (xs ys : List ℕ) → AllPairs ◌≢◌ xs → All (Contains ys) xs → length xs ≤ length ys
+pub at_most : (xs ys : List ℕ) → AllPairs ◌≢◌ xs → All (Contains ys) xs → length xs ≤ length ys
 at_most [] ys apart all = omega arith
 at_most (x ∷ xs) ys apart all =
     let own = All-head (Contains ys) x xs all in

@@ -41,7 +41,7 @@ table_entries p lists n t es entries at list =
     ∙ ap (option_map (λ (x : Node). terms_at p x.what)) node.1 ∙ ap Some (its_terms p node.0.what t node.2) in
     and_at (slice_get (map (λ (x : Node). terms_at p x.what) p.nodes) n) (AreEntriesAt n es) (Some (terms_of p t)) terms (entries.each n es list)
 
-key_fields : (p : Program) (kd : Kind) (t : Table) → HasKey p kd t → All (λ f. f < length p.fields) t.key
+pub key_fields : (p : Program) (kd : Kind) (t : Table) → HasKey p kd t → All (λ f. f < length p.fields) t.key
 key_fields p kind.Keyless t has = subst (All (λ f. f < length p.fields)) (sym has.key) (All-nil (λ f. f < length p.fields))
 key_fields p kind.Exact t has = has.key_fields
 key_fields p kind.Prefix t has = has.0.key_fields

@@ -1,7 +1,9 @@
 //! Messages for people, each as it is printed: for mistakes in programs, entries, packets, words and images, for programs that
 //! don't fit, and for what a program that compiled can't mean.
 
+mod codes;
 mod entries;
+mod limits;
 mod others;
 mod programs;
 mod warnings;

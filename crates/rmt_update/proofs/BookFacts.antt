@@ -41,23 +41,9 @@ use Rattle.rmt_update.proofs.ShapeLaws.{cells-are}
 use Rattle.rmt_update.proofs.SightLaws.{seen-as-packets}
 use Rattle.rmt_update.proofs.TableRules.{Own, all-rows, own-table}
 use Rattle.rmt_update.proofs.ToldEntryLaws.{PartFacts}
+use Rattle.rmt_update.proofs.ZipLaws.{zip-right}
 
 -- ---- lists beside lists
-
--- the item beside one
-pub zip-beside : {X Y : Type 0} (R : X → Y → Type 0) (xs : List X) (ys : List Y) (i : ℕ) (y : Y) → AllZip R xs ys → slice_get ys i ≡ Some y → (x : X) × (slice_get xs i ≡ Some x) × R x y
-zip-beside R [] [] i y zip at = absurd (none-some y at)
-zip-beside R [] (z ∷ ys) i y zip at = absurd zip
-zip-beside R (x ∷ xs) [] i y zip at = absurd zip
-zip-beside R (x ∷ xs) (z ∷ ys) zero y zip at = (x, refl, subst (R x) (same_Some z y at) zip.0)
-zip-beside R (x ∷ xs) (z ∷ ys) (suc i) y zip at = zip-beside R xs ys i y zip.1 at
-
-pub zip-beside_left : {X Y : Type 0} (R : X → Y → Type 0) (xs : List X) (ys : List Y) (i : ℕ) (x : X) → AllZip R xs ys → slice_get xs i ≡ Some x → (y : Y) × (slice_get ys i ≡ Some y) × R x y
-zip-beside_left R [] [] i x zip at = absurd (none-some x at)
-zip-beside_left R [] (z ∷ ys) i x zip at = absurd zip
-zip-beside_left R (z ∷ xs) [] i x zip at = absurd zip
-zip-beside_left R (z ∷ xs) (y ∷ ys) zero x zip at = (y, refl, subst (λ w. R w y) (same_Some z x at) zip.0)
-zip-beside_left R (z ∷ xs) (y ∷ ys) (suc i) x zip at = zip-beside_left R xs ys i x zip.1 at
 
 pub zip-shapes : (cells : RunCells) (ps : List PartAt) (xs : List PartCells) → AllZip (HoldsPart cells) ps xs → AllZip HasShape ps xs
 zip-shapes cells [] [] zip = tt
@@ -122,7 +108,7 @@ module _ (c : Config) (names : Names) (cells : RunCells) (lists : List (List Ent
   pub spot-facts : (s : BookSpot) (at : IsBookSpot tables s) → SpotFacts s at
   spot-facts s at =
       let ps = parts_of c at.table.name.node in
-      let beside = zip-beside (HoldsPart cells) ps at.table.parts.items s.at.part at.part (holds-there s.table at.table at.in_tables) at.in_parts in
+      let beside = zip-right (HoldsPart cells) ps at.table.parts.items s.at.part at.part (holds-there s.table at.table at.in_tables) at.in_parts in
       let size = cells-are beside.0.slot at.part.shape beside.2.shape in
       let less = at.within in
       let node : node_at tables s.table ≡ at.table.name.node = ap (λ (o : Option TableCells). unwrap_or (option_map (λ (t : TableCells). t.name.node) o) 0) at.in_tables in

@@ -27,6 +27,7 @@ use Rattle.rmt_update.proofs.ListedNumbers.{entries-have}
 use Rattle.rmt_update.proofs.OwnNumbers.{own-numbers}
 use Rattle.rmt_update.proofs.PartHoldLaws.{part-holds}
 use Rattle.rmt_update.proofs.ToldEntryLaws.{PartFacts, all-facts, parts-told}
+use Rattle.rmt_refine.proofs.LayoutLaws.{memory_formed}
 
 -- ---- what the rules say of tables
 
@@ -62,14 +63,11 @@ table-facts c names formed named =
 pub named-facts : (c : Config) (names : Names) → Formed c → c.names ≡ Some names → (i : ℕ) (t : TableName) → i < length names.tables → t ≡ get_or names.tables i t → TableFacts c t
 named-facts c names formed named i t lt at = subst (TableFacts c) (sym at) (table-facts c names formed named i t lt)
 
-pub memory-of : (c : Config) → Formed c → MemoryIsFormed c
-memory-of c formed = record { rows = formed.whole.rows; tables = formed.whole.tables; memory = formed.whole.memory }
-
 -- ---- one table
 
 module _ (c : Config) (formed : Formed c) (named : visible_with c.names ≡ 3) (t : TableName) (facts : TableFacts c t) where
   part-facts : All (PartFacts c t) (parts_of c t.node)
-  part-facts = all-facts c t (parts_of c t.node) (parts-stand c t.node formed.items (memory-of c formed)) (parts-follow c t.node (memory-of c formed))
+  part-facts = all-facts c t (parts_of c t.node) (parts-stand c t.node formed.items (memory_formed c formed)) (parts-follow c t.node (memory_formed c formed))
       (and_parts _ _ facts.parts).1 facts.bits
 
   parts-hold : (ps : List PartAt) (xs : List PartCells) → AllZip (IsListed c t) ps xs → All (PartFacts c t) ps → list_all (stands_in_candidates c) ps ≡ true → AllZip (HoldsPart (own_cells c)) ps xs
@@ -152,7 +150,7 @@ stands-at-first c names b formed named zip odd seed nodes =
       version = odd;
       seed = seed;
       tables = all-hold c formed three names.tables b.tables.items zip all;
-      numbers = own-numbers c (memory-of c formed) formed.whole.numbers;
+      numbers = own-numbers c (memory_formed c formed) formed.whole.numbers;
       readable = subst (λ o. All (IsReadable o) b.tables.items) (sym odd) (all-readable c formed three names.tables b.tables.items zip all);
       lists =
           ap (λ (f : ℕ → List Entry). map f (range_with_len 0 (node_count_of c)))

@@ -32,13 +32,14 @@ use Rattle.rmt_update.specs.Moved.{with_parts}
 use Rattle.rmt_update.specs.Refill.{IsMoved}
 use Rattle.rmt_update.specs.Seen.{IsReadable, entries_at, entries_by_part, entries_seen}
 use Rattle.rmt_update.specs.Spots.{placed_from}
-use Rattle.rmt_update.proofs.CellsFound.{are-tables, found-node, nodes-rise, table-holds as was-holds, zip-length, zip-made}
+use Rattle.rmt_update.proofs.CellsFound.{are-tables, found-node, nodes-rise, table-holds as was-holds}
 use Rattle.rmt_update.proofs.DifferenceLaws.{NextHolds}
 use Rattle.rmt_update.proofs.FirstLaws.{map-twice}
 use Rattle.rmt_update.proofs.MovedLaws.{table-holds, told-by-number, told-has_order, told-numbers}
 use Rattle.rmt_update.proofs.OncePlaced.{all-numbers, at-place, found-in, one-key}
 use Rattle.rmt_update.proofs.SpotsFit.{node-within}
 use Rattle.rmt_update.proofs.TableRules.{entries-at, own-table, terms-found}
+use Rattle.rmt_update.proofs.ZipLaws.{zip-length, zip-made}
 
 -- ---- tables with other parts
 

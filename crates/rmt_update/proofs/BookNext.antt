@@ -20,11 +20,12 @@ use Rattle.rmt_update.specs.Placing.{ArePlaced}
 use Rattle.rmt_update.specs.Planned.{MayChange, changed_lists}
 use Rattle.rmt_update.specs.Seen.{IsReadable, entries_seen}
 use Rattle.rmt_update.specs.Turning.{AreNext, IsSameTable}
-use Rattle.rmt_update.proofs.CellsFound.{found-node, nodes-rise, zip-right}
+use Rattle.rmt_update.proofs.CellsFound.{found-node, nodes-rise}
 use Rattle.rmt_update.proofs.NextLists.{lists-next, numbers-here}
 use Rattle.rmt_update.proofs.NextNumbers.{numbers-next}
 use Rattle.rmt_update.proofs.NextOrder.{order-here}
 use Rattle.rmt_update.proofs.NextTables.{tables-next}
+use Rattle.rmt_update.proofs.ZipLaws.{zip-right}
 
 same-named : (ts us : List TableCells) → AllZip IsSameTable ts us → map (λ (t : TableCells). t.name) ts ≡ map (λ (t : TableCells). t.name) us
 same-named [] [] zip = refl

@@ -42,34 +42,9 @@ use Rattle.rmt_update.proofs.PartOrder.{IsPartOf, Rises, never-rises, pair-at, p
 use Rattle.rmt_update.proofs.ShapeLaws.{cells-are}
 use Rattle.rmt_update.proofs.TableRules.{Own, own-table}
 use Rattle.rmt_update.proofs.ToldEntryLaws.{PartFacts}
+use Rattle.rmt_update.proofs.ZipLaws.{zip-left, zip-right}
 
 -- ---- lists beside lists
-
-pub zip-left : {X Y : Type 0} (R : X → Y → Type 0) (xs : List X) (ys : List Y) (i : ℕ) (x : X) → AllZip R xs ys → slice_get xs i ≡ Some x → (y : Y) × (slice_get ys i ≡ Some y) × R x y
-zip-left R [] [] i x zip at = absurd (none-some x at)
-zip-left R [] (y ∷ ys) i x zip at = absurd zip
-zip-left R (z ∷ xs) [] i x zip at = absurd zip
-zip-left R (z ∷ xs) (y ∷ ys) zero x zip at = (y, refl, subst (λ w. R w y) (same_Some z x at) zip.0)
-zip-left R (z ∷ xs) (y ∷ ys) (suc i) x zip at = zip-left R xs ys i x zip.1 at
-
-pub zip-right : {X Y : Type 0} (R : X → Y → Type 0) (xs : List X) (ys : List Y) (i : ℕ) (y : Y) → AllZip R xs ys → slice_get ys i ≡ Some y → (x : X) × (slice_get xs i ≡ Some x) × R x y
-zip-right R [] [] i y zip at = absurd (none-some y at)
-zip-right R [] (w ∷ ys) i y zip at = absurd zip
-zip-right R (z ∷ xs) [] i y zip at = absurd zip
-zip-right R (z ∷ xs) (w ∷ ys) zero y zip at = (z, refl, subst (R z) (same_Some w y at) zip.0)
-zip-right R (z ∷ xs) (w ∷ ys) (suc i) y zip at = zip-right R xs ys i y zip.1 at
-
-pub zip-length : {X Y : Type 0} (R : X → Y → Type 0) (xs : List X) (ys : List Y) → AllZip R xs ys → length xs ≡ length ys
-zip-length R [] [] zip = refl
-zip-length R [] (w ∷ ys) zip = absurd zip
-zip-length R (z ∷ xs) [] zip = absurd zip
-zip-length R (z ∷ xs) (w ∷ ys) zip = ap suc (zip-length R xs ys zip.1)
-
-pub zip-made : {X Y : Type 0} (R : X → Y → Type 0) (xs : List X) (ys : List Y) → length xs ≡ length ys → ((i : ℕ) (x : X) (y : Y) → slice_get xs i ≡ Some x → slice_get ys i ≡ Some y → R x y) → AllZip R xs ys
-zip-made R [] [] same each = tt
-zip-made R [] (w ∷ ys) same each = absurd (omega (arith, same))
-zip-made R (z ∷ xs) [] same each = absurd (omega (arith, same))
-zip-made R (z ∷ xs) (w ∷ ys) same each = (each 0 z w refl refl, zip-made R xs ys (omega (arith, same)) (λ i x y. each (suc i) x y))
 
 -- ---- the nodes of tables rise
 
@@ -106,12 +81,12 @@ found-node (x ∷ ts) (suc i) t rises at =
 -- ---- the slots of a configuration
 
 -- the part of a slot
-record IsPartThere (k at : ℕ) (s : SlotUnit) (ps : List PartAt) : Type 0 where
-  part : PartAt
-  there : Contains ps part
-  stage : part.stage ≡ k
-  place : part.place ≡ at
-  slot : part.slot ≡ s
+pub record IsPartThere (k at : ℕ) (s : SlotUnit) (ps : List PartAt) : Type 0 where
+  pub part : PartAt
+  pub there : Contains ps part
+  pub stage : part.stage ≡ k
+  pub place : part.place ≡ at
+  pub slot : part.slot ≡ s
 
 among-there : (k : ℕ) (units : List Unit) (at first i : ℕ) (s : SlotUnit) → slice_get units i ≡ Some (Slot s) → IsPartThere k (at + i) s (parts_among s.node k at first units)
 among-there k [] at first i s is = absurd (none-some (Slot s) is)
@@ -150,7 +125,7 @@ numbered-there (y ∷ xs) a (suc i) x is =
     let one : a + 1 + i ≡ a + suc i = omega arith in
     subst (λ n. Contains ((a, y) ∷ enumerate_from (a + 1) xs) (n, x)) one (Contains-later (a, y) (enumerate_from (a + 1) xs) (a + 1 + i, x) (numbered-there xs (a + 1) i x is))
 
-part-there : (c : Config) (k place : ℕ) (s : SlotUnit) → slot_at c k place ≡ Some s → IsPartThere k place s (parts_of c s.node)
+pub part-there : (c : Config) (k place : ℕ) (s : SlotUnit) → slot_at c k place ≡ Some s → IsPartThere k place s (parts_of c s.node)
 part-there c k place s at =
     let st = standing c k place s at in
     let h = among-there k st.stage.units 0 0 place s st.in_units in
@@ -165,7 +140,7 @@ part-there c k place s at =
     }
 
 -- a slot is among the units
-units-there : (stages : List Stage) (a i : ℕ) (stage : Stage) (u : Unit) → slice_get stages i ≡ Some stage → Contains stage.units u → Contains (placed_from a stages) (record { stage = a + i; unit = u })
+pub units-there : (stages : List Stage) (a i : ℕ) (stage : Stage) (u : Unit) → slice_get stages i ≡ Some stage → Contains stage.units u → Contains (placed_from a stages) (record { stage = a + i; unit = u })
 units-there [] a i stage u is there = absurd (none-some stage is)
 units-there (x ∷ stages) a zero stage u is there =
     let none : a ≡ a + 0 = omega arith in
@@ -178,7 +153,7 @@ units-there (x ∷ stages) a (suc i) stage u is there =
     subst (λ n. Contains (placed_from a (x ∷ stages)) (record { stage = n; unit = u })) one
     (Contains-append_right (map (λ (v : Unit). record { stage = a; unit = v }) x.units) (placed_from (a + 1) stages) (record { stage = a + 1 + i; unit = u }) (units-there stages (a + 1) i stage u is there))
 
-has-cells : (m : Memory) (n : ℕ) → n < cells_in m → has_memory m ≡ true
+pub has-cells : (m : Memory) (n : ℕ) → n < cells_in m → has_memory m ≡ true
 has-cells Without n lt = absurd (omega (arith, lt))
 has-cells (Exact k p d w ks rs cs) n lt = refl
 has-cells (Ternary d ks rs cs) n lt = refl

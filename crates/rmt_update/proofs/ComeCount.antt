@@ -17,8 +17,8 @@ use Rattle.rmt_update.specs.declared.lists.Changes.{Changes}
 use Rattle.rmt_update.specs.Come.{AreOrdered, IsRunOf, Run}
 use Rattle.rmt_update.specs.Placing.{ArePlaced, TakesCell}
 use Rattle.rmt_update.proofs.BookFacts.{nodes-rising}
-use Rattle.rmt_update.proofs.CellsFound.{zip-length}
 use Rattle.rmt_update.proofs.ComeLaws.{come-is}
+use Rattle.rmt_update.proofs.ZipLaws.{zip-length}
 
 -- the entries of a node, and those of all others
 abbrev of_node : ℕ → Entry → Bool

@@ -26,8 +26,9 @@ use Rattle.rmt_update.specs.Running.{is_among}
 use Rattle.rmt_update.proofs.BookFacts.{book-tables, nodes-rising}
 use Rattle.rmt_update.proofs.ByNumberLaws.{by_number-filter, by_number-rising, to-by_number}
 use Rattle.rmt_update.proofs.NodeLists.{filter-flat, flat-map, flat-numbered, over-nodes}
-use Rattle.rmt_update.proofs.StayLaws.{come-unnumbered, count-after, node-low, numbered}
+use Rattle.rmt_update.proofs.StayLaws.{come-unnumbered, count-after, node-low}
 use Rattle.rmt_update.proofs.TableRules.{entries-at, terms-found}
+use Rattle.rmt_refine.proofs.EntryLaws.{is_numbered}
 
 -- a list with nothing in it
 none-in : {X : Type 0} (xs : List X) → ((x : X) → Contains xs x → ⊥) → xs ≡ []
@@ -62,7 +63,7 @@ module _ (w : Run) (b : Book) (ch : Changes) (run : IsRunOf b ch w) (ordered : A
   new-listed : (es : List Entry) (n : ℕ) → ((e : Entry) → Contains es e → Contains (all_entries w.lists) e) → filter new (changed_list ch (n, es)) ≡ own n
   new-listed es n old =
       let none : filter new (left es) ≡ [] =
-      filter_none new (left es) (λ i d lt. ap not (numbered (all_entries w.lists) (get_or (left es) i d) (old (get_or (left es) i d) (Contains-unfilter (λ (e : Entry). not (is_among ch.gone e.number)) es (get_or (left es) i d) (Contains-get_or (left es) i d lt)).0))) in
+      filter_none new (left es) (λ i d lt. ap not (is_numbered (all_entries w.lists) (get_or (left es) i d) (old (get_or (left es) i d) (Contains-unfilter (λ (e : Entry). not (is_among ch.gone e.number)) es (get_or (left es) i d) (Contains-get_or (left es) i d lt)).0))) in
       let all : filter new (own n) ≡ own n =
       filter_all new (own n) (λ i d lt. ap not (come-unnumbered w b ch run ordered (get_or (own n) i d) (Contains-unfilter (λ (e : Entry). n == e.table) ch.come (get_or (own n) i d) (Contains-get_or (own n) i d lt)).0)) in
       by_number-filter new (left es ++ own n) ∙ ap by_number (filter-append new (left es) (own n) ∙ ap (λ xs. xs ++ filter new (own n)) none ∙ all)

@@ -27,15 +27,19 @@ use Rattle.rmt_update.specs.declared.book.Book.{Book}
 use Rattle.rmt_update.specs.declared.book.kept.Kept.{Kept}
 use Rattle.rmt_update.specs.declared.book.table.PartCells.{PartCells}
 use Rattle.rmt_update.specs.declared.book.table.TableCells.{TableCells}
-use Rattle.rmt_update.specs.BookStands.{BookStands, HoldsPart}
+use Rattle.rmt_update.specs.BookStands.{BookStands, HoldsPart, IsKeptOf}
 use Rattle.rmt_update.specs.Changing.{ChangeKey, change_key}
-use Rattle.rmt_update.specs.Differences.{AreDifferences, Goal, IsGoal, all_pairs, change_by, change_in, is_exact, pairs_of}
-use Rattle.rmt_update.proofs.CellsFound.{found, nodes-rise, one-node, own_tables, table-holds, table-own, zip-left, zip-right}
+use Rattle.rmt_update.specs.Coming.{empty_write, kept_write}
+use Rattle.rmt_update.specs.Differences.{AreDifferences, Goal, IsGoal, all_pairs, change_by, change_in, is_exact, is_same_kept, pairs_of}
+use Rattle.rmt_update.specs.Kept.{AreBytesOf}
+use Rattle.rmt_update.specs.Planned.{HasLengths}
+use Rattle.rmt_update.proofs.CellsFound.{found, nodes-rise, one-node, own_tables, table-holds, table-own}
 use Rattle.rmt_update.proofs.DiffLaws.{CellTurns, TurnsBy, are-writes}
 use Rattle.rmt_update.proofs.OncePlaced.{found-in, part-once}
 use Rattle.rmt_update.proofs.PartOrder.{IsPartOf}
 use Rattle.rmt_update.proofs.PutChanges.{zip-at}
 use Rattle.rmt_update.proofs.SameKept.{change-turns}
+use Rattle.rmt_update.proofs.ZipLaws.{zip-left, zip-right}
 
 -- ---- pairs
 
@@ -168,6 +172,58 @@ module _ (c : Config) (cells : RunCells) (lists : List (List Entry)) (b : Book) 
             let place : at.part.place ≡ w.unit = sym at.is.place ∙ eqb-true p.1.place w.unit own.1 in
             subst (λ k. IsCell c k w.unit w.cell) stage
             (subst (λ k. IsCell c at.part.stage k w.cell) place (subst (λ (o : Option SlotUnit). IsSomeAnd o (λ slot. w.cell < cells_in slot.memory)) (sym at.own.slot) lt))
+
+    -- ---- each has the bytes of its slot
+
+    bytes-by : (x y : PartCells) (n : ℕ) (part : PartAt) (w : CellWrite) → HoldsPart (with_version next seed) part y → n < cells_in part.slot.memory → slot_at c w.stage w.unit ≡ Some part.slot → change_in x y n ≡ Some w → HasLengths c w
+    bytes-by x y n part w is lt there change = by (get nat_cmp x.cells n) (get nat_cmp y.cells n) refl change
+      where
+        emptied : empty_write y.stage y.place n ≡ w → HasLengths c w
+        emptied same = record {
+          slot = part.slot;
+          there = there;
+          visible = subst (λ (v : CellWrite). v.visible < 4) same (omega arith);
+          bytes = λ some. absurd (some (sym (ap (λ (v : CellWrite). v.visible) same)));
+        }
+
+        kept : (k : Kept) → get nat_cmp y.cells n ≡ Some k → kept_write y.stage y.place k.visible k ≡ w → HasLengths c w
+        kept k e same =
+            let run = with_version next seed in
+            let h = subst (IsKeptOf seed part (run.content part.stage part.place n) (record { cell = n; number = run.number part.stage part.place n })) e (is.each n lt) in
+            let visible = h.1.visible in
+            record {
+              slot = part.slot;
+              there = there;
+              visible = subst (λ (v : CellWrite). v.visible < 4) same (omega (arith, visible));
+              bytes = λ some. subst (λ (v : CellWrite). AreBytesOf part.slot v.key v.mask v.held) same (is.bytes n k e);
+            }
+
+        changed : (b : Bool) (k : Kept) → get nat_cmp y.cells n ≡ Some k → cond b None (Some (kept_write y.stage y.place k.visible k)) ≡ Some w → HasLengths c w
+        changed true k e h = absurd (none-some w h)
+        changed false k e h = kept k e (same_Some (kept_write y.stage y.place k.visible k) w h)
+
+        by : (o o2 : Option Kept) → get nat_cmp y.cells n ≡ o2 → change_by (is_exact y.shape.grid) y.stage y.place n o o2 ≡ Some w → HasLengths c w
+        by None None e h = absurd (none-some w h)
+        by (Some j) None e h = emptied (same_Some (empty_write y.stage y.place n) w h)
+        by None (Some k) e h = kept k e (same_Some (kept_write y.stage y.place k.visible k) w h)
+        by (Some j) (Some k) e h = changed (is_same_kept (is_exact y.shape.grid) j k) k e h
+
+    lengths-of : (w : CellWrite) → goal (change_key w) ≡ Some w → HasLengths c w
+    unfolding goal goal_of
+    lengths-of w is = by (find (is_place w.stage w.unit) (all_pairs b.tables.items moved)) refl is
+      where
+        by : (o : Option (PartCells × PartCells)) → find (is_place w.stage w.unit) (all_pairs b.tables.items moved) ≡ o → goal_of o w.cell ≡ Some w → HasLengths c w
+        by None e h = absurd (none-some w h)
+        by (Some p) e h =
+            let at = pair-of p (found-in (is_place w.stage w.unit) (all_pairs b.tables.items moved) p e) in
+            let own = and_parts (p.1.stage == w.stage) (p.1.place == w.unit) (find-passes (is_place w.stage w.unit) (all_pairs b.tables.items moved) p e) in
+            let lt = some-kept p.0 p.1 w.cell at.part w at.was at.is h in
+            let stage : at.part.stage ≡ w.stage = sym at.is.stage ∙ eqb-true p.1.stage w.stage own.0 in
+            let place : at.part.place ≡ w.unit = sym at.is.place ∙ eqb-true p.1.place w.unit own.1 in
+            bytes-by p.0 p.1 w.cell at.part w at.is lt (ap (λ k. slot_at c k w.unit) (sym stage) ∙ ap (slot_at c at.part.stage) (sym place) ∙ at.own.slot) h
+
+    pub writes-sized : All (HasLengths c) writes
+    writes-sized = All-weaker (λ (w : CellWrite). goal (change_key w) ≡ Some w) (HasLengths c) lengths-of writes are.each
 
     -- ---- each cell turns
 

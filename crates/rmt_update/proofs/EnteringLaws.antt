@@ -14,7 +14,7 @@ use Rattle.rmt_update.specs.declared.book.spot.BookSpot.{BookSpot}
 use Rattle.rmt_update.specs.declared.book.spots.Spot.{Spot}
 use Rattle.rmt_update.specs.declared.book.table.PartCells.{PartCells}
 use Rattle.rmt_update.specs.Turning.{ArePut, AreStill, IsPut, IsStill, IsThere, cell_at, come_to, is_spot, moved_at}
-use Rattle.rmt_update.proofs.CellsFound.{zip-left, zip-length}
+use Rattle.rmt_update.proofs.ZipLaws.{zip-left, zip-length}
 
 pub on_ok-weaker : {A E : Type 0} (r : Result A E) (P Q : Type 0) → (P → Q) → OnOk r P → OnOk r Q
 on_ok-weaker (Ok x) P Q f p = f p

@@ -40,9 +40,10 @@ use Rattle.rmt_update.proofs.CellsFound.{found, kept-is, one-spot, spot-part}
 use Rattle.rmt_update.proofs.DifferLaws.{bits-same}
 use Rattle.rmt_update.proofs.KeptContent.{content-is, kept_content, kept_number, number-is}
 use Rattle.rmt_update.proofs.NextNumbers.{new, entry-comes, old-used, same-cell}
-use Rattle.rmt_update.proofs.PairsTold.{All-members, there-cell}
+use Rattle.rmt_update.proofs.PairsTold.{there-cell}
 use Rattle.rmt_update.proofs.SettledKept.{kept-next, left-stays, next_at, old-kept}
 use Rattle.rmt_update.proofs.SettledPlaces.{ComesTo, NoneComes, come-or-not, none-come}
+use Rattle.rmt_refine.proofs.WrittenLaws.{all_at}
 
 before-differs : (a b : CellWrite) → writes_before a b ≡ true → a.stage ≡ b.stage → a.unit ≡ b.unit → a.cell ≡ b.cell → ⊥
 before-differs a b h stage unit cell = by (nat_lt a.stage b.stage) refl (a.stage == b.stage) (nat_lt a.unit b.unit) refl (a.unit == b.unit) (nat_lt a.cell b.cell) refl h
@@ -200,7 +201,7 @@ module _ (c : Config) (names : Names) (cells : RunCells) (lists : List (List Ent
   numbers-apart (w ∷ ws) all order =
       let own = All-head IsCause w ws all in
       AllPairs-cons (λ (a b : ℕ). a ≢ b) own.n (numbers_of ws (All-tail IsCause w ws all))
-      (All-members (λ (m : ℕ). own.n ≢ m) (numbers_of ws (All-tail IsCause w ws all)) (λ m there same.
+      (all_at (λ (m : ℕ). own.n ≢ m) (numbers_of ws (All-tail IsCause w ws all)) (λ m there same.
       let r = from-numbers ws (All-tail IsCause w ws all) m there in
       let before = All-contains (λ v. writes_before w v ≡ true) ws r.0 (AllPairs-head (λ a b. writes_before a b ≡ true) w ws order) r.1 in
       let cell = same-place w r.0 own r.2 (one-says own.s r.2.s own.at r.2.at own.n r.2.n own.says r.2.says (same ∙ sym r.3)) in

@@ -46,7 +46,7 @@ use Rattle.rmt_update.specs.RowOrder.{AreInOrder, entry_key}
 use Rattle.rmt_update.specs.Running.{is_among}
 use Rattle.rmt_update.specs.Seen.{IsReadable, entries_by_part}
 use Rattle.rmt_update.specs.Told.{told_entry}
-use Rattle.rmt_update.proofs.BookFacts.{found-there, holds-there, kept-facts, own-there, spot-facts, zip-beside_left, zip-shapes}
+use Rattle.rmt_update.proofs.BookFacts.{found-there, holds-there, kept-facts, own-there, spot-facts, zip-shapes}
 use Rattle.rmt_update.proofs.FreeLaws.{kept-bit}
 use Rattle.rmt_update.proofs.NamedLaws.{keys-low}
 use Rattle.rmt_update.proofs.PartOrder.{IsPartOf, nodes-apart, same-as}
@@ -59,6 +59,7 @@ use Rattle.rmt_update.proofs.RowsStand.{IsLow, RowsStand, never-less}
 use Rattle.rmt_update.proofs.ShapeLaws.{cells-are}
 use Rattle.rmt_update.proofs.StayLaws.{stay-in_after, stay_placed}
 use Rattle.rmt_update.proofs.TableRules.{Own, entries-at}
+use Rattle.rmt_update.proofs.ZipLaws.{zip-left}
 
 -- ---- the ranks of entries
 
@@ -221,7 +222,7 @@ module _ (w : Run) (b : Book) (ch : Changes) (run : IsRunOf b ch w) (ordered : A
           let lt = slice_get_within (rows_of x.parts.items) i (Some k) row in
           let long = rows-long parts x.parts.items shapes in
           let r = numbered-row parts i (omega (arith, lt, long)) in
-          let y = zip-beside_left (HoldsPart w.cells) parts x.parts.items r.at r.p holds r.is.there in
+          let y = zip-left (HoldsPart w.cells) parts x.parts.items r.at r.p holds r.is.there in
           let kept : get nat_cmp y.0.cells r.n ≡ Some k = same_Some (get nat_cmp y.0.cells r.n) (Some k) (sym (row-there parts x.parts.items i r.at r.n r.p y.0 shapes r.is y.1) ∙ row) in
           let s : BookSpot = record { table = at; at = record { part = r.at; cell = r.n } } in
           let z = row-spot r.at r.n r.p y.0 r.is.there y.1 y.2 r.is.within in
@@ -249,7 +250,7 @@ module _ (w : Run) (b : Book) (ch : Changes) (run : IsRunOf b ch w) (ordered : A
           let lt = slice_get_within (row_rooms parts) i a at_a in
           let long = rooms-long parts in
           let r = numbered-row parts i (omega (arith, lt, long)) in
-          let y = zip-beside_left (HoldsPart w.cells) parts x.parts.items r.at r.p holds r.is.there in
+          let y = zip-left (HoldsPart w.cells) parts x.parts.items r.at r.p holds r.is.there in
           let room : record { part = r.p; cell = r.n } ≡ a = same_Some (record { part = r.p; cell = r.n }) a (sym (room-there parts i r.at r.n r.p r.is) ∙ at_a) in
           let row = row-there parts x.parts.items i r.at r.n r.p y.0 shapes r.is y.1 in
           let free : contains nat_cmp order.free i ≡ not (is_kept_seen b.odd (get nat_cmp y.0.cells r.n)) =

@@ -18,14 +18,9 @@ use Rattle.rmt_update.specs.Words.{joined}
 use Rattle.rmt_update.specs.Kept.{Tells}
 use Rattle.rmt_update.proofs.WordLaws.{joined-unit}
 use Rattle.rmt_bits.proofs.FindLaws.{found-lt}
+use Rattle.rmt_refine.proofs.LayoutLaws.{bytes_hold}
 
 -- ---- bytes of a number
-
-pub bytes-hold : (bits y : ℕ) → y < 2 ^ bits → number_of (bytes_of (divided_up bits 8) y) ≡ y
-bytes-hold bits y lt =
-    let enough = up-enough bits 8 (omega arith) in
-    let more : 2 ^ bits ≤ 2 ^ (8 * divided_up bits 8) = pow_mono (omega (arith, enough)) in
-    number_of-bytes_of (divided_up bits 8) y (omega (arith, lt, more))
 
 pub bytes-few : (bits y : ℕ) (bytes : List ℕ) → bytes ≡ bytes_of (divided_up bits 8) y → bits < 65536 → length bytes ≤ 8192
 bytes-few bits y bytes is few =
@@ -51,7 +46,7 @@ tells-high words low bits value t =
 -- the bytes of what is above it
 pub key-told : (words bytes : List ℕ) (low bits value : ℕ) → Tells words low (bits + 8) value → bytes ≡ bytes_of (divided_up bits 8) (slice (joined 112 words) (low + 8) bits) → number_of bytes ≡ value / 256
 key-told words bytes low bits value t is =
-    ap number_of is ∙ bytes-hold bits (slice (joined 112 words) (low + 8) bits) (slice-lt (joined 112 words) (low + 8) bits) ∙ tells-high words low bits value t
+    ap number_of is ∙ bytes_hold bits (slice (joined 112 words) (low + 8) bits) (slice-lt (joined 112 words) (low + 8) bits) ∙ tells-high words low bits value t
 
 -- the bytes of a row of blocks side by side
 pub row-kept : (held : Blocks) (row : ℕ) (blocks blocks' words bytes : List ℕ) (bits : ℕ) → words ≡ map (λ b. held b row) blocks' → blocks' ≡ blocks → unit_row 40 held row blocks < 2 ^ bits
@@ -60,7 +55,7 @@ row-kept held row blocks blocks' words bytes bits are same lt is =
     let x = unit_row 40 held row blocks in
     let here : joined 40 words ≡ x = ap (joined 40) are ∙ joined-unit 40 held row blocks' ∙ ap (unit_row 40 held row) same in
     ap number_of is ∙ ap (λ n. number_of (bytes_of (divided_up bits 8) (slice n 0 bits))) here
-    ∙ ap (λ n. number_of (bytes_of (divided_up bits 8) n)) (slice-whole x bits lt) ∙ bytes-hold bits x lt
+    ∙ ap (λ n. number_of (bytes_of (divided_up bits 8) n)) (slice-whole x bits lt) ∙ bytes_hold bits x lt
 
 -- ---- rows of TCAM
 
@@ -71,16 +66,3 @@ pub values-small : (rows : List TcamRow) → All (λ (r : TcamRow). r.value ≤ 
 values-small rows within masks k d lt = let a = within k d lt in let b = masks k d lt in omega arith
 
 -- ---- layouts
-
-pub keys-in : (k p d bits : ℕ) → 0 < k → k < 256 → 0 < p → p < 65536 → 0 < d → d ≤ 106 → bits ≤ 640 → p * (bits + 8) ≤ 112 * k → IsInSram (exact_keys k p d bits)
-keys-in k p d bits lk hk lp hp ld hd hb fit = record { is = exact_keys-is k p d bits lk hk lp hp ld hd hb fit; in_sram = refl; in_blocks = refl }
-
-pub records-in : (p d n : ℕ) → 0 < p → p < 65536 → 0 < d → d ≤ 106 → 0 < n → n < 65536 → IsInSram (exact_records p d n)
-records-in p d n lp hp ld hd ln hn = record { is = exact_records-is p d n lp hp ld hd ln hn; in_sram = refl; in_blocks = refl }
-
-pub rows-in : (d n : ℕ) → 0 < d → d ≤ 106 → 0 < n → n < 65544 → IsInSram (ternary_records d n)
-rows-in d n ld hd ln hn = record { is = ternary_records-is d n ld hd ln hn; in_sram = refl; in_blocks = refl }
-
--- what holds of a layout holds of an equal one
-pub at-layout : (P : Layout → Type 0) (l l' : Layout) → l ≡ l' → P l' → P l
-at-layout P l l' e h = subst P (sym e) h

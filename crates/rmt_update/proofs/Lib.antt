@@ -4,6 +4,7 @@ pub mod BookLaws
 pub mod BookMoved
 pub mod BookNext
 pub mod ByNumberLaws
+pub mod BytesLaws
 pub mod CandidateLaws
 pub mod CellsFound
 pub mod ComeCount
@@ -17,13 +18,18 @@ pub mod DifferLaws
 pub mod DifferenceLaws
 pub mod EncodedLaws
 pub mod EnteringLaws
+pub mod EntriesKept
 pub mod EntryLaws
 mod Examples
 pub mod FewLaws
 pub mod FilterLaws
 pub mod FirstLaws
 pub mod FirstRowLaws
+pub mod FitMakes
+pub mod FitOwn
+pub mod FitWrites
 pub mod FoldLaws
+pub mod FollowLaws
 pub mod FreeLaws
 pub mod IndexStart
 pub mod InsertLaws
@@ -40,6 +46,9 @@ pub mod ListedNumbers
 pub mod LoadLaws
 pub mod LoadSteps
 pub mod LoadedLaws
+pub mod MadeChoices
+pub mod MadeCommits
+pub mod MadeWrites
 pub mod MapLaws
 pub mod MovedLaws
 pub mod NamedLaws
@@ -101,3 +110,6 @@ pub mod ToldLaws
 pub mod TurnedLaws
 pub mod WordLaws
 pub mod WritesLaws
+pub mod SpelledEntries
+pub mod SpelledTests
+pub mod ZipLaws

@@ -16,7 +16,6 @@ use Rattle.std.proofs.lemmas.Cmp.{nat_cmp_total}
 use Rattle.rmt_config.specs.Cells.{cells_in}
 use Rattle.rmt_config.specs.declared.config.Unit.TheVariants.{Slot}
 use Rattle.rmt_update.proofs.ToldEntryLaws.{PartFacts}
-use Rattle.rmt_update.proofs.RefillLaws.{zip-gives}
 use Rattle.rmt_ast.specs.declared.entry.Entry.{Entry}
 use Rattle.rmt_ast.specs.declared.names.Names.{Names}
 use Rattle.rmt_ast.specs.NameRules.{AreEntriesOf}
@@ -47,10 +46,11 @@ use Rattle.rmt_update.specs.Seen.{entries_at}
 use Rattle.rmt_update.specs.Spots.{placed_from}
 use Rattle.rmt_update.proofs.AfterLaws.{changed-length}
 use Rattle.rmt_update.proofs.BookMoved.{all-at, long-range, next-holds, stands-moved}
-use Rattle.rmt_update.proofs.CellsFound.{are-tables, found-node, nodes-rise, zip-left, zip-length, zip-made, zip-right}
-use Rattle.rmt_update.proofs.DifferenceLaws.{NextHolds, writes-are}
+use Rattle.rmt_update.proofs.CellsFound.{are-tables, found-node, nodes-rise}
+use Rattle.rmt_update.proofs.DifferenceLaws.{NextHolds, writes-are, writes-sized}
 use Rattle.rmt_update.proofs.SpotsFit.{table-fits}
 use Rattle.rmt_update.proofs.TableRules.{own-table}
+use Rattle.rmt_update.proofs.ZipLaws.{zip-gives, zip-length, zip-right}
 
 few-units : (s : Stage) → stage_is_formed s ≡ true → nat_lt (length s.units) 256 ≡ true
 few-units s e = (and_parts _ _ (and_parts _ _ (and_parts _ _ (and_parts _ _ (and_parts _ _ (and_parts _ _ (and_parts _ _ e).0).0).0).0).0).0).1
@@ -135,6 +135,7 @@ module _ (c : Config) (names : Names) (cells : RunCells) (lists : List (List Ent
                   (subst (λ s. Makes c names cells lists (changed_lists lists ch) true s next) (sym seed)
                   (moves loaded.seed (placed_from c 0 (changed_lists lists ch) loaded.spots) none is.first is.filled));
               writes = writes-are c cells lists b stands next loaded.seed moved held plan.writes.items differ;
+              sizes = writes-sized c cells lists b stands next loaded.seed moved held plan.writes.items differ;
               stands = subst (λ s. BookStands c (with_version next s) (changed_lists lists ch) b2) (sym seed)
                   (stands-moved c names cells lists b stands named (changed_lists lists ch) may.formed loaded.seed loaded.spots is.many is.filled moved all b2 (changed-length lists ch) odd seed2 nodes tables);
             },

@@ -36,16 +36,11 @@ use Rattle.rmt_update.specs.Spots.{placed_from, placed_in}
 use Rattle.rmt_update.proofs.LoadLaws.{NodeTried, loading-of, node-tried, table-entries}
 use Rattle.rmt_update.proofs.PlacedLaws.{NodeStands, all-stand}
 use Rattle.rmt_update.proofs.TableRules.{own-table, terms-found}
+use Rattle.rmt_update.proofs.ZipLaws.{zip-made}
 
 -- no table has both a loading and keys with too few cells
 abbrev pub NeverBoth : Type 0
 NeverBoth = (layout : List Ways) (seed : ℕ) (keys : List (List ℕ)) (cells members : List ℕ) (count : ℕ) → IsLoading layout seed keys cells → IsOverfull layout seed keys members count → ⊥
-
-zip-from : {X Y : Type 0} (R : X → Y → Type 0) (xs : List X) (ys : List Y) → length ys ≡ length xs → ((i : ℕ) (x : X) (y : Y) → slice_get xs i ≡ Some x → slice_get ys i ≡ Some y → R x y) → AllZip R xs ys
-zip-from R [] [] long each = tt
-zip-from R [] (y ∷ ys) long each = absurd (omega (arith, long))
-zip-from R (x ∷ xs) [] long each = absurd (omega (arith, long))
-zip-from R (x ∷ xs) (y ∷ ys) long each = (each 0 x y refl refl, zip-from R xs ys (omega (arith, long)) (λ i z w at_z at_w. each (suc i) z w at_z at_w))
 
 -- the ways of parts are those of their slots
 layout-is : (ps : List PartAt) (xs : List PartCells) → AllZip HasShape ps xs → layout_in xs ≡ flat_map (λ (p : PartAt). ways_in p.slot.memory) ps
@@ -100,7 +95,7 @@ module _ (c : Config) (names : Names) (tables : List TableCells) (lists : List (
 
     pub spots-many : AllZip (λ (es : List Entry) (ss : List Spot). length ss ≡ length es) lists spots
     spots-many =
-        zip-from (λ (es : List Entry) (ss : List Spot). length ss ≡ length es) lists spots upto.count_is (λ i es ss at_es at_ss. (tried i ss at_ss).many ∙ ap (λ (xs : List Entry). length xs) (own-list i es at_es))
+        zip-made (λ (es : List Entry) (ss : List Spot). length ss ≡ length es) lists spots (sym upto.count_is) (λ i es ss at_es at_ss. (tried i ss at_ss).many ∙ ap (λ (xs : List Entry). length xs) (own-list i es at_es))
 
     pub spots-filled : AreFilled c names seed lists (placed_from c 0 lists spots)
     spots-filled =

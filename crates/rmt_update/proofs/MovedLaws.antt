@@ -46,9 +46,8 @@ use Rattle.rmt_update.specs.Refill.{IsMoved, SamePart, spots_of}
 use Rattle.rmt_update.specs.Seen.{entries_in, is_seen}
 use Rattle.rmt_update.specs.Spots.{no_part, placed_from, room_at}
 use Rattle.rmt_update.specs.Told.{told_entry}
-use Rattle.rmt_update.proofs.BookLaws.{memory-of}
+use Rattle.rmt_update.specs.declared.book.shape.Shape.{Shape}
 use Rattle.rmt_update.proofs.CandidateLaws.{key-low}
-use Rattle.rmt_update.proofs.CellsFound.{zip-left, zip-length, zip-made, zip-right}
 use Rattle.rmt_update.proofs.FirstLaws.{IsRowKind, firsts, map-twice}
 use Rattle.rmt_update.proofs.LoadLaws.{table-entries}
 use Rattle.rmt_update.proofs.OncePlaced.{all-numbers, at-own, at-place, found-in, one-key, one-placed, part-once, placed-found}
@@ -56,9 +55,13 @@ use Rattle.rmt_update.proofs.PartOrder.{IsPartOf, parts-own}
 use Rattle.rmt_update.proofs.PartPairs.{IsBefore, IsCellOf, in-told, parts-pairs, told-in}
 use Rattle.rmt_update.proofs.RowsInOrder.{rows-in-order}
 use Rattle.rmt_refine.proofs.SortedLaws.{by_number_is}
-use Rattle.rmt_update.proofs.SpotsFit.{all_placed, filled-room, from-placed, node-within, own, own-filled, own-placed, own-stands, spots-many, stands-in}
+use Rattle.rmt_refine.proofs.LayoutLaws.{memory_formed}
+use Rattle.rmt_refine.proofs.FilledLaws.{room_there}
+use Rattle.rmt_update.proofs.SpotsFit.{all_placed, from-placed, node-within, own, own-filled, own-placed, own-stands, spots-many, stands-in}
 use Rattle.rmt_update.proofs.TableRules.{Own, entries-at}
 use Rattle.rmt_update.proofs.ToldEntryLaws.{PartFacts}
+use Rattle.rmt_update.proofs.BytesLaws.{sizes-bytes}
+use Rattle.rmt_update.proofs.ZipLaws.{zip-left, zip-length, zip-made, zip-right}
 
 -- a rule of each item with each later one
 each-later-from : {A : Type 0} (rule : A → A → Bool) (xs : List A) → AllPairs (λ a b. rule a b ≡ true) xs → each_later rule xs ≡ true
@@ -164,11 +167,11 @@ module _ (c : Config) (names : Names) (cells : RunCells) (seed : ℕ) (lists : L
         by m j s table in_node in_spots room None is = absurd is
         by m j s table in_node in_spots room (Some u) is =
             let in_rooms : Contains (rooms_for c seed m (key_number u q.entry)) (room_at (parts_of c m) s) =
-            subst (Contains (rooms_for c seed m (key_number u q.entry))) room (subst (λ k. Contains (rooms_for c seed k (key_number u q.entry)) q.room) table (filled-room c seed u u.kind (list_of lists q.entry.table) q.entry q.room is)) in
+            subst (Contains (rooms_for c seed m (key_number u q.entry))) room (subst (λ k. Contains (rooms_for c seed k (key_number u q.entry)) q.room) table (room_there c seed u u.kind (list_of lists q.entry.table) q.entry q.room is)) in
             let st = stands-in c seed m (key_number u q.entry) s in_rooms in
             let own_room : room_at (parts_of c m) s ≡ record { part = st.part; cell = s.cell } = ap (λ (p : PartAt). record { part = p; cell = s.cell }) (get_or_from_slice_get (parts_of c m) s.part st.part no_part st.there) in
             let place = at-place p.stage p.place n (record { part = st.part; cell = s.cell }) (ap (is_at p.stage p.place n) (sym own_room) ∙ ap (is_at p.stage p.place n) (sym room) ∙ at) in
-            let own_a = All-slice_get (IsPartOf c m) (parts_of c m) s.part st.part (parts-own c m are.formed.items (memory-of c are.formed)) st.there in
+            let own_a = All-slice_get (IsPartOf c m) (parts_of c m) s.part st.part (parts-own c m are.formed.items (memory_formed c are.formed)) st.there in
             let own_b = All-slice_get (IsPartOf c x.name.node) (parts_of c x.name.node) i p mine.own at_p in
             let slots : st.part.slot ≡ p.slot =
             same_Some st.part.slot p.slot (sym own_a.slot ∙ ap (λ k. slot_at c k st.part.place) place.stage ∙ ap (slot_at c p.stage) place.place ∙ own_b.slot) in
@@ -267,6 +270,9 @@ module _ (c : Config) (names : Names) (cells : RunCells) (seed : ℕ) (lists : L
             let some = IsSome-value (get nat_cmp y.cells n) ((btree_map_contains_key_iff nat_cmp_total exact_unsigned y.cells n).1 there) in
             cell-within n some.0 (new-cell i n y some.0 (record { part = at_y; kept = some.1 }))) (keys y.cells) (All-contains_itself (keys y.cells));
         each = λ n lt. by n (get nat_cmp y.cells n) refl;
+        bytes = λ n k is.
+            let h = moved.found i n y k at_y is in
+            sizes-bytes x.name p y.shape.held k facts.bits facts.kind (ap (λ (u : Shape). u.held) same.shape ∙ old.2.shape.held) h.sizes;
       }
         where
           by : (n : ℕ) (o : Option Kept) → get nat_cmp y.cells n ≡ o → IsKeptOf seed p (next.content p.stage p.place n) (record { cell = n; number = next.number p.stage p.place n }) o

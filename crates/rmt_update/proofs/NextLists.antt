@@ -44,7 +44,7 @@ use Rattle.rmt_update.specs.Seen.{HaveNumbers, entries_at, entries_by_part, entr
 use Rattle.rmt_update.specs.Told.{told_entry}
 use Rattle.rmt_update.specs.Turning.{AreNext, IsSamePart, IsSameTable, come_to, is_spot, left_kept}
 use Rattle.rmt_update.proofs.ByNumberLaws.{from-by_number, to-by_number}
-use Rattle.rmt_update.proofs.CellsFound.{are-tables, kept-is, nodes-rise, one-node, one-spot, own_names, spot-part, zip-left}
+use Rattle.rmt_update.proofs.CellsFound.{are-tables, kept-is, nodes-rise, one-node, one-spot, own_names, spot-part}
 use Rattle.rmt_update.proofs.LikeLaws.{like-from, like-of, like-seen, like-told}
 use Rattle.rmt_update.proofs.NextNumbers.{NextIs, new, old, entry-behind, next-is, old-used, same-cell}
 use Rattle.rmt_update.proofs.NextTables.{IsTwoParts, at-part, at-table, beside, kept-within, spot-of, two-parts}
@@ -54,6 +54,7 @@ use Rattle.rmt_update.proofs.SettledKept.{left-stays, next_at, same-names}
 use Rattle.rmt_update.proofs.SettledPlaces.{none-come, spot-itself}
 use Rattle.rmt_refine.proofs.SortedLaws.{by_number_is}
 use Rattle.rmt_update.proofs.TableRules.{entries-at, terms-found}
+use Rattle.rmt_update.proofs.ZipLaws.{zip-left}
 
 -- ---- what is seen
 

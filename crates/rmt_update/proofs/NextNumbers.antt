@@ -36,27 +36,20 @@ use Rattle.rmt_update.proofs.PartOrder.{pair-at}
 use Rattle.rmt_update.proofs.SettledKept.{kept-next, next_at, old-kept}
 use Rattle.rmt_update.proofs.SettledPlaces.{come-or-not, none-come}
 use Rattle.rmt_update.proofs.ByNumberLaws.{from-by_number}
+use Rattle.rmt_refine.proofs.EntryLaws.{all_numbers, AllPairs-unmap}
 
 -- ---- numbers of which none stands twice
-
-pairs-unmap : {X Y : Type 0} (R : Y → Y → Type 0) (f : X → Y) (xs : List X) → AllPairs R (map f xs) → AllPairs (λ a b. R (f a) (f b)) xs
-pairs-unmap R f xs pairs i j d lt l =
-    subst (λ a. R a (f (get_or xs j d))) (get_or-map f xs i d) (subst (R (get_or (map f xs) i (f d))) (get_or-map f xs j d) (pairs i j (f d) lt (omega (arith, l, length-map xs f))))
-
-numbers-flat : (lists : List (List Entry)) → flat_map entry_numbers lists ≡ map (λ (e : Entry). e.number) (all_entries lists)
-numbers-flat [] = refl
-numbers-flat (es ∷ lists) = ap (λ ns. entry_numbers es ++ ns) (numbers-flat lists) ∙ sym (map-append (λ (e : Entry). e.number) es (all_entries lists))
 
 module _ (c : Config) (names : Names) (cells : RunCells) (lists : List (List Entry)) (ch : Changes) (b : Book) (xs : List Coming) (stands : BookStands c cells lists b) (named : c.names ≡ Some names)
     (may : MayChange c names cells lists ch) (placed : ArePlaced c names cells lists ch b.odd b.tables.items xs) where
   -- no two entries that come have one number
   coming-apart : AllPairs (λ (p q : Placed). p.entry.number ≢ q.entry.number) placed.coming
   coming-apart =
-      pairs-unmap (λ (a b : Entry). a.number ≢ b.number) (λ (q : Placed). q.entry) placed.coming
+      AllPairs-unmap (λ (a b : Entry). a.number ≢ b.number) (λ (q : Placed). q.entry) placed.coming
       (subst (AllPairs (λ (a b : Entry). a.number ≢ b.number)) (sym placed.entries)
       (AllPairs-filter (λ (a b : Entry). a.number ≢ b.number) (λ e. not (is_numbered_in (all_entries lists) e)) (all_entries (changed_lists lists ch))
-      (pairs-unmap (λ (x y : ℕ). x ≢ y) (λ (e : Entry). e.number) (all_entries (changed_lists lists ch))
-      (subst (AllPairs (λ (x y : ℕ). x ≢ y)) (numbers-flat (changed_lists lists ch)) may.formed.entries.numbers_once))))
+      (AllPairs-unmap (λ (x y : ℕ). x ≢ y) (λ (e : Entry). e.number) (all_entries (changed_lists lists ch))
+      (subst (AllPairs (λ (x y : ℕ). x ≢ y)) (all_numbers (changed_lists lists ch)) may.formed.entries.numbers_once))))
 
   -- an entry that comes is in a list behind the changes
   pub record IsInList (e : Entry) : Type 0 where

@@ -32,10 +32,9 @@ use Rattle.rmt_update.specs.Planned.{MayChange, changed_lists}
 use Rattle.rmt_update.specs.Seen.{IsReadable, entries_by_part, is_seen}
 use Rattle.rmt_update.specs.Told.{told_entry}
 use Rattle.rmt_update.specs.Turning.{AreNext, IsLike, IsSamePart, IsSameTable}
-use Rattle.rmt_update.proofs.BookLaws.{memory-of}
 use Rattle.rmt_bits.proofs.AllLaws.{All-slice_get}
 use Rattle.rmt_bits.proofs.OptionLaws.{eqb-sym}
-use Rattle.rmt_update.proofs.CellsFound.{kept-is, room-is, zip-left}
+use Rattle.rmt_update.proofs.CellsFound.{kept-is, room-is}
 use Rattle.rmt_update.proofs.KeptOrder.{AllKeep, InOrder, all-keep, keep-at}
 use Rattle.rmt_update.proofs.LikeLaws.{like-of, like-seen, like-told}
 use Rattle.rmt_update.proofs.NextLists.{numbers-here, stays-seen}
@@ -45,6 +44,8 @@ use Rattle.rmt_update.proofs.PairsTold.{later-pairs, pairs-later, pairs-table, t
 use Rattle.rmt_update.proofs.PartOrder.{pair-at}
 use Rattle.rmt_update.proofs.PartStages.{parts-apart}
 use Rattle.rmt_update.proofs.SettledKept.{next_at, table-terms}
+use Rattle.rmt_update.proofs.ZipLaws.{zip-left}
+use Rattle.rmt_refine.proofs.LayoutLaws.{memory_formed}
 
 -- kinds whose rows have an order
 abbrev IsRows : Kind → Type 0
@@ -192,7 +193,7 @@ module _ (c : Config) (names : Names) (cells : RunCells) (lists : List (List Ent
         nodes2 = ap (λ (v : TableCells). slice_get (parts_of c v.name.node) l) (same_Some t o.d.t (sym at_t ∙ o.d.in_tables)) ∙ o.d.there
 
         by : (j < l) ⊎ ((j ≡ l) × (n < m)) → (a.d.p.stage < o.d.p.stage) ⊎ ((a.d.p ≡ o.d.p) × (n < m))
-        by (inl lt) = inl (pair-at (λ (p q : PartAt). p.stage < q.stage) (parts_of c t.name.node) j l a.d.p o.d.p (parts-apart c t.name.node (memory-of c stands.formed)) lt nodes nodes2)
+        by (inl lt) = inl (pair-at (λ (p q : PartAt). p.stage < q.stage) (parts_of c t.name.node) j l a.d.p o.d.p (parts-apart c t.name.node (memory_formed c stands.formed)) lt nodes nodes2)
         by (inr h) = inr (same_Some a.d.p o.d.p (sym nodes ∙ ap (slice_get (parts_of c t.name.node)) h.0 ∙ nodes2), h.1)
 
     -- two in order by their rooms are so by their ranks

@@ -34,11 +34,15 @@ use Rattle.rmt_update.specs.Placing.{ArePlaced, IsBookSpot, TakesCell}
 use Rattle.rmt_update.specs.Running.{is_among}
 use Rattle.rmt_update.specs.Seen.{is_seen}
 use Rattle.rmt_update.specs.Turning.{AreLike, AreNext, IsSamePart, IsSameTable, is_spot, left_kept}
-use Rattle.rmt_update.proofs.CellsFound.{spot-part, table-holds, zip-length, zip-made, zip-right}
+use Rattle.rmt_update.specs.Coming.{HasSizes}
+use Rattle.rmt_update.specs.Kept.{HasBytes}
+use Rattle.rmt_update.proofs.CellsFound.{spot-part, table-holds}
 use Rattle.rmt_update.proofs.LikeLaws.{like-kept, like-some}
 use Rattle.rmt_update.proofs.SettledKept.{kept-next, next_at}
 use Rattle.rmt_update.proofs.SettledPlaces.{none-come, same-spot, spot-itself}
 use Rattle.rmt_update.proofs.ShapeLaws.{cells-are}
+use Rattle.rmt_update.proofs.BytesLaws.{come-bytes, left-bytes, like-bytes, sizes-bytes}
+use Rattle.rmt_update.proofs.ZipLaws.{zip-length, zip-made, zip-right}
 
 -- an entry comes to a cell, or none does
 pub one-comes : (xs : List Coming) (s : BookSpot) → ((x : Coming) × Contains xs x × (x.spot ≡ s)) ⊎ All (λ (x : Coming). x.spot ≢ s) xs
@@ -158,6 +162,26 @@ module _ (c : Config) (names : Names) (cells : RunCells) (lists : List (List Ent
           All-contains (λ m. m < cells_in h.p.slot.memory) (keys h.x.cells) n h.holds.within
           (Contains-keys_from_lookup {eq = eq_by_cmp nat_cmp} (tells_apart exact_unsigned) n h.x.cells.entries (subst IsSome (sym is) refl))
 
+  -- what is kept next of it has the bytes of its part
+  bytes-next : (i j n : ℕ) (u : TableCells) (y : PartCells) (h : IsTwoParts i j u y) (k : Kept) → get nat_cmp y.cells n ≡ Some k → HasBytes h.p.slot k
+  bytes-next i j n u y h =
+      like-bytes h.p.slot (get nat_cmp y.cells n) (next_kept_at s) (h.each n)
+      (come-bytes h.p.slot xs s (left_kept b.odd ch.gone (kept_at b.tables.items s)) comes
+      (left-bytes h.p.slot b.odd ch.gone (kept_at b.tables.items s) (λ k is. h.holds.bytes n k (h.old n ∙ is))))
+    where
+      s : BookSpot
+      s = record { table = i; at = record { part = j; cell = n } }
+
+      own : (k : Kept) (a : IsBookSpot b.tables.items s) → HasSizes a.table.name a.part.shape.held k → HasBytes h.p.slot k
+      own k a sizes =
+          let g = spot-part c cells lists b stands s a in
+          subst (λ (p : PartAt). HasBytes p.slot k) (own-part i j n u y h a) (sizes-bytes a.table.name g.part a.part.shape.held k g.facts.bits g.facts.kind g.holds.shape.held sizes)
+
+      comes : (x : Coming) → Contains xs x → x.spot ≡ s → HasBytes h.p.slot x.kept
+      comes x there is =
+          let q = beside (TakesCell c cells.seed b.odd b.tables.items) placed.coming xs x placed.takes there in
+          subst (λ (z : BookSpot). (a : IsBookSpot b.tables.items z) → HasSizes a.table.name a.part.shape.held x.kept → HasBytes h.p.slot x.kept) (sym is) (own x.kept) q.2.at q.2.sizes
+
   part-next : (i j : ℕ) (u : TableCells) (y : PartCells) (h : IsTwoParts i j u y) → HoldsPart next_run h.p y
   part-next i j u y h = record {
     stage = h.same.stage ∙ h.holds.stage;
@@ -171,6 +195,7 @@ module _ (c : Config) (names : Names) (cells : RunCells) (lists : List (List Ent
         like-kept cells.seed h.p (next_run.content h.p.stage h.p.place n) (record { cell = n; number = next_run.number h.p.stage h.p.place n }) (get nat_cmp y.cells n) (next_kept_at s) (h.each n)
         (subst (λ (p : PartAt). IsKeptOf cells.seed p (next_run.content p.stage p.place n) (record { cell = n; number = next_run.number p.stage p.place n }) (next_kept_at s)) (own-part i j n u y h at)
         (kept-next c names cells lists ch b xs stands named placed s at));
+    bytes = λ n k is. bytes-next i j n u y h k is;
   }
 
   pub table-next : (i : ℕ) (u : TableCells) → slice_get us i ≡ Some u → HoldsTable c next_run u

@@ -144,20 +144,20 @@ listed-number n (x ∷ xs) h = by (eqb x.cell n) refl h (listed-number n xs)
 
 -- ---- used cells
 
-record Used (c : Config) (k place n : ℕ) : Type 0 where
-  slot : SlotUnit
-  stands : Standing c k place slot
-  item : CellNumber
-  listed : Contains slot.numbers item
-  cell : item.cell ≡ n
-  number : (own_cells c).number k place n ≡ item.number
+pub record Used (c : Config) (k place n : ℕ) : Type 0 where
+  pub slot : SlotUnit
+  pub stands : Standing c k place slot
+  pub item : CellNumber
+  pub listed : Contains slot.numbers item
+  pub cell : item.cell ≡ n
+  pub number : (own_cells c).number k place n ≡ item.number
 
 own-at : (c : Config) (k place n : ℕ) (s : SlotUnit) (st : Standing c k place s) → own_content c k place n ≡ content_of st.stage s n
 own-at c k place n s st =
     ap (λ (o : Option Stage). unwrap_or (option_and_then (λ (x : Stage). option_map (λ (y : SlotUnit). content_of x y n) (option_and_then as_slot (slice_get x.units place))) o) no_content) st.in_stages
     ∙ ap (λ (o : Option Unit). unwrap_or (option_map (λ (y : SlotUnit). content_of st.stage y n) (option_and_then as_slot o)) no_content) st.in_units
 
-used : (c : Config) (k place n : ℕ) → MemoryIsFormed c → IsUsed c (own_cells c) k place n → Used c k place n
+pub used : (c : Config) (k place n : ℕ) → MemoryIsFormed c → IsUsed c (own_cells c) k place n → Used c k place n
 used c k place n memory h = by (slot_at c k place) refl h.0
   where
     by : (o : Option SlotUnit) → slot_at c k place ≡ o → IsSomeAnd o (λ slot. n < cells_in slot.memory) → Used c k place n

@@ -24,11 +24,9 @@ use Rattle.rmt_update.specs.declared.book.kept.Kept.{Kept}
 use Rattle.rmt_update.specs.declared.book.table.PartCells.{PartCells}
 use Rattle.rmt_update.specs.Seen.{entries_in, is_seen}
 use Rattle.rmt_update.specs.Told.{told_entry}
+use Rattle.rmt_refine.proofs.WrittenLaws.{all_at}
 
 -- ---- pairs
-
-pub All-members : {X : Type 0} (P : X → Type 0) (xs : List X) → ((x : X) → Contains xs x → P x) → All P xs
-All-members P xs h = All-weaker (Contains xs) P h xs (All-contains_itself xs)
 
 pub later-pairs : (rule : Entry → Entry → Bool) (xs : List Entry) → each_later rule xs ≡ true → AllPairs (λ a b. rule a b ≡ true) xs
 later-pairs rule [] e = AllPairs-none (λ a b. rule a b ≡ true)
@@ -59,7 +57,7 @@ module _ {X Y : Type 0} (R : Y → Y → Type 0) (f : X → List Y) where
   flat-pairs [] own across = AllPairs-none R
   flat-pairs (x ∷ xs) own across =
       AllPairs-append R (f x) (flat_map f xs) (own 0 x refl) (flat-pairs xs (λ i. own (suc i)) (λ i j a z p q lt. across (suc i) (suc j) a z p q (omega (arith, lt))))
-      (All-members (λ p. All (R p) (flat_map f xs)) (f x) (λ p in_x. All-members (R p) (flat_map f xs) (λ q in_xs.
+      (all_at (λ p. All (R p) (flat_map f xs)) (f x) (λ p in_x. all_at (R p) (flat_map f xs) (λ q in_xs.
       let h = flat_from f xs q in_xs in
       across 0 (suc h.0) x h.1 p q (omega arith) refl h.2 in_x h.3)))
 
@@ -136,7 +134,7 @@ module _ (odd : Bool) (t : TableName) where
         by : (b : Bool) → is_seen odd e.1 ≡ b → AllPairs R rest → AllPairs R (map (told_entry t first) (cond b (e.1 ∷ filter (is_seen odd) (values_of es)) (filter (is_seen odd) (values_of es))))
         by true seen more =
             AllPairs-cons R (told_entry t first e.1) rest
-            (All-members (R (told_entry t first e.1)) rest (λ x there.
+            (all_at (R (told_entry t first e.1)) rest (λ x there.
             let a = Contains-unmap (told_entry t first) (filter (is_seen odd) (values_of es)) x there in
             let d = Contains-unfilter (is_seen odd) (values_of es) a.0 a.1 in
             let h = Contains-unmap (λ (y : ℕ × Kept). y.1) es a.0 d.0 in

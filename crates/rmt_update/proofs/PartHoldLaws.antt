@@ -8,6 +8,7 @@ use Rattle.std.specs.Ordering.{is_eq, nat_cmp}
 use Rattle.std.proofs.lemmas.Bool.{and_parts, eqb-true}
 use Rattle.std.proofs.lemmas.List.Elements.{All-cons, All-head, All-nil, All-tail}
 use Rattle.rmt_bits.proofs.AllLaws.{All-from_test}
+use Rattle.std.proofs.lemmas.Option.{none-some, same_Some}
 use Rattle.rmt_bits.proofs.OptionLaws.{eqb-sym}
 use Rattle.rmt_ast.specs.declared.names.TableName.{TableName}
 use Rattle.rmt_config.specs.declared.config.CellNumber.{CellNumber}
@@ -30,7 +31,7 @@ use Rattle.rmt_config.proofs.SpelledParts.{held-is}
 use Rattle.rmt_update.specs.declared.book.kept.Kept.{Kept}
 use Rattle.rmt_update.specs.declared.book.table.PartCells.{PartCells}
 use Rattle.rmt_update.specs.BookStands.{HoldsPart, IsKeptOf, is_candidate}
-use Rattle.rmt_update.specs.Kept.{IsKept}
+use Rattle.rmt_update.specs.Kept.{HasBytes, IsKept}
 use Rattle.rmt_update.specs.Listed.{IsListed, IsRanked}
 use Rattle.rmt_update.proofs.CandidateLaws.{IsKey, own-key, same-candidates}
 use Rattle.rmt_update.proofs.RankLaws.{same-number}
@@ -131,6 +132,17 @@ module _ (c : Config) (t : TableName) (p : PartAt) (st : PartStands c p) (named 
           (eqb-true x.cell n is, head-occupied (visible_with c.names) p.first p.slot.actions (held_by c p x).head (All-head (IsHead c p) x ns heads), zip.0.kept, All-head Fits x ns fits, seen (All-head (IsHead c p) x ns heads))
       by false is o q later rest = rest
 
+  -- what is kept of a listed cell has the bytes of the part
+  listed-bytes : (n : ℕ) (ns : List CellNumber) (es : List (ℕ × Kept)) → AllZip (IsRanked c t p) ns es → (k : Kept) → lookup (is_at (nat_cmp n)) es ≡ Some k → HasBytes p.slot k
+  listed-bytes n [] [] zip k is = absurd (none-some k is)
+  listed-bytes n [] (e ∷ es) zip k is = absurd zip
+  listed-bytes n (x ∷ ns) [] zip k is = absurd zip
+  listed-bytes n (x ∷ ns) (e ∷ es) zip k is = by (is_eq (nat_cmp n e.0)) is (listed-bytes n ns es zip.1 k)
+    where
+      by : (b : Bool) → cond b (Some e.1) (lookup (is_at (nat_cmp n)) es) ≡ Some k → (lookup (is_at (nat_cmp n)) es ≡ Some k → HasBytes p.slot k) → HasBytes p.slot k
+      by true h rest = subst (HasBytes p.slot) (same_Some e.1 k h) zip.0.bytes
+      by false h rest = rest h
+
   -- the number that a run begins with
   own-number : (n : ℕ) → (own_cells c).number p.stage p.place n ≡ number_of_cell p.slot.numbers n
   own-number n = ap (λ (o : Option SlotUnit). unwrap_or (option_map (λ (slot : SlotUnit). number_of_cell slot.numbers n) o) 0) (part-slot c p st)
@@ -159,4 +171,5 @@ module _ (c : Config) (t : TableName) (p : PartAt) (st : PartStands c p) (named 
         subst (λ m. IsKeptOf c.seed p (own_content c p.stage p.place n) (record { cell = n; number = m }) (get nat_cmp x.cells n)) (sym (own-number n))
         (kept-of n (find (λ (x : CellNumber). eqb x.cell n) p.slot.numbers) (get nat_cmp x.cells n) (list_any (λ m. eqb m n) (map (λ (x : CellNumber). x.cell) p.slot.numbers)) lt
         (find-kept n p.slot.numbers x.cells.entries h.cells (listed-heads c p st) all-fit) (unlisted n lt));
+    bytes = λ n k is. listed-bytes n p.slot.numbers x.cells.entries h.cells k is;
   }

@@ -39,12 +39,13 @@ use Rattle.rmt_update.specs.NextKept.{next_kept}
 use Rattle.rmt_update.specs.Placing.{ArePlaced, TakesCell}
 use Rattle.rmt_update.specs.Running.{is_among}
 use Rattle.rmt_update.specs.Turning.{AreLike, AreNext, AreNextParts, ArePut, AreStill, HasLeft, IsLeft, IsSamePart, IsSameTable, IsSpotIn, IsStill, IsThere, cell_at, come_to, is_spot, left_by, left_kept, moved_at}
-use Rattle.rmt_update.proofs.CellsFound.{table-own, zip-left, zip-length, zip-made, zip-right}
+use Rattle.rmt_update.proofs.CellsFound.{table-own}
 use Rattle.rmt_update.proofs.DifferenceLaws.{NextHolds}
 use Rattle.rmt_update.proofs.LikeLaws.{alike-itself}
 use Rattle.rmt_update.proofs.NextTables.{beside, table-next}
-use Rattle.rmt_update.proofs.PairsTold.{All-members}
 use Rattle.rmt_update.proofs.ToldEntryLaws.{PartFacts}
+use Rattle.rmt_update.proofs.ZipLaws.{zip-left, zip-length, zip-made, zip-right}
+use Rattle.rmt_refine.proofs.WrittenLaws.{all_at}
 
 left-same : (odd : Bool) (f g : ℕ → Bool) → ((n : ℕ) → f n ≡ g n) → (o : Option Kept) → left_by odd f o ≡ left_by odd g o
 left-same odd f g same None = refl
@@ -208,7 +209,7 @@ module _ (c : Config) (names : Names) (cells : RunCells) (lists : List (List Ent
     (placed : ArePlaced c names cells lists ch b.odd b.tables.items xs) where
   -- the cells that entries take are there
   pub all-there : All (λ (x : Coming). IsSpotIn b.tables.items x.spot) xs
-  all-there = All-members (λ (x : Coming). IsSpotIn b.tables.items x.spot) xs (λ x there.
+  all-there = all_at (λ (x : Coming). IsSpotIn b.tables.items x.spot) xs (λ x there.
       let q = beside (TakesCell c cells.seed b.odd b.tables.items) placed.coming xs x placed.takes there in
       let at = q.2.at in
       subst (λ (o : Option TableCells). IsSomeAnd o (λ (t : TableCells). x.spot.at.part < length t.parts.items)) (sym at.in_tables) (slice_get_within at.table.parts.items x.spot.at.part at.part at.in_parts))

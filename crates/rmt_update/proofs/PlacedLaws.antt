@@ -22,6 +22,7 @@ use Rattle.rmt_update.specs.Loads.{HasShape}
 use Rattle.rmt_update.specs.Spots.{no_part, placed_from, placed_in, room_at, spot_from, spots_at}
 use Rattle.rmt_update.proofs.PartOrder.{IsPartOf, nodes-apart, rooms-apart}
 use Rattle.rmt_update.proofs.RoomNumbers.{IsNumber, spot-of}
+use Rattle.rmt_update.proofs.ZipLaws.{zip-all-right}
 
 -- no two rooms are the same
 abbrev pub AreApart : List Placed → Type 0
@@ -42,12 +43,6 @@ zip-pairs {X} {Y} R P Q gives (x ∷ xs) (y ∷ ys) zip pairs =
     across [] (w ∷ ws) both all = absurd both
     across (z ∷ zs) [] both all = absurd both
     across (z ∷ zs) (w ∷ ws) both all = All-cons (Q y) w ws (gives x z y w zip.0 both.0 (All-head (P x) z zs all)) (across zs ws both.1 (All-tail (P x) z zs all))
-
-pub zip-right : {X Y : Type 0} (R : X → Y → Type 0) (Q : Y → Type 0) → ((x : X) (y : Y) → R x y → Q y) → (xs : List X) (ys : List Y) → AllZip R xs ys → All Q ys
-zip-right R Q gives [] [] zip = All-nil Q
-zip-right R Q gives [] (y ∷ ys) zip = absurd zip
-zip-right R Q gives (x ∷ xs) [] zip = absurd zip
-zip-right R Q gives (x ∷ xs) (y ∷ ys) zip = All-cons Q y ys (gives x y zip.0) (zip-right R Q gives xs ys zip.1)
 
 -- ---- one table
 
@@ -117,9 +112,9 @@ module _ (c : Config) (names : Names) (seed node : ℕ) (all : List (List Entry)
       let placed = placed_in (parts_of c node) es (spots_at xs ns) in
       let have = have-rooms (FitsHere c seed node all t) (parts_of c node) xs zip es ns stand in
       record {
-        rooms = zip-right R (λ (p : Placed). IsSomeAnd (terms_named names p.entry.table) (λ u. IsFilled c seed u u.kind (list_of all p.entry.table) p.entry p.room))
+        rooms = zip-all-right R (λ (p : Placed). IsSomeAnd (terms_named names p.entry.table) (λ u. IsFilled c seed u u.kind (list_of all p.entry.table) p.entry p.room))
             (λ x a h. filled-here a.entry a.room h.fits) ns placed have;
-        parts = zip-right R (λ (p : Placed). IsPartOf c node p.room.part)
+        parts = zip-all-right R (λ (p : Placed). IsPartOf c node p.room.part)
             (λ x a h. subst (λ (r : Room). IsPartOf c node r.part) (sym h.room) (All-slice_get (IsPartOf c node) (parts_of c node) h.i h.p own h.is.there)) ns placed have;
         apart = zip-pairs R (λ x y. x ≡ y → ⊥) (λ (p q : Placed). is_same p.room q.room ≡ false)
             (λ x y a b ha hb ne.

@@ -52,14 +52,13 @@ use Rattle.rmt_update.specs.RowOrder.{IsFirstFit, entry_key}
 use Rattle.rmt_update.specs.Running.{is_among}
 use Rattle.rmt_update.specs.Spots.{spot_from}
 use Rattle.rmt_update.specs.Taking.{IsComing, IsRowGiven, MayBeGiven, MayGive, TakesFrom, TakesOpen, TakesRow, candidates_at}
-use Rattle.rmt_update.proofs.BookFacts.{holds-there, own-there, spot-facts, zip-beside_left, zip-shapes}
+use Rattle.rmt_update.proofs.BookFacts.{holds-there, own-there, spot-facts, zip-shapes}
 use Rattle.rmt_update.proofs.CandidateLaws.{key-low}
 use Rattle.rmt_update.proofs.ComesLaws.{comes, exact-room, none-comes, room_for, rooms-are, taken}
 use Rattle.rmt_update.proofs.FirstLaws.{IsRowKind}
 use Rattle.rmt_update.proofs.FirstRowLaws.{first-row}
 use Rattle.rmt_update.proofs.FreeLaws.{AreGiven, FirstIs, all_rooms, first-free, kept-bit}
 use Rattle.rmt_update.proofs.IndexStart.{key-less, low-entry, none-unseen, rows-start}
-use Rattle.rmt_update.proofs.BookLaws.{memory-of}
 use Rattle.rmt_update.proofs.NodeLists.{found-at}
 use Rattle.rmt_update.proofs.PartOrder.{rooms-apart}
 use Rattle.rmt_update.proofs.PartStages.{parts-apart}
@@ -70,6 +69,8 @@ use Rattle.rmt_update.proofs.RowRooms.{before-rows, numbered-row, room-there, ro
 use Rattle.rmt_update.proofs.RowsStand.{IsLow, RowsStand, no-row, row-more}
 use Rattle.rmt_update.proofs.ShapeLaws.{cells-are}
 use Rattle.rmt_update.proofs.TableRules.{Own, all-bits, all-rows, row-parts}
+use Rattle.rmt_update.proofs.ZipLaws.{zip-left}
+use Rattle.rmt_refine.proofs.LayoutLaws.{memory_formed}
 
 -- ---- kinds
 
@@ -118,7 +119,7 @@ module _ (w : Run) (b : Book) (ch : Changes) (run : IsRunOf b ch w) (ordered : A
   own = own-there w.config w.names w.cells w.lists b run.stands run.named at x at_x
 
   apart : AllPairs (λ (a b : PartAt). a.stage < b.stage) parts
-  apart = parts-apart w.config x.name.node (memory-of w.config run.stands.formed)
+  apart = parts-apart w.config x.name.node (memory_formed w.config run.stands.formed)
 
   parts-long : length x.parts.items ≡ length parts
   parts-long = AllZip-long (HoldsPart w.cells) parts x.parts.items holds
@@ -324,7 +325,7 @@ module _ (w : Run) (b : Book) (ch : Changes) (run : IsRunOf b ch w) (ordered : A
           (All-slice_get (λ (p : PartAt). HasRows p.slot.memory) parts s.part room.part (all-rows w.config w.names w.lists x.name.node x own) there) candidate
 
       beside : (y : PartCells) × (slice_get x.parts.items s.part ≡ Some y) × HoldsPart w.cells room.part y
-      beside = zip-beside_left (HoldsPart w.cells) parts x.parts.items s.part room.part holds there
+      beside = zip-left (HoldsPart w.cells) parts x.parts.items s.part room.part holds there
 
       abbrev the_spot : IsBookSpot tables spot
       the_spot = record {

@@ -37,8 +37,8 @@ use Rattle.rmt_update.specs.Planned.{changed_lists}
 use Rattle.rmt_update.specs.RowIndex.{HaveOwnRows, IsIndex, rows_of}
 use Rattle.rmt_update.specs.Running.{is_among}
 use Rattle.rmt_update.specs.Taking.{Holds, MayCome, MayGive, TakesFrom}
-use Rattle.rmt_update.proofs.BookFacts.{book-tables, holds-there, kept-facts, nodes-rising, own-there, zip-beside, zip-beside_left, zip-shapes}
-use Rattle.rmt_update.proofs.BookLaws.{memory-of, names-fit}
+use Rattle.rmt_update.proofs.BookFacts.{book-tables, holds-there, kept-facts, nodes-rising, own-there, zip-shapes}
+use Rattle.rmt_update.proofs.BookLaws.{names-fit}
 use Rattle.rmt_update.proofs.ComeLaws.{come-is}
 use Rattle.rmt_update.proofs.ComesLaws.{none-comes}
 use Rattle.rmt_update.proofs.IndexStart.{entry-formed}
@@ -51,6 +51,8 @@ use Rattle.rmt_update.proofs.SliceLoops.{flat-next, take-next}
 use Rattle.rmt_update.proofs.ShapeLaws.{cells-are}
 use Rattle.rmt_update.proofs.StayLaws.{come-new, come-unnumbered, stay_placed}
 use Rattle.rmt_update.proofs.TableRules.{few-bits}
+use Rattle.rmt_update.proofs.ZipLaws.{zip-left, zip-right}
+use Rattle.rmt_refine.proofs.LayoutLaws.{memory_formed}
 
 -- how far entries have come to a table: those before it, and the first so many that come to it
 pub record Progress (w : Run) (b : Book) (ch : Changes) (at : ℕ) (x : TableCells) (k : ℕ) (xs : List Coming) (index : TableIndex) : Type 0 where
@@ -99,7 +101,7 @@ module _ (w : Run) (b : Book) (ch : Changes) (run : IsRunOf b ch w) (ordered : A
       (λ (p : PartAt). eqb (length x.name.actions) p.slot.actions && list_all (λ (a : ActionName). nat_le (sum a.params) p.slot.held) x.name.actions) (λ p h. h) (parts_of w.config x.name.node) actions in
       λ i d lt a at_a.
       let y = get_or x.parts.items i d in
-      let beside = zip-beside HasShape (parts_of w.config x.name.node) x.parts.items i y
+      let beside = zip-right HasShape (parts_of w.config x.name.node) x.parts.items i y
       (zip-shapes w.cells (parts_of w.config x.name.node) x.parts.items (holds-there w.config w.names w.cells w.lists b run.stands run.named at x at_x)) (slice_get-get_or x.parts.items i d lt) in
       let p = beside.0 in
       let fits = (and_parts _ _ (All-slice_get (λ (p : PartAt). (eqb (length x.name.actions) p.slot.actions && list_all (λ (a : ActionName). nat_le (sum a.params) p.slot.held) x.name.actions) ≡ true)
@@ -126,8 +128,8 @@ module _ (w : Run) (b : Book) (ch : Changes) (run : IsRunOf b ch w) (ordered : A
           → (p : Numbered (parts_of w.config x.name.node) i) (q : Numbered (parts_of w.config x.name.node) j) → slice_get (rows_of x.parts.items) i ≡ Some (Some k) → slice_get (rows_of x.parts.items) j ≡ Some (Some l) → k.number ≡ l.number → i ≡ j
       by parts holds shapes p q at_i at_j same =
           let ps = parts_of w.config x.name.node in
-          let y = zip-beside_left (HoldsPart w.cells) ps x.parts.items p.at p.p holds p.is.there in
-          let z = zip-beside_left (HoldsPart w.cells) ps x.parts.items q.at q.p holds q.is.there in
+          let y = zip-left (HoldsPart w.cells) ps x.parts.items p.at p.p holds p.is.there in
+          let z = zip-left (HoldsPart w.cells) ps x.parts.items q.at q.p holds q.is.there in
           let kept : get nat_cmp y.0.cells p.n ≡ Some k = same_Some (get nat_cmp y.0.cells p.n) (Some k) (sym (row-there ps x.parts.items i p.at p.n p.p y.0 shapes p.is y.1) ∙ at_i) in
           let kept2 : get nat_cmp z.0.cells q.n ≡ Some l = same_Some (get nat_cmp z.0.cells q.n) (Some l) (sym (row-there ps x.parts.items j q.at q.n q.p z.0 shapes q.is z.1) ∙ at_j) in
           let size = cells-are p.p.slot y.0.shape y.2.shape in
@@ -146,7 +148,7 @@ module _ (w : Run) (b : Book) (ch : Changes) (run : IsRunOf b ch w) (ordered : A
           let stage : p.p.stage ≡ q.p.stage = ap (λ (r : PartAt). r.stage) (sym part) ∙ cells.0 ∙ ap (λ (r : PartAt). r.stage) part2 in
           let e_i = p.is.number in
           let e_j = q.is.number in
-          let apart = parts-apart w.config x.name.node (memory-of w.config run.stands.formed) in
+          let apart = parts-apart w.config x.name.node (memory_formed w.config run.stands.formed) in
           elim (cases_lt p.at q.at) [
             | inl lt ↦ let l = pair-at (λ (a b : PartAt). a.stage < b.stage) ps p.at q.at p.p q.p apart lt p.is.there q.is.there in absurd (omega (arith, l, stage))
             | inr le ↦ elim (cases_lt q.at p.at) [

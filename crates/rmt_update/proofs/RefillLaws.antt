@@ -15,20 +15,15 @@ use Rattle.rmt_update.specs.declared.book.kept.Kept.{Kept}
 use Rattle.rmt_update.specs.declared.book.spots.Spot.{Spot}
 use Rattle.rmt_update.specs.declared.book.table.PartCells.{PartCells}
 use Rattle.rmt_update.specs.declared.book.table.TableCells.{TableCells}
-use Rattle.rmt_update.specs.Coming.{KeepsEntry}
+use Rattle.rmt_update.specs.Coming.{HasSizes, KeepsEntry}
 use Rattle.rmt_update.specs.Refill.{AreRefilled, IsCleared, IsOneOf, SamePart, WithEntry}
+use Rattle.rmt_update.specs.declared.book.shape.Shape.{Shape}
+use Rattle.rmt_update.proofs.ZipLaws.{zip-all-right, zip-gives}
 
 pub same-parts : (x y z : PartCells) → SamePart x y → SamePart y z → SamePart x z
 same-parts x y z a b = record { stage = b.stage ∙ a.stage; place = b.place ∙ a.place; first = b.first ∙ a.first; shape = b.shape ∙ a.shape }
 
 -- ---- lists beside lists
-
-zip-at-right : {X Y : Type 0} (R : X → Y → Type 0) (xs : List X) (ys : List Y) (i : ℕ) (x : X) → AllZip R xs ys → slice_get xs i ≡ Some x → (y : Y) × (slice_get ys i ≡ Some y) × R x y
-zip-at-right R [] [] i x zip at = absurd (none-some x at)
-zip-at-right R [] (y ∷ ys) i x zip at = absurd zip
-zip-at-right R (z ∷ xs) [] i x zip at = absurd zip
-zip-at-right R (z ∷ xs) (y ∷ ys) zero x zip at = (y, refl, subst (λ w. R w y) (same_Some z x at) zip.0)
-zip-at-right R (z ∷ xs) (y ∷ ys) (suc i) x zip at = zip-at-right R xs ys i x zip.1 at
 
 zip-set : {X Y : Type 0} (R : X → Y → Type 0) (xs : List X) (ys : List Y) (i : ℕ) (y y2 : Y) → AllZip R xs ys → slice_get ys i ≡ Some y → ((x : X) → R x y → R x y2) → AllZip R xs (slice_set ys i y2)
 zip-set R [] [] i y y2 zip at gives = zip
@@ -41,18 +36,6 @@ all-set : {X : Type 0} (P : X → Type 0) (xs : List X) (i : ℕ) (x : X) → Al
 all-set P [] i x all own = All-nil P
 all-set P (z ∷ xs) zero x all own = All-cons P x xs own (All-tail P z xs all)
 all-set P (z ∷ xs) (suc i) x all own = All-cons P z (slice_set xs i x) (All-head P z xs all) (all-set P xs i x (All-tail P z xs all) own)
-
-pub zip-gives : {X Y : Type 0} (R S : X → Y → Type 0) → ((x : X) (y : Y) → R x y → S x y) → (xs : List X) (ys : List Y) → AllZip R xs ys → AllZip S xs ys
-zip-gives R S gives [] [] zip = tt
-zip-gives R S gives [] (y ∷ ys) zip = absurd zip
-zip-gives R S gives (x ∷ xs) [] zip = absurd zip
-zip-gives R S gives (x ∷ xs) (y ∷ ys) zip = (gives x y zip.0, zip-gives R S gives xs ys zip.1)
-
-zip-all-right : {X Y : Type 0} (R : X → Y → Type 0) (P : Y → Type 0) → ((x : X) (y : Y) → R x y → P y) → (xs : List X) (ys : List Y) → AllZip R xs ys → All P ys
-zip-all-right R P gives [] [] zip = All-nil P
-zip-all-right R P gives [] (y ∷ ys) zip = absurd zip
-zip-all-right R P gives (x ∷ xs) [] zip = absurd zip
-zip-all-right R P gives (x ∷ xs) (y ∷ ys) zip = All-cons P y ys (gives x y zip.0) (zip-all-right R P gives xs ys zip.1)
 
 -- ---- a table
 
@@ -72,7 +55,7 @@ module _ (x : TableCells) (es : List Entry) (ss : List Spot) where
   module _ (at : ℕ) (parts : List PartCells) (e : Entry) (s : Spot) (y y2 : PartCells) (so_far : AreRefilled x es ss at parts) (in_es : slice_get es at ≡ Some e) (in_ss : slice_get ss at ≡ Some s)
       (here : slice_get parts s.part ≡ Some y) (put : WithEntry x.name e s.cell y y2) where
     later : (i n : ℕ) (z : PartCells) (k : Kept) → IsOneOf x.name es ss at i n z k → IsOneOf x.name es ss (at + 1) i n z k
-    later i n z k h = record { j = h.j; below = (let lt = h.below in omega (arith, lt)); entry = h.entry; in_entries = h.in_entries; in_spots = h.in_spots; keeps = h.keeps }
+    later i n z k h = record { j = h.j; below = (let lt = h.below in omega (arith, lt)); entry = h.entry; in_entries = h.in_entries; in_spots = h.in_spots; keeps = h.keeps; sizes = h.sizes }
 
     stays : (n : ℕ) → IsSome (get nat_cmp y.cells n) → IsSome (get nat_cmp y2.cells n)
     stays n some = ap is_some (put.put n) ∙ by (s.cell == n)
@@ -115,10 +98,11 @@ module _ (x : TableCells) (es : List Entry) (ss : List Spot) where
               in_entries = in_es;
               in_spots = in_ss ∙ ap (λ m. Some (record { part = s.part; cell = m })) cell;
               keeps = subst (λ f. KeepsEntry x.name f n 3 e k) (sym put.same.first) (subst (KeepsEntry x.name y.first n 3 e) kept (subst (λ m. KeepsEntry x.name y.first m 3 e put.kept) cell put.keeps));
+              sizes = subst (λ (u : Shape). HasSizes x.name u.held k) (sym put.same.shape) (subst (HasSizes x.name y.shape.held) kept put.sizes);
             }
         by false f is =
             let h = so_far.found s.part n y k here is in
-            record { j = h.j; below = (let lt = h.below in omega (arith, lt)); entry = h.entry; in_entries = h.in_entries; in_spots = h.in_spots; keeps = subst (λ f. KeepsEntry x.name f n 3 h.entry k) (sym put.same.first) h.keeps }
+            record { j = h.j; below = (let lt = h.below in omega (arith, lt)); entry = h.entry; in_entries = h.in_entries; in_spots = h.in_spots; keeps = subst (λ f. KeepsEntry x.name f n 3 h.entry k) (sym put.same.first) h.keeps; sizes = subst (λ (u : Shape). HasSizes x.name u.held k) (sym put.same.shape) h.sizes }
 
     pub refilled-more : AreRefilled x es ss (at + 1) (slice_set parts s.part y2)
     refilled-more = record {

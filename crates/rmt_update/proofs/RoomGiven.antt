@@ -20,6 +20,7 @@ use Rattle.rmt_update.specs.Taking.{IsGiven}
 use Rattle.rmt_update.proofs.FreeLaws.{AreGiven}
 use Rattle.rmt_update.proofs.PartOrder.{pair-at, same-as}
 use Rattle.rmt_update.proofs.RowIndexLaws.{own-number, same-number}
+use Rattle.rmt_update.proofs.ZipLaws.{zip-made}
 
 -- ---- one room more
 
@@ -59,18 +60,12 @@ given-push cells ps q =
 
 -- ---- the cells that were given in exact parts
 
-pub zip-from : {X Y : Type 0} (R : X → Y → Type 0) (xs : List X) (ys : List Y) → length ys ≡ length xs → ((i : ℕ) (x : X) (y : Y) → slice_get xs i ≡ Some x → slice_get ys i ≡ Some y → R x y) → AllZip R xs ys
-zip-from R [] [] long each = tt
-zip-from R [] (y ∷ ys) long each = absurd (omega (arith, long))
-zip-from R (x ∷ xs) [] long each = absurd (omega (arith, long))
-zip-from R (x ∷ xs) (y ∷ ys) long each = (each 0 x y refl refl, zip-from R xs ys (omega (arith, long)) (λ i z u at_z at_u. each (suc i) z u at_z at_u))
-
 -- before any entry comes to a table, none of its unseen cells is given
 pub none-given : (cells : RunCells) (ps : List Placed) (parts : List PartAt) (given : List (BTreeSet ℕ)) → length given ≡ length parts → All IsNone given
     → ((i : ℕ) (p : PartAt) (n : ℕ) → slice_get parts i ≡ Some p → has_bit cells.version (cells.content p.stage p.place n).head ≡ false → list_any (λ (q : Placed). is_same q.room (record { part = p; cell = n })) ps ≡ false)
     → AllZip (AreGiven cells ps) parts given
 none-given cells ps parts given long none unseen =
-    zip-from (AreGiven cells ps) parts given long (λ i p g at_p at_g n clear. unseen i p n at_p clear ∙ sym (All-slice_get IsNone given i g none at_g n))
+    zip-made (AreGiven cells ps) parts given (sym long) (λ i p g at_p at_g n clear. unseen i p n at_p clear ∙ sym (All-slice_get IsNone given i g none at_g n))
 
 -- of two parts in different stages the rooms are not the same
 other-stage : (a b : Room) → a.part.stage ≢ b.part.stage → is_same a b ≡ false
@@ -79,7 +74,7 @@ other-stage a b ne = false_from_ne_true (is_same a b) (λ e. ne (sym (same-as a 
 -- a further cell is given
 pub one-given : (cells : RunCells) (ps : List Placed) (q : Placed) (parts : List PartAt) (old new : List (BTreeSet ℕ)) (s : Spot) → AllPairs (λ (a b : PartAt). a.stage < b.stage) parts → slice_get parts s.part ≡ Some q.room.part → q.room.cell ≡ s.cell
     → IsGiven old new s → AllZip (AreGiven cells ps) parts old → AllZip (AreGiven cells (ps ++ q ∷ [])) parts new
-one-given cells ps q parts old new s apart there cell given zip = zip-from (AreGiven cells (ps ++ q ∷ [])) parts new long each
+one-given cells ps q parts old new s apart there cell given zip = zip-made (AreGiven cells (ps ++ q ∷ [])) parts new (sym long) each
   where
     long : length new ≡ length parts
     long = ap (λ (gs : List (BTreeSet ℕ)). length gs) given.changed ∙ length-set old s.part given.behind ∙ AllZip-long (AreGiven cells ps) parts old zip

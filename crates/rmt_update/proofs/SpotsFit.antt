@@ -31,9 +31,10 @@ use Rattle.rmt_update.specs.Loads.{AreTables, HasShape, table_of}
 use Rattle.rmt_update.specs.Refill.{FitsInto, TableFits, spots_of}
 use Rattle.rmt_update.specs.Spots.{no_part, placed_from, placed_in, room_at}
 use Rattle.rmt_update.proofs.BookLaws.{names-fit}
-use Rattle.rmt_update.proofs.CellsFound.{zip-left, zip-made}
 use Rattle.rmt_update.proofs.LoadLaws.{table-entries}
 use Rattle.rmt_update.proofs.TableRules.{Own, few-bits, own-table}
+use Rattle.rmt_update.proofs.ZipLaws.{zip-left, zip-made}
+use Rattle.rmt_refine.proofs.FilledLaws.{room_there}
 
 -- ---- entries with rooms, one by one
 
@@ -99,13 +100,6 @@ from-placed c k (es ∷ lists) (ss ∷ spots) p there = elim (Contains-append_ca
 ]
 
 -- ---- the cell of an entry
-
--- an entry that has a room as it may where cells move stands in a candidate cell of its key
-pub filled-room : (c : Config) (seed : ℕ) (t : Terms) (k : Kind) (es : List Entry) (e : Entry) (room : Room) → IsFilled c seed t k es e room → Contains (rooms_for c seed e.table (key_number t e)) room
-filled-room c seed t kind.Keyless es e room is = absurd is
-filled-room c seed t kind.Exact es e room is = is
-filled-room c seed t kind.Prefix es e room is = Contains-item (rooms_for c seed e.table (key_number t e)) _ room is
-filled-room c seed t kind.Ternary es e room is = Contains-item (rooms_for c seed e.table (key_number t e)) _ room is
 
 -- the spot of an entry: a cell of a part of its table in which its key may stand
 pub record StandsIn (seed key : ℕ) (ps : List PartAt) (s : Spot) : Type 0 where
@@ -178,7 +172,7 @@ module _ (c : Config) (names : Names) (seed : ℕ) (lists : List (List Entry)) (
     pub own-stands : (j : ℕ) (e : Entry) (s : Spot) → slice_get (list_of lists node) j ≡ Some e → slice_get (spots_of spots node) j ≡ Some s → StandsIn seed (key_number t e) (parts_of c node) s
     own-stands j e s at_e at_s =
         let entry = All-slice_get (IsEntry node t) (list_of lists node) j e (table-entries c names lists node x h formed lt).each at_e in
-        let there = filled-room c seed t t.kind (list_of lists node) e (room_at (parts_of c node) s) (own-filled j e s at_e at_s) in
+        let there = room_there c seed t t.kind (list_of lists node) e (room_at (parts_of c node) s) (own-filled j e s at_e at_s) in
         stands-in c seed node (key_number t e) s (subst (λ n. Contains (rooms_for c seed n (key_number t e)) (room_at (parts_of c node) s)) entry.table there)
 
   -- ---- a table

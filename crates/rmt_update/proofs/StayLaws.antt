@@ -34,10 +34,12 @@ use Rattle.rmt_update.specs.Planned.{changed_list, changed_lists}
 use Rattle.rmt_update.specs.Running.{is_among}
 use Rattle.rmt_update.specs.Seen.{entries_at, entries_by_part, entries_in, is_seen}
 use Rattle.rmt_update.specs.Told.{told_entry}
-use Rattle.rmt_update.proofs.BookFacts.{book-tables, found-there, holds-there, kept-facts, placed-seen, zip-beside}
+use Rattle.rmt_update.proofs.BookFacts.{book-tables, found-there, holds-there, kept-facts, placed-seen}
 use Rattle.rmt_update.proofs.ByNumberLaws.{from-by_number, to-by_number}
 use Rattle.rmt_update.proofs.NodeLists.{found-at}
 use Rattle.rmt_update.proofs.ShapeLaws.{cells-are}
+use Rattle.rmt_update.proofs.ZipLaws.{zip-right}
+use Rattle.rmt_refine.proofs.EntryLaws.{is_numbered}
 
 -- ---- lists
 
@@ -78,9 +80,6 @@ to-enumerate {X} f a (suc len) n ge lt = elim (cases_lt a n) [
       subst (λ m. Contains ((a, f a) ∷ enumerate_from (a + 1) (map f (range_with_len (a + 1) len))) (m, f m)) here (Contains-first (a, f a) (enumerate_from (a + 1) (map f (range_with_len (a + 1) len))))
 ]
 
-pub numbered : (es : List Entry) (e : Entry) → Contains es e → is_numbered_in es e ≡ true
-numbered es e there = list_any-Contains (λ (o : Entry). o.number == e.number) es e there (eq-eqb e.number e.number refl)
-
 -- ---- a run
 
 module _ (w : Run) (b : Book) (ch : Changes) (run : IsRunOf b ch w) (ordered : All AreOrdered b.tables.items) where
@@ -103,7 +102,7 @@ module _ (w : Run) (b : Book) (ch : Changes) (run : IsRunOf b ch w) (ordered : A
       let order = All-slice_get (λ (y : PartCells). IsOrdered nat_cmp y.cells) t.parts.items part.0 x (All-slice_get AreOrdered b.tables.items i t ordered at) part.2 in
       let n = entry.0.0 in
       let there = (btree_map_get_iff nat_cmp_total exact_unsigned x.cells order n told.0).1 (subst (λ k. Contains x.cells.entries (n, k)) entry.2 entry.1) in
-      let beside = zip-beside (HoldsPart w.cells) (parts_of w.config t.name.node) t.parts.items part.0 x (holds-there w.config w.names w.cells w.lists b run.stands run.named i t at) part.2 in
+      let beside = zip-right (HoldsPart w.cells) (parts_of w.config t.name.node) t.parts.items part.0 x (holds-there w.config w.names w.cells w.lists b run.stands run.named i t at) part.2 in
       let inside = All-contains (λ m. m < cells_in beside.0.slot.memory) (keys x.cells) n beside.2.within (Contains-map (λ (p : ℕ × Kept). p.0) x.cells.entries entry.0 entry.1) in
       let size = cells-are beside.0.slot x.shape beside.2.shape in
       record {
@@ -234,7 +233,7 @@ module _ (w : Run) (b : Book) (ch : Changes) (run : IsRunOf b ch w) (ordered : A
       let in_after : Contains (all_entries after) e =
       Contains-flat_map (λ (ys : List Entry). ys) after (changed_list ch (node, es)) e (Contains-map (changed_list ch) (enumerate_from 0 w.lists) (node, es) at_node) changed in
       let in_before : Contains (all_entries w.lists) e = Contains-flat_map (λ (ys : List Entry). ys) w.lists es e (from-enumerate 0 w.lists node es at_node) in_list in
-      Contains-filter (is_numbered_in (all_entries w.lists)) (all_entries after) e in_after (numbered (all_entries w.lists) e in_before)
+      Contains-filter (is_numbered_in (all_entries w.lists)) (all_entries after) e in_after (is_numbered (all_entries w.lists) e in_before)
 
   stays-placed : (s : BookSpot) (e : Entry) → Stays s e → placed_now w.config w.names w.cells e ≡ Some (record { entry = e; room = room_of w.config b.tables.items s })
   stays-placed s e h =

@@ -29,13 +29,14 @@ use Rattle.rmt_config.proofs.SpelledParts.{parts-stand}
 use Rattle.rmt_config.proofs.SpelledWays.{parts-follow}
 use Rattle.rmt_update.specs.declared.book.table.TableCells.{TableCells}
 use Rattle.rmt_update.specs.Loads.{AreTables, HasShape, HaveShapes, table_of}
-use Rattle.rmt_update.proofs.BookLaws.{TableFacts, memory-of, table-facts}
+use Rattle.rmt_update.proofs.BookLaws.{TableFacts, table-facts}
 use Rattle.rmt_update.proofs.FirstLaws.{IsRowKind}
 use Rattle.rmt_update.proofs.PartNumbers.{SlotsFrom, parts-numbered}
 use Rattle.rmt_update.proofs.PartOrder.{IsPartOf, parts-own}
 use Rattle.rmt_update.proofs.RoomNumbers.{HasRows, IsRows, slice_get-map_range, total}
 use Rattle.rmt_update.proofs.ShapeLaws.{slot-short}
 use Rattle.rmt_update.proofs.ToldEntryLaws.{PartFacts, all-facts}
+use Rattle.rmt_refine.proofs.LayoutLaws.{memory_formed}
 
 -- ---- the table of a node
 
@@ -85,7 +86,7 @@ pub record Own (c : Config) (names : Names) (lists : List (List Entry)) (node : 
 
 pub own-table : (c : Config) (names : Names) (tables : List TableCells) (lists : List (List Entry)) (node : ℕ) (x : TableCells) → AreTables c names tables → table_of tables node ≡ Some x → Own c names lists node x
 own-table c names tables lists node x are found =
-    let memory = memory-of c are.formed in
+    let memory = memory_formed c are.formed in
     let all = All-unmap (TableFacts c) (λ (y : TableCells). y.name) tables (subst (All (TableFacts c)) are.same (table-facts c names are.formed are.named)) in
     let facts = All-find (λ (y : TableCells). TableFacts c y.name) (λ (y : TableCells). y.name.node == node) tables x all found in
     let same : x.name.node ≡ node = eqb-true x.name.node node (find-passes (λ (y : TableCells). y.name.node == node) tables x found) in

@@ -16,7 +16,7 @@ use Rattle.rmt_update.specs.declared.book.Book.{Book}
 use Rattle.rmt_update.specs.declared.book.kept.Kept.{Kept}
 use Rattle.rmt_update.specs.declared.book.table.PartCells.{PartCells}
 use Rattle.rmt_update.specs.declared.book.table.TableCells.{TableCells}
-use Rattle.rmt_update.specs.Kept.{IsKept}
+use Rattle.rmt_update.specs.Kept.{HasBytes, IsKept}
 use Rattle.rmt_update.specs.PartShape.{IsShape}
 use Rattle.rmt_update.specs.Seen.{IsReadable, entries_seen}
 
@@ -39,6 +39,7 @@ pub record HoldsPart (cells : RunCells) (p : PartAt) (x : PartCells) : Type 0 wh
   pub within : All (λ n. n < cells_in p.slot.memory) (keys x.cells)
   pub each : (n : ℕ) → n < cells_in p.slot.memory
       → IsKeptOf cells.seed p (cells.content p.stage p.place n) (record { cell = n; number = cells.number p.stage p.place n }) (get nat_cmp x.cells n)
+  pub bytes : (n : ℕ) (k : Kept) → get nat_cmp x.cells n ≡ Some k → HasBytes p.slot k
 
 -- the cells of the parts of a table
 abbrev pub HoldsTable : Config → RunCells → TableCells → Type 0

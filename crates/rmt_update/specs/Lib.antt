@@ -7,6 +7,8 @@ pub mod Coming
 pub mod Differences
 pub mod Encoded
 pub mod FirstFull
+pub mod Fitting
+pub mod Following
 pub mod Holding
 pub mod Kept
 pub mod Listed

@@ -10,13 +10,14 @@ use Rattle.rmt_config.specs.Rooms.{PartAt, parts_of}
 use Rattle.rmt_update.specs.declared.book.kept.Kept.{Kept}
 use Rattle.rmt_update.specs.declared.book.table.PartCells.{PartCells}
 use Rattle.rmt_update.specs.declared.book.table.TableCells.{TableCells}
-use Rattle.rmt_update.specs.Kept.{IsKept}
+use Rattle.rmt_update.specs.Kept.{HasBytes, IsKept}
 use Rattle.rmt_update.specs.PartShape.{IsShape}
 
 -- a cell of a part by its number, with the rank of its entry
 pub record IsRanked (c : Config) (t : TableName) (p : PartAt) (n : CellNumber) (x : ℕ × Kept) : Type 0 where
   pub at : x.0 ≡ n.cell
   pub kept : IsKept (bits_of_lanes p.slot.keys) p.slot.memory (held_by c p n) n x.1
+  pub bytes : HasBytes p.slot x.1
   pub rank : x.1.rank ≡ rank_in t.kind t (held_by c p n).mask n.number
 
 -- the cells that a part lists

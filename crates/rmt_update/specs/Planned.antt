@@ -5,10 +5,12 @@ use Rattle.rmt_ast.specs.Answers.{entry_numbers}
 use Rattle.rmt_ast.specs.NameRules.{AreEntriesOf}
 use Rattle.rmt_ast.specs.declared.entry.Entry.{Entry}
 use Rattle.rmt_ast.specs.declared.names.Names.{Names}
+use Rattle.rmt_config.specs.declared.cell_write.CellWrite.{CellWrite}
 use Rattle.rmt_config.specs.declared.config.Config.{Config}
+use Rattle.rmt_config.specs.declared.config.SlotUnit.{SlotUnit}
 use Rattle.rmt_config.specs.Commits.{AreWrites, Makes, placed_after}
 use Rattle.rmt_config.specs.NamesForm.{by_number}
-use Rattle.rmt_config.specs.RunCells.{RunCells, with_version}
+use Rattle.rmt_config.specs.RunCells.{RunCells, slot_at, with_version}
 use Rattle.rmt_update.specs.declared.book.Book.{Book}
 use Rattle.rmt_update.specs.declared.book.plan.Plan.{Plan}
 use Rattle.rmt_update.specs.declared.fault.UpdateFault.{UpdateFault}
@@ -16,6 +18,7 @@ use Rattle.rmt_update.specs.declared.fault.UpdateFault.TheVariants.{NoMemory, Lo
 use Rattle.rmt_update.specs.declared.lists.Changes.{Changes}
 use Rattle.rmt_update.specs.BookStands.{BookStands, IsUsed}
 use Rattle.rmt_update.specs.FirstFull.{HasNoLoading, IsFirstFull}
+use Rattle.rmt_update.specs.Kept.{AreBytesOf}
 use Rattle.rmt_update.specs.Running.{is_among}
 
 -- a list of a node without the entries that go and with those that come
@@ -36,11 +39,19 @@ pub record MayChange (c : Config) (names : Names) (cells : RunCells) (lists : Li
   pub come_within : All (λ (e : Entry). e.table < length lists) ch.come
   pub formed : AreEntriesOf names (changed_lists lists ch)
 
--- A plan of a commit between cells with these entries: what it makes of the cells, the cells that it changes to that end, and that the book
--- stands for the next version.
+-- a changed cell of a slot, with as many bytes as those of the slot where it gets an entry
+pub record HasLengths (c : Config) (w : CellWrite) : Type 0 where
+  pub slot : SlotUnit
+  pub there : slot_at c w.stage w.unit ≡ Some slot
+  pub visible : w.visible < 4
+  pub bytes : w.visible ≢ 0 → AreBytesOf slot w.key w.mask w.held
+
+-- A plan of a commit between cells with these entries: what it makes of the cells, the cells that it changes to that end, with as many bytes as
+-- their slots', and that the book stands for the next version.
 pub record IsPlanned (c : Config) (names : Names) (cells : RunCells) (before after : List (List Entry)) (plan : Plan) (next : RunCells) (b : Book) : Type 0 where
   pub makes : Makes c names cells before after plan.moved plan.seed next
   pub writes : AreWrites c cells next plan.writes.items
+  pub sizes : All (HasLengths c) plan.writes.items
   pub stands : BookStands c (with_version next plan.seed) after b
 
 -- why a commit is not planned: for want of memory, or since a cell must move and nothing loads; then told with the first table that has no

@@ -13,7 +13,7 @@ use Rattle.rmt_update.specs.declared.book.kept.Kept.{Kept}
 use Rattle.rmt_update.specs.declared.book.spots.Spot.{Spot}
 use Rattle.rmt_update.specs.declared.book.table.PartCells.{PartCells}
 use Rattle.rmt_update.specs.declared.book.table.TableCells.{TableCells}
-use Rattle.rmt_update.specs.Coming.{KeepsEntry}
+use Rattle.rmt_update.specs.Coming.{HasSizes, KeepsEntry}
 
 -- a part but for its cells
 pub record SamePart (x y : PartCells) : Type 0 where
@@ -37,6 +37,7 @@ pub record WithEntry (t : TableName) (e : Entry) (n : ℕ) (x y : PartCells) : T
   pub same : SamePart x y
   pub kept : Kept
   pub keeps : KeepsEntry t x.first n 3 e kept
+  pub sizes : HasSizes t x.shape.held kept
   pub put : (m : ℕ) → get nat_cmp y.cells m ≡ (if n == m then Some kept else get nat_cmp x.cells m)
   pub ordered : IsOrdered nat_cmp y.cells
 
@@ -54,6 +55,7 @@ pub record IsOneOf (t : TableName) (es : List Entry) (ss : List Spot) (count i n
   pub in_entries : slice_get es j ≡ Some entry
   pub in_spots : slice_get ss j ≡ Some (record { part = i; cell = n })
   pub keeps : KeepsEntry t y.first n 3 entry k
+  pub sizes : HasSizes t y.shape.held k
 
 -- the first so many entries stand in the cells of their spots
 pub record AreRefilled (x : TableCells) (es : List Entry) (ss : List Spot) (count : ℕ) (parts : List PartCells) : Type 0 where

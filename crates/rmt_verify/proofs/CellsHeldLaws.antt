@@ -39,9 +39,10 @@ use Rattle.rmt_refine.proofs.RoomLaws.{PartIs, part_at_place, stages_there}
 use Rattle.rmt_refine.proofs.RoomOrderLaws.{Rises, pairs_flat, pairs_with, parts_in_order}
 use Rattle.rmt_refine.proofs.TheLaw.{table_entries}
 use Rattle.rmt_refine.proofs.ViewLaws.{content_is, number_is}
+use Rattle.rmt_refine.proofs.ShortLaws.{at_most}
 use Rattle.rmt_verify.specs.Types.{CellOf}
 use Rattle.rmt_verify.specs.CellsHeld.{CellHeld, CellsHeld, HeldThere, KeepsOrder, TableHeld, key_of, told_at}
-use Rattle.rmt_verify.proofs.ShortLists.{distinct_all, distinct_short}
+use Rattle.rmt_verify.proofs.ShortLists.{distinct_all}
 
 -- what is told of one cell comes before what is told of another
 abbrev IsSooner : CellOf → CellOf → Type 0
@@ -435,14 +436,14 @@ module _ (p : Program) (lists : List (List Entry)) (m : Map) (c : Config) (entri
     told_all =
         let told = map entry_told cells in
         let own_numbers = map number_of_entry (all_entries lists) in
-        let up = distinct_short told own_numbers (AllPairs-map ◌≢◌ entry_told cells told_once)
+        let up = at_most told own_numbers (AllPairs-map ◌≢◌ entry_told cells told_once)
         (All-map (Contains own_numbers) entry_told cells
         (λ i d lt.
         (let x = get_or cells i d in
         let o = told_of x (Contains-get_or cells i d lt) in
         subst (Contains own_numbers) o.number
         (Contains-map number_of_entry (all_entries lists) o.entry (listed_in lists o.entry.table o.listed_in.list o.entry o.listed_in.list_is o.listed_in.there))))) in
-        let down = distinct_short own_numbers told (AllPairs-map ◌≢◌ number_of_entry (all_entries lists) (numbers_apart p lists entries))
+        let down = at_most own_numbers told (AllPairs-map ◌≢◌ number_of_entry (all_entries lists) (numbers_apart p lists entries))
         (All-map (Contains told) number_of_entry (all_entries lists)
         (λ j f inside.
         (let e = get_or (all_entries lists) j f in
@@ -484,14 +485,14 @@ module _ (p : Program) (lists : List (List Entry)) (m : Map) (c : Config) (entri
       all_there : length (numbers n) ≡ length es
       all_there =
           let own_numbers = map number_of_entry es in
-          let up = distinct_short (numbers n) own_numbers (distinct_numbers n)
+          let up = at_most (numbers n) own_numbers (distinct_numbers n)
           (λ i d lt.
           (let u = get_or (numbers n) i d in
           let x = has_number n u (Contains-get_or (numbers n) i d lt) in
           let h = cell_holds x.part x.cell x.there x.among in
           subst (Contains own_numbers) (sym h.held.holds.number_is ∙ x.number) (Contains-map number_of_entry es h.entry h.there))) in
           let are = table_entries p lists n t es entries table list in
-          let down = distinct_short own_numbers (numbers n)
+          let down = at_most own_numbers (numbers n)
           (AllPairs-map ◌≢◌ number_of_entry es (AllPairs-weaker (λ (a b : Entry). a.number < b.number) (λ (a b : Entry). a.number ≢ b.number) (λ a b lt same. omega (arith, lt, same)) es are.rising))
           (All-map (Contains (numbers n)) number_of_entry es
           (λ j f inside.

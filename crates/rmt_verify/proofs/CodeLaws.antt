@@ -14,10 +14,11 @@ use Rattle.rmt_ast.specs.WellFormed.{Fits, IsProgram, IsTable, Takes}
 use Rattle.rmt_deps.specs.Edges.{of_action}
 use Rattle.rmt_phv.specs.Places.{KeepsApart, written_by}
 use Rattle.rmt_vliw.specs.declared.folded.Folded.{Folded}
+use Rattle.rmt_vliw.specs.Coded.{IsCodeOf, IsDefaultCodeOf, TableCoded}
 use Rattle.rmt_vliw.specs.Effects as effects
 use Rattle.rmt_vliw.specs.Folding.{IsFolding, dests_of}
 use Rattle.rmt_vliw.specs.Operations.{given, operations_of}
-use Rattle.rmt_verify.specs.Instructions.{IsCodeOf, IsDefaultCodeOf, TableCoded, TablesCoded}
+use Rattle.rmt_verify.specs.Instructions.{TablesCoded}
 use Rattle.rmt_vliw.proofs.InstructionLaws.{does, does_with, takes_folded}
 use Rattle.rmt_vliw.proofs.MeaningLaws.{action_of, folded_is}
 use Rattle.rmt_vliw.proofs.OperationLaws.{IsOpOf, operation_word, ops_all}

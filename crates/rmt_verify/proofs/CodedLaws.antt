@@ -6,7 +6,6 @@ use Rattle.std.proofs.lemmas.Bool.{and_parts, both_ways, cases_eq}
 use Rattle.std.proofs.lemmas.Option.{get_or_from_slice_get, same_Some, slice_get-get_or}
 use Rattle.rmt_bits.specs.declared.lane.Lane.{Lane}
 use Rattle.rmt_bits.proofs.AllLaws.{All-slice_get}
-use Rattle.rmt_bits.proofs.ListLaws.{slice_get-item}
 use Rattle.rmt_config.specs.Form.{Formed}
 use Rattle.rmt_config.specs.LaneForm.{headers_are_formed, ports_are_formed}
 use Rattle.rmt_config.specs.ParserForm.{parser_is_formed}
@@ -16,11 +15,11 @@ use Rattle.rmt_refine.specs.Cells.{first_code}
 use Rattle.rmt_config.specs.Life.{code_at}
 use Rattle.rmt_config.specs.declared.config.Vliw.{Vliw}
 use Rattle.rmt_refine.specs.Types.{Config, Operation, Program, Stage, Table, Unit}
+use Rattle.rmt_vliw.specs.Coded.{IsCodeOf, IsDefaultCodeOf, TableCoded}
 use Rattle.rmt_vliw.specs.Folding.{IsFolding}
 use Rattle.rmt_vliw.specs.Operations.{IsInstruction, given, operations_of}
 use Rattle.rmt_vliw.specs.declared.folded.Folded.{Folded}
-use Rattle.rmt_verify.specs.Instructions.{ActionsFold, IsCodeOf, IsDefaultCodeOf, TableCoded}
-use Rattle.rmt_verify.specs.StageCode.{AreFoldings, UnitCoded}
+use Rattle.rmt_verify.specs.StageCode.{UnitCoded}
 use Rattle.rmt_verify.specs.WordsRise.{CodeRises, WordsRise}
 use Rattle.rmt_verify.proofs.FoldedLaws.{folding_once}
 
@@ -99,10 +98,3 @@ stages_formed c formed =
     let each = list_all stage_is_formed c.stages in
     let starts = starts_are_formed (map (λ (s : Stage). s.start) c.stages) in
     (and_parts few each (and_parts (few && each) starts (and_parts front (stages_are_formed c.stages) formed.items).1).0).1
-
--- every action folds where there are foldings
-pub actions_fold : (p : Program) (folded : List Folded) → AreFoldings p folded → ActionsFold p
-actions_fold p folded are n lt =
-    let many = are.all_there in
-    let f = slice_get-item folded n (omega (arith, lt, many)) in
-    (f.0, are.each n f.0 f.1)

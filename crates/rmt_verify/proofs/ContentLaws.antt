@@ -29,14 +29,9 @@ use Rattle.rmt_pack.specs.declared.tcam.TcamWord.{TcamWord}
 use Rattle.rmt_pack.specs.Tcam.{FillsRow, IsWords, joined_words}
 use Rattle.rmt_pack.proofs.TcamLaws.{unit_row-words}
 use Rattle.rmt_verify.specs.Wanted.{Matches, word_in}
+use Rattle.rmt_refine.proofs.LayoutLaws.{at_layout, bytes_hold}
 
 -- ---- bytes of a number
-
-pub bytes_hold : (bits y : ℕ) → y < 2 ^ bits → number_of (bytes_of (divided_up bits 8) y) ≡ y
-bytes_hold bits y lt =
-    let enough = up-enough bits 8 (omega arith) in
-    let more : 2 ^ bits ≤ 2 ^ (8 * divided_up bits 8) = pow_mono (omega (arith, enough)) in
-    number_of-bytes_of (divided_up bits 8) y (omega (arith, lt, more))
 
 pub data_holds : (front bytes : List ℕ) (bits y : ℕ) → front ≡ replicate 256 0 → bytes ≡ front ++ bytes_of (divided_up bits 8) y → y < 2 ^ bits → number_of bytes ≡ y
 data_holds front bytes bits y zeros is lt =
@@ -56,19 +51,6 @@ data_long front bytes bits y zeros is =
     omega (arith, all, long, own)
 
 -- ---- layouts
-
-pub keys_in : (k p d bits : ℕ) → 0 < k → k < 256 → 0 < p → p < 65536 → 0 < d → d ≤ 106 → bits ≤ 640 → p * (bits + 8) ≤ 112 * k → IsInSram (exact_keys k p d bits)
-keys_in k p d bits lk hk lp hp ld hd hb fit = record { is = exact_keys-is k p d bits lk hk lp hp ld hd hb fit; in_sram = refl; in_blocks = refl }
-
-pub records_in : (p d n : ℕ) → 0 < p → p < 65536 → 0 < d → d ≤ 106 → 0 < n → n < 65536 → IsInSram (exact_records p d n)
-records_in p d n lp hp ld hd ln hn = record { is = exact_records-is p d n lp hp ld hd ln hn; in_sram = refl; in_blocks = refl }
-
-pub rows_in : (d n : ℕ) → 0 < d → d ≤ 106 → 0 < n → n < 65544 → IsInSram (ternary_records d n)
-rows_in d n ld hd ln hn = record { is = ternary_records-is d n ld hd ln hn; in_sram = refl; in_blocks = refl }
-
--- what holds of a layout holds of an equal one
-pub at_layout : (P : Layout → Type 0) (l l' : Layout) → l ≡ l' → P l' → P l
-at_layout P l l' e h = subst P (sym e) h
 
 -- ---- what is read of a cell
 

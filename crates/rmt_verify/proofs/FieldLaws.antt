@@ -18,6 +18,7 @@ use Rattle.rmt_config.specs.Effects.{begin_of}
 use Rattle.rmt_config.specs.Rooms.{tests_as_one}
 use Rattle.rmt_refine.proofs.KeyLaws.{block_eq}
 use Rattle.rmt_verify.specs.Wanted.{part_of}
+use Rattle.rmt_config.proofs.RiseLaws.{one_off}
 
 -- ---- tests
 
@@ -45,9 +46,6 @@ zip_drop R [] (y ∷ ys) (suc i) zip = absurd zip
 zip_drop R (x ∷ xs) [] (suc i) zip = absurd zip
 zip_drop R (x ∷ xs) (y ∷ ys) (suc i) zip = zip_drop R xs ys i zip.1
 
-cut : {X : Type 0} (xs : List X) (i : ℕ) (d : X) → i < length xs → drop i xs ≡ get_or xs i d ∷ drop (i + 1) xs
-cut xs i d lt = drop-cons xs i d lt ∙ ap (λ j. get_or xs i d ∷ drop j xs) (let e : suc i ≡ i + 1 = omega arith in e)
-
 -- what is left of a number is what is left of tests
 abbrev pub left_of : Bool → List ℕ → List Test → ℕ → ℕ → Bool
 left_of m ws ts n i = n % 2 ^ sum (drop i ws) == one m (drop i ws) (drop i ts)
@@ -68,7 +66,7 @@ module _ (m : Bool) (ws : List ℕ) (ts : List Test) (n : ℕ) (zip : AllZip IsT
       let long = AllZip-long IsTest ws ts zip in
       let inside : i < length ws = omega (arith, lt, long) in
       let size : rest i ≡ w + r = sum_by-drop_more (λ x. x) ws i 0 inside in
-      let value : one m (drop i ws) (drop i ts) ≡ part_of m t * 2 ^ r + low = ap (λ xs. one m xs (drop i ts)) (cut ws i 0 inside) ∙ ap (one m (w ∷ drop (i + 1) ws)) (cut ts i d lt) in
+      let value : one m (drop i ws) (drop i ts) ≡ part_of m t * 2 ^ r + low = ap (λ xs. one m xs (drop i ts)) (one_off ws i 0 inside) ∙ ap (one m (w ∷ drop (i + 1) ws)) (one_off ts i d lt) in
       let split : n % 2 ^ rest i ≡ slice n r w * 2 ^ r + n % 2 ^ r = ap (λ k. n % 2 ^ k) size ∙ mod-pow-add n w r in
       ap (λ a. a == one m (drop i ws) (drop i ts)) split ∙ ap (λ b. (slice n r w * 2 ^ r + n % 2 ^ r) == b) value
       ∙ block_eq (slice n r w) (part_of m t) (n % 2 ^ r) low r (mod_below n (2 ^ r) (pow_pos r)) (one_lt m (drop (i + 1) ws) (drop (i + 1) ts) (zip_drop IsTest ws ts (i + 1) zip))

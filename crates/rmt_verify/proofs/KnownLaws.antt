@@ -33,12 +33,10 @@ use Rattle.rmt_refine.specs.Types.{Config, Field, Kind, Node, Program, SlotUnit,
 use Rattle.rmt_refine.specs.Units.{DoesAs, TableCarried, UnitsCarried, applied, table_at}
 use Rattle.rmt_refine.proofs.PartLaws.{and_at, then_some, unit_of_part}
 use Rattle.rmt_refine.proofs.RoomLaws.{PartIs, stages_there}
-use Rattle.rmt_refine.proofs.TheLaw.{table_entries}
+use Rattle.rmt_refine.proofs.TheLaw.{key_fields, table_entries}
+use Rattle.rmt_refine.proofs.LayoutLaws.{memory_formed}
 use Rattle.rmt_verify.specs.TableKnown.{NodeKnown, PartKnown, TableKnown}
 use Rattle.rmt_verify.proofs.StageCodeLaws.{applied_table}
-
-pub memory_formed : (c : Config) → Formed c → MemoryIsFormed c
-memory_formed c formed = record { rows = formed.whole.rows; tables = formed.whole.tables; memory = formed.whole.memory }
 
 -- ---- the parts of a node
 
@@ -77,12 +75,6 @@ module _ (p : Program) (places : List (List Lane)) (parts : List Part) (starts :
 
 -- ---- the table of a node
 
-key_fields : (p : Program) (kd : Kind) (t : Table) → HasKey p kd t → All (λ f. f < length p.fields) t.key
-key_fields p kind.Keyless t has = subst (All (λ f. f < length p.fields)) (sym has.key) (All-nil (λ f. f < length p.fields))
-key_fields p kind.Exact t has = has.key_fields
-key_fields p kind.Prefix t has = has.0.key_fields
-key_fields p kind.Ternary t has = has.key_fields
-
 key_bits : (p : Program) (kd : Kind) (t : Table) → HasKey p kd t → bits_of p t.key ≤ 640
 key_bits p kind.Keyless t has = subst (λ (fs : List ℕ). bits_of p fs ≤ 640) (sym has.key) (let e : 0 ≤ 640 = omega arith in e)
 key_bits p kind.Exact t has = has.key_bits
@@ -115,26 +107,6 @@ table_known p lists c n t es widths good entries formed at list is =
     }
 
 -- ---- masks of all bits
-
--- masks of all bits are a mask of all bits
-pub whole_mask : (ws : List ℕ) (ts : List Test) → AllZip IsWhole ws ts → tests_as_one (λ test. test.mask) ws ts ≡ 2 ^ sum ws - 1
-whole_mask [] [] all = refl
-whole_mask [] (t ∷ ts) all = absurd all
-whole_mask (w ∷ ws) [] all = absurd all
-whole_mask (w ∷ ws) (t ∷ ts) all =
-    let size : 2 ^ sum (w ∷ ws) ≡ 2 ^ w * 2 ^ sum ws = ap (λ (n : ℕ). 2 ^ n) (sum_by-cons (λ x. x) w ws) ∙ pow-add 2 w (sum ws) in
-    ap (λ n. n * 2 ^ sum ws + tests_as_one (λ test. test.mask) ws ts) all.0
-    ∙ ap (λ n. (2 ^ w - 1) * 2 ^ sum ws + n) (whole_mask ws ts all.1)
-    ∙ joined (2 ^ w) (2 ^ sum ws) (pow_pos w) (pow_pos (sum ws)) ∙ ap (λ n. n - 1) (sym size)
-  where
-    joined : (a b : ℕ) → 0 < a → 0 < b → (a - 1) * b + (b - 1) ≡ a * b - 1
-    joined (suc a) (suc b) la lb =
-        let one : suc a - 1 ≡ a = omega arith in
-        let two : suc b - 1 ≡ b = omega arith in
-        let spread : suc a * suc b ≡ a * suc b + suc b = omega arith in
-        ap (λ n. n * suc b + (suc b - 1)) one ∙ omega (arith, spread)
-    joined (suc a) zero la lb = absurd (omega (arith, lb))
-    joined zero b la lb = absurd (omega (arith, la))
 
 -- ---- the widths of a key
 

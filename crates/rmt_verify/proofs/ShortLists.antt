@@ -8,6 +8,7 @@ use Rattle.std.proofs.lemmas.List.Kept.{AllPairs-cons}
 use Rattle.rmt_bits.proofs.ListLaws.{filter-short}
 use Rattle.rmt_bits.proofs.MemberLaws.{Contains-filter, Contains-from_any, Contains-split, list_any-Contains}
 use Rattle.rmt_bits.proofs.PairLaws.{AllPairs-head, AllPairs-tail}
+use Rattle.rmt_refine.proofs.ShortLaws.{at_most}
 
 abbrev differs : ℕ → ℕ → Bool
 differs x y = not (y == x)
@@ -38,17 +39,6 @@ differ x y apart = by (y == x) refl
     by true e = absurd (apart (sym (eqb-true y x e)))
     by false e = ap not e
 
--- they are no more than the numbers there
-pub distinct_short : (xs ys : List ℕ) → AllPairs ◌≢◌ xs → All (Contains ys) xs → length xs ≤ length ys
-distinct_short [] ys apart all = omega arith
-distinct_short (x ∷ xs) ys apart all =
-    let front = AllPairs-head ◌≢◌ x xs apart in
-    let rest = All-tail (Contains ys) x xs all in
-    let le = distinct_short xs (without x ys) (AllPairs-tail ◌≢◌ x xs apart)
-    (λ i d lt. Contains-filter (differs x) ys (get_or xs i d) (rest i d lt) (differ x (get_or xs i d) (front i d lt))) in
-    let lt = shorter x ys (All-head (Contains ys) x xs all) in
-    omega (arith, le, lt)
-
 -- where they are as many, each number there is one of them
 pub distinct_all : (xs ys : List ℕ) → AllPairs ◌≢◌ xs → All (Contains ys) xs → length ys ≤ length xs → (y : ℕ) → Contains ys y → Contains xs y
 distinct_all xs ys apart all few y there = by (list_any (λ m. m == y) xs) refl
@@ -58,5 +48,5 @@ distinct_all xs ys apart all few y there = by (list_any (λ m. m == y) xs) refl
     by false e =
         let new : All (λ m. y ≢ m) xs = λ i d lt same.
         both_ways (list_any (λ m. m == y) xs) e (list_any-Contains (λ m. m == y) xs (get_or xs i d) (Contains-get_or xs i d lt) (eq-eqb (get_or xs i d) y (sym same))) in
-        let le = distinct_short (y ∷ xs) ys (AllPairs-cons ◌≢◌ y xs new apart) (All-cons (Contains ys) y xs there all) in
+        let le = at_most (y ∷ xs) ys (AllPairs-cons ◌≢◌ y xs new apart) (All-cons (Contains ys) y xs there all) in
         absurd (omega (arith, le, few))

@@ -11,7 +11,8 @@ use Rattle.rmt_refine.specs.Cells.{first_code}
 use Rattle.rmt_refine.specs.Types.{Config, Node, Program, SlotUnit, Stage, Table, Unit, What}
 use Rattle.rmt_refine.specs.Units.{applied, table_at}
 use Rattle.rmt_refine.specs.View.{as_slot, slot_of}
-use Rattle.rmt_verify.specs.Instructions.{TableCoded, TablesCoded}
+use Rattle.rmt_vliw.specs.Coded.{TableCoded}
+use Rattle.rmt_verify.specs.Instructions.{TablesCoded}
 use Rattle.rmt_verify.specs.StageCode.{StageCoded, UnitCoded}
 
 -- the table that a node applies is one of the program's

@@ -32,12 +32,12 @@ use Rattle.rmt_refine.proofs.CellNumberLaws.{cells_listed}
 use Rattle.rmt_refine.proofs.EntryLaws.{ActionIs, action_is}
 use Rattle.rmt_refine.proofs.FindLaws.{Contains-range}
 use Rattle.rmt_refine.proofs.ViewLaws.{content_is}
+use Rattle.rmt_refine.proofs.BesideLaws.{whole_mask}
 use Rattle.rmt_vliw.proofs.FormedLaws.{params_few}
 use Rattle.rmt_verify.specs.CellsHeld.{CellHeld, HeldThere, told_at}
 use Rattle.rmt_verify.specs.TableKnown.{TableKnown}
 use Rattle.rmt_verify.specs.Types.{CellOf}
 use Rattle.rmt_verify.specs.Wanted.{IsWanted, Matches}
-use Rattle.rmt_verify.proofs.KnownLaws.{whole_mask}
 use Rattle.rmt_verify.proofs.OrderLaws.{one_numbered}
 
 -- ---- a part

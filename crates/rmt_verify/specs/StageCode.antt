@@ -6,8 +6,8 @@ use Rattle.rmt_config.specs.declared.config.Unit.TheVariants.{Gate, Slot}
 use Rattle.rmt_refine.specs.Cells.{first_code}
 use Rattle.rmt_refine.specs.Types.{Program, Stage, Table, Unit}
 use Rattle.rmt_refine.specs.Units.{table_at}
+use Rattle.rmt_vliw.specs.Coded.{TableCoded}
 pub use Rattle.rmt_vliw.specs.Folding.{AreFoldings}
-use Rattle.rmt_verify.specs.Instructions.{TableCoded}
 
 -- a unit whose first instruction has that number: where it is of a table, it has that table's instructions
 abbrev pub UnitCoded : Program → List (List Lane) → Stage → ℕ → Unit → Type 0

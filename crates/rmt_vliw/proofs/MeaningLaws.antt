@@ -5,7 +5,7 @@ use Rattle.std.proofs.lemmas.Bool.{eqb-true, eqb-false, ne_eqb, or_from, cases_B
 use Rattle.std.proofs.lemmas.List.{length-set, get_or-set_same, get_or-set_other, ext_get_or}
 use Rattle.std.proofs.lemmas.List.Elements.{All-nil, All-cons, All-head, All-tail}
 use Rattle.rmt_bits.proofs.AllLaws.{All-slice_get}
-use Rattle.rmt_bits.proofs.ListLaws.{slice_get-seen}
+use Rattle.rmt_bits.proofs.ListLaws.{slice_get-item, slice_get-seen}
 use Rattle.rmt_vliw.specs.Types.{Program, Action, Assign, Expr, Leaf, Op}
 use Rattle.rmt_ast.specs.declared.program.Expr.TheVariants.{One, Two}
 use Rattle.rmt_ast.specs.declared.program.Leaf.TheVariants as leaf
@@ -15,6 +15,7 @@ use Rattle.rmt_ast.specs.Control.{act_of}
 use Rattle.rmt_ast.specs.WellFormed.{IsProgram, IsAction, IsAssign, IsExpr, IsLeaf, IsOp}
 use Rattle.rmt_phv.specs.Packing.{map_ok}
 use Rattle.rmt_vliw.specs.declared.folded.Folded.{Folded}
+use Rattle.rmt_vliw.specs.Coded.{ActionsFold}
 use Rattle.rmt_vliw.specs.Folding.{Term, Atom, Joined, Terms, unassigned, in_place, term_of, and_then, terms_of, dests_of, leaf_of, two_of, expr_of, value_then, values_of, folded_of, AreFoldings, IsFolding, all_set, Means}
 use Rattle.rmt_vliw.proofs.FoldLaws.{has, others_all, none_assigned, then_same, then_other}
 
@@ -236,6 +237,13 @@ action_of p n folded h = folding_action p n folded (slice_get p.actions n) refl 
 pub folding_at : (p : Program) (all seen : List Folded) → AreFoldings p all → seen ≡ all → (a : ℕ) (folded : Folded) → a < length seen → folded ≡ get_or seen a folded → IsFolding p a folded
 folding_at p all seen are same a folded lt is =
     are.each a folded (slice_get-seen all seen a folded same lt is)
+
+-- every action folds where there are foldings
+pub actions_fold : (p : Program) (folded : List Folded) → AreFoldings p folded → ActionsFold p
+actions_fold p folded are n lt =
+    let many = are.all_there in
+    let f = slice_get-item folded n (omega (arith, lt, many)) in
+    (f.0, are.each n f.0 f.1)
 
 pub act_of-some : (p : Program) (n : ℕ) (a : Action) (args s : List ℕ) → slice_get p.actions n ≡ Some a → act_of p n args s ≡ acted p a.assigns args s
 act_of-some p n a args s at = ap (λ (o : Option Action). unwrap_or (option_map (λ (b : Action). acted p b.assigns args s) o) s) at

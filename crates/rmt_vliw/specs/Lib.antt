@@ -3,3 +3,4 @@ pub mod Folding
 pub mod Known
 pub mod Operations
 pub mod Effects
+pub mod Coded

@@ -2,7 +2,6 @@
 
 ghost use Rattle.std.specs.Prelude.{◌≡◌, ◌≤◌, ◌++◌, ℕ, true, false, [], IfOk, OnOk, map, sum, All};
 ghost use Rattle.std.specs.List.{AllZip};
-ghost use Rattle.std.specs.List.Sorted.{IsPermutation};
 ghost use Rattle.rmt_ast.specs.declared.program.Assign.{Assign};
 ghost use Rattle.rmt_ast.specs.WellFormed.{IsProgram, Fits};
 ghost use Rattle.rmt_phv.specs.Places.{KeepsApart};
@@ -79,8 +78,8 @@ pub fn instruction(
     requires program { IsProgram program.now }
     requires folded { (n : ℕ) × IsFolding program.now n folded.now }
     requires places { KeepsApart program.now places.now }
-    // One operation a piece.
-    ensures pieces { IfOk result (λ v. IsPermutation (operations_of places.now folded.now.params folded.now.values) v.ops) }
+    // One operation a piece, by rising word.
+    ensures pieces { IfOk result (λ v. IsInstruction (operations_of places.now folded.now.params folded.now.values) v.ops) }
     // With the arguments in the record it does to the lanes what the action does to a state, and to no other bit anything.
     ensures does { IfOk result (λ v. (n : ℕ) → IsFolding program.now n folded.now → Does program.now places.now n folded.now v.ops) }
     // It is formed in each slot whose data have room for the parameters.
@@ -115,8 +114,8 @@ pub fn default_instruction(
     requires folded { (n : ℕ) × IsFolding program.now n folded.now }
     requires args { AllZip Fits folded.now.params args.now }
     requires places { KeepsApart program.now places.now }
-    // One operation a piece.
-    ensures pieces { IfOk result (λ v. IsPermutation (operations_of places.now [] (map (given_of args.now) folded.now.values)) v.ops) }
+    // One operation a piece, by rising word.
+    ensures pieces { IfOk result (λ v. IsInstruction (operations_of places.now [] (map (given_of args.now) folded.now.values)) v.ops) }
     // It does to the lanes what the action does to a state, and to no other bit anything.
     ensures does { IfOk result (λ v. (n : ℕ) → IsFolding program.now n folded.now → DoesWith program.now places.now n args.now folded.now v.ops) }
     // It is formed as a default in each slot.

@@ -798,3 +798,38 @@ pub const VXLAN_LINES: &str =
 3 drop action
 4 drop reject
 ";
+
+pub const MOVING_HOST_PROGRAM: &str =
+    "// A table of hosts, counted: a frame leaves on the port of its destination, and is dropped where there is none.
+header eth { dst : 48; src : 48; kind : 16; } next accept;
+
+action to(port : 9) { out_port = port; }
+action away() { drop = 1; }
+
+table hosts { exact eth.dst; actions to; size 256; counted; default away(); }
+
+control { apply hosts; }
+";
+
+pub const MOVING_HOST_ENTRIES: &str = "hosts 0x020000000001 to 1
+";
+
+pub const MOVING_HOST_PACKETS: &str = "# the host is at port 1
+0 0200000000010200000000ff0800
+# and moves to port 2 while that frame is in flight
+- hosts 0x020000000001
++ hosts 0x020000000001 to 2
+commit
+0 0200000000010200000000ff0800
+# it leaves: this commit waits until the first frame has left
+- hosts 0x020000000001
+commit
+0 0200000000010200000000ff0800
+";
+
+pub const MOVING_HOST_LINES: &str = "0 1 0200000000010200000000ff0800
+1 2 0200000000010200000000ff0800
+2 drop action
+count 0 1 14
+count 1 1 14
+";

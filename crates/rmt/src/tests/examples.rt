@@ -117,6 +117,13 @@ const VXLAN: Example<'static> = Example {
     lines: VXLAN_LINES,
 };
 
+const MOVING_HOST: Example<'static> = Example {
+    program: MOVING_HOST_PROGRAM,
+    entries: MOVING_HOST_ENTRIES,
+    packets: MOVING_HOST_PACKETS,
+    lines: MOVING_HOST_LINES,
+};
+
 #[test]
 fn examples_on_the_chip(rt: HostRuntime) -> Result<(), Fail> {
     let alloc = rt.alloc();
@@ -171,6 +178,11 @@ fn examples_on_the_chip(rt: HostRuntime) -> Result<(), Fail> {
             "stages 1 latency 12\nbound 1 chain gate0\nminimal yes\n",
             "cycles 17\nflight 5\n",
         ),
+        (
+            MOVING_HOST,
+            "stages 1 latency 12\nbound 1 chain hosts\nminimal yes\n",
+            "cycles 28\nflight 2\n",
+        ),
     ] {
         assert!(rt; runs_on_chip(alloc, example, compiled, run)?, "{compiled}");
     }
@@ -191,6 +203,7 @@ fn examples_by_plain(rt: HostRuntime) -> Result<(), Fail> {
         TENANTS,
         OPTIONS,
         VXLAN,
+        MOVING_HOST,
     ] {
         assert!(rt; runs_plainly(alloc, example)?, "{}", example.program);
     }

@@ -2,12 +2,14 @@
 
 ghost use Rattle.rmt_chip.specs.Inputs.{MayEnter};
 
-use rmt_bits::answer::Verdict;
+use rmt_bits::answer::{Bytes, Verdict};
+use rmt_bits::sequence::Sequence;
 use rmt_chip::chip::Chip;
 use rmt_chip::frame::Frame;
 use rmt_chip::out::Out;
+use rmt_config::cell_write::CellWrite;
 use rmt_image::read_image;
-use std::alloc::AllocError;
+use std::alloc::{AllocError, Global};
 use std::process::Abort;
 use std::test::*;
 
@@ -115,6 +117,39 @@ pub fn step(
     assert!(rt; chip.entered() < 1 << 63);
     let frame = frame_of(rt, input);
     chip.clock(frame, out)
+}
+
+/// Bytes.
+pub fn bytes_of(alloc: Global, bytes: &[u8]) -> Result<Bytes, AllocError> {
+    Ok(Sequence::from_vec(Vec::from_slice(alloc, bytes)?))
+}
+
+/// A cycle with a changed cell.
+pub fn write(
+    rt: &impl Abort,
+    chip: &mut Chip,
+    out: &mut Out,
+    write: &CellWrite,
+) -> Option<Verdict> {
+    assert!(rt; chip.takes(write), "a cell that is taken");
+    assert!(rt; chip.spare() > 0, "room for a counter");
+    chip.clock_write(write, out)
+}
+
+/// A cycle that makes the next version the current one, with a seed.
+pub fn commit(rt: &impl Abort, chip: &mut Chip, out: &mut Out, seed: u8) -> Option<Verdict> {
+    assert!(rt; chip.version() < 1 << 63);
+    chip.clock_commit(seed, out)
+}
+
+/// What stands in a table for a cycle.
+pub fn at<T: Copy>(rows: &[(usize, T)], cycle: usize) -> Option<T> {
+    for (when, what) in rows {
+        if *when == cycle {
+            return Some(*what);
+        }
+    }
+    None
 }
 
 /// What is seen of the packet of an age: its number, and a word.

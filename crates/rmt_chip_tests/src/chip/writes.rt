@@ -1,8 +1,8 @@
 //! Changed cells and versions while packets are in flight, worked out by hand. In `SEVEN` a packet reads its key at age 12 and
 //! leaves at age 24, with the port that the entry of key 7 gives, or port 0 where it finds none.
 
-use crate::chip::fixture::{TWO_BYTES, open, step};
-use rmt_bits::answer::{Bytes, Verdict};
+use crate::chip::fixture::{TWO_BYTES, at, bytes_of, commit, open, step, write};
+use rmt_bits::answer::Verdict;
 use rmt_bits::sequence::Sequence;
 use rmt_chip::chip::Chip;
 use rmt_chip::out::Out;
@@ -12,7 +12,8 @@ use std::process::Abort;
 use std::test::*;
 
 /// The second stage, which begins at age 12, has the table `b`, exact on the header's byte: cell 5,544 has key 7 and the port
-/// 5. The cells of key 7 in the first way are 5,544 to 5,550. The names make visible bits count.
+/// 5. The cells of key 7 in the first way are 5,544 to 5,550; under seed 1 its row is 536, and they are 3,752 to 3,758. The
+/// names make visible bits count.
 const SEVEN: &str = "
 524d5449 0002 00 400009 410009 000001       # letters, version, seed, in_port, out_port, drop
 01 000101 01 01 010008                      # a header with the byte in word 1
@@ -48,14 +49,14 @@ enum Coming {
     Seven,
     /// A changed cell of `b`: its number, its visible bits, and the port that it gives key 7.
     Cell(u32, u8, u8),
-    /// A new version.
-    Commit,
+    /// A new version, with a seed.
+    Commit(u8),
 }
 
 /// What comes by cycle, and which ports the answers have, by cycle too.
 type Run = (&'static [(usize, Coming)], &'static [(usize, u16)]);
 
-const RUNS: [Run; 7] = [
+const RUNS: [Run; 9] = [
     (&[(0, Coming::Seven)], &[(24, 5)]),
     // a changed cell is seen from the next cycle on, and not in its own
     (
@@ -81,7 +82,7 @@ const RUNS: [Run; 7] = [
             (0, Coming::Seven),
             (1, Coming::Cell(5544, 1, 5)),
             (2, Coming::Cell(5545, 2, 6)),
-            (3, Coming::Commit),
+            (3, Coming::Commit(0)),
             (4, Coming::Seven),
         ],
         &[(24, 5), (28, 6)],
@@ -91,18 +92,33 @@ const RUNS: [Run; 7] = [
         &[
             (0, Coming::Seven),
             (1, Coming::Cell(5544, 1, 5)),
-            (2, Coming::Commit),
+            (2, Coming::Commit(0)),
             (3, Coming::Seven),
             (13, Coming::Cell(5544, 0, 0)),
         ],
         &[(24, 5), (27, 0)],
     ),
+    // a cell of the next version, before that of this one, is emptied while a packet is in flight that doesn't see it
+    (
+        &[
+            (0, Coming::Cell(5544, 2, 6)),
+            (1, Coming::Cell(5545, 1, 5)),
+            (2, Coming::Seven),
+            (3, Coming::Cell(5544, 0, 0)),
+        ],
+        &[(26, 5)],
+    ),
+    // a new seed: a look-up in its own cycle is made under the old one, and one in the next cycle under it
+    (
+        &[
+            (0, Coming::Cell(3752, 3, 6)),
+            (1, Coming::Seven),
+            (2, Coming::Seven),
+            (13, Coming::Commit(1)),
+        ],
+        &[(25, 5), (26, 6)],
+    ),
 ];
-
-/// Bytes.
-fn bytes_of(alloc: Global, bytes: &[u8]) -> Result<Bytes, AllocError> {
-    Ok(Sequence::from_vec(Vec::from_slice(alloc, bytes)?))
-}
 
 /// A changed cell of `b`.
 fn cell_of(alloc: Global, cell: u32, visible: u8, port: u8) -> Result<CellWrite, AllocError> {
@@ -119,13 +135,6 @@ fn cell_of(alloc: Global, cell: u32, visible: u8, port: u8) -> Result<CellWrite,
     })
 }
 
-/// A cycle with a changed cell.
-fn write(rt: &impl Abort, chip: &mut Chip, write: &CellWrite, out: &mut Out) -> Option<Verdict> {
-    assert!(rt; chip.takes(write), "a cell that is taken");
-    assert!(rt; chip.spare() > 0, "room for a counter");
-    chip.clock_write(write, out)
-}
-
 /// One cycle.
 fn cycle(
     rt: &(impl Abort + AllocGlobal),
@@ -138,23 +147,10 @@ fn cycle(
         Some(Coming::Seven) => Ok(step(rt, chip, out, Some((0, &[7])))),
         Some(Coming::Cell(cell, visible, port)) => {
             let changed = cell_of(rt.alloc(), cell, visible, port)?;
-            Ok(write(rt, chip, &changed, out))
+            Ok(write(rt, chip, out, &changed))
         }
-        Some(Coming::Commit) => {
-            assert!(rt; chip.version() < 1 << 63);
-            Ok(chip.clock_commit(0, out))
-        }
+        Some(Coming::Commit(seed)) => Ok(commit(rt, chip, out, seed)),
     }
-}
-
-/// What stands in a table for a cycle.
-fn at<T: Copy>(rows: &[(usize, T)], cycle: usize) -> Option<T> {
-    for (when, what) in rows {
-        if *when == cycle {
-            return Some(*what);
-        }
-    }
-    None
 }
 
 /// The verdict with a port.
@@ -247,14 +243,31 @@ fn brought_number(rt: HostRuntime) -> Result<(), Fail> {
         held: Sequence::new(rt.alloc()),
         number: 9,
     };
-    write(&rt, &mut chip, &changed, &mut out);
+    write(&rt, &mut chip, &mut out, &changed);
     assert_eq!(rt; counts(&chip), [Some((4, 0, 0)), Some((9, 0, 0)), None]);
     step(&rt, &mut chip, &mut out, Some((0, &[0x43, 1, 2])));
     changed.visible = 0;
-    write(&rt, &mut chip, &changed, &mut out);
+    write(&rt, &mut chip, &mut out, &changed);
     for _age in 2..12 {
         step(&rt, &mut chip, &mut out, Some((0, &[0x43, 1, 2])));
     }
     assert_eq!(rt; counts(&chip), [Some((4, 0, 0)), Some((9, 1, 3)), None]);
+    Ok(())
+}
+
+/// For how many numbers room is asked, one after another.
+const ROOMS: [u32; 4] = [0, 3, 1, 300];
+
+/// There is room afterwards for as many numbers as were asked for, or as much as before.
+#[test]
+fn room_for_counters(rt: HostRuntime) -> Result<(), Fail> {
+    let mut chip = open(&rt, &[TWO_BYTES, COUNTED])?;
+    for wanted in &ROOMS {
+        let before = chip.spare();
+        match chip.reserve(*wanted) {
+            Ok(()) => assert!(rt; chip.spare() >= *wanted as usize, "room for {wanted}"),
+            Err(_) => assert_eq!(rt; chip.spare(), before, "room for {wanted}"),
+        }
+    }
     Ok(())
 }

@@ -1,23 +1,25 @@
 //! The end of a run.
 
-ghost use Rattle.std.specs.Prelude.{◌≡◌, ◌≢◌, ◌≤◌, ◌⊎◌, ◌+◌, ◌++◌, [], List, Option, None, length, map, min, replicate, string_bytes, Some, IsErrOf, IfErr, IfOk, OnOk, if◌then◌else◌};
+ghost use Rattle.std.specs.Prelude.{◌≡◌, ◌≢◌, ◌<◌, ◌⊎◌, ◌^◌, ◌++◌, ℕ, [], List, length, replicate, string_bytes, IsErrOf, IfErr, IfOk, OnOk, if◌then◌else◌};
 ghost use Rattle.std.specs.List.{flat_map};
-ghost use Rattle.rmt_bits.specs.Packet.{Packet};
-ghost use Rattle.rmt_chip.specs.PacketRuns.{StandsFor as Stands};
+ghost use Rattle.rmt_ast.specs.Events.{Event};
+ghost use Rattle.rmt_chip.specs.Stands.{Stands, entered_of};
 ghost use Rattle.rmt_config.specs.declared.config.Config.{Config};
-ghost use Rattle.rmt_config.specs.ChipRun.{chip_counts_of, inputs_of, latency_of};
+ghost use Rattle.rmt_config.specs.Commits.{RunState};
+ghost use Rattle.rmt_config.specs.RunInputs.{Idle, Input, counts_in, flight_in};
 ghost use Rattle.rmt_io.specs.Outside.{SinkState, Gained, PrintingFailed, OnlyPrinted};
 ghost use Rattle.rmt_core.specs.declared.watch.Watch.{Watch};
+ghost use Rattle.rmt_core.specs.ChipEvents.{empty_cycles};
+ghost use Rattle.rmt_core.specs.ChipText.{all_cycles, end_of, lines_of, run_text};
 ghost use Rattle.rmt_core.specs.Printing.{GainedFront};
 ghost use Rattle.rmt_core.specs.RunEnd.{Cut, bad_line, status_of_end};
-ghost use Rattle.rmt_core.specs.Running.{Goes};
+ghost use Rattle.rmt_core.specs.Running.{Came, Goes};
 ghost use Rattle.rmt_core.specs.SimText.{count_line, cycles_line, flight_line};
-ghost use Rattle.rmt_core.specs.Watching.{last_of, ran, shown, text_of};
 
 use crate::count_lines::count_lines;
 use crate::run_end::{Bad, RunFault, bad_text, end_status, fault_status};
 use crate::running::state::Run;
-use crate::running::turn::turn;
+use crate::running::wait::wait;
 use crate::status::Status;
 use crate::watch::Watch;
 use rmt_chip::chip::Chip;
@@ -32,38 +34,37 @@ pub fn finish<O: Sink>(
     bad: Option<Bad>,
     out: &mut O,
 ) -> Status
-    requires { (w : Watch) × (c : Config) × (done : List Packet) × (before : SinkState)
-        × Goes w c (map Some done) run.old chip.old before (O.state out.old)
-        × (length done ≤ 1099511627776) }
+    requires came { (w : Watch) × (c : Config) × (events : List Event) × (made : List Input)
+        × (r : RunState) × (before : SinkState)
+        × Came w c events made r run.old chip.old before (O.state out.old) }
+    requires entered { entered_of chip.old < 2 ^ 63 }
+    requires cycles { run.old.cycles < 2 ^ 126 }
     ensures possible { (result ≡ status_of_end bad) ⊎ (result ≡ Status.WriteFault)
         ⊎ (result ≡ Status.NoMemory) }
     ensures printed { result ≡ status_of_end bad →
-        (w : Watch) (c : Config) (done : List Packet) (before : SinkState) →
-        Goes w c (map Some done) run.old chip.old before (O.state out.old) →
-        Gained before (O.state out.new)
-        (text_of w c (record { packets = done; bad = bad_line bad })) }
-    ensures front { (w : Watch) (c : Config) (done : List Packet) (before : SinkState) →
-        Goes w c (map Some done) run.old chip.old before (O.state out.old) →
-        GainedFront before (O.state out.new)
-        (text_of w c (record { packets = done; bad = bad_line bad })) }
+        (w : Watch) (c : Config) (events : List Event) (made : List Input) (r : RunState)
+        (before : SinkState) → Came w c events made r run.old chip.old before (O.state out.old) →
+        Gained before (O.state out.new) (run_text w c made (empty_cycles r) (bad_line bad)) }
+    ensures front { (w : Watch) (c : Config) (events : List Event) (made : List Input) (r : RunState)
+        (before : SinkState) → Came w c events made r run.old chip.old before (O.state out.old) →
+        GainedFront before (O.state out.new) (run_text w c made (empty_cycles r) (bad_line bad)) }
     ensures some { result ≡ Status.WriteFault →
-        (w : Watch) (c : Config) (done : List Packet) (before : SinkState) →
-        Goes w c (map Some done) run.old chip.old before (O.state out.old) →
-        text_of w c (record { packets = done; bad = bad_line bad }) ≢ [] }
+        (w : Watch) (c : Config) (events : List Event) (made : List Input) (r : RunState)
+        (before : SinkState) → Came w c events made r run.old chip.old before (O.state out.old) →
+        run_text w c made (empty_cycles r) (bad_line bad) ≢ [] }
     ensures clocked { result ≡ Status.Done →
-        (w : Watch) (c : Config) (done : List Packet) (before : SinkState) →
-        Goes w c (map Some done) run.old chip.old before (O.state out.old) →
-        Stands c (inputs_of c done) chip.new }
+        (w : Watch) (c : Config) (events : List Event) (made : List Input) (r : RunState)
+        (before : SinkState) → Came w c events made r run.old chip.old before (O.state out.old) →
+        Stands c (made ++ replicate (empty_cycles r) Idle) chip.new }
     ensures failed { result ≡ Status.WriteFault →
         PrintingFailed (O.state out.old) (O.state out.new) }
     ensures only_printed { OnlyPrinted (O.state out.old) (O.state out.new) }
 {
-    let packets = run.cycles;
     match run_out(alloc, chip, run, bad, out) {
         Ok(()) => {}
         Err(fault) => return fault_status(fault),
     }
-    let Ok(last) = last_text(alloc, chip, run, packets, bad) else {
+    let Ok(last) = last_text(alloc, chip, run, bad) else {
         return Status::NoMemory;
     };
     run.waiting.end(last.as_slice(), end_status(bad), out)
@@ -77,67 +78,20 @@ fn run_out<O: Sink>(
     bad: Option<Bad>,
     out: &mut O,
 ) -> Result<(), RunFault>
-    requires { (w : Watch) × (c : Config) × (done : List Packet) × (before : SinkState)
-        × Goes w c (map Some done) run.old chip.old before (O.state out.old)
-        × (length done ≤ 1099511627776) }
+    requires came { (w : Watch) × (c : Config) × (events : List Event) × (made : List Input)
+        × (r : RunState) × (before : SinkState)
+        × Came w c events made r run.old chip.old before (O.state out.old) }
+    requires entered { entered_of chip.old < 2 ^ 63 }
+    requires cycles { run.old.cycles < 2 ^ 126 }
     ensures ok { OnOk result
-        ((w : Watch) (c : Config) (done : List Packet) (before : SinkState) →
-        Goes w c (map Some done) run.old chip.old before (O.state out.old) →
-        Goes w c (ran w c done (bad_line bad)) run.new chip.new before (O.state out.new)) }
-    ensures cut { IfErr result
-        (λ fault. (w : Watch) (c : Config) (done : List Packet) (before : SinkState) →
-        Goes w c (map Some done) run.old chip.old before (O.state out.old) →
-        Cut (shown w c (ran w c done (bad_line bad))) before (O.state out.new) fault) }
-    ensures either { IfErr result
-        (λ fault. (fault ≡ RunFault.NoMemory) ⊎ (fault ≡ RunFault.Write)) }
-    ensures failed { IsErrOf result RunFault.Write →
-        PrintingFailed (O.state out.old) (O.state out.new) }
-    ensures only_printed { OnlyPrinted (O.state out.old) (O.state out.new) }
-{
-    if !runs_on(run, bad) {
-        return Ok(());
-    }
-    match drain(alloc, chip, run, out) {
-        Ok(()) => Ok(()),
-        Err(fault) => Err(fault),
-    }
-}
-
-/// Whether a chip runs on behind its last packet. Where only vectors are printed a bad line ends the run.
-fn runs_on(run: &Run, bad: Option<Bad>) -> bool
-    ensures { (c : Config) (done : List Packet) → run.now.cycles ≡ length done →
-        ran run.now.watch c done (bad_line bad)
-        ≡ (if result then map Some done
-        ++ replicate (latency_of c.stages) None else map Some done) }
-{
-    if run.cycles == 0 {
-        return false;
-    }
-    match run.watch {
-        Watch::Answers => true,
-        Watch::Vectors { .. } => bad.is_none(),
-    }
-}
-
-/// Clocks the chip until the last packet has left.
-fn drain<O: Sink>(
-    alloc: Global,
-    chip: &mut Chip,
-    run: &mut Run,
-    out: &mut O,
-) -> Result<(), RunFault>
-    requires { (w : Watch) × (c : Config) × (inputs : List (Option Packet)) × (before : SinkState)
-        × Goes w c inputs run.old chip.old before (O.state out.old)
-        × (length inputs ≤ 1099511627776) }
-    ensures ok { OnOk result
-        ((w : Watch) (c : Config) (inputs : List (Option Packet)) (before : SinkState) →
-        Goes w c inputs run.old chip.old before (O.state out.old) →
-        Goes w c (inputs ++ replicate (latency_of c.stages) None) run.new chip.new before
+        ((w : Watch) (c : Config) (events : List Event) (made : List Input) (r : RunState)
+        (before : SinkState) → Came w c events made r run.old chip.old before (O.state out.old) →
+        Goes w c (all_cycles w made (empty_cycles r) (bad_line bad)) run.new chip.new before
         (O.state out.new)) }
     ensures cut { IfErr result
-        (λ fault. (w : Watch) (c : Config) (inputs : List (Option Packet)) (before : SinkState) →
-        Goes w c inputs run.old chip.old before (O.state out.old) →
-        Cut (shown w c (inputs ++ replicate (latency_of c.stages) None)) before
+        (λ fault. (w : Watch) (c : Config) (events : List Event) (made : List Input) (r : RunState)
+        (before : SinkState) → Came w c events made r run.old chip.old before (O.state out.old) →
+        Cut (lines_of w c (all_cycles w made (empty_cycles r) (bad_line bad))) before
         (O.state out.new) fault) }
     ensures either { IfErr result
         (λ fault. (fault ≡ RunFault.NoMemory) ⊎ (fault ≡ RunFault.Write)) }
@@ -145,31 +99,33 @@ fn drain<O: Sink>(
         PrintingFailed (O.state out.old) (O.state out.new) }
     ensures only_printed { OnlyPrinted (O.state out.old) (O.state out.new) }
 {
-    let latency = chip.latency();
-    for _age in 0..latency {
-        match turn(alloc, chip, run, None, out) {
-            Ok(()) => {}
-            Err(fault) => return Err(fault),
-        }
+    if !runs_on(run.watch, bad) {
+        return Ok(());
     }
-    Ok(())
+    wait(alloc, chip, run, true, out)
 }
 
-/// What stands behind the lines of a run of so many packets.
-fn last_text(
-    alloc: Global,
-    chip: &Chip,
-    run: &Run,
-    packets: u64,
-    bad: Option<Bad>,
-) -> Result<Vec<u8>, AllocError>
+/// Whether a chip runs on behind its last line. Where only vectors are printed a bad line ends the run.
+fn runs_on(watch: Watch, bad: Option<Bad>) -> bool
+    ensures { (made : List Input) (empty : ℕ) → all_cycles watch made empty (bad_line bad)
+        ≡ (if result then made ++ replicate empty Idle else made) }
+{
+    match watch {
+        Watch::Answers => true,
+        Watch::Vectors { .. } => bad.is_none(),
+    }
+}
+
+/// What stands behind the lines of a run.
+fn last_text(alloc: Global, chip: &Chip, run: &Run, bad: Option<Bad>) -> Result<Vec<u8>, AllocError>
     ensures { IfOk result
-        (λ text. (c : Config) (inputs : List (Option Packet)) → Stands c inputs chip.now →
-        text.items ≡ last_of run.now.watch c inputs run.now.cycles packets (bad_line bad)) }
+        (λ text. (c : Config) (made : List Input) → Stands c made chip.now →
+        run.now.cycles ≡ length made → run.now.flight ≡ flight_in c made →
+        text.items ≡ end_of run.now.watch c made (bad_line bad)) }
 {
     match bad {
         None => match run.watch {
-            Watch::Answers => last_lines(alloc, chip, run.cycles, packets),
+            Watch::Answers => last_lines(alloc, chip, run.cycles, run.flight),
             Watch::Vectors { .. } => Ok(Vec::new(alloc)),
         },
         Some(bad) => {
@@ -179,23 +135,21 @@ fn last_text(
     }
 }
 
-/// What stands behind the answers of a run of so many cycles and packets.
-fn last_lines(alloc: Global, chip: &Chip, cycles: u64, packets: u64) -> Result<Vec<u8>, AllocError>
+/// What stands behind the answers of a run of so many cycles.
+fn last_lines(alloc: Global, chip: &Chip, cycles: u128, flight: u64) -> Result<Vec<u8>, AllocError>
     ensures { IfOk result
-        (λ text. (c : Config) (inputs : List (Option Packet)) → Stands c inputs chip.now →
+        (λ text. (c : Config) (made : List Input) → Stands c made chip.now →
         text.items
-        ≡ flat_map count_line (chip_counts_of c inputs)
-        ++ (cycles_line cycles ++ flight_line (min packets (latency_of c.stages + 1)))) }
+        ≡ flat_map count_line (counts_in c made) ++ (cycles_line cycles ++ flight_line flight)) }
 {
     let mut text = count_lines(alloc, chip.counters())?;
-    let flight = packets.min(u64::from(chip.latency()) + 1);
     let last = cycle_lines(alloc, cycles, flight)?;
     text.extend_from_slice(last.as_bytes())?;
     Ok(text)
 }
 
 /// The last two lines of a run.
-fn cycle_lines(alloc: Global, cycles: u64, flight: u64) -> Result<String, AllocError>
+fn cycle_lines(alloc: Global, cycles: u128, flight: u64) -> Result<String, AllocError>
     ensures { IfOk result (λ text. string_bytes text ≡ cycles_line cycles ++ flight_line flight) }
 {
     format!(in alloc; "cycles {cycles}\nflight {flight}\n")

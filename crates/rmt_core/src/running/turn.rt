@@ -1,18 +1,16 @@
 //! One cycle of a run.
 
-ghost use Rattle.std.specs.Prelude.{◌≡◌, ◌<◌, ◌⊎◌, ◌^◌, ◌+◌, ◌++◌, ◌∷◌, [], ℕ, List, Option, length, IsErrOf, IfErr, OnOk};
-ghost use Rattle.rmt_bits.specs.Packet.{Packet};
-ghost use Rattle.rmt_chip.specs.Inputs.{input_of, MayEnter};
-ghost use Rattle.rmt_chip.specs.PacketRuns.{StandsFor as Stands};
-ghost use Rattle.rmt_chip.specs.Stands.{entered_of};
+ghost use Rattle.std.specs.Prelude.{◌≡◌, ◌<◌, ◌≤◌, ◌⊎◌, ◌^◌, ◌+◌, ◌++◌, ◌∷◌, [], ℕ, List, length, IsErrOf, IfErr, OnOk};
+ghost use Rattle.rmt_chip.specs.Leaving.{AnswersIf};
+ghost use Rattle.rmt_chip.specs.Stands.{Stands, spare_of};
 ghost use Rattle.rmt_config.specs.declared.config.Config.{Config};
 ghost use Rattle.rmt_config.specs.ChipRun.{latency_of};
+ghost use Rattle.rmt_config.specs.RunInputs.{Input, answer_in};
 ghost use Rattle.rmt_io.specs.Outside.{SinkState, PrintingFailed, OnlyPrinted};
 ghost use Rattle.rmt_core.specs.declared.watch.Watch.{Watch};
-ghost use Rattle.rmt_core.specs.ProbeText.{lines_below};
+ghost use Rattle.rmt_core.specs.ChipText.{flying_below, lines_of};
 ghost use Rattle.rmt_core.specs.RunEnd.{Cut};
-ghost use Rattle.rmt_core.specs.Running.{Goes, line_if};
-ghost use Rattle.rmt_core.specs.Watching.{shown};
+ghost use Rattle.rmt_core.specs.Running.{Goes, MayTurn, input_for, line_if, spent_by};
 
 use crate::run_end::RunFault;
 use crate::running::state::Run;
@@ -21,37 +19,49 @@ use crate::watch::Watch;
 use rmt_bits::answer::Verdict;
 use rmt_chip::chip::Chip;
 use rmt_chip::frame::Frame;
+use rmt_chip::out::Out;
+use rmt_config::cell_write::CellWrite;
 use rmt_io::sink::Sink;
 use rmt_packets::answer_line::write_line;
 use std::alloc::{AllocError, Global};
+
+/// What a cycle begins with: nothing, a packet, a changed cell, or a new version with a seed.
+#[derive(Clone, Copy)]
+pub enum Cycle<'a> {
+    Idle,
+    Enters(Frame<'a>),
+    Changes(&'a CellWrite),
+    Turns(u8),
+}
 
 /// One cycle, and the lines that are to be written.
 pub fn turn<O: Sink>(
     alloc: Global,
     chip: &mut Chip,
     run: &mut Run,
-    frame: Option<Frame<'_>>,
+    input: Cycle<'_>,
     out: &mut O,
 ) -> Result<(), RunFault>
-    requires frame { MayEnter frame }
-    requires entered { entered_of chip.old < 2 ^ 63 }
-    requires cycles { run.old.cycles < 2 ^ 63 }
+    requires may { MayTurn chip.old input }
+    requires cycles { run.old.cycles < 2 ^ 127 }
     requires answered { run.old.answered < 2 ^ 63 }
     ensures ok { OnOk result
-        ((w : Watch) (c : Config) (inputs : List (Option Packet)) (before : SinkState) →
-        Goes w c inputs run.old chip.old before (O.state out.old) →
-        Goes w c (inputs ++ input_of frame.entry ∷ []) run.new chip.new before (O.state out.new)) }
+        ((w : Watch) (c : Config) (made : List Input) (before : SinkState) →
+        Goes w c made run.old chip.old before (O.state out.old) →
+        Goes w c (made ++ input_for input.entry ∷ []) run.new chip.new before (O.state out.new)) }
     ensures cut { IfErr result
-        (λ fault. (w : Watch) (c : Config) (inputs : List (Option Packet)) (before : SinkState) →
-        Goes w c inputs run.old chip.old before (O.state out.old) →
-        Cut (shown w c (inputs ++ input_of frame.entry ∷ [])) before (O.state out.new) fault) }
+        (λ fault. (w : Watch) (c : Config) (made : List Input) (before : SinkState) →
+        Goes w c made run.old chip.old before (O.state out.old) →
+        Cut (lines_of w c (made ++ input_for input.entry ∷ [])) before (O.state out.new) fault) }
+    ensures cycles { OnOk result (run.new.cycles ≡ run.old.cycles + 1) }
+    ensures spare { spare_of chip.old ≤ spare_of chip.new + spent_by input.entry }
     ensures either { IfErr result
         (λ fault. (fault ≡ RunFault.NoMemory) ⊎ (fault ≡ RunFault.Write)) }
     ensures failed { IsErrOf result RunFault.Write →
         PrintingFailed (O.state out.old) (O.state out.new) }
     ensures only_printed { OnlyPrinted (O.state out.old) (O.state out.new) }
 {
-    let Ok(()) = cycle(alloc, chip, run, frame) else {
+    let Ok(()) = run_cycle(alloc, chip, run, input) else {
         return Err(RunFault::NoMemory);
     };
     match run.waiting.write_many(out) {
@@ -61,35 +71,55 @@ pub fn turn<O: Sink>(
 }
 
 /// One cycle of the chip, and what it prints.
-fn cycle(
+fn run_cycle(
     alloc: Global,
     chip: &mut Chip,
     run: &mut Run,
-    frame: Option<Frame<'_>>,
+    input: Cycle<'_>,
 ) -> Result<(), AllocError>
-    requires frame { MayEnter frame }
-    requires entered { entered_of chip.old < 2 ^ 63 }
-    requires cycles { run.old.cycles < 2 ^ 63 }
+    requires may { MayTurn chip.old input }
+    requires cycles { run.old.cycles < 2 ^ 127 }
     requires answered { run.old.answered < 2 ^ 63 }
-    ensures { OnOk result
-        ((w : Watch) (c : Config) (inputs : List (Option Packet)) (before now : SinkState) →
-        Goes w c inputs run.old chip.old before now →
-        Goes w c (inputs ++ input_of frame.entry ∷ []) run.new chip.new before now) }
+    ensures ok { OnOk result
+        ((w : Watch) (c : Config) (made : List Input) (before now : SinkState) →
+        Goes w c made run.old chip.old before now →
+        Goes w c (made ++ input_for input.entry ∷ []) run.new chip.new before now) }
+    ensures cycles { run.new.cycles ≡ run.old.cycles + 1 }
+    ensures spare { spare_of chip.old ≤ spare_of chip.new + spent_by input.entry }
 {
-    let left = chip.clock(frame, &mut run.leaving);
     let number = run.answered;
+    let left = clock(chip, input, &mut run.leaving);
     run.cycles += 1;
     run.answered += u64::from(left.is_some());
+    run.flight = run.flight.max(chip.entered().saturating_sub(number));
     let lines = &mut run.waiting.lines;
     match run.watch {
         Watch::Answers => add_answer(number, left, run.leaving.bytes(), lines),
         Watch::Vectors { cycle } => {
-            if run.cycles == u64::from(cycle) + 1 {
+            if run.cycles == u128::from(cycle) + 1 {
                 add_vectors(alloc, chip, lines)
             } else {
                 Ok(())
             }
         }
+    }
+}
+
+/// Clocks the chip once.
+fn clock(chip: &mut Chip, input: Cycle<'_>, leaving: &mut Out) -> Option<Verdict>
+    requires may { MayTurn chip.old input }
+    ensures stands { (c : Config) (made : List Input) → Stands c made chip.old →
+        Stands c (made ++ input_for input.entry ∷ []) chip.new }
+    ensures answers { (c : Config) (made : List Input) → Stands c made chip.old →
+        AnswersIf (answer_in c (made ++ input_for input.entry ∷ []) (length made)) result
+        leaving.new }
+    ensures spare { spare_of chip.old ≤ spare_of chip.new + spent_by input.entry }
+{
+    match input {
+        Cycle::Idle => chip.clock(None, leaving),
+        Cycle::Enters(frame) => chip.clock(Some(frame), leaving),
+        Cycle::Changes(write) => chip.clock_write(write, leaving),
+        Cycle::Turns(seed) => chip.clock_commit(seed, leaving),
     }
 }
 
@@ -114,9 +144,8 @@ fn add_answer(
 /// Appends the lines of the vectors in flight.
 fn add_vectors(alloc: Global, chip: &Chip, lines: &mut Vec<u8>) -> Result<(), AllocError>
     ensures { OnOk result
-        ((c : Config) (inputs : List (Option Packet)) (cycle : ℕ) → Stands c inputs chip.now →
-        length inputs ≡ cycle + 1 →
-        lines.new.items ≡ lines.old.items ++ lines_below c inputs cycle (latency_of c.stages + 1)) }
+        ((c : Config) (made : List Input) → Stands c made chip.now →
+        lines.new.items ≡ lines.old.items ++ flying_below c made (latency_of c.stages + 1)) }
 {
     let vectors = vectors_text(alloc, chip)?;
     lines.extend_from_slice(vectors.as_slice())

@@ -1,6 +1,6 @@
 //! The cells of a part of a table, as the blocks of its stage hold them.
 
-ghost use Rattle.std.specs.Prelude.{◌≡◌, ℕ, ◌+◌, ◌*◌, ◌/◌, ◌%◌, ◌^◌, ◌<◌, ◌≤◌, All, IfOk, List, length};
+ghost use Rattle.std.specs.Prelude.{◌≡◌, ℕ, ◌+◌, ◌*◌, ◌/◌, ◌%◌, ◌^◌, ◌<◌, ◌≤◌, [], All, IfOk, List, length};
 ghost use Rattle.rmt_bits.specs.Bits.{bytes_of, number_of};
 ghost use Rattle.rmt_config.specs.Cells.{blocks_at, cell_of, data_at, exact_content, sram_row, tcam_row, ternary_content, unit_row};
 ghost use Rattle.rmt_config.specs.LaneForm.{bits_of_lanes};
@@ -77,8 +77,11 @@ pub fn exact_cell(
     requires rows { SramRows rows.now }
     requires fits { ExactFits slot.now part.now.width part.now.per part.now.quanta part.now.keys.now part.now.records.now }
     requires cell { number.cell < 4096 * part.now.quanta * part.now.per }
-    ensures { IfOk result (λ kept. (w : ℕ) (cs : List ℕ) → IsKept (bits_of_lanes slot.now.keys) (Exact part.now.width part.now.per part.now.quanta w part.now.keys.now part.now.records.now cs)
+    ensures kept { IfOk result (λ kept. (w : ℕ) (cs : List ℕ) → IsKept (bits_of_lanes slot.now.keys) (Exact part.now.width part.now.per part.now.quanta w part.now.keys.now part.now.records.now cs)
         (exact_content (sram_row rows.now) slot.now part.now.width part.now.per part.now.keys.now part.now.records.now (cell_of (1024 * part.now.quanta) part.now.per number.cell)) number kept) }
+    ensures key_size { IfOk result (λ kept. length kept.key.items ≡ divided_up_of (bits_of_lanes slot.now.keys) 8) }
+    ensures no_mask { IfOk result (λ kept. kept.mask.items ≡ []) }
+    ensures held_size { IfOk result (λ kept. length kept.held.items ≡ divided_up_of slot.now.held 8) }
 {
     let ExactMemory {
         width,
@@ -132,6 +135,8 @@ fn ternary_key(
         ≡ unit_row 40 (tcam_row (λ (t : TcamRowOf). t.value) rows.now) (cell % 2048) (blocks_at keys.now (divided_up_of bits 40) (cell / 2048))) }
     ensures mask { IfOk result (λ k. number_of k.mask.items
         ≡ unit_row 40 (tcam_row (λ (t : TcamRowOf). t.mask) rows.now) (cell % 2048) (blocks_at keys.now (divided_up_of bits 40) (cell / 2048))) }
+    ensures key_size { IfOk result (λ k. length k.key.items ≡ divided_up_of bits 8) }
+    ensures mask_size { IfOk result (λ k. length k.mask.items ≡ divided_up_of bits 8) }
 {
     let side = divided_up(bits, 40);
     let unit = unit_blocks(keys, side, cell / 2048);
@@ -160,8 +165,11 @@ pub fn ternary_cell(
     requires cell { number.cell < 2048 * quanta }
     requires ends { unit_row 40 (tcam_row (λ (t : TcamRowOf). t.mask) stage.now.trows) (number.cell % 2048)
         (blocks_at keys.now (divided_up_of (bits_of_lanes slot.now.keys) 40) (number.cell / 2048)) < 2 ^ bits_of_lanes slot.now.keys }
-    ensures { IfOk result (λ kept. (cs : List ℕ) → IsKept (bits_of_lanes slot.now.keys) (Ternary quanta keys.now records.now cs)
+    ensures kept { IfOk result (λ kept. (cs : List ℕ) → IsKept (bits_of_lanes slot.now.keys) (Ternary quanta keys.now records.now cs)
         (ternary_content stage.now slot.now keys.now records.now number.cell) number kept) }
+    ensures key_size { IfOk result (λ kept. length kept.key.items ≡ divided_up_of (bits_of_lanes slot.now.keys) 8) }
+    ensures mask_size { IfOk result (λ kept. length kept.mask.items ≡ divided_up_of (bits_of_lanes slot.now.keys) 8) }
+    ensures held_size { IfOk result (λ kept. length kept.held.items ≡ divided_up_of slot.now.held 8) }
 {
     let cell = number.cell as u64;
     let bits = key_bits(slot.keys.as_slice());

@@ -7,7 +7,7 @@ ghost use Rattle.rmt_config.specs.MemoryRules.{MemoryIsFormed};
 ghost use Rattle.rmt_config.specs.PartStands.{PartStands};
 ghost use Rattle.rmt_config.specs.Rooms.{parts_among, parts_of as parts_of_node};
 ghost use Rattle.rmt_config.specs.RunCells.{own_content};
-ghost use Rattle.rmt_update.specs.Kept.{IsKept};
+ghost use Rattle.rmt_update.specs.Kept.{HasBytes, IsKept};
 ghost use Rattle.rmt_update.specs.PartList.{part_at, parts_at};
 
 use crate::book::cells::{ExactMemory, exact_cell, ternary_cell};
@@ -79,8 +79,9 @@ pub fn cell_of(
     requires stands { PartStands config.now (part_at part.now) }
     requires memory { MemoryIsFormed config.now }
     requires cell { number.cell < cells_in part.now.slot.now.memory }
-    ensures { IfOk result (λ kept. IsKept (bits_of_lanes part.now.slot.now.keys) part.now.slot.now.memory
+    ensures kept { IfOk result (λ kept. IsKept (bits_of_lanes part.now.slot.now.keys) part.now.slot.now.memory
         (own_content config.now part.now.at part.now.place number.cell) number kept) }
+    ensures bytes { IfOk result (HasBytes part.now.slot.now) }
 {
     let stages = config.stages.as_slice();
     let stage = &stages[part.at];

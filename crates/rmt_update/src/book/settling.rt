@@ -8,7 +8,7 @@ ghost use Rattle.rmt_config.specs.RunCells.{RunCells, with_version};
 ghost use Rattle.rmt_config.specs.declared.config.Config.{Config as ConfigOf};
 ghost use Rattle.rmt_update.specs.BookStands.{BookStands};
 ghost use Rattle.rmt_update.specs.Placing.{ArePlaced};
-ghost use Rattle.rmt_update.specs.Planned.{MayChange, changed_lists};
+ghost use Rattle.rmt_update.specs.Planned.{HasLengths, MayChange, changed_lists};
 ghost use Rattle.rmt_update.specs.Recent.{recent};
 ghost use Rattle.rmt_update.specs.Turning.{AreNextParts, IsSpotIn};
 ghost use Rattle.rmt_update.specs.declared.book.placing.Coming.{Coming as ComingOf};
@@ -59,6 +59,8 @@ impl Book {
             × ArePlaced c names cells lists changes.now self.old.odd self.old.tables.items come }
         ensures writes { IfOk result (λ writes. (c : ConfigOf) (names : NamesOf) (cells : RunCells) (lists : List (List EntryOf)) → BookStands c cells lists self.old → c.names ≡ Some names → MayChange c names cells lists changes.now →
             (placed : ArePlaced c names cells lists changes.now self.old.odd self.old.tables.items come) → AreWrites c cells (settled c names cells lists (placed.stay ++ placed.coming)) writes.items) }
+        ensures sizes { IfOk result (λ writes. (c : ConfigOf) (names : NamesOf) (cells : RunCells) (lists : List (List EntryOf)) → BookStands c cells lists self.old → c.names ≡ Some names → MayChange c names cells lists changes.now →
+            ArePlaced c names cells lists changes.now self.old.odd self.old.tables.items come → All (HasLengths c) writes.items) }
         ensures stands { OnOk result ((c : ConfigOf) (names : NamesOf) (cells : RunCells) (lists : List (List EntryOf)) → BookStands c cells lists self.old → c.names ≡ Some names → MayChange c names cells lists changes.now →
             (placed : ArePlaced c names cells lists changes.now self.old.odd self.old.tables.items come) → BookStands c (with_version (settled c names cells lists (placed.stay ++ placed.coming)) cells.seed) (changed_lists lists changes.now) self.new) }
         ensures few { IfOk result (λ writes. length writes.items ≤ length (recent self.old.tables.items) + length changes.now.gone + length come) }

@@ -2,7 +2,7 @@
 
 ghost use Rattle.std.specs.Prelude.{IfOk, MatchOption};
 ghost use Rattle.rmt_ast.specs.WellFormed.{IsProgram};
-ghost use Rattle.rmt_verify.specs.Instructions.{ActionsFold};
+ghost use Rattle.rmt_vliw.specs.Coded.{ActionsFold};
 ghost use Rattle.rmt_verify.specs.StageCode.{AreFoldings};
 
 use crate::fault::VerifyFault;

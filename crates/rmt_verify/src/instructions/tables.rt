@@ -7,7 +7,7 @@ ghost use Rattle.rmt_phv.specs.Places.{KeepsApart};
 ghost use Rattle.rmt_refine.specs.Units.{table_at as table_at_of};
 ghost use Rattle.rmt_config.specs.Resources.{unit_instructions};
 ghost use Rattle.rmt_config.specs.StageForm.{stage_is_formed};
-ghost use Rattle.rmt_verify.specs.Instructions.{IsCodeOf, TableCoded};
+ghost use Rattle.rmt_vliw.specs.Coded.{IsCodeOf, TableCoded};
 ghost use Rattle.rmt_verify.specs.StageCode.{AreFoldings, StageCoded, UnitCoded};
 ghost use Rattle.rmt_verify.specs.WordsRise.{CodeRises};
 

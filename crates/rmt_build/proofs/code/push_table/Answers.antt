@@ -6,9 +6,8 @@ use Rattle.rmt_pack.specs.Placements.{data_bits}
 use Rattle.rmt_build.specs.Types.{Vliw}
 use Rattle.rmt_vliw.specs.Folding.{IsFolding}
 use Rattle.rmt_vliw.proofs.InstructionLaws.{takes_folded, takes_within}
-use Rattle.rmt_refine.specs.Code.{DoesAction}
+use Rattle.rmt_vliw.specs.Coded.{IsCodeOf}
 use Rattle.rmt_build.specs.UnitCode.{DoActions}
-use Rattle.rmt_build.proofs.CodeLaws.{does_action, does_default}
 use Rattle.rmt_vliw.proofs.MeaningLaws.{folding_at}
 use Rattle.rmt_build.proofs.FoldingLaws.{folding_data}
 use Rattle.rmt_build.proofs.ListLaws.{zip_more}
@@ -31,11 +30,11 @@ loop-action-preserved c =
     let size = ap length c.as_slice-folded.ensures in
     let folding : IsFolding p a folded =
     folding_at p c.args.plan.now.folded c.as_slice-folded.result.now c.requires.folded c.as_slice-folded.ensures a folded (omega (arith, below, many, size)) c.index-folded-action.is in
-    let does : DoesAction p places a v.ops = does_action p places a folded folding v.ops c.in_ok-instruction.ensures.pieces (c.in_ok-instruction.ensures.does a folding) in (
+    let coded : IsCodeOf p places a v.ops = record { folded = folded; folding = folding; instruction = c.in_ok-instruction.ensures.pieces } in (
       inv.0 ++ v ∷ [],
       c.in_ok-push.ensures.ok ∙ (ap (λ xs. xs ++ v ∷ []) inv.1 ∙ append_assoc c.args.code.now inv.0 (v ∷ [])),
-      zip_more (λ b (x : Vliw). DoesAction p places b x.ops) actions inv.0 (inv.0 ++ v ∷ []) i 0 v within refl inv.2
-          (subst (λ (xs : List ℕ). DoesAction p places (get_or xs i 0) v.ops) listed does),
+      zip_more (λ b (x : Vliw). IsCodeOf p places b x.ops) actions inv.0 (inv.0 ++ v ∷ []) i 0 v within refl inv.2
+          (subst (λ (xs : List ℕ). IsCodeOf p places (get_or xs i 0) v.ops) listed coded),
       All-push (λ (x : Vliw). vliw_is_formed (record { held = data_bits p c.args.table.now; is_default = false }) x ≡ true) inv.0 v inv.3
           (c.in_ok-instruction.ensures.formed (data_bits p c.args.table.now) (folding_data p c.args.table.now a folded folding (i, within, ap (λ xs. get_or xs i a) (sym listed) ∙ get_or_default c.as_slice-action-items.result.now i a 0 c.loop-action-test.true))),
     )
@@ -90,6 +89,6 @@ returns c =
         actions = subst (λ (xs : List ℕ). DoActions p places xs inv.0) all inv.2;
         formed = inv.3;
         formed_last = c.in_ok-default_instruction.ensures.formed (data_bits p t);
-        default = does_default p places t.default folded folding t.args v.ops c.in_ok-default_instruction.ensures.pieces (c.in_ok-default_instruction.ensures.does t.default folding);
+        default = record { folded = folded; folding = folding; instruction = c.in_ok-default_instruction.ensures.pieces };
       },
     )

@@ -21,10 +21,11 @@ use Rattle.rmt_refine.specs.declared.map.CellOf.{CellOf}
 use Rattle.rmt_refine.specs.declared.map.Map.{Map}
 use Rattle.rmt_refine.specs.Carries.{Carries, all_edges}
 use Rattle.rmt_build.specs.Loads.{IsFirstSeed}
-use Rattle.rmt_build.specs.Promises.{StandInRows}
+use Rattle.rmt_build.specs.Promises.{HasCodeOfRule, StandInRows}
 use Rattle.rmt_build.specs.Told.{cells_told}
 use Rattle.rmt_refine.proofs.SpelledLaws.{carries_named}
-use Rattle.rmt_build.proofs.JoinedLaws.{joined_blocks, joined_carries, joined_data, joined_formats, joined_formed, joined_limits, joined_rows, same_map}
+use Rattle.rmt_vliw.proofs.MeaningLaws.{actions_fold}
+use Rattle.rmt_build.proofs.JoinedLaws.{joined_blocks, joined_carries, joined_code, joined_data, joined_formats, joined_formed, joined_limits, joined_rows, same_map}
 use Rattle.rmt_build.proofs.PlacedLaws.{is_legal}
 use Rattle.rmt_build.proofs.joined.built_of.Goals as goal
 
@@ -85,6 +86,10 @@ returns-clause-rules c =
       places = subst (λ ps. packing p ≡ Ok ps) (sym told.places) c.requires.packed;
       parser = subst (λ ps. clustered_or p ps ≡ Ok config.parser) (sym told.places)
           (ap (λ r. unless r (clustered p plan.places)) c.requires.fits ∙ ap Ok (sym (c.in_ok-config.ensures.parser ∙ c.requires.parser)));
+      folds = actions_fold p plan.folded c.requires.plan.is_plan.folded;
+      code = subst (λ ps. All (HasCodeOfRule p ps) config.stages) (sym told.places)
+          (joined_code p lists plan config c.requires.program c.requires.entries c.requires.plan c.in_ok-stages.stages c.in_ok-config.ensures.stages
+          c.in_ok-stages.ensures.stages c.in_ok-config.ensures.seed);
       starts = told.starts ∙ c.requires.plan.starts ∙ ap (λ (ps : List (List Lane)). starts_of (all_edges p ps) plan.placement.parts) (sym told.places)
           ∙ ap (λ (x : Placement). starts_of (all_edges p m.places) x.parts) (sym told.placement);
       seed = subst (λ (x : Placement). IsFirstSeed p lists x.parts config.seed) (sym told.placement) seed;

@@ -9,7 +9,7 @@ use Rattle.rmt_core.specs.declared.status.Status.TheVariants.{Done, NoFit}
 use Rattle.rmt_core.specs.Compiling.{Builds}
 use Rattle.rmt_core.specs.Given.{Given, told}
 use Rattle.rmt_core.specs.Sampling.{sample_line}
-use Rattle.rmt_core.proofs.EndLaws.{told_answered}
+use Rattle.rmt_core.proofs.EndLaws.{no_memory, told_answered}
 use Rattle.rmt_core.proofs.SampleLaws.{line_of_plain, sample_answered, told_no_reading, told_possible}
 use Rattle.rmt_core.proofs.sampling.sample_meant.Goals as goal
 
@@ -43,3 +43,9 @@ returns-in-Err-NoFit-clause-answered g c = λ shelf.
     let why = subst (λ (line : List ℕ). gives (told shelf.files NoFit line)) (ap (λ (line : Vec ℕ Global). line.items) (sym c.in-Err-NoFit.line-is) ∙ sym c.as_slice.ensures.value) line_why in
     let e = c.end_with.ensures in
     told_answered _ _ gives NoFit c.end_with.result c.as_slice.result.now why (λ _. refl) (inr (inr (inr (inl refl)))) e.some e.status e.printed e.front e.failed
+
+pub returns-in-Err-NoMemory-clause-answered : goal.returns-in-Err-NoMemory-clause-answered
+returns-in-Err-NoMemory-clause-answered g c = λ shelf.
+    let p = c.args.meant.now.program in
+    let lists = c.args.meant.now.entries in
+    no_memory _ _ (Builds ByRule shelf.files (λ image m k b. told shelf.files Done (sample_line c.args.number p lists k)) p lists) (λ _. refl) (λ _. refl)

@@ -6,11 +6,13 @@ use Rattle.rmt_config.specs.StageForm.{stage_is_formed}
 use Rattle.rmt_refine.specs.Code.{CodeCarried}
 use Rattle.rmt_refine.specs.Types.{Stage}
 use Rattle.rmt_vliw.specs.declared.folded.Folded.{Folded}
-use Rattle.rmt_verify.specs.Instructions.{ActionsFold, IsCoded}
+use Rattle.rmt_vliw.specs.Coded.{ActionsFold}
+use Rattle.rmt_vliw.proofs.MeaningLaws.{actions_fold}
+use Rattle.rmt_verify.specs.Instructions.{IsCoded}
 use Rattle.rmt_verify.specs.StageCode.{AreFoldings, StageCoded}
 use Rattle.rmt_verify.proofs.StageCodeLaws.{stages_coded, tables_coded}
 use Rattle.rmt_verify.proofs.CodeLaws.{code_carried}
-use Rattle.rmt_verify.proofs.CodedLaws.{actions_fold, stages_formed}
+use Rattle.rmt_verify.proofs.CodedLaws.{stages_formed}
 use Rattle.rmt_verify.proofs.instructions.code_holds.Goals as goal
 
 pub all_code_holds-requires-clause-formed : goal.all_code_holds-requires-clause-formed

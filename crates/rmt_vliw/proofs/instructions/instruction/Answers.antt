@@ -15,6 +15,10 @@ push_operations-requires-clause-within c = lanes_within c.args.program.now c.arg
 pub push_operations-requires-clause-small : goal.push_operations-requires-clause-small
 push_operations-requires-clause-small c = lanes_small c.args.program.now c.args.places.now _ c.requires.places
 
+pub returns-clause-pieces : goal.returns-clause-pieces
+returns-clause-pieces c =
+    all_pushed (operations_of c.args.places.now c.args.folded.now.params) c.args.folded.now.values c.as_slice-value-items.result.now c.loop-value.value-index c.loop-value.ops.items c.sorted.result refl c.as_slice-value-items.ensures c.loop-value-test.false c.loop-value.invariant c.sorted.ensures
+
 pub returns-clause-does : goal.returns-clause-does
 returns-clause-does c n folding =
     let sorted = all_pushed (operations_of c.args.places.now c.args.folded.now.params) c.args.folded.now.values c.as_slice-value-items.result.now c.loop-value.value-index c.loop-value.ops.items c.sorted.result refl c.as_slice-value-items.ensures c.loop-value-test.false c.loop-value.invariant c.sorted.ensures in

@@ -1,52 +1,57 @@
 -- The lines that wait, and what stands behind them, are the rest of the text.
-use Rattle.std.proofs.Common.{◌≡◌, None, sym, ap, ◌∙◌, subst}
+use Rattle.std.proofs.Common.{◌≡◌, List, None, sym, ap, ◌∙◌, subst}
 use Rattle.rmt_io.proofs.OutsideLaws.{only_printed_trans}
-use Rattle.rmt_chip.specs.PacketRuns.{StandsFor as Stands}
+use Rattle.rmt_config.specs.RunInputs.{Input}
+use Rattle.rmt_chip.specs.Stands.{Stands}
+use Rattle.rmt_core.specs.ChipEvents.{empty_cycles}
+use Rattle.rmt_core.specs.ChipText.{all_cycles}
 use Rattle.rmt_core.specs.RunEnd.{bad_line}
-use Rattle.rmt_core.specs.Watching.{ran}
 use Rattle.rmt_core.proofs.DrainLaws.{all_written, ended_as, ended_done, ran_whole, text_begins, write_alone}
 use Rattle.rmt_core.proofs.RunLaws.{cut_begins, front_begins}
 use Rattle.rmt_core.proofs.WaitingLaws.{all_on, front_on, some_lines, written_front}
 use Rattle.rmt_core.proofs.running.finish.finish.Goals as goal
 
 pub returns-in-Err-clause-front : goal.returns-in-Err-clause-front
-returns-in-Err-clause-front g c = λ w k done before h.
-    (cut_begins (text_begins w k done (bad_line c.args.bad)) (c.in-Err.ensures.cut w k done before h)).front
+returns-in-Err-clause-front g c = λ w k events made r before h.
+    (cut_begins (text_begins w k made (empty_cycles r) (bad_line c.args.bad)) (c.in-Err.ensures.cut w k events made r before h)).front
 
 pub returns-in-Err-clause-some : goal.returns-in-Err-clause-some
-returns-in-Err-clause-some g c = λ e w k done before h.
-    (cut_begins (text_begins w k done (bad_line c.args.bad)) (c.in-Err.ensures.cut w k done before h)).some (write_alone c.in-Err.fault (sym c.fault_status.ensures ∙ e))
+returns-in-Err-clause-some g c = λ e w k events made r before h.
+    (cut_begins (text_begins w k made (empty_cycles r) (bad_line c.args.bad)) (c.in-Err.ensures.cut w k events made r before h)).some (write_alone c.in-Err.fault (sym c.fault_status.ensures ∙ e))
 
 pub returns-in_default-clause-front : goal.returns-in_default-clause-front
-returns-in_default-clause-front g c = λ w k done before h.
-    front_begins (text_begins w k done (bad_line c.args.bad)) before (g.O.Sink.state c.run_out.new.out) (written_front (c.in-Ok.ensures.ok w k done before h).written)
+returns-in_default-clause-front g c = λ w k events made r before h.
+    front_begins (text_begins w k made (empty_cycles r) (bad_line c.args.bad)) before (g.O.Sink.state c.run_out.new.out) (written_front (c.in-Ok.ensures.ok w k events made r before h).written)
 
 pub returns-clause-printed : goal.returns-clause-printed
-returns-clause-printed g c = λ e w k done before h.
-    let goes = c.in-Ok.ensures.ok w k done before h in
-    let written = all_written w k done c.args.run.now c.run_out.new.run c.args.chip.now c.run_out.new.chip before (g.O.Sink.state c.run_out.new.out) (g.O.Sink.state c.args.out.now)
-    c.as_slice.result.now (bad_line c.args.bad) h goes (c.as_slice.ensures.value ∙ c.in-Ok-last_text.ensures k (ran w k done (bad_line c.args.bad)) goes.stands) in
+returns-clause-printed g c = λ e w k events made r before h.
+    let goes = c.in-Ok.ensures.ok w k events made r before h in
+    let all = all_cycles w made (empty_cycles r) (bad_line c.args.bad) in
+    let written = all_written w k made (empty_cycles r) (bad_line c.args.bad) c.run_out.new.run c.run_out.new.chip before (g.O.Sink.state c.run_out.new.out)
+    c.as_slice.result.now goes (c.as_slice.ensures.value ∙ c.in-Ok-last_text.ensures k all goes.stands goes.clocked goes.flies) in
     all_on written (g.O.Sink.state c.end.new.out) (c.end.ensures.printed (e ∙ sym c.end_status.ensures))
 
 pub returns-clause-front : goal.returns-clause-front
-returns-clause-front g c = λ w k done before h.
-    let goes = c.in-Ok.ensures.ok w k done before h in
-    let written = all_written w k done c.args.run.now c.run_out.new.run c.args.chip.now c.run_out.new.chip before (g.O.Sink.state c.run_out.new.out) (g.O.Sink.state c.args.out.now)
-    c.as_slice.result.now (bad_line c.args.bad) h goes (c.as_slice.ensures.value ∙ c.in-Ok-last_text.ensures k (ran w k done (bad_line c.args.bad)) goes.stands) in
+returns-clause-front g c = λ w k events made r before h.
+    let goes = c.in-Ok.ensures.ok w k events made r before h in
+    let all = all_cycles w made (empty_cycles r) (bad_line c.args.bad) in
+    let written = all_written w k made (empty_cycles r) (bad_line c.args.bad) c.run_out.new.run c.run_out.new.chip before (g.O.Sink.state c.run_out.new.out)
+    c.as_slice.result.now goes (c.as_slice.ensures.value ∙ c.in-Ok-last_text.ensures k all goes.stands goes.clocked goes.flies) in
     front_on written (g.O.Sink.state c.end.new.out) c.end.ensures.front
 
 pub returns-clause-some : goal.returns-clause-some
-returns-clause-some g c = λ e w k done before h.
-    let goes = c.in-Ok.ensures.ok w k done before h in
-    let written = all_written w k done c.args.run.now c.run_out.new.run c.args.chip.now c.run_out.new.chip before (g.O.Sink.state c.run_out.new.out) (g.O.Sink.state c.args.out.now)
-    c.as_slice.result.now (bad_line c.args.bad) h goes (c.as_slice.ensures.value ∙ c.in-Ok-last_text.ensures k (ran w k done (bad_line c.args.bad)) goes.stands) in
+returns-clause-some g c = λ e w k events made r before h.
+    let goes = c.in-Ok.ensures.ok w k events made r before h in
+    let all = all_cycles w made (empty_cycles r) (bad_line c.args.bad) in
+    let written = all_written w k made (empty_cycles r) (bad_line c.args.bad) c.run_out.new.run c.run_out.new.chip before (g.O.Sink.state c.run_out.new.out)
+    c.as_slice.result.now goes (c.as_slice.ensures.value ∙ c.in-Ok-last_text.ensures k all goes.stands goes.clocked goes.flies) in
     some_lines written (c.end.ensures.some e)
 
 pub returns-clause-clocked : goal.returns-clause-clocked
-returns-clause-clocked g c = λ e w k done before h.
-    let goes = c.in-Ok.ensures.ok w k done before h in
+returns-clause-clocked g c = λ e w k events made r before h.
+    let goes = c.in-Ok.ensures.ok w k events made r before h in
     let none : bad_line c.args.bad ≡ None = ended_done c.args.bad (sym c.end_status.ensures ∙ ended_as c.end.result c.end_status.result e c.end.ensures.status) in
-    subst (λ l. Stands k l c.run_out.new.chip) (ap (λ b. ran w k done b) none ∙ ran_whole w k done) goes.stands
+    subst (λ (l : List Input). Stands k l c.run_out.new.chip) (ap (λ b. all_cycles w made (empty_cycles r) b) none ∙ ran_whole w made (empty_cycles r)) goes.stands
 
 pub returns-clause-only_printed : goal.returns-clause-only_printed
 returns-clause-only_printed g c = only_printed_trans c.run_out.ensures.only_printed c.end.ensures.only_printed

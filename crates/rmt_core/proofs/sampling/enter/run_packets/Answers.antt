@@ -3,7 +3,7 @@ use Rattle.std.proofs.Common.{Some, arith}
 use Rattle.std.specs.Prelude.{map}
 use Rattle.rmt_packets.specs.PacketText.{packets_of}
 use Rattle.rmt_core.proofs.TallyLaws.{ran_all, ran_none}
-use Rattle.rmt_core.proofs.VectorLaws.{length_somes}
+use Rattle.rmt_core.proofs.EmitLaws.{length_somes}
 use Rattle.rmt_core.proofs.sampling.enter.run_packets.Goals as goal
 
 pub drain-requires-clause-stands : goal.drain-requires-clause-stands

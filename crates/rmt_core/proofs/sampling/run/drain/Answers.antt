@@ -4,7 +4,7 @@ use Rattle.std.proofs.Common.{◌≡◌, ◌++◌, None, arith, subst}
 use Rattle.std.specs.Prelude.{map, replicate}
 use Rattle.rmt_config.specs.ChipRun.{latency_of}
 use Rattle.rmt_core.specs.Tallies.{StandsFor}
-use Rattle.rmt_core.proofs.DrainLaws.{padded, padded_length}
+use Rattle.rmt_core.proofs.EmitLaws.{padded, padded_length}
 use Rattle.rmt_core.proofs.TallyLaws.{few_answered, few_drained}
 use Rattle.rmt_core.proofs.sampling.run.drain.Goals as goal
 

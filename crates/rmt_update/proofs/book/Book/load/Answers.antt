@@ -22,8 +22,8 @@ use Rattle.rmt_update.specs.Planned.{IsUnplanned, MayChange, changed_lists}
 use Rattle.rmt_update.specs.Seen.{HaveNumbers}
 use Rattle.rmt_update.proofs.AfterLaws.{after-have}
 use Rattle.rmt_update.proofs.LoadSteps.{after-few, can-change, planned, same-count, same-parts, tables-are, tables-fit, unplanned}
-use Rattle.rmt_update.proofs.RefillLaws.{zip-gives}
 use Rattle.rmt_update.proofs.book.Book.load.Goals as goal
+use Rattle.rmt_update.proofs.ZipLaws.{zip-gives}
 
 pub entries-requires : goal.entries-requires
 entries-requires c = (c.requires.0, c.requires.2, c.requires.3, c.requires.4)

@@ -33,6 +33,7 @@ returns-in_ok-writes-in-Some-clause-planned c = λ config names cells lists stan
       record {
         makes = subst (λ s. Makes config names cells lists (changed_lists lists ch) false s next) (sym st.seed) (stays (placed.stay ++ placed.coming) placed.placed);
         writes = c.in_ok-writes-in-Some.ensures.writes config names cells lists stands named may placed;
+        sizes = c.in_ok-writes-in-Some.ensures.sizes config names cells lists stands named may placed;
         stands = subst (λ s. BookStands config (with_version next s) (changed_lists lists ch) b2) (sym st.seed) st;
       },
     )

@@ -9,7 +9,7 @@ use Rattle.rmt_update.specs.declared.book.table.TableCells.{TableCells}
 use Rattle.rmt_update.specs.Differences.{AreDifferences, CanChange, Goal, IsGoal, all_pairs}
 use Rattle.rmt_update.specs.Turning.{AreNext, AreNextParts, IsSpotIn}
 use Rattle.rmt_update.proofs.BookNext.{book-next}
-use Rattle.rmt_update.proofs.DifferenceLaws.{writes-are}
+use Rattle.rmt_update.proofs.DifferenceLaws.{writes-are, writes-sized}
 use Rattle.rmt_update.proofs.FewLaws.{few-change}
 use Rattle.rmt_update.proofs.PartsNext.{all-there, are-next, can-change, held, lengths, not-more}
 use Rattle.rmt_update.proofs.RecentLaws.{recent-few}
@@ -67,6 +67,21 @@ returns-clause-writes c = λ config names cells lists stands named may placed.
     subst (λ (xs : List TableCells). (g : Goal) → All (IsGoal g) (all_pairs xs moved) → AreDifferences (all_pairs xs moved) writes g) c.as_slice-2.ensures.value
     (subst (λ (vs : List (Vec PartCells Global)). (g : Goal) → All (IsGoal g) (all_pairs c.as_slice-2.result.now vs) → AreDifferences (all_pairs c.as_slice-2.result.now vs) writes g) c.as_slice-3.ensures.value c.in_ok-writes.ensures) in
     writes-are config cells lists c.args.self.now stands (settled config names cells lists (placed.stay ++ placed.coming)) cells.seed moved
+    (held config names cells lists c.args.changes.now c.args.self.now c.args.come stands named placed moved next) writes differ
+
+pub returns-clause-sizes : goal.returns-clause-sizes
+returns-clause-sizes c = λ config names cells lists stands named may placed.
+    let odd = c.args.self.now.odd in
+    let ts = c.args.self.now.tables.items in
+    let moved = c.in_ok-moved.moved.items in
+    let writes = c.in_ok-writes.writes.items in
+    let next : AreNextParts odd c.args.changes.now.gone c.args.come ts moved =
+    subst (λ (xs : List TableCells). AreNextParts odd c.args.changes.now.gone c.args.come xs moved) c.as_slice-tables.ensures.value
+    (subst (λ ns. AreNextParts odd ns c.args.come c.as_slice-tables.result.now moved) c.as_slice.ensures c.in_ok-moved.ensures) in
+    let differ : (g : Goal) → All (IsGoal g) (all_pairs ts moved) → AreDifferences (all_pairs ts moved) writes g =
+    subst (λ (xs : List TableCells). (g : Goal) → All (IsGoal g) (all_pairs xs moved) → AreDifferences (all_pairs xs moved) writes g) c.as_slice-2.ensures.value
+    (subst (λ (vs : List (Vec PartCells Global)). (g : Goal) → All (IsGoal g) (all_pairs c.as_slice-2.result.now vs) → AreDifferences (all_pairs c.as_slice-2.result.now vs) writes g) c.as_slice-3.ensures.value c.in_ok-writes.ensures) in
+    writes-sized config cells lists c.args.self.now stands (settled config names cells lists (placed.stay ++ placed.coming)) cells.seed moved
     (held config names cells lists c.args.changes.now c.args.self.now c.args.come stands named placed moved next) writes differ
 
 pub returns-clause-few : goal.returns-clause-few

@@ -1,6 +1,7 @@
 use Rattle.std.proofs.Common.{◌≡◌, ℕ, List, ◌+◌, ◌*◌, ◌/◌, ◌%◌, ◌<◌, length, refl, sym, ap, ◌∙◌, subst, arith}
 use Rattle.rmt_bits.specs.Bits.{bytes_of, number_of, slice}
 use Rattle.rmt_bits.proofs.BitLaws.{slice-lt}
+use Rattle.rmt_bits.proofs.ByteLaws.{length-bytes_of}
 use Rattle.rmt_config.specs.declared.form.layout.Layout.{Layout}
 use Rattle.rmt_config.specs.LaneForm.{bits_of_lanes}
 use Rattle.rmt_config.specs.Shapes.{divided_up}
@@ -9,25 +10,26 @@ use Rattle.rmt_config.specs.Layouts.{IsInSram, entry_in, exact_keys, local_of, q
 use Rattle.rmt_config.proofs.CellLayouts.{exact-entry}
 use Rattle.rmt_update.specs.Kept.{Tells}
 use Rattle.rmt_update.specs.Words.{joined}
-use Rattle.rmt_update.proofs.KeptLaws.{at-layout, bytes-few, bytes-hold, key-told, keys-in, tells-low}
+use Rattle.rmt_update.proofs.KeptLaws.{bytes-few, key-told, tells-low}
 use Rattle.rmt_update.proofs.book.cells.exact_cell.Goals as goal
+use Rattle.rmt_refine.proofs.LayoutLaws.{at_layout, bytes_hold, keys_in}
 
 pub entry_words-requires-clause-layout : goal.entry_words-requires-clause-layout
 entry_words-requires-clause-layout c =
     let slot = c.args.slot.now in
     let f = c.requires.fits in
     let same : c.key_bits-bits.result ≡ bits_of_lanes slot.keys = c.key_bits-bits.ensures ∙ ap bits_of_lanes c.as_slice.ensures in
-    at-layout IsInSram c.exact_keys-layout.result (exact_keys c.args.part.now.width c.args.part.now.per c.args.part.now.quanta (bits_of_lanes slot.keys)) (c.exact_keys-layout.ensures ∙ ap (exact_keys c.args.part.now.width c.args.part.now.per c.args.part.now.quanta) same)
-    (keys-in c.args.part.now.width c.args.part.now.per c.args.part.now.quanta (bits_of_lanes slot.keys) f.some_k f.most_k f.some_p f.most_p f.some_d f.most_d f.most_bits f.fits)
+    at_layout IsInSram c.exact_keys-layout.result (exact_keys c.args.part.now.width c.args.part.now.per c.args.part.now.quanta (bits_of_lanes slot.keys)) (c.exact_keys-layout.ensures ∙ ap (exact_keys c.args.part.now.width c.args.part.now.per c.args.part.now.quanta) same)
+    (keys_in c.args.part.now.width c.args.part.now.per c.args.part.now.quanta (bits_of_lanes slot.keys) f.some_k f.most_k f.some_p f.most_p f.some_d f.most_d f.most_bits f.fits)
 
 pub entry_words-requires-clause-blocks : goal.entry_words-requires-clause-blocks
 entry_words-requires-clause-blocks c =
-    at-layout (λ l. length c.args.part.now.keys.now ≡ l.quanta * l.units * l.side) c.exact_keys-layout.result (exact_keys c.args.part.now.width c.args.part.now.per c.args.part.now.quanta c.key_bits-bits.result) c.exact_keys-layout.ensures
+    at_layout (λ l. length c.args.part.now.keys.now ≡ l.quanta * l.units * l.side) c.exact_keys-layout.result (exact_keys c.args.part.now.width c.args.part.now.per c.args.part.now.quanta c.key_bits-bits.result) c.exact_keys-layout.ensures
     (let h = c.requires.fits.keys in omega (arith, h))
 
 pub entry_words-requires-clause-cell : goal.entry_words-requires-clause-cell
 entry_words-requires-clause-cell c =
-    at-layout (λ l. c.args.number.cell < l.ways * l.quanta * l.way) c.exact_keys-layout.result (exact_keys c.args.part.now.width c.args.part.now.per c.args.part.now.quanta c.key_bits-bits.result) c.exact_keys-layout.ensures
+    at_layout (λ l. c.args.number.cell < l.ways * l.quanta * l.way) c.exact_keys-layout.result (exact_keys c.args.part.now.width c.args.part.now.per c.args.part.now.quanta c.key_bits-bits.result) c.exact_keys-layout.ensures
     (let h = c.requires.cell in omega (arith, h))
 
 pub invariant_of-result-clause-key_short : goal.invariant_of-result-clause-key_short
@@ -39,8 +41,8 @@ invariant_of-result-clause-key_short c =
 pub invariant_of-result-clause-held_short : goal.invariant_of-result-clause-held_short
 invariant_of-result-clause-held_short c = bytes-few c.args.slot.now.held _ c.in_ok-held.held.items c.in_ok-held.ensures c.requires.fits.most_held
 
-pub returns : goal.returns
-returns c = λ w cs.
+pub returns-clause-kept : goal.returns-clause-kept
+returns-clause-kept c = λ w cs.
     let slot = c.args.slot.now in
     let k = c.args.part.now.width in
     let p = c.args.part.now.per in
@@ -69,5 +71,13 @@ returns c = λ w cs.
       key = key-told words c.in_ok-key.key.items low bits value told
           (subst (λ b. c.in_ok-key.key.items ≡ bytes_of (divided_up b 8) (slice (joined 112 words) (low + 8) b)) same (c.in_ok-key.ensures ∙ ap (λ (ws : List ℕ). bytes_of (divided_up c.key_bits-bits.result 8) (slice (joined 112 ws) (low + 8) c.key_bits-bits.result)) c.as_slice-words.ensures.value));
       mask = refl;
-      held = ap number_of c.in_ok-held.ensures ∙ bytes-hold slot.held held (slice-lt _ _ slot.held);
+      held = ap number_of c.in_ok-held.ensures ∙ bytes_hold slot.held held (slice-lt _ _ slot.held);
     }
+
+pub returns-clause-key_size : goal.returns-clause-key_size
+returns-clause-key_size c =
+    let same : c.key_bits-bits.result ≡ bits_of_lanes c.args.slot.now.keys = c.key_bits-bits.ensures ∙ ap bits_of_lanes c.as_slice.ensures in
+    ap (λ (bs : List ℕ). length bs) c.in_ok-key.ensures ∙ length-bytes_of (divided_up c.key_bits-bits.result 8) _ ∙ ap (λ b. divided_up b 8) same
+
+pub returns-clause-held_size : goal.returns-clause-held_size
+returns-clause-held_size c = ap (λ (bs : List ℕ). length bs) c.in_ok-held.ensures ∙ length-bytes_of (divided_up c.args.slot.now.held 8) _

@@ -8,9 +8,9 @@ use Rattle.rmt_config.specs.Layouts.{IsInSram, entry_in, exact_records, local_of
 use Rattle.rmt_config.proofs.CellLayouts.{exact-data}
 use Rattle.rmt_update.specs.Kept.{Tells}
 use Rattle.rmt_update.specs.Words.{joined}
-use Rattle.rmt_update.proofs.KeptLaws.{at-layout, records-in}
 use Rattle.rmt_update.proofs.book.cells.exact_held.Goals as goal
 use Rattle.rmt_update.proofs.book.cells.exact_held.Goals.{After-bytes_at}
+use Rattle.rmt_refine.proofs.LayoutLaws.{at_layout, records_in}
 
 pub returns-then-held-eq0 : goal.returns-then-held-eq0
 returns-then-held-eq0 c =
@@ -19,17 +19,17 @@ returns-then-held-eq0 c =
 
 pub entry_words-requires-clause-layout : goal.entry_words-requires-clause-layout
 entry_words-requires-clause-layout c =
-    at-layout IsInSram c.exact_records-layout.result (exact_records c.args.per c.args.quanta c.args.held) c.exact_records-layout.ensures
-    (records-in c.args.per c.args.quanta c.args.held c.requires.per (omega arith) c.requires.quanta c.requires.few (omega arith) (omega arith))
+    at_layout IsInSram c.exact_records-layout.result (exact_records c.args.per c.args.quanta c.args.held) c.exact_records-layout.ensures
+    (records_in c.args.per c.args.quanta c.args.held c.requires.per (omega arith) c.requires.quanta c.requires.few (omega arith) (omega arith))
 
 pub entry_words-requires-clause-blocks : goal.entry_words-requires-clause-blocks
 entry_words-requires-clause-blocks c =
-    at-layout (λ l. length c.args.records.now ≡ l.quanta * l.units * l.side) c.exact_records-layout.result (exact_records c.args.per c.args.quanta c.args.held) c.exact_records-layout.ensures
+    at_layout (λ l. length c.args.records.now ≡ l.quanta * l.units * l.side) c.exact_records-layout.result (exact_records c.args.per c.args.quanta c.args.held) c.exact_records-layout.ensures
     (let h = c.requires.records in omega (arith, h))
 
 pub entry_words-requires-clause-cell : goal.entry_words-requires-clause-cell
 entry_words-requires-clause-cell c =
-    at-layout (λ l. c.args.cell < l.ways * l.quanta * l.way) c.exact_records-layout.result (exact_records c.args.per c.args.quanta c.args.held) c.exact_records-layout.ensures
+    at_layout (λ l. c.args.cell < l.ways * l.quanta * l.way) c.exact_records-layout.result (exact_records c.args.per c.args.quanta c.args.held) c.exact_records-layout.ensures
     (let h = c.requires.cell in omega (arith, h))
 
 tells : (c : After-bytes_at) → Tells c.in_ok-entry.entry.words.items c.in_ok-entry.entry.low c.args.held (data_at (sram_row c.args.rows.now) c.args.records.now c.args.per c.args.held (cell_of (1024 * c.args.quanta) c.args.per c.args.cell))

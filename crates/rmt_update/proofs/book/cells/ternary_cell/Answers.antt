@@ -1,6 +1,7 @@
 use Rattle.std.proofs.Common.{◌≡◌, ℕ, List, ◌+◌, ◌*◌, ◌/◌, ◌%◌, ◌^◌, ◌<◌, ◌≤◌, length, refl, sym, ap, ◌∙◌, subst, arith}
 use Rattle.std.specs.Prelude.{All}
 use Rattle.rmt_bits.specs.Bits.{bytes_of, slice}
+use Rattle.rmt_bits.proofs.ByteLaws.{length-bytes_of}
 use Rattle.rmt_config.specs.declared.form.layout.Layout.{Layout}
 use Rattle.rmt_config.specs.declared.config.SramRow.{SramRow}
 use Rattle.rmt_config.specs.declared.config.TcamRow.{TcamRow}
@@ -14,8 +15,9 @@ use Rattle.rmt_config.proofs.CellLaws.{blocks-there}
 use Rattle.rmt_config.proofs.CellLayouts.{ternary-record}
 use Rattle.rmt_update.specs.Kept.{Tells}
 use Rattle.rmt_update.specs.Words.{joined}
-use Rattle.rmt_update.proofs.KeptLaws.{at-layout, bytes-few, key-told, rows-in, tells-low}
+use Rattle.rmt_update.proofs.KeptLaws.{bytes-few, key-told, tells-low}
 use Rattle.rmt_update.proofs.book.cells.ternary_cell.Goals as goal
+use Rattle.rmt_refine.proofs.LayoutLaws.{at_layout, rows_in}
 
 pub entry_words-requires-clause-rows : goal.entry_words-requires-clause-rows
 entry_words-requires-clause-rows c =
@@ -25,17 +27,17 @@ entry_words-requires-clause-rows c =
 pub entry_words-requires-clause-layout : goal.entry_words-requires-clause-layout
 entry_words-requires-clause-layout c =
     let f = c.requires.fits in
-    at-layout IsInSram c.ternary_records-layout.result (ternary_records c.args.quanta (c.args.slot.now.held + 8)) c.ternary_records-layout.ensures
-    (rows-in c.args.quanta (c.args.slot.now.held + 8) f.some_d f.most_d (omega arith) (let h = f.most_held in omega (arith, h)))
+    at_layout IsInSram c.ternary_records-layout.result (ternary_records c.args.quanta (c.args.slot.now.held + 8)) c.ternary_records-layout.ensures
+    (rows_in c.args.quanta (c.args.slot.now.held + 8) f.some_d f.most_d (omega arith) (let h = f.most_held in omega (arith, h)))
 
 pub entry_words-requires-clause-blocks : goal.entry_words-requires-clause-blocks
 entry_words-requires-clause-blocks c =
-    at-layout (λ l. length c.args.records.now ≡ l.quanta * l.units * l.side) c.ternary_records-layout.result (ternary_records c.args.quanta (c.args.slot.now.held + 8)) c.ternary_records-layout.ensures
+    at_layout (λ l. length c.args.records.now ≡ l.quanta * l.units * l.side) c.ternary_records-layout.result (ternary_records c.args.quanta (c.args.slot.now.held + 8)) c.ternary_records-layout.ensures
     (let h = c.requires.fits.records in omega (arith, h))
 
 pub entry_words-requires-clause-cell : goal.entry_words-requires-clause-cell
 entry_words-requires-clause-cell c =
-    at-layout (λ l. c.args.number.cell < l.ways * l.quanta * l.way) c.ternary_records-layout.result (ternary_records c.args.quanta (c.args.slot.now.held + 8)) c.ternary_records-layout.ensures
+    at_layout (λ l. c.args.number.cell < l.ways * l.quanta * l.way) c.ternary_records-layout.result (ternary_records c.args.quanta (c.args.slot.now.held + 8)) c.ternary_records-layout.ensures
     (let h = c.requires.cell in omega (arith, h))
 
 pub ternary_key-requires-clause-rows : goal.ternary_key-requires-clause-rows
@@ -62,8 +64,8 @@ ternary_key-requires-clause-ends c =
 pub invariant_of-result-clause-held_short : goal.invariant_of-result-clause-held_short
 invariant_of-result-clause-held_short c = bytes-few c.args.slot.now.held _ c.in_ok-held.held.items c.in_ok-held.ensures c.requires.fits.most_held
 
-pub returns : goal.returns
-returns c = λ cs.
+pub returns-clause-kept : goal.returns-clause-kept
+returns-clause-kept c = λ cs.
     let slot = c.args.slot.now in
     let stage = c.args.stage.now in
     let d = c.args.quanta in
@@ -95,3 +97,12 @@ returns c = λ cs.
       held = key-told words c.in_ok-held.held.items low slot.held value told
           (c.in_ok-held.ensures ∙ ap (λ (ws : List ℕ). bytes_of (divided_up slot.held 8) (slice (joined 112 ws) (low + 8) slot.held)) c.as_slice-words.ensures.value);
     }
+
+pub returns-clause-key_size : goal.returns-clause-key_size
+returns-clause-key_size c = c.in_ok-compared.ensures.key_size ∙ ap (λ b. divided_up b 8) (c.key_bits-bits.ensures ∙ ap bits_of_lanes c.as_slice.ensures)
+
+pub returns-clause-mask_size : goal.returns-clause-mask_size
+returns-clause-mask_size c = c.in_ok-compared.ensures.mask_size ∙ ap (λ b. divided_up b 8) (c.key_bits-bits.ensures ∙ ap bits_of_lanes c.as_slice.ensures)
+
+pub returns-clause-held_size : goal.returns-clause-held_size
+returns-clause-held_size c = ap (λ (bs : List ℕ). length bs) c.in_ok-held.ensures ∙ length-bytes_of (divided_up c.args.slot.now.held 8) _

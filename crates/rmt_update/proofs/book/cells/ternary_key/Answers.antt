@@ -1,6 +1,7 @@
 use Rattle.std.proofs.Common.{ℕ, List, ◌+◌, ◌*◌, ◌/◌, ◌%◌, ◌^◌, ◌<◌, ◌≤◌, length, sym, ap, ◌∙◌, subst, arith}
 use Rattle.std.specs.Prelude.{All}
 use Rattle.std.proofs.lemmas.List.{length-map}
+use Rattle.rmt_bits.proofs.ByteLaws.{length-bytes_of}
 use Rattle.rmt_config.specs.declared.config.TcamRow.{TcamRow}
 use Rattle.rmt_config.specs.Shapes.{divided_up}
 use Rattle.rmt_config.specs.Cells.{blocks_at, tcam_row}
@@ -60,3 +61,9 @@ invariant_of-result-clause-key_short c = bytes-few c.args.bits _ c.in_ok-key.key
 
 pub invariant_of-result-clause-mask_short : goal.invariant_of-result-clause-mask_short
 invariant_of-result-clause-mask_short c = bytes-few c.args.bits _ c.in_ok-mask.mask.items c.in_ok-mask.ensures (omega arith)
+
+pub returns-clause-key_size : goal.returns-clause-key_size
+returns-clause-key_size c = ap (λ (bs : List ℕ). length bs) c.in_ok-key.ensures ∙ length-bytes_of (divided_up c.args.bits 8) _
+
+pub returns-clause-mask_size : goal.returns-clause-mask_size
+returns-clause-mask_size c = ap (λ (bs : List ℕ). length bs) c.in_ok-mask.ensures ∙ length-bytes_of (divided_up c.args.bits 8) _

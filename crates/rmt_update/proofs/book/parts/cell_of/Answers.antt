@@ -1,4 +1,5 @@
-use Rattle.std.proofs.Common.{◌≡◌, ℕ, ◌*◌, ◌/◌, ◌^◌, ◌<◌, List, get_or, true, sym, refl, ap, ◌∙◌, subst}
+use Rattle.std.proofs.Common.{◌≡◌, ℕ, ◌*◌, ◌/◌, ◌^◌, ◌<◌, List, [], Result, Ok, Err, get_or, length, true, sym, refl, ap, ◌∙◌, subst}
+use Rattle.std.specs.Prelude.{IfOk}
 use Rattle.std.proofs.lemmas.Bool.{and_parts}
 use Rattle.std.proofs.lemmas.Option.{get_or_from_slice_get}
 use Rattle.std.proofs.lemmas.Result.{IfOk-weaker}
@@ -19,7 +20,8 @@ use Rattle.rmt_config.specs.UnitForm.{memory_is_formed, slot_head_is_formed}
 use Rattle.rmt_config.proofs.PrefixRowLaws.{mask-read, mask-small, prefix-rows}
 use Rattle.rmt_config.proofs.SlotLaws.{exact-fits, ternary-fits}
 use Rattle.rmt_config.proofs.SpelledParts.{held-is}
-use Rattle.rmt_update.specs.Kept.{IsKept}
+use Rattle.rmt_update.specs.Kept.{HasBytes, IsKept, mask_bytes}
+use Rattle.rmt_update.specs.declared.book.kept.Kept.{Kept}
 use Rattle.rmt_update.specs.PartList.{part_at}
 use Rattle.rmt_update.proofs.book.parts.cell_of.Goals as goal
 
@@ -69,8 +71,8 @@ ternary_cell-requires-clause-ends c =
     (blocks_at c.as_slice-in-Ternary.result.now (divided_up bits 40) (c.args.number.cell / 2048)) c.as_slice-in-Ternary.result.now (ap (λ (s : Stage). s.trows) stage) refl c.as_slice-in-Ternary.ensures refl in
     subst (λ x. x < 2 ^ bits) (sym read) (mask-small config part st a.quanta a.keys a.records a.counters a.is c.args.number.cell)
 
-pub returns-in-Exact : goal.returns-in-Exact
-returns-in-Exact c =
+pub returns-in-Exact-clause-kept : goal.returns-in-Exact-clause-kept
+returns-in-Exact-clause-kept c =
     let a = c.in-Exact in
     let config = c.args.config.now in
     let part = part_at c.args.part.now in
@@ -94,10 +96,10 @@ returns-in-Exact c =
     let three = subst (λ (rs : List SramRow). IsKept bits (Exact a.width a.per a.quanta a.first_way a.keys a.records a.counters) (exact_content (sram_row rs) slot a.width a.per a.keys a.records cell) number kept) rows two in
     let four = subst (λ (m : Memory). IsKept bits m (content_of st.stage (record slot { memory = m }) n) number kept) (sym a.is) three in
     subst (λ (x : Content). IsKept bits slot.memory x number kept) (sym (held-is config part st n)) four)
-    c.exact_cell.ensures
+    c.exact_cell.ensures.kept
 
-pub returns-in-Ternary : goal.returns-in-Ternary
-returns-in-Ternary c =
+pub returns-in-Ternary-clause-kept : goal.returns-in-Ternary-clause-kept
+returns-in-Ternary-clause-kept c =
     let a = c.in-Ternary in
     let config = c.args.config.now in
     let part = part_at c.args.part.now in
@@ -118,4 +120,24 @@ returns-in-Ternary c =
     let three = subst (λ (s : Stage). IsKept bits (Ternary a.quanta a.keys a.records a.counters) (ternary_content s slot a.keys a.records n) number kept) stage two in
     let four = subst (λ (m : Memory). IsKept bits m (content_of st.stage (record slot { memory = m }) n) number kept) (sym a.is) three in
     subst (λ (x : Content). IsKept bits slot.memory x number kept) (sym (held-is config part st n)) four)
-    c.ternary_cell.ensures
+    c.ternary_cell.ensures.kept
+
+-- three facts of what a call gives make another
+of-three : {E : Type 0} (r : Result Kept E) (A B C D : Kept → Type 0) → ((k : Kept) → A k → B k → C k → D k) → IfOk r A → IfOk r B → IfOk r C → IfOk r D
+of-three (Ok k) A B C D f a b c = f k a b c
+of-three (Err e) A B C D f a b c = tt
+
+pub returns-in-Exact-clause-bytes : goal.returns-in-Exact-clause-bytes
+returns-in-Exact-clause-bytes c =
+    let slot = c.args.part.now.slot.now in
+    of-three c.exact_cell.result (λ kept. length kept.key.items ≡ divided_up (bits_of_lanes slot.keys) 8) (λ kept. kept.mask.items ≡ []) (λ kept. length kept.held.items ≡ divided_up slot.held 8) (HasBytes slot)
+    (λ kept key mask held. record { key = key; mask = ap (λ (bs : List ℕ). length bs) mask ∙ ap (mask_bytes (bits_of_lanes slot.keys)) (sym c.in-Exact.is); held = held })
+    c.exact_cell.ensures.key_size c.exact_cell.ensures.no_mask c.exact_cell.ensures.held_size
+
+pub returns-in-Ternary-clause-bytes : goal.returns-in-Ternary-clause-bytes
+returns-in-Ternary-clause-bytes c =
+    let slot = c.args.part.now.slot.now in
+    of-three c.ternary_cell.result (λ kept. length kept.key.items ≡ divided_up (bits_of_lanes slot.keys) 8) (λ kept. length kept.mask.items ≡ divided_up (bits_of_lanes slot.keys) 8)
+    (λ kept. length kept.held.items ≡ divided_up slot.held 8) (HasBytes slot)
+    (λ kept key mask held. record { key = key; mask = mask ∙ ap (mask_bytes (bits_of_lanes slot.keys)) (sym c.in-Ternary.is); held = held })
+    c.ternary_cell.ensures.key_size c.ternary_cell.ensures.mask_size c.ternary_cell.ensures.held_size

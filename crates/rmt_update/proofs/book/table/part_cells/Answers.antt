@@ -35,7 +35,7 @@ rank_of-requires-clause-mask c = λ is.
     let n : CellNumber = get_or c.as_slice-number-items.result.now c.loop-number.number-index first in
     subst (λ b. number_of c.in_ok-kept.kept.mask.items < 2 ^ b) (sym c.requires.bits)
     (mask-fits c.args.config.now part c.requires.stands n.cell c.in_ok-kept.kept.mask.items part.slot.memory refl
-    (subst (λ (k : Kind). is_of_kind k part.slot.memory ≡ true) is c.requires.kind) c.in_ok-kept.ensures.mask)
+    (subst (λ (k : Kind). is_of_kind k part.slot.memory ≡ true) is c.requires.kind) c.in_ok-kept.ensures.kept.mask)
 
 pub loop-number-preserved : goal.loop-number-preserved
 loop-number-preserved c =
@@ -46,7 +46,7 @@ loop-number-preserved c =
     let same : numbers ≡ part.slot.numbers = c.as_slice-number-items.ensures in
     let i = c.loop-number.number-index in
     let n : CellNumber = get_or numbers i first in
-    let h = c.in_ok-kept.ensures in
+    let h = c.in_ok-kept.ensures.kept in
     let zip : AllZip (IsRanked config t part) (take i numbers) c.loop-number.cells.entries =
     subst (λ (ns : List CellNumber). AllZip (IsRanked config t part) (take i ns) c.loop-number.cells.entries) (sym same) c.loop-number.invariant in
     let rise : rises_from 0 (map (λ (x : CellNumber). x.cell) numbers) ≡ true =
@@ -56,6 +56,7 @@ loop-number-preserved c =
     (record {
       at = refl;
       kept = record { cell = h.cell; number = h.number; visible = h.visible; code = h.code; key = h.key; mask = h.mask; held = h.held };
+      bytes = c.in_ok-kept.ensures.bytes;
       rank =
           c.rank_of.ensures ∙ ap (λ m. rank_in t.kind t (number_of c.in_ok-kept.kept.mask.items) m) h.number
           ∙ rank-is t.kind t part.slot.memory (bits_of_lanes part.slot.keys) c.in_ok-kept.kept.mask.items (held_by config part n).mask n.number c.requires.kind h.mask;

@@ -11,9 +11,9 @@ use Rattle.rmt_config.specs.Rooms.{PartAt}
 use Rattle.rmt_config.specs.Shapes.{divided_up}
 use Rattle.rmt_update.specs.Loads.{HasShape}
 use Rattle.rmt_update.specs.Taking.{candidates_at}
-use Rattle.rmt_update.proofs.BookFacts.{zip-beside}
 use Rattle.rmt_update.proofs.SliceLoops.{map-next}
 use Rattle.rmt_update.proofs.book.taking.candidates_in.Goals as goal
+use Rattle.rmt_update.proofs.ZipLaws.{zip-right}
 
 pub loop-part-preserved : goal.loop-part-preserved
 loop-part-preserved c =
@@ -25,7 +25,7 @@ loop-part-preserved c =
     record {
       count = (let long = length-append c.loop-part.cells.items (c.in_ok-own.own.items ∷ []) in let more = ap (λ (cs : List (List ℕ)). length cs) grown in let before = c.loop-part.invariant.count in omega (arith, long, more, before));
       cells = λ ps number zip keys.
-          let beside = zip-beside HasShape ps parts i x zip at in
+          let beside = zip-right HasShape ps parts i x zip at in
           let p = beside.0 in
           let own = c.in_ok-own.ensures p.slot number beside.2 (All-slice_get (λ (q : PartAt). c.args.key.now ≡ bytes_of (divided_up (bits_of_lanes q.slot.keys) 8) number) ps i p keys beside.1) in
           grown ∙ ap (λ (cs : List (List ℕ)). cs ++ c.in_ok-own.own.items ∷ []) (c.loop-part.invariant.cells ps number zip keys)

@@ -4,8 +4,9 @@ use Rattle.rmt_bits.specs.Bits.{number_of, slice}
 use Rattle.rmt_config.specs.Cells.{cell_of, data_at, sram_row}
 use Rattle.rmt_config.specs.Layouts.{entry_in, exact_records, local_of, quantum_of}
 use Rattle.rmt_config.specs.declared.form.layout.Layout.{Layout}
-use Rattle.rmt_verify.proofs.ContentLaws.{at_layout, data_is}
+use Rattle.rmt_verify.proofs.ContentLaws.{data_is}
 use Rattle.rmt_verify.proofs.cells.content.exact_data.Goals as goal
+use Rattle.rmt_refine.proofs.LayoutLaws.{at_layout}
 
 pub data_bytes-requires-clause-cell : goal.data_bytes-requires-clause-cell
 data_bytes-requires-clause-cell c =

@@ -9,8 +9,9 @@ use Rattle.rmt_config.specs.Shapes.{divided_up}
 use Rattle.rmt_config.specs.declared.config.Memory.TheVariants.{Exact}
 use Rattle.rmt_config.specs.declared.form.layout.Layout.{Layout}
 use Rattle.rmt_verify.specs.Wanted.{part_of}
-use Rattle.rmt_verify.proofs.ContentLaws.{args_along, at_layout, bytes_hold, code_told, exact_all, exact_head, exact_key, exact_key-lt, key_few, key_room, key_small, stands_told, told_along, way_low}
+use Rattle.rmt_verify.proofs.ContentLaws.{args_along, code_told, exact_all, exact_head, exact_key, exact_key-lt, key_few, key_room, key_small, stands_told, told_along, way_low}
 use Rattle.rmt_verify.proofs.cells.content.exact_holds.Goals as goal
+use Rattle.rmt_refine.proofs.LayoutLaws.{at_layout, bytes_hold}
 
 pub head_of-requires-clause-cell : goal.head_of-requires-clause-cell
 head_of-requires-clause-cell c =

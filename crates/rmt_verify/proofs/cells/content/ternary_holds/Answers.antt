@@ -8,8 +8,9 @@ use Rattle.rmt_config.specs.Shapes.{divided_up}
 use Rattle.rmt_config.specs.declared.config.SramRow.{SramRow}
 use Rattle.rmt_config.specs.declared.form.layout.Layout.{Layout}
 use Rattle.rmt_pack.specs.declared.tcam.TcamWord.{TcamWord}
-use Rattle.rmt_verify.proofs.ContentLaws.{args_along, at_layout, blocks_there, code_told, row_data, row_head, rows_in, ternary_all, words_along, words_told}
+use Rattle.rmt_verify.proofs.ContentLaws.{args_along, blocks_there, code_told, row_data, row_head, ternary_all, words_along, words_told}
 use Rattle.rmt_verify.proofs.cells.content.ternary_holds.Goals as goal
+use Rattle.rmt_refine.proofs.LayoutLaws.{at_layout, rows_in}
 
 pub data_bytes-requires-clause-layout : goal.data_bytes-requires-clause-layout
 data_bytes-requires-clause-layout c =

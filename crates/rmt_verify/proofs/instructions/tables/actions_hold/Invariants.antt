@@ -1,7 +1,7 @@
 use Rattle.std.proofs.Common.{◌≡◌, ℕ, ◌+◌, ◌<◌, Some}
 use Rattle.std.specs.Prelude.{slice_get}
 use Rattle.rmt_config.specs.Life.{code_at}
-use Rattle.rmt_verify.specs.Instructions.{IsCodeOf}
+use Rattle.rmt_vliw.specs.Coded.{IsCodeOf}
 use Rattle.rmt_verify.proofs.instructions.tables.actions_hold.Given as goal
 
 -- the instructions of the actions so far

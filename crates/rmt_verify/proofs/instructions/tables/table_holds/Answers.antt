@@ -4,7 +4,7 @@ use Rattle.std.proofs.lemmas.Result.{IfOk-weaker}
 use Rattle.rmt_config.specs.Life.{code_at}
 use Rattle.rmt_vliw.specs.Folding.{IsFolding}
 use Rattle.rmt_vliw.proofs.InstructionLaws.{takes_folded, takes_within}
-use Rattle.rmt_verify.specs.Instructions.{IsCodeOf, TableCoded}
+use Rattle.rmt_vliw.specs.Coded.{IsCodeOf, TableCoded}
 use Rattle.rmt_verify.proofs.CodedLaws.{code_at_rises, table_answer}
 use Rattle.rmt_vliw.proofs.MeaningLaws.{folding_at}
 use Rattle.rmt_verify.proofs.instructions.tables.table_holds.Goals as goal

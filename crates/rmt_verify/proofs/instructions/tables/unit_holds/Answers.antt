@@ -2,7 +2,7 @@ use Rattle.std.proofs.Common.{sym, subst}
 use Rattle.std.specs.Prelude.{IfSome, IsTrue, Option, ◌↔◌}
 use Rattle.std.proofs.lemmas.Result.{IfOk-weaker}
 use Rattle.rmt_refine.specs.Types.{Table, Unit}
-use Rattle.rmt_verify.specs.Instructions.{TableCoded}
+use Rattle.rmt_vliw.specs.Coded.{TableCoded}
 use Rattle.rmt_verify.specs.StageCode.{UnitCoded}
 use Rattle.rmt_verify.proofs.StageCodeLaws.{applied_table}
 use Rattle.rmt_verify.proofs.instructions.tables.unit_holds.Goals as goal

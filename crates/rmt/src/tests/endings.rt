@@ -1,0 +1,187 @@
+//! What standard error is told for each kind of answer, whose number is the exit status: a text after each but Done, and
+//! after Done warnings alone.
+
+use crate::call::call;
+use crate::end_without_words;
+use crate::messages::{KeepsFault, Lengths, message_after};
+use crate::tests::commands::{Outside, STEADY, shelf_of, words_of};
+use crate::tests::programs::{SMALLEST, TOO_DEEP};
+use rmt_explain::ending::Ending;
+use rmt_io::mem_shelf::MemShelf;
+use rmt_io::mem_sink::MemSink;
+use rmt_io::true_shelf::{MachineFault, TrueShelf};
+use std::alloc::Global;
+use std::io::{ErrorKind, Write};
+use std::test::*;
+
+/// Words, how the call ends, and what the message begins with.
+const ROWS: [(&[&str], u8, &str); 12] = [
+    (&["compile", "p", "e", "i"], 0, ""),
+    (&["plain", "w", "e", "e"], 0, ""),
+    (&["compile", "w", "e", "i"], 0, "w:1:34: warning: "),
+    (&["sim", "p"], 1, "rmt: PACKETS is missing: "),
+    (&["--help"], 1, "rmt: a compiler and a simulator "),
+    (&["sim", "p", "none"], 2, "rmt: a file can't be read\n"),
+    (&["compile", "e", "e", "i"], 4, "e:1:1: "),
+    (&["compile", "p", "w", "i"], 5, "w:1:1: "),
+    (&["compile", "d", "e", "i"], 6, "d:2:8: "),
+    (&["report", "p"], 7, "rmt: p is no image: "),
+    (&["plain", "p", "e", "w"], 8, "w:1:1: "),
+    (&["compile", "long", "e", "i"], 9, TOO_LONG),
+];
+
+const TOO_LONG: &str =
+    "rmt: a file is longer than its limit\n  long: a program has at most 1,048,576 bytes\n";
+
+/// A program of which `compile` warns.
+const WARNED: &str = "header h { f : 8; } next accept; control { }\n";
+
+const COMPILE: [&str; 4] = ["compile", "p", "e", "i"];
+
+/// Files of 60 bytes, and one that is longer than any may be.
+#[derive(Drop)]
+struct Told {}
+
+impl Lengths for Told {
+    fn length(&self, name: &String) -> Option<u64> {
+        if name.as_str() == "long" {
+            Some(1_099_511_627_777)
+        } else {
+            Some(60)
+        }
+    }
+}
+
+impl KeepsFault for MemShelf {
+    fn kept_fault(&self) -> Option<&MachineFault> {
+        None
+    }
+}
+
+/// A shelf with the files of the rows.
+fn shelf(alloc: Global, outside: Outside) -> Result<MemShelf, Fail> {
+    let long = vec![in alloc; b' '; 1_048_577]?;
+    let files = [
+        ("p", SMALLEST.as_bytes()),
+        ("w", WARNED.as_bytes()),
+        ("d", TOO_DEEP.as_bytes()),
+        ("e", b"".as_slice()),
+        ("long", long.as_slice()),
+    ];
+    shelf_of(alloc, &files, outside)
+}
+
+/// The exit status of a call over a shelf that names no fault, whose messages are said to a writer.
+fn status_of<E: Write>(
+    alloc: Global,
+    words: &[&str],
+    outside: Outside,
+    err: &mut E,
+) -> Result<u8, Fail> {
+    let words = words_of(alloc, words)?;
+    let mut shelf = shelf(alloc, outside)?;
+    let fails = [outside.sink_fails].to_vec(alloc)?;
+    let out = MemSink::new(fails, outside.taken.max(1));
+    Ok(call(alloc, &words, &mut shelf, out, &Told {}, err))
+}
+
+/// Whether a text begins so, and is empty where nothing is wanted.
+fn is_told(text: &[u8], wanted: &str) -> bool {
+    text.starts_with(wanted.as_bytes()) && text.is_empty() == wanted.is_empty()
+}
+
+#[test]
+fn each_kind_of_answer(rt: HostRuntime) -> Result<(), Fail> {
+    let alloc = rt.alloc();
+    for (words, wanted, begins) in ROWS {
+        let mut text = Vec::new(alloc);
+        let status = status_of(alloc, words, STEADY, &mut text)?;
+        assert!(rt;
+            status == wanted && is_told(text.as_slice(), begins),
+            "{words:?}: {text:?}"
+        );
+    }
+    Ok(())
+}
+
+/// The image that is written fails, and then the output; and a message that can't be said changes no status.
+#[test]
+fn faults_of_what_is_written(rt: HostRuntime) -> Result<(), Fail> {
+    let alloc = rt.alloc();
+    for (shelf_fails, sink_fails) in [(3, 0), (0, 1)] {
+        let outside = Outside {
+            shelf_fails,
+            sink_fails,
+            ..STEADY
+        };
+        let mut text = Vec::new(alloc);
+        let status = status_of(alloc, &COMPILE, outside, &mut text)?;
+        let begins = "rmt: standard output can't be written, or i; ";
+        assert!(rt; status == 3 && is_told(text.as_slice(), begins), "{text:?}");
+    }
+    let mut none: &mut [u8] = &mut [];
+    let status = status_of(alloc, &["report", "p"], STEADY, &mut none)?;
+    assert!(rt; status == 7);
+    Ok(())
+}
+
+/// A fault of the machine has the file's name, and what the system said.
+#[test]
+fn a_file_that_is_absent(rt: HostRuntime) -> Result<(), Fail> {
+    let alloc = rt.alloc();
+    let words = words_of(alloc, &["report", "no_such_folder/i"])?;
+    let mut shelf = TrueShelf::new(&rt);
+    let out = MemSink::new([0].to_vec(alloc)?, 1);
+    let mut text = Vec::new(alloc);
+    let status = call(alloc, &words, &mut shelf, out, &Told {}, &mut text);
+    let wanted =
+        "rmt: no_such_folder/i can't be read: there is no file of this name, or no folder of its path\n";
+    assert!(rt;
+        status == 2 && text.as_slice() == wanted.as_bytes(),
+        "{text:?}"
+    );
+    Ok(())
+}
+
+/// A packet text is read in pieces, so no shelf names it where it is too long.
+#[test]
+fn a_packet_text_that_is_too_long(rt: HostRuntime) -> Result<(), Fail> {
+    let alloc = rt.alloc();
+    let words = words_of(alloc, &["sim", "i", "long"])?;
+    let mut shelf = MemShelf::new(Vec::new(alloc), 1);
+    let ending = Ending {
+        words: words.as_slice(),
+        status: 9,
+        last_line: b"",
+        fault: None,
+    };
+    let text = message_after(alloc, &ending, &mut shelf, &Told {})?;
+    let wanted =
+        "rmt: a file is longer than its limit\n  long: a packet text has at most 1,099,511,627,776 bytes\n";
+    assert!(rt; text.as_slice() == wanted.as_bytes(), "{text:?}");
+    Ok(())
+}
+
+/// After each status but 0 there is a text, also where nothing is known but the words.
+#[test]
+fn each_status(rt: HostRuntime) -> Result<(), Fail> {
+    let alloc = rt.alloc();
+    let words = words_of(alloc, &COMPILE)?;
+    let mut shelf = MemShelf::new(Vec::new(alloc), 1);
+    for status in 0..11u8 {
+        let ending = Ending {
+            words: words.as_slice(),
+            status,
+            last_line: b"",
+            fault: None,
+        };
+        let text = message_after(alloc, &ending, &mut shelf, &Told {})?;
+        assert!(rt; text.is_empty() == (status == 0), "{status}");
+    }
+    for (kind, number) in [(ErrorKind::InvalidInput, 11), (ErrorKind::OutOfMemory, 10)] {
+        let mut text = Vec::new(alloc);
+        let status = end_without_words(&mut text, kind);
+        assert!(rt; status == number && text.starts_with(b"rmt: "), "{text:?}");
+    }
+    Ok(())
+}

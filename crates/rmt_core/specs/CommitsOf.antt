@@ -1,0 +1,16 @@
+-- The entries and the cells of a configuration before the first line of a packet text.
+use Rattle.std.specs.Prelude.{◌≡◌, Option, Some, None}
+use Rattle.rmt_config.specs.RunCells.{own_cells}
+use Rattle.rmt_update.specs.BookStands.{BookStands}
+use Rattle.rmt_update.specs.Running.{fresh}
+use Rattle.rmt_update.specs.Stands.{Stands}
+use Rattle.rmt_core.specs.Types.{Config}
+use Rattle.rmt_core.specs.declared.running.commits.Commits.{Commits}
+use Rattle.rmt_core.specs.ChipReading.{lists_in, names_in}
+use Rattle.rmt_core.specs.EventText.{most_additions}
+
+-- of a configuration with names its entries and its cells, and of one without them nothing
+abbrev pub AreCommitsOf : Config → Option Commits → Type 0
+AreCommitsOf c None = c.names ≡ None
+AreCommitsOf c (Some commits) =
+    (c.names ≡ Some (names_in c)) × BookStands c (own_cells c) (lists_in c) commits.book × Stands (fresh (names_in c) (lists_in c) most_additions) commits.lists

@@ -1,0 +1,281 @@
+-- Entries that are well formed for names stay so where one is added or removed.
+use Rattle.std.proofs.Common.{◌≡◌, ◌≢◌, ◌⊎◌, ℕ, zero, suc, ◌+◌, ◌-◌, ◌^◌, ◌<◌, ◌≤◌, ◌==◌, ◌&&◌, Bool, true, false, cond, List, [], ◌∷◌, ◌++◌, length, map, Option, Some, None, option_map, unwrap_or, refl, sym, ap, subst, ◌∙◌, inl, inr, arith}
+use Rattle.std.specs.Prelude.{All, AllPairs, Contains, IsSomeAnd, find, slice_get, slice_set}
+use Rattle.std.specs.List.{AllZip, flat_map, list_all, range_with_len}
+use Rattle.std.proofs.Math.Pow.{pow-lt}
+use Rattle.std.proofs.lemmas.Bool.{and_from, and_parts, cases_eq, cases_lt, eqb-true, false≢true}
+use Rattle.std.proofs.lemmas.List.{length-append, length-set}
+use Rattle.std.proofs.lemmas.List.Elements.{All-append, All-cons, All-contains, All-contains_itself, All-map, All-nil, All-set, All-weaker}
+use Rattle.std.proofs.lemmas.List.Kept.{AllPairs-cons}
+use Rattle.std.proofs.lemmas.List.Quantifiers.{all_pairs_push}
+use Rattle.std.proofs.lemmas.Option.{none-some, same_Some, slice_get_within}
+use Rattle.rmt_bits.proofs.AllLaws.{All-find, All-flat_map, All-from_test, All-left, All-parts, All-right}
+use Rattle.rmt_bits.proofs.ListLaws.{slice_get-item, slice_get-set_other, slice_get-set_same}
+use Rattle.rmt_bits.proofs.MemberLaws.{Contains-flat_map, Contains-item, Contains-map, list_any-Contains}
+use Rattle.rmt_bits.proofs.PairLaws.{AllPairs-across, AllPairs-append, AllPairs-head, AllPairs-left, AllPairs-map, AllPairs-none, AllPairs-right, AllPairs-tail, AllPairs-weaker}
+use Rattle.rmt_ast.specs.declared.entry.Entry.{Entry}
+use Rattle.rmt_ast.specs.declared.names.Names.{Names}
+use Rattle.rmt_ast.specs.declared.names.TableName.{TableName}
+use Rattle.rmt_ast.specs.declared.program.Kind.{Kind}
+use Rattle.rmt_ast.specs.declared.program.Kind.TheVariants as kind
+use Rattle.rmt_ast.specs.declared.program.Test.{Test}
+use Rattle.rmt_ast.specs.Answers.{entry_numbers}
+use Rattle.rmt_ast.specs.Changes.{EntryKey, Installed, added, is_keyed_by, list_of, removed, without}
+use Rattle.rmt_ast.specs.EntryLists.{AreEntriesAt, AreEntriesFor, AreTableEntries, HasKeysOnce, HasRank, IsEntry, IsPrefix, Terms}
+use Rattle.rmt_ast.specs.NameRules.{AreEntriesOf, has_fields, names_are_formed, nodes_rise, table_is_formed, table_names_differ, terms_named, terms_of_name}
+use Rattle.rmt_ast.specs.WellFormed.{AreDistinct}
+use Rattle.rmt_ast.proofs.EntryLaws.{all_without}
+use Rattle.rmt_entries.specs.Entries.{has_keys_once}
+use Rattle.rmt_refine.proofs.PartLaws.{and_from as some_from}
+use Rattle.rmt_update.specs.Following.{IsNextAbove}
+use Rattle.rmt_update.specs.Running.{holds, key_of_entry}
+use Rattle.rmt_update.proofs.FilterLaws.{numbers_of}
+use Rattle.rmt_update.proofs.KeyLaws.{keyed_if}
+use Rattle.rmt_update.proofs.RoomNumbers.{slice_get-map_range}
+use Rattle.rmt_update.proofs.TableRules.{entries-at}
+
+-- ---- numbers that stand once
+
+-- what holds of the numbers of all entries holds where those of one node are replaced by others of which it holds
+pub numbers_set : (P : ℕ → Type 0) (lists : List (List Entry)) (i : ℕ) (new : List Entry) → All P (flat_map entry_numbers lists) → All (λ (e : Entry). P e.number) new → All P (flat_map entry_numbers (slice_set lists i new))
+numbers_set P lists i new all own =
+    All-flat_map P entry_numbers (slice_set lists i new)
+    (All-set (λ es. All P (entry_numbers es)) lists i new (All-map P (λ (e : Entry). e.number) new own) (All-parts P entry_numbers lists all))
+
+in_flat : (lists : List (List Entry)) (i n : ℕ) → Contains (entry_numbers (list_of lists i)) n → Contains (flat_map entry_numbers lists) n
+in_flat lists i n there = by (slice_get lists i) refl there
+  where
+    by : (o : Option (List Entry)) → slice_get lists i ≡ o → Contains (entry_numbers (unwrap_or o [])) n → Contains (flat_map entry_numbers lists) n
+    by None at h = absurd (let lt = h.1 in omega (arith, lt))
+    by (Some es) at h = Contains-flat_map entry_numbers lists es n (Contains-item lists i es at) h
+
+-- a number is one of these entries' or the next one
+abbrev IsOldOrNext : ℕ → List Entry → Entry → Type 0
+IsOldOrNext next old e = Contains (entry_numbers old) e.number ⊎ (e.number ≡ next)
+
+abbrev Differ : ℕ → ℕ → Type 0
+Differ m n = m ≢ n
+
+-- numbers stand once where those of one node are replaced by some of them and the next one
+distinct_set : (next : ℕ) (lists : List (List Entry)) (i : ℕ) (new : List Entry) → AreDistinct (flat_map entry_numbers lists) → All (λ n. n < next) (flat_map entry_numbers lists)
+    → (i < length lists → AreDistinct (entry_numbers new)) → All (IsOldOrNext next (list_of lists i)) new → AreDistinct (flat_map entry_numbers (slice_set lists i new))
+distinct_set next [] i new once low own all = once
+distinct_set next (x ∷ xs) zero new once low own all =
+    AllPairs-append Differ (entry_numbers new) (flat_map entry_numbers xs) (own (omega arith)) (AllPairs-right Differ (entry_numbers x) (flat_map entry_numbers xs) once)
+    (All-map (λ p. All (Differ p) (flat_map entry_numbers xs)) (λ (e : Entry). e.number) new
+    (All-weaker (IsOldOrNext next x) (λ (e : Entry). All (Differ e.number) (flat_map entry_numbers xs)) apart new all))
+  where
+    apart : (e : Entry) → IsOldOrNext next x e → All (Differ e.number) (flat_map entry_numbers xs)
+    apart e (inl old) = All-contains (λ p. All (Differ p) (flat_map entry_numbers xs)) (entry_numbers x) e.number (AllPairs-across Differ (entry_numbers x) (flat_map entry_numbers xs) once) old
+    apart e (inr is) =
+        All-weaker (λ n. n < next) (Differ e.number) (λ n lt same. absurd (omega (arith, lt, same, is))) (flat_map entry_numbers xs) (All-right (λ n. n < next) (entry_numbers x) (flat_map entry_numbers xs) low)
+distinct_set next (x ∷ xs) (suc i) new once low own all =
+    AllPairs-append Differ (entry_numbers x) (flat_map entry_numbers (slice_set xs i new)) (AllPairs-left Differ (entry_numbers x) (flat_map entry_numbers xs) once)
+    (distinct_set next xs i new (AllPairs-right Differ (entry_numbers x) (flat_map entry_numbers xs) once) (All-right (λ n. n < next) (entry_numbers x) (flat_map entry_numbers xs) low)
+    (λ lt. own (omega (arith, lt))) all)
+    (All-weaker (Contains (entry_numbers x)) (λ p. All (Differ p) (flat_map entry_numbers (slice_set xs i new))) others (entry_numbers x) (All-contains_itself (entry_numbers x)))
+  where
+    across : (p : ℕ) → Contains (entry_numbers x) p → All (Differ p) (flat_map entry_numbers xs)
+    across p there = All-contains (λ n. All (Differ n) (flat_map entry_numbers xs)) (entry_numbers x) p (AllPairs-across Differ (entry_numbers x) (flat_map entry_numbers xs) once) there
+
+    other : (p : ℕ) → Contains (entry_numbers x) p → (e : Entry) → IsOldOrNext next (list_of xs i) e → Differ p e.number
+    other p there e (inl old) = All-contains (Differ p) (flat_map entry_numbers xs) e.number (across p there) (in_flat xs i e.number old)
+    other p there e (inr is) =
+        let lt = All-contains (λ n. n < next) (entry_numbers x) p (All-left (λ n. n < next) (entry_numbers x) (flat_map entry_numbers xs) low) there in λ same. absurd (omega (arith, lt, same, is))
+
+    others : (p : ℕ) → Contains (entry_numbers x) p → All (Differ p) (flat_map entry_numbers (slice_set xs i new))
+    others p there = numbers_set (Differ p) xs i new (across p there) (All-weaker (IsOldOrNext next (list_of xs i)) (λ (e : Entry). Differ p e.number) (other p there) new all)
+
+distinct_at : (n : ℕ) (es : List Entry) (o : Option Terms) → AreEntriesAt n es o → AreDistinct (entry_numbers es)
+distinct_at n es None are = subst (λ (xs : List Entry). AreDistinct (entry_numbers xs)) (sym are) (AllPairs-none Differ)
+distinct_at n es (Some t) are =
+    AllPairs-map Differ (λ (e : Entry). e.number) es
+    (AllPairs-weaker (λ (a b : Entry). a.number < b.number) (λ (a b : Entry). Differ a.number b.number) (λ a b lt same. absurd (omega (arith, lt, same))) es are.rising)
+
+-- ---- a list in place of another
+
+module _ (names : Names) (s : Installed) (entries : AreEntriesOf names s.lists) (above : IsNextAbove s) (i : ℕ) (new : List Entry) (good : i < length s.lists → AreEntriesAt i new (terms_named names i)) where
+  abbrev lists : List (List Entry)
+  lists = slice_set s.lists i new
+
+  abbrev terms : List (Option Terms)
+  terms = map (terms_named names) (range_with_len 0 (length s.lists))
+
+  terms_there : (n : ℕ) → n < length s.lists → slice_get terms n ≡ Some (terms_named names n)
+  terms_there n lt = let none : 0 + n ≡ n = omega arith in slice_get-map_range (terms_named names) 0 (length s.lists) n lt ∙ ap (λ m. Some (terms_named names m)) none
+
+  each_good : (n : ℕ) (es : List Entry) → slice_get lists n ≡ Some es → IsSomeAnd (slice_get terms n) (AreEntriesAt n es)
+  each_good n es at = elim (cases_eq n i) [
+    | inl same ↦
+        let within = slice_get_within lists n es at in
+        let long = length-set s.lists i new in
+        let lt : n < length s.lists = omega (arith, within, long) in
+        let lt_i : i < length s.lists = omega (arith, lt, same) in
+        let old = slice_get-item s.lists i lt_i in
+        let is : new ≡ es = same_Some new es (sym (slice_get-set_same s.lists i old.0 new old.1) ∙ ap (slice_get lists) (sym same) ∙ at) in
+        let own : AreEntriesAt n es (terms_named names n) = subst (λ m. AreEntriesAt m es (terms_named names m)) (sym same) (subst (λ (xs : List Entry). AreEntriesAt i xs (terms_named names i)) is (good lt_i)) in
+        some_from (slice_get terms n) (AreEntriesAt n es) (terms_named names n) (terms_there n lt) own
+    | inr other ↦ entries.entries.each n es (sym (slice_get-set_other s.lists i n new other) ∙ at)
+  ]
+
+  pub entries_set : All (IsOldOrNext s.next (list_of s.lists i)) new → AreEntriesOf names (slice_set s.lists i new)
+  entries_set all =
+      let long : length (slice_set s.lists i new) ≡ length s.lists = length-set s.lists i new in
+      let are : AreEntriesFor terms (slice_set s.lists i new) = record {
+        for_each_node = long ∙ entries.entries.for_each_node;
+        each = each_good;
+        numbers_once = distinct_set s.next s.lists i new entries.entries.numbers_once above (λ lt. distinct_at i new (terms_named names i) (good lt)) all;
+      } in
+      record {
+        tables = subst (λ n. All (λ (t : TableName). t.node < n) names.tables) (sym long) entries.tables;
+        entries = subst (λ n. AreEntriesFor (map (terms_named names) (range_with_len 0 n)) (slice_set s.lists i new)) (sym long) are;
+      }
+
+-- ---- an entry is added
+
+abbrev numbered : Entry → ℕ → Entry
+numbered e n = record e { number = n }
+
+same_rank : (k : Kind) (ws : List ℕ) (e : Entry) (n : ℕ) → HasRank k ws e → HasRank k ws (numbered e n)
+same_rank kind.Keyless ws e n h = h
+same_rank kind.Exact ws e n h = h
+same_rank kind.Prefix ws e n h = h
+same_rank kind.Ternary ws e n h = h
+
+-- prefixes of one mask have one length
+one_length : (w a b : ℕ) → a ≤ w → b ≤ w → 2 ^ w - 2 ^ (w - a) ≡ 2 ^ w - 2 ^ (w - b) → a < b → ⊥
+one_length w a b la lb e lt =
+    let less : 2 ^ (w - b) < 2 ^ (w - a) = pow-lt (omega (arith, lt, la, lb)) in
+    let top : 2 ^ (w - a) ≤ 2 ^ w = elim (cases_eq a 0) [
+      | inl none ↦ (let same : w - a ≡ w = omega (arith, none) in subst (λ m. 2 ^ m ≤ 2 ^ w) (sym same) (omega arith))
+      | inr some ↦ (let less : 2 ^ (w - a) < 2 ^ w = pow-lt (omega (arith, some, la)) in omega (arith, less))
+    ] in
+    powers (2 ^ w) (2 ^ (w - a)) (2 ^ (w - b)) less top e
+  where
+    powers : (x y z : ℕ) → z < y → y ≤ x → x - y ≡ x - z → ⊥
+    powers x y z lt le same = omega (arith, lt, le, same)
+
+one_rank : (ws : List ℕ) (ts : List Test) (a b : ℕ) → 1 ≤ length ws → AllZip (IsPrefix a) ws ts → AllZip (IsPrefix b) ws ts → a ≡ b
+one_rank [] ts a b some ha hb = absurd (omega (arith, some))
+one_rank (w ∷ ws) [] a b some ha hb = absurd ha
+one_rank (w ∷ ws) (t ∷ ts) a b some ha hb = elim (cases_lt a b) [
+  | inl lt ↦ absurd (one_length w a b ha.0.0 hb.0.0 (sym ha.0.1 ∙ hb.0.1) lt)
+  | inr ge ↦ elim (cases_eq a b) [
+    | inl same ↦ same
+    | inr other ↦ absurd (one_length w b a hb.0.0 ha.0.0 (sym hb.0.1 ∙ ha.0.1) (omega (arith, ge, other)))
+  ]
+]
+
+-- entries with the same tests have the same key
+ranks_agree : (k : Kind) (ws : List ℕ) (e o : Entry) → has_keys_once k ≡ true → (k ≡ kind.Prefix → 1 ≤ length ws) → HasRank k ws e → HasRank k ws o → e.tests ≡ o.tests → e.rank ≡ o.rank
+ranks_agree kind.Keyless ws e o once some he ho same = absurd (false≢true once)
+ranks_agree kind.Exact ws e o once some he ho same = he.1 ∙ sym ho.1
+ranks_agree kind.Prefix ws e o once some he ho same = one_rank ws e.tests e.rank o.rank (some refl) he (subst (AllZip (IsPrefix o.rank) ws) (sym same) ho)
+ranks_agree kind.Ternary ws e o once some he ho same = absurd (false≢true once)
+
+other_tests : (n : ℕ) (t : Terms) (es : List Entry) (e : Entry) → has_keys_once t.kind ≡ true → (t.kind ≡ kind.Prefix → 1 ≤ length t.widths) → All (IsEntry n t) es → IsEntry n t e
+    → (has_keys_once t.kind && holds (key_of_entry e) es) ≡ false → All (λ (o : Entry). o.tests ≢ e.tests) es
+other_tests n t es e once some each is new =
+    All-weaker (Contains es) (λ (o : Entry). o.tests ≢ e.tests)
+    (λ o there same.
+    let own = All-contains (IsEntry n t) es o each there in
+    let rank = ranks_agree t.kind t.widths e o once some is.rank own.rank (sym same) in
+    let key : key_of_entry e ≡ key_of_entry o =
+    ap (λ (ts : List Test). record { tests = ts; rank = e.rank }) (sym same) ∙ ap (λ (m : ℕ). record { tests = o.tests; rank = m }) rank in
+    let held = list_any-Contains (is_keyed_by (key_of_entry e)) es o there (keyed_if (key_of_entry e) o key) in
+    false≢true (sym new ∙ and_from (has_keys_once t.kind) (holds (key_of_entry e) es) once held))
+    es (All-contains_itself es)
+
+keys_pushed : (k : Kind) (es : List Entry) (e : Entry) → HasKeysOnce k es → (has_keys_once k ≡ true → All (λ (o : Entry). o.tests ≢ e.tests) es) → HasKeysOnce k (es ++ e ∷ [])
+keys_pushed kind.Keyless es e once other = tt
+keys_pushed kind.Exact es e once other = all_pairs_push (λ (a b : Entry). a.tests ≢ b.tests) es e once (other refl)
+keys_pushed kind.Prefix es e once other = all_pairs_push (λ (a b : Entry). a.tests ≢ b.tests) es e once (other refl)
+keys_pushed kind.Ternary es e once other = tt
+
+-- a prefix table of names has a field
+one_field : (t : TableName) → table_is_formed t ≡ true → t.kind ≡ kind.Prefix → length t.keys ≡ 1
+one_field t formed is = eqb-true (length t.keys) 1 (ap (λ k. has_fields k t.keys) (sym is) ∙ (and_parts _ _ (and_parts _ _ (and_parts _ _ (and_parts _ _ formed).0).0).0).1)
+
+has_field : (names : Names) → names_are_formed names ≡ true → (n : ℕ) (t : Terms) → terms_named names n ≡ Some t → t.kind ≡ kind.Prefix → 1 ≤ length t.widths
+has_field names formed n t told is = by (find (λ (x : TableName). x.node == n) names.tables) refl told
+  where
+    all : All (λ (x : TableName). table_is_formed x ≡ true) names.tables
+    all = All-from_test (λ (x : TableName). table_is_formed x ≡ true) table_is_formed (λ x e. e) names.tables (and_parts (nodes_rise names && table_names_differ names) (list_all table_is_formed names.tables) formed).1
+
+    by : (o : Option TableName) → find (λ (x : TableName). x.node == n) names.tables ≡ o → option_map terms_of_name o ≡ Some t → 1 ≤ length t.widths
+    by None at h = absurd (none-some t h)
+    by (Some x) at h =
+        let same = same_Some (terms_of_name x) t h in
+        let one = one_field x (All-find (λ (y : TableName). table_is_formed y ≡ true) (λ (y : TableName). y.node == n) names.tables x all at) (ap (λ (u : Terms). u.kind) same ∙ is) in
+        let widths : length x.keys ≡ length t.widths = ap (λ (u : Terms). length u.widths) same in
+        omega (arith, one, widths)
+
+table_added : (n : ℕ) (t : Terms) (es : List Entry) (e : Entry) (next : ℕ) → (t.kind ≡ kind.Prefix → 1 ≤ length t.widths) → AreTableEntries n es t → IsEntry n t e
+    → (has_keys_once t.kind && holds (key_of_entry e) es) ≡ false → length es < t.size → All (λ (o : Entry). o.number < next) es → AreTableEntries n (es ++ numbered e next ∷ []) t
+table_added n t es e next some are is new room below = record {
+  each = All-append (IsEntry n t) es (numbered e next ∷ []) are.each
+      (All-cons (IsEntry n t) (numbered e next) [] (record { table = is.table; tests = is.tests; rank = same_rank t.kind t.widths e next is.rank; action = is.action }) (All-nil (IsEntry n t)));
+  rising = all_pairs_push (λ (a b : Entry). a.number < b.number) es (numbered e next) are.rising below;
+  keys_once = keys_pushed t.kind es (numbered e next) are.keys_once (λ once. other_tests n t es e once some are.each is new);
+  within_size = let long = length-append es (numbered e next ∷ []) in omega (arith, room, long);
+}
+
+old_there : (es : List Entry) (e : Entry) (next : ℕ) → Contains es e → IsOldOrNext next es e
+old_there es e next there = inl (Contains-map (λ (x : Entry). x.number) es e there)
+
+all_old : (next : ℕ) (es : List Entry) → All (IsOldOrNext next es) es
+all_old next es = All-weaker (Contains es) (IsOldOrNext next es) (λ e there. old_there es e next there) es (All-contains_itself es)
+
+-- an entry of its table that may be added
+pub entries_added : (names : Names) (s : Installed) (e : Entry) (t : Terms) → names_are_formed names ≡ true → AreEntriesOf names s.lists → IsNextAbove s → terms_named names e.table ≡ Some t → IsEntry e.table t e
+    → (has_keys_once t.kind && holds (key_of_entry e) (list_of s.lists e.table)) ≡ false → length (list_of s.lists e.table) < t.size → AreEntriesOf names (added s.lists (record e { number = s.next }))
+entries_added names s e t formed entries above told is new room =
+    entries_set names s entries above e.table (es ++ numbered e s.next ∷ []) good
+    (All-append (IsOldOrNext s.next es) es (numbered e s.next ∷ []) (all_old s.next es) (All-cons (IsOldOrNext s.next es) (numbered e s.next) [] (inr refl) (All-nil (IsOldOrNext s.next es))))
+  where
+    es : List Entry
+    es = list_of s.lists e.table
+
+    good : e.table < length s.lists → AreEntriesAt e.table (list_of s.lists e.table ++ numbered e s.next ∷ []) (terms_named names e.table)
+    good lt =
+        let old = subst (AreEntriesAt e.table (list_of s.lists e.table)) told (entries-at names s.lists e.table entries lt) in
+        subst (AreEntriesAt e.table (list_of s.lists e.table ++ numbered e s.next ∷ [])) (sym told)
+        (table_added e.table t (list_of s.lists e.table) e s.next (has_field names formed e.table t told) old is new room (numbers_of (λ n. n < s.next) s.lists e.table above))
+
+-- ---- an entry is removed
+
+pairs_without : (R : Entry → Entry → Type 0) (key : EntryKey) (es : List Entry) → AllPairs R es → AllPairs R (without key es)
+pairs_without R key [] all = all
+pairs_without R key (e ∷ es) all = by (is_keyed_by key e) (pairs_without R key es (AllPairs-tail R e es all))
+  where
+    by : (b : Bool) → AllPairs R (without key es) → AllPairs R (cond b es (e ∷ without key es))
+    by true rest = AllPairs-tail R e es all
+    by false rest = AllPairs-cons R e (without key es) (all_without (R e) key es (AllPairs-head R e es all)) rest
+
+fewer : (key : EntryKey) (es : List Entry) → length (without key es) ≤ length es
+fewer key [] = omega arith
+fewer key (e ∷ es) = by (is_keyed_by key e) (fewer key es)
+  where
+    by : (b : Bool) → length (without key es) ≤ length es → length (cond b es (e ∷ without key es)) ≤ length (e ∷ es)
+    by true le = omega arith
+    by false le = omega (arith, le)
+
+keys_without : (k : Kind) (key : EntryKey) (es : List Entry) → HasKeysOnce k es → HasKeysOnce k (without key es)
+keys_without kind.Keyless key es once = tt
+keys_without kind.Exact key es once = pairs_without (λ (a b : Entry). a.tests ≢ b.tests) key es once
+keys_without kind.Prefix key es once = pairs_without (λ (a b : Entry). a.tests ≢ b.tests) key es once
+keys_without kind.Ternary key es once = tt
+
+entries_without : (n : ℕ) (key : EntryKey) (es : List Entry) (o : Option Terms) → AreEntriesAt n es o → AreEntriesAt n (without key es) o
+entries_without n key es None are = ap (without key) are
+entries_without n key es (Some t) are = record {
+  each = all_without (IsEntry n t) key es are.each;
+  rising = pairs_without (λ (a b : Entry). a.number < b.number) key es are.rising;
+  keys_once = keys_without t.kind key es are.keys_once;
+  within_size = let le = fewer key es in let size = are.within_size in omega (arith, le, size);
+}
+
+pub entries_removed : (names : Names) (s : Installed) (node : ℕ) (key : EntryKey) → AreEntriesOf names s.lists → IsNextAbove s → AreEntriesOf names (removed s.lists node key)
+entries_removed names s node key entries above =
+    entries_set names s entries above node (without key (list_of s.lists node)) (λ lt. entries_without node key (list_of s.lists node) (terms_named names node) (entries-at names s.lists node entries lt))
+    (all_without (IsOldOrNext s.next (list_of s.lists node)) key (list_of s.lists node) (all_old s.next (list_of s.lists node)))
