@@ -1,8 +1,8 @@
 #!/usr/bin/env bash
 # faults.sh [PROGRAM]: runs each command with each open, read, write and sync of a file failing in turn, with calls that are
 # interrupted or that take one byte, with every call cut to one byte, and over pipes that give and take little at a time.
-# Compares status, output and files with what docs/commands.md says. PROGRAM is run in place of the built one. To add a
-# command, add a row at the end.
+# Compares status, output and files with what docs/commands.md says; of a command that writes two files, with a fault of each.
+# PROGRAM is run in place of the built one. To add a command, add a row at the end.
 set -u
 top=$(cd "$(dirname "$0")/.." && pwd)
 if ! command -v strace >/dev/null; then
@@ -42,13 +42,14 @@ fresh() {
   : >"$work/out"
 }
 
-# What a call without faults prints, and the file that it leaves: WORDS
+# What a call without faults prints, and the files that it leaves: WORDS
 learn() {
   fresh
   (cd "$work/now" && "$program" "$@" >"$work/out" 2>/dev/null)
   [ $? = 0 ] || { echo "faults.sh: $* fails without a fault" >&2; exit 1; }
   cp "$work/out" "$work/whole.out"
   cp "$work/now/made" "$work/whole.made"
+  cp "$work/now/beside" "$work/whole.beside"
 }
 
 # Whether a file is as a word says: FILE WORD WHOLE BEFORE
@@ -63,19 +64,28 @@ is_as() {
   esac
 }
 
-# Judges one call: NAME STATUS WANTED_STATUS OUT MADE
+# Judges one call: NAME STATUS WANTED_STATUS OUT FILES, where FILES is how `made` is, and behind a `+` how `beside` is; without
+# it that one is whole where `made` is written, and else as before. What writes one file alone leaves `beside`.
 judge() {
-  local good=yes file
+  local good=yes made=${5%+*} beside=before file
+  case $5 in
+    *+*) beside=${5#*+} ;;
+    whole | less) beside=whole ;;
+  esac
   [ "$2" = "$3" ] || good=no
   is_as "$work/out" "$4" "$work/whole.out" /dev/null || good=no
-  is_as "$work/now/made" "$5" "$work/whole.made" "$work/given/made" || good=no
+  is_as "$work/now/made" "$made" "$work/whole.made" "$work/given/made" || good=no
+  is_as "$work/now/beside" "$beside" "$work/whole.beside" "$work/given/beside" || good=no
   for file in "$work/given"/*; do
-    [ "${file##*/}" = made ] || cmp -s "$file" "$work/now/${file##*/}" || good=no
+    case ${file##*/} in
+      made | beside) ;;
+      *) cmp -s "$file" "$work/now/${file##*/}" || good=no ;;
+    esac
   done
   tried=$((tried + 1))
   if [ $good = no ]; then
     wrong=$((wrong + 1))
-    echo "WRONG: $1: status $2, wanted $3, output $4, file $5"
+    echo "WRONG: $1: status $2, wanted $3, output $4, files $5"
   fi
 }
 
@@ -84,9 +94,9 @@ is_late() {
   awk '/write\(1,/ { seen = 1 } /INJECTED/ { exit !seen }' "$work/log"
 }
 
-# Each call of a kind on a file, in turn: FILE CALL ANSWER STATUS OUT MADE WORDS
+# Each call of a kind on a file, in turn: FILE CALL ANSWER STATUS OUT FILES WORDS
 each() {
-  local file=$1 call=$2 answer=$3 status=$4 out=$5 made=$6 paths number got
+  local file=$1 call=$2 answer=$3 status=$4 out=$5 files=$6 paths number got
   shift 6
   # the output is traced beside the file, but where that would make its calls fail too
   paths=(-P "$file" -P "$work/out" -e "trace=$call,write")
@@ -101,9 +111,9 @@ each() {
     if [ "$call" != write ] && is_late; then
       judge "$1, $call $number of $file for a message: $answer" $got 0 whole whole
     else
-      judge "$1, $call $number of $file: $answer" $got "$status" "$out" "$made"
+      judge "$1, $call $number of $file: $answer" $got "$status" "$out" "$files"
     fi
-    [ "$out" != less ] && [ "$made" != less ] || return
+    [ "$out" != less ] && [ "${files%less}" = "$files" ] || return
   done
   if [ "$number" = 1 ]; then
     wrong=$((wrong + 1))
@@ -121,14 +131,17 @@ reads() {
   each "$file" read error=EINTR 0 whole whole "$@"
 }
 
-# The file that a command writes: WORDS
+# A file that a command writes: FILE FRONT WORDS, where FRONT is `whole+` if another file was written before it.
 makes() {
-  each made openat error=EACCES 3 before any "$@"
-  each made write error=ENOSPC 3 before any "$@"
-  each made write error=EINTR 0 whole whole "$@"
-  each made write retval=1 0 whole less "$@"
-  each made fsync error=EIO 3 before any "$@"
-  each made fsync error=EINVAL 0 whole whole "$@"
+  local file=$1 front=$2
+  shift 2
+  each "$file" openat error=EACCES 3 before "${front}any" "$@"
+  each "$file" openat error=ENOMEM 10 before "${front}before" "$@"
+  each "$file" write error=ENOSPC 3 before "${front}any" "$@"
+  each "$file" write error=EINTR 0 whole whole "$@"
+  each "$file" write retval=1 0 whole "${front}less" "$@"
+  each "$file" fsync error=EIO 3 before "${front}any" "$@"
+  each "$file" fsync error=EINVAL 0 whole whole "$@"
 }
 
 # Standard output: WORDS
@@ -164,7 +177,8 @@ trickles() {
   rm -f "$work/now/pipe"
 }
 
-# A command: what it reads, a word a file (`packets` behind which a front is printed), whether it writes `made`, WORDS
+# A command: what it reads, a word a file (`packets` behind which a front is printed), what it writes (`no`, `made`, or `both`
+# where it writes `beside` behind `made`), WORDS
 command_row() {
   local files=$1 writes=$2 file first=none
   shift 2
@@ -177,26 +191,30 @@ command_row() {
       reads "$file" before "$@"
     fi
   done
-  [ "$writes" = no ] || makes "$@"
+  [ "$writes" = no ] || makes made '' "$@"
+  [ "$writes" != both ] || makes beside whole+ "$@"
   prints "$@"
   trickles "$first" "$@"
   [ "$first" = packets ] || case " $files " in *" packets "*) trickles packets "$@" ;; esac
 }
 
 echo before >"$work/given/made"
+echo before >"$work/given/beside"
 awk 'BEGIN { for (k = 0; k < 3000; k++) printf "%d %02x%02x\n", k % 512, k % 256, k % 7 }' >"$work/many"
 for example in smallest three_tables; do
   cp "$top/examples/$example.rmt" "$work/given/program"
   : >"$work/given/entries"
   for packets in "$top/examples/three.pkt" "$work/many"; do
     cp "$packets" "$work/given/packets"
-    "$program" compile "$work/given/program" "$work/given/entries" "$work/given/image" >/dev/null 2>&1
-    command_row 'program entries' yes compile program entries made
-    command_row 'program entries' yes improve program entries made 10
+    "$program" compile "$work/given/program" "$work/given/entries" "$work/given/image" "$work/given/map" >/dev/null 2>&1
+    command_row 'program entries' made compile program entries made
+    command_row 'program entries' both compile program entries made beside
+    command_row 'program entries' made improve program entries made 10
     command_row 'image packets' no sim image packets
     command_row 'image packets' no probe image packets 2
     command_row 'program entries packets' no plain program entries packets
     command_row 'image' no report image
+    command_row 'program entries image map' no verify program entries image map
   done
 done
 command_row '' no sample 3

@@ -116,6 +116,18 @@ for name, body in BODY.items():
         size = write("greatest", (p for pieces in ([b"RMTI" + version.to_bytes(2, "big") + b"\x00" + body], many(b"\x00" * 1000, zeros // 1000)) for p in pieces))
         run(f"an image with the greatest count of {name}", size, ["report", "greatest"], 7, "bad image ")
 
+# Maps: too long, and of each list the greatest count that its number can say, with nothing or zeros behind it.
+run("a map to begin with", 0, ["compile", "p", "e", "i", "m"], 0, "stages 1")
+run("a map that belongs to its image", 0, ["verify", "p", "e", "i", "m"], 0, "yes")
+with open(f"{work}/longest", "wb") as longest:
+    longest.truncate(268_435_457)
+run("a map of a byte more than one may have", 268_435_457, ["verify", "p", "e", "i", "longest"], 9)
+for name, body in (("fields", "ffffffff"), ("lanes", "00000001 ff"), ("joins", "00000000 ffff"), ("parts", "00000000 0000 ffff"),
+                   ("starts", "00000000 0000 0000 ff"), ("cells", "00000000 0000 0000 00 ffffffff")):
+    for zeros in (0, 5_000_000, 10_000_000):
+        size = write("greatest", (p for pieces in ([b"RMTM\x00\x01" + bytes.fromhex(body)], many(b"\x00" * 1000, zeros // 1000)) for p in pieces))
+        run(f"a map with the greatest count of {name}", size, ["verify", "p", "e", "i", "greatest"], 7, "bad image 7")
+
 # Keys that all have one row of a way, by the hash of docs/chip.md, under seed 0: so few bytes give them few rows in all ways.
 def row(key, way, rows, seed=0):
     hash = 14695981039346656037

@@ -94,22 +94,26 @@ def run(words, **environment):
     return done.returncode, done.stdout, calls
 
 
-FILES = {"p": TEXT.encode(), "e": ENTRIES.encode(), "k": PACKETS.encode(), "o": b"before"}
+FILES = {"p": TEXT.encode(), "e": ENTRIES.encode(), "k": PACKETS.encode(), "o": b"before", "n": b"before"}
 for name, data in FILES.items():
     write(name, data)
-status, _, _ = run(["compile", "p", "e", "i"])
+status, _, _ = run(["compile", "p", "e", "i", "m"])
 if status != 0:
     sys.exit(f"refused.sh: the program is not compiled: status {status}")
-FILES["i"] = read("i")
+FILES["i"], FILES["m"] = read("i"), read("m")
 
-# The words of each command, and whether it prints nothing where memory is refused. `o` is the file that it writes.
+# The words of each command, and whether it prints nothing where memory is refused. `o` is the file that it writes, and `n` the
+# one behind it.
+WRITTEN = ("o", "n")
 COMMANDS = [
     (["compile", "p", "e", "o"], True),
+    (["compile", "p", "e", "o", "n"], True),
     (["improve", "p", "e", "o", "10"], True),
     (["sim", "i", "k"], False),
     (["probe", "i", "k", "20"], False),
     (["plain", "p", "e", "k"], False),
     (["report", "i"], True),
+    (["verify", "p", "e", "i", "m"], True),
     (["sample", "3"], True),
     (["compile", "p", "k", "o"], False),  # bad entries
     (["sim", "k", "k"], False),  # no image
@@ -120,33 +124,36 @@ def judge(words, number, whole, is_quiet):
     """What is wrong with a call whose n-th allocation is refused; and whether it met that."""
     status, printed, calls = run(words, AT=str(number))
     usual, text, written = whole
-    left = read("o")
+    left = [read(name) for name in WRITTEN]
+    before = [FILES[name] for name in WRITTEN]
     wrong = []
     if status == NO_MEMORY and usual != NO_MEMORY:
         if not text.startswith(printed) or (is_quiet and printed):
             wrong.append(f"printed {printed[:60]!r}")
-        if left != b"before":
-            wrong.append("the image was written")
+        # memory may be refused between the two files
+        if left != before and ("n" not in words or left != [written[0], before[1]]):
+            wrong.append("a file was written")
     elif status == usual:
         if printed != text:
             wrong.append(f"printed {printed[:60]!r}")
         if left != written:
-            wrong.append("another image")
+            wrong.append("another file")
     else:
         wrong.append(f"status {status}")
     for name in FILES:
-        if name != "o" and read(name) != FILES[name]:
+        if name not in WRITTEN and read(name) != FILES[name]:
             wrong.append(f"{name} was changed")
-    if left != b"before":
-        write("o", b"before")
+    for name in WRITTEN:
+        write(name, FILES[name])
     return wrong, calls, status
 
 
 failed = 0
 for words, is_quiet in COMMANDS:
     status, text, count = run(words)
-    whole = status, text, read("o")
-    write("o", b"before")
+    whole = status, text, [read(name) for name in WRITTEN]
+    for name in WRITTEN:
+        write(name, FILES[name])
     step = max(1, (count - EVERY) // SPREAD)
     numbers = list(range(1, min(count, EVERY) + 1)) + list(range(EVERY + step, count + 1, step)) + [count + 1]
     refused = bad = 0

@@ -1,10 +1,12 @@
 #!/usr/bin/env bash
 # Seconds and peak memory of `./rmt`, one line a case: short packets through one stage and through 32; frames of 9,216 bytes with 385 of
 # them in flight; a counted table of 100,000 exact keys, and one of 20,000 ternary entries under 40 masks, by `sim` and by `plain`; one of
-# as many under random masks, by `sim`; 20,000 packets with 2,000 commits over 200 entries; two tables of 1,000,000 exact keys each, which
-# are compiled and then run; 128 tables; a ternary table that is too large for the chip; and images of 1,048,576 exact and of 262,144
-# ternary entries, read without and with their names; and captures of 16 MiB through the router of `examples/`. Behind them what
-# `bench/improve.sh` and `bench/captures.sh` print; the latter wants `tshark` and `tcpdump`.
+# as many under random masks, by `sim`; 20,000 packets with 2,000 commits over 200 entries; some 100,000 changed cells with packets
+# between them; two tables of 1,000,000 exact keys each, which are compiled, verified and run, and a thousand commits of one change
+# each on them beside one reading of their image; 1,000,000 additions in one commit; 128 tables; a ternary table that is too large
+# for the chip; and images of 1,048,576 exact and of 262,144 ternary entries, read without and with their names; and captures of
+# 16 MiB through the router of `examples/`. Behind them what `bench/improve.sh` and `bench/captures.sh` print; the latter wants
+# `tshark` and `tcpdump`.
 set -eu
 top=$(cd "$(dirname "$0")/.." && pwd)
 work=$(mktemp -d)
@@ -21,20 +23,30 @@ def write(name, lines):
         f.writelines(lines)
 
 
-def run(*words, wanted=0):
-    """Runs the program, which is to end with that status, and gives its seconds and its peak memory in MiB."""
+COMMANDS = ("compile", "sim", "plain", "report", "switch", "verify")
+
+
+def run(*words, wanted=0, into=os.devnull):
+    """Runs the program, which is to end with that status, and gives its seconds and its peak memory in MiB. It prints into a file."""
     begun = time.time()
-    with open(os.devnull, "w") as none:
-        process = subprocess.Popen([program, *[w if w.isdigit() or w in ("compile", "sim", "plain", "report", "switch") else f"{work}/{w}" for w in words]], stdout=none)
+    with open(into, "wb") as out:
+        process = subprocess.Popen([program, *[w if w.isdigit() or w in COMMANDS else f"{work}/{w}" for w in words]], stdout=out)
         _, status, usage = os.wait4(process.pid, 0)
     if os.waitstatus_to_exitcode(status) != wanted:
         sys.exit(f"{words} ended with status {os.waitstatus_to_exitcode(status)}")
     return time.time() - begun, usage.ru_maxrss / 1024
 
 
-def compiled(name):
-    seconds, peak = run("compile", f"{name}.rmt", f"{name}.ent", f"{name}.img")
-    print(f"{name}: compiled in {seconds:.2f} s, {peak:.0f} MiB")
+def printed(*words):
+    """The same, and the lines that it prints."""
+    seconds, peak = run(*words, into=f"{work}/out")
+    with open(f"{work}/out") as out:
+        return seconds, peak, out.read().splitlines()
+
+
+def compiled(name, *files):
+    seconds, peak = run("compile", f"{name}.rmt", f"{name}.ent", f"{name}.img", *files)
+    print(f"{name}: compiled {'with its map ' if files else ''}in {seconds:.2f} s, {peak:.0f} MiB")
 
 
 def packets(name, count, packet, commands=("sim", "plain")):
@@ -92,12 +104,36 @@ compiled("commits")
 packets("commits", 20_000, lambda k: f"- t {key(7)}\n+ t {key(7)} go {k % 512}\ncommit\n0 {key(7):08x}0102\n" if k % 10 == 9
         else f"0 {key(7):08x}0102\n")
 
+# Each commit takes the cell of an entry and gives it another.
+write("cells.pkt", (f"- t {key(k % 200)}\n+ t {key(k % 200)} go {k % 512}\ncommit\n0 {key(k % 200):08x}0102\n" for k in range(50_000)))
+seconds, peak, lines = printed("sim", "commits.img", "cells.pkt")
+cycles = next(int(line.split()[1]) for line in lines if line.startswith("cycles "))
+print(f"cells: sim of 50,000 packets with as many commits, of two cells or more each, in {seconds:.2f} s, "
+      f"{cycles / seconds:,.0f} cycles a second, {peak:.0f} MiB")
+
 write("large.rmt", ["header h { a : 48; b : 48; } next accept;\naction go(p : 9) { out_port = p; }\n"
     "table first { exact h.a; actions go; size 1000000; default go(0); }\ntable second { exact h.b; actions go; size 1000000; default go(0); }\n"
     "control { apply first; apply second; }\n"])
 write("large.ent", (f"{table} {wide(i)} go {i % 512}\n" for table in ("first", "second") for i in range(1_000_000)))
 compiled("large")
+compiled("large", "large.map")
+seconds, peak, lines = printed("verify", "large.rmt", "large.ent", "large.img", "large.map")
+print(f"large: verified in {seconds:.2f} s, {peak:.0f} MiB: {lines[0]}")
 packets("large", 1_000_000, lambda k: f"{k % 512} {wide(k):012x}{wide(k * 7 % 1_000_000):012x}\n")
+
+# One reading of the image, a run over no packet, and one with a thousand commits of one change each.
+write("none.pkt", [])
+write("changes.pkt", (f"- first {wide(k)}\ncommit\n+ first {wide(k)} go 1\ncommit\n" for k in range(0, 500_000, 1000)))
+reading, _ = run("report", "large.img")
+without, _ = run("sim", "large.img", "none.pkt")
+seconds, peak = run("sim", "large.img", "changes.pkt")
+print(f"large: 1,000 commits of one change each in {seconds - without:.2f} s, {peak:.0f} MiB; the image is read in {reading:.2f} s")
+
+write("none.ent", [])
+run("compile", "large.rmt", "none.ent", "empty.img")
+write("additions.pkt", [f"+ first {wide(i)} go {i % 512}\n" for i in range(1_000_000)] + ["commit\n"])
+seconds, peak = run("sim", "empty.img", "additions.pkt")
+print(f"large: 1,000,000 additions in one commit in {seconds:.2f} s, {peak:.0f} MiB")
 
 fields = "".join(f"f{k} : 8; " for k in range(60))
 metadata = "".join(f"m{k} : 8; " for k in range(128))

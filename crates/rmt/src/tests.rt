@@ -1,5 +1,6 @@
 //! What no clause says: worked rows of every command, and faults of the outside in turn.
 
+mod by_hand;
 mod changes;
 mod commands;
 mod committed;

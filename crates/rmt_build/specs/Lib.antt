@@ -1,6 +1,7 @@
 pub mod Types
 pub mod BuiltStage
 pub mod Folds
+pub mod Fronts
 pub mod Holding
 pub mod Listing
 pub mod Loads

@@ -23,6 +23,7 @@ ghost use Rattle.rmt_refine.specs.Carries.{Carries, all_edges};
 ghost use Rattle.rmt_refine.specs.Places.{PlacesCarried};
 ghost use Rattle.rmt_build.specs.Folds.{AreFoldings};
 ghost use Rattle.rmt_build.specs.BuiltStage.{IsBuiltStage};
+ghost use Rattle.rmt_build.specs.Fronts.{IsFront};
 ghost use Rattle.rmt_build.specs.Loads.{AreNotLoaded, IsFirstSeed, IsNotLoaded};
 ghost use Rattle.rmt_build.specs.Plans.{IsPlan};
 ghost use Rattle.rmt_build.specs.Promises.{IsBounded, IsConfigOf, IsLaidOut, KeepsRules};
@@ -35,13 +36,12 @@ use crate::code::code_of;
 use crate::fault::NoFit;
 use crate::filling::write_units;
 use crate::formats::formats_of;
-use crate::front::fold_all;
+use crate::front::{Front, front_of};
 use crate::lanes::{lane_of, out_headers};
 use crate::listing::{sram_rows, tcam_rows};
 use crate::loading::load_all;
 use crate::numbers::cells_of;
 use crate::plan::{Plan, PlannedStage};
-use crate::short::names_have_counts;
 use crate::tcam::TcamRows;
 use crate::units::units_of;
 use rmt_ast::deps::Deps;
@@ -52,13 +52,11 @@ use rmt_ast::program::Program;
 use rmt_bits::sequence::Sequence;
 use rmt_bounds::find::bound;
 use rmt_config::config::{Config, ParserConfig, Stage};
-use rmt_deps::dependencies;
+use rmt_config::form::names::alone::names_have_counts;
 use rmt_pack::placement::Placement;
 use rmt_pack::rows::Rows;
-use rmt_phv::pack_fields;
 use rmt_phv::places::Places;
 use rmt_place::{offsets, place};
-use rmt_ptcam::{clustered_parser, parser_need};
 use rmt_refine::map::Map;
 use rmt_vliw::folded::Folded;
 use std::alloc::{AllocError, Global};
@@ -104,14 +102,9 @@ pub fn build(alloc: Global, program: &Program, entries: &EntryLists) -> Result<B
         → packing program.now ≡ Ok places → placement_by_rule program.now places (dependencies_of program.now places) ≡ Ok parts
         → AreNotLoaded program.now entries.now parts node members cells }
 {
-    parser_need(program)?;
-    let folded = fold_all(alloc, program)?;
-    let places = pack_fields(alloc, program)?;
-    let parser = clustered_parser(alloc, program, &places)?;
-    let deps = dependencies(alloc, program, &places)?;
-    let placement = place(alloc, program, &places, &deps)?;
-    let plan = plan_of(alloc, program, entries, &deps, folded, places, placement)?;
-    built_of(alloc, program, entries, &deps, plan, parser)
+    let front = front_of(alloc, program)?;
+    let placement = place(alloc, program, &front.places, &front.deps)?;
+    built_on(alloc, program, entries, front, placement)
 }
 
 /// Builds a program with its entries as `build` does, but with this placement in place of the rule's.
@@ -168,14 +161,9 @@ pub fn build_from(
     ensures load { (node members cells : ℕ) → result ≡ Err (NoFit.Load node members cells)
         → AreNotLoaded program.now entries.now placement.now.parts node members cells }
 {
-    parser_need(program)?;
-    let folded = fold_all(alloc, program)?;
-    let places = pack_fields(alloc, program)?;
-    let parser = clustered_parser(alloc, program, &places)?;
-    let deps = dependencies(alloc, program, &places)?;
+    let front = front_of(alloc, program)?;
     let same = copied(alloc, placement)?;
-    let plan = plan_of(alloc, program, entries, &deps, folded, places, same)?;
-    built_of(alloc, program, entries, &deps, plan, parser)
+    built_on(alloc, program, entries, front, same)
 }
 
 /// A placement with the same parts.
@@ -186,6 +174,39 @@ fn copied(alloc: Global, placement: &Placement) -> Result<Placement, AllocError>
     Ok(Placement {
         parts: Sequence::from_vec(parts),
     })
+}
+
+/// A program as the chip holds it, with its nodes placed so.
+fn built_on(
+    alloc: Global,
+    program: &Program,
+    entries: &EntryLists,
+    front: Front,
+    placement: Placement,
+) -> Result<Built, NoFit>
+    requires program { IsProgram program.now }
+    requires entries { AreEntries program.now entries.now }
+    requires named { CanBeNamed program.now entries.now }
+    requires front { IsFront program.now front }
+    requires placed { ArePlaced program.now front.places placement.parts }
+    ensures carries { IfOk result (λ b. Carries program.now entries.now b.map b.config) }
+    ensures config { IfOk result (λ b. IsConfigOf program.now entries.now b.config) }
+    ensures rules { IfOk result (λ b. KeepsRules program.now entries.now b.map b.config) }
+    ensures layout { IfOk result (λ b. IsLaidOut program.now entries.now b.map b.config) }
+    ensures bounded { IfOk result (λ b. IsBounded program.now b.map b.bound) }
+    ensures places { IfOk result (λ b. b.map.places ≡ front.places) }
+    ensures placement { IfOk result (λ b. b.map.placement ≡ placement) }
+    ensures refused { IfErr result (IsNotLoaded program.now entries.now placement.parts) }
+    ensures load { (node members cells : ℕ) → result ≡ Err (NoFit.Load node members cells) → AreNotLoaded program.now entries.now placement.parts node members cells }
+{
+    let Front {
+        folded,
+        places,
+        parser,
+        deps,
+    } = front;
+    let plan = plan_of(alloc, program, entries, &deps, folded, places, placement)?;
+    built_of(alloc, program, entries, &deps, plan, parser)
 }
 
 /// A program that is planned, with its parser, as the chip holds it.

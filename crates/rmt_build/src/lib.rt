@@ -17,7 +17,6 @@ mod memory;
 mod numbers;
 mod parts;
 mod plan;
-mod short;
 mod stands;
 mod tcam;
 mod units;

@@ -9,15 +9,8 @@ ghost use Rattle.rmt_chip.specs.Runnable.{LaneFits};
 use crate::lanes::lane;
 use rmt_bits::bits::bytes_of_bits;
 use rmt_bits::lane::Lane;
+use rmt_config::form::lane::key_bits;
 use rmt_config::vector::Vector;
-
-/// How many bits lanes have together, at most 640.
-pub fn key_bits(lanes: &[Lane]) -> u64
-    requires { bits_of_lanes lanes.now ≤ 640 }
-    ensures { result ≡ bits_of_lanes lanes.now }
-{
-    lanes.iter().map(|lane| lane.len as u64).sum()
-}
 
 /// Puts lanes together into bytes, the first one highest, and the last one at the end; the bits above the first are 0. It takes no memory.
 pub fn put_together(buffer: &mut [u8], vector: &Vector, lanes: &[Lane])

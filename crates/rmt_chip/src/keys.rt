@@ -17,13 +17,14 @@ ghost use Rattle.rmt_chip.specs.Memory.{HoldsCells, MemoryFits, MemoriesFit, Uni
 ghost use Rattle.rmt_chip.specs.Looks.{LooksAt, LooksInto};
 
 use crate::accepted::is_accepted;
-use crate::key::{key_bits, put_together};
+use crate::key::put_together;
 use crate::lanes::lane;
 use crate::looked::Looked;
 use crate::memory::SlotMemory;
 use crate::memory::sight::Sight;
 use crate::packet_slot::PacketSlot;
 use rmt_config::config::{GateTest, Memory, SlotUnit, Stage, Unit};
+use rmt_config::form::lane::key_bits;
 use rmt_config::vector::Vector;
 
 /// Whether a test passes.

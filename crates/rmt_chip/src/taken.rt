@@ -6,9 +6,9 @@ ghost use Rattle.rmt_config.specs.Cells.{cells_in};
 ghost use Rattle.rmt_chip.specs.Runnable.{StageFits};
 ghost use Rattle.rmt_chip.specs.Writable.{AreBits, EntryTaken, IsTaken, MaskTaken, WriteTaken};
 
-use crate::key::key_bits;
 use rmt_config::cell_write::CellWrite;
 use rmt_config::config::{Memory, SlotUnit, Stage, Unit};
+use rmt_config::form::lane::key_bits;
 
 /// Whether bytes are a number of so many bits, the highest first.
 fn are_bits(bytes: &[u8], bits: u64) -> bool

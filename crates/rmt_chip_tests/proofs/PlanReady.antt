@@ -202,14 +202,14 @@ small_numbers lists small =
     (λ es h. All-map (λ n. n < 4293918720) (λ (e : Entry). e.number) es
     (All-from_test (λ (e : Entry). e.number < 4293918720) (λ (e : Entry). nat_lt e.number 4293918720) (λ e t. ltb-true e.number 4293918720 t) es h)) lists small)
 
-pub new_ready : (c : Config) (names : Names) (l : Lists) (b : Book) → Formed c → c.names ≡ Some names → IsNew c b → Stands (fresh names (entries_spelled c names) 100) l → AreReady l b
+pub new_ready : (c : Config) (names : Names) (l : Lists) (b : Book) → Formed c → c.names ≡ Some names → IsNew c b → Stands (fresh names (entries_spelled c names) 200) l → AreReady l b
 new_ready c names l b formed named new stands = record {
   config = c;
   names = names;
   cells = own_cells c;
   before = at_first (entries_spelled c names);
   changes = [];
-  run = fresh names (entries_spelled c names) 100;
+  run = fresh names (entries_spelled c names) 200;
   named = named;
   book_is = new names named;
   lists_are = stands;

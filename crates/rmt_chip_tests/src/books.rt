@@ -6,6 +6,7 @@ ghost use Rattle.rmt_config.specs.Form.{Formed};
 use crate::changes::push_entry;
 use crate::image_names::{NAMED, RANKED};
 use crate::image_rules::spliced;
+use rmt_ast::entry::EntryLists;
 use rmt_config::config::Config;
 use rmt_image::read_image;
 use rmt_update::book::Book;
@@ -63,6 +64,17 @@ pub(crate) fn config_of(alloc: Global, image: &[u8]) -> Option<Config>
     }
 }
 
+/// The entries of all tables.
+pub(crate) fn entries_told(alloc: Global, lists: &EntryLists) -> Result<String, AllocError> {
+    let mut out = String::new(alloc);
+    for list in lists.as_slice() {
+        for entry in list.as_slice() {
+            push_entry(&mut out, entry)?;
+        }
+    }
+    Ok(out)
+}
+
 /// The entries of the book of an image, or None where it has no names or for want of memory.
 fn told(alloc: Global, image: &[u8]) -> Option<String> {
     let config = config_of(alloc, image)?;
@@ -72,13 +84,7 @@ fn told(alloc: Global, image: &[u8]) -> Option<String> {
     let Ok(lists) = book.entries(alloc) else {
         return None;
     };
-    let mut out = String::new(alloc);
-    for list in lists.as_slice() {
-        for entry in list.as_slice() {
-            push_entry(&mut out, entry).ok()?;
-        }
-    }
-    Some(out)
+    entries_told(alloc, &lists).ok()
 }
 
 /// An image with changes.

@@ -29,4 +29,6 @@ mod queues;
 #[cfg(test)]
 mod reports;
 #[cfg(test)]
+mod steps;
+#[cfg(test)]
 mod switches;

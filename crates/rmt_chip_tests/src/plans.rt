@@ -22,7 +22,7 @@ use std::test::*;
 
 /// The front of each image here, of version 2 and with seed 0: up to the start of its second stage, which has all
 /// tables.
-const FRONT: &str = "
+pub(crate) const FRONT: &str = "
 524d5449 0002 00 400009 410009 000001       # letters, version, seed, in_port, out_port, drop
 01 000101 01 01 010008                      # a header of a byte in word 1
 0001 00                                     # a state that looks at nothing
@@ -36,10 +36,10 @@ const FRONT: &str = "
 ";
 
 /// A table's instructions: a hit sets the port from 9 bits of data, and a miss does nothing.
-const CODE: &str = "01 41000900 010000 0200000000 00";
+pub(crate) const CODE: &str = "01 41000900 010000 0200000000 00";
 
 /// No rows of SRAM and TCAM.
-const NO_ROWS: &str = "00000000 00000000";
+pub(crate) const NO_ROWS: &str = "00000000 00000000";
 
 /// Exact tables without entries of the nodes 1 and 2, keyed by word 2; a row of a way has one cell.
 const TWO_EXACT: &str = "
@@ -72,7 +72,7 @@ const TERNARY_B: &str = "01 01 00000001 62 02 00000010 0001 08 01 00000002 676f 
 const PREFIX_B: &str = "01 01 00000001 62 01 00000010 0001 08 01 00000002 676f 01 09";
 
 /// An image of several texts.
-type Image = &'static [&'static str];
+pub(crate) type Image = &'static [&'static str];
 
 const EXACT: Image = &[FRONT, TWO_EXACT, CODE, CODE, NO_ROWS, B_AND_C];
 
@@ -86,7 +86,7 @@ const WIDE_EXACT: Image = &[FRONT, WIDE, CODE, NO_ROWS, WIDE_B];
 type Lines = &'static [&'static [u8]];
 
 /// The configuration of an image in several texts.
-fn config_in(alloc: Global, image: Image) -> Option<Config>
+pub(crate) fn config_in(alloc: Global, image: Image) -> Option<Config>
     ensures formed { IfSome result (λ c. Formed c) }
     ensures named { IfSome result (λ c. IsSome c.names) }
 {
@@ -113,8 +113,8 @@ fn all_are_small(lists: &EntryLists) -> bool
         .all(|list| are_small(list.as_slice()))
 }
 
-/// The entry lists of a book before its first commit, which may have 100 additions.
-fn lists_of(alloc: Global, config: &Config, book: &Book) -> Option<Lists>
+/// The entry lists of a book before its first commit, which may have 200 additions.
+pub(crate) fn lists_of(alloc: Global, config: &Config, book: &Book) -> Option<Lists>
     requires formed { Formed config.now }
     requires named { IsSome config.now.names }
     requires new { IsNew config.now book.now }
@@ -132,14 +132,14 @@ fn lists_of(alloc: Global, config: &Config, book: &Book) -> Option<Lists>
     if !all_are_small(&entries) {
         return None;
     }
-    match Lists::new(alloc, names, entries, 100) {
+    match Lists::new(alloc, names, entries, 200) {
         Ok(lists) => Some(lists),
         Err(_) => None,
     }
 }
 
 /// Takes a change. Whether it is one, and nothing stands against it.
-fn change(alloc: Global, lists: &mut Lists, line: &[u8]) -> bool
+pub(crate) fn change(alloc: Global, lists: &mut Lists, line: &[u8]) -> bool
     requires { (b : BookOf) × AreReady lists.old b }
     ensures { (b : BookOf) → AreReady lists.old b → AreReady lists.new b }
 {
@@ -166,7 +166,7 @@ fn change_all(alloc: Global, lists: &mut Lists, lines: &[&[u8]]) -> bool
 }
 
 /// Commits the changes since the last commit. Where it is refused, the book still stands for what it stood for.
-fn commit(alloc: Global, lists: &mut Lists, book: &mut Book) -> Result<Plan, UpdateFault>
+pub(crate) fn commit(alloc: Global, lists: &mut Lists, book: &mut Book) -> Result<Plan, UpdateFault>
     requires { AreReady lists.old book.old }
     ensures ready { OnOk result (AreReady lists.new book.new) }
     ensures kept { OnErr result ((other : ListsOf) → AreReady other book.old → AreReady other book.new) }

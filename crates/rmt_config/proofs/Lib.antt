@@ -55,6 +55,9 @@ mod SpelledKeys
 pub mod SpelledWays
 mod KeyListLaws
 mod PrintLaws
+mod MarkLaws
+pub mod HighFirst
+mod RepeatLaws
 mod SpelledExact
 mod SpelledTable
 mod PrefixLengths

@@ -158,6 +158,9 @@ key_is_short s Without h =
 key_is_short s (Exact k p d w ks rs cs) h = (memory-facts s d (split11 h).0).bits
 key_is_short s (Ternary d ks rs cs) h = (memory-facts s d (split5 h).0).bits
 
+pub slot_is_short : (s : SlotUnit) → slot_is_formed s ≡ true → bits_of_lanes s.keys ≤ 640
+slot_is_short s h = key_is_short s s.memory (and_parts (slot_head_is_formed s) (memory_is_formed s s.memory) h).1
+
 pub exact-fits : (s : SlotUnit) (k p d w : ℕ) (ks rs cs : List ℕ) → slot_head_is_formed s ≡ true → memory_is_formed s (Exact k p d w ks rs cs) ≡ true → ExactFits s k p d ks rs
 exact-fits s k p d w ks rs cs head h =
     let f = split11 h in

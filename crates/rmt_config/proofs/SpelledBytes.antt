@@ -66,18 +66,6 @@ byte-low byte len lt le =
     let e : byte % 2 ^ 8 ≡ byte = mod-eq_of_lt lt in
     sym e ∙ sym (mod-within byte 8 len le) ∙ ap (λ n. n % 2 ^ len) e
 
--- a byte more of a number, the highest first
-pub bytes-more : (old so_far : List ℕ) (x count at byte : ℕ) → at < count → so_far ≡ old ++ bytes_of at (x / 2 ^ (8 * (count - at)))
-    → byte ≡ x / 2 ^ (8 * (count - 1 - at)) % 256 → so_far ++ byte ∷ [] ≡ old ++ bytes_of (at + 1) (x / 2 ^ (8 * (count - (at + 1))))
-bytes-more old so_far x count at byte lt is e =
-    let y = x / 2 ^ (8 * (count - (at + 1))) in
-    let next : 8 * (count - at) ≡ 8 * (count - (at + 1)) + 8 = omega (arith, lt) in
-    let same : 8 * (count - 1 - at) ≡ 8 * (count - (at + 1)) = omega arith in
-    let shift : x / 2 ^ (8 * (count - at)) ≡ y / 256 = ap (λ n. x / 2 ^ n) next ∙ sym (shr-shr x (8 * (count - (at + 1))) 8) in
-    ap (λ (bs : List ℕ). bs ++ byte ∷ []) is ∙ append_assoc old (bytes_of at (x / 2 ^ (8 * (count - at)))) (byte ∷ [])
-    ∙ ap (λ w. old ++ (bytes_of at w ++ byte ∷ [])) shift ∙ ap (λ b. old ++ (bytes_of at (y / 256) ++ b ∷ [])) (e ∙ ap (λ n. x / 2 ^ n % 256) same)
-    ∙ sym (ap (λ n. old ++ bytes_of n y) (add-one at))
-
 -- ---- several bytes at once
 
 -- the bits of a slice from one on, as many as a piece has room for

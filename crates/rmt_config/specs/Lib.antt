@@ -34,5 +34,6 @@ pub mod PartsTold
 pub mod PrefixRow
 pub mod PartStands
 pub mod KeyPrints
+pub mod Marks
 pub mod KeysSeen
 pub mod PrefixRows

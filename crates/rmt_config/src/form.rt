@@ -28,6 +28,7 @@ pub mod sram;
 mod stage;
 mod tables;
 mod tails;
+pub mod tcam;
 pub mod unit;
 
 use crate::config::{Config, Stage};

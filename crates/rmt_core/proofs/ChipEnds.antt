@@ -136,7 +136,7 @@ module _ (before after : Outside) (w : Watch) (c : Config) (limit : ℕ) (text :
   pub broken_answered : (f : RunFault) → BreaksRun w before.shelf.files c limit text before.sink after.sink f → AreSame after.shelf.files before.shelf.files → (f ≡ fault.Write → PrintingFailed before.sink after.sink)
       → (f ≡ fault.Read → IsTrue before.shelf.steady → ⊥) → Answered before after gave (status_of_fault f)
   broken_answered fault.NoMemory b same failed never = record { files = inl same; front = λ g h. (b.given, b.runs, b.front); steady = λ _ e. absurd (cc) }
-  broken_answered fault.Read b same failed never = record { files = inl same; front = λ g h. (b.given, b.runs, b.front); steady = λ steady _ g _. absurd (never refl steady) }
+  broken_answered fault.Read b same failed never = record { files = inl same; front = λ g h. (b.given, b.runs, b.front); steady = λ steady _. absurd (never refl steady) }
   broken_answered fault.Write b same failed never =
       let is = b.runs.3.given_is in
       let st = b.given.status in

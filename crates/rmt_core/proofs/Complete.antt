@@ -1,5 +1,5 @@
 -- Where the files are as they must be, each command gives Done.
-use Rattle.std.proofs.Common.{◌≡◌, ℕ, false, cond, ltb, List, length, take, Option, Some, None, inl, inr, ap, refl, ◌∙◌, subst}
+use Rattle.std.proofs.Common.{◌≡◌, ℕ, false, cond, ltb, List, length, take, Option, Some, None, inl, inr, sym, ap, refl, ◌∙◌, subst}
 use Rattle.std.proofs.lemmas.Bool.{le-ltb}
 use Rattle.rmt_bits.specs.Lines.{numbered_lines}
 use Rattle.rmt_packets.specs.Pieces.{ended_lines}
@@ -7,6 +7,7 @@ use Rattle.rmt_core.specs.Types.{Program, Config}
 use Rattle.rmt_ast.specs.declared.entry.Entry.{Entry}
 use Rattle.rmt_bounds.specs.declared.bound.Bound.{Bound}
 use Rattle.rmt_build.specs.declared.fault.NoFit.{NoFit}
+use Rattle.rmt_build.specs.Loads.{IsFull as IsFullTable}
 use Rattle.rmt_refine.specs.declared.map.Map.{Map}
 use Rattle.rmt_switch.specs.Switch.{switched}
 use Rattle.rmt_core.specs.declared.placer.Placer.{Placer}
@@ -18,7 +19,7 @@ use Rattle.rmt_core.specs.ChipEvents.{Comes}
 use Rattle.rmt_core.specs.ChipReading.{lists_in, names_in, read_by}
 use Rattle.rmt_core.specs.ChipRuns.{EndsFull, RunsChip, RunsSo, bad_within}
 use Rattle.rmt_core.specs.Commands.{Compile, CompileMap, Improve, Sim, Probe, Plain, Report, Sample, Switch, Verify}
-use Rattle.rmt_core.specs.Compiling.{Builds, Compiles, Finish, Fitted, GivesImage, Loaded, written}
+use Rattle.rmt_core.specs.Compiling.{Builds, Compiles, Finish, Fitted, GivesImage, IsFull, Loaded, written}
 use Rattle.rmt_core.specs.Files.{Files, capture_limit, entries_limit, groups_limit, image_limit, packets_limit, program_limit}
 use Rattle.rmt_core.specs.Given.{Given, Opens, Reads, told}
 use Rattle.rmt_core.specs.Headline.{AreGoodGroups, CanBeMade, Fits, IsComplete, IsGoodCapture, IsGoodChipRun, IsImage, IsReady}
@@ -32,37 +33,45 @@ use Rattle.rmt_core.specs.Simulating.{GivesRun, Spelled}
 use Rattle.rmt_core.specs.Switching.{GivesSwitch, HasCapture, HasGroups, OfCapture, OfGroups, Switches, switch_given}
 use Rattle.rmt_core.specs.Texts.{Understands}
 use Rattle.rmt_core.specs.Verifying.{GivesVerify}
-use Rattle.rmt_core.proofs.GivenOnce.{NeverBoth, OneMap, OneMeaning, never_both}
+use Rattle.rmt_core.proofs.GivenOnce.{OneMap, OneMeaning}
 use Rattle.rmt_core.proofs.Verified.{verify_checks}
+use Rattle.rmt_core.proofs.PlacerLaws.{same_placed}
 use Rattle.rmt_core.proofs.GivenDone.{opened_there, read_within, run_done, sample_built, spelled_is, understood}
 use Rattle.rmt_core.proofs.ReadOnce.{told_is}
 
 module _
-    (apart : NeverBoth) (placer : Placer) (files : Files) (finish : Finish) (is : (image : List ℕ) (m : Map) (c : Config) (b : Bound) → (finish image m c b).status ≡ Done)
+    (placer : Placer) (files : Files) (finish : Finish) (is : (image : List ℕ) (m : Map) (c : Config) (b : Bound) → (finish image m c b).status ≡ Done)
     (p : Program) (lists : List (List Entry)) (g : Given) (fits : Fits placer p lists)
   where
+    -- a refusal of loading says of each seed which table is full
+    never_refused : (line : List ℕ) → IsFull placer p lists line → ⊥
+    never_refused line y =
+        let same = same_placed placer p fits.placed.places y.placed.places fits.parts y.parts fits.placed.packed y.placed.packed fits.placed.placed y.placed.placed in
+        let full = y.full.each fits.seed fits.few in
+        fits.never_full full.0 full.1 full.2 (subst (λ l. IsFullTable p lists l fits.seed full.0 full.1 full.2) (sym same) full.3)
+
     loaded_ready : Loaded placer files finish p lists g → g.status ≡ Done
     loaded_ready (inl x) = ap (λ (k : Given). k.status) x.5 ∙ is x.0 x.1 x.2 x.3
-    loaded_ready (inr x) = absurd (never_both apart placer p lists fits.parts fits.seed x.0 fits.placed fits.loaded fits.few x.1)
+    loaded_ready (inr x) = absurd (never_refused x.0 x.1)
 
     builds_ready : Builds placer files finish p lists g → g.status ≡ Done
     builds_ready h =
         let fitted : Loaded placer files finish p lists g = subst (λ (o : Option NoFit). Fitted placer files finish p lists g o) fits.no_refusal h in
         loaded_ready fitted
 
-image_ready : OneMeaning → NeverBoth → (placer : Placer) (files : Files) (program entries : List ℕ) (wanted : Wanted) (g : Given) → CanBeMade placer files program entries
+image_ready : OneMeaning → (placer : Placer) (files : Files) (program entries : List ℕ) (wanted : Wanted) (g : Given) → CanBeMade placer files program entries
     → GivesImage placer files program entries wanted g → g.status ≡ Done
-image_ready one apart placer files program entries wanted g ready h =
+image_ready one placer files program entries wanted g ready h =
     let both = ready.2 in
     let read = read_within files program program_limit (λ text. Reads files entries entries_limit (λ entry_text. Understands files text entry_text (Compiles placer files wanted))) g (both.text, both.has_text) h in
     let told = read_within files entries entries_limit (λ entry_text. Understands files both.text entry_text (Compiles placer files wanted)) g (both.entry_text, both.has_entries) read in
-    builds_ready apart placer files (written files wanted ready.0) (λ _ _ _ _. refl) ready.0 ready.1 g ready.3 (understood one files both.text both.entry_text (Compiles placer files wanted) g ready.0 ready.1 both.means both.says told)
+    builds_ready placer files (written files wanted ready.0) (λ _ _ _ _. refl) ready.0 ready.1 g ready.3 (understood one files both.text both.entry_text (Compiles placer files wanted) g ready.0 ready.1 both.means both.says told)
 
-sample_ready : OneMeaning → NeverBoth → (files : Files) (number : ℕ) (g : Given) → IsReady files (Sample number) → GivesSample files number g → g.status ≡ Done
-sample_ready one apart files number g ready h =
+sample_ready : OneMeaning → (files : Files) (number : ℕ) (g : Given) → IsReady files (Sample number) → GivesSample files number g → g.status ≡ Done
+sample_ready one files number g ready h =
     let p = ready.0 in
     let lists = ready.1 in
-    builds_ready apart ByRule files (λ image m c b. told files Done (sample_line number p lists c)) (λ _ _ _ _. refl) p lists g ready.3 (sample_built one files number g p lists ready.2 h)
+    builds_ready ByRule files (λ image m c b. told files Done (sample_line number p lists c)) (λ _ _ _ _. refl) p lists g ready.3 (sample_built one files number g p lists ready.2 h)
 
 -- what a run gives over a text that is short, has no bad line for it, and in which each commit finds room
 run_good : (w : Watch) (files : Files) (image packets : List ℕ) (i : IsGoodChipRun files image packets) (g : Given) → RunsChip w files i.is_image.config packets_limit i.text g → g.status ≡ Done
@@ -119,16 +128,16 @@ verify_ready : OneMeaning → OneMap → (files : Files) (program entries image 
 verify_ready one maps files program entries image map g ready h =
     ap (λ (x : Given). x.status) (verify_checks one maps files program entries image map g ready.0 ready.1 ready.2 ready.3 ready.4 h).2
 
-pub is_complete : OneMeaning → NeverBoth → OneMap → IsComplete
-is_complete one apart maps files (Compile program entries image) g ready h = image_ready one apart ByRule files program entries (image_alone image) g ready h
-is_complete one apart maps files (CompileMap program entries image map) g ready h = image_ready one apart ByRule files program entries (with_map image map) g ready h
-is_complete one apart maps files (Improve program entries image budget) g ready h = image_ready one apart (ByTries budget) files program entries (image_alone image) g ready h
-is_complete one apart maps files (Sim image packets) g ready h = run_ready Answers files image packets g ready h
-is_complete one apart maps files (Probe image packets cycle) g ready h = run_ready (Vectors cycle) files image packets g ready h
-is_complete one apart maps files (Plain program entries packets) g ready h = plain_ready one files program entries packets g ready h
-is_complete one apart maps files (Report image) g ready h =
+pub is_complete : OneMeaning → OneMap → IsComplete
+is_complete one maps files (Compile program entries image) g ready h = image_ready one ByRule files program entries (image_alone image) g ready h
+is_complete one maps files (CompileMap program entries image map) g ready h = image_ready one ByRule files program entries (with_map image map) g ready h
+is_complete one maps files (Improve program entries image budget) g ready h = image_ready one (ByTries budget) files program entries (image_alone image) g ready h
+is_complete one maps files (Sim image packets) g ready h = run_ready Answers files image packets g ready h
+is_complete one maps files (Probe image packets cycle) g ready h = run_ready (Vectors cycle) files image packets g ready h
+is_complete one maps files (Plain program entries packets) g ready h = plain_ready one files program entries packets g ready h
+is_complete one maps files (Report image) g ready h =
     let read = read_within files image image_limit (λ bytes. Spelled files bytes (λ c k. k ≡ told files Done (report_line c))) g (ready.bytes, ready.has_bytes) h in
     ap (λ (k : Given). k.status) (spelled_is files ready.bytes (λ c k. k ≡ told files Done (report_line c)) g ready.config ready.spells read)
-is_complete one apart maps files (Sample number) g ready h = sample_ready one apart files number g ready h
-is_complete one apart maps files (Switch image groups capture out every) g ready h = switch_ready files image groups capture out every g ready.0 ready.1 ready.2 h
-is_complete one apart maps files (Verify program entries image map) g ready h = verify_ready one maps files program entries image map g ready h
+is_complete one maps files (Sample number) g ready h = sample_ready one files number g ready h
+is_complete one maps files (Switch image groups capture out every) g ready h = switch_ready files image groups capture out every g ready.0 ready.1 ready.2 h
+is_complete one maps files (Verify program entries image map) g ready h = verify_ready one maps files program entries image map g ready h

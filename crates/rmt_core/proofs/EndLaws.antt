@@ -59,7 +59,7 @@ answered_as before after gives other result to back = by result
     stop status s = record {
       files = ⊎_elim (λ same. inl same) (λ between. inr (between_as before after gives other status to between)) s.files;
       front = λ g h. let x = s.front g (back g h) in (x.0, to x.0 x.1, x.2);
-      steady = λ steady e g h. s.steady steady e g (back g h);
+      steady = λ steady e. let x = s.steady steady e in (x.0, to x.0 x.1, x.2);
     }
 
     by : (status : Status) → Answered before after gives status → Answered before after other status
@@ -148,7 +148,7 @@ module _ (before after : Outside) (gives : Given → Type 0) where
 
   -- a call that stopped before it printed anything
   pub stopped : (status : Status) → (status ≡ ReadFault) ⊎ (status ≡ NoMemory) → AreSame after.shelf.files before.shelf.files → GainedNone before.sink after.sink
-      → (IsTrue before.shelf.steady → status ≡ ReadFault → (g : Given) → gives g → g.status ≡ ReadFault) → Answered before after gives status
+      → (IsTrue before.shelf.steady → status ≡ ReadFault → (g : Given) × gives g × (g.status ≡ ReadFault)) → Answered before after gives status
   stopped status is same quiet steady =
       stops status is (record { files = inl same; front = λ g h. (g, h, gained_none before.sink after.sink g.text quiet); steady = steady })
 
@@ -255,11 +255,11 @@ module _ (before : ShelfState) (sink : SinkState) (after : ShelfState) (name : L
       ended : (status ≡ ReadFault) ⊎ (status ≡ NoMemory) → Answered (outside before sink) (outside after sink) (reading limit) status
       ended is =
           stopped _ _ (reading limit) status is r.files (λ _. refl)
-          (λ steady e g h. ap (λ (x : Given). x.status) (subst (λ f. OfFound before.files next g f) (why.absent e steady) h))
+          (λ steady e. (told before.files ReadFault [], subst (λ f. OfFound before.files next (told before.files ReadFault []) f) (sym (why.absent e steady)) refl, refl))
 
   -- or opened
   pub not_opened : (status : Status) → OnlyRead before after → NotOpened before name status
       → Answered (outside before sink) (outside after sink) (Opens before.files name next) status
   not_opened status r why =
       stopped _ _ (Opens before.files name next) status why.kind r.files (λ _. refl)
-      (λ steady e g h. ap (λ (x : Given). x.status) (subst (λ f. OfOpened before.files next g f) (why.absent e steady) h))
+      (λ steady e. (told before.files ReadFault [], subst (λ f. OfOpened before.files next (told before.files ReadFault []) f) (sym (why.absent e steady)) refl, refl))

@@ -2,7 +2,7 @@
 -- without a gap, of which there are enough.
 use Rattle.std.proofs.Common.{◌≡◌, ◌≢◌, ◌⊎◌, inl, inr, ℕ, ◌+◌, ◌*◌, ◌≤◌, ◌==◌, true, false, List, [], ◌∷◌, get_or, map, sum, Option, Some, None, option_map, unwrap_or, sym, refl, ap, ◌∙◌, subst, arith}
 use Rattle.std.specs.Prelude.{All, AllPairs, Contains, IsSomeAnd, find, nat_le, slice_get}
-use Rattle.std.specs.List.{AllZip, range_with_len}
+use Rattle.std.specs.List.{AllZip}
 use Rattle.std.proofs.lemmas.Bool.{and_parts, cases_eq, cases_lt, eqb-true, false≢true, false_from_ne_true, leb-true}
 use Rattle.std.proofs.lemmas.List.Elements.{All-contains, All-head, All-tail}
 use Rattle.std.proofs.lemmas.List.Sums.{sum_by-cons}
@@ -22,13 +22,12 @@ use Rattle.rmt_ast.specs.Naming.{has_key}
 use Rattle.rmt_ast.specs.WellFormed.{AreDistinct}
 use Rattle.rmt_ast.specs.EntryLists.{AreEntriesAt, AreTableEntries, IsEntry, Terms}
 use Rattle.rmt_ast.specs.NameRules.{AreEntriesOf, table_is_formed, terms_named, terms_of_name}
-use Rattle.rmt_core.specs.Types.{Config, Memory}
-use Rattle.rmt_config.specs.declared.config.Memory.TheVariants.{Without, Exact, Ternary}
-use Rattle.rmt_config.specs.Cells.{candidates, cells_in}
+use Rattle.rmt_core.specs.Types.{Config}
+use Rattle.rmt_config.specs.Cells.{candidates}
 use Rattle.rmt_config.specs.Commits.{AreFilled, IsFilled, Placed, all_entries}
 use Rattle.rmt_config.specs.Form.{Formed}
 use Rattle.rmt_config.specs.LaneForm.{bits_of_lanes}
-use Rattle.rmt_config.specs.NamesForm.{has_rows, is_of_kind, quanta_of}
+use Rattle.rmt_config.specs.NamesForm.{has_rows, quanta_of}
 use Rattle.rmt_config.specs.Rooms.{PartAt, Room, is_same, key_number, number_in, parts_of, rooms_for}
 use Rattle.rmt_config.specs.RunCells.{RunCells}
 use Rattle.rmt_config.proofs.SpelledParts.{parts-stand}
@@ -39,7 +38,7 @@ use Rattle.rmt_update.proofs.OncePlaced.{all-numbers}
 use Rattle.rmt_update.proofs.PartOrder.{IsPartOf, nodes-apart, parts-own, rooms-apart, same-as}
 use Rattle.rmt_update.proofs.PlacedLaws.{zip-pairs}
 use Rattle.rmt_update.proofs.RoomNumbers.{IsNumber, IsRows, RowAt, row-at, total}
-use Rattle.rmt_update.proofs.TableRules.{entries-at}
+use Rattle.rmt_update.proofs.TableRules.{entries-at, rows-of}
 use Rattle.rmt_update.proofs.ToldEntryLaws.{PartFacts, all-facts}
 use Rattle.rmt_update.proofs.ZipLaws.{zip-all-right, zip-gives}
 use Rattle.rmt_core.proofs.HeldCells.{EachHasCell, HasCell}
@@ -112,33 +111,14 @@ table_of c names formed named node t told = by (find (λ (x : TableName). x.node
               (all-facts c x (parts_of c x.node) (parts-stand c x.node formed.items memory) (parts-follow c x.node memory) (and_parts _ _ facts.parts).1 facts.bits);
         }
 
--- rows of prefix and ternary tables
-rows_of : (k : Kind) (m : Memory) → IsRowKind k → is_of_kind k m ≡ true → (((seed bits key : ℕ) → candidates seed bits m key ≡ range_with_len 0 (cells_in m)) × (cells_in m ≡ 2048 * quanta_of m))
-rows_of k Without rowed is = absurd (without k rowed is)
-  where
-    without : (k : Kind) → IsRowKind k → is_of_kind k Without ≡ true → ⊥
-    without kind.Keyless r e = absurd cc
-    without kind.Exact r e = absurd cc
-    without kind.Prefix r e = absurd cc
-    without kind.Ternary r e = absurd cc
-rows_of k (Exact w p d first ks rs cs) rowed is = absurd (exact k rowed is)
-  where
-    exact : (k : Kind) → IsRowKind k → is_of_kind k (Exact w p d first ks rs cs) ≡ true → ⊥
-    exact kind.Keyless r e = absurd cc
-    exact kind.Exact (inl r) e = absurd cc
-    exact kind.Exact (inr r) e = absurd cc
-    exact kind.Prefix r e = absurd cc
-    exact kind.Ternary r e = absurd cc
-rows_of k (Ternary d ks rs cs) rowed is = ((λ seed bits key. refl), refl)
-
 module _ (c : Config) (names : Names) (node : ℕ) (t : Terms) (h : Table c names node t) (rowed : IsRowKind h.name.kind) where
   row_parts : All IsRows (parts_of c node)
-  row_parts i d lt = (rows_of h.name.kind (get_or (parts_of c node) i d).slot.memory rowed (h.parts i d lt).kind).0
+  row_parts i d lt = (rows-of h.name.kind (get_or (parts_of c node) i d).slot.memory rowed (h.parts i d lt).kind).0
 
   total_of : (ps : List PartAt) → All (PartFacts c h.name) ps → total ps ≡ 2048 * sum (map (λ (p : PartAt). quanta_of p.slot.memory) ps)
   total_of [] all = refl
   total_of (p ∷ ps) all =
-      let here = (rows_of h.name.kind p.slot.memory rowed (All-head (PartFacts c h.name) p ps all).kind).1 in
+      let here = (rows-of h.name.kind p.slot.memory rowed (All-head (PartFacts c h.name) p ps all).kind).1 in
       let rest = total_of ps (All-tail (PartFacts c h.name) p ps all) in
       let more : sum (map (λ (q : PartAt). quanta_of q.slot.memory) (p ∷ ps)) ≡ quanta_of p.slot.memory + sum (map (λ (q : PartAt). quanta_of q.slot.memory) ps) =
       sum_by-cons (λ n. n) (quanta_of p.slot.memory) (map (λ (q : PartAt). quanta_of q.slot.memory) ps) in

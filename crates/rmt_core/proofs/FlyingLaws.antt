@@ -210,11 +210,11 @@ version_made : (c : Config) (names : Names) (before after : List (List Entry)) (
 version_made c names before after cells next moved seed (stays placed e) = refl
 version_made c names before after cells next moved seed (moves s placed e f g) = refl
 
-no_versions : (n : ℕ) → versions_in (replicate n Idle) ≡ 0
+pub no_versions : (n : ℕ) → versions_in (replicate n Idle) ≡ 0
 no_versions zero = refl
 no_versions (suc n) = no_versions n
 
-none_written : (ws : List CellWrite) → versions_in (map Writes ws) ≡ 0
+pub none_written : (ws : List CellWrite) → versions_in (map Writes ws) ≡ 0
 none_written [] = refl
 none_written (w ∷ ws) = none_written ws
 

@@ -29,8 +29,8 @@ use Rattle.rmt_core.specs.EventText.{EventReading, with_bad, with_change, with_c
 use Rattle.rmt_core.specs.RunEnd.{Cut}
 use Rattle.rmt_core.specs.Running.{AreCommitsAt, Follows, Goes, HasCome, IsFew, IsPlannedAt, LeftOff, Stopped, ahead, amid, behind, with_text}
 use Rattle.rmt_core.proofs.ChipReadLaws.{chip_line}
-use Rattle.rmt_core.proofs.FlyingLaws.{version_is, versions-append, versions_in}
-use Rattle.rmt_core.proofs.WaitLaws.{no_packets, no_versions, none_in_writes, none_turned, packets-append}
+use Rattle.rmt_core.proofs.FlyingLaws.{no_versions, none_written, version_is, versions-append, versions_in}
+use Rattle.rmt_core.proofs.WaitLaws.{no_packets, none_in_writes, packets-append}
 use Rattle.rmt_core.proofs.WaitingLaws.{written_front}
 
 -- ---- what a line of a kind does
@@ -222,7 +222,7 @@ module _ (w : Watch) (c : Config) (made : List Input) (old run : Run) (first chi
       let b = versions-append (replicate n Idle) (map Writes writes ++ Turning seed ∷ []) in
       let d = versions-append (map Writes writes) (Turning seed ∷ []) in
       let i = no_versions n in
-      let ws = none_turned writes in
+      let ws = none_written writes in
       let t : versions_in (Turning seed ∷ []) ≡ 1 = refl in
       omega (arith, a, b, d, i, ws, t)
 

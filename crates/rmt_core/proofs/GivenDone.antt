@@ -37,6 +37,10 @@ found_within limit bytes file is short =
 pub read_within : (files : Files) (name : List ℕ) (limit : ℕ) (next : List ℕ → Given → Type 0) (g : Given) (w : (bytes : List ℕ) × IsWithin files name limit bytes) → Reads files name limit next g → next w.0 g
 read_within files name limit next g w h = subst (λ f. OfFound files next g f) (found_within limit w.0 (files name) w.1.is_there w.1.is_short) h
 
+-- a file that stays is within the limit later
+pub later_within : (files later : Files) (name bytes : List ℕ) (limit : ℕ) → later name ≡ files name → IsWithin files name limit bytes → IsWithin later name limit bytes
+later_within files later name bytes limit same w = record { is_there = same ∙ w.is_there; is_short = w.is_short }
+
 pub opened_there : (files : Files) (name text : List ℕ) (next : List ℕ → Given → Type 0) (g : Given) → files name ≡ Some text → Opens files name next g → next text g
 opened_there files name text next g is h = subst (λ f. OfOpened files next g f) is h
 

@@ -19,7 +19,7 @@ use Rattle.rmt_config.specs.Commits.{AreFilled, IsFilled, Placed, all_entries, c
 use Rattle.rmt_config.specs.Rooms.{Room, content_in, entry_content, is_at, is_same, number_in}
 use Rattle.rmt_config.specs.RunCells.{RunCells, emptied, sees, with_version}
 use Rattle.rmt_refine.specs.Commits.{KeepEntries}
-use Rattle.rmt_refine.proofs.FilledLaws.{room_there}
+use Rattle.rmt_refine.proofs.FilledLaws.{full_seen, room_there}
 use Rattle.rmt_refine.proofs.PartLaws.{some_and}
 use Rattle.rmt_refine.proofs.PlacedLaws.{Comes, HasItsRoom, Stays, Takes, all_placed, each_has_its_room, each_placed}
 use Rattle.rmt_refine.proofs.VisibleBitLaws.{seen_next}
@@ -43,13 +43,6 @@ seen_new v i =
     at_parity (λ m. (is_occupied (1 + 2 * 2 ^ m + 8 * i) && bit m (1 + 2 * 2 ^ m + 8 * i)) ≡ true) v
     (and_from (is_occupied (1 + 2 * 1 + 8 * i)) (bit 0 (1 + 2 * 1 + 8 * i)) (eq-eqb ((1 + 2 * 1 + 8 * i) % 2) 1 (omega arith)) (eq-eqb ((1 + 2 * 1 + 8 * i) / 2 % 2) 1 (omega arith)))
     (and_from (is_occupied (1 + 2 * 2 + 8 * i)) (bit 1 (1 + 2 * 2 + 8 * i)) (eq-eqb ((1 + 2 * 2 + 8 * i) % 2) 1 (omega arith)) (eq-eqb ((1 + 2 * 2 + 8 * i) / 4 % 2) 1 (omega arith)))
-
--- and one with both bits
-seen_both : (v i : ℕ) → sees true v (1 + 2 * 3 + 8 * i) ≡ true
-seen_both v i =
-    at_parity (λ m. (is_occupied (1 + 2 * 3 + 8 * i) && bit m (1 + 2 * 3 + 8 * i)) ≡ true) v
-    (and_from (is_occupied (1 + 2 * 3 + 8 * i)) (bit 0 (1 + 2 * 3 + 8 * i)) (eq-eqb ((1 + 2 * 3 + 8 * i) % 2) 1 (omega arith)) (eq-eqb ((1 + 2 * 3 + 8 * i) / 2 % 2) 1 (omega arith)))
-    (and_from (is_occupied (1 + 2 * 3 + 8 * i)) (bit 1 (1 + 2 * 3 + 8 * i)) (eq-eqb ((1 + 2 * 3 + 8 * i) % 2) 1 (omega arith)) (eq-eqb ((1 + 2 * 3 + 8 * i) / 4 % 2) 1 (omega arith)))
 
 -- ---- entries with cells
 
@@ -222,7 +215,7 @@ module _ (c : Config) (names : Names) (cells : RunCells) where
           seen =
               subst (λ o. sees true (cells.version + 1) (filled_content c names o k place).head ≡ true) (sym found)
               (subst (λ (o : Option Terms). sees true (cells.version + 1) (unwrap_or (option_map (λ u. entry_content u q.room.part 3 q.entry) o) (emptied q.room.part.slot)).head ≡ true) (sym some.1)
-              (seen_both (cells.version + 1) (q.room.part.first + q.entry.action)));
+              (full_seen (cells.version + 1) (q.room.part.first + q.entry.action)));
           number = ap (λ (o : Option Placed). unwrap_or (option_map (λ (p : Placed). p.entry.number) o) 0) found;
         }
 

@@ -1,3 +1,4 @@
+pub mod AbsenceLaws
 pub mod AlikeInputs
 pub mod AnswerLaws
 pub mod AnswersFormed
@@ -20,6 +21,7 @@ pub mod EditedLaws
 pub mod EmitLaws
 pub mod EndLaws
 pub mod EventTextLaws
+pub mod FaultLaws
 pub mod FilledRooms
 pub mod FlightLaws
 pub mod FlyingLaws
@@ -59,6 +61,7 @@ pub mod SwitchLaws
 pub mod TakenLaws
 pub mod TallyLaws
 pub mod TextExamples
+pub mod TextFileLaws
 pub mod TextLaws
 pub mod TurnLaws
 pub mod VectorTexts

@@ -88,7 +88,7 @@ module _ (before after : Outside) {X : Type 0} (way : Way X) (printed : X → Li
       (record {
         files = inl same;
         front = λ g e. (g, e, subst (λ (x : Given). GainedFront before.sink after.sink x.text) (sym e) front);
-        steady = λ steady e g _. absurd (never e steady);
+        steady = λ steady e. absurd (never e steady);
       })
 
   -- a run that ended early

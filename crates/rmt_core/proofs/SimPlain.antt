@@ -44,7 +44,7 @@ use Rattle.rmt_core.specs.SimText.{count_line, cycles_line, flight_line}
 use Rattle.rmt_core.specs.Simulating.{GivesRun, Spelled}
 use Rattle.rmt_core.specs.Texts.{Understands}
 use Rattle.rmt_core.proofs.GivenOnce.{OneMeaning}
-use Rattle.rmt_core.proofs.GivenDone.{Understood, opened_there, read_within, run_done, spelled_is, status_done, understood, was_opened, was_read, was_understood}
+use Rattle.rmt_core.proofs.GivenDone.{Understood, later_within, opened_there, read_within, run_done, spelled_is, status_done, understood, was_opened, was_read, was_understood}
 use Rattle.rmt_core.proofs.ReadOnce.{told_is}
 use Rattle.rmt_core.proofs.SimRuns.{prints_so, read_same}
 use Rattle.rmt_core.proofs.WritingLaws.{updated_other, updated_same}
@@ -184,9 +184,6 @@ plain_run one files program entries packets text entry_text packet_text p lists 
     (λ entry_text. Opens files packets (λ packet_text. Understands files text entry_text (RunsPlain files packet_text))) g (entry_text, has_entries) first in
     let opened = opened_there files packets packet_text (λ packet_text. Understands files text entry_text (RunsPlain files packet_text)) g is second in
     understood one files text entry_text (RunsPlain files packet_text) g p lists means says opened
-
-later_within : (files later : Files) (name bytes : List ℕ) (limit : ℕ) → later name ≡ files name → IsWithin files name limit bytes → IsWithin later name limit bytes
-later_within files later name bytes limit same w = record { is_there = same ∙ w.is_there; is_short = w.is_short }
 
 -- ---- the law
 

@@ -45,7 +45,7 @@ unread_before before mid name limit s r w = record {
 }
 
 -- a file was found
-answered_found : (before after : Outside) (name : List ℕ) (limit : ℕ) (bytes : List ℕ) (next : List ℕ → Given → Type 0) (s : Status) → IsFound before.shelf name limit bytes → IsTrue before.shelf.tells
+pub answered_found : (before after : Outside) (name : List ℕ) (limit : ℕ) (bytes : List ℕ) (next : List ℕ → Given → Type 0) (s : Status) → IsFound before.shelf name limit bytes → IsTrue before.shelf.tells
     → Answered before after (next bytes) s → Answered before after (Reads before.shelf.files name limit next) s
 answered_found before after name limit bytes next s is tells h = subst (λ f. Answered before after (λ g. OfFound before.shelf.files next g f) s) (sym (is tells)) h
 

@@ -24,12 +24,12 @@ use Rattle.rmt_core.specs.declared.status.Status.TheVariants.{Done}
 use Rattle.rmt_core.specs.Compiling.{Compiles, Fitted, Loaded, Makes, written}
 use Rattle.rmt_core.specs.Files.{Files, entries_limit, image_limit, map_limit, program_limit, updated}
 use Rattle.rmt_core.specs.Given.{Given, Reads}
-use Rattle.rmt_core.specs.Headline.{IsImage, IsMapFile, IsWithin, MeanBoth, VerifiesCompiled}
+use Rattle.rmt_core.specs.Headline.{IsImage, IsMapFile, MeanBoth, VerifiesCompiled}
 use Rattle.rmt_core.specs.MapFiles.{map_file, with_map}
 use Rattle.rmt_core.specs.Placers.{refusal_by}
 use Rattle.rmt_core.specs.Texts.{Understands}
 use Rattle.rmt_core.specs.Verifying.{Checks, ChecksBytes, ChecksTexts, GivesVerify, HasMap, answer_line}
-use Rattle.rmt_core.proofs.GivenDone.{map_is, read_within, spelled_is, understood, was_read, was_understood}
+use Rattle.rmt_core.proofs.GivenDone.{later_within, map_is, read_within, spelled_is, understood, was_read, was_understood}
 use Rattle.rmt_core.proofs.GivenOnce.{OneMap, OneMeaning}
 use Rattle.rmt_core.proofs.WritingLaws.{updated_other, updated_same}
 
@@ -127,9 +127,6 @@ module _ (p : Program) (lists : List (List Entry)) (files : Files) (image map : 
 
 -- ---- the law
 
-within_later : (files later : Files) (name bytes : List ℕ) (limit : ℕ) → later name ≡ files name → IsWithin files name limit bytes → IsWithin later name limit bytes
-within_later files later name bytes limit same w = record { is_there = same ∙ w.is_there; is_short = w.is_short }
-
 pub verifies_compiled : OneMeaning → OneMap → VerifiesCompiled
 verifies_compiled one maps files later program entries image map made verified apart compiles done same_image same_map same_program same_entries verifies =
     let next = Compiles ByRule files (with_map image map) in
@@ -142,8 +139,8 @@ verifies_compiled one maps files later program entries image map made verified a
     let both : MeanBoth later program entries p lists = record {
       text = first.bytes;
       entry_text = second.bytes;
-      has_text = within_later files later program first.bytes program_limit same_program first.within;
-      has_entries = within_later files later entries second.bytes entries_limit same_entries second.within;
+      has_text = later_within files later program first.bytes program_limit same_program first.within;
+      has_entries = later_within files later entries second.bytes entries_limit same_entries second.within;
       means = meant.means;
       says = meant.says;
     } in

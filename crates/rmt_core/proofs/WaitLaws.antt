@@ -17,7 +17,7 @@ use Rattle.rmt_chip.specs.Stands.{Stands, oldest_in_flight, version_of}
 use Rattle.rmt_core.specs.ChipEvents.{Comes, commit_cycles, is_waiting}
 use Rattle.rmt_core.specs.ChipReading.{lists_in, names_in}
 use Rattle.rmt_core.proofs.FlightLaws.{enters}
-use Rattle.rmt_core.proofs.FlyingLaws.{all_within, at_idles, is_there, versions-append, versions_in, waiting_is}
+use Rattle.rmt_core.proofs.FlyingLaws.{all_within, at_idles, is_there, no_versions, none_written, versions-append, versions_in, waiting_is}
 
 -- ---- inputs one behind another
 
@@ -44,14 +44,6 @@ no_packets (suc n) = packets-append (Idle ∷ []) (replicate n Idle) ∙ ap (λ 
 pub none_in_writes : (ws : List CellWrite) → packets_of (map Writes ws) ≡ 0
 none_in_writes [] = refl
 none_in_writes (w ∷ ws) = packets-append (Writes w ∷ []) (map Writes ws) ∙ ap (λ m. 0 + m) (none_in_writes ws)
-
-pub no_versions : (n : ℕ) → versions_in (replicate n Idle) ≡ 0
-no_versions zero = refl
-no_versions (suc n) = no_versions n
-
-pub none_turned : (ws : List CellWrite) → versions_in (map Writes ws) ≡ 0
-none_turned [] = refl
-none_turned (w ∷ ws) = none_turned ws
 
 -- ---- how long a commit waits
 
@@ -141,5 +133,5 @@ versions_waited made n ws =
     let a = versions-append (made ++ replicate n Idle) (map Writes ws) in
     let b = versions-append made (replicate n Idle) in
     let i = no_versions n in
-    let w = none_turned ws in
+    let w = none_written ws in
     omega (arith, a, b, i, w)

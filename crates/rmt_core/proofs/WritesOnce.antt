@@ -2,7 +2,7 @@
 use Rattle.std.proofs.Common.{◌≡◌, ◌≢◌, ◌⊎◌, inl, inr, ℕ, ◌+◌, ◌*◌, ◌<◌, ◌&&◌, ◌||◌, Bool, true, false, not, cond, eqb, ltb, List, [], ◌∷◌, Option, Some, None, map, option_map, unwrap_or, sym, refl, ap, ◌∙◌, subst, arith}
 use Rattle.std.specs.Prelude.{AllPairs, Contains, IsSomeAnd}
 use Rattle.std.specs.List.{AllZip}
-use Rattle.std.proofs.lemmas.Bool.{and_from, and_parts, cases_Bool, eq-eqb, eqb-true, false≢true, ltb-true, or_cases}
+use Rattle.std.proofs.lemmas.Bool.{and_parts, eqb-true, ltb-true, or_cases}
 use Rattle.std.proofs.lemmas.List.Elements.{All-contains}
 use Rattle.rmt_bits.specs.Bits.{number_of}
 use Rattle.rmt_bits.proofs.ListLaws.{find-passes}
@@ -15,9 +15,10 @@ use Rattle.rmt_config.specs.LaneForm.{bits_of_lanes}
 use Rattle.rmt_config.specs.Commits.{AreWrites, IsCell, writes_before}
 use Rattle.rmt_config.specs.RunCells.{RunCells, emptied, is_changed, no_content, slot_at, with_write, written_content, written_mask}
 use Rattle.rmt_config.specs.RunInputs.{Input, Writes, after_input, numbers_brought, packet_of}
+use Rattle.rmt_update.proofs.FitWrites.{own-change}
 use Rattle.rmt_update.proofs.FoldLaws.{change_of, content_by, fold-content, fold-number, number_by}
 use Rattle.rmt_update.proofs.OncePlaced.{found-in}
-use Rattle.rmt_update.proofs.WritesLaws.{apart, said_content, said_number}
+use Rattle.rmt_update.proofs.WritesLaws.{place-of, said_content, said_number}
 
 -- two inputs are alike: the same packet enters, they leave the same cells, and bring the same numbers
 pub record IsAlike (c : Config) (x y : Input) : Type 0 where
@@ -135,32 +136,6 @@ side_by_side (w ∷ ws) (v ∷ vs) rise_w rise_v there behind =
 
 -- ---- what is changed
 
-own_place : (w : CellWrite) → is_changed w w.stage w.unit w.cell ≡ true
-own_place w =
-    and_from (eqb w.stage w.stage && eqb w.unit w.unit) (eqb w.cell w.cell) (and_from (eqb w.stage w.stage) (eqb w.unit w.unit) (eq-eqb w.stage w.stage refl) (eq-eqb w.unit w.unit refl))
-    (eq-eqb w.cell w.cell refl)
-
-at_place : (w : CellWrite) (k place n : ℕ) → is_changed w k place n ≡ true → (w.stage ≡ k) × (w.unit ≡ place) × (w.cell ≡ n)
-at_place w k place n e =
-    let parts = and_parts (eqb w.stage k && eqb w.unit place) (eqb w.cell n) e in
-    let two = and_parts (eqb w.stage k) (eqb w.unit place) parts.0 in
-    (eqb-true w.stage k two.0, eqb-true w.unit place two.1, eqb-true w.cell n parts.1)
-
--- a changed cell of a list in order is the one of its place
-own_change : (c : Config) (ws : List CellWrite) (w : CellWrite) → AllPairs IsBefore ws → Contains ws w → change_of c w.stage w.unit w.cell ws ≡ Some w
-own_change c [] w rise there = absurd (none_there w there)
-own_change c (x ∷ ws) w rise there = elim (Contains-split x ws w there) [
-  | inl same ↦
-      ap (λ b. cond b (Some x) (change_of c w.stage w.unit w.cell ws)) (subst (λ (u : CellWrite). is_changed x u.stage u.unit u.cell ≡ true) same (own_place x)) ∙ ap Some same
-  | inr later ↦
-      let before = All-contains (IsBefore x) ws w (AllPairs-head IsBefore x ws rise) later in
-      let other : is_changed x w.stage w.unit w.cell ≡ false = elim (cases_Bool (is_changed x w.stage w.unit w.cell)) [
-        | inl t ↦ absurd (false≢true (sym (apart x w w.stage w.unit w.cell before t) ∙ own_place w))
-        | inr f ↦ f
-      ] in
-      ap (λ b. cond b (Some x) (change_of c w.stage w.unit w.cell ws)) other ∙ own_change c ws w (AllPairs-tail IsBefore x ws rise) later
-]
-
 module _ (c : Config) (cells next : RunCells) where
   -- a changed cell leaves what its cell holds next
   record Leaves (w : CellWrite) : Type 0 where
@@ -171,7 +146,7 @@ module _ (c : Config) (cells next : RunCells) where
   leaves : (ws : List CellWrite) → AreWrites c cells next ws → (w : CellWrite) → Contains ws w → Leaves w
   leaves ws a w there =
       let cell = All-contains (λ (x : CellWrite). IsCell c x.stage x.unit x.cell) ws w a.cells_are there in
-      let own = own_change c ws w a.in_order there in
+      let own = own-change c ws w a.in_order there in
       record {
         cell = cell;
         content =
@@ -209,7 +184,7 @@ module _ (c : Config) (cells next : RunCells) where
         | inr ne ↦ absurd (ne (ap (λ o. number_by c k place n o (cells.number k place n)) (sym e) ∙ sym (fold-number c k place n cells vs b.in_order) ∙ b.number k place n cell))
       ]
       by (Some v) e =
-          let at = at_place v k place n (find-passes (λ (x : CellWrite). is_changed x k place n) vs v e) in
+          let at = place-of v k place n (find-passes (λ (x : CellWrite). is_changed x k place n) vs v e) in
           (v, found-in (λ (x : CellWrite). is_changed x k place n) vs v e, record { stage = sym at.0; unit = sym at.1; cell = sym at.2 })
 
   -- ---- alike inputs
@@ -236,7 +211,7 @@ module _ (c : Config) (cells next : RunCells) where
             → cond t (unwrap_or (option_map (written_content w) (slot_at c k place)) no_content) x ≡ cond t (unwrap_or (option_map (written_content v) (slot_at c k place)) no_content) x
         by false e = refl
         by true e =
-            let at = at_place w k place n e in
+            let at = place-of w k place n e in
             let mine : slot_at c w.stage w.unit ≡ slot_at c k place = λ i. slot_at c (at.0 i) (at.1 i) in
             ap (λ o. unwrap_or (option_map (written_content w) o) no_content) (sym mine) ∙ contents
             ∙ ap (λ o. unwrap_or (option_map (written_content v) o) no_content) (sym slots ∙ mine)

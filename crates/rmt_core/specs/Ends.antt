@@ -71,11 +71,11 @@ pub record StoppedBetween (before after : Outside) (gives : Given → Type 0) (s
   pub files : CutShort before.shelf.files after.shelf.files given.writes
 
 -- A call that ends for want of memory, or by a fault of reading, leaves the files as they are, but between two files that a command writes; what a sink gained is a
--- front of a text that they give, where they give any. A steady shelf has such a fault only where the files give it.
+-- front of a text that they give, where they give any. Over a steady shelf it ends by a fault of reading only where the files give that.
 pub record Stops (before after : Outside) (gives : Given → Type 0) (status : Status) : Type 0 where
   pub files : AreSame after.shelf.files before.shelf.files ⊎ StoppedBetween before after gives status
   pub front : (g : Given) → gives g → (h : Given) × gives h × GainedFront before.sink after.sink h.text
-  pub steady : IsTrue before.shelf.steady → status ≡ ReadFault → (g : Given) → gives g → g.status ≡ ReadFault
+  pub steady : IsTrue before.shelf.steady → status ≡ ReadFault → (g : Given) × gives g × (g.status ≡ ReadFault)
 
 -- a call of a command that gives something
 abbrev pub EndsWith : Outside → Outside → (Given → Type 0) → Status → Type 0

@@ -18,7 +18,7 @@ use Rattle.rmt_verify.specs.Spells.{Spells as SpellsMap}
 use Rattle.rmt_verify.specs.declared.map_file.MapFile.{MapFile}
 use Rattle.rmt_build.specs.declared.fault.NoFit.{NoFit}
 use Rattle.rmt_build.specs.declared.fault.NoFit.TheVariants.{Load}
-use Rattle.rmt_build.specs.Loads.{AreLoaded}
+use Rattle.rmt_build.specs.Loads.{IsFull}
 use Rattle.rmt_core.specs.declared.placer.Placer.{Placer}
 use Rattle.rmt_core.specs.declared.placer.Placer.TheVariants.{ByRule, ByTries}
 use Rattle.rmt_core.specs.declared.status.Status.{Status}
@@ -156,14 +156,14 @@ pub record MeanBoth (files : Files) (program entries : List ℕ) (p : Program) (
   pub means : Means text (Ok p)
   pub says : entries_of p entry_text ≡ Ok lists
 
--- no refusal comes, and under some seed of 0 to 7 every exact table is loaded
+-- no refusal comes, and under some seed of 0 to 7 no exact table has entries that have fewer cells than they are
 pub record Fits (placer : Placer) (p : Program) (lists : List (List Entry)) : Type 0 where
   pub parts : List Part
   pub seed : ℕ
   pub no_refusal : refusal_by placer p ≡ None
   pub placed : IsPlacedBy placer p parts
   pub few : seed < 8
-  pub loaded : AreLoaded p lists parts seed
+  pub never_full : (node members cells : ℕ) → IsFull p lists parts seed node members cells → ⊥
 
 -- a packet text without a bad line, which may change the entries of a program
 pub record IsGoodRun (p : Program) (lists : List (List Entry)) (files : Files) (name : List ℕ) : Type 0 where

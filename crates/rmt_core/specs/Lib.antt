@@ -35,6 +35,7 @@ pub mod Switching
 pub mod SwitchSetup
 pub mod Verifying
 pub mod Gives
+pub mod FilesRead
 pub mod Headline
 pub mod Running
 pub mod Pieces
@@ -42,5 +43,6 @@ pub mod ReadsOn
 pub mod Loading
 pub mod Telling
 pub mod TextFaults
+pub mod TextFiles
 pub mod Making
 pub mod WantedNames

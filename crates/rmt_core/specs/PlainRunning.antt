@@ -13,8 +13,8 @@ use Rattle.rmt_update.specs.Stands.{Stands}
 use Rattle.rmt_core.specs.declared.plain_run.PlainRun.{PlainRun}
 use Rattle.rmt_core.specs.declared.run_end.Bad.{Bad}
 use Rattle.rmt_core.specs.EventText.{EventReading, with_bad}
-use Rattle.rmt_core.specs.Files.{Files, entries_limit}
-use Rattle.rmt_core.specs.Given.{Given, Opens, Reads}
+use Rattle.rmt_core.specs.Files.{Files}
+use Rattle.rmt_core.specs.Given.{Given, Opens}
 use Rattle.rmt_core.specs.PlainText.{RunsPlain, plain_lines}
 use Rattle.rmt_core.specs.RunEnd.{bad_line}
 use Rattle.rmt_core.specs.Texts.{Understands}
@@ -65,7 +65,3 @@ OfOpen files text entry_text packet_text = Understands files text entry_text (Ru
 -- and over those of a file
 abbrev pub OfTexts : Files → List ℕ → List ℕ → List ℕ → Given → Type 0
 OfTexts files packets text entry_text = Opens files packets (OfOpen files text entry_text)
-
--- a run of the program of a text with the entries of a file over the packets of another
-abbrev pub OfText : Files → List ℕ → List ℕ → List ℕ → Given → Type 0
-OfText files entries packets text = Reads files entries entries_limit (OfTexts files packets text)

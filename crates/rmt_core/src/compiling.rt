@@ -1,25 +1,21 @@
 //! The commands `compile`, with and without a map, and `improve`, which place the nodes of a program in two ways.
 
-ghost use Rattle.std.specs.Prelude.{◌≡◌, ◌≢◌, ◌≤◌, ◌⊎◌, [], Ok, IfOk, length, string_bytes};
-ghost use Rattle.rmt_ast.specs.EntryLists.{AreEntries};
-ghost use Rattle.rmt_ast.specs.WellFormed.{IsProgram};
+ghost use Rattle.std.specs.Prelude.{◌≡◌, ◌≢◌, ◌⊎◌, [], IfOk, string_bytes};
 ghost use Rattle.rmt_core.specs.Commands.{IsPossible, Compile};
-ghost use Rattle.rmt_core.specs.Compiling.{Compiles, GivesImage};
+ghost use Rattle.rmt_core.specs.Compiling.{GivesImage};
 ghost use Rattle.rmt_core.specs.Ends.{WritesAndPrints, outside};
-ghost use Rattle.rmt_core.specs.Files.{entries_limit, program_limit};
-ghost use Rattle.rmt_core.specs.Given.{Reads, Stores};
-ghost use Rattle.rmt_core.specs.Making.{AreOfTexts, bytes_of, image_and};
+ghost use Rattle.rmt_core.specs.Given.{Stores};
+ghost use Rattle.rmt_core.specs.Making.{bytes_of, image_and};
 ghost use Rattle.rmt_core.specs.WantedNames.{names_of};
 ghost use Rattle.rmt_core.specs.Writing.{write_of, writes_of};
 ghost use Rattle.rmt_core.specs.Placers.{IsPlacer};
-ghost use Rattle.rmt_core.specs.Texts.{Understands};
 
-use crate::loading::{ENTRIES_LIMIT, PROGRAM_LIMIT, read_file};
 use crate::making::{Made, Refusal, make};
 use crate::placer::Placer;
 use crate::printing::end_with;
 use crate::status::Status;
-use crate::texts::{Meant, tell_text_fault, understand};
+use crate::text_files::read_texts;
+use crate::texts::{tell_text_fault, understand};
 use crate::writing::{NewFile, deliver};
 use rmt_check::laws::one_meaning;
 use rmt_io::shelf::Shelf;
@@ -54,87 +50,15 @@ pub fn compile<F: Shelf, O: Sink>(
         (λ files. GivesImage placer files (string_bytes program.now) (string_bytes entries.now)
         (names_of wanted.entry)) result }
 {
-    match read_file(alloc, program, PROGRAM_LIMIT, shelf) {
-        Ok(text) => compile_text(alloc, placer, &text, entries, wanted, shelf, out),
-        Err(status) => status,
-    }
-}
-
-/// Compiles a program text with the entries of a file.
-fn compile_text<F: Shelf, O: Sink>(
-    alloc: Global,
-    placer: Placer,
-    text: &Vec<u8>,
-    entries: &String,
-    wanted: Wanted<'_>,
-    shelf: &mut F,
-    out: &mut O,
-) -> Status
-    requires placer { IsPlacer placer }
-    requires text { length text.now.items ≤ program_limit }
-    ensures possible { IsPossible
-        (Compile [] (string_bytes entries.now) (string_bytes wanted.entry.image.now)) result }
-    ensures call { WritesAndPrints (outside (F.state shelf.old) (O.state out.old))
-        (outside (F.state shelf.new) (O.state out.new))
-        (λ files. Reads files (string_bytes entries.now) entries_limit
-        (λ entry_text. Understands files text.now.items entry_text
-        (Compiles placer files (names_of wanted.entry)))) result }
-{
-    match read_file(alloc, entries, ENTRIES_LIMIT, shelf) {
-        Ok(entry_text) => compile_texts(alloc, placer, text, &entry_text, wanted, shelf, out),
-        Err(status) => status,
-    }
-}
-
-/// Compiles a program text with an entry text.
-fn compile_texts<F: Shelf, O: Sink>(
-    alloc: Global,
-    placer: Placer,
-    text: &Vec<u8>,
-    entry_text: &Vec<u8>,
-    wanted: Wanted<'_>,
-    shelf: &mut F,
-    out: &mut O,
-) -> Status
-    requires placer { IsPlacer placer }
-    requires text { length text.now.items ≤ program_limit }
-    requires entries { length entry_text.now.items ≤ entries_limit }
-    ensures possible { IsPossible (Compile [] [] (string_bytes wanted.entry.image.now)) result }
-    ensures no_reading { result ≢ Status.ReadFault }
-    ensures not_long { result ≢ Status.TooLong }
-    ensures call { WritesAndPrints (outside (F.state shelf.old) (O.state out.old))
-        (outside (F.state shelf.new) (O.state out.new))
-        (λ files. Understands files text.now.items entry_text.now.items
-        (Compiles placer files (names_of wanted.entry))) result }
-{
     one_meaning();
-    match understand(alloc, text.as_slice(), entry_text.as_slice()) {
-        Ok(meant) => compile_meant(alloc, placer, &meant, wanted, shelf, out),
-        Err(fault) => tell_text_fault(alloc, fault, out),
-    }
-}
-
-/// Compiles a program with its entries.
-fn compile_meant<F: Shelf, O: Sink>(
-    alloc: Global,
-    placer: Placer,
-    meant: &Meant,
-    wanted: Wanted<'_>,
-    shelf: &mut F,
-    out: &mut O,
-) -> Status
-    requires placer { IsPlacer placer }
-    requires program { IsProgram meant.now.program }
-    requires entries { AreEntries meant.now.program meant.now.entries }
-    requires said { AreOfTexts meant.now.program meant.now.entries }
-    ensures possible { IsPossible (Compile [] [] (string_bytes wanted.entry.image.now)) result }
-    ensures no_reading { result ≢ Status.ReadFault }
-    ensures not_long { result ≢ Status.TooLong }
-    ensures call { WritesAndPrints (outside (F.state shelf.old) (O.state out.old))
-        (outside (F.state shelf.new) (O.state out.new))
-        (λ files. Compiles placer files
-        (names_of wanted.entry) meant.now.program meant.now.entries) result }
-{
+    let texts = match read_texts(alloc, program, entries, shelf) {
+        Ok(texts) => texts,
+        Err(status) => return status,
+    };
+    let meant = match understand(alloc, texts.program.as_slice(), texts.entries.as_slice()) {
+        Ok(meant) => meant,
+        Err(fault) => return tell_text_fault(alloc, fault, out),
+    };
     let has_map = wanted.map.is_some();
     match make(alloc, placer, &meant.program, &meant.entries, has_map) {
         Ok(made) => deliver_made(alloc, made, wanted, shelf, out),

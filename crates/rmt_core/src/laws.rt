@@ -1,5 +1,6 @@
 //! What holds of what the commands give.
 
+ghost use Rattle.rmt_core.specs.FilesRead.{ReadFaultIsAbsence, SteadyFaultIsAbsence};
 ghost use Rattle.rmt_core.specs.Headline.{GivesAlways, GivesNeverNothing, GivesOne, ImproveHasNoMoreStages, IsComplete, LeavesFiles, MapIsBeside, OneTryIsCompile, RefusesAsCompile, SimPrintsPlain, VerifiesCompiled};
 ghost use Rattle.rmt_core.specs.Sampling.{SampleIsMeant};
 
@@ -35,12 +36,18 @@ pub fn leaves_files()
     ensures { LeavesFiles }
 {}
 
+/// A command gives `ReadFault` exactly where a file that it reads is absent, and each before it can be read; over a steady shelf a
+/// call ends so only there.
+pub fn read_fault_is_absence()
+    ensures exact { ReadFaultIsAbsence }
+    ensures steady { SteadyFaultIsAbsence }
+{}
+
 /// Where the files are as they must be, a command gives `Done`.
 pub fn is_complete()
     ensures { IsComplete }
 {
     one_meaning();
-    never_both();
     spells_one();
 }
 

@@ -25,6 +25,7 @@ mod simulating;
 pub mod status;
 pub mod switching;
 mod telling;
+mod text_files;
 mod texts;
 pub mod top;
 mod vectors;

@@ -3,13 +3,8 @@ use Rattle.std.proofs.Common.{◌≡◌, ◌≢◌, ℕ, ◌+◌, ◌<◌, ◌==
 use Rattle.std.specs.List.{range_with_len}
 use Rattle.std.specs.Str.{bytes_eq}
 use Rattle.std.specs.Global.{Global}
-use Rattle.std.specs.declared.cmp.Ordering.{Ordering}
-use Rattle.std.specs.Ordering.{nat_cmp}
-use Rattle.std.specs.Cmp.Lexicographic.{slice_cmp}
-use Rattle.std.specs.BTreeSet.{BTreeSet, Updates, contains}
 use Rattle.std.proofs.lemmas.Bool.{cases_Bool, eqb-true, eq-eqb, false≢true}
 use Rattle.std.proofs.lemmas.Bool.Decides.{nat_tests}
-use Rattle.std.proofs.lemmas.Map.Text.{is_eq-slice_cmp}
 use Rattle.std.proofs.lemmas.List.{ext_get_or, get_or-set_same, get_or-set_other, length-set, map_push, append-nil}
 use Rattle.std.proofs.lemmas.List.Folds.{list_any-append}
 use Rattle.std.proofs.lemmas.List.Elements.{filter-append}
@@ -20,6 +15,7 @@ use Rattle.rmt_ast.specs.declared.program.Kind.{Kind}
 use Rattle.rmt_ast.specs.EntryLists.{Terms}
 use Rattle.rmt_entries.specs.Entries.{by_node, entries_at, has_keys_once, identity, is_repeated}
 use Rattle.rmt_entries.specs.LinesSoFar.{IsAppliedBy, Knows, is_once}
+use Rattle.rmt_entries.specs.KeySets.{KeySet, has}
 use Rattle.rmt_entries.specs.Tables.{AppliedTable}
 use Rattle.rmt_bits.proofs.FunctionLaws.{bytes_eq-sym}
 
@@ -82,22 +78,19 @@ is_repeated_push es e x =
     by false true c h = rw (← h) refl
     by false false c h = rw (← h) refl
 
-abbrev pub order : Vec ℕ Global → Vec ℕ Global → Ordering
-order x y = slice_cmp nat_cmp x.items y.items
-
 -- a key more
-pub knows_more : (terms : List (Option Terms)) (es : List Entry) (keys new : BTreeSet (Vec ℕ Global)) (key : Vec ℕ Global) (e : Entry) → Knows terms es keys → key.items ≡ identity e
-    → Updates order keys new key true → Knows terms (es ++ e ∷ []) new
+pub knows_more : (terms : List (Option Terms)) (es : List Entry) (keys new : KeySet) (key : Vec ℕ Global) (e : Entry) → Knows terms es keys → key.items ≡ identity e
+    → ((q : Vec ℕ Global) → has new q ≡ cond (bytes_eq key.items q.items) true (has keys q)) → Knows terms (es ++ e ∷ []) new
 knows_more terms es keys new key e h own up q x qi once =
-    up.0 q
-    ∙ ap (λ (b : Bool). cond b true (contains order keys q)) (is_eq-slice_cmp key.items q.items ∙ ap (λ k. bytes_eq k q.items) own ∙ ap (bytes_eq (identity e)) qi)
+    up q
+    ∙ ap (λ (b : Bool). cond b true (has keys q)) (ap (λ k. bytes_eq k q.items) own ∙ ap (bytes_eq (identity e)) qi)
     ∙ ap (cond (bytes_eq (identity e) (identity x)) true) (h q x qi once) ∙ sym (is_repeated_push es e x)
 
 -- whether a key was there
-pub key_again : (terms : List (Option Terms)) (es : List Entry) (keys : BTreeSet (Vec ℕ Global)) (key : Vec ℕ Global) (e : Entry) (kind : Kind) (is_new : Bool) → Knows terms es keys → key.items ≡ identity e
-    → is_once terms e.table ≡ has_keys_once kind → has_keys_once kind ≡ true → is_new ≡ not (contains order keys key) → not is_new ≡ (has_keys_once kind && is_repeated es e)
+pub key_again : (terms : List (Option Terms)) (es : List Entry) (keys : KeySet) (key : Vec ℕ Global) (e : Entry) (kind : Kind) (is_new : Bool) → Knows terms es keys → key.items ≡ identity e
+    → is_once terms e.table ≡ has_keys_once kind → has_keys_once kind ≡ true → is_new ≡ not (has keys key) → not is_new ≡ (has_keys_once kind && is_repeated es e)
 key_again terms es keys key e kind is_new h own once t added =
-    let there : contains order keys key ≡ is_repeated es e = h key e own (once ∙ t) in
+    let there : has keys key ≡ is_repeated es e = h key e own (once ∙ t) in
     rw (added, there, t) (not-not (is_repeated es e))
 
 -- what an entry is beside those of earlier lines

@@ -1,5 +1,6 @@
 mod Examples
 pub mod GatherLaws
+pub mod KeySetLaws
 pub mod LawKeys
 pub mod LawLines
 pub mod LawLists

@@ -1,6 +1,7 @@
 pub mod Entries
 pub mod Fault
 pub mod Keys
+pub mod KeySets
 pub mod Lines
 pub mod NamedLines
 pub mod NamedTables

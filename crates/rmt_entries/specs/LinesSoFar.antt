@@ -1,15 +1,13 @@
 -- What is known while the lines of a text are read.
 use Rattle.std.specs.Prelude.{◌≡◌, ◌<◌, ℕ, List, [], ◌∷◌, ◌++◌, Bool, false, Option, Some, None, IsTrue, All, Ok, length, slice_get, unwrap_or, Vec}
 use Rattle.std.specs.Global.{Global}
-use Rattle.std.specs.BTreeSet.{BTreeSet, contains}
-use Rattle.std.specs.Cmp.Lexicographic.{slice_cmp}
-use Rattle.std.specs.Ordering.{nat_cmp}
 use Rattle.rmt_ast.specs.declared.entry.Entry.{Entry}
 use Rattle.rmt_ast.specs.EntryLists.{Terms}
 use Rattle.rmt_entries.specs.declared.fault.EntryFault.{EntryFault}
 use Rattle.rmt_entries.specs.declared.fault.EntryFault.TheVariants.{NoMemory, At}
 use Rattle.rmt_entries.specs.declared.gathered.Gathered.{Gathered}
 use Rattle.rmt_entries.specs.Entries.{by_node, entry_of, has_keys_once, identity, is_repeated}
+use Rattle.rmt_entries.specs.KeySets.{KeySet, has}
 use Rattle.rmt_entries.specs.Tables.{AppliedTable}
 use Rattle.rmt_entries.specs.Taken.{AreNarrow}
 
@@ -42,8 +40,8 @@ abbrev pub is_once : List (Option Terms) → ℕ → Bool
 is_once terms node = has_once (unwrap_or (slice_get terms node) None)
 
 -- a set has the keys of these entries, of tables whose entries have distinct ones
-abbrev pub Knows : List (Option Terms) → List Entry → BTreeSet (Vec ℕ Global) → Type 0
-Knows terms es keys = (q : Vec ℕ Global) (e : Entry) → q.items ≡ identity e → IsTrue (is_once terms e.table) → contains (λ x y. slice_cmp nat_cmp x.items y.items) keys q ≡ is_repeated es e
+abbrev pub Knows : List (Option Terms) → List Entry → KeySet → Type 0
+Knows terms es keys = (q : Vec ℕ Global) (e : Entry) → q.items ≡ identity e → IsTrue (is_once terms e.table) → has keys q ≡ is_repeated es e
 
 -- these entries are gathered
 pub record Gathers (terms : List (Option Terms)) (es : List Entry) (g : Gathered) : Type 0 where

@@ -9,12 +9,12 @@ ghost use Rattle.rmt_entries.specs.NamedTables.{seen_table};
 ghost use Rattle.rmt_entries.specs.LinesSoFar.{Gathers, IsAppliedBy, IsFault, Knows, is_once};
 
 use crate::fault::EntryFault;
+use crate::key_set::KeySet;
 use crate::tables::NamedTable;
 use rmt_ast::entry::Entry;
 use rmt_ast::program::Kind;
 use rmt_bits::sequence::Sequence;
 use std::alloc::{AllocError, Global};
-use std::collections::BTreeSet;
 
 /// The entries of the lines so far.
 #[derive(Drop)]
@@ -22,15 +22,15 @@ pub struct Gathered {
     /// A list for each node.
     pub lists: Vec<Sequence<Entry>>,
     /// What no two entries of an exact or a prefix table share: the table, the length of a prefix, and the values.
-    /// The set is ordered, so that no choice of keys makes it slow.
-    pub keys: BTreeSet<Vec<u128>>,
+    pub keys: KeySet,
     /// How many there are.
     pub number: u32,
 }
 
 impl Gathered {
-    /// No entries, for so many nodes. The only fault is want of memory.
-    pub fn new(alloc: Global, nodes: usize) -> Result<Gathered, AllocError>
+    /// No entries, for so many nodes, with places for so many keys. The only fault is want of memory.
+    pub fn new(alloc: Global, nodes: usize, places: usize) -> Result<Gathered, AllocError>
+        requires { 0 < places }
         ensures { IfOk result (λ g. (terms : List (Option Terms)) → length terms ≡ nodes → Gathers terms [] g) }
     {
         let mut lists = Vec::new(alloc);
@@ -39,7 +39,7 @@ impl Gathered {
         }
         Ok(Gathered {
             lists,
-            keys: BTreeSet::new(alloc),
+            keys: KeySet::new(alloc, places)?,
             number: 0,
         })
     }
@@ -80,12 +80,7 @@ impl Gathered {
 
 /// Sees the key of an entry of a table of this kind, and says whether it was seen before; those of other than exact
 /// and prefix tables never are. The only fault is want of memory.
-fn see_key(
-    alloc: Global,
-    keys: &mut BTreeSet<Vec<u128>>,
-    kind: Kind,
-    entry: &Entry,
-) -> Result<bool, AllocError>
+fn see_key(alloc: Global, keys: &mut KeySet, kind: Kind, entry: &Entry) -> Result<bool, AllocError>
     ensures again { IfOk result (λ again. (terms : List (Option Terms)) (es : List Entry) → Knows terms es keys.old →
         is_once terms entry.now.table ≡ has_keys_once kind → again ≡ (has_keys_once kind && is_repeated es entry.now)) }
     ensures seen { IfOk result (λ again. (terms : List (Option Terms)) (es : List Entry) → Knows terms es keys.old →

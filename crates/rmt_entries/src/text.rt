@@ -39,7 +39,7 @@ pub fn entries(alloc: Global, program: &Program, text: &[u8]) -> Result<EntryLis
     ensures well_formed { IfOk result (λ lists. AreEntries program.now lists) }
 {
     let tables = Tables::of(alloc, program)?;
-    let mut gathered = Gathered::new(alloc, program.nodes.len())?;
+    let mut gathered = Gathered::new(alloc, program.nodes.len(), places_for(text))?;
     let mut rest = text;
     let mut number = 1u32;
     while !rest.is_empty() {
@@ -51,6 +51,14 @@ pub fn entries(alloc: Global, program: &Program, text: &[u8]) -> Result<EntryLis
         number += 1;
     }
     Ok(EntryLists::from_vec(gathered.lists))
+}
+
+/// How many places the keys of a text get: few lines have fewer than 8 bytes, and 2,097,152 are two for each key of the largest
+/// table.
+fn places_for(text: &[u8]) -> usize
+    ensures { 0 < result }
+{
+    (text.len() / 8).min(2_097_151) + 1
 }
 
 /// Adds the entry that a line says. After a fault nothing is known of the entries.

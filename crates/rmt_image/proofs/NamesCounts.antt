@@ -30,7 +30,7 @@ use Rattle.rmt_config.proofs.CountsLemmas.{stages_of_items}
 use Rattle.rmt_image.specs.CountsFit.{CountsFitAction, CountsFitTable, CountsFitTables, CountsFitNames}
 use Rattle.rmt_image.proofs.Codec.{AllAlong}
 use Rattle.rmt_image.proofs.NameItems.{rank_fits, RanksKeep, TableKeeps, NamesKeep}
-use Rattle.rmt_config.proofs.SlotLaws.{key_is_short}
+use Rattle.rmt_config.proofs.SlotLaws.{slot_is_short}
 use Rattle.rmt_config.proofs.SpelledParts.{units-of}
 
 -- ---- the parts of a table
@@ -85,9 +85,6 @@ slot_numbers s e =
     × (list_all lane_is_formed s.keys ≡ true) × (ltb (length s.numbers) (2 ^ 32) ≡ true) × (list_all number_is_formed s.numbers ≡ true) =
     split8 (and_parts (slot_head_is_formed s) (memory_is_formed s s.memory) e).0 in
     (ltb-true s.node 256 h.0, leb-true s.actions 14 h.2, h.7)
-
-slot_key : (s : SlotUnit) → slot_is_formed s ≡ true → bits_of_lanes s.keys ≤ 640
-slot_key s e = key_is_short s s.memory (and_parts (slot_head_is_formed s) (memory_is_formed s s.memory) e).1
 
 -- ---- what a table has
 
@@ -158,7 +155,7 @@ module _ (c : Config) (items : items_are_formed c ≡ true) (t : TableName) (tol
   few_keys : length t.keys < 2 ^ 16
   few_keys =
       let bits = eqb-true (sum t.keys) (bits_of_lanes first.part.slot.keys) (first.told (λ (part : PartAt). eqb (sum t.keys) (bits_of_lanes part.slot.keys)) (and_parts _ _ (and_parts _ _ told.made).0).0) in
-      omega (arith, few_widths t.keys alone_told.3, bits, slot_key first.part.slot first.is.formed)
+      omega (arith, few_widths t.keys alone_told.3, bits, slot_is_short first.part.slot first.is.formed)
 
   few_actions : length t.actions < 2 ^ 8
   few_actions =

@@ -120,6 +120,14 @@ record-there quantum unit units width quanta len lq lu e =
     let turned : units * quanta * width ≡ quanta * (units * width) = omega arith in
     omega (arith, le, next, turned, e)
 
+-- the number of a unit's first block fits its type
+pub unit-small : (quantum unit units width quanta thousands : ℕ) → quantum < quanta → quanta ≤ 106 → unit < units → units ≤ thousands → thousands < 2 ^ 18 → width ≤ 590 → (quantum * units + unit) * width < 2 ^ 64
+unit-small quantum unit units width quanta thousands lq most lu few small narrow =
+    let one = mul-add-lt quantum units unit quanta lq lu in
+    let two = mul-le units quanta 262144 106 (omega (arith, few, small)) most in
+    let all = mul-le (quantum * units + unit) width (262144 * 106) 590 (omega (arith, one, two)) narrow in
+    omega (arith, all)
+
 pub record-room : (i n : ℕ) → 0 < n → n < 66000 → i % records_a_row n * n + n ≤ 112 * record_width n
 record-room i n some most =
     let r = records-are n some most in

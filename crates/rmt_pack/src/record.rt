@@ -11,38 +11,13 @@ use crate::rows::Rows;
 use crate::run::{read_run, write_run};
 use crate::shape::{EXACT, Shape};
 use crate::spots::{Spot, blocks_from, place_of};
-
-/// The quotient, rounded up.
-fn divided_up(a: u32, b: u32) -> u32
-    requires some { 0 < b }
-    requires fits { a + b < 2 ^ 32 }
-    ensures { result ≡ divided_up_of a b }
-{
-    (a + b - 1) / b
-}
-
-/// How many blocks stand side by side for a record of `held` bits.
-fn record_width(held: u16) -> u32
-    ensures { result ≡ record_width_of held }
-{
-    divided_up(held as u32, 112)
-}
-
-/// How many records of `held` bits a row of such blocks has.
-fn records_a_row(held: u16) -> u32
-    requires { 0 < held }
-    ensures value { result ≡ records_a_row_of held }
-    ensures some { 0 < result }
-    ensures most { result < 113 }
-{
-    112 * record_width(held) / held as u32
-}
+use rmt_config::form::layout::{divided_up, record_width, records_a_row};
 
 /// A quantum of a part, and the number of a cell or row in it.
 #[derive(Clone, Copy)]
 struct InQuantum {
-    quantum: u32,
-    index: u32,
+    quantum: u64,
+    index: u64,
 }
 
 /// The quantum in which a cell or row stands.
@@ -57,23 +32,25 @@ fn quantum_of(shape: &Shape, cell: u32) -> InQuantum
     if shape.memory == EXACT {
         let place = place_of(shape, cell);
         InQuantum {
-            quantum: place.row / 1024,
-            index: (place.way * 1024 + place.row % 1024) * shape.per as u32 + place.position,
+            quantum: (place.row / 1024) as u64,
+            index: ((place.way * 1024 + place.row % 1024) * shape.per as u32
+                + place.position) as u64,
         }
     } else {
         InQuantum {
-            quantum: cell / 2048,
-            index: cell % 2048,
+            quantum: (cell / 2048) as u64,
+            index: (cell % 2048) as u64,
         }
     }
 }
 
 /// How many times 1,024 cells or rows a quantum has.
-fn thousands_of(shape: &Shape) -> u32
-    ensures { result ≡ thousands_in shape.now }
+fn thousands_of(shape: &Shape) -> u64
+    ensures value { result ≡ thousands_in shape.now }
+    ensures few { result < 2 ^ 18 }
 {
     if shape.memory == EXACT {
-        4 * shape.per as u32
+        4 * shape.per as u64
     } else {
         2
     }
@@ -92,14 +69,15 @@ fn spot_of(shape: &Shape, cell: u32) -> Spot
     ensures there { result.first + record_width_of shape.now.held ≤ length shape.now.records }
     ensures room { result.low + shape.now.held ≤ 112 * record_width_of shape.now.held }
 {
-    let per = records_a_row(shape.held);
+    let held = shape.held as u64;
+    let per = records_a_row(held);
     let at = quantum_of(shape, cell);
     let units = divided_up(thousands_of(shape), per);
     let unit = at.quantum * units + at.index / (1024 * per);
     Spot {
-        first: unit as usize * record_width(shape.held) as usize,
+        first: (unit * record_width(held)) as usize,
         row: (at.index % (1024 * per) / per) as u16,
-        low: at.index % per * shape.held as u32,
+        low: (at.index % per * held) as u32,
     }
 }
 
@@ -115,7 +93,7 @@ fn record_blocks(shape: &Shape, first: usize) -> &[u8]
     blocks_from(
         shape.records.as_slice(),
         first,
-        record_width(shape.held) as usize,
+        record_width(shape.held as u64) as usize,
     )
 }
 

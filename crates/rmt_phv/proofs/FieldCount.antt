@@ -32,8 +32,9 @@ count_bits p (f ∷ fs) h =
 abbrev fields_of_header : Header → List ℕ
 fields_of_header h = h.valid ∷ h.fields
 
-pub few_fields : (p : Program) → IsProgram p → length p.fields < 2 ^ 32
-few_fields p h =
+-- at most 64 headers of 512 bits and a valid bit, and the metadata
+pub fields_few : (p : Program) → IsProgram p → length p.fields ≤ 33091
+fields_few p h =
     let fields : List ℕ = header_fields p in
     let numbers : All (λ f. f < length p.fields) fields =
     subst (λ (fs : List ℕ). All (λ f. f < length p.fields) fs) (sym h.fields.in_order) (All-range (λ f. f < length p.fields) 3 (length fields) (λ w lt. omega (arith, h.fields.all_there))) in
@@ -49,3 +50,6 @@ few_fields p h =
         let header = h.headers k x (slice_get-get_or p.headers k d lt) in
         let own = All-weaker (λ f. f < length p.fields) (λ f. 1 ≤ width_of p f) (has_bits p h.fields) x.fields (All-tail (λ f. f < length p.fields) x.valid x.fields numbers) in
         omega (arith, count_bits p x.fields own, header.whole_bytes, header.is_not_long)
+
+pub few_fields : (p : Program) → IsProgram p → length p.fields < 2 ^ 32
+few_fields p h = let few = fields_few p h in omega (arith, few)

@@ -44,7 +44,7 @@ full_bit v i = elim (cases_eq (v % 2) 0) [
 pub full_occupied : (i : ℕ) → is_occupied (1 + 2 * 3 + 8 * i) ≡ true
 full_occupied i = eq-eqb ((1 + 2 * 3 + 8 * i) % 2) 1 (omega arith)
 
-full_seen : (v i : ℕ) → sees true v (1 + 2 * 3 + 8 * i) ≡ true
+pub full_seen : (v i : ℕ) → sees true v (1 + 2 * 3 + 8 * i) ≡ true
 full_seen v i = and_from (is_occupied (1 + 2 * 3 + 8 * i)) (has_bit v (1 + 2 * 3 + 8 * i)) (full_occupied i) (full_bit v i)
 
 full_code : (i : ℕ) → i < 32 → code_of (1 + 2 * 3 + 8 * i) ≡ i

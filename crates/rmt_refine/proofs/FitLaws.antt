@@ -58,7 +58,7 @@ distinct_from (es ∷ lists) own one =
     (flat_map entry_numbers lists) (All-contains_itself (flat_map entry_numbers lists)))
     (entry_numbers es) (All-contains_itself (entry_numbers es)))
 
-distinct_at : (n : ℕ) (es : List Entry) (o : Option Terms) → AreEntriesAt n es o → AreDistinct (entry_numbers es)
+pub distinct_at : (n : ℕ) (es : List Entry) (o : Option Terms) → AreEntriesAt n es o → AreDistinct (entry_numbers es)
 distinct_at n es None are = subst (λ (xs : List Entry). AreDistinct (entry_numbers xs)) (sym are) (AllPairs-none ◌≢◌)
 distinct_at n es (Some t) are =
     AllPairs-map ◌≢◌ (λ (e : Entry). e.number) es
@@ -169,10 +169,10 @@ terms_there p n t at =
 
 -- ---- an entry is added
 
-abbrev numbered : Entry → ℕ → Entry
+abbrev pub numbered : Entry → ℕ → Entry
 numbered e n = record e { number = n }
 
-same_rank : (k : Kind) (ws : List ℕ) (e : Entry) (n : ℕ) → HasRank k ws e → HasRank k ws (numbered e n)
+pub same_rank : (k : Kind) (ws : List ℕ) (e : Entry) (n : ℕ) → HasRank k ws e → HasRank k ws (numbered e n)
 same_rank kind.Keyless ws e n h = h
 same_rank kind.Exact ws e n h = h
 same_rank kind.Prefix ws e n h = h
@@ -191,7 +191,7 @@ one_length w a b la lb e lt =
     powers : (x y z : ℕ) → z < y → y ≤ x → x - y ≡ x - z → ⊥
     powers x y z lt le same = omega (arith, lt, le, same)
 
-one_rank : (ws : List ℕ) (ts : List Test) (a b : ℕ) → 1 ≤ length ws → AllZip (IsPrefix a) ws ts → AllZip (IsPrefix b) ws ts → a ≡ b
+pub one_rank : (ws : List ℕ) (ts : List Test) (a b : ℕ) → 1 ≤ length ws → AllZip (IsPrefix a) ws ts → AllZip (IsPrefix b) ws ts → a ≡ b
 one_rank [] ts a b some ha hb = absurd (omega (arith, some))
 one_rank (w ∷ ws) [] a b some ha hb = absurd ha
 one_rank (w ∷ ws) (t ∷ ts) a b some ha hb = elim (cases_lt a b) [
@@ -273,7 +273,7 @@ keys_without kind.Exact key es once = pairs_without (λ (a b : Entry). a.tests �
 keys_without kind.Prefix key es once = pairs_without (λ (a b : Entry). a.tests ≢ b.tests) key es once
 keys_without kind.Ternary key es once = tt
 
-entries_without : (n : ℕ) (key : EntryKey) (es : List Entry) (o : Option Terms) → AreEntriesAt n es o → AreEntriesAt n (without key es) o
+pub entries_without : (n : ℕ) (key : EntryKey) (es : List Entry) (o : Option Terms) → AreEntriesAt n es o → AreEntriesAt n (without key es) o
 entries_without n key es None are = ap (without key) are
 entries_without n key es (Some t) are = record {
   each = all_without (IsEntry n t) key es are.each;

@@ -40,7 +40,7 @@ mod UnseenLaws
 mod SameCellLaws
 mod OneStateLaws
 pub mod EntryLaws
-mod StandLaws
+pub mod StandLaws
 mod KeptLaws
 pub mod FilledLaws
 mod StartLaws

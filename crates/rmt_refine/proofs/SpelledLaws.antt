@@ -65,7 +65,8 @@ placed_all P k (stage ∷ stages) all =
     (All-map (λ (x : Placed). P x.unit) (λ unit. record { stage = k; unit = unit }) stage.units (All-head (λ (s : Stage). All P s.units) stage stages all))
     (placed_all P (k + 1) stages (All-tail (λ (s : Stage). All P s.units) stage stages all))
 
-placed_has : (k : ℕ) (stages : List Stage) (i : ℕ) (stage : Stage) (u : Unit) → slice_get stages i ≡ Some stage → Contains stage.units u → (x : Placed) × Contains (placed_from k stages) x × (x.unit ≡ u)
+-- a unit of a stage is among the placed ones
+pub placed_has : (k : ℕ) (stages : List Stage) (i : ℕ) (stage : Stage) (u : Unit) → slice_get stages i ≡ Some stage → Contains stage.units u → (x : Placed) × Contains (placed_from k stages) x × (x.unit ≡ u)
 placed_has k [] i stage u at there = absurd (none-some stage at)
 placed_has k (s ∷ stages) zero stage u at there = (
   record { stage = k; unit = u },

@@ -15,7 +15,7 @@ use Rattle.rmt_ast.specs.declared.program.Kind.TheVariants as kind
 use Rattle.rmt_ast.specs.EntryLists.{AreEntries, IsEntry, params_of, terms_of}
 use Rattle.rmt_ast.specs.RowOrder.{goes_first}
 use Rattle.rmt_ast.specs.State.{width_of}
-use Rattle.rmt_refine.specs.Types.{Config, Kind, Node, Program, SlotUnit, Stage, Table, What}
+use Rattle.rmt_refine.specs.Types.{Config, Node, Program, SlotUnit, Stage, Table, What}
 use Rattle.rmt_config.specs.LaneForm.{bits_of_lanes}
 use Rattle.rmt_config.specs.Cells.{Content, candidates, cells_in, code_of, is_seen}
 use Rattle.rmt_config.specs.Limits.{IsWithinLimits}
@@ -80,7 +80,8 @@ at_from k place n r a b d =
     and_from ((r.part.stage == k) && (r.part.place == place)) (r.cell == n)
     (and_from (r.part.stage == k) (r.part.place == place) (eq-eqb r.part.stage k a) (eq-eqb r.part.place place b)) (eq-eqb r.cell n d)
 
-code_at : (xs : List Stage) (k : ℕ) (x : Stage) → AllByRecursion (λ (s : Stage). sum_by unit_instructions s.units ≤ 32) xs → slice_get xs k ≡ Some x → sum_by unit_instructions x.units ≤ 32
+-- a stage has few instructions
+pub code_at : (xs : List Stage) (k : ℕ) (x : Stage) → AllByRecursion (λ (s : Stage). sum_by unit_instructions s.units ≤ 32) xs → slice_get xs k ≡ Some x → sum_by unit_instructions x.units ≤ 32
 code_at [] k x all e = absurd (none-some x e)
 code_at (y ∷ ys) zero x all e = subst (λ (s : Stage). sum_by unit_instructions s.units ≤ 32) (same_Some y x e) all.0
 code_at (y ∷ ys) (suc k) x all e = code_at ys k x all.1 e

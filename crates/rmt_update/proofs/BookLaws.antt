@@ -1,6 +1,6 @@
 -- A book of the cells that a configuration lists stands for them, with the entries that they spell.
 use Rattle.std.proofs.Common.{◌≡◌, ℕ, ◌<◌, ◌==◌, List, [], ◌∷◌, get_or, length, map, Bool, true, false, cond, Option, Some, option_map, unwrap_or, refl, sym, ap, ◌∙◌, subst}
-use Rattle.std.specs.Prelude.{All, find}
+use Rattle.std.specs.Prelude.{All, IfSome, None, find}
 use Rattle.std.specs.List.{AllZip, list_all, range_with_len}
 use Rattle.std.proofs.lemmas.Bool.{and_parts}
 use Rattle.std.proofs.lemmas.List.Elements.{All-cons, All-head, All-nil, All-tail}
@@ -18,8 +18,10 @@ use Rattle.rmt_config.specs.RunCells.{own_cells}
 use Rattle.rmt_config.proofs.SpelledParts.{parts-stand}
 use Rattle.rmt_config.proofs.SpelledWays.{parts-follow}
 use Rattle.rmt_update.specs.declared.book.Book.{Book}
+use Rattle.rmt_update.specs.declared.book.book_index.BookIndex.{BookIndex}
 use Rattle.rmt_update.specs.declared.book.table.PartCells.{PartCells}
 use Rattle.rmt_update.specs.declared.book.table.TableCells.{TableCells}
+use Rattle.rmt_update.specs.BookIndex.{IsBookIndex}
 use Rattle.rmt_update.specs.BookStands.{BookStands, HoldsPart, HoldsTable}
 use Rattle.rmt_update.specs.Listed.{IsListed, IsTable}
 use Rattle.rmt_update.specs.Seen.{HaveNumbers, IsReadable, entries_at, entries_by_part, entries_seen}
@@ -140,8 +142,8 @@ names-of c (t ∷ ts) (x ∷ xs) zip = ap (λ n. n ∷ ts) (sym zip.0.name) ∙ 
 -- ---- the book
 
 pub stands-at-first : (c : Config) (names : Names) (b : Book) → Formed c → c.names ≡ Some names → AllZip (IsTable c) names.tables b.tables.items → b.odd ≡ false → b.seed ≡ c.seed
-    → b.nodes ≡ node_count_of c → BookStands c (own_cells c) (entries_spelled c names) b
-stands-at-first c names b formed named zip odd seed nodes =
+    → b.nodes ≡ node_count_of c → b.index ≡ None → BookStands c (own_cells c) (entries_spelled c names) b
+stands-at-first c names b formed named zip odd seed nodes index =
     let three : visible_with c.names ≡ 3 = ap visible_with named in
     let all = table-facts c names formed named in
     record {
@@ -157,4 +159,5 @@ stands-at-first c names b formed named zip odd seed nodes =
           (funext (entries_of_node c names) (entries_at false b.tables.items) (λ node. node-told c formed three names.tables b.tables.items node zip all))
           ∙ ap (λ n. map (entries_at false b.tables.items) (range_with_len 0 n)) (sym nodes)
           ∙ ap (λ o. entries_seen o b.tables.items b.nodes) (sym odd);
+      index = subst (λ (o : Option BookIndex). IfSome o (IsBookIndex b.odd b.tables.items)) (sym index) tt;
     }

@@ -1,6 +1,6 @@
 -- A book whose entries were loaded into cells anew stands for the cells behind the commit.
 use Rattle.std.proofs.Common.{◌≡◌, ◌≢◌, ℕ, zero, suc, ◌+◌, ◌%◌, ◌<◌, ◌==◌, Bool, true, false, not, cond, List, [], ◌∷◌, get_or, length, map, Option, Some, None, option_map, unwrap_or, refl, sym, ap, ◌∙◌, subst, arith}
-use Rattle.std.specs.Prelude.{All, AllPairs, Vec, find, slice_get}
+use Rattle.std.specs.Prelude.{All, AllPairs, IfSome, Vec, find, slice_get}
 use Rattle.std.specs.Global.{Global}
 use Rattle.std.specs.List.{AllZip, range_with_len}
 use Rattle.std.proofs.lemmas.Bool.{eq-eqb, eqb-true, false≢true, ne_eqb}
@@ -23,9 +23,11 @@ use Rattle.rmt_config.specs.NamesForm.{by_number}
 use Rattle.rmt_config.specs.Rooms.{is_at}
 use Rattle.rmt_config.specs.RunCells.{RunCells, emptied, no_content, slot_at, with_version}
 use Rattle.rmt_update.specs.declared.book.Book.{Book}
+use Rattle.rmt_update.specs.declared.book.book_index.BookIndex.{BookIndex}
 use Rattle.rmt_update.specs.declared.book.spots.Spot.{Spot}
 use Rattle.rmt_update.specs.declared.book.table.PartCells.{PartCells}
 use Rattle.rmt_update.specs.declared.book.table.TableCells.{TableCells}
+use Rattle.rmt_update.specs.BookIndex.{IsBookIndex}
 use Rattle.rmt_update.specs.BookStands.{BookStands, HaveOwnNumbers, HoldsTable, IsUsed}
 use Rattle.rmt_update.specs.Loads.{AreTables, table_of}
 use Rattle.rmt_update.specs.Moved.{with_parts}
@@ -254,9 +256,9 @@ module _ (c : Config) (names : Names) (cells : RunCells) (before : List (List En
 
   -- ---- the book
 
-  pub stands-moved : (b2 : Book) → length after ≡ length before → b2.odd ≡ not b.odd → b2.seed ≡ seed → b2.nodes ≡ b.nodes → b2.tables.items ≡ with_parts b.tables.items moved
+  pub stands-moved : (b2 : Book) → length after ≡ length before → b2.odd ≡ not b.odd → b2.seed ≡ seed → b2.nodes ≡ b.nodes → b2.tables.items ≡ with_parts b.tables.items moved → b2.index ≡ None
       → BookStands c (with_version (filled c names cells (placed_from c 0 after spots)) seed) after b2
-  stands-moved b2 long odd seed_is nodes tables = record {
+  stands-moved b2 long odd seed_is nodes tables index = record {
     formed = stands.formed;
     names = stands.names ∙ ap (λ (ns : List TableName). Some (record { tables = ns })) (sym (ap (map (λ (t : TableCells). t.name)) tables ∙ with-names b.tables.items moved));
     version = odd ∙ ap not stands.version ∙ next-odd cells.version;
@@ -265,4 +267,5 @@ module _ (c : Config) (names : Names) (cells : RunCells) (before : List (List En
     numbers = own-numbers;
     readable = subst (All (IsReadable b2.odd)) (sym tables) (readable-all b2.odd);
     lists = lists-are b2.odd long ∙ ap (λ ts. entries_seen b2.odd ts b.nodes) (sym tables) ∙ ap (entries_seen b2.odd b2.tables.items) (sym nodes);
+    index = subst (λ (o : Option BookIndex). IfSome o (IsBookIndex b2.odd b2.tables.items)) (sym index) tt;
   }

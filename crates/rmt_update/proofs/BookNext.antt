@@ -1,6 +1,6 @@
 -- A book stands for the next version behind a commit that moves no cell.
 use Rattle.std.proofs.Common.{◌≡◌, ℕ, zero, suc, ◌+◌, ◌-◌, ◌%◌, ◌<◌, not, eqb, List, [], ◌∷◌, ◌++◌, get_or, map, Some, refl, sym, ap, ◌∙◌, subst, arith}
-use Rattle.std.specs.Prelude.{slice_get}
+use Rattle.std.specs.Prelude.{IfSome, slice_get}
 use Rattle.std.specs.List.{AllZip}
 use Rattle.std.proofs.lemmas.Option.{slice_get-get_or}
 use Rattle.rmt_bits.proofs.AllLaws.{All-slice_get}
@@ -15,6 +15,7 @@ use Rattle.rmt_update.specs.declared.book.Book.{Book}
 use Rattle.rmt_update.specs.declared.book.placing.Coming.{Coming}
 use Rattle.rmt_update.specs.declared.book.table.TableCells.{TableCells}
 use Rattle.rmt_update.specs.declared.lists.Changes.{Changes}
+use Rattle.rmt_update.specs.BookIndex.{IsBookIndex}
 use Rattle.rmt_update.specs.BookStands.{BookStands}
 use Rattle.rmt_update.specs.Placing.{ArePlaced}
 use Rattle.rmt_update.specs.Planned.{MayChange, changed_lists}
@@ -42,9 +43,9 @@ turns v = by (v % 2) ((v + 1) % 2) (omega arith) (omega arith)
     by (suc (suc r)) s lt e = absurd (omega (arith, lt))
 
 pub book-next : (c : Config) (names : Names) (cells : RunCells) (lists : List (List Entry)) (ch : Changes) (b d : Book) (xs : List Coming) (stands : BookStands c cells lists b) (named : c.names ≡ Some names)
-    (may : MayChange c names cells lists ch) (placed : ArePlaced c names cells lists ch b.odd b.tables.items xs) → AreNext b.odd ch.gone xs b.tables.items d.tables.items → d.odd ≡ not b.odd → d.seed ≡ b.seed → d.nodes ≡ b.nodes
+    (may : MayChange c names cells lists ch) (placed : ArePlaced c names cells lists ch b.odd b.tables.items xs) → AreNext b.odd ch.gone xs b.tables.items d.tables.items → d.odd ≡ not b.odd → d.seed ≡ b.seed → d.nodes ≡ b.nodes → IfSome d.index (IsBookIndex d.odd d.tables.items)
     → BookStands c (with_version (settled c names cells lists (placed.stay ++ placed.coming)) cells.seed) (changed_lists lists ch) d
-book-next c names cells lists ch b d xs stands named may placed next odd seed nodes =
+book-next c names cells lists ch b d xs stands named may placed next odd seed nodes index =
     let us = d.tables.items in
     record {
       formed = stands.formed;
@@ -65,4 +66,5 @@ book-next c names cells lists ch b d xs stands named may placed next odd seed no
             order = order-here c names cells lists ch b xs stands named may placed us next i h.0 u h.1 at_u h.2 found;
           });
       lists = lists-next c names cells lists ch b xs stands named may placed us next ∙ ap (λ n. entries_seen (not b.odd) us n) (sym nodes) ∙ ap (λ o. entries_seen o us d.nodes) (sym odd);
+      index = index;
     }

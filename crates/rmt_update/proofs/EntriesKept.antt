@@ -1,18 +1,16 @@
 -- Entries that are well formed for names stay so where one is added or removed.
-use Rattle.std.proofs.Common.{◌≡◌, ◌≢◌, ◌⊎◌, ℕ, zero, suc, ◌+◌, ◌-◌, ◌^◌, ◌<◌, ◌≤◌, ◌==◌, ◌&&◌, Bool, true, false, cond, List, [], ◌∷◌, ◌++◌, length, map, Option, Some, None, option_map, unwrap_or, refl, sym, ap, subst, ◌∙◌, inl, inr, arith}
-use Rattle.std.specs.Prelude.{All, AllPairs, Contains, IsSomeAnd, find, slice_get, slice_set}
+use Rattle.std.proofs.Common.{◌≡◌, ◌≢◌, ◌⊎◌, ℕ, zero, suc, ◌+◌, ◌-◌, ◌<◌, ◌≤◌, ◌==◌, ◌&&◌, true, false, List, [], ◌∷◌, ◌++◌, length, map, Option, Some, None, option_map, unwrap_or, refl, sym, ap, subst, ◌∙◌, inl, inr, arith}
+use Rattle.std.specs.Prelude.{All, Contains, IsSomeAnd, find, slice_get, slice_set}
 use Rattle.std.specs.List.{AllZip, flat_map, list_all, range_with_len}
-use Rattle.std.proofs.Math.Pow.{pow-lt}
-use Rattle.std.proofs.lemmas.Bool.{and_from, and_parts, cases_eq, cases_lt, eqb-true, false≢true}
+use Rattle.std.proofs.lemmas.Bool.{and_from, and_parts, cases_eq, eqb-true, false≢true}
 use Rattle.std.proofs.lemmas.List.{length-append, length-set}
 use Rattle.std.proofs.lemmas.List.Elements.{All-append, All-cons, All-contains, All-contains_itself, All-map, All-nil, All-set, All-weaker}
-use Rattle.std.proofs.lemmas.List.Kept.{AllPairs-cons}
 use Rattle.std.proofs.lemmas.List.Quantifiers.{all_pairs_push}
 use Rattle.std.proofs.lemmas.Option.{none-some, same_Some, slice_get_within}
 use Rattle.rmt_bits.proofs.AllLaws.{All-find, All-flat_map, All-from_test, All-left, All-parts, All-right}
 use Rattle.rmt_bits.proofs.ListLaws.{slice_get-item, slice_get-set_other, slice_get-set_same}
 use Rattle.rmt_bits.proofs.MemberLaws.{Contains-flat_map, Contains-item, Contains-map, list_any-Contains}
-use Rattle.rmt_bits.proofs.PairLaws.{AllPairs-across, AllPairs-append, AllPairs-head, AllPairs-left, AllPairs-map, AllPairs-none, AllPairs-right, AllPairs-tail, AllPairs-weaker}
+use Rattle.rmt_bits.proofs.PairLaws.{AllPairs-across, AllPairs-append, AllPairs-left, AllPairs-right}
 use Rattle.rmt_ast.specs.declared.entry.Entry.{Entry}
 use Rattle.rmt_ast.specs.declared.names.Names.{Names}
 use Rattle.rmt_ast.specs.declared.names.TableName.{TableName}
@@ -26,6 +24,7 @@ use Rattle.rmt_ast.specs.NameRules.{AreEntriesOf, has_fields, names_are_formed, 
 use Rattle.rmt_ast.specs.WellFormed.{AreDistinct}
 use Rattle.rmt_ast.proofs.EntryLaws.{all_without}
 use Rattle.rmt_entries.specs.Entries.{has_keys_once}
+use Rattle.rmt_refine.proofs.FitLaws.{distinct_at, entries_without, numbered, one_rank, same_rank}
 use Rattle.rmt_refine.proofs.PartLaws.{and_from as some_from}
 use Rattle.rmt_update.specs.Following.{IsNextAbove}
 use Rattle.rmt_update.specs.Running.{holds, key_of_entry}
@@ -86,12 +85,6 @@ distinct_set next (x ∷ xs) (suc i) new once low own all =
     others : (p : ℕ) → Contains (entry_numbers x) p → All (Differ p) (flat_map entry_numbers (slice_set xs i new))
     others p there = numbers_set (Differ p) xs i new (across p there) (All-weaker (IsOldOrNext next (list_of xs i)) (λ (e : Entry). Differ p e.number) (other p there) new all)
 
-distinct_at : (n : ℕ) (es : List Entry) (o : Option Terms) → AreEntriesAt n es o → AreDistinct (entry_numbers es)
-distinct_at n es None are = subst (λ (xs : List Entry). AreDistinct (entry_numbers xs)) (sym are) (AllPairs-none Differ)
-distinct_at n es (Some t) are =
-    AllPairs-map Differ (λ (e : Entry). e.number) es
-    (AllPairs-weaker (λ (a b : Entry). a.number < b.number) (λ (a b : Entry). Differ a.number b.number) (λ a b lt same. absurd (omega (arith, lt, same))) es are.rising)
-
 -- ---- a list in place of another
 
 module _ (names : Names) (s : Installed) (entries : AreEntriesOf names s.lists) (above : IsNextAbove s) (i : ℕ) (new : List Entry) (good : i < length s.lists → AreEntriesAt i new (terms_named names i)) where
@@ -132,39 +125,6 @@ module _ (names : Names) (s : Installed) (entries : AreEntriesOf names s.lists) 
       }
 
 -- ---- an entry is added
-
-abbrev numbered : Entry → ℕ → Entry
-numbered e n = record e { number = n }
-
-same_rank : (k : Kind) (ws : List ℕ) (e : Entry) (n : ℕ) → HasRank k ws e → HasRank k ws (numbered e n)
-same_rank kind.Keyless ws e n h = h
-same_rank kind.Exact ws e n h = h
-same_rank kind.Prefix ws e n h = h
-same_rank kind.Ternary ws e n h = h
-
--- prefixes of one mask have one length
-one_length : (w a b : ℕ) → a ≤ w → b ≤ w → 2 ^ w - 2 ^ (w - a) ≡ 2 ^ w - 2 ^ (w - b) → a < b → ⊥
-one_length w a b la lb e lt =
-    let less : 2 ^ (w - b) < 2 ^ (w - a) = pow-lt (omega (arith, lt, la, lb)) in
-    let top : 2 ^ (w - a) ≤ 2 ^ w = elim (cases_eq a 0) [
-      | inl none ↦ (let same : w - a ≡ w = omega (arith, none) in subst (λ m. 2 ^ m ≤ 2 ^ w) (sym same) (omega arith))
-      | inr some ↦ (let less : 2 ^ (w - a) < 2 ^ w = pow-lt (omega (arith, some, la)) in omega (arith, less))
-    ] in
-    powers (2 ^ w) (2 ^ (w - a)) (2 ^ (w - b)) less top e
-  where
-    powers : (x y z : ℕ) → z < y → y ≤ x → x - y ≡ x - z → ⊥
-    powers x y z lt le same = omega (arith, lt, le, same)
-
-one_rank : (ws : List ℕ) (ts : List Test) (a b : ℕ) → 1 ≤ length ws → AllZip (IsPrefix a) ws ts → AllZip (IsPrefix b) ws ts → a ≡ b
-one_rank [] ts a b some ha hb = absurd (omega (arith, some))
-one_rank (w ∷ ws) [] a b some ha hb = absurd ha
-one_rank (w ∷ ws) (t ∷ ts) a b some ha hb = elim (cases_lt a b) [
-  | inl lt ↦ absurd (one_length w a b ha.0.0 hb.0.0 (sym ha.0.1 ∙ hb.0.1) lt)
-  | inr ge ↦ elim (cases_eq a b) [
-    | inl same ↦ same
-    | inr other ↦ absurd (one_length w b a hb.0.0 ha.0.0 (sym hb.0.1 ∙ ha.0.1) (omega (arith, ge, other)))
-  ]
-]
 
 -- entries with the same tests have the same key
 ranks_agree : (k : Kind) (ws : List ℕ) (e o : Entry) → has_keys_once k ≡ true → (k ≡ kind.Prefix → 1 ≤ length ws) → HasRank k ws e → HasRank k ws o → e.tests ≡ o.tests → e.rank ≡ o.rank
@@ -243,37 +203,6 @@ entries_added names s e t formed entries above told is new room =
         (table_added e.table t (list_of s.lists e.table) e s.next (has_field names formed e.table t told) old is new room (numbers_of (λ n. n < s.next) s.lists e.table above))
 
 -- ---- an entry is removed
-
-pairs_without : (R : Entry → Entry → Type 0) (key : EntryKey) (es : List Entry) → AllPairs R es → AllPairs R (without key es)
-pairs_without R key [] all = all
-pairs_without R key (e ∷ es) all = by (is_keyed_by key e) (pairs_without R key es (AllPairs-tail R e es all))
-  where
-    by : (b : Bool) → AllPairs R (without key es) → AllPairs R (cond b es (e ∷ without key es))
-    by true rest = AllPairs-tail R e es all
-    by false rest = AllPairs-cons R e (without key es) (all_without (R e) key es (AllPairs-head R e es all)) rest
-
-fewer : (key : EntryKey) (es : List Entry) → length (without key es) ≤ length es
-fewer key [] = omega arith
-fewer key (e ∷ es) = by (is_keyed_by key e) (fewer key es)
-  where
-    by : (b : Bool) → length (without key es) ≤ length es → length (cond b es (e ∷ without key es)) ≤ length (e ∷ es)
-    by true le = omega arith
-    by false le = omega (arith, le)
-
-keys_without : (k : Kind) (key : EntryKey) (es : List Entry) → HasKeysOnce k es → HasKeysOnce k (without key es)
-keys_without kind.Keyless key es once = tt
-keys_without kind.Exact key es once = pairs_without (λ (a b : Entry). a.tests ≢ b.tests) key es once
-keys_without kind.Prefix key es once = pairs_without (λ (a b : Entry). a.tests ≢ b.tests) key es once
-keys_without kind.Ternary key es once = tt
-
-entries_without : (n : ℕ) (key : EntryKey) (es : List Entry) (o : Option Terms) → AreEntriesAt n es o → AreEntriesAt n (without key es) o
-entries_without n key es None are = ap (without key) are
-entries_without n key es (Some t) are = record {
-  each = all_without (IsEntry n t) key es are.each;
-  rising = pairs_without (λ (a b : Entry). a.number < b.number) key es are.rising;
-  keys_once = keys_without t.kind key es are.keys_once;
-  within_size = let le = fewer key es in let size = are.within_size in omega (arith, le, size);
-}
 
 pub entries_removed : (names : Names) (s : Installed) (node : ℕ) (key : EntryKey) → AreEntriesOf names s.lists → IsNextAbove s → AreEntriesOf names (removed s.lists node key)
 entries_removed names s node key entries above =

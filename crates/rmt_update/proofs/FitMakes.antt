@@ -1,7 +1,7 @@
 -- What a commit makes of cells that hold nothing, or what changed cells can put there, holds that too.
-use Rattle.std.proofs.Common.{◌≡◌, ◌≢◌, ◌⊎◌, ℕ, zero, suc, ◌+◌, ◌-◌, ◌/◌, ◌%◌, ◌^◌, ◌<◌, ◌≤◌, ◌==◌, ◌&&◌, Bool, true, false, cond, eqb, List, [], ◌∷◌, length, map, sum, Option, Some, None, option_map, unwrap_or, inl, inr, refl, sym, ap, ◌∙◌, subst, arith}
+use Rattle.std.proofs.Common.{◌≡◌, ◌≢◌, ◌⊎◌, ℕ, zero, suc, ◌+◌, ◌-◌, ◌/◌, ◌%◌, ◌^◌, ◌<◌, ◌≤◌, ◌==◌, ◌&&◌, Bool, true, false, cond, eqb, List, [], length, map, sum, Option, Some, None, option_map, unwrap_or, inl, inr, refl, sym, ap, ◌∙◌, subst, arith}
 use Rattle.std.specs.Prelude.{All, Contains, IsSomeAnd, find, slice_get, slice_index_or, nat_le}
-use Rattle.std.specs.List.{AllByRecursion, list_all, sum_by}
+use Rattle.std.specs.List.{list_all, sum_by}
 use Rattle.std.proofs.Math.Pow.{pow_mono}
 use Rattle.std.proofs.lemmas.Bool.{and_parts, eqb-false, eqb-true, eq-eqb, false≢true, leb-true}
 use Rattle.std.proofs.lemmas.List.Elements.{All-contains, All-contains_itself}
@@ -22,7 +22,6 @@ use Rattle.rmt_ast.specs.NameRules.{AreEntriesOf, terms_named, terms_of_name}
 use Rattle.rmt_config.specs.declared.config.Config.{Config}
 use Rattle.rmt_config.specs.declared.config.Memory.{Memory}
 use Rattle.rmt_config.specs.declared.config.SlotUnit.{SlotUnit}
-use Rattle.rmt_config.specs.declared.config.Stage.{Stage}
 use Rattle.rmt_config.specs.declared.config.Memory.TheVariants.{Without, Exact, Ternary}
 use Rattle.rmt_config.specs.declared.config.Unit.TheVariants.{Slot}
 use Rattle.rmt_config.specs.Cells.{Content, candidates, cells_in, is_occupied, visible_bits}
@@ -46,6 +45,7 @@ use Rattle.rmt_refine.proofs.RoomLaws.{PartIs, stages_there}
 use Rattle.rmt_refine.proofs.StageLaws.{first_code_next}
 use Rattle.rmt_refine.proofs.LayoutLaws.{memory_formed}
 use Rattle.rmt_refine.proofs.FilledLaws.{room_there}
+use Rattle.rmt_refine.proofs.StandLaws.{at_is, code_at}
 use Rattle.rmt_update.specs.Encoded.{part_of}
 use Rattle.rmt_update.specs.Fitting.{AreFit, HasEntry, IsFitting, MaskFits}
 use Rattle.rmt_update.proofs.BookLaws.{TableFacts, names-fit, table-facts}
@@ -132,24 +132,12 @@ mask-fits kind.Ternary Without bits mask is whole low = absurd (false≢true is)
 mask-fits kind.Ternary (Exact k p d w ks rs cs) bits mask is whole low = absurd (false≢true is)
 mask-fits kind.Ternary (Ternary d ks rs cs) bits mask is whole low = low
 
-code-at : (xs : List Stage) (k : ℕ) (x : Stage) → AllByRecursion (λ (s : Stage). sum_by unit_instructions s.units ≤ 32) xs → slice_get xs k ≡ Some x → sum_by unit_instructions x.units ≤ 32
-code-at [] k x all e = absurd (none-some x e)
-code-at (y ∷ ys) zero x all e = subst (λ (s : Stage). sum_by unit_instructions s.units ≤ 32) (same_Some y x e) all.0
-code-at (y ∷ ys) (suc k) x all e = code-at ys k x all.1 e
-
 -- a room's part is one of the node's
 room-part : (c : Config) (seed node key : ℕ) (room : Room) → Contains (rooms_for c seed node key) room → Contains (parts_of c node) room.part
 room-part c seed node key room there =
     let r = from_flat_map (λ (p : PartAt). map (λ n. record { part = p; cell = n }) (candidates seed (bits_of_lanes p.slot.keys) p.slot.memory key)) (parts_of c node) room there in
     let q = Contains-unmap (λ n. record { part = r.0; cell = n }) (candidates seed (bits_of_lanes r.0.slot.keys) r.0.slot.memory key) room r.2 in
     subst (Contains (parts_of c node)) (ap (λ (x : Room). x.part) q.2) r.1
-
--- the place of a room
-there-at : (k place n : ℕ) (room : Room) → is_at k place n room ≡ true → (room.part.stage ≡ k) × (room.part.place ≡ place) × (room.cell ≡ n)
-there-at k place n room at =
-    let parts = and_parts ((room.part.stage == k) && (room.part.place == place)) (room.cell == n) at in
-    let two = and_parts (room.part.stage == k) (room.part.place == place) parts.0 in
-    (eqb-true room.part.stage k two.0, eqb-true room.part.place place two.1, eqb-true room.cell n parts.1)
 
 module _ (c : Config) (names : Names) (formed : Formed c) (limits : IsWithinLimits c) (named : c.names ≡ Some names) where
   -- the table of a node
@@ -200,7 +188,7 @@ module _ (c : Config) (names : Names) (formed : Formed c) (limits : IsWithinLimi
       let unit_is : slice_get r.stage.units p.place ≡ Some (Slot p.slot) = u.1 ∙ ap Some (slot_is_unit u.0 p.slot u.2) in
       let next = first_code_next r.stage p.place (Slot p.slot) unit_is in
       let below = sum_by-take-le unit_instructions r.stage.units (p.place + 1) in
-      let limit = code-at c.stages p.stage r.stage (limits_kept c limits).code r.part.stage_is in
+      let limit = code_at c.stages p.stage r.stage (limits_kept c limits).code r.part.stage_is in
       few p.first (first_code r.stage p.place) (first_code r.stage (p.place + 1)) (sum_by unit_instructions r.stage.units) p.slot.actions first_is next below limit
     where
       few : (first code behind whole actions : ℕ) → first ≡ code → behind ≡ code + (actions + 1) → behind ≤ whole → whole ≤ 32 → first + actions < 32
@@ -277,7 +265,7 @@ module _ (c : Config) (names : Names) (formed : Formed c) (limits : IsWithinLimi
       → terms_named names q.entry.table ≡ Some t → Contains (rooms_for c seed q.entry.table (key_number t q.entry)) q.room → is_at k place n q.room ≡ true → slot_at c k place ≡ Some slot
       → 1 ≤ visible → visible < 4 → HasEntry slot (entry_content t q.room.part visible q.entry)
   room-fits after k place n seed q t slot visible are there terms room here at some few =
-      let place_is = there-at k place n q.room here in
+      let place_is = at_is k place n q.room here in
       let part = room-part c seed q.entry.table (key_number t q.entry) q.room room in
       subst (λ (s : SlotUnit). HasEntry s (entry_content t q.room.part visible q.entry)) (its-slot q.entry.table k place q.room.part slot part place_is.0 place_is.1 at)
       (entry-fits q.entry.table t q.room.part q.entry visible terms part (entry-of after q.entry t are there terms) some few)
@@ -323,7 +311,7 @@ module _ (c : Config) (names : Names) (formed : Formed c) (limits : IsWithinLimi
     placed-fit q put here = by put.kept
       where
         same : content_in cells q.room ≡ cells.content k place n
-        same = let t = there-at k place n q.room here in λ i. cells.content (t.0 i) (t.1 i) (t.2 i)
+        same = let t = at_is k place n q.room here in λ i. cells.content (t.0 i) (t.1 i) (t.2 i)
 
         by : Stays c names cells before q ⊎ Comes c names cells before q → HasEntry slot (settled_content c names cells before (Some q) k place n)
         by (inl kept) =

@@ -21,7 +21,7 @@ own-place w =
     (eq-eqb w.cell w.cell refl)
 
 -- a changed cell of a list in order is the one of its place
-own-change : (c : Config) (ws : List CellWrite) (w : CellWrite) → AllPairs (λ a b. writes_before a b ≡ true) ws → Contains ws w → change_of c w.stage w.unit w.cell ws ≡ Some w
+pub own-change : (c : Config) (ws : List CellWrite) (w : CellWrite) → AllPairs (λ a b. writes_before a b ≡ true) ws → Contains ws w → change_of c w.stage w.unit w.cell ws ≡ Some w
 own-change c [] w order there = absurd (let lt = there.1 in omega (arith, lt))
 own-change c (x ∷ ws) w order there = elim (Contains-split x ws w there) [
   | inl same ↦

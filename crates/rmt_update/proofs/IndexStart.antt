@@ -3,7 +3,7 @@ use Rattle.std.proofs.Common.{◌≡◌, ◌≢◌, ◌⊎◌, ℕ, ◌+◌, ◌
 use Rattle.std.specs.Prelude.{All, Contains, slice_get, unwrap_or}
 use Rattle.std.specs.List.{AllZip, list_any}
 use Rattle.std.specs.BTreeMap.{get}
-use Rattle.std.specs.BTreeSet.{BTreeSet, contains}
+use Rattle.std.specs.BTreeSet.{contains}
 use Rattle.std.specs.Ordering.{nat_cmp, ordering_reverse}
 use Rattle.std.specs.declared.cmp.Ordering.TheVariants.{Less}
 use Rattle.std.proofs.lemmas.Bool.{and_parts, cases_lt, false≢true, false_from_ne_true}
@@ -195,8 +195,8 @@ module _ (w : Run) (b : Book) (ch : Changes) (run : IsRunOf b ch w) (ordered : A
 
     -- ---- its rows
 
-    module _ (gone : BTreeSet ℕ) (is_gone : (n : ℕ) → contains nat_cmp gone n ≡ is_among ch.gone n) (order : RowOrder) (rowed : has_rows x.name.kind ≡ true)
-        (are : AreRows x.name.kind b.odd gone (rows_of x.parts.items) order) where
+    module _ (order : RowOrder) (rowed : has_rows x.name.kind ≡ true)
+        (are : AreRows x.name.kind b.odd (is_among ch.gone) (rows_of x.parts.items) order) where
       abbrev k_of : Kind
       k_of = x.name.kind
 
@@ -217,7 +217,7 @@ module _ (w : Run) (b : Book) (ch : Changes) (run : IsRunOf b ch w) (ordered : A
         at_room : slice_get (row_rooms parts) i ≡ Some room
         listed : Contains the_staying (record { entry = told_entry x.name first k; room = room })
 
-      row-stays : (i : ℕ) (k : Kept) → slice_get (rows_of x.parts.items) i ≡ Some (Some k) → Stays b.odd gone k → RowStays i k
+      row-stays : (i : ℕ) (k : Kept) → slice_get (rows_of x.parts.items) i ≡ Some (Some k) → Stays b.odd (is_among ch.gone) k → RowStays i k
       row-stays i k row stays =
           let lt = slice_get_within (rows_of x.parts.items) i (Some k) row in
           let long = rows-long parts x.parts.items shapes in
@@ -229,7 +229,7 @@ module _ (w : Run) (b : Book) (ch : Changes) (run : IsRunOf b ch w) (ordered : A
           let f = spot-facts w.config w.names w.cells w.lists b run.stands run.named s z in
           let part : f.part ≡ r.p = same_Some f.part r.p (sym f.there ∙ r.is.there) in
           let h : StaysAt b.odd ch.gone tables s (told_entry x.name y.0.first k) =
-          record { at = z; kept = k; there = kept; seen = stays.0; stays = sym (is_gone k.number) ∙ stays.1; tells = refl } in
+          record { at = z; kept = k; there = kept; seen = stays.0; stays = stays.1; tells = refl } in
           record {
             first = y.0.first;
             room = room_of w.config tables s;
@@ -297,7 +297,7 @@ module _ (w : Run) (b : Book) (ch : Changes) (run : IsRunOf b ch w) (ordered : A
           let row : slice_get (rows_of x.parts.items) i ≡ Some (Some h.kept) = row-there parts x.parts.items i s.0.at.part s.0.at.cell f.part z.part shapes is in_parts ∙ ap Some h.there in (
             i,
             room-there parts i s.0.at.part s.0.at.cell f.part is ∙ ap Some (sym (s.2 ∙ f.room)),
-            ap (λ (e : Entry). get pair_cmp order.rows (entry_key k_of e)) h.tells ∙ are.all i h.kept row (h.seen, is_gone h.kept.number ∙ h.stays),
+            ap (λ (e : Entry). get pair_cmp order.rows (entry_key k_of e)) h.tells ∙ are.all i h.kept row (h.seen, h.stays),
           )
 
       in-order : AreInOrder order.rows

@@ -19,9 +19,9 @@ use Rattle.rmt_bits.proofs.PairLaws.{AllPairs-none}
 use Rattle.rmt_config.specs.declared.cell_write.CellWrite.{CellWrite}
 use Rattle.rmt_config.specs.Commits.{writes_before}
 use Rattle.rmt_config.specs.RunCells.{is_changed}
+use Rattle.rmt_refine.proofs.FindLaws.{same_number}
 use Rattle.rmt_update.specs.declared.book.changing.CellChange.{CellChange}
 use Rattle.rmt_update.specs.Changing.{ChangeKey, change_key, key_cmp}
-use Rattle.rmt_update.proofs.RankLaws.{same-number}
 
 -- a changed cell stands by its own key
 abbrev pub IsKeyed : ChangeKey × CellChange → Type 0
@@ -46,9 +46,9 @@ same-key : (w : CellWrite) (k place n : ℕ) → is_eq (key_cmp ((k, place), n) 
 same-key w k place n =
     both (ordering_then (nat_cmp k w.stage) (nat_cmp place w.unit)) (nat_cmp n w.cell)
     ∙ ap (λ b. b && is_eq (nat_cmp n w.cell)) (both (nat_cmp k w.stage) (nat_cmp place w.unit))
-    ∙ ap (λ b. (b && is_eq (nat_cmp place w.unit)) && is_eq (nat_cmp n w.cell)) (same-number k w.stage ∙ eqb-sym k w.stage)
-    ∙ ap (λ b. (eqb w.stage k && b) && is_eq (nat_cmp n w.cell)) (same-number place w.unit ∙ eqb-sym place w.unit)
-    ∙ ap (λ b. (eqb w.stage k && eqb w.unit place) && b) (same-number n w.cell ∙ eqb-sym n w.cell)
+    ∙ ap (λ b. (b && is_eq (nat_cmp place w.unit)) && is_eq (nat_cmp n w.cell)) (same_number k w.stage ∙ eqb-sym k w.stage)
+    ∙ ap (λ b. (eqb w.stage k && b) && is_eq (nat_cmp n w.cell)) (same_number place w.unit ∙ eqb-sym place w.unit)
+    ∙ ap (λ b. (eqb w.stage k && eqb w.unit place) && b) (same_number n w.cell ∙ eqb-sym n w.cell)
   where
     both : (o p : Ordering) → is_eq (ordering_then o p) ≡ (is_eq o && is_eq p)
     both Less p = refl

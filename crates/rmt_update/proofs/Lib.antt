@@ -1,4 +1,5 @@
 pub mod AfterLaws
+pub mod ApartLaws
 pub mod BookFacts
 pub mod BookLaws
 pub mod BookMoved
@@ -9,6 +10,7 @@ pub mod CandidateLaws
 pub mod CellsFound
 pub mod ComeCount
 pub mod ComeLaws
+pub mod ComeSeen
 pub mod ComesLaws
 pub mod ComingLaws
 pub mod CommitLaws
@@ -31,6 +33,8 @@ pub mod FitWrites
 pub mod FoldLaws
 pub mod FollowLaws
 pub mod FreeLaws
+pub mod GoingLaws
+pub mod IndexCells
 pub mod IndexStart
 pub mod InsertLaws
 pub mod KeptContent
@@ -38,7 +42,6 @@ pub mod KeptLaws
 pub mod KeptOrder
 pub mod KeyLaws
 pub mod KeyedLaws
-pub mod LeavingLaws
 pub mod LeftLaws
 pub mod LikeLaws
 pub mod ListedLaws
@@ -53,9 +56,13 @@ pub mod MapLaws
 pub mod MovedLaws
 pub mod NamedLaws
 pub mod NewLaws
+pub mod NextCells
+pub mod NextIndexLaws
+pub mod NextIndexSteps
 pub mod NextLists
 pub mod NextNumbers
 pub mod NextOrder
+pub mod NextRowLaws
 pub mod NextTables
 pub mod NodeLaws
 pub mod NodeLists
@@ -69,11 +76,12 @@ pub mod PartNumbers
 pub mod PartOrder
 pub mod PartPairs
 pub mod PartStages
-pub mod PartsNext
 pub mod PlacedAfter
+pub mod PlacedIndex
 pub mod PlacedLaws
 pub mod PlacingLaws
 pub mod PlacingSteps
+pub mod PutBackLaws
 pub mod PutChanges
 pub mod PutRows
 pub mod RankLaws
@@ -83,6 +91,7 @@ pub mod RoomGiven
 pub mod RoomNumbers
 pub mod RowIndexLaws
 pub mod RowKeyLaws
+pub mod RowNumbers
 pub mod RowOrderLaws
 pub mod RowRise
 pub mod RowRooms
@@ -90,7 +99,9 @@ pub mod RowsInOrder
 pub mod RowsStand
 pub mod SameKept
 pub mod SameNumbers
+pub mod SameTables
 pub mod SeenLaws
+pub mod SettleFacts
 pub mod SettleLaws
 pub mod SettledCells
 pub mod SettledKept
@@ -105,8 +116,10 @@ pub mod SpotsFit
 pub mod StandLaws
 pub mod StayLaws
 pub mod TableRules
+pub mod TakenLaws
 pub mod ToldEntryLaws
 pub mod ToldLaws
+pub mod TurnWriteLaws
 pub mod TurnedLaws
 pub mod WordLaws
 pub mod WritesLaws

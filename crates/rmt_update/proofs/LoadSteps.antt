@@ -125,9 +125,9 @@ module _ (c : Config) (names : Names) (cells : RunCells) (lists : List (List Ent
 
       pub planned : (plan : Plan) (b2 : Book) → placed_after c names cells lists (changed_lists lists ch) ≡ None → plan.moved ≡ true → plan.seed ≡ loaded.seed
           → ((g : Goal) → All (IsGoal g) (all_pairs b.tables.items moved) → AreDifferences (all_pairs b.tables.items moved) plan.writes.items g)
-          → b2.odd ≡ not b.odd → b2.seed ≡ loaded.seed → b2.nodes ≡ b.nodes → b2.tables.items ≡ with_parts b.tables.items moved
+          → b2.odd ≡ not b.odd → b2.seed ≡ loaded.seed → b2.nodes ≡ b.nodes → b2.tables.items ≡ with_parts b.tables.items moved → b2.index ≡ None
           → (next : RunCells) × IsPlanned c names cells lists (changed_lists lists ch) plan next b2
-      planned plan b2 none moved_is seed differ odd seed2 nodes tables =
+      planned plan b2 none moved_is seed differ odd seed2 nodes tables index =
           let next = filled c names cells (placed_from c 0 (changed_lists lists ch) loaded.spots) in (
             next,
             record {
@@ -137,6 +137,6 @@ module _ (c : Config) (names : Names) (cells : RunCells) (lists : List (List Ent
               writes = writes-are c cells lists b stands next loaded.seed moved held plan.writes.items differ;
               sizes = writes-sized c cells lists b stands next loaded.seed moved held plan.writes.items differ;
               stands = subst (λ s. BookStands c (with_version next s) (changed_lists lists ch) b2) (sym seed)
-                  (stands-moved c names cells lists b stands named (changed_lists lists ch) may.formed loaded.seed loaded.spots is.many is.filled moved all b2 (changed-length lists ch) odd seed2 nodes tables);
+                  (stands-moved c names cells lists b stands named (changed_lists lists ch) may.formed loaded.seed loaded.spots is.many is.filled moved all b2 (changed-length lists ch) odd seed2 nodes tables index);
             },
           )

@@ -1,6 +1,6 @@
 -- The entries that the next version sees in a book behind a commit that moves no cell are those that the changes leave.
-use Rattle.std.proofs.Common.{◌≡◌, ◌≢◌, ◌⊎◌, ℕ, zero, suc, ◌+◌, ◌%◌, ◌/◌, ◌*◌, ◌<◌, ◌==◌, Bool, true, false, not, cond, eqb, List, [], ◌∷◌, ◌++◌, length, get_or, map, Option, Some, None, option_map, unwrap_or, refl, sym, ap, ◌∙◌, subst, inl, inr, arith}
-use Rattle.std.specs.Prelude.{All, AllPairs, Contains, IsSome, filter, find, slice_get}
+use Rattle.std.proofs.Common.{◌≡◌, ◌≢◌, ◌⊎◌, ℕ, zero, suc, ◌+◌, ◌<◌, ◌==◌, Bool, true, false, not, cond, List, [], ◌∷◌, ◌++◌, length, get_or, map, Option, Some, None, option_map, unwrap_or, refl, sym, ap, ◌∙◌, subst, inl, inr, arith}
+use Rattle.std.specs.Prelude.{AllPairs, Contains, IsSome, filter, find, slice_get}
 use Rattle.std.specs.List.{AllZip, enumerate_from, range_with_len}
 use Rattle.std.specs.BTreeMap.{get, keys}
 use Rattle.std.specs.Ordering.{eq_by_cmp, nat_cmp}
@@ -36,7 +36,6 @@ use Rattle.rmt_update.specs.declared.lists.Changes.{Changes}
 use Rattle.rmt_update.specs.BookSpots.{kept_at}
 use Rattle.rmt_update.specs.BookStands.{BookStands, IsUsed}
 use Rattle.rmt_update.specs.NextKept.{bit_of}
-use Rattle.rmt_update.specs.Open.{is_kept_seen}
 use Rattle.rmt_update.specs.Placing.{ArePlaced, IsBookSpot, TakesCell}
 use Rattle.rmt_update.specs.Planned.{MayChange, changed_list, changed_lists}
 use Rattle.rmt_update.specs.Running.{is_among}
@@ -44,7 +43,8 @@ use Rattle.rmt_update.specs.Seen.{HaveNumbers, entries_at, entries_by_part, entr
 use Rattle.rmt_update.specs.Told.{told_entry}
 use Rattle.rmt_update.specs.Turning.{AreNext, IsSamePart, IsSameTable, come_to, is_spot, left_kept}
 use Rattle.rmt_update.proofs.ByNumberLaws.{from-by_number, to-by_number}
-use Rattle.rmt_update.proofs.CellsFound.{are-tables, kept-is, nodes-rise, one-node, one-spot, own_names, spot-part}
+use Rattle.rmt_update.proofs.CellsFound.{are-tables, nodes-rise, one-node, one-spot, own_names}
+use Rattle.rmt_update.proofs.ComeSeen.{comes-seen, no-come}
 use Rattle.rmt_update.proofs.LikeLaws.{like-from, like-of, like-seen, like-told}
 use Rattle.rmt_update.proofs.NextNumbers.{NextIs, new, old, entry-behind, next-is, old-used, same-cell}
 use Rattle.rmt_update.proofs.NextTables.{IsTwoParts, at-part, at-table, beside, kept-within, spot-of, two-parts}
@@ -58,7 +58,7 @@ use Rattle.rmt_update.proofs.ZipLaws.{zip-left}
 
 -- ---- what is seen
 
-three-seen : (odd : Bool) (k : Kept) → is_seen odd (record k { visible = 3 }) ≡ true
+pub three-seen : (odd : Bool) (k : Kept) → is_seen odd (record k { visible = 3 }) ≡ true
 three-seen true k = refl
 three-seen false k = refl
 
@@ -326,7 +326,7 @@ module _ (c : Config) (names : Names) (cells : RunCells) (lists : List (List Ent
               let cell = seen-cell m e h.0 in
               let stays : is_among ch.gone cell.kept.number ≡ false = not-true (is_among ch.gone cell.kept.number) (ap (λ (x : Entry). not (is_among ch.gone x.number)) cell.is ∙ h.1) in
               let left : left_kept b.odd ch.gone (kept_at ts cell.s) ≡ Some (record cell.kept { visible = 3 }) = ap (left_kept b.odd ch.gone) cell.there ∙ left-stays b.odd ch.gone cell.kept cell.seen stays in
-              let is : next_at c names cells lists ch b xs stands named placed cell.s ≡ Some (record cell.kept { visible = 3 }) = none-come xs cell.s (left_kept b.odd ch.gone (kept_at ts cell.s)) (no-come cell.s cell.kept cell.there cell.seen) ∙ left in
+              let is : next_at c names cells lists ch b xs stands named placed cell.s ≡ Some (record cell.kept { visible = 3 }) = none-come xs cell.s (left_kept b.odd ch.gone (kept_at ts cell.s)) (no-come c cells lists b stands placed.coming xs placed.takes cell.s cell.kept cell.there cell.seen) ∙ left in
               subst (Contains (entries_by_part (not b.odd) u)) cell.is
               (seen-next cell.s cell.at (record cell.kept { visible = 3 }) (table-of cell.s cell.at cell.node) is (three-seen (not b.odd) cell.kept))
           | inr came ↦
@@ -340,19 +340,12 @@ module _ (c : Config) (names : Names) (cells : RunCells) (lists : List (List Ent
               let x = zip-left (TakesCell c cells.seed b.odd ts) placed.coming xs q.1.0 q.0 placed.takes at_q in
               let node : x.2.at.table.name.node ≡ m = sym x.2.node ∙ ap (λ (y : Entry). y.table) q.2 ∙ sym (eqb-true m e.table h.1) in
               subst (Contains (entries_by_part (not b.odd) u)) (x.2.keeps.told ∙ q.2)
-              (seen-next x.0.spot x.2.at x.0.kept (table-of x.0.spot x.2.at node) (come-here xs x.0 (left_kept b.odd ch.gone (kept_at ts x.0.spot)) placed.apart (Contains-item xs q.1.0 x.0 x.1)) (comes-seen q.0 x.0 x.2))
+              (seen-next x.0.spot x.2.at x.0.kept (table-of x.0.spot x.2.at node) (come-here xs x.0 (left_kept b.odd ch.gone (kept_at ts x.0.spot)) placed.apart (Contains-item xs q.1.0 x.0 x.1)) (comes-seen c cells lists b stands q.0 x.0 x.2))
         ]
       where
         not-true : (f : Bool) → not f ≡ true → f ≡ false
         not-true true e = absurd (false≢true e)
         not-true false e = refl
-
-        no-come : (s : BookSpot) (k : Kept) → kept_at ts s ≡ Some k → is_seen b.odd k ≡ true → All (λ (x : Coming). x.spot ≢ s) xs
-        no-come s k is seen j d lt same =
-            let x = get_or xs j d in
-            let q = beside (TakesCell c cells.seed b.odd ts) placed.coming xs x placed.takes (Contains-item xs j x (slice_get-get_or xs j d lt)) in
-            let free : is_kept_seen b.odd (kept_at ts x.spot) ≡ false = ap (is_kept_seen b.odd) (kept-is ts x.spot q.2.at) ∙ q.2.free in
-            false≢true (sym free ∙ ap (λ z. is_kept_seen b.odd (kept_at ts z)) same ∙ ap (is_kept_seen b.odd) is ∙ seen)
 
         in-all : m < b.nodes → Contains (changed_list ch (m, entries_at b.odd ts m)) e → Contains (all_entries (changed_lists lists ch)) e
         in-all lt own =
@@ -360,24 +353,6 @@ module _ (c : Config) (names : Names) (cells : RunCells) (lists : List (List Ent
             Contains-flat_map (λ (es : List Entry). es) (changed_lists lists ch) (get_or (changed_lists lists ch) m []) e
             (Contains-item (changed_lists lists ch) m (get_or (changed_lists lists ch) m []) (slice_get-get_or (changed_lists lists ch) m [] lt2))
             (subst (λ (es : List Entry). Contains es e) (sym (list-at m lt) ∙ ap (λ (o : Option (List Entry)). unwrap_or o []) (slice_get-get_or (changed_lists lists ch) m [] lt2)) own)
-
-        comes-seen : (q : Placed) (x : Coming) → TakesCell c cells.seed b.odd ts q x → is_seen (not b.odd) x.kept ≡ true
-        comes-seen q x takes =
-            let g = spot-part c cells lists b stands x.spot takes.at in
-            let kept = takes.keeps.kept g.part (sym g.holds.first) g.facts.bits g.facts.kind in
-            let visible : x.kept.visible ≡ bit_of (not b.odd) = kept.visible ∙ head-visible (bit_of (not b.odd)) (g.part.first + q.entry.action) (low (not b.odd)) in
-            own-seen (not b.odd) x.kept visible
-          where
-            low : (o : Bool) → bit_of o < 4
-            low true = omega arith
-            low false = omega arith
-
-            head-visible : (a d : ℕ) → a < 4 → (1 + 2 * a + 8 * d) / 2 % 4 ≡ a
-            head-visible a d lt = omega (arith, lt)
-
-            own-seen : (o : Bool) (k : Kept) → k.visible ≡ bit_of o → is_seen o k ≡ true
-            own-seen true k e = ap (λ v. eqb (v / 2 % 2) 1) e
-            own-seen false k e = ap (λ v. eqb (v / 1 % 2) 1) e
 
     -- no two entries that the next version sees have one number
     pub numbers-here : HaveNumbers (entries_by_part (not b.odd) u)

@@ -28,13 +28,13 @@ use Rattle.rmt_config.specs.Rooms.{PartAt}
 use Rattle.rmt_config.specs.RunCells.{as_slot, emptied, own_cells, own_content, slot_at, written_mask}
 use Rattle.rmt_config.proofs.PrefixRowLaws.{cells-within}
 use Rattle.rmt_config.proofs.SpelledParts.{held-is}
+use Rattle.rmt_refine.proofs.FindLaws.{same_number}
 use Rattle.rmt_update.specs.declared.book.kept.Kept.{Kept}
 use Rattle.rmt_update.specs.declared.book.table.PartCells.{PartCells}
 use Rattle.rmt_update.specs.BookStands.{HoldsPart, IsKeptOf, is_candidate}
 use Rattle.rmt_update.specs.Kept.{HasBytes, IsKept}
 use Rattle.rmt_update.specs.Listed.{IsListed, IsRanked}
 use Rattle.rmt_update.proofs.CandidateLaws.{IsKey, own-key, same-candidates}
-use Rattle.rmt_update.proofs.RankLaws.{same-number}
 use Rattle.rmt_update.proofs.ToldEntryLaws.{IsHead, head-occupied, head-visible, listed-heads}
 
 -- a cell without a bit
@@ -117,7 +117,7 @@ module _ (c : Config) (t : TableName) (p : PartAt) (st : PartStands c p) (named 
   find-kept n (x ∷ ns) [] zip heads fits = absurd zip
   find-kept n (x ∷ ns) (e ∷ es) zip heads fits =
       let rest = find-kept n ns es zip.1 (All-tail (IsHead c p) x ns heads) (All-tail Fits x ns fits) in
-      let same : is_eq (nat_cmp n e.0) ≡ eqb x.cell n = same-number n e.0 ∙ ap (eqb n) zip.0.at ∙ eqb-sym n x.cell in
+      let same : is_eq (nat_cmp n e.0) ≡ eqb x.cell n = same_number n e.0 ∙ ap (eqb n) zip.0.at ∙ eqb-sym n x.cell in
       let later = list_any (λ m. eqb m n) (map (λ (x : CellNumber). x.cell) ns) in
       subst (λ b. Found n (cond (eqb x.cell n) (Some x) (find (λ (x : CellNumber). eqb x.cell n) ns)) (cond b (Some e.1) (lookup (is_at (nat_cmp n)) es)) (eqb x.cell n || later)) (sym same)
       (by (eqb x.cell n) refl (find (λ (x : CellNumber). eqb x.cell n) ns) (lookup (is_at (nat_cmp n)) es) later rest)

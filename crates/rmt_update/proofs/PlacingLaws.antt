@@ -4,7 +4,7 @@ use Rattle.std.specs.Prelude.{All, AllPairs, Contains, find, fold, option_and_th
 use Rattle.std.specs.List.{AllZip, list_any}
 use Rattle.std.specs.Global.{Global}
 use Rattle.std.specs.BTreeMap.{get}
-use Rattle.std.specs.BTreeSet.{BTreeSet, contains}
+use Rattle.std.specs.BTreeSet.{BTreeSet}
 use Rattle.std.specs.Ordering.{nat_cmp}
 use Rattle.std.specs.declared.cmp.Ordering.TheVariants.{Less}
 use Rattle.std.proofs.lemmas.Bool.{and_parts, eq-eqb, false≢true, false_from_ne_true, not-true}
@@ -127,10 +127,10 @@ module _ (w : Run) (b : Book) (ch : Changes) (run : IsRunOf b ch w) (ordered : A
   -- before entries come to it
   pub index-start : (placed : List Placed) → All (λ (q : Placed). q.entry.table ≢ node) placed
       → All (λ (q : Placed). (s : BookSpot) × (z : IsBookSpot tables s) × (q.entry.table ≡ z.table.name.node) × (q.room ≡ room_of w.config tables s)) placed
-      → (gone : BTreeSet ℕ) → ((n : ℕ) → contains nat_cmp gone n ≡ is_among ch.gone n) → (index : TableIndex) → IsIndex b.odd gone x index → IndexStands w x (staying w ch ++ placed) index
-  index-start placed others there gone is_gone (Cells given) h =
+      → (index : TableIndex) → IsIndex b.odd (is_among ch.gone) x index → IndexStands w x (staying w ch ++ placed) index
+  index-start placed others there (Cells given) h =
       (h.0, none-given w.cells (staying w ch ++ placed) parts given.items (h.1 ∙ parts-long) h.2 (none-unseen w b ch run ordered at x at_x placed others there))
-  index-start placed others there gone is_gone (Rows order) h = (h.0, h.1, rows-start w b ch run ordered at x at_x placed others there gone is_gone order h.0 h.2)
+  index-start placed others there (Rows order) h = (h.0, h.1, rows-start w b ch run ordered at x at_x placed others there order h.0 h.2)
 
   -- ---- one entry
 

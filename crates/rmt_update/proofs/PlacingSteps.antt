@@ -2,15 +2,12 @@
 use Rattle.std.proofs.Common.{◌≡◌, ◌≢◌, ℕ, ◌+◌, ◌<◌, ◌≤◌, ◌==◌, ◌&&◌, true, false, not, cond, eqb, List, [], ◌∷◌, ◌++◌, append_assoc, Option, Some, None, drop, get_or, length, map, sum, take, refl, sym, ap, ◌∙◌, subst, inl, inr, arith}
 use Rattle.std.specs.Prelude.{All, Contains, filter, fold, nat_le, slice_get}
 use Rattle.std.specs.List.{AllZip, list_all}
-use Rattle.std.specs.BTreeMap.{get}
-use Rattle.std.specs.BTreeSet.{BTreeSet, contains}
-use Rattle.std.specs.Ordering.{nat_cmp}
-use Rattle.std.proofs.lemmas.Bool.{and_parts, cases_lt, eqb-true, leb-true}
+use Rattle.std.proofs.lemmas.Bool.{and_parts, eqb-true, leb-true}
 use Rattle.std.proofs.lemmas.Grind.{flat_map-append}
 use Rattle.std.proofs.lemmas.List.{append-nil, get_or-take, length-take, take-append-drop, take_all}
 use Rattle.std.proofs.lemmas.List.Elements.{All-cons, All-contains, All-nil, Contains-append_cases, Contains-get_or, at_from_Contains, filter-append}
 use Rattle.std.proofs.lemmas.List.Sums.{fold-append}
-use Rattle.std.proofs.lemmas.Option.{same_Some, slice_get-get_or, slice_get_within}
+use Rattle.std.proofs.lemmas.Option.{slice_get-get_or}
 use Rattle.rmt_bits.proofs.AllLaws.{All-from_test, All-slice_get, All-unmap}
 use Rattle.rmt_bits.proofs.PairLaws.{AllPairs-none}
 use Rattle.rmt_bits.proofs.MemberLaws.{Contains-filter, Contains-flat_map, Contains-item, Contains-map, Contains-unfilter, from_flat_map}
@@ -29,30 +26,24 @@ use Rattle.rmt_update.specs.declared.book.spot.BookSpot.{BookSpot}
 use Rattle.rmt_update.specs.declared.book.spots.Spot.{Spot}
 use Rattle.rmt_update.specs.declared.book.table.TableCells.{TableCells}
 use Rattle.rmt_update.specs.declared.lists.Changes.{Changes}
-use Rattle.rmt_update.specs.BookStands.{HoldsPart}
 use Rattle.rmt_update.specs.Come.{AreOrdered, HaveCome, IsRunOf, Run, behind, come_in, come_to, staying}
 use Rattle.rmt_update.specs.Loads.{HasShape}
 use Rattle.rmt_update.specs.Placing.{ArePlaced, IsBookSpot, StaysAt, TakesCell, room_of}
 use Rattle.rmt_update.specs.Planned.{changed_lists}
-use Rattle.rmt_update.specs.RowIndex.{HaveOwnRows, IsIndex, rows_of}
+use Rattle.rmt_update.specs.RowIndex.{IsIndex}
 use Rattle.rmt_update.specs.Running.{is_among}
 use Rattle.rmt_update.specs.Taking.{Holds, MayCome, MayGive, TakesFrom}
-use Rattle.rmt_update.proofs.BookFacts.{book-tables, holds-there, kept-facts, nodes-rising, own-there, zip-shapes}
+use Rattle.rmt_update.proofs.BookFacts.{book-tables, holds-there, nodes-rising, own-there, zip-shapes}
 use Rattle.rmt_update.proofs.BookLaws.{names-fit}
 use Rattle.rmt_update.proofs.ComeLaws.{come-is}
 use Rattle.rmt_update.proofs.ComesLaws.{none-comes}
 use Rattle.rmt_update.proofs.IndexStart.{entry-formed}
 use Rattle.rmt_update.proofs.PartOrder.{pair-at}
-use Rattle.rmt_update.proofs.PartStages.{parts-apart}
 use Rattle.rmt_update.proofs.PlacingLaws.{IndexStands, come-on, have-more, index-start, may-give, none-behind}
-use Rattle.rmt_update.proofs.RoomNumbers.{offset}
-use Rattle.rmt_update.proofs.RowRooms.{Numbered, numbered-row, row-there, rows-long}
 use Rattle.rmt_update.proofs.SliceLoops.{flat-next, take-next}
-use Rattle.rmt_update.proofs.ShapeLaws.{cells-are}
 use Rattle.rmt_update.proofs.StayLaws.{come-new, come-unnumbered, stay_placed}
 use Rattle.rmt_update.proofs.TableRules.{few-bits}
-use Rattle.rmt_update.proofs.ZipLaws.{zip-left, zip-right}
-use Rattle.rmt_refine.proofs.LayoutLaws.{memory_formed}
+use Rattle.rmt_update.proofs.ZipLaws.{zip-right}
 
 -- how far entries have come to a table: those before it, and the first so many that come to it
 pub record Progress (w : Run) (b : Book) (ch : Changes) (at : ℕ) (x : TableCells) (k : ℕ) (xs : List Coming) (index : TableIndex) : Type 0 where
@@ -111,54 +102,6 @@ module _ (w : Run) (b : Book) (ch : Changes) (run : IsRunOf b ch w) (ordered : A
       let held = beside.2.held in
       omega (arith, le, held)
 
-  -- no two of its rows have entries of one number
-  pub own-rows : HaveOwnRows (rows_of x.parts.items)
-  own-rows i j k l at_i at_j same =
-      let parts = parts_of w.config x.name.node in
-      let holds = holds-there w.config w.names w.cells w.lists b run.stands run.named at x at_x in
-      let shapes = zip-shapes w.cells parts x.parts.items holds in
-      let long = rows-long parts x.parts.items shapes in
-      let lt_i = slice_get_within (rows_of x.parts.items) i (Some k) at_i in
-      let lt_j = slice_get_within (rows_of x.parts.items) j (Some l) at_j in
-      let p = numbered-row parts i (omega (arith, lt_i, long)) in
-      let q = numbered-row parts j (omega (arith, lt_j, long)) in
-      by parts holds shapes p q at_i at_j same
-    where
-      by : (parts : List PartAt) → AllZip (HoldsPart w.cells) (parts_of w.config x.name.node) x.parts.items → AllZip HasShape (parts_of w.config x.name.node) x.parts.items
-          → (p : Numbered (parts_of w.config x.name.node) i) (q : Numbered (parts_of w.config x.name.node) j) → slice_get (rows_of x.parts.items) i ≡ Some (Some k) → slice_get (rows_of x.parts.items) j ≡ Some (Some l) → k.number ≡ l.number → i ≡ j
-      by parts holds shapes p q at_i at_j same =
-          let ps = parts_of w.config x.name.node in
-          let y = zip-left (HoldsPart w.cells) ps x.parts.items p.at p.p holds p.is.there in
-          let z = zip-left (HoldsPart w.cells) ps x.parts.items q.at q.p holds q.is.there in
-          let kept : get nat_cmp y.0.cells p.n ≡ Some k = same_Some (get nat_cmp y.0.cells p.n) (Some k) (sym (row-there ps x.parts.items i p.at p.n p.p y.0 shapes p.is y.1) ∙ at_i) in
-          let kept2 : get nat_cmp z.0.cells q.n ≡ Some l = same_Some (get nat_cmp z.0.cells q.n) (Some l) (sym (row-there ps x.parts.items j q.at q.n q.p z.0 shapes q.is z.1) ∙ at_j) in
-          let size = cells-are p.p.slot y.0.shape y.2.shape in
-          let size2 = cells-are q.p.slot z.0.shape z.2.shape in
-          let low = p.is.within in
-          let low2 = q.is.within in
-          let s : BookSpot = record { table = at; at = record { part = p.at; cell = p.n } } in
-          let t : BookSpot = record { table = at; at = record { part = q.at; cell = q.n } } in
-          let at_s : IsBookSpot tables s = record { table = x; in_tables = at_x; part = y.0; in_parts = y.1; within = omega (arith, low, size) } in
-          let at_t : IsBookSpot tables t = record { table = x; in_tables = at_x; part = z.0; in_parts = z.1; within = omega (arith, low2, size2) } in
-          let one = kept-facts w.config w.names w.cells w.lists b run.stands run.named s at_s k kept in
-          let two = kept-facts w.config w.names w.cells w.lists b run.stands run.named t at_t l kept2 in
-          let part : one.facts.part ≡ p.p = same_Some one.facts.part p.p (sym one.facts.there ∙ p.is.there) in
-          let part2 : two.facts.part ≡ q.p = same_Some two.facts.part q.p (sym two.facts.there ∙ q.is.there) in
-          let cells = run.stands.numbers one.facts.part.stage one.facts.part.place p.n two.facts.part.stage two.facts.part.place q.n one.used two.used (one.number ∙ same ∙ sym two.number) in
-          let stage : p.p.stage ≡ q.p.stage = ap (λ (r : PartAt). r.stage) (sym part) ∙ cells.0 ∙ ap (λ (r : PartAt). r.stage) part2 in
-          let e_i = p.is.number in
-          let e_j = q.is.number in
-          let apart = parts-apart w.config x.name.node (memory_formed w.config run.stands.formed) in
-          elim (cases_lt p.at q.at) [
-            | inl lt ↦ let l = pair-at (λ (a b : PartAt). a.stage < b.stage) ps p.at q.at p.p q.p apart lt p.is.there q.is.there in absurd (omega (arith, l, stage))
-            | inr le ↦ elim (cases_lt q.at p.at) [
-              | inl gt ↦ let l = pair-at (λ (a b : PartAt). a.stage < b.stage) ps q.at p.at q.p p.p apart gt q.is.there p.is.there in absurd (omega (arith, l, stage))
-              | inr ge ↦
-                  let here : p.at ≡ q.at = omega (arith, le, ge) in
-                  e_i ∙ ap (λ m. offset ps m + p.n) here ∙ ap (λ m. offset ps q.at + m) cells.2 ∙ sym e_j
-            ]
-          ]
-
   -- ---- one after another
 
   -- those that came before are of other tables
@@ -189,15 +132,15 @@ module _ (w : Run) (b : Book) (ch : Changes) (run : IsRunOf b ch w) (ordered : A
   placed-entry es ps same p there = subst (λ ys. Contains ys p.entry) same (Contains-map (λ (q : Placed). q.entry) ps p there)
 
   -- before the first
-  pub progress-start : (xs : List Coming) (gone : BTreeSet ℕ) (index : TableIndex) → HaveCome w b ch earlier xs → ((n : ℕ) → contains nat_cmp gone n ≡ is_among ch.gone n) → IsIndex b.odd gone x index → Progress w b ch at x 0 xs index
-  progress-start xs gone index h is_gone is =
+  pub progress-start : (xs : List Coming) (index : TableIndex) → HaveCome w b ch earlier xs → IsIndex b.odd (is_among ch.gone) x index → Progress w b ch at x 0 xs index
+  progress-start xs index h is =
       let none : earlier ≡ earlier ++ [] = sym (append-nil earlier) in
       record {
         have = record { placed = h.placed; entries = h.entries ∙ none; after = ap (behind w ch) (sym none) ∙ h.after; takes = h.takes; apart = h.apart };
         stands =
             index-start w b ch run ordered at x at_x h.placed
             (λ i d lt. earlier-other (get_or h.placed i d).entry (placed-entry earlier h.placed h.entries (get_or h.placed i d) (Contains-get_or h.placed i d lt)))
-            (came-there h.placed xs h.takes) gone is_gone index is;
+            (came-there h.placed xs h.takes) index is;
       }
 
   module _ (k : ℕ) (xs : List Coming) (index : TableIndex) (p : Progress w b ch at x k xs index) (e : Entry) (at_e : slice_get ch.come k ≡ Some e) where

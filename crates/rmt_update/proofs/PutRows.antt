@@ -33,8 +33,8 @@ pub none-set : (s : BTreeSet ℕ) → s.keys ≡ [] → IsNone s
 none-set s empty n = ap (list_any (is_at (nat_cmp n))) empty
 
 -- no rows
-pub rows-none : (kind : Kind) (odd : Bool) (gone : BTreeSet ℕ) (o : RowOrder) → o.rows.entries ≡ [] → o.free.keys ≡ [] → AreRows kind odd gone [] o
-rows-none kind odd gone o rows free = record {
+pub rows-none : (kind : Kind) (odd : Bool) (goes : ℕ → Bool) (o : RowOrder) → o.rows.entries ≡ [] → o.free.keys ≡ [] → AreRows kind odd goes [] o
+rows-none kind odd goes o rows free = record {
   rows = λ key row at. absurd (none-some row (sym (ap (lookup (is_at (pair_cmp key))) rows) ∙ at));
   all = λ row k at stays. absurd (none-some (Some k) at);
   free = λ row. none-set o.free free row;
@@ -51,11 +51,11 @@ part-split f n cell lt =
     ∙ ap (λ xs. xs ++ map f (range_with_len (cell + 1) (n - (cell + 1)))) (map-range_with_len_more f 0 cell cell (let e : 0 + cell ≡ cell = omega arith in e))
 
 -- the next row of a part
-pub put-next : (kind : Kind) (odd : Bool) (gone : BTreeSet ℕ) (f : ℕ → Option Kept) (n cell first : ℕ) (xs : List (Option Kept)) (o : Option Kept) (old new : RowOrder) → cell < n → length xs ≡ first
-    → HaveOwnRows (xs ++ map f (range_with_len 0 n)) → o ≡ f cell → AreRows kind odd gone (xs ++ map f (range_with_len 0 cell)) old
-    → ((zs : List (Option Kept)) → length zs ≡ first + cell → HaveOwnRows (zs ++ o ∷ []) → AreRows kind odd gone zs old → AreRows kind odd gone (zs ++ o ∷ []) new)
-    → AreRows kind odd gone (xs ++ map f (range_with_len 0 (cell + 1))) new
-put-next kind odd gone f n cell first xs o old new lt count own is are put =
+pub put-next : (kind : Kind) (odd : Bool) (goes : ℕ → Bool) (f : ℕ → Option Kept) (n cell first : ℕ) (xs : List (Option Kept)) (o : Option Kept) (old new : RowOrder) → cell < n → length xs ≡ first
+    → HaveOwnRows (xs ++ map f (range_with_len 0 n)) → o ≡ f cell → AreRows kind odd goes (xs ++ map f (range_with_len 0 cell)) old
+    → ((zs : List (Option Kept)) → length zs ≡ first + cell → HaveOwnRows (zs ++ o ∷ []) → AreRows kind odd goes zs old → AreRows kind odd goes (zs ++ o ∷ []) new)
+    → AreRows kind odd goes (xs ++ map f (range_with_len 0 (cell + 1))) new
+put-next kind odd goes f n cell first xs o old new lt count own is are put =
     let ys = map f (range_with_len 0 cell) in
     let rest = map f (range_with_len (cell + 1) (n - (cell + 1))) in
     let long = length-append xs ys in
@@ -65,7 +65,7 @@ put-next kind odd gone f n cell first xs o old new lt count own is are put =
     let all : xs ++ map f (range_with_len 0 n) ≡ ((xs ++ ys) ++ o ∷ []) ++ rest =
     ap (λ zs. xs ++ zs) (part-split f n cell lt) ∙ sym (append_assoc xs (ys ++ f cell ∷ []) rest) ∙ ap (λ zs. zs ++ rest) (sym (append_assoc xs ys (f cell ∷ [])))
     ∙ ap (λ z. ((xs ++ ys) ++ z ∷ []) ++ rest) (sym is) in
-    subst (λ zs. AreRows kind odd gone zs new) next
+    subst (λ zs. AreRows kind odd goes zs new) next
     (put (xs ++ ys) (omega (arith, long, size, count)) (own-front ((xs ++ ys) ++ o ∷ []) rest (subst HaveOwnRows all own)) are)
 
 -- those of the parts so far have numbers of their own

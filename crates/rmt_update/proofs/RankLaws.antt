@@ -1,11 +1,9 @@
 -- The ranks that names tell, by numbers in a map.
-use Rattle.std.proofs.Common.{◌≡◌, ℕ, ◌+◌, ◌^◌, ◌<◌, ◌≤◌, List, [], ◌∷◌, Bool, true, false, Option, Some, cond, drop, eqb, leb, ◌&&◌, get_or, length, option_map, subst, sum, add-one, inl, inr, refl, sym, ap, ◌∙◌, arith}
+use Rattle.std.proofs.Common.{◌≡◌, ℕ, ◌+◌, ◌^◌, ◌<◌, ◌≤◌, List, [], ◌∷◌, Bool, true, false, Option, Some, cond, drop, eqb, leb, ◌&&◌, get_or, length, option_map, subst, sum, add-one, refl, sym, ap, ◌∙◌, arith}
 use Rattle.std.specs.Prelude.{find}
-use Rattle.std.specs.Cmp.{nat_cmp_is}
 use Rattle.std.specs.Ordering.{is_eq, nat_cmp}
-use Rattle.std.specs.declared.cmp.Ordering.TheVariants.{Less, Equal, Greater}
 use Rattle.std.proofs.Math.Seq.{drop-cons}
-use Rattle.std.proofs.lemmas.Bool.{and_parts, cases_lt, eq-eqb, false≢true, leb-true, ne_eqb}
+use Rattle.std.proofs.lemmas.Bool.{and_parts, false≢true, leb-true}
 use Rattle.std.proofs.lemmas.List.Sums.{sum_by-cons}
 use Rattle.rmt_bits.specs.Bits.{number_of}
 use Rattle.rmt_ast.specs.NameRules.{are_widths}
@@ -21,17 +19,8 @@ use Rattle.rmt_config.specs.PartStands.{PartStands}
 use Rattle.rmt_config.specs.Rooms.{PartAt}
 use Rattle.rmt_config.specs.RunCells.{own_content, written_mask}
 use Rattle.rmt_config.proofs.PrefixRowLaws.{mask-small}
+pub use Rattle.rmt_refine.proofs.FindLaws.{same_number as same-number}
 use Rattle.rmt_ast.specs.declared.names.RankOf.{RankOf}
-
--- numbers that compare as equal
-pub same-number : (k q : ℕ) → is_eq (nat_cmp k q) ≡ eqb k q
-same-number k q = elim (cases_lt k q) as (λ _. is_eq (nat_cmp k q) ≡ eqb k q) [
-  | inl lt ↦ ap is_eq (sym (nat_cmp_is k q Less lt)) ∙ sym (ne_eqb k q (λ e. absurd (omega (arith, lt, e))))
-  | inr le ↦ elim (cases_lt q k) as (λ _. is_eq (nat_cmp k q) ≡ eqb k q) [
-    | inl gt ↦ ap is_eq (sym (nat_cmp_is k q Greater gt)) ∙ sym (ne_eqb k q (λ e. absurd (omega (arith, gt, e))))
-    | inr ge ↦ let e : k ≡ q = omega (arith, le, ge) in ap is_eq (sym (nat_cmp_is k q Equal e)) ∙ sym (eq-eqb k q e)
-  ]
-]
 
 -- one rank more, in front of the others
 pub told-more : (ranks : List RankOf) (at n : ℕ) (d : RankOf) (old new : Option ℕ) → at < length ranks

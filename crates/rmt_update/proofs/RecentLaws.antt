@@ -43,7 +43,7 @@ use Rattle.rmt_update.proofs.PairsTold.{cell-there, flat-pairs}
 use Rattle.rmt_update.proofs.SettledKept.{next_at}
 
 -- what is left without both visible bits goes
-recent-goes : (odd : Bool) (gone : List ℕ) (j k : Kept) → left_kept odd gone (Some j) ≡ Some k → (k.visible ≡ 3 → ⊥) → is_among gone j.number ≡ true
+pub recent-goes : (odd : Bool) (gone : List ℕ) (j k : Kept) → left_kept odd gone (Some j) ≡ Some k → (k.visible ≡ 3 → ⊥) → is_among gone j.number ≡ true
 recent-goes odd gone j k left off = by (is_seen odd j) (is_among gone j.number) refl left
   where
     by : (s g : Bool) → is_among gone j.number ≡ g → cond s (Some (record j { visible = cond g (bit_of odd) 3 })) None ≡ Some k → is_among gone j.number ≡ true

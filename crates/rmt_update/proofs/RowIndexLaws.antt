@@ -2,7 +2,7 @@
 use Rattle.std.proofs.Common.{◌≡◌, ◌⊎◌, ℕ, Bool, true, false, not, cond, List, [], ◌∷◌, ◌++◌, Option, Some, None, length, length-append, option_map, refl, sym, ap, ◌∙◌, inl, inr, arith}
 use Rattle.std.specs.Prelude.{slice_get, unwrap_or}
 use Rattle.std.specs.BTreeMap.{get, is_at}
-use Rattle.std.specs.BTreeSet.{BTreeSet, contains}
+use Rattle.std.specs.BTreeSet.{contains}
 use Rattle.std.specs.Ordering.{is_eq, nat_cmp}
 use Rattle.std.specs.declared.cmp.Ordering.{Ordering}
 use Rattle.std.specs.declared.cmp.Ordering.TheVariants.{Less, Equal, Greater}
@@ -71,7 +71,7 @@ pub own-front : (xs ys : List (Option Kept)) → HaveOwnRows (xs ++ ys) → Have
 own-front xs ys own i j k l at at2 same =
     own i j k l (slice_get-front xs ys i (slice_get_within xs i (Some k) at) ∙ at) (slice_get-front xs ys j (slice_get_within xs j (Some l) at2) ∙ at2) same
 
-module _ (kind : Kind) (odd : Bool) (gone : BTreeSet ℕ) (xs : List (Option Kept)) (o : Option Kept) (old new : RowOrder) (row : ℕ) (count : length xs ≡ row) (are : AreRows kind odd gone xs old) where
+module _ (kind : Kind) (odd : Bool) (goes : ℕ → Bool) (xs : List (Option Kept)) (o : Option Kept) (old new : RowOrder) (row : ℕ) (count : length xs ≡ row) (are : AreRows kind odd goes xs old) where
   past : slice_get xs row ≡ None
   past = slice_get_past xs row (omega (arith, count))
 
@@ -113,20 +113,20 @@ module _ (kind : Kind) (odd : Bool) (gone : BTreeSet ℕ) (xs : List (Option Kep
       ]
 
   -- a row of no entry that stays
-  pub other-row : ((q : ℕ × ℕ) → get pair_cmp new.rows q ≡ get pair_cmp old.rows q) → ((i : ℕ) → contains nat_cmp new.free i ≡ is_unseen odd (xs ++ o ∷ []) i) → ((k : Kept) → o ≡ Some k → Stays odd gone k → ⊥)
-      → AreRows kind odd gone (xs ++ o ∷ []) new
-  other-row same free goes = record {
+  pub other-row : ((q : ℕ × ℕ) → get pair_cmp new.rows q ≡ get pair_cmp old.rows q) → ((i : ℕ) → contains nat_cmp new.free i ≡ is_unseen odd (xs ++ o ∷ []) i) → ((k : Kept) → o ≡ Some k → Stays odd goes k → ⊥)
+      → AreRows kind odd goes (xs ++ o ∷ []) new
+  other-row same free none = record {
     rows = λ key r at. let before = are.rows key r (sym (same key) ∙ at) in (before.0, push-front xs o (Some before.0) r before.1, before.2, before.3);
     all = λ r k at stays. elim (push-cases xs o (Some k) r at) [
       | inl front ↦ same (kept_key kind k) ∙ are.all r k front stays
-      | inr last ↦ absurd (goes k last.1 stays)
+      | inr last ↦ absurd (none k last.1 stays)
     ];
     free = free;
   }
 
   -- that of one that stays
-  pub own-row : (k : Kept) → o ≡ Some k → Stays odd gone k → HaveOwnRows (xs ++ o ∷ []) → ((q : ℕ × ℕ) → get pair_cmp new.rows q ≡ cond (is_at (pair_cmp (kept_key kind k)) q) (Some row) (get pair_cmp old.rows q))
-      → ((i : ℕ) → contains nat_cmp new.free i ≡ is_unseen odd (xs ++ o ∷ []) i) → AreRows kind odd gone (xs ++ o ∷ []) new
+  pub own-row : (k : Kept) → o ≡ Some k → Stays odd goes k → HaveOwnRows (xs ++ o ∷ []) → ((q : ℕ × ℕ) → get pair_cmp new.rows q ≡ cond (is_at (pair_cmp (kept_key kind k)) q) (Some row) (get pair_cmp old.rows q))
+      → ((i : ℕ) → contains nat_cmp new.free i ≡ is_unseen odd (xs ++ o ∷ []) i) → AreRows kind odd goes (xs ++ o ∷ []) new
   own-row k is stays own changed free = record {
     rows = λ key r at. rows key r (is_at (pair_cmp (kept_key kind k)) key) refl (sym (changed key) ∙ at);
     all = λ r l at keeps. changed (kept_key kind l) ∙ all r l keeps at (push-cases xs o (Some l) r at) (is_at (pair_cmp (kept_key kind k)) (kept_key kind l)) refl;
@@ -137,11 +137,11 @@ module _ (kind : Kind) (odd : Bool) (gone : BTreeSet ℕ) (xs : List (Option Kep
       last = ap (slice_get (xs ++ o ∷ [])) (sym count) ∙ slice_get-pushed xs o ∙ ap Some is
 
       rows : (key : ℕ × ℕ) (r : ℕ) (b : Bool) → is_at (pair_cmp (kept_key kind k)) key ≡ b → cond b (Some row) (get pair_cmp old.rows key) ≡ Some r
-          → (l : Kept) × (slice_get (xs ++ o ∷ []) r ≡ Some (Some l)) × Stays odd gone l × (key ≡ kept_key kind l)
+          → (l : Kept) × (slice_get (xs ++ o ∷ []) r ≡ Some (Some l)) × Stays odd goes l × (key ≡ kept_key kind l)
       rows key r true at e = (k, ap (slice_get (xs ++ o ∷ [])) (sym (same_Some row r e)) ∙ last, stays, sym (same-key (kept_key kind k) key at))
       rows key r false at e = let before = are.rows key r e in (before.0, push-front xs o (Some before.0) r before.1, before.2, before.3)
 
-      all : (r : ℕ) (l : Kept) → Stays odd gone l → slice_get (xs ++ o ∷ []) r ≡ Some (Some l) → (slice_get xs r ≡ Some (Some l)) ⊎ ((r ≡ length xs) × (o ≡ Some l)) → (b : Bool) → is_at (pair_cmp (kept_key kind k)) (kept_key kind l) ≡ b
+      all : (r : ℕ) (l : Kept) → Stays odd goes l → slice_get (xs ++ o ∷ []) r ≡ Some (Some l) → (slice_get xs r ≡ Some (Some l)) ⊎ ((r ≡ length xs) × (o ≡ Some l)) → (b : Bool) → is_at (pair_cmp (kept_key kind k)) (kept_key kind l) ≡ b
           → cond b (Some row) (get pair_cmp old.rows (kept_key kind l)) ≡ Some r
       all r l keeps at where_is true e = ap Some (own row r k l last at (key-number kind k l (same-key (kept_key kind k) (kept_key kind l) e)))
       all r l keeps at (inl front) false e = are.all r l front keeps
@@ -150,17 +150,12 @@ module _ (kind : Kind) (odd : Bool) (gone : BTreeSet ℕ) (xs : List (Option Kep
           absurd (false≢true (sym e ∙ ap (λ (m : Kept). is_at (pair_cmp (kept_key kind k)) (kept_key kind m)) (sym same) ∙ own-key (kept_key kind k)))
 
   -- by what is kept of the row
-  pub gone-row : (k : Kept) → o ≡ Some k → is_seen odd k ≡ true → contains nat_cmp gone k.number ≡ true → new ≡ old → AreRows kind odd gone (xs ++ o ∷ []) new
-  gone-row k is seen goes same =
-      other-row (λ q. ap (λ (r : RowOrder). get pair_cmp r.rows q) same) (free-kept (λ i. ap (λ (r : RowOrder). contains nat_cmp r.free i) same) (ap (is_kept_seen odd) is ∙ seen))
-      (λ l e stays. false≢true (sym stays.1 ∙ ap (λ (m : Kept). contains nat_cmp gone m.number) (same_Some l k (sym e ∙ is)) ∙ goes))
-
-  pub stays-row : (k : Kept) → o ≡ Some k → is_seen odd k ≡ true → contains nat_cmp gone k.number ≡ false → HaveOwnRows (xs ++ o ∷ [])
+  pub stays-row : (k : Kept) → o ≡ Some k → is_seen odd k ≡ true → goes k.number ≡ false → HaveOwnRows (xs ++ o ∷ [])
       → ((q : ℕ × ℕ) → get pair_cmp new.rows q ≡ cond (is_at (pair_cmp (kept_key kind k)) q) (Some row) (get pair_cmp old.rows q))
-      → ((i : ℕ) → contains nat_cmp new.free i ≡ contains nat_cmp old.free i) → AreRows kind odd gone (xs ++ o ∷ []) new
+      → ((i : ℕ) → contains nat_cmp new.free i ≡ contains nat_cmp old.free i) → AreRows kind odd goes (xs ++ o ∷ []) new
   stays-row k is seen stays own changed same = own-row k is (seen, stays) own changed (free-kept same (ap (is_kept_seen odd) is ∙ seen))
 
   pub free-row : is_kept_seen odd o ≡ false → ((q : ℕ × ℕ) → get pair_cmp new.rows q ≡ get pair_cmp old.rows q)
-      → ((i : ℕ) → contains nat_cmp new.free i ≡ cond (is_at (nat_cmp row) i) true (contains nat_cmp old.free i)) → AreRows kind odd gone (xs ++ o ∷ []) new
+      → ((i : ℕ) → contains nat_cmp new.free i ≡ cond (is_at (nat_cmp row) i) true (contains nat_cmp old.free i)) → AreRows kind odd goes (xs ++ o ∷ []) new
   free-row unseen same changed =
       other-row same (free-more changed unseen) (λ k e stays. false≢true (sym unseen ∙ ap (is_kept_seen odd) e ∙ stays.0))

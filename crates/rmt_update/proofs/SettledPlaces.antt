@@ -1,13 +1,12 @@
 -- Which entry has each cell of a book behind a commit that moves none, and what is kept of the cell then.
 use Rattle.std.proofs.Common.{◌≡◌, ◌≢◌, ◌⊎◌, ℕ, zero, suc, ◌==◌, Bool, true, false, ◌&&◌, cond, List, [], ◌∷◌, ◌++◌, Option, Some, None, refl, sym, ap, ◌∙◌, subst, inl, inr, arith}
-use Rattle.std.specs.Prelude.{All, AllPairs, Contains, find, slice_get}
+use Rattle.std.specs.Prelude.{All, AllPairs, find, slice_get}
 use Rattle.std.specs.List.{AllZip}
 use Rattle.std.proofs.lemmas.Bool.{and_parts, eq-eqb, eqb-true, false≢true}
 use Rattle.std.proofs.lemmas.List.Elements.{All-contains, All-head, All-tail}
-use Rattle.std.proofs.lemmas.Option.{none-some, same_Some}
+use Rattle.std.proofs.lemmas.Option.{none-some}
 use Rattle.rmt_bits.proofs.ListLaws.{find-passes}
 use Rattle.rmt_bits.proofs.FindLaws.{find-some}
-use Rattle.rmt_bits.proofs.MemberLaws.{Contains-first, Contains-later}
 use Rattle.rmt_bits.proofs.PairLaws.{AllPairs-head, AllPairs-tail}
 use Rattle.rmt_ast.specs.declared.entry.Entry.{Entry}
 use Rattle.rmt_ast.specs.declared.names.Names.{Names}
@@ -24,6 +23,7 @@ use Rattle.rmt_update.specs.BookStands.{BookStands}
 use Rattle.rmt_update.specs.Placing.{AreStaying, IsBookSpot, StaysAt, TakesCell, room_of}
 use Rattle.rmt_update.specs.Turning.{come_to, is_spot}
 use Rattle.rmt_update.proofs.CellsFound.{one-spot, own_tables, room-is, spot-part}
+use Rattle.rmt_update.proofs.OncePlaced.{found-in}
 
 pub same-spot : (a b : BookSpot) → is_spot a b ≡ true → a ≡ b
 same-spot a b e =
@@ -52,14 +52,6 @@ find-back test (z ∷ xs) ys e = by (test z) e (find-back test xs ys)
     by : (b : Bool) → cond b (Some z) (find test xs) ≡ None → (find test xs ≡ None → find test (xs ++ ys) ≡ find test ys) → cond b (Some z) (find test (xs ++ ys)) ≡ find test ys
     by true h rest = absurd (none-some z (sym h))
     by false h rest = rest h
-
-pub found-in : {X : Type 0} (test : X → Bool) (xs : List X) (x : X) → find test xs ≡ Some x → Contains xs x
-found-in test [] x e = absurd (none-some x e)
-found-in test (z ∷ xs) x e = by (test z) e (found-in test xs x)
-  where
-    by : (b : Bool) → cond b (Some z) (find test xs) ≡ Some x → (find test xs ≡ Some x → Contains xs x) → Contains (z ∷ xs) x
-    by true h rest = subst (Contains (z ∷ xs)) (same_Some z x h) (Contains-first z xs)
-    by false h rest = Contains-later z xs x (rest h)
 
 -- ---- what comes to a cell
 

@@ -20,7 +20,7 @@ use Rattle.rmt_config.specs.MemoryRules.{ExactFits}
 use Rattle.rmt_config.specs.NamesForm.{is_of_kind}
 use Rattle.rmt_config.specs.Shapes.{divided_up}
 use Rattle.rmt_config.specs.UnitForm.{memory_is_formed, slot_head_is_formed, slot_is_formed}
-use Rattle.rmt_config.proofs.SlotLaws.{exact-fits, key_is_short}
+use Rattle.rmt_config.proofs.SlotLaws.{exact-fits}
 use Rattle.rmt_update.specs.declared.book.grid.Grid.{Grid}
 use Rattle.rmt_update.specs.declared.book.grid.Grid.TheVariants.{Ways, Rows}
 use Rattle.rmt_update.specs.declared.book.shape.Shape.{Shape}
@@ -61,9 +61,6 @@ few-cells s (Ternary d ks rs cs) head formed has low = tt
 
 pub slot-few : (s : SlotUnit) → slot_is_formed s ≡ true → has_memory s.memory ≡ true → WaysLow s.memory → HasFewCells s.memory
 slot-few s formed has low = let both = and_parts (slot_head_is_formed s) (memory_is_formed s s.memory) formed in few-cells s s.memory both.0 both.1 has low
-
-pub slot-short : (s : SlotUnit) → slot_is_formed s ≡ true → bits_of_lanes s.keys ≤ 640
-slot-short s formed = let both = and_parts (slot_head_is_formed s) (memory_is_formed s s.memory) formed in key_is_short s s.memory both.1
 
 -- ---- what a shape says of its slot
 

@@ -1,19 +1,19 @@
 -- The entries that a well-formed configuration with names spells are well formed for its names.
-use Rattle.std.proofs.Common.{◌≡◌, ◌≢◌, ◌⊎◌, inl, inr, ℕ, zero, suc, ◌+◌, ◌<◌, ◌≤◌, ◌&&◌, ◌==◌, Bool, true, false, not, cond, leb, ltb, List, [], ◌∷◌, get_or, length, map, Option, Some, None, fold, option_map, sum, unwrap_or, refl, sym, ap, ◌∙◌, subst, arith}
+use Rattle.std.proofs.Common.{◌≡◌, ◌≢◌, ◌⊎◌, inl, inr, ℕ, ◌+◌, ◌<◌, ◌≤◌, ◌&&◌, ◌==◌, Bool, true, false, not, cond, leb, ltb, List, [], ◌∷◌, get_or, length, map, Option, Some, None, fold, option_map, sum, unwrap_or, refl, sym, ap, ◌∙◌, subst, arith}
 use Rattle.std.specs.Prelude.{All, AllPairs, Contains, IsSomeAnd, find, is_some, slice_get}
 use Rattle.std.specs.List.{flat_map, list_all, range_with_len}
 use Rattle.std.specs.Str.{bytes_eq}
 use Rattle.std.proofs.lemmas.Bool.{and_parts, cases_order, eq-eqb, eqb-true, false≢true, leb-true, ltb-true}
 use Rattle.std.proofs.lemmas.List.{get_or_default, length-map}
-use Rattle.std.proofs.lemmas.List.Elements.{All-cons, All-contains, All-head, All-nil, All-tail, Contains-append_left, Contains-append_right}
+use Rattle.std.proofs.lemmas.List.Elements.{All-cons, All-contains, All-head, All-nil, All-tail}
 use Rattle.std.proofs.lemmas.List.FromFn.{length-range_with_len}
 use Rattle.std.proofs.lemmas.List.Kept.{AllPairs-cons}
-use Rattle.std.proofs.lemmas.Option.{none-some, same_Some, slice_get_within}
+use Rattle.std.proofs.lemmas.Option.{same_Some, slice_get_within}
 use Rattle.std.proofs.lemmas.Slice.Eq.{bytes_eq-Decides}
 use Rattle.rmt_bits.proofs.AllLaws.{All-find, All-flat_map, All-from_test}
 use Rattle.rmt_bits.proofs.FindLaws.{find-some}
 use Rattle.rmt_bits.proofs.ListLaws.{find-passes, slice_get-item}
-use Rattle.rmt_bits.proofs.MemberLaws.{Contains-item, Contains-map, Contains-unmap, from_flat_map}
+use Rattle.rmt_bits.proofs.MemberLaws.{Contains-item, Contains-unmap, from_flat_map}
 use Rattle.rmt_bits.proofs.MostLaws.{items-le}
 use Rattle.rmt_bits.proofs.PairLaws.{AllPairs-head, AllPairs-map, AllPairs-none, AllPairs-tail, AllPairs-weaker}
 use Rattle.rmt_ast.specs.declared.entry.Entry.{Entry}
@@ -30,8 +30,6 @@ use Rattle.rmt_ast.specs.NameRules.{AreEntriesOf, has_fields, terms_named, terms
 use Rattle.rmt_config.specs.declared.config.CellNumber.{CellNumber}
 use Rattle.rmt_config.specs.declared.config.Config.{Config}
 use Rattle.rmt_config.specs.declared.config.SlotUnit.{SlotUnit}
-use Rattle.rmt_config.specs.declared.config.Stage.{Stage}
-use Rattle.rmt_config.specs.declared.config.Unit.{Unit}
 use Rattle.rmt_config.specs.declared.config.Unit.TheVariants.{Slot}
 use Rattle.rmt_config.specs.Cells.{cells_in, number_of_cell}
 use Rattle.rmt_config.specs.Form.{Formed, visible_with}
@@ -40,13 +38,14 @@ use Rattle.rmt_config.specs.Order.{rises_from}
 use Rattle.rmt_config.specs.PartStands.{PartStands}
 use Rattle.rmt_config.specs.Rooms.{PartAt, parts_of}
 use Rattle.rmt_config.specs.RunCells.{own_cells, slot_at}
-use Rattle.rmt_config.specs.TableForm.{Placed, node_of, placed_from, placed_units}
+use Rattle.rmt_config.specs.TableForm.{Placed, node_of, placed_units}
 use Rattle.rmt_config.proofs.PrefixRowLaws.{cells-within}
 use Rattle.rmt_config.proofs.RiseLaws.{rise-below}
 use Rattle.rmt_config.proofs.SpelledParts.{parts-stand}
 use Rattle.rmt_config.proofs.SpelledWays.{parts-follow}
 use Rattle.rmt_refine.proofs.FindLaws.{found_passes}
 use Rattle.rmt_refine.proofs.LayoutLaws.{memory_formed}
+use Rattle.rmt_refine.proofs.SpelledLaws.{placed_has}
 use Rattle.rmt_refine.proofs.WrittenLaws.{all_at}
 use Rattle.rmt_update.specs.BookStands.{IsUsed}
 use Rattle.rmt_update.proofs.BookLaws.{TableFacts, names-fit, table-facts}
@@ -186,25 +185,12 @@ one-cell numbers x y rises in_x in_y same =
       | inr (inr gt) ↦ absurd (omega (arith, below in_y.0 in_x.0 x gt in_x.1, x_cell, y_cell, same))
     ]
 
-number-listed : (numbers : List CellNumber) (x : CellNumber) → rises_from 0 (map (λ (n : CellNumber). n.cell) numbers) ≡ true → Contains numbers x → number_of_cell numbers x.cell ≡ x.number
+pub number-listed : (numbers : List CellNumber) (x : CellNumber) → rises_from 0 (map (λ (n : CellNumber). n.cell) numbers) ≡ true → Contains numbers x → number_of_cell numbers x.cell ≡ x.number
 number-listed numbers x rises there =
     let first = find-some (λ (n : CellNumber). n.cell == x.cell) numbers x there (eq-eqb x.cell x.cell refl) in
     let passes = found_passes (λ (n : CellNumber). n.cell == x.cell) numbers first.0 first.1 in
     let same : first.0 ≡ x = one-cell numbers first.0 x rises passes.0 there (eqb-true first.0.cell x.cell passes.1) in
     ap (λ o. unwrap_or (option_map (λ (n : CellNumber). n.number) o) 0) first.1 ∙ ap (λ (n : CellNumber). n.number) same
-
--- a unit of a stage is among the placed ones
-placed-has : (k : ℕ) (stages : List Stage) (i : ℕ) (stage : Stage) (u : Unit) → slice_get stages i ≡ Some stage → Contains stage.units u → (x : Placed) × Contains (placed_from k stages) x × (x.unit ≡ u)
-placed-has k [] i stage u at there = absurd (none-some stage at)
-placed-has k (s ∷ stages) zero stage u at there = (
-  record { stage = k; unit = u },
-  Contains-append_left (map (λ unit. record { stage = k; unit = unit }) s.units) (placed_from (k + 1) stages) (record { stage = k; unit = u })
-      (Contains-map (λ unit. record { stage = k; unit = unit }) s.units u (subst (λ (x : Stage). Contains x.units u) (sym (same_Some s stage at)) there)),
-  refl,
-)
-placed-has k (s ∷ stages) (suc i) stage u at there =
-    let r = placed-has (k + 1) stages i stage u at there in
-    (r.0, Contains-append_right (map (λ unit. record { stage = k; unit = unit }) s.units) (placed_from (k + 1) stages) r.0 r.1, r.2)
 
 module _ (c : Config) (formed : Formed c) (names : Names) (named : c.names ≡ Some names) where
   module _ (t : TableName) (h : Kept c t) where
@@ -307,7 +293,7 @@ module _ (c : Config) (formed : Formed c) (names : Names) (named : c.names ≡ S
       let in_parts = Contains-item (parts_of c t.node) 0 p.0 p.1 in
       let st = All-contains (PartStands c) (parts_of c t.node) p.0 (parts-stand c t.node formed.items (memory_formed c formed)) in_parts in
       let own = All-contains (IsPartOf c t.node) (parts_of c t.node) p.0 (parts-own c t.node formed.items (memory_formed c formed)) in_parts in
-      let x = placed-has 0 c.stages p.0.stage st.stage (Slot p.0.slot) st.in_stages (Contains-item st.stage.units p.0.place (Slot p.0.slot) st.in_units) in
+      let x = placed_has 0 c.stages p.0.stage st.stage (Slot p.0.slot) st.in_stages (Contains-item st.stage.units p.0.place (Slot p.0.slot) st.in_units) in
       let most = All-contains (λ (y : Placed). node_of y.unit + 1 ≤ node_count_of c) (placed_units c) x.0 (items-le (λ (y : Placed). node_of y.unit + 1) 0 (placed_units c)) x.1 in
       let node : node_of x.0.unit ≡ t.node = ap node_of x.2 ∙ own.own in
       omega (arith, most, node)

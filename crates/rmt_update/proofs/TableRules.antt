@@ -24,7 +24,7 @@ use Rattle.rmt_config.specs.LaneForm.{bits_of_lanes}
 use Rattle.rmt_config.specs.NamesForm.{has_rows, is_of_kind, quanta_of}
 use Rattle.rmt_config.specs.Rooms.{PartAt, parts_of}
 use Rattle.rmt_config.specs.UnitForm.{memory_is_formed, slot_head_is_formed}
-use Rattle.rmt_config.proofs.SlotLaws.{exact-fits}
+use Rattle.rmt_config.proofs.SlotLaws.{exact-fits, slot_is_short}
 use Rattle.rmt_config.proofs.SpelledParts.{parts-stand}
 use Rattle.rmt_config.proofs.SpelledWays.{parts-follow}
 use Rattle.rmt_update.specs.declared.book.table.TableCells.{TableCells}
@@ -34,7 +34,6 @@ use Rattle.rmt_update.proofs.FirstLaws.{IsRowKind}
 use Rattle.rmt_update.proofs.PartNumbers.{SlotsFrom, parts-numbered}
 use Rattle.rmt_update.proofs.PartOrder.{IsPartOf, parts-own}
 use Rattle.rmt_update.proofs.RoomNumbers.{HasRows, IsRows, slice_get-map_range, total}
-use Rattle.rmt_update.proofs.ShapeLaws.{slot-short}
 use Rattle.rmt_update.proofs.ToldEntryLaws.{PartFacts, all-facts}
 use Rattle.rmt_refine.proofs.LayoutLaws.{memory_formed}
 
@@ -104,6 +103,25 @@ own-table c names tables lists node x are found =
       node_is = same;
     }
 
+-- the parts of prefix and ternary tables have rows
+pub rows-of : (k : Kind) (m : Memory) → IsRowKind k → is_of_kind k m ≡ true → (((seed bits key : ℕ) → candidates seed bits m key ≡ range_with_len 0 (cells_in m)) × (cells_in m ≡ 2048 * quanta_of m))
+rows-of k Without rowed is = absurd (without k rowed is)
+  where
+    without : (k : Kind) → IsRowKind k → is_of_kind k Without ≡ true → ⊥
+    without kind.Keyless r e = absurd cc
+    without kind.Exact r e = absurd cc
+    without kind.Prefix r e = absurd cc
+    without kind.Ternary r e = absurd cc
+rows-of k (Exact w p d first ks rs cs) rowed is = absurd (exact k rowed is)
+  where
+    exact : (k : Kind) → IsRowKind k → is_of_kind k (Exact w p d first ks rs cs) ≡ true → ⊥
+    exact kind.Keyless r e = absurd cc
+    exact kind.Exact (inl r) e = absurd cc
+    exact kind.Exact (inr r) e = absurd cc
+    exact kind.Prefix r e = absurd cc
+    exact kind.Ternary r e = absurd cc
+rows-of k (Ternary d ks rs cs) rowed is = ((λ seed bits key. refl), refl)
+
 module _ (c : Config) (names : Names) (lists : List (List Entry)) (node : ℕ) (x : TableCells) (h : Own c names lists node x) where
   -- a key has few bits
   pub few-bits : sum x.name.keys ≤ 640
@@ -114,7 +132,7 @@ module _ (c : Config) (names : Names) (lists : List (List Entry)) (node : ℕ) (
       first (p ∷ ps) some all =
           let f = All-head (PartFacts c x.name) p ps all in
           let same = f.bits in
-          let short = slot-short p.slot f.stands.slot in
+          let short = slot_is_short p.slot f.stands.slot in
           omega (arith, same, short)
 
   pub all-bits : All (λ (p : PartAt). bits_of_lanes p.slot.keys ≡ sum x.name.keys) (parts_of c node)
@@ -134,25 +152,6 @@ module _ (c : Config) (names : Names) (lists : List (List Entry)) (node : ℕ) (
   -- the parts of an exact table are exact
   pub exact-parts : x.name.kind ≡ kind.Exact → All (λ (p : PartAt). is_of_kind kind.Exact p.slot.memory ≡ true) (parts_of c node)
   exact-parts exact i d lt = subst (λ k. is_of_kind k (get_or (parts_of c node) i d).slot.memory ≡ true) exact (h.parts i d lt).kind
-
-  -- those of prefix and ternary tables have rows
-  rows-of : (k : Kind) (m : Memory) → IsRowKind k → is_of_kind k m ≡ true → (((seed bits key : ℕ) → candidates seed bits m key ≡ range_with_len 0 (cells_in m)) × (cells_in m ≡ 2048 * quanta_of m))
-  rows-of k Without rowed is = absurd (without k rowed is)
-    where
-      without : (k : Kind) → IsRowKind k → is_of_kind k Without ≡ true → ⊥
-      without kind.Keyless r e = absurd cc
-      without kind.Exact r e = absurd cc
-      without kind.Prefix r e = absurd cc
-      without kind.Ternary r e = absurd cc
-  rows-of k (Exact w p d first ks rs cs) rowed is = absurd (exact k rowed is)
-    where
-      exact : (k : Kind) → IsRowKind k → is_of_kind k (Exact w p d first ks rs cs) ≡ true → ⊥
-      exact kind.Keyless r e = absurd cc
-      exact kind.Exact (inl r) e = absurd cc
-      exact kind.Exact (inr r) e = absurd cc
-      exact kind.Prefix r e = absurd cc
-      exact kind.Ternary r e = absurd cc
-  rows-of k (Ternary d ks rs cs) rowed is = ((λ seed bits key. refl), refl)
 
   pub row-parts : IsRowKind x.name.kind → All IsRows (parts_of c node)
   row-parts rowed i d lt = (rows-of x.name.kind (get_or (parts_of c node) i d).slot.memory rowed (h.parts i d lt).kind).0

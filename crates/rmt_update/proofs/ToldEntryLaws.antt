@@ -26,8 +26,8 @@ use Rattle.rmt_config.specs.KeysSeen.{WaysLow}
 use Rattle.rmt_config.specs.UnitForm.{memory_is_formed, slot_head_is_formed}
 use Rattle.rmt_config.proofs.SpelledParts.{held-is, parts-stand}
 use Rattle.rmt_config.proofs.SpelledWays.{PartFollows, parts-follow, ways-low}
-use Rattle.rmt_update.specs.declared.book.parts.Part.{Part}
-use Rattle.rmt_update.specs.PartList.{part_at, parts_at}
+use Rattle.rmt_config.specs.declared.form.names.part_list.Part.{Part}
+use Rattle.rmt_config.specs.PartsTold.{part_at, parts_at}
 use Rattle.rmt_update.specs.declared.book.kept.Kept.{Kept}
 use Rattle.rmt_update.specs.declared.book.table.PartCells.{PartCells}
 use Rattle.rmt_update.specs.Listed.{IsListed, IsRanked}

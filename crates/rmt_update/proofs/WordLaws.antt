@@ -1,12 +1,12 @@
 -- Bits of words that stand side by side.
-use Rattle.std.proofs.Common.{◌≡◌, ℕ, zero, suc, ◌+◌, ◌-◌, ◌*◌, ◌/◌, ◌%◌, ◌^◌, ◌<◌, ◌≤◌, List, [], ◌∷◌, length, get_or, map, min, inl, inr, refl, sym, ap, ◌∙◌, arith}
+use Rattle.std.proofs.Common.{◌≡◌, ℕ, zero, suc, ◌+◌, ◌-◌, ◌*◌, ◌/◌, ◌%◌, ◌^◌, ◌<◌, ◌≤◌, List, [], ◌∷◌, ◌++◌, add-one, length, get_or, map, min, inl, inr, refl, sym, ap, ◌∙◌, arith}
 use Rattle.std.specs.Prelude.{All}
 use Rattle.std.proofs.lemmas.Bool.{cases_lt}
 use Rattle.std.proofs.lemmas.Nat.{shr-shr, mod_low, shr_high, mul-le, div-add-mod'}
 use Rattle.std.proofs.lemmas.List.Elements.{All-cons, All-head, All-nil, All-tail}
 use Rattle.std.proofs.Math.Nat.{mod-eq_of_lt}
 use Rattle.std.proofs.Math.Pow.{pow_mono}
-use Rattle.rmt_bits.specs.Bits.{slice}
+use Rattle.rmt_bits.specs.Bits.{bytes_of, slice}
 use Rattle.rmt_bits.proofs.BitLaws.{slice-add, slice-from_low, slice-lt}
 use Rattle.rmt_config.specs.Cells.{Blocks, unit_row}
 use Rattle.rmt_config.proofs.UnitBits.{Within}
@@ -86,3 +86,14 @@ joined-unit size held row (b ∷ bs) = ap (λ n. held b row + 2 ^ size * n) (joi
 pub words-small : (size : ℕ) (held : Blocks) (row : ℕ) (blocks : List ℕ) → Within size held → All (λ w. w < 2 ^ size) (map (λ b. held b row) blocks)
 words-small size held row [] small = All-nil (λ w. w < 2 ^ size)
 words-small size held row (b ∷ bs) small = All-cons (λ w. w < 2 ^ size) (held b row) (map (λ b. held b row) bs) (small b row) (words-small size held row bs small)
+
+-- a byte more of a number, the highest first
+pub bytes-more : (so_far : List ℕ) (x count at byte : ℕ) → at < count → so_far ≡ bytes_of at (x / 2 ^ (8 * (count - at)))
+    → byte ≡ x / 2 ^ (8 * (count - 1 - at)) % 256 → so_far ++ byte ∷ [] ≡ bytes_of (at + 1) (x / 2 ^ (8 * (count - (at + 1))))
+bytes-more so_far x count at byte lt is e =
+    let y = x / 2 ^ (8 * (count - (at + 1))) in
+    let next : 8 * (count - at) ≡ 8 * (count - (at + 1)) + 8 = omega (arith, lt) in
+    let same : 8 * (count - 1 - at) ≡ 8 * (count - (at + 1)) = omega arith in
+    let shift : x / 2 ^ (8 * (count - at)) ≡ y / 256 = ap (λ n. x / 2 ^ n) next ∙ sym (shr-shr x (8 * (count - (at + 1))) 8) in
+    ap (λ (bs : List ℕ). bs ++ byte ∷ []) (is ∙ ap (bytes_of at) shift) ∙ ap (λ b. bytes_of at (y / 256) ++ b ∷ []) (e ∙ ap (λ n. x / 2 ^ n % 256) same)
+    ∙ sym (ap (λ n. bytes_of n y) (add-one at))

@@ -19,7 +19,7 @@ abbrev pub said_number : CellWrite → ℕ
 said_number w = if w.visible == 0 then 0 else w.number
 
 -- the place of a changed cell
-place-of : (w : CellWrite) (k place n : ℕ) → is_changed w k place n ≡ true → (w.stage ≡ k) × (w.unit ≡ place) × (w.cell ≡ n)
+pub place-of : (w : CellWrite) (k place n : ℕ) → is_changed w k place n ≡ true → (w.stage ≡ k) × (w.unit ≡ place) × (w.cell ≡ n)
 place-of w k place n e =
     let parts = and_parts (eqb w.stage k && eqb w.unit place) (eqb w.cell n) e in
     let two = and_parts (eqb w.stage k) (eqb w.unit place) parts.0 in

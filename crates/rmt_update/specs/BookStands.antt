@@ -1,5 +1,5 @@
 -- What a book stands for: the cells of a run, with the entries that their version sees.
-use Rattle.std.specs.Prelude.{◌≡◌, ◌≢◌, ◌<◌, ◌==◌, ℕ, ◌%◌, ◌^◌, List, Bool, true, Option, Some, None, All, map}
+use Rattle.std.specs.Prelude.{◌≡◌, ◌≢◌, ◌<◌, ◌==◌, ℕ, ◌%◌, ◌^◌, List, Bool, true, Option, Some, None, All, IfSome, map}
 use Rattle.std.specs.List.{AllZip, list_any}
 use Rattle.std.specs.BTreeMap.{get, keys}
 use Rattle.std.specs.Ordering.{nat_cmp}
@@ -16,6 +16,7 @@ use Rattle.rmt_update.specs.declared.book.Book.{Book}
 use Rattle.rmt_update.specs.declared.book.kept.Kept.{Kept}
 use Rattle.rmt_update.specs.declared.book.table.PartCells.{PartCells}
 use Rattle.rmt_update.specs.declared.book.table.TableCells.{TableCells}
+use Rattle.rmt_update.specs.BookIndex.{IsBookIndex}
 use Rattle.rmt_update.specs.Kept.{HasBytes, IsKept}
 use Rattle.rmt_update.specs.PartShape.{IsShape}
 use Rattle.rmt_update.specs.Seen.{IsReadable, entries_seen}
@@ -55,7 +56,7 @@ HaveOwnNumbers c cells = (k place n k2 place2 n2 : ℕ) → IsUsed c cells k pla
     → (k ≡ k2) × (place ≡ place2) × (n ≡ n2)
 
 -- a book holds the names of a configuration, the version (odd or even) and the seed of cells, each occupied cell of a table with its number, and
--- the ranks of entries, so that these are the entries that the version sees
+-- the ranks of entries, so that these are the entries that the version sees; where it has an index, it is that of its tables
 pub record BookStands (c : Config) (cells : RunCells) (entries : List (List Entry)) (b : Book) : Type 0 where
   pub formed : Formed c
   pub names : c.names ≡ Some (record { tables = map (λ (t : TableCells). t.name) b.tables.items })
@@ -65,3 +66,4 @@ pub record BookStands (c : Config) (cells : RunCells) (entries : List (List Entr
   pub numbers : HaveOwnNumbers c cells
   pub readable : All (IsReadable b.odd) b.tables.items
   pub lists : entries ≡ entries_seen b.odd b.tables.items b.nodes
+  pub index : IfSome b.index (IsBookIndex b.odd b.tables.items)

@@ -1,8 +1,10 @@
 pub mod After
+pub mod BookIndex
 pub mod BookSpots
 pub mod BookStands
 pub mod Changing
 pub mod Come
+pub mod ComeIndex
 pub mod Coming
 pub mod Differences
 pub mod Encoded
@@ -10,14 +12,15 @@ pub mod FirstFull
 pub mod Fitting
 pub mod Following
 pub mod Holding
+pub mod IndexCells
 pub mod Kept
 pub mod Listed
 pub mod Loads
 pub mod Moved
+pub mod NextIndex
 pub mod NextKept
 pub mod Numbered
 pub mod Open
-pub mod PartList
 pub mod PartShape
 pub mod Placing
 pub mod Planned
@@ -32,5 +35,6 @@ pub mod Spots
 pub mod Stands
 pub mod Taking
 pub mod Told
+pub mod TurnWrites
 pub mod Turning
 pub mod Words

@@ -1,9 +1,7 @@
 -- What a commit that moves no cell makes of the cells of a book.
-use Rattle.std.specs.Prelude.{◌≡◌, ◌<◌, ℕ, List, [], ◌∷◌, ◌&&◌, Bool, ◌==◌, if◌then◌else◌, Option, Some, None, Vec, length, IsSomeAnd, option_and_then, slice_get}
-use Rattle.std.specs.Global.{Global}
+use Rattle.std.specs.Prelude.{◌≡◌, ◌<◌, ℕ, List, [], ◌∷◌, ◌&&◌, Bool, ◌==◌, if◌then◌else◌, Option, Some, None, All, length, IsSomeAnd, option_and_then, option_map, slice_get}
 use Rattle.std.specs.List.{AllZip}
-use Rattle.std.specs.BTreeMap.{BTreeMap, IsOrdered, get}
-use Rattle.std.specs.BTreeSet.{BTreeSet, contains}
+use Rattle.std.specs.BTreeMap.{IsOrdered, get}
 use Rattle.std.specs.Ordering.{nat_cmp}
 use Rattle.rmt_update.specs.declared.book.kept.Kept.{Kept}
 use Rattle.rmt_update.specs.declared.book.placing.Coming.{Coming}
@@ -11,6 +9,9 @@ use Rattle.rmt_update.specs.declared.book.spot.BookSpot.{BookSpot}
 use Rattle.rmt_update.specs.declared.book.spots.Spot.{Spot}
 use Rattle.rmt_update.specs.declared.book.table.PartCells.{PartCells}
 use Rattle.rmt_update.specs.declared.book.table.TableCells.{TableCells}
+use Rattle.rmt_update.specs.declared.book.turning.CellTurn.{CellTurn}
+use Rattle.rmt_update.specs.declared.book.turning.Turn.{Turn}
+use Rattle.rmt_update.specs.declared.book.turning.Turn.TheVariants.{Empty, Holds, Shows}
 use Rattle.rmt_update.specs.BookSpots.{kept_at}
 use Rattle.rmt_update.specs.NextKept.{next_kept}
 use Rattle.rmt_update.specs.Running.{is_among}
@@ -59,27 +60,18 @@ pub record IsSamePart (x y : PartCells) : Type 0 where
 abbrev pub IsSameTable : TableCells → TableCells → Type 0
 IsSameTable t u = (u.name ≡ t.name) × AllZip IsSamePart t.parts.items u.parts.items
 
--- ---- parts that are made aside
-
 -- what is left of a cell, where these numbers go
 abbrev pub left_by : Bool → (ℕ → Bool) → Option Kept → Option Kept
 left_by odd goes None = None
 left_by odd goes (Some k) = next_kept odd (goes k.number) (Some k)
 
--- what is left of cells
-pub record AreLeft (odd : Bool) (gone : BTreeSet ℕ) (x y : BTreeMap ℕ Kept) : Type 0 where
-  pub ordered : IsOrdered nat_cmp x
-  pub still : IsOrdered nat_cmp y
-  pub each : (n : ℕ) → AreLike (get nat_cmp y n) (left_by odd (contains nat_cmp gone) (get nat_cmp x n))
+-- ---- cells that change in their places
 
--- of a part, and of a table
-abbrev pub IsLeft : Bool → BTreeSet ℕ → PartCells → PartCells → Type 0
-IsLeft odd gone x y = IsSamePart x y × AreLeft odd gone x.cells y.cells
+-- the part of a spot
+abbrev pub part_of : List TableCells → BookSpot → Option PartCells
+part_of ts s = option_and_then (λ (t : TableCells). slice_get t.parts.items s.at.part) (slice_get ts s.table)
 
-abbrev pub HasLeft : Bool → BTreeSet ℕ → TableCells → Vec PartCells Global → Type 0
-HasLeft odd gone t v = AllZip (IsLeft odd gone) t.parts.items v.items
-
--- the same part, with one cell more or another one
+-- the same part, with one cell more, one less, or another one
 pub record IsStill (x y : PartCells) : Type 0 where
   pub stage : y.stage ≡ x.stage
   pub place : y.place ≡ x.place
@@ -87,38 +79,57 @@ pub record IsStill (x y : PartCells) : Type 0 where
   pub shape : y.shape ≡ x.shape
   pub ordered : IsOrdered nat_cmp x.cells → IsOrdered nat_cmp y.cells
 
-abbrev pub AreStill : Vec PartCells Global → Vec PartCells Global → Type 0
-AreStill v w = AllZip IsStill v.items w.items
+-- the same table, with such parts
+abbrev pub IsStillTable : TableCells → TableCells → Type 0
+IsStillTable t u = (u.name ≡ t.name) × AllZip IsStill t.parts.items u.parts.items
 
--- what is kept of a cell of parts, and of parts of tables
+-- what is kept of a cell of parts
 abbrev pub cell_at : List PartCells → Spot → Option Kept
 cell_at ps s = option_and_then (λ (p : PartCells). get nat_cmp p.cells s.cell) (slice_get ps s.part)
 
-abbrev pub moved_at : List (Vec PartCells Global) → BookSpot → Option Kept
-moved_at moved s = option_and_then (λ (v : Vec PartCells Global). cell_at v.items s.at) (slice_get moved s.table)
+-- something else is kept of one cell: of a part, of parts, and of tables
+pub record PartWith (cell : ℕ) (make : Option Kept → Option Kept) (x y : PartCells) : Type 0 where
+  pub still : IsStill x y
+  pub each : (n : ℕ) → get nat_cmp y.cells n ≡ (if cell == n then make (get nat_cmp x.cells n) else get nat_cmp x.cells n)
 
--- an entry comes to a cell of parts
-pub record IsPut (at : Spot) (k : Kept) (ps qs : List PartCells) : Type 0 where
+pub record PartsWith (at : Spot) (make : Option Kept → Option Kept) (ps qs : List PartCells) : Type 0 where
   pub same : AllZip IsStill ps qs
-  pub each : (s : Spot) → cell_at qs s ≡ (if (at.part == s.part) && (at.cell == s.cell) then Some k else cell_at ps s)
+  pub each : (s : Spot) → cell_at qs s ≡ (if (at.part == s.part) && (at.cell == s.cell) then make (cell_at ps s) else cell_at ps s)
 
--- entries come to cells of parts of tables
-pub record ArePut (come : List Coming) (old new : List (Vec PartCells Global)) : Type 0 where
-  pub same : AllZip AreStill old new
-  pub each : (s : BookSpot) → moved_at new s ≡ come_to come s (moved_at old s)
+pub record TablesWith (at : BookSpot) (make : Option Kept → Option Kept) (ts us : List TableCells) : Type 0 where
+  pub same : AllZip IsStillTable ts us
+  pub each : (s : BookSpot) → kept_at us s ≡ (if is_spot at s then make (kept_at ts s) else kept_at ts s)
 
--- a cell of parts of tables
-abbrev pub IsThere : List (Vec PartCells Global) → BookSpot → Type 0
-IsThere moved s = IsSomeAnd (slice_get moved s.table) (λ (v : Vec PartCells Global). s.at.part < length v.items)
+-- the same tables, of whose cells this is kept
+pub record HaveCells (ts us : List TableCells) (kept : BookSpot → Option Kept) : Type 0 where
+  pub same : AllZip IsStillTable ts us
+  pub each : (s : BookSpot) → kept_at us s ≡ kept s
+
+-- what a turn makes of what is kept of a cell
+abbrev pub turned_by : Turn → Option Kept → Option Kept
+turned_by Empty o = None
+turned_by (Shows v) o = option_map (λ (k : Kept). record k { visible = v }) o
+turned_by (Holds k) o = option_map (λ (j : Kept). k) o
+
+-- what turns make of it, of which the last one comes first
+abbrev pub turned : List CellTurn → BookSpot → Option Kept → Option Kept
+turned [] s o = o
+turned (x ∷ xs) s o = if is_spot x.spot s then turned_by x.turn (turned xs s o) else turned xs s o
 
 -- a cell of a part of tables
 abbrev pub IsSpotIn : List TableCells → BookSpot → Type 0
 IsSpotIn ts s = IsSomeAnd (slice_get ts s.table) (λ (t : TableCells). s.at.part < length t.parts.items)
 
--- the parts of tables behind a commit that moves no cell, where entries of these numbers go, and these come
-pub record AreNextParts (odd : Bool) (gone : List ℕ) (come : List Coming) (ts : List TableCells) (moved : List (Vec PartCells Global)) : Type 0 where
-  pub same : AllZip (λ (t : TableCells) (v : Vec PartCells Global). AllZip IsSamePart t.parts.items v.items) ts moved
-  pub each : (s : BookSpot) → AreLike (moved_at moved s) (come_to come s (left_kept odd gone (kept_at ts s)))
+-- the turn by which something is kept again of an occupied cell, or nothing
+abbrev pub turn_to : Option Kept → Turn
+turn_to None = Empty
+turn_to (Some k) = Holds k
+
+-- turns lead from tables back to others
+pub record LeadBack (turns : List CellTurn) (us ts : List TableCells) : Type 0 where
+  pub same : AllZip IsStillTable ts us
+  pub spots : All (λ (x : CellTurn). IsSpotIn us x.spot) turns
+  pub each : (s : BookSpot) → turned turns s (kept_at us s) ≡ kept_at ts s
 
 -- the tables of a book behind a commit that moves no cell, where entries of these numbers go, and these come
 pub record AreNext (odd : Bool) (gone : List ℕ) (come : List Coming) (ts us : List TableCells) : Type 0 where

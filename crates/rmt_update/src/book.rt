@@ -12,6 +12,7 @@ ghost use Rattle.rmt_update.specs.BookStands.{BookStands};
 ghost use Rattle.rmt_update.specs.Listed.{IsTable};
 
 mod after;
+pub mod book_index;
 mod cells;
 mod changing;
 mod coming;
@@ -19,6 +20,7 @@ pub mod differences;
 mod encoded;
 mod entering;
 mod entry_words;
+mod going;
 pub mod grid;
 mod in_rows;
 mod index;
@@ -26,6 +28,7 @@ pub mod kept;
 mod leaving;
 pub mod loading;
 pub mod moving;
+mod next_index;
 mod nodes;
 mod number_set;
 mod open;
@@ -46,9 +49,11 @@ pub mod spots;
 mod table;
 mod taking;
 mod told;
+mod turning;
 mod words;
 mod written;
 
+use crate::book::book_index::BookIndex;
 use crate::book::nodes::node_count;
 use crate::book::seen::entries_at;
 use crate::book::table::{TableCells, cells_of};
@@ -94,6 +99,8 @@ pub struct Book {
     nodes: u32,
     /// The tables with a key, by rising node.
     tables: Vec<TableCells>,
+    /// Where their cells are found, once a commit needed it; None behind a commit that moves cells, or one that failed.
+    index: Option<BookIndex>,
 }
 
 impl Book {
@@ -116,6 +123,7 @@ impl Book {
             seed: config.seed,
             nodes: node_count(config),
             tables,
+            index: None,
         })
     }
 

@@ -3,25 +3,15 @@ use Rattle.std.proofs.Common.{◌≡◌, ◌≢◌, ◌⊎◌, ◌↔◌, ℕ, �
 use Rattle.std.specs.Prelude.{AllPairs, is_some}
 use Rattle.std.specs.BTreeMap.{BTreeMap, get}
 use Rattle.std.specs.Ordering.{is_eq, nat_cmp}
-use Rattle.std.specs.declared.cmp.Ordering.TheVariants.{Less, Equal, Greater}
-use Rattle.std.specs.Cmp.{nat_cmp_is}
-use Rattle.std.proofs.lemmas.Bool.{both_ways, cases_lt, eq-eqb, eqb-true, false≢true, ne_eqb}
+use Rattle.std.proofs.lemmas.Bool.{both_ways, eq-eqb, eqb-true, false≢true}
 use Rattle.std.proofs.lemmas.List.{take_more}
 use Rattle.std.proofs.lemmas.List.Elements.{All-contains_itself, All-weaker, Contains-append_left, Contains-append_right}
 use Rattle.std.proofs.lemmas.Option.{none-some, same_Some}
 use Rattle.rmt_bits.proofs.MemberLaws.{Contains-first, Contains-split}
+use Rattle.rmt_refine.proofs.FindLaws.{same_number}
 use Rattle.rmt_verify.specs.Types.{CellOf}
 use Rattle.rmt_verify.specs.Told.{AreTold, TellApart}
 use Rattle.rmt_verify.proofs.PairLaws.{pairs_before, pairs_more}
-
-same_number : (k q : ℕ) → is_eq (nat_cmp k q) ≡ eqb k q
-same_number k q = elim (cases_lt k q) as (λ _. is_eq (nat_cmp k q) ≡ eqb k q) [
-  | inl lt ↦ ap is_eq (sym (nat_cmp_is k q Less lt)) ∙ sym (ne_eqb k q (λ e. absurd (omega (arith, lt, e))))
-  | inr le ↦ elim (cases_lt q k) as (λ _. is_eq (nat_cmp k q) ≡ eqb k q) [
-    | inl gt ↦ ap is_eq (sym (nat_cmp_is k q Greater gt)) ∙ sym (ne_eqb k q (λ e. absurd (omega (arith, gt, e))))
-    | inr ge ↦ let e : k ≡ q = omega (arith, le, ge) in ap is_eq (sym (nat_cmp_is k q Equal e)) ∙ sym (eq-eqb k q e)
-  ]
-]
 
 among_more : (cells : List CellOf) (i : ℕ) (d y : CellOf) → i < length cells → Contains (take (i + 1) cells) y ↔ (Contains (take i cells) y ⊎ (get_or cells i d ≡ y))
 among_more cells i d y lt = (to, from)

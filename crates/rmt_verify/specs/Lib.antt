@@ -15,5 +15,4 @@ pub mod Checks
 pub mod CellsHeld
 pub mod Told
 pub mod Wanted
-pub mod PartList
 pub mod TableKnown

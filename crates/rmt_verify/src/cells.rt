@@ -21,7 +21,6 @@ ghost use Rattle.rmt_verify.specs.Told.{AreTold};
 mod content;
 mod entries;
 mod fields;
-pub mod parts;
 mod sram;
 mod table;
 mod tcam;

@@ -2,7 +2,7 @@
 
 use crate::tests::changes::{COUNTED, ENTRIES};
 use crate::tests::commands::{STEADY, run_on, run_over, shelf_of};
-use crate::tests::compiled::SMALLEST_IMAGE;
+use crate::tests::compiled::{SMALLEST_IMAGE, image_of};
 use crate::tests::programs::SMALLEST;
 use rmt_core::status::Status;
 use std::alloc::{AllocError, Global};
@@ -80,14 +80,7 @@ const WIDE: &str =
 
 /// The image of `WIDE`, whose names say that the table may have 65,536 entries.
 fn widened(alloc: Global) -> Result<Vec<u8>, Fail> {
-    let files = [("p", WIDE.as_bytes()), ("e", "".as_bytes())];
-    let mut shelf = shelf_of(alloc, &files, STEADY)?;
-    let _compiled = run_over(alloc, &["compile", "p", "e", "i"], &mut shelf, STEADY)?;
-    let name = String::from_str(alloc, "i")?;
-    let Some(bytes) = shelf.file(&name) else {
-        return Ok(Vec::new(alloc));
-    };
-    let mut image = Vec::from_slice(alloc, bytes.as_slice())?;
+    let mut image = image_of(alloc, WIDE, "")?;
     // Behind the size stand the key's width, and one action without parameters.
     let length = image.len();
     if length >= 15 {

@@ -52,10 +52,39 @@ fn no_fit<'a>(program: &'a str, printed: &'a str) -> Row<'a> {
     }
 }
 
+/// The lines of a program whose 32 tables stand in a stage each.
+fn chain_lines(alloc: Global) -> Result<String, AllocError> {
+    let mut lines = String::from_str(alloc, "stages 32 latency 384\nbound 32 chain")?;
+    for i in 0..32u32 {
+        lines.push_str(format!(in alloc; " t{i}")?.as_str())?;
+    }
+    lines.push_str("\nminimal yes\n")?;
+    Ok(lines)
+}
+
 #[test]
 fn programs_that_fit(rt: HostRuntime) -> Result<(), Fail> {
     let alloc = rt.alloc();
+    let split = split_entries(alloc)?;
+    let chained = chain(alloc, 32)?;
+    let chain_lines = chain_lines(alloc)?;
     for row in [
+        fits(chained.as_str(), "", chain_lines.as_str()),
+        fits(
+            SPLIT,
+            split.as_str(),
+            "stages 2 latency 13\nbound 2 chain t\nminimal yes\n",
+        ),
+        fits(
+            SHARED_STAGE,
+            "",
+            "stages 1 latency 12\nbound 1 chain t\nminimal yes\n",
+        ),
+        fits(
+            TAILED_AND_SENT,
+            "",
+            "stages 1 latency 12\nbound 1 chain t\nminimal yes\n",
+        ),
         fits(
             SMALLEST,
             "",
@@ -215,7 +244,7 @@ fn a_table_that_does_not_load(rt: HostRuntime) -> Result<(), Fail> {
 }
 
 /// The image that `compile` writes for two texts, or no byte where it writes none.
-fn image_of(alloc: Global, program: &str, entries: &str) -> Result<Vec<u8>, Fail> {
+pub fn image_of(alloc: Global, program: &str, entries: &str) -> Result<Vec<u8>, Fail> {
     let files = [("p", program.as_bytes()), ("e", entries.as_bytes())];
     let left = run_on(alloc, &["compile", "p", "e", "i"], &files, STEADY)?;
     let name = String::from_str(alloc, "i")?;

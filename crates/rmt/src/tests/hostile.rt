@@ -1,7 +1,8 @@
 //! Images that no program made, run on one packet.
 
 use crate::tests::commands::{STEADY, run_on};
-use crate::tests::compiled::SMALLEST_IMAGE;
+use crate::tests::compiled::{SMALLEST_IMAGE, image_of};
+use crate::tests::programs::STRICT_AND_WEAK;
 use rmt_core::status::Status;
 use std::alloc::{AllocError, Global};
 use std::test::*;
@@ -73,6 +74,19 @@ fn one_byte_more(rt: HostRuntime) -> Result<(), Fail> {
     let mut image = Vec::from_slice(alloc, &SMALLEST_IMAGE)?;
     image.push(0)?;
     assert!(rt; prints(alloc, image.as_slice(), Status::BadImage, "bad image 5\n")?);
+    Ok(())
+}
+
+/// The second key block of a table is its first one again, where no entry stands in it.
+#[test]
+fn a_doubled_block(rt: HostRuntime) -> Result<(), Fail> {
+    let alloc = rt.alloc();
+    let mut image = image_of(alloc, STRICT_AND_WEAK, "")?;
+    if let Some(block) = image.get_mut(116) {
+        *block = 0;
+    }
+    let printed = "bad image 6 limit 17 stage 1 sum 2 need 0\n";
+    assert!(rt; prints(alloc, image.as_slice(), Status::BadImage, printed)?);
     Ok(())
 }
 

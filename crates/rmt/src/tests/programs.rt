@@ -43,6 +43,18 @@ pub const CROSSBAR: &str =
 pub const SPLIT: &str =
     "header k1 { a : 128; b : 128; c : 128; d : 128; } next k2;\nheader k2 { e : 128; } next accept;\naction go(p : 9) { out_port = p; }\ntable t { ternary k1.a, k1.b, k1.c, k1.d, k2.e; actions go; size 2049; default go(3); }\ncontrol { apply t; }\n";
 
+/// The second header is there where the first says so, and a packet that it is wanted in is cut where it has no more bytes.
+pub const TWO_HEADERS: &str =
+    "header a { k : 8; } next (k) { 1 : b; else : accept; }\nheader b { v : 8; } next accept;\naction send() { out_port = 2; }\ntable t { default send(); }\ncontrol { apply t; }\n";
+
+/// Three tables without a key, of which none waits for another.
+pub const SHARED_STAGE: &str =
+    "header h { f : 8; } next accept;\nmeta { x : 8; y : 8; }\naction set_x() { meta.x = 1; }\naction set_y() { meta.y = 1; }\naction send() { out_port = 3; }\ntable t { default set_x(); }\ntable u { default set_y(); }\ntable v { default send(); }\ncontrol { apply t; apply u; apply v; }\n";
+
+/// A header with a tail, and a table that sends.
+pub const TAILED_AND_SENT: &str =
+    "header o { n : 4; z : 4; tail n * 4 - 4; } next accept;\naction send() { out_port = 1; }\ntable t { default send(); }\ncontrol { apply t; }\n";
+
 pub const TAILED: &str = "header o { n : 4; z : 4; tail n * 4 - 4; } next accept;\ncontrol { }\n";
 
 /// A tail of 4 bytes, none, one of fewer than 0, and one that the frame cuts.
@@ -131,6 +143,34 @@ count 1 1 58
 count 2 1 58
 count 3 2 92
 count 7 1 16
+";
+
+/// A next hop that goes elsewhere behind the first commit; behind the second one a route is gone, and a rule denies the packet
+/// that took it.
+pub const REALISTIC_COMMITS: &str =
+    "0 02000000000102000000000208004500002000000000401100000b000001c0a8010500350035000c0000deadbeef
+- hop 2
++ hop 2 rewrite 5 0x020000000005
+commit
+0 02000000000102000000000208004500002000000000401100000b000001c0a8010500350035000c0000deadbeef
+- routes4 0xc0a80100/24
++ acl 30 0x0b000000&0xff000000 17 deny
+commit
+0 02000000000102000000000208004500002000000000401100000b000001c0a8010500350035000c0000deadbeef
+0 0200000000010200000000028100000508004500002800000000400600000b000001c0a802050050005100000001000000005002200000000000
+";
+
+pub const REALISTIC_COMMITTED: &str =
+    "0 4 02000000000402000000000108004500002000000000401100000b000001c0a8010500350035000c0000deadbeef
+1 5 02000000000502000000000108004500002000000000401100000b000001c0a8010500350035000c0000deadbeef
+2 drop action
+3 3 0200000000030200000000018100000508004500002800000000400600000b000001c0a802050050005100000001000000005002200000000000
+count 0 0 0
+count 1 1 58
+count 2 2 104
+count 3 2 92
+count 7 0 0
+count 9 1 46
 ";
 
 /// A program of so many tables `t0`, `t1` and so on, each of which adds 1 to what it looks up.

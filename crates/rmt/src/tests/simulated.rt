@@ -69,6 +69,27 @@ fn runs(rt: HostRuntime) -> Result<(), Fail> {
         ),
         (NO_STAGE, "", "5 ff", "0 0 ff\n", "cycles 1\nflight 1\n"),
         (
+            TWO_HEADERS,
+            "",
+            "0 01ff\n0 02ff\n0 01\n",
+            "0 2 01ff\n1 2 02ff\n2 drop short\n",
+            "cycles 15\nflight 3\n",
+        ),
+        (
+            SHARED_STAGE,
+            "",
+            "0 ff",
+            "0 3 ff\n",
+            "cycles 13\nflight 1\n",
+        ),
+        (
+            TAILED_AND_SENT,
+            "",
+            "0 2faabbccddee\n0 2faabb\n0 0f\n0 1f\n",
+            "0 1 2faabbccddee\n1 drop short\n2 drop reject\n3 1 1f\n",
+            "cycles 16\nflight 4\n",
+        ),
+        (
             IN_ORDER,
             "",
             "0 0102",
@@ -135,6 +156,19 @@ fn realistic(rt: HostRuntime) -> Result<(), Fail> {
     for outside in [STEADY, in_bytes] {
         assert!(rt; holds(alloc, REALISTIC_ROW, Status::Done, outside)?);
     }
+    Ok(())
+}
+
+/// The second commit waits until the first packet has left, which saw the entries before both.
+#[test]
+fn realistic_with_commits(rt: HostRuntime) -> Result<(), Fail> {
+    let row = Row {
+        packets: REALISTIC_COMMITS,
+        lines: REALISTIC_COMMITTED,
+        run: "cycles 80\nflight 2\n",
+        ..REALISTIC_ROW
+    };
+    assert!(rt; holds(rt.alloc(), row, Status::Done, STEADY)?);
     Ok(())
 }
 

@@ -14,12 +14,13 @@ pub const SMALLEST_MAP: [u8; 45] = [
 
 /// From a place of the map on, how many bytes are left out, the bytes that stand there instead, how `verify` ends, and
 /// what it prints.
-const CHANGED: [(usize, usize, &[u8], Status, &str); 10] = [
+const CHANGED: [(usize, usize, &[u8], Status, &str); 11] = [
     (0, 0, &[], Status::Done, "yes\n"),
     (15, 1, &[0x42], Status::Done, "no 1\n"), // out_port in another word
     (13, 1, &[8], Status::Done, "no 1\n"), // in_port of 8 bits
     (30, 2, &[0, 1, 0, 0, 0], Status::Done, "no 2\n"), // a join that can't be made
     (35, 1, &[1], Status::Done, "no 3\n"), // a part in a stage that is none
+    (30, 6, &[0, 1, 0, 0, 0, 0, 1, 0, 1], Status::Done, "no 2\n"), // both
     (40, 1, &[1], Status::Done, "no 3\n"), // another start
     (
         41,
@@ -123,6 +124,40 @@ fn maps_of_compile(rt: HostRuntime) -> Result<(), Fail> {
         (REALISTIC, REALISTIC_ENTRIES),
     ] {
         assert!(rt; is_verified(alloc, program, entries, "yes\n")?, "{program}");
+    }
+    Ok(())
+}
+
+/// Whether each front of the map that `compile` writes is told to be none.
+fn fronts_are_none(alloc: Global, program: &str, entries: &str) -> Result<bool, Fail> {
+    let files = [("p", program.as_bytes()), ("e", entries.as_bytes())];
+    let mut shelf = shelf_of(alloc, &files, STEADY)?;
+    run_over(alloc, &["compile", "p", "e", "i", "m"], &mut shelf, STEADY)?;
+    let name = String::from_str(alloc, "m")?;
+    let map = match shelf.file(&name) {
+        Some(map) => Vec::from_slice(alloc, map.as_slice())?,
+        None => Vec::new(alloc),
+    };
+    let mut are_none = !map.is_empty();
+    for length in 0..map.len() {
+        put(alloc, &mut shelf, "m", &map.as_slice()[..length])?;
+        let (status, told) = run_over(alloc, &["verify", "p", "e", "i", "m"], &mut shelf, STEADY)?;
+        let is_none = status == Status::BadImage && told.as_slice() == b"bad image 7\n".as_slice();
+        are_none = are_none && is_none;
+    }
+    Ok(are_none)
+}
+
+#[test]
+fn fronts_of_a_map(rt: HostRuntime) -> Result<(), Fail> {
+    let alloc = rt.alloc();
+    for (program, entries) in [
+        (SMALLEST, ""),
+        (PREFIX, PREFIXES),
+        (STRICT_AND_WEAK, "b 7 go 5\n"),
+        (REALISTIC, REALISTIC_ENTRIES),
+    ] {
+        assert!(rt; fronts_are_none(alloc, program, entries)?, "{program}");
     }
     Ok(())
 }

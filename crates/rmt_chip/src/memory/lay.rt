@@ -13,7 +13,6 @@ ghost use Rattle.rmt_chip.specs.Laying.{runs_of as runs_of_cells, cell_at, Cells
 ghost use Rattle.rmt_chip.specs.Laid.{Laid, CellsLaid, NumbersLaid};
 ghost use Rattle.rmt_chip.specs.Memories.{NumbersFit, key_size, held_size};
 
-use crate::key::key_bits;
 use crate::memory::SlotMemory;
 use crate::memory::changes::set_run;
 use crate::memory::keys::Keys;
@@ -22,6 +21,7 @@ use crate::memory::runs::{Runs, no_runs, run_at, zeros};
 use crate::memory::ternary::sliced_of;
 use crate::memory::ways::Ways;
 use rmt_config::config::{CellNumber, SlotUnit, SramRow, Stage};
+use rmt_config::form::lane::key_bits;
 use rmt_config::form::parts::{exact_keys, exact_records, ternary_records};
 use std::alloc::{AllocError, Global};
 

@@ -1,6 +1,6 @@
 //! The rules of form of lanes and ports.
 
-ghost use Rattle.std.specs.Prelude.{◌≡◌, ◌<◌, length};
+ghost use Rattle.std.specs.Prelude.{◌≡◌, ◌<◌, ◌≤◌, length};
 ghost use Rattle.std.specs.List.{list_all};
 ghost use Rattle.rmt_config.specs.LaneForm.{lane_is_formed, is_lane_of, bits_of_lanes, ports_are_formed};
 
@@ -42,6 +42,14 @@ pub fn count_bits(lanes: &[Lane]) -> u32
         bits += lane.len as u32;
     }
     bits
+}
+
+/// How many bits the lanes of a key have together, at most 640.
+pub fn key_bits(lanes: &[Lane]) -> u64
+    requires { bits_of_lanes lanes.now ≤ 640 }
+    ensures { result ≡ bits_of_lanes lanes.now }
+{
+    lanes.iter().map(|lane| lane.len as u64).sum()
 }
 
 /// Whether the ports' lanes have 9 bits and that of the drop bit has one.

@@ -30,7 +30,8 @@ pub fn divided_up(a: u64, b: u64) -> u64
 /// How many SRAM blocks stand side by side for a record of `n` bits.
 pub fn record_width(n: u64) -> u64
     requires { n < 66000 }
-    ensures { result ≡ record_width_of n }
+    ensures value { result ≡ record_width_of n }
+    ensures few { result ≤ 590 }
 {
     divided_up(n, 112)
 }
@@ -39,7 +40,9 @@ pub fn record_width(n: u64) -> u64
 pub fn records_a_row(n: u64) -> u64
     requires some { 0 < n }
     requires most { n < 66000 }
-    ensures { result ≡ records_a_row_of n }
+    ensures value { result ≡ records_a_row_of n }
+    ensures least { 0 < result }
+    ensures few { result < 113 }
 {
     112 * record_width(n) / n
 }

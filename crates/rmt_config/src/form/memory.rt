@@ -12,17 +12,9 @@ ghost use Rattle.rmt_config.specs.Layouts.{exact_keys as exact_keys_of, exact_re
 
 use crate::config::{Memory, SlotUnit, Stage, Unit};
 use crate::form::cells::cells_are_formed;
+use crate::form::lane::key_bits;
 use crate::form::parts::{exact_keys, exact_records, ternary_keys, ternary_records};
 use crate::form::set_bits::blocks_are_told;
-use rmt_bits::lane::Lane;
-
-/// How many bits lanes have together, at most 640.
-fn key_bits(lanes: &[Lane]) -> u64
-    requires { bits_of_lanes lanes.now ≤ 640 }
-    ensures { result ≡ bits_of_lanes lanes.now }
-{
-    lanes.iter().map(|lane| lane.len as u64).sum()
-}
 
 /// Whether the rows and numbers of an exact part are those of occupied cells, and all else is zero.
 fn exact_holds(

@@ -86,21 +86,13 @@ fn tcam_blocks_fit(blocks: &Bytes) -> bool
     blocks.as_slice().iter().all(|block| *block < 16)
 }
 
-/// The bits of a slot's key, of fewer than 65,536 lanes.
-pub fn key_bits(slot: &SlotUnit) -> u32
-    requires { length slot.now.keys < 65536 }
-    ensures { result ≡ bits_of_lanes slot.now.keys }
-{
-    count_bits(slot.keys.as_slice())
-}
-
 /// Whether a slot, whose key has fewer than 65,536 lanes, has a key of at most 640 bits and an action.
 pub fn can_take_memory(slot: &SlotUnit) -> bool
     requires { length slot.now.keys < 65536 }
     ensures value { result ≡ takes_memory slot.now }
     ensures key { IsTrue result → bits_of_lanes slot.now.keys ≤ 640 }
 {
-    1 <= slot.keys.len() && key_bits(slot) <= 640 && 1 <= slot.actions
+    1 <= slot.keys.len() && count_bits(slot.keys.as_slice()) <= 640 && 1 <= slot.actions
 }
 
 fn can_have_memory(slot: &SlotUnit, quanta: u8) -> bool
@@ -137,7 +129,7 @@ fn format_fits(slot: &SlotUnit, width: u8, per: u16, quanta: u8, first_way: u8) 
         && 1 <= per
         && fits_two_bytes(per)
         && fits_byte(first_way)
-        && cells_fit(key_bits(slot), width, per)
+        && cells_fit(count_bits(slot.keys.as_slice()), width, per)
 }
 
 /// Whether a slot has nothing that needs a memory: no key, no action, no data, no count and no numbers, and is the last
@@ -183,7 +175,12 @@ fn memory_fits(slot: &SlotUnit) -> bool
         } => {
             can_have_memory(slot, *quanta)
                 && lists_fit(
-                    ternary_shape(key_bits(slot), *quanta, slot.held, slot.counted),
+                    ternary_shape(
+                        count_bits(slot.keys.as_slice()),
+                        *quanta,
+                        slot.held,
+                        slot.counted,
+                    ),
                     keys,
                     records,
                     counters,

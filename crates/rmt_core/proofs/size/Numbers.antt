@@ -1,8 +1,6 @@
 -- Where a configuration carries entries, each number that its slots list is that of an entry.
-use Rattle.std.proofs.Common.{◌≡◌, ℕ, ◌<◌, true, ◌==◌, List, Some, get_or, refl, sym, ap, ◌∙◌, subst, inl, inr, arith}
-use Rattle.std.specs.Prelude.{All, Contains, map, option_and_then, option_map, slice_get, unwrap_or}
-use Rattle.std.proofs.lemmas.Bool.{cases_order, eq-eqb, eqb-true}
-use Rattle.std.proofs.lemmas.List.{get_or_default}
+use Rattle.std.proofs.Common.{◌≡◌, ℕ, ◌<◌, true, List, Some, get_or, refl, sym, ap, ◌∙◌, subst, arith}
+use Rattle.std.specs.Prelude.{All, Contains, option_and_then, option_map, slice_get, unwrap_or}
 use Rattle.std.proofs.lemmas.List.Elements.{All-contains_itself, All-map, All-nil, All-contains}
 use Rattle.std.proofs.lemmas.Option.{slice_get-get_or}
 use Rattle.rmt_bits.proofs.AllLaws.{All-flat_map, All-slice_get}
@@ -13,8 +11,6 @@ use Rattle.rmt_ast.specs.EntryLists.{AreEntries}
 use Rattle.rmt_config.specs.declared.config.Unit.TheVariants.{Gate, Slot}
 use Rattle.rmt_config.specs.CellForm.{Coded, SlotHolds, StageHolds, entry_numbers, numbers_of_stage, numbers_of_unit}
 use Rattle.rmt_config.specs.Cells.{Content, content_of, is_seen, number_of_cell}
-use Rattle.rmt_config.specs.Order.{rises_from}
-use Rattle.rmt_config.proofs.RiseLaws.{rise-below}
 use Rattle.rmt_refine.specs.declared.map.Map.{Map}
 use Rattle.rmt_refine.specs.View.{as_slot, no_content, own_content, own_number, slot_of}
 use Rattle.rmt_refine.specs.Units.{DoesAs, TableCarried, applied, table_at}
@@ -22,33 +18,9 @@ use Rattle.rmt_refine.specs.Cells.{Spot}
 use Rattle.rmt_refine.specs.Carries.{Carries}
 use Rattle.rmt_refine.specs.Outcomes.{entries_at}
 use Rattle.rmt_refine.proofs.CellNumberLaws.{cells_listed, coded_slot}
-use Rattle.rmt_refine.proofs.FindLaws.{found_passes}
 use Rattle.rmt_refine.proofs.OutcomeLaws.{list_at}
 use Rattle.rmt_refine.proofs.PartLaws.{IsPart, slot_of_part, some_and, spot_of_part, unit_of_part}
-use Rattle.rmt_bits.proofs.FindLaws.{find-some}
-
--- ---- what a slot lists
-
--- items that rise are the same where their numbers are
-one_cell : (numbers : List CellNumber) (x y : CellNumber) → rises_from 0 (map (λ (n : CellNumber). n.cell) numbers) ≡ true → Contains numbers x → Contains numbers y → x.cell ≡ y.cell → x ≡ y
-one_cell numbers x y rises in_x in_y same =
-    let below = rise-below (λ (n : CellNumber). n.cell) 0 numbers rises in
-    let at_y : get_or numbers in_y.0 x ≡ y = get_or_default numbers in_y.0 x y in_y.1 ∙ in_y.2 in
-    let x_cell : (get_or numbers in_x.0 x).cell ≡ x.cell = ap (λ (n : CellNumber). n.cell) in_x.2 in
-    let y_cell : (get_or numbers in_y.0 x).cell ≡ y.cell = ap (λ (n : CellNumber). n.cell) at_y in
-    elim (cases_order in_x.0 in_y.0) as (λ _. x ≡ y) [
-      | inl at ↦ sym in_x.2 ∙ ap (λ i. get_or numbers i x) at ∙ at_y
-      | inr (inl lt) ↦ absurd (omega (arith, below in_x.0 in_y.0 x lt in_y.1, x_cell, y_cell, same))
-      | inr (inr gt) ↦ absurd (omega (arith, below in_y.0 in_x.0 x gt in_x.1, x_cell, y_cell, same))
-    ]
-
--- the number of a cell that is listed
-number_listed : (numbers : List CellNumber) (x : CellNumber) → rises_from 0 (map (λ (n : CellNumber). n.cell) numbers) ≡ true → Contains numbers x → number_of_cell numbers x.cell ≡ x.number
-number_listed numbers x rises there =
-    let first = find-some (λ (n : CellNumber). n.cell == x.cell) numbers x there (eq-eqb x.cell x.cell refl) in
-    let passes = found_passes (λ (n : CellNumber). n.cell == x.cell) numbers first.0 first.1 in
-    let same : first.0 ≡ x = one_cell numbers first.0 x rises passes.0 there (eqb-true first.0.cell x.cell passes.1) in
-    ap (λ o. unwrap_or (option_map (λ (n : CellNumber). n.number) o) 0) first.1 ∙ ap (λ (n : CellNumber). n.number) same
+use Rattle.rmt_update.proofs.SpelledEntries.{number-listed}
 
 -- ---- the table of a slot
 
@@ -97,7 +69,7 @@ module _ (p : Program) (lists : List (List Entry)) (m : Map) (c : Config) (visib
         entry = e.0;
         list_is = list.0;
         there = e.1;
-        number_is = sym holds.number_is ∙ own_number_is k place x.cell stage slot part ∙ number_listed slot.numbers x listed.rises there;
+        number_is = sym holds.number_is ∙ own_number_is k place x.cell stage slot part ∙ number-listed slot.numbers x listed.rises there;
       }
 
   -- ---- so their numbers are below what the numbers of entries are below

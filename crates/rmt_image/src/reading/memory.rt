@@ -1,6 +1,7 @@
 //! The memory of a slot, with its lists of blocks, whose lengths follow from the numbers before them.
 
 ghost use Rattle.std.specs.Prelude.{◌≡◌, ◌<◌, length};
+ghost use Rattle.rmt_config.specs.LaneForm.{bits_of_lanes};
 ghost use Rattle.rmt_image.specs.Readers.{Gives, where_, kept, list_at, byte_at, number_at, at_least};
 ghost use Rattle.rmt_image.specs.Reading.{block_at, blocks_at, quanta_fit, cells_fit, format_at, format_shape, exact_at, ternary_at, exact_of_parts, ternary_of_parts, memory_at};
 
@@ -9,8 +10,9 @@ use crate::reading::items::{Item, list_of};
 use crate::reading::number::{byte_of, kept, two_of};
 use rmt_bits::answer::Bytes;
 use rmt_config::config::{Memory, SlotUnit};
+use rmt_config::form::lane::count_bits;
 use rmt_config::form::shape::{Shape, exact_shape, ternary_shape};
-use rmt_config::form::unit::{can_take_memory, key_bits, needs_no_memory};
+use rmt_config::form::unit::{can_take_memory, needs_no_memory};
 use std::alloc::Global;
 
 // ---- lists of blocks
@@ -82,9 +84,11 @@ fn width_of(bytes: &[u8]) -> Result<(u8, &[u8]), ReadError>
     kept(1 <= width, width, rest)
 }
 
-fn per_of(bits: u32, width: u8, bytes: &[u8]) -> Result<(u16, &[u8]), ReadError>
-    ensures { Gives (λ x. (x.0, x.1.now)) result (kept (cells_fit bits width) (number_at 2) bytes.now) }
+fn per_of<'a>(slot: &SlotUnit, width: u8, bytes: &'a [u8]) -> Result<(u16, &'a [u8]), ReadError>
+    requires { length slot.now.keys < 65536 }
+    ensures { Gives (λ x. (x.0, x.1.now)) result (kept (cells_fit (bits_of_lanes slot.now.keys) width) (number_at 2) bytes.now) }
 {
+    let bits = count_bits(slot.keys.as_slice());
     let (per, rest) = two_of(bytes)?;
     let fits = 1 <= per && per as u64 * (bits as u64 + 8) <= 112 * width as u64;
     kept(fits, per, rest)
@@ -105,7 +109,7 @@ fn format_of<'a>(slot: &SlotUnit, bytes: &'a [u8]) -> Result<(Format, &'a [u8]),
     ensures { Gives (λ x. (x.0, x.1.now)) result (format_at slot.now bytes.now) }
 {
     let (width, rest) = width_of(bytes)?;
-    let (per, rest) = per_of(key_bits(slot), width, rest)?;
+    let (per, rest) = per_of(slot, width, rest)?;
     let (quanta, rest) = quanta_of(rest)?;
     let (first_way, rest) = byte_of(rest)?;
     let format = Format {
@@ -156,7 +160,12 @@ fn ternary_of<'a>(
         return Err(ReadError::Fault(ReadFault::Form));
     }
     let (quanta, rest) = quanta_of(bytes)?;
-    let shape = ternary_shape(key_bits(slot), quanta, slot.held, slot.counted);
+    let shape = ternary_shape(
+        count_bits(slot.keys.as_slice()),
+        quanta,
+        slot.held,
+        slot.counted,
+    );
     let (blocks, rest) = blocks_of(alloc, 16, shape, rest)?;
     Ok(((quanta, blocks), rest))
 }

@@ -30,14 +30,14 @@ impl Spelled for u8 {
     }
 }
 
-#[tactic(auto, using(crate::proofs::NumberLaws::high_first))]
+#[tactic(auto, using(rmt_config::proofs::HighFirst::high_first))]
 pub fn put_two(out: &mut Vec<u8>, number: u16) -> Result<(), AllocError>
     ensures { OnOk result (out.new.items ≡ out.old.items ++ two_bytes number) }
 {
     out.extend_from_slice(&number.to_be_bytes())
 }
 
-#[tactic(auto, using(crate::proofs::NumberLaws::high_first))]
+#[tactic(auto, using(rmt_config::proofs::HighFirst::high_first))]
 pub fn put_four(out: &mut Vec<u8>, number: u32) -> Result<(), AllocError>
     ensures { OnOk result (out.new.items ≡ out.old.items ++ four_bytes number) }
 {

@@ -17,7 +17,7 @@ fn put_bits(out: &mut Vec<u8>, bits: u128) -> Result<(), AllocError>
 }
 
 /// The low 5 bytes of a number.
-#[tactic(auto, using(crate::proofs::NumberLaws::high_first))]
+#[tactic(auto, using(rmt_config::proofs::HighFirst::high_first))]
 fn put_five(out: &mut Vec<u8>, number: u64) -> Result<(), AllocError>
     ensures { OnOk result (out.new.items ≡ out.old.items ++ bytes_of 5 number) }
 {

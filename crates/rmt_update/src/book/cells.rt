@@ -13,21 +13,14 @@ ghost use Rattle.rmt_update.specs.Kept.{IsKept};
 
 use crate::book::entry_words::entry_words;
 use crate::book::kept::Kept;
-use crate::book::rows::{tcam_masks, tcam_values, unit_blocks};
+use crate::book::rows::{tcam_masks, tcam_values};
 use crate::book::words::{bits_at, bytes_at};
-use rmt_bits::lane::Lane;
 use rmt_config::config::{CellNumber, SlotUnit, SramRow, Stage, TcamRow};
+use rmt_config::form::lane::key_bits;
 use rmt_config::form::layout::divided_up;
+use rmt_config::form::names::key_bytes::piece_at;
 use rmt_config::form::parts::{exact_keys, exact_records, ternary_records};
 use std::alloc::{AllocError, Global};
-
-/// How many bits lanes have together, at most 640.
-pub fn key_bits(lanes: &[Lane]) -> u64
-    requires { bits_of_lanes lanes.now ≤ 640 }
-    ensures { result ≡ bits_of_lanes lanes.now }
-{
-    lanes.iter().map(|lane| lane.len as u64).sum()
-}
 
 /// The data of a cell of an exact part. The only fault is want of memory.
 fn exact_held(
@@ -139,7 +132,7 @@ fn ternary_key(
     ensures mask_size { IfOk result (λ k. length k.mask.items ≡ divided_up_of bits 8) }
 {
     let side = divided_up(bits, 40);
-    let unit = unit_blocks(keys, side, cell / 2048);
+    let unit = piece_at(keys, side, cell / 2048);
     let values = tcam_values(alloc, rows, unit, cell % 2048)?;
     let masks = tcam_masks(alloc, rows, unit, cell % 2048)?;
     let value_words = values.as_slice();

@@ -125,7 +125,7 @@ fn put_parts(
 }
 
 /// Changed cells, one after another. The only fault is want of memory.
-fn written(alloc: Global, changes: CellChanges) -> Result<Vec<CellWrite>, AllocError>
+pub fn written(alloc: Global, changes: CellChanges) -> Result<Vec<CellWrite>, AllocError>
     ensures ordered { OnOk result (IsOrdered key_cmp changes) }
     ensures writes { IfOk result (λ writes. writes.items ≡ map (λ (x : ChangeKey × ChangeOf). x.1.write) changes.entries) }
 {

@@ -1,7 +1,7 @@
 //! Where the entries of a table stand, to find cells for those that come.
 
 ghost use Rattle.std.specs.Prelude.{◌≡◌, ◌+◌, ◌≤◌, ◌^◌, ◌++◌, ◌∷◌, [], All, IfOk, List, OnOk, Option, length, option_copied, true};
-ghost use Rattle.rmt_update.specs.RowIndex.{AreRows, HaveOwnRows, IsIndex, IsNone, has_rows as has_rows_of, part_rows, rows_of};
+ghost use Rattle.rmt_update.specs.RowIndex.{AreRows, HaveOwnRows, IsIndex, IsNone, has_rows as has_rows_of, never, part_rows, rows_of};
 ghost use Rattle.rmt_update.specs.declared.book.kept.Kept.{Kept as KeptOf};
 
 use crate::book::kept::Kept;
@@ -15,7 +15,7 @@ use std::collections::{BTreeMap, BTreeSet};
 /// Where the entries of a table stand that stay, and where those that came.
 #[derive(Drop)]
 pub enum TableIndex {
-    /// Of an exact table: the cells of each part that this commit gave.
+    /// Of an exact table: the cells of each part that the commit gave.
     Cells(Vec<BTreeSet<u32>>),
     /// Of a prefix or ternary table: its rows.
     Rows(RowOrder),
@@ -32,7 +32,7 @@ fn has_rows(kind: Kind) -> bool
 }
 
 /// So many sets of nothing. The only fault is want of memory.
-fn none_given(alloc: Global, parts: usize) -> Result<Vec<BTreeSet<u32>>, AllocError>
+pub fn none_given(alloc: Global, parts: usize) -> Result<Vec<BTreeSet<u32>>, AllocError>
     ensures count { IfOk result (λ given. length given.items ≡ parts) }
     ensures none { IfOk result (λ given. All IsNone given.items) }
 {
@@ -45,24 +45,21 @@ fn none_given(alloc: Global, parts: usize) -> Result<Vec<BTreeSet<u32>>, AllocEr
     Ok(given)
 }
 
-/// Adds a row: that of an entry that stays, or a free one. The only fault is want of memory.
+/// Adds a row: that of an entry that the version sees, or a free one. The only fault is want of memory.
 fn put_row(
     order: &mut RowOrder,
     kind: Kind,
     odd: bool,
-    gone: &BTreeSet<u32>,
     row: u32,
     kept: Option<&Kept>,
 ) -> Result<(), AllocError>
-    ensures { OnOk result ((xs : List (Option KeptOf)) → length xs ≡ row → HaveOwnRows (xs ++ option_copied kept.entry ∷ []) → AreRows kind odd gone.now xs order.old →
-        AreRows kind odd gone.now (xs ++ option_copied kept.entry ∷ []) order.new) }
+    ensures { OnOk result ((xs : List (Option KeptOf)) → length xs ≡ row → HaveOwnRows (xs ++ option_copied kept.entry ∷ []) → AreRows kind odd never xs order.old →
+        AreRows kind odd never (xs ++ option_copied kept.entry ∷ []) order.new) }
 {
     if let Some(kept) = kept {
         if is_seen(odd, kept) {
-            if !gone.contains(&kept.number) {
-                let key = row_key(kind, kept.rank, kept.number);
-                order.rows.insert(key, row)?;
-            }
+            let key = row_key(kind, kept.rank, kept.number);
+            order.rows.insert(key, row)?;
             return Ok(());
         }
     }
@@ -75,31 +72,25 @@ fn put_rows(
     order: &mut RowOrder,
     kind: Kind,
     odd: bool,
-    gone: &BTreeSet<u32>,
     first: u32,
     part: &PartCells,
 ) -> Result<(), AllocError>
     requires few { first + length (part_rows part.now) ≤ 2 ^ 31 }
-    ensures { OnOk result ((xs : List (Option KeptOf)) → length xs ≡ first → HaveOwnRows (xs ++ part_rows part.now) → AreRows kind odd gone.now xs order.old →
-        AreRows kind odd gone.now (xs ++ part_rows part.now) order.new) }
+    ensures { OnOk result ((xs : List (Option KeptOf)) → length xs ≡ first → HaveOwnRows (xs ++ part_rows part.now) → AreRows kind odd never xs order.old →
+        AreRows kind odd never (xs ++ part_rows part.now) order.new) }
 {
     for cell in 0..part.shape.cells() {
-        put_row(order, kind, odd, gone, first + cell, part.cells.get(&cell))?;
+        put_row(order, kind, odd, first + cell, part.cells.get(&cell))?;
     }
     Ok(())
 }
 
 /// The rows of a table. For one with more than 2^31 rows, as none has within the chip's limits, there isn't enough
 /// memory.
-fn order_of(
-    alloc: Global,
-    odd: bool,
-    gone: &BTreeSet<u32>,
-    table: &TableCells,
-) -> Result<RowOrder, AllocError>
+fn order_of(alloc: Global, odd: bool, table: &TableCells) -> Result<RowOrder, AllocError>
     requires numbers { HaveOwnRows (rows_of table.now.parts.items) }
     ensures few { OnOk result (length (rows_of table.now.parts.items) ≤ 2 ^ 31) }
-    ensures rows { IfOk result (AreRows table.now.name.kind odd gone.now (rows_of table.now.parts.items)) }
+    ensures rows { IfOk result (AreRows table.now.name.kind odd never (rows_of table.now.parts.items)) }
 {
     let mut order = RowOrder {
         rows: BTreeMap::new(alloc),
@@ -111,25 +102,19 @@ fn order_of(
         if cells > 2_147_483_648 - first {
             return Err(AllocError);
         }
-        put_rows(&mut order, table.name.kind, odd, gone, first, part)?;
+        put_rows(&mut order, table.name.kind, odd, first, part)?;
         first += cells;
     }
     Ok(order)
 }
 
-/// The index of a table from which entries of these numbers go, before others come to it. The only fault is want of
-/// memory.
-pub fn index_of(
-    alloc: Global,
-    odd: bool,
-    gone: &BTreeSet<u32>,
-    table: &TableCells,
-) -> Result<TableIndex, AllocError>
+/// The index of a table before entries go or come. The only fault is want of memory.
+pub fn index_of(alloc: Global, odd: bool, table: &TableCells) -> Result<TableIndex, AllocError>
     requires numbers { HaveOwnRows (rows_of table.now.parts.items) }
-    ensures { IfOk result (IsIndex odd gone.now table.now) }
+    ensures { IfOk result (IsIndex odd never table.now) }
 {
     if has_rows(table.name.kind) {
-        Ok(TableIndex::Rows(order_of(alloc, odd, gone, table)?))
+        Ok(TableIndex::Rows(order_of(alloc, odd, table)?))
     } else {
         Ok(TableIndex::Cells(none_given(alloc, table.parts.len())?))
     }

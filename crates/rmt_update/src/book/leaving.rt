@@ -1,41 +1,33 @@
-//! What is left of the cells of a book behind a commit that moves none.
+//! How cells change to which no entry comes in a commit that moves none.
 
-ghost use Rattle.std.specs.Prelude.{◌≡◌, IfOk, Some, option_map};
+ghost use Rattle.std.specs.Prelude.{◌≡◌, ◌<◌, ℕ, Contains, OnOk, Some, option_copied, option_map};
+ghost use Rattle.std.specs.BTreeMap.{get};
 ghost use Rattle.std.specs.BTreeSet.{contains};
-ghost use Rattle.std.specs.List.{AllZip};
 ghost use Rattle.std.specs.Ordering.{nat_cmp};
+ghost use Rattle.rmt_update.specs.BookSpots.{kept_at};
+ghost use Rattle.rmt_update.specs.Differences.{Puts};
 ghost use Rattle.rmt_update.specs.NextKept.{next_kept};
-ghost use Rattle.rmt_update.specs.Turning.{AreLeft, HasLeft, IsLeft, IsLike};
+ghost use Rattle.rmt_update.specs.TurnWrites.{AreOnWay, AreSmall, HaveOwnSlots, MoreChanged, PutsLeft, shown_write};
+ghost use Rattle.rmt_update.specs.Turning.{left_by, part_of};
 ghost use Rattle.rmt_update.specs.declared.book.kept.Kept.{Kept as KeptOf};
+ghost use Rattle.rmt_update.specs.declared.book.spot.BookSpot.{BookSpot as SpotOf};
 
+use crate::book::changing::{CellChanges, put_empty, put_kept};
 use crate::book::kept::Kept;
 use crate::book::seen::is_seen;
+use crate::book::spot::BookSpot;
 use crate::book::table::{PartCells, TableCells};
 use std::alloc::{AllocError, Global};
 use std::collections::{BTreeMap, BTreeSet};
 
-/// Equal bytes. The only fault is want of memory.
-fn copied(alloc: Global, bytes: &Vec<u8>) -> Result<Vec<u8>, AllocError>
-    ensures { IfOk result (λ copy. copy.items ≡ bytes.now.items) }
+/// The part of a spot.
+pub fn part_at(tables: &[TableCells], spot: BookSpot) -> Option<&PartCells>
+    ensures { option_copied result ≡ part_of tables.now spot }
 {
-    let copy = Vec::from_slice(alloc, bytes.as_slice())?;
-    Ok(copy)
-}
-
-/// What is kept, with these visible bits. The only fault is want of memory.
-fn with_visible(alloc: Global, visible: u8, kept: &Kept) -> Result<Kept, AllocError>
-    ensures { IfOk result (λ next. IsLike next (record kept.now { visible = visible })) }
-{
-    Ok(Kept {
-        cell: kept.cell,
-        visible,
-        code: kept.code,
-        key: copied(alloc, &kept.key)?,
-        mask: copied(alloc, &kept.mask)?,
-        held: copied(alloc, &kept.held)?,
-        number: kept.number,
-        rank: kept.rank,
-    })
+    match tables.get(spot.table) {
+        Some(table) => table.parts.as_slice().get(spot.at.part),
+        None => None,
+    }
 }
 
 /// The visible bits that a cell has next to which no entry comes; None where it is emptied.
@@ -52,58 +44,94 @@ fn next_visible(odd: bool, gone: &BTreeSet<u32>, kept: &Kept) -> Option<u8>
     }
 }
 
-/// What is left of cells. The only fault is want of memory.
-fn left_cells(
+/// Adds an occupied cell of a part that gets these visible bits, unless it has them; without any it is emptied. The only
+/// fault is want of memory.
+fn put_shown(
     alloc: Global,
-    odd: bool,
-    gone: &BTreeSet<u32>,
-    cells: &BTreeMap<u32, Kept>,
-) -> Result<BTreeMap<u32, Kept>, AllocError>
-    ensures { IfOk result (AreLeft odd gone.now cells.now) }
+    changes: &mut CellChanges,
+    part: &PartCells,
+    spot: BookSpot,
+    kept: &Kept,
+    visible: Option<u8>,
+) -> Result<(), AllocError>
+    requires stage { part.now.stage < 256 }
+    requires place { part.now.place < 256 }
+    ensures { OnOk result (Puts changes.old changes.new ((part.now.stage, part.now.place), spot.at.cell) spot (shown_write part.now.stage part.now.place spot.at.cell kept.now visible)) }
 {
-    let mut left = BTreeMap::new(alloc);
-    for (cell, kept) in cells.iter() {
-        if let Some(visible) = next_visible(odd, gone, kept) {
-            left.insert(*cell, with_visible(alloc, visible, kept)?)?;
+    match visible {
+        None => put_empty(alloc, changes, part, spot),
+        Some(visible) => {
+            if visible == kept.visible {
+                Ok(())
+            } else {
+                put_kept(alloc, changes, part, spot, visible, kept)
+            }
         }
     }
-    Ok(left)
 }
 
-/// What is left of a table's parts. The only fault is want of memory.
-fn left_parts(
+/// Adds a cell to which no entry comes, if it changes, where entries of these numbers go. The only fault is want of memory.
+fn put_left(
     alloc: Global,
-    odd: bool,
-    gone: &BTreeSet<u32>,
-    parts: &[PartCells],
-) -> Result<Vec<PartCells>, AllocError>
-    ensures { IfOk result (λ left. AllZip (IsLeft odd gone.now) parts.now left.items) }
-{
-    let mut left = Vec::with_capacity(alloc, parts.len())?;
-    for part in parts {
-        left.push(PartCells {
-            stage: part.stage,
-            place: part.place,
-            first: part.first,
-            shape: part.shape,
-            cells: left_cells(alloc, odd, gone, &part.cells)?,
-        })?;
-    }
-    Ok(left)
-}
-
-/// What is left of the parts of tables, where entries of these numbers go. The only fault is want of memory.
-pub fn left_tables(
-    alloc: Global,
+    changes: &mut CellChanges,
     odd: bool,
     gone: &BTreeSet<u32>,
     tables: &[TableCells],
-) -> Result<Vec<Vec<PartCells>>, AllocError>
-    ensures { IfOk result (λ left. AllZip (HasLeft odd gone.now) tables.now left.items) }
+    spot: BookSpot,
+) -> Result<(), AllocError>
+    requires { AreSmall tables.now }
+    ensures { OnOk result (PutsLeft odd (contains nat_cmp gone.now) (part_of tables.now spot) spot changes.old changes.new) }
 {
-    let mut left = Vec::with_capacity(alloc, tables.len())?;
-    for table in tables {
-        left.push(left_parts(alloc, odd, gone, table.parts.as_slice())?)?;
+    let Some(part) = part_at(tables, spot) else {
+        return Ok(());
+    };
+    let Some(kept) = part.cells.get(&spot.at.cell) else {
+        return Ok(());
+    };
+    let visible = next_visible(odd, gone, kept);
+    put_shown(alloc, changes, part, spot, kept, visible)
+}
+
+/// Adds those of some cells that change to which no entry comes. The only fault is want of memory.
+pub fn put_recent(
+    alloc: Global,
+    changes: &mut CellChanges,
+    odd: bool,
+    gone: &BTreeSet<u32>,
+    tables: &[TableCells],
+    spots: &[BookSpot],
+) -> Result<(), AllocError>
+    requires small { AreSmall tables.now }
+    requires slots { HaveOwnSlots tables.now }
+    ensures { OnOk result (AreOnWay tables.now (λ s. left_by odd (contains nat_cmp gone.now) (kept_at tables.now s)) changes.old →
+        MoreChanged tables.now (λ s. left_by odd (contains nat_cmp gone.now) (kept_at tables.now s)) changes.old changes.new (Contains spots.now)) }
+{
+    for spot in spots {
+        put_left(alloc, changes, odd, gone, tables, *spot)?;
     }
-    Ok(left)
+    Ok(())
+}
+
+/// Adds those of the cells that change whose entries have some numbers. The only fault is want of memory.
+pub fn put_gone(
+    alloc: Global,
+    changes: &mut CellChanges,
+    odd: bool,
+    gone: &BTreeSet<u32>,
+    tables: &[TableCells],
+    found: &BTreeMap<u32, BookSpot>,
+    numbers: &[u32],
+) -> Result<(), AllocError>
+    requires small { AreSmall tables.now }
+    requires slots { HaveOwnSlots tables.now }
+    ensures { OnOk result (AreOnWay tables.now (λ s. left_by odd (contains nat_cmp gone.now) (kept_at tables.now s)) changes.old →
+        MoreChanged tables.now (λ s. left_by odd (contains nat_cmp gone.now) (kept_at tables.now s)) changes.old changes.new
+        (λ (s : SpotOf). (n : ℕ) × Contains numbers.now n × (get nat_cmp found.now n ≡ Some s))) }
+{
+    for number in numbers {
+        if let Some(spot) = found.get(number) {
+            put_left(alloc, changes, odd, gone, tables, *spot)?;
+        }
+    }
+    Ok(())
 }

@@ -63,6 +63,7 @@ impl Book {
         let parts = moved_parts(alloc, self.tables.as_slice(), &after, spots)?;
         let writes = differences(alloc, self.tables.as_slice(), parts.as_slice())?;
         put_back(&mut self.tables, parts);
+        self.index = None;
         self.odd = !self.odd;
         self.seed = loaded.seed;
         Ok(Plan {

@@ -1,8 +1,7 @@
 //! Which cells the entries of a commit take, where no cell moves.
 
-ghost use Rattle.std.specs.Prelude.{◌≡◌, ◌+◌, ◌<◌, ◌≤◌, ℕ, All, IfOk, IfSome, IsTrue, List, Option, Some, length, sum, take};
+ghost use Rattle.std.specs.Prelude.{◌≡◌, ◌+◌, ◌<◌, ◌≤◌, All, IfOk, IfSome, IsTrue, List, Option, Some, length, slice_get, sum, take, true};
 ghost use Rattle.std.specs.BTreeMap.{IsOrdered};
-ghost use Rattle.std.specs.BTreeSet.{contains};
 ghost use Rattle.std.specs.Ordering.{nat_cmp};
 ghost use Rattle.rmt_ast.specs.EntryLists.{IsEntry};
 ghost use Rattle.rmt_ast.specs.NameRules.{table_is_formed, terms_of_name};
@@ -10,20 +9,24 @@ ghost use Rattle.rmt_ast.specs.declared.entry.Entry.{Entry as EntryOf};
 ghost use Rattle.rmt_ast.specs.declared.names.Names.{Names as NamesOf};
 ghost use Rattle.rmt_config.specs.RunCells.{RunCells};
 ghost use Rattle.rmt_config.specs.declared.config.Config.{Config as ConfigOf};
+ghost use Rattle.rmt_update.specs.BookIndex.{IsBookIndex};
 ghost use Rattle.rmt_update.specs.BookStands.{BookStands};
 ghost use Rattle.rmt_update.specs.Come.{AreOrdered, HaveCome, IsRunOf, MayHaveCome, Run, come_to};
+ghost use Rattle.rmt_update.specs.ComeIndex.{HasPlaced, HasPlacedIn};
 ghost use Rattle.rmt_update.specs.Placing.{IsPlacing};
 ghost use Rattle.rmt_update.specs.Planned.{MayChange};
+ghost use Rattle.rmt_update.specs.RowIndex.{IsIndex};
 ghost use Rattle.rmt_update.specs.Running.{is_among};
 ghost use Rattle.rmt_update.specs.Taking.{Holds, IsComing, MayCome, MayGive, TakesFrom};
 ghost use Rattle.rmt_update.specs.declared.book.spots.Spot.{Spot as SpotOf};
-ghost use Rattle.rmt_update.specs.declared.book.table.PartCells.{PartCells as PartOf};
+ghost use Rattle.rmt_update.specs.declared.book.table.TableCells.{TableCells as TableOf};
 
 use crate::book::Book;
+use crate::book::book_index::BookIndex;
 use crate::book::coming::kept_of;
-use crate::book::index::{TableIndex, index_of};
+use crate::book::going::leave;
+use crate::book::index::TableIndex;
 use crate::book::kept::Kept;
-use crate::book::number_set::number_set;
 use crate::book::spot::BookSpot;
 use crate::book::spots::Spot;
 use crate::book::table::{PartCells, TableCells};
@@ -32,7 +35,6 @@ use crate::lists::Changes;
 use rmt_ast::entry::Entry;
 use rmt_bits::sequence::Sequence;
 use std::alloc::{AllocError, Global};
-use std::collections::BTreeSet;
 
 /// An entry that comes, as the cell keeps it that it takes.
 #[derive(Drop)]
@@ -58,7 +60,7 @@ fn are_ordered(table: &TableCells)
 }
 
 /// The cells of each part of the tables rise.
-fn all_ordered(tables: &[TableCells])
+pub fn all_ordered(tables: &[TableCells])
     ensures { All AreOrdered tables.now }
 {
     for table in tables {
@@ -135,23 +137,23 @@ impl Book {
     fn place_in(
         &self,
         alloc: Global,
-        gone: &BTreeSet<u32>,
         changes: &Changes,
         at: usize,
+        index: &mut TableIndex,
         placing: &mut Sequence<Coming>,
     ) -> Result<bool, AllocError>
-        requires gone { (n : ℕ) → contains nat_cmp gone.now n ≡ is_among changes.now.gone n }
         requires ordered { All AreOrdered self.now.tables.items }
         requires at { at < length self.now.tables.items }
+        requires index { (t : TableOf) → slice_get self.now.tables.items at ≡ Some t → IsIndex self.now.odd (is_among changes.now.gone) t index.old }
         requires run { (w : Run) × IsRunOf self.now changes.now w × HaveCome w self.now changes.now (come_to changes.now (take at self.now.tables.items)) placing.old }
-        ensures { IfOk result (λ all. (w : Run) → IsRunOf self.now changes.now w → HaveCome w self.now changes.now (come_to changes.now (take at self.now.tables.items)) placing.old →
+        ensures come { IfOk result (λ all. (w : Run) → IsRunOf self.now changes.now w → HaveCome w self.now changes.now (come_to changes.now (take at self.now.tables.items)) placing.old →
             MayHaveCome w self.now changes.now (come_to changes.now (take (at + 1) self.now.tables.items)) placing.new all) }
+        ensures index { IfOk result (λ all. all ≡ true → HasPlacedIn self.now.odd changes.now.gone self.now.tables.items at placing.old placing.new index.new) }
     {
         let table = &self.tables[at];
-        let mut index = index_of(alloc, self.odd, gone, table)?;
         for entry in changes.come.as_slice() {
             if entry.table == table.name.node {
-                match place_one(alloc, self.odd, self.seed, at, table, &mut index, entry)? {
+                match place_one(alloc, self.odd, self.seed, at, table, index, entry)? {
                     Some(coming) => placing.push(coming)?,
                     None => return Ok(false),
                 }
@@ -161,22 +163,26 @@ impl Book {
     }
 
     /// The cells that the entries that come take, one after another, by node and then by number; None where one of them
-    /// finds no cell, so that a cell must move. The only fault is want of memory.
+    /// finds no cell, so that a cell must move. The entries that go leave the rows of the index, and those that come enter
+    /// them. The only fault is want of memory.
     pub fn place(
         &self,
         alloc: Global,
         changes: &Changes,
+        index: &mut BookIndex,
     ) -> Result<Option<Sequence<Coming>>, AllocError>
-        requires { (c : ConfigOf) × (names : NamesOf) × (cells : RunCells) × (lists : List (List EntryOf)) × BookStands c cells lists self.now × (c.names ≡ Some names) × MayChange c names cells lists changes.now }
+        requires may { (c : ConfigOf) × (names : NamesOf) × (cells : RunCells) × (lists : List (List EntryOf)) × BookStands c cells lists self.now × (c.names ≡ Some names) × MayChange c names cells lists changes.now }
+        requires index { IsBookIndex self.now.odd self.now.tables.items index.old }
         ensures placing { IfOk result (λ placing. (c : ConfigOf) (names : NamesOf) (cells : RunCells) (lists : List (List EntryOf)) → BookStands c cells lists self.now → c.names ≡ Some names → MayChange c names cells lists changes.now →
             IsPlacing c names cells lists changes.now self.now.odd self.now.tables.items placing) }
         ensures few { IfOk result (λ placing. IfSome placing (λ come. length come ≤ length changes.now.come)) }
+        ensures index { IfOk result (λ placing. IfSome placing (λ come. HasPlaced self.now.odd changes.now.gone come self.now.tables.items index.new)) }
     {
         all_ordered(self.tables.as_slice());
-        let gone = number_set(alloc, changes.gone.as_slice())?;
+        leave(self.tables.as_slice(), changes.gone.as_slice(), index);
         let mut placing = Sequence::new(alloc);
         for at in 0..self.tables.len() {
-            if !self.place_in(alloc, &gone, changes, at, &mut placing)? {
+            if !self.place_in(alloc, changes, at, &mut index.tables[at], &mut placing)? {
                 return Ok(None);
             }
         }

@@ -45,9 +45,10 @@ impl Book {
         ensures recent { IfOk result (λ plan. plan.moved ≡ false → length (recent self.new.tables.items) ≤ length changes.now.gone + length changes.now.come) }
         ensures kept { OnErr result ((c : ConfigOf) (cells : RunCells) (lists : List (List EntryOf)) → BookStands c cells lists self.old → BookStands c cells lists self.new) }
     {
-        match self.place(alloc, changes)? {
+        let mut index = self.take_index(alloc)?;
+        match self.place(alloc, changes, &mut index)? {
             Some(come) => {
-                let writes = self.settle(alloc, changes, come)?;
+                let writes = self.settle(alloc, changes, come, index)?;
                 Ok(Plan {
                     moved: false,
                     seed: self.seed,

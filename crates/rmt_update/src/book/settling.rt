@@ -1,47 +1,140 @@
 //! A commit that moves no cell.
 
-ghost use Rattle.std.specs.Prelude.{◌≡◌, ◌+◌, ◌≤◌, ◌++◌, All, IfOk, List, OnErr, OnOk, Some, length};
+ghost use Rattle.std.specs.Prelude.{◌≡◌, ◌+◌, ◌≤◌, ◌++◌, All, IfOk, List, OnErr, OnOk, Option, Some, length, map};
+ghost use Rattle.std.specs.BTreeMap.{IsOrdered};
 ghost use Rattle.rmt_ast.specs.declared.entry.Entry.{Entry as EntryOf};
 ghost use Rattle.rmt_ast.specs.declared.names.Names.{Names as NamesOf};
 ghost use Rattle.rmt_config.specs.Commits.{AreWrites, settled};
 ghost use Rattle.rmt_config.specs.RunCells.{RunCells, with_version};
 ghost use Rattle.rmt_config.specs.declared.config.Config.{Config as ConfigOf};
+ghost use Rattle.rmt_update.specs.BookIndex.{FindsCells};
+ghost use Rattle.rmt_update.specs.BookSpots.{kept_at};
 ghost use Rattle.rmt_update.specs.BookStands.{BookStands};
+ghost use Rattle.rmt_update.specs.Changing.{ChangeKey, key_cmp};
+ghost use Rattle.rmt_update.specs.ComeIndex.{HasPlaced};
 ghost use Rattle.rmt_update.specs.Placing.{ArePlaced};
 ghost use Rattle.rmt_update.specs.Planned.{HasLengths, MayChange, changed_lists};
 ghost use Rattle.rmt_update.specs.Recent.{recent};
-ghost use Rattle.rmt_update.specs.Turning.{AreNextParts, IsSpotIn};
+ghost use Rattle.rmt_update.specs.TurnWrites.{AreChanged, AreSmall, HaveOwnSlots, IsFresh, IsOfTables, cell_turn, turn_of as turn_of_bits};
+ghost use Rattle.rmt_update.specs.Turning.{HaveCells, IsSpotIn, come_to, left_kept, turned};
+ghost use Rattle.rmt_update.specs.declared.book.changing.CellChange.{CellChange as ChangeOf};
+ghost use Rattle.rmt_update.specs.declared.book.kept.Kept.{Kept as KeptOf};
 ghost use Rattle.rmt_update.specs.declared.book.placing.Coming.{Coming as ComingOf};
+ghost use Rattle.rmt_update.specs.declared.book.spot.BookSpot.{BookSpot as SpotOf};
 
 use crate::book::Book;
-use crate::book::differences::differences;
-use crate::book::entering::put_all;
-use crate::book::leaving::left_tables;
-use crate::book::moving::put_back;
+use crate::book::book_index::BookIndex;
+use crate::book::changing::{CellChanges, put_kept};
+use crate::book::differences::written;
+use crate::book::entering::enter;
+use crate::book::leaving::{part_at, put_gone, put_recent};
 use crate::book::number_set::number_set;
-use crate::book::placing::Coming;
-use crate::book::table::{PartCells, TableCells};
+use crate::book::placing::{Coming, all_ordered};
+use crate::book::table::TableCells;
+use crate::book::turning::{CellTurn, Turn, turn_all};
 use crate::lists::Changes;
 use rmt_bits::sequence::Sequence;
 use rmt_config::cell_write::CellWrite;
 use std::alloc::{AllocError, Global};
 
-/// The parts of tables as they are next, where entries of these numbers go, and these come. The tables are copied, so that
-/// after want of memory, the only fault, nothing has changed.
-fn next_parts(
+/// Adds the cells to which entries come. The only fault is want of memory.
+fn put_come(
+    alloc: Global,
+    changes: &mut CellChanges,
+    tables: &[TableCells],
+    come: &[Coming],
+) -> Result<(), AllocError>
+    requires small { AreSmall tables.now }
+    requires slots { HaveOwnSlots tables.now }
+    requires fresh { All (IsFresh tables.now) come.now }
+    ensures { OnOk result ((next : SpotOf → Option KeptOf) → AreChanged tables.now next changes.old → AreChanged tables.now (λ s. come_to come.now s (next s)) changes.new) }
+{
+    for coming in come {
+        if let Some(part) = part_at(tables, coming.spot) {
+            let kept = &coming.kept;
+            put_kept(alloc, changes, part, coming.spot, kept.visible, kept)?;
+        }
+    }
+    Ok(())
+}
+
+/// The cells that change, where entries of these numbers go, and these come. The only fault is want of memory.
+fn changes_at(
     alloc: Global,
     odd: bool,
     tables: &[TableCells],
+    index: &BookIndex,
     gone: &[u32],
-    come: Sequence<Coming>,
-) -> Result<Vec<Vec<PartCells>>, AllocError>
-    requires { All (λ (x : ComingOf). IsSpotIn tables.now x.spot) come }
-    ensures { IfOk result (λ moved. AreNextParts odd gone.now come tables.now moved.items) }
+    come: &[Coming],
+) -> Result<CellChanges, AllocError>
+    requires index { FindsCells tables.now index.now }
+    requires small { AreSmall tables.now }
+    requires slots { HaveOwnSlots tables.now }
+    requires fresh { All (IsFresh tables.now) come.now }
+    ensures { IfOk result (AreChanged tables.now (λ s. come_to come.now s (left_kept odd gone.now (kept_at tables.now s)))) }
 {
     let numbers = number_set(alloc, gone)?;
-    let mut moved = left_tables(alloc, odd, &numbers, tables)?;
-    put_all(&mut moved, come)?;
-    Ok(moved)
+    let recent = index.recent.as_slice();
+    let mut changes = CellChanges::new(alloc);
+    put_recent(alloc, &mut changes, odd, &numbers, tables, recent)?;
+    put_gone(
+        alloc,
+        &mut changes,
+        odd,
+        &numbers,
+        tables,
+        &index.spots,
+        gone,
+    )?;
+    put_come(alloc, &mut changes, tables, come)?;
+    Ok(changes)
+}
+
+/// The turn of a cell that gets these visible bits; without any it is emptied.
+fn turn_of(visible: u8) -> Turn
+    ensures { result ≡ turn_of_bits visible }
+{
+    if visible == 0 {
+        Turn::Empty
+    } else {
+        Turn::Shows(visible)
+    }
+}
+
+/// The turns of changed cells. The only fault is want of memory.
+fn turns_of(alloc: Global, changes: &CellChanges) -> Result<Vec<CellTurn>, AllocError>
+    ensures { IfOk result (λ turns. turns.items ≡ map cell_turn changes.now.entries) }
+{
+    let mut turns = Vec::with_capacity(alloc, changes.len())?;
+    for (_, change) in changes.iter() {
+        turns.push(CellTurn {
+            spot: change.spot,
+            turn: turn_of(change.write.visible),
+        })?;
+    }
+    Ok(turns)
+}
+
+/// Entries come to their cells, and the changed cells turn; they are given one after another. After want of memory, the only
+/// fault, the cells are as before.
+fn make_changes(
+    alloc: Global,
+    tables: &mut Vec<TableCells>,
+    cells: CellChanges,
+    come: Sequence<Coming>,
+) -> Result<Vec<CellWrite>, AllocError>
+    requires there { All (λ (x : ComingOf). IsSpotIn tables.old.items x.spot) come }
+    requires spots { All (IsOfTables tables.old.items) cells.entries }
+    ensures ordered { OnOk result (IsOrdered key_cmp cells) }
+    ensures writes { IfOk result (λ writes. writes.items ≡ map (λ (x : ChangeKey × ChangeOf). x.1.write) cells.entries) }
+    ensures made { OnOk result (HaveCells tables.old.items tables.new.items (λ s. turned (map cell_turn cells.entries) s (come_to come s (kept_at tables.old.items s)))) }
+    ensures kept { OnErr result (HaveCells tables.old.items tables.new.items (kept_at tables.old.items)) }
+{
+    let turns = turns_of(alloc, &cells)?;
+    let writes = written(alloc, cells)?;
+    enter(alloc, tables, come)?;
+    turn_all(tables, turns);
+    Ok(writes)
 }
 
 impl Book {
@@ -54,9 +147,11 @@ impl Book {
         alloc: Global,
         changes: &Changes,
         come: Sequence<Coming>,
+        index: BookIndex,
     ) -> Result<Vec<CellWrite>, AllocError>
-        requires { (c : ConfigOf) × (names : NamesOf) × (cells : RunCells) × (lists : List (List EntryOf)) × BookStands c cells lists self.old × (c.names ≡ Some names) × MayChange c names cells lists changes.now
+        requires may { (c : ConfigOf) × (names : NamesOf) × (cells : RunCells) × (lists : List (List EntryOf)) × BookStands c cells lists self.old × (c.names ≡ Some names) × MayChange c names cells lists changes.now
             × ArePlaced c names cells lists changes.now self.old.odd self.old.tables.items come }
+        requires index { HasPlaced self.old.odd changes.now.gone come self.old.tables.items index }
         ensures writes { IfOk result (λ writes. (c : ConfigOf) (names : NamesOf) (cells : RunCells) (lists : List (List EntryOf)) → BookStands c cells lists self.old → c.names ≡ Some names → MayChange c names cells lists changes.now →
             (placed : ArePlaced c names cells lists changes.now self.old.odd self.old.tables.items come) → AreWrites c cells (settled c names cells lists (placed.stay ++ placed.coming)) writes.items) }
         ensures sizes { IfOk result (λ writes. (c : ConfigOf) (names : NamesOf) (cells : RunCells) (lists : List (List EntryOf)) → BookStands c cells lists self.old → c.names ≡ Some names → MayChange c names cells lists changes.now →
@@ -67,10 +162,14 @@ impl Book {
         ensures recent { OnOk result (length (recent self.new.tables.items) ≤ length changes.now.gone + length come) }
         ensures kept { OnErr result ((c : ConfigOf) (cells : RunCells) (lists : List (List EntryOf)) → BookStands c cells lists self.old → BookStands c cells lists self.new) }
     {
+        self.index = None;
         let tables = self.tables.as_slice();
-        let moved = next_parts(alloc, self.odd, tables, changes.gone.as_slice(), come)?;
-        let writes = differences(alloc, self.tables.as_slice(), moved.as_slice())?;
-        put_back(&mut self.tables, moved);
+        all_ordered(tables);
+        let gone = changes.gone.as_slice();
+        let cells = changes_at(alloc, self.odd, tables, &index, gone, come.as_slice())?;
+        let next = self.next_index(alloc, changes, &come, index)?;
+        let writes = make_changes(alloc, &mut self.tables, cells, come)?;
+        self.index = Some(next);
         self.odd = !self.odd;
         Ok(writes)
     }

@@ -12,10 +12,10 @@ ghost use Rattle.rmt_config.specs.UnitForm.{slot_is_formed};
 ghost use Rattle.rmt_config.specs.declared.config.SlotUnit.{SlotUnit as SlotOf};
 ghost use Rattle.rmt_update.specs.PartShape.{HasFewCells, IsGrid, IsShape, cell_count, cells_for, row_cells};
 
-use crate::book::cells::key_bits;
 use crate::book::grid::{Grid, PartWays};
 use rmt_bits::hash::hash_row;
 use rmt_config::config::{Memory, SlotUnit};
+use rmt_config::form::lane::key_bits;
 use std::alloc::{AllocError, Global};
 
 /// What is kept of the memory of a part.

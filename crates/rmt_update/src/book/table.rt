@@ -10,15 +10,16 @@ ghost use Rattle.rmt_config.specs.LaneForm.{bits_of_lanes};
 ghost use Rattle.rmt_config.specs.MemoryRules.{MemoryIsFormed};
 ghost use Rattle.rmt_config.specs.NamesForm.{has_key_bits, has_parts, is_of_kind, rank_told};
 ghost use Rattle.rmt_config.specs.PartStands.{PartStands};
+ghost use Rattle.rmt_config.specs.PartsTold.{part_at};
 ghost use Rattle.rmt_update.specs.Listed.{AreListed, IsListed};
-ghost use Rattle.rmt_update.specs.PartList.{part_at};
 
 use crate::book::kept::Kept;
-use crate::book::parts::{Part, cell_of, parts_of};
+use crate::book::parts::cell_of;
 use crate::book::ranks::{rank_of, ranks_told};
 use crate::book::shape::{Shape, shape_of};
 use rmt_ast::names::TableName;
 use rmt_config::config::Config;
+use rmt_config::form::names::part_list::{Part, parts_of};
 use std::alloc::{AllocError, Global};
 use std::collections::BTreeMap;
 

@@ -21,21 +21,13 @@ use crate::fault::VerifyFault;
 use rmt_ast::entry::Entry;
 use rmt_bits::answer::Bytes;
 use rmt_bits::hash::hash_row;
-use rmt_bits::lane::Lane;
 use rmt_config::config::{SlotUnit, SramRow, Stage};
+use rmt_config::form::lane::key_bits;
 use rmt_config::form::layout::divided_up;
 use rmt_config::form::names::key_bytes::piece_at;
 use rmt_config::form::parts::{exact_keys, exact_records, ternary_records};
 use rmt_pack::tcam::tcam_row as words_of;
 use std::alloc::{AllocError, Global};
-
-/// How many bits lanes have together, at most 640.
-fn key_bits(lanes: &[Lane]) -> u64
-    requires { bits_of_lanes lanes.now ≤ 640 }
-    ensures { result ≡ bits_of_lanes lanes.now }
-{
-    lanes.iter().map(|lane| lane.len as u64).sum()
-}
 
 /// The memory of an exact part: the shape of its rows, the SRAM blocks of its entries and those of their data.
 #[derive(Clone, Copy)]

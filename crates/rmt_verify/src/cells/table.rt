@@ -2,22 +2,22 @@
 
 ghost use Rattle.std.specs.Prelude.{◌≡◌, ◌↔◌, All, Contains, IfOk, IsTrue, List, slice_index_or, sum};
 ghost use Rattle.rmt_config.specs.PartStands.{PartStands};
+ghost use Rattle.rmt_config.specs.PartsTold.{part_at, parts_at};
 ghost use Rattle.rmt_config.specs.Rooms.{PartAt, parts_of as parts_of_node};
 ghost use Rattle.rmt_refine.specs.declared.map.CellOf.{CellOf as CellOfMap};
 ghost use Rattle.rmt_verify.specs.CellsHeld.{CellHeld, TableHeld, told_at};
-ghost use Rattle.rmt_verify.specs.PartList.{part_at, parts_at};
 ghost use Rattle.rmt_verify.specs.TableKnown.{PartKnown, TableKnown};
 ghost use Rattle.rmt_verify.specs.Told.{AreTold};
 
 use crate::cells::content::{ExactMemory, exact_holds, ternary_holds};
 use crate::cells::entries::{entry_of, keep_order};
-use crate::cells::parts::{Part, listed_numbers, parts_of};
 use crate::cells::told::is_told;
 use crate::fault::VerifyFault;
 use rmt_ast::entry::Entry;
 use rmt_ast::program::{Program, Table};
 use rmt_bits::answer::Bytes;
 use rmt_config::config::{CellNumber, Config, Memory, Stage};
+use rmt_config::form::names::part_list::{Part, listed_numbers, parts_of};
 use rmt_refine::map::CellOf;
 use std::alloc::Global;
 use std::collections::BTreeMap;

@@ -7,27 +7,20 @@ ghost use Rattle.rmt_config.specs.declared.config.TcamRow.{TcamRow as TcamRowOf}
 ghost use Rattle.rmt_verify.specs.Wanted.{word_in};
 
 use rmt_config::config::TcamRow;
-use rmt_config::form::search::{Numbered, first_near};
+use rmt_config::form::tcam::row_compared;
 use rmt_pack::tcam::TcamWord;
 
-/// What a row of a TCAM block compares, looked for first near the place where the last one was found; a row that isn't
-/// listed compares no bit.
+/// What a row of a TCAM block compares, as a word, looked for first near the place where the last one was found.
 fn word_at(rows: &[TcamRow], block: u8, row: u64, near: &mut usize) -> TcamWord
     requires rows { PrefixRows rows.now }
     requires row { row < 2048 }
     ensures value { result.value ≡ tcam_row (λ (t : TcamRowOf). t.value) rows.now block row }
     ensures mask { result.mask ≡ tcam_row (λ (t : TcamRowOf). t.mask) rows.now block row }
 {
-    let number = block as u64 * 2048 + row;
-    let at = first_near(rows, number, *near);
-    *near = at;
-    if at < rows.len() && rows[at].place() as u64 == number {
-        TcamWord {
-            value: rows[at].value,
-            mask: rows[at].mask,
-        }
-    } else {
-        TcamWord { value: 0, mask: 0 }
+    let compared = row_compared(rows, block, row, near);
+    TcamWord {
+        value: compared.value,
+        mask: compared.mask,
     }
 }
 

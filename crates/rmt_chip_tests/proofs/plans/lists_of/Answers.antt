@@ -36,4 +36,4 @@ returns-in-Ok-new c =
     let named = c.in-Some.is ∙ ap (λ (n : Names). Some n) (sym c.in-Ok.ensures) in
     let same = c.in-Ok-entries.ensures.entries config (own_cells config) (entries_spelled config names) (c.requires.new names named) in
     new_ready config names c.in-Ok-new.lists c.args.book.now c.requires.formed named c.requires.new
-    (subst (λ (es : List (List Entry)). Stands (fresh names es 100) c.in-Ok-new.lists) same c.in-Ok-new.ensures.stands)
+    (subst (λ (es : List (List Entry)). Stands (fresh names es 200) c.in-Ok-new.lists) same c.in-Ok-new.ensures.stands)

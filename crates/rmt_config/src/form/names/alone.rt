@@ -43,7 +43,8 @@ fn all_are_short(tables: &[TableName]) -> bool
     tables.iter().all(names_are_short)
 }
 
-fn names_have_counts(names: &Names) -> bool
+/// Whether there are as many tables as their count can say, each with names as long as theirs can.
+pub fn names_have_counts(names: &Names) -> bool
     ensures { result ≡ names_have_counts names.now }
 {
     names.tables.len() < 256 && all_are_short(names.tables.as_slice())

@@ -93,7 +93,8 @@ fn parts_keys(
 }
 
 /// Whether an exact table is named as its parts are filled. The keys are told apart by prints, and by their bytes only
-/// where two prints are the same. The time is that of sorting prints of the keys, and the memory that of the prints.
+/// where two prints are the same. The time is that of two looks at the print of each key, and of sorting the few prints
+/// that share their place with another's, and the memory that of the prints.
 pub fn exact_fits(
     alloc: Global,
     config: &Config,
@@ -117,7 +118,7 @@ pub fn exact_fits(
     if !parts_keys(alloc, config, table, parts, false, &mut prints)? {
         return Ok(false);
     }
-    if all_differ(&mut prints) {
+    if all_differ(alloc, prints.as_slice())? {
         return Ok(true);
     }
     let mut keys = Vec::new(alloc);

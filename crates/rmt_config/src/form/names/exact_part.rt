@@ -4,7 +4,6 @@ ghost use Rattle.std.specs.Prelude.{◌≡◌, ℕ, ◌+◌, ◌*◌, ◌/◌, �
 ghost use Rattle.rmt_bits.specs.Bits.{bytes_of};
 ghost use Rattle.rmt_bits.specs.Hash.{hash_row as hash_row_of};
 ghost use Rattle.rmt_config.specs.Cells.{cell_of, entry_at, sram_row};
-ghost use Rattle.rmt_config.specs.LaneForm.{bits_of_lanes};
 ghost use Rattle.rmt_config.specs.KeyPrints.{KeysAdded};
 ghost use Rattle.rmt_config.specs.KeysSeen.{key_in, stands_there};
 ghost use Rattle.rmt_config.specs.MemoryRules.{SramRows};
@@ -12,10 +11,10 @@ ghost use Rattle.rmt_config.specs.Shapes.{divided_up};
 ghost use Rattle.rmt_config.specs.declared.config.CellNumber.{CellNumber};
 
 use crate::config::{CellNumber, SramRow};
+pub use crate::form::lane::key_bits;
 use crate::form::names::key_bytes::{Near, piece_at, push_bits};
 use crate::form::names::key_prints::put_kept;
 use rmt_bits::hash::hash_row;
-use rmt_bits::lane::Lane;
 use std::alloc::{AllocError, Global};
 
 /// Where a cell of a part lies: its way, its row in the way, and its position in the row.
@@ -24,14 +23,6 @@ struct Place {
     way: u32,
     row: u32,
     position: u32,
-}
-
-/// How many bits lanes have together, at most 640.
-pub fn key_bits(lanes: &[Lane]) -> u64
-    requires { bits_of_lanes lanes.now ≤ 640 }
-    ensures { result ≡ bits_of_lanes lanes.now }
-{
-    lanes.iter().map(|lane| lane.len as u64).sum()
 }
 
 /// Where the cell of a number lies.

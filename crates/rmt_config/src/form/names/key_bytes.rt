@@ -22,14 +22,14 @@ pub struct Near {
 
 /// Where an entry begins: its unit, the row there, and its lowest bit in the row.
 #[derive(Clone, Copy)]
-struct Spot {
-    unit: u64,
-    row: u64,
-    low: u64,
+pub struct Spot {
+    pub unit: u64,
+    pub row: u64,
+    pub low: u64,
 }
 
 /// Where the entry of a cell stands.
-fn spot_of(layout: &Layout, cell: u64) -> Spot
+pub fn spot_of(layout: &Layout, cell: u64) -> Spot
     requires layout { IsInSram layout.now }
     requires cell { cell < layout.now.ways * layout.now.quanta * layout.now.way }
     ensures unit { let l = layout.now in result.unit ≡ unit_of l (quantum_of l cell) (local_of l cell) }
@@ -77,11 +77,8 @@ fn push_bytes(into: &mut Vec<u8>, bits: u64, count: u64) -> Result<(), AllocErro
     requires { count ≤ 8 }
     ensures { OnOk result (into.new.items ≡ into.old.items ++ bytes_of count bits) }
 {
-    for at in 0..count {
-        let up = 8 * (count - 1 - at);
-        into.push(((bits >> up) % 256) as u8)?;
-    }
-    Ok(())
+    let bytes = bits.to_be_bytes();
+    into.extend_from_slice(&bytes[8 - count as usize..])
 }
 
 /// Adds `len` bits of a row of blocks side by side as bytes, the highest first, with zero bits on top.

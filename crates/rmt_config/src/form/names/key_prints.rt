@@ -6,6 +6,7 @@ ghost use Rattle.rmt_config.specs.KeyPrints.{kept_of, kept_of_keys};
 ghost use Rattle.rmt_config.specs.KeysSeen.{news};
 ghost use Rattle.rmt_config.specs.Order.{are_new, rises_from};
 
+use crate::form::names::repeats::may_repeat;
 use rmt_bits::hash::fnv;
 use std::alloc::{AllocError, Global};
 use std::collections::BTreeSet;
@@ -24,12 +25,13 @@ fn rise(prints: &[u64]) -> bool
     true
 }
 
-/// Whether no number stands twice. They are sorted.
-pub fn all_differ(numbers: &mut Vec<u64>) -> bool
-    ensures { result ≡ are_new [] numbers.old.items }
+/// Whether no number stands twice. Only those that may are sorted.
+pub fn all_differ(alloc: Global, numbers: &[u64]) -> Result<bool, AllocError>
+    ensures { IfOk result (λ differ. differ ≡ are_new [] numbers.now) }
 {
-    numbers.sort_unstable();
-    rise(numbers.as_slice())
+    let mut some = may_repeat(alloc, numbers)?;
+    some.sort_unstable();
+    Ok(rise(some.as_slice()))
 }
 
 /// Adds bytes as numbers.

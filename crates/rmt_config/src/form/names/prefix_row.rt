@@ -2,7 +2,7 @@
 
 ghost use Rattle.std.specs.Prelude.{◌≡◌, ◌+◌, ◌*◌, ◌^◌, ◌<◌, ◌≤◌, IsTrue, length};
 ghost use Rattle.rmt_ast.specs.declared.program.Kind.TheVariants as kind;
-ghost use Rattle.rmt_config.specs.Cells.{blocks_at, cells_in, tcam_row, unit_row};
+ghost use Rattle.rmt_config.specs.Cells.{cells_in, tcam_row, unit_row};
 ghost use Rattle.rmt_config.specs.LaneForm.{bits_of_lanes};
 ghost use Rattle.rmt_config.specs.MemoryRules.{MemoryIsFormed};
 ghost use Rattle.rmt_config.specs.NamesForm.{is_of_kind};
@@ -13,37 +13,17 @@ ghost use Rattle.rmt_config.specs.RunCells.{own_content};
 ghost use Rattle.rmt_config.specs.declared.config.TcamRow.{TcamRow};
 
 use crate::config::{Config, Memory, TcamRow};
+use crate::form::lane::key_bits;
 use crate::form::layout::divided_up;
-use crate::form::names::exact_part::key_bits;
+use crate::form::names::key_bytes::piece_at;
 use crate::form::names::part_list::Part;
-use crate::form::search::{Numbered, first_near};
+use crate::form::tcam::row_compared;
 
 /// A key of at most 128 bits, and the mask of those that count.
 #[derive(Clone, Copy)]
 pub struct Held {
     pub key: u128,
     pub mask: u128,
-}
-
-/// The value and the mask of a row of a TCAM block, looked for first near the place where the last one was found; those
-/// of a row that isn't listed are 0.
-fn row_held(rows: &[TcamRow], block: u8, row: u64, near: &mut usize) -> Held
-    requires rows { PrefixRows rows.now }
-    requires row { row < 2048 }
-    ensures key { result.key ≡ tcam_row (λ (t : TcamRow). t.value) rows.now block row }
-    ensures mask { result.mask ≡ tcam_row (λ (t : TcamRow). t.mask) rows.now block row }
-{
-    let number = block as u64 * 2048 + row;
-    let at = first_near(rows, number, *near);
-    *near = at;
-    if at < rows.len() && rows[at].place() as u64 == number {
-        Held {
-            key: rows[at].value as u128,
-            mask: rows[at].mask as u128,
-        }
-    } else {
-        Held { key: 0, mask: 0 }
-    }
 }
 
 /// The values and the masks of a row of blocks side by side, the first lowest.
@@ -59,20 +39,11 @@ fn unit_held(rows: &[TcamRow], blocks: &[u8], row: u64, near: &mut usize) -> Hel
     let mut left = blocks.len();
     while left > 0 {
         left -= 1;
-        let word = row_held(rows, blocks[left], row, near);
-        key = key * 0x100_0000_0000 + word.key;
-        mask = mask * 0x100_0000_0000 + word.mask;
+        let word = row_compared(rows, blocks[left], row, near);
+        key = key * 0x100_0000_0000 + word.value as u128;
+        mask = mask * 0x100_0000_0000 + word.mask as u128;
     }
     Held { key, mask }
-}
-
-/// The blocks of a unit, where all units have that many.
-fn unit_blocks(blocks: &[u8], side: u64, unit: u64) -> &[u8]
-    requires { (unit + 1) * side ≤ length blocks.now }
-    ensures { result.now ≡ blocks_at blocks.now side unit }
-{
-    let from = (unit * side) as usize;
-    &blocks[from..from + side as usize]
 }
 
 /// What a cell of a prefix part holds as its key and mask.
@@ -92,7 +63,7 @@ pub fn held_in(config: &Config, part: &Part, cell: u32, near: &mut usize) -> Hel
     match &part.slot.memory {
         Memory::Ternary { keys, .. } => {
             let side = divided_up(key_bits(part.slot.keys.as_slice()), 40);
-            let blocks = unit_blocks(keys.as_slice(), side, cell as u64 / 2048);
+            let blocks = piece_at(keys.as_slice(), side, cell as u64 / 2048);
             unit_held(rows, blocks, cell as u64 % 2048, near)
         }
         _ => Held { key: 0, mask: 0 },

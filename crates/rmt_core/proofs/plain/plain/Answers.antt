@@ -1,17 +1,95 @@
--- The program's text is read, or not.
-use Rattle.std.proofs.Common.{Err, ap, ◌∙◌}
+-- The texts are read, the packets' file is opened, the texts are understood, and the program runs; or the call ends at one of these steps.
+use Rattle.std.proofs.Common.{Err, ap, refl, ◌∙◌}
 use Rattle.std.specs.Prelude.{string_bytes}
-use Rattle.rmt_core.specs.Files.{program_limit}
-use Rattle.rmt_core.specs.PlainRunning.{OfText}
-use Rattle.rmt_core.proofs.CallLaws.{ends_unread, reads_then}
+use Rattle.rmt_core.specs.Ends.{outside}
+use Rattle.rmt_core.specs.PlainRunning.{OfOpen, OfTexts}
+use Rattle.rmt_core.specs.PlainText.{RunsPlain}
+use Rattle.rmt_core.specs.TextFaults.{text_fault_line, text_fault_status}
+use Rattle.rmt_core.proofs.CallLaws.{ends_at_once, ends_told, ends_unopened, goes_on_as, opens_then}
+use Rattle.rmt_core.proofs.GoingOn.{understood_answered}
+use Rattle.rmt_core.proofs.TextFileLaws.{reads_texts, texts_unread}
+use Rattle.rmt_core.proofs.TextLaws.{is_fault_of, text_fault_answered, text_fault_unread}
 use Rattle.rmt_core.proofs.plain.plain.Goals as goal
 
-pub returns-in-Ok-clause-call : goal.returns-in-Ok-clause-call
-returns-in-Ok-clause-call g c =
-    reads_then _ _ (g.F.Shelf.state c.read_file.new.shelf) (string_bytes c.args.program.now) (λ files. OfText files (string_bytes c.args.entries.now) (string_bytes c.args.packets.now)) program_limit c.in-Ok.text.items c.plain_of_text.result
-    c.read_file.ensures.only_read c.in-Ok.ensures.found c.plain_of_text.ensures.call
+pub begin-requires-clause-said : goal.begin-requires-clause-said
+begin-requires-clause-said g c = record {
+  text = c.in-Ok.texts.program.items;
+  entry_text = c.in-Ok.texts.entries.items;
+  means = rw c.as_slice.ensures.value at c.in-Ok-understand.ensures.means;
+  says = rw c.as_slice-2.ensures.value at c.in-Ok-understand.ensures.says;
+  is_short = c.in-Ok.ensures.program;
+  has_short_entries = c.in-Ok.ensures.entries;
+}
+
+pub run_plain-requires-clause-starts : goal.run_plain-requires-clause-starts
+run_plain-requires-clause-starts g c = (c.in-Ok-understand.meant.program, c.in-Ok-understand.meant.entries, c.in-Ok-begin.ensures (g.O.Sink.state c.args.out.now))
 
 pub returns-in-Err-clause-call : goal.returns-in-Err-clause-call
 returns-in-Err-clause-call g c =
-    ends_unread _ _ _ (string_bytes c.args.program.now) (λ files. OfText files (string_bytes c.args.entries.now) (string_bytes c.args.packets.now)) program_limit c.in-Err.status c.read_file.ensures.only_read c.in-Err.ensures.refused
-    (λ e. c.read_file.ensures.fault (c.in-Err.is ∙ ap Err e))
+    texts_unread (string_bytes c.args.program.now) (string_bytes c.args.entries.now) (λ files. OfTexts files (string_bytes c.args.packets.now))
+    (g.F.Shelf.state c.args.shelf.now) (g.O.Sink.state c.args.out.now) (g.F.Shelf.state c.read_texts.new.shelf) c.in-Err.status c.read_texts.ensures.only_read c.in-Err.ensures.refused
+    (λ e. c.read_texts.ensures.fault (c.in-Err.is ∙ ap Err e))
+
+pub returns-in-Err-open_file-clause-call : goal.returns-in-Err-open_file-clause-call
+returns-in-Err-open_file-clause-call g c =
+    let out = g.O.Sink.state c.args.out.now in
+    let texts = c.in-Ok.texts in
+    reads_texts (string_bytes c.args.program.now) (string_bytes c.args.entries.now) (λ files. OfTexts files (string_bytes c.args.packets.now))
+    (outside (g.F.Shelf.state c.args.shelf.now) out) (outside (g.F.Shelf.state c.open_file.new.shelf) out) (g.F.Shelf.state c.read_texts.new.shelf) texts c.in-Err-open_file.status
+    c.read_texts.ensures.only_read c.in-Ok.ensures.found
+    (ends_unopened _ _ _ (string_bytes c.args.packets.now) (λ files. OfOpen files texts.program.items texts.entries.items) c.in-Err-open_file.status c.open_file.ensures.only_read c.in-Err-open_file.ensures.refused
+    (λ e. c.open_file.ensures.fault (c.in-Err-open_file.is ∙ ap Err e)))
+
+pub returns-in-Err-understand-clause-call : goal.returns-in-Err-understand-clause-call
+returns-in-Err-understand-clause-call g c =
+    let out = g.O.Sink.state c.args.out.now in
+    let texts = c.in-Ok.texts in
+    let read = g.F.Shelf.state c.read_texts.new.shelf in
+    let opening = g.F.Shelf.state c.open_file.new.shelf in
+    let after = outside opening (g.O.Sink.state c.tell_text_fault.new.out) in
+    let fault = c.in-Err-understand.fault in
+    reads_texts (string_bytes c.args.program.now) (string_bytes c.args.entries.now) (λ files. OfTexts files (string_bytes c.args.packets.now))
+    (outside (g.F.Shelf.state c.args.shelf.now) out) after read texts c.tell_text_fault.result c.read_texts.ensures.only_read c.in-Ok.ensures.found
+    (opens_then (outside read out) after opening (string_bytes c.args.packets.now) (λ files. OfOpen files texts.program.items texts.entries.items) c.tell_text_fault.result
+    c.open_file.ensures.only_read c.in-Ok-open_file.ensures.opened
+    (ends_told opening _ _ (λ files. OfOpen files texts.program.items texts.entries.items opening.rest) (text_fault_status fault) c.tell_text_fault.result (text_fault_line fault)
+    (text_fault_unread fault) c.tell_text_fault.ensures.line c.tell_text_fault.ensures.only_printed
+    (text_fault_answered _ _ texts.program.items texts.entries.items (RunsPlain opening.files opening.rest) fault c.tell_text_fault.result
+    (rw (c.as_slice.ensures.value, c.as_slice-2.ensures.value) at (is_fault_of c.as_slice.result.now c.as_slice-2.result.now c.understand.result fault c.in-Err-understand.is c.understand.ensures.bad_program c.understand.ensures.bad_entries))
+    (λ _. refl) c.tell_text_fault.ensures.line)))
+
+pub returns-in-Ok-begin-clause-call : goal.returns-in-Ok-begin-clause-call
+returns-in-Ok-begin-clause-call g c =
+    let out = g.O.Sink.state c.args.out.now in
+    let texts = c.in-Ok.texts in
+    let read = g.F.Shelf.state c.read_texts.new.shelf in
+    let opening = g.F.Shelf.state c.open_file.new.shelf in
+    let after = outside (g.F.Shelf.state c.run_plain.new.shelf) (g.O.Sink.state c.run_plain.new.out) in
+    let meant = c.in-Ok-understand.meant in
+    let e = c.run_plain.ensures in
+    reads_texts (string_bytes c.args.program.now) (string_bytes c.args.entries.now) (λ files. OfTexts files (string_bytes c.args.packets.now))
+    (outside (g.F.Shelf.state c.args.shelf.now) out) after read texts c.run_plain.result c.read_texts.ensures.only_read c.in-Ok.ensures.found
+    (opens_then (outside read out) after opening (string_bytes c.args.packets.now) (λ files. OfOpen files texts.program.items texts.entries.items) c.run_plain.result
+    c.open_file.ensures.only_read c.in-Ok-open_file.ensures.opened
+    (goes_on_as (outside opening out) after (λ files. RunsPlain files opening.rest meant.program meant.entries) (λ files. OfOpen files texts.program.items texts.entries.items opening.rest) c.run_plain.result
+    (λ answered. understood_answered c.one_meaning.ensures.alone (outside opening out) after texts.program.items texts.entries.items (RunsPlain opening.files opening.rest) meant.program meant.entries c.run_plain.result
+    (rw c.as_slice.ensures.value at c.in-Ok-understand.ensures.means) (rw c.as_slice-2.ensures.value at c.in-Ok-understand.ensures.says) answered)
+    (record {
+      answered = λ tells. e.answered tells meant.program meant.entries (c.in-Ok-begin.ensures out);
+      read_fault = e.read_fault;
+      write_fault = e.write_fault;
+      only_read = e.only_read;
+      only_printed = e.only_printed;
+    })))
+
+pub returns-clause-call : goal.returns-clause-call
+returns-clause-call g c =
+    let out = g.O.Sink.state c.args.out.now in
+    let texts = c.in-Ok.texts in
+    let read = g.F.Shelf.state c.read_texts.new.shelf in
+    let opening = g.F.Shelf.state c.open_file.new.shelf in
+    reads_texts (string_bytes c.args.program.now) (string_bytes c.args.entries.now) (λ files. OfTexts files (string_bytes c.args.packets.now))
+    (outside (g.F.Shelf.state c.args.shelf.now) out) (outside opening out) read texts _ c.read_texts.ensures.only_read c.in-Ok.ensures.found
+    (opens_then (outside read out) (outside opening out) opening (string_bytes c.args.packets.now) (λ files. OfOpen files texts.program.items texts.entries.items) _
+    c.open_file.ensures.only_read c.in-Ok-open_file.ensures.opened
+    (ends_at_once (outside opening out) (λ files. OfOpen files texts.program.items texts.entries.items opening.rest)))

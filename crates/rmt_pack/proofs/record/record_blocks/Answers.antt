@@ -17,5 +17,5 @@ blocks_from-requires-clause-apart c =
 
 pub returns-clause-part : goal.returns-clause-part
 returns-clause-part c =
-    c.blocks_from.ensures.part ∙ ap (λ w. take w (drop c.args.first c.as_slice.result.now)) c.record_width.ensures
+    c.blocks_from.ensures.part ∙ ap (λ w. take w (drop c.args.first c.as_slice.result.now)) c.record_width.ensures.value
     ∙ ap (λ (xs : List ℕ). take (record_width c.args.shape.now.held) (drop c.args.first xs)) c.as_slice.ensures

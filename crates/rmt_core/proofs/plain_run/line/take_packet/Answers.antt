@@ -1,16 +1,11 @@
 -- The line says a packet, or has a code.
 use Rattle.std.proofs.Common.{◌≡◌, ℕ, List, Result, Ok, Err, ap, sym, ◌∙◌, subst}
 use Rattle.rmt_bits.specs.Packet.{Packet}
-use Rattle.rmt_packets.specs.declared.packet_line.PacketFault.{PacketFault}
-use Rattle.rmt_packets.specs.declared.packet_line.PacketFault.TheVariants.{Code}
-use Rattle.rmt_packets.specs.Fault.{MatchFault}
 use Rattle.rmt_packets.specs.PacketText.{packet_of}
 use Rattle.rmt_core.specs.EventText.{with_packet}
 use Rattle.rmt_core.specs.PlainRunning.{Goes}
+use Rattle.rmt_core.proofs.FaultLaws.{of_code}
 use Rattle.rmt_core.proofs.plain_run.line.take_packet.Goals as goal
-
-of_code : (P : ℕ → Type 0) (fault : PacketFault) (code : ℕ) → fault ≡ Code code → MatchFault fault Unit P → P code
-of_code P fault code e h = rw e at h
 
 pub returns-in_ok-answer-in-Ok-clause-ok : goal.returns-in_ok-answer-in-Ok-clause-ok
 returns-in_ok-answer-in-Ok-clause-ok c = λ p lists said number before now h.

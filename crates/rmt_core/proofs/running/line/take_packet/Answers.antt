@@ -1,17 +1,12 @@
 -- The line says a packet that enters, or has a code.
 use Rattle.std.proofs.Common.{◌≡◌, ℕ, List, Result, Ok, Err, ap, sym, ◌∙◌, arith}
 use Rattle.rmt_bits.specs.Packet.{Packet}
-use Rattle.rmt_packets.specs.declared.packet_line.PacketFault.{PacketFault}
-use Rattle.rmt_packets.specs.declared.packet_line.PacketFault.TheVariants.{Code}
-use Rattle.rmt_packets.specs.Fault.{MatchFault}
 use Rattle.rmt_packets.specs.PacketText.{packet_of}
 use Rattle.rmt_core.specs.EventText.{with_packet}
+use Rattle.rmt_core.proofs.FaultLaws.{of_code}
 use Rattle.rmt_core.proofs.FollowsLaws.{few_packet, few_still, follows_packet, left_ahead, left_packet, of_packet, stops_by}
 use Rattle.rmt_core.proofs.TurnLaws.{few_numbered, may_enter}
 use Rattle.rmt_core.proofs.running.line.take_packet.Goals as goal
-
-of_code : (P : ℕ → Type 0) (fault : PacketFault) (code : ℕ) → fault ≡ Code code → MatchFault fault Unit P → P code
-of_code P fault code e h = rw e at h
 
 pub turn-requires-clause-may : goal.turn-requires-clause-may
 turn-requires-clause-may g c =

@@ -1,5 +1,5 @@
 use Rattle.std.proofs.Common.{ℕ, List, take, drop, ap, ◌∙◌}
-use Rattle.rmt_image.proofs.NumberLaws.{high_first}
+use Rattle.rmt_config.proofs.HighFirst.{high_first}
 use Rattle.rmt_image.proofs.Appending.{appended_as}
 use Rattle.rmt_image.proofs.writing.stage.put_bits.Goals as goal
 

@@ -88,7 +88,7 @@ returns-clause-planned c = λ config names cells lists stands named may none.
     planned config names cells lists b stands named ch may c.in_ok-loaded.loaded is c.in_ok-parts.parts.items all _ _ none refl refl
     (subst (λ (ts : List TableCells). (g : Goal) → All (IsGoal g) (all_pairs ts c.in_ok-parts.parts.items) → AreDifferences (all_pairs ts c.in_ok-parts.parts.items) c.in_ok-writes.writes.items g) c.as_slice-3.ensures.value
     (subst (λ (vs : List (Vec PartCells Global)). (g : Goal) → All (IsGoal g) (all_pairs c.as_slice-3.result.now vs) → AreDifferences (all_pairs c.as_slice-3.result.now vs) c.in_ok-writes.writes.items g) c.as_slice-4.ensures.value c.in_ok-writes.ensures))
-    refl refl refl c.put_back.ensures
+    refl refl refl c.put_back.ensures refl
 
 pub differences-requires-clause-same : goal.differences-requires-clause-same
 differences-requires-clause-same c =

@@ -11,4 +11,4 @@ returns-clause-stands c = λ names named.
     let copy : c.in_ok-names.names ≡ c.names_of.result.now = c.in_ok-names.ensures in
     let same : c.names_of.result.now ≡ names = same_Some c.names_of.result.now names (sym c.names_of.ensures ∙ named) in
     stands-at-first c.args.config.now names _ c.requires.formed named
-    (subst (λ (n : Names). AllZip (IsTable c.args.config.now) n.tables c.in_ok-tables.tables.items) (copy ∙ same) c.in_ok-tables.ensures) refl refl c.node_count.ensures
+    (subst (λ (n : Names). AllZip (IsTable c.args.config.now) n.tables c.in_ok-tables.tables.items) (copy ∙ same) c.in_ok-tables.ensures) refl refl c.node_count.ensures refl

@@ -1,135 +1,94 @@
-use Rattle.std.proofs.Common.{◌≡◌, ◌++◌, List, Vec, length, refl, sym, subst}
+use Rattle.std.proofs.Common.{List, refl, sym, subst}
 use Rattle.std.specs.Prelude.{All}
-use Rattle.std.specs.Global.{Global}
-use Rattle.std.specs.List.{AllZip}
-use Rattle.rmt_config.specs.Commits.{settled}
+use Rattle.std.proofs.lemmas.List.Elements.{All-weaker}
 use Rattle.rmt_update.specs.declared.book.placing.Coming.{Coming}
-use Rattle.rmt_update.specs.declared.book.table.PartCells.{PartCells}
 use Rattle.rmt_update.specs.declared.book.table.TableCells.{TableCells}
-use Rattle.rmt_update.specs.Differences.{AreDifferences, CanChange, Goal, IsGoal, all_pairs}
-use Rattle.rmt_update.specs.Turning.{AreNext, AreNextParts, IsSpotIn}
+use Rattle.rmt_update.specs.Come.{AreOrdered}
+use Rattle.rmt_update.specs.TurnWrites.{AreSmall, HaveOwnSlots, IsFresh}
+use Rattle.rmt_update.specs.Turning.{IsSpotIn}
 use Rattle.rmt_update.proofs.BookNext.{book-next}
-use Rattle.rmt_update.proofs.DifferenceLaws.{writes-are, writes-sized}
+use Rattle.rmt_update.proofs.EnteringLaws.{on_err-of}
 use Rattle.rmt_update.proofs.FewLaws.{few-change}
-use Rattle.rmt_update.proofs.PartsNext.{all-there, are-next, can-change, held, lengths, not-more}
 use Rattle.rmt_update.proofs.RecentLaws.{recent-few}
+use Rattle.rmt_update.proofs.SameTables.{stands-same}
+use Rattle.rmt_update.proofs.SettleFacts.{are-fresh, are-small, changed-from, own-slots, settled-next, settled-sizes, settled-writes}
 use Rattle.rmt_update.proofs.book.Book.settle.Goals as goal
 
-pub next_parts-requires : goal.next_parts-requires
-next_parts-requires c =
-    let r = c.requires in
-    subst (λ (ts : List TableCells). All (λ (x : Coming). IsSpotIn ts x.spot) c.args.come) (sym c.as_slice-tables.ensures.value)
-    (all-there r.0 r.1 r.2 r.3 c.args.changes.now c.args.self.now c.args.come r.4 r.5 r.7)
+pub changes_at-requires-clause-small : goal.changes_at-requires-clause-small
+changes_at-requires-clause-small c =
+    let r = c.requires.may in
+    subst (λ (ts : List TableCells). AreSmall ts) (sym c.as_slice-tables.ensures.value) (are-small r.0 r.2 r.3 c.args.self.now r.4)
 
-pub differences-requires-clause-same : goal.differences-requires-clause-same
-differences-requires-clause-same c =
-    let odd = c.args.self.now.odd in
-    let ts = c.args.self.now.tables.items in
-    let moved = c.in_ok-moved.moved.items in
-    let next : AreNextParts odd c.args.changes.now.gone c.args.come ts moved =
-    subst (λ (xs : List TableCells). AreNextParts odd c.args.changes.now.gone c.args.come xs moved) c.as_slice-tables.ensures.value
-    (subst (λ ns. AreNextParts odd ns c.args.come c.as_slice-tables.result.now moved) c.as_slice.ensures c.in_ok-moved.ensures) in
-    subst (λ (vs : List (Vec PartCells Global)). AllZip (λ (t : TableCells) (ps : Vec PartCells Global). length ps.items ≡ length t.parts.items) c.as_slice-2.result.now vs) (sym c.as_slice-3.ensures.value)
-    (subst (λ (xs : List TableCells). AllZip (λ (t : TableCells) (ps : Vec PartCells Global). length ps.items ≡ length t.parts.items) xs moved) (sym c.as_slice-2.ensures.value) (lengths ts moved next.same))
+pub changes_at-requires-clause-slots : goal.changes_at-requires-clause-slots
+changes_at-requires-clause-slots c =
+    let r = c.requires.may in
+    subst (λ (ts : List TableCells). HaveOwnSlots ts) (sym c.as_slice-tables.ensures.value) (own-slots r.0 r.2 r.3 c.args.self.now r.4)
 
-pub differences-requires-clause-can : goal.differences-requires-clause-can
-differences-requires-clause-can c =
-    let r = c.requires in
-    let odd = c.args.self.now.odd in
-    let ts = c.args.self.now.tables.items in
-    let moved = c.in_ok-moved.moved.items in
-    let next : AreNextParts odd c.args.changes.now.gone c.args.come ts moved =
-    subst (λ (xs : List TableCells). AreNextParts odd c.args.changes.now.gone c.args.come xs moved) c.as_slice-tables.ensures.value
-    (subst (λ ns. AreNextParts odd ns c.args.come c.as_slice-tables.result.now moved) c.as_slice.ensures c.in_ok-moved.ensures) in
-    subst (λ (vs : List (Vec PartCells Global)). All (λ (v : Vec PartCells Global). All CanChange v.items) vs) (sym c.as_slice-3.ensures.value)
-    (can-change r.0 r.1 r.2 r.3 c.args.changes.now c.args.self.now c.args.come r.4 r.5 r.7 moved next)
+pub changes_at-requires-clause-fresh : goal.changes_at-requires-clause-fresh
+changes_at-requires-clause-fresh c =
+    let r = c.requires.may in
+    subst (λ (ts : List TableCells). All (IsFresh ts) c.as_slice.result.now) (sym c.as_slice-tables.ensures.value)
+    (subst (λ (xs : List Coming). All (IsFresh c.args.self.now.tables.items) xs) (sym c.as_slice.ensures) (are-fresh r.0 r.1 r.2 r.3 c.args.changes.now c.args.self.now c.args.come r.4 r.5 r.6 r.7))
 
-pub put_back-requires : goal.put_back-requires
-put_back-requires c =
-    let odd = c.args.self.now.odd in
+pub make_changes-requires-clause-there : goal.make_changes-requires-clause-there
+make_changes-requires-clause-there c =
+    let r = c.requires.may in
     let ts = c.args.self.now.tables.items in
-    let moved = c.in_ok-moved.moved.items in
-    let next : AreNextParts odd c.args.changes.now.gone c.args.come ts moved =
-    subst (λ (xs : List TableCells). AreNextParts odd c.args.changes.now.gone c.args.come xs moved) c.as_slice-tables.ensures.value
-    (subst (λ ns. AreNextParts odd ns c.args.come c.as_slice-tables.result.now moved) c.as_slice.ensures c.in_ok-moved.ensures) in
-    not-more ts moved next.same
+    All-weaker (IsFresh ts) (λ (x : Coming). IsSpotIn ts x.spot) (λ x fresh. fresh.there) c.args.come (are-fresh r.0 r.1 r.2 r.3 c.args.changes.now c.args.self.now c.args.come r.4 r.5 r.6 r.7)
+
+pub make_changes-requires-clause-spots : goal.make_changes-requires-clause-spots
+make_changes-requires-clause-spots c =
+    let b = c.args.self.now in
+    (changed-from b.odd b.tables.items c.as_slice-tables.result.now c.args.changes.now.gone c.as_slice-gone.result.now c.args.come c.as_slice.result.now c.in_ok-cells.cells c.as_slice-tables.ensures.value c.as_slice-gone.ensures
+    c.as_slice.ensures c.in_ok-cells.ensures).spots
 
 pub returns-clause-writes : goal.returns-clause-writes
 returns-clause-writes c = λ config names cells lists stands named may placed.
-    let odd = c.args.self.now.odd in
-    let ts = c.args.self.now.tables.items in
-    let moved = c.in_ok-moved.moved.items in
-    let writes = c.in_ok-writes.writes.items in
-    let next : AreNextParts odd c.args.changes.now.gone c.args.come ts moved =
-    subst (λ (xs : List TableCells). AreNextParts odd c.args.changes.now.gone c.args.come xs moved) c.as_slice-tables.ensures.value
-    (subst (λ ns. AreNextParts odd ns c.args.come c.as_slice-tables.result.now moved) c.as_slice.ensures c.in_ok-moved.ensures) in
-    let differ : (g : Goal) → All (IsGoal g) (all_pairs ts moved) → AreDifferences (all_pairs ts moved) writes g =
-    subst (λ (xs : List TableCells). (g : Goal) → All (IsGoal g) (all_pairs xs moved) → AreDifferences (all_pairs xs moved) writes g) c.as_slice-2.ensures.value
-    (subst (λ (vs : List (Vec PartCells Global)). (g : Goal) → All (IsGoal g) (all_pairs c.as_slice-2.result.now vs) → AreDifferences (all_pairs c.as_slice-2.result.now vs) writes g) c.as_slice-3.ensures.value c.in_ok-writes.ensures) in
-    writes-are config cells lists c.args.self.now stands (settled config names cells lists (placed.stay ++ placed.coming)) cells.seed moved
-    (held config names cells lists c.args.changes.now c.args.self.now c.args.come stands named placed moved next) writes differ
+    let b = c.args.self.now in
+    let changed = changed-from b.odd b.tables.items c.as_slice-tables.result.now c.args.changes.now.gone c.as_slice-gone.result.now c.args.come c.as_slice.result.now c.in_ok-cells.cells c.as_slice-tables.ensures.value c.as_slice-gone.ensures
+    c.as_slice.ensures c.in_ok-cells.ensures in
+    settled-writes config names cells lists c.args.changes.now b c.args.come stands named may placed c.in_ok-cells.cells c.in_ok-writes.ensures.ordered changed c.make_changes.new.tables.items c.in_ok-writes.ensures.made
+    (subst (All AreOrdered) c.as_slice-tables.ensures.value c.all_ordered.ensures) c.in_ok-writes.writes.items c.in_ok-writes.ensures.writes
 
 pub returns-clause-sizes : goal.returns-clause-sizes
 returns-clause-sizes c = λ config names cells lists stands named may placed.
-    let odd = c.args.self.now.odd in
-    let ts = c.args.self.now.tables.items in
-    let moved = c.in_ok-moved.moved.items in
-    let writes = c.in_ok-writes.writes.items in
-    let next : AreNextParts odd c.args.changes.now.gone c.args.come ts moved =
-    subst (λ (xs : List TableCells). AreNextParts odd c.args.changes.now.gone c.args.come xs moved) c.as_slice-tables.ensures.value
-    (subst (λ ns. AreNextParts odd ns c.args.come c.as_slice-tables.result.now moved) c.as_slice.ensures c.in_ok-moved.ensures) in
-    let differ : (g : Goal) → All (IsGoal g) (all_pairs ts moved) → AreDifferences (all_pairs ts moved) writes g =
-    subst (λ (xs : List TableCells). (g : Goal) → All (IsGoal g) (all_pairs xs moved) → AreDifferences (all_pairs xs moved) writes g) c.as_slice-2.ensures.value
-    (subst (λ (vs : List (Vec PartCells Global)). (g : Goal) → All (IsGoal g) (all_pairs c.as_slice-2.result.now vs) → AreDifferences (all_pairs c.as_slice-2.result.now vs) writes g) c.as_slice-3.ensures.value c.in_ok-writes.ensures) in
-    writes-sized config cells lists c.args.self.now stands (settled config names cells lists (placed.stay ++ placed.coming)) cells.seed moved
-    (held config names cells lists c.args.changes.now c.args.self.now c.args.come stands named placed moved next) writes differ
-
-pub returns-clause-few : goal.returns-clause-few
-returns-clause-few c =
-    let r = c.requires in
-    let config = r.0 in
-    let names = r.1 in
-    let cells = r.2 in
-    let lists = r.3 in
-    let stands = r.4 in
-    let named = r.5 in
-    let may = r.6 in
-    let placed = r.7 in
-    let odd = c.args.self.now.odd in
-    let ts = c.args.self.now.tables.items in
-    let moved = c.in_ok-moved.moved.items in
-    let writes = c.in_ok-writes.writes.items in
-    let next : AreNextParts odd c.args.changes.now.gone c.args.come ts moved =
-    subst (λ (xs : List TableCells). AreNextParts odd c.args.changes.now.gone c.args.come xs moved) c.as_slice-tables.ensures.value
-    (subst (λ ns. AreNextParts odd ns c.args.come c.as_slice-tables.result.now moved) c.as_slice.ensures c.in_ok-moved.ensures) in
-    let differ : (g : Goal) → All (IsGoal g) (all_pairs ts moved) → AreDifferences (all_pairs ts moved) writes g =
-    subst (λ (xs : List TableCells). (g : Goal) → All (IsGoal g) (all_pairs xs moved) → AreDifferences (all_pairs xs moved) writes g) c.as_slice-2.ensures.value
-    (subst (λ (vs : List (Vec PartCells Global)). (g : Goal) → All (IsGoal g) (all_pairs c.as_slice-2.result.now vs) → AreDifferences (all_pairs c.as_slice-2.result.now vs) writes g) c.as_slice-3.ensures.value c.in_ok-writes.ensures) in
-    few-change config names cells lists c.args.changes.now c.args.self.now c.args.come stands named may placed writes (
-    writes-are config cells lists c.args.self.now stands (settled config names cells lists (placed.stay ++ placed.coming)) cells.seed moved
-    (held config names cells lists c.args.changes.now c.args.self.now c.args.come stands named placed moved next) writes differ)
+    let b = c.args.self.now in
+    let changed = changed-from b.odd b.tables.items c.as_slice-tables.result.now c.args.changes.now.gone c.as_slice-gone.result.now c.args.come c.as_slice.result.now c.in_ok-cells.cells c.as_slice-tables.ensures.value c.as_slice-gone.ensures
+    c.as_slice.ensures c.in_ok-cells.ensures in
+    settled-sizes config names cells lists c.args.changes.now b c.args.come stands named may placed c.in_ok-cells.cells c.in_ok-writes.ensures.ordered changed c.make_changes.new.tables.items c.in_ok-writes.ensures.made
+    (subst (All AreOrdered) c.as_slice-tables.ensures.value c.all_ordered.ensures) c.in_ok-writes.writes.items c.in_ok-writes.ensures.writes
 
 pub returns-clause-stands : goal.returns-clause-stands
 returns-clause-stands c = λ config names cells lists stands named may placed.
     let b = c.args.self.now in
-    let gone = c.args.changes.now.gone in
-    let ts = b.tables.items in
-    let moved = c.in_ok-moved.moved.items in
-    let next : AreNextParts b.odd gone c.args.come ts moved =
-    subst (λ (xs : List TableCells). AreNextParts b.odd gone c.args.come xs moved) c.as_slice-tables.ensures.value
-    (subst (λ ns. AreNextParts b.odd ns c.args.come c.as_slice-tables.result.now moved) c.as_slice.ensures c.in_ok-moved.ensures) in
-    book-next config names cells lists c.args.changes.now b _ c.args.come stands named may placed
-    (subst (λ (us : List TableCells). AreNext b.odd gone c.args.come ts us) (sym c.put_back.ensures) (are-next b.odd gone c.args.come ts moved next)) refl refl refl
+    let changed = changed-from b.odd b.tables.items c.as_slice-tables.result.now c.args.changes.now.gone c.as_slice-gone.result.now c.args.come c.as_slice.result.now c.in_ok-cells.cells c.as_slice-tables.ensures.value c.as_slice-gone.ensures
+    c.as_slice.ensures c.in_ok-cells.ensures in
+    let next = settled-next config names cells lists c.args.changes.now b c.args.come stands named may placed c.in_ok-cells.cells c.in_ok-writes.ensures.ordered changed c.make_changes.new.tables.items c.in_ok-writes.ensures.made
+    (subst (All AreOrdered) c.as_slice-tables.ensures.value c.all_ordered.ensures) in
+    book-next config names cells lists c.args.changes.now b _ c.args.come stands named may placed next refl refl refl (c.in_ok-next.ensures c.make_changes.new.tables.items next)
+
+pub returns-clause-few : goal.returns-clause-few
+returns-clause-few c =
+    let r = c.requires.may in
+    let b = c.args.self.now in
+    let changed = changed-from b.odd b.tables.items c.as_slice-tables.result.now c.args.changes.now.gone c.as_slice-gone.result.now c.args.come c.as_slice.result.now c.in_ok-cells.cells c.as_slice-tables.ensures.value c.as_slice-gone.ensures
+    c.as_slice.ensures c.in_ok-cells.ensures in
+    few-change r.0 r.1 r.2 r.3 c.args.changes.now b c.args.come r.4 r.5 r.6 r.7 c.in_ok-writes.writes.items
+    (settled-writes r.0 r.1 r.2 r.3 c.args.changes.now b c.args.come r.4 r.5 r.6 r.7 c.in_ok-cells.cells c.in_ok-writes.ensures.ordered changed c.make_changes.new.tables.items c.in_ok-writes.ensures.made
+    (subst (All AreOrdered) c.as_slice-tables.ensures.value c.all_ordered.ensures) c.in_ok-writes.writes.items c.in_ok-writes.ensures.writes)
 
 pub returns-clause-recent : goal.returns-clause-recent
 returns-clause-recent c =
-    let r = c.requires in
+    let r = c.requires.may in
     let b = c.args.self.now in
-    let gone = c.args.changes.now.gone in
-    let ts = b.tables.items in
-    let moved = c.in_ok-moved.moved.items in
-    let next : AreNextParts b.odd gone c.args.come ts moved =
-    subst (λ (xs : List TableCells). AreNextParts b.odd gone c.args.come xs moved) c.as_slice-tables.ensures.value
-    (subst (λ ns. AreNextParts b.odd ns c.args.come c.as_slice-tables.result.now moved) c.as_slice.ensures c.in_ok-moved.ensures) in
-    recent-few r.0 r.1 r.2 r.3 c.args.changes.now b c.args.come r.4 r.5 r.6 r.7 c.put_back.new.tables.items
-    (subst (λ (us : List TableCells). AreNext b.odd gone c.args.come ts us) (sym c.put_back.ensures) (are-next b.odd gone c.args.come ts moved next))
+    let changed = changed-from b.odd b.tables.items c.as_slice-tables.result.now c.args.changes.now.gone c.as_slice-gone.result.now c.args.come c.as_slice.result.now c.in_ok-cells.cells c.as_slice-tables.ensures.value c.as_slice-gone.ensures
+    c.as_slice.ensures c.in_ok-cells.ensures in
+    recent-few r.0 r.1 r.2 r.3 c.args.changes.now b c.args.come r.4 r.5 r.6 r.7 c.make_changes.new.tables.items
+    (settled-next r.0 r.1 r.2 r.3 c.args.changes.now b c.args.come r.4 r.5 r.6 r.7 c.in_ok-cells.cells c.in_ok-writes.ensures.ordered changed c.make_changes.new.tables.items c.in_ok-writes.ensures.made
+    (subst (All AreOrdered) c.as_slice-tables.ensures.value c.all_ordered.ensures))
+
+pub returns-in_err-writes-clause-kept : goal.returns-in_err-writes-clause-kept
+returns-in_err-writes-clause-kept c =
+    let b = c.args.self.now in
+    on_err-of c.from_residual-in_err-writes.result _ (λ config cells lists.
+    stands-same config cells lists b _ (subst (All AreOrdered) c.as_slice-tables.ensures.value c.all_ordered.ensures) c.in_err-writes.ensures.kept refl refl refl tt)

@@ -12,8 +12,8 @@ use Rattle.rmt_update.specs.Words.{joined}
 use Rattle.rmt_update.proofs.WordLaws.{joined-unit, words-small}
 use Rattle.rmt_update.proofs.book.entry_words.entry_words.Goals as goal
 
-pub unit_blocks-unit-requires : goal.unit_blocks-unit-requires
-unit_blocks-unit-requires c =
+pub piece_at-unit-requires : goal.piece_at-unit-requires
+piece_at-unit-requires c =
     let l = c.args.layout.now in
     let n = c.args.cell in
     let there = blocks_there l (unit_of l (quantum_of l n) (local_of l n)) _ (unit_below l n c.requires.layout.is c.requires.cell) c.requires.blocks in
@@ -35,7 +35,7 @@ returns c =
     let sram = sram_row c.args.rows.now in
     let blocks = c.args.blocks.now in
     let spot = c.spot_of-spot in
-    let unit = c.unit_blocks-unit in
+    let unit = c.piece_at-unit in
     let words = c.in_ok-words.words.items in
     let x = unit_row 112 sram (row_of l i) (blocks_at blocks l.side (unit_of l (quantum_of l n) i)) in
     let there = entry_there l i c.requires.layout.is in

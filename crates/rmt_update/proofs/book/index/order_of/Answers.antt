@@ -8,7 +8,7 @@ use Rattle.rmt_bits.proofs.ListLaws.{slice_get-seen}
 use Rattle.rmt_update.specs.declared.book.kept.Kept.{Kept}
 use Rattle.rmt_update.specs.declared.book.table.PartCells.{PartCells}
 use Rattle.rmt_update.specs.PartShape.{cell_count}
-use Rattle.rmt_update.specs.RowIndex.{AreRows, HaveOwnRows, part_rows, rows_of}
+use Rattle.rmt_update.specs.RowIndex.{AreRows, HaveOwnRows, never, part_rows, rows_of}
 use Rattle.rmt_update.proofs.PutRows.{own-take, rows-none}
 use Rattle.rmt_update.proofs.SliceLoops.{flat-next}
 use Rattle.rmt_update.proofs.book.index.order_of.Goals as goal
@@ -17,7 +17,7 @@ pub loop-part-init : goal.loop-part-init
 loop-part-init c = record {
   count = refl;
   few = omega arith;
-  rows = rows-none c.args.table.now.name.kind c.args.odd c.args.gone.now (record { rows = c.new.result; free = c.new-2.result }) c.new.ensures.empty c.new-2.ensures.empty;
+  rows = rows-none c.args.table.now.name.kind c.args.odd never (record { rows = c.new.result; free = c.new-2.result }) c.new.ensures.empty c.new-2.ensures.empty;
 }
 
 pub overflow_sub-first : goal.overflow_sub-first
@@ -48,7 +48,7 @@ loop-part-preserved c =
       count = (let both = ap (λ (ys : List (Option Kept)). length ys) next ∙ length-append (rows_of (take i parts)) (part_rows x) in omega (arith, both, long, count, before));
       few = omega (arith, few, le);
       rows =
-          subst (λ ys. AreRows c.args.table.now.name.kind c.args.odd c.args.gone.now ys c.put_rows.new.order) (sym next)
+          subst (λ ys. AreRows c.args.table.now.name.kind c.args.odd never ys c.put_rows.new.order) (sym next)
           (c.in_ok-put_rows.ensures (rows_of (take i parts)) before (subst HaveOwnRows next (own-take parts (i + 1) c.requires.numbers)) c.loop-part.invariant.rows);
     }
 
@@ -66,4 +66,4 @@ returns-clause-rows c =
     let parts = c.args.table.now.parts.items in
     let low = c.loop-part-test.false in
     let all = take_all c.loop-part.part-index parts (subst (λ xs. length xs ≤ c.loop-part.part-index) c.as_slice-part-items.ensures.value (omega (arith, low))) in
-    subst (λ xs. AreRows c.args.table.now.name.kind c.args.odd c.args.gone.now (rows_of xs) c.loop-part.order) all c.loop-part.invariant.rows
+    subst (λ xs. AreRows c.args.table.now.name.kind c.args.odd never (rows_of xs) c.loop-part.order) all c.loop-part.invariant.rows

@@ -3,7 +3,7 @@ use Rattle.std.proofs.lemmas.Iterator.Adapters.{YieldsList-from_vec}
 use Rattle.std.proofs.lemmas.Iterator.Consumers.{YieldsList-turn}
 use Rattle.rmt_update.specs.declared.book.table.TableCells.{TableCells}
 use Rattle.rmt_update.specs.Moved.{with_parts}
-use Rattle.rmt_update.proofs.PartsNext.{with-length, with-more, with-none}
+use Rattle.rmt_update.proofs.PutBackLaws.{with-length, with-more, with-none}
 use Rattle.rmt_update.proofs.book.moving.put_back.Goals as goal
 
 pub loop-parts-init : goal.loop-parts-init

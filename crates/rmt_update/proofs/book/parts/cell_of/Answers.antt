@@ -22,7 +22,7 @@ use Rattle.rmt_config.proofs.SlotLaws.{exact-fits, ternary-fits}
 use Rattle.rmt_config.proofs.SpelledParts.{held-is}
 use Rattle.rmt_update.specs.Kept.{HasBytes, IsKept, mask_bytes}
 use Rattle.rmt_update.specs.declared.book.kept.Kept.{Kept}
-use Rattle.rmt_update.specs.PartList.{part_at}
+use Rattle.rmt_config.specs.PartsTold.{part_at}
 use Rattle.rmt_update.proofs.book.parts.cell_of.Goals as goal
 
 -- the stage that is read is that of the part

@@ -4,7 +4,7 @@ use Rattle.std.proofs.lemmas.List.{length-map, take_all}
 use Rattle.rmt_config.specs.Rooms.{PartAt, parts_of}
 use Rattle.rmt_update.specs.declared.book.table.PartCells.{PartCells}
 use Rattle.rmt_update.specs.Listed.{IsListed}
-use Rattle.rmt_update.specs.PartList.{part_at, parts_at}
+use Rattle.rmt_config.specs.PartsTold.{part_at, parts_at}
 use Rattle.rmt_update.proofs.ToldEntryLaws.{facts-at, parts-next}
 use Rattle.rmt_update.proofs.book.table.cells_of.Goals as goal
 

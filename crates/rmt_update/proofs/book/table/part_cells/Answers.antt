@@ -11,7 +11,7 @@ use Rattle.rmt_config.specs.NamesForm.{held_by, is_of_kind, rank_in}
 use Rattle.rmt_config.specs.Order.{rises_from}
 use Rattle.rmt_config.proofs.PrefixRowLaws.{cells-within}
 use Rattle.rmt_update.specs.Listed.{IsRanked}
-use Rattle.rmt_update.specs.PartList.{part_at}
+use Rattle.rmt_config.specs.PartsTold.{part_at}
 use Rattle.rmt_update.proofs.ListedLaws.{one-more}
 use Rattle.rmt_update.proofs.RankLaws.{mask-fits, rank-is}
 use Rattle.rmt_update.proofs.ShapeLaws.{kind-has}

@@ -1,7 +1,7 @@
 use Rattle.std.proofs.Common.{take}
 use Rattle.std.specs.List.{AllZip}
 use Rattle.rmt_update.specs.Listed.{IsRanked}
-use Rattle.rmt_update.specs.PartList.{part_at}
+use Rattle.rmt_config.specs.PartsTold.{part_at}
 use Rattle.rmt_update.proofs.book.table.part_cells.Given as goal
 
 -- the cells so far

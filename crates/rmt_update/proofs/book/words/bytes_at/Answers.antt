@@ -1,8 +1,7 @@
 use Rattle.std.proofs.Common.{◌≡◌, ◌+◌, ◌-◌, ◌*◌, ◌/◌, ◌%◌, ◌^◌, List, [], ℕ, ◌∙◌, arith}
 use Rattle.rmt_bits.specs.Bits.{slice}
-use Rattle.rmt_config.proofs.SpelledBytes.{bytes-more}
 use Rattle.rmt_update.specs.Words.{joined}
-use Rattle.rmt_update.proofs.WordLaws.{byte-of-slice}
+use Rattle.rmt_update.proofs.WordLaws.{byte-of-slice, bytes-more}
 use Rattle.rmt_update.proofs.book.words.bytes_at.Goals as goal
 
 pub loop-at-preserved : goal.loop-at-preserved
@@ -13,4 +12,4 @@ loop-at-preserved c =
     let byte : c.bits_at.result ≡ slice j c.args.low c.args.len / 2 ^ up % 256 =
     c.bits_at.ensures ∙ byte-of-slice j c.args.low c.args.len up c.min-left.result (omega arith) (omega arith) in
     ◌∙◌ {A = List ℕ} c.in_ok-push.ensures.items
-    (bytes-more [] c.loop-at.bytes.items (slice j c.args.low c.args.len) count c.loop-at.at c.bits_at.result c.loop-at-test.true c.loop-at.invariant byte)
+    (bytes-more c.loop-at.bytes.items (slice j c.args.low c.args.len) count c.loop-at.at c.bits_at.result c.loop-at-test.true c.loop-at.invariant byte)

@@ -6,7 +6,7 @@ use Rattle.rmt_config.specs.PrefixRow.{PrefixRows}
 use Rattle.rmt_config.proofs.PrefixRowLaws.{prefix-rows}
 use Rattle.rmt_refine.specs.Types.{Memory, Stage}
 use Rattle.rmt_refine.specs.Units.{HasKind}
-use Rattle.rmt_verify.specs.PartList.{part_at}
+use Rattle.rmt_config.specs.PartsTold.{part_at}
 use Rattle.rmt_verify.proofs.TableLaws.{action_low, cell_below, cell_told, exact_fit, exact_kind, exact_there, first_low, params_read, rows_stand, stage_is, ternary_fit, ternary_there, wanted, whole}
 use Rattle.rmt_verify.proofs.cells.table.holds_entry.Goals as goal
 

@@ -3,7 +3,7 @@ use Rattle.std.proofs.lemmas.List.{take_all}
 use Rattle.std.proofs.lemmas.List.Elements.{All-more}
 use Rattle.rmt_refine.specs.Types.{CellNumber}
 use Rattle.rmt_verify.specs.CellsHeld.{CellHeld}
-use Rattle.rmt_verify.specs.PartList.{part_at}
+use Rattle.rmt_config.specs.PartsTold.{part_at}
 use Rattle.rmt_verify.proofs.cells.table.part_holds.Goals as goal
 
 abbrev none : CellNumber

@@ -1,6 +1,6 @@
 use Rattle.std.proofs.Common.{List, All, take}
 use Rattle.rmt_verify.specs.CellsHeld.{CellHeld}
-use Rattle.rmt_verify.specs.PartList.{part_at}
+use Rattle.rmt_config.specs.PartsTold.{part_at}
 use Rattle.rmt_verify.specs.Told.{AreTold}
 use Rattle.rmt_verify.specs.Types.{CellOf}
 use Rattle.rmt_verify.proofs.cells.table.part_holds.Given as goal

@@ -4,9 +4,9 @@ use Rattle.std.proofs.lemmas.List.{take_all}
 use Rattle.std.proofs.lemmas.List.Elements.{All-map, All-more}
 use Rattle.rmt_bits.proofs.AllLaws.{All-unmap}
 use Rattle.rmt_config.specs.Rooms.{PartAt}
-use Rattle.rmt_verify.specs.declared.cells.parts.Part.{Part}
+use Rattle.rmt_config.specs.declared.form.names.part_list.Part.{Part}
 use Rattle.rmt_verify.specs.CellsHeld.{CellHeld}
-use Rattle.rmt_verify.specs.PartList.{part_at}
+use Rattle.rmt_config.specs.PartsTold.{part_at}
 use Rattle.rmt_verify.specs.TableKnown.{PartKnown}
 use Rattle.rmt_verify.proofs.cells.table.parts_hold.Goals as goal
 

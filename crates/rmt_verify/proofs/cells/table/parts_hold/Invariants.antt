@@ -1,7 +1,7 @@
 use Rattle.std.proofs.Common.{List, All, take}
-use Rattle.rmt_verify.specs.declared.cells.parts.Part.{Part}
+use Rattle.rmt_config.specs.declared.form.names.part_list.Part.{Part}
 use Rattle.rmt_verify.specs.CellsHeld.{CellHeld}
-use Rattle.rmt_verify.specs.PartList.{part_at}
+use Rattle.rmt_config.specs.PartsTold.{part_at}
 use Rattle.rmt_verify.specs.Told.{AreTold}
 use Rattle.rmt_verify.specs.Types.{CellOf}
 use Rattle.rmt_verify.proofs.cells.table.parts_hold.Given as goal

@@ -1,7 +1,6 @@
 use Rattle.std.proofs.Common.{◌≡◌, ◌∙◌, All, refl, sym, ap, subst}
 use Rattle.std.specs.Prelude.{sum}
-use Rattle.rmt_config.specs.PartsTold.{listed_numbers}
-use Rattle.rmt_verify.specs.PartList.{parts_at}
+use Rattle.rmt_config.specs.PartsTold.{listed_numbers, parts_at}
 use Rattle.rmt_verify.specs.TableKnown.{PartKnown}
 use Rattle.rmt_verify.proofs.TableHeldLaws.{all_listed, each_held, numbers_there, table_told}
 use Rattle.rmt_verify.proofs.cells.table.table_holds.Goals as goal

@@ -9,6 +9,7 @@ use Rattle.rmt_config.specs.PartsTold.{listed_numbers, parts_at}
 use Rattle.rmt_config.specs.KeyPrints.{kept_of_keys}
 use Rattle.rmt_config.specs.KeysSeen.{keys_listed, news}
 use Rattle.rmt_config.specs.NamesForm.{stands_in_candidates}
+use Rattle.rmt_config.specs.Order.{are_new}
 use Rattle.rmt_config.proofs.KeyListLaws.{kept-length}
 use Rattle.rmt_config.proofs.PrintLaws.{news-by_prints}
 use Rattle.rmt_config.proofs.SpelledTable.{first-bits, first-short, keys-count, table-is}
@@ -27,8 +28,8 @@ returns-then-not-branch c =
     c.args.numbers.now true false true c.requires.numbers (le-leb (length c.args.numbers.now) c.args.table.now.size c.if-numbers-table.false)
     (sym c.if-not-branch.true ∙ c.in_ok-parts_keys.ensures.answer) (λ e. absurd (false≢true e))
 
-pub returns-then-all_differ : goal.returns-then-all_differ
-returns-then-all_differ c =
+pub returns-then-branch : goal.returns-then-branch
+returns-then-branch c =
     let size = divided_up (sum c.args.table.now.keys) 8 in
     let ks = keys_listed c.args.config.now (parts_at c.args.parts.now) in
     let prints : c.parts_keys.new.into.items ≡ kept_of_keys false size ks = c.in_ok-parts_keys.ensures.added c.if-not-branch.false
@@ -36,7 +37,7 @@ returns-then-all_differ c =
     table-is c.args.config.now c.args.table.now c.args.parts.now c.requires.parts c.requires.items c.requires.memory c.requires.kind c.requires.has c.requires.made
     c.args.numbers.now true true true c.requires.numbers (le-leb (length c.args.numbers.now) c.args.table.now.size c.if-numbers-table.false)
     (sym c.if-not-branch.false ∙ c.in_ok-parts_keys.ensures.answer)
-    (λ e. sym (news-by_prints size ks c.parts_keys.new.into.items prints (sym c.all_differ.ensures ∙ c.if-all_differ.true)))
+    (λ e. sym (news-by_prints size ks c.parts_keys.new.into.items prints (ap (are_new []) (sym c.as_slice.ensures.value) ∙ sym c.in_ok-all_differ.ensures ∙ c.if-branch.true)))
 
 pub returns-then-not-branch-2 : goal.returns-then-not-branch-2
 returns-then-not-branch-2 c =
@@ -46,13 +47,13 @@ returns-then-not-branch-2 c =
 
 pub key_bits-requires : goal.key_bits-requires
 key_bits-requires c =
-    subst (λ ls. bits_of_lanes ls ≤ 640) (sym c.as_slice.ensures)
+    subst (λ ls. bits_of_lanes ls ≤ 640) (sym c.as_slice-2.ensures)
     (first-short c.args.config.now c.args.table.now c.args.parts.now c.requires.parts c.requires.items c.requires.memory c.requires.kind c.requires.has c.requires.made c.index-parts-0.result c.index-parts-0.is)
 
 pub divided_up-size-requires-clause-fits : goal.divided_up-size-requires-clause-fits
 divided_up-size-requires-clause-fits c =
     let short = first-short c.args.config.now c.args.table.now c.args.parts.now c.requires.parts c.requires.items c.requires.memory c.requires.kind c.requires.has c.requires.made c.index-parts-0.result c.index-parts-0.is in
-    let bits : c.key_bits.result ≡ bits_of_lanes (get_or c.args.parts.now 0 c.index-parts-0.result).slot.now.keys = c.key_bits.ensures ∙ ap bits_of_lanes c.as_slice.ensures in
+    let bits : c.key_bits.result ≡ bits_of_lanes (get_or c.args.parts.now 0 c.index-parts-0.result).slot.now.keys = c.key_bits.ensures ∙ ap bits_of_lanes c.as_slice-2.ensures in
     omega (arith, bits, short)
 
 pub each_is_new-requires : goal.each_is_new-requires
@@ -61,10 +62,10 @@ each_is_new-requires c =
     let parts = c.args.parts.now in
     let size = divided_up (sum c.args.table.now.keys) 8 in
     let ks = keys_listed config (parts_at parts) in
-    let bytes : c.as_slice-2.result.now ≡ kept_of_keys true size ks = c.as_slice-2.ensures.value ∙ c.in_ok-parts_keys-2.ensures.added c.if-not-branch-2.false
+    let bytes : c.as_slice-3.result.now ≡ kept_of_keys true size ks = c.as_slice-3.ensures.value ∙ c.in_ok-parts_keys-2.ensures.added c.if-not-branch-2.false
     ∙ ap (λ (old : List ℕ). old ++ kept_of_keys true size ks) c.new-keys.ensures.items in
     let size_is : c.divided_up-size.result ≡ size =
-    c.divided_up-size.ensures ∙ ap (λ b. divided_up b 8) (c.key_bits.ensures ∙ ap bits_of_lanes c.as_slice.ensures
+    c.divided_up-size.ensures ∙ ap (λ b. divided_up b 8) (c.key_bits.ensures ∙ ap bits_of_lanes c.as_slice-2.ensures
     ∙ sym (first-bits c.args.config.now c.args.table.now c.args.parts.now c.requires.parts c.requires.items c.requires.memory c.requires.kind c.requires.has c.requires.made c.index-parts-0.result c.index-parts-0.is)) in
     let count_is : length ks ≡ length c.args.numbers.now = keys-count config (parts_at parts) ∙ ap (λ ps. length (listed_numbers ps)) c.requires.parts ∙ sym (ap (λ (ns : List ℕ). length ns) c.requires.numbers) in
     ap (λ (bs : List ℕ). length bs) bytes ∙ kept-length size ks ∙ ap (λ n. n * size) count_is ∙ ap (λ n. length c.args.numbers.now * n) (sym size_is)
@@ -75,10 +76,10 @@ returns c =
     let parts = c.args.parts.now in
     let size = divided_up (sum c.args.table.now.keys) 8 in
     let ks = keys_listed config (parts_at parts) in
-    let bytes : c.as_slice-2.result.now ≡ kept_of_keys true size ks = c.as_slice-2.ensures.value ∙ c.in_ok-parts_keys-2.ensures.added c.if-not-branch-2.false
+    let bytes : c.as_slice-3.result.now ≡ kept_of_keys true size ks = c.as_slice-3.ensures.value ∙ c.in_ok-parts_keys-2.ensures.added c.if-not-branch-2.false
     ∙ ap (λ (old : List ℕ). old ++ kept_of_keys true size ks) c.new-keys.ensures.items in
     let size_is : c.divided_up-size.result ≡ size =
-    c.divided_up-size.ensures ∙ ap (λ b. divided_up b 8) (c.key_bits.ensures ∙ ap bits_of_lanes c.as_slice.ensures
+    c.divided_up-size.ensures ∙ ap (λ b. divided_up b 8) (c.key_bits.ensures ∙ ap bits_of_lanes c.as_slice-2.ensures
     ∙ sym (first-bits c.args.config.now c.args.table.now c.args.parts.now c.requires.parts c.requires.items c.requires.memory c.requires.kind c.requires.has c.requires.made c.index-parts-0.result c.index-parts-0.is)) in
     let count_is : length ks ≡ length c.args.numbers.now = keys-count config (parts_at parts) ∙ ap (λ ps. length (listed_numbers ps)) c.requires.parts ∙ sym (ap (λ (ns : List ℕ). length ns) c.requires.numbers) in
     IfOk-weaker c.each_is_new.result _ _ (λ new f.

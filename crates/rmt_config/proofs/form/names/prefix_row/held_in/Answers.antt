@@ -30,8 +30,8 @@ unit_held-requires-clause-short c =
     ∙ get_or_from_slice_get config.stages part.stage st.stage c.index-stages-part.result st.in_stages in
     let rows : c.as_slice-rows.result.now ≡ st.stage.trows = c.as_slice-rows.ensures ∙ ap (λ (x : Stage). x.trows) (sym c.index-stages-part.is ∙ stage) in
     let side : c.divided_up-side.result ≡ divided_up bits 40 = c.divided_up-side.ensures ∙ ap (λ b. divided_up b 40) (c.key_bits.ensures ∙ ap bits_of_lanes c.as_slice.ensures) in
-    let read = mask-read config part st a.quanta a.keys a.records a.counters a.is c.args.cell c.divided_up-side.result c.as_slice-rows.result.now c.unit_blocks-blocks.result.now
-    c.as_slice-in-Ternary.result.now rows side c.as_slice-in-Ternary.ensures c.unit_blocks-blocks.ensures in
+    let read = mask-read config part st a.quanta a.keys a.records a.counters a.is c.args.cell c.divided_up-side.result c.as_slice-rows.result.now c.piece_at-blocks.result.now
+    c.as_slice-in-Ternary.result.now rows side c.as_slice-in-Ternary.ensures c.piece_at-blocks.ensures.value in
     subst (λ x. x < 2 ^ 128) (sym read) (short-fits _ bits (mask-small config part st a.quanta a.keys a.records a.counters a.is c.args.cell) c.requires.short)
 
 pub returns-in-Ternary : goal.returns-in-Ternary
@@ -47,11 +47,11 @@ returns-in-Ternary c =
     let rows : c.as_slice-rows.result.now ≡ st.stage.trows = c.as_slice-rows.ensures ∙ ap (λ (x : Stage). x.trows) (sym c.index-stages-part.is ∙ stage) in
     let side : c.divided_up-side.result ≡ divided_up bits 40 = c.divided_up-side.ensures ∙ ap (λ b. divided_up b 40) (c.key_bits.ensures ∙ ap bits_of_lanes c.as_slice.ensures) in
     let key = c.unit_held.ensures.key
-    ∙ key-read config part st a.quanta a.keys a.records a.counters a.is c.args.cell c.divided_up-side.result c.as_slice-rows.result.now c.unit_blocks-blocks.result.now
-    c.as_slice-in-Ternary.result.now rows side c.as_slice-in-Ternary.ensures c.unit_blocks-blocks.ensures in
+    ∙ key-read config part st a.quanta a.keys a.records a.counters a.is c.args.cell c.divided_up-side.result c.as_slice-rows.result.now c.piece_at-blocks.result.now
+    c.as_slice-in-Ternary.result.now rows side c.as_slice-in-Ternary.ensures c.piece_at-blocks.ensures.value in
     let mask = c.unit_held.ensures.mask
-    ∙ mask-read config part st a.quanta a.keys a.records a.counters a.is c.args.cell c.divided_up-side.result c.as_slice-rows.result.now c.unit_blocks-blocks.result.now
-    c.as_slice-in-Ternary.result.now rows side c.as_slice-in-Ternary.ensures c.unit_blocks-blocks.ensures in
+    ∙ mask-read config part st a.quanta a.keys a.records a.counters a.is c.args.cell c.divided_up-side.result c.as_slice-rows.result.now c.piece_at-blocks.result.now
+    c.as_slice-in-Ternary.result.now rows side c.as_slice-in-Ternary.ensures c.piece_at-blocks.ensures.value in
     record {
       key = key;
       mask = mask;

@@ -1,0 +1,31 @@
+-- A book from which its index is taken.
+use Rattle.std.proofs.Common.{◌≡◌, List, None, sym, subst}
+use Rattle.rmt_ast.specs.declared.entry.Entry.{Entry}
+use Rattle.rmt_config.specs.declared.config.Config.{Config}
+use Rattle.rmt_config.specs.RunCells.{RunCells}
+use Rattle.rmt_update.specs.declared.book.Book.{Book}
+use Rattle.rmt_update.specs.declared.book.book_index.BookIndex.{BookIndex}
+use Rattle.rmt_update.specs.BookIndex.{IsBookIndex}
+use Rattle.rmt_update.specs.BookStands.{BookStands}
+
+without-index : (c : Config) (cells : RunCells) (lists : List (List Entry)) (b : Book) → BookStands c cells lists b → BookStands c cells lists (record b { index = None })
+without-index c cells lists b h = record {
+  formed = h.formed;
+  names = h.names;
+  version = h.version;
+  seed = h.seed;
+  tables = h.tables;
+  numbers = h.numbers;
+  readable = h.readable;
+  lists = h.lists;
+  index = tt;
+}
+
+module _ (b taken : Book) (is : taken ≡ record b { index = None }) where
+  -- it stands for what it did
+  pub taken-stands : (c : Config) (cells : RunCells) (lists : List (List Entry)) → BookStands c cells lists b → BookStands c cells lists taken
+  taken-stands c cells lists h = subst (BookStands c cells lists) (sym is) (without-index c cells lists b h)
+
+  -- and the index is that of its tables
+  pub taken-index : (ix : BookIndex) → IsBookIndex b.odd b.tables.items ix → IsBookIndex taken.odd taken.tables.items ix
+  taken-index ix h = subst (λ (d : Book). IsBookIndex d.odd d.tables.items ix) (sym is) h
