@@ -1,15 +1,23 @@
 -- The entries of parts.
-use Rattle.std.proofs.Common.{◌≡◌, ℕ, ◌<◌, ◌∙◌, false, cond, List, [], ◌∷◌, map, filter, refl, ap, arith}
-use Rattle.std.specs.Prelude.{All, ◌&&◌, nat_le}
+use Rattle.std.proofs.Common.{◌≡◌, ℕ, ◌<◌, ◌∙◌, false, cond, List, [], ◌∷◌, Some, length, map, filter, get_or, refl, ap, arith}
+use Rattle.std.specs.Prelude.{All, ◌&&◌, nat_le, slice_get}
 use Rattle.std.specs.List.{range_with_len}
 use Rattle.std.proofs.Math.Bool.{and-false}
 use Rattle.std.proofs.lemmas.Bool.{le-ltb}
+use Rattle.std.proofs.lemmas.List.{length-map}
 use Rattle.std.proofs.lemmas.List.Elements.{All-map}
 use Rattle.std.proofs.lemmas.List.Sorted.{All-permutation}
+use Rattle.std.proofs.lemmas.Option.{slice_get-get_or}
+use Rattle.rmt_ast.specs.declared.entry.Entry.{Entry}
+use Rattle.rmt_ast.specs.EntryLists.{AreEntries, terms_at}
 use Rattle.rmt_bits.proofs.AllLaws.{All-range, All-unmap}
 use Rattle.rmt_pack.proofs.FormatLaws.{filtered}
+use Rattle.rmt_pack.specs.Placements.{quanta_in}
+use Rattle.rmt_build.specs.Types.{Node, Program, Table}
+use Rattle.rmt_build.specs.declared.plan.Plan.{Plan}
 use Rattle.rmt_build.specs.declared.stands.Stand.{Stand}
-use Rattle.rmt_build.specs.EntryCells.{StandOnce, counted_from, stands_there, stands_within}
+use Rattle.rmt_build.specs.EntryCells.{StandOnce, cells_for, counted_from, stands_there, stands_within}
+use Rattle.rmt_build.specs.Plans.{IsPlan, format_at, quanta_before, stands_of_part}
 
 -- no cell, no entry
 pub within_none : (stands : List Stand) → stands_within 0 0 stands ≡ []
@@ -26,3 +34,14 @@ part_entries count first cells stands once =
     All-unmap (λ i. i < count) (λ (s : Stand). s.entry) stands (All-permutation (λ i. i < count) (range_with_len 0 count) (map (λ (s : Stand). s.entry) stands) once.each range) in
     All-map (λ (s : Stand). s.entry < count) (counted_from first) (filter (stands_there first cells) stands)
     (filtered (λ (s : Stand). s.entry < count) (stands_there first cells) stands (λ i d lt passes. all i d lt))
+
+pub entries_of_part : (p : Program) (lists : List (List Entry)) (plan : Plan) (t : Table) (n k : ℕ) (es : List Entry) → AreEntries p lists → IsPlan p lists plan → n < length p.nodes
+    → slice_get lists n ≡ Some es → All (λ (s : Stand). s.entry < length es) (stands_of_part p plan t n k)
+entries_of_part p lists plan t n k es entries is lt at =
+    let cells = cells_for t.kind (format_at p n).per in
+    let own = get_or plan.stands n [] in
+    let terms = length-map p.nodes (λ (x : Node). terms_at p x.what) in
+    let all = entries.for_each_node in
+    let long = is.stands.all_there in
+    let own_is : slice_get plan.stands n ≡ Some own = slice_get-get_or plan.stands n [] (omega (arith, long, all, terms, lt)) in
+    part_entries (length es) (cells (quanta_before plan.placement.parts n k)) (cells (quanta_in plan.placement.parts n k)) own (is.stands.each n es own at own_is)

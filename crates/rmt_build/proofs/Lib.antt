@@ -52,6 +52,7 @@ mod NumberedLaws
 mod PartLaws
 mod PlacedLaws
 mod PlanLaws
+mod PlannedLaws
 mod PromiseLaws
 mod RefusalLaws
 mod RoomLaws

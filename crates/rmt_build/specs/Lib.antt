@@ -7,6 +7,7 @@ pub mod Listing
 pub mod Loads
 pub mod Memories
 pub mod Numbers
+pub mod Planned
 pub mod Plans
 pub mod Promises
 pub mod Refusals

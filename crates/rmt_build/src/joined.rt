@@ -25,11 +25,11 @@ ghost use Rattle.rmt_build.specs.Folds.{AreFoldings};
 ghost use Rattle.rmt_build.specs.BuiltStage.{IsBuiltStage};
 ghost use Rattle.rmt_build.specs.Fronts.{IsFront};
 ghost use Rattle.rmt_build.specs.Loads.{AreNotLoaded, IsFirstSeed, IsNotLoaded};
+ghost use Rattle.rmt_build.specs.Planned.{cells_planned};
 ghost use Rattle.rmt_build.specs.Plans.{IsPlan};
 ghost use Rattle.rmt_build.specs.Promises.{IsBounded, IsConfigOf, IsLaidOut, KeepsRules};
 ghost use Rattle.rmt_build.specs.Refusals.{first_refusal};
 ghost use Rattle.rmt_build.specs.Stages.{ArePlaced, AreStagesOf, IsPlanFor};
-ghost use Rattle.rmt_build.specs.Told.{cells_told};
 
 use crate::built::Built;
 use crate::code::code_of;
@@ -40,9 +40,9 @@ use crate::front::{Front, front_of};
 use crate::lanes::{lane_of, out_headers};
 use crate::listing::{sram_rows, tcam_rows};
 use crate::loading::load_all;
-use crate::numbers::cells_of;
 use crate::plan::{Plan, PlannedStage};
 use crate::tcam::TcamRows;
+use crate::told::cells_of;
 use crate::units::units_of;
 use rmt_ast::deps::Deps;
 use rmt_ast::entry::EntryLists;
@@ -241,7 +241,7 @@ fn built_of(
     let bound = bound(alloc, program, deps)?;
     let names = told_names(alloc, program, entries)?;
     let config = config_of(alloc, program, &plan, parser, stages, names)?;
-    let map = map_of(alloc, program, plan, &config)?;
+    let map = map_of(alloc, program, entries, plan)?;
     Ok(Built { config, map, bound })
 }
 
@@ -394,16 +394,22 @@ fn config_of(
     })
 }
 
-/// The map of a plan that became this configuration.
-fn map_of(alloc: Global, program: &Program, plan: Plan, config: &Config) -> Result<Map, AllocError>
-    requires nodes { length program.now.nodes ≤ 128 }
-    requires stages { length config.now.stages ≤ 32 }
+/// The map of a plan.
+fn map_of(
+    alloc: Global,
+    program: &Program,
+    entries: &EntryLists,
+    plan: Plan,
+) -> Result<Map, AllocError>
+    requires program { IsProgram program.now }
+    requires entries { AreEntries program.now entries.now }
+    requires plan { IsPlanFor program.now entries.now plan }
     ensures places { IfOk result (λ map. map.places ≡ plan.places) }
     ensures placement { IfOk result (λ map. map.placement ≡ plan.placement) }
     ensures starts { IfOk result (λ map. map.starts ≡ plan.starts) }
-    ensures cells { IfOk result (λ map. map.cells ≡ cells_told (length program.now.nodes) config.now.stages) }
+    ensures cells { IfOk result (λ map. map.cells ≡ cells_planned program.now entries.now plan) }
 {
-    let cells = cells_of(alloc, program.nodes.len() as u8, config.stages.as_slice())?;
+    let cells = cells_of(alloc, program, entries, &plan)?;
     Ok(Map {
         places: plan.places,
         placement: plan.placement,

@@ -19,6 +19,7 @@ mod parts;
 mod plan;
 mod stands;
 mod tcam;
+mod told;
 mod units;
 mod words;
 

@@ -98,7 +98,7 @@ fn changed(alloc: Global, image: &[u8], splices: &[Splice]) -> Result<Vec<u8>, A
 
 #[test]
 fn entries_of_books(rt: HostRuntime) -> Result<(), Fail> {
-    for (image, splices, wanted) in ROWS {
+    for &(image, splices, wanted) in &ROWS {
         let image = changed(rt.alloc(), image, splices)?;
         let entries = told(rt.alloc(), image.as_slice()).expect(&rt, "a book");
         assert_eq!(rt; entries.as_str(), wanted);

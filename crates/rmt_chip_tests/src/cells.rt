@@ -78,7 +78,7 @@ fn all_read(alloc: Global, cells: &Cells, kept: &[Kept]) -> Result<bool, AllocEr
     requires { (count : ℕ) × Stands count (map (λ (k : KeptOf). record { chain = k.chain; bytes = k.bytes.items }) kept.now) cells.now }
 {
     for place in 0..kept.len() {
-        for at in [0, 1, 63, 64, 65, 127, 128, 192] {
+        for &at in &[0, 1, 63, 64, 65, 127, 128, 192] {
             let read = rest(alloc, cells, kept, place, at)?;
             let bytes = kept[place].bytes.as_slice();
             let wanted = bytes.get(at as usize..).unwrap_or(&[]);

@@ -144,7 +144,7 @@ const ROWS: [Row; 21] = [
 fn lines_by_names(rt: HostRuntime) {
     let alloc = rt.alloc();
     let names = names_of_b(alloc).expect(&rt, "memory");
-    for (line, wanted_entry, wanted_key) in ROWS {
+    for &(line, wanted_entry, wanted_key) in &ROWS {
         let said = shown_entry(alloc, entry(alloc, &names, line)).expect(&rt, "memory");
         let key_said = shown_key(alloc, key(alloc, &names, line)).expect(&rt, "memory");
         assert!(rt; said.as_str() == wanted_entry && key_said.as_str() == wanted_key);
@@ -440,7 +440,7 @@ gone 0 come now
 
 #[test]
 fn lists_through_commits(rt: HostRuntime) {
-    for (most, lines, wanted) in RUNS {
+    for &(most, lines, wanted) in &RUNS {
         assert!(rt; most < 1048577);
         let said = told(rt.alloc(), most, lines).expect(&rt, "memory");
         assert_eq!(rt; said.as_str(), wanted);
@@ -456,7 +456,7 @@ fn long_line(alloc: Global, length: usize) -> Result<Vec<u8>, AllocError> {
 
 #[test]
 fn long_lines(rt: HostRuntime) {
-    for (length, wanted) in [
+    for &(length, wanted) in &[
         (
             18443,
             "gone come 1 #0 rank 0 7&255 action 0 5 now #0 7&255\n",

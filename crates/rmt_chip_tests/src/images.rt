@@ -98,7 +98,7 @@ fn smallest(rt: HostRuntime) {
 
 #[test]
 fn broken_bytes(rt: HostRuntime) {
-    for (place, byte, code) in BROKEN {
+    for &(place, byte, code) in &BROKEN {
         let mut image = IMAGE;
         assert!(rt; place < 95);
         image[place] = byte;
@@ -187,7 +187,7 @@ const MANY: [(u16, u8, u8, u16, (u8, u8, u8, u32)); 11] = [
 
 #[test]
 fn limits(rt: HostRuntime) -> Result<(), Fail> {
-    for (entries, stages, slots, apart, answer) in MANY {
+    for &(entries, stages, slots, apart, answer) in &MANY {
         let image = image_of(rt.alloc(), entries, stages, slots, apart)?;
         assert_eq!(rt; read(rt.alloc(), &image), answer);
     }
@@ -196,7 +196,7 @@ fn limits(rt: HostRuntime) -> Result<(), Fail> {
 
 #[test]
 fn needs(rt: HostRuntime) {
-    for (need, answer) in [(128, (0, 0, 0, 0)), (129, (6, 5, 0, 129))] {
+    for &(need, answer) in &[(128, (0, 0, 0, 0)), (129, (6, 5, 0, 129))] {
         let mut image = IMAGE;
         image[39] = need;
         assert_eq!(rt; read(rt.alloc(), &image), answer);
@@ -235,7 +235,7 @@ const ENDINGS: [(usize, &[u8], u8); 4] = [
 
 #[test]
 fn endings(rt: HostRuntime) -> Result<(), Fail> {
-    for (len, bytes, code) in ENDINGS {
+    for &(len, bytes, code) in &ENDINGS {
         assert!(rt; len <= 95);
         let mut image = Vec::from_slice(rt.alloc(), &IMAGE[..len])?;
         image.extend_from_slice(bytes)?;
@@ -284,7 +284,7 @@ const GUARDS: [(u8, &[u8], u8); 7] = [
 
 #[test]
 fn guards(rt: HostRuntime) -> Result<(), Fail> {
-    for (node, guard, code) in GUARDS {
+    for &(node, guard, code) in &GUARDS {
         assert_eq!(rt; guarded(rt.alloc(), node, guard)?, code);
     }
     Ok(())

@@ -92,7 +92,7 @@ fn of_short_keys(alloc: Global, layout: &Layout, most: u8, seed: u8) -> Option<(
 fn four_cells_hold_four_keys(rt: HostRuntime) -> Result<(), Fail> {
     let layout = one_part(rt.alloc(), Ways { rows: 1, per: 1 })?;
     for seed in 0..=255 {
-        for (most, wanted) in [(0, (0, 0)), (4, (4, 0)), (5, (5, 4))] {
+        for &(most, wanted) in &[(0, (0, 0)), (4, (4, 0)), (5, (5, 4))] {
             let got = of_short_keys(rt.alloc(), &layout, most, seed);
             assert_eq!(rt; got, Some(wanted), "{most} keys under seed {seed}");
         }
@@ -108,7 +108,7 @@ fn two_parts_share_the_keys(rt: HostRuntime) -> Result<(), Fail> {
         Ways { rows: 1, per: 1 },
         Ways { rows: 1, per: 3 },
     )?;
-    for (most, wanted) in [(16, (16, 0)), (17, (17, 16))] {
+    for &(most, wanted) in &[(16, (16, 0)), (17, (17, 16))] {
         let got = of_short_keys(rt.alloc(), &layout, most, 0);
         assert_eq!(rt; got, Some(wanted), "{most} keys");
     }
@@ -142,7 +142,7 @@ const KEYS: [(u32, &[&[u8]], (usize, u64)); 3] = [
 
 #[test]
 fn keys_share_cells_and_move(rt: HostRuntime) -> Result<(), Fail> {
-    for (rows, bytes, wanted) in KEYS {
+    for &(rows, bytes, wanted) in &KEYS {
         assert!(rt; 1 <= rows && rows <= 1024);
         let layout = one_part(rt.alloc(), Ways { rows, per: 1 })?;
         let keys = keys_of(rt.alloc(), bytes)?;

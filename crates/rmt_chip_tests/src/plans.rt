@@ -441,7 +441,7 @@ moves 0, 1 0 1 3 3, 1 0 2 3 4, 1 0 3 3 1
 
 #[test]
 fn plans_of_commits(rt: HostRuntime) {
-    for (image, lines, wanted) in PLANS {
+    for &(image, lines, wanted) in &PLANS {
         let said = told(rt.alloc(), image, lines, true).expect(&rt, "plans");
         assert_eq!(rt; said.as_str(), wanted);
     }
@@ -520,7 +520,7 @@ stays 0, 1 0 536 2 5, 1 0 1048 2 9, 1 1 536 2 0, 1 1 1048 2 4
 
 #[test]
 fn full_tables(rt: HostRuntime) {
-    for (changes, later, wanted) in FULL {
+    for &(changes, later, wanted) in &FULL {
         let said = told_full(rt.alloc(), changes, later).expect(&rt, "a refusal");
         assert_eq!(rt; said.as_str(), wanted);
     }

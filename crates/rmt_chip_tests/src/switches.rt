@@ -59,7 +59,7 @@ const PORTS: [(u16, &[u16]); 8] = [
 
 #[test]
 fn bad_groups(rt: HostRuntime) -> Result<(), Fail> {
-    for (text, line) in BAD_GROUPS {
+    for &(text, line) in &BAD_GROUPS {
         assert!(rt; text.len() <= 1_048_576);
         match groups(rt.alloc(), text.as_bytes()) {
             Ok(_) => assert!(rt; false, "a text with a bad line was read"),
@@ -72,7 +72,7 @@ fn bad_groups(rt: HostRuntime) -> Result<(), Fail> {
 #[test]
 fn good_groups(rt: HostRuntime) -> Result<(), Fail> {
     let groups = groups(rt.alloc(), GOOD_GROUPS.as_bytes())?;
-    for (number, ports) in PORTS {
+    for &(number, ports) in &PORTS {
         assert_eq!(rt; groups.ports(number), ports);
         assert_eq!(rt; groups.has(number), !ports.is_empty());
     }
@@ -337,7 +337,7 @@ fn counted(counts: &SwitchCounts) -> [u64; 6] {
 
 #[test]
 fn runs(rt: HostRuntime) -> Result<(), Fail> {
-    for (image, lines, every, frames, counts, files) in ROWS {
+    for &(image, lines, every, frames, counts, files) in &ROWS {
         let file = capture_of(rt.alloc(), frames)?;
         let switched = switch(&rt, image, lines, every, file.as_slice())?;
         assert_eq!(rt; counted(&switched.counts), counts);

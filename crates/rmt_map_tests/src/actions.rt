@@ -119,7 +119,7 @@ const FOLDED: [(&[u8], &str); 4] = [
 
 #[test]
 fn folds(rt: HostRuntime) -> Result<(), Fail> {
-    for (text, wanted) in FOLDED {
+    for &(text, wanted) in &FOLDED {
         assert!(rt; text.len() < 10000);
         let got = folded(rt.alloc(), text)?;
         assert_eq!(rt; got.as_str(), wanted);

@@ -79,10 +79,10 @@ fn has_format(alloc: Global, kind: Kind, row: Row) -> bool {
 
 #[test]
 fn formats(rt: HostRuntime) {
-    for row in EXACT {
+    for &row in &EXACT {
         assert!(rt; has_format(rt.alloc(), Kind::Exact, row), "exact {}", row.0);
     }
-    for row in TERNARY {
+    for &row in &TERNARY {
         assert!(rt;
             has_format(rt.alloc(), Kind::Ternary, row),
             "ternary {}",

@@ -412,7 +412,7 @@ const TRIES: [(u32, &str); 3] = [
 #[test]
 fn better_order(rt: HostRuntime) -> Result<(), Fail> {
     let text = chain_behind_sixteen(rt.alloc())?;
-    for (budget, wanted) in TRIES {
+    for &(budget, wanted) in &TRIES {
         compare(&rt, What::Better { budget }, text.as_slice(), wanted);
     }
     Ok(())
@@ -468,7 +468,7 @@ const ORDERS: [(&[u8], u32, &str); 6] = [
 
 #[test]
 fn better_orders(rt: HostRuntime) {
-    for (text, budget, wanted) in ORDERS {
+    for &(text, budget, wanted) in &ORDERS {
         compare(&rt, What::Better { budget }, text, wanted);
     }
 }
@@ -504,7 +504,7 @@ fn full_chain_behind_sixteen(alloc: Global) -> Result<Vec<u8>, AllocError> {
 #[test]
 fn stuck_by_the_rule_alone(rt: HostRuntime) -> Result<(), Fail> {
     let text = full_chain_behind_sixteen(rt.alloc())?;
-    for (budget, wanted) in [
+    for &(budget, wanted) in &[
         (1, "stuck 47 32:1:32:1\n"),
         (
             2,

@@ -132,7 +132,7 @@ fn cut_short(rt: HostRuntime) {
 
 #[test]
 fn one_byte_more(rt: HostRuntime) -> Result<(), Fail> {
-    for map in [&MAP[..], &NOTHING[..]] {
+    for &map in &[&MAP[..], &NOTHING[..]] {
         let mut bytes = Vec::from_slice(rt.alloc(), map)?;
         bytes.push(0)?;
         assert_eq!(rt; reads(rt.alloc(), bytes.as_slice()), Some(false));
@@ -142,7 +142,7 @@ fn one_byte_more(rt: HostRuntime) -> Result<(), Fail> {
 
 #[test]
 fn changed(rt: HostRuntime) -> Result<(), Fail> {
-    for (place, other, is_map) in CHANGED {
+    for &(place, other, is_map) in &CHANGED {
         let mut bytes = Vec::from_slice(rt.alloc(), &MAP[..place.min(54)])?;
         bytes.extend_from_slice(other)?;
         let behind = place.wrapping_add(other.len()).min(54);

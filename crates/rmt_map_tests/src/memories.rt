@@ -258,11 +258,11 @@ const CELLS: [(u32, Head, [u8; 6], u8, u16, u128); 6] = [
 fn cells_stand_and_read_back(rt: HostRuntime) -> Result<(), Fail> {
     let part = small_part(rt.alloc())?;
     let mut rows = Rows::new(rt.alloc())?;
-    for (cell, head, key, _, _, _) in CELLS {
+    for &(cell, head, key, _, _, _) in &CELLS {
         let is_put = put_cell(&mut rows, &part, 16384, 6, cell, head, &key);
         assert!(rt; is_put, "cell {cell}");
     }
-    for (cell, head, key, block, row, bits) in CELLS {
+    for &(cell, head, key, block, row, bits) in &CELLS {
         let mut read = [9; 6];
         let found = get_cell(&rows, &part, 16384, 6, cell, &mut read);
         let seen = (row_at(&rows, block, row), found, read);
@@ -293,13 +293,13 @@ const WIDE_ROWS: [(u8, u16, u128); 5] = [
 fn wide_cells_stand_and_read_back(rt: HostRuntime) -> Result<(), Fail> {
     let part = wide_part(rt.alloc())?;
     let mut rows = Rows::new(rt.alloc())?;
-    for cell in [5, 24575] {
+    for &cell in &[5, 24575] {
         let mut read = [9; 14];
         let is_put = put_cell(&mut rows, &part, 24576, 14, cell, WIDE_HEAD, &WIDE_KEY);
         let found = get_cell(&rows, &part, 24576, 14, cell, &mut read);
         assert!(rt; is_put && found == Some(WIDE_HEAD) && read == WIDE_KEY);
     }
-    for (block, row, bits) in WIDE_ROWS {
+    for &(block, row, bits) in &WIDE_ROWS {
         assert_eq!(rt; row_at(&rows, block, row), Some(bits), "block {block}");
     }
     Ok(())
@@ -321,11 +321,11 @@ const RECORDS: [(u32, [u8; 2], u8, u16, u128); 7] = [
 fn records_stand_and_read_back(rt: HostRuntime) -> Result<(), Fail> {
     let part = small_part(rt.alloc())?;
     let mut rows = Rows::new(rt.alloc())?;
-    for (cell, held, _, _, _) in RECORDS {
+    for &(cell, held, _, _, _) in &RECORDS {
         let is_put = put_record(&mut rows, &part, 16384, 2, cell, &held);
         assert!(rt; is_put, "cell {cell}");
     }
-    for (cell, held, block, row, bits) in RECORDS {
+    for &(cell, held, block, row, bits) in &RECORDS {
         let mut read = [9; 2];
         let is_read = get_record(&rows, &part, 16384, 2, cell, &mut read);
         let seen = (row_at(&rows, block, row), is_read, read);
@@ -350,7 +350,7 @@ const TERNARY_RECORDS: [(u32, [u8; 3], u8, u16, u128); 2] = [
 fn ternary_records_stand_and_read_back(rt: HostRuntime) -> Result<(), Fail> {
     let part = ternary_part(rt.alloc())?;
     let mut rows = Rows::new(rt.alloc())?;
-    for (cell, held, block, row, bits) in TERNARY_RECORDS {
+    for &(cell, held, block, row, bits) in &TERNARY_RECORDS {
         let mut read = [9; 3];
         let is_put = put_record(&mut rows, &part, 4096, 3, cell, &held);
         let is_read = get_record(&rows, &part, 4096, 3, cell, &mut read);

@@ -172,7 +172,7 @@ const ROWS: [Row<'static>; 6] = [
 
 #[test]
 fn packs_fields(rt: HostRuntime) -> Result<(), Fail> {
-    for (widths, actions, pieces) in ROWS {
+    for &(widths, actions, pieces) in &ROWS {
         let places = places(rt.alloc(), widths, actions)?;
         let mut seen = Vec::new(rt.alloc());
         for (field, lanes) in places.as_slice().iter().enumerate() {

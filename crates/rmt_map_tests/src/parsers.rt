@@ -94,7 +94,7 @@ const FRAMES: [(&[u8], Parsed); 7] = [
 
 #[test]
 fn realistic_frames(rt: HostRuntime) -> Result<(), Fail> {
-    for rule in RULES {
+    for &rule in &RULES {
         let parser = parser_of(rt.alloc(), HEADERS, rule)?;
         let mut frame = Vec::new(rt.alloc());
         for (line, want) in FRAMES.as_slice() {
@@ -150,7 +150,7 @@ const TAILS: [(&[u8], Parsed, (u16, u16)); 3] = [
 #[test]
 fn tails_of_a_header(rt: HostRuntime) -> Result<(), Fail> {
     let parser = parser_of(rt.alloc(), TAILED, Rule::Clustered)?;
-    for (frame, answer, tail) in TAILS {
+    for &(frame, answer, tail) in &TAILS {
         let mut vector = Vector::new();
         let mut tails = Tails::new();
         assert!(rt; frame.len() < 9217);
@@ -257,7 +257,7 @@ const SIZES: [Row; 7] = [
 
 #[test]
 fn sizes_of_parsers(rt: HostRuntime) -> Result<(), Fail> {
-    for (front, piece, times, back, plain, clustered) in SIZES {
+    for &(front, piece, times, back, plain, clustered) in &SIZES {
         let text = repeated(rt.alloc(), front, piece, times, back)?;
         assert!(rt; text.len() < 10000);
         let got = told(rt.alloc(), text.as_slice(), Rule::Plain)?;

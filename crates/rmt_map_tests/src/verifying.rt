@@ -382,7 +382,7 @@ const STAND: [(usize, usize, &[Told], bool); 5] = [
 
 #[test]
 fn parts(rt: HostRuntime) -> Result<(), Fail> {
-    for (nodes, stages, told, want) in STAND {
+    for &(nodes, stages, told, want) in &STAND {
         let parts = told_parts(rt.alloc(), told)?;
         assert_eq!(rt; parts_stand(nodes, stages, parts.as_slice()), want);
     }

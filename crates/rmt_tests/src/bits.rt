@@ -13,7 +13,7 @@ const HASHES: [(&[u8], u64); 3] = [
 
 #[test]
 fn hash_and_cells(rt: HostRuntime) {
-    for (bytes, hash) in HASHES {
+    for &(bytes, hash) in &HASHES {
         assert_eq!(rt; fnv(bytes), hash);
     }
     // the hash of the bytes 66, 6f, 6f and so on, under the seed and way 66 and 6f

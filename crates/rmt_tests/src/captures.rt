@@ -85,7 +85,7 @@ fn told(alloc: Global, bytes: &[u8]) -> Told {
 
 #[test]
 fn hostile_captures(rt: HostRuntime) -> Result<(), Fail> {
-    for (front, back, wanted) in FILES {
+    for &(front, back, wanted) in &FILES {
         let bytes = file(rt.alloc(), front, &[back])?;
         assert_eq!(rt; told(rt.alloc(), bytes.as_slice()), wanted);
     }
@@ -108,7 +108,7 @@ fn cut_at_each_byte(rt: HostRuntime) -> Result<(), Fail> {
     let bytes = file(rt.alloc(), BIG, &[&TWO, &TWO])?;
     assert_eq!(rt; bytes.len(), 60);
     let mut from = 0;
-    for (to, wanted) in CUTS {
+    for &(to, wanted) in &CUTS {
         for len in from..to {
             let front = bytes.get(..len).unwrap_or(&[]);
             assert_eq!(rt; told(rt.alloc(), front), wanted);
@@ -126,7 +126,7 @@ const LONG: [(u8, u8, usize, Told); 2] = [
 
 #[test]
 fn longest_record(rt: HostRuntime) -> Result<(), Fail> {
-    for (high, low, len, wanted) in LONG {
+    for &(high, low, len, wanted) in &LONG {
         let before = [0, 0, 0, 9, 0, 0, 0, 8, 0, 0, high, low, 0, 0, 255, 255];
         let frame = vec![in rt.alloc(); 5u8; len]?;
         let bytes = file(rt.alloc(), BIG, &[&before, frame.as_slice()])?;
@@ -164,7 +164,7 @@ fn bytes_at(record: &Record) -> (u32, u32) {
 
 #[test]
 fn written_and_read(rt: HostRuntime) -> Result<(), Fail> {
-    for (front, records) in [(BIG, BIG_RECORDS), (LITTLE, LITTLE_RECORDS)] {
+    for &(front, records) in &[(BIG, BIG_RECORDS), (LITTLE, LITTLE_RECORDS)] {
         let bytes = file(rt.alloc(), front, &[&records])?;
         let capture = read(rt.alloc(), bytes.as_slice())?;
         assert_eq!(rt; capture.skipped, 0);

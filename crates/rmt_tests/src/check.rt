@@ -555,7 +555,7 @@ const PROGRAMS: [(&[u8], &str); 4] = [
 
 #[test]
 fn reads_programs(rt: HostRuntime) {
-    for (text, want) in PROGRAMS {
+    for &(text, want) in &PROGRAMS {
         assert!(rt; text.len() < 10000);
         let program = answer(rt.alloc(), text).expect(&rt, "a program");
         let got = shown(rt.alloc(), &program).expect(&rt, "memory");

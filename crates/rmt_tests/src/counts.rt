@@ -33,7 +33,7 @@ fn takes_numbers_in_any_order(rt: HostRuntime) -> Result<(), Fail> {
     let mut counters = Counts::of(rt.alloc(), &[40, 20, 40])?;
     counters.hit(20, 100);
     counters.hit(30, 7);
-    for number in [50, 10, 30, 20] {
+    for &number in &[50, 10, 30, 20] {
         add(&rt, &mut counters, number);
     }
     counters.hit(30, 60);

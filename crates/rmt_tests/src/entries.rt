@@ -103,7 +103,7 @@ const ROWS: [Row; 14] = [
 
 #[test]
 fn tells_bad_lines(rt: HostRuntime) {
-    for (text, wanted) in ROWS {
+    for &(text, wanted) in &ROWS {
         says(&rt, STRICT_AND_WEAK, text, wanted);
     }
 }

@@ -106,7 +106,7 @@ fn copied(
 
 #[test]
 fn tells_names(rt: HostRuntime) {
-    for (program, text, wanted) in ROWS {
+    for &(program, text, wanted) in &ROWS {
         assert!(rt; program.len() < 10000 && text.len() < 10000);
         let told = copied(&rt, program, text).expect(&rt, "memory");
         assert_eq!(rt; told.as_str(), wanted);

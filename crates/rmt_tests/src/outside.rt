@@ -82,7 +82,7 @@ fn short_writes(rt: HostRuntime) -> Result<(), Fail> {
         calls: Cell::new(0),
     };
     let mut sink = TrueSink::new(&out);
-    for answer in [
+    for &answer in &[
         Ok(1),
         Ok(2),
         Err(SinkFault::Failed),

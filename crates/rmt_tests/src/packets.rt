@@ -55,7 +55,7 @@ const LINES: [Row; 4] = [
 
 #[test]
 fn packets_of_lines(rt: HostRuntime) -> Result<(), Fail> {
-    for (line, answer, bytes) in LINES {
+    for &(line, answer, bytes) in &LINES {
         reads(&rt, line, answer, bytes)?;
     }
     let mut longest = b"0 ".to_vec(rt.alloc())?;
@@ -86,7 +86,7 @@ const KINDS: [(&[u8], LineKind); 14] = [
 
 #[test]
 fn kinds_of_lines(rt: HostRuntime) {
-    for (line, kind) in KINDS {
+    for &(line, kind) in &KINDS {
         assert_eq!(rt; kind_of(line), kind);
     }
 }
@@ -102,7 +102,7 @@ const ANSWERS: [(u64, Verdict, &[u8]); 5] = [
 #[test]
 fn lines_of_answers(rt: HostRuntime) -> Result<(), Fail> {
     let mut text = Vec::new(rt.alloc());
-    for (number, verdict, bytes) in ANSWERS {
+    for &(number, verdict, bytes) in &ANSWERS {
         write_line(number, verdict, bytes, &mut text)?;
     }
     let wanted = b"9 drop short\n9 drop reject\n9 drop action\n9 5 -\n10 511 ff0a\n";

@@ -99,7 +99,7 @@ fn long_lines_in_pieces(rt: HostRuntime) -> Result<(), Fail> {
         let mut text = vec![in alloc; byte; count as usize]?;
         text.extend_from_slice(b"z\n0 ff")?;
         assert!(rt; text.len() <= 65536);
-        for size in [1usize, 4096, 40000] {
+        for &size in &[1usize, 4096, 40000] {
             let told = in_pieces(alloc, text.as_slice(), 0, size)?;
             assert_eq!(rt; told.len(), wanted);
         }
@@ -128,7 +128,7 @@ fn a_long_line_is_read_as_its_front(rt: HostRuntime) -> Result<(), Fail> {
         // behind its number, and before a line feed
         let told = in_pieces(alloc, line.as_slice(), 0, 65536)?;
         let front = told.as_slice().get(1..told.len().saturating_sub(1));
-        for text in [line.as_slice(), front.unwrap_or(&[])] {
+        for &text in &[line.as_slice(), front.unwrap_or(&[])] {
             assert_eq!(rt; read_packet(text, &mut frame), wanted);
         }
     }

@@ -21,7 +21,7 @@ fn replaces_the_tail_of_one_header(rt: HostRuntime) {
     tails.set(63, 9216, 0);
     tails.set(5, 61, 3);
     tails.set(5, 64, 60);
-    for (header, tail) in KEPT {
+    for &(header, tail) in &KEPT {
         assert!(rt; header < 64);
         assert_eq!(rt; tails.get(header), tail, "header {header}");
     }

@@ -139,7 +139,7 @@ const FAILING: [(u64, &[Row]); 3] = [
 
 #[test]
 fn shelf_calls_fail_by_number(rt: HostRuntime) -> Result<(), Fail> {
-    for (number, rows) in FAILING {
+    for &(number, rows) in &FAILING {
         let mut shelf = MemShelf::new(vec![in rt.alloc(); number]?, 5);
         put(rt.alloc(), &mut shelf, "a", b"7")?;
         run(&rt, &mut shelf, rows)?;
@@ -204,7 +204,7 @@ const FAILING_OPEN: [(u64, &[Row]); 5] = [
 
 #[test]
 fn each_call_of_an_open_file_fails(rt: HostRuntime) -> Result<(), Fail> {
-    for (number, rows) in FAILING_OPEN {
+    for &(number, rows) in &FAILING_OPEN {
         let mut shelf = MemShelf::new(vec![in rt.alloc(); number]?, 1);
         put(rt.alloc(), &mut shelf, "a", b"ab")?;
         run(&rt, &mut shelf, rows)?;
@@ -269,7 +269,7 @@ const PIECES: [(u32, &[Row]); 5] = [
 
 #[test]
 fn a_file_in_pieces(rt: HostRuntime) -> Result<(), Fail> {
-    for (most, rows) in PIECES {
+    for &(most, rows) in &PIECES {
         assert!(rt; 0 < most);
         let mut shelf = MemShelf::new(Vec::new(rt.alloc()), most);
         put(rt.alloc(), &mut shelf, "a", b"abcde")?;
@@ -391,7 +391,7 @@ fn what_the_machine_refuses(rt: HostRuntime) -> Result<(), Fail> {
     let mut shelf = TrueShelf::new(&rt);
     let mut read = Vec::new(rt.alloc());
     assert!(rt; shelf.last_fault().is_none());
-    for (name, step, answer, refusal) in REFUSALS {
+    for &(name, step, answer, refusal) in &REFUSALS {
         assert_eq!(rt; act(rt.alloc(), &mut shelf, name, step, &mut read)?, answer);
         let fault = shelf.last_fault().ok_or("no fault is kept")?;
         assert_eq!(rt; fault.name.as_str(), refusal.0);
@@ -415,7 +415,7 @@ fn a_long_file_of_the_machine(rt: HostRuntime) -> Result<(), Fail> {
     shelf.write(rt.alloc(), &name, &bytes)?;
     shelf.read(rt.alloc(), &name, LONG as u64, &mut into)?;
     assert!(rt; into.as_slice() == bytes.as_slice());
-    for limit in [LONG as u64 - 1, 0] {
+    for &limit in &[LONG as u64 - 1, 0] {
         let answer = shelf.read(rt.alloc(), &name, limit, &mut into);
         assert_eq!(rt; answer, Err(ShelfFault::TooLong));
         assert_eq!(rt; into.len(), 0);

@@ -72,7 +72,7 @@ const TEXTS: [(&[u8], &str); 18] = [
 
 #[test]
 fn reads_texts(rt: HostRuntime) {
-    for (text, want) in TEXTS {
+    for &(text, want) in &TEXTS {
         let short = text.len() < 1000;
         assert!(rt; short);
         let got = shown(rt.alloc(), text).expect(&rt, "memory");

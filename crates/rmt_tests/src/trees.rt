@@ -101,7 +101,7 @@ const TREES: [(&[u8], &str); 15] = [
 
 #[test]
 fn reads_trees(rt: HostRuntime) {
-    for (text, want) in TREES {
+    for &(text, want) in &TREES {
         let short = text.len() < 1000;
         assert!(rt; short);
         let got = read(rt.alloc(), text).expect(&rt, "memory");

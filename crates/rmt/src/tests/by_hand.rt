@@ -435,7 +435,7 @@ fn better_placement(rt: HostRuntime) -> Result<(), Fail> {
         None => Vec::new(alloc),
     };
     put(alloc, &mut shelf, "n", other.as_slice())?;
-    for (image, map, wanted) in [
+    for &(image, map, wanted) in &[
         ("i", "m", "yes\n"),
         ("j", "n", "yes\n"),
         ("i", "n", "no 3\n"),

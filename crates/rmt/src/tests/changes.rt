@@ -269,7 +269,7 @@ fn changes(rt: HostRuntime) -> Result<(), Fail> {
 fn longest_change(rt: HostRuntime) -> Result<(), Fail> {
     let alloc = rt.alloc();
     let change = "+ b 8 go 6";
-    for (length, status, printed, run) in [
+    for &(length, status, printed, run) in &[
         (
             18_443usize,
             Status::Done,

@@ -24,7 +24,7 @@ fn unnamed_image(alloc: Global) -> Result<Vec<u8>, AllocError> {
 fn no_names(rt: HostRuntime) -> Result<(), Fail> {
     let alloc = rt.alloc();
     let image = unnamed_image(alloc)?;
-    for (packets, printed) in [
+    for &(packets, printed) in &[
         ("commit\n", "bad packets 4 line 1\n"),
         ("+ b 7 go 1\n", "bad packets 4 line 1\n"),
         ("- \n", "bad packets 4 line 1\n"),
@@ -47,7 +47,7 @@ fn no_names(rt: HostRuntime) -> Result<(), Fail> {
 fn vectors_behind_a_commit(rt: HostRuntime) -> Result<(), Fail> {
     let good = "0 ff\ncommit\n0 ff\n";
     let bad = "0 ff\ncommit\n1 abc\n";
-    for (packets, cycle, status, printed) in [
+    for &(packets, cycle, status, printed) in &[
         (good, "1", Status::Done, "0 1 0:02 1:ff\n"),
         (good, "2", Status::Done, "0 2 0:02 1:ff\n1 0 0:02 1:ff\n"),
         (

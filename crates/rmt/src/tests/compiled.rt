@@ -68,7 +68,7 @@ fn programs_that_fit(rt: HostRuntime) -> Result<(), Fail> {
     let split = split_entries(alloc)?;
     let chained = chain(alloc, 32)?;
     let chain_lines = chain_lines(alloc)?;
-    for row in [
+    for &row in &[
         fits(chained.as_str(), "", chain_lines.as_str()),
         fits(
             SPLIT,
@@ -149,7 +149,7 @@ fn programs_that_do_not_fit(rt: HostRuntime) -> Result<(), Fail> {
     let wide = wide(alloc, 65)?;
     let long = long_header(alloc, 64)?;
     let cases = many_cases(alloc, 256)?;
-    for row in [
+    for &row in &[
         no_fit(
             "header h { x : 24; y : 24; } next (x, y) { 1, 2 : accept; else : reject; }\ncontrol { }\n",
             "no fit lookup h 6\n",
@@ -169,7 +169,7 @@ fn programs_that_do_not_fit(rt: HostRuntime) -> Result<(), Fail> {
 #[test]
 fn texts_that_are_bad(rt: HostRuntime) -> Result<(), Fail> {
     let alloc = rt.alloc();
-    for (program, printed) in [
+    for &(program, printed) in &[
         ("@", "bad program 1 line 1 column 1\n"),
         ("", "bad program 18 line 1 column 1\n"),
         (
@@ -207,7 +207,7 @@ fn texts_that_are_bad(rt: HostRuntime) -> Result<(), Fail> {
 #[test]
 fn entries_that_are_bad(rt: HostRuntime) -> Result<(), Fail> {
     let alloc = rt.alloc();
-    for (entries, printed) in [
+    for &(entries, printed) in &[
         ("b", "bad entries 1 line 1\n"),
         ("q 1 go 1", "bad entries 2 line 1\n"),
         ("b 256 go 1", "bad entries 3 line 1\n"),
@@ -284,7 +284,7 @@ const TAIL: [u8; 11] = [
 #[test]
 fn names_and_tails(rt: HostRuntime) -> Result<(), Fail> {
     let alloc = rt.alloc();
-    for (program, entries, version, end) in [
+    for &(program, entries, version, end) in &[
         (STRICT_AND_WEAK, "b 7 go 5\n", 2u8, NAMES.as_slice()),
         (TAILED, "", 3, TAIL.as_slice()),
     ] {

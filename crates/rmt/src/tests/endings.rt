@@ -93,7 +93,7 @@ fn is_told(text: &[u8], wanted: &str) -> bool {
 #[test]
 fn each_kind_of_answer(rt: HostRuntime) -> Result<(), Fail> {
     let alloc = rt.alloc();
-    for (words, wanted, begins) in ROWS {
+    for &(words, wanted, begins) in &ROWS {
         let mut text = Vec::new(alloc);
         let status = status_of(alloc, words, STEADY, &mut text)?;
         assert!(rt;
@@ -108,7 +108,7 @@ fn each_kind_of_answer(rt: HostRuntime) -> Result<(), Fail> {
 #[test]
 fn faults_of_what_is_written(rt: HostRuntime) -> Result<(), Fail> {
     let alloc = rt.alloc();
-    for (shelf_fails, sink_fails) in [(3, 0), (0, 1)] {
+    for &(shelf_fails, sink_fails) in &[(3, 0), (0, 1)] {
         let outside = Outside {
             shelf_fails,
             sink_fails,
@@ -178,7 +178,7 @@ fn each_status(rt: HostRuntime) -> Result<(), Fail> {
         let text = message_after(alloc, &ending, &mut shelf, &Told {})?;
         assert!(rt; text.is_empty() == (status == 0), "{status}");
     }
-    for (kind, number) in [(ErrorKind::InvalidInput, 11), (ErrorKind::OutOfMemory, 10)] {
+    for &(kind, number) in &[(ErrorKind::InvalidInput, 11), (ErrorKind::OutOfMemory, 10)] {
         let mut text = Vec::new(alloc);
         let status = end_without_words(&mut text, kind);
         assert!(rt; status == number && text.starts_with(b"rmt: "), "{text:?}");

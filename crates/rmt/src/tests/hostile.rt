@@ -45,7 +45,7 @@ fn fronts_of_an_image(rt: HostRuntime) -> Result<(), Fail> {
 #[test]
 fn one_byte_changed(rt: HostRuntime) -> Result<(), Fail> {
     let alloc = rt.alloc();
-    for (at, byte, printed) in [
+    for &(at, byte, printed) in &[
         (0usize, 0x51u8, "bad image 1\n"),
         (5, 0, "bad image 2\n"),
         (5, 2, "bad image 3\n"),
@@ -158,7 +158,7 @@ fn stages_in_a_row(rt: HostRuntime) -> Result<(), Fail> {
 #[test]
 fn two_stages(rt: HostRuntime) -> Result<(), Fail> {
     let alloc = rt.alloc();
-    for (start, node, guard, port, status, printed) in [
+    for &(start, node, guard, port, status, printed) in &[
         (
             372u16,
             1u8,
@@ -224,7 +224,7 @@ fn a_guard_on_its_own_node(rt: HostRuntime) -> Result<(), Fail> {
 #[test]
 fn other_lanes_and_ports(rt: HostRuntime) -> Result<(), Fail> {
     let alloc = rt.alloc();
-    for (at, byte, printed) in [
+    for &(at, byte, printed) in &[
         (5usize, 1u8, RUN),
         (75, 10, RUN),
         (81, 2, "0 2 ff\ncycles 13\nflight 1\n"),

@@ -27,7 +27,7 @@ fn a_better_order(rt: HostRuntime) -> Result<(), Fail> {
     let program = better_order(alloc)?;
     let by_rule = "stages 3 latency 16\nbound 2 chain z y\nminimal no\n";
     let better = "stages 2 latency 15\nbound 2 chain z y\nminimal yes\n";
-    for (words, printed) in [
+    for &(words, printed) in &[
         (["compile", "p", "e", "i"].as_slice(), by_rule),
         (["improve", "p", "e", "i", "1"].as_slice(), by_rule),
         (["improve", "p", "e", "i", "2"].as_slice(), better),
@@ -70,7 +70,7 @@ fn one_try_is_compile(rt: HostRuntime) -> Result<(), Fail> {
     let long = long_header(alloc, 64)?;
     let cases = many_cases(alloc, 256)?;
     let wide = wide(alloc, 65)?;
-    for (program, entries) in [
+    for &(program, entries) in &[
         (SMALLEST, ""),
         (NO_STAGE, ""),
         (IN_ORDER, ""),
@@ -124,7 +124,7 @@ fn runs_plainly(
 fn images_run_plainly(rt: HostRuntime) -> Result<(), Fail> {
     let alloc = rt.alloc();
     let order = better_order(alloc)?;
-    for (program, entries, packets, run) in [
+    for &(program, entries, packets, run) in &[
         (order.as_str(), "", "0 ff\n0 00\n", "cycles 17\nflight 2\n"),
         (
             STRICT_AND_WEAK,

@@ -34,7 +34,7 @@ fn kept(alloc: Global, pieces: &[&str]) -> Result<Vec<u8>, Fail> {
 
 #[test]
 fn last_lines(rt: HostRuntime) -> Result<(), Fail> {
-    for (pieces, wanted) in [
+    for &(pieces, wanted) in &[
         ([].as_slice(), ""),
         (["a\nb\n"].as_slice(), "b\n"),
         (["a\n", "b", "c\n"].as_slice(), "bc\n"),
@@ -56,7 +56,7 @@ fn a_program_is_warned_of(rt: HostRuntime) -> Result<(), Fail> {
     shelf.put_file(&program, &Vec::from_slice(alloc, b"control { }\n")?)?;
     let warned =
         "p:1:1: warning: no action of a table assigns `out_port`, so each packet that is not dropped leaves on port 0: assign it in an action\n  1 | control { }\n    | ^^^^^^^\n";
-    for (words, wanted) in [
+    for &(words, wanted) in &[
         (["compile", "p", "e", "i"].as_slice(), warned),
         (["compile", "p", "e", "p"].as_slice(), ""),
         (["plain", "p", "e", "k"].as_slice(), ""),

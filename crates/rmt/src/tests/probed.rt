@@ -11,7 +11,7 @@ fn vectors_in_flight(rt: HostRuntime) -> Result<(), Fail> {
     let one = "0 ff\n";
     let two = "7 0A\n511 ff\n";
     let bad = "0 ff\n1 00\n2 abc\n";
-    for (packets, cycle, status, printed) in [
+    for &(packets, cycle, status, printed) in &[
         (one, "11", Status::Done, "0 11 0:02 1:ff\n"),
         (one, "12", Status::Done, "0 12 0:02 1:ff 65:0001\n"),
         (one, "13", Status::Done, ""),
@@ -55,7 +55,7 @@ const REPORT: &str =
 #[test]
 fn report_of_the_smallest(rt: HostRuntime) -> Result<(), Fail> {
     let alloc = rt.alloc();
-    for (outside, status, printed) in [
+    for &(outside, status, printed) in &[
         (STEADY, Status::Done, REPORT),
         (
             Outside {

@@ -7,7 +7,7 @@ use std::test::*;
 
 #[test]
 fn samples(rt: HostRuntime) -> Result<(), Fail> {
-    for (number, status, printed) in [
+    for &(number, status, printed) in &[
         (
             "1",
             Status::Done,

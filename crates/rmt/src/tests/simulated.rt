@@ -56,7 +56,7 @@ const REALISTIC_ROW: Row<'static> = Row {
 #[test]
 fn runs(rt: HostRuntime) -> Result<(), Fail> {
     let alloc = rt.alloc();
-    for (program, entries, packets, lines, run) in [
+    for &(program, entries, packets, lines, run) in &[
         (SMALLEST, "", "0 ff", "0 1 ff\n", "cycles 13\nflight 1\n"),
         (SMALLEST, "", "", "", "cycles 0\nflight 0\n"),
         (SMALLEST, "", "# none\n", "", "cycles 0\nflight 0\n"),
@@ -153,7 +153,7 @@ fn realistic(rt: HostRuntime) -> Result<(), Fail> {
         taken: 1,
         ..STEADY
     };
-    for outside in [STEADY, in_bytes] {
+    for &outside in &[STEADY, in_bytes] {
         assert!(rt; holds(alloc, REALISTIC_ROW, Status::Done, outside)?);
     }
     Ok(())
@@ -175,7 +175,7 @@ fn realistic_with_commits(rt: HostRuntime) -> Result<(), Fail> {
 #[test]
 fn bad_packets(rt: HostRuntime) -> Result<(), Fail> {
     let alloc = rt.alloc();
-    for (packets, lines) in [
+    for &(packets, lines) in &[
         (
             "0 ff\n1 00\n2 abc\n",
             "0 1 ff\n1 1 00\nbad packets 1 line 3\n",
@@ -296,7 +296,7 @@ fn cut_off(alloc: Global, packets: &str, sink_fails: u64) -> Result<(Status, usi
 fn sink_fails_near_the_end(rt: HostRuntime) -> Result<(), Fail> {
     let alloc = rt.alloc();
     let (packets, _lines) = packets_of(alloc, 12_000, "5a")?;
-    for (sink_fails, status, least, most) in [
+    for &(sink_fails, status, least, most) in &[
         (0u64, Status::Done, 120_913usize, 120_913usize),
         (1, Status::WriteFault, 0, 0),
         (16, Status::WriteFault, 100_000, 120_890),

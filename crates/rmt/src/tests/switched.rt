@@ -186,7 +186,7 @@ fn cells_short(rt: HostRuntime) -> Result<(), Fail> {
     };
     let (shelf, status, printed) = run_row(alloc, row)?;
     assert!(rt; status == row.status && printed.as_slice() == row.printed.as_bytes());
-    for (port, wanted) in [
+    for &(port, wanted) in &[
         (0u16, 526_248usize),
         (1, 526_248),
         (2, 526_248),
@@ -231,7 +231,7 @@ fn refusals(rt: HostRuntime) -> Result<(), Fail> {
     version[4] = 3;
     let head = HEAD.as_slice();
     let cut = &head[..23];
-    for (groups, capture, status, printed) in [
+    for &(groups, capture, status, printed) in &[
         (
             "",
             no_record.as_slice(),
@@ -299,7 +299,7 @@ fn order_of_refusals(rt: HostRuntime) -> Result<(), Fail> {
     let mut shelf = shelf_of(alloc, &[("x", b"x".as_slice())], STEADY)?;
     let long = spaces(alloc, 1_048_577)?;
     put(alloc, &mut shelf, "long", long.as_slice())?;
-    for (words, wanted, line) in [
+    for &(words, wanted, line) in &[
         (
             ["switch", "x", "x", "x", "o", "1"],
             Status::BadImage,

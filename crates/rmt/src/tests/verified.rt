@@ -76,7 +76,7 @@ fn smallest(rt: HostRuntime) -> Result<(), Fail> {
 #[test]
 fn order_of_refusals(rt: HostRuntime) -> Result<(), Fail> {
     let alloc = rt.alloc();
-    for (words, status) in [
+    for &(words, status) in &[
         (["verify", "a", "b", "c", "d"], Status::ReadFault),
         (["verify", "p", "e", "i", "a"], Status::ReadFault),
         (["verify", "m", "p", "m", "m"], Status::BadProgram),
@@ -114,7 +114,7 @@ fn is_verified(alloc: Global, program: &str, entries: &str, wanted: &str) -> Res
 #[test]
 fn maps_of_compile(rt: HostRuntime) -> Result<(), Fail> {
     let alloc = rt.alloc();
-    for (program, entries) in [
+    for &(program, entries) in &[
         (SMALLEST, ""),
         (NO_STAGE, ""),
         (TWO_FIELDS, ""),
@@ -151,7 +151,7 @@ fn fronts_are_none(alloc: Global, program: &str, entries: &str) -> Result<bool, 
 #[test]
 fn fronts_of_a_map(rt: HostRuntime) -> Result<(), Fail> {
     let alloc = rt.alloc();
-    for (program, entries) in [
+    for &(program, entries) in &[
         (SMALLEST, ""),
         (PREFIX, PREFIXES),
         (STRICT_AND_WEAK, "b 7 go 5\n"),

@@ -8,7 +8,7 @@ use std::test::*;
 #[test]
 fn words_and_files(rt: HostRuntime) -> Result<(), Fail> {
     let alloc = rt.alloc();
-    for (line, status) in [
+    for &(line, status) in &[
         (["compile", "p", "e", ""].as_slice(), Status::Done),
         (["plain", "p", "e", "e"].as_slice(), Status::Done),
         (["improve", "p", "e", "i", "1"].as_slice(), Status::Done),
@@ -82,7 +82,7 @@ fn words_and_files(rt: HostRuntime) -> Result<(), Fail> {
 #[test]
 fn one_byte_too_many(rt: HostRuntime) -> Result<(), Fail> {
     let alloc = rt.alloc();
-    for (length, status) in [
+    for &(length, status) in &[
         (1_048_576usize, Status::BadProgram),
         (1_048_577, Status::TooLong),
     ] {
@@ -96,7 +96,7 @@ fn one_byte_too_many(rt: HostRuntime) -> Result<(), Fail> {
 
 #[test]
 fn numbers_of_the_statuses(rt: HostRuntime) {
-    for (status, number) in [
+    for &(status, number) in &[
         (Status::Done, 0u8),
         (Status::Usage, 1),
         (Status::ReadFault, 2),

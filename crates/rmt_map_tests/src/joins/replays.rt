@@ -87,7 +87,7 @@ const ABSENT: [Join; 3] = [
 
 #[test]
 fn joins_that_cannot_be_made(rt: HostRuntime) -> Result<(), Fail> {
-    for join in ABSENT {
+    for &join in &ABSENT {
         let got = behind(rt.alloc(), HEADERS, &[join])?;
         assert_eq!(rt; got.as_str(), "none");
     }

@@ -74,7 +74,7 @@ const FILES: [(&[&str], u8, &str, &str); 3] = [
 #[test]
 fn lines_that_change_entries(rt: HostRuntime) -> Result<(), Fail> {
     let alloc = rt.alloc();
-    for (words, code, line, says) in CHANGES {
+    for &(words, code, line, says) in &CHANGES {
         let last_line = format!(in alloc; "bad packets {code} line 3\n")?;
         let texts = Texts {
             packet_line: Some(line.as_bytes()),
@@ -90,7 +90,7 @@ fn lines_that_change_entries(rt: HostRuntime) -> Result<(), Fail> {
 #[test]
 fn files_of_other_kinds(rt: HostRuntime) -> Result<(), Fail> {
     let alloc = rt.alloc();
-    for (words, status, last_line, wanted) in FILES {
+    for &(words, status, last_line, wanted) in &FILES {
         let told = message(alloc, words, status, last_line, &Texts::none())?;
         assert!(rt; told.as_slice() == wanted.as_bytes(), "{wanted}: {told:?}");
     }

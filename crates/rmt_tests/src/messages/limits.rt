@@ -85,7 +85,7 @@ fn told(alloc: Global, words: &[&str], name: &str) -> Result<Vec<u8>, AllocError
 #[test]
 fn limits_of_files(rt: HostRuntime) -> Result<(), Fail> {
     let alloc = rt.alloc();
-    for (words, name, lines) in ROWS {
+    for &(words, name, lines) in &ROWS {
         let wanted = format!(in alloc; "rmt: a file is longer than its limit\n{lines}")?;
         let text = told(alloc, words, name)?;
         assert!(rt; text.as_slice() == wanted.as_bytes(), "{wanted}: {text:?}");

@@ -775,7 +775,7 @@ fn whole_help(rt: HostRuntime) -> Result<(), Fail> {
     let forms = forms(alloc)?;
     let head = "rmt: a compiler and a simulator for a match-action switch chip\n";
     let wanted = format!(in alloc; "{head}{forms}{NOTES}")?;
-    for word in ["help", "--help", "-h"] {
+    for &word in &["help", "--help", "-h"] {
         let told = message(alloc, &[word], 1, "", &Texts::none())?;
         assert!(rt; told.as_slice() == wanted.as_bytes(), "{word}: {told:?}");
     }

@@ -1,4 +1,4 @@
-use Rattle.std.proofs.Common.{◌≡◌, ◌≤◌, ◌∙◌, List, Some, Ok, length, true, ap, sym, subst, arith}
+use Rattle.std.proofs.Common.{◌≡◌, ◌≤◌, ◌∙◌, List, Some, Ok, length, true, ap, sym, subst}
 use Rattle.std.specs.Prelude.{All}
 use Rattle.rmt_bits.specs.declared.lane.Lane.{Lane}
 use Rattle.rmt_ast.specs.declared.deps.Deps.{Deps}
@@ -27,6 +27,7 @@ use Rattle.rmt_refine.proofs.SpelledLaws.{carries_named}
 use Rattle.rmt_vliw.proofs.MeaningLaws.{actions_fold}
 use Rattle.rmt_build.proofs.JoinedLaws.{joined_blocks, joined_carries, joined_code, joined_data, joined_formats, joined_formed, joined_limits, joined_rows, same_map}
 use Rattle.rmt_build.proofs.PlacedLaws.{is_legal}
+use Rattle.rmt_build.proofs.PlannedLaws.{planned_told}
 use Rattle.rmt_build.proofs.joined.built_of.Goals as goal
 
 pub bound-requires-clause-rise : goal.bound-requires-clause-rise
@@ -35,13 +36,6 @@ bound-requires-clause-rise c =
     let forward : All (GoesForward (length p.nodes)) c.args.deps.now.field =
     subst (λ (deps : Deps). All (GoesForward (length p.nodes)) deps.field) (sym c.requires.deps) (go_forward p c.args.plan.places).field in
     λ k d lt. (let e = forward k d lt in (e.later, e.is_node))
-
-pub map_of-requires-clause-stages : goal.map_of-requires-clause-stages
-map_of-requires-clause-stages c =
-    let same = ap length c.in_ok-config.ensures.stages in
-    let long = c.in_ok-stages.ensures.stages.all_there in
-    let most = c.requires.plan.few_stages in
-    omega (arith, same, long, most)
 
 pub returns-clause-carries : goal.returns-clause-carries
 returns-clause-carries c =
@@ -52,7 +46,10 @@ returns-clause-carries c =
     let made = c.in_ok-config.ensures in
     let told = c.in_ok-map.ensures in
     let parser : AgreesWith config.parser plan.places p = subst (λ x. AgreesWith x plan.places p) (sym made.parser) c.requires.agrees in
-    let same = same_map m.places plan.places m.placement plan.placement m.starts plan.starts m.cells (cells_told (length p.nodes) config.stages) told.places told.placement told.starts told.cells in
+    let cells : m.cells ≡ cells_told (length p.nodes) config.stages =
+    told.cells ∙ planned_told p c.args.entries.now c.args.plan c.requires.entries c.in_ok-stages.stages c.in_ok-stages.ensures.stages
+    ∙ ap (cells_told (length p.nodes)) (sym c.in_ok-config.ensures.stages) in
+    let same = same_map m.places plan.places m.placement plan.placement m.starts plan.starts m.cells (cells_told (length p.nodes) config.stages) told.places told.placement told.starts cells in
     let own = joined_carries c.args.program.now c.args.entries.now c.args.plan c.in_ok-config.config c.requires.program c.requires.entries c.requires.plan c.in_ok-stages.stages c.in_ok-config.ensures.stages
     c.in_ok-stages.ensures.stages c.in_ok-config.ensures.seed made.places parser in
     let named = c.in_ok-names.ensures in
@@ -100,6 +97,9 @@ returns-clause-layout c =
     let p = c.args.program.now in
     let lists = c.args.entries.now in
     let told = c.in_ok-map.ensures in
+    let cells : c.in_ok-map.map.cells ≡ cells_told (length p.nodes) c.in_ok-config.config.stages =
+    told.cells ∙ planned_told p c.args.entries.now c.args.plan c.requires.entries c.in_ok-stages.stages c.in_ok-stages.ensures.stages
+    ∙ ap (cells_told (length p.nodes)) (sym c.in_ok-config.ensures.stages) in
     let rows = joined_rows p lists c.args.plan c.in_ok-config.config c.requires.program c.requires.entries c.requires.plan c.in_ok-stages.stages c.in_ok-config.ensures.stages
     c.in_ok-stages.ensures.stages c.in_ok-config.ensures.seed in
     record {
@@ -110,8 +110,8 @@ returns-clause-layout c =
       blocks = joined_blocks p lists c.args.plan c.in_ok-config.config c.requires.program c.requires.entries c.requires.plan c.in_ok-stages.stages c.in_ok-config.ensures.stages
           c.in_ok-stages.ensures.stages c.in_ok-config.ensures.seed;
       rows = subst (λ (x : Placement). StandInRows p lists x.parts c.in_ok-map.map.cells) (sym told.placement)
-          (subst (λ (x : List CellOf). StandInRows p lists c.args.plan.placement.parts x) (sym told.cells) rows);
-      cells = told.cells;
+          (subst (λ (x : List CellOf). StandInRows p lists c.args.plan.placement.parts x) (sym cells) rows);
+      cells = cells;
     }
 
 pub returns-clause-bounded : goal.returns-clause-bounded

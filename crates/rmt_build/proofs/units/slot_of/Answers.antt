@@ -1,7 +1,7 @@
-use Rattle.std.proofs.Common.{◌≡◌, ◌∙◌, ◌<◌, List, [], Some, None, refl, ap, sym, subst, get_or, length, map, arith}
+use Rattle.std.proofs.Common.{◌≡◌, ◌∙◌, ◌<◌, List, Some, None, refl, ap, sym, subst, get_or, length, map, arith}
 use Rattle.std.specs.Prelude.{◌==◌, All, IfSome, slice_get}
 use Rattle.std.proofs.lemmas.List.{length-map}
-use Rattle.std.proofs.lemmas.Option.{get_or_from_slice_get, slice_get-get_or, slice_get_read}
+use Rattle.std.proofs.lemmas.Option.{get_or_from_slice_get, slice_get_read}
 use Rattle.rmt_ast.specs.declared.entry.Entry.{Entry}
 use Rattle.rmt_build.specs.Types.{Node, Guard, Memory}
 use Rattle.rmt_ast.specs.declared.program.What.TheVariants.{Apply}
@@ -11,13 +11,12 @@ use Rattle.rmt_pack.proofs.NeedLaws.{data_bits-few, params-small}
 use Rattle.rmt_phv.specs.Places.{high_first}
 use Rattle.rmt_refine.specs.Units.{HasKind, guard_of, last_stage}
 use Rattle.rmt_build.specs.declared.stands.Stand.{Stand}
-use Rattle.rmt_build.specs.Plans.{format_at, need_in, quanta_before, stands_of_part}
-use Rattle.rmt_build.specs.EntryCells.{cells_for}
+use Rattle.rmt_build.specs.Plans.{need_in, stands_of_part}
 use Rattle.rmt_build.specs.Memories.{memory_for}
 use Rattle.rmt_build.specs.Numbers.{number_at}
 use Rattle.rmt_build.proofs.PlanLaws.{is_table}
 use Rattle.rmt_build.proofs.UnitPartLaws.{slot_part}
-use Rattle.rmt_build.proofs.EntryCellLaws.{part_entries}
+use Rattle.rmt_build.proofs.EntryCellLaws.{entries_of_part}
 use Rattle.rmt_build.proofs.UnitLaws.{guard_small, kind_of_memory, node_applies, slot_carried}
 use Rattle.rmt_build.proofs.units.slot_of.Goals as goal
 
@@ -30,17 +29,13 @@ numbers_of-requires c =
     let lists = c.as_slice-2.ensures in
     let terms = length-map p.nodes (λ (x : Node). terms_at p x.what) in
     let all = c.requires.entries.for_each_node in
-    let long = c.requires.plan.stands.all_there in
     let at : slice_get c.args.planned.now.entries.now n ≡ Some es =
     slice_get_read c.args.planned.now.entries.now (length c.args.planned.now.entries.now) n es refl (omega (arith, all, terms, c.requires.node)) (c.index-as_slice-node.is ∙ ap (λ xs. get_or xs n es) lists) in
-    let own : slice_get plan.stands n ≡ Some (get_or plan.stands n []) = slice_get-get_or plan.stands n [] (omega (arith, long, all, terms, c.requires.node)) in
     let t = c.args.table.now in
-    let per = (format_at p n).per in
-    let parts = plan.placement.parts in
-    let those = part_entries (length es) (cells_for t.kind per (quanta_before parts n c.args.planned.now.stage)) (cells_for t.kind per (quanta_in parts n c.args.planned.now.stage)) (get_or plan.stands n [])
-    (c.requires.plan.stands.each n es (get_or plan.stands n []) at own) in
+    let k = c.args.planned.now.stage in
+    let those = entries_of_part p c.args.planned.now.entries.now plan t n k es c.requires.entries c.requires.plan c.requires.node at in
     subst (λ (xs : List Stand). All (λ (s : Stand). s.entry < length c.as_slice-list.result.now) xs) (sym (c.as_slice-3.ensures ∙ c.in_ok-stands.ensures))
-    (subst (λ (xs : List Entry). All (λ (s : Stand). s.entry < length xs) (stands_of_part p plan t n c.args.planned.now.stage)) (sym c.as_slice-list.ensures) those)
+    (subst (λ (xs : List Entry). All (λ (s : Stand). s.entry < length xs) (stands_of_part p plan t n k)) (sym c.as_slice-list.ensures) those)
 
 pub guard_of-requires : goal.guard_of-requires
 guard_of-requires c =
